@@ -27,10 +27,10 @@ use Rattle.flush_words.proofs.Flushed.{own_came, own_does, own_flushed}
 use Rattle.flush_words.proofs.RowSteps.{clock_there}
 use Rattle.flush_words.proofs.FlushServes.{asked_flush, own_serves, own_stops}
 use Rattle.tlb_walks.specs.Addresses.{is_canonical, page_of}
-use Rattle.tlb_walks.specs.Dropping.{Acks, Emptied, ForgetsBy, Invalidates, LooksBy, flushes, left_cached, of_flush, past, waits}
+use Rattle.tlb_walks.specs.Dropping.{Acks, Uncached, ForgetsBy, Invalidates, AskLooksBy, flushes, left_cached, of_flush, past, waits}
 
 -- ---- the own flush
-pub emptied : (v w : PortValue) → FlushesOwn v w (Ok tt) → FlushedSame v w → Emptied v w
+pub emptied : (v w : PortValue) → FlushesOwn v w (Ok tt) → FlushedSame v w → Uncached v w
 emptied v w f same =
     let a = own_flushed v w f in
     let h = a.exchanged.holdings in
@@ -50,17 +50,14 @@ emptied v w f same =
 
 -- ---- an ask
 module _ (v a b : PortValue) (s x y : ℕ) (own_is : s ≡ v.post.vcpu) (first : Moves v a (asked_of s) Load kinds.Look None x) (second : Moves a b (flushed_of s) Load kinds.Look None y) where
-  looks_serve : (r : Request) → Serves v b r []
-  looks_serve r = serves_step v a b r [] _ _ _ _ _ (moves_serves v a r _ _ _ _ _ first tt) second tt
+  pub past_serves : (r : Request) → Serves v b r []
+  past_serves r = serves_step v a b r [] _ _ _ _ _ (moves_serves v a r _ _ _ _ _ first tt) second tt
 
   pub looks_came : Came v b
   looks_came = came_trans v a b (moves_came v a _ _ _ _ _ first) (moves_came a b _ _ _ _ _ second)
 
-  pub looks_do : Does v b (LooksBy v.post.vcpu x y)
-  looks_do = subst (λ k. Does v b (LooksBy k x y)) own_is (does_then v a b _ _ (does_one v a _ _ _ _ _ first) (does_one a b _ _ _ _ _ second))
-
-  pub past_serves : (r : Request) → Serves v b r []
-  past_serves r = looks_serve r
+  pub looks_do : Does v b (AskLooksBy v.post.vcpu x y)
+  looks_do = subst (λ k. Does v b (AskLooksBy k x y)) own_is (does_then v a b _ _ (does_one v a _ _ _ _ _ first) (does_one a b _ _ _ _ _ second))
 
   pub past_acks : x < y → Same v a → Same a b → Acks v b
   past_acks less one two = past x y less looks_do (two ∙ one)
@@ -74,9 +71,9 @@ module _ (v a b : PortValue) (s x y : ℕ) (own_is : s ≡ v.post.vcpu) (first :
     ack_came = came_trans v b w looks_came (own_came b w answer f)
 
     pub ack_serves : (r : Request) → Serves v w r []
-    ack_serves r = own_serves v b w r [] (looks_serve r) (may_flush r low) answer f
+    ack_serves r = own_serves v b w r [] (past_serves r) (may_flush r low) answer f
 
-    pub ack_does : Does v w (Then (LooksBy v.post.vcpu x y) (FlushedBy v.post.vcpu answer))
+    pub ack_does : Does v w (Then (AskLooksBy v.post.vcpu x y) (FlushedBy v.post.vcpu answer))
     ack_does =
         does_then v b w _ _ looks_do
         (subst (λ (p : Post). Does b w (FlushedBy p.vcpu answer)) (came_post v b looks_came) (does_as b w _ _ (λ vs z. z) (own_does b w answer f)))
@@ -100,7 +97,7 @@ pub local_stops : (v w : PortValue) (answer : Result (Unit {0}) Refusal) → Flu
 local_stops v w (Ok tt) f = tt
 local_stops v w (Err e) f = own_stops v v w of_flush e (came_self v) (own refl) f
 
-pub local_hand : (v w : PortValue) (answer : Result (Unit {0}) Refusal) → FlushesOwn v w answer → MatchResult answer (λ x. FlushedSame v w) (λ x. Same v w) → MatchResult answer (λ x. Emptied v w) (λ x. Same v w)
+pub local_hand : (v w : PortValue) (answer : Result (Unit {0}) Refusal) → FlushesOwn v w answer → MatchResult answer (λ x. FlushedSame v w) (λ x. Same v w) → MatchResult answer (λ x. Uncached v w) (λ x. Same v w)
 local_hand v w (Ok tt) f same = emptied v w f same
 local_hand v w (Err e) f same = same
 

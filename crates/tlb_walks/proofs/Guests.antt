@@ -15,7 +15,7 @@ use Rattle.board_lemmas.proofs.Sums.{when_eq}
 use Rattle.own_cache.specs.Translating.{Translating}
 use Rattle.tlb_walks.specs.Accesses.{may_serve, server, serving}
 use Rattle.tlb_walks.specs.Addresses.{page_of}
-use Rattle.tlb_walks.specs.Flying.{EndedIn, Ready}
+use Rattle.tlb_walks.specs.Flying.{EndedIn, WalkReady}
 use Rattle.tlb_walks.specs.Translating.{item_by}
 use Rattle.tlb_walks.specs.declared.walks.Walked.{Walked}
 use Rattle.tlb_walks.proofs.Turning.{turned_is, turned_landed, turned_post, turned_ready}
@@ -57,14 +57,14 @@ and_head : (a b : Bool) → (a && b) ≡ true → a ≡ true
 and_head true b e = refl
 and_head false b e = absurd cc
 
-pub may_read_cached : (v : PortValue) (user : Bool) (va : ℕ) (write : Bool) (x : Item) → Ready v → server v user va write ≡ Some x → MayRead x.frame v.holdings
+pub may_read_cached : (v : PortValue) (user : Bool) (va : ℕ) (write : Bool) (x : Item) → WalkReady v → server v user va write ≡ Some x → MayRead x.frame v.holdings
 may_read_cached v user va write x r e =
     record { item = first_passes (is_item user (page_of va)) (λ z. z.frame == x.frame) v.holdings.cache x (server_cached v user va write x e) (when_eq x.frame x.frame refl); warm = r.warm }
 
 both_true : (a b : Bool) → a ≡ true → b ≡ true → (a && b) ≡ true
 both_true a b e f = rw (e, f) refl
 
-pub may_store_cached : (v : PortValue) (user : Bool) (va : ℕ) (x : Item) → Ready v → server v user va true ≡ Some x → MayStore x.frame v.holdings
+pub may_store_cached : (v : PortValue) (user : Bool) (va : ℕ) (x : Item) → WalkReady v → server v user va true ≡ Some x → MayStore x.frame v.holdings
 may_store_cached v user va x r e =
     record {
       item = first_passes (is_item user (page_of va)) (λ z. (z.frame == x.frame) && z.writable) v.holdings.cache x (server_cached v user va true x e)
@@ -77,7 +77,7 @@ module _ (v u : PortValue) (user : Bool) (va : ℕ) (write : Bool) (r : Walked) 
   pub new_first : u.holdings.cache ≡ cached_with (item_by user va write r) v.holdings.cache
   new_first = ap (λ (t : Translating). t.items) (turned_is v u _ ended.1)
 
-  pub ready_then : Ready v → Ready u
+  pub ready_then : WalkReady v → WalkReady u
   ready_then a = turned_ready v u _ ended.1 a
 
   pub landed_then : u.holdings.walk ≡ None
@@ -89,14 +89,14 @@ module _ (v u : PortValue) (user : Bool) (va : ℕ) (write : Bool) (r : Walked) 
   pub few_then : IsMachine v.post.machine → frame_of r.entry < 2 ^ 32
   few_then m = let few = m.few_frames in let inside = ended.0 in omega arith
 
-  pub may_read_new : Ready v → MayRead (frame_of r.entry) u.holdings
+  pub may_read_new : WalkReady v → MayRead (frame_of r.entry) u.holdings
   may_read_new a =
       record {
         item = subst (λ xs. IsTrue (some_of (λ z. z.frame == frame_of r.entry) xs)) (sym new_first) (head_passes (λ z. z.frame == frame_of r.entry) (item_by user va write r) _ (when_eq (frame_of r.entry) (frame_of r.entry) refl));
         warm = (ready_then a).warm;
       }
 
-  pub may_store_new : Ready v → r.barrier ≡ None → MayStore (frame_of r.entry) u.holdings
+  pub may_store_new : WalkReady v → r.barrier ≡ None → MayStore (frame_of r.entry) u.holdings
   may_store_new a none =
       record {
         item = subst (λ xs. IsTrue (some_of (λ z. (z.frame == frame_of r.entry) && z.writable) xs)) (sym new_first)

@@ -18,7 +18,7 @@ use Rattle.answer_fits.specs.Licences.{is_unmapped}
 use Rattle.own_cache.specs.declared.flight.Flight.{Flight}
 use Rattle.own_cache.specs.Translating.{Translating, flight_of, flown, gone_on, item_in, landed, seen, set_bits, table_in, touched_in, translating, walk_below, with_entry}
 use Rattle.step_maker.specs.Moves.{Moves, found_by}
-use Rattle.tlb_walks.specs.Flying.{BitsLost, BitsSet, EntryMoves, Ready, Sees, TouchMoves, Turned, alone, both, lost, set, stands}
+use Rattle.tlb_walks.specs.Flying.{BitsLost, BitsSet, EntryMoves, WalkReady, Sees, TouchMoves, Turned, alone, both, lost, set, stands}
 use Rattle.tlb_walks.proofs.Turning.{turned_as, turned_is, turned_post, turned_self, turned_then}
 
 -- ---- a flight is a walk
@@ -42,7 +42,7 @@ reached_at : (l : List Reached) (f level : ℕ) → table_in l ≡ f → fill.le
 reached_at [] f level t e low = absurd (omega arith)
 reached_at (x ∷ xs) f level t e low = (xs, λ k. record { table = t k; level = e k } ∷ xs)
 
-pub may_load : (v : PortValue) (f : Flight) (i : ℕ) → Ready v → flown v.holdings.walk ≡ Some f → f.touching ≡ false → 1 ≤ f.level → IsTrue (is_walked f.level i) → (walk : Walk) × MayWalkOn f.table i walk v.holdings
+pub may_load : (v : PortValue) (f : Flight) (i : ℕ) → WalkReady v → flown v.holdings.walk ≡ Some f → f.touching ≡ false → 1 ≤ f.level → IsTrue (is_walked f.level i) → (walk : Walk) × MayWalkOn f.table i walk v.holdings
 may_load v f i r e free low walked =
     let w = walks v.holdings f e in
     let at = reached_at w.walk.reached f.table f.level (ap (λ (x : Flight). x.table) w.is) (ap (λ (x : Flight). x.level) w.is) low in (

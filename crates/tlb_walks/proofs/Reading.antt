@@ -17,15 +17,15 @@ use Rattle.answer_fits.specs.Visits.{Does, Nothing}
 use Rattle.answer_fits.proofs.Piecing.{moves_serves, serves_nothing, serves_step}
 use Rattle.answer_fits.proofs.Visiting.{does_nothing, does_one, does_then}
 use Rattle.tlb_walks.specs.Accesses as acc
-use Rattle.tlb_walks.specs.Accesses.{OneRead, Reads, server}
-use Rattle.tlb_walks.specs.Addresses.{access_refusal, index_of, is_canonical, slot_refusal, walk_refusal, word_of}
-use Rattle.tlb_walks.specs.Asking.{IsReadStop, IsWalkStop, of_read}
-use Rattle.tlb_walks.specs.Flying.{Ready}
+use Rattle.tlb_walks.specs.Accesses.{OneRead, GuestReads, server}
+use Rattle.tlb_walks.specs.Addresses.{access_refusal, index_of, is_canonical, slot_refusal, walk_refusal, cell_index}
+use Rattle.tlb_walks.specs.Asking.{IsGuestReadStop, IsWalkStop, of_read}
+use Rattle.tlb_walks.specs.Flying.{WalkReady}
 use Rattle.tlb_walks.specs.Guesting.{ReadMoves, barred, cached, stopped, walked}
 use Rattle.tlb_walks.specs.Translating.{WalkedTo}
 use Rattle.tlb_walks.specs.declared.walks.Walked.{Walked}
 use Rattle.tlb_walks.proofs.Guests.{landed_then, ready_then}
-use Rattle.tlb_walks.proofs.Turning.{same_turned, turned_landed, turned_ready}
+use Rattle.tlb_walks.proofs.Turning.{rests_of, same_ready, turned_landed, turned_ready}
 use Rattle.tlb_walks.proofs.Walking.{stopped_same, walk_came, walk_does, walk_kind, walk_serves, walk_stops, walked_to}
 
 -- ---- the address alone
@@ -67,7 +67,7 @@ address_stops v r va _ canonical may = may
 address_stops v r va _ range may = inl may
 address_stops v r va _ (slot i is) may = (is, inl may)
 
-address_kind : (va : ℕ) (x : Refusal) → AddressStop va x → IsReadStop (Refused x)
+address_kind : (va : ℕ) (x : Refusal) → AddressStop va x → IsGuestReadStop (Refused x)
 address_kind va _ canonical = tt
 address_kind va _ range = tt
 address_kind va _ (slot i is) = tt
@@ -75,7 +75,7 @@ address_kind va _ (slot i is) = tt
 pub refused_stops : (v w : PortValue) (r : Request) (va : ℕ) (x : Refusal) → access_refusal va ≡ Some x → r.by_numbers ≡ access_refusal va → w ≡ v → Stops v w r (Refused x)
 refused_stops v w r va x why may stay = subst (λ q. Stops v q r (Refused x)) (sym stay) (address_stops v r va x (canonical_case va x (is_canonical va) why) (may ∙ why))
 
-pub refused_kind : (va : ℕ) (x : Refusal) → access_refusal va ≡ Some x → IsReadStop (Refused x)
+pub refused_kind : (va : ℕ) (x : Refusal) → access_refusal va ≡ Some x → IsGuestReadStop (Refused x)
 refused_kind va x why = address_kind va x (canonical_case va x (is_canonical va) why)
 
 pub stayed_same : (v w : PortValue) → w ≡ v → Same v w
@@ -109,38 +109,35 @@ module _ (v w : PortValue) (user : Bool) (va : ℕ) where
   read_stops _ (stopped e may none m hand) = walk_stops user va false (of_read va) refl refl v w e (λ x f. no_refusal va x (of_read va) may f) m
   read_stops _ (walked u r word may none m hand k same) = tt
 
-  walk_is_read : (e : Stop) → IsWalkStop e → IsReadStop e
+  walk_is_read : (e : Stop) → IsWalkStop e → IsGuestReadStop e
   walk_is_read (Refused BadRange) a = tt
   walk_is_read _ a = a
 
-  pub read_kinds : (a : Result ℕ Stop) → ReadMoves v w user va a → IfErr a IsReadStop
+  pub read_kinds : (a : Result ℕ Stop) → ReadMoves v w user va a → IfErr a IsGuestReadStop
   read_kinds _ (barred x why stay) = refused_kind va x why
   read_kinds _ (cached x word may is m same) = tt
   read_kinds _ (stopped e may none m hand) = walk_is_read e (walk_kind user va false v w e m)
   read_kinds _ (walked u r word may none m hand k same) = tt
 
-  pub read_course : (a : Result ℕ Stop) → v.holdings.walk ≡ None → ReadMoves v w user va a → Reads v w user va a
+  pub read_course : (a : Result ℕ Stop) → v.holdings.walk ≡ None → ReadMoves v w user va a → GuestReads v w user va a
   read_course _ landed (barred x why stay) = acc.barred x why (stayed_does v w stay) (stayed_same v w stay)
   read_course _ landed (cached x word may is m same) = acc.cached x word may is (does_one v w _ _ _ _ _ m) same
   read_course _ landed (stopped e may none m hand) = acc.stopped e may none (walk_does user va false v w (Err e) m) (stopped_same v w user va false e landed hand)
   read_course _ landed (walked u r word may none m hand k same) =
       acc.walked r word may none (does_then v u w _ _ (walk_does user va false v u (Ok r) m) (does_one u w _ _ _ _ _ k)) (walked_then v u w user va false r (walked_to v u user va false r landed hand) same)
 
-  pub read_served : (a : Result ℕ Stop) (x : Item) → access_refusal va ≡ None → server v user va false ≡ Some x → ReadMoves v w user va a → OneRead v w x.frame (word_of va) a
+  pub read_served : (a : Result ℕ Stop) (x : Item) → access_refusal va ≡ None → server v user va false ≡ Some x → ReadMoves v w user va a → OneRead v w x.frame (cell_index va) a
   read_served _ x may is (barred y why stay) = absurd cc
   read_served _ x may is (cached y word go at m same) =
-      let one : y ≡ x = cc in subst (λ (z : Item). OneRead v w z.frame (word_of va) (Ok word)) one (record { word = word; answer_is = refl; moves = m })
+      let one : y ≡ x = cc in subst (λ (z : Item). OneRead v w z.frame (cell_index va) (Ok word)) one (record { word = word; answer_is = refl; moves = m })
   read_served _ x may is (stopped e go none m hand) = absurd cc
   read_served _ x may is (walked u r word go none m hand k same) = absurd cc
 
-  same_ready : Ready v → Same v w → Ready w
-  same_ready r same = turned_ready v w _ (same_turned v w same) r
-
-  pub read_ready : (a : Result ℕ Stop) → Ready v → ReadMoves v w user va a → Ready w
-  read_ready _ r (barred x why stay) = subst Ready (sym stay) r
-  read_ready _ r (cached x word may is m same) = same_ready r same
+  pub read_ready : (a : Result ℕ Stop) → WalkReady v → ReadMoves v w user va a → WalkReady w
+  read_ready _ r (barred x why stay) = subst WalkReady (sym stay) r
+  read_ready _ r (cached x word may is m same) = same_ready v w r same
   read_ready _ r (stopped e may none m hand) = turned_ready v w _ hand r
-  read_ready _ r (walked u q word may none m hand k same) = turned_ready u w _ (same_turned u w same) (ready_then v u user va false q hand r)
+  read_ready _ r (walked u q word may none m hand k same) = same_ready u w (ready_then v u user va false q hand r) same
 
   pub read_landed : (a : Result ℕ Stop) → v.holdings.walk ≡ None → ReadMoves v w user va a → w.holdings.walk ≡ None
   read_landed _ none (barred x why stay) = ap (λ (q : PortValue). q.holdings.walk) stay ∙ none

@@ -27,38 +27,38 @@ use Rattle.own_cache.proofs.Projecting.{on_is, set_is}
 use Rattle.own_cache.specs.Translating.{Translating, flown, gone_on, landed, set_bits, translating, walk_begun}
 use Rattle.step_maker.specs.Holds.{Same, still}
 use Rattle.step_maker.specs.Moves.{May, Moves, found_by}
-use Rattle.tlb_walks.specs.Flying.{Ready, Turned}
-use Rattle.tlb_walks.specs.Walks.{base_word}
+use Rattle.tlb_walks.specs.Flying.{WalkReady, Turned}
+use Rattle.tlb_walks.specs.Walks.{top_word}
 
 -- ---- may be made
-small_word : (user : Bool) → base_word user < 38
+pub small_word : (user : Bool) → top_word user < 38
 small_word true = lit< tt
 small_word false = lit< tt
 
-begins : (user : Bool) → IsTrue (nat_lt (base_word user) 2)
+begins : (user : Bool) → IsTrue (nat_lt (top_word user) 2)
 begins true = refl
 begins false = refl
 
-pub may_base : (v : PortValue) (s : ℕ) (user write : Bool) → s ≡ v.post.vcpu → s < length v.post.machine.vcpu_domain → Ready v → v.holdings.walk ≡ None →
-    May v (Vcpu s (base_word user)) Load kinds.Fill (Some (marks.Walk write))
+pub may_base : (v : PortValue) (s : ℕ) (user write : Bool) → s ≡ v.post.vcpu → s < length v.post.machine.vcpu_domain → WalkReady v → v.holdings.walk ≡ None →
+    May v (Vcpu s (top_word user)) Load kinds.Fill (Some (marks.Walk write))
 may_base v s user write own real ready landed =
     record {
-      place = vcpu_there (sizes_of v.post.machine) s (base_word user) real (small_word user);
+      place = vcpu_there (sizes_of v.post.machine) s (top_word user) real (small_word user);
       marked = tt;
       running = λ needs. ready.running;
       spelling = tt;
       act = (record { own = own; word = begins user; none = landed; warm = ready.warm }, tt);
     }
 
-pub may_entry : (v : PortValue) (f i : ℕ) → f < v.post.machine.frames → i < 512 → Ready v → (walk : Walk) × MayWalkOn f i walk v.holdings → May v (Cell f i) Load kinds.Fill None
+pub may_entry : (v : PortValue) (f i : ℕ) → f < v.post.machine.frames → i < 512 → WalkReady v → (walk : Walk) × MayWalkOn f i walk v.holdings → May v (Cell f i) Load kinds.Fill None
 may_entry v f i frame index ready flying = record { place = cell_there (sizes_of v.post.machine) f i frame index; marked = tt; running = λ needs. ready.running; spelling = tt; act = (flying, tt) }
 
-pub may_touch : (v : PortValue) (f i e x : ℕ) → f < v.post.machine.frames → i < 512 → Ready v → x < 2 ^ 64 → (walk : Walk) × MayTouch f i e x walk v.holdings → May v (Cell f i) (Cas e x) kinds.Touch None
+pub may_touch : (v : PortValue) (f i e x : ℕ) → f < v.post.machine.frames → i < 512 → WalkReady v → x < 2 ^ 64 → (walk : Walk) × MayTouch f i e x walk v.holdings → May v (Cell f i) (Cas e x) kinds.Touch None
 unfolding IsSpelling
 may_touch v f i e x frame index ready small touching =
     record { place = cell_there (sizes_of v.post.machine) f i frame index; marked = tt; running = λ needs. ready.running; spelling = small; act = touching }
 
-pub may_store : (v : PortValue) (f i x : ℕ) → f < v.post.machine.frames → i < 512 → Ready v → x < 2 ^ 64 → MayStore f v.holdings → May v (Cell f i) (Store x) kinds.Guest None
+pub may_store : (v : PortValue) (f i x : ℕ) → f < v.post.machine.frames → i < 512 → WalkReady v → x < 2 ^ 64 → MayStore f v.holdings → May v (Cell f i) (Store x) kinds.Guest None
 unfolding IsSpelling
 may_store v f i x frame index ready small cached =
     record { place = cell_there (sizes_of v.post.machine) f i frame index; marked = tt; running = λ needs. ready.running; spelling = small; act = cached }
@@ -120,7 +120,7 @@ turned v w k t e keeps is =
       flight = ap (λ (u : Translating). u.flight) is;
     }
 
-module _ (v : PortValue) (ready : Ready v) where
+module _ (v : PortValue) (ready : WalkReady v) where
   told_nothing : (f i w : ℕ) (k : Holdings) → Keeps v.holdings k → learned_cell f i w k ≡ k
   told_nothing f i w k keeps =
       untold f i w k
@@ -155,21 +155,21 @@ module _ (v : PortValue) (ready : Ready v) where
   pub guest_same : (w : PortValue) (f i x : ℕ) (a : Act) → Moves v w (Cell f i) a kinds.Guest None x → Same v w
   guest_same w f i x a m = ap still m.to ∙ ap (set_down v) (told_nothing f i (left_by a x) v.holdings refl)
 
-  own_left : (user : Bool) (x : ℕ) (k : Holdings) → learned_own (base_word user) x k ≡ k
+  own_left : (user : Bool) (x : ℕ) (k : Holdings) → learned_own (top_word user) x k ≡ k
   own_left true x k = refl
   own_left false x k = refl
 
   same_own : (s t : ℕ) (x y : Holdings) → s ≡ t → (if s == t then x else y) ≡ x
   same_own s t x y e = ap (λ b. if b then x else y) (when_eq s t e)
 
-  pub base_turned : (w : PortValue) (s x : ℕ) (user write : Bool) → s ≡ v.post.vcpu → Moves v w (Vcpu s (base_word user)) Load kinds.Fill (Some (marks.Walk write)) x →
+  pub base_turned : (w : PortValue) (s x : ℕ) (user write : Bool) → s ≡ v.post.vcpu → Moves v w (Vcpu s (top_word user)) Load kinds.Fill (Some (marks.Walk write)) x →
       Turned v w (walk_begun user write x (translating v.holdings))
   base_turned w s x user write own m =
-      let k = started (base_word user) x write v.holdings in
-      turned v w k _ (ap still m.to ∙ ap (set_down v) (same_own s v.post.vcpu _ k own ∙ own_left user (left_by Load x) k)) (started_keeps (base_word user) x write v.holdings)
-      (begun_is (base_word user) x write v.holdings ∙ ap (λ b. walk_begun b write x (translating v.holdings)) (is_user user))
+      let k = started (top_word user) x write v.holdings in
+      turned v w k _ (ap still m.to ∙ ap (set_down v) (same_own s v.post.vcpu _ k own ∙ own_left user (left_by Load x) k)) (started_keeps (top_word user) x write v.holdings)
+      (begun_is (top_word user) x write v.holdings ∙ ap (λ b. walk_begun b write x (translating v.holdings)) (is_user user))
     where
-      is_user : (u : Bool) → (base_word u == 1) ≡ u
+      is_user : (u : Bool) → (top_word u == 1) ≡ u
       is_user true = refl
       is_user false = refl
 

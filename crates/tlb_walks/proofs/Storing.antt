@@ -17,16 +17,16 @@ use Rattle.answer_fits.proofs.Changing.{found_before}
 use Rattle.answer_fits.proofs.Piecing.{moves_serves, serves_nothing, serves_step}
 use Rattle.answer_fits.proofs.Visiting.{does_one, does_then}
 use Rattle.tlb_walks.specs.Accesses as acc
-use Rattle.tlb_walks.specs.Accesses.{OneWrite, ServesWrite, Stores, server}
-use Rattle.tlb_walks.specs.Addresses.{access_refusal, page_of, word_of}
-use Rattle.tlb_walks.specs.Asking.{IsReadStop, IsWalkStop, IsWriteStop, leads_to, of_write}
-use Rattle.tlb_walks.specs.Flying.{Ready, WalkMoves}
+use Rattle.tlb_walks.specs.Accesses.{OneWrite, ServesWrite, GuestWrites, server}
+use Rattle.tlb_walks.specs.Addresses.{access_refusal, page_of, cell_index}
+use Rattle.tlb_walks.specs.Asking.{IsGuestReadStop, IsWalkStop, IsGuestWriteStop, leads_to, of_write}
+use Rattle.tlb_walks.specs.Flying.{WalkReady, WalkMoves}
 use Rattle.tlb_walks.specs.Guesting.{StoreMoves, barred, cached, read_only, stopped, walked}
 use Rattle.tlb_walks.specs.Translating.{item_by}
 use Rattle.tlb_walks.specs.declared.walks.Walked.{Walked}
 use Rattle.tlb_walks.proofs.Guests.{landed_then, new_first, ready_then, server_cached}
 use Rattle.tlb_walks.proofs.Reading.{no_refusal, refused_kind, refused_stops, stayed_does, stayed_same, walked_then}
-use Rattle.tlb_walks.proofs.Turning.{same_turned, turned_landed, turned_ready}
+use Rattle.tlb_walks.proofs.Turning.{rests_of, same_ready, turned_landed, turned_ready}
 use Rattle.tlb_walks.proofs.Walking.{stopped_same, walk_barrier, walk_came, walk_does, walk_kind, walk_last, walk_serves, walk_stops, walked_to}
 
 -- the newest translation of the page is the one in front
@@ -82,23 +82,23 @@ module _ (v w : PortValue) (user : Bool) (va val : ℕ) where
   store_stops _ (read_only r e may none at m hand) = no_write r e at m
   store_stops _ (walked u r found may none clear m hand k same) = tt
 
-  read_is_write : (e : Stop) → IsReadStop e → IsWriteStop e
+  read_is_write : (e : Stop) → IsGuestReadStop e → IsGuestWriteStop e
   read_is_write (Refused (ReadOnly x)) a = tt
   read_is_write _ a = a
 
-  walk_is_write : (e : Stop) → IsWalkStop e → IsWriteStop e
+  walk_is_write : (e : Stop) → IsWalkStop e → IsGuestWriteStop e
   walk_is_write (Refused (ReadOnly x)) a = tt
   walk_is_write (Refused BadRange) a = tt
   walk_is_write _ a = a
 
-  pub store_kinds : (a : Result (Unit {0}) Stop) → StoreMoves v w user va val a → IfErr a IsWriteStop
+  pub store_kinds : (a : Result (Unit {0}) Stop) → StoreMoves v w user va val a → IfErr a IsGuestWriteStop
   store_kinds _ (barred x why stay) = read_is_write (Refused x) (refused_kind va x why)
   store_kinds _ (cached x found may is m same) = tt
   store_kinds _ (stopped e may none m hand) = walk_is_write e (walk_kind user va true v w e m)
   store_kinds _ (read_only r e may none at m hand) = tt
   store_kinds _ (walked u r found may none clear m hand k same) = tt
 
-  pub store_course : (a : Result (Unit {0}) Stop) → v.holdings.walk ≡ None → StoreMoves v w user va val a → Stores v w user va val a
+  pub store_course : (a : Result (Unit {0}) Stop) → v.holdings.walk ≡ None → StoreMoves v w user va val a → GuestWrites v w user va val a
   store_course _ landed (barred x why stay) = acc.barred x why (stayed_does v w stay) (stayed_same v w stay)
   store_course _ landed (cached x found may is m same) = acc.cached x found may is (does_one v w _ _ _ _ _ m) same
   store_course _ landed (stopped e may none m hand) = acc.stopped e may none (walk_does user va true v w (Err e) m) (stopped_same v w user va true e landed hand)
@@ -106,23 +106,20 @@ module _ (v w : PortValue) (user : Bool) (va val : ℕ) where
   store_course _ landed (walked u r found may none clear m hand k same) =
       acc.walked r found may none clear (does_then v u w _ _ (walk_does user va true v u (Ok r) m) (does_one u w _ _ _ _ _ k)) (walked_then v u w user va true r (walked_to v u user va true r landed hand) same)
 
-  pub store_served : (a : Result (Unit {0}) Stop) (x : Item) → access_refusal va ≡ None → server v user va true ≡ Some x → StoreMoves v w user va val a → OneWrite v w x.frame (word_of va) val a
+  pub store_served : (a : Result (Unit {0}) Stop) (x : Item) → access_refusal va ≡ None → server v user va true ≡ Some x → StoreMoves v w user va val a → OneWrite v w x.frame (cell_index va) val a
   store_served _ x may is (barred y why stay) = absurd cc
   store_served _ x may is (cached y found go at m same) =
-      let one : y ≡ x = cc in subst (λ (z : Item). OneWrite v w z.frame (word_of va) val (Ok tt)) one (record { found = found; answer_is = refl; moves = m })
+      let one : y ≡ x = cc in subst (λ (z : Item). OneWrite v w z.frame (cell_index va) val (Ok tt)) one (record { found = found; answer_is = refl; moves = m })
   store_served _ x may is (stopped e go none m hand) = absurd cc
   store_served _ x may is (read_only r e go none at m hand) = absurd cc
   store_served _ x may is (walked u r found go none clear m hand k same) = absurd cc
 
-  same_ready : Ready v → Same v w → Ready w
-  same_ready r same = turned_ready v w _ (same_turned v w same) r
-
-  pub store_ready : (a : Result (Unit {0}) Stop) → Ready v → StoreMoves v w user va val a → Ready w
-  store_ready _ r (barred x why stay) = subst Ready (sym stay) r
-  store_ready _ r (cached x found may is m same) = same_ready r same
+  pub store_ready : (a : Result (Unit {0}) Stop) → WalkReady v → StoreMoves v w user va val a → WalkReady w
+  store_ready _ r (barred x why stay) = subst WalkReady (sym stay) r
+  store_ready _ r (cached x found may is m same) = same_ready v w r same
   store_ready _ r (stopped e may none m hand) = turned_ready v w _ hand r
   store_ready _ r (read_only q e may none at m hand) = ready_then v w user va true q hand r
-  store_ready _ r (walked u q found may none clear m hand k same) = turned_ready u w _ (same_turned u w same) (ready_then v u user va true q hand r)
+  store_ready _ r (walked u q found may none clear m hand k same) = same_ready u w (ready_then v u user va true q hand r) same
 
   pub store_landed : (a : Result (Unit {0}) Stop) → v.holdings.walk ≡ None → StoreMoves v w user va val a → w.holdings.walk ≡ None
   store_landed _ none (barred x why stay) = ap (λ (q : PortValue). q.holdings.walk) stay ∙ none

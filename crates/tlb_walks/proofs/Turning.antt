@@ -6,7 +6,7 @@ use Rattle.xp_words.specs.Machine.{IsMachine}
 use Rattle.own_cache.specs.declared.flight.Flight.{Flight}
 use Rattle.own_cache.specs.Translating.{Translating, flown, landed, translating}
 use Rattle.step_maker.specs.Holds.{Holds, Rests, Same}
-use Rattle.tlb_walks.specs.Flying.{Ready, Turned}
+use Rattle.tlb_walks.specs.Flying.{WalkReady, Turned}
 use Rattle.tlb_walks.proofs.RowSteps.{set_down}
 
 pub none_flown : (o : Option Walk) → flown o ≡ None → o ≡ None
@@ -20,7 +20,7 @@ module _ (v w : PortValue) (t : Translating) (turn : Turned v w t) where
   pub turned_is : translating w.holdings ≡ t
   turned_is = ap (λ (q : PortValue). translating q.holdings) turn.hand ∙ ap (λ (o : Option Flight). record { items = t.items; flight = o }) turn.flight
 
-  pub turned_ready : Ready v → Ready w
+  pub turned_ready : WalkReady v → WalkReady w
   turned_ready r =
       record {
         running = ap (λ (q : PortValue). q.holdings.run) turn.hand ∙ r.running;
@@ -67,12 +67,15 @@ turned_as v w s t e a = subst (λ u. Turned v w u) e a
 pub turned_same : (v w : PortValue) → Turned v w (landed (translating v.holdings)) → v.holdings.walk ≡ None → Same v w
 turned_same v w a none = turned_rest v w (landed (translating v.holdings)) a refl none
 
-pub ready_of : (v : PortValue) → Rests v → v.holdings.cold ≡ false → Ready v
+pub ready_of : (v : PortValue) → Rests v → v.holdings.cold ≡ false → WalkReady v
 ready_of v r warm = record { running = r.may.running; machine = r.may.machine; empty = r.empty; warm = warm }
 
 -- nothing is in hand, and no walk in flight
-pub rests_of : (v : PortValue) → Ready v → v.holdings.walk ≡ None → Rests v
+pub rests_of : (v : PortValue) → WalkReady v → v.holdings.walk ≡ None → Rests v
 rests_of v r none = record { may = record { running = r.running; no_walk = none; machine = r.machine }; empty = r.empty }
 
 pub same_turned : (v w : PortValue) → Same v w → Turned v w (translating v.holdings)
 same_turned v w e = record { walk = v.holdings.walk; hand = e; flight = refl }
+
+pub same_ready : (v w : PortValue) → WalkReady v → Same v w → WalkReady w
+same_ready v w r same = turned_ready v w _ (same_turned v w same) r

@@ -37,26 +37,23 @@ use Rattle.tlb_walks.specs.Asking.{IsWalkStop}
 use Rattle.tlb_walks.specs.Flying.{EndedIn, IsAt, Turned, WalkMoves, barred, baseless, walks}
 use Rattle.tlb_walks.specs.Translating.{WalkedTo, item_by}
 use Rattle.tlb_walks.specs.Walks as by
-use Rattle.tlb_walks.specs.Walks.{PathBy, WalkBy, base_visit, base_word}
+use Rattle.tlb_walks.specs.Walks.{PathBy, WalkBy, base_visit, top_word}
 use Rattle.tlb_walks.specs.declared.walks.Walked.{Walked}
 use Rattle.tlb_walks.proofs.Descending.{no_page}
 use Rattle.tlb_walks.proofs.Paths.{Barred, path_barrier, path_came, path_does, path_kind, path_last, path_serves, path_stops}
+use Rattle.tlb_walks.proofs.RowSteps.{small_word}
 use Rattle.tlb_walks.proofs.Turning.{turned_as, turned_is, turned_post, turned_rest, turned_same, turned_self, turned_then}
 
 -- ---- the base
-base_few : (n : Machine) (s w : ℕ) (user : Bool) → IsSpelling n (Vcpu s (base_word user)) w → w ≤ n.frames
+base_few : (n : Machine) (s w : ℕ) (user : Bool) → IsSpelling n (Vcpu s (top_word user)) w → w ≤ n.frames
 unfolding IsSpelling
 base_few n s w true e = let v = e.1 in grind (arith, nat_tests)
 base_few n s w false e = let v = e.1 in grind (arith, nat_tests)
 
-small : (user : Bool) → base_word user < 38
-small true = lit< tt
-small false = lit< tt
-
-pub base_inside : (n : Machine) (s w : ℕ) (user : Bool) (h : Holdings) → Finds n s h (Vcpu s (base_word user)) w → (w ≤ n.frames) × (n.frames ≤ 65536)
+pub base_inside : (n : Machine) (s w : ℕ) (user : Bool) (h : Holdings) → Finds n s h (Vcpu s (top_word user)) w → (w ≤ n.frames) × (n.frames ≤ 65536)
 base_inside n s w user h f = (
   base_few n s w user
-  (subst (λ x. IsSpelling n (Vcpu s (base_word user)) x) f.word (f.sound.spelled.spelled (Vcpu s (base_word user)) (vcpu_there (sizes_of n) s (base_word user) f.real (small user)))),
+  (subst (λ x. IsSpelling n (Vcpu s (top_word user)) x) f.word (f.sound.spelled.spelled (Vcpu s (top_word user)) (vcpu_there (sizes_of n) s (top_word user) f.real (small_word user)))),
   f.sound.machine.few_frames,
 )
 
@@ -70,7 +67,7 @@ top_flight user write base = record { user = user; write = write; writable = tru
 begun_some : (user write : Bool) (base : ℕ) (t : Translating) → base ≢ 0 → walk_begun user write base t ≡ record t { flight = Some (top_flight user write base) }
 begun_some user write base t some = let e : (base == 0) ≡ false = grind (arith, nat_tests) in rw e refl
 
-module _ (v u : PortValue) (user write : Bool) (va base : ℕ) (load : Moves v u (Vcpu v.post.vcpu (base_word user)) Load kinds.Fill (Some (marks.Walk write)) base)
+module _ (v u : PortValue) (user write : Bool) (va base : ℕ) (load : Moves v u (Vcpu v.post.vcpu (top_word user)) Load kinds.Fill (Some (marks.Walk write)) base)
     (hand : Turned v u (walk_begun user write base (translating v.holdings))) (some : base ≢ 0) where
   begun : Turned v u (record (translating v.holdings) { flight = Some (top_flight user write base) })
   begun = turned_as v u _ _ (begun_some user write base (translating v.holdings) some) hand
@@ -151,7 +148,7 @@ module _ (user : Bool) (va : ℕ) (write : Bool) where
 
   -- the top table is asked by the context word that names it
   module _ (r : Request) (may_walk : r.walks ≡ true) (may_name : r.contexts ≡ true) where
-    is_base : (k : ℕ) (b : Bool) → k ≡ base_word b → IsTrue (is_context k)
+    is_base : (k : ℕ) (b : Bool) → k ≡ top_word b → IsTrue (is_context k)
     is_base k true e = rw e refl
     is_base k false e = rw e refl
 
@@ -159,13 +156,13 @@ module _ (user : Bool) (va : ℕ) (write : Bool) where
     names_top zero some = absurd (some refl)
     names_top (suc k) some = when_eq (suc k) (suc k - 1 + 1) (omega arith)
 
-    top_asked : (v u : PortValue) (base : ℕ) → base ≢ 0 → Moves v u (Vcpu v.post.vcpu (base_word user)) Load kinds.Fill (Some (marks.Walk write)) base →
+    top_asked : (v u : PortValue) (base : ℕ) → base ≢ 0 → Moves v u (Vcpu v.post.vcpu (top_word user)) Load kinds.Fill (Some (marks.Walk write)) base →
         IsAsked v.post.machine v.post.vcpu r (Met v u) (base - 1)
     top_asked v u base some m =
         of (domain_of v.post.machine v.post.vcpu) None
-        (context v.post.vcpu (base_word user) base may_name (moves_found v u _ _ _ _ _ m) (is_base (base_word user) user refl) (names_top base some) (inl refl) refl tt)
+        (context v.post.vcpu (top_word user) base may_name (moves_found v u _ _ _ _ _ m) (is_base (top_word user) user refl) (names_top base some) (inl refl) refl tt)
 
-    based : (v u : PortValue) (base : ℕ) → Moves v u (Vcpu v.post.vcpu (base_word user)) Load kinds.Fill (Some (marks.Walk write)) base → Serves v u r []
+    based : (v u : PortValue) (base : ℕ) → Moves v u (Vcpu v.post.vcpu (top_word user)) Load kinds.Fill (Some (marks.Walk write)) base → Serves v u r []
     based v u base m = moves_serves v u r _ _ _ _ _ m tt
 
     pub walk_serves : (v w : PortValue) (answer : Result Walked Stop) → WalkMoves v w user va write answer → Serves v w r (misses v.post.machine answer)
@@ -188,11 +185,11 @@ module _ (user : Bool) (va : ℕ) (write : Bool) where
         by_slot i false is e = absurd cc
     by_address v w x false may e is = let same : x ≡ NonCanonical = cc in subst (λ y. Stops v w r (Refused y)) (sym same) (may ∙ ap Some same)
 
-    no_base : (v w : PortValue) → Moves v w (Vcpu v.post.vcpu (base_word user)) Load kinds.Fill (Some (marks.Walk write)) 0 → Stops v w r (Refused (NotMapped 5 0))
+    no_base : (v w : PortValue) → Moves v w (Vcpu v.post.vcpu (top_word user)) Load kinds.Fill (Some (marks.Walk write)) 0 → Stops v w r (Refused (NotMapped 5 0))
     unfolding Stops
-    no_base v w m = inl (refl, refl, may_walk, (base_word user, few user, moves_found v w _ _ _ _ _ m))
+    no_base v w m = inl (refl, refl, may_walk, (top_word user, few user, moves_found v w _ _ _ _ _ m))
       where
-        few : (b : Bool) → base_word b < 2
+        few : (b : Bool) → top_word b < 2
         few true = lit< tt
         few false = lit< tt
 

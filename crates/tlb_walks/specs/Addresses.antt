@@ -18,8 +18,8 @@ abbrev pub index_of : ℕ → ℕ → ℕ
 index_of va level = va / 2 ^ (3 + 9 * level) % 512
 
 -- which word of its page it is: bits 3 to 11
-abbrev pub word_of : ℕ → ℕ
-word_of va = va / 2 ^ 3 % 512
+abbrev pub cell_index : ℕ → ℕ
+cell_index va = va / 2 ^ 3 % 512
 
 -- slots 256 to 271 of a top table are the hypervisor's, and no walk leads through them
 abbrev pub slot_refusal : ℕ → Option Refusal

@@ -37,10 +37,10 @@ IsWalkStop (Refused (NotMapped level entry)) = Unit {0}
 IsWalkStop (Paused (Lost place expected found)) = Unit {0}
 IsWalkStop _ = ⊥
 
-abbrev pub IsReadStop : Stop → Type 0
-IsReadStop (Refused BadRange) = Unit {0}
-IsReadStop e = IsWalkStop e
+abbrev pub IsGuestReadStop : Stop → Type 0
+IsGuestReadStop (Refused BadRange) = Unit {0}
+IsGuestReadStop e = IsWalkStop e
 
-abbrev pub IsWriteStop : Stop → Type 0
-IsWriteStop (Refused (ReadOnly entry)) = Unit {0}
-IsWriteStop e = IsReadStop e
+abbrev pub IsGuestWriteStop : Stop → Type 0
+IsGuestWriteStop (Refused (ReadOnly entry)) = Unit {0}
+IsGuestWriteStop e = IsGuestReadStop e

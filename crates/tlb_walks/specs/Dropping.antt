@@ -20,21 +20,21 @@ abbrev pub of_flush : Request
 of_flush = record (of_frame 0 0 None) { names = λ f. false; flushes = true }
 
 -- none is left, and the vCPU may use translations again; all else in hand is as before
-pub record Emptied (v w : PortValue) : Type 0 where
+pub record Uncached (v w : PortValue) : Type 0 where
   pub hand : FlushedSame v w
   pub cache : w.holdings.cache ≡ []
   pub warm : w.holdings.cold ≡ false
 
 -- ---- an ask is answered
 -- the own words of flushes are looked at: which clock value was asked, and to which the vCPU is flushed
-abbrev pub LooksBy : ℕ → ℕ → ℕ → List Visit → Type 0
-LooksBy s asked flushed vs = Then (Only (visit (asked_of s) Load asked)) (Only (visit (flushed_of s) Load flushed)) vs
+abbrev pub AskLooksBy : ℕ → ℕ → ℕ → List Visit → Type 0
+AskLooksBy s asked flushed vs = Then (Only (visit (asked_of s) Load asked)) (Only (visit (flushed_of s) Load flushed)) vs
 
 -- It is flushed past the ask, and stays as it is; or it is not, and flushes; or it does not, as the clock is at its last value.
 pub data Acks (v w : PortValue) : Type 0 where
-  past : (asked flushed : ℕ) → asked < flushed → Does v w (LooksBy v.post.vcpu asked flushed) → Same v w → Acks v w
-  flushes : (asked flushed : ℕ) → flushed ≤ asked → Does v w (Then (LooksBy v.post.vcpu asked flushed) (FlushedBy v.post.vcpu (Ok tt))) → Emptied v w → Acks v w
-  waits : (asked flushed : ℕ) → flushed ≤ asked → Does v w (Then (LooksBy v.post.vcpu asked flushed) (FlushedBy v.post.vcpu (Err (refusals.Clock last_clock)))) → Same v w → Acks v w
+  past : (asked flushed : ℕ) → asked < flushed → Does v w (AskLooksBy v.post.vcpu asked flushed) → Same v w → Acks v w
+  flushes : (asked flushed : ℕ) → flushed ≤ asked → Does v w (Then (AskLooksBy v.post.vcpu asked flushed) (FlushedBy v.post.vcpu (Ok tt))) → Uncached v w → Acks v w
+  waits : (asked flushed : ℕ) → flushed ≤ asked → Does v w (Then (AskLooksBy v.post.vcpu asked flushed) (FlushedBy v.post.vcpu (Err (refusals.Clock last_clock)))) → Same v w → Acks v w
 
 -- ---- one page
 -- the translations without those of the page of a canonical address

@@ -22,12 +22,12 @@ use Rattle.own_cache.specs.declared.flight.Flight.{Flight}
 use Rattle.own_cache.specs.Translating.{Translating, flown, landed, walk_below, seen, with_entry, touched_in, translating}
 use Rattle.tlb_walks.specs.Addresses.{index_of, walk_refusal}
 use Rattle.tlb_walks.specs.Translating.{item_by}
-use Rattle.tlb_walks.specs.Walks.{base_word, barrier_with, with_needed, EndsAt}
+use Rattle.tlb_walks.specs.Walks.{top_word, barrier_with, with_needed, EndsAt}
 use Rattle.tlb_walks.specs.declared.walks.Walked.{Walked}
 
 -- ---- in hand
 -- nothing is in hand but a walk perhaps; the vCPU runs, and its translations are its own
-pub record Ready (v : PortValue) : Type 0 where
+pub record WalkReady (v : PortValue) : Type 0 where
   pub running : v.holdings.run ≡ Some 0
   pub machine : IsMachine v.post.machine
   pub empty : IsEmptyHand v.holdings
@@ -95,9 +95,9 @@ pub data PathMoves (w : PortValue) (va : ℕ) (write : Bool) (answer : Result Wa
 
 pub data WalkMoves (v w : PortValue) (user : Bool) (va : ℕ) (write : Bool) (answer : Result Walked Stop) : Type 0 where
   barred : (x : Refusal) → walk_refusal va ≡ Some x → answer ≡ Err (Refused x) → w ≡ v → WalkMoves v w user va write answer
-  baseless : walk_refusal va ≡ None → answer ≡ Err (Refused (NotMapped 5 0)) → Moves v w (Vcpu v.post.vcpu (base_word user)) Load kinds.Fill (Some (marks.Walk write)) 0 →
+  baseless : walk_refusal va ≡ None → answer ≡ Err (Refused (NotMapped 5 0)) → Moves v w (Vcpu v.post.vcpu (top_word user)) Load kinds.Fill (Some (marks.Walk write)) 0 →
       WalkMoves v w user va write answer
-  walks : (u : PortValue) (base : ℕ) → walk_refusal va ≡ None → base ≢ 0 → Moves v u (Vcpu v.post.vcpu (base_word user)) Load kinds.Fill (Some (marks.Walk write)) base →
+  walks : (u : PortValue) (base : ℕ) → walk_refusal va ≡ None → base ≢ 0 → Moves v u (Vcpu v.post.vcpu (top_word user)) Load kinds.Fill (Some (marks.Walk write)) base →
       PathMoves w va write answer u 4 (base - 1) None → WalkMoves v w user va write answer
 
 -- the exchange of an entry that was loaded as x: there is none where the bits stand, or it met that word, or another

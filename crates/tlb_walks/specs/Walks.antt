@@ -18,8 +18,8 @@ use Rattle.tlb_walks.specs.Addresses.{index_of, walk_refusal}
 use Rattle.tlb_walks.specs.declared.walks.Walked.{Walked}
 
 -- the word of a vCPU that names the top table of the user or of the kernel
-abbrev pub base_word : Bool → ℕ
-base_word user = if user then 1 else 0
+abbrev pub top_word : Bool → ℕ
+top_word user = if user then 1 else 0
 
 -- the first entry, from level 4 down, whose bit 1 is 0: with one more entry
 abbrev pub barrier_with : Option ℕ → ℕ → Option ℕ
@@ -63,7 +63,7 @@ pub data PathBy (n : Machine) (va : ℕ) (write : Bool) (answer : Result Walked 
 
 -- ---- the whole walk
 abbrev pub base_visit : ℕ → Bool → Bool → ℕ → Visit
-base_visit s user write base = record { place = Vcpu s (base_word user); act = Load; mark = Some (marks.Walk write); found = base }
+base_visit s user write base = record { place = Vcpu s (top_word user); act = Load; mark = Some (marks.Walk write); found = base }
 
 -- Of vCPU s, by these steps, the newest first: none, where the address alone refuses it; the load of the base alone, where that names no
 -- table; or that load, and then the entries from the top table down.

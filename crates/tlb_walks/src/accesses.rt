@@ -10,10 +10,10 @@ ghost use Rattle.xp_board.specs.declared.step.StepKind.TheVariants as kinds;
 ghost use Rattle.step_maker.specs.Holds.{Rests, Same};
 ghost use Rattle.step_maker.specs.Moves.{Came, Moves};
 ghost use Rattle.answer_fits.specs.Answers.{Serves, Stops, misses};
-ghost use Rattle.tlb_walks.specs.Accesses.{OneRead, OneWrite, Reads, ServesWrite, Stores, may_serve, server};
-ghost use Rattle.tlb_walks.specs.Addresses.{access_refusal, word_of};
-ghost use Rattle.tlb_walks.specs.Asking.{IsReadStop, IsWriteStop, of_read, of_write};
-ghost use Rattle.tlb_walks.specs.Flying.{Ready};
+ghost use Rattle.tlb_walks.specs.Accesses.{OneRead, OneWrite, GuestReads, ServesWrite, GuestWrites, may_serve, server};
+ghost use Rattle.tlb_walks.specs.Addresses.{access_refusal, cell_index};
+ghost use Rattle.tlb_walks.specs.Asking.{IsGuestReadStop, IsGuestWriteStop, of_read, of_write};
+ghost use Rattle.tlb_walks.specs.Flying.{WalkReady};
 ghost use Rattle.tlb_walks.specs.Guesting.{ReadMoves, ReadWalks, StoreMoves, StoreWalks};
 
 use crate::addresses::{page_at, refused_access, word_at};
@@ -24,7 +24,7 @@ use xp_words::{Entry, Place, Refusal, Stop};
 
 // The guest loads a word of a frame to which a translation leads.
 fn load_guest<P: Port>(port: &mut P, frame: u32, index: u16) -> u64
-    requires ready { Ready (P.value port.old) }
+    requires ready { WalkReady (P.value port.old) }
     requires frame { frame < (P.value port.old).post.machine.frames }
     requires index { index < 512 }
     requires cached { MayRead frame (P.value port.old).holdings }
@@ -42,7 +42,7 @@ fn load_guest<P: Port>(port: &mut P, frame: u32, index: u16) -> u64
 
 // The guest stores one, through a writable translation.
 fn store_guest<P: Port>(port: &mut P, frame: u32, index: u16, word: u64) -> u64
-    requires ready { Ready (P.value port.old) }
+    requires ready { WalkReady (P.value port.old) }
     requires frame { frame < (P.value port.old).post.machine.frames }
     requires index { index < 512 }
     requires cached { MayStore frame (P.value port.old).holdings }
@@ -89,7 +89,7 @@ fn frame_at(entry: u64) -> u32
 
 // A walk brings a translation, through which the guest then loads.
 fn read_uncached<P: Port>(port: &mut P, user: bool, va: u64) -> Result<u64, Stop>
-    requires ready { Ready (P.value port.old) }
+    requires ready { WalkReady (P.value port.old) }
     requires landed { (P.value port.old).holdings.walk ≡ None }
     ensures { ReadWalks (P.value port.old) (P.value port.new) user va result }
 {
@@ -100,7 +100,7 @@ fn read_uncached<P: Port>(port: &mut P, user: bool, va: u64) -> Result<u64, Stop
 }
 
 fn read_word<P: Port>(port: &mut P, user: bool, va: u64) -> Result<u64, Stop>
-    requires ready { Ready (P.value port.old) }
+    requires ready { WalkReady (P.value port.old) }
     requires landed { (P.value port.old).holdings.walk ≡ None }
     ensures { ReadMoves (P.value port.old) (P.value port.new) user va result }
 {
@@ -115,7 +115,7 @@ fn read_word<P: Port>(port: &mut P, user: bool, va: u64) -> Result<u64, Stop>
 
 // The same for a store. After a walk it is refused where an entry cannot be written.
 fn write_uncached<P: Port>(port: &mut P, user: bool, va: u64, val: u64) -> Result<(), Stop>
-    requires ready { Ready (P.value port.old) }
+    requires ready { WalkReady (P.value port.old) }
     requires landed { (P.value port.old).holdings.walk ≡ None }
     ensures { StoreWalks (P.value port.old) (P.value port.new) user va val result }
 {
@@ -133,7 +133,7 @@ fn write_uncached<P: Port>(port: &mut P, user: bool, va: u64, val: u64) -> Resul
 }
 
 fn write_word<P: Port>(port: &mut P, user: bool, va: u64, val: u64) -> Result<(), Stop>
-    requires ready { Ready (P.value port.old) }
+    requires ready { WalkReady (P.value port.old) }
     requires landed { (P.value port.old).holdings.walk ≡ None }
     ensures { StoreMoves (P.value port.old) (P.value port.new) user va val result }
 {
@@ -159,10 +159,10 @@ pub fn guest_read<P: Port>(port: &mut P, user: bool, va: u64) -> Result<u64, Sto
     ensures came { Came (P.value port.old) (P.value port.new) }
     ensures serves { Serves (P.value port.old) (P.value port.new) (of_read va) (misses (P.value port.old).post.machine result) }
     ensures stops { IfErr result (λ e. Stops (P.value port.old) (P.value port.new) (of_read va) e) }
-    ensures kinds { IfErr result IsReadStop }
-    ensures course { Reads (P.value port.old) (P.value port.new) user va result }
+    ensures kinds { IfErr result IsGuestReadStop }
+    ensures course { GuestReads (P.value port.old) (P.value port.new) user va result }
     // A cached access is one step.
-    ensures served { (x : Item) → access_refusal va ≡ None → server (P.value port.old) user va false ≡ Some x → OneRead (P.value port.old) (P.value port.new) x.frame (word_of va) result }
+    ensures served { (x : Item) → access_refusal va ≡ None → server (P.value port.old) user va false ≡ Some x → OneRead (P.value port.old) (P.value port.new) x.frame (cell_index va) result }
     ensures rests { Rests (P.value port.new) }
     ensures warm { (P.value port.new).holdings.cold ≡ false }
 {
@@ -180,10 +180,10 @@ pub fn guest_write<P: Port>(port: &mut P, user: bool, va: u64, val: u64) -> Resu
     ensures came { Came (P.value port.old) (P.value port.new) }
     ensures serves { ServesWrite (P.value port.old) (P.value port.new) user va val result }
     ensures stops { IfErr result (λ e. Stops (P.value port.old) (P.value port.new) (of_write (P.value port.old) user va) e) }
-    ensures kinds { IfErr result IsWriteStop }
-    ensures course { Stores (P.value port.old) (P.value port.new) user va val result }
+    ensures kinds { IfErr result IsGuestWriteStop }
+    ensures course { GuestWrites (P.value port.old) (P.value port.new) user va val result }
     // A cached access is one step.
-    ensures served { (x : Item) → access_refusal va ≡ None → server (P.value port.old) user va true ≡ Some x → OneWrite (P.value port.old) (P.value port.new) x.frame (word_of va) val result }
+    ensures served { (x : Item) → access_refusal va ≡ None → server (P.value port.old) user va true ≡ Some x → OneWrite (P.value port.old) (P.value port.new) x.frame (cell_index va) val result }
     ensures rests { Rests (P.value port.new) }
     ensures warm { (P.value port.new).holdings.cold ≡ false }
 {

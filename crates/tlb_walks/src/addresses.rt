@@ -1,6 +1,6 @@
 //! What an address says.
 ghost use Rattle.std.specs.Prelude.{◌≡◌, ◌<◌, ◌≤◌};
-ghost use Rattle.tlb_walks.specs.Addresses.{is_canonical, page_of, index_of, word_of, walk_refusal, access_refusal, slot_refusal};
+ghost use Rattle.tlb_walks.specs.Addresses.{is_canonical, page_of, index_of, cell_index, walk_refusal, access_refusal, slot_refusal};
 
 use xp_words::Refusal;
 
@@ -36,7 +36,7 @@ pub(crate) fn index_at(va: u64, level: u8) -> u16
 
 // The word of its page.
 pub(crate) fn word_at(va: u64) -> u16
-    ensures word { result ≡ word_of va }
+    ensures word { result ≡ cell_index va }
     ensures few { result < 512 }
 {
     let word = (va >> 3) & 511;

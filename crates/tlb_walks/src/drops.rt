@@ -11,7 +11,7 @@ ghost use Rattle.answer_fits.specs.Asked.{Request};
 ghost use Rattle.answer_fits.specs.Visits.{Does};
 ghost use Rattle.flush_words.specs.Flushing.{FlushedBy};
 ghost use Rattle.tlb_walks.specs.Addresses.{is_canonical, page_of};
-ghost use Rattle.tlb_walks.specs.Dropping.{Acks, Emptied, Invalidates, left_cached, of_flush};
+ghost use Rattle.tlb_walks.specs.Dropping.{Acks, Uncached, Invalidates, left_cached, of_flush};
 
 use crate::addresses::{canonical, page_at};
 use flush_words::{flush_own, look_flushed};
@@ -60,7 +60,7 @@ pub fn flush_local<P: Port>(port: &mut P) -> Result<(), Refusal>
     ensures serves { Serves (P.value port.old) (P.value port.new) of_flush [] }
     ensures stops { IfErr result (λ e. Stops (P.value port.old) (P.value port.new) of_flush (Refused e)) }
     ensures course { Does (P.value port.old) (P.value port.new) (FlushedBy (P.value port.old).post.vcpu result) }
-    ensures hand { MatchResult result (λ _. Emptied (P.value port.old) (P.value port.new)) (λ _. Same (P.value port.old) (P.value port.new)) }
+    ensures hand { MatchResult result (λ _. Uncached (P.value port.old) (P.value port.new)) (λ _. Same (P.value port.old) (P.value port.new)) }
 {
     flush_own(port)
 }

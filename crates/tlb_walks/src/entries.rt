@@ -9,8 +9,8 @@ ghost use Rattle.xp_board.specs.declared.step.Mark.TheVariants as marks;
 ghost use Rattle.xp_board.specs.declared.step.StepKind.TheVariants as kinds;
 ghost use Rattle.step_maker.specs.Moves.{Moves, found_by};
 ghost use Rattle.own_cache.specs.Translating.{flown, gone_on, set_bits, landed, translating, walk_begun};
-ghost use Rattle.tlb_walks.specs.Flying.{Ready, Turned};
-ghost use Rattle.tlb_walks.specs.Walks.{base_word};
+ghost use Rattle.tlb_walks.specs.Flying.{WalkReady, Turned};
+ghost use Rattle.tlb_walks.specs.Walks.{top_word};
 
 use step_maker::{exchange, make};
 use xp_board::{Act, Mark, Port, StepKind};
@@ -22,16 +22,16 @@ const BASE: u32 = 0;
 const USER_BASE: u32 = 1;
 
 fn base_of(user: bool) -> u32
-    ensures { result ≡ base_word user }
+    ensures { result ≡ top_word user }
 {
     if user { USER_BASE } else { BASE }
 }
 
 /// A walk begins: loads the word that names the top table.
 pub(crate) fn load_base<P: Port>(port: &mut P, user: bool, write: bool) -> u64
-    requires ready { Ready (P.value port.old) }
+    requires ready { WalkReady (P.value port.old) }
     requires landed { (P.value port.old).holdings.walk ≡ None }
-    ensures moves { Moves (P.value port.old) (P.value port.new) (Vcpu (P.value port.old).post.vcpu (base_word user)) Load kinds.Fill (Some (marks.Walk write)) result }
+    ensures moves { Moves (P.value port.old) (P.value port.new) (Vcpu (P.value port.old).post.vcpu (top_word user)) Load kinds.Fill (Some (marks.Walk write)) result }
     ensures hand { Turned (P.value port.old) (P.value port.new) (walk_begun user write result (translating (P.value port.old).holdings)) }
 {
     let vcpu = port.vcpu();
@@ -47,7 +47,7 @@ pub(crate) fn load_base<P: Port>(port: &mut P, user: bool, write: bool) -> u64
 
 /// The walk loads its next entry.
 pub(crate) fn load_entry<P: Port>(port: &mut P, table: u32, index: u16) -> u64
-    requires ready { Ready (P.value port.old) }
+    requires ready { WalkReady (P.value port.old) }
     requires table { table < (P.value port.old).post.machine.frames }
     requires index { index < 512 }
     requires flying { (walk : Walk) × MayWalkOn table index walk (P.value port.old).holdings }
@@ -74,7 +74,7 @@ pub(crate) fn touch_entry<P: Port>(
     word: u64,
     new: u64,
 ) -> Result<(), u64>
-    requires ready { Ready (P.value port.old) }
+    requires ready { WalkReady (P.value port.old) }
     requires table { table < (P.value port.old).post.machine.frames }
     requires index { index < 512 }
     requires touching { (walk : Walk) × MayTouch table index word new walk (P.value port.old).holdings }

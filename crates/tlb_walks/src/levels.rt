@@ -5,7 +5,7 @@ ghost use Rattle.xp_words.specs.declared.reply.Refusal.TheVariants.{NotMapped};
 ghost use Rattle.xp_words.specs.declared.reply.Stop.TheVariants.{Refused};
 ghost use Rattle.xp_board.specs.FillSteps.{is_walked};
 ghost use Rattle.own_cache.specs.Translating.{flown, touched_in, with_entry};
-ghost use Rattle.tlb_walks.specs.Flying.{Ready, Sees, BitsSet, BitsLost, IsAt, TouchMoves, PassedBy, PassedTo, PathMoves, EndedIn, next_flight};
+ghost use Rattle.tlb_walks.specs.Flying.{WalkReady, Sees, BitsSet, BitsLost, IsAt, TouchMoves, PassedBy, PassedTo, PathMoves, EndedIn, next_flight};
 ghost use Rattle.tlb_walks.specs.Walks.{barrier_with};
 
 use crate::addresses::index_at;
@@ -31,7 +31,7 @@ fn needed(flight: &Flight, word: u64) -> u64
 
 // The walk sets the bits that it needs in the entry that it loaded. An exchange that is lost answers the word that it found.
 fn set_bits<P: Port>(port: &mut P, flight: &Flight, index: u16, word: u64) -> Result<(), u64>
-    requires ready { Ready (P.value port.old) }
+    requires ready { WalkReady (P.value port.old) }
     requires table { flight.now.table < (P.value port.old).post.machine.frames }
     requires index { index < 512 }
     requires seen { Sees (P.value port.old) flight.now index word }
@@ -53,7 +53,7 @@ pub(crate) fn unmapped(level: u8, entry: u64) -> Stop
 
 // The walk loads the entry of its table, and sets its bits.
 fn pass<P: Port>(port: &mut P, flight: &Flight, index: u16) -> Result<u64, Stop>
-    requires ready { Ready (P.value port.old) }
+    requires ready { WalkReady (P.value port.old) }
     requires flying { flown (P.value port.old).holdings.walk ≡ Some flight.now }
     requires free { flight.now.touching ≡ false }
     requires table { flight.now.table < (P.value port.old).post.machine.frames }
@@ -135,7 +135,7 @@ pub(crate) fn walk_from<P: Port>(
     barrier: Option<u64>,
     va: u64,
 ) -> Result<Walked, Stop>
-    requires ready { Ready (P.value port.old) }
+    requires ready { WalkReady (P.value port.old) }
     requires at { IsAt (P.value port.old) flight.now.user va flight.now.write barrier flight.now }
     ensures path { PathMoves (P.value port.new) va flight.now.write result (P.value port.old) flight.now.level flight.now.table barrier }
     ensures hand { EndedIn (P.value port.old) (P.value port.new) flight.now.user va flight.now.write result }

@@ -4,7 +4,7 @@ ghost use Rattle.answer_fits.specs.Answers.{Serves, Stops, misses};
 ghost use Rattle.step_maker.specs.Holds.{Rests};
 ghost use Rattle.step_maker.specs.Moves.{Came};
 ghost use Rattle.tlb_walks.specs.Asking.{IsWalkStop, of_walk};
-ghost use Rattle.tlb_walks.specs.Flying.{EndedIn, Ready, WalkMoves};
+ghost use Rattle.tlb_walks.specs.Flying.{EndedIn, WalkReady, WalkMoves};
 ghost use Rattle.tlb_walks.specs.Translating.{Walks};
 
 use crate::addresses::refused_walk;
@@ -52,7 +52,7 @@ pub(crate) fn walk_to<P: Port>(
     va: u64,
     write: bool,
 ) -> Result<Walked, Stop>
-    requires ready { Ready (P.value port.old) }
+    requires ready { WalkReady (P.value port.old) }
     requires landed { (P.value port.old).holdings.walk ≡ None }
     ensures moves { WalkMoves (P.value port.old) (P.value port.new) user va write result }
     ensures hand { EndedIn (P.value port.old) (P.value port.new) user va write result }
