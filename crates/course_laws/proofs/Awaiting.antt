@@ -59,13 +59,13 @@ NeitherLostNorBusy = (v w : PortValue) (r : Request) (x : Pause) → IsAlone v �
 abbrev pub NobodyWaitedFor : Type 0
 NobodyWaitedFor = (v w : PortValue) (r : Request) (u stamp x : ℕ) → length v.post.machine.vcpu_domain ≡ 1 → Stops v w r (Paused (pauses.Flush u stamp x)) → ⊥
 
-clock_by : (v w from to : PortValue) (r : Request) (x : ℕ) → ClockGoesOn v w → Came v from → Came to w → Stops from to r (Refused (refusals.Clock x)) → ⊥
+pub clock_by : (v w from to : PortValue) (r : Request) (x : ℕ) → ClockGoesOn v w → Came v from → Came to w → Stops from to r (Refused (refusals.Clock x)) → ⊥
 unfolding Stops
 clock_by v w from to r x goes before after stops =
     let at = stops.1.1 in
     goes at.moment (met_after v from w at.moment before (met_before from to w at.moment at.was after)) at.place (at.word ∙ stops.0)
 
-rose_by : (from to : PortValue) (r : Request) → r.rose ≡ false → Stops from to r (Paused pauses.Due) → ⊥
+pub rose_by : (from to : PortValue) (r : Request) → r.rose ≡ false → Stops from to r (Paused pauses.Due) → ⊥
 unfolding Stops
 rose_by from to r calm stops = let rose = stops.0 in cc
 

@@ -14,7 +14,7 @@ use Rattle.partial_state.specs.Levels.{level_type}
 use Rattle.partial_state.specs.declared.stack.TableWork.{TableWork}
 use Rattle.table_entries.specs.Asking.{of_entries}
 use Rattle.table_courses.specs.Acquiring.{Acquired, Advanced, Filled, GotRef, TookOn, Worked, asked, begun, completed, counted, cut_off, due, filled, finished, fresh, keeps_it, opened, outermost_table, recorded, settled, stopped, taken, unasked, unfinished, unreferred, unsettled, untyped, waiting}
-use Rattle.course_laws.proofs.Walking.{again_came, entry_came, filled_came, gave_came, left_came, on_came, unwound_came, waiting_came}
+use Rattle.course_laws.proofs.Walking.{again_came, entry_came, filled_came, gave_came, left_came, live_came, on_came, unwound_came, waiting_came, worked_came}
 
 -- one of the steps from v to w is a call that stopped for that: it destroys nothing, and no gate was asked in it
 pub record StopsIn (v w : PortValue) (e : Stop) : Type 0 where
@@ -31,13 +31,13 @@ abbrev pub StopsAs : {A : Type 0} → PortValue → PortValue → Result A Stop 
 StopsAs v w (Ok a) = Unit {0}
 StopsAs v w (Err e) = StopsIn v w e
 
-stops_here : (v w : PortValue) (r : Request) (e : Stop) → r.destroys ≡ None → r.rose ≡ false → Stops v w r e → StopsIn v w e
+pub stops_here : (v w : PortValue) (r : Request) (e : Stop) → r.destroys ≡ None → r.rose ≡ false → Stops v w r e → StopsIn v w e
 stops_here v w r e spares calm stops = record { from = v; to = w; before = came_self v; after = came_self w; request = r; spares = spares; calm = calm; stops = stops }
 
-behind : (v u w : PortValue) (e : Stop) → Came v u → StopsIn u w e → StopsIn v w e
+pub behind : (v u w : PortValue) (e : Stop) → Came v u → StopsIn u w e → StopsIn v w e
 behind v u w e came s = record { from = s.from; to = s.to; before = came_trans v u s.from came s.before; after = s.after; request = s.request; spares = s.spares; calm = s.calm; stops = s.stops }
 
-ahead_of : (v u w : PortValue) (e : Stop) → StopsIn v u e → Came u w → StopsIn v w e
+pub ahead_of : (v u w : PortValue) (e : Stop) → StopsIn v u e → Came u w → StopsIn v w e
 ahead_of v u w e s came = record { from = s.from; to = s.to; before = s.before; after = came_trans s.to u w s.after came; request = s.request; spares = s.spares; calm = s.calm; stops = s.stops }
 
 behind_as : {A : Type 0} (v u w : PortValue) (r : Result A Stop) → Came v u → StopsAs u w r → StopsAs v w r
@@ -65,7 +65,7 @@ advanced_stops owner _ _ _ _ _ (completed v u w t outer ts full a b) = tt
 abbrev pub IsUngated : {A : Type 0} → List Bool → Result A Stop → Type 0
 IsUngated answers r = r ≡ Err (Paused Due) → yeses answers ≡ 0
 
-no_yes : (answers : List Bool) → yeses (true ∷ answers) ≡ 0 → ⊥
+pub no_yes : (answers : List Bool) → yeses (true ∷ answers) ≡ 0 → ⊥
 unfolding yeses
 no_yes answers none = omega arith
 
@@ -82,8 +82,23 @@ worked_stops owner v t _ _ _ _ (due w us a on) none = absurd (no_yes [] (none re
 worked_stops owner v t _ _ _ _ (filled u w us xs done answers answer a b) none = behind_as v u w answer (on_came owner v (t ∷ []) u us _ a) (filled_stops owner u us _ w xs answers answer b none)
 
 -- ---- the whole
-ref_came : (v u : PortValue) (f owner : ℕ) (r : Result ℕ Stop) → GotRef v u f owner r → Came v u
+pub ref_came : (v u : PortValue) (f owner : ℕ) (r : Result ℕ Stop) → GotRef v u f owner r → Came v u
 ref_came v u f owner r a = does_came v u _ a.found
+
+pub acquired_came : (v : PortValue) (f owner level : ℕ) (w : PortValue) (answers : List Bool) (r : Result ℕ Stop) → Acquired v f owner level w answers r → Came v w
+acquired_came v f owner level _ _ _ (unreferred w stop ref) = ref_came v w f owner _ ref
+acquired_came v f owner level _ _ _ (untyped u x w stop ref type back) = came_trans v u w (ref_came v u f owner _ ref) (came_trans u x w (does_came u x _ type.found) (gave_came x w f back))
+acquired_came v f owner level _ _ _ (counted u w ref type) = came_trans v u w (ref_came v u f owner _ ref) (does_came u w _ type.found)
+acquired_came v f owner level _ _ _ (waiting u x w own stamp stop ref type left) =
+    came_trans v u w (ref_came v u f owner _ ref) (came_trans u x w (does_came u x _ type.found) (left_came x w f level owner stamp own (keeps_it stop) left))
+acquired_came v f owner level _ _ _ (unfinished u x y w progress own us answers stop ref type work left) =
+    came_trans v u w (ref_came v u f owner _ ref)
+    (came_trans u x w (does_came u x _ type.found)
+    (came_trans x y w (worked_came owner x (outermost_table f level progress own) y us answers _ work) (unwound_came y owner us (keeps_it stop) w left)))
+acquired_came v f owner level _ _ _ (finished u x y w progress own t answers ref type work full made) =
+    came_trans v u w (ref_came v u f owner _ ref)
+    (came_trans u x w (does_came u x _ type.found)
+    (came_trans x y w (worked_came owner x (outermost_table f level progress own) y (t ∷ []) answers _ work) (live_came y w t made)))
 
 pub acquired_stops : (v : PortValue) (f owner level : ℕ) (w : PortValue) (answers : List Bool) (answer : Result ℕ Stop) → Acquired v f owner level w answers answer → IsUngated answers answer → StopsAs v w answer
 acquired_stops v f owner level _ _ _ (unreferred w stop ref) none = stops_here v w (of_frame f owner None) stop refl refl ref.stops

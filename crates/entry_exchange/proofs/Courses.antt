@@ -1,22 +1,17 @@
 -- The course of an exchange, over its calls, with the answers of its gate.
-use Rattle.std.proofs.Common.{◌≡◌, ◌≢◌, ℕ, ◌==◌, if◌then◌else◌, Bool, true, false, List, [], ◌++◌, Result, Ok, Err, refl, sym, ap, ◌∙◌, subst}
-use Rattle.xp_words.specs.declared.entry.Demand.{Demand}
-use Rattle.xp_words.specs.declared.entry.Demand.TheVariants.{Bad}
-use Rattle.xp_words.specs.declared.reply.Refusal.TheVariants.{Reserved}
+use Rattle.std.proofs.Common.{◌≡◌, ℕ, Bool, true, false, List, [], ◌++◌, Result, Ok, Err, refl}
 use Rattle.xp_words.specs.declared.reply.Stop.{Stop}
-use Rattle.xp_words.specs.declared.reply.Stop.TheVariants.{Refused}
 use Rattle.xp_board.specs.Told.{PortValue}
 use Rattle.xp_preempt.specs.Gates.{ends_yes}
 use Rattle.foreign_map.specs.declared.owners.Owners.{Owners}
 use Rattle.level_release.specs.Asking.{is_due_answer}
-use Rattle.level_release.specs.Course.{WithGate}
 use Rattle.xp_preempt.proofs.Consulting.{consulted_none, consulted_then}
 use Rattle.entry_exchange.specs.declared.exchanging.EntryUpdate.{EntryUpdate}
-use Rattle.entry_exchange.specs.Course.{ExchangesBy, Exchanged, GaveDemand, LeftLock, PutsNew, SawEntry, TookNew, new_demand, old_demand}
+use Rattle.entry_exchange.specs.Course.{ExchangesBy, Exchanged, GaveDemand, LeftLock, PutsNew, SawEntry, new_demand, old_demand}
 use Rattle.entry_exchange.specs.Course as courses
 use Rattle.entry_exchange.specs.Holding.{owner_at}
 use Rattle.entry_exchange.specs.Parts.{ReleasesBy, TakesBy}
-use Rattle.entry_exchange.specs.Words.{same_demand, word_kept}
+use Rattle.entry_exchange.specs.Words.{same_demand}
 
 pub not_due : (b : Bool) (answers : List Bool) → b ≡ false → b ≡ true → ends_yes answers ≡ true
 not_due b answers off on = absurd cc
@@ -25,16 +20,6 @@ module _ (v u : PortValue) (x : EntryUpdate) (o : Owners) (seen : ℕ) (saw : Sa
   -- ---- the gate was not asked
   pub unasked : (w : PortValue) (answer : Result (Unit {0}) Stop) (before agreed : ℕ) → is_due_answer answer ≡ false → Exchanged v x o w [] answer → ExchangesBy v w x o says before before agreed agreed answer
   unasked w answer before agreed undue course = record { answers = []; course = course; gate = consulted_none says before agreed; due = not_due (is_due_answer answer) [] undue }
-
-  pub bad_course : (w : PortValue) → new_demand x seen ≡ Bad → LeftLock u x.table x.level w → Exchanged v x o w [] (Err (Refused (Reserved x.table x.index (word_kept x.keep seen x.word))))
-  bad_course w asks left = courses.bad u w seen saw asks left
-
-  module _ (same : same_demand (new_demand x seen) (old_demand x seen) ≡ true) where
-    pub same_course : (y w : PortValue) (old : ℕ) → PutsNew u y x seen (Ok old) → LeftLock y x.table x.level w → Exchanged v x o w [] (Ok tt)
-    same_course y w old put left = courses.same u y w seen old saw same put left
-
-    pub unput_course : (y w : PortValue) (stop : Stop) → PutsNew u y x seen (Err stop) → LeftLock y x.table x.level w → Exchanged v x o w [] (Err stop)
-    unput_course y w stop put left = courses.unput u y w seen stop saw same put left
 
   -- ---- the new word asks something else
   module _ (other : same_demand (new_demand x seen) (old_demand x seen) ≡ false) (y : PortValue) (before after yes_before yes_after : ℕ) where

@@ -116,22 +116,27 @@ module _ (v : PortValue) (x : EntryUpdate) (o : Owners) (holds : HoldsTableLock 
           leaves v x.table x.level o.tables holds w v.holdings.old0 out.0 out.1
 
 -- ---- the course; the gate is not asked
-module _ (v b : PortValue) (x : EntryUpdate) (o : Owners) (seen : ℕ) (saw : SawEntry v b x.table x.index seen) (new : ℕ) (word : new ≡ word_kept x.keep seen x.word) (w : PortValue) (says : ℕ → Bool) (before agreed : ℕ) where
-  pub bad_by : new_demand x seen ≡ Bad → LeftLock b x.table x.level w → ExchangesBy v w x o says before before agreed agreed (Err (Refused (Reserved x.table x.index new)))
-  bad_by asks left =
-      unasked v b x o seen saw says w (Err (Refused (Reserved x.table x.index new))) before agreed refl
-      (subst (λ y. Exchanged v x o w [] (Err (Refused (Reserved x.table x.index y)))) (sym word) (courses.bad b w seen saw asks left))
+module _ (v b : PortValue) (x : EntryUpdate) (o : Owners) (seen : ℕ) (saw : SawEntry v b x.table x.index seen) (new : ℕ) (word : new ≡ word_kept x.keep seen x.word) (w : PortValue) where
+  pub bad_course : new_demand x seen ≡ Bad → LeftLock b x.table x.level w → Exchanged v x o w [] (Err (Refused (Reserved x.table x.index new)))
+  bad_course asks left = subst (λ y. Exchanged v x o w [] (Err (Refused (Reserved x.table x.index y)))) (sym word) (courses.bad b w seen saw asks left)
 
   module _ (same : same_demand (new_demand x seen) (old_demand x seen) ≡ true) (z : PortValue) where
-    pub same_by : (old : ℕ) → PutEntry b z x.table x.index seen new x.keep (Ok old) → LeftLock z x.table x.level w → ExchangesBy v w x o says before before agreed agreed (Ok tt)
-    same_by old put left =
-        unasked v b x o seen saw says w (Ok tt) before agreed refl
-        (courses.same b z w seen old saw same (subst (λ y. PutEntry b z x.table x.index seen y x.keep (Ok old)) word put) left)
+    pub same_course : (old : ℕ) → PutEntry b z x.table x.index seen new x.keep (Ok old) → LeftLock z x.table x.level w → Exchanged v x o w [] (Ok tt)
+    same_course old put left = courses.same b z w seen old saw same (subst (λ y. PutEntry b z x.table x.index seen y x.keep (Ok old)) word put) left
 
-    pub unput_by : (stop : Stop) → PutEntry b z x.table x.index seen new x.keep (Err stop) → LeftLock z x.table x.level w → ExchangesBy v w x o says before before agreed agreed (Err stop)
-    unput_by stop put left =
-        unasked v b x o seen saw says w (Err stop) before agreed (undue b z x.table x.index seen new x.keep stop put)
-        (courses.unput b z w seen stop saw same (subst (λ y. PutEntry b z x.table x.index seen y x.keep (Err stop)) word put) left)
+    pub unput_course : (stop : Stop) → PutEntry b z x.table x.index seen new x.keep (Err stop) → LeftLock z x.table x.level w → Exchanged v x o w [] (Err stop)
+    unput_course stop put left = courses.unput b z w seen stop saw same (subst (λ y. PutEntry b z x.table x.index seen y x.keep (Err stop)) word put) left
+
+  module _ (says : ℕ → Bool) (before agreed : ℕ) where
+    pub bad_by : new_demand x seen ≡ Bad → LeftLock b x.table x.level w → ExchangesBy v w x o says before before agreed agreed (Err (Refused (Reserved x.table x.index new)))
+    bad_by asks left = unasked v b x o seen saw says w (Err (Refused (Reserved x.table x.index new))) before agreed refl (bad_course asks left)
+
+    module _ (same : same_demand (new_demand x seen) (old_demand x seen) ≡ true) (z : PortValue) where
+      pub same_by : (old : ℕ) → PutEntry b z x.table x.index seen new x.keep (Ok old) → LeftLock z x.table x.level w → ExchangesBy v w x o says before before agreed agreed (Ok tt)
+      same_by old put left = unasked v b x o seen saw says w (Ok tt) before agreed refl (same_course same z old put left)
+
+      pub unput_by : (stop : Stop) → PutEntry b z x.table x.index seen new x.keep (Err stop) → LeftLock z x.table x.level w → ExchangesBy v w x o says before before agreed agreed (Err stop)
+      unput_by stop put left = unasked v b x o seen saw says w (Err stop) before agreed (undue b z x.table x.index seen new x.keep stop put) (unput_course same z stop put left)
 
 pub with_answer : (v w : PortValue) (x : EntryUpdate) (o : Owners) (says : ℕ → Bool) (before after yes_before yes_after : ℕ) (answer found : Result (Unit {0}) Stop) → answer ≡ found →
     ExchangesBy v w x o says before after yes_before yes_after found → ExchangesBy v w x o says before after yes_before yes_after answer

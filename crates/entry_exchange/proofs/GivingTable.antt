@@ -1,12 +1,11 @@
 -- A typed reference to a live table is given back: what is in hand behind each step.
-use Rattle.std.proofs.Common.{◌≡◌, ◌≢◌, ◌⊎◌, ℕ, ◌+◌, ◌<◌, ◌≤◌, Bool, true, false, List, [], ◌∷◌, Option, Some, None, IsTrue, refl, sym, ap, ◌∙◌, subst, arith, inl, inr}
+use Rattle.std.proofs.Common.{◌≡◌, ◌≢◌, ◌⊎◌, ℕ, ◌+◌, ◌<◌, ◌≤◌, true, false, List, [], ◌∷◌, Option, Some, IsTrue, refl, sym, ap, ◌∙◌, subst, arith, inl, inr}
 use Rattle.std.proofs.lemmas.Bool.{cases_eq}
-use Rattle.xp_words.specs.KindWords.{is_kind, kind_fields, kind_write}
+use Rattle.xp_words.specs.KindWords.{is_kind, kind_fields}
 use Rattle.xp_words.specs.Places.{sizes_of}
 use Rattle.xp_words.specs.declared.kind.KindWord.{KindWord}
 use Rattle.xp_words.specs.declared.kind.PageType.{PageType}
 use Rattle.xp_board.specs.declared.holdings.Holdings.{Holdings}
-use Rattle.xp_board.specs.declared.holdings.OwnerFound.{OwnerFound}
 use Rattle.xp_board.specs.declared.holdings.OwnerFound.TheVariants as owners
 use Rattle.xp_board.specs.declared.holdings.Reference.{Reference}
 use Rattle.xp_board.specs.declared.holdings.TypedReference.{TypedReference}
@@ -20,13 +19,13 @@ use Rattle.board_lemmas.proofs.ListCounts.{first_by-cons_here, newest_held}
 use Rattle.step_maker.specs.Holds.{Holds, still}
 use Rattle.frame_words.specs.Freeing.{gave}
 use Rattle.frame_words.specs.Refs.{MayPut}
-use Rattle.kind_words.specs.Kinds.{MayLeave, left, partial_kind}
+use Rattle.kind_words.specs.Kinds.{MayLeave, partial_kind}
 use Rattle.kind_words.proofs.KindHands.{apart_spares, known_first, typed_held}
 use Rattle.kind_words.proofs.KindWriting.{partial_is}
 use Rattle.kind_words.proofs.Leaving.{left_kept_closing, left_kept_closing_other, may_keep_closing, may_leave_partial, without_newest}
 use Rattle.frame_types.specs.Lowering.{DropsType, closing_from, closing_in, uncounted}
 use Rattle.frame_types.proofs.Lowered.{closed_here, closed_is, closed_kind, closed_unmarked, type_closed, type_counted}
-use Rattle.kept_marks.specs.Marks.{IsForeign, IsKeptOf, LeavesKept, left_kept}
+use Rattle.kept_marks.specs.Marks.{IsKeptOf, LeavesKept, left_kept}
 use Rattle.partial_state.specs.Levels.{level_type}
 use Rattle.partial_state.proofs.LevelFacts.{level_type-table, level_type-typed}
 use Rattle.entry_exchange.specs.Parts.{HoldsTyped, LeavesUntyped}

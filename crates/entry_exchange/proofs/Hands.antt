@@ -1,9 +1,8 @@
 -- What is in hand along an exchange, but for translations: references, the lock, and what is known of the old words.
-use Rattle.std.proofs.Common.{◌≡◌, ℕ, ◌+◌, ◌<◌, ◌≤◌, Bool, true, false, List, [], ◌∷◌, length, Option, Some, None, Result, Ok, Err, IsTrue, refl, sym, ap, ◌∙◌, subst, inl, inr}
+use Rattle.std.proofs.Common.{◌≡◌, ℕ, ◌+◌, true, false, List, [], ◌∷◌, length, Option, Some, Ok, Err, refl, sym, ap, ◌∙◌, inl, inr}
 use Rattle.xp_words.specs.Entries.{demand_at}
 use Rattle.xp_words.specs.declared.entry.Demand.{Demand}
 use Rattle.xp_words.specs.declared.entry.Demand.TheVariants.{Bad, Nothing, Read, Typed}
-use Rattle.xp_words.specs.declared.kind.PageType.{PageType}
 use Rattle.xp_words.specs.declared.reply.Stop.{Stop}
 use Rattle.xp_board.specs.declared.holdings.Claimed.{Claimed}
 use Rattle.xp_board.specs.declared.holdings.Holdings.{Holdings}
@@ -20,10 +19,10 @@ use Rattle.xp_board.specs.Settling.{demand_in, demand_out}
 use Rattle.xp_board.specs.Told.{PortValue}
 use Rattle.board_lemmas.proofs.ListCounts.{first_by-cons_here}
 use Rattle.board_lemmas.proofs.Sums.{when_eq}
-use Rattle.step_maker.specs.Holds.{FlushedHolds, Holds, quiet, still}
+use Rattle.step_maker.specs.Holds.{Holds, quiet}
 use Rattle.kind_words.proofs.Leaving.{without_newest}
 use Rattle.entry_locks.specs.Entries.{entry_set, entry_unset}
-use Rattle.entry_exchange.specs.Holding.{LeavesDemand, LeavesUnlocked, holding}
+use Rattle.entry_exchange.specs.Holding.{LeavesDemand, LeavesUnlocked}
 use Rattle.entry_exchange.specs.Parts.{LeavesGone}
 
 -- w is the same port as v, with these parts of its hand

@@ -1,23 +1,21 @@
 -- What an entry of a table under the own lock names is a frame of the machine.
-use Rattle.std.proofs.Common.{◌≡◌, ℕ, ◌+◌, ◌<◌, ◌≤◌, nat_lt, true, false, Option, Some, None, IsTrue, refl, sym, ap, ◌∙◌, subst, arith, inl, inr}
-use Rattle.std.proofs.lemmas.Bool.{and_parts, cases_Bool}
+use Rattle.std.proofs.Common.{◌≡◌, ℕ, ◌<◌, ◌≤◌, true, Some, sym, ap, ◌∙◌, subst, arith}
+use Rattle.std.proofs.lemmas.Bool.{and_parts}
 use Rattle.std.proofs.lemmas.Bool.Decides.{nat_tests}
 use Rattle.xp_words.specs.Entries.{demand_at}
 use Rattle.xp_words.specs.Machine.{Machine}
 use Rattle.xp_words.specs.PageTypes.{is_table, type_number}
-use Rattle.xp_words.specs.Places.{is_place, sizes_of}
-use Rattle.xp_words.specs.RefWords.{ref_read}
+use Rattle.xp_words.specs.Places.{sizes_of}
 use Rattle.xp_words.specs.declared.entry.Demand.{Demand}
 use Rattle.xp_words.specs.declared.entry.Demand.TheVariants.{Bad, Nothing, Read, Typed}
-use Rattle.xp_words.specs.declared.kind.KindWord.{KindWord}
 use Rattle.xp_words.specs.declared.kind.PageType.{PageType}
 use Rattle.xp_words.specs.declared.place.Place.{Place}
-use Rattle.xp_words.specs.declared.place.Place.TheVariants.{Cell, Kind, Refs}
+use Rattle.xp_words.specs.declared.place.Place.TheVariants.{Cell}
 use Rattle.xp_board.specs.declared.holdings.Holdings.{Holdings}
 use Rattle.xp_board.specs.declared.holdings.Lock.{Lock}
-use Rattle.xp_board.specs.Hands.{lock_on, locks_on}
-use Rattle.xp_board.specs.Readings.{kind_at, ref_count, type_count}
-use Rattle.xp_board.specs.Recorded.{entries, entry_demand, held, names_typed}
+use Rattle.xp_board.specs.Hands.{lock_on}
+use Rattle.xp_board.specs.Readings.{kind_at}
+use Rattle.xp_board.specs.Recorded.{entry_demand, held, names_typed}
 use Rattle.xp_board.specs.Sound.{Sound}
 use Rattle.xp_board.specs.Told.{Finds, PortValue}
 use Rattle.board_lemmas.proofs.Counted.{entries-part, held_inside, names_typed-typed, plain_counted, type_below, typed_counted}

@@ -6,6 +6,7 @@ pub mod GivingTable
 pub mod Hands
 pub mod Inside
 pub mod KeptBits
+pub mod Lengths
 pub mod LockOff
 pub mod PageKinds
 pub mod Putting
@@ -19,6 +20,7 @@ pub mod ServesWithin
 pub mod ServesWords
 pub mod Standing
 pub mod Staying
+pub mod Steps
 pub mod StopsBad
 pub mod StopsPutting
 pub mod Taking

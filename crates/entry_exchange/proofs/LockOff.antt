@@ -1,21 +1,19 @@
 -- The own entry lock goes off a table: what is in hand behind each step, and that these serve.
-use Rattle.std.proofs.Common.{◌≡◌, ℕ, ◌+◌, ◌-◌, ◌%◌, ◌^◌, ◌<◌, ◌≤◌, ◌==◌, Bool, true, false, List, [], ◌∷◌, length, Some, None, IsTrue, refl, sym, ap, ◌∙◌, subst, arith, inl, inr}
+use Rattle.std.proofs.Common.{◌≡◌, ℕ, ◌+◌, ◌-◌, ◌<◌, ◌≤◌, ◌==◌, true, false, List, ◌∷◌, length, Some, None, IsTrue, refl, sym, ap, ◌∙◌, subst, arith, inl, inr}
 use Rattle.std.proofs.lemmas.Bool.Decides.{nat_tests}
 use Rattle.xp_words.specs.KindWords.{is_kind, kind_fields, kind_write}
 use Rattle.xp_words.specs.declared.kind.KindWord.{KindWord}
-use Rattle.xp_words.specs.declared.kind.PageType.{PageType}
-use Rattle.xp_words.specs.declared.place.Place.TheVariants.{Kind, Vcpu}
+use Rattle.xp_words.specs.declared.place.Place.TheVariants.{Kind}
 use Rattle.xp_board.specs.declared.holdings.Holdings.{Holdings}
 use Rattle.xp_board.specs.declared.holdings.Liveness.TheVariants as lives
 use Rattle.xp_board.specs.declared.holdings.Lock.{Lock}
 use Rattle.xp_board.specs.declared.holdings.Reference.{Reference}
 use Rattle.xp_board.specs.declared.holdings.TypedReference.{TypedReference}
 use Rattle.xp_board.specs.declared.holdings.Work.{Work}
-use Rattle.xp_board.specs.declared.step.Act.TheVariants.{Add, Store}
+use Rattle.xp_board.specs.declared.step.Act.TheVariants.{Store}
 use Rattle.xp_board.specs.declared.step.StepKind.TheVariants as kinds
 use Rattle.xp_board.specs.Acts.{left_by}
-use Rattle.xp_board.specs.Hands.{lock_on, lock_owner, ref_owner, refs_to, typed_to, without_lock, without_ref, without_typed, without_work, work_on}
-use Rattle.xp_board.specs.KindSteps.{unlocked_down}
+use Rattle.xp_board.specs.Hands.{lock_owner, ref_owner, refs_to, typed_to, without_lock, without_ref, without_work, work_on}
 use Rattle.xp_board.specs.Readings.{is_closing, is_live}
 use Rattle.xp_board.specs.Told.{Post, PortValue}
 use Rattle.board_lemmas.proofs.KindForms.{fields_unlocked}
@@ -29,7 +27,7 @@ use Rattle.kind_words.proofs.KindFacts.{kind_found}
 use Rattle.kind_words.proofs.KindHands.{apart_spares, typed_held}
 use Rattle.kind_words.proofs.KindWriting.{partial_is}
 use Rattle.kind_words.proofs.Leaving.{left_partial_closing, may_leave_partial, without_newest}
-use Rattle.entry_locks.specs.Locks.{Unlocks, closing_unlocked, unlocked_hand}
+use Rattle.entry_locks.specs.Locks.{Unlocks, closing_unlocked}
 use Rattle.partial_state.specs.Levels.{level_type}
 use Rattle.partial_state.proofs.LevelFacts.{level_type-table, level_type-typed}
 use Rattle.table_words.specs.OldWords.{kept_in_old, old_place}

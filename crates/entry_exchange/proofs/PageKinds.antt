@@ -1,5 +1,5 @@
 -- Why a frame is not to be had as ordinary memory, by the words that were found: why a table is not to be had, too.
-use Rattle.std.proofs.Common.{◌≡◌, ℕ, ◌<◌, ◌==◌, nat_le, nat_lt, if◌then◌else◌, Bool, true, false, List, [], Option, Some, None, Result, Ok, Err, IfErr, refl, sym, ap, ◌∙◌, subst}
+use Rattle.std.proofs.Common.{◌≡◌, ℕ, ◌==◌, nat_le, nat_lt, if◌then◌else◌, Bool, true, false, List, Option, Some, None, Err, refl, sym, subst}
 use Rattle.xp_words.specs.Machine.{Machine}
 use Rattle.xp_words.specs.RefWords.{ref_read}
 use Rattle.xp_words.specs.KindWords.{kind_fields}
@@ -14,10 +14,10 @@ use Rattle.xp_words.specs.declared.reply.Stop.TheVariants.{Paused, Refused}
 use Rattle.xp_board.specs.Told.{PortValue}
 use Rattle.answer_fits.specs.Visits.{Does, Visit}
 use Rattle.flush_waits.specs.Waiting.{IsWait}
-use Rattle.frame_words.specs.Plain.{refer, refer_by}
+use Rattle.frame_words.specs.Plain.{refer_by}
 use Rattle.frame_words.specs.Refs.{GetsBy, UnreferredBy, outside, refused}
 use Rattle.frame_types.specs.Found.{TypeBy}
-use Rattle.frame_types.specs.Plain.{stop_by, type_stop}
+use Rattle.frame_types.specs.Plain.{stop_by}
 use Rattle.frame_types.specs.Standing.{standing_of}
 use Rattle.frame_types.specs.declared.standing.Standing.{Standing}
 use Rattle.frame_types.specs.declared.standing.Standing.TheVariants as stands

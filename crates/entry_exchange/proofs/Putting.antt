@@ -1,11 +1,9 @@
 -- The new word of an entry may be put there: what it asks is in hand, and its owner fits.
-use Rattle.std.proofs.Common.{◌≡◌, ◌≢◌, ◌⊎◌, ℕ, ◌<◌, ◌==◌, ◌&&◌, if◌then◌else◌, Bool, true, false, List, [], ◌∷◌, Some, None, IsTrue, refl, sym, ap, ◌∙◌, subst, arith, inl, inr}
+use Rattle.std.proofs.Common.{◌≡◌, ◌≢◌, ◌⊎◌, ℕ, ◌<◌, ◌==◌, ◌&&◌, if◌then◌else◌, List, [], ◌∷◌, IsTrue, refl, sym, ap, ◌∙◌, subst, inl, inr}
 use Rattle.std.proofs.lemmas.Bool.{cases_eq, or_left, or_right}
-use Rattle.xp_words.specs.Entries.{demand_at, is_lowest}
-use Rattle.xp_words.specs.Machine.{Machine}
+use Rattle.xp_words.specs.Entries.{is_lowest}
 use Rattle.xp_words.specs.Places.{Sizes, sizes_of}
-use Rattle.xp_words.specs.declared.entry.Demand.{Demand}
-use Rattle.xp_words.specs.declared.entry.Demand.TheVariants.{Bad, Nothing, Read, Typed}
+use Rattle.xp_words.specs.declared.entry.Demand.TheVariants.{Read, Typed}
 use Rattle.xp_words.specs.declared.kind.PageType.{PageType}
 use Rattle.xp_words.specs.declared.place.Place.TheVariants.{Priv}
 use Rattle.xp_board.specs.declared.holdings.Holdings.{Holdings}
@@ -15,15 +13,14 @@ use Rattle.xp_board.specs.declared.holdings.OwnerFound.{OwnerFound}
 use Rattle.xp_board.specs.declared.holdings.OwnerFound.TheVariants as owners
 use Rattle.xp_board.specs.declared.holdings.Reference.{Reference}
 use Rattle.xp_board.specs.declared.holdings.TypedReference.{TypedReference}
-use Rattle.xp_board.specs.Hands.{lock_on, refs_to, typed_to, work_on}
-use Rattle.xp_board.specs.Knowledge.{knows_live, knows_owner, tells_owner}
+use Rattle.xp_board.specs.Hands.{refs_to, typed_to}
+use Rattle.xp_board.specs.Knowledge.{knows_owner, tells_owner}
 use Rattle.xp_board.specs.KindSteps.{live_typed}
-use Rattle.xp_board.specs.Lists.{some_of}
 use Rattle.xp_board.specs.Readings.{has_now}
 use Rattle.xp_board.specs.Settling.{HasDemand, OwnersMeet}
 use Rattle.xp_board.specs.Steps.{some_since}
 use Rattle.xp_board.specs.Told.{PortValue}
-use Rattle.board_lemmas.proofs.ListCounts.{first_by-cons_here, newest_held}
+use Rattle.board_lemmas.proofs.ListCounts.{newest_held}
 use Rattle.board_lemmas.proofs.Sums.{when_eq, when_ne}
 use Rattle.foreign_map.specs.Owning.{MayMap}
 use Rattle.foreign_map.specs.declared.owners.Owners.{Owners}
@@ -31,7 +28,6 @@ use Rattle.kind_words.proofs.KindHands.{apart_spares, known_first, no_work, type
 use Rattle.level_release.proofs.Owning.{first_passes}
 use Rattle.partial_state.specs.Levels.{level_type}
 use Rattle.entry_exchange.specs.Holding.{owner_at}
-use Rattle.entry_exchange.specs.Parts.{IsOfLevel}
 
 -- ---- whose a frame is, by the newest reference or lock
 tells_its : (z : Sizes) (steps : List Made) (f g o : ℕ) (w : OwnerFound) → g ≡ f → w ≡ owners.Of o → IsTrue ((g == f) && tells_owner z steps f o w)

@@ -1,5 +1,5 @@
 -- An exchange, its parts one behind the other from the look at the entry on: what a guest sees of them, and why it is not done.
-use Rattle.std.proofs.Common.{◌≡◌, ℕ, ◌+◌, Bool, true, false, List, [], ◌++◌, Option, Some, None, Result, Ok, refl, ap, ◌∙◌, subst, append-nil, arith, inl}
+use Rattle.std.proofs.Common.{◌≡◌, ℕ, Bool, true, false, List, [], ◌++◌, Option, Some, None, Result, Ok, refl, ap, ◌∙◌, subst, append-nil, arith, inl}
 use Rattle.xp_words.specs.Machine.{Machine}
 use Rattle.xp_words.specs.declared.entry.Demand.{Demand}
 use Rattle.xp_words.specs.declared.kind.PageType.{PageType}

@@ -1,13 +1,10 @@
 -- The table under the own lock along an exchange: what each part of it needs, and what is in hand at the end.
-use Rattle.std.proofs.Common.{◌≡◌, ◌≢◌, ℕ, ◌+◌, ◌<◌, ◌≤◌, ◌==◌, if◌then◌else◌, Bool, true, false, List, [], ◌∷◌, length, Option, Some, None, Result, Ok, Err, IsTrue, refl, sym, ap, ◌∙◌, subst, inl, inr}
+use Rattle.std.proofs.Common.{◌≡◌, ℕ, ◌≤◌, if◌then◌else◌, true, false, List, [], ◌∷◌, length, Option, Some, refl, sym, ap, ◌∙◌, subst, inl, inr}
 use Rattle.xp_words.specs.Entries.{demand_at}
 use Rattle.xp_words.specs.Machine.{IsMachine}
 use Rattle.xp_words.specs.Places.{sizes_of}
 use Rattle.xp_words.specs.declared.entry.Demand.{Demand}
 use Rattle.xp_words.specs.declared.entry.Demand.TheVariants.{Bad, Nothing, Read, Typed}
-use Rattle.xp_words.specs.declared.kind.PageType.{PageType}
-use Rattle.xp_words.specs.declared.reply.Stop.{Stop}
-use Rattle.xp_board.specs.declared.holdings.Holdings.{Holdings}
 use Rattle.xp_board.specs.declared.holdings.Lock.{Lock}
 use Rattle.xp_board.specs.declared.holdings.OwnerFound.TheVariants as owners
 use Rattle.xp_board.specs.declared.holdings.Reference.{Reference}
@@ -21,14 +18,11 @@ use Rattle.xp_board.specs.Settling.{HasDemand}
 use Rattle.xp_board.specs.Told.{Post, PortValue}
 use Rattle.board_lemmas.proofs.ListCounts.{first_by-cons_here}
 use Rattle.board_lemmas.proofs.Sums.{when_eq}
-use Rattle.step_maker.specs.Holds.{FlushedHolds, Holds, MayWork, Rests, quiet}
-use Rattle.step_maker.specs.Moves.{Came}
-use Rattle.entry_locks.specs.Entries.{MaySwapEntry, entry_unset}
-use Rattle.flush_words.proofs.Lasting.{came_longer}
+use Rattle.step_maker.specs.Holds.{Holds, MayWork, Rests, quiet}
+use Rattle.entry_locks.specs.Entries.{MaySwapEntry}
 use Rattle.foreign_map.specs.Owning.{MayMap}
 use Rattle.foreign_map.specs.declared.owners.Owners.{Owners}
 use Rattle.kind_words.proofs.KindHands.{known_first}
-use Rattle.level_release.specs.Holding.{HoldsLive}
 use Rattle.level_validate.specs.Tables.{IsIdle}
 use Rattle.partial_state.specs.Levels.{level_type}
 use Rattle.entry_exchange.specs.Holding.{HoldsLockOf, HoldsTableLock, LeavesExchange, owner_at}

@@ -1,6 +1,6 @@
 -- What stays behind steps that change the references in hand alone: that the vCPU may work, the machine, and who may map whose frames.
-use Rattle.std.proofs.Common.{◌≡◌, ◌⊎◌, ℕ, ◌<◌, length, Some, None, IsTrue, refl, sym, ap, ◌∙◌, subst, inl, inr}
-use Rattle.xp_words.specs.Machine.{IsMachine, Machine}
+use Rattle.std.proofs.Common.{◌≡◌, ◌⊎◌, ◌<◌, length, IsTrue, sym, ap, ◌∙◌, subst, inl, inr}
+use Rattle.xp_words.specs.Machine.{IsMachine}
 use Rattle.xp_words.specs.Places.{sizes_of}
 use Rattle.xp_words.specs.declared.place.Place.TheVariants.{Priv}
 use Rattle.xp_board.specs.declared.holdings.Holdings.{Holdings}

@@ -1,5 +1,5 @@
 -- What an entry asks is taken: what is in hand then, and the course.
-use Rattle.std.proofs.Common.{◌≡◌, ◌≢◌, ℕ, ◌+◌, ◌-◌, ◌==◌, arith, ◌<◌, ◌≤◌, Bool, true, false, List, [], ◌∷◌, Option, Some, Result, Ok, Err, IfErr, refl, sym, ap, ◌∙◌, subst, inl, inr, ◌⊎◌}
+use Rattle.std.proofs.Common.{◌≡◌, ◌≢◌, ℕ, ◌+◌, ◌-◌, arith, ◌≤◌, Bool, false, [], ◌∷◌, Some, Result, Ok, Err, refl, sym, ap, ◌∙◌, subst, inl, inr, ◌⊎◌}
 use Rattle.xp_words.specs.Entries.{below}
 use Rattle.xp_words.specs.declared.entry.Demand.{Demand}
 use Rattle.xp_words.specs.declared.entry.Demand.TheVariants.{Bad, Nothing, Read, Typed}
@@ -12,8 +12,8 @@ use Rattle.xp_words.specs.declared.reply.Stop.TheVariants.{Paused, Refused}
 use Rattle.xp_board.specs.declared.holdings.OwnerFound.TheVariants as owners
 use Rattle.xp_board.specs.KindSteps.{live_typed}
 use Rattle.xp_board.specs.Told.{PortValue}
-use Rattle.step_maker.specs.Holds.{FlushedHolds, FlushedSame, Holds, Same, quiet}
-use Rattle.frame_words.specs.Refs.{IsRefStop, took}
+use Rattle.step_maker.specs.Holds.{FlushedHolds}
+use Rattle.frame_words.specs.Refs.{IsRefStop}
 use Rattle.level_release.specs.Asking.{is_due_answer, is_due_stop}
 use Rattle.xp_preempt.proofs.Consulting.{consulted_none}
 use Rattle.level_validate.specs.Acquiring as acquires
@@ -24,7 +24,7 @@ use Rattle.table_courses.specs.Acquiring.{Acquired, GotRef}
 use Rattle.writable_pages.specs.Pages.{GotPage, LeavesGot}
 use Rattle.entry_exchange.specs.Course.{TookDemand}
 use Rattle.entry_exchange.specs.Course as courses
-use Rattle.entry_exchange.specs.Holding.{LeavesDemand, holding}
+use Rattle.entry_exchange.specs.Holding.{LeavesDemand}
 use Rattle.entry_exchange.specs.Parts.{IsOfLevel, TakesBy}
 use Rattle.entry_exchange.proofs.Courses.{not_due}
 

@@ -1,12 +1,11 @@
 -- The parts of an exchange: what each needs, and what it leaves in hand.
-use Rattle.std.specs.Prelude.{◌≡◌, ℕ, ◌-◌, ◌<◌, ◌≤◌, Bool, true, false, List, [], ◌∷◌, Option, Some, None, Result, Ok, Err}
+use Rattle.std.specs.Prelude.{◌≡◌, ℕ, ◌<◌, Bool, true, false, List, [], ◌∷◌, Option, Some, Result, Ok, Err}
 use Rattle.xp_words.specs.Entries.{below, demand_at}
 use Rattle.xp_words.specs.Machine.{Machine}
 use Rattle.xp_words.specs.declared.entry.Demand.{Demand}
 use Rattle.xp_words.specs.declared.entry.Demand.TheVariants as demands
 use Rattle.xp_words.specs.declared.kind.PageType.{PageType}
 use Rattle.xp_words.specs.declared.reply.Stop.{Stop}
-use Rattle.xp_board.specs.declared.holdings.Holdings.{Holdings}
 use Rattle.xp_board.specs.declared.holdings.Lock.{Lock}
 use Rattle.xp_board.specs.declared.holdings.OwnerFound.TheVariants as owners
 use Rattle.xp_board.specs.declared.holdings.Reference.{Reference}
@@ -21,12 +20,11 @@ use Rattle.kept_marks.specs.Marks.{KeptFor}
 use Rattle.kind_words.specs.Kinds.{partial_kind}
 use Rattle.level_release.specs.Course.{WithGate}
 use Rattle.level_release.specs.Holding.{HoldsLive}
-use Rattle.level_validate.specs.Tables.{IsIdle}
 use Rattle.partial_state.specs.Levels.{level_type}
 use Rattle.table_courses.specs.Acquiring.{GaveRef}
 use Rattle.entry_exchange.specs.declared.exchanging.EntryUpdate.{EntryUpdate}
 use Rattle.foreign_map.specs.declared.owners.Owners.{Owners}
-use Rattle.entry_exchange.specs.Course.{Exchanged, ReleasedDemand, SawEntry, TookDemand}
+use Rattle.entry_exchange.specs.Course.{ReleasedDemand, SawEntry, TookDemand}
 use Rattle.entry_exchange.specs.Holding.{HoldsTableLock}
 
 -- ---- demands

@@ -1,5 +1,5 @@
 -- The word that an entry gets, and whether two words ask the same.
-use Rattle.std.specs.Prelude.{◌≡◌, ℕ, if◌then◌else◌, Bool}
+use Rattle.std.specs.Prelude.{ℕ, if◌then◌else◌, Bool}
 use Rattle.xp_words.specs.declared.entry.Demand.{Demand}
 use Rattle.xp_board.specs.CellSteps.{is_same_demand}
 use Rattle.answer_fits.specs.Licences.{with_old_bit}

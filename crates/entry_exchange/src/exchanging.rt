@@ -1,5 +1,5 @@
 //! One entry of a live table under its entry lock, exchanged.
-ghost use Rattle.std.specs.Prelude.{◌≡◌, ◌≢◌, ◌<◌, ◌≤◌, ℕ, Some, true, false, IfOk, IfErr};
+ghost use Rattle.std.specs.Prelude.{◌≡◌, ◌≢◌, ◌+◌, ◌*◌, ◌<◌, ◌≤◌, ℕ, Some, true, false, length, IfOk, IfErr};
 ghost use Rattle.xp_words.specs.Entries.{is_slot};
 ghost use Rattle.xp_words.specs.declared.entry.Demand.TheVariants.{Bad};
 ghost use Rattle.partial_state.specs.Levels.{level_type};
@@ -71,6 +71,8 @@ pub fn exchange_entry<P: Port>(
     ensures hand { LeavesExchange (P.value port.old) (P.value port.new) }
     ensures rests { Rests (P.value port.new) }
     ensures course { ExchangesBy (P.value port.old) (P.value port.new) update owners (says gate.old) (count_asks gate.old) (count_asks gate.new) (count_yes gate.old) (count_yes gate.new) result }
+    // A table of level 1 is not walked: the steps are few, and how many depends on the number of vCPUs alone.
+    ensures short { update.level ≡ 1 → length (P.value port.new).holdings.steps ≤ length (P.value port.old).holdings.steps + (64 + 3 * length (P.value port.old).post.machine.vcpu_domain) }
     ensures says { (n : ℕ) → says gate.new n ≡ says gate.old n }
     ensures paces { paces gate.new ≡ paces gate.old }
     ensures calm { calm gate.old ≡ true → (is_due_answer result ≡ false) × (calm gate.new ≡ true) }

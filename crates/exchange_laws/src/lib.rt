@@ -4,4 +4,6 @@
 
 mod exchanges;
 
-pub use exchanges::{an_exchange_alone_ends_as_the_plain_one, an_exchange_leaves_what_the_plain_one_leaves};
+pub use exchanges::{
+    an_exchange_alone_ends_as_the_plain_one, an_exchange_leaves_what_the_plain_one_leaves,
+};

@@ -3,10 +3,7 @@ use Rattle.std.proofs.Common.{◌≡◌, ℕ, ◌==◌, Bool, true, false, None,
 use Rattle.xp_words.specs.KindWords.{kind_fields, kind_write}
 use Rattle.xp_words.specs.declared.kind.KindWord.{KindWord}
 use Rattle.xp_words.specs.declared.kind.PageType.{PageType}
-use Rattle.xp_words.specs.declared.kind.PageType.TheVariants.{Writable}
 use Rattle.xp_words.specs.declared.place.Place.TheVariants.{Clock, Kind}
-use Rattle.xp_words.specs.declared.reply.Stop.{Stop}
-use Rattle.xp_words.specs.declared.reply.Stop.TheVariants.{Refused, Paused}
 use Rattle.xp_board.specs.declared.step.Act.TheVariants.{Add, Load, Store}
 use Rattle.xp_board.specs.declared.step.StepKind.TheVariants as kinds
 use Rattle.xp_board.specs.RefSteps.{one_down}
@@ -17,7 +14,6 @@ use Rattle.answer_fits.proofs.Visiting.{does_as, does_nothing, does_one, does_th
 use Rattle.frame_words.specs.Freeing.{PutBy, Puts}
 use Rattle.kind_words.specs.Kinds.{dead_kind, partial_kind}
 use Rattle.frame_types.specs.Found.{DeadBy, Dies, DropsBy, DropsPlain, SharedBy, StoresKind}
-use Rattle.frame_types.specs.Plain.{is_refused}
 
 -- a kind word is left
 pub stores : (v d : PortValue) (f x : ℕ) (k : KindWord) → Moves v d (Kind f) (Store (kind_write k)) kinds.Kind None x → Does v d (StoresKind f k)

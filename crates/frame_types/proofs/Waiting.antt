@@ -1,36 +1,28 @@
 -- Ordinary memory in the own works that waits for a flush which is not to be had.
-use Rattle.std.proofs.Common.{◌≡◌, ℕ, ◌<◌, Bool, true, false, [], Some, None, refl, sym, ap, ◌∙◌, subst}
+use Rattle.std.proofs.Common.{◌≡◌, ℕ, ◌<◌, true, false, [], None, refl, sym, ap, ◌∙◌, subst}
 use Rattle.xp_words.specs.KindWords.{kind_write}
 use Rattle.xp_words.specs.Machine.{Machine}
 use Rattle.xp_words.specs.declared.kind.PageType.TheVariants.{Writable}
 use Rattle.xp_words.specs.declared.place.Place.TheVariants.{Kind}
 use Rattle.xp_words.specs.declared.reply.Pause.TheVariants as pauses
-use Rattle.xp_words.specs.declared.reply.Refusal.TheVariants as refusals
 use Rattle.xp_words.specs.declared.reply.Stop.{Stop}
 use Rattle.xp_words.specs.declared.reply.Stop.TheVariants.{Refused, Paused}
 use Rattle.xp_board.specs.declared.step.Act.TheVariants.{Store}
 use Rattle.xp_board.specs.declared.step.StepKind.TheVariants as kinds
 use Rattle.xp_board.specs.Hands.{refs_to, work_on}
-use Rattle.xp_board.specs.Readings.{domain_of}
-use Rattle.xp_board.specs.Told.{Post, PortValue, is_telling, told_word}
-use Rattle.step_maker.specs.Holds.{FlushedHolds, Holds, Same}
-use Rattle.step_maker.specs.Moves.{Came, Moves}
-use Rattle.step_maker.proofs.Coming.{came_post}
+use Rattle.xp_board.specs.Told.{PortValue, is_telling, told_word}
+use Rattle.step_maker.specs.Holds.{Same}
+use Rattle.step_maker.specs.Moves.{Moves}
 use Rattle.step_maker.specs.Plain.{Leaves, Words}
-use Rattle.answer_fits.specs.Answers.{Serves, Stops, missed}
-use Rattle.answer_fits.specs.Asked.{of_frame}
-use Rattle.answer_fits.proofs.Piecing.{stops_before}
+use Rattle.answer_fits.specs.Answers.{missed}
 use Rattle.flush_waits.specs.Waiting.{IsWait}
-use Rattle.frame_words.specs.Freeing.{gave}
 use Rattle.frame_words.specs.Refs.{MayPut}
-use Rattle.kind_words.specs.Kinds.{MayLeave, left, partial_kind}
+use Rattle.kind_words.specs.Kinds.{partial_kind}
 use Rattle.kind_words.proofs.KindHands.{apart_spares}
-use Rattle.frame_types.specs.Leaving.{GivesBack, IsWaiting, ServesType, WaitsFrom}
 use Rattle.frame_types.specs.Plain.{left_waiting}
-use Rattle.frame_types.specs.Taking.{IsTypeStop, LentBy, WaitsWith}
+use Rattle.frame_types.specs.Taking.{LentBy}
 use Rattle.frame_types.proofs.Entering.{lent_held}
-use Rattle.frame_types.proofs.Left.{kept_back, kept_may}
-use Rattle.frame_types.proofs.Serving.{stored_words, type_came}
+use Rattle.frame_types.proofs.Serving.{stored_words}
 
 -- ---- paused: the type count goes into the mark
 pub kept_words : (v d : PortValue) (f x stamp : ℕ) → Moves v d (Kind f) (Store (kind_write (partial_kind Writable true true 0 stamp))) kinds.Kind None x → is_telling v ≡ true → Leaves d (left_waiting f true false stamp (told_word v))

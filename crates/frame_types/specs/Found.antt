@@ -5,12 +5,10 @@ use Rattle.xp_words.specs.Machine.{Machine}
 use Rattle.xp_words.specs.Places.{number, sizes_of}
 use Rattle.xp_words.specs.declared.kind.KindWord.{KindWord}
 use Rattle.xp_words.specs.declared.kind.PageType.{PageType}
-use Rattle.xp_words.specs.declared.kind.PageType.TheVariants.{Writable}
 use Rattle.xp_words.specs.declared.place.Place.TheVariants.{Clock, Kind}
-use Rattle.xp_words.specs.declared.reply.Pause.TheVariants.{Flush, Lost}
-use Rattle.xp_words.specs.declared.reply.Refusal.TheVariants as refusals
+use Rattle.xp_words.specs.declared.reply.Pause.TheVariants.{Lost}
 use Rattle.xp_words.specs.declared.reply.Stop.{Stop}
-use Rattle.xp_words.specs.declared.reply.Stop.TheVariants.{Refused, Paused}
+use Rattle.xp_words.specs.declared.reply.Stop.TheVariants.{Paused}
 use Rattle.xp_board.specs.declared.step.Act.TheVariants.{Add, Cas, Load, Store}
 use Rattle.xp_board.specs.KindSteps.{raised_kind}
 use Rattle.xp_board.specs.RefSteps.{one_down}
@@ -19,7 +17,7 @@ use Rattle.answer_fits.specs.Visits.{Visit, visit, Does, Nothing, Only, Then, Wh
 use Rattle.flush_waits.specs.Listing.{WaitedFor}
 use Rattle.frame_words.specs.Freeing.{PutBy}
 use Rattle.kind_words.specs.Kinds.{dead_kind, live_kind, partial_kind, work_kind}
-use Rattle.frame_types.specs.Plain.{IsTakenBy, is_own, is_read_first, is_refused, type_stop, waits_by, work_by}
+use Rattle.frame_types.specs.Plain.{IsTakenBy, is_own, is_read_first, type_stop, waits_by, work_by}
 use Rattle.frame_types.specs.Standing.{standing_of}
 use Rattle.frame_types.specs.declared.standing.Standing.{Standing}
 use Rattle.frame_types.specs.declared.standing.Standing.TheVariants as stands

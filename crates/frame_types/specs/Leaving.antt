@@ -1,11 +1,9 @@
 -- Frames in the own works that wait for a flush which is not to be had, and how they are left.
 use Rattle.std.specs.Prelude.{◌≡◌, ℕ, ◌<◌, Bool, true, List, ◌∷◌, Some}
 use Rattle.xp_words.specs.declared.kind.PageType.{PageType}
-use Rattle.xp_words.specs.declared.kind.PageType.TheVariants.{Writable}
 use Rattle.xp_board.specs.declared.holdings.Holdings.{Holdings}
 use Rattle.xp_board.specs.declared.holdings.OwnerFound.TheVariants as owners
 use Rattle.xp_board.specs.Hands.{typed_owner, typed_to, without_ref}
-use Rattle.xp_board.specs.Readings.{domain_of}
 use Rattle.xp_board.specs.Told.{PortValue}
 use Rattle.step_maker.specs.Holds.{FlushedHolds}
 use Rattle.answer_fits.specs.Answers.{Deed, Serves}

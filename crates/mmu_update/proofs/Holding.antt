@@ -1,13 +1,10 @@
 -- What is in hand between the calls of a write, and that nothing is behind it.
-use Rattle.std.proofs.Common.{◌≡◌, ◌⊎◌, ℕ, ◌+◌, ◌<◌, Bool, List, [], ◌∷◌, length, Option, Some, None, IsTrue, refl, sym, ap, ◌∙◌, subst, inl, inr}
+use Rattle.std.proofs.Common.{◌≡◌, ℕ, ◌+◌, List, [], ◌∷◌, Option, Some, None, refl, sym, ap, ◌∙◌, subst}
 use Rattle.xp_words.specs.Machine.{IsMachine}
-use Rattle.xp_words.specs.Places.{sizes_of}
 use Rattle.xp_words.specs.declared.kind.PageType.TheVariants.{Writable}
-use Rattle.xp_words.specs.declared.place.Place.TheVariants.{Priv}
 use Rattle.xp_board.specs.declared.holdings.Claimed.{Claimed}
 use Rattle.xp_board.specs.declared.holdings.Ending.{Ending}
 use Rattle.xp_board.specs.declared.holdings.Lock.{Lock}
-use Rattle.xp_board.specs.declared.holdings.Made.{Made}
 use Rattle.xp_board.specs.declared.holdings.OwnerFound.TheVariants as owners
 use Rattle.xp_board.specs.declared.holdings.Reference.{Reference}
 use Rattle.xp_board.specs.declared.holdings.TypedReference.{TypedReference}
@@ -15,21 +12,14 @@ use Rattle.xp_board.specs.declared.holdings.Work.{Work}
 use Rattle.xp_board.specs.Hands.{ending_of, lock_on, typed_to, without_ref, work_on}
 use Rattle.xp_board.specs.KindSteps.{live_typed}
 use Rattle.xp_board.specs.Lists.{first_by, times_by}
-use Rattle.xp_board.specs.Readings.{has_now}
-use Rattle.xp_board.specs.Steps.{some_since, some_step}
 use Rattle.xp_board.specs.Told.{Post, PortValue}
 use Rattle.step_maker.specs.Holds.{FlushedHolds, FlushedSame, Holds, MayWork, Rests, Same, quiet}
-use Rattle.step_maker.specs.Moves.{Came, Moment, Ran}
-use Rattle.step_maker.proofs.Coming.{came_post}
-use Rattle.step_maker.proofs.Noting.{moves_keeps}
 use Rattle.frame_words.specs.Cells.{IsApart, MayStoreCell}
 use Rattle.frame_words.specs.Freeing.{gave}
 use Rattle.frame_words.specs.Refs.{took}
 use Rattle.frame_words.proofs.CellSteps.{writes_live}
 use Rattle.frame_words.proofs.Putting.{without_newest}
 use Rattle.frame_types.specs.Taking.{LentBy, MayDropPlain, gave_type, typed_as}
-use Rattle.foreign_map.specs.Owning.{MayMap}
-use Rattle.foreign_map.specs.declared.owners.Owners.{Owners}
 use Rattle.mmu_update.specs.Elements.{LeavesUpdate}
 
 -- ---- nothing is in hand, whatever the old words name

@@ -1,5 +1,5 @@
 -- A word of ordinary memory, from before the reference on.
-use Rattle.std.proofs.Common.{◌≡◌, ℕ, Bool, [], None, Result, Ok, Err, refl, ◌∙◌, inl, inr}
+use Rattle.std.proofs.Common.{ℕ, Bool, [], None, Result, Ok, Err, ◌∙◌, inl, inr}
 use Rattle.xp_words.specs.declared.kind.PageType.TheVariants.{Writable}
 use Rattle.xp_words.specs.declared.place.Place.TheVariants.{Cell}
 use Rattle.xp_words.specs.declared.reply.Pause.TheVariants as pauses

@@ -1,5 +1,5 @@
 -- A write into ordinary memory on a board that tells all words: by the calls of its course.
-use Rattle.std.proofs.Common.{◌≡◌, ℕ, Bool, true, false, List, Option, Some, None, Result, Ok, Err, IsTrue, refl, sym, ap, ◌∙◌, subst}
+use Rattle.std.proofs.Common.{◌≡◌, ℕ, Bool, true, List, Option, None, Result, Ok, Err, IsTrue, refl, sym, ap, ◌∙◌, subst}
 use Rattle.xp_words.specs.KindWords.{kind_fields}
 use Rattle.xp_words.specs.declared.kind.PageType.TheVariants.{Writable}
 use Rattle.xp_words.specs.declared.place.Place.TheVariants.{Cell, Kind, Refs}
@@ -26,7 +26,6 @@ use Rattle.frame_types.proofs.Alike.{dropped_alike}
 use Rattle.m2p_map.proofs.Mapping.{same_words}
 use Rattle.table_courses.specs.Acquiring.{GaveType, GotRef}
 use Rattle.entry_locks.specs.Locks.{is_lockable, is_worked_on}
-use Rattle.entry_locks.specs.declared.locking.Locked.{Locked}
 use Rattle.entry_locks.specs.declared.locking.Locked.TheVariants.{Table, Other}
 use Rattle.foreign_map.specs.declared.owners.Owners.{Owners}
 use Rattle.writable_pages.specs.Pages.{TookPage}
@@ -78,7 +77,7 @@ module _ (v u : PortValue) (f owner : ℕ) (took : GotRef v u f owner (Ok f)) (t
     no_stop y (Paused (Busy g x)) tried =
         let a = tried.plain on in
         let free = none_there.unworked in
-        let works : IsTrue (is_worked_on (kind_fields (told_word u (Kind f)))) = subst (λ k. IsTrue (is_worked_on (kind_fields k))) a.1 a.2.0 in
+        let works : IsTrue (is_worked_on (kind_fields (told_word u (Kind f)))) = subst (λ k. IsTrue (is_worked_on (kind_fields k))) a.1 a.2 in
         cc
     no_stop y (Paused _) tried = tried.plain on
     no_stop y (Refused _) tried = tried.plain on
@@ -88,7 +87,7 @@ module _ (v u : PortValue) (f owner : ℕ) (took : GotRef v u f owner (Ok f)) (t
     tried_came = does_came u y _ tried.found
 
     tried_words : told_word y ≡ told_word u
-    tried_words = same_words (told_word y) (told_word u) (tried.plain on).2.2
+    tried_words = same_words (told_word y) (told_word u) (tried.plain on).3
 
     there : is_telling y ≡ true
     there = came_telling u y tried_came ∙ on
@@ -141,7 +140,7 @@ same_leaves : (v w : PortValue) → w ≡ v → Leaves w (told_word v)
 same_leaves v w is q = ap (λ (u : PortValue). told_word u q) is
 
 pub updated_plain : (v w : PortValue) (o : Owners) (e : Element) (answers : List Bool) (answer : Result (Unit {0}) Stop) → Updated v o e w answers answer → TwinUpdate v w o e answer
-updated_plain v w o (SetM2p f gpfn) answers answer a = a.2.1
+updated_plain v w o (SetM2p f gpfn) answers answer a = a.2
 updated_plain v w o (Write f i word keep) answers answer a = wrote_plain v w o f i word keep answers answer a
-updated_plain v w o Misaligned answers answer a telling = (a.2.1, same_leaves v w a.0)
-updated_plain v w o Unknown answers answer a telling = (a.2.1, same_leaves v w a.0)
+updated_plain v w o Misaligned answers answer a = λ telling. (a.2, same_leaves v w a.0)
+updated_plain v w o Unknown answers answer a = λ telling. (a.2, same_leaves v w a.0)

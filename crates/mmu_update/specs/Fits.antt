@@ -1,5 +1,5 @@
 -- All that an answer to one element says, in one record, as lists of elements cite it.
-use Rattle.std.specs.Prelude.{◌≡◌, ℕ, Bool, List, Some, Result, Err, IfErr}
+use Rattle.std.specs.Prelude.{◌≡◌, Bool, List, Some, Result, Err, IfErr}
 use Rattle.xp_words.specs.declared.reply.Refusal.{Refusal}
 use Rattle.xp_words.specs.declared.reply.Stop.{Stop}
 use Rattle.xp_words.specs.declared.reply.Stop.TheVariants.{Refused}

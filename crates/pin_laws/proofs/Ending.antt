@@ -1,5 +1,5 @@
 -- How a pin ends behind its acquisition, on a board that tells all words.
-use Rattle.std.proofs.Common.{◌≡◌, ℕ, Bool, true, false, List, [], ◌∷◌, None, Result, Ok, IfErr, refl, sym, ap, ◌∙◌}
+use Rattle.std.proofs.Common.{◌≡◌, ℕ, true, false, None, Result, Ok, IfErr, refl, sym, ap, ◌∙◌}
 use Rattle.xp_words.specs.declared.place.Place.TheVariants.{Kind}
 use Rattle.xp_words.specs.declared.reply.Stop.{Stop}
 use Rattle.xp_board.specs.declared.step.StepKind.TheVariants as kinds
@@ -7,27 +7,8 @@ use Rattle.xp_board.specs.Told.{PortValue, is_telling, told_word}
 use Rattle.step_maker.specs.Moves.{Came}
 use Rattle.step_maker.proofs.Coming.{came_trans, moves_came}
 use Rattle.step_maker.proofs.Telling.{came_telling, load_tells, told_there}
-use Rattle.answer_fits.proofs.Visiting.{does_came}
-use Rattle.table_courses.specs.Acquiring.{Acquired, counted, finished, keeps_it, outermost_table, unfinished, unreferred, untyped, waiting}
 use Rattle.mmuext_ops.specs.Course.{PinEnds, SawKind, SetsPin, is_pinned, lost, pinned, raced, seen}
 use Rattle.course_laws.specs.Courses.{IsFinal}
-use Rattle.course_laws.proofs.Walking.{gave_came, left_came, live_came, unwound_came, worked_came}
-
--- ---- the acquisition is made of steps
-pub acquired_came : (v : PortValue) (f owner level : ℕ) (w : PortValue) (answers : List Bool) (r : Result ℕ Stop) → Acquired v f owner level w answers r → Came v w
-acquired_came v f owner level _ _ _ (unreferred w stop ref) = does_came v w _ ref.found
-acquired_came v f owner level _ _ _ (untyped u x w stop ref type back) = came_trans v u w (does_came v u _ ref.found) (came_trans u x w (does_came u x _ type.found) (gave_came x w f back))
-acquired_came v f owner level _ _ _ (counted u w ref type) = came_trans v u w (does_came v u _ ref.found) (does_came u w _ type.found)
-acquired_came v f owner level _ _ _ (waiting u x w own stamp stop ref type left) =
-    came_trans v u w (does_came v u _ ref.found) (came_trans u x w (does_came u x _ type.found) (left_came x w f level owner stamp own (keeps_it stop) left))
-acquired_came v f owner level _ _ _ (unfinished u x y w progress own us answers stop ref type work left) =
-    came_trans v u w (does_came v u _ ref.found)
-    (came_trans u x w (does_came u x _ type.found)
-    (came_trans x y w (worked_came owner x (outermost_table f level progress own) y us answers _ work) (unwound_came y owner us (keeps_it stop) w left)))
-acquired_came v f owner level _ _ _ (finished u x y w progress own t answers ref type work full made) =
-    came_trans v u w (does_came v u _ ref.found)
-    (came_trans u x w (does_came u x _ type.found)
-    (came_trans x y w (worked_came owner x (outermost_table f level progress own) y (t ∷ []) answers _ work) (live_came y w t made)))
 
 -- ---- the pin itself
 module _ (v w : PortValue) (f level : ℕ) (telling : is_telling v ≡ true) where

@@ -17,7 +17,8 @@ use Rattle.table_courses.specs.Acquiring.{Acquired, GaveRef, GotRef, unreferred}
 use Rattle.mmuext_ops.specs.Course.{IsPinnedAs, PinEnds, Pinned, SawKind, acquired, pinned_before, refused, unreferred as unreferred_pin}
 use Rattle.course_laws.specs.Courses.{ClockGoesOn, IsDecided, IsFinal, IsHad}
 use Rattle.course_laws.proofs.Awaiting.{AloneStays, alone_orderly, alone_telling}
-use Rattle.pin_laws.proofs.Ending.{acquired_came, ends_done, ends_final}
+use Rattle.course_laws.proofs.Stopping.{acquired_came}
+use Rattle.pin_laws.proofs.Ending.{ends_done, ends_final}
 use Rattle.pin_laws.proofs.Looking.{back_came, seen_word, words_back}
 use Rattle.pin_laws.proofs.Unpinned.{had_unpinned}
 

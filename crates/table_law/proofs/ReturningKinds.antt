@@ -11,7 +11,7 @@ use Rattle.kind_words.specs.Kinds.{live_kind, work_kind, dead_kind}
 use Rattle.table_law.specs.Plain.{Plain, Share, at, with_share, with_kind, raised_share, reference_back}
 use Rattle.table_law.specs.Alone.{OtherType, PlainOutcome, fine, is_counted, then_or, take_kind}
 use Rattle.table_law.specs.Levels.{closed}
-use Rattle.table_law.specs.Release.{is_counted_on, drop_kind}
+use Rattle.table_law.specs.Release.{is_counted_on, emptying, drop_kind}
 use Rattle.table_law.specs.Undone.{IsSameButType, CountsSome}
 use Rattle.table_law.proofs.Counting.{at_here, at_there}
 use Rattle.table_law.proofs.Returning.{IsStuck, Like, AreStuck, GoesOn, Undoable, Refusing, Either, like_itself, share_back, share_on}
@@ -92,13 +92,13 @@ module _ (n : Machine) (p : Plain) (g : ℕ) (t : PageType) (s : Share) (inside 
           | inr same ↦ same_live (raised_kind (p.kinds g)) (q.kinds g) raised_live (subst (λ w. IsSameButType w (q.kinds g)) (at_here g (raised_kind (p.kinds g)) p.kinds) same)
         ]
 
-    drops : (empty : Plain → Plain) (q : Plain) → q.kinds g ≡ raised_kind (p.kinds g) → drop_kind empty g t q (q.kinds g) ≡ reference_back g (with_kind g (p.kinds g) q)
+    drops : (empty : ℕ → Plain → Plain) (q : Plain) → q.kinds g ≡ raised_kind (p.kinds g) → drop_kind empty g t q (q.kinds g) ≡ reference_back g (with_kind g (p.kinds g) q)
     drops empty q is =
         let number = counts.types g inside live in
         let more : is_counted_on (raised_kind (p.kinds g)) ≡ true = grind (arith, nat_tests) in
         ap (drop_kind empty g t q) is ∙ rw more (ap (λ k. reference_back g (with_kind g k q)) lowered_raised)
 
-    counted_undone : (empty : Plain → Plain) (but : ℕ → Bool) (q : Plain) → AreStuck but p → Like but left q → Like but p (drop_kind empty g t q (q.kinds g))
+    counted_undone : (empty : ℕ → Plain → Plain) (but : ℕ → Bool) (q : Plain) → AreStuck but p → Like but left q → Like but p (drop_kind empty g t q (q.kinds g))
     unfolding left
     counted_undone empty but q stuck like =
         subst (Like but p) (sym (drops empty q (found but q stuck like)))
@@ -153,7 +153,7 @@ module _ (n : Machine) (p : Plain) (g : ℕ) (t : PageType) (s : Share) (inside 
         }
 
     -- or made live
-    module _ (fill : Plain → PlainOutcome) (empty : Plain → Plain) (filled : Undoable n begun (fill begun) empty) where
+    module _ (fill : Plain → PlainOutcome) (empty : ℕ → Plain → Plain) (filled : Undoable n begun (fill begun) (empty 512)) where
       live_left : Plain
       live_left = with_kind g (live_kind t 1) filled.left
 
@@ -207,25 +207,29 @@ module _ (n : Machine) (p : Plain) (g : ℕ) (t : PageType) (s : Share) (inside 
               | inr off ↦ let was_but : but x ≡ true = grind (arith, nat_tests) in subst IsStuck (sym (kind_off x off)) (stuck x was_but)
             ]
 
-        more_like : Like but_more filled.left q
-        unfolding but_more live_left kind_left
+        -- and closing
+        at_work : Plain
+        at_work = with_kind g (emptying (live_kind t 1)) q
+
+        more_like : Like but_more filled.left at_work
+        unfolding but_more at_work live_left kind_left
         more_like = record { shares = like.shares; kinds = kinds; cells = like.cells }
           where
-            kinds : (x : ℕ) → ((but x || (x == g)) ≡ true) ⊎ IsSameButType (filled.left.kinds x) (q.kinds x)
+            kinds : (x : ℕ) → ((but x || (x == g)) ≡ true) ⊎ IsSameButType (filled.left.kinds x) (at g (emptying (live_kind t 1)) q.kinds x)
             kinds x =
                 elim (cases_eq x g) [
                   | inl e ↦ inl (grind (arith, nat_tests))
                   | inr off ↦
                       elim (like.kinds x) [
                         | inl b ↦ inl (let is = b in grind arith)
-                        | inr same ↦ inr (subst (λ w. IsSameButType w (q.kinds x)) (kind_left x off) same)
+                        | inr same ↦ inr (subst (IsSameButType (filled.left.kinds x)) (sym (at_there g x (emptying (live_kind t 1)) q.kinds off)) (subst (λ w. IsSameButType w (q.kinds x)) (kind_left x off) same))
                       ]
                 ]
 
-        emptied : Like but_more begun (empty q)
-        emptied = filled.undone but_more q more_stuck more_like
+        emptied : Like but_more begun (empty 512 at_work)
+        emptied = filled.undone but_more at_work more_stuck more_like
 
-        but_others : (x : ℕ) → x ≢ g → (but x ≡ true) ⊎ IsSameButType (begun.kinds x) ((empty q).kinds x)
+        but_others : (x : ℕ) → x ≢ g → (but x ≡ true) ⊎ IsSameButType (begun.kinds x) ((empty 512 at_work).kinds x)
         unfolding but_more emptied
         but_others x off =
             elim (emptied.kinds x) [
@@ -234,10 +238,10 @@ module _ (n : Machine) (p : Plain) (g : ℕ) (t : PageType) (s : Share) (inside 
             ]
 
         live_undone : Like but p (drop_kind empty g t q (q.kinds g))
-        unfolding emptied
+        unfolding emptied at_work
         live_undone =
             subst (Like but p) (sym (ap (drop_kind empty g t q) found_live))
-            (closed_like but (empty q) emptied.shares emptied.cells but_others)
+            (closed_like but (empty 512 at_work) emptied.shares emptied.cells but_others)
 
       pub live_dead : Undoable n p (take_kind fill g t (with_share g (raised_share s) p) (p.kinds g)) (λ q. drop_kind empty g t q (q.kinds g))
       unfolding begun live_left
@@ -250,14 +254,14 @@ module _ (n : Machine) (p : Plain) (g : ℕ) (t : PageType) (s : Share) (inside 
           }
 
   -- ---- each way
-  abbrev pub Kinds : (Plain → PlainOutcome) → (Plain → Plain) → Type 0
+  abbrev pub Kinds : (Plain → PlainOutcome) → (ℕ → Plain → Plain) → Type 0
   Kinds fill empty = Either n p (take_kind fill g t (with_share g (raised_share s) p) (p.kinds g)) (λ q. drop_kind empty g t q (q.kinds g))
 
-  by_fill : (dead : is_dead (p.kinds g) ≡ true) (fill : Plain → PlainOutcome) (empty : Plain → Plain) → Either n (begun dead) (fill (begun dead)) empty → Kinds fill empty
+  by_fill : (dead : is_dead (p.kinds g) ≡ true) (fill : Plain → PlainOutcome) (empty : ℕ → Plain → Plain) → Either n (begun dead) (fill (begun dead)) (empty 512) → Kinds fill empty
   by_fill dead fill empty (inl filled) = inl (live_dead dead fill empty filled)
   by_fill dead fill empty (inr failed) = inr (refused_dead dead fill failed)
 
-  by_type : (fill : Plain → PlainOutcome) (empty : Plain → Plain) → is_dead (p.kinds g) ≡ false → (b : Bool) → is_counted (p.kinds g) && is_type (p.kinds g).kind t ≡ b → Kinds fill empty
+  by_type : (fill : Plain → PlainOutcome) (empty : ℕ → Plain → Plain) → is_dead (p.kinds g) ≡ false → (b : Bool) → is_counted (p.kinds g) && is_type (p.kinds g).kind t ≡ b → Kinds fill empty
   unfolding left
   by_type fill empty undead true on =
       let live : (p.kinds g).validated ≡ true = grind arith in
@@ -271,9 +275,9 @@ module _ (n : Machine) (p : Plain) (g : ℕ) (t : PageType) (s : Share) (inside 
         same = share_back n p g s was some (λ x. false) (with_share g (raised_share s) p) (like_itself (λ x. false) (with_share g (raised_share s) p));
       })
 
-  by_form : (fill : Plain → PlainOutcome) (empty : Plain → Plain) → ((dead : is_dead (p.kinds g) ≡ true) → Either n (begun dead) (fill (begun dead)) empty) → (b : Bool) → is_dead (p.kinds g) ≡ b → Kinds fill empty
+  by_form : (fill : Plain → PlainOutcome) (empty : ℕ → Plain → Plain) → ((dead : is_dead (p.kinds g) ≡ true) → Either n (begun dead) (fill (begun dead)) (empty 512)) → (b : Bool) → is_dead (p.kinds g) ≡ b → Kinds fill empty
   by_form fill empty fills true dead = by_fill dead fill empty (fills dead)
   by_form fill empty fills false undead = by_type fill empty undead (is_counted (p.kinds g) && is_type (p.kinds g).kind t) refl
 
-  pub kinds_go : (fill : Plain → PlainOutcome) (empty : Plain → Plain) → ((dead : is_dead (p.kinds g) ≡ true) → Either n (begun dead) (fill (begun dead)) empty) → Kinds fill empty
+  pub kinds_go : (fill : Plain → PlainOutcome) (empty : ℕ → Plain → Plain) → ((dead : is_dead (p.kinds g) ≡ true) → Either n (begun dead) (fill (begun dead)) (empty 512)) → Kinds fill empty
   kinds_go fill empty fills = by_form fill empty fills (is_dead (p.kinds g)) refl

@@ -186,7 +186,7 @@ lowest : (n : Machine) (owner g : ℕ) (p : Plain) → CountsSome n p → Lent n
 unfolding take_at let_go
 lowest n owner g p counts lent =
     behind n owner 0 g p lent.share (let_go 0 g) lent.is
-    (kinds_go n p g kinds.Writable lent.share lent.inside lent.was lent.some counts fine (λ q. q)
+    (kinds_go n p g kinds.Writable lent.share lent.inside lent.was lent.some counts fine (λ k q. q)
     (λ dead.
     let start = begun n p g kinds.Writable lent.share lent.inside lent.was lent.some counts dead in
     inl
@@ -202,7 +202,7 @@ unfolding take_at let_go
 higher n owner l g p returns counts lent =
     behind n owner (suc l) g p lent.share (let_go (suc l) g) lent.is
     (kinds_go n p g (level_type (suc l)) lent.share lent.inside lent.was lent.some counts
-    (meet_last n owner (take_at l n owner) (let_go l) (level_type (suc l)) g 512) (drop_first (let_go l) (level_type (suc l)) g 512)
+    (meet_last n owner (take_at l n owner) (let_go l) (level_type (suc l)) g 512) (drop_first (let_go l) (level_type (suc l)) g)
     (λ dead.
     table_goes n owner l g returns (begun n p g (level_type (suc l)) lent.share lent.inside lent.was lent.some counts dead)
     (begun_counts n p g (level_type (suc l)) lent.share lent.inside lent.was lent.some counts dead)))

@@ -6,6 +6,8 @@ use Rattle.xp_words.specs.declared.kind.PageType.TheVariants as kinds
 use Rattle.xp_words.specs.declared.entry.Demand.{Demand}
 use Rattle.xp_words.specs.declared.entry.Demand.TheVariants.{Nothing, Bad, Read, Typed}
 use Rattle.partial_state.specs.Levels.{level_type}
+use Rattle.xp_board.specs.KindSteps.{resumed_kind}
+use Rattle.xp_board.specs.Readings.{is_partial}
 use Rattle.table_law.specs.Plain.{Plain, with_kind, reference_back}
 use Rattle.table_law.specs.Levels.{entry_of, closed, TableLeft}
 
@@ -18,9 +20,17 @@ is_counted_on k = k.validated && nat_lt 1 k.number
 abbrev pub count_back : ℕ → KindWord → Plain → Plain
 count_back g k p = reference_back g (with_kind g (record k { number = k.number - 1 }) p)
 
--- Of several type counts one goes. Else it was the last, and what the frame holds is given back.
-abbrev pub drop_kind : (Plain → Plain) → ℕ → PageType → Plain → KindWord → Plain
-drop_kind empty g t p k = if is_counted_on k then count_back g k p else closed g t (empty p)
+-- how many entries a frame with that word holds: those recorded of an unfinished one, else all
+abbrev pub held_of : KindWord → ℕ
+held_of k = if is_partial k then k.progress else 512
+
+-- what it is while they are given back: an unfinished one is in work again, else it has no type count
+abbrev pub emptying : KindWord → KindWord
+emptying k = if is_partial k then resumed_kind k else record k { number = 0 }
+
+-- Of several type counts one goes. Else it was the last, and what the frame holds is given back: `empty` does that with so many entries.
+abbrev pub drop_kind : (ℕ → Plain → Plain) → ℕ → PageType → Plain → KindWord → Plain
+drop_kind empty g t p k = if is_counted_on k then count_back g k p else closed g t (empty (held_of k) (with_kind g (emptying k) p))
 
 -- ---- entries
 abbrev pub drop_demand : (ℕ → Plain → Plain) → Plain → Demand → Plain
@@ -36,8 +46,8 @@ drop_first below t f (suc k) p = drop_first below t f k (drop_demand below p (en
 
 -- ---- a frame by level: its type count and its reference
 unfoldable pub let_go : ℕ → ℕ → Plain → Plain
-let_go zero g p = drop_kind (λ q. q) g kinds.Writable p (p.kinds g)
-let_go (suc l) g p = drop_kind (drop_first (let_go l) (level_type (suc l)) g 512) g (level_type (suc l)) p (p.kinds g)
+let_go zero g p = drop_kind (λ k q. q) g kinds.Writable p (p.kinds g)
+let_go (suc l) g p = drop_kind (drop_first (let_go l) (level_type (suc l)) g) g (level_type (suc l)) p (p.kinds g)
 
 -- ---- unfinished tables, the innermost first
 -- behind the innermost one, which was an entry of the next

@@ -6,7 +6,7 @@ use Rattle.xp_board.specs.Readings.{domain_of}
 use Rattle.xp_board.specs.Told.{Post, PortValue, own_run, run_or}
 use Rattle.step_maker.specs.Holds.{Rests}
 use Rattle.vcpu_turn.specs.Cpus.{Processing, end_of, after_turn}
-use Rattle.vcpu_turn.specs.Turning.{Idles, IsOf, MakesStop, WorkedBy}
+use Rattle.vcpu_turn.specs.Turning.{Idles, IsOf, MakesStop, NextWentOn}
 use Rattle.vcpu_turn.proofs.NextOps.{worked_none, worked_some}
 
 pub own_domain : (p q : Post) (domain : ℕ) → q ≡ p → domain ≡ domain_of p.machine p.vcpu → domain ≡ domain_of q.machine q.vcpu
@@ -41,14 +41,14 @@ module _ (v w : PortValue) (c c1 c2 : Processing) (of : IsOf v c) (post : w.post
         runs = runs;
       }
 
-  pub of_retired : (a b : PortValue) (answers : List Bool) → WorkedBy (slice_get c.script (length c.log)) c c1 a b answers None → MakesStop c1 c2 b w → Idles w → IsOf w c2
+  pub of_retired : (a b : PortValue) (answers : List Bool) → NextWentOn (slice_get c.script (length c.log)) c c1 a b answers None → MakesStop c1 c2 b w → Idles w → IsOf w c2
   of_retired a b answers worked stop idles =
       let h = worked_none (slice_get c.script (length c.log)) c c1 a b answers worked in
       of_now (ap (λ (x : Processing). x.vcpu) (stop.cpu ∙ ap (λ (x : Processing). record x { retired = true }) h.1))
       (ap (λ (x : Processing). x.domain) (stop.cpu ∙ ap (λ (x : Processing). record x { retired = true }) h.1)) idles
       (λ on. absurd (not_both c2.retired (ap (λ (x : Processing). x.retired) stop.cpu) on))
 
-  pub of_gone_on : (a b : PortValue) (answers : List Bool) (answer : Result (Unit {0}) Stop) → WorkedBy (slice_get c.script (length c.log)) c c1 a b answers (Some answer) → c2 ≡ after_turn c1 c1.done (end_of c1.done answer) → Rests w → IsOf w c2
+  pub of_gone_on : (a b : PortValue) (answers : List Bool) (answer : Result (Unit {0}) Stop) → NextWentOn (slice_get c.script (length c.log)) c c1 a b answers (Some answer) → c2 ≡ after_turn c1 c1.done (end_of c1.done answer) → Rests w → IsOf w c2
   of_gone_on a b answers answer worked cpu rests =
       let h = worked_some (slice_get c.script (length c.log)) c c1 a b answers answer worked in
       of_now (ap (λ (x : Processing). x.vcpu) cpu ∙ after_vcpu c1 c1.done answer ∙ ap (λ (x : Processing). x.vcpu) h.worked.cpu)

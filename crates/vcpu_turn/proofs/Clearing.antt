@@ -140,7 +140,7 @@ unreferred : (n : Machine) (f owner : ℕ) (r : Refusal) → Aparts (UnreferredB
 unreferred n f owner r vs (refs.outside past is none) = nothing vs none
 unreferred n f owner r vs (refs.refused x real is saw) = one _ refl vs saw
 
-gets : (n : Machine) (f owner : ℕ) (answer : Result ℕ Stop) → Aparts (GetsBy {A = ℕ} n f owner answer)
+pub gets : (n : Machine) (f owner : ℕ) (answer : Result ℕ Stop) → Aparts (GetsBy {A = ℕ} n f owner answer)
 gets n f owner (Ok g) vs h = raises f _ _ vs h.2
 gets n f owner (Err (Refused r)) vs h = unreferred n f owner r vs h
 gets n f owner (Err (Paused (Lost place expected found))) vs h = raises f _ _ vs h.3

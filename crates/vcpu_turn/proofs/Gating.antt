@@ -13,7 +13,7 @@ answers_nothing says asks risen due P calm goes = record { answers = []; goes = 
     both : (b : Bool) → b ≡ true → b ≡ false → ⊥
     both b on off = cc
 
-ends_behind : (early answers : List Bool) → ends_yes answers ≡ true → ends_yes (answers ++ early) ≡ true
+pub ends_behind : (early answers : List Bool) → ends_yes answers ≡ true → ends_yes (answers ++ early) ≡ true
 ends_behind early [] is = absurd (cc)
 ends_behind early (a ∷ answers) is = is
 

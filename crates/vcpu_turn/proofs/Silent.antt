@@ -49,7 +49,7 @@ emptied_keeps v _ t _ _ ok (course.Emptied.finished w answers ran) = ran_keeps v
 emptied_keeps v _ t _ _ ok (course.Emptied.paused u w us answers stop ran unwound) = absurd (cc)
 
 released_keeps : (v w : PortValue) (f : ℕ) (kind : PageType) (answers : List Bool) (answer : Result (Unit {0}) Stop) → answer ≡ Ok tt → WasReleased v f kind w answers answer → Keeps v w
-released_keeps v _ f kind _ _ ok (course.WasReleased.plain w ordinary dropped) = keeps_does v w _ (drops f kind) dropped
+released_keeps v _ f kind _ _ ok (course.WasReleased.plain w ordinary dropped) = keeps_does v w _ (drops f kind) dropped.found
 released_keeps v _ f kind _ _ ok (course.WasReleased.shared u w table dropped gave) = keeps_then v u w (keeps_moves v u _ _ _ _ _ refl dropped.lowers.step) (gave_keeps u w f gave)
 released_keeps v _ f kind _ _ ok (course.WasReleased.last u x w word level answers answer table at high dropped looks emptied) =
     keeps_then v u w (keeps_moves v u _ _ _ _ _ refl dropped.lowers.step) (keeps_then u x w (keeps_moves u x _ _ _ _ _ refl looks) (emptied_keeps x w _ answers answer ok emptied))

@@ -14,7 +14,7 @@ use Rattle.level_release.specs.Asking.{of_settle}
 use Rattle.vcpu_turn.specs.Cpus.{Processing, end_of, after_turn}
 use Rattle.vcpu_turn.specs.Lists.{Answering, is_due_by}
 use Rattle.vcpu_turn.specs.Turning as turning
-use Rattle.vcpu_turn.specs.Turning.{Begins, Heeds, DoesNext, EndsTurn, IsTurn, MakesStop, TurnBy, WorkedBy, is_due}
+use Rattle.vcpu_turn.specs.Turning.{Begins, Heeds, DoesNext, EndsTurn, IsTurn, MakesStop, TurnBy, NextWentOn, is_due}
 use Rattle.vcpu_turn.specs.Working.{Settles}
 use Rattle.vcpu_turn.specs.declared.cpu.TurnEnd.{TurnEnd}
 use Rattle.vcpu_turn.specs.declared.cpu.TurnEnd.TheVariants as ends
@@ -43,14 +43,14 @@ after_same c k to (Err (Paused p)) = refl
 
 -- ---- the whole turn
 -- the turn is paused for the gate where its last call is
-due_paused : (p : Pause) → is_due (ends.Paused p) ≡ is_due_by (Err (Paused p))
+pub due_paused : (p : Pause) → is_due (ends.Paused p) ≡ is_due_by (Err (Paused p))
 due_paused Due = refl
 due_paused (Lost a b c) = refl
 due_paused (Busy a b) = refl
 due_paused (Flush a b c) = refl
 due_paused (Alive a b) = refl
 
-due_ended : (to : ℕ) (answer : Result (Unit {0}) Stop) → is_due (end_of to answer) ≡ is_due_by answer
+pub due_ended : (to : ℕ) (answer : Result (Unit {0}) Stop) → is_due (end_of to answer) ≡ is_due_by answer
 due_ended to (Ok done) = refl
 due_ended to (Err (Refused r)) = refl
 due_ended to (Err (Paused p)) = due_paused p
@@ -73,7 +73,7 @@ module _ (v a b : PortValue) (c : Processing) (runs : c.retired ≡ false) (begi
   turn_unsettled p stop at settles =
       turn_by c b (ends.Paused p) after yes_after (is_due_by (Err stop)) (due_paused p ∙ ap (λ (e : Stop). is_due_by (Err e)) (sym at))
       (answers_as (λ answers. Settles a b answers (Err stop)) (λ answers. IsTurn c c (ends.Paused p) v b answers) says before after yes_before yes_after (is_due_by (Err stop))
-      (λ answers goes. record { begun = a; worked = b; begins = begins; does = turning.Goes.unsettled b answers p (subst (λ (e : Stop). Settles a b answers (Err e)) at goes); ends = refl }) settles)
+      (λ answers goes. record { begun = a; worked = b; begins = begins; does = turning.DoesTurn.unsettled b answers p (subst (λ (e : Stop). Settles a b answers (Err e)) at goes); ends = refl }) settles)
 
   module _ (settles : Answering (λ answers. Settles a b answers (Ok tt)) says before after yes_before yes_after (is_due_by (Ok tt))) (now : ℕ → Bool) (same : (n : ℕ) → now n ≡ says n) (last yes_last : ℕ) (x w : PortValue) (c1 c2 : Processing) where
     -- behind what was settled
@@ -82,26 +82,26 @@ module _ (v a b : PortValue) (c : Processing) (runs : c.retired ≡ false) (begi
     behind end due P next does finishes is =
         turn_by c2 w end last yes_last due is
         (answers_behind says now before after last yes_before yes_after yes_last settles.answers same settles.gate due P (λ answers. IsTurn c c2 end v w answers) next
-        (λ answers goes. record { begun = a; worked = x; begins = begins; does = turning.Goes.settled b x c2 settles.answers answers end settles.goes (does answers goes); ends = finishes }))
+        (λ answers goes. record { begun = a; worked = x; begins = begins; does = turning.DoesTurn.settled b x c2 settles.answers answers end settles.goes (does answers goes); ends = finishes }))
 
     -- at the script's end
-    pub turn_retires : Answering (λ answers. WorkedBy (slice_get c.script (length c.log)) c c1 b x answers None) now after last yes_after yes_last false → MakesStop c1 c2 x w →
+    pub turn_retires : Answering (λ answers. NextWentOn (slice_get c.script (length c.log)) c c1 b x answers None) now after last yes_after yes_last false → MakesStop c1 c2 x w →
         Answering (λ answers. TurnBy c.retired c c2 ends.Retired v w answers) says before last yes_before yes_last (is_due ends.Retired)
-    turn_retires worked stop = behind ends.Retired false (λ answers. WorkedBy (slice_get c.script (length c.log)) c c1 b x answers None) worked does stop.stop refl
+    turn_retires worked stop = behind ends.Retired false (λ answers. NextWentOn (slice_get c.script (length c.log)) c c1 b x answers None) worked does stop.stop refl
       where
-        does : (answers : List Bool) → WorkedBy (slice_get c.script (length c.log)) c c1 b x answers None → DoesNext c (slice_get c.script (length c.log)) c2 b x answers ends.Retired
+        does : (answers : List Bool) → NextWentOn (slice_get c.script (length c.log)) c c1 b x answers None → DoesNext c (slice_get c.script (length c.log)) c2 b x answers ends.Retired
         does answers goes =
             let h = worked_none (slice_get c.script (length c.log)) c c1 b x answers goes in
             subst (λ o. DoesNext c o c2 b x answers ends.Retired) (sym h.0)
             (record { no_step = h.2; no_ask = h.3; end_is = refl; cpu = stop.cpu ∙ ap (λ (y : Processing). record y { retired = true }) h.1 })
 
     -- the next operation went on
-    pub turn_goes_on : (answer : Result (Unit {0}) Stop) → Answering (λ answers. WorkedBy (slice_get c.script (length c.log)) c c1 b x answers (Some answer)) now after last yes_after yes_last (is_due_by answer) →
+    pub turn_goes_on : (answer : Result (Unit {0}) Stop) → Answering (λ answers. NextWentOn (slice_get c.script (length c.log)) c c1 b x answers (Some answer)) now after last yes_after yes_last (is_due_by answer) →
         c2 ≡ after_turn c1 c1.done (end_of c1.done answer) → EndsTurn (end_of c1.done answer) x w → Answering (λ answers. TurnBy c.retired c c2 (end_of c1.done answer) v w answers) says before last yes_before yes_last (is_due (end_of c1.done answer))
     turn_goes_on answer worked cpu finishes =
-        behind (end_of c1.done answer) (is_due_by answer) (λ answers. WorkedBy (slice_get c.script (length c.log)) c c1 b x answers (Some answer)) worked does finishes (due_ended c1.done answer)
+        behind (end_of c1.done answer) (is_due_by answer) (λ answers. NextWentOn (slice_get c.script (length c.log)) c c1 b x answers (Some answer)) worked does finishes (due_ended c1.done answer)
       where
-        does : (answers : List Bool) → WorkedBy (slice_get c.script (length c.log)) c c1 b x answers (Some answer) → DoesNext c (slice_get c.script (length c.log)) c2 b x answers (end_of c1.done answer)
+        does : (answers : List Bool) → NextWentOn (slice_get c.script (length c.log)) c c1 b x answers (Some answer) → DoesNext c (slice_get c.script (length c.log)) c2 b x answers (end_of c1.done answer)
         does answers goes =
             let h = worked_some (slice_get c.script (length c.log)) c c1 b x answers answer goes in
             subst (λ o. DoesNext c o c2 b x answers (end_of c1.done answer)) (sym h.next)

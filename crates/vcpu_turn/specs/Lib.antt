@@ -1,3 +1,4 @@
+pub mod Asking
 pub mod Cpus
 pub mod Lists
 pub mod Turning

@@ -1,5 +1,5 @@
 -- Turns: how one begins, what it does and how it ends.
-use Rattle.std.specs.Prelude.{◌≡◌, ℕ, ◌≤◌, nat_lt, Bool, true, false, List, [], ◌++◌, length, slice_get, Option, Some, None, Result, Ok, Err}
+use Rattle.std.specs.Prelude.{◌≡◌, ℕ, ◌+◌, ◌≤◌, nat_lt, Bool, true, false, List, [], ◌++◌, length, slice_get, Option, Some, None, Result, Ok, Err}
 use Rattle.xp_words.specs.Machine.{IsMachine}
 use Rattle.xp_words.specs.Places.{asked_of, flushed_of, run_of}
 use Rattle.xp_words.specs.declared.place.Place.TheVariants.{Clock}
@@ -74,10 +74,10 @@ DoesNext c (Some op) c' v w answers end = GoesOnWith c op c' v w answers end
 DoesNext c None c' v w answers end = Retires c c' v w answers end
 
 -- What an earlier turn left unfinished is settled first; where that pauses, so does the turn.
-pub data Goes (c : Processing) (o : Option Op) (v : PortValue) : Processing → PortValue → List Bool → TurnEnd → Type 0 where
-  unsettled : (w : PortValue) (answers : List Bool) (p : Pause) → Settles v w answers (Err (Paused p)) → Goes c o v c w answers (ends.Paused p)
+pub data DoesTurn (c : Processing) (o : Option Op) (v : PortValue) : Processing → PortValue → List Bool → TurnEnd → Type 0 where
+  unsettled : (w : PortValue) (answers : List Bool) (p : Pause) → Settles v w answers (Err (Paused p)) → DoesTurn c o v c w answers (ends.Paused p)
   settled : (u w : PortValue) (c' : Processing) (early answers : List Bool) (end : TurnEnd) → Settles v u early (Ok tt) → DoesNext c o c' u w answers end →
-      Goes c o v c' w (answers ++ early) end
+      DoesTurn c o v c' w (answers ++ early) end
 
 -- ---- all of it
 -- from v to w a vCPU that is not retired made a turn, in which its gate gave these answers
@@ -85,17 +85,17 @@ pub record IsTurn (c c' : Processing) (end : TurnEnd) (v w : PortValue) (answers
   pub begun : PortValue
   pub worked : PortValue
   pub begins : Begins v begun
-  pub does : Goes c (slice_get c.script (length c.log)) begun c' worked answers end
+  pub does : DoesTurn c (slice_get c.script (length c.log)) begun c' worked answers end
   pub ends : EndsTurn end worked w
 
--- In a turn a list whose items ask nothing went on from element `from` to element `to`, and ended so; and behind the answers to what was
--- settled first the gate was asked exactly so often. Or settling was all that the turn did.
-pub data CountsAsks (from : ℕ) (end : TurnEnd) (answers : List Bool) : Type 0 where
+-- In a turn an operation went on from element `from` to element `to`, and ended so; and behind the answers to what was settled first the gate was
+-- asked so often: between the elements, and `within` times within them. Or settling was all that the turn did.
+pub data CountsAsks (from : ℕ) (end : TurnEnd) (answers : List Bool) (within : ℕ) : Type 0 where
   counted : (to : ℕ) (answer : Result (Unit {0}) Stop) (u x : PortValue) (early later : List Bool) → Settles u x early (Ok tt) → end ≡ end_of to answer → answers ≡ later ++ early →
-      length later ≡ asks_between from to answer → CountsAsks from end answers
-  settling : (u x : PortValue) (p : Pause) → Settles u x answers (Err (Paused p)) → end ≡ ends.Paused p → CountsAsks from end answers
+      length later ≡ asks_between from to answer + within → CountsAsks from end answers within
+  settling : (u x : PortValue) (p : Pause) → Settles u x answers (Err (Paused p)) → end ≡ ends.Paused p → within ≡ 0 → CountsAsks from end answers within
 
--- the turn went on with a list to element `to`, and no further than up to `most`
+-- the turn went on with an operation to element `to`, and no further than up to `most`
 pub record GoesNoFurther (c c' : Processing) (end : TurnEnd) (most : ℕ) : Type 0 where
   pub to : ℕ
   pub answer : Result (Unit {0}) Stop
@@ -147,16 +147,16 @@ StopsWhere true c c' v w = (c' ≡ c) × (w ≡ v)
 StopsWhere false c c' v w = MakesStop c c' v w
 
 -- ---- a vCPU whose next operation goes on
-pub record Worked (op : Op) (c c' : Processing) (v w : PortValue) (answers : List Bool) (answer : Result (Unit {0}) Stop) : Type 0 where
+pub record OperationWentOn (op : Op) (c c' : Processing) (v w : PortValue) (answers : List Bool) (answer : Result (Unit {0}) Stop) : Type 0 where
   pub works : Works c.domain (list_of op) v c.done c'.done w answers answer
   pub cpu : c' ≡ record c { done = c'.done }
 
 -- the next operation went on, where there is one
-abbrev pub WorkedBy : Option Op → Processing → Processing → PortValue → PortValue → List Bool → Option (Result (Unit {0}) Stop) → Type 0
-WorkedBy (Some op) c c' v w answers (Some answer) = Worked op c c' v w answers answer
-WorkedBy (Some op) c c' v w answers None = ⊥
-WorkedBy None c c' v w answers (Some answer) = ⊥
-WorkedBy None c c' v w answers None = (c' ≡ c) × (w ≡ v) × (answers ≡ [])
+abbrev pub NextWentOn : Option Op → Processing → Processing → PortValue → PortValue → List Bool → Option (Result (Unit {0}) Stop) → Type 0
+NextWentOn (Some op) c c' v w answers (Some answer) = OperationWentOn op c c' v w answers answer
+NextWentOn (Some op) c c' v w answers None = ⊥
+NextWentOn None c c' v w answers (Some answer) = ⊥
+NextWentOn None c c' v w answers None = (c' ≡ c) × (w ≡ v) × (answers ≡ [])
 
 -- ---- with a gate
 abbrev pub asks_due : Option (Result (Unit {0}) Stop) → Bool

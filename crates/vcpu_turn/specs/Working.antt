@@ -31,13 +31,13 @@ pub record Settles (v w : PortValue) (answers : List Bool) (answer : Result (Uni
   pub course : Settled v w answers answer
 
 -- what the element before it left unfinished is settled first
-pub data Behind (P : PortValue → PortValue → List Bool → Result (Unit {0}) Stop → Type 0) (v : PortValue) : PortValue → List Bool → Result (Unit {0}) Stop → Type 0 where
-  unsettled : (w : PortValue) (answers : List Bool) (stop : Stop) → Settles v w answers (Err stop) → Behind P v w answers (Err stop)
-  performed : (u w : PortValue) (early answers : List Bool) (answer : Result (Unit {0}) Stop) → Settles v u early (Ok tt) → P u w answers answer → Behind P v w (answers ++ early) answer
+pub data SettlesFirst (P : PortValue → PortValue → List Bool → Result (Unit {0}) Stop → Type 0) (v : PortValue) : PortValue → List Bool → Result (Unit {0}) Stop → Type 0 where
+  unsettled : (w : PortValue) (answers : List Bool) (stop : Stop) → Settles v w answers (Err stop) → SettlesFirst P v w answers (Err stop)
+  performed : (u w : PortValue) (early answers : List Bool) (answer : Result (Unit {0}) Stop) → Settles v u early (Ok tt) → P u w answers answer → SettlesFirst P v w (answers ++ early) answer
 
 -- ---- the pairs of `mmu_update`
 abbrev pub FitsPair : Owners → Option Pair → PortValue → PortValue → List Bool → Result (Unit {0}) Stop → Type 0
-FitsPair o (Some p) v w answers answer = Behind (Updates o (pairs.element_of p)) v w answers answer
+FitsPair o (Some p) v w answers answer = SettlesFirst (Updates o (pairs.element_of p)) v w answers answer
 FitsPair o None v w answers answer = ⊥
 
 -- pair number k, for tables and frames of those owners
@@ -63,7 +63,7 @@ pub record Performs (d : ℕ) (e : Element) (v w : PortValue) (answers : List Bo
   pub course : Performed v w d e answers answer
 
 abbrev pub FitsExt : ℕ → Option ExtOp → PortValue → PortValue → List Bool → Result (Unit {0}) Stop → Type 0
-FitsExt d (Some op) v w answers answer = Behind (Performs d (ext_element op)) v w answers answer
+FitsExt d (Some op) v w answers answer = SettlesFirst (Performs d (ext_element op)) v w answers answer
 FitsExt d None v w answers answer = ⊥
 
 -- element number k, for tables of domain d

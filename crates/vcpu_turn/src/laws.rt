@@ -1,13 +1,17 @@
-//! What holds of all lists of items, as contracts of functions that do nothing.
-ghost use Rattle.std.specs.Prelude.{ℕ, ◌≡◌, ◌+◌, ◌-◌, ◌<◌, ◌≤◌, ◌%◌, All, Bool, true, List, length, slice_get, Some, Result};
+//! What holds of all lists of items, and of all turns, as contracts of functions that do nothing.
+ghost use Rattle.std.specs.Prelude.{ℕ, ◌≡◌, ◌⊎◌, ◌+◌, ◌-◌, ◌<◌, ◌≤◌, ◌%◌, All, Any, Bool, true, List, length, slice_get, Some, Result};
+ghost use Rattle.xp_words.specs.declared.ops.ExtOp.{ExtOp};
 ghost use Rattle.xp_words.specs.declared.ops.Op.{Op};
 ghost use Rattle.xp_words.specs.declared.ops.Pair.{Pair};
 ghost use Rattle.xp_words.specs.declared.reply.Stop.{Stop};
 ghost use Rattle.xp_board.specs.Told.{PortValue};
 ghost use Rattle.xp_preempt.specs.Gates.{Gives, ends_yes, last_ask};
-ghost use Rattle.vcpu_turn.specs.Cpus.{OfPairs, Processing, list_of};
+ghost use Rattle.foreign_map.specs.declared.owners.Owners.{Owners};
+ghost use Rattle.vcpu_turn.specs.Asking.{AsksNothingWithin, HearsNo, HearsNoWithin, MovesATable, MovesNoTable, PausesRelease, Tried, PausesUnpin, asks_within, elements_tried, tried_in};
+ghost use Rattle.vcpu_turn.specs.Cpus.{OfExt, OfPairs, Processing, list_of};
 ghost use Rattle.vcpu_turn.specs.Lists.{AsksNothing, WorksOn, asks_between, is_due_by};
-ghost use Rattle.vcpu_turn.specs.Turning.{CountsAsks, GoesNoFurther, IsTurn};
+ghost use Rattle.vcpu_turn.specs.Turning.{CountsAsks, GoesNoFurther, IsTurn, is_due};
+ghost use Rattle.vcpu_turn.specs.Working.{ExtFits, PairFits};
 ghost use Rattle.vcpu_turn.specs.declared.cpu.TurnEnd.{TurnEnd};
 
 use crate::lists::Items;
@@ -28,13 +32,50 @@ pub fn due_at_a_yes<L: Items>()
     ensures { (items : L) (v w : PortValue) (from to before : ℕ) (answers : List Bool) (answer : Result (Unit {0}) Stop) (says : ℕ → Bool) → AsksNothing (L.fits items) → WorksOn (L.fits items) (L.count items) from v to w answers answer → Gives says before answers → (is_due_by answer ≡ true → ends_yes answers ≡ true) → is_due_by answer ≡ true → before + (to - from) ≤ last_ask → says (before + (to - from)) ≡ true }
 {}
 
-/// So a turn of a list of `mmu_update` that sets machine-to-physical words alone asks the own gate between the elements, and no more, behind
-/// what was settled first.
-pub fn a_turn_counts_its_asks()
-    ensures { (c d : Processing) (op : Op) (foreign : ℕ) (pairs : List Pair) (end : TurnEnd) (v w : PortValue) (answers : List Bool) → slice_get c.script (length c.log) ≡ Some op → list_of op ≡ Some (OfPairs foreign pairs) → length pairs ≤ 512 → All (λ (p : Pair). p.ptr % 4 ≡ 1) pairs → IsTurn c d end v w answers → CountsAsks c.done end answers }
+/// Whatever its items ask, it asked its gate once behind each item of this turn, but not behind the last one of the list, and within each item what that asked.
+/// Each item that it tried went by steps that fit.
+pub fn asked_between_and_within<L: Items>()
+    ensures counts { (items : L) (v w : PortValue) (from to : ℕ) (answers : List Bool) (answer : Result (Unit {0}) Stop) → (works : WorksOn (L.fits items) (L.count items) from v to w answers answer) → length answers ≡ asks_between from to answer + asks_within (tried_in works) }
+    ensures fits { (items : L) (v w : PortValue) (from to : ℕ) (answers : List Bool) (answer : Result (Unit {0}) Stop) → (works : WorksOn (L.fits items) (L.count items) from v to w answers answer) → All (λ (t : Tried). L.fits items t.number t.before t.behind t.asked t.answer) (tried_in works) }
 {}
 
-/// And it does not go on past the element behind which the own gate says yes.
+/// So each element that a turn tried went by its own course, which says what was asked within it.
+pub fn elements_go_by_their_courses()
+    ensures pairs { (c d : Processing) (op : Op) (foreign : ℕ) (pairs : List Pair) (end : TurnEnd) (v w : PortValue) (answers : List Bool) → slice_get c.script (length c.log) ≡ Some op → list_of op ≡ Some (OfPairs foreign pairs) → (turn : IsTurn c d end v w answers) → All (λ (t : Tried). (o : Owners) × PairFits o pairs t.number t.before t.behind t.asked t.answer) (elements_tried turn) }
+    ensures ext { (c d : Processing) (op : Op) (list : List ExtOp) (end : TurnEnd) (v w : PortValue) (answers : List Bool) → slice_get c.script (length c.log) ≡ Some op → list_of op ≡ Some (OfExt list) → (turn : IsTurn c d end v w answers) → All (λ (t : Tried). ExtFits c.domain list t.number t.before t.behind t.asked t.answer) (elements_tried turn) }
+{}
+
+/// And a turn, whatever operation stands next, asks the own gate between the elements, and within them as their courses say, behind what was settled first.
+pub fn a_turn_counts_its_asks()
+    ensures { (c d : Processing) (op : Op) (end : TurnEnd) (v w : PortValue) (answers : List Bool) → slice_get c.script (length c.log) ≡ Some op → (turn : IsTurn c d end v w answers) → CountsAsks c.done end answers (asks_within (elements_tried turn)) }
+{}
+
+/// Within an element the gate says no, until that is paused for it, and so the turn. Else the element is done, and only the release was paused that goes with it: of what
+/// the old word of an exchanged entry asked, or of an unpinned frame.
+pub fn a_yes_within_an_element_pauses()
+    ensures pairs { (c d : Processing) (op : Op) (foreign : ℕ) (pairs : List Pair) (end : TurnEnd) (v w : PortValue) (answers : List Bool) → slice_get c.script (length c.log) ≡ Some op → list_of op ≡ Some (OfPairs foreign pairs) → (turn : IsTurn c d end v w answers) → All (λ (t : Tried). HearsNo t ⊎ PausesRelease pairs t) (elements_tried turn) }
+    ensures ext { (c d : Processing) (op : Op) (list : List ExtOp) (end : TurnEnd) (v w : PortValue) (answers : List Bool) → slice_get c.script (length c.log) ≡ Some op → list_of op ≡ Some (OfExt list) → (turn : IsTurn c d end v w answers) → All (λ (t : Tried). HearsNo t ⊎ PausesUnpin list t) (elements_tried turn) }
+{}
+
+/// Where no element is done past a yes, no ask of the turn follows one at which the gate says yes, and the turn is paused for that one.
+pub fn a_turn_asks_no_more_behind_a_yes()
+    ensures { (c d : Processing) (end : TurnEnd) (v w : PortValue) (before : ℕ) (answers : List Bool) (says : ℕ → Bool) → (turn : IsTurn c d end v w answers) → HearsNoWithin (elements_tried turn) → Gives says before answers → (j : ℕ) → 0 < j → before + j < last_ask → says (before + j) ≡ true → (length answers < j) ⊎ ((length answers ≡ j) × (is_due end ≡ true)) }
+{}
+
+/// So it does not go on past the element behind which, or within which, the own gate says yes: no more elements are done than asks up to that one, those within elements taken off.
 pub fn a_turn_never_passes_a_yes()
-    ensures { (c d : Processing) (op : Op) (foreign : ℕ) (pairs : List Pair) (end : TurnEnd) (v w : PortValue) (before : ℕ) (answers : List Bool) (says : ℕ → Bool) → slice_get c.script (length c.log) ≡ Some op → list_of op ≡ Some (OfPairs foreign pairs) → length pairs ≤ 512 → All (λ (p : Pair). p.ptr % 4 ≡ 1) pairs → IsTurn c d end v w answers → Gives says before answers → (j : ℕ) → 0 < j → before + j < last_ask → says (before + j) ≡ true → GoesNoFurther c d end (c.done + j) }
+    ensures { (c d : Processing) (op : Op) (end : TurnEnd) (v w : PortValue) (before : ℕ) (answers : List Bool) (says : ℕ → Bool) → slice_get c.script (length c.log) ≡ Some op → (turn : IsTurn c d end v w answers) → HearsNoWithin (elements_tried turn) → Gives says before answers → (j : ℕ) → 0 < j → before + j < last_ask → says (before + j) ≡ true → GoesNoFurther c d end (c.done + (j - asks_within (elements_tried turn))) }
+{}
+
+/// A turn with a list of `mmu_update` asks nothing within its elements, or one of them exchanged an entry and took or gave back a table with that. Where none did, a write counts as
+/// a machine-to-physical update does: the gate is asked between the elements, and no more, and the turn does not go on past the element behind which it says yes.
+pub fn only_tables_ask_within()
+    ensures tables { (c d : Processing) (op : Op) (foreign : ℕ) (pairs : List Pair) (end : TurnEnd) (v w : PortValue) (answers : List Bool) → slice_get c.script (length c.log) ≡ Some op → list_of op ≡ Some (OfPairs foreign pairs) → (turn : IsTurn c d end v w answers) → AsksNothingWithin (elements_tried turn) ⊎ Any (λ (t : Tried). MovesATable pairs t) (elements_tried turn) }
+    ensures counts { (c d : Processing) (op : Op) (foreign : ℕ) (pairs : List Pair) (end : TurnEnd) (v w : PortValue) (answers : List Bool) → slice_get c.script (length c.log) ≡ Some op → list_of op ≡ Some (OfPairs foreign pairs) → (turn : IsTurn c d end v w answers) → MovesNoTable pairs (elements_tried turn) → CountsAsks c.done end answers 0 }
+    ensures stops { (c d : Processing) (op : Op) (foreign : ℕ) (pairs : List Pair) (end : TurnEnd) (v w : PortValue) (before : ℕ) (answers : List Bool) (says : ℕ → Bool) → slice_get c.script (length c.log) ≡ Some op → list_of op ≡ Some (OfPairs foreign pairs) → (turn : IsTurn c d end v w answers) → MovesNoTable pairs (elements_tried turn) → Gives says before answers → (j : ℕ) → 0 < j → before + j < last_ask → says (before + j) ≡ true → GoesNoFurther c d end (c.done + j) }
+{}
+
+/// A list that sets machine-to-physical words alone exchanges no entry, and moves no table.
+pub fn map_updates_move_no_table()
+    ensures { (pairs : List Pair) (items : List Tried) → All (λ (p : Pair). p.ptr % 4 ≡ 1) pairs → MovesNoTable pairs items }
 {}

@@ -3,7 +3,7 @@ ghost use Rattle.xp_board.specs.Readings.{domain_of};
 ghost use Rattle.step_maker.specs.Holds.{Rests};
 ghost use Rattle.vcpu_turn.specs.Cpus.{reply_of, end_of, after_turn};
 ghost use Rattle.vcpu_turn.specs.Lists.{Answering};
-ghost use Rattle.vcpu_turn.specs.Turning.{EndsTurn, Idles, TurnBy, IsOf, MakesStop, StopsWhere, WorkedBy, asks_due, is_due};
+ghost use Rattle.vcpu_turn.specs.Turning.{EndsTurn, Idles, TurnBy, IsOf, MakesStop, StopsWhere, NextWentOn, asks_due, is_due};
 ghost use Rattle.vcpu_turn.specs.declared.cpu.TurnEnd.TheVariants.{Answered};
 
 use crate::beginning::begin;
@@ -20,7 +20,7 @@ fn go_on<P: Port>(port: &mut P, cpu: &mut Cpu, gate: &mut dyn Preempt) -> Option
     requires own { cpu.old.domain ≡ domain_of (P.value port.old).post.machine (P.value port.old).post.vcpu }
     requires rests { Rests (P.value port.old) }
     ensures post { (P.value port.new).post ≡ (P.value port.old).post }
-    ensures worked { Answering (λ answers. WorkedBy (slice_get cpu.old.script (length cpu.old.log)) cpu.old cpu.new (P.value port.old) (P.value port.new) answers result) (says gate.old) (count_asks gate.old) (count_asks gate.new) (count_yes gate.old) (count_yes gate.new) (asks_due result) }
+    ensures worked { Answering (λ answers. NextWentOn (slice_get cpu.old.script (length cpu.old.log)) cpu.old cpu.new (P.value port.old) (P.value port.new) answers result) (says gate.old) (count_asks gate.old) (count_asks gate.new) (count_yes gate.old) (count_yes gate.new) (asks_due result) }
     ensures rests { Rests (P.value port.new) }
     ensures says { (n : ℕ) → says gate.new n ≡ says gate.old n }
     ensures paces { paces gate.new ≡ paces gate.old }

@@ -1,6 +1,5 @@
 -- Ordinary memory that waits for a flush is left: by its steps, and in plain words.
-use Rattle.std.proofs.Common.{◌≡◌, ℕ, Bool, true, false, IsTrue, None, sym, subst}
-use Rattle.xp_words.specs.KindWords.{kind_write}
+use Rattle.std.proofs.Common.{◌≡◌, ℕ, Bool, true, false, sym, subst}
 use Rattle.xp_words.specs.declared.kind.PageType.TheVariants.{Writable}
 use Rattle.xp_words.specs.declared.place.Place.TheVariants.{Refs}
 use Rattle.xp_words.specs.declared.reply.Pause.{Pause}

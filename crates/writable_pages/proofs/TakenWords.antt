@@ -1,16 +1,16 @@
 -- An own frame is taken as ordinary memory, in plain words.
-use Rattle.std.proofs.Common.{◌≡◌, ℕ, ◌<◌, ◌^◌, Bool, true, false, List, Result, Ok, Err, sym, ap, ◌∙◌, subst}
+use Rattle.std.proofs.Common.{◌≡◌, ℕ, ◌<◌, ◌^◌, Bool, true, false, List, Result, Ok, sym, ap, ◌∙◌}
 use Rattle.xp_words.specs.KindWords.{kind_fields}
 use Rattle.xp_words.specs.declared.kind.PageType.TheVariants.{Writable}
 use Rattle.xp_words.specs.declared.reply.Stop.{Stop}
 use Rattle.xp_board.specs.Readings.{domain_of}
-use Rattle.xp_board.specs.Told.{Post, PortValue, is_telling}
+use Rattle.xp_board.specs.Told.{Post, PortValue}
 use Rattle.step_maker.specs.Moves.{Came}
 use Rattle.step_maker.proofs.Coming.{came_post}
 use Rattle.step_maker.proofs.Telling.{came_telling}
 use Rattle.answer_fits.specs.Visits.{Visit, Does}
 use Rattle.answer_fits.proofs.Visiting.{does_came}
-use Rattle.frame_types.specs.Found.{GoesBy, TakesBy, TakesFound, TakesOf, WaitsOf}
+use Rattle.frame_types.specs.Found.{GoesBy, TakesBy, TakesFound, WaitsOf}
 use Rattle.frame_types.specs.Plain.{IsTakenBy, TwinMemory, is_own, waits_by}
 use Rattle.frame_types.specs.Standing.{standing_of}
 use Rattle.frame_types.specs.declared.standing.Standing.{Standing}

@@ -1,18 +1,19 @@
 -- A turn asks the gate that the vCPU has.
-use Rattle.std.proofs.Common.{◌≡◌, ℕ, ◌+◌, ◌<◌, Bool, true, false, if◌then◌else◌, not, is_some, List, length, slice_get, Option, Some, None, refl, sym, ap, ◌∙◌, subst}
+use Rattle.std.proofs.Common.{◌≡◌, ℕ, ◌+◌, ◌-◌, ◌<◌, Bool, true, false, if◌then◌else◌, not, is_some, List, length, slice_get, Option, Some, None, refl, sym, ap, ◌∙◌, subst}
 use Rattle.xp_words.specs.Machine.{Machine}
 use Rattle.xp_words.specs.declared.ops.Op.{Op}
 use Rattle.xp_preempt.specs.Gates.{Heard, last_ask}
 use Rattle.xp_board.specs.Told.{PortValue}
 use Rattle.vcpu_turn.specs.declared.cpu.TurnEnd.{TurnEnd}
-use Rattle.vcpu_turn.specs.Cpus.{Processing, list_of}
+use Rattle.vcpu_turn.specs.Asking.{HearsNoWithin, asks_within, elements_tried}
+use Rattle.vcpu_turn.specs.Cpus.{Processing}
 use Rattle.vcpu_turn.specs.Lists.{Answering}
 use Rattle.vcpu_turn.specs.Turning.{TurnBy, is_due}
 use Rattle.xp_machine.specs.Gates.{Gate, gate_in, IsConsulted}
 use Rattle.xp_machine.specs.Runners.{TakesTurnBy}
 use Rattle.xp_machine.specs.Turns.{MakesStagedTurn, Stage, StaysWithin}
-use Rattle.xp_machine.specs.Unpins.{ReleasesNothing, list_next}
-use Rattle.xp_machine.proofs.Stopping.{turn_heard, turn_within}
+use Rattle.vcpu_turn.proofs.Asking.{turn_within}
+use Rattle.xp_machine.proofs.Stopping.{turn_heard}
 
 -- what is left of it
 pub let_go : {A : Type 0} (retired : Bool) (x : A) → retired ≡ true → None ≡ (if retired then None else Some x)
@@ -40,20 +41,19 @@ takes gate told o box x y z yes_before yes_after left c c2 end v w own paired is
 gate_same : (o : Option (Option Gate)) (g k : Gate) → o ≡ Some (Some g) → o ≡ Some (Some k) → g ≡ k
 gate_same o g k a b = cc
 
-pub own_turn_stops : (n : Machine) (v : ℕ) (c : Processing) (s t : Stage) (g : Gate) (op : Op) (j : ℕ) → MakesStagedTurn n v c s t → slice_get s.gates v ≡ Some (Some g) → slice_get c.script (length c.log) ≡ Some op →
-    ReleasesNothing (list_of op) → 0 < j → g.asks + j < last_ask → g.says (g.asks + j) ≡ true → StaysWithin v c s t (c.done + j)
-own_turn_stops n v c s t g op j turn has next off some less is_yes =
-    let same = gate_same (slice_get s.gates v) g turn.gate has turn.own in
+pub own_turn_stops : (n : Machine) (v : ℕ) (c : Processing) (s t : Stage) (g : Gate) (op : Op) (j : ℕ) → (m : MakesStagedTurn n v c s t) → slice_get s.gates v ≡ Some (Some g) → slice_get c.script (length c.log) ≡ Some op →
+    HearsNoWithin (elements_tried m.turn) → 0 < j → g.asks + j < last_ask → g.says (g.asks + j) ≡ true → StaysWithin v c s t (c.done + (j - asks_within (elements_tried m.turn)))
+own_turn_stops n v c s t g op j m has next hears some less is_yes =
+    let same = gate_same (slice_get s.gates v) g m.gate has m.own in
     record {
-      after = turn.after;
-      end = turn.end;
-      cpus = turn.cpus;
-      within = turn_within c turn.after op turn.end turn.from turn.to turn.gate.asks turn.answers turn.gate.says next off turn.turn turn.consulted.gives j some
+      after = m.after;
+      end = m.end;
+      cpus = m.cpus;
+      within = turn_within c m.after op m.end m.from m.to m.gate.asks m.answers m.gate.says next m.turn hears m.consulted.gives j some
           (subst (λ (k : Gate). k.asks + j < last_ask) same less) (subst (λ (k : Gate). k.says (k.asks + j) ≡ true) same is_yes);
     }
 
-pub own_turn_hears : (n : Machine) (v : ℕ) (c : Processing) (s t : Stage) (m : MakesStagedTurn n v c s t) → ReleasesNothing (list_next (slice_get c.script (length c.log))) →
-    Heard m.gate.says m.gate.asks m.asked.asks (is_due m.end)
-own_turn_hears n v c s t m off =
+pub own_turn_hears : (n : Machine) (v : ℕ) (c : Processing) (s t : Stage) (m : MakesStagedTurn n v c s t) → HearsNoWithin (elements_tried m.turn) → Heard m.gate.says m.gate.asks m.asked.asks (is_due m.end)
+own_turn_hears n v c s t m hears =
     subst (λ k. Heard m.gate.says m.gate.asks k (is_due m.end)) (sym m.consulted.asks)
-    (turn_heard c m.after m.end m.from m.to m.gate.asks m.answers m.gate.says off m.turn m.consulted.gives m.consulted.due_is)
+    (turn_heard c m.after m.end m.from m.to m.gate.asks m.answers m.gate.says m.turn hears m.consulted.gives m.consulted.due_is)

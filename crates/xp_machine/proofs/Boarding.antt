@@ -14,7 +14,7 @@ use Rattle.shared_board.specs.Board.{Board, port_value}
 use Rattle.vcpu_turn.specs.Cpus.{Processing, after_turn}
 use Rattle.vcpu_turn.specs.declared.cpu.TurnEnd.{TurnEnd}
 use Rattle.vcpu_turn.specs.declared.cpu.TurnEnd.TheVariants as ends
-use Rattle.vcpu_turn.specs.Turning.{DoesNext, Goes, IsOf, StopsWhere, settled, unsettled}
+use Rattle.vcpu_turn.specs.Turning.{DoesNext, DoesTurn, IsOf, StopsWhere, settled, unsettled}
 use Rattle.xp_machine.specs.Cpus.{IsShort}
 use Rattle.xp_machine.specs.Gates.{Gate, gate_in}
 use Rattle.xp_machine.specs.Ready.{Ready}
@@ -33,7 +33,7 @@ next_script : (c c2 : Processing) (o : Option Op) (v w : PortValue) (answers : L
 next_script c c2 (Some op) v w answers end d = ap (λ (x : Processing). x.script) d.cpu ∙ kept_by c d.to end
 next_script c c2 None v w answers end d = ap (λ (x : Processing). x.script) d.cpu
 
-turn_script : (c c2 : Processing) (o : Option Op) (v w : PortValue) (answers : List Bool) (end : TurnEnd) → Goes c o v c2 w answers end → c2.script ≡ c.script
+turn_script : (c c2 : Processing) (o : Option Op) (v w : PortValue) (answers : List Bool) (end : TurnEnd) → DoesTurn c o v c2 w answers end → c2.script ≡ c.script
 turn_script c _ o v _ _ _ (unsettled w answers p s) = refl
 turn_script c _ o v _ _ _ (settled u w c2 early answers end s d) = next_script c c2 o u w answers end d
 

@@ -33,8 +33,8 @@ use Rattle.vcpu_turn.specs.Cpus.{OpList, OfPairs, OfExt, Processing, list_of, en
 use Rattle.vcpu_turn.specs.Lists as lists
 use Rattle.vcpu_turn.specs.Lists.{DidItems, Fitting, WorksOn, more, all_done, last_done, due, stopped}
 use Rattle.vcpu_turn.specs.Working as working
-use Rattle.vcpu_turn.specs.Working.{Behind, ExtFits, FindsOwners, FitsExt, FitsPair, PairFits, Performs, Settles, Works, WorksOwned, unsettled, performed}
-use Rattle.vcpu_turn.specs.Turning.{DoesNext, EndsTurn, Goes, IsStop, IsTurn}
+use Rattle.vcpu_turn.specs.Working.{SettlesFirst, ExtFits, FindsOwners, FitsExt, FitsPair, PairFits, Performs, Settles, Works, WorksOwned, unsettled, performed}
+use Rattle.vcpu_turn.specs.Turning.{DoesNext, EndsTurn, DoesTurn, IsStop, IsTurn}
 use Rattle.vcpu_turn.specs.Turning as turning
 use Rattle.vcpu_turn.proofs.Turns.{begins_came}
 use Rattle.xp_machine.specs.Turns.{IsUnhindered}
@@ -65,7 +65,7 @@ owners_came v w d foreign answer f = serves_came v w (of_owners v.post.machine d
 
 -- what is done behind a settling
 module _ (P : PortValue → PortValue → List Bool → Result (Unit {0}) Stop → Type 0) (comes : (v w : PortValue) (answers : List Bool) (answer : Result (Unit {0}) Stop) → P v w answers answer → Came v w) where
-  behind_came : (v w : PortValue) (answers : List Bool) (answer : Result (Unit {0}) Stop) → Behind P v w answers answer → Came v w
+  behind_came : (v w : PortValue) (answers : List Bool) (answer : Result (Unit {0}) Stop) → SettlesFirst P v w answers answer → Came v w
   behind_came v _ _ _ (unsettled w answers stop s) = settles_came v w answers (Err stop) s
   behind_came v _ _ _ (performed u w early answers answer s p) = came_trans v u w (settles_came v u early (Ok tt) s) (comes u w answers answer p)
 
@@ -112,7 +112,7 @@ does_came : (c : Processing) (o : Option Op) (c2 : Processing) (v w : PortValue)
 does_came c (Some op) c2 v w answers end d = works_came c.domain (list_of op) v w c.done d.to answers d.answer d.works
 does_came c None c2 v w answers end d = same_came v w d.no_step
 
-goes_came : (c : Processing) (o : Option Op) (c2 : Processing) (v w : PortValue) (answers : List Bool) (end : TurnEnd) → Goes c o v c2 w answers end → Came v w
+goes_came : (c : Processing) (o : Option Op) (c2 : Processing) (v w : PortValue) (answers : List Bool) (end : TurnEnd) → DoesTurn c o v c2 w answers end → Came v w
 goes_came c o _ v _ _ _ (turning.unsettled w answers p s) = settles_came v w answers (Err (Paused p)) s
 goes_came c o _ v _ _ _ (turning.settled u w c2 early answers end s d) = came_trans v u w (settles_came v u early (Ok tt) s) (does_came c o c2 u w answers end d)
 
@@ -186,7 +186,7 @@ module _ (stays : AloneStays) (neither : NeitherLostNorBusy) (nobody : NobodyWai
   performs_spared d e v w answers answer s p = call_spared v w (elements.ext_request d e answer) answer (element_destroys d e answer) s p.stops
 
   module _ (P : PortValue → PortValue → List Bool → Result (Unit {0}) Stop → Type 0) (spares : (v w : PortValue) (answers : List Bool) (answer : Result (Unit {0}) Stop) → IsSpared v → P v w answers answer → Spared v answer) where
-    behind_spared : (v w : PortValue) (answers : List Bool) (answer : Result (Unit {0}) Stop) → IsSpared v → Behind P v w answers answer → Spared v answer
+    behind_spared : (v w : PortValue) (answers : List Bool) (answer : Result (Unit {0}) Stop) → IsSpared v → SettlesFirst P v w answers answer → Spared v answer
     behind_spared v _ _ _ s (unsettled w answers stop settles) = settles_spared v w answers (Err stop) s settles
     behind_spared v _ _ _ s (performed u w early answers answer settles p) =
         let came = settles_came v u early (Ok tt) settles in
@@ -234,7 +234,7 @@ module _ (stays : AloneStays) (neither : NeitherLostNorBusy) (nobody : NobodyWai
       subst (IsUnhindered v.post.machine) (sym d.end_is) (works_spared c.domain (list_of op) v w c.done d.to answers d.answer s d.works d.to)
   does_spared c None c2 v w answers end s d = subst (IsUnhindered v.post.machine) (sym d.end_is) tt
 
-  goes_spared : (c : Processing) (o : Option Op) (c2 : Processing) (v w : PortValue) (answers : List Bool) (end : TurnEnd) → IsSpared v → Goes c o v c2 w answers end → IsUnhindered v.post.machine end
+  goes_spared : (c : Processing) (o : Option Op) (c2 : Processing) (v w : PortValue) (answers : List Bool) (end : TurnEnd) → IsSpared v → DoesTurn c o v c2 w answers end → IsUnhindered v.post.machine end
   goes_spared c o _ v _ _ _ s (turning.unsettled w answers p settles) = settles_spared v w answers (Err (Paused p)) s settles c.done
   goes_spared c o _ v _ _ _ s (turning.settled u w c2 early answers end settles d) =
       let came = settles_came v u early (Ok tt) settles in

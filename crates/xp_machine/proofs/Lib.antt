@@ -4,7 +4,6 @@ mod Walking
 pub mod Boarding
 mod Turning
 mod Asking
-mod Noes
 mod Stopping
 mod Starting
 pub mod Reaching

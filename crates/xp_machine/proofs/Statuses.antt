@@ -9,11 +9,11 @@ use Rattle.xp_machine.specs.declared.status.Status.TheVariants as status
 use Rattle.xp_machine.specs.Gates.{Gate, ArePaced, IsPaced, SetBy}
 use Rattle.xp_preempt.specs.Gates.{is_in_step}
 use Rattle.xp_machine.specs.Texts.{fault_status}
-use Rattle.xp_machine.specs.Outcome.{Wrote, Outcome, IsDue, IsAnswer}
+use Rattle.xp_machine.specs.Outcome.{WroteText, Outcome, IsDue, IsAnswer}
 
 -- a status that says of source and sink that its text was written, and that is none of the others
 pub record HasText (s : Status) : Type 0 where
-  pub wrote : (gates : List Gate) (from from' to to' : Option (List ℕ)) → Wrote gates from from' to to' s → Outcome gates from from' to to' s
+  pub wrote : (gates : List Gate) (from from' to to' : Option (List ℕ)) → WroteText gates from from' to to' s → Outcome gates from from' to to' s
   pub no_words : s ≢ status.BadWords
   pub no_read : s ≢ status.ReadFault
   pub no_write : s ≢ status.WriteFault

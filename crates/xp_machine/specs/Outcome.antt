@@ -26,17 +26,17 @@ abbrev pub IsDue : List Gate → Option (List ℕ) → Option (List ℕ) → Sta
 IsDue gates from from' answer text = (bytes : List ℕ) × Took from from' bytes × IsAnswer gates (trace_of bytes) answer text
 
 -- the status is that of the bytes that were taken, and their text was written
-abbrev pub Wrote : List Gate → Option (List ℕ) → Option (List ℕ) → Option (List ℕ) → Option (List ℕ) → Status → Type 0
-Wrote gates from from' to to' answer = (text : List ℕ) × IsDue gates from from' answer text × Appends to to' text
+abbrev pub WroteText : List Gate → Option (List ℕ) → Option (List ℕ) → Option (List ℕ) → Option (List ℕ) → Status → Type 0
+WroteText gates from from' to to' answer = (text : List ℕ) × IsDue gates from from' answer text × Appends to to' text
 
 -- a front of the text that was due was written
 abbrev pub Broke : List Gate → Option (List ℕ) → Option (List ℕ) → Option (List ℕ) → Option (List ℕ) → Type 0
 Broke gates from from' to to' = (text : List ℕ) × (answer : Status) × IsDue gates from from' answer text × AppendsFront to to' text
 
 abbrev pub Outcome : List Gate → Option (List ℕ) → Option (List ℕ) → Option (List ℕ) → Option (List ℕ) → Status → Type 0
-Outcome gates from from' to to' status.Done = Wrote gates from from' to to' status.Done
-Outcome gates from from' to to' status.BadTrace = Wrote gates from from' to to' status.BadTrace
-Outcome gates from from' to to' status.TooLarge = Wrote gates from from' to to' status.TooLarge
+Outcome gates from from' to to' status.Done = WroteText gates from from' to to' status.Done
+Outcome gates from from' to to' status.BadTrace = WroteText gates from from' to to' status.BadTrace
+Outcome gates from from' to to' status.TooLarge = WroteText gates from from' to to' status.TooLarge
 Outcome gates from from' to to' status.WriteFault = Broke gates from from' to to'
 Outcome gates from from' to to' status.ReadFault = Keeps to to'
 Outcome gates from from' to to' status.Memory = Keeps to to'

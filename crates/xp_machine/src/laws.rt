@@ -1,20 +1,32 @@
 //! What holds of the turns of a run, as contracts of functions that do nothing.
-ghost use Rattle.std.specs.Prelude.{ℕ, ◌≡◌, ◌+◌, ◌<◌, true, length, slice_get, Some};
+ghost use Rattle.std.specs.Prelude.{ℕ, ◌≡◌, ◌+◌, ◌-◌, ◌<◌, All, List, true, length, slice_get, Some};
 ghost use Rattle.xp_words.specs.Machine.{Machine};
+ghost use Rattle.xp_words.specs.declared.ops.ExtOp.{ExtOp};
 ghost use Rattle.xp_words.specs.declared.ops.Op.{Op};
+ghost use Rattle.xp_words.specs.declared.ops.Pair.{Pair};
 ghost use Rattle.xp_preempt.specs.Gates.{Heard, last_ask};
-ghost use Rattle.vcpu_turn.specs.Cpus.{Processing, list_of};
+ghost use Rattle.vcpu_turn.specs.Asking.{AsksNothingWithin, HearsNoWithin, PausesRelease, PausesUnpin, Tried, asks_within, elements_tried};
+ghost use Rattle.vcpu_turn.specs.Cpus.{OfExt, OfPairs, Processing, list_of};
 ghost use Rattle.vcpu_turn.specs.Turning.{is_due};
 ghost use Rattle.xp_machine.specs.Gates.{Gate};
 ghost use Rattle.xp_machine.specs.Turns.{MakesStagedTurn, Stage, StaysWithin};
 ghost use Rattle.xp_machine.specs.Unpins.{ReleasesNothing, list_next};
 
-/// In a turn that releases nothing but what is settled the gate of that vCPU says no at each ask, but for the last one where the turn is paused for it.
+/// In a turn in which no element is done past a yes the gate of that vCPU says no at each ask, but for the last one where the turn is paused for it.
 pub fn a_turn_hears_no_until_it_pauses()
-    ensures { (n : Machine) (v : ℕ) (c : Processing) (s t : Stage) (m : MakesStagedTurn n v c s t) → ReleasesNothing (list_next (slice_get c.script (length c.log))) → Heard m.gate.says m.gate.asks m.asked.asks (is_due m.end) }
+    ensures { (n : Machine) (v : ℕ) (c : Processing) (s t : Stage) (m : MakesStagedTurn n v c s t) → HearsNoWithin (elements_tried m.turn) → Heard m.gate.says m.gate.asks m.asked.asks (is_due m.end) }
 {}
 
-/// So its list, which asks it behind each element but the last, does no more elements than asks up to one at which it says yes.
+/// So its operation, which asks it behind each element but the last, does no more elements than asks up to one at which it says yes, those within elements taken off.
 pub fn a_turn_stops_for_its_own_gate()
-    ensures { (n : Machine) (v : ℕ) (c : Processing) (s t : Stage) (g : Gate) (op : Op) (j : ℕ) → MakesStagedTurn n v c s t → slice_get s.gates v ≡ Some (Some g) → slice_get c.script (length c.log) ≡ Some op → ReleasesNothing (list_of op) → 0 < j → g.asks + j < last_ask → g.says (g.asks + j) ≡ true → StaysWithin v c s t (c.done + j) }
+    ensures { (n : Machine) (v : ℕ) (c : Processing) (s t : Stage) (g : Gate) (op : Op) (j : ℕ) → (m : MakesStagedTurn n v c s t) → slice_get s.gates v ≡ Some (Some g) → slice_get c.script (length c.log) ≡ Some op → HearsNoWithin (elements_tried m.turn) → 0 < j → g.asks + j < last_ask → g.says (g.asks + j) ≡ true → StaysWithin v c s t (c.done + (j - asks_within (elements_tried m.turn))) }
+{}
+
+/// No element is done past a yes in a turn with an operation that releases nothing, nor in one whose elements ask nothing; nor with any list, unless the gate pauses the release
+/// of what the old word of an exchanged entry asked, or of an unpinned frame.
+pub fn no_element_is_done_past_a_yes()
+    ensures lists { (n : Machine) (v : ℕ) (c : Processing) (s t : Stage) (m : MakesStagedTurn n v c s t) → ReleasesNothing (list_next (slice_get c.script (length c.log))) → HearsNoWithin (elements_tried m.turn) }
+    ensures silent { (n : Machine) (v : ℕ) (c : Processing) (s t : Stage) (m : MakesStagedTurn n v c s t) → AsksNothingWithin (elements_tried m.turn) → HearsNoWithin (elements_tried m.turn) }
+    ensures updates { (n : Machine) (v : ℕ) (c : Processing) (s t : Stage) (op : Op) (foreign : ℕ) (pairs : List Pair) (m : MakesStagedTurn n v c s t) → slice_get c.script (length c.log) ≡ Some op → list_of op ≡ Some (OfPairs foreign pairs) → All (λ (x : Tried). PausesRelease pairs x → ⊥) (elements_tried m.turn) → HearsNoWithin (elements_tried m.turn) }
+    ensures unpins { (n : Machine) (v : ℕ) (c : Processing) (s t : Stage) (op : Op) (list : List ExtOp) (m : MakesStagedTurn n v c s t) → slice_get c.script (length c.log) ≡ Some op → list_of op ≡ Some (OfExt list) → All (λ (x : Tried). PausesUnpin list x → ⊥) (elements_tried m.turn) → HearsNoWithin (elements_tried m.turn) }
 {}

@@ -1,22 +1,8 @@
-use Rattle.std.proofs.Common.{Ok, Err, sym, ap, ◌∙◌, subst, rules, ◌≡◌, ◌≢◌, ◌<◌, ◌≤◌, ℕ, Some, true, false, IfOk, IfErr, ◌+◌, ◌-◌, ◌*◌, length, ◌/◌, ◌%◌, Bool, nat_eq, nat_lt, List, [], ◌∷◌, ◌++◌, slice_index_or, slice_set, bit_and, bit_or, Fits, w8, w32, w64, Bor, MutBor}
-use Rattle.xp_words.specs.Entries.{is_slot}
-use Rattle.xp_words.specs.declared.entry.Demand.TheVariants.{Bad}
-use Rattle.partial_state.specs.Levels.{level_type}
-use Rattle.step_maker.specs.Holds.{MayWork, Rests}
-use Rattle.step_maker.specs.Moves.{Came}
+use Rattle.std.proofs.Common.{Ok, Err, sym, ap, ◌∙◌, subst, []}
 use Rattle.answer_fits.specs.Answers.{Stops}
-use Rattle.entry_locks.specs.Entries.{MaySwapEntry}
-use Rattle.foreign_map.specs.Owning.{MayMap}
 use Rattle.level_release.specs.Asking.{is_due_answer}
-use Rattle.level_validate.specs.Acquiring.{IsAcquireStop}
-use Rattle.table_words.specs.OldWords.{known_old}
-use Rattle.table_words.specs.declared.old_words.OldWord.TheVariants.{First, Second}
-use Rattle.entry_exchange.specs.Asking.{ServesExchange, of_exchange}
-use Rattle.entry_exchange.specs.Course.{ExchangesBy, PutEntry, new_demand, old_demand}
-use Rattle.entry_exchange.specs.Holding.{HoldsTableLock, LeavesExchange, owner_at}
-use Rattle.entry_exchange.specs.Parts.{BehindLook, HoldsSeen, LeavesPut, WasInside}
-use Rattle.entry_exchange.specs.Serving.{ServesPut, StopsPut}
-use Rattle.entry_exchange.specs.Words.{same_demand}
+use Rattle.entry_exchange.specs.Course.{PutEntry}
+use Rattle.entry_exchange.specs.Serving.{ServesPut}
 use Rattle.xp_words.specs.Entries.{demand_at}
 use Rattle.answer_fits.specs.Answers.{Serves}
 use Rattle.entry_exchange.specs.Course.{PutsNew}
@@ -30,26 +16,26 @@ use Rattle.step_maker.proofs.Coming.{came_trans}
 use Rattle.entry_exchange.proofs.ChangingDemand.{done_by, done_hand, given_hand, given_lock, given_works, lost_by, may_put, of_level, off_freed, off_inside, off_may, put_lock, put_works, undue, unput_taken, untaken_by, untaken_hand, untaken_lock}
 use Rattle.entry_exchange.proofs.exchanging.change_demand.Goals as goal
 
--- src/exchanging.rt:132:11
+-- src/exchanging.rt:134:11
 pub take_demand-requires-clause-asks : goal.take_demand-requires-clause-asks
 take_demand-requires-clause-asks g c =
     of_level c.args.update.level c.args.update.index _ c.args.wanted c.requires.wanted c.requires.fits
 
--- src/exchanging.rt:135:13
+-- src/exchanging.rt:137:13
 pub leave_lock-requires-clause-locked : goal.leave_lock-requires-clause-locked
 leave_lock-requires-clause-locked g c =
     let v = g.P.Port.value c.args.port.now in
     let u = g.P.Port.value c.take_demand.new.port in
     untaken_lock v c.args.update c.args.owners c.args.seen c.requires.locked c.args.wanted c.requires.wanted c.owner_at-owner.result c.owner_at-owner.ensures u c.in-Err.stop c.in-Err.ensures.hand
 
--- src/exchanging.rt:136:13
+-- src/exchanging.rt:138:13
 pub returns-in-Err-clause-came : goal.returns-in-Err-clause-came
 returns-in-Err-clause-came g c =
     let v = g.P.Port.value c.args.port.now in
     let u = g.P.Port.value c.take_demand.new.port in
     came_trans v u (g.P.Port.value c.leave_lock.new.port) c.take_demand.ensures.came c.leave_lock.ensures.came
 
--- src/exchanging.rt:136:13
+-- src/exchanging.rt:138:13
 pub returns-in-Err-clause-serves : goal.returns-in-Err-clause-serves
 returns-in-Err-clause-serves g c =
     let b = g.P.Port.value c.args.port.now in
@@ -62,7 +48,7 @@ returns-in-Err-clause-serves g c =
     λ a holds saw. untaken_serves a b x o c.args.seen holds saw c.requires.locked stop c.args.wanted c.requires.wanted fits y w c.leave_lock.ensures.serves
     (subst (λ k. ServesTaken b y c.args.wanted k o.frames (Err stop)) c.owner_at-owner.ensures (c.in-Err.ensures.serves o.frames))
 
--- src/exchanging.rt:136:13
+-- src/exchanging.rt:138:13
 pub returns-in-Err-clause-stops : goal.returns-in-Err-clause-stops
 returns-in-Err-clause-stops g c =
     let b = g.P.Port.value c.args.port.now in
@@ -75,28 +61,28 @@ returns-in-Err-clause-stops g c =
     λ a holds saw. untaken_stops a b x o c.args.seen holds saw c.requires.locked stop c.args.wanted c.requires.wanted fits y w c.leave_lock.ensures.serves c.take_demand.ensures.came
     (subst (λ k. Stops b y (of_demand c.args.wanted k o.frames (is_due_answer {A = Unit {0}} (Err stop))) stop) c.owner_at-owner.ensures (c.in-Err.ensures.stops o.frames))
 
--- src/exchanging.rt:136:13
+-- src/exchanging.rt:138:13
 pub returns-in-Err-clause-hand : goal.returns-in-Err-clause-hand
 returns-in-Err-clause-hand g c =
     let v = g.P.Port.value c.args.port.now in
     let u = g.P.Port.value c.take_demand.new.port in
     untaken_hand v c.args.update c.args.owners c.args.seen c.requires.locked c.args.wanted c.requires.wanted c.owner_at-owner.result c.owner_at-owner.ensures u c.in-Err.stop c.in-Err.ensures.hand (g.P.Port.value c.leave_lock.new.port) c.leave_lock.ensures.hand
 
--- src/exchanging.rt:136:13
+-- src/exchanging.rt:138:13
 pub returns-in-Err-clause-course : goal.returns-in-Err-clause-course
 returns-in-Err-clause-course g c =
     let v = g.P.Port.value c.args.port.now in
     let u = g.P.Port.value c.take_demand.new.port in
     λ a holds saw. untaken_by a v c.args.update c.args.owners c.args.seen saw c.args.wanted c.requires.wanted c.owner_at-owner.result c.owner_at-owner.ensures c.requires.other u _ _ _ _ _ (g.P.Port.value c.leave_lock.new.port) c.in-Err.stop c.in-Err.ensures.course c.leave_lock.ensures.course
 
--- src/exchanging.rt:140:11
+-- src/exchanging.rt:142:11
 pub put_entry-requires-clause-exchanges : goal.put_entry-requires-clause-exchanges
 put_entry-requires-clause-exchanges g c =
     let v = g.P.Port.value c.args.port.now in
     let u = g.P.Port.value c.take_demand.new.port in
     may_put v c.args.update c.args.owners c.args.seen c.requires.locked c.args.wanted c.requires.wanted c.owner_at-owner.result c.owner_at-owner.ensures u c.in-Ok.ensures.hand c.word_kept-new.result c.word_kept-new.ensures c.requires.maps c.take_demand.ensures.came c.requires.fits
 
--- src/exchanging.rt:142:13
+-- src/exchanging.rt:144:13
 pub leave_lock-requires-in-Ok-put_entry-clause-locked :
     goal.leave_lock-requires-in-Ok-put_entry-clause-locked
 leave_lock-requires-in-Ok-put_entry-clause-locked g c =
@@ -105,7 +91,7 @@ leave_lock-requires-in-Ok-put_entry-clause-locked g c =
     let z = g.P.Port.value c.put_entry.new.port in
     put_lock v c.args.update c.args.owners c.args.seen c.requires.locked c.args.wanted c.requires.wanted c.owner_at-owner.result c.owner_at-owner.ensures u c.in-Ok.ensures.hand c.word_kept-new.result c.word_kept-new.ensures c.requires.other z c.in-Ok-put_entry.old c.in-Ok-put_entry.ensures.hand
 
--- src/exchanging.rt:142:13
+-- src/exchanging.rt:144:13
 pub leave_lock-requires-in-Ok-put_entry-clause-works :
     goal.leave_lock-requires-in-Ok-put_entry-clause-works
 leave_lock-requires-in-Ok-put_entry-clause-works g c =
@@ -114,7 +100,7 @@ leave_lock-requires-in-Ok-put_entry-clause-works g c =
     let z = g.P.Port.value c.put_entry.new.port in
     put_works v c.args.update c.args.owners c.args.seen c.requires.locked c.args.wanted c.requires.wanted c.owner_at-owner.result c.owner_at-owner.ensures u c.in-Ok.ensures.hand c.word_kept-new.result c.word_kept-new.ensures c.requires.other z c.in-Ok-put_entry.old c.in-Ok-put_entry.ensures.hand
 
--- src/exchanging.rt:143:13
+-- src/exchanging.rt:145:13
 pub release_demand-requires-clause-may : goal.release_demand-requires-clause-may
 release_demand-requires-clause-may g c =
     let v = g.P.Port.value c.args.port.now in
@@ -123,7 +109,7 @@ release_demand-requires-clause-may g c =
     let p = g.P.Port.value c.leave_lock-in-Ok-put_entry.new.port in
     off_may v c.args.update c.args.owners c.args.seen c.requires.locked c.args.wanted c.requires.wanted c.owner_at-owner.result c.owner_at-owner.ensures u c.in-Ok.ensures.hand c.word_kept-new.result c.word_kept-new.ensures c.requires.other z c.in-Ok-put_entry.old c.in-Ok-put_entry.ensures.hand p c.leave_lock-in-Ok-put_entry.ensures.hand c.requires.may
 
--- src/exchanging.rt:143:13
+-- src/exchanging.rt:145:13
 pub release_demand-requires-clause-inside : goal.release_demand-requires-clause-inside
 release_demand-requires-clause-inside g c =
     let v = g.P.Port.value c.args.port.now in
@@ -133,7 +119,7 @@ release_demand-requires-clause-inside g c =
     let named = c.demand.ensures ∙ ap (λ k. demand_at k c.args.update.index c.in-Ok-put_entry.old) c.level_type.ensures in
     off_inside v c.args.update c.args.owners c.args.seen c.requires.locked c.args.wanted c.requires.wanted c.owner_at-owner.result c.owner_at-owner.ensures u c.in-Ok.ensures.hand c.word_kept-new.result c.word_kept-new.ensures c.requires.other z c.in-Ok-put_entry.old c.in-Ok-put_entry.ensures.hand p c.leave_lock-in-Ok-put_entry.ensures.hand c.demand.result named c.in-Ok-put_entry.ensures.inside
 
--- src/exchanging.rt:143:13
+-- src/exchanging.rt:145:13
 pub release_demand-requires-clause-freed : goal.release_demand-requires-clause-freed
 release_demand-requires-clause-freed g c =
     let v = g.P.Port.value c.args.port.now in
@@ -143,12 +129,12 @@ release_demand-requires-clause-freed g c =
     let named = c.demand.ensures ∙ ap (λ k. demand_at k c.args.update.index c.in-Ok-put_entry.old) c.level_type.ensures in
     off_freed v c.args.update c.args.owners c.args.seen c.requires.locked c.args.wanted c.requires.wanted c.owner_at-owner.result c.owner_at-owner.ensures u c.in-Ok.ensures.hand c.word_kept-new.result c.word_kept-new.ensures c.requires.other z c.in-Ok-put_entry.old c.in-Ok-put_entry.ensures.hand p c.leave_lock-in-Ok-put_entry.ensures.hand c.demand.result named (came_trans u z p c.put_entry.ensures.came c.leave_lock-in-Ok-put_entry.ensures.came)
 
--- src/exchanging.rt:147:13
+-- src/exchanging.rt:153:13
 pub give_demand-requires-clause-asks : goal.give_demand-requires-clause-asks
 give_demand-requires-clause-asks g c =
     of_level c.args.update.level c.args.update.index _ c.args.wanted c.requires.wanted c.requires.fits
 
--- src/exchanging.rt:147:13
+-- src/exchanging.rt:153:13
 pub give_demand-requires-clause-taken : goal.give_demand-requires-clause-taken
 give_demand-requires-clause-taken g c =
     let v = g.P.Port.value c.args.port.now in
@@ -156,7 +142,7 @@ give_demand-requires-clause-taken g c =
     let z = g.P.Port.value c.put_entry.new.port in
     unput_taken v c.args.update c.args.owners c.args.seen c.requires.locked c.args.wanted c.requires.wanted c.owner_at-owner.result c.owner_at-owner.ensures u c.in-Ok.ensures.hand z c.in-Err-put_entry.ensures.hand.0 c.in-Err-put_entry.ensures.hand.1
 
--- src/exchanging.rt:148:13
+-- src/exchanging.rt:154:13
 pub leave_lock-requires-in-Err-put_entry-clause-locked :
     goal.leave_lock-requires-in-Err-put_entry-clause-locked
 leave_lock-requires-in-Err-put_entry-clause-locked g c =
@@ -166,7 +152,7 @@ leave_lock-requires-in-Err-put_entry-clause-locked g c =
     let p = g.P.Port.value c.give_demand.new.port in
     given_lock v c.args.update c.args.owners c.args.seen c.requires.locked c.args.wanted c.requires.wanted c.owner_at-owner.result c.owner_at-owner.ensures u c.in-Ok.ensures.hand z c.in-Err-put_entry.ensures.hand.0 c.in-Err-put_entry.ensures.hand.1 p c.give_demand.ensures.hand
 
--- src/exchanging.rt:148:13
+-- src/exchanging.rt:154:13
 pub leave_lock-requires-in-Err-put_entry-clause-works :
     goal.leave_lock-requires-in-Err-put_entry-clause-works
 leave_lock-requires-in-Err-put_entry-clause-works g c =
@@ -176,7 +162,7 @@ leave_lock-requires-in-Err-put_entry-clause-works g c =
     let p = g.P.Port.value c.give_demand.new.port in
     given_works v c.args.update c.args.owners c.args.seen c.requires.locked c.args.wanted c.requires.wanted c.owner_at-owner.result c.owner_at-owner.ensures u c.in-Ok.ensures.hand z c.in-Err-put_entry.ensures.hand.0 c.in-Err-put_entry.ensures.hand.1 p c.give_demand.ensures.hand
 
--- src/exchanging.rt:100:1
+-- src/exchanging.rt:102:1
 pub returns-in-Ok-put_entry-clause-came : goal.returns-in-Ok-put_entry-clause-came
 returns-in-Ok-put_entry-clause-came g c =
     let v = g.P.Port.value c.args.port.now in
@@ -187,7 +173,7 @@ returns-in-Ok-put_entry-clause-came g c =
     (came_trans u z (g.P.Port.value c.release_demand.new.port) c.put_entry.ensures.came
     (came_trans z p (g.P.Port.value c.release_demand.new.port) c.leave_lock-in-Ok-put_entry.ensures.came c.release_demand.ensures.came))
 
--- src/exchanging.rt:100:1
+-- src/exchanging.rt:102:1
 pub returns-in-Ok-put_entry-clause-serves : goal.returns-in-Ok-put_entry-clause-serves
 returns-in-Ok-put_entry-clause-serves g c =
     let b = g.P.Port.value c.args.port.now in
@@ -208,7 +194,7 @@ returns-in-Ok-put_entry-clause-serves g c =
     λ a holds saw. done_serves a b x o c.args.seen holds saw c.requires.locked c.args.wanted c.requires.wanted fits y z c.take_demand.ensures.came taken c.put_entry.ensures.came old l w put leaves
     c.leave_lock-in-Ok-put_entry.ensures.serves c.release_demand.ensures.came serves given
 
--- src/exchanging.rt:100:1
+-- src/exchanging.rt:102:1
 pub returns-in-Ok-put_entry-clause-hand : goal.returns-in-Ok-put_entry-clause-hand
 returns-in-Ok-put_entry-clause-hand g c =
     let v = g.P.Port.value c.args.port.now in
@@ -218,7 +204,7 @@ returns-in-Ok-put_entry-clause-hand g c =
     let named = c.demand.ensures ∙ ap (λ k. demand_at k c.args.update.index c.in-Ok-put_entry.old) c.level_type.ensures in
     done_hand v c.args.update c.args.owners c.args.seen c.requires.locked c.args.wanted c.requires.wanted c.owner_at-owner.result c.owner_at-owner.ensures u c.in-Ok.ensures.hand c.word_kept-new.result c.word_kept-new.ensures c.requires.other z c.in-Ok-put_entry.old c.in-Ok-put_entry.ensures.hand p c.leave_lock-in-Ok-put_entry.ensures.hand c.demand.result named (g.P.Port.value c.release_demand.new.port) c.release_demand.ensures.hand
 
--- src/exchanging.rt:100:1
+-- src/exchanging.rt:102:1
 pub returns-in-Ok-put_entry-clause-course : goal.returns-in-Ok-put_entry-clause-course
 returns-in-Ok-put_entry-clause-course g c =
     let v = g.P.Port.value c.args.port.now in
@@ -230,7 +216,7 @@ returns-in-Ok-put_entry-clause-course g c =
     c.word_kept-new.result c.word_kept-new.ensures z p (g.P.Port.value c.release_demand.new.port) c.in-Ok-put_entry.old _ _ _ c.take_demand.ensures.says c.in-Ok-put_entry.ensures.course
     c.leave_lock-in-Ok-put_entry.ensures.course c.demand.result named c.release_demand.ensures.course
 
--- src/exchanging.rt:100:1
+-- src/exchanging.rt:102:1
 pub returns-in-Err-put_entry-clause-came : goal.returns-in-Err-put_entry-clause-came
 returns-in-Err-put_entry-clause-came g c =
     let v = g.P.Port.value c.args.port.now in
@@ -240,7 +226,7 @@ returns-in-Err-put_entry-clause-came g c =
     let w = g.P.Port.value c.leave_lock-in-Err-put_entry.new.port in
     came_trans v u w c.take_demand.ensures.came (came_trans u z w c.put_entry.ensures.came (came_trans z p w c.give_demand.ensures.came c.leave_lock-in-Err-put_entry.ensures.came))
 
--- src/exchanging.rt:100:1
+-- src/exchanging.rt:102:1
 pub returns-in-Err-put_entry-clause-serves : goal.returns-in-Err-put_entry-clause-serves
 returns-in-Err-put_entry-clause-serves g c =
     let b = g.P.Port.value c.args.port.now in
@@ -258,7 +244,7 @@ returns-in-Err-put_entry-clause-serves g c =
     λ a holds saw. lost_serves a b x o c.args.seen holds saw c.requires.locked c.args.wanted c.requires.wanted fits y z c.take_demand.ensures.came taken c.put_entry.ensures.came stop q w put
     c.leave_lock-in-Err-put_entry.ensures.serves serves c.give_demand.ensures.serves
 
--- src/exchanging.rt:100:1
+-- src/exchanging.rt:102:1
 pub returns-in-Err-put_entry-clause-stops : goal.returns-in-Err-put_entry-clause-stops
 returns-in-Err-put_entry-clause-stops g c =
     let b = g.P.Port.value c.args.port.now in
@@ -275,7 +261,7 @@ returns-in-Err-put_entry-clause-stops g c =
     λ a holds saw. lost_stops a b x o c.args.seen holds saw c.requires.locked c.args.wanted c.requires.wanted fits y z c.take_demand.ensures.came taken c.put_entry.ensures.came stop q w put
     c.leave_lock-in-Err-put_entry.ensures.serves c.in-Err-put_entry.ensures.stops c.give_demand.ensures.came
 
--- src/exchanging.rt:100:1
+-- src/exchanging.rt:102:1
 pub returns-in-Err-put_entry-clause-hand : goal.returns-in-Err-put_entry-clause-hand
 returns-in-Err-put_entry-clause-hand g c =
     let v = g.P.Port.value c.args.port.now in
@@ -284,7 +270,7 @@ returns-in-Err-put_entry-clause-hand g c =
     let p = g.P.Port.value c.give_demand.new.port in
     given_hand v c.args.update c.args.owners c.args.seen c.requires.locked c.args.wanted c.requires.wanted c.owner_at-owner.result c.owner_at-owner.ensures u c.in-Ok.ensures.hand z c.in-Err-put_entry.ensures.hand.0 c.in-Err-put_entry.ensures.hand.1 p c.give_demand.ensures.hand (g.P.Port.value c.leave_lock-in-Err-put_entry.new.port) c.leave_lock-in-Err-put_entry.ensures.hand
 
--- src/exchanging.rt:100:1
+-- src/exchanging.rt:102:1
 pub returns-in-Err-put_entry-clause-course : goal.returns-in-Err-put_entry-clause-course
 returns-in-Err-put_entry-clause-course g c =
     let v = g.P.Port.value c.args.port.now in
@@ -295,7 +281,7 @@ returns-in-Err-put_entry-clause-course g c =
     c.word_kept-new.result c.word_kept-new.ensures z p (g.P.Port.value c.leave_lock-in-Err-put_entry.new.port) c.in-Err-put_entry.stop c.in-Err-put_entry.ensures.course c.give_demand.ensures.course
     c.leave_lock-in-Err-put_entry.ensures.course
 
--- src/exchanging.rt:100:1
+-- src/exchanging.rt:102:1
 pub returns-in-Err-put_entry-clause-calm : goal.returns-in-Err-put_entry-clause-calm
 returns-in-Err-put_entry-clause-calm g c =
     let v = g.P.Port.value c.args.port.now in

@@ -1,21 +1,12 @@
-use Rattle.std.proofs.Common.{Result, refl, Ok, Err, sym, ap, ◌∙◌, subst, rules, ◌≡◌, ◌≢◌, ◌<◌, ◌≤◌, ℕ, Some, true, false, IfOk, IfErr, ◌+◌, ◌-◌, ◌*◌, length, ◌/◌, ◌%◌, Bool, nat_eq, nat_lt, List, [], ◌∷◌, ◌++◌, slice_index_or, slice_set, bit_and, bit_or, Fits, w8, w32, w64, Bor, MutBor}
-use Rattle.xp_words.specs.Entries.{is_slot}
+use Rattle.std.proofs.Common.{Result, refl, Ok, Err, sym, ap, ◌∙◌, subst, ◌≡◌, true, false, IfErr, []}
 use Rattle.xp_words.specs.declared.entry.Demand.TheVariants.{Bad}
 use Rattle.partial_state.specs.Levels.{level_type}
-use Rattle.step_maker.specs.Holds.{MayWork, Rests}
-use Rattle.step_maker.specs.Moves.{Came}
 use Rattle.answer_fits.specs.Answers.{Stops}
-use Rattle.entry_locks.specs.Entries.{MaySwapEntry}
-use Rattle.foreign_map.specs.Owning.{MayMap}
 use Rattle.level_release.specs.Asking.{is_due_answer}
 use Rattle.level_validate.specs.Acquiring.{IsAcquireStop}
-use Rattle.table_words.specs.OldWords.{known_old}
-use Rattle.table_words.specs.declared.old_words.OldWord.TheVariants.{First, Second}
 use Rattle.entry_exchange.specs.Asking.{ServesExchange, of_exchange}
-use Rattle.entry_exchange.specs.Course.{ExchangesBy, PutEntry, new_demand, old_demand}
-use Rattle.entry_exchange.specs.Holding.{HoldsTableLock, LeavesExchange, owner_at}
-use Rattle.entry_exchange.specs.Parts.{BehindLook, HoldsSeen, LeavesPut, WasInside}
-use Rattle.entry_exchange.specs.Serving.{ServesPut, StopsPut}
+use Rattle.entry_exchange.specs.Course.{new_demand, old_demand}
+use Rattle.entry_exchange.specs.Serving.{ServesPut}
 use Rattle.entry_exchange.specs.Words.{same_demand}
 use Rattle.std.proofs.lemmas.Result.{err_from_is_err_and}
 use Rattle.xp_words.specs.Entries.{demand_at}
@@ -26,11 +17,12 @@ use Rattle.entry_exchange.proofs.StopsBad.{bad_serves, bad_stops}
 use Rattle.step_maker.proofs.Coming.{came_trans, moves_came}
 use Rattle.xp_words.specs.declared.reply.Stop.{Stop}
 use Rattle.entry_exchange.proofs.ChangingDemand.{undue}
-use Rattle.entry_exchange.proofs.ExchangingEntry.{bad_by, bad_hand, changed_hand, demand_told, frames_then, keep_hand, keep_lock, keep_may, keep_old1, keep_works, look_lock, look_maps, look_may, look_old0, look_old1, look_works, may_keep, new_told, same_by, same_told, unput_by, with_answer}
+use Rattle.entry_exchange.proofs.ExchangingEntry.{bad_by, bad_course, bad_hand, changed_hand, demand_told, frames_then, keep_hand, keep_lock, keep_may, keep_old1, keep_works, look_lock, look_maps, look_may, look_old0, look_old1, look_works, may_keep, new_told, same_by, same_course, same_told, unput_by, unput_course, with_answer}
 use Rattle.entry_exchange.proofs.Standing.{holds_seen, rests_then}
+use Rattle.entry_exchange.proofs.Steps.{exchange_short}
 use Rattle.entry_exchange.proofs.exchanging.exchange_entry.Goals as goal
 
--- src/exchanging.rt:83:9
+-- src/exchanging.rt:85:9
 pub leave_lock-requires-clause-locked : goal.leave_lock-requires-clause-locked
 leave_lock-requires-clause-locked g c =
     let v = g.P.Port.value c.args.port.now in
@@ -41,7 +33,7 @@ leave_lock-requires-clause-locked g c =
     let saw = c.look_cell-seen.ensures.moves in
     look_lock v x o c.requires.locked b seen c.look_cell-seen.ensures.hand
 
--- src/exchanging.rt:83:9
+-- src/exchanging.rt:85:9
 pub leave_lock-requires-clause-works : goal.leave_lock-requires-clause-works
 leave_lock-requires-clause-works g c =
     let v = g.P.Port.value c.args.port.now in
@@ -52,7 +44,7 @@ leave_lock-requires-clause-works g c =
     let saw = c.look_cell-seen.ensures.moves in
     look_works v x o c.requires.locked b seen c.look_cell-seen.ensures.hand
 
--- src/exchanging.rt:84:9
+-- src/exchanging.rt:86:9
 pub returns-in-Bad-clause-came : goal.returns-in-Bad-clause-came
 returns-in-Bad-clause-came g c =
     let v = g.P.Port.value c.args.port.now in
@@ -65,7 +57,7 @@ returns-in-Bad-clause-came g c =
     let came = moves_came v b _ _ _ _ _ saw in
     came_trans v b w came c.leave_lock.ensures.came
 
--- src/exchanging.rt:84:9
+-- src/exchanging.rt:86:9
 pub returns-in-Bad-clause-serves : goal.returns-in-Bad-clause-serves
 returns-in-Bad-clause-serves g c =
     let v = g.P.Port.value c.args.port.now in
@@ -77,7 +69,7 @@ returns-in-Bad-clause-serves g c =
     let w = g.P.Port.value c.leave_lock.new.port in
     subst (λ n. ServesExchange v w x o (Err (Refused (Reserved x.table x.index n)))) (sym c.word_kept-new.ensures) (bad_serves v b w x o seen c.requires.locked saw c.leave_lock.ensures.serves)
 
--- src/exchanging.rt:84:9
+-- src/exchanging.rt:86:9
 pub returns-in-Bad-clause-stops : goal.returns-in-Bad-clause-stops
 returns-in-Bad-clause-stops g c =
     let v = g.P.Port.value c.args.port.now in
@@ -91,7 +83,7 @@ returns-in-Bad-clause-stops g c =
     subst (λ n. Stops v w (of_exchange x o (Err (Refused (Reserved x.table x.index n)))) (Refused (Reserved x.table x.index n))) (sym c.word_kept-new.ensures)
     (bad_stops v b w x o seen c.requires.locked saw c.leave_lock.ensures.serves bad)
 
--- src/exchanging.rt:84:9
+-- src/exchanging.rt:86:9
 pub returns-in-Bad-clause-hand : goal.returns-in-Bad-clause-hand
 returns-in-Bad-clause-hand g c =
     let v = g.P.Port.value c.args.port.now in
@@ -103,7 +95,7 @@ returns-in-Bad-clause-hand g c =
     let w = g.P.Port.value c.leave_lock.new.port in
     bad_hand v x o c.requires.locked b seen c.look_cell-seen.ensures.hand w c.leave_lock.ensures.hand
 
--- src/exchanging.rt:84:9
+-- src/exchanging.rt:86:9
 pub returns-in-Bad-clause-rests : goal.returns-in-Bad-clause-rests
 returns-in-Bad-clause-rests g c =
     let v = g.P.Port.value c.args.port.now in
@@ -116,7 +108,7 @@ returns-in-Bad-clause-rests g c =
     let hand = bad_hand v x o c.requires.locked b seen c.look_cell-seen.ensures.hand w c.leave_lock.ensures.hand in
     rests_then v x.table x.level o.tables c.requires.locked w c.requires.may hand
 
--- src/exchanging.rt:84:9
+-- src/exchanging.rt:86:9
 pub returns-in-Bad-clause-course : goal.returns-in-Bad-clause-course
 returns-in-Bad-clause-course g c =
     let v = g.P.Port.value c.args.port.now in
@@ -129,7 +121,20 @@ returns-in-Bad-clause-course g c =
     let wanted = new_told x seen c.word_kept-new.result c.level_type-kind.result c.demand-wanted.result c.level_type-kind.ensures c.word_kept-new.ensures c.demand-wanted.ensures in
     bad_by v b x o seen saw c.word_kept-new.result c.word_kept-new.ensures w _ _ _ (sym wanted ∙ c.in-Bad.is) c.leave_lock.ensures.course
 
--- src/exchanging.rt:91:13
+-- src/exchanging.rt:86:9
+pub returns-in-Bad-clause-short : goal.returns-in-Bad-clause-short
+returns-in-Bad-clause-short g c =
+    let v = g.P.Port.value c.args.port.now in
+    let b = g.P.Port.value c.look_cell-seen.new.port in
+    let x = c.args.update in
+    let o = c.args.owners in
+    let seen = c.look_cell-seen.result in
+    let saw = c.look_cell-seen.ensures.moves in
+    let w = g.P.Port.value c.leave_lock.new.port in
+    let wanted = new_told x seen c.word_kept-new.result c.level_type-kind.result c.demand-wanted.result c.level_type-kind.ensures c.word_kept-new.ensures c.demand-wanted.ensures in
+    exchange_short v w x o [] _ c.requires.may.machine (bad_course v b x o seen saw c.word_kept-new.result c.word_kept-new.ensures w (sym wanted ∙ c.in-Bad.is) c.leave_lock.ensures.course)
+
+-- src/exchanging.rt:93:13
 pub put_entry-put-requires : goal.put_entry-put-requires
 put_entry-put-requires g c =
     let v = g.P.Port.value c.args.port.now in
@@ -148,7 +153,7 @@ put_entry-put-requires g c =
       exchanges = may_keep v x o c.requires.locked b seen c.look_cell-seen.ensures.hand c.word_kept-new.result c.word_kept-new.ensures same;
     }
 
--- src/exchanging.rt:92:9
+-- src/exchanging.rt:94:9
 pub leave_lock-requires-then-is_same : goal.leave_lock-requires-then-is_same
 leave_lock-requires-then-is_same g c =
     let v = g.P.Port.value c.args.port.now in
@@ -171,7 +176,7 @@ leave_lock-requires-then-is_same g c =
       room = keep_old1 v x o c.requires.locked b seen c.look_cell-seen.ensures.hand c.word_kept-new.result c.word_kept-new.ensures same z c.put_entry-put.result c.put_entry-put.ensures.hand ∙ c.requires.room_too;
     }
 
--- src/exchanging.rt:93:9
+-- src/exchanging.rt:95:9
 pub returns-in_err-put : goal.returns-in_err-put
 returns-in_err-put g c =
     let v = g.P.Port.value c.args.port.now in
@@ -200,12 +205,13 @@ returns-in_err-put g c =
       hand = hand;
       rests = rests_then v x.table x.level o.tables c.requires.locked w c.requires.may hand;
       course = with_answer v w x o _ _ _ _ _ c.from_residual.result (Err stop) is (unput_by v b x o seen saw c.word_kept-new.result c.word_kept-new.ensures w _ _ _ same z stop c.in_err-put.ensures.course c.leave_lock-then-is_same.ensures.course);
+      short = exchange_short v w x o [] (Err stop) c.requires.may.machine (unput_course v b x o seen saw c.word_kept-new.result c.word_kept-new.ensures w same z stop c.in_err-put.ensures.course c.leave_lock-then-is_same.ensures.course);
       says = λ n. refl;
       paces = refl;
       calm = λ calm. (ap (λ (y : Result (Unit {0}) Stop). is_due_answer y) is ∙ undue b z x.table x.index seen c.word_kept-new.result x.keep stop c.in_err-put.ensures.course, calm);
     }
 
--- src/exchanging.rt:94:9
+-- src/exchanging.rt:96:9
 pub returns-then-is_same : goal.returns-then-is_same
 returns-then-is_same g c =
     let v = g.P.Port.value c.args.port.now in
@@ -231,12 +237,13 @@ returns-then-is_same g c =
       hand = hand;
       rests = rests_then v x.table x.level o.tables c.requires.locked w c.requires.may hand;
       course = same_by v b x o seen saw c.word_kept-new.result c.word_kept-new.ensures w _ _ _ same z c.in_ok-put.field-0 c.in_ok-put.ensures.course c.leave_lock-then-is_same.ensures.course;
+      short = exchange_short v w x o [] (Ok tt) c.requires.may.machine (same_course v b x o seen saw c.word_kept-new.result c.word_kept-new.ensures w same z old c.in_ok-put.ensures.course c.leave_lock-then-is_same.ensures.course);
       says = λ n. refl;
       paces = refl;
       calm = λ calm. (refl, calm);
     }
 
--- src/exchanging.rt:96:5
+-- src/exchanging.rt:98:5
 pub change_demand-requires : goal.change_demand-requires
 change_demand-requires g c =
     let v = g.P.Port.value c.args.port.now in
@@ -278,6 +285,7 @@ returns g c =
     let hand = changed_hand v x o c.requires.locked b seen c.look_cell-seen.ensures.hand w c.change_demand.ensures.hand in
     let serves = c.change_demand.ensures.serves v c.requires.locked saw in
     let stops = c.change_demand.ensures.stops v c.requires.locked saw in
+    let by = c.change_demand.ensures.course v c.requires.locked saw in
     record {
       came = came_trans v b w came c.change_demand.ensures.came;
       serves = serves;
@@ -285,7 +293,8 @@ returns g c =
       kinds = c.change_demand.ensures.kinds;
       hand = hand;
       rests = rests_then v x.table x.level o.tables c.requires.locked w c.requires.may hand;
-      course = c.change_demand.ensures.course v c.requires.locked saw;
+      course = by;
+      short = exchange_short v w x o by.answers _ c.requires.may.machine by.course;
       says = c.change_demand.ensures.says;
       paces = c.change_demand.ensures.paces;
       calm = c.change_demand.ensures.calm;

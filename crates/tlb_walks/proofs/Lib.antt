@@ -1,0 +1,10 @@
+pub mod Descending
+pub mod Flushes
+pub mod Guests
+pub mod Passing
+pub mod Paths
+pub mod Reading
+pub mod RowSteps
+pub mod Storing
+pub mod Turning
+pub mod Walking

@@ -1,0 +1,4 @@
+use Rattle.tlb_walks.proofs.levels.+walk_from.Given as goal
+
+abbrev pub decreases-walk_from : goal.decreases-walk_from
+decreases-walk_from g l = l.flight.now.level
