@@ -187,8 +187,8 @@ module _ (v u : PortValue) (va : ℕ) (b : Option ℕ) (f : Flight) (i x : ℕ) 
   last_hand last = (
     mapped_inside v.post.machine x mapped,
     turned_as v u _ _
-    (below_end v.post.machine.frames (with_entry i x f) _ (translating v.holdings) inside last
-    ∙ ap (λ (y : Item). record { items = cached_with y v.holdings.cache; flight = None }) (item_is last)) hand,
+        (below_end v.post.machine.frames (with_entry i x f) _ (translating v.holdings) inside last
+        ∙ ap (λ (y : Item). record { items = cached_with y v.holdings.cache; flight = None }) (item_is last)) hand,
   )
 
   -- it comes to the table below
@@ -222,6 +222,6 @@ module _ (v u : PortValue) (va : ℕ) (b : Option ℕ) (f : Flight) (i x : ℕ) 
       let down = next_to more in (
         subst (λ (p : Post). frame_of r.entry < p.machine.frames) (turned_post v u _ down) few,
         turned_then v u w _ _ down
-        (turned_as u w _ _ (ap (λ (t : Translating). record { items = cached_with (item_by f.user va f.write r) t.items; flight = None }) (turned_is v u _ down)) turn),
+            (turned_as u w _ _ (ap (λ (t : Translating). record { items = cached_with (item_by f.user va f.write r) t.items; flight = None }) (turned_is v u _ down)) turn),
       )
   next_hand w (Err e) more turn = let down = next_to more in turned_then v u w _ _ down (turned_as u w _ _ (ap (λ (t : Translating). landed t) (turned_is v u _ down)) turn)

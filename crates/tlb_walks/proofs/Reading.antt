@@ -25,7 +25,7 @@ use Rattle.tlb_walks.specs.Guesting.{ReadMoves, barred, cached, stopped, walked}
 use Rattle.tlb_walks.specs.Translating.{WalkedTo}
 use Rattle.tlb_walks.specs.declared.walks.Walked.{Walked}
 use Rattle.tlb_walks.proofs.Guests.{landed_then, ready_then}
-use Rattle.tlb_walks.proofs.Turning.{rests_of, same_ready, turned_landed, turned_ready}
+use Rattle.tlb_walks.proofs.Turning.{same_ready, turned_landed, turned_ready}
 use Rattle.tlb_walks.proofs.Walking.{stopped_same, walk_came, walk_does, walk_kind, walk_serves, walk_stops, walked_to}
 
 -- ---- the address alone

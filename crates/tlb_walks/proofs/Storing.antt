@@ -8,7 +8,6 @@ use Rattle.xp_board.specs.FillSteps.{cached_with}
 use Rattle.xp_board.specs.Lists.{first_of}
 use Rattle.xp_board.specs.Told.{PortValue, cached_item, is_item}
 use Rattle.board_lemmas.proofs.Sums.{when_eq}
-use Rattle.step_maker.specs.Holds.{Same}
 use Rattle.step_maker.specs.Moves.{Came, Met}
 use Rattle.step_maker.proofs.Coming.{came_self, came_trans, moves_came}
 use Rattle.answer_fits.specs.Answers.{Serves, Stops}
@@ -26,7 +25,7 @@ use Rattle.tlb_walks.specs.Translating.{item_by}
 use Rattle.tlb_walks.specs.declared.walks.Walked.{Walked}
 use Rattle.tlb_walks.proofs.Guests.{landed_then, new_first, ready_then, server_cached}
 use Rattle.tlb_walks.proofs.Reading.{no_refusal, refused_kind, refused_stops, stayed_does, stayed_same, walked_then}
-use Rattle.tlb_walks.proofs.Turning.{rests_of, same_ready, turned_landed, turned_ready}
+use Rattle.tlb_walks.proofs.Turning.{same_ready, turned_landed, turned_ready}
 use Rattle.tlb_walks.proofs.Walking.{stopped_same, walk_barrier, walk_came, walk_does, walk_kind, walk_last, walk_serves, walk_stops, walked_to}
 
 -- the newest translation of the page is the one in front
@@ -68,7 +67,7 @@ module _ (v w : PortValue) (user : Bool) (va val : ℕ) where
         item_by user va true r,
         ap (λ (q : PortValue). cached_item user (page_of va) q.holdings.cache) same ∙ ap (λ xs. cached_item user (page_of va) xs) (new_first v u user va true r hand) ∙ first_new user va true r v.holdings.cache,
         serves_step v u w asks [] _ _ _ _ _ (walk_serves user va true asks refl refl v u (Ok r) m) k
-        (of 0 None (walked_to_it last.0 last.1 r.entry refl (found_before v u w _ _ (moves_came u w _ _ _ _ _ k) last.2) refl refl tt)),
+            (of 0 None (walked_to_it last.0 last.1 r.entry refl (found_before v u w _ _ (moves_came u w _ _ _ _ _ k) last.2) refl refl tt)),
       )
 
   no_write : (r : Walked) (e : ℕ) → r.barrier ≡ Some e → WalkMoves v w user va true (Ok r) → Stops v w asks (Refused (ReadOnly e))

@@ -53,7 +53,7 @@ base_few n s w false e = let v = e.1 in grind (arith, nat_tests)
 pub base_inside : (n : Machine) (s w : ℕ) (user : Bool) (h : Holdings) → Finds n s h (Vcpu s (top_word user)) w → (w ≤ n.frames) × (n.frames ≤ 65536)
 base_inside n s w user h f = (
   base_few n s w user
-  (subst (λ x. IsSpelling n (Vcpu s (top_word user)) x) f.word (f.sound.spelled.spelled (Vcpu s (top_word user)) (vcpu_there (sizes_of n) s (top_word user) f.real (small_word user)))),
+      (subst (λ x. IsSpelling n (Vcpu s (top_word user)) x) f.word (f.sound.spelled.spelled (Vcpu s (top_word user)) (vcpu_there (sizes_of n) s (top_word user) f.real (small_word user)))),
   f.sound.machine.few_frames,
 )
 

@@ -149,10 +149,12 @@ fn write_word<P: Port>(port: &mut P, user: bool, va: u64, val: u64) -> Result<()
     }
 }
 
-/// A guest's load of the 8 bytes at an address, by the user's top table or the kernel's. A cached translation of the page
-/// serves it by one step, whatever its entries say now; without one it walks (see `walk`), and loads through the translation
-/// that the walk brings. Refused are, in this order: an address that is not canonical, one whose bits 0 to 2 are not 0, one
-/// in the hypervisor's slots, and what the walk refuses. It pauses where the walk does. Nothing else is in hand then as before.
+/// A guest's load of the 8 bytes at the address `va`, by the user's top table or the kernel's. The newest cached translation of
+/// its page serves it by one step, whatever the entries say now; where there is none it walks (see `walk`), and loads
+/// through the translation that the walk brings. The vCPU itself calls it, as it calls `walk`.
+///
+/// Refused are, in this order: an address that is not canonical, one whose bits 0 to 2 are not 0, one in the hypervisor's
+/// slots, and what the walk refuses. It pauses where the walk does.
 pub fn guest_read<P: Port>(port: &mut P, user: bool, va: u64) -> Result<u64, Stop>
     requires rests { Rests (P.value port.old) }
     requires warm { (P.value port.old).holdings.cold ≡ false }
@@ -169,11 +171,13 @@ pub fn guest_read<P: Port>(port: &mut P, user: bool, va: u64) -> Result<u64, Sto
     read_word(port, user, va)
 }
 
-/// A guest's store of 8 bytes at an address. A cached translation of the page serves it by one step where it is writable and
-/// dirty; where it is not, or there is none, it walks for a write, and stores through the translation that the walk brings.
-/// Refused are the addresses that `guest_read` refuses, what the walk refuses, and a page to which one of the four entries
-/// cannot be written (its bit 1 is 0): with the first of them from level 4 down, as the walk found it. Its translation stands
-/// in the cache then.
+/// A guest's store of `val` in the 8 bytes at the address `va`. The newest cached translation of its page serves it by one step
+/// where it is writable and dirty; where it is not, or there is none, it walks for a write, and stores through the
+/// translation that the walk brings. The vCPU itself calls it, as it calls `walk`.
+///
+/// Refused are the addresses that `guest_read` refuses, what the walk refuses, and a page that one of its four entries does
+/// not let be written (bit 1 is 0): with the first of them, from level 4 down, as the walk loaded it. The translation of
+/// such a page is cached then, for reads. It pauses where the walk does.
 pub fn guest_write<P: Port>(port: &mut P, user: bool, va: u64, val: u64) -> Result<(), Stop>
     requires rests { Rests (P.value port.old) }
     requires warm { (P.value port.old).holdings.cold ≡ false }

@@ -30,9 +30,9 @@ fn look_asked<P: Port>(port: &mut P, vcpu: u32) -> u64
     look(port, Place::Vcpu { vcpu, word: ASKED })
 }
 
-/// Answers an ask for a flush, as a vCPU does on an interrupt: where the clock value up to which it was asked is at least the
-/// one to which it is flushed, all its translations are dropped. Where the clock is at its last value the ask stays unanswered. The vCPU
-/// itself calls it, between two walks.
+/// Answers an ask of another vCPU for a flush, as a processor does on the interrupt by which Xen asks: where the clock value
+/// up to which this vCPU was asked is at least the one to which it is flushed, all its translations are dropped. Where the
+/// clock is at its last value the ask stays unanswered. The vCPU itself calls it, with no walk in flight.
 pub fn ack<P: Port>(port: &mut P)
     requires landed { (P.value port.old).holdings.walk ≡ None }
     ensures came { Came (P.value port.old) (P.value port.new) }
@@ -52,8 +52,8 @@ pub fn ack<P: Port>(port: &mut P)
     }
 }
 
-/// Drops all translations of the vCPU, as `MMUEXT_TLB_FLUSH_LOCAL` of Xen's interface. Refused where the clock of flushes is
-/// at its last value; nothing has changed then.
+/// Drops all translations of the vCPU, as `MMUEXT_TLB_FLUSH_LOCAL` of Xen's interface does. Refused where the clock of flushes
+/// is at its last value; nothing has changed then.
 pub fn flush_local<P: Port>(port: &mut P) -> Result<(), Refusal>
     requires landed { (P.value port.old).holdings.walk ≡ None }
     ensures came { Came (P.value port.old) (P.value port.new) }
@@ -65,8 +65,8 @@ pub fn flush_local<P: Port>(port: &mut P) -> Result<(), Refusal>
     flush_own(port)
 }
 
-/// Drops the translations of the page of an address, the user's and the kernel's, as the instruction `invlpg` and
-/// `MMUEXT_INVLPG_LOCAL` of Xen's interface. An address that is not canonical drops none.
+/// Drops the vCPU's translations of the page of the address `va`, the user's and the kernel's, as Intel's instruction `invlpg`
+/// and `MMUEXT_INVLPG_LOCAL` of Xen's interface do. An address that is not canonical drops none.
 pub fn invlpg<P: Port>(port: &mut P, va: u64)
     requires landed { (P.value port.old).holdings.walk ≡ None }
     ensures came { Came (P.value port.old) (P.value port.new) }

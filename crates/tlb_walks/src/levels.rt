@@ -96,13 +96,7 @@ fn with_barrier(barrier: Option<u64>, word: u64) -> Option<u64>
     let entry = Entry { word };
     match barrier {
         Some(first) => Some(first),
-        None => {
-            if entry.writable() {
-                None
-            } else {
-                Some(word)
-            }
-        }
+        None => { if entry.writable() { None } else { Some(word) } }
     }
 }
 

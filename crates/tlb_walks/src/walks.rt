@@ -68,14 +68,18 @@ pub(crate) fn walk_to<P: Port>(
     walk_from(port, &top, None, va)
 }
 
-/// Walks the own page tables for an address, by the user's top table or the kernel's, for a write or a read, and answers
-/// the entry of level 1 as it was loaded. The translation of its page stands first among those of the vCPU then, and a 65th
-/// drops out. As Intel's processors do, a walk sets the accessed bit of each present entry that it goes through, and for a
-/// write through four entries that can be written the dirty bit of the last; each by one exchange of the entry that it
-/// loaded. A refused walk may have set some. An exchange that finds another word ends the walk in a pause.
-/// Refused are, in this order: an address that is not canonical; one in the hypervisor's slots of a top table, as in Xen's
-/// 64-bit PV interface; one for which there is no top table (level 5, the word 0), or an entry not present or naming no
-/// frame of the machine.
+/// A page walk for the address `va`, by the user's top table or the kernel's, for a write or a read. It answers the entry
+/// of level 1 as it was loaded. The vCPU itself calls it, in its turn, with nothing in hand; one that has just come to its
+/// processor flushes first.
+///
+/// As Intel's processors do, a walk sets the accessed bit (5) of each present entry that it loads, and for a write through
+/// four entries that can be written (bit 1) the dirty bit (6) of the last: each right after the load, by one exchange of the
+/// entry that was loaded, where a bit is not set yet. An exchange that finds another word ends the walk: it pauses, and is
+/// not tried again. The translation of the page then stands first among those of the vCPU, and a 65th drops out.
+///
+/// Refused are, in this order: an address that is not canonical; one whose bits 39 to 47 are 256 to 271, the hypervisor's
+/// slots in Xen's PV interface; one for which there is no top table (level 5, word 0), or an entry is not present or names
+/// no frame of the machine (its level, 4 to 1, and the word). A refused walk may have set accessed bits.
 pub fn walk<P: Port>(port: &mut P, user: bool, va: u64, write: bool) -> Result<u64, Stop>
     requires rests { Rests (P.value port.old) }
     requires warm { (P.value port.old).holdings.cold ≡ false }

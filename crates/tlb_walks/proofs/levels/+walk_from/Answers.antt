@@ -33,11 +33,15 @@ next_of-next-requires-clause-frame g t c =
 pub walk_from-requires : goal.walk_from-requires
 walk_from-requires g t c κs within = (
   search rules,
-  (search rules,
-  (turned_ready _ _ _ c.in-Ok.ensures.hand c.requires.ready,
-  subst (λ (b : Option ℕ). IsAt (g.P.Port.value c.pass.new.port) c.next_of-next.result.user c.args.va c.next_of-next.result.write b c.next_of-next.result) (sym c.with_barrier-barrier.ensures)
-  (subst (λ (f : Flight). IsAt (g.P.Port.value c.pass.new.port) f.user c.args.va f.write (barrier_with c.args.barrier c.in-Ok.word) f) (sym c.next_of-next.ensures)
-  (next_at _ _ c.args.va c.args.barrier c.args.flight.now c.index_at-index.result c.in-Ok.word c.requires.at c.index_at-index.ensures.index c.in-Ok.ensures.moves.0 c.in-Ok.ensures.hand c.if-flight-eq1.false)))),
+  (
+    search rules,
+    (
+      turned_ready _ _ _ c.in-Ok.ensures.hand c.requires.ready,
+      subst (λ (b : Option ℕ). IsAt (g.P.Port.value c.pass.new.port) c.next_of-next.result.user c.args.va c.next_of-next.result.write b c.next_of-next.result) (sym c.with_barrier-barrier.ensures)
+          (subst (λ (f : Flight). IsAt (g.P.Port.value c.pass.new.port) f.user c.args.va f.write (barrier_with c.args.barrier c.in-Ok.word) f) (sym c.next_of-next.ensures)
+          (next_at _ _ c.args.va c.args.barrier c.args.flight.now c.index_at-index.result c.in-Ok.word c.requires.at c.index_at-index.ensures.index c.in-Ok.ensures.moves.0 c.in-Ok.ensures.hand c.if-flight-eq1.false)),
+    ),
+  ),
 )
 
 pub returns-clause-path : goal.returns-clause-path
