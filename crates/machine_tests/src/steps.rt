@@ -10,13 +10,13 @@ ghost use Rattle.xp_machine.specs.Ready.{TakesFresh};
 
 use crate::boards::{TWO_DOMAINS, at_work, opened, steps_of};
 use flush_words::{ask, look_flushed, look_life, look_privileges, look_run, look_run_of};
-use writable_pages::take_page;
 use frame_words::{get_ref, look_cell};
 use kind_words::{count_type, look_kind};
 use shared_board::PlainBoard;
 use std::process::Abort;
 use std::test::Fail;
 use step_maker::look_clock;
+use writable_pages::take_page;
 use xp_board::Port;
 use xp_words::KindWord;
 
