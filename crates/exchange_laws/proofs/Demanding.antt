@@ -35,7 +35,7 @@ module _ (v : PortValue) (owner : ℕ) (machine : IsMachine v.post.machine) (tel
 
   -- ---- a reference
   read_stops : (g level : ℕ) (w : PortValue) (e : Stop) → GotRef v w g owner (Err e) → ExchangesAsPlain n w level (take_reference n owner g p) (Err e)
-  read_stops g level w (Refused y) ref = let a = unreferred v owner machine telling calm orderly g w y ref in stopped_with n w level (take_reference n owner g p) y a.cause a.is a.describes
+  read_stops g level w (Refused y) ref = let a = unreferred v owner machine telling calm orderly g w y ref in stopped_with n w level (take_reference n owner g p) y a.cause a.is a.same a.describes
   read_stops g level w (Paused x) ref = tt
 
   -- and with it whatever is taken behind it
@@ -44,7 +44,7 @@ module _ (v : PortValue) (owner : ℕ) (machine : IsMachine v.post.machine) (tel
       let a = unreferred v owner machine telling calm orderly g w y ref in
       let left = (take_reference n owner g p).left in
       let is : alone n owner l g p ≡ refused a.cause left = ap (λ r. go_on r left (take_at l n owner g)) a.is in
-      stopped_with n w level (alone n owner l g p) y a.cause (ap (λ (o : PlainOutcome). o.refusal) is) (subst (λ (o : PlainOutcome). Describes n (told_word w) o.left) (sym is) a.describes)
+      stopped_with n w level (alone n owner l g p) y a.cause (ap (λ (o : PlainOutcome). o.refusal) is) a.same (subst (λ (o : PlainOutcome). Describes n (told_word w) o.left) (sym is) a.describes)
   typed_stops g level l w (Paused x) ref = tt
 
   -- ---- ordinary memory

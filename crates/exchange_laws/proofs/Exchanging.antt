@@ -42,7 +42,7 @@ or_by : (n : Machine) (level : ℕ) (r : Option Cause) (q : Plain) (back : Plain
     (Describes n (told_word y) q → Describes n (told_word w) (back q)) → ExchangesAsPlain n w level (back_or r q back next) (Err e)
 or_by n level r q back next y w (Refused (refusals.Clock x)) a then = tt
 or_by n level None q back next y w (Refused _) a then = absurd a.0
-or_by n level (Some c) q back next y w (Refused _) a then = (tt, λ one. then (a.1 one))
+or_by n level (Some c) q back next y w (Refused _) a then = (a.0, λ one. then (a.1 one))
 or_by n level r q back next y w (Paused x) a then = tt
 
 -- where it is had, what comes behind it is done
@@ -125,7 +125,7 @@ module _ (releases : ReleasesAsPlain) (v : PortValue) (x : EntryUpdate) (o : Own
     bad_whole : (w : PortValue) → new_demand x seen ≡ demands.Bad → LeftLock u x.table x.level w → ExchangesAsPlain n w x.level whole (Err (Refused (refusals.Reserved x.table x.index new)))
     bad_whole w bad lock =
         subst (λ d. ExchangesAsPlain n w x.level (exchange_by n owner x new (old_demand x seen) p d) (Err (Refused (refusals.Reserved x.table x.index new)))) (sym bad)
-        (tt, λ one. lock_off n u w x.table x.level p on_u.same on_u.tells low at_u lock)
+        (λ one. (refl, refl, refl), λ one. lock_off n u w x.table x.level p on_u.same on_u.tells low at_u lock)
 
     -- ---- both ask the same
     same_whole : (y w : PortValue) (old : ℕ) → same_demand (new_demand x seen) (old_demand x seen) ≡ true → PutsNew u y x seen (Ok old) → Came u y → LeftLock y x.table x.level w → ExchangesAsPlain n w x.level whole (Ok tt)

@@ -1,5 +1,5 @@
 -- What the new word asks is taken, or refused, as by the plain value of the words, which are at rest.
-use Rattle.std.proofs.Common.{◌≡◌, ℕ, ◌<◌, ◌≤◌, not, nat_lt, nat_le, if◌then◌else◌, ◌==◌, Bool, true, false, [], Option, Some, None, Ok, Err, refl, sym, ap, ◌∙◌, subst, arith}
+use Rattle.std.proofs.Common.{◌≡◌, ℕ, ◌<◌, ◌≤◌, not, nat_lt, nat_le, if◌then◌else◌, ◌==◌, Bool, true, false, [], Option, Some, None, Ok, Err, refl, sym, ap, ◌∙◌, subst, arith, ◌⊎◌, inl, inr}
 use Rattle.std.proofs.Math.Path.{fun_ext}
 use Rattle.xp_words.specs.Machine.{IsMachine, Machine}
 use Rattle.xp_words.specs.declared.place.Place.TheVariants.{Kind, Refs}
@@ -21,7 +21,7 @@ use Rattle.partial_state.specs.Levels.{level_type}
 use Rattle.table_law.specs.Alone.{Cause, CountFull, NoFrame, PlainOutcome, WrongOwner, alone, fine, go_on, refused, take_at, take_reference, take_reference_of}
 use Rattle.table_law.specs.Lawful.{IsAtRest}
 use Rattle.table_law.specs.Plain.{Describes, Plain, Share, plain_of, raised_share, reference_back, with_share}
-use Rattle.table_twins.specs.Answers.{IsSameAnswer}
+use Rattle.table_twins.specs.Answers.{IsCause, IsSameAnswer}
 use Rattle.table_twins.specs.Types.{IsReady}
 use Rattle.table_twins.proofs.Kinding.{described_alike}
 use Rattle.table_twins.proofs.Referring.{same_answer, same_taken}
@@ -33,18 +33,31 @@ use Rattle.course_laws.proofs.Frames.{count_at, frame_ready}
 use Rattle.course_laws.proofs.Lending.{fine_there, lent_there, was_room}
 use Rattle.course_laws.proofs.Stacking.{Refuses}
 use Rattle.course_laws.proofs.Starting.{described, rest_frames}
-use Rattle.exchange_laws.specs.Plain.{ExchangesAsPlain, IsRefusedBy}
+use Rattle.exchange_laws.specs.Plain.{ExchangesAsPlain, IsRefusedFor}
 use Rattle.exchange_laws.proofs.Given.{given_back}
 
 -- ---- what a refusal comes to
-pub stopped_with : (n : Machine) (w : PortValue) (level : ℕ) (a : PlainOutcome) (y : Refusal) (c : Cause) → a.refusal ≡ Some c → Describes n (told_word w) a.left → ExchangesAsPlain n w level a (Err (Refused y))
-stopped_with n w level a (refusals.Clock x) c is d = tt
-stopped_with n w level a _ c is d = (subst IsRefusedBy (sym is) tt, λ one. d)
+stopped_by : (n : Machine) (w : PortValue) (level : ℕ) (a : PlainOutcome) (y : Refusal) → IsRefusedFor level y a.refusal → (level ≡ 1 → Describes n (told_word w) a.left) → ExchangesAsPlain n w level a (Err (Refused y))
+stopped_by n w level a (refusals.Clock x) refuses left = tt
+stopped_by n w level a _ refuses left = (refuses, left)
 
--- above level 1 nothing is said of the words
+pub stopped_with : (n : Machine) (w : PortValue) (level : ℕ) (a : PlainOutcome) (y : Refusal) (c : Cause) → a.refusal ≡ Some c → IsCause y c → Describes n (told_word w) a.left → ExchangesAsPlain n w level a (Err (Refused y))
+stopped_with n w level a y c is same d = stopped_by n w level a y (subst (λ r. IsRefusedFor level y r) (sym is) (λ one. same)) (λ one. d)
+
+-- above level 1 nothing is said of the words, nor of the cause
+for_clock_or_not : (y : Refusal) → ((x : ℕ) × (y ≡ refusals.Clock x)) ⊎ IsFinal (Refused y)
+for_clock_or_not (refusals.Clock x) = inl (x, refl)
+for_clock_or_not _ = inr tt
+
 pub stopped_above : (n : Machine) (w : PortValue) (level : ℕ) (a : PlainOutcome) (e : Stop) → 2 ≤ level → (IsFinal e → Refuses a) → ExchangesAsPlain n w level a (Err e)
-stopped_above n w level a (Refused (refusals.Clock x)) above refuses = tt
-stopped_above n w level a (Refused _) above refuses = (subst IsRefusedBy (sym (refuses tt).is) tt, λ one. absurd (omega arith))
+stopped_above n w level a (Refused y) above refuses =
+    elim (for_clock_or_not y) [
+      | inl clock ↦ subst (λ z. ExchangesAsPlain n w level a (Err (Refused z))) (sym clock.1) tt
+      | inr final ↦
+          let none_below : level ≡ 1 → ⊥ = λ one. omega (arith, one, above) in
+          let r = refuses final in
+          stopped_by n w level a y (subst (λ o. IsRefusedFor level y o) (sym r.is) (λ one. absurd (none_below one))) (λ one. absurd (none_below one))
+    ]
 stopped_above n w level a (Paused x) above refuses = tt
 
 -- ---- a reference that is refused changes nothing
@@ -82,18 +95,19 @@ module _ (v : PortValue) (owner : ℕ) (machine : IsMachine v.post.machine) (tel
     abbrev takes : PlainOutcome
     takes = take_reference v.post.machine owner g (plain_of (told_word v))
 
-    -- refused, for some cause; and so is what would be taken behind it
-    pub record IsUnreferred (w : PortValue) : Type 0 where
+    -- refused, for that cause; and so is what would be taken behind it
+    pub record IsUnreferred (w : PortValue) (y : Refusal) : Type 0 where
       pub cause : Cause
       pub is : takes.refusal ≡ Some cause
+      pub same : IsCause y cause
       pub describes : Describes v.post.machine (told_word w) takes.left
 
-    unreferred_by : (w : PortValue) (y : Refusal) (r : Option Cause) → takes.refusal ≡ r → IsSameAnswer (Some y) r → Leaves w (told_word v) → IsUnreferred w
+    unreferred_by : (w : PortValue) (y : Refusal) (r : Option Cause) → takes.refusal ≡ r → IsSameAnswer (Some y) r → Leaves w (told_word v) → IsUnreferred w y
     unreferred_by w y None is same leaves = absurd same
     unreferred_by w y (Some c) is same leaves =
-        record { cause = c; is = is; describes = subst (λ q. Describes n (told_word w) q) (sym (refused_left n owner g p c is)) (described_alike n (told_word w) m p (same_alike (told_word w) m leaves) (described n m)) }
+        record { cause = c; is = is; same = same; describes = subst (λ q. Describes n (told_word w) q) (sym (refused_left n owner g p c is)) (described_alike n (told_word w) m p (same_alike (told_word w) m leaves) (described n m)) }
 
-    pub unreferred : (w : PortValue) (y : Refusal) → GotRef v w g owner (Err (Refused y)) → IsUnreferred w
+    pub unreferred : (w : PortValue) (y : Refusal) → GotRef v w g owner (Err (Refused y)) → IsUnreferred w y
     unreferred w y ref =
         let a = ref.plain telling in
         unreferred_by w y takes.refusal refl (subst (λ o. IsSameAnswer o takes.refusal) a.0 (same_answer n m p owner g (described n m))) a.1
@@ -148,4 +162,4 @@ module _ (v : PortValue) (owner : ℕ) (machine : IsMachine v.post.machine) (tel
           let on = came_trans v u x came (does_came u x _ type.found) in
           let at_x = described_alike n (told_word x) (told_word u) takes.left (same_alike (told_word x) (told_word u) a.1) got_it in
           let left = given_back n x w g takes.left (ap (λ (q : Post). q.machine) (came_post v x on)) (came_telling v x on ∙ telling) at_x back in
-          stopped_with n w level (alone n owner 0 g p) y t.cause (ap (λ (o : PlainOutcome). o.refusal) is) (subst (λ (o : PlainOutcome). Describes n (told_word w) o.left) (sym is) left)
+          stopped_with n w level (alone n owner 0 g p) y t.cause (ap (λ (o : PlainOutcome). o.refusal) is) t.same (subst (λ (o : PlainOutcome). Describes n (told_word w) o.left) (sym is) left)

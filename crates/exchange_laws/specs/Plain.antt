@@ -5,6 +5,7 @@ use Rattle.xp_words.specs.Machine.{Machine}
 use Rattle.xp_words.specs.declared.entry.Demand.{Demand}
 use Rattle.xp_words.specs.declared.entry.Demand.TheVariants as demands
 use Rattle.xp_words.specs.declared.kind.KindWord.{KindWord}
+use Rattle.xp_words.specs.declared.reply.Refusal.{Refusal}
 use Rattle.xp_words.specs.declared.reply.Refusal.TheVariants as refusals
 use Rattle.xp_words.specs.declared.reply.Stop.{Stop}
 use Rattle.xp_words.specs.declared.reply.Stop.TheVariants.{Refused, Paused}
@@ -15,6 +16,7 @@ use Rattle.table_law.specs.Alone.{Cause, PlainOutcome, Reserved, fine, meet, ref
 use Rattle.table_law.specs.Levels.{entry_of}
 use Rattle.table_law.specs.Plain.{Describes, Plain, reference_back, with_kind}
 use Rattle.table_law.specs.Release.{drop_demand, let_go}
+use Rattle.table_twins.specs.Answers.{IsCause}
 use Rattle.foreign_map.specs.declared.owners.Owners.{Owners}
 use Rattle.entry_exchange.specs.Holding.{owner_at}
 use Rattle.entry_exchange.specs.Words.{same_demand, word_kept}
@@ -55,15 +57,16 @@ abbrev pub exchanged : Machine → EntryUpdate → Owners → Plain → PlainOut
 exchanged n x o p = exchange_by n (owner_at x.level o.tables o.frames) x (new_word x p) (entry_of p (level_type x.level) x.table x.index) p (demand_at (level_type x.level) x.index (new_word x p))
 
 -- ---- what an exchange comes to
-abbrev pub IsRefusedBy : Option Cause → Type 0
-IsRefusedBy None = ⊥
-IsRefusedBy (Some c) = Unit {0}
+-- refused there, too, and at level 1 for the same cause
+abbrev pub IsRefusedFor : ℕ → Refusal → Option Cause → Type 0
+IsRefusedFor level r None = ⊥
+IsRefusedFor level r (Some c) = level ≡ 1 → IsCause r c
 
 -- done, the plain one is fine, and leaves these words; refused, it is refused, too, and at level 1, where no table is taken, leaves these words
 abbrev pub ExchangesAsPlain : Machine → PortValue → ℕ → PlainOutcome → Result (Unit {0}) Stop → Type 0
 ExchangesAsPlain n w level a (Ok done) = (a.refusal ≡ None) × Describes n (told_word w) a.left
 ExchangesAsPlain n w level a (Err (Refused (refusals.Clock found))) = Unit {0}
-ExchangesAsPlain n w level a (Err (Refused r)) = IsRefusedBy a.refusal × (level ≡ 1 → Describes n (told_word w) a.left)
+ExchangesAsPlain n w level a (Err (Refused r)) = IsRefusedFor level r a.refusal × (level ≡ 1 → Describes n (told_word w) a.left)
 ExchangesAsPlain n w level a (Err (Paused x)) = Unit {0}
 
 -- where the vCPU is alone, it is neither paused nor refused for the clock
