@@ -13,7 +13,7 @@ returns-in-Ok-clause-reads c =
     let told : app_of c.in_ok-commands.field-0 ≡ table = c.in_ok-commands.ensures in
     let rows = c.in-Ok.ensures.matches (ap is_simple told ∙ is_plain) in
     let found : pace_found (subcommand_rows_of c.in-Ok.matches) ≡ turns_with k.text =
-        ap pace_found (rows.1 ∙ ap (λ (a : App). subcommand_of a words) told) ∙ k.reads.found in
+    ap pace_found (rows.1 ∙ ap (λ (a : App). subcommand_of a words) told) ∙ k.reads.found in
     c.pace_in.ensures k.text found k.digits (omega (arith, k.small)) ∙ sym k.is
 
 pub returns-in-Err-2-clause-reads : goal.returns-in-Err-2-clause-reads
