@@ -27,7 +27,6 @@ at_append [] ys k a e = inr (k, omega arith, e)
 at_append (x ∷ xs) ys zero a e = inl (omega arith, e)
 at_append (x ∷ xs) ys (suc k) a e = ⊎_elim (λ t. let lt = t.0 in inl (omega arith, t.1)) (λ t. let same = t.1 in inr (t.0, omega arith, t.2)) (at_append xs ys k a e)
 
-
 -- at the start
 pub begins : (o : Opening) → length (replicate (sizes_of o.layout).vcpus empty) ≡ (sizes_of o.layout).vcpus → Kept o (opening o.words [] (all_hands o))
 begins o many = record {
@@ -89,20 +88,20 @@ splits o id from h hs s was at =
     let t : ℕ → Bool = among (from + 1) (length hs) in
     let mine = was.each id v at in
     let taken : (n : ℕ) → t n ≡ true → was.owner n ≡ id = (λ n hit.
-        let i = among_at (from + 1) (length hs) n hit in
-        let same : n ≡ from + suc i.0 = omega (arith, i.1) in
-        let e = there hs i.0 i.2 in
-        ap was.owner same ∙ (mine (suc i.0) e.0 e.1).0) in
+    let i = among_at (from + 1) (length hs) n hit in
+    let same : n ≡ from + suc i.0 = omega (arith, i.1) in
+    let e = there hs i.0 i.2 in
+    ap was.owner same ∙ (mine (suc i.0) e.0 e.1).0) in
     let plus : from + 0 ≡ from = omega arith in
     let head : (was.owner from ≡ id) × (get_elem? was.hands from ≡ some h) = subst (λ n. (was.owner n ≡ id) × (get_elem? was.hands n ≡ some h)) plus (mine 0 h refl) in
     let old : (j : ℕ) (u : SharedView) → get_elem? (set s.views id (one from h)) j ≡ some u → Fits (given t new was.owner) was.hands j u =
-        fits_set (given t new was.owner) was.hands s.views id (one from h)
-        (λ j u apart e. fits_given t new id j was.owner was.hands u taken apart (was.each j u e))
-        (fits_one (given t new was.owner) was.hands id from h (given_no t new was.owner from (among_less (from + 1) (length hs) from (omega arith)) ∙ head.0) head.1) in
+    fits_set (given t new was.owner) was.hands s.views id (one from h)
+    (λ j u apart e. fits_given t new id j was.owner was.hands u taken apart (was.each j u e))
+    (fits_one (given t new was.owner) was.hands id from h (given_no t new was.owner from (among_less (from + 1) (length hs) from (omega arith)) ∙ head.0) head.1) in
     let last : Fits (given t new was.owner) was.hands new right = (λ k g e.
-        let same : from + suc k ≡ from + 1 + k = omega arith in
-        let f = mine (suc k) g e in
-        (given_yes t new was.owner (from + 1 + k) (among_yes (from + 1) (length hs) k (at_inside hs k g e)), subst (λ n. get_elem? was.hands n ≡ some g) same f.1)) in
+    let same : from + suc k ≡ from + 1 + k = omega arith in
+    let f = mine (suc k) g e in
+    (given_yes t new was.owner (from + 1 + k) (among_yes (from + 1) (length hs) k (at_inside hs k g e)), subst (λ n. get_elem? was.hands n ≡ some g) same f.1)) in
     record {
       log = was.log;
       hands = was.hands;
@@ -123,20 +122,20 @@ joins o id other from xs ys s was at apart there_is =
     let at_other : get_elem? s.views other ≡ some w = ⊎_elim (λ (x : (other ≡ id) × (both ≡ w)). absurd (apart x.0)) (λ (x : (other ≢ id) × (get_elem? s.views other ≡ some w)). x.1) (at_set s.views id other both w there_is) in
     let theirs = was.each other w at_other in
     let taken : (n : ℕ) → t n ≡ true → was.owner n ≡ other = (λ n hit.
-        let i = among_at (from + length xs) (length ys) n hit in
-        let e = there ys i.0 i.2 in
-        ap was.owner i.1 ∙ (theirs i.0 e.0 e.1).0) in
+    let i = among_at (from + length xs) (length ys) n hit in
+    let e = there ys i.0 i.2 in
+    ap was.owner i.1 ∙ (theirs i.0 e.0 e.1).0) in
     let all : Fits (given t id was.owner) was.hands id both = (λ k g e. ⊎_elim
-        (λ (x : (k < length xs) × (get_elem? xs k ≡ some g)).
-            let lt = x.0 in
-            let f = mine k g x.1 in
-            (given_no t id was.owner (from + k) (among_less (from + length xs) (length ys) (from + k) (omega arith)) ∙ f.0, f.1))
-        (λ (x : (j : ℕ) × (k ≡ length xs + j) × (get_elem? ys j ≡ some g)).
-            let is = x.1 in
-            let same : from + length xs + x.0 ≡ from + k = omega arith in
-            let f = theirs x.0 g x.2 in
-            subst (λ n. (given t id was.owner n ≡ id) × (get_elem? was.hands n ≡ some g)) same (given_yes t id was.owner (from + length xs + x.0) (among_yes (from + length xs) (length ys) x.0 (at_inside ys x.0 g x.2)), f.1))
-        (at_append xs ys k g e)) in
+    (λ (x : (k < length xs) × (get_elem? xs k ≡ some g)).
+    let lt = x.0 in
+    let f = mine k g x.1 in
+    (given_no t id was.owner (from + k) (among_less (from + length xs) (length ys) (from + k) (omega arith)) ∙ f.0, f.1))
+    (λ (x : (j : ℕ) × (k ≡ length xs + j) × (get_elem? ys j ≡ some g)).
+    let is = x.1 in
+    let same : from + length xs + x.0 ≡ from + k = omega arith in
+    let f = theirs x.0 g x.2 in
+    subst (λ n. (given t id was.owner n ≡ id) × (get_elem? was.hands n ≡ some g)) same (given_yes t id was.owner (from + length xs + x.0) (among_yes (from + length xs) (length ys) x.0 (at_inside ys x.0 g x.2)), f.1))
+    (at_append xs ys k g e)) in
     let empty_fits : Fits (given t id was.owner) was.hands other nobody = (λ k g e. absurd (some-ne-none g (sym e))) in
     record {
       log = was.log;
@@ -146,9 +145,9 @@ joins o id other from xs ys s was at apart there_is =
       many = was.many;
       each = fits_set (given t id was.owner) was.hands (set s.views id both) other nobody
           (λ j u not e. ⊎_elim
-              (λ (x : (j ≡ id) × (both ≡ u)). subst (λ (y : ℕ × SharedView). Fits (given t id was.owner) was.hands y.0 y.1) (λ k. (sym x.0 k, x.1 k)) all)
-              (λ (x : (j ≢ id) × (get_elem? s.views j ≡ some u)). fits_given t id other j was.owner was.hands u taken not (was.each j u x.1))
-              (at_set s.views id j both u e))
+          (λ (x : (j ≡ id) × (both ≡ u)). subst (λ (y : ℕ × SharedView). Fits (given t id was.owner) was.hands y.0 y.1) (λ k. (sym x.0 k, x.1 k)) all)
+          (λ (x : (j ≢ id) × (get_elem? s.views j ≡ some u)). fits_given t id other j was.owner was.hands u taken not (was.each j u x.1))
+          (at_set s.views id j both u e))
           empty_fits;
     }
 

@@ -2,7 +2,6 @@
 use Rattle.std.proofs.Common.{◌≡◌, ◌≢◌, ℕ, ◌<◌, ◌==◌, List, [], ◌∷◌, ◌++◌, length, Bool, true, false, if◌then◌else◌, arith, refl, sym, ap, ◌∙◌, subst, get_or-set_same, length-set}
 use Rattle.std.proofs.lemmas.List.{get_or-set_other, append-nil, length-replicate}
 use Rattle.std.proofs.lemmas.Bool.Decides.{nat_tests}
-use Rattle.std.specs.Prelude.{replicate}
 use Rattle.xp_words.specs.Machine.{Machine}
 use Rattle.xp_words.specs.Places.{sizes_of, place_at}
 use Rattle.xp_board.specs.declared.step.Step.{Step}
@@ -33,10 +32,13 @@ one_more n s t x c b own before there is was = by (s == t) refl
   where
     w : ℕ
     w = word_at n c (place_of n x)
+
     k : Holdings
     k = after n t (hand_of c.hands t) x w
+
     now : hand_of b.hands s ≡ hand_of (next n c t x).hands s
     now = ap (λ (a : State). hand_of a.hands s) is
+
     by : (q : Bool) → (s == t) ≡ q → (hand_of b.hands s).steps ≡ (if q then record { step = x; found = w } ∷ own else own) ++ before
     by true e =
         let same : s ≡ t = grind (arith, nat_tests) in

@@ -1,7 +1,6 @@
 -- Steps, splits and joins keep the shared rule.
 use Rattle.std.proofs.Common.{◌≡◌, ◌≢◌, ℕ, zero, suc, ◌+◌, ◌<◌, Option, List, [], ◌∷◌, length, set, refl, sym, ap, ◌∙◌, subst, ⊎_elim, arith, length-set, None, Some, Bool, inl, inr}
-use Rattle.std.specs.Prelude.{slice_index, slice_set, slice_index_or, replicate, IfSome}
-use Rattle.std.proofs.lemmas.List.{length-replicate}
+use Rattle.std.specs.Prelude.{slice_index, slice_set, IfSome}
 use mathlib.Core.Option.{some, some-injective, some-ne-none}
 use lib.ListN.{get_elem?}
 use Rattle.atomic_table.specs.Table.{State as Table, Me, Allows, keeps}
@@ -10,10 +9,8 @@ use Rattle.atomic_table.proofs.Lists.{at_set, set_here, set_else}
 use Rattle.xp_words.specs.Machine.{Machine}
 use Rattle.xp_words.specs.Places.{Sizes, sizes_of, size, memory, place_at, run_of}
 use Rattle.xp_board.specs.declared.step.Step.{Step}
-use Rattle.xp_board.specs.declared.step.Act.{Act}
 use Rattle.xp_board.specs.declared.holdings.Holdings.{Holdings}
 use Rattle.xp_board.specs.Acts.{left_by}
-use Rattle.xp_board.specs.Hands.{empty}
 use Rattle.xp_board.specs.After.{after}
 use Rattle.xp_board.specs.Legal.{Legal}
 use Rattle.xp_board.specs.Runs as runs
@@ -23,7 +20,7 @@ use Rattle.shared_board.proofs.Opened.{start_sound}
 use Rattle.shared_board.proofs.Stepping.{RunsSound, RunWordStays}
 use Rattle.own_cache.specs.Translating.{Translating, translating, translated}
 use Rattle.own_cache.proofs.Projecting.{translating_after}
-use Rattle.xp_board.specs.Told.{PortValue, Finds, stepped, Goes, Saw, cached_item, run_or}
+use Rattle.xp_board.specs.Told.{Finds, stepped, Goes, Saw, cached_item, run_or}
 use Rattle.xp_board.specs.declared.step.Item.{Item}
 use Rattle.xp_board.specs.Spelling.{IsSpelling}
 use Rattle.xp_board.specs.Lists.{EachOf, Member}
@@ -34,7 +31,7 @@ use Rattle.xp_board.proofs.Going.{goes_step, saw_step}
 use Rattle.thread_board.specs.Values.{BoardValue, PassValue, IsPassOf, PassSteps}
 use Rattle.thread_board.specs.declared.rule.Opening.{Opening}
 use Rattle.thread_board.specs.declared.rule.SharedView.{SharedView}
-use Rattle.thread_board.specs.Sharing.{one, hold_of, deed_of, Fits, Kept, DidShare}
+use Rattle.thread_board.specs.Sharing.{one, deed_of, Fits, Kept, DidShare}
 use Rattle.thread_board.specs.Ports.{port_value}
 use Rattle.thread_board.specs.Deeds.{Deed}
 
@@ -120,9 +117,9 @@ shares law stays o slots id i h mine x begun lt legal t was long at fits =
         many = length-set was.hands i k ∙ was.many;
         each = fits_set was.owner now t.views id (one i k)
             (λ j u apart e n g eg.
-                let f = was.each j u e n g eg in
-                let other : (u.from + n) ≢ i = (λ (same : u.from + n ≡ i). apart (sym f.0 ∙ ap was.owner same ∙ own)) in
-                (f.0, set_else was.hands i (u.from + n) k other ∙ f.1))
+            let f = was.each j u e n g eg in
+            let other : (u.from + n) ≢ i = (λ (same : u.from + n ≡ i). apart (sym f.0 ∙ ap was.owner same ∙ own)) in
+            (f.0, set_else was.hands i (u.from + n) k other ∙ f.1))
             (fits_one was.owner now id i k own (set_here was.hands i k (at_inside was.hands i h there)));
       },
       record {

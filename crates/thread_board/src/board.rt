@@ -124,7 +124,8 @@ impl SharedBoard {
         let vcpu = pass.vcpu;
         let table = &self.table;
         let found = share_step::<Brand>(&table.shared, &mut pass.seat, vcpu, step);
-        pass.translations.hear(&self.opening.layout, vcpu, step, found);
+        pass.translations
+            .hear(&self.opening.layout, vcpu, step, found);
         found
     }
 }

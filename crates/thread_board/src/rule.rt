@@ -92,7 +92,9 @@ pub fn share_step<J: Doing>(
     let place = step.place as usize;
     match step.act {
         Act::Load => shared.load::<Does<J>>(seat, place),
-        Act::Cas { expected, new } => shared.compare_exchange::<Does<J>>(seat, place, expected, new),
+        Act::Cas { expected, new } => shared.compare_exchange::<Does<J>>(
+            seat, place, expected, new,
+        ),
         Act::Store { new } => shared.swap::<Does<J>>(seat, place, new),
         Act::Add { by } => shared.fetch_add::<Does<J>>(seat, place, by),
         Act::Max { value } => shared.fetch_max::<Does<J>>(seat, place, value),

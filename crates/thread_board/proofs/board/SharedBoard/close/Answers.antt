@@ -1,11 +1,10 @@
-use Rattle.std.proofs.Common.{◌≡◌, ◌≤◌, List, sym, ap, ◌∙◌, subst, length, ℕ}
+use Rattle.std.proofs.Common.{◌≡◌, ◌≤◌, sym, ap, ◌∙◌, subst, length}
 use Rattle.std.specs.Slots.{slots_items}
 use Rattle.xp_words.specs.Places.{sizes_of}
 use Rattle.xp_board.specs.Sound.{SoundWords}
 use Rattle.std.proofs.lemmas.List.{length-map}
 use Rattle.thread_board.specs.declared.rule.Opening.{Opening}
 use Rattle.thread_board.specs.OneRun.{OneRun}
-use Rattle.thread_board.specs.Sharing.{Kept}
 use Rattle.thread_board.specs.Values.{BoardValue, held_by, PassValue}
 use Rattle.thread_board.proofs.Gathering.{closes}
 use Rattle.thread_board.proofs.Sharing.{some_words}
@@ -25,4 +24,4 @@ returns c =
     let all = closes c.every_run_stays_sound.ensures c.a_run_leaves_it_safe.ensures o _ _ _ _ hands c.close_with-closed.ensures.values.2 begun c.gather-seat.ensures.view count in
     rw c.copy_words.ensures
     (subst (λ (b : BoardValue). OneRun b.machine b.opening (slots_items c.close_with-closed.result.words) hands) c.self.view_is
-        (subst (λ (k : Opening). OneRun k.layout k.words (slots_items c.close_with-closed.result.words) hands) i.key all))
+    (subst (λ (k : Opening). OneRun k.layout k.words (slots_items c.close_with-closed.result.words) hands) i.key all))

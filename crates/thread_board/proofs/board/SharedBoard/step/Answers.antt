@@ -1,4 +1,4 @@
-use Rattle.std.proofs.Common.{refl, sym, ap, ◌∙◌, subst}
+use Rattle.std.proofs.Common.{sym, ap, ◌∙◌, subst}
 use Rattle.shared_board.proofs.Stepping.{awaited}
 use Rattle.thread_board.specs.declared.rule.Opening.{Opening}
 use Rattle.thread_board.specs.declared.rule.SharedView.{SharedView}
@@ -6,7 +6,7 @@ use Rattle.thread_board.specs.Sharing.{one, hold_of, deed_of, DidShare}
 use Rattle.thread_board.specs.Boards.{board_of}
 use Rattle.thread_board.specs.Passes.{pass_of}
 use Rattle.thread_board.specs.Values.{BoardValue, PassValue, PassSteps}
-use Rattle.thread_board.proofs.Sharing.{legal_inside, pass_inside, kept_on, found_spelled, steps_on}
+use Rattle.thread_board.proofs.Sharing.{legal_inside, pass_inside, kept_on, steps_on}
 use Rattle.thread_board.proofs.board.SharedBoard.step.Goals as goal
 
 pub hear-requires-clause-awaits : goal.hear-requires-clause-awaits
@@ -34,4 +34,4 @@ returns c =
     let now : PassValue = record { table = c.share_step-found.new.seat.table_id; vcpu = s; holdings = hold_of c.share_step-found.new.seat.me.0 } in
     subst (λ (y : BoardValue × PassValue). PassSteps y.0 y.1 c.args.step c.share_step-found.result now) (λ k. (c.self.view_is k, c.pass.view_is k))
     (steps_on (board_of c.self.inside) (pass_of c.pass.inside) now c.args.step c.share_step-found.result mine did.finds did.own
-        (λ k. record { table = c.share_step-found.ensures.seat.0 k; vcpu = s; holdings = ap hold_of did.applied k }))
+    (λ k. record { table = c.share_step-found.ensures.seat.0 k; vcpu = s; holdings = ap hold_of did.applied k }))
