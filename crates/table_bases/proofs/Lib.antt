@@ -1,0 +1,4 @@
+mod Storing
+mod Requests
+mod Behind
+mod Installed
