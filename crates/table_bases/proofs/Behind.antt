@@ -1,5 +1,5 @@
 -- The flush behind the store: when the cache may be emptied for the last clock value, and the steps.
-use Rattle.std.proofs.Common.{◌≡◌, ℕ, ◌≤◌, ◌==◌, nat_lt, true, List, [], length, Result, Ok, Err, IsTrue, None, refl, sym, ap, ◌∙◌, subst, inl, inr}
+use Rattle.std.proofs.Common.{◌≡◌, ℕ, ◌≤◌, ◌==◌, nat_lt, true, List, length, Ok, Err, IsTrue, None, refl, sym, ap, ◌∙◌, subst, inl, inr}
 use Rattle.xp_words.specs.Machine.{Machine}
 use Rattle.xp_words.specs.Places.{flushed_of, sizes_of}
 use Rattle.xp_words.specs.declared.place.Place.TheVariants.{Clock}
@@ -16,7 +16,7 @@ use Rattle.xp_words.specs.declared.place.Place.{Place}
 use Rattle.board_lemmas.proofs.Sums.{when_eq}
 use Rattle.step_maker.specs.Moves.{Came, Moves}
 use Rattle.step_maker.proofs.Coming.{came_post, came_trans, moves_came}
-use Rattle.step_maker.proofs.Noting.{moves_keeps, moves_since}
+use Rattle.step_maker.proofs.Noting.{moves_since}
 use Rattle.answer_fits.specs.Answers.{Deed, Serves}
 use Rattle.answer_fits.specs.Asked.{Request}
 use Rattle.answer_fits.specs.Reasons.{needed, own}

@@ -1,30 +1,27 @@
 -- A base is installed: what is in hand behind the store and the flush, the steps, and the course.
-use Rattle.std.proofs.Common.{◌≡◌, ◌≢◌, ℕ, ◌+◌, ◌-◌, if◌then◌else◌, Bool, true, false, List, [], ◌∷◌, ◌++◌, Option, Some, None, Result, Ok, Err, IfErr, IsTrue, add-one, refl, sym, ap, ◌∙◌, subst, arith, inl, inr}
+use Rattle.std.proofs.Common.{◌≡◌, ◌≢◌, ℕ, ◌+◌, ◌-◌, if◌then◌else◌, Bool, true, false, List, [], ◌∷◌, ◌++◌, Option, Some, None, Result, Ok, Err, IfErr, IsTrue, add-one, refl, sym, ap, ◌∙◌, subst, arith, inl}
 use Rattle.xp_words.specs.Machine.{Machine}
 use Rattle.xp_words.specs.Places.{sizes_of}
 use Rattle.xp_words.specs.declared.kind.PageType.TheVariants.{L4}
-use Rattle.xp_words.specs.declared.place.Place.TheVariants.{Vcpu}
 use Rattle.xp_words.specs.declared.reply.Pause.TheVariants.{Due}
 use Rattle.xp_words.specs.declared.reply.Stop.{Stop}
 use Rattle.xp_words.specs.declared.reply.Stop.TheVariants.{Paused}
-use Rattle.xp_board.specs.declared.holdings.Holdings.{Holdings}
-use Rattle.xp_board.specs.declared.holdings.TypedReference.{TypedReference}
 use Rattle.xp_board.specs.declared.step.Act.TheVariants.{Store}
 use Rattle.xp_board.specs.declared.step.StepKind.TheVariants as kinds
 use Rattle.xp_board.specs.Hands.{owner_from}
 use Rattle.xp_board.specs.KindSteps.{live_typed}
-use Rattle.xp_board.specs.Readings.{is_context, is_frame_word}
-use Rattle.xp_board.specs.Told.{Post, PortValue}
+use Rattle.xp_board.specs.Readings.{is_context}
+use Rattle.xp_board.specs.Told.{PortValue}
 use Rattle.xp_preempt.specs.Gates.{ends_yes}
 use Rattle.xp_preempt.proofs.Consulting.{consulted_none}
 use Rattle.board_lemmas.proofs.Sums.{when_eq}
 use Rattle.step_maker.specs.Holds.{FlushedSame, Holds}
 use Rattle.step_maker.specs.Moves.{Came, Met, Moves}
-use Rattle.step_maker.proofs.Coming.{came_post, came_trans, met_after, met_before, moment_of, moves_came, moves_met}
+use Rattle.step_maker.proofs.Coming.{came_trans, met_after, met_before, moment_of, moves_came, moves_met}
 use Rattle.answer_fits.specs.Answers.{Deed, Serves, SetsWord, is_told_word, misses}
 use Rattle.answer_fits.specs.Asked.{IsAsked, IsFor, Request, context, named_type, of}
 use Rattle.answer_fits.specs.Finding.{FoundAt}
-use Rattle.answer_fits.proofs.Piecing.{serves_came, serves_inner, serves_nothing, serves_step}
+use Rattle.answer_fits.proofs.Piecing.{serves_inner, serves_nothing, serves_step}
 use Rattle.flush_words.proofs.Lasting.{came_longer}
 use Rattle.kind_words.proofs.KindHands.{known_first}
 use Rattle.level_validate.specs.Unwinding.{own_domain}
@@ -35,7 +32,7 @@ use Rattle.level_release.specs.Holding.{HoldsLive}
 use Rattle.table_bases.specs.declared.words.Base.{Base}
 use Rattle.table_bases.specs.declared.words.Base.TheVariants.{Kernel, User}
 use Rattle.table_bases.specs.Asking.{of_base}
-use Rattle.table_bases.specs.Course.{FlushesBehind, Installed, InstallsBy, ReleasesOld}
+use Rattle.table_bases.specs.Course.{FlushesBehind, InstallsBy, ReleasesOld}
 use Rattle.table_bases.specs.Holding.{HoldsNoMore, IsWarm, base_number, base_place, came_out, naming, with_typed}
 use Rattle.table_bases.proofs.Behind.{behind_came, behind_serves, stays_warm}
 use Rattle.table_bases.proofs.Requests.{base_contexts, base_entries, base_flushes, base_owner, base_rose, within_release}

@@ -2,3 +2,5 @@ mod Storing
 mod Requests
 mod Behind
 mod Installed
+mod Clocked
+mod Acquired

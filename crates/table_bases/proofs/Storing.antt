@@ -1,5 +1,5 @@
 -- The store of a base: when it may be made, what it finds, and what it leaves in hand.
-use Rattle.std.proofs.Common.{◌≡◌, ℕ, zero, suc, ◌+◌, ◌<◌, ◌≤◌, if◌then◌else◌, add-one, ◌∷◌, List, [], length, Option, Some, None, IsTrue, refl, sym, ap, ◌∙◌, subst, arith, lit<, inl, inr}
+use Rattle.std.proofs.Common.{◌≡◌, ℕ, zero, suc, ◌+◌, ◌<◌, ◌≤◌, if◌then◌else◌, add-one, List, [], length, Option, Some, None, IsTrue, refl, sym, ap, ◌∙◌, subst, arith, lit<, inl, inr}
 use Rattle.std.proofs.lemmas.Bool.Decides.{nat_tests}
 use Rattle.xp_words.specs.Machine.{Machine}
 use Rattle.xp_words.specs.Places.{Sizes, is_place, sizes_of}
@@ -11,13 +11,13 @@ use Rattle.xp_board.specs.declared.holdings.TypedReference.{TypedReference}
 use Rattle.xp_board.specs.declared.step.Act.TheVariants.{Store}
 use Rattle.xp_board.specs.declared.step.StepKind.TheVariants as kinds
 use Rattle.xp_board.specs.Acts.{left_by}
-use Rattle.xp_board.specs.After.{learned, learned_own}
+use Rattle.xp_board.specs.After.{learned_own}
 use Rattle.xp_board.specs.ContextSteps.{FitsWord, MayName, context_type, named_in, named_out}
-use Rattle.xp_board.specs.Hands.{brought_name, typed_to, without_typed}
+use Rattle.xp_board.specs.Hands.{typed_to}
 use Rattle.xp_board.specs.KindSteps.{live_typed}
 use Rattle.xp_board.specs.Readings.{is_context}
 use Rattle.xp_board.specs.Spelling.{IsSpelling, is_vcpu_word}
-use Rattle.xp_board.specs.Told.{Finds, PortValue}
+use Rattle.xp_board.specs.Told.{PortValue}
 use Rattle.board_lemmas.proofs.Numbers.{vcpu_there}
 use Rattle.board_lemmas.proofs.Sums.{when_found}
 use Rattle.step_maker.specs.Holds.{Holds, MayWork, still}

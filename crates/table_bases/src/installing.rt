@@ -21,12 +21,7 @@ pub(crate) const LAST_CLOCK: u64 = 68_719_476_734;
 
 /// Stores the base with the typed reference in hand, flushes the own cache, and releases what the word named before. Where the gate
 /// pauses the release, the first old word names what is left.
-pub(crate) fn install<P: Port>(
-    port: &mut P,
-    gate: &mut dyn Preempt,
-    base: Base,
-    new: Option<u32>,
-)
+pub(crate) fn install<P: Port>(port: &mut P, gate: &mut dyn Preempt, base: Base, new: Option<u32>)
     requires may { MayWork (P.value port.old) }
     requires holds { HoldsTop (P.value port.old) new }
     requires others { HoldsNoMore (P.value port.old) }

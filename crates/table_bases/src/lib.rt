@@ -2,6 +2,8 @@
 #![tactic(auto)]
 
 mod installing;
+mod setting;
 mod words;
 
+pub use setting::{new_base, new_user_base};
 pub use words::Base;
