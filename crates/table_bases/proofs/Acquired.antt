@@ -1,0 +1,113 @@
+-- The table is acquired behind the look at the clock: the steps, why it is not had, and the course.
+use Rattle.std.proofs.Common.{◌≡◌, ◌≢◌, ◌⊎◌, ℕ, ◌++◌, Bool, true, not, [], ◌∷◌, Some, Result, Ok, Err, refl, sym, ap, ◌∙◌, subst, append-nil, arith, inl, inr}
+use Rattle.xp_words.specs.declared.kind.PageType.TheVariants.{L4}
+use Rattle.xp_words.specs.declared.place.Place.TheVariants.{Kind}
+use Rattle.xp_words.specs.declared.reply.Pause.TheVariants as pauses
+use Rattle.xp_words.specs.declared.reply.Stop.{Stop}
+use Rattle.xp_words.specs.declared.reply.Stop.TheVariants.{Paused, Refused}
+use Rattle.xp_board.specs.Hands.{refs_to, work_on}
+use Rattle.xp_board.specs.Readings.{domain_of, last_clock}
+use Rattle.xp_board.specs.Told.{Post, PortValue}
+use Rattle.board_lemmas.proofs.Sums.{when_eq}
+use Rattle.step_maker.specs.Holds.{Same}
+use Rattle.step_maker.specs.Moves.{Came, Met}
+use Rattle.step_maker.proofs.Coming.{came_post, met_after}
+use Rattle.answer_fits.specs.Answers.{Misses, Serves, Stops, misses}
+use Rattle.answer_fits.specs.Asked.{NoMore, Request, Within, of_table}
+use Rattle.answer_fits.proofs.Piecing.{serves_inner, stops_inner}
+use Rattle.kept_marks.specs.Marks.{IsForeign}
+use Rattle.level_validate.specs.Acquiring.{AcquiresBy, ServesAcquired, of_acquire}
+use Rattle.level_validate.specs.Acquiring as acquires
+use Rattle.level_validate.specs.Unwinding.{own_domain}
+use Rattle.level_release.specs.Asking.{is_due_stop}
+use Rattle.table_courses.specs.Acquiring.{Acquired}
+use Rattle.table_bases.specs.declared.words.Base.{Base}
+use Rattle.table_bases.specs.Asking.{ServesBase, StopsBase, of_base}
+use Rattle.table_bases.specs.Course.{InstallsBy, SawClock, SetsBase, SetsBaseBy}
+use Rattle.table_bases.specs.Course as course
+use Rattle.table_bases.specs.Holding.{IsWarm}
+use Rattle.table_bases.proofs.Behind.{stays_warm}
+use Rattle.table_bases.proofs.Clocked.{installed_course, looked, looked_came, looked_warm}
+use Rattle.table_bases.proofs.Requests.{within_acquire}
+
+pub same_due : (e : Stop) → acquires.is_due_stop e ≡ is_due_stop e
+same_due (Refused x) = refl
+same_due (Paused pauses.Due) = refl
+same_due (Paused (pauses.Lost place expected found)) = refl
+same_due (Paused (pauses.Busy f found)) = refl
+same_due (Paused (pauses.Flush vcpu stamp found)) = refl
+same_due (Paused (pauses.Alive vcpu found)) = refl
+
+module _ (v a e : PortValue) (clock f d : ℕ) (look : SawClock v a clock) (home : d ≡ own_domain a) where
+  there : d ≡ own_domain v
+  there = home ∙ ap (λ (p : Post). domain_of p.machine p.vcpu) (came_post v a (looked_came v a clock look))
+
+  -- the frame is the own domain's: no mark of it is taken back
+  module _ (answer : Result ℕ Stop) where
+    abbrev request : Request
+    request = of_table f d (Some L4) d (acquires.is_due_answer answer)
+
+    request_is : of_acquire a f d 4 d answer ≡ request
+    request_is = ap (λ b. record request { locks = not b }) (when_eq d (own_domain a) home)
+
+    seen : ServesAcquired a e f d 4 d answer → Serves a e request (misses a.post.machine answer)
+    seen s = subst (λ r. Serves a e r (misses a.post.machine answer)) request_is (shown s.may)
+      where
+        shown : (s.hidden ≡ []) ⊎ (IsForeign a d × (acquires.is_paused_answer answer ≡ true) × (s.hidden ≡ Misses (Kind f) ∷ [])) → Serves a e (of_acquire a f d 4 d answer) (misses a.post.machine answer)
+        shown (inl none) = subst (λ ds. Serves a e (of_acquire a f d 4 d answer) (ds ++ misses a.post.machine answer)) none s.serves
+        shown (inr foreign) = absurd (foreign.0 home)
+
+    module _ (rose : Bool) (rises : acquires.is_due_answer answer ≡ true → rose ≡ true) where
+      acquiring : Within v.post.machine v.post.vcpu request (Met a e) (of_base d (Some f) rose) (Met v e)
+      acquiring = within_acquire v.post.machine v.post.vcpu f d (acquires.is_due_answer answer) rose (Met a e) (Met v e) (λ m x. met_after v a e m (looked_came v a clock look) x) rises
+
+      pub acquired_serves : ServesAcquired a e f d 4 d answer → Serves v e (of_base (own_domain v) (Some f) rose) (misses v.post.machine answer)
+      acquired_serves s =
+          subst (λ o. Serves v e (of_base o (Some f) rose) (misses v.post.machine answer)) there
+          (subst (λ ds. Serves v e (of_base d (Some f) rose) ds) (append-nil (misses v.post.machine answer))
+          (serves_inner v a e (of_base d (Some f) rose) request [] (misses v.post.machine answer) acquiring (looked v a clock look (of_base d (Some f) rose))
+          (subst (λ (p : Post). Serves a e request (misses p.machine answer)) (came_post v a (looked_came v a clock look)) (seen s))))
+
+      pub unacquired_stops : Same v a → (stop : Stop) → Stops a e (of_acquire a f d 4 d answer) stop → Stops v e (of_base (own_domain v) (Some f) rose) stop
+      unacquired_stops same stop s =
+          subst (λ o. Stops v e (of_base o (Some f) rose) stop) there
+          (stops_inner v a e (of_base d (Some f) rose) request stop acquiring (no_more same) (looked_came v a clock look) (subst (λ r. Stops a e r stop) request_is s))
+        where
+          no_more : Same v a → NoMore (of_base d (Some f) rose) a.holdings v.holdings
+          no_more same g =
+              record {
+                refs = λ away. let is = ap (λ (q : PortValue). refs_to g q.holdings.refs) same in omega (arith, is);
+                works = λ none. sym (ap (λ (q : PortValue). work_on g q.holdings.works) same) ∙ none;
+                typed = λ off. absurd cc;
+              }
+
+  -- ---- it is not had
+  module _ (answer : Result (Unit {0}) Stop) (stop : Stop) (is : answer ≡ Err stop) (base : Base) where
+    pub refused_serves : ServesAcquired a e f d 4 d (Err stop) → ServesBase v e base (Some f) answer
+    refused_serves s = subst (λ y. ServesBase v e base (Some f) y) (sym is) (acquired_serves (Err stop) (is_due_stop stop) (λ due. sym (same_due stop) ∙ due) s)
+
+    pub refused_stops : Same v a → Stops a e (of_acquire {A = ℕ} a f d 4 d (Err stop)) stop → StopsBase v e (Some f) answer
+    refused_stops same s = subst (λ y. StopsBase v e (Some f) y) (sym is) (unacquired_stops (Err stop) (is_due_stop stop) (λ due. sym (same_due stop) ∙ due) same stop s)
+
+    pub refused_course : (says : ℕ → Bool) (before after agreed agrees : ℕ) → clock ≢ last_clock → AcquiresBy a e f d 4 says before after agreed agrees (Err stop) →
+        SetsBaseBy v e base (Some f) says before after agreed agrees answer
+    refused_course says before after agreed agrees some by =
+        subst (λ y. SetsBaseBy v e base (Some f) says before after agreed agrees y) (sym is)
+        (record {
+          answers = by.answers;
+          course = course.unacquired a f clock by.answers stop look some (subst (λ o. Acquired a f o 4 e by.answers (Err stop)) there by.course);
+          gate = by.gate;
+          due = λ on. sym by.due ∙ same_due stop ∙ on;
+        })
+
+  -- ---- it is
+  module _ (g : ℕ) (at : g ≡ f) where
+    pub named_course : (w : PortValue) (base : Base) (says later : ℕ → Bool) (x y z i j k : ℕ) → clock ≢ last_clock → AcquiresBy a e f d 4 says x y i j (Ok g) → ((n : ℕ) → later n ≡ says n) →
+        InstallsBy e w base (Some g) later y z j k → SetsBaseBy v w base (Some f) says x z i k (Ok tt)
+    named_course w base says later x y z i j k some by same installs =
+        installed_course v a clock look e w (Some f) base some by.answers says later x y z i j k
+        (subst (λ o. Acquired a f o 4 e by.answers (Ok f)) home (subst (λ q. Acquired a f d 4 e by.answers (Ok q)) at by.course)) by.gate same
+        (subst (λ q. InstallsBy e w base (Some q) later y z j k) at installs)
+
+    pub named_warm : clock ≢ last_clock → Came a e → e.holdings.ran ≡ a.holdings.ran → IsWarm e
+    named_warm some came same = stays_warm a e came same (looked_warm v a clock look some)

@@ -1,0 +1,89 @@
+-- The clock is looked at first: it is at its last value, or below it; and what is installed behind that look.
+use Rattle.std.proofs.Common.{◌≡◌, ◌≢◌, ℕ, ◌≤◌, nat_lt, Bool, true, false, List, [], ◌∷◌, ◌++◌, length, Option, None, Ok, Err, IsTrue, refl, sym, ap, subst}
+use Rattle.xp_words.specs.Machine.{Machine}
+use Rattle.xp_words.specs.Places.{sizes_of}
+use Rattle.xp_words.specs.declared.place.Place.{Place}
+use Rattle.xp_words.specs.declared.place.Place.TheVariants.{Clock}
+use Rattle.xp_words.specs.declared.reply.Refusal.TheVariants as refusals
+use Rattle.xp_words.specs.declared.reply.Stop.TheVariants.{Refused}
+use Rattle.xp_board.specs.declared.holdings.Holdings.{Holdings}
+use Rattle.xp_board.specs.declared.step.Act.TheVariants.{Load}
+use Rattle.xp_board.specs.declared.step.StepKind.TheVariants as kinds
+use Rattle.xp_board.specs.Acts.{left_by}
+use Rattle.xp_board.specs.Readings.{domain_of, last_clock}
+use Rattle.xp_board.specs.Steps.{some_since}
+use Rattle.xp_board.specs.Told.{Finds, Post, PortValue}
+use Rattle.xp_board.specs.WellFormed.{WellFormed}
+use Rattle.xp_preempt.specs.Gates.{Consulted, ends_yes}
+use Rattle.xp_preempt.proofs.Consulting.{consulted_none, consulted_then}
+use Rattle.step_maker.specs.Moves.{Came}
+use Rattle.step_maker.proofs.Coming.{came_post, came_self, moves_came}
+use Rattle.step_maker.proofs.Noting.{moves_since}
+use Rattle.answer_fits.specs.Answers.{Serves, SetsWord}
+use Rattle.answer_fits.specs.Asked.{Request}
+use Rattle.answer_fits.specs.Reasons.{own}
+use Rattle.answer_fits.proofs.Piecing.{serves_came, serves_nothing, serves_step, serves_then}
+use Rattle.flush_words.proofs.FlushServes.{own_stops}
+use Rattle.flush_words.proofs.OwnFlush.{clock_below, less_is, spent_own}
+use Rattle.level_validate.specs.Unwinding.{own_domain}
+use Rattle.table_bases.specs.declared.words.Base.{Base}
+use Rattle.table_bases.specs.Asking.{ServesBase, StopsBase, base_deeds, of_base}
+use Rattle.table_bases.specs.Course.{AcquiresTop, InstallsBy, Installed, SawClock, SetsBase, SetsBaseBy}
+use Rattle.table_bases.specs.Course as course
+use Rattle.table_bases.specs.Holding.{IsWarm, base_number, naming}
+use Rattle.table_bases.proofs.Requests.{base_flushes}
+
+pub not_due : (b : Bool) (answers : List Bool) → b ≡ false → b ≡ true → ends_yes answers ≡ true
+not_due b answers off on = absurd cc
+
+-- ---- the look
+module _ (v a : PortValue) (clock : ℕ) (look : SawClock v a clock) where
+  pub looked : (r : Request) → Serves v a r []
+  looked r = serves_step v v a r [] Clock Load kinds.Look None clock (serves_nothing v r) look tt
+
+  pub looked_came : Came v a
+  looked_came = moves_came v a Clock Load kinds.Look None clock look
+
+  -- ---- the clock goes no further
+  module _ (is : clock ≡ last_clock) (new : Option ℕ) where
+    pub spent_stops : StopsBase v a new (Err (Refused (refusals.Clock clock)))
+    spent_stops = own_stops v v a (of_base (own_domain v) new false) (refusals.Clock clock) (came_self v) (own (base_flushes (own_domain v) new false)) (spent_own v a clock look is)
+
+    pub spent_course : (base : Base) (says : ℕ → Bool) (asks agreed : ℕ) → SetsBaseBy v a base new says asks asks agreed agreed (Err (Refused (refusals.Clock clock)))
+    spent_course base says asks agreed =
+        record {
+          answers = [];
+          course = subst (λ y. SetsBase v a base new [] (Err (Refused (refusals.Clock y)))) (sym is) (course.spent new (subst (λ y. SawClock v a y) is look));
+          gate = consulted_none says asks agreed;
+          due = not_due false [] refl;
+        }
+
+  -- ---- it was found below its last value
+  ran_past : (n : Machine) (s : ℕ) (h : Holdings) (p : Place) (w : ℕ) → Finds n s h p w → h.ran ≤ length h.steps
+  ran_past n s h p w finds = let formed : WellFormed n s h = subst (λ u. WellFormed n s u) finds.mine (finds.sound.formed s finds.real) in formed.ran
+
+  pub looked_warm : clock ≢ last_clock → IsWarm a
+  unfolding left_by
+  looked_warm some =
+      let late : a.holdings.ran ≤ length v.holdings.steps =
+      subst (λ k. k ≤ length v.holdings.steps) (sym (ap (λ (y : PortValue). y.holdings.ran) look.to)) (ran_past v.post.machine v.post.vcpu v.holdings Clock clock look.finds) in
+      subst (λ (n : Machine). IsTrue (some_since (sizes_of n) a.holdings.ran Clock (λ w. nat_lt w last_clock) a.holdings.steps)) (sym (ap (λ (y : PortValue). y.post.machine) look.to))
+      (moves_since v a Clock Load kinds.Look None clock look a.holdings.ran (λ w. nat_lt w last_clock) late (less_is clock last_clock (clock_below v a clock look some)))
+
+  -- ---- installed behind it, and behind what acquired the table
+  module _ (b : PortValue) (new : Option ℕ) (base : Base) (before : Serves v b (of_base (own_domain v) new true) []) (w : PortValue) where
+    pub installed_serves : Serves b w (of_base (own_domain b) new true) (base_deeds b base new (Ok tt)) → ServesBase v w base new (Ok tt)
+    installed_serves a =
+        let came : Came v b = serves_came v b (of_base (own_domain v) new true) [] before in
+        serves_then v b w (of_base (own_domain v) new true) [] (base_deeds v base new (Ok tt)) before
+        (subst (λ (p : Post). Serves b w (of_base (domain_of p.machine p.vcpu) new true) (SetsWord p.vcpu (base_number base) (naming new) ∷ [])) (came_post v b came) a)
+
+  pub installed_course : (b w : PortValue) (new : Option ℕ) (base : Base) (some : clock ≢ last_clock) (answers : List Bool) (says later : ℕ → Bool) (x y z i j k : ℕ) → AcquiresTop a b new answers →
+      Consulted says x y i j answers → ((n : ℕ) → later n ≡ says n) → InstallsBy b w base new later y z j k → SetsBaseBy v w base new says x z i k (Ok tt)
+  installed_course b w new base some answers says later x y z i j k takes gate same by =
+      record {
+        answers = by.answers ++ answers;
+        course = course.installed a b clock new answers by.answers look some takes by.course;
+        gate = consulted_then later says x y z i j k answers by.answers same gate by.gate;
+        due = not_due false (by.answers ++ answers) refl;
+      }

@@ -1,0 +1,6 @@
+mod Storing
+mod Requests
+mod Behind
+mod Installed
+mod Clocked
+mod Acquired
