@@ -18,7 +18,7 @@ use Rattle.xp_board.specs.declared.holdings.Holdings.{Holdings}
 use Rattle.thread_board.specs.declared.rule.Opening.{Opening}
 use Rattle.thread_board.specs.declared.rule.SharedView.{SharedView}
 use Rattle.thread_board.specs.Sharing.{one, hold_of, nobody, both_of, Fits, Kept}
-use Rattle.thread_board.specs.Values.{PassValue, AreOf, AreOpened, opened_pass, held_by}
+use Rattle.thread_board.specs.Values.{PassValue, AreOf, held_by}
 use Rattle.thread_board.specs.OneRun.{OneRun}
 use Rattle.thread_board.proofs.OwnSteps.{own_from}
 use Rattle.thread_board.proofs.Sharing.{kept_sound}
@@ -75,38 +75,3 @@ held_first xs ys p hands is one_hand = ap held_by is ∙ (simp map-append (ap (�
 -- the hands of a seat of one vCPU, as its pass says
 pub hands_are : (v : SharedView) (n i : ℕ) (t x : TableId) (p : PassValue) → v ≡ one n (hold_of v) → record { table = x; vcpu = i; holdings = hold_of v } ≡ p → v.hands ≡ p.holdings ∷ []
 hands_are v n i t x p is same = ap (λ (u : SharedView). u.hands) is ∙ ap (λ (q : PassValue). q.holdings ∷ []) same
-
-pub get_there : {A : Type 0} (l : List A) (i : ℕ) (d : A) → i < length l → get_elem? l i ≡ some (get_or l i d)
-get_there [] i d lt = absurd (omega arith)
-get_there (x ∷ xs) zero d lt = refl
-get_there (x ∷ xs) (suc i) d lt = get_there xs i d (omega arith)
-
-pub get_is : {A : Type 0} (l : List A) (i : ℕ) (d a : A) → get_elem? l i ≡ some a → get_or l i d ≡ a
-get_is [] i d a e = absurd (some-ne-none a (sym e))
-get_is (x ∷ xs) zero d a e = some-injective x a e
-get_is (x ∷ xs) (suc i) d a e = get_is xs i d a e
-
--- ---- the last of the passes that a board was made with
-abbrev IsPassIn : TableId → ℕ → PassValue → Type 0
-IsPassIn t n p = (p.table ≡ t) × (p.vcpu < n)
-
-pub opened_last : (t : TableId) (xs ys : List PassValue) (p : PassValue) → AreOpened t xs → xs ≡ ys ++ p ∷ [] → (p.table ≡ t) × (p.vcpu ≡ length ys) × AreOpened t ys × (length xs ≡ length ys + 1)
-opened_last t xs ys p own is =
-    let count : length xs ≡ length ys + 1 = ap length is ∙ length-append ys (p ∷ []) in
-    let at : get_elem? xs (length ys) ≡ some p = subst (λ (l : List PassValue). get_elem? l (length ys) ≡ some p) (sym is) (at_last ys p (length ys) refl) in
-    let same : p ≡ opened_pass t (length ys) = some-injective p (opened_pass t (length ys)) (sym at ∙ own (length ys) (omega arith)) in (
-      ap (λ (q : PassValue). q.table) same,
-      ap (λ (q : PassValue). q.vcpu) same,
-      λ k lt.
-          let a = get_there ys k p lt in
-          let b : get_elem? xs k ≡ some (get_or ys k p) = subst (λ (l : List PassValue). get_elem? l k ≡ some (get_or ys k p)) (sym is) (at_longer ys (p ∷ []) k _ a) in
-          a ∙ sym b ∙ own k (omega arith),
-      count,
-    )
-
-pub two_last : (t : TableId) (n : ℕ) (xs ys zs : List PassValue) (p q : PassValue) → AreOpened t xs → xs ≡ ys ++ q ∷ [] → ys ≡ zs ++ p ∷ [] → length xs ≡ n → (p.table ≡ t) × (p.vcpu < n) × (q.table ≡ t) × (q.vcpu < n)
-two_last t n xs ys zs p q own is was count =
-    let a = opened_last t xs ys q own is in
-    let b = opened_last t ys zs p a.2 was in
-    let i = a.1 in let j = b.1 in let k = a.3 in let l = b.3 in
-    (b.0, omega arith, a.0, omega arith)

@@ -17,8 +17,8 @@ use std::marker::{Brand, Model};
 use xp_board::Step;
 use xp_words::Layout;
 
-/// A board whose words all vCPUs share, each in a thread of its own. Contracts see its table, its machine and the words with
-/// which it opened. How many bytes it takes: 8 for each word of the machine.
+/// A board whose words all vCPUs share, each in a thread of its own. It takes 8 bytes for each word of the machine, beside the
+/// words with which it opened. Contracts see its table, its machine and those words, and no other word.
 #[derive(Drop)]
 pub struct SharedBoard {
     pub(crate) opening: Opening,
