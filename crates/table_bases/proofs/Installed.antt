@@ -1,5 +1,5 @@
 -- A base is installed: what is in hand behind the store and the flush, the steps, and the course.
-use Rattle.std.proofs.Common.{◌≡◌, ◌≢◌, ℕ, ◌+◌, ◌-◌, if◌then◌else◌, Bool, true, false, List, [], ◌∷◌, ◌++◌, Option, Some, None, Result, Ok, Err, IfErr, IsTrue, add-one, refl, sym, ap, ◌∙◌, subst, arith, inl}
+use Rattle.std.proofs.Common.{◌≡◌, ◌≢◌, ℕ, ◌+◌, ◌-◌, if◌then◌else◌, Bool, true, false, List, [], ◌∷◌, ◌++◌, Option, Some, None, Result, Ok, Err, IfErr, add-one, refl, sym, ap, ◌∙◌, subst, arith, inl}
 use Rattle.xp_words.specs.Machine.{Machine}
 use Rattle.xp_words.specs.Places.{sizes_of}
 use Rattle.xp_words.specs.declared.kind.PageType.TheVariants.{L4}
@@ -10,7 +10,6 @@ use Rattle.xp_board.specs.declared.step.Act.TheVariants.{Store}
 use Rattle.xp_board.specs.declared.step.StepKind.TheVariants as kinds
 use Rattle.xp_board.specs.Hands.{owner_from}
 use Rattle.xp_board.specs.KindSteps.{live_typed}
-use Rattle.xp_board.specs.Readings.{is_context}
 use Rattle.xp_board.specs.Told.{PortValue}
 use Rattle.xp_preempt.specs.Gates.{ends_yes}
 use Rattle.xp_preempt.proofs.Consulting.{consulted_none}
@@ -36,6 +35,7 @@ use Rattle.table_bases.specs.Course.{FlushesBehind, InstallsBy, ReleasesOld}
 use Rattle.table_bases.specs.Holding.{HoldsNoMore, IsWarm, base_number, base_place, came_out, naming, with_typed}
 use Rattle.table_bases.proofs.Behind.{behind_came, behind_serves, stays_warm}
 use Rattle.table_bases.proofs.Requests.{base_contexts, base_entries, base_flushes, base_owner, base_rose, within_release}
+use Rattle.table_bases.proofs.Storing.{base_in_context}
 
 -- ---- the words
 no_flush_word : (base : Base) → base_number base ≢ 5
@@ -49,10 +49,6 @@ told_word User = refl
 names_top : (base : Base) → IsFor (Some L4) (named_type (base_number base))
 names_top Kernel = refl
 names_top User = refl
-
-in_context : (base : Base) → IsTrue (is_context (base_number base))
-in_context Kernel = refl
-in_context User = refl
 
 pub word_after : (old : ℕ) → old ≢ 0 → old ≡ old - 1 + 1
 word_after old some = omega (arith, some)
@@ -100,7 +96,7 @@ module _ (v x c : PortValue) (base : Base) (new : Option ℕ) (old : ℕ) (store
     asks_old : IsAsked v.post.machine v.post.vcpu request (Met v w) g
     asks_old =
         of (own_domain v) (Some L4)
-        (context v.post.vcpu (base_number base) old (base_contexts (own_domain v) new true) found_old (in_context base) (when_eq old (g + 1) is) (inl refl) refl (names_top base))
+        (context v.post.vcpu (base_number base) old (base_contexts (own_domain v) new true) found_old (base_in_context base) (when_eq old (g + 1) is) (inl refl) refl (names_top base))
 
     quiet_release : (n : Machine) (answer : Result (Unit {0}) Stop) → IfErr answer (λ e. e ≡ Paused Due) → misses n answer ≡ []
     quiet_release n (Ok done) due = refl

@@ -31,7 +31,7 @@ use Rattle.table_bases.specs.declared.words.Base.TheVariants.{Kernel, User}
 use Rattle.table_bases.specs.Holding.{HoldsTop, base_number, base_place, came_out, naming, with_typed}
 
 -- ---- the word
-base_in_context : (base : Base) → IsTrue (is_context (base_number base))
+pub base_in_context : (base : Base) → IsTrue (is_context (base_number base))
 base_in_context Kernel = refl
 base_in_context User = refl
 
