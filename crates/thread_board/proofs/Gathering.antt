@@ -53,8 +53,7 @@ kept_one : RunsSound → RunsSafe → (o : Opening) (t : Table (Unit {0}) Shared
 kept_one law safe o t begun was =
     let begins = start_sound o.layout o.words begun in
     record {
-      log = was.log;
-      run = was.run;
+      one = record { log = was.log; run = was.run; lists_are = λ s lt. refl };
       each = λ s lt. own_from o.layout s o.words (record { words = t.words; hands = was.hands }) was.log was.run;
       sound = kept_sound law o t begun was;
       always = λ newer older a same run. (law o.layout (runs.start o.layout o.words) a older run begins, safe o.layout (runs.start o.layout o.words) a older run begins);

@@ -5,7 +5,7 @@ use Rattle.xp_words.specs.Places.{sizes_of, memory}
 use Rattle.xp_board.specs.declared.step.Step.{Step}
 use Rattle.xp_board.specs.declared.holdings.Made.{Made}
 use Rattle.xp_board.specs.declared.holdings.Holdings.{Holdings}
-use Rattle.xp_board.specs.Runs.{Run, State, start, place_of, word_at}
+use Rattle.xp_board.specs.Runs.{IsOneRun, Run, State, start, place_of, word_at}
 use Rattle.xp_board.specs.Sound.{SoundState, hand_of}
 use Rattle.xp_board.specs.Safe.{Safe}
 
@@ -19,12 +19,11 @@ own_steps n s a (e ∷ es) b run =
 
 -- One list of legal steps of all vCPUs leads from the opening words to these words and hands
 pub record OneRun (n : Machine) (opening words : List ℕ) (hands : List Holdings) : Type 0 where
-  pub log : List (ℕ × Step)
-  pub run : Run n (start n opening) log (record { words = words; hands = hands })
+  pub one : IsOneRun n opening (λ s. (hand_of hands s).steps) (record { words = words; hands = hands })
   -- the steps of each vCPU on it are those in its hand, and each of them found the word that its hand says
-  pub each : (s : ℕ) → s < (sizes_of n).vcpus → (hand_of hands s).steps ≡ own_steps n s (start n opening) log (record { words = words; hands = hands }) run
+  pub each : (s : ℕ) → s < (sizes_of n).vcpus → (hand_of hands s).steps ≡ own_steps n s (start n opening) one.log (record { words = words; hands = hands }) one.run
   -- it ends in a sound state
   pub sound : SoundState n words hands
   -- and so does each beginning of it, where the machine is safe too
-  pub always : (newer older : List (ℕ × Step)) (a : State) → log ≡ newer ++ older → Run n (start n opening) older a →
+  pub always : (newer older : List (ℕ × Step)) (a : State) → one.log ≡ newer ++ older → Run n (start n opening) older a →
       SoundState n a.words a.hands × Safe n (memory (sizes_of n) a.words) (hand_of a.hands)
