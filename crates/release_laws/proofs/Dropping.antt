@@ -7,6 +7,7 @@ use Rattle.xp_words.specs.declared.kind.KindWord.{KindWord}
 use Rattle.xp_words.specs.declared.place.Place.TheVariants.{Kind, Refs}
 use Rattle.xp_board.specs.KindSteps.{resumed_kind}
 use Rattle.xp_board.specs.Readings.{is_partial, ref_count}
+use Rattle.board_lemmas.proofs.KindReadings.{partial_parts}
 use Rattle.step_maker.specs.Plain.{Words}
 use Rattle.frame_words.specs.Plain.{put, stamp_now}
 use Rattle.kind_words.specs.Kinds.{dead_kind}
@@ -19,7 +20,7 @@ use Rattle.table_law.specs.Plain.{Describes, Plain, sober, with_kind}
 use Rattle.table_law.specs.Release.{drop_first, emptying, held_of, is_counted_on, let_go}
 use Rattle.table_law.proofs.Undoing.{counted, opened}
 use Rattle.table_twins.proofs.Kinding.{unlive}
-use Rattle.release_laws.proofs.Words.{closed_words, live_there, lowered_words, partial_parts, put_words, resumed_described}
+use Rattle.release_laws.proofs.Words.{closed_words, live_there, lowered_words, put_words, resumed_described}
 
 -- ---- the plain release of a frame that holds no entries
 nothing_held : (l g : ℕ) (p : Plain) → is_counted_on (p.kinds g) ≡ false → (l ≡ 0) ⊎ (held_of (p.kinds g) ≡ 0) → let_go l g p ≡ closed g (level_type l) (with_kind g (emptying (p.kinds g)) p)

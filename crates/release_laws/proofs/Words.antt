@@ -1,5 +1,5 @@
 -- Words on which a release changes one frame, and the plain value that describes them.
-use Rattle.std.proofs.Common.{◌≡◌, ℕ, ◌+◌, ◌-◌, ◌%◌, ◌<◌, ◌^◌, ◌&&◌, not, if◌then◌else◌, Bool, true, false, Option, Some, None, IsTrue, refl, sym, ap, ◌∙◌, subst, arith}
+use Rattle.std.proofs.Common.{◌≡◌, ℕ, ◌+◌, ◌-◌, ◌%◌, ◌<◌, ◌^◌, not, if◌then◌else◌, Bool, true, false, Option, Some, None, IsTrue, refl, sym, ap, ◌∙◌, subst, arith}
 use Rattle.xp_words.specs.KindWords.{is_kind, kind_fields}
 use Rattle.xp_words.specs.Machine.{Machine}
 use Rattle.xp_words.specs.PageTypes.{is_none}
@@ -15,6 +15,7 @@ use Rattle.xp_board.specs.Readings.{count_in, is_partial, ref_count}
 use Rattle.xp_board.specs.RefSteps.{one_down}
 use Rattle.xp_board.specs.Told.{PortValue, told_word}
 use Rattle.board_lemmas.proofs.KindForms.{fields_down}
+use Rattle.board_lemmas.proofs.KindReadings.{partial_parts}
 use Rattle.step_maker.specs.Plain.{Leaves, Words}
 use Rattle.frame_words.specs.Plain.{put}
 use Rattle.kind_words.specs.Kinds.{dead_kind}
@@ -65,14 +66,6 @@ lowered_words n m p g d inside live small some =
     let down : kind_fields ((m (Kind g) + one_down) % 2 ^ 64) ≡ record k { number = k.number - 1 } = fields_down (m (Kind g)) small some in
     described_kind n m (lowered_type g m) p g ((m (Kind g) + one_down) % 2 ^ 64) (record (p.kinds g) { number = (p.kinds g).number - 1 }) (lowered_is m g)
     (ap (λ (y : KindWord). record y { number = y.number - 1 }) (live_there n m p g d inside live) ∙ sym (live_sober (record k { number = k.number - 1 }) live) ∙ ap sober (sym down)) d
-
-pub partial_parts : (k : KindWord) → IsTrue (is_partial k) → (k.validated ≡ false) × (k.partial ≡ true)
-partial_parts k is = parts k.validated k.partial is
-  where
-    parts : (a b : Bool) → IsTrue (not a && b) → (a ≡ false) × (b ≡ true)
-    parts true b is = absurd (cc)
-    parts false true is = (refl, refl)
-    parts false false is = absurd (cc)
 
 -- in work again
 pub resumed_described : (n : Machine) (m : Words) (p : Plain) (g : ℕ) → Describes n m p → g < n.frames → IsTrue (is_kind (kind_fields (m (Kind g)))) → IsTrue (is_partial (kind_fields (m (Kind g)))) →
