@@ -22,7 +22,11 @@ REPORT = (
     b"frame 0 owner 0 refs 1 alloc type none count 0 flags - at 0 m2p 0x7\nfree 0\nend\n"
 )
 
-COMMANDS = ["turns", "turns --preempt 0", "turns --preempt 17", "turns --preempt=17", "turns --preempt=1000000"]
+# The trace has one vCPU, so a run in threads leaves the same report.
+COMMANDS = [
+    "turns", "turns --preempt 0", "turns --preempt 17", "turns --preempt=17", "turns --preempt=1000000",
+    "replay", "replay --preempt 0", "replay --preempt 17", "replay --preempt=17", "replay --preempt=1000000",
+]
 
 NO_COMMANDS = [
     "", "run", "Turns", "turns turns", "--help", "-h", "help", "--version", "turns --help", "turns -h", "turns --", "-- turns",
@@ -30,6 +34,11 @@ NO_COMMANDS = [
     "turns --preempt 1000001", "turns --preempt 0x10", "turns --preempt 1 --", "turns --preempt -- 1", "turns --preempt 1 2",
     "--preempt 1 turns", "--preempt=1 turns", "turns --preempt 1 --preempt 1", "turns --preempt=1 --preempt=2",
     "turns --preempt=1 --preempt 2", "turns --pre=1", "turns --PREEMPT=1", "turns -p 1",
+    "Replay", "replays", "replay x", "replay replay", "replay turns", "turns replay", "replay --help", "replay -h", "replay --",
+    "-- replay", "replay --preempt", "replay --preempt=", "replay --preempt 01", "replay --preempt=01", "replay --preempt +1",
+    "replay --preempt=-0", "replay --preempt 1000001", "replay --preempt 0x10", "replay --preempt 1 --", "replay --preempt -- 1",
+    "replay --preempt 1 2", "--preempt 1 replay", "--preempt=1 replay", "replay --preempt 1 --preempt 1",
+    "replay --preempt=1 --preempt=2", "replay --preempt=1 --preempt 2", "replay --pre=1", "replay --PREEMPT=1", "replay -p 1",
 ]
 
 
@@ -46,14 +55,17 @@ def runs():
     for line in NO_COMMANDS:
         yield repr(line), line.split(), {"input": TRACE}, 2, b"", advice("UNKNOWN_WORDS")
     yield "an empty word", [""], {"input": TRACE}, 2, b"", advice("UNKNOWN_WORDS")
-    yield "a word that is no text", [b"turns\xff"], {"input": TRACE}, 2, b"", advice("UNKNOWN_WORDS")
-    yield "no bytes", ["turns"], {"input": b""}, 3, b"bad trace line 1: end\n", advice("BAD_TRACE")
-    yield "a bad line", ["turns"], {"input": b"xen-pv-trace 1\nframes 0\n"}, 3, b"bad trace line 2: range\n", advice("BAD_TRACE")
+    for word in [b"turns\xff", b"replay\xff"]:
+        yield f"{word!r}, which is no text", [word], {"input": TRACE}, 2, b"", advice("UNKNOWN_WORDS")
     too_many = b"xen-pv-trace 1\nframes 4097\n"
-    yield "too many frames", ["turns"], {"input": too_many}, 4, b"too large line 2: frames 4097\n", advice("TOO_LARGE")
-    yield "a folder as input", ["turns"], {"stdin": "/"}, 5, b"", advice("READ_FAULT")
-    yield "an output that is full", ["turns"], {"input": TRACE, "stdout": "/dev/full"}, 6, None, advice("WRITE_FAULT")
-    yield "a bad line and a full output", ["turns"], {"input": b"", "stdout": "/dev/full"}, 6, None, advice("WRITE_FAULT")
+    for command in ["turns", "replay"]:
+        yield f"{command}, no bytes", [command], {"input": b""}, 3, b"bad trace line 1: end\n", advice("BAD_TRACE")
+        yield f"{command}, a bad line", [command], {"input": b"xen-pv-trace 1\nframes 0\n"}, 3, b"bad trace line 2: range\n", advice("BAD_TRACE")
+        yield f"{command}, too many frames", [command], {"input": too_many}, 4, b"too large line 2: frames 4097\n", advice("TOO_LARGE")
+        yield f"{command}, a folder as input", [command], {"stdin": "/"}, 5, b"", advice("READ_FAULT")
+        yield f"{command}, an output that is full", [command], {"input": TRACE, "stdout": "/dev/full"}, 6, None, advice("WRITE_FAULT")
+        yield f"{command}, a bad line and a full output", [command], {"input": b"", "stdout": "/dev/full"}, 6, None, advice("WRITE_FAULT")
+    yield "replay without turns", ["replay"], {"input": TRACE.replace(b"turn 0 1\n", b"")}, 0, REPORT, b""
     large = b"xen-pv-trace 1\n#" + b" " * (48 << 20) + b"\nframes 1\ndomain 1\nvcpu 0\nend\n"
     yield "little memory", ["turns"], {"input": large, "preexec_fn": little_memory}, 7, b"", advice("MEMORY")
 

@@ -4,13 +4,11 @@ the medians.
 
 usage: entry_updates.py PTMAC OTHER
 """
-import statistics
-import subprocess
 import sys
-import time
+
+import timing
 
 UPDATES = 60_000
-RUNS = 7
 
 
 def trace():
@@ -22,25 +20,5 @@ def trace():
     return ("\n".join(lines) + "\n").encode()
 
 
-def once(program, data):
-    start = time.perf_counter()
-    run = subprocess.run([program, "turns"], input=data, stdout=subprocess.PIPE, check=True)
-    return time.perf_counter() - start, run.stdout
-
-
-def main():
-    ours, other = sys.argv[1:3]
-    data = trace()
-    mine, theirs, same = [], [], True
-    for _ in range(RUNS):
-        taken, text = once(ours, data)
-        mine.append(taken)
-        taken, text_too = once(other, data)
-        theirs.append(taken)
-        same = same and text == text_too
-    a, b = statistics.median(mine), statistics.median(theirs)
-    print(f"{UPDATES} entry updates: {1000 * a:.1f} ms, {1000 * b:.1f} ms, ratio {a / b:.2f}, {'the same text' if same else 'ANOTHER TEXT'}")
-
-
 if __name__ == "__main__":
-    main()
+    timing.print_beside(f"{UPDATES} entry updates", *sys.argv[1:3], trace())

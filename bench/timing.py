@@ -1,7 +1,9 @@
 """Times of whole runs, for the other programs of this folder."""
 import os
+import statistics
 import subprocess
 import sys
+import time
 
 TOP = os.path.dirname(os.path.dirname(os.path.abspath(__file__)))
 BUILT = os.path.join(TOP, "crates", "ptmac", "out", "ptmac")
@@ -54,3 +56,27 @@ def least(runs, sink, *jobs):
         for kept, (command, source) in zip(times, jobs):
             kept.append(seconds(command, source, sink))
     return [min(kept) for kept in times]
+
+
+def on_the_clock(command, data):
+    """Seconds by the clock on the wall, and standard output, of one run that reads these bytes."""
+    start = time.perf_counter()
+    run = subprocess.run(command, input=data, stdout=subprocess.PIPE, check=True)
+    return time.perf_counter() - start, run.stdout
+
+
+def medians(runs, jobs):
+    """The median of each job, a command and the bytes that it reads, and its text. They are run in turn."""
+    times, texts = [[] for _ in jobs], [None for _ in jobs]
+    for _ in range(runs):
+        for number, (command, data) in enumerate(jobs):
+            taken, texts[number] = on_the_clock(command, data)
+            times[number].append(taken)
+    return [statistics.median(kept) for kept in times], texts
+
+
+def print_beside(what, ours, other, data, runs=7):
+    """Times the turns of a trace by two programs, and prints the medians, their ratio, and whether the texts are the same."""
+    (one, two), (text, text_too) = medians(runs, [([ours, "turns"], data), ([other, "turns"], data)])
+    same = "the same text" if text == text_too else "ANOTHER TEXT"
+    print(f"{what}: {1000 * one:.1f} ms, {1000 * two:.1f} ms, ratio {one / two:.2f}, {same}")

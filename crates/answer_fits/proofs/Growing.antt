@@ -19,8 +19,8 @@ use Rattle.answer_fits.specs.Answers.{Causes}
 use Rattle.answer_fits.specs.Asked.{Request, IsAsked, of, back, Within, HasNoMore, NoMore, Passed, checked, given, old, stands, Implies}
 use Rattle.answer_fits.specs.Finding.{Finding, FoundAt, FoundWith, Did}
 use Rattle.answer_fits.specs.Licences.{IsNewWord, IsOwnedBy, Licensed, HasTaken}
-use Rattle.answer_fits.specs.Pauses.{PausesFor, Progress, Loses, IsWanted, Clear, idle, flushed, own, barred, AskedTo}
-use Rattle.answer_fits.specs.Reasons.{AwaitsStamp, marked, other, free, begun, MayFlush, NeedsFlush, MayCountPages, MayReach, taken, IsMarkAsked, IsPagesChange, IsRefChange, MayType, MayWriteOwn, MayChangeVcpu, Reason, MayLook, HasReason}
+use Rattle.answer_fits.specs.Pauses.{PausesFor, Progress, Loses, IsWanted, Clear, idle, flushed, own, unmeant, barred, AskedTo}
+use Rattle.answer_fits.specs.Reasons.{AwaitsStamp, Whose, OfOwner, Those, marked, other, free, begun, goes_on, MayFlush, NeedsFlush, MayCountPages, MayReach, taken, IsMarkAsked, IsPagesChange, IsRefChange, MayType, MayWriteOwn, MayChangeVcpu, Reason, MayLook, HasReason}
 use Rattle.answer_fits.specs.Reasons as reasons
 use Rattle.answer_fits.proofs.Progressing.{progress_in}
 
@@ -61,24 +61,25 @@ module _ (n : Machine) (s : ℕ) (q : Request) (F : Finding) (t : Request) (G : 
   passed f o h (stands u i x e a b c d j) = stands u i x e (w.entries a) (found _ x b) c d j
 
   -- ---- why a word may change
-  awaited : (whose : Option ℕ) (stamp : ℕ) → AwaitsStamp n s q F whose stamp → AwaitsStamp n s t G whose stamp
+  awaited : (whose : Whose) (stamp : ℕ) → AwaitsStamp n s q F whose stamp → AwaitsStamp n s t G whose stamp
   awaited whose stamp (marked f x o want h a b c d e i j) = marked f x o want h (w.asked f o (Some want) a) (found_with _ x h b) (passed f o h c) d e i j
   awaited whose stamp (other f x o want h a b c d e i j) = other f x o want h (w.asked f o (Some want) a) (found_with _ x h b) (passed f o h c) d e i j
   awaited whose stamp (free f x k o a b c d e) = free f x k (w.pages k o) (asks f a) (found _ x b) c d e
-  awaited whose stamp (begun a b c) = begun (w.flushes a) (found _ stamp b) c
+  awaited whose stamp (begun x a b c d) = begun x (w.waits x a) b (found _ stamp c) d
+  awaited whose stamp (goes_on x m a b c d e) = goes_on x m (w.waits x a) b (w.moments m c) d e
 
   needing : (h : Holdings) → NeedsFlush n s q F h → NeedsFlush n s t G h
   needing h (reasons.own a) = reasons.own (w.flushes a)
-  needing h (reasons.awaited o x a b) = reasons.awaited o x (awaited o x a) b
+  needing h (reasons.awaited o x a b c) = reasons.awaited o x (awaited o x a) b c
 
   flushing : (h : Holdings) → MayFlush n s q F h → MayFlush n s t G h
   flushing h (reasons.needed a) = reasons.needed (needing h a)
   flushing h (reasons.asked x a b) = reasons.asked x a b
 
-  reaching : (o : Option ℕ) (v : ℕ) → MayReach n o F v → MayReach n o G v
-  reaching None v a = a
-  reaching (Some o) v (inl a) = inl a
-  reaching (Some o) v (inr a) = inr (a.0, found _ a.0 a.1, a.2)
+  reaching : (o : Whose) (v : ℕ) → MayReach n o F v → MayReach n o G v
+  reaching (Those means) v a = a
+  reaching (OfOwner o) v (inl a) = inl a
+  reaching (OfOwner o) v (inr a) = inr (a.0, found _ a.0 a.1, a.2)
 
   counting : (d : ℕ) → MayCountPages n s q F d → MayCountPages n s t G d
   counting d (reasons.found f x a b c) = reasons.found f x (asks f a) (found _ x b) c
@@ -162,13 +163,14 @@ module _ (n : Machine) (s : ℕ) (q : Request) (F : Finding) (t : Request) (G : 
   progress : Progress F → Progress G
   progress a = progress_in F G w.moments a
 
-  clear : (o : Option ℕ) (stamp v : ℕ) → Clear n s o stamp F v → Clear n s o stamp G v
+  clear : (o : Whose) (stamp v : ℕ) → Clear n s o stamp F v → Clear n s o stamp G v
   clear o stamp v (idle x a b) = idle x (found _ x a) b
   clear o stamp v (flushed x a b) = flushed x (found _ x a) b
   clear o stamp v (own x y a b c) = own x y a (did _ _ y b) c
+  clear o stamp v (unmeant means a b) = unmeant means a b
   clear o stamp v (barred d x a b c e) = barred d x a b (found _ x c) e
 
-  cleared : (o : Option ℕ) (stamp v : ℕ) → Clear n s o stamp F v ⊎ AskedTo stamp F v → Clear n s o stamp G v ⊎ AskedTo stamp G v
+  cleared : (o : Whose) (stamp v : ℕ) → Clear n s o stamp F v ⊎ AskedTo stamp F v → Clear n s o stamp G v ⊎ AskedTo stamp G v
   cleared o stamp v (inl a) = inl (clear o stamp v a)
   cleared o stamp v (inr a) = inr (record { before = a.before; did = did _ _ a.before a.did })
 

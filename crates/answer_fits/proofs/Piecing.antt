@@ -60,6 +60,7 @@ same_request n s r F G more =
       names = λ a f b. b;
       owner = λ a. refl;
       over = λ d a. (a, refl);
+      waits = λ x a. a;
       ldt_page = λ x a. a;
       descriptor = λ x a. a;
     }
@@ -213,6 +214,7 @@ within_frame n s f owner want r F G more asks =
       names = λ a. absurd (plain_frame f owner want a);
       owner = λ a. absurd cc;
       over = λ d a. absurd cc;
+      waits = λ x a. absurd cc;
       ldt_page = λ x a. absurd cc;
       descriptor = λ x a. absurd cc;
     }
@@ -250,6 +252,7 @@ within_back n s f r F G more asks =
       names = λ a. absurd (plain_back f a);
       owner = λ a. absurd cc;
       over = λ d a. absurd cc;
+      waits = λ x a. absurd cc;
       ldt_page = λ x a. absurd cc;
       descriptor = λ x a. absurd cc;
     }

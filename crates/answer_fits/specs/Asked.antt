@@ -22,6 +22,12 @@ use Rattle.xp_board.specs.Readings.{is_context, is_dead, is_frame_word, domain_o
 use Rattle.step_maker.specs.Moves.{Moment}
 use Rattle.answer_fits.specs.Finding.{Finding, FoundAt, FoundWith}
 
+-- A wait for flushes of the call's own: of which vCPUs, and past which clock value. It is one that the call finds itself, or one that the vCPU found
+-- when the wait began in an earlier turn.
+pub record Wait : Type 0 where
+  pub means : ℕ → Bool
+  pub stamp : Option ℕ
+
 -- what a call is asked: by its own numbers, and beside what its steps find
 pub record Request : Type 0 where
   -- the frames that it names, whose they must be, and the type that it wants of them
@@ -47,6 +53,8 @@ pub record Request : Type 0 where
   -- whether it walks the own tables; whether it ends with a flush of its own
   pub walks : Bool
   pub flushes : Bool
+  -- the flushes that it waits for, whatever frames it asks
+  pub waits : Option Wait
   -- the domain that it destroys; the one whose life word it looks at
   pub destroys : Option ℕ
   -- how many pages it takes, in blocks of so many frames
@@ -81,6 +89,7 @@ of_frame f owner want =
       locks = false;
       walks = false;
       flushes = false;
+      waits = None;
       destroys = None;
       pages = None;
       block = None;
@@ -218,6 +227,7 @@ pub record Within (n : Machine) (s : ℕ) (r : Request) (F : Finding) (q : Reque
   pub new_word : Keeps r.new_word q.new_word
   pub walks : Implies r.walks q.walks
   pub flushes : Implies r.flushes q.flushes
+  pub waits : Keeps r.waits q.waits
   pub destroys : Keeps r.destroys q.destroys
   pub pages : Keeps r.pages q.pages
   pub block : Keeps r.block q.block

@@ -24,7 +24,7 @@ use Rattle.xp_words.specs.declared.kind.PageType.{PageType}
 use Rattle.answer_fits.specs.Asked.{Request, Asked, IsDemandOf, Passed, demand_held}
 use Rattle.step_maker.specs.Moves.{Moment}
 use Rattle.answer_fits.specs.Finding.{Finding, FoundAt, FoundWith, Did}
-use Rattle.answer_fits.specs.Reasons.{AwaitsStamp, Reason, MayReach}
+use Rattle.answer_fits.specs.Reasons.{AwaitsStamp, Reason, MayReach, OfOwner, Those, Whose}
 
 -- ---- progress
 abbrev pub is_entry_mark : Option Mark → Bool
@@ -72,19 +72,20 @@ IsWanted r (Some t) w = IsTrue (is_type (kind_fields w).kind t)
 IsWanted r None w = (r.locks ≡ true) ⊎ (r.contexts ≡ true)
 
 -- ---- flushes
--- a vCPU was found clear of that stamp
-pub data Clear (n : Machine) (s : ℕ) (whose : Option ℕ) (stamp : ℕ) (F : Finding) (v : ℕ) : Type 0 where
+-- a vCPU was found clear of that stamp, or is not meant
+pub data Clear (n : Machine) (s : ℕ) (whose : Whose) (stamp : ℕ) (F : Finding) (v : ℕ) : Type 0 where
   idle : (w : ℕ) → FoundAt F (Vcpu v 6) w → IsTrue (is_idle w) → Clear n s whose stamp F v
   flushed : (w : ℕ) → FoundAt F (Vcpu v 5) w → stamp < w → Clear n s whose stamp F v
   own : (w before : ℕ) → v ≡ s → Did F (Vcpu v 5) (Store w) before → stamp < w → Clear n s whose stamp F v
-  barred : (owner w : ℕ) → whose ≡ Some owner → domain_of n v ≢ owner → FoundAt F (Priv (domain_of n v)) w → IsTrue (not (has_ever owner w)) → Clear n s whose stamp F v
+  unmeant : (means : ℕ → Bool) → whose ≡ Those means → IsTrue (not (means v)) → Clear n s whose stamp F v
+  barred : (owner w : ℕ) → whose ≡ OfOwner owner → domain_of n v ≢ owner → FoundAt F (Priv (domain_of n v)) w → IsTrue (not (has_ever owner w)) → Clear n s whose stamp F v
 
 pub record AskedTo (stamp : ℕ) (F : Finding) (v : ℕ) : Type 0 where
   pub before : ℕ
   pub did : Did F (Vcpu v 4) (Max stamp) before
 
 -- the least vCPU that is behind, and all that are were asked, it too; the own one is clear, and not only asked
-pub record Behind (n : Machine) (s : ℕ) (whose : Option ℕ) (stamp : ℕ) (F : Finding) (v found : ℕ) : Type 0 where
+pub record Behind (n : Machine) (s : ℕ) (whose : Whose) (stamp : ℕ) (F : Finding) (v found : ℕ) : Type 0 where
   pub other : v ≢ s
   pub real : v < length n.vcpu_domain
   pub running : FoundAt F (Vcpu v 6) 0
@@ -104,5 +105,5 @@ PausesFor n s r F (Lost place expected found) =
 PausesFor n s r F (Busy f w) =
     ((owner : ℕ) × (want : Option PageType) × (h : Holdings) × Asked n s r F f owner want × FoundWith F (Kind f) w h × Passed n r F f owner h × IsTrue (found_busy w) × IsWanted r want w × IsElsewhere f h)
     ⊎ ((d : ℕ) × (r.destroys ≡ Some d) × ((x : ℕ) × FoundAt F (Refs f) x × (owner_of x ≡ Some d) × ((FoundAt F (Kind f) w × IsTrue (found_in_use w)) ⊎ ((w ≡ x) × IsTrue (is_dying w)))))
-PausesFor n s r F (Flush v stamp found) = (whose : Option ℕ) × Behind n s whose stamp F v found × AwaitsStamp n s r F whose stamp
+PausesFor n s r F (Flush v stamp found) = (whose : Whose) × Behind n s whose stamp F v found × AwaitsStamp n s r F whose stamp
 PausesFor n s r F (Alive v w) = (r.destroys ≡ Some (domain_of n v)) × FoundAt F (Vcpu v 6) w × (w ≢ 1)

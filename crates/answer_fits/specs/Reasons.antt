@@ -1,5 +1,5 @@
 -- Why a step may change a word: it serves a frame that is asked, or a flush that is asked or awaited.
-use Rattle.std.specs.Prelude.{◌≡◌, ◌≢◌, ◌⊎◌, ℕ, ◌+◌, ◌/◌, ◌&&◌, ◌||◌, ◌≤◌, not, Bool, true, length, Option, Some, None, IsTrue}
+use Rattle.std.specs.Prelude.{◌≡◌, ◌≢◌, ◌⊎◌, ℕ, ◌+◌, ◌/◌, ◌==◌, ◌&&◌, ◌||◌, ◌≤◌, not, Bool, true, length, Option, Some, None, IsTrue}
 use Rattle.xp_words.specs.Machine.{Machine}
 use Rattle.xp_words.specs.declared.place.Place.{Place}
 use Rattle.xp_words.specs.declared.place.Place.TheVariants.{Clock, Pages, Life, Vcpu, Refs, Kind, M2p, Cell, Map, Priv}
@@ -12,25 +12,35 @@ use Rattle.xp_board.specs.declared.holdings.Holdings.{Holdings}
 use Rattle.xp_board.specs.Acts.{left_by}
 use Rattle.xp_board.specs.KindSteps.{is_stale}
 use Rattle.xp_board.specs.Readings.{is_dead, is_type, is_free, owner_of, domain_of, free_stamp, has_ever}
-use Rattle.xp_board.specs.Steps.{last_since}
+use Rattle.xp_board.specs.Steps.{last_since, some_since}
 use Rattle.step_maker.specs.Moves.{Moment}
-use Rattle.answer_fits.specs.Asked.{Request, Asked, IsAsked, Passed}
+use Rattle.answer_fits.specs.Asked.{Request, Asked, IsAsked, Passed, Wait}
 use Rattle.answer_fits.specs.Finding.{Finding, FoundAt, FoundWith}
 
 -- ---- flushes
--- the stamps that flushes are awaited for, and whose the frame is where one domain's vCPUs and those with privilege for it matter
-pub data AwaitsStamp (n : Machine) (s : ℕ) (r : Request) (F : Finding) (whose : Option ℕ) (stamp : ℕ) : Type 0 where
+-- whose flushes a wait is for: those that may have a translation of a frame of that owner, or these vCPUs
+pub data Whose : Type 0 where
+  OfOwner : (owner : ℕ) → Whose
+  Those : (means : ℕ → Bool) → Whose
+
+-- the vCPU had found the clock at that value
+abbrev pub HadClock : Machine → ℕ → Holdings → Type 0
+HadClock n stamp h = IsTrue (some_since (sizes_of n) 0 Clock (λ w. w == stamp) h.steps)
+
+-- the stamps that flushes are awaited for, and whose
+pub data AwaitsStamp (n : Machine) (s : ℕ) (r : Request) (F : Finding) (whose : Whose) (stamp : ℕ) : Type 0 where
   -- found in a marked kind word of an asked frame
   marked : (f w owner : ℕ) (want : PageType) (h : Holdings) → Asked n s r F f owner (Some want) → FoundWith F (Kind f) w h → Passed n r F f owner h → (kind_fields w).unflushed ≡ true →
       IsTrue (is_dead (kind_fields w) || is_type (kind_fields w).kind want) →
-      whose ≡ Some owner → stamp ≡ (kind_fields w).number → AwaitsStamp n s r F whose stamp
+      whose ≡ OfOwner owner → stamp ≡ (kind_fields w).number → AwaitsStamp n s r F whose stamp
   -- found in a dead word of an asked frame whose type is neither None nor the one asked
   other : (f w owner : ℕ) (want : PageType) (h : Holdings) → Asked n s r F f owner (Some want) → FoundWith F (Kind f) w h → Passed n r F f owner h → IsTrue (is_dead (kind_fields w)) →
-      is_stale (kind_fields w) want ≡ true → whose ≡ Some owner → stamp ≡ (kind_fields w).number → AwaitsStamp n s r F whose stamp
+      is_stale (kind_fields w) want ≡ true → whose ≡ OfOwner owner → stamp ≡ (kind_fields w).number → AwaitsStamp n s r F whose stamp
   -- found in a free word by a call that takes pages
-  free : (f w k : ℕ) → r.pages ≡ Some k → IsAsked n s r F f → FoundAt F (Refs f) w → is_free w ≡ true → whose ≡ None → stamp ≡ free_stamp w → AwaitsStamp n s r F whose stamp
-  -- the clock that was found when the call's own wait began
-  begun : r.flushes ≡ true → FoundAt F Clock stamp → whose ≡ None → AwaitsStamp n s r F whose stamp
+  free : (f w k : ℕ) → r.pages ≡ Some k → IsAsked n s r F f → FoundAt F (Refs f) w → is_free w ≡ true → whose ≡ Those (λ v. true) → stamp ≡ free_stamp w → AwaitsStamp n s r F whose stamp
+  -- the clock that was found when the call's own wait began, in it or in an earlier turn
+  begun : (x : Wait) → r.waits ≡ Some x → x.stamp ≡ None → FoundAt F Clock stamp → whose ≡ Those x.means → AwaitsStamp n s r F whose stamp
+  goes_on : (x : Wait) (m : Moment) → r.waits ≡ Some x → x.stamp ≡ Some stamp → F m → HadClock n stamp m.hand → whose ≡ Those x.means → AwaitsStamp n s r F whose stamp
 
 -- the word that the vCPU last found or left there is at most the stamp
 pub record LastAtMost (n : Machine) (p : Place) (stamp : ℕ) (h : Holdings) : Type 0 where
@@ -38,10 +48,15 @@ pub record LastAtMost (n : Machine) (p : Place) (stamp : ℕ) (h : Holdings) : T
   pub was : last_since (sizes_of n) 0 p h.steps ≡ Some last
   pub most : last ≤ stamp
 
+-- a wait for the vCPUs that may have a translation is one for the own vCPU, too
+abbrev pub IsMeant : Whose → ℕ → Type 0
+IsMeant (OfOwner owner) v = Unit {0}
+IsMeant (Those means) v = IsTrue (means v)
+
 -- the own flush: the call ends with it; or the own flushed word, as the vCPU last knew it, is at most what it was asked for, or at most an awaited stamp
 pub data NeedsFlush (n : Machine) (s : ℕ) (r : Request) (F : Finding) (h : Holdings) : Type 0 where
   own : r.flushes ≡ true → NeedsFlush n s r F h
-  awaited : (whose : Option ℕ) (stamp : ℕ) → AwaitsStamp n s r F whose stamp → LastAtMost n (Vcpu s 5) stamp h → NeedsFlush n s r F h
+  awaited : (whose : Whose) (stamp : ℕ) → AwaitsStamp n s r F whose stamp → IsMeant whose s → LastAtMost n (Vcpu s 5) stamp h → NeedsFlush n s r F h
 
 pub data MayFlush (n : Machine) (s : ℕ) (r : Request) (F : Finding) (h : Holdings) : Type 0 where
   needed : NeedsFlush n s r F h → MayFlush n s r F h
@@ -55,14 +70,14 @@ pub record IsFlushedNext (s : ℕ) (F : Finding) (clock : ℕ) (h : Holdings) : 
   pub act : moment.act ≡ Store clock
   pub next : length moment.hand.steps ≡ length h.steps + 1
 
--- the vCPU is of the domain whose frame it is, or was found with the privilege for that domain: it may have a translation of it
-abbrev pub MayReach : Machine → Option ℕ → Finding → ℕ → Type 0
-MayReach n None F v = Unit {0}
-MayReach n (Some owner) F v = (domain_of n v ≡ owner) ⊎ ((w : ℕ) × FoundAt F (Priv (domain_of n v)) w × IsTrue (has_ever owner w))
+-- the vCPU is of the domain whose frame it is, or was found with the privilege for that domain: it may have a translation of it; or it is one of those that are meant
+abbrev pub MayReach : Machine → Whose → Finding → ℕ → Type 0
+MayReach n (Those means) F v = IsTrue (means v)
+MayReach n (OfOwner owner) F v = (domain_of n v ≡ owner) ⊎ ((w : ℕ) × FoundAt F (Priv (domain_of n v)) w × IsTrue (has_ever owner w))
 
 -- a vCPU may be asked to flush past an awaited stamp, where it was found flushed no later
 abbrev pub MayAskFor : Machine → ℕ → Request → Finding → ℕ → ℕ → ℕ → Holdings → Type 0
-MayAskFor n s r F v k stamp h = (k ≡ 4) × ((whose : Option ℕ) × AwaitsStamp n s r F whose stamp × MayReach n whose F v) × LastAtMost n (Vcpu v 5) stamp h
+MayAskFor n s r F v k stamp h = (k ≡ 4) × ((whose : Whose) × AwaitsStamp n s r F whose stamp × MayReach n whose F v) × LastAtMost n (Vcpu v 5) stamp h
 
 -- ---- words of frames
 -- the page count is that of the owner that was found of an asked frame, or of the domain that takes pages

@@ -33,3 +33,4 @@ pub mod Serving
 pub mod Owners
 pub mod Learned
 pub mod Settled
+pub mod Warming

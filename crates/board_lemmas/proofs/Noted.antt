@@ -45,9 +45,11 @@ pub record Parts : Type 0 where
   pub steps : List Made
   pub cache : List Item
   pub walk : Option Walk
+  pub cold : Bool
+  pub ran : ℕ
 
 abbrev pub parts : Holdings → Parts
-parts h = record { steps = h.steps; cache = h.cache; walk = h.walk }
+parts h = record { steps = h.steps; cache = h.cache; walk = h.walk; cold = h.cold; ran = h.ran }
 
 -- a hand with these parts
 abbrev Bare : Parts → Holdings → Type 0
@@ -102,7 +104,7 @@ recorded_aside n f upto h = recorded_bare (parts h) n f (work_on f h.works) h re
 pub shed_aside : (n : Machine) (f upto : ℕ) (h : Holdings) → parts (after_mark n (Some (marks.Shed f upto)) h) ≡ parts h
 shed_aside n f upto h = shed_bare (parts h) n f upto (work_on f h.works) h refl
 
-mark_steps : (n : Machine) (mark : Option Mark) (h : Holdings) → (after_mark n mark h).steps ≡ h.steps
+pub mark_steps : (n : Machine) (mark : Option Mark) (h : Holdings) → (after_mark n mark h).steps ≡ h.steps
 mark_steps n None h = refl
 mark_steps n (Some (marks.Record f upto)) h = ap (λ (q : Parts). q.steps) (recorded_aside n f upto h)
 mark_steps n (Some (marks.Shed f upto)) h = ap (λ (q : Parts). q.steps) (shed_aside n f upto h)

@@ -1,17 +1,20 @@
--- Words that ask for a run are read by `clap`, as their pace.
-use Rattle.std.proofs.Common.{◌≡◌, ◌∙◌, ℕ, ◌≤◌, Bool, true, false, ◌&&◌, List, [], ◌∷◌, ◌++◌, Some, None, Option, is_some, cond, take, drop, codes, bytes_eq, refl, sym, ap, subst, arith, lit<, lit≤, leb-true, take-append-drop}
+-- Words that ask for a run are read by `clap`, as that command with its pace.
+use Rattle.std.proofs.Common.{◌≡◌, ◌∙◌, ℕ, ◌≤◌, Bool, true, false, List, [], ◌∷◌, ◌++◌, Some, None, Option, is_some, cond, take, drop, codes, bytes_eq, refl, sym, ap, subst, arith, lit<, lit≤, leb-true, take-append-drop}
 use Rattle.std.specs.Str.Parse.{IsNumeral, digits_value}
 use Rattle.std.proofs.lemmas.Slice.Eq.{bytes_eq-Decides}
-use Rattle.command_words.specs.Words.{pace_behind, pace_in, pace_of}
+use Rattle.command_words.specs.Words.{asked_of, both_of, manner_named, name_of, pace_in, pace_after}
+use Rattle.command_words.specs.declared.asked.Manner.{Manner}
+use Rattle.command_words.specs.declared.asked.Manner.TheVariants.{Turns, Replay}
 use Rattle.command_words.proofs.Lists.{Reads, alone, apart, joined}
-use Rattle.command_words.proofs.Spellings.{both, no_word, spelled}
+use Rattle.command_words.proofs.Spellings.{no_word, spelled}
 
 pub record Known (words : List (List ℕ)) : Type 0 where
+  pub manner : Manner
   pub text : List ℕ
-  pub reads : Reads words text
+  pub reads : Reads words manner text
   pub digits : IsNumeral 10 text
   pub small : digits_value 10 text ≤ 1000000
-  pub is : pace_of words ≡ Some (digits_value 10 text)
+  pub is : asked_of words ≡ Some (record { manner = manner; pace = digits_value 10 text })
 
 same : (w : List ℕ) (v : List ℕ) → bytes_eq w v ≡ true → w ≡ v
 same w v e = (bytes_eq-Decides w v).0 e
@@ -20,50 +23,72 @@ some_if : (b : Bool) (o : Option ℕ) → is_some (cond b o None) ≡ true → (
 some_if true o e = (refl, e)
 some_if false o e = cc
 
-if_true : (b : Bool) (o : Option ℕ) → b ≡ true → cond b o None ≡ o
-if_true b o e = rw e refl
+-- where both are there
+some_both : (m : Option Manner) (n : Option ℕ) → is_some (both_of m n) ≡ true → (is_some m ≡ true) × (is_some n ≡ true)
+some_both (Some m) (Some n) e = (refl, refl)
+some_both (Some m) None e = cc
+some_both None n e = cc
 
-known_apart : (p : List ℕ) → is_some (pace_in p) ≡ true → Known (codes "turns" ∷ codes "--preempt" ∷ p ∷ [])
-known_apart [] e = absurd (no_word e)
-known_apart (c ∷ cs) e =
+-- a word that names a command is its name
+named : (w : List ℕ) → is_some (manner_named w) ≡ true → (m : Manner) × (w ≡ name_of m)
+named w e = by (bytes_eq w (codes "turns")) (bytes_eq w (codes "replay")) refl refl e
+  where
+    by : (t r : Bool) → bytes_eq w (codes "turns") ≡ t → bytes_eq w (codes "replay") ≡ r → is_some (cond t (Some Turns) (cond r (Some Replay) None)) ≡ true
+        → (m : Manner) × (w ≡ name_of m)
+    by true r turns replay h = (Turns, same w (codes "turns") turns)
+    by false true turns replay h = (Replay, same w (codes "replay") replay)
+    by false false turns replay h = cc
+
+pub names_itself : (m : Manner) → manner_named (name_of m) ≡ Some m
+names_itself Turns = refl
+names_itself Replay = refl
+
+-- a pace behind the command, written in these words
+asks : (m : Manner) (rest : List (List ℕ)) (n : ℕ) → pace_after rest ≡ Some n → asked_of (name_of m ∷ rest) ≡ Some (record { manner = m; pace = n })
+asks m rest n e = rw (names_itself m, e) refl
+
+known_apart : (m : Manner) (p : List ℕ) → is_some (pace_in p) ≡ true → Known (name_of m ∷ codes "--preempt" ∷ p ∷ [])
+known_apart m [] e = absurd (no_word e)
+known_apart m (c ∷ cs) e =
     let s = spelled c cs e in record {
+      manner = m;
       text = c ∷ cs;
-      reads = apart c cs s.no_minus s.no_plus s.some s.digits s.least s.most s.fits;
+      reads = apart c cs s.no_minus s.no_plus s.some s.digits s.least s.most s.fits m;
       digits = (omega arith, s.all);
       small = leb-true _ _ s.most;
-      is = s.is;
+      is = asks m (codes "--preempt" ∷ (c ∷ cs) ∷ []) _ s.is;
     }
 
-known_joined : (p : List ℕ) → is_some (pace_in p) ≡ true → Known (codes "turns" ∷ (codes "--preempt=" ++ p) ∷ [])
-known_joined [] e = absurd (no_word e)
-known_joined (c ∷ cs) e =
+known_joined : (m : Manner) (p : List ℕ) → is_some (pace_in p) ≡ true → Known (name_of m ∷ (codes "--preempt=" ++ p) ∷ [])
+known_joined m [] e = absurd (no_word e)
+known_joined m (c ∷ cs) e =
     let s = spelled c cs e in record {
+      manner = m;
       text = c ∷ cs;
-      reads = joined c cs s.no_minus s.no_plus s.some s.digits s.least s.most s.fits;
+      reads = joined c cs s.no_minus s.no_plus s.some s.digits s.least s.most s.fits m;
       digits = (omega arith, s.all);
       small = leb-true _ _ s.most;
-      is = s.is;
+      is = asks m ((codes "--preempt=" ++ (c ∷ cs)) ∷ []) _ s.is;
     }
 
-known_alone : Known (codes "turns" ∷ [])
-known_alone = record { text = codes "0"; reads = alone; digits = (lit< tt, (lit< tt, tt)); small = lit≤ tt; is = refl }
+known_alone : (m : Manner) → Known (name_of m ∷ [])
+known_alone m = record { manner = m; text = codes "0"; reads = alone m; digits = (lit< tt, (lit< tt, tt)); small = lit≤ tt; is = asks m [] 0 refl }
 
-pub known : (words : List (List ℕ)) → is_some (pace_of words) ≡ true → Known words
-known [] e = cc
-known (w ∷ []) e =
-    let first = same w (codes "turns") (some_if (bytes_eq w (codes "turns")) (Some 0) e).0 in
-    subst (λ x. Known (x ∷ [])) (sym first) known_alone
-known (w ∷ o ∷ []) e =
-    let outer = some_if (bytes_eq w (codes "turns")) (pace_behind o) e in
-    let inner = some_if (bytes_eq (take 10 o) (codes "--preempt=")) (pace_in (drop 10 o)) outer.1 in
-    let first = same w (codes "turns") outer.0 in
-    let front = same (take 10 o) (codes "--preempt=") inner.0 in
+known_behind : (m : Manner) (rest : List (List ℕ)) → is_some (pace_after rest) ≡ true → Known (name_of m ∷ rest)
+known_behind m [] e = known_alone m
+known_behind m (o ∷ []) e =
+    let parts = some_if (bytes_eq (take 10 o) (codes "--preempt=")) (pace_in (drop 10 o)) e in
+    let front = same (take 10 o) (codes "--preempt=") parts.0 in
     let whole : codes "--preempt=" ++ drop 10 o ≡ o = ap (λ x. x ++ drop 10 o) (sym front) ∙ take-append-drop 10 o in
-    subst (λ x. Known (x ∷ o ∷ [])) (sym first) (subst (λ x. Known (codes "turns" ∷ x ∷ [])) whole (known_joined (drop 10 o) inner.1))
-known (w ∷ o ∷ p ∷ []) e =
-    let outer = some_if (bytes_eq w (codes "turns") && bytes_eq o (codes "--preempt")) (pace_in p) e in
-    let parts = both (bytes_eq w (codes "turns")) (bytes_eq o (codes "--preempt")) outer.0 in
-    let first = same w (codes "turns") parts.0 in
-    let second = same o (codes "--preempt") parts.1 in
-    subst (λ x. Known (x ∷ o ∷ p ∷ [])) (sym first) (subst (λ x. Known (codes "turns" ∷ x ∷ p ∷ [])) (sym second) (known_apart p outer.1))
-known (w ∷ o ∷ p ∷ x ∷ xs) e = cc
+    subst (λ x. Known (name_of m ∷ x ∷ [])) whole (known_joined m (drop 10 o) parts.1)
+known_behind m (o ∷ p ∷ []) e =
+    let parts = some_if (bytes_eq o (codes "--preempt")) (pace_in p) e in
+    subst (λ x. Known (name_of m ∷ x ∷ p ∷ [])) (sym (same o (codes "--preempt") parts.0)) (known_apart m p parts.1)
+known_behind m (o ∷ p ∷ x ∷ xs) e = cc
+
+pub known : (words : List (List ℕ)) → is_some (asked_of words) ≡ true → Known words
+known [] e = cc
+known (w ∷ rest) e =
+    let parts = some_both (manner_named w) (pace_after rest) e in
+    let first = named w parts.0 in
+    subst (λ x. Known (x ∷ rest)) (sym first.1) (known_behind first.0 rest parts.1)

@@ -1,7 +1,9 @@
 ghost use Rattle.std.specs.Prelude.{◌≡◌, is_some, map, codes, string_bytes};
 ghost use Rattle.std.specs.Str.{bytes_eq};
 ghost use Rattle.trace_lines.specs.Numbers.{is_proper as is_proper_lem};
-ghost use Rattle.command_words.specs.Words.{has_digits as has_digits_lem, pace_behind, pace_in, pace_of};
+ghost use Rattle.command_words.specs.Words.{asked_of, has_digits as has_digits_lem, pace_behind, pace_in, pace_after};
+
+use crate::asked::Manner;
 
 // One digit, or more without a leading zero.
 fn is_proper(word: &[u8]) -> bool
@@ -29,12 +31,6 @@ fn is_pace(word: &[u8]) -> bool
     is_proper(word) && has_digits(word) && is_within
 }
 
-fn is_turns(word: &String) -> bool
-    ensures { result ≡ bytes_eq (string_bytes word.now) (codes "turns") }
-{
-    word.as_bytes() == b"turns".as_slice()
-}
-
 fn is_preempt(word: &String) -> bool
     ensures { result ≡ bytes_eq (string_bytes word.now) (codes "--preempt") }
 {
@@ -51,16 +47,24 @@ fn is_preempt_with_pace(word: &String) -> bool
     }
 }
 
-/// Whether the words ask for a run. It needs no memory.
-pub fn is_known(words: &[String]) -> bool
-    ensures { result ≡ is_some (pace_of (map string_bytes words.now)) }
+// The words behind a command give it a pace. None of them stand for 0.
+fn has_pace(words: &[String]) -> bool
+    ensures { result ≡ is_some (pace_after (map string_bytes words.now)) }
 {
     match words {
-        [command] => is_turns(command),
-        [command, option] => is_turns(command) && is_preempt_with_pace(option),
-        [command, option, pace] => {
-            is_turns(command) && is_preempt(option) && is_pace(pace.as_bytes())
-        }
+        [] => true,
+        [option] => is_preempt_with_pace(option),
+        [option, pace] => is_preempt(option) && is_pace(pace.as_bytes()),
         _ => false,
+    }
+}
+
+/// Whether the words ask for a run. It needs no memory.
+pub fn is_known(words: &[String]) -> bool
+    ensures { result ≡ is_some (asked_of (map string_bytes words.now)) }
+{
+    match words {
+        [] => false,
+        [command, rest @ ..] => Manner::named(command.as_str()).is_some() && has_pace(rest),
     }
 }

@@ -1,9 +1,11 @@
 //! The words of the command line, read with `clap`: which run they ask for.
 #![tactic(auto)]
 
+mod asked;
 mod known;
-mod pace;
+mod reading;
 #[cfg(test)]
 mod tests;
 
-pub use pace::pace_of;
+pub use asked::{Asked, Manner};
+pub use reading::asked_of;

@@ -1,28 +1,53 @@
-use crate::pace_of;
+use crate::{Asked, Manner, asked_of};
 use std::test::Fail;
 
-// The pace for the words of a line, cut at its spaces.
-fn pace_of_line(rt: &HostRuntime, line: &str) -> Result<Option<u32>, Fail> {
+// What the words of a line ask for, cut at its spaces.
+fn asked_of_line(rt: &HostRuntime, line: &str) -> Result<Option<Asked>, Fail> {
     let mut words = Vec::new(rt.alloc());
     for word in line.split(' ') {
         words.push(String::from_str(rt.alloc(), word)?)?;
     }
-    Ok(pace_of(rt.alloc(), &words)?)
+    Ok(asked_of(rt.alloc(), &words)?)
+}
+
+fn turns(pace: u32) -> Option<Asked> {
+    Some(Asked {
+        manner: Manner::Turns,
+        pace,
+    })
+}
+
+fn replay(pace: u32) -> Option<Asked> {
+    Some(Asked {
+        manner: Manner::Replay,
+        pace,
+    })
 }
 
 #[test]
-fn reads_each_form(rt: HostRuntime) -> Result<(), Fail> {
-    assert!(rt; pace_of_line(&rt, "turns")? == Some(0));
-    assert!(rt; pace_of_line(&rt, "turns --preempt 0")? == Some(0));
-    assert!(rt; pace_of_line(&rt, "turns --preempt 17")? == Some(17));
-    assert!(rt; pace_of_line(&rt, "turns --preempt=17")? == Some(17));
-    assert!(rt; pace_of_line(&rt, "turns --preempt 999999")? == Some(999_999));
-    assert!(rt; pace_of_line(&rt, "turns --preempt=1000000")? == Some(1_000_000));
+fn reads_each_form_of_turns(rt: HostRuntime) -> Result<(), Fail> {
+    assert!(rt; asked_of_line(&rt, "turns")? == turns(0));
+    assert!(rt; asked_of_line(&rt, "turns --preempt 0")? == turns(0));
+    assert!(rt; asked_of_line(&rt, "turns --preempt 17")? == turns(17));
+    assert!(rt; asked_of_line(&rt, "turns --preempt=17")? == turns(17));
+    assert!(rt; asked_of_line(&rt, "turns --preempt 999999")? == turns(999_999));
+    assert!(rt; asked_of_line(&rt, "turns --preempt=1000000")? == turns(1_000_000));
+    Ok(())
+}
+
+#[test]
+fn reads_each_form_of_replay(rt: HostRuntime) -> Result<(), Fail> {
+    assert!(rt; asked_of_line(&rt, "replay")? == replay(0));
+    assert!(rt; asked_of_line(&rt, "replay --preempt 0")? == replay(0));
+    assert!(rt; asked_of_line(&rt, "replay --preempt 17")? == replay(17));
+    assert!(rt; asked_of_line(&rt, "replay --preempt=17")? == replay(17));
+    assert!(rt; asked_of_line(&rt, "replay --preempt 999999")? == replay(999_999));
+    assert!(rt; asked_of_line(&rt, "replay --preempt=1000000")? == replay(1_000_000));
     Ok(())
 }
 
 // Lists that a program with these commands would take, were it for `clap` alone.
-static TAKEN_BY_CLAP: [&str; 9] = [
+static TAKEN_BY_CLAP: [&str; 15] = [
     "--help",
     "-h",
     "help",
@@ -32,17 +57,23 @@ static TAKEN_BY_CLAP: [&str; 9] = [
     "turns --preempt 01",
     "turns --preempt=+1",
     "turns --preempt=-0",
+    "replay --help",
+    "replay --",
+    "replay --preempt 1 --",
+    "replay --preempt 01",
+    "replay --preempt=+1",
+    "replay --preempt=-0",
 ];
 
 // And others.
-static UNKNOWN: [&str; 16] = [
+static UNKNOWN: [&str; 30] = [
     "",
     "run",
-    "replay",
     "turn",
     "Turns",
     "turns ",
     "turns turns",
+    "turns replay",
     "turns 1",
     "turns --preempt",
     "turns --preempt=",
@@ -52,17 +83,31 @@ static UNKNOWN: [&str; 16] = [
     "--preempt 1 turns",
     "turns --preempt 1 --preempt 2",
     "turns --preempt=1 --preempt=1",
+    "Replay",
+    "replay ",
+    "replays",
+    "replay turns",
+    "replay replay",
+    "replay x",
+    "replay --preempt",
+    "replay --preempt=",
+    "replay --preempt 1000001",
+    "replay --preempt 0x10",
+    "replay --preempt -- 1",
+    "--preempt 1 replay",
+    "replay --preempt 1 --preempt 2",
+    "replay --preempt=1 --preempt=1",
 ];
 
 #[test]
 fn knows_no_others(rt: HostRuntime) -> Result<(), Fail> {
     let none: Vec<String> = Vec::new(rt.alloc());
-    assert!(rt; pace_of(rt.alloc(), &none)?.is_none());
+    assert!(rt; asked_of(rt.alloc(), &none)?.is_none());
     for line in TAKEN_BY_CLAP {
-        assert!(rt; pace_of_line(&rt, line)?.is_none());
+        assert!(rt; asked_of_line(&rt, line)?.is_none());
     }
     for line in UNKNOWN {
-        assert!(rt; pace_of_line(&rt, line)?.is_none());
+        assert!(rt; asked_of_line(&rt, line)?.is_none());
     }
     Ok(())
 }

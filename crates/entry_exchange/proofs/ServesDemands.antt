@@ -83,6 +83,7 @@ module _ (n : Machine) (s f owner pages within_pages : ℕ) (t : PageType) (want
           names = λ a. absurd (plain_inner a);
           owner = λ a. absurd cc;
           over = λ e a. absurd cc;
+          waits = λ x a. absurd cc;
           ldt_page = λ x a. absurd cc;
           descriptor = λ x a. absurd cc;
         }

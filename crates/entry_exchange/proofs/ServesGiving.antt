@@ -92,6 +92,7 @@ module _ (n : Machine) (s : ℕ) (r : Request) (F : Finding) where
         names = λ a f b. b;
         owner = λ a. refl;
         over = λ d a. (a, refl);
+        waits = λ x a. a;
         ldt_page = λ x a. a;
         descriptor = λ x a. a;
       }

@@ -152,6 +152,7 @@ module _ (n : Machine) (s : ℕ) (x : EntryUpdate) (o : Owners) (answer : Result
           names = λ a. absurd (plain_demand d (owner_at x.level o.tables o.frames) o.frames rose a);
           owner = λ a. absurd cc;
           over = λ e a. absurd cc;
+          waits = λ y a. absurd cc;
           ldt_page = λ y a. absurd cc;
           descriptor = λ y a. absurd cc;
         }
@@ -197,6 +198,7 @@ module _ (n : Machine) (s : ℕ) (x : EntryUpdate) (o : Owners) (answer : Result
           names = λ a. absurd (plain_given d o.tables o.frames a);
           owner = λ a. absurd cc;
           over = λ e a. absurd cc;
+          waits = λ y a. absurd cc;
           ldt_page = λ y a. absurd cc;
           descriptor = λ y a. absurd cc;
         }

@@ -1,6 +1,6 @@
 -- Steps are only added to a hand: what its vCPU knew of a marked frame in its works, it knows later.
-use Rattle.std.proofs.Common.{◌≡◌, ℕ, ◌<◌, ◌&&◌, ◌||◌, Bool, true, false, List, [], ◌∷◌, length, Option, Some, None, IsTrue, refl, sym, ap, ◌∙◌, subst, inl, inr}
-use Rattle.std.proofs.lemmas.Bool.{or_left, or_right}
+use Rattle.std.proofs.Common.{◌≡◌, ℕ, ◌<◌, ◌≤◌, ◌==◌, ◌&&◌, ◌||◌, nat_le, nat_lt, Bool, true, false, List, [], ◌∷◌, length, Option, Some, None, IsTrue, refl, sym, ap, ◌∙◌, subst, inl, inr, arith}
+use Rattle.std.proofs.lemmas.Bool.{and_parts, or_left, or_right}
 use Rattle.xp_words.specs.Machine.{Machine, IsMachine}
 use Rattle.xp_words.specs.Places.{Sizes, sizes_of}
 use Rattle.xp_board.specs.declared.holdings.Holdings.{Holdings}
@@ -13,12 +13,21 @@ use Rattle.xp_board.specs.Flushes.{PassedOver}
 use Rattle.xp_board.specs.Hands.{work_on, refs_to, ref_to, typed_to, typed_on, owner_by, owner_by_typed}
 use Rattle.xp_board.specs.Knowledge.{tells_owner, knows_owner}
 use Rattle.xp_board.specs.Lists.{some_of}
-use Rattle.xp_board.specs.Steps.{some_step}
-use Rattle.xp_board.specs.Told.{PortValue}
+use Rattle.xp_words.specs.declared.place.Place.{Place}
+use Rattle.xp_words.specs.declared.place.Place.TheVariants.{Clock}
+use Rattle.xp_board.specs.Steps.{is_at, left_of, some_before, some_since, some_step}
+use Rattle.board_lemmas.proofs.StepLists.{head_or_tail, one_more}
+use Rattle.flush_words.proofs.OwnFlush.{less_is}
+use Rattle.answer_fits.specs.Reasons.{HadClock}
+use Rattle.xp_board.specs.Told.{Post, PortValue}
 use Rattle.step_maker.specs.Holds.{FlushedSame, MayWork, Same, quiet}
 use Rattle.step_maker.specs.Moves.{Came}
+use Rattle.step_maker.proofs.Coming.{came_post}
 use Rattle.flush_words.proofs.Lasting.{came_keeps}
-use Rattle.flush_waits.specs.Clearing.{PastOn}
+use Rattle.flush_waits.specs.declared.Awaiting.{Awaiting}
+use Rattle.flush_waits.specs.declared.Concern.{Concern}
+use Rattle.flush_waits.specs.declared.Concern.TheVariants as concerns
+use Rattle.flush_waits.specs.Clearing.{Knows, KnowsOf, PastFor, PastOn}
 use Rattle.flush_waits.specs.Waiting.{IsKnownOwner, IsMarked}
 use Rattle.board_lemmas.proofs.Owners.{ref_knows, typed_knows}
 
@@ -47,6 +56,23 @@ Grows h k = (test : ℕ → Made → Bool) → IsTrue (some_step test h.steps) �
 
 pub came_grows : (v w : PortValue) → Came v w → Grows v.holdings w.holdings
 came_grows v w a test = came_keeps v w test a
+
+-- what some step did, one before now did
+before_now : (z : Sizes) (n : ℕ) (p : Place) (test : ℕ → Bool) (xs : List Made) → length xs ≤ n → IsTrue (some_since z 0 p test xs) → IsTrue (some_before z n p test xs)
+unfolding some_step
+before_now z n p test [] late h = absurd (cc)
+before_now z n p test (x ∷ xs) late h =
+    elim (head_or_tail (λ k y. nat_le 0 k && (is_at z p y && test (left_of y))) x xs h) [
+      | inl here ↦
+          (let a = and_parts (nat_le 0 (length xs)) (is_at z p x && test (left_of x)) here in
+          rw (less_is (length xs) n (omega (arith, late)), a.1) refl)
+      | inr there ↦ one_more (λ k y. nat_lt k n && (is_at z p y && test (left_of y))) x xs (before_now z n p test xs (omega (arith, late)) there)
+    ]
+
+pub had_before : (v w : PortValue) (stamp : ℕ) → Came v w → HadClock v.post.machine stamp v.holdings →
+    IsTrue (some_before (sizes_of v.post.machine) (length v.holdings.steps) Clock (λ x. x == stamp) w.holdings.steps)
+had_before v w stamp came had =
+    came_grows v w came _ (before_now (sizes_of v.post.machine) (length v.holdings.steps) Clock (λ x. x == stamp) v.holdings.steps (omega arith) had)
 
 -- ---- the owner
 either : (a b c d : Bool) → (IsTrue a → IsTrue c) → (IsTrue b → IsTrue d) → IsTrue (a || b) → IsTrue (c || d)
@@ -141,3 +167,26 @@ module _ (v w : PortValue) (same : FlushedSame v w) where
           | inl now ↦ inl (either _ _ _ _ (came_grows v w came _) (came_grows v w came _) now)
           | inr over ↦ inr (passed_later n e.since e.frame u over)
         ]
+
+    pub past_for_later : (n : Machine) (c : Concern) (u : ℕ) → PastFor n c u v.holdings → PastFor n c u w.holdings
+    past_for_later n (concerns.Frame f owner) u past = past_later n f u past
+    past_for_later n (concerns.Those mask domain) u past = tt
+
+    knows_of_later : (n : Machine) (c : Concern) (stamp : ℕ) → KnowsOf n c stamp v.holdings → KnowsOf n c stamp w.holdings
+    knows_of_later n (concerns.Frame f owner) stamp k = (k.0, marked_later f owner stamp k.1)
+    knows_of_later n (concerns.Those mask domain) stamp k = came_grows v w came _ k
+
+    pub still_known : (a : Awaiting) → Knows v a → Knows w a
+    still_known a k = subst (λ (q : Post). KnowsOf q.machine a.concern a.stamp w.holdings) (sym (came_post v w came)) (knows_of_later v.post.machine a.concern a.stamp k)
+
+-- ---- a frame that is awaited
+pub marked_of : (n : Machine) (c : Concern) (stamp : ℕ) (h : Holdings) (f owner : ℕ) → c ≡ concerns.Frame f owner → KnowsOf n c stamp h → IsMarked f owner stamp h
+marked_of n c stamp h f owner is k = (subst (λ d. KnowsOf n d stamp h) is k).1
+
+pub frame_low : (n : Machine) (c : Concern) (stamp : ℕ) (h : Holdings) (f owner : ℕ) → c ≡ concerns.Frame f owner → KnowsOf n c stamp h → f < n.frames
+frame_low n c stamp h f owner is k = (subst (λ d. KnowsOf n d stamp h) is k).0
+
+-- only of a frame there is more to say
+pub past_for : (n : Machine) (c : Concern) (u : ℕ) (h : Holdings) → ((f owner : ℕ) → c ≡ concerns.Frame f owner → PastOn n f u h) → PastFor n c u h
+past_for n (concerns.Frame f owner) u h past = past f owner refl
+past_for n (concerns.Those mask domain) u h past = tt

@@ -1,6 +1,7 @@
--- Flushes that a change of type waits for: until no vCPU can have an older translation to the frame, but to read it.
-use Rattle.std.specs.Prelude.{◌≡◌, ◌⊎◌, ℕ, ◌<◌, true, List, Some}
+-- Waits for flushes: until no vCPU can have an older translation to a marked frame, but to read it; or until those that are meant have flushed.
+use Rattle.std.specs.Prelude.{◌≡◌, ◌⊎◌, ℕ, ◌<◌, ◌==◌, ◌&&◌, Bool, true, List, length, Some, IsTrue}
 use Rattle.xp_words.specs.Machine.{Machine}
+use Rattle.xp_words.specs.Entries.{is_bit}
 use Rattle.xp_words.specs.KindWords.{kind_fields}
 use Rattle.xp_words.specs.declared.reply.Pause.TheVariants.{Flush}
 use Rattle.xp_words.specs.declared.reply.Refusal.TheVariants as refusals
@@ -11,11 +12,13 @@ use Rattle.xp_board.specs.declared.holdings.OwnerFound.TheVariants.{Of}
 use Rattle.xp_board.specs.declared.holdings.Work.{Work}
 use Rattle.xp_board.specs.Flushes.{IsPastFlush}
 use Rattle.xp_board.specs.Hands.{ref_owner, refs_to, typed_owner, typed_to, work_on}
+use Rattle.xp_board.specs.Readings.{domain_of}
 use Rattle.xp_board.specs.Told.{PortValue}
 use Rattle.step_maker.specs.Moves.{Came, Met}
 use Rattle.answer_fits.specs.Answers.{Deed, Serves, Stops}
 use Rattle.answer_fits.specs.Asked.{Request}
-use Rattle.answer_fits.specs.Reasons.{AwaitsStamp}
+use Rattle.answer_fits.specs.Pauses.{Clear}
+use Rattle.answer_fits.specs.Reasons.{AwaitsStamp, Those, Whose}
 
 -- a reference in hand says whose the frame is
 abbrev pub IsKnownOwner : ℕ → ℕ → Holdings → Type 0
@@ -35,15 +38,24 @@ pub record IsFlushed (n : Machine) (f : ℕ) (h : Holdings) : Type 0 where
   pub here : work_on f h.works ≡ Some work
   pub past : IsPastFlush n h work
 
--- Behind any piece that awaits that stamp for a frame of that owner, the steps from v to w fit it.
-unfoldable pub ServesBehind : PortValue → PortValue → ℕ → ℕ → Type 0
-ServesBehind v w owner stamp =
-    (u : PortValue) (r : Request) (ds : List Deed) → Serves u v r ds → AwaitsStamp v.post.machine v.post.vcpu r (Met u v) (Some owner) stamp → Serves u w r ds
+-- Behind any piece that awaits that stamp of the same vCPUs, the steps from v to w fit it.
+unfoldable pub ServesBehind : PortValue → PortValue → Whose → ℕ → Type 0
+ServesBehind v w whose stamp =
+    (u : PortValue) (r : Request) (ds : List Deed) → Serves u v r ds → AwaitsStamp v.post.machine v.post.vcpu r (Met u v) whose stamp → Serves u w r ds
 
 -- and they show there why it stops
-unfoldable pub StopsBehind : PortValue → PortValue → ℕ → ℕ → Stop → Type 0
-StopsBehind v w owner stamp e =
-    (u : PortValue) (r : Request) → Came u v → AwaitsStamp v.post.machine v.post.vcpu r (Met u v) (Some owner) stamp → Stops u w r e
+unfoldable pub StopsBehind : PortValue → PortValue → Whose → ℕ → Stop → Type 0
+StopsBehind v w whose stamp e =
+    (u : PortValue) (r : Request) → Came u v → AwaitsStamp v.post.machine v.post.vcpu r (Met u v) whose stamp → Stops u w r e
+
+-- ---- vCPUs of the own domain
+-- those of vCPU s's domain that a mask names by its bits
+abbrev pub meant : Machine → ℕ → ℕ → ℕ → Bool
+meant n s mask u = is_bit u mask && (domain_of n u == domain_of n s)
+
+-- each of them was found not to run, or flushed later than the stamp
+abbrev pub AreClear : PortValue → PortValue → (ℕ → Bool) → ℕ → Type 0
+AreClear v w means stamp = (u : ℕ) → u < length v.post.machine.vcpu_domain → IsTrue (means u) → Clear v.post.machine v.post.vcpu (Those means) stamp (Met v w) u
 
 -- the clock is at its last value, or a vCPU is waited for
 abbrev pub IsWait : Stop → Type 0

@@ -21,7 +21,7 @@ use Rattle.step_maker.proofs.Coming.{came_trans, came_post, moves_came, moves_me
 use Rattle.answer_fits.specs.Answers.{Deed, Serves, Stops}
 use Rattle.answer_fits.specs.Asked.{Request, Within, Passed, checked, given, old, stands}
 use Rattle.answer_fits.specs.Finding.{Finding}
-use Rattle.answer_fits.specs.Reasons.{AwaitsStamp, marked, other, free, begun, LastAtMost, NeedsFlush, own, awaited, IsFlushedNext, MayFlush, needed, asked}
+use Rattle.answer_fits.specs.Reasons.{AwaitsStamp, marked, other, free, begun, goes_on, IsMeant, LastAtMost, NeedsFlush, Whose, own, awaited, IsFlushedNext, MayFlush, needed, asked}
 use Rattle.answer_fits.proofs.Growing.{found, found_with, asks}
 use Rattle.answer_fits.proofs.Piecing.{same_request, serves_came, serves_step, serves_two}
 use Rattle.flush_words.specs.Flushing.{FlushesOwn, spent}
@@ -40,15 +40,16 @@ module _ (n : Machine) (s : ℕ) (r : Request) (F G : Finding) (more : (m : Mome
   passed_more f o h (old v k x a b c d) = old v k x a (found n s r F r G same _ x b) c d
   passed_more f o h (stands u i x e a b c d j) = stands u i x e a (found n s r F r G same _ x b) c d j
 
-  pub awaited_more : (whose : Option ℕ) (stamp : ℕ) → AwaitsStamp n s r F whose stamp → AwaitsStamp n s r G whose stamp
+  pub awaited_more : (whose : Whose) (stamp : ℕ) → AwaitsStamp n s r F whose stamp → AwaitsStamp n s r G whose stamp
   awaited_more whose stamp (marked f x o want h a b c d e i j) = marked f x o want h (same.asked f o (Some want) a) (found_with n s r F r G same _ x h b) (passed_more f o h c) d e i j
   awaited_more whose stamp (other f x o want h a b c d e i j) = other f x o want h (same.asked f o (Some want) a) (found_with n s r F r G same _ x h b) (passed_more f o h c) d e i j
   awaited_more whose stamp (free f x k o a b c d e) = free f x k o (asks n s r F r G same f a) (found n s r F r G same _ x b) c d e
-  awaited_more whose stamp (begun a b c) = begun a (found n s r F r G same _ stamp b) c
+  awaited_more whose stamp (begun x a b c d) = begun x a b (found n s r F r G same _ stamp c) d
+  awaited_more whose stamp (goes_on x m a b c d e) = goes_on x m a b (more m c) d e
 
   pub needs_more : (h : Holdings) → NeedsFlush n s r F h → NeedsFlush n s r G h
   needs_more h (own a) = own a
-  needs_more h (awaited whose stamp a b) = awaited whose stamp (awaited_more whose stamp a) b
+  needs_more h (awaited whose stamp a b c) = awaited whose stamp (awaited_more whose stamp a) b c
 
   -- of the hand only the words count that the vCPU last found or left, of its asks and its flushes
   at_most_as : (h k : Holdings) (p : Place) (stamp : ℕ) → last_since (sizes_of n) 0 p k.steps ≡ last_since (sizes_of n) 0 p h.steps → LastAtMost n p stamp h → LastAtMost n p stamp k
@@ -56,7 +57,7 @@ module _ (n : Machine) (s : ℕ) (r : Request) (F G : Finding) (more : (m : Mome
 
   needs_as : (h k : Holdings) → last_since (sizes_of n) 0 (Vcpu s 5) k.steps ≡ last_since (sizes_of n) 0 (Vcpu s 5) h.steps → NeedsFlush n s r F h → NeedsFlush n s r G k
   needs_as h k e (own a) = own a
-  needs_as h k e (awaited whose stamp a b) = awaited whose stamp (awaited_more whose stamp a) (at_most_as h k (Vcpu s 5) stamp e b)
+  needs_as h k e (awaited whose stamp a b c) = awaited whose stamp (awaited_more whose stamp a) b (at_most_as h k (Vcpu s 5) stamp e c)
 
   may_as : (h k : Holdings) → ((j : ℕ) → last_since (sizes_of n) 0 (Vcpu s j) k.steps ≡ last_since (sizes_of n) 0 (Vcpu s j) h.steps) → MayFlush n s r F h → MayFlush n s r G k
   may_as h k e (needed a) = needed (needs_as h k (e 5) a)
@@ -142,12 +143,12 @@ own_stops u v w r e came needs (spent m) =
 
 -- ---- two licenses
 -- an awaited stamp, and a look that found the own flush to go no further
-pub awaited_flush : (u t v : PortValue) (r : Request) (whose : Option ℕ) (stamp x : ℕ) → Came u t → AwaitsStamp u.post.machine u.post.vcpu r (Met u t) whose stamp →
-    Moves t v (flushed_of t.post.vcpu) Load kinds.Look None x → x ≤ stamp → NeedsFlush u.post.machine u.post.vcpu r (Met u v) v.holdings
-awaited_flush u t v r whose stamp x came a look low =
+pub awaited_flush : (u t v : PortValue) (r : Request) (whose : Whose) (stamp x : ℕ) → Came u t → AwaitsStamp u.post.machine u.post.vcpu r (Met u t) whose stamp →
+    IsMeant whose u.post.vcpu → Moves t v (flushed_of t.post.vcpu) Load kinds.Look None x → x ≤ stamp → NeedsFlush u.post.machine u.post.vcpu r (Met u v) v.holdings
+awaited_flush u t v r whose stamp x came a meant look low =
     let same = came_post u t came in
     awaited whose stamp (awaited_more u.post.machine u.post.vcpu r (Met u t) (Met u v) (λ y z. met_before u t v y z (moves_came t v (flushed_of t.post.vcpu) Load kinds.Look None x look)) whose stamp a)
-    (subst (λ (q : Post). LastAtMost q.machine (flushed_of q.vcpu) stamp v.holdings) same (last_at_most t v (flushed_of t.post.vcpu) kinds.Look None x stamp look low))
+    meant (subst (λ (q : Post). LastAtMost q.machine (flushed_of q.vcpu) stamp v.holdings) same (last_at_most t v (flushed_of t.post.vcpu) kinds.Look None x stamp look low))
 
 -- two looks that found the own flush to go no further than the vCPU was asked
 pub asked_flush : (u t k v : PortValue) (r : Request) (mark : Option Mark) (stamp x : ℕ) → Came u t → Moves t k (asked_of t.post.vcpu) Load kinds.Look mark stamp →

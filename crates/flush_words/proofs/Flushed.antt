@@ -1,5 +1,5 @@
 -- The own flush that was made: what its steps found and left.
-use Rattle.std.proofs.Common.{◌≡◌, ◌≢◌, ℕ, ◌+◌, ◌<◌, ◌≤◌, ◌&&◌, ◌||◌, ◌==◌, nat_lt, Bool, true, false, List, [], ◌∷◌, length, Option, Some, None, Ok, Err, Result, IsTrue, refl, sym, ap, ◌∙◌, subst, inl, inr, arith}
+use Rattle.std.proofs.Common.{◌≡◌, ◌≢◌, ℕ, ◌+◌, ◌<◌, ◌≤◌, ◌&&◌, ◌||◌, ◌==◌, nat_le, nat_lt, Bool, true, false, List, [], ◌∷◌, length, Option, Some, None, Ok, Err, Result, IsTrue, refl, sym, ap, ◌∙◌, subst, inl, inr, arith}
 use Rattle.std.proofs.lemmas.Bool.{and_parts, not-true}
 use Rattle.xp_words.specs.Machine.{Machine}
 use Rattle.xp_words.specs.declared.place.Place.{Place}
@@ -33,8 +33,7 @@ use Rattle.answer_fits.specs.Visits.{Visit, visit, Does, Only, Then}
 use Rattle.answer_fits.proofs.Visiting.{does_as, does_one, does_then}
 use Rattle.answer_fits.specs.Finding.{FoundAt, FoundWith, Did}
 use Rattle.answer_fits.specs.Asked.{Request}
-use Rattle.answer_fits.specs.Reasons.{AwaitsStamp}
-use Rattle.answer_fits.specs.Reasons as reasons
+use Rattle.answer_fits.specs.Reasons.{HadClock, Whose}
 use Rattle.answer_fits.specs.Pauses.{Clear, own}
 use Rattle.xp_words.specs.declared.reply.Refusal.TheVariants as refusals
 use Rattle.flush_words.specs.Flushing.{FlushedBy, FlushesOwn, none, once, spent, ticked, overtaken}
@@ -95,6 +94,16 @@ own_does v w (Ok tt) f = flushed_does v w (own_flushed v w f)
 own_does v w (Err r) (spent m) =
     does_as v w _ (λ vs. FlushedBy v.post.vcpu (Err (refusals.Clock last_clock)) vs) (λ vs one. subst (λ ws. FlushedBy v.post.vcpu (Err (refusals.Clock last_clock)) ws) (sym one) none) (does_one v w Clock Load kinds.Look None last_clock m)
 
+-- a step of a list that passes a test
+EachOf-some : (P : Made → Type 0) (test : ℕ → Made → Bool) (xs : List Made) → EachOf P xs → IsTrue (some_step test xs) → (Q : Type 0) → ((k : ℕ) (x : Made) → IsTrue (test k x) → P x → Q) → Q
+unfolding EachOf some_step
+EachOf-some P test [] e h Q use_it = absurd cc
+EachOf-some P test (x ∷ xs) e h Q use_it =
+    elim (head_or_tail test x xs h) [
+      | inl here ↦ use_it (length xs) x here e.0
+      | inr there ↦ EachOf-some P test xs e.1 there Q use_it
+    ]
+
 module _ (v w : PortValue) (f : Flushed v w) where
   before_ack : Came v f.exchanged
   before_ack = ticks_came v f.loaded f.exchanged f.clock f.found f.look f.tick
@@ -120,7 +129,7 @@ module _ (v w : PortValue) (f : Flushed v w) where
         word = refl;
       }
 
-  pub flushed_clear : (whose : Option ℕ) (stamp : ℕ) → stamp < f.to → Clear v.post.machine v.post.vcpu whose stamp (Met v w) v.post.vcpu
+  pub flushed_clear : (whose : Whose) (stamp : ℕ) → stamp < f.to → Clear v.post.machine v.post.vcpu whose stamp (Met v w) v.post.vcpu
   flushed_clear whose stamp less = own f.to f.before refl flushed_did less
 
   -- it is later than the clock that was found, and so than each clock value and stamp that the vCPU had found or left
@@ -154,69 +163,13 @@ module _ (v w : PortValue) (f : Flushed v w) where
       subst (λ (q : Post). IsTrue (some_since (sizes_of q.machine) k (flushed_of v.post.vcpu) (λ y. nat_lt stamp y) w.holdings.steps)) exchanged_post
       (moves_since f.exchanged w (flushed_of v.post.vcpu) (Store f.to) kinds.Ack None f.before f.ack k (λ y. nat_lt stamp y) (omega (arith, late, more)) (less_is stamp f.to less))
 
--- ---- what steps before the flush found
-is_head : (a b c : Bool) → a ≡ true → b ≡ true → IsTrue ((a && b) || c)
-is_head a b c x y = rw (x, y) refl
-
-abbrev is_found : Sizes → Place → ℕ → ℕ → Made → Bool
-is_found z p y k x = is_at z p x && (x.found == y)
-
-met_found : (u v : PortValue) (m : Moment) → Met u v m → IsTrue (some_step (is_found (sizes_of v.post.machine) m.place m.found) v.holdings.steps)
-unfolding some_step
-met_found u v m a =
-    let moves = a.moved.moves in
-    let same : a.from.post ≡ v.post = sym (came_post a.to v a.after ∙ ap (λ (y : PortValue). y.post) moves.to) in
-    came_keeps a.to v (is_found (sizes_of v.post.machine) m.place m.found) a.after
-    (subst (λ (q : Post). IsTrue (some_step (is_found (sizes_of q.machine) m.place m.found) a.to.holdings.steps)) same
-    (rw (moves_steps a.from a.to m.place m.act m.kind m.mark m.found moves)
-    (is_head _ _ _ (is_same-by _ m.place (place_back (sizes_of a.from.post.machine) m.place moves.may.place)) (when_eq m.found m.found refl))))
-
-some_each : (P : Made → Type 0) (test : ℕ → Made → Bool) (xs : List Made) → EachOf P xs → IsTrue (some_step test xs) → (k : ℕ) × ((x : Made) × IsTrue (test k x) × P x)
-unfolding EachOf some_step
-some_each P test [] e h = absurd cc
-some_each P test (x ∷ xs) e h =
-    elim (head_or_tail test x xs h) [
-      | inl here ↦ (length xs, (x, here, e.0))
-      | inr there ↦ some_each P test xs e.1 there
-    ]
-
--- the stamp of a kind word that is not validated
-unlive_stamp : (w : ℕ) → (kind_fields w).validated ≡ false → kind_stamp w ≡ (kind_fields w).number
-unlive_stamp w unlive = stamp_of w (kind_fields w) refl unlive
-
-module _ (u v w : PortValue) (f : Flushed v w) where
-  -- the flush is later than each clock value and stamp that one of them found
-  pub met_less : (m : Moment) → Met u v m → clock_value m.place m.found < f.to
-  met_less m a =
-      let one = some_each _ (is_found (sizes_of v.post.machine) m.place m.found) v.holdings.steps (flushed_above v w f) (met_found u v m a) in
-      let both = and_parts (is_at (sizes_of v.post.machine) m.place one.1.0) (one.1.0.found == m.found) one.1.1 in
-      subst (λ y. clock_value m.place y < f.to) (equal_by _ _ both.1) (subst (λ q. clock_value q one.1.0.found < f.to) (same_place _ m.place both.0) one.1.2.0)
-
-  pub found_less : (p : Place) (x : ℕ) → FoundAt (Met u v) p x → clock_value p x < f.to
-  found_less p x a = subst (λ y. clock_value p y < f.to) a.word (subst (λ q. clock_value q a.moment.found < f.to) a.place (met_less a.moment a.was))
-
-  -- a marked word is not validated
-  marked_word : (g x : ℕ) (h : Holdings) → FoundWith (Met u v) (Kind g) x h → (kind_fields x).unflushed ≡ true → (kind_fields x).validated ≡ false
-  marked_word g x h a marked =
-      let finds = a.was.moved.moves.finds in
-      let is : finds.words (Kind g) ≡ x = ap finds.words (sym a.place) ∙ finds.word ∙ a.word in
-      ap (λ y. (kind_fields y).validated) (sym is) ∙ marked_unlive a.was.from.post.machine finds.words g finds.sound.spelled (ap (λ y. (kind_fields y).unflushed) is ∙ marked)
-
-  stamp_less : (g x : ℕ) (h : Holdings) → FoundWith (Met u v) (Kind g) x h → (kind_fields x).validated ≡ false → (kind_fields x).number < f.to
+  -- it is later than a clock value that the vCPU had found
+  pub had_less : (stamp : ℕ) → HadClock v.post.machine stamp v.holdings → stamp < f.to
   unfolding clock_value
-  stamp_less g x h a unlive = subst (λ y. y < f.to) (unlive_stamp x unlive) (found_less (Kind g) x (record { moment = a.moment; was = a.was; place = a.place; word = a.word }))
+  had_less stamp had =
+      EachOf-some _ (λ k x. nat_le 0 k && (is_at (sizes_of v.post.machine) Clock x && (left_of x == stamp))) v.holdings.steps flushed_above had (stamp < f.to)
+      (λ k x test less.
+        let a = and_parts (nat_le 0 k) _ test in
+        let b = and_parts (is_at (sizes_of v.post.machine) Clock x) (left_of x == stamp) a.1 in
+        subst (λ y. y < f.to) (equal_by _ _ b.1) (subst (λ q. clock_value q (left_of x) < f.to) (same_place _ Clock b.0) less.1))
 
-  -- so it is later than each stamp that is awaited
-  pub awaited_less : (n : Machine) (s : ℕ) (r : Request) (whose : Option ℕ) (stamp : ℕ) → AwaitsStamp n s r (Met u v) whose stamp → stamp < f.to
-  unfolding clock_value
-  awaited_less n s r whose stamp (reasons.marked g x owner want h a b c d e i j) = rw j (stamp_less g x h b (marked_word g x h b d))
-  awaited_less n s r whose stamp (reasons.other g x owner want h a b c d e i j) = rw j (stamp_less g x h b (not-true _ (and_parts _ _ d).0))
-  awaited_less n s r whose stamp (reasons.free g x k a b c d e i) = rw i (found_less (Refs g) x c)
-  awaited_less n s r whose stamp (reasons.begun a b c) = found_less Clock stamp b
-
-  -- and the own vCPU is clear of it
-  pub own_clear : (r : Request) (whose : Option ℕ) (stamp : ℕ) → Came u v → AwaitsStamp u.post.machine u.post.vcpu r (Met u v) whose stamp → Clear u.post.machine u.post.vcpu whose stamp (Met u w) u.post.vcpu
-  own_clear r whose stamp came a =
-      let d = flushed_did v w f in
-      subst (λ (q : Post). Clear q.machine q.vcpu whose stamp (Met u w) q.vcpu) (came_post u v came)
-      (own f.to f.before refl (record { moment = d.moment; was = met_after u v w d.moment came d.was; place = d.place; act = d.act; word = d.word }) (awaited_less u.post.machine u.post.vcpu r whose stamp a))

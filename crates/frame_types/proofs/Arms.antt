@@ -24,7 +24,7 @@ use Rattle.step_maker.proofs.Coming.{moment_of, moves_met, moves_came, met_befor
 use Rattle.answer_fits.specs.Answers.{Serves}
 use Rattle.answer_fits.specs.Asked.{of_back, of_frame}
 use Rattle.answer_fits.specs.Finding.{FoundWith}
-use Rattle.answer_fits.specs.Reasons.{AwaitsStamp, marked, other}
+use Rattle.answer_fits.specs.Reasons.{AwaitsStamp, OfOwner, marked, other}
 use Rattle.answer_fits.proofs.Piecing.{serves_back, serves_came}
 use Rattle.frame_words.proofs.Taking.{names_itself}
 use Rattle.kind_words.proofs.KindWriting.{begun_is, resumed_is}
@@ -75,9 +75,9 @@ module _ (b v : PortValue) (f owner : ℕ) (want : PageType) (word : ℕ) (l : L
   found_with w came =
       record { moment = moment_of b (Kind f) Load kinds.Look None word; was = met_before b v w _ (moves_met b v (Kind f) Load kinds.Look None word l.look) came; place = refl; word = refl; hand = refl }
 
-  here_awaits : (w : PortValue) (stamp : ℕ) → Came v w → AwaitsStamp b.post.machine b.post.vcpu (of_frame f owner (Some want)) (Met b w) (Some owner) stamp → AwaitsStamp w.post.machine w.post.vcpu (of_frame f owner (Some want)) (Met b w) (Some owner) stamp
+  here_awaits : (w : PortValue) (stamp : ℕ) → Came v w → AwaitsStamp b.post.machine b.post.vcpu (of_frame f owner (Some want)) (Met b w) (OfOwner owner) stamp → AwaitsStamp w.post.machine w.post.vcpu (of_frame f owner (Some want)) (Met b w) (OfOwner owner) stamp
   here_awaits w stamp came awaits =
-      subst (λ (q : Post). AwaitsStamp q.machine q.vcpu (of_frame f owner (Some want)) (Met b w) (Some owner) stamp) (sym (came_post b w (came_trans b v w (moves_came b v (Kind f) Load kinds.Look None word l.look) came))) awaits
+      subst (λ (q : Post). AwaitsStamp q.machine q.vcpu (of_frame f owner (Some want)) (Met b w) (OfOwner owner) stamp) (sym (came_post b w (came_trans b v w (moves_came b v (Kind f) Load kinds.Look None word l.look) came))) awaits
 
   pub dead_awaits : (w : PortValue) (k : KindWord) → Came v w → kind_read word ≡ Some k → IsTrue (is_dead k) → AwaitedThere b w f owner want (is_stale k want) k.number
   dead_awaits w k came read dead on =

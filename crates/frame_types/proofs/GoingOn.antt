@@ -10,7 +10,7 @@ use Rattle.step_maker.specs.Holds.{FlushedSame}
 use Rattle.step_maker.specs.Moves.{Came, Met}
 use Rattle.answer_fits.specs.Answers.{Deed, Serves, Stops}
 use Rattle.answer_fits.specs.Asked.{of_frame}
-use Rattle.answer_fits.specs.Reasons.{AwaitsStamp}
+use Rattle.answer_fits.specs.Reasons.{AwaitsStamp, OfOwner}
 use Rattle.answer_fits.specs.Twins.{Alike}
 use Rattle.answer_fits.proofs.Alikes.{alike_trans, alike_store}
 use Rattle.kind_words.specs.Kinds.{live_kind, work_kind}
@@ -24,12 +24,12 @@ use Rattle.frame_types.proofs.Entering.{entered_after, entered_fields, work_type
 use Rattle.frame_types.proofs.Finishing.{entered_working}
 
 module _ (v w : PortValue) (f owner : ℕ) (want : PageType) (stamp : ℕ) where
-  pub serves_after : ServesBehind v w owner stamp → (u : PortValue) (ds : List Deed) → Serves u v (of_frame f owner (Some want)) ds →
-      AwaitsStamp v.post.machine v.post.vcpu (of_frame f owner (Some want)) (Met u v) (Some owner) stamp → Serves u w (of_frame f owner (Some want)) ds
+  pub serves_after : ServesBehind v w (OfOwner owner) stamp → (u : PortValue) (ds : List Deed) → Serves u v (of_frame f owner (Some want)) ds →
+      AwaitsStamp v.post.machine v.post.vcpu (of_frame f owner (Some want)) (Met u v) (OfOwner owner) stamp → Serves u w (of_frame f owner (Some want)) ds
   unfolding ServesBehind
   serves_after behind u ds before awaits = behind u (of_frame f owner (Some want)) ds before awaits
 
-  pub stops_after : (stop : Stop) → StopsBehind v w owner stamp stop → (u : PortValue) → Came u v → AwaitsStamp v.post.machine v.post.vcpu (of_frame f owner (Some want)) (Met u v) (Some owner) stamp →
+  pub stops_after : (stop : Stop) → StopsBehind v w (OfOwner owner) stamp stop → (u : PortValue) → Came u v → AwaitsStamp v.post.machine v.post.vcpu (of_frame f owner (Some want)) (Met u v) (OfOwner owner) stamp →
       Stops u w (of_frame f owner (Some want)) stop
   unfolding StopsBehind
   stops_after stop behind u came awaits = behind u (of_frame f owner (Some want)) came awaits

@@ -30,7 +30,7 @@ use Rattle.xp_words.specs.declared.kind.KindWord.{KindWord}
 use Rattle.kind_words.specs.Kinds.{work_kind}
 use Rattle.xp_words.specs.declared.kind.PageType.TheVariants.{Writable}
 use Rattle.answer_fits.specs.Answers.{Deed, Serves, Stops, misses}
-use Rattle.answer_fits.specs.Reasons.{AwaitsStamp}
+use Rattle.answer_fits.specs.Reasons.{AwaitsStamp, OfOwner}
 use Rattle.answer_fits.specs.Asked.{of_frame}
 use Rattle.flush_waits.specs.Waiting.{IsWait}
 use Rattle.frame_types.specs.Standing.{standing_of}
@@ -189,7 +189,7 @@ HasEntered v f owner want marked k own = (b : PortValue) × Enters b v f owner w
 
 -- the flush that a marked frame waits for is one that a piece from u to v awaits
 abbrev pub AwaitedThere : PortValue → PortValue → ℕ → ℕ → PageType → Bool → ℕ → Type 0
-AwaitedThere u v f owner want marked stamp = marked ≡ true → AwaitsStamp v.post.machine v.post.vcpu (of_frame f owner (Some want)) (Met u v) (Some owner) stamp
+AwaitedThere u v f owner want marked stamp = marked ≡ true → AwaitsStamp v.post.machine v.post.vcpu (of_frame f owner (Some want)) (Met u v) (OfOwner owner) stamp
 
 -- Behind any steps for that type which await the flush, those from v to w serve it too; and they show there why it waits.
 abbrev pub ServesOn : PortValue → PortValue → ℕ → ℕ → PageType → Bool → ℕ → Type 0

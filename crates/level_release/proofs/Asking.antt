@@ -50,6 +50,7 @@ module _ (n : Machine) (s owner pages : ℕ) (backs : ℕ → Bool) (contexts ro
         names = λ a f b. absurd cc;
         owner = λ a. refl;
         over = λ d a. absurd cc;
+        waits = λ x a. absurd cc;
         ldt_page = λ x a. absurd cc;
         descriptor = λ x a. absurd cc;
       }

@@ -44,6 +44,7 @@ found_run v w x hand idles =
       };
       no_walk = ap (λ (y : PortValue). y.holdings.walk) hand ∙ idles.no_walk;
       machine = subst IsMachine (sym (ap (λ (y : PortValue). y.post.machine) hand)) idles.machine;
+      warm = ap (λ (y : PortValue). y.holdings.cold) hand ∙ idles.warm;
     }
 
 pub rests_then : (v w : PortValue) (x : ℕ) → Idles v → Holds v w (record v.holdings { run = Some x }) → x ≡ 0 → Rests w
@@ -101,7 +102,8 @@ takes_next b b2 s lender machine real hands came hand takes t other script there
           (record {
             vcpu = refl;
             domain = refl;
-            idles = record { empty = idles.empty; no_walk = idles.no_walk; machine = idles.machine };
+            idles = record { empty = idles.empty; no_walk = idles.no_walk; machine = idles.machine; warm = idles.warm };
+            awaits = tt;
             runs = λ works. ap (λ (y : PortValue). run_or (memory (sizes_of b2.machine) b2.story.opening (run_of s)) y.holdings.run) hand;
           })
       | inr off ↦

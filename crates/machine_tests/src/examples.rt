@@ -1,4 +1,4 @@
-//! Pins, unpins and entry updates from the trace to the report: worked examples, in one turn and paused.
+//! Pins, unpins, entry updates, walks and flushes from the trace to the report: worked examples, in one turn and paused.
 use crate::runs::{bytes, run_paced, turns, with_pace};
 use std::process::Abort;
 use xp_io::{MemorySink, MemorySource};
@@ -13,7 +13,7 @@ struct Example {
     lines: &'static str,
 }
 
-const EXAMPLES: [Example; 22] = [
+const EXAMPLES: [Example; 33] = [
     Example {
         shows: "An empty frame is pinned as an L1 table; a frame that is not pinned cannot be unpinned.",
         pace: "",
@@ -145,6 +145,72 @@ const EXAMPLES: [Example; 22] = [
         pace: "",
         trace: "xen-pv-trace 1\nframes 16\ndomain 16\nvcpu 0\nown 0 0 8\nop 0 mmu 0x7ff1 0x1 1\nturn 0 1\nend\n",
         lines: "op 1 refused 13 done 0 NoDomain\n",
+    },
+    Example {
+        shows: "A pin of a frame that a guest can still write through its cache awaits that vCPU's flush.",
+        pace: "",
+        trace: "xen-pv-trace 1\nframes 16\ndomain 16\ndomain 16\npriv 0 1\nvcpu 0\nvcpu 1\nvcpu 1\nown 0 0 4\nown 1 4 8\ncell 4 0 1 0x5003\ncell 5 0 1 0x6003\ncell 6 0 1 0x7003\ncell 7 0 1 0x8003\nop 1 ext 5 4 0\nop 1 write k 0x0 0x100\nop 1 write k 0x0 0x100\nop 2 mmu 0x7ff0 0x7000 0x0\nop 2 ext 0 8 0\nturn 0 1\nturn 1 2\nturn 2 2\nend\n",
+        lines: "pending 1\nframe 8 owner 1 refs 2 alloc type L1 count 1 flags hku at 0 m2p -\n",
+    },
+    Example {
+        shows: "The vCPU that was asked flushes at its next turn, and finds the page gone; then the pin ends.",
+        pace: "",
+        trace: "xen-pv-trace 1\nframes 16\ndomain 16\ndomain 16\npriv 0 1\nvcpu 0\nvcpu 1\nvcpu 1\nown 0 0 4\nown 1 4 8\ncell 4 0 1 0x5003\ncell 5 0 1 0x6003\ncell 6 0 1 0x7003\ncell 7 0 1 0x8003\nop 1 ext 5 4 0\nop 1 write k 0x0 0x100\nop 1 write k 0x0 0x100\nop 2 mmu 0x7ff0 0x7000 0x0\nop 2 ext 0 8 0\nturn 0 1\nturn 1 2\nturn 2 2\nturn 1 1\nturn 2 1\nend\n",
+        lines: "op 2 ok done 1 value 0x0\nop 3 refused 9 done 0 NotMapped level=1 entry=0x0\nframe 8 owner 1 refs 2 alloc type L1 count 1 flags pv at 0 m2p -\n",
+    },
+    Example {
+        shows: "Accesses at an address that is not canonical, one of the hypervisor, one without a base, and one that is no multiple of 8.",
+        pace: "",
+        trace: "xen-pv-trace 1\nframes 16\ndomain 16\nvcpu 0\nown 0 0 8\nop 0 read k 0x800000000000\nop 0 read k 0xffff800000000000\nop 0 read k 0x0\nop 0 write k 0x4 1\nturn 0 4\nend\n",
+        lines: "op 1 refused 11 done 0 NonCanonical\nop 2 refused 8 done 0 Slot index=256\nop 3 refused 9 done 0 NotMapped level=5 entry=0x0\nop 4 refused 17 done 0 BadRange\n",
+    },
+    Example {
+        shows: "At the clock's last value no flush can be made.",
+        pace: "",
+        trace: "xen-pv-trace 1\nframes 16\nclock 68719476734\ndomain 16\nvcpu 0\nown 0 0 8\nop 0 ext 6 0 0\nturn 0 1\nend\n",
+        lines: "op 1 refused 20 done 0 Clock found=68719476734\n",
+    },
+    Example {
+        shows: "A guest that maps its own L1 table read-only cannot write it.",
+        pace: "",
+        trace: "xen-pv-trace 1\nframes 64\ndomain 8\ndomain 40\npriv 0 1\nvcpu 0\nvcpu 1\nown 0 0 8\nown 1 8 40\ncell 8 0 1 0x9007\ncell 9 0 1 0xa007\ncell 10 0 1 0xb007\ncell 11 0 1 0x8005\ncell 11 1 1 0x9005\ncell 11 2 1 0xa005\ncell 11 3 1 0xb005\ncell 11 4 1 0xc007\ncell 11 5 1 0xd007\ncell 11 6 1 0xe007\nop 1 ext 5 8 0\nop 1 write k 0x3000 0x1\nturn 1 2\nend\n",
+        lines: "op 2 refused 10 done 0 ReadOnly entry=0xb005\n",
+    },
+    Example {
+        shows: "A flush of all vCPUs of the domain waits for the other one.",
+        pace: "",
+        trace: "xen-pv-trace 1\nframes 16\ndomain 16\ndomain 16\npriv 0 1\nvcpu 0\nvcpu 1\nvcpu 1\nown 0 0 4\nown 1 4 8\nop 1 ext 10 0 0\nturn 1 1\nend\n",
+        lines: "pending 1\n",
+    },
+    Example {
+        shows: "It is answered once that one had a turn.",
+        pace: "",
+        trace: "xen-pv-trace 1\nframes 16\ndomain 16\ndomain 16\npriv 0 1\nvcpu 0\nvcpu 1\nvcpu 1\nown 0 0 4\nown 1 4 8\nop 1 ext 10 0 0\nturn 1 1\nturn 2 1\nturn 1 1\nend\n",
+        lines: "op 1 ok done 1 value 0x0\n",
+    },
+    Example {
+        shows: "A writer that flushed after the frame was given up delays no pin.",
+        pace: "",
+        trace: "xen-pv-trace 1\nframes 16\ndomain 16\ndomain 16\npriv 0 1\nvcpu 0\nvcpu 1\nvcpu 1\nown 0 0 4\nown 1 4 8\ncell 4 0 1 0x5003\ncell 5 0 1 0x6003\ncell 6 0 1 0x7003\ncell 7 0 1 0x8003\nop 1 ext 5 4 0\nop 1 write k 0x0 0x100\nop 1 ext 6 0 0\nop 2 mmu 0x7ff0 0x7000 0x0\nop 2 ext 0 8 0\nturn 0 1\nturn 1 2\nturn 2 1\nturn 1 1\nturn 2 1\nend\n",
+        lines: "op 2 ok done 1 value 0x0\nframe 8 owner 1 refs 2 alloc type L1 count 1 flags pv at 0 m2p -\n",
+    },
+    Example {
+        shows: "Walks set accessed and dirty bits, and an update that keeps them keeps them.",
+        pace: "",
+        trace: "xen-pv-trace 1\nframes 16\ndomain 16\nvcpu 0\nown 0 0 8\ncell 1 0 1 0x2003\ncell 2 0 1 0x3003\ncell 3 0 1 0x4003\ncell 4 0 1 0x5003\ncell 4 1 1 0x4001\nop 0 ext 5 1 0\nop 0 write k 0x0 0x77\nop 0 read k 0x1000\nop 0 read k 0x1008\nop 0 mmu 0x7ff0 0x4002 0x6003\nop 0 read k 0x1000\nturn 0 6\nend\n",
+        lines: "op 3 ok done 1 value 0x5063\nop 4 ok done 1 value 0x4021\nop 6 ok done 1 value 0x6063\n",
+    },
+    Example {
+        shows: "A vCPU of a domain that can never have mapped the frame is not waited for.",
+        pace: "",
+        trace: "xen-pv-trace 1\nframes 16\ndomain 16\ndomain 16\nvcpu 0\nvcpu 1\nvcpu 1\nown 0 0 4\nown 1 4 8\ncell 4 0 1 0x5003\ncell 5 0 1 0x6003\ncell 6 0 1 0x7003\ncell 7 0 1 0x8003\nop 1 ext 5 4 0\nop 1 write k 0x0 0x100\nop 1 write k 0x0 0x100\nop 2 mmu 0x7ff0 0x7000 0x0\nop 2 ext 0 8 0\nturn 1 2\nturn 2 2\nturn 1 1\nturn 2 1\nend\n",
+        lines: "op 2 ok done 1 value 0x0\n",
+    },
+    Example {
+        shows: "With a privilege it may have mapped the frame, and is waited for.",
+        pace: "",
+        trace: "xen-pv-trace 1\nframes 16\ndomain 16\ndomain 16\npriv 0 1\nvcpu 0\nvcpu 1\nvcpu 1\nown 0 0 4\nown 1 4 8\ncell 4 0 1 0x5003\ncell 5 0 1 0x6003\ncell 6 0 1 0x7003\ncell 7 0 1 0x8003\nop 1 ext 5 4 0\nop 1 write k 0x0 0x100\nop 1 write k 0x0 0x100\nop 2 mmu 0x7ff0 0x7000 0x0\nop 2 ext 0 8 0\nturn 1 2\nturn 2 2\nturn 1 1\nturn 2 1\nend\n",
+        lines: "pending 1\n",
     },
 ];
 

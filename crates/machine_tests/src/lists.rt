@@ -8,7 +8,7 @@ use std::sync::Arc;
 use std::sync::atomic::{AtomicU64, Ordering};
 use std::test::Fail;
 use xp_io::{HonestSink, HonestSource};
-use xp_machine::{Status, run};
+use xp_machine::{Status, run_serial};
 use xp_preempt::Preempt;
 
 // A write of ordinary memory, a machine-to-physical word, and an address that is none.
@@ -131,7 +131,7 @@ fn gates_gone(rt: &(impl Abort + AllocGlobal), words: &[String], trace: &str) ->
     assert!(rt; gates.len() >= 16);
     let mut source = HonestSource::new(bytes(rt, trace));
     let mut sink = HonestSink::new();
-    run(rt.alloc(), words, &mut source, &mut sink, gates);
+    run_serial(rt.alloc(), words, &mut source, &mut sink, gates);
     gone.load(Ordering::SeqCst)
 }
 

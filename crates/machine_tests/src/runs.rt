@@ -5,7 +5,7 @@ use std::process::Abort;
 use std::test::Fail;
 use trace_text::{read_trace, write_trace};
 use xp_io::{HonestSink, HonestSource, MemorySink, MemorySource, Sink, Source};
-use xp_machine::{Status, run};
+use xp_machine::{Status, run_serial};
 use xp_preempt::{Paced, Preempt};
 
 const FIRST_UPDATE: &str =
@@ -59,7 +59,7 @@ pub fn run_paced<S: Source, K: Sink>(
         gates.push(gate).expect(rt, "memory");
     }
     assert!(rt; gates.len() >= 16);
-    run(rt.alloc(), words, source, sink, gates)
+    run_serial(rt.alloc(), words, source, sink, gates)
 }
 
 // A source that gives at most `most` bytes at a read, and a sink that takes at most `most` at a write.

@@ -73,6 +73,7 @@ module _ (n : Machine) (s : ℕ) (o : Owners) (f i word : ℕ) (keep : Bool) (an
             names = λ a. absurd (names_none o f want marks a);
             owner = λ a. refl;
             over = λ d a. absurd cc;
+            waits = λ x a. absurd cc;
             ldt_page = λ x a. absurd cc;
             descriptor = λ x a. absurd cc;
           }
@@ -133,6 +134,7 @@ module _ (n : Machine) (s : ℕ) (o : Owners) (f i word : ℕ) (keep : Bool) (an
             names = λ a g b. b;
             owner = λ a. refl;
             over = λ d a. absurd cc;
+            waits = λ x a. absurd cc;
             ldt_page = λ x a. absurd cc;
             descriptor = λ x a. absurd cc;
           }

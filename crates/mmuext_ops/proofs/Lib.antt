@@ -1,3 +1,4 @@
+mod Dropped
 mod GivingUp
 mod Looked
 mod Marking
@@ -7,7 +8,9 @@ mod Pinned
 mod PinningLive
 mod Released
 mod Rests
+mod Setting
 mod Types
 mod UnpinCourse
 mod Unpinned
+mod Waited
 mod Within

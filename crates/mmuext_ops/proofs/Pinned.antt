@@ -38,8 +38,8 @@ use Rattle.mmuext_ops.proofs.Within.{same_no_more, within_table}
 
 -- ---- by the answer
 module _ (v w : PortValue) (f d level : ℕ) (answer : Result (Unit {0}) Stop) (e : Stop) (is : answer ≡ Err e) where
-  pub serves_as : Serves v w (of_pin d f level (is_due_stop e)) (missed v.post.machine e) → ServesElement v w d (Pin f level) answer
-  serves_as a = subst (λ (y : Result (Unit {0}) Stop). ServesElement v w d (Pin f level) y) (sym is) (missed v.post.machine e, told _ _, a)
+  pub serves_as : Serves v w (of_pin d f level (is_due_stop e)) (missed v.post.machine e) → ServesElement v w d (Pin f level) None answer
+  serves_as a = subst (λ (y : Result (Unit {0}) Stop). ServesElement v w d (Pin f level) None y) (sym is) (missed v.post.machine e, told _ _, a)
 
   pub stops_as : Stops v w (of_pin d f level (is_due_stop e)) e → IfErr answer (λ k. Stops v w (of_pin d f level (is_due_answer answer)) k)
   stops_as a = subst (λ (y : Result (Unit {0}) Stop). IfErr y (λ k. Stops v w (of_pin d f level (is_due_answer y)) k)) (sym is) a
@@ -136,11 +136,11 @@ module _ (v e w : PortValue) (f d level g : ℕ) (at : g ≡ f) (own : d ≡ own
   own_e : own_domain e ≡ d
   own_e = ap (λ (p : Post). domain_of p.machine p.vcpu) post_e ∙ sym own
 
-  pub live_serves : ServesLive e w g level answer → ServesElement v w d (Pin f level) answer
+  pub live_serves : ServesLive e w g level answer → ServesElement v w d (Pin f level) None answer
   live_serves (ds, deeds, a) =
       let ends : Serves e w (of_pin d f level false) ds = subst (λ k. Serves e w (of_pin d k level false) ds) at (subst (λ o. Serves e w (of_pin o g level false) ds) own_e a) in (
         ds,
-        subst (λ (p : Post). HasDeeds p.machine (Pin f level) answer ds) post_e (subst (λ k. HasDeeds e.post.machine (Pin k level) answer ds) at deeds),
+        subst (λ (p : Post). HasDeeds p.machine p.vcpu (Pin f level) answer ds) post_e (subst (λ k. HasDeeds e.post.machine e.post.vcpu (Pin k level) answer ds) at deeds),
         subst (λ b. Serves v w (of_pin d f level b) ds) (sym (pin_undue answer kind)) (subst (λ es. Serves v w (of_pin d f level false) es) (append-nil ds) (serves_then v e w (of_pin d f level false) [] ds before ends)),
       )
 

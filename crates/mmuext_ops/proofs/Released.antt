@@ -1,5 +1,5 @@
 -- A table whose pin was taken off is released: the hand before and behind, and the steps.
-use Rattle.std.proofs.Common.{◌≡◌, ℕ, ◌+◌, List, [], ◌∷◌, ◌++◌, Some, Result, Ok, Err, IfErr, refl, sym, ap, ◌∙◌, subst, inl, inr}
+use Rattle.std.proofs.Common.{◌≡◌, ℕ, ◌+◌, List, [], ◌∷◌, ◌++◌, Some, None, Result, Ok, Err, IfErr, refl, sym, ap, ◌∙◌, subst, inl, inr}
 use Rattle.xp_words.specs.KindWords.{kind_write}
 use Rattle.xp_words.specs.Machine.{Machine}
 use Rattle.xp_words.specs.Places.{sizes_of}
@@ -29,25 +29,25 @@ use Rattle.table_words.specs.Pins.{took_pin, unpinned_kind}
 use Rattle.level_release.specs.Asking.{of_release}
 use Rattle.level_release.specs.Asking as releases
 use Rattle.level_release.specs.Holding.{HoldsLive, LeavesUnheld}
-use Rattle.mmuext_ops.specs.Elements.{HasDeeds, LeavesElement, ServesElement, ext_request, told}
+use Rattle.mmuext_ops.specs.Elements.{HasDeeds, LeavesElement, ServesElement, told}
 use Rattle.mmuext_ops.specs.declared.element.Element.TheVariants.{Unpin}
 use Rattle.mmuext_ops.proofs.PinningLive.{looks_same}
-use Rattle.mmuext_ops.proofs.Within.{within_release}
+use Rattle.mmuext_ops.proofs.Within.{of_unpin, within_release}
 
 -- ---- the steps
-has_release : (n : Machine) (f : ℕ) (answer : Result (Unit {0}) Stop) → IfErr answer (λ e. e ≡ Paused Due) → HasDeeds n (Unpin f) (Ok tt) (misses n answer ++ (Unpins f ∷ []))
-has_release n f (Ok done) due = told (Unpin f) (Ok tt)
-has_release n f (Err e) due = rw due (told (Unpin f) (Ok tt))
+has_release : (n : Machine) (s f : ℕ) (answer : Result (Unit {0}) Stop) → IfErr answer (λ e. e ≡ Paused Due) → HasDeeds n s (Unpin f) (Ok tt) (misses n answer ++ (Unpins f ∷ []))
+has_release n s f (Ok done) due = told (Unpin f) (Ok tt)
+has_release n s f (Err e) due = rw due (told (Unpin f) (Ok tt))
 
-pub released_serves : (v r w : PortValue) (f d g : ℕ) (answer : Result (Unit {0}) Stop) → g ≡ f → Serves v r (ext_request d (Unpin f) (Ok tt)) (Unpins f ∷ []) →
-    Serves r w (of_release g d d answer) (misses r.post.machine answer) → IfErr answer (λ e. e ≡ Paused Due) → ServesElement v w d (Unpin f) (Ok tt)
+pub released_serves : (v r w : PortValue) (f d g : ℕ) (answer : Result (Unit {0}) Stop) → g ≡ f → Serves v r (of_unpin d f) (Unpins f ∷ []) →
+    Serves r w (of_release g d d answer) (misses r.post.machine answer) → IfErr answer (λ e. e ≡ Paused Due) → ServesElement v w d (Unpin f) None (Ok tt)
 released_serves v r w f d g answer at before a due =
-    let came = serves_came v r (ext_request d (Unpin f) (Ok tt)) (Unpins f ∷ []) before in
+    let came = serves_came v r (of_unpin d f) (Unpins f ∷ []) before in
     let of_frame : Serves r w (of_release f d d answer) (misses v.post.machine answer) =
     subst (λ (p : Post). Serves r w (of_release f d d answer) (misses p.machine answer)) (came_post v r came) (subst (λ k. Serves r w (of_release k d d answer) (misses r.post.machine answer)) at a) in (
       misses v.post.machine answer ++ (Unpins f ∷ []),
-      has_release v.post.machine f answer due,
-      serves_inner v r w (ext_request d (Unpin f) (Ok tt)) (of_release f d d answer) (Unpins f ∷ []) (misses v.post.machine answer)
+      has_release v.post.machine v.post.vcpu f answer due,
+      serves_inner v r w (of_unpin d f) (of_release f d d answer) (Unpins f ∷ []) (misses v.post.machine answer)
           (within_release v.post.machine v.post.vcpu f d (releases.is_due_answer answer) (Met r w) (Met v w) (λ m x. met_after v r w m came x)) before of_frame,
     )
 

@@ -1,18 +1,21 @@
 -- Nothing is in hand behind an element, whatever the first old word names; and an element that asks its gate nothing.
-use Rattle.std.proofs.Common.{◌≡◌, ℕ, Bool, false, [], Option, Result, Ok, Err, refl, sym, ap, ◌∙◌, subst, inl, inr, arith}
+use Rattle.std.proofs.Common.{◌≡◌, ℕ, Bool, false, [], Option, Result, Ok, Err, IfErr, refl, sym, ap, ◌∙◌, subst, inl, inr, arith}
 use Rattle.xp_words.specs.Machine.{IsMachine}
 use Rattle.xp_words.specs.declared.reply.Pause.TheVariants as pauses
 use Rattle.xp_words.specs.declared.reply.Stop.{Stop}
 use Rattle.xp_words.specs.declared.reply.Stop.TheVariants.{Paused, Refused}
 use Rattle.xp_board.specs.Told.{Post, PortValue}
 use Rattle.xp_preempt.specs.Gates.{Consulted, Gives, asks_on, yeses}
-use Rattle.step_maker.specs.Holds.{FlushedHolds, Rests}
+use Rattle.step_maker.specs.Holds.{FlushedHolds, FlushedSame, Rests}
 use Rattle.frame_words.specs.Refs.{IsRefStop}
 use Rattle.level_validate.specs.Acquiring as acquires
-use Rattle.level_release.specs.Asking.{is_due_stop}
+use Rattle.level_release.specs.Asking.{is_due_answer, is_due_stop}
+use Rattle.flush_waits.specs.Waiting.{IsWait}
+use Rattle.table_bases.specs.Asking.{IsSpentStop}
+use Rattle.mmuext_ops.specs.Course.{Performed, PerformsBy}
 use Rattle.mmuext_ops.specs.Elements.{LeavesElement}
 use Rattle.mmuext_ops.specs.declared.element.Element.{Element}
-use Rattle.mmuext_ops.specs.declared.element.Element.TheVariants.{Pin, Unknown, Unpin}
+use Rattle.mmuext_ops.specs.declared.element.Element.TheVariants.{Pin, Unpin}
 
 -- ---- the hand
 rests_by : (v w : PortValue) (o : Option ℕ) → Rests v → FlushedHolds v w (record v.holdings { old0 = o }) → Rests w
@@ -36,21 +39,39 @@ rests_by v w o rests holds =
       };
     }
 
-pub rests_behind : (v w : PortValue) (e : Element) (answer : Result (Unit {0}) Stop) → Rests v → LeavesElement v w e answer → Rests w
-rests_behind v w (Pin f level) (Ok done) rests leaves = rests_by v w v.holdings.old0 rests leaves
-rests_behind v w (Pin f level) (Err (Refused x)) rests (inl leaves) = rests_by v w v.holdings.old0 rests leaves
-rests_behind v w (Pin f level) (Err (Refused x)) rests (inr leaves) = rests_by v w _ rests leaves
-rests_behind v w (Pin f level) (Err (Paused x)) rests leaves = rests_by v w v.holdings.old0 rests leaves
-rests_behind v w (Unpin f) (Ok done) rests (inl leaves) = rests_by v w v.holdings.old0 rests leaves
-rests_behind v w (Unpin f) (Ok done) rests (inr leaves) = rests_by v w _ rests leaves
-rests_behind v w (Unpin f) (Err e) rests leaves = rests_by v w v.holdings.old0 rests leaves
-rests_behind v w Unknown (Ok done) rests leaves = rests_by v w v.holdings.old0 rests leaves
-rests_behind v w Unknown (Err e) rests leaves = rests_by v w v.holdings.old0 rests leaves
+pub rests_same : (v w : PortValue) → Rests v → FlushedSame v w → Rests w
+rests_same v w rests same = rests_by v w v.holdings.old0 rests same
+
+pub rests_pinned : (v w : PortValue) (f level : ℕ) (answer : Result (Unit {0}) Stop) → Rests v → LeavesElement v w (Pin f level) answer → Rests w
+rests_pinned v w f level (Ok done) rests leaves = rests_same v w rests leaves
+rests_pinned v w f level (Err (Refused x)) rests (inl leaves) = rests_same v w rests leaves
+rests_pinned v w f level (Err (Refused x)) rests (inr leaves) = rests_by v w _ rests leaves
+rests_pinned v w f level (Err (Paused x)) rests leaves = rests_same v w rests leaves
+
+pub rests_unpinned : (v w : PortValue) (f : ℕ) (answer : Result (Unit {0}) Stop) → Rests v → LeavesElement v w (Unpin f) answer → Rests w
+rests_unpinned v w f (Ok done) rests (inl leaves) = rests_same v w rests leaves
+rests_unpinned v w f (Ok done) rests (inr leaves) = rests_by v w _ rests leaves
+rests_unpinned v w f (Err e) rests leaves = rests_same v w rests leaves
 
 -- ---- the gate
 pub unasked : (says : ℕ → Bool) (asks agreed : ℕ) → Consulted says asks asks agreed agreed []
 unfolding Gives asks_on yeses
 unasked says asks agreed = record { gives = tt; asks = refl; yes = omega arith }
+
+pub ungated : (v w : PortValue) (d : ℕ) (e : Element) (awaited : Option ℕ) (answer : Result (Unit {0}) Stop) (says : ℕ → Bool) (asks agreed : ℕ) → Performed v w d e awaited [] answer → is_due_answer answer ≡ false →
+    PerformsBy v w d e awaited says asks asks agreed agreed answer
+ungated v w d e awaited answer says asks agreed course undue = record { answers = []; course = course; gate = unasked says asks agreed; due = λ due. absurd cc }
+
+pub spent_undue : (answer : Result (Unit {0}) Stop) → IfErr answer IsSpentStop → is_due_answer answer ≡ false
+spent_undue (Ok done) is = refl
+spent_undue (Err (Refused x)) is = refl
+spent_undue (Err (Paused x)) is = absurd is
+
+pub wait_undue : (answer : Result (Unit {0}) Stop) → IfErr answer IsWait → is_due_answer answer ≡ false
+wait_undue (Ok done) is = refl
+wait_undue (Err (Refused x)) is = refl
+wait_undue (Err (Paused pauses.Due)) is = absurd is
+wait_undue (Err (Paused _)) is = refl
 
 -- a reference that is not to be had is no pause for the gate
 pub reference_undue : (e : Stop) → IsRefStop e → is_due_stop e ≡ false

@@ -1,5 +1,5 @@
 -- An unpin: what its words tell, its calls one behind the other, what is in hand behind each, and why it is not done.
-use Rattle.std.proofs.Common.{◌≡◌, ◌≢◌, ℕ, ◌<◌, nat_lt, true, false, List, [], ◌∷◌, ◌++◌, ◌^◌, Some, None, Result, Ok, Err, is_some, IfErr, IsTrue, refl, sym, ap, ◌∙◌, subst, arith}
+use Rattle.std.proofs.Common.{◌≡◌, ◌≢◌, ℕ, ◌<◌, nat_lt, true, false, List, [], ◌∷◌, ◌++◌, ◌^◌, Some, None, Result, Err, is_some, IfErr, IsTrue, refl, sym, ap, ◌∙◌, subst, arith}
 use Rattle.std.proofs.lemmas.Bool.{and_parts}
 use Rattle.std.proofs.lemmas.Bool.Decides.{nat_tests}
 use Rattle.xp_words.specs.KindWords.{has_form, is_kind, kind_fields, kind_read, kind_write}
@@ -32,9 +32,10 @@ use Rattle.kind_words.proofs.KindWriting.{fields_write}
 use Rattle.table_words.specs.Pins.{unpinned_kind}
 use Rattle.table_words.proofs.PinWords.{unpinned_is}
 use Rattle.mmuext_ops.specs.Course.{TakesPinOff}
-use Rattle.mmuext_ops.specs.Elements.{ServesElement, raced_unpin, ext_request, told}
+use Rattle.mmuext_ops.specs.Elements.{ServesElement, raced_unpin, told}
 use Rattle.mmuext_ops.specs.declared.element.Element.TheVariants.{Unpin}
 use Rattle.mmuext_ops.proofs.Looked.{fields, fits, found_with, look_there, owner_known, owner_still, spelled, written}
+use Rattle.mmuext_ops.proofs.Within.{of_unpin}
 use Rattle.mmuext_ops.proofs.Marking.{live_undead, lost_deeds, lost_misses, lost_stops, mark_keeps, tried, unpins_deed}
 
 -- ---- the word
@@ -51,16 +52,16 @@ may_unpin k is on = record { live = pinned_lives k is on; pinned = on; left = re
 
 -- ---- by the answer
 module _ (v w : PortValue) (f d : ℕ) (answer : Result (Unit {0}) Stop) (e : Stop) (is : answer ≡ Err e) where
-  pub serves_as : Serves v w (ext_request d (Unpin f) (Err e)) (missed v.post.machine e) → ServesElement v w d (Unpin f) answer
-  serves_as a = subst (λ (y : Result (Unit {0}) Stop). ServesElement v w d (Unpin f) y) (sym is) (missed v.post.machine e, told _ _, a)
+  pub serves_as : Serves v w (of_unpin d f) (missed v.post.machine e) → ServesElement v w d (Unpin f) None answer
+  serves_as a = subst (λ (y : Result (Unit {0}) Stop). ServesElement v w d (Unpin f) None y) (sym is) (missed v.post.machine e, told _ _, a)
 
-  pub stops_as : Stops v w (ext_request d (Unpin f) (Err e)) e → IfErr answer (λ k. Stops v w (ext_request d (Unpin f) answer) k)
-  stops_as a = subst (λ (y : Result (Unit {0}) Stop). IfErr y (λ k. Stops v w (ext_request d (Unpin f) y) k)) (sym is) a
+  pub stops_as : Stops v w (of_unpin d f) e → IfErr answer (λ k. Stops v w (of_unpin d f) k)
+  stops_as a = subst (λ (y : Result (Unit {0}) Stop). IfErr y (λ k. Stops v w (of_unpin d f) k)) (sym is) a
 
 -- ---- the request
 module _ (v : PortValue) (f d : ℕ) where
   abbrev request : Request
-  request = ext_request d (Unpin f) (Ok tt)
+  request = of_unpin d f
 
   pub asks : (F : Finding) → Asked v.post.machine v.post.vcpu request F f d None
   asks F = named (when_eq f f refl) refl tt
@@ -136,7 +137,7 @@ module _ (v : PortValue) (f d : ℕ) where
           came_b = serves_came v b request [] before
 
           -- which is not pinned
-          pub raced_serves : ServesElement v r d (Unpin f) (Err (Refused (NotPinned found)))
+          pub raced_serves : ServesElement v r d (Unpin f) None (Err (Refused (NotPinned found)))
           raced_serves = (missed_at (Kind f), raced_unpin f found, missed_serves)
 
           found_now : FoundWith (Met v r) (Kind f) found b.holdings
@@ -165,7 +166,7 @@ module _ (v : PortValue) (f d : ℕ) where
             pub stop_is : stop ≡ Paused (pauses.Lost (number (sizes_of v.post.machine) (Kind f)) x found)
             stop_is = why ∙ ap (λ i. Paused (pauses.Lost i x found)) place_is
 
-            pub lost_serves : ServesElement v r d (Unpin f) (Err stop)
+            pub lost_serves : ServesElement v r d (Unpin f) None (Err stop)
             lost_serves =
                 let there : IsTrue (is_place (sizes_of v.post.machine) (Kind f)) = subst (λ (p : Post). IsTrue (is_place (sizes_of p.machine) (Kind f))) (came_post v b came_b) try_there.may.place in
                 rw stop_is

@@ -75,6 +75,7 @@ module _ (n : Machine) (s f d level : ℕ) (want : PageType) (rose risen : Bool)
         names = λ a. absurd (plain_table f d (Some want) d rose a);
         owner = λ a. absurd cc;
         over = λ e a. absurd cc;
+        waits = λ x a. absurd cc;
         ldt_page = λ x a. absurd cc;
         descriptor = λ x a. absurd cc;
       }
@@ -89,12 +90,15 @@ same_no_more v c r entries same f =
     }
 
 -- ---- a release, within an unpin
+abbrev pub of_unpin : ℕ → ℕ → Request
+of_unpin d f = record (of_table f d None d true) { pins = true; locks = true; backs = λ g. g == f }
+
 module _ (n : Machine) (s f d : ℕ) (rose : Bool) (F G : Finding) (more : (m : Moment) → F m → G m) where
   abbrev releasing : Request
   releasing = record (of_entries d d) { backs = λ g. g == f; rose = rose }
 
   abbrev unpinning : Request
-  unpinning = record (of_table f d None d true) { pins = true; locks = true; backs = λ g. g == f }
+  unpinning = of_unpin d f
 
   entries_so : Within n s (of_entries d d) F unpinning G
   entries_so = within_entries n s d unpinning F G more refl refl
@@ -151,6 +155,7 @@ module _ (n : Machine) (s f d : ℕ) (rose : Bool) (F G : Finding) (more : (m : 
         names = λ a. absurd (plain_release a);
         owner = λ a. absurd cc;
         over = λ e a. absurd cc;
+        waits = λ x a. absurd cc;
         ldt_page = λ x a. absurd cc;
         descriptor = λ x a. absurd cc;
       }

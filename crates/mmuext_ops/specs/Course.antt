@@ -1,15 +1,25 @@
 -- The course of a pin and of an unpin: the calls that each makes, from port to port, and the answers of the gate.
-use Rattle.std.specs.Prelude.{◌≡◌, ◌≢◌, ℕ, Bool, true, false, List, [], None, Result, Ok, Err, IfErr}
+use Rattle.std.specs.Prelude.{◌≡◌, ◌≢◌, ℕ, Bool, true, false, List, [], Option, Some, None, Result, Ok, Err, IfErr, IfOk}
 use Rattle.xp_words.specs.KindWords.{kind_fields, kind_write}
 use Rattle.xp_words.specs.Places.{number, sizes_of}
-use Rattle.xp_words.specs.declared.place.Place.TheVariants.{Kind}
+use Rattle.xp_words.specs.declared.place.Place.TheVariants.{Clock, Kind}
 use Rattle.xp_words.specs.declared.reply.Pause.TheVariants.{Due, Lost}
 use Rattle.xp_words.specs.declared.reply.Refusal.TheVariants as refusals
 use Rattle.xp_words.specs.declared.reply.Stop.{Stop}
 use Rattle.xp_words.specs.declared.reply.Stop.TheVariants.{Refused, Paused}
 use Rattle.xp_board.specs.declared.step.Act.TheVariants.{Cas, Load, Store}
 use Rattle.xp_board.specs.declared.step.StepKind.TheVariants as kinds
+use Rattle.xp_board.specs.Readings.{last_clock}
 use Rattle.xp_board.specs.Told.{PortValue}
+use Rattle.step_maker.specs.Holds.{Holds, Same}
+use Rattle.answer_fits.specs.Visits.{Does}
+use Rattle.flush_words.specs.Flushing.{FlushedBy}
+use Rattle.flush_waits.specs.Listing.{WaitedForThose}
+use Rattle.flush_waits.specs.Waiting.{AreClear, meant}
+use Rattle.table_bases.specs.Asking.{user_frame}
+use Rattle.table_bases.specs.Course.{SetsBase}
+use Rattle.table_bases.specs.declared.words.Base.TheVariants.{Kernel, User}
+use Rattle.tlb_walks.specs.Dropping.{Invalidates, Uncached, left_cached}
 use Rattle.step_maker.specs.Moves.{Moves}
 use Rattle.frame_types.specs.Lowering.{DropsType}
 use Rattle.kind_words.specs.Kinds.{partial_kind}
@@ -18,7 +28,7 @@ use Rattle.table_words.specs.Pins.{pinned_kind, unpinned_kind}
 use Rattle.table_courses.specs.Acquiring.{Acquired, GaveRef, GotRef, Named}
 use Rattle.level_release.specs.Course.{WasReleased, WithGate}
 use Rattle.mmuext_ops.specs.declared.element.Element.{Element}
-use Rattle.mmuext_ops.specs.declared.element.Element.TheVariants.{Pin, Unpin, Unknown}
+use Rattle.mmuext_ops.specs.declared.element.Element.TheVariants.{Pin, Unpin, NewBase, NewUserBase, FlushLocal, Invalidate, FlushVcpus, Unknown}
 
 -- the kind word of frame f was looked at
 abbrev pub SawKind : PortValue → PortValue → ℕ → ℕ → Type 0
@@ -77,6 +87,33 @@ pub data Unpinned (v w : PortValue) (d f : ℕ) : List Bool → Result (Unit {0}
   released : (a b c e : PortValue) (x : ℕ) (answers : List Bool) (answer : Result (Unit {0}) Stop) → GotRef v a f d (Ok f) → SawKind a b f x → is_pinned x ≡ true → TakesPinOff b c f x x →
       GaveRef c e f → WasReleased e f (kind_fields x).kind w answers answer → IfErr answer (λ stop. stop ≡ Paused Due) → Unpinned v w d f answers (Ok tt)
 
+-- ---- translations are dropped; no gate is asked
+-- all of the own ones, but where the clock is at its last value
+pub data FlushedLocal (v w : PortValue) : List Bool → Result (Unit {0}) Stop → Type 0 where
+  flushed : Does v w (FlushedBy v.post.vcpu (Ok tt)) → Uncached v w → FlushedLocal v w [] (Ok tt)
+  spent : Does v w (FlushedBy v.post.vcpu (Err (refusals.Clock last_clock))) → Same v w → FlushedLocal v w [] (Err (Refused (refusals.Clock last_clock)))
+
+-- those of the page of that address
+pub record Invalidated (v w : PortValue) (va : ℕ) (answers : List Bool) (answer : Result (Unit {0}) Stop) : Type 0 where
+  pub no_ask : answers ≡ []
+  pub done : answer ≡ Ok tt
+  pub steps : Does v w (Invalidates va)
+  pub hand : Holds v w (record v.holdings { cache = left_cached va v.holdings.cache })
+
+-- The clock is looked at. The vCPUs that are meant are waited for past the clock value that was found; or past the one for which the element has waited since
+-- an earlier turn. Done, each of them was found not to run, or flushed later.
+abbrev pub stamp_for : Option ℕ → ℕ → ℕ
+stamp_for (Some stamp) clock = stamp
+stamp_for None clock = clock
+
+pub record WaitedForVcpus (v w : PortValue) (mask : ℕ) (awaited : Option ℕ) (answers : List Bool) (answer : Result (Unit {0}) Stop) : Type 0 where
+  pub no_ask : answers ≡ []
+  pub looked : PortValue
+  pub clock : ℕ
+  pub looks : Moves v looked Clock Load kinds.Look None clock
+  pub waits : Does looked w (WaitedForThose (meant v.post.machine v.post.vcpu mask) (stamp_for awaited clock) answer)
+  pub clear : IfOk answer (λ done. AreClear looked w (meant v.post.machine v.post.vcpu mask) (stamp_for awaited clock))
+
 -- ---- with a gate
 abbrev pub PinsBy : PortValue → PortValue → ℕ → ℕ → ℕ → (ℕ → Bool) → ℕ → ℕ → ℕ → ℕ → Result (Unit {0}) Stop → Type 0
 PinsBy v w d f level says before after yes_before yes_after answer = WithGate (λ answers. Pinned v w d f level answers answer) says before after yes_before yes_after answer
@@ -85,10 +122,15 @@ abbrev pub UnpinsBy : PortValue → PortValue → ℕ → ℕ → (ℕ → Bool)
 UnpinsBy v w d f says before after yes_before yes_after answer = WithGate (λ answers. Unpinned v w d f answers answer) says before after yes_before yes_after answer
 
 -- one that its numbers refuse makes no step and asks nothing
-abbrev pub Performed : PortValue → PortValue → ℕ → Element → List Bool → Result (Unit {0}) Stop → Type 0
-Performed v w d (Pin f level) answers answer = Pinned v w d f level answers answer
-Performed v w d (Unpin f) answers answer = Unpinned v w d f answers answer
-Performed v w d Unknown answers answer = (w ≡ v) × (answers ≡ []) × (answer ≡ Err (Refused refusals.BadCommand))
+abbrev pub Performed : PortValue → PortValue → ℕ → Element → Option ℕ → List Bool → Result (Unit {0}) Stop → Type 0
+Performed v w d (Pin f level) awaited answers answer = Pinned v w d f level answers answer
+Performed v w d (Unpin f) awaited answers answer = Unpinned v w d f answers answer
+Performed v w d (NewBase f) awaited answers answer = SetsBase v w Kernel (Some f) answers answer
+Performed v w d (NewUserBase f) awaited answers answer = SetsBase v w User (user_frame f) answers answer
+Performed v w d FlushLocal awaited answers answer = FlushedLocal v w answers answer
+Performed v w d (Invalidate va) awaited answers answer = Invalidated v w va answers answer
+Performed v w d (FlushVcpus mask) awaited answers answer = WaitedForVcpus v w mask awaited answers answer
+Performed v w d Unknown awaited answers answer = (w ≡ v) × (answers ≡ []) × (answer ≡ Err (Refused refusals.BadCommand))
 
-abbrev pub PerformsBy : PortValue → PortValue → ℕ → Element → (ℕ → Bool) → ℕ → ℕ → ℕ → ℕ → Result (Unit {0}) Stop → Type 0
-PerformsBy v w d e says before after yes_before yes_after answer = WithGate (λ answers. Performed v w d e answers answer) says before after yes_before yes_after answer
+abbrev pub PerformsBy : PortValue → PortValue → ℕ → Element → Option ℕ → (ℕ → Bool) → ℕ → ℕ → ℕ → ℕ → Result (Unit {0}) Stop → Type 0
+PerformsBy v w d e awaited says before after yes_before yes_after answer = WithGate (λ answers. Performed v w d e awaited answers answer) says before after yes_before yes_after answer

@@ -48,4 +48,4 @@ LeavesTable v w f (Err (Paused x)) = GivesTableUp v w f true
 
 -- its steps are those of a pin, whose gate did not say yes
 abbrev pub ServesLive : PortValue → PortValue → ℕ → ℕ → Result (Unit {0}) Stop → Type 0
-ServesLive v w f level answer = (ds : List Deed) × HasDeeds v.post.machine (Pin f level) answer ds × Serves v w (of_pin (own_domain v) f level false) ds
+ServesLive v w f level answer = (ds : List Deed) × HasDeeds v.post.machine v.post.vcpu (Pin f level) answer ds × Serves v w (of_pin (own_domain v) f level false) ds

@@ -10,9 +10,23 @@ pub enum Element {
     Pin { frame: u64, level: u8 },
     /// Command 4 (`MMUEXT_UNPIN_TABLE`): a table is unpinned.
     Unpin { frame: u64 },
+    /// Command 5 (`MMUEXT_NEW_BASEPTR`): the kernel's base is set to a frame.
+    NewBase { frame: u64 },
+    /// Command 15 (`MMUEXT_NEW_USER_BASEPTR`): the user's base is; frame 0 stands for none.
+    NewUserBase { frame: u64 },
+    /// Command 6 (`MMUEXT_TLB_FLUSH_LOCAL`): the vCPU drops all its translations.
+    FlushLocal,
+    /// Command 7 (`MMUEXT_INVLPG_LOCAL`): it drops those of the page of an address.
+    Invalidate { va: u64 },
+    /// Commands 8 to 11 (`MMUEXT_TLB_FLUSH_MULTI`, `MMUEXT_INVLPG_MULTI`, `MMUEXT_TLB_FLUSH_ALL` and `MMUEXT_INVLPG_ALL`): vCPUs of the own domain
+    /// are waited for until each has dropped all its translations. Bit v of the mask is vCPU v; the last two commands mean all.
+    FlushVcpus { mask: u16 },
     /// No command of the simulated interface.
     Unknown,
 }
+
+// A bit for each vCPU that a machine may have.
+const EVERY_VCPU: u16 = 0xffff;
 
 pub(crate) fn element_of(op: ExtOp) -> Element
     ensures { result ≡ ext_element op }
@@ -35,6 +49,14 @@ pub(crate) fn element_of(op: ExtOp) -> Element
             level: 4,
         },
         4 => Element::Unpin { frame: op.first },
+        5 => Element::NewBase { frame: op.first },
+        6 => Element::FlushLocal,
+        7 => Element::Invalidate { va: op.first },
+        8 | 9 => Element::FlushVcpus {
+            mask: (op.second & 0xffff) as u16,
+        },
+        10 | 11 => Element::FlushVcpus { mask: EVERY_VCPU },
+        15 => Element::NewUserBase { frame: op.first },
         _ => Element::Unknown,
     }
 }

@@ -4,9 +4,11 @@
 mod element;
 mod elements;
 mod pinning;
+mod translations;
 mod unpinning;
+mod waiting;
 
 pub use element::Element;
-pub use elements::perform;
+pub use elements::{awaited_of, perform};
 pub use pinning::pin;
 pub use unpinning::unpin;

@@ -37,8 +37,8 @@ pub fn pin<P: Port>(
     requires low { 1 ≤ level }
     requires high { level ≤ 4 }
     requires room { known_old First (P.value port.old).holdings ≡ Some 0 }
-    ensures serves { ServesElement (P.value port.old) (P.value port.new) domain (Pin f level) result }
-    ensures stops { IfErr result (λ e. Stops (P.value port.old) (P.value port.new) (ext_request domain (Pin f level) result) e) }
+    ensures serves { ServesElement (P.value port.old) (P.value port.new) domain (Pin f level) None result }
+    ensures stops { IfErr result (λ e. Stops (P.value port.old) (P.value port.new) (ext_request (P.value port.old).post.machine (P.value port.old).post.vcpu domain (Pin f level) None result) e) }
     ensures kinds { IfErr result (IsElementStop (Pin f level)) }
     ensures hand { LeavesElement (P.value port.old) (P.value port.new) (Pin f level) result }
     ensures rests { Rests (P.value port.new) }

@@ -24,8 +24,8 @@ pub fn unpin<P: Port>(port: &mut P, gate: &mut dyn Preempt, domain: u16, f: u64)
     requires rests { Rests (P.value port.old) }
     requires own { domain ≡ domain_of (P.value port.old).post.machine (P.value port.old).post.vcpu }
     requires room { known_old First (P.value port.old).holdings ≡ Some 0 }
-    ensures serves { ServesElement (P.value port.old) (P.value port.new) domain (Unpin f) result }
-    ensures stops { IfErr result (λ e. Stops (P.value port.old) (P.value port.new) (ext_request domain (Unpin f) result) e) }
+    ensures serves { ServesElement (P.value port.old) (P.value port.new) domain (Unpin f) None result }
+    ensures stops { IfErr result (λ e. Stops (P.value port.old) (P.value port.new) (ext_request (P.value port.old).post.machine (P.value port.old).post.vcpu domain (Unpin f) None result) e) }
     ensures kinds { IfErr result (IsElementStop (Unpin f)) }
     ensures hand { LeavesElement (P.value port.old) (P.value port.new) (Unpin f) result }
     ensures rests { Rests (P.value port.new) }

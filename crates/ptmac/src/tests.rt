@@ -6,11 +6,13 @@ ptmac: this is no command line that it knows. It knows these:
 
 usage: ptmac COMMAND < TRACE
 
-  turns              Runs the trace on standard input: the vCPUs take the turns that its
-                     `turn` lines give them. Writes the report to standard output.
-  turns --preempt N  The same, but operations pause: each vCPU's gate says yes at each N-th
-                     time that it is asked. N is a decimal number up to 1000000 without
-                     leading zeros; with 0 nothing pauses. It may be written --preempt=N, too.
+  turns [--preempt N]   Runs the trace on standard input: the vCPUs take the turns that its
+                        `turn` lines give them. Writes the report to standard output.
+  replay [--preempt N]  The same, but each vCPU runs its whole script in a thread of its own.
+
+  With --preempt N operations pause: each vCPU's gate says yes at each N-th time that it is
+  asked. N is a decimal number up to 1000000 without leading zeros; with 0, as without the
+  option, no gate says yes. It may be written --preempt=N, too.
 
 example: ptmac turns --preempt 300 < examples/pinned-in-several-turns.trace
 

@@ -96,6 +96,7 @@ module _ (n : Machine) (s f d : ℕ) (rose risen : Bool) (F G : Finding) (more :
         names = λ a. absurd (plain_table f d (Some kinds.L4) d rose a);
         owner = λ a. absurd cc;
         over = λ e a. absurd cc;
+        waits = λ x a. absurd cc;
         ldt_page = λ x a. absurd cc;
         descriptor = λ x a. absurd cc;
       }
@@ -163,6 +164,7 @@ module _ (n : Machine) (s f d : ℕ) (rose : Bool) (r : Request) (F G : Finding)
         names = λ a. absurd (plain_release a);
         owner = λ a. absurd cc;
         over = λ e a. absurd cc;
+        waits = λ x a. absurd cc;
         ldt_page = λ x a. absurd cc;
         descriptor = λ x a. absurd cc;
       }

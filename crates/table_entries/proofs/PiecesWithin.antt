@@ -52,6 +52,7 @@ module _ (n : Machine) (s owner pages : ℕ) (r : Request) (F G : Finding) (more
         names = λ a. absurd (plain_entries owner pages a);
         owner = λ a. absurd cc;
         over = λ d a. absurd cc;
+        waits = λ x a. absurd cc;
         ldt_page = λ x a. absurd cc;
         descriptor = λ x a. absurd cc;
       }

@@ -3,13 +3,14 @@ use Rattle.std.proofs.Common.{◌≡◌, ◌≢◌, ◌⊎◌, ℕ, zero, suc, �
 use Rattle.std.specs.Prelude.{nat_le, nat_lt, ◌&&◌, replicate}
 use Rattle.std.proofs.lemmas.Bool.Decides.{nat_tests}
 use Rattle.atomic_table.specs.Seated.{TableId}
-use Rattle.thread_board.specs.Values.{PassValue, opened_pass, AreOpened}
+use Rattle.thread_board.specs.Values.{BoardValue, PassValue, IsPassOf, opened_pass, AreOpened}
 use mathlib.Core.Option.{Option, none, some, some-injective, some-ne-none}
 use lib.ListN.{get_elem?}
 use Rattle.atomic_table.proofs.Lists.{at_set, at_longer}
 use Rattle.atomic_table.specs.Table.{opening, Splits, Joins}
 use Rattle.xp_board.specs.declared.holdings.Holdings.{Holdings}
 use Rattle.xp_board.specs.Hands.{empty}
+use Rattle.xp_board.specs.Lists.{Member}
 use Rattle.xp_words.specs.Places.{sizes_of}
 use Rattle.thread_board.specs.declared.rule.Opening.{Opening}
 use Rattle.thread_board.specs.declared.rule.SharedView.{SharedView}
@@ -176,3 +177,8 @@ opened_more t before now p n was count is new = subst (AreOpened t) (sym is) (λ
 -- the value of a pass whose seat has one vCPU's view with nothing in hand
 pub pass_opened : (t x : TableId) (i : ℕ) (v : SharedView) → x ≡ t → v ≡ one i empty → record { table = x; vcpu = i; holdings = hold_of v } ≡ opened_pass t i
 pass_opened t x i v same is = rw (same, is) refl
+
+-- a pass as it was made
+pub opened_is : (b : BoardValue) (p : PassValue) (k : ℕ) → p ≡ opened_pass b.table k → k < (sizes_of b.machine).vcpus → IsPassOf b p
+unfolding Member
+opened_is b p k is lt = subst (IsPassOf b) (sym is) (record { table = refl; vcpu = lt; inside = λ x m. absurd m })

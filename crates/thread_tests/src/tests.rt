@@ -3,6 +3,7 @@ ghost use Rattle.trace_text.specs.WellFormed.{IsWellFormed};
 ghost use Rattle.xp_words.specs.Places.{sizes_of};
 ghost use Rattle.thread_board.specs.Values.{AreOpened};
 
+use crate::loads::{set_word, word_of};
 use crate::two::{both, two_passes};
 use machine_build::opening;
 use opening_rule::opening_words_are_sound;
@@ -55,4 +56,16 @@ fn two_vcpus_side_by_side_each_set_their_word(rt: HostRuntime) -> Result<(), Fai
     assert!(rt; words.get(first) == 7);
     assert!(rt; words.get(second) == 9);
     Ok(())
+}
+
+// What one vCPU stores the other finds at its next look, and the other way round.
+#[test]
+fn loads_on_one_thread_are_never_old(rt: HostRuntime) {
+    let (board, passes) = opened(rt.alloc(), TWO_DOMAINS).expect(&rt, "a board");
+    assert!(rt; board.layout().vcpus() == 2);
+    let (mut one, mut two) = two_passes(&board, passes).expect(&rt, "two passes");
+    set_word(&board, &mut one, 1, 1, 7);
+    assert!(rt; word_of(&board, &mut two, 1) == Some(7));
+    set_word(&board, &mut two, 1, 1, 9);
+    assert!(rt; word_of(&board, &mut one, 1) == Some(9));
 }

@@ -10,21 +10,22 @@ use Rattle.xp_board.specs.Told.{PortValue}
 use Rattle.xp_preempt.specs.Gates.{Gives, last_ask}
 use Rattle.xp_preempt.proofs.Numbering.{says_last, says_no}
 use Rattle.level_release.proofs.Noes.{settled_no}
-use Rattle.vcpu_turn.specs.Asking.{HearsNoWithin, NoUntilDue, asks_within, elements_tried, tried_going, tried_next, tried_of, tried_owned}
-use Rattle.vcpu_turn.specs.Cpus.{OpList, OfExt, OfPairs, Processing, list_of}
-use Rattle.vcpu_turn.specs.Lists.{asks_between, is_due_by}
+use Rattle.vcpu_turn.specs.Asking.{HearsNoWithin, NoUntilDue, asks_within, elements_tried, tried_going, tried_next, tried_of, tried_owned, tried_through}
+use Rattle.vcpu_turn.specs.Cpus.{Task, OfExt, OfPairs, OfRead, OfWrite, Processing, task_of}
+use Rattle.vcpu_turn.specs.Lists.{Fitting, asks_between, is_due_by}
 use Rattle.vcpu_turn.specs.Turning as turning
 use Rattle.vcpu_turn.specs.Turning.{CountsAsks, DoesNext, DoesTurn, GoesNoFurther, IsTurn, is_due}
 use Rattle.vcpu_turn.specs.Working as working
-use Rattle.vcpu_turn.specs.Working.{IsRefusedWhole, Settles, Works, WorksOwned}
+use Rattle.vcpu_turn.specs.Working.{IsRefusedWhole, Settles, Works, WorksOwned, WorksThrough, done_by, valued}
 use Rattle.vcpu_turn.specs.declared.cpu.TurnEnd.{TurnEnd}
 use Rattle.vcpu_turn.proofs.Extending.{due_released}
 use Rattle.vcpu_turn.proofs.Noes.{noes_none, noes_same, noes_then, settled_noes}
+use Rattle.vcpu_turn.proofs.Operations.{due_valued}
 use Rattle.vcpu_turn.proofs.Trying.{works_asks, works_hears}
 use Rattle.vcpu_turn.proofs.Turns.{due_ended, due_paused}
 
 -- ---- an operation
-refused_asks : {x : Refusal} (v : PortValue) (from to : ℕ) (w : PortValue) (answers : List Bool) (answer : Result (Unit {0}) Stop) → IsRefusedWhole x v to w answers answer → length answers ≡ asks_between from to answer + 0
+refused_asks : {A : Type 0} {x : Refusal} (v : PortValue) (from to : ℕ) (w : PortValue) (answers : List Bool) (answer : Result A Stop) → IsRefusedWhole x v to w answers answer → length answers ≡ asks_between from to answer + 0
 refused_asks v from to w answers (Ok done) r = let none = r.none in let no_ask = ap (λ (xs : List Bool). length xs) r.no_ask in omega (arith, none, no_ask)
 refused_asks v from to w answers (Err e) r = let none = r.none in let no_ask = ap (λ (xs : List Bool). length xs) r.no_ask in omega (arith, none, no_ask)
 
@@ -35,14 +36,35 @@ owned_asks (working.WorksOwned.none empty) = omega arith
 owned_asks (working.WorksOwned.unowned w x some few finds) = omega arith
 owned_asks (working.WorksOwned.owned to u w o answers answer some few finds on) = works_asks on
 
-operation_asks : (d : ℕ) (o : Option OpList) (v : PortValue) (from to : ℕ) (w : PortValue) (answers : List Bool) (answer : Result (Unit {0}) Stop) → (works : Works d o v from to w answers answer) →
-    length answers ≡ asks_between from to answer + asks_within (tried_of d o v from to w answers answer works)
-operation_asks d None v from to w answers answer works = refused_asks v from to w answers answer works
-operation_asks d (Some (OfPairs foreign list)) v from to w answers answer works = owned_asks works
-operation_asks d (Some (OfExt list)) v from to w answers answer (inl works) = refused_asks v from to w answers answer works.1
-operation_asks d (Some (OfExt list)) v from to w answers answer (inr works) = works_asks works.1
+through_asks : {fits : Fitting} {count : ℕ} {v : PortValue} {from to : ℕ} {w : PortValue} {answers : List Bool} {answer : Result (Unit {0}) Stop} → (works : WorksThrough fits count v from to w answers answer) →
+    length answers ≡ asks_between from to answer + asks_within (tried_through works)
+through_asks {v = v} {from = from} {to = to} {w = w} {answers = answers} {answer = answer} (inl works) = refused_asks v from to w answers answer works.1
+through_asks (inr works) = works_asks works.1
 
-refused_hears : {x : Refusal} (v : PortValue) (to : ℕ) (w : PortValue) (answers : List Bool) (answer : Result (Unit {0}) Stop) → IsRefusedWhole x v to w answers answer → NoUntilDue answers (is_due_by answer)
+-- a value is no ask
+between_valued : (from to : ℕ) (ended : Result (Unit {0}) Stop) (answer : Result ℕ Stop) → answer ≡ valued ended → asks_between from to answer ≡ asks_between from to ended
+between_valued from to (Ok done) answer is = ap (asks_between from to) is
+between_valued from to (Err e) answer is = ap (asks_between from to) is
+
+one_asks : {A : Type 0} (from to : ℕ) (answers : List Bool) (answer : Result A Stop) → to ≡ done_by answer → answers ≡ [] → length answers ≡ asks_between from to answer + 0
+one_asks from to answers (Ok a) is none = let no_ask = ap (λ (xs : List Bool). length xs) none in omega (arith, is, no_ask)
+one_asks from to answers (Err e) is none = let no_ask = ap (λ (xs : List Bool). length xs) none in omega (arith, is, no_ask)
+
+valued_asks : (from to within : ℕ) (answers : List Bool) (ended : Result (Unit {0}) Stop) (answer : Result ℕ Stop) → answer ≡ valued ended → length answers ≡ asks_between from to ended + within → length answers ≡ asks_between from to answer + within
+valued_asks from to within answers ended answer is number = let same = between_valued from to ended answer is in omega (arith, number, same)
+
+operation_asks : (d : ℕ) (o : Option Task) (awaited : Option ℕ) (v : PortValue) (from to : ℕ) (w : PortValue) (answers : List Bool) (answer : Result ℕ Stop) → (works : Works d o awaited v from to w answers answer) →
+    length answers ≡ asks_between from to answer + asks_within (tried_of d o awaited v from to w answers answer works)
+operation_asks d None awaited v from to w answers answer works = refused_asks v from to w answers answer works
+operation_asks d (Some (OfPairs foreign list)) awaited v from to w answers answer works =
+    valued_asks from to (asks_within (tried_owned works.works)) answers works.ended answer works.answer_is (owned_asks works.works)
+operation_asks d (Some (OfExt list)) awaited v from to w answers answer works =
+    valued_asks from to (asks_within (tried_through works.works)) answers works.ended answer works.answer_is (through_asks works.works)
+operation_asks d (Some (OfRead user va)) awaited v from to w answers answer works = one_asks from to answers answer works.done works.no_ask
+operation_asks d (Some (OfWrite user va val)) awaited v from to w answers answer works =
+    valued_asks from to 0 answers works.ended answer works.answer_is (one_asks from to answers works.ended works.works.done works.works.no_ask)
+
+refused_hears : {A : Type 0} {x : Refusal} (v : PortValue) (to : ℕ) (w : PortValue) (answers : List Bool) (answer : Result A Stop) → IsRefusedWhole x v to w answers answer → NoUntilDue answers (is_due_by answer)
 refused_hears v to w answers answer r = noes_same answers [] (is_due_by answer) r.no_ask (noes_none (is_due_by answer))
 
 owned_hears : {d foreign : ℕ} {list : List Pair} {v : PortValue} {from to : ℕ} {w : PortValue} {answers : List Bool} {answer : Result (Unit {0}) Stop} → (works : WorksOwned d foreign list v from to w answers answer) →
@@ -52,12 +74,21 @@ owned_hears (working.WorksOwned.none empty) hears = noes_none false
 owned_hears (working.WorksOwned.unowned w x some few finds) hears = noes_none false
 owned_hears (working.WorksOwned.owned to u w o answers answer some few finds on) hears = works_hears on hears
 
-operation_hears : (d : ℕ) (o : Option OpList) (v : PortValue) (from to : ℕ) (w : PortValue) (answers : List Bool) (answer : Result (Unit {0}) Stop) → (works : Works d o v from to w answers answer) →
-    HearsNoWithin (tried_of d o v from to w answers answer works) → NoUntilDue answers (is_due_by answer)
-operation_hears d None v from to w answers answer works hears = refused_hears v to w answers answer works
-operation_hears d (Some (OfPairs foreign list)) v from to w answers answer works hears = owned_hears works hears
-operation_hears d (Some (OfExt list)) v from to w answers answer (inl works) hears = refused_hears v to w answers answer works.1
-operation_hears d (Some (OfExt list)) v from to w answers answer (inr works) hears = works_hears works.1 hears
+through_hears : {fits : Fitting} {count : ℕ} {v : PortValue} {from to : ℕ} {w : PortValue} {answers : List Bool} {answer : Result (Unit {0}) Stop} → (works : WorksThrough fits count v from to w answers answer) →
+    HearsNoWithin (tried_through works) → NoUntilDue answers (is_due_by answer)
+through_hears {v = v} {to = to} {w = w} {answers = answers} {answer = answer} (inl works) hears = refused_hears v to w answers answer works.1
+through_hears (inr works) hears = works_hears works.1 hears
+
+valued_hears : (answers : List Bool) (ended : Result (Unit {0}) Stop) (answer : Result ℕ Stop) → answer ≡ valued ended → NoUntilDue answers (is_due_by ended) → NoUntilDue answers (is_due_by answer)
+valued_hears answers ended answer is noes = subst (λ (b : Bool). NoUntilDue answers b) (sym (ap is_due_by is ∙ due_valued ended)) noes
+
+operation_hears : (d : ℕ) (o : Option Task) (awaited : Option ℕ) (v : PortValue) (from to : ℕ) (w : PortValue) (answers : List Bool) (answer : Result ℕ Stop) → (works : Works d o awaited v from to w answers answer) →
+    HearsNoWithin (tried_of d o awaited v from to w answers answer works) → NoUntilDue answers (is_due_by answer)
+operation_hears d None awaited v from to w answers answer works hears = refused_hears v to w answers answer works
+operation_hears d (Some (OfPairs foreign list)) awaited v from to w answers answer works hears = valued_hears answers works.ended answer works.answer_is (owned_hears works.works hears)
+operation_hears d (Some (OfExt list)) awaited v from to w answers answer works hears = valued_hears answers works.ended answer works.answer_is (through_hears works.works hears)
+operation_hears d (Some (OfRead user va)) awaited v from to w answers answer works hears = noes_same answers [] (is_due_by answer) works.no_ask (noes_none (is_due_by answer))
+operation_hears d (Some (OfWrite user va val)) awaited v from to w answers answer works hears = noes_same answers [] (is_due_by answer) works.works.no_ask (noes_none (is_due_by answer))
 
 -- ---- a turn
 pub settles_hears : (v w : PortValue) (answers : List Bool) (answer : Result (Unit {0}) Stop) → Settles v w answers answer → NoUntilDue answers (is_due_by answer)
@@ -65,7 +96,7 @@ settles_hears v w answers answer s = subst (λ (b : Bool). NoUntilDue answers b)
 
 next_hears : (c : Processing) (o : Option Op) (c2 : Processing) (v w : PortValue) (answers : List Bool) (end : TurnEnd) → (does : DoesNext c o c2 v w answers end) → HearsNoWithin (tried_next c o c2 v w answers end does) → NoUntilDue answers (is_due end)
 next_hears c (Some op) c2 v w answers end on hears =
-    subst (λ (b : Bool). NoUntilDue answers b) (sym (ap is_due on.end_is ∙ due_ended on.to on.answer)) (operation_hears c.domain (list_of op) v c.done on.to w answers on.answer on.works hears)
+    subst (λ (b : Bool). NoUntilDue answers b) (sym (ap is_due on.end_is ∙ due_ended on.to on.answer)) (operation_hears c.domain (task_of op) c.awaited v c.done on.to w answers on.answer on.works hears)
 next_hears c None c2 v w answers end retires hears = noes_same answers [] (is_due end) retires.no_ask (noes_none (is_due end))
 
 going_hears : (c : Processing) (o : Option Op) (v : PortValue) (c2 : Processing) (w : PortValue) (answers : List Bool) (end : TurnEnd) → (does : DoesTurn c o v c2 w answers end) → HearsNoWithin (tried_going does) → NoUntilDue answers (is_due end)
@@ -81,7 +112,7 @@ going_asks : (c : Processing) (o : Option Op) (op : Op) → o ≡ Some op → (v
 going_asks c None op is v c2 w answers end does = absurd (cc)
 going_asks c (Some other) op is v _ _ _ _ (turning.DoesTurn.unsettled w answers p settles) = turning.CountsAsks.settling v w p settles refl refl
 going_asks c (Some other) op is v _ _ _ _ (turning.DoesTurn.settled u w c2 early answers end settles on) =
-    turning.CountsAsks.counted on.to on.answer v u early answers settles on.end_is refl (operation_asks c.domain (list_of other) u c.done on.to w answers on.answer on.works)
+    turning.CountsAsks.counted on.to on.answer v u early answers settles on.end_is refl (operation_asks c.domain (task_of other) c.awaited u c.done on.to w answers on.answer on.works)
 
 pub turn_asks : (c d : Processing) (op : Op) (end : TurnEnd) (v w : PortValue) (answers : List Bool) → slice_get c.script (length c.log) ≡ Some op → (turn : IsTurn c d end v w answers) →
     CountsAsks c.done end answers (asks_within (elements_tried turn))
@@ -111,7 +142,7 @@ pub turn_stops : (c c2 : Processing) (end : TurnEnd) (v w : PortValue) (before :
 turn_stops c c2 end v w before answers says turn hears gives j some less is_yes = past says before answers (is_due end) gives (turn_hears c c2 end v w answers turn hears) j some less is_yes
 
 -- so no more elements are done than up to there
-within_by : (from to within asks all j : ℕ) (answer : Result (Unit {0}) Stop) → asks ≡ asks_between from to answer + within → asks ≤ all → (all < j) ⊎ ((all ≡ j) × (is_due_by answer ≡ true)) → to ≤ from + (j - within)
+within_by : (from to within asks all j : ℕ) (answer : Result ℕ Stop) → asks ≡ asks_between from to answer + within → asks ≤ all → (all < j) ⊎ ((all ≡ j) × (is_due_by answer ≡ true)) → to ≤ from + (j - within)
 within_by from to within asks all j (Ok done) number few (inl before) = omega (arith, number, few, before)
 within_by from to within asks all j (Ok done) number few (inr last) = absurd (let is = last.1 in cc)
 within_by from to within asks all j (Err e) number few (inl before) = omega (arith, number, few, before)
@@ -121,7 +152,7 @@ module _ (c : Processing) (before : ℕ) (says : ℕ → Bool) (j : ℕ) (some :
   going_within : (o : Option Op) (op : Op) → o ≡ Some op → (v : PortValue) (c2 : Processing) (w : PortValue) (answers : List Bool) (end : TurnEnd) → (does : DoesTurn c o v c2 w answers end) → HearsNoWithin (tried_going does) → Gives says before answers →
       GoesNoFurther c c2 end (c.done + (j - asks_within (tried_going does)))
   going_within None op is v c2 w answers end does hears gives = absurd (cc)
-  going_within (Some other) op is v _ _ _ _ (turning.DoesTurn.unsettled w answers p settles) hears gives = record { to = c.done; answer = Err (Paused p); end_is = refl; cpu = refl; within = omega arith }
+  going_within (Some other) op is v _ _ _ _ (turning.DoesTurn.unsettled w answers p settles) hears gives = record { to = c.done; answer = Err (Paused p); end_is = refl; cpu = inr (p, refl, refl, refl); within = omega arith }
   going_within (Some other) op is v _ _ _ _ (turning.DoesTurn.settled u w c2 early answers end settles on) hears gives =
       let all = length-append answers early in
       let noes = going_hears c (Some other) v c2 w (answers ++ early) end (turning.DoesTurn.settled u w c2 early answers end settles on) hears in
@@ -129,9 +160,9 @@ module _ (c : Processing) (before : ℕ) (says : ℕ → Bool) (j : ℕ) (some :
         to = on.to;
         answer = on.answer;
         end_is = on.end_is;
-        cpu = on.cpu;
+        cpu = inl on.cpu;
         within = within_by c.done on.to (asks_within (tried_next c (Some other) c2 u w answers end on)) (length answers) (length (answers ++ early)) j on.answer
-            (operation_asks c.domain (list_of other) u c.done on.to w answers on.answer on.works) (omega (arith, all))
+            (operation_asks c.domain (task_of other) c.awaited u c.done on.to w answers on.answer on.works) (omega (arith, all))
             (subst (λ (b : Bool). (length (answers ++ early) < j) ⊎ ((length (answers ++ early) ≡ j) × (b ≡ true))) (ap is_due on.end_is ∙ due_ended on.to on.answer)
             (past says before (answers ++ early) (is_due end) gives noes j some less is_yes));
       }

@@ -1,14 +1,13 @@
 -- What is settled and then done: elements of lists as items.
-use Rattle.std.proofs.Common.{◌≡◌, ℕ, ◌<◌, Bool, List, length, get_or, slice_get, Option, Some, refl, sym, ◌∙◌, Result, Ok, Err, IfErr, subst}
+use Rattle.std.proofs.Common.{◌≡◌, ℕ, ◌<◌, Bool, false, List, length, get_or, slice_get, Option, Some, refl, sym, ◌∙◌, Result, Ok, Err, IfErr, subst}
 use Rattle.std.specs.Result.{IsErrAnd}
 use Rattle.std.proofs.lemmas.Option.{slice_get-get_or}
 use Rattle.xp_words.specs.declared.reply.Stop.{Stop}
-use Rattle.xp_words.specs.declared.reply.Stop.TheVariants.{Refused, Paused}
-use Rattle.xp_words.specs.declared.reply.Pause.TheVariants.{Due, Lost, Busy, Flush, Alive}
 use Rattle.xp_board.specs.Told.{PortValue}
 use Rattle.step_maker.specs.Holds.{Rests}
 use Rattle.answer_fits.specs.Answers.{Serves, Stops, misses}
 use Rattle.level_release.specs.Asking as releases
+use Rattle.level_release.specs.Asking.{is_due_stop}
 use Rattle.level_release.specs.Course.{SettlesBy, WithGate}
 use Rattle.vcpu_turn.specs.Lists.{Answering, is_due_by}
 use Rattle.vcpu_turn.specs.Working as working
@@ -18,12 +17,7 @@ use Rattle.vcpu_turn.proofs.Gating.{answers_behind, is_err}
 -- ---- what is due is so for all of them
 pub due_released : (answer : Result (Unit {0}) Stop) → is_due_by answer ≡ releases.is_due_answer answer
 due_released (Ok done) = refl
-due_released (Err (Refused x)) = refl
-due_released (Err (Paused Due)) = refl
-due_released (Err (Paused (Lost a b c))) = refl
-due_released (Err (Paused (Busy a b))) = refl
-due_released (Err (Paused (Flush a b c))) = refl
-due_released (Err (Paused (Alive a b))) = refl
+due_released (Err e) = refl
 
 module _ (v w : PortValue) (says : ℕ → Bool) (before after yes_before yes_after : ℕ) (answer : Result (Unit {0}) Stop) where
   pub settle_answers : ((owner pages : ℕ) → Serves v w (releases.of_settle owner pages answer) (misses v.post.machine answer)) → ((owner pages : ℕ) → IfErr answer (λ e. Stops v w (releases.of_settle owner pages answer) e)) →
@@ -44,14 +38,14 @@ course_answers says before after yes_before yes_after answer P C all by =
 
 -- ---- one element: P says what is done behind the settling
 module _ (P : PortValue → PortValue → List Bool → Result (Unit {0}) Stop → Type 0) (says : ℕ → Bool) (before after yes_before yes_after : ℕ) (v u : PortValue) where
-  pub behind_unsettled : (stop : Stop) (answer : Result (Unit {0}) Stop) → IsErrAnd answer (λ x. x ≡ stop) → Answering (λ answers. Settles v u answers (Err stop)) says before after yes_before yes_after (is_due_by (Err stop)) →
+  pub behind_unsettled : (stop : Stop) (answer : Result (Unit {0}) Stop) → IsErrAnd answer (λ x. x ≡ stop) → Answering (λ answers. Settles v u answers (Err stop)) says before after yes_before yes_after (is_due_stop stop) →
       Answering (λ answers. SettlesFirst P v u answers answer) says before after yes_before yes_after (is_due_by answer)
   behind_unsettled stop answer is settles =
       subst (λ (a : Result (Unit {0}) Stop). Answering (λ answers. SettlesFirst P v u answers a) says before after yes_before yes_after (is_due_by a)) (sym (is_err answer stop is))
       (record { answers = settles.answers; goes = working.SettlesFirst.unsettled u settles.answers stop settles.goes; gate = settles.gate; due_is = settles.due_is })
 
   pub behind_performed : (now : ℕ → Bool) (last yes_last : ℕ) (w : PortValue) (answer : Result (Unit {0}) Stop) → ((n : ℕ) → now n ≡ says n) →
-      Answering (λ answers. Settles v u answers (Ok tt)) says before after yes_before yes_after (is_due_by (Ok tt)) →
+      Answering (λ answers. Settles v u answers (Ok tt)) says before after yes_before yes_after false →
       Answering (λ answers. P u w answers answer) now after last yes_after yes_last (is_due_by answer) →
       Answering (λ answers. SettlesFirst P v w answers answer) says before last yes_before yes_last (is_due_by answer)
   behind_performed now last yes_last w answer same settles performs =

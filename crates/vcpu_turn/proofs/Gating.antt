@@ -29,7 +29,7 @@ module _ (says now : ℕ → Bool) (before after last yes_before yes_after yes_l
       }
 
 -- an answer that was passed on
-pub is_err : (answer : Result (Unit {0}) Stop) (e : Stop) → IsErrAnd answer (λ x. x ≡ e) → answer ≡ Err e
+pub is_err : {A : Type 0} → (answer : Result A Stop) (e : Stop) → IsErrAnd answer (λ x. x ≡ e) → answer ≡ Err e
 is_err (Ok done) e is = absurd is
 is_err (Err x) e is = ap (λ (y : Stop). Err y) is
 

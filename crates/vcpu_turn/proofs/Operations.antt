@@ -1,16 +1,18 @@
 -- The work of a turn on lists of any length, and on operations.
-use Rattle.std.proofs.Common.{◌≡◌, ℕ, ◌<◌, ◌≤◌, ◌==◌, Bool, false, List, [], length, Option, Some, None, Result, Ok, Err, refl, sym, arith, inl, inr, subst}
+use Rattle.std.proofs.Common.{◌≡◌, ℕ, ◌<◌, ◌≤◌, ◌==◌, Bool, false, List, [], length, Option, Some, None, Result, Ok, Err, IfErr, refl, sym, ap, ◌∙◌, arith, inl, inr, subst}
 use Rattle.std.proofs.lemmas.Bool.Decides.{nat_tests}
 use Rattle.xp_words.specs.declared.ops.Pair.{Pair}
 use Rattle.xp_words.specs.declared.reply.Refusal.{Refusal}
 use Rattle.xp_words.specs.declared.reply.Refusal.TheVariants as refusals
 use Rattle.xp_words.specs.declared.reply.Stop.{Stop}
-use Rattle.xp_words.specs.declared.reply.Stop.TheVariants.{Refused}
+use Rattle.xp_words.specs.declared.reply.Pause.TheVariants.{Due, Lost, Busy, Flush, Alive}
+use Rattle.xp_words.specs.declared.reply.Stop.TheVariants.{Refused, Paused}
 use Rattle.xp_board.specs.Told.{PortValue}
 use Rattle.foreign_map.specs.declared.owners.Owners.{Owners}
+use Rattle.tlb_walks.specs.Asking.{IsGuestReadStop, IsGuestWriteStop}
 use Rattle.vcpu_turn.specs.Lists.{Answering, Fitting, WorksOn, is_due_by}
-use Rattle.vcpu_turn.specs.Cpus.{OpList, OfExt, OfPairs, elements_in}
-use Rattle.vcpu_turn.specs.Working.{ExtFits, FindsOwners, PairFits, Works, WorksOwned, WorksThrough, long, none, unowned, owned}
+use Rattle.vcpu_turn.specs.Cpus.{Task, OfExt, OfPairs, OfRead, OfWrite, elements_in}
+use Rattle.vcpu_turn.specs.Working.{ExtFits, FindsOwners, PairFits, Valued, Works, WorksOwned, WorksThrough, done_by, long, none, unowned, owned, valued}
 use Rattle.vcpu_turn.proofs.Gating.{answers_as, answers_nothing}
 use Rattle.vcpu_turn.proofs.Listing.{works_within}
 
@@ -66,20 +68,61 @@ through_most fits count from v to w answers answer within works = elim works [
 ]
 
 -- ---- operations
-module _ (d from : ℕ) (v : PortValue) (o : Option OpList) (says : ℕ → Bool) where
-  pub not_built : o ≡ None → (asks risen : ℕ) → Answering (λ answers. Works d o v from 0 v answers (Err (Refused refusals.BadCommand))) says asks asks risen risen false
+pub due_valued : (ended : Result (Unit {0}) Stop) → is_due_by (valued ended) ≡ is_due_by ended
+due_valued (Ok done) = refl
+due_valued (Err e) = refl
+
+-- what answers no value
+module _ (P : List Bool → Result (Unit {0}) Stop → Type 0) (says : ℕ → Bool) (before after yes_before yes_after : ℕ) (ended : Result (Unit {0}) Stop) (answer : Result ℕ Stop) (is : answer ≡ valued ended) where
+  pub without_value : Answering (λ answers. P answers ended) says before after yes_before yes_after (is_due_by ended) →
+      Answering (λ answers. Valued (λ e. P answers e) answer) says before after yes_before yes_after (is_due_by answer)
+  without_value works =
+      record {
+        answers = works.answers;
+        goes = record { ended = ended; works = works.goes; answer_is = is };
+        gate = works.gate;
+        due_is = λ due. works.due_is (sym (due_valued ended) ∙ sym (ap is_due_by is) ∙ due);
+      }
+
+-- an access asks no gate
+pub read_not_due : (answer : Result ℕ Stop) → IfErr answer IsGuestReadStop → is_due_by answer ≡ false
+read_not_due (Ok word) kinds = refl
+read_not_due (Err (Refused r)) kinds = refl
+read_not_due (Err (Paused Due)) kinds = absurd kinds
+read_not_due (Err (Paused (Lost place expected found))) kinds = refl
+read_not_due (Err (Paused (Busy f found))) kinds = refl
+read_not_due (Err (Paused (Flush u stamp found))) kinds = refl
+read_not_due (Err (Paused (Alive u found))) kinds = refl
+
+pub write_not_due : (answer : Result (Unit {0}) Stop) → IfErr answer IsGuestWriteStop → is_due_by answer ≡ false
+write_not_due (Ok done) kinds = refl
+write_not_due (Err (Refused r)) kinds = refl
+write_not_due (Err (Paused Due)) kinds = absurd kinds
+write_not_due (Err (Paused (Lost place expected found))) kinds = refl
+write_not_due (Err (Paused (Busy f found))) kinds = refl
+write_not_due (Err (Paused (Flush u stamp found))) kinds = refl
+write_not_due (Err (Paused (Alive u found))) kinds = refl
+
+module _ (d from : ℕ) (awaited : Option ℕ) (v : PortValue) (o : Option Task) (says : ℕ → Bool) where
+  pub not_built : o ≡ None → (asks risen : ℕ) → Answering (λ answers. Works d o awaited v from 0 v answers (Err (Refused refusals.BadCommand))) says asks asks risen risen false
   not_built is asks risen =
-      subst (λ (p : Option OpList). Answering (λ answers. Works d p v from 0 v answers (Err (Refused refusals.BadCommand))) says asks asks risen risen false) (sym is)
-      (answers_nothing says asks risen false (λ answers. Works d None v from 0 v answers (Err (Refused refusals.BadCommand))) refl (record { none = refl; no_step = refl; no_ask = refl; refused = refl }))
+      subst (λ (p : Option Task). Answering (λ answers. Works d p awaited v from 0 v answers (Err (Refused refusals.BadCommand))) says asks asks risen risen false) (sym is)
+      (answers_nothing says asks risen false (λ answers. Works d None awaited v from 0 v answers (Err (Refused refusals.BadCommand))) refl (record { none = refl; no_step = refl; no_ask = refl; refused = refl }))
 
-  pub built : (list : OpList) → o ≡ Some list → (before after yes_before yes_after to : ℕ) (w : PortValue) (answer : Result (Unit {0}) Stop) →
-      Answering (λ answers. Works d (Some list) v from to w answers answer) says before after yes_before yes_after (is_due_by answer) →
-      Answering (λ answers. Works d o v from to w answers answer) says before after yes_before yes_after (is_due_by answer)
-  built list is before after yes_before yes_after to w answer through =
-      subst (λ (p : Option OpList). Answering (λ answers. Works d p v from to w answers answer) says before after yes_before yes_after (is_due_by answer)) (sym is) through
+  pub built : (task : Task) → o ≡ Some task → (before after yes_before yes_after to : ℕ) (w : PortValue) (answer : Result ℕ Stop) →
+      Answering (λ answers. Works d (Some task) awaited v from to w answers answer) says before after yes_before yes_after (is_due_by answer) →
+      Answering (λ answers. Works d o awaited v from to w answers answer) says before after yes_before yes_after (is_due_by answer)
+  built task is before after yes_before yes_after to w answer works =
+      subst (λ (p : Option Task). Answering (λ answers. Works d p awaited v from to w answers answer) says before after yes_before yes_after (is_due_by answer)) (sym is) works
 
--- no more elements are done than there are
-pub works_most : (d from to : ℕ) (o : Option OpList) (v w : PortValue) (answers : List Bool) (answer : Result (Unit {0}) Stop) → from ≤ elements_in o → Works d o v from to w answers answer → to ≤ elements_in o
-works_most d from to None v w answers answer within works = let nothing = works.none in omega (arith, nothing)
-works_most d from to (Some (OfPairs foreign list)) v w answers answer within works = owned_most d foreign list from v within to w answers answer works
-works_most d from to (Some (OfExt list)) v w answers answer within works = through_most (ExtFits d list) (length list) from v to w answers answer within works
+-- ---- no more elements are done than there are
+one_most : {A : Type 0} → (to : ℕ) (answer : Result A Stop) → to ≡ done_by answer → to ≤ 1
+one_most to (Ok a) is = omega (arith, is)
+one_most to (Err e) is = omega (arith, is)
+
+pub works_most : (d from to : ℕ) (o : Option Task) (awaited : Option ℕ) (v w : PortValue) (answers : List Bool) (answer : Result ℕ Stop) → from ≤ elements_in o → Works d o awaited v from to w answers answer → to ≤ elements_in o
+works_most d from to None awaited v w answers answer within works = let nothing = works.none in omega (arith, nothing)
+works_most d from to (Some (OfPairs foreign list)) awaited v w answers answer within works = owned_most d foreign list from v within to w answers works.ended works.works
+works_most d from to (Some (OfExt list)) awaited v w answers answer within works = through_most (ExtFits d list from awaited) (length list) from v to w answers works.ended within works.works
+works_most d from to (Some (OfRead user va)) awaited v w answers answer within works = one_most to answer works.done
+works_most d from to (Some (OfWrite user va val)) awaited v w answers answer within works = one_most to works.ended works.works.done

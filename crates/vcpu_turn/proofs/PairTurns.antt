@@ -40,7 +40,7 @@ use Rattle.mmu_update.specs.Elements.{element_of}
 use Rattle.mmu_update.specs.declared.element.Element.{Element}
 use Rattle.mmu_update.specs.declared.element.Element.TheVariants.{SetM2p, Write, Misaligned, Unknown}
 use Rattle.vcpu_turn.specs.Asking.{AsksNothingWithin, ExchangesEntry, IsLast, MovesATable, MovesNoTable, MovesTable, Tried, asks_within, did_in, asks_table, elements_tried, tried, tried_going, tried_in, tried_of, tried_owned}
-use Rattle.vcpu_turn.specs.Cpus.{OfExt, OfPairs, OpList, Processing, list_of}
+use Rattle.vcpu_turn.specs.Cpus.{OfExt, OfPairs, OfRead, OfWrite, Task, Processing, task_of}
 use Rattle.vcpu_turn.specs.Lists as lists
 use Rattle.vcpu_turn.specs.Lists.{DidItems, WorksOn}
 use Rattle.vcpu_turn.specs.Turning as turning
@@ -288,21 +288,23 @@ module _ (foreign : ℕ) (pairs : List Pair) where
   owned_silent list v clear (working.WorksOwned.unowned w x some few finds) = inl (All-nil (λ (t : Tried). t.asked ≡ []))
   owned_silent {d} {named} list v clear (working.WorksOwned.owned to u w o answers answer some few finds on) = works_silent list o (owners_clear v u d named o finds clear) on
 
-  operation_silent : (d : ℕ) (l : Option OpList) → l ≡ Some (OfPairs foreign pairs) → (v : PortValue) → IsClear v → (from to : ℕ) (w : PortValue) (answers : List Bool) (answer : Result (Unit {0}) Stop) → (works : Works d l v from to w answers answer) →
-      SilentAll pairs (tried_of d l v from to w answers answer works)
-  operation_silent d None is v clear from to w answers answer works = absurd (cc)
-  operation_silent d (Some (OfPairs named list)) is v clear from to w answers answer works =
-      subst (λ (xs : List Pair). SilentAll xs (tried_owned works)) (same_pairs foreign named list pairs is) (owned_silent list v clear works)
-  operation_silent d (Some (OfExt list)) is v clear from to w answers answer works = absurd (cc)
+  operation_silent : (d : ℕ) (l : Option Task) (awaited : Option ℕ) → l ≡ Some (OfPairs foreign pairs) → (v : PortValue) → IsClear v → (from to : ℕ) (w : PortValue) (answers : List Bool) (answer : Result ℕ Stop) →
+      (works : Works d l awaited v from to w answers answer) → SilentAll pairs (tried_of d l awaited v from to w answers answer works)
+  operation_silent d None awaited is v clear from to w answers answer works = absurd (cc)
+  operation_silent d (Some (OfPairs named list)) awaited is v clear from to w answers answer works =
+      subst (λ (xs : List Pair). SilentAll xs (tried_owned works.works)) (same_pairs foreign named list pairs is) (owned_silent list v clear works.works)
+  operation_silent d (Some (OfExt list)) awaited is v clear from to w answers answer works = absurd (cc)
+  operation_silent d (Some (OfRead user va)) awaited is v clear from to w answers answer works = absurd (cc)
+  operation_silent d (Some (OfWrite user va val)) awaited is v clear from to w answers answer works = absurd (cc)
 
-  going_silent : (c : Processing) (o : Option Op) (op : Op) → o ≡ Some op → list_of op ≡ Some (OfPairs foreign pairs) → (v : PortValue) → Known 6 v → (c2 : Processing) (w : PortValue) (answers : List Bool) (end : TurnEnd) → (does : DoesTurn c o v c2 w answers end) →
+  going_silent : (c : Processing) (o : Option Op) (op : Op) → o ≡ Some op → task_of op ≡ Some (OfPairs foreign pairs) → (v : PortValue) → Known 6 v → (c2 : Processing) (w : PortValue) (answers : List Bool) (end : TurnEnd) → (does : DoesTurn c o v c2 w answers end) →
       SilentAll pairs (tried_going does)
   going_silent c None op is built v runs c2 w answers end does = absurd (cc)
   going_silent c (Some other) op is built v runs _ _ _ _ (turning.DoesTurn.unsettled w answers p settles) = inl (All-nil (λ (t : Tried). t.asked ≡ []))
   going_silent c (Some other) op is built v runs _ _ _ _ (turning.DoesTurn.settled u w c2 early answers end settles on) =
-      operation_silent c.domain (list_of other) (next_list (OfPairs foreign pairs) other op is built) u (settled_clear v u early (Ok tt) refl runs settles.course) c.done on.to w answers on.answer on.works
+      operation_silent c.domain (task_of other) c.awaited (next_list (OfPairs foreign pairs) other op is built) u (settled_clear v u early (Ok tt) refl runs settles.course) c.done on.to w answers on.answer on.works
 
-  pub turn_silent : (c d : Processing) (op : Op) (end : TurnEnd) (v w : PortValue) (answers : List Bool) → slice_get c.script (length c.log) ≡ Some op → list_of op ≡ Some (OfPairs foreign pairs) → (turn : IsTurn c d end v w answers) →
+  pub turn_silent : (c d : Processing) (op : Op) (end : TurnEnd) (v w : PortValue) (answers : List Bool) → slice_get c.script (length c.log) ≡ Some op → task_of op ≡ Some (OfPairs foreign pairs) → (turn : IsTurn c d end v w answers) →
       SilentAll pairs (elements_tried turn)
   turn_silent c d op end v w answers next built turn = going_silent c (slice_get c.script (length c.log)) op next built turn.begun (begun_runs v turn.begun turn.begins) d turn.worked answers end turn.does
 
@@ -322,7 +324,7 @@ module _ (pairs : List Pair) (sets : All (λ (p : Pair). p.ptr % 4 ≡ 1) pairs)
       two_kinds is = cc
 
 -- ---- so they ask between the elements alone, and stop at a yes
-module _ (c d : Processing) (op : Op) (foreign : ℕ) (pairs : List Pair) (end : TurnEnd) (v w : PortValue) (answers : List Bool) (next : slice_get c.script (length c.log) ≡ Some op) (built : list_of op ≡ Some (OfPairs foreign pairs))
+module _ (c d : Processing) (op : Op) (foreign : ℕ) (pairs : List Pair) (end : TurnEnd) (v w : PortValue) (answers : List Bool) (next : slice_get c.script (length c.log) ≡ Some op) (built : task_of op ≡ Some (OfPairs foreign pairs))
     (turn : IsTurn c d end v w answers) (off : MovesNoTable pairs (elements_tried turn)) where
   quiet : AsksNothingWithin (elements_tried turn)
   quiet = elim (turn_silent foreign pairs c d op end v w answers next built turn) [

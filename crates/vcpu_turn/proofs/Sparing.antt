@@ -163,19 +163,19 @@ flushes s _ _ flushing.FlushedBy.none = (refl, tt)
 flushes s _ _ (flushing.FlushedBy.once clock found to before) = (refl, (refl, (refl, tt)))
 
 looks : (stamp u : ℕ) (answer : Result (Option ℕ) Refusal) → (vs : List Visit) → LooksBy stamp u vs answer → EachOf Spared vs
-looks stamp u _ vs (waits.LooksBy.idle x runs saw) = one _ refl vs saw
-looks stamp u _ vs (waits.LooksBy.late y past saw) = two _ _ (one _ refl) (one _ refl) vs saw
-looks stamp u _ vs (waits.LooksBy.barred y d x most saw) = two _ _ (one _ refl) (two _ _ (one _ refl) (one _ refl)) vs saw
-looks stamp u _ vs (waits.LooksBy.behind y z most saw) = two _ _ (one _ refl) (two _ _ (one _ refl) (two _ _ weighs (one _ refl))) vs saw
-looks stamp u _ vs (waits.LooksBy.own_late y past saw) = one _ refl vs saw
-looks stamp u _ vs (waits.LooksBy.own_flushed y most saw) = two _ _ (one _ refl) (flushes u (Ok tt)) vs saw
-looks stamp u _ vs (waits.LooksBy.own_spent y r most saw) = two _ _ (one _ refl) (flushes u (Err r)) vs saw
+looks stamp u _ vs (waits.LooksAt.idle x runs saw) = one _ refl vs saw
+looks stamp u _ vs (waits.LooksAt.late y past saw) = two _ _ (one _ refl) (one _ refl) vs saw
+looks stamp u _ vs (waits.LooksAt.barred y d x most saw) = two _ _ (one _ refl) (two _ _ (one _ refl) (one _ refl)) vs saw
+looks stamp u _ vs (waits.LooksAt.behind y z most saw) = two _ _ (one _ refl) (two _ _ (one _ refl) (two _ _ weighs (one _ refl))) vs saw
+looks stamp u _ vs (waits.LooksAt.own_late y past saw) = one _ refl vs saw
+looks stamp u _ vs (waits.LooksAt.own_flushed y most saw) = two _ _ (one _ refl) (flushes u (Ok tt)) vs saw
+looks stamp u _ vs (waits.LooksAt.own_spent y r most saw) = two _ _ (one _ refl) (flushes u (Err r)) vs saw
 
 waits_spare : (stamp n : ℕ) (answer : Result (Option Slow) Refusal) → (vs : List Visit) → WaitsBy stamp vs n answer → EachOf Spared vs
-waits_spare stamp _ _ _ (waits.WaitsBy.none vs is) = nothing vs is
-waits_spare stamp _ _ _ (waits.WaitsBy.more u first standing before now vs earlier looked is) =
+waits_spare stamp _ _ _ (waits.WaitsOn.none vs is) = nothing vs is
+waits_spare stamp _ _ _ (waits.WaitsOn.more u first standing before now vs earlier looked is) =
     subst (EachOf Spared) (sym is) (each_append Spared before now (waits_spare stamp u (Ok first) before earlier) (looks stamp u (Ok standing) now looked))
-waits_spare stamp _ _ _ (waits.WaitsBy.spent u first r before now vs earlier looked is) =
+waits_spare stamp _ _ _ (waits.WaitsOn.spent u first r before now vs earlier looked is) =
     subst (EachOf Spared) (sym is) (each_append Spared before now (waits_spare stamp u (Ok first) before earlier) (looks stamp u (Err r) now looked))
 
 waited : (stamp : ℕ) → Spares (WaitedFor stamp (Ok tt))

@@ -5,6 +5,7 @@ use Rattle.std.proofs.lemmas.List.Sums.{sum_by-cons}
 use Rattle.xp_words.specs.declared.reply.Stop.{Stop}
 use Rattle.xp_board.specs.Told.{PortValue}
 use Rattle.xp_preempt.specs.Gates.{yeses}
+use Rattle.level_release.specs.Asking.{is_due_stop}
 use Rattle.vcpu_turn.specs.Asking.{AsksNothingWithin, HearsNo, HearsNoWithin, NoUntilDue, Tried, asks_within, did_in, tried, tried_in}
 use Rattle.vcpu_turn.specs.Lists.{DidItems, Fitting, WorksOn, none, more, all_done, last_done, due, stopped, asks_between, is_due_by}
 use Rattle.vcpu_turn.proofs.Listing.{did_on}
@@ -94,4 +95,4 @@ module _ {fits : Fitting} {count from : ℕ} {v : PortValue} where
       let early = did_hears did (All-tail HearsNo (tried k u w asked (Ok tt)) (did_in did) hears) in
       noes_due (asked ++ answers) (noes_no (asked ++ answers) (noes_then answers asked false early (All-head HearsNo (tried k u w asked (Ok tt)) (did_in did) hears)))
   works_hears (stopped k u w answers asked e did fit less) hears =
-      noes_then answers asked (is_due_by (Err e)) (did_hears did (All-tail HearsNo (tried k u w asked (Err e)) (did_in did) hears)) (All-head HearsNo (tried k u w asked (Err e)) (did_in did) hears)
+      noes_then answers asked (is_due_stop e) (did_hears did (All-tail HearsNo (tried k u w asked (Err e)) (did_in did) hears)) (All-head HearsNo (tried k u w asked (Err e)) (did_in did) hears)

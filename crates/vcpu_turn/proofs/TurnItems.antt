@@ -7,12 +7,12 @@ use Rattle.xp_words.specs.declared.ops.Pair.{Pair}
 use Rattle.xp_words.specs.declared.reply.Stop.{Stop}
 use Rattle.xp_board.specs.Told.{PortValue}
 use Rattle.foreign_map.specs.declared.owners.Owners.{Owners}
-use Rattle.vcpu_turn.specs.Asking.{Tried, elements_tried, tried, tried_going, tried_of, tried_owned}
-use Rattle.vcpu_turn.specs.Cpus.{OpList, OfExt, OfPairs, Processing, list_of}
+use Rattle.vcpu_turn.specs.Asking.{Tried, elements_tried, tried, tried_going, tried_of, tried_owned, tried_through}
+use Rattle.vcpu_turn.specs.Cpus.{Task, OfExt, OfPairs, OfRead, OfWrite, Processing, task_of}
 use Rattle.vcpu_turn.specs.Turning as turning
 use Rattle.vcpu_turn.specs.Turning.{DoesTurn, IsTurn}
 use Rattle.vcpu_turn.specs.Working as working
-use Rattle.vcpu_turn.specs.Working.{ExtFits, PairFits, Works, WorksOwned}
+use Rattle.vcpu_turn.specs.Working.{ExtFits, PairFits, Works, WorksOwned, WorksThrough}
 use Rattle.vcpu_turn.specs.declared.cpu.TurnEnd.{TurnEnd}
 use Rattle.vcpu_turn.proofs.Trying.{tried_each}
 
@@ -24,11 +24,17 @@ pub same_ext : (list elements : List ExtOp) → Some (OfExt list) ≡ Some (OfEx
 same_ext list elements is = cc
 
 -- what stands next
-pub next_list : (l : OpList) (other op : Op) → Some other ≡ Some op → list_of op ≡ Some l → list_of other ≡ Some l
-next_list l other op is built = subst (λ (x : Op). list_of x ≡ Some l) (sym (by is)) built
+pub next_list : (l : Task) (other op : Op) → Some other ≡ Some op → task_of op ≡ Some l → task_of other ≡ Some l
+next_list l other op is built = subst (λ (x : Op). task_of x ≡ Some l) (sym (by is)) built
   where
     by : Some other ≡ Some op → other ≡ op
     by e = cc
+
+-- it is no list
+abbrev pub IsNoList : Option Task → Type 0
+IsNoList (Some (OfPairs foreign list)) = ⊥
+IsNoList (Some (OfExt list)) = ⊥
+IsNoList _ = Unit {0}
 
 module _ (P : Tried → Type 0) where
   -- ---- pairs
@@ -40,52 +46,64 @@ module _ (P : Tried → Type 0) where
     owned_each list same (working.WorksOwned.owned to u w o answers answer some few finds on) =
         tried_each P (λ k x y asked a fit. each o k x y asked a (subst (λ (xs : List Pair). PairFits o xs k x y asked a) same fit)) on
 
-    operation_each : (d : ℕ) (l : Option OpList) → l ≡ Some (OfPairs foreign pairs) → (v : PortValue) (from to : ℕ) (w : PortValue) (answers : List Bool) (answer : Result (Unit {0}) Stop) → (works : Works d l v from to w answers answer) →
-        All P (tried_of d l v from to w answers answer works)
-    operation_each d None is v from to w answers answer works = absurd (cc)
-    operation_each d (Some (OfPairs named list)) is v from to w answers answer works = owned_each list (same_pairs foreign named list pairs is) works
-    operation_each d (Some (OfExt list)) is v from to w answers answer works = absurd (cc)
+    operation_each : (d : ℕ) (awaited : Option ℕ) (l : Option Task) → l ≡ Some (OfPairs foreign pairs) → (v : PortValue) (from to : ℕ) (w : PortValue) (answers : List Bool) (answer : Result ℕ Stop) → (works : Works d l awaited v from to w answers answer) →
+        All P (tried_of d l awaited v from to w answers answer works)
+    operation_each d awaited None is v from to w answers answer works = absurd (cc)
+    operation_each d awaited (Some (OfPairs named list)) is v from to w answers answer works = owned_each list (same_pairs foreign named list pairs is) works.works
+    operation_each d awaited (Some (OfExt list)) is v from to w answers answer works = absurd (cc)
+    operation_each d awaited (Some (OfRead user va)) is v from to w answers answer works = absurd (cc)
+    operation_each d awaited (Some (OfWrite user va val)) is v from to w answers answer works = absurd (cc)
 
-    going_each : (c : Processing) (o : Option Op) (op : Op) → o ≡ Some op → list_of op ≡ Some (OfPairs foreign pairs) → (v : PortValue) (c2 : Processing) (w : PortValue) (answers : List Bool) (end : TurnEnd) → (does : DoesTurn c o v c2 w answers end) →
+    going_each : (c : Processing) (o : Option Op) (op : Op) → o ≡ Some op → task_of op ≡ Some (OfPairs foreign pairs) → (v : PortValue) (c2 : Processing) (w : PortValue) (answers : List Bool) (end : TurnEnd) → (does : DoesTurn c o v c2 w answers end) →
         All P (tried_going does)
     going_each c None op is built v c2 w answers end does = absurd (cc)
     going_each c (Some other) op is built v _ _ _ _ (turning.DoesTurn.unsettled w answers p settles) = All-nil P
     going_each c (Some other) op is built v _ _ _ _ (turning.DoesTurn.settled u w c2 early answers end settles on) =
-        operation_each c.domain (list_of other) (next_list (OfPairs foreign pairs) other op is built) u c.done on.to w answers on.answer on.works
+        operation_each c.domain c.awaited (task_of other) (next_list (OfPairs foreign pairs) other op is built) u c.done on.to w answers on.answer on.works
 
-    pub pairs_each : (c d : Processing) (op : Op) (end : TurnEnd) (v w : PortValue) (answers : List Bool) → slice_get c.script (length c.log) ≡ Some op → list_of op ≡ Some (OfPairs foreign pairs) →
+    pub pairs_each : (c d : Processing) (op : Op) (end : TurnEnd) (v w : PortValue) (answers : List Bool) → slice_get c.script (length c.log) ≡ Some op → task_of op ≡ Some (OfPairs foreign pairs) →
         (turn : IsTurn c d end v w answers) → All P (elements_tried turn)
     pairs_each c d op end v w answers next built turn = going_each c (slice_get c.script (length c.log)) op next built turn.begun d turn.worked answers end turn.does
 
   -- ---- elements of `mmuext_op`
-  module _ (elements : List ExtOp) (c : Processing) (each : (k : ℕ) (u w : PortValue) (asked : List Bool) (answer : Result (Unit {0}) Stop) → ExtFits c.domain elements k u w asked answer → P (tried k u w asked answer)) where
-    ext_operation : (l : Option OpList) → l ≡ Some (OfExt elements) → (v : PortValue) (from to : ℕ) (w : PortValue) (answers : List Bool) (answer : Result (Unit {0}) Stop) → (works : Works c.domain l v from to w answers answer) →
-        All P (tried_of c.domain l v from to w answers answer works)
-    ext_operation None is v from to w answers answer works = absurd (cc)
-    ext_operation (Some (OfPairs named list)) is v from to w answers answer works = absurd (cc)
-    ext_operation (Some (OfExt list)) is v from to w answers answer (inl works) = All-nil P
-    ext_operation (Some (OfExt list)) is v from to w answers answer (inr works) =
-        tried_each P (λ k x y asked a fit. each k x y asked a (subst (λ (xs : List ExtOp). ExtFits c.domain xs k x y asked a) (same_ext list elements is) fit)) works.1
+  module _ (elements : List ExtOp) (c : Processing) (each : (k : ℕ) (u w : PortValue) (asked : List Bool) (answer : Result (Unit {0}) Stop) → ExtFits c.domain elements c.done c.awaited k u w asked answer → P (tried k u w asked answer)) where
+    ext_through : (list : List ExtOp) → list ≡ elements → {v : PortValue} {to : ℕ} {w : PortValue} {answers : List Bool} {answer : Result (Unit {0}) Stop} →
+        (works : WorksThrough (ExtFits c.domain list c.done c.awaited) (length list) v c.done to w answers answer) → All P (tried_through works)
+    ext_through list same (inl works) = All-nil P
+    ext_through list same (inr works) = tried_each P (λ k x y asked a fit. each k x y asked a (subst (λ (xs : List ExtOp). ExtFits c.domain xs c.done c.awaited k x y asked a) same fit)) works.1
 
-    ext_going : (o : Option Op) (op : Op) → o ≡ Some op → list_of op ≡ Some (OfExt elements) → (v : PortValue) (c2 : Processing) (w : PortValue) (answers : List Bool) (end : TurnEnd) → (does : DoesTurn c o v c2 w answers end) → All P (tried_going does)
+    ext_operation : (l : Option Task) → l ≡ Some (OfExt elements) → (v : PortValue) (to : ℕ) (w : PortValue) (answers : List Bool) (answer : Result ℕ Stop) → (works : Works c.domain l c.awaited v c.done to w answers answer) →
+        All P (tried_of c.domain l c.awaited v c.done to w answers answer works)
+    ext_operation None is v to w answers answer works = absurd (cc)
+    ext_operation (Some (OfPairs named list)) is v to w answers answer works = absurd (cc)
+    ext_operation (Some (OfExt list)) is v to w answers answer works = ext_through list (same_ext list elements is) works.works
+    ext_operation (Some (OfRead user va)) is v to w answers answer works = absurd (cc)
+    ext_operation (Some (OfWrite user va val)) is v to w answers answer works = absurd (cc)
+
+    ext_going : (o : Option Op) (op : Op) → o ≡ Some op → task_of op ≡ Some (OfExt elements) → (v : PortValue) (c2 : Processing) (w : PortValue) (answers : List Bool) (end : TurnEnd) → (does : DoesTurn c o v c2 w answers end) → All P (tried_going does)
     ext_going None op is built v c2 w answers end does = absurd (cc)
     ext_going (Some other) op is built v _ _ _ _ (turning.DoesTurn.unsettled w answers p settles) = All-nil P
     ext_going (Some other) op is built v _ _ _ _ (turning.DoesTurn.settled u w c2 early answers end settles on) =
-        ext_operation (list_of other) (next_list (OfExt elements) other op is built) u c.done on.to w answers on.answer on.works
+        ext_operation (task_of other) (next_list (OfExt elements) other op is built) u on.to w answers on.answer on.works
 
-    pub ext_each : (d : Processing) (op : Op) (end : TurnEnd) (v w : PortValue) (answers : List Bool) → slice_get c.script (length c.log) ≡ Some op → list_of op ≡ Some (OfExt elements) →
+    pub ext_each : (d : Processing) (op : Op) (end : TurnEnd) (v w : PortValue) (answers : List Bool) → slice_get c.script (length c.log) ≡ Some op → task_of op ≡ Some (OfExt elements) →
         (turn : IsTurn c d end v w answers) → All P (elements_tried turn)
     ext_each d op end v w answers next built turn = ext_going (slice_get c.script (length c.log)) op next built turn.begun d turn.worked answers end turn.does
 
   -- ---- another operation, or none
-  no_list : (d : ℕ) (l : Option OpList) → l ≡ None → (v : PortValue) (from to : ℕ) (w : PortValue) (answers : List Bool) (answer : Result (Unit {0}) Stop) → (works : Works d l v from to w answers answer) → All P (tried_of d l v from to w answers answer works)
-  no_list d None is v from to w answers answer works = All-nil P
-  no_list d (Some list) is v from to w answers answer works = absurd (cc)
+  no_list : (d : ℕ) (awaited : Option ℕ) (l : Option Task) → IsNoList l → (v : PortValue) (from to : ℕ) (w : PortValue) (answers : List Bool) (answer : Result ℕ Stop) → (works : Works d l awaited v from to w answers answer) →
+      All P (tried_of d l awaited v from to w answers answer works)
+  no_list d awaited None is v from to w answers answer works = All-nil P
+  no_list d awaited (Some (OfPairs foreign list)) is v from to w answers answer works = absurd is
+  no_list d awaited (Some (OfExt list)) is v from to w answers answer works = absurd is
+  no_list d awaited (Some (OfRead user va)) is v from to w answers answer works = All-nil P
+  no_list d awaited (Some (OfWrite user va val)) is v from to w answers answer works = All-nil P
 
-  unlisted_going : (c : Processing) (o : Option Op) → ((op : Op) → o ≡ Some op → list_of op ≡ None) → (v : PortValue) (c2 : Processing) (w : PortValue) (answers : List Bool) (end : TurnEnd) → (does : DoesTurn c o v c2 w answers end) → All P (tried_going does)
+  unlisted_going : (c : Processing) (o : Option Op) → ((op : Op) → o ≡ Some op → IsNoList (task_of op)) → (v : PortValue) (c2 : Processing) (w : PortValue) (answers : List Bool) (end : TurnEnd) → (does : DoesTurn c o v c2 w answers end) → All P (tried_going does)
   unlisted_going c o off v _ _ _ _ (turning.DoesTurn.unsettled w answers p settles) = All-nil P
   unlisted_going c None off v _ _ _ _ (turning.DoesTurn.settled u w c2 early answers end settles retires) = All-nil P
-  unlisted_going c (Some op) off v _ _ _ _ (turning.DoesTurn.settled u w c2 early answers end settles on) = no_list c.domain (list_of op) (off op refl) u c.done on.to w answers on.answer on.works
+  unlisted_going c (Some op) off v _ _ _ _ (turning.DoesTurn.settled u w c2 early answers end settles on) =
+      no_list c.domain c.awaited (task_of op) (off op refl) u c.done on.to w answers on.answer on.works
 
-  pub unlisted_each : (c d : Processing) (end : TurnEnd) (v w : PortValue) (answers : List Bool) → ((op : Op) → slice_get c.script (length c.log) ≡ Some op → list_of op ≡ None) → (turn : IsTurn c d end v w answers) → All P (elements_tried turn)
+  pub unlisted_each : (c d : Processing) (end : TurnEnd) (v w : PortValue) (answers : List Bool) → ((op : Op) → slice_get c.script (length c.log) ≡ Some op → IsNoList (task_of op)) → (turn : IsTurn c d end v w answers) → All P (elements_tried turn)
   unlisted_each c d end v w answers off turn = unlisted_going c (slice_get c.script (length c.log)) off turn.begun d turn.worked answers end turn.does

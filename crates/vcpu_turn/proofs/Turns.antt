@@ -8,9 +8,8 @@ use Rattle.xp_board.specs.Told.{PortValue}
 use Rattle.step_maker.specs.Moves.{Came}
 use Rattle.step_maker.proofs.Coming.{came_self, came_trans, came_post, moves_came}
 use Rattle.answer_fits.specs.Answers.{Serves, misses}
-use Rattle.answer_fits.proofs.Piecing.{serves_came}
 use Rattle.flush_words.proofs.Flushed.{own_came}
-use Rattle.level_release.specs.Asking.{of_settle}
+use Rattle.level_release.specs.Asking.{is_due_stop, of_settle}
 use Rattle.vcpu_turn.specs.Cpus.{Processing, end_of, after_turn}
 use Rattle.vcpu_turn.specs.Lists.{Answering, is_due_by}
 use Rattle.vcpu_turn.specs.Turning as turning
@@ -20,6 +19,7 @@ use Rattle.vcpu_turn.specs.declared.cpu.TurnEnd.{TurnEnd}
 use Rattle.vcpu_turn.specs.declared.cpu.TurnEnd.TheVariants as ends
 use Rattle.vcpu_turn.proofs.Gating.{answers_as, answers_behind, answers_nothing}
 use Rattle.vcpu_turn.proofs.NextOps.{worked_none, worked_some}
+use Rattle.vcpu_turn.proofs.Staying.{settled_came}
 
 -- ---- a turn that begins
 heeds_came : (past : Bool) (v w : PortValue) → Heeds past v w → Came v w
@@ -32,25 +32,28 @@ begins_came v w b =
     (came_trans b.a b.b w (moves_came b.a b.b _ _ _ _ _ b.looked)
     (came_trans b.b b.d w (heeds_came (nat_lt b.asked b.flushed) b.b b.d b.heeds) (moves_came b.d w _ _ _ _ _ b.running)))
 
--- and what is settled keeps what the port is of
-pub settled_post : (v a b : PortValue) → Begins v a → (answer : Result (Unit {0}) Stop) → ((owner pages : ℕ) → Serves a b (of_settle owner pages answer) (misses a.post.machine answer)) → b.post ≡ v.post
-settled_post v a b begins answer serves = came_post a b (serves_came a b (of_settle 0 0 answer) (misses a.post.machine answer) (serves 0 0)) ∙ came_post v a (begins_came v a begins)
+-- and what is settled
+pub settled_behind : (v a b : PortValue) → Begins v a → (answer : Result (Unit {0}) Stop) → ((owner pages : ℕ) → Serves a b (of_settle owner pages answer) (misses a.post.machine answer)) → Came v b
+settled_behind v a b begins answer serves = came_trans v a b (begins_came v a begins) (settled_came a b answer serves)
 
-after_same : (c : Processing) (k to : ℕ) (answer : Result (Unit {0}) Stop) → after_turn (record c { done = k }) to (end_of to answer) ≡ after_turn c to (end_of to answer)
+pub settled_post : (v a b : PortValue) → Begins v a → (answer : Result (Unit {0}) Stop) → ((owner pages : ℕ) → Serves a b (of_settle owner pages answer) (misses a.post.machine answer)) → b.post ≡ v.post
+settled_post v a b begins answer serves = came_post v b (settled_behind v a b begins answer serves)
+
+after_same : (c : Processing) (k to : ℕ) (answer : Result ℕ Stop) → after_turn (record c { done = k }) to (end_of to answer) ≡ after_turn c to (end_of to answer)
 after_same c k to (Ok ok) = refl
 after_same c k to (Err (Refused r)) = refl
 after_same c k to (Err (Paused p)) = refl
 
 -- ---- the whole turn
 -- the turn is paused for the gate where its last call is
-pub due_paused : (p : Pause) → is_due (ends.Paused p) ≡ is_due_by (Err (Paused p))
+pub due_paused : (p : Pause) → is_due (ends.Paused p) ≡ is_due_stop (Paused p)
 due_paused Due = refl
 due_paused (Lost a b c) = refl
 due_paused (Busy a b) = refl
 due_paused (Flush a b c) = refl
 due_paused (Alive a b) = refl
 
-pub due_ended : (to : ℕ) (answer : Result (Unit {0}) Stop) → is_due (end_of to answer) ≡ is_due_by answer
+pub due_ended : (to : ℕ) (answer : Result ℕ Stop) → is_due (end_of to answer) ≡ is_due_by answer
 due_ended to (Ok done) = refl
 due_ended to (Err (Refused r)) = refl
 due_ended to (Err (Paused p)) = due_paused p
@@ -68,14 +71,14 @@ module _ (v a b : PortValue) (c : Processing) (runs : c.retired ≡ false) (begi
       (subst (λ d. Answering (λ answers. IsTurn c c' end v w answers) says before last yes_before yes_last d) (sym is) turn)
 
   -- settling was all that it did
-  pub turn_unsettled : (p : Pause) (stop : Stop) → stop ≡ Paused p → Answering (λ answers. Settles a b answers (Err stop)) says before after yes_before yes_after (is_due_by (Err stop)) →
+  pub turn_unsettled : (p : Pause) (stop : Stop) → stop ≡ Paused p → Answering (λ answers. Settles a b answers (Err stop)) says before after yes_before yes_after (is_due_stop stop) →
       Answering (λ answers. TurnBy c.retired c c (ends.Paused p) v b answers) says before after yes_before yes_after (is_due (ends.Paused p))
   turn_unsettled p stop at settles =
-      turn_by c b (ends.Paused p) after yes_after (is_due_by (Err stop)) (due_paused p ∙ ap (λ (e : Stop). is_due_by (Err e)) (sym at))
-      (answers_as (λ answers. Settles a b answers (Err stop)) (λ answers. IsTurn c c (ends.Paused p) v b answers) says before after yes_before yes_after (is_due_by (Err stop))
+      turn_by c b (ends.Paused p) after yes_after (is_due_stop stop) (due_paused p ∙ ap is_due_stop (sym at))
+      (answers_as (λ answers. Settles a b answers (Err stop)) (λ answers. IsTurn c c (ends.Paused p) v b answers) says before after yes_before yes_after (is_due_stop stop)
       (λ answers goes. record { begun = a; worked = b; begins = begins; does = turning.DoesTurn.unsettled b answers p (subst (λ (e : Stop). Settles a b answers (Err e)) at goes); ends = refl }) settles)
 
-  module _ (settles : Answering (λ answers. Settles a b answers (Ok tt)) says before after yes_before yes_after (is_due_by (Ok tt))) (now : ℕ → Bool) (same : (n : ℕ) → now n ≡ says n) (last yes_last : ℕ) (x w : PortValue) (c1 c2 : Processing) where
+  module _ (settles : Answering (λ answers. Settles a b answers (Ok tt)) says before after yes_before yes_after false) (now : ℕ → Bool) (same : (n : ℕ) → now n ≡ says n) (last yes_last : ℕ) (x w : PortValue) (c1 c2 : Processing) where
     -- behind what was settled
     behind : (end : TurnEnd) (due : Bool) (P : List Bool → Type 0) → Answering P now after last yes_after yes_last due → ((answers : List Bool) → P answers → DoesNext c (slice_get c.script (length c.log)) c2 b x answers end) → EndsTurn end x w →
         is_due end ≡ due → Answering (λ answers. TurnBy c.retired c c2 end v w answers) says before last yes_before yes_last (is_due end)
@@ -96,7 +99,7 @@ module _ (v a b : PortValue) (c : Processing) (runs : c.retired ≡ false) (begi
             (record { no_step = h.2; no_ask = h.3; end_is = refl; cpu = stop.cpu ∙ ap (λ (y : Processing). record y { retired = true }) h.1 })
 
     -- the next operation went on
-    pub turn_goes_on : (answer : Result (Unit {0}) Stop) → Answering (λ answers. NextWentOn (slice_get c.script (length c.log)) c c1 b x answers (Some answer)) now after last yes_after yes_last (is_due_by answer) →
+    pub turn_goes_on : (answer : Result ℕ Stop) → Answering (λ answers. NextWentOn (slice_get c.script (length c.log)) c c1 b x answers (Some answer)) now after last yes_after yes_last (is_due_by answer) →
         c2 ≡ after_turn c1 c1.done (end_of c1.done answer) → EndsTurn (end_of c1.done answer) x w → Answering (λ answers. TurnBy c.retired c c2 (end_of c1.done answer) v w answers) says before last yes_before yes_last (is_due (end_of c1.done answer))
     turn_goes_on answer worked cpu finishes =
         behind (end_of c1.done answer) (is_due_by answer) (λ answers. NextWentOn (slice_get c.script (length c.log)) c c1 b x answers (Some answer)) worked does finishes (due_ended c1.done answer)

@@ -6,6 +6,7 @@ use Rattle.xp_words.specs.PageTypes.{is_table}
 use Rattle.xp_words.specs.declared.entry.Demand.{Demand}
 use Rattle.xp_words.specs.declared.entry.Demand.TheVariants as demands
 use Rattle.xp_words.specs.declared.kind.PageType.{PageType}
+use Rattle.xp_words.specs.declared.kind.PageType.TheVariants.{L4}
 use Rattle.xp_words.specs.declared.ops.ExtOp.{ExtOp}
 use Rattle.xp_words.specs.declared.ops.Op.{Op}
 use Rattle.xp_words.specs.declared.ops.Pair.{Pair}
@@ -25,12 +26,12 @@ use Rattle.entry_locks.specs.declared.locking.Locked.TheVariants.{Table}
 use Rattle.mmu_update.specs.Course.{TriedLock, entry_update}
 use Rattle.mmu_update.specs.Elements.{element_of}
 use Rattle.mmu_update.specs.declared.element.Element.TheVariants.{Write}
-use Rattle.vcpu_turn.specs.Cpus.{OpList, OfExt, OfPairs, Processing, list_of}
+use Rattle.vcpu_turn.specs.Cpus.{Task, OfExt, OfPairs, OfRead, OfWrite, Processing, task_of}
 use Rattle.vcpu_turn.specs.Lists.{DidItems, Fitting, WorksOn, is_due_by}
 use Rattle.vcpu_turn.specs.Lists as lists
 use Rattle.vcpu_turn.specs.Turning.{DoesNext, DoesTurn, IsTurn}
 use Rattle.vcpu_turn.specs.Turning as turning
-use Rattle.vcpu_turn.specs.Working.{Settles, Works, WorksOwned}
+use Rattle.vcpu_turn.specs.Working.{Settles, Works, WorksOwned, WorksThrough}
 use Rattle.vcpu_turn.specs.Working as working
 use Rattle.vcpu_turn.specs.declared.cpu.TurnEnd.{TurnEnd}
 
@@ -72,14 +73,20 @@ tried_owned (working.WorksOwned.none empty) = []
 tried_owned (working.WorksOwned.unowned w x some few finds) = []
 tried_owned (working.WorksOwned.owned to u w o answers answer some few finds on) = tried_in on
 
-abbrev pub tried_of : (d : ℕ) (o : Option OpList) (v : PortValue) (from to : ℕ) (w : PortValue) (answers : List Bool) (answer : Result (Unit {0}) Stop) → Works d o v from to w answers answer → List Tried
-tried_of d None v from to w answers answer refused = []
-tried_of d (Some (OfPairs foreign list)) v from to w answers answer works = tried_owned works
-tried_of d (Some (OfExt list)) v from to w answers answer (inl refused) = []
-tried_of d (Some (OfExt list)) v from to w answers answer (inr on) = tried_in on.1
+abbrev pub tried_through : {fits : Fitting} {count : ℕ} {v : PortValue} {from to : ℕ} {w : PortValue} {answers : List Bool} {answer : Result (Unit {0}) Stop} → WorksThrough fits count v from to w answers answer → List Tried
+tried_through (inl refused) = []
+tried_through (inr on) = tried_in on.1
+
+-- a read or write tries no element of a list
+abbrev pub tried_of : (d : ℕ) (o : Option Task) (awaited : Option ℕ) (v : PortValue) (from to : ℕ) (w : PortValue) (answers : List Bool) (answer : Result ℕ Stop) → Works d o awaited v from to w answers answer → List Tried
+tried_of d None awaited v from to w answers answer refused = []
+tried_of d (Some (OfPairs foreign list)) awaited v from to w answers answer listed = tried_owned listed.works
+tried_of d (Some (OfExt list)) awaited v from to w answers answer listed = tried_through listed.works
+tried_of d (Some (OfRead user va)) awaited v from to w answers answer reads = []
+tried_of d (Some (OfWrite user va val)) awaited v from to w answers answer writes = []
 
 abbrev pub tried_next : (c : Processing) (o : Option Op) (c' : Processing) (v w : PortValue) (answers : List Bool) (end : TurnEnd) → DoesNext c o c' v w answers end → List Tried
-tried_next c (Some op) c' v w answers end on = tried_of c.domain (list_of op) v c.done on.to w answers on.answer on.works
+tried_next c (Some op) c' v w answers end on = tried_of c.domain (task_of op) c.awaited v c.done on.to w answers on.answer on.works
 tried_next c None c' v w answers end retires = []
 
 -- none, where the turn did no more than to settle
@@ -188,6 +195,21 @@ pub record PausesUnpin (list : List ExtOp) (t : Tried) : Type 0 where
   pub first : List Bool
   pub more : List Bool
   pub released : WasReleased unpinned frame kind t.behind more (Err (Paused Due))
+  pub asked : t.asked ≡ more ++ first
+  pub early : yeses t.asked ≡ 1
+  pub last : ends_yes t.asked ≡ true
+
+-- The element set a base, and the gate paused the release of the table that the base named before: within the element it said yes at last, and no before.
+pub record PausesOldBase (list : List ExtOp) (t : Tried) : Type 0 where
+  pub op : ExtOp
+  pub at : slice_get list t.number ≡ Some op
+  pub sets : (op.command ≡ 5) ⊎ (op.command ≡ 15)
+  pub done : t.answer ≡ Ok tt
+  pub flushed : PortValue
+  pub frame : ℕ
+  pub first : List Bool
+  pub more : List Bool
+  pub released : WasReleased flushed frame L4 t.behind more (Err (Paused Due))
   pub asked : t.asked ≡ more ++ first
   pub early : yeses t.asked ≡ 1
   pub last : ends_yes t.asked ≡ true

@@ -5,15 +5,16 @@ use Rattle.xp_words.specs.declared.reply.Stop.TheVariants.{Paused}
 use Rattle.xp_words.specs.declared.reply.Pause.TheVariants.{Due}
 use Rattle.xp_preempt.specs.Gates.{Consulted, ends_yes}
 use Rattle.xp_board.specs.Told.{PortValue}
+use Rattle.level_release.specs.Asking.{is_due_stop}
 
 -- which steps, and which answers of the gate, the newest first, fit such an answer to the item of that number
 abbrev pub Fitting : Type 1
 Fitting = ℕ → PortValue → PortValue → List Bool → Result (Unit {0}) Stop → Type 0
 
 -- the gate said yes
-abbrev pub is_due_by : Result (Unit {0}) Stop → Bool
-is_due_by (Err (Paused Due)) = true
-is_due_by _ = false
+abbrev pub is_due_by : {A : Type 0} → Result A Stop → Bool
+is_due_by (Err e) = is_due_stop e
+is_due_by (Ok a) = false
 
 -- There are answers of the gate that P holds of; and where what asked it is paused for the gate, that said yes last.
 pub record Answering (P : List Bool → Type 0) (says : ℕ → Bool) (before after yes_before yes_after : ℕ) (due : Bool) : Type 0 where
@@ -42,7 +43,7 @@ pub data WorksOn (fits : Fitting) (count from : ℕ) (v : PortValue) : ℕ → P
       WorksOn fits count from v k w (asked ++ answers) (Err e)
 
 -- How often a list whose items ask nothing asks its gate in a turn: behind each item that it does, but for the last of the list.
-abbrev pub asks_between : ℕ → ℕ → Result (Unit {0}) Stop → ℕ
+abbrev pub asks_between : {A : Type 0} → ℕ → ℕ → Result A Stop → ℕ
 asks_between from to (Ok done) = to - from - 1
 asks_between from to (Err e) = to - from
 

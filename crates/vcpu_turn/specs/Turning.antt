@@ -1,5 +1,5 @@
 -- Turns: how one begins, what it does and how it ends.
-use Rattle.std.specs.Prelude.{◌≡◌, ℕ, ◌+◌, ◌≤◌, nat_lt, Bool, true, false, List, [], ◌++◌, length, slice_get, Option, Some, None, Result, Ok, Err}
+use Rattle.std.specs.Prelude.{◌≡◌, ◌⊎◌, ℕ, ◌+◌, ◌≤◌, nat_lt, Bool, true, false, List, [], ◌++◌, length, slice_get, Option, Some, None, Result, Ok, Err}
 use Rattle.xp_words.specs.Machine.{IsMachine}
 use Rattle.xp_words.specs.Places.{asked_of, flushed_of, run_of}
 use Rattle.xp_words.specs.declared.place.Place.TheVariants.{Clock}
@@ -17,9 +17,10 @@ use Rattle.xp_board.specs.Readings.{domain_of}
 use Rattle.xp_board.specs.Told.{PortValue, own_run}
 use Rattle.step_maker.specs.Moves.{Moves}
 use Rattle.flush_words.specs.Flushing.{FlushesOwn}
-use Rattle.vcpu_turn.specs.Cpus.{Processing, list_of, end_of, after_turn}
+use Rattle.mmuext_ops.specs.Elements.{KnowsAwaited}
+use Rattle.vcpu_turn.specs.Cpus.{Processing, task_of, end_of, after_turn}
 use Rattle.vcpu_turn.specs.Lists.{asks_between, is_due_by}
-use Rattle.vcpu_turn.specs.Working.{Settles, Works}
+use Rattle.vcpu_turn.specs.Working.{IsWarm, Settles, Works}
 use Rattle.vcpu_turn.specs.declared.cpu.TurnEnd.{TurnEnd}
 use Rattle.vcpu_turn.specs.declared.cpu.TurnEnd.TheVariants as ends
 
@@ -58,8 +59,8 @@ EndsTurn ends.Retired v w = IsStop v w
 -- The next operation goes on until it answers or pauses. At the script's end the vCPU is retired.
 pub record GoesOnWith (c : Processing) (op : Op) (c' : Processing) (v w : PortValue) (answers : List Bool) (end : TurnEnd) : Type 0 where
   pub to : ℕ
-  pub answer : Result (Unit {0}) Stop
-  pub works : Works c.domain (list_of op) v c.done to w answers answer
+  pub answer : Result ℕ Stop
+  pub works : Works c.domain (task_of op) c.awaited v c.done to w answers answer
   pub end_is : end ≡ end_of to answer
   pub cpu : c' ≡ after_turn c to end
 
@@ -91,16 +92,20 @@ pub record IsTurn (c c' : Processing) (end : TurnEnd) (v w : PortValue) (answers
 -- In a turn an operation went on from element `from` to element `to`, and ended so; and behind the answers to what was settled first the gate was
 -- asked so often: between the elements, and `within` times within them. Or settling was all that the turn did.
 pub data CountsAsks (from : ℕ) (end : TurnEnd) (answers : List Bool) (within : ℕ) : Type 0 where
-  counted : (to : ℕ) (answer : Result (Unit {0}) Stop) (u x : PortValue) (early later : List Bool) → Settles u x early (Ok tt) → end ≡ end_of to answer → answers ≡ later ++ early →
+  counted : (to : ℕ) (answer : Result ℕ Stop) (u x : PortValue) (early later : List Bool) → Settles u x early (Ok tt) → end ≡ end_of to answer → answers ≡ later ++ early →
       length later ≡ asks_between from to answer + within → CountsAsks from end answers within
   settling : (u x : PortValue) (p : Pause) → Settles u x answers (Err (Paused p)) → end ≡ ends.Paused p → within ≡ 0 → CountsAsks from end answers within
+
+-- the vCPU behind a turn that left so many elements done: of the next operation; or settling was all that it did, and left the vCPU as it was
+abbrev pub IsLeftAt : Processing → Processing → ℕ → TurnEnd → Type 0
+IsLeftAt c c' to end = (c' ≡ after_turn c to end) ⊎ ((p : Pause) × (end ≡ ends.Paused p) × (to ≡ c.done) × (c' ≡ c))
 
 -- the turn went on with an operation to element `to`, and no further than up to `most`
 pub record GoesNoFurther (c c' : Processing) (end : TurnEnd) (most : ℕ) : Type 0 where
   pub to : ℕ
-  pub answer : Result (Unit {0}) Stop
+  pub answer : Result ℕ Stop
   pub end_is : end ≡ end_of to answer
-  pub cpu : c' ≡ after_turn c to end
+  pub cpu : IsLeftAt c c' to end
   pub within : to ≤ most
 
 -- a retired vCPU makes no step, and asks nothing
@@ -115,21 +120,24 @@ TurnBy true c c' end v w answers = StaysRetired c c' end v w answers
 TurnBy false c c' end v w answers = IsTurn c c' end v w answers
 
 -- ---- between turns
--- nothing in hand, and no walk under way; translations may stay
+-- nothing in hand, and no walk under way; translations may stay that were cached since the vCPU came to its processor and flushed
 pub record Idles (v : PortValue) : Type 0 where
   pub empty : IsEmptyHand v.holdings
   pub no_walk : v.holdings.walk ≡ None
   pub machine : IsMachine v.post.machine
+  pub warm : IsWarm v
 
 -- the vCPU is known to run: it found so, or it opened so
 abbrev pub Runs : PortValue → Type 0
 Runs v = own_run v ≡ 0
 
--- the port is that of the vCPU, which idles, and runs unless it is retired
+-- The port is that of the vCPU, which idles, and runs unless it is retired. Where its next operation goes on with a wait, the vCPU had found the clock value
+-- past which that waits.
 pub record IsOf (v : PortValue) (c : Processing) : Type 0 where
   pub vcpu : c.vcpu ≡ v.post.vcpu
   pub domain : c.domain ≡ domain_of v.post.machine v.post.vcpu
   pub idles : Idles v
+  pub awaits : KnowsAwaited v c.awaited
   pub runs : c.retired ≡ false → Runs v
 
 -- the gate may say yes only where the turn is paused for it
@@ -147,18 +155,18 @@ StopsWhere true c c' v w = (c' ≡ c) × (w ≡ v)
 StopsWhere false c c' v w = MakesStop c c' v w
 
 -- ---- a vCPU whose next operation goes on
-pub record OperationWentOn (op : Op) (c c' : Processing) (v w : PortValue) (answers : List Bool) (answer : Result (Unit {0}) Stop) : Type 0 where
-  pub works : Works c.domain (list_of op) v c.done c'.done w answers answer
+pub record OperationWentOn (op : Op) (c c' : Processing) (v w : PortValue) (answers : List Bool) (answer : Result ℕ Stop) : Type 0 where
+  pub works : Works c.domain (task_of op) c.awaited v c.done c'.done w answers answer
   pub cpu : c' ≡ record c { done = c'.done }
 
 -- the next operation went on, where there is one
-abbrev pub NextWentOn : Option Op → Processing → Processing → PortValue → PortValue → List Bool → Option (Result (Unit {0}) Stop) → Type 0
+abbrev pub NextWentOn : Option Op → Processing → Processing → PortValue → PortValue → List Bool → Option (Result ℕ Stop) → Type 0
 NextWentOn (Some op) c c' v w answers (Some answer) = OperationWentOn op c c' v w answers answer
 NextWentOn (Some op) c c' v w answers None = ⊥
 NextWentOn None c c' v w answers (Some answer) = ⊥
 NextWentOn None c c' v w answers None = (c' ≡ c) × (w ≡ v) × (answers ≡ [])
 
 -- ---- with a gate
-abbrev pub asks_due : Option (Result (Unit {0}) Stop) → Bool
+abbrev pub asks_due : Option (Result ℕ Stop) → Bool
 asks_due (Some answer) = is_due_by answer
 asks_due None = false

@@ -1,25 +1,34 @@
 -- The work of one turn on an operation.
-use Rattle.std.specs.Prelude.{◌≡◌, ◌⊎◌, ℕ, ◌<◌, ◌≤◌, Bool, List, [], ◌++◌, length, slice_get, Option, Some, None, Result, Ok, Err, IfErr}
+use Rattle.std.specs.Prelude.{◌≡◌, ◌⊎◌, ℕ, ◌<◌, ◌≤◌, ◌==◌, if◌then◌else◌, Bool, true, false, List, [], ◌++◌, length, slice_get, Option, Some, None, Result, Ok, Err, IfErr}
 use Rattle.xp_words.specs.declared.ops.ExtOp.{ExtOp}
 use Rattle.xp_words.specs.declared.ops.Pair.{Pair}
 use Rattle.xp_words.specs.declared.reply.Refusal.{Refusal}
 use Rattle.xp_words.specs.declared.reply.Refusal.TheVariants as refusals
 use Rattle.xp_words.specs.declared.reply.Stop.{Stop}
 use Rattle.xp_words.specs.declared.reply.Stop.TheVariants.{Refused}
+use Rattle.xp_board.specs.Readings.{domain_of}
 use Rattle.xp_board.specs.Told.{PortValue}
+use Rattle.xp_board.specs.declared.step.Item.{Item}
 use Rattle.step_maker.specs.Holds.{Rests}
 use Rattle.answer_fits.specs.Answers.{Serves, Stops, misses}
-use Rattle.foreign_map.specs.Owning.{OwnersFound, of_owners}
+use Rattle.foreign_map.specs.Owning.{MayMap, OwnersFound, of_owners}
 use Rattle.foreign_map.specs.declared.owners.Owners.{Owners}
 use Rattle.level_release.specs.Asking.{IsReleaseEnd, of_settle}
 use Rattle.level_release.specs.Course.{Settled}
 use Rattle.mmu_update.specs.Elements as pairs
 use Rattle.mmu_update.specs.Fits.{Updates}
 use Rattle.mmuext_ops.specs.Course.{Performed}
-use Rattle.mmuext_ops.specs.Elements.{IsElementStop, LeavesElement, ServesElement, ext_element, ext_request}
+use Rattle.mmuext_ops.specs.Elements.{IsElementStop, KnowsAwaited, LeavesElement, ServesElement, StopsElement, awaited_by, ext_element, ext_request}
 use Rattle.mmuext_ops.specs.declared.element.Element.{Element}
-use Rattle.vcpu_turn.specs.Cpus.{OpList, OfPairs, OfExt}
+use Rattle.tlb_walks.specs.Accesses.{GuestReads, GuestWrites, OneRead, OneWrite, ServesWrite, server}
+use Rattle.tlb_walks.specs.Addresses.{access_refusal, cell_index}
+use Rattle.tlb_walks.specs.Asking.{IsGuestReadStop, IsGuestWriteStop, of_read, of_write}
+use Rattle.vcpu_turn.specs.Cpus.{Task, OfPairs, OfExt, OfRead, OfWrite}
 use Rattle.vcpu_turn.specs.Lists.{Fitting, WorksOn}
+
+-- the vCPU has flushed its translations since it came to its processor
+abbrev pub IsWarm : PortValue → Type 0
+IsWarm v = v.holdings.cold ≡ false
 
 -- ---- what an earlier turn left unfinished
 -- From v to w it was settled, or why not.
@@ -44,6 +53,11 @@ FitsPair o None v w answers answer = ⊥
 abbrev pub PairFits : Owners → List Pair → Fitting
 PairFits o list k v w answers answer = FitsPair o (slice_get list k) v w answers answer
 
+-- such pairs may go on from that port
+pub record SuitsPairs (o : Owners) (v : PortValue) : Type 0 where
+  pub may : MayMap v o
+  pub warm : IsWarm v
+
 -- whose they are is read in each turn, or why not
 pub record FindsOwners (v w : PortValue) (d foreign : ℕ) (answer : Result Owners Refusal) : Type 0 where
   pub serves : Serves v w (of_owners v.post.machine d foreign) []
@@ -52,27 +66,76 @@ pub record FindsOwners (v w : PortValue) (d foreign : ℕ) (answer : Result Owne
 
 -- ---- the elements of `mmuext_op`
 -- From v to w an element of domain d was done, or why not: its steps serve it, show the cause of a refusal or pause, and leave nothing
--- in hand.
-pub record Performs (d : ℕ) (e : Element) (v w : PortValue) (answers : List Bool) (answer : Result (Unit {0}) Stop) : Type 0 where
-  pub serves : ServesElement v w d e answer
-  pub stops : IfErr answer (λ x. Stops v w (ext_request d e answer) x)
+-- in hand. `awaited`: the clock value past which it has waited since an earlier turn; behind a wait that is paused the next one is known.
+pub record Performs (d : ℕ) (e : Element) (awaited : Option ℕ) (v w : PortValue) (answers : List Bool) (answer : Result (Unit {0}) Stop) : Type 0 where
+  pub serves : ServesElement v w d e awaited answer
+  pub stops : StopsElement v w d e awaited answer
   pub kinds : IfErr answer (IsElementStop e)
-  pub numbers : (x : Refusal) → (ext_request d e answer).by_numbers ≡ Some x → answer ≡ Err (Refused x)
+  pub numbers : (x : Refusal) → (ext_request v.post.machine v.post.vcpu d e awaited answer).by_numbers ≡ Some x → answer ≡ Err (Refused x)
   pub hand : LeavesElement v w e answer
   pub rests : Rests w
-  pub course : Performed v w d e answers answer
+  pub awaits : KnowsAwaited w (awaited_by e answer)
+  pub course : Performed v w d e awaited answers answer
 
-abbrev pub FitsExt : ℕ → Option ExtOp → PortValue → PortValue → List Bool → Result (Unit {0}) Stop → Type 0
-FitsExt d (Some op) v w answers answer = SettlesFirst (Performs d (ext_element op)) v w answers answer
-FitsExt d None v w answers answer = ⊥
+abbrev pub FitsExt : ℕ → Option ℕ → Option ExtOp → PortValue → PortValue → List Bool → Result (Unit {0}) Stop → Type 0
+FitsExt d awaited (Some op) v w answers answer = SettlesFirst (Performs d (ext_element op) awaited) v w answers answer
+FitsExt d awaited None v w answers answer = ⊥
+
+-- The first element of a turn, number `from`, goes on with a wait; each other one begins with its own.
+abbrev pub awaited_for : ℕ → Option ℕ → ℕ → Option ℕ
+awaited_for from awaited k = if k == from then awaited else None
 
 -- element number k, for tables of domain d
-abbrev pub ExtFits : ℕ → List ExtOp → Fitting
-ExtFits d list k v w answers answer = FitsExt d (slice_get list k) v w answers answer
+abbrev pub ExtFits : ℕ → List ExtOp → ℕ → Option ℕ → Fitting
+ExtFits d list from awaited k v w answers answer = FitsExt d (awaited_for from awaited k) (slice_get list k) v w answers answer
+
+-- such elements may go on from that port
+pub record SuitsExt (d : ℕ) (awaited : Option ℕ) (v : PortValue) : Type 0 where
+  pub domain : d ≡ domain_of v.post.machine v.post.vcpu
+  pub knows : KnowsAwaited v awaited
+  pub warm : IsWarm v
+
+-- ---- reads and writes of the guest: one element each
+-- which is done, or not
+abbrev pub done_by : {A : Type 0} → Result A Stop → ℕ
+done_by (Ok a) = 1
+done_by (Err e) = 0
+
+-- From v to w the guest's load by the user's or the kernel's top table was made, or why not; its word is the answer's value. No gate is asked.
+pub record Reads (user : Bool) (va : ℕ) (v : PortValue) (to : ℕ) (w : PortValue) (answers : List Bool) (answer : Result ℕ Stop) : Type 0 where
+  pub done : to ≡ done_by answer
+  pub no_ask : answers ≡ []
+  pub serves : Serves v w (of_read va) (misses v.post.machine answer)
+  pub stops : IfErr answer (λ e. Stops v w (of_read va) e)
+  pub kinds : IfErr answer IsGuestReadStop
+  pub course : GuestReads v w user va answer
+  pub served : (x : Item) → access_refusal va ≡ None → server v user va false ≡ Some x → OneRead v w x.frame (cell_index va) answer
+  pub rests : Rests w
+
+-- the same of a store
+pub record Writes (user : Bool) (va val : ℕ) (v : PortValue) (to : ℕ) (w : PortValue) (answers : List Bool) (answer : Result (Unit {0}) Stop) : Type 0 where
+  pub done : to ≡ done_by answer
+  pub no_ask : answers ≡ []
+  pub serves : ServesWrite v w user va val answer
+  pub stops : IfErr answer (λ e. Stops v w (of_write v user va) e)
+  pub kinds : IfErr answer IsGuestWriteStop
+  pub course : GuestWrites v w user va val answer
+  pub served : (x : Item) → access_refusal va ≡ None → server v user va true ≡ Some x → OneWrite v w x.frame (cell_index va) val answer
+  pub rests : Rests w
 
 -- ---- operations
+-- the value of what answers none is 0
+abbrev pub valued : Result (Unit {0}) Stop → Result ℕ Stop
+valued (Ok done) = Ok 0
+valued (Err e) = Err e
+
+pub record Valued (P : Result (Unit {0}) Stop → Type 0) (answer : Result ℕ Stop) : Type 0 where
+  pub ended : Result (Unit {0}) Stop
+  pub works : P ended
+  pub answer_is : answer ≡ valued ended
+
 -- refused before any element, without a step, and without an ask
-pub record IsRefusedWhole (x : Refusal) (v : PortValue) (to : ℕ) (w : PortValue) (answers : List Bool) (answer : Result (Unit {0}) Stop) : Type 0 where
+pub record IsRefusedWhole {A : Type 0} (x : Refusal) (v : PortValue) (to : ℕ) (w : PortValue) (answers : List Bool) (answer : Result A Stop) : Type 0 where
   pub none : to ≡ 0
   pub no_step : w ≡ v
   pub no_ask : answers ≡ []
@@ -91,9 +154,12 @@ pub data WorksOwned (d foreign : ℕ) (list : List Pair) (v : PortValue) (from :
   owned : (to : ℕ) (u w : PortValue) (o : Owners) (answers : List Bool) (answer : Result (Unit {0}) Stop) → 0 < length list → length list ≤ 512 → FindsOwners v u d foreign (Ok o) →
       WorksOn (PairFits o list) (length list) from u to w answers answer → WorksOwned d foreign list v from to w answers answer
 
--- The work of one turn on an operation of domain d, of which `from` elements were done before and `to` are then. One that is
--- not built is refused.
-abbrev pub Works : ℕ → Option OpList → PortValue → ℕ → ℕ → PortValue → List Bool → Result (Unit {0}) Stop → Type 0
-Works d None v from to w answers answer = IsRefusedWhole refusals.BadCommand v to w answers answer
-Works d (Some (OfPairs foreign list)) v from to w answers answer = WorksOwned d foreign list v from to w answers answer
-Works d (Some (OfExt list)) v from to w answers answer = WorksThrough (ExtFits d list) (length list) v from to w answers answer
+-- The work of one turn on an operation of domain d, of which `from` elements were done before and `to` are then; the next of them goes on with a
+-- wait where one is awaited. An operation that is not built is refused.
+abbrev pub Works : ℕ → Option Task → Option ℕ → PortValue → ℕ → ℕ → PortValue → List Bool → Result ℕ Stop → Type 0
+Works d None awaited v from to w answers answer = IsRefusedWhole refusals.BadCommand v to w answers answer
+Works d (Some (OfPairs foreign list)) awaited v from to w answers answer = Valued (λ ended. WorksOwned d foreign list v from to w answers ended) answer
+Works d (Some (OfExt list)) awaited v from to w answers answer =
+    Valued (λ ended. WorksThrough (ExtFits d list from awaited) (length list) v from to w answers ended) answer
+Works d (Some (OfRead user va)) awaited v from to w answers answer = Reads user va v to w answers answer
+Works d (Some (OfWrite user va val)) awaited v from to w answers answer = Valued (λ ended. Writes user va val v to w answers ended) answer

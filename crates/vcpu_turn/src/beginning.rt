@@ -1,6 +1,7 @@
 //! How a turn begins.
 ghost use Rattle.step_maker.specs.Holds.{Rests};
 ghost use Rattle.vcpu_turn.specs.Turning.{Begins, Idles, Runs};
+ghost use Rattle.vcpu_turn.specs.Working.{IsWarm};
 
 use flush_words::{begin_turn, flush_own, look_flushed, look_run};
 use xp_board::Port;
@@ -12,6 +13,7 @@ pub(crate) fn begin<P: Port>(port: &mut P)
     requires runs { Runs (P.value port.old) }
     ensures begins { Begins (P.value port.old) (P.value port.new) }
     ensures rests { Rests (P.value port.new) }
+    ensures warm { IsWarm (P.value port.new) }
 {
     let asked = begin_turn(port);
     let vcpu = port.vcpu();

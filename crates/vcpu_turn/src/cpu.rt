@@ -18,7 +18,7 @@ pub enum TurnEnd {
     Retired,
 }
 
-/// A virtual processor: its domain, its operations, what they answered, and how far the next one is done.
+/// A virtual processor: its domain, its operations, what they answered, how far the next one is done, and past which clock value it goes on to wait.
 #[derive(Drop)]
 pub struct Cpu {
     pub(crate) vcpu: u32,
@@ -26,6 +26,7 @@ pub struct Cpu {
     pub(crate) script: Script,
     pub(crate) log: Vec<LogLine>,
     pub(crate) done: u32,
+    pub(crate) awaited: Option<u64>,
     pub(crate) retired: bool,
 }
 
@@ -35,7 +36,7 @@ impl Model for Cpu {
 
     ghost Value = { Processing };
 
-    ghost view = { λ c. record { vcpu = c.vcpu; domain = c.domain; script = c.script; log = c.log.items; done = c.done; retired = c.retired } };
+    ghost view = { λ c. record { vcpu = c.vcpu; domain = c.domain; script = c.script; log = c.log.items; done = c.done; awaited = c.awaited; retired = c.retired } };
 
     ghost invariant = { λ c. (length c.script ≤ vec_capacity c.log) × (vec_len c.log ≤ length c.script) × (c.done ≤ elements_of (slice_get c.script (vec_len c.log))) };
 }
@@ -53,6 +54,7 @@ impl Cpu {
             script,
             log,
             done: 0,
+            awaited: None,
             retired: false,
         })
     }

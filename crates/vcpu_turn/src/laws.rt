@@ -7,8 +7,8 @@ ghost use Rattle.xp_words.specs.declared.reply.Stop.{Stop};
 ghost use Rattle.xp_board.specs.Told.{PortValue};
 ghost use Rattle.xp_preempt.specs.Gates.{Gives, ends_yes, last_ask};
 ghost use Rattle.foreign_map.specs.declared.owners.Owners.{Owners};
-ghost use Rattle.vcpu_turn.specs.Asking.{AsksNothingWithin, HearsNo, HearsNoWithin, MovesATable, MovesNoTable, PausesRelease, Tried, PausesUnpin, asks_within, elements_tried, tried_in};
-ghost use Rattle.vcpu_turn.specs.Cpus.{OfExt, OfPairs, Processing, list_of};
+ghost use Rattle.vcpu_turn.specs.Asking.{AsksNothingWithin, HearsNo, HearsNoWithin, MovesATable, MovesNoTable, PausesOldBase, PausesRelease, Tried, PausesUnpin, asks_within, elements_tried, tried_in};
+ghost use Rattle.vcpu_turn.specs.Cpus.{OfExt, OfPairs, Processing, task_of};
 ghost use Rattle.vcpu_turn.specs.Lists.{AsksNothing, WorksOn, asks_between, is_due_by};
 ghost use Rattle.vcpu_turn.specs.Turning.{CountsAsks, GoesNoFurther, IsTurn, is_due};
 ghost use Rattle.vcpu_turn.specs.Working.{ExtFits, PairFits};
@@ -41,8 +41,8 @@ pub fn asked_between_and_within<L: Items>()
 
 /// So each element that a turn tried went by its own course, which says what was asked within it.
 pub fn elements_go_by_their_courses()
-    ensures pairs { (c d : Processing) (op : Op) (foreign : ℕ) (pairs : List Pair) (end : TurnEnd) (v w : PortValue) (answers : List Bool) → slice_get c.script (length c.log) ≡ Some op → list_of op ≡ Some (OfPairs foreign pairs) → (turn : IsTurn c d end v w answers) → All (λ (t : Tried). (o : Owners) × PairFits o pairs t.number t.before t.behind t.asked t.answer) (elements_tried turn) }
-    ensures ext { (c d : Processing) (op : Op) (list : List ExtOp) (end : TurnEnd) (v w : PortValue) (answers : List Bool) → slice_get c.script (length c.log) ≡ Some op → list_of op ≡ Some (OfExt list) → (turn : IsTurn c d end v w answers) → All (λ (t : Tried). ExtFits c.domain list t.number t.before t.behind t.asked t.answer) (elements_tried turn) }
+    ensures pairs { (c d : Processing) (op : Op) (foreign : ℕ) (pairs : List Pair) (end : TurnEnd) (v w : PortValue) (answers : List Bool) → slice_get c.script (length c.log) ≡ Some op → task_of op ≡ Some (OfPairs foreign pairs) → (turn : IsTurn c d end v w answers) → All (λ (t : Tried). (o : Owners) × PairFits o pairs t.number t.before t.behind t.asked t.answer) (elements_tried turn) }
+    ensures ext { (c d : Processing) (op : Op) (list : List ExtOp) (end : TurnEnd) (v w : PortValue) (answers : List Bool) → slice_get c.script (length c.log) ≡ Some op → task_of op ≡ Some (OfExt list) → (turn : IsTurn c d end v w answers) → All (λ (t : Tried). ExtFits c.domain list c.done c.awaited t.number t.before t.behind t.asked t.answer) (elements_tried turn) }
 {}
 
 /// And a turn, whatever operation stands next, asks the own gate between the elements, and within them as their courses say, behind what was settled first.
@@ -51,10 +51,10 @@ pub fn a_turn_counts_its_asks()
 {}
 
 /// Within an element the gate says no, until that is paused for it, and so the turn. Else the element is done, and only the release was paused that goes with it: of what
-/// the old word of an exchanged entry asked, or of an unpinned frame.
+/// the old word of an exchanged entry asked, of an unpinned frame, or of the table that a base named before.
 pub fn a_yes_within_an_element_pauses()
-    ensures pairs { (c d : Processing) (op : Op) (foreign : ℕ) (pairs : List Pair) (end : TurnEnd) (v w : PortValue) (answers : List Bool) → slice_get c.script (length c.log) ≡ Some op → list_of op ≡ Some (OfPairs foreign pairs) → (turn : IsTurn c d end v w answers) → All (λ (t : Tried). HearsNo t ⊎ PausesRelease pairs t) (elements_tried turn) }
-    ensures ext { (c d : Processing) (op : Op) (list : List ExtOp) (end : TurnEnd) (v w : PortValue) (answers : List Bool) → slice_get c.script (length c.log) ≡ Some op → list_of op ≡ Some (OfExt list) → (turn : IsTurn c d end v w answers) → All (λ (t : Tried). HearsNo t ⊎ PausesUnpin list t) (elements_tried turn) }
+    ensures pairs { (c d : Processing) (op : Op) (foreign : ℕ) (pairs : List Pair) (end : TurnEnd) (v w : PortValue) (answers : List Bool) → slice_get c.script (length c.log) ≡ Some op → task_of op ≡ Some (OfPairs foreign pairs) → (turn : IsTurn c d end v w answers) → All (λ (t : Tried). HearsNo t ⊎ PausesRelease pairs t) (elements_tried turn) }
+    ensures ext { (c d : Processing) (op : Op) (list : List ExtOp) (end : TurnEnd) (v w : PortValue) (answers : List Bool) → slice_get c.script (length c.log) ≡ Some op → task_of op ≡ Some (OfExt list) → (turn : IsTurn c d end v w answers) → All (λ (t : Tried). HearsNo t ⊎ (PausesUnpin list t ⊎ PausesOldBase list t)) (elements_tried turn) }
 {}
 
 /// Where no element is done past a yes, no ask of the turn follows one at which the gate says yes, and the turn is paused for that one.
@@ -70,9 +70,9 @@ pub fn a_turn_never_passes_a_yes()
 /// A turn with a list of `mmu_update` asks nothing within its elements, or one of them exchanged an entry and took or gave back a table with that. Where none did, a write counts as
 /// a machine-to-physical update does: the gate is asked between the elements, and no more, and the turn does not go on past the element behind which it says yes.
 pub fn only_tables_ask_within()
-    ensures tables { (c d : Processing) (op : Op) (foreign : ℕ) (pairs : List Pair) (end : TurnEnd) (v w : PortValue) (answers : List Bool) → slice_get c.script (length c.log) ≡ Some op → list_of op ≡ Some (OfPairs foreign pairs) → (turn : IsTurn c d end v w answers) → AsksNothingWithin (elements_tried turn) ⊎ Any (λ (t : Tried). MovesATable pairs t) (elements_tried turn) }
-    ensures counts { (c d : Processing) (op : Op) (foreign : ℕ) (pairs : List Pair) (end : TurnEnd) (v w : PortValue) (answers : List Bool) → slice_get c.script (length c.log) ≡ Some op → list_of op ≡ Some (OfPairs foreign pairs) → (turn : IsTurn c d end v w answers) → MovesNoTable pairs (elements_tried turn) → CountsAsks c.done end answers 0 }
-    ensures stops { (c d : Processing) (op : Op) (foreign : ℕ) (pairs : List Pair) (end : TurnEnd) (v w : PortValue) (before : ℕ) (answers : List Bool) (says : ℕ → Bool) → slice_get c.script (length c.log) ≡ Some op → list_of op ≡ Some (OfPairs foreign pairs) → (turn : IsTurn c d end v w answers) → MovesNoTable pairs (elements_tried turn) → Gives says before answers → (j : ℕ) → 0 < j → before + j < last_ask → says (before + j) ≡ true → GoesNoFurther c d end (c.done + j) }
+    ensures tables { (c d : Processing) (op : Op) (foreign : ℕ) (pairs : List Pair) (end : TurnEnd) (v w : PortValue) (answers : List Bool) → slice_get c.script (length c.log) ≡ Some op → task_of op ≡ Some (OfPairs foreign pairs) → (turn : IsTurn c d end v w answers) → AsksNothingWithin (elements_tried turn) ⊎ Any (λ (t : Tried). MovesATable pairs t) (elements_tried turn) }
+    ensures counts { (c d : Processing) (op : Op) (foreign : ℕ) (pairs : List Pair) (end : TurnEnd) (v w : PortValue) (answers : List Bool) → slice_get c.script (length c.log) ≡ Some op → task_of op ≡ Some (OfPairs foreign pairs) → (turn : IsTurn c d end v w answers) → MovesNoTable pairs (elements_tried turn) → CountsAsks c.done end answers 0 }
+    ensures stops { (c d : Processing) (op : Op) (foreign : ℕ) (pairs : List Pair) (end : TurnEnd) (v w : PortValue) (before : ℕ) (answers : List Bool) (says : ℕ → Bool) → slice_get c.script (length c.log) ≡ Some op → task_of op ≡ Some (OfPairs foreign pairs) → (turn : IsTurn c d end v w answers) → MovesNoTable pairs (elements_tried turn) → Gives says before answers → (j : ℕ) → 0 < j → before + j < last_ask → says (before + j) ≡ true → GoesNoFurther c d end (c.done + j) }
 {}
 
 /// A list that sets machine-to-physical words alone exchanges no entry, and moves no table.

@@ -1,12 +1,14 @@
 //! The turns of virtual processors: how an operation that is a list goes on from turn to turn.
 #![tactic(auto)]
 
+mod accesses;
 mod beginning;
 mod cpu;
 mod ext;
 pub mod laws;
 mod lists;
 mod pairs;
+mod tasks;
 mod turning;
 mod working;
 

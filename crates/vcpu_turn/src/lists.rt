@@ -57,6 +57,7 @@ pub fn go_on<P: Port, L: Items>(
     requires within { done.old ≤ L.count items.now }
     requires suits { L.suits items.now (P.value port.old) }
     requires rests { Rests (P.value port.old) }
+    ensures suits { L.suits items.now (P.value port.new) }
     ensures post { (P.value port.new).post ≡ (P.value port.old).post }
     ensures works { Answering (λ answers. WorksOn (L.fits items.now) (L.count items.now) done.old (P.value port.old) done.new (P.value port.new) answers result) (says gate.old) (count_asks gate.old) (count_asks gate.new) (count_yes gate.old) (count_yes gate.new) (is_due_by result) }
     ensures rests { Rests (P.value port.new) }

@@ -1,24 +1,30 @@
 ghost use Rattle.std.specs.Prelude.{ℕ, ◌≡◌, ◌<◌, ◌^◌, true, false, length, slice_get};
 ghost use Rattle.xp_board.specs.Readings.{domain_of};
 ghost use Rattle.step_maker.specs.Holds.{Rests};
+ghost use Rattle.mmuext_ops.specs.Elements.{KnowsAwaited};
 ghost use Rattle.vcpu_turn.specs.Cpus.{reply_of, end_of, after_turn};
 ghost use Rattle.vcpu_turn.specs.Lists.{Answering};
+ghost use Rattle.vcpu_turn.specs.Working.{IsWarm};
 ghost use Rattle.vcpu_turn.specs.Turning.{EndsTurn, Idles, TurnBy, IsOf, MakesStop, StopsWhere, NextWentOn, asks_due, is_due};
-ghost use Rattle.vcpu_turn.specs.declared.cpu.TurnEnd.TheVariants.{Answered};
+ghost use Rattle.vcpu_turn.specs.declared.cpu.TurnEnd.TheVariants.{Answered, Paused};
 
 use crate::beginning::begin;
 use crate::cpu::{Cpu, TurnEnd};
+use crate::tasks::awaited_in;
 use crate::working::work_on;
 use flush_words::{end_answer, stop_vcpu};
 use level_release::settle;
 use xp_board::Port;
 use xp_preempt::Preempt;
-use xp_words::{LogLine, Refusal, Reply, Stop};
+use xp_words::{LogLine, Pause, Refusal, Reply, Stop};
 
 // The next operation goes on; there is none at the script's end.
-fn go_on<P: Port>(port: &mut P, cpu: &mut Cpu, gate: &mut dyn Preempt) -> Option<Result<(), Stop>>
+fn go_on<P: Port>(port: &mut P, cpu: &mut Cpu, gate: &mut dyn Preempt) -> Option<Result<u64, Stop>>
     requires own { cpu.old.domain ≡ domain_of (P.value port.old).post.machine (P.value port.old).post.vcpu }
+    requires awaits { KnowsAwaited (P.value port.old) cpu.old.awaited }
     requires rests { Rests (P.value port.old) }
+    requires warm { IsWarm (P.value port.old) }
+    ensures warm { IsWarm (P.value port.new) }
     ensures post { (P.value port.new).post ≡ (P.value port.old).post }
     ensures worked { Answering (λ answers. NextWentOn (slice_get cpu.old.script (length cpu.old.log)) cpu.old cpu.new (P.value port.old) (P.value port.new) answers result) (says gate.old) (count_asks gate.old) (count_asks gate.new) (count_yes gate.old) (count_yes gate.new) (asks_due result) }
     ensures rests { Rests (P.value port.new) }
@@ -28,17 +34,19 @@ fn go_on<P: Port>(port: &mut P, cpu: &mut Cpu, gate: &mut dyn Preempt) -> Option
 {
     match cpu.script.as_slice().get(cpu.log.len()) {
         None => None,
-        Some(op) => Some(work_on(port, gate, cpu.domain, op, &mut cpu.done)),
+        Some(op) => Some(work_on(port, gate, cpu.domain, op, cpu.awaited, &mut cpu.done)),
     }
 }
 
 // The next operation is answered: its reply is logged, and the answer ends. The log has the room.
-fn log_answer<P: Port>(port: &mut P, cpu: &mut Cpu, refusal: Option<Refusal>) -> Reply
+fn log_answer<P: Port>(port: &mut P, cpu: &mut Cpu, value: u64, refusal: Option<Refusal>) -> Reply
     requires short { length cpu.old.script < 2 ^ 32 }
     requires more { length cpu.old.log < length cpu.old.script }
     requires rests { Rests (P.value port.old) }
+    requires warm { IsWarm (P.value port.old) }
+    ensures warm { IsWarm (P.value port.new) }
     ensures post { (P.value port.new).post ≡ (P.value port.old).post }
-    ensures reply { result ≡ reply_of cpu.old.done refusal }
+    ensures reply { result ≡ reply_of cpu.old.done value refusal }
     ensures cpu { cpu.new ≡ after_turn cpu.old cpu.old.done (Answered result) }
     ensures ends { EndsTurn (Answered result) (P.value port.old) (P.value port.new) }
     ensures rests { Rests (P.value port.new) }
@@ -46,7 +54,7 @@ fn log_answer<P: Port>(port: &mut P, cpu: &mut Cpu, refusal: Option<Refusal>) ->
     end_answer(port, 0);
     let reply = Reply {
         done: cpu.done,
-        value: 0,
+        value,
         refusal,
     };
     let line = LogLine::Answer {
@@ -56,14 +64,27 @@ fn log_answer<P: Port>(port: &mut P, cpu: &mut Cpu, refusal: Option<Refusal>) ->
     };
     cpu.log.push(line).unwrap();
     cpu.done = 0;
+    cpu.awaited = None;
     reply
 }
 
+// The next operation is paused. A wait of its next element goes on in a later turn.
+fn keep_wait(cpu: &mut Cpu, pause: Pause)
+    ensures cpu { cpu.new ≡ after_turn cpu.old cpu.old.done (Paused pause) }
+{
+    cpu.awaited = match cpu.script.as_slice().get(cpu.log.len()) {
+        Some(op) => awaited_in(op, cpu.done, pause),
+        None => None,
+    };
+}
+
 // The turn ends with that answer of the next operation, or with a pause.
-fn finish<P: Port>(port: &mut P, cpu: &mut Cpu, answer: Result<(), Stop>) -> TurnEnd
+fn finish<P: Port>(port: &mut P, cpu: &mut Cpu, answer: Result<u64, Stop>) -> TurnEnd
     requires short { length cpu.old.script < 2 ^ 32 }
     requires more { length cpu.old.log < length cpu.old.script }
     requires rests { Rests (P.value port.old) }
+    requires warm { IsWarm (P.value port.old) }
+    ensures warm { IsWarm (P.value port.new) }
     ensures post { (P.value port.new).post ≡ (P.value port.old).post }
     ensures end { result ≡ end_of cpu.old.done answer }
     ensures cpu { cpu.new ≡ after_turn cpu.old cpu.old.done (end_of cpu.old.done answer) }
@@ -71,9 +92,12 @@ fn finish<P: Port>(port: &mut P, cpu: &mut Cpu, answer: Result<(), Stop>) -> Tur
     ensures rests { Rests (P.value port.new) }
 {
     match answer {
-        Ok(()) => TurnEnd::Answered(log_answer(port, cpu, None)),
-        Err(Stop::Refused(refusal)) => TurnEnd::Answered(log_answer(port, cpu, Some(refusal))),
-        Err(Stop::Paused(pause)) => TurnEnd::Paused(pause),
+        Ok(value) => TurnEnd::Answered(log_answer(port, cpu, value, None)),
+        Err(Stop::Refused(refusal)) => TurnEnd::Answered(log_answer(port, cpu, 0, Some(refusal))),
+        Err(Stop::Paused(pause)) => {
+            keep_wait(cpu, pause);
+            TurnEnd::Paused(pause)
+        }
     }
 }
 

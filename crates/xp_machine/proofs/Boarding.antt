@@ -11,31 +11,16 @@ use Rattle.step_maker.specs.Moves.{Came}
 use Rattle.step_maker.proofs.Wending.{came_goes}
 use Rattle.answer_laws.specs.Alone.{IsAlone}
 use Rattle.shared_board.specs.Board.{Board, port_value}
-use Rattle.vcpu_turn.specs.Cpus.{Processing, after_turn}
-use Rattle.vcpu_turn.specs.declared.cpu.TurnEnd.{TurnEnd}
-use Rattle.vcpu_turn.specs.declared.cpu.TurnEnd.TheVariants as ends
-use Rattle.vcpu_turn.specs.Turning.{DoesNext, DoesTurn, IsOf, StopsWhere, settled, unsettled}
-use Rattle.xp_machine.specs.Cpus.{IsShort}
-use Rattle.xp_machine.specs.Gates.{Gate, gate_in}
+use Rattle.vcpu_turn.specs.Cpus.{Processing}
+use Rattle.vcpu_turn.specs.Turning.{IsOf, StopsWhere}
+use Rattle.vcpu_runners.specs.Cpus.{IsShort}
+use Rattle.vcpu_runners.specs.Gates.{Gate, gate_in}
 use Rattle.xp_machine.specs.Ready.{Ready}
-use Rattle.xp_machine.specs.Runners.{TakesTurnBy}
+use Rattle.vcpu_runners.specs.Runners.{TakesTurnBy}
+use Rattle.vcpu_runners.proofs.Scripts.{turn_script}
 use Rattle.xp_machine.specs.Turns.{Stage, stage, IsPortOf, MakesStagedTurn, MakesStagedStop, UnlessRetired, ByCpu}
 use Rattle.xp_machine.proofs.Hindering.{AloneStays, NeitherLostNorBusy, NobodyWaitedFor, turn_came, stop_came, turn_unhindered}
 use Rattle.xp_machine.proofs.Moving.{Stepping, moved_none, stepping, same_story, ready_after, short_at, alone_at, sound_alone}
-
--- ---- what a turn keeps
-kept_by : (c : Processing) (done : ℕ) (end : TurnEnd) → (after_turn c done end).script ≡ c.script
-kept_by c done (ends.Answered reply) = refl
-kept_by c done (ends.Paused p) = refl
-kept_by c done ends.Retired = refl
-
-next_script : (c c2 : Processing) (o : Option Op) (v w : PortValue) (answers : List Bool) (end : TurnEnd) → DoesNext c o c2 v w answers end → c2.script ≡ c.script
-next_script c c2 (Some op) v w answers end d = ap (λ (x : Processing). x.script) d.cpu ∙ kept_by c d.to end
-next_script c c2 None v w answers end d = ap (λ (x : Processing). x.script) d.cpu
-
-turn_script : (c c2 : Processing) (o : Option Op) (v w : PortValue) (answers : List Bool) (end : TurnEnd) → DoesTurn c o v c2 w answers end → c2.script ≡ c.script
-turn_script c _ o v _ _ _ (unsettled w answers p s) = refl
-turn_script c _ o v _ _ _ (settled u w c2 early answers end s d) = next_script c c2 o u w answers end d
 
 -- ---- one turn or one stop
 pub record Done (DoesNext : Stage → Stage → Type 0) (b b2 : Board) (cpus cpus2 : List Processing) (gates gates2 : List (Option Gate)) : Type 0 where

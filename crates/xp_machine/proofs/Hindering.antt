@@ -2,6 +2,7 @@
 use Rattle.std.proofs.Common.{◌≡◌, ℕ, ◌<◌, Bool, List, [], length, Option, Some, None, Result, Ok, Err, IfErr, refl, sym, subst, inl, inr, arith}
 use Rattle.std.specs.Prelude.{slice_get}
 use Rattle.std.proofs.lemmas.Bool.{cases_eq}
+use Rattle.xp_words.specs.Machine.{Machine}
 use Rattle.xp_words.specs.declared.ops.ExtOp.{ExtOp}
 use Rattle.xp_words.specs.declared.ops.Op.{Op}
 use Rattle.xp_words.specs.declared.ops.Pair.{Pair}
@@ -13,7 +14,7 @@ use Rattle.xp_words.specs.declared.reply.Stop.TheVariants.{Refused, Paused}
 use Rattle.xp_board.specs.Told.{Post, PortValue}
 use Rattle.step_maker.specs.Moves.{Came}
 use Rattle.step_maker.proofs.Coming.{came_self, came_trans, came_post, moves_came}
-use Rattle.answer_fits.specs.Answers.{Stops, misses}
+use Rattle.answer_fits.specs.Answers.{Stops, missed, misses}
 use Rattle.answer_fits.specs.Asked.{Request}
 use Rattle.answer_fits.proofs.Piecing.{serves_came}
 use Rattle.answer_laws.specs.Alone.{IsAlone, IsDueOrFlush}
@@ -24,16 +25,19 @@ use Rattle.mmu_update.specs.Elements as pairs
 use Rattle.mmu_update.specs.Fits.{Updates}
 use Rattle.mmu_update.specs.declared.element.Element as updating
 use Rattle.mmu_update.specs.declared.element.Element.TheVariants as updates
+use Rattle.table_bases.specs.Asking.{may_rise, of_base, user_frame}
+use Rattle.tlb_walks.specs.Accesses.{ServesWrite}
+use Rattle.tlb_walks.specs.Asking.{of_read, of_write}
 use Rattle.mmuext_ops.specs.Elements as elements
 use Rattle.mmuext_ops.specs.declared.element.Element.{Element}
 use Rattle.mmuext_ops.specs.declared.element.Element.TheVariants as performs
 use Rattle.vcpu_turn.specs.declared.cpu.TurnEnd.{TurnEnd}
 use Rattle.vcpu_turn.specs.declared.cpu.TurnEnd.TheVariants as ends
-use Rattle.vcpu_turn.specs.Cpus.{OpList, OfPairs, OfExt, Processing, list_of, end_of}
+use Rattle.vcpu_turn.specs.Cpus.{Task, OfPairs, OfExt, OfRead, OfWrite, Processing, task_of, end_of}
 use Rattle.vcpu_turn.specs.Lists as lists
 use Rattle.vcpu_turn.specs.Lists.{DidItems, Fitting, WorksOn, more, all_done, last_done, due, stopped}
 use Rattle.vcpu_turn.specs.Working as working
-use Rattle.vcpu_turn.specs.Working.{SettlesFirst, ExtFits, FindsOwners, FitsExt, FitsPair, PairFits, Performs, Settles, Works, WorksOwned, unsettled, performed}
+use Rattle.vcpu_turn.specs.Working.{SettlesFirst, ExtFits, FindsOwners, FitsExt, FitsPair, PairFits, Performs, Reads, Settles, Works, WorksOwned, WorksThrough, Writes, awaited_for, unsettled, performed, valued}
 use Rattle.vcpu_turn.specs.Turning.{DoesNext, EndsTurn, DoesTurn, IsStop, IsTurn}
 use Rattle.vcpu_turn.specs.Turning as turning
 use Rattle.vcpu_turn.proofs.Turns.{begins_came}
@@ -54,8 +58,18 @@ ends_came ends.Retired v w e = stop_came v w e
 settles_came : (v w : PortValue) (answers : List Bool) (answer : Result (Unit {0}) Stop) → Settles v w answers answer → Came v w
 settles_came v w answers answer s = serves_came v w (of_settle 0 0 answer) (misses v.post.machine answer) (s.serves 0 0)
 
-performs_came : (d : ℕ) (e : Element) (v w : PortValue) (answers : List Bool) (answer : Result (Unit {0}) Stop) → Performs d e v w answers answer → Came v w
-performs_came d e v w answers answer p = serves_came v w (elements.ext_request d e answer) p.serves.0 p.serves.2
+performs_came : (d : ℕ) (e : Element) (awaited : Option ℕ) (v w : PortValue) (answers : List Bool) (answer : Result (Unit {0}) Stop) → Performs d e awaited v w answers answer → Came v w
+performs_came d e awaited v w answers answer p = serves_came v w (elements.ext_request v.post.machine v.post.vcpu d e awaited answer) p.serves.0 p.serves.2
+
+reads_came : (user : Bool) (va : ℕ) (v : PortValue) (to : ℕ) (w : PortValue) (answers : List Bool) (answer : Result ℕ Stop) → Reads user va v to w answers answer → Came v w
+reads_came user va v to w answers answer r = serves_came v w (of_read va) (misses v.post.machine answer) r.serves
+
+write_came : (user : Bool) (va val : ℕ) (v w : PortValue) (answer : Result (Unit {0}) Stop) → ServesWrite v w user va val answer → Came v w
+write_came user va val v w (Ok done) serves = serves_came v w (of_write v user va) _ serves.2
+write_came user va val v w (Err e) serves = serves_came v w (of_write v user va) (missed v.post.machine e) serves
+
+writes_came : (user : Bool) (va val : ℕ) (v : PortValue) (to : ℕ) (w : PortValue) (answers : List Bool) (answer : Result (Unit {0}) Stop) → Writes user va val v to w answers answer → Came v w
+writes_came user va val v to w answers answer r = write_came user va val v w answer r.serves
 
 updates_came : (o : Owners) (e : updating.Element) (v w : PortValue) (answers : List Bool) (answer : Result (Unit {0}) Stop) → Updates o e v w answers answer → Came v w
 updates_came o e v w answers answer u = serves_came v w (pairs.update_request o e answer) u.serves.0 u.serves.2
@@ -73,15 +87,16 @@ pair_came : (o : Owners) (x : Option Pair) (v w : PortValue) (answers : List Boo
 pair_came o None v w answers answer f = absurd f
 pair_came o (Some p) v w answers answer f = behind_came (Updates o (pairs.element_of p)) (updates_came o (pairs.element_of p)) v w answers answer f
 
-ext_came : (d : ℕ) (x : Option ExtOp) (v w : PortValue) (answers : List Bool) (answer : Result (Unit {0}) Stop) → FitsExt d x v w answers answer → Came v w
-ext_came d None v w answers answer f = absurd f
-ext_came d (Some op) v w answers answer f = behind_came (Performs d (elements.ext_element op)) (performs_came d (elements.ext_element op)) v w answers answer f
+ext_came : (d : ℕ) (awaited : Option ℕ) (x : Option ExtOp) (v w : PortValue) (answers : List Bool) (answer : Result (Unit {0}) Stop) → FitsExt d awaited x v w answers answer → Came v w
+ext_came d awaited None v w answers answer f = absurd f
+ext_came d awaited (Some op) v w answers answer f = behind_came (Performs d (elements.ext_element op) awaited) (performs_came d (elements.ext_element op) awaited) v w answers answer f
 
 pairs_came : (o : Owners) (list : List Pair) (k : ℕ) (v w : PortValue) (answers : List Bool) (answer : Result (Unit {0}) Stop) → PairFits o list k v w answers answer → Came v w
 pairs_came o list k v w answers answer f = pair_came o (slice_get list k) v w answers answer f
 
-exts_came : (d : ℕ) (list : List ExtOp) (k : ℕ) (v w : PortValue) (answers : List Bool) (answer : Result (Unit {0}) Stop) → ExtFits d list k v w answers answer → Came v w
-exts_came d list k v w answers answer f = ext_came d (slice_get list k) v w answers answer f
+exts_came : (d : ℕ) (list : List ExtOp) (from : ℕ) (awaited : Option ℕ) (k : ℕ) (v w : PortValue) (answers : List Bool) (answer : Result (Unit {0}) Stop) → ExtFits d list from awaited k v w answers answer →
+    Came v w
+exts_came d list from awaited k v w answers answer f = ext_came d (awaited_for from awaited k) (slice_get list k) v w answers answer f
 
 -- a list of items
 module _ (fits : Fitting) (comes : (k : ℕ) (v w : PortValue) (answers : List Bool) (answer : Result (Unit {0}) Stop) → fits k v w answers answer → Came v w) (count from : ℕ) (v : PortValue) where
@@ -102,14 +117,20 @@ owned_came d foreign list v from _ _ _ _ (working.WorksOwned.unowned w x some mo
 owned_came d foreign list v from _ _ _ _ (working.WorksOwned.owned to u w o answers answer some most finds on) =
     came_trans v u w (owners_came v u d foreign (Ok o) finds) (list_came (PairFits o list) (pairs_came o list) (length list) from u to w answers answer on)
 
-works_came : (d : ℕ) (o : Option OpList) (v w : PortValue) (from to : ℕ) (answers : List Bool) (answer : Result (Unit {0}) Stop) → Works d o v from to w answers answer → Came v w
-works_came d None v w from to answers answer a = same_came v w a.no_step
-works_came d (Some (OfPairs foreign list)) v w from to answers answer a = owned_came d foreign list v from to w answers answer a
-works_came d (Some (OfExt list)) v w from to answers answer (inl a) = same_came v w a.1.no_step
-works_came d (Some (OfExt list)) v w from to answers answer (inr a) = list_came (ExtFits d list) (exts_came d list) (length list) from v to w answers answer a.1
+through_came : (d : ℕ) (list : List ExtOp) (from : ℕ) (awaited : Option ℕ) (v w : PortValue) (to : ℕ) (answers : List Bool) (answer : Result (Unit {0}) Stop) →
+    WorksThrough (ExtFits d list from awaited) (length list) v from to w answers answer → Came v w
+through_came d list from awaited v w to answers answer (inl a) = same_came v w a.1.no_step
+through_came d list from awaited v w to answers answer (inr a) = list_came (ExtFits d list from awaited) (exts_came d list from awaited) (length list) from v to w answers answer a.1
+
+works_came : (d : ℕ) (o : Option Task) (awaited : Option ℕ) (v w : PortValue) (from to : ℕ) (answers : List Bool) (answer : Result ℕ Stop) → Works d o awaited v from to w answers answer → Came v w
+works_came d None awaited v w from to answers answer a = same_came v w a.no_step
+works_came d (Some (OfPairs foreign list)) awaited v w from to answers answer a = owned_came d foreign list v from to w answers a.ended a.works
+works_came d (Some (OfExt list)) awaited v w from to answers answer a = through_came d list from awaited v w to answers a.ended a.works
+works_came d (Some (OfRead user va)) awaited v w from to answers answer a = reads_came user va v to w answers answer a
+works_came d (Some (OfWrite user va val)) awaited v w from to answers answer a = writes_came user va val v to w answers a.ended a.works
 
 does_came : (c : Processing) (o : Option Op) (c2 : Processing) (v w : PortValue) (answers : List Bool) (end : TurnEnd) → DoesNext c o c2 v w answers end → Came v w
-does_came c (Some op) c2 v w answers end d = works_came c.domain (list_of op) v w c.done d.to answers d.answer d.works
+does_came c (Some op) c2 v w answers end d = works_came c.domain (task_of op) c.awaited v w c.done d.to answers d.answer d.works
 does_came c None c2 v w answers end d = same_came v w d.no_step
 
 goes_came : (c : Processing) (o : Option Op) (c2 : Processing) (v w : PortValue) (answers : List Bool) (end : TurnEnd) → DoesTurn c o v c2 w answers end → Came v w
@@ -137,14 +158,34 @@ pair_destroys o (updates.Write f i w keep) answer = refl
 pair_destroys o updates.Misaligned answer = refl
 pair_destroys o updates.Unknown answer = refl
 
-element_destroys : (d : ℕ) (e : Element) (answer : Result (Unit {0}) Stop) → (elements.ext_request d e answer).destroys ≡ None
-element_destroys d (performs.Pin f level) answer = refl
-element_destroys d (performs.Unpin f) answer = refl
-element_destroys d performs.Unknown answer = refl
+base_destroys : (d : ℕ) (new : Option ℕ) (rose : Bool) → (of_base d new rose).destroys ≡ None
+base_destroys d None rose = refl
+base_destroys d (Some f) rose = refl
 
--- so ends no turn of a vCPU of the machine
-abbrev Spared : PortValue → Result (Unit {0}) Stop → Type 0
-Spared v answer = (to : ℕ) → IsUnhindered v.post.machine (end_of to answer)
+element_destroys : (n : Machine) (s d : ℕ) (e : Element) (awaited : Option ℕ) (answer : Result (Unit {0}) Stop) → (elements.ext_request n s d e awaited answer).destroys ≡ None
+element_destroys n s d (performs.Pin f level) awaited answer = refl
+element_destroys n s d (performs.Unpin f) awaited answer = refl
+element_destroys n s d (performs.NewBase f) awaited answer = refl
+element_destroys n s d (performs.NewUserBase f) awaited answer = base_destroys d (user_frame f) (may_rise answer)
+element_destroys n s d performs.FlushLocal awaited answer = refl
+element_destroys n s d (performs.Invalidate va) awaited answer = refl
+element_destroys n s d (performs.FlushVcpus mask) awaited answer = refl
+element_destroys n s d performs.Unknown awaited answer = refl
+
+-- no turn of a vCPU of the machine is paused so
+abbrev Spared : {A : Type 0} → PortValue → Result A Stop → Type 0
+Spared v (Err (Paused x)) = IsUnhindered v.post.machine (ends.Paused x)
+Spared v _ = Unit {0}
+
+spared_end : (v : PortValue) (to : ℕ) (answer : Result ℕ Stop) → Spared v answer → IsUnhindered v.post.machine (end_of to answer)
+spared_end v to (Ok value) s = tt
+spared_end v to (Err (Refused x)) s = tt
+spared_end v to (Err (Paused x)) s = s
+
+valued_spared : (v : PortValue) (ended : Result (Unit {0}) Stop) (answer : Result ℕ Stop) → answer ≡ valued ended → Spared v ended → Spared v answer
+valued_spared v (Ok done) answer is s = rw is tt
+valued_spared v (Err (Refused x)) answer is s = rw is tt
+valued_spared v (Err (Paused x)) answer is s = rw is s
 
 -- one that is alone, and of its machine
 record IsSpared (v : PortValue) : Type 0 where
@@ -164,17 +205,19 @@ module _ (stays : AloneStays) (neither : NeitherLostNorBusy) (nobody : NobodyWai
       ]
 
   -- a call that destroys nothing
-  call_spared : (v w : PortValue) (r : Request) (answer : Result (Unit {0}) Stop) → r.destroys ≡ None → IsSpared v → IfErr answer (λ e. Stops v w r e) → Spared v answer
-  call_spared v w r (Ok done) kept s stops to = tt
-  call_spared v w r (Err (Refused x)) kept s stops to = tt
-  call_spared v w r (Err (Paused x)) kept s stops to = paused_for v w r x kept s stops
+  call_spared : {A : Type 0} (v w : PortValue) (r : Request) (answer : Result A Stop) → r.destroys ≡ None → IsSpared v → IfErr answer (λ e. Stops v w r e) → Spared v answer
+  call_spared v w r (Ok done) kept s stops = tt
+  call_spared v w r (Err (Refused x)) kept s stops = tt
+  call_spared v w r (Err (Paused x)) kept s stops = paused_for v w r x kept s stops
 
   -- behind steps of the own
   spared_on : (v u : PortValue) → Came v u → IsSpared v → IsSpared u
   spared_on v u came s = record { alone = stays v u s.alone came; real = subst (λ (q : Post). q.vcpu < length q.machine.vcpu_domain) (sym (came_post v u came)) s.real }
 
   spared_back : (v u : PortValue) (answer : Result (Unit {0}) Stop) → Came v u → Spared u answer → Spared v answer
-  spared_back v u answer came s to = subst (λ (q : Post). IsUnhindered q.machine (end_of to answer)) (came_post v u came) (s to)
+  spared_back v u (Ok done) came s = tt
+  spared_back v u (Err (Refused x)) came s = tt
+  spared_back v u (Err (Paused x)) came s = subst (λ (q : Post). IsUnhindered q.machine (ends.Paused x)) (came_post v u came) s
 
   settles_spared : (v w : PortValue) (answers : List Bool) (answer : Result (Unit {0}) Stop) → IsSpared v → Settles v w answers answer → Spared v answer
   settles_spared v w answers answer s settles = call_spared v w (of_settle 0 0 answer) answer refl s (settles.stops 0 0)
@@ -182,8 +225,10 @@ module _ (stays : AloneStays) (neither : NeitherLostNorBusy) (nobody : NobodyWai
   updates_spared : (o : Owners) (e : updating.Element) (v w : PortValue) (answers : List Bool) (answer : Result (Unit {0}) Stop) → IsSpared v → Updates o e v w answers answer → Spared v answer
   updates_spared o e v w answers answer s u = call_spared v w (pairs.update_request o e answer) answer (pair_destroys o e answer) s u.stops
 
-  performs_spared : (d : ℕ) (e : Element) (v w : PortValue) (answers : List Bool) (answer : Result (Unit {0}) Stop) → IsSpared v → Performs d e v w answers answer → Spared v answer
-  performs_spared d e v w answers answer s p = call_spared v w (elements.ext_request d e answer) answer (element_destroys d e answer) s p.stops
+  performs_spared : (d : ℕ) (e : Element) (awaited : Option ℕ) (v w : PortValue) (answers : List Bool) (answer : Result (Unit {0}) Stop) → IsSpared v → Performs d e awaited v w answers answer → Spared v answer
+  performs_spared d e awaited v w answers answer s p =
+      let n = v.post.machine in
+      call_spared v w (elements.ext_request n v.post.vcpu d e awaited answer) answer (element_destroys n v.post.vcpu d e awaited answer) s p.stops
 
   module _ (P : PortValue → PortValue → List Bool → Result (Unit {0}) Stop → Type 0) (spares : (v w : PortValue) (answers : List Bool) (answer : Result (Unit {0}) Stop) → IsSpared v → P v w answers answer → Spared v answer) where
     behind_spared : (v w : PortValue) (answers : List Bool) (answer : Result (Unit {0}) Stop) → IsSpared v → SettlesFirst P v w answers answer → Spared v answer
@@ -196,46 +241,56 @@ module _ (stays : AloneStays) (neither : NeitherLostNorBusy) (nobody : NobodyWai
   pair_spared o None v w answers answer s f = absurd f
   pair_spared o (Some p) v w answers answer s f = behind_spared (Updates o (pairs.element_of p)) (updates_spared o (pairs.element_of p)) v w answers answer s f
 
-  ext_spared : (d : ℕ) (x : Option ExtOp) (v w : PortValue) (answers : List Bool) (answer : Result (Unit {0}) Stop) → IsSpared v → FitsExt d x v w answers answer → Spared v answer
-  ext_spared d None v w answers answer s f = absurd f
-  ext_spared d (Some op) v w answers answer s f = behind_spared (Performs d (elements.ext_element op)) (performs_spared d (elements.ext_element op)) v w answers answer s f
+  ext_spared : (d : ℕ) (awaited : Option ℕ) (x : Option ExtOp) (v w : PortValue) (answers : List Bool) (answer : Result (Unit {0}) Stop) → IsSpared v → FitsExt d awaited x v w answers answer → Spared v answer
+  ext_spared d awaited None v w answers answer s f = absurd f
+  ext_spared d awaited (Some op) v w answers answer s f =
+      behind_spared (Performs d (elements.ext_element op) awaited) (performs_spared d (elements.ext_element op) awaited) v w answers answer s f
 
   list_spared : (fits : Fitting) → ((k : ℕ) (v w : PortValue) (answers : List Bool) (answer : Result (Unit {0}) Stop) → fits k v w answers answer → Came v w) →
       ((k : ℕ) (v w : PortValue) (answers : List Bool) (answer : Result (Unit {0}) Stop) → IsSpared v → fits k v w answers answer → Spared v answer) →
       (count from : ℕ) (v : PortValue) (to : ℕ) (w : PortValue) (answers : List Bool) (answer : Result (Unit {0}) Stop) → IsSpared v → WorksOn fits count from v to w answers answer → Spared v answer
-  list_spared fits comes spares count from v _ _ _ _ s (all_done same) = λ to. tt
-  list_spared fits comes spares count from v _ _ _ _ s (last_done k u w answers asked before f at) = λ to. tt
-  list_spared fits comes spares count from v _ _ _ _ s (due k u w answers asked before f less) = λ to. tt
+  list_spared fits comes spares count from v _ _ _ _ s (all_done same) = tt
+  list_spared fits comes spares count from v _ _ _ _ s (last_done k u w answers asked before f at) = tt
+  list_spared fits comes spares count from v _ _ _ _ s (due k u w answers asked before f less) = tt
   list_spared fits comes spares count from v _ _ _ _ s (stopped k u w answers asked e before f less) =
       let came = did_came fits comes count from v k u answers before in
       spared_back v u (Err e) came (spares k u w asked (Err e) (spared_on v u came s) f)
 
-  refused_whole : (v : PortValue) (x : Refusal) (answer : Result (Unit {0}) Stop) → answer ≡ Err (Refused x) → Spared v answer
-  refused_whole v x answer e to = rw e tt
+  refused_whole : {A : Type 0} (v : PortValue) (x : Refusal) (answer : Result A Stop) → answer ≡ Err (Refused x) → Spared v answer
+  refused_whole v x answer e = rw e tt
 
   owned_spared : (d foreign : ℕ) (list : List Pair) (v : PortValue) (from to : ℕ) (w : PortValue) (answers : List Bool) (answer : Result (Unit {0}) Stop) → IsSpared v → WorksOwned d foreign list v from to w answers answer → Spared v answer
   owned_spared d foreign list v from _ _ _ _ s (working.WorksOwned.long to w answers answer above whole) = refused_whole v _ answer whole.refused
-  owned_spared d foreign list v from _ _ _ _ s (working.WorksOwned.none empty) = λ to. tt
-  owned_spared d foreign list v from _ _ _ _ s (working.WorksOwned.unowned w x some most finds) = λ to. tt
+  owned_spared d foreign list v from _ _ _ _ s (working.WorksOwned.none empty) = tt
+  owned_spared d foreign list v from _ _ _ _ s (working.WorksOwned.unowned w x some most finds) = tt
   owned_spared d foreign list v from _ _ _ _ s (working.WorksOwned.owned to u w o answers answer some most finds on) =
       let came = owners_came v u d foreign (Ok o) finds in
       spared_back v u answer came
       (list_spared (PairFits o list) (pairs_came o list) (λ k x y asked a sp f. pair_spared o (slice_get list k) x y asked a sp f) (length list) from u to w answers answer (spared_on v u came s) on)
 
-  works_spared : (d : ℕ) (o : Option OpList) (v w : PortValue) (from to : ℕ) (answers : List Bool) (answer : Result (Unit {0}) Stop) → IsSpared v → Works d o v from to w answers answer → Spared v answer
-  works_spared d None v w from to answers answer s a = refused_whole v _ answer a.refused
-  works_spared d (Some (OfPairs foreign list)) v w from to answers answer s a = owned_spared d foreign list v from to w answers answer s a
-  works_spared d (Some (OfExt list)) v w from to answers answer s (inl a) = refused_whole v _ answer a.1.refused
-  works_spared d (Some (OfExt list)) v w from to answers answer s (inr a) =
-      list_spared (ExtFits d list) (exts_came d list) (λ k x y asked b sp f. ext_spared d (slice_get list k) x y asked b sp f) (length list) from v to w answers answer s a.1
+  through_spared : (d : ℕ) (list : List ExtOp) (from : ℕ) (awaited : Option ℕ) (v w : PortValue) (to : ℕ) (answers : List Bool) (answer : Result (Unit {0}) Stop) → IsSpared v →
+      WorksThrough (ExtFits d list from awaited) (length list) v from to w answers answer → Spared v answer
+  through_spared d list from awaited v w to answers answer s (inl a) = refused_whole v _ answer a.1.refused
+  through_spared d list from awaited v w to answers answer s (inr a) =
+      list_spared (ExtFits d list from awaited) (exts_came d list from awaited) (λ k x y asked b sp f. ext_spared d (awaited_for from awaited k) (slice_get list k) x y asked b sp f) (length list) from v to w answers answer
+      s a.1
+
+  works_spared : (d : ℕ) (o : Option Task) (awaited : Option ℕ) (v w : PortValue) (from to : ℕ) (answers : List Bool) (answer : Result ℕ Stop) → IsSpared v → Works d o awaited v from to w answers answer → Spared v answer
+  works_spared d None awaited v w from to answers answer s a = refused_whole v _ answer a.refused
+  works_spared d (Some (OfPairs foreign list)) awaited v w from to answers answer s a =
+      valued_spared v a.ended answer a.answer_is (owned_spared d foreign list v from to w answers a.ended s a.works)
+  works_spared d (Some (OfExt list)) awaited v w from to answers answer s a = valued_spared v a.ended answer a.answer_is (through_spared d list from awaited v w to answers a.ended s a.works)
+  works_spared d (Some (OfRead user va)) awaited v w from to answers answer s a = call_spared v w (of_read va) answer refl s a.stops
+  works_spared d (Some (OfWrite user va val)) awaited v w from to answers answer s a =
+      valued_spared v a.ended answer a.answer_is (call_spared v w (of_write v user va) a.ended refl s a.works.stops)
 
   does_spared : (c : Processing) (o : Option Op) (c2 : Processing) (v w : PortValue) (answers : List Bool) (end : TurnEnd) → IsSpared v → DoesNext c o c2 v w answers end → IsUnhindered v.post.machine end
   does_spared c (Some op) c2 v w answers end s d =
-      subst (IsUnhindered v.post.machine) (sym d.end_is) (works_spared c.domain (list_of op) v w c.done d.to answers d.answer s d.works d.to)
+      subst (IsUnhindered v.post.machine) (sym d.end_is) (spared_end v d.to d.answer (works_spared c.domain (task_of op) c.awaited v w c.done d.to answers d.answer s d.works))
   does_spared c None c2 v w answers end s d = subst (IsUnhindered v.post.machine) (sym d.end_is) tt
 
   goes_spared : (c : Processing) (o : Option Op) (c2 : Processing) (v w : PortValue) (answers : List Bool) (end : TurnEnd) → IsSpared v → DoesTurn c o v c2 w answers end → IsUnhindered v.post.machine end
-  goes_spared c o _ v _ _ _ s (turning.unsettled w answers p settles) = settles_spared v w answers (Err (Paused p)) s settles c.done
+  goes_spared c o _ v _ _ _ s (turning.unsettled w answers p settles) = settles_spared v w answers (Err (Paused p)) s settles
   goes_spared c o _ v _ _ _ s (turning.settled u w c2 early answers end settles d) =
       let came = settles_came v u early (Ok tt) settles in
       subst (λ (q : Post). IsUnhindered q.machine end) (came_post v u came) (does_spared c o c2 u w answers end (spared_on v u came s) d)

@@ -7,5 +7,6 @@ mod Asking
 mod Stopping
 mod Starting
 pub mod Reaching
+mod Replaying
 mod Statuses
 mod Pacing

@@ -14,11 +14,13 @@ use Rattle.xp_board.specs.Readings.{domain_of}
 use Rattle.xp_board.specs.Hands.{IsEmptyHand}
 use Rattle.xp_board.specs.Sound.{SoundState, hand_of}
 use Rattle.xp_board.specs.Told.{PortValue, Story, Goes, run_or}
+use Rattle.answer_fits.specs.Reasons.{HadClock}
 use Rattle.answer_laws.specs.Alone.{IsAlone}
+use Rattle.mmuext_ops.specs.Elements.{KnowsAwaited}
 use Rattle.shared_board.specs.Board.{Board, port_value}
 use Rattle.vcpu_turn.specs.Cpus.{Processing}
 use Rattle.vcpu_turn.specs.Turning.{IsOf, Runs}
-use Rattle.xp_machine.specs.Cpus.{AreShort, IsShort}
+use Rattle.vcpu_runners.specs.Cpus.{AreShort, IsShort}
 use Rattle.xp_machine.specs.Pieces.{Leads}
 use Rattle.xp_machine.specs.Ready.{Ready}
 use Rattle.xp_machine.proofs.Walking.{Walked, walked}
@@ -64,9 +66,15 @@ pub same_story : (b b2 : Board) (s lender : ℕ) → port_value b2 s lender ≡ 
 same_story b b2 s lender same = ap (λ (x : PortValue). story_in b.story x.told) same
 
 -- ---- each port is still that of its vCPU
+-- what a wait goes on with is known by the machine and the hand
+awaited_known : (v w : PortValue) (awaited : Option ℕ) → w.post.machine ≡ v.post.machine → w.holdings ≡ v.holdings → KnowsAwaited v awaited → KnowsAwaited w awaited
+awaited_known v w None machine hand known = tt
+awaited_known v w (Some stamp) machine hand known =
+    subst (λ (y : Machine × Holdings). HadClock y.0 stamp y.1) (λ i. (sym machine i, sym hand i)) known
+
 of_lender : (b : Board) (s lender other : ℕ) (c : Processing) → IsOf (port_value b s lender) c → IsOf (port_value b s other) c
 of_lender b s lender other c o =
-    record { vcpu = o.vcpu; domain = o.domain; idles = record { empty = o.idles.empty; no_walk = o.idles.no_walk; machine = o.idles.machine }; runs = o.runs }
+    record { vcpu = o.vcpu; domain = o.domain; idles = record { empty = o.idles.empty; no_walk = o.idles.no_walk; machine = o.idles.machine; warm = o.idles.warm }; awaits = awaited_known (port_value b s lender) (port_value b s other) c.awaited refl refl o.awaits; runs = o.runs }
 
 still_runs : (b b2 : Board) (t lender : ℕ) → b2.machine ≡ b.machine → b2.story.opening ≡ b.story.opening → hand_of b2.story.hands t ≡ hand_of b.story.hands t → Runs (port_value b t lender) →
     Runs (port_value b2 t lender)
@@ -82,7 +90,9 @@ of_other b b2 t lender c machine opening hand o =
         empty = subst IsEmptyHand (sym hand) o.idles.empty;
         no_walk = ap (λ (h : Holdings). h.walk) hand ∙ o.idles.no_walk;
         machine = subst IsMachine (sym machine) o.idles.machine;
+        warm = ap (λ (h : Holdings). h.cold) hand ∙ o.idles.warm;
       };
+      awaits = awaited_known (port_value b t lender) (port_value b2 t lender) c.awaited machine hand o.awaits;
       runs = λ works. still_runs b b2 t lender machine opening hand (o.runs works);
     }
 

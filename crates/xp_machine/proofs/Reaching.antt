@@ -23,8 +23,9 @@ use Rattle.shared_board.specs.Board.{Board, opened_story, port_value, state_of}
 use Rattle.shared_board.proofs.Opened.{start_sound}
 use Rattle.vcpu_turn.specs.Cpus.{Processing, fresh}
 use Rattle.vcpu_turn.specs.Turning.{IsOf}
-use Rattle.xp_machine.specs.Cpus.{AreShort, IsShort, order, first_cpu, first_cpus}
-use Rattle.xp_machine.specs.Gates.{Gate}
+use Rattle.vcpu_runners.specs.Cpus.{AreShort, IsShort, first_cpu, first_cpus}
+use Rattle.xp_machine.specs.Cpus.{order}
+use Rattle.vcpu_runners.specs.Gates.{Gate}
 use Rattle.xp_machine.specs.Ran.{RanTrace, Closes, first_gates, report_at}
 use Rattle.xp_machine.specs.Ready.{Ready, TakesFresh}
 use Rattle.xp_machine.specs.Turns.{Stage, WorksOff, stage}
@@ -38,14 +39,14 @@ if_ok (Ok x) P Q f p = f x p
 if_ok (Err e) P Q f p = tt
 
 -- ---- the board before the first turn
-empty_idles : IsEmptyHand empty
+pub empty_idles : IsEmptyHand empty
 empty_idles = record { refs = refl; typed = refl; works = refl; locks = refl; ending = refl; claimed = refl; raised = refl; credits = refl; looking = refl }
 
-runs_at_first : (t : Trace) (v : ℕ) → opening_at t (run_of v) ≡ 0
+pub runs_at_first : (t : Trace) (v : ℕ) → opening_at t (run_of v) ≡ 0
 unfolding opening_at
 runs_at_first t v = refl
 
-first_at : (n : Machine) (scripts : List (List Op)) (v : ℕ) (c : Processing) → slice_get (first_cpus n scripts) v ≡ Some c → (script : List Op) × (c ≡ fresh v (domain_of n v) script)
+pub first_at : (n : Machine) (scripts : List (List Op)) (v : ℕ) (c : Processing) → slice_get (first_cpus n scripts) v ≡ Some c → (script : List Op) × (c ≡ fresh v (domain_of n v) script)
 unfolding first_cpus
 first_at n scripts v c at =
     let numbered = enumerate_from 0 scripts in
@@ -68,7 +69,9 @@ takes_fresh t b opened is opening machine story v lender script real =
         empty = subst IsEmptyHand (sym (get_or-replicate (length n.vcpu_domain) v empty empty there)) empty_idles;
         no_walk = ap (λ (h : Holdings). h.walk) (get_or-replicate (length n.vcpu_domain) v empty empty there);
         machine = is;
+        warm = ap (λ (h : Holdings). h.cold) (get_or-replicate (length n.vcpu_domain) v empty empty there);
       };
+      awaits = tt;
       runs = λ works.
           (λ i. run_or (memory (sizes_of n) opened (run_of v)) (get_or-replicate (length n.vcpu_domain) v empty empty there i).run)
           ∙ opening.places (run_of v) (vcpu_there (sizes_of n) v 6 there (lit< tt)) ∙ runs_at_first t v;

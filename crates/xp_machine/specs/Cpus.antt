@@ -1,11 +1,7 @@
--- The vCPUs of a trace, and the order of their turns.
-use Rattle.std.specs.Prelude.{ℕ, ◌^◌, ◌<◌, All, List, length, map, replicate}
-use Rattle.std.specs.List.{enumerate_from, flat_map}
-use Rattle.xp_words.specs.Machine.{Machine}
-use Rattle.xp_words.specs.declared.ops.Op.{Op}
-use Rattle.xp_board.specs.Readings.{domain_of}
+-- The order of the turns of a trace.
+use Rattle.std.specs.Prelude.{ℕ, List, replicate}
+use Rattle.std.specs.List.{flat_map}
 use Rattle.trace_text.specs.declared.trace.TurnRun.{TurnRun}
-use Rattle.vcpu_turn.specs.Cpus.{Processing, fresh}
 
 abbrev pub turns_in : TurnRun → List ℕ
 turns_in r = replicate r.count r.vcpu
@@ -13,17 +9,3 @@ turns_in r = replicate r.count r.vcpu
 -- the vCPUs in the order of the turns that a trace asks for
 unfoldable pub order : List TurnRun → List ℕ
 order runs = flat_map turns_in runs
-
-abbrev pub first_cpu : Machine → ℕ × List Op → Processing
-first_cpu n p = fresh p.0 (domain_of n p.0) p.1
-
--- the vCPUs of a machine with these scripts before their first turn
-unfoldable pub first_cpus : Machine → List (List Op) → List Processing
-first_cpus n scripts = map (first_cpu n) (enumerate_from 0 scripts)
-
--- a script whose operations a log line can number
-abbrev pub IsShort : Processing → Type 0
-IsShort c = length c.script < 2 ^ 32
-
-abbrev pub AreShort : List Processing → Type 0
-AreShort cpus = All IsShort cpus

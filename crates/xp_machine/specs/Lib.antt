@@ -1,11 +1,10 @@
 pub mod Cpus
-pub mod Gates
 pub mod Outcome
 pub mod Pieces
 pub mod Ran
 pub mod Ready
+pub mod Replay
 pub mod Rows
-pub mod Runners
 pub mod Texts
 pub mod Turns
 pub mod Unpins

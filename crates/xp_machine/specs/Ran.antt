@@ -12,8 +12,9 @@ use Rattle.xp_board.specs.Sound.{hand_of, SoundState, SoundWords}
 use Rattle.xp_board.specs.Runs as runs
 use Rattle.shared_board.specs.Board.{opened_story, state_of}
 use Rattle.vcpu_turn.specs.Cpus.{Processing, pending_of}
-use Rattle.xp_machine.specs.Cpus.{order, first_cpus}
-use Rattle.xp_machine.specs.Gates.{Gate}
+use Rattle.vcpu_runners.specs.Cpus.{first_cpus}
+use Rattle.xp_machine.specs.Cpus.{order}
+use Rattle.vcpu_runners.specs.Gates.{Gate}
 use Rattle.xp_machine.specs.Turns.{Stage, stage, WorksOff}
 
 -- gate v is that of vCPU v, and the further ones are let go

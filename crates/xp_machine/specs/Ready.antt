@@ -7,7 +7,7 @@ use Rattle.xp_board.specs.Sound.{SoundState}
 use Rattle.shared_board.specs.Board.{Board, port_value}
 use Rattle.vcpu_turn.specs.Cpus.{Processing, fresh}
 use Rattle.vcpu_turn.specs.Turning.{IsOf}
-use Rattle.xp_machine.specs.Cpus.{AreShort}
+use Rattle.vcpu_runners.specs.Cpus.{AreShort}
 
 -- The words and hands are sound. There is one vCPU for each vCPU. It idles, and unless it is retired it runs, whoever lends it
 -- the board.

@@ -1,23 +1,13 @@
--- What a row of runners holds, under short names.
-use Rattle.std.specs.Prelude.{List, map, Option}
+-- What a board and a row of runners hold, under a short name.
+use Rattle.std.specs.Prelude.{List}
 use Rattle.std.specs.declared.alloc.Global.{Global}
 use Rattle.std.specs.declared.dyn_box.DynBox.{DynBox}
 use Rattle.shared_board.specs.Board.{Board}
-use Rattle.vcpu_turn.specs.Cpus.{Processing}
-use Rattle.xp_machine.specs.declared.runner.Runner.{Runner}
-use Rattle.xp_machine.specs.Gates.{Gate, gate_in}
+use Rattle.vcpu_runners.specs.declared.runner.Runner.{Runner}
+use Rattle.vcpu_runners.specs.Gates.{Gate}
+use Rattle.vcpu_runners.specs.Rows.{cpus_of, gates_of}
 use Rattle.xp_machine.specs.Turns.{Stage, stage}
 
--- V and G say what the box of a gate holds: its vtable, and the values that this vtable serves.
-
--- their vCPUs
-abbrev pub cpus_of : {V : Type 0} {G : V → Type 0} → List (Runner V G) → List Processing
-cpus_of runners = map (λ s. s.cpu) runners
-
--- the gates of boxes, by what these tell
-abbrev pub gates_of : {V : Type 0} {G : V → Type 0} → (DynBox V Global G → Gate) → List (Runner V G) → List (Option Gate)
-gates_of gate runners = map (λ s. gate_in gate s.gate) runners
-
--- the board, how far their vCPUs have come, and their gates
+-- The board, how far their vCPUs have come, and their gates. V and G say what the box of a gate holds.
 abbrev pub stage_of : {V : Type 0} {G : V → Type 0} → (DynBox V Global G → Gate) → Board → List (Runner V G) → Stage
 stage_of gate b runners = stage b.story (cpus_of runners) (gates_of gate runners)

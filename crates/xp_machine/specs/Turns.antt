@@ -12,7 +12,7 @@ use Rattle.vcpu_turn.specs.declared.cpu.TurnEnd.TheVariants as ends
 use Rattle.vcpu_turn.specs.Cpus.{Processing}
 use Rattle.vcpu_turn.specs.Turning.{is_due}
 use Rattle.vcpu_turn.specs.Turning as turning
-use Rattle.xp_machine.specs.Gates.{Gate, IsConsulted}
+use Rattle.vcpu_runners.specs.Gates.{Gate, IsConsulted}
 use Rattle.xp_machine.specs.Pieces.{Leads}
 
 -- the list of steps, the words and the hands of the board; how far the vCPUs have come; and the gate of each, until it lets it go

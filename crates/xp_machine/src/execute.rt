@@ -1,26 +1,30 @@
 ghost use Rattle.std.specs.Prelude.{◌≡◌, ◌≤◌, length, map, vec_len, IfOk};
-ghost use Rattle.xp_words.specs.Places.{sizes_of};
+ghost use Rattle.xp_words.specs.Places.{size, sizes_of};
+ghost use Rattle.report_text.specs.ReportOf.{report_of};
 ghost use Rattle.trace_text.specs.WellFormed.{IsWellFormed};
-ghost use Rattle.xp_machine.specs.Cpus.{AreShort, first_cpus};
-ghost use Rattle.xp_machine.specs.Gates.{gate_of};
-ghost use Rattle.xp_machine.specs.Ran.{Closes, RanTrace, first_gates};
-ghost use Rattle.xp_machine.specs.Rows.{cpus_of, gates_of, stage_of};
+ghost use Rattle.vcpu_turn.specs.Cpus.{pending_of};
+ghost use Rattle.vcpu_runners.specs.Cpus.{AreShort, first_cpus};
+ghost use Rattle.vcpu_runners.specs.Gates.{gate_of, in_box};
+ghost use Rattle.xp_machine.specs.Ran.{Closes, RanTrace, first_gates, log_of};
+ghost use Rattle.vcpu_runners.specs.Rows.{cpus_of, gates_of};
+ghost use Rattle.xp_machine.specs.Rows.{stage_of};
 
-use crate::runner::Runner;
 use crate::turns::run_all;
 use machine_build::opening;
 use opening_rule::opening_words_are_sound;
 use report_text::report;
 use shared_board::PlainBoard;
 use sound_rule::{a_run_leaves_it_safe, rested_words_are_sound};
+use sparse_words::SparseWords;
 use std::alloc::{AllocError, Global};
 use trace_text::{ScriptList, Trace};
+use vcpu_runners::Runner;
 use vcpu_turn::Cpu;
 use xp_preempt::Preempt;
 use xp_words::Layout;
 
 // The vCPUs before their first turn, each with its gate. Gates that are left over are let go.
-fn first_runners(
+pub(crate) fn first_runners(
     alloc: Global,
     layout: &Layout,
     scripts: ScriptList,
@@ -41,11 +45,17 @@ fn first_runners(
     Ok(runners)
 }
 
-// The report of the board and of the vCPUs' logs.
-fn closing(alloc: Global, board: PlainBoard, runners: Vec<Runner>) -> Result<Vec<u8>, AllocError>
-    requires each { length runners.items ≡ (sizes_of board.machine).vcpus }
+// The report of these words and of the vCPUs' logs.
+pub(crate) fn report_with(
+    alloc: Global,
+    layout: &Layout,
+    words: &SparseWords,
+    runners: Vec<Runner>,
+) -> Result<Vec<u8>, AllocError>
+    requires words { length words.now ≡ size (sizes_of layout.now) }
+    requires each { length runners.items ≡ (sizes_of layout.now).vcpus }
     requires short { AreShort (cpus_of runners.items) }
-    ensures { IfOk result (λ v. Closes board.machine board.story.opening (stage_of (gate_of calm paces count_asks says) board runners.items) v.items) }
+    ensures { IfOk result (λ v. v.items ≡ report_of layout.now words.now (map log_of (cpus_of runners.items)) (map pending_of (cpus_of runners.items))) }
 {
     let mut logs = Vec::new(alloc);
     let mut pending = Vec::new(alloc);
@@ -54,9 +64,18 @@ fn closing(alloc: Global, board: PlainBoard, runners: Vec<Runner>) -> Result<Vec
         pending.push(cpu.pending())?;
         logs.push(cpu.into_log())?;
     }
+    report(alloc, layout, words, &logs, &pending)
+}
+
+// The report of the board and of the vCPUs' logs.
+fn closing(alloc: Global, board: PlainBoard, runners: Vec<Runner>) -> Result<Vec<u8>, AllocError>
+    requires each { length runners.items ≡ (sizes_of board.machine).vcpus }
+    requires short { AreShort (cpus_of runners.items) }
+    ensures { IfOk result (λ v. Closes board.machine board.story.opening (stage_of (in_box (gate_of calm paces count_asks says)) board runners.items) v.items) }
+{
     let layout = board.layout().copy();
     let words = board.into_words();
-    report(alloc, &layout, &words, &logs, &pending)
+    report_with(alloc, &layout, &words, runners)
 }
 
 /// Runs a trace: the machine is made, the turns are taken, the vCPUs stop, and the report is written out. The text is

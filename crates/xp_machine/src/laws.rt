@@ -5,12 +5,12 @@ ghost use Rattle.xp_words.specs.declared.ops.ExtOp.{ExtOp};
 ghost use Rattle.xp_words.specs.declared.ops.Op.{Op};
 ghost use Rattle.xp_words.specs.declared.ops.Pair.{Pair};
 ghost use Rattle.xp_preempt.specs.Gates.{Heard, last_ask};
-ghost use Rattle.vcpu_turn.specs.Asking.{AsksNothingWithin, HearsNoWithin, PausesRelease, PausesUnpin, Tried, asks_within, elements_tried};
-ghost use Rattle.vcpu_turn.specs.Cpus.{OfExt, OfPairs, Processing, list_of};
+ghost use Rattle.vcpu_turn.specs.Asking.{AsksNothingWithin, HearsNoWithin, PausesOldBase, PausesRelease, PausesUnpin, Tried, asks_within, elements_tried};
+ghost use Rattle.vcpu_turn.specs.Cpus.{OfExt, OfPairs, Processing, task_of};
 ghost use Rattle.vcpu_turn.specs.Turning.{is_due};
-ghost use Rattle.xp_machine.specs.Gates.{Gate};
+ghost use Rattle.vcpu_runners.specs.Gates.{Gate};
 ghost use Rattle.xp_machine.specs.Turns.{MakesStagedTurn, Stage, StaysWithin};
-ghost use Rattle.xp_machine.specs.Unpins.{ReleasesNothing, list_next};
+ghost use Rattle.xp_machine.specs.Unpins.{ReleasesNothing, task_next};
 
 /// In a turn in which no element is done past a yes the gate of that vCPU says no at each ask, but for the last one where the turn is paused for it.
 pub fn a_turn_hears_no_until_it_pauses()
@@ -23,10 +23,10 @@ pub fn a_turn_stops_for_its_own_gate()
 {}
 
 /// No element is done past a yes in a turn with an operation that releases nothing, nor in one whose elements ask nothing; nor with any list, unless the gate pauses the release
-/// of what the old word of an exchanged entry asked, or of an unpinned frame.
+/// of what the old word of an exchanged entry asked, of an unpinned frame, or of the table that a new base replaces.
 pub fn no_element_is_done_past_a_yes()
-    ensures lists { (n : Machine) (v : ℕ) (c : Processing) (s t : Stage) (m : MakesStagedTurn n v c s t) → ReleasesNothing (list_next (slice_get c.script (length c.log))) → HearsNoWithin (elements_tried m.turn) }
+    ensures lists { (n : Machine) (v : ℕ) (c : Processing) (s t : Stage) (m : MakesStagedTurn n v c s t) → ReleasesNothing (task_next (slice_get c.script (length c.log))) → HearsNoWithin (elements_tried m.turn) }
     ensures silent { (n : Machine) (v : ℕ) (c : Processing) (s t : Stage) (m : MakesStagedTurn n v c s t) → AsksNothingWithin (elements_tried m.turn) → HearsNoWithin (elements_tried m.turn) }
-    ensures updates { (n : Machine) (v : ℕ) (c : Processing) (s t : Stage) (op : Op) (foreign : ℕ) (pairs : List Pair) (m : MakesStagedTurn n v c s t) → slice_get c.script (length c.log) ≡ Some op → list_of op ≡ Some (OfPairs foreign pairs) → All (λ (x : Tried). PausesRelease pairs x → ⊥) (elements_tried m.turn) → HearsNoWithin (elements_tried m.turn) }
-    ensures unpins { (n : Machine) (v : ℕ) (c : Processing) (s t : Stage) (op : Op) (list : List ExtOp) (m : MakesStagedTurn n v c s t) → slice_get c.script (length c.log) ≡ Some op → list_of op ≡ Some (OfExt list) → All (λ (x : Tried). PausesUnpin list x → ⊥) (elements_tried m.turn) → HearsNoWithin (elements_tried m.turn) }
+    ensures updates { (n : Machine) (v : ℕ) (c : Processing) (s t : Stage) (op : Op) (foreign : ℕ) (pairs : List Pair) (m : MakesStagedTurn n v c s t) → slice_get c.script (length c.log) ≡ Some op → task_of op ≡ Some (OfPairs foreign pairs) → All (λ (x : Tried). PausesRelease pairs x → ⊥) (elements_tried m.turn) → HearsNoWithin (elements_tried m.turn) }
+    ensures unpins { (n : Machine) (v : ℕ) (c : Processing) (s t : Stage) (op : Op) (list : List ExtOp) (m : MakesStagedTurn n v c s t) → slice_get c.script (length c.log) ≡ Some op → task_of op ≡ Some (OfExt list) → All (λ (x : Tried). PausesUnpin list x → ⊥) (elements_tried m.turn) → All (λ (x : Tried). PausesOldBase list x → ⊥) (elements_tried m.turn) → HearsNoWithin (elements_tried m.turn) }
 {}

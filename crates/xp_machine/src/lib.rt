@@ -3,12 +3,14 @@
 
 mod execute;
 pub mod laws;
-mod runner;
+mod running;
 mod status;
 mod stops;
 mod texts;
+mod threaded;
 mod top;
 mod turns;
 
 pub use status::Status;
-pub use top::run;
+pub use threaded::replay;
+pub use top::{run, run_serial};

@@ -1,15 +1,18 @@
-ghost use Rattle.std.specs.Prelude.{◌≡◌, ◌≤◌, ◌↔◌, None, map, string_bytes, List, ℕ, length, vec_len, IfOk, IsErrOf};
+ghost use Rattle.std.specs.Prelude.{◌≡◌, ◌≢◌, ◌≤◌, ◌↔◌, ◌⊎◌, None, map, string_bytes, List, ℕ, length, vec_len, IfOk, IsErrOf};
 ghost use Rattle.xp_io.specs.Causes.{Rose};
 ghost use Rattle.trace_text.specs.TraceOf.{trace_of};
-ghost use Rattle.xp_machine.specs.Gates.{ArePaced, Gate, IsPaced, gate_of};
-ghost use Rattle.xp_machine.specs.Outcome.{IsAnswer, IsDue, OutcomeBy};
-ghost use Rattle.command_words.specs.Words.{pace_of};
+ghost use Rattle.vcpu_runners.specs.Gates.{ArePaced, Gate, IsPaced, gate_of};
+ghost use Rattle.xp_machine.specs.Outcome.{IsAnswer, IsDue, Outcome, OutcomeBy, serial_of};
+ghost use Rattle.command_words.specs.Words.{asked_of};
+ghost use Rattle.command_words.specs.declared.asked.Manner.{Manner};
 
-use crate::execute::execute;
+use crate::running::{InThreads, InTurns, Running};
 use crate::status::Status;
 use crate::texts::{bad_text, large_text};
-use command_words::pace_of;
+use command_words::{Manner, asked_of};
 use std::alloc::{AllocError, Global};
+use std::sync::Wait;
+use std::thread::Threads;
 use trace_lines::What;
 use trace_text::{MAX_BYTES, TraceFault, read_trace};
 use xp_io::{ReadAllError, Sink, Source, read_all, write_whole};
@@ -24,17 +27,19 @@ struct Due {
 
 // What is due for the bytes of a trace, which is run with these gates.
 #[tactic(auto, unfolding(crate::specs::Texts::fault_status))]
-fn answer(
+fn answer<M: Running>(
+    running: &M,
     alloc: Global,
     bytes: &[u8],
     gates: Vec<Box<dyn Preempt + Send>>,
 ) -> Result<Due, AllocError>
-    requires { 16 ≤ vec_len gates }
-    ensures { IfOk result (λ d. IsAnswer (map (gate_of calm paces count_asks says) gates.items) (trace_of bytes.now) d.status d.text.items) }
+    requires gates { 16 ≤ vec_len gates }
+    requires crosses { M.crosses }
+    ensures { IfOk result (λ d. IsAnswer M.manner (map (gate_of calm paces count_asks says) gates.items) (trace_of bytes.now) d.status d.text.items) }
 {
     match read_trace(alloc, bytes) {
         Ok(trace) => {
-            let text = execute(alloc, trace, gates)?;
+            let text = running.run_trace(alloc, trace, gates)?;
             Ok(Due {
                 status: Status::Done,
                 text,
@@ -61,7 +66,7 @@ fn answer(
 // What is due for more bytes than a trace may have.
 #[tactic(auto, unfolding(crate::specs::Texts::fault_status, trace_text::specs::TraceOf::trace_of))]
 fn too_long(alloc: Global) -> Result<Due, AllocError>
-    ensures { IfOk result (λ d. (set : List Gate) (bytes : List ℕ) → length bytes ≡ 67108865 → IsAnswer set (trace_of bytes) d.status d.text.items) }
+    ensures { IfOk result (λ d. (manner : Manner) (set : List Gate) (bytes : List ℕ) → length bytes ≡ 67108865 → IsAnswer manner set (trace_of bytes) d.status d.text.items) }
 {
     let text = large_text(alloc, 0, What::Bytes, 67_108_865)?;
     Ok(Due {
@@ -77,18 +82,20 @@ enum Early {
 }
 
 // What is due for what the source gives.
-fn gather<S: Source>(
+fn gather<M: Running, S: Source>(
+    running: &M,
     alloc: Global,
     source: &mut S,
     gates: Vec<Box<dyn Preempt + Send>>,
 ) -> Result<Due, Early>
-    requires { 16 ≤ vec_len gates }
-    ensures due { IfOk result (λ d. IsDue (map (gate_of calm paces count_asks says) gates.items) (S.left source.old) (S.left source.new) d.status d.text.items) }
+    requires gates { 16 ≤ vec_len gates }
+    requires crosses { M.crosses }
+    ensures due { IfOk result (λ d. IsDue M.manner (map (gate_of calm paces count_asks says) gates.items) (S.left source.old) (S.left source.new) d.status d.text.items) }
     ensures failed { IsErrOf result Early.Failed → Rose (S.faults source.old) (S.faults source.new) }
     ensures later { S.faults source.old ≤ S.faults source.new }
 {
     match read_all(alloc, source, MAX_BYTES) {
-        Ok(bytes) => match answer(alloc, &bytes, gates) {
+        Ok(bytes) => match answer(running, alloc, &bytes, gates) {
             Ok(due) => Ok(due),
             Err(_) => Err(Early::Memory),
         },
@@ -124,11 +131,38 @@ fn paced(mut gates: Vec<Box<dyn Preempt + Send>>, every: u32) -> Vec<Box<dyn Pre
     gates
 }
 
+// Reads a trace to its end, runs it with these gates, and writes what is due.
+fn run_with<M: Running, S: Source, K: Sink>(
+    running: &M,
+    alloc: Global,
+    source: &mut S,
+    sink: &mut K,
+    gates: Vec<Box<dyn Preempt + Send>>,
+) -> Status
+    requires gates { 16 ≤ vec_len gates }
+    requires crosses { M.crosses }
+    ensures outcome { Outcome M.manner (map (gate_of calm paces count_asks says) gates.items) (S.left source.old) (S.left source.new) (K.taken sink.old) (K.taken sink.new) result }
+    ensures words { result ≢ Status.BadWords }
+    ensures read { result ≡ Status.ReadFault → Rose (S.faults source.old) (S.faults source.new) }
+    ensures write { result ≡ Status.WriteFault → Rose (K.faults sink.old) (K.faults sink.new) }
+{
+    match gather(running, alloc, source, gates) {
+        Err(Early::Failed) => Status::ReadFault,
+        Err(Early::Memory) => Status::Memory,
+        Ok(due) => match write_whole(sink, &due.text) {
+            Ok(()) => due.status,
+            Err(_) => Status::WriteFault,
+        },
+    }
+}
+
 /// Runs a trace: reads it to its end, runs it, and writes what is due. `words` are the words of the command line
-/// without the program's name: `turns`, or `turns --preempt N` or `turns --preempt=N`, which sets the pace of the gates.
-/// Where they are others, nothing is read. Gate v belongs to vCPU v and is let go with it; the further ones are let go at once.
-/// Every call returns.
-pub fn run<S: Source, K: Sink>(
+/// without the program's name: `turns` or `replay`, each perhaps with `--preempt N` or `--preempt=N`, which sets the pace of the gates.
+/// With `turns` one thread takes the turns that the trace asks for; with `replay` each vCPU has a thread of its own and takes turns until it is
+/// retired, so that call returns only where all are. Where the words are others, nothing is read. Gate v belongs to vCPU v and is let go with it;
+/// the further ones are let go at once.
+pub fn run<R: Threads + Wait + Sync, S: Source, K: Sink>(
+    rt: &R,
     alloc: Global,
     words: &[String],
     source: &mut S,
@@ -138,26 +172,49 @@ pub fn run<S: Source, K: Sink>(
     requires gates { 16 ≤ vec_len gates }
 
     // Which bytes were taken, what they spell, and what was written of the text that is due for it.
-    ensures outcome { OutcomeBy (pace_of (map string_bytes words.now)) (map (gate_of calm paces count_asks says) gates.items) (S.left source.old) (S.left source.new) (K.taken sink.old) (K.taken sink.new) result }
+    ensures outcome { OutcomeBy (asked_of (map string_bytes words.now)) (map (gate_of calm paces count_asks says) gates.items) (S.left source.old) (S.left source.new) (K.taken sink.old) (K.taken sink.new) result }
 
     // The words are refused exactly where they ask for no run.
-    ensures words { (result ≡ Status.BadWords) ↔ (pace_of (map string_bytes words.now) ≡ None) }
+    ensures words { (result ≡ Status.BadWords) ↔ (asked_of (map string_bytes words.now) ≡ None) }
 
     // A fault is answered only where its object counted one in this call.
     ensures read { result ≡ Status.ReadFault → Rose (S.faults source.old) (S.faults source.new) }
     ensures write { result ≡ Status.WriteFault → Rose (K.faults sink.old) (K.faults sink.new) }
 {
-    let every = match pace_of(alloc, words) {
-        Ok(Some(every)) => every,
-        Ok(None) => return Status::BadWords,
-        Err(_) => return Status::Memory,
-    };
-    match gather(alloc, source, paced(gates, every)) {
-        Err(Early::Failed) => Status::ReadFault,
-        Err(Early::Memory) => Status::Memory,
-        Ok(due) => match write_whole(sink, &due.text) {
-            Ok(()) => due.status,
-            Err(_) => Status::WriteFault,
+    match asked_of(alloc, words) {
+        Ok(Some(asked)) => {
+            let gates = paced(gates, asked.pace);
+            match asked.manner {
+                Manner::Turns => run_with(&InTurns, alloc, source, sink, gates),
+                Manner::Replay => run_with(&InThreads { rt }, alloc, source, sink, gates),
+            }
+        }
+        Ok(None) => Status::BadWords,
+        Err(_) => Status::Memory,
+    }
+}
+
+/// The same without threads: `replay` is no word that it knows. Every call returns.
+pub fn run_serial<S: Source, K: Sink>(
+    alloc: Global,
+    words: &[String],
+    source: &mut S,
+    sink: &mut K,
+    gates: Vec<Box<dyn Preempt + Send>>,
+) -> Status
+    requires gates { 16 ≤ vec_len gates }
+    ensures outcome { OutcomeBy (serial_of (asked_of (map string_bytes words.now))) (map (gate_of calm paces count_asks says) gates.items) (S.left source.old) (S.left source.new) (K.taken sink.old) (K.taken sink.new) result }
+    ensures words { result ≡ Status.BadWords → serial_of (asked_of (map string_bytes words.now)) ≡ None }
+    ensures known { serial_of (asked_of (map string_bytes words.now)) ≡ None → (result ≡ Status.BadWords) ⊎ (result ≡ Status.Memory) }
+    ensures read { result ≡ Status.ReadFault → Rose (S.faults source.old) (S.faults source.new) }
+    ensures write { result ≡ Status.WriteFault → Rose (K.faults sink.old) (K.faults sink.new) }
+{
+    match asked_of(alloc, words) {
+        Ok(Some(asked)) => match asked.manner {
+            Manner::Turns => run_with(&InTurns, alloc, source, sink, paced(gates, asked.pace)),
+            Manner::Replay => Status::BadWords,
         },
+        Ok(None) => Status::BadWords,
+        Err(_) => Status::Memory,
     }
 }

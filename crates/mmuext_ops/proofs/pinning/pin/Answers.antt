@@ -10,11 +10,10 @@ use Rattle.answer_fits.proofs.Piecing.{serves_came}
 use Rattle.mmuext_ops.specs.Course.{IsPinnedAs}
 use Rattle.level_release.specs.Asking.{is_due_stop}
 use Rattle.mmuext_ops.specs.Elements.{of_pin, told}
-use Rattle.mmuext_ops.specs.declared.element.Element.TheVariants.{Pin}
 use Rattle.mmuext_ops.proofs.Looked.{fields, given_back, look_there, not_referred, put_back, read_some, referred}
 use Rattle.mmuext_ops.proofs.PinCourse.{before_course, gave_ref, live_course, refused_course, unreferred_course}
 use Rattle.mmuext_ops.proofs.Pinned.{acquired_holds, acquired_serves, asks, before_stops, leaves_as, live_hand, live_serves, live_stops, serves_as, stops_as, unacquired_hand, unacquired_stops}
-use Rattle.mmuext_ops.proofs.Rests.{rests_behind, same_due}
+use Rattle.mmuext_ops.proofs.Rests.{rests_pinned, same_due}
 use Rattle.mmuext_ops.proofs.Types.{other_mark, other_type, same_is}
 use Rattle.mmuext_ops.proofs.pinning.pin.Goals.{else-kind-via-then-kind+else-eq, else-kind-via-else-kind}
 use Rattle.mmuext_ops.proofs.pinning.pin.Goals as goal
@@ -87,7 +86,7 @@ returns-then-eq-clause-rests g c =
     let a = g.P.Port.value c.get_ref.new.port in
     let b = g.P.Port.value c.look_kind-found.new.port in
     let p = g.P.Port.value c.put_ref.new.port in
-    rests_behind v p (Pin c.args.f c.args.level) (Err (Refused (AlreadyPinned c.look_kind-found.result))) c.requires.rests (inl (ap quiet (given_back v a b c.args.f c.args.domain c.in_ok-frame.frame c.look_kind-found.result c.in_ok-frame.ensures.frame.0 c.in_ok-frame.ensures.hand c.look_kind-found.ensures.moves c.look_kind-found.ensures.hand p c.put_ref.ensures.hand)))
+    rests_pinned v p c.args.f c.args.level (Err (Refused (AlreadyPinned c.look_kind-found.result))) c.requires.rests (inl (ap quiet (given_back v a b c.args.f c.args.domain c.in_ok-frame.frame c.look_kind-found.result c.in_ok-frame.ensures.frame.0 c.in_ok-frame.ensures.hand c.look_kind-found.ensures.moves c.look_kind-found.ensures.hand p c.put_ref.ensures.hand)))
 
 pub returns-then-eq-clause-course : goal.returns-then-eq-clause-course
 returns-then-eq-clause-course g c =
@@ -143,7 +142,7 @@ returns-in_err-frame-2-clause-rests g c =
     let p = g.P.Port.value c.put_ref.new.port in
     let e = g.P.Port.value c.acquire.new.port in
     let stop = c.in_err-frame-2.field-0.0 in
-    rests_behind v e (Pin c.args.f c.args.level) (Err stop) c.requires.rests (unacquired_hand v p e c.args.f c.args.domain c.args.level (given_back v a b c.args.f c.args.domain c.in_ok-frame.frame c.look_kind-found.result c.in_ok-frame.ensures.frame.0 c.in_ok-frame.ensures.hand c.look_kind-found.ensures.moves c.look_kind-found.ensures.hand p c.put_ref.ensures.hand) c.requires.own stop c.in_err-frame-2.ensures.hand)
+    rests_pinned v e c.args.f c.args.level (Err stop) c.requires.rests (unacquired_hand v p e c.args.f c.args.domain c.args.level (given_back v a b c.args.f c.args.domain c.in_ok-frame.frame c.look_kind-found.result c.in_ok-frame.ensures.frame.0 c.in_ok-frame.ensures.hand c.look_kind-found.ensures.moves c.look_kind-found.ensures.hand p c.put_ref.ensures.hand) c.requires.own stop c.in_err-frame-2.ensures.hand)
 
 pub returns-in_err-frame-2-clause-course : goal.returns-in_err-frame-2-clause-course
 returns-in_err-frame-2-clause-course g c =
@@ -211,7 +210,7 @@ returns-clause-rests g c =
     let p = g.P.Port.value c.put_ref.new.port in
     let e = g.P.Port.value c.acquire.new.port in
     let w = g.P.Port.value c.pin_live.new.port in
-    rests_behind v w (Pin c.args.f c.args.level) c.pin_live.result c.requires.rests (live_hand v p e c.args.f c.args.domain c.args.level (given_back v a b c.args.f c.args.domain c.in_ok-frame.frame c.look_kind-found.result c.in_ok-frame.ensures.frame.0 c.in_ok-frame.ensures.hand c.look_kind-found.ensures.moves c.look_kind-found.ensures.hand p c.put_ref.ensures.hand) c.in_ok-frame-2.frame c.in_ok-frame-2.ensures.frame.0 c.requires.rests c.in_ok-frame-2.ensures.hand w c.pin_live.result c.pin_live.ensures.hand)
+    rests_pinned v w c.args.f c.args.level c.pin_live.result c.requires.rests (live_hand v p e c.args.f c.args.domain c.args.level (given_back v a b c.args.f c.args.domain c.in_ok-frame.frame c.look_kind-found.result c.in_ok-frame.ensures.frame.0 c.in_ok-frame.ensures.hand c.look_kind-found.ensures.moves c.look_kind-found.ensures.hand p c.put_ref.ensures.hand) c.in_ok-frame-2.frame c.in_ok-frame-2.ensures.frame.0 c.requires.rests c.in_ok-frame-2.ensures.hand w c.pin_live.result c.pin_live.ensures.hand)
 
 pub returns-clause-course : goal.returns-clause-course
 returns-clause-course g c =

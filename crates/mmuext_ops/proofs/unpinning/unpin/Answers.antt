@@ -12,13 +12,13 @@ use Rattle.answer_fits.specs.Answers.{missed}
 use Rattle.answer_fits.specs.Asked.{of_back, of_frame}
 use Rattle.answer_fits.proofs.Piecing.{serves_came}
 use Rattle.mmuext_ops.specs.Course.{TakesPinOff}
-use Rattle.mmuext_ops.specs.Elements.{ext_request, told}
-use Rattle.mmuext_ops.specs.declared.element.Element.TheVariants.{Unpin}
+use Rattle.mmuext_ops.specs.Elements.{told}
 use Rattle.mmuext_ops.proofs.Looked.{fields, given_back, look_there, looked, not_referred, put_back, read_some, referred, spelled, written}
 use Rattle.mmuext_ops.proofs.PinCourse.{gave_ref}
 use Rattle.mmuext_ops.proofs.Released.{holds_live, lost_hand, released_hand, released_serves}
-use Rattle.mmuext_ops.proofs.Rests.{rests_behind}
+use Rattle.mmuext_ops.proofs.Rests.{rests_unpinned}
 use Rattle.mmuext_ops.proofs.UnpinCourse.{before_course, lost_course, raced_course, released_course, unreferred_course}
+use Rattle.mmuext_ops.proofs.Within.{of_unpin}
 use Rattle.mmuext_ops.proofs.Unpinned.{asks, before_stops, fits_b, found_some, lost_serves, lost_why, may_unpin, raced_serves, raced_stops, serves_as, stop_is, stops_as, takes_off, unpinned_serves}
 use Rattle.mmuext_ops.proofs.unpinning.unpin.Goals as goal
 
@@ -29,7 +29,7 @@ returns-in_err-frame-clause-serves g c =
     let a = g.P.Port.value c.get_ref.new.port in
     let stop = c.in_err-frame.field-0.0 in
     let answer = err_from_is_err_and c.from_residual.result c.from_residual.ensures.1 in
-    serves_as v a c.args.f c.args.domain c.from_residual.result stop (answer.1 ∙ ap Err answer.2) (referred v c.args.f c.args.domain (ext_request c.args.domain (Unpin c.args.f) (Ok tt)) (asks v c.args.f c.args.domain) a (missed v.post.machine stop) c.in_err-frame.ensures.serves)
+    serves_as v a c.args.f c.args.domain c.from_residual.result stop (answer.1 ∙ ap Err answer.2) (referred v c.args.f c.args.domain (of_unpin c.args.domain c.args.f) (asks v c.args.f c.args.domain) a (missed v.post.machine stop) c.in_err-frame.ensures.serves)
 
 pub returns-in_err-frame-clause-stops : goal.returns-in_err-frame-clause-stops
 returns-in_err-frame-clause-stops g c =
@@ -37,7 +37,7 @@ returns-in_err-frame-clause-stops g c =
     let a = g.P.Port.value c.get_ref.new.port in
     let stop = c.in_err-frame.field-0.0 in
     let answer = err_from_is_err_and c.from_residual.result c.from_residual.ensures.1 in
-    stops_as v a c.args.f c.args.domain c.from_residual.result stop (answer.1 ∙ ap Err answer.2) (not_referred v c.args.f c.args.domain (ext_request c.args.domain (Unpin c.args.f) (Ok tt)) (asks v c.args.f c.args.domain) a stop c.in_err-frame.ensures.stops)
+    stops_as v a c.args.f c.args.domain c.from_residual.result stop (answer.1 ∙ ap Err answer.2) (not_referred v c.args.f c.args.domain (of_unpin c.args.domain c.args.f) (asks v c.args.f c.args.domain) a stop c.in_err-frame.ensures.stops)
 
 pub returns-in_err-frame-clause-course : goal.returns-in_err-frame-clause-course
 returns-in_err-frame-clause-course g c =
@@ -64,7 +64,7 @@ returns-then-not-kind-clause-serves g c =
     let b = g.P.Port.value c.look_kind-found.new.port in
     let p = g.P.Port.value c.put_ref.new.port in
     let x = c.look_kind-found.result in
-    ([], told _ _, put_back v a b c.args.f c.args.domain c.in_ok-frame.frame x c.in_ok-frame.ensures.frame.0 c.in_ok-frame.ensures.hand c.look_kind-found.ensures.moves c.look_kind-found.ensures.hand (ext_request c.args.domain (Unpin c.args.f) (Ok tt)) (asks v c.args.f c.args.domain) c.in_ok-frame.ensures.serves p c.put_ref.ensures.serves)
+    ([], told _ _, put_back v a b c.args.f c.args.domain c.in_ok-frame.frame x c.in_ok-frame.ensures.frame.0 c.in_ok-frame.ensures.hand c.look_kind-found.ensures.moves c.look_kind-found.ensures.hand (of_unpin c.args.domain c.args.f) (asks v c.args.f c.args.domain) c.in_ok-frame.ensures.serves p c.put_ref.ensures.serves)
 
 pub returns-then-not-kind-clause-stops : goal.returns-then-not-kind-clause-stops
 returns-then-not-kind-clause-stops g c =
@@ -92,7 +92,7 @@ returns-then-not-kind-clause-rests g c =
     let b = g.P.Port.value c.look_kind-found.new.port in
     let p = g.P.Port.value c.put_ref.new.port in
     let x = c.look_kind-found.result in
-    rests_behind v p (Unpin c.args.f) (Err (Refused (NotPinned x))) c.requires.rests (ap quiet (given_back v a b c.args.f c.args.domain c.in_ok-frame.frame x c.in_ok-frame.ensures.frame.0 c.in_ok-frame.ensures.hand c.look_kind-found.ensures.moves c.look_kind-found.ensures.hand p c.put_ref.ensures.hand))
+    rests_unpinned v p c.args.f (Err (Refused (NotPinned x))) c.requires.rests (ap quiet (given_back v a b c.args.f c.args.domain c.in_ok-frame.frame x c.in_ok-frame.ensures.frame.0 c.in_ok-frame.ensures.hand c.look_kind-found.ensures.moves c.look_kind-found.ensures.hand p c.put_ref.ensures.hand))
 
 pub returns-then-not-kind-clause-course : goal.returns-then-not-kind-clause-course
 returns-then-not-kind-clause-course g c =
@@ -156,7 +156,7 @@ returns-in-Ok-release-clause-serves g c =
     let x = c.look_kind-found.result in
     let k = c.read_kind-kind.result in
     released_serves v r w c.args.f c.args.domain c.in_ok-frame.frame c.release.result c.in_ok-frame.ensures.frame.0
-    (unpinned_serves v c.args.f c.args.domain a b c.in_ok-frame.frame x c.in_ok-frame.ensures.frame.0 c.in_ok-frame.ensures.hand c.look_kind-found.ensures.moves c.look_kind-found.ensures.hand c.in_ok-frame.ensures.frame.1 k c.read_kind-kind.ensures (serves_came v a (of_frame c.args.f c.args.domain None) [] c.in_ok-frame.ensures.serves) q (kind_write k) c.in-Ok.ensures.moves (not-false k.pinned c.if-not-kind.false) (looked v a b c.args.f c.args.domain c.in_ok-frame.frame x c.in_ok-frame.ensures.frame.0 c.in_ok-frame.ensures.hand c.look_kind-found.ensures.moves c.look_kind-found.ensures.hand (ext_request c.args.domain (Unpin c.args.f) (Ok tt)) (asks v c.args.f c.args.domain) c.in_ok-frame.ensures.serves) r (written v a b c.args.f c.args.domain c.in_ok-frame.frame x c.in_ok-frame.ensures.frame.0 c.in_ok-frame.ensures.hand c.look_kind-found.ensures.moves c.look_kind-found.ensures.hand c.in_ok-frame.ensures.frame.1 k c.read_kind-kind.ensures) c.put_ref-in-Ok.ensures.serves)
+    (unpinned_serves v c.args.f c.args.domain a b c.in_ok-frame.frame x c.in_ok-frame.ensures.frame.0 c.in_ok-frame.ensures.hand c.look_kind-found.ensures.moves c.look_kind-found.ensures.hand c.in_ok-frame.ensures.frame.1 k c.read_kind-kind.ensures (serves_came v a (of_frame c.args.f c.args.domain None) [] c.in_ok-frame.ensures.serves) q (kind_write k) c.in-Ok.ensures.moves (not-false k.pinned c.if-not-kind.false) (looked v a b c.args.f c.args.domain c.in_ok-frame.frame x c.in_ok-frame.ensures.frame.0 c.in_ok-frame.ensures.hand c.look_kind-found.ensures.moves c.look_kind-found.ensures.hand (of_unpin c.args.domain c.args.f) (asks v c.args.f c.args.domain) c.in_ok-frame.ensures.serves) r (written v a b c.args.f c.args.domain c.in_ok-frame.frame x c.in_ok-frame.ensures.frame.0 c.in_ok-frame.ensures.hand c.look_kind-found.ensures.moves c.look_kind-found.ensures.hand c.in_ok-frame.ensures.frame.1 k c.read_kind-kind.ensures) c.put_ref-in-Ok.ensures.serves)
     (c.release.ensures.serves c.args.domain c.args.domain) c.release.ensures.kinds
 
 pub returns-in-Ok-release-clause-hand : goal.returns-in-Ok-release-clause-hand
@@ -179,7 +179,7 @@ returns-in-Ok-release-clause-rests g c =
     let r = g.P.Port.value c.put_ref-in-Ok.new.port in
     let w = g.P.Port.value c.release.new.port in
     let k = c.read_kind-kind.result in
-    rests_behind v w (Unpin c.args.f) (Ok tt) c.requires.rests (released_hand v a b q r c.args.domain c.in_ok-frame.frame c.requires.rests c.in_ok-frame.ensures.hand c.look_kind-found.ensures.hand k c.in-Ok.ensures.hand c.put_ref-in-Ok.ensures.hand w c.args.f c.in_ok-frame.ensures.frame.0 c.release.result c.release.ensures.hand)
+    rests_unpinned v w c.args.f (Ok tt) c.requires.rests (released_hand v a b q r c.args.domain c.in_ok-frame.frame c.requires.rests c.in_ok-frame.ensures.hand c.look_kind-found.ensures.hand k c.in-Ok.ensures.hand c.put_ref-in-Ok.ensures.hand w c.args.f c.in_ok-frame.ensures.frame.0 c.release.result c.release.ensures.hand)
 
 pub returns-in-Ok-release-clause-course : goal.returns-in-Ok-release-clause-course
 returns-in-Ok-release-clause-course g c =
@@ -207,7 +207,7 @@ returns-in-Ok-release-2-clause-serves g c =
     let x = c.look_kind-found.result in
     let k = c.read_kind-kind.result in
     released_serves v r w c.args.f c.args.domain c.in_ok-frame.frame c.release.result c.in_ok-frame.ensures.frame.0
-    (unpinned_serves v c.args.f c.args.domain a b c.in_ok-frame.frame x c.in_ok-frame.ensures.frame.0 c.in_ok-frame.ensures.hand c.look_kind-found.ensures.moves c.look_kind-found.ensures.hand c.in_ok-frame.ensures.frame.1 k c.read_kind-kind.ensures (serves_came v a (of_frame c.args.f c.args.domain None) [] c.in_ok-frame.ensures.serves) q (kind_write k) c.in-Ok.ensures.moves (not-false k.pinned c.if-not-kind.false) (looked v a b c.args.f c.args.domain c.in_ok-frame.frame x c.in_ok-frame.ensures.frame.0 c.in_ok-frame.ensures.hand c.look_kind-found.ensures.moves c.look_kind-found.ensures.hand (ext_request c.args.domain (Unpin c.args.f) (Ok tt)) (asks v c.args.f c.args.domain) c.in_ok-frame.ensures.serves) r (written v a b c.args.f c.args.domain c.in_ok-frame.frame x c.in_ok-frame.ensures.frame.0 c.in_ok-frame.ensures.hand c.look_kind-found.ensures.moves c.look_kind-found.ensures.hand c.in_ok-frame.ensures.frame.1 k c.read_kind-kind.ensures) c.put_ref-in-Ok.ensures.serves)
+    (unpinned_serves v c.args.f c.args.domain a b c.in_ok-frame.frame x c.in_ok-frame.ensures.frame.0 c.in_ok-frame.ensures.hand c.look_kind-found.ensures.moves c.look_kind-found.ensures.hand c.in_ok-frame.ensures.frame.1 k c.read_kind-kind.ensures (serves_came v a (of_frame c.args.f c.args.domain None) [] c.in_ok-frame.ensures.serves) q (kind_write k) c.in-Ok.ensures.moves (not-false k.pinned c.if-not-kind.false) (looked v a b c.args.f c.args.domain c.in_ok-frame.frame x c.in_ok-frame.ensures.frame.0 c.in_ok-frame.ensures.hand c.look_kind-found.ensures.moves c.look_kind-found.ensures.hand (of_unpin c.args.domain c.args.f) (asks v c.args.f c.args.domain) c.in_ok-frame.ensures.serves) r (written v a b c.args.f c.args.domain c.in_ok-frame.frame x c.in_ok-frame.ensures.frame.0 c.in_ok-frame.ensures.hand c.look_kind-found.ensures.moves c.look_kind-found.ensures.hand c.in_ok-frame.ensures.frame.1 k c.read_kind-kind.ensures) c.put_ref-in-Ok.ensures.serves)
     (c.release.ensures.serves c.args.domain c.args.domain) c.release.ensures.kinds
 
 pub returns-in-Ok-release-2-clause-hand : goal.returns-in-Ok-release-2-clause-hand
@@ -230,7 +230,7 @@ returns-in-Ok-release-2-clause-rests g c =
     let r = g.P.Port.value c.put_ref-in-Ok.new.port in
     let w = g.P.Port.value c.release.new.port in
     let k = c.read_kind-kind.result in
-    rests_behind v w (Unpin c.args.f) (Ok tt) c.requires.rests (released_hand v a b q r c.args.domain c.in_ok-frame.frame c.requires.rests c.in_ok-frame.ensures.hand c.look_kind-found.ensures.hand k c.in-Ok.ensures.hand c.put_ref-in-Ok.ensures.hand w c.args.f c.in_ok-frame.ensures.frame.0 c.release.result c.release.ensures.hand)
+    rests_unpinned v w c.args.f (Ok tt) c.requires.rests (released_hand v a b q r c.args.domain c.in_ok-frame.frame c.requires.rests c.in_ok-frame.ensures.hand c.look_kind-found.ensures.hand k c.in-Ok.ensures.hand c.put_ref-in-Ok.ensures.hand w c.args.f c.in_ok-frame.ensures.frame.0 c.release.result c.release.ensures.hand)
 
 pub returns-in-Ok-release-2-clause-course : goal.returns-in-Ok-release-2-clause-course
 returns-in-Ok-release-2-clause-course g c =
@@ -270,7 +270,7 @@ returns-then-read_kind-clause-serves g c =
     let k = c.read_kind-kind.result in
     let n = c.in-Err.found_now in
     lost_serves v c.args.f c.args.domain a b c.in_ok-frame.frame x c.in_ok-frame.ensures.frame.0 c.in_ok-frame.ensures.hand c.look_kind-found.ensures.moves c.look_kind-found.ensures.hand c.in_ok-frame.ensures.frame.1 k c.read_kind-kind.ensures (serves_came v a (of_frame c.args.f c.args.domain None) [] c.in_ok-frame.ensures.serves)
-    q n c.in-Err.ensures.moves (not-false k.pinned c.if-not-kind.false) (looked v a b c.args.f c.args.domain c.in_ok-frame.frame x c.in_ok-frame.ensures.frame.0 c.in_ok-frame.ensures.hand c.look_kind-found.ensures.moves c.look_kind-found.ensures.hand (ext_request c.args.domain (Unpin c.args.f) (Ok tt)) (asks v c.args.f c.args.domain) c.in_ok-frame.ensures.serves) (subst (λ e. n ≢ e) (written v a b c.args.f c.args.domain c.in_ok-frame.frame x c.in_ok-frame.ensures.frame.0 c.in_ok-frame.ensures.hand c.look_kind-found.ensures.moves c.look_kind-found.ensures.hand c.in_ok-frame.ensures.frame.1 k c.read_kind-kind.ensures) c.in-Err.ensures.lost) o c.put_ref-in-Err.ensures.serves c.lost.result c.lost.ensures
+    q n c.in-Err.ensures.moves (not-false k.pinned c.if-not-kind.false) (looked v a b c.args.f c.args.domain c.in_ok-frame.frame x c.in_ok-frame.ensures.frame.0 c.in_ok-frame.ensures.hand c.look_kind-found.ensures.moves c.look_kind-found.ensures.hand (of_unpin c.args.domain c.args.f) (asks v c.args.f c.args.domain) c.in_ok-frame.ensures.serves) (subst (λ e. n ≢ e) (written v a b c.args.f c.args.domain c.in_ok-frame.frame x c.in_ok-frame.ensures.frame.0 c.in_ok-frame.ensures.hand c.look_kind-found.ensures.moves c.look_kind-found.ensures.hand c.in_ok-frame.ensures.frame.1 k c.read_kind-kind.ensures) c.in-Err.ensures.lost) o c.put_ref-in-Err.ensures.serves c.lost.result c.lost.ensures
 
 pub returns-then-read_kind-clause-stops : goal.returns-then-read_kind-clause-stops
 returns-then-read_kind-clause-stops g c =
@@ -283,7 +283,7 @@ returns-then-read_kind-clause-stops g c =
     let k = c.read_kind-kind.result in
     let n = c.in-Err.found_now in
     lost_why v c.args.f c.args.domain a b c.in_ok-frame.frame x c.in_ok-frame.ensures.frame.0 c.in_ok-frame.ensures.hand c.look_kind-found.ensures.moves c.look_kind-found.ensures.hand c.in_ok-frame.ensures.frame.1 k c.read_kind-kind.ensures (serves_came v a (of_frame c.args.f c.args.domain None) [] c.in_ok-frame.ensures.serves)
-    q n c.in-Err.ensures.moves (not-false k.pinned c.if-not-kind.false) (looked v a b c.args.f c.args.domain c.in_ok-frame.frame x c.in_ok-frame.ensures.frame.0 c.in_ok-frame.ensures.hand c.look_kind-found.ensures.moves c.look_kind-found.ensures.hand (ext_request c.args.domain (Unpin c.args.f) (Ok tt)) (asks v c.args.f c.args.domain) c.in_ok-frame.ensures.serves) (subst (λ e. n ≢ e) (written v a b c.args.f c.args.domain c.in_ok-frame.frame x c.in_ok-frame.ensures.frame.0 c.in_ok-frame.ensures.hand c.look_kind-found.ensures.moves c.look_kind-found.ensures.hand c.in_ok-frame.ensures.frame.1 k c.read_kind-kind.ensures) c.in-Err.ensures.lost) o c.put_ref-in-Err.ensures.serves c.lost.result c.lost.ensures
+    q n c.in-Err.ensures.moves (not-false k.pinned c.if-not-kind.false) (looked v a b c.args.f c.args.domain c.in_ok-frame.frame x c.in_ok-frame.ensures.frame.0 c.in_ok-frame.ensures.hand c.look_kind-found.ensures.moves c.look_kind-found.ensures.hand (of_unpin c.args.domain c.args.f) (asks v c.args.f c.args.domain) c.in_ok-frame.ensures.serves) (subst (λ e. n ≢ e) (written v a b c.args.f c.args.domain c.in_ok-frame.frame x c.in_ok-frame.ensures.frame.0 c.in_ok-frame.ensures.hand c.look_kind-found.ensures.moves c.look_kind-found.ensures.hand c.in_ok-frame.ensures.frame.1 k c.read_kind-kind.ensures) c.in-Err.ensures.lost) o c.put_ref-in-Err.ensures.serves c.lost.result c.lost.ensures
 
 pub returns-then-read_kind-clause-hand : goal.returns-then-read_kind-clause-hand
 returns-then-read_kind-clause-hand g c =
@@ -303,7 +303,7 @@ returns-then-read_kind-clause-rests g c =
     let q = g.P.Port.value c.clear_pin.new.port in
     let o = g.P.Port.value c.put_ref-in-Err.new.port in
     let n = c.in-Err.found_now in
-    rests_behind v o (Unpin c.args.f) (Err c.lost.result) c.requires.rests (ap quiet (lost_hand v a b q o c.args.domain c.in_ok-frame.frame c.requires.rests c.in_ok-frame.ensures.hand c.look_kind-found.ensures.hand n c.in-Err.ensures.hand c.put_ref-in-Err.ensures.hand))
+    rests_unpinned v o c.args.f (Err c.lost.result) c.requires.rests (ap quiet (lost_hand v a b q o c.args.domain c.in_ok-frame.frame c.requires.rests c.in_ok-frame.ensures.hand c.look_kind-found.ensures.hand n c.in-Err.ensures.hand c.put_ref-in-Err.ensures.hand))
 
 pub returns-then-read_kind-clause-course : goal.returns-then-read_kind-clause-course
 returns-then-read_kind-clause-course g c =
@@ -319,7 +319,7 @@ returns-then-read_kind-clause-course g c =
     lost_course v o c.args.domain c.args.f _ _ _ a b x (record { found = c.in_ok-frame.ensures.gets; plain = c.in_ok-frame.ensures.plain; stops = tt }) (look_there v a b c.args.f c.args.domain c.in_ok-frame.frame x c.in_ok-frame.ensures.frame.0 c.in_ok-frame.ensures.hand c.look_kind-found.ensures.moves c.look_kind-found.ensures.hand) q n (ap (λ (y : KindWord). y.pinned) (fields v a b c.args.f c.args.domain c.in_ok-frame.frame x c.in_ok-frame.ensures.frame.0 c.in_ok-frame.ensures.hand c.look_kind-found.ensures.moves c.look_kind-found.ensures.hand c.in_ok-frame.ensures.frame.1 k c.read_kind-kind.ensures) ∙ (not-false k.pinned c.if-not-kind.false)) (takes_off v c.args.f c.args.domain a b c.in_ok-frame.frame x c.in_ok-frame.ensures.frame.0 c.in_ok-frame.ensures.hand c.look_kind-found.ensures.moves c.look_kind-found.ensures.hand c.in_ok-frame.ensures.frame.1 k c.read_kind-kind.ensures (serves_came v a (of_frame c.args.f c.args.domain None) [] c.in_ok-frame.ensures.serves) q n c.in-Err.ensures.moves)
     (subst (λ e. n ≢ e) (written v a b c.args.f c.args.domain c.in_ok-frame.frame x c.in_ok-frame.ensures.frame.0 c.in_ok-frame.ensures.hand c.look_kind-found.ensures.moves c.look_kind-found.ensures.hand c.in_ok-frame.ensures.frame.1 k c.read_kind-kind.ensures) c.in-Err.ensures.lost) (gave_ref q o c.args.f c.in_ok-frame.frame c.in_ok-frame.ensures.frame.0 c.put_ref-in-Err.ensures.puts c.put_ref-in-Err.ensures.plain) c.lost.result
     (stop_is v c.args.f c.args.domain a b c.in_ok-frame.frame x c.in_ok-frame.ensures.frame.0 c.in_ok-frame.ensures.hand c.look_kind-found.ensures.moves c.look_kind-found.ensures.hand c.in_ok-frame.ensures.frame.1 k c.read_kind-kind.ensures (serves_came v a (of_frame c.args.f c.args.domain None) [] c.in_ok-frame.ensures.serves)
-    q n c.in-Err.ensures.moves (not-false k.pinned c.if-not-kind.false) (looked v a b c.args.f c.args.domain c.in_ok-frame.frame x c.in_ok-frame.ensures.frame.0 c.in_ok-frame.ensures.hand c.look_kind-found.ensures.moves c.look_kind-found.ensures.hand (ext_request c.args.domain (Unpin c.args.f) (Ok tt)) (asks v c.args.f c.args.domain) c.in_ok-frame.ensures.serves) (subst (λ e. n ≢ e) (written v a b c.args.f c.args.domain c.in_ok-frame.frame x c.in_ok-frame.ensures.frame.0 c.in_ok-frame.ensures.hand c.look_kind-found.ensures.moves c.look_kind-found.ensures.hand c.in_ok-frame.ensures.frame.1 k c.read_kind-kind.ensures) c.in-Err.ensures.lost) o c.put_ref-in-Err.ensures.serves c.lost.result c.lost.ensures)
+    q n c.in-Err.ensures.moves (not-false k.pinned c.if-not-kind.false) (looked v a b c.args.f c.args.domain c.in_ok-frame.frame x c.in_ok-frame.ensures.frame.0 c.in_ok-frame.ensures.hand c.look_kind-found.ensures.moves c.look_kind-found.ensures.hand (of_unpin c.args.domain c.args.f) (asks v c.args.f c.args.domain) c.in_ok-frame.ensures.serves) (subst (λ e. n ≢ e) (written v a b c.args.f c.args.domain c.in_ok-frame.frame x c.in_ok-frame.ensures.frame.0 c.in_ok-frame.ensures.hand c.look_kind-found.ensures.moves c.look_kind-found.ensures.hand c.in_ok-frame.ensures.frame.1 k c.read_kind-kind.ensures) c.in-Err.ensures.lost) o c.put_ref-in-Err.ensures.serves c.lost.result c.lost.ensures)
     (ap (λ (y : KindWord). y.pinned) (fields_of n j c.read_kind.ensures) ∙ c.if-read_kind.true)
 
 -- ---- which is not
@@ -334,7 +334,7 @@ returns-else-read_kind-clause-serves g c =
     let k = c.read_kind-kind.result in
     let n = c.in-Err.found_now in
     raced_serves v c.args.f c.args.domain a b c.in_ok-frame.frame x c.in_ok-frame.ensures.frame.0 c.in_ok-frame.ensures.hand c.look_kind-found.ensures.moves c.look_kind-found.ensures.hand c.in_ok-frame.ensures.frame.1 k c.read_kind-kind.ensures (serves_came v a (of_frame c.args.f c.args.domain None) [] c.in_ok-frame.ensures.serves)
-    q n c.in-Err.ensures.moves (not-false k.pinned c.if-not-kind.false) (looked v a b c.args.f c.args.domain c.in_ok-frame.frame x c.in_ok-frame.ensures.frame.0 c.in_ok-frame.ensures.hand c.look_kind-found.ensures.moves c.look_kind-found.ensures.hand (ext_request c.args.domain (Unpin c.args.f) (Ok tt)) (asks v c.args.f c.args.domain) c.in_ok-frame.ensures.serves) (subst (λ e. n ≢ e) (written v a b c.args.f c.args.domain c.in_ok-frame.frame x c.in_ok-frame.ensures.frame.0 c.in_ok-frame.ensures.hand c.look_kind-found.ensures.moves c.look_kind-found.ensures.hand c.in_ok-frame.ensures.frame.1 k c.read_kind-kind.ensures) c.in-Err.ensures.lost) o c.put_ref-in-Err.ensures.serves
+    q n c.in-Err.ensures.moves (not-false k.pinned c.if-not-kind.false) (looked v a b c.args.f c.args.domain c.in_ok-frame.frame x c.in_ok-frame.ensures.frame.0 c.in_ok-frame.ensures.hand c.look_kind-found.ensures.moves c.look_kind-found.ensures.hand (of_unpin c.args.domain c.args.f) (asks v c.args.f c.args.domain) c.in_ok-frame.ensures.serves) (subst (λ e. n ≢ e) (written v a b c.args.f c.args.domain c.in_ok-frame.frame x c.in_ok-frame.ensures.frame.0 c.in_ok-frame.ensures.hand c.look_kind-found.ensures.moves c.look_kind-found.ensures.hand c.in_ok-frame.ensures.frame.1 k c.read_kind-kind.ensures) c.in-Err.ensures.lost) o c.put_ref-in-Err.ensures.serves
 
 pub returns-else-read_kind-clause-stops : goal.returns-else-read_kind-clause-stops
 returns-else-read_kind-clause-stops g c =
@@ -348,7 +348,7 @@ returns-else-read_kind-clause-stops g c =
     let n = c.in-Err.found_now in
     let j = c.read_kind.result in
     raced_stops v c.args.f c.args.domain a b c.in_ok-frame.frame x c.in_ok-frame.ensures.frame.0 c.in_ok-frame.ensures.hand c.look_kind-found.ensures.moves c.look_kind-found.ensures.hand c.in_ok-frame.ensures.frame.1 k c.read_kind-kind.ensures (serves_came v a (of_frame c.args.f c.args.domain None) [] c.in_ok-frame.ensures.serves)
-    q n c.in-Err.ensures.moves (not-false k.pinned c.if-not-kind.false) (looked v a b c.args.f c.args.domain c.in_ok-frame.frame x c.in_ok-frame.ensures.frame.0 c.in_ok-frame.ensures.hand c.look_kind-found.ensures.moves c.look_kind-found.ensures.hand (ext_request c.args.domain (Unpin c.args.f) (Ok tt)) (asks v c.args.f c.args.domain) c.in_ok-frame.ensures.serves) (subst (λ e. n ≢ e) (written v a b c.args.f c.args.domain c.in_ok-frame.frame x c.in_ok-frame.ensures.frame.0 c.in_ok-frame.ensures.hand c.look_kind-found.ensures.moves c.look_kind-found.ensures.hand c.in_ok-frame.ensures.frame.1 k c.read_kind-kind.ensures) c.in-Err.ensures.lost) o c.put_ref-in-Err.ensures.serves j c.read_kind.ensures c.if-read_kind.false
+    q n c.in-Err.ensures.moves (not-false k.pinned c.if-not-kind.false) (looked v a b c.args.f c.args.domain c.in_ok-frame.frame x c.in_ok-frame.ensures.frame.0 c.in_ok-frame.ensures.hand c.look_kind-found.ensures.moves c.look_kind-found.ensures.hand (of_unpin c.args.domain c.args.f) (asks v c.args.f c.args.domain) c.in_ok-frame.ensures.serves) (subst (λ e. n ≢ e) (written v a b c.args.f c.args.domain c.in_ok-frame.frame x c.in_ok-frame.ensures.frame.0 c.in_ok-frame.ensures.hand c.look_kind-found.ensures.moves c.look_kind-found.ensures.hand c.in_ok-frame.ensures.frame.1 k c.read_kind-kind.ensures) c.in-Err.ensures.lost) o c.put_ref-in-Err.ensures.serves j c.read_kind.ensures c.if-read_kind.false
 
 pub returns-else-read_kind-clause-hand : goal.returns-else-read_kind-clause-hand
 returns-else-read_kind-clause-hand g c =
@@ -368,7 +368,7 @@ returns-else-read_kind-clause-rests g c =
     let q = g.P.Port.value c.clear_pin.new.port in
     let o = g.P.Port.value c.put_ref-in-Err.new.port in
     let n = c.in-Err.found_now in
-    rests_behind v o (Unpin c.args.f) (Err (Refused (NotPinned n))) c.requires.rests (ap quiet (lost_hand v a b q o c.args.domain c.in_ok-frame.frame c.requires.rests c.in_ok-frame.ensures.hand c.look_kind-found.ensures.hand n c.in-Err.ensures.hand c.put_ref-in-Err.ensures.hand))
+    rests_unpinned v o c.args.f (Err (Refused (NotPinned n))) c.requires.rests (ap quiet (lost_hand v a b q o c.args.domain c.in_ok-frame.frame c.requires.rests c.in_ok-frame.ensures.hand c.look_kind-found.ensures.hand n c.in-Err.ensures.hand c.put_ref-in-Err.ensures.hand))
 
 pub returns-else-read_kind-clause-course : goal.returns-else-read_kind-clause-course
 returns-else-read_kind-clause-course g c =

@@ -1,6 +1,7 @@
 use Rattle.std.proofs.Common.{◌∙◌, ap}
 use Rattle.thread_board.specs.Values.{PassValue}
-use Rattle.thread_tests.proofs.Passing.{opened_is, may_work}
+use Rattle.thread_board.proofs.Dealing.{opened_is}
+use Rattle.thread_tests.proofs.Passing.{may_work}
 use Rattle.thread_tests.proofs.two.set_one.Goals as goal
 
 pub port-port-requires : goal.port-port-requires

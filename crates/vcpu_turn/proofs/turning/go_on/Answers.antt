@@ -8,7 +8,7 @@ pub invariant_of-cpu : goal.invariant_of-cpu
 invariant_of-cpu g c =
     let look = c.in-Some.ensures.lookup in
     let next = op_found _ _ _ _ _ c.as_slice.ensures c.len.ensures look.3.0 look.1 in
-    (c.cpu.invariant.0, c.cpu.invariant.1, subst (λ o. c.work_on.new.done ≤ elements_of o) (sym next) (works_most _ _ _ _ _ _ _ _ (subst (λ o. c.cpu.inside.done ≤ elements_of o) next c.cpu.invariant.2) c.work_on.ensures.works.goes))
+    (c.cpu.invariant.0, c.cpu.invariant.1, subst (λ o. c.work_on.new.done ≤ elements_of o) (sym next) (works_most _ _ _ _ _ _ _ _ _ (subst (λ o. c.cpu.inside.done ≤ elements_of o) next c.cpu.invariant.2) c.work_on.ensures.works.goes))
 
 pub returns-in-None-clause-worked : goal.returns-in-None-clause-worked
 returns-in-None-clause-worked g c =

@@ -1,9 +1,11 @@
 use Rattle.std.proofs.Common.{sym, ap, ◌∙◌}
+use Rattle.step_maker.proofs.Coming.{came_post}
 use Rattle.vcpu_turn.specs.Cpus.{Processing}
 use Rattle.vcpu_turn.proofs.Between.{of_gone_on, of_retired, of_unsettled, own_domain}
 use Rattle.vcpu_turn.proofs.Extending.{settle_answers}
 use Rattle.vcpu_turn.proofs.NextOps.{more_left}
-use Rattle.vcpu_turn.proofs.Turns.{settled_post, turn_goes_on, turn_retired, turn_retires, turn_unsettled}
+use Rattle.vcpu_turn.proofs.Staying.{knows_on, settled_warm}
+use Rattle.vcpu_turn.proofs.Turns.{settled_behind, settled_post, turn_goes_on, turn_retired, turn_retires, turn_unsettled}
 use Rattle.vcpu_turn.proofs.turning.turn.Goals as goal
 
 pub returns-then-cpu-clause-turn : goal.returns-then-cpu-clause-turn
@@ -21,11 +23,20 @@ returns-in-Err-Paused-clause-turn g c =
 
 pub returns-in-Err-Paused-clause-of : goal.returns-in-Err-Paused-clause-of
 returns-in-Err-Paused-clause-of g c =
-    of_unsettled _ _ c.args.cpu.now c.requires.of (settled_post _ _ _ c.begin.ensures.begins c.settle.result c.settle.ensures.serves) c.settle.ensures.rests
+    let s = c.settle.ensures in
+    let came = settled_behind _ _ _ c.begin.ensures.begins c.settle.result s.serves in
+    of_unsettled _ _ c.args.cpu.now c.requires.of (came_post _ _ came) came s.rests (settled_warm _ _ c.settle.result s.serves s.hand c.begin.ensures.warm)
 
 pub go_on-requires-clause-own : goal.go_on-requires-clause-own
 go_on-requires-clause-own g c =
     own_domain _ _ _ (settled_post _ _ _ c.begin.ensures.begins c.settle.result c.settle.ensures.serves) c.requires.of.domain
+
+pub go_on-requires-clause-awaits : goal.go_on-requires-clause-awaits
+go_on-requires-clause-awaits g c =
+    knows_on _ _ _ (settled_behind _ _ _ c.begin.ensures.begins c.settle.result c.settle.ensures.serves) c.requires.of.awaits
+
+pub go_on-requires-clause-warm : goal.go_on-requires-clause-warm
+go_on-requires-clause-warm g c = let s = c.settle.ensures in settled_warm _ _ c.settle.result s.serves s.hand c.begin.ensures.warm
 
 pub finish-requires-clause-more : goal.finish-requires-clause-more
 finish-requires-clause-more g c = more_left _ _ c.args.cpu.now c.go_on.new.cpu _ c.in-Some.answer c.in-Some.ensures.worked.goes
@@ -44,7 +55,8 @@ returns-in-None-clause-turn g c =
 pub returns-in-None-clause-of : goal.returns-in-None-clause-of
 returns-in-None-clause-of g c =
     let post = c.retire.ensures.post ∙ c.in-None.ensures.post ∙ settled_post _ _ _ c.begin.ensures.begins c.settle.result c.settle.ensures.serves in
-    of_retired _ _ _ _ _ c.requires.of post _ _ _ c.in-None.ensures.worked.goes c.retire.ensures.stop c.retire.ensures.idles
+    let came = settled_behind _ _ _ c.begin.ensures.begins c.settle.result c.settle.ensures.serves in
+    of_retired _ _ _ _ _ c.requires.of post _ _ _ came c.in-None.ensures.worked.goes c.retire.ensures.stop c.retire.ensures.idles
 
 pub returns-in-Some-clause-post : goal.returns-in-Some-clause-post
 returns-in-Some-clause-post g c = c.finish.ensures.post ∙ c.in-Some.ensures.post ∙ settled_post _ _ _ c.begin.ensures.begins c.settle.result c.settle.ensures.serves
@@ -61,4 +73,4 @@ returns-in-Some-clause-turn g c =
 pub returns-in-Some-clause-of : goal.returns-in-Some-clause-of
 returns-in-Some-clause-of g c =
     let post = c.finish.ensures.post ∙ c.in-Some.ensures.post ∙ settled_post _ _ _ c.begin.ensures.begins c.settle.result c.settle.ensures.serves in
-    of_gone_on _ _ _ _ _ c.requires.of post _ _ _ c.in-Some.answer c.in-Some.ensures.worked.goes c.finish.ensures.cpu c.finish.ensures.rests
+    of_gone_on _ _ _ _ _ c.requires.of post _ _ _ c.in-Some.answer c.in-Some.ensures.worked.goes c.finish.ensures.cpu c.finish.ensures.ends c.finish.ensures.rests c.finish.ensures.warm

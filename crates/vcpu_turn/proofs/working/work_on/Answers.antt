@@ -1,16 +1,29 @@
 use Rattle.std.proofs.Common.{Some, ap, ◌∙◌}
-use Rattle.vcpu_turn.specs.Cpus.{OfExt, OfPairs, listed}
-use Rattle.vcpu_turn.specs.declared.working.Listed.{Listed}
-use Rattle.vcpu_turn.proofs.Operations.{built, not_built}
+use Rattle.vcpu_turn.specs.Cpus.{OfExt, OfPairs, OfRead, OfWrite, viewed}
+use Rattle.vcpu_turn.specs.declared.tasks.Viewed.{Viewed}
+use Rattle.vcpu_turn.proofs.Gating.{answers_nothing}
+use Rattle.vcpu_turn.proofs.Operations.{built, not_built, read_not_due, without_value, write_not_due}
 use Rattle.vcpu_turn.proofs.working.work_on.Goals as goal
 
 pub returns-in-None-clause-works : goal.returns-in-None-clause-works
-returns-in-None-clause-works g c = not_built _ _ _ _ _ c.in-None.ensures.none _ _
+returns-in-None-clause-works g c = not_built _ _ _ _ _ _ c.in-None.ensures.none _ _
 
 pub returns-in-Some-Pairs-clause-works : goal.returns-in-Some-Pairs-clause-works
 returns-in-Some-Pairs-clause-works g c =
-    built _ _ _ _ _ (OfPairs c.in-Some-Pairs.foreign c.in-Some-Pairs.pairs.now) (c.in-Some-Pairs.ensures.some ∙ ap (λ (l : Listed). Some (listed l)) c.in-Some-Pairs.field-0-is) _ _ _ _ _ _ _ c.go_through_pairs.ensures.works
+    built _ _ _ _ _ _ (OfPairs c.in-Some-Pairs.foreign c.in-Some-Pairs.pairs.now) (c.in-Some-Pairs.ensures.some ∙ ap (λ (l : Viewed). Some (viewed l)) c.in-Some-Pairs.field-0-is) _ _ _ _ _ _ _
+    (without_value _ _ _ _ _ _ c.go_through_pairs.result _ c.valued.ensures c.go_through_pairs.ensures.works)
 
 pub returns-in-Some-Ext-clause-works : goal.returns-in-Some-Ext-clause-works
 returns-in-Some-Ext-clause-works g c =
-    built _ _ _ _ _ (OfExt c.in-Some-Ext.elements.now) (c.in-Some-Ext.ensures.some ∙ ap (λ (l : Listed). Some (listed l)) c.in-Some-Ext.field-0-is) _ _ _ _ _ _ _ c.go_through.ensures.works
+    built _ _ _ _ _ _ (OfExt c.in-Some-Ext.elements.now) (c.in-Some-Ext.ensures.some ∙ ap (λ (l : Viewed). Some (viewed l)) c.in-Some-Ext.field-0-is) _ _ _ _ _ _ _
+    (without_value _ _ _ _ _ _ c.go_through.result _ c.valued-in-Some-Ext.ensures c.go_through.ensures.works)
+
+pub returns-in-Some-Read-clause-works : goal.returns-in-Some-Read-clause-works
+returns-in-Some-Read-clause-works g c =
+    built _ _ _ _ _ _ (OfRead c.in-Some-Read.user c.in-Some-Read.va) (c.in-Some-Read.ensures.some ∙ ap (λ (l : Viewed). Some (viewed l)) c.in-Some-Read.field-0-is) _ _ _ _ _ _ _
+    (answers_nothing _ _ _ _ _ (read_not_due c.read.result c.read.ensures.reads.kinds) c.read.ensures.reads)
+
+pub returns-in-Some-Write-clause-works : goal.returns-in-Some-Write-clause-works
+returns-in-Some-Write-clause-works g c =
+    built _ _ _ _ _ _ (OfWrite c.in-Some-Write.user c.in-Some-Write.va c.in-Some-Write.val) (c.in-Some-Write.ensures.some ∙ ap (λ (l : Viewed). Some (viewed l)) c.in-Some-Write.field-0-is) _ _ _ _ _ _ _
+    (without_value _ _ _ _ _ _ c.write.result _ c.valued-in-Some-Write.ensures (answers_nothing _ _ _ _ _ (write_not_due c.write.result c.write.ensures.writes.kinds) c.write.ensures.writes))

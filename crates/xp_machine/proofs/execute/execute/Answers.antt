@@ -3,7 +3,7 @@ use Rattle.std.proofs.lemmas.List.{length-map}
 use Rattle.trace_text.specs.declared.trace.TurnRun.{TurnRun}
 use Rattle.xp_machine.specs.Cpus.{order}
 use Rattle.xp_machine.specs.Ran.{Closes, RanTrace}
-use Rattle.xp_machine.specs.Gates.{gate_of}
+use Rattle.vcpu_runners.specs.Gates.{gate_of}
 use Rattle.xp_machine.specs.Rows.{stage_of}
 use Rattle.xp_machine.proofs.Reaching.{if_ok, ran, ready_board}
 use Rattle.xp_machine.proofs.Starting.{length_first}

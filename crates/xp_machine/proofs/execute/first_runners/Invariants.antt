@@ -1,7 +1,7 @@
 use Rattle.std.proofs.Common.{◌≡◌, map, Some}
-use Rattle.xp_machine.specs.Cpus.{first_cpu}
-use Rattle.xp_machine.specs.Gates.{gate_of}
-use Rattle.xp_machine.specs.Rows.{gates_of, cpus_of}
+use Rattle.vcpu_runners.specs.Cpus.{first_cpu}
+use Rattle.vcpu_runners.specs.Gates.{gate_of}
+use Rattle.vcpu_runners.specs.Rows.{gates_of, cpus_of}
 use Rattle.xp_machine.proofs.execute.first_runners.Given as goal
 
 abbrev pub invariant-runners : goal.invariant-runners

@@ -13,4 +13,4 @@ pub returns-clause-updates : goal.returns-clause-updates
 returns-clause-updates g n v c s t op foreign pairs m next built off = unpaused_hears c m.after m.end m.from m.to m.answers m.turn op foreign pairs next built off
 
 pub returns-clause-unpins : goal.returns-clause-unpins
-returns-clause-unpins g n v c s t op list m next built off = unpins_hear c m.after m.end m.from m.to m.answers m.turn op list next built off
+returns-clause-unpins g n v c s t op list m next built off kept = unpins_hear c m.after m.end m.from m.to m.answers m.turn op list next built off kept

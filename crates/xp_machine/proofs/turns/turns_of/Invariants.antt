@@ -1,9 +1,10 @@
 use Rattle.std.proofs.Common.{◌≡◌}
 use Rattle.std.specs.Prelude.{replicate}
-use Rattle.xp_machine.specs.Gates.{gate_of}
+use Rattle.vcpu_runners.specs.Gates.{gate_of}
 use Rattle.xp_machine.specs.Turns.{Turns}
 use Rattle.xp_machine.specs.Ready.{Ready}
-use Rattle.xp_machine.specs.Rows.{cpus_of, stage_of}
+use Rattle.vcpu_runners.specs.Rows.{cpus_of}
+use Rattle.xp_machine.specs.Rows.{stage_of}
 use Rattle.xp_machine.proofs.turns.turns_of.Given as goal
 
 abbrev pub invariant-turns : goal.invariant-turns

@@ -1,12 +1,12 @@
 use Rattle.vcpu_turn.specs.Working.{FitsPair}
 use Rattle.vcpu_turn.proofs.Extending.{behind_performed, behind_unsettled, course_answers, of_number, settle_answers}
-use Rattle.vcpu_turn.proofs.Owning.{may_map_settled, may_map_updated}
+use Rattle.vcpu_turn.proofs.Staying.{suits_pairs_settled, suits_pairs_updated}
 use Rattle.vcpu_turn.proofs.pairs.OwnedPairsItems.element.Goals as goal
 
 pub returns-in_err-settle-clause-suits : goal.returns-in_err-settle-clause-suits
 returns-in_err-settle-clause-suits g c =
     let s = c.settle.ensures in
-    may_map_settled _ _ _ c.settle.result s.serves s.hand c.requires.suits
+    suits_pairs_settled _ _ c.settle.result s.serves s.hand _ c.requires.suits
 
 pub returns-in_err-settle-clause-fits : goal.returns-in_err-settle-clause-fits
 returns-in_err-settle-clause-fits g c =
@@ -17,13 +17,13 @@ returns-in_err-settle-clause-fits g c =
 pub update-requires-clause-maps : goal.update-requires-clause-maps
 update-requires-clause-maps g c =
     let s = c.settle.ensures in
-    may_map_settled _ _ _ c.settle.result s.serves s.hand c.requires.suits
+    (suits_pairs_settled _ _ c.settle.result s.serves s.hand _ c.requires.suits).may
 
 pub returns-clause-suits : goal.returns-clause-suits
 returns-clause-suits g c =
     let s = c.settle.ensures in
     let u = c.update.ensures in
-    may_map_updated _ _ _ u.came u.hand (may_map_settled _ _ _ c.settle.result s.serves s.hand c.requires.suits)
+    suits_pairs_updated _ _ _ u.came u.hand (suits_pairs_settled _ _ c.settle.result s.serves s.hand _ c.requires.suits)
 
 pub returns-clause-fits : goal.returns-clause-fits
 returns-clause-fits g c =

@@ -1,0 +1,66 @@
+ghost use Rattle.std.specs.Prelude.{◌≡◌, ◌<◌, ◌^◌, ℕ, List, IfOk, IfErr, Some, is_some, true, false, map, string_bytes};
+ghost use Rattle.std.specs.Str.Parse.{IsNumeral, digits_value};
+ghost use Rattle.command_words.specs.Words.{asked_of};
+ghost use Rattle.command_words.specs.Table.{found_with, pace_found, paced as paced_app, table};
+ghost use Rattle.clap.specs.Words.{app_of, subcommand_rows_of};
+ghost use Rattle.clap.specs.declared.builder.command.Command.TheViews.{out-Command};
+
+use crate::asked::{Asked, Manner};
+use crate::known::is_known;
+use clap::error::ErrorKind;
+use clap::{Arg, ArgMatches, Command, value_parser};
+use std::alloc::{AllocError, Global};
+
+// A command of this name, which may have a pace.
+fn paced<'a>(alloc: Global, name: &'a str) -> Result<Command<'a>, AllocError>
+    ensures app { IfOk result (λ c. app_of c ≡ paced_app name.entry.now) }
+    ensures local { IfOk result (λ c. (out-Command c).has_globals ≡ false) }
+{
+    let pace = Arg::new(alloc, "preempt")
+        .long("preempt")
+        .default_value("0")
+        .value_parser(value_parser!(u32).range(0..=1_000_000));
+    Command::new(alloc, name).arg(pace)
+}
+
+// The commands, as `clap` is told of them. What the program says of words that are wrong is its own text.
+fn commands<'a>(alloc: Global) -> Result<Command<'a>, AllocError>
+    ensures { IfOk result (λ c. app_of c ≡ table) }
+{
+    let turns = paced(alloc, "turns")?;
+    let replay = paced(alloc, "replay")?;
+    Command::new(alloc, "ptmac")
+        .no_binary_name(true)
+        .disable_help_flag(true)
+        .disable_help_subcommand(true)
+        .subcommand_required(true)
+        .subcommand(turns)?
+        .subcommand(replay)
+}
+
+// The command that was found, and its pace.
+fn asked_in(matches: &ArgMatches<'_>) -> Option<Asked>
+    ensures { (manner : Manner) (text : List ℕ) → pace_found (subcommand_rows_of matches.now) ≡ found_with manner text → IsNumeral 10 text → digits_value 10 text < 2 ^ 32 → result ≡ Some (record { manner = manner; pace = digits_value 10 text }) }
+{
+    let (name, found) = matches.subcommand()?;
+    let manner = Manner::named(name)?;
+    let pace = found.get_one::<u32>("preempt")?;
+    Some(Asked { manner, pace })
+}
+
+/// What the words of the command line ask for, without the program's name. It is `None` exactly where they ask for no
+/// run; lists that `clap` takes and that are not known, as `turns --` or `replay --preempt 01`, are among those.
+/// Memory is wanted for words that are known alone.
+pub fn asked_of(alloc: Global, words: &[String]) -> Result<Option<Asked>, AllocError>
+    ensures reads { IfOk result (λ a. a ≡ asked_of (map string_bytes words.now)) }
+    ensures memory { IfErr result (λ _. is_some (asked_of (map string_bytes words.now)) ≡ true) }
+{
+    if !is_known(words) {
+        return Ok(None);
+    }
+    match commands(alloc)?.try_get_matches_from(words) {
+        Ok(matches) => Ok(asked_in(&matches)),
+        Err(error) if error.kind() == ErrorKind::OutOfMemory => Err(AllocError),
+        Err(_) => Ok(None),
+    }
+}

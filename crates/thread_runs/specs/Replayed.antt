@@ -1,0 +1,49 @@
+-- A whole run in threads: which turns each vCPU made, and that the steps of all of them are one run.
+use Rattle.std.specs.Prelude.{◌≡◌, ℕ, ◌<◌, true, false, List, length, slice_get, slice_index_or, Option, Some, None}
+use Rattle.xp_words.specs.Places.{sizes_of}
+use Rattle.xp_board.specs.declared.holdings.Holdings.{Holdings}
+use Rattle.xp_board.specs.Hands.{empty}
+use Rattle.xp_board.specs.Sound.{SoundWords, hand_of}
+use Rattle.xp_board.specs.Told.{PortValue}
+use Rattle.thread_board.specs.OneRun.{OneRun}
+use Rattle.thread_board.specs.Ports.{port_value}
+use Rattle.thread_board.specs.Values.{BoardValue}
+use Rattle.vcpu_turn.specs.Cpus.{Processing}
+use Rattle.vcpu_turn.specs.Turning.{IsOf}
+use Rattle.vcpu_runners.specs.Cpus.{AreShort}
+use Rattle.vcpu_runners.specs.Gates.{Gate}
+use Rattle.vcpu_runners.specs.Runners.{TakesTurn}
+
+-- Turns of one vCPU, one behind the other, each by its own gate. A vCPU that is retired makes none.
+pub data TookTurns (has : Option Gate) (c : Processing) (v : PortValue) : Option Gate → Processing → PortValue → Type 0 where
+  none : TookTurns has c v has c v
+  more : (mid left : Option Gate) (d c' : Processing) (u w : PortValue) → TookTurns has c v mid d u → d.retired ≡ false → TakesTurn mid left d c' u w → TookTurns has c v left c' w
+
+-- the port of vCPU s on a board of threads, when it holds this
+abbrev pub port_with : BoardValue → ℕ → ℕ → Holdings → PortValue
+port_with b s lender h = port_value b (record { table = b.table; vcpu = s; holdings = h }) lender
+
+-- vCPU s made turns from its first, with nothing in hand, to the one that retired it, behind which it had this hand
+pub record RanToItsEnd (b : BoardValue) (s : ℕ) (gate : Option Gate) (first last : Processing) (hand : Holdings) : Type 0 where
+  pub lender : ℕ
+  pub left : Option Gate
+  pub turns : TookTurns gate first (port_with b s lender empty) left last (port_with b s lender hand)
+  pub retired : last.retired ≡ true
+
+-- Each vCPU made its own turns to its end, at any pace beside the others. One list of legal steps of all vCPUs leads from the opening
+-- words to these: the steps of each vCPU on it are those that its turns made, each found the word that stood there then, and between any two of them
+-- the machine is sound and safe.
+pub record RanInThreads (b : BoardValue) (gates : List (Option Gate)) (first : List Processing) (words : List ℕ) (last : List Processing) : Type 0 where
+  pub hands : List Holdings
+  pub run : OneRun b.machine b.opening words hands
+  pub count : length hands ≡ (sizes_of b.machine).vcpus
+  pub all : length last ≡ length first
+  pub each : (s : ℕ) (c c' : Processing) → slice_get first s ≡ Some c → slice_get last s ≡ Some c' → RanToItsEnd b s (slice_index_or gates s None) c c' (hand_of hands s)
+  -- the closing words are sound with empty hands
+  pub sound : SoundWords b.machine words
+
+-- the vCPUs of a board before their first turn, one for each of its passes
+pub record AreFirst (b : BoardValue) (cpus : List Processing) : Type 0 where
+  pub all : length cpus ≡ (sizes_of b.machine).vcpus
+  pub short : AreShort cpus
+  pub of : (s lender : ℕ) (c : Processing) → slice_get cpus s ≡ Some c → IsOf (port_with b s lender empty) c × (c.retired ≡ false)

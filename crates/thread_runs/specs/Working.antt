@@ -1,0 +1,26 @@
+-- One vCPU in its thread.
+use Rattle.std.specs.Prelude.{◌≡◌, ℕ, true, false, Option}
+use Rattle.thread_board.specs.Ports.{port_value}
+use Rattle.thread_board.specs.Values.{BoardValue, PassValue, IsPassOf}
+use Rattle.vcpu_turn.specs.Cpus.{Processing}
+use Rattle.vcpu_turn.specs.Turning.{IsOf}
+use Rattle.vcpu_runners.specs.Cpus.{IsShort}
+use Rattle.vcpu_runners.specs.Gates.{Gate}
+use Rattle.thread_runs.specs.Replayed.{TookTurns}
+
+-- the pass is one of that board and of that vCPU, which makes turns yet
+pub record MayRun (b : BoardValue) (p : PassValue) (c : Processing) : Type 0 where
+  pub pass : IsPassOf b p
+  pub short : IsShort c
+  pub of : (lender : ℕ) → IsOf (port_value b p lender) c
+  pub runs : c.retired ≡ false
+
+-- it made turns until it was retired
+pub record RanOut (b : BoardValue) (p q : PassValue) (gate : Option Gate) (c c' : Processing) : Type 0 where
+  pub pass : IsPassOf b q
+  pub vcpu : q.vcpu ≡ p.vcpu
+  pub lender : ℕ
+  pub left : Option Gate
+  pub turns : TookTurns gate c (port_value b p lender) left c' (port_value b q lender)
+  pub retired : c'.retired ≡ true
+  pub of : IsOf (port_value b q lender) c'

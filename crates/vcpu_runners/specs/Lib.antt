@@ -1,0 +1,4 @@
+pub mod Cpus
+pub mod Gates
+pub mod Rows
+pub mod Runners

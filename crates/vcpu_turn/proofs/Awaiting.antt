@@ -1,0 +1,109 @@
+-- A wait that goes on in a later turn: the vCPU had found the clock value past which it waits.
+use Rattle.std.proofs.Common.{◌≡◌, ℕ, ◌+◌, ◌==◌, if◌then◌else◌, Bool, true, false, List, length, slice_get, Option, Some, None, Result, Ok, Err, refl, sym, ap, ◌∙◌, inl, inr, subst}
+use Rattle.xp_words.specs.declared.ops.ExtOp.{ExtOp}
+use Rattle.xp_words.specs.declared.ops.Op.{Op}
+use Rattle.xp_words.specs.declared.reply.Pause.{Pause}
+use Rattle.xp_words.specs.declared.reply.Pause.TheVariants.{Due, Lost, Busy, Flush, Alive}
+use Rattle.xp_words.specs.declared.reply.Refusal.{Refusal}
+use Rattle.xp_words.specs.declared.reply.Stop.{Stop}
+use Rattle.xp_words.specs.declared.reply.Stop.TheVariants.{Refused, Paused}
+use Rattle.xp_board.specs.Told.{PortValue}
+use Rattle.level_release.specs.Asking.{IsReleaseEnd}
+use Rattle.mmuext_ops.specs.Elements.{KnowsAwaited, awaited_by, ext_element}
+use Rattle.mmuext_ops.specs.declared.element.Element.{Element}
+use Rattle.mmuext_ops.specs.declared.element.Element.TheVariants as elements
+use Rattle.vcpu_turn.specs.Cpus.{OfExt, OfPairs, OfRead, OfWrite, Processing, Task, after_turn, awaited_after, awaited_at, awaited_in, end_of, task_of}
+use Rattle.vcpu_turn.specs.Lists.{Answering, WorksOn, all_done, last_done, due, stopped, is_due_by}
+use Rattle.vcpu_turn.specs.Working as working
+use Rattle.vcpu_turn.specs.Working.{ExtFits, FitsExt, Performs, SettlesFirst, Works, WorksThrough, awaited_for, valued}
+
+-- ---- the first element of a turn alone goes on
+pub knows_for : (v : PortValue) (from : ℕ) (awaited : Option ℕ) (k : ℕ) (waits : Option ℕ) → waits ≡ awaited_for from awaited k → KnowsAwaited v awaited → KnowsAwaited v waits
+knows_for v from awaited k waits is knows = subst (KnowsAwaited v) (sym is) (by (k == from))
+  where
+    by : (b : Bool) → KnowsAwaited v (if b then awaited else None)
+    by true = knows
+    by false = tt
+
+-- by the clock value that its call was passed
+pub fits_waits : (d : ℕ) (waits awaited : Option ℕ) → waits ≡ awaited → (o : Option ExtOp) (says : ℕ → Bool) (before after yes_before yes_after : ℕ) (v w : PortValue) (answer : Result (Unit {0}) Stop) →
+    Answering (λ answers. FitsExt d waits o v w answers answer) says before after yes_before yes_after (is_due_by answer) → Answering (λ answers. FitsExt d awaited o v w answers answer) says before after yes_before yes_after (is_due_by answer)
+fits_waits d waits awaited is o says before after yes_before yes_after v w answer fits =
+    subst (λ (a : Option ℕ). Answering (λ answers. FitsExt d a o v w answers answer) says before after yes_before yes_after (is_due_by answer)) is fits
+
+-- ---- what is paused for another reason begins its wait anew
+release_waits_for_none : (e : Element) (stop : Stop) → IsReleaseEnd stop → awaited_by e (Err stop) ≡ None
+release_waits_for_none (elements.Pin f level) stop is = refl
+release_waits_for_none (elements.Unpin f) stop is = refl
+release_waits_for_none (elements.NewBase f) stop is = refl
+release_waits_for_none (elements.NewUserBase f) stop is = refl
+release_waits_for_none elements.FlushLocal stop is = refl
+release_waits_for_none (elements.Invalidate va) stop is = refl
+release_waits_for_none (elements.FlushVcpus mask) (Refused r) is = refl
+release_waits_for_none (elements.FlushVcpus mask) (Paused Due) is = refl
+release_waits_for_none (elements.FlushVcpus mask) (Paused (Lost place expected found)) is = refl
+release_waits_for_none (elements.FlushVcpus mask) (Paused (Busy f found)) is = refl
+release_waits_for_none (elements.FlushVcpus mask) (Paused (Flush u stamp found)) is = absurd is
+release_waits_for_none (elements.FlushVcpus mask) (Paused (Alive u found)) is = refl
+release_waits_for_none elements.Unknown stop is = refl
+
+due_waits_for_none : (x : Option ExtOp) → awaited_at x Due ≡ None
+due_waits_for_none None = refl
+due_waits_for_none (Some op) = release_waits_for_none (ext_element op) (Paused Due) tt
+
+knows_none : (w : PortValue) (o : Option ℕ) → o ≡ None → KnowsAwaited w o
+knows_none w o is = subst (KnowsAwaited w) (sym is) tt
+
+-- ---- elements
+settles_awaits : (d : ℕ) (e : Element) (awaited : Option ℕ) (v w : PortValue) (answers : List Bool) (answer : Result (Unit {0}) Stop) → SettlesFirst (Performs d e awaited) v w answers answer → KnowsAwaited w (awaited_by e answer)
+settles_awaits d e awaited v _ _ _ (working.SettlesFirst.unsettled w answers stop s) = knows_none w (awaited_by e (Err stop)) (release_waits_for_none e stop s.kinds)
+settles_awaits d e awaited v _ _ _ (working.SettlesFirst.performed u w early answers answer s p) = p.awaits
+
+fits_awaits : (d : ℕ) (awaited : Option ℕ) (x : Option ExtOp) (v w : PortValue) (answers : List Bool) (p : Pause) → FitsExt d awaited x v w answers (Err (Paused p)) → KnowsAwaited w (awaited_at x p)
+fits_awaits d awaited None v w answers p fit = absurd fit
+fits_awaits d awaited (Some op) v w answers p fit = settles_awaits d (ext_element op) awaited v w answers (Err (Paused p)) fit
+
+-- ---- lists of them
+module _ (d : ℕ) (list : List ExtOp) (from : ℕ) (awaited : Option ℕ) (count : ℕ) (v : PortValue) (p : Pause) where
+  on_awaits : (to : ℕ) (w : PortValue) (answers : List Bool) (answer : Result (Unit {0}) Stop) → answer ≡ Err (Paused p) → WorksOn (ExtFits d list from awaited) count from v to w answers answer → KnowsAwaited w (awaited_at (slice_get list to) p)
+  on_awaits _ _ _ _ is (all_done at) = absurd (cc)
+  on_awaits _ _ _ _ is (last_done k u w answers asked did fit at) = absurd (cc)
+  on_awaits _ _ _ _ is (due k u w answers asked did fit less) =
+      let same : p ≡ Due = cc in
+      knows_none w _ (ap (awaited_at (slice_get list (k + 1))) same ∙ due_waits_for_none (slice_get list (k + 1)))
+  on_awaits _ _ _ _ is (stopped k u w answers asked e did fit less) =
+      let same : e ≡ Paused p = cc in
+      fits_awaits d (awaited_for from awaited k) (slice_get list k) u w asked p (subst (λ (x : Stop). ExtFits d list from awaited k u w asked (Err x)) same fit)
+
+  through_awaits : (to : ℕ) (w : PortValue) (answers : List Bool) (answer : Result (Unit {0}) Stop) → answer ≡ Err (Paused p) → WorksThrough (ExtFits d list from awaited) count v from to w answers answer →
+      KnowsAwaited w (awaited_at (slice_get list to) p)
+  through_awaits to w answers answer is (inl whole) = absurd (not_paused whole.1.refused is)
+    where
+      not_paused : {r : Refusal} {a : Result (Unit {0}) Stop} → a ≡ Err (Refused r) → a ≡ Err (Paused p) → ⊥
+      not_paused refused paused = let both = sym refused ∙ paused in cc
+  through_awaits to w answers answer is (inr works) = on_awaits to w answers answer is works.1
+
+-- ---- operations
+pauses_too : (p : Pause) (ended : Result (Unit {0}) Stop) (answer : Result ℕ Stop) → answer ≡ valued ended → answer ≡ Err (Paused p) → ended ≡ Err (Paused p)
+pauses_too p (Ok done) answer valued_is is = absurd (let both = sym valued_is ∙ is in cc)
+pauses_too p (Err e) answer valued_is is =
+    let both = sym valued_is ∙ is in
+    let same : e ≡ Paused p = cc in
+    ap (λ (x : Stop). Err x) same
+
+operation_awaits : (d : ℕ) (o : Option Task) (awaited : Option ℕ) (v : PortValue) (from to : ℕ) (w : PortValue) (answers : List Bool) (answer : Result ℕ Stop) (p : Pause) → answer ≡ Err (Paused p) →
+    Works d o awaited v from to w answers answer → KnowsAwaited w (awaited_in o to p)
+operation_awaits d None awaited v from to w answers answer p is works = tt
+operation_awaits d (Some (OfPairs foreign list)) awaited v from to w answers answer p is works = tt
+operation_awaits d (Some (OfExt list)) awaited v from to w answers answer p is works =
+    through_awaits d list from awaited (length list) v p to w answers works.ended (pauses_too p works.ended answer works.answer_is is) works.works
+operation_awaits d (Some (OfRead user va)) awaited v from to w answers answer p is works = tt
+operation_awaits d (Some (OfWrite user va val)) awaited v from to w answers answer p is works = tt
+
+-- the vCPU behind it
+pub ended_awaits : (c : Processing) (op : Op) → slice_get c.script (length c.log) ≡ Some op → (d : ℕ) (awaited : Option ℕ) (v : PortValue) (from to : ℕ) (w : PortValue) (answers : List Bool) (answer : Result ℕ Stop) →
+    Works d (task_of op) awaited v from to w answers answer → KnowsAwaited w (after_turn c to (end_of to answer)).awaited
+ended_awaits c op next d awaited v from to w answers (Ok value) works = tt
+ended_awaits c op next d awaited v from to w answers (Err (Refused r)) works = tt
+ended_awaits c op next d awaited v from to w answers (Err (Paused p)) works =
+    subst (λ (o : Option Op). KnowsAwaited w (awaited_after o to p)) (sym next) (operation_awaits d (task_of op) awaited v from to w answers (Err (Paused p)) p refl works)

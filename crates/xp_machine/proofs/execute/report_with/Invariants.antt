@@ -1,0 +1,10 @@
+use Rattle.std.proofs.Common.{◌≡◌, map}
+use Rattle.vcpu_turn.specs.Cpus.{pending_of}
+use Rattle.xp_machine.specs.Ran.{log_of}
+use Rattle.xp_machine.proofs.execute.report_with.Given as goal
+
+abbrev pub invariant-runners : goal.invariant-runners
+invariant-runners g l = record {
+  logs : l.logs.items ≡ map (λ s. log_of s.cpu) l.yielded;
+  pending : l.pending.items ≡ map (λ s. pending_of s.cpu) l.yielded;
+}
