@@ -169,7 +169,6 @@ module _ (v w : PortValue) (f : Flushed v w) where
   had_less stamp had =
       EachOf-some _ (λ k x. nat_le 0 k && (is_at (sizes_of v.post.machine) Clock x && (left_of x == stamp))) v.holdings.steps flushed_above had (stamp < f.to)
       (λ k x test less.
-        let a = and_parts (nat_le 0 k) _ test in
-        let b = and_parts (is_at (sizes_of v.post.machine) Clock x) (left_of x == stamp) a.1 in
-        subst (λ y. y < f.to) (equal_by _ _ b.1) (subst (λ q. clock_value q (left_of x) < f.to) (same_place _ Clock b.0) less.1))
-
+      let a = and_parts (nat_le 0 k) _ test in
+      let b = and_parts (is_at (sizes_of v.post.machine) Clock x) (left_of x == stamp) a.1 in
+      subst (λ y. y < f.to) (equal_by _ _ b.1) (subst (λ q. clock_value q (left_of x) < f.to) (same_place _ Clock b.0) less.1))

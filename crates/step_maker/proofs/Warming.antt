@@ -36,8 +36,8 @@ ran_warm v w (m ∷ ms) (u, before, moved) =
     record {
       later = omega (arith, a_later, b_later);
       warm = λ same warm.
-        let first : u.holdings.ran ≡ v.holdings.ran = omega (arith, a_later, b_later, same) in
-        b.warm (same ∙ sym first) (a.warm first warm);
+          let first : u.holdings.ran ≡ v.holdings.ran = omega (arith, a_later, b_later, same) in
+          b.warm (same ∙ sym first) (a.warm first warm);
     }
 
 pub came_warm : (v w : PortValue) → Came v w → w.holdings.ran ≡ v.holdings.ran → v.holdings.cold ≡ false → w.holdings.cold ≡ false
