@@ -1,5 +1,5 @@
 -- What a kind word of each form says, and what it says after a sum.
-use Rattle.std.proofs.Common.{Option, None, IsTrue, ap, ◌∙◌, inl, inr, ◌≡◌, ℕ, ◌+◌, ◌-◌, ◌/◌, ◌%◌, ◌^◌, ◌<◌, ◌==◌, ◌&&◌, ◌||◌, not, if◌then◌else◌, Bool, true, false, Some, refl, arith}
+use Rattle.std.proofs.Common.{Option, None, IsTrue, ap, ◌∙◌, inl, inr, ◌≡◌, ℕ, ◌+◌, ◌-◌, ◌/◌, ◌%◌, ◌^◌, ◌<◌, ◌==◌, ◌&&◌, ◌||◌, not, if◌then◌else◌, Bool, true, false, Some, refl, arith, ◌×◌, ◌≤◌}
 use Rattle.std.proofs.lemmas.Bool.{cases_Bool}
 use Rattle.xp_words.proofs.KindLaws.{when_some, kind_write-read}
 use Rattle.xp_words.specs.Machine.{Machine}
@@ -11,7 +11,8 @@ use Rattle.xp_board.specs.Spelling.{IsSpelling, is_kind_in}
 use Rattle.xp_board.specs.Sound.{Spelled}
 use Rattle.std.proofs.lemmas.Bool.Decides.{nat_tests}
 use Rattle.xp_words.specs.declared.kind.KindWord.{KindWord}
-use Rattle.xp_words.specs.PageTypes.{is_none, is_table}
+use Rattle.xp_words.specs.PageTypes.{is_none, is_table, type_number}
+use Rattle.xp_words.specs.declared.kind.PageType.{PageType}
 use Rattle.xp_words.specs.KindWords.{kind_read, kind_fields, has_form, is_partial_form}
 use Rattle.xp_board.specs.RefSteps.{one_down}
 use Rattle.xp_board.specs.KindSteps.{unlocked_down}
@@ -199,3 +200,12 @@ fields_unlocked w small some set =
     let h : (w + unlocked_down) % 2 ^ 64 / 2 ^ 36 % 2 ^ 10 ≡ w / 2 ^ 36 % 2 ^ 10 = omega arith in
     let i : (w + unlocked_down) % 2 ^ 64 % 2 ^ 36 ≡ w % 2 ^ 36 - 1 = omega arith in
     rw (a, b, c, d, e, f, g, h, i) refl
+
+-- ---- tables
+pub table_levels : (t : PageType) → is_table t ≡ true → (1 ≤ type_number t) × (type_number t ≤ 4)
+table_levels t table = (grind (arith, nat_tests), grind (arith, nat_tests))
+
+-- ---- places
+pub frame_inside : (n : Machine) (g : ℕ) → IsTrue (is_place (sizes_of n) (Kind g)) → g < n.frames
+unfolding is_place
+frame_inside n g is = grind (arith, nat_tests)

@@ -2,19 +2,15 @@
 use Rattle.std.proofs.Common.{◌≡◌, ℕ, Bool, true, false, List, [], ◌++◌, Result, Ok, Err, refl}
 use Rattle.xp_words.specs.declared.reply.Stop.{Stop}
 use Rattle.xp_board.specs.Told.{PortValue}
-use Rattle.xp_preempt.specs.Gates.{ends_yes}
 use Rattle.foreign_map.specs.declared.owners.Owners.{Owners}
 use Rattle.level_release.specs.Asking.{is_due_answer}
-use Rattle.xp_preempt.proofs.Consulting.{consulted_none, consulted_then}
+use Rattle.xp_preempt.proofs.Consulting.{consulted_none, consulted_then, not_due}
 use Rattle.entry_exchange.specs.declared.exchanging.EntryUpdate.{EntryUpdate}
 use Rattle.entry_exchange.specs.Course.{ExchangesBy, Exchanged, GaveDemand, LeftLock, PutsNew, SawEntry, new_demand, old_demand}
 use Rattle.entry_exchange.specs.Course as courses
 use Rattle.entry_exchange.specs.Holding.{owner_at}
 use Rattle.entry_exchange.specs.Parts.{ReleasesBy, TakesBy}
 use Rattle.entry_exchange.specs.Words.{same_demand}
-
-pub not_due : (b : Bool) (answers : List Bool) → b ≡ false → b ≡ true → ends_yes answers ≡ true
-not_due b answers off on = absurd cc
 
 module _ (v u : PortValue) (x : EntryUpdate) (o : Owners) (seen : ℕ) (saw : SawEntry v u x.table x.index seen) (says : ℕ → Bool) where
   -- ---- the gate was not asked

@@ -22,11 +22,9 @@ use Rattle.board_lemmas.proofs.Counted.{entries-part, held_inside, names_typed-t
 use Rattle.board_lemmas.proofs.KindReadings.{live_count}
 use Rattle.board_lemmas.proofs.LiveTables.{table_held}
 use Rattle.board_lemmas.proofs.LockFacts.{Locks, lock_facts}
+use Rattle.board_lemmas.proofs.KindForms.{table_levels}
 use Rattle.table_entries.proofs.LastEntry.{counted_inside}
 use Rattle.entry_exchange.specs.Parts.{IsInside, WasInside}
-
-table_number : (t : PageType) → is_table t ≡ true → (1 ≤ type_number t) × (type_number t ≤ 4)
-table_number t table = grind (arith, nat_tests)
 
 module _ (n : Machine) (m : Place → ℕ) (h : ℕ → Holdings) (s f i : ℕ) (e : Lock) (sound : Sound n m h) (real : s < (sizes_of n).vcpus) (here : lock_on f (h s).locks ≡ Some e) (index : i < 512) where
   facts : Locks n m h s f e
@@ -44,7 +42,7 @@ module _ (n : Machine) (m : Place → ℕ) (h : ℕ → Holdings) (s f i : ℕ) 
 
   recorded : i < held (sizes_of n) m h f
   recorded =
-      let numbers = table_number (kind_at m f).kind facts.table in
+      let numbers = table_levels (kind_at m f).kind facts.table in
       let all = table_held n m h sound f live some numbers.0 numbers.1 in
       omega (arith, all, index)
 

@@ -9,7 +9,7 @@ use Rattle.xp_words.specs.declared.reply.Stop.TheVariants.{Paused}
 use Rattle.xp_board.specs.declared.holdings.TypedReference.{TypedReference}
 use Rattle.xp_board.specs.Hands.{without_typed}
 use Rattle.xp_board.specs.Told.{PortValue}
-use Rattle.xp_preempt.proofs.Consulting.{consulted_none}
+use Rattle.xp_preempt.proofs.Consulting.{consulted_none, not_due}
 use Rattle.step_maker.specs.Holds.{still}
 use Rattle.answer_fits.specs.Answers.{Serves, misses}
 use Rattle.answer_fits.specs.Asked.{of_back}
@@ -23,7 +23,6 @@ use Rattle.entry_exchange.specs.Course.{ReleasedDemand}
 use Rattle.entry_exchange.specs.Course as courses
 use Rattle.entry_exchange.specs.Parts.{LeavesGone, ReleasesBy}
 use Rattle.entry_exchange.specs.Serving.{of_given}
-use Rattle.entry_exchange.proofs.Courses.{not_due}
 use Rattle.entry_exchange.proofs.ServesGiving.{released_ref, released_typed}
 
 -- ---- what is in hand then

@@ -15,7 +15,7 @@ use Rattle.xp_board.specs.Told.{PortValue}
 use Rattle.step_maker.specs.Holds.{FlushedHolds}
 use Rattle.frame_words.specs.Refs.{IsRefStop}
 use Rattle.level_release.specs.Asking.{is_due_answer, is_due_stop}
-use Rattle.xp_preempt.proofs.Consulting.{consulted_none}
+use Rattle.xp_preempt.proofs.Consulting.{consulted_none, not_due}
 use Rattle.level_validate.specs.Acquiring as acquires
 use Rattle.level_validate.specs.Acquiring.{AcquiresBy, IsAcquireStop, LeavesAcquired}
 use Rattle.partial_state.specs.Levels.{level_type}
@@ -26,7 +26,6 @@ use Rattle.entry_exchange.specs.Course.{TookDemand}
 use Rattle.entry_exchange.specs.Course as courses
 use Rattle.entry_exchange.specs.Holding.{LeavesDemand}
 use Rattle.entry_exchange.specs.Parts.{IsOfLevel, TakesBy}
-use Rattle.entry_exchange.proofs.Courses.{not_due}
 
 -- the gate said yes, by either word for it
 pub same_due : (e : Stop) → acquires.is_due_stop e ≡ is_due_stop e

@@ -26,8 +26,8 @@ use Rattle.answer_fits.specs.Asked.{of}
 use Rattle.answer_fits.specs.Finding.{Finding}
 use Rattle.answer_fits.specs.Reasons.{MayType}
 use Rattle.answer_fits.proofs.Piecing.{serves_step}
+use Rattle.answer_fits.proofs.Keeping.{kept_type}
 use Rattle.flush_words.proofs.Lasting.{last_left, moves_longer}
-use Rattle.frame_types.proofs.Serving.{kept_type}
 use Rattle.kind_words.specs.Kinds.{looked_at}
 use Rattle.kind_words.proofs.KindWriting.{fields_write}
 use Rattle.partial_state.specs.Levels.{level_type}

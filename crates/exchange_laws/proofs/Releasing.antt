@@ -9,6 +9,7 @@ use Rattle.xp_words.specs.declared.reply.Stop.{Stop}
 use Rattle.xp_words.specs.declared.reply.Stop.TheVariants.{Paused}
 use Rattle.xp_preempt.specs.Gates.{yeses}
 use Rattle.xp_board.specs.Told.{PortValue, is_telling, told_word}
+use Rattle.board_lemmas.proofs.KindForms.{frame_inside}
 use Rattle.partial_state.specs.Levels.{level_type}
 use Rattle.partial_state.specs.declared.stack.TableWork.{TableWork}
 use Rattle.answer_fits.specs.Answers.{Stops}
@@ -22,7 +23,7 @@ use Rattle.level_release.specs.Course as release
 use Rattle.level_release.specs.Course.{Emptied, Lowered, RanDown, WasReleased}
 use Rattle.entry_exchange.specs.Course as course
 use Rattle.entry_exchange.specs.Course.{ReleasedDemand}
-use Rattle.release_laws.proofs.Seen.{drops_seen, kind_inside}
+use Rattle.release_laws.proofs.Seen.{drops_seen}
 use Rattle.exchange_laws.proofs.Given.{given_back}
 
 -- the law of releases
@@ -64,7 +65,7 @@ release_calm v f t _ _ _ (release.last u x w word level answers answer on same h
 
 -- ---- its frame is one of the machine
 drops_inside : (v u : PortValue) (f : ℕ) (last : Bool) → DropsType v u f last → f < v.post.machine.frames
-drops_inside v u f last a = kind_inside v.post.machine f a.lowers.step.may.place
+drops_inside v u f last a = frame_inside v.post.machine f a.lowers.step.may.place
 
 released_inside : (v : PortValue) (f : ℕ) (t : PageType) (w : PortValue) (answers : List Bool) (r : Result (Unit {0}) Stop) → is_telling v ≡ true → WasReleased v f t w answers r → f < v.post.machine.frames
 released_inside v f t _ _ _ telling (release.plain w off gave) = (drops_seen v w f t telling gave.found).0.inside

@@ -9,7 +9,7 @@ use Rattle.xp_board.specs.declared.step.Act.TheVariants.{Add, Store}
 use Rattle.xp_board.specs.declared.step.StepKind.TheVariants as kinds
 use Rattle.xp_board.specs.KindSteps.{unlocked_down}
 use Rattle.xp_board.specs.Told.{Post, PortValue, is_telling, told_word}
-use Rattle.board_lemmas.proofs.KindForms.{fields_unlocked}
+use Rattle.board_lemmas.proofs.KindForms.{fields_unlocked, frame_inside}
 use Rattle.step_maker.specs.Moves.{Came, Moves}
 use Rattle.step_maker.specs.Plain.{Words, change}
 use Rattle.step_maker.proofs.Coming.{came_post, came_trans, moves_came}
@@ -32,7 +32,6 @@ use Rattle.entry_locks.proofs.Unlocking.{unlock_words}
 use Rattle.entry_exchange.specs.Course as course
 use Rattle.entry_exchange.specs.Course.{LeftLock}
 use Rattle.exchange_laws.specs.Plain.{unlocked, unlocked_by}
-use Rattle.release_laws.proofs.Seen.{kind_inside}
 use Rattle.exchange_laws.proofs.Given.{given_back}
 
 -- ---- its steps are steps of the port
@@ -59,7 +58,7 @@ module _ (n : Machine) (v u : PortValue) (f level : ℕ) (last : Bool) (p : Plai
   new = (off.found + unlocked_down) % 2 ^ 64
 
   inside : f < v.post.machine.frames
-  inside = kind_inside v.post.machine f off.unlocks.step.may.place
+  inside = frame_inside v.post.machine f off.unlocks.step.may.place
 
   word : told_word v (Kind f) ≡ off.found
   word = told_there v u _ _ _ _ _ off.unlocks.step telling

@@ -38,14 +38,11 @@ use Rattle.found_rule.proofs.Quiet.{Done}
 use Rattle.board_lemmas.proofs.EntryAsks.{walked_inside}
 use Rattle.board_lemmas.proofs.HandLists.{first-some}
 use Rattle.board_lemmas.proofs.Works.{only_my_lock}
-use Rattle.board_lemmas.proofs.KindForms.{live_unmarked}
+use Rattle.board_lemmas.proofs.KindForms.{live_unmarked, table_levels}
 use Rattle.board_lemmas.proofs.LockFacts.{lock_facts, rewritten_same}
 use Rattle.board_lemmas.proofs.HandTypes.{refs_out, typed_out, refs_in, typed_in}
 use Rattle.board_lemmas.proofs.CountsDown.{lock_live, lock_some}
 use Rattle.board_lemmas.proofs.Serving.{AsksLive, target_serves, recorded_asks, asks_hand}
-
-pub table_levels : (t : PageType) → is_table t ≡ true → (1 ≤ type_number t) × (type_number t ≤ 4)
-table_levels t e = (grind (arith, nat_tests), grind (arith, nat_tests))
 
 module _ (n : Machine) (s : ℕ) (x : Step) (m m2 : Place → ℕ) (b c : ℕ → Holdings) (l : s < (sizes_of n).vcpus) (sound : Sound n m b) (others : (t : ℕ) → t ≢ s → c t ≡ b t) (f i : ℕ) where
   -- ---- an act on a cell that moves references alone

@@ -25,12 +25,12 @@ use Rattle.found_rule.proofs.WordsOf.{CellSpared}
 use Rattle.found_rule.proofs.Demands.{same_rest}
 use Rattle.found_rule.proofs.CellReach.{unreached_passes}
 use Rattle.found_rule.proofs.CellFacts.{FixedWorks, lock_table, zero_none}
-use Rattle.found_rule.proofs.CellSteps.{cell_done, table_levels}
+use Rattle.found_rule.proofs.CellSteps.{cell_done}
 use Rattle.found_rule.proofs.Quiet.{Done}
 use Rattle.board_lemmas.proofs.CellAlike.{not_reads}
 use Rattle.board_lemmas.proofs.HandLists.{EachOf-map}
 use Rattle.board_lemmas.proofs.ListCounts.{EachOf-both}
-use Rattle.board_lemmas.proofs.KindForms.{live_unmarked}
+use Rattle.board_lemmas.proofs.KindForms.{live_unmarked, table_levels}
 use Rattle.board_lemmas.proofs.ReachAll.{unmarked_matches, written_reach}
 use Rattle.board_lemmas.proofs.CountsDown.{lock_live, lock_some}
 

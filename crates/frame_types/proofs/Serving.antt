@@ -24,6 +24,7 @@ use Rattle.answer_fits.specs.Asked.{of_back, of_frame}
 use Rattle.answer_fits.specs.Reasons.{keeps_type}
 use Rattle.answer_fits.proofs.Later.{IsUncounted}
 use Rattle.answer_fits.proofs.Piecing.{serves_back, serves_came, serves_nothing, serves_step}
+use Rattle.answer_fits.proofs.Keeping.{kept_type}
 use Rattle.frame_words.proofs.Taking.{names_itself}
 use Rattle.frame_words.proofs.Twinning.{low_rest}
 use Rattle.frame_words.specs.Plain.{put, stamp_now}
@@ -35,9 +36,6 @@ use Rattle.frame_types.specs.Taking.{IsTypeStop}
 use Rattle.frame_types.specs.Plain.{set_kind}
 
 -- ---- they serve the type that is asked
-pub kept_type : (found new : ℕ) (k l : KindWord) → kind_fields found ≡ k → kind_fields new ≡ l → l.kind ≡ k.kind → is_dead k ≡ false → IsTrue (keeps_type found new)
-kept_type found new k l is to same alive = rw (is, to, same, alive, same_type k.kind) refl
-
 pub work_alive : (k : KindWord) → IsTrue (is_work k) → is_dead k ≡ false
 work_alive k work = grind (arith, nat_tests)
 

@@ -22,6 +22,7 @@ use Rattle.answer_fits.specs.Asked.{IsAsked, Request}
 use Rattle.answer_fits.specs.Reasons.{keeps_type}
 use Rattle.answer_fits.proofs.Growing.{asks}
 use Rattle.answer_fits.proofs.Piecing.{same_request, serves_came, serves_step}
+use Rattle.answer_fits.proofs.Keeping.{kept_type}
 use Rattle.kind_words.specs.Kinds.{MayLeave}
 use Rattle.kind_words.proofs.KindFacts.{work_word}
 use Rattle.kind_words.proofs.KindWriting.{fields_write}
@@ -31,9 +32,6 @@ use Rattle.kept_marks.specs.Marks.{IsUnpaged, unkept_kind}
 use Rattle.kept_marks.proofs.MarkWords.{partial_form, partial_undead, unkept_is}
 
 -- ---- words that keep their type
-type_stays : (found new : ℕ) (k l : KindWord) → kind_fields found ≡ k → kind_fields new ≡ l → l.kind ≡ k.kind → is_dead k ≡ false → IsTrue (keeps_type found new)
-type_stays found new k l is to same alive = rw (is, to, same, alive, same_type k.kind) refl
-
 busy_undead : (k : KindWord) → is_busy k ≡ true → is_dead k ≡ false
 busy_undead k busy = grind (arith, nat_tests)
 
@@ -58,7 +56,7 @@ module _ (v a : PortValue) (f : ℕ) (k : KindWord) (leaves : MayLeave v f k) (p
       let facts = works_facts v.post.machine finds.words finds.hands v.post.vcpu f leaves.work finds.sound finds.real (subst (λ (h : Holdings). work_on f h.works ≡ Some leaves.work) (sym finds.mine) leaves.here) in
       let may : MayMakePartial v.post.machine f leaves.work k v.holdings = subst (λ o. AllowsForm o v.post.machine f leaves.work k v.holdings) (partial_form k partial) leaves.may in
       let busy : is_busy (kind_fields leaves.work.word) ≡ true = ap (λ y. is_busy (kind_fields y)) (sym facts.word) ∙ facts.busy in
-      type_stays found (kind_write k) (kind_fields leaves.work.word) k (ap (λ y. kind_fields y) word_is) (fields_write k leaves.is) may.kind (busy_undead (kind_fields leaves.work.word) busy)
+      kept_type found (kind_write k) (kind_fields leaves.work.word) k (ap (λ y. kind_fields y) word_is) (fields_write k leaves.is) may.kind (busy_undead (kind_fields leaves.work.word) busy)
 
   module _ (u : PortValue) (r : Request) (ds : List Deed) (before : Serves u v r ds) (asked : IsAsked u.post.machine u.post.vcpu r (Met u v) f) where
     pub left_serves : Serves u a r ds
@@ -77,7 +75,7 @@ module _ (u x y : PortValue) (r : Request) (f : ℕ) (k : KindWord) (is : IsTrue
   tried : Serves u y r (deeds_by (Kind f) (Cas (kind_write k) (kind_write (unkept_kind k))) kinds.Kind found x.holdings ++ ds)
   tried =
       serves_step u x y r ds (Kind f) (Cas (kind_write k) (kind_write (unkept_kind k))) kinds.Kind None found before try
-      (inr (locks, asked, type_stays (kind_write k) (kind_write (unkept_kind k)) k (unkept_kind k) (fields_write k is) (fields_write (unkept_kind k) (unkept_is k is partial page)) refl (partial_undead k partial)))
+      (inr (locks, asked, kept_type (kind_write k) (kind_write (unkept_kind k)) k (unkept_kind k) (fields_write k is) (fields_write (unkept_kind k) (unkept_is k is partial page)) refl (partial_undead k partial)))
 
   no_deed : found ≡ kind_write k → deeds_by (Kind f) (Cas (kind_write k) (kind_write (unkept_kind k))) kinds.Kind found x.holdings ≡ []
   no_deed done = rw (when_eq found (kind_write k) done, fields_write k is, fields_write (unkept_kind k) (unkept_is k is partial page)) (pin_none f k.pinned)

@@ -26,7 +26,8 @@ use Rattle.answer_fits.specs.Answers.{Misses, Serves, Stops, deeds_by, exchanged
 use Rattle.answer_fits.specs.Asked.{IsAsked, of_back}
 use Rattle.answer_fits.specs.Reasons.{MayType}
 use Rattle.answer_fits.proofs.Piecing.{serves_back, serves_came, serves_step}
-use Rattle.frame_types.proofs.Serving.{kept_type, work_alive}
+use Rattle.answer_fits.proofs.Keeping.{kept_type}
+use Rattle.frame_types.proofs.Serving.{work_alive}
 use Rattle.kind_words.proofs.KindFacts.{read_is, work_word}
 use Rattle.kind_words.proofs.KindWriting.{fields_write, resumed_is}
 use Rattle.partial_state.specs.declared.stack.TableWork.{TableWork}

@@ -18,7 +18,8 @@ use Rattle.answer_fits.specs.Answers.{Deed, Serves}
 use Rattle.answer_fits.specs.Asked.{Request, of_back}
 use Rattle.answer_fits.specs.Reasons.{keeps_type}
 use Rattle.answer_fits.proofs.Piecing.{serves_step}
-use Rattle.frame_types.proofs.Serving.{kept_type, work_alive}
+use Rattle.answer_fits.proofs.Keeping.{kept_type}
+use Rattle.frame_types.proofs.Serving.{work_alive}
 use Rattle.kind_words.specs.Kinds.{dead_kind, partial_kind}
 use Rattle.kind_words.proofs.KindFacts.{clock_is_small, work_word}
 use Rattle.kind_words.proofs.KindWriting.{dead_is, fields_write}

@@ -13,7 +13,7 @@ use Rattle.xp_words.specs.declared.place.Place.{Place}
 use Rattle.xp_words.specs.declared.place.Place.TheVariants.{Kind}
 use Rattle.xp_board.specs.Lists.{EachOf}
 use Rattle.xp_board.specs.Told.{Finds, Post, PortValue}
-use Rattle.board_lemmas.proofs.KindForms.{form_read, partial_form}
+use Rattle.board_lemmas.proofs.KindForms.{form_read, frame_inside, partial_form}
 use Rattle.step_maker.specs.Moves.{Met}
 use Rattle.step_maker.proofs.Coming.{came_post}
 use Rattle.answer_fits.specs.Finding.{FoundAt}
@@ -38,10 +38,6 @@ use Rattle.level_validate.proofs.Looking.{met_place}
 use Rattle.level_validate.proofs.Visited.{WasFound, does_shows, each_next, first_is}
 
 -- ---- the kind word that was found
-frame_inside : (n : Machine) (g : ℕ) → IsTrue (is_place (sizes_of n) (Kind g)) → g < n.frames
-unfolding is_place
-frame_inside n g is = grind (arith, nat_tests)
-
 kind_inside : (v w : PortValue) (g x : ℕ) → FoundAt (Met v w) (Kind g) x → g < v.post.machine.frames
 kind_inside v w g x found = frame_inside v.post.machine g (subst (λ (p : Place). IsTrue (is_place (sizes_of v.post.machine) p)) found.place (met_place v w found.moment found.was))
 

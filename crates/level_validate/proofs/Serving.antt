@@ -16,9 +16,10 @@ use Rattle.answer_fits.specs.Asked.{Asked, IsAsked, Request, of, of_back, of_fra
 use Rattle.answer_fits.specs.Finding.{Finding}
 use Rattle.answer_fits.specs.Reasons.{keeps_type}
 use Rattle.answer_fits.proofs.Piecing.{same_request, serves_back, serves_call, serves_came, serves_step}
+use Rattle.answer_fits.proofs.Keeping.{kept_type}
 use Rattle.frame_types.specs.Leaving.{ServesType}
 use Rattle.table_entries.proofs.PiecesTaking.{left_serves}
-use Rattle.frame_types.proofs.Serving.{kept_type, work_alive}
+use Rattle.frame_types.proofs.Serving.{work_alive}
 use Rattle.kind_words.proofs.KindFacts.{work_word}
 use Rattle.kind_words.proofs.KindWriting.{fields_write}
 use Rattle.table_words.specs.OldWords.{old_place}

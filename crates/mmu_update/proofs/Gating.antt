@@ -2,23 +2,16 @@
 use Rattle.std.proofs.Common.{◌≡◌, ℕ, Bool, true, false, [], Result, refl, sym, subst, arith}
 use Rattle.xp_words.specs.declared.reply.Stop.{Stop}
 use Rattle.xp_board.specs.Told.{PortValue}
-use Rattle.xp_preempt.specs.Gates.{Consulted, Gives, asks_on, ends_yes, yeses}
+use Rattle.xp_preempt.proofs.Consulting.{consulted_none, not_due}
 use Rattle.foreign_map.specs.declared.owners.Owners.{Owners}
 use Rattle.level_release.specs.Asking.{is_due_answer}
 use Rattle.mmu_update.specs.Fits.{Updates}
 use Rattle.mmu_update.specs.Writing.{WritesBy}
 use Rattle.mmu_update.specs.declared.element.Element.TheVariants.{Write}
 
-pub unasked : (says : ℕ → Bool) (asks agreed : ℕ) → Consulted says asks asks agreed agreed []
-unfolding Gives asks_on yeses
-unasked says asks agreed = record { gives = tt; asks = refl; yes = omega arith }
-
-pub not_due : (d : Bool) → d ≡ false → d ≡ true → ends_yes [] ≡ true
-not_due d off on = absurd cc
-
 pub ungated : (b w : PortValue) (o : Owners) (f i word : ℕ) (keep : Bool) (answer : Result (Unit {0}) Stop) (says : ℕ → Bool) (asks agreed : ℕ) → is_due_answer answer ≡ false → Updates o (Write f i word keep) b w [] answer →
     WritesBy b w o f i word keep says asks asks agreed agreed answer
-ungated b w o f i word keep answer says asks agreed undue updates = record { answers = []; course = updates; gate = unasked says asks agreed; due = not_due (is_due_answer answer) undue }
+ungated b w o f i word keep answer says asks agreed undue updates = record { answers = []; course = updates; gate = consulted_none says asks agreed; due = not_due (is_due_answer answer) [] undue }
 
 -- ---- the same answer, and the same frame
 module _ (b w : PortValue) (o : Owners) (f i word : ℕ) (keep : Bool) (says : ℕ → Bool) (before after agreed agrees : ℕ) (answer : Result (Unit {0}) Stop) (writes : WritesBy b w o f i word keep says before after agreed agrees answer) where

@@ -25,7 +25,7 @@ use Rattle.mmu_update.specs.Elements as elements
 use Rattle.mmu_update.specs.Elements.{IsMapStop, IsUpdateStop, LeavesUpdate, ServesUpdate, update_request}
 use Rattle.mmu_update.specs.declared.element.Element.{Element}
 use Rattle.mmu_update.specs.declared.element.Element.TheVariants.{Misaligned, SetM2p, Unknown}
-use Rattle.mmu_update.proofs.Gating.{not_due, unasked}
+use Rattle.xp_preempt.proofs.Consulting.{consulted_none, not_due}
 use Rattle.mmu_update.proofs.Holding.{leaves_same}
 use Rattle.mmu_update.proofs.Numbers.{no_step}
 use Rattle.mmu_update.proofs.Numbers as numbers
@@ -93,7 +93,7 @@ module _ (v w : PortValue) (o : Owners) (e : Element) (f gpfn : ℕ) (is : e ≡
   pub map_course : (answer : Result (Unit {0}) Stop) (says : ℕ → Bool) (asks agreed : ℕ) → SetFound v w f o.frames gpfn answer → TwinSet v w f o.frames gpfn answer → UpdatesBy v w o e says asks asks agreed agreed answer
   map_course answer says asks agreed found plain =
       subst (λ k. UpdatesBy v w o k says asks asks agreed agreed answer) (sym is)
-      (record { answers = []; course = (refl, found, plain); gate = unasked says asks agreed; due = not_due (is_due_answer answer) (map_undue answer found) })
+      (record { answers = []; course = (refl, found, plain); gate = consulted_none says asks agreed; due = not_due (is_due_answer answer) [] (map_undue answer found) })
 
 pub map_hand : (v w : PortValue) → Same v w → LeavesUpdate v w
 map_hand v w same = leaves_same v w (ap quiet same)
@@ -112,7 +112,7 @@ module _ (v : PortValue) (o : Owners) (e : Element) where
 
     pub misaligned_course : (says : ℕ → Bool) (asks agreed : ℕ) → UpdatesBy v v o e says asks asks agreed agreed (Err (Refused BadRange))
     misaligned_course says asks agreed =
-        subst (λ k. UpdatesBy v v o k says asks asks agreed agreed (Err (Refused BadRange))) (sym is) (record { answers = []; course = (refl, refl, refl); gate = unasked says asks agreed; due = not_due false refl })
+        subst (λ k. UpdatesBy v v o k says asks asks agreed agreed (Err (Refused BadRange))) (sym is) (record { answers = []; course = (refl, refl, refl); gate = consulted_none says asks agreed; due = not_due false [] refl })
 
   module _ (is : e ≡ Unknown) where
     pub unknown_serves : ServesUpdate v v o e (Err (Refused BadCommand))
@@ -123,4 +123,4 @@ module _ (v : PortValue) (o : Owners) (e : Element) where
 
     pub unknown_course : (says : ℕ → Bool) (asks agreed : ℕ) → UpdatesBy v v o e says asks asks agreed agreed (Err (Refused BadCommand))
     unknown_course says asks agreed =
-        subst (λ k. UpdatesBy v v o k says asks asks agreed agreed (Err (Refused BadCommand))) (sym is) (record { answers = []; course = (refl, refl, refl); gate = unasked says asks agreed; due = not_due false refl })
+        subst (λ k. UpdatesBy v v o k says asks asks agreed agreed (Err (Refused BadCommand))) (sym is) (record { answers = []; course = (refl, refl, refl); gate = consulted_none says asks agreed; due = not_due false [] refl })

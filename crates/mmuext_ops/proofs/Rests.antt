@@ -5,7 +5,7 @@ use Rattle.xp_words.specs.declared.reply.Pause.TheVariants as pauses
 use Rattle.xp_words.specs.declared.reply.Stop.{Stop}
 use Rattle.xp_words.specs.declared.reply.Stop.TheVariants.{Paused, Refused}
 use Rattle.xp_board.specs.Told.{Post, PortValue}
-use Rattle.xp_preempt.specs.Gates.{Consulted, Gives, asks_on, yeses}
+use Rattle.xp_preempt.proofs.Consulting.{consulted_none}
 use Rattle.step_maker.specs.Holds.{FlushedHolds, FlushedSame, Rests}
 use Rattle.frame_words.specs.Refs.{IsRefStop}
 use Rattle.level_validate.specs.Acquiring as acquires
@@ -54,13 +54,9 @@ rests_unpinned v w f (Ok done) rests (inr leaves) = rests_by v w _ rests leaves
 rests_unpinned v w f (Err e) rests leaves = rests_same v w rests leaves
 
 -- ---- the gate
-pub unasked : (says : ℕ → Bool) (asks agreed : ℕ) → Consulted says asks asks agreed agreed []
-unfolding Gives asks_on yeses
-unasked says asks agreed = record { gives = tt; asks = refl; yes = omega arith }
-
 pub ungated : (v w : PortValue) (d : ℕ) (e : Element) (awaited : Option ℕ) (answer : Result (Unit {0}) Stop) (says : ℕ → Bool) (asks agreed : ℕ) → Performed v w d e awaited [] answer → is_due_answer answer ≡ false →
     PerformsBy v w d e awaited says asks asks agreed agreed answer
-ungated v w d e awaited answer says asks agreed course undue = record { answers = []; course = course; gate = unasked says asks agreed; due = λ due. absurd cc }
+ungated v w d e awaited answer says asks agreed course undue = record { answers = []; course = course; gate = consulted_none says asks agreed; due = λ due. absurd cc }
 
 pub spent_undue : (answer : Result (Unit {0}) Stop) → IfErr answer IsSpentStop → is_due_answer answer ≡ false
 spent_undue (Ok done) is = refl

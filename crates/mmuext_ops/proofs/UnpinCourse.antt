@@ -15,13 +15,13 @@ use Rattle.level_release.specs.Course.{ReleasesFrameBy, WasReleased}
 use Rattle.mmuext_ops.specs.Course.{SawKind, TakesPinOff, Unpinned, UnpinsBy, is_pinned}
 use Rattle.mmuext_ops.specs.Course as course
 use Rattle.level_release.specs.Asking.{is_due_stop}
-use Rattle.mmuext_ops.proofs.PinCourse.{not_due}
-use Rattle.mmuext_ops.proofs.Rests.{reference_undue, unasked}
+use Rattle.xp_preempt.proofs.Consulting.{consulted_none, not_due}
+use Rattle.mmuext_ops.proofs.Rests.{reference_undue}
 
 -- the gate is asked nothing
 module _ (v w : PortValue) (d f : ℕ) (says : ℕ → Bool) (asks agreed : ℕ) where
   unasked_course : (stop : Stop) → is_due_stop stop ≡ false → Unpinned v w d f [] (Err stop) → UnpinsBy v w d f says asks asks agreed agreed (Err stop)
-  unasked_course stop undue by = record { answers = []; course = by; gate = unasked says asks agreed; due = not_due (is_due_stop stop) [] undue }
+  unasked_course stop undue by = record { answers = []; course = by; gate = consulted_none says asks agreed; due = not_due (is_due_stop stop) [] undue }
 
   pub unreferred_course : (answer : Result (Unit {0}) Stop) (stop : Stop) → answer ≡ Err stop → IsRefStop stop → GotRef v w f d (Err stop) → UnpinsBy v w d f says asks asks agreed agreed answer
   unreferred_course answer stop is kind got = subst (λ y. UnpinsBy v w d f says asks asks agreed agreed y) (sym is) (unasked_course stop (reference_undue stop kind) (course.unreferred stop got))

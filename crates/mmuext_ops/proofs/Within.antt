@@ -7,6 +7,7 @@ use Rattle.xp_board.specs.declared.holdings.Lock.{Lock}
 use Rattle.xp_board.specs.declared.holdings.Work.{Work}
 use Rattle.xp_board.specs.Hands.{lock_on, refs_to, work_on}
 use Rattle.xp_board.specs.Told.{PortValue}
+use Rattle.table_bases.proofs.Requests.{plain_table}
 use Rattle.step_maker.specs.Holds.{Same}
 use Rattle.step_maker.specs.Moves.{Moment}
 use Rattle.answer_fits.specs.Asked.{Asked, Implies, IsNaming, NoMore, Request, Within, back, context, demanded, entered, entry_owner, named, of_old, of_table, owner_below, walked}
@@ -15,11 +16,6 @@ use Rattle.table_entries.specs.Asking.{of_entries}
 use Rattle.table_entries.proofs.PiecesWithin.{within_entries}
 
 -- ---- an acquisition, within a pin
-plain_table : (f owner : ℕ) (want : Option PageType) (pages : ℕ) (rose : Bool) → IsNaming (of_table f owner want pages rose) → ⊥
-plain_table f owner want pages rose (inl a) = absurd cc
-plain_table f owner want pages rose (inr (inl a)) = absurd cc
-plain_table f owner want pages rose (inr (inr a)) = absurd (let b = a.1 in cc)
-
 module _ (n : Machine) (s f d level : ℕ) (want : PageType) (rose risen : Bool) (F G : Finding) (more : (m : Moment) → F m → G m) where
   abbrev inner : Request
   inner = of_table f d (Some want) d rose

@@ -42,8 +42,10 @@ use Rattle.release_laws.proofs.Dropping.{again_given, again_held, again_in_work,
 use Rattle.release_laws.proofs.Parts.{does_only, does_parts, does_with}
 use Rattle.kind_words.proofs.KindFacts.{kind_found}
 use Rattle.xp_board.specs.declared.step.StepKind.{StepKind}
-use Rattle.release_laws.proofs.Seen.{kind_inside, IsCounted, IsLowered, drops_seen, kinded_counted, looked_counted, looked_lowered, lowers_seen, put_seen, stores_counted}
-use Rattle.release_laws.proofs.Words.{describes_left, put_words}
+use Rattle.table_twins.proofs.Entering.{described_leaves}
+use Rattle.board_lemmas.proofs.KindForms.{frame_inside}
+use Rattle.release_laws.proofs.Seen.{IsCounted, IsLowered, drops_seen, kinded_counted, looked_counted, looked_lowered, lowers_seen, put_seen, stores_counted}
+use Rattle.release_laws.proofs.Words.{put_words}
 
 -- ---- what the release of an entry comes to that asks this
 -- a table is released first, of which so many entries are recorded
@@ -141,10 +143,10 @@ module _ (z w : PortValue) (p : Plain) (f i l g : ℕ) (answer : Result Released
           held = live_all z.post.machine (told_word z) p l g d inside live low.small low.some one;
           few = omega arith;
           inside = inside;
-          describes = describes_left z.post.machine w _ _ a.1 (live_closing z.post.machine (told_word z) p l g d inside live low.small low.some one);
+          describes = described_leaves z.post.machine w _ _ a.1 (live_closing z.post.machine (told_word z) p l g d inside live low.small low.some one);
         })
     lowers_by false more table low counts a =
-        given a.0 (describes_left z.post.machine w _ _ a.1 (more_given z.post.machine (told_word z) p l g d inside live low.small low.some more (counts refl).some))
+        given a.0 (described_leaves z.post.machine w _ _ a.1 (more_given z.post.machine (told_word z) p l g d inside live low.small low.some more (counts refl).some))
 
     -- by its steps
     seen_lowered : Does z w (λ vs. Then (ShedsAt (Refs g) f i) (λ ls. LiveBy g (level_type l) answer true ls) vs) → IsLowered z g × (((kind_fields word).number == 1) ≡ false → IsCounted z g)
@@ -169,7 +171,7 @@ module _ (z w : PortValue) (p : Plain) (f i l g : ℕ) (answer : Result Released
         (does_as u w (λ ls. LiveBy g (level_type l) answer false ls) (DropsBy g (level_type l)) (λ vs c. c.1) (shed_goes z w (Refs g) f i g _ telling a)) in
         let low = shed_lowered z w (Refs g) f i g _ telling a s.0 in
         let refs = shed_counted z w (Refs g) f i g _ telling a s.1 in
-        given plain.0 (describes_left z.post.machine w _ _ plain.1 (plain_given z.post.machine (told_word z) p l g d inside live low.small low.some (plain_level l off) refs.some))
+        given plain.0 (described_leaves z.post.machine w _ _ plain.1 (plain_given z.post.machine (told_word z) p l g d inside live low.small low.some (plain_level l off) refs.some))
 
   -- ---- partial
   module _ (is : IsTrue (is_kind (kind_fields word))) (partial : IsTrue (is_partial (kind_fields word))) where
@@ -207,11 +209,11 @@ module _ (z w : PortValue) (p : Plain) (f i l g : ℕ) (answer : Result Released
           held = again_held z.post.machine (told_word z) p l g d inside is partial;
           few = few_recorded (kind_fields word) is partial;
           inside = inside;
-          describes = describes_left z.post.machine w _ _ a.2 (again_in_work z.post.machine (told_word z) p l g d inside is partial);
+          describes = described_leaves z.post.machine w _ _ a.2 (again_in_work z.post.machine (told_word z) p l g d inside is partial);
         })
     partial_by false none counts a =
         given a.0
-        (describes_left z.post.machine w _ _ a.1 (again_given z.post.machine (told_word z) p l g d inside is partial (kind_fields word).unflushed (none_held none (is_table (level_type l)) refl) (counts a.0 refl).some))
+        (described_leaves z.post.machine w _ _ a.1 (again_given z.post.machine (told_word z) p l g d inside is partial (kind_fields word).unflushed (none_held none (is_table (level_type l)) refl) (counts a.0 refl).some))
 
 -- ---- an entry that asks a type, behind the look at its cell
 module _ (v w : PortValue) (p : Plain) (f i l g : ℕ) (answer : Result Released Stop) (telling : is_telling v ≡ true) (d : Describes v.post.machine (told_word v) p) where
@@ -230,7 +232,7 @@ module _ (v w : PortValue) (p : Plain) (f i l g : ℕ) (answer : Result Released
     described = subst (λ n. Describes n (told_word z) p) (sym same_machine) (subst (λ m. Describes v.post.machine m p) (sym same_words) d)
 
     in_range : g < z.post.machine.frames
-    in_range = subst (λ (n : Machine). g < n.frames) (sym same_machine) (kind_inside v.post.machine g look.may.place)
+    in_range = subst (λ (n : Machine). g < n.frames) (sym same_machine) (frame_inside v.post.machine g look.may.place)
 
     -- the word that was found
     found : x ≡ told_word z (Kind g)
@@ -238,7 +240,7 @@ module _ (v w : PortValue) (p : Plain) (f i l g : ℕ) (answer : Result Released
 
     spelled : IsTrue (is_kind (kind_fields (told_word z (Kind g))))
     spelled =
-        let k = kind_found v.post.machine v.post.vcpu v.holdings g x (kind_inside v.post.machine g look.may.place) look.finds in
+        let k = kind_found v.post.machine v.post.vcpu v.holdings g x (frame_inside v.post.machine g look.may.place) look.finds in
         subst (λ y. IsTrue (is_kind (kind_fields y))) found (subst (λ y. IsTrue (is_kind y)) (sym k.fields) k.is)
 
     partial_steps : IsTrue (is_partial (kind_fields (told_word z (Kind g)))) → answer ≡ Ok Given → has_recorded (level_type l) (kind_fields (told_word z (Kind g))) ≡ false →
@@ -263,7 +265,7 @@ module _ (v w : PortValue) (p : Plain) (f i l g : ℕ) (answer : Result Released
   read : answer ≡ Ok Given → Does v w (λ vs. Then (ShedsAt Clock f i) (PutBy g) vs) → Leaves w (put g (told_word v)) → Comes v.post.machine l p w (demands.Read g) answer
   read is a leaves =
       let c = shed_counted v w Clock f i g (PutBy g) telling a (put_seen (shed_to v w Clock f i g (PutBy g) telling a) w g (shed_telling v w Clock f i g (PutBy g) telling a) (shed_goes v w Clock f i g (PutBy g) telling a)) in
-      subst (Comes v.post.machine l p w (demands.Read g)) (sym is) (describes_left v.post.machine w _ _ leaves (put_words v.post.machine (told_word v) p g d c.inside c.some))
+      subst (Comes v.post.machine l p w (demands.Read g)) (sym is) (described_leaves v.post.machine w _ _ leaves (put_words v.post.machine (told_word v) p g d c.inside c.some))
 
   typed : Does v w (λ vs. TypedReleased v.post.machine f i g (level_type l) answer vs) → FormPlainly w (told_word v) g (level_type l) answer (form_of (kind_fields (told_word v (Kind g)))) →
       Comes v.post.machine l p w (demands.Typed g (level_type l)) answer
@@ -285,8 +287,8 @@ module _ (v w : PortValue) (p : Plain) (f i l g : ℕ) (answer : Result Released
 module _ (v w : PortValue) (p : Plain) (f i l : ℕ) (answer : Result Released Stop) (telling : is_telling v ≡ true) (d : Describes v.post.machine (told_word v) p) where
   by_demand : (a : Demand) → ((g : ℕ) (t : PageType) → a ≡ demands.Typed g t → t ≡ level_type l) → Does v w (λ vs. ReleasesBy v.post.machine f i answer a vs) → ReleasesPlainly w (told_word v) answer a →
       Comes v.post.machine l p w a answer
-  by_demand demands.Nothing asks steps plain = subst (Comes v.post.machine l p w demands.Nothing) (sym plain.0) (describes_left v.post.machine w _ _ plain.1 d)
-  by_demand demands.Bad asks steps plain = subst (Comes v.post.machine l p w demands.Bad) (sym plain.0) (describes_left v.post.machine w _ _ plain.1 d)
+  by_demand demands.Nothing asks steps plain = subst (Comes v.post.machine l p w demands.Nothing) (sym plain.0) (described_leaves v.post.machine w _ _ plain.1 d)
+  by_demand demands.Bad asks steps plain = subst (Comes v.post.machine l p w demands.Bad) (sym plain.0) (described_leaves v.post.machine w _ _ plain.1 d)
   by_demand (demands.Read g) asks steps plain =
       read v w p f i l g answer telling d plain.0 (does_as v w (λ vs. ReleasesBy v.post.machine f i answer (demands.Read g) vs) (λ vs. Then (ShedsAt Clock f i) (PutBy g) vs) (λ vs c. c.1) steps) plain.1
   by_demand (demands.Typed g t) asks steps plain =

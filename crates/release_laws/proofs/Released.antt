@@ -9,6 +9,7 @@ use Rattle.xp_board.specs.RefSteps.{one_down}
 use Rattle.xp_board.specs.Told.{PortValue, is_telling, told_word}
 use Rattle.xp_board.specs.declared.step.Act.TheVariants.{Add, Load}
 use Rattle.xp_board.specs.declared.step.StepKind.TheVariants as kinds
+use Rattle.table_twins.proofs.Entering.{described_leaves}
 use Rattle.step_maker.specs.Moves.{Moves}
 use Rattle.step_maker.specs.Plain.{Leaves, Words}
 use Rattle.step_maker.proofs.Telling.{leaves, load_tells, moves_telling, told_there}
@@ -28,7 +29,6 @@ use Rattle.release_laws.proofs.Dropping.{live_all, live_closing, live_last, more
 use Rattle.release_laws.proofs.Entries.{plain_level, table_level}
 use Rattle.release_laws.proofs.Running.{Leads, at_level, given_back, ran_leads}
 use Rattle.release_laws.proofs.Seen.{drops_seen, kinded_counted, put_seen}
-use Rattle.release_laws.proofs.Words.{describes_left}
 
 module _ (v : PortValue) (f level : ℕ) (p : Plain) (telling : is_telling v ≡ true) (inside : f < v.post.machine.frames) (d : Describes v.post.machine (told_word v) p) where
   abbrev n : Machine
@@ -41,7 +41,7 @@ module _ (v : PortValue) (f level : ℕ) (p : Plain) (telling : is_telling v ≡
   plain_left : (w : PortValue) → is_table (level_type level) ≡ false → GaveType v w f (level_type level) → Left w
   plain_left w off a =
       let s = drops_seen v w f (level_type level) telling a.found in
-      describes_left n w _ _ (a.plain telling) (plain_given n (told_word v) p level f d inside (a.stands telling).1 s.0.small s.0.some (plain_level level off) s.1.some)
+      described_leaves n w _ _ (a.plain telling) (plain_given n (told_word v) p level f d inside (a.stands telling).1 s.0.small s.0.some (plain_level level off) s.1.some)
 
   -- ---- a table: its type count goes down
   module _ (u : PortValue) (last : Bool) (a : DropsType v u f last) where
@@ -73,7 +73,7 @@ module _ (v : PortValue) (f level : ℕ) (p : Plain) (telling : is_telling v ≡
   shared_left : (u w : PortValue) → DropsType v u f false → GaveRef u w f → Left w
   shared_left u w a b =
       let c = kinded_counted v u (Add one_down) kinds.Kind None a.found f telling a.lowers.step (λ still. put_seen u w f still b.found) in
-      describes_left n w _ _ (subst (λ (m : Words). Leaves w (put f m)) (words u false a) (b.plain (on u false a)))
+      described_leaves n w _ _ (subst (λ (m : Words). Leaves w (put f m)) (words u false a) (b.plain (on u false a)))
       (more_given n (told_word v) p level f d inside (live u false a) (small u false a) (some u false a) (count u false a) c.some)
 
   -- none is: the entries are given back

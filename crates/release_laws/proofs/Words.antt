@@ -29,10 +29,6 @@ use Rattle.table_twins.proofs.Kinding.{kinded, unlive}
 use Rattle.table_twins.proofs.Sharing.{same_back}
 use Rattle.course_laws.proofs.Completing.{IsKinded, described_kind}
 
--- the words that a board tells
-pub describes_left : (n : Machine) (w : PortValue) (m : Words) (p : Plain) → Leaves w m → Describes n m p → Describes n (told_word w) p
-describes_left n w m p leaves d = subst (λ l. Describes n l p) (λ i q. sym (leaves q) i) d
-
 -- ---- references
 share_by : (r : Option RefWord) → 0 < count_in r → (s : Share) × (share_in r ≡ Some s)
 share_by (Some (Owned o a c)) some = (record { owner = o; allocated = a; count = c }, refl)

@@ -56,8 +56,5 @@ one_held m f refs found held =
     count_more (λ (k : ℕ). is_free_word (word m (Refs k))) f ∙ rw here (add-zero _)
 
 -- a text behind a, first x and then y
-pub joined : (a b c x y : List ℕ) → b ≡ a ++ x → c ≡ b ++ y → c ≡ a ++ (x ++ y)
-joined a b c x y first then = then ∙ ap (λ (l : List ℕ). l ++ y) first ∙ append_assoc a x y
-
 pub none_yet : (a z : List ℕ) → z ≡ [] → a ≡ a ++ z
 none_yet a z none = rw (none, append-nil) refl

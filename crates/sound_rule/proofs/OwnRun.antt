@@ -48,7 +48,7 @@ others_run n s t h words x off legal whole found =
 abbrev pub RunsSound : Type 0
 RunsSound = (n : Machine) (a b : runs.State) (log : List (ℕ × Step)) → runs.Run n a log b → SoundState n a.words a.hands → SoundState n b.words b.hands
 
-steps_after : (n : Machine) (s : ℕ) (h : Holdings) (x : Step) (w : ℕ) → (after n s h x w).steps ≡ record { step = x; found = w } ∷ h.steps
+pub steps_after : (n : Machine) (s : ℕ) (h : Holdings) (x : Step) (w : ℕ) → (after n s h x w).steps ≡ record { step = x; found = w } ∷ h.steps
 steps_after n s h x w = ap (λ (xs : List Made). record { step = x; found = w } ∷ xs) (move_steps n s h (place_at (sizes_of n) x.place) x.act x.kind x.mark w)
 
 unlooked : (z : Sizes) (p : Place) (x : Made) (xs : List Made) → last_since z 0 p (x ∷ xs) ≡ None → (is_at z p x ≡ false) × (last_since z 0 p xs ≡ None)

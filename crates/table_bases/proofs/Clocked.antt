@@ -14,8 +14,8 @@ use Rattle.xp_board.specs.Readings.{domain_of, last_clock}
 use Rattle.xp_board.specs.Steps.{some_since}
 use Rattle.xp_board.specs.Told.{Finds, Post, PortValue}
 use Rattle.xp_board.specs.WellFormed.{WellFormed}
-use Rattle.xp_preempt.specs.Gates.{Consulted, ends_yes}
-use Rattle.xp_preempt.proofs.Consulting.{consulted_none, consulted_then}
+use Rattle.xp_preempt.specs.Gates.{Consulted}
+use Rattle.xp_preempt.proofs.Consulting.{consulted_none, consulted_then, not_due}
 use Rattle.step_maker.specs.Moves.{Came}
 use Rattle.step_maker.proofs.Coming.{came_post, came_self, moves_came}
 use Rattle.step_maker.proofs.Noting.{moves_since}
@@ -32,9 +32,6 @@ use Rattle.table_bases.specs.Course.{AcquiresTop, InstallsBy, Installed, SawCloc
 use Rattle.table_bases.specs.Course as course
 use Rattle.table_bases.specs.Holding.{IsWarm, base_number, naming}
 use Rattle.table_bases.proofs.Requests.{base_flushes}
-
-pub not_due : (b : Bool) (answers : List Bool) → b ≡ false → b ≡ true → ends_yes answers ≡ true
-not_due b answers off on = absurd cc
 
 -- ---- the look
 module _ (v a : PortValue) (clock : ℕ) (look : SawClock v a clock) where

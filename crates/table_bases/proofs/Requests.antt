@@ -36,7 +36,7 @@ base_flushes d None rose = refl
 base_flushes d (Some f) rose = refl
 
 -- ---- an acquisition
-plain_table : (f owner : ℕ) (want : Option PageType) (pages : ℕ) (rose : Bool) → IsNaming (of_table f owner want pages rose) → ⊥
+pub plain_table : (f owner : ℕ) (want : Option PageType) (pages : ℕ) (rose : Bool) → IsNaming (of_table f owner want pages rose) → ⊥
 plain_table f owner want pages rose (inl a) = absurd cc
 plain_table f owner want pages rose (inr (inl a)) = absurd cc
 plain_table f owner want pages rose (inr (inr a)) = absurd (let b = a.1 in cc)

@@ -21,6 +21,7 @@ use Rattle.answer_fits.proofs.Piecing.{serves_came, serves_step}
 use Rattle.answer_fits.specs.Pauses.{Progress}
 use Rattle.answer_fits.specs.Visits.{Visit, Does, Only, Then, visit}
 use Rattle.answer_fits.proofs.Visiting.{does_as, does_one, does_then}
+use Rattle.answer_fits.proofs.Keeping.{kept_type}
 use Rattle.frame_types.specs.Found.{StoresKind, swaps_kind}
 use Rattle.table_words.specs.Entries.{ShedsAt, sheds_at}
 use Rattle.frame_words.specs.Freeing.{PutBy, Puts}
@@ -41,9 +42,6 @@ use Rattle.table_releases.proofs.Pieces.{goes_shed, goes_shed_refs, goes_step, s
 use Rattle.table_releases.proofs.PiecesTyped.{IsOf, kind_asks, kind_goes, resumed_goes, typed_shows}
 use Rattle.frame_types.proofs.Serving.{work_alive}
 use Rattle.xp_board.proofs.Returned.{same_type}
-
-kept_type : (found new : ℕ) (k l : KindWord) → kind_fields found ≡ k → kind_fields new ≡ l → l.kind ≡ k.kind → is_dead k ≡ false → IsTrue (is_type (kind_fields found).kind (kind_fields new).kind && not (is_dead (kind_fields found)))
-kept_type found new k l is to same alive = rw (is, to, same, alive, same_type k.kind) refl
 
 module _ (b v : PortValue) (f i : ℕ) (t : PageType) (word g : ℕ) (want : PageType) (k : KindWord) (r : Resumed b v f i t word g want k) where
   module _ (owner pages : ℕ) where

@@ -65,7 +65,7 @@ module _ (n : Machine) (owner g : ℕ) (p : Plain) where
   lends : LendsPlain n g p (take_reference n owner g p)
   lends = lends_by (nat_lt g n.frames) (λ is. is_inside g n.frames is)
 
-described_leaves : (n : Machine) (w : PortValue) (m : Words) (p : Plain) → Leaves w m → Describes n m p → Describes n (told_word w) p
+pub described_leaves : (n : Machine) (w : PortValue) (m : Words) (p : Plain) → Leaves w m → Describes n m p → Describes n (told_word w) p
 described_leaves n w m p leaves d = described_alike n (told_word w) m p (same_alike (told_word w) m leaves) d
 
 -- no plain value refuses for the clock

@@ -11,12 +11,10 @@ use Rattle.xp_board.specs.After.{after}
 use Rattle.xp_board.specs.Hands.{empty}
 use Rattle.xp_board.specs.Runs.{State, Run, next, start, place_of, word_at}
 use Rattle.xp_board.specs.Sound.{hand_of}
+use Rattle.sound_rule.proofs.OwnRun.{steps_after}
 use Rattle.board_lemmas.proofs.Noted.{move_steps}
 use Rattle.shared_board.proofs.Opened.{all_empty}
 use Rattle.thread_board.specs.OneRun.{own_steps}
-
-pub steps_after : (n : Machine) (s : ℕ) (h : Holdings) (x : Step) (w : ℕ) → (after n s h x w).steps ≡ record { step = x; found = w } ∷ h.steps
-steps_after n s h x w = ap (λ (xs : List Made). record { step = x; found = w } ∷ xs) (move_steps n s h (place_at (sizes_of n) x.place) x.act x.kind x.mark w)
 
 run_hands : (n : Machine) (a b : State) (log : List (ℕ × Step)) → Run n a log b → length b.hands ≡ length a.hands
 run_hands n a b [] run = ap (λ (c : State). length c.hands) run

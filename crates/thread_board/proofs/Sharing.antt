@@ -17,7 +17,8 @@ use Rattle.xp_board.specs.Runs as runs
 use Rattle.xp_board.specs.Sound.{SoundState, SoundWords, hand_of}
 use Rattle.board_lemmas.proofs.Numbers.{place_inside, word_there}
 use Rattle.shared_board.proofs.Opened.{start_sound}
-use Rattle.shared_board.proofs.Stepping.{RunsSound, RunWordStays}
+use Rattle.sound_rule.proofs.OwnRun.{steps_after}
+use Rattle.shared_board.proofs.Stepping.{RunsSound, RunWordStays, own_word}
 use Rattle.own_cache.specs.Translating.{Translating, translating, translated}
 use Rattle.own_cache.proofs.Projecting.{translating_after}
 use Rattle.xp_board.specs.Told.{Finds, stepped, Goes, Saw, cached_item, run_or}
@@ -26,7 +27,6 @@ use Rattle.xp_board.specs.Spelling.{IsSpelling}
 use Rattle.xp_board.specs.Lists.{EachOf, Member}
 use Rattle.own_cache.specs.Frames.{LeadInside}
 use Rattle.own_cache.proofs.Frames.{after_leads, cached_leads}
-use Rattle.thread_board.proofs.OwnSteps.{steps_after}
 use Rattle.xp_board.proofs.Going.{goes_step, saw_step}
 use Rattle.thread_board.specs.Values.{BoardValue, PassValue, IsPassOf, PassSteps}
 use Rattle.thread_board.specs.declared.rule.Opening.{Opening}
@@ -72,10 +72,6 @@ next_state n words hands i found h x hand word =
     λ k. record { words = slice_set words x.place (left_by x.act (sym word k)); hands = slice_set hands i (after n i (sym hand k) x (sym word k)) }
 
 -- the own run word, as it was found or left last, or else as the vCPU opened
-own_word : {r : Option ℕ} (opened now : ℕ) (o : Option ℕ) → r ≡ o → (r ≡ None → now ≡ opened) → ((w : ℕ) → r ≡ Some w → now ≡ w) → now ≡ run_or opened o
-own_word opened now None e unseen seen = unseen e
-own_word opened now (Some w) e unseen seen = seen w e
-
 own_found : RunsSound → RunWordStays → (o : Opening) (i found : ℕ) (h : Holdings) (x : Step) (t : Table (Unit {0}) SharedView) (was : Kept o t) → SoundWords o.layout o.words → i < (sizes_of o.layout).vcpus → hand_of was.hands i ≡ h →
     memory (sizes_of o.layout) t.words (runs.place_of o.layout x) ≡ found → runs.place_of o.layout x ≡ run_of i → found ≡ run_or (memory (sizes_of o.layout) o.words (run_of i)) h.run
 own_found law stays o i found h x t was begun lt hand word at =

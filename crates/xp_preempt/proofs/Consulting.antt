@@ -1,11 +1,15 @@
 -- The answers of a gate in a row.
 use Rattle.std.proofs.Common.{◌≡◌, ℕ, ◌+◌, ◌++◌, ◌==◌, if◌then◌else◌, Bool, true, false, List, [], ◌∷◌, length, refl, ap, ◌∙◌, subst, arith}
-use Rattle.xp_preempt.specs.Gates.{Consulted, Gives, answer_at, asks_on, last_ask, next_ask, one_more_if, yeses}
+use Rattle.xp_preempt.specs.Gates.{Consulted, Gives, answer_at, asks_on, ends_yes, last_ask, next_ask, one_more_if, yeses}
 
 -- nothing was asked
 pub consulted_none : (says : ℕ → Bool) (asks risen : ℕ) → Consulted says asks asks risen risen []
 unfolding Gives asks_on yeses
 consulted_none says asks risen = record { gives = tt; asks = refl; yes = omega arith }
+
+-- an answer that says nothing of a gate
+pub not_due : (b : Bool) (answers : List Bool) → b ≡ false → b ≡ true → ends_yes answers ≡ true
+not_due b answers off on = absurd cc
 
 -- one ask
 pub consulted_ask : (says : ℕ → Bool) (before after yes_before yes_after : ℕ) (due : Bool) → due ≡ answer_at says before → after ≡ next_ask before → yes_after ≡ (if due then yes_before + 1 else yes_before) → Consulted says before after yes_before yes_after (due ∷ [])

@@ -1,5 +1,6 @@
 pub mod ContextLaws
 pub mod EntryLaws
+pub mod Joining
 pub mod KindLaws
 pub mod PlaceLaws
 pub mod RefLaws

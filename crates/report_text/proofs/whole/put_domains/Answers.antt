@@ -1,4 +1,5 @@
-use Rattle.report_text.proofs.Blocks.{no_domains, domains_more, none_yet, joined}
+use Rattle.report_text.proofs.Blocks.{no_domains, domains_more, none_yet}
+use Rattle.xp_words.proofs.Joining.{joined}
 use Rattle.report_text.proofs.whole.put_domains.Goals as goal
 
 pub loop-domain-init : goal.loop-domain-init

@@ -1,5 +1,6 @@
 use Rattle.std.proofs.Common.{◌+◌, ◌++◌, ap, sym, ◌∙◌, string_bytes, arith}
-use Rattle.report_text.proofs.Blocks.{no_frames, free_frame, held_frame, none_free, one_free, one_held, none_yet, joined}
+use Rattle.report_text.proofs.Blocks.{no_frames, free_frame, held_frame, none_free, one_free, one_held, none_yet}
+use Rattle.xp_words.proofs.Joining.{joined}
 use Rattle.report_text.proofs.whole.put_frames.Goals as goal
 use Rattle.report_text.proofs.whole.put_frames.Goals.{then-is_free, else-is_free+in_ok-put_frame}
 

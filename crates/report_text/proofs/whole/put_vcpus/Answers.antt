@@ -1,4 +1,5 @@
-use Rattle.report_text.proofs.Blocks.{no_vcpus, vcpus_more, none_yet, joined}
+use Rattle.report_text.proofs.Blocks.{no_vcpus, vcpus_more, none_yet}
+use Rattle.xp_words.proofs.Joining.{joined}
 use Rattle.report_text.proofs.whole.put_vcpus.Goals as goal
 
 pub loop-vcpu-init : goal.loop-vcpu-init

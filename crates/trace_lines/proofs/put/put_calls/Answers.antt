@@ -1,11 +1,9 @@
 use Rattle.std.proofs.Common.{◌≡◌, ℕ, List, ◌++◌, sym, ap, ◌∙◌, append_assoc, string_bytes}
 use Rattle.xp_words.specs.declared.ops.Call.{Call}
+use Rattle.xp_words.proofs.Joining.{joined}
 use Rattle.trace_lines.specs.Spelling.{spaced, calls_words}
 use Rattle.trace_lines.proofs.CallTexts.{spaced_calls}
 use Rattle.trace_lines.proofs.put.put_calls.Goals as goal
-
-joined : (a b c x y : List ℕ) → b ≡ a ++ x → c ≡ b ++ y → c ≡ a ++ (x ++ y)
-joined a b c x y e f = f ∙ ap (λ (l : List ℕ). l ++ y) e ∙ append_assoc a x y
 
 pub returns-in_ok-put_more_calls-in-Some : goal.returns-in_ok-put_more_calls-in-Some
 returns-in_ok-put_more_calls-in-Some c =
