@@ -1,5 +1,5 @@
 -- What a kind word of each form says, and what it says after a sum.
-use Rattle.std.proofs.Common.{Option, None, IsTrue, ap, ◌∙◌, inl, inr, ◌≡◌, ℕ, ◌+◌, ◌-◌, ◌/◌, ◌%◌, ◌^◌, ◌<◌, ◌==◌, ◌&&◌, ◌||◌, not, if◌then◌else◌, Bool, true, false, Some, refl, arith, ◌×◌, ◌≤◌}
+use Rattle.std.proofs.Common.{Option, None, IsTrue, ap, ◌∙◌, inl, inr, ◌≡◌, ℕ, ◌+◌, ◌-◌, ◌/◌, ◌%◌, ◌^◌, ◌<◌, ◌==◌, ◌&&◌, ◌||◌, not, if◌then◌else◌, Bool, true, false, Some, refl, arith, ◌≤◌}
 use Rattle.std.proofs.lemmas.Bool.{cases_Bool}
 use Rattle.xp_words.proofs.KindLaws.{when_some, kind_write-read}
 use Rattle.xp_words.specs.Machine.{Machine}

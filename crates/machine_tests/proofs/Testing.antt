@@ -22,9 +22,7 @@ use Rattle.step_maker.proofs.Coming.{came_post, moves_came}
 use Rattle.step_maker.proofs.Noting.{moves_before, moves_keeps, moves_since, moves_steps}
 use Rattle.step_maker.proofs.Wending.{came_goes}
 use Rattle.shared_board.specs.Board.{Board, port_value}
-use Rattle.vcpu_turn.specs.Cpus.{fresh}
-use Rattle.vcpu_turn.specs.Turning.{Idles, IsOf}
-use Rattle.xp_machine.specs.Ready.{TakesFresh}
+use Rattle.xp_machine.specs.Ready.{Idles, IsOf, TakesFresh, fresh}
 use Rattle.xp_machine.proofs.Moving.{of_other, stepping}
 
 -- ---- a look at the own run word

@@ -18,8 +18,8 @@ use std::process::Abort;
 use std::test::Fail;
 use step_maker::look_clock;
 use trace_text::{ScriptList, Trace, read_trace};
-use vcpu_turn::{Cpu, turn};
 use xp_board::{Act, Item, Port, Step};
+use xp_machine::{Cpu, Runner};
 use xp_preempt::Never;
 use xp_words::{Layout, RefWord, Refusal, Script, Stop};
 
@@ -200,7 +200,8 @@ pub(crate) fn steps_of(
     requires fresh { TakesFresh board.old }
     requires short { length script < 2 ^ 32 }
 {
-    let mut cpu = Cpu::new(alloc, board.layout(), vcpu, script)?;
+    let cpu = Cpu::new(alloc, board.layout(), vcpu, script)?;
+    let mut runner = Runner::new(cpu, Box::new(alloc, Never::new())?);
     let mut port = Counting {
         port: board.port(vcpu),
         loads: 0,
@@ -208,8 +209,7 @@ pub(crate) fn steps_of(
         stores: 0,
         sums: 0,
     };
-    let mut gate = Never::new();
-    turn(&mut port, &mut cpu, &mut gate);
+    runner.turn(&mut port);
     Ok((port.loads, port.exchanges, port.stores, port.sums))
 }
 

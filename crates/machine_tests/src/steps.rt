@@ -5,7 +5,7 @@ ghost use Rattle.xp_words.specs.Places.{sizes_of};
 ghost use Rattle.xp_board.specs.Readings.{domain_of};
 ghost use Rattle.step_maker.specs.Holds.{Holds, MayWork, Rests};
 ghost use Rattle.step_maker.specs.Moves.{Came};
-ghost use Rattle.vcpu_turn.specs.Turning.{Idles};
+ghost use Rattle.xp_machine.specs.Ready.{Idles};
 ghost use Rattle.xp_machine.specs.Ready.{TakesFresh};
 
 use crate::boards::{TWO_DOMAINS, at_work, opened, steps_of};

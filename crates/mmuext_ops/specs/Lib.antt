@@ -1,3 +1,4 @@
+pub mod Bases
 pub mod Elements
 pub mod Course
 pub mod Holding

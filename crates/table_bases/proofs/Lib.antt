@@ -1,5 +1,5 @@
 mod Storing
-mod Requests
+pub mod Requests
 mod Behind
 mod Installed
 mod Clocked

@@ -8,6 +8,10 @@ pub use loads::{set_word, word_of};
 pub use two::{both, two_passes};
 
 #[cfg(test)]
+mod audit;
+#[cfg(test)]
+mod random;
+#[cfg(test)]
 mod replays;
 #[cfg(test)]
 mod side_by_side;

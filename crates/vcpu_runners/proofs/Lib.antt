@@ -1,2 +1,5 @@
 pub mod Asking
+mod Gathering
 pub mod Scripts
+pub mod Turning
+pub mod Turns

@@ -1,4 +1,7 @@
 pub mod Cpus
 pub mod Gates
+pub mod Replayed
 pub mod Rows
 pub mod Runners
+pub mod Turns
+pub mod Working

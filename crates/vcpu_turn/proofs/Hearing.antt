@@ -18,9 +18,8 @@ use Rattle.level_release.specs.Asking.{is_due_answer}
 use Rattle.level_release.specs.Course.{WasReleased}
 use Rattle.level_release.proofs.Noes.{settled_no}
 use Rattle.foreign_map.specs.declared.owners.Owners.{Owners}
-use Rattle.entry_exchange.specs.Course as exchanging
-use Rattle.entry_exchange.specs.Course.{Exchanged, ReleasedDemand, TookDemand}
-use Rattle.entry_exchange.specs.declared.exchanging.EntryUpdate.{EntryUpdate}
+use Rattle.mmu_update.specs.Exchanges as exchanging
+use Rattle.mmu_update.specs.Exchanges.{EntryUpdate, Exchanged, ReleasedDemand, TookDemand}
 use Rattle.mmu_update.specs.Course as updating
 use Rattle.mmu_update.specs.Course.{TriedLock, Updated, Wrote, entry_update}
 use Rattle.mmu_update.specs.Elements.{element_of}
@@ -31,11 +30,8 @@ use Rattle.mmuext_ops.specs.Course.{FlushedLocal, Performed, Pinned, Unpinned}
 use Rattle.mmuext_ops.specs.Elements.{every_vcpu, ext_element}
 use Rattle.mmuext_ops.specs.declared.element.Element.{Element}
 use Rattle.mmuext_ops.specs.declared.element.Element.TheVariants as elements
-use Rattle.table_bases.specs.Asking.{user_frame}
-use Rattle.table_bases.specs.Course as basing
-use Rattle.table_bases.specs.Course.{AcquiresTop, ReleasesOld, SetsBase}
-use Rattle.table_bases.specs.declared.words.Base.{Base}
-use Rattle.table_bases.specs.declared.words.Base.TheVariants.{Kernel, User}
+use Rattle.mmuext_ops.specs.Bases.{AcquiresTop, Base, Kernel, ReleasesOld, SetsBase, User, user_frame}
+use Rattle.mmuext_ops.specs.Bases as basing
 use Rattle.vcpu_turn.specs.Asking.{ExchangesEntry, HearsNo, NoUntilDue, PausesOldBase, PausesRelease, PausesUnpin, Tried, tried}
 use Rattle.vcpu_turn.specs.Lists.{is_due_by}
 use Rattle.vcpu_turn.specs.Working as working

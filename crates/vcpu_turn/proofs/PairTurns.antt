@@ -30,9 +30,8 @@ use Rattle.writable_pages.specs.Pages.{TookPage}
 use Rattle.foreign_map.specs.declared.owners.Owners.{Owners}
 use Rattle.foreign_map.proofs.Looking.{IsLook, is_word}
 use Rattle.foreign_map.proofs.Naming.{owners_look}
-use Rattle.entry_exchange.specs.Course as exchanging
-use Rattle.entry_exchange.specs.Course.{Exchanged, LeftLock, PutEntry, ReleasedDemand, TookDemand, new_demand, old_demand}
-use Rattle.entry_exchange.specs.declared.exchanging.EntryUpdate.{EntryUpdate}
+use Rattle.mmu_update.specs.Exchanges as exchanging
+use Rattle.mmu_update.specs.Exchanges.{EntryUpdate, Exchanged, LeftLock, PutEntry, ReleasedDemand, TookDemand, new_demand, old_demand}
 use Rattle.entry_locks.specs.declared.locking.Locked.TheVariants.{Table, Other}
 use Rattle.mmu_update.specs.Course as updating
 use Rattle.mmu_update.specs.Course.{TriedLock, Updated, Wrote, entry_update}

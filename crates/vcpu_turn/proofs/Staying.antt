@@ -22,7 +22,7 @@ use Rattle.flush_words.proofs.Lasting.{came_keeps}
 use Rattle.foreign_map.specs.declared.owners.Owners.{Owners}
 use Rattle.level_release.specs.Asking.{of_settle}
 use Rattle.level_release.specs.Settling.{SettledHand}
-use Rattle.table_bases.specs.Asking.{LeavesBase}
+use Rattle.mmuext_ops.specs.Bases.{LeavesBase}
 use Rattle.mmu_update.specs.Elements.{LeavesUpdate}
 use Rattle.mmuext_ops.specs.Elements.{KnowsAwaited, LeavesElement, ServesElement}
 use Rattle.mmuext_ops.specs.declared.element.Element.{Element}

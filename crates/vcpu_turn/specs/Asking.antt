@@ -19,9 +19,8 @@ use Rattle.partial_state.specs.Levels.{level_type}
 use Rattle.table_courses.specs.Acquiring.{GotRef}
 use Rattle.level_release.specs.Course.{WasReleased}
 use Rattle.foreign_map.specs.declared.owners.Owners.{Owners}
-use Rattle.entry_exchange.specs.Course as exchanging
-use Rattle.entry_exchange.specs.Course.{Exchanged, LeftLock, new_demand, old_demand}
-use Rattle.entry_exchange.specs.declared.exchanging.EntryUpdate.{EntryUpdate}
+use Rattle.mmu_update.specs.Exchanges as exchanging
+use Rattle.mmu_update.specs.Exchanges.{EntryUpdate, Exchanged, LeftLock, new_demand, old_demand}
 use Rattle.entry_locks.specs.declared.locking.Locked.TheVariants.{Table}
 use Rattle.mmu_update.specs.Course.{TriedLock, entry_update}
 use Rattle.mmu_update.specs.Elements.{element_of}

@@ -2,4 +2,6 @@ pub mod Asking
 pub mod Cpus
 pub mod Lists
 pub mod Turning
+pub mod Unhindered
+pub mod Unpins
 pub mod Working

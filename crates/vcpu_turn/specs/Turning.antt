@@ -17,7 +17,7 @@ use Rattle.xp_board.specs.Readings.{domain_of}
 use Rattle.xp_board.specs.Told.{PortValue, own_run}
 use Rattle.step_maker.specs.Moves.{Moves}
 use Rattle.flush_words.specs.Flushing.{FlushesOwn}
-use Rattle.mmuext_ops.specs.Elements.{KnowsAwaited}
+pub use Rattle.mmuext_ops.specs.Elements.{KnowsAwaited}
 use Rattle.vcpu_turn.specs.Cpus.{Processing, task_of, end_of, after_turn}
 use Rattle.vcpu_turn.specs.Lists.{asks_between, is_due_by}
 use Rattle.vcpu_turn.specs.Working.{IsWarm, Settles, Works}

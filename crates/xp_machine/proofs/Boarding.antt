@@ -11,15 +11,14 @@ use Rattle.step_maker.specs.Moves.{Came}
 use Rattle.step_maker.proofs.Wending.{came_goes}
 use Rattle.answer_laws.specs.Alone.{IsAlone}
 use Rattle.shared_board.specs.Board.{Board, port_value}
-use Rattle.vcpu_turn.specs.Cpus.{Processing}
-use Rattle.vcpu_turn.specs.Turning.{IsOf, StopsWhere}
+use Rattle.vcpu_runners.specs.Turns.{IsOf, Processing, StopsWhere}
 use Rattle.vcpu_runners.specs.Cpus.{IsShort}
 use Rattle.vcpu_runners.specs.Gates.{Gate, gate_in}
 use Rattle.xp_machine.specs.Ready.{Ready}
 use Rattle.vcpu_runners.specs.Runners.{TakesTurnBy}
 use Rattle.vcpu_runners.proofs.Scripts.{turn_script}
 use Rattle.xp_machine.specs.Turns.{Stage, stage, IsPortOf, MakesStagedTurn, MakesStagedStop, UnlessRetired, ByCpu}
-use Rattle.xp_machine.proofs.Hindering.{AloneStays, NeitherLostNorBusy, NobodyWaitedFor, turn_came, stop_came, turn_unhindered}
+use Rattle.vcpu_runners.proofs.Turns.{AloneStays, NeitherLostNorBusy, NobodyWaitedFor, turn_came, stop_came, turn_unhindered}
 use Rattle.xp_machine.proofs.Moving.{Stepping, moved_none, stepping, same_story, ready_after, short_at, alone_at, sound_alone}
 
 -- ---- one turn or one stop

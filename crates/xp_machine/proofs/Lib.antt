@@ -1,10 +1,8 @@
-mod Hindering
 pub mod Moving
 mod Walking
 pub mod Boarding
 mod Turning
 mod Asking
-mod Stopping
 mod Starting
 pub mod Reaching
 mod Replaying

@@ -16,10 +16,8 @@ use Rattle.xp_board.specs.Sound.{SoundState, hand_of}
 use Rattle.xp_board.specs.Told.{PortValue, Story, Goes, run_or}
 use Rattle.answer_fits.specs.Reasons.{HadClock}
 use Rattle.answer_laws.specs.Alone.{IsAlone}
-use Rattle.mmuext_ops.specs.Elements.{KnowsAwaited}
+use Rattle.vcpu_runners.specs.Turns.{IsOf, KnowsAwaited, Processing, Runs}
 use Rattle.shared_board.specs.Board.{Board, port_value}
-use Rattle.vcpu_turn.specs.Cpus.{Processing}
-use Rattle.vcpu_turn.specs.Turning.{IsOf, Runs}
 use Rattle.vcpu_runners.specs.Cpus.{AreShort, IsShort}
 use Rattle.xp_machine.specs.Pieces.{Leads}
 use Rattle.xp_machine.specs.Ready.{Ready}

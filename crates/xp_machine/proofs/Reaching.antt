@@ -21,8 +21,7 @@ use Rattle.trace_text.specs.declared.trace.Trace.{Trace}
 use Rattle.machine_build.specs.Opening.{IsOpening, opening_at}
 use Rattle.shared_board.specs.Board.{Board, opened_story, port_value, state_of}
 use Rattle.shared_board.proofs.Opened.{start_sound}
-use Rattle.vcpu_turn.specs.Cpus.{Processing, fresh}
-use Rattle.vcpu_turn.specs.Turning.{IsOf}
+use Rattle.vcpu_runners.specs.Turns.{IsOf, Processing, fresh}
 use Rattle.vcpu_runners.specs.Cpus.{AreShort, IsShort, first_cpu, first_cpus}
 use Rattle.xp_machine.specs.Cpus.{order}
 use Rattle.vcpu_runners.specs.Gates.{Gate}

@@ -4,7 +4,7 @@ use Rattle.std.specs.Prelude.{slice_get, sum_by}
 use Rattle.std.proofs.lemmas.List.Elements.{All-get_or}
 use Rattle.std.proofs.lemmas.Option.{slice_get-get_or, slice_get_within}
 use Rattle.xp_words.specs.Machine.{Machine}
-use Rattle.xp_words.specs.Places.{sizes_of, run_of}
+use Rattle.xp_words.specs.Places.{size, sizes_of, run_of}
 use Rattle.xp_words.specs.declared.ops.Op.{Op}
 use Rattle.xp_board.specs.Hands.{empty}
 use Rattle.xp_board.specs.Readings.{domain_of}
@@ -12,16 +12,14 @@ use Rattle.xp_board.specs.Sound.{SoundWords}
 use Rattle.board_lemmas.proofs.Numbers.{vcpu_there}
 use Rattle.trace_text.specs.declared.trace.Trace.{Trace}
 use Rattle.machine_build.specs.Opening.{IsOpening}
-use Rattle.report_text.specs.ReportOf.{report_of}
 use Rattle.thread_board.specs.Values.{BoardValue}
-use Rattle.thread_runs.specs.Replayed.{AreFirst, RanInThreads, port_with}
-use Rattle.thread_runs.proofs.Turning.{short_behind}
-use Rattle.vcpu_turn.specs.Cpus.{Processing, fresh, pending_of}
-use Rattle.vcpu_turn.specs.Turning.{IsOf}
+use Rattle.vcpu_runners.specs.Replayed.{AreFirst, RanInThreads, port_with}
+use Rattle.vcpu_runners.proofs.Turning.{short_behind}
+use Rattle.vcpu_runners.specs.Turns.{IsOf, Processing, fresh}
 use Rattle.vcpu_runners.specs.Cpus.{AreShort, IsShort, first_cpus}
 use Rattle.vcpu_runners.specs.Gates.{Gate}
-use Rattle.xp_machine.specs.Ran.{first_gates, log_of}
-use Rattle.xp_machine.specs.Replay.{ReplayedTrace}
+use Rattle.xp_machine.specs.Ran.{first_gates}
+use Rattle.xp_machine.specs.Replay.{ReplayedTo}
 use Rattle.xp_machine.proofs.Reaching.{empty_idles, first_at, runs_at_first}
 use Rattle.xp_machine.proofs.Starting.{length_first, short_first}
 
@@ -66,16 +64,15 @@ module _ (b : BoardValue) (gates : List (Option Gate)) (cpus cpus2 : List Proces
   pub all_last : (n : Machine) → b.machine ≡ n → length cpus2 ≡ (sizes_of n).vcpus
   all_last n machine = ran.all ∙ first.all ∙ ap (λ (k : Machine). (sizes_of k).vcpus) machine
 
-  pub replayed : (t : Trace) (all : List Gate) (opened text : List ℕ) → IsOpening t opened → b.machine ≡ t.layout → b.opening ≡ opened → cpus ≡ first_cpus t.layout t.scripts → gates ≡ first_gates t.layout all →
-      text ≡ report_of t.layout words (map log_of cpus2) (map pending_of cpus2) → ReplayedTrace t all text
-  replayed t all opened text opening machine is firsts own report =
+  pub all_words : (n : Machine) → b.machine ≡ n → length words ≡ size (sizes_of n)
+  all_words n machine = ran.sound.all_words ∙ ap (λ (k : Machine). size (sizes_of k)) machine
+
+  pub replayed_to : (t : Trace) (all : List Gate) (opened : List ℕ) → IsOpening t opened → b.machine ≡ t.layout → b.opening ≡ opened → cpus ≡ first_cpus t.layout t.scripts → gates ≡ first_gates t.layout all → ReplayedTo t all words cpus2
+  replayed_to t all opened opening machine is firsts own =
       record {
         opened = opened;
         opening = opening;
         table = b.table;
-        words = words;
-        cpus = cpus2;
         ran = subst (λ (k : BoardValue). RanInThreads k (first_gates t.layout all) (first_cpus t.layout t.scripts) words cpus2) (board_is t b opened machine is)
             (subst (λ (gs : List (Option Gate)). RanInThreads b gs (first_cpus t.layout t.scripts) words cpus2) own (subst (λ (cs : List Processing). RanInThreads b gates cs words cpus2) firsts ran));
-        report = report;
       }

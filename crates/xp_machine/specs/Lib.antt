@@ -7,4 +7,3 @@ pub mod Replay
 pub mod Rows
 pub mod Texts
 pub mod Turns
-pub mod Unpins

@@ -11,7 +11,7 @@ use Rattle.xp_board.specs.Safe.{Safe}
 use Rattle.xp_board.specs.Sound.{hand_of, SoundState, SoundWords}
 use Rattle.xp_board.specs.Runs as runs
 use Rattle.shared_board.specs.Board.{opened_story, state_of}
-use Rattle.vcpu_turn.specs.Cpus.{Processing, pending_of}
+use Rattle.vcpu_runners.specs.Turns.{Processing, pending_of}
 use Rattle.vcpu_runners.specs.Cpus.{first_cpus}
 use Rattle.xp_machine.specs.Cpus.{order}
 use Rattle.vcpu_runners.specs.Gates.{Gate}

@@ -5,8 +5,7 @@ use Rattle.xp_words.specs.declared.ops.Op.{Op}
 use Rattle.xp_board.specs.Readings.{domain_of}
 use Rattle.xp_board.specs.Sound.{SoundState}
 use Rattle.shared_board.specs.Board.{Board, port_value}
-use Rattle.vcpu_turn.specs.Cpus.{Processing, fresh}
-use Rattle.vcpu_turn.specs.Turning.{IsOf}
+pub use Rattle.vcpu_runners.specs.Turns.{Idles, IsOf, Processing, fresh}
 use Rattle.vcpu_runners.specs.Cpus.{AreShort}
 
 -- The words and hands are sound. There is one vCPU for each vCPU. It idles, and unless it is retired it runs, whoever lends it

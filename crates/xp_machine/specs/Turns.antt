@@ -3,15 +3,11 @@ use Rattle.std.specs.Prelude.{◌≡◌, ℕ, ◌<◌, Bool, true, false, List, 
 use Rattle.std.specs.List.{range_with_len}
 use Rattle.xp_words.specs.Machine.{Machine}
 use Rattle.xp_words.specs.Places.{sizes_of}
-use Rattle.xp_words.specs.declared.reply.Pause.TheVariants.{Lost, Busy, Flush, Alive}
 use Rattle.xp_board.specs.declared.holdings.Made.{Made}
 use Rattle.xp_board.specs.Sound.{hand_of}
 use Rattle.xp_board.specs.Told.{PortValue, Story}
-use Rattle.vcpu_turn.specs.declared.cpu.TurnEnd.{TurnEnd}
-use Rattle.vcpu_turn.specs.declared.cpu.TurnEnd.TheVariants as ends
-use Rattle.vcpu_turn.specs.Cpus.{Processing}
-use Rattle.vcpu_turn.specs.Turning.{is_due}
-use Rattle.vcpu_turn.specs.Turning as turning
+use Rattle.vcpu_runners.specs.Turns.{IsUnhindered, Processing, TurnEnd, is_due}
+use Rattle.vcpu_runners.specs.Turns as turning
 use Rattle.vcpu_runners.specs.Gates.{Gate, IsConsulted}
 use Rattle.xp_machine.specs.Pieces.{Leads}
 
@@ -30,15 +26,6 @@ pub record IsPortOf (n : Machine) (vcpu : ℕ) (a : Story) (v : PortValue) : Typ
   pub vcpu_is : v.post.vcpu ≡ vcpu
   pub hand : v.holdings ≡ hand_of a.hands vcpu
   pub told : v.told ≡ Some a
-
--- One thread makes all steps, and between turns no vCPU holds anything. So no turn is paused for a lost exchange, for a frame in
--- another hand, or for a vCPU that is to stop; and for a flush only where there is another vCPU.
-abbrev pub IsUnhindered : Machine → TurnEnd → Type 0
-IsUnhindered n (ends.Paused (Lost place expected found)) = ⊥
-IsUnhindered n (ends.Paused (Busy frame found)) = ⊥
-IsUnhindered n (ends.Paused (Alive vcpu found)) = ⊥
-IsUnhindered n (ends.Paused (Flush vcpu stamp found)) = 1 < length n.vcpu_domain
-IsUnhindered n _ = Unit {0}
 
 -- vCPU v makes a turn by steps that lead from one stage to the other, in which its own gate gives these answers. One that retires lets that go.
 pub record MakesStagedTurn (n : Machine) (v : ℕ) (c : Processing) (s s' : Stage) : Type 0 where

@@ -2,7 +2,7 @@ ghost use Rattle.std.specs.Prelude.{◌≡◌, ◌≤◌, length, map, vec_len, 
 ghost use Rattle.xp_words.specs.Places.{size, sizes_of};
 ghost use Rattle.report_text.specs.ReportOf.{report_of};
 ghost use Rattle.trace_text.specs.WellFormed.{IsWellFormed};
-ghost use Rattle.vcpu_turn.specs.Cpus.{pending_of};
+ghost use Rattle.vcpu_runners.specs.Turns.{pending_of};
 ghost use Rattle.vcpu_runners.specs.Cpus.{AreShort, first_cpus};
 ghost use Rattle.vcpu_runners.specs.Gates.{gate_of, in_box};
 ghost use Rattle.xp_machine.specs.Ran.{Closes, RanTrace, first_gates, log_of};
@@ -18,8 +18,7 @@ use sound_rule::{a_run_leaves_it_safe, rested_words_are_sound};
 use sparse_words::SparseWords;
 use std::alloc::{AllocError, Global};
 use trace_text::{ScriptList, Trace};
-use vcpu_runners::Runner;
-use vcpu_turn::Cpu;
+use vcpu_runners::{Cpu, Runner};
 use xp_preempt::Preempt;
 use xp_words::Layout;
 

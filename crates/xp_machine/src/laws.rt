@@ -5,12 +5,9 @@ ghost use Rattle.xp_words.specs.declared.ops.ExtOp.{ExtOp};
 ghost use Rattle.xp_words.specs.declared.ops.Op.{Op};
 ghost use Rattle.xp_words.specs.declared.ops.Pair.{Pair};
 ghost use Rattle.xp_preempt.specs.Gates.{Heard, last_ask};
-ghost use Rattle.vcpu_turn.specs.Asking.{AsksNothingWithin, HearsNoWithin, PausesOldBase, PausesRelease, PausesUnpin, Tried, asks_within, elements_tried};
-ghost use Rattle.vcpu_turn.specs.Cpus.{OfExt, OfPairs, Processing, task_of};
-ghost use Rattle.vcpu_turn.specs.Turning.{is_due};
+ghost use Rattle.vcpu_runners.specs.Turns.{AsksNothingWithin, HearsNoWithin, OfExt, OfPairs, PausesOldBase, PausesRelease, PausesUnpin, Processing, ReleasesNothing, Tried, asks_within, elements_tried, is_due, task_next, task_of};
 ghost use Rattle.vcpu_runners.specs.Gates.{Gate};
 ghost use Rattle.xp_machine.specs.Turns.{MakesStagedTurn, Stage, StaysWithin};
-ghost use Rattle.xp_machine.specs.Unpins.{ReleasesNothing, task_next};
 
 /// In a turn in which no element is done past a yes the gate of that vCPU says no at each ask, but for the last one where the turn is paused for it.
 pub fn a_turn_hears_no_until_it_pauses()

@@ -12,5 +12,6 @@ mod top;
 mod turns;
 
 pub use status::Status;
-pub use threaded::replay;
+pub use threaded::{replay, replay_words};
 pub use top::{run, run_serial};
+pub use vcpu_runners::{Cpu, Runner};

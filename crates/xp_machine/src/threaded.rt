@@ -1,31 +1,37 @@
-ghost use Rattle.std.specs.Prelude.{◌≤◌, map, vec_len, IfOk};
+ghost use Rattle.std.specs.Prelude.{◌≡◌, ◌≤◌, length, map, vec_len, IfOk};
+ghost use Rattle.xp_words.specs.Places.{size, sizes_of};
 ghost use Rattle.trace_text.specs.WellFormed.{IsWellFormed};
+ghost use Rattle.vcpu_runners.specs.Cpus.{AreShort};
 ghost use Rattle.vcpu_runners.specs.Gates.{gate_of};
-ghost use Rattle.xp_machine.specs.Replay.{ReplayedTrace};
+ghost use Rattle.vcpu_runners.specs.Rows.{cpus_of};
+ghost use Rattle.xp_machine.specs.Replay.{ReplayedTo, ReplayedTrace};
 
 use crate::execute::{first_runners, report_with};
 use machine_build::opening;
 use opening_rule::opening_words_are_sound;
+use sparse_words::SparseWords;
 use std::alloc::{AllocError, Global};
 use std::sync::Wait;
 use std::thread::Threads;
 use thread_board::SharedBoard;
-use thread_runs::run_in_threads;
 use trace_text::Trace;
+use vcpu_runners::{Runner, run_in_threads};
 use xp_preempt::Preempt;
 
-/// Runs a trace in threads: the machine is made, each vCPU makes its turns in a thread of its own until it is retired, and the report is
-/// written out. The turns that the trace asks for play no part. The text is the report of words that legal steps lead to. Gate v belongs to
-/// vCPU v and is let go with it; the further ones are let go at once.
-pub fn replay<R: Threads + Wait + Sync>(
+/// Runs a trace in threads: the machine is made, and each vCPU makes its turns in a thread of its own until it is retired. The turns that
+/// the trace asks for play no part. Gives the closing words and the vCPUs, for whoever looks at more of them than a report shows. Gate v
+/// belongs to vCPU v and is let go with it; the further ones are let go at once.
+pub fn replay_words<R: Threads + Wait + Sync>(
     rt: &R,
     alloc: Global,
     trace: Trace,
     gates: Vec<Box<dyn Preempt + Send>>,
-) -> Result<Vec<u8>, AllocError>
+) -> Result<(SparseWords, Vec<Runner>), AllocError>
     requires well { IsWellFormed trace }
     requires gates { 16 ≤ vec_len gates }
-    ensures { IfOk result (λ v. ReplayedTrace trace (map (gate_of calm paces count_asks says) gates.items) v.items) }
+    ensures ran { IfOk result (λ r. ReplayedTo trace (map (gate_of calm paces count_asks says) gates.items) r.0 (cpus_of r.1.items)) }
+    ensures words { IfOk result (λ r. length r.0 ≡ size (sizes_of trace.layout)) }
+    ensures cpus { IfOk result (λ r. (length r.1.items ≡ (sizes_of trace.layout).vcpus) × AreShort (cpus_of r.1.items)) }
 {
     // That the opening words are sound is law: this call does nothing.
     opening_words_are_sound();
@@ -40,8 +46,22 @@ pub fn replay<R: Threads + Wait + Sync>(
         turns: _,
     } = trace;
     let runners = first_runners(alloc, &layout, scripts, gates)?;
-    let machine = layout.copy();
     let (board, passes) = SharedBoard::make(alloc, layout, words)?;
-    let (words, runners) = run_in_threads(rt, alloc, board, passes, runners)?;
-    report_with(alloc, &machine, &words, runners)
+    run_in_threads(rt, alloc, board, passes, runners)
+}
+
+/// Runs a trace in threads, as `replay_words` does, and writes the report out: it is that of words that legal steps lead to.
+pub fn replay<R: Threads + Wait + Sync>(
+    rt: &R,
+    alloc: Global,
+    trace: Trace,
+    gates: Vec<Box<dyn Preempt + Send>>,
+) -> Result<Vec<u8>, AllocError>
+    requires well { IsWellFormed trace }
+    requires gates { 16 ≤ vec_len gates }
+    ensures { IfOk result (λ v. ReplayedTrace trace (map (gate_of calm paces count_asks says) gates.items) v.items) }
+{
+    let layout = trace.layout.copy();
+    let (words, runners) = replay_words(rt, alloc, trace, gates)?;
+    report_with(alloc, &layout, &words, runners)
 }

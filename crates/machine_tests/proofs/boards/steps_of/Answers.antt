@@ -2,9 +2,7 @@ use Rattle.std.proofs.Common.{◌∙◌, ap, sym, subst}
 use Rattle.xp_words.specs.Machine.{Machine}
 use Rattle.xp_board.specs.Readings.{domain_of}
 use Rattle.shared_board.specs.Board.{port_value}
-use Rattle.vcpu_turn.specs.Cpus.{fresh}
-use Rattle.vcpu_turn.specs.Turning.{IsOf}
-use Rattle.xp_machine.specs.Ready.{TakesFresh}
+use Rattle.xp_machine.specs.Ready.{IsOf, TakesFresh, fresh}
 use Rattle.xp_machine.proofs.Boarding.{of_port}
 use Rattle.machine_tests.proofs.boards.steps_of.Goals as goal
 

@@ -1,7 +1,7 @@
 use Rattle.std.proofs.Common.{◌≡◌, ◌∙◌, sym, ap, map, length}
 use Rattle.xp_words.specs.Places.{sizes_of}
 use Rattle.report_text.specs.ReportOf.{report_of}
-use Rattle.vcpu_turn.specs.Cpus.{pending_of}
+use Rattle.vcpu_runners.specs.Turns.{pending_of}
 use Rattle.vcpu_runners.specs.Gates.{gate_of}
 use Rattle.xp_machine.specs.Ran.{log_of, Closes}
 use Rattle.xp_machine.specs.Rows.{stage_of}

@@ -4,7 +4,7 @@ use Rattle.std.proofs.lemmas.Iterator.Consumers.{YieldsList-turn, YieldsList-end
 use Rattle.std.proofs.lemmas.List.{map-id, length-map}
 use Rattle.std.proofs.lemmas.Simd.{map-map}
 use Rattle.report_text.specs.ReportOf.{report_of}
-use Rattle.vcpu_turn.specs.Cpus.{pending_of}
+use Rattle.vcpu_runners.specs.Turns.{pending_of}
 use Rattle.vcpu_runners.specs.Cpus.{IsShort}
 use Rattle.xp_machine.specs.Ran.{log_of}
 use Rattle.xp_machine.proofs.Reaching.{if_ok, short_runner}

@@ -1,5 +1,5 @@
 use Rattle.std.proofs.Common.{◌≡◌, map}
-use Rattle.vcpu_turn.specs.Cpus.{pending_of}
+use Rattle.vcpu_runners.specs.Turns.{pending_of}
 use Rattle.xp_machine.specs.Ran.{log_of}
 use Rattle.xp_machine.proofs.execute.report_with.Given as goal
 

@@ -1,6 +1,5 @@
-use Rattle.vcpu_turn.specs.Asking.{elements_tried}
-use Rattle.vcpu_turn.proofs.Trying.{hears_nothing}
-use Rattle.xp_machine.proofs.Stopping.{releasing_nothing_hears, unpaused_hears, unpins_hear}
+use Rattle.vcpu_runners.specs.Turns.{elements_tried}
+use Rattle.vcpu_runners.proofs.Turns.{hears_nothing, releasing_nothing_hears, unpaused_hears, unpins_hear}
 use Rattle.xp_machine.proofs.laws.no_element_is_done_past_a_yes.Goals as goal
 
 pub returns-clause-lists : goal.returns-clause-lists

@@ -19,7 +19,7 @@ use Rattle.vcpu_turn.specs.declared.cpu.TurnEnd.{TurnEnd}
 use Rattle.vcpu_turn.proofs.Asking.{turn_hears}
 use Rattle.vcpu_turn.proofs.Hearing.{elements_hear, pairs_hear}
 use Rattle.vcpu_turn.proofs.TurnItems.{IsNoList, ext_each, pairs_each, unlisted_each}
-use Rattle.xp_machine.specs.Unpins.{IsNoRelease, ReleasesNothing, task_next}
+use Rattle.vcpu_turn.specs.Unpins.{IsNoRelease, ReleasesNothing, task_next}
 
 -- ---- which turns
 -- a pair that writes no word

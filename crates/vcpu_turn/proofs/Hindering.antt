@@ -25,7 +25,7 @@ use Rattle.mmu_update.specs.Elements as pairs
 use Rattle.mmu_update.specs.Fits.{Updates}
 use Rattle.mmu_update.specs.declared.element.Element as updating
 use Rattle.mmu_update.specs.declared.element.Element.TheVariants as updates
-use Rattle.table_bases.specs.Asking.{may_rise, of_base, user_frame}
+use Rattle.mmuext_ops.specs.Bases.{may_rise, of_base, user_frame}
 use Rattle.tlb_walks.specs.Accesses.{ServesWrite}
 use Rattle.tlb_walks.specs.Asking.{of_read, of_write}
 use Rattle.mmuext_ops.specs.Elements as elements
@@ -41,7 +41,7 @@ use Rattle.vcpu_turn.specs.Working.{SettlesFirst, ExtFits, FindsOwners, FitsExt,
 use Rattle.vcpu_turn.specs.Turning.{DoesNext, EndsTurn, DoesTurn, IsStop, IsTurn}
 use Rattle.vcpu_turn.specs.Turning as turning
 use Rattle.vcpu_turn.proofs.Turns.{begins_came}
-use Rattle.xp_machine.specs.Turns.{IsUnhindered}
+use Rattle.vcpu_turn.specs.Unhindered.{IsUnhindered}
 
 -- ---- steps
 same_came : (v w : PortValue) → w ≡ v → Came v w

@@ -1,10 +1,11 @@
 ghost use Rattle.std.specs.Prelude.{◌≡◌, length, map, IfOk};
 ghost use Rattle.xp_words.specs.Places.{sizes_of};
 ghost use Rattle.thread_board.specs.Values.{AreOpened};
-ghost use Rattle.vcpu_runners.specs.Gates.{gate_of, in_box};
+ghost use Rattle.vcpu_runners.specs.Gates.{gate_of};
 ghost use Rattle.vcpu_runners.specs.Rows.{cpus_of, gates_of};
-ghost use Rattle.thread_runs.specs.Replayed.{AreFirst, RanInThreads};
+ghost use Rattle.vcpu_runners.specs.Replayed.{AreFirst, RanInThreads};
 
+use crate::runner::Runner;
 use crate::worker::{Worker, work_all};
 use sound_rule::rested_words_are_sound;
 use sparse_words::SparseWords;
@@ -12,7 +13,6 @@ use std::alloc::{AllocError, Global};
 use std::sync::Wait;
 use std::thread::Threads;
 use thread_board::{Pass, SharedBoard};
-use vcpu_runners::Runner;
 
 // Each runner with the pass of its vCPU.
 fn pair_up(
@@ -44,7 +44,7 @@ pub fn run_in_threads<R: Threads + Wait + Sync>(
     requires count { length passes.items ≡ (sizes_of board.machine).vcpus }
     requires opened { AreOpened board.table passes.items }
     requires first { AreFirst board (cpus_of runners.items) }
-    ensures { IfOk result (λ r. RanInThreads board (gates_of (in_box (gate_of calm paces count_asks says)) runners.items) (cpus_of runners.items) r.0 (cpus_of r.1.items)) }
+    ensures { IfOk result (λ r. RanInThreads board (gates_of (gate_of calm paces count_asks says) runners.items) (cpus_of runners.items) r.0 (cpus_of r.1.items)) }
 {
     // What a run leaves where all hands are empty is law: this call does nothing.
     rested_words_are_sound();

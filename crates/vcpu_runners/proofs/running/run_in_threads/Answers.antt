@@ -3,8 +3,8 @@ use Rattle.std.proofs.lemmas.Iterator.Adapters.{YieldsList-from_vec}
 use Rattle.std.proofs.lemmas.Iterator.Consumers.{YieldsList-end}
 use Rattle.std.proofs.lemmas.List.{map-id}
 use Rattle.vcpu_runners.specs.Gates.{gate_in, gate_of, in_box}
-use Rattle.thread_runs.proofs.Gathering.{may_run, passes_own, ran_in_threads, written_back}
-use Rattle.thread_runs.proofs.running.run_in_threads.Goals as goal
+use Rattle.vcpu_runners.proofs.Gathering.{may_run, passes_own, ran_in_threads, written_back}
+use Rattle.vcpu_runners.proofs.running.run_in_threads.Goals as goal
 
 pub work_all-requires-after_bounds : goal.work_all-requires-after_bounds
 work_all-requires-after_bounds g c κs within =

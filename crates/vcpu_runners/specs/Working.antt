@@ -6,7 +6,7 @@ use Rattle.vcpu_turn.specs.Cpus.{Processing}
 use Rattle.vcpu_turn.specs.Turning.{IsOf}
 use Rattle.vcpu_runners.specs.Cpus.{IsShort}
 use Rattle.vcpu_runners.specs.Gates.{Gate}
-use Rattle.thread_runs.specs.Replayed.{TookTurns}
+use Rattle.vcpu_runners.specs.Replayed.{TookTurns}
 
 -- the pass is one of that board and of that vCPU, which makes turns yet
 pub record MayRun (b : BoardValue) (p : PassValue) (c : Processing) : Type 0 where

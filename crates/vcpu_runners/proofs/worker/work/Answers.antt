@@ -1,7 +1,7 @@
 use Rattle.std.proofs.Common.{refl, sym, ◌∙◌}
-use Rattle.thread_runs.specs.Replayed.{none}
-use Rattle.thread_runs.proofs.Turning.{of_first_port, ran_out, short_more, turns_more}
-use Rattle.thread_runs.proofs.worker.work.Goals as goal
+use Rattle.vcpu_runners.specs.Replayed.{none}
+use Rattle.vcpu_runners.proofs.Turning.{of_first_port, ran_out, short_more, turns_more}
+use Rattle.vcpu_runners.proofs.worker.work.Goals as goal
 
 pub turns-init : goal.turns-init
 turns-init g c =

@@ -14,8 +14,8 @@ use Rattle.vcpu_runners.specs.Cpus.{IsShort}
 use Rattle.vcpu_runners.specs.Gates.{Gate}
 use Rattle.vcpu_runners.specs.Runners.{TakesTurn, TakesTurnBy}
 use Rattle.vcpu_runners.proofs.Scripts.{turn_script}
-use Rattle.thread_runs.specs.Replayed.{TookTurns, more, none}
-use Rattle.thread_runs.specs.Working.{RanOut}
+use Rattle.vcpu_runners.specs.Replayed.{TookTurns, more, none}
+use Rattle.vcpu_runners.specs.Working.{RanOut}
 
 -- ---- one turn more
 pub turns_more : (has mid left : Option Gate) (c d c2 : Processing) (v u w : PortValue) → TookTurns has c v mid d u → d.retired ≡ false → TakesTurnBy d.retired mid left d c2 u w → TookTurns has c v left c2 w

@@ -1,6 +1,6 @@
 use Rattle.std.proofs.Common.{◌≡◌, map}
 use Rattle.std.specs.Vec.{vec_capacity}
-use Rattle.thread_runs.proofs.running.run_in_threads.Given as goal
+use Rattle.vcpu_runners.proofs.running.run_in_threads.Given as goal
 
 abbrev pub invariant-ended : goal.invariant-ended
 invariant-ended g l = record {

@@ -3,8 +3,8 @@ use Rattle.thread_board.specs.Ports.{port_value}
 use Rattle.vcpu_turn.specs.Turning.{IsOf}
 use Rattle.vcpu_runners.specs.Cpus.{IsShort}
 use Rattle.vcpu_runners.specs.Gates.{gate_in, gate_of}
-use Rattle.thread_runs.specs.Replayed.{TookTurns}
-use Rattle.thread_runs.proofs.worker.work.Given as goal
+use Rattle.vcpu_runners.specs.Replayed.{TookTurns}
+use Rattle.vcpu_runners.proofs.worker.work.Given as goal
 
 abbrev pub invariant-turns : goal.invariant-turns
 invariant-turns g l = record {

@@ -1,5 +1,5 @@
 use Rattle.std.proofs.Common.{◌≡◌, map}
-use Rattle.thread_runs.proofs.running.pair_up.Given as goal
+use Rattle.vcpu_runners.proofs.running.pair_up.Given as goal
 
 abbrev pub invariant-pairs : goal.invariant-pairs
 invariant-pairs g l = record {
