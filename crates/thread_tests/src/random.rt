@@ -49,7 +49,7 @@ fn address(random: &mut Pcg32) -> u64 {
     for _ in 0..4 {
         page = page % (1 << 27) * 512 + u64::from(random.next_u32() % 4);
     }
-    page * 4096 + 8 * u64::from(random.next_u32() % 4)
+    page % (1 << 36) * 4096 + 8 * u64::from(random.next_u32() % 4)
 }
 
 fn put_extended(text: &mut String, random: &mut Pcg32) -> Result<(), AllocError> {
@@ -58,7 +58,7 @@ fn put_extended(text: &mut String, random: &mut Pcg32) -> Result<(), AllocError>
         let level = level(random);
         let frame = frame_near(random, level);
         match random.next_u32() % 8 {
-            0..=2 => write!(text, " {} {} 0", level - 1, frame)?,
+            0..=2 => write!(text, " {} {} 0", level.saturating_sub(1), frame)?,
             3 => write!(text, " 4 {} 0", frame)?,
             4 => write!(text, " 5 {} 0", frame_near(random, 4))?,
             5 => write!(text, " 15 {} 0", frame_near(random, 4))?,
