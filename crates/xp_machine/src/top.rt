@@ -206,6 +206,8 @@ pub fn run_serial<S: Source, K: Sink>(
     ensures outcome { OutcomeBy (serial_of (asked_of (map string_bytes words.now))) (map (gate_of calm paces count_asks says) gates.items) (S.left source.old) (S.left source.new) (K.taken sink.old) (K.taken sink.new) result }
     ensures words { result ≡ Status.BadWords → serial_of (asked_of (map string_bytes words.now)) ≡ None }
     ensures known { serial_of (asked_of (map string_bytes words.now)) ≡ None → (result ≡ Status.BadWords) ⊎ (result ≡ Status.Memory) }
+    ensures unknown { asked_of (map string_bytes words.now) ≡ None → result ≡ Status.BadWords }
+    ensures unread { serial_of (asked_of (map string_bytes words.now)) ≡ None → S.left source.new ≡ S.left source.old }
     ensures read { result ≡ Status.ReadFault → Rose (S.faults source.old) (S.faults source.new) }
     ensures write { result ≡ Status.WriteFault → Rose (K.faults sink.old) (K.faults sink.new) }
 {
