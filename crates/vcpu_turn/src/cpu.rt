@@ -19,6 +19,7 @@ pub enum TurnEnd {
 }
 
 /// A virtual processor: its domain, its operations, what they answered, how far the next one is done, and past which clock value it goes on to wait.
+/// Its log has room for all replies from the beginning, and never more: a turn takes no memory.
 #[derive(Drop)]
 pub struct Cpu {
     pub(crate) vcpu: u32,
@@ -31,14 +32,14 @@ pub struct Cpu {
 }
 
 impl Model for Cpu {
-    ghost use Rattle.std.specs.Prelude.{◌≤◌, length, slice_get, vec_len, vec_capacity};
+    ghost use Rattle.std.specs.Prelude.{◌≡◌, ◌≤◌, length, slice_get, vec_len, vec_capacity};
     ghost use Rattle.vcpu_turn.specs.Cpus.{Processing, elements_of};
 
     ghost Value = { Processing };
 
     ghost view = { λ c. record { vcpu = c.vcpu; domain = c.domain; script = c.script; log = c.log.items; done = c.done; awaited = c.awaited; retired = c.retired } };
 
-    ghost invariant = { λ c. (length c.script ≤ vec_capacity c.log) × (vec_len c.log ≤ length c.script) × (c.done ≤ elements_of (slice_get c.script (vec_len c.log))) };
+    ghost invariant = { λ c. (vec_capacity c.log ≡ length c.script) × (vec_len c.log ≤ length c.script) × (c.done ≤ elements_of (slice_get c.script (vec_len c.log))) };
 }
 
 impl Cpu {

@@ -62,7 +62,7 @@ fn log_answer<P: Port>(port: &mut P, cpu: &mut Cpu, value: u64, refusal: Option<
         call: 0,
         reply,
     };
-    cpu.log.push(line).unwrap();
+    cpu.log.push_reserved(line);
     cpu.done = 0;
     cpu.awaited = None;
     reply
