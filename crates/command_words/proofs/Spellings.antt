@@ -10,12 +10,8 @@ use Rattle.std.proofs.lemmas.Int.Digits.{digits_value-lt}
 use Rattle.std.proofs.lemmas.Fmt.{decimal-digits_value, length-decimal-le}
 use Rattle.std.proofs.lemmas.Str.Parse.{digit_from_value, numerals_by_value, tells_digits}
 use Rattle.trace_lines.specs.Numbers.{is_digit, is_proper, numeral}
+use Rattle.trace_lines.proofs.WordsAgain.{both}
 use Rattle.command_words.specs.Words.{has_digits, pace_in, within_million}
-
-pub both : (a b : Bool) → (a && b) ≡ true → (a ≡ true) × (b ≡ true)
-both true true e = (refl, refl)
-both true false e = cc
-both false b e = cc
 
 pub all_digits : (w : List ℕ) → has_digits w ≡ true → AllDigits 10 w
 all_digits [] e = tt

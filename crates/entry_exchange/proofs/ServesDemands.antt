@@ -32,7 +32,6 @@ use Rattle.writable_pages.specs.Pages.{HidesMark, ServesPage, of_page}
 use Rattle.entry_exchange.specs.Asking.{IsHidden}
 use Rattle.entry_exchange.specs.Serving.{ServesTaken, of_demand}
 use Rattle.entry_exchange.proofs.ServesWithin.{owners_alike}
-use Rattle.entry_exchange.proofs.Taking.{same_due}
 
 -- ---- a call on the frame, within the demand
 module _ (n : Machine) (s f owner pages within_pages : ℕ) (t : PageType) (want : Option PageType) (rose risen marks entries : Bool) (F : Finding) where
@@ -171,9 +170,6 @@ module _ (v w : PortValue) (f owner pages : ℕ) where
       acquiring : (answer : Result ℕ Stop) (rose : Bool) → (acquires.is_due_answer answer ≡ true → rose ≡ true) → Within v.post.machine v.post.vcpu (of_acquire v f owner (level - 1) pages answer) (Met v w) (of_demand (Typed f t) owner pages rose) (Met v w)
       acquiring answer rose rises =
           within_demand v.post.machine v.post.vcpu f owner pages pages t (Some (level_type (level - 1))) (acquires.is_due_answer answer) rose (not (owner == own_domain v)) true (Met v w) (ap (λ k. Some k) (sym lower)) (λ on. (table, refl)) rises
-
-      due_same : (e : Stop) → acquires.is_due_stop e ≡ true → is_due_stop e ≡ true
-      due_same e on = sym (same_due e) ∙ on
 
       acquired_hides : (g : ℕ) (ds : List Deed) → (ds ≡ []) ⊎ (IsForeign v owner × (is_paused_answer {A = ℕ} (Ok g) ≡ true) × (ds ≡ Misses (Kind f) ∷ [])) → ds ≡ []
       acquired_hides g ds (inl none) = none

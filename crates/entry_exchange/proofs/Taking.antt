@@ -27,15 +27,6 @@ use Rattle.entry_exchange.specs.Course as courses
 use Rattle.entry_exchange.specs.Holding.{LeavesDemand}
 use Rattle.entry_exchange.specs.Parts.{IsOfLevel, TakesBy}
 
--- the gate said yes, by either word for it
-pub same_due : (e : Stop) → acquires.is_due_stop e ≡ is_due_stop e
-same_due (Refused x) = refl
-same_due (Paused pauses.Due) = refl
-same_due (Paused (pauses.Lost place expected found)) = refl
-same_due (Paused (pauses.Busy f found)) = refl
-same_due (Paused (pauses.Flush vcpu stamp found)) = refl
-same_due (Paused (pauses.Alive vcpu found)) = refl
-
 pub ref_undue : (e : Stop) → IsRefStop e → IsAcquireStop e × (is_due_stop e ≡ false)
 ref_undue (Refused (refusals.NoFrame f)) is = (tt, refl)
 ref_undue (Refused (refusals.WrongOwner f found)) is = (tt, refl)
@@ -91,7 +82,7 @@ module _ (v w : PortValue) (owner level : ℕ) where
               answers = by.answers;
               course = subst (λ k. TookDemand owner level v (Typed g k) w by.answers (Err stop)) (sym lower) (courses.refused w g by.answers stop above by.course);
               gate = by.gate;
-              due = λ on. sym by.due ∙ same_due stop ∙ on;
+              due = λ on. sym by.due ∙ on;
             }
 
 -- of that demand, and with that answer

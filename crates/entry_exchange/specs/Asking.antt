@@ -8,14 +8,9 @@ use Rattle.xp_board.specs.Told.{PortValue}
 use Rattle.answer_fits.specs.Answers.{Deed, Misses, Serves, SetsEntry, missed}
 use Rattle.answer_fits.specs.Asked.{Request, of_frame}
 use Rattle.foreign_map.specs.declared.owners.Owners.{Owners}
-use Rattle.level_release.specs.Asking.{is_due_stop}
+pub use Rattle.table_courses.specs.Ending.{may_rise}
 use Rattle.entry_exchange.specs.declared.exchanging.EntryUpdate.{EntryUpdate}
 use Rattle.entry_exchange.specs.Words.{word_kept}
-
--- where it is done its gate may have said yes, as what the old word asked was given back
-abbrev pub may_rise : Result (Unit {0}) Stop → Bool
-may_rise (Ok done) = true
-may_rise (Err e) = is_due_stop e
 
 -- it names the table, and its entry asks frames of the one domain at level 1, above it of the other one
 abbrev pub of_exchange : EntryUpdate → Owners → Result (Unit {0}) Stop → Request

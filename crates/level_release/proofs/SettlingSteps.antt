@@ -26,6 +26,7 @@ use Rattle.frame_types.specs.Found.{Dies, StoresKind}
 use Rattle.partial_state.specs.Levels.{level_type}
 use Rattle.table_releases.specs.Found.{has_recorded}
 use Rattle.table_words.specs.declared.old_words.OldWord.{OldWord}
+use Rattle.kept_marks.proofs.MarkWords.{partial_form}
 use Rattle.level_release.specs.Asking.{is_due_stop}
 use Rattle.table_courses.specs.Acquiring.{Named}
 use Rattle.level_release.specs.Course.{Emptied, SettledOne, SettledPartial, resumed_table}
@@ -50,8 +51,6 @@ pub lost_undue : (e : Stop) (place expected found : ℕ) → e ≡ Paused (Lost 
 lost_undue e place expected found is = ap is_due_stop is
 
 -- ---- a partial frame
-partial_form : (k : KindWord) → IsTrue (is_partial k) → form_of k ≡ Partial
-partial_form k partial = let parts = partial_parts k partial in rw (parts.0, parts.1) refl
 
 module _ (u v : PortValue) (which : OldWord) (f word : ℕ) (t : TookOld u v which f word) (k : KindWord) (read : kind_read word ≡ Some k) (partial : IsTrue (is_partial k)) (d : PortValue) (found : ℕ)
     (change : Moves v d (Kind f) (Cas (kind_write k) (kind_write (resumed_kind k))) kinds.Kind None found) where

@@ -11,16 +11,9 @@ use Rattle.answer_fits.specs.Asked.{IsAsked, Request}
 use Rattle.answer_fits.specs.Finding.{Finding}
 use Rattle.partial_state.specs.declared.stack.TableWork.{TableWork}
 use Rattle.table_entries.specs.Asking.{of_entries}
+pub use Rattle.table_courses.specs.Ending.{is_due_answer, is_due_stop}
 
 -- ---- answers
-abbrev pub is_due_stop : Stop → Bool
-is_due_stop (Paused Due) = true
-is_due_stop _ = false
-
--- the gate said yes
-abbrev pub is_due_answer : {A : Type 0} → Result A Stop → Bool
-is_due_answer (Err e) = is_due_stop e
-is_due_answer (Ok a) = false
 
 -- why it is paused
 abbrev pub IsReleaseEnd : Stop → Type 0

@@ -19,6 +19,7 @@ use Rattle.kept_marks.specs.Marks.{IsForeign}
 use Rattle.partial_state.specs.Levels.{level_type}
 use Rattle.partial_state.specs.declared.stack.TableWork.{TableWork}
 use Rattle.table_courses.specs.Acquiring.{Acquired}
+pub use Rattle.table_courses.specs.Ending.{is_due_answer, is_due_stop}
 use Rattle.xp_preempt.specs.Gates.{Consulted, ends_yes}
 use Rattle.level_validate.specs.Completing.{Completes}
 use Rattle.level_validate.specs.Serving.{IsPiece}
@@ -26,14 +27,6 @@ use Rattle.level_validate.specs.Tables.{Carries, IsIdle}
 use Rattle.level_validate.specs.Unwinding.{Unwinds, own_domain}
 
 -- ---- answers
-abbrev pub is_due_stop : Stop → Bool
-is_due_stop (Paused Due) = true
-is_due_stop _ = false
-
--- the gate said yes
-abbrev pub is_due_answer : {A : Type 0} → Result A Stop → Bool
-is_due_answer (Err e) = is_due_stop e
-is_due_answer (Ok a) = false
 
 -- it is a pause
 abbrev pub is_paused_answer : {A : Type 0} → Result A Stop → Bool

@@ -39,11 +39,6 @@ ref_kinds (Refused (refusals.CountFull f x)) is = tt
 ref_kinds (Paused (pauses.Lost place e x)) is = tt
 ref_kinds _ is = absurd is
 
-pub ref_undue : (e : Stop) → IsRefStop e → is_due_stop e ≡ false
-ref_undue (Refused x) is = refl
-ref_undue (Paused (pauses.Lost place e x)) is = refl
-ref_undue (Paused _) is = absurd is
-
 lock_kinds : (e : Stop) → IsLockStop e → IsWriteStop e
 lock_kinds (Paused (pauses.Lost place e x)) is = tt
 lock_kinds (Paused (pauses.Busy f x)) is = tt

@@ -11,12 +11,12 @@ use Rattle.frame_words.specs.Plain.{put}
 use Rattle.frame_words.specs.Refs.{IsRefStop}
 use Rattle.table_courses.specs.Acquiring.{Acquired, GaveRef, GotRef}
 use Rattle.level_validate.specs.Acquiring.{AcquiresBy}
+use Rattle.table_courses.proofs.Ending.{reference_undue}
 use Rattle.mmuext_ops.specs.Course.{IsPinnedAs, PinEnds, PinsBy, SawKind}
 use Rattle.mmuext_ops.specs.Course as course
 use Rattle.level_release.specs.Asking.{is_due_answer, is_due_stop}
 use Rattle.mmuext_ops.specs.Holding.{IsPinEnd}
 use Rattle.mmuext_ops.proofs.Pinned.{pin_undue}
-use Rattle.mmuext_ops.proofs.Rests.{reference_undue, same_due}
 
 -- a reference given back, of the frame that was asked
 pub gave_ref : (b c : PortValue) (f g : ℕ) → g ≡ f → Puts b c g → (is_telling b ≡ true → Leaves c (put g (told_word b))) → GaveRef b c f
@@ -38,7 +38,7 @@ module _ (v a b c : PortValue) (d f level x : ℕ) (got : GotRef v a f d (Ok f))
       PinsBy v e d f level says before after agreed agrees answer
   refused_course e answer stop is by =
       subst (λ y. PinsBy v e d f level says before after agreed agrees y) (sym is)
-      (record { answers = by.answers; course = course.refused a b c x by.answers stop got saw gave other by.course; gate = by.gate; due = λ on. sym by.due ∙ same_due stop ∙ on })
+      (record { answers = by.answers; course = course.refused a b c x by.answers stop got saw gave other by.course; gate = by.gate; due = λ on. sym by.due ∙ on })
 
   pub live_course : (e w : PortValue) (g : ℕ) (answer : Result (Unit {0}) Stop) → g ≡ f → AcquiresBy c e f d level says before after agreed agrees (Ok g) → IfErr answer IsPinEnd → PinEnds e w g level answer →
       PinsBy v w d f level says before after agreed agrees answer

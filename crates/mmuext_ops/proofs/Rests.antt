@@ -68,20 +68,3 @@ wait_undue (Ok done) is = refl
 wait_undue (Err (Refused x)) is = refl
 wait_undue (Err (Paused pauses.Due)) is = absurd is
 wait_undue (Err (Paused _)) is = refl
-
--- a reference that is not to be had is no pause for the gate
-pub reference_undue : (e : Stop) → IsRefStop e → is_due_stop e ≡ false
-reference_undue (Refused x) is = refl
-reference_undue (Paused (pauses.Lost place expected found)) is = refl
-reference_undue (Paused pauses.Due) is = absurd is
-reference_undue (Paused (pauses.Busy f found)) is = absurd is
-reference_undue (Paused (pauses.Flush vcpu stamp found)) is = absurd is
-reference_undue (Paused (pauses.Alive vcpu found)) is = absurd is
-
-pub same_due : (e : Stop) → acquires.is_due_stop e ≡ is_due_stop e
-same_due (Refused x) = refl
-same_due (Paused pauses.Due) = refl
-same_due (Paused (pauses.Lost place expected found)) = refl
-same_due (Paused (pauses.Busy f found)) = refl
-same_due (Paused (pauses.Flush vcpu stamp found)) = refl
-same_due (Paused (pauses.Alive vcpu found)) = refl

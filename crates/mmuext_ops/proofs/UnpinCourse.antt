@@ -12,11 +12,11 @@ use Rattle.xp_board.specs.Told.{PortValue}
 use Rattle.frame_words.specs.Refs.{IsRefStop}
 use Rattle.table_courses.specs.Acquiring.{GaveRef, GotRef}
 use Rattle.level_release.specs.Course.{ReleasesFrameBy, WasReleased}
+use Rattle.table_courses.proofs.Ending.{reference_undue}
 use Rattle.mmuext_ops.specs.Course.{SawKind, TakesPinOff, Unpinned, UnpinsBy, is_pinned}
 use Rattle.mmuext_ops.specs.Course as course
 use Rattle.level_release.specs.Asking.{is_due_stop}
 use Rattle.xp_preempt.proofs.Consulting.{consulted_none, not_due}
-use Rattle.mmuext_ops.proofs.Rests.{reference_undue}
 
 -- the gate is asked nothing
 module _ (v w : PortValue) (d f : ℕ) (says : ℕ → Bool) (asks agreed : ℕ) where

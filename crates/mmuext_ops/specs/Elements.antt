@@ -13,7 +13,7 @@ use Rattle.answer_fits.specs.Answers.{Deed, Forgets, Misses, Pins, Serves, SetsW
 use Rattle.answer_fits.specs.Asked.{Request, of_frame, of_numbers, of_table}
 use Rattle.answer_fits.specs.Reasons.{HadClock}
 use Rattle.flush_waits.specs.Waiting.{IsWait, meant}
-use Rattle.table_bases.specs.Asking.{IsBaseStop, IsSpentStop, LeavesBase, may_rise, of_base, user_frame}
+use Rattle.table_bases.specs.Asking.{IsBaseStop, IsSpentStop, LeavesBase, may_rise, of_base, user_frame, NamesInFirst}
 use Rattle.table_bases.specs.Holding.{naming}
 use Rattle.tlb_walks.specs.Addresses.{is_canonical, page_of}
 use Rattle.tlb_walks.specs.Dropping.{of_flush}
@@ -139,9 +139,6 @@ IsElementStop (FlushVcpus mask) e = IsWait e
 IsElementStop Unknown e = e ≡ Refused refusals.BadCommand
 
 -- ---- what it leaves in hand: nothing; and what is known of the first old word
--- it names the frame
-abbrev pub NamesInFirst : PortValue → PortValue → ℕ → Type 0
-NamesInFirst v w f = FlushedHolds v w (record v.holdings { old0 = Some (f + 1) })
 
 -- A refused pin may leave the frame named, and so may an unpin whose release is paused; of a base, table_bases says it. All else leaves the word as it was.
 abbrev pub LeavesElement : PortValue → PortValue → Element → Result (Unit {0}) Stop → Type 0

@@ -28,6 +28,7 @@ use Rattle.table_law.specs.Plain.{Describes, Plain, Share, reference_back, share
 use Rattle.table_twins.proofs.Kinding.{kinded, unlive}
 use Rattle.table_twins.proofs.Sharing.{same_back}
 use Rattle.course_laws.proofs.Completing.{IsKinded, described_kind}
+use Rattle.table_twins.proofs.Typing.{live_sober}
 
 -- ---- references
 share_by : (r : Option RefWord) → 0 < count_in r → (s : Share) × (share_in r ≡ Some s)
@@ -44,8 +45,6 @@ put_words n m p g d inside some =
     same_back n m p g s.0 d inside (d.shares g inside ∙ s.1)
 
 -- ---- kind words
-pub live_sober : (k : KindWord) → k.validated ≡ true → sober k ≡ k
-live_sober k live = ap (λ b. if b then k else record k { number = 0; unflushed = false }) live
 
 pub live_there : (n : Machine) (m : Words) (p : Plain) (g : ℕ) → Describes n m p → g < n.frames → (kind_fields (m (Kind g))).validated ≡ true → p.kinds g ≡ kind_fields (m (Kind g))
 live_there n m p g d inside live = d.kinds g inside ∙ live_sober (kind_fields (m (Kind g))) live

@@ -30,14 +30,6 @@ use Rattle.table_bases.proofs.Behind.{stays_warm}
 use Rattle.table_bases.proofs.Clocked.{installed_course, looked, looked_came, looked_warm}
 use Rattle.table_bases.proofs.Requests.{within_acquire}
 
-pub same_due : (e : Stop) → acquires.is_due_stop e ≡ is_due_stop e
-same_due (Refused x) = refl
-same_due (Paused pauses.Due) = refl
-same_due (Paused (pauses.Lost place expected found)) = refl
-same_due (Paused (pauses.Busy f found)) = refl
-same_due (Paused (pauses.Flush vcpu stamp found)) = refl
-same_due (Paused (pauses.Alive vcpu found)) = refl
-
 module _ (v a e : PortValue) (clock f d : ℕ) (look : SawClock v a clock) (home : d ≡ own_domain a) where
   there : d ≡ own_domain v
   there = home ∙ ap (λ (p : Post). domain_of p.machine p.vcpu) (came_post v a (looked_came v a clock look))
@@ -84,10 +76,10 @@ module _ (v a e : PortValue) (clock f d : ℕ) (look : SawClock v a clock) (home
   -- ---- it is not had
   module _ (answer : Result (Unit {0}) Stop) (stop : Stop) (is : answer ≡ Err stop) (base : Base) where
     pub refused_serves : ServesAcquired a e f d 4 d (Err stop) → ServesBase v e base (Some f) answer
-    refused_serves s = subst (λ y. ServesBase v e base (Some f) y) (sym is) (acquired_serves (Err stop) (is_due_stop stop) (λ due. sym (same_due stop) ∙ due) s)
+    refused_serves s = subst (λ y. ServesBase v e base (Some f) y) (sym is) (acquired_serves (Err stop) (is_due_stop stop) (λ due. due) s)
 
     pub refused_stops : Same v a → Stops a e (of_acquire {A = ℕ} a f d 4 d (Err stop)) stop → StopsBase v e (Some f) answer
-    refused_stops same s = subst (λ y. StopsBase v e (Some f) y) (sym is) (unacquired_stops (Err stop) (is_due_stop stop) (λ due. sym (same_due stop) ∙ due) same stop s)
+    refused_stops same s = subst (λ y. StopsBase v e (Some f) y) (sym is) (unacquired_stops (Err stop) (is_due_stop stop) (λ due. due) same stop s)
 
     pub refused_course : (says : ℕ → Bool) (before after agreed agrees : ℕ) → clock ≢ last_clock → AcquiresBy a e f d 4 says before after agreed agrees (Err stop) →
         SetsBaseBy v e base (Some f) says before after agreed agrees answer
@@ -97,7 +89,7 @@ module _ (v a e : PortValue) (clock f d : ℕ) (look : SawClock v a clock) (home
           answers = by.answers;
           course = course.unacquired a f clock by.answers stop look some (subst (λ o. Acquired a f o 4 e by.answers (Err stop)) there by.course);
           gate = by.gate;
-          due = λ on. sym by.due ∙ same_due stop ∙ on;
+          due = λ on. sym by.due ∙ on;
         })
 
   -- ---- it is

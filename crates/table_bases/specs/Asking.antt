@@ -10,7 +10,7 @@ use Rattle.answer_fits.specs.Answers.{Deed, Serves, SetsWord, Stops, missed}
 use Rattle.answer_fits.specs.Asked.{Request, of_table}
 use Rattle.level_validate.specs.Acquiring.{IsAcquireStop}
 use Rattle.level_validate.specs.Unwinding.{own_domain}
-use Rattle.level_release.specs.Asking.{is_due_stop}
+pub use Rattle.table_courses.specs.Ending.{may_rise}
 use Rattle.table_bases.specs.declared.words.Base.{Base}
 use Rattle.table_bases.specs.Holding.{base_number, naming}
 
@@ -24,11 +24,6 @@ user_frame f = if f == 0 then None else Some f
 abbrev pub of_base : ℕ → Option ℕ → Bool → Request
 of_base d (Some f) rose = record (of_table f d (Some L4) d rose) { contexts = true; flushes = true }
 of_base d None rose = record (of_table 0 d (Some L4) d rose) { names = λ g. false; contexts = true; flushes = true }
-
--- one that is done is never paused, so its gate may have said yes
-abbrev pub may_rise : Result (Unit {0}) Stop → Bool
-may_rise (Ok done) = true
-may_rise (Err e) = is_due_stop e
 
 abbrev pub base_request : PortValue → Option ℕ → Result (Unit {0}) Stop → Request
 base_request v new answer = of_base (own_domain v) new (may_rise answer)

@@ -12,7 +12,7 @@ use Rattle.xp_preempt.proofs.Numbering.{says_last, says_no}
 use Rattle.level_release.proofs.Noes.{settled_no}
 use Rattle.vcpu_turn.specs.Asking.{HearsNoWithin, NoUntilDue, asks_within, elements_tried, tried_going, tried_next, tried_of, tried_owned, tried_through}
 use Rattle.vcpu_turn.specs.Cpus.{Task, OfExt, OfPairs, OfRead, OfWrite, Processing, task_of}
-use Rattle.vcpu_turn.specs.Lists.{Fitting, asks_between, is_due_by}
+use Rattle.vcpu_turn.specs.Lists.{Fitting, asks_between, is_due_answer}
 use Rattle.vcpu_turn.specs.Turning as turning
 use Rattle.vcpu_turn.specs.Turning.{CountsAsks, DoesNext, DoesTurn, GoesNoFurther, IsTurn, is_due}
 use Rattle.vcpu_turn.specs.Working as working
@@ -64,34 +64,34 @@ operation_asks d (Some (OfRead user va)) awaited v from to w answers answer work
 operation_asks d (Some (OfWrite user va val)) awaited v from to w answers answer works =
     valued_asks from to 0 answers works.ended answer works.answer_is (one_asks from to answers works.ended works.works.done works.works.no_ask)
 
-refused_hears : {A : Type 0} {x : Refusal} (v : PortValue) (to : ℕ) (w : PortValue) (answers : List Bool) (answer : Result A Stop) → IsRefusedWhole x v to w answers answer → NoUntilDue answers (is_due_by answer)
-refused_hears v to w answers answer r = noes_same answers [] (is_due_by answer) r.no_ask (noes_none (is_due_by answer))
+refused_hears : {A : Type 0} {x : Refusal} (v : PortValue) (to : ℕ) (w : PortValue) (answers : List Bool) (answer : Result A Stop) → IsRefusedWhole x v to w answers answer → NoUntilDue answers (is_due_answer answer)
+refused_hears v to w answers answer r = noes_same answers [] (is_due_answer answer) r.no_ask (noes_none (is_due_answer answer))
 
 owned_hears : {d foreign : ℕ} {list : List Pair} {v : PortValue} {from to : ℕ} {w : PortValue} {answers : List Bool} {answer : Result (Unit {0}) Stop} → (works : WorksOwned d foreign list v from to w answers answer) →
-    HearsNoWithin (tried_owned works) → NoUntilDue answers (is_due_by answer)
+    HearsNoWithin (tried_owned works) → NoUntilDue answers (is_due_answer answer)
 owned_hears {v = v} (working.WorksOwned.long to w answers answer above whole) hears = refused_hears v to w answers answer whole
 owned_hears (working.WorksOwned.none empty) hears = noes_none false
 owned_hears (working.WorksOwned.unowned w x some few finds) hears = noes_none false
 owned_hears (working.WorksOwned.owned to u w o answers answer some few finds on) hears = works_hears on hears
 
 through_hears : {fits : Fitting} {count : ℕ} {v : PortValue} {from to : ℕ} {w : PortValue} {answers : List Bool} {answer : Result (Unit {0}) Stop} → (works : WorksThrough fits count v from to w answers answer) →
-    HearsNoWithin (tried_through works) → NoUntilDue answers (is_due_by answer)
+    HearsNoWithin (tried_through works) → NoUntilDue answers (is_due_answer answer)
 through_hears {v = v} {to = to} {w = w} {answers = answers} {answer = answer} (inl works) hears = refused_hears v to w answers answer works.1
 through_hears (inr works) hears = works_hears works.1 hears
 
-valued_hears : (answers : List Bool) (ended : Result (Unit {0}) Stop) (answer : Result ℕ Stop) → answer ≡ valued ended → NoUntilDue answers (is_due_by ended) → NoUntilDue answers (is_due_by answer)
-valued_hears answers ended answer is noes = subst (λ (b : Bool). NoUntilDue answers b) (sym (ap is_due_by is ∙ due_valued ended)) noes
+valued_hears : (answers : List Bool) (ended : Result (Unit {0}) Stop) (answer : Result ℕ Stop) → answer ≡ valued ended → NoUntilDue answers (is_due_answer ended) → NoUntilDue answers (is_due_answer answer)
+valued_hears answers ended answer is noes = subst (λ (b : Bool). NoUntilDue answers b) (sym (ap is_due_answer is ∙ due_valued ended)) noes
 
 operation_hears : (d : ℕ) (o : Option Task) (awaited : Option ℕ) (v : PortValue) (from to : ℕ) (w : PortValue) (answers : List Bool) (answer : Result ℕ Stop) → (works : Works d o awaited v from to w answers answer) →
-    HearsNoWithin (tried_of d o awaited v from to w answers answer works) → NoUntilDue answers (is_due_by answer)
+    HearsNoWithin (tried_of d o awaited v from to w answers answer works) → NoUntilDue answers (is_due_answer answer)
 operation_hears d None awaited v from to w answers answer works hears = refused_hears v to w answers answer works
 operation_hears d (Some (OfPairs foreign list)) awaited v from to w answers answer works hears = valued_hears answers works.ended answer works.answer_is (owned_hears works.works hears)
 operation_hears d (Some (OfExt list)) awaited v from to w answers answer works hears = valued_hears answers works.ended answer works.answer_is (through_hears works.works hears)
-operation_hears d (Some (OfRead user va)) awaited v from to w answers answer works hears = noes_same answers [] (is_due_by answer) works.no_ask (noes_none (is_due_by answer))
-operation_hears d (Some (OfWrite user va val)) awaited v from to w answers answer works hears = noes_same answers [] (is_due_by answer) works.works.no_ask (noes_none (is_due_by answer))
+operation_hears d (Some (OfRead user va)) awaited v from to w answers answer works hears = noes_same answers [] (is_due_answer answer) works.no_ask (noes_none (is_due_answer answer))
+operation_hears d (Some (OfWrite user va val)) awaited v from to w answers answer works hears = noes_same answers [] (is_due_answer answer) works.works.no_ask (noes_none (is_due_answer answer))
 
 -- ---- a turn
-pub settles_hears : (v w : PortValue) (answers : List Bool) (answer : Result (Unit {0}) Stop) → Settles v w answers answer → NoUntilDue answers (is_due_by answer)
+pub settles_hears : (v w : PortValue) (answers : List Bool) (answer : Result (Unit {0}) Stop) → Settles v w answers answer → NoUntilDue answers (is_due_answer answer)
 settles_hears v w answers answer s = subst (λ (b : Bool). NoUntilDue answers b) (sym (due_released answer)) (settled_noes v w answers answer s.course)
 
 next_hears : (c : Processing) (o : Option Op) (c2 : Processing) (v w : PortValue) (answers : List Bool) (end : TurnEnd) → (does : DoesNext c o c2 v w answers end) → HearsNoWithin (tried_next c o c2 v w answers end does) → NoUntilDue answers (is_due end)
@@ -142,7 +142,7 @@ pub turn_stops : (c c2 : Processing) (end : TurnEnd) (v w : PortValue) (before :
 turn_stops c c2 end v w before answers says turn hears gives j some less is_yes = past says before answers (is_due end) gives (turn_hears c c2 end v w answers turn hears) j some less is_yes
 
 -- so no more elements are done than up to there
-within_by : (from to within asks all j : ℕ) (answer : Result ℕ Stop) → asks ≡ asks_between from to answer + within → asks ≤ all → (all < j) ⊎ ((all ≡ j) × (is_due_by answer ≡ true)) → to ≤ from + (j - within)
+within_by : (from to within asks all j : ℕ) (answer : Result ℕ Stop) → asks ≡ asks_between from to answer + within → asks ≤ all → (all < j) ⊎ ((all ≡ j) × (is_due_answer answer ≡ true)) → to ≤ from + (j - within)
 within_by from to within asks all j (Ok done) number few (inl before) = omega (arith, number, few, before)
 within_by from to within asks all j (Ok done) number few (inr last) = absurd (let is = last.1 in cc)
 within_by from to within asks all j (Err e) number few (inl before) = omega (arith, number, few, before)

@@ -13,7 +13,7 @@ use Rattle.mmuext_ops.specs.Elements.{KnowsAwaited, awaited_by, ext_element}
 use Rattle.mmuext_ops.specs.declared.element.Element.{Element}
 use Rattle.mmuext_ops.specs.declared.element.Element.TheVariants as elements
 use Rattle.vcpu_turn.specs.Cpus.{OfExt, OfPairs, OfRead, OfWrite, Processing, Task, after_turn, awaited_after, awaited_at, awaited_in, end_of, task_of}
-use Rattle.vcpu_turn.specs.Lists.{Answering, WorksOn, all_done, last_done, due, stopped, is_due_by}
+use Rattle.vcpu_turn.specs.Lists.{Answering, WorksOn, all_done, last_done, due, stopped, is_due_answer}
 use Rattle.vcpu_turn.specs.Working as working
 use Rattle.vcpu_turn.specs.Working.{ExtFits, FitsExt, Performs, SettlesFirst, Works, WorksThrough, awaited_for, valued}
 
@@ -27,9 +27,9 @@ knows_for v from awaited k waits is knows = subst (KnowsAwaited v) (sym is) (by 
 
 -- by the clock value that its call was passed
 pub fits_waits : (d : ℕ) (waits awaited : Option ℕ) → waits ≡ awaited → (o : Option ExtOp) (says : ℕ → Bool) (before after yes_before yes_after : ℕ) (v w : PortValue) (answer : Result (Unit {0}) Stop) →
-    Answering (λ answers. FitsExt d waits o v w answers answer) says before after yes_before yes_after (is_due_by answer) → Answering (λ answers. FitsExt d awaited o v w answers answer) says before after yes_before yes_after (is_due_by answer)
+    Answering (λ answers. FitsExt d waits o v w answers answer) says before after yes_before yes_after (is_due_answer answer) → Answering (λ answers. FitsExt d awaited o v w answers answer) says before after yes_before yes_after (is_due_answer answer)
 fits_waits d waits awaited is o says before after yes_before yes_after v w answer fits =
-    subst (λ (a : Option ℕ). Answering (λ answers. FitsExt d a o v w answers answer) says before after yes_before yes_after (is_due_by answer)) is fits
+    subst (λ (a : Option ℕ). Answering (λ answers. FitsExt d a o v w answers answer) says before after yes_before yes_after (is_due_answer answer)) is fits
 
 -- ---- what is paused for another reason begins its wait anew
 release_waits_for_none : (e : Element) (stop : Stop) → IsReleaseEnd stop → awaited_by e (Err stop) ≡ None

@@ -40,7 +40,7 @@ ended_knows c to (Ok value) v w ends knows = tt
 ended_knows c to (Err (Refused r)) v w ends knows = tt
 ended_knows c to (Err (Paused p)) v w ends knows = subst (λ (x : PortValue). KnowsAwaited x (after_turn c to (end_of to (Err (Paused p)))).awaited) (sym ends) knows
 
-not_both : (b : Bool) → b ≡ true → b ≡ false → ⊥
+pub not_both : (b : Bool) → b ≡ true → b ≡ false → ⊥
 not_both b on off = cc
 
 module _ (v w : PortValue) (c c1 c2 : Processing) (of : IsOf v c) (post : w.post ≡ v.post) where

@@ -9,7 +9,7 @@ use Rattle.xp_preempt.specs.Gates.{Consulted, answer_at, next_ask}
 use Rattle.xp_preempt.proofs.Consulting.{consulted_ask, consulted_then}
 use Rattle.level_release.specs.Asking.{is_due_stop}
 use Rattle.vcpu_turn.specs.Lists as lists
-use Rattle.vcpu_turn.specs.Lists.{Answering, DidItems, Fitting, WorksOn, is_due_by}
+use Rattle.vcpu_turn.specs.Lists.{Answering, DidItems, Fitting, WorksOn, is_due_answer}
 use Rattle.vcpu_turn.proofs.Gating.{answers_behind, is_err}
 
 -- so far the gate was asked this, and then the item asked it
@@ -17,9 +17,9 @@ module _ (fits : Fitting) (count from : ℕ) (v : PortValue) (says now : ℕ →
     (did : DidItems fits count from v k u early) (same : (n : ℕ) → now n ≡ says n) (first : Consulted says before after yes_before yes_after early) where
   -- the item was refused or paused
   pub gate_stop : (e : Stop) (answer : Result (Unit {0}) Stop) → IsErrAnd answer (λ x. x ≡ e) → k < count → Answering (λ asked. fits k u w asked (Err e)) now after last yes_after yes_last (is_due_stop e) →
-      Answering (λ answers. WorksOn fits count from v k w answers answer) says before last yes_before yes_last (is_due_by answer)
+      Answering (λ answers. WorksOn fits count from v k w answers answer) says before last yes_before yes_last (is_due_answer answer)
   gate_stop e answer is less element =
-      subst (λ (a : Result (Unit {0}) Stop). Answering (λ answers. WorksOn fits count from v k w answers a) says before last yes_before yes_last (is_due_by a)) (sym (is_err answer e is))
+      subst (λ (a : Result (Unit {0}) Stop). Answering (λ answers. WorksOn fits count from v k w answers a) says before last yes_before yes_last (is_due_answer a)) (sym (is_err answer e is))
       (answers_behind says now before after last yes_before yes_after yes_last early same first (is_due_stop e) (λ asked. fits k u w asked (Err e)) (λ answers. WorksOn fits count from v k w answers (Err e)) element
       (λ asked fit. lists.WorksOn.stopped k u w early asked e did fit less))
 

@@ -14,7 +14,6 @@ use Rattle.xp_words.specs.declared.reply.Stop.TheVariants.{Paused, Refused}
 use Rattle.xp_board.specs.Told.{PortValue}
 use Rattle.xp_preempt.specs.Gates.{ends_yes, yeses}
 use Rattle.xp_preempt.proofs.Consulting.{yeses_then}
-use Rattle.level_release.specs.Asking.{is_due_answer}
 use Rattle.level_release.specs.Course.{WasReleased}
 use Rattle.level_release.proofs.Noes.{settled_no}
 use Rattle.foreign_map.specs.declared.owners.Owners.{Owners}
@@ -33,7 +32,7 @@ use Rattle.mmuext_ops.specs.declared.element.Element.TheVariants as elements
 use Rattle.mmuext_ops.specs.Bases.{AcquiresTop, Base, Kernel, ReleasesOld, SetsBase, User, user_frame}
 use Rattle.mmuext_ops.specs.Bases as basing
 use Rattle.vcpu_turn.specs.Asking.{ExchangesEntry, HearsNo, NoUntilDue, PausesOldBase, PausesRelease, PausesUnpin, Tried, tried}
-use Rattle.vcpu_turn.specs.Lists.{is_due_by}
+use Rattle.vcpu_turn.specs.Lists.{is_due_answer}
 use Rattle.vcpu_turn.specs.Working as working
 use Rattle.vcpu_turn.specs.Working.{ExtFits, FitsExt, FitsPair, PairFits, Performs, Settles, SettlesFirst, awaited_for}
 use Rattle.vcpu_turn.proofs.Asking.{settles_hears}
@@ -104,12 +103,12 @@ exchanged_hears v x o _ _ _ (exchanging.Exchanged.done u y z a w seen old answer
     ]
 
 -- ---- an element of `mmu_update`
-due_same : (answers : List Bool) (answer : Result (Unit {0}) Stop) → NoUntilDue answers (is_due_answer answer) → NoUntilDue answers (is_due_by answer)
+due_same : (answers : List Bool) (answer : Result (Unit {0}) Stop) → NoUntilDue answers (is_due_answer answer) → NoUntilDue answers (is_due_answer answer)
 due_same answers answer noes = subst (λ (b : Bool). NoUntilDue answers b) (sym (due_released answer)) noes
 
 -- behind what was settled first
-settled_then : (v u : PortValue) (early answers : List Bool) (answer : Result (Unit {0}) Stop) → Settles v u early (Ok tt) → NoUntilDue answers (is_due_answer answer) → NoUntilDue (answers ++ early) (is_due_by answer)
-settled_then v u early answers answer settles noes = noes_then early answers (is_due_by answer) (settled_no v u early (Ok tt) refl settles.course) (due_same answers answer noes)
+settled_then : (v u : PortValue) (early answers : List Bool) (answer : Result (Unit {0}) Stop) → Settles v u early (Ok tt) → NoUntilDue answers (is_due_answer answer) → NoUntilDue (answers ++ early) (is_due_answer answer)
+settled_then v u early answers answer settles noes = noes_then early answers (is_due_answer answer) (settled_no v u early (Ok tt) refl settles.course) (due_same answers answer noes)
 
 module _ (pairs : List Pair) (o : Owners) (k : ℕ) (v z : PortValue) (early : List Bool) (settles : Settles v z early (Ok tt)) (p : Pair) (at : slice_get pairs k ≡ Some p) where
   paused_release : (t : PageType) (w : PortValue) (answers : List Bool) (answer : Result (Unit {0}) Stop) → ExchangesEntry pairs (tried k v w (answers ++ early) answer) → PausesBehind t w answers answer →

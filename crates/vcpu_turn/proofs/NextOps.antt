@@ -5,7 +5,7 @@ use Rattle.xp_words.specs.declared.ops.Op.{Op}
 use Rattle.xp_words.specs.declared.reply.Stop.{Stop}
 use Rattle.xp_board.specs.Told.{PortValue}
 use Rattle.vcpu_turn.specs.Cpus.{Processing, task_of}
-use Rattle.vcpu_turn.specs.Lists.{Answering, is_due_by}
+use Rattle.vcpu_turn.specs.Lists.{Answering, is_due_answer}
 use Rattle.vcpu_turn.specs.Turning.{OperationWentOn, NextWentOn}
 use Rattle.vcpu_turn.specs.Working.{Works}
 use Rattle.vcpu_turn.proofs.Gating.{answers_as, answers_nothing}
@@ -42,12 +42,12 @@ module _ (c seen : Processing) (is : seen ≡ c) (v : PortValue) (says : ℕ →
       (answers_nothing says before yes_before false (λ answers. NextWentOn None c c v v answers None) refl (refl, refl, refl))
 
   pub goes_on : (op : Op) → next_of seen ≡ Some op → (k : ℕ) (w : PortValue) (after yes_after : ℕ) (answer : Result ℕ Stop) →
-      Answering (λ answers. Works seen.domain (task_of op) seen.awaited v seen.done k w answers answer) says before after yes_before yes_after (is_due_by answer) →
-      Answering (λ answers. NextWentOn (next_of c) c (record seen { done = k }) v w answers (Some answer)) says before after yes_before yes_after (is_due_by answer)
+      Answering (λ answers. Works seen.domain (task_of op) seen.awaited v seen.done k w answers answer) says before after yes_before yes_after (is_due_answer answer) →
+      Answering (λ answers. NextWentOn (next_of c) c (record seen { done = k }) v w answers (Some answer)) says before after yes_before yes_after (is_due_answer answer)
   goes_on op next k w after yes_after answer works =
-      subst (λ (x : Processing). Answering (λ answers. NextWentOn (next_of x) x (record seen { done = k }) v w answers (Some answer)) says before after yes_before yes_after (is_due_by answer)) is
-      (subst (λ p. Answering (λ answers. NextWentOn p seen (record seen { done = k }) v w answers (Some answer)) says before after yes_before yes_after (is_due_by answer)) (sym next)
-      (answers_as (λ answers. Works seen.domain (task_of op) seen.awaited v seen.done k w answers answer) (λ answers. NextWentOn (Some op) seen (record seen { done = k }) v w answers (Some answer)) says before after yes_before yes_after (is_due_by answer)
+      subst (λ (x : Processing). Answering (λ answers. NextWentOn (next_of x) x (record seen { done = k }) v w answers (Some answer)) says before after yes_before yes_after (is_due_answer answer)) is
+      (subst (λ p. Answering (λ answers. NextWentOn p seen (record seen { done = k }) v w answers (Some answer)) says before after yes_before yes_after (is_due_answer answer)) (sym next)
+      (answers_as (λ answers. Works seen.domain (task_of op) seen.awaited v seen.done k w answers answer) (λ answers. NextWentOn (Some op) seen (record seen { done = k }) v w answers (Some answer)) says before after yes_before yes_after (is_due_answer answer)
       (λ answers on. record { works = on; cpu = refl }) works))
 
 -- it is not answered yet

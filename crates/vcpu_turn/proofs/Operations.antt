@@ -10,7 +10,7 @@ use Rattle.xp_words.specs.declared.reply.Stop.TheVariants.{Refused, Paused}
 use Rattle.xp_board.specs.Told.{PortValue}
 use Rattle.foreign_map.specs.declared.owners.Owners.{Owners}
 use Rattle.tlb_walks.specs.Asking.{IsGuestReadStop, IsGuestWriteStop}
-use Rattle.vcpu_turn.specs.Lists.{Answering, Fitting, WorksOn, is_due_by}
+use Rattle.vcpu_turn.specs.Lists.{Answering, Fitting, WorksOn, is_due_answer}
 use Rattle.vcpu_turn.specs.Cpus.{Task, OfExt, OfPairs, OfRead, OfWrite, elements_in}
 use Rattle.vcpu_turn.specs.Working.{ExtFits, FindsOwners, PairFits, Valued, Works, WorksOwned, WorksThrough, done_by, long, none, unowned, owned, valued}
 use Rattle.vcpu_turn.proofs.Gating.{answers_as, answers_nothing}
@@ -22,10 +22,10 @@ module _ (fits : Fitting) (count from : ℕ) (v : PortValue) (says : ℕ → Boo
       answers_nothing says asks risen false (λ answers. WorksThrough fits count v from 0 v answers (Err (Refused refusals.BatchLong))) refl
       (inl (above, record { none = refl; no_step = refl; no_ask = refl; refused = refl }))
 
-  module _ (before after yes_before yes_after to : ℕ) (w : PortValue) (answer : Result (Unit {0}) Stop) (works : Answering (λ answers. WorksOn fits count from v to w answers answer) says before after yes_before yes_after (is_due_by answer)) where
-    pub not_long : count ≤ 512 → Answering (λ answers. WorksThrough fits count v from to w answers answer) says before after yes_before yes_after (is_due_by answer)
+  module _ (before after yes_before yes_after to : ℕ) (w : PortValue) (answer : Result (Unit {0}) Stop) (works : Answering (λ answers. WorksOn fits count from v to w answers answer) says before after yes_before yes_after (is_due_answer answer)) where
+    pub not_long : count ≤ 512 → Answering (λ answers. WorksThrough fits count v from to w answers answer) says before after yes_before yes_after (is_due_answer answer)
     not_long most =
-        answers_as (λ answers. WorksOn fits count from v to w answers answer) (λ answers. WorksThrough fits count v from to w answers answer) says before after yes_before yes_after (is_due_by answer) (λ answers on. inr (most, on)) works
+        answers_as (λ answers. WorksOn fits count from v to w answers answer) (λ answers. WorksThrough fits count v from to w answers answer) says before after yes_before yes_after (is_due_answer answer) (λ answers on. inr (most, on)) works
 
     pub no_more : from ≤ count → to ≤ count
     no_more within = works_within fits count from v within to w works.answers answer works.goes
@@ -48,10 +48,10 @@ module _ (d foreign : ℕ) (list : List Pair) (from : ℕ) (v : PortValue) (says
     owned_refused asks risen w x finds = answers_nothing says asks risen false (λ answers. WorksOwned d foreign list v from from w answers (Err (Refused x))) refl (unowned w x some most finds)
 
     pub owned_on : (u : PortValue) (o : Owners) → FindsOwners v u d foreign (Ok o) → (before after yes_before yes_after to : ℕ) (w : PortValue) (answer : Result (Unit {0}) Stop) →
-        Answering (λ answers. WorksOn (PairFits o list) (length list) from u to w answers answer) says before after yes_before yes_after (is_due_by answer) →
-        Answering (λ answers. WorksOwned d foreign list v from to w answers answer) says before after yes_before yes_after (is_due_by answer)
+        Answering (λ answers. WorksOn (PairFits o list) (length list) from u to w answers answer) says before after yes_before yes_after (is_due_answer answer) →
+        Answering (λ answers. WorksOwned d foreign list v from to w answers answer) says before after yes_before yes_after (is_due_answer answer)
     owned_on u o finds before after yes_before yes_after to w answer works =
-        answers_as (λ answers. WorksOn (PairFits o list) (length list) from u to w answers answer) (λ answers. WorksOwned d foreign list v from to w answers answer) says before after yes_before yes_after (is_due_by answer)
+        answers_as (λ answers. WorksOn (PairFits o list) (length list) from u to w answers answer) (λ answers. WorksOwned d foreign list v from to w answers answer) says before after yes_before yes_after (is_due_answer answer)
         (λ answers on. owned to u w o answers answer some most finds on) works
 
 owned_most : (d foreign : ℕ) (list : List Pair) (from : ℕ) (v : PortValue) → from ≤ length list → (to : ℕ) (w : PortValue) (answers : List Bool) (answer : Result (Unit {0}) Stop) → WorksOwned d foreign list v from to w answers answer →
@@ -68,24 +68,24 @@ through_most fits count from v to w answers answer within works = elim works [
 ]
 
 -- ---- operations
-pub due_valued : (ended : Result (Unit {0}) Stop) → is_due_by (valued ended) ≡ is_due_by ended
+pub due_valued : (ended : Result (Unit {0}) Stop) → is_due_answer (valued ended) ≡ is_due_answer ended
 due_valued (Ok done) = refl
 due_valued (Err e) = refl
 
 -- what answers no value
 module _ (P : List Bool → Result (Unit {0}) Stop → Type 0) (says : ℕ → Bool) (before after yes_before yes_after : ℕ) (ended : Result (Unit {0}) Stop) (answer : Result ℕ Stop) (is : answer ≡ valued ended) where
-  pub without_value : Answering (λ answers. P answers ended) says before after yes_before yes_after (is_due_by ended) →
-      Answering (λ answers. Valued (λ e. P answers e) answer) says before after yes_before yes_after (is_due_by answer)
+  pub without_value : Answering (λ answers. P answers ended) says before after yes_before yes_after (is_due_answer ended) →
+      Answering (λ answers. Valued (λ e. P answers e) answer) says before after yes_before yes_after (is_due_answer answer)
   without_value works =
       record {
         answers = works.answers;
         goes = record { ended = ended; works = works.goes; answer_is = is };
         gate = works.gate;
-        due_is = λ due. works.due_is (sym (due_valued ended) ∙ sym (ap is_due_by is) ∙ due);
+        due_is = λ due. works.due_is (sym (due_valued ended) ∙ sym (ap is_due_answer is) ∙ due);
       }
 
 -- an access asks no gate
-pub read_not_due : (answer : Result ℕ Stop) → IfErr answer IsGuestReadStop → is_due_by answer ≡ false
+pub read_not_due : (answer : Result ℕ Stop) → IfErr answer IsGuestReadStop → is_due_answer answer ≡ false
 read_not_due (Ok word) kinds = refl
 read_not_due (Err (Refused r)) kinds = refl
 read_not_due (Err (Paused Due)) kinds = absurd kinds
@@ -94,7 +94,7 @@ read_not_due (Err (Paused (Busy f found))) kinds = refl
 read_not_due (Err (Paused (Flush u stamp found))) kinds = refl
 read_not_due (Err (Paused (Alive u found))) kinds = refl
 
-pub write_not_due : (answer : Result (Unit {0}) Stop) → IfErr answer IsGuestWriteStop → is_due_by answer ≡ false
+pub write_not_due : (answer : Result (Unit {0}) Stop) → IfErr answer IsGuestWriteStop → is_due_answer answer ≡ false
 write_not_due (Ok done) kinds = refl
 write_not_due (Err (Refused r)) kinds = refl
 write_not_due (Err (Paused Due)) kinds = absurd kinds
@@ -110,10 +110,10 @@ module _ (d from : ℕ) (awaited : Option ℕ) (v : PortValue) (o : Option Task)
       (answers_nothing says asks risen false (λ answers. Works d None awaited v from 0 v answers (Err (Refused refusals.BadCommand))) refl (record { none = refl; no_step = refl; no_ask = refl; refused = refl }))
 
   pub built : (task : Task) → o ≡ Some task → (before after yes_before yes_after to : ℕ) (w : PortValue) (answer : Result ℕ Stop) →
-      Answering (λ answers. Works d (Some task) awaited v from to w answers answer) says before after yes_before yes_after (is_due_by answer) →
-      Answering (λ answers. Works d o awaited v from to w answers answer) says before after yes_before yes_after (is_due_by answer)
+      Answering (λ answers. Works d (Some task) awaited v from to w answers answer) says before after yes_before yes_after (is_due_answer answer) →
+      Answering (λ answers. Works d o awaited v from to w answers answer) says before after yes_before yes_after (is_due_answer answer)
   built task is before after yes_before yes_after to w answer works =
-      subst (λ (p : Option Task). Answering (λ answers. Works d p awaited v from to w answers answer) says before after yes_before yes_after (is_due_by answer)) (sym is) works
+      subst (λ (p : Option Task). Answering (λ answers. Works d p awaited v from to w answers answer) says before after yes_before yes_after (is_due_answer answer)) (sym is) works
 
 -- ---- no more elements are done than there are
 one_most : {A : Type 0} → (to : ℕ) (answer : Result A Stop) → to ≡ done_by answer → to ≤ 1

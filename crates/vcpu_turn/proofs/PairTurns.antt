@@ -38,6 +38,7 @@ use Rattle.mmu_update.specs.Course.{TriedLock, Updated, Wrote, entry_update}
 use Rattle.mmu_update.specs.Elements.{element_of}
 use Rattle.mmu_update.specs.declared.element.Element.{Element}
 use Rattle.mmu_update.specs.declared.element.Element.TheVariants.{SetM2p, Write, Misaligned, Unknown}
+use Rattle.vcpu_turn.proofs.Between.{not_both}
 use Rattle.vcpu_turn.specs.Asking.{AsksNothingWithin, ExchangesEntry, IsLast, MovesATable, MovesNoTable, MovesTable, Tried, asks_within, did_in, asks_table, elements_tried, tried, tried_going, tried_in, tried_of, tried_owned}
 use Rattle.vcpu_turn.specs.Cpus.{OfExt, OfPairs, OfRead, OfWrite, Task, Processing, task_of}
 use Rattle.vcpu_turn.specs.Lists as lists
@@ -72,9 +73,6 @@ stored_clear v u y a b w f owner i word found old got other took gave clear stor
 on_off : (b : Bool) → (b ≡ true) ⊎ (b ≡ false)
 on_off true = inl refl
 on_off false = inr refl
-
-both : (b : Bool) → b ≡ true → b ≡ false → ⊥
-both b on off = cc
 
 locked_clear : (v u y : PortValue) (f owner level found : ℕ) → GotRef v u f owner (Ok f) → TriedLock u y f owner (Ok (Table level found)) → IsClear v → IsClear y
 locked_clear v u y f owner level found got locked clear =

@@ -7,7 +7,7 @@ use Rattle.xp_board.specs.Told.{PortValue}
 use Rattle.xp_preempt.specs.Gates.{yeses}
 use Rattle.level_release.specs.Asking.{is_due_stop}
 use Rattle.vcpu_turn.specs.Asking.{AsksNothingWithin, HearsNo, HearsNoWithin, NoUntilDue, Tried, asks_within, did_in, tried, tried_in}
-use Rattle.vcpu_turn.specs.Lists.{DidItems, Fitting, WorksOn, none, more, all_done, last_done, due, stopped, asks_between, is_due_by}
+use Rattle.vcpu_turn.specs.Lists.{DidItems, Fitting, WorksOn, none, more, all_done, last_done, due, stopped, asks_between, is_due_answer}
 use Rattle.vcpu_turn.proofs.Listing.{did_on}
 use Rattle.vcpu_turn.proofs.Noes.{noes_due, noes_no, noes_none, noes_same, noes_then}
 
@@ -25,7 +25,7 @@ within_none (t ∷ items) quiet =
 
 -- where nothing is asked, nothing is said
 pub hears_nothing : (items : List Tried) → AsksNothingWithin items → HearsNoWithin items
-hears_nothing items quiet = All-weaker (λ (t : Tried). t.asked ≡ []) HearsNo (λ t is. noes_same t.asked [] (is_due_by t.answer) is (noes_none (is_due_by t.answer))) items quiet
+hears_nothing items quiet = All-weaker (λ (t : Tried). t.asked ≡ []) HearsNo (λ t is. noes_same t.asked [] (is_due_answer t.answer) is (noes_none (is_due_answer t.answer))) items quiet
 
 -- one of them
 module _ {X : Type 0} (P : X → Type 0) (x : X) (xs : List X) where
@@ -87,7 +87,7 @@ module _ {fits : Fitting} {count from : ℕ} {v : PortValue} where
       let early = did_hears did (All-tail HearsNo (tried k u w asked (Ok tt)) (did_in did) hears) in
       noes_no (asked ++ answers) (noes_then answers asked false early (All-head HearsNo (tried k u w asked (Ok tt)) (did_in did) hears))
 
-  pub works_hears : {to : ℕ} {w : PortValue} {answers : List Bool} {answer : Result (Unit {0}) Stop} → (works : WorksOn fits count from v to w answers answer) → HearsNoWithin (tried_in works) → NoUntilDue answers (is_due_by answer)
+  pub works_hears : {to : ℕ} {w : PortValue} {answers : List Bool} {answer : Result (Unit {0}) Stop} → (works : WorksOn fits count from v to w answers answer) → HearsNoWithin (tried_in works) → NoUntilDue answers (is_due_answer answer)
   works_hears (all_done at) hears = noes_none false
   works_hears (last_done k u w answers asked did fit at) hears =
       noes_then answers asked false (did_hears did (All-tail HearsNo (tried k u w asked (Ok tt)) (did_in did) hears)) (All-head HearsNo (tried k u w asked (Ok tt)) (did_in did) hears)

@@ -11,7 +11,7 @@ use Rattle.answer_fits.specs.Answers.{Serves, misses}
 use Rattle.flush_words.proofs.Flushed.{own_came}
 use Rattle.level_release.specs.Asking.{is_due_stop, of_settle}
 use Rattle.vcpu_turn.specs.Cpus.{Processing, end_of, after_turn}
-use Rattle.vcpu_turn.specs.Lists.{Answering, is_due_by}
+use Rattle.vcpu_turn.specs.Lists.{Answering, is_due_answer}
 use Rattle.vcpu_turn.specs.Turning as turning
 use Rattle.vcpu_turn.specs.Turning.{Begins, Heeds, DoesNext, EndsTurn, IsTurn, MakesStop, TurnBy, NextWentOn, is_due}
 use Rattle.vcpu_turn.specs.Working.{Settles}
@@ -53,7 +53,7 @@ due_paused (Busy a b) = refl
 due_paused (Flush a b c) = refl
 due_paused (Alive a b) = refl
 
-pub due_ended : (to : ℕ) (answer : Result ℕ Stop) → is_due (end_of to answer) ≡ is_due_by answer
+pub due_ended : (to : ℕ) (answer : Result ℕ Stop) → is_due (end_of to answer) ≡ is_due_answer answer
 due_ended to (Ok done) = refl
 due_ended to (Err (Refused r)) = refl
 due_ended to (Err (Paused p)) = due_paused p
@@ -99,10 +99,10 @@ module _ (v a b : PortValue) (c : Processing) (runs : c.retired ≡ false) (begi
             (record { no_step = h.2; no_ask = h.3; end_is = refl; cpu = stop.cpu ∙ ap (λ (y : Processing). record y { retired = true }) h.1 })
 
     -- the next operation went on
-    pub turn_goes_on : (answer : Result ℕ Stop) → Answering (λ answers. NextWentOn (slice_get c.script (length c.log)) c c1 b x answers (Some answer)) now after last yes_after yes_last (is_due_by answer) →
+    pub turn_goes_on : (answer : Result ℕ Stop) → Answering (λ answers. NextWentOn (slice_get c.script (length c.log)) c c1 b x answers (Some answer)) now after last yes_after yes_last (is_due_answer answer) →
         c2 ≡ after_turn c1 c1.done (end_of c1.done answer) → EndsTurn (end_of c1.done answer) x w → Answering (λ answers. TurnBy c.retired c c2 (end_of c1.done answer) v w answers) says before last yes_before yes_last (is_due (end_of c1.done answer))
     turn_goes_on answer worked cpu finishes =
-        behind (end_of c1.done answer) (is_due_by answer) (λ answers. NextWentOn (slice_get c.script (length c.log)) c c1 b x answers (Some answer)) worked does finishes (due_ended c1.done answer)
+        behind (end_of c1.done answer) (is_due_answer answer) (λ answers. NextWentOn (slice_get c.script (length c.log)) c c1 b x answers (Some answer)) worked does finishes (due_ended c1.done answer)
       where
         does : (answers : List Bool) → NextWentOn (slice_get c.script (length c.log)) c c1 b x answers (Some answer) → DoesNext c (slice_get c.script (length c.log)) c2 b x answers (end_of c1.done answer)
         does answers goes =

@@ -6,7 +6,7 @@ use Rattle.xp_board.specs.Told.{PortValue}
 use Rattle.xp_preempt.specs.Gates.{Gives, ends_yes, last_ask, yeses}
 use Rattle.xp_preempt.proofs.Consulting.{yeses_then}
 use Rattle.xp_preempt.proofs.Numbering.{says_last, says_no}
-use Rattle.vcpu_turn.specs.Lists.{AsksNothing, DidItems, Fitting, WorksOn, none, more, all_done, last_done, due, stopped, is_due_by}
+use Rattle.vcpu_turn.specs.Lists.{AsksNothing, DidItems, Fitting, WorksOn, none, more, all_done, last_done, due, stopped, is_due_answer}
 use Rattle.vcpu_turn.proofs.Listing.{did_count, did_no}
 
 module _ (fits : Fitting) (count from : ℕ) (v : PortValue) (quiet : AsksNothing fits) (before : ℕ) (says : ℕ → Bool) where
@@ -56,7 +56,7 @@ module _ (fits : Fitting) (count from : ℕ) (v : PortValue) (quiet : AsksNothin
 
   -- where it is paused for the gate, that said yes behind its last item
   pub due_at_a_yes : (to : ℕ) (w : PortValue) (answers : List Bool) (answer : Result (Unit {0}) Stop) → WorksOn fits count from v to w answers answer → Gives says before answers →
-      (is_due_by answer ≡ true → ends_yes answers ≡ true) → is_due_by answer ≡ true → before + (to - from) ≤ last_ask → says (before + (to - from)) ≡ true
+      (is_due_answer answer ≡ true → ends_yes answers ≡ true) → is_due_answer answer ≡ true → before + (to - from) ≤ last_ask → says (before + (to - from)) ≡ true
   due_at_a_yes _ _ _ _ (all_done at) gives said is_due most = absurd (cc)
   due_at_a_yes _ _ _ _ (last_done k u w answers asked d f at) gives said is_due most = absurd (cc)
   due_at_a_yes _ _ _ _ (due k u w answers asked d f within) gives said is_due most =

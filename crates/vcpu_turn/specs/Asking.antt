@@ -20,13 +20,13 @@ use Rattle.table_courses.specs.Acquiring.{GotRef}
 use Rattle.level_release.specs.Course.{WasReleased}
 use Rattle.foreign_map.specs.declared.owners.Owners.{Owners}
 use Rattle.mmu_update.specs.Exchanges as exchanging
-use Rattle.mmu_update.specs.Exchanges.{EntryUpdate, Exchanged, LeftLock, new_demand, old_demand}
+use Rattle.mmu_update.specs.Exchanges.{EntryUpdate, Exchanged, LeftLock, new_demand, old_demand, asks_table}
 use Rattle.entry_locks.specs.declared.locking.Locked.TheVariants.{Table}
 use Rattle.mmu_update.specs.Course.{TriedLock, entry_update}
 use Rattle.mmu_update.specs.Elements.{element_of}
 use Rattle.mmu_update.specs.declared.element.Element.TheVariants.{Write}
 use Rattle.vcpu_turn.specs.Cpus.{Task, OfExt, OfPairs, OfRead, OfWrite, Processing, task_of}
-use Rattle.vcpu_turn.specs.Lists.{DidItems, Fitting, WorksOn, is_due_by}
+use Rattle.vcpu_turn.specs.Lists.{DidItems, Fitting, WorksOn, is_due_answer}
 use Rattle.vcpu_turn.specs.Lists as lists
 use Rattle.vcpu_turn.specs.Turning.{DoesNext, DoesTurn, IsTurn}
 use Rattle.vcpu_turn.specs.Turning as turning
@@ -109,7 +109,7 @@ pub record NoUntilDue (answers : List Bool) (due : Bool) : Type 0 where
 
 -- within an item the gate said no; or yes at last, and the item is paused for that, and so the turn
 abbrev pub HearsNo : Tried → Type 0
-HearsNo t = NoUntilDue t.asked (is_due_by t.answer)
+HearsNo t = NoUntilDue t.asked (is_due_answer t.answer)
 
 abbrev pub HearsNoWithin : List Tried → Type 0
 HearsNoWithin items = All HearsNo items
@@ -139,12 +139,6 @@ pub record ExchangesEntry (pairs : List Pair) (t : Tried) : Type 0 where
   pub open_slot : is_slot (level_type level) index ≡ false
   pub exchanged : Exchanged held (entry_update frame level index word keep) owners t.behind answers t.answer
   pub asked : t.asked ≡ answers ++ early
-
--- Tables that an exchange takes or gives back: one whose type its new word asks, had or not; and where it is done, one whose type its old word asked,
--- or its own, where the last type count went off with the lock.
-abbrev pub asks_table : Demand → Bool
-asks_table (demands.Typed g t) = is_table t
-asks_table _ = false
 
 abbrev pub IsLast : {v : PortValue} {f level : ℕ} {w : PortValue} → LeftLock v f level w → Type 0
 IsLast (exchanging.LeftLock.shared u w unlocks gave) = ⊥

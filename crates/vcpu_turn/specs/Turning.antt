@@ -19,7 +19,7 @@ use Rattle.step_maker.specs.Moves.{Moves}
 use Rattle.flush_words.specs.Flushing.{FlushesOwn}
 pub use Rattle.mmuext_ops.specs.Elements.{KnowsAwaited}
 use Rattle.vcpu_turn.specs.Cpus.{Processing, task_of, end_of, after_turn}
-use Rattle.vcpu_turn.specs.Lists.{asks_between, is_due_by}
+use Rattle.vcpu_turn.specs.Lists.{asks_between, is_due_answer}
 use Rattle.vcpu_turn.specs.Working.{IsWarm, Settles, Works}
 use Rattle.vcpu_turn.specs.declared.cpu.TurnEnd.{TurnEnd}
 use Rattle.vcpu_turn.specs.declared.cpu.TurnEnd.TheVariants as ends
@@ -168,5 +168,5 @@ NextWentOn None c c' v w answers None = (c' ≡ c) × (w ≡ v) × (answers ≡ 
 
 -- ---- with a gate
 abbrev pub asks_due : Option (Result ℕ Stop) → Bool
-asks_due (Some answer) = is_due_by answer
+asks_due (Some answer) = is_due_answer answer
 asks_due None = false

@@ -9,7 +9,7 @@ ghost use Rattle.xp_preempt.specs.Gates.{Gives, ends_yes, last_ask};
 ghost use Rattle.foreign_map.specs.declared.owners.Owners.{Owners};
 ghost use Rattle.vcpu_turn.specs.Asking.{AsksNothingWithin, HearsNo, HearsNoWithin, MovesATable, MovesNoTable, PausesOldBase, PausesRelease, Tried, PausesUnpin, asks_within, elements_tried, tried_in};
 ghost use Rattle.vcpu_turn.specs.Cpus.{OfExt, OfPairs, Processing, task_of};
-ghost use Rattle.vcpu_turn.specs.Lists.{AsksNothing, WorksOn, asks_between, is_due_by};
+ghost use Rattle.vcpu_turn.specs.Lists.{AsksNothing, WorksOn, asks_between, is_due_answer};
 ghost use Rattle.vcpu_turn.specs.Turning.{CountsAsks, GoesNoFurther, IsTurn, is_due};
 ghost use Rattle.vcpu_turn.specs.Working.{ExtFits, PairFits};
 ghost use Rattle.vcpu_turn.specs.declared.cpu.TurnEnd.{TurnEnd};
@@ -29,7 +29,7 @@ pub fn never_past_a_yes<L: Items>()
 
 /// It is paused for its gate, which said yes last then, only where that says yes behind the last item of this turn.
 pub fn due_at_a_yes<L: Items>()
-    ensures { (items : L) (v w : PortValue) (from to before : ℕ) (answers : List Bool) (answer : Result (Unit {0}) Stop) (says : ℕ → Bool) → AsksNothing (L.fits items) → WorksOn (L.fits items) (L.count items) from v to w answers answer → Gives says before answers → (is_due_by answer ≡ true → ends_yes answers ≡ true) → is_due_by answer ≡ true → before + (to - from) ≤ last_ask → says (before + (to - from)) ≡ true }
+    ensures { (items : L) (v w : PortValue) (from to before : ℕ) (answers : List Bool) (answer : Result (Unit {0}) Stop) (says : ℕ → Bool) → AsksNothing (L.fits items) → WorksOn (L.fits items) (L.count items) from v to w answers answer → Gives says before answers → (is_due_answer answer ≡ true → ends_yes answers ≡ true) → is_due_answer answer ≡ true → before + (to - from) ≤ last_ask → says (before + (to - from)) ≡ true }
 {}
 
 /// Whatever its items ask, it asked its gate once behind each item of this turn, but not behind the last one of the list, and within each item what that asked.

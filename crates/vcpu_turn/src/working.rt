@@ -4,7 +4,7 @@ ghost use Rattle.xp_board.specs.Readings.{domain_of};
 ghost use Rattle.step_maker.specs.Holds.{Rests};
 ghost use Rattle.mmuext_ops.specs.Elements.{KnowsAwaited};
 ghost use Rattle.vcpu_turn.specs.Cpus.{elements_in, task_of};
-ghost use Rattle.vcpu_turn.specs.Lists.{Answering, is_due_by};
+ghost use Rattle.vcpu_turn.specs.Lists.{Answering, is_due_answer};
 ghost use Rattle.vcpu_turn.specs.Working.{IsWarm, Works, WorksOwned, WorksThrough, valued};
 
 use crate::accesses::{read, write};
@@ -32,11 +32,11 @@ fn go_through<P: Port, L: Items>(
     requires rests { Rests (P.value port.old) }
     ensures suits { L.suits items.now (P.value port.new) }
     ensures post { (P.value port.new).post ≡ (P.value port.old).post }
-    ensures works { Answering (λ answers. WorksThrough (L.fits items.now) (L.count items.now) (P.value port.old) done.old done.new (P.value port.new) answers result) (says gate.old) (count_asks gate.old) (count_asks gate.new) (count_yes gate.old) (count_yes gate.new) (is_due_by result) }
+    ensures works { Answering (λ answers. WorksThrough (L.fits items.now) (L.count items.now) (P.value port.old) done.old done.new (P.value port.new) answers result) (says gate.old) (count_asks gate.old) (count_asks gate.new) (count_yes gate.old) (count_yes gate.new) (is_due_answer result) }
     ensures rests { Rests (P.value port.new) }
     ensures says { (n : ℕ) → says gate.new n ≡ says gate.old n }
     ensures paces { paces gate.new ≡ paces gate.old }
-    ensures calm { calm gate.old ≡ true → (is_due_by result ≡ false) × (calm gate.new ≡ true) }
+    ensures calm { calm gate.old ≡ true → (is_due_answer result ≡ false) × (calm gate.new ≡ true) }
 {
     if items.len() > LONGEST {
         *done = 0;
@@ -63,11 +63,11 @@ fn go_through_pairs<P: Port>(
     requires warm { IsWarm (P.value port.old) }
     ensures warm { IsWarm (P.value port.new) }
     ensures post { (P.value port.new).post ≡ (P.value port.old).post }
-    ensures works { Answering (λ answers. WorksOwned domain foreign pairs.now (P.value port.old) done.old done.new (P.value port.new) answers result) (says gate.old) (count_asks gate.old) (count_asks gate.new) (count_yes gate.old) (count_yes gate.new) (is_due_by result) }
+    ensures works { Answering (λ answers. WorksOwned domain foreign pairs.now (P.value port.old) done.old done.new (P.value port.new) answers result) (says gate.old) (count_asks gate.old) (count_asks gate.new) (count_yes gate.old) (count_yes gate.new) (is_due_answer result) }
     ensures rests { Rests (P.value port.new) }
     ensures says { (n : ℕ) → says gate.new n ≡ says gate.old n }
     ensures paces { paces gate.new ≡ paces gate.old }
-    ensures calm { calm gate.old ≡ true → (is_due_by result ≡ false) × (calm gate.new ≡ true) }
+    ensures calm { calm gate.old ≡ true → (is_due_answer result ≡ false) × (calm gate.new ≡ true) }
 {
     if pairs.len() > LONGEST {
         *done = 0;
@@ -111,12 +111,12 @@ pub(crate) fn work_on<P: Port>(
     requires rests { Rests (P.value port.old) }
     requires warm { IsWarm (P.value port.old) }
     ensures post { (P.value port.new).post ≡ (P.value port.old).post }
-    ensures works { Answering (λ answers. Works domain (task_of op.now) awaited (P.value port.old) done.old done.new (P.value port.new) answers result) (says gate.old) (count_asks gate.old) (count_asks gate.new) (count_yes gate.old) (count_yes gate.new) (is_due_by result) }
+    ensures works { Answering (λ answers. Works domain (task_of op.now) awaited (P.value port.old) done.old done.new (P.value port.new) answers result) (says gate.old) (count_asks gate.old) (count_asks gate.new) (count_yes gate.old) (count_yes gate.new) (is_due_answer result) }
     ensures rests { Rests (P.value port.new) }
     ensures warm { IsWarm (P.value port.new) }
     ensures says { (n : ℕ) → says gate.new n ≡ says gate.old n }
     ensures paces { paces gate.new ≡ paces gate.old }
-    ensures calm { calm gate.old ≡ true → (is_due_by result ≡ false) × (calm gate.new ≡ true) }
+    ensures calm { calm gate.old ≡ true → (is_due_answer result ≡ false) × (calm gate.new ≡ true) }
 {
     match task_of(op) {
         None => {

@@ -1,7 +1,8 @@
 use Rattle.std.proofs.Common.{Err, ap, ◌∙◌}
 use Rattle.std.proofs.lemmas.Result.{err_from_is_err_and}
+use Rattle.table_courses.proofs.Ending.{reference_undue}
 use Rattle.mmu_update.proofs.Gating.{answered_as, frame_as, ungated}
-use Rattle.mmu_update.proofs.Referring.{ref_undue, referred_by, unreferred}
+use Rattle.mmu_update.proofs.Referring.{referred_by, unreferred}
 use Rattle.mmu_update.proofs.elements.write_word.Goals as goal
 
 pub returns-in_err-frame-clause-writes : goal.returns-in_err-frame-clause-writes
@@ -13,7 +14,7 @@ returns-in_err-frame-clause-writes g c =
     let t = c.in_err-frame.ensures in
     let is = answer.1 ∙ ap Err answer.2 in
     answered_as b w c.args.owners c.args.f c.args.index c.args.word c.args.keep _ _ _ _ _ (Err e)
-    (ungated b w c.args.owners c.args.f c.args.index c.args.word c.args.keep (Err e) _ _ _ (ref_undue e t.kinds)
+    (ungated b w c.args.owners c.args.f c.args.index c.args.word c.args.keep (Err e) _ _ _ (reference_undue e t.kinds)
     (unreferred b w c.args.owners c.args.f c.args.index c.args.word c.args.keep e c.requires.begins t.serves t.stops t.kinds t.hand (record { found = t.gets; plain = t.plain; stops = t.stops }))) c.from_residual.result is
 
 pub write_referred-requires-clause-referred : goal.write_referred-requires-clause-referred

@@ -13,7 +13,7 @@ use Rattle.mmuext_ops.specs.Elements.{of_pin, told}
 use Rattle.mmuext_ops.proofs.Looked.{fields, given_back, look_there, not_referred, put_back, read_some, referred}
 use Rattle.mmuext_ops.proofs.PinCourse.{before_course, gave_ref, live_course, refused_course, unreferred_course}
 use Rattle.mmuext_ops.proofs.Pinned.{acquired_holds, acquired_serves, asks, before_stops, leaves_as, live_hand, live_serves, live_stops, serves_as, stops_as, unacquired_hand, unacquired_stops}
-use Rattle.mmuext_ops.proofs.Rests.{rests_pinned, same_due}
+use Rattle.mmuext_ops.proofs.Rests.{rests_pinned}
 use Rattle.mmuext_ops.proofs.Types.{other_mark, other_type, same_is}
 use Rattle.mmuext_ops.proofs.pinning.pin.Goals.{else-kind-via-then-kind+else-eq, else-kind-via-else-kind}
 use Rattle.mmuext_ops.proofs.pinning.pin.Goals as goal
@@ -109,7 +109,7 @@ returns-in_err-frame-2-clause-serves g c =
     let stop = c.in_err-frame-2.field-0.0 in
     let answer = err_from_is_err_and c.from_residual-in_err-frame-2.result c.from_residual-in_err-frame-2.ensures.1 in
     serves_as v e c.args.f c.args.domain c.args.level c.from_residual-in_err-frame-2.result stop (answer.1 ∙ ap Err answer.2)
-    (acquired_serves v c.args.f c.args.domain c.args.level (is_due_stop stop) p (put_back v a b c.args.f c.args.domain c.in_ok-frame.frame c.look_kind-found.result c.in_ok-frame.ensures.frame.0 c.in_ok-frame.ensures.hand c.look_kind-found.ensures.moves c.look_kind-found.ensures.hand (of_pin c.args.domain c.args.f c.args.level (is_due_stop stop)) (asks v c.args.f c.args.domain c.args.level (is_due_stop stop)) c.in_ok-frame.ensures.serves p c.put_ref.ensures.serves) e (Err stop) (λ due. sym (same_due stop) ∙ due) c.requires.own (c.in_err-frame-2.ensures.serves c.args.domain))
+    (acquired_serves v c.args.f c.args.domain c.args.level (is_due_stop stop) p (put_back v a b c.args.f c.args.domain c.in_ok-frame.frame c.look_kind-found.result c.in_ok-frame.ensures.frame.0 c.in_ok-frame.ensures.hand c.look_kind-found.ensures.moves c.look_kind-found.ensures.hand (of_pin c.args.domain c.args.f c.args.level (is_due_stop stop)) (asks v c.args.f c.args.domain c.args.level (is_due_stop stop)) c.in_ok-frame.ensures.serves p c.put_ref.ensures.serves) e (Err stop) (λ due. due) c.requires.own (c.in_err-frame-2.ensures.serves c.args.domain))
 
 pub returns-in_err-frame-2-clause-stops : goal.returns-in_err-frame-2-clause-stops
 returns-in_err-frame-2-clause-stops g c =
@@ -121,7 +121,7 @@ returns-in_err-frame-2-clause-stops g c =
     let stop = c.in_err-frame-2.field-0.0 in
     let answer = err_from_is_err_and c.from_residual-in_err-frame-2.result c.from_residual-in_err-frame-2.ensures.1 in
     stops_as v e c.args.f c.args.domain c.args.level c.from_residual-in_err-frame-2.result stop (answer.1 ∙ ap Err answer.2)
-    (unacquired_stops v c.args.f c.args.domain c.args.level (is_due_stop stop) p (put_back v a b c.args.f c.args.domain c.in_ok-frame.frame c.look_kind-found.result c.in_ok-frame.ensures.frame.0 c.in_ok-frame.ensures.hand c.look_kind-found.ensures.moves c.look_kind-found.ensures.hand (of_pin c.args.domain c.args.f c.args.level (is_due_stop stop)) (asks v c.args.f c.args.domain c.args.level (is_due_stop stop)) c.in_ok-frame.ensures.serves p c.put_ref.ensures.serves) e (Err stop) (λ due. sym (same_due stop) ∙ due) c.requires.own (given_back v a b c.args.f c.args.domain c.in_ok-frame.frame c.look_kind-found.result c.in_ok-frame.ensures.frame.0 c.in_ok-frame.ensures.hand c.look_kind-found.ensures.moves c.look_kind-found.ensures.hand p c.put_ref.ensures.hand) stop (c.in_err-frame-2.ensures.stops c.args.domain))
+    (unacquired_stops v c.args.f c.args.domain c.args.level (is_due_stop stop) p (put_back v a b c.args.f c.args.domain c.in_ok-frame.frame c.look_kind-found.result c.in_ok-frame.ensures.frame.0 c.in_ok-frame.ensures.hand c.look_kind-found.ensures.moves c.look_kind-found.ensures.hand (of_pin c.args.domain c.args.f c.args.level (is_due_stop stop)) (asks v c.args.f c.args.domain c.args.level (is_due_stop stop)) c.in_ok-frame.ensures.serves p c.put_ref.ensures.serves) e (Err stop) (λ due. due) c.requires.own (given_back v a b c.args.f c.args.domain c.in_ok-frame.frame c.look_kind-found.result c.in_ok-frame.ensures.frame.0 c.in_ok-frame.ensures.hand c.look_kind-found.ensures.moves c.look_kind-found.ensures.hand p c.put_ref.ensures.hand) stop (c.in_err-frame-2.ensures.stops c.args.domain))
 
 pub returns-in_err-frame-2-clause-hand : goal.returns-in_err-frame-2-clause-hand
 returns-in_err-frame-2-clause-hand g c =
