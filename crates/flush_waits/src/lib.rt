@@ -11,7 +11,7 @@ ghost use Rattle.answer_fits.specs.Visits.{Does};
 ghost use Rattle.answer_fits.specs.Twins.{Alike};
 ghost use Rattle.step_maker.specs.Holds.{FlushedSame, MayWork};
 ghost use Rattle.step_maker.specs.Moves.{Came};
-ghost use Rattle.flush_waits.specs.Clearing.{ClearsAt, ClearsMeant, Knows, Waited, Weighs, Waits, first_behind, is_meant, whose_by};
+ghost use Rattle.flush_waits.specs.Clearing.{ClearsAt, Knows, Waited, Weighs, Waits, first_behind, is_meant, whose_by};
 ghost use Rattle.flush_waits.specs.Listing.{WaitedFor};
 ghost use Rattle.flush_waits.specs.Waiting.{AreClear, IsMarked, IsFlushed, IsWait, ServesBehind, StopsBehind, meant};
 
@@ -189,7 +189,7 @@ fn clear_own<P: Port>(port: &mut P, awaited: Awaiting) -> Result<Option<u64>, Re
     requires may { MayWork (P.value port.old) }
     requires known { Knows (P.value port.old) awaited }
     requires meant { IsMeant (whose_by (P.value port.old).post awaited) (P.value port.old).post.vcpu }
-    ensures { ClearsMeant (P.value port.old) (P.value port.new) awaited (P.value port.old).post.vcpu result }
+    ensures { ClearsAt (P.value port.old) (P.value port.new) awaited (P.value port.old).post.vcpu result }
 {
     let vcpu = port.vcpu();
     if look_flushed(port, vcpu) > awaited.stamp {
@@ -206,7 +206,7 @@ fn clear_other<P: Port>(port: &mut P, awaited: Awaiting, vcpu: u32) -> Option<u6
     requires may { MayWork (P.value port.old) }
     requires known { Knows (P.value port.old) awaited }
     requires meant { IsMeant (whose_by (P.value port.old).post awaited) vcpu }
-    ensures { ClearsMeant (P.value port.old) (P.value port.new) awaited vcpu (Ok result) }
+    ensures { ClearsAt (P.value port.old) (P.value port.new) awaited vcpu (Ok result) }
 {
     if look_run_of(port, vcpu) != RUNNING {
         return None;
