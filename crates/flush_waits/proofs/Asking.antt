@@ -1,5 +1,5 @@
 -- Another vCPU: it is looked at, and asked to flush where it is behind.
-use Rattle.std.proofs.Common.{◌≡◌, ◌≢◌, ℕ, ◌<◌, ◌≤◌, ◌==◌, ◌⊎◌, nat_le, not, Bool, true, false, length, Some, None, Ok, IsTrue, refl, sym, ap, ◌∙◌, subst, inl, inr, arith}
+use Rattle.std.proofs.Common.{◌≡◌, ◌≢◌, ℕ, ◌<◌, ◌≤◌, ◌==◌, ◌⊎◌, nat_le, not, Bool, true, false, List, length, Some, None, Ok, IsTrue, refl, sym, ap, ◌∙◌, subst, inl, inr, arith}
 use Rattle.std.proofs.lemmas.Bool.{le-leb}
 use Rattle.std.proofs.lemmas.Bool.Decides.{nat_tests}
 use Rattle.xp_words.specs.Places.{asked_of, flushed_of, run_of, sizes_of}
@@ -18,16 +18,16 @@ use Rattle.step_maker.specs.Moves.{Came, Met, Moves}
 use Rattle.step_maker.proofs.Coming.{came_post, came_trans, met_after, met_before, moves_came}
 use Rattle.step_maker.proofs.Noting.{moves_since}
 use Rattle.answer_fits.specs.Finding.{FoundAt}
-use Rattle.answer_fits.specs.Reasons.{IsMeant, LastAtMost, MayReach}
+use Rattle.answer_fits.specs.Reasons.{IsMeant, LastAtMost, MayReach, OfOwner}
 use Rattle.flush_words.proofs.Lasting.{came_longer, last_at_most, last_kept}
 use Rattle.flush_waits.specs.declared.Awaiting.{Awaiting}
 use Rattle.flush_waits.specs.declared.Concern.{Concern}
 use Rattle.flush_waits.specs.declared.Concern.TheVariants as concerns
-use Rattle.answer_fits.specs.Visits.{Does, Nothing, Only, Then, visit}
+use Rattle.answer_fits.specs.Visits.{Does, Only, Then, Visit, visit}
 use Rattle.answer_fits.proofs.Visiting.{does_as, does_nothing, does_one, does_then}
-use Rattle.flush_waits.specs.Listing.{BarredIf, LooksAt, WeighsBy, WeighsIf, saw_flushed, saw_run}
+use Rattle.flush_waits.specs.Listing.{WeighsBy, saw_flushed, saw_run}
 use Rattle.flush_waits.specs.Listing as by
-use Rattle.flush_waits.specs.Clearing.{Clears, Knows, KnowsOf, Looks, Weighs, owns, looked, named, weighs, whose_by, whose_of}
+use Rattle.flush_waits.specs.Clearing.{Clears, Knows, KnowsOf, Looks, LooksFor, Weighs, owns, looked, named, whose_by, whose_of}
 use Rattle.flush_waits.proofs.Growing.{came_grows, had_before, known_knows, marked_later, marked_of, may_later, still_known}
 use Rattle.flush_waits.proofs.Chaining.{looks_after}
 use Rattle.flush_waits.proofs.Looking.{look_barred, look_late}
@@ -52,22 +52,20 @@ clears_weighs v w a k b (owns f is_frame is answer) = subst (λ (y : PortValue).
 clears_weighs v w a k b (looked f owner x is_frame other m same answer) = clears_look v w (Priv (domain_of v.post.machine k)) x a (λ r. tt) m same
 clears_weighs v w a k b (named mask domain is_mask is answer) = subst (λ (y : PortValue). Clears v y a) (sym is) (clears_nothing v a)
 
--- no step
-no_weighing : (v w : PortValue) (c : Concern) → w ≡ v → Does v w (λ vs. WeighsIf (weighs c) vs)
-no_weighing v w (concerns.Frame f owner) is = subst (λ (y : PortValue). Does v y (λ vs. WeighsBy vs)) (sym is) (does_as v v _ (λ vs. WeighsBy vs) (λ vs nothing. inl nothing) (does_nothing v))
-no_weighing v w (concerns.Those mask domain) is = subst (λ (y : PortValue). Does v y (λ vs. Nothing vs)) (sym is) (does_nothing v)
-
-weighs_list : (v w : PortValue) (c : Concern) (k : ℕ) (b : Bool) → Weighs v w c k b → Does v w (λ vs. WeighsIf (weighs c) vs)
-weighs_list v w c k b (owns f is_frame is answer) = no_weighing v w c is
+-- the steps that weigh it
+weighs_list : (v w : PortValue) (c : Concern) (k : ℕ) (b : Bool) → Weighs v w c k b → Does v w (λ vs. WeighsBy v.post.machine (whose_of v.post.machine c) k b vs)
+weighs_list v w c k b (owns f is_frame is answer) =
+    let n = v.post.machine in
+    subst (λ (y : PortValue). Does v y (λ vs. WeighsBy n (whose_of n c) k b vs)) (sym is)
+    (subst (λ d. Does v v (λ vs. WeighsBy n (whose_of n d) k b vs)) (sym is_frame) (does_as v v _ (λ vs. WeighsBy n (OfOwner (domain_of n k)) k b vs) (λ vs nothing. inl (refl, answer, nothing)) (does_nothing v)))
 weighs_list v w c k b (looked f owner x is_frame other m same answer) =
-    subst (λ d. Does v w (λ vs. WeighsIf (weighs d) vs)) (sym is_frame) (does_as v w _ (λ vs. WeighsBy vs) (λ vs one. inr (domain_of v.post.machine k, x, one)) (does_one v w _ _ _ _ x m))
-weighs_list v w c k b (named mask domain is_mask is answer) = no_weighing v w c is
-
-barred_list : (v w : PortValue) (c : Concern) (k : ℕ) → Weighs v w c k false → (d : ℕ) × (x : ℕ) × Does v w (λ vs. BarredIf (weighs c) d x vs)
-barred_list v w c k (owns f is_frame is answer) = absurd cc
-barred_list v w c k (looked f owner x is_frame other m same answer) =
-    (domain_of v.post.machine k, x, subst (λ d. Does v w (λ vs. BarredIf (weighs d) (domain_of v.post.machine k) x vs)) (sym is_frame) (does_one v w _ _ _ _ x m))
-barred_list v w c k (named mask domain is_mask is answer) = absurd cc
+    let n = v.post.machine in
+    subst (λ d. Does v w (λ vs. WeighsBy n (whose_of n d) k b vs)) (sym is_frame)
+    (does_as v w _ (λ vs. WeighsBy n (OfOwner owner) k b vs) (λ vs one. inr (other, (x, sym answer, one))) (does_one v w _ _ _ _ x m))
+weighs_list v w c k b (named mask domain is_mask is answer) =
+    let n = v.post.machine in
+    subst (λ (y : PortValue). Does v y (λ vs. WeighsBy n (whose_of n c) k b vs)) (sym is)
+    (subst (λ d. Does v v (λ vs. WeighsBy n (whose_of n d) k b vs)) (sym is_mask) (does_as v v _ (λ vs. WeighsBy n (whose_of n (concerns.Those mask domain)) k b vs) (λ vs nothing. (answer, nothing)) (does_nothing v)))
 
 reach_weighs : (v w : PortValue) (c : Concern) (k : ℕ) → IsMeant (whose_of v.post.machine c) k → Weighs v w c k true → MayReach v.post.machine (whose_of v.post.machine c) (Met v w) k
 reach_weighs v w (concerns.Frame f owner) k meant (owns g is_frame is answer) = inl cc
@@ -109,30 +107,38 @@ module _ (v u t : PortValue) (a : Awaiting) (k x y : ℕ) (run : Moves v u (run_
   two_looks : Clears v t a
   two_looks = clears_then v u t a running_look flushed_look
 
-  -- ---- as a list; where it was found running
-  module _ (idle : x ≡ 0) where
+  post_then : t.post ≡ v.post
+  post_then = came_post v t two_looks.came
+
+  -- ---- as a list; where another one was found running
+  module _ (other : k ≢ v.post.vcpu) (idle : x ≡ 0) where
     run_only : Does v u (Only (saw_run k 0))
     run_only = subst (λ c. Does v u (Only (saw_run k c))) idle (does_one v u _ _ _ _ x run)
 
     flushed_only : Does u t (Only (saw_flushed k y))
     flushed_only = does_one u t _ _ _ _ y flushed
 
-    pub late_list : a.stamp < y → Does v t (λ vs. LooksAt (weighs a.concern) a.stamp k vs (Ok None))
-    late_list late = does_as v t _ (λ vs. LooksAt (weighs a.concern) a.stamp k vs (Ok None)) (λ vs s. by.late y late s) (does_then v u t (Only (saw_run k 0)) (Only (saw_flushed k y)) run_only flushed_only)
+    abbrev Reaches : Bool → List Visit → Type 0
+    Reaches b vs = WeighsBy v.post.machine (whose_by v.post a) k b vs
 
-    pub unconcerned_list : (w : PortValue) → y ≤ a.stamp → Weighs t w a.concern k false → Does v w (λ vs. LooksAt (weighs a.concern) a.stamp k vs (Ok None))
+    weighed_there : (w : PortValue) (b : Bool) → Weighs t w a.concern k b → Does t w (λ vs. Reaches b vs)
+    weighed_there w b g = subst (λ (q : Post). Does t w (λ vs. WeighsBy q.machine (whose_by q a) k b vs)) post_then (weighs_list t w a.concern k b g)
+
+    pub late_list : a.stamp < y → Does v t (λ vs. LooksFor v.post a k vs (Ok None))
+    late_list late = does_as v t _ (λ vs. LooksFor v.post a k vs (Ok None)) (λ vs s. by.late y (other, meant) late s) (does_then v u t (Only (saw_run k 0)) (Only (saw_flushed k y)) run_only flushed_only)
+
+    pub unconcerned_list : (w : PortValue) → y ≤ a.stamp → Weighs t w a.concern k false → Does v w (λ vs. LooksFor v.post a k vs (Ok None))
     unconcerned_list w low g =
-        let b = barred_list t w a.concern k g in
-        does_as v w _ (λ vs. LooksAt (weighs a.concern) a.stamp k vs (Ok None)) (λ vs s. by.barred y b.0 b.1 low s)
-        (does_then v u w (Only (saw_run k 0)) (Then (Only (saw_flushed k y)) (λ ws. BarredIf (weighs a.concern) b.0 b.1 ws)) run_only
-        (does_then u t w (Only (saw_flushed k y)) (λ ws. BarredIf (weighs a.concern) b.0 b.1 ws) flushed_only b.2))
+        does_as v w _ (λ vs. LooksFor v.post a k vs (Ok None)) (λ vs s. by.barred y (other, meant) low s)
+        (does_then v u w (Only (saw_run k 0)) (Then (Only (saw_flushed k y)) (λ ws. Reaches false ws)) run_only
+        (does_then u t w (Only (saw_flushed k y)) (λ ws. Reaches false ws) flushed_only (weighed_there w false g)))
 
-    pub behind_list : (r w : PortValue) (z : ℕ) → Weighs t r a.concern k true → Moves r w (asked_of k) (Max a.stamp) kinds.Ask None z → y ≤ a.stamp → Does v w (λ vs. LooksAt (weighs a.concern) a.stamp k vs (Ok (Some y)))
+    pub behind_list : (r w : PortValue) (z : ℕ) → Weighs t r a.concern k true → Moves r w (asked_of k) (Max a.stamp) kinds.Ask None z → y ≤ a.stamp → Does v w (λ vs. LooksFor v.post a k vs (Ok (Some y)))
     behind_list r w z weighing ask low =
-        does_as v w _ (λ vs. LooksAt (weighs a.concern) a.stamp k vs (Ok (Some y))) (λ vs s. by.behind y z low s)
-        (does_then v u w (Only (saw_run k 0)) (Then (Only (saw_flushed k y)) (Then (λ ws. WeighsIf (weighs a.concern) ws) (Only (visit (asked_of k) (Max a.stamp) z)))) run_only
-        (does_then u t w (Only (saw_flushed k y)) (Then (λ ws. WeighsIf (weighs a.concern) ws) (Only (visit (asked_of k) (Max a.stamp) z))) flushed_only
-        (does_then t r w (λ ws. WeighsIf (weighs a.concern) ws) (Only (visit (asked_of k) (Max a.stamp) z)) (weighs_list t r a.concern k true weighing) (does_one r w _ _ _ _ z ask))))
+        does_as v w _ (λ vs. LooksFor v.post a k vs (Ok (Some y))) (λ vs s. by.behind y z (other, meant) low s)
+        (does_then v u w (Only (saw_run k 0)) (Then (Only (saw_flushed k y)) (Then (λ ws. Reaches true ws) (Only (visit (asked_of k) (Max a.stamp) z)))) run_only
+        (does_then u t w (Only (saw_flushed k y)) (Then (λ ws. Reaches true ws) (Only (visit (asked_of k) (Max a.stamp) z))) flushed_only
+        (does_then t r w (λ ws. Reaches true ws) (Only (visit (asked_of k) (Max a.stamp) z)) (weighed_there r true weighing) (does_one r w _ _ _ _ z ask))))
 
   -- later than the stamp
   pub found_late : a.stamp < y → Looks v t a k (Ok None)
@@ -155,9 +161,6 @@ module _ (v u t : PortValue) (a : Awaiting) (k x y : ℕ) (run : Moves v u (run_
 
     flushed_then_weighed : Came u r
     flushed_then_weighed = came_trans u t r flushed_look.came weighed.came
-
-    post_then : t.post ≡ v.post
-    post_then = came_post v t two_looks.came
 
     pub may_then : MayWork v → MayWork r
     may_then = may_later v r all_looks.hand

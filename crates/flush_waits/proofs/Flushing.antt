@@ -1,5 +1,5 @@
 -- The own vCPU: it is flushed, or the clock is at its last value.
-use Rattle.std.proofs.Common.{◌≡◌, ℕ, ◌<◌, ◌≤◌, Some, None, Result, Ok, Err, sym, ap, ◌∙◌, subst, inl}
+use Rattle.std.proofs.Common.{◌≡◌, ℕ, ◌<◌, ◌≤◌, Some, None, Result, Ok, Err, refl, sym, ap, ◌∙◌, subst, inl}
 use Rattle.std.proofs.lemmas.Bool.{or_right}
 use Rattle.xp_words.specs.KindWords.{kind_fields}
 use Rattle.xp_words.specs.Places.{flushed_of}
@@ -28,9 +28,9 @@ use Rattle.flush_waits.specs.declared.Concern.TheVariants as concerns
 use Rattle.answer_fits.specs.Visits.{Does, Only}
 use Rattle.answer_fits.proofs.Visiting.{does_as, does_one, does_then}
 use Rattle.flush_words.specs.Flushing.{FlushedBy}
-use Rattle.flush_waits.specs.Listing.{LooksAt, saw_flushed}
+use Rattle.flush_waits.specs.Listing.{saw_flushed}
 use Rattle.flush_waits.specs.Listing as by
-use Rattle.flush_waits.specs.Clearing.{Clears, IsClear, Knows, KnowsOf, Looks, weighs, whose_by}
+use Rattle.flush_waits.specs.Clearing.{Clears, IsClear, Knows, KnowsOf, Looks, LooksFor, whose_by}
 use Rattle.flush_waits.specs.Waiting.{IsWait, ServesBehind, StopsBehind}
 use Rattle.flush_waits.proofs.Chaining.{then_stands}
 use Rattle.flush_waits.proofs.Growing.{flushed_then, marked_of, past_for, still_known}
@@ -109,12 +109,12 @@ module _ (v u w : PortValue) (a : Awaiting) (x : ℕ) (look : Moves v u (flushed
   own_there : (answer : Result (Unit {0}) Refusal) → FlushesOwn u w answer → Does u w (λ vs. FlushedBy v.post.vcpu answer vs)
   own_there answer f = subst (λ (q : Post). Does u w (λ vs. FlushedBy q.vcpu answer vs)) (came_post v u first.came) (own_does u w answer f)
 
-  pub flushed_list : FlushesOwn u w (Ok tt) → Does v w (λ vs. LooksAt (weighs a.concern) a.stamp v.post.vcpu vs (Ok None))
+  pub flushed_list : FlushesOwn u w (Ok tt) → Does v w (λ vs. LooksFor v.post a v.post.vcpu vs (Ok None))
   flushed_list f =
-      does_as v w _ (λ vs. LooksAt (weighs a.concern) a.stamp v.post.vcpu vs (Ok None)) (λ vs s. by.own_flushed x low s)
+      does_as v w _ (λ vs. LooksFor v.post a v.post.vcpu vs (Ok None)) (λ vs s. by.own_flushed x (refl, meant) low s)
       (does_then v u w (Only (saw_flushed v.post.vcpu x)) (λ fs. FlushedBy v.post.vcpu (Ok tt) fs) saw_own (own_there (Ok tt) f))
 
-  pub refused_list : (r : Refusal) → FlushesOwn u w (Err r) → Does v w (λ vs. LooksAt (weighs a.concern) a.stamp v.post.vcpu vs (Err r))
+  pub refused_list : (r : Refusal) → FlushesOwn u w (Err r) → Does v w (λ vs. LooksFor v.post a v.post.vcpu vs (Err r))
   refused_list r f =
-      does_as v w _ (λ vs. LooksAt (weighs a.concern) a.stamp v.post.vcpu vs (Err r)) (λ vs s. by.own_spent x r low s)
+      does_as v w _ (λ vs. LooksFor v.post a v.post.vcpu vs (Err r)) (λ vs s. by.own_spent x r (refl, meant) low s)
       (does_then v u w (Only (saw_flushed v.post.vcpu x)) (λ fs. FlushedBy v.post.vcpu (Err r) fs) saw_own (own_there (Err r) f))

@@ -1,5 +1,5 @@
 -- One look at a vCPU, and what it shows.
-use Rattle.std.proofs.Common.{◌≡◌, ◌≢◌, ℕ, ◌<◌, nat_lt, not, Bool, true, length, Some, None, Ok, IsTrue, sym, ap, ◌∙◌, subst, inl, inr, arith, lit<}
+use Rattle.std.proofs.Common.{◌≡◌, ◌≢◌, ℕ, ◌<◌, nat_lt, not, true, length, Some, None, Ok, IsTrue, sym, ap, ◌∙◌, subst, inl, inr, arith, lit<}
 use Rattle.std.proofs.lemmas.Bool.{or_left, or_right}
 use Rattle.std.proofs.lemmas.Bool.Decides.{nat_tests}
 use Rattle.xp_words.specs.Machine.{Machine}
@@ -22,13 +22,14 @@ use Rattle.step_maker.specs.Holds.{Same}
 use Rattle.step_maker.specs.Moves.{Moves}
 use Rattle.step_maker.proofs.Noting.{moves_since}
 use Rattle.answer_fits.specs.Pauses.{barred, flushed, idle}
+use Rattle.answer_fits.specs.Reasons.{IsMeant}
 use Rattle.flush_waits.specs.declared.Awaiting.{Awaiting}
 use Rattle.flush_waits.specs.declared.Concern.TheVariants as concerns
 use Rattle.answer_fits.specs.Visits.{Does}
 use Rattle.answer_fits.proofs.Visiting.{does_as, does_one}
-use Rattle.flush_waits.specs.Listing.{LooksAt}
+use Rattle.flush_waits.specs.Listing.{IsOtherMeant}
 use Rattle.flush_waits.specs.Listing as by
-use Rattle.flush_waits.specs.Clearing.{Knows, Looks, PastFor, whose_of}
+use Rattle.flush_waits.specs.Clearing.{Knows, Looks, LooksFor, PastFor, whose_by, whose_of}
 use Rattle.flush_waits.proofs.Growing.{known_knows, marked_of, owner_later, past_for, same_flushed}
 use Rattle.flush_waits.proofs.Marked.{same_frame, stamp_is, work_past}
 use Rattle.answer_fits.proofs.Changing.{moves_found}
@@ -109,8 +110,9 @@ module _ (v w : PortValue) (a : Awaiting) (k x : ℕ) (same : Same v w) where
       }
 
 -- ---- as a list
-pub idle_list : (v w : PortValue) (b : Bool) (stamp k x : ℕ) → Moves v w (run_of k) Load kinds.Look None x → x ≢ 0 → Does v w (λ vs. LooksAt b stamp k vs (Ok None))
-idle_list v w b stamp k x m some = does_as v w _ (λ vs. LooksAt b stamp k vs (Ok None)) (λ vs one. by.idle x some one) (does_one v w _ _ _ _ x m)
+pub idle_list : (v w : PortValue) (a : Awaiting) (k x : ℕ) → IsOtherMeant v.post (whose_by v.post a) k → Moves v w (run_of k) Load kinds.Look None x → x ≢ 0 → Does v w (λ vs. LooksFor v.post a k vs (Ok None))
+idle_list v w a k x other m some = does_as v w _ (λ vs. LooksFor v.post a k vs (Ok None)) (λ vs one. by.idle x other some one) (does_one v w _ _ _ _ x m)
 
-pub own_late_list : (v w : PortValue) (b : Bool) (stamp k y : ℕ) → Moves v w (flushed_of k) Load kinds.Look None y → stamp < y → Does v w (λ vs. LooksAt b stamp k vs (Ok None))
-own_late_list v w b stamp k y m late = does_as v w _ (λ vs. LooksAt b stamp k vs (Ok None)) (λ vs one. by.own_late y late one) (does_one v w _ _ _ _ y m)
+pub own_late_list : (v w : PortValue) (a : Awaiting) (k y : ℕ) → k ≡ v.post.vcpu → IsMeant (whose_by v.post a) v.post.vcpu → Moves v w (flushed_of k) Load kinds.Look None y → a.stamp < y → Does v w (λ vs. LooksFor v.post a k vs (Ok None))
+own_late_list v w a k y is meant m late =
+    does_as v w _ (λ vs. LooksFor v.post a k vs (Ok None)) (λ vs one. by.own_late y (is, subst (λ s. IsMeant (whose_by v.post a) s) (sym is) meant) late one) (does_one v w _ _ _ _ y m)

@@ -11,7 +11,7 @@ use Rattle.step_maker.proofs.Coming.{came_post, met_after, met_before}
 use Rattle.answer_fits.specs.Answers.{Stops}
 use Rattle.answer_fits.specs.Asked.{Request}
 use Rattle.answer_fits.specs.Pauses.{AskedTo, PausesFor, Behind, Clear}
-use Rattle.answer_fits.specs.Reasons.{AwaitsStamp}
+use Rattle.answer_fits.specs.Reasons.{AwaitsStamp, Those}
 use Rattle.flush_words.proofs.FlushServes.{awaited_more}
 use Rattle.flush_waits.specs.declared.Awaiting.{Awaiting}
 use Rattle.flush_waits.specs.declared.Concern.TheVariants as concerns
@@ -19,7 +19,7 @@ use Rattle.flush_waits.specs.declared.Late.{Late}
 use Rattle.flush_waits.specs.Clearing.{AllStand, Clears, IsBehind, IsClear, IsLeast, Stands, Waited, Waits, first_behind, ListedBy, LooksFor, ClearsAt, whose_by}
 use Rattle.answer_fits.specs.Visits.{Does, Then}
 use Rattle.answer_fits.proofs.Visiting.{does_as, does_nothing, does_then}
-use Rattle.flush_waits.specs.Listing.{WaitedForThose, WaitedOn, none}
+use Rattle.flush_waits.specs.Listing.{WaitedFor, none}
 use Rattle.flush_waits.proofs.Listing.{listed_more, listed_refused}
 use Rattle.flush_waits.specs.Waiting.{AreClear, IsFlushed, IsMarked, StopsBehind, meant}
 use Rattle.flush_waits.proofs.Chaining.{asked_earlier, behind_earlier, clear_earlier, still_clear, then_stands}
@@ -27,7 +27,7 @@ use Rattle.flush_waits.proofs.Growing.{marked_later}
 use Rattle.flush_waits.proofs.Pieces.{asked_more, clear_more, clears_nothing, clears_then, found_more, reach_more}
 
 pub waits_none : (v : PortValue) (a : Awaiting) → Waits v v a 0 (Ok None)
-waits_none v a = record { clears = clears_nothing v a; steps = does_as v v _ (λ vs. ListedBy v.post.machine a 0 (Ok None) vs) (λ vs nothing. none vs nothing) (does_nothing v); shows = λ u below. absurd (omega (arith, below)) }
+waits_none v a = record { clears = clears_nothing v a; steps = does_as v v _ (λ vs. ListedBy v.post a 0 (Ok None) vs) (λ vs nothing. none vs nothing) (does_nothing v); shows = λ u below. absurd (omega (arith, below)) }
 
 -- ---- one vCPU more
 below_or : (u k : ℕ) → u < k + 1 → (u < k) ⊎ (u ≡ k)
@@ -92,17 +92,17 @@ module _ (v u w : PortValue) (a : Awaiting) (k : ℕ) (first : Clears v u a) (se
       }
 
 module _ (v u w : PortValue) (a : Awaiting) (k : ℕ) (o : Option Late) (so : Waits v u a k (Ok o)) where
-  steps_then : (answer : Result (Option ℕ) Refusal) → ClearsAt u w a k answer → Does u w (λ vs. LooksFor v.post.machine a.concern a.stamp k vs answer)
-  steps_then answer l = subst (λ (q : Post). Does u w (λ vs. LooksFor q.machine a.concern a.stamp k vs answer)) (came_post v u so.clears.came) l.steps
+  steps_then : (answer : Result (Option ℕ) Refusal) → ClearsAt u w a k answer → Does u w (λ vs. LooksFor v.post a k vs answer)
+  steps_then answer l = subst (λ (q : Post). Does u w (λ vs. LooksFor q a k vs answer)) (came_post v u so.clears.came) l.steps
 
-  listed_then : (answer : Result (Option ℕ) Refusal) → ClearsAt u w a k answer → Does v w (Then (λ vs. ListedBy v.post.machine a k (Ok o) vs) (λ vs. LooksFor v.post.machine a.concern a.stamp k vs answer))
-  listed_then answer l = does_then v u w (λ vs. ListedBy v.post.machine a k (Ok o) vs) (λ vs. LooksFor v.post.machine a.concern a.stamp k vs answer) so.steps (steps_then answer l)
+  listed_then : (answer : Result (Option ℕ) Refusal) → ClearsAt u w a k answer → Does v w (Then (λ vs. ListedBy v.post a k (Ok o) vs) (λ vs. LooksFor v.post a k vs answer))
+  listed_then answer l = does_then v u w (λ vs. ListedBy v.post a k (Ok o) vs) (λ vs. LooksFor v.post a k vs answer) so.steps (steps_then answer l)
 
   pub waits_more : (standing : Option ℕ) → ClearsAt u w a k (Ok standing) → Waits v w a (k + 1) (Ok (first_behind o k standing))
   waits_more standing l =
       record {
         clears = clears_then v u w a so.clears l.looks.clears;
-        steps = does_as v w _ (λ vs. ListedBy v.post.machine a (k + 1) (Ok (first_behind o k standing)) vs) (λ vs t. listed_more v.post.machine a k o vs standing t) (listed_then (Ok standing) l);
+        steps = does_as v w _ (λ vs. ListedBy v.post a (k + 1) (Ok (first_behind o k standing)) vs) (λ vs t. listed_more v.post a k o vs standing t) (listed_then (Ok standing) l);
         shows = all_more v u w a k so.clears l.looks.clears o standing so.shows (then_stands v u w a so.clears.came l.looks.clears.came k (Ok standing) l.looks.shows);
       }
 
@@ -110,7 +110,7 @@ module _ (v u w : PortValue) (a : Awaiting) (k : ℕ) (o : Option Late) (so : Wa
   waits_refused n r l =
       record {
         clears = clears_then v u w a so.clears l.looks.clears;
-        steps = does_as v w _ (λ vs. ListedBy v.post.machine a n (Err r) vs) (λ vs t. listed_refused v.post.machine a k o vs n r t) (listed_then (Err r) l);
+        steps = does_as v w _ (λ vs. ListedBy v.post a n (Err r) vs) (λ vs t. listed_refused v.post a k o vs n r t) (listed_then (Err r) l);
         shows = then_stands v u w a so.clears.came l.looks.clears.came k (Err r) l.looks.shows;
       }
 
@@ -163,26 +163,17 @@ module _ (v w : PortValue) (a : Awaiting) where
   stops_late b so t r to awaits = awaits_behind t r to so.clears.came b so.shows awaits
 
   -- ---- by its answer
-  abbrev Listed : Result (Unit {0}) Stop → Type 0
-  Listed answer = Does v w (λ vs. WaitedOn (λ u ws one. LooksFor v.post.machine a.concern a.stamp u ws one) a.stamp answer vs)
-
-  had_list : Waits v w a all (Ok None) → Listed (Ok tt)
-  had_list so = does_as v w _ _ (λ vs l. (all, l)) so.steps
-
-  late_list : (b : Late) → Waits v w a all (Ok (Some b)) → Listed (Err (Paused (Flush b.vcpu a.stamp b.found)))
-  late_list b so = does_as v w _ _ (λ vs l. (all, (refl, l))) so.steps
-
-  spent_list : (r : Refusal) → Waits v w a all (Err r) → Listed (Err (Refused r))
-  spent_list r so = does_as v w _ _ (λ vs l. (l.0, l.1)) so.steps
+  late_list : (b : Late) → Waits v w a all (Ok (Some b)) → Does v w (λ vs. WaitedFor v.post (whose_by v.post a) a.stamp (Err (Paused (Flush b.vcpu a.stamp b.found))) vs)
+  late_list b so = does_as v w _ _ (λ vs l. (refl, l)) so.steps
 
   pub waited_had : Waits v w a all (Ok None) → Waited v w a (Ok tt)
-  waited_had so = record { clears = so.clears; stops = tt; steps = had_list so; waits = tt; clear = so.shows }
+  waited_had so = record { clears = so.clears; stops = tt; steps = so.steps; waits = tt; clear = so.shows }
 
   pub waited_late : (b : Late) → Waits v w a all (Ok (Some b)) → Waited v w a (Err (Paused (Flush b.vcpu a.stamp b.found)))
   waited_late b so = record { clears = so.clears; stops = stops_late b so; steps = late_list b so; waits = tt; clear = tt }
 
   pub waited_spent : (r : Refusal) → Waits v w a all (Err r) → Waited v w a (Err (Refused r))
-  waited_spent r so = record { clears = so.clears; stops = so.shows.0; steps = spent_list r so; waits = so.shows.1; clear = tt }
+  waited_spent r so = record { clears = so.clears; stops = so.shows.0; steps = so.steps; waits = so.shows.1; clear = tt }
 
 -- ---- what is awaited
 -- a frame is past its flush
@@ -202,7 +193,7 @@ module _ (v w : PortValue) (mask domain stamp : ℕ) (own : domain ≡ domain_of
   own_waited : (answer : Result (Unit {0}) Stop) → Waited v w (those domain) answer → Waited v w (those (domain_of v.post.machine v.post.vcpu)) answer
   own_waited answer so = subst (λ d. Waited v w (those d) answer) own so
 
-  pub those_list : (answer : Result (Unit {0}) Stop) → Waited v w (those domain) answer → Does v w (λ vs. WaitedForThose (meant v.post.machine v.post.vcpu mask) stamp answer vs)
+  pub those_list : (answer : Result (Unit {0}) Stop) → Waited v w (those domain) answer → Does v w (λ vs. WaitedFor v.post (Those (meant v.post.machine v.post.vcpu mask)) stamp answer vs)
   those_list answer so = (own_waited answer so).steps
 
   pub those_clear : (answer : Result (Unit {0}) Stop) → Waited v w (those domain) answer → IfOk answer (λ done. AreClear v w (meant v.post.machine v.post.vcpu mask) stamp)
@@ -215,5 +206,5 @@ pub stamp_kept : (v w : PortValue) (a : Awaiting) (answer : Result (Unit {0}) St
 unfolding Does
 stamp_kept v w a (Ok done) so = tt
 stamp_kept v w a (Err (Refused r)) so = λ vcpu awaited found is. absurd cc
-stamp_kept v w a (Err (Paused (Flush u t x))) so = λ vcpu awaited found is. let same = so.steps.2.1.0 in cc
-stamp_kept v w a (Err (Paused _)) so = λ vcpu awaited found is. absurd so.steps.2.1
+stamp_kept v w a (Err (Paused (Flush u t x))) so = λ vcpu awaited found is. let same = so.steps.2.0 in cc
+stamp_kept v w a (Err (Paused _)) so = λ vcpu awaited found is. absurd so.steps.2

@@ -1,5 +1,5 @@
 -- What a wait for flushes has found so far: of one vCPU, and of all below a number.
-use Rattle.std.specs.Prelude.{◌≡◌, ◌≢◌, ◌⊎◌, ℕ, ◌<◌, ◌≤◌, ◌==◌, ◌&&◌, Bool, true, false, List, length, Option, Some, None, Result, Ok, Err, IfErr, IfOk, IsTrue}
+use Rattle.std.specs.Prelude.{◌≡◌, ◌≢◌, ◌⊎◌, ℕ, ◌<◌, ◌≤◌, ◌==◌, ◌&&◌, Bool, true, List, length, Option, Some, None, Result, Ok, Err, IfErr, IfOk, IsTrue}
 use Rattle.xp_words.specs.Machine.{Machine}
 use Rattle.xp_words.specs.Entries.{is_bit}
 use Rattle.xp_words.specs.KindWords.{kind_fields}
@@ -27,7 +27,7 @@ use Rattle.flush_waits.specs.declared.Awaiting.{Awaiting}
 use Rattle.flush_waits.specs.declared.Concern.{Concern}
 use Rattle.flush_waits.specs.declared.Concern.TheVariants as concerns
 use Rattle.flush_waits.specs.declared.Late.{Late}
-use Rattle.flush_waits.specs.Listing.{LooksAt, LooksBy, LooksIfMeant, Slow, WaitedOn, WaitsOn}
+use Rattle.flush_waits.specs.Listing.{LooksAt, Slow, WaitedFor, WaitsOn}
 use Rattle.flush_waits.specs.Waiting.{IsMarked, IsWait, ServesBehind, StopsBehind}
 
 -- ---- what is awaited
@@ -43,11 +43,6 @@ whose_of n (concerns.Those mask domain) = Those (λ u. is_meant n (concerns.Thos
 -- the flushes that a port awaits
 abbrev pub whose_by : Post → Awaiting → Whose
 whose_by q a = whose_of q.machine a.concern
-
--- whether privileges are looked at
-abbrev pub weighs : Concern → Bool
-weighs (concerns.Frame frame owner) = true
-weighs (concerns.Those mask domain) = false
 
 -- the frame is one of the machine's, and is marked; or the clock was found at the stamp
 abbrev pub KnowsOf : Machine → Concern → ℕ → Holdings → Type 0
@@ -101,19 +96,14 @@ pub record Looks (v w : PortValue) (a : Awaiting) (u : ℕ) (answer : Result (Op
   pub clears : Clears v w a
   pub shows : Stands v w a u answer
 
--- and one that is meant was looked at by these steps
-pub record ClearsMeant (v w : PortValue) (a : Awaiting) (u : ℕ) (answer : Result (Option ℕ) Refusal) : Type 0 where
-  pub looks : Looks v w a u answer
-  pub steps : Does v w (λ vs. LooksAt (weighs a.concern) a.stamp u vs answer)
-
 -- the steps that look at vCPU u
-abbrev pub LooksFor : Machine → Concern → ℕ → ℕ → List Visit → Result (Option ℕ) Refusal → Type 0
-LooksFor n (concerns.Frame frame owner) stamp u vs answer = LooksBy stamp u vs answer
-LooksFor n (concerns.Those mask domain) stamp u vs answer = LooksIfMeant (λ k. is_meant n (concerns.Those mask domain) k) stamp u vs answer
+abbrev pub LooksFor : Post → Awaiting → ℕ → List Visit → Result (Option ℕ) Refusal → Type 0
+LooksFor q a u vs answer = LooksAt q (whose_by q a) a.stamp u vs answer
 
+-- and it was looked at by these
 pub record ClearsAt (v w : PortValue) (a : Awaiting) (u : ℕ) (answer : Result (Option ℕ) Refusal) : Type 0 where
   pub looks : Looks v w a u answer
-  pub steps : Does v w (λ vs. LooksFor v.post.machine a.concern a.stamp u vs answer)
+  pub steps : Does v w (λ vs. LooksFor v.post a u vs answer)
 
 -- Whether vCPU u, which is meant, may have an older translation: its domain owns the frame, or was found to have ever had privilege over the owner.
 -- One of a mask may.
@@ -147,20 +137,20 @@ abbrev pub slow_of : Option Late → Option Slow
 slow_of None = None
 slow_of (Some b) = Some (record { vcpu = b.vcpu; found = b.found })
 
-abbrev pub ListedBy : Machine → Awaiting → ℕ → Result (Option Late) Refusal → List Visit → Type 0
-ListedBy m a upto (Ok o) vs = WaitsOn (λ u ws one. LooksFor m a.concern a.stamp u ws one) vs upto (Ok (slow_of o))
-ListedBy m a upto (Err r) vs = (n : ℕ) × WaitsOn (λ u ws one. LooksFor m a.concern a.stamp u ws one) vs n (Err r)
+abbrev pub ListedBy : Post → Awaiting → ℕ → Result (Option Late) Refusal → List Visit → Type 0
+ListedBy q a upto (Ok o) vs = WaitsOn q (whose_by q a) a.stamp vs upto (Ok (slow_of o))
+ListedBy q a upto (Err r) vs = (n : ℕ) × WaitsOn q (whose_by q a) a.stamp vs n (Err r)
 
 -- the steps from v to w showed that all below that number are clear, or the least that is behind
 pub record Waits (v w : PortValue) (a : Awaiting) (upto : ℕ) (answer : Result (Option Late) Refusal) : Type 0 where
   pub clears : Clears v w a
-  pub steps : Does v w (λ vs. ListedBy v.post.machine a upto answer vs)
+  pub steps : Does v w (λ vs. ListedBy v.post a upto answer vs)
   pub shows : AllStand v w a upto answer
 
 -- ---- the wait
 pub record Waited (v w : PortValue) (a : Awaiting) (answer : Result (Unit {0}) Stop) : Type 0 where
   pub clears : Clears v w a
   pub stops : IfErr answer (λ e. StopsBehind v w (whose_by v.post a) a.stamp e)
-  pub steps : Does v w (λ vs. WaitedOn (λ u ws one. LooksFor v.post.machine a.concern a.stamp u ws one) a.stamp answer vs)
+  pub steps : Does v w (λ vs. WaitedFor v.post (whose_by v.post a) a.stamp answer vs)
   pub waits : IfErr answer IsWait
   pub clear : IfOk answer (λ done. (u : ℕ) → u < length v.post.machine.vcpu_domain → IsClear v w a u)

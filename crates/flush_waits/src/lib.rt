@@ -11,8 +11,8 @@ ghost use Rattle.answer_fits.specs.Visits.{Does};
 ghost use Rattle.answer_fits.specs.Twins.{Alike};
 ghost use Rattle.step_maker.specs.Holds.{FlushedSame, MayWork};
 ghost use Rattle.step_maker.specs.Moves.{Came};
-ghost use Rattle.flush_waits.specs.Clearing.{ClearsAt, ClearsMeant, Knows, Waited, Weighs, Waits, first_behind, is_meant, whose_by};
-ghost use Rattle.flush_waits.specs.Listing.{WaitedFor, WaitedForThose};
+ghost use Rattle.flush_waits.specs.Clearing.{ClearsAt, Knows, Waited, Weighs, Waits, first_behind, is_meant, whose_by};
+ghost use Rattle.flush_waits.specs.Listing.{WaitedFor};
 ghost use Rattle.flush_waits.specs.Waiting.{AreClear, IsMarked, IsFlushed, IsWait, ServesBehind, StopsBehind, meant};
 
 use flush_words::{ask, flush_own, look_flushed, look_privileges, look_run_of};
@@ -35,7 +35,7 @@ pub fn clear_stale<P: Port>(port: &mut P, frame: u32, owner: u16, stamp: u64) ->
     ensures stops { IfErr result (λ e. StopsBehind (P.value port.old) (P.value port.new) (OfOwner owner) stamp e) }
     ensures came { Came (P.value port.old) (P.value port.new) }
     // Each vCPU is looked at once, in order, and the answer is by what was found.
-    ensures visits { Does (P.value port.old) (P.value port.new) (λ vs. WaitedFor stamp result vs) }
+    ensures visits { Does (P.value port.old) (P.value port.new) (λ vs. WaitedFor (P.value port.old).post (OfOwner owner) stamp result vs) }
     ensures waits { IfErr result IsWait }
     ensures hand { FlushedSame (P.value port.old) (P.value port.new) }
     ensures past { IfOk result (λ _. IsFlushed (P.value port.new).post.machine frame (P.value port.new).holdings) }
@@ -63,7 +63,7 @@ pub fn flush_others<P: Port>(port: &mut P, mask: u16, stamp: u64) -> Result<(), 
     ensures stops { IfErr result (λ e. StopsBehind (P.value port.old) (P.value port.new) (Those (meant (P.value port.old).post.machine (P.value port.old).post.vcpu mask)) stamp e) }
     ensures came { Came (P.value port.old) (P.value port.new) }
     // Each vCPU that is meant is looked at once, in order, and no other; the answer is by what was found.
-    ensures visits { Does (P.value port.old) (P.value port.new) (WaitedForThose (meant (P.value port.old).post.machine (P.value port.old).post.vcpu mask) stamp result) }
+    ensures visits { Does (P.value port.old) (P.value port.new) (λ vs. WaitedFor (P.value port.old).post (Those (meant (P.value port.old).post.machine (P.value port.old).post.vcpu mask)) stamp result vs) }
     ensures waits { IfErr result IsWait }
     ensures hand { FlushedSame (P.value port.old) (P.value port.new) }
     ensures clear { IfOk result (λ _. AreClear (P.value port.old) (P.value port.new) (meant (P.value port.old).post.machine (P.value port.old).post.vcpu mask) stamp) }
@@ -189,7 +189,7 @@ fn clear_own<P: Port>(port: &mut P, awaited: Awaiting) -> Result<Option<u64>, Re
     requires may { MayWork (P.value port.old) }
     requires known { Knows (P.value port.old) awaited }
     requires meant { IsMeant (whose_by (P.value port.old).post awaited) (P.value port.old).post.vcpu }
-    ensures { ClearsMeant (P.value port.old) (P.value port.new) awaited (P.value port.old).post.vcpu result }
+    ensures { ClearsAt (P.value port.old) (P.value port.new) awaited (P.value port.old).post.vcpu result }
 {
     let vcpu = port.vcpu();
     if look_flushed(port, vcpu) > awaited.stamp {
@@ -206,7 +206,7 @@ fn clear_other<P: Port>(port: &mut P, awaited: Awaiting, vcpu: u32) -> Option<u6
     requires may { MayWork (P.value port.old) }
     requires known { Knows (P.value port.old) awaited }
     requires meant { IsMeant (whose_by (P.value port.old).post awaited) vcpu }
-    ensures { ClearsMeant (P.value port.old) (P.value port.new) awaited vcpu (Ok result) }
+    ensures { ClearsAt (P.value port.old) (P.value port.new) awaited vcpu (Ok result) }
 {
     if look_run_of(port, vcpu) != RUNNING {
         return None;

@@ -1,5 +1,5 @@
 -- What the steps show that leave a frame of the own works, and the words after them.
-use Rattle.std.proofs.Common.{◌≡◌, ℕ, ◌%◌, ◌^◌, true, false, List, [], Some, None, IsTrue, refl, sym, ap, ◌∙◌, arith}
+use Rattle.std.proofs.Common.{◌≡◌, ℕ, ◌%◌, ◌^◌, true, false, List, [], Some, None, IsTrue, sym, ap, ◌∙◌, arith}
 use Rattle.std.proofs.lemmas.Bool.Decides.{nat_tests}
 use Rattle.xp_words.specs.declared.kind.KindWord.{KindWord}
 use Rattle.xp_words.specs.declared.kind.PageType.{PageType}
@@ -15,13 +15,11 @@ use Rattle.xp_board.specs.declared.holdings.Work.{Work}
 use Rattle.xp_board.specs.Hands.{work_on}
 use Rattle.xp_board.specs.Readings.{is_dead, is_free, is_work}
 use Rattle.xp_board.specs.Told.{PortValue, is_telling, told_word}
-use Rattle.xp_board.proofs.Returned.{same_type}
 use Rattle.step_maker.specs.Moves.{Came, Met, Moves}
 use Rattle.step_maker.specs.Plain.{Leaves, Words}
 use Rattle.step_maker.proofs.Telling.{leaves, load_tells, moves_telling, told_there}
 use Rattle.answer_fits.specs.Answers.{Deed, Serves}
 use Rattle.answer_fits.specs.Asked.{of_back, of_frame}
-use Rattle.answer_fits.specs.Reasons.{keeps_type}
 use Rattle.answer_fits.proofs.Later.{IsUncounted}
 use Rattle.answer_fits.proofs.Piecing.{serves_back, serves_came, serves_nothing, serves_step}
 use Rattle.answer_fits.proofs.Keeping.{kept_type}

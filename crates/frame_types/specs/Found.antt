@@ -12,7 +12,8 @@ use Rattle.xp_words.specs.declared.reply.Stop.TheVariants.{Paused}
 use Rattle.xp_board.specs.declared.step.Act.TheVariants.{Add, Cas, Load, Store}
 use Rattle.xp_board.specs.KindSteps.{raised_kind}
 use Rattle.xp_board.specs.RefSteps.{one_down}
-use Rattle.xp_board.specs.Told.{PortValue}
+use Rattle.xp_board.specs.Told.{Post, PortValue}
+use Rattle.answer_fits.specs.Reasons.{OfOwner}
 use Rattle.answer_fits.specs.Visits.{Visit, visit, Does, Nothing, Only, Then, Where}
 use Rattle.flush_waits.specs.Listing.{WaitedFor}
 use Rattle.frame_words.specs.Freeing.{PutBy}
@@ -46,11 +47,11 @@ IsWayOn want marked own recorded Counted = is_read_first want ≡ false
 IsWayOn want marked own recorded (InWork progress mine) = (is_read_first want ≡ true) × (mine ≡ own) × (progress ≡ recorded)
 IsWayOn want marked own recorded (Waiting mine stamp stop) = (marked ≡ true) × (mine ≡ own)
 
--- one wait, where it is marked
-abbrev pub WaitsOf : Bool → ℕ → Taken → List Visit → Type 0
-WaitsOf true stamp (Waiting own awaited stop) vs = (awaited ≡ stamp) × WaitedFor stamp (Err stop) vs
-WaitsOf true stamp _ vs = WaitedFor stamp (Ok tt) vs
-WaitsOf false stamp t vs = Nothing vs
+-- one wait for the owner's frame, where it is marked
+abbrev pub WaitsOf : Post → ℕ → Bool → ℕ → Taken → List Visit → Type 0
+WaitsOf q owner true stamp (Waiting own awaited stop) vs = (awaited ≡ stamp) × WaitedFor q (OfOwner owner) stamp (Err stop) vs
+WaitsOf q owner true stamp _ vs = WaitedFor q (OfOwner owner) stamp (Ok tt) vs
+WaitsOf q owner false stamp t vs = Nothing vs
 
 -- ordinary memory is live at once; what is read first loses its mark, where it has one; what waits stays as it came into work
 abbrev pub EndsBy : ℕ → PageType → Bool → Bool → Taken → List Visit → Type 0
@@ -58,11 +59,11 @@ EndsBy f want marked own Counted vs = StoresKind f (live_kind want (if own then 
 EndsBy f want marked own (InWork progress mine) vs = Where marked (StoresKind f (work_kind want false 0)) vs
 EndsBy f want marked own (Waiting mine stamp stop) vs = Nothing vs
 
-abbrev pub GoesBy : ℕ → PageType → Bool → ℕ → Bool → Taken → List Visit → Type 0
-GoesBy f want marked stamp own t vs = Then (λ ws. WaitsOf marked stamp t ws) (λ es. EndsBy f want marked own t es) vs
+abbrev pub GoesBy : Post → ℕ → ℕ → PageType → Bool → ℕ → Bool → Taken → List Visit → Type 0
+GoesBy q f owner want marked stamp own t vs = Then (λ ws. WaitsOf q owner marked stamp t ws) (λ es. EndsBy f want marked own t es) vs
 
-abbrev pub Proceeds : PortValue → PortValue → ℕ → PageType → Bool → ℕ → Bool → ℕ → Taken → Type 0
-Proceeds v w f want marked stamp own recorded t = IsWayOn want marked own recorded t × Does v w (λ vs. GoesBy f want marked stamp own t vs)
+abbrev pub Proceeds : PortValue → PortValue → ℕ → ℕ → PageType → Bool → ℕ → Bool → ℕ → Taken → Type 0
+Proceeds v w f owner want marked stamp own recorded t = IsWayOn want marked own recorded t × Does v w (λ vs. GoesBy v.post f owner want marked stamp own t vs)
 
 abbrev pub Finishes : PortValue → PortValue → ℕ → PageType → Bool → Bool → ℕ → Taken → Type 0
 Finishes v w f want marked own recorded t = IsWayOn want marked own recorded t × Does v w (λ vs. EndsBy f want marked own t vs)
@@ -79,18 +80,18 @@ next_kind k want stands.Counted = raised_kind k
 next_kind k want s = work_by k want s
 
 -- Behind the look: one type count more; or the frame comes into work, and goes on.
-abbrev pub TakesBy : ℕ → PageType → ℕ → Standing → Taken → List Visit → Type 0
-TakesBy f want x stands.Counted t vs = Only (swaps_kind f x (next_kind (kind_fields x) want stands.Counted) x) vs
-TakesBy f want x s t vs =
+abbrev pub TakesBy : Post → ℕ → ℕ → PageType → ℕ → Standing → Taken → List Visit → Type 0
+TakesBy q f owner want x stands.Counted t vs = Only (swaps_kind f x (next_kind (kind_fields x) want stands.Counted) x) vs
+TakesBy q f owner want x s t vs =
     Then (Only (swaps_kind f x (next_kind (kind_fields x) want s) x))
-    (Then (Where (is_kept_by (kind_fields x) s) (PutBy f)) (λ gs. GoesBy f want (waits_by (kind_fields x) want s) (kind_fields x).number (is_own (kind_fields x) s) t gs)) vs
+    (Then (Where (is_kept_by (kind_fields x) s) (PutBy f)) (λ gs. GoesBy q f owner want (waits_by (kind_fields x) want s) (kind_fields x).number (is_own (kind_fields x) s) t gs)) vs
 
 -- the type was taken that way of the word that the look found
-pub record TakesOf (f : ℕ) (want : PageType) (t : Taken) (vs : List Visit) : Type 0 where
+pub record TakesOf (q : Post) (f owner : ℕ) (want : PageType) (t : Taken) (vs : List Visit) : Type 0 where
   pub word : ℕ
   pub free : type_stop f want word ≡ None
   pub way : IsTakenBy want (kind_fields word) (standing_of (kind_fields word) want) t
-  pub steps : Then (Only (saw_kind f word)) (λ ts. TakesBy f want word (standing_of (kind_fields word) want) t ts) vs
+  pub steps : Then (Only (saw_kind f word)) (λ ts. TakesBy q f owner want word (standing_of (kind_fields word) want) t ts) vs
 
 -- the exchange found another word
 abbrev pub LosesBy : Machine → ℕ → PageType → ℕ → ℕ → ℕ → List Visit → Type 0
@@ -102,13 +103,13 @@ LosesBy n f want place expected found vs =
 abbrev pub StopsBy : ℕ → PageType → Stop → List Visit → Type 0
 StopsBy f want e vs = (word : ℕ) × (type_stop f want word ≡ Some e) × Only (saw_kind f word) vs
 
-abbrev pub TypeBy : Machine → ℕ → PageType → Result Taken Stop → List Visit → Type 0
-TypeBy n f want (Ok t) vs = TakesOf f want t vs
-TypeBy n f want (Err (Paused (Lost place expected found))) vs = LosesBy n f want place expected found vs
-TypeBy n f want (Err e) vs = StopsBy f want e vs
+abbrev pub TypeBy : Post → ℕ → ℕ → PageType → Result Taken Stop → List Visit → Type 0
+TypeBy q f owner want (Ok t) vs = TakesOf q f owner want t vs
+TypeBy q f owner want (Err (Paused (Lost place expected found))) vs = LosesBy q.machine f want place expected found vs
+TypeBy q f owner want (Err e) vs = StopsBy f want e vs
 
-abbrev pub TakesFound : PortValue → PortValue → ℕ → PageType → Result Taken Stop → Type 0
-TakesFound v w f want answer = Does v w (λ vs. TypeBy v.post.machine f want answer vs)
+abbrev pub TakesFound : PortValue → PortValue → ℕ → ℕ → PageType → Result Taken Stop → Type 0
+TakesFound v w f owner want answer = Does v w (λ vs. TypeBy v.post f owner want answer vs)
 
 -- ---- a frame that waits is left
 -- partial as another holder left it, and the reference given back

@@ -64,7 +64,7 @@ pub fn take_type<P: Port>(
     ensures kinds { IfErr result IsTypeStop }
     ensures waits { IfOk result (λ t. ShowsWait (P.value port.old) (P.value port.new) frame owner want t) }
     ensures hand { MatchResult result (λ t. TakesAs (P.value port.old) (P.value port.new) frame owner want t) (λ _. Same (P.value port.old) (P.value port.new)) }
-    ensures found { TakesFound (P.value port.old) (P.value port.new) frame want result }
+    ensures found { TakesFound (P.value port.old) (P.value port.new) frame owner want result }
     ensures live { IfOk result (λ t. LeavesLive (P.value port.old) (P.value port.new) frame t) }
     ensures plain { TwinTake (P.value port.old) (P.value port.new) frame want result }
 {
@@ -101,7 +101,7 @@ pub fn count_live<P: Port>(
     requires other { IsOfOther frame want (P.value port.old).holdings }
     requires looked { (P.value port.old).holdings.looking ≡ [] }
     ensures takes { CountsAs result (λ r. Takes (P.value port.old) (P.value port.new) frame owner want r) (λ word. Looked (P.value port.old) (P.value port.new) frame owner want word) }
-    ensures found { CountsAs result (λ r. TakesFound (P.value port.old) (P.value port.new) frame want r) (λ word. IsNotLive want word) }
+    ensures found { CountsAs result (λ r. TakesFound (P.value port.old) (P.value port.new) frame owner want r) (λ word. IsNotLive want word) }
     ensures live { CountsAs result (λ r. IfOk r (λ t. LeavesLive (P.value port.old) (P.value port.new) frame t)) (λ word. IsNotLive want word) }
     ensures plain { CountsAs result (λ r. TwinTake (P.value port.old) (P.value port.new) frame want r) (λ word. IsNotLive want word) }
 {
@@ -123,7 +123,7 @@ fn count_found<P: Port>(
     requires wanted { IsTrue (not (is_none want)) }
     requires looked { IsLooked (P.value port.old) frame owner want word }
     ensures takes { (b : PortValue) → Looked b (P.value port.old) frame owner want word → CountsAs result (λ r. Takes b (P.value port.new) frame owner want r) (λ x. Looked b (P.value port.new) frame owner want x) }
-    ensures found { (b : PortValue) → Looked b (P.value port.old) frame owner want word → CountsAs result (λ r. TakesFound b (P.value port.new) frame want r) (λ x. IsNotLive want x) }
+    ensures found { (b : PortValue) → Looked b (P.value port.old) frame owner want word → CountsAs result (λ r. TakesFound b (P.value port.new) frame owner want r) (λ x. IsNotLive want x) }
     ensures live { CountsAs result (λ r. IfOk r (λ t. LeavesLive (P.value port.old) (P.value port.new) frame t)) (λ x. IsNotLive want x) }
     ensures plain { (b : PortValue) → Looked b (P.value port.old) frame owner want word → CountsAs result (λ r. TwinTake b (P.value port.new) frame want r) (λ x. IsNotLive want x) }
 {
@@ -162,7 +162,7 @@ pub fn take_looked<P: Port>(
     requires looked { IsLooked (P.value port.old) frame owner want word }
     requires other { IsNotLive want word }
     ensures takes { (b : PortValue) → Looked b (P.value port.old) frame owner want word → Takes b (P.value port.new) frame owner want result }
-    ensures found { (b : PortValue) → Looked b (P.value port.old) frame owner want word → TakesFound b (P.value port.new) frame want result }
+    ensures found { (b : PortValue) → Looked b (P.value port.old) frame owner want word → TakesFound b (P.value port.new) frame owner want result }
     ensures live { IfOk result (λ t. LeavesLive (P.value port.old) (P.value port.new) frame t) }
     ensures plain { (b : PortValue) → Looked b (P.value port.old) frame owner want word → TwinTake b (P.value port.new) frame want result }
 {
@@ -194,7 +194,7 @@ fn take_dead<P: Port>(
     requires looked { IsLooked (P.value port.old) frame owner want word }
     requires stands { (k : KindWord) → kind_read word ≡ Some k → standing_of k want ≡ Dead }
     ensures takes { (b : PortValue) → Looked b (P.value port.old) frame owner want word → Takes b (P.value port.new) frame owner want result }
-    ensures found { (b : PortValue) → Looked b (P.value port.old) frame owner want word → TakesFound b (P.value port.new) frame want result }
+    ensures found { (b : PortValue) → Looked b (P.value port.old) frame owner want word → TakesFound b (P.value port.new) frame owner want result }
     ensures live { IfOk result (λ t. LeavesLive (P.value port.old) (P.value port.new) frame t) }
     ensures plain { (b : PortValue) → Looked b (P.value port.old) frame owner want word → TwinTake b (P.value port.new) frame want result }
 {
@@ -220,7 +220,7 @@ fn take_partial<P: Port>(
     requires looked { IsLooked (P.value port.old) frame owner want word }
     requires stands { (k : KindWord) → kind_read word ≡ Some k → standing_of k want ≡ Partial }
     ensures takes { (b : PortValue) → Looked b (P.value port.old) frame owner want word → Takes b (P.value port.new) frame owner want result }
-    ensures found { (b : PortValue) → Looked b (P.value port.old) frame owner want word → TakesFound b (P.value port.new) frame want result }
+    ensures found { (b : PortValue) → Looked b (P.value port.old) frame owner want word → TakesFound b (P.value port.new) frame owner want result }
     ensures live { IfOk result (λ t. LeavesLive (P.value port.old) (P.value port.new) frame t) }
     ensures plain { (b : PortValue) → Looked b (P.value port.old) frame owner want word → TwinTake b (P.value port.new) frame want result }
 {
@@ -258,7 +258,7 @@ fn go_on<P: Port>(
     ensures waits { WaitsOn (P.value port.old) (P.value port.new) frame owner want marked kind.number result }
     ensures hand { HoldsOn (P.value port.old) (P.value port.new) frame owner want marked kind own result }
     ensures live { LeavesLive (P.value port.old) (P.value port.new) frame result }
-    ensures visits { Proceeds (P.value port.old) (P.value port.new) frame want marked kind.number own (progress_of kind) result }
+    ensures visits { Proceeds (P.value port.old) (P.value port.new) frame owner want marked kind.number own (progress_of kind) result }
     ensures plain { TwinOn (P.value port.old) (P.value port.new) frame want marked own (progress_of kind) result }
 {
     if marked {

@@ -12,9 +12,10 @@ use Rattle.xp_board.specs.declared.step.StepKind.TheVariants as kinds
 use Rattle.xp_board.specs.Readings.{last_clock}
 use Rattle.xp_board.specs.Told.{PortValue}
 use Rattle.step_maker.specs.Holds.{Holds, Same}
+use Rattle.answer_fits.specs.Reasons.{Those}
 use Rattle.answer_fits.specs.Visits.{Does}
 use Rattle.flush_words.specs.Flushing.{FlushedBy}
-use Rattle.flush_waits.specs.Listing.{WaitedForThose}
+use Rattle.flush_waits.specs.Listing.{WaitedFor}
 use Rattle.flush_waits.specs.Waiting.{AreClear, meant}
 use Rattle.table_bases.specs.Asking.{user_frame}
 use Rattle.table_bases.specs.Course.{SetsBase}
@@ -111,7 +112,7 @@ pub record WaitedForVcpus (v w : PortValue) (mask : ℕ) (awaited : Option ℕ) 
   pub looked : PortValue
   pub clock : ℕ
   pub looks : Moves v looked Clock Load kinds.Look None clock
-  pub waits : Does looked w (WaitedForThose (meant v.post.machine v.post.vcpu mask) (stamp_for awaited clock) answer)
+  pub waits : Does looked w (λ vs. WaitedFor v.post (Those (meant v.post.machine v.post.vcpu mask)) (stamp_for awaited clock) answer vs)
   pub clear : IfOk answer (λ done. AreClear looked w (meant v.post.machine v.post.vcpu mask) (stamp_for awaited clock))
 
 -- ---- with a gate

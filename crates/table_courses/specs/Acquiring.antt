@@ -57,7 +57,7 @@ pub record GaveType (v w : PortValue) (f : ℕ) (kind : PageType) : Type 0 where
   pub stands : is_telling v ≡ true → (is_free (told_word v (Refs f)) ≡ false) × ((kind_fields (told_word v (Kind f))).validated ≡ true)
 
 pub record TookType (v w : PortValue) (f owner level : ℕ) (answer : Result Taken Stop) : Type 0 where
-  pub found : TakesFound v w f (level_type level) answer
+  pub found : TakesFound v w f owner (level_type level) answer
   pub plain : TwinTake v w f (level_type level) answer
   pub stops : IfErr answer (λ e. Stops v w (of_frame f owner (Some (level_type level))) e)
   pub waits : IfOk answer (λ t. ShowsWait v w f owner (level_type level) t)

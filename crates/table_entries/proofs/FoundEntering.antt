@@ -1,7 +1,6 @@
 -- The next entry by its steps: which there are, by what became of it.
 use Rattle.std.proofs.Common.{◌≡◌, ℕ, ◌+◌, Bool, List, Some, Result, Ok, Err, refl, sym, subst}
 use Rattle.xp_words.specs.Entries.{demand_at}
-use Rattle.xp_words.specs.Machine.{Machine}
 use Rattle.xp_words.specs.declared.entry.Demand.{Demand}
 use Rattle.xp_words.specs.declared.entry.Demand.TheVariants.{Bad, Nothing, Typed}
 use Rattle.xp_words.specs.declared.kind.PageType.{PageType}
@@ -17,7 +16,7 @@ use Rattle.xp_board.specs.Told.{Post, PortValue}
 use Rattle.step_maker.specs.Moves.{Came, Moves}
 use Rattle.step_maker.proofs.Coming.{came_post}
 use Rattle.answer_fits.specs.Visits.{Visit, Does, Only, Then}
-use Rattle.answer_fits.proofs.Visiting.{does_as, does_came, does_next, does_nothing, does_one, does_then}
+use Rattle.answer_fits.proofs.Visiting.{does_as, does_came, does_nothing, does_one, does_then}
 use Rattle.frame_words.specs.Freeing.{PutBy, Puts}
 use Rattle.frame_words.specs.Refs.{Gets, GetsBy}
 use Rattle.frame_words.proofs.Getting.{first_had}
@@ -30,9 +29,13 @@ use Rattle.table_entries.specs.declared.entries.Entered.{Entered}
 use Rattle.table_entries.specs.declared.entries.Entered.TheVariants.{Opened, Recorded}
 use Rattle.table_entries.proofs.TwinsTyped.{not_awaited}
 
--- what is said of the machine is the same before steps
-pub does_before : (v x w : PortValue) (P : Machine → List Visit → Type 0) → Came v x → Does x w (P x.post.machine) → Does x w (P v.post.machine)
-does_before v x w P came d = subst (λ (p : Post). Does x w (P p.machine)) (came_post v x came) d
+-- what is said of where the port is posted is the same before steps
+pub does_before : (v x w : PortValue) (P : Post → List Visit → Type 0) → Came v x → Does x w (P x.post) → Does x w (P v.post)
+does_before v x w P came d = subst (λ (q : Post). Does x w (P q)) (came_post v x came) d
+
+-- and behind them
+pub does_behind : (v u w : PortValue) (P : List Visit → Type 0) (Q : Post → List Visit → Type 0) → Does v u P → Does u w (Q u.post) → Does v w (Then P (Q v.post))
+does_behind v u w P Q a b = does_then v u w P (Q v.post) a (does_before v u w Q (does_came v u P a) b)
 
 -- ---- the look at it
 module _ (b v : PortValue) (f i : ℕ) (t : PageType) (word : ℕ) (looks : SeesEntry b v f i t word) where
@@ -40,23 +43,23 @@ module _ (b v : PortValue) (f i : ℕ) (t : PageType) (word : ℕ) (looks : Sees
   looked_cell = does_one b v _ _ _ _ word looks.look
 
   -- and the rest, by what it asks
-  pub enters_by : (owner : ℕ) (d : Demand) → demand_at t i word ≡ d → (w : PortValue) (answer : Result Entered Stop) → Does v w (λ vs. EntersBy v.post.machine f i owner answer word d vs) → EntersFound b w f i t owner answer
+  pub enters_by : (owner : ℕ) (d : Demand) → demand_at t i word ≡ d → (w : PortValue) (answer : Result Entered Stop) → Does v w (λ vs. EntersBy v.post f i owner answer word d vs) → EntersFound b w f i t owner answer
   enters_by owner d asks w answer rest =
-      does_as b w (Then (Only (saw_cell f i word)) (λ es. EntersBy b.post.machine f i owner answer word (demand_at t i word) es)) (λ vs. EnteredBy b.post.machine f i t owner answer vs) (λ vs steps. (word, steps))
-      (does_next b v w (Only (saw_cell f i word)) (λ n es. EntersBy n f i owner answer word (demand_at t i word) es) looked_cell
-      (subst (λ k. Does v w (λ es. EntersBy v.post.machine f i owner answer word k es)) (sym asks) rest))
+      does_as b w (Then (Only (saw_cell f i word)) (λ es. EntersBy b.post f i owner answer word (demand_at t i word) es)) (λ vs. EnteredBy b.post f i t owner answer vs) (λ vs steps. (word, steps))
+      (does_behind b v w (Only (saw_cell f i word)) (λ q es. EntersBy q f i owner answer word (demand_at t i word) es) looked_cell
+      (subst (λ k. Does v w (λ es. EntersBy v.post f i owner answer word k es)) (sym asks) rest))
 
 -- ---- it is recorded
 pub does_record : (v w : PortValue) (f upto clock : ℕ) → Moves v w Clock Load kinds.Look (Some (Record f upto)) clock → Does v w (λ vs. Records f upto vs)
 does_record v w f upto clock m = does_as v w (Only (records_at f upto clock)) (λ vs. Records f upto vs) (λ vs one. (clock, one)) (does_one v w _ _ _ _ clock m)
 
-pub nothing_recorded : (v w : PortValue) (f i owner word clock : ℕ) → Moves v w Clock Load kinds.Look (Some (Record f (i + 1))) clock → Does v w (λ vs. EntersBy v.post.machine f i owner (Ok Recorded) word Nothing vs)
+pub nothing_recorded : (v w : PortValue) (f i owner word clock : ℕ) → Moves v w Clock Load kinds.Look (Some (Record f (i + 1))) clock → Does v w (λ vs. EntersBy v.post f i owner (Ok Recorded) word Nothing vs)
 nothing_recorded v w f i owner word clock m =
-    does_as v w (λ rs. Records f (i + 1) rs) (λ vs. EntersBy v.post.machine f i owner (Ok Recorded) word Nothing vs) (λ vs records. (refl, records)) (does_record v w f (i + 1) clock m)
+    does_as v w (λ rs. Records f (i + 1) rs) (λ vs. EntersBy v.post f i owner (Ok Recorded) word Nothing vs) (λ vs records. (refl, records)) (does_record v w f (i + 1) clock m)
 
 -- ---- it asks what none may
-pub bad_stopped : (v : PortValue) (f i owner word : ℕ) → Does v v (λ vs. EntersBy v.post.machine f i owner (Err (Refused (refusals.Reserved f i word))) word Bad vs)
-bad_stopped v f i owner word = does_as v v _ (λ vs. EntersBy v.post.machine f i owner (Err (Refused (refusals.Reserved f i word))) word Bad vs) (λ vs none. (refl, none)) (does_nothing v)
+pub bad_stopped : (v : PortValue) (f i owner word : ℕ) → Does v v (λ vs. EntersBy v.post f i owner (Err (Refused (refusals.Reserved f i word))) word Bad vs)
+bad_stopped v f i owner word = does_as v v _ (λ vs. EntersBy v.post f i owner (Err (Refused (refusals.Reserved f i word))) word Bad vs) (λ vs none. (refl, none)) (does_nothing v)
 
 -- ---- an entry that asks a reference alone
 pub read_recorded : (v x w : PortValue) (g owner f i k clock : ℕ) → Gets {A = ℕ} v x g owner (Ok k) → Moves x w Clock Load kinds.Look (Some (Record f (i + 1))) clock → Does v w (λ vs. ReadBy v.post.machine g owner f i (Ok Recorded) vs)
@@ -64,30 +67,30 @@ read_recorded v x w g owner f i k clock got m = does_then v x w (λ gs. GetsBy {
 
 -- ---- behind the reference: the type
 -- it is not to be had, and the reference was given back
-pub refuses : (x y z : PortValue) (g : ℕ) (t : PageType) (e : Stop) → TakesFound x y g t (Err e) → Puts y z g → Does x z (λ vs. RefusesBy x.post.machine g t e vs)
-refuses x y z g t e stops puts = does_then x y z (λ ts. TypeBy x.post.machine g t (Err e) ts) (PutBy g) stops puts
+pub refuses : (x y z : PortValue) (g owner : ℕ) (t : PageType) (e : Stop) → TakesFound x y g owner t (Err e) → Puts y z g → Does x z (λ vs. RefusesBy x.post g owner t e vs)
+refuses x y z g owner t e stops puts = does_then x y z (λ ts. TypeBy x.post g owner t (Err e) ts) (PutBy g) stops puts
 
 -- (it waits for no flush then)
-refused_typed : (n : Machine) (g : ℕ) (t : PageType) (f i : ℕ) (e : Stop) (vs : List Visit) → RefusesBy n g t e vs → TypedBy n g t f i (Err e) vs
-refused_typed n g t f i (Refused (refusals.Clock x)) vs a = absurd (not_awaited g t _ _ (Refused (refusals.Clock x)) a.first.1 tt)
-refused_typed n g t f i (Paused (pauses.Flush u stamp x)) vs a = absurd (not_awaited g t _ _ (Paused (pauses.Flush u stamp x)) a.first.1 tt)
-refused_typed n g t f i (Refused _) vs a = a
-refused_typed n g t f i (Paused _) vs a = a
+refused_typed : (q : Post) (g owner : ℕ) (t : PageType) (f i : ℕ) (e : Stop) (vs : List Visit) → RefusesBy q g owner t e vs → TypedBy q g owner t f i (Err e) vs
+refused_typed q g owner t f i (Refused (refusals.Clock x)) vs a = absurd (not_awaited g t _ _ (Refused (refusals.Clock x)) a.first.1 tt)
+refused_typed q g owner t f i (Paused (pauses.Flush u stamp x)) vs a = absurd (not_awaited g t _ _ (Paused (pauses.Flush u stamp x)) a.first.1 tt)
+refused_typed q g owner t f i (Refused _) vs a = a
+refused_typed q g owner t f i (Paused _) vs a = a
 
-pub typed_stopped : (x y z : PortValue) (g : ℕ) (t : PageType) (f i : ℕ) (e : Stop) → TakesFound x y g t (Err e) → Puts y z g → Does x z (λ vs. TypedBy x.post.machine g t f i (Err e) vs)
-typed_stopped x y z g t f i e stops puts =
-    does_as x z (λ vs. RefusesBy x.post.machine g t e vs) (λ vs. TypedBy x.post.machine g t f i (Err e) vs) (λ vs a. refused_typed x.post.machine g t f i e vs a) (refuses x y z g t e stops puts)
+pub typed_stopped : (x y z : PortValue) (g owner : ℕ) (t : PageType) (f i : ℕ) (e : Stop) → TakesFound x y g owner t (Err e) → Puts y z g → Does x z (λ vs. TypedBy x.post g owner t f i (Err e) vs)
+typed_stopped x y z g owner t f i e stops puts =
+    does_as x z (λ vs. RefusesBy x.post g owner t e vs) (λ vs. TypedBy x.post g owner t f i (Err e) vs) (λ vs a. refused_typed x.post g owner t f i e vs a) (refuses x y z g owner t e stops puts)
 
-pub typed_recorded : (x y w : PortValue) (g : ℕ) (t : PageType) (f i clock : ℕ) → TakesFound x y g t (Ok types.Counted) → Moves y w Clock Load kinds.Look (Some (Record f (i + 1))) clock → Does x w (λ vs. TypedBy x.post.machine g t f i (Ok Recorded) vs)
-typed_recorded x y w g t f i clock takes m = does_then x y w (λ ts. TakesOf g t types.Counted ts) (λ rs. Records f (i + 1) rs) takes (does_record y w f (i + 1) clock m)
+pub typed_recorded : (x y w : PortValue) (g owner : ℕ) (t : PageType) (f i clock : ℕ) → TakesFound x y g owner t (Ok types.Counted) → Moves y w Clock Load kinds.Look (Some (Record f (i + 1))) clock → Does x w (λ vs. TypedBy x.post g owner t f i (Ok Recorded) vs)
+typed_recorded x y w g owner t f i clock takes m = does_then x y w (λ ts. TakesOf x.post g owner t types.Counted ts) (λ rs. Records f (i + 1) rs) takes (does_record y w f (i + 1) clock m)
 
-pub typed_opened : (x y : PortValue) (g : ℕ) (t : PageType) (f i progress : ℕ) (own : Bool) → TakesFound x y g t (Ok (types.InWork progress own)) → Does x y (λ vs. TypedBy x.post.machine g t f i (Ok (Opened g progress own)) vs)
-typed_opened x y g t f i progress own takes = does_as x y (λ ts. TakesOf g t (types.InWork progress own) ts) (λ vs. TypedBy x.post.machine g t f i (Ok (Opened g progress own)) vs) (λ vs taken. (refl, taken)) takes
+pub typed_opened : (x y : PortValue) (g owner : ℕ) (t : PageType) (f i progress : ℕ) (own : Bool) → TakesFound x y g owner t (Ok (types.InWork progress own)) → Does x y (λ vs. TypedBy x.post g owner t f i (Ok (Opened g progress own)) vs)
+typed_opened x y g owner t f i progress own takes = does_as x y (λ ts. TakesOf x.post g owner t (types.InWork progress own) ts) (λ vs. TypedBy x.post g owner t f i (Ok (Opened g progress own)) vs) (λ vs taken. (refl, taken)) takes
 
 -- ---- an entry that asks a type
 module _ (b v : PortValue) (f i : ℕ) (t : PageType) (word : ℕ) (looks : SeesEntry b v f i t word) (owner g : ℕ) (want : PageType) (asks : demand_at t i word ≡ Typed g want) where
-  pub enters_had : (x w : PortValue) (k : ℕ) (answer : Result Entered Stop) → Gets {A = ℕ} v x g owner (Ok k) → Does x w (λ ts. TypedBy x.post.machine g want f i answer ts) → EntersFound b w f i t owner answer
+  pub enters_had : (x w : PortValue) (k : ℕ) (answer : Result Entered Stop) → Gets {A = ℕ} v x g owner (Ok k) → Does x w (λ ts. TypedBy x.post g owner want f i answer ts) → EntersFound b w f i t owner answer
   enters_had x w k answer got rest =
       enters_by b v f i t word looks owner (Typed g want) asks w answer
-      (first_had Entered v x g owner (λ ts. TypedBy v.post.machine g want f i answer ts) w k answer got
-      (does_before v x w (λ n ts. TypedBy n g want f i answer ts) (does_came v x (λ gs. GetsBy {A = ℕ} v.post.machine g owner (Ok k) gs) got) rest))
+      (first_had Entered v x g owner (λ ts. TypedBy v.post g owner want f i answer ts) w k answer got
+      (does_before v x w (λ q ts. TypedBy q g owner want f i answer ts) (does_came v x (λ gs. GetsBy {A = ℕ} v.post.machine g owner (Ok k) gs) got) rest))

@@ -36,7 +36,7 @@ use Rattle.table_entries.proofs.HandTyped.{gave_up, typed_from}
 -- ---- from the look on
 pub waits_from : (b v u x : PortValue) (f i owner : ℕ) (t : PageType) (word : ℕ) (n g : ℕ) (want : PageType) (own : Bool) (stamp : ℕ) (stop : Stop) → LooksNext b v f i owner t word → demand_at t i word ≡ Typed n want →
     (g ≡ n) × (g < v.post.machine.frames) → Serves v u (of_frame n owner None) [] → Holds v u (took g owner v.holdings) → TwinGet v u n owner (Ok g) → Gets v u n owner (Ok g) →
-    Serves u x (of_frame g owner (Some want)) [] → ShowsWait u x g owner want (Waiting own stamp stop) → WaitsWith u x g owner want own stamp → TwinTake u x g want (Ok (Waiting own stamp stop)) → TakesFound u x g want (Ok (Waiting own stamp stop)) →
+    Serves u x (of_frame g owner (Some want)) [] → ShowsWait u x g owner want (Waiting own stamp stop) → WaitsWith u x g owner want own stamp → TwinTake u x g want (Ok (Waiting own stamp stop)) → TakesFound u x g owner want (Ok (Waiting own stamp stop)) →
     LeftWaiting b x f i owner t g want own stamp stop
 waits_from b v u x f i owner t word n g want own stamp stop l asks is refers lent referred gets types shows waits typed takes =
     record {

@@ -85,7 +85,7 @@ module _ (b u v r : PortValue) (f i : ℕ) (t : PageType) (word g owner : ℕ) (
         (finds_unkept r.post.machine r.post.vcpu r.holdings (Kind g) x finds f i t seen.work seen.here seen.kind seen.table seen.last (Typed g want)
         (seen_asks r.post.machine r.post.vcpu r.holdings (Kind g) x finds f i t word seen ∙ asks) g want refl)
 
-  again_unowned : (y : PortValue) (way : Taken) → TakesFound r y g want (Ok way) → IsUnowned way
+  again_unowned : (y : PortValue) (way : Taken) → TakesFound r y g owner want (Ok way) → IsUnowned way
   unfolding Does
   again_unowned y way found =
       let a = found.2 in
@@ -93,7 +93,7 @@ module _ (b u v r : PortValue) (f i : ℕ) (t : PageType) (word g owner : ℕ) (
       unowned_by (kind_fields a.word) want (counts_there a.word finds) (unkept_there a.word finds) g a.word (standing_of (kind_fields a.word) want) way refl a.free a.way
 
   -- so it came
-  module _ (y : PortValue) (way : Taken) (found : TakesFound r y g want (Ok way)) where
+  module _ (y : PortValue) (way : Taken) (found : TakesFound r y g owner want (Ok way)) where
     pub again_in_work : (progress : ℕ) (own : Bool) → way ≡ InWork progress own → way ≡ InWork progress false
     again_in_work progress own is = is ∙ ap (λ k. InWork progress k) (subst IsUnowned is (again_unowned y way found))
 

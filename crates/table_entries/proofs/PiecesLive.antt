@@ -169,8 +169,8 @@ few_counts : (own : Bool) → (if own then 1 else 2) < 2 ^ 26
 few_counts true = omega arith
 few_counts false = omega arith
 
-module _ (v w : PortValue) (g : ℕ) (want : PageType) (typed : IsTrue (not (is_none want))) (ms : List Moment) (ran : Ran v ms w) (word : ℕ) where
-  goes_live : (marked own : Bool) (stamp : ℕ) (after before : List Visit) → GoesBy g want marked stamp own Counted after → visits ms ≡ after ++ before → EndsLive v w g
+module _ (v w : PortValue) (g owner : ℕ) (want : PageType) (typed : IsTrue (not (is_none want))) (ms : List Moment) (ran : Ran v ms w) (word : ℕ) where
+  goes_live : (marked own : Bool) (stamp : ℕ) (after before : List Visit) → GoesBy v.post g owner want marked stamp own Counted after → visits ms ≡ after ++ before → EndsLive v w g
   goes_live marked own stamp after before goes list =
       let ends = goes.next in
       let k = live_kind want (if own then 1 else 2) in
@@ -178,7 +178,7 @@ module _ (v w : PortValue) (g : ℕ) (want : PageType) (typed : IsTrue (not (is_
       (last_of v w ms (visit (Kind g) (Store (kind_write k)) ends.0) (goes.before ++ before) ran
       (list ∙ ap (λ (vs : List Visit). vs ++ before) (goes.list ∙ ap (λ (vs : List Visit). vs ++ goes.before) ends.1)))
 
-  by_standing : (s : Standing) (after before : List Visit) → (s ≡ stands.Counted → (kind_fields word).validated ≡ true) → TakesBy g want word s Counted after → visits ms ≡ after ++ before → EndsLive v w g
+  by_standing : (s : Standing) (after before : List Visit) → (s ≡ stands.Counted → (kind_fields word).validated ≡ true) → TakesBy v.post g owner want word s Counted after → visits ms ≡ after ++ before → EndsLive v w g
   by_standing stands.Counted after before live only list =
       let new = kind_write (next_kind (kind_fields word) want stands.Counted) in
       by_count word new (live refl) (last_of v w ms (visit (Kind g) (Cas word new) word) before ran (list ∙ ap (λ (vs : List Visit). vs ++ before) only))
@@ -188,11 +188,11 @@ module _ (v w : PortValue) (g : ℕ) (want : PageType) (typed : IsTrue (not (is_
       (list ∙ ap (λ (vs : List Visit). vs ++ before) (steps.list ∙ ap (λ (vs : List Visit). vs ++ steps.before) last.list) ∙ ap (λ (vs : List Visit). vs ++ before) (append_assoc last.after last.before steps.before)
       ∙ append_assoc last.after (last.before ++ steps.before) before ∙ ap (λ (vs : List Visit). last.after ++ vs) (append_assoc last.before steps.before before))
 
-pub ends_live : (v w : PortValue) (g : ℕ) (want : PageType) → IsTrue (not (is_none want)) → TakesFound v w g want (Ok Counted) → EndsLive v w g
+pub ends_live : (v w : PortValue) (g owner : ℕ) (want : PageType) → IsTrue (not (is_none want)) → TakesFound v w g owner want (Ok Counted) → EndsLive v w g
 unfolding Does
-ends_live v w g want typed takes =
+ends_live v w g owner want typed takes =
     let t = takes.2 in
-    by_standing v w g want typed takes.0 takes.1 t.word (standing_of (kind_fields t.word) want) t.steps.after t.steps.before (λ is. (when_counted (kind_fields t.word) want is).live) t.steps.next t.steps.list
+    by_standing v w g owner want typed takes.0 takes.1 t.word (standing_of (kind_fields t.word) want) t.steps.after t.steps.before (λ is. (when_counted (kind_fields t.word) want is).live) t.steps.next t.steps.list
 
 -- ---- behind the looks at the last recorded entry and at its frame
 module _ (b u v r y : PortValue) (f i : ℕ) (t : PageType) (word g owner : ℕ) (want : PageType) (looks : LooksAgain b u f i t word) (asks : demand_at t i word ≡ Typed g want) (other : LooksLive u v g false)

@@ -114,7 +114,7 @@ pub record LeftWaiting (b v : PortValue) (f i owner : ℕ) (t : PageType) (g : �
   pub shows : ShowsWait x v g owner want (Waiting own stamp stop)
   pub waits : WaitsWith x v g owner want own stamp
   pub typed : TwinTake x v g want (Ok (Waiting own stamp stop))
-  pub takes : TakesFound x v g want (Ok (Waiting own stamp stop))
+  pub takes : TakesFound x v g owner want (Ok (Waiting own stamp stop))
 
 abbrev pub HasWaited : PortValue → ℕ → ℕ → ℕ → PageType → ℕ → PageType → Bool → ℕ → Stop → Type 0
 HasWaited v f i owner t g want own stamp stop = (b : PortValue) × LeftWaiting b v f i owner t g want own stamp stop

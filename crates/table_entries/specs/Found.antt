@@ -12,7 +12,7 @@ use Rattle.xp_words.specs.declared.reply.Stop.{Stop}
 use Rattle.xp_words.specs.declared.reply.Stop.TheVariants.{Refused, Paused}
 use Rattle.xp_board.specs.declared.step.Act.TheVariants.{Load}
 use Rattle.xp_board.specs.Readings.{is_live_word}
-use Rattle.xp_board.specs.Told.{PortValue}
+use Rattle.xp_board.specs.Told.{Post, PortValue}
 use Rattle.answer_fits.specs.Visits.{Visit, visit, Does, Nothing, Only, Then}
 use Rattle.frame_words.specs.Freeing.{PutBy}
 use Rattle.frame_words.specs.Refs.{GetsBy, TakesFirst}
@@ -37,28 +37,28 @@ LeftBy g t true stamp (Refused r) vs = (is_read_first t ≡ false) × DeadBy g t
 LeftBy g t true stamp (Paused r) vs = ⊥
 LeftBy g t false stamp stop vs = SharedBy g t stamp vs
 
-pub record LeftAfter (g : ℕ) (t : PageType) (stop : Stop) (vs : List Visit) : Type 0 where
+pub record LeftAfter (q : Post) (g owner : ℕ) (t : PageType) (stop : Stop) (vs : List Visit) : Type 0 where
   pub own : Bool
   pub stamp : ℕ
-  pub steps : Then (λ ts. TakesOf g t (types.Waiting own stamp stop) ts) (λ ls. LeftBy g t own stamp stop ls) vs
+  pub steps : Then (λ ts. TakesOf q g owner t (types.Waiting own stamp stop) ts) (λ ls. LeftBy g t own stamp stop ls) vs
 
 -- It waits, and is recorded: partial by the entry's own type count.
-pub record UnsettledBy (g : ℕ) (t : PageType) (f i : ℕ) (stop : Stop) (vs : List Visit) : Type 0 where
+pub record UnsettledBy (q : Post) (g owner : ℕ) (t : PageType) (f i : ℕ) (stop : Stop) (vs : List Visit) : Type 0 where
   pub stamp : ℕ
   pub first : is_refused stop ≡ true → is_read_first t ≡ true
-  pub steps : Then (λ ts. TakesOf g t (types.Waiting true stamp stop) ts) (Then (StoresKind g (partial_kind t false true 0 stamp)) (Records f (i + 1))) vs
+  pub steps : Then (λ ts. TakesOf q g owner t (types.Waiting true stamp stop) ts) (Then (StoresKind g (partial_kind t false true 0 stamp)) (Records f (i + 1))) vs
 
 -- the type is not to be had, and the reference is given back
-abbrev pub RefusesBy : Machine → ℕ → PageType → Stop → List Visit → Type 0
-RefusesBy n g t e vs = Then (λ ts. TypeBy n g t (Err e) ts) (PutBy g) vs
+abbrev pub RefusesBy : Post → ℕ → ℕ → PageType → Stop → List Visit → Type 0
+RefusesBy q g owner t e vs = Then (λ ts. TypeBy q g owner t (Err e) ts) (PutBy g) vs
 
-abbrev pub TypedBy : Machine → ℕ → PageType → ℕ → ℕ → Result Entered Stop → List Visit → Type 0
-TypedBy n g t f i (Ok Recorded) vs = Then (λ ts. TakesOf g t types.Counted ts) (Records f (i + 1)) vs
-TypedBy n g t f i (Ok (Opened h progress own)) vs = (h ≡ g) × TakesOf g t (types.InWork progress own) vs
-TypedBy n g t f i (Ok (Unsettled stop)) vs = UnsettledBy g t f i stop vs
-TypedBy n g t f i (Err (Refused (refusals.Clock x))) vs = LeftAfter g t (Refused (refusals.Clock x)) vs
-TypedBy n g t f i (Err (Paused (Flush u stamp x))) vs = LeftAfter g t (Paused (Flush u stamp x)) vs
-TypedBy n g t f i (Err e) vs = RefusesBy n g t e vs
+abbrev pub TypedBy : Post → ℕ → ℕ → PageType → ℕ → ℕ → Result Entered Stop → List Visit → Type 0
+TypedBy q g owner t f i (Ok Recorded) vs = Then (λ ts. TakesOf q g owner t types.Counted ts) (Records f (i + 1)) vs
+TypedBy q g owner t f i (Ok (Opened h progress own)) vs = (h ≡ g) × TakesOf q g owner t (types.InWork progress own) vs
+TypedBy q g owner t f i (Ok (Unsettled stop)) vs = UnsettledBy q g owner t f i stop vs
+TypedBy q g owner t f i (Err (Refused (refusals.Clock x))) vs = LeftAfter q g owner t (Refused (refusals.Clock x)) vs
+TypedBy q g owner t f i (Err (Paused (Flush u stamp x))) vs = LeftAfter q g owner t (Paused (Flush u stamp x)) vs
+TypedBy q g owner t f i (Err e) vs = RefusesBy q g owner t e vs
 
 -- ---- the next entry
 abbrev pub ReadBy : Machine → ℕ → ℕ → ℕ → ℕ → Result Entered Stop → List Visit → Type 0
@@ -67,39 +67,39 @@ ReadBy n g owner f i (Ok _) vs = ⊥
 ReadBy n g owner f i (Err e) vs = GetsBy {A = ℕ} n g owner (Err e) vs
 
 -- behind the look, by what the entry asks
-abbrev pub EntersBy : Machine → ℕ → ℕ → ℕ → Result Entered Stop → ℕ → Demand → List Visit → Type 0
-EntersBy n f i owner answer word demands.Nothing vs = (answer ≡ Ok Recorded) × Records f (i + 1) vs
-EntersBy n f i owner answer word demands.Bad vs = (answer ≡ Err (Refused (refusals.Reserved f i word))) × Nothing vs
-EntersBy n f i owner answer word (demands.Read g) vs = ReadBy n g owner f i answer vs
-EntersBy n f i owner answer word (demands.Typed g t) vs = TakesFirst n g owner (λ ts. TypedBy n g t f i answer ts) answer vs
+abbrev pub EntersBy : Post → ℕ → ℕ → ℕ → Result Entered Stop → ℕ → Demand → List Visit → Type 0
+EntersBy q f i owner answer word demands.Nothing vs = (answer ≡ Ok Recorded) × Records f (i + 1) vs
+EntersBy q f i owner answer word demands.Bad vs = (answer ≡ Err (Refused (refusals.Reserved f i word))) × Nothing vs
+EntersBy q f i owner answer word (demands.Read g) vs = ReadBy q.machine g owner f i answer vs
+EntersBy q f i owner answer word (demands.Typed g t) vs = TakesFirst q.machine g owner (λ ts. TypedBy q g owner t f i answer ts) answer vs
 
-abbrev pub EnteredBy : Machine → ℕ → ℕ → PageType → ℕ → Result Entered Stop → List Visit → Type 0
-EnteredBy n f i t owner answer vs = (word : ℕ) × Then (Only (saw_cell f i word)) (λ es. EntersBy n f i owner answer word (demand_at t i word) es) vs
+abbrev pub EnteredBy : Post → ℕ → ℕ → PageType → ℕ → Result Entered Stop → List Visit → Type 0
+EnteredBy q f i t owner answer vs = (word : ℕ) × Then (Only (saw_cell f i word)) (λ es. EntersBy q f i owner answer word (demand_at t i word) es) vs
 
 abbrev pub EntersFound : PortValue → PortValue → ℕ → ℕ → PageType → ℕ → Result Entered Stop → Type 0
-EntersFound v w f i t owner answer = Does v w (λ vs. EnteredBy v.post.machine f i t owner answer vs)
+EntersFound v w f i t owner answer = Does v w (λ vs. EnteredBy v.post f i t owner answer vs)
 
 -- ---- the last recorded entry again
-abbrev pub TypedAgain : Machine → ℕ → PageType → Result Resumed Stop → List Visit → Type 0
-TypedAgain n g t (Ok again.Settled) vs = ⊥
-TypedAgain n g t (Ok (again.Taken f)) vs = (f ≡ g) × TakesOf g t types.Counted vs
-TypedAgain n g t (Ok (again.Opened f progress)) vs = (f ≡ g) × TakesOf g t (types.InWork progress false) vs
-TypedAgain n g t (Ok (again.Waiting f stamp stop)) vs = (f ≡ g) × TakesOf g t (types.Waiting false stamp stop) vs
-TypedAgain n g t (Err e) vs = RefusesBy n g t e vs
+abbrev pub TypedAgain : Post → ℕ → ℕ → PageType → Result Resumed Stop → List Visit → Type 0
+TypedAgain q g owner t (Ok again.Settled) vs = ⊥
+TypedAgain q g owner t (Ok (again.Taken f)) vs = (f ≡ g) × TakesOf q g owner t types.Counted vs
+TypedAgain q g owner t (Ok (again.Opened f progress)) vs = (f ≡ g) × TakesOf q g owner t (types.InWork progress false) vs
+TypedAgain q g owner t (Ok (again.Waiting f stamp stop)) vs = (f ≡ g) × TakesOf q g owner t (types.Waiting false stamp stop) vs
+TypedAgain q g owner t (Err e) vs = RefusesBy q g owner t e vs
 
 -- the frame was found live; or the machine has no such frame, or it was found otherwise, and its type is taken again
-pub data LastBy (n : Machine) (g : ℕ) (t : PageType) (owner : ℕ) (answer : Result Resumed Stop) (vs : List Visit) : Type 0 where
-  settled : (x : ℕ) → g < n.frames → is_live_word x ≡ true → answer ≡ Ok again.Settled → Only (saw_kind g x) vs → LastBy n g t owner answer vs
-  outside : n.frames ≤ g → TakesFirst n g owner (λ ts. TypedAgain n g t answer ts) answer vs → LastBy n g t owner answer vs
-  other : (x : ℕ) → g < n.frames → is_live_word x ≡ false → Then (Only (saw_kind g x)) (λ gs. TakesFirst n g owner (λ ts. TypedAgain n g t answer ts) answer gs) vs →
-      LastBy n g t owner answer vs
+pub data LastBy (q : Post) (g : ℕ) (t : PageType) (owner : ℕ) (answer : Result Resumed Stop) (vs : List Visit) : Type 0 where
+  settled : (x : ℕ) → g < q.machine.frames → is_live_word x ≡ true → answer ≡ Ok again.Settled → Only (saw_kind g x) vs → LastBy q g t owner answer vs
+  outside : q.machine.frames ≤ g → TakesFirst q.machine g owner (λ ts. TypedAgain q g owner t answer ts) answer vs → LastBy q g t owner answer vs
+  other : (x : ℕ) → g < q.machine.frames → is_live_word x ≡ false → Then (Only (saw_kind g x)) (λ gs. TakesFirst q.machine g owner (λ ts. TypedAgain q g owner t answer ts) answer gs) vs →
+      LastBy q g t owner answer vs
 
-abbrev pub ResumesBy : Machine → ℕ → Result Resumed Stop → Demand → List Visit → Type 0
-ResumesBy n owner answer (demands.Typed g t) vs = LastBy n g t owner answer vs
-ResumesBy n owner answer _ vs = (answer ≡ Ok again.Settled) × Nothing vs
+abbrev pub ResumesBy : Post → ℕ → Result Resumed Stop → Demand → List Visit → Type 0
+ResumesBy q owner answer (demands.Typed g t) vs = LastBy q g t owner answer vs
+ResumesBy q owner answer _ vs = (answer ≡ Ok again.Settled) × Nothing vs
 
-abbrev pub ResumedBy : Machine → ℕ → ℕ → PageType → ℕ → Result Resumed Stop → List Visit → Type 0
-ResumedBy n f i t owner answer vs = (word : ℕ) × Then (Only (saw_cell f i word)) (λ rs. ResumesBy n owner answer (demand_at t i word) rs) vs
+abbrev pub ResumedBy : Post → ℕ → ℕ → PageType → ℕ → Result Resumed Stop → List Visit → Type 0
+ResumedBy q f i t owner answer vs = (word : ℕ) × Then (Only (saw_cell f i word)) (λ rs. ResumesBy q owner answer (demand_at t i word) rs) vs
 
 abbrev pub ResumesFound : PortValue → PortValue → ℕ → ℕ → PageType → ℕ → Result Resumed Stop → Type 0
-ResumesFound v w f i t owner answer = Does v w (λ vs. ResumedBy v.post.machine f i t owner answer vs)
+ResumesFound v w f i t owner answer = Does v w (λ vs. ResumedBy v.post f i t owner answer vs)

@@ -62,14 +62,14 @@ returns-in-Err-clause-hand g c b e =
 
 pub returns-in-Ok-clause-visits : goal.returns-in-Ok-clause-visits
 returns-in-Ok-clause-visits g c =
-    goes_behind (g.P.Port.value c.args.port.now) (g.P.Port.value c.clear_stale.new.port) (g.P.Port.value c.finish.new.port) c.args.frame c.args.want c.args.marked c.args.own c.args.kind.number (progress_of c.args.kind) c.finish.result c.finish.ensures.done
+    goes_behind (g.P.Port.value c.args.port.now) (g.P.Port.value c.clear_stale.new.port) (g.P.Port.value c.finish.new.port) c.args.frame c.args.owner c.args.want c.args.marked c.args.own c.args.kind.number (progress_of c.args.kind) c.finish.result c.finish.ensures.done
     c.if-marked.true c.in-Ok.ensures.visits c.finish.ensures.visits
 
 pub returns-in-Err-clause-visits : goal.returns-in-Err-clause-visits
 returns-in-Err-clause-visits g c =
-    goes_nowhere (g.P.Port.value c.args.port.now) (g.P.Port.value c.clear_stale.new.port) c.args.frame c.args.want c.args.marked c.args.own c.args.kind.number (progress_of c.args.kind) c.in-Err.stop c.if-marked.true c.in-Err.ensures.visits
+    goes_nowhere (g.P.Port.value c.args.port.now) (g.P.Port.value c.clear_stale.new.port) c.args.frame c.args.owner c.args.want c.args.marked c.args.own c.args.kind.number (progress_of c.args.kind) c.in-Err.stop c.if-marked.true c.in-Err.ensures.visits
 
 pub returns-else-marked-clause-visits : goal.returns-else-marked-clause-visits
 returns-else-marked-clause-visits g c =
-    goes_at_once (g.P.Port.value c.args.port.now) (g.P.Port.value c.finish-else-marked.new.port) c.args.frame c.args.want c.args.marked c.args.own c.args.kind.number (progress_of c.args.kind) c.finish-else-marked.result c.if-marked.false
+    goes_at_once (g.P.Port.value c.args.port.now) (g.P.Port.value c.finish-else-marked.new.port) c.args.frame c.args.owner c.args.want c.args.marked c.args.own c.args.kind.number (progress_of c.args.kind) c.finish-else-marked.result c.if-marked.false
     c.finish-else-marked.ensures.visits

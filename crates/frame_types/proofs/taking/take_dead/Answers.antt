@@ -87,7 +87,7 @@ returns-in-Ok-clause-found g c b l =
     let w = g.P.Port.value c.go_on.new.port in
     dead_found b (g.P.Port.value c.args.port.now) c.args.frame c.args.owner c.args.want c.args.word l k c.read_kind-kind.ensures (read_is c.args.word k c.read_kind-kind.ensures).1
     x w c.go_on.result (c.requires.stands c.read_kind-kind.result c.read_kind-kind.ensures) c.in-Ok.ensures.moves
-    (subst (λ m. Proceeds x w c.args.frame c.args.want m k.number true (progress_of k) c.go_on.result) c.is_stale_for-marked.ensures c.go_on.ensures.visits)
+    (subst (λ m. Proceeds x w c.args.frame c.args.owner c.args.want m k.number true (progress_of k) c.go_on.result) c.is_stale_for-marked.ensures c.go_on.ensures.visits)
 
 pub returns-in-Err-clause-found : goal.returns-in-Err-clause-found
 returns-in-Err-clause-found g c b l =

@@ -62,7 +62,7 @@ wait_entry-requires-clause-waits g c =
     let takes = way.ensures.takes w.x w.looked in
     let waiting = waits_from b w.u w.x y at.table at.index at.owner at.kind w.word f f c.args.want way.own way.stamp way.stop w.looks w.asks (refl, w.inside) w.refers w.lent w.referred w.gets takes.serves
     (subst (λ k. ShowsWait w.x y f at.owner c.args.want k) way.field-0-is takes.waits) (subst (λ k. TakesAs w.x y f at.owner c.args.want k) way.field-0-is takes.hand)
-    (subst (λ k. TwinTake w.x y f c.args.want (Ok k)) way.field-0-is (way.ensures.plain w.x w.looked)) (subst (λ k. TakesFound w.x y f c.args.want (Ok k)) way.field-0-is (way.ensures.found w.x w.looked)) in
+    (subst (λ k. TwinTake w.x y f c.args.want (Ok k)) way.field-0-is (way.ensures.plain w.x w.looked)) (subst (λ k. TakesFound w.x y f at.owner c.args.want (Ok k)) way.field-0-is (way.ensures.found w.x w.looked)) in
     (b, waiting)
 
 pub returns-in-Ok-Counted-clause-hand : goal.returns-in-Ok-Counted-clause-hand
@@ -95,7 +95,7 @@ returns-in-Ok-Waiting-clause-hand g c b w =
     let takes = way.ensures.takes w.x w.looked in
     let waiting = waits_from b w.u w.x y at.table at.index at.owner at.kind w.word f f c.args.want way.own way.stamp way.stop w.looks w.asks (refl, w.inside) w.refers w.lent w.referred w.gets takes.serves
     (subst (λ k. ShowsWait w.x y f at.owner c.args.want k) way.field-0-is takes.waits) (subst (λ k. TakesAs w.x y f at.owner c.args.want k) way.field-0-is takes.hand)
-    (subst (λ k. TwinTake w.x y f c.args.want (Ok k)) way.field-0-is (way.ensures.plain w.x w.looked)) (subst (λ k. TakesFound w.x y f c.args.want (Ok k)) way.field-0-is (way.ensures.found w.x w.looked)) in
+    (subst (λ k. TwinTake w.x y f c.args.want (Ok k)) way.field-0-is (way.ensures.plain w.x w.looked)) (subst (λ k. TakesFound w.x y f at.owner c.args.want (Ok k)) way.field-0-is (way.ensures.found w.x w.looked)) in
     c.wait_entry.ensures.hand b waiting
 
 pub returns-in-Err-clause-hand : goal.returns-in-Err-clause-hand
@@ -154,7 +154,7 @@ returns-in-Ok-Waiting-clause-enters g c b w pages =
     let takes = way.ensures.takes w.x w.looked in
     let waiting = waits_from b w.u w.x y at.table at.index at.owner at.kind w.word f f c.args.want way.own way.stamp way.stop w.looks w.asks (refl, w.inside) w.refers w.lent w.referred w.gets takes.serves
     (subst (λ k. ShowsWait w.x y f at.owner c.args.want k) way.field-0-is takes.waits) (subst (λ k. TakesAs w.x y f at.owner c.args.want k) way.field-0-is takes.hand)
-    (subst (λ k. TwinTake w.x y f c.args.want (Ok k)) way.field-0-is (way.ensures.plain w.x w.looked)) (subst (λ k. TakesFound w.x y f c.args.want (Ok k)) way.field-0-is (way.ensures.found w.x w.looked)) in
+    (subst (λ k. TwinTake w.x y f c.args.want (Ok k)) way.field-0-is (way.ensures.plain w.x w.looked)) (subst (λ k. TakesFound w.x y f at.owner c.args.want (Ok k)) way.field-0-is (way.ensures.found w.x w.looked)) in
     c.wait_entry.ensures.enters b waiting pages
 
 pub returns-in-Ok-Counted-clause-plain : goal.returns-in-Ok-Counted-clause-plain
@@ -210,7 +210,7 @@ returns-in-Ok-Waiting-clause-plain g c b w =
     let takes = way.ensures.takes w.x w.looked in
     let waiting = waits_from b w.u w.x y at.table at.index at.owner at.kind w.word f f c.args.want way.own way.stamp way.stop w.looks w.asks (refl, w.inside) w.refers w.lent w.referred w.gets takes.serves
     (subst (λ k. ShowsWait w.x y f at.owner c.args.want k) way.field-0-is takes.waits) (subst (λ k. TakesAs w.x y f at.owner c.args.want k) way.field-0-is takes.hand)
-    (subst (λ k. TwinTake w.x y f c.args.want (Ok k)) way.field-0-is (way.ensures.plain w.x w.looked)) (subst (λ k. TakesFound w.x y f c.args.want (Ok k)) way.field-0-is (way.ensures.found w.x w.looked)) in
+    (subst (λ k. TwinTake w.x y f c.args.want (Ok k)) way.field-0-is (way.ensures.plain w.x w.looked)) (subst (λ k. TakesFound w.x y f at.owner c.args.want (Ok k)) way.field-0-is (way.ensures.found w.x w.looked)) in
     c.wait_entry.ensures.plain b waiting
 
 pub returns-in-Ok-Counted-clause-found : goal.returns-in-Ok-Counted-clause-found
@@ -221,7 +221,7 @@ returns-in-Ok-Counted-clause-found g c b w =
     let f = c.args.frame in
     let z = g.P.Port.value c.record_entry.new.port in
     enters_had b w.u at.table at.index at.kind w.word w.looks.looks at.owner f c.args.want w.asks w.x z f (Ok Recorded) w.gets
-    (typed_recorded w.x y z f c.args.want at.table at.index c.record_entry.result (subst (λ k. TakesFound w.x y f c.args.want (Ok k)) c.in-Ok-Counted.field-0-is (c.in-Ok-Counted.ensures.found w.x w.looked)) c.record_entry.ensures.moves)
+    (typed_recorded w.x y z f at.owner c.args.want at.table at.index c.record_entry.result (subst (λ k. TakesFound w.x y f at.owner c.args.want (Ok k)) c.in-Ok-Counted.field-0-is (c.in-Ok-Counted.ensures.found w.x w.looked)) c.record_entry.ensures.moves)
 
 pub returns-in-Ok-InWork-clause-found : goal.returns-in-Ok-InWork-clause-found
 returns-in-Ok-InWork-clause-found g c b w =
@@ -231,7 +231,7 @@ returns-in-Ok-InWork-clause-found g c b w =
     let f = c.args.frame in
     let z = y in
     enters_had b w.u at.table at.index at.kind w.word w.looks.looks at.owner f c.args.want w.asks w.x z f (Ok (Opened f c.in-Ok-InWork.progress c.in-Ok-InWork.own)) w.gets
-    (typed_opened w.x y f c.args.want at.table at.index c.in-Ok-InWork.progress c.in-Ok-InWork.own (subst (λ k. TakesFound w.x y f c.args.want (Ok k)) c.in-Ok-InWork.field-0-is (c.in-Ok-InWork.ensures.found w.x w.looked)))
+    (typed_opened w.x y f at.owner c.args.want at.table at.index c.in-Ok-InWork.progress c.in-Ok-InWork.own (subst (λ k. TakesFound w.x y f at.owner c.args.want (Ok k)) c.in-Ok-InWork.field-0-is (c.in-Ok-InWork.ensures.found w.x w.looked)))
 
 pub returns-in-Err-clause-found : goal.returns-in-Err-clause-found
 returns-in-Err-clause-found g c b w =
@@ -241,7 +241,7 @@ returns-in-Err-clause-found g c b w =
     let f = c.args.frame in
     let z = g.P.Port.value c.put_ref.new.port in
     enters_had b w.u at.table at.index at.kind w.word w.looks.looks at.owner f c.args.want w.asks w.x z f (Err c.in-Err.stop) w.gets
-    (typed_stopped w.x y z f c.args.want at.table at.index c.in-Err.stop (c.in-Err.ensures.found w.x w.looked) c.put_ref.ensures.puts)
+    (typed_stopped w.x y z f at.owner c.args.want at.table at.index c.in-Err.stop (c.in-Err.ensures.found w.x w.looked) c.put_ref.ensures.puts)
 
 pub returns-in-Ok-Waiting-clause-found : goal.returns-in-Ok-Waiting-clause-found
 returns-in-Ok-Waiting-clause-found g c b w =
@@ -253,7 +253,7 @@ returns-in-Ok-Waiting-clause-found g c b w =
     let takes = way.ensures.takes w.x w.looked in
     let waiting = waits_from b w.u w.x y at.table at.index at.owner at.kind w.word f f c.args.want way.own way.stamp way.stop w.looks w.asks (refl, w.inside) w.refers w.lent w.referred w.gets takes.serves
     (subst (λ k. ShowsWait w.x y f at.owner c.args.want k) way.field-0-is takes.waits) (subst (λ k. TakesAs w.x y f at.owner c.args.want k) way.field-0-is takes.hand)
-    (subst (λ k. TwinTake w.x y f c.args.want (Ok k)) way.field-0-is (way.ensures.plain w.x w.looked)) (subst (λ k. TakesFound w.x y f c.args.want (Ok k)) way.field-0-is (way.ensures.found w.x w.looked)) in
+    (subst (λ k. TwinTake w.x y f c.args.want (Ok k)) way.field-0-is (way.ensures.plain w.x w.looked)) (subst (λ k. TakesFound w.x y f at.owner c.args.want (Ok k)) way.field-0-is (way.ensures.found w.x w.looked)) in
     c.wait_entry.ensures.found b waiting
 
 pub take_looked-requires-clause-other : goal.take_looked-requires-clause-other

@@ -178,7 +178,7 @@ returns-in_err-frame-clause-found g c b word next asks =
     let answer = err_from_is_err_and c.from_residual.result c.from_residual.ensures.1 in
     subst (λ (r : Result Entered Stop). EntersFound b x at.table at.index at.kind at.owner r) (sym (answer.1 ∙ ap Err answer.2))
     (enters_by b v at.table at.index at.kind word next.looks at.owner (Typed c.args.frame c.args.want) asks x (Err e)
-    (first_stopped Entered v x c.args.frame at.owner (λ ts. TypedBy v.post.machine c.args.frame c.args.want at.table at.index (Err e) ts) e c.in_err-frame.ensures.gets))
+    (first_stopped Entered v x c.args.frame at.owner (λ ts. TypedBy v.post c.args.frame at.owner c.args.want at.table at.index (Err e) ts) e c.in_err-frame.ensures.gets))
 
 pub returns-in-Ok-Counted-clause-found : goal.returns-in-Ok-Counted-clause-found
 returns-in-Ok-Counted-clause-found g c b word next asks =
@@ -190,7 +190,7 @@ returns-in-Ok-Counted-clause-found g c b word next asks =
     let f = c.in_ok-frame.frame in
     let same = sym c.in_ok-frame.ensures.frame.0 in
     enters_had b v at.table at.index at.kind word next.looks at.owner f c.args.want (asks ∙ ap (λ k. Typed k c.args.want) same) x w f (Ok Recorded) (subst (λ k. Gets v x k at.owner (Ok f)) same c.in_ok-frame.ensures.gets)
-    (typed_recorded x y w f c.args.want at.table at.index c.record_entry.result (subst (λ (k : Counting). CountsAs (Ok k) (λ r. TakesFound x y f c.args.want r) (λ n. IsNotLive c.args.want n)) c.in-Ok-Counted.field-0-is c.in-Ok-Counted.ensures.found) c.record_entry.ensures.moves)
+    (typed_recorded x y w f at.owner c.args.want at.table at.index c.record_entry.result (subst (λ (k : Counting). CountsAs (Ok k) (λ r. TakesFound x y f at.owner c.args.want r) (λ n. IsNotLive c.args.want n)) c.in-Ok-Counted.field-0-is c.in-Ok-Counted.ensures.found) c.record_entry.ensures.moves)
 
 pub returns-in-Err-clause-found : goal.returns-in-Err-clause-found
 returns-in-Err-clause-found g c b word next asks =
@@ -203,7 +203,7 @@ returns-in-Err-clause-found g c b word next asks =
     let e = c.in-Err.stop in
     let same = sym c.in_ok-frame.ensures.frame.0 in
     enters_had b v at.table at.index at.kind word next.looks at.owner f c.args.want (asks ∙ ap (λ k. Typed k c.args.want) same) x z f (Err e) (subst (λ k. Gets v x k at.owner (Ok f)) same c.in_ok-frame.ensures.gets)
-    (typed_stopped x y z f c.args.want at.table at.index e c.in-Err.ensures.found c.put_ref.ensures.puts)
+    (typed_stopped x y z f at.owner c.args.want at.table at.index e c.in-Err.ensures.found c.put_ref.ensures.puts)
 
 pub returns-in-Ok-Found-clause-hand : goal.returns-in-Ok-Found-clause-hand
 returns-in-Ok-Found-clause-hand g c b word next is = c.take_found.ensures.hand b (found_from b (g.P.Port.value c.args.port.now) (g.P.Port.value c.get_ref.new.port) (g.P.Port.value c.count_live.new.port) c.args.at.table c.args.at.index c.args.at.owner c.args.at.kind word c.args.frame c.in_ok-frame.frame c.args.want c.in-Ok-Found.word next is c.in_ok-frame.ensures.frame c.in_ok-frame.ensures.serves c.in_ok-frame.ensures.hand c.in_ok-frame.ensures.plain c.in_ok-frame.ensures.gets c.in-Ok-Found.field-0 c.in-Ok-Found.field-0-is c.in-Ok-Found.ensures.takes c.in-Ok-Found.ensures.plain)

@@ -152,7 +152,7 @@ returns-in-Ok-Counted-clause-resumes g c b u word looks is other pages =
     resumes_taken b u v at.table at.index at.owner pages at.kind word f c.args.want looks asks off x refers y way.ensures.serves
     (gets_on b u v x y at.table at.index at.kind word f at.owner c.args.want looks asks off c.in_ok-frame.ensures.frame.1 (serves_came v x (of_frame f at.owner None) [] refers) c.in_ok-frame.ensures.hand
     (subst (λ k. TakesAs x y f at.owner c.args.want k) way.field-0-is way.ensures.hand)
-    (ends_live x y f c.args.want (asks_some at.kind at.index word f c.args.want asks) (subst (λ k. TakesFound x y f c.args.want (Ok k)) way.field-0-is way.ensures.found)))
+    (ends_live x y f at.owner c.args.want (asks_some at.kind at.index word f c.args.want asks) (subst (λ k. TakesFound x y f at.owner c.args.want (Ok k)) way.field-0-is way.ensures.found)))
 
 pub returns-in-Ok-InWork-clause-resumes : goal.returns-in-Ok-InWork-clause-resumes
 returns-in-Ok-InWork-clause-resumes g c b u word looks is other pages =
@@ -281,7 +281,7 @@ returns-in-Ok-Counted-clause-found g c b u word looks asks off =
     let way = c.in-Ok-Counted in
     let same = sym c.in_ok-frame.ensures.frame.0 in
     resumes_had b u at.table at.index at.kind word looks.looks at.owner f c.args.want (asks ∙ ap (λ k. Typed k c.args.want) same) v (subst (λ k. LooksLive u v k false) same off) x y f (Ok (again.Taken f))
-    (subst (λ k. Gets v x k at.owner (Ok f)) same c.in_ok-frame.ensures.gets) (retaken x y f c.args.want (subst (λ k. TakesFound x y f c.args.want (Ok k)) way.field-0-is way.ensures.found))
+    (subst (λ k. Gets v x k at.owner (Ok f)) same c.in_ok-frame.ensures.gets) (retaken x y f at.owner c.args.want (subst (λ k. TakesFound x y f at.owner c.args.want (Ok k)) way.field-0-is way.ensures.found))
 
 pub returns-in-Ok-InWork-clause-found : goal.returns-in-Ok-InWork-clause-found
 returns-in-Ok-InWork-clause-found g c b u word looks asks live =
@@ -297,7 +297,7 @@ returns-in-Ok-InWork-clause-found g c b u word looks asks live =
     let way = c.in-Ok-InWork in
     let is = again_in_work b u v r at.table at.index at.kind word f at.owner c.args.want looks asked off got.hand x way.field-0 way.ensures.found way.progress _ way.field-0-is in
     resumes_had b u at.table at.index at.kind word looks.looks at.owner f c.args.want asked v off r x f (Ok (again.Opened f way.progress)) (subst (λ k. Gets v r k at.owner (Ok f)) same got.gets)
-    (reopened r x f c.args.want way.progress (subst (λ k. TakesFound r x f c.args.want (Ok k)) is way.ensures.found))
+    (reopened r x f at.owner c.args.want way.progress (subst (λ k. TakesFound r x f at.owner c.args.want (Ok k)) is way.ensures.found))
 
 pub returns-in-Ok-Waiting-clause-found : goal.returns-in-Ok-Waiting-clause-found
 returns-in-Ok-Waiting-clause-found g c b u word looks asks live =
@@ -313,7 +313,7 @@ returns-in-Ok-Waiting-clause-found g c b u word looks asks live =
     let way = c.in-Ok-Waiting in
     let is = again_waits b u v r at.table at.index at.kind word f at.owner c.args.want looks asked off got.hand x way.field-0 way.ensures.found _ way.stamp way.stop way.field-0-is in
     resumes_had b u at.table at.index at.kind word looks.looks at.owner f c.args.want asked v off r x f (Ok (again.Waiting f way.stamp way.stop)) (subst (λ k. Gets v r k at.owner (Ok f)) same got.gets)
-    (rewaited r x f c.args.want way.stamp way.stop (subst (λ k. TakesFound r x f c.args.want (Ok k)) is way.ensures.found))
+    (rewaited r x f at.owner c.args.want way.stamp way.stop (subst (λ k. TakesFound r x f at.owner c.args.want (Ok k)) is way.ensures.found))
 
 pub returns-in-Err-clause-found : goal.returns-in-Err-clause-found
 returns-in-Err-clause-found g c b u word looks asks off =
