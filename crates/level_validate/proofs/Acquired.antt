@@ -130,9 +130,9 @@ module _ (v b : PortValue) (f owner : ℕ) (idle : IsIdle v) (referred : Holds v
     taken_ready own want progress o zero = ready_by x o.work [] (works_taken own want progress o) (none_unsettled (sizes_of x.post.machine) x.holdings o.work (o.settled zero))
 
 pub carries_taken : (v b x : PortValue) (f owner level progress : ℕ) (own : Bool) (want : PageType) → IsIdle v → Holds v b (took f owner v.holdings) → want ≡ level_type level → 1 ≤ level → level ≤ 4 → f < v.post.machine.frames →
-    WorksFrom b x f owner want progress own → TakesFound b x f want (Ok (InWork progress own)) → Carries v x owner (taken_table f level progress own ∷ [])
+    WorksFrom b x f owner want progress own → TakesFound b x f owner want (Ok (InWork progress own)) → Carries v x owner (taken_table f level progress own ∷ [])
 carries_taken v b x f owner level progress own want idle referred is low high inside o found =
-    taken_carries v b f owner idle referred x level progress (taken_open b x f want progress own found).few low high inside own (subst (λ k. WorksFrom b x f owner k progress own) is o)
+    taken_carries v b f owner idle referred x level progress (taken_open b x f owner want progress own found).few low high inside own (subst (λ k. WorksFrom b x f owner k progress own) is o)
 
 -- ---- by the answer
 unwound_named : (g level progress : ℕ) (own kept : Bool) (h : Holdings) → named_unless kept (taken_table g level progress own) h ≡ named_if g own kept h

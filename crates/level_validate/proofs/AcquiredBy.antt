@@ -42,24 +42,24 @@ module _ (v : PortValue) (f owner level : ℕ) (says : ℕ → Bool) (before ris
     of_frame_asked w after more a = subst (λ (n : ℕ). AcquiresBy v w f owner level says before after risen more (Ok n)) (sym same) a
 
     -- ---- its type is not to be had
-    pub untyped_by : (w : PortValue) (e : Stop) → IsTypeStop e → TakesFound u x g k (Err e) → TwinTake u x g k (Err e) → Stops u x (of_frame g owner (Some k)) e → Puts x w g → (is_telling x ≡ true → Leaves w (put g (told_word x))) →
+    pub untyped_by : (w : PortValue) (e : Stop) → IsTypeStop e → TakesFound u x g owner k (Err e) → TwinTake u x g k (Err e) → Stops u x (of_frame g owner (Some k)) e → Puts x w g → (is_telling x ≡ true → Leaves w (put g (told_word x))) →
         AcquiresBy v w f owner level says before before risen risen (Err e)
     untyped_by w e kind found take stops puts leaves =
         unasked w (Err e) (entry_undue e (type_kinds e kind))
         (Acquired.untyped u x w e got
         (record {
-          found = subst (λ (j : PageType). TakesFound u x f j (Err e)) is (subst (λ (n : ℕ). TakesFound u x n k (Err e)) same found);
+          found = subst (λ (j : PageType). TakesFound u x f owner j (Err e)) is (subst (λ (n : ℕ). TakesFound u x n owner k (Err e)) same found);
           plain = subst (λ (j : PageType). TwinTake u x f j (Err e)) is (subst (λ (n : ℕ). TwinTake u x n k (Err e)) same take);
           stops = subst (λ (j : PageType). Stops u x (of_frame f owner (Some j)) e) is (subst (λ (n : ℕ). Stops u x (of_frame n owner (Some k)) e) same stops);
           waits = tt;
         })
         (record { found = subst (λ (n : ℕ). Puts x w n) same puts; plain = λ telling. subst (λ (n : ℕ). Leaves w (put n (told_word x))) same (leaves telling) }))
 
-    module _ (b : Taken) (found : TakesFound u x g k (Ok b)) (take : TwinTake u x g k (Ok b)) (waits : ShowsWait u x g owner k b) where
+    module _ (b : Taken) (found : TakesFound u x g owner k (Ok b)) (take : TwinTake u x g k (Ok b)) (waits : ShowsWait u x g owner k b) where
       took : (a : Taken) → b ≡ a → TookType u x f owner level (Ok a)
       took a so =
           record {
-            found = subst (λ (j : PageType). TakesFound u x f j (Ok a)) is (subst (λ (n : ℕ). TakesFound u x n k (Ok a)) same (subst (λ (t : Taken). TakesFound u x g k (Ok t)) so found));
+            found = subst (λ (j : PageType). TakesFound u x f owner j (Ok a)) is (subst (λ (n : ℕ). TakesFound u x n owner k (Ok a)) same (subst (λ (t : Taken). TakesFound u x g owner k (Ok t)) so found));
             plain = subst (λ (j : PageType). TwinTake u x f j (Ok a)) is (subst (λ (n : ℕ). TwinTake u x n k (Ok a)) same (subst (λ (t : Taken). TwinTake u x g k (Ok t)) so take));
             stops = tt;
             waits = subst (λ (j : PageType). ShowsWait u x f owner j a) is (subst (λ (n : ℕ). ShowsWait u x n owner k a) same (subst (λ (t : Taken). ShowsWait u x g owner k t) so waits));

@@ -23,17 +23,18 @@ use Rattle.xp_words.specs.declared.reply.Stop.{Stop}
 use Rattle.xp_words.specs.declared.reply.Stop.TheVariants.{Refused, Paused}
 use Rattle.xp_board.specs.declared.step.Act.TheVariants.{Load, Max, Store}
 use Rattle.xp_board.specs.Lists.{EachOf}
-use Rattle.xp_board.specs.Readings.{is_dead}
-use Rattle.xp_board.specs.Told.{Finds, PortValue}
+use Rattle.xp_board.specs.Readings.{domain_of, is_dead}
+use Rattle.xp_board.specs.Told.{Finds, Post, PortValue}
 use Rattle.step_maker.specs.Moves.{Met}
 use Rattle.step_maker.proofs.Coming.{came_self}
 use Rattle.answer_fits.specs.Finding.{FoundAt}
+use Rattle.answer_fits.specs.Reasons.{OfOwner, Those, Whose}
 use Rattle.answer_fits.specs.Visits.{Does, Only, Then, Visit, Where, visit, visits}
 use Rattle.answer_fits.proofs.Piecing.{each_append}
 use Rattle.flush_words.specs.Flushing as flushing
 use Rattle.flush_words.specs.Flushing.{FlushedBy}
 use Rattle.flush_waits.specs.Listing as waits
-use Rattle.flush_waits.specs.Listing.{LooksBy, Slow, WaitedFor, WaitsBy, WeighsBy, saw_flushed, saw_run}
+use Rattle.flush_waits.specs.Listing.{LooksAt, Slow, WaitedFor, WaitsOn, WeighsBy, saw_flushed, saw_run}
 use Rattle.frame_words.specs.Freeing.{PutBy}
 use Rattle.frame_words.specs.Refs.{GetsBy, Raises, TakesFirst, UnreferredBy, had, outside as unknown, raises_refs, refused, saw_refs, stopped, Gets}
 use Rattle.kind_words.specs.Kinds.{dead_kind, live_kind, partial_kind, work_kind}
@@ -93,9 +94,10 @@ records_plain : (f upto : ℕ) (vs : List Visit) → Records f upto vs → Plain
 records_plain f upto vs a = only_plain (records_at f upto a.0) refl vs a.1
 
 -- ---- waits
-weighs_plain : (vs : List Visit) → WeighsBy vs → Plain vs
-weighs_plain vs (inl none) = nothing_plain vs none
-weighs_plain vs (inr (d, x, one)) = only_plain (visit (Priv d) Load x) refl vs one
+weighs_plain : (n : Machine) (whose : Whose) (u : ℕ) (reaches : Bool) (vs : List Visit) → WeighsBy n whose u reaches vs → Plain vs
+weighs_plain n (OfOwner owner) u reaches vs (inl a) = nothing_plain vs a.2
+weighs_plain n (OfOwner owner) u reaches vs (inr a) = only_plain (visit (Priv (domain_of n u)) Load a.1.0) refl vs a.1.2
+weighs_plain n (Those means) u reaches vs a = nothing_plain vs a.1
 
 flushed_plain : (u : ℕ) (answer : Result (Unit {0}) Refusal) (vs : List Visit) → FlushedBy u answer vs → Plain vs
 unfolding EachOf
@@ -103,7 +105,7 @@ flushed_plain u answer vs flushing.none = (refl, tt)
 flushed_plain u answer vs (flushing.once clock found to before) = (refl, (refl, (refl, tt)))
 
 -- one vCPU that is waited for
-module _ (stamp u : ℕ) (vs : List Visit) where
+module _ (q : Post) (whose : Whose) (stamp u : ℕ) (vs : List Visit) where
   run_plain : (x : ℕ) (us : List Visit) → Only (saw_run u x) us → Plain us
   run_plain x us one = only_plain (saw_run u x) refl us one
 
@@ -114,35 +116,37 @@ module _ (stamp u : ℕ) (vs : List Visit) where
   ran_plain y P p t =
       then_plain (Only (saw_run u 0)) (Then (Only (saw_flushed u y)) P) (run_plain 0) (λ us k. then_plain (Only (saw_flushed u y)) P (saw_plain y) p us k) vs t
 
-  asks_plain : (z : ℕ) (us : List Visit) → Then (λ ws. WeighsBy ws) (Only (visit (asked_of u) (Max stamp) z)) us → Plain us
-  asks_plain z us t = then_plain (λ ws. WeighsBy ws) (Only (visit (asked_of u) (Max stamp) z)) weighs_plain (only_plain (visit (asked_of u) (Max stamp) z) refl) us t
+  asks_plain : (z : ℕ) (us : List Visit) → Then (λ ws. WeighsBy q.machine whose u true ws) (Only (visit (asked_of u) (Max stamp) z)) us → Plain us
+  asks_plain z us t = then_plain (λ ws. WeighsBy q.machine whose u true ws) (Only (visit (asked_of u) (Max stamp) z)) (weighs_plain q.machine whose u true) (only_plain (visit (asked_of u) (Max stamp) z) refl) us t
 
-  looks_plain : (answer : Result (Option ℕ) Refusal) → LooksBy stamp u vs answer → Plain vs
-  looks_plain answer (waits.idle x some one) = run_plain x vs one
-  looks_plain answer (waits.late y more t) = then_plain (Only (saw_run u 0)) (Only (saw_flushed u y)) (run_plain 0) (saw_plain y) vs t
-  looks_plain answer (waits.barred y d x low t) = ran_plain y (Only (visit (Priv d) Load x)) (only_plain (visit (Priv d) Load x) refl) t
-  looks_plain answer (waits.behind y z low t) = ran_plain y (Then (λ ws. WeighsBy ws) (Only (visit (asked_of u) (Max stamp) z))) (asks_plain z) t
-  looks_plain answer (waits.own_late y more one) = saw_plain y vs one
-  looks_plain answer (waits.own_flushed y low t) = then_plain (Only (saw_flushed u y)) (λ fs. FlushedBy u (Ok tt) fs) (saw_plain y) (flushed_plain u (Ok tt)) vs t
-  looks_plain answer (waits.own_spent y r low t) = then_plain (Only (saw_flushed u y)) (λ fs. FlushedBy u (Err r) fs) (saw_plain y) (flushed_plain u (Err r)) vs t
+  looks_plain : (answer : Result (Option ℕ) Refusal) → LooksAt q whose stamp u vs answer → Plain vs
+  looks_plain answer (waits.unmeant means is off none) = nothing_plain vs none
+  looks_plain answer (waits.idle x apart some one) = run_plain x vs one
+  looks_plain answer (waits.late y apart more t) = then_plain (Only (saw_run u 0)) (Only (saw_flushed u y)) (run_plain 0) (saw_plain y) vs t
+  looks_plain answer (waits.barred y apart low t) = ran_plain y (λ ws. WeighsBy q.machine whose u false ws) (weighs_plain q.machine whose u false) t
+  looks_plain answer (waits.behind y z apart low t) = ran_plain y (Then (λ ws. WeighsBy q.machine whose u true ws) (Only (visit (asked_of u) (Max stamp) z))) (asks_plain z) t
+  looks_plain answer (waits.own_late y own more one) = saw_plain y vs one
+  looks_plain answer (waits.own_flushed y own low t) = then_plain (Only (saw_flushed u y)) (λ fs. FlushedBy u (Ok tt) fs) (saw_plain y) (flushed_plain u (Ok tt)) vs t
+  looks_plain answer (waits.own_spent y r own low t) = then_plain (Only (saw_flushed u y)) (λ fs. FlushedBy u (Err r) fs) (saw_plain y) (flushed_plain u (Err r)) vs t
 
-blocks_plain : (stamp : ℕ) (vs : List Visit) (n : ℕ) (answer : Result (Option Slow) Refusal) → WaitsBy stamp vs n answer → Plain vs
-blocks_plain stamp vs n answer (waits.none _ nothing) = nothing_plain vs nothing
-blocks_plain stamp vs n answer (waits.more u first standing before now _ waits looks is) =
-    subst (λ us. Plain us) (sym is) (each_append (λ s. IsPlain s) before now (blocks_plain stamp before u (Ok first) waits) (looks_plain stamp u now (Ok standing) looks))
-blocks_plain stamp vs n answer (waits.spent u first r before now _ waits looks is) =
-    subst (λ us. Plain us) (sym is) (each_append (λ s. IsPlain s) before now (blocks_plain stamp before u (Ok first) waits) (looks_plain stamp u now (Err r) looks))
+module _ (q : Post) (whose : Whose) (stamp : ℕ) where
+  blocks_plain : (vs : List Visit) (n : ℕ) (answer : Result (Option Slow) Refusal) → WaitsOn q whose stamp vs n answer → Plain vs
+  blocks_plain vs n answer (waits.none _ nothing) = nothing_plain vs nothing
+  blocks_plain vs n answer (waits.more u first standing before now _ waits looks is) =
+      subst (λ us. Plain us) (sym is) (each_append (λ s. IsPlain s) before now (blocks_plain before u (Ok first) waits) (looks_plain q whose stamp u now (Ok standing) looks))
+  blocks_plain vs n answer (waits.spent u first r before now _ waits looks is) =
+      subst (λ us. Plain us) (sym is) (each_append (λ s. IsPlain s) before now (blocks_plain before u (Ok first) waits) (looks_plain q whose stamp u now (Err r) looks))
 
-waited_plain : (stamp : ℕ) (answer : Result (Unit {0}) Stop) (vs : List Visit) → WaitedFor stamp answer vs → Plain vs
-waited_plain stamp (Ok done) vs a = blocks_plain stamp vs a.0 (Ok None) a.1
-waited_plain stamp (Err (Refused r)) vs a = blocks_plain stamp vs a.0 (Err r) a.1
-waited_plain stamp (Err (Paused (Flush u t x))) vs a = blocks_plain stamp vs a.0 _ a.1.1
-waited_plain stamp (Err (Paused _)) vs a = absurd a.1
+  waited_plain : (answer : Result (Unit {0}) Stop) (vs : List Visit) → WaitedFor q whose stamp answer vs → Plain vs
+  waited_plain (Ok done) vs a = blocks_plain vs _ (Ok None) a
+  waited_plain (Err (Refused r)) vs a = blocks_plain vs a.0 (Err r) a.1
+  waited_plain (Err (Paused (Flush u t x))) vs a = blocks_plain vs _ _ a.1
+  waited_plain (Err (Paused _)) vs a = absurd a
 
-waits_plain : (marked : Bool) (stamp : ℕ) (t : Taken) (vs : List Visit) → WaitsOf marked stamp t vs → Plain vs
-waits_plain true stamp (types.Waiting own awaited stop) vs a = waited_plain stamp (Err stop) vs a.1
-waits_plain true stamp _ vs a = waited_plain stamp (Ok tt) vs a
-waits_plain false stamp t vs a = nothing_plain vs a
+waits_plain : (q : Post) (owner : ℕ) (marked : Bool) (stamp : ℕ) (t : Taken) (vs : List Visit) → WaitsOf q owner marked stamp t vs → Plain vs
+waits_plain q owner true stamp (types.Waiting own awaited stop) vs a = waited_plain q (OfOwner owner) stamp (Err stop) vs a.1
+waits_plain q owner true stamp _ vs a = waited_plain q (OfOwner owner) stamp (Ok tt) vs a
+waits_plain q owner false stamp t vs a = nothing_plain vs a
 
 -- ---- kind words
 -- a type that an entry asks
@@ -180,48 +184,48 @@ ends_plain f want typed marked false types.Counted vs a = stores_plain f (live_k
 ends_plain f want typed marked own (types.InWork progress mine) vs a = where_plain marked (λ us. StoresKind f (work_kind want false 0) us) (work_plain f want typed) vs a
 ends_plain f want typed marked own (types.Waiting mine stamp stop) vs a = nothing_plain vs a
 
-goes_plain : (f : ℕ) (want : PageType) → IsTrue (not (is_none want)) → (marked : Bool) (stamp : ℕ) (own : Bool) (t : Taken) (vs : List Visit) → GoesBy f want marked stamp own t vs → Plain vs
-goes_plain f want typed marked stamp own t vs a = then_plain (λ us. WaitsOf marked stamp t us) (λ us. EndsBy f want marked own t us) (waits_plain marked stamp t) (ends_plain f want typed marked own t) vs a
+goes_plain : (q : Post) (f owner : ℕ) (want : PageType) → IsTrue (not (is_none want)) → (marked : Bool) (stamp : ℕ) (own : Bool) (t : Taken) (vs : List Visit) → GoesBy q f owner want marked stamp own t vs → Plain vs
+goes_plain q f owner want typed marked stamp own t vs a = then_plain (λ us. WaitsOf q owner marked stamp t us) (λ us. EndsBy f want marked own t us) (waits_plain q owner marked stamp t) (ends_plain f want typed marked own t) vs a
 
 swaps_plain : (f x : ℕ) (k : KindWord) (found : ℕ) (vs : List Visit) → Only (swaps_kind f x k found) vs → Plain vs
 swaps_plain f x k found vs a = only_plain (swaps_kind f x k found) refl vs a
 
-takes_plain : (f : ℕ) (want : PageType) → IsTrue (not (is_none want)) → (x : ℕ) (s : Standing) (t : Taken) (vs : List Visit) → TakesBy f want x s t vs → Plain vs
-takes_plain f want typed x stands.Counted t vs a = swaps_plain f x (next_kind (kind_fields x) want stands.Counted) x vs a
-takes_plain f want typed x s t vs a =
+takes_plain : (q : Post) (f owner : ℕ) (want : PageType) → IsTrue (not (is_none want)) → (x : ℕ) (s : Standing) (t : Taken) (vs : List Visit) → TakesBy q f owner want x s t vs → Plain vs
+takes_plain q f owner want typed x stands.Counted t vs a = swaps_plain f x (next_kind (kind_fields x) want stands.Counted) x vs a
+takes_plain q f owner want typed x s t vs a =
     let k = kind_fields x in
-    then_plain (Only (swaps_kind f x (next_kind k want s) x)) (Then (Where (is_kept_by k s) (PutBy f)) (λ us. GoesBy f want (waits_by k want s) k.number (is_own k s) t us)) (swaps_plain f x (next_kind k want s) x)
-    (then_plain (Where (is_kept_by k s) (PutBy f)) (λ us. GoesBy f want (waits_by k want s) k.number (is_own k s) t us) (where_plain (is_kept_by k s) (PutBy f) (put_plain f)) (goes_plain f want typed (waits_by k want s) k.number (is_own k s) t)) vs a
+    then_plain (Only (swaps_kind f x (next_kind k want s) x)) (Then (Where (is_kept_by k s) (PutBy f)) (λ us. GoesBy q f owner want (waits_by k want s) k.number (is_own k s) t us)) (swaps_plain f x (next_kind k want s) x)
+    (then_plain (Where (is_kept_by k s) (PutBy f)) (λ us. GoesBy q f owner want (waits_by k want s) k.number (is_own k s) t us) (where_plain (is_kept_by k s) (PutBy f) (put_plain f)) (goes_plain q f owner want typed (waits_by k want s) k.number (is_own k s) t)) vs a
 
-taken_plain : (f : ℕ) (want : PageType) → IsTrue (not (is_none want)) → (t : Taken) (vs : List Visit) → TakesOf f want t vs → Plain vs
-taken_plain f want typed t vs a =
+taken_plain : (q : Post) (f owner : ℕ) (want : PageType) → IsTrue (not (is_none want)) → (t : Taken) (vs : List Visit) → TakesOf q f owner want t vs → Plain vs
+taken_plain q f owner want typed t vs a =
     let s = standing_of (kind_fields a.word) want in
-    then_plain (Only (saw_kind f a.word)) (λ us. TakesBy f want a.word s t us) (only_plain (saw_kind f a.word) refl) (takes_plain f want typed a.word s t) vs a.steps
+    then_plain (Only (saw_kind f a.word)) (λ us. TakesBy q f owner want a.word s t us) (only_plain (saw_kind f a.word) refl) (takes_plain q f owner want typed a.word s t) vs a.steps
 
-pub typed_plain : (n : Machine) (f : ℕ) (want : PageType) → IsTrue (not (is_none want)) → (answer : Result Taken Stop) (vs : List Visit) → TypeBy n f want answer vs → Plain vs
-typed_plain n f want typed (Ok t) vs a = taken_plain f want typed t vs a
-typed_plain n f want typed (Err (Paused (Lost place expected found))) vs a = loses_plain n f want place expected found vs a
-typed_plain n f want typed (Err (Refused r)) vs a = stops_plain f want (Refused r) vs a
-typed_plain n f want typed (Err (Paused p)) vs a = stops_plain f want (Paused p) vs a
+pub typed_plain : (q : Post) (f owner : ℕ) (want : PageType) → IsTrue (not (is_none want)) → (answer : Result Taken Stop) (vs : List Visit) → TypeBy q f owner want answer vs → Plain vs
+typed_plain q f owner want typed (Ok t) vs a = taken_plain q f owner want typed t vs a
+typed_plain q f owner want typed (Err (Paused (Lost place expected found))) vs a = loses_plain q.machine f want place expected found vs a
+typed_plain q f owner want typed (Err (Refused r)) vs a = stops_plain f want (Refused r) vs a
+typed_plain q f owner want typed (Err (Paused p)) vs a = stops_plain f want (Paused p) vs a
 
-refuses_plain : (n : Machine) (g : ℕ) (t : PageType) → IsTrue (not (is_none t)) → (e : Stop) (vs : List Visit) → RefusesBy n g t e vs → Plain vs
-refuses_plain n g t typed e vs a = then_plain (λ us. TypeBy n g t (Err e) us) (PutBy g) (typed_plain n g t typed (Err e)) (put_plain g) vs a
+refuses_plain : (q : Post) (g owner : ℕ) (t : PageType) → IsTrue (not (is_none t)) → (e : Stop) (vs : List Visit) → RefusesBy q g owner t e vs → Plain vs
+refuses_plain q g owner t typed e vs a = then_plain (λ us. TypeBy q g owner t (Err e) us) (PutBy g) (typed_plain q g owner t typed (Err e)) (put_plain g) vs a
 
 -- the stamp that a frame waits for was found in its word
-awaited_is : (marked : Bool) (n : ℕ) (own : Bool) (stamp : ℕ) (stop : Stop) (vs : List Visit) → marked ≡ true → WaitsOf marked n (types.Waiting own stamp stop) vs → stamp ≡ n
-awaited_is true n own stamp stop vs on a = a.0
-awaited_is false n own stamp stop vs on a = absurd cc
+awaited_is : (q : Post) (owner : ℕ) (marked : Bool) (n : ℕ) (own : Bool) (stamp : ℕ) (stop : Stop) (vs : List Visit) → marked ≡ true → WaitsOf q owner marked n (types.Waiting own stamp stop) vs → stamp ≡ n
+awaited_is q owner true n own stamp stop vs on a = a.0
+awaited_is q owner false n own stamp stop vs on a = absurd cc
 
-goes_low : (f : ℕ) (want : PageType) (marked : Bool) (x : ℕ) (mine own : Bool) (stamp : ℕ) (stop : Stop) (vs : List Visit) → marked ≡ true → GoesBy f want marked (kind_fields x).number mine (types.Waiting own stamp stop) vs → stamp < 2 ^ 36
+goes_low : (q : Post) (f owner : ℕ) (want : PageType) (marked : Bool) (x : ℕ) (mine own : Bool) (stamp : ℕ) (stop : Stop) (vs : List Visit) → marked ≡ true → GoesBy q f owner want marked (kind_fields x).number mine (types.Waiting own stamp stop) vs → stamp < 2 ^ 36
 unfolding kind_fields
-goes_low f want marked x mine own stamp stop vs on a = let is = awaited_is marked (kind_fields x).number own stamp stop a.before on a.first in omega (arith, is)
+goes_low q f owner want marked x mine own stamp stop vs on a = let is = awaited_is q owner marked (kind_fields x).number own stamp stop a.before on a.first in omega (arith, is)
 
-takes_low : (f : ℕ) (want : PageType) (x : ℕ) (s : Standing) (own : Bool) (stamp : ℕ) (stop : Stop) (vs : List Visit) → IsTakenBy want (kind_fields x) s (types.Waiting own stamp stop) → TakesBy f want x s (types.Waiting own stamp stop) vs → stamp < 2 ^ 36
-takes_low f want x stands.Counted own stamp stop vs way a = absurd cc
-takes_low f want x s own stamp stop vs way a = goes_low f want (waits_by (kind_fields x) want s) x (is_own (kind_fields x) s) own stamp stop a.next.after way.0 a.next.next
+takes_low : (q : Post) (f owner : ℕ) (want : PageType) (x : ℕ) (s : Standing) (own : Bool) (stamp : ℕ) (stop : Stop) (vs : List Visit) → IsTakenBy want (kind_fields x) s (types.Waiting own stamp stop) → TakesBy q f owner want x s (types.Waiting own stamp stop) vs → stamp < 2 ^ 36
+takes_low q f owner want x stands.Counted own stamp stop vs way a = absurd cc
+takes_low q f owner want x s own stamp stop vs way a = goes_low q f owner want (waits_by (kind_fields x) want s) x (is_own (kind_fields x) s) own stamp stop a.next.after way.0 a.next.next
 
-taken_low : (f : ℕ) (want : PageType) (own : Bool) (stamp : ℕ) (stop : Stop) (vs : List Visit) → TakesOf f want (types.Waiting own stamp stop) vs → stamp < 2 ^ 36
-taken_low f want own stamp stop vs a = takes_low f want a.word (standing_of (kind_fields a.word) want) own stamp stop a.steps.after a.way a.steps.next
+taken_low : (q : Post) (f owner : ℕ) (want : PageType) (own : Bool) (stamp : ℕ) (stop : Stop) (vs : List Visit) → TakesOf q f owner want (types.Waiting own stamp stop) vs → stamp < 2 ^ 36
+taken_low q f owner want own stamp stop vs a = takes_low q f owner want a.word (standing_of (kind_fields a.word) want) own stamp stop a.steps.after a.way a.steps.next
 
 -- ---- a clock value that was found is a stamp
 clock_shown : (v w : PortValue) (c : ℕ) → FoundAt (Met v w) Clock c → c < 2 ^ 36
@@ -261,87 +265,87 @@ module _ (v w : PortValue) where
   left_plain g t is true stamp (Paused r) small vs each a = absurd a
   left_plain g t is false stamp stop small vs each a = shared_plain g t stamp is small vs a
 
-  left_after_plain : (g : ℕ) (t : PageType) → IsAskedType t → (stop : Stop) (vs : List Visit) → Shown vs → LeftAfter g t stop vs → Plain vs
-  left_after_plain g t is stop vs each a =
+  left_after_plain : (q : Post) (g owner : ℕ) (t : PageType) → IsAskedType t → (stop : Stop) (vs : List Visit) → Shown vs → LeftAfter q g owner t stop vs → Plain vs
+  left_after_plain q g owner t is stop vs each a =
       let taken = types.Waiting a.own a.stamp stop in
-      let small = taken_low g t a.own a.stamp stop a.steps.before a.steps.first in
-      then_shown (λ us. TakesOf g t taken us) (λ us. LeftBy g t a.own a.stamp stop us) (λ us shown takes. taken_plain g t is.0 taken us takes) (left_plain g t is a.own a.stamp stop small) vs each a.steps
+      let small = taken_low q g owner t a.own a.stamp stop a.steps.before a.steps.first in
+      then_shown (λ us. TakesOf q g owner t taken us) (λ us. LeftBy g t a.own a.stamp stop us) (λ us shown takes. taken_plain q g owner t is.0 taken us takes) (left_plain g t is a.own a.stamp stop small) vs each a.steps
 
-  unsettled_plain : (g : ℕ) (t : PageType) → IsAskedType t → (f i : ℕ) (stop : Stop) (vs : List Visit) → UnsettledBy g t f i stop vs → Plain vs
-  unsettled_plain g t is f i stop vs a =
+  unsettled_plain : (q : Post) (g owner : ℕ) (t : PageType) → IsAskedType t → (f i : ℕ) (stop : Stop) (vs : List Visit) → UnsettledBy q g owner t f i stop vs → Plain vs
+  unsettled_plain q g owner t is f i stop vs a =
       let taken = types.Waiting true a.stamp stop in
       let k = partial_kind t false true 0 a.stamp in
-      let small = taken_low g t true a.stamp stop a.steps.before a.steps.first in
-      then_plain (λ us. TakesOf g t taken us) (Then (StoresKind g k) (Records f (i + 1))) (taken_plain g t is.0 taken) (then_plain (StoresKind g k) (Records f (i + 1)) (marked_plain g t a.stamp is small) (records_plain f (i + 1))) vs a.steps
+      let small = taken_low q g owner t true a.stamp stop a.steps.before a.steps.first in
+      then_plain (λ us. TakesOf q g owner t taken us) (Then (StoresKind g k) (Records f (i + 1))) (taken_plain q g owner t is.0 taken) (then_plain (StoresKind g k) (Records f (i + 1)) (marked_plain g t a.stamp is small) (records_plain f (i + 1))) vs a.steps
 
-  entry_plain : (n : Machine) (g : ℕ) (t : PageType) → IsAskedType t → (f i : ℕ) (answer : Result Entered Stop) (vs : List Visit) → Shown vs → TypedBy n g t f i answer vs → Plain vs
-  entry_plain n g t is f i (Ok entered.Recorded) vs each a = then_plain (λ us. TakesOf g t types.Counted us) (Records f (i + 1)) (taken_plain g t is.0 types.Counted) (records_plain f (i + 1)) vs a
-  entry_plain n g t is f i (Ok (entered.Opened h progress own)) vs each a = taken_plain g t is.0 (types.InWork progress own) vs a.1
-  entry_plain n g t is f i (Ok (entered.Unsettled stop)) vs each a = unsettled_plain g t is f i stop vs a
-  entry_plain n g t is f i (Err (Refused (refusals.Clock x))) vs each a = left_after_plain g t is (Refused (refusals.Clock x)) vs each a
-  entry_plain n g t is f i (Err (Paused (Flush u stamp x))) vs each a = left_after_plain g t is (Paused (Flush u stamp x)) vs each a
-  entry_plain n g t is f i (Err (Refused r)) vs each a = refuses_plain n g t is.0 (Refused r) vs a
-  entry_plain n g t is f i (Err (Paused p)) vs each a = refuses_plain n g t is.0 (Paused p) vs a
+  entry_plain : (q : Post) (g owner : ℕ) (t : PageType) → IsAskedType t → (f i : ℕ) (answer : Result Entered Stop) (vs : List Visit) → Shown vs → TypedBy q g owner t f i answer vs → Plain vs
+  entry_plain q g owner t is f i (Ok entered.Recorded) vs each a = then_plain (λ us. TakesOf q g owner t types.Counted us) (Records f (i + 1)) (taken_plain q g owner t is.0 types.Counted) (records_plain f (i + 1)) vs a
+  entry_plain q g owner t is f i (Ok (entered.Opened h progress own)) vs each a = taken_plain q g owner t is.0 (types.InWork progress own) vs a.1
+  entry_plain q g owner t is f i (Ok (entered.Unsettled stop)) vs each a = unsettled_plain q g owner t is f i stop vs a
+  entry_plain q g owner t is f i (Err (Refused (refusals.Clock x))) vs each a = left_after_plain q g owner t is (Refused (refusals.Clock x)) vs each a
+  entry_plain q g owner t is f i (Err (Paused (Flush u stamp x))) vs each a = left_after_plain q g owner t is (Paused (Flush u stamp x)) vs each a
+  entry_plain q g owner t is f i (Err (Refused r)) vs each a = refuses_plain q g owner t is.0 (Refused r) vs a
+  entry_plain q g owner t is f i (Err (Paused p)) vs each a = refuses_plain q g owner t is.0 (Paused p) vs a
 
   read_plain : (n : Machine) (g owner f i : ℕ) (answer : Result Entered Stop) (vs : List Visit) → ReadBy n g owner f i answer vs → Plain vs
   read_plain n g owner f i (Ok entered.Recorded) vs a = then_plain (λ us. GetsBy {A = ℕ} n g owner (Ok g) us) (Records f (i + 1)) (gets_plain {A = ℕ} n g owner (Ok g)) (records_plain f (i + 1)) vs a
   read_plain n g owner f i (Ok _) vs a = absurd a
   read_plain n g owner f i (Err e) vs a = gets_plain {A = ℕ} n g owner (Err e) vs a
 
-  asked_plain : (n : Machine) (g owner : ℕ) (t : PageType) → IsAskedType t → (f i : ℕ) (answer : Result Entered Stop) (vs : List Visit) → Shown vs → TakesFirst n g owner (λ us. TypedBy n g t f i answer us) answer vs → Plain vs
-  asked_plain n g owner t is f i answer vs each (stopped e gave got) = gets_plain {A = ℕ} n g owner (Err e) vs got
-  asked_plain n g owner t is f i answer vs each (had steps) =
-      then_shown (λ us. GetsBy {A = ℕ} n g owner (Ok g) us) (λ us. TypedBy n g t f i answer us) (λ us shown gets. gets_plain {A = ℕ} n g owner (Ok g) us gets) (entry_plain n g t is f i answer) vs each steps
+  asked_plain : (q : Post) (g owner : ℕ) (t : PageType) → IsAskedType t → (f i : ℕ) (answer : Result Entered Stop) (vs : List Visit) → Shown vs → TakesFirst q.machine g owner (λ us. TypedBy q g owner t f i answer us) answer vs → Plain vs
+  asked_plain q g owner t is f i answer vs each (stopped e gave got) = gets_plain {A = ℕ} q.machine g owner (Err e) vs got
+  asked_plain q g owner t is f i answer vs each (had steps) =
+      then_shown (λ us. GetsBy {A = ℕ} q.machine g owner (Ok g) us) (λ us. TypedBy q g owner t f i answer us) (λ us shown gets. gets_plain {A = ℕ} q.machine g owner (Ok g) us gets) (entry_plain q g owner t is f i answer) vs each steps
 
-  enters_plain : (n : Machine) (f i owner : ℕ) (k : PageType) (answer : Result Entered Stop) (word : ℕ) (d : Demand) → demand_at k i word ≡ d → (vs : List Visit) → Shown vs → EntersBy n f i owner answer word d vs → Plain vs
-  enters_plain n f i owner k answer word demands.Nothing is vs each a = records_plain f (i + 1) vs a.1
-  enters_plain n f i owner k answer word demands.Bad is vs each a = nothing_plain vs a.1
-  enters_plain n f i owner k answer word (demands.Read g) is vs each a = read_plain n g owner f i answer vs a
-  enters_plain n f i owner k answer word (demands.Typed g t) is vs each a = asked_plain n g owner t (subst (λ y. IsAskedType y) (sym (asks_below k i word g t is)) (below_asked k)) f i answer vs each a
+  enters_plain : (q : Post) (f i owner : ℕ) (k : PageType) (answer : Result Entered Stop) (word : ℕ) (d : Demand) → demand_at k i word ≡ d → (vs : List Visit) → Shown vs → EntersBy q f i owner answer word d vs → Plain vs
+  enters_plain q f i owner k answer word demands.Nothing is vs each a = records_plain f (i + 1) vs a.1
+  enters_plain q f i owner k answer word demands.Bad is vs each a = nothing_plain vs a.1
+  enters_plain q f i owner k answer word (demands.Read g) is vs each a = read_plain q.machine g owner f i answer vs a
+  enters_plain q f i owner k answer word (demands.Typed g t) is vs each a = asked_plain q g owner t (subst (λ y. IsAskedType y) (sym (asks_below k i word g t is)) (below_asked k)) f i answer vs each a
 
   pub enters_well : (e f i : ℕ) (t : PageType) (owner : ℕ) (answer : Result Entered Stop) → EntersFound v w f i t owner answer → LeftWell v w false e
   unfolding Does
   enters_well e f i t owner answer a =
       well_by v w false e (λ vs. vs ≡ visits a.0) (λ vs is. subst (λ us. Plain us) (sym is) (all_plain (visits a.0) (were_found v w w a.0 a.1 (came_self w)) a.2)) (a.0, a.1, refl)
     where
-      all_plain : (vs : List Visit) → Shown vs → EnteredBy v.post.machine f i t owner answer vs → Plain vs
+      all_plain : (vs : List Visit) → Shown vs → EnteredBy v.post f i t owner answer vs → Plain vs
       all_plain vs each b =
           let word = b.0 in
-          then_shown (Only (saw_cell f i word)) (λ us. EntersBy v.post.machine f i owner answer word (demand_at t i word) us) (λ us shown one. only_plain (saw_cell f i word) refl us one)
-          (enters_plain v.post.machine f i owner t answer word (demand_at t i word) refl) vs each b.1
+          then_shown (Only (saw_cell f i word)) (λ us. EntersBy v.post f i owner answer word (demand_at t i word) us) (λ us shown one. only_plain (saw_cell f i word) refl us one)
+          (enters_plain v.post f i owner t answer word (demand_at t i word) refl) vs each b.1
 
 -- ---- the last recorded one again
-again_plain : (n : Machine) (g : ℕ) (t : PageType) → IsAskedType t → (answer : Result Resumed Stop) (vs : List Visit) → TypedAgain n g t answer vs → Plain vs
-again_plain n g t is (Ok again.Settled) vs a = absurd a
-again_plain n g t is (Ok (again.Taken f)) vs a = taken_plain g t is.0 types.Counted vs a.1
-again_plain n g t is (Ok (again.Opened f progress)) vs a = taken_plain g t is.0 (types.InWork progress false) vs a.1
-again_plain n g t is (Ok (again.Waiting f stamp stop)) vs a = taken_plain g t is.0 (types.Waiting false stamp stop) vs a.1
-again_plain n g t is (Err e) vs a = refuses_plain n g t is.0 e vs a
+again_plain : (q : Post) (g owner : ℕ) (t : PageType) → IsAskedType t → (answer : Result Resumed Stop) (vs : List Visit) → TypedAgain q g owner t answer vs → Plain vs
+again_plain q g owner t is (Ok again.Settled) vs a = absurd a
+again_plain q g owner t is (Ok (again.Taken f)) vs a = taken_plain q g owner t is.0 types.Counted vs a.1
+again_plain q g owner t is (Ok (again.Opened f progress)) vs a = taken_plain q g owner t is.0 (types.InWork progress false) vs a.1
+again_plain q g owner t is (Ok (again.Waiting f stamp stop)) vs a = taken_plain q g owner t is.0 (types.Waiting false stamp stop) vs a.1
+again_plain q g owner t is (Err e) vs a = refuses_plain q g owner t is.0 e vs a
 
-last_plain : (n : Machine) (g : ℕ) (t : PageType) → IsAskedType t → (owner : ℕ) (answer : Result Resumed Stop) (vs : List Visit) → LastBy n g t owner answer vs → Plain vs
-last_plain n g t is owner answer vs (settled x inside live gave one) = only_plain (saw_kind g x) refl vs one
-last_plain n g t is owner answer vs (outside far steps) = first_plain n g owner (λ us. TypedAgain n g t answer us) answer (again_plain n g t is answer) vs steps
-last_plain n g t is owner answer vs (other x inside live steps) =
-    then_plain (Only (saw_kind g x)) (λ us. TakesFirst n g owner (λ ts. TypedAgain n g t answer ts) answer us) (only_plain (saw_kind g x) refl)
-    (first_plain n g owner (λ us. TypedAgain n g t answer us) answer (again_plain n g t is answer)) vs steps
+last_plain : (q : Post) (g : ℕ) (t : PageType) → IsAskedType t → (owner : ℕ) (answer : Result Resumed Stop) (vs : List Visit) → LastBy q g t owner answer vs → Plain vs
+last_plain q g t is owner answer vs (settled x inside live gave one) = only_plain (saw_kind g x) refl vs one
+last_plain q g t is owner answer vs (outside far steps) = first_plain q.machine g owner (λ us. TypedAgain q g owner t answer us) answer (again_plain q g owner t is answer) vs steps
+last_plain q g t is owner answer vs (other x inside live steps) =
+    then_plain (Only (saw_kind g x)) (λ us. TakesFirst q.machine g owner (λ ts. TypedAgain q g owner t answer ts) answer us) (only_plain (saw_kind g x) refl)
+    (first_plain q.machine g owner (λ us. TypedAgain q g owner t answer us) answer (again_plain q g owner t is answer)) vs steps
 
-resumes_plain : (n : Machine) (owner i : ℕ) (k : PageType) (answer : Result Resumed Stop) (word : ℕ) (d : Demand) → demand_at k i word ≡ d → (vs : List Visit) → ResumesBy n owner answer d vs → Plain vs
-resumes_plain n owner i k answer word (demands.Typed g t) is vs a = last_plain n g t (subst (λ y. IsAskedType y) (sym (asks_below k i word g t is)) (below_asked k)) owner answer vs a
-resumes_plain n owner i k answer word _ is vs a = nothing_plain vs a.1
+resumes_plain : (q : Post) (owner i : ℕ) (k : PageType) (answer : Result Resumed Stop) (word : ℕ) (d : Demand) → demand_at k i word ≡ d → (vs : List Visit) → ResumesBy q owner answer d vs → Plain vs
+resumes_plain q owner i k answer word (demands.Typed g t) is vs a = last_plain q g t (subst (λ y. IsAskedType y) (sym (asks_below k i word g t is)) (below_asked k)) owner answer vs a
+resumes_plain q owner i k answer word _ is vs a = nothing_plain vs a.1
 
 pub resumes_well : (v w : PortValue) (e f i : ℕ) (t : PageType) (owner : ℕ) (answer : Result Resumed Stop) → ResumesFound v w f i t owner answer → LeftWell v w false e
 resumes_well v w e f i t owner answer found =
-    well_by v w false e (λ vs. ResumedBy v.post.machine f i t owner answer vs)
-    (λ vs b. then_plain (Only (saw_cell f i b.0)) (λ us. ResumesBy v.post.machine owner answer (demand_at t i b.0) us) (only_plain (saw_cell f i b.0) refl)
-    (resumes_plain v.post.machine owner i t answer b.0 (demand_at t i b.0) refl) vs b.1) found
+    well_by v w false e (λ vs. ResumedBy v.post f i t owner answer vs)
+    (λ vs b. then_plain (Only (saw_cell f i b.0)) (λ us. ResumesBy v.post owner answer (demand_at t i b.0) us) (only_plain (saw_cell f i b.0) refl)
+    (resumes_plain v.post owner i t answer b.0 (demand_at t i b.0) refl) vs b.1) found
 
 -- ---- calls
 pub refers_well : (v w : PortValue) (kept : Bool) (e f owner : ℕ) (answer : Result ℕ Stop) → Gets v w f owner answer → LeftWell v w kept e
 refers_well v w kept e f owner answer a = well_by v w kept e (λ vs. GetsBy v.post.machine f owner answer vs) (gets_plain v.post.machine f owner answer) a
 
 -- a reference, and then a type of a table
-pub had_well : (v u w : PortValue) (f owner level : ℕ) (answer : Result ℕ Stop) → Gets v u f owner answer → (g : ℕ) (t : PageType) → t ≡ level_type level → (taken : Result Taken Stop) → TakesFound u w g t taken → (kept : Bool) (e : ℕ) →
+pub had_well : (v u w : PortValue) (f owner level : ℕ) (answer : Result ℕ Stop) → Gets v u f owner answer → (g : ℕ) (t : PageType) → t ≡ level_type level → (taken : Result Taken Stop) → TakesFound u w g owner t taken → (kept : Bool) (e : ℕ) →
     LeftWell v w kept e
 had_well v u w f owner level answer gets g t is taken types kept e =
     well_then v u w kept e (refers_well v u kept e f owner answer gets)
-    (well_by u w kept e (λ vs. TypeBy u.post.machine g t taken vs) (typed_plain u.post.machine g t (subst (λ k. IsTrue (not (is_none k))) (sym is) (level_type-typed level)) taken) types)
+    (well_by u w kept e (λ vs. TypeBy u.post g owner t taken vs) (typed_plain u.post g owner t (subst (λ k. IsTrue (not (is_none k))) (sym is) (level_type-typed level)) taken) types)

@@ -3,7 +3,6 @@ use Rattle.std.proofs.Common.{◌≡◌, ℕ, zero, suc, ◌<◌, ◌≤◌, if�
 use Rattle.std.proofs.lemmas.Bool.Decides.{nat_tests}
 use Rattle.xp_words.specs.Entries.{below, demand_at}
 use Rattle.xp_words.specs.KindWords.{has_form, kind_fields, kind_read}
-use Rattle.xp_words.specs.Machine.{Machine}
 use Rattle.xp_words.specs.Places.{is_place, sizes_of}
 use Rattle.xp_words.specs.declared.entry.Demand.{Demand}
 use Rattle.xp_words.specs.declared.entry.Demand.TheVariants as demands
@@ -70,31 +69,31 @@ pub record CameOpen (v : PortValue) (g : ℕ) (want : PageType) (progress : ℕ)
   pub few : progress ≤ 512
 
 module _ (v w : PortValue) (vs : List Visit) (each : EachOf (WasFound v w) vs) where
-  kind_saw : (g : ℕ) (want : PageType) (t : Taken) (takes : TakesOf g want t vs) → FoundAt (Met v w) (Kind g) takes.word
-  kind_saw g want t takes = first_is (WasFound v w) (saw_kind g takes.word) _ vs takes.steps each
+  kind_saw : (g owner : ℕ) (want : PageType) (t : Taken) (takes : TakesOf v.post g owner want t vs) → FoundAt (Met v w) (Kind g) takes.word
+  kind_saw g owner want t takes = first_is (WasFound v w) (saw_kind g takes.word) _ vs takes.steps each
 
-  pub taken_inside : (g : ℕ) (want : PageType) (t : Taken) → TakesOf g want t vs → g < v.post.machine.frames
-  taken_inside g want t takes = kind_inside v w g takes.word (kind_saw g want t takes)
+  pub taken_inside : (g owner : ℕ) (want : PageType) (t : Taken) → TakesOf v.post g owner want t vs → g < v.post.machine.frames
+  taken_inside g owner want t takes = kind_inside v w g takes.word (kind_saw g owner want t takes)
 
-  came_open : (g : ℕ) (want : PageType) (progress : ℕ) (own : Bool) → TakesOf g want (InWork progress own) vs → CameOpen v g want progress
-  came_open g want progress own takes =
+  came_open : (g owner : ℕ) (want : PageType) (progress : ℕ) (own : Bool) → TakesOf v.post g owner want (InWork progress own) vs → CameOpen v g want progress
+  came_open g owner want progress own takes =
       let read = read_first want (kind_fields takes.word) (standing_of (kind_fields takes.word) want) progress own takes.way in
-      let few = progress_few v w g takes.word (kind_saw g want (InWork progress own) takes) in
-      record { inside = taken_inside g want (InWork progress own) takes; read = read.0; few = subst (λ y. y ≤ 512) (sym read.1) few }
+      let few = progress_few v w g takes.word (kind_saw g owner want (InWork progress own) takes) in
+      record { inside = taken_inside g owner want (InWork progress own) takes; read = read.0; few = subst (λ y. y ≤ 512) (sym read.1) few }
 
-pub taken_open : (v w : PortValue) (g : ℕ) (want : PageType) (progress : ℕ) (own : Bool) → TakesFound v w g want (Ok (InWork progress own)) → CameOpen v g want progress
-taken_open v w g want progress own found = does_shows v w (λ vs. TypeBy v.post.machine g want (Ok (InWork progress own)) vs) found (λ vs each takes. came_open v w vs each g want progress own takes)
+pub taken_open : (v w : PortValue) (g owner : ℕ) (want : PageType) (progress : ℕ) (own : Bool) → TakesFound v w g owner want (Ok (InWork progress own)) → CameOpen v g want progress
+taken_open v w g owner want progress own found = does_shows v w (λ vs. TypeBy v.post g owner want (Ok (InWork progress own)) vs) found (λ vs each takes. came_open v w vs each g owner want progress own takes)
 
 -- ---- the next entry
 module _ (v w : PortValue) (f i : ℕ) (t : PageType) (owner g progress : ℕ) (own : Bool) where
   opened_asked : (h : ℕ) (want : PageType) → want ≡ below t → (vs : List Visit) → EachOf (WasFound v w) vs →
-      TakesFirst v.post.machine h owner (λ ts. TypedBy v.post.machine h want f i (Ok (Opened g progress own)) ts) (Ok (Opened g progress own)) vs → CameOpen v g (below t) progress
+      TakesFirst v.post.machine h owner (λ ts. TypedBy v.post h owner want f i (Ok (Opened g progress own)) ts) (Ok (Opened g progress own)) vs → CameOpen v g (below t) progress
   opened_asked h want is vs each (stopped e answer got) = absurd cc
   opened_asked h want is vs each (had steps) =
       subst (λ k. CameOpen v g k progress) is
-      (subst (λ j. CameOpen v j want progress) (sym steps.next.0) (came_open v w steps.after (each_next (WasFound v w) _ _ vs steps each) h want progress own steps.next.1))
+      (subst (λ j. CameOpen v j want progress) (sym steps.next.0) (came_open v w steps.after (each_next (WasFound v w) _ _ vs steps each) h owner want progress own steps.next.1))
 
-  opened_by : (word : ℕ) (d : Demand) → demand_at t i word ≡ d → (vs : List Visit) → EachOf (WasFound v w) vs → EntersBy v.post.machine f i owner (Ok (Opened g progress own)) word d vs → CameOpen v g (below t) progress
+  opened_by : (word : ℕ) (d : Demand) → demand_at t i word ≡ d → (vs : List Visit) → EachOf (WasFound v w) vs → EntersBy v.post f i owner (Ok (Opened g progress own)) word d vs → CameOpen v g (below t) progress
   opened_by word demands.Nothing is vs each way = absurd (let k = way.0 in cc)
   opened_by word demands.Bad is vs each way = absurd (let k = way.0 in cc)
   opened_by word (demands.Read h) is vs each way = absurd way
@@ -102,22 +101,22 @@ module _ (v w : PortValue) (f i : ℕ) (t : PageType) (owner g progress : ℕ) (
 
   pub opened_found : EntersFound v w f i t owner (Ok (Opened g progress own)) → CameOpen v g (below t) progress
   opened_found enters =
-      does_shows v w (λ vs. EnteredBy v.post.machine f i t owner (Ok (Opened g progress own)) vs) enters
+      does_shows v w (λ vs. EnteredBy v.post f i t owner (Ok (Opened g progress own)) vs) enters
       (λ vs each e. opened_by e.0 (demand_at t i e.0) refl e.1.after (each_next (WasFound v w) _ _ vs e.1 each) e.1.next)
 
 -- ---- the last recorded one again
 module _ (v w : PortValue) (f i : ℕ) (t : PageType) (owner : ℕ) (answer : Resumed) (C : Type 0) (stands : answer ≡ again.Settled → C) where
-  module _ (typed : (h : ℕ) (want : PageType) → want ≡ below t → (vs : List Visit) → EachOf (WasFound v w) vs → TypedAgain v.post.machine h want (Ok answer) vs → C) where
-    again_asked : (h : ℕ) (want : PageType) → want ≡ below t → (vs : List Visit) → EachOf (WasFound v w) vs → TakesFirst v.post.machine h owner (λ ts. TypedAgain v.post.machine h want (Ok answer) ts) (Ok answer) vs → C
+  module _ (typed : (h : ℕ) (want : PageType) → want ≡ below t → (vs : List Visit) → EachOf (WasFound v w) vs → TypedAgain v.post h owner want (Ok answer) vs → C) where
+    again_asked : (h : ℕ) (want : PageType) → want ≡ below t → (vs : List Visit) → EachOf (WasFound v w) vs → TakesFirst v.post.machine h owner (λ ts. TypedAgain v.post h owner want (Ok answer) ts) (Ok answer) vs → C
     again_asked h want is vs each (stopped e gave got) = absurd cc
     again_asked h want is vs each (had steps) = typed h want is steps.after (each_next (WasFound v w) _ _ vs steps each) steps.next
 
-    again_last : (h : ℕ) (want : PageType) → want ≡ below t → (vs : List Visit) → EachOf (WasFound v w) vs → LastBy v.post.machine h want owner (Ok answer) vs → C
+    again_last : (h : ℕ) (want : PageType) → want ≡ below t → (vs : List Visit) → EachOf (WasFound v w) vs → LastBy v.post h want owner (Ok answer) vs → C
     again_last h want is vs each (settled x real live gave saw) = stands (let k = gave in cc)
     again_last h want is vs each (outside past way) = again_asked h want is vs each way
     again_last h want is vs each (other x real live steps) = again_asked h want is steps.after (each_next (WasFound v w) _ _ vs steps each) steps.next
 
-    again_by : (word : ℕ) (d : Demand) → demand_at t i word ≡ d → (vs : List Visit) → EachOf (WasFound v w) vs → ResumesBy v.post.machine owner (Ok answer) d vs → C
+    again_by : (word : ℕ) (d : Demand) → demand_at t i word ≡ d → (vs : List Visit) → EachOf (WasFound v w) vs → ResumesBy v.post owner (Ok answer) d vs → C
     again_by word demands.Nothing is vs each way = stands (let k = way.0 in cc)
     again_by word demands.Bad is vs each way = stands (let k = way.0 in cc)
     again_by word (demands.Read h) is vs each way = stands (let k = way.0 in cc)
@@ -126,13 +125,13 @@ module _ (v w : PortValue) (f i : ℕ) (t : PageType) (owner : ℕ) (answer : Re
     -- by how its type was taken
     pub again_typed : ResumesFound v w f i t owner (Ok answer) → C
     again_typed resumes =
-        does_shows v w (λ vs. ResumedBy v.post.machine f i t owner (Ok answer) vs) resumes
+        does_shows v w (λ vs. ResumedBy v.post f i t owner (Ok answer) vs) resumes
         (λ vs each e. again_by e.0 (demand_at t i e.0) refl e.1.after (each_next (WasFound v w) _ _ vs e.1 each) e.1.next)
 
 pub again_found : (v w : PortValue) (f i : ℕ) (t : PageType) (owner g progress : ℕ) → ResumesFound v w f i t owner (Ok (again.Opened g progress)) → CameOpen v g (below t) progress
 again_found v w f i t owner g progress resumes =
     again_typed v w f i t owner (again.Opened g progress) (CameOpen v g (below t) progress) (λ is. absurd cc)
-    (λ h want is vs each way. subst (λ k. CameOpen v g k progress) is (subst (λ j. CameOpen v j want progress) (sym way.0) (came_open v w vs each h want progress false way.1))) resumes
+    (λ h want is vs each way. subst (λ k. CameOpen v g k progress) is (subst (λ j. CameOpen v j want progress) (sym way.0) (came_open v w vs each h owner want progress false way.1))) resumes
 
 -- ---- it is a table of the level below
 pub read_level : (l : ℕ) → 1 ≤ l → is_read_first (below (level_type l)) ≡ true → 2 ≤ l

@@ -63,8 +63,8 @@ module _ (v w : PortValue) (f i : ℕ) (t : PageType) (owner : ℕ) where
 
   pub entered_first : (answer : Result Entered Stop) → EntersFound v w f i t owner answer → FirstFound v
   entered_first answer enters =
-      does_shows v w (λ vs. EnteredBy v.post.machine f i t owner answer vs) enters (λ vs each entered. cell_first entered.0 (first_is (WasFound v w) (saw_cell f i entered.0) _ vs entered.1 each))
+      does_shows v w (λ vs. EnteredBy v.post f i t owner answer vs) enters (λ vs each entered. cell_first entered.0 (first_is (WasFound v w) (saw_cell f i entered.0) _ vs entered.1 each))
 
   pub resumed_first : (answer : Result Resumed Stop) → ResumesFound v w f i t owner answer → FirstFound v
   resumed_first answer resumes =
-      does_shows v w (λ vs. ResumedBy v.post.machine f i t owner answer vs) resumes (λ vs each resumed. cell_first resumed.0 (first_is (WasFound v w) (saw_cell f i resumed.0) _ vs resumed.1 each))
+      does_shows v w (λ vs. ResumedBy v.post f i t owner answer vs) resumes (λ vs each resumed. cell_first resumed.0 (first_is (WasFound v w) (saw_cell f i resumed.0) _ vs resumed.1 each))

@@ -40,12 +40,12 @@ module _ (v w : PortValue) (f i : ℕ) (t : PageType) (owner g : ℕ) where
   pub waited_found : (stamp : ℕ) (stop : Stop) → ResumesFound v w f i t owner (Ok (again.Waiting g stamp stop)) → g < v.post.machine.frames
   waited_found stamp stop resumes =
       again_typed v w f i t owner (again.Waiting g stamp stop) (g < v.post.machine.frames) (λ is. absurd cc)
-      (λ h want is vs each way. subst (λ j. j < v.post.machine.frames) (sym way.0) (taken_inside v w vs each h want (Waiting false stamp stop) way.1)) resumes
+      (λ h want is vs each way. subst (λ j. j < v.post.machine.frames) (sym way.0) (taken_inside v w vs each h owner want (Waiting false stamp stop) way.1)) resumes
 
   pub taken_found : ResumesFound v w f i t owner (Ok (again.Taken g)) → g < v.post.machine.frames
   taken_found resumes =
       again_typed v w f i t owner (again.Taken g) (g < v.post.machine.frames) (λ is. absurd cc)
-      (λ h want is vs each way. subst (λ j. j < v.post.machine.frames) (sym way.0) (taken_inside v w vs each h want Counted way.1)) resumes
+      (λ h want is vs each way. subst (λ j. j < v.post.machine.frames) (sym way.0) (taken_inside v w vs each h owner want Counted way.1)) resumes
 
 -- ---- it waits there since a port that had looked, and had a reference more
 module _ (u x : PortValue) (f i : ℕ) (t : PageType) (l g owner : ℕ) (is : below t ≡ level_type l) (o : Opens u x f i t g owner 0 false true) where

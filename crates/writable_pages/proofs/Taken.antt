@@ -26,7 +26,7 @@ module _ (v u : PortValue) (f owner : ℕ) where
   pub counted_serves : Serves v u (of_frame f owner (Some Writable)) [] → ServesPage {A = Unit {0}} v u f owner (Ok tt)
   counted_serves a = record { hidden = []; may = inl refl; serves = page_serves v u v f owner (Some Writable) refl [] a }
 
-  pub type_took : (t s : Taken) → t ≡ s → TakesFound v u f Writable (Ok t) → TwinTake v u f Writable (Ok t) → ShowsWait v u f owner Writable t → TookType v u f owner 0 (Ok s)
+  pub type_took : (t s : Taken) → t ≡ s → TakesFound v u f owner Writable (Ok t) → TwinTake v u f Writable (Ok t) → ShowsWait v u f owner Writable t → TookType v u f owner 0 (Ok s)
   type_took t s is found plain waits = subst (λ y. TookType v u f owner 0 (Ok y)) is (record { found = found; plain = plain; stops = tt; waits = waits })
 
   pub counted_took : TookType v u f owner 0 (Ok Counted) → TookPage v f owner u (Ok tt)
@@ -53,5 +53,5 @@ module _ (v u : PortValue) (f owner : ℕ) where
       pub untyped_came : Came v w
       untyped_came = came_trans v u w (serves_came v u (of_frame f owner (Some Writable)) (missed v.post.machine stop) serves) (serves_came u w (of_back f) [] back)
 
-    pub untyped_took : TakesFound v u f Writable (Err stop) → TwinTake v u f Writable (Err stop) → Stops v u (of_frame f owner (Some Writable)) stop → Puts u w f → (is_telling u ≡ true → Leaves w (put f (told_word u))) → TookPage v f owner w (Err stop)
+    pub untyped_took : TakesFound v u f owner Writable (Err stop) → TwinTake v u f Writable (Err stop) → Stops v u (of_frame f owner (Some Writable)) stop → Puts u w f → (is_telling u ≡ true → Leaves w (put f (told_word u))) → TookPage v f owner w (Err stop)
     untyped_took found plain stops puts leaves = untyped u w stop (record { found = found; plain = plain; stops = stops; waits = tt }) (record { found = puts; plain = leaves })

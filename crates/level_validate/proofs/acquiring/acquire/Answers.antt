@@ -144,7 +144,7 @@ validate-requires-clause-stands g c =
     let progress = c.in-Ok-InWork.progress in
     let own = c.in-Ok-InWork.own in
     let hand : TakesAs b x h c.args.owner c.level_type.result (InWork progress own) = subst (λ t. TakesAs b x h c.args.owner c.level_type.result t) c.in-Ok-InWork.field-0-is c.in-Ok-InWork.ensures.hand in
-    let found : TakesFound b x h c.level_type.result (Ok (InWork progress own)) = subst (λ t. TakesFound b x h c.level_type.result (Ok t)) c.in-Ok-InWork.field-0-is c.in-Ok-InWork.ensures.found in
+    let found : TakesFound b x h c.args.owner c.level_type.result (Ok (InWork progress own)) = subst (λ t. TakesFound b x h c.args.owner c.level_type.result (Ok t)) c.in-Ok-InWork.field-0-is c.in-Ok-InWork.ensures.found in
     (v, carries_taken v b x h c.args.owner c.args.level progress own c.level_type.result c.requires.idle c.in_ok-frame.ensures.hand c.level_type.ensures c.requires.low c.requires.high c.in_ok-frame.ensures.frame.1 hand.1 found)
 
 pub validate-requires-clause-fresh : goal.validate-requires-clause-fresh
@@ -181,7 +181,7 @@ returns-in_ok-validate-in-Ok-InWork-clause-hand g c =
     let progress = c.in-Ok-InWork.progress in
     let own = c.in-Ok-InWork.own in
     let hand : TakesAs b x h c.args.owner c.level_type.result (InWork progress own) = subst (λ t. TakesAs b x h c.args.owner c.level_type.result t) c.in-Ok-InWork.field-0-is c.in-Ok-InWork.ensures.hand in
-    let found : TakesFound b x h c.level_type.result (Ok (InWork progress own)) = subst (λ t. TakesFound b x h c.level_type.result (Ok t)) c.in-Ok-InWork.field-0-is c.in-Ok-InWork.ensures.found in
+    let found : TakesFound b x h c.args.owner c.level_type.result (Ok (InWork progress own)) = subst (λ t. TakesFound b x h c.args.owner c.level_type.result (Ok t)) c.in-Ok-InWork.field-0-is c.in-Ok-InWork.ensures.found in
     let carries = carries_taken v b x h c.args.owner c.args.level progress own c.level_type.result c.requires.idle c.in_ok-frame.ensures.hand c.level_type.ensures c.requires.low c.requires.high c.in_ok-frame.ensures.frame.1 hand.1 found in
     c.in_ok-validate-in-Ok-InWork.ensures.hand v c.args.owner carries
 
@@ -215,7 +215,7 @@ returns-in_err-validate-in-Ok-InWork-clause-stops g c pages =
     let result = c.from_residual-in_err-validate-in-Ok-InWork.result in
     let answer = err_from_is_err_and result c.from_residual-in_err-validate-in-Ok-InWork.ensures.1 in
     let hand : TakesAs b x h c.args.owner c.level_type.result (InWork progress own) = subst (λ t. TakesAs b x h c.args.owner c.level_type.result t) c.in-Ok-InWork.field-0-is c.in-Ok-InWork.ensures.hand in
-    let found : TakesFound b x h c.level_type.result (Ok (InWork progress own)) = subst (λ t. TakesFound b x h c.level_type.result (Ok t)) c.in-Ok-InWork.field-0-is c.in-Ok-InWork.ensures.found in
+    let found : TakesFound b x h c.args.owner c.level_type.result (Ok (InWork progress own)) = subst (λ t. TakesFound b x h c.args.owner c.level_type.result (Ok t)) c.in-Ok-InWork.field-0-is c.in-Ok-InWork.ensures.found in
     let carries = carries_taken v b x h c.args.owner c.args.level progress own c.level_type.result c.requires.idle c.in_ok-frame.ensures.hand c.level_type.ensures c.requires.low c.requires.high c.in_ok-frame.ensures.frame.1 hand.1 found in
     let before = taken_serves v c.args.f c.args.owner c.args.level pages (is_due_stop e) b c.in_ok-frame.ensures.serves h c.in_ok-frame.ensures.frame.0 c.level_type.result c.level_type.ensures x c.in-Ok-InWork.ensures.serves in
     stops_as v w c.args.f c.args.owner c.args.level pages result e (answer.1 ∙ ap Err answer.2)
@@ -234,7 +234,7 @@ returns-in_err-validate-in-Ok-InWork-clause-hand g c =
     let result = c.from_residual-in_err-validate-in-Ok-InWork.result in
     let answer = err_from_is_err_and result c.from_residual-in_err-validate-in-Ok-InWork.ensures.1 in
     let hand : TakesAs b x h c.args.owner c.level_type.result (InWork progress own) = subst (λ t. TakesAs b x h c.args.owner c.level_type.result t) c.in-Ok-InWork.field-0-is c.in-Ok-InWork.ensures.hand in
-    let found : TakesFound b x h c.level_type.result (Ok (InWork progress own)) = subst (λ t. TakesFound b x h c.level_type.result (Ok t)) c.in-Ok-InWork.field-0-is c.in-Ok-InWork.ensures.found in
+    let found : TakesFound b x h c.args.owner c.level_type.result (Ok (InWork progress own)) = subst (λ t. TakesFound b x h c.args.owner c.level_type.result (Ok t)) c.in-Ok-InWork.field-0-is c.in-Ok-InWork.ensures.found in
     let carries = carries_taken v b x h c.args.owner c.args.level progress own c.level_type.result c.requires.idle c.in_ok-frame.ensures.hand c.level_type.ensures c.requires.low c.requires.high c.in_ok-frame.ensures.frame.1 hand.1 found in
     leaves_as v w c.args.f c.args.owner c.args.level result e (answer.1 ∙ ap Err answer.2)
     (unwound_leaves v w c.args.f c.args.owner c.args.level x h progress own e c.in_ok-frame.ensures.frame.0 carries c.in_err-validate-in-Ok-InWork.ensures.hand)
@@ -249,14 +249,14 @@ returns-in-Ok-Counted-clause-forward g c =
     let v = g.P.Port.value c.args.port.now in
     let b = g.P.Port.value c.get_ref.new.port in
     let x = g.P.Port.value c.take_type.new.port in
-    forward_then v b x (refers_forward v b c.args.f c.args.owner c.get_ref.result c.get_ref.ensures.gets) (types_forward b x c.in_ok-frame.frame c.level_type.result c.take_type.result c.take_type.ensures.found)
+    forward_then v b x (refers_forward v b c.args.f c.args.owner c.get_ref.result c.get_ref.ensures.gets) (types_forward b x c.in_ok-frame.frame c.args.owner c.level_type.result c.take_type.result c.take_type.ensures.found)
 
 pub returns-in_ok-validate-in-Ok-InWork-clause-forward : goal.returns-in_ok-validate-in-Ok-InWork-clause-forward
 returns-in_ok-validate-in-Ok-InWork-clause-forward g c =
     let v = g.P.Port.value c.args.port.now in
     let b = g.P.Port.value c.get_ref.new.port in
     let x = g.P.Port.value c.take_type.new.port in
-    let before = forward_then v b x (refers_forward v b c.args.f c.args.owner c.get_ref.result c.get_ref.ensures.gets) (types_forward b x c.in_ok-frame.frame c.level_type.result c.take_type.result c.take_type.ensures.found) in
+    let before = forward_then v b x (refers_forward v b c.args.f c.args.owner c.get_ref.result c.get_ref.ensures.gets) (types_forward b x c.in_ok-frame.frame c.args.owner c.level_type.result c.take_type.result c.take_type.ensures.found) in
     forward_then v x (g.P.Port.value c.validate.new.port) before c.in_ok-validate-in-Ok-InWork.ensures.forward
 
 pub returns-in_err-validate-in-Ok-InWork-clause-forward : goal.returns-in_err-validate-in-Ok-InWork-clause-forward
@@ -264,7 +264,7 @@ returns-in_err-validate-in-Ok-InWork-clause-forward g c =
     let v = g.P.Port.value c.args.port.now in
     let b = g.P.Port.value c.get_ref.new.port in
     let x = g.P.Port.value c.take_type.new.port in
-    let before = forward_then v b x (refers_forward v b c.args.f c.args.owner c.get_ref.result c.get_ref.ensures.gets) (types_forward b x c.in_ok-frame.frame c.level_type.result c.take_type.result c.take_type.ensures.found) in
+    let before = forward_then v b x (refers_forward v b c.args.f c.args.owner c.get_ref.result c.get_ref.ensures.gets) (types_forward b x c.in_ok-frame.frame c.args.owner c.level_type.result c.take_type.result c.take_type.ensures.found) in
     forward_then v x (g.P.Port.value c.validate.new.port) before c.in_err-validate-in-Ok-InWork.ensures.forward
 
 pub returns-in-Ok-Waiting-clause-forward : goal.returns-in-Ok-Waiting-clause-forward
@@ -272,7 +272,7 @@ returns-in-Ok-Waiting-clause-forward g c =
     let v = g.P.Port.value c.args.port.now in
     let b = g.P.Port.value c.get_ref.new.port in
     let x = g.P.Port.value c.take_type.new.port in
-    let before = forward_then v b x (refers_forward v b c.args.f c.args.owner c.get_ref.result c.get_ref.ensures.gets) (types_forward b x c.in_ok-frame.frame c.level_type.result c.take_type.result c.take_type.ensures.found) in
+    let before = forward_then v b x (refers_forward v b c.args.f c.args.owner c.get_ref.result c.get_ref.ensures.gets) (types_forward b x c.in_ok-frame.frame c.args.owner c.level_type.result c.take_type.result c.take_type.ensures.found) in
     forward_then v x (g.P.Port.value c.leave_waiting.new.port) before c.leave_waiting.ensures.forward
 
 pub returns-in-Err-clause-forward : goal.returns-in-Err-clause-forward
@@ -281,7 +281,7 @@ returns-in-Err-clause-forward g c =
     let b = g.P.Port.value c.get_ref.new.port in
     let x = g.P.Port.value c.take_type.new.port in
     let w = g.P.Port.value c.put_ref.new.port in
-    let before = forward_then v b x (refers_forward v b c.args.f c.args.owner c.get_ref.result c.get_ref.ensures.gets) (types_forward b x c.in_ok-frame.frame c.level_type.result c.take_type.result c.take_type.ensures.found) in
+    let before = forward_then v b x (refers_forward v b c.args.f c.args.owner c.get_ref.result c.get_ref.ensures.gets) (types_forward b x c.in_ok-frame.frame c.args.owner c.level_type.result c.take_type.result c.take_type.ensures.found) in
     forward_then v x w before (forward_by x w (λ vs. PutBy c.in_ok-frame.frame vs) (put_onward c.in_ok-frame.frame) c.put_ref.ensures.puts)
 
 -- ---- how frames are left

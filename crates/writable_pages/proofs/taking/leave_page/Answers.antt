@@ -1,4 +1,4 @@
-use Rattle.std.proofs.Common.{false, [], Err, sym, subst}
+use Rattle.std.proofs.Common.{[], Err, sym, subst}
 use Rattle.xp_words.specs.declared.kind.PageType.TheVariants.{Writable}
 use Rattle.frame_types.specs.Leaving.{WaitsFrom}
 use Rattle.kept_marks.specs.Marks.{KeptFor, LeavesKept}
