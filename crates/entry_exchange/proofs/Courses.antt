@@ -1,5 +1,5 @@
 -- The course of an exchange, over its calls, with the answers of its gate.
-use Rattle.std.proofs.Common.{◌≡◌, ℕ, Bool, true, false, List, [], ◌++◌, Result, Ok, Err, refl}
+use Rattle.std.proofs.Common.{◌≡◌, ℕ, Bool, false, [], ◌++◌, Result, Ok, Err, refl}
 use Rattle.xp_words.specs.declared.reply.Stop.{Stop}
 use Rattle.xp_board.specs.Told.{PortValue}
 use Rattle.foreign_map.specs.declared.owners.Owners.{Owners}

@@ -15,14 +15,17 @@ use Rattle.xp_words.specs.declared.reply.Pause.TheVariants.{Flush, Lost}
 use Rattle.xp_words.specs.declared.reply.Refusal.{Refusal}
 use Rattle.xp_words.specs.declared.reply.Stop.{Stop}
 use Rattle.xp_words.specs.declared.reply.Stop.TheVariants.{Refused, Paused}
+use Rattle.xp_board.specs.Readings.{domain_of}
 use Rattle.xp_board.specs.RefSteps.{one_down}
+use Rattle.xp_board.specs.Told.{Post}
 use Rattle.xp_board.specs.declared.step.Act.{Act}
 use Rattle.xp_board.specs.declared.step.Act.TheVariants.{Add, Load, Max}
+use Rattle.answer_fits.specs.Reasons.{OfOwner}
 use Rattle.answer_fits.specs.Visits.{Nothing, Only, Then, Visit, Where, visit}
 use Rattle.flush_words.specs.Flushing as flushing
 use Rattle.flush_words.specs.Flushing.{FlushedBy}
 use Rattle.flush_waits.specs.Listing as waits
-use Rattle.flush_waits.specs.Listing.{LooksBy, Slow, WaitedFor, WaitsBy, WeighsBy, saw_flushed, saw_run}
+use Rattle.flush_waits.specs.Listing.{LooksAt, Slow, WaitedFor, WaitsOn, WeighsBy, saw_flushed, saw_run}
 use Rattle.frame_words.specs.Freeing.{FreesBy, PutBy, lowers_refs}
 use Rattle.frame_words.specs.Refs.{GetsBy, Raises, UnreferredBy, outside, raises_refs, refused, saw_refs}
 use Rattle.kind_words.specs.Kinds.{dead_kind, live_kind, partial_kind, work_kind}
@@ -95,9 +98,9 @@ module _ (z : Sizes) where
   flushed_short u answer vs there flushing.none = omega arith
   flushed_short u answer vs there (flushing.once clock found to before) = omega arith
 
-  weighs_short : Short z (λ vs. WeighsBy vs) 1
-  weighs_short vs there (inl none) = let few = nothing_short vs there none in omega arith
-  weighs_short vs there (inr (d, x, one)) = only_short (visit (Priv d) Load x) vs there one
+  weighs_short : (n : Machine) (owner u : ℕ) (reaches : Bool) → Short z (λ vs. WeighsBy n (OfOwner owner) u reaches vs) 1
+  weighs_short n owner u reaches vs there (inl a) = let few = nothing_short vs there a.2 in omega arith
+  weighs_short n owner u reaches vs there (inr a) = only_short (visit (Priv (domain_of n u)) Load a.1.0) vs there a.1.2
 
   vcpu_there : (u k : ℕ) (a : Act) (x : ℕ) (vs : List Visit) → Only (visit (Vcpu u k) a x) vs → are_there z vs ≡ true → u < z.vcpus
   unfolding is_place
@@ -105,21 +108,25 @@ module _ (z : Sizes) where
       let at : ((nat_lt u z.vcpus && nat_lt k 38) && true) ≡ true = ap (λ us. are_there z us) (sym one) ∙ there in
       grind (arith, nat_tests)
 
-  module _ (stamp u : ℕ) where
+  module _ (q : Post) (owner stamp u : ℕ) where
+    abbrev Reaches : Bool → List Visit → Type 0
+    Reaches reaches ws = WeighsBy q.machine (OfOwner owner) u reaches ws
+
     run_there : (x : ℕ) (Q : List Visit → Type 0) (vs : List Visit) → are_there z vs ≡ true → Then (Only (saw_run u x)) Q vs → u < z.vcpus
     run_there x Q vs there t = vcpu_there u 6 Load x t.before t.first (parts_there t.before t.after vs t.list there).0
 
     saw_there : (y : ℕ) (Q : List Visit → Type 0) (vs : List Visit) → are_there z vs ≡ true → Then (Only (saw_flushed u y)) Q vs → u < z.vcpus
     saw_there y Q vs there t = vcpu_there u 5 Load y t.before t.first (parts_there t.before t.after vs t.list there).0
 
-    looks_there : (answer : Result (Option ℕ) Refusal) (vs : List Visit) → are_there z vs ≡ true → LooksBy stamp u vs answer → u < z.vcpus
-    looks_there answer vs there (waits.idle x some one) = vcpu_there u 6 Load x vs one there
-    looks_there answer vs there (waits.late y more t) = run_there 0 (Only (saw_flushed u y)) vs there t
-    looks_there answer vs there (waits.barred y d x low t) = run_there 0 (Then (Only (saw_flushed u y)) (Only (visit (Priv d) Load x))) vs there t
-    looks_there answer vs there (waits.behind y k low t) = run_there 0 (Then (Only (saw_flushed u y)) (Then (λ ws. WeighsBy ws) (Only (visit (asked_of u) (Max stamp) k)))) vs there t
-    looks_there answer vs there (waits.own_late y more one) = vcpu_there u 5 Load y vs one there
-    looks_there answer vs there (waits.own_flushed y low t) = saw_there y (λ fs. FlushedBy u (Ok tt) fs) vs there t
-    looks_there answer vs there (waits.own_spent y r low t) = saw_there y (λ fs. FlushedBy u (Err r) fs) vs there t
+    looks_there : (answer : Result (Option ℕ) Refusal) (vs : List Visit) → are_there z vs ≡ true → LooksAt q (OfOwner owner) stamp u vs answer → u < z.vcpus
+    looks_there answer vs there (waits.unmeant means is off none) = absurd (let k = is in cc)
+    looks_there answer vs there (waits.idle x apart some one) = vcpu_there u 6 Load x vs one there
+    looks_there answer vs there (waits.late y apart more t) = run_there 0 (Only (saw_flushed u y)) vs there t
+    looks_there answer vs there (waits.barred y apart low t) = run_there 0 (Then (Only (saw_flushed u y)) (Reaches false)) vs there t
+    looks_there answer vs there (waits.behind y k apart low t) = run_there 0 (Then (Only (saw_flushed u y)) (Then (Reaches true) (Only (visit (asked_of u) (Max stamp) k)))) vs there t
+    looks_there answer vs there (waits.own_late y own more one) = vcpu_there u 5 Load y vs one there
+    looks_there answer vs there (waits.own_flushed y own low t) = saw_there y (λ fs. FlushedBy u (Ok tt) fs) vs there t
+    looks_there answer vs there (waits.own_spent y r own low t) = saw_there y (λ fs. FlushedBy u (Err r) fs) vs there t
 
     -- its run word and its flush are looked at, and what else shows that it is clear; or it is asked, or flushes its own
     ran_short : (y : ℕ) (Q : List Visit → Type 0) → Short z Q 2 → Short z (λ vs. Then (Only (saw_run u 0)) (Then (Only (saw_flushed u y)) Q) vs) 4
@@ -127,47 +134,48 @@ module _ (z : Sizes) where
         then_short (Only (saw_run u 0)) (Then (Only (saw_flushed u y)) Q) 1 3 (only_short (saw_run u 0))
         (λ us on k. then_short (Only (saw_flushed u y)) Q 1 2 (only_short (saw_flushed u y)) q us on k) vs there t
 
-    looks_short : (answer : Result (Option ℕ) Refusal) → Short z (λ vs. LooksBy stamp u vs answer) 4
-    looks_short answer vs there (waits.idle x some one) = let few = only_short (saw_run u x) vs there one in omega arith
-    looks_short answer vs there (waits.late y more t) =
+    looks_short : (answer : Result (Option ℕ) Refusal) → Short z (λ vs. LooksAt q (OfOwner owner) stamp u vs answer) 4
+    looks_short answer vs there (waits.unmeant means is off none) = absurd (let k = is in cc)
+    looks_short answer vs there (waits.idle x apart some one) = let few = only_short (saw_run u x) vs there one in omega arith
+    looks_short answer vs there (waits.late y apart more t) =
         let few = then_short (Only (saw_run u 0)) (Only (saw_flushed u y)) 1 1 (only_short (saw_run u 0)) (only_short (saw_flushed u y)) vs there t in
         omega arith
-    looks_short answer vs there (waits.barred y d x low t) =
-        ran_short y (Only (visit (Priv d) Load x)) (longer (Only (visit (Priv d) Load x)) 1 2 (omega arith) (only_short (visit (Priv d) Load x))) vs there t
-    looks_short answer vs there (waits.behind y k low t) =
-        ran_short y (Then (λ ws. WeighsBy ws) (Only (visit (asked_of u) (Max stamp) k)))
-        (λ us on asks. then_short (λ ws. WeighsBy ws) (Only (visit (asked_of u) (Max stamp) k)) 1 1 weighs_short (only_short (visit (asked_of u) (Max stamp) k)) us on asks) vs there t
-    looks_short answer vs there (waits.own_late y more one) = let few = only_short (saw_flushed u y) vs there one in omega arith
-    looks_short answer vs there (waits.own_flushed y low t) =
+    looks_short answer vs there (waits.barred y apart low t) = ran_short y (Reaches false) (longer (Reaches false) 1 2 (omega arith) (weighs_short q.machine owner u false)) vs there t
+    looks_short answer vs there (waits.behind y k apart low t) =
+        ran_short y (Then (Reaches true) (Only (visit (asked_of u) (Max stamp) k)))
+        (λ us on asks. then_short (Reaches true) (Only (visit (asked_of u) (Max stamp) k)) 1 1 (weighs_short q.machine owner u true) (only_short (visit (asked_of u) (Max stamp) k)) us on asks) vs there t
+    looks_short answer vs there (waits.own_late y own more one) = let few = only_short (saw_flushed u y) vs there one in omega arith
+    looks_short answer vs there (waits.own_flushed y own low t) =
         then_short (Only (saw_flushed u y)) (λ fs. FlushedBy u (Ok tt) fs) 1 3 (only_short (saw_flushed u y)) (flushed_short u (Ok tt)) vs there t
-    looks_short answer vs there (waits.own_spent y r low t) =
+    looks_short answer vs there (waits.own_spent y r own low t) =
         then_short (Only (saw_flushed u y)) (λ fs. FlushedBy u (Err r) fs) 1 3 (only_short (saw_flushed u y)) (flushed_short u (Err r)) vs there t
 
   -- ---- all of them: no more than there are, since each was visited
-  waits_one : (stamp u : ℕ) (standing : Result (Option ℕ) Refusal) (before now vs : List Visit) → vs ≡ now ++ before → (u ≤ z.vcpus) × (length before ≤ 4 * u) → are_there z now ≡ true → LooksBy stamp u now standing →
-      (u + 1 ≤ z.vcpus) × (length vs ≤ 4 * (u + 1))
-  waits_one stamp u standing before now vs is sofar there looks =
-      let low = looks_there stamp u standing now there looks in
-      let four = looks_short stamp u standing now there looks in
-      (omega arith, omega (arith, ap length is, length-append now before, sofar.1, four))
+  module _ (q : Post) (owner stamp : ℕ) where
+    waits_one : (u : ℕ) (standing : Result (Option ℕ) Refusal) (before now vs : List Visit) → vs ≡ now ++ before → (u ≤ z.vcpus) × (length before ≤ 4 * u) → are_there z now ≡ true → LooksAt q (OfOwner owner) stamp u now standing →
+        (u + 1 ≤ z.vcpus) × (length vs ≤ 4 * (u + 1))
+    waits_one u standing before now vs is sofar there looks =
+        let low = looks_there q owner stamp u standing now there looks in
+        let four = looks_short q owner stamp u standing now there looks in
+        (omega arith, omega (arith, ap length is, length-append now before, sofar.1, four))
 
-  waits_short : (stamp : ℕ) (vs : List Visit) (n : ℕ) (answer : Result (Option Slow) Refusal) → are_there z vs ≡ true → WaitsBy stamp vs n answer → (n ≤ z.vcpus) × (length vs ≤ 4 * n)
-  waits_short stamp vs n answer there (waits.none _ nothing) = (omega arith, nothing_short vs there nothing)
-  waits_short stamp vs n answer there (waits.more u first standing before now _ some looks is) =
-      let both = parts_there before now vs is there in
-      waits_one stamp u (Ok standing) before now vs is (waits_short stamp before u (Ok first) both.0 some) both.1 looks
-  waits_short stamp vs n answer there (waits.spent u first r before now _ some looks is) =
-      let both = parts_there before now vs is there in
-      waits_one stamp u (Err r) before now vs is (waits_short stamp before u (Ok first) both.0 some) both.1 looks
+    waits_short : (vs : List Visit) (n : ℕ) (answer : Result (Option Slow) Refusal) → are_there z vs ≡ true → WaitsOn q (OfOwner owner) stamp vs n answer → (n ≤ z.vcpus) × (length vs ≤ 4 * n)
+    waits_short vs n answer there (waits.none _ nothing) = (omega arith, nothing_short vs there nothing)
+    waits_short vs n answer there (waits.more u first standing before now _ some looks is) =
+        let both = parts_there before now vs is there in
+        waits_one u (Ok standing) before now vs is (waits_short before u (Ok first) both.0 some) both.1 looks
+    waits_short vs n answer there (waits.spent u first r before now _ some looks is) =
+        let both = parts_there before now vs is there in
+        waits_one u (Err r) before now vs is (waits_short before u (Ok first) both.0 some) both.1 looks
 
-  all_waits_short : (stamp : ℕ) (vs : List Visit) (n : ℕ) (answer : Result (Option Slow) Refusal) → are_there z vs ≡ true → WaitsBy stamp vs n answer → length vs ≤ 4 * z.vcpus
-  all_waits_short stamp vs n answer there some = let few = waits_short stamp vs n answer there some in omega (arith, few.0, few.1)
+    all_waits_short : (vs : List Visit) (n : ℕ) (answer : Result (Option Slow) Refusal) → are_there z vs ≡ true → WaitsOn q (OfOwner owner) stamp vs n answer → length vs ≤ 4 * z.vcpus
+    all_waits_short vs n answer there some = let few = waits_short vs n answer there some in omega (arith, few.0, few.1)
 
-  waited_short : (stamp : ℕ) (answer : Result (Unit {0}) Stop) → Short z (λ vs. WaitedFor stamp answer vs) (4 * z.vcpus)
-  waited_short stamp (Ok done) vs there a = all_waits_short stamp vs a.0 (Ok None) there a.1
-  waited_short stamp (Err (Refused r)) vs there a = all_waits_short stamp vs a.0 (Err r) there a.1
-  waited_short stamp (Err (Paused (Flush u t x))) vs there a = all_waits_short stamp vs a.0 _ there a.1.1
-  waited_short stamp (Err (Paused _)) vs there a = absurd a.1
+    waited_short : (answer : Result (Unit {0}) Stop) → Short z (λ vs. WaitedFor q (OfOwner owner) stamp answer vs) (4 * z.vcpus)
+    waited_short (Ok done) vs there a = all_waits_short vs _ (Ok None) there a
+    waited_short (Err (Refused r)) vs there a = all_waits_short vs a.0 (Err r) there a.1
+    waited_short (Err (Paused (Flush u t x))) vs there a = all_waits_short vs _ _ there a.1
+    waited_short (Err (Paused _)) vs there a = absurd a
 
   -- ---- kind words
   pub stores_short : (f : ℕ) (k : KindWord) → Short z (λ vs. StoresKind f k vs) 1
@@ -191,10 +199,10 @@ module _ (z : Sizes) where
       (λ us on k. then_short (Where last (λ us. Dies f kind false us)) (PutBy f) 2 5 (where_short last (λ us. Dies f kind false us) 2 (dies_short f kind false)) (puts_short f) us on k) vs there a.1
 
   -- ---- a type is taken: with one wait at the most
-  waits_of_short : (marked : Bool) (stamp : ℕ) (t : Taken) → Short z (λ vs. WaitsOf marked stamp t vs) (4 * z.vcpus)
-  waits_of_short true stamp (types.Waiting own awaited stop) vs there a = waited_short stamp (Err stop) vs there a.1
-  waits_of_short true stamp _ vs there a = waited_short stamp (Ok tt) vs there a
-  waits_of_short false stamp t vs there a = let none = nothing_short vs there a in omega arith
+  waits_of_short : (q : Post) (owner : ℕ) (marked : Bool) (stamp : ℕ) (t : Taken) → Short z (λ vs. WaitsOf q owner marked stamp t vs) (4 * z.vcpus)
+  waits_of_short q owner true stamp (types.Waiting own awaited stop) vs there a = waited_short q owner stamp (Err stop) vs there a.1
+  waits_of_short q owner true stamp _ vs there a = waited_short q owner stamp (Ok tt) vs there a
+  waits_of_short q owner false stamp t vs there a = let none = nothing_short vs there a in omega arith
 
   ends_short : (f : ℕ) (want : PageType) (marked own : Bool) (t : Taken) → Short z (λ vs. EndsBy f want marked own t vs) 1
   ends_short f want marked true types.Counted vs there a = stores_short f (live_kind want 1) vs there a
@@ -202,24 +210,24 @@ module _ (z : Sizes) where
   ends_short f want marked own (types.InWork progress mine) vs there a = where_short marked (λ us. StoresKind f (work_kind want false 0) us) 1 (stores_short f (work_kind want false 0)) vs there a
   ends_short f want marked own (types.Waiting mine stamp stop) vs there a = let none = nothing_short vs there a in omega arith
 
-  goes_short : (f : ℕ) (want : PageType) (marked : Bool) (stamp : ℕ) (own : Bool) (t : Taken) → Short z (λ vs. GoesBy f want marked stamp own t vs) (4 * z.vcpus + 1)
-  goes_short f want marked stamp own t vs there a =
-      then_short (λ us. WaitsOf marked stamp t us) (λ us. EndsBy f want marked own t us) (4 * z.vcpus) 1 (waits_of_short marked stamp t) (ends_short f want marked own t) vs there a
+  goes_short : (q : Post) (f owner : ℕ) (want : PageType) (marked : Bool) (stamp : ℕ) (own : Bool) (t : Taken) → Short z (λ vs. GoesBy q f owner want marked stamp own t vs) (4 * z.vcpus + 1)
+  goes_short q f owner want marked stamp own t vs there a =
+      then_short (λ us. WaitsOf q owner marked stamp t us) (λ us. EndsBy f want marked own t us) (4 * z.vcpus) 1 (waits_of_short q owner marked stamp t) (ends_short f want marked own t) vs there a
 
-  takes_short : (f : ℕ) (want : PageType) (x : ℕ) (s : Standing) (t : Taken) → Short z (λ vs. TakesBy f want x s t vs) (7 + 4 * z.vcpus)
-  takes_short f want x stands.Counted t vs there a = let few = only_short (swaps_kind f x (next_kind (kind_fields x) want stands.Counted) x) vs there a in omega arith
-  takes_short f want x s t vs there a =
+  takes_short : (q : Post) (f owner : ℕ) (want : PageType) (x : ℕ) (s : Standing) (t : Taken) → Short z (λ vs. TakesBy q f owner want x s t vs) (7 + 4 * z.vcpus)
+  takes_short q f owner want x stands.Counted t vs there a = let few = only_short (swaps_kind f x (next_kind (kind_fields x) want stands.Counted) x) vs there a in omega arith
+  takes_short q f owner want x s t vs there a =
       let k = kind_fields x in
       let gives = Where (is_kept_by k s) (PutBy f) in
-      let goes = λ (us : List Visit). GoesBy f want (waits_by k want s) k.number (is_own k s) t us in
+      let goes = λ (us : List Visit). GoesBy q f owner want (waits_by k want s) k.number (is_own k s) t us in
       let few = then_short (Only (swaps_kind f x (next_kind k want s) x)) (Then gives goes) 1 (5 + (4 * z.vcpus + 1)) (only_short (swaps_kind f x (next_kind k want s) x))
-      (λ us on m. then_short gives goes 5 (4 * z.vcpus + 1) (where_short (is_kept_by k s) (PutBy f) 5 (puts_short f)) (goes_short f want (waits_by k want s) k.number (is_own k s) t) us on m) vs there a in
+      (λ us on m. then_short gives goes 5 (4 * z.vcpus + 1) (where_short (is_kept_by k s) (PutBy f) 5 (puts_short f)) (goes_short q f owner want (waits_by k want s) k.number (is_own k s) t) us on m) vs there a in
       omega arith
 
-  taken_short : (f : ℕ) (want : PageType) (t : Taken) → Short z (λ vs. TakesOf f want t vs) (8 + 4 * z.vcpus)
-  taken_short f want t vs there a =
+  taken_short : (q : Post) (f owner : ℕ) (want : PageType) (t : Taken) → Short z (λ vs. TakesOf q f owner want t vs) (8 + 4 * z.vcpus)
+  taken_short q f owner want t vs there a =
       let s = standing_of (kind_fields a.word) want in
-      let few = then_short (Only (saw_kind f a.word)) (λ us. TakesBy f want a.word s t us) 1 (7 + 4 * z.vcpus) (only_short (saw_kind f a.word)) (takes_short f want a.word s t) vs there a.steps in
+      let few = then_short (Only (saw_kind f a.word)) (λ us. TakesBy q f owner want a.word s t us) 1 (7 + 4 * z.vcpus) (only_short (saw_kind f a.word)) (takes_short q f owner want a.word s t) vs there a.steps in
       omega arith
 
   loses_short : (n : Machine) (f : ℕ) (want : PageType) (place expected found : ℕ) → Short z (λ vs. LosesBy n f want place expected found vs) (8 + 4 * z.vcpus)
@@ -231,8 +239,8 @@ module _ (z : Sizes) where
   stops_short : (f : ℕ) (want : PageType) (e : Stop) → Short z (λ vs. StopsBy f want e vs) (8 + 4 * z.vcpus)
   stops_short f want e vs there a = let few = only_short (saw_kind f a.0) vs there a.2 in omega arith
 
-  pub typed_short : (n : Machine) (f : ℕ) (want : PageType) (answer : Result Taken Stop) → Short z (λ vs. TypeBy n f want answer vs) (8 + 4 * z.vcpus)
-  typed_short n f want (Ok t) vs there a = taken_short f want t vs there a
-  typed_short n f want (Err (Paused (Lost place expected found))) vs there a = loses_short n f want place expected found vs there a
-  typed_short n f want (Err (Paused p)) vs there a = stops_short f want (Paused p) vs there a
-  typed_short n f want (Err (Refused r)) vs there a = stops_short f want (Refused r) vs there a
+  pub typed_short : (q : Post) (f owner : ℕ) (want : PageType) (answer : Result Taken Stop) → Short z (λ vs. TypeBy q f owner want answer vs) (8 + 4 * z.vcpus)
+  typed_short q f owner want (Ok t) vs there a = taken_short q f owner want t vs there a
+  typed_short q f owner want (Err (Paused (Lost place expected found))) vs there a = loses_short q.machine f want place expected found vs there a
+  typed_short q f owner want (Err (Paused p)) vs there a = stops_short f want (Paused p) vs there a
+  typed_short q f owner want (Err (Refused r)) vs there a = stops_short f want (Refused r) vs there a

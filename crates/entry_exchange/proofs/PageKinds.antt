@@ -11,7 +11,7 @@ use Rattle.xp_words.specs.declared.reply.Refusal.{Refusal}
 use Rattle.xp_words.specs.declared.reply.Refusal.TheVariants as refusals
 use Rattle.xp_words.specs.declared.reply.Stop.{Stop}
 use Rattle.xp_words.specs.declared.reply.Stop.TheVariants.{Paused, Refused}
-use Rattle.xp_board.specs.Told.{PortValue}
+use Rattle.xp_board.specs.Told.{Post, PortValue}
 use Rattle.answer_fits.specs.Visits.{Does, Visit}
 use Rattle.flush_waits.specs.Waiting.{IsWait}
 use Rattle.frame_words.specs.Plain.{refer_by}
@@ -75,17 +75,17 @@ stop_why f want x stands.Counted e why = absurd cc
 stop_why f want x stands.Dead e why = absurd cc
 stop_why f want x stands.Partial e why = absurd cc
 
-type_by_why : (n : Machine) (f : ℕ) (want : PageType) (e : Stop) (vs : List Visit) → TypeBy n f want (Err e) vs → Undue e
-type_by_why n f want (Refused r) vs by = stop_why f want by.0 (standing_of (kind_fields by.0) want) (Refused r) by.1
-type_by_why n f want (Paused (pauses.Lost place expected found)) vs by = (tt, refl)
-type_by_why n f want (Paused pauses.Due) vs by = stop_why f want by.0 (standing_of (kind_fields by.0) want) (Paused pauses.Due) by.1
-type_by_why n f want (Paused (pauses.Busy g found)) vs by = (tt, refl)
-type_by_why n f want (Paused (pauses.Flush vcpu stamp found)) vs by = (tt, refl)
-type_by_why n f want (Paused (pauses.Alive vcpu found)) vs by = stop_why f want by.0 (standing_of (kind_fields by.0) want) (Paused (pauses.Alive vcpu found)) by.1
+type_by_why : (q : Post) (f owner : ℕ) (want : PageType) (e : Stop) (vs : List Visit) → TypeBy q f owner want (Err e) vs → Undue e
+type_by_why q f owner want (Refused r) vs by = stop_why f want by.0 (standing_of (kind_fields by.0) want) (Refused r) by.1
+type_by_why q f owner want (Paused (pauses.Lost place expected found)) vs by = (tt, refl)
+type_by_why q f owner want (Paused pauses.Due) vs by = stop_why f want by.0 (standing_of (kind_fields by.0) want) (Paused pauses.Due) by.1
+type_by_why q f owner want (Paused (pauses.Busy g found)) vs by = (tt, refl)
+type_by_why q f owner want (Paused (pauses.Flush vcpu stamp found)) vs by = (tt, refl)
+type_by_why q f owner want (Paused (pauses.Alive vcpu found)) vs by = stop_why f want by.0 (standing_of (kind_fields by.0) want) (Paused (pauses.Alive vcpu found)) by.1
 
 pub type_why : (v w : PortValue) (f owner level : ℕ) (e : Stop) → TookType v w f owner level (Err e) → Undue e
 unfolding Does
-type_why v w f owner level e took = type_by_why v.post.machine f (level_type level) e _ took.found.2
+type_why v w f owner level e took = type_by_why v.post f owner (level_type level) e _ took.found.2
 
 wait_why : (e : Stop) → IsWait e → Undue e
 wait_why (Refused (refusals.Clock found)) is = (tt, refl)

@@ -104,7 +104,7 @@ gave_type v w f kind a = does_adds v w (λ vs. DropsBy f kind vs) 8 (drops_short
 
 took_type : (v w : PortValue) (f owner level : ℕ) (answer : Result Taken Stop) → TookType v w f owner level answer → Adds v w (8 + 4 * vcpus v)
 took_type v w f owner level answer a =
-    does_adds v w (λ vs. TypeBy v.post.machine f (level_type level) answer vs) (8 + 4 * vcpus v) (typed_short (sizes_of v.post.machine) v.post.machine f (level_type level) answer) a.found
+    does_adds v w (λ vs. TypeBy v.post f owner (level_type level) answer vs) (8 + 4 * vcpus v) (typed_short (sizes_of v.post.machine) v.post f owner (level_type level) answer) a.found
 
 -- ---- ordinary memory is taken
 kept_adds : (v w : PortValue) (f owner stamp : ℕ) → KeptFor v w f (partial_kind Writable true true 0 stamp) owner → Adds v w 4

@@ -1,5 +1,5 @@
 -- The course of a pin, over its calls, with the answers of its gate.
-use Rattle.std.proofs.Common.{◌≡◌, ℕ, Bool, true, false, List, [], Result, Ok, Err, IfErr, refl, sym, ◌∙◌, subst}
+use Rattle.std.proofs.Common.{◌≡◌, ℕ, Bool, true, false, [], Result, Ok, Err, IfErr, refl, sym, ◌∙◌, subst}
 use Rattle.xp_words.specs.declared.reply.Refusal.TheVariants.{AlreadyPinned}
 use Rattle.xp_words.specs.declared.reply.Stop.{Stop}
 use Rattle.xp_words.specs.declared.reply.Stop.TheVariants.{Refused}

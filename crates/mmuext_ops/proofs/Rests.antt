@@ -1,5 +1,5 @@
 -- Nothing is in hand behind an element, whatever the first old word names; and an element that asks its gate nothing.
-use Rattle.std.proofs.Common.{◌≡◌, ℕ, Bool, false, [], Option, Result, Ok, Err, IfErr, refl, sym, ap, ◌∙◌, subst, inl, inr, arith}
+use Rattle.std.proofs.Common.{◌≡◌, ℕ, Bool, false, [], Option, Result, Ok, Err, IfErr, refl, sym, ap, ◌∙◌, subst, inl, inr}
 use Rattle.xp_words.specs.Machine.{IsMachine}
 use Rattle.xp_words.specs.declared.reply.Pause.TheVariants as pauses
 use Rattle.xp_words.specs.declared.reply.Stop.{Stop}

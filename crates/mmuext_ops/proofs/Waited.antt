@@ -19,7 +19,7 @@ use Rattle.answer_fits.specs.Reasons.{AwaitsStamp, HadClock, Those, Whose, begun
 use Rattle.answer_fits.specs.Visits.{Does}
 use Rattle.answer_fits.proofs.Piecing.{moves_serves}
 use Rattle.flush_words.proofs.Lasting.{came_keeps}
-use Rattle.flush_waits.specs.Listing.{WaitedForThose}
+use Rattle.flush_waits.specs.Listing.{WaitedFor}
 use Rattle.flush_waits.specs.Waiting.{AreClear, IsWait, ServesBehind, StopsBehind, meant}
 use Rattle.mmuext_ops.specs.Course.{WaitedForVcpus, stamp_for}
 use Rattle.mmuext_ops.specs.Elements.{HasDeeds, KnowsAwaited, ServesElement, awaited_by, of_wait, told}
@@ -106,13 +106,13 @@ module _ (v m : PortValue) (mask clock stamp : ℕ) (awaited : Option ℕ) (look
     pub waited_knows : Came m w → IfErr answer (λ e. (vcpu t found : ℕ) → e ≡ Paused (Flush vcpu t found) → t ≡ stamp) → KnowsAwaited w (awaited_by (FlushVcpus mask) answer)
     waited_knows more same = knows (had_later m w stamp more had_stamp) answer same
 
-    pub waited_course : Does m w (WaitedForThose (meant m.post.machine m.post.vcpu mask) stamp answer) → IfOk answer (λ done. AreClear m w (meant m.post.machine m.post.vcpu mask) stamp) → WaitedForVcpus v w mask awaited [] answer
+    pub waited_course : Does m w (λ vs. WaitedFor m.post those stamp answer vs) → IfOk answer (λ done. AreClear m w (meant m.post.machine m.post.vcpu mask) stamp) → WaitedForVcpus v w mask awaited [] answer
     waited_course does clear =
         record {
           no_ask = refl;
           looked = m;
           clock = clock;
           looks = look;
-          waits = subst (λ t. Does m w (WaitedForThose (meant v.post.machine v.post.vcpu mask) t answer)) is (subst (λ (p : Post). Does m w (WaitedForThose (meant p.machine p.vcpu mask) stamp answer)) post does);
+          waits = subst (λ t. Does m w (λ vs. WaitedFor v.post (Those (meant v.post.machine v.post.vcpu mask)) t answer vs)) is (subst (λ (p : Post). Does m w (λ vs. WaitedFor p (Those (meant p.machine p.vcpu mask)) stamp answer vs)) post does);
           clear = subst (λ t. IfOk answer (λ done. AreClear m w (meant v.post.machine v.post.vcpu mask) t)) is (subst (λ (p : Post). IfOk answer (λ done. AreClear m w (meant p.machine p.vcpu mask) stamp)) post clear);
         }

@@ -58,7 +58,7 @@ use Rattle.vcpu_turn.proofs.Turns.{begins_came}
 
 -- ---- a write
 took_clear : (v w : PortValue) (f owner : ℕ) (answer : Result (Unit {0}) Stop) → answer ≡ Ok tt → TookPage v f owner w answer → IsClear v → IsClear w
-took_clear v _ f owner _ ok (pages.TookPage.counted w took) clear = clear_does v w _ (counts_type v.post.machine f (level_type 0)) took.found clear
+took_clear v _ f owner _ ok (pages.TookPage.counted w took) clear = clear_does v w _ (counts_type v.post f owner (level_type 0)) took.found clear
 took_clear v _ f owner _ ok (pages.TookPage.untyped u w stop took gave) clear = absurd (cc)
 took_clear v _ f owner _ ok (pages.TookPage.waiting u w own stamp stop took left) clear = absurd (cc)
 

@@ -13,15 +13,16 @@ use Rattle.xp_board.specs.declared.step.Mark.{Mark}
 use Rattle.xp_board.specs.declared.step.StepKind.{StepKind}
 use Rattle.xp_board.specs.Acts.{left_by}
 use Rattle.xp_board.specs.Lists.{EachOf}
-use Rattle.xp_board.specs.Told.{PortValue}
+use Rattle.xp_board.specs.Told.{Post, PortValue}
 use Rattle.board_lemmas.proofs.HandLists.{EachOf-map}
 use Rattle.step_maker.specs.Moves.{Moment, Moves, Ran}
+use Rattle.answer_fits.specs.Reasons.{OfOwner, Those, Whose}
 use Rattle.answer_fits.specs.Visits.{Visit, visits, Does, Nothing, Only, Then, Where}
 use Rattle.answer_fits.proofs.Piecing.{each_append}
 use Rattle.flush_words.specs.Flushing as flushing
 use Rattle.flush_words.specs.Flushing.{FlushedBy}
 use Rattle.flush_waits.specs.Listing as waits
-use Rattle.flush_waits.specs.Listing.{LooksBy, Slow, WaitedFor, WaitsBy, WeighsBy}
+use Rattle.flush_waits.specs.Listing.{LooksAt, Slow, WaitedFor, WaitsOn, WeighsBy}
 use Rattle.frame_types.specs.Found.{EndsBy, GoesBy, TakesBy, TypeBy, WaitsOf, is_kept_by}
 use Rattle.frame_types.specs.Plain.{is_own, waits_by}
 use Rattle.frame_types.specs.declared.standing.Standing.{Standing}
@@ -153,59 +154,62 @@ maybe true P a = a
 maybe false P a = nothing
 
 -- ---- a wait for flushes
-weighs : Spares WeighsBy
-weighs vs (inl none) = nothing vs none
-weighs vs (inr look) = one _ refl vs look.2
+weighs : (n : Machine) (whose : Whose) (u : ℕ) (reaches : Bool) → Spares (WeighsBy n whose u reaches)
+weighs n (OfOwner owner) u reaches vs (inl mine) = nothing vs mine.2
+weighs n (OfOwner owner) u reaches vs (inr look) = one _ refl vs look.1.2
+weighs n (Those means) u reaches vs named = nothing vs named.1
 
 flushes : (s : ℕ) (answer : Result (Unit {0}) Refusal) → Spares (FlushedBy s answer)
 unfolding EachOf
 flushes s _ _ flushing.FlushedBy.none = (refl, tt)
 flushes s _ _ (flushing.FlushedBy.once clock found to before) = (refl, (refl, (refl, tt)))
 
-looks : (stamp u : ℕ) (answer : Result (Option ℕ) Refusal) → (vs : List Visit) → LooksBy stamp u vs answer → EachOf Spared vs
-looks stamp u _ vs (waits.LooksAt.idle x runs saw) = one _ refl vs saw
-looks stamp u _ vs (waits.LooksAt.late y past saw) = two _ _ (one _ refl) (one _ refl) vs saw
-looks stamp u _ vs (waits.LooksAt.barred y d x most saw) = two _ _ (one _ refl) (two _ _ (one _ refl) (one _ refl)) vs saw
-looks stamp u _ vs (waits.LooksAt.behind y z most saw) = two _ _ (one _ refl) (two _ _ (one _ refl) (two _ _ weighs (one _ refl))) vs saw
-looks stamp u _ vs (waits.LooksAt.own_late y past saw) = one _ refl vs saw
-looks stamp u _ vs (waits.LooksAt.own_flushed y most saw) = two _ _ (one _ refl) (flushes u (Ok tt)) vs saw
-looks stamp u _ vs (waits.LooksAt.own_spent y r most saw) = two _ _ (one _ refl) (flushes u (Err r)) vs saw
+module _ (q : Post) (whose : Whose) (stamp : ℕ) where
+  looks : (u : ℕ) (answer : Result (Option ℕ) Refusal) → (vs : List Visit) → LooksAt q whose stamp u vs answer → EachOf Spared vs
+  looks u _ vs (waits.LooksAt.unmeant means is off none) = nothing vs none
+  looks u _ vs (waits.LooksAt.idle x other runs saw) = one _ refl vs saw
+  looks u _ vs (waits.LooksAt.late y other past saw) = two _ _ (one _ refl) (one _ refl) vs saw
+  looks u _ vs (waits.LooksAt.barred y other most saw) = two _ _ (one _ refl) (two _ _ (one _ refl) (weighs q.machine whose u false)) vs saw
+  looks u _ vs (waits.LooksAt.behind y z other most saw) = two _ _ (one _ refl) (two _ _ (one _ refl) (two _ _ (weighs q.machine whose u true) (one _ refl))) vs saw
+  looks u _ vs (waits.LooksAt.own_late y own past saw) = one _ refl vs saw
+  looks u _ vs (waits.LooksAt.own_flushed y own most saw) = two _ _ (one _ refl) (flushes u (Ok tt)) vs saw
+  looks u _ vs (waits.LooksAt.own_spent y r own most saw) = two _ _ (one _ refl) (flushes u (Err r)) vs saw
 
-waits_spare : (stamp n : ℕ) (answer : Result (Option Slow) Refusal) → (vs : List Visit) → WaitsBy stamp vs n answer → EachOf Spared vs
-waits_spare stamp _ _ _ (waits.WaitsOn.none vs is) = nothing vs is
-waits_spare stamp _ _ _ (waits.WaitsOn.more u first standing before now vs earlier looked is) =
-    subst (EachOf Spared) (sym is) (each_append Spared before now (waits_spare stamp u (Ok first) before earlier) (looks stamp u (Ok standing) now looked))
-waits_spare stamp _ _ _ (waits.WaitsOn.spent u first r before now vs earlier looked is) =
-    subst (EachOf Spared) (sym is) (each_append Spared before now (waits_spare stamp u (Ok first) before earlier) (looks stamp u (Err r) now looked))
+  waits_spare : (n : ℕ) (answer : Result (Option Slow) Refusal) → (vs : List Visit) → WaitsOn q whose stamp vs n answer → EachOf Spared vs
+  waits_spare _ _ _ (waits.WaitsOn.none vs is) = nothing vs is
+  waits_spare _ _ _ (waits.WaitsOn.more u first standing before now vs earlier looked is) =
+      subst (EachOf Spared) (sym is) (each_append Spared before now (waits_spare u (Ok first) before earlier) (looks u (Ok standing) now looked))
+  waits_spare _ _ _ (waits.WaitsOn.spent u first r before now vs earlier looked is) =
+      subst (EachOf Spared) (sym is) (each_append Spared before now (waits_spare u (Ok first) before earlier) (looks u (Err r) now looked))
 
-waited : (stamp : ℕ) → Spares (WaitedFor stamp (Ok tt))
-waited stamp vs w = waits_spare stamp w.0 (Ok None) vs w.1
+  waited : Spares (WaitedFor q whose stamp (Ok tt))
+  waited vs w = waits_spare _ (Ok None) vs w
 
 -- ---- ordinary memory is taken
-waits_of : (marked : Bool) (stamp : ℕ) → Spares (WaitsOf marked stamp Counted)
-waits_of true stamp vs w = waited stamp vs w
-waits_of false stamp vs w = nothing vs w
+waits_of : (q : Post) (owner : ℕ) (marked : Bool) (stamp : ℕ) → Spares (WaitsOf q owner marked stamp Counted)
+waits_of q owner true stamp vs w = waited q (OfOwner owner) stamp vs w
+waits_of q owner false stamp vs w = nothing vs w
 
 ends : (f : ℕ) (want : PageType) (marked own : Bool) → Spares (EndsBy f want marked own Counted)
 ends f want marked own vs h = one _ refl vs h.1
 
-goes : (f : ℕ) (want : PageType) (marked : Bool) (stamp : ℕ) (own : Bool) → Spares (GoesBy f want marked stamp own Counted)
-goes f want marked stamp own vs h = two _ _ (waits_of marked stamp) (ends f want marked own) vs h
+goes : (q : Post) (f owner : ℕ) (want : PageType) (marked : Bool) (stamp : ℕ) (own : Bool) → Spares (GoesBy q f owner want marked stamp own Counted)
+goes q f owner want marked stamp own vs h = two _ _ (waits_of q owner marked stamp) (ends f want marked own) vs h
 
-work : (f : ℕ) (want : PageType) (marked : Bool) (stamp : ℕ) (own kept : Bool) → Spares (λ vs. Then (Where kept (PutBy f)) (λ gs. GoesBy f want marked stamp own Counted gs) vs)
-work f want marked stamp own kept vs h = two _ _ (maybe kept (PutBy f) (aparts (PutBy f) (puts f))) (goes f want marked stamp own) vs h
+work : (q : Post) (f owner : ℕ) (want : PageType) (marked : Bool) (stamp : ℕ) (own kept : Bool) → Spares (λ vs. Then (Where kept (PutBy f)) (λ gs. GoesBy q f owner want marked stamp own Counted gs) vs)
+work q f owner want marked stamp own kept vs h = two _ _ (maybe kept (PutBy f) (aparts (PutBy f) (puts f))) (goes q f owner want marked stamp own) vs h
 
 -- the frame comes into work, in that way
-worked : (f : ℕ) (want : PageType) (x : ℕ) (s : Standing) →
-    Spares (λ vs. Then (Where (is_kept_by (kind_fields x) s) (PutBy f)) (λ gs. GoesBy f want (waits_by (kind_fields x) want s) (kind_fields x).number (is_own (kind_fields x) s) Counted gs) vs)
-worked f want x s = work f want (waits_by (kind_fields x) want s) (kind_fields x).number (is_own (kind_fields x) s) (is_kept_by (kind_fields x) s)
+worked : (q : Post) (f owner : ℕ) (want : PageType) (x : ℕ) (s : Standing) →
+    Spares (λ vs. Then (Where (is_kept_by (kind_fields x) s) (PutBy f)) (λ gs. GoesBy q f owner want (waits_by (kind_fields x) want s) (kind_fields x).number (is_own (kind_fields x) s) Counted gs) vs)
+worked q f owner want x s = work q f owner want (waits_by (kind_fields x) want s) (kind_fields x).number (is_own (kind_fields x) s) (is_kept_by (kind_fields x) s)
 
-takes_by : (f : ℕ) (want : PageType) (x : ℕ) (s : Standing) → Spares (TakesBy f want x s Counted)
-takes_by f want x stands.Counted vs h = one _ refl vs h
-takes_by f want x stands.Dead vs h = two _ _ (one _ refl) (worked f want x stands.Dead) vs h
-takes_by f want x stands.Partial vs h = two _ _ (one _ refl) (worked f want x stands.Partial) vs h
-takes_by f want x stands.Busy vs h = two _ _ (one _ refl) (worked f want x stands.Busy) vs h
-takes_by f want x stands.Other vs h = two _ _ (one _ refl) (worked f want x stands.Other) vs h
+takes_by : (q : Post) (f owner : ℕ) (want : PageType) (x : ℕ) (s : Standing) → Spares (TakesBy q f owner want x s Counted)
+takes_by q f owner want x stands.Counted vs h = one _ refl vs h
+takes_by q f owner want x stands.Dead vs h = two _ _ (one _ refl) (worked q f owner want x stands.Dead) vs h
+takes_by q f owner want x stands.Partial vs h = two _ _ (one _ refl) (worked q f owner want x stands.Partial) vs h
+takes_by q f owner want x stands.Busy vs h = two _ _ (one _ refl) (worked q f owner want x stands.Busy) vs h
+takes_by q f owner want x stands.Other vs h = two _ _ (one _ refl) (worked q f owner want x stands.Other) vs h
 
-pub counts_type : (n : Machine) (f : ℕ) (want : PageType) → Spares (TypeBy n f want (Ok Counted))
-counts_type n f want vs h = two _ _ (one _ refl) (takes_by f want h.word (standing_of (kind_fields h.word) want)) vs h.steps
+pub counts_type : (q : Post) (f owner : ℕ) (want : PageType) → Spares (TypeBy q f owner want (Ok Counted))
+counts_type q f owner want vs h = two _ _ (one _ refl) (takes_by q f owner want h.word (standing_of (kind_fields h.word) want)) vs h.steps
