@@ -24,7 +24,7 @@ use Rattle.table_law.specs.Levels.{entry_of}
 use Rattle.table_law.specs.Plain.{Describes, Plain, with_kind}
 use Rattle.table_law.specs.Stack.{rest, table_left}
 use Rattle.table_law.proofs.Counting.{asks_at}
-use Rattle.table_courses.specs.Acquiring.{one_more, table_in}
+use Rattle.table_courses.specs.Acquiring.{one_entry_more, table_opened}
 use Rattle.course_laws.proofs.Frames.{IsAbove}
 use Rattle.course_laws.proofs.Entering.{Opens, opened_table, opens}
 use Rattle.course_laws.proofs.Stacking.{Refuses, lefts, lower_above, met_on, opened_from, stopped_there}
@@ -67,15 +67,15 @@ pub record Paces (n : Machine) (owner : ℕ) (m : Words) (ts : List TableWork) (
   pub settled : IsLastSettled n on.plain ts
 
 -- ---- one entry more
-pub chained_more : (p : Plain) (t : TableWork) (ts : List TableWork) → Chained p (t ∷ ts) → Chained p (one_more t ∷ ts)
+pub chained_more : (p : Plain) (t : TableWork) (ts : List TableWork) → Chained p (t ∷ ts) → Chained p (one_entry_more t ∷ ts)
 chained_more p t [] c = tt
 chained_more p t (o ∷ ts) c = c
 
-pub flags_more : (t : TableWork) (ts : List TableWork) → Flagged (t ∷ ts) → Flagged (one_more t ∷ ts)
+pub flags_more : (t : TableWork) (ts : List TableWork) → Flagged (t ∷ ts) → Flagged (one_entry_more t ∷ ts)
 flags_more t [] f = f
 flags_more t (o ∷ ts) f = f
 
-table_more : (n : Machine) (owner : ℕ) (p : Plain) (t : TableWork) → t.done < 512 → TableOf n owner p t → TableOf n owner p (one_more t)
+table_more : (n : Machine) (owner : ℕ) (p : Plain) (t : TableWork) → t.done < 512 → TableOf n owner p t → TableOf n owner p (one_entry_more t)
 table_more n owner p t few is = record { inside = is.inside; share = is.share; was = is.was; owns = is.owns; some = is.some; work = is.work; low = is.low; high = is.high; few = omega arith }
 
 pub lent_same : (x y : ℕ → ℕ) (p : Plain) → ((g : ℕ) → y g ≡ x g) → IsSame (lent x p) (lent y p)
@@ -127,7 +127,7 @@ module _ (u w : PortValue) (owner : ℕ) (t : TableWork) (ts : List TableWork) (
       ∙ ap (λ k. demand_at (level_type k) t.done (s.plain.cells t.frame t.done)) level ∙ entry_is
 
   -- it is recorded
-  pub recorded_paces : TwinEntry u w t.frame (level_type t.level) t.done owner (Ok Recorded) → Paces u.post.machine owner (told_word w) (one_more t ∷ ts) a
+  pub recorded_paces : TwinEntry u w t.frame (level_type t.level) t.done owner (Ok Recorded) → Paces u.post.machine owner (told_word w) (one_entry_more t ∷ ts) a
   recorded_paces twin =
       let p = s.plain in
       let g = met n m w (extra (t ∷ ts)) p owner l t.frame t.done (t ∷ ts) machine s.describes s.spelled above s.under.frames s.under.tables asked asks (enters (Ok Recorded) twin) in
@@ -175,7 +175,7 @@ module _ (u w : PortValue) (owner : ℕ) (t : TableWork) (ts : List TableWork) (
     first = opened_table l progress own (got opening.frame m) opening.frame opening.way
 
     abbrev inner : TableWork
-    inner = table_in t h progress own false
+    inner = table_opened t h progress own false
 
     inner_of : TableOf n owner into.after inner
     inner_of =
@@ -200,27 +200,27 @@ module _ (u w : PortValue) (owner : ℕ) (t : TableWork) (ts : List TableWork) (
     unfolding with_one
     cells_same g j = ap (λ (q : Plain). q.cells g j) into.is
 
-    named : IsNamed into.after inner (one_more t)
+    named : IsNamed into.after inner (one_entry_more t)
     named = (omega (arith, level), omega arith, last_is into.after cells_same ∙ (opening.asked ∙ ap (λ g. Typed g (level_type l)) (sym opening.same)))
 
-    goes_on : rest n owner (lefts (inner ∷ one_more t ∷ ts)) into.after ≡ a.outcome
+    goes_on : rest n owner (lefts (inner ∷ one_entry_more t ∷ ts)) into.after ≡ a.outcome
     unfolding with_one
     goes_on =
         let g = opening.frame in
         let one = with_one n m w (extra (t ∷ ts)) s.plain owner l t.frame t.done (t ∷ ts) machine s.describes s.spelled above s.under.frames s.under.tables g opening.lends in
         let took = (taking n m w (extra (t ∷ ts)) s.plain owner l t.frame t.done (t ∷ ts) machine s.describes s.spelled above s.under.frames s.under.tables g opening.lends).takes in
         let none : 512 ≡ 512 - progress = (let e = into.none_done in omega arith) in
-        subst (λ q. rest n owner (lefts (inner ∷ one_more t ∷ ts)) q ≡ a.outcome) (sym into.is)
+        subst (λ q. rest n owner (lefts (inner ∷ one_entry_more t ∷ ts)) q ≡ a.outcome) (sym into.is)
         (subst (λ k. rest n owner (table_left h (l - 1) k ∷ table_left t.frame l (512 - (t.done + 1)) ∷ lefts ts) (with_kind g (work_kind (level_type l) false 0) one) ≡ a.outcome) none
         (subst (λ f. rest n owner (table_left f (l - 1) 512 ∷ table_left t.frame l (512 - (t.done + 1)) ∷ lefts ts) (with_kind g (work_kind (level_type l) false 0) one) ≡ a.outcome) (sym opening.same)
         (opened_from n owner t.frame (l - 1) l t.done g (level_type l) (lefts ts) s.plain one a.outcome (let low = first in omega arith) few s.under.ahead (entry_is ∙ opening.asked) took into.dead)))
 
-    pub opened_carries : Carries u.post.machine owner (told_word w) (table_in t h progress own false ∷ one_more t ∷ ts) a
+    pub opened_carries : Carries u.post.machine owner (told_word w) (table_opened t h progress own false ∷ one_entry_more t ∷ ts) a
     opened_carries =
         record {
           plain = into.after;
           under = record {
-            frames = frames_but n owner s.plain into.after opening.frame into.grown into.but (t ∷ ts) (inner ∷ one_more t ∷ ts) (λ g off one. inr one) (inr (inl opening.same)) s.under.frames;
+            frames = frames_but n owner s.plain into.after opening.frame into.grown into.but (t ∷ ts) (inner ∷ one_entry_more t ∷ ts) (λ g off one. inr one) (inr (inl opening.same)) s.under.frames;
             tables = (
               inner_of,
               (let low = table.low in omega arith, table.high, lower_above l t.level ts (omega arith) s.under.tables.1),
@@ -229,7 +229,7 @@ module _ (u w : PortValue) (owner : ℕ) (t : TableWork) (ts : List TableWork) (
             chain = (named, chained_more into.after t ts (chained_cells s.plain into.after (t ∷ ts) cells_same s.under.chain));
             ahead = goes_on;
           };
-          describes = described_same n (told_word w) (lent (extra (t ∷ ts)) into.after) (lent (extra (inner ∷ one_more t ∷ ts)) into.after) (lent_same (extra (t ∷ ts)) (extra (inner ∷ one_more t ∷ ts)) into.after (λ g. extra_own inner (one_more t ∷ ts) into.mine g)) into.describes;
+          describes = described_same n (told_word w) (lent (extra (t ∷ ts)) into.after) (lent (extra (inner ∷ one_entry_more t ∷ ts)) into.after) (lent_same (extra (t ∷ ts)) (extra (inner ∷ one_entry_more t ∷ ts)) into.after (λ g. extra_own inner (one_entry_more t ∷ ts) into.mine g)) into.describes;
           spelled = into.spelled;
           flags = (ap not (sym into.mine), flags_more t ts s.flags);
           mine = λ whole. (into.mine, s.mine whole);

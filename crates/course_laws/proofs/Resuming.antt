@@ -34,7 +34,7 @@ use Rattle.table_law.proofs.Counting.{at_here, at_there}
 use Rattle.table_law.proofs.Describing.{sober_live}
 use Rattle.table_twins.specs.Answers.{IsSameAnswer}
 use Rattle.table_twins.proofs.Referring.{same_answer}
-use Rattle.table_courses.specs.Acquiring.{ResumedEntry, TookOn, fresh, opened, settled, stopped, table_in, taken, waiting}
+use Rattle.table_courses.specs.Acquiring.{ResumedEntry, TookOn, fresh, opened, settled, stopped, table_opened, taken, waiting}
 use Rattle.course_laws.proofs.Walking.{again_came}
 use Rattle.course_laws.proofs.Halfway.{Half, all_like, chained_onto, off_below, onto, onto_like, over, over_off, overlay, settled_like, tables_onto, under_like}
 use Rattle.course_laws.proofs.Extras.{Both, IsSame, both_there, described_same, extra, got_both, lent, more_of}
@@ -137,7 +137,7 @@ module _ (n : Machine) (owner : ℕ) (m : Words) (w : PortValue) (r o : TableWor
 
     module _ (progress : ℕ) (own : Bool) (way : IsTakenOf (got r.frame m) r.frame (level_type r.level) (types.InWork progress own)) (alike : Alike (told_word w) (types_taken r.frame (level_type r.level) (types.InWork progress own) (got r.frame m))) where
       abbrev new : TableWork
-      new = table_in o r.frame progress own true
+      new = table_opened o r.frame progress own true
 
       abbrev lent_q : Plain
       lent_q = lent (λ g. (if g == r.frame then 1 else 0) + extra (o ∷ us) g) q
@@ -171,7 +171,7 @@ module _ (n : Machine) (owner : ℕ) (m : Words) (w : PortValue) (r o : TableWor
           let level : o.level - 1 ≡ r.level = (let e = named.0 in omega arith) in
           ap (λ l. record { frame = r.frame; level = l; done = progress; own = own; recorded = true }) level ∙ ap (λ k. record { frame = r.frame; level = r.level; done = k; own = own; recorded = true }) done_is
 
-      pub retaken_half : Half n owner (told_word w) rs (table_in o r.frame progress own true ∷ o ∷ us) a
+      pub retaken_half : Half n owner (told_word w) rs (table_opened o r.frame progress own true ∷ o ∷ us) a
       retaken_half =
           let like = onto_like rs (r ∷ o ∷ us) (new ∷ o ∷ us) (like_r, all_like (o ∷ us)) in
           record {
@@ -246,12 +246,12 @@ module _ (n : Machine) (owner : ℕ) (a : Aim) (is : IsMachine n) where
       ends_by e None refers b = absurd (never_stopped n owner (told_word v) w r o rs us a is g.half refers e b.0)
 
       opened_by : (f progress : ℕ) (x : Option Refusal) → refer n owner r.frame (told_word v (Refs r.frame)) ≡ x → AgainBy w (told_word v) r.frame (level_type r.level) (Ok (again.Opened f progress)) x →
-          Half n owner (told_word w) rs (table_in o f progress false true ∷ o ∷ us) a
+          Half n owner (told_word w) rs (table_opened o f progress false true ∷ o ∷ us) a
       opened_by f progress (Some y) refers b = absurd (let e = b.0 in cc)
       opened_by f progress None refers b =
-          subst (λ f. Half n owner (told_word w) rs (table_in o f progress false true ∷ o ∷ us) a) (sym b.0) (retaken_half n owner (told_word v) w r o rs us a is g.half refers progress false b.1 b.2)
+          subst (λ f. Half n owner (told_word w) rs (table_opened o f progress false true ∷ o ∷ us) a) (sym b.0) (retaken_half n owner (told_word v) w r o rs us a is g.half refers progress false b.1 b.2)
 
-      opened_at : (f progress : ℕ) → ResumedEntry v w owner o (Ok (again.Opened f progress)) → HalfAt n owner w rs (table_in o f progress false true ∷ o ∷ us) a
+      opened_at : (f progress : ℕ) → ResumedEntry v w owner o (Ok (again.Opened f progress)) → HalfAt n owner w rs (table_opened o f progress false true ∷ o ∷ us) a
       opened_at f progress took =
           let came = again_came v w owner o _ took in
           record {
@@ -271,7 +271,7 @@ module _ (n : Machine) (owner : ℕ) (a : Aim) (is : IsMachine n) where
   taken_on [] _ _ _ _ _ g (taken v u w t ts f some took back) = absurd (let e = (last_is v u t ts (Ok (again.Taken f)) g some took).0 in cc)
   taken_on (r ∷ rs) _ _ _ _ _ g (taken v u w t ts f some took back) = absurd (never_taken v u t ts r rs g f _ refl (found v u t ts r rs g (Ok (again.Taken f)) took))
   taken_on [] _ _ _ _ _ g (opened v u w t ts us f progress answer some took on) = absurd (let e = (last_is v u t ts (Ok (again.Opened f progress)) g some took).0 in cc)
-  taken_on (r ∷ rs) _ _ _ _ _ g (opened v u w t ts us f progress answer some took on) = taken_on rs u (table_in t f progress false true ∷ t ∷ ts) w us answer (opened_at v u t ts r rs g f progress took) on
+  taken_on (r ∷ rs) _ _ _ _ _ g (opened v u w t ts us f progress answer some took on) = taken_on rs u (table_opened t f progress false true ∷ t ∷ ts) w us answer (opened_at v u t ts r rs g f progress took) on
   taken_on rs _ _ _ _ _ g (waiting v u w t ts f stamp stop some took left) = wait_ends a stop (took.shows 0).1
   taken_on [] _ _ _ _ _ g (stopped v w t ts stop some took) = absurd (let e = (last_is v w t ts (Err stop) g some took).0 in cc)
   taken_on (r ∷ rs) _ _ _ _ _ g (stopped v w t ts stop some took) = ends_by v w t ts r rs g stop _ refl (found v w t ts r rs g (Err stop) took)

@@ -28,7 +28,7 @@ use Rattle.table_entries.specs.declared.entries.Entered.TheVariants.{Opened, Rec
 use Rattle.table_twins.proofs.Kinding.{described_alike}
 use Rattle.course_laws.proofs.Extras.{extra, lent}
 use Rattle.course_laws.proofs.Under.{spelled_same}
-use Rattle.table_courses.specs.Acquiring.{Advanced, Filled, GaveBack, Joined, MadeLive, TookEntry, TookOn, asked, begun, completed, cut_off, due, fresh, one_more, opened, recorded, settled, stopped, table_in, taken, type_counts, unasked, unsettled, waiting}
+use Rattle.table_courses.specs.Acquiring.{Advanced, Filled, GaveBack, Joined, MadeLive, TookEntry, TookOn, asked, begun, completed, cut_off, due, fresh, one_entry_more, opened, recorded, settled, stopped, table_opened, taken, type_counts, unasked, unsettled, waiting}
 use Rattle.course_laws.proofs.Stacking.{Refuses}
 use Rattle.course_laws.proofs.Walking.{back_came}
 use Rattle.course_laws.proofs.Completing.{IsKinded, lowered_kinded, own_paces, same_kinded, shared_paces, stored_kinded}
@@ -157,13 +157,13 @@ module _ (n : Machine) (owner : ℕ) (a : Aim) (is : IsMachine n) where
     carries_here : Carries u.post.machine owner (told_word u) (t ∷ ts) a
     carries_here = subst (λ k. Carries k owner (told_word u) (t ∷ ts) a) (sym g.machine) g.carries
 
-    recorded_steps : TookEntry u w owner t (Ok Recorded) → Steps n owner w (one_more t ∷ ts) a true
-    recorded_steps took = paces_to n owner u w a g.machine g.telling (does_came u w _ took.found) (one_more t ∷ ts) (recorded_paces u w owner t ts a carries_here is_here g.telling few took.plain)
+    recorded_steps : TookEntry u w owner t (Ok Recorded) → Steps n owner w (one_entry_more t ∷ ts) a true
+    recorded_steps took = paces_to n owner u w a g.machine g.telling (does_came u w _ took.found) (one_entry_more t ∷ ts) (recorded_paces u w owner t ts a carries_here is_here g.telling few took.plain)
 
-    opened_steps : (f progress : ℕ) (own : Bool) → TookEntry u w owner t (Ok (Opened f progress own)) → (progress ≡ 0) × Steps n owner w (table_in t f progress own false ∷ one_more t ∷ ts) a false
+    opened_steps : (f progress : ℕ) (own : Bool) → TookEntry u w owner t (Ok (Opened f progress own)) → (progress ≡ 0) × Steps n owner w (table_opened t f progress own false ∷ one_entry_more t ∷ ts) a false
     opened_steps f progress own took = (
       opened_none u w owner t ts a carries_here is_here g.telling few f progress own took.plain,
-      carries_to n owner u w a g.machine g.telling (does_came u w _ took.found) (table_in t f progress own false ∷ one_more t ∷ ts) (opened_carries u w owner t ts a carries_here is_here g.telling few f progress own took.plain),
+      carries_to n owner u w a g.machine g.telling (does_came u w _ took.found) (table_opened t f progress own false ∷ one_entry_more t ∷ ts) (opened_carries u w owner t ts a carries_here is_here g.telling few f progress own took.plain),
     )
 
     stopped_ends : (e : Stop) → TookEntry u w owner t (Err e) → Ends a e
@@ -200,10 +200,10 @@ module _ (n : Machine) (owner : ℕ) (a : Aim) (is : IsMachine n) where
   advanced b _ _ _ _ _ g (recorded v w t ts few took) = recorded_steps v w t ts b g few took
   advanced b _ _ _ _ _ g (opened v u w t ts us f progress own done few took on) =
       let o = opened_steps v u t ts b g few f progress own took in
-      opened_to u w (one_more t) (table_in t f progress own false) ts us done o.0 o.1 on
+      opened_to u w (one_entry_more t) (table_opened t f progress own false) ts us done o.0 o.1 on
   advanced b _ _ _ _ _ g (cut_off v u w t ts us f progress own stop few took on) =
       let o = opened_steps v u t ts b g few f progress own took in
-      absurd (never_cut u w (one_more t) (table_in t f progress own false) ts us stop o.0 on)
+      absurd (never_cut u w (one_entry_more t) (table_opened t f progress own false) ts us stop o.0 on)
   advanced b _ _ _ _ _ g (unsettled v w t ts stop few took) = wait_ends a stop (took.shows 0).1
   advanced b _ _ _ _ _ g (stopped v w t ts stop few took) = stopped_ends v w t ts b g few stop took
   advanced b _ _ _ _ _ g (completed v u w t outer ts full made joined) = completed_by b t.own v u w t outer ts refl g full made joined

@@ -15,7 +15,7 @@ use Rattle.step_maker.specs.Holds.{Holds, MayWork}
 use Rattle.step_maker.specs.Moves.{Came}
 use Rattle.entry_locks.specs.Entries.{MaySwapEntry, entry_set, entry_unset}
 use Rattle.flush_words.proofs.Lasting.{came_longer}
-use Rattle.foreign_map.specs.Owning.{MayMap}
+use Rattle.foreign_map.specs.Owning.{MayMapFor}
 use Rattle.foreign_map.specs.declared.owners.Owners.{Owners}
 use Rattle.level_release.specs.Asking.{is_due_answer}
 use Rattle.partial_state.specs.Levels.{level_type}
@@ -23,7 +23,7 @@ use Rattle.entry_exchange.specs.declared.exchanging.EntryUpdate.{EntryUpdate}
 use Rattle.entry_exchange.specs.Course.{ExchangesBy, GaveDemand, LeftLock, PutEntry, SawEntry, new_demand, old_demand}
 use Rattle.entry_exchange.specs.Course as courses
 use Rattle.entry_exchange.specs.Holding.{HoldsLockOf, LeavesDemand, LeavesExchange, LeavesUnlocked, owner_at}
-use Rattle.entry_exchange.specs.Parts.{HoldsFreed, HoldsSeen, HoldsTaken, IsInside, IsOfLevel, LeavesGone, ReleasesBy, TakesBy, WasInside}
+use Rattle.entry_exchange.specs.Parts.{HoldsFreed, HoldsSeen, HoldsTaken, IsInside, IsOfLevel, LeavesGone, ReleasesDemand, TakesDemand, WasInside}
 use Rattle.entry_exchange.specs.Words.{same_demand, word_kept}
 use Rattle.entry_exchange.proofs.Courses.{done_course, lost_course, untaken_course}
 use Rattle.entry_exchange.proofs.Hands.{Stands, changed_stands, gone, is_from, is_taken, lock_here, off_stands, refs_from, refs_of, took_stands, typed_from, typed_of, unset_stands, untaken_stands, works_are}
@@ -103,7 +103,7 @@ module _ (v : PortValue) (x : EntryUpdate) (o : Owners) (seen : ℕ) (locked : H
       asks_it : demand_at (level_type x.level) x.index new ≡ d
       asks_it = ap (λ y. demand_at (level_type x.level) x.index y) word ∙ sym is
 
-      pub may_put : MayMap v o → Came v u → d ≢ Bad → MaySwapEntry u.post.machine x.table x.index seen new u.holdings
+      pub may_put : MayMapFor v o → Came v u → d ≢ Bad → MaySwapEntry u.post.machine x.table x.index seen new u.holdings
       may_put maps came fits =
           may_change v u the_lock x.table x.index seen new x.level o d v.holdings.old0 v.holdings.old1
           (subst (λ n. Stands v u (refs_of d n) (typed_of d n) (the_lock ∷ []) v.holdings.old0 v.holdings.old1) whose taken) locked.holds.frame locked.holds.kind locked.holds.owned locked.holds.others.works
@@ -163,15 +163,15 @@ module _ (a v : PortValue) (x : EntryUpdate) (o : Owners) (seen : ℕ) (saw : Sa
   differs : same_demand (new_demand x seen) (old_demand x seen) ≡ false
   differs = subst (λ y. same_demand y (old_demand x seen) ≡ false) is other
 
-  takes : (answer : Result (Unit {0}) Stop) → TakesBy v u owner x.level d says before after yes_before yes_after answer → TakesBy v u (owner_at x.level o.tables o.frames) x.level (new_demand x seen) says before after yes_before yes_after answer
+  takes : (answer : Result (Unit {0}) Stop) → TakesDemand v u owner x.level d says before after yes_before yes_after answer → TakesDemand v u (owner_at x.level o.tables o.frames) x.level (new_demand x seen) says before after yes_before yes_after answer
   takes answer by =
-      subst (λ n. TakesBy v u n x.level (new_demand x seen) says before after yes_before yes_after answer) whose
-      (subst (λ y. TakesBy v u owner x.level y says before after yes_before yes_after answer) is by)
+      subst (λ n. TakesDemand v u n x.level (new_demand x seen) says before after yes_before yes_after answer) whose
+      (subst (λ y. TakesDemand v u owner x.level y says before after yes_before yes_after answer) is by)
 
-  pub untaken_by : (w : PortValue) (stop : Stop) → TakesBy v u owner x.level d says before after yes_before yes_after (Err stop) → LeftLock u x.table x.level w → ExchangesBy a w x o says before after yes_before yes_after (Err stop)
+  pub untaken_by : (w : PortValue) (stop : Stop) → TakesDemand v u owner x.level d says before after yes_before yes_after (Err stop) → LeftLock u x.table x.level w → ExchangesBy a w x o says before after yes_before yes_after (Err stop)
   untaken_by w stop by left = untaken_course a v x o seen saw says differs u before after yes_before yes_after w stop (takes (Err stop) by) left
 
-  module _ (by : TakesBy v u owner x.level d says before after yes_before yes_after (Ok tt)) (new : ℕ) (word : new ≡ word_kept x.keep seen x.word) (z p w : PortValue) where
+  module _ (by : TakesDemand v u owner x.level d says before after yes_before yes_after (Ok tt)) (new : ℕ) (word : new ≡ word_kept x.keep seen x.word) (z p w : PortValue) where
     pub lost_by : (stop : Stop) → PutEntry u z x.table x.index seen new x.keep (Err stop) → GaveDemand owner x.level z d p → LeftLock p x.table x.level w → ExchangesBy a w x o says before after yes_before yes_after (Err stop)
     lost_by stop put gave left =
         lost_course a v x o seen saw says differs u before after yes_before yes_after (takes (Ok tt) by) z p w stop (undue u z x.table x.index seen new x.keep stop put)
@@ -179,8 +179,8 @@ module _ (a v : PortValue) (x : EntryUpdate) (o : Owners) (seen : ℕ) (saw : Sa
         (subst (λ n. GaveDemand n x.level z (new_demand x seen) p) whose (subst (λ y. GaveDemand owner x.level z y p) is gave)) left
 
     pub done_by : (old : ℕ) (later : ℕ → Bool) (last yes_last : ℕ) → ((n : ℕ) → later n ≡ says n) → PutEntry u z x.table x.index seen new x.keep (Ok old) → LeftLock z x.table x.level p → (c : Demand) → c ≡ old_demand x old →
-        ReleasesBy p w c later after last yes_after yes_last → ExchangesBy a w x o says before last yes_before yes_last (Ok tt)
+        ReleasesDemand p w c later after last yes_after yes_last → ExchangesBy a w x o says before last yes_before yes_last (Ok tt)
     done_by old later last yes_last same put left c named release =
         done_course a v x o seen saw says differs u before after yes_before yes_after (takes (Ok tt) by) z p w old later last yes_last same
         (subst (λ y. PutEntry u z x.table x.index seen y x.keep (Ok old)) word put) left
-        (subst (λ y. ReleasesBy p w y later after last yes_after yes_last) named release)
+        (subst (λ y. ReleasesDemand p w y later after last yes_after yes_last) named release)

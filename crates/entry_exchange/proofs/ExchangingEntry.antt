@@ -15,7 +15,7 @@ use Rattle.step_maker.specs.Holds.{Holds, MayWork}
 use Rattle.step_maker.specs.Moves.{Came}
 use Rattle.step_maker.proofs.Coming.{came_post}
 use Rattle.entry_locks.specs.Entries.{MaySwapEntry}
-use Rattle.foreign_map.specs.Owning.{MayMap}
+use Rattle.foreign_map.specs.Owning.{MayMapFor}
 use Rattle.foreign_map.specs.declared.owners.Owners.{Owners}
 use Rattle.partial_state.specs.Levels.{level_type}
 use Rattle.entry_exchange.specs.declared.exchanging.EntryUpdate.{EntryUpdate}
@@ -54,7 +54,7 @@ module _ (v : PortValue) (x : EntryUpdate) (o : Owners) (holds : HoldsTableLock 
   pub look_may : MayWork v → MayWork b
   look_may may = may_standing v b [] [] (seen_lock ∷ []) v.holdings.old0 v.holdings.old1 behind may
 
-  pub look_maps : Came v b → MayMap v o → MayMap b o
+  pub look_maps : Came v b → MayMapFor v o → MayMapFor b o
   look_maps came maps = may_map v b o came (ap (λ (q : PortValue). q.holdings.turn) behind) maps
 
   pub look_old0 : b.holdings.old0 ≡ v.holdings.old0

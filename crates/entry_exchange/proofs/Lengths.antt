@@ -25,7 +25,7 @@ use Rattle.answer_fits.specs.Visits.{Nothing, Only, Then, Visit, Where, visit}
 use Rattle.flush_words.specs.Flushing as flushing
 use Rattle.flush_words.specs.Flushing.{FlushedBy}
 use Rattle.flush_waits.specs.Listing as waits
-use Rattle.flush_waits.specs.Listing.{LooksAt, Slow, WaitedFor, WaitsOn, WeighsBy, saw_flushed, saw_run}
+use Rattle.flush_waits.specs.Listing.{LooksAt, Slow, WaitedFor, WaitsInOrder, WeighsBy, saw_flushed, saw_run}
 use Rattle.frame_words.specs.Freeing.{FreesBy, PutBy, lowers_refs}
 use Rattle.frame_words.specs.Refs.{GetsBy, Raises, UnreferredBy, outside, raises_refs, refused, saw_refs}
 use Rattle.kind_words.specs.Kinds.{dead_kind, live_kind, partial_kind, work_kind}
@@ -159,7 +159,7 @@ module _ (z : Sizes) where
         let four = looks_short q owner stamp u standing now there looks in
         (omega arith, omega (arith, ap length is, length-append now before, sofar.1, four))
 
-    waits_short : (vs : List Visit) (n : ℕ) (answer : Result (Option Slow) Refusal) → are_there z vs ≡ true → WaitsOn q (OfOwner owner) stamp vs n answer → (n ≤ z.vcpus) × (length vs ≤ 4 * n)
+    waits_short : (vs : List Visit) (n : ℕ) (answer : Result (Option Slow) Refusal) → are_there z vs ≡ true → WaitsInOrder q (OfOwner owner) stamp vs n answer → (n ≤ z.vcpus) × (length vs ≤ 4 * n)
     waits_short vs n answer there (waits.none _ nothing) = (omega arith, nothing_short vs there nothing)
     waits_short vs n answer there (waits.more u first standing before now _ some looks is) =
         let both = parts_there before now vs is there in
@@ -168,7 +168,7 @@ module _ (z : Sizes) where
         let both = parts_there before now vs is there in
         waits_one u (Err r) before now vs is (waits_short before u (Ok first) both.0 some) both.1 looks
 
-    all_waits_short : (vs : List Visit) (n : ℕ) (answer : Result (Option Slow) Refusal) → are_there z vs ≡ true → WaitsOn q (OfOwner owner) stamp vs n answer → length vs ≤ 4 * z.vcpus
+    all_waits_short : (vs : List Visit) (n : ℕ) (answer : Result (Option Slow) Refusal) → are_there z vs ≡ true → WaitsInOrder q (OfOwner owner) stamp vs n answer → length vs ≤ 4 * z.vcpus
     all_waits_short vs n answer there some = let few = waits_short vs n answer there some in omega (arith, few.0, few.1)
 
     waited_short : (answer : Result (Unit {0}) Stop) → Short z (λ vs. WaitedFor q (OfOwner owner) stamp answer vs) (4 * z.vcpus)

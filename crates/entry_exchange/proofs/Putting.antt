@@ -22,7 +22,7 @@ use Rattle.xp_board.specs.Steps.{some_since}
 use Rattle.xp_board.specs.Told.{PortValue}
 use Rattle.board_lemmas.proofs.ListCounts.{newest_held}
 use Rattle.board_lemmas.proofs.Sums.{when_eq, when_ne}
-use Rattle.foreign_map.specs.Owning.{MayMap}
+use Rattle.foreign_map.specs.Owning.{MayMapFor}
 use Rattle.foreign_map.specs.declared.owners.Owners.{Owners}
 use Rattle.kind_words.proofs.KindHands.{apart_spares, known_first, no_work, typed_held}
 use Rattle.level_release.proofs.Owning.{first_passes}
@@ -56,7 +56,7 @@ at_level level tables frames =
       | inr off ↦ inr (off, ap (λ b. if b then frames else tables) (when_ne level 1 off))
     ]
 
-module _ (w : PortValue) (f level : ℕ) (o : Owners) (e : Lock) (locks : w.holdings.locks ≡ e ∷ []) (frame : e.frame ≡ f) (owned : e.owner ≡ owners.Of o.tables) (maps : MayMap w o) where
+module _ (w : PortValue) (f level : ℕ) (o : Owners) (e : Lock) (locks : w.holdings.locks ≡ e ∷ []) (frame : e.frame ≡ f) (owned : e.owner ≡ owners.Of o.tables) (maps : MayMapFor w o) where
   meet : (owner_at level o.tables o.frames ≡ o.tables) ⊎ (IsTrue (is_lowest (level_type level)) × IsTrue (some_since (sizes_of w.post.machine) w.holdings.turn (Priv o.tables) (has_now (owner_at level o.tables o.frames)) w.holdings.steps))
   meet = by_level (at_level level o.tables o.frames) maps.over
     where

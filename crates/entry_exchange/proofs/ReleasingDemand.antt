@@ -21,7 +21,7 @@ use Rattle.level_release.specs.Holding.{HoldsLive, LeavesUnheld}
 use Rattle.table_courses.specs.Acquiring.{GaveRef}
 use Rattle.entry_exchange.specs.Course.{ReleasedDemand}
 use Rattle.entry_exchange.specs.Course as courses
-use Rattle.entry_exchange.specs.Parts.{LeavesGone, ReleasesBy}
+use Rattle.entry_exchange.specs.Parts.{LeavesGone, ReleasesDemand}
 use Rattle.entry_exchange.specs.Serving.{of_given}
 use Rattle.entry_exchange.proofs.ServesGiving.{released_ref, released_typed}
 
@@ -53,14 +53,14 @@ module _ (v w : PortValue) (d : Demand) (g owner pages : ℕ) where
 -- ---- the course
 module _ (v w : PortValue) (d : Demand) (says : ℕ → Bool) where
   -- the gate was not asked
-  unasked : (before agreed : ℕ) → ReleasedDemand v d w [] → ReleasesBy v w d says before before agreed agreed
+  unasked : (before agreed : ℕ) → ReleasedDemand v d w [] → ReleasesDemand v w d says before before agreed agreed
   unasked before agreed course = record { answers = []; course = course; gate = consulted_none says before agreed; due = not_due false [] refl }
 
-  pub ref_released : (before agreed g : ℕ) → d ≡ Read g → GaveRef v w g → ReleasesBy v w d says before before agreed agreed
+  pub ref_released : (before agreed g : ℕ) → d ≡ Read g → GaveRef v w g → ReleasesDemand v w d says before before agreed agreed
   ref_released before agreed g is gave = unasked before agreed (subst (λ k. ReleasedDemand v k w []) (sym is) (courses.referred w g gave))
 
   pub typed_released : (before after yes_before yes_after g : ℕ) (t : PageType) (answer : Result (Unit {0}) Stop) → d ≡ Typed g t → IfErr answer (λ e. e ≡ Paused Due) →
-      ReleasesFrameBy v w g t says before after yes_before yes_after answer → ReleasesBy v w d says before after yes_before yes_after
+      ReleasesFrameBy v w g t says before after yes_before yes_after answer → ReleasesDemand v w d says before after yes_before yes_after
   typed_released before after yes_before yes_after g t answer is due by =
       record {
         answers = by.answers;
@@ -69,6 +69,6 @@ module _ (v w : PortValue) (d : Demand) (says : ℕ → Bool) where
         due = not_due false by.answers refl;
       }
 
-pub nothing_released : (v : PortValue) (d : Demand) (says : ℕ → Bool) (before agreed : ℕ) → (d ≡ Nothing) ⊎ (d ≡ Bad) → ReleasesBy v v d says before before agreed agreed
+pub nothing_released : (v : PortValue) (d : Demand) (says : ℕ → Bool) (before agreed : ℕ) → (d ≡ Nothing) ⊎ (d ≡ Bad) → ReleasesDemand v v d says before before agreed agreed
 nothing_released v d says before agreed (inl is) = unasked v v d says before agreed (subst (λ k. ReleasedDemand v k v []) (sym is) courses.nothing)
 nothing_released v d says before agreed (inr is) = unasked v v d says before agreed (subst (λ k. ReleasedDemand v k v []) (sym is) courses.bad)

@@ -27,7 +27,7 @@ use Rattle.entry_exchange.specs.Course.{PutEntry, PutsNew, SawEntry, new_demand,
 use Rattle.entry_exchange.specs.Course as courses
 use Rattle.entry_exchange.specs.Holding.{HoldsTableLock, LeavesDemand, holding, owner_at}
 use Rattle.entry_exchange.specs.Parts.{HoldsSeen, IsOfLevel}
-use Rattle.entry_exchange.specs.Serving.{ServesBehind, ServesGiven, ServesPut, ServesTaken, StopsPut, of_demand, of_given, put_deeds}
+use Rattle.entry_exchange.specs.Serving.{ServesDemandBehind, ServesGiven, ServesPut, ServesTaken, StopsPut, of_demand, of_given, put_deeds}
 use Rattle.entry_exchange.specs.Words.{word_kept}
 use Rattle.entry_exchange.proofs.ServesChanged.{asks_table_in, came_look, demand_asked, lock_there, look_serves, put_serves, take_serves, take_stops, taken_serves, unlocked_serves}
 use Rattle.entry_exchange.proofs.ServesWithin.{asks_by, owner_lower, within_giving}
@@ -118,7 +118,7 @@ module _ (a b : PortValue) (x : EntryUpdate) (o : Owners) (seen : ℕ) (holds : 
 
     -- another word is found there, and it is given back
     module _ (e : Stop) (q w : PortValue) (put : PutsNew y z x seen (Err e)) (gives : Serves q w (of_back x.table) []) where
-      behind : ServesPut y z x.table x.index new (Err e) → ServesGiven z q d → ServesBehind a q (of_exchange x o (Err e)) (missed a.post.machine e)
+      behind : ServesPut y z x.table x.index new (Err e) → ServesGiven z q d → ServesDemandBehind a q (of_exchange x o (Err e)) (missed a.post.machine e)
       behind serves given =
           given a (of_exchange x o (Err e)) (missed a.post.machine e) (put_behind (Err e) (Err e) serves)
           (demand_asked a b x o seen holds saw (Err e) z (came_trans b y z came_y came_z) d is) refl

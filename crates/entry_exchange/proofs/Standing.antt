@@ -20,7 +20,7 @@ use Rattle.board_lemmas.proofs.ListCounts.{first_by-cons_here}
 use Rattle.board_lemmas.proofs.Sums.{when_eq}
 use Rattle.step_maker.specs.Holds.{Holds, MayWork, Rests, quiet}
 use Rattle.entry_locks.specs.Entries.{MaySwapEntry}
-use Rattle.foreign_map.specs.Owning.{MayMap}
+use Rattle.foreign_map.specs.Owning.{MayMapFor}
 use Rattle.foreign_map.specs.declared.owners.Owners.{Owners}
 use Rattle.kind_words.proofs.KindHands.{known_first}
 use Rattle.level_validate.specs.Tables.{IsIdle}
@@ -135,7 +135,7 @@ may_same v y e f i seen new level rs ys a b stands at saw keeps =
 
 -- what the new word asks is in hand
 module _ (v y : PortValue) (e : Lock) (f i seen new level : ℕ) (o : Owners) (d : Demand) (a b : Option ℕ) (stands : Stands v y (refs_of d (owner_at level o.tables o.frames)) (typed_of d (owner_at level o.tables o.frames)) (e ∷ []) a b)
-    (at : e.frame ≡ f) (kind : e.kind ≡ level_type level) (owned : e.owner ≡ owners.Of o.tables) (works : v.holdings.works ≡ []) (maps : MayMap y o) (fits : IsOfLevel level d) where
+    (at : e.frame ≡ f) (kind : e.kind ≡ level_type level) (owned : e.owner ≡ owners.Of o.tables) (works : v.holdings.works ≡ []) (maps : MayMapFor y o) (fits : IsOfLevel level d) where
   abbrev owner : ℕ
   owner = owner_at level o.tables o.frames
 

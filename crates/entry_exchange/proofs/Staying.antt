@@ -11,7 +11,7 @@ use Rattle.step_maker.specs.Holds.{FlushedHolds, Holds, MayWork, quiet}
 use Rattle.step_maker.specs.Moves.{Came}
 use Rattle.step_maker.proofs.Coming.{came_post}
 use Rattle.flush_words.proofs.Lasting.{came_keeps}
-use Rattle.foreign_map.specs.Owning.{MayMap}
+use Rattle.foreign_map.specs.Owning.{MayMapFor}
 use Rattle.foreign_map.specs.declared.owners.Owners.{Owners}
 
 -- ---- what is held but for translations
@@ -32,7 +32,7 @@ pub flushed : (v w : PortValue) (h : Holdings) → Holds v w h → FlushedHolds 
 flushed v w h holds = ap quiet holds
 
 -- ---- who may map
-pub may_map : (v w : PortValue) (o : Owners) → Came v w → w.holdings.turn ≡ v.holdings.turn → MayMap v o → MayMap w o
+pub may_map : (v w : PortValue) (o : Owners) → Came v w → w.holdings.turn ≡ v.holdings.turn → MayMapFor v o → MayMapFor w o
 may_map v w o came turn may =
     record {
       tables = subst (λ (p : Post). o.tables < length p.machine.page_limit) (sym (came_post v w came)) may.tables;

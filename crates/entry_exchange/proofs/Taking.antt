@@ -25,7 +25,7 @@ use Rattle.writable_pages.specs.Pages.{GotPage, LeavesGot}
 use Rattle.entry_exchange.specs.Course.{TookDemand}
 use Rattle.entry_exchange.specs.Course as courses
 use Rattle.entry_exchange.specs.Holding.{LeavesDemand}
-use Rattle.entry_exchange.specs.Parts.{IsOfLevel, TakesBy}
+use Rattle.entry_exchange.specs.Parts.{IsOfLevel, TakesDemand}
 
 pub ref_undue : (e : Stop) → IsRefStop e → IsAcquireStop e × (is_due_stop e ≡ false)
 ref_undue (Refused (refusals.NoFrame f)) is = (tt, refl)
@@ -37,7 +37,7 @@ ref_undue _ is = absurd is
 -- ---- the course
 module _ (v w : PortValue) (owner level : ℕ) where
   -- the gate was not asked
-  pub unasked : (says : ℕ → Bool) (d : Demand) (answer : Result (Unit {0}) Stop) (before agreed : ℕ) → is_due_answer answer ≡ false → TookDemand owner level v d w [] answer → TakesBy v w owner level d says before before agreed agreed answer
+  pub unasked : (says : ℕ → Bool) (d : Demand) (answer : Result (Unit {0}) Stop) (before agreed : ℕ) → is_due_answer answer ≡ false → TookDemand owner level v d w [] answer → TakesDemand v w owner level d says before before agreed agreed answer
   unasked says d answer before agreed undue course = record { answers = []; course = course; gate = consulted_none says before agreed; due = not_due (is_due_answer answer) [] undue }
 
   module _ (g : ℕ) where
@@ -67,7 +67,7 @@ module _ (v w : PortValue) (owner level : ℕ) where
         lower : t ≡ level_type (level - 1)
         lower = asks ∙ level_type-under level low high
 
-        pub acquired : (says : ℕ → Bool) (h before after yes_before yes_after : ℕ) → h ≡ g → AcquiresBy v w g owner (level - 1) says before after yes_before yes_after (Ok h) → TakesBy v w owner level (Typed g t) says before after yes_before yes_after (Ok tt)
+        pub acquired : (says : ℕ → Bool) (h before after yes_before yes_after : ℕ) → h ≡ g → AcquiresBy v w g owner (level - 1) says before after yes_before yes_after (Ok h) → TakesDemand v w owner level (Typed g t) says before after yes_before yes_after (Ok tt)
         acquired says h before after yes_before yes_after at by =
             record {
               answers = by.answers;
@@ -76,7 +76,7 @@ module _ (v w : PortValue) (owner level : ℕ) where
               due = not_due false by.answers refl;
             }
 
-        pub refused : (says : ℕ → Bool) (stop : Stop) (before after yes_before yes_after : ℕ) → AcquiresBy v w g owner (level - 1) says before after yes_before yes_after (Err stop) → TakesBy v w owner level (Typed g t) says before after yes_before yes_after (Err stop)
+        pub refused : (says : ℕ → Bool) (stop : Stop) (before after yes_before yes_after : ℕ) → AcquiresBy v w g owner (level - 1) says before after yes_before yes_after (Err stop) → TakesDemand v w owner level (Typed g t) says before after yes_before yes_after (Err stop)
         refused says stop before after yes_before yes_after by =
             record {
               answers = by.answers;
@@ -87,12 +87,12 @@ module _ (v w : PortValue) (owner level : ℕ) where
 
 -- of that demand, and with that answer
 pub takes_as : (v w : PortValue) (owner level : ℕ) (says : ℕ → Bool) (before after yes_before yes_after : ℕ) (d e : Demand) (x y : Result (Unit {0}) Stop) → d ≡ e → x ≡ y →
-    TakesBy v w owner level e says before after yes_before yes_after y → TakesBy v w owner level d says before after yes_before yes_after x
+    TakesDemand v w owner level e says before after yes_before yes_after y → TakesDemand v w owner level d says before after yes_before yes_after x
 takes_as v w owner level says before after yes_before yes_after d e x y of is by =
-    subst (λ k. TakesBy v w owner level k says before after yes_before yes_after x) (sym of) (subst (λ k. TakesBy v w owner level e says before after yes_before yes_after k) (sym is) by)
+    subst (λ k. TakesDemand v w owner level k says before after yes_before yes_after x) (sym of) (subst (λ k. TakesDemand v w owner level e says before after yes_before yes_after k) (sym is) by)
 
 -- it asks nothing, and no step is made
-pub nothing_taken : (v : PortValue) (owner level : ℕ) (says : ℕ → Bool) (before agreed : ℕ) (d : Demand) → IsOfLevel level d → ((d ≡ Nothing) ⊎ (d ≡ Bad)) → TakesBy v v owner level d says before before agreed agreed (Ok tt)
+pub nothing_taken : (v : PortValue) (owner level : ℕ) (says : ℕ → Bool) (before agreed : ℕ) (d : Demand) → IsOfLevel level d → ((d ≡ Nothing) ⊎ (d ≡ Bad)) → TakesDemand v v owner level d says before before agreed agreed (Ok tt)
 nothing_taken v owner level says before agreed d fits (inl is) = takes_as v v owner level says before before agreed agreed d Nothing (Ok tt) (Ok tt) is refl (unasked v v owner level says Nothing (Ok tt) before agreed refl courses.nothing)
 nothing_taken v owner level says before agreed d fits (inr is) = absurd (subst (λ k. IsOfLevel level k) is fits)
 

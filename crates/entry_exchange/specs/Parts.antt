@@ -98,8 +98,8 @@ pub data GaveTable (v : PortValue) (f level owner : ℕ) : PortValue → Type 0 
   shared : (u w : PortValue) → DropsType v u f false → GaveRef u w f → GaveTable v f level owner w
   last : (u w : PortValue) → DropsType v u f true → KeptFor u w f (partial_kind (level_type level) true false 512 0) owner → GaveTable v f level owner w
 
-abbrev pub TakesBy : PortValue → PortValue → ℕ → ℕ → Demand → (ℕ → Bool) → ℕ → ℕ → ℕ → ℕ → Result (Unit {0}) Stop → Type 0
-TakesBy v w owner level d says before after yes_before yes_after answer = WithGate (λ answers. TookDemand owner level v d w answers answer) says before after yes_before yes_after answer
+abbrev pub TakesDemand : PortValue → PortValue → ℕ → ℕ → Demand → (ℕ → Bool) → ℕ → ℕ → ℕ → ℕ → Result (Unit {0}) Stop → Type 0
+TakesDemand v w owner level d says before after yes_before yes_after answer = WithGate (λ answers. TookDemand owner level v d w answers answer) says before after yes_before yes_after answer
 
-abbrev pub ReleasesBy : PortValue → PortValue → Demand → (ℕ → Bool) → ℕ → ℕ → ℕ → ℕ → Type 0
-ReleasesBy v w d says before after yes_before yes_after = WithGate (λ answers. ReleasedDemand v d w answers) says before after yes_before yes_after (Ok tt)
+abbrev pub ReleasesDemand : PortValue → PortValue → Demand → (ℕ → Bool) → ℕ → ℕ → ℕ → ℕ → Type 0
+ReleasesDemand v w d says before after yes_before yes_after = WithGate (λ answers. ReleasedDemand v d w answers) says before after yes_before yes_after (Ok tt)

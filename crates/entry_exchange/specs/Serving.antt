@@ -60,16 +60,16 @@ pub record ServesTaken (v w : PortValue) (d : Demand) (owner pages : ℕ) (answe
 -- ---- given back
 -- Behind any piece that asks the frame, and may take marks off, the steps serve that piece. An exchange may be lost that is to take the mark
 -- of a table back.
-pub record ServesBehind (u w : PortValue) (r : Request) (ds : List Deed) : Type 0 where
+pub record ServesDemandBehind (u w : PortValue) (r : Request) (ds : List Deed) : Type 0 where
   pub more : List Deed
   pub hidden : (more ≡ []) ⊎ ((f : ℕ) × (more ≡ Misses (Kind f) ∷ []))
   pub serves : Serves u w r (more ++ ds)
 
 abbrev pub ServesGiven : PortValue → PortValue → Demand → Type 0
-ServesGiven v w d = (u : PortValue) (r : Request) (ds : List Deed) → Serves u v r ds → AsksDemand u.post.machine u.post.vcpu r (Met u v) d → r.locks ≡ true → ServesBehind u w r ds
+ServesGiven v w d = (u : PortValue) (r : Request) (ds : List Deed) → Serves u v r ds → AsksDemand u.post.machine u.post.vcpu r (Met u v) d → r.locks ≡ true → ServesDemandBehind u w r ds
 
 abbrev pub ServesTable : PortValue → PortValue → ℕ → Type 0
-ServesTable v w f = (u : PortValue) (r : Request) (ds : List Deed) → Serves u v r ds → IsAsked u.post.machine u.post.vcpu r (Met u v) f → r.locks ≡ true → ServesBehind u w r ds
+ServesTable v w f = (u : PortValue) (r : Request) (ds : List Deed) → Serves u v r ds → IsAsked u.post.machine u.post.vcpu r (Met u v) f → r.locks ≡ true → ServesDemandBehind u w r ds
 
 -- ---- put there
 -- the one deed of an exchange, or the one that was lost

@@ -12,7 +12,7 @@ ghost use Rattle.table_words.specs.OldWords.{known_old};
 ghost use Rattle.table_words.specs.declared.old_words.OldWord.TheVariants.{First};
 ghost use Rattle.entry_exchange.specs.Course.{GaveDemand};
 ghost use Rattle.entry_exchange.specs.Holding.{LeavesDemand};
-ghost use Rattle.entry_exchange.specs.Parts.{GaveTable, HoldsFreed, HoldsTaken, HoldsTyped, IsInside, IsOfLevel, LeavesGone, LeavesUntyped, ReleasesBy, TakesBy};
+ghost use Rattle.entry_exchange.specs.Parts.{GaveTable, HoldsFreed, HoldsTaken, HoldsTyped, IsInside, IsOfLevel, LeavesGone, LeavesUntyped, ReleasesDemand, TakesDemand};
 ghost use Rattle.entry_exchange.specs.Serving.{ServesGiven, ServesTable, ServesTaken, of_demand, of_given};
 
 use frame_types::{drop_plain, drop_type};
@@ -48,7 +48,7 @@ pub(crate) fn take_demand<P: Port>(
     ensures stops { (pages : ℕ) → IfErr result (λ e. Stops (P.value port.old) (P.value port.new) (of_demand wanted owner pages (is_due_answer result)) e) }
     ensures kinds { IfErr result IsAcquireStop }
     ensures hand { LeavesDemand (P.value port.old) (P.value port.new) wanted owner result }
-    ensures course { TakesBy (P.value port.old) (P.value port.new) owner level wanted (says gate.old) (count_asks gate.old) (count_asks gate.new) (count_yes gate.old) (count_yes gate.new) result }
+    ensures course { TakesDemand (P.value port.old) (P.value port.new) owner level wanted (says gate.old) (count_asks gate.old) (count_asks gate.new) (count_yes gate.old) (count_yes gate.new) result }
     ensures says { (n : ℕ) → says gate.new n ≡ says gate.old n }
     ensures paces { paces gate.new ≡ paces gate.old }
     ensures calm { calm gate.old ≡ true → (is_due_answer result ≡ false) × (calm gate.new ≡ true) }
@@ -129,7 +129,7 @@ pub(crate) fn release_demand<P: Port>(port: &mut P, gate: &mut dyn Preempt, old:
     ensures came { Came (P.value port.old) (P.value port.new) }
     ensures serves { (owner pages : ℕ) → Serves (P.value port.old) (P.value port.new) (of_given old owner pages) [] }
     ensures hand { LeavesGone (P.value port.old) (P.value port.new) old }
-    ensures course { ReleasesBy (P.value port.old) (P.value port.new) old (says gate.old) (count_asks gate.old) (count_asks gate.new) (count_yes gate.old) (count_yes gate.new) }
+    ensures course { ReleasesDemand (P.value port.old) (P.value port.new) old (says gate.old) (count_asks gate.old) (count_asks gate.new) (count_yes gate.old) (count_yes gate.new) }
     ensures says { (n : ℕ) → says gate.new n ≡ says gate.old n }
     ensures paces { paces gate.new ≡ paces gate.old }
     ensures calm { calm gate.old ≡ true → calm gate.new ≡ true }

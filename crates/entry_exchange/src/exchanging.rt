@@ -7,7 +7,7 @@ ghost use Rattle.step_maker.specs.Holds.{MayWork, Rests};
 ghost use Rattle.step_maker.specs.Moves.{Came};
 ghost use Rattle.answer_fits.specs.Answers.{Stops};
 ghost use Rattle.entry_locks.specs.Entries.{MaySwapEntry};
-ghost use Rattle.foreign_map.specs.Owning.{MayMap};
+ghost use Rattle.foreign_map.specs.Owning.{MayMapFor};
 ghost use Rattle.level_release.specs.Asking.{is_due_answer};
 ghost use Rattle.level_validate.specs.Acquiring.{IsAcquireStop};
 ghost use Rattle.table_words.specs.OldWords.{known_old};
@@ -61,7 +61,7 @@ pub fn exchange_entry<P: Port>(
     requires slot { is_slot (level_type update.level) update.index ≡ false }
     requires may { MayWork (P.value port.old) }
     requires locked { HoldsTableLock (P.value port.old) update.table update.level owners.tables }
-    requires maps { MayMap (P.value port.old) owners }
+    requires maps { MayMapFor (P.value port.old) owners }
     requires room { known_old First (P.value port.old).holdings ≡ Some 0 }
     requires room_too { known_old Second (P.value port.old).holdings ≡ Some 0 }
     ensures came { Came (P.value port.old) (P.value port.new) }
@@ -114,7 +114,7 @@ fn change_demand<P: Port>(
     requires slot { is_slot (level_type update.level) update.index ≡ false }
     requires may { MayWork (P.value port.old) }
     requires locked { HoldsSeen (P.value port.old) update.table update.level owners.tables update.index seen }
-    requires maps { MayMap (P.value port.old) owners }
+    requires maps { MayMapFor (P.value port.old) owners }
     requires room { known_old First (P.value port.old).holdings ≡ Some 0 }
     requires room_too { known_old Second (P.value port.old).holdings ≡ Some 0 }
     requires wanted { wanted ≡ new_demand update seen }

@@ -27,7 +27,7 @@ use Rattle.entry_exchange.specs.Course as course
 use Rattle.entry_exchange.specs.Course.{Exchanged, PutEntry, TookDemand, new_demand}
 use Rattle.entry_exchange.specs.Holding.{owner_at}
 use Rattle.entry_exchange.specs.declared.exchanging.EntryUpdate.{EntryUpdate}
-use Rattle.exchange_laws.specs.Plain.{EndsAsPlain, ExchangesAsPlain, exchanged}
+use Rattle.exchange_laws.specs.Plain.{EndsAsPlain, ExchangesAsPlain, exchanged_plain}
 use Rattle.exchange_laws.proofs.Going.{page_left_came}
 use Rattle.exchange_laws.proofs.Unlocking.{lock_came}
 
@@ -90,12 +90,12 @@ abbrev pub LeavesAsPlain : Type 0
 LeavesAsPlain =
     (v w : PortValue) (x : EntryUpdate) (o : Owners) (answers : List Bool) (r : Result (Unit {0}) Stop) → IsMachine v.post.machine → is_telling v ≡ true → IsAtRest v.post.machine (told_word v) → IsOrderly v.post.machine (told_word v) →
     1 ≤ x.level → x.level ≤ 4 → x.table < v.post.machine.frames → x.index < 512 → Exchanged v x o w answers r → yeses answers ≡ 0 →
-    ExchangesAsPlain v.post.machine w x.level (exchanged v.post.machine x o (plain_of (told_word v))) r
+    ExchangesAsPlain v.post.machine w x.level (exchanged_plain v.post.machine x o (plain_of (told_word v))) r
 
 -- so alone it ends as the plain one
 pub ends_alone : AloneStays → NeitherLostNorBusy → NobodyWaitedFor → LeavesAsPlain → (v w : PortValue) (x : EntryUpdate) (o : Owners) (answers : List Bool) (r : Result (Unit {0}) Stop) → IsAlone v → length v.post.machine.vcpu_domain ≡ 1 →
     IsAtRest v.post.machine (told_word v) → ClockGoesOn v w → 1 ≤ x.level → x.level ≤ 4 → x.table < v.post.machine.frames → x.index < 512 → Exchanged v x o w answers r → yeses answers ≡ 0 →
-    IfErr r (λ e. Stops v w (of_exchange x o r) e) → EndsAsPlain v.post.machine w x.level (exchanged v.post.machine x o (plain_of (told_word v))) r
+    IfErr r (λ e. Stops v w (of_exchange x o r) e) → EndsAsPlain v.post.machine w x.level (exchanged_plain v.post.machine x o (plain_of (told_word v))) r
 ends_alone stays neither nobody leaves v w x o answers r alone one calm goes low high frame few exchange none stops =
-    ends_by v.post.machine w x.level (exchanged v.post.machine x o (plain_of (told_word v))) r (exchange_ended stays neither nobody v x o alone one w answers r exchange goes none stops)
+    ends_by v.post.machine w x.level (exchanged_plain v.post.machine x o (plain_of (told_word v))) r (exchange_ended stays neither nobody v x o alone one w answers r exchange goes none stops)
     (leaves v w x o answers r alone.state.sound.machine (alone_telling v alone) calm (alone_orderly v alone) low high frame few exchange none)

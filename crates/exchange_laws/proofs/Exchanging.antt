@@ -29,7 +29,7 @@ use Rattle.entry_exchange.specs.Course.{Exchanged, LeftLock, PutsNew, ReleasedDe
 use Rattle.entry_exchange.specs.Holding.{owner_at}
 use Rattle.entry_exchange.specs.Words.{same_demand, word_kept}
 use Rattle.entry_exchange.specs.declared.exchanging.EntryUpdate.{EntryUpdate}
-use Rattle.exchange_laws.specs.Plain.{ExchangesAsPlain, exchange_by, exchange_for, exchanged, put_on, unlocked, with_cell}
+use Rattle.exchange_laws.specs.Plain.{ExchangesAsPlain, exchange_by, exchange_for, exchanged_plain, put_on, unlocked_plain, with_cell}
 use Rattle.exchange_laws.proofs.Cells.{meet_keeps}
 use Rattle.exchange_laws.proofs.Demanding.{demand_took}
 use Rattle.exchange_laws.proofs.Going.{demand_came}
@@ -115,7 +115,7 @@ module _ (releases : ReleasesAsPlain) (v : PortValue) (x : EntryUpdate) (o : Own
     abbrev whole : PlainOutcome
     whole = exchange_by v.post.machine (owner_at x.level o.tables o.frames) x (word_kept x.keep seen x.word) (old_demand x seen) (plain_of (told_word v)) (new_demand x seen)
 
-    pub is_whole : exchanged v.post.machine x o (plain_of (told_word v)) ≡ whole
+    pub is_whole : exchanged_plain v.post.machine x o (plain_of (told_word v)) ≡ whole
     is_whole =
         ap (λ c. exchange_by n owner x (word_kept x.keep c x.word) (demand_at (level_type x.level) x.index c) p (demand_at (level_type x.level) x.index (word_kept x.keep c x.word))) cell
 
@@ -154,7 +154,7 @@ module _ (releases : ReleasesAsPlain) (v : PortValue) (x : EntryUpdate) (o : Own
     untaken_whole y w answers stop differ a lock =
         let on = took_on y answers (Err stop) a in
         subst (λ b. ExchangesAsPlain n w x.level b (Err stop)) (sym (whole_by false (took_good owner x.level u (new_demand x seen) y answers (Err stop) a) differ))
-        (or_by n x.level taking.refusal taking.left (unlocked x.level x.table) (λ q. fine (put_on x new (old_demand x seen) q)) y w stop (took y answers (Err stop) a)
+        (or_by n x.level taking.refusal taking.left (unlocked_plain x.level x.table) (λ q. fine (put_on x new (old_demand x seen) q)) y w stop (took y answers (Err stop) a)
         (λ d. lock_off n y w x.table x.level taking.left on.same on.tells low d lock))
 
     asks : (old g : ℕ) (t : PageType) → old_demand x old ≡ demands.Typed g t → t ≡ level_type (x.level - 1)
@@ -173,24 +173,24 @@ module _ (releases : ReleasesAsPlain) (v : PortValue) (x : EntryUpdate) (o : Own
         let on_z = goes_on y z on_y (put_came y z x.table x.index seen new x.keep (Ok old) puts) in
         let off = lock_off n z a x.table x.level (with_cell x.table x.index new taking.left) on_z.same on_z.tells low put.1 lock in
         let on_a = goes_on z a on_z (lock_came z a x.table x.level lock) in
-        let free = unlocked x.level x.table (with_cell x.table x.index new taking.left) in
+        let free = unlocked_plain x.level x.table (with_cell x.table x.index new taking.left) in
         let gave = demand_released releases n a machine on_a.same on_a.tells (x.level - 1) (omega (arith, high)) free off (old_demand x old) w more (asks old) gone (fewer_yeses more answers none) in
         subst (λ b. ExchangesAsPlain n w x.level b (Ok tt))
-        (sym (whole_by false (took_good owner x.level u (new_demand x seen) y answers (Ok tt) taken) differ ∙ or_done taking.refusal taking.left (unlocked x.level x.table) (λ q. fine (put_on x new (old_demand x seen) q)) t.0))
+        (sym (whole_by false (took_good owner x.level u (new_demand x seen) y answers (Ok tt) taken) differ ∙ or_done taking.refusal taking.left (unlocked_plain x.level x.table) (λ q. fine (put_on x new (old_demand x seen) q)) t.0))
         (refl, subst (λ c. Describes n (told_word w) (drop_demand (let_go (x.level - 1)) free (old_demand x c))) was gave)
 
   -- ---- the law
-  pub exchange_plain : (w : PortValue) (answers : List Bool) (r : Result (Unit {0}) Stop) → Exchanged v x o w answers r → yeses answers ≡ 0 → ExchangesAsPlain v.post.machine w x.level (exchanged v.post.machine x o (plain_of (told_word v))) r
+  pub exchange_plain : (w : PortValue) (answers : List Bool) (r : Result (Unit {0}) Stop) → Exchanged v x o w answers r → yeses answers ≡ 0 → ExchangesAsPlain v.post.machine w x.level (exchanged_plain v.post.machine x o (plain_of (told_word v))) r
   exchange_plain _ _ _ (course.bad u w seen saw bad lock) none =
       subst (λ a. ExchangesAsPlain n w x.level a (Err (Refused (refusals.Reserved x.table x.index (word_kept x.keep seen x.word))))) (sym (is_whole u seen saw)) (bad_whole u seen saw w bad lock)
   exchange_plain _ _ _ (course.same u y w seen old saw same puts lock) none =
       subst (λ a. ExchangesAsPlain n w x.level a (Ok tt)) (sym (is_whole u seen saw)) (same_whole u seen saw y w old same puts (put_came u y x.table x.index seen (word_kept x.keep seen x.word) x.keep (Ok old) puts) lock)
   exchange_plain _ _ _ (course.unput u y w seen stop saw same puts lock) none =
-      entry_put n u y x.table x.index seen (word_kept x.keep seen x.word) x.keep (Err stop) p (on_u u seen saw).tells (at_u u seen saw) puts w x.level (exchanged n x o p)
+      entry_put n u y x.table x.index seen (word_kept x.keep seen x.word) x.keep (Err stop) p (on_u u seen saw).tells (at_u u seen saw) puts w x.level (exchanged_plain n x o p)
   exchange_plain _ _ _ (course.untaken u y w seen answers stop saw differ a lock) none =
       subst (λ b. ExchangesAsPlain n w x.level b (Err stop)) (sym (is_whole u seen saw)) (untaken_whole u seen saw y w answers stop differ a lock)
   exchange_plain _ _ _ (course.lost u y z a w seen answers stop saw differ taken puts gave lock) none =
       let t = took u seen saw y answers (Ok tt) taken in
-      entry_put n y z x.table x.index seen (word_kept x.keep seen x.word) x.keep (Err stop) (taking u seen saw).left (took_on u seen saw y answers (Ok tt) taken).tells t.1 puts w x.level (exchanged n x o p)
+      entry_put n y z x.table x.index seen (word_kept x.keep seen x.word) x.keep (Err stop) (taking u seen saw).left (took_on u seen saw y answers (Ok tt) taken).tells t.1 puts w x.level (exchanged_plain n x o p)
   exchange_plain _ _ _ (course.done u y z a w seen old answers more saw differ taken puts lock gone) none =
       subst (λ b. ExchangesAsPlain n w x.level b (Ok tt)) (sym (is_whole u seen saw)) (done_whole u seen saw y z a w old answers more differ taken puts lock gone none)

@@ -31,7 +31,7 @@ use Rattle.entry_locks.specs.Locks.{Unlocks}
 use Rattle.entry_locks.proofs.Unlocking.{unlock_words}
 use Rattle.entry_exchange.specs.Course as course
 use Rattle.entry_exchange.specs.Course.{LeftLock}
-use Rattle.exchange_laws.specs.Plain.{unlocked, unlocked_by}
+use Rattle.exchange_laws.specs.Plain.{unlocked_plain, unlocked_by}
 use Rattle.exchange_laws.proofs.Given.{given_back}
 
 -- ---- its steps are steps of the port
@@ -93,10 +93,10 @@ module _ (n : Machine) (v u : PortValue) (f level : ℕ) (last : Bool) (p : Plai
   telling_there = came_telling v u came ∙ telling
 
   -- what the lock's going off comes to there
-  comes : unlocked level f p ≡ (if k.number == 1 then with_kind f (partial_kind (level_type level) false false 512 0) p else reference_back f (with_kind f (without_lock k) p))
+  comes : unlocked_plain level f p ≡ (if k.number == 1 then with_kind f (partial_kind (level_type level) false false 512 0) p else reference_back f (with_kind f (without_lock k) p))
   comes = ap (λ j. unlocked_by level f j p) there
 
-  shared_off : (w : PortValue) → last ≡ false → GaveRef u w f → Describes n (told_word w) (unlocked level f p)
+  shared_off : (w : PortValue) → last ≡ false → GaveRef u w f → Describes n (told_word w) (unlocked_plain level f p)
   shared_off w more gave =
       let one = given_back n u w f (with_kind f (without_lock k) p) machine_there telling_there off_described gave in
       let is : (k.number == 1) ≡ false = sym off.counts ∙ more in
@@ -130,13 +130,13 @@ module _ (n : Machine) (v u : PortValue) (f level : ℕ) (last : Bool) (p : Plai
     written : left ≡ sober (kind_fields (kind_write left))
     written = sym (ap sober (fields_write left (partial_is (level_type level) (level_type-typed level) false 512 (level_type-table level low) (omega arith))))
 
-    last_off : last ≡ true → Describes n (told_word w) (unlocked level f p)
+    last_off : last ≡ true → Describes n (told_word w) (unlocked_plain level f p)
     last_off none =
         let one = described_kind n (told_word v) (told_word w) p f (kind_write left) left both written d in
         let is : (k.number == 1) ≡ true = sym off.counts ∙ none in
         subst (λ q. Describes n (told_word w) q) (sym (comes ∙ ap (λ b. if b then with_kind f left p else reference_back f (with_kind f (without_lock k) p)) is)) one
 
 -- the words are those of the plain value with the lock off
-pub lock_off : (n : Machine) (v w : PortValue) (f level : ℕ) (p : Plain) → v.post.machine ≡ n → is_telling v ≡ true → 1 ≤ level → Describes n (told_word v) p → LeftLock v f level w → Describes n (told_word w) (unlocked level f p)
+pub lock_off : (n : Machine) (v w : PortValue) (f level : ℕ) (p : Plain) → v.post.machine ≡ n → is_telling v ≡ true → 1 ≤ level → Describes n (told_word v) p → LeftLock v f level w → Describes n (told_word w) (unlocked_plain level f p)
 lock_off n v _ f level p same telling low d (course.shared u w off gave) = shared_off n v u f level false p same telling d off w refl gave
 lock_off n v _ f level p same telling low d (course.last u y w found off store names) = last_off n v u f level true p same telling d off y w found low store names refl

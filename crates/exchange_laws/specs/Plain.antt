@@ -31,8 +31,8 @@ with_cell f i x p = record { shares = p.shares; kinds = p.kinds; cells = λ g j.
 abbrev pub unlocked_by : ℕ → ℕ → KindWord → Plain → Plain
 unlocked_by level f k p = if k.number == 1 then with_kind f (partial_kind (level_type level) false false 512 0) p else reference_back f (with_kind f (record k { number = k.number - 1; locked = false }) p)
 
-abbrev pub unlocked : ℕ → ℕ → Plain → Plain
-unlocked level f p = unlocked_by level f (p.kinds f) p
+abbrev pub unlocked_plain : ℕ → ℕ → Plain → Plain
+unlocked_plain level f p = unlocked_by level f (p.kinds f) p
 
 -- ---- the exchange of an entry of a table under its lock
 -- the word that it gets
@@ -41,20 +41,20 @@ new_word x p = word_kept x.keep (p.cells x.table x.index) x.word
 
 -- behind what the new word asks: the word is put there, the lock goes off, and what the old word asked is given back
 abbrev pub put_on : EntryUpdate → ℕ → Demand → Plain → Plain
-put_on x new old p = drop_demand (let_go (x.level - 1)) (unlocked x.level x.table (with_cell x.table x.index new p)) old
+put_on x new old p = drop_demand (let_go (x.level - 1)) (unlocked_plain x.level x.table (with_cell x.table x.index new p)) old
 
 -- the word alone, where both ask the same; else what the new one asks is taken first, and where that is not to be had the lock goes off
 abbrev pub exchange_for : Machine → ℕ → EntryUpdate → ℕ → Demand → Plain → Demand → Bool → PlainOutcome
-exchange_for n owner x new old p d true = fine (unlocked x.level x.table (with_cell x.table x.index new p))
-exchange_for n owner x new old p d false = then_or (meet n owner (take_at (x.level - 1) n owner) x.table x.index p d) (unlocked x.level x.table) (λ q. fine (put_on x new old q))
+exchange_for n owner x new old p d true = fine (unlocked_plain x.level x.table (with_cell x.table x.index new p))
+exchange_for n owner x new old p d false = then_or (meet n owner (take_at (x.level - 1) n owner) x.table x.index p d) (unlocked_plain x.level x.table) (λ q. fine (put_on x new old q))
 
 -- what it may not ask is refused with the new word
 abbrev pub exchange_by : Machine → ℕ → EntryUpdate → ℕ → Demand → Plain → Demand → PlainOutcome
-exchange_by n owner x new old p demands.Bad = refused (Reserved x.table x.index new) (unlocked x.level x.table p)
+exchange_by n owner x new old p demands.Bad = refused (Reserved x.table x.index new) (unlocked_plain x.level x.table p)
 exchange_by n owner x new old p d = exchange_for n owner x new old p d (same_demand d old)
 
-abbrev pub exchanged : Machine → EntryUpdate → Owners → Plain → PlainOutcome
-exchanged n x o p = exchange_by n (owner_at x.level o.tables o.frames) x (new_word x p) (entry_of p (level_type x.level) x.table x.index) p (demand_at (level_type x.level) x.index (new_word x p))
+abbrev pub exchanged_plain : Machine → EntryUpdate → Owners → Plain → PlainOutcome
+exchanged_plain n x o p = exchange_by n (owner_at x.level o.tables o.frames) x (new_word x p) (entry_of p (level_type x.level) x.table x.index) p (demand_at (level_type x.level) x.index (new_word x p))
 
 -- ---- what an exchange comes to
 -- refused there, too, and at level 1 for the same cause

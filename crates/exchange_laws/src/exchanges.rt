@@ -13,7 +13,7 @@ ghost use Rattle.foreign_map.specs.declared.owners.Owners.{Owners};
 ghost use Rattle.entry_exchange.specs.Asking.{of_exchange};
 ghost use Rattle.entry_exchange.specs.Course.{Exchanged};
 ghost use Rattle.entry_exchange.specs.declared.exchanging.EntryUpdate.{EntryUpdate};
-ghost use Rattle.exchange_laws.specs.Plain.{EndsAsPlain, ExchangesAsPlain, exchanged};
+ghost use Rattle.exchange_laws.specs.Plain.{EndsAsPlain, ExchangesAsPlain, exchanged_plain};
 
 use answer_laws::{a_call_alone_is_neither_lost_nor_busy, alone_stays, nobody_is_waited_for};
 use course_laws::who_is_alone_has_orderly_words;
@@ -24,7 +24,7 @@ use release_laws::a_release_leaves_what_the_plain_one_leaves;
 pub fn an_exchange_leaves_what_the_plain_one_leaves()
     ensures { (v w : PortValue) (x : EntryUpdate) (o : Owners) (answers : List Bool) (answer : Result (Unit {0}) Stop) → IsMachine v.post.machine → is_telling v ≡ true → IsAtRest v.post.machine (told_word v) → IsOrderly v.post.machine (told_word v) →
         1 ≤ x.level → x.level ≤ 4 → x.table < v.post.machine.frames → x.index < 512 → Exchanged v x o w answers answer → yeses answers ≡ 0 →
-        ExchangesAsPlain v.post.machine w x.level (exchanged v.post.machine x o (plain_of (told_word v))) answer }
+        ExchangesAsPlain v.post.machine w x.level (exchanged_plain v.post.machine x o (plain_of (told_word v))) answer }
 {
     a_release_leaves_what_the_plain_one_leaves();
 }
@@ -33,7 +33,7 @@ pub fn an_exchange_leaves_what_the_plain_one_leaves()
 pub fn an_exchange_alone_ends_as_the_plain_one()
     ensures { (v w : PortValue) (x : EntryUpdate) (o : Owners) (answers : List Bool) (answer : Result (Unit {0}) Stop) → IsAlone v → length v.post.machine.vcpu_domain ≡ 1 → IsAtRest v.post.machine (told_word v) → ClockGoesOn v w →
         1 ≤ x.level → x.level ≤ 4 → x.table < v.post.machine.frames → x.index < 512 → Exchanged v x o w answers answer → yeses answers ≡ 0 → IfErr answer (λ e. Stops v w (of_exchange x o answer) e) →
-        EndsAsPlain v.post.machine w x.level (exchanged v.post.machine x o (plain_of (told_word v))) answer }
+        EndsAsPlain v.post.machine w x.level (exchanged_plain v.post.machine x o (plain_of (told_word v))) answer }
 {
     alone_stays();
     a_call_alone_is_neither_lost_nor_busy();

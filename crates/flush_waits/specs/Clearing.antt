@@ -27,7 +27,7 @@ use Rattle.flush_waits.specs.declared.Awaiting.{Awaiting}
 use Rattle.flush_waits.specs.declared.Concern.{Concern}
 use Rattle.flush_waits.specs.declared.Concern.TheVariants as concerns
 use Rattle.flush_waits.specs.declared.Late.{Late}
-use Rattle.flush_waits.specs.Listing.{LooksAt, Slow, WaitedFor, WaitsOn}
+use Rattle.flush_waits.specs.Listing.{LooksAt, Slow, WaitedFor, WaitsInOrder}
 use Rattle.flush_waits.specs.Waiting.{IsMarked, IsWait, ServesBehind, StopsBehind}
 
 -- ---- what is awaited
@@ -138,8 +138,8 @@ slow_of None = None
 slow_of (Some b) = Some (record { vcpu = b.vcpu; found = b.found })
 
 abbrev pub ListedBy : Post → Awaiting → ℕ → Result (Option Late) Refusal → List Visit → Type 0
-ListedBy q a upto (Ok o) vs = WaitsOn q (whose_by q a) a.stamp vs upto (Ok (slow_of o))
-ListedBy q a upto (Err r) vs = (n : ℕ) × WaitsOn q (whose_by q a) a.stamp vs n (Err r)
+ListedBy q a upto (Ok o) vs = WaitsInOrder q (whose_by q a) a.stamp vs upto (Ok (slow_of o))
+ListedBy q a upto (Err r) vs = (n : ℕ) × WaitsInOrder q (whose_by q a) a.stamp vs n (Err r)
 
 -- the steps from v to w showed that all below that number are clear, or the least that is behind
 pub record Waits (v w : PortValue) (a : Awaiting) (upto : ℕ) (answer : Result (Option Late) Refusal) : Type 0 where

@@ -73,8 +73,8 @@ pub data OwnersBy (n : Machine) (caller foreign : ℕ) : Result Owners Refusal �
       OverOf caller (tables_of caller foreign) (frames_of caller foreign) None ws →
       OwnersBy n caller foreign (Ok (record { tables = tables_of caller foreign; frames = frames_of caller foreign })) (ws ++ (us ++ vs))
 
-abbrev pub OwnersFound : PortValue → PortValue → ℕ → ℕ → Result Owners Refusal → Type 0
-OwnersFound v w caller foreign answer = Does v w (λ vs. OwnersBy v.post.machine caller foreign answer vs)
+abbrev pub FoundOwners : PortValue → PortValue → ℕ → ℕ → Result Owners Refusal → Type 0
+FoundOwners v w caller foreign answer = Does v w (λ vs. OwnersBy v.post.machine caller foreign answer vs)
 
 -- ---- one domain, and one over another
 -- the number is that of a domain that the caller may name, or that is refused
@@ -94,7 +94,7 @@ AllowsFound v w caller tables frames answer = Does v w (λ vs. AllowsBy caller t
 
 -- ---- what is known then
 -- both are domains of the machine; and where they are two, the privilege of the one over the other was found in this turn
-pub record MayMap (w : PortValue) (o : Owners) : Type 0 where
+pub record MayMapFor (w : PortValue) (o : Owners) : Type 0 where
   pub tables : o.tables < length w.post.machine.page_limit
   pub frames : o.frames < length w.post.machine.page_limit
   pub over : (o.frames ≡ o.tables) ⊎ IsTrue (some_since (sizes_of w.post.machine) w.holdings.turn (Priv o.tables) (has_now o.frames) w.holdings.steps)

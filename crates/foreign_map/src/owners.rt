@@ -4,7 +4,7 @@ ghost use Rattle.xp_words.specs.declared.reply.Stop.TheVariants.{Refused};
 ghost use Rattle.xp_board.specs.Readings.{domain_of, has_now};
 ghost use Rattle.step_maker.specs.Holds.{Rests, Same};
 ghost use Rattle.answer_fits.specs.Answers.{Serves, Stops};
-ghost use Rattle.foreign_map.specs.Owning.{AdmitsFound, AllowsFound, MayMap, OwnersFound, TwinOwners, frames_of, of_owners, tables_of};
+ghost use Rattle.foreign_map.specs.Owning.{AdmitsFound, AllowsFound, MayMapFor, FoundOwners, TwinOwners, frames_of, of_owners, tables_of};
 
 use flush_words::{look_life, look_privileges};
 use xp_board::Port;
@@ -30,9 +30,9 @@ pub fn owner_for<P: Port>(port: &mut P, caller: u16, foreign: u64) -> Result<Own
     ensures stops { IfErr result (λ x. Stops (P.value port.old) (P.value port.new) (of_owners (P.value port.old).post.machine caller foreign) (Refused x)) }
     ensures hand { Same (P.value port.old) (P.value port.new) }
     // By the words that its steps found, in that order.
-    ensures found { OwnersFound (P.value port.old) (P.value port.new) caller foreign result }
+    ensures found { FoundOwners (P.value port.old) (P.value port.new) caller foreign result }
     // The privilege was found in this turn where one is needed.
-    ensures may { IfOk result (λ o. MayMap (P.value port.new) o) }
+    ensures may { IfOk result (λ o. MayMapFor (P.value port.new) o) }
     ensures plain { TwinOwners (P.value port.old) (P.value port.new) caller foreign result }
 {
     if foreign >= 1 << 32 {

@@ -1,12 +1,12 @@
 -- Courses with a gate: that was not asked, or in a part of the course alone.
 use Rattle.std.proofs.Common.{◌≡◌, ℕ, ◌+◌, Bool, true, false, List, [], ◌∷◌, ◌++◌, length, Result, Ok, refl, sym, ap, ◌∙◌, subst, arith}
 use Rattle.xp_words.specs.declared.reply.Stop.{Stop}
-use Rattle.xp_preempt.specs.Gates.{Consulted, Gives, answer_at, asks_on, ends_yes, next_ask, one_more_if, yeses}
+use Rattle.xp_preempt.specs.Gates.{Consulted, GivesAnswers, answer_at, asks_on, ends_yes, next_ask, one_more_if, yeses}
 use Rattle.level_release.specs.Asking.{is_due_answer}
 use Rattle.level_release.specs.Course.{By}
 
 pub consulted_none : (says : ℕ → Bool) (asks positive : ℕ) → Consulted says asks asks positive positive []
-unfolding Gives asks_on yeses
+unfolding GivesAnswers asks_on yeses
 consulted_none says asks positive = record { gives = tt; asks = refl; yes = omega arith }
 
 module _ (says : ℕ → Bool) where
@@ -23,8 +23,8 @@ unfolding asks_on
 asks_more [] answers before = refl
 asks_more (a ∷ rest) answers before = ap next_ask (asks_more rest answers before)
 
-gives_more : (says : ℕ → Bool) (before : ℕ) (answers more : List Bool) → Gives says before answers → Gives says (asks_on (length answers) before) more → Gives says before (more ++ answers)
-unfolding Gives
+gives_more : (says : ℕ → Bool) (before : ℕ) (answers more : List Bool) → GivesAnswers says before answers → GivesAnswers says (asks_on (length answers) before) more → GivesAnswers says before (more ++ answers)
+unfolding GivesAnswers
 gives_more says before answers [] first second = first
 gives_more says before answers (a ∷ more) first second = (second.0 ∙ ap (answer_at says) (asks_more more answers before), gives_more says before answers more first second.1)
 
@@ -43,7 +43,7 @@ consulted_then says a b c x y z answers more first second =
     let one = first.yes in
     let two = second.yes in
     record {
-      gives = gives_more says a answers more first.gives (subst (λ n. Gives says n more) first.asks second.gives);
+      gives = gives_more says a answers more first.gives (subst (λ n. GivesAnswers says n more) first.asks second.gives);
       asks = second.asks ∙ ap (asks_on (length more)) first.asks ∙ asks_more more answers a;
       yes = omega (arith, all, one, two);
     }

@@ -12,7 +12,7 @@ use Rattle.table_entries.specs.Found.{EntersFound}
 use Rattle.table_entries.specs.Plain.{TwinEntry}
 use Rattle.table_entries.specs.declared.entries.Entered.{Entered}
 use Rattle.table_entries.specs.declared.entries.Entered.TheVariants as entered
-use Rattle.table_courses.specs.Acquiring.{Advanced, TookEntry, TookOn, one_more, table_in}
+use Rattle.table_courses.specs.Acquiring.{Advanced, TookEntry, TookOn, one_entry_more, table_opened}
 
 -- ---- the call that takes it, for the type of the table's level
 module _ (v w : PortValue) (owner : ℕ) (t : TableWork) (k : PageType) (is : k ≡ level_type t.level) where
@@ -41,7 +41,7 @@ module _ (owner : ℕ) (v : PortValue) (t : TableWork) (ts stack : List TableWor
       let l : 0 < 512 - t.done = subst (λ (xs : List TableWork). 0 < left_on_top xs) top left in
       omega (arith, l)
 
-  advanced_is : (us : List TableWork) → us ≡ advanced stack → us ≡ one_more t ∷ ts
+  advanced_is : (us : List TableWork) → us ≡ advanced stack → us ≡ one_entry_more t ∷ ts
   advanced_is us is = is ∙ ap advanced top
 
   pub stopped_next : (w : PortValue) (answer : Result Bool Stop) (e : Stop) → answer ≡ Err e → TookEntry v w owner t (Err e) → Advanced owner v stack w stack answer
@@ -60,13 +60,13 @@ module _ (owner : ℕ) (v : PortValue) (t : TableWork) (ts stack : List TableWor
       (subst (λ (xs : List TableWork). Advanced owner v (t ∷ ts) w xs (Ok true)) (sym (advanced_is us is)) (Advanced.recorded v w t ts room took))
 
   -- the table that it names is taken on, and answers so
-  by_answer : (u w : PortValue) (f progress : ℕ) (own : Bool) → TookEntry v u owner t (Ok (entered.Opened f progress own)) → (us : List TableWork) (answer : Result Bool Stop) → TookOn owner u (table_in t f progress own false ∷ one_more t ∷ ts) w us answer →
+  by_answer : (u w : PortValue) (f progress : ℕ) (own : Bool) → TookEntry v u owner t (Ok (entered.Opened f progress own)) → (us : List TableWork) (answer : Result Bool Stop) → TookOn owner u (table_opened t f progress own false ∷ one_entry_more t ∷ ts) w us answer →
       Advanced owner v (t ∷ ts) w us answer
   by_answer u w f progress own took us (Ok done) on = Advanced.opened v u w t ts us f progress own done room took on
   by_answer u w f progress own took us (Err e) on = Advanced.cut_off v u w t ts us f progress own e room took on
 
-  pub opened_next : (u w : PortValue) (f progress : ℕ) (own : Bool) (answer : Result Bool Stop) (more next us : List TableWork) → more ≡ advanced stack → next ≡ table_in t f progress own false ∷ more →
+  pub opened_next : (u w : PortValue) (f progress : ℕ) (own : Bool) (answer : Result Bool Stop) (more next us : List TableWork) → more ≡ advanced stack → next ≡ table_opened t f progress own false ∷ more →
       TookEntry v u owner t (Ok (entered.Opened f progress own)) → TookOn owner u next w us answer → Advanced owner v stack w us answer
   opened_next u w f progress own answer more next us is pushed took on =
-      let now : next ≡ table_in t f progress own false ∷ one_more t ∷ ts = pushed ∙ ap (λ (xs : List TableWork). table_in t f progress own false ∷ xs) (advanced_is more is) in
+      let now : next ≡ table_opened t f progress own false ∷ one_entry_more t ∷ ts = pushed ∙ ap (λ (xs : List TableWork). table_opened t f progress own false ∷ xs) (advanced_is more is) in
       subst (λ (xs : List TableWork). Advanced owner v xs w us answer) (sym top) (by_answer u w f progress own took us answer (subst (λ (xs : List TableWork). TookOn owner u xs w us answer) now on))

@@ -34,7 +34,7 @@ use Rattle.answer_fits.proofs.Piecing.{each_append}
 use Rattle.flush_words.specs.Flushing as flushing
 use Rattle.flush_words.specs.Flushing.{FlushedBy}
 use Rattle.flush_waits.specs.Listing as waits
-use Rattle.flush_waits.specs.Listing.{LooksAt, Slow, WaitedFor, WaitsOn, WeighsBy, saw_flushed, saw_run}
+use Rattle.flush_waits.specs.Listing.{LooksAt, Slow, WaitedFor, WaitsInOrder, WeighsBy, saw_flushed, saw_run}
 use Rattle.frame_words.specs.Freeing.{PutBy}
 use Rattle.frame_words.specs.Refs.{GetsBy, Raises, TakesFirst, UnreferredBy, had, outside as unknown, raises_refs, refused, saw_refs, stopped, Gets}
 use Rattle.kind_words.specs.Kinds.{dead_kind, live_kind, partial_kind, work_kind}
@@ -130,7 +130,7 @@ module _ (q : Post) (whose : Whose) (stamp u : ℕ) (vs : List Visit) where
   looks_plain answer (waits.own_spent y r own low t) = then_plain (Only (saw_flushed u y)) (λ fs. FlushedBy u (Err r) fs) (saw_plain y) (flushed_plain u (Err r)) vs t
 
 module _ (q : Post) (whose : Whose) (stamp : ℕ) where
-  blocks_plain : (vs : List Visit) (n : ℕ) (answer : Result (Option Slow) Refusal) → WaitsOn q whose stamp vs n answer → Plain vs
+  blocks_plain : (vs : List Visit) (n : ℕ) (answer : Result (Option Slow) Refusal) → WaitsInOrder q whose stamp vs n answer → Plain vs
   blocks_plain vs n answer (waits.none _ nothing) = nothing_plain vs nothing
   blocks_plain vs n answer (waits.more u first standing before now _ waits looks is) =
       subst (λ us. Plain us) (sym is) (each_append (λ s. IsPlain s) before now (blocks_plain before u (Ok first) waits) (looks_plain q whose stamp u now (Ok standing) looks))

@@ -15,7 +15,7 @@ use Rattle.answer_fits.proofs.Piecing.{each_append}
 use Rattle.flush_words.specs.Flushing as flushing
 use Rattle.flush_words.specs.Flushing.{FlushedBy}
 use Rattle.flush_waits.specs.Listing as waits
-use Rattle.flush_waits.specs.Listing.{LooksAt, Slow, WaitedFor, WaitsOn, WeighsBy, saw_flushed, saw_run}
+use Rattle.flush_waits.specs.Listing.{LooksAt, Slow, WaitedFor, WaitsInOrder, WeighsBy, saw_flushed, saw_run}
 use Rattle.xp_words.specs.declared.reply.Pause.TheVariants.{Flush, Lost}
 use Rattle.xp_words.specs.declared.reply.Refusal.TheVariants as refusals
 use Rattle.xp_words.specs.declared.reply.Stop.{Stop}
@@ -94,7 +94,7 @@ module _ (q : Post) (whose : Whose) (stamp u : ℕ) (vs : List Visit) where
   looks_onward answer (waits.own_spent y r own low t) = then_onward (Only (saw_flushed u y)) (λ fs. FlushedBy u (Err r) fs) (saw_onward y) (flushed_onward u (Err r)) vs t
 
 module _ (q : Post) (whose : Whose) (stamp : ℕ) where
-  blocks_onward : (vs : List Visit) (n : ℕ) (answer : Result (Option Slow) Refusal) → WaitsOn q whose stamp vs n answer → Onward vs
+  blocks_onward : (vs : List Visit) (n : ℕ) (answer : Result (Option Slow) Refusal) → WaitsInOrder q whose stamp vs n answer → Onward vs
   blocks_onward vs n answer (waits.none _ nothing) = nothing_onward vs nothing
   blocks_onward vs n answer (waits.more u first standing before now _ waits looks is) =
       subst (λ us. Onward us) (sym is) (each_append (λ s. IsOnward s) before now (blocks_onward before u (Ok first) waits) (looks_onward q whose stamp u now (Ok standing) looks))

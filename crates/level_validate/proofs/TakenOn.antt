@@ -13,7 +13,7 @@ use Rattle.table_entries.specs.Found.{ResumesFound}
 use Rattle.table_entries.specs.Plain.{TwinResume}
 use Rattle.table_entries.specs.declared.resuming.Resumed.{Resumed}
 use Rattle.table_entries.specs.declared.resuming.Resumed.TheVariants as again
-use Rattle.table_courses.specs.Acquiring.{GaveBack, LeftWaiting, ResumedEntry, TookOn, table_in}
+use Rattle.table_courses.specs.Acquiring.{GaveBack, LeftWaiting, ResumedEntry, TookOn, table_opened}
 
 -- ---- the call that looks, for the type of the table's level
 module _ (v w : PortValue) (owner : ℕ) (t : TableWork) (k : PageType) (is : k ≡ level_type t.level) where
@@ -58,12 +58,12 @@ module _ (owner : ℕ) (v : PortValue) (t : TableWork) (ts stack : List TableWor
     taken_on u w f resumed back = stays w (Ok true) (TookOn.taken v u w t ts f least resumed back)
 
     -- the table that it names is on top then
-    pub opened_on : (u w : PortValue) (f progress : ℕ) (answer : Result Bool Stop) (next us : List TableWork) → next ≡ table_in t f progress false true ∷ stack → ResumedEntry v u owner t (Ok (again.Opened f progress)) →
+    pub opened_on : (u w : PortValue) (f progress : ℕ) (answer : Result Bool Stop) (next us : List TableWork) → next ≡ table_opened t f progress false true ∷ stack → ResumedEntry v u owner t (Ok (again.Opened f progress)) →
         TookOn owner u next w us answer → TookOn owner v stack w us answer
     opened_on u w f progress answer next us pushed resumed took =
         subst (λ (xs : List TableWork). TookOn owner v xs w us answer) (sym top)
         (TookOn.opened v u w t ts us f progress answer least resumed
-        (subst (λ (xs : List TableWork). TookOn owner u (table_in t f progress false true ∷ xs) w us answer) top (subst (λ (xs : List TableWork). TookOn owner u xs w us answer) pushed took)))
+        (subst (λ (xs : List TableWork). TookOn owner u (table_opened t f progress false true ∷ xs) w us answer) top (subst (λ (xs : List TableWork). TookOn owner u xs w us answer) pushed took)))
 
     pub waiting_on : (u w : PortValue) (f stamp : ℕ) (e : Stop) → ResumedEntry v u owner t (Ok (again.Waiting f stamp e)) → LeftWaiting u w f (t.level - 1) stamp → TookOn owner v stack w stack (Err e)
     waiting_on u w f stamp e resumed left = stays w (Err e) (TookOn.waiting v u w t ts f stamp e least resumed left)

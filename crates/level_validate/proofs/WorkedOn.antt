@@ -10,7 +10,7 @@ use Rattle.xp_preempt.specs.Gates.{ends_yes}
 use Rattle.xp_preempt.proofs.Consulting.{consulted_none, consulted_then}
 use Rattle.table_courses.specs.Acquiring.{Filled, TookOn, Worked, is_asked}
 use Rattle.level_validate.specs.Acquiring.{is_due_answer, is_due_stop}
-use Rattle.level_validate.specs.Courses.{Consults, GoesOn, asked_once}
+use Rattle.level_validate.specs.Courses.{Consults, GoesOnFilling, asked_once}
 use Rattle.level_validate.proofs.AskedOnce.{due_asked}
 
 pub entry_undue : (e : Stop) → IsEntryStop e → is_due_stop e ≡ false
@@ -62,8 +62,8 @@ module _ (owner : ℕ) (v : PortValue) (t : TableWork) (says : ℕ → Bool) (be
 
   -- ---- a step more
   module _ (x w : PortValue) (us xs : List TableWork) where
-    worked_on : (earlier answers : List Bool) (answer : Result (Unit {0}) Stop) → Worked owner v t x us earlier (Ok tt) → GoesOn owner x us w xs answers answer → Worked owner v t w xs (answers ++ earlier) answer
-    unfolding GoesOn
+    worked_on : (earlier answers : List Bool) (answer : Result (Unit {0}) Stop) → Worked owner v t x us earlier (Ok tt) → GoesOnFilling owner x us w xs answers answer → Worked owner v t w xs (answers ++ earlier) answer
+    unfolding GoesOnFilling
     worked_on earlier answers answer (Worked.filled u y ys zs done asked a took filled) on = Worked.filled u w ys xs done (answers ++ earlier) answer took (on u ys (asked_once (done && is_asked ys) false) earlier filled)
 
     ends_on : (earlier answers : List Bool) (rose : Bool) → false ≡ ends_yes earlier → rose ≡ ends_yes answers → rose ≡ ends_yes (answers ++ earlier)
@@ -71,7 +71,7 @@ module _ (owner : ℕ) (v : PortValue) (t : TableWork) (says : ℕ → Bool) (be
     ends_on earlier (a ∷ answers) rose before_no is = is
 
     pub working_on : (new : ℕ → Bool) (asked after risen_asked risen_after : ℕ) (rose : Bool) (answer : Result (Unit {0}) Stop) → ((n : ℕ) → new n ≡ says n) →
-        Consults says before asked risen risen_asked false (λ answers. Worked owner v t x us answers (Ok tt)) → Consults new asked after risen_asked risen_after rose (λ answers. GoesOn owner x us w xs answers answer) →
+        Consults says before asked risen risen_asked false (λ answers. Worked owner v t x us answers (Ok tt)) → Consults new asked after risen_asked risen_after rose (λ answers. GoesOnFilling owner x us w xs answers answer) →
         Consults says before after risen risen_after rose (λ answers. Worked owner v t w xs answers answer)
     working_on new asked after risen_asked risen_after rose answer same first next =
         record {
@@ -82,7 +82,7 @@ module _ (owner : ℕ) (v : PortValue) (t : TableWork) (says : ℕ → Bool) (be
         }
 
     pub working_stops : (new : ℕ → Bool) (asked after risen_asked risen_after : ℕ) (answer : Result (Unit {0}) Stop) (e : Stop) → answer ≡ Err e → ((n : ℕ) → new n ≡ says n) →
-        Consults says before asked risen risen_asked false (λ answers. Worked owner v t x us answers (Ok tt)) → Consults new asked after risen_asked risen_after (is_due_stop e) (λ answers. GoesOn owner x us w xs answers (Err e)) →
+        Consults says before asked risen risen_asked false (λ answers. Worked owner v t x us answers (Ok tt)) → Consults new asked after risen_asked risen_after (is_due_stop e) (λ answers. GoesOnFilling owner x us w xs answers (Err e)) →
         Consults says before after risen risen_after (is_due_answer answer) (λ answers. Worked owner v t w xs answers answer)
     working_stops new asked after risen_asked risen_after answer e is same first next =
         subst (λ (r : Result (Unit {0}) Stop). Consults says before after risen risen_after (is_due_answer r) (λ answers. Worked owner v t w xs answers r)) (sym is)

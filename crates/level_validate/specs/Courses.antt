@@ -19,8 +19,8 @@ abbrev pub asked_once : Bool → Bool → List Bool
 asked_once asked rose = if asked then rose ∷ [] else []
 
 -- one more step behind those that filled the tables so far
-unfoldable pub GoesOn : ℕ → PortValue → List TableWork → PortValue → List TableWork → List Bool → Result (Unit {0}) Stop → Type 0
-GoesOn owner v ts w us answers answer =
+unfoldable pub GoesOnFilling : ℕ → PortValue → List TableWork → PortValue → List TableWork → List Bool → Result (Unit {0}) Stop → Type 0
+GoesOnFilling owner v ts w us answers answer =
     (u : PortValue) (xs : List TableWork) (before earlier : List Bool) → Filled owner u xs before v ts earlier (Ok tt) → Filled owner u xs before w us (answers ++ earlier) answer
 
 -- ---- tables that are left

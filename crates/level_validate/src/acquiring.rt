@@ -11,7 +11,7 @@ ghost use Rattle.table_words.specs.declared.old_words.OldWord.TheVariants.{First
 ghost use Rattle.partial_state.specs.Weights.{weight};
 ghost use Rattle.table_courses.specs.Acquiring.{Advanced, WaitingLeft, Worked, is_asked};
 ghost use Rattle.level_validate.specs.Acquiring.{AcquiresBy, IsAcquireStop, IsTableWaiting, LeavesAcquired, LeavesWaiting, ServesAcquired, StopsRisen, Validated, is_due_answer, is_filled, is_paused_answer, of_acquire, outermost_work};
-ghost use Rattle.level_validate.specs.Courses.{Consults, GoesOn, ValidatesBy, asked_once};
+ghost use Rattle.level_validate.specs.Courses.{Consults, GoesOnFilling, ValidatesBy, asked_once};
 ghost use Rattle.level_validate.specs.Forward.{Forward};
 ghost use Rattle.level_validate.specs.Leaving.{LeftWell};
 ghost use Rattle.level_validate.specs.Serving.{CarriesOn, ServesLeft, ServesWaiting};
@@ -239,7 +239,7 @@ fn go_on<P: Port>(
     ensures says { (n : ℕ) → says gate.new n ≡ says gate.old n }
     ensures paces { paces gate.new ≡ paces gate.old }
     ensures calm { calm gate.old ≡ true → (is_due_answer result ≡ false) × (calm gate.new ≡ true) }
-    ensures course { Consults (says gate.old) (count_asks gate.old) (count_asks gate.new) (count_yes gate.old) (count_yes gate.new) (is_due_answer result) (λ answers. GoesOn owner (P.value port.old) stack.old (P.value port.new) stack.new answers result) }
+    ensures course { Consults (says gate.old) (count_asks gate.old) (count_asks gate.new) (count_yes gate.old) (count_yes gate.new) (is_due_answer result) (λ answers. GoesOnFilling owner (P.value port.old) stack.old (P.value port.new) stack.new answers result) }
 {
     let done = advance(port, owner, stack)?;
     ask_behind(gate, stack, done)

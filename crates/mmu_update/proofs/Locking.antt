@@ -21,7 +21,7 @@ use Rattle.entry_exchange.specs.Course.{Exchanged, LeftLock}
 use Rattle.entry_exchange.specs.Holding.{HoldsLockOf, HoldsTableLock, LeavesExchange, LeavesUnlocked}
 use Rattle.entry_exchange.specs.declared.exchanging.EntryUpdate.{EntryUpdate}
 use Rattle.entry_locks.specs.Locks.{of_lock}
-use Rattle.foreign_map.specs.Owning.{MayMap}
+use Rattle.foreign_map.specs.Owning.{MayMapFor}
 use Rattle.foreign_map.specs.declared.owners.Owners.{Owners}
 use Rattle.frame_words.proofs.Putting.{without_newest}
 use Rattle.partial_state.specs.Levels.{level_type}
@@ -89,7 +89,7 @@ module _ (b y : PortValue) (o : Owners) (f level : ℕ) (a : UnderLock b y o f l
         kind = a.holds.is.kind;
       }
 
-  pub maps_still : MayMap y o
+  pub maps_still : MayMapFor y o
   maps_still =
       may_map b y o (came_trans b a.at y first (serves_came a.at y (of_lock f o.tables) [] a.serves)) (ap (λ (q : PortValue). q.holdings.turn) locked_hand) a.referred.begins.maps
 

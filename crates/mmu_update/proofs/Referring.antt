@@ -26,7 +26,7 @@ use Rattle.mmu_update.specs.Course as courses
 use Rattle.mmu_update.specs.Course.{TriedLock}
 use Rattle.mmu_update.specs.Elements.{IsWriteStop, LeavesUpdate, stopped}
 use Rattle.mmu_update.specs.Fits.{Updates}
-use Rattle.mmu_update.specs.Writing.{MayBegin, Ordinary, Referred, UnderLock}
+use Rattle.mmu_update.specs.Writing.{MayBeginElement, Ordinary, Referred, UnderLock}
 use Rattle.mmu_update.specs.declared.element.Element.TheVariants.{Write}
 use Rattle.mmu_update.proofs.Holding.{given_up, leaves_rests, leaves_same, lent_by, no_work}
 use Rattle.mmu_update.proofs.Serving.{hides_nothing, referred_serves, referred_stops, unlocked_serves, unlocked_stops}
@@ -55,7 +55,7 @@ lock_uncounted (Paused x) is = tt
 lock_uncounted (Refused x) is = absurd is
 
 -- ---- it is not to be had
-pub unreferred : (b w : PortValue) (o : Owners) (f i word : ℕ) (keep : Bool) (e : Stop) → MayBegin b o → Serves b w (of_frame f o.tables None) (missed b.post.machine e) → Stops b w (of_frame f o.tables None) e → IsRefStop e →
+pub unreferred : (b w : PortValue) (o : Owners) (f i word : ℕ) (keep : Bool) (e : Stop) → MayBeginElement b o → Serves b w (of_frame f o.tables None) (missed b.post.machine e) → Stops b w (of_frame f o.tables None) e → IsRefStop e →
     Same b w → GotRef b w f o.tables (Err e) → Updates o (Write f i word keep) b w [] (Err e)
 unreferred b w o f i word keep e begins serves why kind same got =
     record {
@@ -69,7 +69,7 @@ unreferred b w o f i word keep e begins serves why kind same got =
     }
 
 -- ---- it was taken
-pub referred_by : (b u : PortValue) (o : Owners) (f g : ℕ) → g ≡ f → MayBegin b o → g < b.post.machine.frames → Gets {A = ℕ} b u f o.tables (Ok g) → TwinGet {A = ℕ} b u f o.tables (Ok g) →
+pub referred_by : (b u : PortValue) (o : Owners) (f g : ℕ) → g ≡ f → MayBeginElement b o → g < b.post.machine.frames → Gets {A = ℕ} b u f o.tables (Ok g) → TwinGet {A = ℕ} b u f o.tables (Ok g) →
     Serves b u (of_frame f o.tables None) [] → Holds b u (took g o.tables b.holdings) → Referred b u o g
 referred_by b u o f g at begins frame gets plain serves hand =
     record {

@@ -7,7 +7,7 @@ use Rattle.answer_fits.specs.Answers.{Serves}
 use Rattle.answer_fits.specs.Asked.{of_frame}
 use Rattle.entry_locks.specs.Locks.{HoldsLock, of_lock}
 use Rattle.entry_locks.specs.declared.locking.Locked.TheVariants.{Table, Other}
-use Rattle.foreign_map.specs.Owning.{MayMap}
+use Rattle.foreign_map.specs.Owning.{MayMapFor}
 use Rattle.foreign_map.specs.declared.owners.Owners.{Owners}
 use Rattle.frame_words.specs.Refs.{took}
 use Rattle.level_release.specs.Course.{WithGate}
@@ -19,15 +19,15 @@ use Rattle.mmu_update.specs.Fits.{Updates}
 use Rattle.mmu_update.specs.declared.element.Element.TheVariants.{Write}
 
 -- before it
-pub record MayBegin (b : PortValue) (o : Owners) : Type 0 where
+pub record MayBeginElement (b : PortValue) (o : Owners) : Type 0 where
   pub rests : Rests b
-  pub maps : MayMap b o
+  pub maps : MayMapFor b o
   pub room : known_old First b.holdings ≡ Some 0
   pub room_too : known_old Second b.holdings ≡ Some 0
 
 -- a reference to the frame was taken
 pub record Referred (b v : PortValue) (o : Owners) (f : ℕ) : Type 0 where
-  pub begins : MayBegin b o
+  pub begins : MayBeginElement b o
   pub frame : f < b.post.machine.frames
   pub got : GotRef b v f o.tables (Ok f)
   pub serves : Serves b v (of_frame f o.tables None) []

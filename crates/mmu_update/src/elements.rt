@@ -7,7 +7,7 @@ ghost use Rattle.partial_state.specs.Levels.{level_type};
 ghost use Rattle.step_maker.specs.Holds.{Rests};
 ghost use Rattle.step_maker.specs.Moves.{Came};
 ghost use Rattle.answer_fits.specs.Answers.{Stops};
-ghost use Rattle.foreign_map.specs.Owning.{MayMap};
+ghost use Rattle.foreign_map.specs.Owning.{MayMapFor};
 ghost use Rattle.level_release.specs.Asking.{is_due_answer};
 ghost use Rattle.table_words.specs.OldWords.{known_old};
 ghost use Rattle.table_words.specs.declared.old_words.OldWord.TheVariants.{First, Second};
@@ -15,7 +15,7 @@ ghost use Rattle.mmu_update.specs.Course.{UpdatesBy};
 ghost use Rattle.mmu_update.specs.Elements.{IsUpdateStop, LeavesUpdate, ServesUpdate, element_of, update_request};
 ghost use Rattle.mmu_update.specs.Fits.{Updates};
 ghost use Rattle.mmu_update.specs.Plain.{TwinUpdate};
-ghost use Rattle.mmu_update.specs.Writing.{IsOrdinary, IsReferred, IsUnderLock, MayBegin, Ordinary, Referred, UnderLock, WritesBy};
+ghost use Rattle.mmu_update.specs.Writing.{IsOrdinary, IsReferred, IsUnderLock, MayBeginElement, Ordinary, Referred, UnderLock, WritesBy};
 ghost use Rattle.mmu_update.specs.declared.element.Element.TheVariants.{Write};
 
 use crate::element::{Element, element_of};
@@ -40,7 +40,7 @@ pub fn update<P: Port>(
     pair: Pair,
 ) -> Result<(), Stop>
     requires rests { Rests (P.value port.old) }
-    requires maps { MayMap (P.value port.old) owners }
+    requires maps { MayMapFor (P.value port.old) owners }
     requires room { known_old First (P.value port.old).holdings ≡ Some 0 }
     requires room_too { known_old Second (P.value port.old).holdings ≡ Some 0 }
     ensures came { Came (P.value port.old) (P.value port.new) }
@@ -85,7 +85,7 @@ fn write_word<P: Port>(
     keep: bool,
 ) -> Result<(), Stop>
     requires index { index < 512 }
-    requires begins { MayBegin (P.value port.old) owners }
+    requires begins { MayBeginElement (P.value port.old) owners }
     ensures writes { WritesBy (P.value port.old) (P.value port.new) owners f index word keep (says gate.old) (count_asks gate.old) (count_asks gate.new) (count_yes gate.old) (count_yes gate.new) result }
     ensures says { (n : ℕ) → says gate.new n ≡ says gate.old n }
     ensures paces { paces gate.new ≡ paces gate.old }

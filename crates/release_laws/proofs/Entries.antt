@@ -37,7 +37,7 @@ use Rattle.table_law.proofs.Counting.{asks_at}
 use Rattle.table_releases.specs.declared.entries.Released.{Released}
 use Rattle.table_releases.specs.declared.entries.Released.TheVariants.{Given, Opened}
 use Rattle.table_law.specs.Plain.{Describes, Plain, with_kind}
-use Rattle.table_law.specs.Release.{drop_demand, emptying, held_of, is_counted_on, let_go}
+use Rattle.table_law.specs.Release.{drop_demand, emptying, entries_held, is_counted_on, let_go}
 use Rattle.release_laws.proofs.Dropping.{again_given, again_held, again_in_work, again_last, live_all, live_closing, live_last, more_given, plain_given}
 use Rattle.release_laws.proofs.Parts.{does_only, does_parts, does_with}
 use Rattle.kind_words.proofs.KindFacts.{kind_found}
@@ -53,7 +53,7 @@ pub record OpensAs (n : Machine) (l : ℕ) (p : Plain) (w : PortValue) (d : Dema
   pub asks : d ≡ demands.Typed g (level_type l)
   pub table : 1 ≤ l
   pub last : is_counted_on (p.kinds g) ≡ false
-  pub held : held_of (p.kinds g) ≡ k
+  pub held : entries_held (p.kinds g) ≡ k
   pub few : k ≤ 512
   pub inside : g < n.frames
   pub describes : Describes n (told_word w) (with_kind g (emptying (p.kinds g)) p)

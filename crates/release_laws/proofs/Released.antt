@@ -21,7 +21,7 @@ use Rattle.table_courses.specs.Acquiring.{GaveRef, GaveType}
 use Rattle.table_releases.specs.Plain.{lowered_type}
 use Rattle.table_law.specs.Levels.{closed}
 use Rattle.table_law.specs.Plain.{Describes, Plain, with_kind}
-use Rattle.table_law.specs.Release.{drop_first, emptying, held_of, let_go}
+use Rattle.table_law.specs.Release.{drop_first, emptying, entries_held, let_go}
 use Rattle.table_law.proofs.Undoing.{opened}
 use Rattle.level_release.specs.Course as course
 use Rattle.level_release.specs.Course.{Emptied, WasReleased, closing_table}
@@ -97,7 +97,7 @@ module _ (v : PortValue) (f level : ℕ) (p : Plain) (telling : is_telling v ≡
           plain = with_kind f (emptying (p.kinds f)) p;
           describes = subst (λ m. Describes n m (with_kind f (emptying (p.kinds f)) p)) (sym words_x) (live_closing n (told_word v) p level f d inside (live u true a) (small u true a) (some u true a) (count u true a));
           left = at_level (closing_table f level) [] l (with_kind f (emptying (p.kinds f)) p) (sym is)
-              ∙ ap (λ k. closed f (level_type (suc l)) (drop_first (let_go l) (level_type (suc l)) f k (with_kind f (emptying (p.kinds f)) p))) (let e : 512 - 0 ≡ held_of (p.kinds f) = omega arith in e)
+              ∙ ap (λ k. closed f (level_type (suc l)) (drop_first (let_go l) (level_type (suc l)) f k (with_kind f (emptying (p.kinds f)) p))) (let e : 512 - 0 ≡ entries_held (p.kinds f) = omega arith in e)
               ∙ sym (opened l f p one) ∙ ap (λ j. let_go j f p) is;
         }
 

@@ -16,7 +16,7 @@ use Rattle.partial_state.specs.Levels.{level_type}
 use Rattle.partial_state.specs.declared.stack.TableWork.{TableWork}
 use Rattle.table_law.specs.Levels.{closed, entry_of}
 use Rattle.table_law.specs.Plain.{Describes, Plain, with_kind}
-use Rattle.table_law.specs.Release.{drop_demand, drop_first, emptying, held_of, let_go}
+use Rattle.table_law.specs.Release.{drop_demand, drop_first, emptying, entries_held, let_go}
 use Rattle.table_law.proofs.Undoing.{opened}
 use Rattle.table_releases.specs.declared.entries.Released.{Released}
 use Rattle.table_releases.specs.declared.entries.Released.TheVariants.{Given, Opened}
@@ -124,8 +124,8 @@ module _ (n : Machine) (u w : PortValue) (q : Plain) where
       let some = o.few in
       let p = s.plain in
       let inner = with_kind g (emptying (p.kinds g)) p in
-      let count : 512 - (512 - k) ≡ held_of (p.kinds g) = (let e = o.held in omega arith) in
-      let whole : let_go l g p ≡ closed g (level_type (suc (l - 1))) (drop_first (let_go (l - 1)) (level_type (suc (l - 1))) g (held_of (p.kinds g)) inner) = subst (λ j. let_go j g p ≡ closed g (level_type (suc (l - 1))) (drop_first (let_go (l - 1)) (level_type (suc (l - 1))) g (held_of (p.kinds g)) inner)) low (opened (l - 1) g p o.last) in
+      let count : 512 - (512 - k) ≡ entries_held (p.kinds g) = (let e = o.held in omega arith) in
+      let whole : let_go l g p ≡ closed g (level_type (suc (l - 1))) (drop_first (let_go (l - 1)) (level_type (suc (l - 1))) g (entries_held (p.kinds g)) inner) = subst (λ j. let_go j g p ≡ closed g (level_type (suc (l - 1))) (drop_first (let_go (l - 1)) (level_type (suc (l - 1))) g (entries_held (p.kinds g)) inner)) low (opened (l - 1) g p o.last) in
       record {
         machine = machine_on t ts l level few r a s;
         telling = telling_on t ts l level few r a s;

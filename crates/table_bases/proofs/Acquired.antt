@@ -25,7 +25,7 @@ use Rattle.table_bases.specs.declared.words.Base.{Base}
 use Rattle.table_bases.specs.Asking.{ServesBase, StopsBase, of_base}
 use Rattle.table_bases.specs.Course.{InstallsBy, SawClock, SetsBase, SetsBaseBy}
 use Rattle.table_bases.specs.Course as course
-use Rattle.table_bases.specs.Holding.{IsWarm}
+use Rattle.table_bases.specs.Holding.{FoundClockLow}
 use Rattle.table_bases.proofs.Behind.{stays_warm}
 use Rattle.table_bases.proofs.Clocked.{installed_course, looked, looked_came, looked_warm}
 use Rattle.table_bases.proofs.Requests.{within_acquire}
@@ -101,5 +101,5 @@ module _ (v a e : PortValue) (clock f d : ℕ) (look : SawClock v a clock) (home
         (subst (λ o. Acquired a f o 4 e by.answers (Ok f)) home (subst (λ q. Acquired a f d 4 e by.answers (Ok q)) at by.course)) by.gate same
         (subst (λ q. InstallsBy e w base (Some q) later y z j k) at installs)
 
-    pub named_warm : clock ≢ last_clock → Came a e → e.holdings.ran ≡ a.holdings.ran → IsWarm e
+    pub named_warm : clock ≢ last_clock → Came a e → e.holdings.ran ≡ a.holdings.ran → FoundClockLow e
     named_warm some came same = stays_warm a e came same (looked_warm v a clock look some)

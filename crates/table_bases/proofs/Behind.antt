@@ -27,10 +27,10 @@ use Rattle.flush_words.proofs.FlushServes.{own_serves}
 use Rattle.flush_words.proofs.Flushed.{own_came}
 use Rattle.flush_words.proofs.Lasting.{came_keeps}
 use Rattle.table_bases.specs.Course.{FlushesBehind, flushed, spent}
-use Rattle.table_bases.specs.Holding.{IsWarm}
+use Rattle.table_bases.specs.Holding.{FoundClockLow}
 
 -- ---- the clock was found below its last value, and still was
-pub stays_warm : (v w : PortValue) → Came v w → w.holdings.ran ≡ v.holdings.ran → IsWarm v → IsWarm w
+pub stays_warm : (v w : PortValue) → Came v w → w.holdings.ran ≡ v.holdings.ran → FoundClockLow v → FoundClockLow w
 stays_warm v w came same warm =
     subst (λ (q : Post). IsTrue (some_since (sizes_of q.machine) w.holdings.ran Clock (λ x. nat_lt x last_clock) w.holdings.steps)) (sym (came_post v w came))
     (subst (λ k. IsTrue (some_since (sizes_of v.post.machine) k Clock (λ x. nat_lt x last_clock) w.holdings.steps)) (sym same) (came_keeps v w _ came warm))
@@ -39,7 +39,7 @@ stays_warm v w came same warm =
 acked_past : (n : Machine) (s : ℕ) (h : Holdings) (p : Place) (w : ℕ) → Finds n s h p w → h.acked ≤ length h.steps
 acked_past n s h p w finds = let formed : WellFormed n s h = subst (λ u. WellFormed n s u) finds.mine (finds.sound.formed s finds.real) in formed.acked
 
-module _ (v a : PortValue) (look : Moves v a Clock Load kinds.Look None last_clock) (warm : IsWarm v) (landed : v.holdings.walk ≡ None) where
+module _ (v a : PortValue) (look : Moves v a Clock Load kinds.Look None last_clock) (warm : FoundClockLow v) (landed : v.holdings.walk ≡ None) where
   found_last : IsTrue (some_since (sizes_of a.post.machine) a.holdings.acked Clock (λ w. w == last_clock) a.holdings.steps)
   unfolding left_by
   found_last =
@@ -56,7 +56,7 @@ module _ (v a : PortValue) (look : Moves v a Clock Load kinds.Look None last_clo
         landed = ap (λ (y : PortValue). y.holdings.walk) look.to ∙ landed;
       }
 
-pub may_empty_by : (v a : PortValue) (e : Refusal) → FlushesOwn v a (Err e) → IsWarm v → v.holdings.walk ≡ None → MayFlushTo a.post.machine last_clock a.holdings
+pub may_empty_by : (v a : PortValue) (e : Refusal) → FlushesOwn v a (Err e) → FoundClockLow v → v.holdings.walk ≡ None → MayFlushTo a.post.machine last_clock a.holdings
 may_empty_by v a e (flushing.spent look) warm landed = may_empty v a look warm landed
 
 pub emptied : (v a w : PortValue) (e : Refusal) (before : ℕ) → FlushesOwn v a (Err e) → Moves a w (flushed_of a.post.vcpu) (Store last_clock) kinds.Ack None before → FlushesBehind v w

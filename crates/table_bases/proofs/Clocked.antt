@@ -30,7 +30,7 @@ use Rattle.table_bases.specs.declared.words.Base.{Base}
 use Rattle.table_bases.specs.Asking.{ServesBase, StopsBase, base_deeds, of_base}
 use Rattle.table_bases.specs.Course.{AcquiresTop, InstallsBy, Installed, SawClock, SetsBase, SetsBaseBy}
 use Rattle.table_bases.specs.Course as course
-use Rattle.table_bases.specs.Holding.{IsWarm, base_number, naming}
+use Rattle.table_bases.specs.Holding.{FoundClockLow, base_number, naming}
 use Rattle.table_bases.proofs.Requests.{base_flushes}
 
 -- ---- the look
@@ -59,7 +59,7 @@ module _ (v a : PortValue) (clock : ℕ) (look : SawClock v a clock) where
   ran_past : (n : Machine) (s : ℕ) (h : Holdings) (p : Place) (w : ℕ) → Finds n s h p w → h.ran ≤ length h.steps
   ran_past n s h p w finds = let formed : WellFormed n s h = subst (λ u. WellFormed n s u) finds.mine (finds.sound.formed s finds.real) in formed.ran
 
-  pub looked_warm : clock ≢ last_clock → IsWarm a
+  pub looked_warm : clock ≢ last_clock → FoundClockLow a
   unfolding left_by
   looked_warm some =
       let late : a.holdings.ran ≤ length v.holdings.steps =

@@ -32,7 +32,7 @@ use Rattle.table_bases.specs.declared.words.Base.{Base}
 use Rattle.table_bases.specs.declared.words.Base.TheVariants.{Kernel, User}
 use Rattle.table_bases.specs.Asking.{of_base}
 use Rattle.table_bases.specs.Course.{FlushesBehind, InstallsBy, ReleasesOld}
-use Rattle.table_bases.specs.Holding.{HoldsNoMore, IsWarm, base_number, base_place, came_out, naming, with_typed}
+use Rattle.table_bases.specs.Holding.{HoldsNoMore, FoundClockLow, base_number, base_place, came_out, naming, with_typed}
 use Rattle.table_bases.proofs.Behind.{behind_came, behind_serves, stays_warm}
 use Rattle.table_bases.proofs.Requests.{base_contexts, base_entries, base_flushes, base_owner, base_rose, within_release}
 use Rattle.table_bases.proofs.Storing.{base_in_context}
@@ -56,7 +56,7 @@ word_after old some = omega (arith, some)
 done_due : (answers : List Bool) → false ≡ true → ends_yes answers ≡ true
 done_due answers on = absurd cc
 
-pub warm_behind : (v x : PortValue) (base : Base) (new : Option ℕ) (old : ℕ) → Moves v x (base_place v.post.vcpu base) (Store (naming new)) kinds.Context None old → Holds v x (with_typed (came_out old v.holdings) v.holdings) → IsWarm v → IsWarm x
+pub warm_behind : (v x : PortValue) (base : Base) (new : Option ℕ) (old : ℕ) → Moves v x (base_place v.post.vcpu base) (Store (naming new)) kinds.Context None old → Holds v x (with_typed (came_out old v.holdings) v.holdings) → FoundClockLow v → FoundClockLow x
 warm_behind v x base new old store put warm = stays_warm v x (moves_came v x (base_place v.post.vcpu base) (Store (naming new)) kinds.Context None old store) (ap (λ (q : PortValue). q.holdings.ran) put) warm
 
 -- ---- behind the store and the flush

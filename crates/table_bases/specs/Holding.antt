@@ -50,8 +50,8 @@ came_out zero h = []
 came_out (suc g) h = live_typed g L4 (owner_from h) ∷ []
 
 -- since the vCPU began to run it found the clock below its last value
-abbrev pub IsWarm : PortValue → Type 0
-IsWarm v = IsTrue (some_since (sizes_of v.post.machine) v.holdings.ran Clock (λ w. nat_lt w last_clock) v.holdings.steps)
+abbrev pub FoundClockLow : PortValue → Type 0
+FoundClockLow v = IsTrue (some_since (sizes_of v.post.machine) v.holdings.ran Clock (λ w. nat_lt w last_clock) v.holdings.steps)
 
 -- The reference is out of the hand, and so is what the word named before, but where its release is paused the first old word names it.
 abbrev pub LeavesInstalled : PortValue → PortValue → Type 0

@@ -7,7 +7,7 @@ ghost use Rattle.table_words.specs.OldWords.{known_old};
 ghost use Rattle.table_words.specs.declared.old_words.OldWord.TheVariants.{First};
 ghost use Rattle.table_bases.specs.Asking.{base_deeds, of_base};
 ghost use Rattle.table_bases.specs.Course.{FlushesBehind, InstallsBy};
-ghost use Rattle.table_bases.specs.Holding.{HoldsNoMore, HoldsTop, IsWarm, LeavesInstalled};
+ghost use Rattle.table_bases.specs.Holding.{HoldsNoMore, HoldsTop, FoundClockLow, LeavesInstalled};
 
 use crate::words::{Base, put_base};
 use flush_words::{flush, flush_own};
@@ -25,7 +25,7 @@ pub(crate) fn install<P: Port>(port: &mut P, gate: &mut dyn Preempt, base: Base,
     requires may { MayWork (P.value port.old) }
     requires holds { HoldsTop (P.value port.old) new }
     requires others { HoldsNoMore (P.value port.old) }
-    requires warm { IsWarm (P.value port.old) }
+    requires warm { FoundClockLow (P.value port.old) }
     requires room { known_old First (P.value port.old).holdings ≡ Some 0 }
     ensures serves { Serves (P.value port.old) (P.value port.new) (of_base (own_domain (P.value port.old)) new true) (base_deeds (P.value port.old) base new (Ok tt)) }
     ensures hand { LeavesInstalled (P.value port.old) (P.value port.new) }
@@ -49,7 +49,7 @@ pub(crate) fn install<P: Port>(port: &mut P, gate: &mut dyn Preempt, base: Base,
 // Flushes the own cache behind the store. Where the clock goes no further, the cache is emptied for its last value.
 fn flush_behind<P: Port>(port: &mut P)
     requires landed { (P.value port.old).holdings.walk ≡ None }
-    requires warm { IsWarm (P.value port.old) }
+    requires warm { FoundClockLow (P.value port.old) }
     ensures flushes { FlushesBehind (P.value port.old) (P.value port.new) }
     ensures hand { FlushedSame (P.value port.old) (P.value port.new) }
 {

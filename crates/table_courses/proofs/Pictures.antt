@@ -1,7 +1,7 @@
 -- Worked pictures of the definitions: behind which entries the gate is asked, and what is left of tables that are given up.
 use Rattle.std.proofs.Common.{◌≡◌, true, false, [], refl}
 use Rattle.partial_state.specs.declared.stack.TableWork.{TableWork}
-use Rattle.table_courses.specs.Acquiring.{around_left, is_asked, is_asked_at, table_in, type_counts}
+use Rattle.table_courses.specs.Acquiring.{around_left, is_asked, is_asked_at, table_opened, type_counts}
 
 -- in a top table not in Xen's slots, 256 to 271: so not where 257 to 272 entries are done with
 pub asked_before_slots : is_asked_at 4 256 ≡ true
@@ -39,16 +39,16 @@ abbrev pub outer : TableWork
 outer = record { frame = 4; level = 3; done = 7; own = true; recorded = false }
 
 -- with its own type count the entry stays, recorded with its table
-pub own_stays : around_left (table_in outer 9 5 true false) outer ≡ outer
+pub own_stays : around_left (table_opened outer 9 5 true false) outer ≡ outer
 own_stays = refl
 
 -- without it, and not recorded before, it is not done with any more
-pub lent_goes : (around_left (table_in outer 9 5 false false) outer).done ≡ 6
+pub lent_goes : (around_left (table_opened outer 9 5 false false) outer).done ≡ 6
 lent_goes = refl
 
 -- recorded before it stays
-pub recorded_stays : around_left (table_in outer 9 5 false true) outer ≡ outer
+pub recorded_stays : around_left (table_opened outer 9 5 false true) outer ≡ outer
 recorded_stays = refl
 
-pub inner_level : (table_in outer 9 5 true false).level ≡ 2
+pub inner_level : (table_opened outer 9 5 true false).level ≡ 2
 inner_level = refl

@@ -78,11 +78,11 @@ pub record ResumedEntry (v w : PortValue) (owner : ℕ) (t : TableWork) (answer 
 
 -- ---- tables
 -- a table that an entry of table t names came into work: the entry is under way, or was recorded before
-abbrev pub table_in : TableWork → ℕ → ℕ → Bool → Bool → TableWork
-table_in t f progress own recorded = record { frame = f; level = t.level - 1; done = progress; own = own; recorded = recorded }
+abbrev pub table_opened : TableWork → ℕ → ℕ → Bool → Bool → TableWork
+table_opened t f progress own recorded = record { frame = f; level = t.level - 1; done = progress; own = own; recorded = recorded }
 
-abbrev pub one_more : TableWork → TableWork
-one_more t = record t { done = t.done + 1 }
+abbrev pub one_entry_more : TableWork → TableWork
+one_entry_more t = record t { done = t.done + 1 }
 
 -- one type count too many is given back with its reference: it is not the last
 pub record GaveBack (v w : PortValue) (f : ℕ) : Type 0 where
@@ -116,7 +116,7 @@ pub data TookOn (owner : ℕ) : PortValue → List TableWork → PortValue → L
   taken : (v u w : PortValue) (t : TableWork) (ts : List TableWork) (f : ℕ) → 0 < t.done → ResumedEntry v u owner t (Ok (again.Taken f)) → GaveBack u w f →
       TookOn owner v (t ∷ ts) w (t ∷ ts) (Ok true)
   opened : (v u w : PortValue) (t : TableWork) (ts us : List TableWork) (f progress : ℕ) (answer : Result Bool Stop) → 0 < t.done →
-      ResumedEntry v u owner t (Ok (again.Opened f progress)) → TookOn owner u (table_in t f progress false true ∷ t ∷ ts) w us answer → TookOn owner v (t ∷ ts) w us answer
+      ResumedEntry v u owner t (Ok (again.Opened f progress)) → TookOn owner u (table_opened t f progress false true ∷ t ∷ ts) w us answer → TookOn owner v (t ∷ ts) w us answer
   waiting : (v u w : PortValue) (t : TableWork) (ts : List TableWork) (f stamp : ℕ) (stop : Stop) → 0 < t.done →
       ResumedEntry v u owner t (Ok (again.Waiting f stamp stop)) → LeftWaiting u w f (t.level - 1) stamp → TookOn owner v (t ∷ ts) w (t ∷ ts) (Err stop)
   stopped : (v w : PortValue) (t : TableWork) (ts : List TableWork) (stop : Stop) → 0 < t.done → ResumedEntry v w owner t (Err stop) → TookOn owner v (t ∷ ts) w (t ∷ ts) (Err stop)
@@ -124,13 +124,13 @@ pub data TookOn (owner : ℕ) : PortValue → List TableWork → PortValue → L
 -- ---- one entry, or one table
 -- true: an entry is done with
 pub data Advanced (owner : ℕ) : PortValue → List TableWork → PortValue → List TableWork → Result Bool Stop → Type 0 where
-  recorded : (v w : PortValue) (t : TableWork) (ts : List TableWork) → t.done < 512 → TookEntry v w owner t (Ok Recorded) → Advanced owner v (t ∷ ts) w (one_more t ∷ ts) (Ok true)
+  recorded : (v w : PortValue) (t : TableWork) (ts : List TableWork) → t.done < 512 → TookEntry v w owner t (Ok Recorded) → Advanced owner v (t ∷ ts) w (one_entry_more t ∷ ts) (Ok true)
   opened : (v u w : PortValue) (t : TableWork) (ts us : List TableWork) (f progress : ℕ) (own done : Bool) → t.done < 512 → TookEntry v u owner t (Ok (Opened f progress own)) →
-      TookOn owner u (table_in t f progress own false ∷ one_more t ∷ ts) w us (Ok done) → Advanced owner v (t ∷ ts) w us (Ok done)
+      TookOn owner u (table_opened t f progress own false ∷ one_entry_more t ∷ ts) w us (Ok done) → Advanced owner v (t ∷ ts) w us (Ok done)
   cut_off : (v u w : PortValue) (t : TableWork) (ts us : List TableWork) (f progress : ℕ) (own : Bool) (stop : Stop) → t.done < 512 → TookEntry v u owner t (Ok (Opened f progress own)) →
-      TookOn owner u (table_in t f progress own false ∷ one_more t ∷ ts) w us (Err stop) → Advanced owner v (t ∷ ts) w us (Err stop)
+      TookOn owner u (table_opened t f progress own false ∷ one_entry_more t ∷ ts) w us (Err stop) → Advanced owner v (t ∷ ts) w us (Err stop)
   unsettled : (v w : PortValue) (t : TableWork) (ts : List TableWork) (stop : Stop) → t.done < 512 → TookEntry v w owner t (Ok (Unsettled stop)) →
-      Advanced owner v (t ∷ ts) w (one_more t ∷ ts) (Err stop)
+      Advanced owner v (t ∷ ts) w (one_entry_more t ∷ ts) (Err stop)
   stopped : (v w : PortValue) (t : TableWork) (ts : List TableWork) (stop : Stop) → t.done < 512 → TookEntry v w owner t (Err stop) → Advanced owner v (t ∷ ts) w (t ∷ ts) (Err stop)
   completed : (v u w : PortValue) (t outer : TableWork) (ts : List TableWork) → t.done ≡ 512 → MadeLive v u t → Joined u w t outer t.recorded →
       Advanced owner v (t ∷ outer ∷ ts) w (outer ∷ ts) (Ok true)

@@ -20,7 +20,7 @@ use Rattle.frame_types.specs.Found.{DeadBy, SharedBy, StoresKind, TakesOf}
 use Rattle.frame_types.specs.Plain.{is_read_first, is_refused}
 use Rattle.frame_types.specs.declared.taking.Taken.TheVariants.{Waiting}
 use Rattle.table_words.specs.Entries.{Records}
-use Rattle.table_entries.specs.Between.{LeftWaiting}
+use Rattle.table_entries.specs.Between.{EntryLeftWaiting}
 use Rattle.table_entries.specs.Found.{EntersFound, LeftAfter, LeftBy, TypedBy}
 use Rattle.table_entries.specs.declared.entries.Entered.{Entered}
 use Rattle.table_entries.specs.declared.entries.Entered.TheVariants.{Unsettled}
@@ -37,7 +37,7 @@ left_dead_by : (g : ℕ) (t : PageType) (stamp : ℕ) (e : Stop) (vs : List Visi
 left_dead_by g t stamp (Refused r) vs is plain dead = (plain, dead)
 left_dead_by g t stamp (Paused r) vs is plain dead = absurd (let k = is in cc)
 
-module _ (b v : PortValue) (f i owner : ℕ) (t : PageType) (g : ℕ) (want : PageType) (own : Bool) (stamp : ℕ) (stop : Stop) (late : LeftWaiting b v f i owner t g want own stamp stop) where
+module _ (b v : PortValue) (f i owner : ℕ) (t : PageType) (g : ℕ) (want : PageType) (own : Bool) (stamp : ℕ) (stop : Stop) (late : EntryLeftWaiting b v f i owner t g want own stamp stop) where
   -- behind the type
   behind_taken : (w : PortValue) (answer : Result Entered Stop) (P : List Visit → Type 0) → Does v w P →
       ((vs : List Visit) → Then (λ ts. TakesOf late.x.post g owner want (Waiting own stamp stop) ts) P vs → TypedBy late.x.post g owner want f i answer vs) → EntersFound b w f i t owner answer

@@ -27,7 +27,7 @@ use Rattle.frame_types.specs.Taking.{ShowsWait, WaitsWith, working_typed}
 use Rattle.frame_types.specs.declared.taking.Taken.TheVariants.{Waiting}
 use Rattle.table_words.specs.Entries.{RecordsNext, entry_recorded}
 use Rattle.table_words.proofs.EntryHands.{unsettled_for}
-use Rattle.table_entries.specs.Between.{LooksNext, LeftWaiting}
+use Rattle.table_entries.specs.Between.{LooksNext, EntryLeftWaiting}
 use Rattle.table_entries.specs.Tops.{LookedAnd, as_it_was, with_recorded}
 use Rattle.table_entries.proofs.HandLists.{asks_below}
 use Rattle.table_entries.proofs.HandRecords.{typed_hand, typed_records}
@@ -37,7 +37,7 @@ use Rattle.table_entries.proofs.HandTyped.{gave_up, typed_from}
 pub waits_from : (b v u x : PortValue) (f i owner : ℕ) (t : PageType) (word : ℕ) (n g : ℕ) (want : PageType) (own : Bool) (stamp : ℕ) (stop : Stop) → LooksNext b v f i owner t word → demand_at t i word ≡ Typed n want →
     (g ≡ n) × (g < v.post.machine.frames) → Serves v u (of_frame n owner None) [] → Holds v u (took g owner v.holdings) → TwinGet v u n owner (Ok g) → Gets v u n owner (Ok g) →
     Serves u x (of_frame g owner (Some want)) [] → ShowsWait u x g owner want (Waiting own stamp stop) → WaitsWith u x g owner want own stamp → TwinTake u x g want (Ok (Waiting own stamp stop)) → TakesFound u x g owner want (Ok (Waiting own stamp stop)) →
-    LeftWaiting b x f i owner t g want own stamp stop
+    EntryLeftWaiting b x f i owner t g want own stamp stop
 waits_from b v u x f i owner t word n g want own stamp stop l asks is refers lent referred gets types shows waits typed takes =
     record {
       u = v;
@@ -68,22 +68,22 @@ entries_below kinds.Writable = refl
 
 module _ (b v : PortValue) (f i owner : ℕ) (t : PageType) (g : ℕ) (want : PageType) (stamp : ℕ) (stop : Stop) where
   -- a descriptor page is asked by no entry
-  pub has_entries : (own : Bool) → LeftWaiting b v f i owner t g want own stamp stop → IsTrue (not (type_number want == 5))
+  pub has_entries : (own : Bool) → EntryLeftWaiting b v f i owner t g want own stamp stop → IsTrue (not (type_number want == 5))
   has_entries own w = subst (λ k. IsTrue (not (type_number k == 5))) (sym (asks_below t i w.word g want w.asks)) (entries_below t)
 
-  pub waiting_from : (own : Bool) (w : LeftWaiting b v f i owner t g want own stamp stop) → WaitsFrom w.x v g owner want own stamp
+  pub waiting_from : (own : Bool) (w : EntryLeftWaiting b v f i owner t g want own stamp stop) → WaitsFrom w.x v g owner want own stamp
   waiting_from own w = record { waits = w.waits; lent = record { others = w.u.holdings.refs; refs = ap (λ (q : PortValue). q.holdings.refs) w.lent } }
 
-  pub is_waiting : (own mine : Bool) → own ≡ mine → LeftWaiting b v f i owner t g want own stamp stop → IsWaiting v g want mine stamp
+  pub is_waiting : (own mine : Bool) → own ≡ mine → EntryLeftWaiting b v f i owner t g want own stamp stop → IsWaiting v g want mine stamp
   is_waiting own mine is w = subst (λ m. IsWaiting v g want m stamp) is (w.x, owner, waiting_from own w)
 
   -- the reference went back
-  pub wait_gave : (y : PortValue) (own mine : Bool) → own ≡ mine → LeftWaiting b v f i owner t g want own stamp stop → GivesBack v y g want mine → LookedAnd b y f i as_it_was
+  pub wait_gave : (y : PortValue) (own mine : Bool) → own ≡ mine → EntryLeftWaiting b v f i owner t g want own stamp stop → GivesBack v y g want mine → LookedAnd b y f i as_it_was
   wait_gave y own mine is w back =
       gave_up b w.u f i t w.word w.looks.looks owner g want w.asks w.x w.lent y (back w.x owner stamp (subst (λ m. WaitsFrom w.x v g owner want m stamp) is (waiting_from own w)))
 
   -- it stayed partial, under the type count of the entry
-  module _ (y : PortValue) (own : Bool) (is : own ≡ true) (w : LeftWaiting b v f i owner t g want own stamp stop) (came : Came v y) (keeps : KeepsType v y g want) (partial : IsTrue (knows_partial (sizes_of v.post.machine) g want y.holdings)) where
+  module _ (y : PortValue) (own : Bool) (is : own ≡ true) (w : EntryLeftWaiting b v f i owner t g want own stamp stop) (came : Came v y) (keeps : KeepsType v y g want) (partial : IsTrue (knows_partial (sizes_of v.post.machine) g want y.holdings)) where
     stays : StaysTyped w.x y g owner want
     stays = keeps w.x owner stamp (subst (λ m. WaitsFrom w.x v g owner want m stamp) is (waiting_from own w))
 

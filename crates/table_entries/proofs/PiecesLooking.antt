@@ -16,7 +16,7 @@ use Rattle.answer_fits.specs.Asked.{Request}
 use Rattle.answer_fits.specs.Finding.{Finding}
 use Rattle.answer_fits.specs.Reasons.{HasReason, MayLook}
 use Rattle.answer_fits.proofs.Piecing.{each_append}
-use Rattle.table_entries.specs.Asking.{LooksAt, LooksOnly}
+use Rattle.table_entries.specs.Asking.{LooksAtEntry, LooksOnly}
 
 -- a call that reads no entries, does not walk and writes no cell
 pub record LooksAside (r : Request) : Type 0 where
@@ -29,7 +29,7 @@ no_cell r g j aside (inl a) = let b : false ≡ _ = sym aside.entries ∙ a in c
 no_cell r g j aside (inr (inl a)) = let b : false ≡ _ = sym aside.walks ∙ a in cc
 no_cell r g j aside (inr (inr a)) = let b : None ≡ Some a.0 = sym aside.index ∙ a.1 in cc
 
-not_looked : (n : Machine) (s f i : ℕ) (r : Request) (F : Finding) → LooksAside r → (m : Moment) → HasReason n s r F m.place m.act m.found m.hand → LooksAt f i m
+not_looked : (n : Machine) (s f i : ℕ) (r : Request) (F : Finding) → LooksAside r → (m : Moment) → HasReason n s r F m.place m.act m.found m.hand → LooksAtEntry f i m
 not_looked n s f i r F aside m reason load g j at =
     absurd (no_cell r g j aside (subst (λ p. MayLook r p) at (subst (λ a. HasReason n s r F m.place a m.found m.hand) load reason)))
 
@@ -39,7 +39,7 @@ looks_nothing v f i = ([], refl, tt)
 
 pub looks_then : (v u w : PortValue) (f i : ℕ) → LooksOnly v u f i → LooksOnly u w f i → LooksOnly v w f i
 unfolding LooksOnly
-looks_then v u w f i a b = (b.0 ++ a.0, ran_more v u w a.0 b.0 a.1 b.1, each_append (LooksAt f i) a.0 b.0 a.2 b.2)
+looks_then v u w f i a b = (b.0 ++ a.0, ran_more v u w a.0 b.0 a.1 b.1, each_append (LooksAtEntry f i) a.0 b.0 a.2 b.2)
 
 pub looks_aside : (v w : PortValue) (f i : ℕ) (r : Request) (ds : List Deed) → LooksAside r → Serves v w r ds → LooksOnly v w f i
 unfolding Serves LooksOnly

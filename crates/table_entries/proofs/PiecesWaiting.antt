@@ -11,13 +11,13 @@ use Rattle.step_maker.specs.Moves.{Met, Moves}
 use Rattle.answer_fits.specs.Asked.{Asked}
 use Rattle.frame_types.specs.Leaving.{ServesType}
 use Rattle.table_entries.specs.Asking.{of_entries}
-use Rattle.table_entries.specs.Between.{MeetsEntry, LeftWaiting}
+use Rattle.table_entries.specs.Between.{MeetsEntry, EntryLeftWaiting}
 use Rattle.table_entries.specs.declared.entries.Entered.TheVariants.{Unsettled}
 use Rattle.table_entries.proofs.PiecesAsking.{asks_typed, looked_goes}
 use Rattle.table_entries.proofs.PiecesEntering.{asks_referred, enters_left, enters_unsettled, referred}
 use Rattle.table_entries.proofs.PiecesTaking.{Goes}
 
-module _ (b v : PortValue) (f i owner pages : ℕ) (t : PageType) (g : ℕ) (want : PageType) (own : Bool) (stamp : ℕ) (stop : Stop) (w : LeftWaiting b v f i owner t g want own stamp stop) where
+module _ (b v : PortValue) (f i owner pages : ℕ) (t : PageType) (g : ℕ) (want : PageType) (own : Bool) (stamp : ℕ) (stop : Stop) (w : EntryLeftWaiting b v f i owner t g want own stamp stop) where
   waits_asks : Asked b.post.machine b.post.vcpu (of_entries owner pages) (Met b w.u) g owner (Some want)
   waits_asks = asks_typed b w.u f i t w.word w.looks.looks i owner pages w.looks.works.on g want w.asks
 

@@ -22,7 +22,7 @@ use Rattle.frame_words.specs.Plain.{put, stamp_now}
 use Rattle.kind_words.specs.Kinds.{dead_kind, partial_kind}
 use Rattle.frame_types.specs.Plain.{TakesPlainly, is_read_first, is_refused, set_kind, type_waits}
 use Rattle.frame_types.specs.declared.taking.Taken.TheVariants.{Waiting}
-use Rattle.table_entries.specs.Between.{LeftWaiting}
+use Rattle.table_entries.specs.Between.{EntryLeftWaiting}
 use Rattle.table_entries.specs.Plain.{IsTakenOf, TwinEntry, TypesPlainly, WaitsPlainly, is_own_of, left_dead, left_partial, left_shared}
 use Rattle.table_entries.specs.declared.entries.Entered.{Entered}
 use Rattle.table_entries.specs.declared.entries.Entered.TheVariants.{Unsettled}
@@ -65,7 +65,7 @@ dead_by w m g t (Refused (refusals.Clock x)) wait is plain waits own words = (wa
 dead_by w m g t (Refused _) wait is plain waits own words = absurd wait
 dead_by w m g t (Paused _) wait is plain waits own words = absurd (let k = is in cc)
 
-module _ (b v : PortValue) (f i owner : ℕ) (t : PageType) (g : ℕ) (want : PageType) (own : Bool) (stamp : ℕ) (stop : Stop) (late : LeftWaiting b v f i owner t g want own stamp stop) where
+module _ (b v : PortValue) (f i owner : ℕ) (t : PageType) (g : ℕ) (want : PageType) (own : Bool) (stamp : ℕ) (stop : Stop) (late : EntryLeftWaiting b v f i owner t g want own stamp stop) where
   no_desc : (type_number want == 5) ≡ false
   no_desc = subst (λ k. (type_number k == 5) ≡ false) (sym (asks_below t i late.word g want late.asks)) (not_desc t)
 

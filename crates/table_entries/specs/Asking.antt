@@ -26,11 +26,11 @@ abbrev pub of_entries : ℕ → ℕ → Request
 of_entries owner pages = record (of_frame 0 owner None) { names = λ g. false; entries = true; pages_of = pages }
 
 -- from v to w no cell was looked at but entry i of frame f
-abbrev pub LooksAt : ℕ → ℕ → Moment → Type 0
-LooksAt f i m = m.act ≡ Load → (g j : ℕ) → m.place ≡ Cell g j → (g ≡ f) × (j ≡ i)
+abbrev pub LooksAtEntry : ℕ → ℕ → Moment → Type 0
+LooksAtEntry f i m = m.act ≡ Load → (g j : ℕ) → m.place ≡ Cell g j → (g ≡ f) × (j ≡ i)
 
 unfoldable pub LooksOnly : PortValue → PortValue → ℕ → ℕ → Type 0
-LooksOnly v w f i = (ms : List Moment) × Ran v ms w × EachOf (LooksAt f i) ms
+LooksOnly v w f i = (ms : List Moment) × Ran v ms w × EachOf (LooksAtEntry f i) ms
 
 -- why an entry is not met
 abbrev pub IsEntryStop : Stop → Type 0

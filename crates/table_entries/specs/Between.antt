@@ -99,7 +99,7 @@ FromLooks v f i t (Typed g want) P =
 FromLooks v f i t d P = ⊥
 
 -- ---- where the frame that the entry asks waits for a flush
-pub record LeftWaiting (b v : PortValue) (f i owner : ℕ) (t : PageType) (g : ℕ) (want : PageType) (own : Bool) (stamp : ℕ) (stop : Stop) : Type 0 where
+pub record EntryLeftWaiting (b v : PortValue) (f i owner : ℕ) (t : PageType) (g : ℕ) (want : PageType) (own : Bool) (stamp : ℕ) (stop : Stop) : Type 0 where
   pub u : PortValue
   pub x : PortValue
   pub word : ℕ
@@ -117,10 +117,10 @@ pub record LeftWaiting (b v : PortValue) (f i owner : ℕ) (t : PageType) (g : �
   pub takes : TakesFound x v g owner want (Ok (Waiting own stamp stop))
 
 abbrev pub HasWaited : PortValue → ℕ → ℕ → ℕ → PageType → ℕ → PageType → Bool → ℕ → Stop → Type 0
-HasWaited v f i owner t g want own stamp stop = (b : PortValue) × LeftWaiting b v f i owner t g want own stamp stop
+HasWaited v f i owner t g want own stamp stop = (b : PortValue) × EntryLeftWaiting b v f i owner t g want own stamp stop
 
 abbrev pub FromWait : PortValue → ℕ → ℕ → ℕ → PageType → ℕ → PageType → Bool → ℕ → Stop → (PortValue → Type 0) → Type 0
-FromWait v f i owner t g want own stamp stop P = (b : PortValue) → LeftWaiting b v f i owner t g want own stamp stop → P b
+FromWait v f i owner t g want own stamp stop P = (b : PortValue) → EntryLeftWaiting b v f i owner t g want own stamp stop → P b
 
 -- ---- where the frame that the entry asks is not found live, under the reference that was taken
 pub record FoundOther (b v : PortValue) (f i owner : ℕ) (t : PageType) (g : ℕ) (want : PageType) (kind : ℕ) : Type 0 where

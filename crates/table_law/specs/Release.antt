@@ -21,8 +21,8 @@ abbrev pub count_back : ℕ → KindWord → Plain → Plain
 count_back g k p = reference_back g (with_kind g (record k { number = k.number - 1 }) p)
 
 -- how many entries a frame with that word holds: those recorded of an unfinished one, else all
-abbrev pub held_of : KindWord → ℕ
-held_of k = if is_partial k then k.progress else 512
+abbrev pub entries_held : KindWord → ℕ
+entries_held k = if is_partial k then k.progress else 512
 
 -- what it is while they are given back: an unfinished one is in work again, else it has no type count
 abbrev pub emptying : KindWord → KindWord
@@ -30,7 +30,7 @@ emptying k = if is_partial k then resumed_kind k else record k { number = 0 }
 
 -- Of several type counts one goes. Else it was the last, and what the frame holds is given back: `empty` does that with so many entries.
 abbrev pub drop_kind : (ℕ → Plain → Plain) → ℕ → PageType → Plain → KindWord → Plain
-drop_kind empty g t p k = if is_counted_on k then count_back g k p else closed g t (empty (held_of k) (with_kind g (emptying k) p))
+drop_kind empty g t p k = if is_counted_on k then count_back g k p else closed g t (empty (entries_held k) (with_kind g (emptying k) p))
 
 -- ---- entries
 abbrev pub drop_demand : (ℕ → Plain → Plain) → Plain → Demand → Plain

@@ -14,7 +14,7 @@ use Rattle.xp_board.specs.Lists.{Member}
 use Rattle.xp_words.specs.Places.{sizes_of}
 use Rattle.thread_board.specs.declared.rule.Opening.{Opening}
 use Rattle.thread_board.specs.declared.rule.SharedView.{SharedView}
-use Rattle.thread_board.specs.Sharing.{one, hold_of, nobody, all_hands, first_of, rest_of, Fits, Kept}
+use Rattle.thread_board.specs.Sharing.{one, hold_of, nobody, all_hands, first_view, rest_of, Fits, Kept}
 use Rattle.thread_board.proofs.Sharing.{fits_set, fits_one, at_inside}
 
 at_end : {A : Type 0} (l : List A) (a b : A) (j : ℕ) → get_elem? (l ++ a ∷ []) j ≡ some b → (get_elem? l j ≡ some b) ⊎ ((j ≡ length l) × (a ≡ b))
@@ -153,13 +153,13 @@ joins o id other from xs ys s was at apart there_is =
     }
 
 -- at the view of vCPUs with nothing in hand
-pub splits_at : (o : Opening) (id from n k : ℕ) (v : SharedView) → v ≡ record { from = from; hands = replicate n empty } → n ≡ suc k → Splits (Kept o) id v (first_of v) (rest_of v)
+pub splits_at : (o : Opening) (id from n k : ℕ) (v : SharedView) → v ≡ record { from = from; hands = replicate n empty } → n ≡ suc k → Splits (Kept o) id v (first_view v) (rest_of v)
 splits_at o id from n k v is some_left =
     let all : v ≡ record { from = from; hands = empty ∷ replicate k empty } = is ∙ ap (λ (i : ℕ). record { from = from; hands = replicate i empty }) some_left in
-    subst (λ (u : SharedView). Splits (Kept o) id u (first_of u) (rest_of u)) (sym all) (splits o id from empty (replicate k empty))
+    subst (λ (u : SharedView). Splits (Kept o) id u (first_view u) (rest_of u)) (sym all) (splits o id from empty (replicate k empty))
 
 -- the first, and the rest
-pub first_is : (from n k : ℕ) (v : SharedView) → v ≡ record { from = from; hands = replicate n empty } → n ≡ suc k → (first_of v ≡ one from empty) × (rest_of v ≡ record { from = from + 1; hands = replicate k empty })
+pub first_is : (from n k : ℕ) (v : SharedView) → v ≡ record { from = from; hands = replicate n empty } → n ≡ suc k → (first_view v ≡ one from empty) × (rest_of v ≡ record { from = from + 1; hands = replicate k empty })
 first_is from n k v is some_left = rw (is, some_left) (refl, refl)
 
 -- one pass more

@@ -17,7 +17,7 @@ use Rattle.shared_board.proofs.Stepping.{RunsSound}
 use Rattle.xp_board.specs.declared.holdings.Holdings.{Holdings}
 use Rattle.thread_board.specs.declared.rule.Opening.{Opening}
 use Rattle.thread_board.specs.declared.rule.SharedView.{SharedView}
-use Rattle.thread_board.specs.Sharing.{one, hold_of, nobody, both_of, Fits, Kept}
+use Rattle.thread_board.specs.Sharing.{one, hold_of, nobody, joined_views, Fits, Kept}
 use Rattle.thread_board.specs.Values.{PassValue, AreOf, held_by}
 use Rattle.thread_board.specs.OneRun.{OneRun}
 use Rattle.thread_board.proofs.OwnSteps.{own_from}
@@ -34,10 +34,10 @@ last_of t xs ys p own is =
 pub held_more : (all xs ys : List PassValue) (p : PassValue) (hands : List Holdings) → held_by all ≡ held_by xs ++ hands → xs ≡ ys ++ p ∷ [] → held_by all ≡ held_by ys ++ (p.holdings ∷ hands)
 held_more all xs ys p hands was is = was ∙ ap (λ (l : List PassValue). held_by l ++ hands) is ∙ simp (map-append, append_assoc)
 
-pub joins_at : (o : Opening) (id other n : ℕ) (h : Holdings) (v w : SharedView) → v ≡ one n h → w.from ≡ n + 1 → Joins (Kept o) id v other w (both_of v w) nobody
+pub joins_at : (o : Opening) (id other n : ℕ) (h : Holdings) (v w : SharedView) → v ≡ one n h → w.from ≡ n + 1 → Joins (Kept o) id v other w (joined_views v w) nobody
 joins_at o id other n h v w is from =
     let w_is : w ≡ record { from = n + length (h ∷ []); hands = w.hands } = λ k. record { from = from k; hands = w.hands } in
-    subst (λ (y : SharedView × SharedView). Joins (Kept o) id y.0 other y.1 (both_of y.0 y.1) nobody) (λ k. (sym is k, sym w_is k)) (joins o id other n (h ∷ []) w.hands)
+    subst (λ (y : SharedView × SharedView). Joins (Kept o) id y.0 other y.1 (joined_views y.0 y.1) nobody) (λ k. (sym is k, sym w_is k)) (joins o id other n (h ∷ []) w.hands)
 
 get_all : {A : Type 0} (xs ys : List A) → length xs ≡ length ys → ((k : ℕ) (a : A) → get_elem? ys k ≡ some a → get_elem? xs k ≡ some a) → xs ≡ ys
 get_all [] [] len same = refl

@@ -32,7 +32,7 @@ use Rattle.thread_board.specs.Values.{BoardValue, PassValue, IsPassOf, PassSteps
 use Rattle.thread_board.specs.declared.rule.Opening.{Opening}
 use Rattle.thread_board.specs.declared.rule.SharedView.{SharedView}
 use Rattle.thread_board.specs.Sharing.{one, deed_of, Fits, Kept, DidShare}
-use Rattle.thread_board.specs.Ports.{port_value}
+use Rattle.thread_board.specs.Ports.{pass_port}
 use Rattle.thread_board.specs.Deeds.{Deed}
 
 pub at_inside : {A : Type 0} (l : List A) (i : ℕ) (a : A) → get_elem? l i ≡ some a → i < length l
@@ -143,14 +143,14 @@ pub some_words : (z : Sizes) → 0 < size z
 unfolding size
 some_words z = omega arith
 
-value_is : (b : BoardValue) (p q : PassValue) (l found : ℕ) (x : Step) → PassSteps b p x found q → port_value b q l ≡ stepped (port_value b p l) x found
-value_is b p q l found x st = ap (λ (u : PassValue). port_value b u l) st.value
+value_is : (b : BoardValue) (p q : PassValue) (l found : ℕ) (x : Step) → PassSteps b p x found q → pass_port b q l ≡ stepped (pass_port b p l) x found
+value_is b p q l found x st = ap (λ (u : PassValue). pass_port b u l) st.value
 
-pub shared_goes : (b : BoardValue) (p q : PassValue) (l found : ℕ) (x : Step) → PassSteps b p x found q → Legal b.machine p.vcpu p.holdings x → Goes (port_value b p l) (port_value b q l)
-shared_goes b p q l found x st legal = goes_step (port_value b p l) (port_value b q l) x found legal tt (value_is b p q l found x st)
+pub shared_goes : (b : BoardValue) (p q : PassValue) (l found : ℕ) (x : Step) → PassSteps b p x found q → Legal b.machine p.vcpu p.holdings x → Goes (pass_port b p l) (pass_port b q l)
+shared_goes b p q l found x st legal = goes_step (pass_port b p l) (pass_port b q l) x found legal tt (value_is b p q l found x st)
 
-pub shared_saw : (b : BoardValue) (p q : PassValue) (l found : ℕ) (x : Step) → PassSteps b p x found q → Legal b.machine p.vcpu p.holdings x → Saw (port_value b p l) (port_value b q l) (runs.place_of b.machine x) found
-shared_saw b p q l found x st legal = saw_step (port_value b p l) (port_value b q l) x found legal tt (value_is b p q l found x st)
+pub shared_saw : (b : BoardValue) (p q : PassValue) (l found : ℕ) (x : Step) → PassSteps b p x found q → Legal b.machine p.vcpu p.holdings x → Saw (pass_port b p l) (pass_port b q l) (runs.place_of b.machine x) found
+shared_saw b p q l found x st legal = saw_step (pass_port b p l) (pass_port b q l) x found legal tt (value_is b p q l found x st)
 
 -- ---- what a board and a pass have inside
 -- what is legal of the values that contracts see, of their fields

@@ -8,7 +8,7 @@ use Rattle.thread_board.specs.declared.board.SharedBoard.TheInside.{Inside}
 abbrev pub board_of : Inside → BoardValue
 board_of b = record { table = b.table.shared.table_id; machine = b.opening.layout; opening = b.opening.words }
 
-pub record IsShared (b : Inside) : Type 0 where
+pub record IsSharedInside (b : Inside) : Type 0 where
   pub key : b.table.shared.key ≡ b.opening
   pub no_slots : b.table.shared.table_id.slots ≡ 0
   pub words : b.table.shared.table_id.words ≡ size (sizes_of b.opening.layout)

@@ -5,8 +5,8 @@ use Rattle.xp_board.specs.Told.{PortValue}
 use Rattle.thread_board.specs.Values.{BoardValue, PassValue}
 
 -- it does not tell the words. The borrow of the pass has that name
-abbrev pub port_value : BoardValue → PassValue → ℕ → PortValue
-port_value b p lender =
+abbrev pub pass_port : BoardValue → PassValue → ℕ → PortValue
+pass_port b p lender =
     record {
       post = record { machine = b.machine; vcpu = p.vcpu; run = memory (sizes_of b.machine) b.opening (run_of p.vcpu); lender = lender; table = b.table };
       holdings = p.holdings;

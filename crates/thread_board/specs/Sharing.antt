@@ -27,14 +27,14 @@ nobody = record { from = 0; hands = [] }
 abbrev pub all_hands : Opening → SharedView
 all_hands o = record { from = 0; hands = replicate (sizes_of o.layout).vcpus empty }
 
-abbrev pub first_of : SharedView → SharedView
-first_of v = record { from = v.from; hands = take 1 v.hands }
+abbrev pub first_view : SharedView → SharedView
+first_view v = record { from = v.from; hands = take 1 v.hands }
 
 abbrev pub rest_of : SharedView → SharedView
 rest_of v = record { from = v.from + 1; hands = drop 1 v.hands }
 
-abbrev pub both_of : SharedView → SharedView → SharedView
-both_of v w = record { from = v.from; hands = v.hands ++ w.hands }
+abbrev pub joined_views : SharedView → SharedView → SharedView
+joined_views v w = record { from = v.from; hands = v.hands ++ w.hands }
 
 -- what a view says is so, of vCPUs that are its seat's
 abbrev pub Fits : (ℕ → ℕ) → List Holdings → ℕ → SharedView → Type 0

@@ -27,13 +27,13 @@ pub struct SharedBoard {
 
 impl Model for SharedBoard {
     ghost use Rattle.thread_board.specs.Values.{BoardValue};
-    ghost use Rattle.thread_board.specs.Boards.{board_of, IsShared};
+    ghost use Rattle.thread_board.specs.Boards.{board_of, IsSharedInside};
 
     ghost Value = { BoardValue };
 
     ghost view = { board_of };
 
-    ghost invariant = { IsShared };
+    ghost invariant = { IsSharedInside };
 }
 
 // The words in one row.

@@ -49,17 +49,17 @@ impl<J: Doing> Play<(), SharedView> for Does<J> {
 pub struct Cut;
 
 impl Split<SharedView> for Cut {
-    ghost use Rattle.thread_board.specs.Sharing.{first_of, rest_of};
+    ghost use Rattle.thread_board.specs.Sharing.{first_view, rest_of};
 
-    ghost left = { first_of };
+    ghost left = { first_view };
 
     ghost right = { rest_of };
 }
 
 impl Join<SharedView> for Cut {
-    ghost use Rattle.thread_board.specs.Sharing.{both_of, nobody};
+    ghost use Rattle.thread_board.specs.Sharing.{joined_views, nobody};
 
-    ghost both = { both_of };
+    ghost both = { joined_views };
 
     ghost spent = { nobody };
 }

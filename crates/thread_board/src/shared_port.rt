@@ -14,9 +14,9 @@ pub struct SharedPort<'a> {
 }
 
 impl Port for SharedPort<'_> {
-    ghost use Rattle.thread_board.specs.Ports.{port_value};
+    ghost use Rattle.thread_board.specs.Ports.{pass_port};
 
-    ghost value = { λ p. port_value p.board.now p.pass.now p.pass.ghost_name };
+    ghost value = { λ p. pass_port p.board.now p.pass.now p.pass.ghost_name };
 
     fn layout(&self) -> &Layout {
         let board = self.board;

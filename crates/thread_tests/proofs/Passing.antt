@@ -14,7 +14,7 @@ use Rattle.step_maker.specs.Moves.{Moves}
 use Rattle.thread_board.specs.Values.{BoardValue, PassValue, AreOpened, opened_pass, held_by}
 use Rattle.thread_board.proofs.Dealing.{opened_is}
 use Rattle.atomic_table.specs.Seated.{TableId}
-use Rattle.thread_tests.specs.Two.{Idles}
+use Rattle.thread_tests.specs.Two.{IsIdlePass}
 
 pub two_are : (xs ys zs : List PassValue) (a b : PassValue) → xs ≡ [] → ys ≡ xs ++ a ∷ [] → zs ≡ ys ++ b ∷ [] → zs ≡ a ∷ b ∷ []
 two_are xs ys zs a b none one two = two ∙ ap (λ (l : List PassValue). l ++ b ∷ []) (one ∙ ap (λ (l : List PassValue). l ++ a ∷ []) none)
@@ -43,8 +43,8 @@ may_work v w found moves holds zero_found walk =
     }
 
 -- passes as they were made idle
-idle_first : (b : BoardValue) (p : PassValue) (k : ℕ) → p ≡ opened_pass b.table k → k < (sizes_of b.machine).vcpus → Idles b p
+idle_first : (b : BoardValue) (p : PassValue) (k : ℕ) → p ≡ opened_pass b.table k → k < (sizes_of b.machine).vcpus → IsIdlePass b p
 idle_first b p k is real = record { pass = opened_is b p k is real; no_walk = ap (λ (q : PassValue). q.holdings.walk) is }
 
-pub two_idle : (b : BoardValue) (p q : PassValue) → (sizes_of b.machine).vcpus ≡ 2 → (p ≡ opened_pass b.table 0) × (q ≡ opened_pass b.table 1) → Idles b p × Idles b q
+pub two_idle : (b : BoardValue) (p q : PassValue) → (sizes_of b.machine).vcpus ≡ 2 → (p ≡ opened_pass b.table 0) × (q ≡ opened_pass b.table 1) → IsIdlePass b p × IsIdlePass b q
 two_idle b p q two is = (idle_first b p 0 is.0 (omega arith), idle_first b q 1 is.1 (omega arith))

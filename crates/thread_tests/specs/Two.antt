@@ -9,6 +9,6 @@ abbrev pub IsRunOfTwo : Machine → List ℕ → List ℕ → Type 0
 IsRunOfTwo n opening words = (first : Holdings) × (second : Holdings) × OneRun n opening words (first ∷ second ∷ [])
 
 -- a pass of that board, whose vCPU has no walk under way
-pub record Idles (b : BoardValue) (p : PassValue) : Type 0 where
+pub record IsIdlePass (b : BoardValue) (p : PassValue) : Type 0 where
   pub pass : IsPassOf b p
   pub no_walk : p.holdings.walk ≡ None

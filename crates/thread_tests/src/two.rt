@@ -1,7 +1,7 @@
 ghost use Rattle.std.specs.Prelude.{◌≡◌, ◌<◌, IfOk, IfSome, length};
 ghost use Rattle.xp_words.specs.Places.{sizes_of};
 ghost use Rattle.thread_board.specs.Values.{AreOpened, IsPassOf, opened_pass};
-ghost use Rattle.thread_tests.specs.Two.{Idles, IsRunOfTwo};
+ghost use Rattle.thread_tests.specs.Two.{IsIdlePass, IsRunOfTwo};
 
 use flush_words::look_run;
 use m2p_map::set_m2p;
@@ -32,7 +32,7 @@ pub fn two_passes(_board: &SharedBoard, mut passes: Vec<Pass>) -> Option<(Pass, 
     requires count { length passes.items ≡ 2 }
     requires opened { AreOpened _board.now.table passes.items }
     ensures opened { IfSome result (λ p. (p.0 ≡ opened_pass _board.now.table 0) × (p.1 ≡ opened_pass _board.now.table 1)) }
-    ensures idle { IfSome result (λ p. Idles _board.now p.0 × Idles _board.now p.1) }
+    ensures idle { IfSome result (λ p. IsIdlePass _board.now p.0 × IsIdlePass _board.now p.1) }
 {
     let second = passes.pop()?;
     let first = passes.pop()?;

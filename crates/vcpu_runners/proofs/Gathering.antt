@@ -14,7 +14,7 @@ use Rattle.xp_board.specs.declared.holdings.Holdings.{Holdings}
 use Rattle.xp_board.specs.Hands.{empty, IsEmptyHand}
 use Rattle.xp_board.specs.Sound.{SoundState, SoundWords, hand_of}
 use Rattle.thread_board.specs.OneRun.{OneRun}
-use Rattle.thread_board.specs.Ports.{port_value}
+use Rattle.thread_board.specs.Ports.{pass_port}
 use Rattle.thread_board.specs.Values.{BoardValue, PassValue, AreOf, AreOpened, held_by, opened_pass}
 use Rattle.thread_board.proofs.Dealing.{opened_is}
 use Rattle.vcpu_turn.specs.Cpus.{Processing}
@@ -69,7 +69,7 @@ module _ {A : Type 0} (pass : A → PassValue) (cpu : A → Processing) (b : Boa
       record {
         pass = opened_is b (pass (slice_index_or xs k d)) k is (subst (λ n. k < n) (sym (length-map xs pass) ∙ opened) within);
         short = subst IsShort (get_or-map cpu xs k d (cpu d) within) (All-get_or IsShort (map cpu xs) k (cpu d) (subst (λ n. k < n) (sym (length-map xs cpu)) within) first.short);
-        of = λ lender. subst (λ p. IsOf (port_value b p lender) c) (sym is) (first.of k lender c (at_place cpu xs k d within)).0;
+        of = λ lender. subst (λ p. IsOf (pass_port b p lender) c) (sym is) (first.of k lender c (at_place cpu xs k d within)).0;
         runs = own.1;
       }
 
@@ -113,14 +113,14 @@ module _ {A : Type 0} (pass : A → PassValue) (gate : A → Option Gate) (cpu :
       let c = cpu (slice_index_or xs k d) in
       let c2 = cpu (slice_index_or ys k d) in
       let start = opened_at pass cpu b xs opened passes first k d within in
-      let end : port_value b (pass (slice_index_or ys k d)) r.lender ≡ port_with b k r.lender (hand_of (held_by (map pass ys)) k) =
-      ap (λ p. port_value b p r.lender) (ended_at k d within) ∙ ap (port_with b k r.lender) (sym (hand_at k d within)) in
+      let end : pass_port b (pass (slice_index_or ys k d)) r.lender ≡ port_with b k r.lender (hand_of (held_by (map pass ys)) k) =
+      ap (λ p. pass_port b p r.lender) (ended_at k d within) ∙ ap (port_with b k r.lender) (sym (hand_at k d within)) in
       record {
         lender = r.lender;
         left = r.left;
         turns = subst (λ g. TookTurns g c (port_with b k r.lender empty) r.left c2 (port_with b k r.lender (hand_of (held_by (map pass ys)) k))) (sym (get_or-map gate xs k d None within))
             (subst (λ w. TookTurns (gate (slice_index_or xs k d)) c (port_with b k r.lender empty) r.left c2 w) end
-            (subst (λ p. TookTurns (gate (slice_index_or xs k d)) c (port_value b p r.lender) r.left c2 (port_value b (pass (slice_index_or ys k d)) r.lender)) start r.turns));
+            (subst (λ p. TookTurns (gate (slice_index_or xs k d)) c (pass_port b p r.lender) r.left c2 (pass_port b (pass (slice_index_or ys k d)) r.lender)) start r.turns));
         retired = r.retired;
       }
 

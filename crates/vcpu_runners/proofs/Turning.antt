@@ -6,7 +6,7 @@ use Rattle.xp_words.specs.Places.{sizes_of, memory, run_of}
 use Rattle.xp_board.specs.declared.step.Item.{Item}
 use Rattle.xp_board.specs.Lists.{Member}
 use Rattle.xp_board.specs.Told.{Post, PortValue}
-use Rattle.thread_board.specs.Ports.{port_value}
+use Rattle.thread_board.specs.Ports.{pass_port}
 use Rattle.thread_board.specs.Values.{BoardValue, PassValue, IsPassOf}
 use Rattle.vcpu_turn.specs.Cpus.{Processing}
 use Rattle.vcpu_turn.specs.Turning.{IsOf}
@@ -35,15 +35,15 @@ short_behind has c v _ _ _ none short = short
 short_behind has c v _ _ _ (more mid left d c2 u w turns runs turn) short = short_turn mid left d c2 u w turn (short_behind has c v mid d u turns short)
 
 -- ---- the port of the same board and of the same borrow
-post_same : (b : BoardValue) (p q : PassValue) (l : ℕ) → q.vcpu ≡ p.vcpu → (port_value b q l).post ≡ (port_value b p l).post
+post_same : (b : BoardValue) (p q : PassValue) (l : ℕ) → q.vcpu ≡ p.vcpu → (pass_port b q l).post ≡ (pass_port b p l).post
 post_same b p q l vcpu = λ i. record { machine = b.machine; vcpu = vcpu i; run = memory (sizes_of b.machine) b.opening (run_of (vcpu i)); lender = l; table = b.table }
 
 -- which vCPU and board it is follows of what a call keeps
-module _ (b b1 : BoardValue) (p q : PassValue) (l l1 : ℕ) (post : (port_value b1 q l1).post ≡ (port_value b p l).post) where
+module _ (b b1 : BoardValue) (p q : PassValue) (l l1 : ℕ) (post : (pass_port b1 q l1).post ≡ (pass_port b p l).post) where
   same_vcpu : q.vcpu ≡ p.vcpu
   same_vcpu = ap (λ (x : Post). x.vcpu) post
 
-  port_back : port_value b1 q l1 ≡ port_value b q l
+  port_back : pass_port b1 q l1 ≡ pass_port b q l
   port_back = let same = post ∙ sym (post_same b p q l same_vcpu) in λ i. record { post = same i; holdings = q.holdings; told = None }
 
   pass_back : IsPassOf b1 q → IsPassOf b q
@@ -55,8 +55,8 @@ module _ (b b1 : BoardValue) (p q : PassValue) (l l1 : ℕ) (post : (port_value 
         inside = subst (λ (n : Machine). (x : Item) → Member x q.holdings.cache → x.frame < n.frames) machine own.inside;
       }
 
-pub ran_out : (b b0 b1 : BoardValue) (p p0 q : PassValue) (l0 l1 : ℕ) (gate left : Option Gate) (c c2 : Processing) → b0 ≡ b → p0 ≡ p → (port_value b1 q l1).post ≡ (port_value b0 p0 l0).post →
-    TookTurns gate c (port_value b0 p0 l0) left c2 (port_value b1 q l1) → c2.retired ≡ true → IsOf (port_value b1 q l1) c2 → IsPassOf b1 q → RanOut b p q gate c c2
+pub ran_out : (b b0 b1 : BoardValue) (p p0 q : PassValue) (l0 l1 : ℕ) (gate left : Option Gate) (c c2 : Processing) → b0 ≡ b → p0 ≡ p → (pass_port b1 q l1).post ≡ (pass_port b0 p0 l0).post →
+    TookTurns gate c (pass_port b0 p0 l0) left c2 (pass_port b1 q l1) → c2.retired ≡ true → IsOf (pass_port b1 q l1) c2 → IsPassOf b1 q → RanOut b p q gate c c2
 ran_out b b0 b1 p p0 q l0 l1 gate left c c2 same pass post turns retired of own =
     let back = port_back b0 b1 p0 q l0 l1 post in
     subst (λ (y : BoardValue × PassValue). RanOut y.0 y.1 q gate c c2) (λ i. (same i, pass i))
@@ -65,11 +65,11 @@ ran_out b b0 b1 p p0 q l0 l1 gate left c c2 same pass post turns retired of own 
       vcpu = same_vcpu b0 b1 p0 q l0 l1 post;
       lender = l0;
       left = left;
-      turns = subst (TookTurns gate c (port_value b0 p0 l0) left c2) back turns;
+      turns = subst (TookTurns gate c (pass_port b0 p0 l0) left c2) back turns;
       retired = retired;
       of = subst (λ v. IsOf v c2) back of;
     })
 
 -- the port of a pass before the first turn
-pub of_first_port : (b b0 : BoardValue) (p p0 : PassValue) (l : ℕ) (c : Processing) → b0 ≡ b → p0 ≡ p → IsOf (port_value b p l) c → IsOf (port_value b0 p0 l) c
-of_first_port b b0 p p0 l c same pass of = subst (λ v. IsOf v c) (λ i. port_value (sym same i) (sym pass i) l) of
+pub of_first_port : (b b0 : BoardValue) (p p0 : PassValue) (l : ℕ) (c : Processing) → b0 ≡ b → p0 ≡ p → IsOf (pass_port b p l) c → IsOf (pass_port b0 p0 l) c
+of_first_port b b0 p p0 l c same pass of = subst (λ v. IsOf v c) (λ i. pass_port (sym same i) (sym pass i) l) of

@@ -2,7 +2,7 @@
 use Rattle.std.specs.Prelude.{◌≡◌, ℕ, Bool, true, false, List, [], ◌∷◌, length, Option, Some, None}
 use Rattle.std.specs.declared.alloc.Global.{Global}
 use Rattle.std.specs.declared.dyn_box.DynBox.{DynBox}
-use Rattle.xp_preempt.specs.Gates.{Gives, asks_on, ends_yes, is_in_step}
+use Rattle.xp_preempt.specs.Gates.{GivesAnswers, asks_on, ends_yes, is_in_step}
 
 -- whether it never says yes; whether it has a pace; how often it was asked; and at which asks it says yes
 pub record Gate : Type 0 where
@@ -44,7 +44,7 @@ SetBy (Some every) before after = ArePaced every before after
 
 -- h is g after a turn in which it gave these answers, the newest first, and no others. Where the turn is paused for it, it said yes last.
 pub record IsConsulted (g h : Gate) (answers : List Bool) (due : Bool) : Type 0 where
-  pub gives : Gives g.says g.asks answers
+  pub gives : GivesAnswers g.says g.asks answers
   pub asks : h.asks ≡ asks_on (length answers) g.asks
   pub due_is : due ≡ true → ends_yes answers ≡ true
   pub says : (n : ℕ) → h.says n ≡ g.says n

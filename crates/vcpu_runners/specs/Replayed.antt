@@ -6,7 +6,7 @@ use Rattle.xp_board.specs.Hands.{empty}
 use Rattle.xp_board.specs.Sound.{SoundWords, hand_of}
 use Rattle.xp_board.specs.Told.{PortValue}
 use Rattle.thread_board.specs.OneRun.{OneRun}
-use Rattle.thread_board.specs.Ports.{port_value}
+use Rattle.thread_board.specs.Ports.{pass_port}
 use Rattle.thread_board.specs.Values.{BoardValue}
 use Rattle.vcpu_turn.specs.Cpus.{Processing}
 use Rattle.vcpu_turn.specs.Turning.{IsOf}
@@ -21,7 +21,7 @@ pub data TookTurns (has : Option Gate) (c : Processing) (v : PortValue) : Option
 
 -- the port of vCPU s on a board of threads, when it holds this
 abbrev pub port_with : BoardValue → ℕ → ℕ → Holdings → PortValue
-port_with b s lender h = port_value b (record { table = b.table; vcpu = s; holdings = h }) lender
+port_with b s lender h = pass_port b (record { table = b.table; vcpu = s; holdings = h }) lender
 
 -- vCPU s made turns from its first, with nothing in hand, to the one that retired it, behind which it had this hand
 pub record RanToItsEnd (b : BoardValue) (s : ℕ) (gate : Option Gate) (first last : Processing) (hand : Holdings) : Type 0 where

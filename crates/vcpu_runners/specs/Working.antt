@@ -1,6 +1,6 @@
 -- One vCPU in its thread.
 use Rattle.std.specs.Prelude.{◌≡◌, ℕ, true, false, Option}
-use Rattle.thread_board.specs.Ports.{port_value}
+use Rattle.thread_board.specs.Ports.{pass_port}
 use Rattle.thread_board.specs.Values.{BoardValue, PassValue, IsPassOf}
 use Rattle.vcpu_turn.specs.Cpus.{Processing}
 use Rattle.vcpu_turn.specs.Turning.{IsOf}
@@ -12,7 +12,7 @@ use Rattle.vcpu_runners.specs.Replayed.{TookTurns}
 pub record MayRun (b : BoardValue) (p : PassValue) (c : Processing) : Type 0 where
   pub pass : IsPassOf b p
   pub short : IsShort c
-  pub of : (lender : ℕ) → IsOf (port_value b p lender) c
+  pub of : (lender : ℕ) → IsOf (pass_port b p lender) c
   pub runs : c.retired ≡ false
 
 -- it made turns until it was retired
@@ -21,6 +21,6 @@ pub record RanOut (b : BoardValue) (p q : PassValue) (gate : Option Gate) (c c' 
   pub vcpu : q.vcpu ≡ p.vcpu
   pub lender : ℕ
   pub left : Option Gate
-  pub turns : TookTurns gate c (port_value b p lender) left c' (port_value b q lender)
+  pub turns : TookTurns gate c (pass_port b p lender) left c' (pass_port b q lender)
   pub retired : c'.retired ≡ true
-  pub of : IsOf (port_value b q lender) c'
+  pub of : IsOf (pass_port b q lender) c'

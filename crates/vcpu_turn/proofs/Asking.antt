@@ -7,7 +7,7 @@ use Rattle.xp_words.specs.declared.reply.Refusal.{Refusal}
 use Rattle.xp_words.specs.declared.reply.Stop.{Stop}
 use Rattle.xp_words.specs.declared.reply.Stop.TheVariants.{Paused}
 use Rattle.xp_board.specs.Told.{PortValue}
-use Rattle.xp_preempt.specs.Gates.{Gives, last_ask}
+use Rattle.xp_preempt.specs.Gates.{GivesAnswers, last_ask}
 use Rattle.xp_preempt.proofs.Numbering.{says_last, says_no}
 use Rattle.level_release.proofs.Noes.{settled_no}
 use Rattle.vcpu_turn.specs.Asking.{HearsNoWithin, NoUntilDue, asks_within, elements_tried, tried_going, tried_next, tried_of, tried_owned, tried_through}
@@ -119,9 +119,9 @@ pub turn_asks : (c d : Processing) (op : Op) (end : TurnEnd) (v w : PortValue) (
 turn_asks c d op end v w answers next turn = going_asks c (slice_get c.script (length c.log)) op next turn.begun d turn.worked answers end turn.does
 
 -- ---- no ask follows one at which the gate says yes
-past : (says : ℕ → Bool) (before : ℕ) (answers : List Bool) (due : Bool) → Gives says before answers → NoUntilDue answers due → (j : ℕ) → 0 < j → before + j < last_ask → says (before + j) ≡ true →
+past : (says : ℕ → Bool) (before : ℕ) (answers : List Bool) (due : Bool) → GivesAnswers says before answers → NoUntilDue answers due → (j : ℕ) → 0 < j → before + j < last_ask → says (before + j) ≡ true →
     (length answers < j) ⊎ ((length answers ≡ j) × (due ≡ true))
-unfolding Gives
+unfolding GivesAnswers
 past says before [] due gives noes j some less is_yes = inl some
 past says before (a ∷ rest) due gives noes j some less is_yes = elim (cases_order j (length rest + 1)) [
   | inl at ↦ inr (omega (arith, at), noes.last (newest at))
@@ -137,7 +137,7 @@ past says before (a ∷ rest) due gives noes j some less is_yes = elim (cases_or
         let there : before + length rest + 1 ≡ before + j = omega (arith, at) in
         sym (says_last says before a rest gives (omega (arith, less, at))) ∙ ap says there ∙ is_yes
 
-pub turn_stops : (c c2 : Processing) (end : TurnEnd) (v w : PortValue) (before : ℕ) (answers : List Bool) (says : ℕ → Bool) → (turn : IsTurn c c2 end v w answers) → HearsNoWithin (elements_tried turn) → Gives says before answers →
+pub turn_stops : (c c2 : Processing) (end : TurnEnd) (v w : PortValue) (before : ℕ) (answers : List Bool) (says : ℕ → Bool) → (turn : IsTurn c c2 end v w answers) → HearsNoWithin (elements_tried turn) → GivesAnswers says before answers →
     (j : ℕ) → 0 < j → before + j < last_ask → says (before + j) ≡ true → (length answers < j) ⊎ ((length answers ≡ j) × (is_due end ≡ true))
 turn_stops c c2 end v w before answers says turn hears gives j some less is_yes = past says before answers (is_due end) gives (turn_hears c c2 end v w answers turn hears) j some less is_yes
 
@@ -149,7 +149,7 @@ within_by from to within asks all j (Err e) number few (inl before) = omega (ari
 within_by from to within asks all j (Err e) number few (inr last) = let at = last.0 in omega (arith, number, few, at)
 
 module _ (c : Processing) (before : ℕ) (says : ℕ → Bool) (j : ℕ) (some : 0 < j) (less : before + j < last_ask) (is_yes : says (before + j) ≡ true) where
-  going_within : (o : Option Op) (op : Op) → o ≡ Some op → (v : PortValue) (c2 : Processing) (w : PortValue) (answers : List Bool) (end : TurnEnd) → (does : DoesTurn c o v c2 w answers end) → HearsNoWithin (tried_going does) → Gives says before answers →
+  going_within : (o : Option Op) (op : Op) → o ≡ Some op → (v : PortValue) (c2 : Processing) (w : PortValue) (answers : List Bool) (end : TurnEnd) → (does : DoesTurn c o v c2 w answers end) → HearsNoWithin (tried_going does) → GivesAnswers says before answers →
       GoesNoFurther c c2 end (c.done + (j - asks_within (tried_going does)))
   going_within None op is v c2 w answers end does hears gives = absurd (cc)
   going_within (Some other) op is v _ _ _ _ (turning.DoesTurn.unsettled w answers p settles) hears gives = record { to = c.done; answer = Err (Paused p); end_is = refl; cpu = inr (p, refl, refl, refl); within = omega arith }
@@ -168,6 +168,6 @@ module _ (c : Processing) (before : ℕ) (says : ℕ → Bool) (j : ℕ) (some :
       }
 
 pub turn_within : (c c2 : Processing) (op : Op) (end : TurnEnd) (v w : PortValue) (before : ℕ) (answers : List Bool) (says : ℕ → Bool) → slice_get c.script (length c.log) ≡ Some op → (turn : IsTurn c c2 end v w answers) →
-    HearsNoWithin (elements_tried turn) → Gives says before answers → (j : ℕ) → 0 < j → before + j < last_ask → says (before + j) ≡ true → GoesNoFurther c c2 end (c.done + (j - asks_within (elements_tried turn)))
+    HearsNoWithin (elements_tried turn) → GivesAnswers says before answers → (j : ℕ) → 0 < j → before + j < last_ask → says (before + j) ≡ true → GoesNoFurther c c2 end (c.done + (j - asks_within (elements_tried turn)))
 turn_within c c2 op end v w before answers says next turn hears gives j some less is_yes =
     going_within c before says j some less is_yes (slice_get c.script (length c.log)) op next turn.begun c2 turn.worked answers end turn.does hears gives

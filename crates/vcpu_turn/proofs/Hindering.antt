@@ -37,7 +37,7 @@ use Rattle.vcpu_turn.specs.Cpus.{Task, OfPairs, OfExt, OfRead, OfWrite, Processi
 use Rattle.vcpu_turn.specs.Lists as lists
 use Rattle.vcpu_turn.specs.Lists.{DidItems, Fitting, WorksOn, more, all_done, last_done, due, stopped}
 use Rattle.vcpu_turn.specs.Working as working
-use Rattle.vcpu_turn.specs.Working.{SettlesFirst, ExtFits, FindsOwners, FitsExt, FitsPair, PairFits, Performs, Reads, Settles, Works, WorksOwned, WorksThrough, Writes, awaited_for, unsettled, performed, valued}
+use Rattle.vcpu_turn.specs.Working.{SettlesFirst, ExtFits, FindsOwners, FitsExt, FitsPair, PairFits, Performs, MakesRead, Settles, Works, WorksOwned, WorksThrough, MakesWrite, awaited_for, unsettled, performed, valued}
 use Rattle.vcpu_turn.specs.Turning.{DoesNext, EndsTurn, DoesTurn, IsStop, IsTurn}
 use Rattle.vcpu_turn.specs.Turning as turning
 use Rattle.vcpu_turn.proofs.Turns.{begins_came}
@@ -61,14 +61,14 @@ settles_came v w answers answer s = serves_came v w (of_settle 0 0 answer) (miss
 performs_came : (d : ℕ) (e : Element) (awaited : Option ℕ) (v w : PortValue) (answers : List Bool) (answer : Result (Unit {0}) Stop) → Performs d e awaited v w answers answer → Came v w
 performs_came d e awaited v w answers answer p = serves_came v w (elements.ext_request v.post.machine v.post.vcpu d e awaited answer) p.serves.0 p.serves.2
 
-reads_came : (user : Bool) (va : ℕ) (v : PortValue) (to : ℕ) (w : PortValue) (answers : List Bool) (answer : Result ℕ Stop) → Reads user va v to w answers answer → Came v w
+reads_came : (user : Bool) (va : ℕ) (v : PortValue) (to : ℕ) (w : PortValue) (answers : List Bool) (answer : Result ℕ Stop) → MakesRead user va v to w answers answer → Came v w
 reads_came user va v to w answers answer r = serves_came v w (of_read va) (misses v.post.machine answer) r.serves
 
 write_came : (user : Bool) (va val : ℕ) (v w : PortValue) (answer : Result (Unit {0}) Stop) → ServesWrite v w user va val answer → Came v w
 write_came user va val v w (Ok done) serves = serves_came v w (of_write v user va) _ serves.2
 write_came user va val v w (Err e) serves = serves_came v w (of_write v user va) (missed v.post.machine e) serves
 
-writes_came : (user : Bool) (va val : ℕ) (v : PortValue) (to : ℕ) (w : PortValue) (answers : List Bool) (answer : Result (Unit {0}) Stop) → Writes user va val v to w answers answer → Came v w
+writes_came : (user : Bool) (va val : ℕ) (v : PortValue) (to : ℕ) (w : PortValue) (answers : List Bool) (answer : Result (Unit {0}) Stop) → MakesWrite user va val v to w answers answer → Came v w
 writes_came user va val v to w answers answer r = write_came user va val v w answer r.serves
 
 updates_came : (o : Owners) (e : updating.Element) (v w : PortValue) (answers : List Bool) (answer : Result (Unit {0}) Stop) → Updates o e v w answers answer → Came v w

@@ -11,7 +11,7 @@ use Rattle.step_maker.proofs.Coming.{came_post}
 use Rattle.answer_fits.specs.Answers.{Serves, misses}
 use Rattle.answer_fits.proofs.Piecing.{serves_came}
 use Rattle.flush_words.proofs.Lasting.{came_keeps}
-use Rattle.foreign_map.specs.Owning.{MayMap}
+use Rattle.foreign_map.specs.Owning.{MayMapFor}
 use Rattle.foreign_map.specs.declared.owners.Owners.{Owners}
 use Rattle.level_release.specs.Asking.{of_settle}
 use Rattle.level_release.specs.Settling.{SettledHand}
@@ -19,7 +19,7 @@ use Rattle.mmu_update.specs.Elements.{LeavesUpdate}
 
 -- in the same turn
 module _ (v w : PortValue) (o : Owners) (came : Came v w) (turn : w.holdings.turn ≡ v.holdings.turn) where
-  pub may_map_on : MayMap v o → MayMap w o
+  pub may_map_on : MayMapFor v o → MayMapFor w o
   may_map_on may =
       let post = came_post v w came in
       record {
@@ -33,9 +33,9 @@ module _ (v w : PortValue) (o : Owners) (came : Came v w) (turn : w.holdings.tur
         ];
       }
 
-pub may_map_settled : (v w : PortValue) (o : Owners) (answer : Result (Unit {0}) Stop) → ((owner pages : ℕ) → Serves v w (of_settle owner pages answer) (misses v.post.machine answer)) → SettledHand v w → MayMap v o → MayMap w o
+pub may_map_settled : (v w : PortValue) (o : Owners) (answer : Result (Unit {0}) Stop) → ((owner pages : ℕ) → Serves v w (of_settle owner pages answer) (misses v.post.machine answer)) → SettledHand v w → MayMapFor v o → MayMapFor w o
 may_map_settled v w o answer serves hand =
     may_map_on v w o (serves_came v w (of_settle 0 0 answer) (misses v.post.machine answer) (serves 0 0)) (ap (λ (y : PortValue). y.holdings.turn) hand)
 
-pub may_map_updated : (v w : PortValue) (o : Owners) → Came v w → LeavesUpdate v w → MayMap v o → MayMap w o
+pub may_map_updated : (v w : PortValue) (o : Owners) → Came v w → LeavesUpdate v w → MayMapFor v o → MayMapFor w o
 may_map_updated v w o came hand = may_map_on v w o came (ap (λ (y : PortValue). y.holdings.turn) hand.2)

@@ -17,7 +17,7 @@ use Rattle.xp_board.specs.declared.step.StepKind.TheVariants as kinds
 use Rattle.xp_board.specs.Acts.{left_by}
 use Rattle.xp_board.specs.Told.{Post, PortValue}
 use Rattle.board_lemmas.proofs.HandLists.{EachOf-map}
-use Rattle.xp_preempt.specs.Gates.{Gives, last_ask}
+use Rattle.xp_preempt.specs.Gates.{GivesAnswers, last_ask}
 use Rattle.step_maker.proofs.Coming.{came_post}
 use Rattle.partial_state.specs.Levels.{level_type}
 use Rattle.partial_state.proofs.LevelFacts.{level_type-table}
@@ -338,7 +338,7 @@ module _ (c d : Processing) (op : Op) (foreign : ℕ) (pairs : List Pair) (end :
   pub silent_counts : CountsAsks c.done end answers 0
   silent_counts = subst (λ (n : ℕ). CountsAsks c.done end answers n) asks_none (turn_asks c d op end v w answers next turn)
 
-  pub silent_within : (before : ℕ) (says : ℕ → Bool) → Gives says before answers → (j : ℕ) → 0 < j → before + j < last_ask → says (before + j) ≡ true → GoesNoFurther c d end (c.done + j)
+  pub silent_within : (before : ℕ) (says : ℕ → Bool) → GivesAnswers says before answers → (j : ℕ) → 0 < j → before + j < last_ask → says (before + j) ≡ true → GoesNoFurther c d end (c.done + j)
   silent_within before says gives j some less is_yes =
       let none = asks_none in
       let same : c.done + (j - asks_within (elements_tried turn)) ≡ c.done + j = omega (arith, none) in

@@ -22,7 +22,7 @@ use Rattle.answer_fits.proofs.Piecing.{each_append}
 use Rattle.flush_words.specs.Flushing as flushing
 use Rattle.flush_words.specs.Flushing.{FlushedBy}
 use Rattle.flush_waits.specs.Listing as waits
-use Rattle.flush_waits.specs.Listing.{LooksAt, Slow, WaitedFor, WaitsOn, WeighsBy}
+use Rattle.flush_waits.specs.Listing.{LooksAt, Slow, WaitedFor, WaitsInOrder, WeighsBy}
 use Rattle.frame_types.specs.Found.{EndsBy, GoesBy, TakesBy, TypeBy, WaitsOf, is_kept_by}
 use Rattle.frame_types.specs.Plain.{is_own, waits_by}
 use Rattle.frame_types.specs.declared.standing.Standing.{Standing}
@@ -175,11 +175,11 @@ module _ (q : Post) (whose : Whose) (stamp : ℕ) where
   looks u _ vs (waits.LooksAt.own_flushed y own most saw) = two _ _ (one _ refl) (flushes u (Ok tt)) vs saw
   looks u _ vs (waits.LooksAt.own_spent y r own most saw) = two _ _ (one _ refl) (flushes u (Err r)) vs saw
 
-  waits_spare : (n : ℕ) (answer : Result (Option Slow) Refusal) → (vs : List Visit) → WaitsOn q whose stamp vs n answer → EachOf Spared vs
-  waits_spare _ _ _ (waits.WaitsOn.none vs is) = nothing vs is
-  waits_spare _ _ _ (waits.WaitsOn.more u first standing before now vs earlier looked is) =
+  waits_spare : (n : ℕ) (answer : Result (Option Slow) Refusal) → (vs : List Visit) → WaitsInOrder q whose stamp vs n answer → EachOf Spared vs
+  waits_spare _ _ _ (waits.WaitsInOrder.none vs is) = nothing vs is
+  waits_spare _ _ _ (waits.WaitsInOrder.more u first standing before now vs earlier looked is) =
       subst (EachOf Spared) (sym is) (each_append Spared before now (waits_spare u (Ok first) before earlier) (looks u (Ok standing) now looked))
-  waits_spare _ _ _ (waits.WaitsOn.spent u first r before now vs earlier looked is) =
+  waits_spare _ _ _ (waits.WaitsInOrder.spent u first r before now vs earlier looked is) =
       subst (EachOf Spared) (sym is) (each_append Spared before now (waits_spare u (Ok first) before earlier) (looks u (Err r) now looked))
 
   waited : Spares (WaitedFor q whose stamp (Ok tt))

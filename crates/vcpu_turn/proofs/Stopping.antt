@@ -7,7 +7,7 @@ use Rattle.xp_words.specs.declared.ops.ExtOp.{ExtOp}
 use Rattle.xp_words.specs.declared.ops.Op.{Op}
 use Rattle.xp_words.specs.declared.ops.Pair.{Pair}
 use Rattle.xp_board.specs.Told.{PortValue}
-use Rattle.xp_preempt.specs.Gates.{Gives, Heard, asks_on, ends_yes, yeses}
+use Rattle.xp_preempt.specs.Gates.{GivesAnswers, Heard, asks_on, ends_yes, yeses}
 use Rattle.xp_preempt.proofs.Hearing.{heard_ask, heard_none, heard_then}
 use Rattle.mmu_update.specs.Elements.{element_of}
 use Rattle.mmu_update.specs.declared.element.Element.{Element}
@@ -98,8 +98,8 @@ module _ (c d : Processing) (end : TurnEnd) (v w : PortValue) (answers : List Bo
   releasing_nothing_hears off = script_hears (slice_get c.script (length c.log)) refl off
 
 -- ---- by the numbers of the asks
-heard_all : (says : ℕ → Bool) (before : ℕ) (answers : List Bool) → Gives says before answers → yeses answers ≡ 0 → Heard says before (asks_on (length answers) before) false
-unfolding Gives asks_on yeses
+heard_all : (says : ℕ → Bool) (before : ℕ) (answers : List Bool) → GivesAnswers says before answers → yeses answers ≡ 0 → Heard says before (asks_on (length answers) before) false
+unfolding GivesAnswers asks_on yeses
 heard_all says before [] gives is = heard_none says before
 heard_all says before (true ∷ rest) gives is = absurd (let more : yeses rest + 1 ≡ 0 = is in omega (arith, more))
 heard_all says before (false ∷ rest) gives is = heard_then says before _ _ false (heard_all says before rest gives.1 is) (heard_ask says _ _ false gives.0 refl)
@@ -109,13 +109,13 @@ same_end true due on back = sym (on refl)
 same_end false false on back = refl
 same_end false true on back = absurd (let is = back refl in cc)
 
-heard_at : (says : ℕ → Bool) (before : ℕ) (answers : List Bool) (due : Bool) → Gives says before answers → NoUntilDue answers due → (due ≡ true → ends_yes answers ≡ true) → Heard says before (asks_on (length answers) before) due
-unfolding Gives asks_on
+heard_at : (says : ℕ → Bool) (before : ℕ) (answers : List Bool) (due : Bool) → GivesAnswers says before answers → NoUntilDue answers due → (due ≡ true → ends_yes answers ≡ true) → Heard says before (asks_on (length answers) before) due
+unfolding GivesAnswers asks_on
 heard_at says before [] due gives noes is = subst (λ (b : Bool). Heard says before before b) (same_end false due (λ off. absurd (cc)) is) (heard_none says before)
 heard_at says before (a ∷ rest) due gives noes is =
     subst (λ (b : Bool). Heard says before (asks_on (length (a ∷ rest)) before) b) (same_end a due noes.last is)
     (heard_then says before _ _ a (heard_all says before rest gives.1 noes.early) (heard_ask says _ _ a gives.0 refl))
 
 pub turn_heard : (c c2 : Processing) (end : TurnEnd) (v w : PortValue) (before : ℕ) (answers : List Bool) (says : ℕ → Bool) → (turn : IsTurn c c2 end v w answers) → HearsNoWithin (elements_tried turn) →
-    Gives says before answers → (is_due end ≡ true → ends_yes answers ≡ true) → Heard says before (asks_on (length answers) before) (is_due end)
+    GivesAnswers says before answers → (is_due end ≡ true → ends_yes answers ≡ true) → Heard says before (asks_on (length answers) before) (is_due end)
 turn_heard c c2 end v w before answers says turn hears gives is = heard_at says before answers (is_due end) gives (turn_hears c c2 end v w answers turn hears) is

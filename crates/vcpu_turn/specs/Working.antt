@@ -11,7 +11,7 @@ use Rattle.xp_board.specs.Told.{PortValue}
 use Rattle.xp_board.specs.declared.step.Item.{Item}
 use Rattle.step_maker.specs.Holds.{Rests}
 use Rattle.answer_fits.specs.Answers.{Serves, Stops, misses}
-use Rattle.foreign_map.specs.Owning.{MayMap, OwnersFound, of_owners}
+use Rattle.foreign_map.specs.Owning.{MayMapFor, FoundOwners, of_owners}
 use Rattle.foreign_map.specs.declared.owners.Owners.{Owners}
 use Rattle.level_release.specs.Asking.{IsReleaseEnd, of_settle}
 use Rattle.level_release.specs.Course.{Settled}
@@ -55,14 +55,14 @@ PairFits o list k v w answers answer = FitsPair o (slice_get list k) v w answers
 
 -- such pairs may go on from that port
 pub record SuitsPairs (o : Owners) (v : PortValue) : Type 0 where
-  pub may : MayMap v o
+  pub may : MayMapFor v o
   pub warm : IsWarm v
 
 -- whose they are is read in each turn, or why not
 pub record FindsOwners (v w : PortValue) (d foreign : ℕ) (answer : Result Owners Refusal) : Type 0 where
   pub serves : Serves v w (of_owners v.post.machine d foreign) []
   pub stops : IfErr answer (λ x. Stops v w (of_owners v.post.machine d foreign) (Refused x))
-  pub found : OwnersFound v w d foreign answer
+  pub found : FoundOwners v w d foreign answer
 
 -- ---- the elements of `mmuext_op`
 -- From v to w an element of domain d was done, or why not: its steps serve it, show the cause of a refusal or pause, and leave nothing
@@ -102,7 +102,7 @@ done_by (Ok a) = 1
 done_by (Err e) = 0
 
 -- From v to w the guest's load by the user's or the kernel's top table was made, or why not; its word is the answer's value. No gate is asked.
-pub record Reads (user : Bool) (va : ℕ) (v : PortValue) (to : ℕ) (w : PortValue) (answers : List Bool) (answer : Result ℕ Stop) : Type 0 where
+pub record MakesRead (user : Bool) (va : ℕ) (v : PortValue) (to : ℕ) (w : PortValue) (answers : List Bool) (answer : Result ℕ Stop) : Type 0 where
   pub done : to ≡ done_by answer
   pub no_ask : answers ≡ []
   pub serves : Serves v w (of_read va) (misses v.post.machine answer)
@@ -113,7 +113,7 @@ pub record Reads (user : Bool) (va : ℕ) (v : PortValue) (to : ℕ) (w : PortVa
   pub rests : Rests w
 
 -- the same of a store
-pub record Writes (user : Bool) (va val : ℕ) (v : PortValue) (to : ℕ) (w : PortValue) (answers : List Bool) (answer : Result (Unit {0}) Stop) : Type 0 where
+pub record MakesWrite (user : Bool) (va val : ℕ) (v : PortValue) (to : ℕ) (w : PortValue) (answers : List Bool) (answer : Result (Unit {0}) Stop) : Type 0 where
   pub done : to ≡ done_by answer
   pub no_ask : answers ≡ []
   pub serves : ServesWrite v w user va val answer
@@ -161,5 +161,5 @@ Works d None awaited v from to w answers answer = IsRefusedWhole refusals.BadCom
 Works d (Some (OfPairs foreign list)) awaited v from to w answers answer = Valued (λ ended. WorksOwned d foreign list v from to w answers ended) answer
 Works d (Some (OfExt list)) awaited v from to w answers answer =
     Valued (λ ended. WorksThrough (ExtFits d list from awaited) (length list) v from to w answers ended) answer
-Works d (Some (OfRead user va)) awaited v from to w answers answer = Reads user va v to w answers answer
-Works d (Some (OfWrite user va val)) awaited v from to w answers answer = Valued (λ ended. Writes user va val v to w answers ended) answer
+Works d (Some (OfRead user va)) awaited v from to w answers answer = MakesRead user va v to w answers answer
+Works d (Some (OfWrite user va val)) awaited v from to w answers answer = Valued (λ ended. MakesWrite user va val v to w answers ended) answer

@@ -5,7 +5,7 @@ ghost use Rattle.xp_words.specs.declared.ops.Op.{Op};
 ghost use Rattle.xp_words.specs.declared.ops.Pair.{Pair};
 ghost use Rattle.xp_words.specs.declared.reply.Stop.{Stop};
 ghost use Rattle.xp_board.specs.Told.{PortValue};
-ghost use Rattle.xp_preempt.specs.Gates.{Gives, ends_yes, last_ask};
+ghost use Rattle.xp_preempt.specs.Gates.{GivesAnswers, ends_yes, last_ask};
 ghost use Rattle.foreign_map.specs.declared.owners.Owners.{Owners};
 ghost use Rattle.vcpu_turn.specs.Asking.{AsksNothingWithin, HearsNo, HearsNoWithin, MovesATable, MovesNoTable, PausesOldBase, PausesRelease, Tried, PausesUnpin, asks_within, elements_tried, tried_in};
 ghost use Rattle.vcpu_turn.specs.Cpus.{OfExt, OfPairs, Processing, task_of};
@@ -24,12 +24,12 @@ pub fn asked_exactly<L: Items>()
 
 /// Nor does it go on past the item behind which its gate says yes, as long as the gate counts its asks.
 pub fn never_past_a_yes<L: Items>()
-    ensures { (items : L) (v w : PortValue) (from to before : ℕ) (answers : List Bool) (answer : Result (Unit {0}) Stop) (says : ℕ → Bool) → AsksNothing (L.fits items) → WorksOn (L.fits items) (L.count items) from v to w answers answer → Gives says before answers → (j : ℕ) → 0 < j → before + j < last_ask → says (before + j) ≡ true → to ≤ from + j }
+    ensures { (items : L) (v w : PortValue) (from to before : ℕ) (answers : List Bool) (answer : Result (Unit {0}) Stop) (says : ℕ → Bool) → AsksNothing (L.fits items) → WorksOn (L.fits items) (L.count items) from v to w answers answer → GivesAnswers says before answers → (j : ℕ) → 0 < j → before + j < last_ask → says (before + j) ≡ true → to ≤ from + j }
 {}
 
 /// It is paused for its gate, which said yes last then, only where that says yes behind the last item of this turn.
 pub fn due_at_a_yes<L: Items>()
-    ensures { (items : L) (v w : PortValue) (from to before : ℕ) (answers : List Bool) (answer : Result (Unit {0}) Stop) (says : ℕ → Bool) → AsksNothing (L.fits items) → WorksOn (L.fits items) (L.count items) from v to w answers answer → Gives says before answers → (is_due_answer answer ≡ true → ends_yes answers ≡ true) → is_due_answer answer ≡ true → before + (to - from) ≤ last_ask → says (before + (to - from)) ≡ true }
+    ensures { (items : L) (v w : PortValue) (from to before : ℕ) (answers : List Bool) (answer : Result (Unit {0}) Stop) (says : ℕ → Bool) → AsksNothing (L.fits items) → WorksOn (L.fits items) (L.count items) from v to w answers answer → GivesAnswers says before answers → (is_due_answer answer ≡ true → ends_yes answers ≡ true) → is_due_answer answer ≡ true → before + (to - from) ≤ last_ask → says (before + (to - from)) ≡ true }
 {}
 
 /// Whatever its items ask, it asked its gate once behind each item of this turn, but not behind the last one of the list, and within each item what that asked.
@@ -59,12 +59,12 @@ pub fn a_yes_within_an_element_pauses()
 
 /// Where no element is done past a yes, no ask of the turn follows one at which the gate says yes, and the turn is paused for that one.
 pub fn a_turn_asks_no_more_behind_a_yes()
-    ensures { (c d : Processing) (end : TurnEnd) (v w : PortValue) (before : ℕ) (answers : List Bool) (says : ℕ → Bool) → (turn : IsTurn c d end v w answers) → HearsNoWithin (elements_tried turn) → Gives says before answers → (j : ℕ) → 0 < j → before + j < last_ask → says (before + j) ≡ true → (length answers < j) ⊎ ((length answers ≡ j) × (is_due end ≡ true)) }
+    ensures { (c d : Processing) (end : TurnEnd) (v w : PortValue) (before : ℕ) (answers : List Bool) (says : ℕ → Bool) → (turn : IsTurn c d end v w answers) → HearsNoWithin (elements_tried turn) → GivesAnswers says before answers → (j : ℕ) → 0 < j → before + j < last_ask → says (before + j) ≡ true → (length answers < j) ⊎ ((length answers ≡ j) × (is_due end ≡ true)) }
 {}
 
 /// So it does not go on past the element behind which, or within which, the own gate says yes: no more elements are done than asks up to that one, those within elements taken off.
 pub fn a_turn_never_passes_a_yes()
-    ensures { (c d : Processing) (op : Op) (end : TurnEnd) (v w : PortValue) (before : ℕ) (answers : List Bool) (says : ℕ → Bool) → slice_get c.script (length c.log) ≡ Some op → (turn : IsTurn c d end v w answers) → HearsNoWithin (elements_tried turn) → Gives says before answers → (j : ℕ) → 0 < j → before + j < last_ask → says (before + j) ≡ true → GoesNoFurther c d end (c.done + (j - asks_within (elements_tried turn))) }
+    ensures { (c d : Processing) (op : Op) (end : TurnEnd) (v w : PortValue) (before : ℕ) (answers : List Bool) (says : ℕ → Bool) → slice_get c.script (length c.log) ≡ Some op → (turn : IsTurn c d end v w answers) → HearsNoWithin (elements_tried turn) → GivesAnswers says before answers → (j : ℕ) → 0 < j → before + j < last_ask → says (before + j) ≡ true → GoesNoFurther c d end (c.done + (j - asks_within (elements_tried turn))) }
 {}
 
 /// A turn with a list of `mmu_update` asks nothing within its elements, or one of them exchanged an entry and took or gave back a table with that. Where none did, a write counts as
@@ -72,7 +72,7 @@ pub fn a_turn_never_passes_a_yes()
 pub fn only_tables_ask_within()
     ensures tables { (c d : Processing) (op : Op) (foreign : ℕ) (pairs : List Pair) (end : TurnEnd) (v w : PortValue) (answers : List Bool) → slice_get c.script (length c.log) ≡ Some op → task_of op ≡ Some (OfPairs foreign pairs) → (turn : IsTurn c d end v w answers) → AsksNothingWithin (elements_tried turn) ⊎ Any (λ (t : Tried). MovesATable pairs t) (elements_tried turn) }
     ensures counts { (c d : Processing) (op : Op) (foreign : ℕ) (pairs : List Pair) (end : TurnEnd) (v w : PortValue) (answers : List Bool) → slice_get c.script (length c.log) ≡ Some op → task_of op ≡ Some (OfPairs foreign pairs) → (turn : IsTurn c d end v w answers) → MovesNoTable pairs (elements_tried turn) → CountsAsks c.done end answers 0 }
-    ensures stops { (c d : Processing) (op : Op) (foreign : ℕ) (pairs : List Pair) (end : TurnEnd) (v w : PortValue) (before : ℕ) (answers : List Bool) (says : ℕ → Bool) → slice_get c.script (length c.log) ≡ Some op → task_of op ≡ Some (OfPairs foreign pairs) → (turn : IsTurn c d end v w answers) → MovesNoTable pairs (elements_tried turn) → Gives says before answers → (j : ℕ) → 0 < j → before + j < last_ask → says (before + j) ≡ true → GoesNoFurther c d end (c.done + j) }
+    ensures stops { (c d : Processing) (op : Op) (foreign : ℕ) (pairs : List Pair) (end : TurnEnd) (v w : PortValue) (before : ℕ) (answers : List Bool) (says : ℕ → Bool) → slice_get c.script (length c.log) ≡ Some op → task_of op ≡ Some (OfPairs foreign pairs) → (turn : IsTurn c d end v w answers) → MovesNoTable pairs (elements_tried turn) → GivesAnswers says before answers → (j : ℕ) → 0 < j → before + j < last_ask → says (before + j) ≡ true → GoesNoFurther c d end (c.done + j) }
 {}
 
 /// A list that sets machine-to-physical words alone exchanges no entry, and moves no table.

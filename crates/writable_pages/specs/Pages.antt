@@ -84,8 +84,8 @@ abbrev pub IsPageWaiting : PortValue → ℕ → ℕ → Bool → ℕ → Type 0
 IsPageWaiting v f owner own stamp = (b : PortValue) × WaitsFrom b v f owner Writable own stamp
 
 -- left: from there on, what is in hand, and what a guest sees behind steps that serve its type
-abbrev pub LeavesWaiting : PortValue → PortValue → ℕ → ℕ → Bool → ℕ → Stop → Type 0
-LeavesWaiting v w f owner own stamp stop = (b : PortValue) → WaitsFrom b v f owner Writable own stamp → LeavesPage b w f owner (Err stop)
+abbrev pub LeavesWaitingPage : PortValue → PortValue → ℕ → ℕ → Bool → ℕ → Stop → Type 0
+LeavesWaitingPage v w f owner own stamp stop = (b : PortValue) → WaitsFrom b v f owner Writable own stamp → LeavesPage b w f owner (Err stop)
 
-abbrev pub ServesLeft : PortValue → PortValue → ℕ → ℕ → Stop → Type 0
-ServesLeft v w f owner stop = (u : PortValue) → Serves u v (of_frame f owner (Some Writable)) [] → ServesPage {A = Unit {0}} u w f owner (Err stop)
+abbrev pub ServesLeftPage : PortValue → PortValue → ℕ → ℕ → Stop → Type 0
+ServesLeftPage v w f owner stop = (u : PortValue) → Serves u v (of_frame f owner (Some Writable)) [] → ServesPage {A = Unit {0}} u w f owner (Err stop)

@@ -11,7 +11,7 @@ ghost use Rattle.table_words.specs.OldWords.{known_old};
 ghost use Rattle.table_words.specs.declared.old_words.OldWord.TheVariants.{First};
 ghost use Rattle.flush_waits.specs.Waiting.{IsWait};
 ghost use Rattle.frame_types.specs.Plain.{TwinMemory};
-ghost use Rattle.writable_pages.specs.Pages.{GotPage, IsPageStop, IsPageWaiting, LeavesGot, LeavesPage, LeavesWaiting, LeftPage, ServesLeft, ServesPage, TookPage, of_page};
+ghost use Rattle.writable_pages.specs.Pages.{GotPage, IsPageStop, IsPageWaiting, LeavesGot, LeavesPage, LeavesWaitingPage, LeftPage, ServesLeftPage, ServesPage, TookPage, of_page};
 
 use frame_types::{Taken, leave_dead, leave_shared, take_type};
 use frame_words::{get_ref, put_ref};
@@ -86,8 +86,8 @@ fn leave_page<P: Port>(port: &mut P, frame: u32, owner: u16, own: bool, stamp: u
     requires room { IsForeign (P.value port.old) owner → known_old First (P.value port.old).holdings ≡ Some 0 }
     requires wait { IsWait stop }
     ensures came { Came (P.value port.old) (P.value port.new) }
-    ensures serves { ServesLeft (P.value port.old) (P.value port.new) frame owner stop }
-    ensures hand { LeavesWaiting (P.value port.old) (P.value port.new) frame owner own stamp stop }
+    ensures serves { ServesLeftPage (P.value port.old) (P.value port.new) frame owner stop }
+    ensures hand { LeavesWaitingPage (P.value port.old) (P.value port.new) frame owner own stamp stop }
     ensures course { LeftPage (P.value port.old) (P.value port.new) frame owner stamp own stop }
 {
     if !own {

@@ -13,7 +13,7 @@ use Rattle.command_words.specs.declared.asked.Asked.{Asked}
 use Rattle.command_words.specs.declared.asked.Manner.{Manner}
 use Rattle.command_words.specs.declared.asked.Manner.TheVariants as manners
 use Rattle.std.specs.Io.KnownBytes.{Keeps}
-use Rattle.xp_machine.specs.Outcome.{WroteText, Outcome, OutcomeBy, IsDue, IsAnswer, manner_in, pace_in, serial_of}
+use Rattle.xp_machine.specs.Outcome.{WroteText, Outcome, OutcomeBy, IsDue, IsAnswer, manner_in, pace_asked, serial_of}
 
 -- a status that says of source and sink that its text was written, and that is none of the others
 pub record HasText (s : Status) : Type 0 where
@@ -60,7 +60,7 @@ are_told every [] = tt
 are_told every (g ∷ gs) = (is_told every g, are_told every gs)
 
 -- there are gates that are told the pace
-could_be_set : (asked : Option Asked) (gates : List Gate) → (set : List Gate) × SetBy (pace_in asked) gates set
+could_be_set : (asked : Option Asked) (gates : List Gate) → (set : List Gate) × SetBy (pace_asked asked) gates set
 could_be_set None gates = (gates, refl)
 could_be_set (Some a) gates = (map (told a.pace) gates, are_told a.pace gates)
 

@@ -51,16 +51,16 @@ Outcome manner gates from from' to to' status.Memory = Keeps to to'
 Outcome manner gates from from' to to' status.BadWords = Keeps from from' × Keeps to to'
 
 -- the same where the gates are first told the pace that the words ask for, and the run is of the manner that they ask for
-abbrev pub pace_in : Option Asked → Option ℕ
-pace_in (Some asked) = Some asked.pace
-pace_in None = None
+abbrev pub pace_asked : Option Asked → Option ℕ
+pace_asked (Some asked) = Some asked.pace
+pace_asked None = None
 
 abbrev pub manner_in : Option Asked → Manner
 manner_in (Some asked) = asked.manner
 manner_in None = manners.Turns
 
 abbrev pub OutcomeBy : Option Asked → List Gate → Option (List ℕ) → Option (List ℕ) → Option (List ℕ) → Option (List ℕ) → Status → Type 0
-OutcomeBy asked gates from from' to to' answer = (set : List Gate) × SetBy (pace_in asked) gates set × Outcome (manner_in asked) set from from' to to' answer
+OutcomeBy asked gates from from' to to' answer = (set : List Gate) × SetBy (pace_asked asked) gates set × Outcome (manner_in asked) set from from' to to' answer
 
 -- what words ask for that are to be run without threads
 abbrev pub serial_by : Asked → Manner → Option Asked

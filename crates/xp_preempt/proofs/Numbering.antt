@@ -1,7 +1,7 @@
 -- The answers of a gate by the numbers of its asks.
 use Rattle.std.proofs.Common.{◌≡◌, ℕ, zero, suc, ◌+◌, ◌<◌, ◌≤◌, ◌==◌, if◌then◌else◌, Bool, true, false, List, [], ◌∷◌, length, refl, sym, ap, ◌∙◌, arith, inl, inr}
 use Rattle.std.proofs.lemmas.Bool.{cases_order}
-use Rattle.xp_preempt.specs.Gates.{Gives, answer_at, asks_on, last_ask, next_ask, yeses}
+use Rattle.xp_preempt.specs.Gates.{GivesAnswers, answer_at, asks_on, last_ask, next_ask, yeses}
 use Rattle.xp_preempt.proofs.Hearing.{no, not_there}
 
 -- below the end of the numbers each ask counts
@@ -14,15 +14,15 @@ asks_sum zero a most = omega arith
 asks_sum (suc k) a most = ap next_ask (asks_sum k a (omega (arith, most))) ∙ one_ask (a + k) (omega (arith, most)) ∙ (omega arith)
 
 -- what the gate says at the last ask
-pub says_last : (says : ℕ → Bool) (before : ℕ) (a : Bool) (rest : List Bool) → Gives says before (a ∷ rest) → before + length rest < last_ask → says (before + length rest + 1) ≡ a
-unfolding Gives
+pub says_last : (says : ℕ → Bool) (before : ℕ) (a : Bool) (rest : List Bool) → GivesAnswers says before (a ∷ rest) → before + length rest < last_ask → says (before + length rest + 1) ≡ a
+unfolding GivesAnswers
 says_last says before a rest gives less =
     let there : asks_on (length rest) before ≡ before + length rest = asks_sum (length rest) before (omega (arith, less)) in
     sym (gives.0 ∙ ap (λ (n : ℕ). answer_at says n) there ∙ ap (λ (t : Bool). if t then false else says (before + length rest + 1)) (not_there (before + length rest) last_ask less))
 
 -- where no answer is yes, it says no at each of the asks
-pub says_no : (says : ℕ → Bool) (before : ℕ) (answers : List Bool) → Gives says before answers → yeses answers ≡ 0 → (j : ℕ) → 0 < j → j ≤ length answers → before + j ≤ last_ask → says (before + j) ≡ false
-unfolding Gives yeses
+pub says_no : (says : ℕ → Bool) (before : ℕ) (answers : List Bool) → GivesAnswers says before answers → yeses answers ≡ 0 → (j : ℕ) → 0 < j → j ≤ length answers → before + j ≤ last_ask → says (before + j) ≡ false
+unfolding GivesAnswers yeses
 says_no says before [] gives none j some most last = absurd (no j 0 most some)
 says_no says before (true ∷ rest) gives none j some most last = absurd (let more : yeses rest + 1 ≡ 0 = none in omega (arith, more))
 says_no says before (false ∷ rest) gives none j some most last = elim (cases_order j (suc (length rest))) [

@@ -3,7 +3,7 @@ use Rattle.std.proofs.lemmas.Result.{err_from_is_err_and}
 use Rattle.xp_words.specs.declared.reply.Refusal.{Refusal}
 use Rattle.xp_board.specs.Told.{Post, PortValue}
 use Rattle.foreign_map.specs.declared.owners.Owners.{Owners}
-use Rattle.foreign_map.specs.Owning.{AdmitsFound, OwnersFound}
+use Rattle.foreign_map.specs.Owning.{AdmitsFound, FoundOwners}
 use Rattle.foreign_map.proofs.Owned.{owners_above, owners_apart, owners_are, owners_may, owners_no_frames, owners_no_tables, owners_serve, owners_stop, owners_twin}
 use Rattle.foreign_map.proofs.owners.owner_for.Goals as goal
 
@@ -16,7 +16,7 @@ returns-in_err-tables-clause-found g c =
     let v = g.P.Port.value c.args.port.now in
     let u = g.P.Port.value c.admit.new.port in
     let answer = err_from_is_err_and c.from_residual.result c.from_residual.ensures.1 in
-    subst (λ (r : Result Owners Refusal). OwnersFound v u c.args.caller c.args.foreign r) (sym (answer.1 ∙ ap Err answer.2))
+    subst (λ (r : Result Owners Refusal). FoundOwners v u c.args.caller c.args.foreign r) (sym (answer.1 ∙ ap Err answer.2))
     (owners_no_tables v c.args.caller c.args.foreign c.if-foreign.false u c.in_err-tables.field-0.0 (subst (λ k. AdmitsFound v u c.args.caller k (Err c.in_err-tables.field-0.0)) c.tables_of.ensures c.in_err-tables.ensures.steps))
 
 pub returns-in_err-frames-clause-found : goal.returns-in_err-frames-clause-found
@@ -25,7 +25,7 @@ returns-in_err-frames-clause-found g c =
     let u = g.P.Port.value c.admit.new.port in
     let y = g.P.Port.value c.admit-2.new.port in
     let answer = err_from_is_err_and c.from_residual-in_err-frames.result c.from_residual-in_err-frames.ensures.1 in
-    subst (λ (r : Result Owners Refusal). OwnersFound v y c.args.caller c.args.foreign r) (sym (answer.1 ∙ ap Err answer.2))
+    subst (λ (r : Result Owners Refusal). FoundOwners v y c.args.caller c.args.foreign r) (sym (answer.1 ∙ ap Err answer.2))
     (owners_no_frames v c.args.caller c.args.foreign c.if-foreign.false u c.in_ok-tables.tables (subst (λ k. AdmitsFound v u c.args.caller k (Ok c.in_ok-tables.tables)) c.tables_of.ensures c.in_ok-tables.ensures.steps) y
     c.in_err-frames.field-0.0 (subst (λ k. AdmitsFound u y c.args.caller k (Err c.in_err-frames.field-0.0)) c.frames_of.ensures c.in_err-frames.ensures.steps))
 
@@ -36,7 +36,7 @@ returns-in_err-allow-clause-found g c =
     let y = g.P.Port.value c.admit-2.new.port in
     let w = g.P.Port.value c.allow.new.port in
     let answer = err_from_is_err_and c.from_residual-in_err-allow.result c.from_residual-in_err-allow.ensures.1 in
-    subst (λ (r : Result Owners Refusal). OwnersFound v w c.args.caller c.args.foreign r) (sym (answer.1 ∙ ap Err answer.2))
+    subst (λ (r : Result Owners Refusal). FoundOwners v w c.args.caller c.args.foreign r) (sym (answer.1 ∙ ap Err answer.2))
     (owners_apart v c.args.caller c.args.foreign c.if-foreign.false u c.in_ok-tables.tables (subst (λ k. AdmitsFound v u c.args.caller k (Ok c.in_ok-tables.tables)) c.tables_of.ensures c.in_ok-tables.ensures.steps) y
     c.in_ok-frames.frames (subst (λ k. AdmitsFound u y c.args.caller k (Ok c.in_ok-frames.frames)) c.frames_of.ensures c.in_ok-frames.ensures.steps) w c.in_err-allow.field-0.0 c.in_err-allow.ensures.steps)
 
