@@ -2,7 +2,7 @@
 use Rattle.std.proofs.Common.{◌≡◌, ◌∙◌, ℕ, ◌≤◌, Bool, true, false, List, [], ◌∷◌, ◌++◌, Some, None, Option, is_some, cond, take, drop, codes, bytes_eq, refl, sym, ap, subst, arith, lit<, lit≤, leb-true, take-append-drop}
 use Rattle.std.specs.Str.Parse.{IsNumeral, digits_value}
 use Rattle.std.proofs.lemmas.Slice.Eq.{bytes_eq-Decides}
-use Rattle.command_words.specs.Words.{asked_of, both_of, manner_named, name_of, pace_in, pace_after}
+use Rattle.command_words.specs.Words.{words_ask, both_of, manner_named, name_of, pace_in, pace_after}
 use Rattle.command_words.specs.declared.asked.Manner.{Manner}
 use Rattle.command_words.specs.declared.asked.Manner.TheVariants.{Turns, Replay}
 use Rattle.command_words.proofs.Lists.{Reads, alone, apart, joined}
@@ -14,7 +14,7 @@ pub record Known (words : List (List ℕ)) : Type 0 where
   pub reads : Reads words manner text
   pub digits : IsNumeral 10 text
   pub small : digits_value 10 text ≤ 1000000
-  pub is : asked_of words ≡ Some (record { manner = manner; pace = digits_value 10 text })
+  pub is : words_ask words ≡ Some (record { manner = manner; pace = digits_value 10 text })
 
 same : (w : List ℕ) (v : List ℕ) → bytes_eq w v ≡ true → w ≡ v
 same w v e = (bytes_eq-Decides w v).0 e
@@ -44,7 +44,7 @@ names_itself Turns = refl
 names_itself Replay = refl
 
 -- a pace behind the command, written in these words
-asks : (m : Manner) (rest : List (List ℕ)) (n : ℕ) → pace_after rest ≡ Some n → asked_of (name_of m ∷ rest) ≡ Some (record { manner = m; pace = n })
+asks : (m : Manner) (rest : List (List ℕ)) (n : ℕ) → pace_after rest ≡ Some n → words_ask (name_of m ∷ rest) ≡ Some (record { manner = m; pace = n })
 asks m rest n e = rw (names_itself m, e) refl
 
 known_apart : (m : Manner) (p : List ℕ) → is_some (pace_in p) ≡ true → Known (name_of m ∷ codes "--preempt" ∷ p ∷ [])
@@ -86,7 +86,7 @@ known_behind m (o ∷ p ∷ []) e =
     subst (λ x. Known (name_of m ∷ x ∷ p ∷ [])) (sym (same o (codes "--preempt") parts.0)) (known_apart m p parts.1)
 known_behind m (o ∷ p ∷ x ∷ xs) e = cc
 
-pub known : (words : List (List ℕ)) → is_some (asked_of words) ≡ true → Known words
+pub known : (words : List (List ℕ)) → is_some (words_ask words) ≡ true → Known words
 known [] e = cc
 known (w ∷ rest) e =
     let parts = some_both (manner_named w) (pace_after rest) e in

@@ -43,9 +43,9 @@ both_of (Some manner) None = None
 both_of None pace = None
 
 -- What the words ask for: the first names the command, and those behind it give its pace.
-abbrev pub asked_of : List (List ℕ) → Option Asked
-asked_of [] = None
-asked_of (word ∷ rest) = both_of (manner_named word) (pace_after rest)
+abbrev pub words_ask : List (List ℕ) → Option Asked
+words_ask [] = None
+words_ask (word ∷ rest) = both_of (manner_named word) (pace_after rest)
 
 -- digits alone
 abbrev pub has_digits : List ℕ → Bool

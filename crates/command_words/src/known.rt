@@ -1,7 +1,7 @@
 ghost use Rattle.std.specs.Prelude.{◌≡◌, is_some, map, codes, string_bytes};
 ghost use Rattle.std.specs.Str.{bytes_eq};
 ghost use Rattle.trace_lines.specs.Numbers.{is_proper as is_proper_lem};
-ghost use Rattle.command_words.specs.Words.{asked_of, has_digits as has_digits_lem, pace_behind, pace_in, pace_after};
+ghost use Rattle.command_words.specs.Words.{words_ask, has_digits as has_digits_lem, pace_behind, pace_in, pace_after};
 
 use crate::asked::Manner;
 
@@ -61,7 +61,7 @@ fn has_pace(words: &[String]) -> bool
 
 /// Whether the words ask for a run. It needs no memory.
 pub fn is_known(words: &[String]) -> bool
-    ensures { result ≡ is_some (asked_of (map string_bytes words.now)) }
+    ensures { result ≡ is_some (words_ask (map string_bytes words.now)) }
 {
     match words {
         [] => false,

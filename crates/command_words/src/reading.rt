@@ -1,6 +1,6 @@
 ghost use Rattle.std.specs.Prelude.{◌≡◌, ◌<◌, ◌^◌, ℕ, List, IfOk, IfErr, Some, is_some, true, false, map, string_bytes};
 ghost use Rattle.std.specs.Str.Parse.{IsNumeral, digits_value};
-ghost use Rattle.command_words.specs.Words.{asked_of};
+ghost use Rattle.command_words.specs.Words.{words_ask};
 ghost use Rattle.command_words.specs.Table.{found_with, pace_found, paced as paced_app, table};
 ghost use Rattle.clap.specs.Words.{app_of, subcommand_rows_of};
 ghost use Rattle.clap.specs.declared.builder.command.Command.TheViews.{out-Command};
@@ -52,8 +52,8 @@ fn asked_in(matches: &ArgMatches<'_>) -> Option<Asked>
 /// run; lists that `clap` takes and that are not known, as `turns --` or `replay --preempt 01`, are among those.
 /// Memory is wanted for words that are known alone.
 pub fn asked_of(alloc: Global, words: &[String]) -> Result<Option<Asked>, AllocError>
-    ensures reads { IfOk result (λ a. a ≡ asked_of (map string_bytes words.now)) }
-    ensures memory { IfErr result (λ _. is_some (asked_of (map string_bytes words.now)) ≡ true) }
+    ensures reads { IfOk result (λ a. a ≡ words_ask (map string_bytes words.now)) }
+    ensures memory { IfErr result (λ _. is_some (words_ask (map string_bytes words.now)) ≡ true) }
 {
     if !is_known(words) {
         return Ok(None);

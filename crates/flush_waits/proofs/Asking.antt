@@ -20,6 +20,7 @@ use Rattle.step_maker.proofs.Noting.{moves_since}
 use Rattle.answer_fits.specs.Finding.{FoundAt}
 use Rattle.answer_fits.specs.Reasons.{IsMeant, LastAtMost, MayReach, OfOwner}
 use Rattle.flush_words.proofs.Lasting.{came_longer, last_at_most, last_kept}
+use Rattle.board_lemmas.proofs.Sums.{when_eq}
 use Rattle.flush_waits.specs.declared.Awaiting.{Awaiting}
 use Rattle.flush_waits.specs.declared.Concern.{Concern}
 use Rattle.flush_waits.specs.declared.Concern.TheVariants as concerns
@@ -35,9 +36,6 @@ use Rattle.flush_waits.proofs.Marked.{same_frame, work_past}
 use Rattle.answer_fits.proofs.Changing.{moves_did, moves_found}
 use Rattle.flush_waits.proofs.Pieces.{asked_more, clears_ask, clears_look, clears_nothing, clears_then, found_more, reach_more}
 
-equal_test : (x y : ℕ) → x ≡ y → (x == y) ≡ true
-equal_test x y is = grind (arith, nat_tests)
-
 -- ---- whether it is concerned
 pub weighs_looked : (v w : PortValue) (c : Concern) (f owner k d x : ℕ) → c ≡ concerns.Frame f owner → d ≡ domain_of v.post.machine k → d ≢ owner → Moves v w (Priv d) Load kinds.Look None x → Same v w → (b : Bool) →
     b ≡ has_ever owner x → Weighs v w c k b
@@ -45,7 +43,7 @@ weighs_looked v w c f owner k d x is_frame is other m same b answer =
     looked f owner x is_frame (subst (λ e. e ≢ owner) is other) (subst (λ e. Moves v w (Priv e) Load kinds.Look None x) is m) same answer
 
 pub weighs_owned : (v : PortValue) (c : Concern) (f owner k d : ℕ) → c ≡ concerns.Frame f owner → d ≡ domain_of v.post.machine k → d ≡ owner → Weighs v v c k (d == owner)
-weighs_owned v c f owner k d is_frame is mine = owns f (subst (λ o. c ≡ concerns.Frame f o) (sym mine ∙ is) is_frame) refl (equal_test d owner mine)
+weighs_owned v c f owner k d is_frame is mine = owns f (subst (λ o. c ≡ concerns.Frame f o) (sym mine ∙ is) is_frame) refl (when_eq d owner mine)
 
 pub clears_weighs : (v w : PortValue) (a : Awaiting) (k : ℕ) (b : Bool) → Weighs v w a.concern k b → Clears v w a
 clears_weighs v w a k b (owns f is_frame is answer) = subst (λ (y : PortValue). Clears v y a) (sym is) (clears_nothing v a)
@@ -194,7 +192,7 @@ module _ (v u t : PortValue) (a : Awaiting) (k x y : ℕ) (run : Moves v u (run_
         (record {
           since = length v.holdings.steps;
           awaits = awaits_for a.concern refl;
-          running = came_grows u r flushed_then_weighed _ (moves_since v u (run_of k) Load kinds.Look None x run (length v.holdings.steps) (λ w. w == 0) (omega arith) (equal_test x 0 idle));
+          running = came_grows u r flushed_then_weighed _ (moves_since v u (run_of k) Load kinds.Look None x run (length v.holdings.steps) (λ w. w == 0) (omega arith) (when_eq x 0 idle));
           flushed =
               subst (λ (q : Post). IsTrue (some_since (sizes_of q.machine) (length v.holdings.steps) (flushed_of k) (λ w. nat_le w a.stamp) r.holdings.steps)) (came_post v u running_look.came)
               (came_grows t r weighed.came _

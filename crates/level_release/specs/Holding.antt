@@ -22,6 +22,7 @@ use Rattle.partial_state.specs.Levels.{level_type}
 use Rattle.partial_state.specs.Stacks.{IsStack}
 use Rattle.partial_state.specs.declared.stack.TableWork.{TableWork}
 use Rattle.table_releases.specs.Tops.{IsSettledTop, IsSince}
+pub use Rattle.table_courses.specs.Acquiring.{outermost_frame}
 
 -- ---- works
 pub record IsReleasedWork (z : Sizes) (made : ℕ) (t : TableWork) (e : Work) : Type 0 where
@@ -104,11 +105,6 @@ StaysEmptying u w ts us = (h : Holdings) → Empties h u ts → Empties h w us
 -- where no entry of the innermost one was noted as unsettled, nothing stops it, and of the innermost one then none is
 abbrev pub StaysSettled : {A : Type 0} → PortValue → PortValue → Result A Stop → Type 0
 StaysSettled u w answer = IsSettledTop u.holdings → IfErr answer (λ e. ⊥) × IsSettledTop w.holdings
-
-abbrev pub outermost_frame : List TableWork → ℕ
-outermost_frame [] = 0
-outermost_frame (t ∷ []) = t.frame
-outermost_frame (t ∷ u ∷ us) = outermost_frame (u ∷ us)
 
 -- nothing of them is in hand, and the first old word names the outermost one
 abbrev pub named_hand : ℕ → Holdings → Holdings

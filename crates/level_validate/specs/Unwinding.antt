@@ -8,6 +8,7 @@ use Rattle.step_maker.specs.Holds.{FlushedHolds}
 use Rattle.kept_marks.specs.Marks.{IsForeign}
 use Rattle.partial_state.specs.declared.stack.TableWork.{TableWork}
 use Rattle.partial_state.specs.Stacks.{retreated}
+pub use Rattle.table_courses.specs.Acquiring.{outermost_frame}
 use Rattle.level_validate.specs.Tables.{Carries}
 
 abbrev pub own_domain : PortValue → ℕ
@@ -21,12 +22,6 @@ abbrev pub outermost_named : Bool → List TableWork → Holdings → Holdings
 outermost_named kept [] h = h
 outermost_named kept (t ∷ []) h = named_unless kept t h
 outermost_named kept (t ∷ u ∷ us) h = outermost_named kept (u ∷ us) h
-
--- its frame
-abbrev pub outermost_frame : List TableWork → ℕ
-outermost_frame [] = 0
-outermost_frame (t ∷ []) = t.frame
-outermost_frame (t ∷ u ∷ us) = outermost_frame (u ∷ us)
 
 -- Nothing of these tables is in hand. Where the mark of another domain's table was to have its type count, the first old word may name it.
 abbrev pub UnwoundHand : PortValue → PortValue → ℕ → Bool → List TableWork → Type 0

@@ -81,6 +81,12 @@ pub record ResumedEntry (v w : PortValue) (owner : ℕ) (t : TableWork) (answer 
 abbrev pub table_opened : TableWork → ℕ → ℕ → Bool → Bool → TableWork
 table_opened t f progress own recorded = record { frame = f; level = t.level - 1; done = progress; own = own; recorded = recorded }
 
+-- the frame of the outermost one
+abbrev pub outermost_frame : List TableWork → ℕ
+outermost_frame [] = 0
+outermost_frame (t ∷ []) = t.frame
+outermost_frame (t ∷ u ∷ us) = outermost_frame (u ∷ us)
+
 abbrev pub one_entry_more : TableWork → TableWork
 one_entry_more t = record t { done = t.done + 1 }
 

@@ -5,8 +5,8 @@ use Rattle.xp_board.specs.Sound.{SoundWords}
 use Rattle.thread_board.specs.Values.{BoardValue}
 use Rattle.thread_board.specs.declared.board.SharedBoard.TheInside.{Inside}
 
-abbrev pub board_of : Inside → BoardValue
-board_of b = record { table = b.table.shared.table_id; machine = b.opening.layout; opening = b.opening.words }
+abbrev pub board_value : Inside → BoardValue
+board_value b = record { table = b.table.shared.table_id; machine = b.opening.layout; opening = b.opening.words }
 
 pub record IsSharedInside (b : Inside) : Type 0 where
   pub key : b.table.shared.key ≡ b.opening

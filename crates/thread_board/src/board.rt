@@ -27,11 +27,11 @@ pub struct SharedBoard {
 
 impl Model for SharedBoard {
     ghost use Rattle.thread_board.specs.Values.{BoardValue};
-    ghost use Rattle.thread_board.specs.Boards.{board_of, IsSharedInside};
+    ghost use Rattle.thread_board.specs.Boards.{board_value, IsSharedInside};
 
     ghost Value = { BoardValue };
 
-    ghost view = { board_of };
+    ghost view = { board_value };
 
     ghost invariant = { IsSharedInside };
 }

@@ -3,7 +3,7 @@ ghost use Rattle.xp_io.specs.Causes.{Rose};
 ghost use Rattle.trace_text.specs.TraceOf.{trace_of};
 ghost use Rattle.vcpu_runners.specs.Gates.{ArePaced, Gate, IsPaced, gate_of};
 ghost use Rattle.xp_machine.specs.Outcome.{IsAnswer, IsDue, Outcome, OutcomeBy, serial_of};
-ghost use Rattle.command_words.specs.Words.{asked_of};
+ghost use Rattle.command_words.specs.Words.{words_ask};
 ghost use Rattle.command_words.specs.declared.asked.Manner.{Manner};
 
 use crate::running::{InThreads, InTurns, Running};
@@ -172,10 +172,10 @@ pub fn run<R: Threads + Wait + Sync, S: Source, K: Sink>(
     requires gates { 16 ≤ vec_len gates }
 
     // Which bytes were taken, what they spell, and what was written of the text that is due for it.
-    ensures outcome { OutcomeBy (asked_of (map string_bytes words.now)) (map (gate_of calm paces count_asks says) gates.items) (S.left source.old) (S.left source.new) (K.taken sink.old) (K.taken sink.new) result }
+    ensures outcome { OutcomeBy (words_ask (map string_bytes words.now)) (map (gate_of calm paces count_asks says) gates.items) (S.left source.old) (S.left source.new) (K.taken sink.old) (K.taken sink.new) result }
 
     // The words are refused exactly where they ask for no run.
-    ensures words { (result ≡ Status.BadWords) ↔ (asked_of (map string_bytes words.now) ≡ None) }
+    ensures words { (result ≡ Status.BadWords) ↔ (words_ask (map string_bytes words.now) ≡ None) }
 
     // A fault is answered only where its object counted one in this call.
     ensures read { result ≡ Status.ReadFault → Rose (S.faults source.old) (S.faults source.new) }
@@ -203,11 +203,11 @@ pub fn run_serial<S: Source, K: Sink>(
     gates: Vec<Box<dyn Preempt + Send>>,
 ) -> Status
     requires gates { 16 ≤ vec_len gates }
-    ensures outcome { OutcomeBy (serial_of (asked_of (map string_bytes words.now))) (map (gate_of calm paces count_asks says) gates.items) (S.left source.old) (S.left source.new) (K.taken sink.old) (K.taken sink.new) result }
-    ensures words { result ≡ Status.BadWords → serial_of (asked_of (map string_bytes words.now)) ≡ None }
-    ensures known { serial_of (asked_of (map string_bytes words.now)) ≡ None → (result ≡ Status.BadWords) ⊎ (result ≡ Status.Memory) }
-    ensures unknown { asked_of (map string_bytes words.now) ≡ None → result ≡ Status.BadWords }
-    ensures unread { serial_of (asked_of (map string_bytes words.now)) ≡ None → S.left source.new ≡ S.left source.old }
+    ensures outcome { OutcomeBy (serial_of (words_ask (map string_bytes words.now))) (map (gate_of calm paces count_asks says) gates.items) (S.left source.old) (S.left source.new) (K.taken sink.old) (K.taken sink.new) result }
+    ensures words { result ≡ Status.BadWords → serial_of (words_ask (map string_bytes words.now)) ≡ None }
+    ensures known { serial_of (words_ask (map string_bytes words.now)) ≡ None → (result ≡ Status.BadWords) ⊎ (result ≡ Status.Memory) }
+    ensures unknown { words_ask (map string_bytes words.now) ≡ None → result ≡ Status.BadWords }
+    ensures unread { serial_of (words_ask (map string_bytes words.now)) ≡ None → S.left source.new ≡ S.left source.old }
     ensures read { result ≡ Status.ReadFault → Rose (S.faults source.old) (S.faults source.new) }
     ensures write { result ≡ Status.WriteFault → Rose (K.faults sink.old) (K.faults sink.new) }
 {
