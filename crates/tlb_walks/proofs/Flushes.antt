@@ -1,5 +1,6 @@
 -- Flushes and dropped translations: what their steps show, and what they leave.
-use Rattle.std.proofs.Common.{◌≡◌, ℕ, ◌<◌, ◌≤◌, ◌==◌, not, if◌then◌else◌, Bool, true, false, [], Some, None, Result, Ok, Err, IfErr, MatchResult, refl, sym, ap, ◌∙◌, subst}
+use Rattle.std.proofs.Common.{◌≡◌, ℕ, ◌<◌, ◌≤◌, ◌==◌, not, if◌then◌else◌, Bool, true, false, [], ◌∷◌, Some, None, Result, Ok, Err, IfErr, MatchResult, refl, sym, ap, ◌∙◌, subst, arith, nat_lt}
+use Rattle.std.proofs.lemmas.Bool.Decides.{nat_tests}
 use Rattle.xp_words.specs.Places.{asked_of, flushed_of, sizes_of}
 use Rattle.xp_words.specs.declared.place.Place.TheVariants.{Clock}
 use Rattle.xp_words.specs.declared.reply.Refusal.{Refusal}
@@ -8,7 +9,7 @@ use Rattle.xp_words.specs.declared.reply.Stop.TheVariants.{Refused}
 use Rattle.xp_board.specs.AckSteps.{after_ack}
 use Rattle.xp_board.specs.declared.holdings.Holdings.{Holdings}
 use Rattle.xp_board.specs.declared.step.Act.TheVariants.{Load}
-use Rattle.xp_board.specs.declared.step.Mark.TheVariants.{Forget}
+use Rattle.xp_board.specs.declared.step.Mark.TheVariants.{Forget, Turn}
 use Rattle.xp_board.specs.declared.step.StepKind.TheVariants as kinds
 use Rattle.xp_board.specs.Lists.{kept_of}
 use Rattle.xp_board.specs.Readings.{last_clock}
@@ -16,7 +17,7 @@ use Rattle.xp_board.specs.Told.{Post, PortValue}
 use Rattle.step_maker.specs.Holds.{FlushedSame, Holds, Same, quiet, still}
 use Rattle.step_maker.specs.Moves.{Came, Met, May, Moves}
 use Rattle.step_maker.proofs.Coming.{came_post, came_self, came_trans, moves_came}
-use Rattle.answer_fits.specs.Answers.{Forgets, Serves, Stops, only_if}
+use Rattle.answer_fits.specs.Answers.{BeginsTurn, Forgets, Serves, Stops, only_if}
 use Rattle.answer_fits.specs.Asked.{Request}
 use Rattle.answer_fits.specs.Reasons.{MayFlush, needed, own}
 use Rattle.answer_fits.specs.Visits.{Does, Then, Where}
@@ -27,7 +28,13 @@ use Rattle.flush_words.proofs.Flushed.{own_came, own_does, own_flushed}
 use Rattle.flush_words.proofs.RowSteps.{clock_there}
 use Rattle.flush_words.proofs.FlushServes.{asked_flush, own_serves, own_stops}
 use Rattle.tlb_walks.specs.Addresses.{is_canonical, page_of}
-use Rattle.tlb_walks.specs.Dropping.{Acks, Uncached, ForgetsBy, Invalidates, AskLooksBy, flushes, left_cached, of_flush, past, waits}
+use Rattle.tlb_walks.specs.Dropping.{Acks, Heeds, Uncached, ForgetsBy, Invalidates, left_cached, of_flush}
+
+later : (x y : ℕ) → x < y → nat_lt x y ≡ true
+later x y less = grind (arith, nat_tests)
+
+no_later : (x y : ℕ) → y ≤ x → nat_lt x y ≡ false
+no_later x y low = grind (arith, nat_tests)
 
 -- ---- the own flush
 pub emptied : (v w : PortValue) → FlushesOwn v w (Ok tt) → FlushedSame v w → Uncached v w
@@ -49,45 +56,40 @@ emptied v w f same =
     warm_by false h = refl
 
 -- ---- an ask
-module _ (v a b : PortValue) (s x y : ℕ) (own_is : s ≡ v.post.vcpu) (first : Moves v a (asked_of s) Load kinds.Look None x) (second : Moves a b (flushed_of s) Load kinds.Look None y) where
-  pub past_serves : (r : Request) → Serves v b r []
-  past_serves r = serves_step v a b r [] _ _ _ _ _ (moves_serves v a r _ _ _ _ _ first tt) second tt
+module _ (v a b : PortValue) (s x y : ℕ) (own_is : s ≡ v.post.vcpu) (first : Moves v a (asked_of v.post.vcpu) Load kinds.Look (Some Turn) x) (second : Moves a b (flushed_of s) Load kinds.Look None y) where
+  looked_own : Moves a b (flushed_of v.post.vcpu) Load kinds.Look None y
+  looked_own = subst (λ k. Moves a b (flushed_of k) Load kinds.Look None y) own_is second
+
+  pub past_serves : (r : Request) → Serves v b r (BeginsTurn ∷ [])
+  past_serves r = serves_step v a b r (BeginsTurn ∷ []) _ _ _ _ _ (moves_serves v a r _ _ _ _ _ first tt) second tt
 
   pub looks_came : Came v b
   looks_came = came_trans v a b (moves_came v a _ _ _ _ _ first) (moves_came a b _ _ _ _ _ second)
 
-  pub looks_do : Does v b (AskLooksBy v.post.vcpu x y)
-  looks_do = subst (λ k. Does v b (AskLooksBy k x y)) own_is (does_then v a b _ _ (does_one v a _ _ _ _ _ first) (does_one a b _ _ _ _ _ second))
+  acks_as : (w : PortValue) (past : Bool) → past ≡ nat_lt x y → Heeds past b w → Acks v w
+  acks_as w past is heeds = record { a = a; b = b; asked = x; flushed = y; marked = first; looked = looked_own; heeds = subst (λ p. Heeds p b w) is heeds }
 
-  pub past_acks : x < y → Same v a → Same a b → Acks v b
-  past_acks less one two = past x y less looks_do (two ∙ one)
-
-  may_flush : (r : Request) → y ≤ x → MayFlush v.post.machine v.post.vcpu r (Met v b) b.holdings
-  may_flush r low =
-      asked_flush v v a b r None x y (came_self v) (subst (λ k. Moves v a (asked_of k) Load kinds.Look None x) own_is first) (subst (λ k. Moves a b (flushed_of k) Load kinds.Look None y) own_is second) low
+  pub past_acks : x < y → Acks v b
+  past_acks less = acks_as b true (sym (later x y less)) refl
 
   module _ (w : PortValue) (low : y ≤ x) (answer : Result (Unit {0}) Refusal) (f : FlushesOwn b w answer) where
     pub ack_came : Came v w
     ack_came = came_trans v b w looks_came (own_came b w answer f)
 
-    pub ack_serves : (r : Request) → Serves v w r []
-    ack_serves r = own_serves v b w r [] (past_serves r) (may_flush r low) answer f
+    pub ack_serves : (r : Request) → Serves v w r (BeginsTurn ∷ [])
+    ack_serves r = own_serves v b w r (BeginsTurn ∷ []) (past_serves r) (asked_flush v v a b r (Some Turn) x y (came_self v) first looked_own low) answer f
 
-    pub ack_does : Does v w (Then (AskLooksBy v.post.vcpu x y) (FlushedBy v.post.vcpu answer))
-    ack_does =
-        does_then v b w _ _ looks_do
-        (subst (λ (p : Post). Does b w (FlushedBy p.vcpu answer)) (came_post v b looks_came) (does_as b w _ _ (λ vs z. z) (own_does b w answer f)))
+    pub ack_acks : Acks v w
+    ack_acks = acks_as w false (sym (no_later x y low)) (answer, f)
 
-  pub ack_flushed : (w : PortValue) → y ≤ x → FlushesOwn b w (Ok tt) → Same v a → Same a b → FlushedSame b w → Acks v w
-  ack_flushed w low f one two three =
-      let e = emptied b w f three in
-      flushes x y low (ack_does w low (Ok tt) f) (record { hand = three ∙ ap quiet_of two ∙ ap quiet_of one; cache = e.cache; warm = e.warm })
-    where
-      quiet_of : PortValue → PortValue
-      quiet_of q = quiet q
+heeds_came : (past : Bool) (v w : PortValue) → Heeds past v w → Came v w
+heeds_came true v w same = subst (Came v) (sym same) (came_self v)
+heeds_came false v w flush = own_came v w flush.0 flush.1
 
-  pub ack_waits : (w : PortValue) (e : Refusal) → y ≤ x → FlushesOwn b w (Err e) → Same v a → Same a b → Same b w → Acks v w
-  ack_waits w e low (spent m) one two three = waits x y low (ack_does w low (Err (refusals.Clock last_clock)) (spent m)) (three ∙ two ∙ one)
+pub acks_came : (v w : PortValue) → Acks v w → Came v w
+acks_came v w k =
+    came_trans v k.a w (moves_came v k.a _ _ _ _ _ k.marked)
+    (came_trans k.a k.b w (moves_came k.a k.b _ _ _ _ _ k.looked) (heeds_came (nat_lt k.asked k.flushed) k.b w k.heeds))
 
 -- ---- a flush that is asked for itself
 pub local_serves : (v w : PortValue) (answer : Result (Unit {0}) Refusal) → FlushesOwn v w answer → Serves v w of_flush []

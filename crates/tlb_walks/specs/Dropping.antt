@@ -1,18 +1,19 @@
 -- Translations that are dropped: all of them by a flush, or those of one page.
-use Rattle.std.specs.Prelude.{◌≡◌, ℕ, ◌<◌, ◌≤◌, ◌==◌, not, if◌then◌else◌, true, false, List, [], Some, None, Ok, Err}
+use Rattle.std.specs.Prelude.{◌≡◌, ℕ, ◌==◌, nat_lt, not, if◌then◌else◌, Bool, true, false, List, [], Some, None, Result}
 use Rattle.xp_words.specs.Places.{asked_of, flushed_of}
 use Rattle.xp_words.specs.declared.place.Place.TheVariants.{Clock}
-use Rattle.xp_words.specs.declared.reply.Refusal.TheVariants as refusals
+use Rattle.xp_words.specs.declared.reply.Refusal.{Refusal}
 use Rattle.xp_board.specs.declared.step.Act.TheVariants.{Load}
 use Rattle.xp_board.specs.declared.step.Item.{Item}
-use Rattle.xp_board.specs.declared.step.Mark.TheVariants.{Forget}
+use Rattle.xp_board.specs.declared.step.Mark.TheVariants.{Forget, Turn}
+use Rattle.xp_board.specs.declared.step.StepKind.TheVariants as kinds
 use Rattle.xp_board.specs.Lists.{kept_of}
-use Rattle.xp_board.specs.Readings.{last_clock}
 use Rattle.xp_board.specs.Told.{PortValue}
-use Rattle.step_maker.specs.Holds.{FlushedSame, Same}
+use Rattle.step_maker.specs.Holds.{FlushedSame}
+use Rattle.step_maker.specs.Moves.{Moves}
 use Rattle.answer_fits.specs.Asked.{Request, of_frame}
-use Rattle.answer_fits.specs.Visits.{Visit, Does, Only, Then, Where, visit}
-use Rattle.flush_words.specs.Flushing.{FlushedBy}
+use Rattle.answer_fits.specs.Visits.{Visit, Only, Where}
+use Rattle.flush_words.specs.Flushing.{FlushesOwn}
 use Rattle.tlb_walks.specs.Addresses.{is_canonical, page_of}
 
 -- a call that ends with a flush of its own
@@ -26,15 +27,22 @@ pub record Uncached (v w : PortValue) : Type 0 where
   pub warm : w.holdings.cold ≡ false
 
 -- ---- an ask is answered
--- the own words of flushes are looked at: which clock value was asked, and to which the vCPU is flushed
-abbrev pub AskLooksBy : ℕ → ℕ → ℕ → List Visit → Type 0
-AskLooksBy s asked flushed vs = Then (Only (visit (asked_of s) Load asked)) (Only (visit (flushed_of s) Load flushed)) vs
+-- the own translations are flushed where the vCPU was asked to, past the clock value to which they are flushed; where the
+-- clock is at its end the ask stays unanswered
+abbrev pub Heeds : Bool → PortValue → PortValue → Type 0
+Heeds true v w = w ≡ v
+Heeds false v w = (answer : Result (Unit {0}) Refusal) × FlushesOwn v w answer
 
--- It is flushed past the ask, and stays as it is; or it is not, and flushes; or it does not, as the clock is at its last value.
-pub data Acks (v w : PortValue) : Type 0 where
-  past : (asked flushed : ℕ) → asked < flushed → Does v w (AskLooksBy v.post.vcpu asked flushed) → Same v w → Acks v w
-  flushes : (asked flushed : ℕ) → flushed ≤ asked → Does v w (Then (AskLooksBy v.post.vcpu asked flushed) (FlushedBy v.post.vcpu (Ok tt))) → Uncached v w → Acks v w
-  waits : (asked flushed : ℕ) → flushed ≤ asked → Does v w (Then (AskLooksBy v.post.vcpu asked flushed) (FlushedBy v.post.vcpu (Err (refusals.Clock last_clock)))) → Same v w → Acks v w
+-- By exactly these steps: the word that says what the vCPU is asked is loaded, with the mark of a turn, and the one to which it is
+-- flushed; and the ask is heeded.
+pub record Acks (v w : PortValue) : Type 0 where
+  pub a : PortValue
+  pub b : PortValue
+  pub asked : ℕ
+  pub flushed : ℕ
+  pub marked : Moves v a (asked_of v.post.vcpu) Load kinds.Look (Some Turn) asked
+  pub looked : Moves a b (flushed_of v.post.vcpu) Load kinds.Look None flushed
+  pub heeds : Heeds (nat_lt asked flushed) b w
 
 -- ---- one page
 -- the translations without those of the page of a canonical address

@@ -1,12 +1,11 @@
 //! Translations that are dropped.
-ghost use Rattle.std.specs.Prelude.{◌≡◌, ◌<◌, [], None, Some, IfErr, MatchResult, length};
-ghost use Rattle.xp_words.specs.Places.{asked_of};
+ghost use Rattle.std.specs.Prelude.{◌≡◌, [], ◌∷◌, None, Some, IfErr, MatchResult};
 ghost use Rattle.xp_words.specs.declared.reply.Stop.TheVariants.{Refused};
-ghost use Rattle.xp_board.specs.declared.step.Act.TheVariants.{Load};
-ghost use Rattle.xp_board.specs.declared.step.StepKind.TheVariants as kinds;
-ghost use Rattle.step_maker.specs.Holds.{Holds, Same};
-ghost use Rattle.step_maker.specs.Moves.{Came, Moves};
-ghost use Rattle.answer_fits.specs.Answers.{Forgets, Serves, Stops, only_if};
+ghost use Rattle.xp_board.specs.declared.step.Mark.TheVariants.{Turn};
+ghost use Rattle.xp_board.specs.Marks.{after_mark};
+ghost use Rattle.step_maker.specs.Holds.{FlushedHolds, Holds, Same};
+ghost use Rattle.step_maker.specs.Moves.{Came};
+ghost use Rattle.answer_fits.specs.Answers.{BeginsTurn, Forgets, Serves, Stops, only_if};
 ghost use Rattle.answer_fits.specs.Asked.{Request};
 ghost use Rattle.answer_fits.specs.Visits.{Does};
 ghost use Rattle.flush_words.specs.Flushing.{FlushedBy};
@@ -14,34 +13,24 @@ ghost use Rattle.tlb_walks.specs.Addresses.{is_canonical, page_of};
 ghost use Rattle.tlb_walks.specs.Dropping.{Acks, Uncached, Invalidates, left_cached, of_flush};
 
 use crate::addresses::{canonical, page_at};
-use flush_words::{flush_own, look_flushed};
-use step_maker::{look, make};
+use flush_words::{begin_turn, flush_own, look_flushed};
+use step_maker::make;
 use xp_board::{Act, Mark, Port, StepKind};
 use xp_words::{Place, Refusal};
 
-// The word of a vCPU that says up to which clock value it was asked to flush.
-const ASKED: u32 = 4;
-
-fn look_asked<P: Port>(port: &mut P, vcpu: u32) -> u64
-    requires { vcpu < length (P.value port.old).post.machine.vcpu_domain }
-    ensures moves { Moves (P.value port.old) (P.value port.new) (asked_of vcpu) Load kinds.Look None result }
-    ensures hand { Same (P.value port.old) (P.value port.new) }
-{
-    look(port, Place::Vcpu { vcpu, word: ASKED })
-}
-
 /// Answers an ask of another vCPU for a flush, as a processor does on the interrupt by which Xen asks: where the clock value
 /// up to which this vCPU was asked is at least the one to which it is flushed, all its translations are dropped. Where the
-/// clock is at its last value the ask stays unanswered. The vCPU itself calls it, with no walk in flight.
+/// clock is at its last value the ask stays unanswered. A turn of the vCPU begins with it, with no walk in flight.
 pub fn ack<P: Port>(port: &mut P)
     requires landed { (P.value port.old).holdings.walk ≡ None }
     ensures came { Came (P.value port.old) (P.value port.new) }
-    // No guest sees the steps, and they fit each request.
-    ensures serves { (r : Request) → Serves (P.value port.old) (P.value port.new) r [] }
+    // A guest sees of the steps that a turn begins, and they fit each request.
+    ensures serves { (r : Request) → Serves (P.value port.old) (P.value port.new) r (BeginsTurn ∷ []) }
     ensures course { Acks (P.value port.old) (P.value port.new) }
+    ensures hand { FlushedHolds (P.value port.old) (P.value port.new) (after_mark (P.value port.old).post.machine (Some Turn) (P.value port.old).holdings) }
 {
     let vcpu = port.vcpu();
-    let asked = look_asked(port, vcpu);
+    let asked = begin_turn(port);
     let flushed = look_flushed(port, vcpu);
     if asked < flushed {
         return;

@@ -274,8 +274,8 @@ owners_clear v w d foreign o finds clear =
 begun_runs : (v w : PortValue) → Begins v w → Known 6 w
 unfolding left_by
 begun_runs v w b =
-    let post : b.d.post ≡ v.post = sym (ap (λ (y : PortValue). y.post) b.running.to) ∙ came_post v w (begins_came v w b) in
-    known_left b.d w _ Load kinds.Look None 0 b.running 6 (ap (λ (q : Post). Vcpu q.vcpu 6) (sym post)) refl
+    let post : b.acked.post ≡ v.post = sym (ap (λ (y : PortValue). y.post) b.running.to) ∙ came_post v w (begins_came v w b) in
+    known_left b.acked w _ Load kinds.Look None 0 b.running 6 (ap (λ (q : Post). Vcpu q.vcpu 6) (sym post)) refl
 
 module _ (foreign : ℕ) (pairs : List Pair) where
   owned_silent : {d named : ℕ} (list : List Pair) {from : ℕ} (v : PortValue) → IsClear v → {to : ℕ} {w : PortValue} {answers : List Bool} {answer : Result (Unit {0}) Stop} → (works : WorksOwned d named list v from to w answers answer) →

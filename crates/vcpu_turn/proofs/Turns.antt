@@ -1,19 +1,19 @@
 -- A turn, by the calls that it is made of.
-use Rattle.std.proofs.Common.{◌≡◌, ℕ, nat_lt, Bool, true, false, List, length, slice_get, Some, None, Result, Ok, Err, refl, sym, ap, ◌∙◌, subst}
+use Rattle.std.proofs.Common.{◌≡◌, ℕ, Bool, true, false, List, length, slice_get, Some, None, Result, Ok, Err, refl, sym, ap, ◌∙◌, subst}
 use Rattle.xp_words.specs.declared.reply.Stop.{Stop}
 use Rattle.xp_words.specs.declared.reply.Stop.TheVariants.{Refused, Paused}
 use Rattle.xp_words.specs.declared.reply.Pause.{Pause}
 use Rattle.xp_words.specs.declared.reply.Pause.TheVariants.{Due, Lost, Busy, Flush, Alive}
 use Rattle.xp_board.specs.Told.{PortValue}
 use Rattle.step_maker.specs.Moves.{Came}
-use Rattle.step_maker.proofs.Coming.{came_self, came_trans, came_post, moves_came}
+use Rattle.step_maker.proofs.Coming.{came_trans, came_post, moves_came}
 use Rattle.answer_fits.specs.Answers.{Serves, misses}
-use Rattle.flush_words.proofs.Flushed.{own_came}
 use Rattle.level_release.specs.Asking.{is_due_stop, of_settle}
+use Rattle.tlb_walks.proofs.Flushes.{acks_came}
 use Rattle.vcpu_turn.specs.Cpus.{Processing, end_of, after_turn}
 use Rattle.vcpu_turn.specs.Lists.{Answering, is_due_answer}
 use Rattle.vcpu_turn.specs.Turning as turning
-use Rattle.vcpu_turn.specs.Turning.{Begins, Heeds, DoesNext, EndsTurn, IsTurn, MakesStop, TurnBy, NextWentOn, is_due}
+use Rattle.vcpu_turn.specs.Turning.{Begins, DoesNext, EndsTurn, IsTurn, MakesStop, TurnBy, NextWentOn, is_due}
 use Rattle.vcpu_turn.specs.Working.{Settles}
 use Rattle.vcpu_turn.specs.declared.cpu.TurnEnd.{TurnEnd}
 use Rattle.vcpu_turn.specs.declared.cpu.TurnEnd.TheVariants as ends
@@ -22,15 +22,8 @@ use Rattle.vcpu_turn.proofs.NextOps.{worked_none, worked_some}
 use Rattle.vcpu_turn.proofs.Staying.{settled_came}
 
 -- ---- a turn that begins
-heeds_came : (past : Bool) (v w : PortValue) → Heeds past v w → Came v w
-heeds_came true v w same = subst (Came v) (sym same) (came_self v)
-heeds_came false v w flush = own_came v w flush.0 flush.1
-
 pub begins_came : (v w : PortValue) → Begins v w → Came v w
-begins_came v w b =
-    came_trans v b.a w (moves_came v b.a _ _ _ _ _ b.marked)
-    (came_trans b.a b.b w (moves_came b.a b.b _ _ _ _ _ b.looked)
-    (came_trans b.b b.d w (heeds_came (nat_lt b.asked b.flushed) b.b b.d b.heeds) (moves_came b.d w _ _ _ _ _ b.running)))
+begins_came v w b = came_trans v b.acked w (acks_came v b.acked b.acks) (moves_came b.acked w _ _ _ _ _ b.running)
 
 -- and what is settled
 pub settled_behind : (v a b : PortValue) → Begins v a → (answer : Result (Unit {0}) Stop) → ((owner pages : ℕ) → Serves a b (of_settle owner pages answer) (misses a.post.machine answer)) → Came v b

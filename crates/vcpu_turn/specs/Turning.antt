@@ -1,23 +1,22 @@
 -- Turns: how one begins, what it does and how it ends.
-use Rattle.std.specs.Prelude.{◌≡◌, ◌⊎◌, ℕ, ◌+◌, ◌≤◌, nat_lt, Bool, true, false, List, [], ◌++◌, length, slice_get, Option, Some, None, Result, Ok, Err}
+use Rattle.std.specs.Prelude.{◌≡◌, ◌⊎◌, ℕ, ◌+◌, ◌≤◌, Bool, true, false, List, [], ◌++◌, length, slice_get, Option, Some, None, Result, Ok, Err}
 use Rattle.xp_words.specs.Machine.{IsMachine}
-use Rattle.xp_words.specs.Places.{asked_of, flushed_of, run_of}
+use Rattle.xp_words.specs.Places.{run_of}
 use Rattle.xp_words.specs.declared.place.Place.TheVariants.{Clock}
 use Rattle.xp_words.specs.declared.ops.Op.{Op}
-use Rattle.xp_words.specs.declared.reply.Refusal.{Refusal}
 use Rattle.xp_words.specs.declared.reply.Stop.{Stop}
 use Rattle.xp_words.specs.declared.reply.Stop.TheVariants.{Paused}
 use Rattle.xp_words.specs.declared.reply.Pause.{Pause}
 use Rattle.xp_words.specs.declared.reply.Pause.TheVariants.{Due}
 use Rattle.xp_board.specs.declared.step.Act.TheVariants.{Load, Store}
-use Rattle.xp_board.specs.declared.step.Mark.TheVariants.{Cut, Turn}
+use Rattle.xp_board.specs.declared.step.Mark.TheVariants.{Cut}
 use Rattle.xp_board.specs.declared.step.StepKind.TheVariants as kinds
 use Rattle.xp_board.specs.Hands.{IsEmptyHand}
 use Rattle.xp_board.specs.Readings.{domain_of}
 use Rattle.xp_board.specs.Told.{PortValue, own_run}
 use Rattle.step_maker.specs.Moves.{Moves}
-use Rattle.flush_words.specs.Flushing.{FlushesOwn}
 pub use Rattle.mmuext_ops.specs.Elements.{KnowsAwaited}
+use Rattle.tlb_walks.specs.Dropping.{Acks}
 use Rattle.vcpu_turn.specs.Cpus.{Processing, task_of, end_of, after_turn}
 use Rattle.vcpu_turn.specs.Lists.{asks_between, is_due_answer}
 use Rattle.vcpu_turn.specs.Working.{IsWarm, Settles, Works}
@@ -25,24 +24,11 @@ use Rattle.vcpu_turn.specs.declared.cpu.TurnEnd.{TurnEnd}
 use Rattle.vcpu_turn.specs.declared.cpu.TurnEnd.TheVariants as ends
 
 -- ---- the beginning
--- the own translations are flushed where the vCPU was asked to, past the clock value to which they are flushed; where the
--- clock is at its end the ask stays unanswered
-abbrev pub Heeds : Bool → PortValue → PortValue → Type 0
-Heeds true v w = w ≡ v
-Heeds false v w = (answer : Result (Unit {0}) Refusal) × FlushesOwn v w answer
-
--- By exactly these steps a turn begins: the word that says what the vCPU is asked is loaded with the mark Turn, and the one
--- to which it is flushed; an ask is heeded; and the run word is loaded, and found 0: it runs.
+-- By exactly these steps a turn begins: an ask for a flush is answered, and the run word is loaded, and found 0: the vCPU runs.
 pub record Begins (v w : PortValue) : Type 0 where
-  pub a : PortValue
-  pub b : PortValue
-  pub d : PortValue
-  pub asked : ℕ
-  pub flushed : ℕ
-  pub marked : Moves v a (asked_of v.post.vcpu) Load kinds.Look (Some Turn) asked
-  pub looked : Moves a b (flushed_of v.post.vcpu) Load kinds.Look None flushed
-  pub heeds : Heeds (nat_lt asked flushed) b d
-  pub running : Moves d w (run_of v.post.vcpu) Load kinds.Look None 0
+  pub acked : PortValue
+  pub acks : Acks v acked
+  pub running : Moves acked w (run_of v.post.vcpu) Load kinds.Look None 0
 
 -- ---- the end
 -- one step, which stores in the own run word that the vCPU is stopped
