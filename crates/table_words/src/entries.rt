@@ -1,6 +1,6 @@
 //! Entries of a table in the own work, which are recorded in order and shed in the other one.
 ghost use Rattle.std.specs.Prelude.{◌≡◌, ◌<◌, Some};
-ghost use Rattle.xp_words.specs.declared.place.Place.TheVariants.{Clock, Kind};
+ghost use Rattle.xp_words.specs.declared.place.Place.TheVariants.{Clock};
 ghost use Rattle.xp_board.specs.declared.step.Act.TheVariants.{Load};
 ghost use Rattle.xp_board.specs.declared.step.Mark.TheVariants.{Record, Shed};
 ghost use Rattle.xp_board.specs.declared.step.StepKind.TheVariants as kinds;
@@ -41,22 +41,5 @@ pub fn shed_entry<P: Port>(port: &mut P, frame: u32, upto: u16) -> u64
         Act::Load,
         StepKind::Look,
         Some(Mark::Shed { frame, upto }),
-    )
-}
-
-/// The same with a look at the kind word of a frame, mostly the one to which the entry leads: what is found there is known of
-/// the reference that comes into the hand. Answers the kind word.
-pub fn shed_entry_by_look<P: Port>(port: &mut P, table: u32, upto: u16, frame: u32) -> u64
-    requires frame { frame < (P.value port.old).post.machine.frames }
-    requires may { ShedsLast table upto (P.value port.old).holdings }
-    ensures moves { Moves (P.value port.old) (P.value port.new) (Kind frame) Load kinds.Look (Some (Shed table upto)) result }
-    ensures hand { Holds (P.value port.old) (P.value port.new) (entry_shed (P.value port.old).post.machine table upto (P.value port.old).holdings) }
-{
-    make(
-        port,
-        Place::Kind { frame },
-        Act::Load,
-        StepKind::Look,
-        Some(Mark::Shed { frame: table, upto }),
     )
 }

@@ -6,6 +6,6 @@ mod old_words;
 mod pins;
 mod words;
 
-pub use entries::{record_entry, shed_entry, shed_entry_by_look};
+pub use entries::{record_entry, shed_entry};
 pub use old_words::{OldWord, look_old, put_old, take_old};
 pub use pins::{clear_pin, set_pin};
