@@ -19,14 +19,6 @@ module _ (v w : PortValue) (h : Holdings) (holds : FlushedHolds v w h) where
   pub same_post : w.post ≡ v.post
   same_post = ap (λ (q : PortValue). q.post) holds
 
-  pub may_flushed : h.run ≡ v.holdings.run → h.walk ≡ v.holdings.walk → MayWork v → MayWork w
-  may_flushed run walk may =
-      record {
-        running = ap (λ (q : PortValue). q.holdings.run) holds ∙ run ∙ may.running;
-        no_walk = ap (λ (q : PortValue). q.holdings.walk) holds ∙ walk ∙ may.no_walk;
-        machine = subst (λ (p : Post). IsMachine p.machine) (sym same_post) may.machine;
-      }
-
 -- a hand that is held is held but for translations, too
 pub flushed : (v w : PortValue) (h : Holdings) → Holds v w h → FlushedHolds v w h
 flushed v w h holds = ap quiet holds

@@ -15,8 +15,3 @@ locked_is k is live table some below = grind (arith, nat_tests)
 pub locked_word : (k : KindWord) → k.locked ≡ false → kind_write (locked_kind k) ≡ kind_write k + 281474976710657
 unfolding kind_write
 locked_word k off = rw off (omega arith)
-
--- a word is below 2^64 also with these
-pub locked_small : (k : KindWord) → IsTrue (is_kind k) → kind_write k + 281474976710657 < 2 ^ 64
-unfolding kind_write
-locked_small k is = grind (arith, nat_tests)

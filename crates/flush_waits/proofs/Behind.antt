@@ -18,8 +18,3 @@ module _ (u v w : PortValue) (r : Request) (whose : Whose) (stamp : ℕ) where
   pub behind_serves : (ds : List Deed) → Serves u v r ds → AwaitsStamp u.post.machine u.post.vcpu r (Met u v) whose stamp → ServesBehind v w whose stamp → Serves u w r ds
   unfolding ServesBehind
   behind_serves ds before a wait = wait u r ds before (awaits_there (serves_came u v r ds before) a)
-
-  -- it stops for the wait
-  pub behind_stops : (e : Stop) → Came u v → AwaitsStamp u.post.machine u.post.vcpu r (Met u v) whose stamp → StopsBehind v w whose stamp e → Stops u w r e
-  unfolding StopsBehind
-  behind_stops e came a wait = wait u r came (awaits_there came a)

@@ -35,9 +35,6 @@ use Rattle.board_lemmas.proofs.Owners.{ref_knows, typed_knows}
 pub same_flushed : (v w : PortValue) → Same v w → FlushedSame v w
 same_flushed v w same = ap quiet same
 
-pub flushed_self : (v : PortValue) → FlushedSame v v
-flushed_self v = refl
-
 pub flushed_then : (v u w : PortValue) → FlushedSame v u → FlushedSame u w → FlushedSame v w
 flushed_then v u w a b = b ∙ a
 

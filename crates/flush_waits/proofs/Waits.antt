@@ -172,9 +172,6 @@ module _ (v w : PortValue) (a : Awaiting) where
   pub waited_late : (b : Late) → Waits v w a all (Ok (Some b)) → Waited v w a (Err (Paused (Flush b.vcpu a.stamp b.found)))
   waited_late b so = record { clears = so.clears; stops = stops_late b so; steps = late_list b so; waits = tt; clear = tt }
 
-  pub waited_spent : (r : Refusal) → Waits v w a all (Err r) → Waited v w a (Err (Refused r))
-  waited_spent r so = record { clears = so.clears; stops = so.shows.0; steps = so.steps; waits = so.shows.1; clear = tt }
-
 -- ---- what is awaited
 -- a frame is past its flush
 pub past_all : (v w : PortValue) (f owner stamp : ℕ) (answer : Result (Unit {0}) Stop) → IsMarked f owner stamp v.holdings → Waited v w (record { concern = concerns.Frame f owner; stamp = stamp }) answer →

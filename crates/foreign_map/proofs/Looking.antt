@@ -52,8 +52,6 @@ saw_after p word xs (y ∷ ys) (inl a) = inl a
 saw_after p word xs (y ∷ ys) (inr a) = inr (saw_after p word xs ys a)
 
 -- ---- no guest sees them, and any request has a reason for them
-no_deeds : (p : Place) (a : Act) (kind : StepKind) (mark : Option Mark) (x : ℕ) (h : Holdings) → a ≡ Load → mark ≡ None → marked_by mark ++ deeds_by p a kind x h ≡ []
-no_deeds p a _ mark x h act marked = rw (act, marked) refl
 
 unseen : (ms : List Moment) → EachOf IsLook (visits ms) → deeds ms ≡ []
 unfolding EachOf

@@ -45,9 +45,6 @@ closing_no_work false c d e is = absurd cc
 not_both : (k : KindWord) → IsTrue (is_closing k) → IsTrue (is_work k) → ⊥
 not_both k closing work = let idle = closing_no_work k.validated (k.number == 0) k.partial k.locked closing in let busy = work in cc
 
-if_off : {A : Type 0} (b : Bool) (x y : A) → b ≡ false → (if b then x else y) ≡ y
-if_off b x y off = rw off refl
-
 -- the reference that the type count leaves
 abbrev left_ref : ℕ → Holdings → Reference
 left_ref f h = record { frame = f; owner = typed_owner f h }

@@ -43,10 +43,6 @@ no_descriptors t off is = absurd (let e = subst (λ y. is_read_first y ≡ false
 pub no_memory : (t : PageType) → is_read_first t ≡ true → t ≢ types.Writable
 no_memory t on is = absurd (let e = subst (λ y. is_read_first y ≡ true) is on in cc)
 
--- a step that changes the hand alone, behind a wait
-quietly : (b v w : PortValue) (k : Holdings) → Holds v w k → quiet w ≡ quiet (record v { holdings = k })
-quietly b v w k holds = ap quiet holds
-
 module _ (b v : PortValue) (f owner : ℕ) (want : PageType) (marked : Bool) (stamp progress : ℕ) (own : Bool) (e : Enters b v f owner want marked stamp progress own) where
   here : work_on f v.holdings.works ≡ Some e.work
   here = entered_here b v f owner want marked stamp progress own e

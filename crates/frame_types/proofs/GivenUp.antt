@@ -36,9 +36,6 @@ over f k l x q = by (is_same q (Kind f))
     by true = refl
     by false = refl
 
-refs_stay : (f : ℕ) (l : KindWord) (u : Words) → set_kind f l u (Refs f) ≡ u (Refs f)
-refs_stay f l u = refl
-
 -- ---- words alike but for the stamp
 dead_marked : (x y : ℕ) → x < 2 ^ 36 → y < 2 ^ 36 → IsAlikeKind (kind_fields (kind_write (dead_kind Writable true x))) (kind_fields (kind_write (dead_kind Writable true y)))
 dead_marked x y low less = rw (fields_write (dead_kind Writable true x) (dead_is Writable refl true x low), fields_write (dead_kind Writable true y) (dead_is Writable refl true y less)) (refl, refl)

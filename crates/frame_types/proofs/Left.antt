@@ -133,14 +133,6 @@ module _ (b v : PortValue) (f owner : ℕ) (want : PageType) (stamp : ℕ) (w : 
       (may_leave_marked v f want w.waits.work (here b v f owner want true stamp w) w.waits.typed w.waits.works.kind true (λ k. may_keep f w.waits.work v.holdings owner w.waits.works.in_work own_held own_owner) w.waits.works.in_work
       w.waits.marked w.waits.none (or_true (not (type_number want == 5))))
 
-  pub kept_back : owner ≡ domain_of v.post.machine v.post.vcpu → (d : PortValue) → Holds v d (left v f (partial_kind want true true 0 stamp)) → FlushedHolds b d (gave f b.holdings)
-  kept_back domain d left_so =
-      ap quiet left_so
-      ∙ ap (λ k. quiet (record v { holdings = k })) (left_kept v f want w.waits.work (here b v f owner want true stamp w) true 0 stamp w.waits.works.in_work kept_may.is (own_owner ∙ ap (λ o. owners.Of o) domain))
-      ∙ ap (λ xs. quiet (record v { holdings = record v.holdings { typed = xs; works = without_work f v.holdings.works } })) no_typed
-      ∙ ap (λ ys. quiet (record v { holdings = record v.holdings { typed = b.holdings.typed; works = ys } })) (no_works b v f owner want true stamp w)
-      ∙ ap (λ (q : PortValue). quiet (record q { holdings = record q.holdings { typed = b.holdings.typed; works = b.holdings.works } })) w.waits.works.hand
-
   -- dead with its mark, and a clock value that was found then
   module _ (a : PortValue) (clock : ℕ) (look : Moves v a Clock Load kinds.Look None clock) (same : Same v a) where
     pub at_a : work_on f a.holdings.works ≡ Some (w.waits.work)

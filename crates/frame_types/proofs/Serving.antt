@@ -52,10 +52,6 @@ module _ (u v d : PortValue) (f owner : ℕ) (want : PageType) (ds : List Deed) 
   pub look_serves : (clock : ℕ) → Moves v d Clock Load kinds.Look None clock → Serves u d (of_frame f owner (Some want)) ds
   look_serves clock look = serves_step u v d (of_frame f owner (Some want)) ds Clock Load kinds.Look None clock before look tt
 
--- what serves behind any steps serves behind none
-pub type_came : (v w : PortValue) (f : ℕ) (want : PageType) → ServesType v w f want → Came v w
-type_came v w f want serves = serves_came v w (of_frame f 0 (Some want)) [] (serves v 0 [] (serves_nothing v (of_frame f 0 (Some want))))
-
 -- ---- the words
 module _ (v d : PortValue) (f x : ℕ) (l : KindWord) (store : Moves v d (Kind f) (Store (kind_write l)) kinds.Kind None x) (telling : is_telling v ≡ true) where
   pub stored_words : told_word d ≡ set_kind f l (told_word v)

@@ -57,9 +57,6 @@ refused_by limit owner f w (WrongOwner g found) (is, at, why) = rw (is, at) (wro
 refused_by limit owner f w (CountFull g found) (is, at, why) = rw (is, at) (count_full limit owner f w (ref_read w) why)
 refused_by limit owner f w _ why = absurd why
 
-pub twin_no_frame : (v : PortValue) (f owner : ℕ) → v.post.machine.frames ≤ f → TwinGet {A = ℕ} v v f owner (Err (Refused (NoFrame f)))
-twin_no_frame v f owner past telling = (rw (outside f v.post.machine.frames past) refl, λ q. refl)
-
 module _ (v u : PortValue) (f owner word : ℕ) (look : Moves v u (Refs f) Load kinds.Look None word) (real : f < v.post.machine.frames) where
   pub twin_refused : (x : Refusal) → RefusesWord f owner v.post.machine.limit word x → TwinGet {A = ℕ} v u f owner (Err (Refused x))
   twin_refused x why telling =
@@ -136,8 +133,3 @@ twin_last v u x f w owner allocated lower read frees telling q =
     ∙ ap (λ b. (if b then set_free f (owner_number (owner_of (m (Refs f)))) (lowered f m) else lowered f m) q) (sym (ap (λ y. ref_count y == 1) at ∙ last))
 
 -- ---- for callers: stores, and the cells and words that they leave
-pub store_m2p_leaves : (v w : PortValue) (f gpfn found : ℕ) → Moves v w (M2p f) (Store gpfn) kinds.M2p None found → is_telling v ≡ true → Leaves w (change (Store gpfn) (M2p f) (told_word v))
-store_m2p_leaves v w f gpfn found m telling = leaves v w (M2p f) (Store gpfn) kinds.M2p None found m telling
-
-pub store_cell_leaves : (v w : PortValue) (f i word found : ℕ) → Moves v w (Cell f i) (Store word) kinds.Cell None found → is_telling v ≡ true → Leaves w (change (Store word) (Cell f i) (told_word v))
-store_cell_leaves v w f i word found m telling = leaves v w (Cell f i) (Store word) kinds.Cell None found m telling

@@ -112,8 +112,6 @@ typed_later a b [] ys more are = are
 typed_later a b (t ∷ ts) ys more are = typed_for_later t.own a b t.frame (AreOwnTyped a ts) (AreOwnTyped b ts) ys more (λ xs rest. typed_later a b ts xs more rest) are
 
 -- ---- the whole
-pub hands_post : (h : Holdings) (v w : PortValue) (k : Holdings) → Holds v w k → w.post ≡ v.post
-hands_post h v w k holds = ap (λ (q : PortValue). q.post) holds
 
 module _ (h : Holdings) (v w : PortValue) (ts us : List TableWork) (rs : List Reference) (ys : List TypedReference) (es : List Work) (s : Empties h v ts)
     (holds : Holds v w (record v.holdings { refs = rs; typed = ys; works = es })) where

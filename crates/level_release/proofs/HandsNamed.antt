@@ -16,19 +16,6 @@ use Rattle.level_release.proofs.HandsLeft.{LeftHand}
 use Rattle.level_release.proofs.HandsTop.{top}
 
 module _ (h : Holdings) (v : PortValue) (t : TableWork) (ts : List TableWork) (s : Empties h v (t ∷ ts)) (d : PortValue) (k : LeftHand h v d t ts (top h v t ts s).others) where
-  pub left_may : MayWork v → MayWork d
-  left_may m =
-      record {
-        running = ap (λ (q : PortValue). q.holdings.run) k.hand ∙ m.running;
-        no_walk = ap (λ (q : PortValue). q.holdings.walk) k.hand ∙ m.no_walk;
-        machine = subst (λ (p : Post). IsMachine p.machine) (sym (ap (λ (q : PortValue). q.post) k.hand)) m.machine;
-      }
-
-  pub left_frame : t.frame < d.post.machine.frames
-  left_frame = subst (λ (p : Post). t.frame < p.machine.frames) (sym (ap (λ (q : PortValue). q.post) k.hand)) (top h v t ts s).is.inside
-
-  pub left_room : known_old First v.holdings ≡ Some 0 → known_old First d.holdings ≡ Some 0
-  left_room room = ap (λ (q : PortValue). q.holdings.old0) k.hand ∙ room
 
 module _ (h : Holdings) (v : PortValue) (t : TableWork) (s : Empties h v (t ∷ [])) (d : PortValue) (k : LeftHand h v d t [] (top h v t [] s).others) where
   pub named_stands : (x : PortValue) → Holds d x (kept_in_old First t.frame d.holdings) → HoldsNow x (named_hand t.frame h)

@@ -21,8 +21,6 @@ pub running_begins : (u : PortValue) (ts : List TableWork) → RunningDown u u t
 running_begins u ts = record { came = came_self u; stands = λ h s. s; outer = λ some. refl }
 
 module _ (u w : PortValue) (ts us : List TableWork) (g : RunningDown u w ts us) where
-  pub running_releasing : IsReleasing u ts → IsReleasing w us
-  running_releasing a = (a.0, g.stands a.0 a.1)
 
   pub running_may : IsReleasing u ts → MayWork u → MayWork w
   running_may a may = hands_may a.0 u w ts us a.1 (g.stands a.0 a.1) (came_post u w g.came) may
@@ -30,11 +28,6 @@ module _ (u w : PortValue) (ts us : List TableWork) (g : RunningDown u w ts us) 
   pub running_on : us ≢ [] → (x : PortValue) (rs : List TableWork) → Came w x → StaysEmptying w x us rs → (rs ≢ [] → outermost_frame rs ≡ outermost_frame us) → RunningDown u x ts rs
   running_on some x rs came stands outer =
       record { came = came_trans u w x g.came came; stands = λ h s. stands h (g.stands h s); outer = λ more. outer more ∙ g.outer some }
-
--- where the gate is asked a table is left
-pub asked_some : (ts : List TableWork) → is_asked_down ts ≡ true → ts ≢ []
-asked_some [] asked none = absurd cc
-asked_some (t ∷ ts) asked none = absurd cc
 
 -- what a test of the stack says
 pub tested_some : (ts : List TableWork) (b : Bool) → b ≡ false → (ts ≡ [] → IsTrue b) → ts ≢ []

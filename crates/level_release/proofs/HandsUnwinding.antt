@@ -68,9 +68,6 @@ module _ (u w : PortValue) (ts : List TableWork) (t : TableWork) (us all : List 
         by_shape (o ∷ os) rs shape h s is = subst (λ xs. LeftTo h x ts xs) (sym shape.0) (subst (λ xs. Empties h x xs) shape.0 s, same_named o os ∙ is)
 
 -- ---- each time there is one table less
-pub inside_length : (w x : PortValue) (t : TableWork) (us rs : List TableWork) → LeftInside w t us x rs → length rs ≡ length us
-inside_length w x t [] rs shape = absurd shape
-inside_length w x t (o ∷ os) rs shape = ap (λ xs. length xs) shape.0
 
 pub leaving_done : (u w : PortValue) (ts us : List TableWork) → LeavingDown u w ts us → us ≡ [] → LeavesNamed u w ts
 leaving_done u w ts us g none h s = subst (λ xs. LeftTo h w ts xs) none (g.hand h s)

@@ -145,16 +145,6 @@ module _ (v w : PortValue) (owner : ℕ) (t : TableWork) (ts : List TableWork) (
 
 -- ---- after the store
 module _ (w d : PortValue) (f : ℕ) (hand : Holds w d (left_so f w.holdings)) where
-  pub left_may : MayWork w → MayWork d
-  left_may m =
-      record {
-        running = ap (λ (q : PortValue). q.holdings.run) hand ∙ m.running;
-        no_walk = ap (λ (q : PortValue). q.holdings.walk) hand ∙ m.no_walk;
-        machine = subst (λ (p : Post). IsMachine p.machine) (sym (ap (λ (q : PortValue). q.post) hand)) m.machine;
-      }
-
-  pub left_inside : f < w.post.machine.frames → f < d.post.machine.frames
-  left_inside inside = subst (λ (p : Post). f < p.machine.frames) (sym (ap (λ (q : PortValue). q.post) hand)) inside
 
 -- ---- what a test says
 pub not_so : (b : Bool) → not b ≡ true → b ≡ false

@@ -39,9 +39,6 @@ pub asked_later : (n : Machine) (s : ℕ) (r : Request) (F G : Finding) → ((m 
 asked_later n s r F G more [] asks = asks
 asked_later n s r F G more (t ∷ ts) asks = ((same_request n s r F G more).asked t.frame r.owner (Some (level_type t.level)) asks.0, asked_later n s r F G more ts asks.1)
 
-pub asked_rest : (n : Machine) (s : ℕ) (r : Request) (F : Finding) (t : TableWork) (ts : List TableWork) → AreAsked n s r F (t ∷ ts) → AreAsked n s r F ts
-asked_rest n s r F t ts asks = asks.1
-
 -- how many of their entries are done with does not matter
 pub asked_advanced : (n : Machine) (s : ℕ) (r : Request) (F : Finding) (ts : List TableWork) → AreAsked n s r F ts → AreAsked n s r F (advanced ts)
 asked_advanced n s r F [] asks = asks

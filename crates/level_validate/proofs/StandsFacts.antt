@@ -110,13 +110,6 @@ top_known made owner t ts rs h refs typed = by t.own refl
         )
 
 -- ---- another hand of these parts
-pub may_after : (w d : PortValue) (rs : List Reference) (ys : List TypedReference) (ws : List Work) → FlushedHolds w d (record w.holdings { refs = rs; typed = ys; works = ws }) → MayWork w → MayWork d
-may_after w d rs ys ws hand m =
-    record {
-      running = ap (λ (q : PortValue). q.holdings.run) hand ∙ m.running;
-      no_walk = ap (λ (q : PortValue). q.holdings.walk) hand ∙ m.no_walk;
-      machine = subst (λ (p : Post). IsMachine p.machine) (sym (ap (λ (q : PortValue). q.post) hand)) m.machine;
-    }
 
 -- other tables stand then
 pub stands_by : (v w d : PortValue) (owner : ℕ) (ts us : List TableWork) (rs : List Reference) (ys : List TypedReference) (ws : List Work) → Carries v w owner ts → FlushedHolds w d (record w.holdings { refs = rs; typed = ys; works = ws }) →

@@ -66,9 +66,6 @@ module _ (v w : PortValue) (owner : ℕ) (t : TableWork) (s : Carries v w owner 
     pub outer_held : 0 < typed_to t.frame w.holdings.typed → 0 < typed_to t.frame d.holdings.typed
     outer_held held = subst (λ xs. 0 < typed_to t.frame xs) (sym (ap (λ (q : PortValue). q.holdings.typed) hand)) held
 
-    pub outer_room : known_old First w.holdings ≡ Some 0 → known_old First d.holdings ≡ Some 0
-    outer_room room = ap (λ (q : PortValue). q.holdings.old0) hand ∙ room
-
     pub outer_named : (kept : Bool) → kept ≡ false → (x : PortValue) → Holds d x (kept_in_old First t.frame d.holdings) → UnwoundHand v x owner kept (t ∷ [])
     outer_named kept off x put =
         inl (outer_gone (Some (t.frame + 1)) x (ap quiet put ∙ ap (λ (q : PortValue). quiet (record q { holdings = kept_in_old First t.frame q.holdings })) hand)
@@ -97,21 +94,6 @@ module _ (u w : PortValue) (owner : ℕ) (kept : Bool) (t : TableWork) where
 
   pub none_serves : (us : List TableWork) → us ≡ [] → ServesLeft u w owner kept t.frame (t ∷ []) [] → ServesTo u w owner kept (t ∷ us) us
   none_serves us none left = subst (λ (rs : List TableWork). ServesTo u w owner kept (t ∷ rs) rs) (sym none) left
-
-  -- others stand around it
-  pub some_hand : (ts us : List TableWork) → us ≢ [] → StandsOn u w owner ts us → UnwindsTo u w owner kept ts us
-  some_hand ts [] some stands = absurd (some refl)
-  some_hand ts (r ∷ rs) some stands = stands
-
-  pub some_serves : (ts us : List TableWork) → us ≢ [] → CarriesOn u w owner ts us [] → ServesTo u w owner kept ts us
-  some_serves ts [] some goes = absurd (some refl)
-  some_serves ts (r ∷ rs) some goes = goes
-
--- they still do
-pub around_some : (b : Bool) (ts us : List TableWork) → us ≡ around_lent b ts → ts ≢ [] → us ≢ []
-around_some true ts us is some none = some (sym is ∙ none)
-around_some false [] us is some none = some refl
-around_some false (u ∷ ts) us is some none = let no : record u { done = u.done - 1 } ∷ ts ≡ [] = sym is ∙ none in absurd cc
 
 -- it stays the outermost one
 outermost_within : (t : TableWork) (ts : List TableWork) → ts ≢ [] → outermost_work ts ≡ outermost_work (t ∷ ts)
@@ -173,18 +155,6 @@ serves_on u w x owner kept ts us (r ∷ rs) same came goes left = goes_then u w 
 
 module _ (u w : PortValue) (owner : ℕ) (kept : Bool) (ts : List TableWork) (t : TableWork) (us : List TableWork) (g : Unwinding u w owner kept ts (t ∷ us)) where
   module _ (a : IsStanding u owner ts) where
-    pub unwinding_may : MayWork u → MayWork w
-    unwinding_may may = may_stands a.0 w owner (t ∷ us) (g.hand a.0 a.1) (may_back a.0 u owner ts a.1 may)
-
-    pub unwinding_stands : IsStanding w owner (t ∷ us)
-    unwinding_stands = (a.0, g.hand a.0 a.1)
-
-    -- the first old word stays as it was
-    pub unwinding_room : known_old First u.holdings ≡ Some 0 → known_old First w.holdings ≡ Some 0
-    unwinding_room room = ap (λ (q : PortValue). q.holdings.old0) (g.hand a.0 a.1).hand ∙ sym (ap (λ (q : PortValue). q.holdings.old0) a.1.hand) ∙ room
-
-  pub unwinding_real : owner < length u.post.machine.page_limit → owner < length w.post.machine.page_limit
-  unwinding_real real = subst (λ (p : Post). owner < length p.machine.page_limit) (sym (came_post u w g.came)) real
 
   pub unwinding_on : (x : PortValue) (rs : List TableWork) → Came w x → Forward w x → ((o : TableWork) → outermost_work (t ∷ us) ≡ Some o → LeftWell w x kept o.frame) → (b : Bool) × (rs ≡ around_lent b us) →
       UnwindsTo w x owner kept (t ∷ us) rs → ServesTo w x owner kept (t ∷ us) rs → UnwindsOn w x owner kept (t ∷ us) rs → Unwinding u x owner kept ts rs

@@ -68,7 +68,3 @@ set_twin v u x w g f owner gpfn other r ds is gets gives store puts telling =
     let set_it : Leaves x (change (Store gpfn) (M2p f) (got f (told_word v))) =
     subst (λ k. Leaves x (change (Store gpfn) (M2p k) (got f (told_word v)))) is (leaves_then u x (Store gpfn) (M2p g) (got f (told_word v)) got_it.1 (leaves u x (M2p g) (Store gpfn) kinds.M2p None other store at_u)) in
     (got_it.0, λ q. subst (λ k. told_word w q ≡ put k (told_word x) q) is (puts at_x q) ∙ ap (λ (m : Words). put f m q) (same_words (told_word x) _ set_it))
-
-pub set_stops : (v w : PortValue) (f owner gpfn : ℕ) (e : Stop) → TwinGet {A = ℕ} v w f owner (Err e) → TwinSet v w f owner gpfn (Err e)
-set_stops v w f owner gpfn (Refused x) twin = twin
-set_stops v w f owner gpfn (Paused x) twin = twin

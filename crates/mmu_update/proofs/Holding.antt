@@ -118,14 +118,6 @@ module _ (b v : PortValue) (f d : ℕ) (rests : Rests b) (takes : Holds b v (too
     pub typed_post : x.post ≡ b.post
     typed_post = ap (λ (q : PortValue). q.post) whole
 
-    pub typed_work : MayWork x
-    typed_work =
-        record {
-          running = ap (λ (q : PortValue). q.holdings.run) whole ∙ rests.may.running;
-          no_walk = ap (λ (q : PortValue). q.holdings.walk) whole ∙ rests.may.no_walk;
-          machine = subst (λ (p : Post). IsMachine p.machine) (sym typed_post) rests.may.machine;
-        }
-
     apart : IsApart f x.holdings
     apart =
         record {

@@ -33,10 +33,6 @@ not_looked : (n : Machine) (s f i : ℕ) (r : Request) (F : Finding) → LooksAs
 not_looked n s f i r F aside m reason load g j at =
     absurd (no_cell r g j aside (subst (λ p. MayLook r p) at (subst (λ a. HasReason n s r F m.place a m.found m.hand) load reason)))
 
-pub looks_nothing : (v : PortValue) (f i : ℕ) → LooksOnly v v f i
-unfolding LooksOnly EachOf
-looks_nothing v f i = ([], refl, tt)
-
 pub looks_then : (v u w : PortValue) (f i : ℕ) → LooksOnly v u f i → LooksOnly u w f i → LooksOnly v w f i
 unfolding LooksOnly
 looks_then v u w f i a b = (b.0 ++ a.0, ran_more v u w a.0 b.0 a.1 b.1, each_append (LooksAtEntry f i) a.0 b.0 a.2 b.2)

@@ -142,9 +142,6 @@ module _ (b v : PortValue) (f i : ℕ) (t : PageType) (word g : ℕ) (want : Pag
     live_apart_then =
         ap (λ (q : PortValue). work_on g q.holdings.works) live_shed ∙ none_after (λ (e : Work). e.frame) g f (λ e. record e { recorded = i; unsettled = None }) v.holdings.works (λ e. refl) (v_apart live)
 
-    pub live_frame : g < w.post.machine.frames
-    live_frame = subst (λ (p : Post). g < p.machine.frames) (sym live_post) (kind_frame b v f i t word g want x l)
-
     pub live_may : MayWork v → MayWork w
     live_may m =
         record {

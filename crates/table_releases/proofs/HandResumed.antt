@@ -117,9 +117,6 @@ module _ (b v : PortValue) (f i : ℕ) (t : PageType) (word g : ℕ) (want : Pag
   pub resumed_post : v.post ≡ b.post
   resumed_post = ap (λ (q : PortValue). q.post) came_in ∙ kind_post b r.from f i t word g want r.found r.sees
 
-  pub resumed_frame : g < v.post.machine.frames
-  resumed_frame = subst (λ (p : Post). g < p.machine.frames) (sym resumed_post) r.sees.sees.inside
-
   -- the entry is not settled: its frame is in work, and was not found live
   still_unsettled : (p : _) (y : ℕ) (mark : _) {w : PortValue} → Moves v w p Load kinds.Look mark y → is_settled (sizes_of v.post.machine) v.holdings resumed_seen.work ≡ false
   still_unsettled p y mark step =

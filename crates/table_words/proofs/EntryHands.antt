@@ -63,11 +63,6 @@ module _ (m : Machine) (f upto : ℕ) (h : Holdings) (next : RecordsNext m f upt
   pub record_left : (b : Bool) → leaves_unsettled (sizes_of m) h next_asks ≡ b → entry_recorded m f h ≡ record (demand_out next_asks h) { works = changed_work f (λ x. record x { recorded = upto; unsettled = unsettled_for b next.may.word h }) h.works }
   record_left b leaves = left_by_words ∙ ap (λ u. record (demand_out next_asks h) { works = changed_work f (next_work u) h.works }) (unsettled_is b leaves)
 
-  pub record_work : (b : Bool) → leaves_unsettled (sizes_of m) h next_asks ≡ b → work_on f (entry_recorded m f h).works ≡ Some (record next.work { recorded = upto; unsettled = unsettled_for b next.may.word h })
-  record_work b leaves =
-      ap (λ (u : Holdings). work_on f u.works) (record_left b leaves)
-      ∙ first_by-changed_here (λ y. y.frame) f (next_work (unsettled_for b next.may.word h)) h.works next.work (λ y. refl) next.may.here
-
 -- ---- shed
 module _ (m : Machine) (f upto : ℕ) (h : Holdings) (last : ShedsLast f upto h) where
   abbrev pub last_asks : Demand

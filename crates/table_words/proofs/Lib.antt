@@ -1,4 +1,3 @@
-pub mod Closing
 pub mod EntryHands
 pub mod OldHands
 pub mod PinSteps

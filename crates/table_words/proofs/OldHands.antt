@@ -93,10 +93,6 @@ put_old_hand v w which f m =
 pub taken_none : (which : OldWord) (h : Holdings) → taken_from_old which 0 h ≡ learned_old which 0 h
 taken_none which h = refl
 
-pub taken_named : (which : OldWord) (f : ℕ) (h : Holdings) → taken_from_old which (f + 1) h ≡ learned_old which 0 (record h { typed = brought_typed f None h ∷ h.typed })
-taken_named First f h = ap (λ y. learned_old First 0 (named_in 2 y h)) (add-one f)
-taken_named Second f h = ap (λ y. learned_old Second 0 (named_in 3 y h)) (add-one f)
-
 -- a word that was known to name none is found so
 pub put_moves : (v w : PortValue) (s k : ℕ) (which : OldWord) (f new x : ℕ) → s ≡ v.post.vcpu → k ≡ old_number which → new ≡ f + 1 → v.holdings.run ≡ Some 0 → known_old which v.holdings ≡ Some 0 →
     Moves v w (Vcpu s k) (Store new) kinds.Context None x → Moves v w (old_place v.post.vcpu which) (Store (f + 1)) kinds.Context None 0

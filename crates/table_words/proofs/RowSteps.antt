@@ -31,10 +31,6 @@ pub may_shed : (v : PortValue) (f upto : ℕ) → ShedsLast f upto v.holdings �
 unfolding is_place
 may_shed v f upto last = record { place = refl; marked = (last.work, last.may); running = λ needs. absurd cc; spelling = tt; act = tt }
 
-pub may_shed_by_look : (v : PortValue) (t upto f : ℕ) → f < v.post.machine.frames → ShedsLast t upto v.holdings → May v (Kind f) Load kinds.Look (Some (Shed t upto))
-may_shed_by_look v t upto f frame last =
-    record { place = kind_there (sizes_of v.post.machine) f frame; marked = (last.work, last.may); running = λ needs. absurd cc; spelling = tt; act = tt }
-
 -- ---- old words
 old_in_context : (which : OldWord) → IsTrue (is_context (old_number which))
 old_in_context First = refl

@@ -47,10 +47,6 @@ module _ (v w : PortValue) (f upto g : ℕ) (t : PageType) (last : ShedsLast f u
   known_by false newest found look live =
       live_by_step v w g t Load kinds.Look (Some (Shed f upto)) found look (brought_as false g t v.holdings) v.holdings.typed (length v.holdings.steps) newest refl refl (omega arith) live
 
-  -- by the look that sheds it
-  pub shed_known : (found : ℕ) → Moves v w (Kind g) Load kinds.Look (Some (Shed f upto)) found → is_live_as t found ≡ true → IsTrue (knows_live (sizes_of v.post.machine) g t w.holdings)
-  shed_known found look live = known_by sure shed_newest found look live
-
   -- a settled one needs no look
   pub shed_settled_known : IsTrue sure → IsTrue (knows_live (sizes_of v.post.machine) g t w.holdings)
   shed_settled_known settled =

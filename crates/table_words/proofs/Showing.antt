@@ -25,14 +25,6 @@ module _ (f : ℕ) (k l : KindWord) (h : Holdings) (before : IsTrue (is_kind k))
       when_found (kind_write k) (kind_write k) (exchanged (Kind f) (kind_write k) (kind_write l)) (missed_at (Kind f)) refl
       ∙ ap (λ (y : KindWord). pin_deed f y.pinned (kind_fields (kind_write l)).pinned) (fields_write k before) ∙ ap (λ (y : KindWord). pin_deed f k.pinned y.pinned) (fields_write l next)
 
-pub pin_deeds : (f : ℕ) (k : KindWord) (h : Holdings) → IsTrue (is_kind k) → IsTrue (is_kind (pinned_kind k)) → k.pinned ≡ false →
-    deeds_by (Kind f) (Cas (kind_write k) (kind_write (pinned_kind k))) kinds.Kind (kind_write k) h ≡ Pins f ∷ []
-pin_deeds f k h before next off = exchange_deeds f k (pinned_kind k) h before next ∙ ap (λ b. pin_deed f b true) off
-
-pub unpin_deeds : (f : ℕ) (k : KindWord) (h : Holdings) → IsTrue (is_kind k) → IsTrue (is_kind (unpinned_kind k)) → k.pinned ≡ true →
-    deeds_by (Kind f) (Cas (kind_write k) (kind_write (unpinned_kind k))) kinds.Kind (kind_write k) h ≡ Unpins f ∷ []
-unpin_deeds f k h before next on = exchange_deeds f k (unpinned_kind k) h before next ∙ ap (λ b. pin_deed f b false) on
-
 -- ---- old words
 old_deeds : (which : OldWord) (s w found : ℕ) (h : Holdings) → deeds_by (old_place s which) (Store w) kinds.Context found h ≡ []
 old_deeds First s w found h = refl

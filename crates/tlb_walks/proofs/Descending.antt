@@ -66,24 +66,6 @@ by_canonical : (b : Bool) (x : Refusal) (o : Option Refusal) → (if b then o el
 by_canonical true x o e = e
 by_canonical false x o e = absurd cc
 
-pub walked_at : (va level : ℕ) → walk_refusal va ≡ None → IsTrue (is_walked level (index_of va level))
-walked_at va level e = by (level == 4) refl
-  where
-    few : index_of va level < 512
-    few = omega arith
-
-    at_top : level ≡ 4 → is_slot L4 (index_of va level) ≡ false
-    at_top is = ap (λ l. is_slot L4 (index_of va l)) is ∙ no_slot (index_of va 4) (by_canonical (is_canonical va) _ _ e)
-
-    by : (b : Bool) → (level == 4) ≡ b → IsTrue (is_walked level (index_of va level))
-    by true is =
-        let top = at_top (grind (arith, nat_tests)) in
-        let small : nat_lt (index_of va level) 512 ≡ true = grind (arith, nat_tests, few) in
-        rw (small, is, top) refl
-    by false is =
-        let small : nat_lt (index_of va level) 512 ≡ true = grind (arith, nat_tests, few) in
-        rw (small, is) refl
-
 -- ---- bits and barriers
 open_by : (b : Bool) (x : ℕ) → not (is_some (if b then None else Some x)) ≡ b
 open_by true x = refl

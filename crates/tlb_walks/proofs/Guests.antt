@@ -83,12 +83,6 @@ module _ (v u : PortValue) (user : Bool) (va : ℕ) (write : Bool) (r : Walked) 
   pub landed_then : u.holdings.walk ≡ None
   landed_then = turned_landed v u _ ended.1 refl
 
-  pub inside_then : frame_of r.entry < u.post.machine.frames
-  inside_then = subst (λ (p : Post). frame_of r.entry < p.machine.frames) (sym (turned_post v u _ ended.1)) ended.0
-
-  pub few_then : IsMachine v.post.machine → frame_of r.entry < 2 ^ 32
-  few_then m = let few = m.few_frames in let inside = ended.0 in omega arith
-
   pub may_read_new : WalkReady v → MayRead (frame_of r.entry) u.holdings
   may_read_new a =
       record {

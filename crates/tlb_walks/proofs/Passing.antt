@@ -99,9 +99,6 @@ module _ (v u : PortValue) (f : Flight) (i x : ℕ) (flying : flown v.holdings.w
   absent : (frames : ℕ) (g : Flight) (t : Translating) → is_bit 0 x ≡ false → seen frames g x t ≡ landed t
   absent frames g t b = rw b refl
 
-  pub ended_absent : is_bit 0 x ≡ false → Turned v u (landed (translating v.holdings))
-  ended_absent b = turned_as v u _ _ (absent v.post.machine.frames (with_entry i x f) (translating v.holdings) b) seen_now
-
 -- ---- the bits are set
 has_bits : (frames : ℕ) (f : Flight) (w x : ℕ) (t : Translating) → is_bit 0 w ≡ true → x ≡ w → (if not (is_bit 0 w) then landed t else if x == w then walk_below frames f w t else record t { flight = Some (record f { touching = true }) }) ≡ walk_below frames f x t
 has_bits frames f w x t b s = let eq : (x == w) ≡ true = equal x w s in rw (b, eq) (ap (λ y. walk_below frames f y t) (sym s))
@@ -157,9 +154,6 @@ off_bit b c e = rw e refl
 both_bits : (b c : Bool) → b ≡ true → c ≡ false → (b && not c) ≡ true
 both_bits b c e f = rw (e, f) refl
 
-pub entry_absent : (v u : PortValue) (table i x y : ℕ) → Moves v u (Cell table i) Load kinds.Fill None x → is_bit 0 x ≡ false → EntryMoves v u table i x y x
-entry_absent v u table i x y m bit = alone (off_bit (is_bit 0 x) (not (y == x)) bit) refl m
-
 pub entry_met : (v u w : PortValue) (table i x y : ℕ) → Moves v u (Cell table i) Load kinds.Fill None x → is_bit 0 x ≡ true → TouchMoves u w table i x y (Ok tt) → EntryMoves v w table i x y x
 entry_met v u w table i x y m bit (stands same stay) = alone (unneeded (is_bit 0 x) x y same) refl (subst (λ q. Moves v q (Cell table i) Load kinds.Fill None x) (sym stay) m)
 entry_met v u w table i x y m bit (set off k) = both u (both_bits (is_bit 0 x) (y == x) bit (not_equal y x off)) m k
@@ -167,9 +161,6 @@ entry_met v u w table i x y m bit (set off k) = both u (both_bits (is_bit 0 x) (
 pub entry_missed : (v u w : PortValue) (table i x y found : ℕ) → Moves v u (Cell table i) Load kinds.Fill None x → is_bit 0 x ≡ true → TouchMoves u w table i x y (Err found) →
     EntryMoves v w table i x y found × (y ≢ x) × (found ≢ x)
 entry_missed v u w table i x y found m bit (lost z off other k) = (both u (both_bits (is_bit 0 x) (y == x) bit (not_equal y x off)) m k, off, other)
-
-pub unmapped_absent : (n : Machine) (x : ℕ) → is_bit 0 x ≡ false → is_unmapped n x ≡ true
-unmapped_absent n x e = rw e refl
 
 pub unmapped_past : (n : Machine) (x : ℕ) → n.frames ≤ frame_of x → is_unmapped n x ≡ true
 unmapped_past n x past = by (is_bit 0 x) (let e : nat_lt (frame_of x) n.frames ≡ false = grind (arith, nat_tests) in e)

@@ -38,10 +38,6 @@ knows_on v w (Some stamp) came knows = subst (λ (q : Post). HadClock q.machine 
 pub step_warm : (v w : PortValue) (p : Place) (a : Act) (k : StepKind) (mark : Option Mark) (found : ℕ) → Moves v w p a k mark found → w.holdings.ran ≡ v.holdings.ran → IsWarm v → IsWarm w
 step_warm v w p a k mark found moves ran warm = came_warm v w (moves_came v w p a k mark found moves) ran warm
 
-pub flush_warm : (v w : PortValue) (answer : Result (Unit {0}) Refusal) → FlushesOwn v w answer → MatchResult answer (λ done. FlushedSame v w) (λ r. Same v w) → IsWarm v → IsWarm w
-flush_warm v w (Ok done) flushes hand warm = came_warm v w (own_came v w (Ok done) flushes) (ap (λ (y : PortValue). y.holdings.ran) hand) warm
-flush_warm v w (Err r) flushes hand warm = came_warm v w (own_came v w (Err r) flushes) (ap (λ (y : PortValue). y.holdings.ran) hand) warm
-
 -- ---- what is settled
 pub settled_came : (v w : PortValue) (answer : Result (Unit {0}) Stop) → ((owner pages : ℕ) → Serves v w (of_settle owner pages answer) (misses v.post.machine answer)) → Came v w
 settled_came v w answer serves = serves_came v w (of_settle 0 0 answer) (misses v.post.machine answer) (serves 0 0)
