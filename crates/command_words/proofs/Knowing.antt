@@ -47,6 +47,18 @@ names_itself Replay = refl
 asks : (m : Manner) (rest : List (List ℕ)) (n : ℕ) → pace_after rest ≡ Some n → words_ask (name_of m ∷ rest) ≡ Some (record { manner = m; pace = n })
 asks m rest n e = rw (names_itself m, e) refl
 
+known_apart : (m : Manner) (p : List ℕ) → is_some (pace_in p) ≡ true → Known (name_of m ∷ codes "--preempt" ∷ p ∷ [])
+known_apart m [] e = absurd (no_word e)
+known_apart m (c ∷ cs) e =
+    let s = spelled c cs e in record {
+      manner = m;
+      text = c ∷ cs;
+      reads = apart c cs s.no_minus s.no_plus s.some s.digits s.least s.most s.fits m;
+      digits = (omega arith, s.all);
+      small = leb-true _ _ s.most;
+      is = asks m (codes "--preempt" ∷ (c ∷ cs) ∷ []) _ s.is;
+    }
+
 known_joined : (m : Manner) (p : List ℕ) → is_some (pace_in p) ≡ true → Known (name_of m ∷ (codes "--preempt=" ++ p) ∷ [])
 known_joined m [] e = absurd (no_word e)
 known_joined m (c ∷ cs) e =

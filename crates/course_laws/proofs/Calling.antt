@@ -230,6 +230,9 @@ module _ (n : Machine) (owner : ℕ) (m : Words) (t : TableWork) (rs : List Tabl
         described_same n (put t.frame (got t.frame m)) (reference_back t.frame one) (lent x q) (record { shares = λ g. back_by (g == t.frame) g refl; kinds = λ g. refl; cells = λ g i. refl })
         (same_back n (got t.frame m) one t.frame (record { owner = lends.share.owner; allocated = lends.share.allocated; count = lends.share.count + 1 + x t.frame }) got_it of_t.inside one_here)
 
+    pub outer_stopped : (e : Stop) → type_stop t.frame (level_type t.level) (got t.frame m (Kind t.frame)) ≡ Some e → ⊥
+    outer_stopped e stop = not_stopped n (got t.frame m) m one t.frame t.level true t.done got_it of_t.inside of_t.low partial_one e stop
+
     pub outer_counted : IsTakenBy (level_type t.level) (kind_at (got t.frame m) t.frame) (standing_of (kind_at (got t.frame m) t.frame) (level_type t.level)) types.Counted → ⊥
     outer_counted way = not_counted n (got t.frame m) m one t.frame t.level true t.done got_it of_t.inside of_t.low partial_one way
 

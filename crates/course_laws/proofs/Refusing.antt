@@ -53,6 +53,10 @@ pub roomy : (whole : Bool) (y : Refusal) → IsForWords whole y → IsRoomy y �
 roomy whole (refusals.CountFull f w) is = inr is
 roomy whole _ is = inl tt
 
+cause_full : (y : Refusal) (g : ℕ) (s : Share) → IsCause y (CountFull g s) → IsRoomy y → ⊥
+cause_full (refusals.CountFull f w) g s is room = room
+cause_full _ g s is room = is
+
 refer_full : (n : Machine) (owner g : ℕ) (p : Plain) (s : Share) → p.shares g ≡ Some s → (s.owner == owner) ≡ true → g < n.frames → nat_le n.limit s.count ≡ true → take_reference n owner g p ≡ refused (CountFull g s) p
 refer_full n owner g p s was own inside full =
     let here : nat_lt g n.frames ≡ true = grind (arith, nat_tests) in

@@ -82,6 +82,12 @@ module _ (v w : PortValue) (rs : List Reference) (ys : List TypedReference) (ls 
   pub works_are : v.holdings.works ≡ [] → w.holdings.works ≡ []
   works_are idle = ap (λ (q : PortValue). q.holdings.works) stands ∙ idle
 
+  pub looking_are : v.holdings.looking ≡ [] → w.holdings.looking ≡ []
+  looking_are idle = ap (λ (q : PortValue). q.holdings.looking) stands ∙ idle
+
+  pub claimed_are : v.holdings.claimed ≡ [] → w.holdings.claimed ≡ []
+  claimed_are idle = ap (λ (q : PortValue). q.holdings.claimed) stands ∙ idle
+
   -- ---- given back
   nothing_left : (x : PortValue) (c : Option ℕ) → Holds w x (record w.holdings { old0 = c }) → rs ≡ [] → ys ≡ [] → Stands v x [] [] ls c b
   nothing_left x c leaves none no_typed =
@@ -179,10 +185,20 @@ module _ (v y z : PortValue) (f i : ℕ) (e : Lock) (d : Demand) (owner : ℕ) (
       steps_out (λ n (q : PortValue). learned_port f i new (record q { holdings = record q.holdings { refs = record { frame = g; owner = owners.Since n } ∷ q.holdings.refs } })) d
       ∙ ap (λ (q : PortValue). learned_port f i new (record q { holdings = record q.holdings { refs = record { frame = g; owner = owners.Since (length y.holdings.steps) } ∷ q.holdings.refs } })) out_stands
     where
+      steps_out : (k : ℕ → PortValue → PortValue) (x : Demand) → k (length (demand_out x y.holdings).steps) (record y { holdings = demand_out x y.holdings }) ≡ k (length y.holdings.steps) (record y { holdings = demand_out x y.holdings })
+      steps_out k Nothing = refl
+      steps_out k Bad = refl
+      steps_out k (Read h) = refl
+      steps_out k (Typed h t) = refl
   in_stands new (Typed g t) =
       steps_out (λ n (q : PortValue). learned_port f i new (record q { holdings = record q.holdings { typed = live_typed g t (owners.Since n) ∷ q.holdings.typed } })) d
       ∙ ap (λ (q : PortValue). learned_port f i new (record q { holdings = record q.holdings { typed = live_typed g t (owners.Since (length y.holdings.steps)) ∷ q.holdings.typed } })) out_stands
     where
+      steps_out : (k : ℕ → PortValue → PortValue) (x : Demand) → k (length (demand_out x y.holdings).steps) (record y { holdings = demand_out x y.holdings }) ≡ k (length y.holdings.steps) (record y { holdings = demand_out x y.holdings })
+      steps_out k Nothing = refl
+      steps_out k Bad = refl
+      steps_out k (Read h) = refl
+      steps_out k (Typed h u) = refl
 
   pub changed_stands : (new old : ℕ) → keeps_demand e i new ≡ false → demand_at e.kind i new ≡ d → Holds y z (entry_set f i new old y.holdings) →
       Stands v z (refs_from (demand_at e.kind i old) (length y.holdings.steps)) (typed_from (demand_at e.kind i old) (length y.holdings.steps)) (learned_lock i new e ∷ []) a b

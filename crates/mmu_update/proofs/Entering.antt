@@ -35,6 +35,10 @@ use Rattle.mmu_update.proofs.Asking.{names_frame, within_exchange}
 use Rattle.mmu_update.proofs.Serving.{asks}
 
 -- ---- exchanged
+deeds_so : (n : Machine) (f level i word : ℕ) (keep : Bool) (answer : Result (Unit {0}) Stop) (ds : List Deed) → HasExchangeDeeds n (entry_update f level i word keep) answer ds →
+    HasUpdateDeeds n (Write f i word keep) answer ds
+deeds_so n f level i word keep _ _ (exchanges.stored seen old) = entered f i word seen old keep
+deeds_so n f level i word keep _ _ (exchanges.stopped e hidden is) = stopped f i word keep e hidden is
 
 module _ (o : Owners) (f level i word : ℕ) (keep : Bool) (answer : Result (Unit {0}) Stop) (b y w : PortValue) (before : Serves b y (asks o f i word keep answer) []) where
   came_y : Came b y

@@ -90,6 +90,11 @@ module _ (b u : PortValue) (f i : ℕ) (t : PageType) (word : ℕ) (l : LooksAga
   some_same : (e x : Work) → Some e ≡ Some x → e ≡ x
   some_same e x is = cc
 
+  pub settled_now : (x : PortValue) → x.holdings.works ≡ u.holdings.works → ((n : ℕ) → n ≤ length b.holdings.steps → IsTrue (settles (sizes_of x.post.machine) n x.holdings.steps (demand_at t i word))) → IsSettledNow x f
+  settled_now x works since e here =
+      subst (λ y. IsTrue (is_settled (sizes_of x.post.machine) x.holdings y)) (some_same (learned_work i word l.works.top) e (sym here_again ∙ ap (λ ws. work_on f ws) (sym works) ∙ here))
+      (settled_top (sizes_of x.post.machine) x.holdings since)
+
 -- ---- the frame that it asks was found live
 found_live : (u v : PortValue) (g : ℕ) (live : Bool) → LooksLive u v g live → live ≡ true → (n : ℕ) → n ≤ length u.holdings.steps → IsTrue (some_since (sizes_of u.post.machine) n (Kind g) is_live_word v.holdings.steps)
 unfolding left_by

@@ -59,6 +59,10 @@ settles_awaits : (d : ℕ) (e : Element) (awaited : Option ℕ) (v w : PortValue
 settles_awaits d e awaited v _ _ _ (working.SettlesFirst.unsettled w answers stop s) = knows_none w (awaited_by e (Err stop)) (release_waits_for_none e stop s.kinds)
 settles_awaits d e awaited v _ _ _ (working.SettlesFirst.performed u w early answers answer s p) = p.awaits
 
+fits_awaits : (d : ℕ) (awaited : Option ℕ) (x : Option ExtOp) (v w : PortValue) (answers : List Bool) (p : Pause) → FitsExt d awaited x v w answers (Err (Paused p)) → KnowsAwaited w (awaited_at x p)
+fits_awaits d awaited None v w answers p fit = absurd fit
+fits_awaits d awaited (Some op) v w answers p fit = settles_awaits d (ext_element op) awaited v w answers (Err (Paused p)) fit
+
 -- ---- lists of them
 module _ (d : ℕ) (list : List ExtOp) (from : ℕ) (awaited : Option ℕ) (count : ℕ) (v : PortValue) (p : Pause) where
   on_awaits : (to : ℕ) (w : PortValue) (answers : List Bool) (answer : Result (Unit {0}) Stop) → answer ≡ Err (Paused p) → WorksOn (ExtFits d list from awaited) count from v to w answers answer → KnowsAwaited w (awaited_at (slice_get list to) p)

@@ -30,6 +30,24 @@ module _ (fits : Fitting) (count from : ℕ) (v : PortValue) (quiet : AsksNothin
           let sum = yeses_then early answers in
           says_no says before (answers ++ early) gives (omega (arith, first, later, sum)) j some (omega (arith, below, number, all)) (omega (arith, most))
 
+  -- the list ends no later than behind the item at which the gate says yes, whatever it was asked before, if it said no
+  pub never_past : (early : List Bool) → yeses early ≡ 0 → (to : ℕ) (w : PortValue) (answers : List Bool) (answer : Result (Unit {0}) Stop) → WorksOn fits count from v to w answers answer →
+      GivesAnswers says before (answers ++ early) → (j : ℕ) → 0 < j → before + j < last_ask → says (before + j) ≡ true → to ≤ from + j
+  unfolding GivesAnswers
+  never_past early first _ _ _ _ (all_done at) gives j some most is_yes = omega arith
+  never_past early first _ _ _ _ (last_done k u w answers asked d f at) gives j some most is_yes =
+      let fewer : GivesAnswers says before (answers ++ early) = subst (λ (xs : List Bool). GivesAnswers says before ((xs ++ answers) ++ early)) (quiet k u w asked (Ok tt) f) gives in
+      let less = did_says early first k u answers d fewer j some most is_yes in
+      omega (arith, less)
+  never_past early first _ _ _ _ (due k u w answers asked d f within) gives j some most is_yes =
+      let fewer : GivesAnswers says before (answers ++ early) = subst (λ (xs : List Bool). GivesAnswers says before ((xs ++ answers) ++ early)) (quiet k u w asked (Ok tt) f) gives.1 in
+      let less = did_says early first k u answers d fewer j some most is_yes in
+      omega (arith, less)
+  never_past early first _ _ _ _ (stopped k u w answers asked e d f within) gives j some most is_yes =
+      let fewer : GivesAnswers says before (answers ++ early) = subst (λ (xs : List Bool). GivesAnswers says before ((xs ++ answers) ++ early)) (quiet k u w asked (Err e) f) gives in
+      let less = did_says early first k u answers d fewer j some most is_yes in
+      omega (arith, less)
+
   pub never_past_a_yes : (to : ℕ) (w : PortValue) (answers : List Bool) (answer : Result (Unit {0}) Stop) → WorksOn fits count from v to w answers answer →
       GivesAnswers says before answers → (j : ℕ) → 0 < j → before + j < last_ask → says (before + j) ≡ true → to ≤ from + j
   unfolding yeses
