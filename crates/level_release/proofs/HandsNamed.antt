@@ -15,8 +15,6 @@ use Rattle.level_release.proofs.Hands.{tables_none}
 use Rattle.level_release.proofs.HandsLeft.{LeftHand}
 use Rattle.level_release.proofs.HandsTop.{top}
 
-module _ (h : Holdings) (v : PortValue) (t : TableWork) (ts : List TableWork) (s : Empties h v (t ∷ ts)) (d : PortValue) (k : LeftHand h v d t ts (top h v t ts s).others) where
-
 module _ (h : Holdings) (v : PortValue) (t : TableWork) (s : Empties h v (t ∷ [])) (d : PortValue) (k : LeftHand h v d t [] (top h v t [] s).others) where
   pub named_stands : (x : PortValue) → Holds d x (kept_in_old First t.frame d.holdings) → HoldsNow x (named_hand t.frame h)
   named_stands x put =

@@ -144,8 +144,6 @@ module _ (v w : PortValue) (owner : ℕ) (t : TableWork) (ts : List TableWork) (
     top_kept = left_gone ∙ ap (λ xs. record w.holdings { typed = without_typed t.frame w.holdings.typed; works = without_work t.frame w.holdings.works; looking = xs }) (sym top_looking)
 
 -- ---- after the store
-module _ (w d : PortValue) (f : ℕ) (hand : Holds w d (left_so f w.holdings)) where
-
 -- ---- what a test says
 pub not_so : (b : Bool) → not b ≡ true → b ≡ false
 not_so true e = absurd cc

@@ -154,8 +154,6 @@ serves_on u w x owner kept ts us [] same came goes left = subst (λ f. ServesLef
 serves_on u w x owner kept ts us (r ∷ rs) same came goes left = goes_then u w x owner ts us (r ∷ rs) [] [] goes left
 
 module _ (u w : PortValue) (owner : ℕ) (kept : Bool) (ts : List TableWork) (t : TableWork) (us : List TableWork) (g : Unwinding u w owner kept ts (t ∷ us)) where
-  module _ (a : IsStanding u owner ts) where
-
   pub unwinding_on : (x : PortValue) (rs : List TableWork) → Came w x → Forward w x → ((o : TableWork) → outermost_work (t ∷ us) ≡ Some o → LeftWell w x kept o.frame) → (b : Bool) × (rs ≡ around_lent b us) →
       UnwindsTo w x owner kept (t ∷ us) rs → ServesTo w x owner kept (t ∷ us) rs → UnwindsOn w x owner kept (t ∷ us) rs → Unwinding u x owner kept ts rs
   unwinding_on x rs came forward leaves around hand serves course =
