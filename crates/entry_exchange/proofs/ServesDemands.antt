@@ -194,8 +194,8 @@ module _ (v w : PortValue) (f owner pages : ℕ) where
           record {
             hidden = a.hidden;
             may = unacquired_hides e a.hidden a.may;
-            serves = serves_within v w (of_acquire {A = ℕ} v f owner (level - 1) pages (Err e)) (of_demand (Typed f t) owner pages (is_due_stop e)) (a.hidden ++ missed v.post.machine e) (acquiring (Err e) (is_due_stop e) (due_same e)) a.serves;
+            serves = serves_within v w (of_acquire {A = ℕ} v f owner (level - 1) pages (Err e)) (of_demand (Typed f t) owner pages (is_due_stop e)) (a.hidden ++ missed v.post.machine e) (acquiring (Err e) (is_due_stop e) (λ on. on)) a.serves;
           }
 
       pub unacquired_stops : (e : Stop) → Stops v w (of_acquire {A = ℕ} v f owner (level - 1) pages (Err e)) e → Stops v w (of_demand (Typed f t) owner pages (is_due_stop e)) e
-      unacquired_stops e a = stops_within v w (of_acquire {A = ℕ} v f owner (level - 1) pages (Err e)) (of_demand (Typed f t) owner pages (is_due_stop e)) e (acquiring (Err e) (is_due_stop e) (due_same e)) a
+      unacquired_stops e a = stops_within v w (of_acquire {A = ℕ} v f owner (level - 1) pages (Err e)) (of_demand (Typed f t) owner pages (is_due_stop e)) e (acquiring (Err e) (is_due_stop e) (λ on. on)) a

@@ -143,7 +143,6 @@ module _ (v w : PortValue) (owner : ℕ) (t : TableWork) (ts : List TableWork) (
     pub top_kept : left_kept w t.frame k ≡ record w.holdings { typed = without_typed t.frame w.holdings.typed; works = without_work t.frame w.holdings.works }
     top_kept = left_gone ∙ ap (λ xs. record w.holdings { typed = without_typed t.frame w.holdings.typed; works = without_work t.frame w.holdings.works; looking = xs }) (sym top_looking)
 
--- ---- after the store
 -- ---- what a test says
 pub not_so : (b : Bool) → not b ≡ true → b ≡ false
 not_so true e = absurd cc
