@@ -31,7 +31,7 @@ use Rattle.foreign_map.specs.declared.owners.Owners.{Owners}
 use Rattle.foreign_map.proofs.Looking.{IsLook, is_word}
 use Rattle.foreign_map.proofs.Naming.{owners_look}
 use Rattle.mmu_update.specs.Exchanges as exchanging
-use Rattle.mmu_update.specs.Exchanges.{EntryUpdate, Exchanged, LeftLock, PutEntry, ReleasedDemand, TookDemand, new_demand, old_demand}
+use Rattle.mmu_update.specs.Exchanges.{EntryUpdate, Exchanged, LeftLock, PutEntry, ReleasedDemand, TookDemand, new_demand, old_demand, asks_table}
 use Rattle.entry_locks.specs.declared.locking.Locked.TheVariants.{Table, Other}
 use Rattle.mmu_update.specs.Course as updating
 use Rattle.mmu_update.specs.Course.{TriedLock, Updated, Wrote, entry_update}
@@ -39,7 +39,7 @@ use Rattle.mmu_update.specs.Elements.{element_of}
 use Rattle.mmu_update.specs.declared.element.Element.{Element}
 use Rattle.mmu_update.specs.declared.element.Element.TheVariants.{SetM2p, Write, Misaligned, Unknown}
 use Rattle.vcpu_turn.proofs.Between.{not_both}
-use Rattle.vcpu_turn.specs.Asking.{AsksNothingWithin, ExchangesEntry, IsLast, MovesATable, MovesNoTable, MovesTable, Tried, asks_within, did_in, asks_table, elements_tried, tried, tried_going, tried_in, tried_of, tried_owned}
+use Rattle.vcpu_turn.specs.Asking.{AsksNothingWithin, ExchangesEntry, IsLast, MovesATable, MovesNoTable, MovesTable, Tried, asks_within, did_in, elements_tried, tried, tried_going, tried_in, tried_of, tried_owned}
 use Rattle.vcpu_turn.specs.Cpus.{OfExt, OfPairs, OfRead, OfWrite, Task, Processing, task_of}
 use Rattle.vcpu_turn.specs.Lists as lists
 use Rattle.vcpu_turn.specs.Lists.{DidItems, WorksOn}
@@ -92,13 +92,13 @@ took_silent owner level v _ _ _ _ off (exchanging.TookDemand.referred w g got) =
 took_silent owner level v _ _ _ _ off (exchanging.TookDemand.unreferred w g stop got) = (refl, λ ok. absurd (cc))
 took_silent owner level v _ _ _ _ off (exchanging.TookDemand.paged w g one_level got) = (refl, λ ok clear. got_clear v w g owner (Ok g) refl got clear)
 took_silent owner level v _ _ _ _ off (exchanging.TookDemand.unpaged w g stop one_level got) = (refl, λ ok. absurd (cc))
-took_silent owner level v _ _ _ _ off (exchanging.TookDemand.acquired w g answers above acquired) = absurd (both _ (level_type-table (level - 1) (omega (arith, above))) off)
-took_silent owner level v _ _ _ _ off (exchanging.TookDemand.refused w g answers stop above acquired) = absurd (both _ (level_type-table (level - 1) (omega (arith, above))) off)
+took_silent owner level v _ _ _ _ off (exchanging.TookDemand.acquired w g answers above acquired) = absurd (not_both _ (level_type-table (level - 1) (omega (arith, above))) off)
+took_silent owner level v _ _ _ _ off (exchanging.TookDemand.refused w g answers stop above acquired) = absurd (not_both _ (level_type-table (level - 1) (omega (arith, above))) off)
 
 was_silent : (v w : PortValue) (f : ℕ) (kind : PageType) (answers : List Bool) (answer : Result (Unit {0}) Stop) → is_table kind ≡ false → WasReleased v f kind w answers answer → (answers ≡ []) × (IsClear v → IsClear w)
 was_silent v _ f kind _ _ off (releasing.WasReleased.plain w ordinary gave) = (refl, λ clear. clear_on v w (keeps_does v w _ (drops f kind) gave.found) clear)
-was_silent v _ f kind _ _ off (releasing.WasReleased.shared u w table dropped gave) = absurd (both _ table off)
-was_silent v _ f kind _ _ off (releasing.WasReleased.last u x w word level answers answer table at high dropped looks emptied) = absurd (both _ table off)
+was_silent v _ f kind _ _ off (releasing.WasReleased.shared u w table dropped gave) = absurd (not_both _ table off)
+was_silent v _ f kind _ _ off (releasing.WasReleased.last u x w word level answers answer table at high dropped looks emptied) = absurd (not_both _ table off)
 
 released_silent : (v : PortValue) (d : Demand) (w : PortValue) (more : List Bool) → asks_table d ≡ false → ReleasedDemand v d w more → (more ≡ []) × (IsClear v → IsClear w)
 released_silent v _ _ _ off exchanging.ReleasedDemand.nothing = (refl, λ clear. clear)

@@ -2,4 +2,4 @@ use Rattle.vcpu_turn.proofs.Retiring.{retired_at_end}
 use Rattle.vcpu_turn.proofs.laws.a_turn_retires_only_at_the_scripts_end.Goals as goal
 
 pub returns : goal.returns
-returns g c d e v w answers turn = retired_at_end d e v w answers turn
+returns c = retired_at_end
