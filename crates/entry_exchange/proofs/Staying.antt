@@ -1,13 +1,12 @@
 -- What stays behind steps that change the references in hand alone: that the vCPU may work, the machine, and who may map whose frames.
-use Rattle.std.proofs.Common.{◌≡◌, ◌⊎◌, ◌<◌, length, IsTrue, sym, ap, ◌∙◌, subst, inl, inr}
-use Rattle.xp_words.specs.Machine.{IsMachine}
+use Rattle.std.proofs.Common.{◌≡◌, ◌⊎◌, ◌<◌, length, IsTrue, sym, ap, subst, inl, inr}
 use Rattle.xp_words.specs.Places.{sizes_of}
 use Rattle.xp_words.specs.declared.place.Place.TheVariants.{Priv}
 use Rattle.xp_board.specs.declared.holdings.Holdings.{Holdings}
 use Rattle.xp_board.specs.Readings.{has_now}
 use Rattle.xp_board.specs.Steps.{some_since}
 use Rattle.xp_board.specs.Told.{Post, PortValue}
-use Rattle.step_maker.specs.Holds.{FlushedHolds, Holds, MayWork, quiet}
+use Rattle.step_maker.specs.Holds.{FlushedHolds, Holds, quiet}
 use Rattle.step_maker.specs.Moves.{Came}
 use Rattle.step_maker.proofs.Coming.{came_post}
 use Rattle.flush_words.proofs.Lasting.{came_keeps}

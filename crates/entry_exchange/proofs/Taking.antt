@@ -16,7 +16,6 @@ use Rattle.step_maker.specs.Holds.{FlushedHolds}
 use Rattle.frame_words.specs.Refs.{IsRefStop}
 use Rattle.level_release.specs.Asking.{is_due_answer, is_due_stop}
 use Rattle.xp_preempt.proofs.Consulting.{consulted_none, not_due}
-use Rattle.level_validate.specs.Acquiring as acquires
 use Rattle.level_validate.specs.Acquiring.{AcquiresBy, IsAcquireStop, LeavesAcquired}
 use Rattle.partial_state.specs.Levels.{level_type}
 use Rattle.partial_state.proofs.LevelFacts.{level_type-under}

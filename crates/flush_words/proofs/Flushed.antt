@@ -1,12 +1,10 @@
 -- The own flush that was made: what its steps found and left.
-use Rattle.std.proofs.Common.{◌≡◌, ◌≢◌, ℕ, ◌+◌, ◌<◌, ◌≤◌, ◌&&◌, ◌||◌, ◌==◌, nat_le, nat_lt, Bool, true, false, List, [], ◌∷◌, length, Option, Some, None, Ok, Err, Result, IsTrue, refl, sym, ap, ◌∙◌, subst, inl, inr, arith}
-use Rattle.std.proofs.lemmas.Bool.{and_parts, not-true}
-use Rattle.xp_words.specs.Machine.{Machine}
-use Rattle.xp_words.specs.declared.place.Place.{Place}
-use Rattle.xp_words.specs.declared.place.Place.TheVariants.{Clock, Refs, Kind}
+use Rattle.std.proofs.Common.{◌≡◌, ◌≢◌, ℕ, ◌+◌, ◌<◌, ◌≤◌, ◌&&◌, ◌==◌, nat_le, nat_lt, Bool, true, List, [], ◌∷◌, length, Some, None, Ok, Err, Result, IsTrue, refl, sym, ap, ◌∙◌, subst, inl, inr, arith}
+use Rattle.std.proofs.lemmas.Bool.{and_parts}
+use Rattle.xp_words.specs.declared.place.Place.TheVariants.{Clock, Kind}
 use Rattle.xp_words.specs.declared.reply.Refusal.{Refusal}
 use Rattle.xp_words.specs.KindWords.{kind_fields}
-use Rattle.xp_words.specs.Places.{Sizes, sizes_of, place_at, flushed_of}
+use Rattle.xp_words.specs.Places.{sizes_of, place_at, flushed_of}
 use Rattle.xp_board.specs.declared.step.Act.TheVariants.{Load, Cas, Store}
 use Rattle.xp_board.specs.declared.step.StepKind.TheVariants as kinds
 use Rattle.xp_board.specs.declared.holdings.Made.{Made}
@@ -18,26 +16,23 @@ use Rattle.xp_board.specs.Lists.{EachOf}
 use Rattle.xp_board.specs.Readings.{last_clock, clock_value, kind_stamp}
 use Rattle.xp_board.specs.Steps.{is_at, left_of, some_step, some_since}
 use Rattle.xp_board.specs.Told.{Post, PortValue}
-use Rattle.board_lemmas.proofs.Sums.{when_eq}
 use Rattle.board_lemmas.proofs.KindForms.{marked_unlive}
 use Rattle.board_lemmas.proofs.KindReadings.{stamp_of}
-use Rattle.board_lemmas.proofs.PlaceTests.{same_place, is_same-by, equal_by}
+use Rattle.board_lemmas.proofs.PlaceTests.{same_place, equal_by}
 use Rattle.board_lemmas.proofs.StepLists.{head_or_tail}
 use Rattle.board_lemmas.proofs.WorkFacts.{works_facts}
 use Rattle.board_lemmas.proofs.HandLists.{EachOf-map}
-use Rattle.xp_words.proofs.PlaceLaws.{place_back}
-use Rattle.step_maker.specs.Moves.{Moves, Moment, Came, Met}
-use Rattle.step_maker.proofs.Coming.{came_trans, came_self, came_post, moves_came, moves_by, moment_of, met_after}
-use Rattle.step_maker.proofs.Noting.{moves_steps, moves_since}
+use Rattle.step_maker.specs.Moves.{Moves, Came, Met}
+use Rattle.step_maker.proofs.Coming.{came_trans, came_self, came_post, moves_came, moves_by, moment_of}
+use Rattle.step_maker.proofs.Noting.{moves_since}
 use Rattle.answer_fits.specs.Visits.{Visit, visit, Does, Only, Then}
 use Rattle.answer_fits.proofs.Visiting.{does_as, does_one, does_then}
-use Rattle.answer_fits.specs.Finding.{FoundAt, FoundWith, Did}
-use Rattle.answer_fits.specs.Asked.{Request}
+use Rattle.answer_fits.specs.Finding.{Did}
 use Rattle.answer_fits.specs.Reasons.{HadClock, Whose}
 use Rattle.answer_fits.specs.Pauses.{Clear, own}
 use Rattle.xp_words.specs.declared.reply.Refusal.TheVariants as refusals
 use Rattle.flush_words.specs.Flushing.{FlushedBy, FlushesOwn, none, once, spent, ticked, overtaken}
-use Rattle.flush_words.proofs.Lasting.{came_keeps, came_longer}
+use Rattle.flush_words.proofs.Lasting.{came_longer}
 use Rattle.flush_words.proofs.OwnFlush.{all_below, clock_less, less_is, to_next, to_found}
 
 -- v loads the clock, `loaded` exchanges it, and `exchanged` stores what the clock was then

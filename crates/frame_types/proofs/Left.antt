@@ -16,7 +16,7 @@ use Rattle.xp_board.specs.declared.step.StepKind.TheVariants as kinds
 use Rattle.xp_board.specs.Acts.{left_by}
 use Rattle.xp_board.specs.Hands.{refs_to, typed_owner, typed_to, without_ref, without_typed, without_work, work_on}
 use Rattle.xp_board.specs.Knowledge.{knows_partial}
-use Rattle.xp_board.specs.Readings.{domain_of, is_partial_as}
+use Rattle.xp_board.specs.Readings.{is_partial_as}
 use Rattle.xp_board.specs.Told.{Finds, PortValue}
 use Rattle.xp_board.proofs.Returned.{same_type}
 use Rattle.board_lemmas.proofs.ListCounts.{newest_held}
@@ -27,7 +27,7 @@ use Rattle.frame_words.specs.Refs.{MayPut}
 use Rattle.kind_words.specs.Kinds.{MayLeave, dead_kind, left, partial_kind}
 use Rattle.kind_words.proofs.KindFacts.{clock_is_small, out_of_works}
 use Rattle.kind_words.proofs.KindHands.{apart_spares, clock_since, typed_held, work_here}
-use Rattle.kind_words.proofs.Leaving.{left_dead, left_kept, left_partial, may_keep, may_leave_dead, may_leave_marked, without_newest}
+use Rattle.kind_words.proofs.Leaving.{left_dead, left_partial, may_keep, may_leave_dead, may_leave_marked, without_newest}
 use Rattle.kind_words.proofs.KindWriting.{fields_write}
 use Rattle.kind_words.proofs.Knowing.{partial_by_step}
 use Rattle.frame_types.specs.Leaving.{StaysTyped, WaitsFrom, unsettled_typed}

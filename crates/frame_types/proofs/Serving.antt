@@ -15,13 +15,13 @@ use Rattle.xp_board.specs.declared.holdings.Work.{Work}
 use Rattle.xp_board.specs.Hands.{work_on}
 use Rattle.xp_board.specs.Readings.{is_dead, is_free, is_work}
 use Rattle.xp_board.specs.Told.{PortValue, is_telling, told_word}
-use Rattle.step_maker.specs.Moves.{Came, Met, Moves}
+use Rattle.step_maker.specs.Moves.{Met, Moves}
 use Rattle.step_maker.specs.Plain.{Leaves, Words}
 use Rattle.step_maker.proofs.Telling.{leaves, load_tells, moves_telling, told_there}
 use Rattle.answer_fits.specs.Answers.{Deed, Serves}
 use Rattle.answer_fits.specs.Asked.{of_back, of_frame}
 use Rattle.answer_fits.proofs.Later.{IsUncounted}
-use Rattle.answer_fits.proofs.Piecing.{serves_back, serves_came, serves_nothing, serves_step}
+use Rattle.answer_fits.proofs.Piecing.{serves_back, serves_step}
 use Rattle.answer_fits.proofs.Keeping.{kept_type}
 use Rattle.frame_words.proofs.Taking.{names_itself}
 use Rattle.frame_words.proofs.Twinning.{low_rest}
@@ -29,7 +29,6 @@ use Rattle.frame_words.specs.Plain.{put, stamp_now}
 use Rattle.kind_words.specs.Kinds.{dead_kind}
 use Rattle.kind_words.proofs.KindFacts.{clock_is_small, work_word}
 use Rattle.kind_words.proofs.KindWriting.{fields_write}
-use Rattle.frame_types.specs.Leaving.{ServesType}
 use Rattle.frame_types.specs.Taking.{IsTypeStop}
 use Rattle.frame_types.specs.Plain.{set_kind}
 

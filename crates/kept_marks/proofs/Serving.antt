@@ -12,7 +12,6 @@ use Rattle.xp_board.specs.KindSteps.{AllowsForm, MayMakePartial}
 use Rattle.xp_board.specs.Readings.{is_dead, is_partial}
 use Rattle.xp_board.specs.Sound.{is_busy}
 use Rattle.xp_board.specs.Told.{Post, PortValue}
-use Rattle.xp_board.proofs.Returned.{same_type}
 use Rattle.board_lemmas.proofs.Sums.{when_eq, when_ne}
 use Rattle.board_lemmas.proofs.WorkFacts.{works_facts}
 use Rattle.step_maker.specs.Moves.{Came, Met, Moves}

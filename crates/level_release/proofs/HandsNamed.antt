@@ -1,14 +1,13 @@
 -- The outermost table was left partial: it is named in the first old word.
-use Rattle.std.proofs.Common.{◌≡◌, ◌+◌, ◌<◌, List, [], ◌∷◌, length, Some, None, refl, sym, ap, ◌∙◌, subst}
-use Rattle.xp_words.specs.Machine.{IsMachine}
+use Rattle.std.proofs.Common.{◌+◌, [], ◌∷◌, length, Some, None, refl, sym, ap, ◌∙◌}
 use Rattle.xp_words.specs.Places.{sizes_of}
 use Rattle.xp_board.specs.Told.{Post, PortValue}
 use Rattle.xp_board.specs.declared.holdings.Holdings.{Holdings}
 use Rattle.xp_board.specs.declared.holdings.TypedReference.{TypedReference}
-use Rattle.step_maker.specs.Holds.{Holds, MayWork, still}
+use Rattle.step_maker.specs.Holds.{Holds, still}
 use Rattle.kind_words.proofs.Leaving.{without_newest}
 use Rattle.partial_state.specs.declared.stack.TableWork.{TableWork}
-use Rattle.table_words.specs.OldWords.{kept_in_old, known_old}
+use Rattle.table_words.specs.OldWords.{kept_in_old}
 use Rattle.table_words.specs.declared.old_words.OldWord.TheVariants.{First}
 use Rattle.level_release.specs.Holding.{Empties, HoldsNow, named_hand}
 use Rattle.level_release.proofs.Hands.{tables_none}

@@ -1,5 +1,5 @@
 -- Tables are emptied until none is left: from u on, of the tables ts, these are left to empty.
-use Rattle.std.proofs.Common.{◌≡◌, ◌≢◌, Bool, true, false, List, [], ◌∷◌, Some, IsTrue, refl, sym, ap, ◌∙◌, subst}
+use Rattle.std.proofs.Common.{◌≡◌, ◌≢◌, Bool, false, List, [], ◌∷◌, Some, IsTrue, refl, sym, ap, ◌∙◌, subst}
 use Rattle.xp_board.specs.Told.{PortValue}
 use Rattle.xp_board.specs.declared.holdings.Holdings.{Holdings}
 use Rattle.step_maker.specs.Holds.{MayWork}
@@ -8,7 +8,6 @@ use Rattle.step_maker.proofs.Coming.{came_post, came_self, came_trans}
 use Rattle.partial_state.specs.declared.stack.TableWork.{TableWork}
 use Rattle.table_words.specs.OldWords.{known_old}
 use Rattle.table_words.specs.declared.old_words.OldWord.TheVariants.{First}
-use Rattle.level_release.specs.Course.{is_asked_down}
 use Rattle.level_release.specs.Holding.{Empties, HoldsNow, IsReleasing, LeavesNamed, StaysEmptying, named_hand, outermost_frame}
 use Rattle.level_release.proofs.Hands.{hands_may, hands_none, hands_old}
 
@@ -21,7 +20,6 @@ pub running_begins : (u : PortValue) (ts : List TableWork) → RunningDown u u t
 running_begins u ts = record { came = came_self u; stands = λ h s. s; outer = λ some. refl }
 
 module _ (u w : PortValue) (ts us : List TableWork) (g : RunningDown u w ts us) where
-
   pub running_may : IsReleasing u ts → MayWork u → MayWork w
   running_may a may = hands_may a.0 u w ts us a.1 (g.stands a.0 a.1) (came_post u w g.came) may
 

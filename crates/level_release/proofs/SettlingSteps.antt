@@ -14,7 +14,6 @@ use Rattle.xp_board.specs.Told.{Post, PortValue}
 use Rattle.xp_board.specs.declared.step.Act.TheVariants.{Cas, Load, Store}
 use Rattle.xp_board.specs.declared.step.StepKind.TheVariants as kinds
 use Rattle.board_lemmas.proofs.KindForms.{fields_of}
-use Rattle.board_lemmas.proofs.KindReadings.{partial_parts}
 use Rattle.step_maker.specs.Moves.{Moves}
 use Rattle.step_maker.proofs.Coming.{came_post, moves_came}
 use Rattle.answer_fits.specs.Visits.{Does, Only, Then, visit}

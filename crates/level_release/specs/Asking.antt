@@ -1,5 +1,5 @@
 -- What a release is asked, and how its pieces serve that and show why it pauses.
-use Rattle.std.specs.Prelude.{◌≡◌, ◌==◌, ℕ, Bool, true, false, List, [], ◌∷◌, ◌++◌, Result, Ok, Err}
+use Rattle.std.specs.Prelude.{◌≡◌, ◌==◌, ℕ, true, List, [], ◌∷◌, ◌++◌, Result}
 use Rattle.xp_words.specs.Machine.{Machine}
 use Rattle.xp_words.specs.declared.reply.Pause.TheVariants.{Busy, Due, Lost}
 use Rattle.xp_words.specs.declared.reply.Stop.{Stop}

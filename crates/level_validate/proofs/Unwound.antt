@@ -1,14 +1,14 @@
 -- The tables in work are left, one after the other.
-use Rattle.std.proofs.Common.{◌≡◌, ◌≢◌, ℕ, ◌+◌, ◌-◌, ◌<◌, Bool, true, false, List, [], ◌∷◌, length, Option, Some, refl, sym, ap, ◌∙◌, subst, inl, inr}
+use Rattle.std.proofs.Common.{◌≡◌, ◌≢◌, ℕ, ◌+◌, ◌-◌, ◌<◌, Bool, true, false, List, [], ◌∷◌, Option, Some, refl, sym, ap, ◌∙◌, subst, inl, inr}
 use Rattle.xp_words.specs.Places.{sizes_of}
 use Rattle.xp_board.specs.declared.holdings.Holdings.{Holdings}
 use Rattle.xp_board.specs.Hands.{typed_to, without_typed, without_work}
 use Rattle.xp_board.specs.Readings.{domain_of}
 use Rattle.xp_board.specs.Told.{Post, PortValue}
-use Rattle.step_maker.specs.Holds.{FlushedHolds, Holds, MayWork, quiet}
+use Rattle.step_maker.specs.Holds.{FlushedHolds, Holds, quiet}
 use Rattle.step_maker.specs.Moves.{Came}
-use Rattle.step_maker.proofs.Coming.{came_post, came_self, came_trans}
-use Rattle.table_words.specs.OldWords.{kept_in_old, known_old}
+use Rattle.step_maker.proofs.Coming.{came_self, came_trans}
+use Rattle.table_words.specs.OldWords.{kept_in_old}
 use Rattle.table_words.specs.declared.old_words.OldWord.TheVariants.{First}
 use Rattle.kept_marks.specs.Marks.{LeavesKept}
 use Rattle.kind_words.specs.Kinds.{partial_kind}
@@ -20,7 +20,7 @@ use Rattle.level_validate.specs.Courses.{UnwindsOn}
 use Rattle.level_validate.specs.Forward.{Forward}
 use Rattle.level_validate.specs.Leaving.{LeftWell}
 use Rattle.level_validate.specs.Serving.{CarriesOn, ServesLeft, ServesTo}
-use Rattle.level_validate.specs.Tables.{IsStanding, Carries, StandsOn}
+use Rattle.level_validate.specs.Tables.{Carries}
 use Rattle.level_validate.specs.Unwinding.{Unwinds, UnwindsTo, UnwoundHand, UnwoundTo, around_lent, left_so, named_unless, outermost_frame}
 use Rattle.level_validate.proofs.Forward.{forward_nothing, forward_then}
 use Rattle.level_validate.proofs.LeavingTables.{top, top_gone, top_kept, top_typed}
@@ -29,7 +29,7 @@ use Rattle.level_validate.proofs.LeftSo.{unwinds_then}
 use Rattle.level_validate.proofs.LeftWell.{well_nothing, well_then}
 use Rattle.level_validate.proofs.Outermost.{frame_alike, hand_alike}
 use Rattle.level_validate.proofs.Serving.{goes_nothing, goes_then, left_behind, left_on}
-use Rattle.level_validate.proofs.StandsFacts.{may_back, may_stands, refs_own, stands_none, stands_post, tables_none}
+use Rattle.level_validate.proofs.StandsFacts.{refs_own, stands_none, stands_post, tables_none}
 
 -- ---- the outermost table
 named_lent : (kept : Bool) (t : TableWork) (h : Holdings) → t.own ≡ false → named_unless kept t h ≡ h

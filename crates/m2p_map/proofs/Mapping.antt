@@ -1,5 +1,5 @@
 -- A reference that is taken, used and given back.
-use Rattle.std.proofs.Common.{◌≡◌, ℕ, ◌<◌, nat_lt, true, List, [], ◌∷◌, ◌++◌, None, Ok, Err, refl, ap, ◌∙◌, subst, arith}
+use Rattle.std.proofs.Common.{◌≡◌, ℕ, ◌<◌, nat_lt, true, List, [], ◌∷◌, ◌++◌, None, Ok, refl, ap, ◌∙◌, subst, arith}
 use Rattle.std.proofs.lemmas.Bool.Decides.{nat_tests}
 use Rattle.xp_words.specs.declared.place.Place.TheVariants.{M2p}
 use Rattle.xp_board.specs.declared.step.Act.TheVariants.{Store}
@@ -15,8 +15,6 @@ use Rattle.answer_fits.specs.Answers.{Serves, Deed, SetsM2p, only_if}
 use Rattle.answer_fits.specs.Asked.{of_frame, of_back}
 use Rattle.answer_fits.proofs.Piecing.{serves_step, serves_back}
 use Rattle.xp_words.specs.declared.place.Place.{Place}
-use Rattle.xp_words.specs.declared.reply.Stop.{Stop}
-use Rattle.xp_words.specs.declared.reply.Stop.TheVariants.{Refused, Paused}
 use Rattle.xp_board.specs.Told.{is_telling, told_word}
 use Rattle.answer_fits.specs.Asked.{Request}
 use Rattle.answer_fits.proofs.Piecing.{serves_came}

@@ -1,5 +1,5 @@
 -- A write that asks its gate nothing.
-use Rattle.std.proofs.Common.{◌≡◌, ℕ, Bool, true, false, [], Result, refl, sym, subst, arith}
+use Rattle.std.proofs.Common.{◌≡◌, ℕ, Bool, false, [], Result, sym, subst}
 use Rattle.xp_words.specs.declared.reply.Stop.{Stop}
 use Rattle.xp_board.specs.Told.{PortValue}
 use Rattle.xp_preempt.proofs.Consulting.{consulted_none, not_due}

@@ -7,9 +7,7 @@ use Rattle.xp_words.specs.declared.reply.Stop.TheVariants.{Paused, Refused}
 use Rattle.xp_board.specs.Told.{Post, PortValue}
 use Rattle.xp_preempt.proofs.Consulting.{consulted_none}
 use Rattle.step_maker.specs.Holds.{FlushedHolds, FlushedSame, Rests}
-use Rattle.frame_words.specs.Refs.{IsRefStop}
-use Rattle.level_validate.specs.Acquiring as acquires
-use Rattle.level_release.specs.Asking.{is_due_answer, is_due_stop}
+use Rattle.level_release.specs.Asking.{is_due_answer}
 use Rattle.flush_waits.specs.Waiting.{IsWait}
 use Rattle.table_bases.specs.Asking.{IsSpentStop}
 use Rattle.mmuext_ops.specs.Course.{Performed, PerformsBy}

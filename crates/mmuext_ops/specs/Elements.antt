@@ -8,7 +8,7 @@ use Rattle.xp_words.specs.declared.reply.Refusal.TheVariants as refusals
 use Rattle.xp_words.specs.declared.reply.Stop.{Stop}
 use Rattle.xp_words.specs.declared.reply.Stop.TheVariants.{Refused, Paused}
 use Rattle.xp_board.specs.Told.{PortValue}
-use Rattle.step_maker.specs.Holds.{FlushedHolds, FlushedSame}
+use Rattle.step_maker.specs.Holds.{FlushedSame}
 use Rattle.answer_fits.specs.Answers.{Deed, Forgets, Misses, Pins, Serves, SetsWord, Stops, Unpins, missed, only_if}
 use Rattle.answer_fits.specs.Asked.{Request, of_frame, of_numbers, of_table}
 use Rattle.answer_fits.specs.Reasons.{HadClock}

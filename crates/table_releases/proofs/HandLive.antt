@@ -48,7 +48,7 @@ use Rattle.table_words.specs.Entries.{entry_shed}
 use Rattle.table_words.proofs.Shedding.{none_unsettled, settled_by_step, shed_settled_known}
 use Rattle.table_releases.specs.Between.{SeesKind, SeesTyped}
 use Rattle.table_releases.specs.Tops.{Reopens, StaysRecorded, shed_once}
-use Rattle.table_releases.proofs.FrameSeen.{from_seen, kind_frame, now_seen}
+use Rattle.table_releases.proofs.FrameSeen.{from_seen, now_seen}
 use Rattle.table_releases.proofs.Looking.{shed_typed}
 
 -- ---- lists

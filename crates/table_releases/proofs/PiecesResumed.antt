@@ -1,5 +1,5 @@
 -- Behind the exchange that brought a partial frame into the own works: the steps.
-use Rattle.std.proofs.Common.{◌≡◌, ℕ, ◌<◌, ◌&&◌, not, Bool, true, false, List, [], Some, None, IsTrue, Ok, refl, sym, ap, ◌∙◌, subst}
+use Rattle.std.proofs.Common.{◌≡◌, ℕ, ◌<◌, Bool, true, false, List, [], Some, None, IsTrue, Ok, refl, sym, ap, ◌∙◌, subst}
 use Rattle.xp_words.specs.KindWords.{is_kind, kind_fields, kind_write}
 use Rattle.xp_words.specs.declared.kind.KindWord.{KindWord}
 use Rattle.xp_words.specs.declared.kind.PageType.{PageType}
@@ -10,7 +10,7 @@ use Rattle.xp_board.specs.declared.step.Mark.TheVariants.{Shed}
 use Rattle.xp_board.specs.declared.step.StepKind.TheVariants as kinds
 use Rattle.xp_board.specs.Hands.{work_on}
 use Rattle.xp_board.specs.KindSteps.{Partial, resumed_kind}
-use Rattle.xp_board.specs.Readings.{is_dead, is_type, is_work}
+use Rattle.xp_board.specs.Readings.{is_work}
 use Rattle.xp_board.specs.Told.{PortValue}
 use Rattle.board_lemmas.proofs.KindForms.{fields_of}
 use Rattle.step_maker.specs.Moves.{Came, Met, Moves}
@@ -41,7 +41,6 @@ use Rattle.table_releases.proofs.Recording.{recorded_some}
 use Rattle.table_releases.proofs.Pieces.{goes_shed, goes_shed_refs, goes_step, shed_shows}
 use Rattle.table_releases.proofs.PiecesTyped.{IsOf, kind_asks, kind_goes, resumed_goes, typed_shows}
 use Rattle.frame_types.proofs.Serving.{work_alive}
-use Rattle.xp_board.proofs.Returned.{same_type}
 
 module _ (b v : PortValue) (f i : ℕ) (t : PageType) (word g : ℕ) (want : PageType) (k : KindWord) (r : Resumed b v f i t word g want k) where
   module _ (owner pages : ℕ) where

@@ -3,7 +3,7 @@ use Rattle.std.proofs.Common.{◌≡◌, ◌≢◌, ℕ, ◌<◌, ◌==◌, List
 use Rattle.std.proofs.lemmas.List.{get_or-set_other, append-nil, length-replicate}
 use Rattle.std.proofs.lemmas.Bool.Decides.{nat_tests}
 use Rattle.xp_words.specs.Machine.{Machine}
-use Rattle.xp_words.specs.Places.{sizes_of, place_at}
+use Rattle.xp_words.specs.Places.{sizes_of}
 use Rattle.xp_board.specs.declared.step.Step.{Step}
 use Rattle.xp_board.specs.declared.holdings.Made.{Made}
 use Rattle.xp_board.specs.declared.holdings.Holdings.{Holdings}
@@ -12,7 +12,6 @@ use Rattle.xp_board.specs.Hands.{empty}
 use Rattle.xp_board.specs.Runs.{State, Run, next, start, place_of, word_at}
 use Rattle.xp_board.specs.Sound.{hand_of}
 use Rattle.sound_rule.proofs.OwnRun.{steps_after}
-use Rattle.board_lemmas.proofs.Noted.{move_steps}
 use Rattle.shared_board.proofs.Opened.{all_empty}
 use Rattle.thread_board.specs.OneRun.{own_steps}
 

@@ -1,7 +1,6 @@
 -- What stays so from port to port: the clock values that were found are known, and a vCPU that has flushed since it came to its processor stays warm.
-use Rattle.std.proofs.Common.{◌≡◌, ℕ, Option, Some, None, Result, Ok, Err, MatchResult, sym, ap, inl, inr, subst}
+use Rattle.std.proofs.Common.{◌≡◌, ℕ, Option, Some, None, Result, Ok, Err, sym, ap, inl, inr, subst}
 use Rattle.xp_words.specs.declared.place.Place.{Place}
-use Rattle.xp_words.specs.declared.reply.Refusal.{Refusal}
 use Rattle.xp_words.specs.declared.reply.Stop.{Stop}
 use Rattle.xp_words.specs.declared.reply.Stop.TheVariants.{Refused, Paused}
 use Rattle.xp_board.specs.Readings.{domain_of}
@@ -9,15 +8,13 @@ use Rattle.xp_board.specs.Told.{Post, PortValue}
 use Rattle.xp_board.specs.declared.step.Act.{Act}
 use Rattle.xp_board.specs.declared.step.Mark.{Mark}
 use Rattle.xp_board.specs.declared.step.StepKind.{StepKind}
-use Rattle.step_maker.specs.Holds.{FlushedSame, Same}
+use Rattle.step_maker.specs.Holds.{FlushedSame}
 use Rattle.step_maker.specs.Moves.{Came, Moves}
 use Rattle.step_maker.proofs.Coming.{came_post, moves_came}
 use Rattle.step_maker.proofs.Warming.{came_warm}
 use Rattle.answer_fits.specs.Answers.{Serves, misses}
 use Rattle.answer_fits.specs.Reasons.{HadClock}
 use Rattle.answer_fits.proofs.Piecing.{serves_came}
-use Rattle.flush_words.specs.Flushing.{FlushesOwn}
-use Rattle.flush_words.proofs.Flushed.{own_came}
 use Rattle.flush_words.proofs.Lasting.{came_keeps}
 use Rattle.foreign_map.specs.declared.owners.Owners.{Owners}
 use Rattle.level_release.specs.Asking.{of_settle}

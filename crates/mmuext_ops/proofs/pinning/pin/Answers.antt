@@ -1,4 +1,4 @@
-use Rattle.std.proofs.Common.{[], None, false, Ok, Err, sym, ap, ◌∙◌, inl}
+use Rattle.std.proofs.Common.{[], None, false, Ok, Err, ap, ◌∙◌, inl}
 use Rattle.std.proofs.lemmas.Result.{err_from_is_err_and}
 use Rattle.xp_words.specs.declared.kind.KindWord.{KindWord}
 use Rattle.xp_words.specs.declared.reply.Refusal.TheVariants.{AlreadyPinned}
