@@ -1,5 +1,5 @@
 -- The turns of one vCPU by the port of its pass.
-use Rattle.std.proofs.Common.{◌≡◌, ℕ, ◌<◌, Bool, true, false, Option, None, sym, ap, ◌∙◌, subst, length, ◌^◌}
+use Rattle.std.proofs.Common.{◌≡◌, ℕ, ◌<◌, true, false, Option, None, sym, ap, ◌∙◌, subst, length, ◌^◌}
 use Rattle.std.specs.Prelude.{slice_get}
 use Rattle.xp_words.specs.Machine.{Machine}
 use Rattle.xp_words.specs.Places.{sizes_of, memory, run_of}

@@ -1,5 +1,5 @@
 -- A whole run in threads: which turns each vCPU made, and that the steps of all of them are one run.
-use Rattle.std.specs.Prelude.{◌≡◌, ℕ, ◌<◌, true, false, List, length, slice_get, slice_index_or, Option, Some, None}
+use Rattle.std.specs.Prelude.{◌≡◌, ℕ, true, false, List, length, slice_get, slice_index_or, Option, Some, None}
 use Rattle.xp_words.specs.Places.{sizes_of}
 use Rattle.xp_board.specs.declared.holdings.Holdings.{Holdings}
 use Rattle.xp_board.specs.Hands.{empty}
