@@ -5,8 +5,7 @@ use Rattle.std.specs.Option.{option_map}
 use Rattle.std.proofs.lemmas.List.{set-get_or, map-set, length-map}
 use Rattle.std.proofs.lemmas.Option.{slice_get-get_or, slice_get-map, get_or_from_slice_get}
 use Rattle.xp_words.specs.Places.{sizes_of}
-use Rattle.xp_words.specs.declared.ops.Op.{Op}
-use Rattle.xp_board.specs.Told.{Post, PortValue, Story}
+use Rattle.xp_board.specs.Told.{Post, Story}
 use Rattle.step_maker.specs.Moves.{Came}
 use Rattle.step_maker.proofs.Wending.{came_goes}
 use Rattle.answer_laws.specs.Alone.{IsAlone}

@@ -1,5 +1,5 @@
 -- The statuses that come with a text.
-use Rattle.std.proofs.Common.{◌≢◌, ℕ, true, if◌then◌else◌, List, [], ◌∷◌, map, is_some, Result, Ok, Err, Option, Some, None, ◌≡◌, refl, sym, subst}
+use Rattle.std.proofs.Common.{◌≢◌, ℕ, if◌then◌else◌, List, [], ◌∷◌, map, Result, Ok, Err, Option, Some, None, ◌≡◌, refl, sym, subst}
 use Rattle.trace_lines.specs.declared.fault.LineFault.{LineFault}
 use Rattle.trace_lines.specs.declared.fault.LineFault.TheVariants.{Passed, Bad}
 use Rattle.trace_text.specs.declared.trace.Trace.{Trace}
@@ -13,7 +13,7 @@ use Rattle.command_words.specs.declared.asked.Asked.{Asked}
 use Rattle.command_words.specs.declared.asked.Manner.{Manner}
 use Rattle.command_words.specs.declared.asked.Manner.TheVariants as manners
 use Rattle.std.specs.Io.KnownBytes.{Keeps}
-use Rattle.xp_machine.specs.Outcome.{WroteText, Outcome, OutcomeBy, IsDue, IsAnswer, manner_in, pace_asked, serial_of}
+use Rattle.xp_machine.specs.Outcome.{WroteText, Outcome, OutcomeBy, IsDue, IsAnswer, pace_asked, serial_of}
 
 -- a status that says of source and sink that its text was written, and that is none of the others
 pub record HasText (s : Status) : Type 0 where

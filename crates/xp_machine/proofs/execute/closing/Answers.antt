@@ -1,5 +1,4 @@
-use Rattle.std.proofs.Common.{◌≡◌, ◌∙◌, sym, ap, map, length}
-use Rattle.xp_words.specs.Places.{sizes_of}
+use Rattle.std.proofs.Common.{◌≡◌, ◌∙◌, map}
 use Rattle.report_text.specs.ReportOf.{report_of}
 use Rattle.vcpu_runners.specs.Turns.{pending_of}
 use Rattle.vcpu_runners.specs.Gates.{gate_of}

@@ -1,4 +1,4 @@
-use Rattle.std.proofs.Common.{sym, ap, ◌∙◌}
+use Rattle.std.proofs.Common.{sym, ◌∙◌}
 use Rattle.std.proofs.lemmas.List.{length-map}
 use Rattle.xp_machine.proofs.Reaching.{if_ok}
 use Rattle.xp_machine.proofs.Replaying.{all_last, all_words, are_first, replayed_to, short_last}
