@@ -27,11 +27,9 @@ use Rattle.flush_words.specs.Flushing.{FlushedBy, FlushesOwn, spent}
 use Rattle.flush_words.proofs.Flushed.{own_came, own_does, own_flushed}
 use Rattle.flush_words.proofs.RowSteps.{clock_there}
 use Rattle.flush_words.proofs.FlushServes.{asked_flush, own_serves, own_stops}
+use Rattle.flush_words.proofs.OwnFlush.{less_is}
 use Rattle.tlb_walks.specs.Addresses.{is_canonical, page_of}
 use Rattle.tlb_walks.specs.Dropping.{Acks, Heeds, Uncached, ForgetsBy, Invalidates, left_cached, of_flush}
-
-later : (x y : ℕ) → x < y → nat_lt x y ≡ true
-later x y less = grind (arith, nat_tests)
 
 no_later : (x y : ℕ) → y ≤ x → nat_lt x y ≡ false
 no_later x y low = grind (arith, nat_tests)
@@ -70,7 +68,7 @@ module _ (v a b : PortValue) (s x y : ℕ) (own_is : s ≡ v.post.vcpu) (first :
   acks_as w past is heeds = record { a = a; b = b; asked = x; flushed = y; marked = first; looked = looked_own; heeds = subst (λ p. Heeds p b w) is heeds }
 
   pub past_acks : x < y → Acks v b
-  past_acks less = acks_as b true (sym (later x y less)) refl
+  past_acks less = acks_as b true (sym (less_is x y less)) refl
 
   module _ (w : PortValue) (low : y ≤ x) (answer : Result (Unit {0}) Refusal) (f : FlushesOwn b w answer) where
     pub ack_came : Came v w
