@@ -1,11 +1,11 @@
 -- What a request within another asks and finds is a cause for the other too: one case for each refusal and pause.
-use Rattle.std.proofs.Common.{◌≡◌, ◌≢◌, ◌⊎◌, ℕ, Bool, true, false, Option, Some, None, inl, inr, refl, subst, ◌∙◌, arith}
+use Rattle.std.proofs.Common.{◌≡◌, ◌⊎◌, ℕ, ◌+◌, Bool, true, false, Option, Some, None, inl, inr, refl, subst, ◌∙◌, arith}
 use Rattle.xp_words.specs.Machine.{Machine}
 use Rattle.xp_words.specs.declared.place.Place.{Place}
 use Rattle.xp_words.specs.declared.place.Place.TheVariants.{Clock, Pages, Life, Vcpu, Refs, Kind, M2p, Cell, Map, Priv}
 use Rattle.xp_words.specs.RefWords.{ref_read}
 use Rattle.xp_words.specs.declared.kind.PageType.{PageType}
-use Rattle.xp_board.specs.Readings.{domain_of}
+use Rattle.xp_board.specs.Readings.{domain_of, free_stamp}
 use Rattle.xp_words.specs.declared.reply.Refusal.{Refusal}
 use Rattle.xp_words.specs.declared.reply.Refusal.TheVariants as r
 use Rattle.xp_words.specs.declared.reply.Pause.{Pause}
@@ -18,9 +18,9 @@ use Rattle.xp_board.specs.declared.step.Act.TheVariants.{Load, Cas, Store, Add, 
 use Rattle.answer_fits.specs.Answers.{Causes}
 use Rattle.answer_fits.specs.Asked.{Request, IsAsked, of, back, Within, HasNoMore, NoMore, Passed, checked, given, old, stands, Implies}
 use Rattle.answer_fits.specs.Finding.{Finding, FoundAt, FoundWith, Did}
-use Rattle.answer_fits.specs.Licences.{IsNewWord, IsOwnedBy, Licensed, HasTaken}
-use Rattle.answer_fits.specs.Pauses.{PausesFor, Progress, Loses, IsWanted, Clear, idle, flushed, own, unmeant, barred, AskedTo}
-use Rattle.answer_fits.specs.Reasons.{AwaitsStamp, Whose, OfOwner, Those, marked, other, free, begun, goes_on, MayFlush, NeedsFlush, MayCountPages, MayReach, taken, IsMarkAsked, IsPagesChange, IsRefChange, MayType, MayWriteOwn, MayChangeVcpu, Reason, MayLook, HasReason}
+use Rattle.answer_fits.specs.Licences.{IsNewWord, IsNoTableUpdate, IsOwnedBy, IsReached, Lacks, Licensed, HasTaken, HasTakenAll, top, below, over_others, to_grant, over_itself}
+use Rattle.answer_fits.specs.Pauses.{PausesFor, Progress, LeftAs, HasPassed, vcpu, frame, IsInTheWay, in_use, dying, Loses, IsWanted, Clear, idle, flushed, own, unmeant, barred, AskedTo}
+use Rattle.answer_fits.specs.Reasons.{AwaitsStamp, FoundFreeBy, Whose, OfOwner, Those, marked, other, free, begun, goes_on, MayFlush, NeedsFlush, MayCountPages, MayReach, taken, IsMarkAsked, IsPagesChange, IsRefChange, MayType, MayWriteOwn, MayChangeVcpu, Reason, MayLook, HasReason}
 use Rattle.answer_fits.specs.Reasons as reasons
 use Rattle.answer_fits.proofs.Progressing.{progress_in}
 
@@ -60,15 +60,18 @@ module _ (n : Machine) (s : ℕ) (q : Request) (F : Finding) (t : Request) (G : 
   passed f o h (old v k x a b c d) = old v k x (w.contexts a) (found _ x b) c d
   passed f o h (stands u i x e a b c d j) = stands u i x e (w.entries a) (found _ x b) c d j
 
+  freely : (g stamp : ℕ) → FoundFreeBy F g stamp → FoundFreeBy G g stamp
+  freely g stamp a = (a.0, found _ a.0 a.1, a.2, a.3)
+
   -- ---- why a word may change
-  awaited : (whose : Whose) (stamp : ℕ) → AwaitsStamp n s q F whose stamp → AwaitsStamp n s t G whose stamp
+  pub awaited : (whose : Whose) (stamp : ℕ) → AwaitsStamp n s q F whose stamp → AwaitsStamp n s t G whose stamp
+  awaited whose stamp (free f x k z o b a c d all e i) = free f x k z (w.pages k o) (w.block z b) (asks f a) (found _ x c) d (λ g same inside. freely g (free_stamp x) (all g same inside)) e i
   awaited whose stamp (marked f x o want h a b c d e i j) = marked f x o want h (w.asked f o (Some want) a) (found_with _ x h b) (passed f o h c) d e i j
   awaited whose stamp (other f x o want h a b c d e i j) = other f x o want h (w.asked f o (Some want) a) (found_with _ x h b) (passed f o h c) d e i j
-  awaited whose stamp (free f x k o a b c d e) = free f x k (w.pages k o) (asks f a) (found _ x b) c d e
   awaited whose stamp (begun x a b c d) = begun x (w.waits x a) b (found _ stamp c) d
   awaited whose stamp (goes_on x m a b c d e) = goes_on x m (w.waits x a) b (w.moments m c) d e
 
-  needing : (h : Holdings) → NeedsFlush n s q F h → NeedsFlush n s t G h
+  pub needing : (h : Holdings) → NeedsFlush n s q F h → NeedsFlush n s t G h
   needing h (reasons.own a) = reasons.own (w.flushes a)
   needing h (reasons.awaited o x a b c) = reasons.awaited o x (awaited o x a) b c
 
@@ -132,7 +135,7 @@ module _ (n : Machine) (s : ℕ) (q : Request) (F : Finding) (t : Request) (G : 
   reason (M2p f) b x h a = asks f a
   reason (Cell f i) b x h a = asks f a
   reason (Map k) b x h a = (a.0, a.1, asks a.0 a.2)
-  reason (Priv d) b x h a = a
+  reason (Priv d) b x h a = w.grants d a
 
   may_look : (p : Place) → MayLook q p → MayLook t p
   may_look (Cell f i) (inl a) = inl (w.entries a)
@@ -163,6 +166,17 @@ module _ (n : Machine) (s : ℕ) (q : Request) (F : Finding) (t : Request) (G : 
   progress : Progress F → Progress G
   progress a = progress_in F G w.moments a
 
+  left_as : (p : Place) (test : ℕ → Bool) → LeftAs F p test → LeftAs G p test
+  left_as p test a = record { moment = a.moment; was = w.moments a.moment a.was; place = a.place; passes = a.passes }
+
+  passing : HasPassed n q F → HasPassed n t G
+  passing (vcpu d v a b c all) = vcpu d v (w.destroys d a) b c (λ k low is. left_as _ _ (all k low is))
+  passing (frame d f x a b c e i k) = frame d f x (w.destroys d a) (found _ x b) c (left_as _ _ e) (left_as _ _ i) (left_as _ _ k)
+
+  in_the_way : (f x : ℕ) → IsInTheWay n q F f x → IsInTheWay n t G f x
+  in_the_way f x (in_use d y h a b c e i) = in_use d y h (w.destroys d a) (found_with _ x h b) c e i
+  in_the_way f x (dying d a b c e) = dying d (w.destroys d a) (found _ x b) c e
+
   clear : (o : Whose) (stamp v : ℕ) → Clear n s o stamp F v → Clear n s o stamp G v
   clear o stamp v (idle x a b) = idle x (found _ x a) b
   clear o stamp v (flushed x a b) = flushed x (found _ x a) b
@@ -180,11 +194,11 @@ module _ (n : Machine) (s : ℕ) (q : Request) (F : Finding) (t : Request) (G : 
   wanted None x (inr a) = inr (w.contexts a)
 
   pub awaits : (x : Pause) → PausesFor n s q F x → PausesFor n s t G x
-  awaits Due a = (w.rose a.0, progress a.1)
+  awaits Due (rose, inl a) = (w.rose rose, inl (progress a))
+  awaits Due (rose, inr a) = (w.rose rose, inr (passing a))
   awaits (Lost place e x) a = (a.0, a.1, a.2, (loses a.0 e x a.3.0, reason a.0 (Cas e a.3.0.new) x a.3.0.exchange.hand a.3.1))
   awaits (Busy f x) (inl a) = inl (a.0, a.1, a.2, w.asked f a.0 a.1 a.3, found_with _ x a.2 a.4, passed f a.0 a.2 a.5, a.6, wanted a.1 x a.7, a.8)
-  awaits (Busy f x) (inr (d, a, (y, b, c, inl e))) = inr (d, w.destroys d a, (y, found _ y b, c, inl (found _ x e.0, e.1)))
-  awaits (Busy f x) (inr (d, a, (y, b, c, inr e))) = inr (d, w.destroys d a, (y, found _ y b, c, inr e))
+  awaits (Busy f x) (inr a) = inr (in_the_way f x a)
   awaits (Flush v stamp x) a = (
     a.0,
     record {
@@ -202,6 +216,11 @@ module _ (n : Machine) (s : ℕ) (q : Request) (F : Finding) (t : Request) (G : 
     awaited a.0 stamp a.2,
   )
   awaits (Alive v x) a = (w.destroys _ a.0, found _ x a.1, a.2)
+
+  -- ---- walks
+  pub reached : (level u : ℕ) → IsReached n s F level u → IsReached n s G level u
+  reached _ u (top k x _ a b c) = top k x u a (found _ x b) c
+  reached level _ (below _ v i x a b c) = below level v i x (reached (level + 1) v a) (found _ x b) c
 
   -- ---- refusals: what the vCPU has as the inner piece begins is no more than what it had as the outer one began
   module _ (b c : Holdings) (less : NoMore t b c) where
@@ -228,16 +247,25 @@ module _ (n : Machine) (s : ℕ) (q : Request) (F : Finding) (t : Request) (G : 
     caller c same (inl a) = inl a
     caller c same (inr a) = inr (a ∙ same)
 
-    other_or : (c d : ℕ) → (c ≢ d) ⊎ (q.destroys ≡ Some d) → (c ≢ d) ⊎ (t.destroys ≡ Some d)
-    other_or c d (inl a) = inl a
-    other_or c d (inr a) = inr (w.destroys d a)
+    lacking : (c d : ℕ) → Lacks n s q F c d → Lacks n s t G c d
+    lacking c d (over_others a b e x i k) = over_others (w.over d a).0 (caller c (w.over d a).1 b) e x (found _ x i) k
+    lacking c d (to_grant o a b e x i k) = to_grant o (w.grants o a) (w.over d b).0 e x (found _ x i) k
+    lacking c d (over_itself a b e) = over_itself (w.destroys d a) b e
+
+    no_update : IsNoTableUpdate q F → IsNoTableUpdate t G
+    no_update (inl a) = inl (w.stores a)
+    no_update (inr (f, x, a, b, c, e)) = inr (f, x, w.names (inr (inr b)) f a, (b.0, w.index b.0 b.1), found _ x c, e)
+
+    all_taken : (size : ℕ) → HasTakenAll n size F → HasTakenAll n size G
+    unfolding taken_in
+    all_taken size a = record { taken = λ b inside. taken_in size b (a.taken b inside); upwards = λ low high b c less. a.upwards low high b c less }
 
     pub licensed : (x : Refusal) → Licensed n s b q F x → Licensed n s c t G x
     licensed (r.NoFrame f) a = (asks f a.0, a.1)
     licensed (r.WrongOwner f x) (o, k, a, b, inl c) = (o, k, w.asked f o k a, found _ x b, inl c)
     licensed (r.WrongOwner f x) (o, k, a, b, inr c) = (o, k, w.asked f o k a, found _ x b, inr (w.returns c.0, c.1))
     licensed (r.OtherType f k x) (inl a) = inl (a.0, a.1, w.asked f a.0 (Some k) a.2, found_with _ x a.1 a.3, passed f a.0 a.1 a.4, a.5)
-    licensed (r.OtherType f k x) (inr a) = inr (asks f a.0, found _ x a.1, w.walks a.2, a.3, a.4)
+    licensed (r.OtherType f k x) (inr a) = inr (w.names (inr (inr a.1)) f a.0, (a.1.0, w.index a.1.0 a.1.1), found _ x a.2, w.walks a.3, a.4, a.5)
     licensed (r.Reserved f i e) (inl a) = inl (a.0, w.entries a.1, found_with _ e a.0 a.2, a.3)
     licensed (r.Reserved f i e) (inr a) = inr (a.0, a.1, w.names (inr (inr (i, a.3))) f a.2, w.index i a.3, w.new_word a.0 a.4, w.moments a.1 a.5, a.6, new_word f i a.0 e a.7)
     licensed (r.CountFull f x) a = (a.0, a.1, a.2, w.asked f a.0 a.1 a.3, found_with _ x a.2 a.4, a.5, no_more f a.2 a.6)
@@ -246,15 +274,14 @@ module _ (n : Machine) (s : ℕ) (q : Request) (F : Finding) (t : Request) (G : 
     licensed (r.Slot i) (a, inl b) = (a, inl (w.by_numbers _ b))
     licensed (r.Slot i) (a, inr b) = (a, inr (b.0, b.1, asks b.0 b.2, found _ b.1 b.3, b.4, w.index i b.5))
     licensed (r.NotMapped level e) (inl a) = inl (a.0, a.1, w.walks a.2, (a.3.0, a.3.1, found _ 0 a.3.2))
-    licensed (r.NotMapped level e) (inr a) = inr (a.0, a.1, w.walks a.2, (a.3.0, a.3.1, found _ e a.3.2, a.3.3))
-    licensed (r.ReadOnly e) (a, inl b) = (w.walks a, inl (b.0, b.1, found _ e b.2, b.3))
-    licensed (r.ReadOnly e) (a, inr b) = (w.walks a, inr (b.0, b.1, asks b.0 b.2, found _ b.1 b.3, b.4))
+    licensed (r.NotMapped level e) (inr a) = inr (a.0, a.1, w.walks a.2, (a.3.0, a.3.1, reached level a.3.0 a.3.2, found _ e a.3.3, a.3.4))
+    licensed (r.ReadOnly e) (a, b, c) = (w.walks a, (b.0, b.1, found _ e b.2, b.3), no_update c)
     licensed r.NonCanonical a = w.by_numbers _ a
-    licensed (r.NoPrivilege c d) a = ((w.over d a.0).0, caller c (w.over d a.0).1 a.1, other_or c d a.2, (a.3.0, found _ a.3.0 a.3.1, a.3.2))
+    licensed (r.NoPrivilege c d) a = lacking c d a
     licensed r.NoDomain a = w.by_numbers _ a
     licensed (r.Dying d x) a = ((w.over d a.0).0, found _ x a.1, a.2)
     licensed (r.DomainFull x) a = (a.0, found_with _ x a.0 a.1, a.2, (a.3.0, w.pages _ a.3.1, a.3.2))
-    licensed r.NoFree a = (a.0, w.block _ a.1, λ b inside. taken_in a.0 b (a.2 b inside))
+    licensed r.NoFree a = (a.0, w.block _ a.1, all_taken a.0 a.2)
     licensed r.BadRange (inl a) = inl (w.by_numbers _ a)
     licensed r.BadRange (inr a) = inr (a.0, a.1, w.ldt_page _ a.2, found _ a.1 a.3, a.4)
     licensed (r.BadDescriptor f i x) (a, inl b) = (a, inl (b.0, asks f b.1, found_with _ x b.0 b.2, b.3))

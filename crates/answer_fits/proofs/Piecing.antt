@@ -1,5 +1,5 @@
 -- Pieces of steps one behind the other, and what they show of an answer.
-use Rattle.std.proofs.Common.{◌≡◌, ℕ, List, [], ◌∷◌, ◌++◌, ◌==◌, Option, Some, None, IsTrue, arith, inl, inr, refl, sym, ap, ◌∙◌, subst, append_assoc, append-nil}
+use Rattle.std.proofs.Common.{◌≡◌, ℕ, List, [], ◌∷◌, ◌++◌, ◌==◌, Option, Some, None, IsTrue, arith, rules, inl, inr, refl, sym, ap, ◌∙◌, subst, append_assoc, append-nil}
 use Rattle.xp_words.specs.Machine.{Machine}
 use Rattle.std.proofs.lemmas.Bool.Decides.{nat_tests}
 use Rattle.xp_words.specs.declared.place.Place.{Place}
@@ -18,52 +18,18 @@ use Rattle.xp_board.specs.Told.{Post, PortValue}
 use Rattle.step_maker.specs.Moves.{Moves, Moment, Came, Met}
 use Rattle.step_maker.proofs.Coming.{ran_more, came_post, came_trans, moment_of, moves_by, moves_came, moves_ran, met_before, met_after}
 use Rattle.answer_fits.specs.Answers.{Deed, deeds_by, marked_by, deeds, Serves, Causes, Stops}
-use Rattle.answer_fits.specs.Asked.{Request, of_frame, IsFor, IsDemandOf, demand_held, named_type, Asked, IsAsked, back, of_back, IsNaming, Within, NoMore, named, demanded, walked, context, entered, of_old}
+use Rattle.answer_fits.specs.Asked.{Request, of_frame, IsFor, IsDemandOf, demand_held, named_type, Asked, IsAsked, back, of_back, IsNaming, Within, NoMore, named, demanded, walked, context, entered, of_old, doomed}
 use Rattle.answer_fits.specs.Finding.{Finding}
 use Rattle.answer_fits.specs.Reasons.{HasReason}
+use Rattle.answer_fits.specs.Rising.{Grows, NeedsOwners}
 use Rattle.answer_fits.proofs.Growing.{has_reason, causes}
+use Rattle.answer_fits.proofs.Grown.{grown_by, grown_where, grows_self}
 use Rattle.board_lemmas.proofs.HandLists.{EachOf-map}
 
 -- ---- the same request, more found
-asked_grows : (n : Machine) (s : ℕ) (r : Request) (F G : Finding) (more : (m : Moment) → F m → G m) (f owner : ℕ) (want : Option PageType) → Asked n s r F f owner want → Asked n s r G f owner want
-asked_grows n s r F G more f owner want (named a b c) = named a b c
-asked_grows n s r F G more f owner want (demanded t i w h e a b c) =
-    demanded t i w h e (record { moment = a.moment; was = more a.moment a.was; place = a.place; word = a.word; hand = a.hand }) b c
-asked_grows n s r F G more f owner want (walked t i w k a b c d) = walked t i w k (record { moment = a.moment; was = more a.moment a.was; place = a.place; word = a.word }) b c d
-asked_grows n s r F G more f owner want (entered t i w o m a b c d e j k x) = entered t i w o m a b c d (more m e) j k x
-asked_grows n s r F G more f owner want (of_old v k w x c a d e i b j o l) =
-    of_old v k w x c (record { moment = a.moment; was = more a.moment a.was; place = a.place; word = a.word }) d e i
-    (record { moment = b.moment; was = more b.moment b.was; place = b.place; word = b.word }) j o l
-asked_grows n s r F G more f owner want (context v k w x a b c d e i) = context v k w x (record { moment = a.moment; was = more a.moment a.was; place = a.place; word = a.word }) b c d e i
-
 pub same_request : (n : Machine) (s : ℕ) (r : Request) (F G : Finding) → ((m : Moment) → F m → G m) → Within n s r F r G
 same_request n s r F G more =
-    record {
-      asked = λ f o k. asked_grows n s r F G more f o k;
-      backs = λ f a. back a;
-      moments = more;
-      returns = λ a. a;
-      by_numbers = λ x a. a;
-      index = λ x a. a;
-      new_word = λ x a. a;
-      walks = λ a. a;
-      flushes = λ a. a;
-      destroys = λ x a. a;
-      pages = λ x a. a;
-      block = λ x a. a;
-      rose = λ a. a;
-      entries = λ a. a;
-      contexts = λ a. a;
-      locks = λ a. a;
-      pins = λ a. a;
-      alone = λ a. a;
-      names = λ a f b. b;
-      owner = λ a. refl;
-      over = λ d a. (a, refl);
-      waits = λ x a. a;
-      ldt_page = λ x a. a;
-      descriptor = λ x a. a;
-    }
+    grown_by n s r r F G more (grows_self r) (record { owner = refl; pages_of = refl }) (λ f a k b. named a refl b) (λ a f b. b) (λ f a. back a)
 
 pub each_append : {A : Type 0} (P : A → Type 0) (xs ys : List A) → EachOf P xs → EachOf P ys → EachOf P (ys ++ xs)
 unfolding EachOf
@@ -178,92 +144,35 @@ asked_less n s r F f owner k want x (demanded t i w h e a b c) = demanded t i w 
 asked_less n s r F f owner k want x (walked t i w y a b c d) = walked t i w y a b c (for_less k want r.want x d)
 asked_less n s r F f owner k want x (entered t i w o m a b c d e j l y) = entered t i w o m a b c d e j (demand_less f k want (Some (demand_at o.kind i w)) x l) y
 asked_less n s r F f owner k want x (of_old v j w y c a d e i b g o l) = of_old v j w y c a d e i b g o (for_less k want (Some (kind_fields y).kind) x l)
+asked_less n s r F f owner k want x (doomed d y a b c e i) = doomed d y a b c e (for_less k want None x i)
 asked_less n s r F f owner k want x (context v j w y a b c d e i) = context v j w y a b c d e (for_less k want (named_type j) x i)
 
-plain_frame : (f owner : ℕ) (want : Option PageType) → IsNaming (of_frame f owner want) → ⊥
-plain_frame f owner want (inl a) = absurd cc
-plain_frame f owner want (inr (inl a)) = absurd cc
-plain_frame f owner want (inr (inr a)) = absurd (let b = a.1 in cc)
+-- it looks at no frame that it names, and at no owner
+plain_names : (f owner : ℕ) (want : Option PageType) → IsNaming (of_frame f owner want) → ⊥
+plain_names f owner want (inl a) = absurd cc
+plain_names f owner want (inr (inl a)) = absurd cc
+plain_names f owner want (inr (inr a)) = absurd (let b = a.1 in cc)
 
-plain_back : (f : ℕ) → IsNaming (of_back f) → ⊥
-plain_back f (inl a) = absurd cc
-plain_back f (inr (inl a)) = absurd cc
-plain_back f (inr (inr a)) = absurd (let b = a.1 in cc)
+plain_owners : (f owner : ℕ) (want : Option PageType) → NeedsOwners (of_frame f owner want) → ⊥
+plain_owners f owner want (inl a) = absurd cc
+plain_owners f owner want (inr (inl a)) = absurd cc
+plain_owners f owner want (inr (inr (inl a))) = absurd cc
+plain_owners f owner want (inr (inr (inr a))) = absurd (let b = a.1 in cc)
+
+frame_grows : (f owner : ℕ) (want : Option PageType) (r : Request) → Grows (of_frame f owner want) r
+frame_grows f owner want r = search rules
 
 pub within_frame : (n : Machine) (s f owner : ℕ) (want : Option PageType) (r : Request) (F G : Finding) → ((m : Moment) → F m → G m) → Asked n s r G f owner want → Within n s (of_frame f owner want) F r G
 within_frame n s f owner want r F G more asks =
-    record {
-      asked = λ g o k. only_named g o k;
-      backs = λ g a. absurd cc;
-      moments = more;
-      returns = λ a. absurd cc;
-      by_numbers = λ x a. absurd cc;
-      index = λ x a. absurd cc;
-      new_word = λ x a. absurd cc;
-      walks = λ a. absurd cc;
-      flushes = λ a. absurd cc;
-      destroys = λ x a. absurd cc;
-      pages = λ x a. absurd cc;
-      block = λ x a. absurd cc;
-      rose = λ a. absurd cc;
-      entries = λ a. absurd cc;
-      contexts = λ a. absurd cc;
-      locks = λ a. absurd cc;
-      pins = λ a. absurd cc;
-      alone = λ a. absurd cc;
-      names = λ a. absurd (plain_frame f owner want a);
-      owner = λ a. absurd cc;
-      over = λ d a. absurd cc;
-      waits = λ x a. absurd cc;
-      ldt_page = λ x a. absurd cc;
-      descriptor = λ x a. absurd cc;
-    }
+    grown_where n s (of_frame f owner want) r F G more (frame_grows f owner want r) (λ needs. absurd (plain_owners f owner want needs)) named_so (λ a. absurd (plain_names f owner want a)) (λ g a. absurd cc)
   where
-    only_named : (g o : ℕ) (k : Option PageType) → Asked n s (of_frame f owner want) F g o k → Asked n s r G g o k
-    only_named g o k (named a b c) = rw (same_frame g f a, b) (asked_less n s r G f owner k want c asks)
-    only_named g o k (demanded t i w h e a b c) = absurd cc
-    only_named g o k (walked t i w x a b c d) = absurd cc
-    only_named g o k (context v j w x a b c d e i) = absurd cc
-    only_named g o k (entered t i w l m a b c d e j x y) = absurd cc
-    only_named g o k (of_old v j w y a b c d e i l x z) = absurd cc
+    named_so : (g : ℕ) → IsTrue (g == f) → (k : Option PageType) → IsFor k want → Asked n s r G g owner k
+    named_so g is k less = rw (same_frame g f is) (asked_less n s r G f owner k want less asks)
 
 -- a call that gives a frame back which is asked, of whatever owner
 pub within_back : (n : Machine) (s f : ℕ) (r : Request) (F G : Finding) → ((m : Moment) → F m → G m) → IsAsked n s r G f → Within n s (of_back f) F r G
 within_back n s f r F G more asks =
-    record {
-      asked = λ g o k a. absurd (none_named g o k a);
-      backs = λ g a. rw (same_frame g f a) asks;
-      moments = more;
-      returns = λ a. absurd cc;
-      by_numbers = λ x a. absurd cc;
-      index = λ x a. absurd cc;
-      new_word = λ x a. absurd cc;
-      walks = λ a. absurd cc;
-      flushes = λ a. absurd cc;
-      destroys = λ x a. absurd cc;
-      pages = λ x a. absurd cc;
-      block = λ x a. absurd cc;
-      rose = λ a. absurd cc;
-      entries = λ a. absurd cc;
-      contexts = λ a. absurd cc;
-      locks = λ a. absurd cc;
-      pins = λ a. absurd cc;
-      alone = λ a. absurd cc;
-      names = λ a. absurd (plain_back f a);
-      owner = λ a. absurd cc;
-      over = λ d a. absurd cc;
-      waits = λ x a. absurd cc;
-      ldt_page = λ x a. absurd cc;
-      descriptor = λ x a. absurd cc;
-    }
-  where
-    none_named : (g o : ℕ) (k : Option PageType) → Asked n s (of_back f) F g o k → ⊥
-    none_named g o k (named a b c) = cc
-    none_named g o k (demanded t i w h e a b c) = cc
-    none_named g o k (walked t i w x a b c d) = cc
-    none_named g o k (context v j w x a b c d e i) = cc
-    none_named g o k (entered t i w l m a b c d e j x y) = cc
-    none_named g o k (of_old v j w y a b c d e i l x z) = cc
+    grown_where n s (of_back f) r F G more (search rules) (λ needs. absurd (plain_owners 0 0 None needs)) (λ g none. absurd cc) (λ a. absurd (plain_names 0 0 None a)) (λ g is. rw (same_frame g f is) asks)
 
 -- steps, and behind them a call whose request is within this one
 pub serves_inner : (v u w : PortValue) (r q : Request) (ds es : List Deed) → Within v.post.machine v.post.vcpu q (Met u w) r (Met v w) → Serves v u r ds → Serves u w q es → Serves v w r (es ++ ds)
@@ -298,7 +207,7 @@ module _ (v u w : PortValue) (r : Request) (ds es : List Deed) (before : Serves 
   module _ (f owner : ℕ) (want : Option PageType) (asks : Asked v.post.machine v.post.vcpu r (Met v u) f owner want) (came : Came u w) where
     inside : Within v.post.machine v.post.vcpu (of_frame f owner want) (Met u w) r (Met v w)
     inside = within_frame _ _ f owner want r (Met u w) (Met v w) (λ k x. met_after v u w k (serves_came v u r ds before) x)
-        (asked_grows _ _ r (Met v u) (Met v w) (λ k x. met_before v u w k x came) f owner want asks)
+        ((same_request _ _ r (Met v u) (Met v w) (λ k x. met_before v u w k x came)).asked f owner want asks)
 
     pub serves_call : Serves u w (of_frame f owner want) es → Serves v w r (es ++ ds)
     serves_call a = serves_inner v u w r (of_frame f owner want) ds es inside before a

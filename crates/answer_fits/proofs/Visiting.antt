@@ -12,7 +12,7 @@ use Rattle.answer_fits.specs.Visits.{Visit, visits, Does, Nothing, Only, Then}
 
 visits_append : (xs ys : List Moment) → visits (ys ++ xs) ≡ visits ys ++ visits xs
 visits_append xs [] = refl
-visits_append xs (y ∷ ys) = ap (λ (vs : List Visit). record { place = y.place; act = y.act; mark = y.mark; found = y.found } ∷ vs) (visits_append xs ys)
+visits_append xs (y ∷ ys) = ap (λ (vs : List Visit). record { place = y.place; act = y.act; kind = y.kind; mark = y.mark; found = y.found } ∷ vs) (visits_append xs ys)
 
 pub does_nothing : (v : PortValue) → Does v v Nothing
 unfolding Does
@@ -23,7 +23,7 @@ unfolding Does Came
 does_came v w P a = (a.0, a.1)
 
 -- one step
-pub does_one : (v w : PortValue) (p : Place) (a : Act) (kind : StepKind) (mark : Option Mark) (found : ℕ) → Moves v w p a kind mark found → Does v w (Only (record { place = p; act = a; mark = mark; found = found }))
+pub does_one : (v w : PortValue) (p : Place) (a : Act) (kind : StepKind) (mark : Option Mark) (found : ℕ) → Moves v w p a kind mark found → Does v w (Only (record { place = p; act = a; kind = kind; mark = mark; found = found }))
 unfolding Does moment_of
 does_one v w p a kind mark found m = (moment_of v p a kind mark found ∷ [], moves_ran v w p a kind mark found m, refl)
 

@@ -6,7 +6,7 @@ use Rattle.xp_board.specs.declared.step.Mark.{Mark}
 use Rattle.xp_board.specs.declared.step.Mark.TheVariants as marks
 use Rattle.xp_words.specs.Machine.{Machine}
 use Rattle.xp_words.specs.declared.place.Place.{Place}
-use Rattle.xp_words.specs.declared.place.Place.TheVariants.{Clock, Life, Vcpu, Refs, Kind, M2p, Cell}
+use Rattle.xp_words.specs.declared.place.Place.TheVariants.{Clock, Life, Vcpu, Refs, Kind, M2p, Cell, Priv}
 use Rattle.xp_words.specs.Places.{place_at, sizes_of}
 use Rattle.xp_words.specs.KindWords.{kind_fields}
 use Rattle.xp_words.specs.declared.reply.Pause.TheVariants.{Lost}
@@ -40,6 +40,8 @@ pub data Deed : Type 0 where
   Gives : (f : ℕ) → Deed
   Returns : (f : ℕ) → Deed
   SetsLife : (d w : ℕ) → Deed
+  -- which domains that one has privilege over
+  SetsPrivilege : (d w : ℕ) → Deed
   -- the translations of a page are dropped
   Forgets : (page : ℕ) → Deed
   -- an answer ends, or a turn begins
@@ -68,6 +70,7 @@ exchanged (Kind f) e w = pin_deed f (kind_fields e).pinned (kind_fields w).pinne
 exchanged (Vcpu v k) e w = only_if (is_told_word k) (SetsWord v k w)
 exchanged (Refs f) e w = only_if ((allocated_mark e == 1) && (allocated_mark w == 0)) (Returns f)
 exchanged (Life d) e w = SetsLife d w ∷ []
+exchanged (Priv d) e w = SetsPrivilege d w ∷ []
 exchanged _ e w = []
 
 abbrev pub stored : Place → ℕ → Holdings → List Deed

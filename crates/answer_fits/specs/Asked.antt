@@ -1,11 +1,11 @@
 -- What a call is asked, and which frames that asks of it: for which owner, and for which type.
-use Rattle.std.specs.Prelude.{◌≡◌, ◌⊎◌, ℕ, ◌<◌, ◌≤◌, ◌==◌, nat_lt, nat_le, if◌then◌else◌, ◌&&◌, not, Bool, true, false, Option, Some, None, IsTrue}
+use Rattle.std.specs.Prelude.{◌≡◌, ◌⊎◌, ℕ, ◌<◌, ◌≤◌, ◌/◌, ◌==◌, nat_lt, nat_le, if◌then◌else◌, ◌&&◌, ◌||◌, not, Bool, true, false, Option, Some, None, IsTrue}
 use Rattle.xp_words.specs.PageTypes.{is_table}
 use Rattle.xp_words.specs.Places.{sizes_of}
 use Rattle.xp_words.specs.declared.kind.KindWord.{KindWord}
 use Rattle.xp_board.specs.Knowledge.{knows_owner}
 use Rattle.xp_words.specs.Machine.{Machine}
-use Rattle.xp_words.specs.declared.place.Place.TheVariants.{Cell, Vcpu, Kind}
+use Rattle.xp_words.specs.declared.place.Place.TheVariants.{Cell, Vcpu, Refs, Kind}
 use Rattle.xp_words.specs.Entries.{demand_at, frame_of}
 use Rattle.xp_words.specs.KindWords.{kind_fields}
 use Rattle.xp_words.specs.declared.entry.Demand.{Demand}
@@ -18,7 +18,7 @@ use Rattle.xp_board.specs.declared.holdings.Lock.{Lock}
 use Rattle.xp_board.specs.declared.holdings.Work.{Work}
 use Rattle.xp_board.specs.declared.holdings.OwnerFound.TheVariants as owners
 use Rattle.xp_board.specs.Hands.{work_on, lock_on, refs_to, typed_to, typed_hand, typed_owner}
-use Rattle.xp_board.specs.Readings.{is_context, is_dead, is_frame_word, domain_of}
+use Rattle.xp_board.specs.Readings.{is_context, is_dead, is_frame_word, owner_of, domain_of}
 use Rattle.step_maker.specs.Moves.{Moment}
 use Rattle.answer_fits.specs.Finding.{Finding, FoundAt, FoundWith}
 
@@ -45,18 +45,21 @@ pub record Request : Type 0 where
   -- the cell that it writes, and the new word of it
   pub index : Option ℕ
   pub new_word : Option ℕ
-  -- whether entries of the tables that it works on ask frames; whether context words do
+  -- whether it reads cells of the frames that it works on or copies, so that entries of tables among them ask frames; whether context words do
   pub entries : Bool
   pub contexts : Bool
   -- whether it may mark live frames that it names, or take marks off, and leave them their type (an entry lock, a pin)
   pub locks : Bool
-  -- whether it walks the own tables; whether it ends with a flush of its own
+  -- whether it walks the own tables; whether it is a store of the guest's, which a read-only translation alone refuses; whether it ends with a
+  -- flush of its own
   pub walks : Bool
+  pub stores : Bool
   pub flushes : Bool
   -- the flushes that it waits for, whatever frames it asks
   pub waits : Option Wait
-  -- the domain that it destroys; the one whose life word it looks at
+  -- the domain that it destroys; the one whose privileges it changes
   pub destroys : Option ℕ
+  pub grants : Option ℕ
   -- how many pages it takes, in blocks of so many frames
   pub pages : Option ℕ
   pub block : Option ℕ
@@ -88,9 +91,11 @@ of_frame f owner want =
       contexts = false;
       locks = false;
       walks = false;
+      stores = false;
       flushes = false;
       waits = None;
       destroys = None;
+      grants = None;
       pages = None;
       block = None;
       rose = false;
@@ -112,6 +117,32 @@ of_back f = record (of_frame 0 0 None) { names = λ g. false; backs = λ g. g ==
 -- a call that its numbers alone refuse
 abbrev pub of_numbers : Refusal → Request
 of_numbers x = record (of_frame 0 0 None) { names = λ g. false; by_numbers = Some x }
+
+-- a call that takes `size` pages for that owner, in one block of so many frames: number `number` of the machine's. It names the frames of that block
+-- alone, so that what it looks at in others is no reason to touch them, or to wait for them.
+abbrev pub of_block : ℕ → ℕ → ℕ → Request
+of_block owner size number = record (of_frame 0 owner None) { names = λ g. g / size == number; pages = Some size; block = Some size }
+
+-- a call that gives an allocated frame of that owner back to the machine
+abbrev pub of_return : ℕ → ℕ → Request
+of_return f owner = record (of_frame f owner None) { returns = true }
+
+-- a call that gives domain `to` privilege over another, or takes it away
+abbrev pub of_grant : ℕ → ℕ → Request
+of_grant to over = record (of_frame 0 0 None) { names = λ g. false; grants = Some to; over = λ d. (d == to) || (d == over) }
+
+-- a call that destroys a domain, whose tables and words ask the frames that are to be given back. `rose`: the gate said yes
+abbrev pub of_destroy : ℕ → Bool → Request
+of_destroy d rose =
+    record (of_frame 0 d None) {
+      names = λ g. false;
+      entries = true;
+      contexts = true;
+      locks = true;
+      destroys = Some d;
+      over = λ x. x == d;
+      rose = rose;
+    }
 
 -- ---- entries
 -- a table whose entries may be read: past its flush
@@ -177,6 +208,8 @@ pub data Asked (n : Machine) (s : ℕ) (r : Request) (F : Finding) (f owner : �
   -- an old word names it, which has the frame's own type
   of_old : (v k w x : ℕ) → r.contexts ≡ true → FoundAt F (Vcpu v k) w → (k ≡ 2) ⊎ (k ≡ 3) → IsTrue (is_frame_word f w) → (v ≡ s) ⊎ (r.destroys ≡ Some (domain_of n v)) →
       FoundAt F (Kind f) x → IsTrue (not (is_dead (kind_fields x))) → owner ≡ domain_of n v → IsFor want (Some (kind_fields x).kind) → Asked n s r F f owner want
+  -- it was found to be a frame of the domain under destruction, whatever its type
+  doomed : (d x : ℕ) → r.destroys ≡ Some d → FoundAt F (Refs f) x → owner_of x ≡ Some d → owner ≡ d → IsFor want None → Asked n s r F f owner want
 
 -- of some owner and for some type; or the call gives it back
 pub data IsAsked (n : Machine) (s : ℕ) (r : Request) (F : Finding) (f : ℕ) : Type 0 where
@@ -226,9 +259,11 @@ pub record Within (n : Machine) (s : ℕ) (r : Request) (F : Finding) (q : Reque
   pub index : Keeps r.index q.index
   pub new_word : Keeps r.new_word q.new_word
   pub walks : Implies r.walks q.walks
+  pub stores : Implies r.stores q.stores
   pub flushes : Implies r.flushes q.flushes
   pub waits : Keeps r.waits q.waits
   pub destroys : Keeps r.destroys q.destroys
+  pub grants : Keeps r.grants q.grants
   pub pages : Keeps r.pages q.pages
   pub block : Keeps r.block q.block
   pub rose : Implies r.rose q.rose

@@ -1,5 +1,5 @@
 -- Why a step may change a word: it serves a frame that is asked, or a flush that is asked or awaited.
-use Rattle.std.specs.Prelude.{◌≡◌, ◌≢◌, ◌⊎◌, ℕ, ◌+◌, ◌/◌, ◌==◌, ◌&&◌, ◌||◌, ◌≤◌, not, Bool, true, length, Option, Some, None, IsTrue}
+use Rattle.std.specs.Prelude.{◌≡◌, ◌≢◌, ◌⊎◌, ℕ, ◌+◌, ◌/◌, ◌==◌, ◌&&◌, ◌||◌, ◌<◌, ◌≤◌, not, Bool, true, length, Some, None, IsTrue}
 use Rattle.xp_words.specs.Machine.{Machine}
 use Rattle.xp_words.specs.declared.place.Place.{Place}
 use Rattle.xp_words.specs.declared.place.Place.TheVariants.{Clock, Pages, Life, Vcpu, Refs, Kind, M2p, Cell, Map, Priv}
@@ -27,6 +27,10 @@ pub data Whose : Type 0 where
 abbrev pub HadClock : Machine → ℕ → Holdings → Type 0
 HadClock n stamp h = IsTrue (some_since (sizes_of n) 0 Clock (λ w. w == stamp) h.steps)
 
+-- the frame was found free, with a stamp no greater
+abbrev pub FoundFreeBy : Finding → ℕ → ℕ → Type 0
+FoundFreeBy F g stamp = (x : ℕ) × FoundAt F (Refs g) x × (is_free x ≡ true) × (free_stamp x ≤ stamp)
+
 -- the stamps that flushes are awaited for, and whose
 pub data AwaitsStamp (n : Machine) (s : ℕ) (r : Request) (F : Finding) (whose : Whose) (stamp : ℕ) : Type 0 where
   -- found in a marked kind word of an asked frame
@@ -36,8 +40,9 @@ pub data AwaitsStamp (n : Machine) (s : ℕ) (r : Request) (F : Finding) (whose 
   -- found in a dead word of an asked frame whose type is neither None nor the one asked
   other : (f w owner : ℕ) (want : PageType) (h : Holdings) → Asked n s r F f owner (Some want) → FoundWith F (Kind f) w h → Passed n r F f owner h → IsTrue (is_dead (kind_fields w)) →
       is_stale (kind_fields w) want ≡ true → whose ≡ OfOwner owner → stamp ≡ (kind_fields w).number → AwaitsStamp n s r F whose stamp
-  -- found in a free word by a call that takes pages
-  free : (f w k : ℕ) → r.pages ≡ Some k → IsAsked n s r F f → FoundAt F (Refs f) w → is_free w ≡ true → whose ≡ Those (λ v. true) → stamp ≡ free_stamp w → AwaitsStamp n s r F whose stamp
+  -- found in a free word by a call that takes pages: the greatest of the block that it takes, all of which it found free
+  free : (f w k size : ℕ) → r.pages ≡ Some k → r.block ≡ Some size → IsAsked n s r F f → FoundAt F (Refs f) w → is_free w ≡ true → ((g : ℕ) → g / size ≡ f / size → g < n.frames → FoundFreeBy F g (free_stamp w)) →
+      whose ≡ Those (λ v. true) → stamp ≡ free_stamp w → AwaitsStamp n s r F whose stamp
   -- the clock that was found when the call's own wait began, in it or in an earlier turn
   begun : (x : Wait) → r.waits ≡ Some x → x.stamp ≡ None → FoundAt F Clock stamp → whose ≡ Those x.means → AwaitsStamp n s r F whose stamp
   goes_on : (x : Wait) (m : Moment) → r.waits ≡ Some x → x.stamp ≡ Some stamp → F m → HadClock n stamp m.hand → whose ≡ Those x.means → AwaitsStamp n s r F whose stamp
@@ -135,10 +140,11 @@ Reason n s r F (Kind f) a x h = MayType n s r F f a x h
 Reason n s r F (M2p f) a x h = IsAsked n s r F f
 Reason n s r F (Cell f i) a x h = IsAsked n s r F f
 Reason n s r F (Map k) a x h = (f : ℕ) × (k ≡ f / 64) × IsAsked n s r F f
-Reason n s r F (Priv d) a x h = ⊥
+Reason n s r F (Priv d) a x h = r.grants ≡ Some d
 
 -- ---- looks
--- Cells are read by a call that reads entries or walks tables, or that writes a cell. All other words may be looked at.
+-- Cells are read by a call that reads those of frames that it works on or copies, that walks tables, or that writes a cell. All other words may be
+-- looked at.
 abbrev pub MayLook : Request → Place → Type 0
 MayLook r (Cell f i) = (r.entries ≡ true) ⊎ ((r.walks ≡ true) ⊎ ((k : ℕ) × (r.index ≡ Some k)))
 MayLook r _ = Unit {0}

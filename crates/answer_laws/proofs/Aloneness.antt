@@ -27,7 +27,7 @@ use Rattle.answer_fits.specs.Finding.{FoundWith}
 use Rattle.answer_fits.specs.Pauses.{IsElsewhere, found_busy}
 use Rattle.answer_laws.specs.Alone.{IsAlone, IsDueOrFlush}
 use Rattle.answer_laws.proofs.Holding.{nobody_busies, empty_elsewhere}
-use Rattle.answer_laws.proofs.Meeting.{none_some}
+use Rattle.answer_laws.proofs.Meeting.{nobody_in_the_way, none_some}
 
 -- ---- own steps
 module _ (keeps : RunsSound) where
@@ -97,7 +97,7 @@ never_busy stays v w r f x alone alive stops = by_case stops
   where
     by_case : Stops v w r (Paused (Busy f x)) → ⊥
     by_case (inl b) = busy_then stays v w f x b.2 alone b.4 b.6 b.8
-    by_case (inr b) = none_some r.destroys b.0 alive b.1
+    by_case (inr b) = nobody_in_the_way v.post.machine r (Met v w) f x alive b
 
 -- ---- all pauses
 abbrev pub NothingBusy : Type 0

@@ -20,8 +20,8 @@ use Rattle.xp_board.specs.Marks.{after_mark}
 use Rattle.xp_board.specs.Readings.{allocated_mark, is_free}
 use Rattle.xp_board.specs.Told.{PortValue}
 use Rattle.step_maker.specs.Moves.{Moment, Met}
-use Rattle.answer_fits.specs.Answers.{Deed, Piece, Misses, Returns, deeds, deeds_by, marked_by, exchanged, exchanged_as, missed_at}
-use Rattle.answer_fits.specs.Asked.{Request, of_frame, IsFor, Asked, named, demanded, entered, walked, context, of_old, IsAsked, of, back}
+use Rattle.answer_fits.specs.Answers.{Deed, Piece, Misses, Returns, SetsPrivilege, deeds, deeds_by, marked_by, exchanged, exchanged_as, missed_at}
+use Rattle.answer_fits.specs.Asked.{Request, of_frame, IsFor, Asked, named, demanded, entered, walked, context, of_old, doomed, IsAsked, of, back}
 use Rattle.answer_fits.specs.Finding.{Finding}
 use Rattle.answer_fits.specs.Reasons.{IsFlushedNext, MayFlush, MayAskFor, HasReason}
 use Rattle.xp_words.specs.Machine.{Machine}
@@ -52,6 +52,7 @@ its_frame n s f owner want F g o k (entered i j w l m e a b c d q p u) = absurd 
 its_frame n s f owner want F g o k (walked i j w a b c d e) = absurd cc
 its_frame n s f owner want F g o k (context q j w x a b c d e i) = absurd cc
 its_frame n s f owner want F g o k (of_old q j w x a b c d e i p u l) = absurd cc
+its_frame n s f owner want F g o k (doomed d x a b c e i) = absurd cc
 
 its_asked : (n : Machine) (s f owner : ℕ) (want : Option PageType) (F : Finding) (g : ℕ) → IsAsked n s (of_frame f owner want) F g → g ≡ f
 its_asked n s f owner want F g (of o k a) = (its_frame n s f owner want F g o k a).0
@@ -185,6 +186,28 @@ returned v w r ds ms m f e x piece at is by finds was now =
     let deed : Member (Returns f) (deeds_by (Refs f) (Cas e x) m.kind m.found m.hand) = subst (λ b. Member (Returns f) (if b then exchanged_as m.kind (Refs f) e x else missed_at (Refs f))) (sym (when_eq m.found e finds)) same in
     subst (λ es. Member (Returns f) es) piece.deeds_are (deed_in ms m (Returns f) at
     (subst (λ p. Member (Returns f) (deeds_by p m.act m.kind m.found m.hand)) (sym is) (subst (λ a. Member (Returns f) (deeds_by (Refs f) a m.kind m.found m.hand)) (sym by) deed)))
+
+-- nor of a word of privileges
+priv_exchange : (n : Machine) (s d e x : ℕ) (h : Holdings) (mark : Option Mark) (by : StepKind) → LegalAs n s h (Priv d) (Cas e x) mark by → exchanged_as by (Priv d) e x ≡ exchanged (Priv d) e x
+priv_exchange n s d e x h mark steps.Priv legal = refl
+priv_exchange n s d e x h mark by legal = absurd legal
+
+pub privileges : (v w : PortValue) (r : Request) (ds : List Deed) (ms : List Moment) (m : Moment) (d e x : ℕ) → Piece v w r ds ms → Member m ms → m.place ≡ Priv d → m.act ≡ Cas e x → m.found ≡ e →
+    (r.grants ≡ Some d) × Member (SetsPrivilege d x) ds
+privileges v w r ds ms m d e x piece at is by finds =
+    let n = v.post.machine in
+    let s = v.post.vcpu in
+    let may = member_may v w ms m piece.ran at in
+    let h = after_mark n m.mark m.hand in
+    let legal : LegalAs n s h (Priv d) (Cas e x) m.mark m.kind =
+    subst (λ a. LegalAs n s h (Priv d) a m.mark m.kind) by (subst (λ p. LegalAs n s h p m.act m.mark m.kind) is may.act) in
+    let its = SetsPrivilege d x in
+    let same : Member its (exchanged_as m.kind (Priv d) e x) = subst (λ es. Member its es) (sym (priv_exchange n s d e x h m.mark m.kind legal)) (is_first its) in
+    let deed : Member its (deeds_by (Priv d) (Cas e x) m.kind m.found m.hand) = subst (λ b. Member its (if b then exchanged_as m.kind (Priv d) e x else missed_at (Priv d))) (sym (when_eq m.found e finds)) same in (
+      reason_at v w r ds ms m piece at (Priv d) (Cas e x) is by,
+      subst (λ es. Member its es) piece.deeds_are (deed_in ms m its at
+      (subst (λ p. Member its (deeds_by p m.act m.kind m.found m.hand)) (sym is) (subst (λ a. Member its (deeds_by (Priv d) a m.kind m.found m.hand)) (sym by) deed))),
+    )
 
 pub claims : (v w : PortValue) (r : Request) (ds : List Deed) (ms : List Moment) (m : Moment) (f e x : ℕ) → r.pages ≡ None → Piece v w r ds ms → Member m ms → m.place ≡ Refs f → m.act ≡ Cas e x → is_free e ≡ false
 claims v w r ds ms m f e x none piece at is by =

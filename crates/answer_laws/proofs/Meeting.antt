@@ -1,6 +1,7 @@
 -- What a moment of a piece found, and why it was legal, by the port as the piece began.
 use Rattle.std.proofs.Common.{◌≡◌, ℕ, ◌<◌, List, [], ◌∷◌, Option, Some, None, sym, ◌∙◌, subst, inl, inr}
 use Rattle.xp_words.specs.declared.place.Place.{Place}
+use Rattle.xp_words.specs.Machine.{Machine}
 use Rattle.xp_words.specs.Places.{sizes_of}
 use Rattle.xp_board.specs.declared.holdings.Holdings.{Holdings}
 use Rattle.xp_board.specs.Told.{Post, PortValue, Finds}
@@ -8,10 +9,17 @@ use Rattle.xp_board.specs.Legal.{LegalMove}
 use Rattle.xp_board.specs.Lists.{Member}
 use Rattle.step_maker.specs.Moves.{Moment, Ran, Met}
 use Rattle.step_maker.proofs.Coming.{ran_post, came_post}
-use Rattle.answer_fits.specs.Finding.{FoundAt, FoundWith}
+use Rattle.answer_fits.specs.Asked.{Request}
+use Rattle.answer_fits.specs.Finding.{Finding, FoundAt, FoundWith}
+use Rattle.answer_fits.specs.Pauses.{IsInTheWay, in_use, dying}
 
 pub none_some : {A : Type 0} (o : Option A) (x : A) → o ≡ None → o ≡ Some x → ⊥
 none_some o x a b = let e = sym a ∙ b in absurd cc
+
+-- a frame stands in the way of a destruction alone
+pub nobody_in_the_way : (n : Machine) (r : Request) (F : Finding) (f x : ℕ) → r.destroys ≡ None → IsInTheWay n r F f x → ⊥
+nobody_in_the_way n r F f x alive (in_use d y h a b c e i) = none_some r.destroys d alive a
+nobody_in_the_way n r F f x alive (dying d a b c e) = none_some r.destroys d alive a
 
 -- the words and hands by which it found that word
 pub met_finds : (v w : PortValue) (m : Moment) → Met v w m → Finds v.post.machine v.post.vcpu m.hand m.place m.found

@@ -10,12 +10,13 @@ use Rattle.xp_words.specs.declared.reply.Stop.TheVariants.{Paused}
 use Rattle.xp_board.specs.declared.holdings.Holdings.{Holdings}
 use Rattle.xp_board.specs.Readings.{domain_of}
 use Rattle.xp_board.specs.Told.{Post, PortValue, Finds}
+use Rattle.step_maker.specs.Moves.{Met}
 use Rattle.step_maker.proofs.Coming.{came_post}
 use Rattle.answer_fits.specs.Answers.{Stops}
 use Rattle.answer_fits.specs.Asked.{Request}
 use Rattle.answer_fits.specs.Pauses.{IsElsewhere, found_busy}
 use Rattle.answer_laws.proofs.Holding.{nobody_busies}
-use Rattle.answer_laws.proofs.Meeting.{none_some, found_finds, found_real}
+use Rattle.answer_laws.proofs.Meeting.{nobody_in_the_way, found_finds, found_real}
 
 one_of : (n s t : ℕ) → n ≡ 1 → s < n → t < n → t ≡ s
 one_of n s t one a b = omega (arith, one, a, b)
@@ -33,7 +34,7 @@ never_busy v w r f x one alive stops = by_case stops
   where
     by_case : Stops v w r (Paused (Busy f x)) → ⊥
     by_case (inl b) = mine v.post.machine v.post.vcpu b.2 f x one (found_finds v w (Kind f) x b.2 b.4) b.6 b.8
-    by_case (inr b) = none_some r.destroys b.0 alive b.1
+    by_case (inr b) = nobody_in_the_way v.post.machine r (Met v w) f x alive b
 
 pub never_waits : (v w : PortValue) (r : Request) (u stamp x : ℕ) → length v.post.machine.vcpu_domain ≡ 1 → Stops v w r (Paused (Flush u stamp x)) → ⊥
 unfolding Stops

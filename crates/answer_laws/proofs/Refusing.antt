@@ -12,9 +12,9 @@ use Rattle.xp_words.specs.Places.{sizes_of}
 use Rattle.xp_board.specs.Told.{PortValue}
 use Rattle.step_maker.specs.Moves.{Moment, Met}
 use Rattle.answer_fits.specs.Answers.{Stops}
-use Rattle.answer_fits.specs.Asked.{Request, of_frame, Asked, named, demanded, entered, walked, context, of_old, Passed, checked, given, old, stands}
+use Rattle.answer_fits.specs.Asked.{Request, of_frame, Asked, named, demanded, entered, walked, context, of_old, doomed, Passed, checked, given, old, stands}
 use Rattle.answer_fits.specs.Pauses.{AskedTo, IsElsewhere}
-use Rattle.answer_laws.proofs.Meeting.{none_some}
+use Rattle.answer_laws.proofs.Meeting.{nobody_in_the_way}
 
 never : (a b : ℕ) → a < b → b ≤ a → ⊥
 never a b x y = omega (arith, x, y)
@@ -44,7 +44,7 @@ own_work v w r f x alive works stops = by_case stops
   where
     by_case : Stops v w r (Paused (Busy f x)) → ⊥
     by_case (inl b) = let a = b.4 in works a.moment a.was a.place a.word (subst (IsElsewhere f) (sym a.hand) b.8)
-    by_case (inr b) = absurd (none_some r.destroys b.0 alive b.1)
+    by_case (inr b) = absurd (nobody_in_the_way v.post.machine r (Met v w) f x alive b)
 
 pub waits : (v w : PortValue) (r : Request) (u stamp x : ℕ) → Stops v w r (Paused (Flush u stamp x)) → AskedTo stamp (Met v w) u
 unfolding Stops
@@ -63,6 +63,7 @@ foreign v w f owner t x off stops = by_case stops
     its o (walked q i y a b c d e) = absurd cc
     its o (context q k y z a b c d e i) = absurd cc
     its o (of_old q k y z a b c d e g i j l) = absurd cc
+    its o (doomed d y a b c e g) = absurd cc
 
     not_passed : (h : Holdings) → knows_owner (sizes_of v.post.machine) f owner h ≡ false → typed_to f h.typed ≡ 0 → Passed v.post.machine (of_frame f owner (Some t)) (Met v w) f owner h → ⊥
     not_passed h unknown none (checked a) = cc
@@ -76,4 +77,4 @@ foreign v w f owner t x off stops = by_case stops
         let no = off a.moment a.was a.place a.word in
         not_passed b.1 (ap (knows_owner (sizes_of v.post.machine) f owner) (sym a.hand) ∙ no.0) (ap (λ (h : Holdings). typed_to f h.typed) (sym a.hand) ∙ no.1)
         (subst (λ o. Passed v.post.machine (of_frame f owner (Some t)) (Met v w) f o b.1) (its b.0 b.2) b.4)
-    by_case (inr b) = absurd (let no = b.2 in cc)
+    by_case (inr b) = absurd (let no = b.1.1 in cc)

@@ -4,6 +4,7 @@
 
 mod alone;
 mod answers;
+mod licences;
 mod one_vcpu;
 mod pieces;
 
@@ -15,10 +16,18 @@ pub use answers::{
     a_foreign_frame_has_no_other_type, own_references_fill_no_count, own_types_fill_no_count,
     own_work_is_not_busy, who_is_waited_for_was_asked,
 };
+pub use licences::{
+    a_claim_awaits_its_own_block, a_frame_of_a_destroyed_domain_is_asked,
+    a_frame_that_is_not_allocated_is_not_returned, a_grant_wants_the_privilege,
+    a_level_is_walked_to_from_above, a_write_for_the_guest_finds_no_table,
+    destruction_is_due_behind_an_empty_vcpu, no_free_block_in_one_pass_upwards,
+    no_privilege_destroys_the_own_domain, only_an_entry_update_walks_to_another_type,
+};
 pub use one_vcpu::{nobody_is_alive, nobody_is_waited_for, nothing_is_busy};
 pub use pieces::{
     a_claim_takes_pages, a_return_is_a_deed, a_store_keeps_the_type, asks_are_of_awaited_stamps,
     kind_words_of_other_frames_stay, no_kind_word_is_changed, no_kind_word_is_exchanged,
     no_needless_flush, nothing_is_tried_again, only_the_asked_type,
+    privileges_are_changed_as_asked,
     the_clock_goes_on_for_a_flush_alone,
 };

@@ -1,6 +1,6 @@
 //! Lists of steps that do not fit.
 ghost use Rattle.std.specs.Prelude.{◌≡◌, ◌≢◌, ◌⊎◌, ℕ, false, List, Option, Some, None};
-ghost use Rattle.xp_words.specs.declared.place.Place.TheVariants.{Clock, Life, Refs, Kind, Vcpu};
+ghost use Rattle.xp_words.specs.declared.place.Place.TheVariants.{Clock, Life, Refs, Kind, Priv, Vcpu};
 ghost use Rattle.xp_words.specs.KindWords.{kind_fields};
 ghost use Rattle.xp_words.specs.declared.kind.PageType.{PageType};
 ghost use Rattle.xp_board.specs.declared.step.Act.TheVariants.{Load, Cas, Store, Max};
@@ -11,7 +11,7 @@ ghost use Rattle.xp_board.specs.Marks.{after_mark};
 ghost use Rattle.xp_board.specs.Readings.{allocated_mark, is_free};
 ghost use Rattle.xp_board.specs.Told.{PortValue};
 ghost use Rattle.step_maker.specs.Moves.{Moment, Met};
-ghost use Rattle.answer_fits.specs.Answers.{Deed, Piece, Misses, Returns};
+ghost use Rattle.answer_fits.specs.Answers.{Deed, Piece, Misses, Returns, SetsPrivilege};
 ghost use Rattle.answer_fits.specs.Asked.{Request, of_frame};
 ghost use Rattle.answer_fits.specs.Reasons.{IsFlushedNext, MayFlush, MayAskFor};
 
@@ -63,6 +63,13 @@ pub fn nothing_is_tried_again()
 pub fn a_return_is_a_deed()
     ensures { (v w : PortValue) (r : Request) (ds : List Deed) (ms : List Moment) (m : Moment) (f e x : ℕ) → Piece v w r ds ms → Member m ms → m.place ≡ Refs f → m.act ≡ Cas e x → m.found ≡ e →
         allocated_mark e ≡ 1 → allocated_mark x ≡ 0 → Member (Returns f) ds }
+{}
+
+/// Privileges are changed only by a call that gives or takes them, and that is a deed.
+#[tactic(auto, using(crate::proofs::Fitting::privileges))]
+pub fn privileges_are_changed_as_asked()
+    ensures { (v w : PortValue) (r : Request) (ds : List Deed) (ms : List Moment) (m : Moment) (d e x : ℕ) → Piece v w r ds ms → Member m ms → m.place ≡ Priv d → m.act ≡ Cas e x → m.found ≡ e →
+        (r.grants ≡ Some d) × Member (SetsPrivilege d x) ds }
 {}
 
 /// A free frame is claimed only by a call that takes pages.

@@ -96,7 +96,7 @@ module _ (z : Sizes) where
   -- ---- one vCPU that is waited for: it is one of the machine
   flushed_short : (u : ℕ) (answer : Result (Unit {0}) Refusal) → Short z (λ vs. FlushedBy u answer vs) 3
   flushed_short u answer vs there flushing.none = omega arith
-  flushed_short u answer vs there (flushing.once clock found to before) = omega arith
+  flushed_short u answer vs there (flushing.once clock found to before some left) = omega arith
 
   weighs_short : (n : Machine) (owner u : ℕ) (reaches : Bool) → Short z (λ vs. WeighsBy n (OfOwner owner) u reaches vs) 1
   weighs_short n owner u reaches vs there (inl a) = let few = nothing_short vs there a.2 in omega arith

@@ -1,5 +1,5 @@
 -- What an entry asks is taken: what a guest sees of it, and why it is not to be had.
-use Rattle.std.proofs.Common.{◌≡◌, ◌≢◌, ◌⊎◌, ℕ, ◌-◌, ◌==◌, ◌≤◌, not, Bool, true, false, List, [], ◌∷◌, ◌++◌, Option, Some, None, Result, Ok, Err, IfErr, refl, sym, ap, ◌∙◌, subst, arith, inl, inr}
+use Rattle.std.proofs.Common.{◌≡◌, ◌≢◌, ◌⊎◌, ℕ, ◌-◌, ◌==◌, ◌≤◌, not, Bool, true, false, List, [], ◌∷◌, ◌++◌, Option, Some, None, Result, Ok, Err, IfErr, refl, rules, sym, ap, ◌∙◌, subst, arith, inl, inr}
 use Rattle.xp_words.specs.Entries.{below}
 use Rattle.xp_words.specs.Machine.{Machine}
 use Rattle.xp_words.specs.PageTypes.{is_table}
@@ -18,8 +18,10 @@ use Rattle.xp_board.specs.Told.{PortValue}
 use Rattle.board_lemmas.proofs.Sums.{when_eq}
 use Rattle.step_maker.specs.Moves.{Met}
 use Rattle.answer_fits.specs.Answers.{Deed, Misses, Serves, Stops, missed}
-use Rattle.answer_fits.specs.Asked.{Asked, Implies, IsFor, IsNaming, Request, Within, context, demanded, entered, entry_owner, named, of_frame, of_old, of_table, walked}
+use Rattle.answer_fits.specs.Asked.{Implies, IsFor, Request, Within, named, of_frame, of_table}
 use Rattle.answer_fits.specs.Finding.{Finding}
+use Rattle.answer_fits.specs.Rising.{IsOfSame, NeedsOwners}
+use Rattle.answer_fits.proofs.Grown.{grown_where, implied, risen}
 use Rattle.answer_fits.proofs.Piecing.{serves_nothing, serves_within, stops_within, within_frame}
 use Rattle.kept_marks.specs.Marks.{IsForeign}
 use Rattle.level_release.specs.Asking.{is_due_answer, is_due_stop}
@@ -31,61 +33,28 @@ use Rattle.partial_state.proofs.LevelFacts.{level_type-table, level_type-under}
 use Rattle.writable_pages.specs.Pages.{HidesMark, ServesPage, of_page}
 use Rattle.entry_exchange.specs.Asking.{IsHidden}
 use Rattle.entry_exchange.specs.Serving.{ServesTaken, of_demand}
-use Rattle.entry_exchange.proofs.ServesWithin.{owners_alike}
 
 -- ---- a call on the frame, within the demand
-module _ (n : Machine) (s f owner pages within_pages : ℕ) (t : PageType) (want : Option PageType) (rose risen marks entries : Bool) (F : Finding) where
+module _ (n : Machine) (s f owner pages within_pages : ℕ) (t : PageType) (want : Option PageType) (rose up marks entries : Bool) (F : Finding) where
   abbrev inner : Request
   inner = record (of_table f owner want pages rose) { locks = marks; entries = entries }
 
   abbrev outer : Request
-  outer = of_demand (Typed f t) owner within_pages risen
+  outer = of_demand (Typed f t) owner within_pages up
 
   module _ (is : want ≡ Some t) (fits : entries ≡ true → (is_table t ≡ true) × (pages ≡ within_pages)) where
-    same_below : entries ≡ true → (work : Option Work) (lock : Option Lock) → entry_owner inner work lock ≡ entry_owner outer work lock
-    same_below on work lock = owners_alike inner outer refl (fits on).1 work lock
+    same_owners : NeedsOwners inner → IsOfSame inner outer
+    same_owners (inl on) = record { owner = refl; pages_of = (fits on).1 }
+    same_owners (inr (inl a)) = absurd cc
+    same_owners (inr (inr (inl a))) = absurd cc
+    same_owners (inr (inr (inr a))) = absurd (let b = a.1 in cc)
 
-    asked_so : (g o : ℕ) (k : Option PageType) → Asked n s inner F g o k → Asked n s outer F g o k
-    asked_so g o k (named a b c) = named a b (subst (λ w. IsFor k w) is c)
-    asked_so g o k (demanded u i w h e a b c) = demanded u i w h (fits e).0 a b (c ∙ same_below e (work_on u h.works) (lock_on u h.locks))
-    asked_so g o k (walked u i w x a b c d) = absurd cc
-    asked_so g o k (context v j w x a b c d e i) = absurd cc
-    asked_so g o k (entered u i w l m a b c d e j x y) = absurd cc
-    asked_so g o k (of_old v j w y a b c d e i l x z) = absurd cc
-
-    plain_inner : IsNaming inner → ⊥
-    plain_inner (inl a) = absurd cc
-    plain_inner (inr (inl a)) = absurd cc
-    plain_inner (inr (inr a)) = absurd (let b = a.1 in cc)
-
-    pub within_demand : Implies rose risen → Within n s inner F outer F
+    pub within_demand : Implies rose up → Within n s inner F outer F
     within_demand rises =
-        record {
-          asked = asked_so;
-          backs = λ g a. absurd cc;
-          moments = λ m a. a;
-          returns = λ a. absurd cc;
-          by_numbers = λ x a. absurd cc;
-          index = λ x a. absurd cc;
-          new_word = λ x a. absurd cc;
-          walks = λ a. absurd cc;
-          flushes = λ a. absurd cc;
-          destroys = λ x a. absurd cc;
-          pages = λ x a. absurd cc;
-          block = λ x a. absurd cc;
-          rose = rises;
-          entries = λ a. (fits a).0;
-          contexts = λ a. absurd cc;
-          locks = λ a. refl;
-          pins = λ a. absurd cc;
-          alone = λ a. absurd cc;
-          names = λ a. absurd (plain_inner a);
-          owner = λ a. absurd cc;
-          over = λ e a. absurd cc;
-          waits = λ x a. absurd cc;
-          ldt_page = λ x a. absurd cc;
-          descriptor = λ x a. absurd cc;
-        }
+        let gate = implied rose up rises in
+        let tables = implied entries (is_table t) (λ on. (fits on).0) in
+        let marking = risen marks in
+        grown_where n s inner outer F F (λ m a. a) (search (rules, gate, tables, marking)) same_owners (λ g here k less. named here refl (subst (λ w. IsFor k w) is less)) (λ any g here. here) (λ g none. absurd cc)
 
 -- ---- by the answer
 pub serves_as : (v w : PortValue) (wanted d : Demand) (owner pages : ℕ) (answer is : Result (Unit {0}) Stop) → wanted ≡ d → answer ≡ is → ServesTaken v w d owner pages is → ServesTaken v w wanted owner pages answer

@@ -17,8 +17,9 @@ use Rattle.board_lemmas.proofs.Sums.{when_eq}
 use Rattle.step_maker.specs.Moves.{Met, Moves}
 use Rattle.step_maker.proofs.Coming.{came_post}
 use Rattle.answer_fits.specs.Answers.{Deed, Misses, Serves, misses}
-use Rattle.answer_fits.specs.Asked.{Asked, Request, Within, back, context, demanded, entered, named, of_back, of_old, walked}
+use Rattle.answer_fits.specs.Asked.{Request, Within, back, named, of_back}
 use Rattle.answer_fits.specs.Finding.{Finding}
+use Rattle.answer_fits.proofs.Grown.{grown_by, grows_self, risen}
 use Rattle.answer_fits.proofs.Piecing.{serves_back, serves_came, serves_step, serves_then, serves_within, within_back}
 use Rattle.kept_marks.specs.Marks.{IsForeign, ServesKept}
 use Rattle.kept_marks.proofs.Serving.{asked_later, left_serves}
@@ -57,45 +58,9 @@ behind_kept v a w f owner gives kept u r ds before asked locks =
 
 -- ---- released
 module _ (n : Machine) (s : ℕ) (r : Request) (F : Finding) where
-  abbrev risen : Request
-  risen = record r { rose = true }
-
-  asked_risen : (g o : ℕ) (k : Option PageType) → Asked n s r F g o k → Asked n s risen F g o k
-  asked_risen g o k (named a b c) = named a b c
-  asked_risen g o k (demanded t i w h e a b c) = demanded t i w h e a b c
-  asked_risen g o k (walked t i w x a b c d) = walked t i w x a b c d
-  asked_risen g o k (context v j w x a b c d e i) = context v j w x a b c d e i
-  asked_risen g o k (entered t i w l m a b c d e j x y) = entered t i w l m a b c d e j x y
-  asked_risen g o k (of_old v j w y a b c d e i l x z) = of_old v j w y a b c d e i l x z
-
-  within_risen : Within n s r F risen F
+  within_risen : Within n s r F (record r { rose = true }) F
   within_risen =
-      record {
-        asked = asked_risen;
-        backs = λ g a. back a;
-        moments = λ m a. a;
-        returns = λ a. a;
-        by_numbers = λ x a. a;
-        index = λ x a. a;
-        new_word = λ x a. a;
-        walks = λ a. a;
-        flushes = λ a. a;
-        destroys = λ x a. a;
-        pages = λ x a. a;
-        block = λ x a. a;
-        rose = λ a. refl;
-        entries = λ a. a;
-        contexts = λ a. a;
-        locks = λ a. a;
-        pins = λ a. a;
-        alone = λ a. a;
-        names = λ a f b. b;
-        owner = λ a. refl;
-        over = λ d a. (a, refl);
-        waits = λ x a. a;
-        ldt_page = λ x a. a;
-        descriptor = λ x a. a;
-      }
+      grown_by n s r (record r { rose = true }) F F (λ m a. a) (record (grows_self r) { rose = risen r.rose }) (record { owner = refl; pages_of = refl }) (λ g here k less. named here refl less) (λ any g here. here) (λ g is. back is)
 
 module _ (v w : PortValue) (f owner pages : ℕ) where
   pub released_ref : Serves v w (of_back f) [] → Serves v w (of_given (Read f) owner pages) []

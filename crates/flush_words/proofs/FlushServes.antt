@@ -1,5 +1,5 @@
 -- The own flush behind other steps: where they license it, all of them serve the same request.
-use Rattle.std.proofs.Common.{◌≡◌, ℕ, ◌+◌, ◌≤◌, ◌==◌, if◌then◌else◌, Bool, true, false, List, [], ◌++◌, Option, None, Ok, Err, Result, refl, sym, ap, ◌∙◌, subst, inl, inr, arith, Some}
+use Rattle.std.proofs.Common.{◌≡◌, ℕ, ◌+◌, ◌≤◌, ◌==◌, if◌then◌else◌, Bool, true, false, List, [], ◌++◌, Option, None, Ok, Err, Result, refl, sym, ap, ◌∙◌, subst, inl, inr, arith}
 use Rattle.xp_words.specs.Machine.{Machine}
 use Rattle.xp_words.specs.declared.place.Place.{Place}
 use Rattle.xp_words.specs.declared.place.Place.TheVariants.{Clock, Vcpu}
@@ -19,10 +19,10 @@ use Rattle.xp_board.specs.Told.{Post, PortValue}
 use Rattle.step_maker.specs.Moves.{Moves, Moment, Came, Met}
 use Rattle.step_maker.proofs.Coming.{came_trans, came_post, moves_came, moves_met, moment_of, met_before, met_after}
 use Rattle.answer_fits.specs.Answers.{Deed, Serves, Stops}
-use Rattle.answer_fits.specs.Asked.{Request, Within, Passed, checked, given, old, stands}
+use Rattle.answer_fits.specs.Asked.{Request, Within}
 use Rattle.answer_fits.specs.Finding.{Finding}
-use Rattle.answer_fits.specs.Reasons.{AwaitsStamp, marked, other, free, begun, goes_on, IsMeant, LastAtMost, NeedsFlush, Whose, own, awaited, IsFlushedNext, MayFlush, needed, asked}
-use Rattle.answer_fits.proofs.Growing.{found, found_with, asks}
+use Rattle.answer_fits.specs.Reasons.{AwaitsStamp, IsMeant, LastAtMost, NeedsFlush, Whose, own, awaited, IsFlushedNext, MayFlush, needed, asked}
+use Rattle.answer_fits.proofs.Growing as growing
 use Rattle.answer_fits.proofs.Piecing.{same_request, serves_came, serves_step, serves_two}
 use Rattle.flush_words.specs.Flushing.{FlushesOwn, spent}
 use Rattle.flush_words.proofs.Flushed.{Flushed, own_flushed}
@@ -34,22 +34,11 @@ module _ (n : Machine) (s : ℕ) (r : Request) (F G : Finding) (more : (m : Mome
   abbrev same : Within n s r F r G
   same = same_request n s r F G more
 
-  passed_more : (f o : ℕ) (h : Holdings) → Passed n r F f o h → Passed n r G f o h
-  passed_more f o h (checked a) = checked a
-  passed_more f o h (given k a b) = given k a b
-  passed_more f o h (old v k x a b c d) = old v k x a (found n s r F r G same _ x b) c d
-  passed_more f o h (stands u i x e a b c d j) = stands u i x e a (found n s r F r G same _ x b) c d j
-
   pub awaited_more : (whose : Whose) (stamp : ℕ) → AwaitsStamp n s r F whose stamp → AwaitsStamp n s r G whose stamp
-  awaited_more whose stamp (marked f x o want h a b c d e i j) = marked f x o want h (same.asked f o (Some want) a) (found_with n s r F r G same _ x h b) (passed_more f o h c) d e i j
-  awaited_more whose stamp (other f x o want h a b c d e i j) = other f x o want h (same.asked f o (Some want) a) (found_with n s r F r G same _ x h b) (passed_more f o h c) d e i j
-  awaited_more whose stamp (free f x k o a b c d e) = free f x k o (asks n s r F r G same f a) (found n s r F r G same _ x b) c d e
-  awaited_more whose stamp (begun x a b c d) = begun x a b (found n s r F r G same _ stamp c) d
-  awaited_more whose stamp (goes_on x m a b c d e) = goes_on x m a b (more m c) d e
+  awaited_more whose stamp a = growing.awaited n s r F r G same whose stamp a
 
-  pub needs_more : (h : Holdings) → NeedsFlush n s r F h → NeedsFlush n s r G h
-  needs_more h (own a) = own a
-  needs_more h (awaited whose stamp a b c) = awaited whose stamp (awaited_more whose stamp a) b c
+  needs_more : (h : Holdings) → NeedsFlush n s r F h → NeedsFlush n s r G h
+  needs_more h a = growing.needing n s r F r G same h a
 
   -- of the hand only the words count that the vCPU last found or left, of its asks and its flushes
   at_most_as : (h k : Holdings) (p : Place) (stamp : ℕ) → last_since (sizes_of n) 0 p k.steps ≡ last_since (sizes_of n) 0 p h.steps → LastAtMost n p stamp h → LastAtMost n p stamp k

@@ -73,7 +73,7 @@ own_came v w (Err r) (spent m) = moves_came v w Clock Load kinds.Look None last_
 
 flushed_does : (v w : PortValue) → Flushed v w → Does v w (λ vs. FlushedBy v.post.vcpu (Ok tt) vs)
 flushed_does v w f =
-    does_as v w _ (λ vs. FlushedBy v.post.vcpu (Ok tt) vs) (λ vs steps. three_are _ _ _ vs (λ ws. FlushedBy v.post.vcpu (Ok tt) ws) (once f.clock f.found f.to f.before) steps)
+    does_as v w _ (λ vs. FlushedBy v.post.vcpu (Ok tt) vs) (λ vs steps. three_are _ _ _ vs (λ ws. FlushedBy v.post.vcpu (Ok tt) ws) (once f.clock f.found f.to f.before f.some f.left) steps)
     (does_then v f.loaded w (Only (visit Clock Load f.clock)) (Then (Only (visit Clock (Cas f.clock (f.clock + 1)) f.found)) (Only (visit (flushed_of v.post.vcpu) (Store f.to) f.before))) (does_one v f.loaded _ _ _ _ _ f.look)
     (does_then f.loaded f.exchanged w (Only (visit Clock (Cas f.clock (f.clock + 1)) f.found)) (Only (visit (flushed_of v.post.vcpu) (Store f.to) f.before)) (does_one f.loaded f.exchanged _ _ _ _ _ f.tick)
     (does_one f.exchanged w _ _ _ _ _ f.ack)))

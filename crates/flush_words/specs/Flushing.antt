@@ -8,6 +8,7 @@ use Rattle.xp_words.specs.declared.reply.Refusal.TheVariants as refusals
 use Rattle.xp_board.specs.declared.holdings.Holdings.{Holdings}
 use Rattle.xp_board.specs.declared.step.Act.TheVariants.{Load, Cas, Store}
 use Rattle.xp_board.specs.declared.step.StepKind.TheVariants as kinds
+use Rattle.xp_board.specs.Acts.{left_by}
 use Rattle.xp_board.specs.Readings.{last_clock}
 use Rattle.xp_board.specs.Steps.{some_since}
 use Rattle.xp_board.specs.Told.{PortValue}
@@ -32,4 +33,4 @@ pub data FlushesOwn (v w : PortValue) : Result (Unit {0}) Refusal → Type 0 whe
 -- the same as a list, for vCPU s
 pub data FlushedBy (s : ℕ) : Result (Unit {0}) Refusal → List Visit → Type 0 where
   none : FlushedBy s (Err (refusals.Clock last_clock)) (visit Clock Load last_clock ∷ [])
-  once : (clock found to before : ℕ) → FlushedBy s (Ok tt) (visit (flushed_of s) (Store to) before ∷ (visit Clock (Cas clock (clock + 1)) found ∷ (visit Clock Load clock ∷ [])))
+  once : (clock found to before : ℕ) → clock ≢ last_clock → left_by (Cas clock (clock + 1)) found ≡ to → FlushedBy s (Ok tt) (visit (flushed_of s) (Store to) before ∷ (visit Clock (Cas clock (clock + 1)) found ∷ (visit Clock Load clock ∷ [])))

@@ -13,7 +13,7 @@ use Rattle.xp_board.specs.Readings.{domain_of, has_now}
 use Rattle.xp_board.specs.Steps.{some_since}
 use Rattle.xp_board.specs.Told.{PortValue}
 use Rattle.answer_fits.specs.Finding.{Finding, FoundAt}
-use Rattle.answer_fits.specs.Licences.{Licensed}
+use Rattle.answer_fits.specs.Licences.{Licensed, over_others}
 use Rattle.answer_fits.specs.Visits.{Visit}
 use Rattle.foreign_map.specs.declared.owners.Owners.{Owners}
 use Rattle.foreign_map.specs.Owning.{Admits, OverOf, OwnersBy, by_number, frames_of, of_owners, tables_of}
@@ -37,14 +37,14 @@ module _ (n : Machine) (s : ℕ) (b : Holdings) (caller foreign : ℕ) (F : Find
   unfolding FoundOf
   admits_licensed d x vs over none found (by.missing a c) = none c
   admits_licensed d x vs over none found (by.barred y a c e) =
-      (over, inl own, inl (λ same. a (sym same)), (y, found (Priv caller) y (inl (refl, refl)), is_none (has_now d y) e))
+      over_others over (inl own) (λ same. a (sym same)) y (found (Priv caller) y (inl (refl, refl))) (is_none (has_now d y) e)
   admits_licensed d x vs over none found (by.dying y z a c e k) = (over, found _ z (inl (refl, refl)), k)
 
   over_licensed : (x : Refusal) (vs : List Visit) → FoundOf vs → OverOf caller (tables_of caller foreign) (frames_of caller foreign) (Some x) vs → Licensed n s b (of_owners n caller foreign) F x
   unfolding FoundOf
   over_licensed x vs found (by.forbidden y a c e) =
       let frames = frames_of caller foreign in
-      (or_right _ _ (when_eq frames frames refl), inr refl, inl c, (y, found (Priv (tables_of caller foreign)) y (inl (refl, refl)), is_none (has_now frames y) e))
+      over_others (or_right _ _ (when_eq frames frames refl)) (inr refl) c y (found (Priv (tables_of caller foreign)) y (inl (refl, refl))) (is_none (has_now frames y) e)
 
   -- a number that names no domain
   no_tables_named : foreign < 2 ^ 32 → length n.page_limit ≤ tables_of caller foreign → by_number n caller foreign ≡ Some NoDomain

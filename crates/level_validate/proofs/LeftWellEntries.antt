@@ -102,7 +102,7 @@ weighs_plain n (Those means) u reaches vs a = nothing_plain vs a.1
 flushed_plain : (u : ℕ) (answer : Result (Unit {0}) Refusal) (vs : List Visit) → FlushedBy u answer vs → Plain vs
 unfolding EachOf
 flushed_plain u answer vs flushing.none = (refl, tt)
-flushed_plain u answer vs (flushing.once clock found to before) = (refl, (refl, (refl, tt)))
+flushed_plain u answer vs (flushing.once clock found to before some left) = (refl, (refl, (refl, tt)))
 
 -- one vCPU that is waited for
 module _ (q : Post) (whose : Whose) (stamp u : ℕ) (vs : List Visit) where

@@ -66,7 +66,7 @@ weighs_onward n (Those means) u reaches vs a = nothing_onward vs a.1
 flushed_onward : (u : ℕ) (answer : Result (Unit {0}) Refusal) (vs : List Visit) → FlushedBy u answer vs → Onward vs
 unfolding EachOf
 flushed_onward u answer vs flushing.none = ((refl, refl), tt)
-flushed_onward u answer vs (flushing.once clock found to before) = ((refl, refl), ((refl, refl), ((refl, refl), tt)))
+flushed_onward u answer vs (flushing.once clock found to before some left) = ((refl, refl), ((refl, refl), ((refl, refl), tt)))
 
 -- one vCPU that is waited for
 module _ (q : Post) (whose : Whose) (stamp u : ℕ) (vs : List Visit) where

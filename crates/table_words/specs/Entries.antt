@@ -5,6 +5,7 @@ use Rattle.xp_words.specs.declared.place.Place.{Place}
 use Rattle.xp_words.specs.declared.place.Place.TheVariants.{Clock}
 use Rattle.xp_board.specs.declared.step.Act.TheVariants.{Load}
 use Rattle.xp_board.specs.declared.step.Mark.TheVariants.{Record, Shed}
+use Rattle.xp_board.specs.declared.step.StepKind.TheVariants as steps
 use Rattle.xp_board.specs.declared.holdings.Holdings.{Holdings}
 use Rattle.xp_board.specs.declared.holdings.Work.{Work}
 use Rattle.xp_board.specs.Hands.{work_on}
@@ -32,14 +33,14 @@ entry_shed m f upto h = shed m f upto (work_on f h.works) h
 -- ---- the steps
 -- the clock is loaded, and the entries below that one are recorded by it
 abbrev pub records_at : ℕ → ℕ → ℕ → Visit
-records_at f upto clock = record { place = Clock; act = Load; mark = Some (Record f upto); found = clock }
+records_at f upto clock = record { place = Clock; act = Load; kind = steps.Look; mark = Some (Record f upto); found = clock }
 
 abbrev pub Records : ℕ → ℕ → List Visit → Type 0
 Records f upto vs = (clock : ℕ) × Only (records_at f upto clock) vs
 
 -- a word is loaded, and the last entry shed by it
 abbrev pub sheds_at : Place → ℕ → ℕ → ℕ → Visit
-sheds_at p f upto found = record { place = p; act = Load; mark = Some (Shed f upto); found = found }
+sheds_at p f upto found = record { place = p; act = Load; kind = steps.Look; mark = Some (Shed f upto); found = found }
 
 abbrev pub ShedsAt : Place → ℕ → ℕ → List Visit → Type 0
 ShedsAt p f upto vs = (found : ℕ) × Only (sheds_at p f upto found) vs

@@ -1,5 +1,5 @@
 -- What the steps of a walk show: its course, what it serves, and why it stops.
-use Rattle.std.proofs.Common.{◌≡◌, ◌≢◌, ℕ, ◌-◌, ◌≤◌, ◌==◌, nat_le, if◌then◌else◌, Bool, true, false, List, [], ◌∷◌, ◌++◌, length, Option, Some, None, Result, Ok, Err, IsTrue, refl, sym, ap, ◌∙◌, subst, inl, inr, arith}
+use Rattle.std.proofs.Common.{◌≡◌, ◌<◌, ◌+◌, ◌≢◌, ℕ, ◌-◌, ◌≤◌, ◌==◌, nat_le, if◌then◌else◌, Bool, true, false, List, [], ◌∷◌, ◌++◌, length, Option, Some, None, Result, Ok, Err, IsTrue, refl, sym, ap, ◌∙◌, subst, inl, inr, arith}
 use Rattle.std.proofs.lemmas.Bool.Decides.{nat_tests}
 use Rattle.xp_words.specs.Entries.{is_bit, frame_of}
 use Rattle.xp_words.specs.Machine.{Machine}
@@ -25,10 +25,10 @@ use Rattle.step_maker.proofs.Coming.{came_post, came_trans, met_after, met_befor
 use Rattle.answer_fits.specs.Answers.{Deed, Misses, Serves, Stops, missed, misses}
 use Rattle.answer_fits.specs.Asked.{Request, IsAsked, of, walked}
 use Rattle.answer_fits.specs.Finding.{FoundAt}
-use Rattle.answer_fits.specs.Licences.{is_unmapped}
-use Rattle.answer_fits.specs.Visits.{Does, Only, Then, Where, visit}
+use Rattle.answer_fits.specs.Licences.{is_unmapped, IsReached, below}
+use Rattle.answer_fits.specs.Visits.{Does, Only, Then, Where}
 use Rattle.answer_fits.proofs.Changing.{found_after, found_before, moves_found}
-use Rattle.answer_fits.proofs.Growing.{asks}
+use Rattle.answer_fits.proofs.Growing.{asks, reached}
 use Rattle.answer_fits.proofs.Piecing.{same_request, serves_came, serves_step}
 use Rattle.answer_fits.proofs.Visiting.{does_as, does_one, does_then, then_none}
 use Rattle.step_maker.proofs.Noting.{made_now, moves_steps}
@@ -36,7 +36,7 @@ use Rattle.tlb_walks.specs.Addresses.{index_of}
 use Rattle.tlb_walks.specs.Asking.{IsWalkStop}
 use Rattle.tlb_walks.specs.Flying.{EntryMoves, PathMoves, alone, both, ends, goes}
 use Rattle.tlb_walks.specs.Walks as by
-use Rattle.tlb_walks.specs.Walks.{EndsAt, EntryBy, PathBy, barrier_with, with_needed}
+use Rattle.tlb_walks.specs.Walks.{EndsAt, EntryBy, PathBy, barrier_with, saw_entry, sets_bits, with_needed}
 use Rattle.tlb_walks.specs.declared.walks.Walked.{Walked}
 
 -- ---- one entry
@@ -56,10 +56,10 @@ module _ (table i x new : ℕ) where
 
   pub entry_does : (v w : PortValue) (found : ℕ) → EntryMoves v w table i x new found → Does v w (EntryBy table i x new found)
   entry_does v w found (alone off same m) =
-      subst (λ b. Does v w (Then (Only (visit (Cell table i) Load x)) (Where b (Only (visit (Cell table i) (Cas x new) found))))) (sym off)
+      subst (λ b. Does v w (Then (Only (saw_entry table i x)) (Where b (Only (sets_bits table i x new found))))) (sym off)
       (does_as v w _ _ (λ vs a. then_none _ vs a) (does_one v w _ _ _ _ _ m))
   entry_does v w found (both u on m k) =
-      subst (λ b. Does v w (Then (Only (visit (Cell table i) Load x)) (Where b (Only (visit (Cell table i) (Cas x new) found))))) (sym on)
+      subst (λ b. Does v w (Then (Only (saw_entry table i x)) (Where b (Only (sets_bits table i x new found))))) (sym on)
       (does_then v u w _ _ (does_one v u _ _ _ _ _ m) (does_one u w _ _ _ _ _ k))
 
 -- ---- from a table down, its course
@@ -173,26 +173,41 @@ module _ (r : Request) (walks : r.walks ≡ true) (o : PortValue) where
         ),
       )
 
-  none_mapped : (v w : PortValue) (table i x new found level : ℕ) → Came o v → EntryMoves v w table i x new found → is_unmapped v.post.machine x ≡ true → 1 ≤ level → level ≤ 4 →
+  -- the walk reached that table, at that level
+  abbrev pub Reached : PortValue → ℕ → ℕ → Type 0
+  Reached v level table = IsReached o.post.machine o.post.vcpu (Met o v) level table
+
+  more_reached : (v w : PortValue) (level table : ℕ) → Came v w → Reached v level table → Reached w level table
+  more_reached v w level table came a =
+      reached o.post.machine o.post.vcpu r (Met o v) r (Met o w) (same_request o.post.machine o.post.vcpu r (Met o v) (Met o w) (λ k x. met_before o v w k x came)) level table a
+
+  below_reached : (v u : PortValue) (level table i x new : ℕ) → Came o v → Reached v level table → 1 < level → is_unmapped v.post.machine x ≡ false → EntryMoves v u table i x new x →
+      Reached u (level - 1) (frame_of x)
+  below_reached v u level table i x new came at more mapped m =
+      let up : level - 1 + 1 ≡ level = omega arith in
+      below (level - 1) table i x (subst (λ l. Reached u l table) (sym up) (more_reached v u level table (entry_came table i x new v u x m) at)) (entry_found table i x new o v u x came m)
+      (subst (λ (p : Post). is_unmapped p.machine x ≡ false) (came_post o v came) mapped)
+
+  none_mapped : (v w : PortValue) (table i x new found level : ℕ) → Came o v → Reached v level table → EntryMoves v w table i x new found → is_unmapped v.post.machine x ≡ true → 1 ≤ level → level ≤ 4 →
       Stops o w r (Refused (NotMapped level x))
   unfolding Stops
-  none_mapped v w table i x new found level came m none low high =
-      inr (low, omega arith, walks, (table, i, entry_found table i x new o v w found came m, subst (λ (p : Post). IsTrue (is_unmapped p.machine x)) (came_post o v came) none))
+  none_mapped v w table i x new found level came at m none low high =
+      inr (low, omega arith, walks, (table, i, more_reached v w level table (entry_came table i x new v w found m) at, entry_found table i x new o v w found came m, subst (λ (p : Post). IsTrue (is_unmapped p.machine x)) (came_post o v came) none))
 
-  ends_stop : (v w : PortValue) (table i level : ℕ) (b : Option ℕ) (x new found : ℕ) (e : Stop) → Came o v → IsAsked o.post.machine o.post.vcpu r (Met o v) table → 1 ≤ level → level ≤ 4 →
+  ends_stop : (v w : PortValue) (table i level : ℕ) (b : Option ℕ) (x new found : ℕ) (e : Stop) → Came o v → IsAsked o.post.machine o.post.vcpu r (Met o v) table → Reached v level table → 1 ≤ level → level ≤ 4 →
       EntryMoves v w table i x new found → EndsAt v.post.machine table i level b x new found (Err e) → Stops o w r e
-  ends_stop v w table i level b x new found (Refused (NotMapped l e)) came asked low high m (is, at, none, met) =
-      subst (λ j. Stops o w r (Refused (NotMapped l j))) (sym at) (subst (λ j. Stops o w r (Refused (NotMapped j x))) (sym is) (none_mapped v w table i x new found level came m none low high))
-  ends_stop v w table i level b x new found (Paused (Lost place e y)) came asked low high m (there, at, is, bit, off, other) =
+  ends_stop v w table i level b x new found (Refused (NotMapped l e)) came asked on low high m (is, at, none, met) =
+      subst (λ j. Stops o w r (Refused (NotMapped l j))) (sym at) (subst (λ j. Stops o w r (Refused (NotMapped j x))) (sym is) (none_mapped v w table i x new found level came on m none low high))
+  ends_stop v w table i level b x new found (Paused (Lost place e y)) came asked on low high m (there, at, is, bit, off, other) =
       subst (λ j. Stops o w r (Paused (Lost place j y))) (sym at) (subst (λ j. Stops o w r (Paused (Lost place x j))) (sym is) (entry_lost v w table i x new found place came asked m other there))
-  ends_stop v w table i level b x new found _ came asked low high m a = absurd a
+  ends_stop v w table i level b x new found _ came asked on low high m a = absurd a
 
-  pub path_stops : (w : PortValue) (va : ℕ) (write : Bool) (e : Stop) (v : PortValue) (level table : ℕ) (b : Option ℕ) → Came o v → IsAsked o.post.machine o.post.vcpu r (Met o v) table → 1 ≤ level → level ≤ 4 →
+  pub path_stops : (w : PortValue) (va : ℕ) (write : Bool) (e : Stop) (v : PortValue) (level table : ℕ) (b : Option ℕ) → Came o v → IsAsked o.post.machine o.post.vcpu r (Met o v) table → Reached v level table → 1 ≤ level → level ≤ 4 →
       PathMoves w va write (Err e) v level table b → Stops o w r e
-  path_stops w va write e v level table b came asked low high (ends _ _ _ _ x found m a) = ends_stop v w table (index_of va level) level (barrier_with b x) x _ found e came asked low high m a
-  path_stops w va write e v level table b came asked low high (goes _ u _ _ _ x more mapped m rest) =
+  path_stops w va write e v level table b came asked on low high (ends _ _ _ _ x found m a) = ends_stop v w table (index_of va level) level (barrier_with b x) x _ found e came asked on low high m a
+  path_stops w va write e v level table b came asked on low high (goes _ u _ _ _ x more mapped m rest) =
       path_stops w va write e u (level - 1) (frame_of x) (barrier_with b x) (came_trans o v u came (entry_came table (index_of va level) x _ v u x m)) (below_asked r walks o v u table (index_of va level) x _ came m)
-      (omega arith) (omega arith) rest
+      (below_reached v u level table (index_of va level) x _ came on more mapped m) (omega arith) (omega arith) rest
 
 -- which stops there are
 ends_kind : (n : Machine) (table i level : ℕ) (b : Option ℕ) (x new found : ℕ) (e : Stop) → EndsAt n table i level b x new found (Err e) → IsWalkStop e

@@ -72,7 +72,7 @@ module _ (v w : PortValue) (user : Bool) (va val : ℕ) where
 
   no_write : (r : Walked) (e : ℕ) → r.barrier ≡ Some e → WalkMoves v w user va true (Ok r) → Stops v w asks (Refused (ReadOnly e))
   unfolding Stops
-  no_write r e at m = let b = walk_barrier user va true v w r e at m in (refl, inl b)
+  no_write r e at m = let b = walk_barrier user va true v w r e at m in (refl, b, inl refl)
 
   pub store_stops : (a : Result (Unit {0}) Stop) → StoreMoves v w user va val a → IfErr a (λ e. Stops v w asks e)
   store_stops _ (barred x why stay) = refused_stops v w asks va x why refl stay

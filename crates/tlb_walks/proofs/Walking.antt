@@ -26,6 +26,7 @@ use Rattle.step_maker.proofs.Coming.{came_self, came_trans, moves_came}
 use Rattle.answer_fits.specs.Answers.{Serves, Stops, misses}
 use Rattle.answer_fits.specs.Asked.{Request, IsAsked, of, context}
 use Rattle.answer_fits.specs.Finding.{FoundAt}
+use Rattle.answer_fits.specs.Licences.{IsReached, top}
 use Rattle.answer_fits.specs.Visits.{Does}
 use Rattle.answer_fits.proofs.Changing.{moves_found}
 use Rattle.answer_fits.proofs.Piecing.{moves_serves, serves_nothing}
@@ -174,6 +175,13 @@ module _ (user : Bool) (va : ℕ) (write : Bool) where
         (subst (λ (p : Post). Serves v w r (misses p.machine answer ++ [])) (ap (λ (q : PortValue). q.post) m.to)
         (path_serves r may_walk v w va write answer u 4 (base - 1) None [] (based v u base m) (top_asked v u base some m) path))
 
+    few : (b : Bool) → top_word b < 2
+    few true = lit< tt
+    few false = lit< tt
+
+    top_reached : (v u : PortValue) (base : ℕ) → base ≢ 0 → Moves v u (Vcpu v.post.vcpu (top_word user)) Load kinds.Fill (Some (marks.Walk write)) base → IsReached v.post.machine v.post.vcpu (Met v u) 4 (base - 1)
+    top_reached v u base some m = top (top_word user) base (base - 1) (few user) (moves_found v u _ _ _ _ _ m) (names_top base some)
+
     by_address : (v w : PortValue) (x : Refusal) (b : Bool) → r.by_numbers ≡ Some x → (if b then slot_refusal (index_of va 4) else Some NonCanonical) ≡ Some x → b ≡ is_canonical va → Stops v w r (Refused x)
     unfolding Stops
     by_address v w x true may e is = by_slot (index_of va 4) (is_slot L4 (index_of va 4)) refl e
@@ -188,16 +196,12 @@ module _ (user : Bool) (va : ℕ) (write : Bool) where
     no_base : (v w : PortValue) → Moves v w (Vcpu v.post.vcpu (top_word user)) Load kinds.Fill (Some (marks.Walk write)) 0 → Stops v w r (Refused (NotMapped 5 0))
     unfolding Stops
     no_base v w m = inl (refl, refl, may_walk, (top_word user, few user, moves_found v w _ _ _ _ _ m))
-      where
-        few : (b : Bool) → top_word b < 2
-        few true = lit< tt
-        few false = lit< tt
 
     pub walk_stops : (v w : PortValue) (e : Stop) → ((x : Refusal) → walk_refusal va ≡ Some x → r.by_numbers ≡ Some x) → WalkMoves v w user va write (Err e) → Stops v w r e
     walk_stops v w e may (barred x why is stay) = let same : e ≡ Refused x = cc in subst (λ y. Stops v w r y) (sym same) (by_address v w x (is_canonical va) (may x why) why refl)
     walk_stops v w e may (baseless go is m) = let same : e ≡ Refused (NotMapped 5 0) = cc in subst (λ y. Stops v w r y) (sym same) (no_base v w m)
     walk_stops v w e may (walks u base go some m path) =
-        path_stops r may_walk v w va write e u 4 (base - 1) None (moves_came v u _ _ _ _ _ m) (top_asked v u base some m) (lit≤ tt) (lit≤ tt) path
+        path_stops r may_walk v w va write e u 4 (base - 1) None (moves_came v u _ _ _ _ _ m) (top_asked v u base some m) (top_reached v u base some m) (lit≤ tt) (lit≤ tt) path
 
 -- ---- what it leaves
 pub walked_to : (v w : PortValue) (user : Bool) (va : ℕ) (write : Bool) (r : Walked) → v.holdings.walk ≡ None → EndedIn v w user va write (Ok r) → WalkedTo v w user va write r

@@ -13,7 +13,7 @@ use Rattle.xp_board.specs.Told.{PortValue, cached_item}
 use Rattle.step_maker.specs.Holds.{Same}
 use Rattle.step_maker.specs.Moves.{Moves}
 use Rattle.answer_fits.specs.Answers.{Serves, Writes, missed}
-use Rattle.answer_fits.specs.Visits.{Does, Nothing, Only, Then, visit}
+use Rattle.answer_fits.specs.Visits.{Does, Nothing, Only, Then, visit_as}
 use Rattle.tlb_walks.specs.Addresses.{access_refusal, page_of, cell_index}
 use Rattle.tlb_walks.specs.Asking.{of_write}
 use Rattle.tlb_walks.specs.Translating.{WalkedTo}
@@ -50,25 +50,25 @@ pub record OneWrite (v w : PortValue) (f i val : ℕ) (answer : Result (Unit {0}
 -- The address alone refuses it; or a translation serves it, by one load; or a walk stops it; or a walk brings a translation, and the load goes through that.
 pub data GuestReads (v w : PortValue) (user : Bool) (va : ℕ) : Result ℕ Stop → Type 0 where
   barred : (x : Refusal) → access_refusal va ≡ Some x → Does v w Nothing → Same v w → GuestReads v w user va (Err (Refused x))
-  cached : (x : Item) (word : ℕ) → access_refusal va ≡ None → server v user va false ≡ Some x → Does v w (Only (visit (Cell x.frame (cell_index va)) Load word)) → Same v w →
+  cached : (x : Item) (word : ℕ) → access_refusal va ≡ None → server v user va false ≡ Some x → Does v w (Only (visit_as kinds.Guest (Cell x.frame (cell_index va)) Load word)) → Same v w →
       GuestReads v w user va (Ok word)
   stopped : (e : Stop) → access_refusal va ≡ None → server v user va false ≡ None → Does v w (WalkBy v.post.machine v.post.vcpu user va false (Err e)) → Same v w →
       GuestReads v w user va (Err e)
   walked : (r : Walked) (word : ℕ) → access_refusal va ≡ None → server v user va false ≡ None →
-      Does v w (Then (WalkBy v.post.machine v.post.vcpu user va false (Ok r)) (Only (visit (Cell (frame_of r.entry) (cell_index va)) Load word))) → WalkedTo v w user va false r →
+      Does v w (Then (WalkBy v.post.machine v.post.vcpu user va false (Ok r)) (Only (visit_as kinds.Guest (Cell (frame_of r.entry) (cell_index va)) Load word))) → WalkedTo v w user va false r →
       GuestReads v w user va (Ok word)
 
 -- The same of a store; after a walk it is refused where one of the four entries cannot be written, with the first of them.
 pub data GuestWrites (v w : PortValue) (user : Bool) (va val : ℕ) : Result (Unit {0}) Stop → Type 0 where
   barred : (x : Refusal) → access_refusal va ≡ Some x → Does v w Nothing → Same v w → GuestWrites v w user va val (Err (Refused x))
-  cached : (x : Item) (found : ℕ) → access_refusal va ≡ None → server v user va true ≡ Some x → Does v w (Only (visit (Cell x.frame (cell_index va)) (Store val) found)) → Same v w →
+  cached : (x : Item) (found : ℕ) → access_refusal va ≡ None → server v user va true ≡ Some x → Does v w (Only (visit_as kinds.Guest (Cell x.frame (cell_index va)) (Store val) found)) → Same v w →
       GuestWrites v w user va val (Ok tt)
   stopped : (e : Stop) → access_refusal va ≡ None → server v user va true ≡ None → Does v w (WalkBy v.post.machine v.post.vcpu user va true (Err e)) → Same v w →
       GuestWrites v w user va val (Err e)
   read_only : (r : Walked) (e : ℕ) → access_refusal va ≡ None → server v user va true ≡ None → r.barrier ≡ Some e → Does v w (WalkBy v.post.machine v.post.vcpu user va true (Ok r)) →
       WalkedTo v w user va true r → GuestWrites v w user va val (Err (Refused (ReadOnly e)))
   walked : (r : Walked) (found : ℕ) → access_refusal va ≡ None → server v user va true ≡ None → r.barrier ≡ None →
-      Does v w (Then (WalkBy v.post.machine v.post.vcpu user va true (Ok r)) (Only (visit (Cell (frame_of r.entry) (cell_index va)) (Store val) found))) → WalkedTo v w user va true r →
+      Does v w (Then (WalkBy v.post.machine v.post.vcpu user va true (Ok r)) (Only (visit_as kinds.Guest (Cell (frame_of r.entry) (cell_index va)) (Store val) found))) → WalkedTo v w user va true r →
       GuestWrites v w user va val (Ok tt)
 
 -- ---- what a guest sees of a write

@@ -27,7 +27,7 @@ leads_to None f = false
 
 -- The store names the frame to which the newest translation of its page leads, as the call begins: no step of the call finds it.
 abbrev pub of_write : PortValue → Bool → ℕ → Request
-of_write v user va = of_access (leads_to (cached_item user (page_of va) v.holdings.cache)) (access_refusal va)
+of_write v user va = record (of_access (leads_to (cached_item user (page_of va) v.holdings.cache)) (access_refusal va)) { stores = true }
 
 -- ---- which stops there are
 abbrev pub IsWalkStop : Stop → Type 0

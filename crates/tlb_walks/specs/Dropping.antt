@@ -51,7 +51,7 @@ left_cached va xs = if is_canonical va then kept_of (λ x. not (x.page == page_o
 
 -- by one load, of the clock, that is marked so
 abbrev pub ForgetsBy : ℕ → List Visit → Type 0
-ForgetsBy page vs = (found : ℕ) × Only (record { place = Clock; act = Load; mark = Some (Forget page); found = found }) vs
+ForgetsBy page vs = (found : ℕ) × Only (record { place = Clock; act = Load; kind = kinds.Look; mark = Some (Forget page); found = found }) vs
 
 abbrev pub Invalidates : ℕ → List Visit → Type 0
 Invalidates va vs = Where (is_canonical va) (ForgetsBy (page_of va)) vs

@@ -11,9 +11,10 @@ use Rattle.xp_words.specs.declared.reply.Stop.{Stop}
 use Rattle.xp_words.specs.declared.reply.Stop.TheVariants.{Refused, Paused}
 use Rattle.xp_board.specs.declared.step.Act.TheVariants.{Load, Cas}
 use Rattle.xp_board.specs.declared.step.Mark.TheVariants as marks
+use Rattle.xp_board.specs.declared.step.StepKind.TheVariants as steps
 use Rattle.xp_board.specs.FillSteps.{with_bit}
 use Rattle.answer_fits.specs.Licences.{is_unmapped}
-use Rattle.answer_fits.specs.Visits.{Visit, visit, Only, Then, Where}
+use Rattle.answer_fits.specs.Visits.{Visit, visit_as, Only, Then, Where}
 use Rattle.tlb_walks.specs.Addresses.{index_of, walk_refusal}
 use Rattle.tlb_walks.specs.declared.walks.Walked.{Walked}
 
@@ -35,10 +36,16 @@ abbrev pub with_needed : Bool → ℕ → Option ℕ → ℕ → ℕ
 with_needed write level barrier w = if dirties write level barrier then with_bit 6 (with_bit 5 w) else with_bit 5 w
 
 -- ---- one entry
+abbrev pub saw_entry : ℕ → ℕ → ℕ → Visit
+saw_entry table i w = visit_as steps.Fill (Cell table i) Load w
+
+abbrev pub sets_bits : ℕ → ℕ → ℕ → ℕ → ℕ → Visit
+sets_bits table i w new found = visit_as steps.Touch (Cell table i) (Cas w new) found
+
 -- Entry i of that table is loaded, and found as w. Right after that, where it is present and lacks bits that the walk needs, it is
 -- exchanged for itself with these, `new`; the exchange found `found`.
 abbrev pub EntryBy : ℕ → ℕ → ℕ → ℕ → ℕ → List Visit → Type 0
-EntryBy table i w new found vs = Then (Only (visit (Cell table i) Load w)) (Where (is_bit 0 w && not (new == w)) (Only (visit (Cell table i) (Cas w new) found))) vs
+EntryBy table i w new found vs = Then (Only (saw_entry table i w)) (Where (is_bit 0 w && not (new == w)) (Only (sets_bits table i w new found))) vs
 
 -- How a walk ends with this entry: the last one answers the word as it was loaded; one that is not present, or names no frame of the
 -- machine, refuses it; a lost exchange ends it at once.
@@ -63,7 +70,7 @@ pub data PathBy (n : Machine) (va : ℕ) (write : Bool) (answer : Result Walked 
 
 -- ---- the whole walk
 abbrev pub base_visit : ℕ → Bool → Bool → ℕ → Visit
-base_visit s user write base = record { place = Vcpu s (top_word user); act = Load; mark = Some (marks.Walk write); found = base }
+base_visit s user write base = record { place = Vcpu s (top_word user); act = Load; kind = steps.Fill; mark = Some (marks.Walk write); found = base }
 
 -- Of vCPU s, by these steps, the newest first: none, where the address alone refuses it; the load of the base alone, where that names no
 -- table; or that load, and then the entries from the top table down.

@@ -162,7 +162,7 @@ weighs n (Those means) u reaches vs named = nothing vs named.1
 flushes : (s : ℕ) (answer : Result (Unit {0}) Refusal) → Spares (FlushedBy s answer)
 unfolding EachOf
 flushes s _ _ flushing.FlushedBy.none = (refl, tt)
-flushes s _ _ (flushing.FlushedBy.once clock found to before) = (refl, (refl, (refl, tt)))
+flushes s _ _ (flushing.FlushedBy.once clock found to before some left) = (refl, (refl, (refl, tt)))
 
 module _ (q : Post) (whose : Whose) (stamp : ℕ) where
   looks : (u : ℕ) (answer : Result (Option ℕ) Refusal) → (vs : List Visit) → LooksAt q whose stamp u vs answer → EachOf Spared vs
