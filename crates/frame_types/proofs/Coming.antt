@@ -1,5 +1,5 @@
 -- A frame comes into the own works, or is counted: the hand after the exchange.
-use Rattle.std.proofs.Common.{◌≡◌, ℕ, ◌<◌, ◌≤◌, ◌==◌, ◌||◌, not, if◌then◌else◌, Bool, true, false, List, [], ◌∷◌, length, Some, None, IsTrue, refl, sym, ap, ◌∙◌, subst, arith}
+use Rattle.std.proofs.Common.{◌≡◌, ◌⊎◌, ℕ, ◌<◌, ◌≤◌, ◌==◌, ◌||◌, not, if◌then◌else◌, Bool, true, false, List, [], ◌∷◌, length, Some, None, IsTrue, refl, sym, ap, ◌∙◌, subst, arith, inl, inr}
 use Rattle.xp_words.specs.declared.kind.KindWord.{KindWord}
 use Rattle.xp_words.specs.declared.kind.PageType.{PageType}
 use Rattle.xp_words.specs.declared.place.Place.TheVariants.{Kind}
@@ -16,7 +16,7 @@ use Rattle.xp_board.specs.declared.holdings.Work.{Work}
 use Rattle.xp_board.specs.Hands.{refs_to, without_ref, typed_to, ref_owner}
 use Rattle.xp_board.specs.KindSteps.{begun_kind, is_stale, live_typed, new_work, raised_kind, resumed_kind, still_looking, unsettled_from}
 use Rattle.xp_board.specs.Lists.{kept_of}
-use Rattle.xp_board.specs.Readings.{is_dead, is_partial, is_work}
+use Rattle.xp_board.specs.Readings.{is_dead, is_live, is_partial, is_work}
 use Rattle.xp_board.specs.Told.{PortValue}
 use Rattle.board_lemmas.proofs.KindForms.{fields_of, PartialForm, partial_form}
 use Rattle.board_lemmas.proofs.KindReadings.{partial_parts, resumed_in_work}
@@ -25,7 +25,7 @@ use Rattle.step_maker.specs.Moves.{Moves}
 use Rattle.frame_words.specs.Freeing.{gave}
 use Rattle.frame_words.specs.Refs.{MayPut}
 use Rattle.kind_words.specs.Kinds.{begun_work, counted_type, looked_at, resumed_work, work_kind}
-use Rattle.kind_words.proofs.KindFacts.{dead_apart, partial_apart, type_is_below}
+use Rattle.kind_words.proofs.KindFacts.{dead_apart, known_live, partial_apart, type_is_below}
 use Rattle.kind_words.proofs.KindHands.{resumed_kept, resumed_unkept, resumed_fields, work_here, work_spares}
 use Rattle.kind_words.proofs.KindWriting.{begun_is, raised_is, resumed_is}
 use Rattle.flush_words.proofs.Lasting.{moves_longer}
@@ -33,6 +33,17 @@ use Rattle.frame_types.specs.Taking.{Enters, Looked, LentBy, progress_of, stamp_
 use Rattle.frame_types.proofs.Classing.{IsCounted, IsParted, dead_unparted}
 use Rattle.frame_types.proofs.Left.{or_true}
 use Rattle.frame_types.proofs.Entering.{lent_held, lent_owner}
+
+-- a frame that is not live is none that the vCPU knows live
+untyped_by : (count : ℕ) (K : Type 0) → (count ≡ 0) ⊎ K → (K → ⊥) → count ≡ 0
+untyped_by count K (inl none) off = none
+untyped_by count K (inr known) off = absurd (off known)
+
+dead_unlive : (k : KindWord) → IsTrue (is_dead k) → IsTrue (is_live k) → ⊥
+dead_unlive k dead live = grind (arith, nat_tests)
+
+partial_unlive : (k : KindWord) → IsTrue (is_partial k) → IsTrue (is_live k) → ⊥
+partial_unlive k partial live = grind (arith, nat_tests)
 
 none_looking : (f w : ℕ) (xs : List Looking) → xs ≡ [] → still_looking f w xs ≡ []
 unfolding kept_of
@@ -43,6 +54,11 @@ none_looking f w xs none = ap (λ ys. still_looking f w ys) none
 unkept_type : (k : KindWord) → IsTrue (is_kind k) → IsTrue (is_partial k) → k.kept ≡ false → IsTrue (not (type_number k.kind == 5) || false)
 unfolding has_form
 unkept_type k is partial unkept = grind (arith, nat_tests)
+
+-- and has nothing recorded
+page_bare : (k : KindWord) → IsTrue (is_kind k) → IsTrue (is_partial k) → type_number k.kind ≡ 5 → k.progress ≡ 0
+unfolding has_form
+page_bare k is partial five = grind (arith, nat_tests)
 
 none_unsettled : (progress : ℕ) (h : Holdings) → progress ≡ 0 → unsettled_from progress h ≡ None
 none_unsettled progress h zero = rw zero refl
@@ -112,11 +128,14 @@ module _ (b v : PortValue) (f owner : ℕ) (want : PageType) (word : ℕ) (l : L
           recorded = sym none;
           settled = λ zero. refl;
           none = λ on. none;
+          unfixed = refl;
+          bare = λ five. none;
           earlier = omega (arith, more);
           whose = or_true (not (type_number want == 5));
           hand = begun_hand;
           lent = l.lent;
-          aside = l.aside (dead_apart b.post.machine b.post.vcpu b.holdings f word k l.look.finds (fields_of word k read) dead);
+          aside = untyped_by (typed_to f b.holdings.typed) _ (l.aside (dead_apart b.post.machine b.post.vcpu b.holdings f word k l.look.finds (fields_of word k read) dead))
+              (λ knows. dead_unlive k dead (known_live b.post.machine b.post.vcpu b.holdings f word k l.look.finds (fields_of word k read) want knows).0);
         }
 
 -- ---- from partial to work again
@@ -145,7 +164,9 @@ module _ (b v : PortValue) (f owner : ℕ) (want : PageType) (word : ℕ) (l : L
   parted_progress = ap (λ y. if y then k.progress else 0) (sym (partial_parts k parted.partial).1)
 
   no_typed : typed_to f b.holdings.typed ≡ 0
-  no_typed = l.aside (partial_apart b.post.machine b.post.vcpu b.holdings f word k l.look.finds (fields_of word k read) parted.partial)
+  no_typed =
+      untyped_by (typed_to f b.holdings.typed) _ (l.aside (partial_apart b.post.machine b.post.vcpu b.holdings f word k l.look.finds (fields_of word k read) parted.partial))
+      (λ knows. partial_unlive k parted.partial (known_live b.post.machine b.post.vcpu b.holdings f word k l.look.finds (fields_of word k read) want knows).0)
 
   -- with the reference of its mark: the one in hand is one too many
   module _ (kept : k.kept ≡ true) where
@@ -182,6 +203,8 @@ module _ (b v : PortValue) (f owner : ℕ) (want : PageType) (word : ℕ) (l : L
           recorded = parted_progress;
           settled = λ zero. none_unsettled k.progress v.holdings (parted_progress ∙ zero);
           none = λ on. sym parted_progress ∙ form.marked on;
+          unfixed = refl;
+          bare = λ five. sym parted_progress ∙ page_bare k is parted.partial (ap (λ t. type_number t) parted.kind ∙ five);
           earlier = omega (arith, more, later);
           whose = or_true (not (type_number want == 5));
           hand = ap quiet gives ∙ ap (λ (q : PortValue). quiet (record q { holdings = gave f q.holdings })) kept_hand;
@@ -212,6 +235,8 @@ module _ (b v : PortValue) (f owner : ℕ) (want : PageType) (word : ℕ) (l : L
           recorded = parted_progress;
           settled = λ zero. none_unsettled k.progress v.holdings (parted_progress ∙ zero);
           none = λ on. sym parted_progress ∙ form.marked on;
+          unfixed = refl;
+          bare = λ five. sym parted_progress ∙ page_bare k is parted.partial (ap (λ t. type_number t) parted.kind ∙ five);
           earlier = omega (arith, more);
           whose = subst (λ t. IsTrue (not (type_number t == 5) || false)) parted.kind (unkept_type k is parted.partial unkept);
           hand = unkept_hand;

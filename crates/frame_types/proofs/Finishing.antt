@@ -180,6 +180,9 @@ module _ (b v : PortValue) (f owner : ℕ) (want : PageType) (stamp progress : �
           recorded = e.recorded;
           settled = e.settled;
           unmarked = ap (λ (k : KindWord). k.unflushed) item_fields;
+          unfixed = e.unfixed;
+          whose = e.whose;
+          bare = e.bare;
         }
 
 -- one that has none stays as it is
@@ -204,6 +207,9 @@ plain_works b v f owner want stamp progress own e =
       recorded = e.recorded;
       settled = e.settled;
       unmarked = of_mark b v f owner want false stamp progress own e;
+      unfixed = e.unfixed;
+      whose = e.whose;
+      bare = e.bare;
     }
 
 -- ---- its steps serve the type that is asked

@@ -1,5 +1,5 @@
 -- Types that are taken and given back: what they leave in hand.
-use Rattle.std.specs.Prelude.{◌≡◌, ◌≢◌, ℕ, ◌<◌, ◌≤◌, ◌==◌, ◌||◌, not, if◌then◌else◌, Bool, true, false, List, [], ◌∷◌, length, Some, None, Result, Ok, Err, IfOk, IfErr, MatchResult, IsTrue}
+use Rattle.std.specs.Prelude.{◌≡◌, ◌≢◌, ◌⊎◌, ℕ, ◌<◌, ◌≤◌, ◌==◌, ◌||◌, not, if◌then◌else◌, Bool, true, false, List, [], ◌∷◌, length, Some, None, Result, Ok, Err, IfOk, IfErr, MatchResult, IsTrue}
 use Rattle.xp_words.specs.Machine.{Machine}
 use Rattle.xp_words.specs.Places.{sizes_of}
 use Rattle.xp_words.specs.KindWords.{is_kind, kind_fields, kind_read, kind_write}
@@ -49,6 +49,10 @@ pub record LentBy (f owner : ℕ) (h : Holdings) : Type 0 where
 abbrev pub IsOfOther : ℕ → PageType → Holdings → Type 0
 IsOfOther f want h = (e : Work) → work_on f h.works ≡ Some e → is_type (kind_fields e.word).kind want ≡ false
 
+-- where the vCPU does not work on the frame, it has no typed reference to it; or it knows the frame live with that type by one
+abbrev pub IsAsideFor : Machine → ℕ → PageType → Holdings → Type 0
+IsAsideFor n f want h = work_on f h.works ≡ None → (typed_to f h.typed ≡ 0) ⊎ IsTrue (knows_live (sizes_of n) f want h)
+
 -- an untyped reference became a typed one, known live
 abbrev pub typed_as : ℕ → ℕ → PageType → Holdings → Holdings
 typed_as f owner want h = record h { refs = without_ref f h.refs; typed = live_typed f want (owners.Of owner) ∷ h.typed }
@@ -72,13 +76,17 @@ pub record IsWorking (v w : PortValue) (f owner : ℕ) (want : PageType) (own : 
   pub aside : typed_to f v.holdings.typed ≡ 0
   pub hand : FlushedHolds v w (working f owner want own e since v.holdings)
 
--- in work, with its entries recorded up to there, and past its flush; where none is recorded, none is unsettled
+-- in work, with its entries recorded up to there, and past its flush; where none is recorded, none is unsettled. No word of it is known to be fixed;
+-- a descriptor page has its type count in hand and nothing recorded.
 pub record WorksFrom (v w : PortValue) (f owner : ℕ) (want : PageType) (progress : ℕ) (own : Bool) : Type 0 where
   pub work : Work
   pub works : IsWorking v w f owner want own work
   pub recorded : work.recorded ≡ progress
   pub settled : progress ≡ 0 → work.unsettled ≡ None
   pub unmarked : (kind_fields work.word).unflushed ≡ false
+  pub unfixed : work.fixed ≡ 0
+  pub whose : IsTrue (not (type_number want == 5) || own)
+  pub bare : type_number want ≡ 5 → progress ≡ 0
 
 -- in work, marked with that stamp, and nothing recorded; a descriptor page with its type count in hand
 pub record WaitsWith (v w : PortValue) (f owner : ℕ) (want : PageType) (own : Bool) (stamp : ℕ) : Type 0 where
@@ -134,7 +142,7 @@ pub record Looked (b v : PortValue) (f owner : ℕ) (want : PageType) (word : �
   pub same : Same b v
   pub frame : f < b.post.machine.frames
   pub lent : LentBy f owner b.holdings
-  pub aside : work_on f b.holdings.works ≡ None → typed_to f b.holdings.typed ≡ 0
+  pub aside : IsAsideFor b.post.machine f want b.holdings
   pub other : IsOfOther f want b.holdings
   pub looked : b.holdings.looking ≡ []
 
@@ -178,6 +186,8 @@ pub record Enters (b v : PortValue) (f owner : ℕ) (want : PageType) (marked : 
   pub recorded : work.recorded ≡ progress
   pub settled : progress ≡ 0 → work.unsettled ≡ None
   pub none : marked ≡ true → progress ≡ 0
+  pub unfixed : work.fixed ≡ 0
+  pub bare : type_number want ≡ 5 → progress ≡ 0
   pub earlier : work.since ≤ length v.holdings.steps
   pub whose : IsTrue (not (type_number want == 5) || own)
   pub hand : FlushedHolds b v (working f owner want own work since b.holdings)

@@ -1,5 +1,5 @@
 //! Frames that are taken for a type.
-ghost use Rattle.std.specs.Prelude.{◌≡◌, ◌<◌, List, [], true, not, None, Some, IfOk, IfErr, MatchResult, IsTrue};
+ghost use Rattle.std.specs.Prelude.{◌≡◌, ◌<◌, List, [], true, not, Some, IfOk, IfErr, MatchResult, IsTrue};
 ghost use Rattle.xp_board.specs.Told.{PortValue};
 ghost use Rattle.xp_words.specs.KindWords.{kind_read};
 ghost use Rattle.xp_words.specs.declared.kind.KindWord.{KindWord};
@@ -8,7 +8,6 @@ ghost use Rattle.xp_words.specs.Places.{number, sizes_of};
 ghost use Rattle.xp_words.specs.declared.place.Place.TheVariants.{Kind};
 ghost use Rattle.xp_words.specs.declared.reply.Pause.TheVariants.{Lost};
 ghost use Rattle.xp_words.specs.declared.reply.Stop.TheVariants.{Paused};
-ghost use Rattle.xp_board.specs.Hands.{work_on, typed_to};
 ghost use Rattle.step_maker.specs.Holds.{MayWork, Same};
 ghost use Rattle.answer_fits.specs.Answers.{Deed, Serves, Stops, misses};
 ghost use Rattle.answer_fits.specs.Asked.{of_frame};
@@ -17,7 +16,7 @@ ghost use Rattle.frame_types.specs.Found.{Finishes, Proceeds, TakesFound};
 ghost use Rattle.frame_types.specs.Plain.{TwinOn, TwinTake};
 ghost use Rattle.frame_types.specs.Standing.{standing_of};
 ghost use Rattle.frame_types.specs.declared.standing.Standing.TheVariants.{Dead, Partial};
-ghost use Rattle.frame_types.specs.Taking.{CountsAs, HasEntered, HoldsOn, IsDone, IsLooked, IsNotLive, IsOfOther, IsTypeStop, LeavesLive, LentBy, Looked, ServesOn, ShowsWait, Takes, TakesAs, WaitsOn, progress_of};
+ghost use Rattle.frame_types.specs.Taking.{CountsAs, HasEntered, HoldsOn, IsAsideFor, IsDone, IsLooked, IsNotLive, IsOfOther, IsTypeStop, LeavesLive, LentBy, Looked, ServesOn, ShowsWait, Takes, TakesAs, WaitsOn, progress_of};
 
 use crate::standing::{Standing, classify};
 use crate::words::{counts, is_read_first, progress_of};
@@ -44,7 +43,8 @@ pub enum Taken {
 
 /// Takes a frame for the type `want`, under the untyped reference in hand. A frame that was of another type, or is marked,
 /// is flushed first. What is read before it is live (a table, a descriptor page) comes into the own works. A refusal or a
-/// pause leaves the reference in hand. A frame that the vCPU works on itself is to be of another type.
+/// pause leaves the reference in hand. A frame that the vCPU works on itself is to be of another type; one of which it has a typed reference
+/// already is known live with that type.
 #[inline(always)]
 pub fn take_type<P: Port>(
     port: &mut P,
@@ -56,7 +56,7 @@ pub fn take_type<P: Port>(
     requires may { MayWork (P.value port.old) }
     requires wanted { IsTrue (not (is_none want)) }
     requires lent { LentBy frame owner (P.value port.old).holdings }
-    requires aside { work_on frame (P.value port.old).holdings.works ≡ None → typed_to frame (P.value port.old).holdings.typed ≡ 0 }
+    requires aside { IsAsideFor (P.value port.old).post.machine frame want (P.value port.old).holdings }
     requires other { IsOfOther frame want (P.value port.old).holdings }
     requires looked { (P.value port.old).holdings.looking ≡ [] }
     ensures serves { Serves (P.value port.old) (P.value port.new) (of_frame frame owner (Some want)) (misses (P.value port.old).post.machine result) }
@@ -97,7 +97,7 @@ pub fn count_live<P: Port>(
     requires may { MayWork (P.value port.old) }
     requires wanted { IsTrue (not (is_none want)) }
     requires lent { LentBy frame owner (P.value port.old).holdings }
-    requires aside { work_on frame (P.value port.old).holdings.works ≡ None → typed_to frame (P.value port.old).holdings.typed ≡ 0 }
+    requires aside { IsAsideFor (P.value port.old).post.machine frame want (P.value port.old).holdings }
     requires other { IsOfOther frame want (P.value port.old).holdings }
     requires looked { (P.value port.old).holdings.looking ≡ [] }
     ensures takes { CountsAs result (λ r. Takes (P.value port.old) (P.value port.new) frame owner want r) (λ word. Looked (P.value port.old) (P.value port.new) frame owner want word) }

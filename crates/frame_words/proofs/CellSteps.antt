@@ -1,7 +1,10 @@
 -- Cells: when a store is legal, and what a load or a store leaves in hand.
-use Rattle.std.proofs.Common.{◌≡◌, ℕ, ◌^◌, ◌<◌, ◌==◌, ◌&&◌, ◌||◌, Bool, if◌then◌else◌, true, false, List, [], ◌∷◌, Some, None, IsTrue, refl, ap, ◌∙◌, arith, inl}
-use Rattle.xp_words.specs.declared.kind.PageType.TheVariants.{Writable}
+use Rattle.std.proofs.Common.{◌≡◌, ℕ, ◌^◌, ◌<◌, ◌==◌, ◌&&◌, ◌||◌, Bool, if◌then◌else◌, true, false, List, [], ◌∷◌, Some, None, IsTrue, refl, ap, ◌∙◌, arith, ◌⊎◌}
+use Rattle.xp_words.specs.declared.kind.PageType.{PageType}
+use Rattle.xp_words.specs.declared.kind.PageType.TheVariants.{Desc, Writable}
 use Rattle.xp_words.specs.declared.place.Place.TheVariants.{Cell}
+use Rattle.xp_words.specs.Entries.{fixed}
+use Rattle.xp_words.specs.PageTypes.{type_number}
 use Rattle.xp_words.specs.Places.{sizes_of}
 use Rattle.xp_board.specs.declared.holdings.Holdings.{Holdings}
 use Rattle.xp_board.specs.declared.holdings.OwnerFound.{OwnerFound}
@@ -11,6 +14,7 @@ use Rattle.xp_board.specs.declared.step.StepKind.TheVariants as steps
 use Rattle.xp_board.specs.Acts.{left_by}
 use Rattle.xp_board.specs.After.{learned_cell, learned_work, learned_lock, learned_claim}
 use Rattle.xp_board.specs.CellSteps.{exchanged}
+use Rattle.xp_board.specs.Hands.{typed_to}
 use Rattle.xp_board.specs.KindSteps.{live_typed}
 use Rattle.xp_board.specs.Knowledge.{knows_live}
 use Rattle.xp_board.specs.Lists.{first_by, changed_by, some_of}
@@ -24,7 +28,7 @@ use Rattle.step_maker.specs.Moves.{May, Moves}
 use Rattle.frame_words.specs.Cells.{IsApart, MayStoreCell}
 
 -- ---- when a store may be made
-pub may_store : (v : PortValue) (f i w : ℕ) → f < v.post.machine.frames → i < 512 → w < 2 ^ 64 → MayWork v → MayStoreCell v.post.machine f v.holdings → May v (Cell f i) (Store w) steps.Cell None
+pub may_store : (v : PortValue) (f i w : ℕ) → f < v.post.machine.frames → i < 512 → w < 2 ^ 64 → MayWork v → MayStoreCell v.post.machine f w v.holdings → May v (Cell f i) (Store w) steps.Cell None
 unfolding IsSpelling
 may_store v f i w frame index small may writes =
     record {
@@ -33,7 +37,7 @@ may_store v f i w frame index small may writes =
       running = λ needs. may.running;
       spelling = small;
       act = rw (writes.apart.locks, writes.apart.claimed, writes.apart.works)
-          (record { in_hand = writes.held; kind = Writable; live = writes.live; ordinary = inl refl });
+          (record { in_hand = writes.held; kind = writes.kind; live = writes.live; ordinary = writes.ordinary });
     }
 
 -- ---- what is left in hand
@@ -67,17 +71,20 @@ store_hand v w f i word found m apart =
     ∙ ap (λ o. still (record v { holdings = learned_cell f i word (exchanged i word found o v.holdings) })) apart.locks
     ∙ ap (λ h. still (record v { holdings = h })) (learned_apart f i word v.holdings apart)
 
--- ---- for callers: the newest typed reference keeps the frame live and writable
+-- ---- for callers: the newest typed reference keeps the frame live with its type
 head_live : (a b c d : Bool) → a ≡ true → b ≡ true → IsTrue (((a && b) || c) || d)
 head_live a b c d x y = rw (x, y) refl
 
-pub writes_live : (v : PortValue) (f : ℕ) (owner : OwnerFound) (others : List TypedReference) → v.holdings.typed ≡ live_typed f Writable owner ∷ others → IsApart f v.holdings → MayStoreCell v.post.machine f v.holdings
-unfolding knows_live some_of
-writes_live v f owner others typed apart =
-    let e = live_typed f Writable owner in
-    let one = times_by-cons_here (λ (y : TypedReference). y.frame) f e others refl in
-    record {
-      held = rw typed (omega (arith, one));
-      live = rw typed (head_live (f == f) true _ _ (when_eq f f refl) refl);
-      apart = apart;
-    }
+module _ (v : PortValue) (f : ℕ) (kind : PageType) (owner : OwnerFound) (others : List TypedReference) (typed : v.holdings.typed ≡ live_typed f kind owner ∷ others) where
+  pub newest_held : 0 < typed_to f v.holdings.typed
+  newest_held =
+      let one = times_by-cons_here (λ (y : TypedReference). y.frame) f (live_typed f kind owner) others refl in
+      rw typed (omega (arith, one))
+
+  pub newest_live : IsTrue (knows_live (sizes_of v.post.machine) f kind v.holdings)
+  unfolding knows_live some_of
+  newest_live = rw typed (head_live (f == f) (type_number kind == type_number kind) _ _ (when_eq f f refl) (when_eq (type_number kind) (type_number kind) refl))
+
+  pub writes_live : (word : ℕ) → (kind ≡ Writable) ⊎ ((kind ≡ Desc) × (fixed word ≡ Some word)) → IsApart f v.holdings → MayStoreCell v.post.machine f word v.holdings
+  writes_live word ordinary apart =
+      record { held = newest_held; kind = kind; live = newest_live; ordinary = ordinary; apart = apart }

@@ -23,12 +23,12 @@ pub fn look_cell<P: Port>(port: &mut P, frame: u32, index: u16) -> u64
     look(port, Place::Cell { frame, index })
 }
 
-/// Stores a cell of a writable frame, which a typed reference in hand keeps live.
+/// Stores a cell of a frame that a typed reference in hand keeps live: any word in a writable frame, a fixed word in a descriptor page.
 pub fn store_cell<P: Port>(port: &mut P, frame: u32, index: u16, word: u64) -> u64
     requires frame { frame < (P.value port.old).post.machine.frames }
     requires index { index < 512 }
     requires may { MayWork (P.value port.old) }
-    requires writes { MayStoreCell (P.value port.old).post.machine frame (P.value port.old).holdings }
+    requires writes { MayStoreCell (P.value port.old).post.machine frame word (P.value port.old).holdings }
     ensures moves { Moves (P.value port.old) (P.value port.new) (Cell frame index) (Store word) kinds.Cell None result }
     ensures hand { Same (P.value port.old) (P.value port.new) }
 {

@@ -6,7 +6,7 @@ use Rattle.frame_words.specs.Freeing.{PutBy}
 use Rattle.level_validate.proofs.OnwardEntries.{refers_forward, types_forward}
 use Rattle.level_validate.proofs.Onward.{put_onward}
 use Rattle.level_validate.proofs.Forward.{forward_by, forward_then}
-use Rattle.std.proofs.Common.{◌∙◌, false, [], Ok, Err, ap, subst, not, refl, sym}
+use Rattle.std.proofs.Common.{◌∙◌, false, [], Ok, Err, ap, subst, not, refl, sym, inl}
 use Rattle.std.proofs.lemmas.Result.{err_from_is_err_and}
 use Rattle.answer_fits.specs.Answers.{missed}
 use Rattle.frame_types.specs.Found.{TakesFound}
@@ -44,7 +44,7 @@ returns-in_err-frame-clause-stops g c pages =
 
 pub take_type-requires-clause-aside : goal.take_type-requires-clause-aside
 take_type-requires-clause-aside g c none =
-    idle_aside (g.P.Port.value c.args.port.now) (g.P.Port.value c.get_ref.new.port) c.in_ok-frame.frame c.args.owner c.requires.idle c.in_ok-frame.ensures.hand
+    inl (idle_aside (g.P.Port.value c.args.port.now) (g.P.Port.value c.get_ref.new.port) c.in_ok-frame.frame c.args.owner c.requires.idle c.in_ok-frame.ensures.hand)
 
 pub take_type-requires-clause-other : goal.take_type-requires-clause-other
 take_type-requires-clause-other g c =

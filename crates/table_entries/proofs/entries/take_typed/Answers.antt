@@ -1,4 +1,4 @@
-use Rattle.std.proofs.Common.{[], None, Some, Ok, ap, sym, subst, ◌∙◌, ◌+◌, Result, Err}
+use Rattle.std.proofs.Common.{[], None, Some, Ok, ap, sym, subst, ◌∙◌, ◌+◌, Result, Err, inl}
 use Rattle.xp_words.specs.declared.entry.Demand.TheVariants.{Typed}
 use Rattle.answer_fits.specs.Asked.{of_frame}
 use Rattle.answer_fits.proofs.Piecing.{serves_came}
@@ -44,7 +44,7 @@ count_live-requires-clause-aside g c =
     let at = c.args.at in
     let l = c.requires.looked in
     let got = c.in_ok-frame.ensures in
-    take_aside l.0 v at.table at.index at.kind l.1 l.2.looks at.owner c.in_ok-frame.frame c.args.want (l.3 ∙ ap (λ n. Typed n c.args.want) (sym got.frame.0)) u got.hand
+    λ none. inl (take_aside l.0 v at.table at.index at.kind l.1 l.2.looks at.owner c.in_ok-frame.frame c.args.want (l.3 ∙ ap (λ n. Typed n c.args.want) (sym got.frame.0)) u got.hand none)
 
 pub count_live-requires-clause-other : goal.count_live-requires-clause-other
 count_live-requires-clause-other g c =

@@ -1,4 +1,4 @@
-use Rattle.std.proofs.Common.{[], false, Err, None, ap, sym, subst, ◌∙◌, Result, Some, Ok}
+use Rattle.std.proofs.Common.{[], false, Err, None, ap, sym, subst, ◌∙◌, Result, Some, Ok, inl}
 use Rattle.std.proofs.lemmas.Result.{err_from_is_err_and}
 use Rattle.xp_words.specs.declared.entry.Demand.TheVariants.{Typed}
 use Rattle.answer_fits.specs.Asked.{of_frame}
@@ -48,8 +48,8 @@ take_type-requires-clause-aside g c =
     let at = c.args.at in
     let was = c.requires.looked in
     let got = c.in_ok-frame.ensures in
-    take_aside was.1.0 was.0 at.table at.index at.kind was.1.1 was.1.2.looks at.owner c.in_ok-frame.frame c.args.want (was.1.3 ∙ ap (λ n. Typed n c.args.want) (sym got.frame.0)) r
-    (takes_behind was.0 v r c.in_ok-frame.frame at.owner (live_same was.0 v c.args.frame false was.2) got.hand)
+    λ none. inl (take_aside was.1.0 was.0 at.table at.index at.kind was.1.1 was.1.2.looks at.owner c.in_ok-frame.frame c.args.want (was.1.3 ∙ ap (λ n. Typed n c.args.want) (sym got.frame.0)) r
+    (takes_behind was.0 v r c.in_ok-frame.frame at.owner (live_same was.0 v c.args.frame false was.2) got.hand) none)
 
 pub take_type-requires-clause-other : goal.take_type-requires-clause-other
 take_type-requires-clause-other g c =

@@ -1,4 +1,4 @@
-use Rattle.std.proofs.Common.{[], subst}
+use Rattle.std.proofs.Common.{[], subst, inl}
 use Rattle.xp_words.specs.declared.kind.PageType.TheVariants.{Writable}
 use Rattle.step_maker.proofs.Coming.{came_trans}
 use Rattle.answer_fits.proofs.Piecing.{serves_came}
@@ -84,3 +84,6 @@ returns-in-Ok-Waiting-clause-plain g c mine = page_twin (g.P.Port.value c.args.p
 
 pub returns-in-Ok-Counted-clause-plain : goal.returns-in-Ok-Counted-clause-plain
 returns-in-Ok-Counted-clause-plain g c mine = page_twin (g.P.Port.value c.args.port.now) (g.P.Port.value c.take_type.new.port) c.args.frame c.args.owner _ mine (returns-in-Ok-Counted-clause-course g c)
+
+pub take_type-requires-clause-aside : goal.take_type-requires-clause-aside
+take_type-requires-clause-aside g c none = inl c.requires.untyped
