@@ -1,4 +1,5 @@
-//! Page tables of four levels: validated.
+//! Frames that are taken as page tables of levels 1 to 4, with all that their entries ask: validated entry by entry, left partial where
+//! something stops it, and taken on where an earlier call left them.
 #![tactic(auto)]
 
 mod acquiring;

@@ -1,4 +1,5 @@
-//! The elements of `mmuext_op`: tables are pinned and unpinned.
+//! One element of `mmuext_op`: a page table is pinned or unpinned, a base of the vCPU is set, own translations are dropped, or the vCPUs of
+//! the domain are waited for until they have dropped theirs.
 #![tactic(auto)]
 
 mod element;

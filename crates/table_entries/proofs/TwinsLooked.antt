@@ -1,4 +1,4 @@
--- SeesEntry at an entry and at the frame that it asks, on a board that tells all words.
+-- Looks at an entry and at the frame that it asks, on a board that tells all words.
 use Rattle.std.proofs.Common.{◌≡◌, ℕ, ◌<◌, ◌≤◌, ◌&&◌, nat_lt, Bool, true, false, Option, Result, Ok, None, refl, sym, ap, ◌∙◌, subst, arith}
 use Rattle.std.proofs.lemmas.Bool.Decides.{nat_tests}
 use Rattle.xp_words.specs.Entries.{demand_at}

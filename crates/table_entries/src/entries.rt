@@ -50,7 +50,7 @@ pub enum Entered {
     },
 }
 
-/// SeesEntry at the next entry of the newest table in the own works, and takes what it asks. Where that is to be had the entry is
+/// Looks at the next entry of the newest table in the own works, and takes what it asks. Where that is to be had the entry is
 /// recorded. A refusal or a pause leaves the table as it was.
 pub fn take_entry<P: Port>(port: &mut P, at: TableEntry) -> Result<Entered, Stop>
     requires frame { at.table < (P.value port.old).post.machine.frames }

@@ -34,7 +34,7 @@ pub enum Resumed {
     Waiting { frame: u32, stamp: u64, stop: Stop },
 }
 
-/// SeesEntry again at the last recorded entry of the newest table in the own works, of which `at.index + 1` are recorded: its frame may
+/// Looks again at the last recorded entry of the newest table in the own works, of which `at.index + 1` are recorded: its frame may
 /// have been left partial. One that is not live is taken again. A refusal or a pause leaves the table as it was.
 pub fn resume_entry<P: Port>(port: &mut P, at: TableEntry) -> Result<Resumed, Stop>
     requires frame { at.table < (P.value port.old).post.machine.frames }
