@@ -1,7 +1,8 @@
 -- What is in hand between the calls of a write, and that nothing is behind it.
-use Rattle.std.proofs.Common.{◌≡◌, ℕ, ◌+◌, List, [], ◌∷◌, Option, Some, None, refl, sym, ap, ◌∙◌, subst}
+use Rattle.std.proofs.Common.{◌≡◌, ℕ, ◌+◌, List, [], ◌∷◌, Option, Some, None, refl, sym, ap, ◌∙◌, subst, inl, ◌<◌, IsTrue}
 use Rattle.xp_words.specs.Machine.{IsMachine}
 use Rattle.xp_words.specs.declared.kind.PageType.TheVariants.{Writable}
+use Rattle.xp_words.specs.Places.{sizes_of}
 use Rattle.xp_board.specs.declared.holdings.Claimed.{Claimed}
 use Rattle.xp_board.specs.declared.holdings.Ending.{Ending}
 use Rattle.xp_board.specs.declared.holdings.Lock.{Lock}
@@ -11,13 +12,14 @@ use Rattle.xp_board.specs.declared.holdings.TypedReference.{TypedReference}
 use Rattle.xp_board.specs.declared.holdings.Work.{Work}
 use Rattle.xp_board.specs.Hands.{ending_of, lock_on, typed_to, without_ref, work_on}
 use Rattle.xp_board.specs.KindSteps.{live_typed}
+use Rattle.xp_board.specs.Knowledge.{knows_live}
 use Rattle.xp_board.specs.Lists.{first_by, times_by}
 use Rattle.xp_board.specs.Told.{Post, PortValue}
 use Rattle.step_maker.specs.Holds.{FlushedHolds, FlushedSame, Holds, MayWork, Rests, Same, quiet}
 use Rattle.frame_words.specs.Cells.{IsApart, MayStoreCell}
 use Rattle.frame_words.specs.Freeing.{gave}
 use Rattle.frame_words.specs.Refs.{took}
-use Rattle.frame_words.proofs.CellSteps.{writes_live}
+use Rattle.frame_words.proofs.CellSteps.{newest_held, newest_live, writes_live}
 use Rattle.frame_words.proofs.Putting.{without_newest}
 use Rattle.frame_types.specs.Taking.{LentBy, MayDropPlain, gave_type, typed_as}
 use Rattle.mmu_update.specs.Elements.{LeavesUpdate}
@@ -118,7 +120,7 @@ module _ (b v : PortValue) (f d : ℕ) (rests : Rests b) (takes : Holds b v (too
     pub typed_post : x.post ≡ b.post
     typed_post = ap (λ (q : PortValue). q.post) whole
 
-    apart : IsApart f x.holdings
+    pub apart : IsApart f x.holdings
     apart =
         record {
           works = none_on (λ (y : Work). y.frame) f x.holdings.works (ap (λ (q : PortValue). q.holdings.works) whole ∙ rests.empty.works);
@@ -126,8 +128,17 @@ module _ (b v : PortValue) (f d : ℕ) (rests : Rests b) (takes : Holds b v (too
           claimed = none_on (λ (y : Claimed). y.frame) f x.holdings.claimed (ap (λ (q : PortValue). q.holdings.claimed) whole ∙ rests.empty.claimed);
         }
 
-    pub may_write : MayStoreCell x.post.machine f x.holdings
-    may_write = writes_live x f (owners.Of d) b.holdings.typed (ap (λ (q : PortValue). q.holdings.typed) whole) apart
+    newest : x.holdings.typed ≡ live_typed f Writable (owners.Of d) ∷ b.holdings.typed
+    newest = ap (λ (q : PortValue). q.holdings.typed) whole
+
+    pub held : 0 < typed_to f x.holdings.typed
+    held = newest_held x f Writable (owners.Of d) b.holdings.typed newest
+
+    pub live : IsTrue (knows_live (sizes_of x.post.machine) f Writable x.holdings)
+    live = newest_live x f Writable (owners.Of d) b.holdings.typed newest
+
+    pub may_write : (word : ℕ) → MayStoreCell x.post.machine f word x.holdings
+    may_write word = writes_live x f Writable (owners.Of d) b.holdings.typed newest word (inl refl) apart
 
     -- and was given back
     pub given_back : (y z : PortValue) → Same x y → Holds y z (gave_type f y.holdings) → LeavesUpdate b z
@@ -140,5 +151,10 @@ module _ (b v : PortValue) (f d : ℕ) (rests : Rests b) (takes : Holds b v (too
 
 pub may_drop : (b v x y : PortValue) (f d : ℕ) → Rests b → Holds b v (took f d b.holdings) → FlushedHolds v x (typed_as f d Writable v.holdings) → Same x y → MayDropPlain y.post.machine f Writable y.holdings
 may_drop b v x y f d rests takes typed same =
-    let m = may_write b v f d rests takes y (ap quiet same ∙ typed) in
-    record { held = m.held; live = m.live; plain = refl; apart = m.apart.works }
+    let whole = ap quiet same ∙ typed in
+    record {
+      held = held b v f d rests takes y whole;
+      live = live b v f d rests takes y whole;
+      plain = refl;
+      apart = (apart b v f d rests takes y whole).works;
+    }

@@ -24,7 +24,7 @@ use Rattle.mmu_update.specs.Elements.{IsWriteStop, LeavesUpdate}
 use Rattle.mmu_update.specs.Fits.{Updates}
 use Rattle.mmu_update.specs.Writing.{Ordinary}
 use Rattle.mmu_update.specs.declared.element.Element.TheVariants.{Write}
-use Rattle.mmu_update.proofs.Holding.{given_back, given_to_old, given_up, leaves_rests, may_write}
+use Rattle.mmu_update.proofs.Holding.{apart, given_back, given_to_old, given_up, leaves_rests}
 use Rattle.mmu_update.proofs.Serving.{asks, locked_serves, stored_serves, untaken_serves, untaken_stops}
 
 type_kinds : (e : Stop) → IsTypeStop e → IsWriteStop e
@@ -72,7 +72,7 @@ module _ (b v : PortValue) (o : Owners) (f i word : ℕ) (keep : Bool) (a : Ordi
     pub stored : TookPage v f o.tables x (Ok tt) → Moves x y (Cell f i) (Store word) kinds.Cell None found → Serves y z (of_back f) [] → GaveType y z f Writable → Updates o (Write f i word keep) b z [] (Ok tt)
     stored taken made back drops =
         record {
-          serves = stored_serves o f i word keep b v x y z found (before (Ok tt)) page (may_write b v f o.tables a.referred.begins.rests takes x typed).apart made back;
+          serves = stored_serves o f i word keep b v x y z found (before (Ok tt)) page (apart b v f o.tables a.referred.begins.rests takes x typed) made back;
           stops = tt;
           kinds = tt;
           numbers = λ y is. absurd cc;

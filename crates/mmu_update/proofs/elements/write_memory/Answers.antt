@@ -29,7 +29,7 @@ returns-in_err-take_page-clause-writes g c = λ b keep a.
 pub store_cell-requires-clause-writes : goal.store_cell-requires-clause-writes
 store_cell-requires-clause-writes g c =
     let a = c.requires.ordinary.1 in
-    may_write c.requires.ordinary.0 (g.P.Port.value c.args.port.now) c.args.frame c.args.owners.tables a.referred.begins.rests (lent c.requires.ordinary.0 (g.P.Port.value c.args.port.now) c.args.owners c.args.frame a) (g.P.Port.value c.take_page.new.port) c.in_ok-take_page.ensures.hand
+    may_write c.requires.ordinary.0 (g.P.Port.value c.args.port.now) c.args.frame c.args.owners.tables a.referred.begins.rests (lent c.requires.ordinary.0 (g.P.Port.value c.args.port.now) c.args.owners c.args.frame a) (g.P.Port.value c.take_page.new.port) c.in_ok-take_page.ensures.hand c.args.word
 
 pub drop_plain-requires-clause-drops : goal.drop_plain-requires-clause-drops
 drop_plain-requires-clause-drops g c =
