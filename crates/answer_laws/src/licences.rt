@@ -20,7 +20,6 @@ ghost use Rattle.answer_laws.specs.Walked.{SeenBelow};
 
 /// A call that takes a block of frames waits past no clock value but the greatest that it found in that block, all of which it found free: not
 /// past that of another block, nor past that of one frame where another has a later one.
-#[tactic(auto, using(crate::proofs::Licensing::own_block_met))]
 pub fn a_claim_awaits_its_own_block()
     ensures { (v w : PortValue) (owner size block : ℕ) (whose : Whose) (stamp : ℕ) → AwaitsStamp v.post.machine v.post.vcpu (of_block owner size block) (Met v w) whose stamp →
         (g : ℕ) → g / size ≡ block → g < v.post.machine.frames → FoundFreeBy (Met v w) g stamp }
@@ -39,7 +38,6 @@ pub fn a_frame_that_is_not_allocated_is_not_returned()
 {}
 
 /// Each frame that a destruction finds to be the domain's is asked, so it may take its marks off and give it back.
-#[tactic(auto, using(crate::proofs::Licensing::doomed_asked))]
 pub fn a_frame_of_a_destroyed_domain_is_asked()
     ensures { (v w : PortValue) (d f x : ℕ) (rose : Bool) → FoundAt (Met v w) (Refs f) x → owner_of x ≡ Some d → IsAsked v.post.machine v.post.vcpu (of_destroy d rose) (Met v w) f }
 {}
@@ -58,7 +56,6 @@ pub fn no_privilege_destroys_the_own_domain()
 {}
 
 /// A domain gives another one privilege over those domains alone over which it was found to have it; over itself, too, where it has not.
-#[tactic(auto, using(crate::proofs::Licensing::not_granted))]
 pub fn a_grant_wants_the_privilege()
     ensures { (v w : PortValue) (own to over x : ℕ) → own ≡ domain_of v.post.machine v.post.vcpu → FoundAt (Met v w) (Priv own) x → has_now over x ≡ false → Stops v w (of_grant to over) (Refused (NoPrivilege own over)) }
 {}

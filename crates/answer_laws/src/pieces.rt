@@ -66,7 +66,6 @@ pub fn a_return_is_a_deed()
 {}
 
 /// Privileges are changed only by a call that gives or takes them, and that is a deed.
-#[tactic(auto, using(crate::proofs::Fitting::privileges))]
 pub fn privileges_are_changed_as_asked()
     ensures { (v w : PortValue) (r : Request) (ds : List Deed) (ms : List Moment) (m : Moment) (d e x : ℕ) → Piece v w r ds ms → Member m ms → m.place ≡ Priv d → m.act ≡ Cas e x → m.found ≡ e →
         (r.grants ≡ Some d) × Member (SetsPrivilege d x) ds }

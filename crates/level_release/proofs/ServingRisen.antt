@@ -1,5 +1,5 @@
 -- Steps behind steps: how they go on with a call that asked the tables that are being released, and why it stops.
-use Rattle.std.proofs.Common.{List, [], ◌++◌, refl, sym, subst, append_assoc, append-nil}
+use Rattle.std.proofs.Common.{inl, List, [], ◌++◌, refl, sym, subst, append_assoc, append-nil}
 use Rattle.xp_words.specs.declared.reply.Pause.TheVariants.{Due}
 use Rattle.xp_words.specs.declared.reply.Stop.{Stop}
 use Rattle.xp_words.specs.declared.reply.Stop.TheVariants.{Paused}
@@ -42,4 +42,4 @@ risen_on v w x ts e came stops u r ds rose a = stops_before u w x r e (stops u r
 -- the gate said yes, and something got on
 pub risen_due : (v w : PortValue) (ts : List TableWork) → Progress (Met v w) → StopsRelease v w ts (Paused Due)
 unfolding StopsRelease Stops
-risen_due v w ts gets_on u r ds rose a = (rose refl, progress_after u v w (serves_came u v r ds a.serves) gets_on)
+risen_due v w ts gets_on u r ds rose a = (rose refl, inl (progress_after u v w (serves_came u v r ds a.serves) gets_on))

@@ -1,5 +1,5 @@
 -- Why a call stops that asked the tables in work, where the gate is one of the reasons.
-use Rattle.std.proofs.Common.{◌≡◌, ℕ, Bool, true, List, Result, Err, IfOk, IfErr, refl, sym, subst}
+use Rattle.std.proofs.Common.{◌≡◌, ℕ, Bool, true, List, Result, Err, IfOk, IfErr, inl, refl, sym, subst}
 use Rattle.std.proofs.lemmas.Result.{IfOk-weaker}
 use Rattle.xp_words.specs.declared.reply.Stop.{Stop}
 use Rattle.xp_words.specs.declared.reply.Pause.TheVariants.{Due}
@@ -28,7 +28,7 @@ module _ (v w : PortValue) (owner : ℕ) (ts : List TableWork) (e : Stop) where
 -- the gate said yes, and something got on
 pub risen_due : (v w : PortValue) (owner : ℕ) (ts : List TableWork) → Progress (Met v w) → StopsRisen v w owner ts (Paused Due)
 unfolding StopsRisen Stops
-risen_due v w owner ts gets_on u r ds rose s a = (rose refl, progress_after u v w (serves_came u v r ds a.serves) gets_on)
+risen_due v w owner ts gets_on u r ds rose s a = (rose refl, inl (progress_after u v w (serves_came u v r ds a.serves) gets_on))
 
 -- ---- by the answer
 pub risen_answer : {A : Type 0} (v w : PortValue) (owner : ℕ) (ts : List TableWork) (r : Result A Stop) (e : Stop) → r ≡ Err e → StopsRisen v w owner ts e → IfErr r (λ k. StopsRisen v w owner ts k)
