@@ -57,7 +57,7 @@ def renamed(text):
             names = bound_at(tokens, at)
             brought.append({name: f"§{bound + i}" for i, name in enumerate(names)})
             bound += len(names)
-            scopes.append(scopes[-1] | brought[-1])
+            scopes.append({**scopes[-1], **brought[-1]})
         elif token in ")}]":
             scopes.pop()
             scopes[-1].update(brought.pop())
