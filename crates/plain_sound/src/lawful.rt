@@ -1,6 +1,6 @@
 //! Whether a whole tree of page tables may be validated: its entries are followed from the top, level by level.
 use plain_words::{FRAMES, State, demand_at, is_dead};
-use xp_words::{Demand, PageType, RefWord};
+use xp_words::{Demand, KindWord, PageType, RefWord};
 
 /// The type that is asked of each frame, and whether all that was asked so far may be had.
 #[derive(Drop)]
@@ -90,13 +90,18 @@ fn is_owned(state: &State, domain: u16, frame: u64) -> bool {
     state.owner_at(frame) == Some(domain) && 0 < count_at(state, frame)
 }
 
-/// Each frame of the tree is the domain's, and dead or of the type that is asked.
+/// Live with that type, and with a type count.
+fn is_counted_as(word: &KindWord, kind: PageType) -> bool {
+    word.validated && word.kind == kind && 0 < word.number
+}
+
+/// Each frame of the tree is the domain's, and dead, or live with a type count and of the type that is asked.
 fn frames_fit(state: &State, domain: u16, asked: &Asked) -> bool {
     let mut fit = true;
     for frame in 0..FRAMES {
         if let Some(kind) = asked.of(frame) {
             let typed = match state.kind_of(frame) {
-                Some(word) => is_dead(&word) || word.kind == kind,
+                Some(word) => is_dead(&word) || is_counted_as(&word, kind),
                 None => false,
             };
             fit = fit && typed && is_owned(state, domain, frame);

@@ -5,6 +5,7 @@ use Rattle.xp_words.specs.declared.kind.PageType.{PageType}
 use Rattle.xp_words.specs.declared.entry.Demand.{Demand}
 use Rattle.xp_words.specs.declared.entry.Demand.TheVariants.{Bad, Read, Typed}
 use Rattle.xp_words.specs.PageTypes.{is_table}
+use Rattle.xp_board.specs.Lawful.{IsCountedAs}
 use Rattle.xp_board.specs.Lists.{one_at}
 use Rattle.xp_board.specs.Readings.{is_dead}
 use Rattle.xp_board.specs.Sums.{sum_below}
@@ -77,7 +78,7 @@ module _ (c : Case) (calm : IsCalm c) (l : ℕ) (low : l ≤ 4) (kind : c.kind �
       elim referred [
         | inl r ↦
             then_took r
-            (take_goes c calm l low c.top r.left nothing (first_does r) (λ x k some off. absurd (cc)) r.owned (subst (λ t. PlainTree c.before c.top c.kind c.top t) kind root))
+            (take_goes c l low c.top r.left nothing (first_does r) (λ x k some off. absurd (cc)) r.owned (subst (λ t. PlainTree c.before c.top c.kind c.top t) kind root))
         | inr failed ↦
             inr (record { cause = failed.cause; left = failed.left; is = ap (λ o. then_by o (take_at l c.machine c.owner c.top)) failed.is; why = failed.why })
       ]
@@ -132,9 +133,9 @@ module _ (c : Case) (calm : IsCalm c) (l : ℕ) (low : l ≤ 4) (kind : c.kind �
     one_by g u w (inr a) (inl b) = absurd (let t = does.took g b.0 b.1 in let d = t.dead in let n = a.0 in cc)
     one_by g u w (inr a) (inr b) = sym a.1 ∙ b.1
 
-    right_by : (g : ℕ) (u : PageType) → HasType c e g u → IsTrue (is_dead (c.before.kinds g)) ⊎ ((c.before.kinds g).kind ≡ u)
-    right_by g u (inl a) = inl (does.took g a.0 a.1).dead
-    right_by g u (inr a) = inr a.1
+    right_by : (g : ℕ) (u : PageType) → IsPlainOwned c.machine c.owner c.before g → HasType c e g u → IsTrue (is_dead (c.before.kinds g)) ⊎ IsCountedAs (c.before.kinds g) u
+    right_by g u owned (inl a) = inl (does.took g a.0 a.1).dead
+    right_by g u owned (inr a) = let live = calm.formed g owned.inside a.0 in inr (record { live = live; kind = a.1; counted = calm.counted g owned.inside live })
 
     -- the nodes are the tables that were taken
     node_of : Option ℕ → Option PageType
@@ -175,7 +176,7 @@ module _ (c : Case) (calm : IsCalm c) (l : ℕ) (low : l ≤ 4) (kind : c.kind �
           plain = λ g i h u node inside asks. entry_met g i u (Read h) (node_table g u node) inside asks;
           typed = λ g u tree. (reached g u tree).0;
           one_type = λ g u w a b. one_by g u w (reached g u a).1 (reached g w b).1;
-          right_type = λ g u a. right_by g u (reached g u a).1;
+          right_type = λ g u a. let r = reached g u a in right_by g u r.0 r.1;
           nodes = λ x. node_of (e.taken x);
           each = λ g u is. node_by g u (e.taken g) refl is;
           all = λ g u node. is_node_of g u (node_table g u node);

@@ -7,7 +7,7 @@ use Rattle.xp_words.specs.declared.entry.Demand.TheVariants.{Nothing, Bad, Read,
 use Rattle.xp_words.specs.declared.place.Place.TheVariants.{Refs, Cell}
 use Rattle.xp_words.specs.Entries.{demand_at}
 use Rattle.xp_words.specs.Machine.{Machine}
-use Rattle.xp_board.specs.Lawful.{Tree, root, below, IsNode, asked_by, IsOwned, Lawful}
+use Rattle.xp_board.specs.Lawful.{Tree, root, below, IsNode, asked_by, IsOwned, IsCountedAs, Lawful}
 use Rattle.xp_board.specs.Lists.{one_at}
 use Rattle.xp_board.specs.Readings.{is_dead, kind_at, owner_of, ref_count}
 use Rattle.xp_board.specs.Recorded.{names}
@@ -21,6 +21,9 @@ use Rattle.table_law.specs.Lawful.{PlainTree, IsPlainNode, plain_asked_by, IsSha
 use Rattle.table_law.specs.Lawful.{root as plain_root, below as plain_below}
 use Rattle.table_law.proofs.Describing.{owns_word, none_counted, owned_share, share_most, sober_dead, sober_kind, sober_live}
 
+live_number : (k : KindWord) → k.validated ≡ true → (sober k).number ≡ k.number
+live_number k on = rw on refl
+
 module _ (n : Machine) (owner f : ℕ) (t : PageType) (m : Words) (p : Plain) (d : Describes n m p) where
   -- ---- one frame
   dead_as : (g : ℕ) → g < n.frames → is_dead (p.kinds g) ≡ is_dead (kind_at m g)
@@ -28,6 +31,25 @@ module _ (n : Machine) (owner f : ℕ) (t : PageType) (m : Words) (p : Plain) (d
 
   kind_as : (g : ℕ) → g < n.frames → (p.kinds g).kind ≡ (kind_at m g).kind
   kind_as g inside = ap (λ (k : KindWord). k.kind) (d.kinds g inside) ∙ sober_kind (kind_at m g)
+
+  live_as : (g : ℕ) → g < n.frames → (p.kinds g).validated ≡ (kind_at m g).validated
+  live_as g inside = ap (λ (k : KindWord). k.validated) (d.kinds g inside) ∙ sober_live (kind_at m g)
+
+  number_as : (g : ℕ) → g < n.frames → (kind_at m g).validated ≡ true → (p.kinds g).number ≡ (kind_at m g).number
+  number_as g inside live = ap (λ (k : KindWord). k.number) (d.kinds g inside) ∙ live_number (kind_at m g) live
+
+  counted_plain : (g : ℕ) (u : PageType) → g < n.frames → IsCountedAs (kind_at m g) u → IsCountedAs (p.kinds g) u
+  counted_plain g u inside is =
+      let number = number_as g inside is.live in
+      let some = is.counted in
+      record { live = live_as g inside ∙ is.live; kind = kind_as g inside ∙ is.kind; counted = omega arith }
+
+  counted_words : (g : ℕ) (u : PageType) → g < n.frames → IsCountedAs (p.kinds g) u → IsCountedAs (kind_at m g) u
+  counted_words g u inside is =
+      let live = sym (live_as g inside) ∙ is.live in
+      let number = number_as g inside live in
+      let some = is.counted in
+      record { live = live; kind = sym (kind_as g inside) ∙ is.kind; counted = omega arith }
 
   entry_as : (g i : ℕ) (u : PageType) → g < n.frames → i < 512 → entry_of p u g i ≡ demand_at u i (m (Cell g i))
   entry_as g i u inside few = ap (demand_at u i) (d.cells g i inside few)
@@ -98,10 +120,10 @@ module _ (n : Machine) (owner f : ℕ) (t : PageType) (m : Words) (p : Plain) (d
         let count = word.count in
         omega arith
 
-    right_plain : (g : ℕ) (u : PageType) → PlainTree p f t g u → IsTrue (is_dead (p.kinds g)) ⊎ ((p.kinds g).kind ≡ u)
+    right_plain : (g : ℕ) (u : PageType) → PlainTree p f t g u → IsTrue (is_dead (p.kinds g)) ⊎ IsCountedAs (p.kinds g) u
     right_plain g u tree =
         let inside = inside_in g u tree in
-        elim (law.right_type g u (tree_in g u tree)) [ inl dead ↦ inl (dead_as g inside ∙ dead) | inr is ↦ inr (kind_as g inside ∙ is) ]
+        elim (law.right_type g u (tree_in g u tree)) [ inl dead ↦ inl (dead_as g inside ∙ dead) | inr is ↦ inr (counted_plain g u inside is) ]
 
     pub lawful_plain : PlainLawful n owner p f t
     lawful_plain =
@@ -163,10 +185,10 @@ module _ (n : Machine) (owner f : ℕ) (t : PageType) (m : Words) (p : Plain) (d
         let most = law.within g s inside is in
         omega arith
 
-    right_words : (g : ℕ) (u : PageType) → Tree m f t g u → IsTrue (is_dead (kind_at m g)) ⊎ ((kind_at m g).kind ≡ u)
+    right_words : (g : ℕ) (u : PageType) → Tree m f t g u → IsTrue (is_dead (kind_at m g)) ⊎ IsCountedAs (kind_at m g) u
     right_words g u tree =
         let inside = inside_of g u (tree_of g u tree) in
-        elim (law.right_type g u (tree_of g u tree)) [ inl dead ↦ inl (sym (dead_as g inside) ∙ dead) | inr is ↦ inr (sym (kind_as g inside) ∙ is) ]
+        elim (law.right_type g u (tree_of g u tree)) [ inl dead ↦ inl (sym (dead_as g inside) ∙ dead) | inr is ↦ inr (counted_words g u inside is) ]
 
     inside_words : (g : ℕ) (u : PageType) → Tree m f t g u → g < n.frames
     inside_words g u tree = inside_of g u (tree_of g u tree)
@@ -186,9 +208,6 @@ module _ (n : Machine) (owner f : ℕ) (t : PageType) (m : Words) (p : Plain) (d
         }
 
 -- ---- at rest
-live_number : (k : KindWord) → k.validated ≡ true → (sober k).number ≡ k.number
-live_number k on = rw on refl
-
 -- where each live frame of the words has a type count, so it has on the plain value
 counts_types : (n : Machine) (m : Words) (p : Plain) → Describes n m p → ((g : ℕ) → g < n.frames → (kind_at m g).validated ≡ true → 0 < (kind_at m g).number) → (g : ℕ) → g < n.frames → (p.kinds g).validated ≡ true → 0 < (p.kinds g).number
 counts_types n m p d some g inside live =

@@ -11,7 +11,7 @@ use Rattle.table_law.specs.Alone.{PlainOutcome, fine, is_counted, then_or, take_
 use Rattle.table_law.specs.Release.{let_go}
 use Rattle.table_law.specs.Levels.{closed}
 use Rattle.table_law.specs.Lawful.{PlainTree, IsPlainOwned}
-use Rattle.table_law.proofs.Doing.{Case, IsCalm, Doing, Doings, IsSame, IsTaken, Above, AllMet, Grows, Failed, Goes, more}
+use Rattle.table_law.proofs.Doing.{Case, Doing, Doings, IsSame, IsTaken, Above, AllMet, Grows, Failed, Goes, more}
 use Rattle.table_law.proofs.Counting.{took_more, at_here, at_there, total_took}
 use Rattle.table_law.proofs.Growing.{counted_as, grows_none}
 use Rattle.table_law.proofs.TakingLive.{by_type}
@@ -186,12 +186,12 @@ module _ (c : Case) (l : ℕ) (low : l ≤ 4) (g : ℕ) (p : Plain) (d : Doing) 
   by_filled fill dead (inl done) = done_all dead done.left done.doing done.holds.0 done.holds.1 done.holds.2 fill done.is
   by_filled fill dead (inr failed) = failed_all dead fill failed
 
-  by_form : IsCalm c → (fill : Plain → PlainOutcome) → Fills fill → (b : Bool) → is_dead (p.kinds g) ≡ b → Goes c (take_kind fill g (level_type l) p (p.kinds g)) (Took c p d g l)
-  by_form calm fill fills true dead = by_filled fill dead (fills dead)
-  by_form calm fill fills false live = by_type c l low g p d does above owned tree live calm fill (is_counted (p.kinds g) && is_type (p.kinds g).kind (level_type l)) refl
+  by_form : (fill : Plain → PlainOutcome) → Fills fill → (b : Bool) → is_dead (p.kinds g) ≡ b → Goes c (take_kind fill g (level_type l) p (p.kinds g)) (Took c p d g l)
+  by_form fill fills true dead = by_filled fill dead (fills dead)
+  by_form fill fills false live = by_type c l low g p d does above tree live fill (is_counted (p.kinds g) && is_type (p.kinds g).kind (level_type l)) refl
 
-  pub taken_goes : IsCalm c → (fill : Plain → PlainOutcome) → Fills fill → Goes c (take_kind fill g (level_type l) p (p.kinds g)) (Took c p d g l)
-  taken_goes calm fill fills = by_form calm fill fills (is_dead (p.kinds g)) refl
+  pub taken_goes : (fill : Plain → PlainOutcome) → Fills fill → Goes c (take_kind fill g (level_type l) p (p.kinds g)) (Took c p d g l)
+  taken_goes fill fills = by_form fill fills (is_dead (p.kinds g)) refl
 
   -- level 0 has no entries
   pub fills_none : l ≡ 0 → Fills fine
@@ -245,9 +245,9 @@ module _ (c : Case) (l : ℕ) (low : l ≤ 4) (g : ℕ) (p : Plain) (d : Doing) 
       ]
 
 -- ---- each level
-pub take_goes : (c : Case) → IsCalm c → (l : ℕ) → l ≤ 4 → Take c l
+pub take_goes : (c : Case) (l : ℕ) → l ≤ 4 → Take c l
 unfolding take_at
-take_goes c calm zero low g p d does above owned tree = taken_goes c zero low g p d does above owned tree calm fine (fills_none c zero low g p d does above owned tree refl)
-take_goes c calm (suc l) low g p d does above owned tree =
-    taken_goes c (suc l) low g p d does above owned tree calm (meet_last c.machine c.owner (take_at l c.machine c.owner) (let_go l) (level_type (suc l)) g 512)
-    (fills_table c (suc l) low g p d does above owned tree l refl (take_goes c calm l (omega arith)))
+take_goes c zero low g p d does above owned tree = taken_goes c zero low g p d does above owned tree fine (fills_none c zero low g p d does above owned tree refl)
+take_goes c (suc l) low g p d does above owned tree =
+    taken_goes c (suc l) low g p d does above owned tree (meet_last c.machine c.owner (take_at l c.machine c.owner) (let_go l) (level_type (suc l)) g 512)
+    (fills_table c (suc l) low g p d does above owned tree l refl (take_goes c l (omega arith)))

@@ -12,8 +12,8 @@ use Rattle.partial_state.specs.Levels.{level_type}
 use Rattle.partial_state.proofs.LevelFacts.{level_type-apart}
 use Rattle.table_law.specs.Plain.{Plain, at, with_kind, reference_back}
 use Rattle.table_law.specs.Alone.{OtherType, PlainOutcome, is_counted, take_kind}
-use Rattle.table_law.specs.Lawful.{PlainTree, IsPlainOwned}
-use Rattle.table_law.proofs.Doing.{Case, IsCalm, Doing, Doings, IsLawful, IsSame, IsTaken, Above, HasType, Goes}
+use Rattle.table_law.specs.Lawful.{PlainTree}
+use Rattle.table_law.proofs.Doing.{Case, Doing, Doings, IsLawful, IsSame, IsTaken, Above, HasType, Goes}
 use Rattle.table_law.proofs.Counting.{at_here, at_there}
 use Rattle.table_law.proofs.Growing.{counted_as}
 use Rattle.table_law.proofs.Meeting.{Took}
@@ -30,7 +30,7 @@ uncounted k some off =
 has_counts : (k : KindWord) (t : PageType) → k.validated ≡ true → 0 < k.number → is_type k.kind t ≡ true → is_counted k && is_type k.kind t ≡ true
 has_counts k t live some typed = grind (arith, nat_tests)
 
-module _ (c : Case) (l : ℕ) (low : l ≤ 4) (g : ℕ) (p : Plain) (d : Doing) (does : Doings c p d) (above : Above p d l) (owned : IsPlainOwned c.machine c.owner c.before g)
+module _ (c : Case) (l : ℕ) (low : l ≤ 4) (g : ℕ) (p : Plain) (d : Doing) (does : Doings c p d) (above : Above p d l)
     (tree : PlainTree c.before c.top c.kind g (level_type l)) where
   module _ (live : is_dead (p.kinds g) ≡ false) where
     kind_now : at g (raised_kind (p.kinds g)) p.kinds g ≡ raised_kind (p.kinds g)
@@ -83,8 +83,8 @@ module _ (c : Case) (l : ℕ) (low : l ≤ 4) (g : ℕ) (p : Plain) (d : Doing) 
         }
 
     -- of another type, or in work
-    other_by : IsCalm c → (o : Option ℕ) → d.taken g ≡ o → is_counted (p.kinds g) && is_type (p.kinds g).kind (level_type l) ≡ false → IsLawful c → ⊥
-    other_by calm (Some k) some off law =
+    other_by : (o : Option ℕ) → d.taken g ≡ o → is_counted (p.kinds g) && is_type (p.kinds g).kind (level_type l) ≡ false → IsLawful c → ⊥
+    other_by (Some k) some off law =
         let t = does.took g k some in
         let same : k ≡ l = level_type-apart k l t.low low (law.one_type g (level_type k) (level_type l) t.tree tree) in
         let is : (p.kinds g).kind ≡ level_type l = t.kind ∙ ap level_type same in
@@ -93,22 +93,21 @@ module _ (c : Case) (l : ℕ) (low : l ≤ 4) (g : ℕ) (p : Plain) (d : Doing) 
         let work = uncounted (p.kinds g) t.counted out in
         let up = above g k some work in
         omega arith
-    other_by calm None none off law =
+    other_by None none off law =
         let s = does.same g none in
-        let undead : is_dead (c.before.kinds g) ≡ false = sym s.dead ∙ live in
         elim (law.right_type g (level_type l) tree) [
-          | inl dead ↦ absurd (cc)
+          | inl dead ↦ absurd (let undead = sym s.dead ∙ live in cc)
           | inr is ↦
-              let typed : is_type (p.kinds g).kind (level_type l) ≡ true = ap (λ y. is_type y (level_type l)) (s.kind ∙ is) ∙ same_type (level_type l) in
-              let valid : (p.kinds g).validated ≡ true = s.live ∙ calm.formed g owned.inside undead in
-              let few = calm.counted g owned.inside (calm.formed g owned.inside undead) in
+              let typed : is_type (p.kinds g).kind (level_type l) ≡ true = ap (λ y. is_type y (level_type l)) (s.kind ∙ is.kind) ∙ same_type (level_type l) in
+              let valid : (p.kinds g).validated ≡ true = s.live ∙ is.live in
+              let few = is.counted in
               let up = s.more in
               let some : 0 < (p.kinds g).number = omega arith in
               let all : is_counted (p.kinds g) && is_type (p.kinds g).kind (level_type l) ≡ true = has_counts (p.kinds g) (level_type l) valid some typed in
               absurd (let no = off in cc)
         ]
 
-    pub by_type : IsCalm c → (fill : Plain → PlainOutcome) → (b : Bool) → is_counted (p.kinds g) && is_type (p.kinds g).kind (level_type l) ≡ b → Goes c (take_kind fill g (level_type l) p (p.kinds g)) (Took c p d g l)
-    by_type calm fill true on = inl (record { left = with_kind g (raised_kind (p.kinds g)) p; doing = d; is = rw (live, on) refl; holds = counted on })
-    by_type calm fill false off =
-        inr (record { cause = OtherType g (level_type l) (p.kinds g); left = reference_back g p; is = rw (live, off) refl; why = other_by calm (d.taken g) refl off })
+    pub by_type : (fill : Plain → PlainOutcome) → (b : Bool) → is_counted (p.kinds g) && is_type (p.kinds g).kind (level_type l) ≡ b → Goes c (take_kind fill g (level_type l) p (p.kinds g)) (Took c p d g l)
+    by_type fill true on = inl (record { left = with_kind g (raised_kind (p.kinds g)) p; doing = d; is = rw (live, on) refl; holds = counted on })
+    by_type fill false off =
+        inr (record { cause = OtherType g (level_type l) (p.kinds g); left = reference_back g p; is = rw (live, off) refl; why = other_by (d.taken g) refl off })

@@ -5,6 +5,7 @@ use Rattle.xp_words.specs.declared.kind.PageType.{PageType}
 use Rattle.xp_words.specs.declared.entry.Demand.TheVariants.{Bad, Read, Typed}
 use Rattle.xp_words.specs.PageTypes.{is_table}
 use Rattle.xp_words.specs.Machine.{Machine}
+use Rattle.xp_board.specs.Lawful.{IsCountedAs}
 use Rattle.xp_board.specs.Lists.{one_at}
 use Rattle.xp_board.specs.Readings.{is_dead, kind_at, ref_count}
 use Rattle.xp_board.specs.Recorded.{names}
@@ -48,7 +49,7 @@ pub record PlainLawful (n : Machine) (owner : ℕ) (p : Plain) (f : ℕ) (t : Pa
   pub plain : (g i h : ℕ) (u : PageType) → IsPlainNode p f t g u → i < 512 → entry_of p u g i ≡ Read h → IsPlainOwned n owner p h
   pub typed : (g : ℕ) (u : PageType) → PlainTree p f t g u → IsPlainOwned n owner p g
   pub one_type : (g : ℕ) (u w : PageType) → PlainTree p f t g u → PlainTree p f t g w → u ≡ w
-  pub right_type : (g : ℕ) (u : PageType) → PlainTree p f t g u → IsTrue (is_dead (p.kinds g)) ⊎ ((p.kinds g).kind ≡ u)
+  pub right_type : (g : ℕ) (u : PageType) → PlainTree p f t g u → IsTrue (is_dead (p.kinds g)) ⊎ IsCountedAs (p.kinds g) u
   -- the nodes with their types, and what their entries come to
   pub nodes : ℕ → Option PageType
   pub each : (g : ℕ) (u : PageType) → nodes g ≡ Some u → IsPlainNode p f t g u

@@ -1,5 +1,5 @@
 -- Small trees of page tables that are lawful, and that are not: a table of empty entries; the same where one more reference
--- is too many; and a table that maps itself writable.
+-- is too many; a table that maps itself writable; one that is closing; and one over a partial one.
 use Rattle.std.proofs.Common.{◌≡◌, ◌≢◌, ℕ, ◌+◌, ◌<◌, ◌≤◌, ◌==◌, if◌then◌else◌, Bool, true, false, Option, Some, None, [], ◌∷◌, IsTrue, refl, sym, ap, subst, ◌∙◌, arith, inl, inr, lit<}
 use Rattle.std.proofs.lemmas.Bool.{cases_Bool, eqb-true}
 use Rattle.xp_words.specs.declared.kind.PageType.{PageType}
@@ -12,7 +12,7 @@ use Rattle.xp_words.specs.declared.entry.Demand.TheVariants.{Nothing, Bad, Read,
 use Rattle.xp_words.specs.Entries.{demand_at, demand_of}
 use Rattle.xp_words.specs.Machine.{Machine}
 use Rattle.xp_words.specs.declared.place.Place.{Place}
-use Rattle.xp_words.specs.declared.place.Place.TheVariants.{Refs, Cell}
+use Rattle.xp_words.specs.declared.place.Place.TheVariants.{Refs, Kind, Cell}
 use Rattle.xp_words.specs.PageTypes.{is_table}
 use Rattle.xp_board.specs.Lawful.{Tree, root, below, IsNode, asked_by, IsOwned, Lawful}
 use Rattle.xp_board.specs.Lists.{one_at}
@@ -115,3 +115,28 @@ self_writable = below 5 0 5 kinds.L1 kinds.Writable root refl refl (omega arith)
 
 not_itself : (limit : ℕ) → Lawful (machine limit) 0 self_words 5 kinds.L1 → ⊥
 not_itself limit l = let same = l.one_type 5 kinds.L1 kinds.Writable root self_writable in cc
+
+-- ---- a live table without a type count has the right type, and is closing
+abbrev closing_words : Place → ℕ
+closing_words (Refs f) = 9223372039002259457
+closing_words (Kind f) = if f == 5 then 5629499534213120 else 0
+closing_words _ = 0
+
+not_closing : (limit : ℕ) → Lawful (machine limit) 0 closing_words 5 kinds.L1 → ⊥
+unfolding kind_fields
+not_closing limit l = elim (l.right_type 5 kinds.L1 root) [ inl dead ↦ absurd (cc) | inr is ↦ let some = is.counted in absurd (omega arith) ]
+
+-- ---- a table leads to a partial one of the right type
+abbrev partial_words : Place → ℕ
+partial_words (Refs f) = 9223372039002259457
+partial_words (Kind f) = if f == 6 then 5066549580791808 else 0
+partial_words (Cell f i) = if f == 5 then (if i == 0 then 24583 else 0) else 0
+partial_words _ = 0
+
+leads_to_partial : Tree partial_words 5 kinds.L2 6 kinds.L1
+unfolding demand_at demand_of kind_fields
+leads_to_partial = below 5 0 6 kinds.L2 kinds.L1 root refl refl (omega arith) refl
+
+not_over_partial : (limit : ℕ) → Lawful (machine limit) 0 partial_words 5 kinds.L2 → ⊥
+unfolding kind_fields
+not_over_partial limit l = elim (l.right_type 6 kinds.L1 leads_to_partial) [ inl dead ↦ absurd (cc) | inr is ↦ let live = is.live in absurd (cc) ]
