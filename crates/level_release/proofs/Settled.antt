@@ -1,5 +1,5 @@
 -- The first old word and then the second: what the steps show of the whole.
-use Rattle.std.proofs.Common.{◌≡◌, ℕ, Bool, true, false, [], Result, Ok, Err, IfErr, sym, subst, append-nil}
+use Rattle.std.proofs.Common.{◌≡◌, ℕ, Option, Bool, true, false, [], Result, Ok, Err, IfErr, sym, subst, append-nil}
 use Rattle.xp_words.specs.declared.reply.Stop.{Stop}
 use Rattle.xp_board.specs.Told.{Post, PortValue}
 use Rattle.step_maker.specs.Moves.{Came, Met}
@@ -35,8 +35,8 @@ module _ (v u w : PortValue) (owner pages : ℕ) (before : Serves v u (of_settle
   both_stop (Err e) ends stops = stops_then v u w (of_settle {A = Unit {0}} owner pages (Err e)) e (end_uncounted e ends) came stops
 
 -- paused at the first
-pub first_by : (v w : PortValue) (says : ℕ → Bool) (a b x y : ℕ) (answer : Result (Unit {0}) Stop) (e : Stop) → answer ≡ Err e → By (λ answers. SettledOne v First w answers (Err e)) says a b x y (Err e) →
-    By (λ answers. Settled v w answers answer) says a b x y answer
-first_by v w says a b x y answer e is paused =
-    subst (λ (r : Result (Unit {0}) Stop). By (λ answers. Settled v w answers r) says a b x y r) (sym is)
-    (by_as says (λ answers. SettledOne v First w answers (Err e)) (λ answers. Settled v w answers (Err e)) a b x y (Err e) (λ answers one. first w answers e one) paused)
+pub first_by : (below : Option ℕ) (v w : PortValue) (says : ℕ → Bool) (a b x y : ℕ) (answer : Result (Unit {0}) Stop) (e : Stop) → answer ≡ Err e → By (λ answers. SettledOne below v First w answers (Err e)) says a b x y (Err e) →
+    By (λ answers. Settled below v w answers answer) says a b x y answer
+first_by below v w says a b x y answer e is paused =
+    subst (λ (r : Result (Unit {0}) Stop). By (λ answers. Settled below v w answers r) says a b x y r) (sym is)
+    (by_as says (λ answers. SettledOne below v First w answers (Err e)) (λ answers. Settled below v w answers (Err e)) a b x y (Err e) (λ answers one. first w answers e one) paused)

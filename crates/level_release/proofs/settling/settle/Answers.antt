@@ -1,4 +1,4 @@
-use Rattle.std.proofs.Common.{Err, Ok, ap, ◌∙◌}
+use Rattle.std.proofs.Common.{Err, Ok, ap, ◌∙◌, None}
 use Rattle.std.proofs.lemmas.Result.{err_from_is_err_and}
 use Rattle.table_words.specs.declared.old_words.OldWord.TheVariants.{First, Second}
 use Rattle.level_release.specs.Course.{Settled, SettledOne, both}
@@ -9,7 +9,7 @@ use Rattle.level_release.proofs.settling.settle.Goals as goal
 pub returns-in_err-settle_word-clause-course : goal.returns-in_err-settle_word-clause-course
 returns-in_err-settle_word-clause-course g c =
     let answer = err_from_is_err_and c.from_residual.result c.from_residual.ensures.1 in
-    first_by (g.P.Port.value c.args.port.now) (g.P.Port.value c.settle_word.new.port) _ _ _ _ _ c.from_residual.result c.in_err-settle_word.field-0.0 (answer.1 ∙ ap Err answer.2) c.in_err-settle_word.ensures.course
+    first_by c.args.below (g.P.Port.value c.args.port.now) (g.P.Port.value c.settle_word.new.port) _ _ _ _ _ c.from_residual.result c.in_err-settle_word.field-0.0 (answer.1 ∙ ap Err answer.2) c.in_err-settle_word.ensures.course
 
 pub returns-clause-serves : goal.returns-clause-serves
 returns-clause-serves g c owner pages =
@@ -27,5 +27,5 @@ returns-clause-course g c =
     let u = g.P.Port.value c.settle_word.new.port in
     let w = g.P.Port.value c.settle_word-2.new.port in
     let answer = c.settle_word-2.result in
-    by_then _ _ (λ answers. SettledOne v First u answers (Ok tt)) (λ more. SettledOne u Second w more answer) (λ answers. Settled v w answers answer) _ _ _ _ _ _ answer c.in_ok-settle_word.ensures.says
+    by_then _ _ (λ answers. SettledOne c.args.below v First u answers (Ok tt)) (λ more. SettledOne None u Second w more answer) (λ answers. Settled c.args.below v w answers answer) _ _ _ _ _ _ answer c.in_ok-settle_word.ensures.says
     (λ answers more one two. both u w answers more answer one two) c.in_ok-settle_word.ensures.course c.settle_word-2.ensures.course

@@ -2,10 +2,10 @@ use Rattle.std.proofs.Common.{[], false, refl, sym, ◌∙◌, subst}
 use Rattle.frame_types.specs.Lowering.{DropsType}
 use Rattle.level_release.proofs.Dropped.{closed_empties, closed_settled, counted_gives, counted_left, emptied_released, may_drop, may_drop_plain, plain_left}
 use Rattle.level_release.specs.Asking.{is_due_answer, of_release}
-use Rattle.level_release.specs.Course.{Emptied, WasReleased, closing_table, last, plain, shared}
+use Rattle.level_release.specs.Course.{Emptied, ReleasedWithin, closing_table, last, plain, shared}
 use Rattle.level_release.proofs.Consulting.{by_as, by_none}
 use Rattle.level_release.proofs.Requested.{answer_stops, back_serves, both_serve, closed_piece, emptied_serves}
-use Rattle.level_release.proofs.releasing.release.Goals as goal
+use Rattle.level_release.proofs.releasing.release_within.Goals as goal
 
 -- ---- no table
 
@@ -103,7 +103,7 @@ returns-then-drop_type-clause-course g c =
     let x = g.P.Port.value c.look_refs.new.port in
     let w = g.P.Port.value c.empty.new.port in
     let d = subst (λ b. DropsType v a c.args.frame b) c.if-drop_type.true c.drop_type.ensures.drops in
-    by_as _ (λ answers. Emptied x (closing_table c.args.frame c.level_of.result) w answers c.empty.result) (λ answers. WasReleased v c.args.frame c.args.kind w answers c.empty.result) _ _ _ _ _
+    by_as _ (λ answers. Emptied c.args.below x (closing_table c.args.frame c.level_of.result) w answers c.empty.result) (λ answers. ReleasedWithin c.args.below v c.args.frame c.args.kind w answers c.empty.result) _ _ _ _ _
     (λ answers emptied. last a x w c.look_refs.result c.level_of.result answers c.empty.result (sym c.is_table.ensures ∙ c.if-not-is_table.false) c.level_of.ensures.kind c.level_of.ensures.high d c.look_refs.ensures.moves emptied) c.empty.ensures.course
 
 pub returns-then-drop_type-clause-kinds : goal.returns-then-drop_type-clause-kinds
