@@ -8,7 +8,7 @@ use Rattle.xp_preempt.specs.Gates.{Consulted, answer_at, next_ask}
 use Rattle.xp_preempt.proofs.Consulting.{consulted_ask, consulted_none, consulted_then}
 use Rattle.partial_state.specs.declared.stack.TableWork.{TableWork}
 use Rattle.level_release.specs.Asking.{is_due_answer}
-use Rattle.level_release.specs.Course.{EmptiesBy, Lowered, RanDown, RunsDownBy, UnwoundDown, asked, begun, due, finished, is_asked_within, paused, stopped, unasked}
+use Rattle.level_release.specs.Course.{EmptiesBy, Lowered, RanDown, RunsDownBy, UnwoundDown, asked, begun, due, finished, is_asked_within, left_by, paused, stopped, unasked}
 
 pub runs_nothing : (below : Option ℕ) (u : PortValue) (ts : List TableWork) (says : ℕ → Bool) (asks positive : ℕ) → RunsDownBy below u ts u ts says asks asks positive positive (Ok tt)
 runs_nothing below u ts says asks positive = record { answers = []; course = begun; gate = consulted_none says asks positive; due = refl }
@@ -42,11 +42,11 @@ module _ (below : Option ℕ) (u v : PortValue) (ts us : List TableWork) (says :
 
 -- ---- one table and all in it
 module _ (below : Option ℕ) (u v : PortValue) (t : TableWork) (ts us : List TableWork) (one : ts ≡ t ∷ []) (says : ℕ → Bool) (a b yes_a yes_b : ℕ) where
-  pub empties_finished : us ≡ [] → RunsDownBy below u ts v us says a b yes_a yes_b (Ok tt) → EmptiesBy below u v t says a b yes_a yes_b (Ok tt)
+  pub empties_finished : us ≡ [] → RunsDownBy below u ts v us says a b yes_a yes_b (Ok tt) → EmptiesBy below below u v t says a b yes_a yes_b (Ok tt)
   empties_finished none by =
       let ran = subst (λ xs. RanDown below u (t ∷ []) v xs by.answers (Ok tt)) none (subst (λ xs. RanDown below u xs v us by.answers (Ok tt)) one by.course) in
-      record { answers = by.answers; course = finished v by.answers ran; gate = by.gate; due = by.due }
+      record { answers = by.answers; course = (finished v by.answers ran, refl); gate = by.gate; due = by.due }
 
-  pub empties_paused : (w : PortValue) (e : Stop) → UnwoundDown v us w → RunsDownBy below u ts v us says a b yes_a yes_b (Err e) → EmptiesBy below u w t says a b yes_a yes_b (Err e)
-  empties_paused w e left by =
-      record { answers = by.answers; course = paused v w us by.answers e (subst (λ xs. RanDown below u xs v us by.answers (Err e)) one by.course) left; gate = by.gate; due = by.due }
+  pub empties_paused : (w : PortValue) (e : Stop) (kept : Option ℕ) → kept ≡ left_by below e us → UnwoundDown v us w → RunsDownBy below u ts v us says a b yes_a yes_b (Err e) → EmptiesBy below kept u w t says a b yes_a yes_b (Err e)
+  empties_paused w e kept is left by =
+      record { answers = by.answers; course = (paused v w us by.answers e (subst (λ xs. RanDown below u xs v us by.answers (Err e)) one by.course) left, is); gate = by.gate; due = by.due }

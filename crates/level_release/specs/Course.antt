@@ -133,14 +133,25 @@ abbrev pub WasReleased : PortValue → ℕ → PageType → PortValue → List B
 WasReleased v f kind w answers answer = ReleasedWithin None v f kind w answers answer
 
 -- ---- what is left
--- a number for it, where the gate paused it; else none
-abbrev pub left_by : Stop → List TableWork → Option ℕ
-left_by (Paused Due) us = Some (weight us)
-left_by _ us = None
+-- Where the gate paused it, the number that is kept is what is left then; else it stays.
+abbrev pub left_by : Option ℕ → Stop → List TableWork → Option ℕ
+left_by below (Paused Due) us = Some (weight us)
+left_by below _ us = below
 
-abbrev pub left_in : {below : Option ℕ} {v : PortValue} {t : TableWork} {w : PortValue} {answers : List Bool} {answer : Result (Unit {0}) Stop} → Emptied below v t w answers answer → Option ℕ
-left_in (finished w answers ran) = None
-left_in (paused u w us answers stop ran unwound) = left_by stop us
+abbrev pub left_emptied : {below : Option ℕ} {v : PortValue} {t : TableWork} {w : PortValue} {answers : List Bool} {answer : Result (Unit {0}) Stop} → Emptied below v t w answers answer → Option ℕ
+left_emptied {below} (finished w answers ran) = below
+left_emptied {below} (paused u w us answers stop ran unwound) = left_by below stop us
+
+abbrev pub EmptiedTo : Option ℕ → Option ℕ → PortValue → TableWork → PortValue → List Bool → Result (Unit {0}) Stop → Type 0
+EmptiedTo below left v t w answers answer = (course : Emptied below v t w answers answer) × (left ≡ left_emptied course)
+
+abbrev pub left_released : {below : Option ℕ} {v : PortValue} {f : ℕ} {kind : PageType} {w : PortValue} {answers : List Bool} {answer : Result (Unit {0}) Stop} → ReleasedWithin below v f kind w answers answer → Option ℕ
+left_released {below} (plain w ordinary drops) = below
+left_released {below} (shared u w table drops gave) = below
+left_released {below} (last u x w word level answers answer table is high drops look run) = left_emptied run
+
+abbrev pub ReleasedTo : Option ℕ → Option ℕ → PortValue → ℕ → PageType → PortValue → List Bool → Result (Unit {0}) Stop → Type 0
+ReleasedTo below left v f kind w answers answer = (course : ReleasedWithin below v f kind w answers answer) × (left ≡ left_released course)
 
 -- ---- with a gate
 -- There is such a course with the gate's answers, of which the last one is yes exactly where it is paused for that.
@@ -160,11 +171,11 @@ pub record WithGate (P : List Bool → Type 0) (says : ℕ → Bool) (before aft
 abbrev pub RunsDownBy : Option ℕ → PortValue → List TableWork → PortValue → List TableWork → (ℕ → Bool) → ℕ → ℕ → ℕ → ℕ → Result (Unit {0}) Stop → Type 0
 RunsDownBy below v ts w us says before after yes_before yes_after answer = By (λ answers. RanDown below v ts w us answers answer) says before after yes_before yes_after answer
 
-abbrev pub EmptiesBy : Option ℕ → PortValue → PortValue → TableWork → (ℕ → Bool) → ℕ → ℕ → ℕ → ℕ → Result (Unit {0}) Stop → Type 0
-EmptiesBy below v w t says before after yes_before yes_after answer = By (λ answers. Emptied below v t w answers answer) says before after yes_before yes_after answer
+abbrev pub EmptiesBy : Option ℕ → Option ℕ → PortValue → PortValue → TableWork → (ℕ → Bool) → ℕ → ℕ → ℕ → ℕ → Result (Unit {0}) Stop → Type 0
+EmptiesBy below left v w t says before after yes_before yes_after answer = By (λ answers. EmptiedTo below left v t w answers answer) says before after yes_before yes_after answer
 
-abbrev pub ReleasesWithinBy : Option ℕ → PortValue → PortValue → ℕ → PageType → (ℕ → Bool) → ℕ → ℕ → ℕ → ℕ → Result (Unit {0}) Stop → Type 0
-ReleasesWithinBy below v w f kind says before after yes_before yes_after answer = By (λ answers. ReleasedWithin below v f kind w answers answer) says before after yes_before yes_after answer
+abbrev pub ReleasesWithinBy : Option ℕ → Option ℕ → PortValue → PortValue → ℕ → PageType → (ℕ → Bool) → ℕ → ℕ → ℕ → ℕ → Result (Unit {0}) Stop → Type 0
+ReleasesWithinBy below left v w f kind says before after yes_before yes_after answer = By (λ answers. ReleasedTo below left v f kind w answers answer) says before after yes_before yes_after answer
 
 abbrev pub ReleasesFrameBy : PortValue → PortValue → ℕ → PageType → (ℕ → Bool) → ℕ → ℕ → ℕ → ℕ → Result (Unit {0}) Stop → Type 0
 ReleasesFrameBy v w f kind says before after yes_before yes_after answer = By (λ answers. WasReleased v f kind w answers answer) says before after yes_before yes_after answer
@@ -197,8 +208,22 @@ pub data SettledOne (below : Option ℕ) (v : PortValue) (which : OldWord) : Por
       Moves a b (old_place v.post.vcpu which) (Store 0) kinds.Context None (f + 1) → Moves b c (Kind f) Load kinds.Look None word →
       form_of (kind_fields word) ≢ Live → form_of (kind_fields word) ≢ Partial → Named c w f → SettledOne below v which w [] (Err (Paused (Busy f word)))
 
-abbrev pub SettlesOneBy : Option ℕ → PortValue → PortValue → OldWord → (ℕ → Bool) → ℕ → ℕ → ℕ → ℕ → Result (Unit {0}) Stop → Type 0
-SettlesOneBy below v w which says before after yes_before yes_after answer = By (λ answers. SettledOne below v which w answers answer) says before after yes_before yes_after answer
+abbrev pub left_partial : (below : Option ℕ) (v w : PortValue) (f : ℕ) (k : KindWord) (answers : List Bool) (answer : Result (Unit {0}) Stop) (has : Bool) → SettledPartial below v w f k answers answer has → Option ℕ
+left_partial below v w f k answers answer true steps = left_emptied steps.6
+left_partial below v w f k answers answer false steps = below
+
+abbrev pub left_one : {below : Option ℕ} {v : PortValue} {which : OldWord} {w : PortValue} {answers : List Bool} {answer : Result (Unit {0}) Stop} → SettledOne below v which w answers answer → Option ℕ
+left_one {below} (none w look) = below
+left_one {below} (live a b c w f word answers answer look take see form released) = left_released released
+left_one {below} (partial a b c d w f word answers answer look take see form resume settled) = left_partial below d w f (kind_fields word) answers answer (has_recorded (kind_fields word).kind (kind_fields word)) settled
+left_one {below} (lost a b c d w f word found look take see form resume other again) = below
+left_one {below} (busy a b c w f word look take see unlive whole again) = below
+
+abbrev pub SettledOneTo : Option ℕ → Option ℕ → PortValue → OldWord → PortValue → List Bool → Result (Unit {0}) Stop → Type 0
+SettledOneTo below left v which w answers answer = (course : SettledOne below v which w answers answer) × (left ≡ left_one course)
+
+abbrev pub SettlesOneBy : Option ℕ → Option ℕ → PortValue → PortValue → OldWord → (ℕ → Bool) → ℕ → ℕ → ℕ → ℕ → Result (Unit {0}) Stop → Type 0
+SettlesOneBy below left v w which says before after yes_before yes_after answer = By (λ answers. SettledOneTo below left v which w answers answer) says before after yes_before yes_after answer
 
 -- the first word, and then the second
 pub data Settled (below : Option ℕ) (v : PortValue) : PortValue → List Bool → Result (Unit {0}) Stop → Type 0 where
@@ -206,5 +231,22 @@ pub data Settled (below : Option ℕ) (v : PortValue) : PortValue → List Bool 
   both : (u w : PortValue) (answers more : List Bool) (answer : Result (Unit {0}) Stop) → SettledOne below v First u answers (Ok tt) → SettledOne None u Second w more answer →
       Settled below v w (more ++ answers) answer
 
-abbrev pub SettlesBy : Option ℕ → PortValue → PortValue → (ℕ → Bool) → ℕ → ℕ → ℕ → ℕ → Result (Unit {0}) Stop → Type 0
-SettlesBy below v w says before after yes_before yes_after answer = By (λ answers. Settled below v w answers answer) says before after yes_before yes_after answer
+-- nothing is, once both were
+abbrev pub left_settled : {below : Option ℕ} {v w : PortValue} {answers : List Bool} {answer : Result (Unit {0}) Stop} → Settled below v w answers answer → Option ℕ
+left_settled (first w answers stop one) = left_one one
+left_settled (both u w answers more answer one two) = left_one two
+
+-- what the first word named came to its end
+abbrev pub is_first_done : {below : Option ℕ} {v w : PortValue} {answers : List Bool} {answer : Result (Unit {0}) Stop} → Settled below v w answers answer → Bool
+is_first_done (first w answers stop one) = false
+is_first_done (both u w answers more answer one two) = true
+
+abbrev pub LeavesLess : ℕ → Option ℕ → Type 0
+LeavesLess k (Some left) = left < k
+LeavesLess k None = ⊥
+
+abbrev pub SettledTo : Option ℕ → Option ℕ → PortValue → PortValue → List Bool → Result (Unit {0}) Stop → Type 0
+SettledTo below left v w answers answer = (course : Settled below v w answers answer) × (left ≡ left_settled course)
+
+abbrev pub SettlesBy : Option ℕ → Option ℕ → PortValue → PortValue → (ℕ → Bool) → ℕ → ℕ → ℕ → ℕ → Result (Unit {0}) Stop → Type 0
+SettlesBy below left v w says before after yes_before yes_after answer = By (λ answers. SettledTo below left v w answers answer) says before after yes_before yes_after answer

@@ -43,16 +43,16 @@ pub fn release<P: Port>(
     ensures paces { paces gate.new ≡ paces gate.old }
     ensures calm { calm gate.old ≡ true → (is_due_answer result ≡ false) × (calm gate.new ≡ true) }
 {
-    release_within(port, gate, frame, kind, None)
+    release_within(port, gate, frame, kind, &mut None)
 }
 
-// The same, with a gate that is asked only where less is left than that.
+// The same, with a gate that is asked only where less than `left` is left; where it pauses the work, `left` is what is left then.
 pub(crate) fn release_within<P: Port>(
     port: &mut P,
     gate: &mut dyn Preempt,
     frame: u32,
     kind: PageType,
-    below: Option<u64>,
+    left: &mut Option<u64>,
 ) -> Result<(), Stop>
     requires frame { frame < (P.value port.old).post.machine.frames }
     requires may { MayWork (P.value port.old) }
@@ -63,7 +63,7 @@ pub(crate) fn release_within<P: Port>(
     // What the entries of a live tree ask is live: it is paused for the gate alone.
     ensures kinds { IfErr result (λ e. e ≡ Paused Due) }
     ensures hand { LeavesUnheld (P.value port.old) (P.value port.new) frame result }
-    ensures course { ReleasesWithinBy below (P.value port.old) (P.value port.new) frame kind (says gate.old) (count_asks gate.old) (count_asks gate.new) (count_yes gate.old) (count_yes gate.new) result }
+    ensures course { ReleasesWithinBy left.old left.new (P.value port.old) (P.value port.new) frame kind (says gate.old) (count_asks gate.old) (count_asks gate.new) (count_yes gate.old) (count_yes gate.new) result }
     ensures says { (n : ℕ) → says gate.new n ≡ says gate.old n }
     ensures paces { paces gate.new ≡ paces gate.old }
     ensures calm { calm gate.old ≡ true → (is_due_answer result ≡ false) × (calm gate.new ≡ true) }
@@ -82,7 +82,7 @@ pub(crate) fn release_within<P: Port>(
             own: false,
             recorded: false,
         };
-        empty(port, gate, table, below)
+        empty(port, gate, table, left)
     } else {
         put_ref(port, frame);
         Ok(())

@@ -26,7 +26,14 @@ use xp_words::{KindWord, Pause, Stop};
 
 /// Releases what the own old words name: the first one, and then the second. A pause leaves what is unfinished named in one of them.
 /// Afterwards both are known to name none, unless it is paused.
-pub fn settle<P: Port>(port: &mut P, gate: &mut dyn Preempt, below: Option<u64>) -> Result<(), Stop>
+///
+/// `left` is how much was left when the gate paused it before: behind an entry of what the first word names the gate is asked only where less than that is left.
+/// Where the gate pauses it again, `left` is what is left then; once both words are settled, it is none.
+pub fn settle<P: Port>(
+    port: &mut P,
+    gate: &mut dyn Preempt,
+    left: &mut Option<u64>,
+) -> Result<(), Stop>
     requires rests { Rests (P.value port.old) }
     ensures rests { Rests (P.value port.new) }
     ensures serves { (owner pages : ℕ) → Serves (P.value port.old) (P.value port.new) (of_settle owner pages result) (misses (P.value port.old).post.machine result) }
@@ -35,13 +42,14 @@ pub fn settle<P: Port>(port: &mut P, gate: &mut dyn Preempt, below: Option<u64>)
     ensures hand { SettledHand (P.value port.old) (P.value port.new) }
     ensures clear { IfOk result (λ _. known_old First (P.value port.new).holdings ≡ Some 0) }
     ensures clear_too { IfOk result (λ _. known_old Second (P.value port.new).holdings ≡ Some 0) }
-    ensures course { SettlesBy below (P.value port.old) (P.value port.new) (says gate.old) (count_asks gate.old) (count_asks gate.new) (count_yes gate.old) (count_yes gate.new) result }
+    ensures course { SettlesBy left.old left.new (P.value port.old) (P.value port.new) (says gate.old) (count_asks gate.old) (count_asks gate.new) (count_yes gate.old) (count_yes gate.new) result }
     ensures says { (n : ℕ) → says gate.new n ≡ says gate.old n }
     ensures paces { paces gate.new ≡ paces gate.old }
     ensures calm { calm gate.old ≡ true → (is_due_answer result ≡ false) × (calm gate.new ≡ true) }
 {
-    settle_word(port, gate, OldWord::First, below)?;
-    settle_word(port, gate, OldWord::Second, None)
+    settle_word(port, gate, OldWord::First, left)?;
+    *left = None;
+    settle_word(port, gate, OldWord::Second, left)
 }
 
 // What one of the words names. For the second one the first is known to name none.
@@ -49,7 +57,7 @@ fn settle_word<P: Port>(
     port: &mut P,
     gate: &mut dyn Preempt,
     which: OldWord,
-    below: Option<u64>,
+    left: &mut Option<u64>,
 ) -> Result<(), Stop>
     requires rests { Rests (P.value port.old) }
     requires first { which ≡ Second → known_old First (P.value port.old).holdings ≡ Some 0 }
@@ -58,7 +66,7 @@ fn settle_word<P: Port>(
     ensures stops { (owner pages : ℕ) → IfErr result (λ e. Stops (P.value port.old) (P.value port.new) (of_settle owner pages result) e) }
     ensures kinds { IfErr result IsReleaseEnd }
     ensures hand { SettledWord (P.value port.old) (P.value port.new) which result }
-    ensures course { SettlesOneBy below (P.value port.old) (P.value port.new) which (says gate.old) (count_asks gate.old) (count_asks gate.new) (count_yes gate.old) (count_yes gate.new) result }
+    ensures course { SettlesOneBy left.old left.new (P.value port.old) (P.value port.new) which (says gate.old) (count_asks gate.old) (count_asks gate.new) (count_yes gate.old) (count_yes gate.new) result }
     ensures says { (n : ℕ) → says gate.new n ≡ says gate.old n }
     ensures paces { paces gate.new ≡ paces gate.old }
     ensures calm { calm gate.old ≡ true → (is_due_answer result ≡ false) × (calm gate.new ≡ true) }
@@ -68,7 +76,7 @@ fn settle_word<P: Port>(
     }
     let frame = (take_old(port, which) - 1) as u32;
     let found = look_kind(port, frame);
-    settle_found(port, gate, frame, found, below)
+    settle_found(port, gate, frame, found, left)
 }
 
 // The frame that the word named, with its type count in hand, by its kind word that was found.
@@ -77,7 +85,7 @@ fn settle_found<P: Port>(
     gate: &mut dyn Preempt,
     frame: u32,
     found: u64,
-    below: Option<u64>,
+    left: &mut Option<u64>,
 ) -> Result<(), Stop>
     requires frame { frame < (P.value port.old).post.machine.frames }
     requires may { MayWork (P.value port.old) }
@@ -89,16 +97,16 @@ fn settle_found<P: Port>(
     ensures stops { (u : PortValue) (which : OldWord) → TookOld u (P.value port.old) which frame found → (owner pages : ℕ) → IfErr result (λ e. Stops u (P.value port.new) (of_settle owner pages result) e) }
     ensures kinds { IfErr result IsReleaseEnd }
     ensures hand { (u : PortValue) (which : OldWord) → TookOld u (P.value port.old) which frame found → SettledWord u (P.value port.new) which result }
-    ensures course { (u : PortValue) (which : OldWord) → TookOld u (P.value port.old) which frame found → SettlesOneBy below u (P.value port.new) which (says gate.old) (count_asks gate.old) (count_asks gate.new) (count_yes gate.old) (count_yes gate.new) result }
+    ensures course { (u : PortValue) (which : OldWord) → TookOld u (P.value port.old) which frame found → SettlesOneBy left.old left.new u (P.value port.new) which (says gate.old) (count_asks gate.old) (count_asks gate.new) (count_yes gate.old) (count_yes gate.new) result }
     ensures says { (n : ℕ) → says gate.new n ≡ says gate.old n }
     ensures paces { paces gate.new ≡ paces gate.old }
     ensures calm { calm gate.old ≡ true → (is_due_answer result ≡ false) × (calm gate.new ≡ true) }
 {
     let kind = read_kind(found);
     if kind.validated {
-        release_within(port, gate, frame, kind.kind, below)
+        release_within(port, gate, frame, kind.kind, left)
     } else if kind.partial {
-        settle_partial(port, gate, frame, kind, found, below)
+        settle_partial(port, gate, frame, kind, found, left)
     } else {
         put_old(port, OldWord::First, frame);
         Err(Stop::Paused(Pause::Busy { frame, found }))
@@ -112,7 +120,7 @@ fn settle_partial<P: Port>(
     frame: u32,
     kind: KindWord,
     found: u64,
-    below: Option<u64>,
+    left: &mut Option<u64>,
 ) -> Result<(), Stop>
     requires frame { frame < (P.value port.old).post.machine.frames }
     requires may { MayWork (P.value port.old) }
@@ -125,7 +133,7 @@ fn settle_partial<P: Port>(
     ensures stops { (u : PortValue) (which : OldWord) → TookOld u (P.value port.old) which frame found → (owner pages : ℕ) → IfErr result (λ e. Stops u (P.value port.new) (of_settle owner pages result) e) }
     ensures kinds { IfErr result IsReleaseEnd }
     ensures hand { (u : PortValue) (which : OldWord) → TookOld u (P.value port.old) which frame found → SettledWord u (P.value port.new) which result }
-    ensures course { (u : PortValue) (which : OldWord) → TookOld u (P.value port.old) which frame found → SettlesOneBy below u (P.value port.new) which (says gate.old) (count_asks gate.old) (count_asks gate.new) (count_yes gate.old) (count_yes gate.new) result }
+    ensures course { (u : PortValue) (which : OldWord) → TookOld u (P.value port.old) which frame found → SettlesOneBy left.old left.new u (P.value port.new) which (says gate.old) (count_asks gate.old) (count_asks gate.new) (count_yes gate.old) (count_yes gate.new) result }
     ensures says { (n : ℕ) → says gate.new n ≡ says gate.old n }
     ensures paces { paces gate.new ≡ paces gate.old }
     ensures calm { calm gate.old ≡ true → (is_due_answer result ≡ false) × (calm gate.new ≡ true) }
@@ -145,7 +153,7 @@ fn settle_partial<P: Port>(
                 own: true,
                 recorded: false,
             };
-            empty(port, gate, table, below)
+            empty(port, gate, table, left)
         }
         Ok(()) => {
             let clock = look_clock(port);

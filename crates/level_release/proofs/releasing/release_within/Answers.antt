@@ -2,7 +2,7 @@ use Rattle.std.proofs.Common.{[], false, refl, sym, ◌∙◌, subst}
 use Rattle.frame_types.specs.Lowering.{DropsType}
 use Rattle.level_release.proofs.Dropped.{closed_empties, closed_settled, counted_gives, counted_left, emptied_released, may_drop, may_drop_plain, plain_left}
 use Rattle.level_release.specs.Asking.{is_due_answer, of_release}
-use Rattle.level_release.specs.Course.{Emptied, ReleasedWithin, closing_table, last, plain, shared}
+use Rattle.level_release.specs.Course.{EmptiedTo, ReleasedTo, closing_table, last, plain, shared}
 use Rattle.level_release.proofs.Consulting.{by_as, by_none}
 use Rattle.level_release.proofs.Requested.{answer_stops, back_serves, both_serve, closed_piece, emptied_serves}
 use Rattle.level_release.proofs.releasing.release_within.Goals as goal
@@ -23,8 +23,11 @@ returns-then-not-is_table-clause-hand g c = plain_left (g.P.Port.value c.args.po
 
 pub returns-then-not-is_table-clause-course : goal.returns-then-not-is_table-clause-course
 returns-then-not-is_table-clause-course g c =
-    by_none _ _ _ _ _ refl (plain (g.P.Port.value c.drop_plain.new.port) (sym c.is_table.ensures ∙ c.if-not-is_table.true)
-    (record { found = c.drop_plain.ensures.found; plain = c.drop_plain.ensures.plain; stands = c.drop_plain.ensures.stands }))
+    by_none _ _ _ _ _ refl (
+      plain (g.P.Port.value c.drop_plain.new.port) (sym c.is_table.ensures ∙ c.if-not-is_table.true)
+          (record { found = c.drop_plain.ensures.found; plain = c.drop_plain.ensures.plain; stands = c.drop_plain.ensures.stands }),
+      refl,
+    )
 
 pub drop_type-requires-clause-drops : goal.drop_type-requires-clause-drops
 drop_type-requires-clause-drops g c = may_drop (g.P.Port.value c.args.port.now) c.args.frame c.args.kind c.requires.holds
@@ -51,8 +54,11 @@ pub returns-else-drop_type-clause-course : goal.returns-else-drop_type-clause-co
 returns-else-drop_type-clause-course g c =
     let v = g.P.Port.value c.args.port.now in
     let a = g.P.Port.value c.drop_type.new.port in
-    by_none _ _ _ _ _ refl (shared a (g.P.Port.value c.put_ref.new.port) (sym c.is_table.ensures ∙ c.if-not-is_table.false) (subst (λ b. DropsType v a c.args.frame b) c.if-drop_type.false c.drop_type.ensures.drops)
-    (record { found = c.put_ref.ensures.puts; plain = c.put_ref.ensures.plain }))
+    by_none _ _ _ _ _ refl (
+      shared a (g.P.Port.value c.put_ref.new.port) (sym c.is_table.ensures ∙ c.if-not-is_table.false) (subst (λ b. DropsType v a c.args.frame b) c.if-drop_type.false c.drop_type.ensures.drops)
+          (record { found = c.put_ref.ensures.puts; plain = c.put_ref.ensures.plain }),
+      refl,
+    )
 
 -- ---- none is left
 
@@ -103,8 +109,8 @@ returns-then-drop_type-clause-course g c =
     let x = g.P.Port.value c.look_refs.new.port in
     let w = g.P.Port.value c.empty.new.port in
     let d = subst (λ b. DropsType v a c.args.frame b) c.if-drop_type.true c.drop_type.ensures.drops in
-    by_as _ (λ answers. Emptied c.args.below x (closing_table c.args.frame c.level_of.result) w answers c.empty.result) (λ answers. ReleasedWithin c.args.below v c.args.frame c.args.kind w answers c.empty.result) _ _ _ _ _
-    (λ answers emptied. last a x w c.look_refs.result c.level_of.result answers c.empty.result (sym c.is_table.ensures ∙ c.if-not-is_table.false) c.level_of.ensures.kind c.level_of.ensures.high d c.look_refs.ensures.moves emptied) c.empty.ensures.course
+    by_as _ (λ answers. EmptiedTo c.args.left.now c.empty.new.left x (closing_table c.args.frame c.level_of.result) w answers c.empty.result) (λ answers. ReleasedTo c.args.left.now c.empty.new.left v c.args.frame c.args.kind w answers c.empty.result) _ _ _ _ _
+    (λ answers emptied. (last a x w c.look_refs.result c.level_of.result answers c.empty.result (sym c.is_table.ensures ∙ c.if-not-is_table.false) c.level_of.ensures.kind c.level_of.ensures.high d c.look_refs.ensures.moves emptied.0, emptied.1)) c.empty.ensures.course
 
 pub returns-then-drop_type-clause-kinds : goal.returns-then-drop_type-clause-kinds
 returns-then-drop_type-clause-kinds g c =

@@ -7,7 +7,7 @@ use Rattle.board_lemmas.proofs.KindForms.{fields_of}
 use Rattle.step_maker.proofs.Coming.{moves_came}
 use Rattle.answer_fits.proofs.Piecing.{serves_came, stops_before}
 use Rattle.level_release.specs.Asking.{of_release, of_settle}
-use Rattle.level_release.specs.Course.{ReleasedWithin, SettledOne}
+use Rattle.level_release.specs.Course.{ReleasedTo, SettledOneTo}
 use Rattle.level_release.proofs.Answered.{busy_course, busy_stops, due_ends, live_course, released_serves, released_stops}
 use Rattle.level_release.proofs.Consulting.{by_as, by_none}
 use Rattle.level_release.proofs.Lived.{named_live}
@@ -48,8 +48,8 @@ returns-then-kind-clause-course g c u which t =
     let v = g.P.Port.value c.args.port.now in
     let w = g.P.Port.value c.release_within.new.port in
     let k = c.read_kind-kind.result in
-    by_as _ (λ answers. ReleasedWithin c.args.below v c.args.frame k.kind w answers c.release_within.result) (λ answers. SettledOne c.args.below u which w answers c.release_within.result) _ _ _ _ _
-    (λ answers released. live_course u v which c.args.frame c.args.found t k c.read_kind-kind.ensures c.args.below w answers c.release_within.result c.if-kind.true released) c.release_within.ensures.course
+    by_as _ (λ answers. ReleasedTo c.args.left.now c.release_within.new.left v c.args.frame k.kind w answers c.release_within.result) (λ answers. SettledOneTo c.args.left.now c.release_within.new.left u which w answers c.release_within.result) _ _ _ _ _
+    (λ answers released. live_course u v which c.args.frame c.args.found t k c.read_kind-kind.ensures c.args.left.now c.release_within.new.left w answers c.release_within.result c.if-kind.true released) c.release_within.ensures.course
 
 -- ---- it was found in another vCPU's hand: the first word names it again
 
@@ -87,7 +87,7 @@ pub returns-else-kind-2-clause-course : goal.returns-else-kind-2-clause-course
 returns-else-kind-2-clause-course g c u which t =
     let v = g.P.Port.value c.args.port.now in
     by_none _ _ _ _ _ refl
-    (busy_course u v which c.args.frame c.args.found t c.read_kind-kind.result c.read_kind-kind.ensures c.args.below (g.P.Port.value c.put_old.new.port) c.if-kind.false c.if-kind-2.false c.put_old.ensures.moves)
+    (busy_course u v which c.args.frame c.args.found t c.read_kind-kind.result c.read_kind-kind.ensures c.args.left.now (g.P.Port.value c.put_old.new.port) c.if-kind.false c.if-kind-2.false c.put_old.ensures.moves)
 
 pub returns-then-kind-clause-kinds : goal.returns-then-kind-clause-kinds
 returns-then-kind-clause-kinds g c = IfErr-weaker c.release_within.result _ _ due_ends c.release_within.ensures.kinds
