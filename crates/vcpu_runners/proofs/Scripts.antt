@@ -1,16 +1,17 @@
 -- A turn leaves a vCPU its script.
-use Rattle.std.proofs.Common.{◌≡◌, ℕ, Bool, List, Option, Some, None, refl, ap, ◌∙◌}
+use Rattle.std.proofs.Common.{◌≡◌, Bool, List, Option, Some, None, refl, ap, ◌∙◌}
 use Rattle.xp_words.specs.declared.ops.Op.{Op}
 use Rattle.xp_board.specs.Told.{PortValue}
 use Rattle.vcpu_turn.specs.Cpus.{Processing, after_turn}
+use Rattle.vcpu_turn.specs.declared.cpu.Progress.{Progress}
 use Rattle.vcpu_turn.specs.declared.cpu.TurnEnd.{TurnEnd}
 use Rattle.vcpu_turn.specs.declared.cpu.TurnEnd.TheVariants as ends
 use Rattle.vcpu_turn.specs.Turning.{DoesNext, DoesTurn, settled, unsettled}
 
-kept_by : (c : Processing) (done : ℕ) (end : TurnEnd) → (after_turn c done end).script ≡ c.script
-kept_by c done (ends.Answered reply) = refl
-kept_by c done (ends.Paused p) = refl
-kept_by c done ends.Retired = refl
+kept_by : (c : Processing) (to : Progress) (end : TurnEnd) → (after_turn c to end).script ≡ c.script
+kept_by c to (ends.Answered reply) = refl
+kept_by c to (ends.Paused p) = refl
+kept_by c to ends.Retired = refl
 
 next_script : (c c2 : Processing) (o : Option Op) (v w : PortValue) (answers : List Bool) (end : TurnEnd) → DoesNext c o c2 v w answers end → c2.script ≡ c.script
 next_script c c2 (Some op) v w answers end d = ap (λ (x : Processing). x.script) d.cpu ∙ kept_by c d.to end

@@ -1,6 +1,5 @@
 -- The turns of one vCPU by the port of its pass.
 use Rattle.std.proofs.Common.{◌≡◌, ℕ, ◌<◌, true, false, Option, None, sym, ap, ◌∙◌, subst, length, ◌^◌}
-use Rattle.std.specs.Prelude.{slice_get}
 use Rattle.xp_words.specs.Machine.{Machine}
 use Rattle.xp_words.specs.Places.{sizes_of, memory, run_of}
 use Rattle.xp_board.specs.declared.step.Item.{Item}
@@ -8,7 +7,7 @@ use Rattle.xp_board.specs.Lists.{Member}
 use Rattle.xp_board.specs.Told.{Post, PortValue}
 use Rattle.thread_board.specs.Ports.{pass_port}
 use Rattle.thread_board.specs.Values.{BoardValue, PassValue, IsPassOf}
-use Rattle.vcpu_turn.specs.Cpus.{Processing}
+use Rattle.vcpu_turn.specs.Cpus.{Processing, next_of}
 use Rattle.vcpu_turn.specs.Turning.{IsOf}
 use Rattle.vcpu_runners.specs.Cpus.{IsShort}
 use Rattle.vcpu_runners.specs.Gates.{Gate}
@@ -23,7 +22,7 @@ turns_more has mid left c d c2 v u w turns runs turn = more mid left d c2 u w tu
 
 short_turn : (mid left : Option Gate) (d c2 : Processing) (u w : PortValue) → TakesTurn mid left d c2 u w → IsShort d → IsShort c2
 short_turn mid left d c2 u w t short =
-    let same = turn_script d c2 (slice_get d.script (length d.log)) t.turn.begun t.turn.worked t.answers t.end t.turn.does in
+    let same = turn_script d c2 (next_of d) t.turn.begun t.turn.worked t.answers t.end t.turn.does in
     subst (λ s. length s < 2 ^ 32) (sym same) short
 
 pub short_more : (mid left : Option Gate) (d c2 : Processing) (u w : PortValue) → d.retired ≡ false → TakesTurnBy d.retired mid left d c2 u w → IsShort d → IsShort c2

@@ -1,5 +1,5 @@
 -- The asks of whole turns: how many there are, and that none follows a yes but where an element goes on past one.
-use Rattle.std.proofs.Common.{◌≡◌, ◌⊎◌, ℕ, ◌+◌, ◌-◌, ◌<◌, ◌≤◌, Bool, true, false, List, [], ◌∷◌, ◌++◌, length, slice_get, Option, Some, None, Result, Ok, Err, refl, sym, ap, ◌∙◌, arith, inl, inr, subst, length-append}
+use Rattle.std.proofs.Common.{◌≡◌, ◌⊎◌, ℕ, ◌+◌, ◌-◌, ◌<◌, ◌≤◌, Bool, true, false, List, [], ◌∷◌, ◌++◌, length, Option, Some, None, Result, Ok, Err, refl, sym, ap, ◌∙◌, arith, inl, inr, subst, length-append}
 use Rattle.std.proofs.lemmas.Bool.{cases_order}
 use Rattle.xp_words.specs.declared.ops.Op.{Op}
 use Rattle.xp_words.specs.declared.ops.Pair.{Pair}
@@ -11,7 +11,7 @@ use Rattle.xp_preempt.specs.Gates.{GivesAnswers, last_ask}
 use Rattle.xp_preempt.proofs.Numbering.{says_last, says_no}
 use Rattle.level_release.proofs.Noes.{settled_no}
 use Rattle.vcpu_turn.specs.Asking.{HearsNoWithin, NoUntilDue, asks_within, elements_tried, tried_going, tried_next, tried_of, tried_owned, tried_through}
-use Rattle.vcpu_turn.specs.Cpus.{Task, OfExt, OfPairs, OfRead, OfWrite, Processing, task_of}
+use Rattle.vcpu_turn.specs.Cpus.{Task, OfExt, OfPairs, OfRead, OfWrite, Processing, next_of, task_of}
 use Rattle.vcpu_turn.specs.Lists.{Fitting, asks_between, is_due_answer}
 use Rattle.vcpu_turn.specs.Turning as turning
 use Rattle.vcpu_turn.specs.Turning.{CountsAsks, DoesNext, DoesTurn, GoesNoFurther, IsTurn, is_due}
@@ -96,7 +96,7 @@ settles_hears v w answers answer s = subst (λ (b : Bool). NoUntilDue answers b)
 
 next_hears : (c : Processing) (o : Option Op) (c2 : Processing) (v w : PortValue) (answers : List Bool) (end : TurnEnd) → (does : DoesNext c o c2 v w answers end) → HearsNoWithin (tried_next c o c2 v w answers end does) → NoUntilDue answers (is_due end)
 next_hears c (Some op) c2 v w answers end on hears =
-    subst (λ (b : Bool). NoUntilDue answers b) (sym (ap is_due on.end_is ∙ due_ended on.to on.answer)) (operation_hears c.domain (task_of op) c.awaited v c.done on.to w answers on.answer on.works hears)
+    subst (λ (b : Bool). NoUntilDue answers b) (sym (ap is_due on.end_is ∙ due_ended on.to.done on.answer)) (operation_hears c.domain (task_of op) c.at.awaited v c.at.done on.to.done w answers on.answer on.went.works hears)
 next_hears c None c2 v w answers end retires hears = noes_same answers [] (is_due end) retires.no_ask (noes_none (is_due end))
 
 going_hears : (c : Processing) (o : Option Op) (v : PortValue) (c2 : Processing) (w : PortValue) (answers : List Bool) (end : TurnEnd) → (does : DoesTurn c o v c2 w answers end) → HearsNoWithin (tried_going does) → NoUntilDue answers (is_due end)
@@ -105,18 +105,18 @@ going_hears c o v _ _ _ _ (turning.DoesTurn.settled u w c2 early answers end set
     noes_then early answers (is_due end) (settled_no v u early (Ok tt) refl settles.course) (next_hears c o c2 u w answers end does hears)
 
 pub turn_hears : (c c2 : Processing) (end : TurnEnd) (v w : PortValue) (answers : List Bool) → (turn : IsTurn c c2 end v w answers) → HearsNoWithin (elements_tried turn) → NoUntilDue answers (is_due end)
-turn_hears c c2 end v w answers turn hears = going_hears c (slice_get c.script (length c.log)) turn.begun c2 turn.worked answers end turn.does hears
+turn_hears c c2 end v w answers turn hears = going_hears c (next_of c) turn.begun c2 turn.worked answers end turn.does hears
 
 going_asks : (c : Processing) (o : Option Op) (op : Op) → o ≡ Some op → (v : PortValue) (c2 : Processing) (w : PortValue) (answers : List Bool) (end : TurnEnd) → (does : DoesTurn c o v c2 w answers end) →
-    CountsAsks c.done end answers (asks_within (tried_going does))
+    CountsAsks c.at.done end answers (asks_within (tried_going does))
 going_asks c None op is v c2 w answers end does = absurd (cc)
 going_asks c (Some other) op is v _ _ _ _ (turning.DoesTurn.unsettled w answers p settles) = turning.CountsAsks.settling v w p settles refl refl
 going_asks c (Some other) op is v _ _ _ _ (turning.DoesTurn.settled u w c2 early answers end settles on) =
-    turning.CountsAsks.counted on.to on.answer v u early answers settles on.end_is refl (operation_asks c.domain (task_of other) c.awaited u c.done on.to w answers on.answer on.works)
+    turning.CountsAsks.counted on.to.done on.answer v u early answers settles on.end_is refl (operation_asks c.domain (task_of other) c.at.awaited u c.at.done on.to.done w answers on.answer on.went.works)
 
-pub turn_asks : (c d : Processing) (op : Op) (end : TurnEnd) (v w : PortValue) (answers : List Bool) → slice_get c.script (length c.log) ≡ Some op → (turn : IsTurn c d end v w answers) →
-    CountsAsks c.done end answers (asks_within (elements_tried turn))
-turn_asks c d op end v w answers next turn = going_asks c (slice_get c.script (length c.log)) op next turn.begun d turn.worked answers end turn.does
+pub turn_asks : (c d : Processing) (op : Op) (end : TurnEnd) (v w : PortValue) (answers : List Bool) → next_of c ≡ Some op → (turn : IsTurn c d end v w answers) →
+    CountsAsks c.at.done end answers (asks_within (elements_tried turn))
+turn_asks c d op end v w answers next turn = going_asks c (next_of c) op next turn.begun d turn.worked answers end turn.does
 
 -- ---- no ask follows one at which the gate says yes
 past : (says : ℕ → Bool) (before : ℕ) (answers : List Bool) (due : Bool) → GivesAnswers says before answers → NoUntilDue answers due → (j : ℕ) → 0 < j → before + j < last_ask → says (before + j) ≡ true →
@@ -150,9 +150,9 @@ within_by from to within asks all j (Err e) number few (inr last) = let at = las
 
 module _ (c : Processing) (before : ℕ) (says : ℕ → Bool) (j : ℕ) (some : 0 < j) (less : before + j < last_ask) (is_yes : says (before + j) ≡ true) where
   going_within : (o : Option Op) (op : Op) → o ≡ Some op → (v : PortValue) (c2 : Processing) (w : PortValue) (answers : List Bool) (end : TurnEnd) → (does : DoesTurn c o v c2 w answers end) → HearsNoWithin (tried_going does) → GivesAnswers says before answers →
-      GoesNoFurther c c2 end (c.done + (j - asks_within (tried_going does)))
+      GoesNoFurther c c2 end (c.at.done + (j - asks_within (tried_going does)))
   going_within None op is v c2 w answers end does hears gives = absurd (cc)
-  going_within (Some other) op is v _ _ _ _ (turning.DoesTurn.unsettled w answers p settles) hears gives = record { to = c.done; answer = Err (Paused p); end_is = refl; cpu = inr (p, refl, refl, refl); within = omega arith }
+  going_within (Some other) op is v _ _ _ _ (turning.DoesTurn.unsettled w answers p settles) hears gives = record { to = c.at; answer = Err (Paused p); end_is = refl; cpu = inr (p, refl, refl, refl); within = omega arith }
   going_within (Some other) op is v _ _ _ _ (turning.DoesTurn.settled u w c2 early answers end settles on) hears gives =
       let all = length-append answers early in
       let noes = going_hears c (Some other) v c2 w (answers ++ early) end (turning.DoesTurn.settled u w c2 early answers end settles on) hears in
@@ -161,13 +161,13 @@ module _ (c : Processing) (before : ℕ) (says : ℕ → Bool) (j : ℕ) (some :
         answer = on.answer;
         end_is = on.end_is;
         cpu = inl on.cpu;
-        within = within_by c.done on.to (asks_within (tried_next c (Some other) c2 u w answers end on)) (length answers) (length (answers ++ early)) j on.answer
-            (operation_asks c.domain (task_of other) c.awaited u c.done on.to w answers on.answer on.works) (omega (arith, all))
-            (subst (λ (b : Bool). (length (answers ++ early) < j) ⊎ ((length (answers ++ early) ≡ j) × (b ≡ true))) (ap is_due on.end_is ∙ due_ended on.to on.answer)
+        within = within_by c.at.done on.to.done (asks_within (tried_next c (Some other) c2 u w answers end on)) (length answers) (length (answers ++ early)) j on.answer
+            (operation_asks c.domain (task_of other) c.at.awaited u c.at.done on.to.done w answers on.answer on.went.works) (omega (arith, all))
+            (subst (λ (b : Bool). (length (answers ++ early) < j) ⊎ ((length (answers ++ early) ≡ j) × (b ≡ true))) (ap is_due on.end_is ∙ due_ended on.to.done on.answer)
             (past says before (answers ++ early) (is_due end) gives noes j some less is_yes));
       }
 
-pub turn_within : (c c2 : Processing) (op : Op) (end : TurnEnd) (v w : PortValue) (before : ℕ) (answers : List Bool) (says : ℕ → Bool) → slice_get c.script (length c.log) ≡ Some op → (turn : IsTurn c c2 end v w answers) →
-    HearsNoWithin (elements_tried turn) → GivesAnswers says before answers → (j : ℕ) → 0 < j → before + j < last_ask → says (before + j) ≡ true → GoesNoFurther c c2 end (c.done + (j - asks_within (elements_tried turn)))
+pub turn_within : (c c2 : Processing) (op : Op) (end : TurnEnd) (v w : PortValue) (before : ℕ) (answers : List Bool) (says : ℕ → Bool) → next_of c ≡ Some op → (turn : IsTurn c c2 end v w answers) →
+    HearsNoWithin (elements_tried turn) → GivesAnswers says before answers → (j : ℕ) → 0 < j → before + j < last_ask → says (before + j) ≡ true → GoesNoFurther c c2 end (c.at.done + (j - asks_within (elements_tried turn)))
 turn_within c c2 op end v w before answers says next turn hears gives j some less is_yes =
-    going_within c before says j some less is_yes (slice_get c.script (length c.log)) op next turn.begun c2 turn.worked answers end turn.does hears gives
+    going_within c before says j some less is_yes (next_of c) op next turn.begun c2 turn.worked answers end turn.does hears gives

@@ -1,7 +1,6 @@
 -- A wait that goes on in a later turn: the vCPU had found the clock value past which it waits.
 use Rattle.std.proofs.Common.{◌≡◌, ℕ, ◌+◌, ◌==◌, if◌then◌else◌, Bool, true, false, List, length, slice_get, Option, Some, None, Result, Ok, Err, refl, sym, ap, ◌∙◌, inl, inr, subst}
 use Rattle.xp_words.specs.declared.ops.ExtOp.{ExtOp}
-use Rattle.xp_words.specs.declared.ops.Op.{Op}
 use Rattle.xp_words.specs.declared.reply.Pause.{Pause}
 use Rattle.xp_words.specs.declared.reply.Pause.TheVariants.{Due, Lost, Busy, Flush, Alive}
 use Rattle.xp_words.specs.declared.reply.Refusal.{Refusal}
@@ -12,10 +11,11 @@ use Rattle.level_release.specs.Asking.{IsReleaseEnd}
 use Rattle.mmuext_ops.specs.Elements.{KnowsAwaited, awaited_by, ext_element}
 use Rattle.mmuext_ops.specs.declared.element.Element.{Element}
 use Rattle.mmuext_ops.specs.declared.element.Element.TheVariants as elements
-use Rattle.vcpu_turn.specs.Cpus.{OfExt, OfPairs, OfRead, OfWrite, Processing, Task, after_turn, awaited_after, awaited_at, awaited_in, end_of, task_of}
+use Rattle.vcpu_turn.specs.Cpus.{OfExt, OfPairs, OfRead, OfWrite, Task, awaited_at, awaited_in, awaited_left}
 use Rattle.vcpu_turn.specs.Lists.{Answering, WorksOn, all_done, last_done, due, stopped, is_due_answer}
 use Rattle.vcpu_turn.specs.Working as working
-use Rattle.vcpu_turn.specs.Working.{ExtFits, FitsExt, Performs, SettlesFirst, Works, WorksThrough, awaited_for, valued}
+use Rattle.vcpu_turn.specs.Working.{ExtFits, FitsExt, Performs, SettlesFirst, WentOn, Works, WorksThrough, awaited_for, valued}
+use Rattle.vcpu_turn.specs.declared.cpu.Progress.{Progress}
 
 -- ---- the first element of a turn alone goes on
 pub knows_for : (v : PortValue) (from : ℕ) (awaited : Option ℕ) (k : ℕ) (waits : Option ℕ) → waits ≡ awaited_for from awaited k → KnowsAwaited v awaited → KnowsAwaited v waits
@@ -100,10 +100,11 @@ operation_awaits d (Some (OfExt list)) awaited v from to w answers answer p is w
 operation_awaits d (Some (OfRead user va)) awaited v from to w answers answer p is works = tt
 operation_awaits d (Some (OfWrite user va val)) awaited v from to w answers answer p is works = tt
 
--- the vCPU behind it
-pub ended_awaits : (c : Processing) (op : Op) → slice_get c.script (length c.log) ≡ Some op → (d : ℕ) (awaited : Option ℕ) (v : PortValue) (from to : ℕ) (w : PortValue) (answers : List Bool) (answer : Result ℕ Stop) →
-    Works d (task_of op) awaited v from to w answers answer → KnowsAwaited w (after_turn c to (end_of to answer)).awaited
-ended_awaits c op next d awaited v from to w answers (Ok value) works = tt
-ended_awaits c op next d awaited v from to w answers (Err (Refused r)) works = tt
-ended_awaits c op next d awaited v from to w answers (Err (Paused p)) works =
-    subst (λ (o : Option Op). KnowsAwaited w (awaited_after o to p)) (sym next) (operation_awaits d (task_of op) awaited v from to w answers (Err (Paused p)) p refl works)
+left_awaits : (d : ℕ) (o : Option Task) (awaited : Option ℕ) (v : PortValue) (from to : ℕ) (w : PortValue) (answers : List Bool) (answer : Result ℕ Stop) → Works d o awaited v from to w answers answer → KnowsAwaited w (awaited_left o to answer)
+left_awaits d o awaited v from to w answers (Ok value) works = tt
+left_awaits d o awaited v from to w answers (Err (Refused r)) works = tt
+left_awaits d o awaited v from to w answers (Err (Paused p)) works = operation_awaits d o awaited v from to w answers (Err (Paused p)) p refl works
+
+-- what is kept of it
+pub went_awaits : (d : ℕ) (o : Option Task) (v : PortValue) (from to : Progress) (w : PortValue) (answers : List Bool) (answer : Result ℕ Stop) → WentOn d o v from to w answers answer → KnowsAwaited w to.awaited
+went_awaits d o v from to w answers answer on = subst (KnowsAwaited w) (sym on.waits) (left_awaits d o from.awaited v from.done to.done w answers answer on.works)

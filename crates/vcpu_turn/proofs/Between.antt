@@ -1,5 +1,5 @@
 -- Between turns: the port is still that of the vCPU.
-use Rattle.std.proofs.Common.{◌≡◌, ℕ, Bool, true, false, List, length, slice_get, Some, None, Result, Ok, Err, refl, sym, ap, ◌∙◌, subst}
+use Rattle.std.proofs.Common.{◌≡◌, ℕ, Bool, true, false, List, Some, None, Result, Ok, Err, refl, sym, ap, ◌∙◌, subst}
 use Rattle.xp_words.specs.declared.reply.Stop.{Stop}
 use Rattle.xp_words.specs.declared.reply.Stop.TheVariants.{Refused, Paused}
 use Rattle.xp_board.specs.Readings.{domain_of}
@@ -8,10 +8,11 @@ use Rattle.step_maker.specs.Holds.{Rests}
 use Rattle.step_maker.specs.Moves.{Came}
 use Rattle.step_maker.proofs.Coming.{came_trans, moves_came}
 use Rattle.mmuext_ops.specs.Elements.{KnowsAwaited}
-use Rattle.vcpu_turn.specs.Cpus.{Processing, end_of, after_turn}
+use Rattle.vcpu_turn.specs.Cpus.{Processing, after_turn, end_of, next_of, task_of}
 use Rattle.vcpu_turn.specs.Turning.{EndsTurn, Idles, IsOf, MakesStop, NextWentOn}
 use Rattle.vcpu_turn.specs.Working.{IsWarm}
-use Rattle.vcpu_turn.proofs.Awaiting.{ended_awaits}
+use Rattle.vcpu_turn.specs.declared.cpu.Progress.{Progress}
+use Rattle.vcpu_turn.proofs.Awaiting.{went_awaits}
 use Rattle.vcpu_turn.proofs.NextOps.{worked_none, worked_some}
 use Rattle.vcpu_turn.proofs.Staying.{knows_on}
 
@@ -24,27 +25,27 @@ runs_on w rests = ap (λ o. run_or w.post.run o) rests.may.running
 rests_idles : (w : PortValue) → Rests w → IsWarm w → Idles w
 rests_idles w rests warm = record { empty = rests.empty; no_walk = rests.may.no_walk; machine = rests.may.machine; warm = warm }
 
-after_vcpu : (c : Processing) (to : ℕ) (answer : Result ℕ Stop) → (after_turn c to (end_of to answer)).vcpu ≡ c.vcpu
+after_vcpu : (c : Processing) (to : Progress) (answer : Result ℕ Stop) → (after_turn c to (end_of to.done answer)).vcpu ≡ c.vcpu
 after_vcpu c to (Ok value) = refl
 after_vcpu c to (Err (Refused r)) = refl
 after_vcpu c to (Err (Paused p)) = refl
 
-after_domain : (c : Processing) (to : ℕ) (answer : Result ℕ Stop) → (after_turn c to (end_of to answer)).domain ≡ c.domain
+after_domain : (c : Processing) (to : Progress) (answer : Result ℕ Stop) → (after_turn c to (end_of to.done answer)).domain ≡ c.domain
 after_domain c to (Ok value) = refl
 after_domain c to (Err (Refused r)) = refl
 after_domain c to (Err (Paused p)) = refl
 
 -- behind the end of its turn it knows what it knew before that
-ended_knows : (c : Processing) (to : ℕ) (answer : Result ℕ Stop) (v w : PortValue) → EndsTurn (end_of to answer) v w → KnowsAwaited v (after_turn c to (end_of to answer)).awaited → KnowsAwaited w (after_turn c to (end_of to answer)).awaited
+ended_knows : (c : Processing) (to : Progress) (answer : Result ℕ Stop) (v w : PortValue) → EndsTurn (end_of to.done answer) v w → KnowsAwaited v to.awaited → KnowsAwaited w (after_turn c to (end_of to.done answer)).at.awaited
 ended_knows c to (Ok value) v w ends knows = tt
 ended_knows c to (Err (Refused r)) v w ends knows = tt
-ended_knows c to (Err (Paused p)) v w ends knows = subst (λ (x : PortValue). KnowsAwaited x (after_turn c to (end_of to (Err (Paused p)))).awaited) (sym ends) knows
+ended_knows c to (Err (Paused p)) v w ends knows = subst (λ (x : PortValue). KnowsAwaited x to.awaited) (sym ends) knows
 
 pub not_both : (b : Bool) → b ≡ true → b ≡ false → ⊥
 not_both b on off = cc
 
 module _ (v w : PortValue) (c c1 c2 : Processing) (of : IsOf v c) (post : w.post ≡ v.post) where
-  of_now : c2.vcpu ≡ c.vcpu → c2.domain ≡ c.domain → Idles w → KnowsAwaited w c2.awaited → (c2.retired ≡ false → own_run w ≡ 0) → IsOf w c2
+  of_now : c2.vcpu ≡ c.vcpu → c2.domain ≡ c.domain → Idles w → KnowsAwaited w c2.at.awaited → (c2.retired ≡ false → own_run w ≡ 0) → IsOf w c2
   of_now vcpu domain idles awaits runs =
       record {
         vcpu = vcpu ∙ of.vcpu ∙ sym (ap (λ (q : Post). q.vcpu) post);
@@ -57,24 +58,23 @@ module _ (v w : PortValue) (c c1 c2 : Processing) (of : IsOf v c) (post : w.post
   of_retired_now : Came v w → c2 ≡ record c { retired = true } → Idles w → IsOf w c2
   of_retired_now came is idles =
       of_now (ap (λ (x : Processing). x.vcpu) is) (ap (λ (x : Processing). x.domain) is) idles
-      (subst (λ (x : Processing). KnowsAwaited w x.awaited) (sym is) (knows_on v w c.awaited came of.awaits))
+      (subst (λ (x : Processing). KnowsAwaited w x.at.awaited) (sym is) (knows_on v w c.at.awaited came of.awaits))
       (λ on. absurd (not_both c2.retired (ap (λ (x : Processing). x.retired) is) on))
 
-  pub of_retired : (a b : PortValue) (answers : List Bool) → Came v a → NextWentOn (slice_get c.script (length c.log)) c c1 a b answers None → MakesStop c1 c2 b w → Idles w → IsOf w c2
+  pub of_retired : (a b : PortValue) (answers : List Bool) → Came v a → NextWentOn (next_of c) c c1 a b answers None → MakesStop c1 c2 b w → Idles w → IsOf w c2
   of_retired a b answers came worked stop idles =
-      let h = worked_none (slice_get c.script (length c.log)) c c1 a b answers worked in
+      let h = worked_none (next_of c) c c1 a b answers worked in
       of_retired_now (came_trans v b w (subst (λ (x : PortValue). Came v x) (sym h.2) came) (moves_came b w _ _ _ _ _ stop.stop.1))
       (stop.cpu ∙ ap (λ (x : Processing). record x { retired = true }) h.1) idles
 
-  pub of_gone_on : (a b : PortValue) (answers : List Bool) (answer : Result ℕ Stop) → NextWentOn (slice_get c.script (length c.log)) c c1 a b answers (Some answer) → c2 ≡ after_turn c1 c1.done (end_of c1.done answer) →
-      EndsTurn (end_of c1.done answer) b w → Rests w → IsWarm w → IsOf w c2
+  pub of_gone_on : (a b : PortValue) (answers : List Bool) (answer : Result ℕ Stop) → NextWentOn (next_of c) c c1 a b answers (Some answer) → c2 ≡ after_turn c1 c1.at (end_of c1.at.done answer) →
+      EndsTurn (end_of c1.at.done answer) b w → Rests w → IsWarm w → IsOf w c2
   of_gone_on a b answers answer worked cpu ends rests warm =
-      let h = worked_some (slice_get c.script (length c.log)) c c1 a b answers answer worked in
-      let next : slice_get c1.script (length c1.log) ≡ Some h.op = subst (λ (x : Processing). slice_get x.script (length x.log) ≡ Some h.op) (sym h.worked.cpu) h.next in
-      of_now (ap (λ (x : Processing). x.vcpu) cpu ∙ after_vcpu c1 c1.done answer ∙ ap (λ (x : Processing). x.vcpu) h.worked.cpu)
-      (ap (λ (x : Processing). x.domain) cpu ∙ after_domain c1 c1.done answer ∙ ap (λ (x : Processing). x.domain) h.worked.cpu) (rests_idles w rests warm)
-      (subst (λ (x : Processing). KnowsAwaited w x.awaited) (sym cpu)
-      (ended_knows c1 c1.done answer b w ends (ended_awaits c1 h.op next c.domain c.awaited a c.done c1.done b answers answer h.worked.works)))
+      let h = worked_some (next_of c) c c1 a b answers answer worked in
+      of_now (ap (λ (x : Processing). x.vcpu) cpu ∙ after_vcpu c1 c1.at answer ∙ ap (λ (x : Processing). x.vcpu) h.worked.cpu)
+      (ap (λ (x : Processing). x.domain) cpu ∙ after_domain c1 c1.at answer ∙ ap (λ (x : Processing). x.domain) h.worked.cpu) (rests_idles w rests warm)
+      (subst (λ (x : Processing). KnowsAwaited w x.at.awaited) (sym cpu)
+      (ended_knows c1 c1.at answer b w ends (went_awaits c.domain (task_of h.op) a c.at c1.at b answers answer h.worked.went)))
       (λ on. runs_on w rests)
 
 -- stopped between its turns
@@ -83,4 +83,4 @@ of_stopped v w c c2 of post stop idles = of_retired_now v w c c c2 of post (move
 
 -- also where nothing of it went on
 pub of_unsettled : (v w : PortValue) (c : Processing) → IsOf v c → w.post ≡ v.post → Came v w → Rests w → IsWarm w → IsOf w c
-of_unsettled v w c of post came rests warm = of_now v w c c c of post refl refl (rests_idles w rests warm) (knows_on v w c.awaited came of.awaits) (λ on. runs_on w rests)
+of_unsettled v w c of post came rests warm = of_now v w c c c of post refl refl (rests_idles w rests warm) (knows_on v w c.at.awaited came of.awaits) (λ on. runs_on w rests)

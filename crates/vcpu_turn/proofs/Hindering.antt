@@ -33,7 +33,7 @@ use Rattle.mmuext_ops.specs.declared.element.Element.{Element}
 use Rattle.mmuext_ops.specs.declared.element.Element.TheVariants as performs
 use Rattle.vcpu_turn.specs.declared.cpu.TurnEnd.{TurnEnd}
 use Rattle.vcpu_turn.specs.declared.cpu.TurnEnd.TheVariants as ends
-use Rattle.vcpu_turn.specs.Cpus.{Task, OfPairs, OfExt, OfRead, OfWrite, Processing, task_of, end_of}
+use Rattle.vcpu_turn.specs.Cpus.{Task, OfPairs, OfExt, OfRead, OfWrite, Processing, next_of, task_of, end_of}
 use Rattle.vcpu_turn.specs.Lists as lists
 use Rattle.vcpu_turn.specs.Lists.{DidItems, Fitting, WorksOn, more, all_done, last_done, due, stopped}
 use Rattle.vcpu_turn.specs.Working as working
@@ -130,7 +130,7 @@ works_came d (Some (OfRead user va)) awaited v w from to answers answer a = read
 works_came d (Some (OfWrite user va val)) awaited v w from to answers answer a = writes_came user va val v to w answers a.ended a.works
 
 does_came : (c : Processing) (o : Option Op) (c2 : Processing) (v w : PortValue) (answers : List Bool) (end : TurnEnd) → DoesNext c o c2 v w answers end → Came v w
-does_came c (Some op) c2 v w answers end d = works_came c.domain (task_of op) c.awaited v w c.done d.to answers d.answer d.works
+does_came c (Some op) c2 v w answers end d = works_came c.domain (task_of op) c.at.awaited v w c.at.done d.to.done answers d.answer d.went.works
 does_came c None c2 v w answers end d = same_came v w d.no_step
 
 goes_came : (c : Processing) (o : Option Op) (c2 : Processing) (v w : PortValue) (answers : List Bool) (end : TurnEnd) → DoesTurn c o v c2 w answers end → Came v w
@@ -140,7 +140,7 @@ goes_came c o _ v _ _ _ (turning.settled u w c2 early answers end s d) = came_tr
 pub turn_came : (c c2 : Processing) (end : TurnEnd) (v w : PortValue) (answers : List Bool) → IsTurn c c2 end v w answers → Came v w
 turn_came c c2 end v w answers t =
     came_trans v t.begun w (begins_came v t.begun t.begins)
-    (came_trans t.begun t.worked w (goes_came c (slice_get c.script (length c.log)) c2 t.begun t.worked answers end t.does) (ends_came end t.worked w t.ends))
+    (came_trans t.begun t.worked w (goes_came c (next_of c) c2 t.begun t.worked answers end t.does) (ends_came end t.worked w t.ends))
 
 -- ---- pauses
 abbrev pub AloneStays : Type 0
@@ -286,7 +286,7 @@ module _ (stays : AloneStays) (neither : NeitherLostNorBusy) (nobody : NobodyWai
 
   does_spared : (c : Processing) (o : Option Op) (c2 : Processing) (v w : PortValue) (answers : List Bool) (end : TurnEnd) → IsSpared v → DoesNext c o c2 v w answers end → IsUnhindered v.post.machine end
   does_spared c (Some op) c2 v w answers end s d =
-      subst (IsUnhindered v.post.machine) (sym d.end_is) (spared_end v d.to d.answer (works_spared c.domain (task_of op) c.awaited v w c.done d.to answers d.answer s d.works))
+      subst (IsUnhindered v.post.machine) (sym d.end_is) (spared_end v d.to.done d.answer (works_spared c.domain (task_of op) c.at.awaited v w c.at.done d.to.done answers d.answer s d.went.works))
   does_spared c None c2 v w answers end s d = subst (IsUnhindered v.post.machine) (sym d.end_is) tt
 
   goes_spared : (c : Processing) (o : Option Op) (c2 : Processing) (v w : PortValue) (answers : List Bool) (end : TurnEnd) → IsSpared v → DoesTurn c o v c2 w answers end → IsUnhindered v.post.machine end
@@ -300,4 +300,4 @@ module _ (stays : AloneStays) (neither : NeitherLostNorBusy) (nobody : NobodyWai
   turn_unhindered v real c c2 end w answers alone t =
       let came = begins_came v t.begun t.begins in
       subst (λ (q : Post). IsUnhindered q.machine end) (came_post v t.begun came)
-      (goes_spared c (slice_get c.script (length c.log)) c2 t.begun t.worked answers end (spared_on v t.begun came (record { alone = alone; real = real })) t.does)
+      (goes_spared c (next_of c) c2 t.begun t.worked answers end (spared_on v t.begun came (record { alone = alone; real = real })) t.does)

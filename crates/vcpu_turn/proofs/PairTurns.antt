@@ -1,6 +1,6 @@
 -- A turn with a list of `mmu_update` whose elements take and give back no table: both old words name no frame behind what was settled first, each
 -- element leaves them so, and none asks.
-use Rattle.std.proofs.Common.{◌≡◌, ℕ, ◌+◌, ◌-◌, ◌<◌, ◌%◌, ◌/◌, ◌++◌, ◌⊎◌, Bool, true, false, List, [], ◌∷◌, All, Any, length, slice_get, Option, Some, None, Result, Ok, Err, refl, sym, ap, ◌∙◌, inl, inr, arith, subst}
+use Rattle.std.proofs.Common.{◌≡◌, ℕ, ◌+◌, ◌-◌, ◌<◌, ◌%◌, ◌/◌, ◌++◌, ◌⊎◌, Bool, true, false, List, [], ◌∷◌, All, Any, slice_get, Option, Some, None, Result, Ok, Err, refl, sym, ap, ◌∙◌, inl, inr, arith, subst}
 use Rattle.std.proofs.lemmas.List.Elements.{All-cons, All-nil, All-get_or}
 use Rattle.std.proofs.lemmas.Option.{get_or_from_slice_get, slice_get_within}
 use Rattle.xp_words.specs.PageTypes.{is_table}
@@ -40,7 +40,7 @@ use Rattle.mmu_update.specs.declared.element.Element.{Element}
 use Rattle.mmu_update.specs.declared.element.Element.TheVariants.{SetM2p, Write, Misaligned, Unknown}
 use Rattle.vcpu_turn.proofs.Between.{not_both}
 use Rattle.vcpu_turn.specs.Asking.{AsksNothingWithin, ExchangesEntry, IsLast, MovesATable, MovesNoTable, MovesTable, Tried, asks_within, did_in, elements_tried, tried, tried_going, tried_in, tried_of, tried_owned}
-use Rattle.vcpu_turn.specs.Cpus.{OfExt, OfPairs, OfRead, OfWrite, Task, Processing, task_of}
+use Rattle.vcpu_turn.specs.Cpus.{OfExt, OfPairs, OfRead, OfWrite, Task, Processing, next_of, task_of}
 use Rattle.vcpu_turn.specs.Lists as lists
 use Rattle.vcpu_turn.specs.Lists.{DidItems, WorksOn}
 use Rattle.vcpu_turn.specs.Turning as turning
@@ -299,11 +299,11 @@ module _ (foreign : ℕ) (pairs : List Pair) where
   going_silent c None op is built v runs c2 w answers end does = absurd (cc)
   going_silent c (Some other) op is built v runs _ _ _ _ (turning.DoesTurn.unsettled w answers p settles) = inl (All-nil (λ (t : Tried). t.asked ≡ []))
   going_silent c (Some other) op is built v runs _ _ _ _ (turning.DoesTurn.settled u w c2 early answers end settles on) =
-      operation_silent c.domain (task_of other) c.awaited (next_list (OfPairs foreign pairs) other op is built) u (settled_clear v u early (Ok tt) refl runs settles.course) c.done on.to w answers on.answer on.works
+      operation_silent c.domain (task_of other) c.at.awaited (next_list (OfPairs foreign pairs) other op is built) u (settled_clear v u early (Ok tt) refl runs settles.course) c.at.done on.to.done w answers on.answer on.went.works
 
-  pub turn_silent : (c d : Processing) (op : Op) (end : TurnEnd) (v w : PortValue) (answers : List Bool) → slice_get c.script (length c.log) ≡ Some op → task_of op ≡ Some (OfPairs foreign pairs) → (turn : IsTurn c d end v w answers) →
+  pub turn_silent : (c d : Processing) (op : Op) (end : TurnEnd) (v w : PortValue) (answers : List Bool) → next_of c ≡ Some op → task_of op ≡ Some (OfPairs foreign pairs) → (turn : IsTurn c d end v w answers) →
       SilentAll pairs (elements_tried turn)
-  turn_silent c d op end v w answers next built turn = going_silent c (slice_get c.script (length c.log)) op next built turn.begun (begun_runs v turn.begun turn.begins) d turn.worked answers end turn.does
+  turn_silent c d op end v w answers next built turn = going_silent c (next_of c) op next built turn.begun (begun_runs v turn.begun turn.begins) d turn.worked answers end turn.does
 
 -- ---- lists that set machine-to-physical words alone
 sets_m2p : (p : Pair) → p.ptr % 4 ≡ 1 → element_of p ≡ SetM2p (p.ptr / 4096) p.val
@@ -321,7 +321,7 @@ module _ (pairs : List Pair) (sets : All (λ (p : Pair). p.ptr % 4 ≡ 1) pairs)
       two_kinds is = cc
 
 -- ---- so they ask between the elements alone, and stop at a yes
-module _ (c d : Processing) (op : Op) (foreign : ℕ) (pairs : List Pair) (end : TurnEnd) (v w : PortValue) (answers : List Bool) (next : slice_get c.script (length c.log) ≡ Some op) (built : task_of op ≡ Some (OfPairs foreign pairs))
+module _ (c d : Processing) (op : Op) (foreign : ℕ) (pairs : List Pair) (end : TurnEnd) (v w : PortValue) (answers : List Bool) (next : next_of c ≡ Some op) (built : task_of op ≡ Some (OfPairs foreign pairs))
     (turn : IsTurn c d end v w answers) (off : MovesNoTable pairs (elements_tried turn)) where
   quiet : AsksNothingWithin (elements_tried turn)
   quiet = elim (turn_silent foreign pairs c d op end v w answers next built turn) [
@@ -335,12 +335,12 @@ module _ (c d : Processing) (op : Op) (foreign : ℕ) (pairs : List Pair) (end :
   asks_none : asks_within (elements_tried turn) ≡ 0
   asks_none = within_none (elements_tried turn) quiet
 
-  pub silent_counts : CountsAsks c.done end answers 0
-  silent_counts = subst (λ (n : ℕ). CountsAsks c.done end answers n) asks_none (turn_asks c d op end v w answers next turn)
+  pub silent_counts : CountsAsks c.at.done end answers 0
+  silent_counts = subst (λ (n : ℕ). CountsAsks c.at.done end answers n) asks_none (turn_asks c d op end v w answers next turn)
 
-  pub silent_within : (before : ℕ) (says : ℕ → Bool) → GivesAnswers says before answers → (j : ℕ) → 0 < j → before + j < last_ask → says (before + j) ≡ true → GoesNoFurther c d end (c.done + j)
+  pub silent_within : (before : ℕ) (says : ℕ → Bool) → GivesAnswers says before answers → (j : ℕ) → 0 < j → before + j < last_ask → says (before + j) ≡ true → GoesNoFurther c d end (c.at.done + j)
   silent_within before says gives j some less is_yes =
       let none = asks_none in
-      let same : c.done + (j - asks_within (elements_tried turn)) ≡ c.done + j = omega (arith, none) in
+      let same : c.at.done + (j - asks_within (elements_tried turn)) ≡ c.at.done + j = omega (arith, none) in
       subst (λ (n : ℕ). GoesNoFurther c d end n) same (turn_within c d op end v w before answers says next turn
       (hears_nothing (elements_tried turn) quiet) gives j some less is_yes)

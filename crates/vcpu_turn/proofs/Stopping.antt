@@ -13,7 +13,7 @@ use Rattle.mmu_update.specs.Elements.{element_of}
 use Rattle.mmu_update.specs.declared.element.Element.{Element}
 use Rattle.mmu_update.specs.declared.element.Element.TheVariants as updates
 use Rattle.vcpu_turn.specs.Asking.{ExchangesEntry, HearsNo, HearsNoWithin, NoUntilDue, PausesOldBase, PausesRelease, Tried, PausesUnpin, elements_tried}
-use Rattle.vcpu_turn.specs.Cpus.{Task, OfPairs, OfExt, OfRead, OfWrite, Processing, task_of}
+use Rattle.vcpu_turn.specs.Cpus.{Task, OfPairs, OfExt, OfRead, OfWrite, Processing, next_of, task_of}
 use Rattle.vcpu_turn.specs.Turning.{IsTurn, is_due}
 use Rattle.vcpu_turn.specs.declared.cpu.TurnEnd.{TurnEnd}
 use Rattle.vcpu_turn.proofs.Asking.{turn_hears}
@@ -42,7 +42,7 @@ module _ (pairs : List Pair) (off : All (λ (p : Pair). (p.ptr % 4 ≡ 1) ⊎ (p
 
 module _ (c d : Processing) (end : TurnEnd) (v w : PortValue) (answers : List Bool) (turn : IsTurn c d end v w answers) where
   -- of a list of `mmu_update`: that pauses no release behind an exchange
-  pub unpaused_hears : (op : Op) (foreign : ℕ) (pairs : List Pair) → slice_get c.script (length c.log) ≡ Some op → task_of op ≡ Some (OfPairs foreign pairs) → All (λ (t : Tried). PausesRelease pairs t → ⊥) (elements_tried turn) →
+  pub unpaused_hears : (op : Op) (foreign : ℕ) (pairs : List Pair) → next_of c ≡ Some op → task_of op ≡ Some (OfPairs foreign pairs) → All (λ (t : Tried). PausesRelease pairs t → ⊥) (elements_tried turn) →
       HearsNoWithin (elements_tried turn)
   unpaused_hears op foreign pairs next built off k t less =
       elim (pairs_each (λ (x : Tried). HearsNo x ⊎ PausesRelease pairs x) foreign pairs (λ o. pairs_hear pairs o) c d op end v w answers next built turn k t less) [
@@ -51,10 +51,10 @@ module _ (c d : Processing) (end : TurnEnd) (v w : PortValue) (answers : List Bo
       ]
 
   -- of one of `mmuext_op`: that pauses no release of an unpin, nor of the table that a new base replaces
-  pub unpins_hear : (op : Op) (list : List ExtOp) → slice_get c.script (length c.log) ≡ Some op → task_of op ≡ Some (OfExt list) → All (λ (t : Tried). PausesUnpin list t → ⊥) (elements_tried turn) →
+  pub unpins_hear : (op : Op) (list : List ExtOp) → next_of c ≡ Some op → task_of op ≡ Some (OfExt list) → All (λ (t : Tried). PausesUnpin list t → ⊥) (elements_tried turn) →
       All (λ (t : Tried). PausesOldBase list t → ⊥) (elements_tried turn) → HearsNoWithin (elements_tried turn)
   unpins_hear op list next built off kept k t less =
-      elim (ext_each (λ (x : Tried). HearsNo x ⊎ (PausesUnpin list x ⊎ PausesOldBase list x)) list c (elements_hear list c.domain c.done c.awaited) d op end v w answers next built turn k t less) [
+      elim (ext_each (λ (x : Tried). HearsNo x ⊎ (PausesUnpin list x ⊎ PausesOldBase list x)) list c (elements_hear list c.domain c.at.done c.at.awaited) d op end v w answers next built turn k t less) [
         | inl hears ↦ hears
         | inr (inl pause) ↦ absurd (off k t less pause)
         | inr (inr pause) ↦ absurd (kept k t less pause)
@@ -65,37 +65,37 @@ module _ (c d : Processing) (end : TurnEnd) (v w : PortValue) (answers : List Bo
   no_base e off (inl is) = off.1 is
   no_base e off (inr is) = off.2 is
 
-  ext_hears : (op : Op) (list : List ExtOp) → slice_get c.script (length c.log) ≡ Some op → task_of op ≡ Some (OfExt list) → All IsNoRelease list → HearsNoWithin (elements_tried turn)
+  ext_hears : (op : Op) (list : List ExtOp) → next_of c ≡ Some op → task_of op ≡ Some (OfExt list) → All IsNoRelease list → HearsNoWithin (elements_tried turn)
   ext_hears op list next built off =
       unpins_hear op list next built (λ k t less pause. (at IsNoRelease list off _ pause.op pause.at).0 pause.unpins)
       (λ k t less pause. no_base pause.op (at IsNoRelease list off _ pause.op pause.at) pause.sets)
 
   -- one that is no list
-  other_hears : (op : Op) → slice_get c.script (length c.log) ≡ Some op → IsNoList (task_of op) → HearsNoWithin (elements_tried turn)
+  other_hears : (op : Op) → next_of c ≡ Some op → IsNoList (task_of op) → HearsNoWithin (elements_tried turn)
   other_hears op next off = unlisted_each HearsNo c d end v w answers (λ other is. same other is) turn
     where
-      same : (other : Op) → slice_get c.script (length c.log) ≡ Some other → IsNoList (task_of other)
+      same : (other : Op) → next_of c ≡ Some other → IsNoList (task_of other)
       same other is = subst (λ (x : Op). IsNoList (task_of x)) (by (sym next ∙ is)) off
         where
           by : Some op ≡ Some other → op ≡ other
           by e = cc
 
-  listed_hears : (op : Op) → slice_get c.script (length c.log) ≡ Some op → (l : Option Task) → task_of op ≡ l → ReleasesNothing l → HearsNoWithin (elements_tried turn)
+  listed_hears : (op : Op) → next_of c ≡ Some op → (l : Option Task) → task_of op ≡ l → ReleasesNothing l → HearsNoWithin (elements_tried turn)
   listed_hears op next None built off = other_hears op next (rw built tt)
   listed_hears op next (Some (OfRead user va)) built off = other_hears op next (rw built tt)
   listed_hears op next (Some (OfWrite user va val)) built off = other_hears op next (rw built tt)
   listed_hears op next (Some (OfPairs foreign pairs)) built off = unpaused_hears op foreign pairs next built (λ k t less pause. writes_none pairs off _ pause.exchange)
   listed_hears op next (Some (OfExt list)) built off = ext_hears op list next built off
 
-  script_hears : (o : Option Op) → slice_get c.script (length c.log) ≡ o → ReleasesNothing (task_next o) → HearsNoWithin (elements_tried turn)
+  script_hears : (o : Option Op) → next_of c ≡ o → ReleasesNothing (task_next o) → HearsNoWithin (elements_tried turn)
   script_hears None next off = unlisted_each HearsNo c d end v w answers (λ op is. absurd (none (sym next ∙ is))) turn
     where
       none : {op : Op} → None ≡ Some op → ⊥
       none e = cc
   script_hears (Some op) next off = listed_hears op next (task_of op) refl off
 
-  pub releasing_nothing_hears : ReleasesNothing (task_next (slice_get c.script (length c.log))) → HearsNoWithin (elements_tried turn)
-  releasing_nothing_hears off = script_hears (slice_get c.script (length c.log)) refl off
+  pub releasing_nothing_hears : ReleasesNothing (task_next (next_of c)) → HearsNoWithin (elements_tried turn)
+  releasing_nothing_hears off = script_hears (next_of c) refl off
 
 -- ---- by the numbers of the asks
 heard_all : (says : ℕ → Bool) (before : ℕ) (answers : List Bool) → GivesAnswers says before answers → yeses answers ≡ 0 → Heard says before (asks_on (length answers) before) false

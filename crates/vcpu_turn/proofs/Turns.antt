@@ -1,5 +1,5 @@
 -- A turn, by the calls that it is made of.
-use Rattle.std.proofs.Common.{◌≡◌, ℕ, Bool, true, false, List, length, slice_get, Some, None, Result, Ok, Err, refl, sym, ap, ◌∙◌, subst}
+use Rattle.std.proofs.Common.{◌≡◌, ℕ, Bool, true, false, List, Some, None, Result, Ok, Err, refl, sym, ap, ◌∙◌, subst}
 use Rattle.xp_words.specs.declared.reply.Stop.{Stop}
 use Rattle.xp_words.specs.declared.reply.Stop.TheVariants.{Refused, Paused}
 use Rattle.xp_words.specs.declared.reply.Pause.{Pause}
@@ -10,11 +10,12 @@ use Rattle.step_maker.proofs.Coming.{came_trans, came_post, moves_came}
 use Rattle.answer_fits.specs.Answers.{Serves, misses}
 use Rattle.level_release.specs.Asking.{is_due_stop, of_settle}
 use Rattle.tlb_walks.proofs.Flushes.{acks_came}
-use Rattle.vcpu_turn.specs.Cpus.{Processing, end_of, after_turn}
+use Rattle.vcpu_turn.specs.Cpus.{Processing, after_turn, end_of, next_of}
 use Rattle.vcpu_turn.specs.Lists.{Answering, is_due_answer}
 use Rattle.vcpu_turn.specs.Turning as turning
 use Rattle.vcpu_turn.specs.Turning.{Begins, DoesNext, EndsTurn, IsTurn, MakesStop, TurnBy, NextWentOn, is_due}
 use Rattle.vcpu_turn.specs.Working.{Settles}
+use Rattle.vcpu_turn.specs.declared.cpu.Progress.{Progress}
 use Rattle.vcpu_turn.specs.declared.cpu.TurnEnd.{TurnEnd}
 use Rattle.vcpu_turn.specs.declared.cpu.TurnEnd.TheVariants as ends
 use Rattle.vcpu_turn.proofs.Gating.{answers_as, answers_behind, answers_nothing}
@@ -32,10 +33,10 @@ settled_behind v a b begins answer serves = came_trans v a b (begins_came v a be
 pub settled_post : (v a b : PortValue) → Begins v a → (answer : Result (Unit {0}) Stop) → ((owner pages : ℕ) → Serves a b (of_settle owner pages answer) (misses a.post.machine answer)) → b.post ≡ v.post
 settled_post v a b begins answer serves = came_post v b (settled_behind v a b begins answer serves)
 
-after_same : (c : Processing) (k to : ℕ) (answer : Result ℕ Stop) → after_turn (record c { done = k }) to (end_of to answer) ≡ after_turn c to (end_of to answer)
-after_same c k to (Ok ok) = refl
-after_same c k to (Err (Refused r)) = refl
-after_same c k to (Err (Paused p)) = refl
+after_same : (c : Processing) (at to : Progress) (answer : Result ℕ Stop) → after_turn (record c { at = at }) to (end_of to.done answer) ≡ after_turn c to (end_of to.done answer)
+after_same c at to (Ok ok) = refl
+after_same c at to (Err (Refused r)) = refl
+after_same c at to (Err (Paused p)) = refl
 
 -- ---- the whole turn
 -- the turn is paused for the gate where its last call is
@@ -73,7 +74,7 @@ module _ (v a b : PortValue) (c : Processing) (runs : c.retired ≡ false) (begi
 
   module _ (settles : Answering (λ answers. Settles a b answers (Ok tt)) says before after yes_before yes_after false) (now : ℕ → Bool) (same : (n : ℕ) → now n ≡ says n) (last yes_last : ℕ) (x w : PortValue) (c1 c2 : Processing) where
     -- behind what was settled
-    behind : (end : TurnEnd) (due : Bool) (P : List Bool → Type 0) → Answering P now after last yes_after yes_last due → ((answers : List Bool) → P answers → DoesNext c (slice_get c.script (length c.log)) c2 b x answers end) → EndsTurn end x w →
+    behind : (end : TurnEnd) (due : Bool) (P : List Bool → Type 0) → Answering P now after last yes_after yes_last due → ((answers : List Bool) → P answers → DoesNext c (next_of c) c2 b x answers end) → EndsTurn end x w →
         is_due end ≡ due → Answering (λ answers. TurnBy c.retired c c2 end v w answers) says before last yes_before yes_last (is_due end)
     behind end due P next does finishes is =
         turn_by c2 w end last yes_last due is
@@ -81,30 +82,30 @@ module _ (v a b : PortValue) (c : Processing) (runs : c.retired ≡ false) (begi
         (λ answers goes. record { begun = a; worked = x; begins = begins; does = turning.DoesTurn.settled b x c2 settles.answers answers end settles.goes (does answers goes); ends = finishes }))
 
     -- at the script's end
-    pub turn_retires : Answering (λ answers. NextWentOn (slice_get c.script (length c.log)) c c1 b x answers None) now after last yes_after yes_last false → MakesStop c1 c2 x w →
+    pub turn_retires : Answering (λ answers. NextWentOn (next_of c) c c1 b x answers None) now after last yes_after yes_last false → MakesStop c1 c2 x w →
         Answering (λ answers. TurnBy c.retired c c2 ends.Retired v w answers) says before last yes_before yes_last (is_due ends.Retired)
-    turn_retires worked stop = behind ends.Retired false (λ answers. NextWentOn (slice_get c.script (length c.log)) c c1 b x answers None) worked does stop.stop refl
+    turn_retires worked stop = behind ends.Retired false (λ answers. NextWentOn (next_of c) c c1 b x answers None) worked does stop.stop refl
       where
-        does : (answers : List Bool) → NextWentOn (slice_get c.script (length c.log)) c c1 b x answers None → DoesNext c (slice_get c.script (length c.log)) c2 b x answers ends.Retired
+        does : (answers : List Bool) → NextWentOn (next_of c) c c1 b x answers None → DoesNext c (next_of c) c2 b x answers ends.Retired
         does answers goes =
-            let h = worked_none (slice_get c.script (length c.log)) c c1 b x answers goes in
+            let h = worked_none (next_of c) c c1 b x answers goes in
             subst (λ o. DoesNext c o c2 b x answers ends.Retired) (sym h.0)
             (record { no_step = h.2; no_ask = h.3; end_is = refl; cpu = stop.cpu ∙ ap (λ (y : Processing). record y { retired = true }) h.1 })
 
     -- the next operation went on
-    pub turn_goes_on : (answer : Result ℕ Stop) → Answering (λ answers. NextWentOn (slice_get c.script (length c.log)) c c1 b x answers (Some answer)) now after last yes_after yes_last (is_due_answer answer) →
-        c2 ≡ after_turn c1 c1.done (end_of c1.done answer) → EndsTurn (end_of c1.done answer) x w → Answering (λ answers. TurnBy c.retired c c2 (end_of c1.done answer) v w answers) says before last yes_before yes_last (is_due (end_of c1.done answer))
+    pub turn_goes_on : (answer : Result ℕ Stop) → Answering (λ answers. NextWentOn (next_of c) c c1 b x answers (Some answer)) now after last yes_after yes_last (is_due_answer answer) →
+        c2 ≡ after_turn c1 c1.at (end_of c1.at.done answer) → EndsTurn (end_of c1.at.done answer) x w → Answering (λ answers. TurnBy c.retired c c2 (end_of c1.at.done answer) v w answers) says before last yes_before yes_last (is_due (end_of c1.at.done answer))
     turn_goes_on answer worked cpu finishes =
-        behind (end_of c1.done answer) (is_due_answer answer) (λ answers. NextWentOn (slice_get c.script (length c.log)) c c1 b x answers (Some answer)) worked does finishes (due_ended c1.done answer)
+        behind (end_of c1.at.done answer) (is_due_answer answer) (λ answers. NextWentOn (next_of c) c c1 b x answers (Some answer)) worked does finishes (due_ended c1.at.done answer)
       where
-        does : (answers : List Bool) → NextWentOn (slice_get c.script (length c.log)) c c1 b x answers (Some answer) → DoesNext c (slice_get c.script (length c.log)) c2 b x answers (end_of c1.done answer)
+        does : (answers : List Bool) → NextWentOn (next_of c) c c1 b x answers (Some answer) → DoesNext c (next_of c) c2 b x answers (end_of c1.at.done answer)
         does answers goes =
-            let h = worked_some (slice_get c.script (length c.log)) c c1 b x answers answer goes in
-            subst (λ o. DoesNext c o c2 b x answers (end_of c1.done answer)) (sym h.next)
+            let h = worked_some (next_of c) c c1 b x answers answer goes in
+            subst (λ o. DoesNext c o c2 b x answers (end_of c1.at.done answer)) (sym h.next)
             (record {
-              to = c1.done;
+              to = c1.at;
               answer = answer;
-              works = h.worked.works;
+              went = h.worked.went;
               end_is = refl;
-              cpu = cpu ∙ ap (λ (y : Processing). after_turn y c1.done (end_of c1.done answer)) h.worked.cpu ∙ after_same c c1.done c1.done answer;
+              cpu = cpu ∙ ap (λ (y : Processing). after_turn y c1.at (end_of c1.at.done answer)) h.worked.cpu ∙ after_same c c1.at c1.at answer;
             })

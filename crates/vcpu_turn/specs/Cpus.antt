@@ -1,5 +1,5 @@
 -- The vCPUs between their turns: their operations, and what they answered.
-use Rattle.std.specs.Prelude.{ℕ, ◌+◌, ◌-◌, Bool, false, List, [], ◌∷◌, ◌++◌, length, slice_get, Option, Some, None, Result, Ok, Err}
+use Rattle.std.specs.Prelude.{ℕ, ◌+◌, ◌-◌, Bool, false, List, [], ◌∷◌, ◌++◌, drop, length, slice_get, sum_by, Option, Some, None, Result, Ok, Err}
 use Rattle.xp_words.specs.declared.ops.ExtOp.{ExtOp}
 use Rattle.xp_words.specs.declared.ops.Pair.{Pair}
 use Rattle.xp_words.specs.declared.ops.Call.{Call}
@@ -16,23 +16,32 @@ use Rattle.xp_words.specs.declared.reply.LogLine.TheVariants as lines
 use Rattle.mmuext_ops.specs.Elements.{awaited_by, ext_element}
 use Rattle.vcpu_turn.specs.declared.tasks.Viewed.{Viewed}
 use Rattle.vcpu_turn.specs.declared.tasks.Viewed.TheVariants as viewing
+use Rattle.vcpu_turn.specs.declared.cpu.Progress.{Progress}
 use Rattle.vcpu_turn.specs.declared.cpu.TurnEnd.{TurnEnd}
 use Rattle.vcpu_turn.specs.declared.cpu.TurnEnd.TheVariants as ends
 
--- A vCPU: its number and domain, its operations, what they answered, how many elements of the next operation are
--- done, the clock value past which the next of them goes on to wait where it was paused so, and whether the vCPU makes no turn any more.
+-- A vCPU: its number and domain, its operations, what it logged, how many operations are answered, how far the next one is done, and whether
+-- the vCPU makes no turn any more.
 pub record Processing : Type 0 where
   pub vcpu : ℕ
   pub domain : ℕ
   pub script : List Op
   pub log : List LogLine
-  pub done : ℕ
-  pub awaited : Option ℕ
+  pub answered : ℕ
+  pub at : Progress
   pub retired : Bool
+
+-- of an operation that begins
+abbrev pub begun : Progress
+begun = record { call = 0; done = 0; within = 0; awaited = None }
 
 -- before its first turn
 abbrev pub fresh : ℕ → ℕ → List Op → Processing
-fresh vcpu domain script = record { vcpu = vcpu; domain = domain; script = script; log = []; done = 0; awaited = None; retired = false }
+fresh vcpu domain script = record { vcpu = vcpu; domain = domain; script = script; log = []; answered = 0; at = begun; retired = false }
+
+-- the operation that stands next
+abbrev pub next_of : Processing → Option Op
+next_of c = slice_get c.script c.answered
 
 -- ---- operations that are built: lists of `mmu_update`, with the number that names whose tables and frames they are about, and of `mmuext_op`;
 -- and reads and writes of the guest
@@ -85,9 +94,20 @@ abbrev pub awaited_in : Option Task → ℕ → Pause → Option ℕ
 awaited_in (Some (OfExt list)) done p = awaited_at (slice_get list done) p
 awaited_in _ done p = None
 
-abbrev pub awaited_after : Option Op → ℕ → Pause → Option ℕ
-awaited_after (Some op) done p = awaited_in (task_of op) done p
-awaited_after None done p = None
+-- and ended so
+abbrev pub awaited_left : Option Task → ℕ → Result ℕ Stop → Option ℕ
+awaited_left task done (Ok value) = None
+awaited_left task done (Err (Refused r)) = None
+awaited_left task done (Err (Paused p)) = awaited_in task done p
+
+-- ---- how many lines the log may still get
+-- An operation logs its answer. One that logs lines before that says so here.
+abbrev pub lines_of : Op → ℕ
+lines_of op = 1
+
+-- of the operations that are not answered
+abbrev pub lines_ahead : List Op → ℕ → ℕ
+lines_ahead script answered = sum_by lines_of (drop answered script)
 
 -- ---- answers
 abbrev pub reply_of : ℕ → ℕ → Option Refusal → Reply
@@ -99,11 +119,11 @@ end_of done (Ok value) = ends.Answered (reply_of done value None)
 end_of done (Err (Refused r)) = ends.Answered (reply_of done 0 (Some r))
 end_of done (Err (Paused p)) = ends.Paused p
 
--- the vCPU after it: an answer is logged under the number of its operation, and the next begins at its first element
-abbrev pub after_turn : Processing → ℕ → TurnEnd → Processing
-after_turn c done (ends.Answered reply) = record c { log = c.log ++ lines.Answer (length c.log + 1) 0 reply ∷ []; done = 0; awaited = None }
-after_turn c done (ends.Paused p) = record c { done = done; awaited = awaited_after (slice_get c.script (length c.log)) done p }
-after_turn c done ends.Retired = c
+-- The vCPU after it, where the operation came so far: an answer is logged under the number of its operation, and the next one begins.
+abbrev pub after_turn : Processing → Progress → TurnEnd → Processing
+after_turn c to (ends.Answered reply) = record c { log = c.log ++ lines.Answer (c.answered + 1) 0 reply ∷ []; answered = c.answered + 1; at = begun }
+after_turn c to (ends.Paused p) = record c { at = to }
+after_turn c to ends.Retired = c
 
 abbrev pub pending_of : Processing → ℕ
-pending_of c = length c.script - length c.log
+pending_of c = length c.script - c.answered

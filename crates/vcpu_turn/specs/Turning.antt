@@ -1,5 +1,5 @@
 -- Turns: how one begins, what it does and how it ends.
-use Rattle.std.specs.Prelude.{◌≡◌, ◌⊎◌, ℕ, ◌+◌, ◌≤◌, Bool, true, false, List, [], ◌++◌, length, slice_get, Option, Some, None, Result, Ok, Err}
+use Rattle.std.specs.Prelude.{◌≡◌, ◌⊎◌, ℕ, ◌+◌, ◌≤◌, Bool, true, false, List, [], ◌++◌, length, Option, Some, None, Result, Ok, Err}
 use Rattle.xp_words.specs.Machine.{IsMachine}
 use Rattle.xp_words.specs.Places.{run_of}
 use Rattle.xp_words.specs.declared.place.Place.TheVariants.{Clock}
@@ -17,9 +17,10 @@ use Rattle.xp_board.specs.Told.{PortValue, own_run}
 use Rattle.step_maker.specs.Moves.{Moves}
 pub use Rattle.mmuext_ops.specs.Elements.{KnowsAwaited}
 use Rattle.tlb_walks.specs.Dropping.{Acks}
-use Rattle.vcpu_turn.specs.Cpus.{Processing, task_of, end_of, after_turn}
+use Rattle.vcpu_turn.specs.Cpus.{Processing, after_turn, end_of, next_of, task_of}
 use Rattle.vcpu_turn.specs.Lists.{asks_between, is_due_answer}
-use Rattle.vcpu_turn.specs.Working.{IsWarm, Settles, Works}
+use Rattle.vcpu_turn.specs.Working.{IsWarm, Settles, WentOn}
+use Rattle.vcpu_turn.specs.declared.cpu.Progress.{Progress}
 use Rattle.vcpu_turn.specs.declared.cpu.TurnEnd.{TurnEnd}
 use Rattle.vcpu_turn.specs.declared.cpu.TurnEnd.TheVariants as ends
 
@@ -44,10 +45,10 @@ EndsTurn ends.Retired v w = IsStop v w
 -- ---- what it does between
 -- The next operation goes on until it answers or pauses. At the script's end the vCPU is retired.
 pub record GoesOnWith (c : Processing) (op : Op) (c' : Processing) (v w : PortValue) (answers : List Bool) (end : TurnEnd) : Type 0 where
-  pub to : ℕ
+  pub to : Progress
   pub answer : Result ℕ Stop
-  pub works : Works c.domain (task_of op) c.awaited v c.done to w answers answer
-  pub end_is : end ≡ end_of to answer
+  pub went : WentOn c.domain (task_of op) v c.at to w answers answer
+  pub end_is : end ≡ end_of to.done answer
   pub cpu : c' ≡ after_turn c to end
 
 pub record Retires (c c' : Processing) (v w : PortValue) (answers : List Bool) (end : TurnEnd) : Type 0 where
@@ -72,7 +73,7 @@ pub record IsTurn (c c' : Processing) (end : TurnEnd) (v w : PortValue) (answers
   pub begun : PortValue
   pub worked : PortValue
   pub begins : Begins v begun
-  pub does : DoesTurn c (slice_get c.script (length c.log)) begun c' worked answers end
+  pub does : DoesTurn c (next_of c) begun c' worked answers end
   pub ends : EndsTurn end worked w
 
 -- In a turn an operation went on from element `from` to element `to`, and ended so; and behind the answers to what was settled first the gate was
@@ -82,17 +83,17 @@ pub data CountsAsks (from : ℕ) (end : TurnEnd) (answers : List Bool) (within :
       length later ≡ asks_between from to answer + within → CountsAsks from end answers within
   settling : (u x : PortValue) (p : Pause) → Settles u x answers (Err (Paused p)) → end ≡ ends.Paused p → within ≡ 0 → CountsAsks from end answers within
 
--- the vCPU behind a turn that left so many elements done: of the next operation; or settling was all that it did, and left the vCPU as it was
-abbrev pub IsLeftAt : Processing → Processing → ℕ → TurnEnd → Type 0
-IsLeftAt c c' to end = (c' ≡ after_turn c to end) ⊎ ((p : Pause) × (end ≡ ends.Paused p) × (to ≡ c.done) × (c' ≡ c))
+-- the vCPU behind a turn in which the next operation came so far; or settling was all that it did, and left the vCPU as it was
+abbrev pub IsLeftAt : Processing → Processing → Progress → TurnEnd → Type 0
+IsLeftAt c c' to end = (c' ≡ after_turn c to end) ⊎ ((p : Pause) × (end ≡ ends.Paused p) × (to ≡ c.at) × (c' ≡ c))
 
--- the turn went on with an operation to element `to`, and no further than up to `most`
+-- the turn went on with an operation, of which no more than `most` elements are done then
 pub record GoesNoFurther (c c' : Processing) (end : TurnEnd) (most : ℕ) : Type 0 where
-  pub to : ℕ
+  pub to : Progress
   pub answer : Result ℕ Stop
-  pub end_is : end ≡ end_of to answer
+  pub end_is : end ≡ end_of to.done answer
   pub cpu : IsLeftAt c c' to end
-  pub within : to ≤ most
+  pub within : to.done ≤ most
 
 -- a retired vCPU makes no step, and asks nothing
 pub record StaysRetired (c c' : Processing) (end : TurnEnd) (v w : PortValue) (answers : List Bool) : Type 0 where
@@ -123,7 +124,7 @@ pub record IsOf (v : PortValue) (c : Processing) : Type 0 where
   pub vcpu : c.vcpu ≡ v.post.vcpu
   pub domain : c.domain ≡ domain_of v.post.machine v.post.vcpu
   pub idles : Idles v
-  pub awaits : KnowsAwaited v c.awaited
+  pub awaits : KnowsAwaited v c.at.awaited
   pub runs : c.retired ≡ false → Runs v
 
 -- the gate may say yes only where the turn is paused for it
@@ -142,8 +143,8 @@ StopsWhere false c c' v w = MakesStop c c' v w
 
 -- ---- a vCPU whose next operation goes on
 pub record OperationWentOn (op : Op) (c c' : Processing) (v w : PortValue) (answers : List Bool) (answer : Result ℕ Stop) : Type 0 where
-  pub works : Works c.domain (task_of op) c.awaited v c.done c'.done w answers answer
-  pub cpu : c' ≡ record c { done = c'.done }
+  pub went : WentOn c.domain (task_of op) v c.at c'.at w answers answer
+  pub cpu : c' ≡ record c { at = c'.at }
 
 -- the next operation went on, where there is one
 abbrev pub NextWentOn : Option Op → Processing → Processing → PortValue → PortValue → List Bool → Option (Result ℕ Stop) → Type 0

@@ -23,8 +23,9 @@ use Rattle.mmuext_ops.specs.declared.element.Element.{Element}
 use Rattle.tlb_walks.specs.Accesses.{GuestReads, GuestWrites, OneRead, OneWrite, ServesWrite, server}
 use Rattle.tlb_walks.specs.Addresses.{access_refusal, cell_index}
 use Rattle.tlb_walks.specs.Asking.{IsGuestReadStop, IsGuestWriteStop, of_read, of_write}
-use Rattle.vcpu_turn.specs.Cpus.{Task, OfPairs, OfExt, OfRead, OfWrite}
+use Rattle.vcpu_turn.specs.Cpus.{Task, OfPairs, OfExt, OfRead, OfWrite, awaited_left}
 use Rattle.vcpu_turn.specs.Lists.{Fitting, WorksOn}
+use Rattle.vcpu_turn.specs.declared.cpu.Progress.{Progress}
 
 -- the vCPU has flushed its translations since it came to its processor
 abbrev pub IsWarm : PortValue → Type 0
@@ -163,3 +164,11 @@ Works d (Some (OfExt list)) awaited v from to w answers answer =
     Valued (λ ended. WorksThrough (ExtFits d list from awaited) (length list) v from to w answers ended) answer
 Works d (Some (OfRead user va)) awaited v from to w answers answer = MakesRead user va v to w answers answer
 Works d (Some (OfWrite user va val)) awaited v from to w answers answer = Valued (λ ended. MakesWrite user va val v to w answers ended) answer
+
+-- The same where the vCPU keeps how far it is: the call stays the one in progress, no operation has a place within an element, and the wait of an
+-- element that is paused in one is kept.
+pub record WentOn (d : ℕ) (task : Option Task) (v : PortValue) (from to : Progress) (w : PortValue) (answers : List Bool) (answer : Result ℕ Stop) : Type 0 where
+  pub works : Works d task from.awaited v from.done to.done w answers answer
+  pub calls : to.call ≡ from.call
+  pub within : to.within ≡ from.within
+  pub waits : to.awaited ≡ awaited_left task to.done answer

@@ -1,7 +1,7 @@
 ghost use Rattle.std.specs.Prelude.{◌≡◌, ◌<◌, ◌^◌, length, IfOk};
 ghost use Rattle.xp_words.specs.Places.{sizes_of};
 ghost use Rattle.xp_board.specs.Readings.{domain_of};
-ghost use Rattle.vcpu_turn.specs.Cpus.{fresh, pending_of};
+ghost use Rattle.vcpu_turn.specs.Cpus.{begun, fresh, pending_of};
 
 use std::alloc::{AllocError, Global};
 use std::marker::Model;
@@ -18,28 +18,55 @@ pub enum TurnEnd {
     Retired,
 }
 
-/// A virtual processor: its domain, its operations, what they answered, how far the next one is done, and past which clock value it goes on to wait.
-/// Its log has room for all replies from the beginning, and never more: a turn takes no memory.
+/// How far the operation that stands next is done.
+#[derive(Clone, Copy, Debug, PartialEq, Eq, Drop)]
+pub struct Progress {
+    /// How many calls of a multicall are answered.
+    pub call: u16,
+    /// How many elements of the call in progress are done.
+    pub done: u32,
+    /// How far the next element is that goes on from turn to turn: how many frames of an extent are given back, or the place of a destruction.
+    pub within: u32,
+    /// The clock value past which the next element goes on to wait.
+    pub awaited: Option<u64>,
+}
+
+impl Progress {
+    // Of an operation that begins.
+    pub(crate) fn begun() -> Progress
+        ensures { result ≡ begun }
+    {
+        Progress {
+            call: 0,
+            done: 0,
+            within: 0,
+            awaited: None,
+        }
+    }
+}
+
+/// A virtual processor: its domain, its operations, what it logged, how many of them are answered, and how far the next one is done.
+/// Its log has room for all lines from the beginning, and never more: a turn takes no memory.
 #[derive(Drop)]
 pub struct Cpu {
     pub(crate) vcpu: u32,
     pub(crate) domain: u16,
     pub(crate) script: Script,
     pub(crate) log: Vec<LogLine>,
-    pub(crate) done: u32,
-    pub(crate) awaited: Option<u64>,
+    pub(crate) answered: usize,
+    pub(crate) at: Progress,
     pub(crate) retired: bool,
 }
 
 impl Model for Cpu {
-    ghost use Rattle.std.specs.Prelude.{◌≡◌, ◌≤◌, length, slice_get, vec_len, vec_capacity};
-    ghost use Rattle.vcpu_turn.specs.Cpus.{Processing, elements_of};
+    ghost use Rattle.std.specs.Prelude.{◌≡◌, ◌+◌, ◌≤◌, length, slice_get, vec_len, vec_capacity};
+    ghost use Rattle.vcpu_turn.specs.Cpus.{Processing, elements_of, lines_ahead};
 
     ghost Value = { Processing };
 
-    ghost view = { λ c. record { vcpu = c.vcpu; domain = c.domain; script = c.script; log = c.log.items; done = c.done; awaited = c.awaited; retired = c.retired } };
+    ghost view = { λ c. record { vcpu = c.vcpu; domain = c.domain; script = c.script; log = c.log.items; answered = c.answered; at = c.at; retired = c.retired } };
 
-    ghost invariant = { λ c. (vec_capacity c.log ≡ length c.script) × (vec_len c.log ≤ length c.script) × (c.done ≤ elements_of (slice_get c.script (vec_len c.log))) };
+    ghost invariant = { λ c. (c.answered ≤ length c.script) × (vec_capacity c.log ≡ lines_ahead c.script 0) × (vec_len c.log + lines_ahead c.script c.answered ≤ vec_capacity c.log) × (c.at.done ≤ elements_of (slice_get c.script c.answered)) };
 }
 
 impl Cpu {
@@ -48,19 +75,20 @@ impl Cpu {
         requires { vcpu < (sizes_of layout.now).vcpus }
         ensures { IfOk result (λ c. c ≡ fresh vcpu (domain_of layout.now vcpu) script) }
     {
+        // One line for each operation.
         let log = Vec::with_capacity(alloc, script.len())?;
         Ok(Cpu {
             vcpu,
             domain: layout.vcpu_domain.as_slice()[vcpu as usize],
             script,
             log,
-            done: 0,
-            awaited: None,
+            answered: 0,
+            at: Progress::begun(),
             retired: false,
         })
     }
 
-    /// What was answered so far.
+    /// What was logged so far.
     pub fn log(&self) -> &[LogLine]
         ensures { result.now ≡ self.now.log }
     {
@@ -72,7 +100,7 @@ impl Cpu {
         requires { length self.now.script < 2 ^ 32 }
         ensures { result ≡ pending_of self.now }
     {
-        (self.script.len() - self.log.len()) as u32
+        (self.script.len() - self.answered) as u32
     }
 
     /// Whether it makes no turn any more.

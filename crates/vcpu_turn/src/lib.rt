@@ -12,6 +12,6 @@ mod tasks;
 mod turning;
 mod working;
 
-pub use cpu::{Cpu, TurnEnd};
+pub use cpu::{Cpu, Progress, TurnEnd};
 pub use lists::{Items, go_on};
 pub use turning::{stop, turn};

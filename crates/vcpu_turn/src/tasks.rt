@@ -1,6 +1,6 @@
 //! Operations that are built.
 ghost use Rattle.std.specs.Prelude.{◌≡◌, Some, None, IfSome, IfNone};
-ghost use Rattle.vcpu_turn.specs.Cpus.{awaited_in, task_of, viewed};
+ghost use Rattle.vcpu_turn.specs.Cpus.{awaited_in, awaited_left, task_of, viewed};
 
 use mmuext_ops::awaited_of;
 use xp_words::{Call, ExtOp, Op, Pair, Pause, Stop};
@@ -42,7 +42,7 @@ pub(crate) fn task_of(op: &Op) -> Option<Viewed<'_>>
 }
 
 // An operation was paused with so many elements done: past which clock value the next of them goes on to wait.
-pub(crate) fn awaited_in(op: &Op, done: u32, pause: Pause) -> Option<u64>
+fn awaited_in(op: &Op, done: u32, pause: Pause) -> Option<u64>
     ensures { result ≡ awaited_in (task_of op.now) done pause }
 {
     match task_of(op) {
@@ -51,5 +51,15 @@ pub(crate) fn awaited_in(op: &Op, done: u32, pause: Pause) -> Option<u64>
             None => None,
         },
         _ => None,
+    }
+}
+
+// The same where it ended so; what is answered waits no more.
+pub(crate) fn awaited_left(op: &Op, done: u32, answer: Result<u64, Stop>) -> Option<u64>
+    ensures { result ≡ awaited_left (task_of op.now) done answer }
+{
+    match answer {
+        Err(Stop::Paused(pause)) => awaited_in(op, done, pause),
+        Ok(_) | Err(Stop::Refused(_)) => None,
     }
 }

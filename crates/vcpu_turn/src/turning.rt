@@ -1,103 +1,89 @@
-ghost use Rattle.std.specs.Prelude.{ℕ, ◌≡◌, ◌<◌, ◌^◌, true, false, length, slice_get};
+ghost use Rattle.std.specs.Prelude.{ℕ, ◌≡◌, ◌<◌, ◌^◌, true, false, length};
 ghost use Rattle.xp_board.specs.Readings.{domain_of};
 ghost use Rattle.step_maker.specs.Holds.{Rests};
 ghost use Rattle.mmuext_ops.specs.Elements.{KnowsAwaited};
-ghost use Rattle.vcpu_turn.specs.Cpus.{reply_of, end_of, after_turn};
+ghost use Rattle.vcpu_turn.specs.Cpus.{after_turn, end_of, next_of, reply_of};
 ghost use Rattle.vcpu_turn.specs.Lists.{Answering};
 ghost use Rattle.vcpu_turn.specs.Working.{IsWarm};
 ghost use Rattle.vcpu_turn.specs.Turning.{EndsTurn, Idles, TurnBy, IsOf, MakesStop, StopsWhere, NextWentOn, asks_due, is_due};
-ghost use Rattle.vcpu_turn.specs.declared.cpu.TurnEnd.TheVariants.{Answered, Paused};
+ghost use Rattle.vcpu_turn.specs.declared.cpu.TurnEnd.TheVariants.{Answered};
 
 use crate::beginning::begin;
-use crate::cpu::{Cpu, TurnEnd};
-use crate::tasks::awaited_in;
+use crate::cpu::{Cpu, Progress, TurnEnd};
 use crate::working::work_on;
 use flush_words::{end_answer, stop_vcpu};
 use level_release::settle;
 use xp_board::Port;
 use xp_preempt::Preempt;
-use xp_words::{LogLine, Pause, Refusal, Reply, Stop};
+use xp_words::{LogLine, Refusal, Reply, Stop};
 
 // The next operation goes on; there is none at the script's end.
 fn go_on<P: Port>(port: &mut P, cpu: &mut Cpu, gate: &mut dyn Preempt) -> Option<Result<u64, Stop>>
     requires own { cpu.old.domain ≡ domain_of (P.value port.old).post.machine (P.value port.old).post.vcpu }
-    requires awaits { KnowsAwaited (P.value port.old) cpu.old.awaited }
+    requires awaits { KnowsAwaited (P.value port.old) cpu.old.at.awaited }
     requires rests { Rests (P.value port.old) }
     requires warm { IsWarm (P.value port.old) }
     ensures warm { IsWarm (P.value port.new) }
     ensures post { (P.value port.new).post ≡ (P.value port.old).post }
-    ensures worked { Answering (λ answers. NextWentOn (slice_get cpu.old.script (length cpu.old.log)) cpu.old cpu.new (P.value port.old) (P.value port.new) answers result) (says gate.old) (count_asks gate.old) (count_asks gate.new) (count_yes gate.old) (count_yes gate.new) (asks_due result) }
+    ensures worked { Answering (λ answers. NextWentOn (next_of cpu.old) cpu.old cpu.new (P.value port.old) (P.value port.new) answers result) (says gate.old) (count_asks gate.old) (count_asks gate.new) (count_yes gate.old) (count_yes gate.new) (asks_due result) }
     ensures rests { Rests (P.value port.new) }
     ensures says { (n : ℕ) → says gate.new n ≡ says gate.old n }
     ensures paces { paces gate.new ≡ paces gate.old }
     ensures calm { calm gate.old ≡ true → (asks_due result ≡ false) × (calm gate.new ≡ true) }
 {
-    match cpu.script.as_slice().get(cpu.log.len()) {
+    match cpu.script.as_slice().get(cpu.answered) {
         None => None,
-        Some(op) => Some(work_on(port, gate, cpu.domain, op, cpu.awaited, &mut cpu.done)),
+        Some(op) => Some(work_on(port, gate, cpu.domain, op, &mut cpu.at)),
     }
 }
 
 // The next operation is answered: its reply is logged, and the answer ends. The log has the room.
 fn log_answer<P: Port>(port: &mut P, cpu: &mut Cpu, value: u64, refusal: Option<Refusal>) -> Reply
     requires short { length cpu.old.script < 2 ^ 32 }
-    requires more { length cpu.old.log < length cpu.old.script }
+    requires more { cpu.old.answered < length cpu.old.script }
     requires rests { Rests (P.value port.old) }
     requires warm { IsWarm (P.value port.old) }
     ensures warm { IsWarm (P.value port.new) }
     ensures post { (P.value port.new).post ≡ (P.value port.old).post }
-    ensures reply { result ≡ reply_of cpu.old.done value refusal }
-    ensures cpu { cpu.new ≡ after_turn cpu.old cpu.old.done (Answered result) }
+    ensures reply { result ≡ reply_of cpu.old.at.done value refusal }
+    ensures cpu { cpu.new ≡ after_turn cpu.old cpu.old.at (Answered result) }
     ensures ends { EndsTurn (Answered result) (P.value port.old) (P.value port.new) }
     ensures rests { Rests (P.value port.new) }
 {
     end_answer(port, 0);
     let reply = Reply {
-        done: cpu.done,
+        done: cpu.at.done,
         value,
         refusal,
     };
     let line = LogLine::Answer {
-        op: cpu.log.len() as u32 + 1,
+        op: cpu.answered as u32 + 1,
         call: 0,
         reply,
     };
     cpu.log.push_reserved(line);
-    cpu.done = 0;
-    cpu.awaited = None;
+    cpu.answered += 1;
+    cpu.at = Progress::begun();
     reply
-}
-
-// The next operation is paused. A wait of its next element goes on in a later turn.
-fn keep_wait(cpu: &mut Cpu, pause: Pause)
-    ensures cpu { cpu.new ≡ after_turn cpu.old cpu.old.done (Paused pause) }
-{
-    cpu.awaited = match cpu.script.as_slice().get(cpu.log.len()) {
-        Some(op) => awaited_in(op, cpu.done, pause),
-        None => None,
-    };
 }
 
 // The turn ends with that answer of the next operation, or with a pause.
 fn finish<P: Port>(port: &mut P, cpu: &mut Cpu, answer: Result<u64, Stop>) -> TurnEnd
     requires short { length cpu.old.script < 2 ^ 32 }
-    requires more { length cpu.old.log < length cpu.old.script }
+    requires more { cpu.old.answered < length cpu.old.script }
     requires rests { Rests (P.value port.old) }
     requires warm { IsWarm (P.value port.old) }
     ensures warm { IsWarm (P.value port.new) }
     ensures post { (P.value port.new).post ≡ (P.value port.old).post }
-    ensures end { result ≡ end_of cpu.old.done answer }
-    ensures cpu { cpu.new ≡ after_turn cpu.old cpu.old.done (end_of cpu.old.done answer) }
-    ensures ends { EndsTurn (end_of cpu.old.done answer) (P.value port.old) (P.value port.new) }
+    ensures end { result ≡ end_of cpu.old.at.done answer }
+    ensures cpu { cpu.new ≡ after_turn cpu.old cpu.old.at (end_of cpu.old.at.done answer) }
+    ensures ends { EndsTurn (end_of cpu.old.at.done answer) (P.value port.old) (P.value port.new) }
     ensures rests { Rests (P.value port.new) }
 {
     match answer {
         Ok(value) => TurnEnd::Answered(log_answer(port, cpu, value, None)),
         Err(Stop::Refused(refusal)) => TurnEnd::Answered(log_answer(port, cpu, 0, Some(refusal))),
-        Err(Stop::Paused(pause)) => {
-            keep_wait(cpu, pause);
-            TurnEnd::Paused(pause)
-        }
+        Err(Stop::Paused(pause)) => TurnEnd::Paused(pause),
     }
 }
 

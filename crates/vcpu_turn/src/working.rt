@@ -5,13 +5,14 @@ ghost use Rattle.step_maker.specs.Holds.{Rests};
 ghost use Rattle.mmuext_ops.specs.Elements.{KnowsAwaited};
 ghost use Rattle.vcpu_turn.specs.Cpus.{elements_in, task_of};
 ghost use Rattle.vcpu_turn.specs.Lists.{Answering, is_due_answer};
-ghost use Rattle.vcpu_turn.specs.Working.{IsWarm, Works, WorksOwned, WorksThrough, valued};
+ghost use Rattle.vcpu_turn.specs.Working.{IsWarm, WentOn, Works, WorksOwned, WorksThrough, valued};
 
 use crate::accesses::{read, write};
+use crate::cpu::Progress;
 use crate::ext::OwnElements;
 use crate::lists::{Items, go_on};
 use crate::pairs::OwnedPairs;
-use crate::tasks::{Viewed, task_of};
+use crate::tasks::{Viewed, awaited_left, task_of};
 use foreign_map::owner_for;
 use xp_board::Port;
 use xp_preempt::Preempt;
@@ -96,8 +97,8 @@ fn valued(answer: Result<(), Stop>) -> Result<u64, Stop>
     }
 }
 
-/// An operation goes on from its element `done`, and that one with a wait, past the clock value `awaited`, where it was paused in one.
-pub(crate) fn work_on<P: Port>(
+// An operation goes on from its element `done`, and that one with a wait, past the clock value `awaited`, where it was paused in one.
+fn go_from<P: Port>(
     port: &mut P,
     gate: &mut dyn Preempt,
     domain: u16,
@@ -138,4 +139,30 @@ pub(crate) fn work_on<P: Port>(
         Some(Viewed::Read { user, va }) => read(port, user, va, done),
         Some(Viewed::Write { user, va, val }) => valued(write(port, user, va, val, done)),
     }
+}
+
+/// An operation goes on from where it is, which says in the end how far it came.
+pub(crate) fn work_on<P: Port>(
+    port: &mut P,
+    gate: &mut dyn Preempt,
+    domain: u16,
+    op: &Op,
+    at: &mut Progress,
+) -> Result<u64, Stop>
+    requires within { at.old.done ≤ elements_in (task_of op.now) }
+    requires own { domain ≡ domain_of (P.value port.old).post.machine (P.value port.old).post.vcpu }
+    requires awaits { KnowsAwaited (P.value port.old) at.old.awaited }
+    requires rests { Rests (P.value port.old) }
+    requires warm { IsWarm (P.value port.old) }
+    ensures post { (P.value port.new).post ≡ (P.value port.old).post }
+    ensures went { Answering (λ answers. WentOn domain (task_of op.now) (P.value port.old) at.old at.new (P.value port.new) answers result) (says gate.old) (count_asks gate.old) (count_asks gate.new) (count_yes gate.old) (count_yes gate.new) (is_due_answer result) }
+    ensures rests { Rests (P.value port.new) }
+    ensures warm { IsWarm (P.value port.new) }
+    ensures says { (n : ℕ) → says gate.new n ≡ says gate.old n }
+    ensures paces { paces gate.new ≡ paces gate.old }
+    ensures calm { calm gate.old ≡ true → (is_due_answer result ≡ false) × (calm gate.new ≡ true) }
+{
+    let answer = go_from(port, gate, domain, op, at.awaited, &mut at.done);
+    at.awaited = awaited_left(op, at.done, answer);
+    answer
 }

@@ -1,9 +1,9 @@
 -- A turn on a stage, and the gate of its vCPU.
-use Rattle.std.proofs.Common.{◌≡◌, ℕ, ◌+◌, ◌-◌, ◌<◌, true, length, slice_get, Option, Some, sym, subst}
+use Rattle.std.proofs.Common.{◌≡◌, ℕ, ◌+◌, ◌-◌, ◌<◌, true, slice_get, Option, Some, sym, subst}
 use Rattle.xp_words.specs.Machine.{Machine}
 use Rattle.xp_words.specs.declared.ops.Op.{Op}
 use Rattle.xp_preempt.specs.Gates.{Heard, last_ask}
-use Rattle.vcpu_runners.specs.Turns.{HearsNoWithin, Processing, asks_within, elements_tried, is_due}
+use Rattle.vcpu_runners.specs.Turns.{HearsNoWithin, Processing, asks_within, elements_tried, is_due, next_of}
 use Rattle.vcpu_runners.specs.Gates.{Gate}
 use Rattle.xp_machine.specs.Turns.{MakesStagedTurn, Stage, StaysWithin}
 use Rattle.vcpu_runners.proofs.Turns.{turn_heard, turn_within}
@@ -11,8 +11,8 @@ use Rattle.vcpu_runners.proofs.Turns.{turn_heard, turn_within}
 gate_same : (o : Option (Option Gate)) (g k : Gate) → o ≡ Some (Some g) → o ≡ Some (Some k) → g ≡ k
 gate_same o g k a b = cc
 
-pub own_turn_stops : (n : Machine) (v : ℕ) (c : Processing) (s t : Stage) (g : Gate) (op : Op) (j : ℕ) → (m : MakesStagedTurn n v c s t) → slice_get s.gates v ≡ Some (Some g) → slice_get c.script (length c.log) ≡ Some op →
-    HearsNoWithin (elements_tried m.turn) → 0 < j → g.asks + j < last_ask → g.says (g.asks + j) ≡ true → StaysWithin v c s t (c.done + (j - asks_within (elements_tried m.turn)))
+pub own_turn_stops : (n : Machine) (v : ℕ) (c : Processing) (s t : Stage) (g : Gate) (op : Op) (j : ℕ) → (m : MakesStagedTurn n v c s t) → slice_get s.gates v ≡ Some (Some g) → next_of c ≡ Some op →
+    HearsNoWithin (elements_tried m.turn) → 0 < j → g.asks + j < last_ask → g.says (g.asks + j) ≡ true → StaysWithin v c s t (c.at.done + (j - asks_within (elements_tried m.turn)))
 own_turn_stops n v c s t g op j m has next hears some less is_yes =
     let same = gate_same (slice_get s.gates v) g m.gate has m.own in
     record {

@@ -10,7 +10,7 @@ use Rattle.step_maker.specs.Moves.{Came}
 use Rattle.step_maker.proofs.Wending.{came_goes}
 use Rattle.answer_laws.specs.Alone.{IsAlone}
 use Rattle.shared_board.specs.Board.{Board, port_value}
-use Rattle.vcpu_runners.specs.Turns.{IsOf, Processing, StopsWhere}
+use Rattle.vcpu_runners.specs.Turns.{IsOf, Processing, StopsWhere, next_of}
 use Rattle.vcpu_runners.specs.Cpus.{IsShort}
 use Rattle.vcpu_runners.specs.Gates.{Gate, gate_in}
 use Rattle.xp_machine.specs.Ready.{Ready}
@@ -73,7 +73,7 @@ module _ (stays : AloneStays) where
       let v = port_value b s lender in
       let w = port_value b2 s lender in
       let came = turn_came c c2 t.end v w t.answers t.turn in
-      let script = turn_script c c2 (slice_get c.script (length c.log)) t.turn.begun t.turn.worked t.answers t.end t.turn.does in
+      let script = turn_script c c2 (next_of c) t.turn.begun t.turn.worked t.answers t.end t.turn.does in
       let made = made_on b b2 s lender cpus c c2 real ready machine here came script own in
       record {
         does = record {

@@ -72,7 +72,7 @@ awaited_known v w (Some stamp) machine hand known =
 
 of_lender : (b : Board) (s lender other : ℕ) (c : Processing) → IsOf (port_value b s lender) c → IsOf (port_value b s other) c
 of_lender b s lender other c o =
-    record { vcpu = o.vcpu; domain = o.domain; idles = record { empty = o.idles.empty; no_walk = o.idles.no_walk; machine = o.idles.machine; warm = o.idles.warm }; awaits = awaited_known (port_value b s lender) (port_value b s other) c.awaited refl refl o.awaits; runs = o.runs }
+    record { vcpu = o.vcpu; domain = o.domain; idles = record { empty = o.idles.empty; no_walk = o.idles.no_walk; machine = o.idles.machine; warm = o.idles.warm }; awaits = awaited_known (port_value b s lender) (port_value b s other) c.at.awaited refl refl o.awaits; runs = o.runs }
 
 still_runs : (b b2 : Board) (t lender : ℕ) → b2.machine ≡ b.machine → b2.story.opening ≡ b.story.opening → hand_of b2.story.hands t ≡ hand_of b.story.hands t → Runs (port_value b t lender) →
     Runs (port_value b2 t lender)
@@ -90,7 +90,7 @@ of_other b b2 t lender c machine opening hand o =
         machine = subst IsMachine (sym machine) o.idles.machine;
         warm = ap (λ (h : Holdings). h.cold) hand ∙ o.idles.warm;
       };
-      awaits = awaited_known (port_value b t lender) (port_value b2 t lender) c.awaited machine hand o.awaits;
+      awaits = awaited_known (port_value b t lender) (port_value b2 t lender) c.at.awaited machine hand o.awaits;
       runs = λ works. still_runs b b2 t lender machine opening hand (o.runs works);
     }
 

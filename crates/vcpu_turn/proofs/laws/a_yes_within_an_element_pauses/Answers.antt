@@ -8,4 +8,4 @@ pub returns-clause-pairs : goal.returns-clause-pairs
 returns-clause-pairs g c d op foreign pairs end v w answers next built turn = pairs_each (λ (t : Tried). HearsNo t ⊎ PausesRelease pairs t) foreign pairs (λ o. pairs_hear pairs o) c d op end v w answers next built turn
 
 pub returns-clause-ext : goal.returns-clause-ext
-returns-clause-ext g c d op list end v w answers next built turn = ext_each (λ (t : Tried). HearsNo t ⊎ (PausesUnpin list t ⊎ PausesOldBase list t)) list c (elements_hear list c.domain c.done c.awaited) d op end v w answers next built turn
+returns-clause-ext g c d op list end v w answers next built turn = ext_each (λ (t : Tried). HearsNo t ⊎ (PausesUnpin list t ⊎ PausesOldBase list t)) list c (elements_hear list c.domain c.at.done c.at.awaited) d op end v w answers next built turn

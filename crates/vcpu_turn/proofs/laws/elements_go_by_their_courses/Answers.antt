@@ -10,4 +10,4 @@ returns-clause-pairs g c d op foreign pairs end v w answers next built turn =
 
 pub returns-clause-ext : goal.returns-clause-ext
 returns-clause-ext g c d op list end v w answers next built turn =
-    ext_each (λ (t : Tried). ExtFits c.domain list c.done c.awaited t.number t.before t.behind t.asked t.answer) list c (λ k x y asked a fit. fit) d op end v w answers next built turn
+    ext_each (λ (t : Tried). ExtFits c.domain list c.at.done c.at.awaited t.number t.before t.behind t.asked t.answer) list c (λ k x y asked a fit. fit) d op end v w answers next built turn

@@ -1,0 +1,22 @@
+use Rattle.std.proofs.Common.{ℕ, ◌≡◌, ◌+◌, ◌<◌, ◌≤◌, length, sym, ap, ◌∙◌, arith, subst}
+use Rattle.vcpu_turn.specs.Cpus.{Processing}
+use Rattle.vcpu_turn.specs.declared.cpu.Progress.{Progress}
+use Rattle.vcpu_turn.proofs.NextOps.{ahead_more}
+use Rattle.vcpu_turn.proofs.turning.log_answer.Goals as goal
+
+pub push_reserved-requires : goal.push_reserved-requires
+push_reserved-requires g c =
+    let more = subst (λ (x : Processing). x.answered < length x.script) (sym c.cpu.view_is) c.requires.more in
+    let line = ahead_more c.cpu.inside.script c.cpu.inside.answered more in
+    let room = c.cpu.invariant.2 in
+    omega (arith, line, room)
+
+pub invariant_of-cpu : goal.invariant_of-cpu
+invariant_of-cpu g c =
+    let more = subst (λ (x : Processing). x.answered < length x.script) (sym c.cpu.view_is) c.requires.more in
+    let line = ahead_more c.cpu.inside.script c.cpu.inside.answered more in
+    let room = c.cpu.invariant.2 in
+    let len = c.push_reserved.ensures.len in
+    let capacity = c.push_reserved.ensures.capacity in
+    let begins = ap (λ (p : Progress). p.done) c.begun-cpu-inside.ensures in
+    (omega (arith, more), capacity ∙ c.cpu.invariant.1, omega (arith, line, room, len, capacity), omega (arith, begins))
