@@ -206,7 +206,7 @@ privileges v w r ds ms m d e x piece at is by finds =
     let deed : Member its (deeds_by (Priv d) (Cas e x) m.kind m.found m.hand) = subst (λ b. Member its (if b then exchanged_as m.kind (Priv d) e x else missed_at (Priv d))) (sym (when_eq m.found e finds)) same in (
       reason_at v w r ds ms m piece at (Priv d) (Cas e x) is by,
       subst (λ es. Member its es) piece.deeds_are (deed_in ms m its at
-      (subst (λ p. Member its (deeds_by p m.act m.kind m.found m.hand)) (sym is) (subst (λ a. Member its (deeds_by (Priv d) a m.kind m.found m.hand)) (sym by) deed))),
+          (subst (λ p. Member its (deeds_by p m.act m.kind m.found m.hand)) (sym is) (subst (λ a. Member its (deeds_by (Priv d) a m.kind m.found m.hand)) (sym by) deed))),
     )
 
 pub claims : (v w : PortValue) (r : Request) (ds : List Deed) (ms : List Moment) (m : Moment) (f e x : ℕ) → r.pages ≡ None → Piece v w r ds ms → Member m ms → m.place ≡ Refs f → m.act ≡ Cas e x → is_free e ≡ false

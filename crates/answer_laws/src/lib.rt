@@ -28,6 +28,5 @@ pub use pieces::{
     a_claim_takes_pages, a_return_is_a_deed, a_store_keeps_the_type, asks_are_of_awaited_stamps,
     kind_words_of_other_frames_stay, no_kind_word_is_changed, no_kind_word_is_exchanged,
     no_needless_flush, nothing_is_tried_again, only_the_asked_type,
-    privileges_are_changed_as_asked,
-    the_clock_goes_on_for_a_flush_alone,
+    privileges_are_changed_as_asked, the_clock_goes_on_for_a_flush_alone,
 };

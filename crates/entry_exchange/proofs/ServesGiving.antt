@@ -1,5 +1,5 @@
 -- What an entry asks is given back or released, and the lock goes off: what a guest sees of it.
-use Rattle.std.proofs.Common.{◌≡◌, ◌⊎◌, ℕ, ◌+◌, true, List, [], ◌∷◌, Option, None, IsTrue, Result, Ok, Err, IfErr, refl, ap, subst, inl, inr}
+use Rattle.std.proofs.Common.{◌≡◌, ◌⊎◌, ℕ, ◌+◌, true, List, [], ◌∷◌, Option, None, IsTrue, Result, Ok, Err, IfErr, refl, rules, ap, subst, inl, inr}
 use Rattle.xp_words.specs.KindWords.{kind_write}
 use Rattle.xp_words.specs.Machine.{Machine}
 use Rattle.xp_words.specs.declared.entry.Demand.TheVariants.{Read, Typed}
@@ -17,9 +17,9 @@ use Rattle.board_lemmas.proofs.Sums.{when_eq}
 use Rattle.step_maker.specs.Moves.{Met, Moves}
 use Rattle.step_maker.proofs.Coming.{came_post}
 use Rattle.answer_fits.specs.Answers.{Deed, Misses, Serves, misses}
-use Rattle.answer_fits.specs.Asked.{Request, Within, back, named, of_back}
+use Rattle.answer_fits.specs.Asked.{Request, Within, back, of_back}
 use Rattle.answer_fits.specs.Finding.{Finding}
-use Rattle.answer_fits.proofs.Grown.{grown_by, grows_self, risen}
+use Rattle.answer_fits.proofs.Grown.{grown_by, risen}
 use Rattle.answer_fits.proofs.Piecing.{serves_back, serves_came, serves_step, serves_then, serves_within, within_back}
 use Rattle.kept_marks.specs.Marks.{IsForeign, ServesKept}
 use Rattle.kept_marks.proofs.Serving.{asked_later, left_serves}
@@ -57,10 +57,10 @@ behind_kept v a w f owner gives kept u r ds before asked locks =
     seen u more (inr one) = inr (f, one.1)
 
 -- ---- released
-module _ (n : Machine) (s : ℕ) (r : Request) (F : Finding) where
-  within_risen : Within n s r F (record r { rose = true }) F
-  within_risen =
-      grown_by n s r (record r { rose = true }) F F (λ m a. a) (record (grows_self r) { rose = risen r.rose }) (record { owner = refl; pages_of = refl }) (λ g here k less. named here refl less) (λ any g here. here) (λ g is. back is)
+within_given : (n : Machine) (s f owner pages : ℕ) (t : PageType) (answer : Result (Unit {0}) Stop) (F : Finding) → Within n s (of_release f owner pages answer) F (of_given (Typed f t) owner pages) F
+within_given n s f owner pages t answer F =
+    let gate = risen (of_release f owner pages answer).rose in
+    grown_by n s (of_release f owner pages answer) (of_given (Typed f t) owner pages) F F (λ m a. a) (search (rules, gate)) (record { owner = refl; pages_of = refl }) (λ g none k is. absurd cc) (λ any g none. absurd cc) (λ g is. back is)
 
 module _ (v w : PortValue) (f owner pages : ℕ) where
   pub released_ref : Serves v w (of_back f) [] → Serves v w (of_given (Read f) owner pages) []
@@ -73,7 +73,7 @@ module _ (v w : PortValue) (f owner pages : ℕ) where
 
   pub released_typed : (t : PageType) (answer : Result (Unit {0}) Stop) → IfErr answer (λ e. e ≡ Paused Due) → Serves v w (of_release f owner pages answer) (misses v.post.machine answer) → Serves v w (of_given (Typed f t) owner pages) []
   released_typed t answer due a =
-      serves_within v w (of_release f owner pages answer) (of_given (Typed f t) owner pages) [] (within_risen v.post.machine v.post.vcpu (of_release f owner pages answer) (Met v w))
+      serves_within v w (of_release f owner pages answer) (of_given (Typed f t) owner pages) [] (within_given v.post.machine v.post.vcpu f owner pages t answer (Met v w))
       (subst (λ ds. Serves v w (of_release f owner pages answer) ds) (none_missed answer due) a)
 
 -- ---- the lock went off with the last type count

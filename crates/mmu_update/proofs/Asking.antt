@@ -1,5 +1,5 @@
 -- What the calls of a write ask is within what the write asks.
-use Rattle.std.proofs.Common.{ℕ, Bool, Option, Some, None, Result, refl, rules, subst}
+use Rattle.std.proofs.Common.{ℕ, Bool, Option, Some, None, Result, inl, inr, refl, rules, subst}
 use Rattle.xp_words.specs.Machine.{Machine}
 use Rattle.xp_words.specs.declared.kind.PageType.{PageType}
 use Rattle.xp_words.specs.declared.kind.PageType.TheVariants.{Writable}
@@ -8,7 +8,8 @@ use Rattle.board_lemmas.proofs.Sums.{when_eq}
 use Rattle.step_maker.specs.Moves.{Moment}
 use Rattle.answer_fits.specs.Asked.{IsAsked, IsFor, Request, Within, named, of, of_frame}
 use Rattle.answer_fits.specs.Finding.{Finding}
-use Rattle.answer_fits.proofs.Grown.{grown_by, rises_self, risen}
+use Rattle.answer_fits.specs.Rising.{IsOfSame, NeedsOwners}
+use Rattle.answer_fits.proofs.Grown.{grown_by, grown_where, rises_self, risen}
 use Rattle.entry_exchange.specs.Asking.{may_rise, of_exchange}
 use Rattle.foreign_map.specs.declared.owners.Owners.{Owners}
 use Rattle.mmu_update.specs.Course.{entry_update}
@@ -33,10 +34,17 @@ module _ (n : Machine) (s : ℕ) (o : Owners) (f i word : ℕ) (keep : Bool) (an
 
   module _ (F G : Finding) (more : (m : Moment) → F m → G m) where
     module _ (want : Option PageType) (marks : Bool) (is : IsFor want (Some Writable)) where
+      -- no entry asks of it
+      no_owners : NeedsOwners (of_call o f want marks) → IsOfSame (of_call o f want marks) (update_request o (Write f i word keep) answer)
+      no_owners (inl a) = absurd cc
+      no_owners (inr (inl a)) = absurd cc
+      no_owners (inr (inr (inl a))) = absurd cc
+      no_owners (inr (inr (inr a))) = absurd (let b = a.1 in cc)
+
       pub within_call : Within n s (of_call o f want marks) F (update_request o (Write f i word keep) answer) G
       within_call =
           let marking = risen marks in
-          grown_by n s (of_call o f want marks) (update_request o (Write f i word keep) answer) F G more (search (rules, marking)) (record { owner = refl; pages_of = refl })
+          grown_where n s (of_call o f want marks) (update_request o (Write f i word keep) answer) F G more (search (rules, marking)) no_owners
           (λ g here k less. named here refl (for_less k want less is)) (λ any g here. here) (λ g none. absurd cc)
 
     -- an exchange of the entry
