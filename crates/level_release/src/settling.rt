@@ -1,5 +1,5 @@
 //! What an earlier turn left unfinished is released: the frames that the two old words of the own vCPU name.
-ghost use Rattle.std.specs.Prelude.{◌≡◌, ◌<◌, ℕ, Some, true, false, is_some, IfOk, IfErr, IsTrue};
+ghost use Rattle.std.specs.Prelude.{◌≡◌, ◌<◌, ℕ, Some, None, true, false, is_some, IfOk, IfErr, IsTrue};
 ghost use Rattle.xp_words.specs.KindWords.{kind_read};
 ghost use Rattle.xp_board.specs.Readings.{is_partial};
 ghost use Rattle.xp_board.specs.Told.{PortValue};
@@ -42,6 +42,7 @@ pub fn settle<P: Port>(
     ensures hand { SettledHand (P.value port.old) (P.value port.new) }
     ensures clear { IfOk result (λ _. known_old First (P.value port.new).holdings ≡ Some 0) }
     ensures clear_too { IfOk result (λ _. known_old Second (P.value port.new).holdings ≡ Some 0) }
+    ensures none { IfOk result (λ _. left.new ≡ None) }
     ensures course { SettlesBy left.old left.new (P.value port.old) (P.value port.new) (says gate.old) (count_asks gate.old) (count_asks gate.new) (count_yes gate.old) (count_yes gate.new) result }
     ensures says { (n : ℕ) → says gate.new n ≡ says gate.old n }
     ensures paces { paces gate.new ≡ paces gate.old }
