@@ -11,7 +11,7 @@ use Rattle.xp_preempt.specs.Gates.{GivesAnswers, last_ask}
 use Rattle.xp_preempt.proofs.Numbering.{says_last, says_no}
 use Rattle.level_release.proofs.Noes.{settled_no}
 use Rattle.vcpu_turn.specs.Asking.{HearsNoWithin, NoUntilDue, asks_within, elements_tried, tried_going, tried_next, tried_of, tried_owned, tried_through}
-use Rattle.vcpu_turn.specs.Cpus.{Task, OfExt, OfPairs, OfRead, OfWrite, Processing, next_of, task_of}
+use Rattle.vcpu_turn.specs.Cpus.{Task, OfExt, OfPairs, OfRead, OfWrite, Processing, next_of, task_of, nothing_left}
 use Rattle.vcpu_turn.specs.Lists.{Fitting, asks_between, is_due_answer}
 use Rattle.vcpu_turn.specs.Turning as turning
 use Rattle.vcpu_turn.specs.Turning.{CountsAsks, DoesNext, DoesTurn, GoesNoFurther, IsTurn, is_due}
@@ -91,7 +91,7 @@ operation_hears d (Some (OfRead user va)) awaited v from to w answers answer wor
 operation_hears d (Some (OfWrite user va val)) awaited v from to w answers answer works hears = noes_same answers [] (is_due_answer answer) works.works.no_ask (noes_none (is_due_answer answer))
 
 -- ---- a turn
-pub settles_hears : (v w : PortValue) (answers : List Bool) (answer : Result (Unit {0}) Stop) → Settles v w answers answer → NoUntilDue answers (is_due_answer answer)
+pub settles_hears : {below : Option ℕ} → (v w : PortValue) (answers : List Bool) (answer : Result (Unit {0}) Stop) → Settles below v w answers answer → NoUntilDue answers (is_due_answer answer)
 settles_hears v w answers answer s = subst (λ (b : Bool). NoUntilDue answers b) (sym (due_released answer)) (settled_noes v w answers answer s.course)
 
 next_hears : (c : Processing) (o : Option Op) (c2 : Processing) (v w : PortValue) (answers : List Bool) (end : TurnEnd) → (does : DoesNext c o c2 v w answers end) → HearsNoWithin (tried_next c o c2 v w answers end does) → NoUntilDue answers (is_due end)
@@ -102,20 +102,20 @@ next_hears c None c2 v w answers end retires hears = noes_same answers [] (is_du
 going_hears : (c : Processing) (o : Option Op) (v : PortValue) (c2 : Processing) (w : PortValue) (answers : List Bool) (end : TurnEnd) → (does : DoesTurn c o v c2 w answers end) → HearsNoWithin (tried_going does) → NoUntilDue answers (is_due end)
 going_hears c o v _ _ _ _ (turning.DoesTurn.unsettled w answers p settles) hears = subst (λ (b : Bool). NoUntilDue answers b) (sym (due_paused p)) (settles_hears v w answers (Err (Paused p)) settles)
 going_hears c o v _ _ _ _ (turning.DoesTurn.settled u w c2 early answers end settles does) hears =
-    noes_then early answers (is_due end) (settled_no v u early (Ok tt) refl settles.course) (next_hears c o c2 u w answers end does hears)
+    noes_then early answers (is_due end) (settled_no v u early (Ok tt) refl settles.course) (next_hears (nothing_left c) o c2 u w answers end does hears)
 
 pub turn_hears : (c c2 : Processing) (end : TurnEnd) (v w : PortValue) (answers : List Bool) → (turn : IsTurn c c2 end v w answers) → HearsNoWithin (elements_tried turn) → NoUntilDue answers (is_due end)
 turn_hears c c2 end v w answers turn hears = going_hears c (next_of c) turn.begun c2 turn.worked answers end turn.does hears
 
 going_asks : (c : Processing) (o : Option Op) (op : Op) → o ≡ Some op → (v : PortValue) (c2 : Processing) (w : PortValue) (answers : List Bool) (end : TurnEnd) → (does : DoesTurn c o v c2 w answers end) →
-    CountsAsks c.at.done end answers (asks_within (tried_going does))
+    CountsAsks c.left c.at.done end answers (asks_within (tried_going does))
 going_asks c None op is v c2 w answers end does = absurd (cc)
 going_asks c (Some other) op is v _ _ _ _ (turning.DoesTurn.unsettled w answers p settles) = turning.CountsAsks.settling v w p settles refl refl
 going_asks c (Some other) op is v _ _ _ _ (turning.DoesTurn.settled u w c2 early answers end settles on) =
     turning.CountsAsks.counted on.to.done on.answer v u early answers settles on.end_is refl (operation_asks c.domain (task_of other) c.at.awaited u c.at.done on.to.done w answers on.answer on.went.works)
 
 pub turn_asks : (c d : Processing) (op : Op) (end : TurnEnd) (v w : PortValue) (answers : List Bool) → next_of c ≡ Some op → (turn : IsTurn c d end v w answers) →
-    CountsAsks c.at.done end answers (asks_within (elements_tried turn))
+    CountsAsks c.left c.at.done end answers (asks_within (elements_tried turn))
 turn_asks c d op end v w answers next turn = going_asks c (next_of c) op next turn.begun d turn.worked answers end turn.does
 
 -- ---- no ask follows one at which the gate says yes
@@ -161,7 +161,7 @@ module _ (c : Processing) (before : ℕ) (says : ℕ → Bool) (j : ℕ) (some :
         answer = on.answer;
         end_is = on.end_is;
         cpu = inl on.cpu;
-        within = within_by c.at.done on.to.done (asks_within (tried_next c (Some other) c2 u w answers end on)) (length answers) (length (answers ++ early)) j on.answer
+        within = within_by c.at.done on.to.done (asks_within (tried_next (nothing_left c) (Some other) c2 u w answers end on)) (length answers) (length (answers ++ early)) j on.answer
             (operation_asks c.domain (task_of other) c.at.awaited u c.at.done on.to.done w answers on.answer on.went.works) (omega (arith, all))
             (subst (λ (b : Bool). (length (answers ++ early) < j) ⊎ ((length (answers ++ early) ≡ j) × (b ≡ true))) (ap is_due on.end_is ∙ due_ended on.to.done on.answer)
             (past says before (answers ++ early) (is_due end) gives noes j some less is_yes));

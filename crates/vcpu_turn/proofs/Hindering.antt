@@ -33,7 +33,7 @@ use Rattle.mmuext_ops.specs.declared.element.Element.{Element}
 use Rattle.mmuext_ops.specs.declared.element.Element.TheVariants as performs
 use Rattle.vcpu_turn.specs.declared.cpu.TurnEnd.{TurnEnd}
 use Rattle.vcpu_turn.specs.declared.cpu.TurnEnd.TheVariants as ends
-use Rattle.vcpu_turn.specs.Cpus.{Task, OfPairs, OfExt, OfRead, OfWrite, Processing, next_of, task_of, end_of}
+use Rattle.vcpu_turn.specs.Cpus.{Task, OfPairs, OfExt, OfRead, OfWrite, Processing, next_of, task_of, end_of, nothing_left}
 use Rattle.vcpu_turn.specs.Lists as lists
 use Rattle.vcpu_turn.specs.Lists.{DidItems, Fitting, WorksOn, more, all_done, last_done, due, stopped}
 use Rattle.vcpu_turn.specs.Working as working
@@ -55,7 +55,7 @@ ends_came (ends.Answered reply) v w e = moves_came v w _ _ _ _ _ e.1
 ends_came (ends.Paused p) v w e = same_came v w e
 ends_came ends.Retired v w e = stop_came v w e
 
-settles_came : (v w : PortValue) (answers : List Bool) (answer : Result (Unit {0}) Stop) → Settles v w answers answer → Came v w
+settles_came : {below : Option ℕ} → (v w : PortValue) (answers : List Bool) (answer : Result (Unit {0}) Stop) → Settles below v w answers answer → Came v w
 settles_came v w answers answer s = serves_came v w (of_settle 0 0 answer) (misses v.post.machine answer) (s.serves 0 0)
 
 performs_came : (d : ℕ) (e : Element) (awaited : Option ℕ) (v w : PortValue) (answers : List Bool) (answer : Result (Unit {0}) Stop) → Performs d e awaited v w answers answer → Came v w
@@ -133,14 +133,14 @@ does_came : (c : Processing) (o : Option Op) (c2 : Processing) (v w : PortValue)
 does_came c (Some op) c2 v w answers end d = works_came c.domain (task_of op) c.at.awaited v w c.at.done d.to.done answers d.answer d.went.works
 does_came c None c2 v w answers end d = same_came v w d.no_step
 
-goes_came : (c : Processing) (o : Option Op) (c2 : Processing) (v w : PortValue) (answers : List Bool) (end : TurnEnd) → DoesTurn c o v c2 w answers end → Came v w
-goes_came c o _ v _ _ _ (turning.unsettled w answers p s) = settles_came v w answers (Err (Paused p)) s
-goes_came c o _ v _ _ _ (turning.settled u w c2 early answers end s d) = came_trans v u w (settles_came v u early (Ok tt) s) (does_came c o c2 u w answers end d)
+goes_came : (c : Processing) (o : Option Op) (v : PortValue) (c2 : Processing) (w : PortValue) (answers : List Bool) (end : TurnEnd) → DoesTurn c o v c2 w answers end → Came v w
+goes_came c o v _ _ _ _ (turning.unsettled w answers p s) = settles_came v w answers (Err (Paused p)) s
+goes_came c o v _ _ _ _ (turning.settled u w c2 early answers end s d) = came_trans v u w (settles_came v u early (Ok tt) s) (does_came (nothing_left c) o c2 u w answers end d)
 
 pub turn_came : (c c2 : Processing) (end : TurnEnd) (v w : PortValue) (answers : List Bool) → IsTurn c c2 end v w answers → Came v w
 turn_came c c2 end v w answers t =
     came_trans v t.begun w (begins_came v t.begun t.begins)
-    (came_trans t.begun t.worked w (goes_came c (next_of c) c2 t.begun t.worked answers end t.does) (ends_came end t.worked w t.ends))
+    (came_trans t.begun t.worked w (goes_came c (next_of c) t.begun c2 t.worked answers end t.does) (ends_came end t.worked w t.ends))
 
 -- ---- pauses
 abbrev pub AloneStays : Type 0
@@ -219,7 +219,7 @@ module _ (stays : AloneStays) (neither : NeitherLostNorBusy) (nobody : NobodyWai
   spared_back v u (Err (Refused x)) came s = tt
   spared_back v u (Err (Paused x)) came s = subst (λ (q : Post). IsUnhindered q.machine (ends.Paused x)) (came_post v u came) s
 
-  settles_spared : (v w : PortValue) (answers : List Bool) (answer : Result (Unit {0}) Stop) → IsSpared v → Settles v w answers answer → Spared v answer
+  settles_spared : {below : Option ℕ} → (v w : PortValue) (answers : List Bool) (answer : Result (Unit {0}) Stop) → IsSpared v → Settles below v w answers answer → Spared v answer
   settles_spared v w answers answer s settles = call_spared v w (of_settle 0 0 answer) answer refl s (settles.stops 0 0)
 
   updates_spared : (o : Owners) (e : updating.Element) (v w : PortValue) (answers : List Bool) (answer : Result (Unit {0}) Stop) → IsSpared v → Updates o e v w answers answer → Spared v answer
@@ -289,15 +289,15 @@ module _ (stays : AloneStays) (neither : NeitherLostNorBusy) (nobody : NobodyWai
       subst (IsUnhindered v.post.machine) (sym d.end_is) (spared_end v d.to.done d.answer (works_spared c.domain (task_of op) c.at.awaited v w c.at.done d.to.done answers d.answer s d.went.works))
   does_spared c None c2 v w answers end s d = subst (IsUnhindered v.post.machine) (sym d.end_is) tt
 
-  goes_spared : (c : Processing) (o : Option Op) (c2 : Processing) (v w : PortValue) (answers : List Bool) (end : TurnEnd) → IsSpared v → DoesTurn c o v c2 w answers end → IsUnhindered v.post.machine end
-  goes_spared c o _ v _ _ _ s (turning.unsettled w answers p settles) = settles_spared v w answers (Err (Paused p)) s settles
-  goes_spared c o _ v _ _ _ s (turning.settled u w c2 early answers end settles d) =
+  goes_spared : (c : Processing) (o : Option Op) (v : PortValue) (c2 : Processing) (w : PortValue) (answers : List Bool) (end : TurnEnd) → IsSpared v → DoesTurn c o v c2 w answers end → IsUnhindered v.post.machine end
+  goes_spared c o v _ _ _ _ s (turning.unsettled w answers p settles) = settles_spared v w answers (Err (Paused p)) s settles
+  goes_spared c o v _ _ _ _ s (turning.settled u w c2 early answers end settles d) =
       let came = settles_came v u early (Ok tt) settles in
-      subst (λ (q : Post). IsUnhindered q.machine end) (came_post v u came) (does_spared c o c2 u w answers end (spared_on v u came s) d)
+      subst (λ (q : Post). IsUnhindered q.machine end) (came_post v u came) (does_spared (nothing_left c) o c2 u w answers end (spared_on v u came s) d)
 
   pub turn_unhindered : (v : PortValue) → v.post.vcpu < length v.post.machine.vcpu_domain → (c c2 : Processing) (end : TurnEnd) (w : PortValue) (answers : List Bool) → IsAlone v → IsTurn c c2 end v w answers →
       IsUnhindered v.post.machine end
   turn_unhindered v real c c2 end w answers alone t =
       let came = begins_came v t.begun t.begins in
       subst (λ (q : Post). IsUnhindered q.machine end) (came_post v t.begun came)
-      (goes_spared c (next_of c) c2 t.begun t.worked answers end (spared_on v t.begun came (record { alone = alone; real = real })) t.does)
+      (goes_spared c (next_of c) t.begun c2 t.worked answers end (spared_on v t.begun came (record { alone = alone; real = real })) t.does)

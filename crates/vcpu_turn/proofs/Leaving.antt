@@ -1,10 +1,10 @@
 -- Each time that the gate pauses what a turn settles first, less is left.
-use Rattle.std.proofs.Common.{◌≡◌, ◌⊎◌, ℕ, ◌<◌, ◌≤◌, suc, Bool, true, false, List, Option, None, Some, Err, refl, sym, subst, arith, inl, inr}
+use Rattle.std.proofs.Common.{◌≡◌, ◌⊎◌, ℕ, ◌<◌, ◌≤◌, Bool, true, List, Option, None, Some, Err, refl, subst, arith, inl, inr}
 use Rattle.xp_words.specs.declared.ops.Op.{Op}
 use Rattle.xp_words.specs.declared.reply.Stop.TheVariants.{Paused}
 use Rattle.xp_preempt.specs.Gates.{ends_yes}
 use Rattle.xp_board.specs.Told.{PortValue}
-use Rattle.level_release.specs.Course.{LeavesLess, Settled, is_first_done, left_settled}
+use Rattle.level_release.specs.Course.{LeavesLess, is_first_done, left_settled}
 use Rattle.level_release.proofs.Falling.{settled_leaves}
 use Rattle.vcpu_turn.specs.Cpus.{Processing, next_of}
 use Rattle.vcpu_turn.specs.Leaving.{PausedInARow, PausesFirst, again, ends_first, is_settling, none}

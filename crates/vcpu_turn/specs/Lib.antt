@@ -1,5 +1,6 @@
 pub mod Asking
 pub mod Cpus
+pub mod Leaving
 pub mod Lists
 pub mod Turning
 pub mod Unhindered

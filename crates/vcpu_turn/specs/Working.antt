@@ -14,7 +14,7 @@ use Rattle.answer_fits.specs.Answers.{Serves, Stops, misses}
 use Rattle.foreign_map.specs.Owning.{MayMapFor, FoundOwners, of_owners}
 use Rattle.foreign_map.specs.declared.owners.Owners.{Owners}
 use Rattle.level_release.specs.Asking.{IsReleaseEnd, of_settle}
-use Rattle.level_release.specs.Course.{Settled}
+use Rattle.level_release.specs.Course.{Settled, left_settled}
 use Rattle.mmu_update.specs.Elements as pairs
 use Rattle.mmu_update.specs.Fits.{Updates}
 use Rattle.mmuext_ops.specs.Course.{Performed}
@@ -32,18 +32,22 @@ abbrev pub IsWarm : PortValue → Type 0
 IsWarm v = v.holdings.cold ≡ false
 
 -- ---- what an earlier turn left unfinished
--- From v to w it was settled, or why not.
-pub record Settles (v w : PortValue) (answers : List Bool) (answer : Result (Unit {0}) Stop) : Type 0 where
+-- From v to w it was settled, or why not; the gate was asked only where less than that was left, if it is a number.
+pub record Settles (below : Option ℕ) (v w : PortValue) (answers : List Bool) (answer : Result (Unit {0}) Stop) : Type 0 where
   pub serves : (owner pages : ℕ) → Serves v w (of_settle owner pages answer) (misses v.post.machine answer)
   pub stops : (owner pages : ℕ) → IfErr answer (λ e. Stops v w (of_settle owner pages answer) e)
   pub kinds : IfErr answer IsReleaseEnd
   pub rests : Rests w
-  pub course : Settled v w answers answer
+  pub course : Settled below v w answers answer
+
+-- and how much is left then
+abbrev pub SettlesTo : Option ℕ → Option ℕ → PortValue → PortValue → List Bool → Result (Unit {0}) Stop → Type 0
+SettlesTo below left v w answers answer = (settles : Settles below v w answers answer) × (left ≡ left_settled settles.course)
 
 -- what the element before it left unfinished is settled first
 pub data SettlesFirst (P : PortValue → PortValue → List Bool → Result (Unit {0}) Stop → Type 0) (v : PortValue) : PortValue → List Bool → Result (Unit {0}) Stop → Type 0 where
-  unsettled : (w : PortValue) (answers : List Bool) (stop : Stop) → Settles v w answers (Err stop) → SettlesFirst P v w answers (Err stop)
-  performed : (u w : PortValue) (early answers : List Bool) (answer : Result (Unit {0}) Stop) → Settles v u early (Ok tt) → P u w answers answer → SettlesFirst P v w (answers ++ early) answer
+  unsettled : (w : PortValue) (answers : List Bool) (stop : Stop) → Settles None v w answers (Err stop) → SettlesFirst P v w answers (Err stop)
+  performed : (u w : PortValue) (early answers : List Bool) (answer : Result (Unit {0}) Stop) → Settles None v u early (Ok tt) → P u w answers answer → SettlesFirst P v w (answers ++ early) answer
 
 -- ---- the pairs of `mmu_update`
 abbrev pub FitsPair : Owners → Option Pair → PortValue → PortValue → List Bool → Result (Unit {0}) Stop → Type 0

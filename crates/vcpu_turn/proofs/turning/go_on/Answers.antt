@@ -1,4 +1,4 @@
-use Rattle.std.proofs.Common.{refl, sym, ◌∙◌, ◌≤◌, subst}
+use Rattle.std.proofs.Common.{refl, sym, ◌≤◌, subst}
 use Rattle.vcpu_turn.specs.Cpus.{elements_of}
 use Rattle.vcpu_turn.proofs.Operations.{works_most}
 use Rattle.vcpu_turn.proofs.NextOps.{goes_nowhere, goes_on, no_op_found, op_found}
