@@ -1,6 +1,5 @@
 -- What licenses an answer of calls of every kind.
 use Rattle.std.proofs.Common.{◌≡◌, ℕ, ◌<◌, ◌≤◌, ◌+◌, ◌/◌, ◌==◌, ◌||◌, not, Bool, true, false, length, Option, Some, None, IsTrue, refl, sym, ◌∙◌, subst, inl, inr, arith}
-use Rattle.xp_words.specs.Entries.{frame_of}
 use Rattle.xp_words.specs.Machine.{Machine}
 use Rattle.xp_words.specs.RefWords.{ref_read}
 use Rattle.xp_words.specs.declared.kind.PageType.{PageType}
@@ -17,8 +16,8 @@ use Rattle.board_lemmas.proofs.PlaceTests.{equal_by}
 use Rattle.board_lemmas.proofs.Sums.{when_eq}
 use Rattle.answer_fits.specs.Asked.{Asked, IsAsked, IsFor, Request, back, context, demanded, doomed, entered, named, of, of_block, of_destroy, of_grant, of_old, of_return, walked}
 use Rattle.answer_fits.specs.Finding.{Finding, FoundAt}
-use Rattle.answer_fits.specs.Licences.{HasTakenAll, IsReached, Licensed, below, is_allocated, is_unmapped, over_itself, to_grant, top}
-use Rattle.answer_fits.specs.Pauses.{LeftAs, PausesFor, vcpu}
+use Rattle.answer_fits.specs.Licences.{HasTakenAll, IsReached, below, is_allocated, over_itself, to_grant, top}
+use Rattle.answer_fits.specs.Pauses.{LeftAs, vcpu}
 use Rattle.answer_fits.specs.Reasons.{AwaitsStamp, FoundFreeBy, Whose, begun, free, goes_on, marked, other}
 use Rattle.answer_laws.specs.Walked.{SeenBelow}
 use Rattle.answer_laws.proofs.Meeting.{none_some}

@@ -1,13 +1,11 @@
 -- Calls that only look at life words and privileges: what the list of their visits shows.
-use Rattle.std.proofs.Common.{◌≡◌, ◌⊎◌, ℕ, ◌≤◌, Bool, true, false, List, [], ◌∷◌, ◌++◌, length, Option, None, IsTrue, refl, sym, ap, ◌∙◌, subst, inl, inr, arith}
+use Rattle.std.proofs.Common.{◌≡◌, ◌⊎◌, ℕ, ◌≤◌, Bool, true, false, List, [], ◌∷◌, ◌++◌, length, None, IsTrue, refl, sym, ap, ◌∙◌, subst, inl, inr, arith}
 use Rattle.xp_words.specs.Machine.{Machine}
 use Rattle.xp_words.specs.declared.place.Place.{Place}
 use Rattle.xp_words.specs.declared.place.Place.TheVariants.{Life, Priv}
 use Rattle.xp_words.specs.Places.{sizes_of}
 use Rattle.xp_board.specs.declared.step.Act.{Act}
 use Rattle.xp_board.specs.declared.step.Act.TheVariants.{Load}
-use Rattle.xp_board.specs.declared.step.Mark.{Mark}
-use Rattle.xp_board.specs.declared.step.StepKind.{StepKind}
 use Rattle.xp_board.specs.declared.holdings.Holdings.{Holdings}
 use Rattle.xp_board.specs.Acts.{left_by}
 use Rattle.xp_board.specs.Lists.{EachOf}
@@ -18,7 +16,7 @@ use Rattle.step_maker.specs.Plain.{Leaves}
 use Rattle.step_maker.proofs.Coming.{came_self, moves_came, ran_post}
 use Rattle.step_maker.proofs.Noting.{moves_keeps, moves_since, moves_steps}
 use Rattle.step_maker.proofs.Telling.{load_tells, ran_telling, told_there}
-use Rattle.answer_fits.specs.Answers.{Serves, deeds, deeds_by, marked_by}
+use Rattle.answer_fits.specs.Answers.{Serves, deeds}
 use Rattle.answer_fits.specs.Asked.{Request}
 use Rattle.answer_fits.specs.Finding.{Finding, FoundAt}
 use Rattle.answer_fits.specs.Reasons.{HasReason}

@@ -1,5 +1,5 @@
 -- What the steps on the old words find, and what they leave in hand.
-use Rattle.std.proofs.Common.{◌≡◌, ℕ, ◌+◌, ◌≤◌, if◌then◌else◌, add-one, ◌∷◌, Some, None, IsTrue, refl, sym, ap, ◌∙◌, subst, arith}
+use Rattle.std.proofs.Common.{◌≡◌, ℕ, ◌+◌, ◌≤◌, if◌then◌else◌, add-one, Some, None, IsTrue, refl, sym, ap, ◌∙◌, subst, arith}
 use Rattle.std.proofs.lemmas.Bool.Decides.{nat_tests}
 use Rattle.xp_words.specs.Machine.{Machine}
 use Rattle.xp_words.specs.declared.place.Place.TheVariants.{Vcpu}
@@ -12,7 +12,7 @@ use Rattle.xp_board.specs.declared.step.StepKind.TheVariants as kinds
 use Rattle.xp_board.specs.Acts.{left_by}
 use Rattle.xp_board.specs.After.{learned, learned_own}
 use Rattle.xp_board.specs.ContextSteps.{named_in, named_out}
-use Rattle.xp_board.specs.Hands.{brought_typed, without_typed}
+use Rattle.xp_board.specs.Hands.{without_typed}
 use Rattle.xp_board.specs.Readings.{is_context}
 use Rattle.xp_board.specs.Spelling.{IsSpelling, is_vcpu_word}
 use Rattle.xp_board.specs.Told.{Finds, PortValue}

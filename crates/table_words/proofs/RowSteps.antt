@@ -2,7 +2,7 @@
 use Rattle.std.proofs.Common.{◌≡◌, ℕ, ◌+◌, ◌<◌, ◌≤◌, length, Some, None, IsTrue, refl, sym, subst, arith, lit<, inl, inr}
 use Rattle.std.proofs.lemmas.Bool.Decides.{nat_tests}
 use Rattle.xp_words.specs.Machine.{Machine}
-use Rattle.xp_words.specs.declared.place.Place.TheVariants.{Clock, Kind, Vcpu}
+use Rattle.xp_words.specs.declared.place.Place.TheVariants.{Clock, Vcpu}
 use Rattle.xp_words.specs.Places.{Sizes, is_place, sizes_of}
 use Rattle.xp_board.specs.declared.step.Act.TheVariants.{Load, Store}
 use Rattle.xp_board.specs.declared.step.Mark.TheVariants.{Record, Shed}
@@ -14,7 +14,6 @@ use Rattle.xp_board.specs.Readings.{is_context}
 use Rattle.xp_board.specs.Spelling.{IsSpelling, is_vcpu_word}
 use Rattle.xp_board.specs.Told.{PortValue}
 use Rattle.board_lemmas.proofs.Numbers.{vcpu_there}
-use Rattle.kind_words.proofs.RowSteps.{kind_there}
 use Rattle.step_maker.specs.Holds.{MayWork}
 use Rattle.step_maker.specs.Moves.{May}
 use Rattle.table_words.specs.Entries.{RecordsNext, ShedsLast}

@@ -1,5 +1,5 @@
 -- What a guest sees of these steps: pins; and nothing of entries and of the old words.
-use Rattle.std.proofs.Common.{◌≡◌, ℕ, true, false, [], ◌∷◌, None, IsTrue, refl, ap, ◌∙◌, subst, inl, arith}
+use Rattle.std.proofs.Common.{◌≡◌, ℕ, [], None, IsTrue, refl, ap, ◌∙◌, subst, inl, arith}
 use Rattle.xp_words.specs.KindWords.{is_kind, kind_fields, kind_write}
 use Rattle.xp_words.specs.declared.kind.KindWord.{KindWord}
 use Rattle.xp_words.specs.declared.place.Place.TheVariants.{Kind}
@@ -9,12 +9,11 @@ use Rattle.xp_board.specs.declared.step.StepKind.TheVariants as kinds
 use Rattle.xp_board.specs.Told.{PortValue}
 use Rattle.board_lemmas.proofs.Sums.{when_found}
 use Rattle.step_maker.specs.Moves.{Moves}
-use Rattle.answer_fits.specs.Answers.{Pins, Serves, Unpins, deeds_by, exchanged, missed_at, pin_deed}
+use Rattle.answer_fits.specs.Answers.{Serves, deeds_by, exchanged, missed_at, pin_deed}
 use Rattle.answer_fits.specs.Asked.{Request}
 use Rattle.answer_fits.proofs.Piecing.{moves_serves}
 use Rattle.kind_words.proofs.KindWriting.{fields_write}
 use Rattle.table_words.specs.OldWords.{old_number, old_place}
-use Rattle.table_words.specs.Pins.{pinned_kind, unpinned_kind}
 use Rattle.table_words.specs.declared.old_words.OldWord.{OldWord}
 use Rattle.table_words.specs.declared.old_words.OldWord.TheVariants.{First, Second}
 

@@ -1,5 +1,5 @@
 -- A walk from one level to the next, and to its end.
-use Rattle.std.proofs.Common.{◌≡◌, ◌≢◌, ℕ, suc, zero, ◌+◌, ◌*◌, ◌-◌, ◌^◌, ◌<◌, ◌≤◌, ◌==◌, ◌&&◌, ◌||◌, ◌⊎◌, not, nat_lt, if◌then◌else◌, is_some, Bool, true, false, Option, Some, None, Result, Ok, Err, IsTrue, refl, sym, ap, ◌∙◌, subst, inl, inr, arith}
+use Rattle.std.proofs.Common.{◌≡◌, ◌≢◌, ℕ, suc, zero, ◌+◌, ◌*◌, ◌-◌, ◌^◌, ◌<◌, ◌≤◌, ◌==◌, ◌&&◌, ◌||◌, ◌⊎◌, not, nat_lt, if◌then◌else◌, is_some, Bool, true, false, Option, Some, None, Result, Ok, Err, refl, sym, ap, ◌∙◌, subst, inl, inr, arith}
 use Rattle.std.proofs.lemmas.Bool.Decides.{nat_tests}
 use Rattle.xp_words.specs.Entries.{is_bit, is_slot, frame_of}
 use Rattle.xp_words.specs.Machine.{Machine}
@@ -8,13 +8,13 @@ use Rattle.xp_words.specs.declared.reply.Refusal.{Refusal}
 use Rattle.xp_words.specs.declared.reply.Refusal.TheVariants.{Slot}
 use Rattle.xp_words.specs.declared.reply.Stop.{Stop}
 use Rattle.xp_board.specs.declared.step.Item.{Item}
-use Rattle.xp_board.specs.FillSteps.{cached_with, is_walked, with_bit}
+use Rattle.xp_board.specs.FillSteps.{cached_with, with_bit}
 use Rattle.xp_board.specs.Told.{Post, PortValue}
 use Rattle.board_lemmas.proofs.Bits.{with_bit-other}
 use Rattle.answer_fits.specs.Licences.{is_unmapped}
 use Rattle.own_cache.specs.declared.flight.Flight.{Flight}
 use Rattle.own_cache.specs.Translating.{Translating, item_in, landed, touched_in, translating, walk_below, with_entry}
-use Rattle.tlb_walks.specs.Addresses.{index_of, is_canonical, page_of, slot_refusal, walk_refusal}
+use Rattle.tlb_walks.specs.Addresses.{index_of, page_of, slot_refusal}
 use Rattle.tlb_walks.specs.Flying.{EndedIn, EntryMoves, IsAt, PassedBy, PassedTo, PathMoves, Turned, ends, goes, next_flight, page_above}
 use Rattle.tlb_walks.specs.Translating.{item_by}
 use Rattle.tlb_walks.specs.Walks.{EndsAt, barrier_with, with_needed}

@@ -4,7 +4,6 @@ use Rattle.std.proofs.lemmas.Bool.Decides.{nat_tests}
 use Rattle.xp_words.specs.Places.{asked_of, flushed_of, sizes_of}
 use Rattle.xp_words.specs.declared.place.Place.TheVariants.{Clock}
 use Rattle.xp_words.specs.declared.reply.Refusal.{Refusal}
-use Rattle.xp_words.specs.declared.reply.Refusal.TheVariants as refusals
 use Rattle.xp_words.specs.declared.reply.Stop.TheVariants.{Refused}
 use Rattle.xp_board.specs.AckSteps.{after_ack}
 use Rattle.xp_board.specs.declared.holdings.Holdings.{Holdings}
@@ -12,19 +11,18 @@ use Rattle.xp_board.specs.declared.step.Act.TheVariants.{Load}
 use Rattle.xp_board.specs.declared.step.Mark.TheVariants.{Forget, Turn}
 use Rattle.xp_board.specs.declared.step.StepKind.TheVariants as kinds
 use Rattle.xp_board.specs.Lists.{kept_of}
-use Rattle.xp_board.specs.Readings.{last_clock}
-use Rattle.xp_board.specs.Told.{Post, PortValue}
-use Rattle.step_maker.specs.Holds.{FlushedSame, Holds, Same, quiet, still}
-use Rattle.step_maker.specs.Moves.{Came, Met, May, Moves}
-use Rattle.step_maker.proofs.Coming.{came_post, came_self, came_trans, moves_came}
+use Rattle.xp_board.specs.Told.{PortValue}
+use Rattle.step_maker.specs.Holds.{FlushedSame, Holds, Same, still}
+use Rattle.step_maker.specs.Moves.{Came, May, Moves}
+use Rattle.step_maker.proofs.Coming.{came_self, came_trans, moves_came}
 use Rattle.answer_fits.specs.Answers.{BeginsTurn, Forgets, Serves, Stops, only_if}
 use Rattle.answer_fits.specs.Asked.{Request}
-use Rattle.answer_fits.specs.Reasons.{MayFlush, needed, own}
-use Rattle.answer_fits.specs.Visits.{Does, Then, Where}
+use Rattle.answer_fits.specs.Reasons.{needed, own}
+use Rattle.answer_fits.specs.Visits.{Does, Where}
 use Rattle.answer_fits.proofs.Piecing.{moves_serves, serves_nothing, serves_step}
-use Rattle.answer_fits.proofs.Visiting.{does_as, does_nothing, does_one, does_then}
-use Rattle.flush_words.specs.Flushing.{FlushedBy, FlushesOwn, spent}
-use Rattle.flush_words.proofs.Flushed.{own_came, own_does, own_flushed}
+use Rattle.answer_fits.proofs.Visiting.{does_as, does_nothing, does_one}
+use Rattle.flush_words.specs.Flushing.{FlushesOwn}
+use Rattle.flush_words.proofs.Flushed.{own_came, own_flushed}
 use Rattle.flush_words.proofs.RowSteps.{clock_there}
 use Rattle.flush_words.proofs.FlushServes.{asked_flush, own_serves, own_stops}
 use Rattle.flush_words.proofs.OwnFlush.{less_is}

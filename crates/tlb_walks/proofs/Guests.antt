@@ -1,5 +1,5 @@
 -- Translations that serve an access: the cached one, and the one that a walk brings.
-use Rattle.std.proofs.Common.{◌≡◌, ℕ, ◌<◌, ◌^◌, ◌==◌, ◌&&◌, ◌||◌, not, is_some, if◌then◌else◌, Bool, true, false, List, [], ◌∷◌, Option, Some, None, Ok, IsTrue, refl, sym, ap, ◌∙◌, subst, arith}
+use Rattle.std.proofs.Common.{◌≡◌, ℕ, ◌==◌, ◌&&◌, ◌||◌, not, is_some, if◌then◌else◌, Bool, true, false, List, [], ◌∷◌, Option, Some, None, Ok, IsTrue, refl, sym, ap, ◌∙◌, subst}
 use Rattle.xp_words.specs.Entries.{frame_of}
 use Rattle.xp_words.specs.declared.place.Place.TheVariants.{Cell}
 use Rattle.xp_board.specs.declared.step.Act.{Act}
@@ -9,8 +9,7 @@ use Rattle.xp_board.specs.declared.step.Item.{Item}
 use Rattle.xp_board.specs.FillSteps.{cached_with}
 use Rattle.xp_board.specs.GuestSteps.{MayRead, MayStore}
 use Rattle.xp_board.specs.Lists.{first_of, some_of}
-use Rattle.xp_board.specs.Told.{PortValue, Post, cached_item, is_item}
-use Rattle.xp_words.specs.Machine.{IsMachine}
+use Rattle.xp_board.specs.Told.{PortValue, cached_item, is_item}
 use Rattle.board_lemmas.proofs.Sums.{when_eq}
 use Rattle.own_cache.specs.Translating.{Translating}
 use Rattle.tlb_walks.specs.Accesses.{may_serve, server, serving}
@@ -18,7 +17,7 @@ use Rattle.tlb_walks.specs.Addresses.{page_of}
 use Rattle.tlb_walks.specs.Flying.{EndedIn, WalkReady}
 use Rattle.tlb_walks.specs.Translating.{item_by}
 use Rattle.tlb_walks.specs.declared.walks.Walked.{Walked}
-use Rattle.tlb_walks.proofs.Turning.{turned_is, turned_landed, turned_post, turned_ready}
+use Rattle.tlb_walks.proofs.Turning.{turned_is, turned_landed, turned_ready}
 
 -- ---- the cached one
 head_passes : (P : Item → Bool) (y : Item) (ys : List Item) → P y ≡ true → some_of P (y ∷ ys) ≡ true

@@ -2,4 +2,3 @@ pub mod Asking
 mod Gathering
 pub mod Scripts
 pub mod Turning
-pub mod Turns

@@ -11,11 +11,12 @@ use Rattle.level_release.specs.Asking.{IsReleaseEnd}
 use Rattle.mmuext_ops.specs.Elements.{KnowsAwaited, awaited_by, ext_element}
 use Rattle.mmuext_ops.specs.declared.element.Element.{Element}
 use Rattle.mmuext_ops.specs.declared.element.Element.TheVariants as elements
-use Rattle.vcpu_turn.specs.Cpus.{OfExt, OfPairs, OfRead, OfWrite, Task, awaited_at, awaited_in, awaited_left}
-use Rattle.vcpu_turn.specs.Lists.{Answering, WorksOn, all_done, last_done, due, stopped, is_due_answer}
-use Rattle.vcpu_turn.specs.Working as working
-use Rattle.vcpu_turn.specs.Working.{ExtFits, FitsExt, Performs, SettlesFirst, WentOn, Works, WorksThrough, awaited_for, valued}
-use Rattle.vcpu_turn.specs.declared.cpu.Progress.{Progress}
+use Rattle.vcpu_turn.specs.Cpus.{OfExt, Task, awaited_at, awaited_in, awaited_left}
+use Rattle.vcpu_turn.specs.Lists.{Answering, WorksOn, all_done, last_done, due, stopped, is_due_answer, WorksThrough}
+use Rattle.vcpu_turn.specs.Settling as settling
+use Rattle.vcpu_turn.specs.Ext.{ExtFits, FitsExt, Performs, awaited_for}
+use Rattle.vcpu_turn.specs.Settling.{SettlesFirst}
+use Rattle.vcpu_turn.specs.Working.{valued}
 
 -- ---- the first element of a turn alone goes on
 pub knows_for : (v : PortValue) (from : ℕ) (awaited : Option ℕ) (k : ℕ) (waits : Option ℕ) → waits ≡ awaited_for from awaited k → KnowsAwaited v awaited → KnowsAwaited v waits
@@ -56,8 +57,8 @@ knows_none w o is = subst (KnowsAwaited w) (sym is) tt
 
 -- ---- elements
 settles_awaits : (d : ℕ) (e : Element) (awaited : Option ℕ) (v w : PortValue) (answers : List Bool) (answer : Result (Unit {0}) Stop) → SettlesFirst (Performs d e awaited) v w answers answer → KnowsAwaited w (awaited_by e answer)
-settles_awaits d e awaited v _ _ _ (working.SettlesFirst.unsettled w answers stop s) = knows_none w (awaited_by e (Err stop)) (release_waits_for_none e stop s.kinds)
-settles_awaits d e awaited v _ _ _ (working.SettlesFirst.performed u w early answers answer s p) = p.awaits
+settles_awaits d e awaited v _ _ _ (settling.SettlesFirst.unsettled w answers stop s) = knows_none w (awaited_by e (Err stop)) (release_waits_for_none e stop s.kinds)
+settles_awaits d e awaited v _ _ _ (settling.SettlesFirst.performed u w early answers answer s p) = p.awaits
 
 fits_awaits : (d : ℕ) (awaited : Option ℕ) (x : Option ExtOp) (v w : PortValue) (answers : List Bool) (p : Pause) → FitsExt d awaited x v w answers (Err (Paused p)) → KnowsAwaited w (awaited_at x p)
 fits_awaits d awaited None v w answers p fit = absurd fit
@@ -91,20 +92,17 @@ pauses_too p (Err e) answer valued_is is =
     let same : e ≡ Paused p = cc in
     ap (λ (x : Stop). Err x) same
 
-operation_awaits : (d : ℕ) (o : Option Task) (awaited : Option ℕ) (v : PortValue) (from to : ℕ) (w : PortValue) (answers : List Bool) (answer : Result ℕ Stop) (p : Pause) → answer ≡ Err (Paused p) →
-    Works d o awaited v from to w answers answer → KnowsAwaited w (awaited_in o to p)
-operation_awaits d None awaited v from to w answers answer p is works = tt
-operation_awaits d (Some (OfPairs foreign list)) awaited v from to w answers answer p is works = tt
-operation_awaits d (Some (OfExt list)) awaited v from to w answers answer p is works =
-    through_awaits d list from awaited (length list) v p to w answers works.ended (pauses_too p works.ended answer works.answer_is is) works.works
-operation_awaits d (Some (OfRead user va)) awaited v from to w answers answer p is works = tt
-operation_awaits d (Some (OfWrite user va val)) awaited v from to w answers answer p is works = tt
+-- what is answered waits no more
+pub knows_left : (o : Option Task) (w : PortValue) (to : ℕ) (answer : Result ℕ Stop) → ((p : Pause) → answer ≡ Err (Paused p) → KnowsAwaited w (awaited_in o to p)) → KnowsAwaited w (awaited_left o to answer)
+knows_left o w to (Ok value) knows = tt
+knows_left o w to (Err (Refused r)) knows = tt
+knows_left o w to (Err (Paused p)) knows = knows p refl
 
-left_awaits : (d : ℕ) (o : Option Task) (awaited : Option ℕ) (v : PortValue) (from to : ℕ) (w : PortValue) (answers : List Bool) (answer : Result ℕ Stop) → Works d o awaited v from to w answers answer → KnowsAwaited w (awaited_left o to answer)
-left_awaits d o awaited v from to w answers (Ok value) works = tt
-left_awaits d o awaited v from to w answers (Err (Refused r)) works = tt
-left_awaits d o awaited v from to w answers (Err (Paused p)) works = operation_awaits d o awaited v from to w answers (Err (Paused p)) p refl works
+pub ext_awaits : (d : ℕ) (list : List ExtOp) (from : ℕ) (awaited : Option ℕ) (v : PortValue) (to : ℕ) (w : PortValue) (answers : List Bool) (ended : Result (Unit {0}) Stop) (answer : Result ℕ Stop) → answer ≡ valued ended →
+    WorksThrough (ExtFits d list from awaited) (length list) v from to w answers ended → KnowsAwaited w (awaited_left (Some (OfExt list)) to answer)
+ext_awaits d list from awaited v to w answers ended answer valued_is works =
+    knows_left (Some (OfExt list)) w to answer (λ p is. through_awaits d list from awaited (length list) v p to w answers ended (pauses_too p ended answer valued_is is) works)
 
--- what is kept of it
-pub went_awaits : (d : ℕ) (o : Option Task) (v : PortValue) (from to : Progress) (w : PortValue) (answers : List Bool) (answer : Result ℕ Stop) → WentOn d o v from to w answers answer → KnowsAwaited w to.awaited
-went_awaits d o v from to w answers answer on = subst (KnowsAwaited w) (sym on.waits) (left_awaits d o from.awaited v from.done to.done w answers answer on.works)
+-- by what stands next
+pub built_awaits : (o : Option Task) (task : Task) → o ≡ Some task → (w : PortValue) (to : ℕ) (answer : Result ℕ Stop) → KnowsAwaited w (awaited_left (Some task) to answer) → KnowsAwaited w (awaited_left o to answer)
+built_awaits o task is w to answer knows = subst (λ (p : Option Task). KnowsAwaited w (awaited_left p to answer)) (sym is) knows

@@ -8,11 +8,10 @@ use Rattle.step_maker.specs.Holds.{Rests}
 use Rattle.step_maker.specs.Moves.{Came}
 use Rattle.step_maker.proofs.Coming.{came_trans, moves_came}
 use Rattle.mmuext_ops.specs.Elements.{KnowsAwaited}
-use Rattle.vcpu_turn.specs.Cpus.{Processing, after_turn, end_of, next_of, task_of}
+use Rattle.vcpu_turn.specs.Cpus.{Processing, after_turn, end_of, next_of}
 use Rattle.vcpu_turn.specs.Turning.{EndsTurn, Idles, IsOf, MakesStop, NextWentOn}
-use Rattle.vcpu_turn.specs.Working.{IsWarm}
+use Rattle.vcpu_turn.specs.Settling.{IsWarm}
 use Rattle.vcpu_turn.specs.declared.cpu.Progress.{Progress}
-use Rattle.vcpu_turn.proofs.Awaiting.{went_awaits}
 use Rattle.vcpu_turn.proofs.NextOps.{worked_none, worked_some}
 use Rattle.vcpu_turn.proofs.Staying.{knows_on}
 
@@ -68,13 +67,13 @@ module _ (v w : PortValue) (c c1 c2 : Processing) (of : IsOf v c) (post : w.post
       (stop.cpu ∙ ap (λ (x : Processing). record x { retired = true }) h.1) idles
 
   pub of_gone_on : (a b : PortValue) (answers : List Bool) (answer : Result ℕ Stop) → NextWentOn (next_of c) c c1 a b answers (Some answer) → c2 ≡ after_turn c1 c1.at (end_of c1.at.done answer) →
-      EndsTurn (end_of c1.at.done answer) b w → Rests w → IsWarm w → IsOf w c2
-  of_gone_on a b answers answer worked cpu ends rests warm =
+      KnowsAwaited b c1.at.awaited → EndsTurn (end_of c1.at.done answer) b w → Rests w → IsWarm w → IsOf w c2
+  of_gone_on a b answers answer worked cpu awaits ends rests warm =
       let h = worked_some (next_of c) c c1 a b answers answer worked in
       of_now (ap (λ (x : Processing). x.vcpu) cpu ∙ after_vcpu c1 c1.at answer ∙ ap (λ (x : Processing). x.vcpu) h.worked.cpu)
       (ap (λ (x : Processing). x.domain) cpu ∙ after_domain c1 c1.at answer ∙ ap (λ (x : Processing). x.domain) h.worked.cpu) (rests_idles w rests warm)
       (subst (λ (x : Processing). KnowsAwaited w x.at.awaited) (sym cpu)
-      (ended_knows c1 c1.at answer b w ends (went_awaits c.domain (task_of h.op) a c.at c1.at b answers answer h.worked.went)))
+      (ended_knows c1 c1.at answer b w ends awaits))
       (λ on. runs_on w rests)
 
 -- stopped between its turns

@@ -10,8 +10,8 @@ use Rattle.level_release.specs.Asking as releases
 use Rattle.level_release.specs.Asking.{is_due_stop}
 use Rattle.level_release.specs.Course.{SettlesBy, WithGate}
 use Rattle.vcpu_turn.specs.Lists.{Answering, is_due_answer}
-use Rattle.vcpu_turn.specs.Working as working
-use Rattle.vcpu_turn.specs.Working.{SettlesFirst, SettlesTo}
+use Rattle.vcpu_turn.specs.Settling as settling
+use Rattle.vcpu_turn.specs.Settling.{SettlesFirst, SettlesTo}
 use Rattle.vcpu_turn.proofs.Gating.{answers_behind, is_err}
 
 -- ---- what is due is so for all of them
@@ -42,7 +42,7 @@ module _ (P : PortValue → PortValue → List Bool → Result (Unit {0}) Stop �
       Answering (λ answers. SettlesFirst P v u answers answer) says before after yes_before yes_after (is_due_answer answer)
   behind_unsettled stop answer is settles =
       subst (λ (a : Result (Unit {0}) Stop). Answering (λ answers. SettlesFirst P v u answers a) says before after yes_before yes_after (is_due_answer a)) (sym (is_err answer stop is))
-      (record { answers = settles.answers; goes = working.SettlesFirst.unsettled u settles.answers stop settles.goes.0; gate = settles.gate; due_is = settles.due_is })
+      (record { answers = settles.answers; goes = settling.SettlesFirst.unsettled u settles.answers stop settles.goes.0; gate = settles.gate; due_is = settles.due_is })
 
   pub behind_performed : (now : ℕ → Bool) (last yes_last : ℕ) (w : PortValue) (answer : Result (Unit {0}) Stop) → ((n : ℕ) → now n ≡ says n) →
       Answering (λ answers. SettlesTo None left v u answers (Ok tt)) says before after yes_before yes_after false →
@@ -50,7 +50,7 @@ module _ (P : PortValue → PortValue → List Bool → Result (Unit {0}) Stop �
       Answering (λ answers. SettlesFirst P v w answers answer) says before last yes_before yes_last (is_due_answer answer)
   behind_performed now last yes_last w answer same settles performs =
       answers_behind says now before after last yes_before yes_after yes_last settles.answers same settles.gate (is_due_answer answer) (λ answers. P u w answers answer) (λ answers. SettlesFirst P v w answers answer) performs
-      (λ answers goes. working.SettlesFirst.performed u w settles.answers answers answer settles.goes.0 goes)
+      (λ answers goes. settling.SettlesFirst.performed u w settles.answers answers answer settles.goes.0 goes)
 
 -- the element of that number
 pub of_number : {A : Type 0} (Fits : Option A → PortValue → PortValue → List Bool → Result (Unit {0}) Stop → Type 0) (list : List A) (k : ℕ) (otherwise : A) → k < length list →

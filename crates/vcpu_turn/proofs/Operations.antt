@@ -10,9 +10,10 @@ use Rattle.xp_words.specs.declared.reply.Stop.TheVariants.{Refused, Paused}
 use Rattle.xp_board.specs.Told.{PortValue}
 use Rattle.foreign_map.specs.declared.owners.Owners.{Owners}
 use Rattle.tlb_walks.specs.Asking.{IsGuestReadStop, IsGuestWriteStop}
-use Rattle.vcpu_turn.specs.Lists.{Answering, Fitting, WorksOn, is_due_answer}
-use Rattle.vcpu_turn.specs.Cpus.{Task, OfExt, OfPairs, OfRead, OfWrite, elements_in}
-use Rattle.vcpu_turn.specs.Working.{ExtFits, FindsOwners, PairFits, Valued, Works, WorksOwned, WorksThrough, done_by, long, none, unowned, owned, valued}
+use Rattle.vcpu_turn.specs.Lists.{Answering, Fitting, WorksOn, is_due_answer, WorksThrough}
+use Rattle.vcpu_turn.specs.Cpus.{Task, elements_in, size_of}
+use Rattle.vcpu_turn.specs.Pairs.{FindsOwners, PairFits, WorksOwned, long, none, unowned, owned}
+use Rattle.vcpu_turn.specs.Working.{Valued, Works, valued}
 use Rattle.vcpu_turn.proofs.Gating.{answers_as, answers_nothing}
 use Rattle.vcpu_turn.proofs.Listing.{works_within}
 
@@ -53,19 +54,6 @@ module _ (d foreign : ℕ) (list : List Pair) (from : ℕ) (v : PortValue) (says
     owned_on u o finds before after yes_before yes_after to w answer works =
         answers_as (λ answers. WorksOn (PairFits o list) (length list) from u to w answers answer) (λ answers. WorksOwned d foreign list v from to w answers answer) says before after yes_before yes_after (is_due_answer answer)
         (λ answers on. owned to u w o answers answer some most finds on) works
-
-owned_most : (d foreign : ℕ) (list : List Pair) (from : ℕ) (v : PortValue) → from ≤ length list → (to : ℕ) (w : PortValue) (answers : List Bool) (answer : Result (Unit {0}) Stop) → WorksOwned d foreign list v from to w answers answer →
-    to ≤ length list
-owned_most d foreign list from v within _ _ _ _ (long to w answers answer above whole) = let nothing = whole.none in omega (arith, nothing)
-owned_most d foreign list from v within _ _ _ _ (none empty) = within
-owned_most d foreign list from v within _ _ _ _ (unowned w x some most finds) = within
-owned_most d foreign list from v within _ _ _ _ (owned to u w o answers answer some most finds on) = works_within (PairFits o list) (length list) from u within to w answers answer on
-
-through_most : (fits : Fitting) (count from : ℕ) (v : PortValue) (to : ℕ) (w : PortValue) (answers : List Bool) (answer : Result (Unit {0}) Stop) → from ≤ count → WorksThrough fits count v from to w answers answer → to ≤ count
-through_most fits count from v to w answers answer within works = elim works [
-  | inl (above, whole) ↦ (let nothing = whole.none in omega (arith, nothing))
-  | inr (most, on) ↦ works_within fits count from v within to w answers answer on
-]
 
 -- ---- operations
 pub due_valued : (ended : Result (Unit {0}) Stop) → is_due_answer (valued ended) ≡ is_due_answer ended
@@ -116,13 +104,5 @@ module _ (d from : ℕ) (awaited : Option ℕ) (v : PortValue) (o : Option Task)
       subst (λ (p : Option Task). Answering (λ answers. Works d p awaited v from to w answers answer) says before after yes_before yes_after (is_due_answer answer)) (sym is) works
 
 -- ---- no more elements are done than there are
-one_most : {A : Type 0} → (to : ℕ) (answer : Result A Stop) → to ≡ done_by answer → to ≤ 1
-one_most to (Ok a) is = omega (arith, is)
-one_most to (Err e) is = omega (arith, is)
-
-pub works_most : (d from to : ℕ) (o : Option Task) (awaited : Option ℕ) (v w : PortValue) (answers : List Bool) (answer : Result ℕ Stop) → from ≤ elements_in o → Works d o awaited v from to w answers answer → to ≤ elements_in o
-works_most d from to None awaited v w answers answer within works = let nothing = works.none in omega (arith, nothing)
-works_most d from to (Some (OfPairs foreign list)) awaited v w answers answer within works = owned_most d foreign list from v within to w answers works.ended works.works
-works_most d from to (Some (OfExt list)) awaited v w answers answer within works = through_most (ExtFits d list from awaited) (length list) from v to w answers works.ended within works.works
-works_most d from to (Some (OfRead user va)) awaited v w answers answer within works = one_most to answer works.done
-works_most d from to (Some (OfWrite user va val)) awaited v w answers answer within works = one_most to works.ended works.works.done
+pub built_within : (o : Option Task) (task : Task) → o ≡ Some task → (to : ℕ) → to ≤ size_of task → to ≤ elements_in o
+built_within o task is to most = subst (λ (p : Option Task). to ≤ elements_in p) (sym is) most

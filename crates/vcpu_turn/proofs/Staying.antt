@@ -24,7 +24,9 @@ use Rattle.mmu_update.specs.Elements.{LeavesUpdate}
 use Rattle.mmuext_ops.specs.Elements.{KnowsAwaited, LeavesElement, ServesElement}
 use Rattle.mmuext_ops.specs.declared.element.Element.{Element}
 use Rattle.mmuext_ops.specs.declared.element.Element.TheVariants as elements
-use Rattle.vcpu_turn.specs.Working.{IsWarm, SuitsExt, SuitsPairs}
+use Rattle.vcpu_turn.specs.Ext.{SuitsExt}
+use Rattle.vcpu_turn.specs.Pairs.{SuitsPairs}
+use Rattle.vcpu_turn.specs.Settling.{IsWarm}
 use Rattle.vcpu_turn.proofs.Owning.{may_map_settled, may_map_updated}
 
 pub knows_on : (v w : PortValue) (awaited : Option ℕ) → Came v w → KnowsAwaited v awaited → KnowsAwaited w awaited

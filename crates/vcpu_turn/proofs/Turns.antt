@@ -14,7 +14,7 @@ use Rattle.vcpu_turn.specs.Cpus.{Processing, after_turn, end_of, next_of, nothin
 use Rattle.vcpu_turn.specs.Lists.{Answering, is_due_answer}
 use Rattle.vcpu_turn.specs.Turning as turning
 use Rattle.vcpu_turn.specs.Turning.{Begins, DoesNext, DoesTurn, EndsTurn, IsTurn, MakesStop, TurnBy, NextWentOn, is_due}
-use Rattle.vcpu_turn.specs.Working.{SettlesTo}
+use Rattle.vcpu_turn.specs.Settling.{SettlesTo}
 use Rattle.vcpu_turn.specs.declared.cpu.Progress.{Progress}
 use Rattle.vcpu_turn.specs.declared.cpu.TurnEnd.{TurnEnd}
 use Rattle.vcpu_turn.specs.declared.cpu.TurnEnd.TheVariants as ends

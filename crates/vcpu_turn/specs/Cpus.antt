@@ -67,6 +67,11 @@ task_of (ops.Read user va) = Some (OfRead user va)
 task_of (ops.Write user va val) = Some (OfWrite user va val)
 task_of _ = None
 
+-- the operation that stands next, where there is one that is built
+abbrev pub task_next : Option Op → Option Task
+task_next (Some op) = task_of op
+task_next None = None
+
 -- as the code sees them
 abbrev pub viewed : Viewed → Task
 viewed (viewing.Pairs foreign pairs) = OfPairs foreign pairs.now

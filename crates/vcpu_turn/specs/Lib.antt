@@ -1,8 +1,8 @@
-pub mod Asking
+pub mod Accesses
 pub mod Cpus
-pub mod Leaving
+pub mod Ext
 pub mod Lists
+pub mod Pairs
+pub mod Settling
 pub mod Turning
-pub mod Unhindered
-pub mod Unpins
 pub mod Working

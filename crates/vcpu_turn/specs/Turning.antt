@@ -20,7 +20,8 @@ use Rattle.level_release.specs.Course.{left_settled}
 use Rattle.tlb_walks.specs.Dropping.{Acks}
 use Rattle.vcpu_turn.specs.Cpus.{Processing, after_turn, end_of, next_of, nothing_left, task_of}
 use Rattle.vcpu_turn.specs.Lists.{asks_between, is_due_answer}
-use Rattle.vcpu_turn.specs.Working.{IsWarm, Settles, WentOn}
+use Rattle.vcpu_turn.specs.Settling.{IsWarm, Settles}
+use Rattle.vcpu_turn.specs.Working.{WentOn}
 use Rattle.vcpu_turn.specs.declared.cpu.Progress.{Progress}
 use Rattle.vcpu_turn.specs.declared.cpu.TurnEnd.{TurnEnd}
 use Rattle.vcpu_turn.specs.declared.cpu.TurnEnd.TheVariants as ends

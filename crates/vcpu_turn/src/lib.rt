@@ -5,7 +5,6 @@ mod accesses;
 mod beginning;
 mod cpu;
 mod ext;
-pub mod laws;
 mod lists;
 mod pairs;
 mod tasks;

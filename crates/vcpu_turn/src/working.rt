@@ -3,9 +3,11 @@ ghost use Rattle.std.specs.Prelude.{ℕ, ◌≡◌, ◌≤◌, true, false, leng
 ghost use Rattle.xp_board.specs.Readings.{domain_of};
 ghost use Rattle.step_maker.specs.Holds.{Rests};
 ghost use Rattle.mmuext_ops.specs.Elements.{KnowsAwaited};
-ghost use Rattle.vcpu_turn.specs.Cpus.{elements_in, task_of};
-ghost use Rattle.vcpu_turn.specs.Lists.{Answering, is_due_answer};
-ghost use Rattle.vcpu_turn.specs.Working.{IsWarm, WentOn, Works, WorksOwned, WorksThrough, valued};
+ghost use Rattle.vcpu_turn.specs.Cpus.{awaited_left, elements_in, task_of};
+ghost use Rattle.vcpu_turn.specs.Lists.{Answering, is_due_answer, WorksThrough};
+ghost use Rattle.vcpu_turn.specs.Pairs.{WorksOwned};
+ghost use Rattle.vcpu_turn.specs.Settling.{IsWarm};
+ghost use Rattle.vcpu_turn.specs.Working.{WentOn, Works, valued};
 
 use crate::accesses::{read, write};
 use crate::cpu::Progress;
@@ -33,6 +35,7 @@ fn go_through<P: Port, L: Items>(
     requires rests { Rests (P.value port.old) }
     ensures suits { L.suits items.now (P.value port.new) }
     ensures post { (P.value port.new).post ≡ (P.value port.old).post }
+    ensures within { done.new ≤ L.count items.now }
     ensures works { Answering (λ answers. WorksThrough (L.fits items.now) (L.count items.now) (P.value port.old) done.old done.new (P.value port.new) answers result) (says gate.old) (count_asks gate.old) (count_asks gate.new) (count_yes gate.old) (count_yes gate.new) (is_due_answer result) }
     ensures rests { Rests (P.value port.new) }
     ensures says { (n : ℕ) → says gate.new n ≡ says gate.old n }
@@ -64,6 +67,7 @@ fn go_through_pairs<P: Port>(
     requires warm { IsWarm (P.value port.old) }
     ensures warm { IsWarm (P.value port.new) }
     ensures post { (P.value port.new).post ≡ (P.value port.old).post }
+    ensures within { done.new ≤ length pairs.now }
     ensures works { Answering (λ answers. WorksOwned domain foreign pairs.now (P.value port.old) done.old done.new (P.value port.new) answers result) (says gate.old) (count_asks gate.old) (count_asks gate.new) (count_yes gate.old) (count_yes gate.new) (is_due_answer result) }
     ensures rests { Rests (P.value port.new) }
     ensures says { (n : ℕ) → says gate.new n ≡ says gate.old n }
@@ -112,6 +116,8 @@ fn go_from<P: Port>(
     requires rests { Rests (P.value port.old) }
     requires warm { IsWarm (P.value port.old) }
     ensures post { (P.value port.new).post ≡ (P.value port.old).post }
+    ensures within { done.new ≤ elements_in (task_of op.now) }
+    ensures awaits { KnowsAwaited (P.value port.new) (awaited_left (task_of op.now) done.new result) }
     ensures works { Answering (λ answers. Works domain (task_of op.now) awaited (P.value port.old) done.old done.new (P.value port.new) answers result) (says gate.old) (count_asks gate.old) (count_asks gate.new) (count_yes gate.old) (count_yes gate.new) (is_due_answer result) }
     ensures rests { Rests (P.value port.new) }
     ensures warm { IsWarm (P.value port.new) }
@@ -155,6 +161,8 @@ pub(crate) fn work_on<P: Port>(
     requires rests { Rests (P.value port.old) }
     requires warm { IsWarm (P.value port.old) }
     ensures post { (P.value port.new).post ≡ (P.value port.old).post }
+    ensures within { at.new.done ≤ elements_in (task_of op.now) }
+    ensures awaits { KnowsAwaited (P.value port.new) at.new.awaited }
     ensures went { Answering (λ answers. WentOn domain (task_of op.now) (P.value port.old) at.old at.new (P.value port.new) answers result) (says gate.old) (count_asks gate.old) (count_asks gate.new) (count_yes gate.old) (count_yes gate.new) (is_due_answer result) }
     ensures rests { Rests (P.value port.new) }
     ensures warm { IsWarm (P.value port.new) }

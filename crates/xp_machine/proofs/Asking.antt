@@ -3,10 +3,12 @@ use Rattle.std.proofs.Common.{◌≡◌, ℕ, ◌+◌, ◌-◌, ◌<◌, true, s
 use Rattle.xp_words.specs.Machine.{Machine}
 use Rattle.xp_words.specs.declared.ops.Op.{Op}
 use Rattle.xp_preempt.specs.Gates.{Heard, last_ask}
-use Rattle.vcpu_runners.specs.Turns.{HearsNoWithin, Processing, asks_within, elements_tried, is_due, next_of}
+use Rattle.turn_laws.specs.Asking.{HearsNoWithin, asks_within, elements_tried}
+use Rattle.vcpu_runners.specs.Turns.{Processing, is_due, next_of}
 use Rattle.vcpu_runners.specs.Gates.{Gate}
 use Rattle.xp_machine.specs.Turns.{MakesStagedTurn, Stage, StaysWithin}
-use Rattle.vcpu_runners.proofs.Turns.{turn_heard, turn_within}
+use Rattle.turn_laws.proofs.Asking.{turn_within}
+use Rattle.turn_laws.proofs.Stopping.{turn_heard}
 
 gate_same : (o : Option (Option Gate)) (g k : Gate) → o ≡ Some (Some g) → o ≡ Some (Some k) → g ≡ k
 gate_same o g k a b = cc

@@ -1,11 +1,10 @@
 //! What holds of the turns of a run, as contracts of functions that do nothing.
-ghost use Rattle.std.specs.Prelude.{ℕ, ◌≡◌, ◌+◌, ◌-◌, ◌<◌, All, List, true, slice_get, Some};
+ghost use Rattle.std.specs.Prelude.{ℕ, ◌≡◌, ◌+◌, ◌-◌, ◌<◌, All, true, slice_get, Some};
 ghost use Rattle.xp_words.specs.Machine.{Machine};
-ghost use Rattle.xp_words.specs.declared.ops.ExtOp.{ExtOp};
 ghost use Rattle.xp_words.specs.declared.ops.Op.{Op};
-ghost use Rattle.xp_words.specs.declared.ops.Pair.{Pair};
 ghost use Rattle.xp_preempt.specs.Gates.{Heard, last_ask};
-ghost use Rattle.vcpu_runners.specs.Turns.{AsksNothingWithin, HearsNoWithin, OfExt, OfPairs, PausesOldBase, PausesRelease, PausesUnpin, Processing, ReleasesNothing, Tried, asks_within, elements_tried, is_due, next_of, task_next, task_of};
+ghost use Rattle.turn_laws.specs.Asking.{AsksNothingWithin, HearsNoWithin, asks_within, elements_tried};
+ghost use Rattle.vcpu_runners.specs.Turns.{PassesYes, Processing, ReleasesNothing, Task, Tried, is_due, next_of, task_next, task_of};
 ghost use Rattle.vcpu_runners.specs.Gates.{Gate};
 ghost use Rattle.xp_machine.specs.Turns.{MakesStagedTurn, Stage, StaysWithin};
 
@@ -19,11 +18,10 @@ pub fn a_turn_stops_for_its_own_gate()
     ensures { (n : Machine) (v : ℕ) (c : Processing) (s t : Stage) (g : Gate) (op : Op) (j : ℕ) → (m : MakesStagedTurn n v c s t) → slice_get s.gates v ≡ Some (Some g) → next_of c ≡ Some op → HearsNoWithin (elements_tried m.turn) → 0 < j → g.asks + j < last_ask → g.says (g.asks + j) ≡ true → StaysWithin v c s t (c.at.done + (j - asks_within (elements_tried m.turn))) }
 {}
 
-/// No element is done past a yes in a turn with an operation that releases nothing, nor in one whose elements ask nothing; nor with any list, unless the gate pauses the release
-/// of what the old word of an exchanged entry asked, of an unpinned frame, or of the table that a new base replaces.
+/// No element is done past a yes in a turn with an operation that releases nothing, nor in one whose elements ask nothing; nor with any operation, unless the gate pauses the release
+/// of what the old word of an exchanged entry asked, of an unpinned frame, or of the table that a new base replaces (`PassesYes`).
 pub fn no_element_is_done_past_a_yes()
     ensures lists { (n : Machine) (v : ℕ) (c : Processing) (s t : Stage) (m : MakesStagedTurn n v c s t) → ReleasesNothing (task_next (next_of c)) → HearsNoWithin (elements_tried m.turn) }
     ensures silent { (n : Machine) (v : ℕ) (c : Processing) (s t : Stage) (m : MakesStagedTurn n v c s t) → AsksNothingWithin (elements_tried m.turn) → HearsNoWithin (elements_tried m.turn) }
-    ensures updates { (n : Machine) (v : ℕ) (c : Processing) (s t : Stage) (op : Op) (foreign : ℕ) (pairs : List Pair) (m : MakesStagedTurn n v c s t) → next_of c ≡ Some op → task_of op ≡ Some (OfPairs foreign pairs) → All (λ (x : Tried). PausesRelease pairs x → ⊥) (elements_tried m.turn) → HearsNoWithin (elements_tried m.turn) }
-    ensures unpins { (n : Machine) (v : ℕ) (c : Processing) (s t : Stage) (op : Op) (list : List ExtOp) (m : MakesStagedTurn n v c s t) → next_of c ≡ Some op → task_of op ≡ Some (OfExt list) → All (λ (x : Tried). PausesUnpin list x → ⊥) (elements_tried m.turn) → All (λ (x : Tried). PausesOldBase list x → ⊥) (elements_tried m.turn) → HearsNoWithin (elements_tried m.turn) }
+    ensures passes { (n : Machine) (v : ℕ) (c : Processing) (s t : Stage) (op : Op) (task : Task) (m : MakesStagedTurn n v c s t) → next_of c ≡ Some op → task_of op ≡ Some task → All (λ (x : Tried). PassesYes task x → ⊥) (elements_tried m.turn) → HearsNoWithin (elements_tried m.turn) }
 {}

@@ -70,4 +70,4 @@ returns-in-Some-clause-turn g c =
 pub returns-in-Some-clause-of : goal.returns-in-Some-clause-of
 returns-in-Some-clause-of g c =
     let post = c.finish.ensures.post ∙ c.in-Some.ensures.post ∙ settled_post _ _ _ c.begin.ensures.begins c.settle.result c.settle.ensures.serves in
-    of_gone_on _ _ _ _ _ (of_left _ _ c.settle.new.left (of_seen _ _ _ c.cpu.view_is c.requires.of)) post _ _ _ c.in-Some.answer c.in-Some.ensures.worked.goes c.finish.ensures.cpu c.finish.ensures.ends c.finish.ensures.rests c.finish.ensures.warm
+    of_gone_on _ _ _ _ _ (of_left _ _ c.settle.new.left (of_seen _ _ _ c.cpu.view_is c.requires.of)) post _ _ _ c.in-Some.answer c.in-Some.ensures.worked.goes c.finish.ensures.cpu c.in-Some.ensures.awaits c.finish.ensures.ends c.finish.ensures.rests c.finish.ensures.warm

@@ -20,3 +20,6 @@ returns-clause-works g c =
     let most = c.if-len-gt-LONGEST.false in
     let len = c.len.ensures in
     not_long _ _ _ _ _ _ _ _ _ _ _ _ c.go_on-answer.ensures.works (omega (arith, most, len))
+
+pub returns-clause-within : goal.returns-clause-within
+returns-clause-within g c = no_more _ _ _ _ _ _ _ _ _ _ _ _ c.go_on-answer.ensures.works c.requires.within

@@ -25,3 +25,6 @@ returns-clause-works g c =
     let o = c.in-Ok.ensures in
     owned_on _ _ _ _ _ _ (above_none _ (sym c.is_empty.ensures ∙ c.if-is_empty.false)) c.if-pairs-gt-LONGEST.false _ c.in-Ok.owners (record { serves = o.serves; stops = o.stops; found = o.found }) _ _ _ _ _ _
     c.go_on-answer.result c.go_on-answer.ensures.works
+
+pub returns-clause-within : goal.returns-clause-within
+returns-clause-within g c = no_more _ _ _ _ _ _ _ _ _ _ _ _ c.go_on-answer.ensures.works c.requires.within

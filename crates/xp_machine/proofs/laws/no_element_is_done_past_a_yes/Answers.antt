@@ -1,5 +1,6 @@
-use Rattle.vcpu_runners.specs.Turns.{elements_tried}
-use Rattle.vcpu_runners.proofs.Turns.{hears_nothing, releasing_nothing_hears, unpaused_hears, unpins_hear}
+use Rattle.turn_laws.specs.Asking.{elements_tried}
+use Rattle.turn_laws.proofs.Stopping.{releasing_nothing_hears, task_hears}
+use Rattle.turn_laws.proofs.Trying.{hears_nothing}
 use Rattle.xp_machine.proofs.laws.no_element_is_done_past_a_yes.Goals as goal
 
 pub returns-clause-lists : goal.returns-clause-lists
@@ -8,8 +9,5 @@ returns-clause-lists g n v c s t m off = releasing_nothing_hears c m.after m.end
 pub returns-clause-silent : goal.returns-clause-silent
 returns-clause-silent g n v c s t m quiet = hears_nothing (elements_tried m.turn) quiet
 
-pub returns-clause-updates : goal.returns-clause-updates
-returns-clause-updates g n v c s t op foreign pairs m next built off = unpaused_hears c m.after m.end m.from m.to m.answers m.turn op foreign pairs next built off
-
-pub returns-clause-unpins : goal.returns-clause-unpins
-returns-clause-unpins g n v c s t op list m next built off kept = unpins_hear c m.after m.end m.from m.to m.answers m.turn op list next built off kept
+pub returns-clause-passes : goal.returns-clause-passes
+returns-clause-passes g n v c s t op task m next built off = task_hears c m.after m.end m.from m.to m.answers m.turn op task next built off

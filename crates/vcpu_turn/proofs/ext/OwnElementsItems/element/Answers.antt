@@ -1,4 +1,4 @@
-use Rattle.vcpu_turn.specs.Working.{FitsExt, awaited_for}
+use Rattle.vcpu_turn.specs.Ext.{FitsExt, awaited_for}
 use Rattle.vcpu_turn.proofs.Awaiting.{fits_waits, knows_for}
 use Rattle.vcpu_turn.proofs.Extending.{behind_performed, behind_unsettled, course_answers, of_number, settle_answers}
 use Rattle.vcpu_turn.proofs.Staying.{suits_ext_performed, suits_ext_settled}

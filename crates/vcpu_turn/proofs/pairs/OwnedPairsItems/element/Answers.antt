@@ -1,4 +1,4 @@
-use Rattle.vcpu_turn.specs.Working.{FitsPair}
+use Rattle.vcpu_turn.specs.Pairs.{FitsPair}
 use Rattle.vcpu_turn.proofs.Extending.{behind_performed, behind_unsettled, course_answers, of_number, settle_answers}
 use Rattle.vcpu_turn.proofs.Staying.{suits_pairs_settled, suits_pairs_updated}
 use Rattle.vcpu_turn.proofs.pairs.OwnedPairsItems.element.Goals as goal

@@ -1,0 +1,212 @@
+-- What an element of an operation does as steps of its port, and what pauses it where no other vCPU holds anything.
+use Rattle.std.proofs.Common.{◌≡◌, ℕ, ◌<◌, Bool, List, [], length, Option, Some, None, Result, Ok, Err, IfErr, refl, sym, subst, inl, inr, arith}
+use Rattle.std.specs.Prelude.{slice_get}
+use Rattle.std.proofs.lemmas.Bool.{cases_eq}
+use Rattle.xp_words.specs.Machine.{Machine}
+use Rattle.xp_words.specs.declared.ops.ExtOp.{ExtOp}
+use Rattle.xp_words.specs.declared.ops.Pair.{Pair}
+use Rattle.xp_words.specs.declared.reply.Pause.{Pause}
+use Rattle.xp_words.specs.declared.reply.Pause.TheVariants.{Due, Lost, Busy, Flush, Alive}
+use Rattle.xp_words.specs.declared.reply.Refusal.{Refusal}
+use Rattle.xp_words.specs.declared.reply.Stop.{Stop}
+use Rattle.xp_words.specs.declared.reply.Stop.TheVariants.{Refused, Paused}
+use Rattle.xp_board.specs.Told.{Post, PortValue}
+use Rattle.step_maker.specs.Moves.{Came}
+use Rattle.step_maker.proofs.Coming.{came_self, came_trans, came_post}
+use Rattle.answer_fits.specs.Answers.{Stops, missed, misses}
+use Rattle.answer_fits.specs.Asked.{Request}
+use Rattle.answer_fits.proofs.Piecing.{serves_came}
+use Rattle.answer_laws.specs.Alone.{IsAlone, IsDueOrFlush}
+use Rattle.foreign_map.specs.Owning.{of_owners}
+use Rattle.foreign_map.specs.declared.owners.Owners.{Owners}
+use Rattle.level_release.specs.Asking.{of_settle}
+use Rattle.mmu_update.specs.Elements as pairs
+use Rattle.mmu_update.specs.Fits.{Updates}
+use Rattle.mmu_update.specs.declared.element.Element as updating
+use Rattle.mmu_update.specs.declared.element.Element.TheVariants as updates
+use Rattle.mmuext_ops.specs.Bases.{may_rise, of_base, user_frame}
+use Rattle.mmuext_ops.specs.Elements as elements
+use Rattle.mmuext_ops.specs.declared.element.Element.{Element}
+use Rattle.mmuext_ops.specs.declared.element.Element.TheVariants as performs
+use Rattle.tlb_walks.specs.Accesses.{ServesWrite}
+use Rattle.tlb_walks.specs.Asking.{of_read, of_write}
+use Rattle.vcpu_turn.specs.declared.cpu.TurnEnd.TheVariants as ends
+use Rattle.vcpu_turn.specs.Lists as lists
+use Rattle.vcpu_turn.specs.Lists.{DidItems, Fitting, WorksOn, more, all_done, last_done, due, stopped}
+use Rattle.vcpu_turn.specs.Accesses.{MakesRead, MakesWrite}
+use Rattle.vcpu_turn.specs.Ext.{ExtFits, FitsExt, Performs, awaited_for}
+use Rattle.vcpu_turn.specs.Pairs.{FindsOwners, FitsPair, PairFits}
+use Rattle.vcpu_turn.specs.Settling.{SettlesFirst, Settles, unsettled, performed}
+use Rattle.vcpu_turn.specs.Working.{valued}
+use Rattle.turn_laws.specs.Unhindered.{IsUnhindered}
+
+-- ---- steps
+pub same_came : (v w : PortValue) → w ≡ v → Came v w
+same_came v w same = subst (Came v) (sym same) (came_self v)
+
+pub settles_came : {below : Option ℕ} → (v w : PortValue) (answers : List Bool) (answer : Result (Unit {0}) Stop) → Settles below v w answers answer → Came v w
+settles_came v w answers answer s = serves_came v w (of_settle 0 0 answer) (misses v.post.machine answer) (s.serves 0 0)
+
+performs_came : (d : ℕ) (e : Element) (awaited : Option ℕ) (v w : PortValue) (answers : List Bool) (answer : Result (Unit {0}) Stop) → Performs d e awaited v w answers answer → Came v w
+performs_came d e awaited v w answers answer p = serves_came v w (elements.ext_request v.post.machine v.post.vcpu d e awaited answer) p.serves.0 p.serves.2
+
+pub reads_came : (user : Bool) (va : ℕ) (v : PortValue) (to : ℕ) (w : PortValue) (answers : List Bool) (answer : Result ℕ Stop) → MakesRead user va v to w answers answer → Came v w
+reads_came user va v to w answers answer r = serves_came v w (of_read va) (misses v.post.machine answer) r.serves
+
+write_came : (user : Bool) (va val : ℕ) (v w : PortValue) (answer : Result (Unit {0}) Stop) → ServesWrite v w user va val answer → Came v w
+write_came user va val v w (Ok done) serves = serves_came v w (of_write v user va) _ serves.2
+write_came user va val v w (Err e) serves = serves_came v w (of_write v user va) (missed v.post.machine e) serves
+
+pub writes_came : (user : Bool) (va val : ℕ) (v : PortValue) (to : ℕ) (w : PortValue) (answers : List Bool) (answer : Result (Unit {0}) Stop) → MakesWrite user va val v to w answers answer → Came v w
+writes_came user va val v to w answers answer r = write_came user va val v w answer r.serves
+
+updates_came : (o : Owners) (e : updating.Element) (v w : PortValue) (answers : List Bool) (answer : Result (Unit {0}) Stop) → Updates o e v w answers answer → Came v w
+updates_came o e v w answers answer u = serves_came v w (pairs.update_request o e answer) u.serves.0 u.serves.2
+
+pub owners_came : (v w : PortValue) (d foreign : ℕ) (answer : Result Owners Refusal) → FindsOwners v w d foreign answer → Came v w
+owners_came v w d foreign answer f = serves_came v w (of_owners v.post.machine d foreign) [] f.serves
+
+-- what is done behind a settling
+module _ (P : PortValue → PortValue → List Bool → Result (Unit {0}) Stop → Type 0) (comes : (v w : PortValue) (answers : List Bool) (answer : Result (Unit {0}) Stop) → P v w answers answer → Came v w) where
+  behind_came : (v w : PortValue) (answers : List Bool) (answer : Result (Unit {0}) Stop) → SettlesFirst P v w answers answer → Came v w
+  behind_came v _ _ _ (unsettled w answers stop s) = settles_came v w answers (Err stop) s
+  behind_came v _ _ _ (performed u w early answers answer s p) = came_trans v u w (settles_came v u early (Ok tt) s) (comes u w answers answer p)
+
+pair_came : (o : Owners) (x : Option Pair) (v w : PortValue) (answers : List Bool) (answer : Result (Unit {0}) Stop) → FitsPair o x v w answers answer → Came v w
+pair_came o None v w answers answer f = absurd f
+pair_came o (Some p) v w answers answer f = behind_came (Updates o (pairs.element_of p)) (updates_came o (pairs.element_of p)) v w answers answer f
+
+ext_came : (d : ℕ) (awaited : Option ℕ) (x : Option ExtOp) (v w : PortValue) (answers : List Bool) (answer : Result (Unit {0}) Stop) → FitsExt d awaited x v w answers answer → Came v w
+ext_came d awaited None v w answers answer f = absurd f
+ext_came d awaited (Some op) v w answers answer f = behind_came (Performs d (elements.ext_element op) awaited) (performs_came d (elements.ext_element op) awaited) v w answers answer f
+
+pub pairs_came : (o : Owners) (list : List Pair) (k : ℕ) (v w : PortValue) (answers : List Bool) (answer : Result (Unit {0}) Stop) → PairFits o list k v w answers answer → Came v w
+pairs_came o list k v w answers answer f = pair_came o (slice_get list k) v w answers answer f
+
+pub exts_came : (d : ℕ) (list : List ExtOp) (from : ℕ) (awaited : Option ℕ) (k : ℕ) (v w : PortValue) (answers : List Bool) (answer : Result (Unit {0}) Stop) → ExtFits d list from awaited k v w answers answer →
+    Came v w
+exts_came d list from awaited k v w answers answer f = ext_came d (awaited_for from awaited k) (slice_get list k) v w answers answer f
+
+-- a list of items
+module _ (fits : Fitting) (comes : (k : ℕ) (v w : PortValue) (answers : List Bool) (answer : Result (Unit {0}) Stop) → fits k v w answers answer → Came v w) (count from : ℕ) (v : PortValue) where
+  did_came : (k : ℕ) (w : PortValue) (answers : List Bool) → DidItems fits count from v k w answers → Came v w
+  did_came _ _ _ lists.DidItems.none = came_self v
+  did_came _ _ _ (more k u w answers asked before f less) = came_trans v u w (did_came k u answers before) (comes k u w asked (Ok tt) f)
+
+  pub list_came : (to : ℕ) (w : PortValue) (answers : List Bool) (answer : Result (Unit {0}) Stop) → WorksOn fits count from v to w answers answer → Came v w
+  list_came _ _ _ _ (all_done same) = came_self v
+  list_came _ _ _ _ (last_done k u w answers asked before f at) = came_trans v u w (did_came k u answers before) (comes k u w asked (Ok tt) f)
+  list_came _ _ _ _ (due k u w answers asked before f less) = came_trans v u w (did_came k u answers before) (comes k u w asked (Ok tt) f)
+  list_came _ _ _ _ (stopped k u w answers asked e before f less) = came_trans v u w (did_came k u answers before) (comes k u w asked (Err e) f)
+
+-- ---- pauses
+abbrev pub AloneStays : Type 0
+AloneStays = (v w : PortValue) → IsAlone v → Came v w → IsAlone w
+
+abbrev pub NeitherLostNorBusy : Type 0
+NeitherLostNorBusy = (v w : PortValue) (r : Request) (x : Pause) → IsAlone v → r.destroys ≡ None → Stops v w r (Paused x) → IsDueOrFlush x
+
+abbrev pub NobodyWaitedFor : Type 0
+NobodyWaitedFor = (v w : PortValue) (r : Request) (u stamp x : ℕ) → length v.post.machine.vcpu_domain ≡ 1 → Stops v w r (Paused (Flush u stamp x)) → ⊥
+
+pair_destroys : (o : Owners) (e : updating.Element) (answer : Result (Unit {0}) Stop) → (pairs.update_request o e answer).destroys ≡ None
+pair_destroys o (updates.SetM2p f w) answer = refl
+pair_destroys o (updates.Write f i w keep) answer = refl
+pair_destroys o updates.Misaligned answer = refl
+pair_destroys o updates.Unknown answer = refl
+
+base_destroys : (d : ℕ) (new : Option ℕ) (rose : Bool) → (of_base d new rose).destroys ≡ None
+base_destroys d None rose = refl
+base_destroys d (Some f) rose = refl
+
+element_destroys : (n : Machine) (s d : ℕ) (e : Element) (awaited : Option ℕ) (answer : Result (Unit {0}) Stop) → (elements.ext_request n s d e awaited answer).destroys ≡ None
+element_destroys n s d (performs.Pin f level) awaited answer = refl
+element_destroys n s d (performs.Unpin f) awaited answer = refl
+element_destroys n s d (performs.NewBase f) awaited answer = refl
+element_destroys n s d (performs.NewUserBase f) awaited answer = base_destroys d (user_frame f) (may_rise answer)
+element_destroys n s d performs.FlushLocal awaited answer = refl
+element_destroys n s d (performs.Invalidate va) awaited answer = refl
+element_destroys n s d (performs.FlushVcpus mask) awaited answer = refl
+element_destroys n s d performs.Unknown awaited answer = refl
+
+-- no turn of a vCPU of the machine is paused so
+abbrev pub Spared : {A : Type 0} → PortValue → Result A Stop → Type 0
+Spared v (Err (Paused x)) = IsUnhindered v.post.machine (ends.Paused x)
+Spared v _ = Unit {0}
+
+pub refused_whole : {A : Type 0} (v : PortValue) (x : Refusal) (answer : Result A Stop) → answer ≡ Err (Refused x) → Spared v answer
+refused_whole v x answer e = rw e tt
+
+pub valued_spared : (v : PortValue) (ended : Result (Unit {0}) Stop) (answer : Result ℕ Stop) → answer ≡ valued ended → Spared v ended → Spared v answer
+valued_spared v (Ok done) answer is s = rw is tt
+valued_spared v (Err (Refused x)) answer is s = rw is tt
+valued_spared v (Err (Paused x)) answer is s = rw is s
+
+-- one that is alone, and of its machine
+pub record IsSpared (v : PortValue) : Type 0 where
+  pub alone : IsAlone v
+  pub real : v.post.vcpu < length v.post.machine.vcpu_domain
+
+module _ (stays : AloneStays) (neither : NeitherLostNorBusy) (nobody : NobodyWaitedFor) where
+  paused_for : (v w : PortValue) (r : Request) (x : Pause) → r.destroys ≡ None → IsSpared v → Stops v w r (Paused x) → IsUnhindered v.post.machine (ends.Paused x)
+  paused_for v w r Due kept s stops = tt
+  paused_for v w r (Lost place expected found) kept s stops = neither v w r (Lost place expected found) s.alone kept stops
+  paused_for v w r (Busy frame found) kept s stops = neither v w r (Busy frame found) s.alone kept stops
+  paused_for v w r (Alive vcpu found) kept s stops = neither v w r (Alive vcpu found) s.alone kept stops
+  paused_for v w r (Flush vcpu stamp found) kept s stops =
+      elim (cases_eq (length v.post.machine.vcpu_domain) 1) [
+        | inl one ↦ absurd (nobody v w r vcpu stamp found one stops)
+        | inr other ↦ (let real = s.real in omega (arith, real, other))
+      ]
+
+  -- a call that destroys nothing
+  pub call_spared : {A : Type 0} (v w : PortValue) (r : Request) (answer : Result A Stop) → r.destroys ≡ None → IsSpared v → IfErr answer (λ e. Stops v w r e) → Spared v answer
+  call_spared v w r (Ok done) kept s stops = tt
+  call_spared v w r (Err (Refused x)) kept s stops = tt
+  call_spared v w r (Err (Paused x)) kept s stops = paused_for v w r x kept s stops
+
+  -- behind steps of the own
+  pub spared_on : (v u : PortValue) → Came v u → IsSpared v → IsSpared u
+  spared_on v u came s = record { alone = stays v u s.alone came; real = subst (λ (q : Post). q.vcpu < length q.machine.vcpu_domain) (sym (came_post v u came)) s.real }
+
+  pub spared_back : (v u : PortValue) (answer : Result (Unit {0}) Stop) → Came v u → Spared u answer → Spared v answer
+  spared_back v u (Ok done) came s = tt
+  spared_back v u (Err (Refused x)) came s = tt
+  spared_back v u (Err (Paused x)) came s = subst (λ (q : Post). IsUnhindered q.machine (ends.Paused x)) (came_post v u came) s
+
+  pub settles_spared : {below : Option ℕ} → (v w : PortValue) (answers : List Bool) (answer : Result (Unit {0}) Stop) → IsSpared v → Settles below v w answers answer → Spared v answer
+  settles_spared v w answers answer s settles = call_spared v w (of_settle 0 0 answer) answer refl s (settles.stops 0 0)
+
+  updates_spared : (o : Owners) (e : updating.Element) (v w : PortValue) (answers : List Bool) (answer : Result (Unit {0}) Stop) → IsSpared v → Updates o e v w answers answer → Spared v answer
+  updates_spared o e v w answers answer s u = call_spared v w (pairs.update_request o e answer) answer (pair_destroys o e answer) s u.stops
+
+  performs_spared : (d : ℕ) (e : Element) (awaited : Option ℕ) (v w : PortValue) (answers : List Bool) (answer : Result (Unit {0}) Stop) → IsSpared v → Performs d e awaited v w answers answer → Spared v answer
+  performs_spared d e awaited v w answers answer s p =
+      let n = v.post.machine in
+      call_spared v w (elements.ext_request n v.post.vcpu d e awaited answer) answer (element_destroys n v.post.vcpu d e awaited answer) s p.stops
+
+  module _ (P : PortValue → PortValue → List Bool → Result (Unit {0}) Stop → Type 0) (spares : (v w : PortValue) (answers : List Bool) (answer : Result (Unit {0}) Stop) → IsSpared v → P v w answers answer → Spared v answer) where
+    behind_spared : (v w : PortValue) (answers : List Bool) (answer : Result (Unit {0}) Stop) → IsSpared v → SettlesFirst P v w answers answer → Spared v answer
+    behind_spared v _ _ _ s (unsettled w answers stop settles) = settles_spared v w answers (Err stop) s settles
+    behind_spared v _ _ _ s (performed u w early answers answer settles p) =
+        let came = settles_came v u early (Ok tt) settles in
+        spared_back v u answer came (spares u w answers answer (spared_on v u came s) p)
+
+  pub pair_spared : (o : Owners) (x : Option Pair) (v w : PortValue) (answers : List Bool) (answer : Result (Unit {0}) Stop) → IsSpared v → FitsPair o x v w answers answer → Spared v answer
+  pair_spared o None v w answers answer s f = absurd f
+  pair_spared o (Some p) v w answers answer s f = behind_spared (Updates o (pairs.element_of p)) (updates_spared o (pairs.element_of p)) v w answers answer s f
+
+  pub ext_spared : (d : ℕ) (awaited : Option ℕ) (x : Option ExtOp) (v w : PortValue) (answers : List Bool) (answer : Result (Unit {0}) Stop) → IsSpared v → FitsExt d awaited x v w answers answer → Spared v answer
+  ext_spared d awaited None v w answers answer s f = absurd f
+  ext_spared d awaited (Some op) v w answers answer s f =
+      behind_spared (Performs d (elements.ext_element op) awaited) (performs_spared d (elements.ext_element op) awaited) v w answers answer s f
+
+  pub list_spared : (fits : Fitting) → ((k : ℕ) (v w : PortValue) (answers : List Bool) (answer : Result (Unit {0}) Stop) → fits k v w answers answer → Came v w) →
+      ((k : ℕ) (v w : PortValue) (answers : List Bool) (answer : Result (Unit {0}) Stop) → IsSpared v → fits k v w answers answer → Spared v answer) →
+      (count from : ℕ) (v : PortValue) (to : ℕ) (w : PortValue) (answers : List Bool) (answer : Result (Unit {0}) Stop) → IsSpared v → WorksOn fits count from v to w answers answer → Spared v answer
+  list_spared fits comes spares count from v _ _ _ _ s (all_done same) = tt
+  list_spared fits comes spares count from v _ _ _ _ s (last_done k u w answers asked before f at) = tt
+  list_spared fits comes spares count from v _ _ _ _ s (due k u w answers asked before f less) = tt
+  list_spared fits comes spares count from v _ _ _ _ s (stopped k u w answers asked e before f less) =
+      let came = did_came fits comes count from v k u answers before in
+      spared_back v u (Err e) came (spares k u w asked (Err e) (spared_on v u came s) f)

@@ -1,0 +1,16 @@
+pub mod Asking
+pub mod Bringing
+pub mod Clearing
+pub mod Hearing
+pub mod Hindering
+pub mod Leaving
+pub mod Noes
+pub mod PairTurns
+pub mod Retiring
+pub mod Silent
+pub mod Sparing
+pub mod Stopping
+pub mod Trying
+pub mod TurnItems
+pub mod TurnSteps
+pub mod Yeses
