@@ -1,5 +1,5 @@
 -- What the old word asked is released as on the plain value, where the gate says no.
-use Rattle.std.proofs.Common.{◌≡◌, ℕ, ◌<◌, ◌≤◌, ◌++◌, Bool, true, false, List, [], ◌∷◌, Result, Ok, Err, IfErr, refl, sym, ap, subst, arith}
+use Rattle.std.proofs.Common.{◌≡◌, ℕ, ◌<◌, ◌≤◌, ◌++◌, Option, Bool, true, false, List, [], ◌∷◌, Result, Ok, Err, IfErr, refl, sym, ap, subst, arith}
 use Rattle.xp_words.specs.Machine.{IsMachine, Machine}
 use Rattle.xp_words.specs.declared.entry.Demand.{Demand}
 use Rattle.xp_words.specs.declared.entry.Demand.TheVariants.{Typed}
@@ -47,14 +47,14 @@ lowered_calm _ _ _ _ _ (release.stopped v w t ts stop few gave) is =
     let e : stop ≡ Paused Due = cc in rose_by v w (of_entries 0 0) refl (subst (λ s. Stops v w (of_entries 0 0) s) e (gave.stops 0 0))
 lowered_calm _ _ _ _ _ (release.emptied v w t ts full dead) is = absurd cc
 
-ran_calm : (v : PortValue) (ts : List TableWork) (w : PortValue) (us : List TableWork) (answers : List Bool) (r : Result (Unit {0}) Stop) → RanDown v ts w us answers r → r ≡ Err (Paused Due) → yeses answers ≡ 0 → ⊥
+ran_calm : {below : Option ℕ} → (v : PortValue) (ts : List TableWork) (w : PortValue) (us : List TableWork) (answers : List Bool) (r : Result (Unit {0}) Stop) → RanDown below v ts w us answers r → r ≡ Err (Paused Due) → yeses answers ≡ 0 → ⊥
 ran_calm v ts _ _ _ _ release.begun is none = absurd cc
 ran_calm v ts _ _ _ _ (release.unasked u w us xs done answers before step off) is none = absurd cc
 ran_calm v ts _ _ _ _ (release.asked u w us xs answers before step on) is none = absurd cc
 ran_calm v ts _ _ _ _ (release.due u w us xs answers before step on) is none = no_yes answers none
 ran_calm v ts _ _ _ _ (release.stopped u w us xs answers stop before step) is none = lowered_calm u us w xs (Err stop) step (let e : stop ≡ Paused Due = cc in ap (λ s. Err s) e)
 
-emptied_calm : (v : PortValue) (t : TableWork) (w : PortValue) (answers : List Bool) (r : Result (Unit {0}) Stop) → Emptied v t w answers r → r ≡ Err (Paused Due) → yeses answers ≡ 0 → ⊥
+emptied_calm : {below : Option ℕ} → (v : PortValue) (t : TableWork) (w : PortValue) (answers : List Bool) (r : Result (Unit {0}) Stop) → Emptied below v t w answers r → r ≡ Err (Paused Due) → yeses answers ≡ 0 → ⊥
 emptied_calm v t _ _ _ (release.finished w answers ran) is none = absurd cc
 emptied_calm v t _ _ _ (release.paused u w us answers stop ran left) is none = ran_calm v (t ∷ []) u us answers (Err stop) ran is none
 

@@ -1,5 +1,5 @@
 -- The frame that an old word named was found live, or in another vCPU's hand: what the steps show of the answer.
-use Rattle.std.proofs.Common.{◌≡◌, ◌≢◌, ℕ, ◌==◌, if◌then◌else◌, Bool, true, false, List, [], None, Some, Result, Ok, Err, IfErr, refl, sym, ap, ◌∙◌, subst, append-nil, inl, inr, arith}
+use Rattle.std.proofs.Common.{◌≡◌, ◌≢◌, ℕ, Option, ◌==◌, if◌then◌else◌, Bool, true, false, List, [], None, Some, Result, Ok, Err, IfErr, refl, sym, ap, ◌∙◌, subst, append-nil, inl, inr, arith}
 use Rattle.std.proofs.lemmas.Bool.{or_left}
 use Rattle.std.proofs.lemmas.Bool.Decides.{nat_tests}
 use Rattle.xp_words.specs.KindWords.{kind_fields, kind_read}
@@ -23,7 +23,7 @@ use Rattle.answer_fits.proofs.Piecing.{serves_inner}
 use Rattle.table_words.specs.declared.old_words.OldWord.{OldWord}
 use Rattle.level_release.specs.Asking.{IsReleaseEnd, is_due_answer, of_release, of_settle}
 use Rattle.table_courses.specs.Acquiring.{Named}
-use Rattle.level_release.specs.Course.{SettledOne, WasReleased}
+use Rattle.level_release.specs.Course.{ReleasedTo, SettledOneTo}
 use Rattle.level_release.specs.Course as courses
 use Rattle.level_release.specs.Settling.{TookOld}
 use Rattle.level_release.proofs.Asking.{settle_within}
@@ -100,11 +100,12 @@ other_form : (k : KindWord) → k.validated ≡ false → k.partial ≡ false �
 other_form k unlive whole = rw (unlive, whole) (by_lock k.locked)
 
 module _ (u v : PortValue) (which : OldWord) (f word : ℕ) (t : TookOld u v which f word) (k : KindWord) (read : kind_read word ≡ Some k) where
-  pub live_course : (w : PortValue) (answers : List Bool) (answer : Result (Unit {0}) Stop) → k.validated ≡ true → WasReleased v f k.kind w answers answer → SettledOne u which w answers answer
-  live_course w answers answer live released =
+  pub live_course : (below left : Option ℕ) (w : PortValue) (answers : List Bool) (answer : Result (Unit {0}) Stop) → k.validated ≡ true → ReleasedTo below left v f k.kind w answers answer → SettledOneTo below left u which w answers answer
+  live_course below left w answers answer live released =
       let fields = fields_of word k read in
-      courses.live t.a t.b v w f word answers answer t.look t.take t.kind (ap form_of fields ∙ live_form k live) (subst (λ (y : KindWord). WasReleased v f y.kind w answers answer) (sym fields) released)
+      let same : ReleasedTo below left v f (kind_fields word).kind w answers answer = subst (λ (y : KindWord). ReleasedTo below left v f y.kind w answers answer) (sym fields) released in
+      (courses.live t.a t.b v w f word answers answer t.look t.take t.kind (ap form_of fields ∙ live_form k live) same.0, same.1)
 
-  pub busy_course : (w : PortValue) → k.validated ≡ false → k.partial ≡ false → Named v w f → SettledOne u which w [] (Err (Paused (Busy f word)))
-  busy_course w unlive whole again =
-      let forms = subst (λ y. (form_of y ≢ Live) × (form_of y ≢ Partial)) (sym (fields_of word k read)) (other_form k unlive whole) in courses.busy t.a t.b v w f word t.look t.take t.kind forms.0 forms.1 again
+  pub busy_course : (below : Option ℕ) (w : PortValue) → k.validated ≡ false → k.partial ≡ false → Named v w f → SettledOneTo below below u which w [] (Err (Paused (Busy f word)))
+  busy_course below w unlive whole again =
+      let forms = subst (λ y. (form_of y ≢ Live) × (form_of y ≢ Partial)) (sym (fields_of word k read)) (other_form k unlive whole) in (courses.busy t.a t.b v w f word t.look t.take t.kind forms.0 forms.1 again, refl)

@@ -20,6 +20,7 @@ mod ServingRun
 pub mod ServingTables
 pub mod HandsUnwinding
 pub mod Owning
+pub mod Falling
 mod Handing
 mod Dropped
 mod Requested

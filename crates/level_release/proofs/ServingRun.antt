@@ -1,5 +1,5 @@
 -- The tables are emptied until none is left: what the steps are to a call that asked them.
-use Rattle.std.proofs.Common.{◌≡◌, ◌⊎◌, ◌≤◌, ◌<◌, true, List, [], ◌∷◌, length, inl, inr, arith}
+use Rattle.std.proofs.Common.{◌≡◌, ◌⊎◌, ◌≤◌, ◌<◌, true, List, [], ◌∷◌, length, inl, inr, arith, Option, ℕ}
 use Rattle.std.proofs.lemmas.Bool.{cases_order}
 use Rattle.xp_words.specs.declared.reply.Pause.TheVariants.{Due}
 use Rattle.xp_words.specs.declared.reply.Stop.{Stop}
@@ -12,7 +12,7 @@ use Rattle.answer_fits.specs.Pauses.{Progress}
 use Rattle.answer_fits.proofs.Progressing.{progress_after, progress_before}
 use Rattle.partial_state.specs.declared.stack.TableWork.{TableWork}
 use Rattle.level_release.specs.Asking.{Continues, StopsRelease}
-use Rattle.level_release.specs.Course.{is_asked_down}
+use Rattle.level_release.specs.Course.{is_asked_within}
 use Rattle.level_release.proofs.ServingRisen.{goes_nothing, goes_on, goes_then, risen_behind, risen_due}
 
 -- The steps went on with what asked ts, and asks us now. Where there is more than one table, an entry was shed.
@@ -24,9 +24,9 @@ pub record Serving (u w : PortValue) (ts us : List TableWork) : Type 0 where
 pub serving_begins : (u : PortValue) (ts : List TableWork) → length ts ≡ 1 → Serving u u ts ts
 serving_begins u ts one = record { came = came_self u; serves = goes_nothing u ts; progress = inl (omega (arith, one)) }
 
-some_asked : (xs : List TableWork) → is_asked_down xs ≡ true → 0 < length xs
-some_asked [] asks = absurd (cc)
-some_asked (t ∷ xs) asks = omega arith
+some_asked : (below : Option ℕ) (xs : List TableWork) → is_asked_within below xs ≡ true → 0 < length xs
+some_asked below [] asks = absurd (cc)
+some_asked below (t ∷ xs) asks = omega arith
 
 module _ (u v : PortValue) (ts us : List TableWork) (i : Serving u v ts us) (w : PortValue) (xs : List TableWork) (came : Came v w) where
   -- Something was shed, unless no table is left: where there is one less now, it was not the only one.
@@ -60,5 +60,5 @@ module _ (u v : PortValue) (ts us : List TableWork) (i : Serving u v ts us) (w :
   serving_stops e stops = risen_behind u v w ts us e i.serves stops
 
   -- the gate says yes
-  pub serving_due : (length us ≤ length xs → Progress (Met v w)) → is_asked_down xs ≡ true → StopsRelease u w ts (Paused Due)
-  serving_due more asks = risen_due u w ts (gets_on more (some_asked xs asks))
+  pub serving_due : (below : Option ℕ) → (length us ≤ length xs → Progress (Met v w)) → is_asked_within below xs ≡ true → StopsRelease u w ts (Paused Due)
+  serving_due below more asks = risen_due u w ts (gets_on more (some_asked below xs asks))

@@ -1,5 +1,5 @@
 -- The first old word and then the second: what the steps show of the whole.
-use Rattle.std.proofs.Common.{◌≡◌, ℕ, Bool, true, false, [], Result, Ok, Err, IfErr, sym, subst, append-nil}
+use Rattle.std.proofs.Common.{◌≡◌, ℕ, Option, Bool, true, false, [], Result, Ok, Err, IfErr, sym, subst, append-nil}
 use Rattle.xp_words.specs.declared.reply.Stop.{Stop}
 use Rattle.xp_board.specs.Told.{Post, PortValue}
 use Rattle.step_maker.specs.Moves.{Came, Met}
@@ -9,7 +9,7 @@ use Rattle.answer_fits.proofs.Later.{stops_then}
 use Rattle.answer_fits.proofs.Piecing.{serves_came, serves_then, serves_within}
 use Rattle.table_words.specs.declared.old_words.OldWord.TheVariants.{First}
 use Rattle.level_release.specs.Asking.{IsReleaseEnd, is_due_answer, of_settle}
-use Rattle.level_release.specs.Course.{By, Settled, SettledOne, first}
+use Rattle.level_release.specs.Course.{By, SettledOneTo, SettledTo, first}
 use Rattle.level_release.proofs.Answered.{end_uncounted}
 use Rattle.level_release.proofs.Asking.{settle_within}
 use Rattle.level_release.proofs.Consulting.{by_as}
@@ -35,8 +35,8 @@ module _ (v u w : PortValue) (owner pages : ℕ) (before : Serves v u (of_settle
   both_stop (Err e) ends stops = stops_then v u w (of_settle {A = Unit {0}} owner pages (Err e)) e (end_uncounted e ends) came stops
 
 -- paused at the first
-pub first_by : (v w : PortValue) (says : ℕ → Bool) (a b x y : ℕ) (answer : Result (Unit {0}) Stop) (e : Stop) → answer ≡ Err e → By (λ answers. SettledOne v First w answers (Err e)) says a b x y (Err e) →
-    By (λ answers. Settled v w answers answer) says a b x y answer
-first_by v w says a b x y answer e is paused =
-    subst (λ (r : Result (Unit {0}) Stop). By (λ answers. Settled v w answers r) says a b x y r) (sym is)
-    (by_as says (λ answers. SettledOne v First w answers (Err e)) (λ answers. Settled v w answers (Err e)) a b x y (Err e) (λ answers one. first w answers e one) paused)
+pub first_by : (below left : Option ℕ) (v w : PortValue) (says : ℕ → Bool) (a b x y : ℕ) (answer : Result (Unit {0}) Stop) (e : Stop) → answer ≡ Err e → By (λ answers. SettledOneTo below left v First w answers (Err e)) says a b x y (Err e) →
+    By (λ answers. SettledTo below left v w answers answer) says a b x y answer
+first_by below left v w says a b x y answer e is paused =
+    subst (λ (r : Result (Unit {0}) Stop). By (λ answers. SettledTo below left v w answers r) says a b x y r) (sym is)
+    (by_as says (λ answers. SettledOneTo below left v First w answers (Err e)) (λ answers. SettledTo below left v w answers (Err e)) a b x y (Err e) (λ answers one. (first w answers e one.0, one.1)) paused)

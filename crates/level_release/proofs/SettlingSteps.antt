@@ -1,5 +1,5 @@
 -- What an old word names is settled: by which steps.
-use Rattle.std.proofs.Common.{◌≤◌, ◌≡◌, ◌≢◌, ℕ, Bool, true, false, List, [], None, Some, Result, Ok, Err, IsTrue, refl, sym, ap, ◌∙◌, subst}
+use Rattle.std.proofs.Common.{◌≤◌, ◌≡◌, ◌≢◌, ℕ, Option, Bool, true, false, List, [], None, Some, Result, Ok, Err, IsTrue, refl, sym, ap, ◌∙◌, subst}
 use Rattle.xp_words.specs.KindWords.{kind_fields, kind_read, kind_write}
 use Rattle.xp_words.specs.Places.{number, sizes_of}
 use Rattle.xp_words.specs.declared.kind.KindWord.{KindWord}
@@ -28,7 +28,7 @@ use Rattle.table_words.specs.declared.old_words.OldWord.{OldWord}
 use Rattle.kept_marks.proofs.MarkWords.{partial_form}
 use Rattle.level_release.specs.Asking.{is_due_stop}
 use Rattle.table_courses.specs.Acquiring.{Named}
-use Rattle.level_release.specs.Course.{Emptied, SettledOne, SettledPartial, resumed_table}
+use Rattle.level_release.specs.Course.{EmptiedTo, SettledOneTo, SettledPartial, left_partial, resumed_table}
 use Rattle.level_release.specs.Course as courses
 use Rattle.level_release.specs.Settling.{TookOld}
 use Rattle.level_release.proofs.Taken.{took_post}
@@ -68,21 +68,28 @@ module _ (u v : PortValue) (which : OldWord) (f word : ℕ) (t : TookOld u v whi
       (subst (λ y. Moves v d (Kind f) (Cas y (kind_write (resumed_kind k))) kinds.Kind None found) (sym was) change)
 
   -- another word was found
-  pub lost_course : (w : PortValue) (e : Stop) → found ≢ kind_write k → e ≡ Paused (Lost (number (sizes_of d.post.machine) (Kind f)) word found) → Named d w f → SettledOne u which w [] (Err e)
-  lost_course w e off is again =
-      subst (λ y. SettledOne u which w [] (Err y))
+  pub lost_course : (below : Option ℕ) (w : PortValue) (e : Stop) → found ≢ kind_write k → e ≡ Paused (Lost (number (sizes_of d.post.machine) (Kind f)) word found) → Named d w f → SettledOneTo below below u which w [] (Err e)
+  lost_course below w e off is again =
+      subst (λ y. SettledOneTo below below u which w [] (Err y))
       (sym (is ∙ ap (λ (p : Post). Paused (Lost (number (sizes_of p.machine) (Kind f)) word found)) (came_post v d (moves_came v d (Kind f) (Cas (kind_write k) (kind_write (resumed_kind k))) kinds.Kind None found change) ∙ took_post u v which f word t)))
-      (courses.lost t.a t.b v d w f word found t.look t.take t.kind form_is change_as (λ same. off (same ∙ was)) again)
+      (courses.lost t.a t.b v d w f word found t.look t.take t.kind form_is change_as (λ same. off (same ∙ was)) again, refl)
 
   module _ (at : found ≡ kind_write k) where
-    settled_by : (w : PortValue) (answers : List Bool) (answer : Result (Unit {0}) Stop) (has : Bool) → has_recorded k.kind k ≡ has → SettledPartial d w f k answers answer has → SettledOne u which w answers answer
-    settled_by w answers answer has is settled =
-        courses.partial t.a t.b v d w f word answers answer t.look t.take t.kind form_is (subst (λ y. Moves v d (Kind f) (Cas word (kind_write (resumed_kind (kind_fields word)))) kinds.Kind None y) (at ∙ sym was) change_as)
-        (subst (λ (y : KindWord). SettledPartial d w f y answers answer (has_recorded y.kind y)) (sym fields) (subst (λ b. SettledPartial d w f k answers answer b) (sym is) settled))
+    PartialTo : Option ℕ → Option ℕ → PortValue → KindWord → List Bool → Result (Unit {0}) Stop → Bool → Type 0
+    PartialTo below left w y answers answer has = (steps : SettledPartial below d w f y answers answer has) × (left ≡ left_partial below d w f y answers answer has steps)
 
-    pub emptied_course : (x w : PortValue) (refs_word level : ℕ) (answers : List Bool) (answer : Result (Unit {0}) Stop) → has_recorded k.kind k ≡ true → level_type level ≡ k.kind → level ≤ 4 → Moves d x (Refs f) Load kinds.Look None refs_word →
-        Emptied x (resumed_table f level k) w answers answer → SettledOne u which w answers answer
-    emptied_course x w refs_word level answers answer has is high look emptied = settled_by w answers answer true has (x, refs_word, level, is, high, look, emptied)
+    settled_by : (below left : Option ℕ) (w : PortValue) (answers : List Bool) (answer : Result (Unit {0}) Stop) (has : Bool) → has_recorded k.kind k ≡ has → PartialTo below left w k answers answer has → SettledOneTo below left u which w answers answer
+    unfolding PartialTo
+    settled_by below left w answers answer has is settled =
+        let same : PartialTo below left w (kind_fields word) answers answer (has_recorded (kind_fields word).kind (kind_fields word)) =
+        subst (λ (y : KindWord). PartialTo below left w y answers answer (has_recorded y.kind y)) (sym fields) (subst (λ b. PartialTo below left w k answers answer b) (sym is) settled) in
+        (courses.partial t.a t.b v d w f word answers answer t.look t.take t.kind form_is (subst (λ y. Moves v d (Kind f) (Cas word (kind_write (resumed_kind (kind_fields word)))) kinds.Kind None y) (at ∙ sym was) change_as) same.0, same.1)
 
-    pub dead_course : (w : PortValue) → has_recorded k.kind k ≡ false → Does d w (λ vs. Then (Dies f k.kind k.unflushed) (PutBy f) vs) → SettledOne u which w [] (Ok tt)
-    dead_course w none steps = settled_by w [] (Ok tt) false none (refl, refl, steps)
+    pub emptied_course : (below left : Option ℕ) (x w : PortValue) (refs_word level : ℕ) (answers : List Bool) (answer : Result (Unit {0}) Stop) → has_recorded k.kind k ≡ true → level_type level ≡ k.kind → level ≤ 4 → Moves d x (Refs f) Load kinds.Look None refs_word →
+        EmptiedTo below left x (resumed_table f level k) w answers answer → SettledOneTo below left u which w answers answer
+    unfolding PartialTo
+    emptied_course below left x w refs_word level answers answer has is high look emptied = settled_by below left w answers answer true has ((x, refs_word, level, is, high, look, emptied.0), emptied.1)
+
+    pub dead_course : (below : Option ℕ) (w : PortValue) → has_recorded k.kind k ≡ false → Does d w (λ vs. Then (Dies f k.kind k.unflushed) (PutBy f) vs) → SettledOneTo below below u which w [] (Ok tt)
+    unfolding PartialTo
+    dead_course below w none steps = settled_by below below w [] (Ok tt) false none ((refl, refl, steps), refl)

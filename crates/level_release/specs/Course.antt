@@ -1,6 +1,6 @@
 -- The course of a release: the calls that it makes, from port to port, with the tables that are being released before and after each, and
 -- the answers of the gate, the newest first.
-use Rattle.std.specs.Prelude.{◌≡◌, ◌≢◌, ℕ, ◌+◌, ◌-◌, ◌<◌, ◌≤◌, ◌==◌, ◌&&◌, nat_le, not, Bool, true, false, List, [], ◌∷◌, ◌++◌, None, Some, Result, Ok, Err, IfErr}
+use Rattle.std.specs.Prelude.{◌≡◌, ◌≢◌, ℕ, ◌+◌, ◌-◌, ◌<◌, ◌≤◌, ◌==◌, ◌&&◌, nat_le, nat_lt, not, Bool, true, false, List, [], ◌∷◌, ◌++◌, Option, None, Some, Result, Ok, Err, IfErr}
 use Rattle.xp_words.specs.KindWords.{kind_fields, kind_write}
 use Rattle.xp_words.specs.PageTypes.{is_table}
 use Rattle.xp_words.specs.Places.{number, sizes_of}
@@ -24,6 +24,7 @@ use Rattle.kind_words.specs.Kinds.{partial_kind}
 use Rattle.frame_types.specs.Found.{Dies}
 use Rattle.frame_types.specs.Lowering.{DropsType}
 use Rattle.partial_state.specs.Levels.{level_type}
+use Rattle.partial_state.specs.Weights.{weight}
 use Rattle.partial_state.specs.declared.stack.TableWork.{TableWork}
 use Rattle.table_entries.specs.Asking.{of_entries}
 use Rattle.table_words.specs.OldWords.{old_place}
@@ -71,17 +72,25 @@ abbrev pub is_asked_down : List TableWork → Bool
 is_asked_down [] = false
 is_asked_down (t ∷ ts) = is_asked_below t.level t.done
 
+-- The gate is asked only where less is left than that, if it is a number: than the vCPU left when it was paused before.
+abbrev pub is_less : Option ℕ → ℕ → Bool
+is_less None left = true
+is_less (Some bound) left = nat_lt left bound
+
+abbrev pub is_asked_within : Option ℕ → List TableWork → Bool
+is_asked_within below ts = is_asked_down ts && is_less below (weight ts)
+
 -- ---- until no table is left
-pub data RanDown (v : PortValue) (ts : List TableWork) : PortValue → List TableWork → List Bool → Result (Unit {0}) Stop → Type 0 where
-  begun : RanDown v ts v ts [] (Ok tt)
-  unasked : (u w : PortValue) (us xs : List TableWork) (done : Bool) (answers : List Bool) → RanDown v ts u us answers (Ok tt) → Lowered u us w xs (Ok done) →
-      (done && is_asked_down xs) ≡ false → RanDown v ts w xs answers (Ok tt)
-  asked : (u w : PortValue) (us xs : List TableWork) (answers : List Bool) → RanDown v ts u us answers (Ok tt) → Lowered u us w xs (Ok true) → is_asked_down xs ≡ true →
-      RanDown v ts w xs (false ∷ answers) (Ok tt)
-  due : (u w : PortValue) (us xs : List TableWork) (answers : List Bool) → RanDown v ts u us answers (Ok tt) → Lowered u us w xs (Ok true) → is_asked_down xs ≡ true →
-      RanDown v ts w xs (true ∷ answers) (Err (Paused Due))
-  stopped : (u w : PortValue) (us xs : List TableWork) (answers : List Bool) (stop : Stop) → RanDown v ts u us answers (Ok tt) → Lowered u us w xs (Err stop) →
-      RanDown v ts w xs answers (Err stop)
+pub data RanDown (below : Option ℕ) (v : PortValue) (ts : List TableWork) : PortValue → List TableWork → List Bool → Result (Unit {0}) Stop → Type 0 where
+  begun : RanDown below v ts v ts [] (Ok tt)
+  unasked : (u w : PortValue) (us xs : List TableWork) (done : Bool) (answers : List Bool) → RanDown below v ts u us answers (Ok tt) → Lowered u us w xs (Ok done) →
+      (done && is_asked_within below xs) ≡ false → RanDown below v ts w xs answers (Ok tt)
+  asked : (u w : PortValue) (us xs : List TableWork) (answers : List Bool) → RanDown below v ts u us answers (Ok tt) → Lowered u us w xs (Ok true) → is_asked_within below xs ≡ true →
+      RanDown below v ts w xs (false ∷ answers) (Ok tt)
+  due : (u w : PortValue) (us xs : List TableWork) (answers : List Bool) → RanDown below v ts u us answers (Ok tt) → Lowered u us w xs (Ok true) → is_asked_within below xs ≡ true →
+      RanDown below v ts w xs (true ∷ answers) (Err (Paused Due))
+  stopped : (u w : PortValue) (us xs : List TableWork) (answers : List Bool) (stop : Stop) → RanDown below v ts u us answers (Ok tt) → Lowered u us w xs (Err stop) →
+      RanDown below v ts w xs answers (Err stop)
 
 -- ---- tables that are left unfinished
 abbrev pub StoredPartial : PortValue → PortValue → TableWork → Type 0
@@ -105,19 +114,44 @@ UnwoundDown v (t ∷ []) w = (u : PortValue) × StoredPartial v u t × Named u w
 UnwoundDown v (t ∷ outer ∷ ts) w = (u : PortValue) × LeftInside v t (outer ∷ ts) u (one_less outer ∷ ts) × UnwoundDown u (one_less outer ∷ ts) w
 
 -- ---- one table and all in it
-pub data Emptied (v : PortValue) (t : TableWork) : PortValue → List Bool → Result (Unit {0}) Stop → Type 0 where
-  finished : (w : PortValue) (answers : List Bool) → RanDown v (t ∷ []) w [] answers (Ok tt) → Emptied v t w answers (Ok tt)
-  paused : (u w : PortValue) (us : List TableWork) (answers : List Bool) (stop : Stop) → RanDown v (t ∷ []) u us answers (Err stop) → UnwoundDown u us w → Emptied v t w answers (Err stop)
+pub data Emptied (below : Option ℕ) (v : PortValue) (t : TableWork) : PortValue → List Bool → Result (Unit {0}) Stop → Type 0 where
+  finished : (w : PortValue) (answers : List Bool) → RanDown below v (t ∷ []) w [] answers (Ok tt) → Emptied below v t w answers (Ok tt)
+  paused : (u w : PortValue) (us : List TableWork) (answers : List Bool) (stop : Stop) → RanDown below v (t ∷ []) u us answers (Err stop) → UnwoundDown u us w → Emptied below v t w answers (Err stop)
 
 -- its owner is looked at first
 abbrev pub closing_table : ℕ → ℕ → TableWork
 closing_table f level = record { frame = f; level = level; done = 0; own = false; recorded = false }
 
-pub data WasReleased (v : PortValue) (f : ℕ) (kind : PageType) : PortValue → List Bool → Result (Unit {0}) Stop → Type 0 where
-  plain : (w : PortValue) → is_table kind ≡ false → GaveType v w f kind → WasReleased v f kind w [] (Ok tt)
-  shared : (u w : PortValue) → is_table kind ≡ true → DropsType v u f false → GaveRef u w f → WasReleased v f kind w [] (Ok tt)
+pub data ReleasedWithin (below : Option ℕ) (v : PortValue) (f : ℕ) (kind : PageType) : PortValue → List Bool → Result (Unit {0}) Stop → Type 0 where
+  plain : (w : PortValue) → is_table kind ≡ false → GaveType v w f kind → ReleasedWithin below v f kind w [] (Ok tt)
+  shared : (u w : PortValue) → is_table kind ≡ true → DropsType v u f false → GaveRef u w f → ReleasedWithin below v f kind w [] (Ok tt)
   last : (u x w : PortValue) (word level : ℕ) (answers : List Bool) (answer : Result (Unit {0}) Stop) → is_table kind ≡ true → level_type level ≡ kind → level ≤ 4 → DropsType v u f true →
-      Moves u x (Refs f) Load kinds.Look None word → Emptied x (closing_table f level) w answers answer → WasReleased v f kind w answers answer
+      Moves u x (Refs f) Load kinds.Look None word → Emptied below x (closing_table f level) w answers answer → ReleasedWithin below v f kind w answers answer
+
+-- with a gate that is asked everywhere
+abbrev pub WasReleased : PortValue → ℕ → PageType → PortValue → List Bool → Result (Unit {0}) Stop → Type 0
+WasReleased v f kind w answers answer = ReleasedWithin None v f kind w answers answer
+
+-- ---- what is left
+-- Where the gate paused it, the number that is kept is what is left then; else it stays.
+abbrev pub left_by : Option ℕ → Stop → List TableWork → Option ℕ
+left_by below (Paused Due) us = Some (weight us)
+left_by below _ us = below
+
+abbrev pub left_emptied : {below : Option ℕ} {v : PortValue} {t : TableWork} {w : PortValue} {answers : List Bool} {answer : Result (Unit {0}) Stop} → Emptied below v t w answers answer → Option ℕ
+left_emptied {below} (finished w answers ran) = below
+left_emptied {below} (paused u w us answers stop ran unwound) = left_by below stop us
+
+abbrev pub EmptiedTo : Option ℕ → Option ℕ → PortValue → TableWork → PortValue → List Bool → Result (Unit {0}) Stop → Type 0
+EmptiedTo below left v t w answers answer = (course : Emptied below v t w answers answer) × (left ≡ left_emptied course)
+
+abbrev pub left_released : {below : Option ℕ} {v : PortValue} {f : ℕ} {kind : PageType} {w : PortValue} {answers : List Bool} {answer : Result (Unit {0}) Stop} → ReleasedWithin below v f kind w answers answer → Option ℕ
+left_released {below} (plain w ordinary drops) = below
+left_released {below} (shared u w table drops gave) = below
+left_released {below} (last u x w word level answers answer table is high drops look run) = left_emptied run
+
+abbrev pub ReleasedTo : Option ℕ → Option ℕ → PortValue → ℕ → PageType → PortValue → List Bool → Result (Unit {0}) Stop → Type 0
+ReleasedTo below left v f kind w answers answer = (course : ReleasedWithin below v f kind w answers answer) × (left ≡ left_released course)
 
 -- ---- with a gate
 -- There is such a course with the gate's answers, of which the last one is yes exactly where it is paused for that.
@@ -134,11 +168,14 @@ pub record WithGate (P : List Bool → Type 0) (says : ℕ → Bool) (before aft
   pub gate : Consulted says before after yes_before yes_after answers
   pub due : is_due_answer answer ≡ true → ends_yes answers ≡ true
 
-abbrev pub RunsDownBy : PortValue → List TableWork → PortValue → List TableWork → (ℕ → Bool) → ℕ → ℕ → ℕ → ℕ → Result (Unit {0}) Stop → Type 0
-RunsDownBy v ts w us says before after yes_before yes_after answer = By (λ answers. RanDown v ts w us answers answer) says before after yes_before yes_after answer
+abbrev pub RunsDownBy : Option ℕ → PortValue → List TableWork → PortValue → List TableWork → (ℕ → Bool) → ℕ → ℕ → ℕ → ℕ → Result (Unit {0}) Stop → Type 0
+RunsDownBy below v ts w us says before after yes_before yes_after answer = By (λ answers. RanDown below v ts w us answers answer) says before after yes_before yes_after answer
 
-abbrev pub EmptiesBy : PortValue → PortValue → TableWork → (ℕ → Bool) → ℕ → ℕ → ℕ → ℕ → Result (Unit {0}) Stop → Type 0
-EmptiesBy v w t says before after yes_before yes_after answer = By (λ answers. Emptied v t w answers answer) says before after yes_before yes_after answer
+abbrev pub EmptiesBy : Option ℕ → Option ℕ → PortValue → PortValue → TableWork → (ℕ → Bool) → ℕ → ℕ → ℕ → ℕ → Result (Unit {0}) Stop → Type 0
+EmptiesBy below left v w t says before after yes_before yes_after answer = By (λ answers. EmptiedTo below left v t w answers answer) says before after yes_before yes_after answer
+
+abbrev pub ReleasesWithinBy : Option ℕ → Option ℕ → PortValue → PortValue → ℕ → PageType → (ℕ → Bool) → ℕ → ℕ → ℕ → ℕ → Result (Unit {0}) Stop → Type 0
+ReleasesWithinBy below left v w f kind says before after yes_before yes_after answer = By (λ answers. ReleasedTo below left v f kind w answers answer) says before after yes_before yes_after answer
 
 abbrev pub ReleasesFrameBy : PortValue → PortValue → ℕ → PageType → (ℕ → Bool) → ℕ → ℕ → ℕ → ℕ → Result (Unit {0}) Stop → Type 0
 ReleasesFrameBy v w f kind says before after yes_before yes_after answer = By (λ answers. WasReleased v f kind w answers answer) says before after yes_before yes_after answer
@@ -149,36 +186,67 @@ abbrev pub resumed_table : ℕ → ℕ → KindWord → TableWork
 resumed_table f level k = record { frame = f; level = level; done = 512 - k.progress; own = true; recorded = false }
 
 -- a partial one comes into work again; it is a table of which something is recorded, or is dead with its mark
-abbrev pub SettledPartial : PortValue → PortValue → ℕ → KindWord → List Bool → Result (Unit {0}) Stop → Bool → Type 0
-SettledPartial v w f k answers answer true =
-    (u : PortValue) × (word level : ℕ) × (level_type level ≡ k.kind) × (level ≤ 4) × Moves v u (Refs f) Load kinds.Look None word × Emptied u (resumed_table f level k) w answers answer
-SettledPartial v w f k answers answer false = (answer ≡ Ok tt) × (answers ≡ []) × Does v w (λ vs. Then (Dies f k.kind k.unflushed) (PutBy f) vs)
+abbrev pub SettledPartial : Option ℕ → PortValue → PortValue → ℕ → KindWord → List Bool → Result (Unit {0}) Stop → Bool → Type 0
+SettledPartial below v w f k answers answer true =
+    (u : PortValue) × (word level : ℕ) × (level_type level ≡ k.kind) × (level ≤ 4) × Moves v u (Refs f) Load kinds.Look None word × Emptied below u (resumed_table f level k) w answers answer
+SettledPartial below v w f k answers answer false = (answer ≡ Ok tt) × (answers ≡ []) × Does v w (λ vs. Then (Dies f k.kind k.unflushed) (PutBy f) vs)
 
-pub data SettledOne (v : PortValue) (which : OldWord) : PortValue → List Bool → Result (Unit {0}) Stop → Type 0 where
-  none : (w : PortValue) → Moves v w (old_place v.post.vcpu which) Load kinds.Look None 0 → SettledOne v which w [] (Ok tt)
+pub data SettledOne (below : Option ℕ) (v : PortValue) (which : OldWord) : PortValue → List Bool → Result (Unit {0}) Stop → Type 0 where
+  none : (w : PortValue) → Moves v w (old_place v.post.vcpu which) Load kinds.Look None 0 → SettledOne below v which w [] (Ok tt)
   live : (a b c w : PortValue) (f word : ℕ) (answers : List Bool) (answer : Result (Unit {0}) Stop) → Moves v a (old_place v.post.vcpu which) Load kinds.Look None (f + 1) →
       Moves a b (old_place v.post.vcpu which) (Store 0) kinds.Context None (f + 1) → Moves b c (Kind f) Load kinds.Look None word → form_of (kind_fields word) ≡ Live →
-      WasReleased c f (kind_fields word).kind w answers answer → SettledOne v which w answers answer
+      ReleasedWithin below c f (kind_fields word).kind w answers answer → SettledOne below v which w answers answer
   partial : (a b c d w : PortValue) (f word : ℕ) (answers : List Bool) (answer : Result (Unit {0}) Stop) → Moves v a (old_place v.post.vcpu which) Load kinds.Look None (f + 1) →
       Moves a b (old_place v.post.vcpu which) (Store 0) kinds.Context None (f + 1) → Moves b c (Kind f) Load kinds.Look None word → form_of (kind_fields word) ≡ Partial →
       Moves c d (Kind f) (Cas word (kind_write (resumed_kind (kind_fields word)))) kinds.Kind None word →
-      SettledPartial d w f (kind_fields word) answers answer (has_recorded (kind_fields word).kind (kind_fields word)) → SettledOne v which w answers answer
+      SettledPartial below d w f (kind_fields word) answers answer (has_recorded (kind_fields word).kind (kind_fields word)) → SettledOne below v which w answers answer
   lost : (a b c d w : PortValue) (f word found : ℕ) → Moves v a (old_place v.post.vcpu which) Load kinds.Look None (f + 1) →
       Moves a b (old_place v.post.vcpu which) (Store 0) kinds.Context None (f + 1) → Moves b c (Kind f) Load kinds.Look None word → form_of (kind_fields word) ≡ Partial →
       Moves c d (Kind f) (Cas word (kind_write (resumed_kind (kind_fields word)))) kinds.Kind None found → found ≢ word → Named d w f →
-      SettledOne v which w [] (Err (Paused (Lost (number (sizes_of v.post.machine) (Kind f)) word found)))
+      SettledOne below v which w [] (Err (Paused (Lost (number (sizes_of v.post.machine) (Kind f)) word found)))
   busy : (a b c w : PortValue) (f word : ℕ) → Moves v a (old_place v.post.vcpu which) Load kinds.Look None (f + 1) →
       Moves a b (old_place v.post.vcpu which) (Store 0) kinds.Context None (f + 1) → Moves b c (Kind f) Load kinds.Look None word →
-      form_of (kind_fields word) ≢ Live → form_of (kind_fields word) ≢ Partial → Named c w f → SettledOne v which w [] (Err (Paused (Busy f word)))
+      form_of (kind_fields word) ≢ Live → form_of (kind_fields word) ≢ Partial → Named c w f → SettledOne below v which w [] (Err (Paused (Busy f word)))
 
-abbrev pub SettlesOneBy : PortValue → PortValue → OldWord → (ℕ → Bool) → ℕ → ℕ → ℕ → ℕ → Result (Unit {0}) Stop → Type 0
-SettlesOneBy v w which says before after yes_before yes_after answer = By (λ answers. SettledOne v which w answers answer) says before after yes_before yes_after answer
+abbrev pub left_partial : (below : Option ℕ) (v w : PortValue) (f : ℕ) (k : KindWord) (answers : List Bool) (answer : Result (Unit {0}) Stop) (has : Bool) → SettledPartial below v w f k answers answer has → Option ℕ
+left_partial below v w f k answers answer true steps = left_emptied steps.6
+left_partial below v w f k answers answer false steps = below
+
+abbrev pub left_one : {below : Option ℕ} {v : PortValue} {which : OldWord} {w : PortValue} {answers : List Bool} {answer : Result (Unit {0}) Stop} → SettledOne below v which w answers answer → Option ℕ
+left_one {below} (none w look) = below
+left_one {below} (live a b c w f word answers answer look take see form released) = left_released released
+left_one {below} (partial a b c d w f word answers answer look take see form resume settled) = left_partial below d w f (kind_fields word) answers answer (has_recorded (kind_fields word).kind (kind_fields word)) settled
+left_one {below} (lost a b c d w f word found look take see form resume other again) = below
+left_one {below} (busy a b c w f word look take see unlive whole again) = below
+
+abbrev pub SettledOneTo : Option ℕ → Option ℕ → PortValue → OldWord → PortValue → List Bool → Result (Unit {0}) Stop → Type 0
+SettledOneTo below left v which w answers answer = (course : SettledOne below v which w answers answer) × (left ≡ left_one course)
+
+abbrev pub SettlesOneBy : Option ℕ → Option ℕ → PortValue → PortValue → OldWord → (ℕ → Bool) → ℕ → ℕ → ℕ → ℕ → Result (Unit {0}) Stop → Type 0
+SettlesOneBy below left v w which says before after yes_before yes_after answer = By (λ answers. SettledOneTo below left v which w answers answer) says before after yes_before yes_after answer
 
 -- the first word, and then the second
-pub data Settled (v : PortValue) : PortValue → List Bool → Result (Unit {0}) Stop → Type 0 where
-  first : (w : PortValue) (answers : List Bool) (stop : Stop) → SettledOne v First w answers (Err stop) → Settled v w answers (Err stop)
-  both : (u w : PortValue) (answers more : List Bool) (answer : Result (Unit {0}) Stop) → SettledOne v First u answers (Ok tt) → SettledOne u Second w more answer →
-      Settled v w (more ++ answers) answer
+pub data Settled (below : Option ℕ) (v : PortValue) : PortValue → List Bool → Result (Unit {0}) Stop → Type 0 where
+  first : (w : PortValue) (answers : List Bool) (stop : Stop) → SettledOne below v First w answers (Err stop) → Settled below v w answers (Err stop)
+  both : (u w : PortValue) (answers more : List Bool) (answer : Result (Unit {0}) Stop) → SettledOne below v First u answers (Ok tt) → SettledOne None u Second w more answer →
+      Settled below v w (more ++ answers) answer
 
-abbrev pub SettlesBy : PortValue → PortValue → (ℕ → Bool) → ℕ → ℕ → ℕ → ℕ → Result (Unit {0}) Stop → Type 0
-SettlesBy v w says before after yes_before yes_after answer = By (λ answers. Settled v w answers answer) says before after yes_before yes_after answer
+-- nothing is, once both were
+abbrev pub left_settled : {below : Option ℕ} {v w : PortValue} {answers : List Bool} {answer : Result (Unit {0}) Stop} → Settled below v w answers answer → Option ℕ
+left_settled (first w answers stop one) = left_one one
+left_settled (both u w answers more answer one two) = left_one two
+
+-- what the first word named came to its end
+abbrev pub is_first_done : {below : Option ℕ} {v w : PortValue} {answers : List Bool} {answer : Result (Unit {0}) Stop} → Settled below v w answers answer → Bool
+is_first_done (first w answers stop one) = false
+is_first_done (both u w answers more answer one two) = true
+
+abbrev pub LeavesLess : ℕ → Option ℕ → Type 0
+LeavesLess k (Some left) = left < k
+LeavesLess k None = ⊥
+
+abbrev pub SettledTo : Option ℕ → Option ℕ → PortValue → PortValue → List Bool → Result (Unit {0}) Stop → Type 0
+SettledTo below left v w answers answer = (course : Settled below v w answers answer) × (left ≡ left_settled course)
+
+abbrev pub SettlesBy : Option ℕ → Option ℕ → PortValue → PortValue → (ℕ → Bool) → ℕ → ℕ → ℕ → ℕ → Result (Unit {0}) Stop → Type 0
+SettlesBy below left v w says before after yes_before yes_after answer = By (λ answers. SettledTo below left v w answers answer) says before after yes_before yes_after answer

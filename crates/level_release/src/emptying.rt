@@ -12,7 +12,7 @@ ghost use Rattle.table_releases.specs.Tops.{IsSettledTop};
 ghost use Rattle.xp_words.specs.declared.reply.Pause.TheVariants.{Due};
 ghost use Rattle.xp_words.specs.declared.reply.Stop.TheVariants.{Paused};
 ghost use Rattle.level_release.specs.Asking.{Continues, IsReleaseEnd, StopsRelease, is_due_answer};
-ghost use Rattle.level_release.specs.Course.{EmptiesBy, Lowered, MadeDead, RunsDownBy, is_asked_down};
+ghost use Rattle.level_release.specs.Course.{EmptiesBy, Lowered, MadeDead, RunsDownBy, is_asked_down, is_asked_within, is_less, left_by};
 ghost use Rattle.level_release.specs.Holding.{Empties, HoldsNow, IsReleasing, LeavesEmptied, StaysEmptying, StaysSettled, outermost_frame};
 
 use crate::leaving::unwind;
@@ -26,11 +26,12 @@ use xp_preempt::Preempt;
 use xp_words::{Pause, Stop};
 
 /// Empties the only table in hand, and leaves it dead. A pause leaves all tables partial, and the outermost one is named in the first
-/// old word.
+/// old word. The gate is asked only where less than `left` is left; where it pauses the work, `left` is what is left then.
 pub(crate) fn empty<P: Port>(
     port: &mut P,
     gate: &mut dyn Preempt,
     table: TableWork,
+    left: &mut Option<u64>,
 ) -> Result<(), Stop>
     requires may { MayWork (P.value port.old) }
     requires stands { IsReleasing (P.value port.old) (table ∷ []) }
@@ -41,24 +42,40 @@ pub(crate) fn empty<P: Port>(
     ensures settled { IsSettledTop (P.value port.old).holdings → IfErr result (λ e. e ≡ Paused Due) }
     ensures serves { Continues (P.value port.old) (P.value port.new) (table ∷ []) [] (misses (P.value port.old).post.machine result) }
     ensures stops { IfErr result (λ e. StopsRelease (P.value port.old) (P.value port.new) (table ∷ []) e) }
-    ensures course { EmptiesBy (P.value port.old) (P.value port.new) table (says gate.old) (count_asks gate.old) (count_asks gate.new) (count_yes gate.old) (count_yes gate.new) result }
+    ensures course { EmptiesBy left.old left.new (P.value port.old) (P.value port.new) table (says gate.old) (count_asks gate.old) (count_asks gate.new) (count_yes gate.old) (count_yes gate.new) result }
     ensures says { (n : ℕ) → says gate.new n ≡ says gate.old n }
     ensures paces { paces gate.new ≡ paces gate.old }
     ensures calm { calm gate.old ≡ true → (is_due_answer result ≡ false) × (calm gate.new ≡ true) }
 {
     let mut stack = Stack::new();
     stack.push(table);
-    match run_down(port, gate, &mut stack) {
+    match run_down(port, gate, &mut stack, *left) {
         Ok(()) => Ok(()),
         Err(stop) => {
+            *left = left_by(*left, stop, &stack);
             unwind(port, &mut stack);
             Err(stop)
         }
     }
 }
 
+// The number that is kept behind such a stop, with these tables in work.
+fn left_by(before: Option<u64>, stop: Stop, stack: &Stack) -> Option<u64>
+    ensures { result ≡ left_by before stop stack.now }
+{
+    match stop {
+        Stop::Paused(Pause::Due) => Some(stack.weight()),
+        _ => before,
+    }
+}
+
 // Goes on until no table is left.
-fn run_down<P: Port>(port: &mut P, gate: &mut dyn Preempt, stack: &mut Stack) -> Result<(), Stop>
+fn run_down<P: Port>(
+    port: &mut P,
+    gate: &mut dyn Preempt,
+    stack: &mut Stack,
+    below: Option<u64>,
+) -> Result<(), Stop>
     requires may { MayWork (P.value port.old) }
     requires stands { IsReleasing (P.value port.old) stack.old }
     requires one { length stack.old ≡ 1 }
@@ -71,14 +88,14 @@ fn run_down<P: Port>(port: &mut P, gate: &mut dyn Preempt, stack: &mut Stack) ->
     ensures settled { IsSettledTop (P.value port.old).holdings → IfErr result (λ e. e ≡ Paused Due) }
     ensures serves { Continues (P.value port.old) (P.value port.new) stack.old stack.new (misses (P.value port.old).post.machine result) }
     ensures stops { IfErr result (λ e. StopsRelease (P.value port.old) (P.value port.new) stack.old e) }
-    ensures course { RunsDownBy (P.value port.old) stack.old (P.value port.new) stack.new (says gate.old) (count_asks gate.old) (count_asks gate.new) (count_yes gate.old) (count_yes gate.new) result }
+    ensures course { RunsDownBy below (P.value port.old) stack.old (P.value port.new) stack.new (says gate.old) (count_asks gate.old) (count_asks gate.new) (count_yes gate.old) (count_yes gate.new) result }
     ensures says { (n : ℕ) → says gate.new n ≡ says gate.old n }
     ensures paces { paces gate.new ≡ paces gate.old }
     ensures calm { calm gate.old ≡ true → (is_due_answer result ≡ false) × (calm gate.new ≡ true) }
 {
     while !stack.is_empty() {
         if lower(port, stack)? {
-            if is_asked(stack) {
+            if is_asked(stack, below) {
                 if gate.due() {
                     return Err(Stop::Paused(Pause::Due));
                 }
@@ -159,8 +176,23 @@ fn close<P: Port>(port: &mut P, table: TableWork)
     put_ref(port, table.frame);
 }
 
-// Whether the gate is asked behind the last entry that is done with.
-fn is_asked(stack: &Stack) -> bool
+// Whether the gate is asked behind the last entry that is done with: only where less is left than that.
+fn is_asked(stack: &Stack, below: Option<u64>) -> bool
+    ensures { result ≡ is_asked_within below stack.now }
+{
+    is_asked_down(stack) && is_less(below, stack)
+}
+
+fn is_less(below: Option<u64>, stack: &Stack) -> bool
+    ensures { result ≡ is_less below (weight stack.now) }
+{
+    match below {
+        None => true,
+        Some(bound) => stack.weight() < bound,
+    }
+}
+
+fn is_asked_down(stack: &Stack) -> bool
     ensures { result ≡ is_asked_down stack.now }
 {
     match stack.top() {

@@ -1,5 +1,5 @@
 //! What an earlier turn left unfinished is released: the frames that the two old words of the own vCPU name.
-ghost use Rattle.std.specs.Prelude.{◌≡◌, ◌<◌, ℕ, Some, true, false, is_some, IfOk, IfErr, IsTrue};
+ghost use Rattle.std.specs.Prelude.{◌≡◌, ◌<◌, ℕ, Some, None, true, false, is_some, IfOk, IfErr, IsTrue};
 ghost use Rattle.xp_words.specs.KindWords.{kind_read};
 ghost use Rattle.xp_board.specs.Readings.{is_partial};
 ghost use Rattle.xp_board.specs.Told.{PortValue};
@@ -14,7 +14,7 @@ ghost use Rattle.level_release.specs.Course.{SettlesBy, SettlesOneBy};
 ghost use Rattle.level_release.specs.Settling.{HasTakenOld, SettledHand, SettledWord, TookOld};
 
 use crate::emptying::empty;
-use crate::releasing::release;
+use crate::releasing::release_within;
 use frame_words::{look_refs, put_ref};
 use kind_words::{dead_kind, leave, look_kind, lost, read_kind, resume_work};
 use partial_state::{TableWork, level_of};
@@ -26,7 +26,14 @@ use xp_words::{KindWord, Pause, Stop};
 
 /// Releases what the own old words name: the first one, and then the second. A pause leaves what is unfinished named in one of them.
 /// Afterwards both are known to name none, unless it is paused.
-pub fn settle<P: Port>(port: &mut P, gate: &mut dyn Preempt) -> Result<(), Stop>
+///
+/// `left` is how much was left when the gate paused it before: behind an entry of what the first word names the gate is asked only where less than that is left.
+/// Where the gate pauses it again, `left` is what is left then; once both words are settled, it is none.
+pub fn settle<P: Port>(
+    port: &mut P,
+    gate: &mut dyn Preempt,
+    left: &mut Option<u64>,
+) -> Result<(), Stop>
     requires rests { Rests (P.value port.old) }
     ensures rests { Rests (P.value port.new) }
     ensures serves { (owner pages : ℕ) → Serves (P.value port.old) (P.value port.new) (of_settle owner pages result) (misses (P.value port.old).post.machine result) }
@@ -35,17 +42,24 @@ pub fn settle<P: Port>(port: &mut P, gate: &mut dyn Preempt) -> Result<(), Stop>
     ensures hand { SettledHand (P.value port.old) (P.value port.new) }
     ensures clear { IfOk result (λ _. known_old First (P.value port.new).holdings ≡ Some 0) }
     ensures clear_too { IfOk result (λ _. known_old Second (P.value port.new).holdings ≡ Some 0) }
-    ensures course { SettlesBy (P.value port.old) (P.value port.new) (says gate.old) (count_asks gate.old) (count_asks gate.new) (count_yes gate.old) (count_yes gate.new) result }
+    ensures none { IfOk result (λ _. left.new ≡ None) }
+    ensures course { SettlesBy left.old left.new (P.value port.old) (P.value port.new) (says gate.old) (count_asks gate.old) (count_asks gate.new) (count_yes gate.old) (count_yes gate.new) result }
     ensures says { (n : ℕ) → says gate.new n ≡ says gate.old n }
     ensures paces { paces gate.new ≡ paces gate.old }
     ensures calm { calm gate.old ≡ true → (is_due_answer result ≡ false) × (calm gate.new ≡ true) }
 {
-    settle_word(port, gate, OldWord::First)?;
-    settle_word(port, gate, OldWord::Second)
+    settle_word(port, gate, OldWord::First, left)?;
+    *left = None;
+    settle_word(port, gate, OldWord::Second, left)
 }
 
 // What one of the words names. For the second one the first is known to name none.
-fn settle_word<P: Port>(port: &mut P, gate: &mut dyn Preempt, which: OldWord) -> Result<(), Stop>
+fn settle_word<P: Port>(
+    port: &mut P,
+    gate: &mut dyn Preempt,
+    which: OldWord,
+    left: &mut Option<u64>,
+) -> Result<(), Stop>
     requires rests { Rests (P.value port.old) }
     requires first { which ≡ Second → known_old First (P.value port.old).holdings ≡ Some 0 }
     ensures rests { Rests (P.value port.new) }
@@ -53,7 +67,7 @@ fn settle_word<P: Port>(port: &mut P, gate: &mut dyn Preempt, which: OldWord) ->
     ensures stops { (owner pages : ℕ) → IfErr result (λ e. Stops (P.value port.old) (P.value port.new) (of_settle owner pages result) e) }
     ensures kinds { IfErr result IsReleaseEnd }
     ensures hand { SettledWord (P.value port.old) (P.value port.new) which result }
-    ensures course { SettlesOneBy (P.value port.old) (P.value port.new) which (says gate.old) (count_asks gate.old) (count_asks gate.new) (count_yes gate.old) (count_yes gate.new) result }
+    ensures course { SettlesOneBy left.old left.new (P.value port.old) (P.value port.new) which (says gate.old) (count_asks gate.old) (count_asks gate.new) (count_yes gate.old) (count_yes gate.new) result }
     ensures says { (n : ℕ) → says gate.new n ≡ says gate.old n }
     ensures paces { paces gate.new ≡ paces gate.old }
     ensures calm { calm gate.old ≡ true → (is_due_answer result ≡ false) × (calm gate.new ≡ true) }
@@ -63,7 +77,7 @@ fn settle_word<P: Port>(port: &mut P, gate: &mut dyn Preempt, which: OldWord) ->
     }
     let frame = (take_old(port, which) - 1) as u32;
     let found = look_kind(port, frame);
-    settle_found(port, gate, frame, found)
+    settle_found(port, gate, frame, found, left)
 }
 
 // The frame that the word named, with its type count in hand, by its kind word that was found.
@@ -72,6 +86,7 @@ fn settle_found<P: Port>(
     gate: &mut dyn Preempt,
     frame: u32,
     found: u64,
+    left: &mut Option<u64>,
 ) -> Result<(), Stop>
     requires frame { frame < (P.value port.old).post.machine.frames }
     requires may { MayWork (P.value port.old) }
@@ -83,16 +98,16 @@ fn settle_found<P: Port>(
     ensures stops { (u : PortValue) (which : OldWord) → TookOld u (P.value port.old) which frame found → (owner pages : ℕ) → IfErr result (λ e. Stops u (P.value port.new) (of_settle owner pages result) e) }
     ensures kinds { IfErr result IsReleaseEnd }
     ensures hand { (u : PortValue) (which : OldWord) → TookOld u (P.value port.old) which frame found → SettledWord u (P.value port.new) which result }
-    ensures course { (u : PortValue) (which : OldWord) → TookOld u (P.value port.old) which frame found → SettlesOneBy u (P.value port.new) which (says gate.old) (count_asks gate.old) (count_asks gate.new) (count_yes gate.old) (count_yes gate.new) result }
+    ensures course { (u : PortValue) (which : OldWord) → TookOld u (P.value port.old) which frame found → SettlesOneBy left.old left.new u (P.value port.new) which (says gate.old) (count_asks gate.old) (count_asks gate.new) (count_yes gate.old) (count_yes gate.new) result }
     ensures says { (n : ℕ) → says gate.new n ≡ says gate.old n }
     ensures paces { paces gate.new ≡ paces gate.old }
     ensures calm { calm gate.old ≡ true → (is_due_answer result ≡ false) × (calm gate.new ≡ true) }
 {
     let kind = read_kind(found);
     if kind.validated {
-        release(port, gate, frame, kind.kind)
+        release_within(port, gate, frame, kind.kind, left)
     } else if kind.partial {
-        settle_partial(port, gate, frame, kind, found)
+        settle_partial(port, gate, frame, kind, found, left)
     } else {
         put_old(port, OldWord::First, frame);
         Err(Stop::Paused(Pause::Busy { frame, found }))
@@ -106,6 +121,7 @@ fn settle_partial<P: Port>(
     frame: u32,
     kind: KindWord,
     found: u64,
+    left: &mut Option<u64>,
 ) -> Result<(), Stop>
     requires frame { frame < (P.value port.old).post.machine.frames }
     requires may { MayWork (P.value port.old) }
@@ -118,7 +134,7 @@ fn settle_partial<P: Port>(
     ensures stops { (u : PortValue) (which : OldWord) → TookOld u (P.value port.old) which frame found → (owner pages : ℕ) → IfErr result (λ e. Stops u (P.value port.new) (of_settle owner pages result) e) }
     ensures kinds { IfErr result IsReleaseEnd }
     ensures hand { (u : PortValue) (which : OldWord) → TookOld u (P.value port.old) which frame found → SettledWord u (P.value port.new) which result }
-    ensures course { (u : PortValue) (which : OldWord) → TookOld u (P.value port.old) which frame found → SettlesOneBy u (P.value port.new) which (says gate.old) (count_asks gate.old) (count_asks gate.new) (count_yes gate.old) (count_yes gate.new) result }
+    ensures course { (u : PortValue) (which : OldWord) → TookOld u (P.value port.old) which frame found → SettlesOneBy left.old left.new u (P.value port.new) which (says gate.old) (count_asks gate.old) (count_asks gate.new) (count_yes gate.old) (count_yes gate.new) result }
     ensures says { (n : ℕ) → says gate.new n ≡ says gate.old n }
     ensures paces { paces gate.new ≡ paces gate.old }
     ensures calm { calm gate.old ≡ true → (is_due_answer result ≡ false) × (calm gate.new ≡ true) }
@@ -138,7 +154,7 @@ fn settle_partial<P: Port>(
                 own: true,
                 recorded: false,
             };
-            empty(port, gate, table)
+            empty(port, gate, table, left)
         }
         Ok(()) => {
             let clock = look_clock(port);

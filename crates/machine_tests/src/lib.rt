@@ -9,6 +9,8 @@ mod examples;
 #[cfg(test)]
 mod lists;
 #[cfg(test)]
+mod rivals;
+#[cfg(test)]
 mod runs;
 #[cfg(test)]
 mod steps;

@@ -1,4 +1,5 @@
 pub mod LevelFacts
 pub mod StackFacts
 pub mod WeightFacts
+pub mod WeightSums
 pub mod WorkFacts

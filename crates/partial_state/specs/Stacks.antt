@@ -17,6 +17,11 @@ abbrev pub IsStack : List TableWork → Type 0
 IsStack [] = Unit {0}
 IsStack (t ∷ ts) = IsTable t × IsUnder t ts × IsStack ts
 
+-- whatever their order
+abbrev pub AreTables : List TableWork → Type 0
+AreTables [] = Unit {0}
+AreTables (t ∷ ts) = IsTable t × AreTables ts
+
 -- ---- the innermost
 -- one more of its entries is done with
 abbrev pub advanced : List TableWork → List TableWork

@@ -1,5 +1,6 @@
 ghost use Rattle.std.specs.Prelude.{◌≡◌, ◌<◌, ◌≤◌, ◌∷◌, ◌↔◌, [], drop, length, IsTrue, IfSome, IfNone};
-ghost use Rattle.partial_state.specs.Stacks.{IsStack, IsTable, IsUnder, advanced, done_on_top, left_on_top, retreated};
+ghost use Rattle.partial_state.specs.Stacks.{AreTables, IsStack, IsTable, IsUnder, advanced, done_on_top, left_on_top, retreated};
+ghost use Rattle.partial_state.specs.Weights.{table_weight, weight};
 
 use arrayvec::ArrayVec;
 use std::marker::Model;
@@ -117,4 +118,38 @@ impl Stack {
             ..top
         };
     }
+
+    /// How much is left to do for them at most, as one number: less after each entry that is done with, and after each table that is left.
+    pub fn weight(&self) -> u64
+        ensures { result ≡ weight self.now }
+    {
+        weight_of(self.items.as_slice())
+    }
+}
+
+// Of tables in any order.
+fn weight_of(tables: &[TableWork]) -> u64
+    requires few { length tables.now ≤ 4 }
+    requires tables { AreTables tables.now }
+    ensures { result ≡ weight tables.now }
+{
+    let mut sum = 0;
+    for table in tables {
+        sum += table_weight(*table);
+    }
+    sum
+}
+
+// An entry weighs more than a table with all its entries that it may name.
+fn table_weight(table: TableWork) -> u64
+    requires { IsTable table }
+    ensures { result ≡ table_weight table }
+{
+    let entry: u64 = match table.level {
+        1 => 1,
+        2 => 514,
+        3 => 264_196,
+        _ => 135_796_744,
+    };
+    1 + u64::from(512 - table.done) * entry
 }

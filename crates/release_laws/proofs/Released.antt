@@ -1,5 +1,5 @@
 -- A whole release leaves what the plain one leaves.
-use Rattle.std.proofs.Common.{◌≡◌, ℕ, suc, ◌-◌, ◌<◌, ◌≤◌, ◌^◌, ◌==◌, Bool, true, false, List, [], ◌∷◌, None, Result, Ok, IfOk, sym, ap, ◌∙◌, subst, arith}
+use Rattle.std.proofs.Common.{◌≡◌, ℕ, suc, ◌-◌, ◌<◌, ◌≤◌, ◌^◌, ◌==◌, Option, Bool, true, false, List, [], ◌∷◌, None, Result, Ok, IfOk, sym, ap, ◌∙◌, subst, arith}
 use Rattle.xp_words.specs.KindWords.{kind_fields}
 use Rattle.xp_words.specs.Machine.{Machine}
 use Rattle.xp_words.specs.PageTypes.{is_table}
@@ -105,7 +105,7 @@ module _ (v : PortValue) (f level : ℕ) (p : Plain) (telling : is_telling v ≡
     unfolding given_back
     ended w e = subst (Describes n (told_word w)) e.left e.describes
 
-    emptied_left : (w : PortValue) (answers : List Bool) (answer : Result (Unit {0}) Stop) → Emptied x (closing_table f level) w answers answer → IfOk answer (λ done. Left w)
+    emptied_left : {below : Option ℕ} → (w : PortValue) (answers : List Bool) (answer : Result (Unit {0}) Stop) → Emptied below x (closing_table f level) w answers answer → IfOk answer (λ done. Left w)
     emptied_left _ _ _ (course.finished w answers ran) = ended w (ran_leads n (let_go level f p) x (closing_table f level ∷ []) w [] answers (Ok tt) ran begins)
     emptied_left _ _ _ (course.paused y w us answers stop ran unwound) = tt
 
@@ -113,7 +113,7 @@ module _ (v : PortValue) (f level : ℕ) (p : Plain) (telling : is_telling v ≡
   released low _ _ _ (course.plain w off a) = plain_left w off a
   released low _ _ _ (course.shared u w table a b) = shared_left u w a b
   released low _ _ _ (course.last u x w word k answers answer table same few a look e) =
-      emptied_left u x word table low a look w answers answer (subst (λ j. Emptied x (closing_table f j) w answers answer) (level_type-apart k level few low same) e)
+      emptied_left u x word table low a look w answers answer (subst (λ j. Emptied None x (closing_table f j) w answers answer) (level_type-apart k level few low same) e)
 
 pub leaves_plain : (v w : PortValue) (f level : ℕ) (answers : List Bool) (p : Plain) → is_telling v ≡ true → f < v.post.machine.frames → level ≤ 4 → Describes v.post.machine (told_word v) p →
     WasReleased v f (level_type level) w answers (Ok tt) → Describes v.post.machine (told_word w) (let_go level f p)

@@ -1,5 +1,5 @@
 -- The course of a release: what is left to be given back stays the same plain value at each port.
-use Rattle.std.proofs.Common.{◌≡◌, ℕ, suc, ◌+◌, ◌-◌, ◌<◌, ◌≤◌, Bool, true, false, List, [], ◌∷◌, Result, Ok, IfOk, refl, sym, ap, ◌∙◌, subst, arith}
+use Rattle.std.proofs.Common.{◌≡◌, ℕ, suc, ◌+◌, ◌-◌, ◌<◌, ◌≤◌, Option, Bool, true, false, List, [], ◌∷◌, Result, Ok, IfOk, refl, sym, ap, ◌∙◌, subst, arith}
 use Rattle.xp_words.specs.Machine.{Machine}
 use Rattle.xp_words.specs.declared.reply.Stop.{Stop}
 use Rattle.xp_words.specs.declared.entry.Demand.{Demand}
@@ -165,7 +165,7 @@ lowered_leads n q _ _ _ _ _ (course.stopped u w t ts stop few a) s = tt
 lowered_leads n q _ _ _ _ _ (course.emptied u w t ts full a) s = emptied_leads n u w q t ts (t.level - 1) (above_none t.level s.tables.0) full a s
 
 -- ---- the whole loop
-pub ran_leads : (n : Machine) (q : Plain) (v : PortValue) (ts : List TableWork) (w : PortValue) (xs : List TableWork) (answers : List Bool) (answer : Result (Unit {0}) Stop) → RanDown v ts w xs answers answer → Leads n v ts q →
+pub ran_leads : {below : Option ℕ} → (n : Machine) (q : Plain) (v : PortValue) (ts : List TableWork) (w : PortValue) (xs : List TableWork) (answers : List Bool) (answer : Result (Unit {0}) Stop) → RanDown below v ts w xs answers answer → Leads n v ts q →
     IfOk answer (λ done. Leads n w xs q)
 ran_leads n q v ts _ _ _ _ course.begun s = s
 ran_leads n q v ts _ _ _ _ (course.unasked u w us xs done answers before step off) s = lowered_leads n q u us w xs (Ok done) step (ran_leads n q v ts u us answers (Ok tt) before s)

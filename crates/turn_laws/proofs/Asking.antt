@@ -9,7 +9,7 @@ use Rattle.xp_preempt.specs.Gates.{GivesAnswers, last_ask}
 use Rattle.xp_preempt.proofs.Numbering.{says_last, says_no}
 use Rattle.level_release.proofs.Noes.{settled_no}
 use Rattle.vcpu_turn.specs.declared.cpu.TurnEnd.{TurnEnd}
-use Rattle.vcpu_turn.specs.Cpus.{Processing, next_of, task_of}
+use Rattle.vcpu_turn.specs.Cpus.{Processing, next_of, nothing_left, task_of}
 use Rattle.vcpu_turn.specs.Lists.{asks_between, is_due_answer}
 use Rattle.vcpu_turn.specs.Turning.{DoesNext, DoesTurn, IsTurn, CountsAsks, GoesNoFurther, is_due}
 use Rattle.vcpu_turn.specs.Turning as turning
@@ -28,20 +28,20 @@ next_hears c None c2 v w answers end retires hears = noes_same answers [] (is_du
 going_hears : (c : Processing) (o : Option Op) (v : PortValue) (c2 : Processing) (w : PortValue) (answers : List Bool) (end : TurnEnd) → (does : DoesTurn c o v c2 w answers end) → HearsNoWithin (tried_going does) → NoUntilDue answers (is_due end)
 going_hears c o v _ _ _ _ (turning.DoesTurn.unsettled w answers p settles) hears = subst (λ (b : Bool). NoUntilDue answers b) (sym (due_paused p)) (settles_hears v w answers (Err (Paused p)) settles)
 going_hears c o v _ _ _ _ (turning.DoesTurn.settled u w c2 early answers end settles does) hears =
-    noes_then early answers (is_due end) (settled_no v u early (Ok tt) refl settles.course) (next_hears c o c2 u w answers end does hears)
+    noes_then early answers (is_due end) (settled_no v u early (Ok tt) refl settles.course) (next_hears (nothing_left c) o c2 u w answers end does hears)
 
 pub turn_hears : (c c2 : Processing) (end : TurnEnd) (v w : PortValue) (answers : List Bool) → (turn : IsTurn c c2 end v w answers) → HearsNoWithin (elements_tried turn) → NoUntilDue answers (is_due end)
 turn_hears c c2 end v w answers turn hears = going_hears c (next_of c) turn.begun c2 turn.worked answers end turn.does hears
 
 going_asks : (c : Processing) (o : Option Op) (op : Op) → o ≡ Some op → (v : PortValue) (c2 : Processing) (w : PortValue) (answers : List Bool) (end : TurnEnd) → (does : DoesTurn c o v c2 w answers end) →
-    CountsAsks c.at.done end answers (asks_within (tried_going does))
+    CountsAsks c.left c.at.done end answers (asks_within (tried_going does))
 going_asks c None op is v c2 w answers end does = absurd (cc)
 going_asks c (Some other) op is v _ _ _ _ (turning.DoesTurn.unsettled w answers p settles) = turning.CountsAsks.settling v w p settles refl refl
 going_asks c (Some other) op is v _ _ _ _ (turning.DoesTurn.settled u w c2 early answers end settles on) =
     turning.CountsAsks.counted on.to.done on.answer v u early answers settles on.end_is refl (brings c.domain (task_of other) c.at.awaited u c.at.done on.to.done w answers on.answer on.went.works).asks
 
 pub turn_asks : (c d : Processing) (op : Op) (end : TurnEnd) (v w : PortValue) (answers : List Bool) → next_of c ≡ Some op → (turn : IsTurn c d end v w answers) →
-    CountsAsks c.at.done end answers (asks_within (elements_tried turn))
+    CountsAsks c.left c.at.done end answers (asks_within (elements_tried turn))
 turn_asks c d op end v w answers next turn = going_asks c (next_of c) op next turn.begun d turn.worked answers end turn.does
 
 -- ---- no ask follows one at which the gate says yes
@@ -87,7 +87,7 @@ module _ (c : Processing) (before : ℕ) (says : ℕ → Bool) (j : ℕ) (some :
         answer = on.answer;
         end_is = on.end_is;
         cpu = inl on.cpu;
-        within = within_by c.at.done on.to.done (asks_within (tried_next c (Some other) c2 u w answers end on)) (length answers) (length (answers ++ early)) j on.answer
+        within = within_by c.at.done on.to.done (asks_within (tried_next (nothing_left c) (Some other) c2 u w answers end on)) (length answers) (length (answers ++ early)) j on.answer
             (brings c.domain (task_of other) c.at.awaited u c.at.done on.to.done w answers on.answer on.went.works).asks (omega (arith, all))
             (subst (λ (b : Bool). (length (answers ++ early) < j) ⊎ ((length (answers ++ early) ≡ j) × (b ≡ true))) (ap is_due on.end_is ∙ due_ended on.to.done on.answer)
             (past says before (answers ++ early) (is_due end) gives noes j some less is_yes));

@@ -108,14 +108,14 @@ due_same : (answers : List Bool) (answer : Result (Unit {0}) Stop) → NoUntilDu
 due_same answers answer noes = subst (λ (b : Bool). NoUntilDue answers b) (sym (due_released answer)) noes
 
 -- what was settled first
-pub settles_hears : (v w : PortValue) (answers : List Bool) (answer : Result (Unit {0}) Stop) → Settles v w answers answer → NoUntilDue answers (is_due_answer answer)
+pub settles_hears : {below : Option ℕ} → (v w : PortValue) (answers : List Bool) (answer : Result (Unit {0}) Stop) → Settles below v w answers answer → NoUntilDue answers (is_due_answer answer)
 settles_hears v w answers answer s = subst (λ (b : Bool). NoUntilDue answers b) (sym (due_released answer)) (settled_noes v w answers answer s.course)
 
 -- behind it
-settled_then : (v u : PortValue) (early answers : List Bool) (answer : Result (Unit {0}) Stop) → Settles v u early (Ok tt) → NoUntilDue answers (is_due_answer answer) → NoUntilDue (answers ++ early) (is_due_answer answer)
+settled_then : (v u : PortValue) (early answers : List Bool) (answer : Result (Unit {0}) Stop) → Settles None v u early (Ok tt) → NoUntilDue answers (is_due_answer answer) → NoUntilDue (answers ++ early) (is_due_answer answer)
 settled_then v u early answers answer settles noes = noes_then early answers (is_due_answer answer) (settled_no v u early (Ok tt) refl settles.course) (due_same answers answer noes)
 
-module _ (pairs : List Pair) (o : Owners) (k : ℕ) (v z : PortValue) (early : List Bool) (settles : Settles v z early (Ok tt)) (p : Pair) (at : slice_get pairs k ≡ Some p) where
+module _ (pairs : List Pair) (o : Owners) (k : ℕ) (v z : PortValue) (early : List Bool) (settles : Settles None v z early (Ok tt)) (p : Pair) (at : slice_get pairs k ≡ Some p) where
   paused_release : (t : PageType) (w : PortValue) (answers : List Bool) (answer : Result (Unit {0}) Stop) → ExchangesEntry pairs (tried k v w (answers ++ early) answer) → PausesBehind t w answers answer →
       PausesRelease pairs (tried k v w (answers ++ early) answer)
   paused_release t w answers answer exchange pause =
@@ -306,7 +306,7 @@ module _ (op : ExtOp) where
 abbrev ElementHears : List ExtOp → Tried → Type 0
 ElementHears list t = HearsNo t ⊎ (PausesUnpin list t ⊎ PausesOldBase list t)
 
-module _ (list : List ExtOp) (d k : ℕ) (v z : PortValue) (early : List Bool) (settles : Settles v z early (Ok tt)) (op : ExtOp) (at : slice_get list k ≡ Some op) where
+module _ (list : List ExtOp) (d k : ℕ) (v z : PortValue) (early : List Bool) (settles : Settles None v z early (Ok tt)) (op : ExtOp) (at : slice_get list k ≡ Some op) where
   paused_unpin : (f : ℕ) → ext_element op ≡ elements.Unpin f → (w : PortValue) (answers : List Bool) (answer : Result (Unit {0}) Stop) (t : PageType) → answer ≡ Ok tt → Pausing t w answers → PausesUnpin list (tried k v w (answers ++ early) answer)
   paused_unpin f is w answers answer t done pausing =
       let none = settled_no v z early (Ok tt) refl settles.course in

@@ -44,7 +44,7 @@ use Rattle.turn_laws.specs.Unhindered.{IsUnhindered}
 pub same_came : (v w : PortValue) → w ≡ v → Came v w
 same_came v w same = subst (Came v) (sym same) (came_self v)
 
-pub settles_came : (v w : PortValue) (answers : List Bool) (answer : Result (Unit {0}) Stop) → Settles v w answers answer → Came v w
+pub settles_came : {below : Option ℕ} → (v w : PortValue) (answers : List Bool) (answer : Result (Unit {0}) Stop) → Settles below v w answers answer → Came v w
 settles_came v w answers answer s = serves_came v w (of_settle 0 0 answer) (misses v.post.machine answer) (s.serves 0 0)
 
 performs_came : (d : ℕ) (e : Element) (awaited : Option ℕ) (v w : PortValue) (answers : List Bool) (answer : Result (Unit {0}) Stop) → Performs d e awaited v w answers answer → Came v w
@@ -174,7 +174,7 @@ module _ (stays : AloneStays) (neither : NeitherLostNorBusy) (nobody : NobodyWai
   spared_back v u (Err (Refused x)) came s = tt
   spared_back v u (Err (Paused x)) came s = subst (λ (q : Post). IsUnhindered q.machine (ends.Paused x)) (came_post v u came) s
 
-  pub settles_spared : (v w : PortValue) (answers : List Bool) (answer : Result (Unit {0}) Stop) → IsSpared v → Settles v w answers answer → Spared v answer
+  pub settles_spared : {below : Option ℕ} → (v w : PortValue) (answers : List Bool) (answer : Result (Unit {0}) Stop) → IsSpared v → Settles below v w answers answer → Spared v answer
   settles_spared v w answers answer s settles = call_spared v w (of_settle 0 0 answer) answer refl s (settles.stops 0 0)
 
   updates_spared : (o : Owners) (e : updating.Element) (v w : PortValue) (answers : List Bool) (answer : Result (Unit {0}) Stop) → IsSpared v → Updates o e v w answers answer → Spared v answer

@@ -1,5 +1,5 @@
 -- The answers of a gate while tables are acquired and released: it says no each time, until it pauses that.
-use Rattle.std.proofs.Common.{◌≡◌, ℕ, ◌+◌, ◌++◌, ◌&&◌, if◌then◌else◌, Bool, true, false, List, [], ◌∷◌, Result, Ok, Err, refl, sym, subst, arith}
+use Rattle.std.proofs.Common.{◌≡◌, ℕ, ◌+◌, ◌++◌, ◌&&◌, if◌then◌else◌, Option, Bool, true, false, List, [], ◌∷◌, Result, Ok, Err, refl, sym, subst, arith, None}
 use Rattle.xp_words.specs.KindWords.{kind_fields}
 use Rattle.xp_words.specs.declared.kind.KindWord.{KindWord}
 use Rattle.xp_words.specs.declared.kind.PageType.{PageType}
@@ -14,7 +14,7 @@ use Rattle.table_releases.specs.Found.{has_recorded}
 use Rattle.table_words.specs.declared.old_words.OldWord.{OldWord}
 use Rattle.level_release.specs.Asking.{is_due_answer}
 use Rattle.level_release.specs.Course as releasing
-use Rattle.level_release.specs.Course.{Emptied, RanDown, Settled, SettledOne, SettledPartial, WasReleased}
+use Rattle.level_release.specs.Course.{Emptied, RanDown, Settled, SettledOne, SettledPartial, ReleasedWithin}
 use Rattle.turn_laws.specs.Asking.{NoUntilDue}
 
 -- ---- answers
@@ -63,35 +63,35 @@ pub noes_same : (answers asked : List Bool) (due : Bool) → answers ≡ asked �
 noes_same answers asked due same noes = subst (λ (xs : List Bool). NoUntilDue xs due) (sym same) noes
 
 -- ---- a release
-ran_noes : (v : PortValue) (ts : List TableWork) (w : PortValue) (us : List TableWork) (answers : List Bool) (answer : Result (Unit {0}) Stop) → RanDown v ts w us answers answer → NoUntilDue answers (is_due_answer answer)
+ran_noes : {below : Option ℕ} → (v : PortValue) (ts : List TableWork) (w : PortValue) (us : List TableWork) (answers : List Bool) (answer : Result (Unit {0}) Stop) → RanDown below v ts w us answers answer → NoUntilDue answers (is_due_answer answer)
 ran_noes v ts _ _ _ _ releasing.RanDown.begun = noes_none false
 ran_noes v ts _ _ _ _ (releasing.RanDown.unasked u w us xs done answers ran one off) = ran_noes v ts u us answers (Ok tt) ran
 ran_noes v ts _ _ _ _ (releasing.RanDown.asked u w us xs answers ran one on) = noes_asked answers false (noes_no answers (ran_noes v ts u us answers (Ok tt) ran))
 ran_noes v ts _ _ _ _ (releasing.RanDown.due u w us xs answers ran one on) = noes_due answers (noes_no answers (ran_noes v ts u us answers (Ok tt) ran))
 ran_noes v ts _ _ _ _ (releasing.RanDown.stopped u w us xs answers stop ran one) = noes_all answers _ (noes_no answers (ran_noes v ts u us answers (Ok tt) ran))
 
-emptied_noes : (v w : PortValue) (t : TableWork) (answers : List Bool) (answer : Result (Unit {0}) Stop) → Emptied v t w answers answer → NoUntilDue answers (is_due_answer answer)
+emptied_noes : {below : Option ℕ} → (v w : PortValue) (t : TableWork) (answers : List Bool) (answer : Result (Unit {0}) Stop) → Emptied below v t w answers answer → NoUntilDue answers (is_due_answer answer)
 emptied_noes v _ t _ _ (releasing.Emptied.finished w answers ran) = ran_noes v (t ∷ []) w [] answers (Ok tt) ran
 emptied_noes v _ t _ _ (releasing.Emptied.paused u w us answers stop ran unwound) = ran_noes v (t ∷ []) u us answers (Err stop) ran
 
-pub released_noes : (v w : PortValue) (f : ℕ) (kind : PageType) (answers : List Bool) (answer : Result (Unit {0}) Stop) → WasReleased v f kind w answers answer → NoUntilDue answers (is_due_answer answer)
-released_noes v _ f kind _ _ (releasing.WasReleased.plain w ordinary drops) = noes_none false
-released_noes v _ f kind _ _ (releasing.WasReleased.shared u w table drops gave) = noes_none false
-released_noes v _ f kind _ _ (releasing.WasReleased.last u x w word level answers answer table at high drops looks emptied) = emptied_noes x w _ answers answer emptied
+pub released_noes : {below : Option ℕ} → (v w : PortValue) (f : ℕ) (kind : PageType) (answers : List Bool) (answer : Result (Unit {0}) Stop) → ReleasedWithin below v f kind w answers answer → NoUntilDue answers (is_due_answer answer)
+released_noes v _ f kind _ _ (releasing.ReleasedWithin.plain w ordinary drops) = noes_none false
+released_noes v _ f kind _ _ (releasing.ReleasedWithin.shared u w table drops gave) = noes_none false
+released_noes v _ f kind _ _ (releasing.ReleasedWithin.last u x w word level answers answer table at high drops looks emptied) = emptied_noes x w _ answers answer emptied
 
-partial_noes : (v w : PortValue) (f : ℕ) (k : KindWord) (answers : List Bool) (answer : Result (Unit {0}) Stop) (recorded : Bool) → SettledPartial v w f k answers answer recorded → NoUntilDue answers (is_due_answer answer)
-partial_noes v w f k answers answer true h = emptied_noes h.0 w _ answers answer h.6
-partial_noes v w f k answers answer false h = noes_same answers [] _ h.1 (noes_none _)
+partial_noes : (below : Option ℕ) (v w : PortValue) (f : ℕ) (k : KindWord) (answers : List Bool) (answer : Result (Unit {0}) Stop) (recorded : Bool) → SettledPartial below v w f k answers answer recorded → NoUntilDue answers (is_due_answer answer)
+partial_noes below v w f k answers answer true h = emptied_noes h.0 w _ answers answer h.6
+partial_noes below v w f k answers answer false h = noes_same answers [] _ h.1 (noes_none _)
 
-one_noes : (v w : PortValue) (which : OldWord) (answers : List Bool) (answer : Result (Unit {0}) Stop) → SettledOne v which w answers answer → NoUntilDue answers (is_due_answer answer)
+one_noes : {below : Option ℕ} → (v w : PortValue) (which : OldWord) (answers : List Bool) (answer : Result (Unit {0}) Stop) → SettledOne below v which w answers answer → NoUntilDue answers (is_due_answer answer)
 one_noes v _ which _ _ (releasing.SettledOne.none w looks) = noes_none false
 one_noes v _ which _ _ (releasing.SettledOne.live a b c w f word answers answer looks takes sees form released) = released_noes c w f (kind_fields word).kind answers answer released
 one_noes v _ which _ _ (releasing.SettledOne.partial a b c d w f word answers answer looks takes sees form resumes settled) =
-    partial_noes d w f (kind_fields word) answers answer (has_recorded (kind_fields word).kind (kind_fields word)) settled
+    partial_noes _ d w f (kind_fields word) answers answer (has_recorded (kind_fields word).kind (kind_fields word)) settled
 one_noes v _ which _ _ (releasing.SettledOne.lost a b c d w f word found looks takes sees form resumes other named) = noes_none false
 one_noes v _ which _ _ (releasing.SettledOne.busy a b c w f word looks takes sees off away named) = noes_none false
 
-pub settled_noes : (v w : PortValue) (answers : List Bool) (answer : Result (Unit {0}) Stop) → Settled v w answers answer → NoUntilDue answers (is_due_answer answer)
+pub settled_noes : {below : Option ℕ} → (v w : PortValue) (answers : List Bool) (answer : Result (Unit {0}) Stop) → Settled below v w answers answer → NoUntilDue answers (is_due_answer answer)
 settled_noes v _ _ _ (releasing.Settled.first w answers stop one) = one_noes v w _ answers (Err stop) one
 settled_noes v _ _ _ (releasing.Settled.both u w answers more answer one two) =
     noes_then answers more _ (noes_no answers (one_noes v u _ answers (Ok tt) one)) (one_noes u w _ more answer two)

@@ -98,9 +98,9 @@ took_silent owner level v _ _ _ _ off (exchanging.TookDemand.acquired w g answer
 took_silent owner level v _ _ _ _ off (exchanging.TookDemand.refused w g answers stop above acquired) = absurd (not_both _ (level_type-table (level - 1) (omega (arith, above))) off)
 
 was_silent : (v w : PortValue) (f : ℕ) (kind : PageType) (answers : List Bool) (answer : Result (Unit {0}) Stop) → is_table kind ≡ false → WasReleased v f kind w answers answer → (answers ≡ []) × (IsClear v → IsClear w)
-was_silent v _ f kind _ _ off (releasing.WasReleased.plain w ordinary gave) = (refl, λ clear. clear_on v w (keeps_does v w _ (drops f kind) gave.found) clear)
-was_silent v _ f kind _ _ off (releasing.WasReleased.shared u w table dropped gave) = absurd (not_both _ table off)
-was_silent v _ f kind _ _ off (releasing.WasReleased.last u x w word level answers answer table at high dropped looks emptied) = absurd (not_both _ table off)
+was_silent v _ f kind _ _ off (releasing.ReleasedWithin.plain w ordinary gave) = (refl, λ clear. clear_on v w (keeps_does v w _ (drops f kind) gave.found) clear)
+was_silent v _ f kind _ _ off (releasing.ReleasedWithin.shared u w table dropped gave) = absurd (not_both _ table off)
+was_silent v _ f kind _ _ off (releasing.ReleasedWithin.last u x w word level answers answer table at high dropped looks emptied) = absurd (not_both _ table off)
 
 released_silent : (v : PortValue) (d : Demand) (w : PortValue) (more : List Bool) → asks_table d ≡ false → ReleasedDemand v d w more → (more ≡ []) × (IsClear v → IsClear w)
 released_silent v _ _ _ off exchanging.ReleasedDemand.nothing = (refl, λ clear. clear)
@@ -155,7 +155,7 @@ exchanged_silent v x o _ _ _ (exchanging.Exchanged.done u y z a w seen old answe
 
 -- a write that moves no table asks nothing, and where it is done the old words name none again
 module _ (pairs : List Pair) (o : Owners) (k : ℕ) where
-  module _ (v z : PortValue) (early : List Bool) (settles : Settles v z early (Ok tt)) (p : Pair) (at : slice_get pairs k ≡ Some p) (clear : IsClear z) where
+  module _ (v z : PortValue) (early : List Bool) (settles : Settles None v z early (Ok tt)) (p : Pair) (at : slice_get pairs k ≡ Some p) (clear : IsClear z) where
     abbrev SilentOr : PortValue → List Bool → Result (Unit {0}) Stop → Type 0
     SilentOr w answers answer = Silent w answers answer ⊎ MovesATable pairs (tried k v w (answers ++ early) answer)
 
@@ -336,8 +336,8 @@ module _ (c d : Processing) (op : Op) (foreign : ℕ) (pairs : List Pair) (end :
   asks_none : asks_within (elements_tried turn) ≡ 0
   asks_none = within_none (elements_tried turn) quiet
 
-  pub silent_counts : CountsAsks c.at.done end answers 0
-  silent_counts = subst (λ (n : ℕ). CountsAsks c.at.done end answers n) asks_none (turn_asks c d op end v w answers next turn)
+  pub silent_counts : CountsAsks c.left c.at.done end answers 0
+  silent_counts = subst (λ (n : ℕ). CountsAsks c.left c.at.done end answers n) asks_none (turn_asks c d op end v w answers next turn)
 
   pub silent_within : (before : ℕ) (says : ℕ → Bool) → GivesAnswers says before answers → (j : ℕ) → 0 < j → before + j < last_ask → says (before + j) ≡ true → GoesNoFurther c d end (c.at.done + j)
   silent_within before says gives j some less is_yes =

@@ -4,7 +4,7 @@ use Rattle.xp_words.specs.declared.ops.Op.{Op}
 use Rattle.xp_words.specs.declared.reply.Stop.{Stop}
 use Rattle.xp_words.specs.declared.reply.Stop.TheVariants.{Refused, Paused}
 use Rattle.xp_board.specs.Told.{PortValue}
-use Rattle.vcpu_turn.specs.Cpus.{Processing, next_of, end_of}
+use Rattle.vcpu_turn.specs.Cpus.{Processing, next_of, end_of, nothing_left}
 use Rattle.vcpu_turn.specs.Turning as turning
 use Rattle.vcpu_turn.specs.Turning.{DoesNext, DoesTurn, IsTurn}
 use Rattle.vcpu_turn.specs.declared.cpu.TurnEnd.{TurnEnd}
@@ -21,7 +21,7 @@ next_none c d (Some op) end v w answers is does = absurd (never_retired does.to.
 
 none_left : {c : Processing} {o : Option Op} {v : PortValue} {d : Processing} {w : PortValue} {answers : List Bool} {end : TurnEnd} → end ≡ ends.Retired → DoesTurn c o v d w answers end → o ≡ None
 none_left is (turning.DoesTurn.unsettled w answers p settles) = absurd cc
-none_left {c} {o} {v} {d} is (turning.DoesTurn.settled u w d2 early answers end settles does) = next_none c d2 o end u w answers is does
+none_left {c} {o} {v} {d} is (turning.DoesTurn.settled u w d2 early answers end settles does) = next_none (nothing_left c) d2 o end u w answers is does
 
 pub retired_at_end : (c d : Processing) (v w : PortValue) (answers : List Bool) → IsTurn c d ends.Retired v w answers → next_of c ≡ None
 retired_at_end c d v w answers turn = none_left refl turn.does

@@ -1,5 +1,5 @@
 -- What is settled leaves both old words at 0; and where they are, settling asks nothing.
-use Rattle.std.proofs.Common.{◌≡◌, ◌≢◌, ℕ, ◌+◌, ◌-◌, Bool, true, false, List, [], ◌∷◌, None, Result, Ok, Err, refl, sym, ap, subst, arith}
+use Rattle.std.proofs.Common.{◌≡◌, ◌≢◌, ℕ, ◌+◌, ◌-◌, Option, Bool, true, false, List, [], ◌∷◌, None, Result, Ok, Err, refl, sym, ap, subst, arith}
 use Rattle.xp_words.specs.KindWords.{kind_fields}
 use Rattle.xp_words.specs.declared.kind.KindWord.{KindWord}
 use Rattle.xp_words.specs.declared.kind.PageType.{PageType}
@@ -20,7 +20,7 @@ use Rattle.table_words.specs.declared.old_words.OldWord.{OldWord}
 use Rattle.table_words.specs.declared.old_words.OldWord.TheVariants.{First, Second}
 use Rattle.level_release.specs.Course as course
 use Rattle.level_release.proofs.Named.{not_flushed}
-use Rattle.level_release.specs.Course.{Emptied, Lowered, RanDown, Settled, SettledOne, SettledPartial, WasReleased}
+use Rattle.level_release.specs.Course.{Emptied, Lowered, RanDown, Settled, SettledOne, SettledPartial, ReleasedWithin}
 use Rattle.turn_laws.proofs.Clearing.{Keeps, Known, drops, ends_dead, keeps_does, keeps_moves, known_found, known_left, known_on, puts, released}
 
 -- ---- a release that ends leaves the own words alone
@@ -37,26 +37,26 @@ lowered_keeps _ _ _ _ _ done ok (course.Lowered.opened v w t ts f recorded closi
 lowered_keeps _ _ _ _ _ done ok (course.Lowered.stopped v w t ts stop less gave) = absurd (cc)
 lowered_keeps _ _ _ _ _ done ok (course.Lowered.emptied v w t ts full dead) = keeps_does v w _ (ends_dead t.frame (level_type t.level) false) dead
 
-ran_keeps : (v : PortValue) (ts : List TableWork) (w : PortValue) (us : List TableWork) (answers : List Bool) (answer : Result (Unit {0}) Stop) → answer ≡ Ok tt → RanDown v ts w us answers answer → Keeps v w
+ran_keeps : {below : Option ℕ} → (v : PortValue) (ts : List TableWork) (w : PortValue) (us : List TableWork) (answers : List Bool) (answer : Result (Unit {0}) Stop) → answer ≡ Ok tt → RanDown below v ts w us answers answer → Keeps v w
 ran_keeps v ts _ _ _ _ ok course.RanDown.begun = λ k known. known
 ran_keeps v ts _ _ _ _ ok (course.RanDown.unasked u w us xs done answers ran lowered off) = keeps_then v u w (ran_keeps v ts u us answers (Ok tt) refl ran) (lowered_keeps u w us xs (Ok done) done refl lowered)
 ran_keeps v ts _ _ _ _ ok (course.RanDown.asked u w us xs answers ran lowered on) = keeps_then v u w (ran_keeps v ts u us answers (Ok tt) refl ran) (lowered_keeps u w us xs _ _ refl lowered)
 ran_keeps v ts _ _ _ _ ok (course.RanDown.due u w us xs answers ran lowered on) = absurd (cc)
 ran_keeps v ts _ _ _ _ ok (course.RanDown.stopped u w us xs answers stop ran lowered) = absurd (cc)
 
-emptied_keeps : (v w : PortValue) (t : TableWork) (answers : List Bool) (answer : Result (Unit {0}) Stop) → answer ≡ Ok tt → Emptied v t w answers answer → Keeps v w
+emptied_keeps : {below : Option ℕ} → (v w : PortValue) (t : TableWork) (answers : List Bool) (answer : Result (Unit {0}) Stop) → answer ≡ Ok tt → Emptied below v t w answers answer → Keeps v w
 emptied_keeps v _ t _ _ ok (course.Emptied.finished w answers ran) = ran_keeps v (t ∷ []) w [] answers (Ok tt) refl ran
 emptied_keeps v _ t _ _ ok (course.Emptied.paused u w us answers stop ran unwound) = absurd (cc)
 
-released_keeps : (v w : PortValue) (f : ℕ) (kind : PageType) (answers : List Bool) (answer : Result (Unit {0}) Stop) → answer ≡ Ok tt → WasReleased v f kind w answers answer → Keeps v w
-released_keeps v _ f kind _ _ ok (course.WasReleased.plain w ordinary dropped) = keeps_does v w _ (drops f kind) dropped.found
-released_keeps v _ f kind _ _ ok (course.WasReleased.shared u w table dropped gave) = keeps_then v u w (keeps_moves v u _ _ _ _ _ refl dropped.lowers.step) (gave_keeps u w f gave)
-released_keeps v _ f kind _ _ ok (course.WasReleased.last u x w word level answers answer table at high dropped looks emptied) =
+released_keeps : {below : Option ℕ} → (v w : PortValue) (f : ℕ) (kind : PageType) (answers : List Bool) (answer : Result (Unit {0}) Stop) → answer ≡ Ok tt → ReleasedWithin below v f kind w answers answer → Keeps v w
+released_keeps v _ f kind _ _ ok (course.ReleasedWithin.plain w ordinary dropped) = keeps_does v w _ (drops f kind) dropped.found
+released_keeps v _ f kind _ _ ok (course.ReleasedWithin.shared u w table dropped gave) = keeps_then v u w (keeps_moves v u _ _ _ _ _ refl dropped.lowers.step) (gave_keeps u w f gave)
+released_keeps v _ f kind _ _ ok (course.ReleasedWithin.last u x w word level answers answer table at high dropped looks emptied) =
     keeps_then v u w (keeps_moves v u _ _ _ _ _ refl dropped.lowers.step) (keeps_then u x w (keeps_moves u x _ _ _ _ _ refl looks) (emptied_keeps x w _ answers answer ok emptied))
 
-partial_keeps : (v w : PortValue) (f : ℕ) (k : KindWord) (answers : List Bool) (answer : Result (Unit {0}) Stop) → answer ≡ Ok tt → (b : Bool) → SettledPartial v w f k answers answer b → Keeps v w
-partial_keeps v w f k answers answer ok true h = keeps_then v h.0 w (keeps_moves v h.0 _ _ _ _ _ refl h.5) (emptied_keeps h.0 w _ answers answer ok h.6)
-partial_keeps v w f k answers answer ok false h = keeps_does v w _ (ends_dead f k.kind k.unflushed) h.2
+partial_keeps : (below : Option ℕ) (v w : PortValue) (f : ℕ) (k : KindWord) (answers : List Bool) (answer : Result (Unit {0}) Stop) → answer ≡ Ok tt → (b : Bool) → SettledPartial below v w f k answers answer b → Keeps v w
+partial_keeps below v w f k answers answer ok true h = keeps_then v h.0 w (keeps_moves v h.0 _ _ _ _ _ refl h.5) (emptied_keeps h.0 w _ answers answer ok h.6)
+partial_keeps below v w f k answers answer ok false h = keeps_does v w _ (ends_dead f k.kind k.unflushed) h.2
 
 -- ---- what is settled
 number_apart : (s j k : ℕ) → j ≢ k → Vcpu s j ≢ Vcpu s k
@@ -80,7 +80,7 @@ took_out v a b w which f looks takes keeps =
           (known_on v a _ _ _ _ _ looks k (number_apart v.post.vcpu (old_number which) k off) known));
     }
 
-settled_one : (v w : PortValue) (which : OldWord) (answers : List Bool) (answer : Result (Unit {0}) Stop) → answer ≡ Ok tt → SettledOne v which w answers answer → Cleared v w which
+settled_one : {below : Option ℕ} → (v w : PortValue) (which : OldWord) (answers : List Bool) (answer : Result (Unit {0}) Stop) → answer ≡ Ok tt → SettledOne below v which w answers answer → Cleared v w which
 unfolding left_by
 settled_one v _ which _ _ ok (course.SettledOne.none w looks) =
     record { clear = known_left v w _ _ _ _ _ looks (old_number which) refl refl; others = λ k off known. known_on v w _ _ _ _ _ looks k (number_apart v.post.vcpu (old_number which) k off) known }
@@ -89,7 +89,7 @@ settled_one v _ which _ _ ok (course.SettledOne.live a b c w f word answers answ
 settled_one v _ which _ _ ok (course.SettledOne.partial a b c d w f word answers answer looks takes sees form resumes settled) =
     took_out v a b w which f looks takes
     (keeps_then b c w (keeps_moves b c _ _ _ _ _ refl sees)
-    (keeps_then c d w (keeps_moves c d _ _ _ _ _ refl resumes) (partial_keeps d w f (kind_fields word) answers answer ok (has_recorded (kind_fields word).kind (kind_fields word)) settled)))
+    (keeps_then c d w (keeps_moves c d _ _ _ _ _ refl resumes) (partial_keeps _ d w f (kind_fields word) answers answer ok (has_recorded (kind_fields word).kind (kind_fields word)) settled)))
 settled_one v _ which _ _ ok (course.SettledOne.lost a b c d w f word found looks takes sees form resumes other named) = absurd (cc)
 settled_one v _ which _ _ ok (course.SettledOne.busy a b c w f word looks takes sees off away named) = absurd (cc)
 
@@ -102,7 +102,7 @@ pub record IsClear (v : PortValue) : Type 0 where
 pub clear_on : (v w : PortValue) → Keeps v w → IsClear v → IsClear w
 clear_on v w keeps clear = record { first = keeps 2 clear.first; second = keeps 3 clear.second; runs = keeps 6 clear.runs }
 
-pub settled_clear : (v w : PortValue) (answers : List Bool) (answer : Result (Unit {0}) Stop) → answer ≡ Ok tt → Known 6 v → Settled v w answers answer → IsClear w
+pub settled_clear : {below : Option ℕ} → (v w : PortValue) (answers : List Bool) (answer : Result (Unit {0}) Stop) → answer ≡ Ok tt → Known 6 v → Settled below v w answers answer → IsClear w
 settled_clear v _ _ _ ok runs (course.Settled.first w answers stop one) = absurd (cc)
 settled_clear v _ _ _ ok runs (course.Settled.both u w answers more answer one two) =
     let a = settled_one v u First answers (Ok tt) refl one in
@@ -123,14 +123,14 @@ names_none v a which f clear looks =
     let is = known_found v a (old_number which) Load kinds.Look None (f + 1) looks (not_asked_word which) (not_flushed which) clear.runs (known_old_word v clear which) in
     omega (arith, is)
 
-one_silent : (v w : PortValue) (which : OldWord) (answers : List Bool) (answer : Result (Unit {0}) Stop) → IsClear v → SettledOne v which w answers answer → (answers ≡ []) × (answer ≡ Ok tt)
+one_silent : {below : Option ℕ} → (v w : PortValue) (which : OldWord) (answers : List Bool) (answer : Result (Unit {0}) Stop) → IsClear v → SettledOne below v which w answers answer → (answers ≡ []) × (answer ≡ Ok tt)
 one_silent v _ which _ _ clear (course.SettledOne.none w looks) = (refl, refl)
 one_silent v _ which _ _ clear (course.SettledOne.live a b c w f word answers answer looks takes sees form released) = absurd (names_none v a which f clear looks)
 one_silent v _ which _ _ clear (course.SettledOne.partial a b c d w f word answers answer looks takes sees form resumes settled) = absurd (names_none v a which f clear looks)
 one_silent v _ which _ _ clear (course.SettledOne.lost a b c d w f word found looks takes sees form resumes other named) = absurd (names_none v a which f clear looks)
 one_silent v _ which _ _ clear (course.SettledOne.busy a b c w f word looks takes sees off away named) = absurd (names_none v a which f clear looks)
 
-pub settled_silent : (v w : PortValue) (answers : List Bool) (answer : Result (Unit {0}) Stop) → IsClear v → Settled v w answers answer → (answers ≡ []) × (answer ≡ Ok tt)
+pub settled_silent : {below : Option ℕ} → (v w : PortValue) (answers : List Bool) (answer : Result (Unit {0}) Stop) → IsClear v → Settled below v w answers answer → (answers ≡ []) × (answer ≡ Ok tt)
 settled_silent v _ _ _ clear (course.Settled.first w answers stop one) = one_silent v w First answers (Err stop) clear one
 settled_silent v _ _ _ clear (course.Settled.both u w answers more answer one two) =
     let a = settled_one v u First answers (Ok tt) refl one in

@@ -3,7 +3,7 @@ use Rattle.std.specs.Prelude.{◌≡◌, ℕ, Bool, true, List, [], length, Opti
 use Rattle.xp_board.specs.Told.{PortValue}
 use Rattle.xp_words.specs.declared.ops.Op.{Op}
 use Rattle.xp_preempt.specs.Gates.{ends_yes, yeses}
-use Rattle.vcpu_turn.specs.Cpus.{Processing, task_of}
+use Rattle.vcpu_turn.specs.Cpus.{Processing, nothing_left, task_of}
 use Rattle.vcpu_turn.specs.Lists.{Tried, is_due_answer}
 use Rattle.vcpu_turn.specs.Turning.{DoesNext, DoesTurn, IsTurn}
 use Rattle.vcpu_turn.specs.Turning as turning
@@ -26,7 +26,7 @@ tried_next c None c' v w answers end retires = []
 -- none, where the turn did no more than to settle
 abbrev pub tried_going : {c : Processing} {o : Option Op} {v : PortValue} {c' : Processing} {w : PortValue} {answers : List Bool} {end : TurnEnd} → DoesTurn c o v c' w answers end → List Tried
 tried_going (turning.DoesTurn.unsettled w answers p settles) = []
-tried_going {c} {o} (turning.DoesTurn.settled u w c' early answers end settles does) = tried_next c o c' u w answers end does
+tried_going {c} {o} (turning.DoesTurn.settled u w c' early answers end settles does) = tried_next (nothing_left c) o c' u w answers end does
 
 abbrev pub elements_tried : {c c' : Processing} {end : TurnEnd} {v w : PortValue} {answers : List Bool} → IsTurn c c' end v w answers → List Tried
 elements_tried turn = tried_going turn.does

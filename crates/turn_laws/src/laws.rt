@@ -5,6 +5,7 @@ ghost use Rattle.xp_words.specs.declared.ops.Pair.{Pair};
 ghost use Rattle.xp_words.specs.declared.reply.Stop.{Stop};
 ghost use Rattle.xp_board.specs.Told.{PortValue};
 ghost use Rattle.xp_preempt.specs.Gates.{GivesAnswers, ends_yes, last_ask};
+ghost use Rattle.turn_laws.specs.Leaving.{LeavesLess, PausedInARow, ends_first, is_settling};
 ghost use Rattle.turn_laws.specs.Asking.{AsksNothingWithin, HearsNo, HearsNoWithin, asks_within, elements_tried};
 ghost use Rattle.vcpu_turn.specs.Lists.{Tried, tried_in, AsksNothing, WorksOn, asks_between, is_due_answer};
 ghost use Rattle.vcpu_turn.specs.Pairs.{MovesATable, MovesNoTable};
@@ -46,7 +47,7 @@ pub fn elements_go_by_their_courses()
 
 /// And a turn, whatever operation stands next, asks the own gate between the elements, and within them as their courses say, behind what was settled first.
 pub fn a_turn_counts_its_asks()
-    ensures { (c d : Processing) (op : Op) (end : TurnEnd) (v w : PortValue) (answers : List Bool) → next_of c ≡ Some op → (turn : IsTurn c d end v w answers) → CountsAsks c.at.done end answers (asks_within (elements_tried turn)) }
+    ensures { (c d : Processing) (op : Op) (end : TurnEnd) (v w : PortValue) (answers : List Bool) → next_of c ≡ Some op → (turn : IsTurn c d end v w answers) → CountsAsks c.left c.at.done end answers (asks_within (elements_tried turn)) }
 {}
 
 /// Within an element the gate says no, until that is paused for it, and so the turn. Else the element is done, and only the release was paused that goes with it: of what
@@ -69,7 +70,7 @@ pub fn a_turn_never_passes_a_yes()
 /// a machine-to-physical update does: the gate is asked between the elements, and no more, and the turn does not go on past the element behind which it says yes.
 pub fn only_tables_ask_within()
     ensures tables { (c d : Processing) (op : Op) (foreign : ℕ) (pairs : List Pair) (end : TurnEnd) (v w : PortValue) (answers : List Bool) → next_of c ≡ Some op → task_of op ≡ Some (OfPairs foreign pairs) → (turn : IsTurn c d end v w answers) → AsksNothingWithin (elements_tried turn) ⊎ Any (λ (t : Tried). MovesATable pairs t) (elements_tried turn) }
-    ensures counts { (c d : Processing) (op : Op) (foreign : ℕ) (pairs : List Pair) (end : TurnEnd) (v w : PortValue) (answers : List Bool) → next_of c ≡ Some op → task_of op ≡ Some (OfPairs foreign pairs) → (turn : IsTurn c d end v w answers) → MovesNoTable pairs (elements_tried turn) → CountsAsks c.at.done end answers 0 }
+    ensures counts { (c d : Processing) (op : Op) (foreign : ℕ) (pairs : List Pair) (end : TurnEnd) (v w : PortValue) (answers : List Bool) → next_of c ≡ Some op → task_of op ≡ Some (OfPairs foreign pairs) → (turn : IsTurn c d end v w answers) → MovesNoTable pairs (elements_tried turn) → CountsAsks c.left c.at.done end answers 0 }
     ensures stops { (c d : Processing) (op : Op) (foreign : ℕ) (pairs : List Pair) (end : TurnEnd) (v w : PortValue) (before : ℕ) (answers : List Bool) (says : ℕ → Bool) → next_of c ≡ Some op → task_of op ≡ Some (OfPairs foreign pairs) → (turn : IsTurn c d end v w answers) → MovesNoTable pairs (elements_tried turn) → GivesAnswers says before answers → (j : ℕ) → 0 < j → before + j < last_ask → says (before + j) ≡ true → GoesNoFurther c d end (c.at.done + j) }
 {}
 
@@ -81,4 +82,12 @@ pub fn map_updates_move_no_table()
 /// A turn retires its vCPU only at the script's end: no operation is left.
 pub fn a_turn_retires_only_at_the_scripts_end()
     ensures { (c d : Processing) (v w : PortValue) (answers : List Bool) → IsTurn c d Retired v w answers → next_of c ≡ None }
+{}
+
+/// Where the gate pauses a turn as that settles what was left unfinished, and it paused that before, less is left then than before, whatever other vCPUs did between; or what
+/// the first old word named came to its end in that turn, and what the second one named was paused. So what the first one names is paused no more often in a row than
+/// the number says that was left at first.
+pub fn a_paused_settling_leaves_less()
+    ensures less { (c d : Processing) (end : TurnEnd) (v w : PortValue) (answers : List Bool) (k : ℕ) → c.left ≡ Some k → (turn : IsTurn c d end v w answers) → is_settling turn.does ≡ true → ends_yes answers ≡ true → LeavesLess k d.left ⊎ (ends_first turn.does ≡ true) }
+    ensures row { (n : ℕ) (c d : Processing) (k : ℕ) → c.left ≡ Some k → PausedInARow n c d → n ≤ k }
 {}

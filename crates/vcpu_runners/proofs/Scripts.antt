@@ -2,7 +2,7 @@
 use Rattle.std.proofs.Common.{◌≡◌, Bool, List, Option, Some, None, refl, ap, ◌∙◌}
 use Rattle.xp_words.specs.declared.ops.Op.{Op}
 use Rattle.xp_board.specs.Told.{PortValue}
-use Rattle.vcpu_turn.specs.Cpus.{Processing, after_turn}
+use Rattle.vcpu_turn.specs.Cpus.{Processing, after_turn, nothing_left}
 use Rattle.vcpu_turn.specs.declared.cpu.Progress.{Progress}
 use Rattle.vcpu_turn.specs.declared.cpu.TurnEnd.{TurnEnd}
 use Rattle.vcpu_turn.specs.declared.cpu.TurnEnd.TheVariants as ends
@@ -17,6 +17,6 @@ next_script : (c c2 : Processing) (o : Option Op) (v w : PortValue) (answers : L
 next_script c c2 (Some op) v w answers end d = ap (λ (x : Processing). x.script) d.cpu ∙ kept_by c d.to end
 next_script c c2 None v w answers end d = ap (λ (x : Processing). x.script) d.cpu
 
-pub turn_script : (c c2 : Processing) (o : Option Op) (v w : PortValue) (answers : List Bool) (end : TurnEnd) → DoesTurn c o v c2 w answers end → c2.script ≡ c.script
-turn_script c _ o v _ _ _ (unsettled w answers p s) = refl
-turn_script c _ o v _ _ _ (settled u w c2 early answers end s d) = next_script c c2 o u w answers end d
+pub turn_script : (c : Processing) (o : Option Op) (v : PortValue) (c2 : Processing) (w : PortValue) (answers : List Bool) (end : TurnEnd) → DoesTurn c o v c2 w answers end → c2.script ≡ c.script
+turn_script c o v _ _ _ _ (unsettled w answers p s) = refl
+turn_script c o v _ _ _ _ (settled u w c2 early answers end s d) = next_script (nothing_left c) c2 o u w answers end d

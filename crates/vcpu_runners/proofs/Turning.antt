@@ -22,7 +22,7 @@ turns_more has mid left c d c2 v u w turns runs turn = more mid left d c2 u w tu
 
 short_turn : (mid left : Gate) (d c2 : Processing) (u w : PortValue) → TakesTurn mid left d c2 u w → IsShort d → IsShort c2
 short_turn mid left d c2 u w t short =
-    let same = turn_script d c2 (next_of d) t.turn.begun t.turn.worked t.answers t.end t.turn.does in
+    let same = turn_script d (next_of d) t.turn.begun c2 t.turn.worked t.answers t.end t.turn.does in
     subst (λ s. length s < 2 ^ 32) (sym same) short
 
 pub short_more : (mid left : Gate) (d c2 : Processing) (u w : PortValue) → d.retired ≡ false → TakesTurnBy d.retired mid left d c2 u w → IsShort d → IsShort c2

@@ -1,5 +1,5 @@
 -- Between turns: the port is still that of the vCPU.
-use Rattle.std.proofs.Common.{◌≡◌, ℕ, Bool, true, false, List, Some, None, Result, Ok, Err, refl, sym, ap, ◌∙◌, subst}
+use Rattle.std.proofs.Common.{◌≡◌, ℕ, Bool, true, false, List, Option, Some, None, Result, Ok, Err, refl, sym, ap, ◌∙◌, subst}
 use Rattle.xp_words.specs.declared.reply.Stop.{Stop}
 use Rattle.xp_words.specs.declared.reply.Stop.TheVariants.{Refused, Paused}
 use Rattle.xp_board.specs.Readings.{domain_of}
@@ -80,6 +80,14 @@ module _ (v w : PortValue) (c c1 c2 : Processing) (of : IsOf v c) (post : w.post
 pub of_stopped : (v w : PortValue) (c c2 : Processing) → IsOf v c → w.post ≡ v.post → MakesStop c c2 v w → Idles w → IsOf w c2
 of_stopped v w c c2 of post stop idles = of_retired_now v w c c c2 of post (moves_came v w _ _ _ _ _ stop.stop.1) stop.cpu idles
 
+-- whatever is left
+pub of_left : (v : PortValue) (c : Processing) (left : Option ℕ) → IsOf v c → IsOf v (record c { left = left })
+of_left v c left of = record { vcpu = of.vcpu; domain = of.domain; idles = of.idles; awaits = of.awaits; runs = of.runs }
+
+-- as the code sees it
+pub of_seen : (v : PortValue) (seen c : Processing) → seen ≡ c → IsOf v c → IsOf v seen
+of_seen v seen c is of = subst (λ (x : Processing). IsOf v x) (sym is) of
+
 -- also where nothing of it went on
-pub of_unsettled : (v w : PortValue) (c : Processing) → IsOf v c → w.post ≡ v.post → Came v w → Rests w → IsWarm w → IsOf w c
-of_unsettled v w c of post came rests warm = of_now v w c c c of post refl refl (rests_idles w rests warm) (knows_on v w c.at.awaited came of.awaits) (λ on. runs_on w rests)
+pub of_unsettled : (v w : PortValue) (c : Processing) (left : Option ℕ) → IsOf v c → w.post ≡ v.post → Came v w → Rests w → IsWarm w → IsOf w (record c { left = left })
+of_unsettled v w c left of post came rests warm = of_now v w c c (record c { left = left }) of post refl refl (rests_idles w rests warm) (knows_on v w c.at.awaited came of.awaits) (λ on. runs_on w rests)

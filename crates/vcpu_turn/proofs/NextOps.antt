@@ -55,6 +55,10 @@ more_left v w c c' answers answer worked =
     let h = worked_some (next_of c) c c' v w answers answer worked in
     subst (λ (x : Processing). x.answered < length x.script) (sym h.worked.cpu) (slice_get_within c.script c.answered h.op h.next)
 
+-- as the code sees it, with what is left behind the settling
+pub more_seen : (seen c : Processing) → seen ≡ c → (left : Option ℕ) (v w : PortValue) (c' : Processing) (answers : List Bool) (answer : Result ℕ Stop) → NextWentOn (next_of seen) (record seen { left = left }) c' v w answers (Some answer) → c'.answered < length c'.script
+more_seen seen c is left v w c' answers answer worked = more_left v w (record seen { left = left }) c' answers answer worked
+
 -- ---- the room of the log
 lines_all : (script : List Op) → sum_by lines_of script ≡ length script
 lines_all [] = refl

@@ -1,5 +1,5 @@
 -- A turn, by the calls that it is made of.
-use Rattle.std.proofs.Common.{◌≡◌, ℕ, Bool, true, false, List, Some, None, Result, Ok, Err, refl, sym, ap, ◌∙◌, subst}
+use Rattle.std.proofs.Common.{◌≡◌, ℕ, Bool, true, false, List, Option, Some, None, Result, Ok, Err, refl, sym, ap, ◌∙◌, subst}
 use Rattle.xp_words.specs.declared.reply.Stop.{Stop}
 use Rattle.xp_words.specs.declared.reply.Stop.TheVariants.{Refused, Paused}
 use Rattle.xp_words.specs.declared.reply.Pause.{Pause}
@@ -10,11 +10,11 @@ use Rattle.step_maker.proofs.Coming.{came_trans, came_post, moves_came}
 use Rattle.answer_fits.specs.Answers.{Serves, misses}
 use Rattle.level_release.specs.Asking.{is_due_stop, of_settle}
 use Rattle.tlb_walks.proofs.Flushes.{acks_came}
-use Rattle.vcpu_turn.specs.Cpus.{Processing, after_turn, end_of, next_of}
+use Rattle.vcpu_turn.specs.Cpus.{Processing, after_turn, end_of, next_of, nothing_left}
 use Rattle.vcpu_turn.specs.Lists.{Answering, is_due_answer}
 use Rattle.vcpu_turn.specs.Turning as turning
-use Rattle.vcpu_turn.specs.Turning.{Begins, DoesNext, EndsTurn, IsTurn, MakesStop, TurnBy, NextWentOn, is_due}
-use Rattle.vcpu_turn.specs.Settling.{Settles}
+use Rattle.vcpu_turn.specs.Turning.{Begins, DoesNext, DoesTurn, EndsTurn, IsTurn, MakesStop, TurnBy, NextWentOn, is_due}
+use Rattle.vcpu_turn.specs.Settling.{SettlesTo}
 use Rattle.vcpu_turn.specs.declared.cpu.Progress.{Progress}
 use Rattle.vcpu_turn.specs.declared.cpu.TurnEnd.{TurnEnd}
 use Rattle.vcpu_turn.specs.declared.cpu.TurnEnd.TheVariants as ends
@@ -65,47 +65,74 @@ module _ (v a b : PortValue) (c : Processing) (runs : c.retired ≡ false) (begi
       (subst (λ d. Answering (λ answers. IsTurn c c' end v w answers) says before last yes_before yes_last d) (sym is) turn)
 
   -- settling was all that it did
-  pub turn_unsettled : (p : Pause) (stop : Stop) → stop ≡ Paused p → Answering (λ answers. Settles a b answers (Err stop)) says before after yes_before yes_after (is_due_stop stop) →
-      Answering (λ answers. TurnBy c.retired c c (ends.Paused p) v b answers) says before after yes_before yes_after (is_due (ends.Paused p))
-  turn_unsettled p stop at settles =
-      turn_by c b (ends.Paused p) after yes_after (is_due_stop stop) (due_paused p ∙ ap is_due_stop (sym at))
-      (answers_as (λ answers. Settles a b answers (Err stop)) (λ answers. IsTurn c c (ends.Paused p) v b answers) says before after yes_before yes_after (is_due_stop stop)
-      (λ answers goes. record { begun = a; worked = b; begins = begins; does = turning.DoesTurn.unsettled b answers p (subst (λ (e : Stop). Settles a b answers (Err e)) at goes); ends = refl }) settles)
+  pub turn_unsettled : (p : Pause) (stop : Stop) (left : Option ℕ) → stop ≡ Paused p → Answering (λ answers. SettlesTo c.left left a b answers (Err stop)) says before after yes_before yes_after (is_due_stop stop) →
+      Answering (λ answers. TurnBy c.retired c (record c { left = left }) (ends.Paused p) v b answers) says before after yes_before yes_after (is_due (ends.Paused p))
+  turn_unsettled p stop left at settles =
+      turn_by (record c { left = left }) b (ends.Paused p) after yes_after (is_due_stop stop) (due_paused p ∙ ap is_due_stop (sym at))
+      (answers_as (λ answers. SettlesTo c.left left a b answers (Err stop)) (λ answers. IsTurn c (record c { left = left }) (ends.Paused p) v b answers) says before after yes_before yes_after (is_due_stop stop)
+      (λ answers goes. record { begun = a; worked = b; begins = begins; does = unsettled_to answers (subst (λ (e : Stop). SettlesTo c.left left a b answers (Err e)) at goes); ends = refl }) settles)
+    where
+      unsettled_to : (answers : List Bool) → SettlesTo c.left left a b answers (Err (Paused p)) → DoesTurn c (next_of c) a (record c { left = left }) b answers (ends.Paused p)
+      unsettled_to answers settles = subst (λ (k : Option ℕ). DoesTurn c (next_of c) a (record c { left = k }) b answers (ends.Paused p)) (sym settles.1) (turning.DoesTurn.unsettled b answers p settles.0)
 
-  module _ (settles : Answering (λ answers. Settles a b answers (Ok tt)) says before after yes_before yes_after false) (now : ℕ → Bool) (same : (n : ℕ) → now n ≡ says n) (last yes_last : ℕ) (x w : PortValue) (c1 c2 : Processing) where
+  module _ (left : Option ℕ) (settles : Answering (λ answers. SettlesTo c.left left a b answers (Ok tt)) says before after yes_before yes_after false) (now : ℕ → Bool) (same : (n : ℕ) → now n ≡ says n) (last yes_last : ℕ) (x w : PortValue) (c1 c2 : Processing) where
     -- behind what was settled
-    behind : (end : TurnEnd) (due : Bool) (P : List Bool → Type 0) → Answering P now after last yes_after yes_last due → ((answers : List Bool) → P answers → DoesNext c (next_of c) c2 b x answers end) → EndsTurn end x w →
+    behind : (end : TurnEnd) (due : Bool) (P : List Bool → Type 0) → Answering P now after last yes_after yes_last due → ((answers : List Bool) → P answers → DoesNext (nothing_left c) (next_of c) c2 b x answers end) → EndsTurn end x w →
         is_due end ≡ due → Answering (λ answers. TurnBy c.retired c c2 end v w answers) says before last yes_before yes_last (is_due end)
     behind end due P next does finishes is =
         turn_by c2 w end last yes_last due is
         (answers_behind says now before after last yes_before yes_after yes_last settles.answers same settles.gate due P (λ answers. IsTurn c c2 end v w answers) next
-        (λ answers goes. record { begun = a; worked = x; begins = begins; does = turning.DoesTurn.settled b x c2 settles.answers answers end settles.goes (does answers goes); ends = finishes }))
+        (λ answers goes. record { begun = a; worked = x; begins = begins; does = turning.DoesTurn.settled b x c2 settles.answers answers end settles.goes.0 (does answers goes); ends = finishes }))
 
     -- at the script's end
-    pub turn_retires : Answering (λ answers. NextWentOn (next_of c) c c1 b x answers None) now after last yes_after yes_last false → MakesStop c1 c2 x w →
+    pub turn_retires : Answering (λ answers. NextWentOn (next_of c) (nothing_left c) c1 b x answers None) now after last yes_after yes_last false → MakesStop c1 c2 x w →
         Answering (λ answers. TurnBy c.retired c c2 ends.Retired v w answers) says before last yes_before yes_last (is_due ends.Retired)
-    turn_retires worked stop = behind ends.Retired false (λ answers. NextWentOn (next_of c) c c1 b x answers None) worked does stop.stop refl
+    turn_retires worked stop = behind ends.Retired false (λ answers. NextWentOn (next_of c) (nothing_left c) c1 b x answers None) worked does stop.stop refl
       where
-        does : (answers : List Bool) → NextWentOn (next_of c) c c1 b x answers None → DoesNext c (next_of c) c2 b x answers ends.Retired
+        does : (answers : List Bool) → NextWentOn (next_of c) (nothing_left c) c1 b x answers None → DoesNext (nothing_left c) (next_of c) c2 b x answers ends.Retired
         does answers goes =
-            let h = worked_none (next_of c) c c1 b x answers goes in
-            subst (λ o. DoesNext c o c2 b x answers ends.Retired) (sym h.0)
+            let h = worked_none (next_of c) (nothing_left c) c1 b x answers goes in
+            subst (λ o. DoesNext (nothing_left c) o c2 b x answers ends.Retired) (sym h.0)
             (record { no_step = h.2; no_ask = h.3; end_is = refl; cpu = stop.cpu ∙ ap (λ (y : Processing). record y { retired = true }) h.1 })
 
     -- the next operation went on
-    pub turn_goes_on : (answer : Result ℕ Stop) → Answering (λ answers. NextWentOn (next_of c) c c1 b x answers (Some answer)) now after last yes_after yes_last (is_due_answer answer) →
+    pub turn_goes_on : (answer : Result ℕ Stop) → Answering (λ answers. NextWentOn (next_of c) (nothing_left c) c1 b x answers (Some answer)) now after last yes_after yes_last (is_due_answer answer) →
         c2 ≡ after_turn c1 c1.at (end_of c1.at.done answer) → EndsTurn (end_of c1.at.done answer) x w → Answering (λ answers. TurnBy c.retired c c2 (end_of c1.at.done answer) v w answers) says before last yes_before yes_last (is_due (end_of c1.at.done answer))
     turn_goes_on answer worked cpu finishes =
-        behind (end_of c1.at.done answer) (is_due_answer answer) (λ answers. NextWentOn (next_of c) c c1 b x answers (Some answer)) worked does finishes (due_ended c1.at.done answer)
+        behind (end_of c1.at.done answer) (is_due_answer answer) (λ answers. NextWentOn (next_of c) (nothing_left c) c1 b x answers (Some answer)) worked does finishes (due_ended c1.at.done answer)
       where
-        does : (answers : List Bool) → NextWentOn (next_of c) c c1 b x answers (Some answer) → DoesNext c (next_of c) c2 b x answers (end_of c1.at.done answer)
+        does : (answers : List Bool) → NextWentOn (next_of c) (nothing_left c) c1 b x answers (Some answer) → DoesNext (nothing_left c) (next_of c) c2 b x answers (end_of c1.at.done answer)
         does answers goes =
-            let h = worked_some (next_of c) c c1 b x answers answer goes in
-            subst (λ o. DoesNext c o c2 b x answers (end_of c1.at.done answer)) (sym h.next)
+            let h = worked_some (next_of c) (nothing_left c) c1 b x answers answer goes in
+            subst (λ o. DoesNext (nothing_left c) o c2 b x answers (end_of c1.at.done answer)) (sym h.next)
             (record {
               to = c1.at;
               answer = answer;
               went = h.worked.went;
               end_is = refl;
-              cpu = cpu ∙ ap (λ (y : Processing). after_turn y c1.at (end_of c1.at.done answer)) h.worked.cpu ∙ after_same c c1.at c1.at answer;
+              cpu = cpu ∙ ap (λ (y : Processing). after_turn y c1.at (end_of c1.at.done answer)) h.worked.cpu ∙ after_same (nothing_left c) c1.at c1.at answer;
             })
+
+-- ---- the same, of a vCPU as the code sees it, with what is left behind the settling
+module _ (seen c : Processing) (is : seen ≡ c) (v a b : PortValue) (runs : seen.retired ≡ false) (begins : Begins v a) (says : ℕ → Bool) (before after yes_before yes_after : ℕ) (left : Option ℕ) where
+  abbrev By : Processing → TurnEnd → PortValue → ℕ → ℕ → Processing → Type 0
+  By c2 end w last yes_last x = Answering (λ answers. TurnBy x.retired x c2 end v w answers) says before last yes_before yes_last (is_due end)
+
+  pub seen_unsettled : (p : Pause) (stop : Stop) → stop ≡ Paused p → Answering (λ answers. SettlesTo seen.left left a b answers (Err stop)) says before after yes_before yes_after (is_due_stop stop) →
+      By (record seen { left = left }) (ends.Paused p) b after yes_after c
+  seen_unsettled p stop at settles =
+      subst (By (record seen { left = left }) (ends.Paused p) b after yes_after) is (turn_unsettled v a b seen runs begins says before after yes_before yes_after p stop left at settles)
+
+  module _ (none : left ≡ None) (settles : Answering (λ answers. SettlesTo seen.left left a b answers (Ok tt)) says before after yes_before yes_after false) (now : ℕ → Bool) (same : (n : ℕ) → now n ≡ says n) (last yes_last : ℕ) (x w : PortValue) (c1 c2 : Processing) where
+    pub seen_retires : Answering (λ answers. NextWentOn (next_of seen) (record seen { left = left }) c1 b x answers None) now after last yes_after yes_last false → MakesStop c1 c2 x w → By c2 ends.Retired w last yes_last c
+    seen_retires worked stop =
+        subst (By c2 ends.Retired w last yes_last) is
+        (turn_retires v a b seen runs begins says before after yes_before yes_after left settles now same last yes_last x w c1 c2
+        (subst (λ (k : Option ℕ). Answering (λ answers. NextWentOn (next_of seen) (record seen { left = k }) c1 b x answers None) now after last yes_after yes_last false) none worked) stop)
+
+    pub seen_goes_on : (answer : Result ℕ Stop) → Answering (λ answers. NextWentOn (next_of seen) (record seen { left = left }) c1 b x answers (Some answer)) now after last yes_after yes_last (is_due_answer answer) →
+        c2 ≡ after_turn c1 c1.at (end_of c1.at.done answer) → EndsTurn (end_of c1.at.done answer) x w → By c2 (end_of c1.at.done answer) w last yes_last c
+    seen_goes_on answer worked cpu finishes =
+        subst (By c2 (end_of c1.at.done answer) w last yes_last) is
+        (turn_goes_on v a b seen runs begins says before after yes_before yes_after left settles now same last yes_last x w c1 c2 answer
+        (subst (λ (k : Option ℕ). Answering (λ answers. NextWentOn (next_of seen) (record seen { left = k }) c1 b x answers (Some answer)) now after last yes_after yes_last (is_due_answer answer)) none worked) cpu finishes)

@@ -20,8 +20,8 @@ use Rattle.vcpu_turn.specs.declared.cpu.Progress.{Progress}
 use Rattle.vcpu_turn.specs.declared.cpu.TurnEnd.{TurnEnd}
 use Rattle.vcpu_turn.specs.declared.cpu.TurnEnd.TheVariants as ends
 
--- A vCPU: its number and domain, its operations, what it logged, how many operations are answered, how far the next one is done, and whether
--- the vCPU makes no turn any more.
+-- A vCPU: its number and domain, its operations, what it logged, how many operations are answered, how far the next one is done, how much
+-- was left where the gate paused what its last turn settled first, and whether the vCPU makes no turn any more.
 pub record Processing : Type 0 where
   pub vcpu : ℕ
   pub domain : ℕ
@@ -29,6 +29,7 @@ pub record Processing : Type 0 where
   pub log : List LogLine
   pub answered : ℕ
   pub at : Progress
+  pub left : Option ℕ
   pub retired : Bool
 
 -- of an operation that begins
@@ -37,7 +38,11 @@ begun = record { call = 0; done = 0; within = 0; awaited = None }
 
 -- before its first turn
 abbrev pub fresh : ℕ → ℕ → List Op → Processing
-fresh vcpu domain script = record { vcpu = vcpu; domain = domain; script = script; log = []; answered = 0; at = begun; retired = false }
+fresh vcpu domain script = record { vcpu = vcpu; domain = domain; script = script; log = []; answered = 0; at = begun; left = None; retired = false }
+
+-- where nothing is left to be settled
+abbrev pub nothing_left : Processing → Processing
+nothing_left c = record c { left = None }
 
 -- the operation that stands next
 abbrev pub next_of : Processing → Option Op

@@ -84,7 +84,7 @@ pub record ExchangesEntry (pairs : List Pair) (t : Tried) : Type 0 where
   pub found : ℕ
   pub early : List Bool
   pub answers : List Bool
-  pub settles : Settles t.before settled early (Ok tt)
+  pub settles : Settles None t.before settled early (Ok tt)
   pub got : GotRef settled referred frame owners.tables (Ok frame)
   pub locked : TriedLock referred held frame owners.tables (Ok (Table level found))
   pub open_slot : is_slot (level_type level) index ≡ false

@@ -16,8 +16,9 @@ use Rattle.xp_board.specs.Readings.{domain_of}
 use Rattle.xp_board.specs.Told.{PortValue, own_run}
 use Rattle.step_maker.specs.Moves.{Moves}
 pub use Rattle.mmuext_ops.specs.Elements.{KnowsAwaited}
+use Rattle.level_release.specs.Course.{left_settled}
 use Rattle.tlb_walks.specs.Dropping.{Acks}
-use Rattle.vcpu_turn.specs.Cpus.{Processing, after_turn, end_of, next_of, task_of}
+use Rattle.vcpu_turn.specs.Cpus.{Processing, after_turn, end_of, next_of, nothing_left, task_of}
 use Rattle.vcpu_turn.specs.Lists.{asks_between, is_due_answer}
 use Rattle.vcpu_turn.specs.Settling.{IsWarm, Settles}
 use Rattle.vcpu_turn.specs.Working.{WentOn}
@@ -62,10 +63,10 @@ abbrev pub DoesNext : Processing → Option Op → Processing → PortValue → 
 DoesNext c (Some op) c' v w answers end = GoesOnWith c op c' v w answers end
 DoesNext c None c' v w answers end = Retires c c' v w answers end
 
--- What an earlier turn left unfinished is settled first; where that pauses, so does the turn.
+-- What an earlier turn left unfinished is settled first, and the gate asked only where less is left than was left then; where that pauses, so does the turn.
 pub data DoesTurn (c : Processing) (o : Option Op) (v : PortValue) : Processing → PortValue → List Bool → TurnEnd → Type 0 where
-  unsettled : (w : PortValue) (answers : List Bool) (p : Pause) → Settles v w answers (Err (Paused p)) → DoesTurn c o v c w answers (ends.Paused p)
-  settled : (u w : PortValue) (c' : Processing) (early answers : List Bool) (end : TurnEnd) → Settles v u early (Ok tt) → DoesNext c o c' u w answers end →
+  unsettled : (w : PortValue) (answers : List Bool) (p : Pause) (settles : Settles c.left v w answers (Err (Paused p))) → DoesTurn c o v (record c { left = left_settled settles.course }) w answers (ends.Paused p)
+  settled : (u w : PortValue) (c' : Processing) (early answers : List Bool) (end : TurnEnd) → Settles c.left v u early (Ok tt) → DoesNext (nothing_left c) o c' u w answers end →
       DoesTurn c o v c' w (answers ++ early) end
 
 -- ---- all of it
@@ -78,15 +79,15 @@ pub record IsTurn (c c' : Processing) (end : TurnEnd) (v w : PortValue) (answers
   pub ends : EndsTurn end worked w
 
 -- In a turn an operation went on from element `from` to element `to`, and ended so; and behind the answers to what was settled first the gate was
--- asked so often: between the elements, and `within` times within them. Or settling was all that the turn did.
-pub data CountsAsks (from : ℕ) (end : TurnEnd) (answers : List Bool) (within : ℕ) : Type 0 where
-  counted : (to : ℕ) (answer : Result ℕ Stop) (u x : PortValue) (early later : List Bool) → Settles u x early (Ok tt) → end ≡ end_of to answer → answers ≡ later ++ early →
-      length later ≡ asks_between from to answer + within → CountsAsks from end answers within
-  settling : (u x : PortValue) (p : Pause) → Settles u x answers (Err (Paused p)) → end ≡ ends.Paused p → within ≡ 0 → CountsAsks from end answers within
+-- asked so often: between the elements, and `within` times within them. Or settling was all that the turn did. `below`: how much was left before.
+pub data CountsAsks (below : Option ℕ) (from : ℕ) (end : TurnEnd) (answers : List Bool) (within : ℕ) : Type 0 where
+  counted : (to : ℕ) (answer : Result ℕ Stop) (u x : PortValue) (early later : List Bool) → Settles below u x early (Ok tt) → end ≡ end_of to answer → answers ≡ later ++ early →
+      length later ≡ asks_between from to answer + within → CountsAsks below from end answers within
+  settling : (u x : PortValue) (p : Pause) → Settles below u x answers (Err (Paused p)) → end ≡ ends.Paused p → within ≡ 0 → CountsAsks below from end answers within
 
--- the vCPU behind a turn in which the next operation came so far; or settling was all that it did, and left the vCPU as it was
+-- the vCPU behind a turn in which the next operation came so far; or settling was all that it did, and left the vCPU as it was, but for how much is left
 abbrev pub IsLeftAt : Processing → Processing → Progress → TurnEnd → Type 0
-IsLeftAt c c' to end = (c' ≡ after_turn c to end) ⊎ ((p : Pause) × (end ≡ ends.Paused p) × (to ≡ c.at) × (c' ≡ c))
+IsLeftAt c c' to end = (c' ≡ after_turn (nothing_left c) to end) ⊎ ((p : Pause) × (end ≡ ends.Paused p) × (to ≡ c.at) × (c' ≡ record c { left = c'.left }))
 
 -- the turn went on with an operation, of which no more than `most` elements are done then
 pub record GoesNoFurther (c c' : Processing) (end : TurnEnd) (most : ℕ) : Type 0 where

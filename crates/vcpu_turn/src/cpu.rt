@@ -46,6 +46,7 @@ impl Progress {
 }
 
 /// A virtual processor: its domain, its operations, what it logged, how many of them are answered, and how far the next one is done.
+/// `left` is how much was left to give back where the gate paused what its last turn settled first.
 /// Its log has room for all lines from the beginning, and never more: a turn takes no memory.
 #[derive(Drop)]
 pub struct Cpu {
@@ -55,6 +56,7 @@ pub struct Cpu {
     pub(crate) log: Vec<LogLine>,
     pub(crate) answered: usize,
     pub(crate) at: Progress,
+    pub(crate) left: Option<u64>,
     pub(crate) retired: bool,
 }
 
@@ -64,7 +66,7 @@ impl Model for Cpu {
 
     ghost Value = { Processing };
 
-    ghost view = { λ c. record { vcpu = c.vcpu; domain = c.domain; script = c.script; log = c.log.items; answered = c.answered; at = c.at; retired = c.retired } };
+    ghost view = { λ c. record { vcpu = c.vcpu; domain = c.domain; script = c.script; log = c.log.items; answered = c.answered; at = c.at; left = c.left; retired = c.retired } };
 
     ghost invariant = { λ c. (c.answered ≤ length c.script) × (vec_capacity c.log ≡ lines_ahead c.script 0) × (vec_len c.log + lines_ahead c.script c.answered ≤ vec_capacity c.log) × (c.at.done ≤ elements_of (slice_get c.script c.answered)) };
 }
@@ -84,6 +86,7 @@ impl Cpu {
             log,
             answered: 0,
             at: Progress::begun(),
+            left: None,
             retired: false,
         })
     }

@@ -117,7 +117,7 @@ pub fn turn<P: Port>(port: &mut P, cpu: &mut Cpu, gate: &mut dyn Preempt) -> Tur
         return TurnEnd::Retired;
     }
     begin(port);
-    match settle(port, gate) {
+    match settle(port, gate, &mut cpu.left) {
         Ok(()) => {}
         Err(Stop::Paused(pause)) => return TurnEnd::Paused(pause),
         Err(Stop::Refused(_)) => unreachable!("a release is not refused"),

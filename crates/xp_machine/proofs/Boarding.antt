@@ -74,7 +74,7 @@ module _ (stays : AloneStays) where
       let v = port_value b s lender in
       let w = port_value b2 s lender in
       let came = turn_came c c2 t.end v w t.answers t.turn in
-      let script = turn_script c c2 (next_of c) t.turn.begun t.turn.worked t.answers t.end t.turn.does in
+      let script = turn_script c (next_of c) t.turn.begun c2 t.turn.worked t.answers t.end t.turn.does in
       let made = made_on b b2 s lender cpus c c2 real ready machine here came script own in
       record {
         does = record {

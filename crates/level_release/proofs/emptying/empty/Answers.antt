@@ -43,7 +43,7 @@ pub returns-in-Ok-clause-course : goal.returns-in-Ok-clause-course
 returns-in-Ok-clause-course g c =
     let t = c.args.table in
     let one = c.push.ensures.pushed ∙ ap (λ ts. t ∷ ts) c.new-stack.ensures in
-    empties_finished (g.P.Port.value c.args.port.now) (g.P.Port.value c.run_down.new.port) t c.push.new.self c.run_down.new.stack one _ _ _ _ _ c.in-Ok.ensures.emptied c.in-Ok.ensures.course
+    empties_finished c.args.left.now (g.P.Port.value c.args.port.now) (g.P.Port.value c.run_down.new.port) t c.push.new.self c.run_down.new.stack one _ _ _ _ _ c.in-Ok.ensures.emptied c.in-Ok.ensures.course
 
 -- ---- the rest is left partial
 pub returns-in-Err-clause-serves : goal.returns-in-Err-clause-serves
@@ -68,4 +68,4 @@ pub returns-in-Err-clause-course : goal.returns-in-Err-clause-course
 returns-in-Err-clause-course g c =
     let t = c.args.table in
     let one = c.push.ensures.pushed ∙ ap (λ ts. t ∷ ts) c.new-stack.ensures in
-    empties_paused (g.P.Port.value c.args.port.now) (g.P.Port.value c.run_down.new.port) t c.push.new.self c.run_down.new.stack one _ _ _ _ _ (g.P.Port.value c.unwind.new.port) c.in-Err.stop c.unwind.ensures.course c.in-Err.ensures.course
+    empties_paused c.args.left.now (g.P.Port.value c.args.port.now) (g.P.Port.value c.run_down.new.port) t c.push.new.self c.run_down.new.stack one _ _ _ _ _ (g.P.Port.value c.unwind.new.port) c.in-Err.stop c.left_by.result c.left_by.ensures c.unwind.ensures.course c.in-Err.ensures.course

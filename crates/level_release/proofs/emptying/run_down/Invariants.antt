@@ -6,16 +6,16 @@ use Rattle.level_release.specs.Course.{RunsDownBy}
 use Rattle.level_release.proofs.ServingRun.{Serving}
 use Rattle.level_release.proofs.emptying.run_down.Given as goal
 
-abbrev pub invariant-loop-port : goal.invariant-loop-port
-invariant-loop-port g l = record {
+abbrev pub invariant-loop-below : goal.invariant-loop-below
+invariant-loop-below g l = record {
   hands : RunningDown (g.P.Port.value l.fn.port) (g.P.Port.value l.port) l.fn.stack l.stack;
   goes : Serving (g.P.Port.value l.fn.port) (g.P.Port.value l.port) l.fn.stack l.stack;
-  course : RunsDownBy (g.P.Port.value l.fn.port) l.fn.stack (g.P.Port.value l.port) l.stack ((goal.Preempt-dyn g l.fn.gate.now).says l.fn.gate.now.1) ((goal.Preempt-dyn g l.fn.gate.now).count_asks l.fn.gate.now.1) ((goal.Preempt-dyn g l.gate.now).count_asks l.gate.now.1) ((goal.Preempt-dyn g l.fn.gate.now).count_yes l.fn.gate.now.1) ((goal.Preempt-dyn g l.gate.now).count_yes l.gate.now.1) (Ok tt);
+  course : RunsDownBy l.below (g.P.Port.value l.fn.port) l.fn.stack (g.P.Port.value l.port) l.stack ((goal.Preempt-dyn g l.fn.gate.now).says l.fn.gate.now.1) ((goal.Preempt-dyn g l.fn.gate.now).count_asks l.fn.gate.now.1) ((goal.Preempt-dyn g l.gate.now).count_asks l.gate.now.1) ((goal.Preempt-dyn g l.fn.gate.now).count_yes l.fn.gate.now.1) ((goal.Preempt-dyn g l.gate.now).count_yes l.gate.now.1) (Ok tt);
   settled : IsSettledTop (g.P.Port.value l.fn.port).holdings → IsSettledTop (g.P.Port.value l.port).holdings;
   says : (n : ℕ) → (goal.Preempt-dyn g l.gate.now).says l.gate.now.1 n ≡ (goal.Preempt-dyn g l.fn.gate.now).says l.fn.gate.now.1 n;
   paces : (goal.Preempt-dyn g l.gate.now).paces l.gate.now.1 ≡ (goal.Preempt-dyn g l.fn.gate.now).paces l.fn.gate.now.1;
   calm : (goal.Preempt-dyn g l.fn.gate.now).calm l.fn.gate.now.1 ≡ true → (goal.Preempt-dyn g l.gate.now).calm l.gate.now.1 ≡ true;
 }
 
-abbrev pub decreases-loop-port : goal.decreases-loop-port
-decreases-loop-port g l = weight l.stack
+abbrev pub decreases-loop-below : goal.decreases-loop-below
+decreases-loop-below g l = weight l.stack

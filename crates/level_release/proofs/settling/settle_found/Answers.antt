@@ -7,7 +7,7 @@ use Rattle.board_lemmas.proofs.KindForms.{fields_of}
 use Rattle.step_maker.proofs.Coming.{moves_came}
 use Rattle.answer_fits.proofs.Piecing.{serves_came, stops_before}
 use Rattle.level_release.specs.Asking.{of_release, of_settle}
-use Rattle.level_release.specs.Course.{SettledOne, WasReleased}
+use Rattle.level_release.specs.Course.{ReleasedTo, SettledOneTo}
 use Rattle.level_release.proofs.Answered.{busy_course, busy_stops, due_ends, live_course, released_serves, released_stops}
 use Rattle.level_release.proofs.Consulting.{by_as, by_none}
 use Rattle.level_release.proofs.Lived.{named_live}
@@ -17,39 +17,39 @@ use Rattle.level_release.proofs.settling.settle_found.Goals as goal
 
 -- ---- it was found live
 
-pub release-requires-clause-holds : goal.release-requires-clause-holds
-release-requires-clause-holds g c =
+pub release_within-requires-clause-holds : goal.release_within-requires-clause-holds
+release_within-requires-clause-holds g c =
     let t = c.requires.took in named_live t.0 (g.P.Port.value c.args.port.now) t.1 c.args.frame c.args.found t.2 c.read_kind-kind.result c.read_kind-kind.ensures c.if-kind.true
 
 pub returns-then-kind-clause-hand : goal.returns-then-kind-clause-hand
 returns-then-kind-clause-hand g c u which t =
-    took_settled u (g.P.Port.value c.args.port.now) (g.P.Port.value c.release.new.port) which c.args.frame c.args.found t c.release.result c.release.ensures.hand
+    took_settled u (g.P.Port.value c.args.port.now) (g.P.Port.value c.release_within.new.port) which c.args.frame c.args.found t c.release_within.result c.release_within.ensures.hand
 
 pub returns-then-kind-clause-rests : goal.returns-then-kind-clause-rests
 returns-then-kind-clause-rests g c =
-    let t = c.requires.took in settled_rests t.0 (g.P.Port.value c.release.new.port) t.1 c.release.result t.2.rests (returns-then-kind-clause-hand g c t.0 t.1 t.2)
+    let t = c.requires.took in settled_rests t.0 (g.P.Port.value c.release_within.new.port) t.1 c.release_within.result t.2.rests (returns-then-kind-clause-hand g c t.0 t.1 t.2)
 
 pub returns-then-kind-clause-serves : goal.returns-then-kind-clause-serves
 returns-then-kind-clause-serves g c u which t owner pages =
     let v = g.P.Port.value c.args.port.now in
-    let w = g.P.Port.value c.release.new.port in
-    let serves = c.release.ensures.serves owner pages in
-    released_serves u v which c.args.frame c.args.found t owner pages w c.release.result (serves_came v w (of_release c.args.frame owner pages c.release.result) _ serves) serves
+    let w = g.P.Port.value c.release_within.new.port in
+    let serves = c.release_within.ensures.serves owner pages in
+    released_serves u v which c.args.frame c.args.found t owner pages w c.release_within.result (serves_came v w (of_release c.args.frame owner pages c.release_within.result) _ serves) serves
 
 pub returns-then-kind-clause-stops : goal.returns-then-kind-clause-stops
 returns-then-kind-clause-stops g c u which t owner pages =
     let v = g.P.Port.value c.args.port.now in
-    let w = g.P.Port.value c.release.new.port in
-    released_stops u v which c.args.frame c.args.found t owner pages w c.release.result (serves_came v w (of_release c.args.frame owner pages c.release.result) _ (c.release.ensures.serves owner pages)) c.release.ensures.kinds
-    (c.release.ensures.stops owner pages)
+    let w = g.P.Port.value c.release_within.new.port in
+    released_stops u v which c.args.frame c.args.found t owner pages w c.release_within.result (serves_came v w (of_release c.args.frame owner pages c.release_within.result) _ (c.release_within.ensures.serves owner pages)) c.release_within.ensures.kinds
+    (c.release_within.ensures.stops owner pages)
 
 pub returns-then-kind-clause-course : goal.returns-then-kind-clause-course
 returns-then-kind-clause-course g c u which t =
     let v = g.P.Port.value c.args.port.now in
-    let w = g.P.Port.value c.release.new.port in
+    let w = g.P.Port.value c.release_within.new.port in
     let k = c.read_kind-kind.result in
-    by_as _ (λ answers. WasReleased v c.args.frame k.kind w answers c.release.result) (λ answers. SettledOne u which w answers c.release.result) _ _ _ _ _
-    (λ answers released. live_course u v which c.args.frame c.args.found t k c.read_kind-kind.ensures w answers c.release.result c.if-kind.true released) c.release.ensures.course
+    by_as _ (λ answers. ReleasedTo c.args.left.now c.release_within.new.left v c.args.frame k.kind w answers c.release_within.result) (λ answers. SettledOneTo c.args.left.now c.release_within.new.left u which w answers c.release_within.result) _ _ _ _ _
+    (λ answers released. live_course u v which c.args.frame c.args.found t k c.read_kind-kind.ensures c.args.left.now c.release_within.new.left w answers c.release_within.result c.if-kind.true released) c.release_within.ensures.course
 
 -- ---- it was found in another vCPU's hand: the first word names it again
 
@@ -87,7 +87,7 @@ pub returns-else-kind-2-clause-course : goal.returns-else-kind-2-clause-course
 returns-else-kind-2-clause-course g c u which t =
     let v = g.P.Port.value c.args.port.now in
     by_none _ _ _ _ _ refl
-    (busy_course u v which c.args.frame c.args.found t c.read_kind-kind.result c.read_kind-kind.ensures (g.P.Port.value c.put_old.new.port) c.if-kind.false c.if-kind-2.false c.put_old.ensures.moves)
+    (busy_course u v which c.args.frame c.args.found t c.read_kind-kind.result c.read_kind-kind.ensures c.args.left.now (g.P.Port.value c.put_old.new.port) c.if-kind.false c.if-kind-2.false c.put_old.ensures.moves)
 
 pub returns-then-kind-clause-kinds : goal.returns-then-kind-clause-kinds
-returns-then-kind-clause-kinds g c = IfErr-weaker c.release.result _ _ due_ends c.release.ensures.kinds
+returns-then-kind-clause-kinds g c = IfErr-weaker c.release_within.result _ _ due_ends c.release_within.ensures.kinds

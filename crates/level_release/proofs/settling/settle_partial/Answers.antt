@@ -14,7 +14,7 @@ use Rattle.answer_fits.proofs.Piecing.{stops_before}
 use Rattle.kind_words.specs.Kinds.{dead_kind, left}
 use Rattle.kind_words.proofs.KindFacts.{read_is}
 use Rattle.level_release.specs.Asking.{is_due_answer, is_due_stop, of_settle}
-use Rattle.level_release.specs.Course.{Emptied, SettledOne, resumed_table}
+use Rattle.level_release.specs.Course.{EmptiedTo, SettledOneTo, resumed_table}
 use Rattle.level_release.proofs.Asking.{settling}
 use Rattle.level_release.proofs.Consulting.{by_as, by_none}
 use Rattle.level_release.proofs.Exchanged.{change_came, dead_serves, lost_serves, lost_stops, resumed_piece}
@@ -198,7 +198,7 @@ returns-in-Err-clause-course g c u which t =
     let d = g.P.Port.value c.resume_work.new.port in
     let w = g.P.Port.value c.put_old.new.port in
     by_none _ _ _ _ _ (lost_undue c.lost-stop.result _ _ _ c.lost-stop.ensures)
-    (lost_course u v which c.args.frame c.args.found t c.args.kind c.requires.read c.requires.partial d c.in-Err.other c.in-Err.ensures.moves w c.lost-stop.result c.in-Err.ensures.lost c.lost-stop.ensures c.put_old.ensures.moves)
+    (lost_course u v which c.args.frame c.args.found t c.args.kind c.requires.read c.requires.partial d c.in-Err.other c.in-Err.ensures.moves c.args.left.now w c.lost-stop.result c.in-Err.ensures.lost c.lost-stop.ensures c.put_old.ensures.moves)
 
 pub returns-in-Ok-clause-course : goal.returns-in-Ok-clause-course
 returns-in-Ok-clause-course g c u which t =
@@ -206,8 +206,8 @@ returns-in-Ok-clause-course g c u which t =
     let d = g.P.Port.value c.resume_work.new.port in
     let x = g.P.Port.value c.look_refs.new.port in
     let w = g.P.Port.value c.empty.new.port in
-    by_as _ (λ answers. Emptied x (resumed_table c.args.frame c.level_of.result c.args.kind) w answers c.empty.result) (λ answers. SettledOne u which w answers c.empty.result) _ _ _ _ _
-    (λ answers emptied. emptied_course u v which c.args.frame c.args.found t c.args.kind c.requires.read c.requires.partial d _ c.in-Ok.ensures.moves refl x w c.look_refs.result c.level_of.result answers c.empty.result
+    by_as _ (λ answers. EmptiedTo c.args.left.now c.empty.new.left x (resumed_table c.args.frame c.level_of.result c.args.kind) w answers c.empty.result) (λ answers. SettledOneTo c.args.left.now c.empty.new.left u which w answers c.empty.result) _ _ _ _ _
+    (λ answers emptied. emptied_course u v which c.args.frame c.args.found t c.args.kind c.requires.read c.requires.partial d _ c.in-Ok.ensures.moves refl c.args.left.now c.empty.new.left x w c.look_refs.result c.level_of.result answers c.empty.result
     (sym c.has_recorded.ensures ∙ c.if-has_recorded.true) c.level_of.ensures.kind c.level_of.ensures.high c.look_refs.ensures.moves emptied) c.empty.ensures.course
 
 pub returns-in-Ok-2-clause-course : goal.returns-in-Ok-2-clause-course
@@ -219,6 +219,6 @@ returns-in-Ok-2-clause-course g c u which t =
     let w = g.P.Port.value c.put_ref.new.port in
     let k = c.args.kind in
     by_none _ _ _ _ _ refl
-    (dead_course u v which c.args.frame c.args.found t k c.requires.read c.requires.partial d _ c.in-Ok.ensures.moves refl w (sym c.has_recorded.ensures ∙ c.if-has_recorded.false)
+    (dead_course u v which c.args.frame c.args.found t k c.requires.read c.requires.partial d _ c.in-Ok.ensures.moves refl c.args.left.now w (sym c.has_recorded.ensures ∙ c.if-has_recorded.false)
     (dead_steps d a e w c.args.frame c.leave.result c.look_clock-clock.result k.kind k.unflushed c.look_clock-clock.ensures.moves
     (subst (λ y. Moves a e (Kind c.args.frame) (Store (kind_write y)) kinds.Kind None c.leave.result) c.dead_kind.ensures c.leave.ensures.moves) c.put_ref.ensures.puts))

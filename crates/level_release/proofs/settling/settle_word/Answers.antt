@@ -86,4 +86,4 @@ pub returns-then-look_old-eq0-clause-course : goal.returns-then-look_old-eq0-cla
 returns-then-look_old-eq0-clause-course g c =
     let v = g.P.Port.value c.args.port.now in
     let w = g.P.Port.value c.look_old.new.port in
-    by_none _ _ _ _ _ refl (courses.none w (subst (λ x. Moves v w (old_place v.post.vcpu c.args.which) Load kinds.Look None x) c.if-look_old-eq0.true c.look_old.ensures.moves))
+    by_none _ _ _ _ _ refl (courses.none w (subst (λ x. Moves v w (old_place v.post.vcpu c.args.which) Load kinds.Look None x) c.if-look_old-eq0.true c.look_old.ensures.moves), refl)

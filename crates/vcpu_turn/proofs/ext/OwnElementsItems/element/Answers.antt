@@ -14,7 +14,7 @@ returns-in_err-settle-clause-fits g c =
     let s = c.in_err-settle.ensures in
     let x = c.args.self.now in
     of_number (FitsExt x.domain (awaited_for x.from x.awaited c.args.index)) x.elements.now c.args.index (record { command = 0; first = 0; second = 0 }) c.requires.index _ _ _ _ _ _ _ _
-    (behind_unsettled _ _ _ _ _ _ _ _ _ _ c.from_residual.ensures.1 (settle_answers _ _ _ _ _ _ _ _ s.serves s.stops s.kinds s.rests s.course))
+    (behind_unsettled _ _ _ _ _ _ _ _ _ _ _ c.from_residual.ensures.1 (settle_answers _ _ _ _ _ _ _ _ _ _ s.serves s.stops s.kinds s.rests s.course))
 
 pub perform-requires-clause-own : goal.perform-requires-clause-own
 perform-requires-clause-own g c =
@@ -40,6 +40,6 @@ returns-clause-fits g c =
     let x = c.args.self.now in
     fits_waits x.domain _ _ c.awaited_for-awaited.ensures _ _ _ _ _ _ _ _ c.perform.result
     (of_number (FitsExt x.domain c.awaited_for-awaited.result) x.elements.now c.args.index (record { command = 0; first = 0; second = 0 }) c.requires.index _ _ _ _ _ _ _ c.perform.result
-    (behind_performed _ _ _ _ _ _ _ _ _ _ _ _ c.perform.result s.says (settle_answers _ _ _ _ _ _ _ _ s.serves s.stops s.kinds s.rests s.course)
+    (behind_performed _ _ _ _ _ _ _ _ _ _ _ _ _ c.perform.result s.says (settle_answers _ _ _ _ _ _ _ _ _ _ s.serves s.stops s.kinds s.rests s.course)
     (course_answers _ _ _ _ _ c.perform.result _ _
     (λ answers course. record { serves = p.serves; stops = p.stops; kinds = p.kinds; numbers = p.numbers; hand = p.hand; rests = p.rests; awaits = p.awaits; course = course }) p.course)))

@@ -1,0 +1,106 @@
+//! Two vCPUs with one turn each in each round: one gives a table back while the other one takes it on. Without a rule each would undo
+//! what the other one did, for ever.
+use crate::runs::{bytes, with_pace};
+use std::process::Abort;
+use xp_io::{MemorySink, MemorySource};
+use xp_machine::{Status, run_serial};
+use xp_preempt::{Listed, Paced, Preempt};
+
+// What it shows; the pace of the gates; whether the second vCPU's gate ever says yes; the trace without its turns; the round with which all operations are
+// answered and all tables given back; and lines of the report that come only then.
+#[derive(Clone, Copy)]
+struct Rivals {
+    shows: &'static str,
+    pace: &'static str,
+    asks: bool,
+    opening: &'static str,
+    rounds: usize,
+    lines: &'static str,
+}
+
+const RIVALS: [Rivals; 3] = [
+    Rivals {
+        shows: "A table is refused, and settled by one vCPU while the other one pins it.",
+        pace: "1",
+        asks: true,
+        opening: "xen-pv-trace 1\nframes 1\ndomain 1\nvcpu 0\nvcpu 0\nown 0 0 1\ncell 0 2 1 0x81\nop 0 ext 0 0 0\nop 1 ext 7 0 0 7 0 0 7 0 0 0 0 0\n",
+        rounds: 9,
+        lines: "vcpu 1 domain 0 base - user - old - -\nframe 0 owner 0 refs 1 alloc type L1 count 0 flags - at 0 m2p -\n",
+    },
+    Rivals {
+        shows: "The other one pins a table inside the one that is settled.",
+        pace: "1",
+        asks: true,
+        opening: "xen-pv-trace 1\nframes 2\ndomain 2\nvcpu 0\nvcpu 0\nown 0 0 2\ncell 0 0 1 0x1001\ncell 1 2 1 0x81\nop 0 ext 1 0 0\nop 1 ext 7 0 0 7 0 0 7 0 0 0 1 0\n",
+        rounds: 9,
+        lines: "vcpu 1 domain 0 base - user - old - -\nframe 1 owner 0 refs 1 alloc type L1 count 0 flags - at 0 m2p -\n",
+    },
+    Rivals {
+        shows: "The gates say yes at each second ask.",
+        pace: "2",
+        asks: true,
+        opening: "xen-pv-trace 1\nframes 1\ndomain 1\nvcpu 0\nvcpu 0\nown 0 0 1\ncell 0 4 1 0x81\nop 0 ext 0 0 0\nop 1 ext 7 0 0 7 0 0 7 0 0 7 0 0 7 0 0 7 0 0 0 0 0\n",
+        rounds: 9,
+        lines: "vcpu 1 domain 0 base - user - old - -\nframe 0 owner 0 refs 1 alloc type L1 count 0 flags - at 0 m2p -\n",
+    },
+];
+
+// The trace, with so many rounds.
+fn trace(rt: &(impl Abort + AllocGlobal), rivals: &Rivals, rounds: usize) -> Vec<u8> {
+    let mut trace = bytes(rt, rivals.opening);
+    for _ in 0..rounds {
+        trace
+            .extend_from_slice(b"turn 0 1\nturn 1 1\n")
+            .expect(rt, "memory");
+    }
+    trace.extend_from_slice(b"end\n").expect(rt, "memory");
+    trace
+}
+
+// As many gates as a machine may need.
+fn gates(rt: &(impl Abort + AllocGlobal), asks: bool) -> Vec<Box<dyn Preempt + Send>> {
+    let mut gates: Vec<Box<dyn Preempt + Send>> = Vec::new(rt.alloc());
+    for vcpu in 0..16 {
+        if vcpu == 1 && !asks {
+            let silent = Box::new(rt.alloc(), Listed::new(Vec::new(rt.alloc()))).expect(
+                rt, "memory",
+            );
+            gates.push(silent).expect(rt, "memory");
+        } else {
+            let paced = Box::new(rt.alloc(), Paced::new()).expect(rt, "memory");
+            gates.push(paced).expect(rt, "memory");
+        }
+    }
+    gates
+}
+
+fn report(rt: &(impl Abort + AllocGlobal), rivals: &Rivals, rounds: usize) -> Vec<u8> {
+    let mut source = MemorySource::new(trace(rt, rivals, rounds), Vec::new(rt.alloc()));
+    let mut sink = MemorySink::new(rt.alloc(), 8192, 8192, Vec::new(rt.alloc())).expect(
+        rt, "memory",
+    );
+    let gates = gates(rt, rivals.asks);
+    assert!(rt; gates.len() >= 16);
+    assert!(rt; gates.len() >= 16);
+    let answer = run_serial(rt.alloc(), &with_pace(rt, rivals.pace), &mut source, &mut sink, gates);
+    assert!(rt; answer == Status::Done, "{}", rivals.shows);
+    let mut text = Vec::new(rt.alloc());
+    text.extend_from_slice(sink.bytes()).expect(rt, "memory");
+    text
+}
+
+// The report has each of those lines.
+fn has_lines(rt: &(impl Abort + AllocGlobal), report: &[u8], lines: &str) -> bool {
+    let text = str::from_utf8(report).expect(rt, "a text");
+    lines.lines().all(|wanted| text.lines().any(|line| line == wanted))
+}
+
+#[test]
+fn vcpus_at_one_table_come_to_their_end(rt: HostRuntime) {
+    for rivals in RIVALS.iter() {
+        let early = report(&rt, rivals, rivals.rounds - 1);
+        assert!(rt; !has_lines(&rt, &early, rivals.lines), "{}", rivals.shows);
+        let late = report(&rt, rivals, rivals.rounds);
+        assert!(rt; has_lines(&rt, &late, rivals.lines), "{}", rivals.shows);
+    }
+}
