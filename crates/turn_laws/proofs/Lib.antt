@@ -3,6 +3,7 @@ pub mod Bringing
 pub mod Clearing
 pub mod Hearing
 pub mod Hindering
+pub mod Logging
 pub mod Noes
 pub mod PairTurns
 pub mod Retiring

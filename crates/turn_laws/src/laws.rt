@@ -6,6 +6,7 @@ ghost use Rattle.xp_words.specs.declared.reply.Stop.{Stop};
 ghost use Rattle.xp_board.specs.Told.{PortValue};
 ghost use Rattle.xp_preempt.specs.Gates.{GivesAnswers, ends_yes, last_ask};
 ghost use Rattle.turn_laws.specs.Asking.{AsksNothingWithin, HearsNo, HearsNoWithin, asks_within, elements_tried};
+ghost use Rattle.turn_laws.specs.Logging.{answers_in};
 ghost use Rattle.vcpu_turn.specs.Lists.{Tried, tried_in, AsksNothing, WorksOn, asks_between, is_due_answer};
 ghost use Rattle.vcpu_turn.specs.Pairs.{MovesATable, MovesNoTable};
 ghost use Rattle.vcpu_turn.specs.Cpus.{OfPairs, Processing, Task, next_of, task_of};
@@ -81,4 +82,9 @@ pub fn map_updates_move_no_table()
 /// A turn retires its vCPU only at the script's end: no operation is left.
 pub fn a_turn_retires_only_at_the_scripts_end()
     ensures { (c d : Processing) (v w : PortValue) (answers : List Bool) → IsTurn c d Retired v w answers → next_of c ≡ None }
+{}
+
+/// The log of a vCPU has one answer for each operation that is answered: a turn keeps it so.
+pub fn a_log_has_the_answers_it_counts()
+    ensures { (c d : Processing) (end : TurnEnd) (v w : PortValue) (answers : List Bool) → IsTurn c d end v w answers → answers_in c.log ≡ c.answered → answers_in d.log ≡ d.answered }
 {}
