@@ -4,6 +4,7 @@ pub mod Clearing
 pub mod Hearing
 pub mod Hindering
 pub mod Leaving
+pub mod Logging
 pub mod Noes
 pub mod PairTurns
 pub mod Retiring

@@ -7,6 +7,7 @@ ghost use Rattle.xp_board.specs.Told.{PortValue};
 ghost use Rattle.xp_preempt.specs.Gates.{GivesAnswers, ends_yes, last_ask};
 ghost use Rattle.turn_laws.specs.Leaving.{LeavesLess, PausedInARow, ends_first, is_settling};
 ghost use Rattle.turn_laws.specs.Asking.{AsksNothingWithin, HearsNo, HearsNoWithin, asks_within, elements_tried};
+ghost use Rattle.turn_laws.specs.Logging.{answers_in};
 ghost use Rattle.vcpu_turn.specs.Lists.{Tried, tried_in, AsksNothing, WorksOn, asks_between, is_due_answer};
 ghost use Rattle.vcpu_turn.specs.Pairs.{MovesATable, MovesNoTable};
 ghost use Rattle.vcpu_turn.specs.Cpus.{OfPairs, Processing, Task, next_of, task_of};
@@ -90,4 +91,9 @@ pub fn a_turn_retires_only_at_the_scripts_end()
 pub fn a_paused_settling_leaves_less()
     ensures less { (c d : Processing) (end : TurnEnd) (v w : PortValue) (answers : List Bool) (k : ℕ) → c.left ≡ Some k → (turn : IsTurn c d end v w answers) → is_settling turn.does ≡ true → ends_yes answers ≡ true → LeavesLess k d.left ⊎ (ends_first turn.does ≡ true) }
     ensures row { (n : ℕ) (c d : Processing) (k : ℕ) → c.left ≡ Some k → PausedInARow n c d → n ≤ k }
+{}
+
+/// The log of a vCPU has one answer for each operation that is answered: a turn keeps it so.
+pub fn a_log_has_the_answers_it_counts()
+    ensures { (c d : Processing) (end : TurnEnd) (v w : PortValue) (answers : List Bool) → IsTurn c d end v w answers → answers_in c.log ≡ c.answered → answers_in d.log ≡ d.answered }
 {}

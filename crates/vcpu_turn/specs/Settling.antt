@@ -1,4 +1,4 @@
--- What an earlier turn left unfinished is settled first, as long as the vCPU has flushed.
+-- What an earlier turn left unfinished is settled; and that the vCPU has flushed.
 use Rattle.std.specs.Prelude.{◌≡◌, ℕ, Bool, false, List, ◌++◌, Option, None, Result, Ok, Err, IfErr}
 use Rattle.xp_words.specs.declared.reply.Stop.{Stop}
 use Rattle.xp_board.specs.Told.{PortValue}
