@@ -65,11 +65,15 @@ fn trace(rt: &(impl Abort + AllocGlobal), rivals: &Rivals, rounds: usize) -> Vec
     trace
 }
 
-// As many gates as a machine may need.
-fn gates(rt: &(impl Abort + AllocGlobal), asks: bool) -> Vec<Box<dyn Preempt + Send>> {
+// The report behind so many rounds.
+fn report(rt: &(impl Abort + AllocGlobal), rivals: &Rivals, rounds: usize) -> Vec<u8> {
+    let mut source = MemorySource::new(trace(rt, rivals, rounds), Vec::new(rt.alloc()));
+    let mut sink = MemorySink::new(rt.alloc(), 8192, 8192, Vec::new(rt.alloc())).expect(
+        rt, "memory",
+    );
     let mut gates: Vec<Box<dyn Preempt + Send>> = Vec::new(rt.alloc());
     for vcpu in 0..16 {
-        if vcpu == 1 && !asks {
+        if vcpu == 1 && !rivals.asks {
             let silent = Box::new(rt.alloc(), Listed::new(Vec::new(rt.alloc()))).expect(
                 rt, "memory",
             );
@@ -79,16 +83,6 @@ fn gates(rt: &(impl Abort + AllocGlobal), asks: bool) -> Vec<Box<dyn Preempt + S
             gates.push(paced).expect(rt, "memory");
         }
     }
-    gates
-}
-
-fn report(rt: &(impl Abort + AllocGlobal), rivals: &Rivals, rounds: usize) -> Vec<u8> {
-    let mut source = MemorySource::new(trace(rt, rivals, rounds), Vec::new(rt.alloc()));
-    let mut sink = MemorySink::new(rt.alloc(), 8192, 8192, Vec::new(rt.alloc())).expect(
-        rt, "memory",
-    );
-    let gates = gates(rt, rivals.asks);
-    assert!(rt; gates.len() >= 16);
     assert!(rt; gates.len() >= 16);
     let answer = run_serial(
         rt.alloc(),
