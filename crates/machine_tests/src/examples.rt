@@ -13,7 +13,7 @@ struct Example {
     lines: &'static str,
 }
 
-const EXAMPLES: [Example; 33] = [
+const EXAMPLES: [Example; 39] = [
     Example {
         shows: "An empty frame is pinned as an L1 table; a frame that is not pinned cannot be unpinned.",
         pace: "",
@@ -211,6 +211,42 @@ const EXAMPLES: [Example; 33] = [
         pace: "",
         trace: "xen-pv-trace 1\nframes 16\ndomain 16\ndomain 16\npriv 0 1\nvcpu 0\nvcpu 1\nvcpu 1\nown 0 0 4\nown 1 4 8\ncell 4 0 1 0x5003\ncell 5 0 1 0x6003\ncell 6 0 1 0x7003\ncell 7 0 1 0x8003\nop 1 ext 5 4 0\nop 1 write k 0x0 0x100\nop 1 write k 0x0 0x100\nop 2 mmu 0x7ff0 0x7000 0x0\nop 2 ext 0 8 0\nturn 1 2\nturn 2 2\nturn 1 1\nturn 2 1\nend\n",
         lines: "pending 1\n",
+    },
+    Example {
+        shows: "A pin that is not paused needs one reference to its table beside the owner's.",
+        pace: "",
+        trace: "xen-pv-trace 1\nframes 16\nlimit 2\ndomain 16\nvcpu 0\nown 0 0 8\ncell 5 0 1 0x6001\ncell 5 1 1 0x7001\nop 0 ext 0 5 0\nturn 0 9\nend\n",
+        lines: "op 1 ok done 1 value 0x0\nframe 5 owner 0 refs 2 alloc type L1 count 1 flags pv at 0 m2p -\n",
+    },
+    Example {
+        shows: "One that is paused needs one more, where it goes on: at the limit it is refused, and its table stays partial.",
+        pace: "1",
+        trace: "xen-pv-trace 1\nframes 16\nlimit 2\ndomain 16\nvcpu 0\nown 0 0 8\ncell 5 0 1 0x6001\ncell 5 1 1 0x7001\nop 0 ext 0 5 0\nturn 0 9\nend\n",
+        lines: "op 1 refused 5 done 0 CountFull frame=5 found=d0,2,a\nframe 5 owner 0 refs 2 alloc type L1 count 1 flags hk at 1 m2p -\nframe 6 owner 0 refs 2 alloc type none count 0 flags - at 0 m2p -\nframe 7 owner 0 refs 1 alloc type none count 0 flags - at 0 m2p -\n",
+    },
+    Example {
+        shows: "A pin of a frame that was written needs a flush, and is done where the clock has a value left for it.",
+        pace: "",
+        trace: "xen-pv-trace 1\nframes 16\nclock 68719476733\ndomain 16\nvcpu 0\nown 0 0 8\nop 0 mmu 0x7ff0 0x5000 0x0\nop 0 ext 0 5 0\nturn 0 9\nend\n",
+        lines: "op 2 ok done 1 value 0x0\nframe 5 owner 0 refs 2 alloc type L1 count 1 flags pv at 0 m2p -\n",
+    },
+    Example {
+        shows: "Where the clock has none, the same pin is refused.",
+        pace: "",
+        trace: "xen-pv-trace 1\nframes 16\nclock 68719476734\ndomain 16\nvcpu 0\nown 0 0 8\nop 0 mmu 0x7ff0 0x5000 0x0\nop 0 ext 0 5 0\nturn 0 9\nend\n",
+        lines: "op 2 refused 20 done 0 Clock found=68719476734\nframe 5 owner 0 refs 1 alloc type L1 count 0 flags u at 0 m2p -\n",
+    },
+    Example {
+        shows: "An entry that maps its own table read-only takes a reference while the write holds another for its lock.",
+        pace: "",
+        trace: "xen-pv-trace 1\nframes 16\nlimit 4\ndomain 16\nvcpu 0\nown 0 0 8\nop 0 ext 0 5 0\nop 0 mmu 0x7ff0 0x5000 0x5001\nturn 0 9\nend\n",
+        lines: "op 2 ok done 1 value 0x0\nframe 5 owner 0 refs 3 alloc type L1 count 1 flags pv at 0 m2p -\n",
+    },
+    Example {
+        shows: "So at a limit of three it is refused: the lock held the third, and gave it back.",
+        pace: "",
+        trace: "xen-pv-trace 1\nframes 16\nlimit 3\ndomain 16\nvcpu 0\nown 0 0 8\nop 0 ext 0 5 0\nop 0 mmu 0x7ff0 0x5000 0x5001\nturn 0 9\nend\n",
+        lines: "op 2 refused 5 done 0 CountFull frame=5 found=d0,3,a\nframe 5 owner 0 refs 2 alloc type L1 count 1 flags pv at 0 m2p -\n",
     },
 ];
 

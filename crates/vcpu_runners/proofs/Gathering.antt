@@ -1,5 +1,5 @@
 -- What the vCPUs of all threads come to.
-use Rattle.std.proofs.Common.{◌≡◌, ℕ, zero, suc, ◌<◌, All, Option, Some, None, List, [], ◌∷◌, ◌++◌, length, map, take, drop, refl, sym, ap, ◌∙◌, subst, arith, slice_index_or}
+use Rattle.std.proofs.Common.{◌≡◌, ℕ, zero, suc, ◌<◌, All, Option, Some, List, [], ◌∷◌, ◌++◌, length, map, take, drop, refl, sym, ap, ◌∙◌, subst, arith, slice_index_or}
 use Rattle.std.specs.Prelude.{slice_get}
 use Rattle.std.specs.Option.{option_map}
 use Rattle.std.proofs.lemmas.List.{get_or-map, length-map}
@@ -86,11 +86,12 @@ RestsSound =
     (n : Machine) (words : List ℕ) (hands : List Holdings) → SoundState n words hands → ((s : ℕ) → s < (sizes_of n).vcpus → IsEmptyHand (hand_of hands s)) → SoundWords n words
 
 -- what each worker did
-abbrev pub RanEach : {A : Type 0} (pass : A → PassValue) (gate : A → Option Gate) (cpu : A → Processing) → BoardValue → List A → List A → Type 0
+abbrev pub RanEach : {A : Type 0} (pass : A → PassValue) (gate : A → Gate) (cpu : A → Processing) → BoardValue → List A → List A → Type 0
 RanEach {A} pass gate cpu b xs ys =
-    (k : ℕ) (d : A) → k < length xs → RanOut b (pass (slice_index_or xs k d)) (pass (slice_index_or ys k d)) (gate (slice_index_or xs k d)) (cpu (slice_index_or xs k d)) (cpu (slice_index_or ys k d))
+    (k : ℕ) (d : A) → k < length xs → RanOut b (pass (slice_index_or xs k d)) (pass (slice_index_or ys k d)) (gate (slice_index_or xs k d)) (gate (slice_index_or ys k d)) (cpu (slice_index_or xs k d))
+    (cpu (slice_index_or ys k d))
 
-module _ {A : Type 0} (pass : A → PassValue) (gate : A → Option Gate) (cpu : A → Processing) (b : BoardValue) (xs ys : List A) (opened : length (map pass xs) ≡ (sizes_of b.machine).vcpus)
+module _ {A : Type 0} (pass : A → PassValue) (gate : A → Gate) (cpu : A → Processing) (b : BoardValue) (xs ys : List A) (opened : length (map pass xs) ≡ (sizes_of b.machine).vcpus)
     (passes : AreOpened b.table (map pass xs)) (first : AreFirst b (map cpu xs)) (count : length ys ≡ length xs) (ran : RanEach pass gate cpu b xs ys) where
   vcpus_is : length xs ≡ (sizes_of b.machine).vcpus
   vcpus_is = sym (length-map xs pass) ∙ opened
@@ -107,20 +108,23 @@ module _ {A : Type 0} (pass : A → PassValue) (gate : A → Option Gate) (cpu :
       ap (λ (l : List Holdings). slice_index_or l k empty) (map-map (λ (p : PassValue). p.holdings) pass ys)
       ∙ get_or-map (λ (w : A). (pass w).holdings) ys k d empty (subst (λ n. k < n) (sym count) within)
 
-  end_at : (k : ℕ) (d : A) → k < length xs → RanToItsEnd b k (slice_index_or (map gate xs) k None) (cpu (slice_index_or xs k d)) (cpu (slice_index_or ys k d)) (hand_of (held_by (map pass ys)) k)
+  end_at : (k : ℕ) (d : A) → k < length xs →
+      RanToItsEnd b k (slice_get (map gate xs) k) (slice_get (map gate ys) k) (cpu (slice_index_or xs k d)) (cpu (slice_index_or ys k d)) (hand_of (held_by (map pass ys)) k)
   end_at k d within =
       let r = ran k d within in
-      let c = cpu (slice_index_or xs k d) in
-      let c2 = cpu (slice_index_or ys k d) in
+      let x = slice_index_or xs k d in
+      let y = slice_index_or ys k d in
       let start = opened_at pass cpu b xs opened passes first k d within in
-      let end : pass_port b (pass (slice_index_or ys k d)) r.lender ≡ port_with b k r.lender (hand_of (held_by (map pass ys)) k) =
+      let end : pass_port b (pass y) r.lender ≡ port_with b k r.lender (hand_of (held_by (map pass ys)) k) =
       ap (λ p. pass_port b p r.lender) (ended_at k d within) ∙ ap (port_with b k r.lender) (sym (hand_at k d within)) in
       record {
+        gate = gate x;
+        asked = gate y;
+        own = at_place gate xs k d within;
+        left_is = at_place gate ys k d (subst (λ n. k < n) (sym count) within);
         lender = r.lender;
-        left = r.left;
-        turns = subst (λ g. TookTurns g c (port_with b k r.lender empty) r.left c2 (port_with b k r.lender (hand_of (held_by (map pass ys)) k))) (sym (get_or-map gate xs k d None within))
-            (subst (λ w. TookTurns (gate (slice_index_or xs k d)) c (port_with b k r.lender empty) r.left c2 w) end
-            (subst (λ p. TookTurns (gate (slice_index_or xs k d)) c (pass_port b p r.lender) r.left c2 (pass_port b (pass (slice_index_or ys k d)) r.lender)) start r.turns));
+        turns = subst (λ w. TookTurns (gate x) (cpu x) (port_with b k r.lender empty) (gate y) (cpu y) w) end
+            (subst (λ p. TookTurns (gate x) (cpu x) (pass_port b p r.lender) (gate y) (cpu y) (pass_port b (pass y) r.lender)) start r.turns);
         retired = r.retired;
       }
 
@@ -137,15 +141,16 @@ module _ {A : Type 0} (pass : A → PassValue) (gate : A → Option Gate) (cpu :
   are_of : AreOf b.table (map pass ys)
   are_of k p at = own_at k p (from_head ys k (subst (λ n. k < n) (length-map ys pass) (within_elem (map pass ys) k p at))) at
 
-  each_at : (s : ℕ) (c c2 : Processing) → slice_get (map cpu xs) s ≡ Some c → slice_get (map cpu ys) s ≡ Some c2 → RanToItsEnd b s (slice_index_or (map gate xs) s None) c c2 (hand_of (held_by (map pass ys)) s)
+  each_at : (s : ℕ) (c c2 : Processing) → slice_get (map cpu xs) s ≡ Some c → slice_get (map cpu ys) s ≡ Some c2 →
+      RanToItsEnd b s (slice_get (map gate xs) s) (slice_get (map gate ys) s) c c2 (hand_of (held_by (map pass ys)) s)
   each_at s c c2 at at2 =
       let within : s < length xs = subst (λ n. s < n) (length-map xs cpu) (slice_get_within (map cpu xs) s c at) in
       let d = from_head xs s within in
       let is = some_same (slice_get (map cpu xs) s) (cpu (slice_index_or xs s d)) c (at_place cpu xs s d within) at in
       let is2 = some_same (slice_get (map cpu ys) s) (cpu (slice_index_or ys s d)) c2 (at_place cpu ys s d (subst (λ n. s < n) (sym count) within)) at2 in
-      subst (λ (x : Processing × Processing). RanToItsEnd b s (slice_index_or (map gate xs) s None) x.0 x.1 (hand_of (held_by (map pass ys)) s)) (λ i. (is i, is2 i)) (end_at s d within)
+      subst (λ (x : Processing × Processing). RanToItsEnd b s (slice_get (map gate xs) s) (slice_get (map gate ys) s) x.0 x.1 (hand_of (held_by (map pass ys)) s)) (λ i. (is i, is2 i)) (end_at s d within)
 
-  ran_all : RestsSound → (words : List ℕ) → OneRun b.machine b.opening words (held_by (map pass ys)) → RanInThreads b (map gate xs) (map cpu xs) words (map cpu ys)
+  ran_all : RestsSound → (words : List ℕ) → OneRun b.machine b.opening words (held_by (map pass ys)) → RanInThreads b (map gate xs) (map cpu xs) words (map gate ys) (map cpu ys)
   ran_all rests words run =
       let hands = held_by (map pass ys) in
       record {
@@ -158,7 +163,7 @@ module _ {A : Type 0} (pass : A → PassValue) (gate : A → Option Gate) (cpu :
       }
 
 -- as the code has it: of the workers, xs before and ys behind their turns
-module _ {A B : Type 0} (pass : A → PassValue) (runner : A → B) (gate : B → Option Gate) (cpu : B → Processing) (b : BoardValue) (passes : List PassValue) (runners : List B) (xs ys : List A) (with_passes : map pass xs ≡ passes)
+module _ {A B : Type 0} (pass : A → PassValue) (runner : A → B) (gate : B → Gate) (cpu : B → Processing) (b : BoardValue) (passes : List PassValue) (runners : List B) (xs ys : List A) (with_passes : map pass xs ≡ passes)
     (with_runners : map runner xs ≡ runners) (opened : length passes ≡ (sizes_of b.machine).vcpus) (own : AreOpened b.table passes) (first : AreFirst b (map cpu runners)) (count : length ys ≡ length xs)
     (ran : RanEach pass (λ w. gate (runner w)) (λ w. cpu (runner w)) b xs ys) where
   cpus_is : map (λ w. cpu (runner w)) xs ≡ map cpu runners
@@ -180,10 +185,12 @@ module _ {A B : Type 0} (pass : A → PassValue) (runner : A → B) (gate : B �
   passes_own ended is = subst (AreOf b.table) (sym is) (are_of pass (λ w. gate (runner w)) (λ w. cpu (runner w)) b xs ys opened_all own_all first_all count ran)
 
   pub ran_in_threads : RestsSound → (words : List ℕ) (ended : List PassValue) (retired : List B) → ended ≡ map pass ys → retired ≡ map runner ys → OneRun b.machine b.opening words (held_by ended) →
-      RanInThreads b (map gate runners) (map cpu runners) words (map cpu retired)
+      RanInThreads b (map gate runners) (map cpu runners) words (map gate retired) (map cpu retired)
   ran_in_threads rests words ended retired is those run =
       let last : map (λ w. cpu (runner w)) ys ≡ map cpu retired = sym (map-map cpu runner ys) ∙ ap (map cpu) (sym those) in
-      subst (λ (l : List Processing). RanInThreads b (map gate runners) (map cpu runners) words l) last
-      (subst (λ (l : List Processing). RanInThreads b (map gate runners) l words (map (λ w. cpu (runner w)) ys)) cpus_is
-      (subst (λ (l : List (Option Gate)). RanInThreads b l (map (λ w. cpu (runner w)) xs) words (map (λ w. cpu (runner w)) ys)) gates_is
-      (ran_all pass (λ w. gate (runner w)) (λ w. cpu (runner w)) b xs ys opened_all own_all first_all count ran rests words (subst (λ (l : List PassValue). OneRun b.machine b.opening words (held_by l)) is run))))
+      let left : map (λ w. gate (runner w)) ys ≡ map gate retired = sym (map-map gate runner ys) ∙ ap (map gate) (sym those) in
+      subst (λ (l : List Processing). RanInThreads b (map gate runners) (map cpu runners) words (map gate retired) l) last
+      (subst (λ (l : List Gate). RanInThreads b (map gate runners) (map cpu runners) words l (map (λ w. cpu (runner w)) ys)) left
+      (subst (λ (l : List Processing). RanInThreads b (map gate runners) l words (map (λ w. gate (runner w)) ys) (map (λ w. cpu (runner w)) ys)) cpus_is
+      (subst (λ (l : List Gate). RanInThreads b l (map (λ w. cpu (runner w)) xs) words (map (λ w. gate (runner w)) ys) (map (λ w. cpu (runner w)) ys)) gates_is
+      (ran_all pass (λ w. gate (runner w)) (λ w. cpu (runner w)) b xs ys opened_all own_all first_all count ran rests words (subst (λ (l : List PassValue). OneRun b.machine b.opening words (held_by l)) is run)))))

@@ -1,5 +1,5 @@
 -- The turns of one vCPU by the port of its pass.
-use Rattle.std.proofs.Common.{◌≡◌, ℕ, ◌<◌, true, false, Option, None, sym, ap, ◌∙◌, subst, length, ◌^◌}
+use Rattle.std.proofs.Common.{◌≡◌, ℕ, ◌<◌, true, false, None, sym, ap, ◌∙◌, subst, length, ◌^◌}
 use Rattle.xp_words.specs.Machine.{Machine}
 use Rattle.xp_words.specs.Places.{sizes_of, memory, run_of}
 use Rattle.xp_board.specs.declared.step.Item.{Item}
@@ -17,19 +17,19 @@ use Rattle.vcpu_runners.specs.Replayed.{TookTurns, more, none}
 use Rattle.vcpu_runners.specs.Working.{RanOut}
 
 -- ---- one turn more
-pub turns_more : (has mid left : Option Gate) (c d c2 : Processing) (v u w : PortValue) → TookTurns has c v mid d u → d.retired ≡ false → TakesTurnBy d.retired mid left d c2 u w → TookTurns has c v left c2 w
+pub turns_more : (has mid left : Gate) (c d c2 : Processing) (v u w : PortValue) → TookTurns has c v mid d u → d.retired ≡ false → TakesTurnBy d.retired mid left d c2 u w → TookTurns has c v left c2 w
 turns_more has mid left c d c2 v u w turns runs turn = more mid left d c2 u w turns runs (subst (λ b. TakesTurnBy b mid left d c2 u w) runs turn)
 
-short_turn : (mid left : Option Gate) (d c2 : Processing) (u w : PortValue) → TakesTurn mid left d c2 u w → IsShort d → IsShort c2
+short_turn : (mid left : Gate) (d c2 : Processing) (u w : PortValue) → TakesTurn mid left d c2 u w → IsShort d → IsShort c2
 short_turn mid left d c2 u w t short =
     let same = turn_script d (next_of d) t.turn.begun c2 t.turn.worked t.answers t.end t.turn.does in
     subst (λ s. length s < 2 ^ 32) (sym same) short
 
-pub short_more : (mid left : Option Gate) (d c2 : Processing) (u w : PortValue) → d.retired ≡ false → TakesTurnBy d.retired mid left d c2 u w → IsShort d → IsShort c2
+pub short_more : (mid left : Gate) (d c2 : Processing) (u w : PortValue) → d.retired ≡ false → TakesTurnBy d.retired mid left d c2 u w → IsShort d → IsShort c2
 short_more mid left d c2 u w runs turn short = short_turn mid left d c2 u w (subst (λ b. TakesTurnBy b mid left d c2 u w) runs turn) short
 
 -- turns leave a script as long as it is
-pub short_behind : (has : Option Gate) (c : Processing) (v : PortValue) (left : Option Gate) (c2 : Processing) (w : PortValue) → TookTurns has c v left c2 w → IsShort c → IsShort c2
+pub short_behind : (has : Gate) (c : Processing) (v : PortValue) (left : Gate) (c2 : Processing) (w : PortValue) → TookTurns has c v left c2 w → IsShort c → IsShort c2
 short_behind has c v _ _ _ none short = short
 short_behind has c v _ _ _ (more mid left d c2 u w turns runs turn) short = short_turn mid left d c2 u w turn (short_behind has c v mid d u turns short)
 
@@ -54,16 +54,15 @@ module _ (b b1 : BoardValue) (p q : PassValue) (l l1 : ℕ) (post : (pass_port b
         inside = subst (λ (n : Machine). (x : Item) → Member x q.holdings.cache → x.frame < n.frames) machine own.inside;
       }
 
-pub ran_out : (b b0 b1 : BoardValue) (p p0 q : PassValue) (l0 l1 : ℕ) (gate left : Option Gate) (c c2 : Processing) → b0 ≡ b → p0 ≡ p → (pass_port b1 q l1).post ≡ (pass_port b0 p0 l0).post →
-    TookTurns gate c (pass_port b0 p0 l0) left c2 (pass_port b1 q l1) → c2.retired ≡ true → IsOf (pass_port b1 q l1) c2 → IsPassOf b1 q → RanOut b p q gate c c2
+pub ran_out : (b b0 b1 : BoardValue) (p p0 q : PassValue) (l0 l1 : ℕ) (gate left : Gate) (c c2 : Processing) → b0 ≡ b → p0 ≡ p → (pass_port b1 q l1).post ≡ (pass_port b0 p0 l0).post →
+    TookTurns gate c (pass_port b0 p0 l0) left c2 (pass_port b1 q l1) → c2.retired ≡ true → IsOf (pass_port b1 q l1) c2 → IsPassOf b1 q → RanOut b p q gate left c c2
 ran_out b b0 b1 p p0 q l0 l1 gate left c c2 same pass post turns retired of own =
     let back = port_back b0 b1 p0 q l0 l1 post in
-    subst (λ (y : BoardValue × PassValue). RanOut y.0 y.1 q gate c c2) (λ i. (same i, pass i))
+    subst (λ (y : BoardValue × PassValue). RanOut y.0 y.1 q gate left c c2) (λ i. (same i, pass i))
     (record {
       pass = pass_back b0 b1 p0 q l0 l1 post own;
       vcpu = same_vcpu b0 b1 p0 q l0 l1 post;
       lender = l0;
-      left = left;
       turns = subst (TookTurns gate c (pass_port b0 p0 l0) left c2) back turns;
       retired = retired;
       of = subst (λ v. IsOf v c2) back of;

@@ -19,11 +19,6 @@ gate_of calm paces asks says box = record { calm = calm box; paces = paces box; 
 abbrev pub in_box : {V : Type 0} {G : V → Type 0} → ((x : V) × G x → Gate) → DynBox V Global G → Gate
 in_box gate b = gate (b.vtable, b.value)
 
--- a vCPU that let its gate go has none
-abbrev pub gate_in : {A : Type 0} → (A → Gate) → Option A → Option Gate
-gate_in gate None = None
-gate_in gate (Some box) = Some (gate box)
-
 -- h is g after it was told this pace: one that has a pace says yes at each so many asks, and 0 stands for never; another says what it said
 pub record IsPaced (every : ℕ) (g h : Gate) : Type 0 where
   pub asks : h.asks ≡ g.asks

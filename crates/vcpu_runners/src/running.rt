@@ -44,7 +44,7 @@ pub fn run_in_threads<R: Threads + Wait + Sync>(
     requires count { length passes.items ≡ (sizes_of board.machine).vcpus }
     requires opened { AreOpened board.table passes.items }
     requires first { AreFirst board (cpus_of runners.items) }
-    ensures { IfOk result (λ r. RanInThreads board (gates_of (gate_of calm paces count_asks says) runners.items) (cpus_of runners.items) r.0 (cpus_of r.1.items)) }
+    ensures { IfOk result (λ r. RanInThreads board (gates_of (gate_of calm paces count_asks says) runners.items) (cpus_of runners.items) r.0 (gates_of (gate_of calm paces count_asks says) r.1.items) (cpus_of r.1.items)) }
 {
     // What a run leaves where all hands are empty is law: this call does nothing.
     rested_words_are_sound();

@@ -1,4 +1,4 @@
-ghost use Rattle.std.specs.Prelude.{◌≡◌, ◌≤◌, ◌<◌, ◌+◌, length, vec_len, IfOk, OnErr, OnOk, IsErrOf};
+ghost use Rattle.std.specs.Prelude.{◌≡◌, ◌≤◌, ◌<◌, ◌+◌, ◌⊎◌, length, vec_len, IfOk, OnErr, OnOk, IsErrOf};
 ghost use Rattle.std.specs.Io.{ReadsAtMost};
 ghost use Rattle.std.specs.Io.KnownBytes.{Appends, ReadConsumes};
 ghost use Rattle.xp_io.specs.Causes.{Rose, ReadToEnd, TookOneMore, AppendsFront, HasCause};
@@ -72,6 +72,8 @@ pub fn read_all<S: Source>(
     ensures large { IsErrOf result ReadAllError.Large → TookOneMore (S.left source.old) (S.left source.new) limit }
     ensures failed { IsErrOf result ReadAllError.Failed → Rose (S.faults source.old) (S.faults source.new) }
     ensures later { S.faults source.old ≤ S.faults source.new }
+    ensures kept { IfOk result (λ _. S.faults source.new ≡ S.faults source.old) }
+    ensures unfailed { (IsErrOf result ReadAllError.Large ⊎ IsErrOf result ReadAllError.Memory) → S.faults source.new ≡ S.faults source.old }
 {
     let mut bytes = Vec::new(alloc);
     let mut piece = zeros(alloc, PIECE)?;

@@ -10,10 +10,10 @@ use Rattle.xp_machine.specs.Turns.{MakesStagedTurn, Stage, StaysWithin}
 use Rattle.turn_laws.proofs.Asking.{turn_within}
 use Rattle.turn_laws.proofs.Stopping.{turn_heard}
 
-gate_same : (o : Option (Option Gate)) (g k : Gate) → o ≡ Some (Some g) → o ≡ Some (Some k) → g ≡ k
+gate_same : (o : Option Gate) (g k : Gate) → o ≡ Some g → o ≡ Some k → g ≡ k
 gate_same o g k a b = cc
 
-pub own_turn_stops : (n : Machine) (v : ℕ) (c : Processing) (s t : Stage) (g : Gate) (op : Op) (j : ℕ) → (m : MakesStagedTurn n v c s t) → slice_get s.gates v ≡ Some (Some g) → next_of c ≡ Some op →
+pub own_turn_stops : (n : Machine) (v : ℕ) (c : Processing) (s t : Stage) (g : Gate) (op : Op) (j : ℕ) → (m : MakesStagedTurn n v c s t) → slice_get s.gates v ≡ Some g → next_of c ≡ Some op →
     HearsNoWithin (elements_tried m.turn) → 0 < j → g.asks + j < last_ask → g.says (g.asks + j) ≡ true → StaysWithin v c s t (c.at.done + (j - asks_within (elements_tried m.turn)))
 own_turn_stops n v c s t g op j m has next hears some less is_yes =
     let same = gate_same (slice_get s.gates v) g m.gate has m.own in

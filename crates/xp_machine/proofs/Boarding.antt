@@ -1,5 +1,5 @@
 -- A turn by a port of the plain board is a turn of the machine, and so is a stop.
-use Rattle.std.proofs.Common.{◌≡◌, ℕ, ◌<◌, Bool, true, false, not, is_some, List, length, map, Option, Some, None, refl, sym, ap, ◌∙◌, subst, slice_set, slice_index_or}
+use Rattle.std.proofs.Common.{◌≡◌, ℕ, ◌<◌, Bool, true, false, List, length, map, Some, refl, sym, ap, ◌∙◌, subst, slice_set, slice_index_or}
 use Rattle.std.specs.Prelude.{slice_get}
 use Rattle.std.specs.Option.{option_map}
 use Rattle.std.proofs.lemmas.List.{set-get_or, map-set, length-map}
@@ -12,7 +12,7 @@ use Rattle.answer_laws.specs.Alone.{IsAlone}
 use Rattle.shared_board.specs.Board.{Board, port_value}
 use Rattle.vcpu_runners.specs.Turns.{IsOf, Processing, StopsWhere, next_of}
 use Rattle.vcpu_runners.specs.Cpus.{IsShort}
-use Rattle.vcpu_runners.specs.Gates.{Gate, gate_in}
+use Rattle.vcpu_runners.specs.Gates.{Gate}
 use Rattle.xp_machine.specs.Ready.{Ready}
 use Rattle.vcpu_runners.specs.Runners.{TakesTurnBy}
 use Rattle.vcpu_runners.proofs.Scripts.{turn_script}
@@ -22,7 +22,7 @@ use Rattle.turn_laws.proofs.TurnSteps.{turn_came, stop_came, turn_unhindered}
 use Rattle.xp_machine.proofs.Moving.{Stepping, moved_none, stepping, same_story, ready_after, short_at, alone_at, sound_alone}
 
 -- ---- one turn or one stop
-pub record Done (DoesNext : Stage → Stage → Type 0) (b b2 : Board) (cpus cpus2 : List Processing) (gates gates2 : List (Option Gate)) : Type 0 where
+pub record Done (DoesNext : Stage → Stage → Type 0) (b b2 : Board) (cpus cpus2 : List Processing) (gates gates2 : List Gate) : Type 0 where
   pub does : DoesNext (stage b.story cpus gates) (stage b2.story cpus2 gates2)
   pub ready : Ready b2 cpus2
   pub opening : b2.story.opening ≡ b.story.opening
@@ -49,7 +49,7 @@ module _ (stays : AloneStays) where
       record { steps = steps; ready = ready_after b b2 s lender cpus c c2 ready machine steps.moved here script (sound_alone b2 s lender (stays v w (alone_at b cpus s lender ready) came)) own }
 
   -- one that is retired stays as it is, and so does the board
-  rested_on : (DoesNext : Processing → Stage → Stage → Type 0) (b b2 : Board) (s lender : ℕ) (cpus : List Processing) (gates : List (Option Gate)) (c c2 : Processing) (has left : Option Gate) → Ready b cpus →
+  rested_on : (DoesNext : Processing → Stage → Stage → Type 0) (b b2 : Board) (s lender : ℕ) (cpus : List Processing) (gates : List Gate) (c c2 : Processing) (has left : Gate) → Ready b cpus →
       b2.machine ≡ b.machine → slice_get cpus s ≡ Some c → slice_get gates s ≡ Some has → c2 ≡ c → port_value b2 s lender ≡ port_value b s lender → left ≡ has → IsOf (port_value b2 s lender) c2 →
       Done (UnlessRetired DoesNext c true) b b2 cpus (slice_set cpus s c2) gates (slice_set gates s left)
   rested_on DoesNext b b2 s lender cpus gates c c2 has left ready machine here gate same port kept own =
@@ -64,7 +64,7 @@ module _ (stays : AloneStays) where
         opening = moved.opening;
       }
 
-  turn_by : NeitherLostNorBusy → NobodyWaitedFor → (b b2 : Board) (s lender : ℕ) (cpus : List Processing) (gates : List (Option Gate)) (c c2 : Processing) (has left : Option Gate) (retired : Bool) →
+  turn_by : NeitherLostNorBusy → NobodyWaitedFor → (b b2 : Board) (s lender : ℕ) (cpus : List Processing) (gates : List Gate) (c c2 : Processing) (has left : Gate) (retired : Bool) →
       s < (sizes_of b.machine).vcpus → Ready b cpus → b2.machine ≡ b.machine → slice_get cpus s ≡ Some c → slice_get gates s ≡ Some has →
       TakesTurnBy retired has left c c2 (port_value b s lender) (port_value b2 s lender) → IsOf (port_value b2 s lender) c2 →
       Done (UnlessRetired (MakesStagedTurn b.machine s) c retired) b b2 cpus (slice_set cpus s c2) gates (slice_set gates s left)
@@ -78,9 +78,9 @@ module _ (stays : AloneStays) where
       let made = made_on b b2 s lender cpus c c2 real ready machine here came script own in
       record {
         does = record {
-          gate = t.gate;
-          asked = t.asked;
-          own = gate ∙ ap (λ o. Some o) t.own;
+          gate = has;
+          asked = left;
+          own = gate;
           after = c2;
           end = t.end;
           made = made.steps.made;
@@ -94,19 +94,19 @@ module _ (stays : AloneStays) where
           consulted = t.consulted;
           unhindered = turn_unhindered stays neither nobody v real c c2 t.end w t.answers (alone_at b cpus s lender ready) t.turn;
           cpus = refl;
-          gates = ap (λ o. slice_set gates s o) t.left_is;
+          gates = refl;
         };
         ready = made.ready;
         opening = made.steps.moved.opening;
       }
 
-  stop_by : (b b2 : Board) (s lender : ℕ) (cpus : List Processing) (gates : List (Option Gate)) (c c2 : Processing) (has left : Option Gate) (retired : Bool) → s < (sizes_of b.machine).vcpus → Ready b cpus →
-      b2.machine ≡ b.machine → slice_get cpus s ≡ Some c → slice_get gates s ≡ Some has → left ≡ None → (retired ≡ true → has ≡ None) →
+  stop_by : (b b2 : Board) (s lender : ℕ) (cpus : List Processing) (gates : List Gate) (c c2 : Processing) (has left : Gate) (retired : Bool) → s < (sizes_of b.machine).vcpus → Ready b cpus →
+      b2.machine ≡ b.machine → slice_get cpus s ≡ Some c → slice_get gates s ≡ Some has → left ≡ has →
       StopsWhere retired c c2 (port_value b s lender) (port_value b2 s lender) → IsOf (port_value b2 s lender) c2 →
       Done (UnlessRetired (MakesStagedStop b.machine s) c retired) b b2 cpus (slice_set cpus s c2) gates (slice_set gates s left)
-  stop_by b b2 s lender cpus gates c c2 has left true real ready machine here gate gone went t own =
-      rested_on (MakesStagedStop b.machine s) b b2 s lender cpus gates c c2 has left ready machine here gate t.0 t.1 (gone ∙ sym (went refl)) own
-  stop_by b b2 s lender cpus gates c c2 has left false real ready machine here gate gone went t own =
+  stop_by b b2 s lender cpus gates c c2 has left true real ready machine here gate kept t own =
+      rested_on (MakesStagedStop b.machine s) b b2 s lender cpus gates c c2 has left ready machine here gate t.0 t.1 kept own
+  stop_by b b2 s lender cpus gates c c2 has left false real ready machine here gate kept t own =
       let v = port_value b s lender in
       let w = port_value b2 s lender in
       let made = made_on b b2 s lender cpus c c2 real ready machine here (stop_came v w t.stop) (ap (λ (x : Processing). x.script) t.cpu) own in
@@ -120,7 +120,7 @@ module _ (stays : AloneStays) where
           to_is = port_of b b2 s lender machine;
           stop = t.stop;
           cpus = ap (λ x. slice_set cpus s x) t.cpu;
-          gates = ap (λ o. slice_set gates s o) gone;
+          gates = set_same gates s has left gate kept;
         };
         ready = made.ready;
         opening = made.steps.moved.opening;
@@ -134,11 +134,6 @@ of_port b b1 s s1 lender c same runner of = subst (λ v. IsOf v c) (λ i. port_v
 at_place : {A B : Type 0} (f : A → B) (runners : List A) (s : ℕ) (d : A) → s < length runners → slice_get (map f runners) s ≡ Some (f (slice_index_or runners s d))
 at_place f runners s d within = slice_get-map f runners s ∙ ap (option_map f) (slice_get-get_or runners s d within)
 
--- a vCPU that is retired let its gate go
-pub gate_gone : {A : Type 0} (gate : A → Gate) (o : Option A) (retired : Bool) → is_some o ≡ not retired → retired ≡ true → gate_in gate o ≡ None
-gate_gone gate None retired paired is = refl
-gate_gone gate (Some x) retired paired is = absurd (let off = subst (λ b. true ≡ not b) is paired in cc)
-
 -- the port is that of board b for vCPU s
 module _ {A : Type 0} (cpu : A → Processing) (b b1 : Board) (s s1 l1 : ℕ) (runners : List A) (d : A) (same : b1 ≡ b) (runner : s1 ≡ s) (within : s < length runners) (ready : Ready b (map cpu runners)) where
   real : s < (sizes_of b.machine).vcpus
@@ -151,7 +146,7 @@ pub script_short : {A : Type 0} (cpu : A → Processing) (b : Board) (s : ℕ) (
 script_short cpu b s runners d within ready = short_at (map cpu runners) s (cpu (slice_index_or runners s d)) ready.short (at_place cpu runners s d within)
 
 -- and it goes on being the same port
-module _ {A : Type 0} (cpu : A → Processing) (gate : A → Option Gate) (b b1 b2 : Board) (s s1 s2 l1 l2 : ℕ) (runners : List A) (d y : A) (same : b1 ≡ b) (runner : s1 ≡ s)
+module _ {A : Type 0} (cpu : A → Processing) (gate : A → Gate) (b b1 b2 : Board) (s s1 s2 l1 l2 : ℕ) (runners : List A) (d y : A) (same : b1 ≡ b) (runner : s1 ≡ s)
     (post : (port_value b2 s2 l2).post ≡ (port_value b1 s1 l1).post) (within : s < length runners) (ready : Ready b (map cpu runners)) (own : IsOf (port_value b2 s2 l2) (cpu y)) (stays : AloneStays) where
   before_is : port_value b1 s1 l1 ≡ port_value b s l1
   before_is = λ i. port_value (same i) (runner i) l1
@@ -198,19 +193,19 @@ module _ {A : Type 0} (cpu : A → Processing) (gate : A → Option Gate) (b b1 
       (turn_by stays neither nobody b b2 s l1 (map cpu runners) (map gate runners) c (cpu y) has (gate y) c.retired (real cpu b b1 s s1 l1 runners d same runner within ready) ready same_machine
       (at_place cpu runners s d within) (at_place gate runners s d within) by is_of_now)
 
-  pub stopped : gate y ≡ None → ((cpu (slice_index_or runners s d)).retired ≡ true → gate (slice_index_or runners s d) ≡ None) →
+  pub stopped : gate y ≡ gate (slice_index_or runners s d) →
       StopsWhere (cpu (slice_index_or runners s d)).retired (cpu (slice_index_or runners s d)) (cpu y) (port_value b1 s1 l1) (port_value b2 s2 l2) →
       Done (λ x x'. ByCpu (MakesStagedStop b.machine s) (slice_get (map cpu runners) s) x x') b b2 (map cpu runners) (map cpu (slice_set runners s y)) (map gate runners) (map gate (slice_set runners s y))
-  stopped gone went t =
+  stopped kept t =
       let c = cpu (slice_index_or runners s d) in
       let has = gate (slice_index_or runners s d) in
       let by = subst (λ v. StopsWhere c.retired c (cpu y) v (port_value b2 s l1)) before_is (subst (λ w. StopsWhere c.retired c (cpu y) (port_value b1 s1 l1) w) after_is t) in
       as_done (MakesStagedStop b.machine s)
       (stop_by stays b b2 s l1 (map cpu runners) (map gate runners) c (cpu y) has (gate y) c.retired (real cpu b b1 s s1 l1 runners d same runner within ready) ready same_machine
-      (at_place cpu runners s d within) (at_place gate runners s d within) gone went by is_of_now)
+      (at_place cpu runners s d within) (at_place gate runners s d within) kept by is_of_now)
 
 -- the port gives back the board that it leaves
-module _ {DoesNext : Stage → Stage → Type 0} {b b2 : Board} {cpus cpus2 : List Processing} {gates gates2 : List (Option Gate)} (done : Done DoesNext b b2 cpus cpus2 gates gates2) where
+module _ {DoesNext : Stage → Stage → Type 0} {b b2 : Board} {cpus cpus2 : List Processing} {gates gates2 : List Gate} (done : Done DoesNext b b2 cpus cpus2 gates gates2) where
   pub does_back : (x : Story) → x ≡ b2.story → DoesNext (stage b.story cpus gates) (stage x cpus2 gates2)
   does_back x is = subst (λ z. DoesNext (stage b.story cpus gates) (stage z cpus2 gates2)) (sym is) done.does
 

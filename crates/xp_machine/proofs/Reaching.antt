@@ -1,5 +1,5 @@
 -- What the code makes of a trace is what legal steps make of it.
-use Rattle.std.proofs.Common.{◌≡◌, ℕ, ◌<◌, ◌≤◌, Option, Some, List, [], length, map, Result, Ok, Err, IfOk, refl, sym, ap, ◌∙◌, subst, lit<, arith, slice_index_or}
+use Rattle.std.proofs.Common.{◌≡◌, ℕ, ◌<◌, ◌≤◌, Some, List, [], length, map, Result, Ok, Err, IfOk, refl, sym, ap, ◌∙◌, subst, lit<, arith, slice_index_or}
 use Rattle.std.specs.Prelude.{slice_get, sum_by}
 use Rattle.std.specs.List.{enumerate_from}
 use Rattle.std.proofs.lemmas.List.{length-map, get_or-map, length-replicate, get_or-replicate}
@@ -107,7 +107,7 @@ RestsSound =
 
 -- ---- at the end
 -- the report of a board that was closed, and the run that led to it
-pub ran : RunsSafe → RestsSound → (t : Trace) (b b2 : Board) (opened : List ℕ) (cpus cpus2 : List Processing) (all : List Gate) (gates gates2 : List (Option Gate)) (vs text : List ℕ) → SoundWords t.layout opened → IsOpening t opened →
+pub ran : RunsSafe → RestsSound → (t : Trace) (b b2 : Board) (opened : List ℕ) (cpus cpus2 : List Processing) (all : List Gate) (gates gates2 : List Gate) (vs text : List ℕ) → SoundWords t.layout opened → IsOpening t opened →
     b.machine ≡ t.layout → b.story ≡ opened_story t.layout opened → b2.machine ≡ b.machine → b2.story.opening ≡ b.story.opening → Ready b2 cpus2 → cpus ≡ first_cpus t.layout t.scripts → gates ≡ first_gates t.layout all →
     vs ≡ order t.turns → WorksOff b.machine vs (stage b.story cpus gates) (stage b2.story cpus2 gates2) → Closes b2.machine b2.story.opening (stage b2.story cpus2 gates2) text → RanTrace t all text
 ran guards rests t b b2 opened cpus cpus2 all gates gates2 vs text words opening machine story kept opens ready first own those works closes =

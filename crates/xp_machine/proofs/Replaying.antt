@@ -1,5 +1,5 @@
 -- What the code makes of a trace in threads.
-use Rattle.std.proofs.Common.{◌≡◌, ℕ, ◌<◌, ◌≤◌, false, Option, Some, List, length, refl, sym, ap, ◌∙◌, subst, lit<, slice_index_or}
+use Rattle.std.proofs.Common.{◌≡◌, ℕ, ◌<◌, ◌≤◌, false, Some, List, length, refl, sym, ap, ◌∙◌, subst, lit<, slice_index_or}
 use Rattle.std.specs.Prelude.{slice_get, sum_by}
 use Rattle.std.proofs.lemmas.List.Elements.{All-get_or}
 use Rattle.std.proofs.lemmas.Option.{slice_get-get_or, slice_get_within}
@@ -53,7 +53,7 @@ are_first t b opened cpus words opening machine is scripts few first =
           subst (λ (k : Processing). IsOf (port_with b s lender empty) k × (k.retired ≡ false)) (sym own.1) (fresh_idles t b opened words opening machine is s lender own.0 real, refl);
     })
 
-module _ (b : BoardValue) (gates : List (Option Gate)) (cpus cpus2 : List Processing) (words : List ℕ) (first : AreFirst b cpus) (ran : RanInThreads b gates cpus words cpus2) where
+module _ (b : BoardValue) (gates left : List Gate) (cpus cpus2 : List Processing) (words : List ℕ) (first : AreFirst b cpus) (ran : RanInThreads b gates cpus words left cpus2) where
   pub short_last : AreShort cpus2
   short_last = λ k d within.
       let there : k < length cpus = subst (λ n. k < n) ran.all within in
@@ -67,12 +67,12 @@ module _ (b : BoardValue) (gates : List (Option Gate)) (cpus cpus2 : List Proces
   pub all_words : (n : Machine) → b.machine ≡ n → length words ≡ size (sizes_of n)
   all_words n machine = ran.sound.all_words ∙ ap (λ (k : Machine). size (sizes_of k)) machine
 
-  pub replayed_to : (t : Trace) (all : List Gate) (opened : List ℕ) → IsOpening t opened → b.machine ≡ t.layout → b.opening ≡ opened → cpus ≡ first_cpus t.layout t.scripts → gates ≡ first_gates t.layout all → ReplayedTo t all words cpus2
+  pub replayed_to : (t : Trace) (all : List Gate) (opened : List ℕ) → IsOpening t opened → b.machine ≡ t.layout → b.opening ≡ opened → cpus ≡ first_cpus t.layout t.scripts → gates ≡ first_gates t.layout all → ReplayedTo t all words left cpus2
   replayed_to t all opened opening machine is firsts own =
       record {
         opened = opened;
         opening = opening;
         table = b.table;
-        ran = subst (λ (k : BoardValue). RanInThreads k (first_gates t.layout all) (first_cpus t.layout t.scripts) words cpus2) (board_is t b opened machine is)
-            (subst (λ (gs : List (Option Gate)). RanInThreads b gs (first_cpus t.layout t.scripts) words cpus2) own (subst (λ (cs : List Processing). RanInThreads b gates cs words cpus2) firsts ran));
+        ran = subst (λ (k : BoardValue). RanInThreads k (first_gates t.layout all) (first_cpus t.layout t.scripts) words left cpus2) (board_is t b opened machine is)
+            (subst (λ (gs : List Gate). RanInThreads b gs (first_cpus t.layout t.scripts) words left cpus2) own (subst (λ (cs : List Processing). RanInThreads b gates cs words left cpus2) firsts ran));
       }

@@ -1,5 +1,5 @@
 -- The vCPUs of a trace before their first turn, with their gates.
-use Rattle.std.proofs.Common.{◌≡◌, ℕ, zero, suc, ◌+◌, ◌^◌, ◌<◌, ◌≤◌, List, [], ◌∷◌, length, map, take, Option, Some, refl, sym, ap, ◌∙◌, subst, arith, slice_index_or}
+use Rattle.std.proofs.Common.{◌≡◌, ℕ, zero, suc, ◌+◌, ◌^◌, ◌<◌, ◌≤◌, List, [], ◌∷◌, length, map, take, refl, sym, ap, ◌∙◌, subst, arith, slice_index_or}
 use Rattle.std.specs.Prelude.{sum_by}
 use Rattle.std.specs.List.{enumerate_from, range_with_len, zip}
 use Rattle.std.proofs.lemmas.List.{get_or-map, length-map}
@@ -29,17 +29,17 @@ cpus_first n vcpus scripts gates all few =
     ap (λ l. map (λ p. first_cpu n p.0) (zip l gates)) numbers
     ∙ firsts (first_cpu n) (enumerate_from 0 scripts) gates (subst (λ k. k ≤ length gates) (sym (length-enumerate_from 0 scripts)) few)
 
-gates_zip : {A G : Type 0} (gate : G → Gate) (xs : List A) (gates : List G) → map (λ p. Some (gate p.1)) (zip xs gates) ≡ map (λ g. Some g) (take (length xs) (map gate gates))
+gates_zip : {A G : Type 0} (gate : G → Gate) (xs : List A) (gates : List G) → map (λ p. gate p.1) (zip xs gates) ≡ take (length xs) (map gate gates)
 gates_zip gate [] gates = refl
 gates_zip gate (x ∷ xs) [] = refl
-gates_zip gate (x ∷ xs) (g ∷ gs) = ap (λ (l : List (Option Gate)). Some (gate g) ∷ l) (gates_zip gate xs gs)
+gates_zip gate (x ∷ xs) (g ∷ gs) = ap (λ (l : List Gate). gate g ∷ l) (gates_zip gate xs gs)
 
 pub gates_first : {G : Type 0} (gate : G → Gate) (n vcpus : ℕ) (scripts : List (List Op)) (gates : List G) → n ≡ length scripts → vcpus ≡ length scripts →
-    map (λ p. Some (gate p.1)) (zip (zip (range_with_len 0 vcpus) scripts) gates) ≡ map (λ g. Some g) (take n (map gate gates))
+    map (λ p. gate p.1) (zip (zip (range_with_len 0 vcpus) scripts) gates) ≡ take n (map gate gates)
 gates_first gate n vcpus scripts gates few all =
     let numbers : zip (range_with_len 0 vcpus) scripts ≡ enumerate_from 0 scripts = ap (λ k. zip (range_with_len 0 k) scripts) all ∙ numbered 0 scripts in
-    ap (λ l. map (λ p. Some (gate p.1)) (zip l gates)) numbers ∙ gates_zip gate (enumerate_from 0 scripts) gates
-    ∙ ap (λ k. map (λ g. Some g) (take k (map gate gates))) (length-enumerate_from 0 scripts ∙ sym few)
+    ap (λ l. map (λ p. gate p.1) (zip l gates)) numbers ∙ gates_zip gate (enumerate_from 0 scripts) gates
+    ∙ ap (λ k. take k (map gate gates)) (length-enumerate_from 0 scripts ∙ sym few)
 
 -- the number of each is one of the machine's
 number_real : {X G : Type 0} (a n : ℕ) (xs : List X) (gates : List G) (k : ℕ) (d : (ℕ × X) × G) → k < length (zip (zip (range_with_len a n) xs) gates) →

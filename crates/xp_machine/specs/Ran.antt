@@ -1,5 +1,5 @@
 -- A whole run of a trace.
-use Rattle.std.specs.Prelude.{◌++◌, ◌≡◌, ℕ, List, map, take, Option, Some}
+use Rattle.std.specs.Prelude.{◌++◌, ◌≡◌, ℕ, List, map, take}
 use Rattle.xp_words.specs.declared.reply.LogLine.{LogLine}
 use Rattle.trace_text.specs.declared.trace.Trace.{Trace}
 use Rattle.machine_build.specs.Opening.{IsOpening}
@@ -18,8 +18,8 @@ use Rattle.vcpu_runners.specs.Gates.{Gate}
 use Rattle.xp_machine.specs.Turns.{Stage, stage, WorksOff}
 
 -- gate v is that of vCPU v, and the further ones are let go
-abbrev pub first_gates : Machine → List Gate → List (Option Gate)
-first_gates n gates = map (λ g. Some g) (take (sizes_of n).vcpus gates)
+abbrev pub first_gates : Machine → List Gate → List Gate
+first_gates n gates = take (sizes_of n).vcpus gates
 
 abbrev pub log_of : Processing → List LogLine
 log_of c = c.log

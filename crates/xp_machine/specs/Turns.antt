@@ -1,5 +1,5 @@
 -- Turns and stops of vCPUs as runs of legal steps, each a piece of the board's list of steps.
-use Rattle.std.specs.Prelude.{◌≡◌, ℕ, Bool, true, false, List, [], ◌∷◌, ◌++◌, if◌then◌else◌, slice_get, slice_set, Option, Some, None}
+use Rattle.std.specs.Prelude.{◌≡◌, ℕ, Bool, true, false, List, [], ◌∷◌, ◌++◌, slice_get, slice_set, Option, Some, None}
 use Rattle.std.specs.List.{range_with_len}
 use Rattle.xp_words.specs.Machine.{Machine}
 use Rattle.xp_words.specs.Places.{sizes_of}
@@ -12,13 +12,13 @@ use Rattle.vcpu_runners.specs.Turns as turning
 use Rattle.vcpu_runners.specs.Gates.{Gate, IsConsulted}
 use Rattle.xp_machine.specs.Pieces.{Leads}
 
--- the list of steps, the words and the hands of the board; how far the vCPUs have come; and the gate of each, until it lets it go
+-- the list of steps, the words and the hands of the board; how far the vCPUs have come; and the gate of each
 pub record Stage : Type 0 where
   pub board : Story
   pub cpus : List Processing
-  pub gates : List (Option Gate)
+  pub gates : List Gate
 
-abbrev pub stage : Story → List Processing → List (Option Gate) → Stage
+abbrev pub stage : Story → List Processing → List Gate → Stage
 stage a cpus gates = record { board = a; cpus = cpus; gates = gates }
 
 -- v is a port of that vCPU on a board that tells this
@@ -28,11 +28,11 @@ pub record IsPortOf (n : Machine) (vcpu : ℕ) (a : Story) (v : PortValue) : Typ
   pub hand : v.holdings ≡ hand_of a.hands vcpu
   pub told : v.told ≡ Some a
 
--- vCPU v makes a turn by steps that lead from one stage to the other, in which its own gate gives these answers. One that retires lets that go.
+-- vCPU v makes a turn by steps that lead from one stage to the other, in which its own gate gives these answers.
 pub record MakesStagedTurn (n : Machine) (v : ℕ) (c : Processing) (s s' : Stage) : Type 0 where
   pub gate : Gate
   pub asked : Gate
-  pub own : slice_get s.gates v ≡ Some (Some gate)
+  pub own : slice_get s.gates v ≡ Some gate
   pub after : Processing
   pub end : TurnEnd
   pub made : List Made
@@ -46,7 +46,7 @@ pub record MakesStagedTurn (n : Machine) (v : ℕ) (c : Processing) (s s' : Stag
   pub consulted : IsConsulted gate asked answers (is_due end)
   pub unhindered : IsUnhindered n end
   pub cpus : s'.cpus ≡ slice_set s.cpus v after
-  pub gates : s'.gates ≡ slice_set s.gates v (if after.retired then None else Some asked)
+  pub gates : s'.gates ≡ slice_set s.gates v asked
 
 -- vCPU v went on with its list no further than so far
 pub record StaysWithin (v : ℕ) (c : Processing) (s s' : Stage) (most : ℕ) : Type 0 where
@@ -55,7 +55,7 @@ pub record StaysWithin (v : ℕ) (c : Processing) (s s' : Stage) (most : ℕ) : 
   pub cpus : s'.cpus ≡ slice_set s.cpus v after
   pub within : turning.GoesNoFurther c after end most
 
--- vCPU v stops between its turns, by one step, and lets its gate go
+-- vCPU v stops between its turns, by one step, and no gate is asked
 pub record MakesStagedStop (n : Machine) (v : ℕ) (c : Processing) (s s' : Stage) : Type 0 where
   pub made : List Made
   pub leads : Leads n v s.board made s'.board
@@ -65,7 +65,7 @@ pub record MakesStagedStop (n : Machine) (v : ℕ) (c : Processing) (s s' : Stag
   pub to_is : IsPortOf n v s'.board to
   pub stop : turning.IsStop from to
   pub cpus : s'.cpus ≡ slice_set s.cpus v (record c { retired = true })
-  pub gates : s'.gates ≡ slice_set s.gates v None
+  pub gates : s'.gates ≡ s.gates
 
 -- what a vCPU does of its own, and a retired one makes no step
 abbrev pub UnlessRetired : (Processing → Stage → Stage → Type 0) → Processing → Bool → Stage → Stage → Type 0

@@ -59,7 +59,7 @@ pub(crate) fn report_with(
     let mut logs = Vec::new(alloc);
     let mut pending = Vec::new(alloc);
     'runners: for runner in runners {
-        let cpu = runner.into_cpu();
+        let (cpu, _) = runner.into_parts();
         pending.push(cpu.pending())?;
         logs.push(cpu.into_log())?;
     }
@@ -78,7 +78,7 @@ fn closing(alloc: Global, board: PlainBoard, runners: Vec<Runner>) -> Result<Vec
 }
 
 /// Runs a trace: the machine is made, the turns are taken, the vCPUs stop, and the report is written out. The text is
-/// the report of words that legal steps lead to. Each gate is let go with its vCPU.
+/// the report of words that legal steps lead to. The gates are let go at the end.
 pub fn execute(
     alloc: Global,
     trace: Trace,

@@ -3,7 +3,7 @@ ghost use Rattle.xp_words.specs.Places.{size, sizes_of};
 ghost use Rattle.trace_text.specs.WellFormed.{IsWellFormed};
 ghost use Rattle.vcpu_runners.specs.Cpus.{AreShort};
 ghost use Rattle.vcpu_runners.specs.Gates.{gate_of};
-ghost use Rattle.vcpu_runners.specs.Rows.{cpus_of};
+ghost use Rattle.vcpu_runners.specs.Rows.{cpus_of, gates_of};
 ghost use Rattle.xp_machine.specs.Replay.{ReplayedTo, ReplayedTrace};
 
 use crate::execute::{first_runners, report_with};
@@ -20,7 +20,7 @@ use xp_preempt::Preempt;
 
 /// Runs a trace in threads: the machine is made, and each vCPU makes its turns in a thread of its own until it is retired. The turns that
 /// the trace asks for play no part. Gives the closing words and the vCPUs, for whoever looks at more of them than a report shows. Gate v
-/// belongs to vCPU v and is let go with it; the further ones are let go at once.
+/// belongs to vCPU v and comes back with it; the further ones are let go at once.
 pub fn replay_words<R: Threads + Wait + Sync>(
     rt: &R,
     alloc: Global,
@@ -29,7 +29,7 @@ pub fn replay_words<R: Threads + Wait + Sync>(
 ) -> Result<(SparseWords, Vec<Runner>), AllocError>
     requires well { IsWellFormed trace }
     requires gates { 16 ≤ vec_len gates }
-    ensures ran { IfOk result (λ r. ReplayedTo trace (map (gate_of calm paces count_asks says) gates.items) r.0 (cpus_of r.1.items)) }
+    ensures ran { IfOk result (λ r. ReplayedTo trace (map (gate_of calm paces count_asks says) gates.items) r.0 (gates_of (gate_of calm paces count_asks says) r.1.items) (cpus_of r.1.items)) }
     ensures words { IfOk result (λ r. length r.0 ≡ size (sizes_of trace.layout)) }
     ensures cpus { IfOk result (λ r. (length r.1.items ≡ (sizes_of trace.layout).vcpus) × AreShort (cpus_of r.1.items)) }
 {

@@ -93,6 +93,8 @@ fn gather<M: Running, S: Source>(
     ensures due { IfOk result (λ d. IsDue M.manner (map (gate_of calm paces count_asks says) gates.items) (S.left source.old) (S.left source.new) d.status d.text.items) }
     ensures failed { IsErrOf result Early.Failed → Rose (S.faults source.old) (S.faults source.new) }
     ensures later { S.faults source.old ≤ S.faults source.new }
+    ensures kept { IfOk result (λ _. S.faults source.new ≡ S.faults source.old) }
+    ensures unfailed { IsErrOf result Early.Memory → S.faults source.new ≡ S.faults source.old }
 {
     match read_all(alloc, source, MAX_BYTES) {
         Ok(bytes) => match answer(running, alloc, &bytes, gates) {
@@ -145,6 +147,8 @@ fn run_with<M: Running, S: Source, K: Sink>(
     ensures words { result ≢ Status.BadWords }
     ensures read { result ≡ Status.ReadFault → Rose (S.faults source.old) (S.faults source.new) }
     ensures write { result ≡ Status.WriteFault → Rose (K.faults sink.old) (K.faults sink.new) }
+    ensures read_kept { result ≢ Status.ReadFault → S.faults source.new ≡ S.faults source.old }
+    ensures write_kept { result ≢ Status.WriteFault → K.faults sink.new ≡ K.faults sink.old }
 {
     match gather(running, alloc, source, gates) {
         Err(Early::Failed) => Status::ReadFault,
@@ -159,8 +163,8 @@ fn run_with<M: Running, S: Source, K: Sink>(
 /// Runs a trace: reads it to its end, runs it, and writes what is due. `words` are the words of the command line
 /// without the program's name: `turns` or `replay`, each perhaps with `--preempt N` or `--preempt=N`, which sets the pace of the gates.
 /// With `turns` one thread takes the turns that the trace asks for; with `replay` each vCPU has a thread of its own and takes turns until it is
-/// retired, so that call returns only where all are. Where the words are others, nothing is read. Gate v belongs to vCPU v and is let go with it;
-/// the further ones are let go at once.
+/// retired, so that call returns only where all are. Where the words are others, nothing is read. Gate v belongs to vCPU v, and is let go when
+/// the call returns; the further ones are let go at once.
 pub fn run<R: Threads + Wait + Sync, S: Source, K: Sink>(
     rt: &R,
     alloc: Global,
@@ -177,9 +181,11 @@ pub fn run<R: Threads + Wait + Sync, S: Source, K: Sink>(
     // The words are refused exactly where they ask for no run.
     ensures words { (result ≡ Status.BadWords) ↔ (words_ask (map string_bytes words.now) ≡ None) }
 
-    // A fault is answered only where its object counted one in this call.
+    // A fault is answered only where its object counted one in this call, and no other answer hides one.
     ensures read { result ≡ Status.ReadFault → Rose (S.faults source.old) (S.faults source.new) }
     ensures write { result ≡ Status.WriteFault → Rose (K.faults sink.old) (K.faults sink.new) }
+    ensures read_kept { result ≢ Status.ReadFault → S.faults source.new ≡ S.faults source.old }
+    ensures write_kept { result ≢ Status.WriteFault → K.faults sink.new ≡ K.faults sink.old }
 {
     match asked_of(alloc, words) {
         Ok(Some(asked)) => {
@@ -210,6 +216,8 @@ pub fn run_serial<S: Source, K: Sink>(
     ensures unread { serial_of (words_ask (map string_bytes words.now)) ≡ None → S.left source.new ≡ S.left source.old }
     ensures read { result ≡ Status.ReadFault → Rose (S.faults source.old) (S.faults source.new) }
     ensures write { result ≡ Status.WriteFault → Rose (K.faults sink.old) (K.faults sink.new) }
+    ensures read_kept { result ≢ Status.ReadFault → S.faults source.new ≡ S.faults source.old }
+    ensures write_kept { result ≢ Status.WriteFault → K.faults sink.new ≡ K.faults sink.old }
 {
     match asked_of(alloc, words) {
         Ok(Some(asked)) => match asked.manner {

@@ -1,5 +1,5 @@
-use Rattle.std.proofs.Common.{◌≡◌, ℕ, List, ◌++◌, length, take, ◌+◌, ◌<◌, ◌≤◌, arith}
-use Rattle.std.proofs.lemmas.List.{length-append, length-take}
+use Rattle.std.proofs.Common.{◌≡◌, ◌++◌, length, take, ◌+◌, arith}
+use Rattle.std.proofs.lemmas.List.{length-append}
 use Rattle.std.proofs.KnownBytes.{Consumes-trans}
 use Rattle.xp_io.proofs.whole.read_all.Goals as goal
 

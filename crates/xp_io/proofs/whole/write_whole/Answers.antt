@@ -1,4 +1,4 @@
-use Rattle.std.proofs.Common.{◌≡◌, ◌≤◌, ◌+◌, ◌-◌, ℕ, List, ◌++◌, Option, Result, Ok, Err, refl, length, take, drop, sym, ap, ◌∙◌, subst, append_assoc, append-nil, take-append-drop, rules, arith}
+use Rattle.std.proofs.Common.{◌≡◌, ◌-◌, ℕ, List, ◌++◌, Option, Result, Ok, Err, refl, length, take, drop, sym, ap, ◌∙◌, subst, append_assoc, take-append-drop, arith}
 use Rattle.std.specs.Prelude.{OnErr}
 use Rattle.std.proofs.lemmas.List.{take_rest, take_at, length-append}
 use Rattle.std.specs.Io.KnownBytes.{Appends, Keeps}
@@ -21,12 +21,12 @@ is_front old mid new all done rest split appended kept =
 
 pub loop-rest-preserved : goal.loop-rest-preserved
 loop-rest-preserved g c =
-    let (later, done, split, appended) = c.loop-rest.invariant in
+    let (same, done, split, appended) = c.loop-rest.invariant in
     let rest = c.loop-rest.rest.now in
     let n = c.in_ok-count.count in
-    (omega (arith, c.write.ensures.cause.later), done ++ take n rest, moves_front _ done rest n split, Appends-trans _ _ _ _ _ appended c.in_ok-count.ensures.bytes)
+    (c.in_ok-count.ensures.cause.kept ∙ same, done ++ take n rest, moves_front _ done rest n split, Appends-trans _ _ _ _ _ appended c.in_ok-count.ensures.bytes)
 
 pub returns-in_err-count-clause-front : goal.returns-in_err-count-clause-front
 returns-in_err-count-clause-front g c =
-    let (later, done, split, appended) = c.loop-rest.invariant in
+    let (same, done, split, appended) = c.loop-rest.invariant in
     on_err c.from_residual.result _ (is_front _ _ _ _ done _ split appended c.in_err-count.ensures.bytes)

@@ -1,4 +1,4 @@
-use Rattle.std.proofs.Common.{◌≡◌, map, Some}
+use Rattle.std.proofs.Common.{◌≡◌, map}
 use Rattle.vcpu_runners.specs.Cpus.{first_cpu}
 use Rattle.vcpu_runners.specs.Gates.{gate_of}
 use Rattle.vcpu_runners.specs.Rows.{gates_of, cpus_of}
@@ -7,5 +7,5 @@ use Rattle.xp_machine.proofs.execute.first_runners.Given as goal
 abbrev pub invariant-runners : goal.invariant-runners
 invariant-runners g l = record {
   cpus : cpus_of l.runners.items ≡ map (λ p. first_cpu l.layout p.0) l.yielded;
-  gates : gates_of (gate_of (λ x. (goal.Preempt-dyn g (x.vtable, x.value)).calm x.value) (λ x. (goal.Preempt-dyn g (x.vtable, x.value)).paces x.value) (λ x. (goal.Preempt-dyn g (x.vtable, x.value)).count_asks x.value) (λ x. (goal.Preempt-dyn g (x.vtable, x.value)).says x.value)) l.runners.items ≡ map (λ p. Some ((gate_of (λ x. (goal.Preempt-dyn g (x.vtable, x.value)).calm x.value) (λ x. (goal.Preempt-dyn g (x.vtable, x.value)).paces x.value) (λ x. (goal.Preempt-dyn g (x.vtable, x.value)).count_asks x.value) (λ x. (goal.Preempt-dyn g (x.vtable, x.value)).says x.value)) p.1)) l.yielded;
+  gates : gates_of (gate_of (λ x. (goal.Preempt-dyn g (x.vtable, x.value)).calm x.value) (λ x. (goal.Preempt-dyn g (x.vtable, x.value)).paces x.value) (λ x. (goal.Preempt-dyn g (x.vtable, x.value)).count_asks x.value) (λ x. (goal.Preempt-dyn g (x.vtable, x.value)).says x.value)) l.runners.items ≡ map (λ p. (gate_of (λ x. (goal.Preempt-dyn g (x.vtable, x.value)).calm x.value) (λ x. (goal.Preempt-dyn g (x.vtable, x.value)).paces x.value) (λ x. (goal.Preempt-dyn g (x.vtable, x.value)).count_asks x.value) (λ x. (goal.Preempt-dyn g (x.vtable, x.value)).says x.value)) p.1) l.yielded;
 }

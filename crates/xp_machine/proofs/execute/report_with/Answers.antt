@@ -14,7 +14,7 @@ pub pending-requires : goal.pending-requires
 pending-requires g c =
     let turn = YieldsList-turn (YieldsList-from_vec {s = c.into_iter-runner-iterator.result} c.args.runners.items (search rules) (search rules)) c.runners.yielded c.runners.runner-iterator c.runners.yielded_by c.next.result c.next.new.self c.in-Some.runner c.in-Some.is c.next.ensures.steps in
     let short = short_runner (λ s. s.cpu) c.args.runners.items (length c.runners.yielded) c.in-Some.runner turn.0 c.requires.short in
-    subst IsShort (ap (λ s. s.cpu) (sym turn.1) ∙ sym c.into_cpu-cpu.ensures) short
+    subst IsShort (ap (λ s. s.cpu) (sym turn.1) ∙ sym c.into_parts-cpu.ensures.cpu) short
 
 pub report-requires-clause-logs : goal.report-requires-clause-logs
 report-requires-clause-logs g c =

@@ -1,5 +1,5 @@
 use Rattle.std.proofs.Common.{rules}
-use Rattle.xp_machine.proofs.Boarding.{is_of, gate_gone, stopped, does_back, ready_back, opening_back}
+use Rattle.xp_machine.proofs.Boarding.{is_of, stopped, does_back, ready_back, opening_back}
 use Rattle.xp_machine.proofs.stops.stop_of.Goals as goal
 
 pub stop-requires : goal.stop-requires
@@ -9,5 +9,5 @@ pub returns : goal.returns
 returns g c =
     let done = stopped (λ s. s.cpu) _ c.args.board.now c.port-port.result.board.now c.stop.new.port.board.now c.args.vcpu c.port-port.result.vcpu c.stop.new.port.vcpu c.port-port.result.board.ghost_name
     c.stop.new.port.board.ghost_name c.args.runners.now c.index-runners-vcpu.result c.stop.new.self c.port-port.ensures.board c.port-port.ensures.vcpu c.stop.ensures.post c.requires.known c.requires.ready
-    c.stop.ensures.of c.alone_stays.ensures c.stop.ensures.gate (gate_gone _ _ _ (search rules)) c.stop.ensures.stop in
+    c.stop.ensures.of c.alone_stays.ensures c.stop.ensures.gate c.stop.ensures.stop in
     record { machine = search rules; opening = opening_back done _ (search rules); stop = does_back done _ (search rules); ready = ready_back done _ (search rules) }

@@ -22,5 +22,5 @@ returns g c =
     let words = c.in_ok-words.words in
     let cpus = map (λ s. s.cpu) c.in_ok-words.runners.items in
     if_ok c.report_with.result (λ v. v.items ≡ report_of c.copy-layout.result words (map log_of cpus) (map pending_of cpus)) (λ v. ReplayedTrace c.args.trace _ v.items)
-    (λ v is. record { words = words; cpus = cpus; ran = c.in_ok-words.ensures.ran; report = is ∙ ap (λ (n : Machine). report_of n words (map log_of cpus) (map pending_of cpus)) c.copy-layout.ensures })
+    (λ v is. record { words = words; left = _; cpus = cpus; ran = c.in_ok-words.ensures.ran; report = is ∙ ap (λ (n : Machine). report_of n words (map log_of cpus) (map pending_of cpus)) c.copy-layout.ensures })
     c.report_with.ensures

@@ -14,19 +14,19 @@ returns-clause-ran g c =
     let first = are_first c.args.trace c.in_ok-board.board c.in_ok-words.words _ (c.opening_words_are_sound.ensures c.args.trace c.in_ok-words.words c.requires.well c.in_ok-words.ensures) c.in_ok-words.ensures
     c.in_ok-board.ensures.board.0 c.in_ok-board.ensures.board.1 c.requires.well.scripts c.requires.well.few_ops c.in_ok-runners.ensures.0 in
     if_ok c.run_in_threads.result _ _
-    (λ r ran. replayed_to _ _ _ _ _ first ran c.args.trace _ c.in_ok-words.words c.in_ok-words.ensures c.in_ok-board.ensures.board.0 c.in_ok-board.ensures.board.1 c.in_ok-runners.ensures.0 c.in_ok-runners.ensures.1)
+    (λ r ran. replayed_to _ _ _ _ _ _ first ran c.args.trace _ c.in_ok-words.words c.in_ok-words.ensures c.in_ok-board.ensures.board.0 c.in_ok-board.ensures.board.1 c.in_ok-runners.ensures.0 c.in_ok-runners.ensures.1)
     c.run_in_threads.ensures
 
 pub returns-clause-words : goal.returns-clause-words
 returns-clause-words g c =
     let first = are_first c.args.trace c.in_ok-board.board c.in_ok-words.words _ (c.opening_words_are_sound.ensures c.args.trace c.in_ok-words.words c.requires.well c.in_ok-words.ensures) c.in_ok-words.ensures
     c.in_ok-board.ensures.board.0 c.in_ok-board.ensures.board.1 c.requires.well.scripts c.requires.well.few_ops c.in_ok-runners.ensures.0 in
-    if_ok c.run_in_threads.result _ _ (λ r ran. all_words _ _ _ _ _ first ran c.args.trace.layout c.in_ok-board.ensures.board.0) c.run_in_threads.ensures
+    if_ok c.run_in_threads.result _ _ (λ r ran. all_words _ _ _ _ _ _ first ran c.args.trace.layout c.in_ok-board.ensures.board.0) c.run_in_threads.ensures
 
 pub returns-clause-cpus : goal.returns-clause-cpus
 returns-clause-cpus g c =
     let first = are_first c.args.trace c.in_ok-board.board c.in_ok-words.words _ (c.opening_words_are_sound.ensures c.args.trace c.in_ok-words.words c.requires.well c.in_ok-words.ensures) c.in_ok-words.ensures
     c.in_ok-board.ensures.board.0 c.in_ok-board.ensures.board.1 c.requires.well.scripts c.requires.well.few_ops c.in_ok-runners.ensures.0 in
     if_ok c.run_in_threads.result _ _
-    (λ r ran. (sym (length-map r.1.items (λ s. s.cpu)) ∙ all_last _ _ _ _ _ first ran c.args.trace.layout c.in_ok-board.ensures.board.0, short_last _ _ _ _ _ first ran))
+    (λ r ran. (sym (length-map r.1.items (λ s. s.cpu)) ∙ all_last _ _ _ _ _ _ first ran c.args.trace.layout c.in_ok-board.ensures.board.0, short_last _ _ _ _ _ _ first ran))
     c.run_in_threads.ensures
