@@ -1,5 +1,5 @@
 -- The answers of a gate while tables are acquired and released: it says no each time, until it pauses that.
-use Rattle.std.proofs.Common.{◌≡◌, ℕ, ◌+◌, ◌++◌, ◌&&◌, if◌then◌else◌, Option, Bool, true, false, List, [], ◌∷◌, Result, Ok, Err, refl, sym, subst, arith, None}
+use Rattle.std.proofs.Common.{◌≡◌, ℕ, ◌+◌, ◌++◌, ◌&&◌, if◌then◌else◌, Option, Bool, true, false, List, [], ◌∷◌, Result, Ok, Err, refl, sym, subst, arith}
 use Rattle.xp_words.specs.KindWords.{kind_fields}
 use Rattle.xp_words.specs.declared.kind.KindWord.{KindWord}
 use Rattle.xp_words.specs.declared.kind.PageType.{PageType}
