@@ -13,7 +13,7 @@ struct Example {
     lines: &'static str,
 }
 
-const EXAMPLES: [Example; 39] = [
+const EXAMPLES: [Example; 33] = [
     Example {
         shows: "An empty frame is pinned as an L1 table; a frame that is not pinned cannot be unpinned.",
         pace: "",
@@ -212,6 +212,11 @@ const EXAMPLES: [Example; 39] = [
         trace: "xen-pv-trace 1\nframes 16\ndomain 16\ndomain 16\npriv 0 1\nvcpu 0\nvcpu 1\nvcpu 1\nown 0 0 4\nown 1 4 8\ncell 4 0 1 0x5003\ncell 5 0 1 0x6003\ncell 6 0 1 0x7003\ncell 7 0 1 0x8003\nop 1 ext 5 4 0\nop 1 write k 0x0 0x100\nop 1 write k 0x0 0x100\nop 2 mmu 0x7ff0 0x7000 0x0\nop 2 ext 0 8 0\nturn 1 2\nturn 2 2\nturn 1 1\nturn 2 1\nend\n",
         lines: "pending 1\n",
     },
+];
+
+// What the count limit and the last value of the clock refuse, each beside the same trace with one more. (A table of its own: the proof of
+// one test goes no further than some 35 examples.)
+const AT_LIMITS: [Example; 6] = [
     Example {
         shows: "A pin that is not paused needs one reference to its table beside the owner's.",
         pace: "",
@@ -271,6 +276,21 @@ fn report(rt: &(impl Abort + AllocGlobal), example: &Example) -> Vec<u8> {
 #[test]
 fn each_example_is_reported_with_what_it_leaves(rt: HostRuntime) {
     for example in EXAMPLES.iter() {
+        let text = report(&rt, example);
+        let text = str::from_utf8(&text).expect(&rt, "a text");
+        for wanted in example.lines.lines() {
+            assert!(rt;
+                text.lines().any(|line| line == wanted),
+                "{}",
+                example.shows
+            );
+        }
+    }
+}
+
+#[test]
+fn each_example_at_a_limit_is_reported_with_what_it_leaves(rt: HostRuntime) {
+    for example in AT_LIMITS.iter() {
         let text = report(&rt, example);
         let text = str::from_utf8(&text).expect(&rt, "a text");
         for wanted in example.lines.lines() {
