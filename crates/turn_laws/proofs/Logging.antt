@@ -6,7 +6,7 @@ use Rattle.xp_words.specs.declared.reply.LogLine.{LogLine}
 use Rattle.xp_words.specs.declared.reply.LogLine.TheVariants as lines
 use Rattle.xp_words.specs.declared.reply.Reply.{Reply}
 use Rattle.xp_board.specs.Told.{PortValue}
-use Rattle.vcpu_turn.specs.Cpus.{Processing, after_turn, next_of}
+use Rattle.vcpu_turn.specs.Cpus.{Processing, after_turn, next_of, nothing_left}
 use Rattle.vcpu_turn.specs.Turning as turning
 use Rattle.vcpu_turn.specs.Turning.{DoesTurn, IsTurn}
 use Rattle.vcpu_turn.specs.declared.cpu.Progress.{Progress}
@@ -31,7 +31,7 @@ after_counts c to ends.Retired counts = counts
 going_counts : (c : Processing) (o : Option Op) (v : PortValue) (d : Processing) (w : PortValue) (answers : List Bool) (end : TurnEnd) → DoesTurn c o v d w answers end → Counts c → Counts d
 going_counts c o v _ _ _ _ (turning.DoesTurn.unsettled w answers p settles) counts = counts
 going_counts c None v _ _ _ _ (turning.DoesTurn.settled u w d early answers end settles retires) counts = subst Counts (sym retires.cpu) counts
-going_counts c (Some op) v _ _ _ _ (turning.DoesTurn.settled u w d early answers end settles on) counts = subst Counts (sym on.cpu) (after_counts c on.to end counts)
+going_counts c (Some op) v _ _ _ _ (turning.DoesTurn.settled u w d early answers end settles on) counts = subst Counts (sym on.cpu) (after_counts (nothing_left c) on.to end counts)
 
 pub turn_counts : (c d : Processing) (end : TurnEnd) (v w : PortValue) (answers : List Bool) → IsTurn c d end v w answers → answers_in c.log ≡ c.answered → answers_in d.log ≡ d.answered
 turn_counts c d end v w answers turn counts = going_counts c (next_of c) turn.begun d turn.worked answers end turn.does counts
