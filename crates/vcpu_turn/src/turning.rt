@@ -10,7 +10,7 @@ ghost use Rattle.vcpu_turn.specs.declared.cpu.TurnEnd.TheVariants.{Answered};
 
 use crate::beginning::begin;
 use crate::cpu::{Cpu, Progress, TurnEnd};
-use crate::working::work_on;
+use crate::tasks::work_on;
 use flush_words::{end_answer, stop_vcpu};
 use level_release::settle;
 use xp_board::Port;

@@ -4,7 +4,7 @@ use Rattle.vcpu_turn.specs.declared.tasks.Viewed.{Viewed}
 use Rattle.vcpu_turn.proofs.Awaiting.{built_awaits, ext_awaits, knows_left}
 use Rattle.vcpu_turn.proofs.Gating.{answers_nothing}
 use Rattle.vcpu_turn.proofs.Operations.{built, built_within, not_built, read_not_due, without_value, write_not_due}
-use Rattle.vcpu_turn.proofs.working.go_from.Goals as goal
+use Rattle.vcpu_turn.proofs.tasks.go_from.Goals as goal
 
 pub returns-in-None-clause-works : goal.returns-in-None-clause-works
 returns-in-None-clause-works g c = not_built _ _ _ _ _ _ c.in-None.ensures.none _ _
