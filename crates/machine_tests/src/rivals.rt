@@ -4,7 +4,7 @@ use crate::runs::{bytes, with_pace};
 use std::process::Abort;
 use xp_io::{MemorySink, MemorySource};
 use xp_machine::{Status, run_serial};
-use xp_preempt::{Listed, Paced, Preempt};
+use xp_preempt::{Never, Paced, Preempt};
 
 // What it shows; the pace of the gates; whether the second vCPU's gate ever says yes; the trace without its turns; the round with which all operations are
 // answered and all tables given back; and lines of the report that come only then.
@@ -74,9 +74,7 @@ fn report(rt: &(impl Abort + AllocGlobal), rivals: &Rivals, rounds: usize) -> Ve
     let mut gates: Vec<Box<dyn Preempt + Send>> = Vec::new(rt.alloc());
     for vcpu in 0..16 {
         if vcpu == 1 && !rivals.asks {
-            let silent = Box::new(rt.alloc(), Listed::new(Vec::new(rt.alloc()))).expect(
-                rt, "memory",
-            );
+            let silent = Box::new(rt.alloc(), Never::new()).expect(rt, "memory");
             gates.push(silent).expect(rt, "memory");
         } else {
             let paced = Box::new(rt.alloc(), Paced::new()).expect(rt, "memory");
