@@ -1,0 +1,4 @@
+pub mod Giving
+pub mod Guests
+pub mod Later
+pub mod Paths
