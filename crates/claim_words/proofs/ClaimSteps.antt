@@ -1,5 +1,5 @@
 -- Frames that are taken from the free ones: when each step is legal, and what it leaves in hand.
-use Rattle.std.proofs.Common.{◌≡◌, ◌≢◌, ℕ, ◌+◌, ◌-◌, ◌/◌, ◌^◌, ◌<◌, ◌≤◌, ◌==◌, ◌&&◌, nat_lt, nat_le, if◌then◌else◌, true, List, [], ◌∷◌, length, slice_index, Some, None, Result, Ok, Err, IfErr, MatchResult, IsTrue, refl, sym, ap, ◌∙◌, subst, arith, inr}
+use Rattle.std.proofs.Common.{◌≡◌, ◌≢◌, ℕ, ◌+◌, ◌-◌, ◌/◌, ◌^◌, ◌<◌, ◌≤◌, ◌==◌, ◌&&◌, nat_le, if◌then◌else◌, true, List, [], ◌∷◌, length, slice_index, Some, None, Result, Ok, Err, IfErr, MatchResult, IsTrue, refl, sym, ap, ◌∙◌, subst, arith, inr}
 use Rattle.std.proofs.lemmas.Bool.Decides.{nat_tests}
 use Rattle.xp_words.specs.RefWords.{ref_read, ref_write, IsRef}
 use Rattle.xp_words.specs.declared.refs.RefWord.TheVariants.{Free, Owned, Dying}
