@@ -1,4 +1,4 @@
-ghost use Rattle.std.specs.Prelude.{None};
+ghost use Rattle.std.specs.Prelude.{◌≡◌, None};
 
 use crate::streams::{Failed, Sink, Source};
 use std::io::{Read, Write};
@@ -12,7 +12,10 @@ pub struct StdSource<R: Read + Drop> {
 
 impl<R: Read + Drop> StdSource<R> {
     /// What `from` has left is what the source has left. No fault is counted yet.
-    pub fn new(from: R) -> StdSource<R> {
+    pub fn new(from: R) -> StdSource<R>
+        ensures from { result.from ≡ from }
+        ensures faults { result.faults ≡ 0 }
+    {
         StdSource { from, faults: 0 }
     }
 }
@@ -42,7 +45,10 @@ pub struct StdSink<W: Write + Drop> {
 
 impl<W: Write + Drop> StdSink<W> {
     /// What `to` has taken, the sink has taken. No fault is counted yet.
-    pub fn new(to: W) -> StdSink<W> {
+    pub fn new(to: W) -> StdSink<W>
+        ensures to { result.to ≡ to }
+        ensures faults { result.faults ≡ 0 }
+    {
         StdSink { to, faults: 0 }
     }
 }
