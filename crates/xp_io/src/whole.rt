@@ -1,7 +1,7 @@
 ghost use Rattle.std.specs.Prelude.{◌≡◌, ◌≤◌, ◌<◌, ◌+◌, ◌⊎◌, length, vec_len, IfOk, OnErr, OnOk, IsErrOf};
 ghost use Rattle.std.specs.Io.{ReadsAtMost};
 ghost use Rattle.std.specs.Io.KnownBytes.{Appends, ReadConsumes};
-ghost use Rattle.xp_io.specs.Causes.{Rose, ReadToEnd, TookOneMore, AppendsFront, HasCause};
+ghost use Rattle.xp_io.specs.Causes.{Rose, ReadToEnd, TookOneMore, TookNoMore, AppendsFront, HasCause};
 ghost use Rattle.xp_io.specs.declared.whole.ReadAllError.TheVariants.{Memory, Failed};
 
 use crate::streams;
@@ -71,6 +71,7 @@ pub fn read_all<S: Source>(
     ensures within { IfOk result (λ v. vec_len v ≤ limit) }
     ensures large { IsErrOf result ReadAllError.Large → TookOneMore (S.left source.old) (S.left source.new) limit }
     ensures failed { IsErrOf result ReadAllError.Failed → Rose (S.faults source.old) (S.faults source.new) }
+    ensures few { OnErr result (TookNoMore (S.left source.old) (S.left source.new) (limit + 1)) }
     ensures later { S.faults source.old ≤ S.faults source.new }
     ensures kept { IfOk result (λ _. S.faults source.new ≡ S.faults source.old) }
     ensures unfailed { (IsErrOf result ReadAllError.Large ⊎ IsErrOf result ReadAllError.Memory) → S.faults source.new ≡ S.faults source.old }
