@@ -76,16 +76,13 @@ pub not_itself : (v w : PortValue) (own : ℕ) (rose : Bool) → own ≡ domain_
 unfolding Stops
 not_itself v w own rose is = over_itself refl is refl
 
-is_off : (b : Bool) → b ≡ false → IsTrue (not b)
-is_off b off = rw off refl
-
 either : (a b : Bool) → b ≡ true → IsTrue (a || b)
 either true b on = refl
 either false b on = on
 
 pub not_granted : (v w : PortValue) (own to over x : ℕ) → own ≡ domain_of v.post.machine v.post.vcpu → FoundAt (Met v w) (Priv own) x → has_now over x ≡ false → Stops v w (of_grant to over) (Refused (NoPrivilege own over))
 unfolding Stops
-not_granted v w own to over x is found off = to_grant to refl (either (over == to) (over == over) (when_eq over over refl)) is x found (is_off (has_now over x) off)
+not_granted v w own to over x is found off = to_grant to refl (either (over == to) (over == over) (when_eq over over refl)) is x found (rw off refl)
 
 -- ---- walks
 pub asked_type : (v w : PortValue) (r : Request) (f x : ℕ) (want : PageType) → r.index ≡ None → Stops v w r (Refused (OtherType f want x)) → (owner : ℕ) × Asked v.post.machine v.post.vcpu r (Met v w) f owner (Some want)

@@ -17,11 +17,11 @@ pub use answers::{
     own_work_is_not_busy, who_is_waited_for_was_asked,
 };
 pub use licences::{
-    a_claim_awaits_its_own_block, a_frame_of_a_destroyed_domain_is_asked,
-    a_frame_that_is_not_allocated_is_not_returned, a_grant_wants_the_privilege,
+    a_claim_awaits_its_own_block, a_destruction_may_pause_behind_an_empty_vcpu,
+    a_destruction_of_the_own_domain_may_be_refused, a_frame_of_a_destroyed_domain_is_asked,
+    a_frame_that_is_not_allocated_may_be_refused, a_grant_without_the_privilege_may_be_refused,
     a_level_is_walked_to_from_above, a_write_for_the_guest_finds_no_table,
-    destruction_is_due_behind_an_empty_vcpu, no_free_block_in_one_pass_upwards,
-    no_privilege_destroys_the_own_domain, only_an_entry_update_walks_to_another_type,
+    no_free_block_in_one_pass_upwards, only_an_entry_update_walks_to_another_type,
 };
 pub use one_vcpu::{nobody_is_alive, nobody_is_waited_for, nothing_is_busy};
 pub use pieces::{

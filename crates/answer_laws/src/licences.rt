@@ -1,4 +1,5 @@
-//! Answers of calls of every kind, also of those that no operation makes yet: what licenses them, and what does not.
+//! Answers of calls of every kind, also of those that no operation makes yet: what licenses them, and what does not. That an answer may be given
+//! does not say that it is: that is for the contract of the call.
 ghost use Rattle.std.specs.Prelude.{ℕ, ◌≡◌, ◌<◌, ◌/◌, ◌==◌, Bool, true, false, not, length, Some, None, IsTrue};
 ghost use Rattle.xp_words.specs.RefWords.{ref_read};
 ghost use Rattle.xp_words.specs.declared.kind.PageType.{PageType};
@@ -31,32 +32,32 @@ pub fn no_free_block_in_one_pass_upwards()
     ensures { (v w : PortValue) (owner size block : ℕ) → Stops v w (of_block owner size block) (Refused NoFree) → HasTakenAll v.post.machine size (Met v w) }
 {}
 
-/// A frame of the right owner that is not allocated is refused where it is to be given back.
+/// A frame that was found not allocated may be refused where it is to be given back, also to its owner.
 #[tactic(auto, using(crate::proofs::Licensing::not_returned))]
-pub fn a_frame_that_is_not_allocated_is_not_returned()
+pub fn a_frame_that_is_not_allocated_may_be_refused()
     ensures { (v w : PortValue) (f owner x : ℕ) → FoundAt (Met v w) (Refs f) x → is_allocated (ref_read x) ≡ false → Stops v w (of_return f owner) (Refused (WrongOwner f x)) }
 {}
 
-/// Each frame that a destruction finds to be the domain's is asked, so it may take its marks off and give it back.
+/// Each frame that a destruction found to be the domain's is asked, so it may take its marks off and give it back.
 pub fn a_frame_of_a_destroyed_domain_is_asked()
     ensures { (v w : PortValue) (d f x : ℕ) (rose : Bool) → FoundAt (Met v w) (Refs f) x → owner_of x ≡ Some d → IsAsked v.post.machine v.post.vcpu (of_destroy d rose) (Met v w) f }
 {}
 
-/// A destruction pauses for its gate behind a vCPU of the domain whose words name no frame any more.
+/// A destruction may pause for its gate, where that said yes, behind a vCPU of the domain whose words name no frame any more.
 #[tactic(auto, using(crate::proofs::Licensing::due_behind))]
-pub fn destruction_is_due_behind_an_empty_vcpu()
+pub fn a_destruction_may_pause_behind_an_empty_vcpu()
     ensures { (v w : PortValue) (d u : ℕ) → u < length v.post.machine.vcpu_domain → domain_of v.post.machine u ≡ d → ((k : ℕ) → k < 38 → IsTrue (is_context k) → LeftAs (Met v w) (Vcpu u k) (λ x. x == 0)) →
         Stops v w (of_destroy d true) (Paused Due) }
 {}
 
-/// No domain has the privilege to destroy itself: that is refused without a look.
+/// A destruction of the own domain may be refused for want of privilege, without a look.
 #[tactic(auto, using(crate::proofs::Licensing::not_itself))]
-pub fn no_privilege_destroys_the_own_domain()
+pub fn a_destruction_of_the_own_domain_may_be_refused()
     ensures { (v w : PortValue) (own : ℕ) (rose : Bool) → own ≡ domain_of v.post.machine v.post.vcpu → Stops v w (of_destroy own rose) (Refused (NoPrivilege own own)) }
 {}
 
-/// A domain gives another one privilege over those domains alone over which it was found to have it; over itself, too, where it has not.
-pub fn a_grant_wants_the_privilege()
+/// A grant of privilege over a domain may be refused where the caller was found without that privilege; over the own domain, too.
+pub fn a_grant_without_the_privilege_may_be_refused()
     ensures { (v w : PortValue) (own to over x : ℕ) → own ≡ domain_of v.post.machine v.post.vcpu → FoundAt (Met v w) (Priv own) x → has_now over x ≡ false → Stops v w (of_grant to over) (Refused (NoPrivilege own over)) }
 {}
 
