@@ -1,0 +1,37 @@
+-- How far frames have come on their way to be validated, and what it is that none of them falls back.
+use Rattle.std.specs.Prelude.{◌≡◌, ℕ, ◌+◌, ◌<◌, ◌≤◌, if◌then◌else◌, true, false}
+use Rattle.xp_words.specs.Machine.{Machine}
+use Rattle.xp_words.specs.Places.{sizes_of}
+use Rattle.xp_words.specs.declared.kind.KindWord.{KindWord}
+use Rattle.xp_words.specs.declared.place.Place.TheVariants.{Life}
+use Rattle.xp_board.specs.Readings.{is_work, kind_at}
+use Rattle.step_maker.specs.Plain.{Words}
+use Rattle.table_words.specs.OldWords.{old_place}
+use Rattle.table_words.specs.declared.old_words.OldWord.{OldWord}
+
+-- A dead frame has rank 0, as one that is in work, or ends; one that waits for its flush 1; a partial one two more than entries are recorded of it, and a live one is beyond all these.
+abbrev pub rank_of : KindWord → ℕ
+rank_of k = if k.validated then 515 else if k.partial then (if k.unflushed then 1 else k.progress + 2) else 0
+
+abbrev pub rank_at : Words → ℕ → ℕ
+rank_at m f = rank_of (kind_at m f)
+
+-- From the words m to m' no frame falls back; a live one stays so, and has no fewer type counts; and the old words of all vCPUs name what they named.
+pub record GoesForward (n : Machine) (m m' : Words) : Type 0 where
+  pub ranks : (f : ℕ) → f < n.frames → rank_at m f ≤ rank_at m' f
+  pub counts : (f : ℕ) → f < n.frames → (kind_at m f).validated ≡ true → ((kind_at m' f).validated ≡ true) × ((kind_at m f).number ≤ (kind_at m' f).number)
+  pub olds : (s : ℕ) (which : OldWord) → m' (old_place s which) ≡ m (old_place s which)
+
+-- a frame is further then
+pub record GetsFurther (n : Machine) (m m' : Words) : Type 0 where
+  pub frame : ℕ
+  pub real : frame < n.frames
+  pub higher : rank_at m frame < rank_at m' frame
+
+-- no domain is dying or dead
+abbrev pub AreAllAlive : Machine → Words → Type 0
+AreAllAlive n m = (d : ℕ) → d < (sizes_of n).domains → m (Life d) ≡ 0
+
+-- no frame is in work, in whose hand ever
+abbrev pub IsNothingInWork : Machine → Words → Type 0
+IsNothingInWork n m = (f : ℕ) → f < n.frames → is_work (kind_at m f) ≡ false
