@@ -1,0 +1,35 @@
+//! Rounds in which each vCPU has a turn.
+ghost use Rattle.std.specs.Prelude.{◌≡◌, ◌<◌, ◌≤◌, ℕ, All, List, length, map};
+ghost use Rattle.trace_text.specs.declared.trace.Trace.{Trace};
+ghost use Rattle.machine_build.specs.Opening.{IsOpening};
+ghost use Rattle.shared_board.specs.Board.{opened_story};
+ghost use Rattle.vcpu_runners.specs.Cpus.{first_cpus};
+ghost use Rattle.vcpu_runners.specs.Turns.{pending_of};
+ghost use Rattle.xp_words.specs.Machine.{Machine};
+ghost use Rattle.xp_words.specs.declared.place.Place.TheVariants.{Clock};
+ghost use Rattle.xp_board.specs.Readings.{last_clock};
+ghost use Rattle.xp_machine.specs.Cpus.{order};
+ghost use Rattle.xp_machine.specs.Ran.{RanTrace, first_gates};
+ghost use Rattle.xp_machine.specs.Turns.{Stage, Turns, stage};
+ghost use Rattle.vcpu_runners.specs.Gates.{Gate};
+ghost use Rattle.round_laws.specs.Rounds.{AreAllRetired, IsRound, rounds_to_go, turns_in_rounds};
+ghost use Rattle.round_laws.specs.Stages.{IsSteady, words_of};
+
+/// Where each vCPU has a turn in each round, all are retired behind so many rounds, whatever their gates say, unless the clock comes to its last value.
+pub fn all_retire_in_rounds()
+    requires stub { ⊥ }
+    ensures { (n : Machine) (rounds : List (List ℕ)) (s s' : Stage) → IsSteady n s → All (IsRound n) rounds → Turns n (turns_in_rounds rounds) s s' → words_of n s' Clock < last_clock → rounds_to_go n s ≤ length rounds → AreAllRetired s' }
+{}
+
+/// A machine opens so.
+pub fn an_opening_is_steady()
+    requires stub { ⊥ }
+    ensures { (t : Trace) (opened : List ℕ) (gates : List Gate) → IsOpening t opened → IsSteady t.layout (stage (opened_story t.layout opened) (first_cpus t.layout t.scripts) gates) }
+{}
+
+/// So a run whose trace asks for that many rounds answers all operations, where its clock stays below the last value.
+pub fn every_script_is_answered_in_rounds()
+    requires stub { ⊥ }
+    ensures { (t : Trace) (gates : List Gate) (text : List ℕ) (rounds : List (List ℕ)) → (ran : RanTrace t gates text) → order t.turns ≡ turns_in_rounds rounds → All (IsRound t.layout) rounds → words_of t.layout ran.closed Clock < last_clock →
+        rounds_to_go t.layout (stage (opened_story t.layout ran.opened) (first_cpus t.layout t.scripts) (first_gates t.layout gates)) ≤ length rounds → All (λ k. k ≡ 0) (map pending_of ran.closed.cpus) }
+{}
