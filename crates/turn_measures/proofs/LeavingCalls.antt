@@ -109,7 +109,7 @@ clock_up n s h mark a x kinds.Hint legal = absurd legal
 clock_up n s h mark a x kinds.Touch legal = absurd legal
 clock_up n s h mark a x kinds.Priv legal = absurd legal
 
-moves_up : (v w : PortValue) (a : Act) (kind : StepKind) (mark : Option Mark) (found : ℕ) → Moves v w Clock a kind mark found → found ≤ left_by a found
+pub moves_up : (v w : PortValue) (a : Act) (kind : StepKind) (mark : Option Mark) (found : ℕ) → Moves v w Clock a kind mark found → found ≤ left_by a found
 moves_up v w a kind mark found m = clock_up v.post.machine v.post.vcpu (after_mark v.post.machine mark v.holdings) mark a found kind m.may.act
 
 -- ---- by its reason, in a call that destroys no domain

@@ -6,7 +6,7 @@ use Rattle.xp_words.specs.declared.ops.ExtOp.{ExtOp}
 use Rattle.xp_words.specs.declared.ops.Op.{Op}
 use Rattle.xp_words.specs.declared.ops.Pair.{Pair}
 use Rattle.xp_words.specs.declared.place.Place.{Place}
-use Rattle.xp_words.specs.declared.place.Place.TheVariants.{Clock}
+use Rattle.xp_words.specs.declared.place.Place.TheVariants.{Clock, Vcpu}
 use Rattle.xp_words.specs.declared.reply.Refusal.{Refusal}
 use Rattle.xp_words.specs.declared.reply.Stop.{Stop}
 use Rattle.xp_words.specs.declared.reply.Stop.TheVariants.{Paused}
@@ -82,14 +82,17 @@ kept_clock : (v w : PortValue) (a : Act) (kind : StepKind) (mark : Option Mark) 
 kept_clock v w a kind mark found m = kept_moves v w Clock a kind mark found m (clock_spares v.post.vcpu a found (moves_up v w a kind mark found m))
 
 -- ---- the beginning and the end
+-- the own flush, last
+ack_kept : (v b w : PortValue) (k : ℕ) (a : Act) (kind : StepKind) (found : ℕ) → Kept v b → Moves b w (Vcpu v.post.vcpu k) a kind None found → Kept v w
+ack_kept v b w k a kind found before m =
+    kept_trans v b w before (kept_moves b w _ a kind None found m (subst (λ (q : Post). Spares q.vcpu (Vcpu v.post.vcpu k) a found) (sym (came_post v b before.came)) (own_spares v.post.vcpu k a found)))
+
 own_kept : (v w : PortValue) (answer : Result (Unit {0}) Refusal) → FlushesOwn v w answer → Kept v w
 own_kept v w _ (flushing.spent look) = kept_look v w _ _ _ _ look
-own_kept v w _ (flushing.ticked a b clock before more look tick ack) =
-    let first = kept_trans v a b (kept_look v a _ _ _ _ look) (kept_clock a b _ _ _ _ tick) in
-    kept_trans v b w first (kept_moves b w _ _ _ _ _ ack (subst (λ (q : Post). Spares q.vcpu _ (Store (clock + 1)) before) (sym (came_post v b first.came)) (own_spares v.post.vcpu 5 (Store (clock + 1)) before)))
-own_kept v w _ (flushing.overtaken a b clock found before more other look tick ack) =
-    let first = kept_trans v a b (kept_look v a _ _ _ _ look) (kept_clock a b _ _ _ _ tick) in
-    kept_trans v b w first (kept_moves b w _ _ _ _ _ ack (subst (λ (q : Post). Spares q.vcpu _ (Store found) before) (sym (came_post v b first.came)) (own_spares v.post.vcpu 5 (Store found) before)))
+own_kept v w _ (flushing.ticked a b clock before room look tick ack) =
+    ack_kept v b w 5 _ _ _ (kept_trans v a b (kept_look v a _ _ _ _ look) (kept_clock a b _ _ _ _ tick)) ack
+own_kept v w _ (flushing.overtaken a b clock found before room other look tick ack) =
+    ack_kept v b w 5 _ _ _ (kept_trans v a b (kept_look v a _ _ _ _ look) (kept_clock a b _ _ _ _ tick)) ack
 
 heeds_kept : (b : Bool) (v w : PortValue) → Heeds b v w → Kept v w
 heeds_kept true v w same = kept_same v w same

@@ -61,8 +61,8 @@ module _ (below : Option ℕ) (v : PortValue) (telling : is_telling v ≡ true) 
       let at = post_vcpu v u a.came in
       let first : told_word v (Vcpu s 2) ≡ 0 = unnamed (told_word v (Vcpu s 2)) (omega (arith, none)) in
       let second : told_word v (Vcpu s 3) ≡ 0 = unnamed (told_word v (Vcpu s 3)) (omega (arith, none)) in
-      let then : told_word u (Vcpu u.post.vcpu 3) ≡ 0 = subst (λ t. told_word u (Vcpu t 3) ≡ 0) (sym at) (a.others 3 (omega arith) ∙ second) in
-      b.same then q ∙ a.same first q
+      let still : told_word u (Vcpu u.post.vcpu 3) ≡ 0 = subst (λ t. told_word u (Vcpu t 3) ≡ 0) (sym at) (a.others 3 (omega arith) ∙ second) in
+      b.same still q ∙ a.same first q
 
 -- ---- one that is paused for the gate
 pub record NamesLess (below : Option ℕ) (m m' : Words) (s : ℕ) (left : Option ℕ) : Type 0 where
