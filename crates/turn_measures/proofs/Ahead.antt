@@ -60,7 +60,6 @@ valued_forth from to size (Ok done) answer is on = subst (GoesForth from to size
 valued_forth from to size (Err (Refused r)) answer is on = subst (GoesForth from to size) (sym is) on
 valued_forth from to size (Err (Paused p)) answer is on = subst (GoesForth from to size) (sym is) on
 
-
 owned_forth : (d foreign : ℕ) (list : List _) (v : PortValue) (from to : ℕ) (w : PortValue) (answers : List Bool) (ended : Result (Unit {0}) Stop) → WorksOwned d foreign list v from to w answers ended → GoesForth from to (length list) ended
 owned_forth d foreign list v from _ _ _ _ (owning.WorksOwned.long to w answers answer above whole) = refused_forth _ from to (length list) answer whole.refused
 owned_forth d foreign list v from _ _ _ _ (owning.WorksOwned.none empty) = tt

@@ -1,6 +1,5 @@
 -- Steps that leave the words of all vCPUs: those of a release, but where a frame is taken out of an old word or named in one.
-use Rattle.std.proofs.Common.{◌≡◌, ◌≢◌, ℕ, ◌-◌, Bool, true, false, List, [], ◌∷◌, Option, Some, None, Result, Ok, Err, refl, sym, ap, ◌∙◌, subst}
-use Rattle.xp_words.specs.declared.kind.PageType.{PageType}
+use Rattle.std.proofs.Common.{◌≡◌, ◌≢◌, ℕ, ◌-◌, Bool, true, false, List, [], ◌∷◌, Option, Result, Ok, Err, refl, ap, ◌∙◌}
 use Rattle.xp_words.specs.declared.place.Place.{Place}
 use Rattle.xp_words.specs.declared.place.Place.TheVariants.{Vcpu}
 use Rattle.xp_words.specs.declared.reply.Pause.TheVariants.{Due}
@@ -20,7 +19,6 @@ use Rattle.level_release.specs.Course as course
 use Rattle.level_release.specs.Course.{GaveEntry, Lowered, MadeDead, RanDown}
 use Rattle.partial_state.specs.Levels.{level_type}
 use Rattle.partial_state.specs.declared.stack.TableWork.{TableWork}
-use Rattle.table_releases.specs.Found.{ReleasedBy}
 use Rattle.table_releases.specs.declared.entries.Released.{Released}
 use Rattle.turn_laws.proofs.Clearing.{Apart, Aparts, elsewhere, ends_dead, released}
 use Rattle.turn_measures.proofs.Weighing.{lowered_due}

@@ -1,31 +1,19 @@
 -- What one step, and each step of a call, leaves of the others.
-use Rattle.std.proofs.Common.{◌≡◌, ◌≢◌, ℕ, ◌+◌, ◌<◌, ◌≤◌, ◌==◌, if◌then◌else◌, Bool, true, false, List, [], ◌∷◌, Option, Some, None, IsTrue, refl, sym, ap, ◌∙◌, subst, inl, inr, arith, ◌⊎◌}
-use Rattle.std.proofs.lemmas.Bool.Decides.{nat_tests}
+use Rattle.std.proofs.Common.{◌≡◌, ◌≢◌, ℕ, ◌≤◌, if◌then◌else◌, Bool, true, false, Option, refl, sym, ap, ◌∙◌, subst, arith}
 use Rattle.xp_words.specs.Machine.{Machine}
 use Rattle.xp_words.specs.declared.place.Place.{Place}
-use Rattle.xp_words.specs.declared.place.Place.TheVariants.{Clock, Pages, Life, Vcpu, Refs, Kind, M2p, Cell, Map, Priv}
+use Rattle.xp_words.specs.declared.place.Place.TheVariants.{Clock, Life, Vcpu}
 use Rattle.xp_words.specs.Places.{asked_of}
 use Rattle.xp_board.specs.Acts.{left_by}
-use Rattle.xp_board.specs.Legal.{LegalAs}
-use Rattle.xp_board.specs.Lists.{EachOf}
-use Rattle.xp_board.specs.Marks.{after_mark}
 use Rattle.xp_board.specs.Steps.{is_same}
 use Rattle.xp_board.specs.Told.{Post, PortValue, is_telling, told_word}
-use Rattle.xp_board.specs.declared.holdings.Holdings.{Holdings}
 use Rattle.xp_board.specs.declared.step.Act.{Act}
-use Rattle.xp_board.specs.declared.step.Act.TheVariants.{Load, Cas, Store, Add, Max}
 use Rattle.xp_board.specs.declared.step.Mark.{Mark}
 use Rattle.xp_board.specs.declared.step.StepKind.{StepKind}
-use Rattle.xp_board.specs.declared.step.StepKind.TheVariants as kinds
 use Rattle.board_lemmas.proofs.PlaceTests.{same_place}
-use Rattle.step_maker.specs.Moves.{Came, Moment, Moves, Ran}
+use Rattle.step_maker.specs.Moves.{Moves}
 use Rattle.step_maker.specs.Plain.{Words, change}
-use Rattle.step_maker.proofs.Coming.{ran_post}
-use Rattle.step_maker.proofs.Telling.{leaves, ran_telling, told_there}
-use Rattle.answer_fits.specs.Answers.{Deed, Serves}
-use Rattle.answer_fits.specs.Asked.{Request}
-use Rattle.answer_fits.specs.Finding.{Finding}
-use Rattle.answer_fits.specs.Reasons.{HasReason}
+use Rattle.step_maker.proofs.Telling.{leaves, told_there}
 use Rattle.turn_measures.specs.Measures.{LeavesOthers}
 
 -- ---- one behind the other

@@ -1,19 +1,14 @@
 -- What a release leaves in the old words: nothing, or the name of the frame whose release the gate paused.
-use Rattle.std.proofs.Common.{◌≡◌, ◌≢◌, ℕ, ◌+◌, ◌<◌, ◌≤◌, Bool, true, false, List, [], ◌∷◌, Option, Some, None, Result, Ok, Err, refl, sym, ap, ◌∙◌, subst, arith}
-use Rattle.xp_words.specs.KindWords.{kind_fields}
-use Rattle.xp_words.specs.PageTypes.{is_table}
+use Rattle.std.proofs.Common.{◌≡◌, ◌≢◌, ℕ, ◌+◌, ◌<◌, ◌≤◌, Bool, true, false, List, [], ◌∷◌, Option, Some, Result, Ok, Err, refl, ap, ◌∙◌, subst, arith}
 use Rattle.xp_words.specs.declared.kind.KindWord.{KindWord}
 use Rattle.xp_words.specs.declared.kind.PageType.{PageType}
-use Rattle.xp_words.specs.declared.place.Place.{Place}
 use Rattle.xp_words.specs.declared.place.Place.TheVariants.{Vcpu}
 use Rattle.xp_words.specs.declared.reply.Pause.TheVariants.{Due}
 use Rattle.xp_words.specs.declared.reply.Stop.{Stop}
 use Rattle.xp_words.specs.declared.reply.Stop.TheVariants.{Paused}
 use Rattle.xp_board.specs.Acts.{left_by}
 use Rattle.xp_board.specs.Told.{Post, PortValue, is_telling, told_word}
-use Rattle.xp_board.specs.declared.step.Act.TheVariants.{Load, Store}
-use Rattle.xp_board.specs.declared.step.StepKind.TheVariants as kinds
-use Rattle.step_maker.specs.Moves.{Came, Moves}
+use Rattle.step_maker.specs.Moves.{Came}
 use Rattle.step_maker.proofs.Coming.{came_trans, came_post, moves_came}
 use Rattle.step_maker.proofs.Telling.{came_telling, told_elsewhere, told_here}
 use Rattle.level_release.specs.Course as course
@@ -24,8 +19,8 @@ use Rattle.table_courses.specs.Acquiring.{GaveRef, GaveType, Named}
 use Rattle.frame_types.specs.Lowering.{DropsType}
 use Rattle.turn_laws.proofs.Clearing.{drops, ends_dead, puts}
 use Rattle.turn_measures.specs.Measures.{left_rank, most_left}
-use Rattle.turn_measures.proofs.Keeping.{Away, EndsWell, away_self, away_trans, away_moves, away_does, ran_away}
-use Rattle.turn_measures.proofs.Weighing.{AreLow, AreSome, PausedBelow, one_most, ran_due}
+use Rattle.turn_measures.proofs.Keeping.{Away, EndsWell, away_trans, away_moves, away_does, ran_away}
+use Rattle.turn_measures.proofs.Weighing.{AreSome, one_most, ran_due}
 
 pub post_vcpu : (v u : PortValue) → Came v u → u.post.vcpu ≡ v.post.vcpu
 post_vcpu v u came = ap (λ (p : Post). p.vcpu) (came_post v u came)
@@ -45,7 +40,7 @@ renames_behind v u w a r =
       others = λ k off. subst (λ s. told_word w (Vcpu s k) ≡ told_word u (Vcpu s k)) s (r.others k off) ∙ a.same v.post.vcpu k;
     }
 
-other_word : (s k j : ℕ) → k ≢ j → Vcpu s k ≢ Vcpu s j
+pub other_word : (s k j : ℕ) → k ≢ j → Vcpu s k ≢ Vcpu s j
 other_word s k j off is = off (let e : k ≡ j = cc in e)
 
 named_names : (v w : PortValue) (f : ℕ) → is_telling v ≡ true → Named v w f → Renames v w

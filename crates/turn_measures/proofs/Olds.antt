@@ -1,13 +1,9 @@
 -- What a settling leaves in the old words.
-use Rattle.std.proofs.Common.{◌≡◌, ◌≢◌, ◌⊎◌, ℕ, ◌+◌, ◌<◌, ◌==◌, if◌then◌else◌, Bool, true, false, List, is_some, Option, Some, None, Result, Ok, Err, refl, sym, ap, ◌∙◌, subst, inl, inr, arith}
-use Rattle.std.proofs.lemmas.Bool.{cases_eq}
-use Rattle.std.proofs.lemmas.Bool.Decides.{nat_tests}
+use Rattle.std.proofs.Common.{◌≡◌, ◌≢◌, ℕ, ◌+◌, Bool, true, List, Option, None, Result, Ok, Err, refl, ◌∙◌, subst, arith}
 use Rattle.xp_words.specs.KindWords.{kind_fields}
-use Rattle.xp_words.specs.Machine.{Machine}
 use Rattle.xp_words.specs.declared.place.Place.{Place}
 use Rattle.xp_words.specs.declared.place.Place.TheVariants.{Vcpu}
-use Rattle.xp_words.specs.declared.reply.Pause.{Pause}
-use Rattle.xp_words.specs.declared.reply.Pause.TheVariants.{Due, Lost, Busy, Flush, Alive}
+use Rattle.xp_words.specs.declared.reply.Pause.TheVariants.{Due}
 use Rattle.xp_words.specs.declared.reply.Stop.{Stop}
 use Rattle.xp_words.specs.declared.reply.Stop.TheVariants.{Paused}
 use Rattle.xp_board.specs.Acts.{left_by}
@@ -15,23 +11,15 @@ use Rattle.xp_board.specs.Told.{PortValue, is_telling, told_word}
 use Rattle.xp_board.specs.declared.step.Act.TheVariants.{Load, Store}
 use Rattle.xp_board.specs.declared.step.StepKind.TheVariants as kinds
 use Rattle.step_maker.specs.Moves.{Came, Moves}
-use Rattle.step_maker.specs.Plain.{Words}
 use Rattle.step_maker.proofs.Coming.{came_trans, moves_came}
 use Rattle.step_maker.proofs.Telling.{came_telling, load_tells, told_elsewhere, told_here, told_there}
-use Rattle.answer_laws.specs.Alone.{IsAlone}
-use Rattle.level_release.specs.Asking.{IsReleaseEnd}
 use Rattle.level_release.specs.Course as course
 use Rattle.level_release.specs.Course.{Settled, SettledOne, left_one, left_settled}
 use Rattle.table_releases.specs.Found.{has_recorded}
 use Rattle.table_words.specs.OldWords.{old_number, old_place}
 use Rattle.table_words.specs.declared.old_words.OldWord.{OldWord}
-use Rattle.table_words.specs.declared.old_words.OldWord.TheVariants.{First, Second}
-use Rattle.turn_laws.specs.Unhindered.{IsUnhindered}
-use Rattle.vcpu_turn.specs.Settling.{Settles}
-use Rattle.vcpu_turn.specs.declared.cpu.TurnEnd.TheVariants as ends
-use Rattle.turn_measures.specs.Measures.{KeepsLeft, bit_named, left_rank, most_left, olds_named}
 use Rattle.turn_measures.proofs.Keeping.{Away, away_moves, away_trans}
-use Rattle.turn_measures.proofs.Naming.{Cut, LeavesFew, post_vcpu, partial_away, partial_cut, released_away, released_cut}
+use Rattle.turn_measures.proofs.Naming.{Cut, LeavesFew, other_word, post_vcpu, partial_away, partial_cut, released_away, released_cut}
 
 -- ---- a frame is taken out of the word
 -- that word named a frame and is empty then, and the other own words are as they were
@@ -40,9 +28,6 @@ record Takes (v w : PortValue) (j : ℕ) : Type 0 where
   pub named : told_word v (Vcpu v.post.vcpu j) ≢ 0
   pub empty : told_word w (Vcpu v.post.vcpu j) ≡ 0
   pub others : (k : ℕ) → k ≢ j → told_word w (Vcpu v.post.vcpu k) ≡ told_word v (Vcpu v.post.vcpu k)
-
-other_word : (s k j : ℕ) → k ≢ j → Vcpu s k ≢ Vcpu s j
-other_word s k j off is = off (let e : k ≡ j = cc in e)
 
 takes : (v a b : PortValue) (which : OldWord) (f : ℕ) → is_telling v ≡ true → Moves v a (old_place v.post.vcpu which) Load kinds.Look None (f + 1) →
     Moves a b (old_place v.post.vcpu which) (Store 0) kinds.Context None (f + 1) → Takes v b (old_number which)

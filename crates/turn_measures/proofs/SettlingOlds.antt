@@ -1,5 +1,5 @@
 -- Both old words: what a settling that ends leaves of them, and one that the gate pauses.
-use Rattle.std.proofs.Common.{◌≡◌, ◌≢◌, ◌⊎◌, ℕ, ◌+◌, ◌<◌, ◌==◌, if◌then◌else◌, Bool, true, false, List, ◌++◌, is_some, Option, Some, None, Result, Ok, Err, refl, sym, ap, ◌∙◌, subst, inl, inr, arith}
+use Rattle.std.proofs.Common.{◌≡◌, ◌≢◌, ◌⊎◌, ℕ, ◌<◌, Bool, true, List, is_some, Option, Some, None, Result, Ok, Err, refl, sym, ap, ◌∙◌, subst, inl, inr, arith}
 use Rattle.std.proofs.lemmas.Bool.{cases_eq}
 use Rattle.std.proofs.lemmas.Bool.Decides.{nat_tests}
 use Rattle.xp_words.specs.Machine.{Machine}
@@ -21,7 +21,7 @@ use Rattle.turn_laws.specs.Unhindered.{IsUnhindered}
 use Rattle.vcpu_turn.specs.Settling.{Settles}
 use Rattle.vcpu_turn.specs.declared.cpu.TurnEnd.TheVariants as ends
 use Rattle.turn_measures.specs.Measures.{KeepsLeft, bit_named, left_rank, most_left, olds_named}
-use Rattle.turn_measures.proofs.Naming.{LeavesFew, post_vcpu}
+use Rattle.turn_measures.proofs.Naming.{post_vcpu}
 use Rattle.turn_measures.proofs.Olds.{Empties, Leaves, one_empties, one_leaves}
 
 -- ---- counts
@@ -107,10 +107,10 @@ module _ (below : Option ℕ) (v : PortValue) (telling : is_telling v ≡ true) 
         keeps = kept_some (told_word w) s left l.few.number l.few.left_is l.few.few names;
         less = elim (cases_eq (told_word v (Vcpu s 2)) 0) [
           | inl none ↦ (
-            let e = none_named _ none in
-            let all = none_kept below (told_word v) s keeps none in
-            inr (omega (arith, x, y, z, e), subst (λ r. left_rank left < r) (sym all) (rank_some left l.few.number most_left l.few.left_is l.few.few))
-          )
+              let e = none_named _ none in
+              let all = none_kept below (told_word v) s keeps none in
+              inr (omega (arith, x, y, z, e), subst (λ r. left_rank left < r) (sym all) (rank_some left l.few.number most_left l.few.left_is l.few.few))
+              )
           | inr some ↦ inl (let e = one_named _ some in omega (arith, x, y, z, e))
         ];
       }

@@ -1,7 +1,6 @@
 -- A release that the gate pauses leaves less than a whole table of level 4, and a table in work.
-use Rattle.std.proofs.Common.{◌≡◌, ◌⊎◌, ℕ, zero, suc, ◌+◌, ◌-◌, ◌*◌, ◌<◌, ◌≤◌, ◌==◌, ◌&&◌, nat_lt, Bool, true, false, List, [], ◌∷◌, Option, Some, None, Result, Ok, Err, IsTrue, refl, sym, ap, ◌∙◌, subst, arith}
+use Rattle.std.proofs.Common.{◌≡◌, ℕ, zero, suc, ◌+◌, ◌-◌, ◌*◌, ◌<◌, ◌≤◌, ◌&&◌, Bool, true, false, List, [], ◌∷◌, Option, Some, None, Result, Ok, Err, refl, ap, ◌∙◌, subst, arith}
 use Rattle.std.proofs.Math.Nat.{mul-le-mul_right}
-use Rattle.std.proofs.lemmas.Bool.{cases_Bool}
 use Rattle.std.proofs.lemmas.Bool.Decides.{nat_tests}
 use Rattle.xp_words.specs.Entries.{below, demand_at}
 use Rattle.xp_words.specs.KindWords.{kind_fields}
@@ -19,13 +18,13 @@ use Rattle.answer_fits.specs.Visits.{Visit, Does}
 use Rattle.level_release.specs.Course as course
 use Rattle.level_release.specs.Course.{GaveEntry, Lowered, RanDown, is_asked_down, is_asked_within, is_less, table_under, one_more_done}
 use Rattle.partial_state.specs.Levels.{level_type}
-use Rattle.partial_state.specs.Weights.{entry_weight, table_weight, weight}
+use Rattle.partial_state.specs.Weights.{entry_weight, weight}
 use Rattle.partial_state.specs.declared.stack.TableWork.{TableWork}
 use Rattle.table_entries.proofs.HandLists.{asks_below}
 use Rattle.table_releases.proofs.Recording.{recorded_table}
 use Rattle.table_releases.specs.Found.{ComesBy, FormBy, LiveBy, LowersTable, ReleasedBy, ReleasesBy, has_recorded}
 use Rattle.table_releases.specs.declared.entries.Released.{Released}
-use Rattle.table_releases.specs.declared.entries.Released.TheVariants.{Given, Opened}
+use Rattle.table_releases.specs.declared.entries.Released.TheVariants.{Opened}
 use Rattle.turn_measures.specs.Measures.{left_rank, most_left}
 
 -- ---- an entry that opens a table is of a table of level 2 or more
