@@ -100,38 +100,36 @@ module _ (v w : PortValue) (alone : IsAlone v) (acks : Acks v w) where
         let there = ap (λ i. told_word x (flushed_of i)) own in
         omega (arith, stays, now, clock, there)
 
-    heeded : (b : Bool) → nat_lt acks.asked acks.flushed ≡ b → Heeds b acks.b w → (acks.asked < told_word x (flushed_of v.post.vcpu)) ⊎ (told_word v Clock < told_word x (flushed_of v.post.vcpu))
+    abbrev Heeded : Type 0
+    Heeded = ((acks.asked < acks.flushed) × (acks.asked < told_word x (flushed_of v.post.vcpu))) ⊎ (told_word v Clock < told_word x (flushed_of v.post.vcpu))
+
+    heeded : (b : Bool) → nat_lt acks.asked acks.flushed ≡ b → Heeds b acks.b w → Heeded
     unfolding left_by
     heeded true less same =
         let stays = flushed_stays acks.a acks.b x v.post.vcpu Load kinds.Look None acks.flushed acks.looked (subst (λ y. Came y x) same came) ended marked_is in
         let here = told_here acks.a acks.b (flushed_of v.post.vcpu) Load kinds.Look None acks.flushed acks.looked marked_is in
         let past = ltb-true acks.asked acks.flushed less in
-        inl (omega (arith, stays, here, past))
+        inl (past, omega (arith, stays, here, past))
     heeded false less (Ok tt, flushes) = inr (ticked flushes)
     heeded false less (Err e, flushes) = absurd (goes (sym clock_word ∙ (own_refused acks.b w e looked_is flushes).0))
 
-    heeds_all : (acks.asked < told_word x (flushed_of v.post.vcpu)) ⊎ (told_word v Clock < told_word x (flushed_of v.post.vcpu))
-    heeds_all = heeded (nat_lt acks.asked acks.flushed) refl acks.heeds
-
-    heeds_asked : told_word v (flushed_of v.post.vcpu) ≤ told_word v (asked_of v.post.vcpu) → (b : Bool) → nat_lt acks.asked acks.flushed ≡ b → Heeds b acks.b w → told_word v Clock < told_word x (flushed_of v.post.vcpu)
-    heeds_asked behind true less same =
-        let past = ltb-true acks.asked acks.flushed less in
-        let one = asked_word in
-        let two = flushed_word in
-        absurd (omega (arith, past, one, two, behind))
-    heeds_asked behind false less (Ok tt, flushes) = ticked flushes
-    heeds_asked behind false less (Err e, flushes) = absurd (goes (sym clock_word ∙ (own_refused acks.b w e looked_is flushes).0))
+    heeds : Heeded
+    heeds = heeded (nat_lt acks.asked acks.flushed) refl acks.heeds
 
     pub acks_tick : told_word v (flushed_of v.post.vcpu) ≤ told_word v (asked_of v.post.vcpu) → told_word v Clock < told_word x Clock
     acks_tick behind =
-        let past = heeds_asked behind (nat_lt acks.asked acks.flushed) refl acks.heeds in
+        let asked = asked_word in
+        let flushed = flushed_word in
         let most = flushed_by_clock x v.post.vcpu ended in
-        omega (arith, past, most)
+        elim heeds [
+          | inl past ↦ (let is_past = past.0 in absurd (omega (arith, asked, flushed, is_past, behind)))
+          | inr past ↦ omega (arith, past, most)
+        ]
 
     pub acks_flush : told_word v (asked_of v.post.vcpu) ≤ told_word v Clock → told_word v (asked_of v.post.vcpu) < told_word x (flushed_of v.post.vcpu)
     acks_flush most =
         let asked = asked_word in
-        elim heeds_all [
-          | inl past ↦ omega (arith, asked, past)
+        elim heeds [
+          | inl past ↦ (let is_past = past.1 in omega (arith, asked, is_past))
           | inr past ↦ omega (arith, past, most)
         ]

@@ -39,6 +39,7 @@ use Rattle.step_maker.specs.Moves.{Came, Moment, Moves, Ran, hand_at}
 use Rattle.step_maker.proofs.Noting.{moves_keeps}
 use Rattle.step_maker.proofs.Telling.{told_elsewhere}
 use Rattle.answer_laws.specs.Alone.{IsAlone}
+use Rattle.turn_laws.proofs.Hindering.{AloneStays}
 use Rattle.turn_clocks.proofs.Waiting.{alone_telling}
 use Rattle.turn_clocks.proofs.Others.{is_there, word_here}
 
@@ -204,9 +205,6 @@ module _ (v w : PortValue) (p : Place) (a : Act) (kind : StepKind) (mark : Optio
   ]
 
 -- ---- many
-abbrev pub AloneStays : Type 0
-AloneStays = (v w : PortValue) → IsAlone v → Came v w → IsAlone w
-
 module _ (stays : AloneStays) (t : ℕ) (v : PortValue) (alone : IsAlone v) (most : told_word v (asked_of t) ≤ told_word v Clock) where
   ran_asked : (w : PortValue) (ms : List Moment) → Ran v ms w → told_word w (asked_of t) ≤ told_word w Clock
   unfolding Came
