@@ -1,3 +1,4 @@
 pub mod Reading
 pub mod Facing
 pub mod Valuing
+pub mod Turning
