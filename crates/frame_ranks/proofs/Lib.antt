@@ -2,3 +2,4 @@ pub mod Reading
 pub mod Facing
 pub mod Valuing
 pub mod Turning
+pub mod Taking

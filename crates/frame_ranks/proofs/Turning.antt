@@ -27,7 +27,7 @@ Lasts k l = k.validated ≡ true → (l.validated ≡ true) × (k.number ≤ l.n
 same_lasts : (k l j : KindWord) → (j.validated ≡ l.validated) → (l.validated ≡ true → j.number ≡ l.number) → Lasts k l → Lasts k j
 same_lasts k l j live number lasts is = let a = lasts is in let e = number a.0 in let b = a.1 in (live ∙ a.0, omega arith)
 
-dead_lasts : (k l : KindWord) → k.validated ≡ false → Lasts k l
+pub dead_lasts : (k l : KindWord) → k.validated ≡ false → Lasts k l
 dead_lasts k l off is = absurd cc
 
 working_dead : (k : KindWord) → is_work k ≡ true → k.validated ≡ false
