@@ -3,3 +3,4 @@ pub mod Facing
 pub mod Valuing
 pub mod Turning
 pub mod Taking
+pub mod Entering
