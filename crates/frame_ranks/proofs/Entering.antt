@@ -59,7 +59,7 @@ pub record Rewaiting (n : Machine) (m x : Words) (f : ℕ) : Type 0 where
 abbrev pub IsSpelled : Machine → Words → Type 0
 IsSpelled n m = (g : ℕ) → g < n.frames → IsTrue (is_kind (kind_at m g))
 
-live_before : (n : Machine) (m x : Words) (g : ℕ) → TakenLive (got g m) x g → TakenLive m x g
+pub live_before : (n : Machine) (m x : Words) (g : ℕ) → TakenLive (got g m) x g → TakenLive m x g
 live_before n m x g a =
     record {
       word = a.word;
@@ -72,7 +72,7 @@ live_before n m x g a =
       higher = a.higher;
     }
 
-work_before : (m x : Words) (g progress : ℕ) → TakenWork (got g m) x g progress → TakenWork m x g progress
+pub work_before : (m x : Words) (g progress : ℕ) → TakenWork (got g m) x g progress → TakenWork m x g progress
 work_before m x g progress a =
     record {
       word = a.word;

@@ -4,3 +4,4 @@ pub mod Valuing
 pub mod Turning
 pub mod Taking
 pub mod Entering
+pub mod Resuming
