@@ -5,3 +5,6 @@ pub mod Turning
 pub mod Taking
 pub mod Entering
 pub mod Resuming
+pub mod Parts
+pub mod Stamps
+pub mod Stepping
