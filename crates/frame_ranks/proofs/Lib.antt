@@ -8,3 +8,5 @@ pub mod Resuming
 pub mod Parts
 pub mod Stamps
 pub mod Stepping
+pub mod Going
+pub mod Advancing

@@ -71,7 +71,7 @@ module _ (k : KindWord) where
     pub rank_within : k.partial ≡ true → rank_of k ≤ k.progress + 2
     rank_within some = let e = rank_partial some in let b = rank_by k.unflushed in omega arith
 
-idle_live : (k : KindWord) → k.validated ≡ true → is_work k ≡ false
+pub idle_live : (k : KindWord) → k.validated ≡ true → is_work k ≡ false
 idle_live k live = ap (λ b. not b && (not k.partial && k.locked)) live
 
 idle_partial : (k : KindWord) → k.validated ≡ false → k.partial ≡ true → is_work k ≡ false
