@@ -10,3 +10,4 @@ pub mod Stamps
 pub mod Stepping
 pub mod Going
 pub mod Advancing
+pub mod Leaving
