@@ -11,3 +11,4 @@ pub mod Stepping
 pub mod Going
 pub mod Advancing
 pub mod Leaving
+pub mod Pausing
