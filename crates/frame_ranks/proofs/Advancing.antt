@@ -1,5 +1,5 @@
 -- Tables are worked on until the only one is full, the gate says yes, or an entry stops it.
-use Rattle.std.proofs.Common.{◌≡◌, ℕ, ◌&&◌, if◌then◌else◌, Bool, true, false, List, [], ◌∷◌, Result, Ok, Err, refl, sym, ap, ◌∙◌, subst}
+use Rattle.std.proofs.Common.{◌≡◌, ℕ, ◌&&◌, if◌then◌else◌, Bool, true, false, List, [], ◌∷◌, Result, Ok, Err, refl, ap}
 use Rattle.xp_words.specs.Machine.{Machine}
 use Rattle.xp_words.specs.declared.reply.Pause.TheVariants.{Due}
 use Rattle.xp_words.specs.declared.reply.Stop.{Stop}
@@ -8,9 +8,9 @@ use Rattle.xp_board.specs.Told.{PortValue, told_word}
 use Rattle.partial_state.specs.declared.stack.TableWork.{TableWork}
 use Rattle.table_courses.specs.Acquiring.{Advanced, Filled, TookOn, Worked, asked, begun, completed, cut_off, due, filled, fresh, is_asked, one_entry_more, opened, recorded, settled, stopped, table_opened, taken, unasked, unsettled, waiting}
 use Rattle.course_laws.proofs.Awaiting.{AloneStays}
-use Rattle.course_laws.proofs.Walking.{advanced_came, again_came, entry_came, filled_came, on_came}
+use Rattle.course_laws.proofs.Walking.{again_came, entry_came, filled_came, on_came}
 use Rattle.frame_ranks.proofs.Going.{At, IsGoing, Led, advanced_never, at_later, completed_led, led_then, moved_self, on_never, opened_again, opened_moved, recorded_led, settled_moved, stopped_again, stopped_moved, taken_again, unsettled_moved, waiting_again}
-use Rattle.frame_ranks.proofs.Valuing.{Further, Moved, Works, further_then, moved_then, then_further}
+use Rattle.frame_ranks.proofs.Valuing.{Moved, Works}
 
 -- an entry is not done with
 calmly : (n : Machine) (v w : PortValue) (ts us : List TableWork) (r : Result Bool Stop) → (r ≡ Ok true → ⊥) → Moved n (told_word v) ts (told_word w) us → Led {A = Result Bool Stop} n v ts w us r (Ok true)

@@ -1,5 +1,5 @@
 -- Entries of tables in work, by what is answered: no frame falls, and what comes into work was not in work.
-use Rattle.std.proofs.Common.{◌≡◌, ℕ, ◌+◌, ◌<◌, ◌≤◌, ◌&&◌, nat_lt, if◌then◌else◌, Bool, true, false, List, [], ◌∷◌, Option, Some, None, Result, Ok, Err, IsTrue, refl, sym, ap, ◌∙◌, subst, arith}
+use Rattle.std.proofs.Common.{◌≡◌, ℕ, ◌<◌, nat_lt, if◌then◌else◌, Bool, true, false, List, Option, Some, None, Ok, Err, IsTrue, refl, sym, subst, arith}
 use Rattle.std.proofs.lemmas.Bool.Decides.{nat_tests}
 use Rattle.xp_words.specs.KindWords.{is_kind}
 use Rattle.xp_words.specs.Machine.{Machine}
@@ -7,7 +7,7 @@ use Rattle.xp_words.specs.declared.entry.Demand.{Demand}
 use Rattle.xp_words.specs.declared.entry.Demand.TheVariants as demands
 use Rattle.xp_words.specs.declared.kind.KindWord.{KindWord}
 use Rattle.xp_words.specs.declared.kind.PageType.{PageType}
-use Rattle.xp_words.specs.declared.place.Place.TheVariants.{Kind, Refs}
+use Rattle.xp_words.specs.declared.place.Place.TheVariants.{Refs}
 use Rattle.xp_words.specs.declared.reply.Pause.{Pause}
 use Rattle.xp_words.specs.declared.reply.Pause.TheVariants as pauses
 use Rattle.xp_words.specs.declared.reply.Refusal.{Refusal}
@@ -15,18 +15,16 @@ use Rattle.xp_words.specs.declared.reply.Refusal.TheVariants as refusals
 use Rattle.xp_words.specs.declared.reply.Stop.{Stop}
 use Rattle.xp_words.specs.declared.reply.Stop.TheVariants.{Paused}
 use Rattle.xp_words.specs.RefWords.{ref_read}
-use Rattle.xp_board.specs.Readings.{is_live_word, is_work, kind_at}
+use Rattle.xp_board.specs.Readings.{kind_at}
 use Rattle.xp_board.specs.Told.{PortValue, told_word}
 use Rattle.step_maker.specs.Plain.{Leaves, Words}
 use Rattle.frame_words.specs.Plain.{got, put, refer, refer_by}
 use Rattle.kind_words.specs.Kinds.{partial_kind}
 use Rattle.partial_state.specs.declared.stack.TableWork.{TableWork}
-use Rattle.table_entries.specs.Plain.{AgainBy, AgainWhere, EntersPlainly, RefersPlainly, ResumesPlainly, TypedPlainly, TypesAgain, TypesPlainly}
+use Rattle.table_entries.specs.Plain.{EntersPlainly, RefersPlainly, TypedPlainly, TypesPlainly}
 use Rattle.table_entries.specs.declared.entries.Entered.TheVariants.{Recorded, Opened, Unsettled}
-use Rattle.table_entries.specs.declared.resuming.Resumed.TheVariants as again
-use Rattle.frame_ranks.specs.Ranks.{rank_at, rank_of}
 use Rattle.frame_ranks.proofs.Facing.{Calm, Turned, calm_then, calm_turned, got_calm, put_calm, same_calm}
-use Rattle.frame_ranks.proofs.Taking.{TakenLive, TakenWait, TakenWork, left_partial_turned, left_shared_turned, takes_live, takes_wait, takes_work, waits_low}
+use Rattle.frame_ranks.proofs.Taking.{TakenLive, TakenWait, TakenWork, left_partial_turned, left_shared_turned, takes_live, takes_work, waits_low}
 use Rattle.frame_ranks.proofs.Turning.{beside, calm_moved, dead_lasts}
 use Rattle.frame_ranks.proofs.Valuing.{Moved, Works}
 
@@ -65,7 +63,6 @@ live_before n m x g a =
       word = a.word;
       turned = calm_turned m (got g m) x g a.word (got_calm g m) a.turned;
       live = a.live;
-      calm = a.calm;
       idle = a.idle;
       more = a.more;
       lasts = a.lasts;
@@ -99,7 +96,7 @@ module _ (n : Machine) (owner : ℕ) (m : Words) (w : PortValue) (ts : List Tabl
   waits_moved : (g : ℕ) (t : PageType) → TakenWait (got g m) g → Turned (got g m) (told_word w) g (partial_kind t false true 0 0) → Moved n m ts (told_word w) ts
   waits_moved g t waits turned =
       let l = partial_kind t false true 0 0 in
-      beside n m (told_word w) g l (calm_turned m (got g m) (told_word w) g l (got_calm g m) turned) ts works waits.idle refl waits.low (dead_lasts (kind_at m g) l waits.dead)
+      beside n m (told_word w) g l (calm_turned m (got g m) (told_word w) g l (got_calm g m) turned) ts works waits.idle waits.low (dead_lasts (kind_at m g) l waits.dead)
 
   got_spelled : (g : ℕ) → g < n.frames → IsTrue (is_kind (kind_at (got g m) g))
   got_spelled g inside = spelled g inside
@@ -114,7 +111,7 @@ module _ (n : Machine) (owner : ℕ) (m : Words) (w : PortValue) (ts : List Tabl
   recorded_typed g t None is a =
       let inside = refer_inside n owner g (m (Refs g)) is in
       let live = live_before n m (told_word w) g (takes_live (got g m) g t (told_word w) (got_spelled g inside) a.0.0 a.1) in
-      beside n m (told_word w) g live.word live.turned ts works live.idle live.calm live.more live.lasts
+      beside n m (told_word w) g live.word live.turned ts works live.idle live.more live.lasts
 
   pub enter_recorded : (f i : ℕ) (d : Demand) → EntersPlainly n w m f i owner (Ok Recorded) d → Moved n m ts (told_word w) ts
   enter_recorded f i demands.Nothing a = left_as m (same_calm m m (λ q. refl)) a.1

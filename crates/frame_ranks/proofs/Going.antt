@@ -1,8 +1,7 @@
 -- Tables are worked on, from port to port: no frame falls, and where an entry is done with, one is further.
-use Rattle.std.proofs.Common.{◌≡◌, ℕ, ◌+◌, ◌-◌, ◌<◌, ◌≤◌, Bool, true, false, List, [], ◌∷◌, Result, Ok, Err, refl, sym, ap, ◌∙◌, subst, inl, inr, arith}
+use Rattle.std.proofs.Common.{◌≡◌, ℕ, ◌-◌, ◌<◌, Bool, true, false, List, ◌∷◌, Result, Ok, Err, refl, ap, ◌∙◌, subst, arith}
 use Rattle.xp_words.specs.Entries.{demand_at}
 use Rattle.xp_words.specs.Machine.{Machine}
-use Rattle.xp_words.specs.declared.kind.KindWord.{KindWord}
 use Rattle.xp_words.specs.declared.place.Place.TheVariants.{Cell}
 use Rattle.xp_words.specs.declared.reply.Pause.TheVariants.{Due}
 use Rattle.xp_words.specs.declared.reply.Stop.{Stop}
@@ -21,21 +20,18 @@ use Rattle.table_entries.specs.declared.entries.Entered.{Entered}
 use Rattle.table_entries.specs.declared.entries.Entered.TheVariants as entered
 use Rattle.table_entries.specs.declared.resuming.Resumed.{Resumed}
 use Rattle.table_entries.specs.declared.resuming.Resumed.TheVariants as again
-use Rattle.table_courses.specs.Acquiring.{Advanced, Joined, GaveBack, LeftWaiting, MadeLive, ResumedEntry, TookEntry, TookOn, completed, cut_off, fresh, one_entry_more, opened, recorded, settled, stopped, table_opened, taken, unsettled, waiting}
+use Rattle.table_courses.specs.Acquiring.{Advanced, Joined, GaveBack, LeftWaiting, MadeLive, ResumedEntry, TookEntry, TookOn, one_entry_more, table_opened}
 use Rattle.course_laws.proofs.Awaiting.{AloneStays, alone_orderly, alone_telling, rose_by}
-use Rattle.course_laws.proofs.Stopping.{StopsAs, StopsIn, advanced_stops, on_stops}
-use Rattle.course_laws.proofs.Under.{IsIn, IsOff}
-use Rattle.course_laws.proofs.Walking.{again_came, entry_came}
+use Rattle.course_laws.proofs.Stopping.{StopsAs, advanced_stops, on_stops}
 use Rattle.frame_ranks.specs.Ranks.{rank_at, rank_of}
-use Rattle.frame_ranks.proofs.Entering.{IsSpelled, Opening, enter_opened, enter_paused, enter_recorded, enter_unsettled}
-use Rattle.frame_ranks.proofs.Facing.{Turned, self_calm, turned_twice}
-use Rattle.frame_ranks.proofs.Reading.{written}
+use Rattle.frame_ranks.proofs.Entering.{IsSpelled, enter_opened, enter_paused, enter_recorded, enter_unsettled}
+use Rattle.frame_ranks.proofs.Facing.{self_calm, turned_twice}
 use Rattle.frame_ranks.proofs.Resuming.{resume_opened, resume_paused, resume_settled, resume_taken, resume_waiting}
 use Rattle.frame_ranks.proofs.Stamps.{again_low}
 use Rattle.frame_ranks.proofs.Stepping.{back_from, completed_turned, shared_turned}
-use Rattle.frame_ranks.proofs.Taking.{idle_live, rank_live}
-use Rattle.frame_ranks.proofs.Turning.{beside, beside_further, calm_moved, dead_lasts, entry_further, entry_moved, into, more_in, more_works, out, out_further}
-use Rattle.frame_ranks.proofs.Valuing.{Further, Moved, Works, further_then, idle_off, moved_then, then_further, worth_around, worth_gone, worth_same}
+use Rattle.frame_ranks.proofs.Taking.{rank_live}
+use Rattle.frame_ranks.proofs.Turning.{beside, beside_further, calm_moved, dead_lasts, entry_further, entry_moved, into, more_works, out, out_further}
+use Rattle.frame_ranks.proofs.Valuing.{Further, Moved, Works, idle_off, moved_then, then_further, worth_around, worth_gone, worth_same}
 
 -- it is not refused
 abbrev pub IsGoing : {A : Type 0} → Result A Stop → Type 0
@@ -106,8 +102,8 @@ module _ (n : Machine) (owner : ℕ) (v w : PortValue) (t : TableWork) (ts : Lis
       let o = resume_opened n owner (told_word v) w spelled f progress _ (again_plain _ a) in
       let b = o.taken in
       let x = table_opened t f progress false true in
-      into n (told_word v) (told_word w) f b.word b.turned (t ∷ ts) works b.idle x (t ∷ ts) refl o.inside b.few b.work b.dead b.low (idle_off n (told_word v) (t ∷ ts) f works.tables b.idle) works.tables
-      (λ g r off. let e = worth_same x t ts g r off refl in omega arith) (λ g one. one)
+      into n (told_word v) (told_word w) f b.word b.turned (t ∷ ts) works b.idle x (t ∷ ts) refl o.inside b.few b.work b.dead b.low (idle_off n (told_word v) (t ∷ ts) f works b.idle) works
+      (λ g r off. let e = worth_same x t ts g r off refl in omega arith)
 
   -- its frame is live now
   pub taken_again : (u : PortValue) (f : ℕ) → At n u → ResumedEntry v u owner t (Ok (again.Taken f)) → GaveBack u w f → Led {A = Result Bool Stop} n v (t ∷ ts) w (t ∷ ts) (Ok true) (Ok true)
@@ -116,11 +112,10 @@ module _ (n : Machine) (owner : ℕ) (v w : PortValue) (t : TableWork) (ts : Lis
       let c = back_from u w f (at_telling n u there) b in
       let turned = turned_twice (told_word v) (told_word u) (told_word w) f o.taken.word c.word o.taken.turned c.turned in
       let idle = o.taken.idle in
-      let calm = idle_live c.word c.live in
       let higher : rank_at (told_word v) f < rank_of c.word = (let h = o.taken.higher o.dead in let r = rank_live c.word c.live in let s = rank_live o.taken.word o.taken.live in omega arith) in
       record {
-        moved = beside n (told_word v) (told_word w) f c.word turned (t ∷ ts) works idle calm (omega arith) (dead_lasts (kind_at (told_word v) f) c.word o.dead);
-        strict = λ is. beside_further n (told_word v) (told_word w) f c.word turned (t ∷ ts) works idle calm o.inside higher;
+        moved = beside n (told_word v) (told_word w) f c.word turned (t ∷ ts) works idle (omega arith) (dead_lasts (kind_at (told_word v) f) c.word o.dead);
+        strict = λ is. beside_further n (told_word v) (told_word w) f c.word turned (t ∷ ts) works idle o.inside higher;
       }
 
   -- its frame waits, and is left so
@@ -129,7 +124,7 @@ module _ (n : Machine) (owner : ℕ) (v w : PortValue) (t : TableWork) (ts : Lis
       let o = resume_waiting n owner (told_word v) u spelled f stamp stop _ (subst (λ k. ResumesPlainly k u (told_word v) owner (Ok (again.Waiting f stamp stop)) (demand_at (level_type t.level) (t.done - 1) (told_word v (Cell t.frame (t.done - 1))))) at.machine (a.plain (at_telling n v at))) in
       let k = partial_kind (level_type (t.level - 1)) false true 0 stamp in
       let left = shared_turned u w f (level_type (t.level - 1)) stamp (at_telling n u there) (again_low v u t.frame (t.done - 1) (level_type t.level) owner f stamp stop a.found) b in
-      beside n (told_word v) (told_word w) f k (turned_twice (told_word v) (told_word u) (told_word w) f o.word k o.turned left) (t ∷ ts) works o.waits.idle refl o.waits.low (dead_lasts (kind_at (told_word v) f) k o.waits.dead)
+      beside n (told_word v) (told_word w) f k (turned_twice (told_word v) (told_word u) (told_word w) f o.word k o.turned left) (t ∷ ts) works o.waits.idle o.waits.low (dead_lasts (kind_at (told_word v) f) k o.waits.dead)
 
   -- ---- the next entry
   pub recorded_led : t.done < 512 → TookEntry v w owner t (Ok entered.Recorded) → Led {A = Result Bool Stop} n v (t ∷ ts) w (one_entry_more t ∷ ts) (Ok true) (Ok true)
@@ -155,18 +150,17 @@ module _ (n : Machine) (owner : ℕ) (v w : PortValue) (t : TableWork) (ts : Lis
       let b = o.taken in
       let x = table_opened t f progress own false in
       let all = more_works n (told_word v) t ts works few in
-      into n (told_word v) (told_word w) f b.word b.turned (t ∷ ts) works b.idle x (one_entry_more t ∷ ts) refl o.inside b.few b.work b.dead b.low (idle_off n (told_word v) (one_entry_more t ∷ ts) f all.tables b.idle) all.tables
-      (λ g r off. worth_around x t ts g r off) (λ g one. more_in n (told_word v) t ts works g one)
+      into n (told_word v) (told_word w) f b.word b.turned (t ∷ ts) works b.idle x (one_entry_more t ∷ ts) refl o.inside b.few b.work b.dead b.low (idle_off n (told_word v) (one_entry_more t ∷ ts) f all b.idle) all
+      (λ g r off. worth_around x t ts g r off)
 
 -- a full table is live
 pub completed_led : (n : Machine) (v u w : PortValue) (t outer : TableWork) (ts : List TableWork) → At n v → Works n (told_word v) (t ∷ outer ∷ ts) → t.done ≡ 512 → MadeLive v u t → Joined u w t outer t.recorded →
     Led {A = Result Bool Stop} n v (t ∷ outer ∷ ts) w (outer ∷ ts) (Ok true) (Ok true)
 completed_led n v u w t outer ts at works full made a =
     let c = completed_turned v u w t outer (at_telling n v at) made a in
-    let off = works.tables.1 in
-    let calm = idle_live c.word c.live in
+    let off = works.1 in
     let rank = rank_live c.word c.live in
     record {
-      moved = out n (told_word v) (told_word w) t.frame c.word c.turned t (outer ∷ ts) (outer ∷ ts) refl works calm off works.tables.2 (omega arith) (λ f r apart. worth_gone t outer ts f r apart) (λ f one. one);
-      strict = λ is. out_further n (told_word v) (told_word w) t.frame c.word c.turned t (outer ∷ ts) (outer ∷ ts) refl works calm off (omega arith);
+      moved = out n (told_word v) (told_word w) t.frame c.word c.turned t (outer ∷ ts) (outer ∷ ts) refl works off works.2 (omega arith) (λ f r apart. worth_gone t outer ts f r apart);
+      strict = λ is. out_further n (told_word v) (told_word w) t.frame c.word c.turned t (outer ∷ ts) (outer ∷ ts) refl works off (omega arith);
     }

@@ -1,5 +1,5 @@
 -- Tables, and a frame that waits, are left at a pause: each frame is as far as it was said to be.
-use Rattle.std.proofs.Common.{◌≡◌, ◌≢◌, ℕ, ◌+◌, ◌-◌, ◌<◌, ◌≤◌, ◌^◌, ◌||◌, if◌then◌else◌, Bool, true, false, List, [], ◌∷◌, None, IsTrue, refl, sym, ap, ◌∙◌, subst, inl, inr, arith}
+use Rattle.std.proofs.Common.{◌≡◌, ℕ, ◌-◌, ◌<◌, ◌≤◌, ◌^◌, ◌||◌, if◌then◌else◌, Bool, true, false, List, [], ◌∷◌, None, IsTrue, refl, sym, ap, ◌∙◌, subst, arith}
 use Rattle.std.proofs.lemmas.Bool.Decides.{nat_tests}
 use Rattle.xp_words.specs.KindWords.{kind_fields, kind_write}
 use Rattle.xp_words.specs.Machine.{Machine}
@@ -20,15 +20,15 @@ use Rattle.partial_state.specs.Levels.{level_type}
 use Rattle.partial_state.specs.declared.stack.TableWork.{TableWork}
 use Rattle.table_courses.specs.Acquiring.{InnerLeft, OutermostLeft, Unwound, WaitingLeft, around_left}
 use Rattle.course_laws.proofs.Awaiting.{AloneStays}
-use Rattle.course_laws.proofs.Under.{IsIn, IsOff}
+use Rattle.course_laws.proofs.Under.{IsOff}
 use Rattle.course_laws.proofs.Walking.{inner_came}
-use Rattle.frame_ranks.specs.Ranks.{AreAllAlive, rank_of}
+use Rattle.frame_ranks.specs.Ranks.{AreAllAlive}
 use Rattle.frame_ranks.proofs.Facing.{Turned, load_calm, store_turned, turned_calm}
 use Rattle.frame_ranks.proofs.Going.{At, at_later, at_telling, moved_self}
 use Rattle.frame_ranks.proofs.Reading.{written}
 use Rattle.frame_ranks.proofs.Stepping.{gave_calm, partial_turned, shared_turned}
 use Rattle.frame_ranks.proofs.Turning.{out}
-use Rattle.frame_ranks.proofs.Valuing.{AllInWork, Goes, InWork, Moved, Works, around_frame, moved_then, worth, worth_alone, worth_past}
+use Rattle.frame_ranks.proofs.Valuing.{Goes, Moved, Works, moved_then, worth_alone, worth_past}
 
 domain_inside : (n : Machine) (d : ℕ) → IsTrue (is_place (sizes_of n) (Life d)) → d < (sizes_of n).domains
 unfolding is_place
@@ -82,12 +82,7 @@ module _ (n : Machine) (owner : ℕ) (v w : PortValue) (t : TableWork) (at : At 
       turned_calm (told_word v) (told_word a.0) (told_word w) t.frame (left_word false) (partial_turned v a.0 t telling few a.1) (gave_calm a.0 w t.frame on a.2)
 
 -- ---- the table around one that is left
-around_in_by : (b : Bool) (o : TableWork) (ts : List TableWork) (f : ℕ) → IsIn (o ∷ ts) f → IsIn ((if b then o else record o { done = o.done - 1 }) ∷ ts) f
-around_in_by true o ts f one = one
-around_in_by false o ts f (inl is) = inl is
-around_in_by false o ts f (inr one) = inr one
-
-around_all_by : (b : Bool) (n : Machine) (m : Words) (o : TableWork) (ts : List TableWork) → AllInWork n m (o ∷ ts) → AllInWork n m ((if b then o else record o { done = o.done - 1 }) ∷ ts)
+around_all_by : (b : Bool) (n : Machine) (m : Words) (o : TableWork) (ts : List TableWork) → Works n m (o ∷ ts) → Works n m ((if b then o else record o { done = o.done - 1 }) ∷ ts)
 around_all_by true n m o ts all = all
 around_all_by false n m o ts all = (record { inside = all.0.inside; work = all.0.work; few = (let few = all.0.few in omega arith) }, all.1, all.2)
 
@@ -99,17 +94,16 @@ around_off_by false o ts f off = off
 module _ (stays : AloneStays) (n : Machine) (owner : ℕ) where
   outermost_moved : (v w : PortValue) (t : TableWork) → At n v → Works n (told_word v) (t ∷ []) → AreAllAlive n (told_word v) → OutermostLeft v w owner t t.own true → Moved n (told_word v) (t ∷ []) (told_word w) []
   outermost_moved v w t at works alive a =
-      let few = works.tables.0.few in
+      let few = works.0.few in
       let b = outermost_by n owner v w t at few t.own alive a in
-      out n (told_word v) (told_word w) t.frame (partial_kind (level_type t.level) b.0 false t.done 0) b.1 t [] [] refl works refl tt tt (omega arith) (λ f r off. let e = worth_alone t f r off in omega arith)
-      (λ f one. one)
+      out n (told_word v) (told_word w) t.frame (partial_kind (level_type t.level) b.0 false t.done 0) b.1 t [] [] refl works tt tt (omega arith) (λ f r off. let e = worth_alone t f r off in omega arith)
 
   inner_moved : (v u : PortValue) (t o : TableWork) (ts : List TableWork) → At n v → Works n (told_word v) (t ∷ o ∷ ts) → InnerLeft v u t o t.own → Moved n (told_word v) (t ∷ o ∷ ts) (told_word u) (around_left t o ∷ ts)
   inner_moved v u t o ts at works a =
-      let few = works.tables.0.few in
+      let few = works.0.few in
       let b = t.own || t.recorded in
-      out n (told_word v) (told_word u) t.frame (partial_kind (level_type t.level) false false t.done 0) (inner_by n owner v u t at few t.own o a) t (o ∷ ts) (around_left t o ∷ ts) refl works refl
-      (around_off_by b o ts t.frame works.tables.1) (around_all_by b n (told_word v) o ts works.tables.2) (omega arith) (λ f r off. let e = worth_past t o ts f r off in omega arith) (λ f one. around_in_by b o ts f one)
+      out n (told_word v) (told_word u) t.frame (partial_kind (level_type t.level) false false t.done 0) (inner_by n owner v u t at few t.own o a) t (o ∷ ts) (around_left t o ∷ ts) refl works
+      (around_off_by b o ts t.frame works.1) (around_all_by b n (told_word v) o ts works.2) (omega arith) (λ f r off. let e = worth_past t o ts f r off in omega arith)
 
   pub unwound_moved : (v : PortValue) (ts : List TableWork) (w : PortValue) → At n v → Works n (told_word v) ts → AreAllAlive n (told_word v) → Unwound v owner ts true w → Moved n (told_word v) ts (told_word w) []
   unwound_moved v [] w at works alive a = subst (λ y. Moved n (told_word v) [] (told_word y) []) (sym a) (moved_self n (told_word v) [] works)

@@ -1,16 +1,14 @@
 -- A whole acquisition that is paused lets no frame fall; and where the gate pauses it, one is further.
-use Rattle.std.proofs.Common.{◌≡◌, ℕ, ◌+◌, ◌<◌, ◌≤◌, Bool, true, false, List, [], ◌∷◌, None, Some, Result, Ok, Err, refl, sym, ap, ◌∙◌, subst, arith}
+use Rattle.std.proofs.Common.{◌≡◌, ℕ, ◌<◌, Bool, true, List, [], ◌∷◌, None, Some, Result, Ok, Err, refl, ap, ◌∙◌, subst, arith}
 use Rattle.xp_words.specs.Machine.{Machine}
 use Rattle.xp_words.specs.declared.place.Place.TheVariants.{Refs}
 use Rattle.xp_words.specs.declared.reply.Pause.{Pause}
 use Rattle.xp_words.specs.declared.reply.Pause.TheVariants.{Due}
 use Rattle.xp_words.specs.declared.reply.Stop.{Stop}
 use Rattle.xp_words.specs.declared.reply.Stop.TheVariants.{Refused, Paused}
-use Rattle.xp_board.specs.Readings.{is_work, kind_at}
-use Rattle.xp_board.specs.Told.{PortValue, is_telling, told_word}
+use Rattle.xp_board.specs.Readings.{kind_at}
+use Rattle.xp_board.specs.Told.{PortValue, told_word}
 use Rattle.step_maker.specs.Moves.{Came}
-use Rattle.step_maker.specs.Plain.{Words}
-use Rattle.step_maker.proofs.Coming.{came_self, came_trans}
 use Rattle.answer_fits.specs.Answers.{Stops}
 use Rattle.answer_fits.specs.Asked.{of_frame}
 use Rattle.answer_fits.proofs.Visiting.{does_came}
@@ -24,18 +22,18 @@ use Rattle.partial_state.specs.Levels.{level_type}
 use Rattle.partial_state.specs.declared.stack.TableWork.{TableWork}
 use Rattle.table_courses.specs.Acquiring.{Acquired, GaveRef, GotRef, TookType, Unwound, WaitingLeft, Worked, counted, finished, keeps_it, outermost_table, unfinished, unreferred, untyped, waiting}
 use Rattle.course_laws.proofs.Awaiting.{AloneStays, rose_by}
-use Rattle.course_laws.proofs.Walking.{gave_came, worked_came}
-use Rattle.frame_ranks.specs.Ranks.{AreAllAlive, GetsFurther, GoesForward, IsNothingInWork, rank_at, rank_of}
+use Rattle.course_laws.proofs.Walking.{worked_came}
+use Rattle.frame_ranks.specs.Ranks.{AreAllAlive, GetsFurther, GoesForward}
 use Rattle.frame_ranks.proofs.Advancing.{worked_led}
 use Rattle.frame_ranks.proofs.Entering.{refer_inside}
-use Rattle.frame_ranks.proofs.Facing.{Calm, Turned, calm_then, got_calm, same_calm, turned_twice}
-use Rattle.frame_ranks.proofs.Going.{At, Led, at_later, at_spelled, at_telling, led_then, moved_self}
+use Rattle.frame_ranks.proofs.Facing.{calm_then, got_calm, same_calm, turned_twice}
+use Rattle.frame_ranks.proofs.Going.{At, Led, at_later, at_spelled, at_telling}
 use Rattle.frame_ranks.proofs.Leaving.{goes_alive, unwound_moved, waiting_turned}
 use Rattle.frame_ranks.proofs.Stamps.{type_low}
 use Rattle.frame_ranks.proofs.Stepping.{gave_calm}
 use Rattle.frame_ranks.proofs.Taking.{takes_wait, takes_work}
 use Rattle.frame_ranks.proofs.Turning.{beside, calm_moved, dead_lasts, into}
-use Rattle.frame_ranks.proofs.Valuing.{Further, Goes, Moved, Works, further_then, moved_then, then_further, worth_alone}
+use Rattle.frame_ranks.proofs.Valuing.{Moved, Works, further_then, moved_then, then_further, worth_alone}
 
 abbrev IsPaused : Result ℕ Stop → Type 0
 IsPaused (Ok f) = ⊥
@@ -89,7 +87,7 @@ module _ (stays : AloneStays) (n : Machine) (f owner level : ℕ) where
         let k = partial_kind (level_type level) left.0 true 0 stamp in
         record {
           moved = moved_then n (told_word v) [] (told_word u) [] (told_word w) [] got_moved
-              (beside n (told_word u) (told_word w) f k (turned_twice (told_word u) (told_word x) (told_word w) f took.1.0 k took.1.1 left.1) [] got_moved.works waits.idle refl waits.low (dead_lasts (kind_at (told_word u) f) k waits.dead));
+              (beside n (told_word u) (told_word w) f k (turned_twice (told_word u) (told_word x) (told_word w) f took.1.0 k took.1.1 left.1) [] got_moved.works waits.idle waits.low (dead_lasts (kind_at (told_word u) f) k waits.dead));
           strict = λ is. let e : p ≡ Due = cc in absurd (subst (λ (y : Pause). IsWait (Paused y)) e a.waits.0);
         }
 
@@ -101,7 +99,7 @@ module _ (stays : AloneStays) (n : Machine) (f owner level : ℕ) where
         let took = takes_work (told_word u) f (level_type level) (told_word x) (at_spelled n u at_u f inside) plainly.0 progress own plainly.1 plainly.2 in
         let at_x = at_later stays n u x at_u (took_came u x _ a) in
         let t = outermost_table f level progress own in
-        let came_in = into n (told_word u) (told_word x) f took.word took.turned [] got_moved.works took.idle t [] refl inside took.few took.work took.dead took.low tt tt (λ g r off. let e = worth_alone t g r off in omega arith) (λ g one. one) in
+        let came_in = into n (told_word u) (told_word x) f took.word took.turned [] got_moved.works took.idle t [] refl inside took.few took.work took.dead took.low tt tt (λ g r off. let e = worth_alone t g r off in omega arith) in
         let worked = worked_led stays n owner x t y us answers (Err (Paused p)) b tt at_x came_in.works in
         let begun = moved_then n (told_word v) [] (told_word u) [] (told_word x) (t ∷ []) got_moved came_in in
         let all = moved_then n (told_word v) [] (told_word x) (t ∷ []) (told_word y) us begun worked.moved in
@@ -140,13 +138,10 @@ module _ (stays : AloneStays) (n : Machine) (f owner level : ℕ) where
     acquired_led _ _ _ (unfinished u x y w progress own us answers stop a b c d) paused = unfinished_by u x y w progress own us answers stop paused a b c d
     acquired_led _ _ _ (finished u x y w progress own t answers a b c full made) paused = absurd paused
 
--- ---- as it is said of words at rest
-idle_works : (n : Machine) (m : Words) → IsNothingInWork n m → Works n m []
-idle_works n m idle = record { tables = tt; others = λ g inside work. let off = idle g inside in cc }
-
-module _ (stays : AloneStays) (v w : PortValue) (f owner level : ℕ) (answers : List Bool) (alone : IsAlone v) (idle : IsNothingInWork v.post.machine (told_word v)) (alive : AreAllAlive v.post.machine (told_word v)) where
+-- ---- as it is said of words: whatever is in work beforehand, in whose hand ever
+module _ (stays : AloneStays) (v w : PortValue) (f owner level : ℕ) (answers : List Bool) (alone : IsAlone v) (alive : AreAllAlive v.post.machine (told_word v)) where
   leads : (x : Pause) → Acquired v f owner level w answers (Err (Paused x)) → Leads v.post.machine v w (Err (Paused x))
-  leads x a = acquired_led stays v.post.machine f owner level v (record { alone = alone; machine = refl }) (idle_works v.post.machine (told_word v) idle) alive w answers (Err (Paused x)) a tt
+  leads x a = acquired_led stays v.post.machine f owner level v (record { alone = alone; machine = refl }) tt alive w answers (Err (Paused x)) a tt
 
   pub goes_forward : (x : Pause) → Acquired v f owner level w answers (Err (Paused x)) → GoesForward v.post.machine (told_word v) (told_word w)
   goes_forward x a = let g = (leads x a).moved.goes in record { ranks = λ h inside. g.ranks h; counts = λ h inside live. g.counts h live; olds = g.olds }

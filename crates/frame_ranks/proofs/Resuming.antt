@@ -1,27 +1,24 @@
 -- The last recorded entry of a table, looked at again, by what is answered.
-use Rattle.std.proofs.Common.{◌≡◌, ℕ, ◌<◌, ◌&&◌, nat_lt, Bool, true, false, List, Option, Some, None, Ok, Err, IsTrue, refl, sym, ap, ◌∙◌, subst, arith}
+use Rattle.std.proofs.Common.{◌≡◌, ℕ, ◌<◌, ◌&&◌, nat_lt, Bool, true, false, List, Option, Some, None, Ok, Err, refl, sym, ap, ◌∙◌, subst, arith}
 use Rattle.std.proofs.lemmas.Bool.Decides.{nat_tests}
-use Rattle.xp_words.specs.KindWords.{is_kind}
 use Rattle.xp_words.specs.Machine.{Machine}
 use Rattle.xp_words.specs.declared.entry.Demand.{Demand}
 use Rattle.xp_words.specs.declared.entry.Demand.TheVariants as demands
-use Rattle.xp_words.specs.declared.kind.KindWord.{KindWord}
 use Rattle.xp_words.specs.declared.kind.PageType.{PageType}
 use Rattle.xp_words.specs.declared.place.Place.TheVariants.{Kind, Refs}
 use Rattle.xp_words.specs.declared.reply.Pause.{Pause}
 use Rattle.xp_words.specs.declared.reply.Refusal.{Refusal}
 use Rattle.xp_words.specs.declared.reply.Stop.{Stop}
 use Rattle.xp_words.specs.declared.reply.Stop.TheVariants.{Paused}
-use Rattle.xp_board.specs.Readings.{is_live_word, is_work, kind_at}
+use Rattle.xp_board.specs.Readings.{is_live_word, kind_at}
 use Rattle.xp_board.specs.Told.{PortValue, told_word}
 use Rattle.step_maker.specs.Plain.{Leaves, Words}
 use Rattle.frame_words.specs.Plain.{got, put, refer}
 use Rattle.partial_state.specs.declared.stack.TableWork.{TableWork}
-use Rattle.table_entries.specs.Plain.{AgainBy, AgainWhere, ResumesPlainly, TypesAgain}
-use Rattle.table_entries.specs.declared.resuming.Resumed.{Resumed}
+use Rattle.table_entries.specs.Plain.{AgainBy, AgainWhere, ResumesPlainly}
 use Rattle.table_entries.specs.declared.resuming.Resumed.TheVariants as again
 use Rattle.frame_ranks.proofs.Entering.{IsSpelled, Opening, Retaken, Rewaiting, live_before, refer_inside, work_before}
-use Rattle.frame_ranks.proofs.Facing.{Calm, Turned, calm_then, calm_turned, got_calm, put_calm, same_calm}
+use Rattle.frame_ranks.proofs.Facing.{calm_then, calm_turned, got_calm, put_calm, same_calm}
 use Rattle.frame_ranks.proofs.Taking.{takes_live, takes_wait, takes_work}
 use Rattle.frame_ranks.proofs.Turning.{calm_moved}
 use Rattle.frame_ranks.proofs.Valuing.{Moved, Works}

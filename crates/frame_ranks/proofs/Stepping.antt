@@ -1,22 +1,20 @@
 -- Single steps of a course, as changes of one frame: references given back, tables made live, and tables left.
-use Rattle.std.proofs.Common.{◌≡◌, ℕ, ◌+◌, ◌-◌, ◌<◌, ◌≤◌, ◌^◌, Bool, true, false, List, [], ◌∷◌, Option, Some, None, IsTrue, refl, sym, ap, ◌∙◌, subst, arith}
+use Rattle.std.proofs.Common.{◌≡◌, ℕ, ◌-◌, ◌<◌, ◌≤◌, ◌^◌, Bool, true, false, List, [], ◌∷◌, Option, Some, None, refl, sym, ap, ◌∙◌, subst, arith}
 use Rattle.xp_words.specs.KindWords.{kind_fields, kind_write}
 use Rattle.xp_words.specs.declared.kind.KindWord.{KindWord}
 use Rattle.xp_words.specs.declared.kind.PageType.{PageType}
-use Rattle.xp_words.specs.declared.place.Place.TheVariants.{Clock, Kind, Refs}
+use Rattle.xp_words.specs.declared.place.Place.TheVariants.{Clock, Kind}
 use Rattle.xp_board.specs.declared.step.Act.TheVariants.{Add, Store}
 use Rattle.xp_board.specs.Acts.{left_by}
 use Rattle.xp_board.specs.Lists.{EachOf}
 use Rattle.xp_board.specs.RefSteps.{one_down}
 use Rattle.xp_board.specs.Told.{PortValue, is_telling, told_word}
 use Rattle.board_lemmas.proofs.KindForms.{fields_down}
-use Rattle.step_maker.specs.Moves.{Came, Moment, Ran}
-use Rattle.step_maker.specs.Plain.{Words}
+use Rattle.step_maker.specs.Moves.{Moment, Ran}
 use Rattle.step_maker.proofs.Coming.{moves_came}
 use Rattle.step_maker.proofs.Telling.{came_telling}
-use Rattle.answer_fits.specs.Visits.{Does, Only, Then, Visit, visit, visits}
+use Rattle.answer_fits.specs.Visits.{Does, Only, Visit, visit, visits}
 use Rattle.answer_fits.proofs.Piecing.{each_append}
-use Rattle.answer_fits.proofs.Visiting.{does_came}
 use Rattle.frame_words.specs.Freeing.{FreesBy, PutBy, lowers_refs}
 use Rattle.kind_words.specs.Kinds.{live_kind, partial_kind}
 use Rattle.frame_types.specs.Found.{SharedBy, StoresKind}
@@ -24,7 +22,7 @@ use Rattle.partial_state.specs.Levels.{level_type}
 use Rattle.partial_state.specs.declared.stack.TableWork.{TableWork}
 use Rattle.table_courses.specs.Acquiring.{GaveBack, GaveRef, Joined, LeftPartial, MadeLive, type_counts}
 use Rattle.frame_ranks.proofs.Parts.{does_only, does_parts, does_with}
-use Rattle.frame_ranks.proofs.Facing.{Calm, Turned, at_kind, calm_then, is_quiet, load_calm, quiet_calm, same_calm, self_calm, store_turned, turned_calm, turned_twice}
+use Rattle.frame_ranks.proofs.Facing.{Calm, Turned, at_kind, calm_then, is_quiet, load_calm, quiet_calm, same_calm, store_turned, turned_calm, turned_twice}
 use Rattle.frame_ranks.proofs.Reading.{written}
 
 -- ---- lists of steps that are at no kind word, old word or life word

@@ -1,7 +1,7 @@
 -- A type is taken of a frame: the frame was not in work, and is as far as before, or further.
-use Rattle.std.proofs.Common.{◌≡◌, ℕ, ◌+◌, ◌<◌, ◌≤◌, ◌^◌, ◌==◌, ◌&&◌, not, if◌then◌else◌, Bool, true, false, Some, None, IsTrue, refl, sym, ap, ◌∙◌, subst, arith}
+use Rattle.std.proofs.Common.{◌≡◌, ℕ, ◌+◌, ◌<◌, ◌≤◌, ◌^◌, ◌==◌, ◌&&◌, not, if◌then◌else◌, Bool, true, false, None, IsTrue, refl, ap, ◌∙◌, arith}
 use Rattle.std.proofs.lemmas.Bool.Decides.{nat_tests}
-use Rattle.xp_words.specs.KindWords.{has_form, is_kind, kind_fields, kind_write}
+use Rattle.xp_words.specs.KindWords.{has_form, is_kind, kind_fields}
 use Rattle.xp_words.specs.declared.kind.KindWord.{KindWord}
 use Rattle.xp_words.specs.declared.kind.PageType.{PageType}
 use Rattle.xp_words.specs.declared.place.Place.TheVariants.{Kind}
@@ -12,7 +12,7 @@ use Rattle.step_maker.specs.Plain.{Words}
 use Rattle.answer_fits.specs.Twins.{Alike}
 use Rattle.kind_words.specs.Kinds.{live_kind, partial_kind}
 use Rattle.frame_words.specs.Plain.{put}
-use Rattle.frame_types.specs.Plain.{IsTakenBy, is_own, less_kept, set_kind, stop_by, taken_by, type_stop, type_waits, waits_by, work_by, work_unmarked}
+use Rattle.frame_types.specs.Plain.{IsTakenBy, less_kept, set_kind, stop_by, taken_by, type_stop, type_waits, waits_by, work_unmarked}
 use Rattle.frame_types.specs.Standing.{is_same_type, standing_of}
 use Rattle.frame_types.specs.Taking.{progress_of}
 use Rattle.frame_types.specs.declared.standing.Standing.{Standing}
@@ -71,7 +71,7 @@ module _ (k : KindWord) where
     pub rank_within : k.partial ≡ true → rank_of k ≤ k.progress + 2
     rank_within some = let e = rank_partial some in let b = rank_by k.unflushed in omega arith
 
-pub idle_live : (k : KindWord) → k.validated ≡ true → is_work k ≡ false
+idle_live : (k : KindWord) → k.validated ≡ true → is_work k ≡ false
 idle_live k live = ap (λ b. not b && (not k.partial && k.locked)) live
 
 idle_partial : (k : KindWord) → k.validated ≡ false → k.partial ≡ true → is_work k ≡ false
@@ -98,7 +98,6 @@ pub record TakenLive (m x : Words) (f : ℕ) : Type 0 where
   pub word : KindWord
   pub turned : Turned m x f word
   pub live : word.validated ≡ true
-  pub calm : is_work word ≡ false
   pub idle : is_work (kind_at m f) ≡ false
   pub more : rank_at m f ≤ rank_of word
   pub lasts : Lasts (kind_at m f) word
@@ -117,7 +116,6 @@ made_live m x f want s c small off idle low alike =
       word = l;
       turned = turned_calm m (set_kind f l (less_kept f k s m)) x f l (calm_turned m (less_kept f k s m) (set_kind f l (less_kept f k s m)) f l (less_calm f k s m) (set_turned f l (less_kept f k s m) (written l small (omega arith)))) (alike_calm _ x alike);
       live = refl;
-      calm = refl;
       idle = idle;
       more = omega arith;
       lasts = dead_lasts k l off;
@@ -139,7 +137,6 @@ counted_by m x f want stands.Counted is so free alike =
       word = l;
       turned = turned_calm m (set_kind f l m) x f l (set_turned f l m (written l small.0 small.1)) (alike_calm _ x alike);
       live = so;
-      calm = idle_live l so;
       idle = idle_live k so;
       more = omega arith;
       lasts = λ live. (so, omega arith);

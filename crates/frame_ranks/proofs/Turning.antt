@@ -1,5 +1,5 @@
 -- One frame is changed: none falls, and the tables in work are those again.
-use Rattle.std.proofs.Common.{◌≡◌, ◌≢◌, ◌⊎◌, ℕ, ◌+◌, ◌<◌, ◌≤◌, ◌==◌, Bool, true, false, List, [], ◌∷◌, refl, sym, ap, ◌∙◌, subst, inl, inr, arith}
+use Rattle.std.proofs.Common.{◌≡◌, ◌≢◌, ◌⊎◌, ℕ, ◌+◌, ◌<◌, ◌≤◌, ◌==◌, Bool, true, false, List, [], ◌∷◌, refl, sym, ◌∙◌, subst, inl, inr, arith}
 use Rattle.std.proofs.lemmas.Bool.Decides.{nat_tests}
 use Rattle.xp_words.specs.Machine.{Machine}
 use Rattle.xp_words.specs.declared.kind.KindWord.{KindWord}
@@ -7,10 +7,10 @@ use Rattle.xp_board.specs.Readings.{is_work, kind_at}
 use Rattle.step_maker.specs.Plain.{Words}
 use Rattle.partial_state.specs.declared.stack.TableWork.{TableWork}
 use Rattle.table_courses.specs.Acquiring.{one_entry_more}
-use Rattle.course_laws.proofs.Under.{IsIn, IsOff}
+use Rattle.course_laws.proofs.Under.{IsOff}
 use Rattle.frame_ranks.specs.Ranks.{rank_at, rank_of}
 use Rattle.frame_ranks.proofs.Facing.{Calm, Turned, same_live, same_number, same_rank, same_work}
-use Rattle.frame_ranks.proofs.Valuing.{AllInWork, Further, Goes, InWork, Moved, Works, idle_off, with_done, worth, worth_at, worth_done, worth_more, worth_off}
+use Rattle.frame_ranks.proofs.Valuing.{Further, Goes, Moved, Works, idle_off, worth, worth_at, worth_done, worth_more, worth_off}
 
 -- the one frame, or another
 either : (f g : ℕ) → (f ≡ g) ⊎ (f ≢ g)
@@ -48,16 +48,12 @@ module _ (n : Machine) (m x : Words) (ts : List TableWork) (calm : Calm m x) whe
         lives = calm.lives;
       }
 
-  calm_all : (us : List TableWork) → AllInWork n m us → AllInWork n x us
+  calm_all : (us : List TableWork) → Works n m us → Works n x us
   calm_all [] all = tt
   calm_all (t ∷ us) all = (record { inside = all.0.inside; work = same_work (kind_at x t.frame) (kind_at m t.frame) (calm.faces t.frame) ∙ all.0.work; few = all.0.few }, all.1, calm_all us all.2)
 
   pub calm_moved : Works n m ts → Moved n m ts x ts
-  calm_moved w =
-      record {
-        works = record { tables = calm_all ts w.tables; others = λ f inside work. w.others f inside (sym (same_work (kind_at x f) (kind_at m f) (calm.faces f)) ∙ work) };
-        goes = calm_goes;
-      }
+  calm_moved w = record { works = calm_all ts w; goes = calm_goes }
 
 -- ---- frame g is
 module _ (n : Machine) (m x : Words) (g : ℕ) (k : KindWord) (turned : Turned m x g k) where
@@ -70,7 +66,7 @@ module _ (n : Machine) (m x : Words) (g : ℕ) (k : KindWord) (turned : Turned m
   work_there : (f : ℕ) → f ≢ g → is_work (kind_at x f) ≡ is_work (kind_at m f)
   work_there f off = same_work (kind_at x f) (kind_at m f) (turned.others f off)
 
-  pub others_in : (us : List TableWork) → IsOff us g → AllInWork n m us → AllInWork n x us
+  others_in : (us : List TableWork) → IsOff us g → Works n m us → Works n x us
   others_in [] off all = tt
   others_in (t ∷ us) off all = (record { inside = all.0.inside; work = work_there t.frame off.0 ∙ all.0.work; few = all.0.few }, all.1, others_in us off.1 all.2)
 
@@ -96,71 +92,51 @@ module _ (n : Machine) (m x : Words) (g : ℕ) (k : KindWord) (turned : Turned m
   further_by : (ts us : List TableWork) → g < n.frames → worth ts g (rank_at m g) < worth us g (rank_of k) → Further n m ts x us
   further_by ts us inside higher = record { frame = g; real = inside; higher = subst (λ r. worth ts g (rank_at m g) < worth us g r) (sym rank_here) higher }
 
-  others_by : (ts us : List TableWork) → Works n m ts → (is_work k ≡ true → IsIn us g) → ((f : ℕ) → f ≢ g → IsIn ts f → IsIn us f) → (f : ℕ) → f < n.frames → is_work (kind_at x f) ≡ true → IsIn us f
-  others_by ts us w here there f inside work = elim (either f g) [
-    | inl at ↦ subst (IsIn us) (sym at) (here (sym (same_work (kind_at x g) k turned.here) ∙ subst (λ h. is_work (kind_at x h) ≡ true) at work))
-    | inr off ↦ there f off (w.others f inside (sym (work_there f off) ∙ work))
-  ]
-
   -- beside all tables in work, before and after
   module _ (ts : List TableWork) (w : Works n m ts) (idle : is_work (kind_at m g) ≡ false) where
     off_all : IsOff ts g
-    off_all = idle_off n m ts g w.tables idle
+    off_all = idle_off n m ts g w idle
 
-    module _ (calm : is_work k ≡ false) where
-      pub beside : rank_at m g ≤ rank_of k → Lasts (kind_at m g) k → Moved n m ts x ts
-      beside more lasts =
-          record {
-            works = record { tables = others_in ts off_all w.tables; others = others_by ts ts w (λ on. absurd cc) (λ f off one. one) };
-            goes = goes_by ts ts lasts (let a = worth_off ts g (rank_at m g) off_all in let b = worth_off ts g (rank_of k) off_all in omega arith) (λ f r off. omega arith);
-          }
+    pub beside : rank_at m g ≤ rank_of k → Lasts (kind_at m g) k → Moved n m ts x ts
+    beside more lasts =
+        record {
+          works = others_in ts off_all w;
+          goes = goes_by ts ts lasts (let a = worth_off ts g (rank_at m g) off_all in let b = worth_off ts g (rank_of k) off_all in omega arith) (λ f r off. omega arith);
+        }
 
-      pub beside_further : g < n.frames → rank_at m g < rank_of k → Further n m ts x ts
-      beside_further inside higher = further_by ts ts inside (let a = worth_off ts g (rank_at m g) off_all in let b = worth_off ts g (rank_of k) off_all in omega arith)
+    pub beside_further : g < n.frames → rank_at m g < rank_of k → Further n m ts x ts
+    beside_further inside higher = further_by ts ts inside (let a = worth_off ts g (rank_at m g) off_all in let b = worth_off ts g (rank_of k) off_all in omega arith)
 
     -- it comes into work, as the innermost
-    pub into : (t : TableWork) (us : List TableWork) → t.frame ≡ g → g < n.frames → t.done ≤ 512 → is_work k ≡ true → (kind_at m g).validated ≡ false → rank_at m g ≤ t.done + 2 → IsOff us g → AllInWork n m us →
-        ((f r : ℕ) → f ≢ g → worth ts f r ≤ worth (t ∷ us) f r) → ((f : ℕ) → IsIn ts f → IsIn us f) → Moved n m ts x (t ∷ us)
-    into t us at inside few work dead low off all more within =
+    pub into : (t : TableWork) (us : List TableWork) → t.frame ≡ g → g < n.frames → t.done ≤ 512 → is_work k ≡ true → (kind_at m g).validated ≡ false → rank_at m g ≤ t.done + 2 → IsOff us g → Works n m us →
+        ((f r : ℕ) → f ≢ g → worth ts f r ≤ worth (t ∷ us) f r) → Moved n m ts x (t ∷ us)
+    into t us at inside few work dead low off all more =
         let here : worth (t ∷ us) g (rank_of k) ≡ t.done + 2 = subst (λ h. worth (t ∷ us) h (rank_of k) ≡ t.done + 2) at (worth_at t us (rank_of k)) in
         record {
-          works = record {
-            tables = (record { inside = subst (λ h. h < n.frames) (sym at) inside; work = subst (λ h. is_work (kind_at x h) ≡ true) (sym at) (same_work (kind_at x g) k turned.here ∙ work); few = few }, subst (IsOff us) (sym at) off, others_in us off all);
-            others = others_by ts (t ∷ us) w (λ on. inl at) (λ f apart one. inr (within f one));
-          };
+          works = (record { inside = subst (λ h. h < n.frames) (sym at) inside; work = subst (λ h. is_work (kind_at x h) ≡ true) (sym at) (same_work (kind_at x g) k turned.here ∙ work); few = few }, subst (IsOff us) (sym at) off, others_in us off all);
           goes = goes_by ts (t ∷ us) (dead_lasts (kind_at m g) k dead) (let a = worth_off ts g (rank_at m g) off_all in omega arith) more;
         }
 
   -- the innermost table's frame goes out of work
-  module _ (t : TableWork) (ts us : List TableWork) (at : t.frame ≡ g) (w : Works n m (t ∷ ts)) (calm : is_work k ≡ false) (off : IsOff us g) where
+  module _ (t : TableWork) (ts us : List TableWork) (at : t.frame ≡ g) (w : Works n m (t ∷ ts)) (off : IsOff us g) where
     was_at : worth (t ∷ ts) g (rank_at m g) ≡ t.done + 2
     was_at = subst (λ h. worth (t ∷ ts) h (rank_at m g) ≡ t.done + 2) at (worth_at t ts (rank_at m g))
 
-    pub out : AllInWork n m us → t.done + 2 ≤ rank_of k → ((f r : ℕ) → f ≢ g → worth (t ∷ ts) f r ≤ worth us f r) → ((f : ℕ) → IsIn ts f → IsIn us f) → Moved n m (t ∷ ts) x us
-    out all low more within =
+    pub out : Works n m us → t.done + 2 ≤ rank_of k → ((f r : ℕ) → f ≢ g → worth (t ∷ ts) f r ≤ worth us f r) → Moved n m (t ∷ ts) x us
+    out all low more =
         record {
-          works = record {
-            tables = others_in us off all;
-            others = others_by (t ∷ ts) us w (λ on. absurd cc) (λ f apart one. elim one [ inl is ↦ absurd (apart (sym is ∙ at)) | inr there ↦ within f there ]);
-          };
-          goes = goes_by (t ∷ ts) us (dead_lasts (kind_at m g) k (working_dead (kind_at m g) (subst (λ h. is_work (kind_at m h) ≡ true) at w.tables.0.work)))
+          works = others_in us off all;
+          goes = goes_by (t ∷ ts) us (dead_lasts (kind_at m g) k (working_dead (kind_at m g) (subst (λ h. is_work (kind_at m h) ≡ true) at w.0.work)))
               (let a = worth_off us g (rank_of k) off in let b = was_at in omega arith) more;
         }
 
     pub out_further : t.done + 2 < rank_of k → Further n m (t ∷ ts) x us
-    out_further high = further_by (t ∷ ts) us (subst (λ h. h < n.frames) at w.tables.0.inside) (let a = worth_off us g (rank_of k) off in let b = was_at in omega arith)
+    out_further high = further_by (t ∷ ts) us (subst (λ h. h < n.frames) at w.0.inside) (let a = worth_off us g (rank_of k) off in let b = was_at in omega arith)
 
 -- ---- an entry more is done with
 module _ (n : Machine) (m : Words) (t : TableWork) (ts : List TableWork) (w : Works n m (t ∷ ts)) where
-  more_all : t.done < 512 → AllInWork n m (one_entry_more t ∷ ts)
-  more_all few = let b = w.tables.0 in (record { inside = b.inside; work = b.work; few = omega arith }, w.tables.1, w.tables.2)
-
-  pub more_in : (f : ℕ) → IsIn (t ∷ ts) f → IsIn (one_entry_more t ∷ ts) f
-  more_in f (inl is) = inl is
-  more_in f (inr one) = inr one
-
   pub more_works : t.done < 512 → Works n m (one_entry_more t ∷ ts)
-  more_works few = record { tables = more_all few; others = λ f inside work. more_in f (w.others f inside work) }
+  more_works few = let b = w.0 in (record { inside = b.inside; work = b.work; few = omega arith }, w.1, w.2)
 
   pub entry_moved : t.done < 512 → Moved n m (t ∷ ts) m (one_entry_more t ∷ ts)
   entry_moved few =
@@ -173,6 +149,6 @@ module _ (n : Machine) (m : Words) (t : TableWork) (ts : List TableWork) (w : Wo
   entry_further =
       record {
         frame = t.frame;
-        real = w.tables.0.inside;
+        real = w.0.inside;
         higher = (let a = worth_at t ts (rank_at m t.frame) in let b = worth_at (one_entry_more t) ts (rank_at m t.frame) in omega arith);
       }

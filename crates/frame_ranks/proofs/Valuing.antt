@@ -1,8 +1,7 @@
 -- How far frames have come while tables are in work: a table in work as far as it would be left.
-use Rattle.std.proofs.Common.{◌≡◌, ◌≢◌, ◌⊎◌, ℕ, ◌+◌, ◌-◌, ◌<◌, ◌≤◌, ◌==◌, ◌||◌, if◌then◌else◌, Bool, true, false, List, [], ◌∷◌, refl, sym, ap, ◌∙◌, subst, inl, inr, arith}
+use Rattle.std.proofs.Common.{◌≡◌, ◌≢◌, ℕ, ◌+◌, ◌-◌, ◌<◌, ◌≤◌, ◌==◌, ◌||◌, if◌then◌else◌, Bool, true, false, List, [], ◌∷◌, refl, sym, ap, ◌∙◌, subst, arith}
 use Rattle.std.proofs.lemmas.Bool.Decides.{nat_tests}
 use Rattle.xp_words.specs.Machine.{Machine}
-use Rattle.xp_words.specs.declared.kind.KindWord.{KindWord}
 use Rattle.xp_words.specs.declared.place.Place.TheVariants.{Life}
 use Rattle.xp_board.specs.Readings.{is_work, kind_at}
 use Rattle.step_maker.specs.Plain.{Words}
@@ -10,9 +9,8 @@ use Rattle.partial_state.specs.declared.stack.TableWork.{TableWork}
 use Rattle.table_courses.specs.Acquiring.{around_left, one_entry_more}
 use Rattle.table_words.specs.OldWords.{old_place}
 use Rattle.table_words.specs.declared.old_words.OldWord.{OldWord}
-use Rattle.course_laws.proofs.Under.{IsIn, IsOff, in_off}
-use Rattle.frame_ranks.specs.Ranks.{rank_at, rank_of}
-use Rattle.frame_ranks.proofs.Facing.{Calm, Turned, same_live, same_number, same_rank, same_work}
+use Rattle.course_laws.proofs.Under.{IsOff}
+use Rattle.frame_ranks.specs.Ranks.{rank_at}
 
 -- ---- the rank of a frame whose own word has rank r, with these tables in work: what it is once all are left
 abbrev pub worth_of : TableWork → List TableWork → ℕ → ℕ → ℕ
@@ -128,21 +126,17 @@ further_then n m ts x us y xs a b = record { frame = a.frame; real = a.real; hig
 pub then_further : (n : Machine) (m : Words) (ts : List TableWork) (x : Words) (us : List TableWork) (y : Words) (xs : List TableWork) → Goes m ts x us → Further n x us y xs → Further n m ts y xs
 then_further n m ts x us y xs a b = record { frame = b.frame; real = b.real; higher = (let p = b.higher in let q = a.ranks b.frame in omega arith) }
 
--- ---- these tables are in work, and no other frame is
+-- ---- these tables are in work, each frame once
 pub record InWork (n : Machine) (m : Words) (t : TableWork) : Type 0 where
   pub inside : t.frame < n.frames
   pub work : is_work (kind_at m t.frame) ≡ true
   pub few : t.done ≤ 512
 
-abbrev pub AllInWork : Machine → Words → List TableWork → Type 0
-AllInWork n m [] = Unit {0}
-AllInWork n m (t ∷ ts) = InWork n m t × IsOff ts t.frame × AllInWork n m ts
+abbrev pub Works : Machine → Words → List TableWork → Type 0
+Works n m [] = Unit {0}
+Works n m (t ∷ ts) = InWork n m t × IsOff ts t.frame × Works n m ts
 
-pub record Works (n : Machine) (m : Words) (ts : List TableWork) : Type 0 where
-  pub tables : AllInWork n m ts
-  pub others : (f : ℕ) → f < n.frames → is_work (kind_at m f) ≡ true → IsIn ts f
-
-pub idle_off : (n : Machine) (m : Words) (ts : List TableWork) (g : ℕ) → AllInWork n m ts → is_work (kind_at m g) ≡ false → IsOff ts g
+pub idle_off : (n : Machine) (m : Words) (ts : List TableWork) (g : ℕ) → Works n m ts → is_work (kind_at m g) ≡ false → IsOff ts g
 idle_off n m [] g all idle = tt
 idle_off n m (t ∷ ts) g all idle = (λ e. let k = subst (λ f. is_work (kind_at m f) ≡ true) e all.0.work in cc, idle_off n m ts g all.2 idle)
 
