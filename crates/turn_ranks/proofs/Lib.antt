@@ -9,3 +9,6 @@ pub mod Unlocking
 pub mod Updating
 pub mod Waiting
 pub mod Performing
+pub mod Settled
+pub mod Owners
+pub mod Staying
