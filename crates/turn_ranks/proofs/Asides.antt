@@ -1,12 +1,12 @@
 -- Steps that change no word of which ranks, old words and lives are read: loads, and steps at other words.
-use Rattle.std.proofs.Common.{◌≡◌, ℕ, ◌/◌, if◌then◌else◌, not, Bool, true, false, List, [], ◌∷◌, ◌++◌, Option, None, Ok, refl, sym, ap, ◌∙◌, subst}
+use Rattle.std.proofs.Common.{◌≡◌, ℕ, ◌/◌, if◌then◌else◌, not, Bool, true, false, List, [], ◌∷◌, ◌++◌, Option, Ok, refl, sym, ap, ◌∙◌}
 use Rattle.xp_words.specs.declared.place.Place.{Place}
 use Rattle.xp_words.specs.declared.place.Place.TheVariants.{Map, Pages, Refs}
-use Rattle.xp_words.specs.RefWords.{ref_read, ref_write}
+use Rattle.xp_words.specs.RefWords.{ref_write}
 use Rattle.xp_words.specs.declared.refs.RefWord.TheVariants.{Free}
 use Rattle.xp_board.specs.Acts.{left_by}
 use Rattle.xp_board.specs.HintSteps.{map_bit}
-use Rattle.xp_board.specs.Readings.{owner_of, ref_count}
+use Rattle.xp_board.specs.Readings.{owner_of}
 use Rattle.xp_board.specs.RefSteps.{one_down, owner_number}
 use Rattle.xp_board.specs.Steps.{is_same}
 use Rattle.xp_board.specs.Told.{PortValue, is_telling, told_word}

@@ -1,20 +1,19 @@
 -- What lets no frame fall back, one behind the other; and steps that change no word of which that is said.
-use Rattle.std.proofs.Common.{◌≡◌, ◌≢◌, ◌⊎◌, ℕ, ◌<◌, ◌≤◌, ◌==◌, ◌||◌, Bool, true, false, refl, sym, ap, ◌∙◌, subst, inl, inr, arith}
+use Rattle.std.proofs.Common.{◌≡◌, ◌≢◌, ◌⊎◌, ℕ, ◌≤◌, ◌==◌, ◌||◌, Bool, true, false, refl, sym, ap, ◌∙◌, subst, inl, inr, arith}
 use Rattle.xp_words.specs.KindWords.{kind_fields}
 use Rattle.xp_words.specs.Machine.{Machine}
-use Rattle.xp_words.specs.Places.{sizes_of}
 use Rattle.xp_words.specs.declared.kind.KindWord.{KindWord}
 use Rattle.xp_words.specs.declared.place.Place.{Place}
 use Rattle.xp_words.specs.declared.place.Place.TheVariants.{Kind, Life, Vcpu}
 use Rattle.xp_words.specs.declared.reply.Pause.{Pause}
 use Rattle.xp_words.specs.declared.reply.Pause.TheVariants.{Due}
-use Rattle.xp_board.specs.Readings.{is_work, kind_at}
+use Rattle.xp_board.specs.Readings.{kind_at}
 use Rattle.step_maker.specs.Plain.{Words}
 use Rattle.answer_fits.specs.Twins.{Alike, IsAlikeKind}
 use Rattle.table_words.specs.OldWords.{old_place}
 use Rattle.table_words.specs.declared.old_words.OldWord.{OldWord}
 use Rattle.table_words.specs.declared.old_words.OldWord.TheVariants.{First, Second}
-use Rattle.frame_ranks.specs.Ranks.{GetsFurther, GoesForward, rank_at, rank_of}
+use Rattle.frame_ranks.specs.Ranks.{GetsFurther, GoesForward, rank_of}
 
 -- ---- the words of which it is said, and lives
 abbrev pub is_ranked : Place → Bool

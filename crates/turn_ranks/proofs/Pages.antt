@@ -1,5 +1,5 @@
 -- What a call is paused for that takes a reference, ordinary memory or a table, and that no frame falls back then.
-use Rattle.std.proofs.Common.{◌≡◌, ◌≢◌, ℕ, Bool, true, false, List, Some, Result, Ok, Err, refl, sym, ◌∙◌, subst}
+use Rattle.std.proofs.Common.{◌≡◌, ◌≢◌, ℕ, Bool, true, false, List, Result, Ok, Err, refl, sym, ◌∙◌, subst}
 use Rattle.xp_words.specs.Machine.{Machine}
 use Rattle.xp_words.specs.declared.kind.PageType.TheVariants.{Writable}
 use Rattle.xp_words.specs.declared.place.Place.TheVariants.{Kind}
@@ -13,7 +13,7 @@ use Rattle.answer_fits.proofs.Visiting.{does_came}
 use Rattle.flush_waits.specs.Waiting.{IsWait}
 use Rattle.frame_types.specs.declared.taking.Taken.TheVariants as types
 use Rattle.kind_words.specs.Kinds.{partial_kind}
-use Rattle.table_courses.specs.Acquiring.{Acquired, GaveRef, GotRef, TookType}
+use Rattle.table_courses.specs.Acquiring.{Acquired, GotRef, TookType}
 use Rattle.writable_pages.specs.Pages as pages
 use Rattle.writable_pages.specs.Pages.{GotPage, LeftPage, PageLeft, TookPage}
 use Rattle.turn_laws.specs.Unhindered.{IsUnhindered}

@@ -1,5 +1,5 @@
 -- What the element before left unfinished is settled first: where no old word names a frame, that leaves all words as they were, and pauses for nothing.
-use Rattle.std.proofs.Common.{◌≡◌, ◌≢◌, ℕ, ◌+◌, ◌==◌, if◌then◌else◌, Bool, true, List, Option, None, Result, Ok, Err, refl, sym, ap, ◌∙◌, subst, arith}
+use Rattle.std.proofs.Common.{◌≡◌, ℕ, ◌+◌, Bool, true, List, Option, None, Result, Ok, Err, refl, sym, ap, ◌∙◌, subst, arith}
 use Rattle.std.proofs.lemmas.Bool.Decides.{nat_tests}
 use Rattle.xp_words.specs.Machine.{Machine}
 use Rattle.xp_words.specs.declared.place.Place.{Place}
@@ -23,7 +23,7 @@ use Rattle.vcpu_turn.specs.Settling as settling
 use Rattle.vcpu_turn.specs.Settling.{Settles, SettlesFirst}
 use Rattle.frame_ranks.specs.Ranks.{AreAllAlive}
 use Rattle.turn_measures.specs.Measures.{bit_named, olds_named}
-use Rattle.turn_ranks.proofs.Forward.{Still, old_ranked, still_all}
+use Rattle.turn_ranks.proofs.Forward.{Still, still_all}
 use Rattle.turn_ranks.proofs.Asides.{Passes, moves_passes}
 use Rattle.turn_ranks.proofs.Calm.{IsCalm, alive_on, idle_alone}
 use Rattle.turn_ranks.proofs.Pages.{ComesBy, for_from}

@@ -1,8 +1,7 @@
 -- An element of `mmu_update` that is paused: no frame falls back.
-use Rattle.std.proofs.Common.{◌≡◌, ◌≢◌, ℕ, ◌<◌, Bool, true, false, List, Option, Result, Ok, Err, refl, sym, ap, ◌∙◌, subst}
+use Rattle.std.proofs.Common.{◌≡◌, ℕ, ◌<◌, Bool, true, List, Option, Result, Ok, Err, refl, sym, ◌∙◌, subst}
 use Rattle.xp_words.specs.Machine.{Machine}
 use Rattle.xp_words.specs.declared.entry.Demand.{Demand}
-use Rattle.xp_words.specs.declared.place.Place.TheVariants.{Kind, Refs}
 use Rattle.xp_words.specs.declared.reply.Pause.{Pause}
 use Rattle.xp_words.specs.declared.reply.Pause.TheVariants.{Due, Lost, Busy, Flush, Alive}
 use Rattle.xp_words.specs.declared.reply.Refusal.{Refusal}
@@ -10,7 +9,7 @@ use Rattle.xp_words.specs.declared.reply.Stop.{Stop}
 use Rattle.xp_words.specs.declared.reply.Stop.TheVariants.{Refused, Paused}
 use Rattle.xp_board.specs.Told.{PortValue, is_telling, told_word}
 use Rattle.step_maker.specs.Plain.{Words}
-use Rattle.step_maker.proofs.Coming.{moves_came, came_trans}
+use Rattle.step_maker.proofs.Coming.{came_trans}
 use Rattle.step_maker.proofs.Telling.{came_telling}
 use Rattle.answer_fits.specs.Twins.{AnswersAs}
 use Rattle.answer_fits.proofs.Visiting.{does_came}
@@ -29,11 +28,11 @@ use Rattle.exchange_laws.proofs.Going.{demand_came}
 use Rattle.turn_laws.specs.Unhindered.{IsUnhindered}
 use Rattle.vcpu_turn.specs.declared.cpu.TurnEnd.TheVariants as ends
 use Rattle.course_laws.proofs.Awaiting.{AloneStays}
-use Rattle.table_courses.specs.Acquiring.{GaveRef, GotRef}
+use Rattle.table_courses.specs.Acquiring.{GotRef}
 use Rattle.turn_ranks.proofs.Forward.{still_all}
 use Rattle.turn_ranks.proofs.Asides.{Passes, moves_passes, passes_then, ref_passes}
 use Rattle.turn_ranks.proofs.Calm.{AcquiredForward, AcquiredFurther, IsCalm, alive_on, calm_on, calm_telling, same_machine}
-use Rattle.turn_ranks.proofs.Locking.{HasRoom, IsLocked}
+use Rattle.turn_ranks.proofs.Locking.{IsLocked}
 use Rattle.turn_ranks.proofs.Pages.{ComesBy, ComesFor, acquired_for, for_from, is_lost, never_for, page_for, took_page_for, unreferred_for}
 use Rattle.turn_ranks.proofs.Unlocking.{locked_calm, locked_machine, locked_words, room, under_lock}
 
