@@ -17,7 +17,7 @@ use Rattle.xp_board.specs.declared.step.StepKind.{StepKind}
 use Rattle.board_lemmas.proofs.PlaceTests.{is_same-other, same_place}
 use Rattle.step_maker.specs.Moves.{Came, Moment, Moves, Ran}
 use Rattle.step_maker.specs.Plain.{Leaves, Words, change}
-use Rattle.step_maker.proofs.Coming.{came_self, came_trans, moves_came}
+use Rattle.step_maker.proofs.Coming.{came_trans, moves_came}
 use Rattle.step_maker.proofs.Telling.{by_test, changed, leaves, ran_telling}
 use Rattle.answer_fits.specs.Visits.{Does, Visit, visits}
 use Rattle.answer_fits.proofs.Visiting.{does_came}
@@ -114,9 +114,6 @@ does_tells v w P a telling = record { list = visits a.0; is = a.2; words = ran_w
 pub record Passes (v w : PortValue) : Type 0 where
   pub came : Came v w
   pub still : Still (told_word v) (told_word w)
-
-pub passes_self : (v : PortValue) → Passes v v
-passes_self v = record { came = came_self v; still = still_self (told_word v) }
 
 pub passes_then : (v u w : PortValue) → Passes v u → Passes u w → Passes v w
 passes_then v u w a b = record { came = came_trans v u w a.came b.came; still = still_then (told_word v) (told_word u) (told_word w) a.still b.still }

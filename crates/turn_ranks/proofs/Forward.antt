@@ -73,17 +73,6 @@ module _ (n : Machine) where
   pub further_behind : (m x y : Words) → GoesForward n m x → GetsFurther n x y → GetsFurther n m y
   further_behind m x y a b = record { frame = b.frame; real = b.real; higher = let c = a.ranks b.frame b.real in let d = b.higher in omega (arith, c, d) }
 
-  pub further_before : (m x y : Words) → GetsFurther n m x → GoesForward n x y → GetsFurther n m y
-  further_before m x y a b = record { frame = a.frame; real = a.real; higher = let c = b.ranks a.frame a.real in let d = a.higher in omega (arith, c, d) }
-
-  pub alike_forward : (m x : Words) → Alike x m → GoesForward n m x
-  alike_forward m x a =
-      record {
-        ranks = λ f inside. let e = alike_ranks (x (Kind f)) (m (Kind f)) (a (Kind f)) in omega (arith, e);
-        counts = λ f inside live. alike_counts (x (Kind f)) (m (Kind f)) (a (Kind f)) live;
-        olds = λ t which. alike_olds m x t which a;
-      }
-
 -- ---- and where it was the gate that paused it, a frame is further
 pub record Comes (n : Machine) (p : Pause) (m x : Words) : Type 0 where
   pub forward : GoesForward n m x
@@ -92,9 +81,6 @@ pub record Comes (n : Machine) (p : Pause) (m x : Words) : Type 0 where
 module _ (n : Machine) (p : Pause) where
   pub comes_behind : (m x y : Words) → GoesForward n m x → Comes n p x y → Comes n p m y
   comes_behind m x y a c = record { forward = forward_then n m x y a c.forward; further = λ due. further_behind n m x y a (c.further due) }
-
-  pub comes_before : (m x y : Words) → Comes n p m x → GoesForward n x y → Comes n p m y
-  comes_before m x y c a = record { forward = forward_then n m x y c.forward a; further = λ due. further_before n m x y (c.further due) a }
 
   -- where it was not the gate
   pub comes_so : (m x : Words) → p ≢ Due → GoesForward n m x → Comes n p m x

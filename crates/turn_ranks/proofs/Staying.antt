@@ -30,9 +30,9 @@ use Rattle.vcpu_turn.specs.declared.cpu.Progress.{Progress}
 use Rattle.vcpu_turn.specs.declared.cpu.TurnEnd.TheVariants as ends
 use Rattle.turn_ranks.proofs.Calm.{AcquiredForward, AcquiredFurther, ComesTo}
 use Rattle.turn_ranks.proofs.Owners.{owners_pass}
-use Rattle.turn_ranks.proofs.Pages.{ComesBy}
+use Rattle.turn_ranks.proofs.Pages.{ComesBy, by_passes}
 use Rattle.turn_ranks.proofs.Performing.{performed_for}
-use Rattle.turn_ranks.proofs.Settled.{IsSettled, SettledSame, by_passes, first_for, settled_on}
+use Rattle.turn_ranks.proofs.Settled.{IsSettled, SettledSame, first_for, settled_on}
 use Rattle.turn_ranks.proofs.Updating.{updated_for}
 
 -- ---- lists of which no item is done
