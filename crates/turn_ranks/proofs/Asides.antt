@@ -1,12 +1,12 @@
 -- Steps that change no word of which ranks, old words and lives are read: loads, and steps at other words.
-use Rattle.std.proofs.Common.{◌≡◌, ℕ, ◌/◌, if◌then◌else◌, not, Bool, true, false, List, [], ◌∷◌, ◌++◌, Option, None, Ok, refl, sym, ap, ◌∙◌, subst}
+use Rattle.std.proofs.Common.{◌≡◌, ℕ, ◌/◌, if◌then◌else◌, not, Bool, true, false, List, [], ◌∷◌, ◌++◌, Option, Ok, refl, sym, ap, ◌∙◌}
 use Rattle.xp_words.specs.declared.place.Place.{Place}
 use Rattle.xp_words.specs.declared.place.Place.TheVariants.{Map, Pages, Refs}
-use Rattle.xp_words.specs.RefWords.{ref_read, ref_write}
+use Rattle.xp_words.specs.RefWords.{ref_write}
 use Rattle.xp_words.specs.declared.refs.RefWord.TheVariants.{Free}
 use Rattle.xp_board.specs.Acts.{left_by}
 use Rattle.xp_board.specs.HintSteps.{map_bit}
-use Rattle.xp_board.specs.Readings.{owner_of, ref_count}
+use Rattle.xp_board.specs.Readings.{owner_of}
 use Rattle.xp_board.specs.RefSteps.{one_down, owner_number}
 use Rattle.xp_board.specs.Steps.{is_same}
 use Rattle.xp_board.specs.Told.{PortValue, is_telling, told_word}
@@ -17,7 +17,7 @@ use Rattle.xp_board.specs.declared.step.StepKind.{StepKind}
 use Rattle.board_lemmas.proofs.PlaceTests.{is_same-other, same_place}
 use Rattle.step_maker.specs.Moves.{Came, Moment, Moves, Ran}
 use Rattle.step_maker.specs.Plain.{Leaves, Words, change}
-use Rattle.step_maker.proofs.Coming.{came_self, came_trans, moves_came}
+use Rattle.step_maker.proofs.Coming.{came_trans, moves_came}
 use Rattle.step_maker.proofs.Telling.{by_test, changed, leaves, ran_telling}
 use Rattle.answer_fits.specs.Visits.{Does, Visit, visits}
 use Rattle.answer_fits.proofs.Visiting.{does_came}
@@ -114,9 +114,6 @@ does_tells v w P a telling = record { list = visits a.0; is = a.2; words = ran_w
 pub record Passes (v w : PortValue) : Type 0 where
   pub came : Came v w
   pub still : Still (told_word v) (told_word w)
-
-pub passes_self : (v : PortValue) → Passes v v
-passes_self v = record { came = came_self v; still = still_self (told_word v) }
 
 pub passes_then : (v u w : PortValue) → Passes v u → Passes u w → Passes v w
 passes_then v u w a b = record { came = came_trans v u w a.came b.came; still = still_then (told_word v) (told_word u) (told_word w) a.still b.still }

@@ -1,5 +1,5 @@
 -- Ports from which an acquisition may begin: the vCPU is alone, no domain is dying, and no frame is in work.
-use Rattle.std.proofs.Common.{◌≡◌, ◌≢◌, ◌⊎◌, ◌||◌, ℕ, ◌<◌, Bool, true, false, List, is_some, Option, Some, Err, IsTrue, refl, sym, ap, ◌∙◌, subst, inl, inr}
+use Rattle.std.proofs.Common.{◌≡◌, ◌||◌, ℕ, ◌<◌, Bool, true, false, List, Option, Err, IsTrue, refl, sym, ap, ◌∙◌, subst, inl, inr}
 use Rattle.std.proofs.lemmas.Bool.{cases_eq}
 use Rattle.xp_words.specs.KindWords.{kind_fields}
 use Rattle.xp_words.specs.Machine.{Machine}
@@ -8,7 +8,6 @@ use Rattle.xp_words.specs.declared.place.Place.TheVariants.{Kind, Life}
 use Rattle.xp_words.specs.declared.reply.Pause.{Pause}
 use Rattle.xp_words.specs.declared.reply.Pause.TheVariants.{Due}
 use Rattle.xp_words.specs.declared.reply.Stop.TheVariants.{Paused}
-use Rattle.xp_board.specs.declared.holdings.Holdings.{Holdings}
 use Rattle.xp_board.specs.Hands.{IsEmptyHand}
 use Rattle.xp_board.specs.Readings.{is_closing, is_locked, is_work, kind_at}
 use Rattle.xp_board.specs.Sound.{hand_of}
@@ -16,7 +15,7 @@ use Rattle.xp_board.specs.Told.{Post, PortValue, Story, is_telling, told_word, w
 use Rattle.step_maker.specs.Moves.{Came}
 use Rattle.step_maker.specs.Plain.{Words}
 use Rattle.step_maker.proofs.Coming.{came_post}
-use Rattle.answer_fits.specs.Pauses.{IsElsewhere, found_busy}
+use Rattle.answer_fits.specs.Pauses.{IsElsewhere}
 use Rattle.answer_laws.specs.Alone.{IsAlone}
 use Rattle.answer_laws.proofs.Holding.{empty_elsewhere, nobody_busies}
 use Rattle.table_courses.specs.Acquiring.{Acquired}

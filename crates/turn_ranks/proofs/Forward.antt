@@ -1,20 +1,19 @@
 -- What lets no frame fall back, one behind the other; and steps that change no word of which that is said.
-use Rattle.std.proofs.Common.{◌≡◌, ◌≢◌, ◌⊎◌, ℕ, ◌<◌, ◌≤◌, ◌==◌, ◌||◌, Bool, true, false, refl, sym, ap, ◌∙◌, subst, inl, inr, arith}
+use Rattle.std.proofs.Common.{◌≡◌, ◌≢◌, ◌⊎◌, ℕ, ◌≤◌, ◌==◌, ◌||◌, Bool, true, false, refl, sym, ap, ◌∙◌, subst, inl, inr, arith}
 use Rattle.xp_words.specs.KindWords.{kind_fields}
 use Rattle.xp_words.specs.Machine.{Machine}
-use Rattle.xp_words.specs.Places.{sizes_of}
 use Rattle.xp_words.specs.declared.kind.KindWord.{KindWord}
 use Rattle.xp_words.specs.declared.place.Place.{Place}
 use Rattle.xp_words.specs.declared.place.Place.TheVariants.{Kind, Life, Vcpu}
 use Rattle.xp_words.specs.declared.reply.Pause.{Pause}
 use Rattle.xp_words.specs.declared.reply.Pause.TheVariants.{Due}
-use Rattle.xp_board.specs.Readings.{is_work, kind_at}
+use Rattle.xp_board.specs.Readings.{kind_at}
 use Rattle.step_maker.specs.Plain.{Words}
 use Rattle.answer_fits.specs.Twins.{Alike, IsAlikeKind}
 use Rattle.table_words.specs.OldWords.{old_place}
 use Rattle.table_words.specs.declared.old_words.OldWord.{OldWord}
 use Rattle.table_words.specs.declared.old_words.OldWord.TheVariants.{First, Second}
-use Rattle.frame_ranks.specs.Ranks.{GetsFurther, GoesForward, rank_at, rank_of}
+use Rattle.frame_ranks.specs.Ranks.{GetsFurther, GoesForward, rank_of}
 
 -- ---- the words of which it is said, and lives
 abbrev pub is_ranked : Place → Bool
@@ -74,17 +73,6 @@ module _ (n : Machine) where
   pub further_behind : (m x y : Words) → GoesForward n m x → GetsFurther n x y → GetsFurther n m y
   further_behind m x y a b = record { frame = b.frame; real = b.real; higher = let c = a.ranks b.frame b.real in let d = b.higher in omega (arith, c, d) }
 
-  pub further_before : (m x y : Words) → GetsFurther n m x → GoesForward n x y → GetsFurther n m y
-  further_before m x y a b = record { frame = a.frame; real = a.real; higher = let c = b.ranks a.frame a.real in let d = a.higher in omega (arith, c, d) }
-
-  pub alike_forward : (m x : Words) → Alike x m → GoesForward n m x
-  alike_forward m x a =
-      record {
-        ranks = λ f inside. let e = alike_ranks (x (Kind f)) (m (Kind f)) (a (Kind f)) in omega (arith, e);
-        counts = λ f inside live. alike_counts (x (Kind f)) (m (Kind f)) (a (Kind f)) live;
-        olds = λ t which. alike_olds m x t which a;
-      }
-
 -- ---- and where it was the gate that paused it, a frame is further
 pub record Comes (n : Machine) (p : Pause) (m x : Words) : Type 0 where
   pub forward : GoesForward n m x
@@ -93,9 +81,6 @@ pub record Comes (n : Machine) (p : Pause) (m x : Words) : Type 0 where
 module _ (n : Machine) (p : Pause) where
   pub comes_behind : (m x y : Words) → GoesForward n m x → Comes n p x y → Comes n p m y
   comes_behind m x y a c = record { forward = forward_then n m x y a c.forward; further = λ due. further_behind n m x y a (c.further due) }
-
-  pub comes_before : (m x y : Words) → Comes n p m x → GoesForward n x y → Comes n p m y
-  comes_before m x y c a = record { forward = forward_then n m x y c.forward a; further = λ due. further_before n m x y (c.further due) a }
 
   -- where it was not the gate
   pub comes_so : (m x : Words) → p ≢ Due → GoesForward n m x → Comes n p m x

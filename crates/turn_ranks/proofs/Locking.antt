@@ -1,5 +1,5 @@
 -- A live table under the lock of an entry: one type count more, and one less again where the lock goes off.
-use Rattle.std.proofs.Common.{◌≡◌, ◌≢◌, ℕ, ◌+◌, ◌-◌, ◌<◌, ◌≤◌, ◌^◌, ◌%◌, ◌==◌, ◌&&◌, nat_le, nat_lt, not, if◌then◌else◌, Bool, true, false, Option, Some, None, Result, Ok, Err, IsTrue, refl, sym, ap, ◌∙◌, subst, inl, inr, arith}
+use Rattle.std.proofs.Common.{◌≡◌, ◌≢◌, ℕ, ◌+◌, ◌-◌, ◌<◌, ◌≤◌, ◌^◌, ◌==◌, ◌&&◌, nat_le, nat_lt, not, if◌then◌else◌, Bool, true, false, Option, Some, None, IsTrue, refl, sym, ap, ◌∙◌, subst, inl, inr, arith}
 use Rattle.std.proofs.lemmas.Bool.{and_parts, cases_eq}
 use Rattle.std.proofs.lemmas.Bool.Decides.{nat_tests}
 use Rattle.xp_words.specs.KindWords.{kind_fields, kind_write}
@@ -8,7 +8,7 @@ use Rattle.xp_words.specs.PageTypes.{is_table}
 use Rattle.xp_words.specs.RefWords.{ref_read}
 use Rattle.xp_words.specs.declared.kind.KindWord.{KindWord}
 use Rattle.xp_words.specs.declared.place.Place.{Place}
-use Rattle.xp_words.specs.declared.place.Place.TheVariants.{Kind, Life, Refs}
+use Rattle.xp_words.specs.declared.place.Place.TheVariants.{Kind, Life}
 use Rattle.xp_words.specs.declared.refs.RefWord.{RefWord}
 use Rattle.xp_words.specs.declared.refs.RefWord.TheVariants.{Dying, Free, Owned}
 use Rattle.xp_words.specs.declared.reply.Pause.{Pause}
@@ -25,7 +25,7 @@ use Rattle.table_twins.proofs.Referring.{is_inside, not_full}
 use Rattle.table_words.specs.OldWords.{old_place}
 use Rattle.course_laws.specs.Courses.{IsOrderly}
 use Rattle.frame_ranks.specs.Ranks.{AreAllAlive, GetsFurther, GoesForward, IsNothingInWork, rank_at, rank_of}
-use Rattle.turn_ranks.proofs.Forward.{Comes, Still, is_ranked, old_ranked}
+use Rattle.turn_ranks.proofs.Forward.{Comes, is_ranked, old_ranked}
 use Rattle.turn_ranks.proofs.Storing.{set_here, set_there}
 
 -- ---- a reference to the frame was to be had

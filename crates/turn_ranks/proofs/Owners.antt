@@ -1,5 +1,5 @@
 -- Whose tables and frames a list of pairs is about is found by loads.
-use Rattle.std.proofs.Common.{◌≡◌, ℕ, true, List, [], ◌∷◌, Option, Result, refl}
+use Rattle.std.proofs.Common.{◌≡◌, ℕ, true, List, Option, Result, refl}
 use Rattle.xp_words.specs.Machine.{Machine}
 use Rattle.xp_words.specs.declared.reply.Refusal.{Refusal}
 use Rattle.xp_board.specs.Told.{PortValue, is_telling}

@@ -1,5 +1,5 @@
 -- What a call is paused for that takes a reference, ordinary memory or a table, and that no frame falls back then.
-use Rattle.std.proofs.Common.{◌≡◌, ◌≢◌, ℕ, Bool, true, false, List, Some, Result, Ok, Err, refl, sym, ◌∙◌, subst}
+use Rattle.std.proofs.Common.{◌≡◌, ◌≢◌, ℕ, Bool, true, false, List, Result, Ok, Err, refl, sym, ◌∙◌, subst}
 use Rattle.xp_words.specs.Machine.{Machine}
 use Rattle.xp_words.specs.declared.kind.PageType.TheVariants.{Writable}
 use Rattle.xp_words.specs.declared.place.Place.TheVariants.{Kind}
@@ -13,13 +13,13 @@ use Rattle.answer_fits.proofs.Visiting.{does_came}
 use Rattle.flush_waits.specs.Waiting.{IsWait}
 use Rattle.frame_types.specs.declared.taking.Taken.TheVariants as types
 use Rattle.kind_words.specs.Kinds.{partial_kind}
-use Rattle.table_courses.specs.Acquiring.{Acquired, GaveRef, GotRef, TookType}
+use Rattle.table_courses.specs.Acquiring.{Acquired, GotRef, TookType}
 use Rattle.writable_pages.specs.Pages as pages
 use Rattle.writable_pages.specs.Pages.{GotPage, LeftPage, PageLeft, TookPage}
 use Rattle.turn_laws.specs.Unhindered.{IsUnhindered}
 use Rattle.vcpu_turn.specs.declared.cpu.TurnEnd.TheVariants as ends
-use Rattle.frame_ranks.specs.Ranks.{AreAllAlive, GoesForward}
-use Rattle.turn_ranks.proofs.Forward.{comes_before, comes_so}
+use Rattle.frame_ranks.specs.Ranks.{AreAllAlive}
+use Rattle.turn_ranks.proofs.Forward.{comes_so}
 use Rattle.turn_ranks.proofs.Asides.{Passes, ref_passes}
 use Rattle.turn_ranks.proofs.Calm.{AcquiredForward, AcquiredFurther, ComesTo, IsCalm, acquired_comes, alive_on, comes_from, same_machine}
 use Rattle.turn_ranks.proofs.Storing.{Stored, kept_stored, shared_stored}
@@ -39,9 +39,9 @@ module _ (n : Machine) where
   for_from (Refused x) v u w p c = tt
   for_from (Paused x) v u w p c = λ un. comes_from x v u w p (c un)
 
-  pub for_then : (e : Stop) (v u w : PortValue) → ComesFor n e v u → GoesForward v.post.machine (told_word u) (told_word w) → ComesFor n e v w
-  for_then (Refused x) v u w c a = tt
-  for_then (Paused x) v u w c a = λ un. comes_before v.post.machine x (told_word v) (told_word u) (told_word w) (c un) a
+  pub by_passes : {A : Type 0} (r : Result A Stop) (v u w : PortValue) → Passes v u → ComesBy n r u w → ComesBy n r v w
+  by_passes (Ok done) v u w p c = tt
+  by_passes (Err e) v u w p c = for_from e v u w p c
 
   pub never_for : (e : Stop) (v w : PortValue) → ((p : Pause) → e ≡ Paused p → IsUnhindered n (ends.Paused p) → ⊥) → ComesFor n e v w
   never_for (Refused x) v w off = tt

@@ -1,7 +1,7 @@
 -- A frame that is asked as ordinary memory, and waits for a flush: it is left with its mark, and stands no lower than before.
-use Rattle.std.proofs.Common.{◌≡◌, ◌≢◌, ◌⊎◌, ℕ, ◌+◌, ◌<◌, ◌≤◌, ◌^◌, ◌==◌, ◌&&◌, not, if◌then◌else◌, Bool, true, false, List, Option, Some, None, Result, Ok, Err, refl, sym, ap, ◌∙◌, subst, subst₂, inl, inr, arith}
+use Rattle.std.proofs.Common.{◌≡◌, ◌≢◌, ◌⊎◌, ℕ, ◌+◌, ◌<◌, ◌≤◌, ◌^◌, ◌==◌, ◌&&◌, not, if◌then◌else◌, Bool, true, false, List, Some, None, Ok, refl, sym, ap, ◌∙◌, subst, subst₂, inl, inr, arith}
 use Rattle.std.proofs.lemmas.Bool.{cases_eq}
-use Rattle.xp_words.specs.KindWords.{kind_fields, kind_write}
+use Rattle.xp_words.specs.KindWords.{kind_fields}
 use Rattle.xp_words.specs.Machine.{Machine}
 use Rattle.xp_words.specs.declared.kind.KindWord.{KindWord}
 use Rattle.xp_words.specs.declared.kind.PageType.{PageType}
@@ -9,7 +9,7 @@ use Rattle.xp_words.specs.declared.kind.PageType.TheVariants.{Writable}
 use Rattle.xp_words.specs.declared.place.Place.{Place}
 use Rattle.xp_words.specs.declared.place.Place.TheVariants.{Kind, Life}
 use Rattle.xp_words.specs.declared.reply.Pause.{Pause}
-use Rattle.xp_words.specs.declared.reply.Pause.TheVariants.{Busy, Due}
+use Rattle.xp_words.specs.declared.reply.Pause.TheVariants.{Busy}
 use Rattle.xp_words.specs.declared.reply.Stop.{Stop}
 use Rattle.xp_words.specs.declared.reply.Stop.TheVariants.{Paused}
 use Rattle.xp_board.specs.Readings.{kind_at}
@@ -19,7 +19,7 @@ use Rattle.answer_fits.specs.Twins.{Alike, IsAlikeKind}
 use Rattle.answer_fits.specs.Visits.{Visit}
 use Rattle.frame_words.specs.Plain.{put}
 use Rattle.frame_types.specs.Found.{GoesBy, TakesBy, TakesOf, TypeBy, WaitsOf}
-use Rattle.frame_types.specs.Plain.{IsTakenBy, is_own, set_kind, stop_by, taken_by, type_stop, waits_by, work_by}
+use Rattle.frame_types.specs.Plain.{IsTakenBy, is_own, stop_by, taken_by, type_stop, waits_by}
 use Rattle.frame_types.specs.Standing.{is_same_type, standing_of}
 use Rattle.frame_types.specs.declared.standing.Standing.{Standing}
 use Rattle.frame_types.specs.declared.standing.Standing.TheVariants as stands

@@ -1,14 +1,12 @@
 -- An element of `mmuext_op` that is paused: no frame falls back.
-use Rattle.std.proofs.Common.{◌≡◌, ◌≢◌, ℕ, Bool, true, false, List, Option, Some, None, Result, Ok, Err, refl, sym, ap, ◌∙◌, subst}
+use Rattle.std.proofs.Common.{◌≡◌, ◌≢◌, ℕ, Bool, true, List, Option, Some, Result, Ok, Err, refl, sym, ◌∙◌, subst}
 use Rattle.xp_words.specs.Machine.{Machine}
-use Rattle.xp_words.specs.declared.reply.Pause.{Pause}
-use Rattle.xp_words.specs.declared.reply.Pause.TheVariants.{Due, Lost}
+use Rattle.xp_words.specs.declared.reply.Pause.TheVariants.{Due}
 use Rattle.xp_words.specs.declared.reply.Stop.{Stop}
 use Rattle.xp_words.specs.declared.reply.Stop.TheVariants.{Refused, Paused}
 use Rattle.xp_board.specs.Told.{PortValue, is_telling, told_word}
 use Rattle.step_maker.proofs.Telling.{came_telling}
 use Rattle.answer_fits.specs.Reasons.{Those, Whose}
-use Rattle.answer_fits.specs.Visits.{Visit}
 use Rattle.flush_waits.specs.Listing.{WaitedFor}
 use Rattle.flush_waits.specs.Waiting.{meant}
 use Rattle.mmuext_ops.specs.Course as course
@@ -22,12 +20,10 @@ use Rattle.table_bases.specs.declared.words.Base.{Base}
 use Rattle.table_bases.specs.declared.words.Base.TheVariants.{Kernel, User}
 use Rattle.table_courses.specs.Acquiring.{GaveRef, GotRef}
 use Rattle.course_laws.proofs.Awaiting.{AloneStays}
-use Rattle.turn_laws.specs.Unhindered.{IsUnhindered}
-use Rattle.vcpu_turn.specs.declared.cpu.TurnEnd.TheVariants as ends
 use Rattle.turn_ranks.proofs.Forward.{comes_so, still_forward}
 use Rattle.turn_ranks.proofs.Asides.{Passes, does_passes, does_tells, gave_passes, moves_passes, passes_then, ref_passes}
 use Rattle.turn_ranks.proofs.Calm.{AcquiredForward, AcquiredFurther, IsCalm, calm_on, calm_telling}
-use Rattle.turn_ranks.proofs.Pages.{ComesBy, ComesFor, acquired_for, for_from, is_lost, never_for, unreferred_for}
+use Rattle.turn_ranks.proofs.Pages.{ComesBy, acquired_for, for_from, is_lost, never_for, unreferred_for}
 use Rattle.turn_ranks.proofs.Waiting.{waited_aside}
 
 module _ (n : Machine) (stays : AloneStays) (forward : AcquiredForward) (further : AcquiredFurther) where

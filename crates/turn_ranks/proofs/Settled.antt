@@ -1,5 +1,5 @@
 -- What the element before left unfinished is settled first: where no old word names a frame, that leaves all words as they were, and pauses for nothing.
-use Rattle.std.proofs.Common.{◌≡◌, ◌≢◌, ℕ, ◌+◌, ◌==◌, if◌then◌else◌, Bool, true, List, Option, None, Result, Ok, Err, refl, sym, ap, ◌∙◌, subst, arith}
+use Rattle.std.proofs.Common.{◌≡◌, ℕ, ◌+◌, Bool, true, List, Option, None, Result, Ok, Err, refl, sym, ap, ◌∙◌, subst, arith}
 use Rattle.std.proofs.lemmas.Bool.Decides.{nat_tests}
 use Rattle.xp_words.specs.Machine.{Machine}
 use Rattle.xp_words.specs.declared.place.Place.{Place}
@@ -23,10 +23,10 @@ use Rattle.vcpu_turn.specs.Settling as settling
 use Rattle.vcpu_turn.specs.Settling.{Settles, SettlesFirst}
 use Rattle.frame_ranks.specs.Ranks.{AreAllAlive}
 use Rattle.turn_measures.specs.Measures.{bit_named, olds_named}
-use Rattle.turn_ranks.proofs.Forward.{Still, old_ranked, still_all}
+use Rattle.turn_ranks.proofs.Forward.{Still, still_all}
 use Rattle.turn_ranks.proofs.Asides.{Passes, moves_passes}
 use Rattle.turn_ranks.proofs.Calm.{IsCalm, alive_on, idle_alone}
-use Rattle.turn_ranks.proofs.Pages.{ComesBy, for_from}
+use Rattle.turn_ranks.proofs.Pages.{ComesBy, by_passes}
 
 -- ---- no frame is named
 unnamed : (w : ℕ) → bit_named w ≡ 0 → w ≡ 0
@@ -87,14 +87,10 @@ settled_on stays v w s p =
     }
 
 module _ (n : Machine) where
-  pub by_passes : {A : Type 0} (r : Result A Stop) (v u w : PortValue) → Passes v u → ComesBy n r u w → ComesBy n r v w
-  by_passes (Ok done) v u w p c = tt
-  by_passes (Err e) v u w p c = for_from n e v u w p c
-
   module _ (stays : AloneStays) (same : SettledSame) (P : PortValue → PortValue → List Bool → Result (Unit {0}) Stop → Type 0) (goes : (u w : PortValue) (answers : List Bool) (r : Result (Unit {0}) Stop) → IsCalm u → P u w answers r → ComesBy n r u w) where
     pub first_for : (v w : PortValue) (answers : List Bool) (r : Result (Unit {0}) Stop) → IsSettled v → SettlesFirst P v w answers r → ComesBy n r v w
     first_for v _ _ _ s (settling.SettlesFirst.unsettled w answers stop settles) = absurd (let e = settled_none None v w answers (Err stop) (alone_telling v s.alone) s.none settles.course in cc)
     first_for v _ _ _ s (settling.SettlesFirst.performed u w early answers r settles does) =
         let p : Passes v u = record { came = settles_came v u early (Ok tt) settles; still = still_all (told_word v) (told_word u) (same None v u early s.alone settles s.none) } in
         let alone = stays v u s.alone p.came in
-        by_passes r v u w p (goes u w answers r (record { alone = alone; alive = alive_on v u p s.alive; idle = idle_alone u alone settles.rests.empty }) does)
+        by_passes n r v u w p (goes u w answers r (record { alone = alone; alive = alive_on v u p s.alive; idle = idle_alone u alone settles.rests.empty }) does)

@@ -1,5 +1,5 @@
 -- An operation that is paused before another element of it is done lets no frame fall back; and where its gate pauses it, one is further.
-use Rattle.std.proofs.Common.{◌≡◌, ◌⊎◌, ℕ, ◌+◌, ◌<◌, ◌≤◌, Bool, List, length, Option, Some, None, Result, Ok, Err, IfErr, refl, sym, ap, ◌∙◌, subst, inl, inr, arith}
+use Rattle.std.proofs.Common.{◌≡◌, ℕ, ◌≤◌, Bool, List, length, Option, Some, None, Result, Ok, Err, IfErr, refl, sym, ap, ◌∙◌, subst, inl, inr, arith}
 use Rattle.std.specs.Prelude.{slice_get}
 use Rattle.xp_words.specs.Machine.{Machine}
 use Rattle.xp_words.specs.declared.ops.ExtOp.{ExtOp}
@@ -10,7 +10,7 @@ use Rattle.xp_words.specs.declared.reply.Pause.TheVariants.{Due, Lost, Busy, Flu
 use Rattle.xp_words.specs.declared.reply.Refusal.{Refusal}
 use Rattle.xp_words.specs.declared.reply.Stop.{Stop}
 use Rattle.xp_words.specs.declared.reply.Stop.TheVariants.{Refused, Paused}
-use Rattle.xp_board.specs.Told.{PortValue, told_word}
+use Rattle.xp_board.specs.Told.{PortValue}
 use Rattle.foreign_map.specs.declared.owners.Owners.{Owners}
 use Rattle.mmu_update.specs.Elements.{element_of}
 use Rattle.mmu_update.specs.Fits.{Updates}
@@ -18,7 +18,6 @@ use Rattle.mmuext_ops.specs.Elements.{ext_element}
 use Rattle.tlb_walks.specs.Asking.{IsGuestReadStop, IsGuestWriteStop}
 use Rattle.course_laws.proofs.Awaiting.{AloneStays, alone_telling}
 use Rattle.turn_laws.specs.Unhindered.{IsUnhindered}
-use Rattle.vcpu_turn.specs.Accesses.{MakesRead, MakesWrite}
 use Rattle.vcpu_turn.specs.Cpus.{OfExt, OfPairs, OfRead, OfWrite, Processing, Task, end_of, task_of}
 use Rattle.vcpu_turn.specs.Ext.{ExtFits, FitsExt, Performs, awaited_for}
 use Rattle.vcpu_turn.specs.Lists as lists
@@ -31,9 +30,9 @@ use Rattle.vcpu_turn.specs.declared.cpu.Progress.{Progress}
 use Rattle.vcpu_turn.specs.declared.cpu.TurnEnd.TheVariants as ends
 use Rattle.turn_ranks.proofs.Calm.{AcquiredForward, AcquiredFurther, ComesTo}
 use Rattle.turn_ranks.proofs.Owners.{owners_pass}
-use Rattle.turn_ranks.proofs.Pages.{ComesBy, ComesFor}
+use Rattle.turn_ranks.proofs.Pages.{ComesBy, by_passes}
 use Rattle.turn_ranks.proofs.Performing.{performed_for}
-use Rattle.turn_ranks.proofs.Settled.{IsSettled, SettledSame, by_passes, first_for, settled_on}
+use Rattle.turn_ranks.proofs.Settled.{IsSettled, SettledSame, first_for, settled_on}
 use Rattle.turn_ranks.proofs.Updating.{updated_for}
 
 -- ---- lists of which no item is done

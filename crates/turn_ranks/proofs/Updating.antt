@@ -1,8 +1,7 @@
 -- An element of `mmu_update` that is paused: no frame falls back.
-use Rattle.std.proofs.Common.{◌≡◌, ◌≢◌, ℕ, ◌<◌, Bool, true, false, List, Option, Result, Ok, Err, refl, sym, ap, ◌∙◌, subst}
+use Rattle.std.proofs.Common.{◌≡◌, ℕ, ◌<◌, Bool, true, List, Option, Result, Ok, Err, refl, sym, ◌∙◌, subst}
 use Rattle.xp_words.specs.Machine.{Machine}
 use Rattle.xp_words.specs.declared.entry.Demand.{Demand}
-use Rattle.xp_words.specs.declared.place.Place.TheVariants.{Kind, Refs}
 use Rattle.xp_words.specs.declared.reply.Pause.{Pause}
 use Rattle.xp_words.specs.declared.reply.Pause.TheVariants.{Due, Lost, Busy, Flush, Alive}
 use Rattle.xp_words.specs.declared.reply.Refusal.{Refusal}
@@ -10,7 +9,7 @@ use Rattle.xp_words.specs.declared.reply.Stop.{Stop}
 use Rattle.xp_words.specs.declared.reply.Stop.TheVariants.{Refused, Paused}
 use Rattle.xp_board.specs.Told.{PortValue, is_telling, told_word}
 use Rattle.step_maker.specs.Plain.{Words}
-use Rattle.step_maker.proofs.Coming.{moves_came, came_trans}
+use Rattle.step_maker.proofs.Coming.{came_trans}
 use Rattle.step_maker.proofs.Telling.{came_telling}
 use Rattle.answer_fits.specs.Twins.{AnswersAs}
 use Rattle.answer_fits.proofs.Visiting.{does_came}
@@ -29,12 +28,12 @@ use Rattle.exchange_laws.proofs.Going.{demand_came}
 use Rattle.turn_laws.specs.Unhindered.{IsUnhindered}
 use Rattle.vcpu_turn.specs.declared.cpu.TurnEnd.TheVariants as ends
 use Rattle.course_laws.proofs.Awaiting.{AloneStays}
-use Rattle.table_courses.specs.Acquiring.{GaveRef, GotRef}
+use Rattle.table_courses.specs.Acquiring.{GotRef}
 use Rattle.turn_ranks.proofs.Forward.{still_all}
 use Rattle.turn_ranks.proofs.Asides.{Passes, moves_passes, passes_then, ref_passes}
 use Rattle.turn_ranks.proofs.Calm.{AcquiredForward, AcquiredFurther, IsCalm, alive_on, calm_on, calm_telling, same_machine}
-use Rattle.turn_ranks.proofs.Locking.{HasRoom, IsLocked}
-use Rattle.turn_ranks.proofs.Pages.{ComesBy, ComesFor, acquired_for, for_from, is_lost, never_for, page_for, took_page_for, unreferred_for}
+use Rattle.turn_ranks.proofs.Locking.{IsLocked}
+use Rattle.turn_ranks.proofs.Pages.{ComesBy, ComesFor, acquired_for, by_passes, for_from, is_lost, never_for, page_for, took_page_for, unreferred_for}
 use Rattle.turn_ranks.proofs.Unlocking.{locked_calm, locked_machine, locked_words, room, under_lock}
 
 module _ (n : Machine) (stays : AloneStays) (forward : AcquiredForward) (further : AcquiredFurther) where
@@ -88,17 +87,13 @@ module _ (n : Machine) (stays : AloneStays) (forward : AcquiredForward) (further
   other_passes : (u y : PortValue) (f owner found : ℕ) → is_telling u ≡ true → TriedLock u y f owner (Ok (Other found)) → Passes u y
   other_passes u y f owner found telling lock = record { came = does_came u y _ lock.found; still = still_all (told_word u) (told_word y) (lock.plain telling).3 }
 
-  by_from : (r : Result (Unit {0}) Stop) (v u w : PortValue) → Passes v u → ComesBy n r u w → ComesBy n r v w
-  by_from (Ok done) v u w p c = tt
-  by_from (Err e) v u w p c = for_from n e v u w p c
-
   exchanged_from : (v u y : PortValue) (o : Owners) (f i word : ℕ) (keep : Bool) (level found : ℕ) (w : PortValue) (answers : List Bool) (r : Result (Unit {0}) Stop) → IsCalm v → GotRef v u f o.tables (Ok f) →
       TriedLock u y f o.tables (Ok (Table level found)) → Exchanged y (entry_update f level i word keep) o w answers r → ComesBy n r v w
   exchanged_from v u y o f i word keep level found w answers r calm ref lock exchange =
       let p = ref_passes v u f o.tables (calm_telling v calm) ref in
       let l = locked_words stays v u y f o.tables level found calm ref lock in
       let inside = subst (λ (k : Machine). f < k.frames) (sym (same_machine v u p.came)) (room stays v u y f o.tables level found calm ref lock).inside in
-      by_from r v u w p
+      by_passes n r v u w p
       (exchange_for u y (entry_update f level i word keep) o w answers r l (locked_machine stays v u y f o.tables level found calm ref lock) inside (locked_calm stays v u y f o.tables level found calm ref lock (calm_on stays v u calm p)) exchange)
 
   wrote_for : (v : PortValue) (o : Owners) (f i word : ℕ) (keep : Bool) (w : PortValue) (answers : List Bool) (r : Result (Unit {0}) Stop) → IsCalm v → Wrote v o f i word keep w answers r → ComesBy n r v w
