@@ -29,7 +29,7 @@ use Rattle.frame_ranks.proofs.Facing.{self_calm, turned_twice}
 use Rattle.frame_ranks.proofs.Resuming.{resume_opened, resume_paused, resume_settled, resume_taken, resume_waiting}
 use Rattle.frame_ranks.proofs.Stamps.{again_low}
 use Rattle.frame_ranks.proofs.Stepping.{back_from, completed_turned, shared_turned}
-use Rattle.frame_ranks.proofs.Taking.{rank_live}
+use Rattle.frame_ranks.proofs.Standings.{rank_live}
 use Rattle.frame_ranks.proofs.Turning.{beside, beside_further, calm_moved, dead_lasts, entry_further, entry_moved, into, more_works, out, out_further}
 use Rattle.frame_ranks.proofs.Valuing.{Further, Moved, Works, idle_off, moved_then, then_further, worth_around, worth_gone, worth_same}
 

@@ -2,6 +2,7 @@ pub mod Reading
 pub mod Facing
 pub mod Valuing
 pub mod Turning
+pub mod Standings
 pub mod Taking
 pub mod Entering
 pub mod Resuming
