@@ -14,7 +14,7 @@ use Rattle.xp_words.specs.declared.refs.RefWord.TheVariants.{Dying, Free, Owned}
 use Rattle.xp_words.specs.declared.reply.Pause.{Pause}
 use Rattle.xp_words.specs.declared.reply.Refusal.TheVariants as refusals
 use Rattle.xp_board.specs.KindSteps.{locked_kind}
-use Rattle.xp_board.specs.Readings.{count_in, is_work, kind_at, ref_count}
+use Rattle.xp_board.specs.Readings.{count_in, kind_at, ref_count}
 use Rattle.step_maker.specs.Plain.{Words}
 use Rattle.frame_words.specs.Plain.{refer, refer_by}
 use Rattle.entry_locks.specs.Locks.{is_lockable}
@@ -24,7 +24,7 @@ use Rattle.kind_words.proofs.KindWriting.{fields_write}
 use Rattle.table_twins.proofs.Referring.{is_inside, not_full}
 use Rattle.table_words.specs.OldWords.{old_place}
 use Rattle.course_laws.specs.Courses.{IsOrderly}
-use Rattle.frame_ranks.specs.Ranks.{AreAllAlive, GetsFurther, GoesForward, IsNothingInWork, rank_at, rank_of}
+use Rattle.frame_ranks.specs.Ranks.{AreAllAlive, GetsFurther, GoesForward, rank_at, rank_of}
 use Rattle.turn_ranks.proofs.Forward.{Comes, is_ranked, old_ranked}
 use Rattle.turn_ranks.proofs.Storing.{set_here, set_there}
 
@@ -97,13 +97,6 @@ module _ (n : Machine) (m x : Words) (f : ℕ) (l : IsLocked m x f) where
 
   locked_live : (kind_at x f).validated ≡ true
   locked_live = ap (λ (k : KindWord). k.validated) l.kind ∙ l.live
-
-  pub locked_idle : IsNothingInWork n m → IsNothingInWork n x
-  locked_idle idle g inside =
-      elim (cases_eq g f) [
-        | inl at ↦ subst (λ h. is_work (kind_at x h) ≡ false) (sym at) (ap (λ b. not b && (not (kind_at x f).partial && (kind_at x f).locked)) locked_live)
-        | inr off ↦ ap is_work (off_at g off) ∙ idle g inside
-      ]
 
   pub locked_alive : AreAllAlive n m → AreAllAlive n x
   locked_alive alive d real = let apart : Life d ≢ Kind f = λ e. cc in l.there (Life d) refl apart ∙ alive d real

@@ -25,7 +25,7 @@ use Rattle.frame_ranks.specs.Ranks.{AreAllAlive}
 use Rattle.turn_measures.specs.Measures.{bit_named, olds_named}
 use Rattle.turn_ranks.proofs.Forward.{Still, still_all}
 use Rattle.turn_ranks.proofs.Asides.{Passes, moves_passes}
-use Rattle.turn_ranks.proofs.Calm.{IsCalm, alive_on, idle_alone}
+use Rattle.turn_ranks.proofs.Calm.{IsCalm, alive_on}
 use Rattle.turn_ranks.proofs.Pages.{ComesBy, by_passes}
 
 -- ---- no frame is named
@@ -93,4 +93,4 @@ module _ (n : Machine) where
     first_for v _ _ _ s (settling.SettlesFirst.performed u w early answers r settles does) =
         let p : Passes v u = record { came = settles_came v u early (Ok tt) settles; still = still_all (told_word v) (told_word u) (same None v u early s.alone settles s.none) } in
         let alone = stays v u s.alone p.came in
-        by_passes n r v u w p (goes u w answers r (record { alone = alone; alive = alive_on v u p s.alive; idle = idle_alone u alone settles.rests.empty }) does)
+        by_passes n r v u w p (goes u w answers r (record { alone = alone; alive = alive_on v u p s.alive }) does)

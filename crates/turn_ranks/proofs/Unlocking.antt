@@ -26,11 +26,11 @@ use Rattle.mmu_update.specs.Course.{TriedLock}
 use Rattle.table_courses.specs.Acquiring.{GotRef}
 use Rattle.course_laws.specs.Courses.{IsOrderly}
 use Rattle.course_laws.proofs.Awaiting.{AloneStays, alone_orderly, alone_telling}
-use Rattle.frame_ranks.specs.Ranks.{AreAllAlive, IsNothingInWork}
+use Rattle.frame_ranks.specs.Ranks.{AreAllAlive}
 use Rattle.turn_ranks.proofs.Forward.{Comes}
 use Rattle.turn_ranks.proofs.Asides.{Passes, gave_passes, ref_passes}
 use Rattle.turn_ranks.proofs.Calm.{ComesTo, IsCalm, same_machine}
-use Rattle.turn_ranks.proofs.Locking.{HasRoom, IsLocked, IsUnlocked, comes_locked, locked_alive, locked_idle, locks_on, refers_room, several}
+use Rattle.turn_ranks.proofs.Locking.{HasRoom, IsLocked, IsUnlocked, comes_locked, locked_alive, locks_on, refers_room, several}
 use Rattle.turn_ranks.proofs.Pages.{ComesFor}
 
 -- ---- the lock goes on
@@ -76,7 +76,6 @@ module _ (stays : AloneStays) (v u y : PortValue) (f owner level found : ℕ) (c
       record {
         alone = stays u y c.alone locked_came;
         alive = subst (λ (n : Machine). AreAllAlive n (told_word y)) (sym locked_machine) (locked_alive u.post.machine (told_word u) (told_word y) f locked_words c.alive);
-        idle = subst (λ (n : Machine). IsNothingInWork n (told_word y)) (sym locked_machine) (locked_idle u.post.machine (told_word u) (told_word y) f locked_words c.idle);
       }
 
 -- ---- the lock goes off
