@@ -221,6 +221,6 @@ module _ (laws : TurnLaws) (clocks : ClockLaws) (n : Machine) where
       }
 
   pub retire_in_rounds : (rounds : List (List ℕ)) (s s' : Stage) → IsSteady n s → All (IsRound n) rounds → Turns n (turns_in_rounds rounds) s s' → words_of n s' Clock < last_clock → rounds_to_go n s ≤ length rounds → AreAllRetired s'
-  unfolding measure
+  unfolding measure turning
   retire_in_rounds rounds s s' steady all turns low enough =
       all_rest (IsStagedTurn n) (sizes_of n).vcpus turning rounds s s' steady low enough all (one_by_one (IsStagedTurn n) (turns_in_rounds rounds) s s' turns)
