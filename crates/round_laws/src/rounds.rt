@@ -1,5 +1,6 @@
 //! Rounds in which each vCPU has a turn.
 ghost use Rattle.std.specs.Prelude.{◌≡◌, ◌<◌, ◌≤◌, ℕ, All, List, length, map};
+ghost use Rattle.trace_text.specs.WellFormed.{IsWellFormed};
 ghost use Rattle.trace_text.specs.declared.trace.Trace.{Trace};
 ghost use Rattle.machine_build.specs.Opening.{IsOpening};
 ghost use Rattle.shared_board.specs.Board.{opened_story};
@@ -15,21 +16,51 @@ ghost use Rattle.vcpu_runners.specs.Gates.{Gate};
 ghost use Rattle.round_laws.specs.Rounds.{AreAllRetired, IsRound, rounds_to_go, turns_in_rounds};
 ghost use Rattle.round_laws.specs.Stages.{IsSteady, words_of};
 
+use answer_laws::alone_stays;
+use course_laws::who_is_alone_has_orderly_words;
+use opening_rule::opening_words_are_sound;
+use turn_clocks::{a_turn_answers_its_ask, who_is_waited_for_is_asked};
+use turn_measures::{
+    a_paused_settling_names_less, a_settling_that_ends_names_none, a_turn_gets_ahead_or_stays,
+    a_turn_leaves_the_others,
+};
+use turn_ranks::a_turn_paused_within_an_element_goes_forward;
+
 /// Where each vCPU has a turn in each round, all are retired behind so many rounds, whatever their gates say, unless the clock comes to its last value.
 pub fn all_retire_in_rounds()
-    requires stub { ⊥ }
     ensures { (n : Machine) (rounds : List (List ℕ)) (s s' : Stage) → IsSteady n s → All (IsRound n) rounds → Turns n (turns_in_rounds rounds) s s' → words_of n s' Clock < last_clock → rounds_to_go n s ≤ length rounds → AreAllRetired s' }
-{}
+{
+    alone_stays();
+    who_is_alone_has_orderly_words();
+    a_turn_gets_ahead_or_stays();
+    a_turn_leaves_the_others();
+    a_paused_settling_names_less();
+    a_settling_that_ends_names_none();
+    a_turn_paused_within_an_element_goes_forward();
+    who_is_waited_for_is_asked();
+    a_turn_answers_its_ask();
+}
 
 /// A machine opens so.
 pub fn an_opening_is_steady()
-    requires stub { ⊥ }
-    ensures { (t : Trace) (opened : List ℕ) (gates : List Gate) → IsOpening t opened → IsSteady t.layout (stage (opened_story t.layout opened) (first_cpus t.layout t.scripts) gates) }
-{}
+    ensures { (t : Trace) (opened : List ℕ) (gates : List Gate) → IsWellFormed t → IsOpening t opened → IsSteady t.layout (stage (opened_story t.layout opened) (first_cpus t.layout t.scripts) gates) }
+{
+    opening_words_are_sound();
+}
 
 /// So a run whose trace asks for that many rounds answers all operations, where its clock stays below the last value.
 pub fn every_script_is_answered_in_rounds()
-    requires stub { ⊥ }
-    ensures { (t : Trace) (gates : List Gate) (text : List ℕ) (rounds : List (List ℕ)) → (ran : RanTrace t gates text) → order t.turns ≡ turns_in_rounds rounds → All (IsRound t.layout) rounds → words_of t.layout ran.closed Clock < last_clock →
+    ensures { (t : Trace) (gates : List Gate) (text : List ℕ) (rounds : List (List ℕ)) → IsWellFormed t → (ran : RanTrace t gates text) → order t.turns ≡ turns_in_rounds rounds → All (IsRound t.layout) rounds → words_of t.layout ran.closed Clock < last_clock →
         rounds_to_go t.layout (stage (opened_story t.layout ran.opened) (first_cpus t.layout t.scripts) (first_gates t.layout gates)) ≤ length rounds → All (λ k. k ≡ 0) (map pending_of ran.closed.cpus) }
-{}
+{
+    opening_words_are_sound();
+    alone_stays();
+    who_is_alone_has_orderly_words();
+    a_turn_gets_ahead_or_stays();
+    a_turn_leaves_the_others();
+    a_paused_settling_names_less();
+    a_settling_that_ends_names_none();
+    a_turn_paused_within_an_element_goes_forward();
+    who_is_waited_for_is_asked();
+    a_turn_answers_its_ask();
+}

@@ -1,0 +1,86 @@
+-- What the beginning of a turn leaves of the words, and a call that destroys no domain of their lives.
+use Rattle.std.proofs.Common.{◌≡◌, ◌≢◌, ℕ, Bool, true, false, List, [], ◌∷◌, Option, Some, None, Result, refl, sym, ap, ◌∙◌, subst, nat_lt, arith}
+use Rattle.xp_words.specs.Machine.{Machine}
+use Rattle.xp_words.specs.Places.{asked_of, flushed_of, run_of}
+use Rattle.xp_words.specs.declared.place.Place.{Place}
+use Rattle.xp_words.specs.declared.place.Place.TheVariants.{Clock, Life, Vcpu}
+use Rattle.xp_words.specs.declared.reply.Refusal.{Refusal}
+use Rattle.xp_board.specs.declared.holdings.Holdings.{Holdings}
+use Rattle.xp_board.specs.declared.step.Act.{Act}
+use Rattle.xp_board.specs.declared.step.Act.TheVariants.{Load, Cas, Store, Add, Max}
+use Rattle.xp_board.specs.Acts.{left_by}
+use Rattle.xp_board.specs.Lists.{EachOf}
+use Rattle.xp_board.specs.Steps.{is_same}
+use Rattle.xp_board.specs.Told.{Post, PortValue, is_telling, told_word}
+use Rattle.board_lemmas.proofs.PlaceTests.{same_place}
+use Rattle.step_maker.specs.Moves.{Met, Moment, MovesBy, Ran}
+use Rattle.step_maker.proofs.Coming.{came_post, moves_came}
+use Rattle.step_maker.proofs.Telling.{came_telling, leaves, load_tells, moves_telling, ran_telling, told_elsewhere}
+use Rattle.answer_fits.specs.Answers.{Deed, Serves}
+use Rattle.answer_fits.specs.Asked.{Request}
+use Rattle.answer_fits.specs.Finding.{Finding}
+use Rattle.answer_fits.specs.Reasons.{HasReason}
+use Rattle.flush_words.specs.Flushing.{FlushesOwn}
+use Rattle.flush_words.specs.Flushing as flushes
+use Rattle.tlb_walks.specs.Dropping.{Acks, Heeds}
+use Rattle.tlb_walks.proofs.Flushes.{acks_came}
+use Rattle.vcpu_turn.specs.Turning.{Begins}
+
+-- ---- a turn that begins changes the clock and the own flushed word, and no more
+flush_leaves : (v w : PortValue) (answer : Result (Unit {0}) Refusal) → FlushesOwn v w answer → is_telling v ≡ true → (q : Place) → q ≢ Clock → q ≢ flushed_of v.post.vcpu → told_word w q ≡ told_word v q
+flush_leaves v w _ (flushes.spent m) telling q off away = load_tells v w _ _ _ _ m telling q
+flush_leaves v w _ (flushes.ticked a b clock before less first second third) telling q off away =
+    told_elsewhere b w _ _ _ _ _ third q away ∙ told_elsewhere a b _ _ _ _ _ second q off ∙ load_tells v a _ _ _ _ first telling q
+flush_leaves v w _ (flushes.overtaken a b clock found before less other first second third) telling q off away =
+    told_elsewhere b w _ _ _ _ _ third q away ∙ told_elsewhere a b _ _ _ _ _ second q off ∙ load_tells v a _ _ _ _ first telling q
+
+heed_leaves : (past : Bool) (v w : PortValue) → Heeds past v w → is_telling v ≡ true → (q : Place) → q ≢ Clock → q ≢ flushed_of v.post.vcpu → told_word w q ≡ told_word v q
+heed_leaves true v w same telling q off away = ap (λ (y : PortValue). told_word y q) same
+heed_leaves false v w flush telling q off away = flush_leaves v w flush.0 flush.1 telling q off away
+
+ack_leaves : (v w : PortValue) → Acks v w → is_telling v ≡ true → (q : Place) → q ≢ Clock → q ≢ flushed_of v.post.vcpu → told_word w q ≡ told_word v q
+ack_leaves v w k telling q off away =
+    let first = moves_telling v k.a _ _ _ _ _ k.marked ∙ telling in
+    let second = moves_telling k.a k.b _ _ _ _ _ k.looked ∙ first in
+    let post : k.b.post ≡ v.post = came_post k.a k.b (moves_came k.a k.b _ _ _ _ _ k.looked) ∙ came_post v k.a (moves_came v k.a _ _ _ _ _ k.marked) in
+    heed_leaves (nat_lt k.asked k.flushed) k.b w k.heeds second q off (λ e. away (e ∙ ap (λ (p : Post). flushed_of p.vcpu) post))
+    ∙ load_tells k.a k.b _ _ _ _ k.looked first q ∙ load_tells v k.a _ _ _ _ k.marked telling q
+
+pub begins_leaves : (v w : PortValue) → Begins v w → is_telling v ≡ true → (q : Place) → q ≢ Clock → q ≢ flushed_of v.post.vcpu → told_word w q ≡ told_word v q
+begins_leaves v w b telling q off away =
+    load_tells b.acked w _ _ _ _ b.running (came_telling v b.acked (acks_came v b.acked b.acks) ∙ telling) q ∙ ack_leaves v b.acked b.acks telling q off away
+
+-- ---- a call that destroys no domain
+by_bool : {A : Type 0} (b : Bool) → (b ≡ true → A) → (b ≡ false → A) → A
+by_bool true on off = on refl
+by_bool false on off = off refl
+
+module _ (n : Machine) (s : ℕ) (r : Request) (F : Finding) (d : ℕ) (none : r.destroys ≡ None) where
+  act_leaves : (a : Act) (x y : ℕ) (h : Holdings) → HasReason n s r F (Life d) a x h → left_by a y ≡ y
+  unfolding left_by
+  act_leaves Load x y h why = refl
+  act_leaves (Cas e w) x y h why = absurd cc
+  act_leaves (Store w) x y h why = absurd cc
+  act_leaves (Add w) x y h why = absurd cc
+  act_leaves (Max w) x y h why = absurd cc
+
+  move_leaves : (u w : PortValue) (m : Moment) → is_telling u ≡ true → MovesBy u w m → HasReason n s r F m.place m.act m.found m.hand → told_word w (Life d) ≡ told_word u (Life d)
+  move_leaves u w m telling by why =
+      let after = leaves u w m.place m.act m.kind m.mark m.found by.moves telling (Life d) in
+      by_bool (is_same (Life d) m.place)
+      (λ on.
+      let place : Life d ≡ m.place = same_place (Life d) m.place on in
+      let why' : HasReason n s r F (Life d) m.act m.found m.hand = subst (λ p. HasReason n s r F p m.act m.found m.hand) (sym place) why in
+      (rw on at after) ∙ act_leaves m.act m.found (told_word u m.place) m.hand why' ∙ ap (told_word u) (sym place))
+      (λ off. rw off at after)
+
+  ran_leaves : (v w : PortValue) (ms : List Moment) → is_telling v ≡ true → Ran v ms w → EachOf (λ (m : Moment). HasReason n s r F m.place m.act m.found m.hand) ms → told_word w (Life d) ≡ told_word v (Life d)
+  unfolding EachOf
+  ran_leaves v w [] telling same why = ap (λ (y : PortValue). told_word y (Life d)) same
+  ran_leaves v w (m ∷ ms) telling ran why =
+      move_leaves ran.0 w m (ran_telling v ran.0 ms ran.1 ∙ telling) ran.2 why.0 ∙ ran_leaves v ran.0 ms telling ran.1 why.1
+
+pub serves_leaves : (v w : PortValue) (r : Request) (ds : List Deed) (d : ℕ) → r.destroys ≡ None → is_telling v ≡ true → Serves v w r ds → told_word w (Life d) ≡ told_word v (Life d)
+unfolding Serves
+serves_leaves v w r ds d none telling s =
+    ran_leaves v.post.machine v.post.vcpu r (Met v w) d none v w s.0 telling s.1.ran s.1.reasons

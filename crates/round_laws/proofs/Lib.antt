@@ -1,0 +1,11 @@
+mod Numbers
+mod Sums
+mod Splitting
+mod Falling
+mod Beginning
+mod Cited
+mod Turned
+mod Counting
+mod Steadying
+mod Waiting
+mod Opening

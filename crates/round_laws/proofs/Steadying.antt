@@ -1,0 +1,194 @@
+-- A stage that is steady is so behind a turn, and less is to be done then.
+use Rattle.std.proofs.Common.{◌≡◌, ◌≢◌, ℕ, ◌<◌, ◌≤◌, ◌⊎◌, inl, inr, Bool, true, false, List, length, Option, Some, None, refl, sym, ap, ◌∙◌, subst, slice_set, slice_index_or, length-set, get_or-set_same, arith}
+use Rattle.std.specs.Prelude.{slice_get}
+use Rattle.std.proofs.lemmas.Bool.{cases_eq}
+use Rattle.std.proofs.lemmas.List.{get_or-set_other}
+use Rattle.std.proofs.lemmas.Option.{get_or_from_slice_get, same_Some, slice_get-get_or, slice_get_within}
+use Rattle.xp_words.specs.Machine.{Machine}
+use Rattle.xp_words.specs.Places.{run_of, sizes_of}
+use Rattle.xp_words.specs.declared.place.Place.TheVariants.{Clock}
+use Rattle.xp_board.specs.Hands.{IsEmptyHand}
+use Rattle.xp_board.specs.Readings.{kind_at}
+use Rattle.xp_board.specs.Sound.{SoundState, hand_of}
+use Rattle.xp_board.specs.Told.{Post, PortValue, Story, told_word, word_in}
+use Rattle.step_maker.specs.Moves.{Came}
+use Rattle.step_maker.specs.Plain.{Words}
+use Rattle.step_maker.proofs.Coming.{came_post}
+use Rattle.answer_laws.specs.Alone.{IsAlone}
+use Rattle.course_laws.specs.Courses.{IsOrderly}
+use Rattle.vcpu_turn.specs.Cpus.{Processing}
+use Rattle.turn_laws.specs.Unhindered.{IsUnhindered}
+use Rattle.turn_laws.proofs.TurnSteps.{turn_came}
+use Rattle.frame_ranks.specs.Ranks.{AreAllAlive, rank_at}
+use Rattle.turn_measures.specs.Measures.{KeepsLeft, LeavesOthers}
+use Rattle.xp_machine.specs.Turns.{ByCpu, IsStagedTurn, MakesStagedTurn, Stage, UnlessRetired}
+use Rattle.round_laws.specs.Rounds.{AwaitsFlush}
+use Rattle.round_laws.specs.Stages.{IsSteady, IsSteadyCpu, to_go, words_of}
+use Rattle.round_laws.proofs.Cited.{TurnLaws}
+use Rattle.round_laws.proofs.Counting.{number_falls, rank_most}
+use Rattle.round_laws.proofs.Turned.{TurnLeaves, kept_as, leaves}
+
+-- ---- whose turn it is
+pub record HasTurn (DoesNext : Processing → Stage → Stage → Type 0) (v : ℕ) (s s' : Stage) : Type 0 where
+  pub cpu : Processing
+  pub here : slice_get s.cpus v ≡ Some cpu
+  pub works : cpu.retired ≡ false
+  pub does : DoesNext cpu s s'
+
+by_bool : (DoesNext : Processing → Stage → Stage → Type 0) (v : ℕ) (s s' : Stage) (c : Processing) (b : Bool) → slice_get s.cpus v ≡ Some c → c.retired ≡ b → UnlessRetired DoesNext c b s s' → ((s' ≡ s) × (c.retired ≡ true)) ⊎ HasTurn DoesNext v s s'
+by_bool DoesNext v s s' c true here is does = inl (does, is)
+by_bool DoesNext v s s' c false here is does = inr (record { cpu = c; here = here; works = is; does = does })
+
+pub record HasNone (v : ℕ) (s s' : Stage) : Type 0 where
+  pub cpu : Processing
+  pub here : slice_get s.cpus v ≡ Some cpu
+  pub retired : cpu.retired ≡ true
+  pub same : s' ≡ s
+
+by_option : (DoesNext : Processing → Stage → Stage → Type 0) (v : ℕ) (s s' : Stage) (o : Option Processing) → slice_get s.cpus v ≡ o → ByCpu DoesNext o s s' → HasNone v s s' ⊎ HasTurn DoesNext v s s'
+by_option DoesNext v s s' None here does = absurd does
+by_option DoesNext v s s' (Some c) here does =
+    elim (by_bool DoesNext v s s' c c.retired here refl does) [
+      | inl rests ↦ inl (record { cpu = c; here = here; retired = rests.1; same = rests.0 })
+      | inr turns ↦ inr turns
+    ]
+
+pub by_cpu : (DoesNext : Processing → Stage → Stage → Type 0) (v : ℕ) (s s' : Stage) → ByCpu DoesNext (slice_get s.cpus v) s s' → HasNone v s s' ⊎ HasTurn DoesNext v s s'
+by_cpu DoesNext v s s' does = by_option DoesNext v s s' (slice_get s.cpus v) refl does
+
+-- ---- the list of vCPUs
+pub set_at : (cpus : List Processing) (v t : ℕ) (d x : Processing) → v < length cpus → slice_get (slice_set cpus v d) t ≡ Some x → ((t ≡ v) × (x ≡ d)) ⊎ ((t ≢ v) × (slice_get cpus t ≡ Some x))
+set_at cpus v t d x within at =
+    let there : t < length cpus = subst (λ k. t < k) (length-set cpus v d) (slice_get_within (slice_set cpus v d) t x at) in
+    let is = get_or_from_slice_get (slice_set cpus v d) t x x at in
+    elim (cases_eq t v) [
+      | inl same ↦ inl (same, sym is ∙ ap (λ k. slice_index_or (slice_set cpus v d) k x) same ∙ get_or-set_same cpus v d x within)
+      | inr off ↦ inr (off, slice_get-get_or cpus t x there ∙ ap (λ y. Some y) (sym (get_or-set_other cpus v t d x off) ∙ is))
+    ]
+
+-- ---- a turn from a steady stage
+module _ (laws : TurnLaws) (n : Machine) (v : ℕ) (c : Processing) (s s' : Stage) (steady : IsSteady n s) (here : slice_get s.cpus v ≡ Some c) (works : c.retired ≡ false) (m : MakesStagedTurn n v c s s') where
+  pub from_words : told_word m.from ≡ words_of n s
+  from_words = λ i p. word_in (m.from_is.machine i) (m.from_is.told i) p
+
+  pub to_words : told_word m.to ≡ words_of n s'
+  to_words = λ i p. word_in (m.to_is.machine i) (m.to_is.told i) p
+
+  pub alone_from : IsAlone m.from
+  alone_from =
+      record {
+        story = s.board;
+        telling = m.from_is.told;
+        state = subst (λ k. SoundState k s.board.words s.board.hands) (sym m.from_is.machine) steady.state;
+        mine = ap (hand_of s.board.hands) m.from_is.vcpu_is ∙ sym m.from_is.hand;
+        others = λ t real off. steady.empty t (subst (λ (k : Machine). t < (sizes_of k).vcpus) m.from_is.machine real);
+      }
+
+  came : Came m.from m.to
+  came = turn_came c m.after m.end m.from m.to m.answers m.turn
+
+  pub alone_to : IsAlone m.to
+  alone_to = laws.stays m.from m.to alone_from came
+
+  sound_to : SoundState n s'.board.words s'.board.hands
+  sound_to =
+      let story : alone_to.story ≡ s'.board = same_Some alone_to.story s'.board (sym alone_to.telling ∙ m.to_is.told) in
+      subst (λ (x : Machine × Story). SoundState x.0 x.1.words x.1.hands) (λ i. (m.to_is.machine i, story i)) alone_to.state
+
+  most : (f : ℕ) → f < n.frames → rank_at (words_of n s') f ≤ 515
+  most f real =
+      let orderly : IsOrderly n (words_of n s') = subst (λ (x : Machine × Words). IsOrderly x.0 x.1) (λ i. (m.to_is.machine i, to_words i)) (laws.orderly m.to alone_to) in
+      rank_most (kind_at (words_of n s') f) (orderly.spelled f real)
+
+  pub plain : TurnLeaves n v c m.after m.end (words_of n s) (words_of n s')
+  plain =
+      let at : IsSteadyCpu (words_of n s) v c = steady.each v c here in
+      subst (λ (x : Machine × ℕ × Words × Words). TurnLeaves x.0 x.1 c m.after m.end x.2 x.3) (λ i. (m.from_is.machine i, m.from_is.vcpu_is i, from_words i, to_words i))
+      (leaves laws c m.after m.end m.from m.to m.answers alone_from works at.within
+      (subst (λ (x : ℕ × Words). KeepsLeft x.1 x.0 c.left) (λ i. (sym m.from_is.vcpu_is i, sym from_words i)) at.left)
+      (subst (λ (x : Machine × Words). AreAllAlive x.0 x.1) (λ i. (sym m.from_is.machine i, sym from_words i)) steady.alive)
+      (subst (λ k. IsUnhindered k m.end) (sym m.from_is.machine) m.unhindered) m.turn)
+
+  within : v < length s.cpus
+  within = slice_get_within s.cpus v c here
+
+  each : (t : ℕ) (x : Processing) → slice_get s'.cpus t ≡ Some x → IsSteadyCpu (words_of n s') t x
+  each t x at =
+      elim (set_at s.cpus v t m.after x within (subst (λ xs. slice_get xs t ≡ Some x) m.cpus at)) [
+        | inl own ↦
+            subst (λ (y : ℕ × Processing). IsSteadyCpu (words_of n s') y.0 y.1) (λ i. (sym own.0 i, sym own.1 i))
+            (record { within = plain.within; left = plain.left; stopped = plain.stopped; ended = plain.ended })
+        | inr other ↦
+            (let old : IsSteadyCpu (words_of n s) t x = steady.each t x other.1 in
+            record {
+              within = old.within;
+              left = kept_as (words_of n s) (words_of n s') t x.left (plain.others.words t 2 other.0 (λ same. absurd (omega arith))) old.left;
+              stopped = λ is none. old.stopped is (sym (plain.others.words t 6 other.0 (λ same. absurd (omega arith))) ∙ none);
+              ended = old.ended;
+            })
+      ]
+
+  empty : (t : ℕ) → t < (sizes_of n).vcpus → IsEmptyHand (hand_of s'.board.hands t)
+  empty t real =
+      elim (cases_eq t v) [
+        | inl at ↦ subst (λ k. IsEmptyHand (hand_of s'.board.hands k)) (sym at) m.leads.empty
+        | inr off ↦
+            (let story : alone_to.story ≡ s'.board = same_Some alone_to.story s'.board (sym alone_to.telling ∙ m.to_is.told) in
+            subst (λ (x : Story). IsEmptyHand (hand_of x.hands t)) story
+            (alone_to.others t (subst (λ (k : Machine). t < (sizes_of k).vcpus) (sym m.to_is.machine) real) (λ same. off (same ∙ m.to_is.vcpu_is))))
+      ]
+
+  pub steady_then : IsSteady n s'
+  steady_then =
+      record {
+        machine = steady.machine;
+        state = sound_to;
+        hands = sound_to.all_hands;
+        empty = empty;
+        all = ap length m.cpus ∙ length-set s.cpus v m.after ∙ steady.all;
+        each = each;
+        alive = λ d real. plain.others.lives d ∙ steady.alive d real;
+      }
+
+  pub lowered : (AwaitsFlush m.end × (to_go n s' ≤ to_go n s)) ⊎ (to_go n s' < to_go n s)
+  lowered = number_falls n v c m.after m.end s s' here m.cpus steady steady_then plain.others most plain.less
+
+-- ---- whoever's turn it is
+module _ (laws : TurnLaws) (n : Machine) (v : ℕ) (s s' : Stage) (steady : IsSteady n s) (turn : IsStagedTurn n v s s') where
+  pub steady_behind : IsSteady n s'
+  steady_behind =
+      elim (by_cpu (MakesStagedTurn n v) v s s' turn) [
+        | inl rests ↦ subst (IsSteady n) (sym rests.same) steady
+        | inr turns ↦ steady_then laws n v turns.cpu s s' steady turns.here turns.works turns.does
+      ]
+
+  pub no_more_to_go : to_go n s' ≤ to_go n s
+  no_more_to_go =
+      elim (by_cpu (MakesStagedTurn n v) v s s' turn) [
+        | inl rests ↦ subst (λ x. to_go n x ≤ to_go n s) (sym rests.same) (no_more (to_go n s))
+        | inr turns ↦
+            (elim (lowered laws n v turns.cpu s s' steady turns.here turns.works turns.does) [
+              | inl waits ↦ waits.1
+              | inr falls ↦ lower (to_go n s') (to_go n s) falls
+            ])
+      ]
+    where
+      no_more : (k : ℕ) → k ≤ k
+      no_more k = omega arith
+
+      lower : (j k : ℕ) → j < k → j ≤ k
+      lower j k less = omega arith
+
+  pub clock_on : words_of n s Clock ≤ words_of n s' Clock
+  clock_on =
+      elim (by_cpu (MakesStagedTurn n v) v s s' turn) [
+        | inl rests ↦ subst (λ x. words_of n s Clock ≤ words_of n x Clock) (sym rests.same) (omega arith)
+        | inr turns ↦ (plain laws n v turns.cpu s s' steady turns.here turns.works turns.does).others.clock
+      ]
+
+pub less_to_go : TurnLaws → (n : Machine) (v : ℕ) (c : Processing) (s s' : Stage) → IsSteady n s → slice_get s.cpus v ≡ Some c → c.retired ≡ false → (turn : MakesStagedTurn n v c s s') → (AwaitsFlush turn.end → ⊥) → to_go n s' < to_go n s
+less_to_go laws n v c s s' steady here works turn goes =
+    elim (lowered laws n v c s s' steady here works turn) [
+      | inl waits ↦ absurd (goes waits.0)
+      | inr falls ↦ falls
+    ]
