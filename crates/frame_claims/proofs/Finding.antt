@@ -1,0 +1,171 @@
+-- A block that is tried: each look finds a frame free, and its stamp.
+use Rattle.std.proofs.Common.{◌≡◌, ◌≢◌, ℕ, suc, zero, ◌+◌, ◌-◌, ◌*◌, ◌/◌, ◌%◌, ◌^◌, ◌<◌, ◌≤◌, ◌==◌, ◌&&◌, ◌++◌, true, false, List, [], ◌∷◌, length, Option, Some, None, IfSome, IsTrue, refl, sym, ap, ◌∙◌, subst, inl, inr, ◌⊎◌, arith, slice_index_or}
+use Rattle.std.proofs.Math.Nat.{add-mul-mod_self_left, le-div_iff_mul-le, mul-mod_left, zero-mod}
+use Rattle.std.proofs.lemmas.Nat.{mul-mod_first}
+use Rattle.xp_words.specs.Machine.{Machine, IsMachine}
+use Rattle.xp_words.specs.RefWords.{ref_read, ref_write, IsRef}
+use Rattle.xp_words.specs.declared.place.Place.{Place}
+use Rattle.xp_words.specs.declared.place.Place.TheVariants.{Map, Refs}
+use Rattle.xp_words.specs.declared.refs.RefWord.TheVariants.{Free}
+use Rattle.xp_words.proofs.RefLaws.{ref_write-read}
+use Rattle.xp_board.proofs.RefWords.{read_small}
+use Rattle.xp_board.specs.Acts.{left_by}
+use Rattle.xp_board.specs.Readings.{is_free}
+use Rattle.xp_board.specs.declared.step.Act.TheVariants.{Load}
+use Rattle.xp_board.specs.declared.step.StepKind.TheVariants as kinds
+use Rattle.xp_board.specs.Told.{Post, PortValue}
+use Rattle.board_lemmas.proofs.Sums.{when_eq}
+use Rattle.step_maker.specs.Holds.{MayWork, Same}
+use Rattle.step_maker.specs.Moves.{Came, Met, Moves}
+use Rattle.step_maker.proofs.Coming.{came_post, met_after, met_before, moves_came}
+use Rattle.step_maker.proofs.Noting.{moves_since}
+use Rattle.answer_fits.specs.Answers.{Serves}
+use Rattle.answer_fits.specs.Finding.{FoundAt}
+use Rattle.answer_fits.specs.Asked.{of_back}
+use Rattle.answer_fits.proofs.Changing.{moves_found}
+use Rattle.answer_fits.proofs.Piecing.{serves_came, serves_nothing, serves_step, serves_then}
+use Rattle.flush_waits.specs.Waiting.{HadFree}
+use Rattle.flush_waits.proofs.Growing.{came_grows}
+use Rattle.frame_claims.specs.declared.choosing.Chosen.{Chosen}
+use Rattle.frame_claims.specs.Choosing.{FreeWord, IsFound, IsLatest, Looks, SeenFree}
+
+-- ---- words
+pub free_word : (w stamp : ℕ) → ref_read w ≡ Some (Free stamp) → w ≡ stamp
+unfolding ref_write
+free_word w stamp e = sym (ref_write-read w (Free stamp) (read_small w (Free stamp) e) e).1
+
+pub word_free : (w stamp : ℕ) → FreeWord w stamp → is_free w ≡ true
+unfolding is_free
+word_free w stamp f = rw f.read refl
+
+-- ---- looks
+pub looks_nothing : (v : PortValue) → Looks v v
+looks_nothing v = record { serves = λ r. serves_nothing v r; hand = refl }
+
+pub looks_then : (v u w : PortValue) → Looks v u → Looks u w → Looks v w
+looks_then v u w a b = record { serves = λ r. serves_then v u w r [] [] (a.serves r) (b.serves r); hand = b.hand ∙ a.hand }
+
+pub looks_came : (v w : PortValue) → Looks v w → Came v w
+looks_came v w a = serves_came v w (of_back 0) [] (a.serves (of_back 0))
+
+pub look_refs_looks : (v u w : PortValue) (f x : ℕ) → Looks v u → Moves u w (Refs f) Load kinds.Look None x → Same u w → Looks v w
+look_refs_looks v u w f x a m same = record { serves = λ r. serves_step v u w r [] (Refs f) Load kinds.Look None x (a.serves r) m tt; hand = same ∙ a.hand }
+
+-- ---- what they found stays found
+pub had_later : (u w : PortValue) (f stamp : ℕ) → Came u w → HadFree u.post.machine f stamp u.holdings → HadFree w.post.machine f stamp w.holdings
+had_later u w f stamp came had = subst (λ (q : Post). HadFree q.machine f stamp w.holdings) (sym (came_post u w came)) (came_grows u w came _ had)
+
+pub had_now : (u w : PortValue) (f x stamp : ℕ) → Moves u w (Refs f) Load kinds.Look None x → FreeWord x stamp → HadFree w.post.machine f stamp w.holdings
+unfolding left_by
+had_now u w f x stamp m free =
+    subst (λ (q : Post). HadFree q.machine f stamp w.holdings) (sym (came_post u w (moves_came u w _ _ _ _ _ m)))
+    (moves_since u w (Refs f) Load kinds.Look None x m 0 (λ y. is_free y && (y == stamp)) (omega arith) (rw (word_free x stamp free, when_eq x stamp free.is) refl))
+
+-- ---- the list of stamps, one longer
+pub at_old : (xs : List ℕ) (s j : ℕ) → j < length xs → slice_index_or (xs ++ s ∷ []) j 0 ≡ slice_index_or xs j 0
+at_old [] s j low = absurd (omega (arith, low))
+at_old (x ∷ xs) s zero low = refl
+at_old (x ∷ xs) s (suc j) low = at_old xs s j (omega (arith, low))
+
+pub at_new : (xs : List ℕ) (s : ℕ) → slice_index_or (xs ++ s ∷ []) (length xs) 0 ≡ s
+at_new [] s = refl
+at_new (x ∷ xs) s = at_new xs s
+
+pub one_longer : (xs : List ℕ) (s : ℕ) → length (xs ++ s ∷ []) ≡ length xs + 1
+one_longer [] s = refl
+one_longer (x ∷ xs) s = let rest = one_longer xs s in omega (arith, rest)
+
+below_or : (j k : ℕ) → j < k + 1 → (j < k) ⊎ (j ≡ k)
+below_or j k l = grind arith
+
+-- P holds of each stamp and its number
+pub each_more : (P : ℕ → ℕ → Type 0) (xs : List ℕ) (s : ℕ) → ((j : ℕ) → j < length xs → P j (slice_index_or xs j 0)) → P (length xs) s → (j : ℕ) → j < length (xs ++ s ∷ []) → P j (slice_index_or (xs ++ s ∷ []) j 0)
+each_more P xs s all here j low =
+    elim (below_or j (length xs) (let long = one_longer xs s in omega (arith, low, long))) [
+      | inl under ↦ subst (P j) (sym (at_old xs s j under)) (all j under)
+      | inr is ↦ subst (λ k. P k (slice_index_or (xs ++ s ∷ []) k 0)) (sym is) (subst (P (length xs)) (sym (at_new xs s)) here)
+    ]
+
+-- ---- what was seen
+found_seen : (v u w : PortValue) (p : Place) (x : ℕ) → Came v u → FoundAt (Met u w) p x → FoundAt (Met v w) p x
+found_seen v u w p x came f = record { moment = f.moment; was = met_after v u w f.moment came f.was; place = f.place; word = f.word }
+
+pub seen_now : (v u w : PortValue) (f x s : ℕ) → Came v u → Moves u w (Refs f) Load kinds.Look None x → FreeWord x s → SeenFree v w f s
+seen_now v u w f x s came m word =
+    record {
+      found = subst (λ y. FoundAt (Met v w) (Refs f) y) word.is (found_seen v u w (Refs f) x came (moves_found u w (Refs f) Load kinds.Look None x m));
+      free = subst (λ y. is_free y ≡ true) word.is (word_free x s word);
+    }
+
+pub seen_later : (v u w : PortValue) (f s : ℕ) → Came u w → SeenFree v u f s → SeenFree v w f s
+seen_later v u w f s came seen =
+    record { found = record { moment = seen.found.moment; was = met_before v u w seen.found.moment seen.found.was came; place = seen.found.place; word = seen.found.word }; free = seen.free }
+
+pub seen_from : (v u w : PortValue) (f s : ℕ) → Came v u → SeenFree u w f s → SeenFree v w f s
+seen_from v u w f s came seen = record { found = found_seen v u w (Refs f) s came seen.found; free = seen.free }
+
+-- ---- the one with the greatest stamp
+pub latest_now : (v u w : PortValue) (first f x s : ℕ) → Came v u → Moves u w (Refs f) Load kinds.Look None x → FreeWord x s → first ≤ f → IsLatest v w first (f + 1) f s
+latest_now v u w first f x s came m word from = record { seen = seen_now v u w f x s came m word; had = had_now u w f x s m word; from = from; to = omega arith }
+
+pub latest_later : (v u w : PortValue) (first below f s : ℕ) → Came u w → IsLatest v u first below f s → IsLatest v w first (below + 1) f s
+latest_later v u w first below f s came l =
+    record {
+      seen = seen_later v u w f s came l.seen;
+      had = had_later u w f s came l.had;
+      from = l.from;
+      to = (let to = l.to in omega (arith, to));
+    }
+
+-- a smaller one came only behind another
+pub some_of : (k greatest s : ℕ) → (k ≡ 0 → greatest ≡ 0) → (greatest ≤ s → ⊥) → 0 < k
+some_of zero greatest s none less = absurd (let is = none refl in less (omega (arith, is)))
+some_of (suc k) greatest s none less = omega arith
+
+-- ---- for the search
+pub free_told : (w stamp : ℕ) → Some (Free stamp) ≡ ref_read w → IsRef (Free stamp) → FreeWord w stamp
+unfolding IsRef
+free_told w stamp reads low = record { read = sym reads; is = free_word w stamp (sym reads); low = low }
+
+pub look_map_looks : (v u w : PortValue) (k x : ℕ) → Looks v u → Moves u w (Map k) Load kinds.Look None x → Same u w → Looks v w
+look_map_looks v u w k x a m same = record { serves = λ r. serves_step v u w r [] (Map k) Load kinds.Look None x (a.serves r) m tt; hand = same ∙ a.hand }
+
+pub may_look : (v u : PortValue) → Looks v u → MayWork v → MayWork u
+may_look v u a may =
+    record {
+      running = ap (λ (y : PortValue). y.holdings.run) a.hand ∙ may.running;
+      no_walk = ap (λ (y : PortValue). y.holdings.walk) a.hand ∙ may.no_walk;
+      machine = subst (λ (n : Machine). IsMachine n) (sym (ap (λ (y : PortValue). y.post.machine) a.hand)) may.machine;
+    }
+
+pub found_from : (v u w : PortValue) (size : ℕ) (stamps : List ℕ) (c : Chosen) → Looks v u → IsFound u w size stamps c → IsFound v w size stamps c
+found_from v u w size stamps c looks f =
+    let l = f.latest in
+    let came = looks_came v u looks in
+    record {
+      inside = f.inside;
+      aligned = f.aligned;
+      whole = f.whole;
+      low = f.low;
+      seen = λ j l. seen_from v u w _ _ came (f.seen j l);
+      free = f.free;
+      most = f.most;
+      latest = record { seen = seen_from v u w c.latest c.stamp came l.seen; had = l.had; from = l.from; to = l.to };
+    }
+
+pub found_some : (v u w : PortValue) (size : ℕ) (stamps : List ℕ) (o : Option Chosen) → Looks v u → IfSome o (λ c. IsFound u w size stamps c) → IfSome o (λ c. IsFound v w size stamps c)
+found_some v u w size stamps None looks f = tt
+found_some v u w size stamps (Some c) looks f = found_from v u w size stamps c looks f
+
+pub block_fits : (b n s : ℕ) → 0 < s → b < n / s → b * s + s ≤ n
+block_fits b n s some low = let k = (le-div_iff_mul-le {k = s} {x = b + 1} {y = n} some).0 (omega (arith, low)) in grind (arith, k)
+
+-- a block with that number is aligned
+pub block_aligned : (b s : ℕ) → 0 < s → (b * s) % s ≡ 0
+block_aligned b s some = mul-mod_left b s
+
+-- in a word of the map, too
+pub bits_aligned : (w a s : ℕ) → 0 < s → 64 % s ≡ 0 → (64 * w + s * a) % s ≡ 0
+bits_aligned w a s some parts = add-mul-mod_self_left (64 * w) s a ∙ sym (mul-mod_first 64 w s) ∙ ap (λ k. (k * w) % s) parts ∙ (let none : 0 * w ≡ 0 = omega arith in ap (λ k. k % s) none ∙ zero-mod s)
+
+pub ruleset looking = (bits_aligned, block_aligned, looks_nothing, looks_then, look_map_looks, look_refs_looks, may_look, found_some)

@@ -1,0 +1,68 @@
+use Rattle.std.proofs.Common.{◌≡◌, ℕ, ◌+◌, ◌<◌, ◌≤◌, ◌^◌, ◌++◌, ◌∷◌, [], List, length, ap, ◌∙◌, arith, refl, subst, sym, slice_index_or}
+use Rattle.step_maker.proofs.Coming.{moves_came}
+use Rattle.flush_waits.specs.Waiting.{HadFree}
+use Rattle.frame_claims.specs.Choosing.{IsLatest, SeenFree}
+use Rattle.frame_claims.proofs.Finding.{each_more, had_later, had_now, latest_later, latest_now, look_refs_looks, looks_came, looks_nothing, one_longer, seen_later, seen_now, some_of}
+use Rattle.frame_claims.proofs.choosing.try_block.Goals.{then-stamp-greatest, else-stamp-greatest}
+use Rattle.frame_claims.proofs.choosing.try_block.Goals as goal
+
+pub loop-frame-init : goal.loop-frame-init
+loop-frame-init g c =
+    let none : length c.clear.new.self.items ≡ 0 = ap (λ (xs : List ℕ). length xs) c.clear.ensures in
+    record {
+      looks = looks_nothing (g.P.Port.value c.args.port.now);
+      count = omega (arith, none);
+      low = λ j l. absurd (omega (arith, none, l));
+      seen = λ j l. absurd (omega (arith, none, l));
+      free = λ j l. absurd (omega (arith, none, l));
+      most = λ j l. absurd (omega (arith, none, l));
+      none = λ e. refl;
+      latest = λ l. absurd (omega (arith, none, l));
+    }
+
+pub returns-in_err-stamp-clause-looks : goal.returns-in_err-stamp-clause-looks
+returns-in_err-stamp-clause-looks g c =
+    look_refs_looks (g.P.Port.value c.args.port.now) (g.P.Port.value c.loop-frame.port) (g.P.Port.value c.look_refs-word.new.port) c.loop-frame.frame c.look_refs-word.result c.loop-frame.invariant.looks c.look_refs-word.ensures.moves c.look_refs-word.ensures.hand
+
+pub loop-frame-preserved : goal.loop-frame-preserved
+loop-frame-preserved g c =
+    let v = g.P.Port.value c.args.port.now in
+    let u = g.P.Port.value c.loop-frame.port in
+    let w = g.P.Port.value c.look_refs-word.new.port in
+    let so = c.loop-frame.invariant in
+    let xs = c.loop-frame.stamps.items in
+    let s = c.in_ok-stamp.stamp in
+    let frame = c.loop-frame.frame in
+    let x = c.look_refs-word.result in
+    let word = c.in_ok-stamp.ensures.some in
+    let moves = c.look_refs-word.ensures.moves in
+    let came = moves_came u w _ _ _ _ _ moves in
+    let longer = one_longer xs s in
+    let at = so.count in
+    record {
+      looks = look_refs_looks v u w frame x so.looks moves c.look_refs-word.ensures.hand;
+      count = ap (λ (ys : List ℕ). c.args.first + length ys) c.push.ensures.items ∙ omega (arith, longer, at);
+      low = subst (λ ys. (j : ℕ) → j < length ys → slice_index_or ys j 0 < 2 ^ 36) (sym c.push.ensures.items) (each_more (λ j t. t < 2 ^ 36) xs s so.low word.low);
+      seen = subst (λ ys. (j : ℕ) → j < length ys → SeenFree v w (c.args.first + j) (slice_index_or ys j 0)) (sym c.push.ensures.items)
+          (each_more (λ j t. SeenFree v w (c.args.first + j) t) xs s (λ j l. seen_later v u w (c.args.first + j) (slice_index_or xs j 0) came (so.seen j l))
+          (subst (λ f. SeenFree v w f s) (sym at) (seen_now v u w frame x s (looks_came v u so.looks) moves word)));
+      free = subst (λ ys. (j : ℕ) → j < length ys → HadFree w.post.machine (c.args.first + j) (slice_index_or ys j 0) w.holdings) (sym c.push.ensures.items)
+          (each_more (λ j t. HadFree w.post.machine (c.args.first + j) t w.holdings) xs s (λ j l. had_later u w (c.args.first + j) (slice_index_or xs j 0) came (so.free j l))
+          (subst (λ f. HadFree w.post.machine f s w.holdings) (sym at) (had_now u w frame x s moves word)));
+      most = subst (λ ys. (j : ℕ) → j < length ys → slice_index_or ys j 0 ≤ c.if-stamp-greatest.greatest) (sym c.push.ensures.items)
+          (elim c.if-stamp-greatest.branch [
+            | then-stamp-greatest b ↦ each_more (λ j t. t ≤ c.if-stamp-greatest.greatest) xs s (λ j l. (let most = so.most j l in let is = b.greatest-is in let more = b.if-stamp-greatest in omega (arith, most, is, more))) (let is = b.greatest-is in omega (arith, is))
+            | else-stamp-greatest b ↦ each_more (λ j t. t ≤ c.if-stamp-greatest.greatest) xs s (λ j l. (let most = so.most j l in let is = b.greatest-is in omega (arith, most, is))) (let is = b.greatest-is in let less = b.if-stamp-greatest in omega (arith, is, less))
+          ]);
+      none = λ e. absurd (let long : length c.push.new.self.items ≡ length xs + 1 = ap (λ (ys : List ℕ). length ys) c.push.ensures.items ∙ longer in omega (arith, long, e));
+      latest = λ some.
+          elim c.if-stamp-greatest.branch [
+            | then-stamp-greatest b ↦
+                subst (λ t. IsLatest v w c.args.first (frame + 1) c.if-stamp-greatest.latest t) (sym b.greatest-is)
+                (subst (λ f. IsLatest v w c.args.first (frame + 1) f s) (sym b.latest-is) (latest_now v u w c.args.first frame x s (looks_came v u so.looks) moves word (omega (arith, at))))
+            | else-stamp-greatest b ↦
+                subst (λ t. IsLatest v w c.args.first (frame + 1) c.if-stamp-greatest.latest t) (sym b.greatest-is)
+                (subst (λ f. IsLatest v w c.args.first (frame + 1) f c.loop-frame.greatest) (sym b.latest-is)
+                (latest_later v u w c.args.first frame c.loop-frame.latest c.loop-frame.greatest came (so.latest (some_of (length xs) c.loop-frame.greatest s so.none (λ l. (let less = b.if-stamp-greatest in absurd (omega (arith, l, less))))))))
+          ];
+    }

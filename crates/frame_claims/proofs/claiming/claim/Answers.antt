@@ -1,0 +1,50 @@
+use Rattle.std.proofs.Common.{◌≡◌, ℕ, ◌^◌, ◌≤◌, [], length, ap, refl, sym, ◌∙◌, subst}
+use Rattle.xp_board.specs.Readings.{domain_of}
+use Rattle.xp_board.specs.Told.{Post, PortValue}
+use Rattle.answer_fits.specs.Answers.{missed}
+use Rattle.frame_claims.specs.Claiming.{ServesWhole}
+use Rattle.frame_claims.specs.Blocks.{given_deeds}
+use Rattle.frame_claims.proofs.Closing.{back_for, charged_row, credit_for, gave_all, gave_back, given_all, pages_first, pages_last, post_there, same_missed}
+use Rattle.frame_claims.proofs.Composing.{pages_back}
+use Rattle.frame_claims.proofs.claiming.claim.Goals as goal
+
+pub take-requires-clause-row : goal.take-requires-clause-row
+take-requires-clause-row g c = charged_row (g.P.Port.value c.args.port.now) (g.P.Port.value c.charge.new.port) c.args.owner c.size_of-size.result c.requires.rests.empty c.in_ok-charge.ensures.hand
+
+pub refund_pages-requires-clause-credit : goal.refund_pages-requires-clause-credit
+refund_pages-requires-clause-credit g c = credit_for (g.P.Port.value c.charge.new.port) (g.P.Port.value c.take.new.port) c.args.owner c.size_of-size.result c.from.result c.from.ensures c.in-Err.ensures.took
+
+pub returns-in-Ok-clause-serves : goal.returns-in-Ok-clause-serves
+returns-in-Ok-clause-serves g c =
+    let v = g.P.Port.value c.args.port.now in
+    let x = g.P.Port.value c.charge.new.port in
+    let u = g.P.Port.value c.take.new.port in
+    let w = g.P.Port.value c.give_block.new.port in
+    let long = ap (λ l. length l) c.as_slice.ensures.value ∙ c.in-Ok.ensures.took.whole in
+    subst (λ k. ServesWhole v w c.in-Ok.first k (given_deeds c.in-Ok.first k)) c.size_of-size.ensures.power
+    (given_all v u w c.in-Ok.first c.size_of-size.result _ long (pages_first v x u c.in-Ok.first c.size_of-size.result [] c.in_ok-charge.ensures.serves c.in-Ok.ensures.serves) c.give_block.ensures.serves)
+
+pub returns-in-Ok-clause-hand : goal.returns-in-Ok-clause-hand
+returns-in-Ok-clause-hand g c =
+    gave_all (g.P.Port.value c.args.port.now) (g.P.Port.value c.charge.new.port) (g.P.Port.value c.take.new.port) (g.P.Port.value c.give_block.new.port) c.args.owner c.size_of-size.result c.in-Ok.first _ _
+    c.requires.rests.empty c.in_ok-charge.ensures.hand c.in-Ok.ensures.took c.give_block.ensures.row
+
+pub returns-in-Err-clause-serves : goal.returns-in-Err-clause-serves
+returns-in-Err-clause-serves g c =
+    let v = g.P.Port.value c.args.port.now in
+    let x = g.P.Port.value c.charge.new.port in
+    let u = g.P.Port.value c.take.new.port in
+    let w = g.P.Port.value c.refund_pages.new.port in
+    let b = c.in-Err.ensures.serves.0 in
+    let took = c.in-Err.ensures.took in
+    let n = ap (λ (y : PortValue). y.post.machine) c.in_ok-charge.ensures.hand in
+    let own = c.requires.own ∙ sym (ap (λ (q : Post). domain_of q.machine q.vcpu) (post_there v x u c.args.owner c.size_of-size.result c.in_ok-charge.ensures.hand took)) in
+    subst (λ k. (j : ℕ) × ServesWhole v w j k (missed v.post.machine c.in-Err.stop)) c.size_of-size.ensures.power
+    (b, pages_last v u w b c.size_of-size.result _ (pages_first v x u b c.size_of-size.result _ c.in_ok-charge.ensures.serves (same_missed x.post.machine v.post.machine x u b c.size_of-size.result c.in-Err.stop n c.in-Err.ensures.serves.1))
+    (pages_back u w c.args.owner _ _ own c.refund_pages.ensures.moves))
+
+pub returns-in-Err-clause-hand : goal.returns-in-Err-clause-hand
+returns-in-Err-clause-hand g c =
+    let u = g.P.Port.value c.take.new.port in
+    gave_back (g.P.Port.value c.args.port.now) (g.P.Port.value c.charge.new.port) u (g.P.Port.value c.refund_pages.new.port) c.args.owner c.size_of-size.result c.requires.rests.empty c.in_ok-charge.ensures.hand c.in-Err.ensures.took
+    (back_for u (g.P.Port.value c.refund_pages.new.port) c.args.owner c.size_of-size.result c.from.result c.from.ensures c.refund_pages.ensures.hand)

@@ -1,0 +1,66 @@
+use Rattle.std.proofs.Common.{◌+◌, [], length, Err, ap, sym, ◌∙◌, subst}
+use Rattle.std.proofs.lemmas.Result.{err_from_is_err_and}
+use Rattle.xp_board.specs.Told.{PortValue}
+use Rattle.answer_fits.specs.Answers.{missed}
+use Rattle.frame_claims.specs.Blocks.{HasRow, ServesBlock}
+use Rattle.frame_claims.proofs.Composing.{block_past, flushed_behind, none_taken, row_flushed, taken_stopped, then_block, wait_stopped, waited_block}
+use Rattle.frame_claims.proofs.claiming.take.Goals as goal
+
+pub returns-in_err-clear_free-in-Some-clause-serves : goal.returns-in_err-clear_free-in-Some-clause-serves
+returns-in_err-clear_free-in-Some-clause-serves g c =
+    let v = g.P.Port.value c.args.port.now in
+    let a = g.P.Port.value c.choose.new.port in
+    let x = g.P.Port.value c.clear_free.new.port in
+    let f = c.in-Some.ensures.found in
+    let answer = err_from_is_err_and c.from_residual.result c.from_residual.ensures.1 in
+    wait_stopped v x c.in-Some.chosen.first c.args.size _ _ (answer.1 ∙ ap Err answer.2) c.in_err-clear_free-in-Some.ensures.waits
+    (waited_block v a x c.args.size c.choose.new.stamps.items c.in-Some.chosen c.requires.some c.choose.ensures.looks f c.clear_free.ensures.serves)
+
+pub returns-in_err-clear_free-in-Some-clause-took : goal.returns-in_err-clear_free-in-Some-clause-took
+returns-in_err-clear_free-in-Some-clause-took g c =
+    let v = g.P.Port.value c.args.port.now in
+    let a = g.P.Port.value c.choose.new.port in
+    let x = g.P.Port.value c.clear_free.new.port in
+    let answer = err_from_is_err_and c.from_residual.result c.from_residual.ensures.1 in
+    let same = flushed_behind v a x c.choose.ensures.looks c.clear_free.ensures.hand in
+    none_taken v x x c.args.owner c.args.size 0 c.choose.new.stamps.items _ _ (answer.1 ∙ ap Err answer.2) same (row_flushed v x 0 0 c.args.owner c.args.size same c.requires.row)
+
+pub take_block-requires-clause-past : goal.take_block-requires-clause-past
+take_block-requires-clause-past g c =
+    block_past (g.P.Port.value c.args.port.now) (g.P.Port.value c.choose.new.port) (g.P.Port.value c.clear_free.new.port) c.args.size c.choose.new.stamps.items c.as_slice.result.now c.in-Some.chosen c.as_slice.ensures.value c.in-Some.ensures.found c.clear_free.ensures.came c.in_ok-clear_free-in-Some.ensures.past
+
+pub take_block-requires-clause-row : goal.take_block-requires-clause-row
+take_block-requires-clause-row g c =
+    let v = g.P.Port.value c.args.port.now in
+    let a = g.P.Port.value c.choose.new.port in
+    let x = g.P.Port.value c.clear_free.new.port in
+    let size = ap (λ l. length l) c.as_slice.ensures.value ∙ c.in-Some.ensures.found.whole in
+    subst (λ k. HasRow x x (c.in-Some.chosen.first + k) [] c.args.owner k) (sym size)
+    (row_flushed v x 0 (c.in-Some.chosen.first + c.args.size) c.args.owner c.args.size (flushed_behind v a x c.choose.ensures.looks c.clear_free.ensures.hand) c.requires.row)
+
+pub returns-in_err-take_block-in-Some-clause-serves : goal.returns-in_err-take_block-in-Some-clause-serves
+returns-in_err-take_block-in-Some-clause-serves g c =
+    let v = g.P.Port.value c.args.port.now in
+    let a = g.P.Port.value c.choose.new.port in
+    let x = g.P.Port.value c.clear_free.new.port in
+    let w = g.P.Port.value c.take_block.new.port in
+    let first = c.in-Some.chosen.first in
+    let answer = err_from_is_err_and c.from_residual-in_err-take_block-in-Some.result c.from_residual-in_err-take_block-in-Some.ensures.1 in
+    let size = ap (λ l. length l) c.as_slice.ensures.value ∙ c.in-Some.ensures.found.whole in
+    let whole = waited_block v a x c.args.size c.choose.new.stamps.items c.in-Some.chosen c.requires.some c.choose.ensures.looks c.in-Some.ensures.found c.clear_free.ensures.serves in
+    let same = flushed_behind v a x c.choose.ensures.looks c.clear_free.ensures.hand in
+    taken_stopped v w first c.args.size _ _ (answer.1 ∙ ap Err answer.2)
+    (then_block v x w first c.args.size _ whole
+    (subst (λ k. ServesBlock x w first k (missed v.post.machine c.in_err-take_block-in-Some.field-0.0)) size
+    (subst (λ n. ServesBlock x w first (length c.as_slice.result.now) (missed n c.in_err-take_block-in-Some.field-0.0)) (ap (λ (y : PortValue). y.post.machine) same) c.in_err-take_block-in-Some.ensures.serves)))
+
+pub returns-in_ok-take_block-in-Some-clause-serves : goal.returns-in_ok-take_block-in-Some-clause-serves
+returns-in_ok-take_block-in-Some-clause-serves g c =
+    let v = g.P.Port.value c.args.port.now in
+    let a = g.P.Port.value c.choose.new.port in
+    let x = g.P.Port.value c.clear_free.new.port in
+    let w = g.P.Port.value c.take_block.new.port in
+    let first = c.in-Some.chosen.first in
+    let size = ap (λ l. length l) c.as_slice.ensures.value ∙ c.in-Some.ensures.found.whole in
+    let whole = waited_block v a x c.args.size c.choose.new.stamps.items c.in-Some.chosen c.requires.some c.choose.ensures.looks c.in-Some.ensures.found c.clear_free.ensures.serves in
+    then_block v x w first c.args.size [] whole (subst (λ k. ServesBlock x w first k []) size c.in_ok-take_block-in-Some.ensures.serves)
