@@ -26,7 +26,8 @@ use Rattle.round_laws.specs.Rounds.{AwaitsFlush}
 use Rattle.round_laws.specs.Stages.{IsSteady, IsSteadyCpu, to_go, words_of}
 use Rattle.round_laws.proofs.Cited.{TurnLaws}
 use Rattle.round_laws.proofs.Counting.{number_falls, rank_most}
-use Rattle.round_laws.proofs.Turned.{TurnLeaves, kept_as, leaves}
+use Rattle.round_laws.proofs.Lessening.{TurnLeaves, kept_as}
+use Rattle.round_laws.proofs.Turned.{leaves}
 
 -- ---- whose turn it is
 pub record HasTurn (DoesNext : Processing → Stage → Stage → Type 0) (v : ℕ) (s s' : Stage) : Type 0 where

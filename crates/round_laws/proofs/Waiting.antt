@@ -106,11 +106,13 @@ module _ (laws : TurnLaws) (clocks : ClockLaws) (n : Machine) where
         let to = to_words laws n v c s s' steady here works m in
         let real : u < (sizes_of n).vcpus = subst (λ (k : Machine). u < (sizes_of k).vcpus) m.from_is.machine (clocks.other c m.after m.from m.to m.answers u stamp found turn).1 in
         let behind = steady_then laws n v c s s' steady here works m in
-        let runs : words_of n s' (run_of u) ≡ 0 = subst (λ (w : Words). w (run_of u) ≡ 0) to (clocks.runs c m.after m.from m.to m.answers u stamp found alone turn) in
-        (real, record {
-          works = works_at behind u real runs;
-          asked = subst (λ (w : Words). w (flushed_of u) ≤ w (asked_of u)) to (clocks.asked c m.after m.from m.to m.answers u stamp found alone turn);
-        })
+        let runs : words_of n s' (run_of u) ≡ 0 = subst (λ (w : Words). w (run_of u) ≡ 0) to (clocks.runs c m.after m.from m.to m.answers u stamp found alone turn) in (
+          real,
+          record {
+            works = works_at behind u real runs;
+            asked = subst (λ (w : Words). w (flushed_of u) ≤ w (asked_of u)) to (clocks.asked c m.after m.from m.to m.answers u stamp found alone turn);
+          },
+        )
       where
         works_at : IsSteady n s' → (u : ℕ) → u < (sizes_of n).vcpus → words_of n s' (run_of u) ≡ 0 → Works u s'
         works_at behind u real runs =
