@@ -1,5 +1,5 @@
 -- Numbers that are put together so that the first that differs decides.
-use Rattle.std.proofs.Common.{◌≡◌, ℕ, zero, suc, ◌+◌, ◌*◌, ◌<◌, ◌≤◌, refl, sym, ap, subst, arith}
+use Rattle.std.proofs.Common.{◌≡◌, ℕ, zero, suc, ◌+◌, ◌*◌, ◌<◌, ◌≤◌, subst, arith}
 
 -- ---- two of them: the second is at most m
 mul_more : (k m : ℕ) → (k + 1) * m ≡ k * m + m
