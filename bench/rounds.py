@@ -4,7 +4,7 @@
 usage: rounds.py PTMAC GENERATOR FIRST LAST PACE [ROUNDS]
 
 `GENERATOR SEED` prints a well-formed trace of its own choice by that number, as `other fuzz-gen --stage R7` with the seed behind it; its
-`turn` lines are left out. Each trace is run with the most rounds that are needed, 64, 512, 4,096 and so on up to ROUNDS (32,768 where it is
+`turn` lines are left out. Each trace is run with the most rounds that are needed, 64, 512, 4,096 and so on up to ROUNDS (131,072 where it is
 not said). Printed are how many ended within each number of rounds, and the seeds of those that did not.
 """
 import collections
@@ -13,7 +13,7 @@ import shlex
 import subprocess
 import sys
 
-STEPS = [64, 512, 4_096, 32_768]
+STEPS = [64, 512, 4_096, 32_768, 131_072]
 
 
 def in_rounds(trace, rounds):

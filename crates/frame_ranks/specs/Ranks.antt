@@ -1,10 +1,10 @@
 -- How far frames have come on their way to be validated, and what it is that none of them falls back.
-use Rattle.std.specs.Prelude.{◌≡◌, ℕ, ◌+◌, ◌<◌, ◌≤◌, if◌then◌else◌, true, false}
+use Rattle.std.specs.Prelude.{◌≡◌, ℕ, ◌+◌, ◌<◌, ◌≤◌, if◌then◌else◌, true}
 use Rattle.xp_words.specs.Machine.{Machine}
 use Rattle.xp_words.specs.Places.{sizes_of}
 use Rattle.xp_words.specs.declared.kind.KindWord.{KindWord}
 use Rattle.xp_words.specs.declared.place.Place.TheVariants.{Life}
-use Rattle.xp_board.specs.Readings.{is_work, kind_at}
+use Rattle.xp_board.specs.Readings.{kind_at}
 use Rattle.step_maker.specs.Plain.{Words}
 use Rattle.table_words.specs.OldWords.{old_place}
 use Rattle.table_words.specs.declared.old_words.OldWord.{OldWord}
@@ -31,7 +31,3 @@ pub record GetsFurther (n : Machine) (m m' : Words) : Type 0 where
 -- no domain is dying or dead
 abbrev pub AreAllAlive : Machine → Words → Type 0
 AreAllAlive n m = (d : ℕ) → d < (sizes_of n).domains → m (Life d) ≡ 0
-
--- no frame is in work, in whose hand ever
-abbrev pub IsNothingInWork : Machine → Words → Type 0
-IsNothingInWork n m = (f : ℕ) → f < n.frames → is_work (kind_at m f) ≡ false

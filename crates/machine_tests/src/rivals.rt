@@ -1,5 +1,5 @@
 //! Two vCPUs with one turn each in each round: one gives a table back while the other one takes it on. Without a rule each would undo
-//! what the other one did, for ever.
+//! what the other one did, for ever. And what a vCPU waits for that nobody does.
 use crate::runs::{bytes, with_pace};
 use std::process::Abort;
 use xp_io::{MemorySink, MemorySource};
@@ -53,27 +53,79 @@ const RIVALS: [Rivals; 4] = [
     },
 ];
 
-// The trace, with so many rounds.
-fn trace(rt: &(impl Abort + AllocGlobal), rivals: &Rivals, rounds: usize) -> Vec<u8> {
-    let mut trace = bytes(rt, rivals.opening);
+// What a vCPU waits for; the trace without its turns; the turns of a round; the rounds; and lines of the report behind them.
+#[derive(Clone, Copy)]
+struct Waiting {
+    shows: &'static str,
+    opening: &'static str,
+    turns: &'static str,
+    rounds: usize,
+    lines: &'static str,
+}
+
+const WAITING: [Waiting; 4] = [
+    Waiting {
+        shows: "At the clock's last value but one both wait for each other's flush: the clock comes to its last value, past which nobody can flush.",
+        opening: "xen-pv-trace 1\nframes 1\nclock 68719476734\ndomain 1\nvcpu 0\nvcpu 0\nop 0 ext 8 0 2\nop 1 ext 8 0 1\n",
+        turns: "turn 0 1\nturn 1 1\n",
+        rounds: 500,
+        lines: "pending 1\n",
+    },
+    Waiting {
+        shows: "With one value more they do not.",
+        opening: "xen-pv-trace 1\nframes 1\nclock 68719476733\ndomain 1\nvcpu 0\nvcpu 0\nop 0 ext 8 0 2\nop 1 ext 8 0 1\n",
+        turns: "turn 0 1\nturn 1 1\n",
+        rounds: 3,
+        lines: "op 1 ok done 1 value 0x0\n",
+    },
+    Waiting {
+        shows: "A vCPU that has no turn makes no flush.",
+        opening: "xen-pv-trace 1\nframes 1\ndomain 1\nvcpu 0\nvcpu 0\nop 0 ext 8 0 2\n",
+        turns: "turn 0 1\n",
+        rounds: 500,
+        lines: "pending 1\n",
+    },
+    Waiting {
+        shows: "With a turn in each round it does.",
+        opening: "xen-pv-trace 1\nframes 1\ndomain 1\nvcpu 0\nvcpu 0\nop 0 ext 8 0 2\n",
+        turns: "turn 0 1\nturn 1 1\n",
+        rounds: 3,
+        lines: "op 1 ok done 1 value 0x0\n",
+    },
+];
+
+// The trace, with so many rounds of these turns.
+fn trace(
+    rt: &(impl Abort + AllocGlobal),
+    opening: &'static str,
+    turns: &'static str,
+    rounds: usize,
+) -> Vec<u8> {
+    let mut trace = bytes(rt, opening);
     for _ in 0..rounds {
         trace
-            .extend_from_slice(b"turn 0 1\nturn 1 1\n")
+            .extend_from_slice(turns.as_bytes())
             .expect(rt, "memory");
     }
     trace.extend_from_slice(b"end\n").expect(rt, "memory");
     trace
 }
 
-// The report behind so many rounds.
-fn report(rt: &(impl Abort + AllocGlobal), rivals: &Rivals, rounds: usize) -> Vec<u8> {
-    let mut source = MemorySource::new(trace(rt, rivals, rounds), Vec::new(rt.alloc()));
+// Its report. The second vCPU's gate may be one that never says yes.
+fn report(
+    rt: &(impl Abort + AllocGlobal),
+    trace: Vec<u8>,
+    pace: &'static str,
+    asks: bool,
+    shows: &'static str,
+) -> Vec<u8> {
+    let mut source = MemorySource::new(trace, Vec::new(rt.alloc()));
     let mut sink = MemorySink::new(rt.alloc(), 8192, 8192, Vec::new(rt.alloc())).expect(
         rt, "memory",
     );
     let mut gates: Vec<Box<dyn Preempt + Send>> = Vec::new(rt.alloc());
     for vcpu in 0..16 {
-        if vcpu == 1 && !rivals.asks {
+        if vcpu == 1 && !asks {
             let silent = Box::new(rt.alloc(), Never::new()).expect(rt, "memory");
             gates.push(silent).expect(rt, "memory");
         } else {
@@ -84,12 +136,12 @@ fn report(rt: &(impl Abort + AllocGlobal), rivals: &Rivals, rounds: usize) -> Ve
     assert!(rt; gates.len() >= 16);
     let answer = run_serial(
         rt.alloc(),
-        &with_pace(rt, rivals.pace),
+        &with_pace(rt, pace),
         &mut source,
         &mut sink,
         gates,
     );
-    assert!(rt; answer == Status::Done, "{}", rivals.shows);
+    assert!(rt; answer == Status::Done, "{}", shows);
     let mut text = Vec::new(rt.alloc());
     text.extend_from_slice(sink.bytes()).expect(rt, "memory");
     text
@@ -109,9 +161,22 @@ fn has_lines(rt: &(impl Abort + AllocGlobal), report: &[u8], lines: &str) -> boo
 #[test]
 fn vcpus_at_one_table_come_to_their_end(rt: HostRuntime) {
     for rivals in RIVALS.iter() {
-        let early = report(&rt, rivals, rivals.rounds.saturating_sub(1));
+        let behind = |rounds: usize| {
+            let trace = trace(&rt, rivals.opening, "turn 0 1\nturn 1 1\n", rounds);
+            report(&rt, trace, rivals.pace, rivals.asks, rivals.shows)
+        };
+        let early = behind(rivals.rounds.saturating_sub(1));
         assert!(rt; !has_lines(&rt, &early, rivals.lines), "{}", rivals.shows);
-        let late = report(&rt, rivals, rivals.rounds);
+        let late = behind(rivals.rounds);
         assert!(rt; has_lines(&rt, &late, rivals.lines), "{}", rivals.shows);
+    }
+}
+
+#[test]
+fn a_vcpu_waits_for_ever_where_nobody_flushes(rt: HostRuntime) {
+    for waiting in WAITING.iter() {
+        let trace = trace(&rt, waiting.opening, waiting.turns, waiting.rounds);
+        let report = report(&rt, trace, "1", true, waiting.shows);
+        assert!(rt; has_lines(&rt, &report, waiting.lines), "{}", waiting.shows);
     }
 }

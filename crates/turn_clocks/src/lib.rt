@@ -3,4 +3,4 @@
 
 mod flushing;
 
-pub use flushing::{a_turn_answers_its_ask, who_is_waited_for_is_asked};
+pub use flushing::{a_turn_answers_its_ask, no_ask_is_past_the_clock, who_is_waited_for_is_asked};

@@ -9,6 +9,5 @@ ghost use Rattle.turn_measures.specs.Measures.{LeavesOthers};
 
 /// A turn of a vCPU that is alone changes no word of another one but that which asks for its flush, nor the life of a domain; and the clock does not go back.
 pub fn a_turn_leaves_the_others()
-    requires stub { ⊥ }
     ensures { (c d : Processing) (end : TurnEnd) (v w : PortValue) (answers : List Bool) → IsAlone v → IsTurn c d end v w answers → LeavesOthers v.post.machine v.post.vcpu (told_word v) (told_word w) }
 {}

@@ -13,7 +13,6 @@ ghost use Rattle.turn_measures.specs.Measures.{KeepsLeft, left_rank, olds_named}
 
 /// A settling that is paused leaves fewer old words that name a frame; or as many, and less is left than before.
 pub fn a_paused_settling_names_less()
-    requires stub { ⊥ }
     ensures keeps { (below : Option ℕ) (v w : PortValue) (answers : List Bool) (p : Pause) → IsAlone v → IsUnhindered v.post.machine (ends.Paused p) → KeepsLeft (told_word v) v.post.vcpu below → (settles : Settles below v w answers (Err (Paused p))) →
         KeepsLeft (told_word w) v.post.vcpu (left_settled settles.course) }
     ensures less { (below : Option ℕ) (v w : PortValue) (answers : List Bool) (p : Pause) → IsAlone v → IsUnhindered v.post.machine (ends.Paused p) → KeepsLeft (told_word v) v.post.vcpu below → (settles : Settles below v w answers (Err (Paused p))) →
@@ -23,7 +22,6 @@ pub fn a_paused_settling_names_less()
 
 /// One that comes to its end leaves none; and where none named a frame before, all words are as they were.
 pub fn a_settling_that_ends_names_none()
-    requires stub { ⊥ }
     ensures none { (below : Option ℕ) (v w : PortValue) (answers : List Bool) → IsAlone v → Settles below v w answers (Ok tt) → olds_named (told_word w) v.post.vcpu ≡ 0 }
     ensures same { (below : Option ℕ) (v w : PortValue) (answers : List Bool) → IsAlone v → Settles below v w answers (Ok tt) → olds_named (told_word v) v.post.vcpu ≡ 0 → (q : Place) → told_word w q ≡ told_word v q }
 {}

@@ -1,0 +1,15 @@
+pub mod Reading
+pub mod Facing
+pub mod Valuing
+pub mod Turning
+pub mod Standings
+pub mod Taking
+pub mod Entering
+pub mod Resuming
+pub mod Parts
+pub mod Stamps
+pub mod Stepping
+pub mod Going
+pub mod Advancing
+pub mod Leaving
+pub mod Pausing

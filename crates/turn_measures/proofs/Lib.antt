@@ -1,0 +1,9 @@
+pub mod Leaving
+pub mod LeavingCalls
+pub mod LeavingTurns
+pub mod Ahead
+pub mod Weighing
+pub mod Keeping
+pub mod Naming
+pub mod Olds
+pub mod SettlingOlds

@@ -1,0 +1,14 @@
+pub mod Forward
+pub mod Asides
+pub mod Calm
+pub mod Storing
+pub mod Paging
+pub mod Pages
+pub mod Locking
+pub mod Unlocking
+pub mod Updating
+pub mod Waiting
+pub mod Performing
+pub mod Settled
+pub mod Owners
+pub mod Staying
