@@ -1,9 +1,9 @@
 -- What the beginning of a turn leaves of the words, and a call that destroys no domain of their lives.
-use Rattle.std.proofs.Common.{◌≡◌, ◌≢◌, ℕ, Bool, true, false, List, [], ◌∷◌, Option, Some, None, Result, refl, sym, ap, ◌∙◌, subst, nat_lt, arith}
+use Rattle.std.proofs.Common.{◌≡◌, ◌≢◌, ℕ, Bool, true, false, List, [], ◌∷◌, None, Result, refl, sym, ap, ◌∙◌, subst, nat_lt}
 use Rattle.xp_words.specs.Machine.{Machine}
-use Rattle.xp_words.specs.Places.{asked_of, flushed_of, run_of}
+use Rattle.xp_words.specs.Places.{flushed_of}
 use Rattle.xp_words.specs.declared.place.Place.{Place}
-use Rattle.xp_words.specs.declared.place.Place.TheVariants.{Clock, Life, Vcpu}
+use Rattle.xp_words.specs.declared.place.Place.TheVariants.{Clock, Life}
 use Rattle.xp_words.specs.declared.reply.Refusal.{Refusal}
 use Rattle.xp_board.specs.declared.holdings.Holdings.{Holdings}
 use Rattle.xp_board.specs.declared.step.Act.{Act}

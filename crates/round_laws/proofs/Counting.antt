@@ -1,8 +1,7 @@
 -- How a turn of one vCPU lowers the number that says how much is to be done.
-use Rattle.std.proofs.Common.{◌≡◌, ◌≢◌, ℕ, ◌+◌, ◌-◌, ◌*◌, ◌<◌, ◌≤◌, ◌⊎◌, inl, inr, if◌then◌else◌, All, List, length, Option, Some, None, IsTrue, refl, sym, ap, ◌∙◌, subst, slice_set, arith}
+use Rattle.std.proofs.Common.{◌≡◌, ◌≢◌, ℕ, ◌+◌, ◌-◌, ◌*◌, ◌<◌, ◌≤◌, ◌⊎◌, inl, inr, Option, Some, None, IsTrue, sym, ap, ◌∙◌, subst, slice_set, arith}
 use Rattle.std.specs.Prelude.{slice_get, sum_by}
-use Rattle.std.specs.List.{range_with_len}
-use Rattle.std.proofs.lemmas.Bool.{cases_Bool, cases_eq}
+use Rattle.std.proofs.lemmas.Bool.{cases_eq}
 use Rattle.std.proofs.lemmas.Bool.Decides.{nat_tests}
 use Rattle.std.proofs.lemmas.List.Elements.{All-from_get_or}
 use Rattle.std.proofs.lemmas.List.Sums.{sum_by-le}
@@ -23,7 +22,7 @@ use Rattle.round_laws.specs.Rounds.{AwaitsFlush}
 use Rattle.round_laws.specs.Stages.{IsSteady, ahead_all, left_all, olds_all, ranks_open, to_go, words_of}
 use Rattle.round_laws.proofs.Numbers.{falls_first, falls_fourth, falls_second, falls_third, stays_fourth}
 use Rattle.round_laws.proofs.Sums.{set_sum, sum_falls, sum_le, sum_most, sum_same}
-use Rattle.round_laws.proofs.Turned.{Less, by_ahead, by_left, by_olds, by_ranks}
+use Rattle.round_laws.proofs.Lessening.{Less, by_ahead, by_left, by_olds, by_ranks}
 
 -- ---- bounds
 bit_most : (w : ℕ) → bit_named w ≤ 1
@@ -133,8 +132,11 @@ module _ (n : Machine) (v : ℕ) (c d : Processing) (end : TurnEnd) (s s' : Stag
           let third = sum_even _ _ _ _ left_sum (ap left_rank left) in
           elim goes [
             | inl waits ↦
-                inl (waits, stays_fourth (2 * (sizes_of n).vcpus) ((sizes_of n).vcpus * most_left) (515 * n.frames) (ahead_all s') (olds_all n s') (left_all s') (ranks_open n (words_of n s'))
-                (ahead_all s) (olds_all n s) (left_all s) (ranks_open n (words_of n s)) few low small first (olds_same alike) third (ranks_less up))
+                inl (
+                  waits,
+                  stays_fourth (2 * (sizes_of n).vcpus) ((sizes_of n).vcpus * most_left) (515 * n.frames) (ahead_all s') (olds_all n s') (left_all s') (ranks_open n (words_of n s'))
+                      (ahead_all s) (olds_all n s) (left_all s) (ranks_open n (words_of n s)) few low small first (olds_same alike) third (ranks_less up),
+                )
             | inr more ↦
                 inr (falls_fourth (2 * (sizes_of n).vcpus) ((sizes_of n).vcpus * most_left) (515 * n.frames) (ahead_all s') (olds_all n s') (left_all s') (ranks_open n (words_of n s'))
                 (ahead_all s) (olds_all n s) (left_all s) (ranks_open n (words_of n s)) few low small first (olds_same alike) third (ranks_fall up more))

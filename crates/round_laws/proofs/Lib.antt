@@ -4,6 +4,7 @@ mod Splitting
 mod Falling
 mod Beginning
 mod Cited
+mod Lessening
 mod Turned
 mod Counting
 mod Steadying

@@ -1,5 +1,5 @@
 -- Numbers that are put together so that the first that differs decides.
-use Rattle.std.proofs.Common.{◌≡◌, ℕ, zero, suc, ◌+◌, ◌*◌, ◌<◌, ◌≤◌, refl, sym, ap, subst, arith}
+use Rattle.std.proofs.Common.{◌≡◌, ℕ, zero, suc, ◌+◌, ◌*◌, ◌<◌, ◌≤◌, subst, arith}
 
 -- ---- two of them: the second is at most m
 mul_more : (k m : ℕ) → (k + 1) * m ≡ k * m + m
@@ -28,19 +28,19 @@ four_in_one o l r a b c d = ((a * (o + 1) + b) * (l + 1) + c) * (r + 1) + d
 
 module _ (o l r a' b' c' d' a b c d : ℕ) (few : b' ≤ o) (low : c' ≤ l) (less : d' ≤ r) where
   pub falls_first : a' < a → four_in_one o l r a' b' c' d' < four_in_one o l r a b c d
-  falls_first falls = first_falls (( a' * (o + 1) + b') * (l + 1) + c') ((a * (o + 1) + b) * (l + 1) + c) d' d r (first_falls (a' * (o + 1) + b') (a * (o + 1) + b) c' c l (first_falls a' a b' b o falls few) low) less
+  falls_first falls = first_falls ((a' * (o + 1) + b') * (l + 1) + c') ((a * (o + 1) + b) * (l + 1) + c) d' d r (first_falls (a' * (o + 1) + b') (a * (o + 1) + b) c' c l (first_falls a' a b' b o falls few) low) less
 
   pub falls_second : a' ≡ a → b' < b → four_in_one o l r a' b' c' d' < four_in_one o l r a b c d
-  falls_second same falls = first_falls (( a' * (o + 1) + b') * (l + 1) + c') ((a * (o + 1) + b) * (l + 1) + c) d' d r (first_falls (a' * (o + 1) + b') (a * (o + 1) + b) c' c l (second_falls a' a b' b o same falls) low) less
+  falls_second same falls = first_falls ((a' * (o + 1) + b') * (l + 1) + c') ((a * (o + 1) + b) * (l + 1) + c) d' d r (first_falls (a' * (o + 1) + b') (a * (o + 1) + b) c' c l (second_falls a' a b' b o same falls) low) less
 
   pub falls_third : a' ≡ a → b' ≡ b → c' < c → four_in_one o l r a' b' c' d' < four_in_one o l r a b c d
   falls_third same alike falls =
-      first_falls (( a' * (o + 1) + b') * (l + 1) + c') ((a * (o + 1) + b) * (l + 1) + c) d' d r
+      first_falls ((a' * (o + 1) + b') * (l + 1) + c') ((a * (o + 1) + b) * (l + 1) + c) d' d r
       (second_falls (a' * (o + 1) + b') (a * (o + 1) + b) c' c l (λ i. same i * (o + 1) + alike i) falls) less
 
   pub falls_fourth : a' ≡ a → b' ≡ b → c' ≡ c → d' < d → four_in_one o l r a' b' c' d' < four_in_one o l r a b c d
   falls_fourth same alike so falls =
-      second_falls (( a' * (o + 1) + b') * (l + 1) + c') ((a * (o + 1) + b) * (l + 1) + c) d' d r (λ i. (same i * (o + 1) + alike i) * (l + 1) + so i) falls
+      second_falls ((a' * (o + 1) + b') * (l + 1) + c') ((a * (o + 1) + b) * (l + 1) + c) d' d r (λ i. (same i * (o + 1) + alike i) * (l + 1) + so i) falls
 
   pub stays_fourth : a' ≡ a → b' ≡ b → c' ≡ c → d' ≤ d → four_in_one o l r a' b' c' d' ≤ four_in_one o l r a b c d
   stays_fourth same alike so falls = rw (same, alike, so) (omega arith)

@@ -1,20 +1,18 @@
 -- A machine at its opening, and behind the rounds of a whole run.
-use Rattle.std.proofs.Common.{◌≡◌, ◌≢◌, ℕ, ◌-◌, ◌<◌, ◌≤◌, inl, inr, All, false, true, List, length, map, Option, Some, None, refl, sym, ap, ◌∙◌, subst, slice_index_or, arith}
-use Rattle.std.specs.Prelude.{nat_lt, slice_get}
+use Rattle.std.proofs.Common.{◌≡◌, ℕ, ◌<◌, ◌≤◌, inl, inr, All, List, length, map, None, refl, sym, ap, ◌∙◌, subst, slice_index_or, arith}
 use Rattle.std.specs.List.{enumerate_from, range_with_len}
 use Rattle.std.proofs.lemmas.List.{get_or-replicate, length-map, length-replicate}
-use Rattle.std.proofs.lemmas.List.Elements.{All-from_get_or, All-get_or, All-map}
+use Rattle.std.proofs.lemmas.List.Elements.{All-map}
 use Rattle.std.proofs.lemmas.List.FromFn.{length-enumerate_from}
 use Rattle.std.proofs.lemmas.Option.{slice_get-get_or, slice_get_cases}
 use Rattle.xp_words.specs.Machine.{Machine}
-use Rattle.xp_words.specs.Places.{memory, run_of, sizes_of}
+use Rattle.xp_words.specs.Places.{memory, sizes_of}
 use Rattle.xp_words.specs.declared.ops.Op.{Op}
-use Rattle.xp_words.specs.declared.place.Place.{Place}
-use Rattle.xp_words.specs.declared.place.Place.TheVariants.{Clock, Life, Vcpu}
+use Rattle.xp_words.specs.declared.place.Place.TheVariants.{Clock, Life}
 use Rattle.xp_board.specs.Hands.{IsEmptyHand, empty}
 use Rattle.xp_board.specs.Readings.{domain_of, last_clock}
-use Rattle.xp_board.specs.Sound.{SoundWords, hand_of}
-use Rattle.xp_board.specs.Told.{PortValue, told_word, word_in}
+use Rattle.xp_board.specs.Sound.{SoundWords}
+use Rattle.xp_board.specs.Told.{told_word, word_in}
 use Rattle.step_maker.specs.Plain.{Words}
 use Rattle.step_maker.proofs.Telling.{told_elsewhere}
 use Rattle.flush_words.proofs.RowSteps.{life_there}
@@ -28,7 +26,7 @@ use Rattle.vcpu_runners.specs.Cpus.{first_cpu, first_cpus}
 use Rattle.vcpu_runners.specs.Gates.{Gate}
 use Rattle.xp_machine.specs.Cpus.{order}
 use Rattle.xp_machine.specs.Ran.{RanTrace, first_gates}
-use Rattle.xp_machine.specs.Turns.{InOrder, IsStagedStop, IsStagedTurn, MakesStagedStop, Stage, Stops, Turns, more, none, stage}
+use Rattle.xp_machine.specs.Turns.{IsStagedStop, MakesStagedStop, Stage, Stops, Turns, more, none, stage}
 use Rattle.xp_machine.proofs.Reaching.{empty_idles, first_at}
 use Rattle.round_laws.specs.Rounds.{AreAllRetired, IsRound, rounds_to_go, turns_in_rounds}
 use Rattle.round_laws.specs.Stages.{IsSteady, IsSteadyCpu, words_of}

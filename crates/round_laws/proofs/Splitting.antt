@@ -1,5 +1,5 @@
 -- Turns one by one, the first one first.
-use Rattle.std.proofs.Common.{◌≡◌, ℕ, List, [], ◌∷◌, ◌++◌, refl, sym, ap, ◌∙◌, subst}
+use Rattle.std.proofs.Common.{◌≡◌, ℕ, List, [], ◌∷◌, ◌++◌, refl, subst}
 use Rattle.xp_machine.specs.Turns.{InOrder, Stage, none, more}
 
 module _ (S : Type 0) (DoesNext : ℕ → S → S → Type 0) where

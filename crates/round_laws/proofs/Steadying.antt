@@ -5,28 +5,28 @@ use Rattle.std.proofs.lemmas.Bool.{cases_eq}
 use Rattle.std.proofs.lemmas.List.{get_or-set_other}
 use Rattle.std.proofs.lemmas.Option.{get_or_from_slice_get, same_Some, slice_get-get_or, slice_get_within}
 use Rattle.xp_words.specs.Machine.{Machine}
-use Rattle.xp_words.specs.Places.{run_of, sizes_of}
+use Rattle.xp_words.specs.Places.{sizes_of}
 use Rattle.xp_words.specs.declared.place.Place.TheVariants.{Clock}
 use Rattle.xp_board.specs.Hands.{IsEmptyHand}
 use Rattle.xp_board.specs.Readings.{kind_at}
 use Rattle.xp_board.specs.Sound.{SoundState, hand_of}
-use Rattle.xp_board.specs.Told.{Post, PortValue, Story, told_word, word_in}
+use Rattle.xp_board.specs.Told.{Story, told_word, word_in}
 use Rattle.step_maker.specs.Moves.{Came}
 use Rattle.step_maker.specs.Plain.{Words}
-use Rattle.step_maker.proofs.Coming.{came_post}
 use Rattle.answer_laws.specs.Alone.{IsAlone}
 use Rattle.course_laws.specs.Courses.{IsOrderly}
 use Rattle.vcpu_turn.specs.Cpus.{Processing}
 use Rattle.turn_laws.specs.Unhindered.{IsUnhindered}
 use Rattle.turn_laws.proofs.TurnSteps.{turn_came}
 use Rattle.frame_ranks.specs.Ranks.{AreAllAlive, rank_at}
-use Rattle.turn_measures.specs.Measures.{KeepsLeft, LeavesOthers}
+use Rattle.turn_measures.specs.Measures.{KeepsLeft}
 use Rattle.xp_machine.specs.Turns.{ByCpu, IsStagedTurn, MakesStagedTurn, Stage, UnlessRetired}
 use Rattle.round_laws.specs.Rounds.{AwaitsFlush}
 use Rattle.round_laws.specs.Stages.{IsSteady, IsSteadyCpu, to_go, words_of}
 use Rattle.round_laws.proofs.Cited.{TurnLaws}
 use Rattle.round_laws.proofs.Counting.{number_falls, rank_most}
-use Rattle.round_laws.proofs.Turned.{TurnLeaves, kept_as, leaves}
+use Rattle.round_laws.proofs.Lessening.{TurnLeaves, kept_as}
+use Rattle.round_laws.proofs.Turned.{leaves}
 
 -- ---- whose turn it is
 pub record HasTurn (DoesNext : Processing → Stage → Stage → Type 0) (v : ℕ) (s s' : Stage) : Type 0 where

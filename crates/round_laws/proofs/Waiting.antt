@@ -1,5 +1,5 @@
 -- Turns of a machine, as rounds see them: whoever waits for a flush names a vCPU whose next turn moves the clock.
-use Rattle.std.proofs.Common.{◌≡◌, ◌≢◌, ℕ, suc, ◌+◌, ◌-◌, ◌<◌, ◌≤◌, ◌⊎◌, inl, inr, All, Bool, true, false, List, [], ◌∷◌, length, Option, Some, None, refl, sym, ap, ◌∙◌, subst, slice_set, length-set, arith}
+use Rattle.std.proofs.Common.{◌≡◌, ◌≢◌, ℕ, suc, ◌+◌, ◌-◌, ◌<◌, ◌≤◌, ◌⊎◌, inl, inr, All, true, false, List, [], ◌∷◌, length, Some, refl, sym, ap, ◌∙◌, subst, slice_set, length-set, arith}
 use Rattle.std.specs.Prelude.{slice_get}
 use Rattle.std.proofs.lemmas.Bool.{cases_Bool, cases_eq}
 use Rattle.std.proofs.lemmas.List.{get_or-set_other}
@@ -10,7 +10,7 @@ use Rattle.xp_words.specs.Places.{asked_of, flushed_of, run_of, sizes_of}
 use Rattle.xp_words.specs.declared.place.Place.TheVariants.{Clock}
 use Rattle.xp_words.specs.declared.reply.Pause.TheVariants.{Due, Lost, Busy, Flush, Alive}
 use Rattle.xp_board.specs.Readings.{last_clock}
-use Rattle.xp_board.specs.Told.{PortValue, told_word}
+use Rattle.xp_board.specs.Told.{told_word}
 use Rattle.step_maker.specs.Plain.{Words}
 use Rattle.vcpu_turn.specs.Cpus.{Processing}
 use Rattle.vcpu_turn.specs.Turning.{IsTurn}
@@ -22,7 +22,7 @@ use Rattle.round_laws.specs.Stages.{IsSteady, ticks_to_go, to_go, words_of}
 use Rattle.round_laws.proofs.Cited.{ClockLaws, TurnLaws}
 use Rattle.round_laws.proofs.Falling.{Turning, all_rest}
 use Rattle.round_laws.proofs.Splitting.{one_by_one}
-use Rattle.round_laws.proofs.Steadying.{by_cpu, HasNone, HasTurn, alone_from, alone_to, clock_on, from_words, less_to_go, no_more_to_go, plain, steady_behind, steady_then, to_words}
+use Rattle.round_laws.proofs.Steadying.{by_cpu, HasTurn, alone_from, clock_on, from_words, less_to_go, no_more_to_go, plain, steady_behind, steady_then, to_words}
 
 -- ---- vCPUs
 -- it makes turns
@@ -106,11 +106,13 @@ module _ (laws : TurnLaws) (clocks : ClockLaws) (n : Machine) where
         let to = to_words laws n v c s s' steady here works m in
         let real : u < (sizes_of n).vcpus = subst (λ (k : Machine). u < (sizes_of k).vcpus) m.from_is.machine (clocks.other c m.after m.from m.to m.answers u stamp found turn).1 in
         let behind = steady_then laws n v c s s' steady here works m in
-        let runs : words_of n s' (run_of u) ≡ 0 = subst (λ (w : Words). w (run_of u) ≡ 0) to (clocks.runs c m.after m.from m.to m.answers u stamp found alone turn) in
-        (real, record {
-          works = works_at behind u real runs;
-          asked = subst (λ (w : Words). w (flushed_of u) ≤ w (asked_of u)) to (clocks.asked c m.after m.from m.to m.answers u stamp found alone turn);
-        })
+        let runs : words_of n s' (run_of u) ≡ 0 = subst (λ (w : Words). w (run_of u) ≡ 0) to (clocks.runs c m.after m.from m.to m.answers u stamp found alone turn) in (
+          real,
+          record {
+            works = works_at behind u real runs;
+            asked = subst (λ (w : Words). w (flushed_of u) ≤ w (asked_of u)) to (clocks.asked c m.after m.from m.to m.answers u stamp found alone turn);
+          },
+        )
       where
         works_at : IsSteady n s' → (u : ℕ) → u < (sizes_of n).vcpus → words_of n s' (run_of u) ≡ 0 → Works u s'
         works_at behind u real runs =

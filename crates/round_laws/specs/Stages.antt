@@ -1,5 +1,5 @@
 -- Boards and their vCPUs between turns, and how much is to be done there.
-use Rattle.std.specs.Prelude.{◌≡◌, ◌≢◌, ℕ, ◌+◌, ◌-◌, ◌*◌, ◌<◌, true, List, length, slice_get, sum_by, None, Some}
+use Rattle.std.specs.Prelude.{◌≡◌, ◌≢◌, ℕ, ◌+◌, ◌-◌, ◌*◌, ◌<◌, true, length, slice_get, sum_by, None, Some}
 use Rattle.std.specs.List.{range_with_len}
 use Rattle.xp_words.specs.Machine.{IsMachine, Machine}
 use Rattle.xp_words.specs.Places.{memory, run_of, sizes_of}
