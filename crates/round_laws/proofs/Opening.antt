@@ -26,13 +26,23 @@ use Rattle.vcpu_runners.specs.Cpus.{first_cpu, first_cpus}
 use Rattle.vcpu_runners.specs.Gates.{Gate}
 use Rattle.xp_machine.specs.Cpus.{order}
 use Rattle.xp_machine.specs.Ran.{RanTrace, first_gates}
-use Rattle.xp_machine.specs.Turns.{IsStagedStop, MakesStagedStop, Stage, Stops, Turns, more, none, stage}
+use Rattle.xp_machine.specs.Turns.{IsStagedStop, IsStagedTurn, MakesStagedStop, Stage, Stops, Turns, more, none, stage}
 use Rattle.xp_machine.proofs.Reaching.{empty_idles, first_at}
 use Rattle.round_laws.specs.Rounds.{AreAllRetired, IsRound, rounds_to_go, turns_in_rounds}
 use Rattle.round_laws.specs.Stages.{IsSteady, IsSteadyCpu, words_of}
-use Rattle.round_laws.proofs.Cited.{ClockLaws, TurnLaws}
-use Rattle.round_laws.proofs.Steadying.{by_cpu, steady_behind}
-use Rattle.round_laws.proofs.Waiting.{retire_in_rounds, retired_at}
+use Rattle.round_laws.proofs.Steadying.{by_cpu}
+use Rattle.round_laws.proofs.Waiting.{retired_at}
+
+-- ---- the laws of this crate on which a whole run rests
+abbrev pub SteadyBehind : Type 0
+SteadyBehind = (n : Machine) (v : ℕ) (s s' : Stage) → IsSteady n s → IsStagedTurn n v s s' → IsSteady n s'
+
+abbrev pub AllRetire : Type 0
+AllRetire = (n : Machine) (rounds : List (List ℕ)) (s s' : Stage) → IsSteady n s → All (IsRound n) rounds → Turns n (turns_in_rounds rounds) s s' → words_of n s' Clock < last_clock → rounds_to_go n s ≤ length rounds →
+    AreAllRetired s'
+
+abbrev pub OpensSteady : Type 0
+OpensSteady = (t : Trace) (opened : List ℕ) (gates : List Gate) → IsWellFormed t → IsOpening t opened → IsSteady t.layout (stage (opened_story t.layout opened) (first_cpus t.layout t.scripts) gates)
 
 -- ---- at the opening
 life_opens : (t : Trace) (d : ℕ) → opening_at t (Life d) ≡ 0
@@ -46,22 +56,20 @@ length_first n scripts = length-map (enumerate_from 0 scripts) (first_cpu n) ∙
 fresh_steady : (m : Words) (v domain : ℕ) (script : List Op) → IsSteadyCpu m v (fresh v domain script)
 fresh_steady m v domain script = record { within = omega arith; left = tt; stopped = λ is. absurd cc; ended = λ is. absurd cc }
 
-module _ (t : Trace) (opened : List ℕ) (gates : List Gate) (well : IsWellFormed t) (sound : SoundWords t.layout opened) (opening : IsOpening t opened) where
-  first_stage : Stage
-  first_stage = stage (opened_story t.layout opened) (first_cpus t.layout t.scripts) gates
-
-  pub steady_opening : IsSteady t.layout (stage (opened_story t.layout opened) (first_cpus t.layout t.scripts) gates)
-  steady_opening =
-      record {
-        machine = well.machine;
-        state = start_sound t.layout opened sound;
-        hands = length-replicate (sizes_of t.layout).vcpus empty;
-        empty = λ v real. subst IsEmptyHand (sym (get_or-replicate (sizes_of t.layout).vcpus v empty empty real)) empty_idles;
-        all = length_first t.layout t.scripts ∙ well.scripts;
-        each = λ v c at. (let first = first_at t.layout t.scripts v c at in
-            subst (IsSteadyCpu (memory (sizes_of t.layout) opened) v) (sym first.1) (fresh_steady (memory (sizes_of t.layout) opened) v (domain_of t.layout v) first.0));
-        alive = λ d real. opening.places (Life d) (life_there (sizes_of t.layout) d real) ∙ life_opens t d;
-      }
+pub steady_opening : (t : Trace) (opened : List ℕ) (gates : List Gate) → IsWellFormed t → SoundWords t.layout opened → IsOpening t opened →
+    IsSteady t.layout (stage (opened_story t.layout opened) (first_cpus t.layout t.scripts) gates)
+steady_opening t opened gates well sound opening =
+    record {
+      machine = well.machine;
+      state = start_sound t.layout opened sound;
+      hands = length-replicate (sizes_of t.layout).vcpus empty;
+      empty = λ v real. subst IsEmptyHand (sym (get_or-replicate (sizes_of t.layout).vcpus v empty empty real)) empty_idles;
+      all = length_first t.layout t.scripts ∙ well.scripts;
+      each = λ v c at.
+          (let first = first_at t.layout t.scripts v c at in
+          subst (IsSteadyCpu (memory (sizes_of t.layout) opened) v) (sym first.1) (fresh_steady (memory (sizes_of t.layout) opened) v (domain_of t.layout v) first.0));
+      alive = λ d real. opening.places (Life d) (life_there (sizes_of t.layout) d real) ∙ life_opens t d;
+    }
 
 -- ---- stops
 -- a stop leaves the clock
@@ -91,9 +99,10 @@ stops_rest n _ s _ all (more vs v _ m s' stops stop) =
       | inr makes ↦ absurd (let retired = retired_at m.cpus v makes.cpu then makes.here in let works = makes.works in cc)
     ]
 
-turns_steady : TurnLaws → (n : Machine) (vs : List ℕ) (s s' : Stage) → IsSteady n s → Turns n vs s s' → IsSteady n s'
-turns_steady laws n _ s _ steady (none _) = steady
-turns_steady laws n _ s _ steady (more vs v _ m s' turns turn) = steady_behind laws n v m s' (turns_steady laws n vs s m steady turns) turn
+module _ (steady_behind : SteadyBehind) (n : Machine) where
+  turns_steady : (vs : List ℕ) (s s' : Stage) → IsSteady n s → Turns n vs s s' → IsSteady n s'
+  turns_steady _ s _ steady (none _) = steady
+  turns_steady _ s _ steady (more vs v _ m s' turns turn) = steady_behind n v m s' (turns_steady vs s m steady turns) turn
 
 -- ---- the end
 no_more_pending : (c : Processing) → next_of c ≡ None → pending_of c ≡ 0
@@ -110,16 +119,16 @@ none_pending n s steady all =
     let here = slice_get-get_or s.cpus i d within in
     no_more_pending (slice_index_or s.cpus i d) ((steady.each i (slice_index_or s.cpus i d) here).ended (retired_at s.cpus i (slice_index_or s.cpus i d) all here)))
 
-pub answered_in_rounds : TurnLaws → ClockLaws → (t : Trace) (gates : List Gate) (text : List ℕ) (rounds : List (List ℕ)) → IsWellFormed t → (ran : RanTrace t gates text) → SoundWords t.layout ran.opened →
+pub answered_in_rounds : SteadyBehind → AllRetire → OpensSteady → (t : Trace) (gates : List Gate) (text : List ℕ) (rounds : List (List ℕ)) → IsWellFormed t → (ran : RanTrace t gates text) →
     order t.turns ≡ turns_in_rounds rounds → All (IsRound t.layout) rounds → words_of t.layout ran.closed Clock < last_clock →
     rounds_to_go t.layout (stage (opened_story t.layout ran.opened) (first_cpus t.layout t.scripts) (first_gates t.layout gates)) ≤ length rounds → All (λ k. k ≡ 0) (map pending_of ran.closed.cpus)
-answered_in_rounds laws clocks t gates text rounds well ran sound same all low enough =
+answered_in_rounds steady_behind all_retire opens t gates text rounds well ran same all low enough =
     let n = t.layout in
     let first : Stage = stage (opened_story n ran.opened) (first_cpus n t.scripts) (first_gates n gates) in
     let worked = ran.works.worked in
-    let steady : IsSteady n first = steady_opening t ran.opened (first_gates n gates) well sound ran.opening in
+    let steady : IsSteady n first = opens t ran.opened (first_gates n gates) well ran.opening in
     let turns : Turns n (turns_in_rounds rounds) first worked = subst (λ vs. Turns n vs first worked) same ran.works.turns in
     let clock : words_of n ran.closed Clock ≡ words_of n worked Clock = stops_clock n (range_with_len 0 (sizes_of n).vcpus) worked ran.closed ran.works.stops in
-    let retired : AreAllRetired worked = retire_in_rounds laws clocks n rounds first worked steady all turns (subst (λ k. k < last_clock) clock low) enough in
+    let retired : AreAllRetired worked = all_retire n rounds first worked steady all turns (subst (λ k. k < last_clock) clock low) enough in
     let closed : ran.closed ≡ worked = stops_rest n (range_with_len 0 (sizes_of n).vcpus) worked ran.closed retired ran.works.stops in
-    subst (λ (x : Stage). All (λ k. k ≡ 0) (map pending_of x.cpus)) (sym closed) (none_pending n worked (turns_steady laws n (turns_in_rounds rounds) first worked steady turns) retired)
+    subst (λ (x : Stage). All (λ k. k ≡ 0) (map pending_of x.cpus)) (sym closed) (none_pending n worked (turns_steady steady_behind n (turns_in_rounds rounds) first worked steady turns) retired)

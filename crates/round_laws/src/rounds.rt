@@ -16,6 +16,7 @@ ghost use Rattle.vcpu_runners.specs.Gates.{Gate};
 ghost use Rattle.round_laws.specs.Rounds.{AreAllRetired, IsRound, rounds_to_go, turns_in_rounds};
 ghost use Rattle.round_laws.specs.Stages.{IsSteady, words_of};
 
+use crate::turns::a_turn_leaves_less_to_do;
 use answer_laws::alone_stays;
 use course_laws::who_is_alone_has_orderly_words;
 use opening_rule::opening_words_are_sound;
@@ -53,14 +54,7 @@ pub fn every_script_is_answered_in_rounds()
     ensures { (t : Trace) (gates : List Gate) (text : List ℕ) (rounds : List (List ℕ)) → IsWellFormed t → (ran : RanTrace t gates text) → order t.turns ≡ turns_in_rounds rounds → All (IsRound t.layout) rounds → words_of t.layout ran.closed Clock < last_clock →
         rounds_to_go t.layout (stage (opened_story t.layout ran.opened) (first_cpus t.layout t.scripts) (first_gates t.layout gates)) ≤ length rounds → All (λ k. k ≡ 0) (map pending_of ran.closed.cpus) }
 {
-    opening_words_are_sound();
-    alone_stays();
-    who_is_alone_has_orderly_words();
-    a_turn_gets_ahead_or_stays();
-    a_turn_leaves_the_others();
-    a_paused_settling_names_less();
-    a_settling_that_ends_names_none();
-    a_turn_paused_within_an_element_goes_forward();
-    who_is_waited_for_is_asked();
-    a_turn_answers_its_ask();
+    a_turn_leaves_less_to_do();
+    all_retire_in_rounds();
+    an_opening_is_steady();
 }
