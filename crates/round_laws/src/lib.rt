@@ -4,5 +4,5 @@
 mod rounds;
 mod turns;
 
-pub use rounds::{all_retire_in_rounds, an_opening_is_steady, every_script_is_answered_in_rounds};
+pub use rounds::{all_retire_in_rounds, all_scripts_are_answered_in_rounds, an_opening_is_steady};
 pub use turns::a_turn_leaves_less_to_do;

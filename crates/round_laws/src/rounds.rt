@@ -49,12 +49,10 @@ pub fn an_opening_is_steady()
     opening_words_are_sound();
 }
 
-/// So a run whose trace asks for that many rounds answers all operations, where its clock stays below the last value.
-pub fn every_script_is_answered_in_rounds()
-    ensures { (t : Trace) (gates : List Gate) (text : List ℕ) (rounds : List (List ℕ)) → IsWellFormed t → (ran : RanTrace t gates text) → order t.turns ≡ turns_in_rounds rounds → All (IsRound t.layout) rounds → words_of t.layout ran.closed Clock < last_clock →
-        rounds_to_go t.layout (stage (opened_story t.layout ran.opened) (first_cpus t.layout t.scripts) (first_gates t.layout gates)) ≤ length rounds → All (λ k. k ≡ 0) (map pending_of ran.closed.cpus) }
+/// So all operations of all scripts are answered then.
+pub fn all_scripts_are_answered_in_rounds()
+    ensures { (n : Machine) (rounds : List (List ℕ)) (s s' : Stage) → IsSteady n s → All (IsRound n) rounds → Turns n (turns_in_rounds rounds) s s' → words_of n s' Clock < last_clock → rounds_to_go n s ≤ length rounds → All (λ k. k ≡ 0) (map pending_of s'.cpus) }
 {
     a_turn_leaves_less_to_do();
     all_retire_in_rounds();
-    an_opening_is_steady();
 }
