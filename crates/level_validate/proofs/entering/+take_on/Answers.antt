@@ -1,4 +1,4 @@
-use Rattle.std.proofs.Common.{◌+◌, ◌-◌, ◌∷◌, [], drop, true, false, Err, sym, ap, ◌∙◌, subst, arith}
+use Rattle.std.proofs.Common.{◌+◌, ◌-◌, ◌∷◌, [], drop, true, false, Err, sym, ap, ◌∙◌, subst, arith, refl, rules}
 use Rattle.std.proofs.lemmas.Result.{err_from_is_err_and}
 use Rattle.xp_words.specs.Entries.{below}
 use Rattle.xp_words.specs.declared.kind.PageType.{PageType}
@@ -34,23 +34,22 @@ use Rattle.level_validate.proofs.entering.+take_on.Goals as goal
 
 -- ---- none of its entries is recorded
 
-pub returns-then-top-eq0-clause-came : goal.returns-then-top-eq0-clause-came
-returns-then-top-eq0-clause-came g n c = came_self (g.P.Port.value c.args.port.now)
-
-pub returns-then-top-eq0-clause-ready : goal.returns-then-top-eq0-clause-ready
-returns-then-top-eq0-clause-ready g n c = c.requires.fresh c.if-top-eq0.true
-
-pub returns-then-top-eq0-clause-serves : goal.returns-then-top-eq0-clause-serves
-returns-then-top-eq0-clause-serves g n c = goes_nothing (g.P.Port.value c.args.port.now) c.args.owner c.args.stack.now
-
-pub returns-then-top-eq0-clause-forward : goal.returns-then-top-eq0-clause-forward
-returns-then-top-eq0-clause-forward g n c = forward_nothing (g.P.Port.value c.args.port.now)
-
-pub returns-then-top-eq0-clause-leaves : goal.returns-then-top-eq0-clause-leaves
-returns-then-top-eq0-clause-leaves g n c e = well_nothing (g.P.Port.value c.args.port.now) false e
-
-pub returns-then-top-eq0-clause-course : goal.returns-then-top-eq0-clause-course
-returns-then-top-eq0-clause-course g n c = fresh_on c.args.owner (g.P.Port.value c.args.port.now) c.args.top (drop 1 c.args.stack.now) c.args.stack.now c.requires.top c.if-top-eq0.true
+pub returns-then-top-eq0 : goal.returns-then-top-eq0
+returns-then-top-eq0 g n c =
+    record {
+      came = came_self (g.P.Port.value c.args.port.now);
+      forward = forward_nothing (g.P.Port.value c.args.port.now);
+      leaves = λ e. well_nothing (g.P.Port.value c.args.port.now) false e;
+      stands = search rules;
+      ready = c.requires.fresh c.if-top-eq0.true;
+      kinds = search rules;
+      outer = search rules;
+      progress = search rules;
+      less = search rules;
+      serves = goes_nothing (g.P.Port.value c.args.port.now) c.args.owner c.args.stack.now;
+      stops = search rules;
+      course = fresh_on c.args.owner (g.P.Port.value c.args.port.now) c.args.top (drop 1 c.args.stack.now) c.args.stack.now c.requires.top c.if-top-eq0.true;
+    }
 
 -- ---- its last one is looked at
 
@@ -87,100 +86,58 @@ resume_entry-requires-clause-looked g n c =
 
 -- ---- that stops
 
-pub returns-in_err-resume_entry-clause-came : goal.returns-in_err-resume_entry-clause-came
-returns-in_err-resume_entry-clause-came g n c = serves_came (g.P.Port.value c.args.port.now) (g.P.Port.value c.resume_entry.new.port) (of_entries c.args.owner 0) _ (c.in_err-resume_entry.ensures.serves 0)
-
-pub returns-in_err-resume_entry-clause-stands : goal.returns-in_err-resume_entry-clause-stands
-returns-in_err-resume_entry-clause-stands g n c v s =
+pub returns-in_err-resume_entry : goal.returns-in_err-resume_entry
+returns-in_err-resume_entry g n c =
     let u = g.P.Port.value c.args.port.now in
     let w = g.P.Port.value c.resume_entry.new.port in
     let found = c.in_err-resume_entry.ensures.found in
-    subst (λ xs. Carries v w c.args.owner xs) (sym c.requires.top)
-    (after_look v u w c.args.owner c.args.top (drop 1 c.args.stack.now) (subst (λ xs. Carries v u c.args.owner xs) c.requires.top s) (serves_came u w (of_entries c.args.owner 0) _ (c.in_err-resume_entry.ensures.serves 0))
-    (resumed_first u w c.args.top.frame (c.args.top.done - 1) c.level_type.result c.args.owner _ found) (c.args.top.done - 1) c.in_err-resume_entry.ensures.hand)
-
-pub returns-in_err-resume_entry-clause-serves : goal.returns-in_err-resume_entry-clause-serves
-returns-in_err-resume_entry-clause-serves g n c =
-    let u = g.P.Port.value c.args.port.now in
     let x = g.P.Port.value c.resume_entry.new.port in
     let answer = err_from_is_err_and c.from_residual.result c.from_residual.ensures.1 in
-    goes_answer u x c.args.owner c.args.stack.now c.args.stack.now c.from_residual.result c.in_err-resume_entry.field-0.0 (answer.1 ∙ ap Err answer.2)
-    (goes_entries u x c.args.owner c.args.stack.now (missed u.post.machine c.in_err-resume_entry.field-0.0) c.in_err-resume_entry.ensures.serves)
-
-pub returns-in_err-resume_entry-clause-stops : goal.returns-in_err-resume_entry-clause-stops
-returns-in_err-resume_entry-clause-stops g n c =
-    let u = g.P.Port.value c.args.port.now in
-    let x = g.P.Port.value c.resume_entry.new.port in
     let e = c.in_err-resume_entry.field-0.0 in
-    let answer = err_from_is_err_and c.from_residual.result c.from_residual.ensures.1 in
-    stops_answer u x c.args.owner c.args.stack.now c.from_residual.result e (answer.1 ∙ ap Err answer.2) (stops_entries u x c.args.owner c.args.stack.now e c.in_err-resume_entry.ensures.stops)
-
-pub returns-in_err-resume_entry-clause-forward : goal.returns-in_err-resume_entry-clause-forward
-returns-in_err-resume_entry-clause-forward g n c =
-    resumes_forward (g.P.Port.value c.args.port.now) (g.P.Port.value c.resume_entry.new.port) c.args.owner c.args.top c.args.stack.now c.requires.top c.requires.stands c.level_type.result c.level_type.ensures _ c.if-top-eq0.false
-    c.in_err-resume_entry.ensures.found
-
-pub returns-in_err-resume_entry-clause-leaves : goal.returns-in_err-resume_entry-clause-leaves
-returns-in_err-resume_entry-clause-leaves g n c e = resumes_well (g.P.Port.value c.args.port.now) (g.P.Port.value c.resume_entry.new.port) e c.args.top.frame (c.args.top.done - 1) c.level_type.result c.args.owner _ c.in_err-resume_entry.ensures.found
-
-pub returns-in_err-resume_entry-clause-course : goal.returns-in_err-resume_entry-clause-course
-returns-in_err-resume_entry-clause-course g n c =
-    let u = g.P.Port.value c.args.port.now in
-    let x = g.P.Port.value c.resume_entry.new.port in
     let t = c.args.top in
-    let e = c.in_err-resume_entry.field-0.0 in
-    let answer = err_from_is_err_and c.from_residual.result c.from_residual.ensures.1 in
     let stopped = c.in_err-resume_entry.ensures in
-    stopped_on c.args.owner u t (drop 1 c.args.stack.now) c.args.stack.now c.requires.top c.if-top-eq0.false x c.from_residual.result e (answer.1 ∙ ap Err answer.2)
-    (resumed_err u x c.args.owner t c.level_type.result c.level_type.ensures e stopped.found stopped.plain stopped.stops)
+    record {
+      came = serves_came (g.P.Port.value c.args.port.now) (g.P.Port.value c.resume_entry.new.port) (of_entries c.args.owner 0) _ (c.in_err-resume_entry.ensures.serves 0);
+      forward = resumes_forward (g.P.Port.value c.args.port.now) (g.P.Port.value c.resume_entry.new.port) c.args.owner c.args.top c.args.stack.now c.requires.top c.requires.stands c.level_type.result c.level_type.ensures _ c.if-top-eq0.false
+    c.in_err-resume_entry.ensures.found;
+      leaves = λ e. resumes_well (g.P.Port.value c.args.port.now) (g.P.Port.value c.resume_entry.new.port) e c.args.top.frame (c.args.top.done - 1) c.level_type.result c.args.owner _ c.in_err-resume_entry.ensures.found;
+      stands = λ v s. subst (λ xs. Carries v w c.args.owner xs) (sym c.requires.top)
+    (after_look v u w c.args.owner c.args.top (drop 1 c.args.stack.now) (subst (λ xs. Carries v u c.args.owner xs) c.requires.top s) (serves_came u w (of_entries c.args.owner 0) _ (c.in_err-resume_entry.ensures.serves 0))
+    (resumed_first u w c.args.top.frame (c.args.top.done - 1) c.level_type.result c.args.owner _ found) (c.args.top.done - 1) c.in_err-resume_entry.ensures.hand);
+      ready = search rules;
+      kinds = search rules;
+      outer = search rules;
+      progress = search rules;
+      less = search rules;
+      serves = goes_answer u x c.args.owner c.args.stack.now c.args.stack.now c.from_residual.result c.in_err-resume_entry.field-0.0 (answer.1 ∙ ap Err answer.2)
+    (goes_entries u x c.args.owner c.args.stack.now (missed u.post.machine c.in_err-resume_entry.field-0.0) c.in_err-resume_entry.ensures.serves);
+      stops = stops_answer u x c.args.owner c.args.stack.now c.from_residual.result e (answer.1 ∙ ap Err answer.2) (stops_entries u x c.args.owner c.args.stack.now e c.in_err-resume_entry.ensures.stops);
+      course = stopped_on c.args.owner u t (drop 1 c.args.stack.now) c.args.stack.now c.requires.top c.if-top-eq0.false x c.from_residual.result e (answer.1 ∙ ap Err answer.2)
+    (resumed_err u x c.args.owner t c.level_type.result c.level_type.ensures e stopped.found stopped.plain stopped.stops);
+    }
 
 -- ---- it is settled
 
-pub returns-in-Settled-clause-came : goal.returns-in-Settled-clause-came
-returns-in-Settled-clause-came g n c = serves_came (g.P.Port.value c.args.port.now) (g.P.Port.value c.resume_entry.new.port) (of_entries c.args.owner 0) [] (c.in_ok-resume_entry.ensures.serves 0)
-
-pub returns-in-Settled-clause-stands : goal.returns-in-Settled-clause-stands
-returns-in-Settled-clause-stands g n c =
+pub returns-in-Settled : goal.returns-in-Settled
+returns-in-Settled g n c =
     let u = g.P.Port.value c.args.port.now in
     let x = g.P.Port.value c.resume_entry.new.port in
     let e = c.in_ok-resume_entry.ensures in
     let said = said_again u x c.args.owner c.args.top c.level_type.result c.level_type.ensures c.in_ok-resume_entry.field-0 again.Settled c.in-Settled.is e.found e.plain e.shows e.serves e.hand in
-    settled_stands u x c.args.owner c.args.top c.args.stack.now c.requires.top said
-
-pub returns-in-Settled-clause-ready : goal.returns-in-Settled-clause-ready
-returns-in-Settled-clause-ready g n c =
-    let u = g.P.Port.value c.args.port.now in
-    let x = g.P.Port.value c.resume_entry.new.port in
-    let e = c.in_ok-resume_entry.ensures in
-    let said = said_again u x c.args.owner c.args.top c.level_type.result c.level_type.ensures c.in_ok-resume_entry.field-0 again.Settled c.in-Settled.is e.found e.plain e.shows e.serves e.hand in
-    settled_ready u x c.args.owner c.args.top c.args.stack.now c.requires.top said c.requires.stands
-
-pub returns-in-Settled-clause-serves : goal.returns-in-Settled-clause-serves
-returns-in-Settled-clause-serves g n c = goes_entries (g.P.Port.value c.args.port.now) (g.P.Port.value c.resume_entry.new.port) c.args.owner c.args.stack.now [] c.in_ok-resume_entry.ensures.serves
-
-pub returns-in-Settled-clause-forward : goal.returns-in-Settled-clause-forward
-returns-in-Settled-clause-forward g n c =
-    let u = g.P.Port.value c.args.port.now in
-    let x = g.P.Port.value c.resume_entry.new.port in
-    let e = c.in_ok-resume_entry.ensures in
-    let said = said_again u x c.args.owner c.args.top c.level_type.result c.level_type.ensures c.in_ok-resume_entry.field-0 again.Settled c.in-Settled.is e.found e.plain e.shows e.serves e.hand in
-    again_forward u x c.args.owner c.args.top again.Settled said c.args.stack.now c.requires.top c.requires.stands c.if-top-eq0.false
-
-pub returns-in-Settled-clause-leaves : goal.returns-in-Settled-clause-leaves
-returns-in-Settled-clause-leaves g n c =
-    let u = g.P.Port.value c.args.port.now in
-    let x = g.P.Port.value c.resume_entry.new.port in
-    let e = c.in_ok-resume_entry.ensures in
-    let said = said_again u x c.args.owner c.args.top c.level_type.result c.level_type.ensures c.in_ok-resume_entry.field-0 again.Settled c.in-Settled.is e.found e.plain e.shows e.serves e.hand in
-    again_well u x c.args.owner c.args.top again.Settled said
-
-pub returns-in-Settled-clause-course : goal.returns-in-Settled-clause-course
-returns-in-Settled-clause-course g n c =
-    let u = g.P.Port.value c.args.port.now in
-    let x = g.P.Port.value c.resume_entry.new.port in
-    let e = c.in_ok-resume_entry.ensures in
-    let said = said_again u x c.args.owner c.args.top c.level_type.result c.level_type.ensures c.in_ok-resume_entry.field-0 again.Settled c.in-Settled.is e.found e.plain e.shows e.serves e.hand in
-    settled_on c.args.owner u c.args.top (drop 1 c.args.stack.now) c.args.stack.now c.requires.top c.if-top-eq0.false x said.entry
+    record {
+      came = serves_came u x (of_entries c.args.owner 0) [] (e.serves 0);
+      forward = again_forward u x c.args.owner c.args.top again.Settled said c.args.stack.now c.requires.top c.requires.stands c.if-top-eq0.false;
+      leaves = again_well u x c.args.owner c.args.top again.Settled said;
+      stands = settled_stands u x c.args.owner c.args.top c.args.stack.now c.requires.top said;
+      ready = settled_ready u x c.args.owner c.args.top c.args.stack.now c.requires.top said c.requires.stands;
+      kinds = tt;
+      outer = refl;
+      progress = search rules;
+      less = search rules;
+      serves = goes_entries u x c.args.owner c.args.stack.now [] e.serves;
+      stops = tt;
+      course = settled_on c.args.owner u c.args.top (drop 1 c.args.stack.now) c.args.stack.now c.requires.top c.if-top-eq0.false x said.entry;
+    }
 
 -- ---- its frame was live
 
@@ -200,69 +157,27 @@ give_back-requires-clause-gives g n c =
     let said = said_again u x c.args.owner c.args.top c.level_type.result c.level_type.ensures c.in_ok-resume_entry.field-0 (again.Taken c.in-Taken.frame) c.in-Taken.is e.found e.plain e.shows e.serves e.hand in
     took_gives u x c.args.owner c.args.top c.args.stack.now c.requires.top c.if-top-eq0.false c.in-Taken.frame said c.requires.stands
 
-pub returns-in-Taken-clause-came : goal.returns-in-Taken-clause-came
-returns-in-Taken-clause-came g n c =
+pub returns-in-Taken : goal.returns-in-Taken
+returns-in-Taken g n c =
     let u = g.P.Port.value c.args.port.now in
     let x = g.P.Port.value c.resume_entry.new.port in
     let e = c.in_ok-resume_entry.ensures in
     let said = said_again u x c.args.owner c.args.top c.level_type.result c.level_type.ensures c.in_ok-resume_entry.field-0 (again.Taken c.in-Taken.frame) c.in-Taken.is e.found e.plain e.shows e.serves e.hand in
-    again_then u x c.args.owner c.args.top (again.Taken c.in-Taken.frame) said (g.P.Port.value c.give_back.new.port) c.give_back.ensures.came
-
-pub returns-in-Taken-clause-stands : goal.returns-in-Taken-clause-stands
-returns-in-Taken-clause-stands g n c =
-    let u = g.P.Port.value c.args.port.now in
-    let x = g.P.Port.value c.resume_entry.new.port in
-    let e = c.in_ok-resume_entry.ensures in
-    let said = said_again u x c.args.owner c.args.top c.level_type.result c.level_type.ensures c.in_ok-resume_entry.field-0 (again.Taken c.in-Taken.frame) c.in-Taken.is e.found e.plain e.shows e.serves e.hand in
-    took_stands u x c.args.owner c.args.top c.args.stack.now c.requires.top c.if-top-eq0.false c.in-Taken.frame said (g.P.Port.value c.give_back.new.port) c.give_back.ensures.hand c.give_back.ensures.came
-
-pub returns-in-Taken-clause-ready : goal.returns-in-Taken-clause-ready
-returns-in-Taken-clause-ready g n c =
-    let u = g.P.Port.value c.args.port.now in
-    let x = g.P.Port.value c.resume_entry.new.port in
-    let e = c.in_ok-resume_entry.ensures in
-    let said = said_again u x c.args.owner c.args.top c.level_type.result c.level_type.ensures c.in_ok-resume_entry.field-0 (again.Taken c.in-Taken.frame) c.in-Taken.is e.found e.plain e.shows e.serves e.hand in
-    took_ready u x c.args.owner c.args.top c.args.stack.now c.requires.top c.if-top-eq0.false c.in-Taken.frame said (g.P.Port.value c.give_back.new.port) c.give_back.ensures.hand c.give_back.ensures.came c.requires.stands
-
-pub returns-in-Taken-clause-progress : goal.returns-in-Taken-clause-progress
-returns-in-Taken-clause-progress g n c is =
-    let u = g.P.Port.value c.args.port.now in
-    let x = g.P.Port.value c.resume_entry.new.port in
-    let e = c.in_ok-resume_entry.ensures in
-    let said = said_again u x c.args.owner c.args.top c.level_type.result c.level_type.ensures c.in_ok-resume_entry.field-0 (again.Taken c.in-Taken.frame) c.in-Taken.is e.found e.plain e.shows e.serves e.hand in
-    took_progress u x c.args.owner c.args.top c.args.stack.now c.requires.top c.if-top-eq0.false c.in-Taken.frame said (g.P.Port.value c.give_back.new.port) c.give_back.ensures.came
-
-pub returns-in-Taken-clause-serves : goal.returns-in-Taken-clause-serves
-returns-in-Taken-clause-serves g n c =
-    let u = g.P.Port.value c.args.port.now in
-    let x = g.P.Port.value c.resume_entry.new.port in
-    let e = c.in_ok-resume_entry.ensures in
-    let said = said_again u x c.args.owner c.args.top c.level_type.result c.level_type.ensures c.in_ok-resume_entry.field-0 (again.Taken c.in-Taken.frame) c.in-Taken.is e.found e.plain e.shows e.serves e.hand in
-    took_serves u x c.args.owner c.args.top c.args.stack.now c.requires.top c.if-top-eq0.false c.in-Taken.frame said (g.P.Port.value c.give_back.new.port) c.give_back.ensures.serves
-
-pub returns-in-Taken-clause-forward : goal.returns-in-Taken-clause-forward
-returns-in-Taken-clause-forward g n c =
-    let u = g.P.Port.value c.args.port.now in
-    let x = g.P.Port.value c.resume_entry.new.port in
-    let e = c.in_ok-resume_entry.ensures in
-    let said = said_again u x c.args.owner c.args.top c.level_type.result c.level_type.ensures c.in_ok-resume_entry.field-0 (again.Taken c.in-Taken.frame) c.in-Taken.is e.found e.plain e.shows e.serves e.hand in
-    forward_then u x (g.P.Port.value c.give_back.new.port) (again_forward u x c.args.owner c.args.top (again.Taken c.in-Taken.frame) said c.args.stack.now c.requires.top c.requires.stands c.if-top-eq0.false) c.give_back.ensures.forward
-
-pub returns-in-Taken-clause-leaves : goal.returns-in-Taken-clause-leaves
-returns-in-Taken-clause-leaves g n c f =
-    let u = g.P.Port.value c.args.port.now in
-    let x = g.P.Port.value c.resume_entry.new.port in
-    let e = c.in_ok-resume_entry.ensures in
-    let said = said_again u x c.args.owner c.args.top c.level_type.result c.level_type.ensures c.in_ok-resume_entry.field-0 (again.Taken c.in-Taken.frame) c.in-Taken.is e.found e.plain e.shows e.serves e.hand in
-    well_then u x (g.P.Port.value c.give_back.new.port) false f (again_well u x c.args.owner c.args.top (again.Taken c.in-Taken.frame) said f) (c.give_back.ensures.leaves f)
-
-pub returns-in-Taken-clause-course : goal.returns-in-Taken-clause-course
-returns-in-Taken-clause-course g n c =
-    let u = g.P.Port.value c.args.port.now in
-    let x = g.P.Port.value c.resume_entry.new.port in
-    let e = c.in_ok-resume_entry.ensures in
-    let said = said_again u x c.args.owner c.args.top c.level_type.result c.level_type.ensures c.in_ok-resume_entry.field-0 (again.Taken c.in-Taken.frame) c.in-Taken.is e.found e.plain e.shows e.serves e.hand in
-    taken_on c.args.owner u c.args.top (drop 1 c.args.stack.now) c.args.stack.now c.requires.top c.if-top-eq0.false x (g.P.Port.value c.give_back.new.port) c.in-Taken.frame said.entry c.give_back.ensures.course
+    record {
+      came = again_then u x c.args.owner c.args.top (again.Taken c.in-Taken.frame) said (g.P.Port.value c.give_back.new.port) c.give_back.ensures.came;
+      forward = forward_then u x (g.P.Port.value c.give_back.new.port) (again_forward u x c.args.owner c.args.top (again.Taken c.in-Taken.frame) said c.args.stack.now c.requires.top c.requires.stands c.if-top-eq0.false) c.give_back.ensures.forward;
+      leaves = λ f. well_then u x (g.P.Port.value c.give_back.new.port) false f (again_well u x c.args.owner c.args.top (again.Taken c.in-Taken.frame) said f) (c.give_back.ensures.leaves f);
+      stands = took_stands u x c.args.owner c.args.top c.args.stack.now c.requires.top c.if-top-eq0.false c.in-Taken.frame said (g.P.Port.value c.give_back.new.port) c.give_back.ensures.hand c.give_back.ensures.came;
+      ready = took_ready u x c.args.owner c.args.top c.args.stack.now c.requires.top c.if-top-eq0.false c.in-Taken.frame said (g.P.Port.value c.give_back.new.port) c.give_back.ensures.hand c.give_back.ensures.came c.requires.stands;
+      kinds = search rules;
+      outer = search rules;
+      progress = λ is. let said = said_again u x c.args.owner c.args.top c.level_type.result c.level_type.ensures c.in_ok-resume_entry.field-0 (again.Taken c.in-Taken.frame) c.in-Taken.is e.found e.plain e.shows e.serves e.hand in
+          took_progress u x c.args.owner c.args.top c.args.stack.now c.requires.top c.if-top-eq0.false c.in-Taken.frame said (g.P.Port.value c.give_back.new.port) c.give_back.ensures.came;
+      less = search rules;
+      serves = took_serves u x c.args.owner c.args.top c.args.stack.now c.requires.top c.if-top-eq0.false c.in-Taken.frame said (g.P.Port.value c.give_back.new.port) c.give_back.ensures.serves;
+      stops = search rules;
+      course = taken_on c.args.owner u c.args.top (drop 1 c.args.stack.now) c.args.stack.now c.requires.top c.if-top-eq0.false x (g.P.Port.value c.give_back.new.port) c.in-Taken.frame said.entry c.give_back.ensures.course;
+    }
 
 -- ---- it names a table that was left unfinished
 
@@ -294,75 +209,30 @@ take_on-requires g n c κs low =
       ),
     )
 
-pub returns-in-Opened-clause-came : goal.returns-in-Opened-clause-came
-returns-in-Opened-clause-came g n c =
+pub returns-in-Opened : goal.returns-in-Opened
+returns-in-Opened g n c =
     let u = g.P.Port.value c.args.port.now in
     let x = g.P.Port.value c.resume_entry.new.port in
     let e = c.in_ok-resume_entry.ensures in
     let said = said_again u x c.args.owner c.args.top c.level_type.result c.level_type.ensures c.in_ok-resume_entry.field-0 (again.Opened c.in-Opened.frame c.in-Opened.progress) c.in-Opened.is e.found e.plain e.shows e.serves e.hand in
-    again_then u x c.args.owner c.args.top (again.Opened c.in-Opened.frame c.in-Opened.progress) said (g.P.Port.value c.take_on.new.port) c.take_on.ensures.came
-
-pub returns-in-Opened-clause-stands : goal.returns-in-Opened-clause-stands
-returns-in-Opened-clause-stands g n c v s =
-    let u = g.P.Port.value c.args.port.now in
-    let x = g.P.Port.value c.resume_entry.new.port in
-    let e = c.in_ok-resume_entry.ensures in
-    let said = said_again u x c.args.owner c.args.top c.level_type.result c.level_type.ensures c.in_ok-resume_entry.field-0 (again.Opened c.in-Opened.frame c.in-Opened.progress) c.in-Opened.is e.found e.plain e.shows e.serves e.hand in
-    c.take_on.ensures.stands v (opened_stands u x c.args.owner c.args.top c.args.stack.now c.requires.top c.if-top-eq0.false c.in-Opened.frame c.in-Opened.progress said c.push.new.self c.push.ensures.pushed v s)
-
-pub returns-in-Opened-clause-progress : goal.returns-in-Opened-clause-progress
-returns-in-Opened-clause-progress g n c =
-    let u = g.P.Port.value c.args.port.now in
-    let x = g.P.Port.value c.resume_entry.new.port in
-    progress_answer u x (g.P.Port.value c.take_on.new.port) c.take_on.result (serves_came u x (of_entries c.args.owner 0) [] (c.in_ok-resume_entry.ensures.serves 0)) c.take_on.ensures.progress
-
-pub returns-in-Opened-clause-less : goal.returns-in-Opened-clause-less
-returns-in-Opened-clause-less g n c =
     let t = c.args.top in
     let inner = pushed t c.in-Opened.frame c.in-Opened.progress false true in
-    again_lowers c.take_on.result (weight c.take_on.new.stack) inner t (drop 1 c.args.stack.now) c.args.stack.now c.push.new.self c.push.ensures.stack c.requires.top c.push.ensures.pushed c.take_on.ensures.less
-
-pub returns-in-Opened-clause-serves : goal.returns-in-Opened-clause-serves
-returns-in-Opened-clause-serves g n c =
-    let u = g.P.Port.value c.args.port.now in
-    let x = g.P.Port.value c.resume_entry.new.port in
-    let e = c.in_ok-resume_entry.ensures in
-    let said = said_again u x c.args.owner c.args.top c.level_type.result c.level_type.ensures c.in_ok-resume_entry.field-0 (again.Opened c.in-Opened.frame c.in-Opened.progress) c.in-Opened.is e.found e.plain e.shows e.serves e.hand in
-    goes_on u x (g.P.Port.value c.take_on.new.port) c.args.owner c.args.stack.now c.push.new.self c.take_on.new.stack c.take_on.result (again_came u x c.args.owner c.args.top (again.Opened c.in-Opened.frame c.in-Opened.progress) said)
-    (opened_serves u x c.args.owner c.args.top c.args.stack.now c.requires.top c.if-top-eq0.false c.in-Opened.frame c.in-Opened.progress said c.push.new.self c.push.ensures.pushed c.requires.stands) c.take_on.ensures.serves
-
-pub returns-in-Opened-clause-stops : goal.returns-in-Opened-clause-stops
-returns-in-Opened-clause-stops g n c =
-    let u = g.P.Port.value c.args.port.now in
-    let x = g.P.Port.value c.resume_entry.new.port in
-    let e = c.in_ok-resume_entry.ensures in
-    let said = said_again u x c.args.owner c.args.top c.level_type.result c.level_type.ensures c.in_ok-resume_entry.field-0 (again.Opened c.in-Opened.frame c.in-Opened.progress) c.in-Opened.is e.found e.plain e.shows e.serves e.hand in
-    opened_stops u x c.args.owner c.args.top c.args.stack.now c.requires.top c.if-top-eq0.false c.in-Opened.frame c.in-Opened.progress said c.push.new.self c.push.ensures.pushed c.requires.stands (g.P.Port.value c.take_on.new.port) c.take_on.result c.take_on.ensures.stops
-
-pub returns-in-Opened-clause-forward : goal.returns-in-Opened-clause-forward
-returns-in-Opened-clause-forward g n c =
-    let u = g.P.Port.value c.args.port.now in
-    let x = g.P.Port.value c.resume_entry.new.port in
-    let e = c.in_ok-resume_entry.ensures in
-    let said = said_again u x c.args.owner c.args.top c.level_type.result c.level_type.ensures c.in_ok-resume_entry.field-0 (again.Opened c.in-Opened.frame c.in-Opened.progress) c.in-Opened.is e.found e.plain e.shows e.serves e.hand in
-    forward_then u x (g.P.Port.value c.take_on.new.port) (again_forward u x c.args.owner c.args.top (again.Opened c.in-Opened.frame c.in-Opened.progress) said c.args.stack.now c.requires.top c.requires.stands c.if-top-eq0.false) c.take_on.ensures.forward
-
-pub returns-in-Opened-clause-leaves : goal.returns-in-Opened-clause-leaves
-returns-in-Opened-clause-leaves g n c f =
-    let u = g.P.Port.value c.args.port.now in
-    let x = g.P.Port.value c.resume_entry.new.port in
-    let e = c.in_ok-resume_entry.ensures in
-    let said = said_again u x c.args.owner c.args.top c.level_type.result c.level_type.ensures c.in_ok-resume_entry.field-0 (again.Opened c.in-Opened.frame c.in-Opened.progress) c.in-Opened.is e.found e.plain e.shows e.serves e.hand in
-    well_then u x (g.P.Port.value c.take_on.new.port) false f (again_well u x c.args.owner c.args.top (again.Opened c.in-Opened.frame c.in-Opened.progress) said f) (c.take_on.ensures.leaves f)
-
-pub returns-in-Opened-clause-course : goal.returns-in-Opened-clause-course
-returns-in-Opened-clause-course g n c =
-    let u = g.P.Port.value c.args.port.now in
-    let x = g.P.Port.value c.resume_entry.new.port in
-    let e = c.in_ok-resume_entry.ensures in
-    let said = said_again u x c.args.owner c.args.top c.level_type.result c.level_type.ensures c.in_ok-resume_entry.field-0 (again.Opened c.in-Opened.frame c.in-Opened.progress) c.in-Opened.is e.found e.plain e.shows e.serves e.hand in
-    opened_on c.args.owner u c.args.top (drop 1 c.args.stack.now) c.args.stack.now c.requires.top c.if-top-eq0.false x (g.P.Port.value c.take_on.new.port) c.in-Opened.frame c.in-Opened.progress c.take_on.result
-    c.push.new.self c.take_on.new.stack c.push.ensures.pushed said.entry c.take_on.ensures.course
+    record {
+      came = again_then u x c.args.owner c.args.top (again.Opened c.in-Opened.frame c.in-Opened.progress) said (g.P.Port.value c.take_on.new.port) c.take_on.ensures.came;
+      forward = forward_then u x (g.P.Port.value c.take_on.new.port) (again_forward u x c.args.owner c.args.top (again.Opened c.in-Opened.frame c.in-Opened.progress) said c.args.stack.now c.requires.top c.requires.stands c.if-top-eq0.false) c.take_on.ensures.forward;
+      leaves = λ f. well_then u x (g.P.Port.value c.take_on.new.port) false f (again_well u x c.args.owner c.args.top (again.Opened c.in-Opened.frame c.in-Opened.progress) said f) (c.take_on.ensures.leaves f);
+      stands = λ v s. c.take_on.ensures.stands v (opened_stands u x c.args.owner c.args.top c.args.stack.now c.requires.top c.if-top-eq0.false c.in-Opened.frame c.in-Opened.progress said c.push.new.self c.push.ensures.pushed v s);
+      ready = search rules;
+      kinds = search rules;
+      outer = search rules;
+      progress = progress_answer u x (g.P.Port.value c.take_on.new.port) c.take_on.result (serves_came u x (of_entries c.args.owner 0) [] (c.in_ok-resume_entry.ensures.serves 0)) c.take_on.ensures.progress;
+      less = again_lowers c.take_on.result (weight c.take_on.new.stack) inner t (drop 1 c.args.stack.now) c.args.stack.now c.push.new.self c.push.ensures.stack c.requires.top c.push.ensures.pushed c.take_on.ensures.less;
+      serves = goes_on u x (g.P.Port.value c.take_on.new.port) c.args.owner c.args.stack.now c.push.new.self c.take_on.new.stack c.take_on.result (again_came u x c.args.owner c.args.top (again.Opened c.in-Opened.frame c.in-Opened.progress) said)
+    (opened_serves u x c.args.owner c.args.top c.args.stack.now c.requires.top c.if-top-eq0.false c.in-Opened.frame c.in-Opened.progress said c.push.new.self c.push.ensures.pushed c.requires.stands) c.take_on.ensures.serves;
+      stops = opened_stops u x c.args.owner c.args.top c.args.stack.now c.requires.top c.if-top-eq0.false c.in-Opened.frame c.in-Opened.progress said c.push.new.self c.push.ensures.pushed c.requires.stands (g.P.Port.value c.take_on.new.port) c.take_on.result c.take_on.ensures.stops;
+      course = opened_on c.args.owner u c.args.top (drop 1 c.args.stack.now) c.args.stack.now c.requires.top c.if-top-eq0.false x (g.P.Port.value c.take_on.new.port) c.in-Opened.frame c.in-Opened.progress c.take_on.result
+    c.push.new.self c.take_on.new.stack c.push.ensures.pushed said.entry c.take_on.ensures.course;
+    }
 
 -- ---- it waits for a flush
 
@@ -382,67 +252,24 @@ leave_shared-requires-clause-waits g n c =
     let said = said_again u x c.args.owner c.args.top c.level_type.result c.level_type.ensures c.in_ok-resume_entry.field-0 (again.Waiting c.in-Waiting.frame c.in-Waiting.stamp c.in-Waiting.stop) c.in-Waiting.is e.found e.plain e.shows e.serves e.hand in
     waited_waits u x c.args.owner c.args.top c.args.stack.now c.requires.top c.if-top-eq0.false c.in-Waiting.frame c.in-Waiting.stamp c.in-Waiting.stop said c.requires.stands c.level_type-in-Waiting.result c.level_type-in-Waiting.ensures
 
-pub returns-in-Waiting-clause-came : goal.returns-in-Waiting-clause-came
-returns-in-Waiting-clause-came g n c =
+pub returns-in-Waiting : goal.returns-in-Waiting
+returns-in-Waiting g n c =
     let u = g.P.Port.value c.args.port.now in
     let x = g.P.Port.value c.resume_entry.new.port in
     let e = c.in_ok-resume_entry.ensures in
     let said = said_again u x c.args.owner c.args.top c.level_type.result c.level_type.ensures c.in_ok-resume_entry.field-0 (again.Waiting c.in-Waiting.frame c.in-Waiting.stamp c.in-Waiting.stop) c.in-Waiting.is e.found e.plain e.shows e.serves e.hand in
-    again_then u x c.args.owner c.args.top (again.Waiting c.in-Waiting.frame c.in-Waiting.stamp c.in-Waiting.stop) said (g.P.Port.value c.leave_shared.new.port) c.leave_shared.ensures.came
-
-pub returns-in-Waiting-clause-stands : goal.returns-in-Waiting-clause-stands
-returns-in-Waiting-clause-stands g n c =
-    let u = g.P.Port.value c.args.port.now in
-    let x = g.P.Port.value c.resume_entry.new.port in
-    let e = c.in_ok-resume_entry.ensures in
-    let said = said_again u x c.args.owner c.args.top c.level_type.result c.level_type.ensures c.in_ok-resume_entry.field-0 (again.Waiting c.in-Waiting.frame c.in-Waiting.stamp c.in-Waiting.stop) c.in-Waiting.is e.found e.plain e.shows e.serves e.hand in
-    waited_stands u x c.args.owner c.args.top c.args.stack.now c.requires.top c.if-top-eq0.false c.in-Waiting.frame c.in-Waiting.stamp c.in-Waiting.stop said c.requires.stands c.level_type-in-Waiting.result c.level_type-in-Waiting.ensures (g.P.Port.value c.leave_shared.new.port) c.leave_shared.ensures.came c.leave_shared.ensures.hand
-
-pub returns-in-Waiting-clause-kinds : goal.returns-in-Waiting-clause-kinds
-returns-in-Waiting-clause-kinds g n c =
-    let u = g.P.Port.value c.args.port.now in
-    let x = g.P.Port.value c.resume_entry.new.port in
-    let e = c.in_ok-resume_entry.ensures in
-    let said = said_again u x c.args.owner c.args.top c.level_type.result c.level_type.ensures c.in_ok-resume_entry.field-0 (again.Waiting c.in-Waiting.frame c.in-Waiting.stamp c.in-Waiting.stop) c.in-Waiting.is e.found e.plain e.shows e.serves e.hand in
-    waited_kinds u x c.args.owner c.args.top c.args.stack.now c.requires.top c.if-top-eq0.false c.in-Waiting.frame c.in-Waiting.stamp c.in-Waiting.stop said c.requires.stands
-
-pub returns-in-Waiting-clause-serves : goal.returns-in-Waiting-clause-serves
-returns-in-Waiting-clause-serves g n c =
-    let u = g.P.Port.value c.args.port.now in
-    let x = g.P.Port.value c.resume_entry.new.port in
-    let e = c.in_ok-resume_entry.ensures in
-    let said = said_again u x c.args.owner c.args.top c.level_type.result c.level_type.ensures c.in_ok-resume_entry.field-0 (again.Waiting c.in-Waiting.frame c.in-Waiting.stamp c.in-Waiting.stop) c.in-Waiting.is e.found e.plain e.shows e.serves e.hand in
-    waited_serves u x c.args.owner c.args.top c.args.stack.now c.requires.top c.if-top-eq0.false c.in-Waiting.frame c.in-Waiting.stamp c.in-Waiting.stop said c.requires.stands c.level_type-in-Waiting.result c.level_type-in-Waiting.ensures (g.P.Port.value c.leave_shared.new.port) c.leave_shared.ensures.came c.leave_shared.ensures.serves
-
-pub returns-in-Waiting-clause-stops : goal.returns-in-Waiting-clause-stops
-returns-in-Waiting-clause-stops g n c =
-    let u = g.P.Port.value c.args.port.now in
-    let x = g.P.Port.value c.resume_entry.new.port in
-    let e = c.in_ok-resume_entry.ensures in
-    let said = said_again u x c.args.owner c.args.top c.level_type.result c.level_type.ensures c.in_ok-resume_entry.field-0 (again.Waiting c.in-Waiting.frame c.in-Waiting.stamp c.in-Waiting.stop) c.in-Waiting.is e.found e.plain e.shows e.serves e.hand in
-    waited_stops u x c.args.owner c.args.top c.args.stack.now c.requires.top c.if-top-eq0.false c.in-Waiting.frame c.in-Waiting.stamp c.in-Waiting.stop said c.requires.stands c.level_type-in-Waiting.result c.level_type-in-Waiting.ensures (g.P.Port.value c.leave_shared.new.port) c.leave_shared.ensures.came
-
-pub returns-in-Waiting-clause-forward : goal.returns-in-Waiting-clause-forward
-returns-in-Waiting-clause-forward g n c =
-    let u = g.P.Port.value c.args.port.now in
-    let x = g.P.Port.value c.resume_entry.new.port in
-    let e = c.in_ok-resume_entry.ensures in
-    let said = said_again u x c.args.owner c.args.top c.level_type.result c.level_type.ensures c.in_ok-resume_entry.field-0 (again.Waiting c.in-Waiting.frame c.in-Waiting.stamp c.in-Waiting.stop) c.in-Waiting.is e.found e.plain e.shows e.serves e.hand in
-    shared_forward u x c.args.owner c.args.top c.args.stack.now c.requires.top c.if-top-eq0.false c.in-Waiting.frame c.in-Waiting.stamp c.in-Waiting.stop said c.requires.stands c.level_type-in-Waiting.result c.level_type-in-Waiting.ensures (g.P.Port.value c.leave_shared.new.port) c.leave_shared.ensures.visits
-
-pub returns-in-Waiting-clause-leaves : goal.returns-in-Waiting-clause-leaves
-returns-in-Waiting-clause-leaves g n c =
-    let u = g.P.Port.value c.args.port.now in
-    let x = g.P.Port.value c.resume_entry.new.port in
-    let e = c.in_ok-resume_entry.ensures in
-    let said = said_again u x c.args.owner c.args.top c.level_type.result c.level_type.ensures c.in_ok-resume_entry.field-0 (again.Waiting c.in-Waiting.frame c.in-Waiting.stamp c.in-Waiting.stop) c.in-Waiting.is e.found e.plain e.shows e.serves e.hand in
-    shared_well u x c.args.owner c.args.top c.args.stack.now c.requires.top c.if-top-eq0.false c.in-Waiting.frame c.in-Waiting.stamp c.in-Waiting.stop said c.requires.stands c.level_type-in-Waiting.result c.level_type-in-Waiting.ensures (g.P.Port.value c.leave_shared.new.port) c.leave_shared.ensures.visits
-
-pub returns-in-Waiting-clause-course : goal.returns-in-Waiting-clause-course
-returns-in-Waiting-clause-course g n c =
-    let u = g.P.Port.value c.args.port.now in
-    let x = g.P.Port.value c.resume_entry.new.port in
-    let e = c.in_ok-resume_entry.ensures in
-    let said = said_again u x c.args.owner c.args.top c.level_type.result c.level_type.ensures c.in_ok-resume_entry.field-0 (again.Waiting c.in-Waiting.frame c.in-Waiting.stamp c.in-Waiting.stop) c.in-Waiting.is e.found e.plain e.shows e.serves e.hand in
-    waiting_on c.args.owner u c.args.top (drop 1 c.args.stack.now) c.args.stack.now c.requires.top c.if-top-eq0.false x (g.P.Port.value c.leave_shared.new.port) c.in-Waiting.frame c.in-Waiting.stamp c.in-Waiting.stop said.entry
-    (shared_left x (g.P.Port.value c.leave_shared.new.port) c.in-Waiting.frame (c.args.top.level - 1) c.level_type-in-Waiting.result c.level_type-in-Waiting.ensures c.in-Waiting.stamp c.leave_shared.ensures.visits)
+    record {
+      came = again_then u x c.args.owner c.args.top (again.Waiting c.in-Waiting.frame c.in-Waiting.stamp c.in-Waiting.stop) said (g.P.Port.value c.leave_shared.new.port) c.leave_shared.ensures.came;
+      forward = shared_forward u x c.args.owner c.args.top c.args.stack.now c.requires.top c.if-top-eq0.false c.in-Waiting.frame c.in-Waiting.stamp c.in-Waiting.stop said c.requires.stands c.level_type-in-Waiting.result c.level_type-in-Waiting.ensures (g.P.Port.value c.leave_shared.new.port) c.leave_shared.ensures.visits;
+      leaves = shared_well u x c.args.owner c.args.top c.args.stack.now c.requires.top c.if-top-eq0.false c.in-Waiting.frame c.in-Waiting.stamp c.in-Waiting.stop said c.requires.stands c.level_type-in-Waiting.result c.level_type-in-Waiting.ensures (g.P.Port.value c.leave_shared.new.port) c.leave_shared.ensures.visits;
+      stands = waited_stands u x c.args.owner c.args.top c.args.stack.now c.requires.top c.if-top-eq0.false c.in-Waiting.frame c.in-Waiting.stamp c.in-Waiting.stop said c.requires.stands c.level_type-in-Waiting.result c.level_type-in-Waiting.ensures (g.P.Port.value c.leave_shared.new.port) c.leave_shared.ensures.came c.leave_shared.ensures.hand;
+      ready = search rules;
+      kinds = waited_kinds u x c.args.owner c.args.top c.args.stack.now c.requires.top c.if-top-eq0.false c.in-Waiting.frame c.in-Waiting.stamp c.in-Waiting.stop said c.requires.stands;
+      outer = search rules;
+      progress = search rules;
+      less = search rules;
+      serves = waited_serves u x c.args.owner c.args.top c.args.stack.now c.requires.top c.if-top-eq0.false c.in-Waiting.frame c.in-Waiting.stamp c.in-Waiting.stop said c.requires.stands c.level_type-in-Waiting.result c.level_type-in-Waiting.ensures (g.P.Port.value c.leave_shared.new.port) c.leave_shared.ensures.came c.leave_shared.ensures.serves;
+      stops = waited_stops u x c.args.owner c.args.top c.args.stack.now c.requires.top c.if-top-eq0.false c.in-Waiting.frame c.in-Waiting.stamp c.in-Waiting.stop said c.requires.stands c.level_type-in-Waiting.result c.level_type-in-Waiting.ensures (g.P.Port.value c.leave_shared.new.port) c.leave_shared.ensures.came;
+      course = waiting_on c.args.owner u c.args.top (drop 1 c.args.stack.now) c.args.stack.now c.requires.top c.if-top-eq0.false x (g.P.Port.value c.leave_shared.new.port) c.in-Waiting.frame c.in-Waiting.stamp c.in-Waiting.stop said.entry
+    (shared_left x (g.P.Port.value c.leave_shared.new.port) c.in-Waiting.frame (c.args.top.level - 1) c.level_type-in-Waiting.result c.level_type-in-Waiting.ensures c.in-Waiting.stamp c.leave_shared.ensures.visits);
+    }
