@@ -1,6 +1,6 @@
 use Rattle.level_validate.proofs.LeftWell.{well_then}
 use Rattle.level_validate.proofs.Forward.{forward_then}
-use Rattle.std.proofs.Common.{Ok, Err, ap, ◌∙◌, false}
+use Rattle.std.proofs.Common.{Ok, Err, ap, ◌∙◌, false, rules}
 use Rattle.std.proofs.lemmas.Result.{err_from_is_err_and}
 use Rattle.xp_preempt.proofs.Hearing.{heard_as, heard_then}
 use Rattle.table_courses.specs.Acquiring.{is_asked}
@@ -70,43 +70,40 @@ loop-port-preserved g c =
       course = working_on c.args.owner (g.P.Port.value c.args.port.now) c.args.table _ _ _ (g.P.Port.value c.loop-port.port) (g.P.Port.value c.go_on.new.port) c.loop-port.stack c.go_on.new.stack _ _ _ _ _ false (Ok tt) i.says i.course t.course;
     }
 
-pub returns-in_err-go_on-clause-came : goal.returns-in_err-go_on-clause-came
-returns-in_err-go_on-clause-came g c =
-    filling_came (g.P.Port.value c.args.port.now) (g.P.Port.value c.loop-port.port) c.args.owner c.args.stack.now c.loop-port.stack c.loop-port.invariant.tables (g.P.Port.value c.go_on.new.port) c.go_on.new.stack c.in_err-go_on.ensures.came
-
-pub returns-in_err-go_on-clause-serves : goal.returns-in_err-go_on-clause-serves
-returns-in_err-go_on-clause-serves g c =
+pub returns-in_err-go_on : goal.returns-in_err-go_on
+returns-in_err-go_on g c =
     let u = g.P.Port.value c.args.port.now in
     let x = g.P.Port.value c.loop-port.port in
     let w = g.P.Port.value c.go_on.new.port in
     let owner = c.args.owner in
     let r = c.from_residual-in_err-go_on.result in
     let answer = err_from_is_err_and r c.from_residual-in_err-go_on.ensures.1 in
-    filling_serves u x owner c.args.stack.now c.loop-port.stack c.loop-port.invariant.tables w c.go_on.new.stack r
-    (goes_answer x w owner c.loop-port.stack c.go_on.new.stack r c.in_err-go_on.field-0.0 (answer.1 ∙ ap Err answer.2) c.in_err-go_on.ensures.serves)
-
-pub returns-in_err-go_on-clause-stops : goal.returns-in_err-go_on-clause-stops
-returns-in_err-go_on-clause-stops g c =
-    let u = g.P.Port.value c.args.port.now in
-    let x = g.P.Port.value c.loop-port.port in
-    let w = g.P.Port.value c.go_on.new.port in
-    let owner = c.args.owner in
     let e = c.in_err-go_on.field-0.0 in
-    let r = c.from_residual-in_err-go_on.result in
-    let answer = err_from_is_err_and r c.from_residual-in_err-go_on.ensures.1 in
-    risen_answer u w owner c.args.stack.now r e (answer.1 ∙ ap Err answer.2)
-    (filling_stops u x owner c.args.stack.now c.loop-port.stack c.loop-port.invariant.tables w c.go_on.new.stack e c.in_err-go_on.ensures.stops)
-
-pub returns-in_err-go_on-clause-forward : goal.returns-in_err-go_on-clause-forward
-returns-in_err-go_on-clause-forward g c =
-    forward_then (g.P.Port.value c.args.port.now) (g.P.Port.value c.loop-port.port) (g.P.Port.value c.go_on.new.port) c.loop-port.invariant.tables.forward c.in_err-go_on.ensures.forward
+    let i = c.loop-port.invariant in
+    record {
+      came = filling_came (g.P.Port.value c.args.port.now) (g.P.Port.value c.loop-port.port) c.args.owner c.args.stack.now c.loop-port.stack c.loop-port.invariant.tables (g.P.Port.value c.go_on.new.port) c.go_on.new.stack c.in_err-go_on.ensures.came;
+      forward = forward_then (g.P.Port.value c.args.port.now) (g.P.Port.value c.loop-port.port) (g.P.Port.value c.go_on.new.port) c.loop-port.invariant.tables.forward c.in_err-go_on.ensures.forward;
+      leaves = λ f. well_then (g.P.Port.value c.args.port.now) (g.P.Port.value c.loop-port.port) (g.P.Port.value c.go_on.new.port) false f (c.loop-port.invariant.tables.leaves f) (c.in_err-go_on.ensures.leaves f);
+      stands = search rules;
+      outer = search rules;
+      filled = search rules;
+      ready = search rules;
+      kinds = search rules;
+      serves = filling_serves u x owner c.args.stack.now c.loop-port.stack c.loop-port.invariant.tables w c.go_on.new.stack r
+    (goes_answer x w owner c.loop-port.stack c.go_on.new.stack r c.in_err-go_on.field-0.0 (answer.1 ∙ ap Err answer.2) c.in_err-go_on.ensures.serves);
+      stops = risen_answer u w owner c.args.stack.now r e (answer.1 ∙ ap Err answer.2)
+    (filling_stops u x owner c.args.stack.now c.loop-port.stack c.loop-port.invariant.tables w c.go_on.new.stack e c.in_err-go_on.ensures.stops);
+      gate = search rules;
+      heard = search rules;
+      says = search rules;
+      paces = search rules;
+      calm = search rules;
+      course = working_stops c.args.owner (g.P.Port.value c.args.port.now) c.args.table _ _ _ (g.P.Port.value c.loop-port.port) (g.P.Port.value c.go_on.new.port) c.loop-port.stack c.go_on.new.stack _ _ _ _ _ r e (answer.1 ∙ ap Err answer.2)
+    i.says i.course c.in_err-go_on.ensures.course;
+    }
 
 pub returns-clause-forward : goal.returns-clause-forward
 returns-clause-forward g c = c.loop-port.invariant.tables.forward
-
-pub returns-in_err-go_on-clause-leaves : goal.returns-in_err-go_on-clause-leaves
-returns-in_err-go_on-clause-leaves g c f =
-    well_then (g.P.Port.value c.args.port.now) (g.P.Port.value c.loop-port.port) (g.P.Port.value c.go_on.new.port) false f (c.loop-port.invariant.tables.leaves f) (c.in_err-go_on.ensures.leaves f)
 
 pub returns-clause-leaves : goal.returns-clause-leaves
 returns-clause-leaves g c f = c.loop-port.invariant.tables.leaves f
@@ -129,12 +126,3 @@ returns-in_err-ask_behind-clause-course g c =
     let asked = c.in_err-ask_behind.ensures in
     due_working c.args.owner (g.P.Port.value c.args.port.now) c.args.table _ _ _ c.args.stack.now c.requires.only (g.P.Port.value c.take_on.new.port) c.take_on.new.stack c.in_ok-done.done c.in_ok-done.ensures.course _ _
     r e (answer.1 ∙ ap Err answer.2) asked.kinds asked.course
-
-pub returns-in_err-go_on-clause-course : goal.returns-in_err-go_on-clause-course
-returns-in_err-go_on-clause-course g c =
-    let e = c.in_err-go_on.field-0.0 in
-    let r = c.from_residual-in_err-go_on.result in
-    let answer = err_from_is_err_and r c.from_residual-in_err-go_on.ensures.1 in
-    let i = c.loop-port.invariant in
-    working_stops c.args.owner (g.P.Port.value c.args.port.now) c.args.table _ _ _ (g.P.Port.value c.loop-port.port) (g.P.Port.value c.go_on.new.port) c.loop-port.stack c.go_on.new.stack _ _ _ _ _ r e (answer.1 ∙ ap Err answer.2)
-    i.says i.course c.in_err-go_on.ensures.course

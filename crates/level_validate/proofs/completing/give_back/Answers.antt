@@ -1,4 +1,4 @@
-use Rattle.std.proofs.Common.{[], false, refl}
+use Rattle.std.proofs.Common.{[], false, refl, rules}
 use Rattle.answer_fits.specs.Asked.{of_back}
 use Rattle.answer_fits.proofs.Piecing.{serves_came, serves_then}
 use Rattle.step_maker.proofs.Coming.{came_trans}
@@ -15,36 +15,17 @@ unreachable-requires g c = never_last (g.P.Port.value c.args.port.now) (g.P.Port
 pub put_ref-requires-clause-gives : goal.put_ref-requires-clause-gives
 put_ref-requires-clause-gives g c = back_puts (g.P.Port.value c.args.port.now) (g.P.Port.value c.drop_type.new.port) c.args.frame c.drop_type.result c.drop_type.ensures.drops c.if-drop_type.false
 
-pub returns-clause-came : goal.returns-clause-came
-returns-clause-came g c =
-    let v = g.P.Port.value c.args.port.now in
-    let a = g.P.Port.value c.drop_type.new.port in
-    let w = g.P.Port.value c.put_ref.new.port in
-    came_trans v a w (serves_came v a (of_back c.args.frame) [] c.drop_type.ensures.serves) (serves_came a w (of_back c.args.frame) [] c.put_ref.ensures.serves)
-
-pub returns-clause-hand : goal.returns-clause-hand
-returns-clause-hand g c =
-    back_given (g.P.Port.value c.args.port.now) (g.P.Port.value c.drop_type.new.port) c.args.frame c.drop_type.result c.drop_type.ensures.drops c.if-drop_type.false (g.P.Port.value c.put_ref.new.port) c.put_ref.ensures.hand
-
-pub returns-clause-serves : goal.returns-clause-serves
-returns-clause-serves g c =
-    let v = g.P.Port.value c.args.port.now in
-    let a = g.P.Port.value c.drop_type.new.port in
-    let w = g.P.Port.value c.put_ref.new.port in
-    serves_then v a w (of_back c.args.frame) [] [] c.drop_type.ensures.serves c.put_ref.ensures.serves
-
-pub returns-clause-forward : goal.returns-clause-forward
-returns-clause-forward g c =
+pub returns : goal.returns
+returns g c =
     let v = g.P.Port.value c.args.port.now in
     let a = g.P.Port.value c.drop_type.new.port in
     let w = g.P.Port.value c.put_ref.new.port in
     let drops = c.drop_type.ensures.drops in
-    forward_then v a w (forward_step v a _ _ _ _ drops.found refl refl drops.lowers.step) (forward_by a w (PutBy c.args.frame) (λ vs puts. put_onward c.args.frame vs puts) c.put_ref.ensures.puts)
-
-pub returns-clause-leaves : goal.returns-clause-leaves
-returns-clause-leaves g c f =
-    let v = g.P.Port.value c.args.port.now in
-    let a = g.P.Port.value c.drop_type.new.port in
-    let w = g.P.Port.value c.put_ref.new.port in
-    let drops = c.drop_type.ensures.drops in
-    well_then v a w false f (well_step v a false f _ _ _ _ drops.found refl drops.lowers.step) (well_by a w false f (PutBy c.args.frame) (λ vs puts. put_plain c.args.frame vs puts) c.put_ref.ensures.puts)
+    record {
+      came = came_trans v a w (serves_came v a (of_back c.args.frame) [] c.drop_type.ensures.serves) (serves_came a w (of_back c.args.frame) [] c.put_ref.ensures.serves);
+      forward = forward_then v a w (forward_step v a _ _ _ _ drops.found refl refl drops.lowers.step) (forward_by a w (PutBy c.args.frame) (λ vs puts. put_onward c.args.frame vs puts) c.put_ref.ensures.puts);
+      leaves = λ f. well_then v a w false f (well_step v a false f _ _ _ _ drops.found refl drops.lowers.step) (well_by a w false f (PutBy c.args.frame) (λ vs puts. put_plain c.args.frame vs puts) c.put_ref.ensures.puts);
+      hand = back_given (g.P.Port.value c.args.port.now) (g.P.Port.value c.drop_type.new.port) c.args.frame c.drop_type.result c.drop_type.ensures.drops c.if-drop_type.false (g.P.Port.value c.put_ref.new.port) c.put_ref.ensures.hand;
+      serves = serves_then v a w (of_back c.args.frame) [] [] c.drop_type.ensures.serves c.put_ref.ensures.serves;
+      course = search rules;
+    }

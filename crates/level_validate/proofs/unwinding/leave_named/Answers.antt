@@ -1,4 +1,4 @@
-use Rattle.std.proofs.Common.{true, false, [], ◌∷◌, ◌+◌, refl, ap, sym, ◌∙◌, subst}
+use Rattle.std.proofs.Common.{true, false, [], ◌∷◌, ◌+◌, refl, ap, sym, ◌∙◌, subst, rules}
 use Rattle.xp_words.specs.declared.kind.KindWord.{KindWord}
 use Rattle.step_maker.proofs.Coming.{came_trans, moves_came}
 use Rattle.answer_fits.specs.Asked.{of}
@@ -37,41 +37,23 @@ leave_kept-requires-clause-page g c =
 pub leave_kept-requires-clause-known : goal.leave_kept-requires-clause-known
 leave_kept-requires-clause-known g c = let a = c.requires.stands in top_kept_owner a.0 (g.P.Port.value c.args.port.now) c.args.owner c.args.table [] a.1 c.requires.own
 
-pub returns-then-kept-clause-forward : goal.returns-then-kept-clause-forward
-returns-then-kept-clause-forward g c = kept_forward (g.P.Port.value c.args.port.now) (g.P.Port.value c.leave_kept.new.port) c.args.table.frame c.partial_kind-kind.result c.args.owner c.leave_kept.ensures.course
-
-pub returns-then-kept-clause-leaves : goal.returns-then-kept-clause-leaves
-returns-then-kept-clause-leaves g c =
+pub returns-then-kept : goal.returns-then-kept
+unfolding ServesLeft
+returns-then-kept g c =
     let a = c.requires.stands in
     let w = g.P.Port.value c.args.port.now in
     let d = g.P.Port.value c.leave_kept.new.port in
     let t = c.args.table in
     let is = c.partial_kind-kind.ensures ∙ ap (λ k. partial_kind k true false c.args.table.done 0) c.level_type.ensures in
     let spelled = top_spelled a.0 w c.args.owner t [] a.1 true (λ on. c.requires.own) in
-    kept_well t.frame (partial_kind (level_type t.level) true false t.done 0) spelled refl c.args.kept c.if-kept.true w d c.args.owner (subst (λ (l : KindWord). KeptFor w d t.frame l c.args.owner) is c.leave_kept.ensures.course)
-
-pub returns-then-kept-clause-hand : goal.returns-then-kept-clause-hand
-returns-then-kept-clause-hand g c v s =
-    let w = g.P.Port.value c.args.port.now in
-    let d = g.P.Port.value c.leave_kept.new.port in
-    let t = c.args.table in
-    let is = c.partial_kind-kind.ensures ∙ ap (λ k. partial_kind k true false c.args.table.done 0) c.level_type.ensures in
-    outer_kept v w c.args.owner t s c.requires.own c.args.kept c.if-kept.true d (subst (λ (l : KindWord). LeavesKept w d t.frame l c.args.owner) is c.leave_kept.ensures.hand)
-
-pub returns-then-kept-clause-serves : goal.returns-then-kept-clause-serves
-unfolding ServesLeft
-returns-then-kept-clause-serves g c u r ds a locks =
-    let t = c.args.table in
-    let d = g.P.Port.value c.leave_kept.new.port in
-    marked_kept u d r c.args.owner c.args.kept t.frame ds c.if-kept.true (c.leave_kept.ensures.serves u r ds a.serves (of r.owner _ a.asked.0) locks)
-
-pub returns-then-kept-clause-course : goal.returns-then-kept-clause-course
-returns-then-kept-clause-course g c =
-    let w = g.P.Port.value c.args.port.now in
-    let d = g.P.Port.value c.leave_kept.new.port in
-    let t = c.args.table in
-    let is = c.partial_kind-kind.ensures ∙ ap (λ k. partial_kind k true false c.args.table.done 0) c.level_type.ensures in
-    kept_left w d c.args.owner t c.args.kept c.if-kept.true (subst (λ (l : KindWord). KeptFor w d t.frame l c.args.owner) is c.leave_kept.ensures.course)
+    record {
+      came = search rules;
+      forward = kept_forward (g.P.Port.value c.args.port.now) (g.P.Port.value c.leave_kept.new.port) c.args.table.frame c.partial_kind-kind.result c.args.owner c.leave_kept.ensures.course;
+      leaves = kept_well t.frame (partial_kind (level_type t.level) true false t.done 0) spelled refl c.args.kept c.if-kept.true w d c.args.owner (subst (λ (l : KindWord). KeptFor w d t.frame l c.args.owner) is c.leave_kept.ensures.course);
+      hand = λ v s. outer_kept v w c.args.owner t s c.requires.own c.args.kept c.if-kept.true d (subst (λ (l : KindWord). LeavesKept w d t.frame l c.args.owner) is c.leave_kept.ensures.hand);
+      serves = λ u r ds a locks. marked_kept u d r c.args.owner c.args.kept t.frame ds c.if-kept.true (c.leave_kept.ensures.serves u r ds a.serves (of r.owner _ a.asked.0) locks);
+      course = kept_left w d c.args.owner t c.args.kept c.if-kept.true (subst (λ (l : KindWord). KeptFor w d t.frame l c.args.owner) is c.leave_kept.ensures.course);
+    }
 
 -- ---- into the first old word
 
@@ -81,43 +63,21 @@ put_old-requires-clause-held g c =
     let w = g.P.Port.value c.args.port.now in
     outer_held a.0 w c.args.owner c.args.table a.1 c.requires.own (g.P.Port.value c.leave_partial.new.port) c.leave_partial.ensures.hand (top_held a.0 w c.args.owner c.args.table [] a.1 c.requires.own)
 
-pub returns-else-kept-clause-came : goal.returns-else-kept-clause-came
-returns-else-kept-clause-came g c =
-    let w = g.P.Port.value c.args.port.now in
-    let d = g.P.Port.value c.leave_partial.new.port in
-    let x = g.P.Port.value c.put_old.new.port in
-    came_trans w d x (moves_came w d _ _ _ _ c.leave_partial.result c.leave_partial.ensures.moves) (moves_came d x _ _ _ _ 0 c.put_old.ensures.moves)
-
-pub returns-else-kept-clause-forward : goal.returns-else-kept-clause-forward
-returns-else-kept-clause-forward g c =
-    let w = g.P.Port.value c.args.port.now in
-    let d = g.P.Port.value c.leave_partial.new.port in
-    let x = g.P.Port.value c.put_old.new.port in
-    forward_then w d x (forward_step w d _ _ _ _ c.leave_partial.result refl refl c.leave_partial.ensures.moves) (forward_step d x _ _ _ _ 0 refl refl c.put_old.ensures.moves)
-
-pub returns-else-kept-clause-leaves : goal.returns-else-kept-clause-leaves
-returns-else-kept-clause-leaves g c =
-    let b = c.requires.stands in
-    let t = c.args.table in
-    let w = g.P.Port.value c.args.port.now in
-    let d = g.P.Port.value c.leave_partial.new.port in
-    let x = g.P.Port.value c.put_old.new.port in
-    well_then w d x c.args.kept t.frame (unkept_well b.0 w c.args.owner t d c.leave_partial.result [] c.args.kept t.frame b.1 c.leave_partial.ensures.moves) (well_step d x c.args.kept t.frame _ _ _ _ 0 refl c.put_old.ensures.moves)
-
-pub returns-else-kept-clause-hand : goal.returns-else-kept-clause-hand
-returns-else-kept-clause-hand g c v s =
-    let w = g.P.Port.value c.args.port.now in
-    let d = g.P.Port.value c.leave_partial.new.port in
-    outer_named v w c.args.owner c.args.table s c.requires.own d c.leave_partial.ensures.hand c.args.kept c.if-kept.false (g.P.Port.value c.put_old.new.port) c.put_old.ensures.hand
-
-pub returns-else-kept-clause-serves : goal.returns-else-kept-clause-serves
+pub returns-else-kept : goal.returns-else-kept
 unfolding ServesLeft
-returns-else-kept-clause-serves g c u r ds a locks =
-    let b = c.requires.stands in
-    let t = c.args.table in
+returns-else-kept g c =
     let w = g.P.Port.value c.args.port.now in
     let d = g.P.Port.value c.leave_partial.new.port in
     let x = g.P.Port.value c.put_old.new.port in
+    let b = c.requires.stands in
+    let t = c.args.table in
     let spelled = top_spelled b.0 w c.args.owner t [] b.1 false (λ on. absurd cc) in
-    let left = piece_left b.0 w c.args.owner t [] b.1 _ spelled refl d c.leave_partial.result c.leave_partial.ensures.moves u r c.args.owner [] ds a in
-    marked_none u x r c.args.owner c.args.kept t.frame ds (piece_names u d x r c.args.owner (t ∷ []) ds left (t.frame + 1) c.put_old.ensures.moves).serves
+    record {
+      came = came_trans w d x (moves_came w d _ _ _ _ c.leave_partial.result c.leave_partial.ensures.moves) (moves_came d x _ _ _ _ 0 c.put_old.ensures.moves);
+      forward = forward_then w d x (forward_step w d _ _ _ _ c.leave_partial.result refl refl c.leave_partial.ensures.moves) (forward_step d x _ _ _ _ 0 refl refl c.put_old.ensures.moves);
+      leaves = well_then w d x c.args.kept t.frame (unkept_well b.0 w c.args.owner t d c.leave_partial.result [] c.args.kept t.frame b.1 c.leave_partial.ensures.moves) (well_step d x c.args.kept t.frame _ _ _ _ 0 refl c.put_old.ensures.moves);
+      hand = λ v s. outer_named v w c.args.owner c.args.table s c.requires.own d c.leave_partial.ensures.hand c.args.kept c.if-kept.false (g.P.Port.value c.put_old.new.port) c.put_old.ensures.hand;
+      serves = λ u r ds a locks. let left = piece_left b.0 w c.args.owner t [] b.1 _ spelled refl d c.leave_partial.result c.leave_partial.ensures.moves u r c.args.owner [] ds a in
+          marked_none u x r c.args.owner c.args.kept t.frame ds (piece_names u d x r c.args.owner (t ∷ []) ds left (t.frame + 1) c.put_old.ensures.moves).serves;
+      course = search rules;
+    }
