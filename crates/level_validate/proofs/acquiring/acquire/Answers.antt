@@ -49,13 +49,17 @@ returns-in_err-frame g c =
 
 -- ---- its type
 
-pub take_type-requires-clause-aside : goal.take_type-requires-clause-aside
-take_type-requires-clause-aside g c none =
-    inl (idle_aside (g.P.Port.value c.args.port.now) (g.P.Port.value c.get_ref.new.port) c.in_ok-frame.frame c.args.owner c.requires.idle c.in_ok-frame.ensures.hand)
-
-pub take_type-requires-clause-other : goal.take_type-requires-clause-other
-take_type-requires-clause-other g c =
-    idle_other (g.P.Port.value c.args.port.now) (g.P.Port.value c.get_ref.new.port) c.in_ok-frame.frame c.args.owner c.requires.idle c.in_ok-frame.ensures.hand c.level_type.result
+pub take_type-requires : goal.take_type-requires
+take_type-requires g c =
+    record {
+      frame = search rules;
+      may = search rules;
+      wanted = search rules;
+      lent = search rules;
+      aside = λ none. inl (idle_aside (g.P.Port.value c.args.port.now) (g.P.Port.value c.get_ref.new.port) c.in_ok-frame.frame c.args.owner c.requires.idle c.in_ok-frame.ensures.hand);
+      other = idle_other (g.P.Port.value c.args.port.now) (g.P.Port.value c.get_ref.new.port) c.in_ok-frame.frame c.args.owner c.requires.idle c.in_ok-frame.ensures.hand c.level_type.result;
+      looked = search rules;
+    }
 
 -- ---- it was live
 
@@ -163,8 +167,8 @@ returns-in-Ok-Waiting g c =
 
 -- ---- it is in work
 
-pub validate-requires-clause-stands : goal.validate-requires-clause-stands
-validate-requires-clause-stands g c =
+pub validate-requires : goal.validate-requires
+validate-requires g c =
     let v = g.P.Port.value c.args.port.now in
     let b = g.P.Port.value c.get_ref.new.port in
     let x = g.P.Port.value c.take_type.new.port in
@@ -173,18 +177,13 @@ validate-requires-clause-stands g c =
     let own = c.in-Ok-InWork.own in
     let hand : TakesAs b x h c.args.owner c.level_type.result (InWork progress own) = subst (λ t. TakesAs b x h c.args.owner c.level_type.result t) c.in-Ok-InWork.field-0-is c.in-Ok-InWork.ensures.hand in
     let found : TakesFound b x h c.args.owner c.level_type.result (Ok (InWork progress own)) = subst (λ t. TakesFound b x h c.args.owner c.level_type.result (Ok t)) c.in-Ok-InWork.field-0-is c.in-Ok-InWork.ensures.found in
-    (v, carries_taken v b x h c.args.owner c.args.level progress own c.level_type.result c.requires.idle c.in_ok-frame.ensures.hand c.level_type.ensures c.requires.low c.requires.high c.in_ok-frame.ensures.frame.1 hand.1 found)
-
-pub validate-requires-clause-fresh : goal.validate-requires-clause-fresh
-validate-requires-clause-fresh g c zero =
-    let v = g.P.Port.value c.args.port.now in
-    let b = g.P.Port.value c.get_ref.new.port in
-    let x = g.P.Port.value c.take_type.new.port in
-    let h = c.in_ok-frame.frame in
-    let progress = c.in-Ok-InWork.progress in
-    let own = c.in-Ok-InWork.own in
-    let hand : TakesAs b x h c.args.owner c.level_type.result (InWork progress own) = subst (λ t. TakesAs b x h c.args.owner c.level_type.result t) c.in-Ok-InWork.field-0-is c.in-Ok-InWork.ensures.hand in
-    taken_ready v b h c.args.owner c.requires.idle c.in_ok-frame.ensures.hand x own c.level_type.result progress hand.1 zero
+    record {
+      may = search rules;
+      real = search rules;
+      stands = (v, carries_taken v b x h c.args.owner c.args.level progress own c.level_type.result c.requires.idle c.in_ok-frame.ensures.hand c.level_type.ensures c.requires.low c.requires.high c.in_ok-frame.ensures.frame.1 hand.1 found);
+      fresh = λ zero. taken_ready v b h c.args.owner c.requires.idle c.in_ok-frame.ensures.hand x own c.level_type.result progress hand.1 zero;
+      room = search rules;
+    }
 
 pub returns-in_ok-validate-in-Ok-InWork : goal.returns-in_ok-validate-in-Ok-InWork
 returns-in_ok-validate-in-Ok-InWork g c =

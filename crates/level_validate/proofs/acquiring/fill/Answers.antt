@@ -45,16 +45,14 @@ loop-port-init g c =
       course = begun_working c.args.owner (g.P.Port.value c.args.port.now) c.args.table _ _ _ c.args.stack.now c.requires.only (g.P.Port.value c.take_on.new.port) c.take_on.new.stack c.in_ok-done.done t.course _ _ a.course;
     }
 
-pub go_on-requires-clause-may : goal.go_on-requires-clause-may
-go_on-requires-clause-may g c =
-    filling_may (g.P.Port.value c.args.port.now) (g.P.Port.value c.loop-port.port) c.args.owner c.args.stack.now c.loop-port.stack c.loop-port.invariant.tables c.requires.stands c.requires.may
-
-pub go_on-requires-clause-stands : goal.go_on-requires-clause-stands
-go_on-requires-clause-stands g c =
-    filling_standing (g.P.Port.value c.args.port.now) (g.P.Port.value c.loop-port.port) c.args.owner c.args.stack.now c.loop-port.stack c.loop-port.invariant.tables c.requires.stands
-
-pub go_on-requires-clause-ready : goal.go_on-requires-clause-ready
-go_on-requires-clause-ready g c = c.loop-port.invariant.tables.ready
+pub go_on-requires : goal.go_on-requires
+go_on-requires g c =
+    record {
+      may = filling_may (g.P.Port.value c.args.port.now) (g.P.Port.value c.loop-port.port) c.args.owner c.args.stack.now c.loop-port.stack c.loop-port.invariant.tables c.requires.stands c.requires.may;
+      stands = filling_standing (g.P.Port.value c.args.port.now) (g.P.Port.value c.loop-port.port) c.args.owner c.args.stack.now c.loop-port.stack c.loop-port.invariant.tables c.requires.stands;
+      ready = c.loop-port.invariant.tables.ready;
+      more = search rules;
+    }
 
 pub loop-port-preserved : goal.loop-port-preserved
 loop-port-preserved g c =

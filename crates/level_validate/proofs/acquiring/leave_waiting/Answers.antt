@@ -46,21 +46,21 @@ returns-then-not-own g c =
 
 -- ---- paused: it goes into the mark
 
-pub leave_kept-requires-clause-leaves : goal.leave_kept-requires-clause-leaves
-leave_kept-requires-clause-leaves g c =
+pub leave_kept-requires : goal.leave_kept-requires
+leave_kept-requires g c =
     let b = c.requires.waits in
-    rw c.waiting_kind.ensures (mark_may b.0 (g.P.Port.value c.args.port.now) c.args.frame c.args.level c.args.owner c.args.own c.args.stamp b.1 c.level_type-kind.result c.level_type-kind.ensures c.if-not-own.false)
-
-pub leave_kept-requires-clause-page : goal.leave_kept-requires-clause-page
-leave_kept-requires-clause-page g c = rw c.waiting_kind.ensures (rw c.level_type-kind.ensures (level_type-unpaged c.args.level c.requires.low))
-
-pub leave_kept-requires-clause-known : goal.leave_kept-requires-clause-known
-leave_kept-requires-clause-known g c =
-    let b = c.requires.waits in mark_known b.0 (g.P.Port.value c.args.port.now) c.args.frame c.args.level c.args.owner c.args.own c.args.stamp b.1 c.level_type-kind.result c.level_type-kind.ensures c.if-not-own.false
-
-pub leave_kept-requires-clause-looked : goal.leave_kept-requires-clause-looked
-leave_kept-requires-clause-looked g c =
-    let b = c.requires.waits in mark_looking b.0 (g.P.Port.value c.args.port.now) c.args.frame c.args.level c.args.owner c.args.own c.args.stamp b.1 c.level_type-kind.result c.level_type-kind.ensures c.if-not-own.false
+    record {
+      frame = search rules;
+      may = search rules;
+      leaves = rw c.waiting_kind.ensures (mark_may b.0 (g.P.Port.value c.args.port.now) c.args.frame c.args.level c.args.owner c.args.own c.args.stamp b.1 c.level_type-kind.result c.level_type-kind.ensures c.if-not-own.false);
+      partial = search rules;
+      kept = search rules;
+      page = rw c.waiting_kind.ensures (rw c.level_type-kind.ensures (level_type-unpaged c.args.level c.requires.low));
+      known = mark_known b.0 (g.P.Port.value c.args.port.now) c.args.frame c.args.level c.args.owner c.args.own c.args.stamp b.1 c.level_type-kind.result c.level_type-kind.ensures c.if-not-own.false;
+      real = search rules;
+      looked = mark_looking b.0 (g.P.Port.value c.args.port.now) c.args.frame c.args.level c.args.owner c.args.own c.args.stamp b.1 c.level_type-kind.result c.level_type-kind.ensures c.if-not-own.false;
+      room = search rules;
+    }
 
 pub returns-then-kept : goal.returns-then-kept
 unfolding ServesWaiting
@@ -88,27 +88,18 @@ pub leave_unsettled-requires-clause-waits : goal.leave_unsettled-requires-clause
 leave_unsettled-requires-clause-waits g c =
     let b = c.requires.waits in (b.1.lent, _, waits_as b.0 (g.P.Port.value c.args.port.now) c.args.frame c.args.level c.args.owner c.args.own c.args.stamp b.1 c.level_type-kind.result c.level_type-kind.ensures true c.if-not-own.false)
 
-pub put_old-requires-clause-frame : goal.put_old-requires-clause-frame
-put_old-requires-clause-frame g c =
-    subst (λ (p : Post). c.args.frame < p.machine.frames) (sym (came_post (g.P.Port.value c.args.port.now) (g.P.Port.value c.leave_unsettled.new.port) c.leave_unsettled.ensures.came)) c.requires.frame
-
-pub put_old-requires-clause-may : goal.put_old-requires-clause-may
-put_old-requires-clause-may g c =
+pub put_old-requires : goal.put_old-requires
+put_old-requires g c =
     let b = c.requires.waits in
-    stays_may b.0 (g.P.Port.value c.args.port.now) c.args.frame c.args.level c.args.owner c.args.own c.args.stamp b.1 c.level_type-kind.result c.level_type-kind.ensures c.if-not-own.false (g.P.Port.value c.leave_unsettled.new.port)
-    c.leave_unsettled.ensures.hand c.requires.may
-
-pub put_old-requires-clause-empty : goal.put_old-requires-clause-empty
-put_old-requires-clause-empty g c =
-    let b = c.requires.waits in
-    stays_room b.0 (g.P.Port.value c.args.port.now) c.args.frame c.args.level c.args.owner c.args.own c.args.stamp b.1 c.level_type-kind.result c.level_type-kind.ensures c.if-not-own.false (g.P.Port.value c.leave_unsettled.new.port)
-    c.leave_unsettled.ensures.hand c.requires.room
-
-pub put_old-requires-clause-held : goal.put_old-requires-clause-held
-put_old-requires-clause-held g c =
-    let b = c.requires.waits in
-    stays_held b.0 (g.P.Port.value c.args.port.now) c.args.frame c.args.level c.args.owner c.args.own c.args.stamp b.1 c.level_type-kind.result c.level_type-kind.ensures c.if-not-own.false (g.P.Port.value c.leave_unsettled.new.port)
-    c.leave_unsettled.ensures.hand
+    record {
+      frame = subst (λ (p : Post). c.args.frame < p.machine.frames) (sym (came_post (g.P.Port.value c.args.port.now) (g.P.Port.value c.leave_unsettled.new.port) c.leave_unsettled.ensures.came)) c.requires.frame;
+      may = stays_may b.0 (g.P.Port.value c.args.port.now) c.args.frame c.args.level c.args.owner c.args.own c.args.stamp b.1 c.level_type-kind.result c.level_type-kind.ensures c.if-not-own.false (g.P.Port.value c.leave_unsettled.new.port)
+    c.leave_unsettled.ensures.hand c.requires.may;
+      empty = stays_room b.0 (g.P.Port.value c.args.port.now) c.args.frame c.args.level c.args.owner c.args.own c.args.stamp b.1 c.level_type-kind.result c.level_type-kind.ensures c.if-not-own.false (g.P.Port.value c.leave_unsettled.new.port)
+    c.leave_unsettled.ensures.hand c.requires.room;
+      held = stays_held b.0 (g.P.Port.value c.args.port.now) c.args.frame c.args.level c.args.owner c.args.own c.args.stamp b.1 c.level_type-kind.result c.level_type-kind.ensures c.if-not-own.false (g.P.Port.value c.leave_unsettled.new.port)
+    c.leave_unsettled.ensures.hand;
+    }
 
 pub returns-else-kept : goal.returns-else-kept
 unfolding ServesWaiting

@@ -23,21 +23,19 @@ use Rattle.level_validate.proofs.acquiring.validate.Goals as goal
 only : (t : TableWork) (empty pushed : List TableWork) → empty ≡ [] → pushed ≡ t ∷ empty → pushed ≡ t ∷ []
 only t empty pushed none is = is ∙ ap (λ (us : List TableWork). t ∷ us) none
 
-pub complete_outer-requires-clause-may : goal.complete_outer-requires-clause-may
-complete_outer-requires-clause-may g c =
+pub complete_outer-requires : goal.complete_outer-requires
+complete_outer-requires g c =
     let u = g.P.Port.value c.args.port.now in
     let x = g.P.Port.value c.fill.new.port in
     let one = only c.args.table c.new-stack.result c.push.new.self c.new-stack.ensures c.push.ensures.pushed in
-    on_may u x c.args.owner c.push.new.self c.fill.new.stack (subst (λ us. IsStanding u c.args.owner us) (sym one) c.requires.stands) c.fill.ensures.stands c.requires.may
-
-pub complete_outer-requires-clause-stands : goal.complete_outer-requires-clause-stands
-complete_outer-requires-clause-stands g c =
-    let u = g.P.Port.value c.args.port.now in
-    let x = g.P.Port.value c.fill.new.port in
     let t = c.args.table in
-    let one = only t c.new-stack.result c.push.new.self c.new-stack.ensures c.push.ensures.pushed in
-    let stands = on_stands u x c.args.owner c.push.new.self c.fill.new.stack (subst (λ us. IsStanding u c.args.owner us) (sym one) c.requires.stands) c.fill.ensures.stands in
-    (c.args.owner, subst (λ us. IsStanding x c.args.owner us) (filled_is t c.fill.new.stack c.in-Ok.ensures.filled (c.fill.ensures.outer ∙ ap outermost_work one)) stands)
+    record {
+      may = on_may u x c.args.owner c.push.new.self c.fill.new.stack (subst (λ us. IsStanding u c.args.owner us) (sym one) c.requires.stands) c.fill.ensures.stands c.requires.may;
+      stands = let one = only t c.new-stack.result c.push.new.self c.new-stack.ensures c.push.ensures.pushed in let stands = on_stands u x c.args.owner c.push.new.self c.fill.new.stack (subst (λ us. IsStanding u c.args.owner us) (sym one) c.requires.stands) c.fill.ensures.stands in
+          (c.args.owner, subst (λ us. IsStanding x c.args.owner us) (filled_is t c.fill.new.stack c.in-Ok.ensures.filled (c.fill.ensures.outer ∙ ap outermost_work one)) stands);
+      ready = search rules;
+      full = search rules;
+    }
 
 pub returns-in-Ok : goal.returns-in-Ok
 returns-in-Ok g c =
@@ -67,27 +65,16 @@ returns-in-Ok g c =
 
 -- ---- a refusal or a pause
 
-pub unwind-requires-clause-may : goal.unwind-requires-clause-may
-unwind-requires-clause-may g c =
+pub unwind-requires : goal.unwind-requires
+unwind-requires g c =
     let u = g.P.Port.value c.args.port.now in
     let one = only c.args.table c.new-stack.result c.push.new.self c.new-stack.ensures c.push.ensures.pushed in
-    on_may u (g.P.Port.value c.fill.new.port) c.args.owner c.push.new.self c.fill.new.stack (subst (λ us. IsStanding u c.args.owner us) (sym one) c.requires.stands) c.fill.ensures.stands c.requires.may
-
-pub unwind-requires-clause-stands : goal.unwind-requires-clause-stands
-unwind-requires-clause-stands g c =
-    let u = g.P.Port.value c.args.port.now in
-    let one = only c.args.table c.new-stack.result c.push.new.self c.new-stack.ensures c.push.ensures.pushed in
-    on_stands u (g.P.Port.value c.fill.new.port) c.args.owner c.push.new.self c.fill.new.stack (subst (λ us. IsStanding u c.args.owner us) (sym one) c.requires.stands) c.fill.ensures.stands
-
-pub unwind-requires-clause-real : goal.unwind-requires-clause-real
-unwind-requires-clause-real g c =
-    subst (λ (p : Post). c.args.owner < length p.machine.page_limit) (sym (came_post (g.P.Port.value c.args.port.now) (g.P.Port.value c.fill.new.port) c.fill.ensures.came)) c.requires.real
-
-pub unwind-requires-clause-room : goal.unwind-requires-clause-room
-unwind-requires-clause-room g c =
-    let u = g.P.Port.value c.args.port.now in
-    let one = only c.args.table c.new-stack.result c.push.new.self c.new-stack.ensures c.push.ensures.pushed in
-    on_room u (g.P.Port.value c.fill.new.port) c.args.owner c.push.new.self c.fill.new.stack (subst (λ us. IsStanding u c.args.owner us) (sym one) c.requires.stands) c.fill.ensures.stands c.requires.room
+    record {
+      may = on_may u (g.P.Port.value c.fill.new.port) c.args.owner c.push.new.self c.fill.new.stack (subst (λ us. IsStanding u c.args.owner us) (sym one) c.requires.stands) c.fill.ensures.stands c.requires.may;
+      stands = on_stands u (g.P.Port.value c.fill.new.port) c.args.owner c.push.new.self c.fill.new.stack (subst (λ us. IsStanding u c.args.owner us) (sym one) c.requires.stands) c.fill.ensures.stands;
+      real = subst (λ (p : Post). c.args.owner < length p.machine.page_limit) (sym (came_post (g.P.Port.value c.args.port.now) (g.P.Port.value c.fill.new.port) c.fill.ensures.came)) c.requires.real;
+      room = on_room u (g.P.Port.value c.fill.new.port) c.args.owner c.push.new.self c.fill.new.stack (subst (λ us. IsStanding u c.args.owner us) (sym one) c.requires.stands) c.fill.ensures.stands c.requires.room;
+    }
 
 pub returns-in-Err : goal.returns-in-Err
 returns-in-Err g c =

@@ -1,4 +1,4 @@
-use Rattle.std.proofs.Common.{◌∷◌, ◌<◌, true, false, refl, sym, subst}
+use Rattle.std.proofs.Common.{◌∷◌, ◌<◌, true, false, refl, sym, subst, rules}
 use Rattle.xp_board.specs.Told.{Post}
 use Rattle.step_maker.proofs.Coming.{came_post, came_trans, moves_came}
 use Rattle.level_validate.specs.Serving.{CarriesOn}
@@ -13,8 +13,8 @@ use Rattle.level_validate.proofs.Progressing.{progress_records, progress_settles
 use Rattle.level_validate.proofs.Serving.{piece_back, piece_left, piece_records, piece_rest}
 use Rattle.level_validate.proofs.completing.complete_in.Goals as goal
 
-pub make_live-requires-clause-frame : goal.make_live-requires-clause-frame
-make_live-requires-clause-frame g c =
+pub make_live-requires : goal.make_live-requires
+make_live-requires g c =
     let w = g.P.Port.value c.args.port.now in
     let t = c.args.table in
     let u = c.args.outer in
@@ -23,36 +23,14 @@ make_live-requires-clause-frame g c =
     let us = a.1 in
     let v = a.2.0 in
     let s = a.2.1 in
-    top_inside v w owner t (u ∷ us) s
+    record {
+      frame = top_inside v w owner t (u ∷ us) s;
+      may = search rules;
+      leaves = live_leaves v w owner t (u ∷ us) s c.requires.full c.requires.ready t.own refl c.requires.may;
+    }
 
-pub make_live-requires-clause-leaves : goal.make_live-requires-clause-leaves
-make_live-requires-clause-leaves g c =
-    let w = g.P.Port.value c.args.port.now in
-    let t = c.args.table in
-    let u = c.args.outer in
-    let a = c.requires.stands in
-    let owner = a.0 in
-    let us = a.1 in
-    let v = a.2.0 in
-    let s = a.2.1 in
-    live_leaves v w owner t (u ∷ us) s c.requires.full c.requires.ready t.own refl c.requires.may
-
-pub give_back-requires-clause-frame : goal.give_back-requires-clause-frame
-give_back-requires-clause-frame g c =
-    let w = g.P.Port.value c.args.port.now in
-    let t = c.args.table in
-    let u = c.args.outer in
-    let a = c.requires.stands in
-    let owner = a.0 in
-    let us = a.1 in
-    let v = a.2.0 in
-    let s = a.2.1 in
-    let d = g.P.Port.value c.make_live.new.port in
-    let came_d = moves_came w d _ _ _ _ c.make_live.result c.make_live.ensures.moves in
-    subst (λ (p : Post). t.frame < p.machine.frames) (sym (came_post w d came_d)) (top_inside v w owner t (u ∷ us) s)
-
-pub give_back-requires-clause-gives : goal.give_back-requires-clause-gives
-give_back-requires-clause-gives g c =
+pub give_back-requires : goal.give_back-requires
+give_back-requires g c =
     let w = g.P.Port.value c.args.port.now in
     let t = c.args.table in
     let u = c.args.outer in
@@ -64,7 +42,11 @@ give_back-requires-clause-gives g c =
     let d = g.P.Port.value c.make_live.new.port in
     let came_d = moves_came w d _ _ _ _ c.make_live.result c.make_live.ensures.moves in
     let l = live_hand v w owner t (u ∷ us) s t.own refl d c.make_live.ensures.hand in
-    live_gives v w owner t u us s d c.make_live.result c.make_live.ensures.moves l c.if-table.true
+    record {
+      frame = subst (λ (p : Post). t.frame < p.machine.frames) (sym (came_post w d came_d)) (top_inside v w owner t (u ∷ us) s);
+      may = search rules;
+      gives = live_gives v w owner t u us s d c.make_live.result c.make_live.ensures.moves l c.if-table.true;
+    }
 
 pub record_entry-requires : goal.record_entry-requires
 record_entry-requires g c =

@@ -53,36 +53,23 @@ returns-then-top-eq0 g n c =
 
 -- ---- its last one is looked at
 
-pub resume_entry-requires-clause-frame : goal.resume_entry-requires-clause-frame
-resume_entry-requires-clause-frame g n c =
-    let a = c.requires.stands in
-    top_inside a.0 (g.P.Port.value c.args.port.now) c.args.owner c.args.top (drop 1 c.args.stack.now) (subst (λ xs. Carries a.0 (g.P.Port.value c.args.port.now) c.args.owner xs) c.requires.top a.1)
-
-pub resume_entry-requires-clause-works : goal.resume_entry-requires-clause-works
-resume_entry-requires-clause-works g n c =
+pub resume_entry-requires : goal.resume_entry-requires
+resume_entry-requires g n c =
     let a = c.requires.stands in
     let u = g.P.Port.value c.args.port.now in
     let t = c.args.top in
     let one = sym (back_one t.done c.if-top-eq0.false) in
-    subst (λ (k : PageType). WorksAtTop t.frame k (t.done - 1 + 1) u.holdings) (sym c.level_type.ensures)
-    (subst (λ n. WorksAtTop t.frame (level_type t.level) n u.holdings) one (standing_top a.0 u c.args.owner t (drop 1 c.args.stack.now) (subst (λ xs. Carries a.0 u c.args.owner xs) c.requires.top a.1)))
-
-pub resume_entry-requires-clause-held : goal.resume_entry-requires-clause-held
-resume_entry-requires-clause-held g n c =
-    let a = c.requires.stands in
-    standing_held a.0 (g.P.Port.value c.args.port.now) c.args.owner c.args.top (drop 1 c.args.stack.now) (subst (λ xs. Carries a.0 (g.P.Port.value c.args.port.now) c.args.owner xs) c.requires.top a.1)
-
-pub resume_entry-requires-clause-above : goal.resume_entry-requires-clause-above
-resume_entry-requires-clause-above g n c f =
-    let a = c.requires.stands in
-    let u = g.P.Port.value c.args.port.now in
-    subst (λ (k : PageType). IsOfOther f (below k) u.holdings) (sym c.level_type.ensures)
-    (standing_above a.0 u c.args.owner c.args.top (drop 1 c.args.stack.now) (subst (λ xs. Carries a.0 u c.args.owner xs) c.requires.top a.1) f)
-
-pub resume_entry-requires-clause-looked : goal.resume_entry-requires-clause-looked
-resume_entry-requires-clause-looked g n c =
-    let a = c.requires.stands in
-    standing_looked a.0 (g.P.Port.value c.args.port.now) c.args.owner c.args.top (drop 1 c.args.stack.now) (subst (λ xs. Carries a.0 (g.P.Port.value c.args.port.now) c.args.owner xs) c.requires.top a.1)
+    record {
+      frame = top_inside a.0 (g.P.Port.value c.args.port.now) c.args.owner c.args.top (drop 1 c.args.stack.now) (subst (λ xs. Carries a.0 (g.P.Port.value c.args.port.now) c.args.owner xs) c.requires.top a.1);
+      index = search rules;
+      may = search rules;
+      works = subst (λ (k : PageType). WorksAtTop t.frame k (t.done - 1 + 1) u.holdings) (sym c.level_type.ensures)
+    (subst (λ n. WorksAtTop t.frame (level_type t.level) n u.holdings) one (standing_top a.0 u c.args.owner t (drop 1 c.args.stack.now) (subst (λ xs. Carries a.0 u c.args.owner xs) c.requires.top a.1)));
+      held = standing_held a.0 (g.P.Port.value c.args.port.now) c.args.owner c.args.top (drop 1 c.args.stack.now) (subst (λ xs. Carries a.0 (g.P.Port.value c.args.port.now) c.args.owner xs) c.requires.top a.1);
+      above = λ f. subst (λ (k : PageType). IsOfOther f (below k) u.holdings) (sym c.level_type.ensures)
+    (standing_above a.0 u c.args.owner c.args.top (drop 1 c.args.stack.now) (subst (λ xs. Carries a.0 u c.args.owner xs) c.requires.top a.1) f);
+      looked = standing_looked a.0 (g.P.Port.value c.args.port.now) c.args.owner c.args.top (drop 1 c.args.stack.now) (subst (λ xs. Carries a.0 (g.P.Port.value c.args.port.now) c.args.owner xs) c.requires.top a.1);
+    }
 
 -- ---- that stops
 
@@ -141,21 +128,17 @@ returns-in-Settled g n c =
 
 -- ---- its frame was live
 
-pub give_back-requires-clause-frame : goal.give_back-requires-clause-frame
-give_back-requires-clause-frame g n c =
+pub give_back-requires : goal.give_back-requires
+give_back-requires g n c =
     let u = g.P.Port.value c.args.port.now in
     let x = g.P.Port.value c.resume_entry.new.port in
     let e = c.in_ok-resume_entry.ensures in
     let said = said_again u x c.args.owner c.args.top c.level_type.result c.level_type.ensures c.in_ok-resume_entry.field-0 (again.Taken c.in-Taken.frame) c.in-Taken.is e.found e.plain e.shows e.serves e.hand in
-    took_inside u x c.args.owner c.args.top c.args.stack.now c.requires.top c.if-top-eq0.false c.in-Taken.frame said
-
-pub give_back-requires-clause-gives : goal.give_back-requires-clause-gives
-give_back-requires-clause-gives g n c =
-    let u = g.P.Port.value c.args.port.now in
-    let x = g.P.Port.value c.resume_entry.new.port in
-    let e = c.in_ok-resume_entry.ensures in
-    let said = said_again u x c.args.owner c.args.top c.level_type.result c.level_type.ensures c.in_ok-resume_entry.field-0 (again.Taken c.in-Taken.frame) c.in-Taken.is e.found e.plain e.shows e.serves e.hand in
-    took_gives u x c.args.owner c.args.top c.args.stack.now c.requires.top c.if-top-eq0.false c.in-Taken.frame said c.requires.stands
+    record {
+      frame = took_inside u x c.args.owner c.args.top c.args.stack.now c.requires.top c.if-top-eq0.false c.in-Taken.frame said;
+      may = search rules;
+      gives = took_gives u x c.args.owner c.args.top c.args.stack.now c.requires.top c.if-top-eq0.false c.in-Taken.frame said c.requires.stands;
+    }
 
 pub returns-in-Taken : goal.returns-in-Taken
 returns-in-Taken g n c =
@@ -236,21 +219,17 @@ returns-in-Opened g n c =
 
 -- ---- it waits for a flush
 
-pub leave_shared-requires-clause-frame : goal.leave_shared-requires-clause-frame
-leave_shared-requires-clause-frame g n c =
+pub leave_shared-requires : goal.leave_shared-requires
+leave_shared-requires g n c =
     let u = g.P.Port.value c.args.port.now in
     let x = g.P.Port.value c.resume_entry.new.port in
     let e = c.in_ok-resume_entry.ensures in
     let said = said_again u x c.args.owner c.args.top c.level_type.result c.level_type.ensures c.in_ok-resume_entry.field-0 (again.Waiting c.in-Waiting.frame c.in-Waiting.stamp c.in-Waiting.stop) c.in-Waiting.is e.found e.plain e.shows e.serves e.hand in
-    waited_inside u x c.args.owner c.args.top c.args.stack.now c.requires.top c.if-top-eq0.false c.in-Waiting.frame c.in-Waiting.stamp c.in-Waiting.stop said c.requires.stands
-
-pub leave_shared-requires-clause-waits : goal.leave_shared-requires-clause-waits
-leave_shared-requires-clause-waits g n c =
-    let u = g.P.Port.value c.args.port.now in
-    let x = g.P.Port.value c.resume_entry.new.port in
-    let e = c.in_ok-resume_entry.ensures in
-    let said = said_again u x c.args.owner c.args.top c.level_type.result c.level_type.ensures c.in_ok-resume_entry.field-0 (again.Waiting c.in-Waiting.frame c.in-Waiting.stamp c.in-Waiting.stop) c.in-Waiting.is e.found e.plain e.shows e.serves e.hand in
-    waited_waits u x c.args.owner c.args.top c.args.stack.now c.requires.top c.if-top-eq0.false c.in-Waiting.frame c.in-Waiting.stamp c.in-Waiting.stop said c.requires.stands c.level_type-in-Waiting.result c.level_type-in-Waiting.ensures
+    record {
+      frame = waited_inside u x c.args.owner c.args.top c.args.stack.now c.requires.top c.if-top-eq0.false c.in-Waiting.frame c.in-Waiting.stamp c.in-Waiting.stop said c.requires.stands;
+      may = search rules;
+      waits = waited_waits u x c.args.owner c.args.top c.args.stack.now c.requires.top c.if-top-eq0.false c.in-Waiting.frame c.in-Waiting.stamp c.in-Waiting.stop said c.requires.stands c.level_type-in-Waiting.result c.level_type-in-Waiting.ensures;
+    }
 
 pub returns-in-Waiting : goal.returns-in-Waiting
 returns-in-Waiting g n c =

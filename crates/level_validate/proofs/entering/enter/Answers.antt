@@ -34,8 +34,8 @@ use Rattle.level_validate.proofs.LeftWellEntries.{enters_well}
 use Rattle.level_validate.proofs.EnteredOn.{entered_err, entered_ok, opened_next, recorded_next, stopped_next, unsettled_next}
 use Rattle.level_validate.proofs.entering.enter.Goals as goal
 
-pub take_entry-requires-clause-frame : goal.take_entry-requires-clause-frame
-take_entry-requires-clause-frame g c =
+pub take_entry-requires : goal.take_entry-requires
+take_entry-requires g c =
     let u = g.P.Port.value c.args.port.now in
     let t = c.in-Some.top in
     let ts = drop 1 c.args.stack.now in
@@ -43,62 +43,16 @@ take_entry-requires-clause-frame g c =
     let is = c.in-Some.ensures.some in
     let a = c.requires.stands in
     let s0 = subst (λ xs. Carries a.0 u owner xs) is a.1 in
-    top_inside a.0 u owner t ts s0
-
-pub take_entry-requires-clause-works : goal.take_entry-requires-clause-works
-take_entry-requires-clause-works g c =
-    let u = g.P.Port.value c.args.port.now in
-    let t = c.in-Some.top in
-    let ts = drop 1 c.args.stack.now in
-    let owner = c.args.owner in
-    let is = c.in-Some.ensures.some in
-    let a = c.requires.stands in
-    let s0 = subst (λ xs. Carries a.0 u owner xs) is a.1 in
-    subst (λ (k : PageType). WorksNext u.post.machine t.frame k t.done u.holdings) (sym c.level_type.ensures) (standing_next a.0 u owner t ts s0 c.requires.ready)
-
-pub take_entry-requires-clause-known : goal.take_entry-requires-clause-known
-take_entry-requires-clause-known g c =
-    let u = g.P.Port.value c.args.port.now in
-    let t = c.in-Some.top in
-    let ts = drop 1 c.args.stack.now in
-    let owner = c.args.owner in
-    let is = c.in-Some.ensures.some in
-    let a = c.requires.stands in
-    let s0 = subst (λ xs. Carries a.0 u owner xs) is a.1 in
-    standing_known a.0 u owner t ts s0
-
-pub take_entry-requires-clause-held : goal.take_entry-requires-clause-held
-take_entry-requires-clause-held g c =
-    let u = g.P.Port.value c.args.port.now in
-    let t = c.in-Some.top in
-    let ts = drop 1 c.args.stack.now in
-    let owner = c.args.owner in
-    let is = c.in-Some.ensures.some in
-    let a = c.requires.stands in
-    let s0 = subst (λ xs. Carries a.0 u owner xs) is a.1 in
-    standing_held a.0 u owner t ts s0
-
-pub take_entry-requires-clause-above : goal.take_entry-requires-clause-above
-take_entry-requires-clause-above g c f =
-    let u = g.P.Port.value c.args.port.now in
-    let t = c.in-Some.top in
-    let ts = drop 1 c.args.stack.now in
-    let owner = c.args.owner in
-    let is = c.in-Some.ensures.some in
-    let a = c.requires.stands in
-    let s0 = subst (λ xs. Carries a.0 u owner xs) is a.1 in
-    subst (λ (k : PageType). IsOfOther f (below k) u.holdings) (sym c.level_type.ensures) (standing_above a.0 u owner t ts s0 f)
-
-pub take_entry-requires-clause-looked : goal.take_entry-requires-clause-looked
-take_entry-requires-clause-looked g c =
-    let u = g.P.Port.value c.args.port.now in
-    let t = c.in-Some.top in
-    let ts = drop 1 c.args.stack.now in
-    let owner = c.args.owner in
-    let is = c.in-Some.ensures.some in
-    let a = c.requires.stands in
-    let s0 = subst (λ xs. Carries a.0 u owner xs) is a.1 in
-    standing_looked a.0 u owner t ts s0
+    record {
+      frame = top_inside a.0 u owner t ts s0;
+      index = search rules;
+      may = search rules;
+      works = subst (λ (k : PageType). WorksNext u.post.machine t.frame k t.done u.holdings) (sym c.level_type.ensures) (standing_next a.0 u owner t ts s0 c.requires.ready);
+      known = standing_known a.0 u owner t ts s0;
+      held = standing_held a.0 u owner t ts s0;
+      above = λ f. subst (λ (k : PageType). IsOfOther f (below k) u.holdings) (sym c.level_type.ensures) (standing_above a.0 u owner t ts s0 f);
+      looked = standing_looked a.0 u owner t ts s0;
+    }
 
 pub returns-in_err-take_entry : goal.returns-in_err-take_entry
 returns-in_err-take_entry g c =
@@ -150,8 +104,8 @@ push-requires-clause-table g c =
     let inner = pushed t c.in-Opened.frame c.in-Opened.progress c.in-Opened.own false in
     (after_next a.0 u x owner t ts s0 came first c.in-Opened.frame c.in-Opened.progress c.in-Opened.own (omega (arith, room)) c.requires.ready came_open left).stack.0
 
-pub take_on-requires-clause-may : goal.take_on-requires-clause-may
-take_on-requires-clause-may g c =
+pub take_on-requires : goal.take_on-requires
+take_on-requires g c =
     let u = g.P.Port.value c.args.port.now in
     let t = c.in-Some.top in
     let ts = drop 1 c.args.stack.now in
@@ -168,48 +122,12 @@ take_on-requires-clause-may g c =
     let way = subst (λ k. EntersFound u x t.frame t.done k owner (Ok (entered.Opened c.in-Opened.frame c.in-Opened.progress c.in-Opened.own))) c.level_type.ensures (subst (λ r. EntersFound u x t.frame t.done c.level_type.result owner (Ok r)) c.in-Opened.is found) in
     let came_open = opened_found u x t.frame t.done (level_type t.level) owner c.in-Opened.frame c.in-Opened.progress c.in-Opened.own way in
     let inner = pushed t c.in-Opened.frame c.in-Opened.progress c.in-Opened.own false in
-    may_stands a.0 x owner _ (after_next a.0 u x owner t ts s0 came first c.in-Opened.frame c.in-Opened.progress c.in-Opened.own (omega (arith, room)) c.requires.ready came_open left) (may_back a.0 u owner c.args.stack.now a.1 c.requires.may)
-
-pub take_on-requires-clause-stands : goal.take_on-requires-clause-stands
-take_on-requires-clause-stands g c =
-    let u = g.P.Port.value c.args.port.now in
-    let t = c.in-Some.top in
-    let ts = drop 1 c.args.stack.now in
-    let owner = c.args.owner in
-    let is = c.in-Some.ensures.some in
-    let a = c.requires.stands in
-    let s0 = subst (λ xs. Carries a.0 u owner xs) is a.1 in
-    let x = g.P.Port.value c.take_entry.new.port in
-    let found = c.in_ok-take_entry.ensures.found in
-    let came = serves_came u x (of_entries owner 0) [] (c.in_ok-take_entry.ensures.serves 0) in
-    let first = entered_first u x _ _ _ _ _ found in
-    let room : 0 < 512 - t.done = subst (λ xs. 0 < left_on_top xs) is c.requires.left in
-    let left = subst (λ k. LeavesEntered u x t.frame k t.done owner (entered.Opened c.in-Opened.frame c.in-Opened.progress c.in-Opened.own)) c.level_type.ensures (subst (λ r. LeavesEntered u x t.frame c.level_type.result t.done owner r) c.in-Opened.is c.in_ok-take_entry.ensures.hand) in
-    let way = subst (λ k. EntersFound u x t.frame t.done k owner (Ok (entered.Opened c.in-Opened.frame c.in-Opened.progress c.in-Opened.own))) c.level_type.ensures (subst (λ r. EntersFound u x t.frame t.done c.level_type.result owner (Ok r)) c.in-Opened.is found) in
-    let came_open = opened_found u x t.frame t.done (level_type t.level) owner c.in-Opened.frame c.in-Opened.progress c.in-Opened.own way in
-    let inner = pushed t c.in-Opened.frame c.in-Opened.progress c.in-Opened.own false in
-    (a.0, subst (λ xs. Carries a.0 x owner xs) (sym (c.push.ensures.pushed ∙ ap (λ ys. inner ∷ ys) (c.advance-in-Opened.ensures.advanced ∙ ap advanced is))) (after_next a.0 u x owner t ts s0 came first c.in-Opened.frame c.in-Opened.progress c.in-Opened.own (omega (arith, room)) c.requires.ready came_open left))
-
-pub take_on-requires-clause-top : goal.take_on-requires-clause-top
-take_on-requires-clause-top g c =
-    let u = g.P.Port.value c.args.port.now in
-    let t = c.in-Some.top in
-    let ts = drop 1 c.args.stack.now in
-    let owner = c.args.owner in
-    let is = c.in-Some.ensures.some in
-    let inner = pushed t c.in-Opened.frame c.in-Opened.progress c.in-Opened.own false in
-    c.push.ensures.pushed ∙ ap (λ ys. inner ∷ ys) (sym (ap (λ ys. drop 1 ys) c.push.ensures.pushed))
-
-pub take_on-requires-clause-fresh : goal.take_on-requires-clause-fresh
-take_on-requires-clause-fresh g c zero =
-    let u = g.P.Port.value c.args.port.now in
-    let t = c.in-Some.top in
-    let ts = drop 1 c.args.stack.now in
-    let owner = c.args.owner in
-    let is = c.in-Some.ensures.some in
-    let x = g.P.Port.value c.take_entry.new.port in
-    let left = subst (λ k. LeavesEntered u x t.frame k t.done owner (entered.Opened c.in-Opened.frame c.in-Opened.progress c.in-Opened.own)) c.level_type.ensures (subst (λ r. LeavesEntered u x t.frame c.level_type.result t.done owner r) c.in-Opened.is c.in_ok-take_entry.ensures.hand) in
-    fresh_ready u x t.frame t.done (level_type t.level) c.in-Opened.frame owner c.in-Opened.progress c.in-Opened.own left zero
+    record {
+      may = may_stands a.0 x owner _ (after_next a.0 u x owner t ts s0 came first c.in-Opened.frame c.in-Opened.progress c.in-Opened.own (omega (arith, room)) c.requires.ready came_open left) (may_back a.0 u owner c.args.stack.now a.1 c.requires.may);
+      top = c.push.ensures.pushed ∙ ap (λ ys. inner ∷ ys) (sym (ap (λ ys. drop 1 ys) c.push.ensures.pushed));
+      stands = (a.0, subst (λ xs. Carries a.0 x owner xs) (sym (c.push.ensures.pushed ∙ ap (λ ys. inner ∷ ys) (c.advance-in-Opened.ensures.advanced ∙ ap advanced is))) (after_next a.0 u x owner t ts s0 came first c.in-Opened.frame c.in-Opened.progress c.in-Opened.own (omega (arith, room)) c.requires.ready came_open left));
+      fresh = λ zero. fresh_ready u x t.frame t.done (level_type t.level) c.in-Opened.frame owner c.in-Opened.progress c.in-Opened.own left zero;
+    }
 
 pub returns-in-Recorded : goal.returns-in-Recorded
 returns-in-Recorded g c =

@@ -18,24 +18,23 @@ use Rattle.level_validate.proofs.unwinding.leave_named.Goals as goal
 
 -- ---- into its mark
 
-pub leave_kept-requires-clause-frame : goal.leave_kept-requires-clause-frame
-leave_kept-requires-clause-frame g c = let a = c.requires.stands in top_inside a.0 (g.P.Port.value c.args.port.now) c.args.owner c.args.table [] a.1
-
-pub leave_kept-requires-clause-leaves : goal.leave_kept-requires-clause-leaves
-leave_kept-requires-clause-leaves g c =
+pub leave_kept-requires : goal.leave_kept-requires
+leave_kept-requires g c =
     let a = c.requires.stands in
     let w = g.P.Port.value c.args.port.now in
     let is = c.partial_kind-kind.ensures ∙ ap (λ k. partial_kind k true false c.args.table.done 0) c.level_type.ensures in
-    subst (λ (l : KindWord). MayLeave w c.args.table.frame l) (sym is) (top_leaves a.0 w c.args.owner c.args.table [] a.1 true (λ on. c.requires.own))
-
-pub leave_kept-requires-clause-page : goal.leave_kept-requires-clause-page
-leave_kept-requires-clause-page g c =
-    let a = c.requires.stands in
-    let is = c.partial_kind-kind.ensures ∙ ap (λ k. partial_kind k true false c.args.table.done 0) c.level_type.ensures in
-    subst (λ (l : KindWord). IsUnpaged l) (sym is) (top_unpaged a.0 (g.P.Port.value c.args.port.now) c.args.owner c.args.table [] a.1)
-
-pub leave_kept-requires-clause-known : goal.leave_kept-requires-clause-known
-leave_kept-requires-clause-known g c = let a = c.requires.stands in top_kept_owner a.0 (g.P.Port.value c.args.port.now) c.args.owner c.args.table [] a.1 c.requires.own
+    record {
+      frame = top_inside a.0 (g.P.Port.value c.args.port.now) c.args.owner c.args.table [] a.1;
+      may = search rules;
+      leaves = subst (λ (l : KindWord). MayLeave w c.args.table.frame l) (sym is) (top_leaves a.0 w c.args.owner c.args.table [] a.1 true (λ on. c.requires.own));
+      partial = search rules;
+      kept = search rules;
+      page = subst (λ (l : KindWord). IsUnpaged l) (sym is) (top_unpaged a.0 (g.P.Port.value c.args.port.now) c.args.owner c.args.table [] a.1);
+      known = top_kept_owner a.0 (g.P.Port.value c.args.port.now) c.args.owner c.args.table [] a.1 c.requires.own;
+      real = search rules;
+      looked = search rules;
+      room = search rules;
+    }
 
 pub returns-then-kept : goal.returns-then-kept
 unfolding ServesLeft
