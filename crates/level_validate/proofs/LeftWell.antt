@@ -21,6 +21,9 @@ use Rattle.kind_words.specs.Kinds.{partial_kind}
 use Rattle.kind_words.proofs.KindWriting.{fields_write}
 use Rattle.frame_words.specs.Freeing.{FreesBy, PutBy, lowers_refs}
 use Rattle.frame_types.specs.Found.{SharedBy, StoresKind}
+use Rattle.table_entries.specs.Found.{saw_cell}
+use Rattle.level_validate.specs.Forward.{is_shed}
+use Rattle.level_validate.proofs.Forward.{IsPlain, Plain, is_cell, is_parting, neither}
 use Rattle.level_validate.specs.Leaving.{IsRecorded, LeavesWell, LeftWell}
 
 pub well_nothing : (v : PortValue) (kept : Bool) (f : ℕ) → LeftWell v v kept f
@@ -49,11 +52,6 @@ unfolding LeftWell
 well_more v w kept e f a = (a.0, a.1, each_more kept e f a.0 a.2)
 
 -- ---- steps that store no such word
--- a kind word with a `kept` mark, or of a dead table
-abbrev pub is_parting : Place → Act → Bool
-is_parting (Kind g) (Store w) = (kind_fields w).kept || (is_dead (kind_fields w) && is_table (kind_fields w).kind)
-is_parting _ _ = false
-
 kept_parts : (w : ℕ) → (kind_fields w).kept ≡ true → is_parting (Kind 0) (Store w) ≡ true
 kept_parts w on = rw on refl
 
@@ -86,20 +84,31 @@ unfolding LeftWell EachOf moment_of
 well_step v w kept f p a kind mark found off m = (moment_of v p a kind mark found ∷ [], moves_ran v w p a kind mark found m, (plain_moment kept f (moment_of v p a kind mark found) off, tt))
 
 -- the same by visits
-abbrev pub IsPlain : Visit → Type 0
-IsPlain s = is_parting s.place s.act ≡ false
+abbrev Unparted : List Visit → Type 0
+Unparted vs = EachOf (λ s. is_parting s.place s.act ≡ false) vs
 
-abbrev pub Plain : List Visit → Type 0
-Plain vs = EachOf (λ s. IsPlain s) vs
-
-each_plain : (kept : Bool) (f : ℕ) (ms : List Moment) → Plain (visits ms) → EachOf (λ m. LeavesWell kept f m) ms
+plain_unparted : (vs : List Visit) → Plain vs → Unparted vs
 unfolding EachOf
-each_plain kept f [] a = tt
-each_plain kept f (m ∷ ms) a = (plain_moment kept f m a.0, each_plain kept f ms a.1)
+plain_unparted [] a = tt
+plain_unparted (s ∷ vs) a =
+    let no = neither (is_shed s.mark) (is_cell s.place || is_parting s.place s.act) a.0 in ((neither (is_cell s.place) (is_parting s.place s.act) no.1).1, plain_unparted vs a.1)
+
+each_unparted : (kept : Bool) (f : ℕ) (ms : List Moment) → Unparted (visits ms) → EachOf (λ m. LeavesWell kept f m) ms
+unfolding EachOf
+each_unparted kept f [] a = tt
+each_unparted kept f (m ∷ ms) a = (plain_moment kept f m a.0, each_unparted kept f ms a.1)
 
 pub well_by : (v w : PortValue) (kept : Bool) (f : ℕ) (P : List Visit → Type 0) → ((vs : List Visit) → P vs → Plain vs) → Does v w P → LeftWell v w kept f
 unfolding LeftWell Does
-well_by v w kept f P plain a = (a.0, a.1, each_plain kept f a.0 (plain (visits a.0) a.2))
+well_by v w kept f P plain a = (a.0, a.1, each_unparted kept f a.0 (plain_unparted (visits a.0) (plain (visits a.0) a.2)))
+
+-- an entry is looked at first
+pub well_behind : (v w : PortValue) (kept : Bool) (e f i word : ℕ) → Does v w (Then (Only (saw_cell f i word)) Plain) → LeftWell v w kept e
+unfolding LeftWell Does EachOf
+well_behind v w kept e f i word a =
+    let t = a.2 in
+    let one = subst (λ vs. Unparted vs) (sym t.first) (refl, tt) in
+    (a.0, a.1, each_unparted kept e a.0 (subst (λ vs. Unparted vs) (sym t.list) (each_append (λ s. is_parting s.place s.act ≡ false) t.before t.after one (plain_unparted t.after t.next))))
 
 -- ---- a kind word is stored
 pub plain_kind : (k : KindWord) → IsTrue (is_kind k) → k.kept ≡ false → is_dead k ≡ false → (g : ℕ) → is_parting (Kind g) (Store (kind_write k)) ≡ false

@@ -21,8 +21,6 @@ mod LookedAgain
 mod Looking
 mod Lowering
 mod Nested
-mod Onward
-mod OnwardEntries
 mod OpenedAgain
 mod Opening
 mod Outermost

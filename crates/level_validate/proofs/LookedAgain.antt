@@ -19,9 +19,8 @@ use Rattle.level_validate.specs.Forward.{Forward}
 use Rattle.level_validate.specs.Leaving.{LeftWell}
 use Rattle.level_validate.specs.Tables.{Carries, IsStanding, IsTopReady, StandsOn}
 use Rattle.level_validate.proofs.Entered.{after_look, after_settled}
-use Rattle.level_validate.proofs.LeftWellEntries.{resumes_well}
+use Rattle.level_validate.proofs.LeftWellEntries.{resumes_forward, resumes_well}
 use Rattle.level_validate.proofs.Looking.{FirstFound}
-use Rattle.level_validate.proofs.OnwardEntries.{resumes_forward}
 use Rattle.level_validate.proofs.TakenOn.{resumed_ok}
 use Rattle.level_validate.proofs.Visited.{resumed_first}
 

@@ -7,7 +7,7 @@ use Rattle.xp_board.specs.Told.{Post, PortValue}
 use Rattle.step_maker.specs.Moves.{Came}
 use Rattle.step_maker.proofs.Coming.{came_post}
 use Rattle.answer_fits.specs.Answers.{missed}
-use Rattle.answer_fits.specs.Visits.{Does}
+use Rattle.answer_fits.specs.Visits.{Does, Visit}
 use Rattle.frame_types.specs.Found.{SharedBy}
 use Rattle.frame_types.specs.Leaving.{GivesBack, IsWaiting, ServesType}
 use Rattle.partial_state.specs.Levels.{level_type}
@@ -21,11 +21,10 @@ use Rattle.level_validate.specs.Serving.{CarriesOn, StopsIn}
 use Rattle.level_validate.specs.Tables.{Carries, IsStanding, StandsOn}
 use Rattle.level_validate.proofs.Asking.{goes_left, goes_waiting, stops_entries, stops_on}
 use Rattle.level_validate.proofs.Entered.{after_look}
-use Rattle.level_validate.proofs.Forward.{forward_by, forward_then}
+use Rattle.level_validate.proofs.Forward.{Plain, forward_by, forward_then}
 use Rattle.level_validate.proofs.LeftWell.{well_by, well_then}
 use Rattle.level_validate.proofs.LeftWellEntries.{IsAskedType, shared_plain, stamp_small}
 use Rattle.level_validate.proofs.LookedAgain.{SaidAgain, again_came, again_first, again_forward, again_then, again_well}
-use Rattle.level_validate.proofs.Onward.{shared_onward}
 use Rattle.level_validate.proofs.Waiting.{left_waiting, wait_stops, waited_found, waits_there}
 
 module _ (u x : PortValue) (owner : ℕ) (t : TableWork) (stack : List TableWork) (top : stack ≡ t ∷ drop 1 stack) (some : t.done ≡ 0 → ⊥) (f stamp : ℕ) (stop : Stop) (said : SaidAgain u x owner t (again.Waiting f stamp stop)) (a : IsStanding u owner stack) where
@@ -65,11 +64,11 @@ module _ (u x : PortValue) (owner : ℕ) (t : TableWork) (stack : List TableWork
 
     -- ---- its steps
     module _ (y : PortValue) where
+      by_plain : (vs : List Visit) → SharedBy f k stamp vs → Plain vs
+      by_plain = shared_plain f k stamp (subst (λ j. IsAskedType j) (sym kind) (level_type-typed (t.level - 1), level_type-plain (t.level - 1))) (stamp_small said.hand.0.work.word stamp said.hand.1)
+
       pub shared_forward : Does x y (λ vs. SharedBy f k stamp vs) → Forward u y
-      shared_forward does = forward_then u x y (again_forward u x owner t (again.Waiting f stamp stop) said stack top a some) (forward_by x y (λ vs. SharedBy f k stamp vs) (shared_onward f k stamp) does)
+      shared_forward does = forward_then u x y (again_forward u x owner t (again.Waiting f stamp stop) said stack top a some) (forward_by x y (λ vs. SharedBy f k stamp vs) by_plain does)
 
       pub shared_well : Does x y (λ vs. SharedBy f k stamp vs) → (e : ℕ) → LeftWell u y false e
-      shared_well does e =
-          let asked = subst (λ j. IsAskedType j) (sym kind) (level_type-typed (t.level - 1), level_type-plain (t.level - 1)) in
-          well_then u x y false e (again_well u x owner t (again.Waiting f stamp stop) said e)
-          (well_by x y false e (λ vs. SharedBy f k stamp vs) (shared_plain f k stamp asked (stamp_small said.hand.0.work.word stamp said.hand.1)) does)
+      shared_well does e = well_then u x y false e (again_well u x owner t (again.Waiting f stamp stop) said e) (well_by x y false e (λ vs. SharedBy f k stamp vs) by_plain does)

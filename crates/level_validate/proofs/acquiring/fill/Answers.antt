@@ -88,16 +88,16 @@ returns-in_err-go_on g c =
       ready = search rules;
       kinds = search rules;
       serves = filling_serves u x owner c.args.stack.now c.loop-port.stack c.loop-port.invariant.tables w c.go_on.new.stack r
-    (goes_answer x w owner c.loop-port.stack c.go_on.new.stack r c.in_err-go_on.field-0.0 (answer.1 ∙ ap Err answer.2) c.in_err-go_on.ensures.serves);
+          (goes_answer x w owner c.loop-port.stack c.go_on.new.stack r c.in_err-go_on.field-0.0 (answer.1 ∙ ap Err answer.2) c.in_err-go_on.ensures.serves);
       stops = risen_answer u w owner c.args.stack.now r e (answer.1 ∙ ap Err answer.2)
-    (filling_stops u x owner c.args.stack.now c.loop-port.stack c.loop-port.invariant.tables w c.go_on.new.stack e c.in_err-go_on.ensures.stops);
+          (filling_stops u x owner c.args.stack.now c.loop-port.stack c.loop-port.invariant.tables w c.go_on.new.stack e c.in_err-go_on.ensures.stops);
       gate = search rules;
       heard = search rules;
       says = search rules;
       paces = search rules;
       calm = search rules;
       course = working_stops c.args.owner (g.P.Port.value c.args.port.now) c.args.table _ _ _ (g.P.Port.value c.loop-port.port) (g.P.Port.value c.go_on.new.port) c.loop-port.stack c.go_on.new.stack _ _ _ _ _ r e (answer.1 ∙ ap Err answer.2)
-    i.says i.course c.in_err-go_on.ensures.course;
+          i.says i.course c.in_err-go_on.ensures.course;
     }
 
 pub returns-clause-forward : goal.returns-clause-forward

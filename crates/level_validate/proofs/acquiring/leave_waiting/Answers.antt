@@ -1,5 +1,4 @@
 use Rattle.frame_types.specs.Found.{SharedBy, StoresKind}
-use Rattle.level_validate.proofs.Onward.{shared_onward, stores_onward}
 use Rattle.level_validate.proofs.KeptSteps.{kept_forward, kept_well}
 use Rattle.level_validate.proofs.LeftWell.{shared_plain, stores_plain, well_by, well_step, well_then}
 use Rattle.level_validate.proofs.Forward.{forward_by, forward_step, forward_then}
@@ -35,13 +34,13 @@ returns-then-not-own g c =
     let is = unkept_is b.0 x f c.args.level c.args.owner c.args.own c.args.stamp b.1 k c.level_type-kind.ensures false c.if-not-own.true in
     record {
       came = search rules;
-      forward = forward_by (g.P.Port.value c.args.port.now) (g.P.Port.value c.leave_shared.new.port) (λ vs. SharedBy c.args.frame c.level_type-kind.result c.args.stamp vs) (shared_onward c.args.frame c.level_type-kind.result c.args.stamp) c.leave_shared.ensures.visits;
+      forward = forward_by x w (λ vs. SharedBy f k c.args.stamp vs) (shared_plain f k c.args.stamp is) c.leave_shared.ensures.visits;
       leaves = well_by x (g.P.Port.value c.leave_shared.new.port) c.args.kept f (λ vs. SharedBy f k c.args.stamp vs) (shared_plain f k c.args.stamp is) c.leave_shared.ensures.visits;
       serves = λ u r ds before asks locks. marked_none u w r c.args.owner c.args.kept f ds (type_left u x w r ds f c.args.owner c.args.level before asks (subst (λ k. ServesType x w f k) c.level_type-kind.ensures c.leave_shared.ensures.serves));
       hand = λ v a. lent_hand v w c.args.frame c.args.owner c.args.own c.args.kept c.if-not-own.true
-    (gives_left v (g.P.Port.value c.args.port.now) c.args.frame c.args.level c.args.owner c.args.own c.args.stamp a c.level_type-kind.result c.level_type-kind.ensures false c.if-not-own.true w c.leave_shared.ensures.hand);
+          (gives_left v (g.P.Port.value c.args.port.now) c.args.frame c.args.level c.args.owner c.args.own c.args.stamp a c.level_type-kind.result c.level_type-kind.ensures false c.if-not-own.true w c.leave_shared.ensures.hand);
       course = waiting_lent (g.P.Port.value c.args.port.now) (g.P.Port.value c.leave_shared.new.port) c.args.frame c.args.level c.args.owner c.args.stamp c.args.own c.args.kept c.level_type-kind.result c.level_type-kind.ensures
-    c.if-not-own.true c.leave_shared.ensures.visits;
+          c.if-not-own.true c.leave_shared.ensures.visits;
     }
 
 -- ---- paused: it goes into the mark
@@ -76,10 +75,10 @@ returns-then-kept g c =
       leaves = kept_well f (partial_kind c.level_type-kind.result true true 0 c.args.stamp) may.is refl c.args.kept c.if-kept.true x d c.args.owner (subst (λ (k : KindWord). KeptFor x d f k c.args.owner) c.waiting_kind.ensures c.leave_kept.ensures.course);
       serves = λ u r ds before asks locks. marked_kept u (g.P.Port.value c.leave_kept.new.port) r c.args.owner c.args.kept c.args.frame ds c.if-kept.true (c.leave_kept.ensures.serves u r ds before (of c.args.owner _ asks) locks);
       hand = λ v a. kept_hand v d c.args.frame c.args.owner c.args.own c.args.kept c.if-not-own.false c.if-kept.true
-    (mark_left v x c.args.frame c.args.level c.args.owner c.args.own c.args.stamp a c.level_type-kind.result c.level_type-kind.ensures c.if-not-own.false d
-    (subst (λ (k : KindWord). LeavesKept x d c.args.frame k c.args.owner) c.waiting_kind.ensures c.leave_kept.ensures.hand));
+          (mark_left v x c.args.frame c.args.level c.args.owner c.args.own c.args.stamp a c.level_type-kind.result c.level_type-kind.ensures c.if-not-own.false d
+          (subst (λ (k : KindWord). LeavesKept x d c.args.frame k c.args.owner) c.waiting_kind.ensures c.leave_kept.ensures.hand));
       course = waiting_kept (g.P.Port.value c.args.port.now) (g.P.Port.value c.leave_kept.new.port) c.args.frame c.args.level c.args.owner c.args.stamp c.args.own c.args.kept c.level_type-kind.result c.level_type-kind.ensures
-    c.if-not-own.false c.if-kept.true c.waiting_kind.result c.waiting_kind.ensures c.leave_kept.ensures.course;
+          c.if-not-own.false c.if-kept.true c.waiting_kind.result c.waiting_kind.ensures c.leave_kept.ensures.course;
     }
 
 -- ---- refused: it goes into the first old word
@@ -94,11 +93,11 @@ put_old-requires g c =
     record {
       frame = subst (λ (p : Post). c.args.frame < p.machine.frames) (sym (came_post (g.P.Port.value c.args.port.now) (g.P.Port.value c.leave_unsettled.new.port) c.leave_unsettled.ensures.came)) c.requires.frame;
       may = stays_may b.0 (g.P.Port.value c.args.port.now) c.args.frame c.args.level c.args.owner c.args.own c.args.stamp b.1 c.level_type-kind.result c.level_type-kind.ensures c.if-not-own.false (g.P.Port.value c.leave_unsettled.new.port)
-    c.leave_unsettled.ensures.hand c.requires.may;
+          c.leave_unsettled.ensures.hand c.requires.may;
       empty = stays_room b.0 (g.P.Port.value c.args.port.now) c.args.frame c.args.level c.args.owner c.args.own c.args.stamp b.1 c.level_type-kind.result c.level_type-kind.ensures c.if-not-own.false (g.P.Port.value c.leave_unsettled.new.port)
-    c.leave_unsettled.ensures.hand c.requires.room;
+          c.leave_unsettled.ensures.hand c.requires.room;
       held = stays_held b.0 (g.P.Port.value c.args.port.now) c.args.frame c.args.level c.args.owner c.args.own c.args.stamp b.1 c.level_type-kind.result c.level_type-kind.ensures c.if-not-own.false (g.P.Port.value c.leave_unsettled.new.port)
-    c.leave_unsettled.ensures.hand;
+          c.leave_unsettled.ensures.hand;
     }
 
 pub returns-else-kept : goal.returns-else-kept
@@ -115,20 +114,13 @@ returns-else-kept g c =
     let is = unkept_is b.0 x f c.args.level c.args.owner c.args.own c.args.stamp b.1 want c.level_type-kind.ensures true c.if-not-own.false in
     record {
       came = came_trans (g.P.Port.value c.args.port.now) d z c.leave_unsettled.ensures.came (moves_came d z _ _ _ _ 0 c.put_old.ensures.moves);
-      forward = forward_then u d z (forward_by u d (λ vs. StoresKind c.args.frame k vs) (stores_onward c.args.frame k) c.leave_unsettled.ensures.visits) (forward_step d z _ _ _ _ 0 refl refl c.put_old.ensures.moves);
-      leaves = let k = partial_kind want false true 0 c.args.stamp in
-          well_then x d z c.args.kept f (well_by x d c.args.kept f (λ vs. StoresKind f k vs) (stores_plain f k is refl refl) c.leave_unsettled.ensures.visits)
-    (well_step d z c.args.kept f _ _ _ _ 0 refl c.put_old.ensures.moves);
+      forward = forward_then u d z (forward_by u d (λ vs. StoresKind f k vs) (stores_plain f k is refl refl) c.leave_unsettled.ensures.visits) (forward_step d z _ _ _ _ 0 refl refl c.put_old.ensures.moves);
+      leaves = well_then x d z c.args.kept f (well_by x d c.args.kept f (λ vs. StoresKind f k vs) (stores_plain f k is refl refl) c.leave_unsettled.ensures.visits)
+          (well_step d z c.args.kept f _ _ _ _ 0 refl c.put_old.ensures.moves);
       serves = λ u r ds before asks locks. marked_none u z r c.args.owner c.args.kept f ds
-    (old_serves u d z r ds (type_left u x d r ds f c.args.owner c.args.level before asks (subst (λ k. ServesType x d f k) c.level_type-kind.ensures c.leave_unsettled.ensures.serves)) (f + 1) c.put_old.ensures.moves);
+          (old_serves u d z r ds (type_left u x d r ds f c.args.owner c.args.level before asks (subst (λ k. ServesType x d f k) c.level_type-kind.ensures c.leave_unsettled.ensures.serves)) (f + 1) c.put_old.ensures.moves);
       hand = λ v a. named_hand v z c.args.frame c.args.owner c.args.own c.args.kept c.if-not-own.false c.if-kept.false
-    (named_left v (g.P.Port.value c.args.port.now) c.args.frame c.args.level c.args.owner c.args.own c.args.stamp a c.level_type-kind.result c.level_type-kind.ensures c.if-not-own.false d c.leave_unsettled.ensures.hand z c.put_old.ensures.hand);
+          (named_left v (g.P.Port.value c.args.port.now) c.args.frame c.args.level c.args.owner c.args.own c.args.stamp a c.level_type-kind.result c.level_type-kind.ensures c.if-not-own.false d c.leave_unsettled.ensures.hand z c.put_old.ensures.hand);
       course = waiting_named (g.P.Port.value c.args.port.now) (g.P.Port.value c.put_old.new.port) c.args.frame c.args.level c.args.owner c.args.stamp c.args.own c.args.kept c.level_type-kind.result c.level_type-kind.ensures
-    c.if-not-own.false c.if-kept.false (g.P.Port.value c.leave_unsettled.new.port) c.leave_unsettled.ensures.visits c.put_old.ensures.moves;
+          c.if-not-own.false c.if-kept.false (g.P.Port.value c.leave_unsettled.new.port) c.leave_unsettled.ensures.visits c.put_old.ensures.moves;
     }
-
--- ---- it goes forward
-
--- ---- it leaves the frame well
-
--- ---- its part of the course

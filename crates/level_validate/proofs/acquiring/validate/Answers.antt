@@ -49,11 +49,11 @@ returns-in-Ok g c =
       forward = forward_then (g.P.Port.value c.args.port.now) (g.P.Port.value c.fill.new.port) (g.P.Port.value c.complete_outer.new.port) c.fill.ensures.forward c.complete_outer.ensures.forward;
       leaves = well_then (g.P.Port.value c.args.port.now) (g.P.Port.value c.fill.new.port) (g.P.Port.value c.complete_outer.new.port) false c.args.table.frame (c.fill.ensures.leaves c.args.table.frame) (c.complete_outer.ensures.leaves c.args.table.frame);
       hand = completed u x (g.P.Port.value c.complete_outer.new.port) c.args.owner t c.requires.stands
-    (subst (λ ts. StandsOn u x c.args.owner ts (record t { done = 512 } ∷ [])) one (subst (λ us. StandsOn u x c.args.owner c.push.new.self us) full c.fill.ensures.stands)) c.complete_outer.ensures.hand;
+          (subst (λ ts. StandsOn u x c.args.owner ts (record t { done = 512 } ∷ [])) one (subst (λ us. StandsOn u x c.args.owner c.push.new.self us) full c.fill.ensures.stands)) c.complete_outer.ensures.hand;
       kinds = search rules;
       serves = left_on u (g.P.Port.value c.complete_outer.new.port) c.args.owner false t.frame (t ∷ []) [] []
-    (goes_then u x (g.P.Port.value c.complete_outer.new.port) c.args.owner (t ∷ []) (record t { done = 512 } ∷ []) [] [] []
-    (subst (λ ts. CarriesOn u x c.args.owner ts (record t { done = 512 } ∷ []) []) one (subst (λ us. CarriesOn u x c.args.owner c.push.new.self us []) full c.in-Ok.ensures.serves)) (c.complete_outer.ensures.serves c.args.owner));
+          (goes_then u x (g.P.Port.value c.complete_outer.new.port) c.args.owner (t ∷ []) (record t { done = 512 } ∷ []) [] [] []
+          (subst (λ ts. CarriesOn u x c.args.owner ts (record t { done = 512 } ∷ []) []) one (subst (λ us. CarriesOn u x c.args.owner c.push.new.self us []) full c.in-Ok.ensures.serves)) (c.complete_outer.ensures.serves c.args.owner));
       stops = search rules;
       gate = search rules;
       heard = search rules;
@@ -91,16 +91,16 @@ returns-in-Err g c =
       forward = forward_then (g.P.Port.value c.args.port.now) (g.P.Port.value c.fill.new.port) (g.P.Port.value c.unwind.new.port) c.fill.ensures.forward c.unwind.ensures.forward;
       leaves = let one = only t c.new-stack.result c.push.new.self c.new-stack.ensures c.push.ensures.pushed in
           well_then u x w kept t.frame (well_more u x kept t.frame t.frame (c.fill.ensures.leaves t.frame))
-    (subst (λ b. LeftWell x w b t.frame) c.is_paused.ensures (c.unwind.ensures.leaves (record t { done = 0 }) (c.fill.ensures.outer ∙ ap (λ us. outermost_work us) one)));
+          (subst (λ b. LeftWell x w b t.frame) c.is_paused.ensures (c.unwind.ensures.leaves (record t { done = 0 }) (c.fill.ensures.outer ∙ ap (λ us. outermost_work us) one)));
       hand = subst (λ b. Unwinds u w c.args.owner b (c.args.table ∷ [])) c.is_paused.ensures
-    (subst (λ ts. Unwinds u w c.args.owner c.is_paused.result ts) one
-    (unwound u x w c.args.owner c.is_paused.result c.push.new.self c.fill.new.stack c.fill.ensures.outer c.fill.ensures.stands c.unwind.ensures.hand));
+          (subst (λ ts. Unwinds u w c.args.owner c.is_paused.result ts) one
+          (unwound u x w c.args.owner c.is_paused.result c.push.new.self c.fill.new.stack c.fill.ensures.outer c.fill.ensures.stands c.unwind.ensures.hand));
       kinds = search rules;
       serves = let one = only t c.new-stack.result c.push.new.self c.new-stack.ensures c.push.ensures.pushed in let frame : outermost_frame c.fill.new.stack ≡ t.frame = frame_alike c.fill.new.stack (t ∷ []) (c.fill.ensures.outer ∙ ap outermost_work one) in let left = subst (λ f. ServesLeft x w owner c.is_paused.result f c.fill.new.stack []) frame c.unwind.ensures.serves in
           subst (λ b. ServesLeft u w owner b t.frame (t ∷ []) e) c.is_paused.ensures
-    (subst (λ ts. ServesLeft u w owner c.is_paused.result t.frame ts e) one (left_behind u x w owner c.is_paused.result t.frame c.push.new.self c.fill.new.stack e [] c.fill.ensures.came c.in-Err.ensures.serves left));
+          (subst (λ ts. ServesLeft u w owner c.is_paused.result t.frame ts e) one (left_behind u x w owner c.is_paused.result t.frame c.push.new.self c.fill.new.stack e [] c.fill.ensures.came c.in-Err.ensures.serves left));
       stops = subst (λ ts. StopsRisen (g.P.Port.value c.args.port.now) (g.P.Port.value c.unwind.new.port) c.args.owner ts c.in-Err.stop) one
-    (risen_on (g.P.Port.value c.args.port.now) (g.P.Port.value c.fill.new.port) c.args.owner c.push.new.self c.in-Err.stop (g.P.Port.value c.unwind.new.port) c.unwind.ensures.came c.in-Err.ensures.stops);
+          (risen_on (g.P.Port.value c.args.port.now) (g.P.Port.value c.fill.new.port) c.args.owner c.push.new.self c.in-Err.stop (g.P.Port.value c.unwind.new.port) c.unwind.ensures.came c.in-Err.ensures.stops);
       gate = search rules;
       heard = search rules;
       says = search rules;

@@ -91,7 +91,7 @@ returns-then-table g c =
           piece_rest u x r owner t (o ∷ us) ds (piece_back u d x r owner t (o ∷ us) ds left c.give_back.ensures.serves);
       progress = let l = live_hand b.2.0 w b.0 t (u ∷ b.1) b.2.1 t.own refl d c.make_live.ensures.hand in
           progress_before w d x c.give_back.ensures.came
-    (progress_settles b.2.0 w b.0 t u b.1 b.2.1 d c.make_live.result c.make_live.ensures.moves l c.if-table.true (live_leaves b.2.0 w b.0 t (u ∷ b.1) b.2.1 c.requires.full c.requires.ready t.own refl c.requires.may).is);
+          (progress_settles b.2.0 w b.0 t u b.1 b.2.1 d c.make_live.result c.make_live.ensures.moves l c.if-table.true (live_leaves b.2.0 w b.0 t (u ∷ b.1) b.2.1 c.requires.full c.requires.ready t.own refl c.requires.may).is);
       ready = old_ready v w owner t u us s d c.make_live.result c.make_live.ensures.moves l c.if-table.true (live_leaves b.2.0 w b.0 t (u ∷ b.1) b.2.1 c.requires.full c.requires.ready t.own refl c.requires.may).is x c.give_back.ensures.hand c.give_back.ensures.came;
       course = λ owner us. completed_so w d (g.P.Port.value c.give_back.new.port) c.args.table c.args.outer true c.if-table.true c.requires.full (c.make_live.result, c.make_live.ensures.moves) c.give_back.ensures.course owner us;
     }

@@ -28,6 +28,6 @@ returns g c =
       leaves = λ f. kind_well w (g.P.Port.value c.make_live.new.port) false f t.frame _ _ _ c.make_live.result (live_leaves b.1.0 w b.0 t [] b.1.1 c.requires.full c.requires.ready t.own refl c.requires.may).is refl refl c.make_live.ensures.moves;
       hand = λ v owner s. outer_live v w d owner c.args.table s (live_hand v w owner c.args.table [] s c.args.table.own refl d c.make_live.ensures.hand);
       serves = λ owner u r ds a. piece_rest u d r owner t [] ds
-    (piece_left b.1.0 w b.0 t [] b.1.1 _ (live_leaves b.1.0 w b.0 t [] b.1.1 c.requires.full c.requires.ready t.own refl c.requires.may).is refl d c.make_live.result c.make_live.ensures.moves u r owner [] ds a);
+          (piece_left b.1.0 w b.0 t [] b.1.1 _ (live_leaves b.1.0 w b.0 t [] b.1.1 c.requires.full c.requires.ready t.own refl c.requires.may).is refl d c.make_live.result c.make_live.ensures.moves u r owner [] ds a);
       course = search rules;
     }

@@ -4,7 +4,6 @@ use Rattle.answer_fits.proofs.Piecing.{serves_came, serves_then}
 use Rattle.step_maker.proofs.Coming.{came_trans}
 use Rattle.frame_words.specs.Freeing.{PutBy}
 use Rattle.level_validate.proofs.Forward.{forward_by, forward_step, forward_then}
-use Rattle.level_validate.proofs.Onward.{put_onward}
 use Rattle.level_validate.proofs.LeftWell.{put_plain, well_by, well_step, well_then}
 use Rattle.level_validate.proofs.Sharing.{back_given, back_puts, never_last}
 use Rattle.level_validate.proofs.completing.give_back.Goals as goal
@@ -23,7 +22,7 @@ returns g c =
     let drops = c.drop_type.ensures.drops in
     record {
       came = came_trans v a w (serves_came v a (of_back c.args.frame) [] c.drop_type.ensures.serves) (serves_came a w (of_back c.args.frame) [] c.put_ref.ensures.serves);
-      forward = forward_then v a w (forward_step v a _ _ _ _ drops.found refl refl drops.lowers.step) (forward_by a w (PutBy c.args.frame) (λ vs puts. put_onward c.args.frame vs puts) c.put_ref.ensures.puts);
+      forward = forward_then v a w (forward_step v a _ _ _ _ drops.found refl refl drops.lowers.step) (forward_by a w (PutBy c.args.frame) (λ vs puts. put_plain c.args.frame vs puts) c.put_ref.ensures.puts);
       leaves = λ f. well_then v a w false f (well_step v a false f _ _ _ _ drops.found refl drops.lowers.step) (well_by a w false f (PutBy c.args.frame) (λ vs puts. put_plain c.args.frame vs puts) c.put_ref.ensures.puts);
       hand = back_given (g.P.Port.value c.args.port.now) (g.P.Port.value c.drop_type.new.port) c.args.frame c.drop_type.result c.drop_type.ensures.drops c.if-drop_type.false (g.P.Port.value c.put_ref.new.port) c.put_ref.ensures.hand;
       serves = serves_then v a w (of_back c.args.frame) [] [] c.drop_type.ensures.serves c.put_ref.ensures.serves;

@@ -17,10 +17,9 @@ use Rattle.level_validate.proofs.Entered.{after_look, back_one}
 use Rattle.level_validate.proofs.Forward.{forward_nothing, forward_then}
 use Rattle.level_validate.proofs.LeavingTables.{top_inside}
 use Rattle.level_validate.proofs.LeftWell.{well_nothing, well_then}
-use Rattle.level_validate.proofs.LeftWellEntries.{resumes_well}
+use Rattle.level_validate.proofs.LeftWellEntries.{resumes_forward, resumes_well}
 use Rattle.level_validate.proofs.LookedAgain.{again_came, again_forward, again_then, again_well, said_again, settled_ready, settled_stands}
 use Rattle.level_validate.proofs.Lowering.{again_lowers}
-use Rattle.level_validate.proofs.OnwardEntries.{resumes_forward}
 use Rattle.level_validate.proofs.OpenedAgain.{opened_may, opened_ready, opened_serves, opened_stands, opened_stops, opened_table, top_low}
 use Rattle.level_validate.proofs.Pushing.{pushed}
 use Rattle.level_validate.proofs.Rising.{progress_answer}
@@ -64,10 +63,10 @@ resume_entry-requires g n c =
       index = search rules;
       may = search rules;
       works = subst (λ (k : PageType). WorksAtTop t.frame k (t.done - 1 + 1) u.holdings) (sym c.level_type.ensures)
-    (subst (λ n. WorksAtTop t.frame (level_type t.level) n u.holdings) one (standing_top a.0 u c.args.owner t (drop 1 c.args.stack.now) (subst (λ xs. Carries a.0 u c.args.owner xs) c.requires.top a.1)));
+          (subst (λ n. WorksAtTop t.frame (level_type t.level) n u.holdings) one (standing_top a.0 u c.args.owner t (drop 1 c.args.stack.now) (subst (λ xs. Carries a.0 u c.args.owner xs) c.requires.top a.1)));
       held = standing_held a.0 (g.P.Port.value c.args.port.now) c.args.owner c.args.top (drop 1 c.args.stack.now) (subst (λ xs. Carries a.0 (g.P.Port.value c.args.port.now) c.args.owner xs) c.requires.top a.1);
       above = λ f. subst (λ (k : PageType). IsOfOther f (below k) u.holdings) (sym c.level_type.ensures)
-    (standing_above a.0 u c.args.owner c.args.top (drop 1 c.args.stack.now) (subst (λ xs. Carries a.0 u c.args.owner xs) c.requires.top a.1) f);
+          (standing_above a.0 u c.args.owner c.args.top (drop 1 c.args.stack.now) (subst (λ xs. Carries a.0 u c.args.owner xs) c.requires.top a.1) f);
       looked = standing_looked a.0 (g.P.Port.value c.args.port.now) c.args.owner c.args.top (drop 1 c.args.stack.now) (subst (λ xs. Carries a.0 (g.P.Port.value c.args.port.now) c.args.owner xs) c.requires.top a.1);
     }
 
@@ -86,21 +85,21 @@ returns-in_err-resume_entry g n c =
     record {
       came = serves_came (g.P.Port.value c.args.port.now) (g.P.Port.value c.resume_entry.new.port) (of_entries c.args.owner 0) _ (c.in_err-resume_entry.ensures.serves 0);
       forward = resumes_forward (g.P.Port.value c.args.port.now) (g.P.Port.value c.resume_entry.new.port) c.args.owner c.args.top c.args.stack.now c.requires.top c.requires.stands c.level_type.result c.level_type.ensures _ c.if-top-eq0.false
-    c.in_err-resume_entry.ensures.found;
+          c.in_err-resume_entry.ensures.found;
       leaves = λ e. resumes_well (g.P.Port.value c.args.port.now) (g.P.Port.value c.resume_entry.new.port) e c.args.top.frame (c.args.top.done - 1) c.level_type.result c.args.owner _ c.in_err-resume_entry.ensures.found;
       stands = λ v s. subst (λ xs. Carries v w c.args.owner xs) (sym c.requires.top)
-    (after_look v u w c.args.owner c.args.top (drop 1 c.args.stack.now) (subst (λ xs. Carries v u c.args.owner xs) c.requires.top s) (serves_came u w (of_entries c.args.owner 0) _ (c.in_err-resume_entry.ensures.serves 0))
-    (resumed_first u w c.args.top.frame (c.args.top.done - 1) c.level_type.result c.args.owner _ found) (c.args.top.done - 1) c.in_err-resume_entry.ensures.hand);
+          (after_look v u w c.args.owner c.args.top (drop 1 c.args.stack.now) (subst (λ xs. Carries v u c.args.owner xs) c.requires.top s) (serves_came u w (of_entries c.args.owner 0) _ (c.in_err-resume_entry.ensures.serves 0))
+          (resumed_first u w c.args.top.frame (c.args.top.done - 1) c.level_type.result c.args.owner _ found) (c.args.top.done - 1) c.in_err-resume_entry.ensures.hand);
       ready = search rules;
       kinds = search rules;
       outer = search rules;
       progress = search rules;
       less = search rules;
       serves = goes_answer u x c.args.owner c.args.stack.now c.args.stack.now c.from_residual.result c.in_err-resume_entry.field-0.0 (answer.1 ∙ ap Err answer.2)
-    (goes_entries u x c.args.owner c.args.stack.now (missed u.post.machine c.in_err-resume_entry.field-0.0) c.in_err-resume_entry.ensures.serves);
+          (goes_entries u x c.args.owner c.args.stack.now (missed u.post.machine c.in_err-resume_entry.field-0.0) c.in_err-resume_entry.ensures.serves);
       stops = stops_answer u x c.args.owner c.args.stack.now c.from_residual.result e (answer.1 ∙ ap Err answer.2) (stops_entries u x c.args.owner c.args.stack.now e c.in_err-resume_entry.ensures.stops);
       course = stopped_on c.args.owner u t (drop 1 c.args.stack.now) c.args.stack.now c.requires.top c.if-top-eq0.false x c.from_residual.result e (answer.1 ∙ ap Err answer.2)
-    (resumed_err u x c.args.owner t c.level_type.result c.level_type.ensures e stopped.found stopped.plain stopped.stops);
+          (resumed_err u x c.args.owner t c.level_type.result c.level_type.ensures e stopped.found stopped.plain stopped.stops);
     }
 
 -- ---- it is settled
@@ -211,10 +210,10 @@ returns-in-Opened g n c =
       progress = progress_answer u x (g.P.Port.value c.take_on.new.port) c.take_on.result (serves_came u x (of_entries c.args.owner 0) [] (c.in_ok-resume_entry.ensures.serves 0)) c.take_on.ensures.progress;
       less = again_lowers c.take_on.result (weight c.take_on.new.stack) inner t (drop 1 c.args.stack.now) c.args.stack.now c.push.new.self c.push.ensures.stack c.requires.top c.push.ensures.pushed c.take_on.ensures.less;
       serves = goes_on u x (g.P.Port.value c.take_on.new.port) c.args.owner c.args.stack.now c.push.new.self c.take_on.new.stack c.take_on.result (again_came u x c.args.owner c.args.top (again.Opened c.in-Opened.frame c.in-Opened.progress) said)
-    (opened_serves u x c.args.owner c.args.top c.args.stack.now c.requires.top c.if-top-eq0.false c.in-Opened.frame c.in-Opened.progress said c.push.new.self c.push.ensures.pushed c.requires.stands) c.take_on.ensures.serves;
+          (opened_serves u x c.args.owner c.args.top c.args.stack.now c.requires.top c.if-top-eq0.false c.in-Opened.frame c.in-Opened.progress said c.push.new.self c.push.ensures.pushed c.requires.stands) c.take_on.ensures.serves;
       stops = opened_stops u x c.args.owner c.args.top c.args.stack.now c.requires.top c.if-top-eq0.false c.in-Opened.frame c.in-Opened.progress said c.push.new.self c.push.ensures.pushed c.requires.stands (g.P.Port.value c.take_on.new.port) c.take_on.result c.take_on.ensures.stops;
       course = opened_on c.args.owner u c.args.top (drop 1 c.args.stack.now) c.args.stack.now c.requires.top c.if-top-eq0.false x (g.P.Port.value c.take_on.new.port) c.in-Opened.frame c.in-Opened.progress c.take_on.result
-    c.push.new.self c.take_on.new.stack c.push.ensures.pushed said.entry c.take_on.ensures.course;
+          c.push.new.self c.take_on.new.stack c.push.ensures.pushed said.entry c.take_on.ensures.course;
     }
 
 -- ---- it waits for a flush
@@ -250,5 +249,5 @@ returns-in-Waiting g n c =
       serves = waited_serves u x c.args.owner c.args.top c.args.stack.now c.requires.top c.if-top-eq0.false c.in-Waiting.frame c.in-Waiting.stamp c.in-Waiting.stop said c.requires.stands c.level_type-in-Waiting.result c.level_type-in-Waiting.ensures (g.P.Port.value c.leave_shared.new.port) c.leave_shared.ensures.came c.leave_shared.ensures.serves;
       stops = waited_stops u x c.args.owner c.args.top c.args.stack.now c.requires.top c.if-top-eq0.false c.in-Waiting.frame c.in-Waiting.stamp c.in-Waiting.stop said c.requires.stands c.level_type-in-Waiting.result c.level_type-in-Waiting.ensures (g.P.Port.value c.leave_shared.new.port) c.leave_shared.ensures.came;
       course = waiting_on c.args.owner u c.args.top (drop 1 c.args.stack.now) c.args.stack.now c.requires.top c.if-top-eq0.false x (g.P.Port.value c.leave_shared.new.port) c.in-Waiting.frame c.in-Waiting.stamp c.in-Waiting.stop said.entry
-    (shared_left x (g.P.Port.value c.leave_shared.new.port) c.in-Waiting.frame (c.args.top.level - 1) c.level_type-in-Waiting.result c.level_type-in-Waiting.ensures c.in-Waiting.stamp c.leave_shared.ensures.visits);
+          (shared_left x (g.P.Port.value c.leave_shared.new.port) c.in-Waiting.frame (c.args.top.level - 1) c.level_type-in-Waiting.result c.level_type-in-Waiting.ensures c.in-Waiting.stamp c.leave_shared.ensures.visits);
     }

@@ -28,9 +28,8 @@ use Rattle.level_validate.proofs.StandsFacts.{may_back, may_stands}
 use Rattle.level_validate.proofs.Rising.{progress_answer}
 use Rattle.level_validate.proofs.Waiting.{wait_stops}
 use Rattle.level_validate.proofs.Forward.{forward_then}
-use Rattle.level_validate.proofs.OnwardEntries.{enters_forward}
 use Rattle.level_validate.proofs.LeftWell.{well_then}
-use Rattle.level_validate.proofs.LeftWellEntries.{enters_well}
+use Rattle.level_validate.proofs.LeftWellEntries.{enters_forward, enters_well}
 use Rattle.level_validate.proofs.EnteredOn.{entered_err, entered_ok, opened_next, recorded_next, stopped_next, unsettled_next}
 use Rattle.level_validate.proofs.entering.enter.Goals as goal
 
@@ -78,10 +77,10 @@ returns-in_err-take_entry g c =
       progress = search rules;
       less = search rules;
       serves = goes_answer u x c.args.owner c.args.stack.now c.args.stack.now c.from_residual.result c.in_err-take_entry.field-0.0 (answer.1 ∙ ap Err answer.2)
-    (goes_entries u x c.args.owner c.args.stack.now (missed u.post.machine c.in_err-take_entry.field-0.0) c.in_err-take_entry.ensures.serves);
+          (goes_entries u x c.args.owner c.args.stack.now (missed u.post.machine c.in_err-take_entry.field-0.0) c.in_err-take_entry.ensures.serves);
       stops = stops_answer u x c.args.owner c.args.stack.now c.from_residual.result e (answer.1 ∙ ap Err answer.2) (stops_entries u x c.args.owner c.args.stack.now e c.in_err-take_entry.ensures.stops);
       course = stopped_next c.args.owner u t (drop 1 c.args.stack.now) c.args.stack.now c.in-Some.ensures.some c.requires.left x c.from_residual.result e (answer.1 ∙ ap Err answer.2)
-    (entered_err u x c.args.owner t c.level_type.result c.level_type.ensures e stopped.found stopped.plain stopped.stops);
+          (entered_err u x c.args.owner t c.level_type.result c.level_type.ensures e stopped.found stopped.plain stopped.stops);
     }
 
 pub push-requires-clause-table : goal.push-requires-clause-table
@@ -157,10 +156,10 @@ returns-in-Recorded g c =
       progress = λ same. subst (λ r. ShowsEntered u x c.args.owner 0 c.level_type.result r) c.in-Recorded.is (c.in_ok-take_entry.ensures.shows 0);
       less = search rules;
       serves = subst (λ xs. CarriesOn u x c.args.owner c.args.stack.now xs []) (sym c.advance.ensures.advanced)
-    (goes_advanced u x c.args.owner c.args.stack.now c.args.stack.now [] (goes_entries u x c.args.owner c.args.stack.now [] c.in_ok-take_entry.ensures.serves));
+          (goes_advanced u x c.args.owner c.args.stack.now c.args.stack.now [] (goes_entries u x c.args.owner c.args.stack.now [] c.in_ok-take_entry.ensures.serves));
       stops = search rules;
       course = recorded_next c.args.owner u t (drop 1 c.args.stack.now) c.args.stack.now c.in-Some.ensures.some c.requires.left x c.advance.new.self c.advance.ensures.advanced
-    (entered_ok u x c.args.owner t c.level_type.result c.level_type.ensures c.in_ok-take_entry.field-0 entered.Recorded c.in-Recorded.is answer.found answer.plain answer.shows);
+          (entered_ok u x c.args.owner t c.level_type.result c.level_type.ensures c.in_ok-take_entry.field-0 entered.Recorded c.in-Recorded.is answer.found answer.plain answer.shows);
     }
 
 pub returns-in-Opened : goal.returns-in-Opened
@@ -194,7 +193,7 @@ returns-in-Opened g c =
     record {
       came = came_trans u x (g.P.Port.value c.take_on.new.port) came c.take_on.ensures.came;
       forward = forward_then u x (g.P.Port.value c.take_on.new.port)
-    (enters_forward u x c.args.owner c.in-Some.top c.args.stack.now c.in-Some.ensures.some c.requires.stands c.level_type.result c.level_type.ensures _ c.in_ok-take_entry.ensures.found) c.take_on.ensures.forward;
+          (enters_forward u x c.args.owner c.in-Some.top c.args.stack.now c.in-Some.ensures.some c.requires.stands c.level_type.result c.level_type.ensures _ c.in_ok-take_entry.ensures.found) c.take_on.ensures.forward;
       leaves = λ e. well_then u x (g.P.Port.value c.take_on.new.port) false e (enters_well u x e t.frame t.done c.level_type.result c.args.owner _ c.in_ok-take_entry.ensures.found) (c.take_on.ensures.leaves e);
       stands = λ v s. let s0 = subst (λ xs. Carries v u owner xs) is s in
           c.take_on.ensures.stands v (subst (λ xs. Carries v x owner xs) (sym (c.push.ensures.pushed ∙ ap (λ ys. inner ∷ ys) (c.advance-in-Opened.ensures.advanced ∙ ap advanced is))) (after_next v u x owner t ts s0 came first c.in-Opened.frame c.in-Opened.progress c.in-Opened.own (omega (arith, room)) c.requires.ready came_open left));
@@ -203,15 +202,15 @@ returns-in-Opened g c =
       outer = search rules;
       progress = progress_answer u x (g.P.Port.value c.take_on.new.port) c.take_on.result (serves_came u x (of_entries c.args.owner 0) [] (c.in_ok-take_entry.ensures.serves 0)) c.take_on.ensures.progress;
       less = next_lowers c.take_on.result (weight c.take_on.new.stack) inner t (drop 1 c.args.stack.now) c.args.stack.now c.push.new.self c.push.ensures.stack c.in-Some.ensures.some
-    (c.push.ensures.pushed ∙ ap (λ ys. inner ∷ ys) c.advance-in-Opened.ensures.advanced) c.requires.left c.take_on.ensures.less;
+          (c.push.ensures.pushed ∙ ap (λ ys. inner ∷ ys) c.advance-in-Opened.ensures.advanced) c.requires.left c.take_on.ensures.less;
       serves = let first = goes_opened u x owner stack k c.in-Opened.frame c.in_ok-take_entry.ensures.serves shows inner refl below_is in
           goes_on u x y owner stack c.push.new.self c.take_on.new.stack c.take_on.result came
-    (subst (λ xs. CarriesOn u x owner stack xs []) (sym (c.push.ensures.pushed ∙ ap (λ ys. inner ∷ ys) c.advance-in-Opened.ensures.advanced)) (goes_inner u x owner stack inner stack [] first)) c.take_on.ensures.serves;
+          (subst (λ xs. CarriesOn u x owner stack xs []) (sym (c.push.ensures.pushed ∙ ap (λ ys. inner ∷ ys) c.advance-in-Opened.ensures.advanced)) (goes_inner u x owner stack inner stack [] first)) c.take_on.ensures.serves;
       stops = let s0 = subst (λ xs. Carries a.0 u owner xs) is a.1 in let below_is = ap below c.level_type.ensures ∙ level_type-under t.level s0.stack.0.low s0.stack.0.high in let opened = goes_opened u x owner stack k c.in-Opened.frame c.in_ok-take_entry.ensures.serves shows inner refl below_is in let goes = subst (λ xs. CarriesOn u x owner stack xs []) (sym now) (goes_inner u x owner stack inner stack [] opened) in
           IfErr-weaker c.take_on.result (λ e. StopsIn x y owner c.push.new.self e) (λ e. StopsIn u y owner stack e) (λ e stops. stops_behind x y owner c.push.new.self e u stack stands goes stops) c.take_on.ensures.stops;
       course = opened_next c.args.owner u t (drop 1 c.args.stack.now) c.args.stack.now c.in-Some.ensures.some c.requires.left x (g.P.Port.value c.take_on.new.port) o.frame o.progress o.own c.take_on.result
-    c.advance-in-Opened.new.self c.push.new.self c.take_on.new.stack c.advance-in-Opened.ensures.advanced c.push.ensures.pushed
-    (entered_ok u x c.args.owner t c.level_type.result c.level_type.ensures c.in_ok-take_entry.field-0 (entered.Opened o.frame o.progress o.own) o.is answer.found answer.plain answer.shows) c.take_on.ensures.course;
+          c.advance-in-Opened.new.self c.push.new.self c.take_on.new.stack c.advance-in-Opened.ensures.advanced c.push.ensures.pushed
+          (entered_ok u x c.args.owner t c.level_type.result c.level_type.ensures c.in_ok-take_entry.field-0 (entered.Opened o.frame o.progress o.own) o.is answer.found answer.plain answer.shows) c.take_on.ensures.course;
     }
 
 pub returns-in-Unsettled : goal.returns-in-Unsettled
@@ -243,11 +242,11 @@ returns-in-Unsettled g c =
       progress = search rules;
       less = search rules;
       serves = subst (λ xs. CarriesOn u x owner stack xs (missed u.post.machine c.in-Unsettled.stop)) (sym c.advance-in-Unsettled.ensures.advanced)
-    (goes_waiting u x owner stack (advanced stack) c.in-Unsettled.stop shows.1 (goes_advanced u x owner stack stack [] (goes_entries u x owner stack [] c.in_ok-take_entry.ensures.serves)));
+          (goes_waiting u x owner stack (advanced stack) c.in-Unsettled.stop shows.1 (goes_advanced u x owner stack stack [] (goes_entries u x owner stack [] c.in_ok-take_entry.ensures.serves)));
       stops = let shows = λ (pages : ℕ). subst (λ r. ShowsEntered u x owner pages c.level_type.result r) c.in-Unsettled.is (c.in_ok-take_entry.ensures.shows pages) in
           stops_entries u x owner c.args.stack.now c.in-Unsettled.stop (λ pages. (shows pages).2);
       course = unsettled_next c.args.owner u t (drop 1 c.args.stack.now) c.args.stack.now c.in-Some.ensures.some c.requires.left x c.advance-in-Unsettled.new.self e c.advance-in-Unsettled.ensures.advanced
-    (entered_ok u x c.args.owner t c.level_type.result c.level_type.ensures c.in_ok-take_entry.field-0 (entered.Unsettled e) c.in-Unsettled.is answer.found answer.plain answer.shows);
+          (entered_ok u x c.args.owner t c.level_type.result c.level_type.ensures c.in_ok-take_entry.field-0 (entered.Unsettled e) c.in-Unsettled.is answer.found answer.plain answer.shows);
     }
 
 -- ---- its part of the course

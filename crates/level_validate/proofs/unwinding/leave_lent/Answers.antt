@@ -8,7 +8,6 @@ use Rattle.level_validate.proofs.Serving.{piece_around, piece_back, piece_left, 
 use Rattle.level_validate.proofs.LeavingLent.{lent_puts, lent_stands}
 use Rattle.frame_words.specs.Freeing.{PutBy}
 use Rattle.level_validate.proofs.Forward.{forward_by, forward_step, forward_then}
-use Rattle.level_validate.proofs.Onward.{put_onward}
 use Rattle.level_validate.proofs.LeftWell.{put_plain, well_by, well_then}
 use Rattle.level_validate.proofs.Unkept.{unkept_well}
 use Rattle.level_validate.proofs.unwinding.leave_lent.Goals as goal
@@ -32,9 +31,9 @@ returns g c =
     let f = c.args.table.frame in
     record {
       came = came_trans w d x (moves_came w d _ _ _ _ c.leave_partial.result c.leave_partial.ensures.moves) (serves_came d x (of_back c.args.table.frame) [] c.put_ref.ensures.serves);
-      forward = forward_then w d x (forward_step w d _ _ _ _ c.leave_partial.result refl refl c.leave_partial.ensures.moves) (forward_by d x (PutBy f) (λ vs puts. put_onward f vs puts) c.put_ref.ensures.puts);
+      forward = forward_then w d x (forward_step w d _ _ _ _ c.leave_partial.result refl refl c.leave_partial.ensures.moves) (forward_by d x (PutBy f) (λ vs puts. put_plain f vs puts) c.put_ref.ensures.puts);
       leaves = λ e. well_then w d x false e (unkept_well b.2.0 w b.0 t d c.leave_partial.result b.1 false e b.2.1 c.leave_partial.ensures.moves)
-    (well_by d x false e (PutBy t.frame) (λ vs puts. put_plain t.frame vs puts) c.put_ref.ensures.puts);
+          (well_by d x false e (PutBy t.frame) (λ vs puts. put_plain t.frame vs puts) c.put_ref.ensures.puts);
       stands = λ owner ts v s. lent_stands v w owner c.args.table ts s c.requires.lent d c.leave_partial.result c.leave_partial.ensures.moves c.leave_partial.ensures.hand x c.put_ref.ensures.hand came c.args.table.recorded refl;
       serves = λ owner ts u r ds a. let left = piece_left b.2.0 w b.0 t b.1 b.2.1 _ spelled refl d c.leave_partial.result c.leave_partial.ensures.moves u r owner ts ds a in
           piece_around t.recorded u x r owner ts ds (piece_rest u x r owner t ts ds (piece_back u d x r owner t ts ds left c.put_ref.ensures.serves));
