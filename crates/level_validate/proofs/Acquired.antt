@@ -41,7 +41,7 @@ unfolding times_by
 no_typed f ys none = ap (λ zs. typed_to f zs) none
 
 -- ---- from an idle port one table came into work
-module _ (v x : PortValue) (owner : ℕ) (t : TableWork) (idle : IsIdle v) (e : Work) (rs : List Reference) (ys : List TypedReference) (hand : FlushedHolds v x (record v.holdings { refs = rs; typed = ys; works = e ∷ v.holdings.works })) where
+module _ {v : PortValue} (x : PortValue) (owner : ℕ) (t : TableWork) (idle : IsIdle v) (e : Work) (rs : List Reference) (ys : List TypedReference) (hand : FlushedHolds v x (record v.holdings { refs = rs; typed = ys; works = e ∷ v.holdings.works })) where
   pub works_one : x.holdings.works ≡ e ∷ []
   works_one = ap (λ (q : PortValue). q.holdings.works) hand ∙ ap (λ (ws : List Work). e ∷ ws) idle.works
 
@@ -57,7 +57,7 @@ module _ (v x : PortValue) (owner : ℕ) (t : TableWork) (idle : IsIdle v) (e : 
       }
 
 -- ---- behind its reference
-module _ (v b : PortValue) (f owner : ℕ) (idle : IsIdle v) (referred : Holds v b (took f owner v.holdings)) where
+module _ {v : PortValue} (b : PortValue) (f owner : ℕ) (idle : IsIdle v) (referred : Holds v b (took f owner v.holdings)) where
   abbrev lent_ref : Reference
   lent_ref = record { frame = f; owner = owners.Of owner }
 
@@ -114,17 +114,17 @@ module _ (v b : PortValue) (f owner : ℕ) (idle : IsIdle v) (referred : Holds v
       taken_carries : (own : Bool) → WorksFrom b x f owner (level_type level) progress own → Carries v x owner (taken_table f level progress own ∷ [])
       taken_carries true o =
           let t = taken_table f level progress true in
-          carries_one v x owner t idle o.work v.holdings.refs (working_typed f owner (level_type level) o.works.since ∷ v.holdings.typed) (own_hand o.work o.works.since (level_type level) o.works.hand) (is_table true) (is_work true o) o.recorded refl
+          carries_one x owner t idle o.work v.holdings.refs (working_typed f owner (level_type level) o.works.since ∷ v.holdings.typed) (own_hand o.work o.works.since (level_type level) o.works.hand) (is_table true) (is_work true o) o.recorded refl
           (o.works.since, o.works.taken, v.holdings.typed, refl, idle.typed)
       taken_carries false o =
           let t = taken_table f level progress false in
-          carries_one v x owner t idle o.work (lent_ref ∷ v.holdings.refs) v.holdings.typed (lent_hand o.work o.works.since (level_type level) o.works.hand) (is_table false) (is_work false o) o.recorded refl
+          carries_one x owner t idle o.work (lent_ref ∷ v.holdings.refs) v.holdings.typed (lent_hand o.work o.works.since (level_type level) o.works.hand) (is_table false) (is_work false o) o.recorded refl
           (no_typed f v.holdings.typed idle.typed, idle.typed)
 
     -- nothing of it is recorded
     works_taken : (own : Bool) (want : PageType) (progress : ℕ) (o : WorksFrom b x f owner want progress own) → x.holdings.works ≡ o.work ∷ []
-    works_taken true want progress o = works_one v x owner (taken_table f 0 0 true) idle o.work v.holdings.refs (working_typed f owner want o.works.since ∷ v.holdings.typed) (own_hand o.work o.works.since want o.works.hand)
-    works_taken false want progress o = works_one v x owner (taken_table f 0 0 false) idle o.work (lent_ref ∷ v.holdings.refs) v.holdings.typed (lent_hand o.work o.works.since want o.works.hand)
+    works_taken true want progress o = works_one x owner (taken_table f 0 0 true) idle o.work v.holdings.refs (working_typed f owner want o.works.since ∷ v.holdings.typed) (own_hand o.work o.works.since want o.works.hand)
+    works_taken false want progress o = works_one x owner (taken_table f 0 0 false) idle o.work (lent_ref ∷ v.holdings.refs) v.holdings.typed (lent_hand o.work o.works.since want o.works.hand)
 
     pub taken_ready : (own : Bool) (want : PageType) (progress : ℕ) → WorksFrom b x f owner want progress own → progress ≡ 0 → IsTopReady x
     taken_ready own want progress o zero = ready_by x o.work [] (works_taken own want progress o) (none_unsettled (sizes_of x.post.machine) x.holdings o.work (o.settled zero))
@@ -132,7 +132,7 @@ module _ (v b : PortValue) (f owner : ℕ) (idle : IsIdle v) (referred : Holds v
 pub carries_taken : (v b x : PortValue) (f owner level progress : ℕ) (own : Bool) (want : PageType) → IsIdle v → Holds v b (took f owner v.holdings) → want ≡ level_type level → 1 ≤ level → level ≤ 4 → f < v.post.machine.frames →
     WorksFrom b x f owner want progress own → TakesFound b x f owner want (Ok (InWork progress own)) → Carries v x owner (taken_table f level progress own ∷ [])
 carries_taken v b x f owner level progress own want idle referred is low high inside o found =
-    taken_carries v b f owner idle referred x level progress (taken_open b x f owner want progress own found).few low high inside own (subst (λ k. WorksFrom b x f owner k progress own) is o)
+    taken_carries b f owner idle referred x level progress (taken_open b x f owner want progress own found).few low high inside own (subst (λ k. WorksFrom b x f owner k progress own) is o)
 
 -- ---- by the answer
 unwound_named : (g level progress : ℕ) (own kept : Bool) (h : Holdings) → named_unless kept (taken_table g level progress own) h ≡ named_if g own kept h

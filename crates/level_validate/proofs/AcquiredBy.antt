@@ -33,7 +33,7 @@ module _ (v : PortValue) (f owner level : ℕ) (says : ℕ → Bool) (before ris
       subst (λ (r : Result ℕ Stop). AcquiresBy v w f owner level says before before risen risen r) (sym is)
       (unasked w (Err e) (entry_undue e (ref_kinds e kind)) (Acquired.unreferred w e (record { found = gets; plain = plain; stops = stops })))
 
-  module _ (u : PortValue) (g : ℕ) (same : g ≡ f) (gets : Gets v u f owner (Ok g)) (get : TwinGet v u f owner (Ok g)) (x : PortValue) (k : PageType) (is : k ≡ level_type level) where
+  module _ (u : PortValue) {g : ℕ} (same : g ≡ f) (gets : Gets v u f owner (Ok g)) (get : TwinGet v u f owner (Ok g)) (x : PortValue) {k : PageType} (is : k ≡ level_type level) where
     got : GotRef v u f owner (Ok f)
     got = record { found = subst (λ (n : ℕ). Gets v u f owner (Ok n)) same gets; plain = subst (λ (n : ℕ). TwinGet v u f owner (Ok n)) same get; stops = tt }
 
@@ -77,7 +77,7 @@ module _ (v : PortValue) (f owner level : ℕ) (says : ℕ → Bool) (before ris
           (Acquired.waiting u x w own stamp e got (took (types.Waiting own stamp e) so) (subst (λ (c : Bool). WaitingLeft x w f level owner stamp own c) keeps (subst (λ (n : ℕ). WaitingLeft x w n level owner stamp own kept) same left)))
 
       -- ---- it is in work
-      module _ (progress : ℕ) (own : Bool) (so : b ≡ types.InWork progress own) (w : PortValue) (after more : ℕ) where
+      module _ {progress : ℕ} {own : Bool} (so : b ≡ types.InWork progress own) (w : PortValue) (after more : ℕ) where
         pub finished_by : Consults says before after risen more false (λ answers. ValidatesBy owner x (outermost_table g level progress own) w answers (Ok tt)) → AcquiresBy v w f owner level says before after risen more (Ok g)
         finished_by c =
             let p : ValidatesBy owner x (outermost_table f level progress own) w c.answers (Ok tt) = subst (λ (n : ℕ). ValidatesBy owner x (outermost_table n level progress own) w c.answers (Ok tt)) same c.course in

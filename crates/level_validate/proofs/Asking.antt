@@ -31,7 +31,7 @@ use Rattle.level_validate.proofs.Serving.{asked_advanced, goes_then, piece_later
 use Rattle.level_validate.proofs.Standing.{apart_first}
 
 -- ---- behind a piece, a call on the entries of the tables in the own works
-module _ (u v w : PortValue) (r : Request) (owner : ℕ) (ts : List TableWork) (ds : List Deed) (a : IsPiece u v r owner ts ds) where
+module _ {u v : PortValue} (w : PortValue) {r : Request} {owner : ℕ} {ts : List TableWork} {ds : List Deed} (a : IsPiece u v r owner ts ds) where
   entries_in : Within u.post.machine u.post.vcpu (of_entries owner r.pages_of) (Met v w) r (Met u w)
   entries_in = within_entries u.post.machine u.post.vcpu owner r (Met v w) (Met u w) (λ m x. met_after u v w m (serves_came u v r ds a.serves) x) a.entries a.whose
 
@@ -52,7 +52,7 @@ module _ (u v w : PortValue) (r : Request) (owner : ℕ) (ts : List TableWork) (
 module _ (v w : PortValue) (owner : ℕ) (ts : List TableWork) where
   pub goes_entries : (es : List Deed) → ((pages : ℕ) → Serves v w (of_entries owner pages) es) → CarriesOn v w owner ts ts es
   unfolding CarriesOn
-  goes_entries es serves u r ds a = piece_entries u v w r owner ts ds a es (serves r.pages_of)
+  goes_entries es serves u r ds a = piece_entries w a es (serves r.pages_of)
 
   -- one entry more of the innermost table is done with
   pub goes_advanced : (us : List TableWork) (es : List Deed) → CarriesOn v w owner ts us es → CarriesOn v w owner ts (advanced us) es
@@ -71,13 +71,13 @@ module _ (v w : PortValue) (owner : ℕ) (ts : List TableWork) where
   -- ---- a frame that the entry asks for the type below
   module _ (k : PageType) (g : ℕ) (serves : (pages : ℕ) → Serves v w (of_entries owner pages) []) (asks : (pages : ℕ) → AsksBelow v w owner pages k g) where
     asked_below : (u : PortValue) (r : Request) (ds : List Deed) → IsPiece u v r owner ts ds → Asked u.post.machine u.post.vcpu r (Met u w) g owner (Some (below k))
-    asked_below u r ds a = entries_ask u v w r owner ts ds a k g (asks r.pages_of)
+    asked_below u r ds a = entries_ask w a k g (asks r.pages_of)
 
     -- it is a table that comes into work
     pub goes_opened : (t : TableWork) → t.frame ≡ g → below k ≡ level_type t.level → CarriesOn v w owner ts (t ∷ ts) []
     unfolding CarriesOn
     goes_opened t frame type u r ds a =
-        let b = piece_entries u v w r owner ts ds a [] (serves r.pages_of) in
+        let b = piece_entries w a [] (serves r.pages_of) in
         let n = u.post.machine in
         let s = u.post.vcpu in
         record {
@@ -95,7 +95,7 @@ module _ (v w : PortValue) (owner : ℕ) (ts : List TableWork) where
     pub goes_back : (x : PortValue) → Serves w x (of_back g) [] → CarriesOn v x owner ts ts []
     unfolding CarriesOn
     goes_back x put u r ds a =
-        let b = piece_entries u v w r owner ts ds a [] (serves r.pages_of) in
+        let b = piece_entries w a [] (serves r.pages_of) in
         let came = serves_came w x (of_back g) [] put in
         let n = u.post.machine in
         let s = u.post.vcpu in
@@ -107,7 +107,7 @@ module _ (v w : PortValue) (owner : ℕ) (ts : List TableWork) where
     unfolding CarriesOn
     goes_left x types u r ds a =
         let left = types w owner [] (serves_nothing w (of_frame g owner (Some (below k)))) in
-        let b = piece_entries u v w r owner ts ds a [] (serves r.pages_of) in
+        let b = piece_entries w a [] (serves r.pages_of) in
         let came = serves_came w x (of_frame g owner (Some (below k))) [] left in
         piece_later u w x r owner ts ds ds b came (serves_call u w x r ds [] b.serves g owner (Some (below k)) (asked_below u r ds a) came left)
 
@@ -140,7 +140,7 @@ carries_more u v owner ts r s entries f =
 module _ (v w : PortValue) (owner : ℕ) (ts : List TableWork) (e : Stop) where
   pub stops_entries : ((pages : ℕ) → Stops v w (of_entries owner pages) e) → StopsIn v w owner ts e
   unfolding StopsIn
-  stops_entries stops u r ds s a = entries_stop u v w r owner ts ds a e (carries_more u v owner ts r s a.entries) (stops r.pages_of)
+  stops_entries stops u r ds s a = entries_stop w a e (carries_more u v owner ts r s a.entries) (stops r.pages_of)
 
   -- more steps behind
   pub stops_on : (x : PortValue) → Came w x → StopsIn v w owner ts e → StopsIn v x owner ts e

@@ -36,46 +36,46 @@ use Rattle.table_words.proofs.Shedding.{none_unsettled}
 pub back_one : (n : ℕ) → (n ≡ 0 → ⊥) → n - 1 + 1 ≡ n
 back_one n some = omega (arith, some)
 
-module _ (v u w : PortValue) (owner : ℕ) (t : TableWork) (ts : List TableWork) (s : Carries v u owner (t ∷ ts)) (came : Came u w) (first : FirstFound u) where
+module _ {v u : PortValue} (w : PortValue) {owner : ℕ} {t : TableWork} {ts : List TableWork} (s : Carries v u owner (t ∷ ts)) (came : Came u w) (first : FirstFound u) where
   -- ---- looked at alone
   pub after_look : (i : ℕ) → LookedAnd u w t.frame i as_it_was → Carries v w owner (t ∷ ts)
-  after_look i l = looked_stands v u w owner t ts s came first i l.0 (looked_only v u w owner t ts s came first i l.0 l.1)
+  after_look i l = looked_stands w s came first i l.0 (looked_only w s came first i l.0 l.1)
 
   pub after_settled : (i : ℕ) → LookedAnd u w t.frame i as_it_was → IsSettledNow w t.frame → IsTopReady w
   after_settled i l now =
-      let x = seen v u w owner t ts s came first i l.0 in
-      let xs = es v u w owner t ts s came first i l.0 in
-      let are : w.holdings.works ≡ x ∷ xs = ap (λ (q : PortValue). q.holdings.works) (looked_only v u w owner t ts s came first i l.0 l.1) in
-      ready_by w x xs are (now x (work_here t.frame x xs w.holdings.works (seen_table v u w owner t ts s came first i l.0).frame are))
+      let x = seen w s came first i l.0 in
+      let xs = es w s came first i l.0 in
+      let are : w.holdings.works ≡ x ∷ xs = ap (λ (q : PortValue). q.holdings.works) (looked_only w s came first i l.0 l.1) in
+      ready_by w x xs are (now x (work_here t.frame x xs w.holdings.works (seen_table w s came first i l.0).frame are))
 
   -- ---- recorded
   pub after_record : (r : Option Unsettled) → 0 < 512 - t.done → LookedAnd u w t.frame t.done (λ word h. with_recorded t.frame (t.done + 1) r h) → Carries v w owner (record t { done = t.done + 1 } ∷ ts)
-  after_record r left l = recorded_stands v u w owner t ts s came first t.done l.0 r refl left (recorded_hand v u w owner t ts s came first t.done l.0 r l.1)
+  after_record r left l = recorded_stands w s came first t.done l.0 r refl left (recorded_hand w s came first t.done l.0 r l.1)
 
   pub after_record_ready : LookedAnd u w t.frame t.done (λ word h. with_recorded t.frame (t.done + 1) None h) → IsTopReady w
   unfolding next
   after_record_ready l =
-      let x = next v u w owner t ts s came first t.done l.0 None in
-      let xs = es v u w owner t ts s came first t.done l.0 in
-      ready_by w x xs (ap (λ (q : PortValue). q.holdings.works) (recorded_hand v u w owner t ts s came first t.done l.0 None l.1)) (none_unsettled (sizes_of w.post.machine) w.holdings x (none_next l.0))
+      let x = next w s came first t.done l.0 None in
+      let xs = es w s came first t.done l.0 in
+      ready_by w x xs (ap (λ (q : PortValue). q.holdings.works) (recorded_hand w s came first t.done l.0 None l.1)) (none_unsettled (sizes_of w.post.machine) w.holdings x (none_next l.0))
     where
-      none_next : (word : ℕ) → (next v u w owner t ts s came first t.done word None).unsettled ≡ None
+      none_next : (word : ℕ) → (next w s came first t.done word None).unsettled ≡ None
       none_next word = refl
 
   -- ---- another table came into work
   pub after_next : (g progress : ℕ) (own : Bool) → t.done < 512 → IsTopReady u → CameOpen u g (below (level_type t.level)) progress → Opens u w t.frame t.done (level_type t.level) g owner progress own false →
       Carries v w owner (pushed t g progress own false ∷ record t { done = t.done + 1 } ∷ ts)
   after_next g progress true left ready c o =
-      pushed_own v u w owner t ts s came first t.done o.word g progress (t.done + 1) false o.work c (omega (arith, left)) o.frame o.in_work o.kind o.flushed o.recorded refl o.since o.taken
-      (reach_next v u w owner t ts s came first t.done o.word g progress true refl ready o.asks) o.hand
+      pushed_own w s came first t.done o.word (t.done + 1) false o.work c (omega (arith, left)) o.frame o.in_work o.kind o.flushed o.recorded refl o.since o.taken
+      (reach_next w s came first t.done o.word g progress true refl ready o.asks) o.hand
   after_next g progress false left ready c o =
-      pushed_lent v u w owner t ts s came first t.done o.word g progress (t.done + 1) false o.work c (omega (arith, left)) o.frame o.in_work o.kind o.flushed o.recorded o.since o.aside
-      (reach_next v u w owner t ts s came first t.done o.word g progress false refl ready o.asks) o.hand
+      pushed_lent w s came first t.done o.word (t.done + 1) false o.work c (omega (arith, left)) o.frame o.in_work o.kind o.flushed o.recorded o.since o.aside
+      (reach_next w s came first t.done o.word g progress false refl ready o.asks) o.hand
 
   pub after_again : (i g progress : ℕ) → i + 1 ≡ t.done → CameOpen u g (below (level_type t.level)) progress → Opens u w t.frame i (level_type t.level) g owner progress false false → Carries v w owner (pushed t g progress false true ∷ t ∷ ts)
   after_again i g progress at c o =
-      pushed_lent v u w owner t ts s came first i o.word g progress t.done true o.work c s.stack.0.done o.frame o.in_work o.kind o.flushed o.recorded o.since o.aside
-      (reach_again v u w owner t ts s came first i o.word g progress false at o.asks) o.hand
+      pushed_lent w s came first i o.word t.done true o.work c s.stack.0.done o.frame o.in_work o.kind o.flushed o.recorded o.since o.aside
+      (reach_again w s came first i o.word g progress false at o.asks) o.hand
 
 -- none of the new table is recorded: it is ready
 works_opened : (b : Bool) (u w : PortValue) (f i : ℕ) (k : PageType) (g owner progress : ℕ) → (o : Opens u w f i k g owner progress b false) → (xs : List Work) × (w.holdings.works ≡ o.work ∷ xs)
@@ -88,21 +88,21 @@ fresh_ready u w f i k g owner progress own o zero =
     ready_by w o.work xs.0 xs.1 (none_unsettled (sizes_of w.post.machine) w.holdings o.work (o.settled zero))
 
 -- ---- it was live: one typed reference more
-module _ (v u x : PortValue) (owner : ℕ) (t : TableWork) (ts : List TableWork) (s : Carries v u owner (t ∷ ts)) (came : Came u x) (first : FirstFound u) (i g : ℕ) (at : i + 1 ≡ t.done) (k : TakesAgain u x t.frame i (level_type t.level) g owner) where
+module _ {v u x : PortValue} {owner : ℕ} {t : TableWork} {ts : List TableWork} (s : Carries v u owner (t ∷ ts)) (came : Came u x) (first : FirstFound u) {i g : ℕ} (at : i + 1 ≡ t.done) (k : TakesAgain u x t.frame i (level_type t.level) g owner) where
   abbrev more : TypedReference
   more = live_typed g (below (level_type t.level)) (owners.Of owner)
 
   top_seen : Work
-  top_seen = seen v u x owner t ts s came first i k.word
+  top_seen = seen x s came first i k.word
 
   top_others : List Work
-  top_others = es v u x owner t ts s came first i k.word
+  top_others = es x s came first i k.word
 
   taken_hand : FlushedHolds u x (record u.holdings { typed = more ∷ u.holdings.typed; works = top_seen ∷ top_others })
   unfolding top_seen top_others
   taken_hand =
       k.hand
-      ∙ ap (λ h. quiet (record u { holdings = record h { refs = without_ref g (record { frame = g; owner = owners.Of owner } ∷ u.holdings.refs); typed = more ∷ u.holdings.typed } })) (looked_hand v u x owner t ts s came first i k.word)
+      ∙ ap (λ h. quiet (record u { holdings = record h { refs = without_ref g (record { frame = g; owner = owners.Of owner } ∷ u.holdings.refs); typed = more ∷ u.holdings.typed } })) (looked_hand x s came first i k.word)
       ∙ ap (λ rs. quiet (record u { holdings = record u.holdings { refs = rs; typed = more ∷ u.holdings.typed; works = top_seen ∷ top_others } }))
       (without_newest (λ (y : Reference). y.frame) g (record { frame = g; owner = owners.Of owner }) u.holdings.refs _ refl refl)
 
@@ -115,13 +115,13 @@ module _ (v u x : PortValue) (owner : ℕ) (t : TableWork) (ts : List TableWork)
   pub taken_gives : MayGiveBack x.post.machine x.post.vcpu g x.holdings
   unfolding top_seen top_others
   taken_gives =
-      let is = seen_table v u x owner t ts s came first i k.word in
+      let is = seen_table x s came first i k.word in
       let are : x.holdings.works ≡ top_seen ∷ top_others = ap (λ (q : PortValue). q.holdings.works) taken_hand in
-      let all = seen_recorded v u x owner t ts s came first i k.word in
+      let all = seen_recorded x s came first i k.word in
       record {
         drops = record { in_hand = in_hand; kind = below (level_type t.level); live = known_first (sizes_of x.post.machine) g (below (level_type t.level)) (owners.Of owner) u.holdings.typed x.holdings typed_are };
-        shared = shared_by x.post.machine x.post.vcpu x.holdings t.frame top_seen (work_here t.frame top_seen top_others x.holdings.works is.frame are) (ap is_table is.kind ∙ level_type-table t.level s.stack.0.low) i k.word
-            (omega (arith, all, at)) (seen_word v u x owner t ts s came first i k.word) g (below (level_type t.level)) (ap (λ y. demand_at y i k.word) is.kind ∙ k.asks) in_hand;
+        shared = shared_by x.post.machine x.post.vcpu x.holdings t.frame (work_here t.frame top_seen top_others x.holdings.works is.frame are) (ap is_table is.kind ∙ level_type-table t.level s.stack.0.low) i k.word
+            (omega (arith, all, at)) (seen_word x s came first i k.word) (ap (λ y. demand_at y i k.word) is.kind ∙ k.asks) in_hand;
       }
 
   module _ (w : PortValue) (gives : Holds x w (gave_type g x.holdings)) (on : Came x w) where
@@ -132,12 +132,12 @@ module _ (v u x : PortValue) (owner : ℕ) (t : TableWork) (ts : List TableWork)
 
     pub taken_stands : Carries v w owner (t ∷ ts)
     unfolding top_seen top_others seen e es
-    taken_stands = looked_stands v u w owner t ts s (came_trans u x w came on) first i k.word given_hand
+    taken_stands = looked_stands w s (came_trans u x w came on) first i k.word given_hand
 
     pub taken_ready : IsSettledNow x t.frame → IsTopReady w
     unfolding top_seen top_others
     taken_ready now =
-        let is = seen_table v u x owner t ts s came first i k.word in
+        let is = seen_table x s came first i k.word in
         let are : x.holdings.works ≡ top_seen ∷ top_others = ap (λ (q : PortValue). q.holdings.works) taken_hand in
         ready_by w top_seen top_others (ap (λ (q : PortValue). q.holdings.works) given_hand)
         (subst (λ (p : Post). IsTrue (is_settled (sizes_of p.machine) w.holdings top_seen)) (sym (came_post x w on))

@@ -15,7 +15,7 @@ use Rattle.table_entries.specs.declared.entries.Entered.TheVariants as entered
 use Rattle.table_courses.specs.Acquiring.{Advanced, TookEntry, TookOn, one_entry_more, table_opened}
 
 -- ---- the call that takes it, for the type of the table's level
-module _ (v w : PortValue) (owner : ℕ) (t : TableWork) (k : PageType) (is : k ≡ level_type t.level) where
+module _ (v w : PortValue) (owner : ℕ) (t : TableWork) {k : PageType} (is : k ≡ level_type t.level) where
   pub entered_ok : (b a : Entered) → b ≡ a → EntersFound v w t.frame t.done k owner (Ok b) → TwinEntry v w t.frame k t.done owner (Ok b) → ((pages : ℕ) → ShowsEntered v w owner pages k b) → TookEntry v w owner t (Ok a)
   entered_ok b a same found plain shows =
       record {
@@ -35,7 +35,7 @@ module _ (v w : PortValue) (owner : ℕ) (t : TableWork) (k : PageType) (is : k 
       }
 
 -- ---- from a stack of which that table is the top
-module _ (owner : ℕ) (v : PortValue) (t : TableWork) (ts stack : List TableWork) (top : stack ≡ t ∷ ts) (left : 0 < left_on_top stack) where
+module _ (owner : ℕ) (v : PortValue) {t : TableWork} {ts stack : List TableWork} (top : stack ≡ t ∷ ts) (left : 0 < left_on_top stack) where
   room : t.done < 512
   room =
       let l : 0 < 512 - t.done = subst (λ (xs : List TableWork). 0 < left_on_top xs) top left in

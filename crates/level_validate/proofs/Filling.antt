@@ -28,7 +28,7 @@ pub record Filling (u w : PortValue) (owner : ℕ) (ts us : List TableWork) : Ty
   pub ready : IsTopReady w
   pub serves : CarriesOn u w owner ts us []
 
-module _ (u x : PortValue) (owner : ℕ) (ts us : List TableWork) (f : Filling u x owner ts us) where
+module _ {u x : PortValue} {owner : ℕ} {ts us : List TableWork} (f : Filling u x owner ts us) where
   pub filling_may : IsStanding u owner ts → MayWork u → MayWork x
   filling_may s may = may_stands s.0 x owner us (f.stands s.0 s.1) (may_back s.0 u owner ts s.1 may)
 
@@ -53,10 +53,10 @@ module _ (u x : PortValue) (owner : ℕ) (ts us : List TableWork) (f : Filling u
 pub filling_on : (u x w : PortValue) (owner : ℕ) (ts us rs : List TableWork) → Filling u x owner ts us → Came x w → Forward x w → ((f : ℕ) → LeftWell x w false f) → StandsOn x w owner us rs → outermost_work rs ≡ outermost_work us → IsTopReady w → CarriesOn x w owner us rs [] → Filling u w owner ts rs
 filling_on u x w owner ts us rs f came forward leaves stands outer ready serves =
     record {
-      came = filling_came u x owner ts us f w rs came;
+      came = filling_came f w rs came;
       forward = forward_then u x w f.forward forward;
       leaves = λ g. well_then u x w false g (f.leaves g) (leaves g);
-      stands = filling_stands u x owner ts us f w rs stands;
+      stands = filling_stands f w rs stands;
       outer = outer ∙ f.outer;
       ready = ready;
       serves = goes_then u x w owner ts us rs [] [] f.serves serves;

@@ -33,7 +33,7 @@ kept_forward v w f k owner (taken u x life found off left look some back other) 
     forward_then v u w (left_forward v u f k left) (forward_then u x w (forward_step u x (Life owner) Load kinds.Look None life refl refl look) (back_forward x w f k found back))
 
 -- ---- well
-module _ (f : ℕ) (k : KindWord) (is : IsTrue (is_kind k)) (live : is_dead k ≡ false) (kept : Bool) (on : kept ≡ true) where
+module _ (f : ℕ) (k : KindWord) (is : IsTrue (is_kind k)) (live : is_dead k ≡ false) {kept : Bool} (on : kept ≡ true) where
   left_well : (v u : PortValue) → LeftSo v u f k → LeftWell v u kept f
   left_well v u left =
       well_store v u kept f f k kinds.Kind None left.0 is (λ mark. inr (on, refl)) (λ dead. let no : true ≡ false = sym dead ∙ live in absurd cc) left.1

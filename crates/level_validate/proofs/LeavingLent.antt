@@ -77,10 +77,9 @@ under_some z steps t (u ∷ us) [] new some are = absurd are
 under_some z steps t (u ∷ us) (e ∷ es) new some are = let next = (reaches_under z steps u e t (Some t) refl new are.1).next in omega (arith, next)
 
 pub retreat_some : (v w : PortValue) (owner : ℕ) (t : TableWork) (ts : List TableWork) → Carries v w owner (t ∷ ts) → t.recorded ≡ false → ts ≢ [] → 0 < done_on_top ts
-retreat_some v w owner t ts s new some = let e = top v w owner t ts s in under_some (sizes_of v.post.machine) w.holdings.steps t ts e.others new some e.around
+retreat_some v w owner t ts s new some = let e = top s in under_some (sizes_of v.post.machine) w.holdings.steps t ts e.others new some e.around
 
-module _ (v w : PortValue) (owner : ℕ) (t : TableWork) (ts : List TableWork) (s : Carries v w owner (t ∷ ts)) (lent : t.own ≡ false) (d : PortValue) (found : ℕ)
-    (store : Moves w d (Kind t.frame) (Store (kind_write (partial_kind (level_type t.level) false false t.done 0))) kinds.Kind None found) (hand : Holds w d (left_so t.frame w.holdings)) where
+module _ {v w : PortValue} {owner : ℕ} {t : TableWork} {ts : List TableWork} (s : Carries v w owner (t ∷ ts)) (lent : t.own ≡ false) {d : PortValue} {found : ℕ} (store : Moves w d (Kind t.frame) (Store (kind_write (partial_kind (level_type t.level) false false t.done 0))) kinds.Kind None found) (hand : Holds w d (left_so t.frame w.holdings)) where
   abbrev lent_ref : Reference
   lent_ref = record { frame = t.frame; owner = owners.Of owner }
 
@@ -95,16 +94,16 @@ module _ (v w : PortValue) (owner : ℕ) (t : TableWork) (ts : List TableWork) (
       }
 
   module _ (x : PortValue) (put : Holds d x (gave t.frame d.holdings)) (came : Came w x) where
-    pub lent_gone : FlushedHolds w x (record w.holdings { refs = refs_for owner ts v.holdings.refs; typed = w.holdings.typed; works = (top v w owner t ts s).others })
+    pub lent_gone : FlushedHolds w x (record w.holdings { refs = refs_for owner ts v.holdings.refs; typed = w.holdings.typed; works = (top s).others })
     lent_gone =
         ap quiet put ∙ ap (λ (q : PortValue). quiet (record q { holdings = gave t.frame q.holdings })) hand
         ∙ ap (λ rs. quiet (record w { holdings = record w.holdings { refs = rs; works = without_work t.frame w.holdings.works } })) (without_newest (λ (y : Reference). y.frame) t.frame lent_ref (refs_for owner ts v.holdings.refs) w.holdings.refs refl refs_were)
-        ∙ ap (λ ws. quiet (record w { holdings = record w.holdings { refs = refs_for owner ts v.holdings.refs; works = ws } })) (top_gone v w owner t ts s)
+        ∙ ap (λ ws. quiet (record w { holdings = record w.holdings { refs = refs_for owner ts v.holdings.refs; works = ws } })) (top_gone s)
 
     pub lent_stands : (b : Bool) → t.recorded ≡ b → Carries v x owner (around_lent b ts)
     lent_stands b is =
         let longer = came_longer w x came in
-        stands_by v w x owner (t ∷ ts) (around_lent b ts) (refs_for owner ts v.holdings.refs) w.holdings.typed (top v w owner t ts s).others s lent_gone (stack_around b ts s.stack.2)
-        (around_by b (sizes_of v.post.machine) w.holdings x.holdings t ts (top v w owner t ts s).others (came_grows w x came) longer is (top v w owner t ts s).around)
+        stands_by v w x owner (t ∷ ts) (around_lent b ts) (refs_for owner ts v.holdings.refs) w.holdings.typed (top s).others s lent_gone (stack_around b ts s.stack.2)
+        (around_by b (sizes_of v.post.machine) w.holdings x.holdings t ts (top s).others (came_grows w x came) longer is (top s).around)
         (refs_around b owner ts v.holdings.refs)
         (typed_around b (length x.holdings.steps) owner ts w.holdings.typed (typed_later (length w.holdings.steps) (length x.holdings.steps) owner ts w.holdings.typed longer (typed_lent (length w.holdings.steps) owner t ts w.holdings.typed lent s.typed).1))

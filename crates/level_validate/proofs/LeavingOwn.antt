@@ -40,9 +40,9 @@ use Rattle.level_validate.specs.Unwinding.{left_so}
 use Rattle.level_validate.proofs.LeavingTables.{UnderWay, reaches_under, top, top_gone, top_spelled, top_typed}
 use Rattle.level_validate.proofs.StandsFacts.{TopTable, TopTyped, refs_own, stands_by, stands_post, tables_later, tables_top, top_known, typed_later}
 
-module _ (v w : PortValue) (owner : ℕ) (t : TableWork) (ts : List TableWork) (s : Carries v w owner (t ∷ ts)) (own : t.own ≡ true) where
+module _ {v w : PortValue} {owner : ℕ} {t : TableWork} {ts : List TableWork} (s : Carries v w owner (t ∷ ts)) (own : t.own ≡ true) where
   abbrev own_typed : TopTyped (length w.holdings.steps) owner t ts w.holdings.typed
-  own_typed = top_typed v w owner t ts s own
+  own_typed = top_typed s own
 
   abbrev own_ref : TypedReference
   own_ref = working_typed t.frame owner (level_type t.level) own_typed.since
@@ -55,26 +55,25 @@ module _ (v w : PortValue) (owner : ℕ) (t : TableWork) (ts : List TableWork) (
   own_new = not_recorded t.recorded refl
     where
       not_recorded : (b : Bool) → t.recorded ≡ b → t.recorded ≡ false
-      not_recorded true old = let no : true ≡ false = sym own ∙ (top v w owner t ts s).is.lent old in absurd cc
+      not_recorded true old = let no : true ≡ false = sym own ∙ (top s).is.lent old in absurd cc
       not_recorded false new = new
 
   pub typed_gone : without_typed t.frame w.holdings.typed ≡ own_typed.others
   typed_gone = without_newest (λ (y : TypedReference). y.frame) t.frame own_ref own_typed.others w.holdings.typed refl own_typed.are
 
 -- ---- into the entry of the table around it
-module _ (v w : PortValue) (owner : ℕ) (t u : TableWork) (us : List TableWork) (s : Carries v w owner (t ∷ u ∷ us)) (own : t.own ≡ true) (new : t.recorded ≡ false) (d : PortValue) (found : ℕ)
-    (store : Moves w d (Kind t.frame) (Store (kind_write (partial_kind (level_type t.level) false false t.done 0))) kinds.Kind None found) (hand : Holds w d (left_so t.frame w.holdings)) where
+module _ {v w : PortValue} {owner : ℕ} {t u : TableWork} {us : List TableWork} (s : Carries v w owner (t ∷ u ∷ us)) (own : t.own ≡ true) (new : t.recorded ≡ false) {d : PortValue} {found : ℕ} (store : Moves w d (Kind t.frame) (Store (kind_write (partial_kind (level_type t.level) false false t.done 0))) kinds.Kind None found) (hand : Holds w d (left_so t.frame w.holdings)) where
   abbrev z : Sizes
   z = sizes_of v.post.machine
 
-  outer : TopTable z w.holdings.steps (Some t) u us (top v w owner t (u ∷ us) s).others
-  outer = tables_top z w.holdings.steps (Some t) u us (top v w owner t (u ∷ us) s).others (top v w owner t (u ∷ us) s).around
+  outer : TopTable z w.holdings.steps (Some t) u us (top s).others
+  outer = tables_top z w.holdings.steps (Some t) u us (top s).others (top s).around
 
   way : UnderWay z w.holdings.steps u outer.work t
   way = reaches_under z w.holdings.steps u outer.work t (Some t) refl new outer.reaches
 
   abbrev mine : TopTyped (length w.holdings.steps) owner t (u ∷ us) w.holdings.typed
-  mine = top_typed v w owner t (u ∷ us) s own
+  mine = top_typed s own
 
   abbrev my_ref : TypedReference
   my_ref = working_typed t.frame owner (level_type t.level) mine.since
@@ -86,13 +85,13 @@ module _ (v w : PortValue) (owner : ℕ) (t u : TableWork) (us : List TableWork)
   post_d = ap (λ (q : PortValue). q.post) hand ∙ stands_post v w owner (t ∷ u ∷ us) s
 
   works_d : d.holdings.works ≡ outer.work ∷ outer.others
-  works_d = ap (λ (q : PortValue). q.holdings.works) hand ∙ top_gone v w owner t (u ∷ us) s ∙ outer.are
+  works_d = ap (λ (q : PortValue). q.holdings.works) hand ∙ top_gone s ∙ outer.are
 
   typed_d : d.holdings.typed ≡ my_ref ∷ mine.others
   typed_d = ap (λ (q : PortValue). q.holdings.typed) hand ∙ mine.are
 
   refs_d : d.holdings.refs ≡ refs_for owner (u ∷ us) v.holdings.refs
-  refs_d = ap (λ (q : PortValue). q.holdings.refs) hand ∙ refs_are v w owner t (u ∷ us) s own
+  refs_d = ap (λ (q : PortValue). q.holdings.refs) hand ∙ refs_are s own
 
   abbrev behind : Holdings
   behind = record d.holdings { typed = mine.others }
@@ -102,7 +101,7 @@ module _ (v w : PortValue) (owner : ℕ) (t u : TableWork) (us : List TableWork)
   partial_there =
       subst (λ (p : Post). IsTrue (knows_partial (sizes_of p.machine) t.frame (level_type t.level) d.holdings)) (sym (ap (λ (q : PortValue). q.post) hand))
       (partial_by_step w d t.frame (level_type t.level) (Store (kind_write (partial_kind (level_type t.level) false false t.done 0))) kinds.Kind None found store my_ref mine.others mine.since typed_d refl refl mine.low
-      (partial_as (level_type t.level) t.done (top_spelled v w owner t (u ∷ us) s false (λ on. absurd cc))))
+      (partial_as (level_type t.level) t.done (top_spelled s false (λ on. absurd cc))))
 
   has_typed : HasLastDemand d.post.machine u.frame (level_type u.level) d.holdings (Typed t.frame (level_type t.level))
   has_typed =
@@ -180,5 +179,5 @@ module _ (v w : PortValue) (owner : ℕ) (t u : TableWork) (us : List TableWork)
     own_stands =
         let longer = came_longer w x came in
         stands_by v w x owner (t ∷ u ∷ us) (u ∷ us) w.holdings.refs mine.others (recorded_now outer.work ∷ outer.others) s own_gone s.stack.2
-        (recorded_work, innermost recorded_all, tables_later z (Some u) us outer.others w.holdings x.holdings (came_grows w x came) longer outer.around) (refs_are v w owner t (u ∷ us) s own)
+        (recorded_work, innermost recorded_all, tables_later z (Some u) us outer.others w.holdings x.holdings (came_grows w x came) longer outer.around) (refs_are s own)
         (typed_later (length w.holdings.steps) (length x.holdings.steps) owner (u ∷ us) mine.others longer mine.around)

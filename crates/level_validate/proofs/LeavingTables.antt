@@ -63,7 +63,7 @@ pub level_type-unpaged : (l : ℕ) → 1 ≤ l → level_type l ≢ Desc
 level_type-unpaged l low is = let no : true ≡ false = sym (level_type-table l low) ∙ ap is_table is in absurd cc
 
 -- ---- the store
-module _ (v w : PortValue) (owner : ℕ) (t : TableWork) (ts : List TableWork) (s : Carries v w owner (t ∷ ts)) where
+module _ {v w : PortValue} {owner : ℕ} {t : TableWork} {ts : List TableWork} (s : Carries v w owner (t ∷ ts)) where
   pub top : TopTable (sizes_of v.post.machine) w.holdings.steps None t ts w.holdings.works
   top = tables_top (sizes_of v.post.machine) w.holdings.steps None t ts w.holdings.works s.tables
 

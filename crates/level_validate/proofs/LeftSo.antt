@@ -14,7 +14,7 @@ use Rattle.level_validate.specs.Courses.{UnwindsOn}
 use Rattle.level_validate.specs.Unwinding.{around_lent}
 
 -- ---- a frame that waits for a flush
-module _ (v w : PortValue) (f level owner stamp : ℕ) (own kept : Bool) (k : PageType) (is : k ≡ level_type level) where
+module _ (v w : PortValue) (f level owner stamp : ℕ) (own kept : Bool) {k : PageType} (is : k ≡ level_type level) where
   pub waiting_lent : own ≡ false → Does v w (λ vs. SharedBy f k stamp vs) → WaitingLeft v w f level owner stamp own kept
   waiting_lent lent does = subst (λ (b : Bool). WaitingLeft v w f level owner stamp b kept) (sym lent) (subst (λ (j : PageType). Does v w (λ vs. SharedBy f j stamp vs)) is does)
 

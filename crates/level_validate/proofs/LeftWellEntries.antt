@@ -29,7 +29,7 @@ use Rattle.step_maker.specs.Moves.{Met}
 use Rattle.step_maker.proofs.Coming.{came_self}
 use Rattle.answer_fits.specs.Finding.{FoundAt}
 use Rattle.answer_fits.specs.Reasons.{OfOwner, Those, Whose}
-use Rattle.answer_fits.specs.Visits.{Does, Only, Then, Visit, Where, visit, visits}
+use Rattle.answer_fits.specs.Visits.{Does, Only, Then, Visit, Where, visit}
 use Rattle.answer_fits.proofs.Piecing.{each_append}
 use Rattle.flush_words.specs.Flushing as flushing
 use Rattle.flush_words.specs.Flushing.{FlushedBy}
@@ -255,7 +255,7 @@ module _ (v w : PortValue) where
   then_shown : (P Q : List Visit → Type 0) → ((vs : List Visit) → Shown vs → P vs → Plain vs) → ((vs : List Visit) → Shown vs → Q vs → Plain vs) → (vs : List Visit) → Shown vs → Then P Q vs → Plain vs
   then_shown P Q p q vs each t =
       subst (λ us. Plain us) (sym t.list)
-      (each_append (λ s. IsPlain s) t.before t.after (p t.before (each_first (WasFound v w) P Q vs t each) t.first) (q t.after (each_next (WasFound v w) P Q vs t each) t.next))
+      (each_append (λ s. IsPlain s) t.before t.after (p t.before (each_first (WasFound v w) t each) t.first) (q t.after (each_next (WasFound v w) t each) t.next))
 
   dies_plain : (f : ℕ) (t : PageType) → IsTrue (not (is_none t)) → is_table t ≡ false → (vs : List Visit) → Shown vs → Dies f t true vs → Plain vs
   dies_plain f t typed off vs each a =
@@ -316,7 +316,7 @@ module _ (v w : PortValue) where
   entered_plain f i t owner answer a =
       let word = a.2.0 in
       let s = a.2.1 in
-      let shown = each_next (WasFound v w) (Only (saw_cell f i word)) (λ us. EntersBy v.post f i owner answer word (demand_at t i word) us) (visits a.0) s (were_found v w w a.0 a.1 (came_self w)) in
+      let shown = each_next (WasFound v w) s (were_found v w w a.0 a.1 (came_self w)) in
       (word, (a.0, a.1, record { before = s.before; after = s.after; first = s.first; next = enters_plain v.post f i owner t answer word (demand_at t i word) refl s.after shown s.next; list = s.list }))
 
   pub enters_well : (e f i : ℕ) (t : PageType) (owner : ℕ) (answer : Result Entered Stop) → EntersFound v w f i t owner answer → LeftWell v w false e
@@ -352,9 +352,9 @@ pub resumes_well : (v w : PortValue) (e f i : ℕ) (t : PageType) (owner : ℕ) 
 resumes_well v w e f i t owner answer a = let l = resumed_plain v w f i t owner answer a in well_behind v w false e f i l.0 l.1
 
 -- ---- of the innermost table
-module _ (u w : PortValue) (owner : ℕ) (t : TableWork) (stack : List TableWork) (is : stack ≡ t ∷ drop 1 stack) (a : IsStanding u owner stack) (k : PageType) (kind : k ≡ level_type t.level) where
+module _ (u w : PortValue) (owner : ℕ) {t : TableWork} {stack : List TableWork} (is : stack ≡ t ∷ drop 1 stack) (a : IsStanding u owner stack) {k : PageType} (kind : k ≡ level_type t.level) where
   on_top : WorksAtTop t.frame k t.done u.holdings
-  on_top = subst (λ j. WorksAtTop t.frame j t.done u.holdings) (sym kind) (standing_top a.0 u owner t (drop 1 stack) (subst (λ xs. Carries a.0 u owner xs) is a.1))
+  on_top = subst (λ j. WorksAtTop t.frame j t.done u.holdings) (sym kind) (standing_top (subst (λ xs. Carries a.0 u owner xs) is a.1))
 
   pub enters_forward : (answer : Result Entered Stop) → EntersFound u w t.frame t.done k owner answer → Forward u w
   enters_forward answer found =
@@ -374,7 +374,7 @@ pub refers_well : (v w : PortValue) (kept : Bool) (e f owner : ℕ) (answer : Re
 refers_well v w kept e f owner answer a = well_by v w kept e (λ vs. GetsBy v.post.machine f owner answer vs) (gets_plain v.post.machine f owner answer) a
 
 -- a reference, and then a type of a table
-module _ (v u w : PortValue) (f owner level : ℕ) (answer : Result ℕ Stop) (gets : Gets v u f owner answer) (g : ℕ) (t : PageType) (is : t ≡ level_type level) (taken : Result Taken Stop) (types : TakesFound u w g owner t taken) where
+module _ (v u w : PortValue) (f owner level : ℕ) (answer : Result ℕ Stop) (gets : Gets v u f owner answer) (g : ℕ) {t : PageType} (is : t ≡ level_type level) (taken : Result Taken Stop) (types : TakesFound u w g owner t taken) where
   had_plain : (vs : List Visit) → TypeBy u.post g owner t taken vs → Plain vs
   had_plain = typed_plain u.post g owner t (subst (λ k. IsTrue (not (is_none k))) (sym is) (level_type-typed level)) taken
 

@@ -34,12 +34,12 @@ pub said_again : (u x : PortValue) (owner : ℕ) (t : TableWork) (k : PageType) 
     ((pages : ℕ) → ShowsResumed u x owner pages k b) → ((pages : ℕ) → Serves u x (of_entries owner pages) []) → LeavesResumed u x t.frame k (t.done - 1) owner b → SaidAgain u x owner t a
 said_again u x owner t k is b a same found plain shows serves hand =
     record {
-      entry = resumed_ok u x owner t k is b a same found plain shows;
+      entry = resumed_ok u x owner t is b a same found plain shows;
       serves = serves;
       hand = subst (λ (j : PageType). LeavesResumed u x t.frame j (t.done - 1) owner a) is (subst (λ (r : Resumed). LeavesResumed u x t.frame k (t.done - 1) owner r) same hand);
     }
 
-module _ (u x : PortValue) (owner : ℕ) (t : TableWork) (a : Resumed) (said : SaidAgain u x owner t a) where
+module _ {u x : PortValue} {owner : ℕ} {t : TableWork} {a : Resumed} (said : SaidAgain u x owner t a) where
   pub again_came : Came u x
   again_came = serves_came u x (of_entries owner 0) [] (said.serves 0)
 
@@ -50,18 +50,18 @@ module _ (u x : PortValue) (owner : ℕ) (t : TableWork) (a : Resumed) (said : S
   again_first = resumed_first u x t.frame (t.done - 1) (level_type t.level) owner (Ok a) said.entry.found
 
   pub again_forward : (stack : List TableWork) → stack ≡ t ∷ drop 1 stack → IsStanding u owner stack → (t.done ≡ 0 → ⊥) → Forward u x
-  again_forward stack top stands some = resumes_forward u x owner t stack top stands (level_type t.level) refl (Ok a) some said.entry.found
+  again_forward stack top stands some = resumes_forward u x owner top stands refl (Ok a) some said.entry.found
 
   pub again_well : (e : ℕ) → LeftWell u x false e
   again_well e = resumes_well u x e t.frame (t.done - 1) (level_type t.level) owner (Ok a) said.entry.found
 
 -- ---- it is settled
-module _ (u x : PortValue) (owner : ℕ) (t : TableWork) (stack : List TableWork) (top : stack ≡ t ∷ drop 1 stack) (said : SaidAgain u x owner t again.Settled) where
+module _ {u x : PortValue} {owner : ℕ} {t : TableWork} {stack : List TableWork} (top : stack ≡ t ∷ drop 1 stack) (said : SaidAgain u x owner t again.Settled) where
   pub settled_stands : StandsOn u x owner stack stack
   settled_stands v s =
       subst (λ xs. Carries v x owner xs) (sym top)
-      (after_look v u x owner t (drop 1 stack) (subst (λ xs. Carries v u owner xs) top s) (again_came u x owner t again.Settled said) (again_first u x owner t again.Settled said) (t.done - 1) said.hand.0)
+      (after_look x (subst (λ xs. Carries v u owner xs) top s) (again_came said) (again_first said) (t.done - 1) said.hand.0)
 
   pub settled_ready : IsStanding u owner stack → IsTopReady x
   settled_ready a =
-      after_settled a.0 u x owner t (drop 1 stack) (subst (λ xs. Carries a.0 u owner xs) top a.1) (again_came u x owner t again.Settled said) (again_first u x owner t again.Settled said) (t.done - 1) said.hand.0 said.hand.1
+      after_settled x (subst (λ xs. Carries a.0 u owner xs) top a.1) (again_came said) (again_first said) (t.done - 1) said.hand.0 said.hand.1

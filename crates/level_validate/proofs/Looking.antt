@@ -48,7 +48,7 @@ met_place u w m met = subst (λ (p : Post). IsTrue (is_place (sizes_of p.machine
 no_claims : (a b : ℕ) → a + b ≡ 0 → b ≡ 0
 no_claims a b none = omega arith
 
-module _ (n : Machine) (s : ℕ) (h : Holdings) (p : Place) (w : ℕ) (finds : Finds n s h p w) (f : ℕ) (e : Work) (here : work_on f h.works ≡ Some e) (work : IsTrue (is_work (kind_fields e.word))) where
+module _ {n : Machine} {s : ℕ} {h : Holdings} {p : Place} {w : ℕ} (finds : Finds n s h p w) (f : ℕ) {e : Work} (here : work_on f h.works ≡ Some e) (work : IsTrue (is_work (kind_fields e.word))) where
   facts : Works n finds.words finds.hands s f e
   facts = works_facts n finds.words finds.hands s f e finds.sound finds.real (subst (λ (u : Holdings). work_on f u.works ≡ Some e) (sym finds.mine) here)
 

@@ -85,13 +85,12 @@ second_of : (n : Machine) (h : Holdings) (x y : Work) (zs ws : List Work) → ws
 unfolding EachOf
 second_of n h x y zs ws are each = (subst (λ us. EachOf (IsWorkFormed n h) us) are each).1.0
 
-module _ (v w : PortValue) (owner : ℕ) (t u : TableWork) (us : List TableWork) (s : Carries v w owner (t ∷ u ∷ us)) (d : PortValue) (found : ℕ)
-    (store : Moves w d (Kind t.frame) (Store (kind_write (live_kind (level_type t.level) (type_counts t.own)))) kinds.Kind None found) (l : LiveHand v w owner t (u ∷ us) s d) where
+module _ {v w : PortValue} {owner : ℕ} {t u : TableWork} {us : List TableWork} {s : Carries v w owner (t ∷ u ∷ us)} {d : PortValue} {found : ℕ} (store : Moves w d (Kind t.frame) (Store (kind_write (live_kind (level_type t.level) (type_counts t.own)))) kinds.Kind None found) (l : LiveHand s d) where
   abbrev z : Sizes
   z = sizes_of v.post.machine
 
   abbrev inner : TopTable z w.holdings.steps None t (u ∷ us) w.holdings.works
-  inner = top v w owner t (u ∷ us) s
+  inner = top s
 
   pub outer : TopTable z w.holdings.steps (Some t) u us inner.others
   outer = tables_top z w.holdings.steps (Some t) u us inner.others inner.around
@@ -222,8 +221,8 @@ module _ (v w : PortValue) (owner : ℕ) (t u : TableWork) (us : List TableWork)
         let some = on.some in
         record {
           drops = record { in_hand = in_hand; kind = level_type t.level; live = knows (sizes_of d.post.machine) };
-          shared = shared_by d.post.machine d.post.vcpu d.holdings u.frame outer.work (work_here u.frame outer.work outer.others d.holdings.works outer.is.frame works_d) (ap is_table outer.is.kind ∙ level_type-table u.level s.stack.2.0.low) (u.done - 1) on.word
-              (omega (arith, all, some)) on.seen t.frame (level_type t.level) asks_on in_hand;
+          shared = shared_by d.post.machine d.post.vcpu d.holdings u.frame (work_here u.frame outer.work outer.others d.holdings.works outer.is.frame works_d) (ap is_table outer.is.kind ∙ level_type-table u.level s.stack.2.0.low) (u.done - 1) on.word
+              (omega (arith, all, some)) on.seen asks_on in_hand;
         }
 
     since_low : (y : Unsettled) → outer.work.unsettled ≡ Some y → y.since ≤ length w.holdings.steps

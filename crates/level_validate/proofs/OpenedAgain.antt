@@ -25,7 +25,7 @@ top_low u owner t stack top a =
     let s = subst (λ xs. Carries a.0 u owner xs) top a.1 in
     s.stack.0.low
 
-module _ (u x : PortValue) (owner : ℕ) (t : TableWork) (stack : List TableWork) (top : stack ≡ t ∷ drop 1 stack) (some : t.done ≡ 0 → ⊥) (f progress : ℕ) (said : SaidAgain u x owner t (again.Opened f progress)) where
+module _ {u x : PortValue} {owner : ℕ} {t : TableWork} {stack : List TableWork} (top : stack ≡ t ∷ drop 1 stack) (some : t.done ≡ 0 → ⊥) {f progress : ℕ} (said : SaidAgain u x owner t (again.Opened f progress)) where
   abbrev inner : TableWork
   inner = pushed t f progress false true
 
@@ -36,7 +36,7 @@ module _ (u x : PortValue) (owner : ℕ) (t : TableWork) (stack : List TableWork
 
   on_top : (v : PortValue) → Carries v u owner stack → Carries v x owner (inner ∷ t ∷ drop 1 stack)
   on_top v s =
-      after_again v u x owner t (drop 1 stack) (subst (λ xs. Carries v u owner xs) top s) (again_came u x owner t (again.Opened f progress) said) (again_first u x owner t (again.Opened f progress) said) (t.done - 1) f progress
+      after_again x (subst (λ xs. Carries v u owner xs) top s) (again_came said) (again_first said) (t.done - 1) f progress
       (back_one t.done some) (again_found u x t.frame (t.done - 1) (level_type t.level) owner f progress said.entry.found) said.hand
 
   pub opened_table : IsStanding u owner stack → IsTable inner
@@ -48,7 +48,7 @@ module _ (u x : PortValue) (owner : ℕ) (t : TableWork) (stack : List TableWork
   pub opened_ready : progress ≡ 0 → IsTopReady x
   opened_ready zero = fresh_ready u x t.frame (t.done - 1) (level_type t.level) f owner progress false said.hand zero
 
-  module _ (next : List TableWork) (is : next ≡ inner ∷ stack) where
+  module _ {next : List TableWork} (is : next ≡ inner ∷ stack) where
     pub opened_stands : StandsOn u x owner stack next
     opened_stands v s = subst (λ xs. Carries v x owner xs) (sym (is ∙ ap (λ ys. inner ∷ ys) top)) (on_top v s)
 

@@ -91,7 +91,7 @@ module _ (v w : PortValue) (f i : ℕ) (t : PageType) (owner g progress : ℕ) (
   opened_asked h want is vs each (stopped e answer got) = absurd cc
   opened_asked h want is vs each (had steps) =
       subst (λ k. CameOpen v g k progress) is
-      (subst (λ j. CameOpen v j want progress) (sym steps.next.0) (came_open v w steps.after (each_next (WasFound v w) _ _ vs steps each) h owner want progress own steps.next.1))
+      (subst (λ j. CameOpen v j want progress) (sym steps.next.0) (came_open v w steps.after (each_next (WasFound v w) steps each) h owner want progress own steps.next.1))
 
   opened_by : (word : ℕ) (d : Demand) → demand_at t i word ≡ d → (vs : List Visit) → EachOf (WasFound v w) vs → EntersBy v.post f i owner (Ok (Opened g progress own)) word d vs → CameOpen v g (below t) progress
   opened_by word demands.Nothing is vs each way = absurd (let k = way.0 in cc)
@@ -102,19 +102,19 @@ module _ (v w : PortValue) (f i : ℕ) (t : PageType) (owner g progress : ℕ) (
   pub opened_found : EntersFound v w f i t owner (Ok (Opened g progress own)) → CameOpen v g (below t) progress
   opened_found enters =
       does_shows v w (λ vs. EnteredBy v.post f i t owner (Ok (Opened g progress own)) vs) enters
-      (λ vs each e. opened_by e.0 (demand_at t i e.0) refl e.1.after (each_next (WasFound v w) _ _ vs e.1 each) e.1.next)
+      (λ vs each e. opened_by e.0 (demand_at t i e.0) refl e.1.after (each_next (WasFound v w) e.1 each) e.1.next)
 
 -- ---- the last recorded one again
 module _ (v w : PortValue) (f i : ℕ) (t : PageType) (owner : ℕ) (answer : Resumed) (C : Type 0) (stands : answer ≡ again.Settled → C) where
   module _ (typed : (h : ℕ) (want : PageType) → want ≡ below t → (vs : List Visit) → EachOf (WasFound v w) vs → TypedAgain v.post h owner want (Ok answer) vs → C) where
     again_asked : (h : ℕ) (want : PageType) → want ≡ below t → (vs : List Visit) → EachOf (WasFound v w) vs → TakesFirst v.post.machine h owner (λ ts. TypedAgain v.post h owner want (Ok answer) ts) (Ok answer) vs → C
     again_asked h want is vs each (stopped e gave got) = absurd cc
-    again_asked h want is vs each (had steps) = typed h want is steps.after (each_next (WasFound v w) _ _ vs steps each) steps.next
+    again_asked h want is vs each (had steps) = typed h want is steps.after (each_next (WasFound v w) steps each) steps.next
 
     again_last : (h : ℕ) (want : PageType) → want ≡ below t → (vs : List Visit) → EachOf (WasFound v w) vs → LastBy v.post h want owner (Ok answer) vs → C
     again_last h want is vs each (settled x real live gave saw) = stands (let k = gave in cc)
     again_last h want is vs each (outside past way) = again_asked h want is vs each way
-    again_last h want is vs each (other x real live steps) = again_asked h want is steps.after (each_next (WasFound v w) _ _ vs steps each) steps.next
+    again_last h want is vs each (other x real live steps) = again_asked h want is steps.after (each_next (WasFound v w) steps each) steps.next
 
     again_by : (word : ℕ) (d : Demand) → demand_at t i word ≡ d → (vs : List Visit) → EachOf (WasFound v w) vs → ResumesBy v.post owner (Ok answer) d vs → C
     again_by word demands.Nothing is vs each way = stands (let k = way.0 in cc)
@@ -126,7 +126,7 @@ module _ (v w : PortValue) (f i : ℕ) (t : PageType) (owner : ℕ) (answer : Re
     pub again_typed : ResumesFound v w f i t owner (Ok answer) → C
     again_typed resumes =
         does_shows v w (λ vs. ResumedBy v.post f i t owner (Ok answer) vs) resumes
-        (λ vs each e. again_by e.0 (demand_at t i e.0) refl e.1.after (each_next (WasFound v w) _ _ vs e.1 each) e.1.next)
+        (λ vs each e. again_by e.0 (demand_at t i e.0) refl e.1.after (each_next (WasFound v w) e.1 each) e.1.next)
 
 pub again_found : (v w : PortValue) (f i : ℕ) (t : PageType) (owner g progress : ℕ) → ResumesFound v w f i t owner (Ok (again.Opened g progress)) → CameOpen v g (below t) progress
 again_found v w f i t owner g progress resumes =

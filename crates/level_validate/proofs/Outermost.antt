@@ -65,7 +65,7 @@ pub one_owner : (v x w : PortValue) (o p : ℕ) (t : TableWork) (ts us : List Ta
 one_owner v x w o p t ts us s r = by t.own refl
   where
     by : (b : Bool) → t.own ≡ b → o ≡ p
-    by true own = same_number o p (sym (top_owned v w o t ts s own) ∙ top_owned x w p t us r own)
+    by true own = same_number o p (sym (top_owned s own) ∙ top_owned r own)
     by false lent =
         let a = ref_owned t.frame o (record { frame = t.frame; owner = owners.Of o }) (refs_for o ts v.holdings.refs) w.holdings (s.refs ∙ refs_lent o t ts v.holdings.refs lent) refl refl in
         let b = ref_owned t.frame p (record { frame = t.frame; owner = owners.Of p }) (refs_for p us x.holdings.refs) w.holdings (r.refs ∙ refs_lent p t us x.holdings.refs lent) refl refl in

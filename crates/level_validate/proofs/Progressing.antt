@@ -48,29 +48,28 @@ second_here f x y zs ws are few second =
     ap (λ us. work_on f us) are ∙ first_by-cons_other (λ (e : Work). e.frame) f x (y ∷ zs) (λ first. two_works f x y zs ws are few first second)
     ∙ first_by-cons_here (λ (e : Work). e.frame) f y zs second
 
-module _ (v w : PortValue) (owner : ℕ) (t u : TableWork) (us : List TableWork) (s : Carries v w owner (t ∷ u ∷ us)) (d : PortValue) (found : ℕ)
-    (store : Moves w d (Kind t.frame) (Store (kind_write (live_kind (level_type t.level) (type_counts t.own)))) kinds.Kind None found) (l : LiveHand v w owner t (u ∷ us) s d) where
+module _ {v w : PortValue} {owner : ℕ} {t u : TableWork} {us : List TableWork} {s : Carries v w owner (t ∷ u ∷ us)} {d : PortValue} {found : ℕ} (store : Moves w d (Kind t.frame) (Store (kind_write (live_kind (level_type t.level) (type_counts t.own)))) kinds.Kind None found) (l : LiveHand s d) where
   few : works_on u.frame w.holdings.works ≤ 1
   few =
       let f = store.finds in
       subst (λ h. works_on u.frame h.works ≤ 1) f.mine (one_works w.post.machine f.words f.hands f.sound.alone u.frame w.post.vcpu f.real)
 
-  around_here : work_on u.frame w.holdings.works ≡ Some (outer v w owner t u us s d found store l).work
+  around_here : work_on u.frame w.holdings.works ≡ Some (outer store l).work
   around_here =
-      let i = top v w owner t (u ∷ us) s in
-      let o = outer v w owner t u us s d found store l in
+      let i = top s in
+      let o = outer store l in
       second_here u.frame i.work o.work o.others w.holdings.works (i.are ∙ ap (λ ws. i.work ∷ ws) o.are) few o.is.frame
 
   pub progress_settles : t.recorded ≡ true → IsTrue (is_kind (live_kind (level_type t.level) (type_counts t.own))) → Progress (Met w d)
   unfolding moment_of
   progress_settles old spelled =
-      let o = outer v w owner t u us s d found store l in
-      let k = on v w owner t u us s d found store l old in
+      let o = outer store l in
+      let k = on store l old in
       let live = live_kind (level_type t.level) (type_counts t.own) in
       let all = k.all in
       let some = k.some in
       let held = held_by (u.done - 1) k.word (work_on u.frame w.holdings.works) o.work (lock_on u.frame w.holdings.locks) (Typed t.frame (level_type t.level)) around_here
-      (ap is_table o.is.kind ∙ level_type-table u.level s.stack.2.0.low) o.is.unmarked (asks_on v w owner t u us s d found store l old) in
+      (ap is_table o.is.kind ∙ level_type-table u.level s.stack.2.0.low) o.is.unmarked (asks_on store l old) in
       settles (moment_of w (Kind t.frame) (Store (kind_write live)) kinds.Kind None found) t.frame u.frame (kind_write live) o.work (record { index = u.done - 1; word = k.word })
       (moves_met w d (Kind t.frame) (Store (kind_write live)) kinds.Kind None found store) refl refl
       (subst (λ (q : KindWord). IsTrue q.validated) (sym (fields_write live spelled)) refl) around_here k.seen (omega (arith, all, some))

@@ -51,7 +51,7 @@ module _ (v : PortValue) (f owner level pages : ℕ) (rose : Bool) where
     reference_stops e a = stops_within v b (of_frame f owner None) request e (within_frame v.post.machine v.post.vcpu f owner None request (Met v b) (Met v b) (λ m x. x) (asks (Met v b) f None refl tt)) a
 
   -- ---- its type
-  module _ (b : PortValue) (got : Serves v b (of_frame f owner None) []) (g : ℕ) (same : g ≡ f) (want : PageType) (is : want ≡ level_type level) where
+  module _ (b : PortValue) (got : Serves v b (of_frame f owner None) []) {g : ℕ} (same : g ≡ f) {want : PageType} (is : want ≡ level_type level) where
     came_b : Came v b
     came_b = serves_came v b (of_frame f owner None) [] got
 
@@ -82,7 +82,7 @@ module _ (v : PortValue) (f owner level pages : ℕ) (rose : Bool) where
     waited_stops x w e wait a came = stops_before v x w request e (type_stops x e (wait_kinds e wait) a) came
 
   -- ---- behind its type
-  module _ (x : PortValue) (before : Serves v x request []) (g : ℕ) (same : g ≡ f) where
+  module _ (x : PortValue) (before : Serves v x request []) {g : ℕ} (same : g ≡ f) where
     came_x : Came v x
     came_x = serves_came v x request [] before
 

@@ -80,7 +80,7 @@ piece_later u v w r owner ts ds es a came serves =
       asked = asked_later u.post.machine u.post.vcpu r (Met u v) (Met u w) (λ m x. met_before u v w m x came) ts a.asked;
     }
 
-module _ (u v w : PortValue) (r : Request) (owner : ℕ) (ts : List TableWork) (ds : List Deed) (a : IsPiece u v r owner ts ds) where
+module _ {u v : PortValue} (w : PortValue) {r : Request} {owner : ℕ} {ts : List TableWork} {ds : List Deed} (a : IsPiece u v r owner ts ds) where
   -- an entry is recorded
   pub piece_records : (f upto clock : ℕ) → Moves v w Clock Load kinds.Look (Some (Record f upto)) clock → IsPiece u w r owner ts ds
   piece_records f upto clock look =
@@ -91,7 +91,7 @@ module _ (u v w : PortValue) (r : Request) (owner : ℕ) (ts : List TableWork) (
   pub piece_names : (word : ℕ) → Moves v w (old_place v.post.vcpu First) (Store word) kinds.Context None 0 → IsPiece u w r owner ts ds
   piece_names word store = piece_later u v w r owner ts ds ds a (moves_came v w _ _ _ _ 0 store) (old_serves u v w r ds a.serves word store)
 
-module _ (u v w : PortValue) (r : Request) (owner : ℕ) (t : TableWork) (ts : List TableWork) (ds : List Deed) (a : IsPiece u v r owner (t ∷ ts) ds) where
+module _ {u v : PortValue} (w : PortValue) {r : Request} {owner : ℕ} {t : TableWork} {ts : List TableWork} {ds : List Deed} (a : IsPiece u v r owner (t ∷ ts) ds) where
   pub top_asked : (F : Finding) → ((m : Moment) → Met u v m → F m) → IsAsked u.post.machine u.post.vcpu r F t.frame
   top_asked F more = of r.owner (Some (level_type t.level)) (asked_later u.post.machine u.post.vcpu r (Met u v) F more (t ∷ ts) a.asked).0
 
@@ -102,19 +102,18 @@ module _ (u v w : PortValue) (r : Request) (owner : ℕ) (t : TableWork) (ts : L
       piece_later u v w r owner (t ∷ ts) ds ds a came (serves_back u v w r ds [] a.serves t.frame (top_asked (Met u w) (λ m x. met_before u v w m x came)) put)
 
 -- a word of its type is left in the innermost table's place
-module _ (b v : PortValue) (whose : ℕ) (t : TableWork) (us : List TableWork) (s : Carries b v whose (t ∷ us)) (l : KindWord) (spelled : IsTrue (is_kind l)) (typed : l.kind ≡ level_type t.level) (w : PortValue) (found : ℕ)
-    (store : Moves v w (Kind t.frame) (Store (kind_write l)) kinds.Kind None found) where
+module _ {b v : PortValue} {whose : ℕ} {t : TableWork} {us : List TableWork} (s : Carries b v whose (t ∷ us)) (l : KindWord) (spelled : IsTrue (is_kind l)) (typed : l.kind ≡ level_type t.level) {w : PortValue} {found : ℕ} (store : Moves v w (Kind t.frame) (Store (kind_write l)) kinds.Kind None found) where
   keeps : IsTrue (keeps_type found (kind_write l))
   keeps =
-      let e = top b v whose t us s in
-      let word : found ≡ e.work.word = work_word v.post.machine v.post.vcpu v.holdings t.frame found e.work store.finds (top_here b v whose t us s) in
+      let e = top s in
+      let word : found ≡ e.work.word = work_word v.post.machine v.post.vcpu v.holdings t.frame found e.work store.finds (top_here s) in
       kept_type found (kind_write l) (kind_fields e.work.word) l (ap (λ y. kind_fields y) word) (fields_write l spelled) (typed ∙ sym e.is.kind) (work_alive (kind_fields e.work.word) e.is.work)
 
   pub piece_left : (u : PortValue) (r : Request) (owner : ℕ) (ts : List TableWork) (ds : List Deed) → IsPiece u v r owner (t ∷ ts) ds → IsPiece u w r owner (t ∷ ts) ds
   piece_left u r owner ts ds a =
       let came = moves_came v w (Kind t.frame) (Store (kind_write l)) kinds.Kind None found store in
       piece_later u v w r owner (t ∷ ts) ds ds a came
-      (serves_step u v w r ds (Kind t.frame) (Store (kind_write l)) kinds.Kind None found a.serves store (top_asked u v w r owner t ts ds a (Met u w) (λ m x. met_before u v w m x came), keeps))
+      (serves_step u v w r ds (Kind t.frame) (Store (kind_write l)) kinds.Kind None found a.serves store (top_asked w a (Met u w) (λ m x. met_before u v w m x came), keeps))
 
 -- ---- steps behind steps
 pub goes_nothing : (v : PortValue) (owner : ℕ) (ts : List TableWork) → CarriesOn v v owner ts ts []

@@ -33,8 +33,7 @@ use Rattle.frame_types.proofs.Lowered.{type_counted}
 use Rattle.level_validate.specs.Giving.{MayGiveBack}
 
 -- the entry is recorded, and was loaded last
-module _ (n : Machine) (s : ℕ) (h : Holdings) (f : ℕ) (e : Work) (here : work_on f h.works ≡ Some e) (table : is_table (kind_fields e.word).kind ≡ true) (i word : ℕ) (recorded : i < e.recorded)
-    (seen : e.seen ≡ Some (record { index = i; word = word })) (g : ℕ) (t : PageType) (asks : demand_at (kind_fields e.word).kind i word ≡ Typed g t) (in_hand : 0 < typed_to g h.typed) where
+module _ (n : Machine) (s : ℕ) (h : Holdings) (f : ℕ) {e : Work} (here : work_on f h.works ≡ Some e) (table : is_table (kind_fields e.word).kind ≡ true) (i word : ℕ) (recorded : i < e.recorded) (seen : e.seen ≡ Some (record { index = i; word = word })) {g : ℕ} {t : PageType} (asks : demand_at (kind_fields e.word).kind i word ≡ Typed g t) (in_hand : 0 < typed_to g h.typed) where
   pub shared_by : (words : Place → ℕ) (hands : ℕ → Holdings) → s < (sizes_of n).vcpus → Sound n words hands → hands s ≡ h → 2 ≤ named_typed (sizes_of n) words hands g
   shared_by words hands real sound mine =
       let at = subst (λ (u : Holdings). work_on f u.works ≡ Some e) (sym mine) here in
@@ -52,7 +51,7 @@ module _ (n : Machine) (s : ℕ) (h : Holdings) (f : ℕ) (e : Work) (here : wor
 number_one : (n : ℕ) → (n == 1) ≡ true → n ≡ 1
 number_one n is = grind (arith, nat_tests)
 
-module _ (v a : PortValue) (f : ℕ) (last : Bool) (d : DropsType v a f last) where
+module _ {v a : PortValue} {f : ℕ} {last : Bool} (d : DropsType v a f last) where
   pub never_last : MayGiveBack v.post.machine v.post.vcpu f v.holdings → last ≡ true → ⊥
   never_last may is =
       let finds = d.lowers.step.finds in

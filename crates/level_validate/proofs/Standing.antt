@@ -90,10 +90,10 @@ found_level z steps inner g low t (u ∷ us) (x ∷ xs) e is least are at =
     ]
 
 -- ---- the hand
-module _ (v w : PortValue) (owner : ℕ) (t : TableWork) (ts : List TableWork) (s : Carries v w owner (t ∷ ts)) where
+module _ {v w : PortValue} {owner : ℕ} {t : TableWork} {ts : List TableWork} (s : Carries v w owner (t ∷ ts)) where
   pub standing_top : WorksAtTop t.frame (level_type t.level) t.done w.holdings
   standing_top =
-      let e = top v w owner t ts s in
+      let e = top s in
       record {
         top = e.work;
         others = e.others;
@@ -103,12 +103,12 @@ module _ (v w : PortValue) (owner : ℕ) (t : TableWork) (ts : List TableWork) (
         kind = e.is.kind;
         table = level_type-table t.level s.stack.0.low;
         unmarked = e.is.unmarked;
-        recorded = top_done v w owner t ts s;
+        recorded = top_done s;
       }
 
   pub standing_next : IsTopReady w → WorksNext w.post.machine t.frame (level_type t.level) t.done w.holdings
   unfolding standing_top
-  standing_next ready = let e = top v w owner t ts s in record { on = standing_top; settled = ready e.work e.others e.are }
+  standing_next ready = let e = top s in record { on = standing_top; settled = ready e.work e.others e.are }
 
   pub standing_known : IsKnownOwner t.frame owner w.holdings
   standing_known = top_known (length w.holdings.steps) owner t ts v.holdings.refs w.holdings s.refs s.typed

@@ -16,7 +16,7 @@ use Rattle.table_entries.specs.declared.resuming.Resumed.TheVariants as again
 use Rattle.table_courses.specs.Acquiring.{GaveBack, LeftWaiting, ResumedEntry, TookOn, table_opened}
 
 -- ---- the call that looks, for the type of the table's level
-module _ (v w : PortValue) (owner : ℕ) (t : TableWork) (k : PageType) (is : k ≡ level_type t.level) where
+module _ (v w : PortValue) (owner : ℕ) (t : TableWork) {k : PageType} (is : k ≡ level_type t.level) where
   pub resumed_ok : (b a : Resumed) → b ≡ a → ResumesFound v w t.frame (t.done - 1) k owner (Ok b) → TwinResume v w t.frame k (t.done - 1) owner (Ok b) → ((pages : ℕ) → ShowsResumed v w owner pages k b) → ResumedEntry v w owner t (Ok a)
   resumed_ok b a same found plain shows =
       record {
@@ -36,7 +36,7 @@ module _ (v w : PortValue) (owner : ℕ) (t : TableWork) (k : PageType) (is : k 
       }
 
 -- ---- from a stack of which that table is the top
-module _ (owner : ℕ) (v : PortValue) (t : TableWork) (ts stack : List TableWork) (top : stack ≡ t ∷ ts) where
+module _ (owner : ℕ) (v : PortValue) {t : TableWork} {ts stack : List TableWork} (top : stack ≡ t ∷ ts) where
   -- the stack stays as it is
   stays : (w : PortValue) (answer : Result Bool Stop) → TookOn owner v (t ∷ ts) w (t ∷ ts) answer → TookOn owner v stack w stack answer
   stays w answer took = subst (λ (xs : List TableWork). TookOn owner v xs w xs answer) (sym top) took

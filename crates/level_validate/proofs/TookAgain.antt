@@ -20,23 +20,23 @@ use Rattle.level_validate.proofs.Entered.{back_one, taken_gives, taken_ready, ta
 use Rattle.level_validate.proofs.LookedAgain.{SaidAgain, again_came, again_first}
 use Rattle.level_validate.proofs.Waiting.{taken_found}
 
-module _ (u x : PortValue) (owner : ℕ) (t : TableWork) (stack : List TableWork) (top : stack ≡ t ∷ drop 1 stack) (some : t.done ≡ 0 → ⊥) (f : ℕ) (said : SaidAgain u x owner t (again.Taken f)) where
+module _ {u x : PortValue} {owner : ℕ} {t : TableWork} {stack : List TableWork} (top : stack ≡ t ∷ drop 1 stack) (some : t.done ≡ 0 → ⊥) {f : ℕ} (said : SaidAgain u x owner t (again.Taken f)) where
   pub took_inside : f < x.post.machine.frames
-  took_inside = subst (λ (p : Post). f < p.machine.frames) (sym (came_post u x (again_came u x owner t (again.Taken f) said))) (taken_found u x t.frame (t.done - 1) (level_type t.level) owner f said.entry.found)
+  took_inside = subst (λ (p : Post). f < p.machine.frames) (sym (came_post u x (again_came said))) (taken_found u x t.frame (t.done - 1) (level_type t.level) owner f said.entry.found)
 
   pub took_gives : IsStanding u owner stack → MayGiveBack x.post.machine x.post.vcpu f x.holdings
   took_gives a =
-      taken_gives a.0 u x owner t (drop 1 stack) (subst (λ xs. Carries a.0 u owner xs) top a.1) (again_came u x owner t (again.Taken f) said) (again_first u x owner t (again.Taken f) said) (t.done - 1) f (back_one t.done some) said.hand.0
+      taken_gives (subst (λ xs. Carries a.0 u owner xs) top a.1) (again_came said) (again_first said) (back_one t.done some) said.hand.0
 
   module _ (w : PortValue) (gives : Holds x w (gave_type f x.holdings)) (on : Came x w) where
     pub took_stands : StandsOn u w owner stack stack
     took_stands v s =
         subst (λ xs. Carries v w owner xs) (sym top)
-        (taken_stands v u x owner t (drop 1 stack) (subst (λ xs. Carries v u owner xs) top s) (again_came u x owner t (again.Taken f) said) (again_first u x owner t (again.Taken f) said) (t.done - 1) f (back_one t.done some) said.hand.0 w gives on)
+        (taken_stands (subst (λ xs. Carries v u owner xs) top s) (again_came said) (again_first said) (back_one t.done some) said.hand.0 w gives on)
 
     pub took_ready : IsStanding u owner stack → IsTopReady w
     took_ready a =
-        taken_ready a.0 u x owner t (drop 1 stack) (subst (λ xs. Carries a.0 u owner xs) top a.1) (again_came u x owner t (again.Taken f) said) (again_first u x owner t (again.Taken f) said) (t.done - 1) f (back_one t.done some) said.hand.0 w gives on
+        taken_ready (subst (λ xs. Carries a.0 u owner xs) top a.1) (again_came said) (again_first said) (back_one t.done some) said.hand.0 w gives on
         said.hand.1
 
   pub took_serves : (w : PortValue) → Serves x w (of_back f) [] → CarriesOn u w owner stack stack []

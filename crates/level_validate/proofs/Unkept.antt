@@ -17,4 +17,4 @@ use Rattle.level_validate.proofs.LeftWell.{well_store}
 pub unkept_well : (v w : PortValue) (owner : ℕ) (t : TableWork) (d : PortValue) (found : ℕ) (ts : List TableWork) (kept : Bool) (f : ℕ) → Carries v w owner (t ∷ ts) →
     Moves w d (Kind t.frame) (Store (kind_write (partial_kind (level_type t.level) false false t.done 0))) kinds.Kind None found → LeftWell w d kept f
 unkept_well v w owner t d found ts kept f s store =
-    well_store w d kept f t.frame (partial_kind (level_type t.level) false false t.done 0) kinds.Kind None found (top_spelled v w owner t ts s false (λ on. absurd cc)) (λ on. absurd cc) (λ dead. absurd cc) store
+    well_store w d kept f t.frame (partial_kind (level_type t.level) false false t.done 0) kinds.Kind None found (top_spelled s false (λ on. absurd cc)) (λ on. absurd cc) (λ dead. absurd cc) store

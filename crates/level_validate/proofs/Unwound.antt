@@ -49,15 +49,15 @@ outer_lent v x owner t kept lent s =
     inl (stands_none v x owner (subst (λ us. Carries v x owner us) (around_none t.recorded) s) ∙ ap (λ h. quiet (record v { holdings = h })) (sym (named_lent kept t v.holdings lent)))
 
 -- its type count went out of the hand
-module _ (v w : PortValue) (owner : ℕ) (t : TableWork) (s : Carries v w owner (t ∷ [])) (own : t.own ≡ true) where
+module _ {v w : PortValue} {owner : ℕ} {t : TableWork} (s : Carries v w owner (t ∷ [])) (own : t.own ≡ true) where
   outer_gone : (o : Option ℕ) (x : PortValue) → FlushedHolds w x (record w.holdings { typed = without_typed t.frame w.holdings.typed; works = without_work t.frame w.holdings.works; old0 = o }) → FlushedHolds v x (record v.holdings { old0 = o })
   outer_gone o x gone =
-      let y = top_typed v w owner t [] s own in
-      let e = top v w owner t [] s in
+      let y = top_typed s own in
+      let e = top s in
       gone
-      ∙ ap (λ ys. quiet (record w { holdings = record w.holdings { typed = ys; works = without_work t.frame w.holdings.works; old0 = o } })) (typed_gone v w owner t [] s own ∙ y.around ∙ sym s.idle.typed)
+      ∙ ap (λ ys. quiet (record w { holdings = record w.holdings { typed = ys; works = without_work t.frame w.holdings.works; old0 = o } })) (typed_gone s own ∙ y.around ∙ sym s.idle.typed)
       ∙ ap (λ ws. quiet (record w { holdings = record w.holdings { typed = v.holdings.typed; works = ws; old0 = o } }))
-      (top_gone v w owner t [] s ∙ tables_none (sizes_of v.post.machine) w.holdings.steps (Some t) e.others e.around ∙ sym s.idle.works)
+      (top_gone s ∙ tables_none (sizes_of v.post.machine) w.holdings.steps (Some t) e.others e.around ∙ sym s.idle.works)
       ∙ ap (λ (q : PortValue). quiet (record q { holdings = record q.holdings { typed = v.holdings.typed; works = v.holdings.works; old0 = o } })) s.hand
       ∙ ap (λ rs. quiet (record v { holdings = record v.holdings { refs = rs; old0 = o } })) (s.refs ∙ (let r = refs_own owner t [] v.holdings.refs own in r))
 
@@ -74,11 +74,11 @@ module _ (v w : PortValue) (owner : ℕ) (t : TableWork) (s : Carries v w owner 
   -- its `kept` mark has it; or that was taken back, and the first old word has it
   pub outer_kept : (kept : Bool) → kept ≡ true → (d : PortValue) → LeavesKept w d t.frame (partial_kind (level_type t.level) true false t.done 0) owner → UnwoundHand v d owner kept (t ∷ [])
   outer_kept kept on d (inl hand) =
-      let so = top_kept v w owner t [] s own in
+      let so = top_kept s own in
       inl (outer_gone w.holdings.old0 d (ap quiet hand ∙ ap (λ h. quiet (record w { holdings = h })) so) ∙ ap (λ o. quiet (record v { holdings = record v.holdings { old0 = o } })) (ap (λ (q : PortValue). q.holdings.old0) s.hand)
       ∙ ap (λ b. quiet (record v { holdings = named_unless b t v.holdings })) (sym on))
   outer_kept kept on d (inr back) =
-      let so = top_kept v w owner t [] s own in
+      let so = top_kept s own in
       inr (
         subst (λ (p : Post). owner ≢ domain_of p.machine p.vcpu) (stands_post v w owner (t ∷ []) s) back.0,
         on,
@@ -153,7 +153,7 @@ serves_on : (u w x : PortValue) (owner : ℕ) (kept : Bool) (ts us rs : List Tab
 serves_on u w x owner kept ts us [] same came goes left = subst (λ f. ServesLeft u x owner kept f ts []) (frame_alike us ts same) (left_behind u w x owner kept (outermost_frame us) ts us [] [] came goes left)
 serves_on u w x owner kept ts us (r ∷ rs) same came goes left = goes_then u w x owner ts us (r ∷ rs) [] [] goes left
 
-module _ (u w : PortValue) (owner : ℕ) (kept : Bool) (ts : List TableWork) (t : TableWork) (us : List TableWork) (g : Unwinding u w owner kept ts (t ∷ us)) where
+module _ {u w : PortValue} {owner : ℕ} {kept : Bool} {ts : List TableWork} {t : TableWork} {us : List TableWork} (g : Unwinding u w owner kept ts (t ∷ us)) where
   pub unwinding_on : (x : PortValue) (rs : List TableWork) → Came w x → Forward w x → ((o : TableWork) → outermost_work (t ∷ us) ≡ Some o → LeftWell w x kept o.frame) → (b : Bool) × (rs ≡ around_lent b us) →
       UnwindsTo w x owner kept (t ∷ us) rs → ServesTo w x owner kept (t ∷ us) rs → UnwindsOn w x owner kept (t ∷ us) rs → Unwinding u x owner kept ts rs
   unwinding_on x rs came forward leaves around hand serves course =
@@ -169,7 +169,7 @@ module _ (u w : PortValue) (owner : ℕ) (kept : Bool) (ts : List TableWork) (t 
       }
 
 -- none is left
-module _ (u w : PortValue) (owner : ℕ) (kept : Bool) (ts us : List TableWork) (none : us ≡ []) (g : Unwinding u w owner kept ts us) where
+module _ {u w : PortValue} {owner : ℕ} {kept : Bool} {ts us : List TableWork} (none : us ≡ []) (g : Unwinding u w owner kept ts us) where
   pub unwinding_hand : Unwinds u w owner kept ts
   unwinding_hand = subst (λ (rs : List TableWork). UnwindsTo u w owner kept ts rs) none g.hand
 

@@ -42,7 +42,7 @@ module _ (Q : Visit → Type 0) where
   each_after xs [] each = tt
   each_after xs (y ∷ ys) each = (each.0, each_after xs ys each.1)
 
-  module _ (A B : List Visit → Type 0) (vs : List Visit) (both : Then A B vs) (each : EachOf Q vs) where
+  module _ {A B : List Visit → Type 0} {vs : List Visit} (both : Then A B vs) (each : EachOf Q vs) where
     pub each_first : EachOf Q both.before
     each_first = each_before both.before both.after (subst (λ xs. EachOf Q xs) both.list each)
 
@@ -54,7 +54,7 @@ module _ (Q : Visit → Type 0) where
   only_is s vs one each = (subst (λ xs. EachOf Q xs) one each).0
 
   pub first_is : (s : Visit) (B : List Visit → Type 0) (vs : List Visit) → Then (Only s) B vs → EachOf Q vs → Q s
-  first_is s B vs both each = only_is s both.before both.first (each_first (Only s) B vs both each)
+  first_is s B vs both each = only_is s both.before both.first (each_first both each)
 
 -- ---- the look at the entry
 module _ (v w : PortValue) (f i : ℕ) (t : PageType) (owner : ℕ) where

@@ -27,9 +27,9 @@ use Rattle.level_validate.proofs.LeftWellEntries.{IsAskedType, shared_plain, sta
 use Rattle.level_validate.proofs.LookedAgain.{SaidAgain, again_came, again_first, again_forward, again_then, again_well}
 use Rattle.level_validate.proofs.Waiting.{left_waiting, wait_stops, waited_found, waits_there}
 
-module _ (u x : PortValue) (owner : ℕ) (t : TableWork) (stack : List TableWork) (top : stack ≡ t ∷ drop 1 stack) (some : t.done ≡ 0 → ⊥) (f stamp : ℕ) (stop : Stop) (said : SaidAgain u x owner t (again.Waiting f stamp stop)) (a : IsStanding u owner stack) where
+module _ {u x : PortValue} {owner : ℕ} {t : TableWork} {stack : List TableWork} (top : stack ≡ t ∷ drop 1 stack) (some : t.done ≡ 0 → ⊥) {f stamp : ℕ} {stop : Stop} (said : SaidAgain u x owner t (again.Waiting f stamp stop)) (a : IsStanding u owner stack) where
   came : Came u x
-  came = again_came u x owner t (again.Waiting f stamp stop) said
+  came = again_came said
 
   below_is : below (level_type t.level) ≡ level_type (t.level - 1)
   below_is =
@@ -43,16 +43,16 @@ module _ (u x : PortValue) (owner : ℕ) (t : TableWork) (stack : List TableWork
   waited_kinds = wait_stops stop (said.entry.shows 0).1
 
   -- it is left
-  module _ (k : PageType) (kind : k ≡ level_type (t.level - 1)) where
+  module _ {k : PageType} (kind : k ≡ level_type (t.level - 1)) where
     pub waited_waits : IsWaiting x f k false stamp
-    waited_waits = waits_there u x t.frame (t.done - 1) (level_type t.level) (t.level - 1) f owner below_is said.hand.0 k stamp kind said.hand.1
+    waited_waits = waits_there (t.level - 1) below_is said.hand.0 k stamp kind said.hand.1
 
     module _ (y : PortValue) (on : Came x y) where
       pub waited_stands : GivesBack x y f k false → StandsOn u y owner stack stack
       waited_stands gives v s =
           subst (λ xs. Carries v y owner xs) (sym top)
-          (after_look v u y owner t (drop 1 stack) (subst (λ xs. Carries v u owner xs) top s) (again_then u x owner t (again.Waiting f stamp stop) said y on) (again_first u x owner t (again.Waiting f stamp stop) said) (t.done - 1)
-          (left_waiting u x t.frame (t.done - 1) (level_type t.level) (t.level - 1) f owner below_is said.hand.0 y k kind gives))
+          (after_look y (subst (λ xs. Carries v u owner xs) top s) (again_then said y on) (again_first said) (t.done - 1)
+          (left_waiting (t.level - 1) below_is said.hand.0 y k kind gives))
 
       pub waited_serves : ServesType x y f k → CarriesOn u y owner stack stack (missed u.post.machine stop)
       waited_serves serves =
@@ -68,7 +68,7 @@ module _ (u x : PortValue) (owner : ℕ) (t : TableWork) (stack : List TableWork
       by_plain = shared_plain f k stamp (subst (λ j. IsAskedType j) (sym kind) (level_type-typed (t.level - 1), level_type-plain (t.level - 1))) (stamp_small said.hand.0.work.word stamp said.hand.1)
 
       pub shared_forward : Does x y (λ vs. SharedBy f k stamp vs) → Forward u y
-      shared_forward does = forward_then u x y (again_forward u x owner t (again.Waiting f stamp stop) said stack top a some) (forward_by x y (λ vs. SharedBy f k stamp vs) by_plain does)
+      shared_forward does = forward_then u x y (again_forward said stack top a some) (forward_by x y (λ vs. SharedBy f k stamp vs) by_plain does)
 
       pub shared_well : Does x y (λ vs. SharedBy f k stamp vs) → (e : ℕ) → LeftWell u y false e
-      shared_well does e = well_then u x y false e (again_well u x owner t (again.Waiting f stamp stop) said e) (well_by x y false e (λ vs. SharedBy f k stamp vs) by_plain does)
+      shared_well does e = well_then u x y false e (again_well said e) (well_by x y false e (λ vs. SharedBy f k stamp vs) by_plain does)

@@ -48,7 +48,7 @@ module _ (v w : PortValue) (f i : ℕ) (t : PageType) (owner g : ℕ) where
       (λ h want is vs each way. subst (λ j. j < v.post.machine.frames) (sym way.0) (taken_inside v w vs each h owner want Counted way.1)) resumes
 
 -- ---- it waits there since a port that had looked, and had a reference more
-module _ (u x : PortValue) (f i : ℕ) (t : PageType) (l g owner : ℕ) (is : below t ≡ level_type l) (o : Opens u x f i t g owner 0 false true) where
+module _ {u x : PortValue} {f i : ℕ} {t : PageType} (l : ℕ) {g owner : ℕ} (is : below t ≡ level_type l) (o : Opens u x f i t g owner 0 false true) where
   before : PortValue
   before = record u { holdings = took g owner (learned_cell f i o.word u.holdings) }
 

@@ -23,7 +23,7 @@ entry_undue _ is = absurd is
 
 module _ (owner : ℕ) (v : PortValue) (t : TableWork) (says : ℕ → Bool) (before risen : ℕ) where
   -- ---- down to where the table was left
-  module _ (stack : List TableWork) (only : stack ≡ t ∷ []) (w : PortValue) (us : List TableWork) where
+  module _ {stack : List TableWork} (only : stack ≡ t ∷ []) (w : PortValue) (us : List TableWork) where
     pub cut_off_working : (answer : Result (Unit {0}) Stop) (e : Stop) → answer ≡ Err e → IsEntryStop e → TookOn owner v stack w us (Err e) → Consults says before before risen risen (is_due_answer answer) (λ answers. Worked owner v t w us answers answer)
     cut_off_working answer e is kind took =
         record {
@@ -34,7 +34,7 @@ module _ (owner : ℕ) (v : PortValue) (t : TableWork) (says : ℕ → Bool) (be
         }
 
     -- the gate is asked behind that, or not
-    module _ (done : Bool) (took : TookOn owner v stack w us (Ok done)) (after more : ℕ) where
+    module _ {done : Bool} (took : TookOn owner v stack w us (Ok done)) (after more : ℕ) where
       pub begun_working : Consults says before after risen more false (λ answers. answers ≡ asked_once (done && is_asked us) false) → Consults says before after risen more false (λ answers. Worked owner v t w us answers (Ok tt))
       begun_working c =
           record {

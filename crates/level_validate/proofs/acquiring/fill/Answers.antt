@@ -42,14 +42,14 @@ loop-port-init g c =
       says = a.says;
       paces = a.paces;
       calm = λ calm. (a.calm calm).1;
-      course = begun_working c.args.owner (g.P.Port.value c.args.port.now) c.args.table _ _ _ c.args.stack.now c.requires.only (g.P.Port.value c.take_on.new.port) c.take_on.new.stack c.in_ok-done.done t.course _ _ a.course;
+      course = begun_working c.args.owner (g.P.Port.value c.args.port.now) c.args.table _ _ _ c.requires.only (g.P.Port.value c.take_on.new.port) c.take_on.new.stack t.course _ _ a.course;
     }
 
 pub go_on-requires : goal.go_on-requires
 go_on-requires g c =
     record {
-      may = filling_may (g.P.Port.value c.args.port.now) (g.P.Port.value c.loop-port.port) c.args.owner c.args.stack.now c.loop-port.stack c.loop-port.invariant.tables c.requires.stands c.requires.may;
-      stands = filling_standing (g.P.Port.value c.args.port.now) (g.P.Port.value c.loop-port.port) c.args.owner c.args.stack.now c.loop-port.stack c.loop-port.invariant.tables c.requires.stands;
+      may = filling_may c.loop-port.invariant.tables c.requires.stands c.requires.may;
+      stands = filling_standing c.loop-port.invariant.tables c.requires.stands;
       ready = c.loop-port.invariant.tables.ready;
       more = search rules;
     }
@@ -79,7 +79,7 @@ returns-in_err-go_on g c =
     let e = c.in_err-go_on.field-0.0 in
     let i = c.loop-port.invariant in
     record {
-      came = filling_came (g.P.Port.value c.args.port.now) (g.P.Port.value c.loop-port.port) c.args.owner c.args.stack.now c.loop-port.stack c.loop-port.invariant.tables (g.P.Port.value c.go_on.new.port) c.go_on.new.stack c.in_err-go_on.ensures.came;
+      came = filling_came c.loop-port.invariant.tables (g.P.Port.value c.go_on.new.port) c.go_on.new.stack c.in_err-go_on.ensures.came;
       forward = forward_then (g.P.Port.value c.args.port.now) (g.P.Port.value c.loop-port.port) (g.P.Port.value c.go_on.new.port) c.loop-port.invariant.tables.forward c.in_err-go_on.ensures.forward;
       leaves = λ f. well_then (g.P.Port.value c.args.port.now) (g.P.Port.value c.loop-port.port) (g.P.Port.value c.go_on.new.port) false f (c.loop-port.invariant.tables.leaves f) (c.in_err-go_on.ensures.leaves f);
       stands = search rules;
@@ -87,10 +87,10 @@ returns-in_err-go_on g c =
       filled = search rules;
       ready = search rules;
       kinds = search rules;
-      serves = filling_serves u x owner c.args.stack.now c.loop-port.stack c.loop-port.invariant.tables w c.go_on.new.stack r
+      serves = filling_serves c.loop-port.invariant.tables w c.go_on.new.stack r
           (goes_answer x w owner c.loop-port.stack c.go_on.new.stack r c.in_err-go_on.field-0.0 (answer.1 ∙ ap Err answer.2) c.in_err-go_on.ensures.serves);
       stops = risen_answer u w owner c.args.stack.now r e (answer.1 ∙ ap Err answer.2)
-          (filling_stops u x owner c.args.stack.now c.loop-port.stack c.loop-port.invariant.tables w c.go_on.new.stack e c.in_err-go_on.ensures.stops);
+          (filling_stops c.loop-port.invariant.tables w c.go_on.new.stack e c.in_err-go_on.ensures.stops);
       gate = search rules;
       heard = search rules;
       says = search rules;
@@ -113,7 +113,7 @@ returns-in_err-done-clause-course g c =
     let e = c.in_err-done.field-0.0 in
     let answer = err_from_is_err_and c.from_residual.result c.from_residual.ensures.1 in
     let stopped = c.in_err-done.ensures in
-    cut_off_working c.args.owner (g.P.Port.value c.args.port.now) c.args.table _ _ _ c.args.stack.now c.requires.only (g.P.Port.value c.take_on.new.port) c.take_on.new.stack c.from_residual.result e (answer.1 ∙ ap Err answer.2)
+    cut_off_working c.args.owner (g.P.Port.value c.args.port.now) c.args.table _ _ _ c.requires.only (g.P.Port.value c.take_on.new.port) c.take_on.new.stack c.from_residual.result e (answer.1 ∙ ap Err answer.2)
     stopped.kinds stopped.course
 
 pub returns-in_err-ask_behind-clause-course : goal.returns-in_err-ask_behind-clause-course
@@ -122,5 +122,5 @@ returns-in_err-ask_behind-clause-course g c =
     let r = c.from_residual-in_err-ask_behind.result in
     let answer = err_from_is_err_and r c.from_residual-in_err-ask_behind.ensures.1 in
     let asked = c.in_err-ask_behind.ensures in
-    due_working c.args.owner (g.P.Port.value c.args.port.now) c.args.table _ _ _ c.args.stack.now c.requires.only (g.P.Port.value c.take_on.new.port) c.take_on.new.stack c.in_ok-done.done c.in_ok-done.ensures.course _ _
+    due_working c.args.owner (g.P.Port.value c.args.port.now) c.args.table _ _ _ c.requires.only (g.P.Port.value c.take_on.new.port) c.take_on.new.stack c.in_ok-done.ensures.course _ _
     r e (answer.1 ∙ ap Err answer.2) asked.kinds asked.course

@@ -21,7 +21,7 @@ use Rattle.level_validate.proofs.acquiring.leave_waiting.Goals as goal
 
 pub leave_shared-requires-clause-waits : goal.leave_shared-requires-clause-waits
 leave_shared-requires-clause-waits g c =
-    let b = c.requires.waits in (b.1.lent, _, waits_as b.0 (g.P.Port.value c.args.port.now) c.args.frame c.args.level c.args.owner c.args.own c.args.stamp b.1 c.level_type-kind.result c.level_type-kind.ensures false c.if-not-own.true)
+    let b = c.requires.waits in (b.1.lent, _, waits_as b.1 c.level_type-kind.ensures c.if-not-own.true)
 
 pub returns-then-not-own : goal.returns-then-not-own
 unfolding ServesWaiting
@@ -31,15 +31,15 @@ returns-then-not-own g c =
     let f = c.args.frame in
     let b = c.requires.waits in
     let k = c.level_type-kind.result in
-    let is = unkept_is b.0 x f c.args.level c.args.owner c.args.own c.args.stamp b.1 k c.level_type-kind.ensures false c.if-not-own.true in
+    let is = unkept_is b.1 c.level_type-kind.ensures c.if-not-own.true in
     record {
       came = search rules;
       forward = forward_by x w (λ vs. SharedBy f k c.args.stamp vs) (shared_plain f k c.args.stamp is) c.leave_shared.ensures.visits;
       leaves = well_by x (g.P.Port.value c.leave_shared.new.port) c.args.kept f (λ vs. SharedBy f k c.args.stamp vs) (shared_plain f k c.args.stamp is) c.leave_shared.ensures.visits;
       serves = λ u r ds before asks locks. marked_none u w r c.args.owner c.args.kept f ds (type_left u x w r ds f c.args.owner c.args.level before asks (subst (λ k. ServesType x w f k) c.level_type-kind.ensures c.leave_shared.ensures.serves));
       hand = λ v a. lent_hand v w c.args.frame c.args.owner c.args.own c.args.kept c.if-not-own.true
-          (gives_left v (g.P.Port.value c.args.port.now) c.args.frame c.args.level c.args.owner c.args.own c.args.stamp a c.level_type-kind.result c.level_type-kind.ensures false c.if-not-own.true w c.leave_shared.ensures.hand);
-      course = waiting_lent (g.P.Port.value c.args.port.now) (g.P.Port.value c.leave_shared.new.port) c.args.frame c.args.level c.args.owner c.args.stamp c.args.own c.args.kept c.level_type-kind.result c.level_type-kind.ensures
+          (gives_left a c.level_type-kind.ensures c.if-not-own.true w c.leave_shared.ensures.hand);
+      course = waiting_lent (g.P.Port.value c.args.port.now) (g.P.Port.value c.leave_shared.new.port) c.args.frame c.args.level c.args.owner c.args.stamp c.args.own c.args.kept c.level_type-kind.ensures
           c.if-not-own.true c.leave_shared.ensures.visits;
     }
 
@@ -51,13 +51,13 @@ leave_kept-requires g c =
     record {
       frame = search rules;
       may = search rules;
-      leaves = rw c.waiting_kind.ensures (mark_may b.0 (g.P.Port.value c.args.port.now) c.args.frame c.args.level c.args.owner c.args.own c.args.stamp b.1 c.level_type-kind.result c.level_type-kind.ensures c.if-not-own.false);
+      leaves = rw c.waiting_kind.ensures (mark_may b.1 c.level_type-kind.ensures c.if-not-own.false);
       partial = search rules;
       kept = search rules;
       page = rw c.waiting_kind.ensures (rw c.level_type-kind.ensures (level_type-unpaged c.args.level c.requires.low));
-      known = mark_known b.0 (g.P.Port.value c.args.port.now) c.args.frame c.args.level c.args.owner c.args.own c.args.stamp b.1 c.level_type-kind.result c.level_type-kind.ensures c.if-not-own.false;
+      known = mark_known b.1 c.level_type-kind.ensures c.if-not-own.false;
       real = search rules;
-      looked = mark_looking b.0 (g.P.Port.value c.args.port.now) c.args.frame c.args.level c.args.owner c.args.own c.args.stamp b.1 c.level_type-kind.result c.level_type-kind.ensures c.if-not-own.false;
+      looked = mark_looking b.1 c.level_type-kind.ensures c.if-not-own.false;
       room = search rules;
     }
 
@@ -68,16 +68,16 @@ returns-then-kept g c =
     let d = g.P.Port.value c.leave_kept.new.port in
     let b = c.requires.waits in
     let f = c.args.frame in
-    let may = mark_may b.0 x f c.args.level c.args.owner c.args.own c.args.stamp b.1 c.level_type-kind.result c.level_type-kind.ensures c.if-not-own.false in
+    let may = mark_may b.1 c.level_type-kind.ensures c.if-not-own.false in
     record {
       came = search rules;
       forward = kept_forward (g.P.Port.value c.args.port.now) (g.P.Port.value c.leave_kept.new.port) c.args.frame c.waiting_kind.result c.args.owner c.leave_kept.ensures.course;
-      leaves = kept_well f (partial_kind c.level_type-kind.result true true 0 c.args.stamp) may.is refl c.args.kept c.if-kept.true x d c.args.owner (subst (λ (k : KindWord). KeptFor x d f k c.args.owner) c.waiting_kind.ensures c.leave_kept.ensures.course);
+      leaves = kept_well f (partial_kind c.level_type-kind.result true true 0 c.args.stamp) may.is refl c.if-kept.true x d c.args.owner (subst (λ (k : KindWord). KeptFor x d f k c.args.owner) c.waiting_kind.ensures c.leave_kept.ensures.course);
       serves = λ u r ds before asks locks. marked_kept u (g.P.Port.value c.leave_kept.new.port) r c.args.owner c.args.kept c.args.frame ds c.if-kept.true (c.leave_kept.ensures.serves u r ds before (of c.args.owner _ asks) locks);
       hand = λ v a. kept_hand v d c.args.frame c.args.owner c.args.own c.args.kept c.if-not-own.false c.if-kept.true
-          (mark_left v x c.args.frame c.args.level c.args.owner c.args.own c.args.stamp a c.level_type-kind.result c.level_type-kind.ensures c.if-not-own.false d
+          (mark_left a c.level_type-kind.ensures c.if-not-own.false d
           (subst (λ (k : KindWord). LeavesKept x d c.args.frame k c.args.owner) c.waiting_kind.ensures c.leave_kept.ensures.hand));
-      course = waiting_kept (g.P.Port.value c.args.port.now) (g.P.Port.value c.leave_kept.new.port) c.args.frame c.args.level c.args.owner c.args.stamp c.args.own c.args.kept c.level_type-kind.result c.level_type-kind.ensures
+      course = waiting_kept (g.P.Port.value c.args.port.now) (g.P.Port.value c.leave_kept.new.port) c.args.frame c.args.level c.args.owner c.args.stamp c.args.own c.args.kept c.level_type-kind.ensures
           c.if-not-own.false c.if-kept.true c.waiting_kind.result c.waiting_kind.ensures c.leave_kept.ensures.course;
     }
 
@@ -85,18 +85,18 @@ returns-then-kept g c =
 
 pub leave_unsettled-requires-clause-waits : goal.leave_unsettled-requires-clause-waits
 leave_unsettled-requires-clause-waits g c =
-    let b = c.requires.waits in (b.1.lent, _, waits_as b.0 (g.P.Port.value c.args.port.now) c.args.frame c.args.level c.args.owner c.args.own c.args.stamp b.1 c.level_type-kind.result c.level_type-kind.ensures true c.if-not-own.false)
+    let b = c.requires.waits in (b.1.lent, _, waits_as b.1 c.level_type-kind.ensures c.if-not-own.false)
 
 pub put_old-requires : goal.put_old-requires
 put_old-requires g c =
     let b = c.requires.waits in
     record {
       frame = subst (λ (p : Post). c.args.frame < p.machine.frames) (sym (came_post (g.P.Port.value c.args.port.now) (g.P.Port.value c.leave_unsettled.new.port) c.leave_unsettled.ensures.came)) c.requires.frame;
-      may = stays_may b.0 (g.P.Port.value c.args.port.now) c.args.frame c.args.level c.args.owner c.args.own c.args.stamp b.1 c.level_type-kind.result c.level_type-kind.ensures c.if-not-own.false (g.P.Port.value c.leave_unsettled.new.port)
+      may = stays_may b.1 c.level_type-kind.ensures c.if-not-own.false (g.P.Port.value c.leave_unsettled.new.port)
           c.leave_unsettled.ensures.hand c.requires.may;
-      empty = stays_room b.0 (g.P.Port.value c.args.port.now) c.args.frame c.args.level c.args.owner c.args.own c.args.stamp b.1 c.level_type-kind.result c.level_type-kind.ensures c.if-not-own.false (g.P.Port.value c.leave_unsettled.new.port)
+      empty = stays_room b.1 c.level_type-kind.ensures c.if-not-own.false (g.P.Port.value c.leave_unsettled.new.port)
           c.leave_unsettled.ensures.hand c.requires.room;
-      held = stays_held b.0 (g.P.Port.value c.args.port.now) c.args.frame c.args.level c.args.owner c.args.own c.args.stamp b.1 c.level_type-kind.result c.level_type-kind.ensures c.if-not-own.false (g.P.Port.value c.leave_unsettled.new.port)
+      held = stays_held b.1 c.level_type-kind.ensures c.if-not-own.false (g.P.Port.value c.leave_unsettled.new.port)
           c.leave_unsettled.ensures.hand;
     }
 
@@ -111,7 +111,7 @@ returns-else-kept g c =
     let k = partial_kind c.level_type-kind.result false true 0 c.args.stamp in
     let b = c.requires.waits in
     let want = c.level_type-kind.result in
-    let is = unkept_is b.0 x f c.args.level c.args.owner c.args.own c.args.stamp b.1 want c.level_type-kind.ensures true c.if-not-own.false in
+    let is = unkept_is b.1 c.level_type-kind.ensures c.if-not-own.false in
     record {
       came = came_trans (g.P.Port.value c.args.port.now) d z c.leave_unsettled.ensures.came (moves_came d z _ _ _ _ 0 c.put_old.ensures.moves);
       forward = forward_then u d z (forward_by u d (λ vs. StoresKind f k vs) (stores_plain f k is refl refl) c.leave_unsettled.ensures.visits) (forward_step d z _ _ _ _ 0 refl refl c.put_old.ensures.moves);
@@ -120,7 +120,7 @@ returns-else-kept g c =
       serves = λ u r ds before asks locks. marked_none u z r c.args.owner c.args.kept f ds
           (old_serves u d z r ds (type_left u x d r ds f c.args.owner c.args.level before asks (subst (λ k. ServesType x d f k) c.level_type-kind.ensures c.leave_unsettled.ensures.serves)) (f + 1) c.put_old.ensures.moves);
       hand = λ v a. named_hand v z c.args.frame c.args.owner c.args.own c.args.kept c.if-not-own.false c.if-kept.false
-          (named_left v (g.P.Port.value c.args.port.now) c.args.frame c.args.level c.args.owner c.args.own c.args.stamp a c.level_type-kind.result c.level_type-kind.ensures c.if-not-own.false d c.leave_unsettled.ensures.hand z c.put_old.ensures.hand);
-      course = waiting_named (g.P.Port.value c.args.port.now) (g.P.Port.value c.put_old.new.port) c.args.frame c.args.level c.args.owner c.args.stamp c.args.own c.args.kept c.level_type-kind.result c.level_type-kind.ensures
+          (named_left a c.level_type-kind.ensures c.if-not-own.false d c.leave_unsettled.ensures.hand z c.put_old.ensures.hand);
+      course = waiting_named (g.P.Port.value c.args.port.now) (g.P.Port.value c.put_old.new.port) c.args.frame c.args.level c.args.owner c.args.stamp c.args.own c.args.kept c.level_type-kind.ensures
           c.if-not-own.false c.if-kept.false (g.P.Port.value c.leave_unsettled.new.port) c.leave_unsettled.ensures.visits c.put_old.ensures.moves;
     }

@@ -24,9 +24,9 @@ make_live-requires g c =
     let v = a.2.0 in
     let s = a.2.1 in
     record {
-      frame = top_inside v w owner t (u ∷ us) s;
+      frame = top_inside s;
       may = search rules;
-      leaves = live_leaves v w owner t (u ∷ us) s c.requires.full c.requires.ready t.own refl c.requires.may;
+      leaves = live_leaves s c.requires.full c.requires.ready t.own refl c.requires.may;
     }
 
 pub give_back-requires : goal.give_back-requires
@@ -41,11 +41,11 @@ give_back-requires g c =
     let s = a.2.1 in
     let d = g.P.Port.value c.make_live.new.port in
     let came_d = moves_came w d _ _ _ _ c.make_live.result c.make_live.ensures.moves in
-    let l = live_hand v w owner t (u ∷ us) s t.own refl d c.make_live.ensures.hand in
+    let l = live_hand s t.own refl d c.make_live.ensures.hand in
     record {
-      frame = subst (λ (p : Post). t.frame < p.machine.frames) (sym (came_post w d came_d)) (top_inside v w owner t (u ∷ us) s);
+      frame = subst (λ (p : Post). t.frame < p.machine.frames) (sym (came_post w d came_d)) (top_inside s);
       may = search rules;
-      gives = live_gives v w owner t u us s d c.make_live.result c.make_live.ensures.moves l c.if-table.true;
+      gives = live_gives c.make_live.ensures.moves l c.if-table.true;
     }
 
 pub record_entry-requires : goal.record_entry-requires
@@ -60,8 +60,8 @@ record_entry-requires g c =
     let s = a.2.1 in
     let d = g.P.Port.value c.make_live.new.port in
     let came_d = moves_came w d _ _ _ _ c.make_live.result c.make_live.ensures.moves in
-    let l = live_hand v w owner t (u ∷ us) s t.own refl d c.make_live.ensures.hand in
-    live_records v w owner t u us s d c.make_live.result c.make_live.ensures.moves l c.if-table.false
+    let l = live_hand s t.own refl d c.make_live.ensures.hand in
+    live_records c.make_live.ensures.moves l c.if-table.false
 
 pub returns-then-table : goal.returns-then-table
 unfolding CarriesOn
@@ -78,21 +78,21 @@ returns-then-table g c =
     let us = a.1 in
     let v = a.2.0 in
     let s = a.2.1 in
-    let l = live_hand v w owner t (u ∷ us) s t.own refl d c.make_live.ensures.hand in
+    let l = live_hand s t.own refl d c.make_live.ensures.hand in
     let o = c.args.outer in
-    let is = (live_leaves b.2.0 w b.0 t (c.args.outer ∷ b.1) b.2.1 c.requires.full c.requires.ready t.own refl c.requires.may).is in
+    let is = (live_leaves b.2.1 c.requires.full c.requires.ready t.own refl c.requires.may).is in
     record {
       came = came_trans w d x came_d c.give_back.ensures.came;
       forward = forward_then w d x (forward_step w d _ _ _ _ c.make_live.result refl refl c.make_live.ensures.moves) c.give_back.ensures.forward;
       leaves = λ f. well_then w d x false f (kind_well w d false f t.frame _ _ _ c.make_live.result is refl refl c.make_live.ensures.moves) (c.give_back.ensures.leaves f);
-      stands = λ owner us v s. let l = live_hand v w owner t (u ∷ us) s t.own refl d c.make_live.ensures.hand in
-          old_stands v w owner t u us s d c.make_live.result c.make_live.ensures.moves l c.if-table.true (live_leaves b.2.0 w b.0 t (u ∷ b.1) b.2.1 c.requires.full c.requires.ready t.own refl c.requires.may).is x c.give_back.ensures.hand c.give_back.ensures.came;
-      serves = λ owner us u r ds a. let left = piece_left b.2.0 w b.0 t (o ∷ b.1) b.2.1 _ (live_leaves b.2.0 w b.0 t (o ∷ b.1) b.2.1 c.requires.full c.requires.ready t.own refl c.requires.may).is refl d c.make_live.result c.make_live.ensures.moves u r owner (o ∷ us) ds a in
-          piece_rest u x r owner t (o ∷ us) ds (piece_back u d x r owner t (o ∷ us) ds left c.give_back.ensures.serves);
-      progress = let l = live_hand b.2.0 w b.0 t (u ∷ b.1) b.2.1 t.own refl d c.make_live.ensures.hand in
+      stands = λ owner us v s. let l = live_hand s t.own refl d c.make_live.ensures.hand in
+          old_stands c.make_live.ensures.moves l c.if-table.true (live_leaves b.2.1 c.requires.full c.requires.ready t.own refl c.requires.may).is x c.give_back.ensures.hand c.give_back.ensures.came;
+      serves = λ owner us u r ds a. let left = piece_left b.2.1 _ (live_leaves b.2.1 c.requires.full c.requires.ready t.own refl c.requires.may).is refl c.make_live.ensures.moves u r owner (o ∷ us) ds a in
+          piece_rest u x r owner t (o ∷ us) ds (piece_back x left c.give_back.ensures.serves);
+      progress = let l = live_hand b.2.1 t.own refl d c.make_live.ensures.hand in
           progress_before w d x c.give_back.ensures.came
-          (progress_settles b.2.0 w b.0 t u b.1 b.2.1 d c.make_live.result c.make_live.ensures.moves l c.if-table.true (live_leaves b.2.0 w b.0 t (u ∷ b.1) b.2.1 c.requires.full c.requires.ready t.own refl c.requires.may).is);
-      ready = old_ready v w owner t u us s d c.make_live.result c.make_live.ensures.moves l c.if-table.true (live_leaves b.2.0 w b.0 t (u ∷ b.1) b.2.1 c.requires.full c.requires.ready t.own refl c.requires.may).is x c.give_back.ensures.hand c.give_back.ensures.came;
+          (progress_settles c.make_live.ensures.moves l c.if-table.true (live_leaves b.2.1 c.requires.full c.requires.ready t.own refl c.requires.may).is);
+      ready = old_ready c.make_live.ensures.moves l c.if-table.true (live_leaves b.2.1 c.requires.full c.requires.ready t.own refl c.requires.may).is x c.give_back.ensures.hand c.give_back.ensures.came;
       course = λ owner us. completed_so w d (g.P.Port.value c.give_back.new.port) c.args.table c.args.outer true c.if-table.true c.requires.full (c.make_live.result, c.make_live.ensures.moves) c.give_back.ensures.course owner us;
     }
 
@@ -110,20 +110,20 @@ returns-else-table g c =
     let us = a.1 in
     let v = a.2.0 in
     let s = a.2.1 in
-    let l = live_hand v w owner t (u ∷ us) s t.own refl d c.make_live.ensures.hand in
+    let l = live_hand s t.own refl d c.make_live.ensures.hand in
     let o = c.args.outer in
     let b = c.requires.stands in
-    let is = (live_leaves b.2.0 w b.0 t (c.args.outer ∷ b.1) b.2.1 c.requires.full c.requires.ready t.own refl c.requires.may).is in
+    let is = (live_leaves b.2.1 c.requires.full c.requires.ready t.own refl c.requires.may).is in
     record {
       came = came_trans w d x came_d (moves_came d x _ _ _ _ c.record_entry.result c.record_entry.ensures.moves);
       forward = forward_then w d x (forward_step w d _ _ _ _ c.make_live.result refl refl c.make_live.ensures.moves) (forward_step d x _ _ _ _ c.record_entry.result refl refl c.record_entry.ensures.moves);
       leaves = λ f. well_then w d x false f (kind_well w d false f t.frame _ _ _ c.make_live.result is refl refl c.make_live.ensures.moves) (well_step d x false f _ _ _ _ c.record_entry.result refl c.record_entry.ensures.moves);
-      stands = λ owner us v s. let l = live_hand v w owner t (u ∷ us) s t.own refl d c.make_live.ensures.hand in
-          new_stands v w owner t u us s d c.make_live.result c.make_live.ensures.moves l c.if-table.false x c.record_entry.ensures.hand (came_trans w d x came_d (moves_came d x _ _ _ _ c.record_entry.result c.record_entry.ensures.moves));
-      serves = λ owner us u r ds a. let left = piece_left b.2.0 w b.0 t (o ∷ b.1) b.2.1 _ (live_leaves b.2.0 w b.0 t (o ∷ b.1) b.2.1 c.requires.full c.requires.ready t.own refl c.requires.may).is refl d c.make_live.result c.make_live.ensures.moves u r owner (o ∷ us) ds a in
-          piece_rest u x r owner t (o ∷ us) ds (piece_records u d x r owner (t ∷ o ∷ us) ds left o.frame o.done c.record_entry.result c.record_entry.ensures.moves);
+      stands = λ owner us v s. let l = live_hand s t.own refl d c.make_live.ensures.hand in
+          new_stands c.make_live.ensures.moves l c.if-table.false x c.record_entry.ensures.hand (came_trans w d x came_d (moves_came d x _ _ _ _ c.record_entry.result c.record_entry.ensures.moves));
+      serves = λ owner us u r ds a. let left = piece_left b.2.1 _ (live_leaves b.2.1 c.requires.full c.requires.ready t.own refl c.requires.may).is refl c.make_live.ensures.moves u r owner (o ∷ us) ds a in
+          piece_rest u x r owner t (o ∷ us) ds (piece_records x left o.frame o.done c.record_entry.result c.record_entry.ensures.moves);
       progress = progress_after w d x came_d (progress_records d x c.args.outer.frame c.args.outer.done c.record_entry.result c.record_entry.ensures.moves);
-      ready = new_ready v w owner t u us s d c.make_live.result c.make_live.ensures.moves l c.if-table.false x c.record_entry.ensures.hand (came_trans w d x came_d (moves_came d x _ _ _ _ c.record_entry.result c.record_entry.ensures.moves));
+      ready = new_ready c.make_live.ensures.moves l c.if-table.false x c.record_entry.ensures.hand (came_trans w d x came_d (moves_came d x _ _ _ _ c.record_entry.result c.record_entry.ensures.moves));
       course = λ owner us. completed_so w d x c.args.table c.args.outer false c.if-table.false c.requires.full (c.make_live.result, c.make_live.ensures.moves) (c.record_entry.result, c.record_entry.ensures.moves) owner us;
     }
 

@@ -9,11 +9,11 @@ use Rattle.level_validate.proofs.Serving.{piece_left, piece_rest}
 use Rattle.level_validate.proofs.completing.complete_outer.Goals as goal
 
 pub make_live-requires-clause-frame : goal.make_live-requires-clause-frame
-make_live-requires-clause-frame g c = let a = c.requires.stands in top_inside a.1.0 (g.P.Port.value c.args.port.now) a.0 c.args.table [] a.1.1
+make_live-requires-clause-frame g c = let a = c.requires.stands in top_inside a.1.1
 
 pub make_live-requires-clause-leaves : goal.make_live-requires-clause-leaves
 make_live-requires-clause-leaves g c =
-    let a = c.requires.stands in live_leaves a.1.0 (g.P.Port.value c.args.port.now) a.0 c.args.table [] a.1.1 c.requires.full c.requires.ready c.args.table.own refl c.requires.may
+    let a = c.requires.stands in live_leaves a.1.1 c.requires.full c.requires.ready c.args.table.own refl c.requires.may
 
 pub returns : goal.returns
 unfolding CarriesOn
@@ -25,9 +25,9 @@ returns g c =
     record {
       came = moves_came (g.P.Port.value c.args.port.now) (g.P.Port.value c.make_live.new.port) _ _ _ _ c.make_live.result c.make_live.ensures.moves;
       forward = forward_step (g.P.Port.value c.args.port.now) (g.P.Port.value c.make_live.new.port) _ _ _ _ c.make_live.result refl refl c.make_live.ensures.moves;
-      leaves = λ f. kind_well w (g.P.Port.value c.make_live.new.port) false f t.frame _ _ _ c.make_live.result (live_leaves b.1.0 w b.0 t [] b.1.1 c.requires.full c.requires.ready t.own refl c.requires.may).is refl refl c.make_live.ensures.moves;
-      hand = λ v owner s. outer_live v w d owner c.args.table s (live_hand v w owner c.args.table [] s c.args.table.own refl d c.make_live.ensures.hand);
+      leaves = λ f. kind_well w (g.P.Port.value c.make_live.new.port) false f t.frame _ _ _ c.make_live.result (live_leaves b.1.1 c.requires.full c.requires.ready t.own refl c.requires.may).is refl refl c.make_live.ensures.moves;
+      hand = λ v owner s. outer_live v w d owner c.args.table s (live_hand s c.args.table.own refl d c.make_live.ensures.hand);
       serves = λ owner u r ds a. piece_rest u d r owner t [] ds
-          (piece_left b.1.0 w b.0 t [] b.1.1 _ (live_leaves b.1.0 w b.0 t [] b.1.1 c.requires.full c.requires.ready t.own refl c.requires.may).is refl d c.make_live.result c.make_live.ensures.moves u r owner [] ds a);
+          (piece_left b.1.1 _ (live_leaves b.1.1 c.requires.full c.requires.ready t.own refl c.requires.may).is refl c.make_live.ensures.moves u r owner [] ds a);
       course = search rules;
     }

@@ -9,10 +9,10 @@ use Rattle.level_validate.proofs.Sharing.{back_given, back_puts, never_last}
 use Rattle.level_validate.proofs.completing.give_back.Goals as goal
 
 pub unreachable-requires : goal.unreachable-requires
-unreachable-requires g c = never_last (g.P.Port.value c.args.port.now) (g.P.Port.value c.drop_type.new.port) c.args.frame c.drop_type.result c.drop_type.ensures.drops c.requires.gives c.if-drop_type.true
+unreachable-requires g c = never_last c.drop_type.ensures.drops c.requires.gives c.if-drop_type.true
 
 pub put_ref-requires-clause-gives : goal.put_ref-requires-clause-gives
-put_ref-requires-clause-gives g c = back_puts (g.P.Port.value c.args.port.now) (g.P.Port.value c.drop_type.new.port) c.args.frame c.drop_type.result c.drop_type.ensures.drops c.if-drop_type.false
+put_ref-requires-clause-gives g c = back_puts c.drop_type.ensures.drops c.if-drop_type.false
 
 pub returns : goal.returns
 returns g c =
@@ -24,7 +24,7 @@ returns g c =
       came = came_trans v a w (serves_came v a (of_back c.args.frame) [] c.drop_type.ensures.serves) (serves_came a w (of_back c.args.frame) [] c.put_ref.ensures.serves);
       forward = forward_then v a w (forward_step v a _ _ _ _ drops.found refl refl drops.lowers.step) (forward_by a w (PutBy c.args.frame) (λ vs puts. put_plain c.args.frame vs puts) c.put_ref.ensures.puts);
       leaves = λ f. well_then v a w false f (well_step v a false f _ _ _ _ drops.found refl drops.lowers.step) (well_by a w false f (PutBy c.args.frame) (λ vs puts. put_plain c.args.frame vs puts) c.put_ref.ensures.puts);
-      hand = back_given (g.P.Port.value c.args.port.now) (g.P.Port.value c.drop_type.new.port) c.args.frame c.drop_type.result c.drop_type.ensures.drops c.if-drop_type.false (g.P.Port.value c.put_ref.new.port) c.put_ref.ensures.hand;
+      hand = back_given c.drop_type.ensures.drops c.if-drop_type.false (g.P.Port.value c.put_ref.new.port) c.put_ref.ensures.hand;
       serves = serves_then v a w (of_back c.args.frame) [] [] c.drop_type.ensures.serves c.put_ref.ensures.serves;
       course = search rules;
     }

@@ -47,7 +47,7 @@ returns-then-top-eq0 g n c =
       less = search rules;
       serves = goes_nothing (g.P.Port.value c.args.port.now) c.args.owner c.args.stack.now;
       stops = search rules;
-      course = fresh_on c.args.owner (g.P.Port.value c.args.port.now) c.args.top (drop 1 c.args.stack.now) c.args.stack.now c.requires.top c.if-top-eq0.true;
+      course = fresh_on c.args.owner (g.P.Port.value c.args.port.now) c.requires.top c.if-top-eq0.true;
     }
 
 -- ---- its last one is looked at
@@ -59,15 +59,15 @@ resume_entry-requires g n c =
     let t = c.args.top in
     let one = sym (back_one t.done c.if-top-eq0.false) in
     record {
-      frame = top_inside a.0 (g.P.Port.value c.args.port.now) c.args.owner c.args.top (drop 1 c.args.stack.now) (subst (λ xs. Carries a.0 (g.P.Port.value c.args.port.now) c.args.owner xs) c.requires.top a.1);
+      frame = top_inside (subst (λ xs. Carries a.0 (g.P.Port.value c.args.port.now) c.args.owner xs) c.requires.top a.1);
       index = search rules;
       may = search rules;
       works = subst (λ (k : PageType). WorksAtTop t.frame k (t.done - 1 + 1) u.holdings) (sym c.level_type.ensures)
-          (subst (λ n. WorksAtTop t.frame (level_type t.level) n u.holdings) one (standing_top a.0 u c.args.owner t (drop 1 c.args.stack.now) (subst (λ xs. Carries a.0 u c.args.owner xs) c.requires.top a.1)));
-      held = standing_held a.0 (g.P.Port.value c.args.port.now) c.args.owner c.args.top (drop 1 c.args.stack.now) (subst (λ xs. Carries a.0 (g.P.Port.value c.args.port.now) c.args.owner xs) c.requires.top a.1);
+          (subst (λ n. WorksAtTop t.frame (level_type t.level) n u.holdings) one (standing_top (subst (λ xs. Carries a.0 u c.args.owner xs) c.requires.top a.1)));
+      held = standing_held (subst (λ xs. Carries a.0 (g.P.Port.value c.args.port.now) c.args.owner xs) c.requires.top a.1);
       above = λ f. subst (λ (k : PageType). IsOfOther f (below k) u.holdings) (sym c.level_type.ensures)
-          (standing_above a.0 u c.args.owner c.args.top (drop 1 c.args.stack.now) (subst (λ xs. Carries a.0 u c.args.owner xs) c.requires.top a.1) f);
-      looked = standing_looked a.0 (g.P.Port.value c.args.port.now) c.args.owner c.args.top (drop 1 c.args.stack.now) (subst (λ xs. Carries a.0 (g.P.Port.value c.args.port.now) c.args.owner xs) c.requires.top a.1);
+          (standing_above (subst (λ xs. Carries a.0 u c.args.owner xs) c.requires.top a.1) f);
+      looked = standing_looked (subst (λ xs. Carries a.0 (g.P.Port.value c.args.port.now) c.args.owner xs) c.requires.top a.1);
     }
 
 -- ---- that stops
@@ -84,11 +84,11 @@ returns-in_err-resume_entry g n c =
     let stopped = c.in_err-resume_entry.ensures in
     record {
       came = serves_came (g.P.Port.value c.args.port.now) (g.P.Port.value c.resume_entry.new.port) (of_entries c.args.owner 0) _ (c.in_err-resume_entry.ensures.serves 0);
-      forward = resumes_forward (g.P.Port.value c.args.port.now) (g.P.Port.value c.resume_entry.new.port) c.args.owner c.args.top c.args.stack.now c.requires.top c.requires.stands c.level_type.result c.level_type.ensures _ c.if-top-eq0.false
+      forward = resumes_forward (g.P.Port.value c.args.port.now) (g.P.Port.value c.resume_entry.new.port) c.args.owner c.requires.top c.requires.stands c.level_type.ensures _ c.if-top-eq0.false
           c.in_err-resume_entry.ensures.found;
       leaves = λ e. resumes_well (g.P.Port.value c.args.port.now) (g.P.Port.value c.resume_entry.new.port) e c.args.top.frame (c.args.top.done - 1) c.level_type.result c.args.owner _ c.in_err-resume_entry.ensures.found;
       stands = λ v s. subst (λ xs. Carries v w c.args.owner xs) (sym c.requires.top)
-          (after_look v u w c.args.owner c.args.top (drop 1 c.args.stack.now) (subst (λ xs. Carries v u c.args.owner xs) c.requires.top s) (serves_came u w (of_entries c.args.owner 0) _ (c.in_err-resume_entry.ensures.serves 0))
+          (after_look w (subst (λ xs. Carries v u c.args.owner xs) c.requires.top s) (serves_came u w (of_entries c.args.owner 0) _ (c.in_err-resume_entry.ensures.serves 0))
           (resumed_first u w c.args.top.frame (c.args.top.done - 1) c.level_type.result c.args.owner _ found) (c.args.top.done - 1) c.in_err-resume_entry.ensures.hand);
       ready = search rules;
       kinds = search rules;
@@ -98,8 +98,8 @@ returns-in_err-resume_entry g n c =
       serves = goes_answer u x c.args.owner c.args.stack.now c.args.stack.now c.from_residual.result c.in_err-resume_entry.field-0.0 (answer.1 ∙ ap Err answer.2)
           (goes_entries u x c.args.owner c.args.stack.now (missed u.post.machine c.in_err-resume_entry.field-0.0) c.in_err-resume_entry.ensures.serves);
       stops = stops_answer u x c.args.owner c.args.stack.now c.from_residual.result e (answer.1 ∙ ap Err answer.2) (stops_entries u x c.args.owner c.args.stack.now e c.in_err-resume_entry.ensures.stops);
-      course = stopped_on c.args.owner u t (drop 1 c.args.stack.now) c.args.stack.now c.requires.top c.if-top-eq0.false x c.from_residual.result e (answer.1 ∙ ap Err answer.2)
-          (resumed_err u x c.args.owner t c.level_type.result c.level_type.ensures e stopped.found stopped.plain stopped.stops);
+      course = stopped_on c.args.owner u c.requires.top c.if-top-eq0.false x c.from_residual.result e (answer.1 ∙ ap Err answer.2)
+          (resumed_err u x c.args.owner t c.level_type.ensures e stopped.found stopped.plain stopped.stops);
     }
 
 -- ---- it is settled
@@ -112,17 +112,17 @@ returns-in-Settled g n c =
     let said = said_again u x c.args.owner c.args.top c.level_type.result c.level_type.ensures c.in_ok-resume_entry.field-0 again.Settled c.in-Settled.is e.found e.plain e.shows e.serves e.hand in
     record {
       came = serves_came u x (of_entries c.args.owner 0) [] (e.serves 0);
-      forward = again_forward u x c.args.owner c.args.top again.Settled said c.args.stack.now c.requires.top c.requires.stands c.if-top-eq0.false;
-      leaves = again_well u x c.args.owner c.args.top again.Settled said;
-      stands = settled_stands u x c.args.owner c.args.top c.args.stack.now c.requires.top said;
-      ready = settled_ready u x c.args.owner c.args.top c.args.stack.now c.requires.top said c.requires.stands;
+      forward = again_forward said c.args.stack.now c.requires.top c.requires.stands c.if-top-eq0.false;
+      leaves = again_well said;
+      stands = settled_stands c.requires.top said;
+      ready = settled_ready c.requires.top said c.requires.stands;
       kinds = tt;
       outer = refl;
       progress = search rules;
       less = search rules;
       serves = goes_entries u x c.args.owner c.args.stack.now [] e.serves;
       stops = tt;
-      course = settled_on c.args.owner u c.args.top (drop 1 c.args.stack.now) c.args.stack.now c.requires.top c.if-top-eq0.false x said.entry;
+      course = settled_on c.args.owner u c.requires.top c.if-top-eq0.false x said.entry;
     }
 
 -- ---- its frame was live
@@ -134,9 +134,9 @@ give_back-requires g n c =
     let e = c.in_ok-resume_entry.ensures in
     let said = said_again u x c.args.owner c.args.top c.level_type.result c.level_type.ensures c.in_ok-resume_entry.field-0 (again.Taken c.in-Taken.frame) c.in-Taken.is e.found e.plain e.shows e.serves e.hand in
     record {
-      frame = took_inside u x c.args.owner c.args.top c.args.stack.now c.requires.top c.if-top-eq0.false c.in-Taken.frame said;
+      frame = took_inside c.requires.top c.if-top-eq0.false said;
       may = search rules;
-      gives = took_gives u x c.args.owner c.args.top c.args.stack.now c.requires.top c.if-top-eq0.false c.in-Taken.frame said c.requires.stands;
+      gives = took_gives c.requires.top c.if-top-eq0.false said c.requires.stands;
     }
 
 pub returns-in-Taken : goal.returns-in-Taken
@@ -146,19 +146,19 @@ returns-in-Taken g n c =
     let e = c.in_ok-resume_entry.ensures in
     let said = said_again u x c.args.owner c.args.top c.level_type.result c.level_type.ensures c.in_ok-resume_entry.field-0 (again.Taken c.in-Taken.frame) c.in-Taken.is e.found e.plain e.shows e.serves e.hand in
     record {
-      came = again_then u x c.args.owner c.args.top (again.Taken c.in-Taken.frame) said (g.P.Port.value c.give_back.new.port) c.give_back.ensures.came;
-      forward = forward_then u x (g.P.Port.value c.give_back.new.port) (again_forward u x c.args.owner c.args.top (again.Taken c.in-Taken.frame) said c.args.stack.now c.requires.top c.requires.stands c.if-top-eq0.false) c.give_back.ensures.forward;
-      leaves = λ f. well_then u x (g.P.Port.value c.give_back.new.port) false f (again_well u x c.args.owner c.args.top (again.Taken c.in-Taken.frame) said f) (c.give_back.ensures.leaves f);
-      stands = took_stands u x c.args.owner c.args.top c.args.stack.now c.requires.top c.if-top-eq0.false c.in-Taken.frame said (g.P.Port.value c.give_back.new.port) c.give_back.ensures.hand c.give_back.ensures.came;
-      ready = took_ready u x c.args.owner c.args.top c.args.stack.now c.requires.top c.if-top-eq0.false c.in-Taken.frame said (g.P.Port.value c.give_back.new.port) c.give_back.ensures.hand c.give_back.ensures.came c.requires.stands;
+      came = again_then said (g.P.Port.value c.give_back.new.port) c.give_back.ensures.came;
+      forward = forward_then u x (g.P.Port.value c.give_back.new.port) (again_forward said c.args.stack.now c.requires.top c.requires.stands c.if-top-eq0.false) c.give_back.ensures.forward;
+      leaves = λ f. well_then u x (g.P.Port.value c.give_back.new.port) false f (again_well said f) (c.give_back.ensures.leaves f);
+      stands = took_stands c.requires.top c.if-top-eq0.false said (g.P.Port.value c.give_back.new.port) c.give_back.ensures.hand c.give_back.ensures.came;
+      ready = took_ready c.requires.top c.if-top-eq0.false said (g.P.Port.value c.give_back.new.port) c.give_back.ensures.hand c.give_back.ensures.came c.requires.stands;
       kinds = search rules;
       outer = search rules;
       progress = λ is. let said = said_again u x c.args.owner c.args.top c.level_type.result c.level_type.ensures c.in_ok-resume_entry.field-0 (again.Taken c.in-Taken.frame) c.in-Taken.is e.found e.plain e.shows e.serves e.hand in
-          took_progress u x c.args.owner c.args.top c.args.stack.now c.requires.top c.if-top-eq0.false c.in-Taken.frame said (g.P.Port.value c.give_back.new.port) c.give_back.ensures.came;
+          took_progress c.requires.top c.if-top-eq0.false said (g.P.Port.value c.give_back.new.port) c.give_back.ensures.came;
       less = search rules;
-      serves = took_serves u x c.args.owner c.args.top c.args.stack.now c.requires.top c.if-top-eq0.false c.in-Taken.frame said (g.P.Port.value c.give_back.new.port) c.give_back.ensures.serves;
+      serves = took_serves c.requires.top c.if-top-eq0.false said (g.P.Port.value c.give_back.new.port) c.give_back.ensures.serves;
       stops = search rules;
-      course = taken_on c.args.owner u c.args.top (drop 1 c.args.stack.now) c.args.stack.now c.requires.top c.if-top-eq0.false x (g.P.Port.value c.give_back.new.port) c.in-Taken.frame said.entry c.give_back.ensures.course;
+      course = taken_on c.args.owner u c.requires.top c.if-top-eq0.false x (g.P.Port.value c.give_back.new.port) c.in-Taken.frame said.entry c.give_back.ensures.course;
     }
 
 -- ---- it names a table that was left unfinished
@@ -169,7 +169,7 @@ push-requires-clause-table g n c =
     let x = g.P.Port.value c.resume_entry.new.port in
     let e = c.in_ok-resume_entry.ensures in
     let said = said_again u x c.args.owner c.args.top c.level_type.result c.level_type.ensures c.in_ok-resume_entry.field-0 (again.Opened c.in-Opened.frame c.in-Opened.progress) c.in-Opened.is e.found e.plain e.shows e.serves e.hand in
-    opened_table u x c.args.owner c.args.top c.args.stack.now c.requires.top c.if-top-eq0.false c.in-Opened.frame c.in-Opened.progress said c.requires.stands
+    opened_table c.requires.top c.if-top-eq0.false said c.requires.stands
 
 pub take_on-requires : goal.take_on-requires
 take_on-requires g n c κs low =
@@ -185,8 +185,8 @@ take_on-requires g n c κs low =
       (
         low,
         (
-          opened_may u x c.args.owner c.args.top c.args.stack.now c.requires.top c.if-top-eq0.false c.in-Opened.frame c.in-Opened.progress said a c.requires.may,
-          (c.push.ensures.pushed ∙ ap (λ ys. inner ∷ ys) (sym (ap (λ ys. drop 1 ys) c.push.ensures.pushed)), ((a.0, opened_stands u x c.args.owner c.args.top c.args.stack.now c.requires.top c.if-top-eq0.false c.in-Opened.frame c.in-Opened.progress said c.push.new.self c.push.ensures.pushed a.0 a.1), λ zero. opened_ready u x c.args.owner c.args.top c.args.stack.now c.requires.top c.if-top-eq0.false c.in-Opened.frame c.in-Opened.progress said zero)),
+          opened_may c.requires.top c.if-top-eq0.false said a c.requires.may,
+          (c.push.ensures.pushed ∙ ap (λ ys. inner ∷ ys) (sym (ap (λ ys. drop 1 ys) c.push.ensures.pushed)), ((a.0, opened_stands c.requires.top c.if-top-eq0.false said c.push.ensures.pushed a.0 a.1), λ zero. opened_ready c.requires.top c.if-top-eq0.false said zero)),
         ),
       ),
     )
@@ -200,19 +200,19 @@ returns-in-Opened g n c =
     let t = c.args.top in
     let inner = pushed t c.in-Opened.frame c.in-Opened.progress false true in
     record {
-      came = again_then u x c.args.owner c.args.top (again.Opened c.in-Opened.frame c.in-Opened.progress) said (g.P.Port.value c.take_on.new.port) c.take_on.ensures.came;
-      forward = forward_then u x (g.P.Port.value c.take_on.new.port) (again_forward u x c.args.owner c.args.top (again.Opened c.in-Opened.frame c.in-Opened.progress) said c.args.stack.now c.requires.top c.requires.stands c.if-top-eq0.false) c.take_on.ensures.forward;
-      leaves = λ f. well_then u x (g.P.Port.value c.take_on.new.port) false f (again_well u x c.args.owner c.args.top (again.Opened c.in-Opened.frame c.in-Opened.progress) said f) (c.take_on.ensures.leaves f);
-      stands = λ v s. c.take_on.ensures.stands v (opened_stands u x c.args.owner c.args.top c.args.stack.now c.requires.top c.if-top-eq0.false c.in-Opened.frame c.in-Opened.progress said c.push.new.self c.push.ensures.pushed v s);
+      came = again_then said (g.P.Port.value c.take_on.new.port) c.take_on.ensures.came;
+      forward = forward_then u x (g.P.Port.value c.take_on.new.port) (again_forward said c.args.stack.now c.requires.top c.requires.stands c.if-top-eq0.false) c.take_on.ensures.forward;
+      leaves = λ f. well_then u x (g.P.Port.value c.take_on.new.port) false f (again_well said f) (c.take_on.ensures.leaves f);
+      stands = λ v s. c.take_on.ensures.stands v (opened_stands c.requires.top c.if-top-eq0.false said c.push.ensures.pushed v s);
       ready = search rules;
       kinds = search rules;
       outer = search rules;
       progress = progress_answer u x (g.P.Port.value c.take_on.new.port) c.take_on.result (serves_came u x (of_entries c.args.owner 0) [] (c.in_ok-resume_entry.ensures.serves 0)) c.take_on.ensures.progress;
       less = again_lowers c.take_on.result (weight c.take_on.new.stack) inner t (drop 1 c.args.stack.now) c.args.stack.now c.push.new.self c.push.ensures.stack c.requires.top c.push.ensures.pushed c.take_on.ensures.less;
-      serves = goes_on u x (g.P.Port.value c.take_on.new.port) c.args.owner c.args.stack.now c.push.new.self c.take_on.new.stack c.take_on.result (again_came u x c.args.owner c.args.top (again.Opened c.in-Opened.frame c.in-Opened.progress) said)
-          (opened_serves u x c.args.owner c.args.top c.args.stack.now c.requires.top c.if-top-eq0.false c.in-Opened.frame c.in-Opened.progress said c.push.new.self c.push.ensures.pushed c.requires.stands) c.take_on.ensures.serves;
-      stops = opened_stops u x c.args.owner c.args.top c.args.stack.now c.requires.top c.if-top-eq0.false c.in-Opened.frame c.in-Opened.progress said c.push.new.self c.push.ensures.pushed c.requires.stands (g.P.Port.value c.take_on.new.port) c.take_on.result c.take_on.ensures.stops;
-      course = opened_on c.args.owner u c.args.top (drop 1 c.args.stack.now) c.args.stack.now c.requires.top c.if-top-eq0.false x (g.P.Port.value c.take_on.new.port) c.in-Opened.frame c.in-Opened.progress c.take_on.result
+      serves = goes_on u x (g.P.Port.value c.take_on.new.port) c.args.owner c.args.stack.now c.push.new.self c.take_on.new.stack c.take_on.result (again_came said)
+          (opened_serves c.requires.top c.if-top-eq0.false said c.push.ensures.pushed c.requires.stands) c.take_on.ensures.serves;
+      stops = opened_stops c.requires.top c.if-top-eq0.false said c.push.ensures.pushed c.requires.stands (g.P.Port.value c.take_on.new.port) c.take_on.result c.take_on.ensures.stops;
+      course = opened_on c.args.owner u c.requires.top c.if-top-eq0.false x (g.P.Port.value c.take_on.new.port) c.in-Opened.frame c.in-Opened.progress c.take_on.result
           c.push.new.self c.take_on.new.stack c.push.ensures.pushed said.entry c.take_on.ensures.course;
     }
 
@@ -225,9 +225,9 @@ leave_shared-requires g n c =
     let e = c.in_ok-resume_entry.ensures in
     let said = said_again u x c.args.owner c.args.top c.level_type.result c.level_type.ensures c.in_ok-resume_entry.field-0 (again.Waiting c.in-Waiting.frame c.in-Waiting.stamp c.in-Waiting.stop) c.in-Waiting.is e.found e.plain e.shows e.serves e.hand in
     record {
-      frame = waited_inside u x c.args.owner c.args.top c.args.stack.now c.requires.top c.if-top-eq0.false c.in-Waiting.frame c.in-Waiting.stamp c.in-Waiting.stop said c.requires.stands;
+      frame = waited_inside c.requires.top c.if-top-eq0.false said c.requires.stands;
       may = search rules;
-      waits = waited_waits u x c.args.owner c.args.top c.args.stack.now c.requires.top c.if-top-eq0.false c.in-Waiting.frame c.in-Waiting.stamp c.in-Waiting.stop said c.requires.stands c.level_type-in-Waiting.result c.level_type-in-Waiting.ensures;
+      waits = waited_waits c.requires.top c.if-top-eq0.false said c.requires.stands c.level_type-in-Waiting.ensures;
     }
 
 pub returns-in-Waiting : goal.returns-in-Waiting
@@ -237,17 +237,17 @@ returns-in-Waiting g n c =
     let e = c.in_ok-resume_entry.ensures in
     let said = said_again u x c.args.owner c.args.top c.level_type.result c.level_type.ensures c.in_ok-resume_entry.field-0 (again.Waiting c.in-Waiting.frame c.in-Waiting.stamp c.in-Waiting.stop) c.in-Waiting.is e.found e.plain e.shows e.serves e.hand in
     record {
-      came = again_then u x c.args.owner c.args.top (again.Waiting c.in-Waiting.frame c.in-Waiting.stamp c.in-Waiting.stop) said (g.P.Port.value c.leave_shared.new.port) c.leave_shared.ensures.came;
-      forward = shared_forward u x c.args.owner c.args.top c.args.stack.now c.requires.top c.if-top-eq0.false c.in-Waiting.frame c.in-Waiting.stamp c.in-Waiting.stop said c.requires.stands c.level_type-in-Waiting.result c.level_type-in-Waiting.ensures (g.P.Port.value c.leave_shared.new.port) c.leave_shared.ensures.visits;
-      leaves = shared_well u x c.args.owner c.args.top c.args.stack.now c.requires.top c.if-top-eq0.false c.in-Waiting.frame c.in-Waiting.stamp c.in-Waiting.stop said c.requires.stands c.level_type-in-Waiting.result c.level_type-in-Waiting.ensures (g.P.Port.value c.leave_shared.new.port) c.leave_shared.ensures.visits;
-      stands = waited_stands u x c.args.owner c.args.top c.args.stack.now c.requires.top c.if-top-eq0.false c.in-Waiting.frame c.in-Waiting.stamp c.in-Waiting.stop said c.requires.stands c.level_type-in-Waiting.result c.level_type-in-Waiting.ensures (g.P.Port.value c.leave_shared.new.port) c.leave_shared.ensures.came c.leave_shared.ensures.hand;
+      came = again_then said (g.P.Port.value c.leave_shared.new.port) c.leave_shared.ensures.came;
+      forward = shared_forward c.requires.top c.if-top-eq0.false said c.requires.stands c.level_type-in-Waiting.ensures (g.P.Port.value c.leave_shared.new.port) c.leave_shared.ensures.visits;
+      leaves = shared_well c.requires.top c.if-top-eq0.false said c.requires.stands c.level_type-in-Waiting.ensures (g.P.Port.value c.leave_shared.new.port) c.leave_shared.ensures.visits;
+      stands = waited_stands c.requires.top c.if-top-eq0.false said c.requires.stands c.level_type-in-Waiting.ensures (g.P.Port.value c.leave_shared.new.port) c.leave_shared.ensures.came c.leave_shared.ensures.hand;
       ready = search rules;
-      kinds = waited_kinds u x c.args.owner c.args.top c.args.stack.now c.requires.top c.if-top-eq0.false c.in-Waiting.frame c.in-Waiting.stamp c.in-Waiting.stop said c.requires.stands;
+      kinds = waited_kinds c.requires.top c.if-top-eq0.false said c.requires.stands;
       outer = search rules;
       progress = search rules;
       less = search rules;
-      serves = waited_serves u x c.args.owner c.args.top c.args.stack.now c.requires.top c.if-top-eq0.false c.in-Waiting.frame c.in-Waiting.stamp c.in-Waiting.stop said c.requires.stands c.level_type-in-Waiting.result c.level_type-in-Waiting.ensures (g.P.Port.value c.leave_shared.new.port) c.leave_shared.ensures.came c.leave_shared.ensures.serves;
-      stops = waited_stops u x c.args.owner c.args.top c.args.stack.now c.requires.top c.if-top-eq0.false c.in-Waiting.frame c.in-Waiting.stamp c.in-Waiting.stop said c.requires.stands c.level_type-in-Waiting.result c.level_type-in-Waiting.ensures (g.P.Port.value c.leave_shared.new.port) c.leave_shared.ensures.came;
-      course = waiting_on c.args.owner u c.args.top (drop 1 c.args.stack.now) c.args.stack.now c.requires.top c.if-top-eq0.false x (g.P.Port.value c.leave_shared.new.port) c.in-Waiting.frame c.in-Waiting.stamp c.in-Waiting.stop said.entry
+      serves = waited_serves c.requires.top c.if-top-eq0.false said c.requires.stands c.level_type-in-Waiting.ensures (g.P.Port.value c.leave_shared.new.port) c.leave_shared.ensures.came c.leave_shared.ensures.serves;
+      stops = waited_stops c.requires.top c.if-top-eq0.false said c.requires.stands c.level_type-in-Waiting.ensures (g.P.Port.value c.leave_shared.new.port) c.leave_shared.ensures.came;
+      course = waiting_on c.args.owner u c.requires.top c.if-top-eq0.false x (g.P.Port.value c.leave_shared.new.port) c.in-Waiting.frame c.in-Waiting.stamp c.in-Waiting.stop said.entry
           (shared_left x (g.P.Port.value c.leave_shared.new.port) c.in-Waiting.frame (c.args.top.level - 1) c.level_type-in-Waiting.result c.level_type-in-Waiting.ensures c.in-Waiting.stamp c.leave_shared.ensures.visits);
     }

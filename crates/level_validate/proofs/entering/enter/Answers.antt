@@ -43,14 +43,14 @@ take_entry-requires g c =
     let a = c.requires.stands in
     let s0 = subst (λ xs. Carries a.0 u owner xs) is a.1 in
     record {
-      frame = top_inside a.0 u owner t ts s0;
+      frame = top_inside s0;
       index = search rules;
       may = search rules;
-      works = subst (λ (k : PageType). WorksNext u.post.machine t.frame k t.done u.holdings) (sym c.level_type.ensures) (standing_next a.0 u owner t ts s0 c.requires.ready);
-      known = standing_known a.0 u owner t ts s0;
-      held = standing_held a.0 u owner t ts s0;
-      above = λ f. subst (λ (k : PageType). IsOfOther f (below k) u.holdings) (sym c.level_type.ensures) (standing_above a.0 u owner t ts s0 f);
-      looked = standing_looked a.0 u owner t ts s0;
+      works = subst (λ (k : PageType). WorksNext u.post.machine t.frame k t.done u.holdings) (sym c.level_type.ensures) (standing_next s0 c.requires.ready);
+      known = standing_known s0;
+      held = standing_held s0;
+      above = λ f. subst (λ (k : PageType). IsOfOther f (below k) u.holdings) (sym c.level_type.ensures) (standing_above s0 f);
+      looked = standing_looked s0;
     }
 
 pub returns-in_err-take_entry : goal.returns-in_err-take_entry
@@ -67,10 +67,10 @@ returns-in_err-take_entry g c =
     let stopped = c.in_err-take_entry.ensures in
     record {
       came = serves_came (g.P.Port.value c.args.port.now) (g.P.Port.value c.take_entry.new.port) (of_entries c.args.owner 0) _ (c.in_err-take_entry.ensures.serves 0);
-      forward = enters_forward (g.P.Port.value c.args.port.now) (g.P.Port.value c.take_entry.new.port) c.args.owner c.in-Some.top c.args.stack.now c.in-Some.ensures.some c.requires.stands c.level_type.result c.level_type.ensures _ c.in_err-take_entry.ensures.found;
+      forward = enters_forward (g.P.Port.value c.args.port.now) (g.P.Port.value c.take_entry.new.port) c.args.owner c.in-Some.ensures.some c.requires.stands c.level_type.ensures _ c.in_err-take_entry.ensures.found;
       leaves = λ e. enters_well (g.P.Port.value c.args.port.now) (g.P.Port.value c.take_entry.new.port) e c.in-Some.top.frame c.in-Some.top.done c.level_type.result c.args.owner _ c.in_err-take_entry.ensures.found;
       stands = λ v s. let s0 = subst (λ xs. Carries v u owner xs) is s in
-          subst (λ xs. Carries v x owner xs) (sym is) (after_look v u x owner t ts s0 (serves_came u x (of_entries owner 0) _ (c.in_err-take_entry.ensures.serves 0)) (entered_first u x _ _ _ _ _ found) t.done c.in_err-take_entry.ensures.hand);
+          subst (λ xs. Carries v x owner xs) (sym is) (after_look x s0 (serves_came u x (of_entries owner 0) _ (c.in_err-take_entry.ensures.serves 0)) (entered_first u x _ _ _ _ _ found) t.done c.in_err-take_entry.ensures.hand);
       ready = search rules;
       kinds = search rules;
       outer = search rules;
@@ -79,8 +79,8 @@ returns-in_err-take_entry g c =
       serves = goes_answer u x c.args.owner c.args.stack.now c.args.stack.now c.from_residual.result c.in_err-take_entry.field-0.0 (answer.1 ∙ ap Err answer.2)
           (goes_entries u x c.args.owner c.args.stack.now (missed u.post.machine c.in_err-take_entry.field-0.0) c.in_err-take_entry.ensures.serves);
       stops = stops_answer u x c.args.owner c.args.stack.now c.from_residual.result e (answer.1 ∙ ap Err answer.2) (stops_entries u x c.args.owner c.args.stack.now e c.in_err-take_entry.ensures.stops);
-      course = stopped_next c.args.owner u t (drop 1 c.args.stack.now) c.args.stack.now c.in-Some.ensures.some c.requires.left x c.from_residual.result e (answer.1 ∙ ap Err answer.2)
-          (entered_err u x c.args.owner t c.level_type.result c.level_type.ensures e stopped.found stopped.plain stopped.stops);
+      course = stopped_next c.args.owner u c.in-Some.ensures.some c.requires.left x c.from_residual.result e (answer.1 ∙ ap Err answer.2)
+          (entered_err u x c.args.owner t c.level_type.ensures e stopped.found stopped.plain stopped.stops);
     }
 
 pub push-requires-clause-table : goal.push-requires-clause-table
@@ -101,7 +101,7 @@ push-requires-clause-table g c =
     let way = subst (λ k. EntersFound u x t.frame t.done k owner (Ok (entered.Opened c.in-Opened.frame c.in-Opened.progress c.in-Opened.own))) c.level_type.ensures (subst (λ r. EntersFound u x t.frame t.done c.level_type.result owner (Ok r)) c.in-Opened.is found) in
     let came_open = opened_found u x t.frame t.done (level_type t.level) owner c.in-Opened.frame c.in-Opened.progress c.in-Opened.own way in
     let inner = pushed t c.in-Opened.frame c.in-Opened.progress c.in-Opened.own false in
-    (after_next a.0 u x owner t ts s0 came first c.in-Opened.frame c.in-Opened.progress c.in-Opened.own (omega (arith, room)) c.requires.ready came_open left).stack.0
+    (after_next x s0 came first c.in-Opened.frame c.in-Opened.progress c.in-Opened.own (omega (arith, room)) c.requires.ready came_open left).stack.0
 
 pub take_on-requires : goal.take_on-requires
 take_on-requires g c =
@@ -122,9 +122,9 @@ take_on-requires g c =
     let came_open = opened_found u x t.frame t.done (level_type t.level) owner c.in-Opened.frame c.in-Opened.progress c.in-Opened.own way in
     let inner = pushed t c.in-Opened.frame c.in-Opened.progress c.in-Opened.own false in
     record {
-      may = may_stands a.0 x owner _ (after_next a.0 u x owner t ts s0 came first c.in-Opened.frame c.in-Opened.progress c.in-Opened.own (omega (arith, room)) c.requires.ready came_open left) (may_back a.0 u owner c.args.stack.now a.1 c.requires.may);
+      may = may_stands a.0 x owner _ (after_next x s0 came first c.in-Opened.frame c.in-Opened.progress c.in-Opened.own (omega (arith, room)) c.requires.ready came_open left) (may_back a.0 u owner c.args.stack.now a.1 c.requires.may);
       top = c.push.ensures.pushed ∙ ap (λ ys. inner ∷ ys) (sym (ap (λ ys. drop 1 ys) c.push.ensures.pushed));
-      stands = (a.0, subst (λ xs. Carries a.0 x owner xs) (sym (c.push.ensures.pushed ∙ ap (λ ys. inner ∷ ys) (c.advance-in-Opened.ensures.advanced ∙ ap advanced is))) (after_next a.0 u x owner t ts s0 came first c.in-Opened.frame c.in-Opened.progress c.in-Opened.own (omega (arith, room)) c.requires.ready came_open left));
+      stands = (a.0, subst (λ xs. Carries a.0 x owner xs) (sym (c.push.ensures.pushed ∙ ap (λ ys. inner ∷ ys) (c.advance-in-Opened.ensures.advanced ∙ ap advanced is))) (after_next x s0 came first c.in-Opened.frame c.in-Opened.progress c.in-Opened.own (omega (arith, room)) c.requires.ready came_open left));
       fresh = λ zero. fresh_ready u x t.frame t.done (level_type t.level) c.in-Opened.frame owner c.in-Opened.progress c.in-Opened.own left zero;
     }
 
@@ -146,11 +146,11 @@ returns-in-Recorded g c =
     let answer = c.in_ok-take_entry.ensures in
     record {
       came = came;
-      forward = enters_forward (g.P.Port.value c.args.port.now) (g.P.Port.value c.take_entry.new.port) c.args.owner c.in-Some.top c.args.stack.now c.in-Some.ensures.some c.requires.stands c.level_type.result c.level_type.ensures _ c.in_ok-take_entry.ensures.found;
+      forward = enters_forward (g.P.Port.value c.args.port.now) (g.P.Port.value c.take_entry.new.port) c.args.owner c.in-Some.ensures.some c.requires.stands c.level_type.ensures _ c.in_ok-take_entry.ensures.found;
       leaves = λ e. enters_well (g.P.Port.value c.args.port.now) (g.P.Port.value c.take_entry.new.port) e c.in-Some.top.frame c.in-Some.top.done c.level_type.result c.args.owner _ c.in_ok-take_entry.ensures.found;
       stands = λ v s. let s0 = subst (λ xs. Carries v u owner xs) is s in
-          subst (λ xs. Carries v x owner xs) (sym (c.advance.ensures.advanced ∙ ap advanced is)) (after_record v u x owner t ts s0 came first None room left);
-      ready = after_record_ready a.0 u x owner t ts s0 came first left;
+          subst (λ xs. Carries v x owner xs) (sym (c.advance.ensures.advanced ∙ ap advanced is)) (after_record x s0 came first None room left);
+      ready = after_record_ready x s0 came first left;
       kinds = search rules;
       outer = search rules;
       progress = λ same. subst (λ r. ShowsEntered u x c.args.owner 0 c.level_type.result r) c.in-Recorded.is (c.in_ok-take_entry.ensures.shows 0);
@@ -158,8 +158,8 @@ returns-in-Recorded g c =
       serves = subst (λ xs. CarriesOn u x c.args.owner c.args.stack.now xs []) (sym c.advance.ensures.advanced)
           (goes_advanced u x c.args.owner c.args.stack.now c.args.stack.now [] (goes_entries u x c.args.owner c.args.stack.now [] c.in_ok-take_entry.ensures.serves));
       stops = search rules;
-      course = recorded_next c.args.owner u t (drop 1 c.args.stack.now) c.args.stack.now c.in-Some.ensures.some c.requires.left x c.advance.new.self c.advance.ensures.advanced
-          (entered_ok u x c.args.owner t c.level_type.result c.level_type.ensures c.in_ok-take_entry.field-0 entered.Recorded c.in-Recorded.is answer.found answer.plain answer.shows);
+      course = recorded_next c.args.owner u c.in-Some.ensures.some c.requires.left x c.advance.new.self c.advance.ensures.advanced
+          (entered_ok u x c.args.owner t c.level_type.ensures c.in_ok-take_entry.field-0 entered.Recorded c.in-Recorded.is answer.found answer.plain answer.shows);
     }
 
 pub returns-in-Opened : goal.returns-in-Opened
@@ -187,16 +187,16 @@ returns-in-Opened g c =
     let below_is = ap below c.level_type.ensures ∙ level_type-under t.level s0.stack.0.low s0.stack.0.high in
     let now = c.push.ensures.pushed ∙ ap (λ ys. inner ∷ ys) c.advance-in-Opened.ensures.advanced in
     let stands : StandsOn u x owner stack c.push.new.self = λ v s. subst (λ xs. Carries v x owner xs) (sym (now ∙ ap (λ ys. inner ∷ advanced ys) is))
-    (after_next v u x owner t ts (subst (λ xs. Carries v u owner xs) is s) came first c.in-Opened.frame c.in-Opened.progress c.in-Opened.own (omega (arith, room)) c.requires.ready came_open left) in
+    (after_next x (subst (λ xs. Carries v u owner xs) is s) came first c.in-Opened.frame c.in-Opened.progress c.in-Opened.own (omega (arith, room)) c.requires.ready came_open left) in
     let o = c.in-Opened in
     let answer = c.in_ok-take_entry.ensures in
     record {
       came = came_trans u x (g.P.Port.value c.take_on.new.port) came c.take_on.ensures.came;
       forward = forward_then u x (g.P.Port.value c.take_on.new.port)
-          (enters_forward u x c.args.owner c.in-Some.top c.args.stack.now c.in-Some.ensures.some c.requires.stands c.level_type.result c.level_type.ensures _ c.in_ok-take_entry.ensures.found) c.take_on.ensures.forward;
+          (enters_forward u x c.args.owner c.in-Some.ensures.some c.requires.stands c.level_type.ensures _ c.in_ok-take_entry.ensures.found) c.take_on.ensures.forward;
       leaves = λ e. well_then u x (g.P.Port.value c.take_on.new.port) false e (enters_well u x e t.frame t.done c.level_type.result c.args.owner _ c.in_ok-take_entry.ensures.found) (c.take_on.ensures.leaves e);
       stands = λ v s. let s0 = subst (λ xs. Carries v u owner xs) is s in
-          c.take_on.ensures.stands v (subst (λ xs. Carries v x owner xs) (sym (c.push.ensures.pushed ∙ ap (λ ys. inner ∷ ys) (c.advance-in-Opened.ensures.advanced ∙ ap advanced is))) (after_next v u x owner t ts s0 came first c.in-Opened.frame c.in-Opened.progress c.in-Opened.own (omega (arith, room)) c.requires.ready came_open left));
+          c.take_on.ensures.stands v (subst (λ xs. Carries v x owner xs) (sym (c.push.ensures.pushed ∙ ap (λ ys. inner ∷ ys) (c.advance-in-Opened.ensures.advanced ∙ ap advanced is))) (after_next x s0 came first c.in-Opened.frame c.in-Opened.progress c.in-Opened.own (omega (arith, room)) c.requires.ready came_open left));
       ready = search rules;
       kinds = search rules;
       outer = search rules;
@@ -208,9 +208,9 @@ returns-in-Opened g c =
           (subst (λ xs. CarriesOn u x owner stack xs []) (sym (c.push.ensures.pushed ∙ ap (λ ys. inner ∷ ys) c.advance-in-Opened.ensures.advanced)) (goes_inner u x owner stack inner stack [] first)) c.take_on.ensures.serves;
       stops = let s0 = subst (λ xs. Carries a.0 u owner xs) is a.1 in let below_is = ap below c.level_type.ensures ∙ level_type-under t.level s0.stack.0.low s0.stack.0.high in let opened = goes_opened u x owner stack k c.in-Opened.frame c.in_ok-take_entry.ensures.serves shows inner refl below_is in let goes = subst (λ xs. CarriesOn u x owner stack xs []) (sym now) (goes_inner u x owner stack inner stack [] opened) in
           IfErr-weaker c.take_on.result (λ e. StopsIn x y owner c.push.new.self e) (λ e. StopsIn u y owner stack e) (λ e stops. stops_behind x y owner c.push.new.self e u stack stands goes stops) c.take_on.ensures.stops;
-      course = opened_next c.args.owner u t (drop 1 c.args.stack.now) c.args.stack.now c.in-Some.ensures.some c.requires.left x (g.P.Port.value c.take_on.new.port) o.frame o.progress o.own c.take_on.result
+      course = opened_next c.args.owner u c.in-Some.ensures.some c.requires.left x (g.P.Port.value c.take_on.new.port) o.frame o.progress o.own c.take_on.result
           c.advance-in-Opened.new.self c.push.new.self c.take_on.new.stack c.advance-in-Opened.ensures.advanced c.push.ensures.pushed
-          (entered_ok u x c.args.owner t c.level_type.result c.level_type.ensures c.in_ok-take_entry.field-0 (entered.Opened o.frame o.progress o.own) o.is answer.found answer.plain answer.shows) c.take_on.ensures.course;
+          (entered_ok u x c.args.owner t c.level_type.ensures c.in_ok-take_entry.field-0 (entered.Opened o.frame o.progress o.own) o.is answer.found answer.plain answer.shows) c.take_on.ensures.course;
     }
 
 pub returns-in-Unsettled : goal.returns-in-Unsettled
@@ -232,10 +232,10 @@ returns-in-Unsettled g c =
     let answer = c.in_ok-take_entry.ensures in
     record {
       came = came;
-      forward = enters_forward (g.P.Port.value c.args.port.now) (g.P.Port.value c.take_entry.new.port) c.args.owner c.in-Some.top c.args.stack.now c.in-Some.ensures.some c.requires.stands c.level_type.result c.level_type.ensures _ c.in_ok-take_entry.ensures.found;
+      forward = enters_forward (g.P.Port.value c.args.port.now) (g.P.Port.value c.take_entry.new.port) c.args.owner c.in-Some.ensures.some c.requires.stands c.level_type.ensures _ c.in_ok-take_entry.ensures.found;
       leaves = λ e. enters_well (g.P.Port.value c.args.port.now) (g.P.Port.value c.take_entry.new.port) e c.in-Some.top.frame c.in-Some.top.done c.level_type.result c.args.owner _ c.in_ok-take_entry.ensures.found;
       stands = λ v s. let s0 = subst (λ xs. Carries v u owner xs) is s in
-          subst (λ xs. Carries v x owner xs) (sym (c.advance-in-Unsettled.ensures.advanced ∙ ap advanced is)) (after_record v u x owner t ts s0 came first left.0 room left.1);
+          subst (λ xs. Carries v x owner xs) (sym (c.advance-in-Unsettled.ensures.advanced ∙ ap advanced is)) (after_record x s0 came first left.0 room left.1);
       ready = search rules;
       kinds = wait_stops c.in-Unsettled.stop (subst (λ r. ShowsEntered u x owner 0 c.level_type.result r) c.in-Unsettled.is (c.in_ok-take_entry.ensures.shows 0)).1;
       outer = search rules;
@@ -245,8 +245,8 @@ returns-in-Unsettled g c =
           (goes_waiting u x owner stack (advanced stack) c.in-Unsettled.stop shows.1 (goes_advanced u x owner stack stack [] (goes_entries u x owner stack [] c.in_ok-take_entry.ensures.serves)));
       stops = let shows = λ (pages : ℕ). subst (λ r. ShowsEntered u x owner pages c.level_type.result r) c.in-Unsettled.is (c.in_ok-take_entry.ensures.shows pages) in
           stops_entries u x owner c.args.stack.now c.in-Unsettled.stop (λ pages. (shows pages).2);
-      course = unsettled_next c.args.owner u t (drop 1 c.args.stack.now) c.args.stack.now c.in-Some.ensures.some c.requires.left x c.advance-in-Unsettled.new.self e c.advance-in-Unsettled.ensures.advanced
-          (entered_ok u x c.args.owner t c.level_type.result c.level_type.ensures c.in_ok-take_entry.field-0 (entered.Unsettled e) c.in-Unsettled.is answer.found answer.plain answer.shows);
+      course = unsettled_next c.args.owner u c.in-Some.ensures.some c.requires.left x c.advance-in-Unsettled.new.self e c.advance-in-Unsettled.ensures.advanced
+          (entered_ok u x c.args.owner t c.level_type.ensures c.in_ok-take_entry.field-0 (entered.Unsettled e) c.in-Unsettled.is answer.found answer.plain answer.shows);
     }
 
 -- ---- its part of the course

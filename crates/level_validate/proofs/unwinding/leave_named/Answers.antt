@@ -1,4 +1,4 @@
-use Rattle.std.proofs.Common.{true, false, [], ◌∷◌, ◌+◌, refl, ap, sym, ◌∙◌, subst, rules}
+use Rattle.std.proofs.Common.{true, false, [], ◌+◌, refl, ap, sym, ◌∙◌, subst, rules}
 use Rattle.xp_words.specs.declared.kind.KindWord.{KindWord}
 use Rattle.step_maker.proofs.Coming.{came_trans, moves_came}
 use Rattle.answer_fits.specs.Asked.{of}
@@ -24,13 +24,13 @@ leave_kept-requires g c =
     let w = g.P.Port.value c.args.port.now in
     let is = c.partial_kind-kind.ensures ∙ ap (λ k. partial_kind k true false c.args.table.done 0) c.level_type.ensures in
     record {
-      frame = top_inside a.0 (g.P.Port.value c.args.port.now) c.args.owner c.args.table [] a.1;
+      frame = top_inside a.1;
       may = search rules;
-      leaves = subst (λ (l : KindWord). MayLeave w c.args.table.frame l) (sym is) (top_leaves a.0 w c.args.owner c.args.table [] a.1 true (λ on. c.requires.own));
+      leaves = subst (λ (l : KindWord). MayLeave w c.args.table.frame l) (sym is) (top_leaves a.1 true (λ on. c.requires.own));
       partial = search rules;
       kept = search rules;
-      page = subst (λ (l : KindWord). IsUnpaged l) (sym is) (top_unpaged a.0 (g.P.Port.value c.args.port.now) c.args.owner c.args.table [] a.1);
-      known = top_kept_owner a.0 (g.P.Port.value c.args.port.now) c.args.owner c.args.table [] a.1 c.requires.own;
+      page = subst (λ (l : KindWord). IsUnpaged l) (sym is) (top_unpaged a.1);
+      known = top_kept_owner a.1 c.requires.own;
       real = search rules;
       looked = search rules;
       room = search rules;
@@ -44,12 +44,12 @@ returns-then-kept g c =
     let d = g.P.Port.value c.leave_kept.new.port in
     let t = c.args.table in
     let is = c.partial_kind-kind.ensures ∙ ap (λ k. partial_kind k true false c.args.table.done 0) c.level_type.ensures in
-    let spelled = top_spelled a.0 w c.args.owner t [] a.1 true (λ on. c.requires.own) in
+    let spelled = top_spelled a.1 true (λ on. c.requires.own) in
     record {
       came = search rules;
       forward = kept_forward (g.P.Port.value c.args.port.now) (g.P.Port.value c.leave_kept.new.port) c.args.table.frame c.partial_kind-kind.result c.args.owner c.leave_kept.ensures.course;
-      leaves = kept_well t.frame (partial_kind (level_type t.level) true false t.done 0) spelled refl c.args.kept c.if-kept.true w d c.args.owner (subst (λ (l : KindWord). KeptFor w d t.frame l c.args.owner) is c.leave_kept.ensures.course);
-      hand = λ v s. outer_kept v w c.args.owner t s c.requires.own c.args.kept c.if-kept.true d (subst (λ (l : KindWord). LeavesKept w d t.frame l c.args.owner) is c.leave_kept.ensures.hand);
+      leaves = kept_well t.frame (partial_kind (level_type t.level) true false t.done 0) spelled refl c.if-kept.true w d c.args.owner (subst (λ (l : KindWord). KeptFor w d t.frame l c.args.owner) is c.leave_kept.ensures.course);
+      hand = λ v s. outer_kept s c.requires.own c.args.kept c.if-kept.true d (subst (λ (l : KindWord). LeavesKept w d t.frame l c.args.owner) is c.leave_kept.ensures.hand);
       serves = λ u r ds a locks. marked_kept u d r c.args.owner c.args.kept t.frame ds c.if-kept.true (c.leave_kept.ensures.serves u r ds a.serves (of r.owner _ a.asked.0) locks);
       course = kept_left w d c.args.owner t c.args.kept c.if-kept.true (subst (λ (l : KindWord). KeptFor w d t.frame l c.args.owner) is c.leave_kept.ensures.course);
     }
@@ -60,7 +60,7 @@ pub put_old-requires-clause-held : goal.put_old-requires-clause-held
 put_old-requires-clause-held g c =
     let a = c.requires.stands in
     let w = g.P.Port.value c.args.port.now in
-    outer_held a.0 w c.args.owner c.args.table a.1 c.requires.own (g.P.Port.value c.leave_partial.new.port) c.leave_partial.ensures.hand (top_held a.0 w c.args.owner c.args.table [] a.1 c.requires.own)
+    outer_held a.1 c.requires.own (g.P.Port.value c.leave_partial.new.port) c.leave_partial.ensures.hand (top_held a.1 c.requires.own)
 
 pub returns-else-kept : goal.returns-else-kept
 unfolding ServesLeft
@@ -70,13 +70,13 @@ returns-else-kept g c =
     let x = g.P.Port.value c.put_old.new.port in
     let b = c.requires.stands in
     let t = c.args.table in
-    let spelled = top_spelled b.0 w c.args.owner t [] b.1 false (λ on. absurd cc) in
+    let spelled = top_spelled b.1 false (λ on. absurd cc) in
     record {
       came = came_trans w d x (moves_came w d _ _ _ _ c.leave_partial.result c.leave_partial.ensures.moves) (moves_came d x _ _ _ _ 0 c.put_old.ensures.moves);
       forward = forward_then w d x (forward_step w d _ _ _ _ c.leave_partial.result refl refl c.leave_partial.ensures.moves) (forward_step d x _ _ _ _ 0 refl refl c.put_old.ensures.moves);
       leaves = well_then w d x c.args.kept t.frame (unkept_well b.0 w c.args.owner t d c.leave_partial.result [] c.args.kept t.frame b.1 c.leave_partial.ensures.moves) (well_step d x c.args.kept t.frame _ _ _ _ 0 refl c.put_old.ensures.moves);
-      hand = λ v s. outer_named v w c.args.owner c.args.table s c.requires.own d c.leave_partial.ensures.hand c.args.kept c.if-kept.false (g.P.Port.value c.put_old.new.port) c.put_old.ensures.hand;
-      serves = λ u r ds a locks. let left = piece_left b.0 w c.args.owner t [] b.1 _ spelled refl d c.leave_partial.result c.leave_partial.ensures.moves u r c.args.owner [] ds a in
-          marked_none u x r c.args.owner c.args.kept t.frame ds (piece_names u d x r c.args.owner (t ∷ []) ds left (t.frame + 1) c.put_old.ensures.moves).serves;
+      hand = λ v s. outer_named s c.requires.own d c.leave_partial.ensures.hand c.args.kept c.if-kept.false (g.P.Port.value c.put_old.new.port) c.put_old.ensures.hand;
+      serves = λ u r ds a locks. let left = piece_left b.1 _ spelled refl c.leave_partial.ensures.moves u r c.args.owner [] ds a in
+          marked_none u x r c.args.owner c.args.kept t.frame ds (piece_names x left (t.frame + 1) c.put_old.ensures.moves).serves;
       course = search rules;
     }
