@@ -110,7 +110,6 @@ returns-else-kept g c =
     let u = g.P.Port.value c.args.port.now in
     let k = partial_kind c.level_type-kind.result false true 0 c.args.stamp in
     let b = c.requires.waits in
-    let want = c.level_type-kind.result in
     let is = unkept_is b.1 c.level_type-kind.ensures c.if-not-own.false in
     record {
       came = came_trans (g.P.Port.value c.args.port.now) d z c.leave_unsettled.ensures.came (moves_came d z _ _ _ _ 0 c.put_old.ensures.moves);

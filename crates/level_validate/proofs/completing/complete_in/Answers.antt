@@ -15,13 +15,8 @@ use Rattle.level_validate.proofs.completing.complete_in.Goals as goal
 
 pub make_live-requires : goal.make_live-requires
 make_live-requires g c =
-    let w = g.P.Port.value c.args.port.now in
     let t = c.args.table in
-    let u = c.args.outer in
     let a = c.requires.stands in
-    let owner = a.0 in
-    let us = a.1 in
-    let v = a.2.0 in
     let s = a.2.1 in
     record {
       frame = top_inside s;
@@ -33,11 +28,7 @@ pub give_back-requires : goal.give_back-requires
 give_back-requires g c =
     let w = g.P.Port.value c.args.port.now in
     let t = c.args.table in
-    let u = c.args.outer in
     let a = c.requires.stands in
-    let owner = a.0 in
-    let us = a.1 in
-    let v = a.2.0 in
     let s = a.2.1 in
     let d = g.P.Port.value c.make_live.new.port in
     let came_d = moves_came w d _ _ _ _ c.make_live.result c.make_live.ensures.moves in
@@ -50,16 +41,10 @@ give_back-requires g c =
 
 pub record_entry-requires : goal.record_entry-requires
 record_entry-requires g c =
-    let w = g.P.Port.value c.args.port.now in
     let t = c.args.table in
-    let u = c.args.outer in
     let a = c.requires.stands in
-    let owner = a.0 in
-    let us = a.1 in
-    let v = a.2.0 in
     let s = a.2.1 in
     let d = g.P.Port.value c.make_live.new.port in
-    let came_d = moves_came w d _ _ _ _ c.make_live.result c.make_live.ensures.moves in
     let l = live_hand s t.own refl d c.make_live.ensures.hand in
     live_records c.make_live.ensures.moves l c.if-table.false
 

@@ -37,7 +37,6 @@ pub take_entry-requires : goal.take_entry-requires
 take_entry-requires g c =
     let u = g.P.Port.value c.args.port.now in
     let t = c.in-Some.top in
-    let ts = drop 1 c.args.stack.now in
     let owner = c.args.owner in
     let is = c.in-Some.ensures.some in
     let a = c.requires.stands in
@@ -57,7 +56,6 @@ pub returns-in_err-take_entry : goal.returns-in_err-take_entry
 returns-in_err-take_entry g c =
     let u = g.P.Port.value c.args.port.now in
     let t = c.in-Some.top in
-    let ts = drop 1 c.args.stack.now in
     let owner = c.args.owner in
     let is = c.in-Some.ensures.some in
     let x = g.P.Port.value c.take_entry.new.port in
@@ -87,7 +85,6 @@ pub push-requires-clause-table : goal.push-requires-clause-table
 push-requires-clause-table g c =
     let u = g.P.Port.value c.args.port.now in
     let t = c.in-Some.top in
-    let ts = drop 1 c.args.stack.now in
     let owner = c.args.owner in
     let is = c.in-Some.ensures.some in
     let a = c.requires.stands in
@@ -100,14 +97,12 @@ push-requires-clause-table g c =
     let left = subst (λ k. LeavesEntered u x t.frame k t.done owner (entered.Opened c.in-Opened.frame c.in-Opened.progress c.in-Opened.own)) c.level_type.ensures (subst (λ r. LeavesEntered u x t.frame c.level_type.result t.done owner r) c.in-Opened.is c.in_ok-take_entry.ensures.hand) in
     let way = subst (λ k. EntersFound u x t.frame t.done k owner (Ok (entered.Opened c.in-Opened.frame c.in-Opened.progress c.in-Opened.own))) c.level_type.ensures (subst (λ r. EntersFound u x t.frame t.done c.level_type.result owner (Ok r)) c.in-Opened.is found) in
     let came_open = opened_found u x t.frame t.done (level_type t.level) owner c.in-Opened.frame c.in-Opened.progress c.in-Opened.own way in
-    let inner = pushed t c.in-Opened.frame c.in-Opened.progress c.in-Opened.own false in
     (after_next x s0 came first c.in-Opened.frame c.in-Opened.progress c.in-Opened.own (omega (arith, room)) c.requires.ready came_open left).stack.0
 
 pub take_on-requires : goal.take_on-requires
 take_on-requires g c =
     let u = g.P.Port.value c.args.port.now in
     let t = c.in-Some.top in
-    let ts = drop 1 c.args.stack.now in
     let owner = c.args.owner in
     let is = c.in-Some.ensures.some in
     let a = c.requires.stands in
@@ -132,7 +127,6 @@ pub returns-in-Recorded : goal.returns-in-Recorded
 returns-in-Recorded g c =
     let u = g.P.Port.value c.args.port.now in
     let t = c.in-Some.top in
-    let ts = drop 1 c.args.stack.now in
     let owner = c.args.owner in
     let is = c.in-Some.ensures.some in
     let x = g.P.Port.value c.take_entry.new.port in
@@ -166,7 +160,6 @@ pub returns-in-Opened : goal.returns-in-Opened
 returns-in-Opened g c =
     let u = g.P.Port.value c.args.port.now in
     let t = c.in-Some.top in
-    let ts = drop 1 c.args.stack.now in
     let owner = c.args.owner in
     let is = c.in-Some.ensures.some in
     let x = g.P.Port.value c.take_entry.new.port in
@@ -217,7 +210,6 @@ pub returns-in-Unsettled : goal.returns-in-Unsettled
 returns-in-Unsettled g c =
     let u = g.P.Port.value c.args.port.now in
     let t = c.in-Some.top in
-    let ts = drop 1 c.args.stack.now in
     let owner = c.args.owner in
     let is = c.in-Some.ensures.some in
     let x = g.P.Port.value c.take_entry.new.port in

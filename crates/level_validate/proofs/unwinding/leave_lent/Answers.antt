@@ -15,7 +15,6 @@ use Rattle.level_validate.proofs.unwinding.leave_lent.Goals as goal
 pub put_ref-requires-clause-gives : goal.put_ref-requires-clause-gives
 put_ref-requires-clause-gives g c =
     let a = c.requires.stands in
-    let w = g.P.Port.value c.args.port.now in
     lent_puts a.2.1 c.requires.lent c.leave_partial.ensures.moves c.leave_partial.ensures.hand
 
 pub returns : goal.returns

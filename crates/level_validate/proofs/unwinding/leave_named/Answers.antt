@@ -59,7 +59,6 @@ returns-then-kept g c =
 pub put_old-requires-clause-held : goal.put_old-requires-clause-held
 put_old-requires-clause-held g c =
     let a = c.requires.stands in
-    let w = g.P.Port.value c.args.port.now in
     outer_held a.1 c.requires.own (g.P.Port.value c.leave_partial.new.port) c.leave_partial.ensures.hand (top_held a.1 c.requires.own)
 
 pub returns-else-kept : goal.returns-else-kept

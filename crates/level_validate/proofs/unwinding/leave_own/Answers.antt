@@ -14,7 +14,6 @@ pub record_entry-requires : goal.record_entry-requires
 record_entry-requires g c =
     let a = c.requires.stands in
     let w = g.P.Port.value c.args.port.now in
-    let d = g.P.Port.value c.leave_partial.new.port in
     let t = c.args.table in
     own_records (subst (λ ts. Carries a.1.0 w a.0 (t ∷ ts)) c.in-Some.ensures.some a.1.1) c.requires.own (own_new a.1.1 c.requires.own)
     c.leave_partial.ensures.moves c.leave_partial.ensures.hand
