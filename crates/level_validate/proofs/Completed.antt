@@ -1,30 +1,70 @@
 -- The innermost table is made live: when it may be, and what is in hand then.
-use Rattle.std.proofs.Common.{◌≡◌, ℕ, ◌<◌, not, ◌==◌, Bool, true, false, List, [], ◌∷◌, length, Some, IsTrue, refl, sym, ap, ◌∙◌, subst}
-use Rattle.xp_words.specs.KindWords.{kind_fields}
-use Rattle.xp_words.specs.PageTypes.{type_number}
-use Rattle.xp_words.specs.Places.{sizes_of}
-use Rattle.xp_words.specs.declared.kind.PageType.TheVariants as kinds
+use Rattle.std.proofs.Common.{◌≡◌, ℕ, ◌<◌, not, ◌==◌, Bool, true, false, List, [], ◌∷◌, length, Some, IsTrue, refl, sym, ap, ◌∙◌, subst, Ok, ◌-◌, ◌≤◌, Option, None, arith, inl}
+use Rattle.xp_words.specs.KindWords.{kind_fields, is_kind, kind_write}
+use Rattle.xp_words.specs.PageTypes.{type_number, is_table}
+use Rattle.xp_words.specs.Places.{sizes_of, Sizes}
 use Rattle.xp_board.specs.declared.holdings.OwnerFound.{OwnerFound}
-use Rattle.xp_board.specs.declared.holdings.OwnerFound.TheVariants as owners
 use Rattle.xp_board.specs.declared.holdings.Reference.{Reference}
 use Rattle.xp_board.specs.declared.holdings.TypedReference.{TypedReference}
-use Rattle.xp_board.specs.Hands.{refs_to, without_ref, without_typed, without_work}
+use Rattle.xp_board.specs.Hands.{refs_to, without_ref, without_typed, without_work, changed_work, typed_to, lock_on, work_on, works_on}
 use Rattle.xp_board.specs.KindSteps.{live_typed}
-use Rattle.xp_board.specs.Told.{PortValue}
-use Rattle.board_lemmas.proofs.ListCounts.{newest_held}
+use Rattle.xp_board.specs.Told.{PortValue, Post}
+use Rattle.board_lemmas.proofs.ListCounts.{newest_held, first_by-cons_here, first_by-cons_other, times_by-cons_here}
 use Rattle.step_maker.specs.Holds.{FlushedHolds, Holds, MayWork, quiet}
 use Rattle.kind_words.specs.Kinds.{IsWholeWork, MayLeave, left, live_kind}
 use Rattle.kind_words.proofs.Leaving.{left_live, left_shared, may_leave_live, may_leave_shared, without_newest}
-use Rattle.partial_state.proofs.LevelFacts.{level_type-plain, level_type-typed}
+use Rattle.partial_state.proofs.LevelFacts.{level_type-plain, level_type-typed, level_type-table}
 use Rattle.partial_state.specs.declared.stack.TableWork.{TableWork}
 use Rattle.partial_state.specs.Levels.{level_type}
-use Rattle.table_courses.specs.Acquiring.{type_counts}
-use Rattle.level_validate.specs.Tables.{AreTyped, IsTopReady, Carries, refs_for}
-use Rattle.level_validate.proofs.LeavingOwn.{refs_are, typed_gone}
-use Rattle.level_validate.proofs.LeavingTables.{top, top_done, top_gone, top_held, top_here, top_owned, top_typed}
-use Rattle.level_validate.proofs.StandsFacts.{ref_owned, refs_lent, tables_none, typed_lent}
+use Rattle.table_courses.specs.Acquiring.{type_counts, Advanced, Joined, MadeLive}
+use Rattle.level_validate.specs.Tables.{AreTyped, IsTopReady, Carries, refs_for, IsLastWord, IsTableWork, Reaches, innermost, taken_on, under_way}
+use Rattle.level_validate.proofs.Leaving.{refs_are, typed_gone}
+use Rattle.level_validate.proofs.Standing.{top, top_done, top_gone, top_held, top_here, top_owned, top_typed, UnderWay, reaches_under, ref_owned, refs_lent, tables_none, typed_lent, TopTable, inner_is, stands_by, stands_post, tables_later, tables_top, top_known, typed_later}
+use Rattle.xp_words.specs.Entries.{demand_at}
+use Rattle.xp_words.specs.Machine.{Machine}
+use Rattle.xp_words.specs.declared.entry.Demand.TheVariants.{Typed}
+use Rattle.xp_words.specs.declared.kind.KindWord.{KindWord}
+use Rattle.xp_words.specs.declared.kind.PageType.{PageType}
+use Rattle.xp_words.specs.declared.place.Place.TheVariants.{Kind, Clock}
+use Rattle.xp_board.specs.declared.holdings.Holdings.{Holdings}
+use Rattle.xp_board.specs.declared.holdings.Made.{Made}
+use Rattle.xp_board.specs.declared.holdings.Unsettled.{Unsettled}
+use Rattle.xp_board.specs.declared.holdings.Work.{Work}
+use Rattle.xp_board.specs.declared.step.Act.TheVariants.{Store, Load}
+use Rattle.xp_board.specs.Acts.{left_by}
+use Rattle.xp_board.specs.Knowledge.{knows_live}
+use Rattle.xp_board.specs.Lists.{EachOf}
+use Rattle.xp_board.specs.Marks.{leaves_unsettled}
+use Rattle.xp_board.specs.Readings.{is_live_word}
+use Rattle.xp_board.specs.Settling.{HasLastDemand, demand_out, is_settled, settles, settles_last, settles_word}
+use Rattle.xp_board.specs.Steps.{some_since}
+use Rattle.xp_board.specs.WellFormed.{IsWorkFormed}
+use Rattle.step_maker.specs.Moves.{Came, Moves, Met}
+use Rattle.step_maker.proofs.Coming.{came_post, came_trans, moves_came, moment_of, moves_met}
+use Rattle.step_maker.proofs.Noting.{moves_since}
+use Rattle.flush_words.proofs.Lasting.{came_longer}
+use Rattle.flush_waits.proofs.Growing.{came_grows}
+use Rattle.frame_types.specs.Taking.{gave_type}
+use Rattle.kind_words.proofs.KindHands.{known_first, typed_held, work_here, changed_first}
+use Rattle.kind_words.proofs.KindWriting.{fields_write}
+use Rattle.table_words.specs.Entries.{RecordsNext, entry_recorded}
+use Rattle.table_words.proofs.EntryHands.{next_asks, record_left}
+use Rattle.table_entries.proofs.HandOwners.{typed_knows_its, typed_knows_still}
+use Rattle.table_entries.proofs.HandReady.{settled_more}
+use Rattle.level_validate.specs.Giving.{MayGiveBack}
+use Rattle.level_validate.proofs.Pushing.{ready_by}
+use Rattle.level_validate.proofs.Entered.{shared_by}
+use Rattle.table_words.proofs.Shedding.{none_unsettled}
+use Rattle.xp_board.specs.declared.step.Mark.TheVariants.{Record}
+use Rattle.board_lemmas.proofs.Works.{one_works}
+use Rattle.answer_fits.specs.Asked.{IsDemandOf}
+use Rattle.answer_fits.specs.Pauses.{Progress, entry, settles as settling}
+use Rattle.answer_fits.proofs.Progressing.{held_by}
+use Rattle.xp_words.specs.declared.kind.PageType.TheVariants as pages
+use Rattle.xp_board.specs.declared.holdings.OwnerFound.TheVariants as owners
+use Rattle.xp_board.specs.declared.step.StepKind.TheVariants as kinds
 
-no_page : (l : ℕ) → level_type l ≡ kinds.Desc → ⊥
+no_page : (l : ℕ) → level_type l ≡ pages.Desc → ⊥
 no_page l is = absurd (let k = subst (λ y. IsTrue (not (type_number y == 5))) is (level_type-plain l) in cc)
 
 unmarked_past : (b : Bool) → b ≡ false → b ≡ true → ⊥
@@ -92,3 +132,255 @@ outer_live v w d owner t s l =
     l.hand ∙ ap (λ (q : PortValue). quiet (record q { holdings = record q.holdings { refs = v.holdings.refs; typed = r ∷ l.rest; works = e.others } })) s.hand
     ∙ ap (λ ys. quiet (record v { holdings = record v.holdings { typed = r ∷ ys; works = e.others } })) (l.around ∙ sym s.idle.typed)
     ∙ ap (λ ws. quiet (record v { holdings = record v.holdings { typed = r ∷ v.holdings.typed; works = ws } })) (tables_none (sizes_of v.post.machine) w.holdings.steps (Some t) e.others e.around ∙ sym s.idle.works)
+
+-- A full table inside another one is made live, and joined to that one: a step of the course.
+pub completed_so : (v u w : PortValue) (t outer : TableWork) (recorded : Bool) → t.recorded ≡ recorded → t.done ≡ 512 → MadeLive v u t → Joined u w t outer recorded →
+    (owner : ℕ) (ts : List TableWork) → Advanced owner v (t ∷ outer ∷ ts) w (outer ∷ ts) (Ok true)
+completed_so v u w t outer recorded is full live joined owner ts = Advanced.completed v u w t outer ts full live (subst (λ (b : Bool). Joined u w t outer b) (sym is) joined)
+
+-- A table inside another one is live: the entry that names it is recorded; or it was before, and the reference in hand is given back.
+-- ---- the entry that was recorded before
+pub record TakenOn (t : TableWork) (e : Work) (g : TableWork) : Type 0 where
+  pub word : ℕ
+  pub all : e.recorded ≡ t.done
+  pub some : 0 < t.done
+  pub last : IsLastWord word e.unsettled
+  pub seen : e.seen ≡ Some (record { index = t.done - 1; word = word })
+  pub asks : demand_at (level_type t.level) (t.done - 1) word ≡ Typed g.frame (level_type g.level)
+
+pub reaches_on : (z : Sizes) (steps : List Made) (t : TableWork) (e : Work) (g : TableWork) (o : Option TableWork) → o ≡ Some g → g.recorded ≡ true → Reaches z steps t e o → TakenOn t e g
+reaches_on z steps t e g o inner old (innermost all) = absurd cc
+reaches_on z steps t e g o inner old (under_way h word new next settled seen asks) = absurd cc
+reaches_on z steps t e g o inner old (taken_on h word old2 all some last seen asks) =
+    record { word = word; all = all; some = some; last = last; seen = seen; asks = asks ∙ ap (λ (y : TableWork). Typed y.frame (level_type y.level)) (inner_is h g inner) }
+
+-- it is settled once its frame was found or left live
+last_by : (z : Sizes) (e : Work) (steps : List Made) (word g : ℕ) (t : PageType) (o : Option Unsettled) → demand_at (kind_fields e.word).kind (e.recorded - 1) word ≡ Typed g t → IsLastWord word o →
+    ((y : Unsettled) → o ≡ Some y → IsTrue (some_since z y.since (Kind g) is_live_word steps)) → IsTrue (settles_last z e steps o)
+last_by z e steps word g t None asks last live = refl
+last_by z e steps word g t (Some y) asks last live =
+    subst (λ w. IsTrue (settles_word z (kind_fields e.word).kind (e.recorded - 1) y.since steps w)) (sym last) (subst (λ d. IsTrue (settles z y.since steps d)) (sym asks) (live y refl))
+
+unsettled_not : (b : Bool) → b ≡ true → not b ≡ false
+unsettled_not b on = rw on refl
+
+second_of : (n : Machine) (h : Holdings) (x y : Work) (zs ws : List Work) → ws ≡ x ∷ y ∷ zs → EachOf (IsWorkFormed n h) ws → IsWorkFormed n h y
+unfolding EachOf
+second_of n h x y zs ws are each = (subst (λ us. EachOf (IsWorkFormed n h) us) are each).1.0
+
+module _ {v w : PortValue} {owner : ℕ} {t u : TableWork} {us : List TableWork} {s : Carries v w owner (t ∷ u ∷ us)} {d : PortValue} {found : ℕ} (store : Moves w d (Kind t.frame) (Store (kind_write (live_kind (level_type t.level) (type_counts t.own)))) kinds.Kind None found) (l : LiveHand s d) where
+  abbrev z : Sizes
+  z = sizes_of v.post.machine
+
+  abbrev inner : TopTable z w.holdings.steps None t (u ∷ us) w.holdings.works
+  inner = top s
+
+  pub outer : TopTable z w.holdings.steps (Some t) u us inner.others
+  outer = tables_top z w.holdings.steps (Some t) u us inner.others inner.around
+
+  abbrev mine : TypedReference
+  mine = live_typed t.frame (level_type t.level) (owners.Of owner)
+
+  came_d : Came w d
+  came_d = moves_came w d _ _ _ _ found store
+
+  post_d : d.post ≡ v.post
+  post_d = ap (λ (q : PortValue). q.post) l.hand ∙ stands_post v w owner (t ∷ u ∷ us) s
+
+  works_d : d.holdings.works ≡ outer.work ∷ outer.others
+  works_d = ap (λ (q : PortValue). q.holdings.works) l.hand ∙ outer.are
+
+  typed_d : d.holdings.typed ≡ mine ∷ l.rest
+  typed_d = ap (λ (q : PortValue). q.holdings.typed) l.hand
+
+  refs_d : d.holdings.refs ≡ refs_for owner (u ∷ us) v.holdings.refs
+  refs_d = ap (λ (q : PortValue). q.holdings.refs) l.hand
+
+  knows : (n : Sizes) → IsTrue (knows_live n t.frame (level_type t.level) d.holdings)
+  knows n = known_first n t.frame (level_type t.level) (owners.Of owner) l.rest d.holdings typed_d
+
+  in_hand : 0 < typed_to t.frame d.holdings.typed
+  in_hand = subst (λ ys. 0 < typed_to t.frame ys) (sym typed_d) (typed_held t.frame mine l.rest refl)
+
+  -- what stands then
+  stands_then : (x : PortValue) (e : Work) → Came w x → FlushedHolds w x (record w.holdings { refs = refs_for owner (u ∷ us) v.holdings.refs; typed = l.rest; works = e ∷ outer.others }) → IsTableWork z u e → e.recorded ≡ u.done → Carries v x owner (u ∷ us)
+  stands_then x e came hand is all =
+      let longer = came_longer w x came in
+      stands_by v w x owner (t ∷ u ∷ us) (u ∷ us) (refs_for owner (u ∷ us) v.holdings.refs) l.rest (e ∷ outer.others) s hand s.stack.2
+      (is, innermost all, tables_later z (Some u) us outer.others w.holdings x.holdings (came_grows w x came) longer outer.around) refl
+      (typed_later (length w.holdings.steps) (length x.holdings.steps) owner (u ∷ us) l.rest longer l.around)
+
+  -- ---- recorded now
+  module _ (new : t.recorded ≡ false) where
+    way : UnderWay z w.holdings.steps u outer.work t
+    way = reaches_under z w.holdings.steps u outer.work t (Some t) refl new outer.reaches
+
+    abbrev behind : Holdings
+    behind = record d.holdings { typed = l.rest }
+
+    has_typed : HasLastDemand d.post.machine u.frame (level_type u.level) d.holdings (Typed t.frame (level_type t.level))
+    has_typed =
+        let zd = sizes_of d.post.machine in (
+          record {
+            in_hand = in_hand;
+            owners = record {
+              table = owner;
+              frame = owner;
+              table_known = typed_knows_still zd owner behind d.holdings mine refl refl typed_d u.frame (top_known (length w.holdings.steps) owner u us v.holdings.refs behind refs_d l.around);
+              frame_known = typed_knows_its zd owner behind d.holdings mine refl refl typed_d;
+              meet = inl refl;
+            };
+          },
+          inl (knows zd),
+        )
+
+    settled_d : IsTrue (is_settled (sizes_of d.post.machine) d.holdings outer.work)
+    unfolding is_settled
+    settled_d =
+        subst (λ (p : Post). IsTrue (settles_last (sizes_of p.machine) outer.work d.holdings.steps outer.work.unsettled)) (sym post_d)
+        (settled_more z w.holdings d.holdings outer.work (came_grows w d came_d) way.settled)
+
+    pub live_records : RecordsNext d.post.machine u.frame u.done d.holdings
+    live_records =
+        record {
+          work = outer.work;
+          may = record {
+            here = work_here u.frame outer.work outer.others d.holdings.works outer.is.frame works_d;
+            table = subst (λ k. IsTrue (is_table k)) (sym outer.is.kind) (level_type-table u.level s.stack.2.0.low);
+            unmarked = outer.is.unmarked;
+            next = sym way.next;
+            inside = (let next = way.next in let few = s.stack.2.0.done in omega (arith, next, few));
+            settled = settled_d;
+            word = way.word;
+            seen = way.seen;
+            in_hand = subst (λ k. HasLastDemand d.post.machine u.frame k d.holdings (demand_at k outer.work.recorded way.word)) (sym outer.is.kind)
+                (subst (λ y. HasLastDemand d.post.machine u.frame (level_type u.level) d.holdings y) (sym way.asks) has_typed);
+          };
+        }
+
+    asks_is : next_asks d.post.machine u.frame u.done d.holdings live_records ≡ Typed t.frame (level_type t.level)
+    unfolding live_records
+    asks_is = ap (λ k. demand_at k outer.work.recorded way.word) outer.is.kind ∙ way.asks
+
+    settles_it : leaves_unsettled (sizes_of d.post.machine) d.holdings (next_asks d.post.machine u.frame u.done d.holdings live_records) ≡ false
+    settles_it = ap (λ y. leaves_unsettled (sizes_of d.post.machine) d.holdings y) asks_is ∙ unsettled_not (knows_live (sizes_of d.post.machine) t.frame (level_type t.level) d.holdings) (knows (sizes_of d.post.machine))
+
+    recorded_now : Work → Work
+    recorded_now e = record e { recorded = u.done; unsettled = None }
+
+    recorded_left : entry_recorded d.post.machine u.frame d.holdings ≡ record d.holdings { typed = l.rest; works = recorded_now outer.work ∷ outer.others }
+    unfolding recorded_now
+    recorded_left =
+        record_left d.post.machine u.frame u.done d.holdings live_records false settles_it
+        ∙ ap (λ y. record (demand_out y d.holdings) { works = changed_work u.frame recorded_now d.holdings.works }) asks_is
+        ∙ ap (λ ys. record d.holdings { typed = ys; works = changed_work u.frame recorded_now d.holdings.works }) (without_newest (λ (y : TypedReference). y.frame) t.frame mine l.rest d.holdings.typed refl typed_d)
+        ∙ ap (λ ws. record d.holdings { typed = l.rest; works = ws }) (changed_first u.frame recorded_now outer.work outer.others d.holdings.works works_d outer.is.frame)
+
+    module _ (x : PortValue) (holds : Holds d x (entry_recorded d.post.machine u.frame d.holdings)) (came : Came w x) where
+      recorded_hand : FlushedHolds w x (record w.holdings { refs = refs_for owner (u ∷ us) v.holdings.refs; typed = l.rest; works = recorded_now outer.work ∷ outer.others })
+      recorded_hand =
+          ap quiet holds ∙ ap (λ h. quiet (record d { holdings = h })) recorded_left
+          ∙ ap (λ (q : PortValue). quiet (record q { holdings = record q.holdings { typed = l.rest; works = recorded_now outer.work ∷ outer.others } })) l.hand
+
+      pub new_stands : Carries v x owner (u ∷ us)
+      unfolding recorded_now
+      new_stands = stands_then x (recorded_now outer.work) came recorded_hand (record { inside = outer.is.inside; frame = outer.is.frame; work = outer.is.work; kind = outer.is.kind; unmarked = outer.is.unmarked; lent = outer.is.lent }) refl
+
+      pub new_ready : IsTopReady x
+      unfolding recorded_now
+      new_ready = ready_by x (recorded_now outer.work) outer.others (ap (λ (q : PortValue). q.holdings.works) recorded_hand) (none_unsettled (sizes_of x.post.machine) x.holdings (recorded_now outer.work) refl)
+
+  -- ---- recorded before
+  module _ (old : t.recorded ≡ true) where
+    pub on : TakenOn u outer.work t
+    on = reaches_on z w.holdings.steps u outer.work t (Some t) refl old outer.reaches
+
+    pub asks_on : demand_at (kind_fields outer.work.word).kind (u.done - 1) on.word ≡ Typed t.frame (level_type t.level)
+    asks_on = ap (λ k. demand_at k (u.done - 1) on.word) outer.is.kind ∙ on.asks
+
+    pub live_gives : MayGiveBack d.post.machine d.post.vcpu t.frame d.holdings
+    live_gives =
+        let all = on.all in
+        let some = on.some in
+        record {
+          drops = record { in_hand = in_hand; kind = level_type t.level; live = knows (sizes_of d.post.machine) };
+          shared = shared_by d.post.machine d.post.vcpu d.holdings u.frame (work_here u.frame outer.work outer.others d.holdings.works outer.is.frame works_d) (ap is_table outer.is.kind ∙ level_type-table u.level s.stack.2.0.low) (u.done - 1) on.word
+              (omega (arith, all, some)) on.seen asks_on in_hand;
+        }
+
+    since_low : (y : Unsettled) → outer.work.unsettled ≡ Some y → y.since ≤ length w.holdings.steps
+    since_low y is =
+        let f = store.finds in
+        let each = subst (λ (h : Holdings). EachOf (IsWorkFormed w.post.machine h) h.works) f.mine (f.sound.formed w.post.vcpu f.real).works in
+        ((second_of w.post.machine w.holdings inner.work outer.work outer.others w.holdings.works (inner.are ∙ ap (λ ws. inner.work ∷ ws) outer.are) each).unsettled y is).1
+
+    module _ (spelled : IsTrue (is_kind (live_kind (level_type t.level) (type_counts t.own)))) (x : PortValue) (holds : Holds d x (gave_type t.frame d.holdings)) (came : Came d x) where
+      given_hand : FlushedHolds w x (record w.holdings { refs = refs_for owner (u ∷ us) v.holdings.refs; typed = l.rest; works = outer.work ∷ outer.others })
+      given_hand =
+          ap quiet holds ∙ ap (λ (q : PortValue). quiet (record q { holdings = gave_type t.frame q.holdings })) l.hand
+          ∙ ap (λ ys. quiet (record w { holdings = record w.holdings { refs = refs_for owner (u ∷ us) v.holdings.refs; typed = ys; works = inner.others } })) (without_newest (λ (y : TypedReference). y.frame) t.frame mine l.rest _ refl refl)
+          ∙ ap (λ ws. quiet (record w { holdings = record w.holdings { refs = refs_for owner (u ∷ us) v.holdings.refs; typed = l.rest; works = ws } })) outer.are
+
+      pub old_stands : Carries v x owner (u ∷ us)
+      old_stands = stands_then x outer.work (came_trans w d x came_d came) given_hand outer.is on.all
+
+      live_there : (y : Unsettled) → outer.work.unsettled ≡ Some y → IsTrue (some_since (sizes_of w.post.machine) y.since (Kind t.frame) is_live_word x.holdings.steps)
+      unfolding left_by
+      live_there y is =
+          let k = live_kind (level_type t.level) (type_counts t.own) in
+          came_grows d x came _ (moves_since w d (Kind t.frame) (Store (kind_write k)) kinds.Kind None found store y.since is_live_word (since_low y is) (ap (λ (q : KindWord). q.validated) (fields_write k spelled)))
+
+      pub old_ready : IsTopReady x
+      unfolding is_settled
+      old_ready =
+          ready_by x outer.work outer.others (ap (λ (q : PortValue). q.holdings.works) given_hand)
+          (subst (λ (p : Post). IsTrue (settles_last (sizes_of p.machine) outer.work x.holdings.steps outer.work.unsettled)) (sym (came_post w x (came_trans w d x came_d came)))
+          (last_by (sizes_of w.post.machine) outer.work x.holdings.steps on.word t.frame (level_type t.level) outer.work.unsettled
+          (ap (λ n. demand_at (kind_fields outer.work.word).kind (n - 1) on.word) on.all ∙ asks_on) on.last live_there))
+
+-- Progress: an entry of a table in the own works is recorded; or a recorded one is settled, as the table that it names is live.
+-- ---- an entry is recorded
+pub progress_records : (v w : PortValue) (f upto clock : ℕ) → Moves v w Clock Load kinds.Look (Some (Record f upto)) clock → Progress (Met v w)
+unfolding moment_of
+progress_records v w f upto clock look = entry (moment_of v Clock Load kinds.Look (Some (Record f upto)) clock) (moves_met v w Clock Load kinds.Look (Some (Record f upto)) clock look) refl
+
+-- ---- a recorded entry is settled
+-- a frame is in the own works once
+two_works : (f : ℕ) (x y : Work) (zs ws : List Work) → ws ≡ x ∷ y ∷ zs → works_on f ws ≤ 1 → x.frame ≡ f → y.frame ≡ f → ⊥
+two_works f x y zs ws are few first second =
+    let all = ap (λ us. works_on f us) are in
+    let one = times_by-cons_here (λ (e : Work). e.frame) f x (y ∷ zs) first in
+    let two = times_by-cons_here (λ (e : Work). e.frame) f y zs second in
+    omega (arith, all, few, one, two)
+
+pub second_here : (f : ℕ) (x y : Work) (zs ws : List Work) → ws ≡ x ∷ y ∷ zs → works_on f ws ≤ 1 → y.frame ≡ f → work_on f ws ≡ Some y
+second_here f x y zs ws are few second =
+    ap (λ us. work_on f us) are ∙ first_by-cons_other (λ (e : Work). e.frame) f x (y ∷ zs) (λ first. two_works f x y zs ws are few first second)
+    ∙ first_by-cons_here (λ (e : Work). e.frame) f y zs second
+
+module _ {v w : PortValue} {owner : ℕ} {t u : TableWork} {us : List TableWork} {s : Carries v w owner (t ∷ u ∷ us)} {d : PortValue} {found : ℕ} (store : Moves w d (Kind t.frame) (Store (kind_write (live_kind (level_type t.level) (type_counts t.own)))) kinds.Kind None found) (l : LiveHand s d) where
+  few : works_on u.frame w.holdings.works ≤ 1
+  few =
+      let f = store.finds in
+      subst (λ h. works_on u.frame h.works ≤ 1) f.mine (one_works w.post.machine f.words f.hands f.sound.alone u.frame w.post.vcpu f.real)
+
+  around_here : work_on u.frame w.holdings.works ≡ Some (outer store l).work
+  around_here =
+      let i = top s in
+      let o = outer store l in
+      second_here u.frame i.work o.work o.others w.holdings.works (i.are ∙ ap (λ ws. i.work ∷ ws) o.are) few o.is.frame
+
+  pub progress_settles : t.recorded ≡ true → IsTrue (is_kind (live_kind (level_type t.level) (type_counts t.own))) → Progress (Met w d)
+  unfolding moment_of
+  progress_settles old spelled =
+      let o = outer store l in
+      let k = on store l old in
+      let live = live_kind (level_type t.level) (type_counts t.own) in
+      let all = k.all in
+      let some = k.some in
+      let held = held_by (u.done - 1) k.word (work_on u.frame w.holdings.works) o.work (lock_on u.frame w.holdings.locks) (Typed t.frame (level_type t.level)) around_here
+      (ap is_table o.is.kind ∙ level_type-table u.level s.stack.2.0.low) o.is.unmarked (asks_on store l old) in
+      settling (moment_of w (Kind t.frame) (Store (kind_write live)) kinds.Kind None found) t.frame u.frame (kind_write live) o.work (record { index = u.done - 1; word = k.word })
+      (moves_met w d (Kind t.frame) (Store (kind_write live)) kinds.Kind None found store) refl refl
+      (subst (λ (q : KindWord). IsTrue q.validated) (sym (fields_write live spelled)) refl) around_here k.seen (omega (arith, all, some))
+      (subst (λ y. IsDemandOf t.frame None y) (sym held) (refl, tt))

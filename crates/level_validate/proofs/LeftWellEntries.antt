@@ -9,16 +9,13 @@ use Rattle.xp_words.specs.KindWords.{has_form, kind_fields, kind_write}
 use Rattle.xp_words.specs.Machine.{Machine}
 use Rattle.xp_words.specs.PageTypes.{is_none, is_table, type_number}
 use Rattle.xp_words.specs.declared.entry.Demand.{Demand}
-use Rattle.xp_words.specs.declared.entry.Demand.TheVariants as demands
 use Rattle.xp_words.specs.declared.kind.KindWord.{KindWord}
 use Rattle.xp_words.specs.declared.kind.PageType.{PageType}
-use Rattle.xp_words.specs.declared.kind.PageType.TheVariants as pages
 use Rattle.xp_words.specs.Places.{asked_of}
 use Rattle.xp_words.specs.declared.place.Place.{Place}
 use Rattle.xp_words.specs.declared.place.Place.TheVariants.{Clock, Kind, Priv}
 use Rattle.xp_words.specs.declared.reply.Pause.TheVariants.{Flush, Lost}
 use Rattle.xp_words.specs.declared.reply.Refusal.{Refusal}
-use Rattle.xp_words.specs.declared.reply.Refusal.TheVariants as refusals
 use Rattle.xp_words.specs.declared.reply.Stop.{Stop}
 use Rattle.xp_words.specs.declared.reply.Stop.TheVariants.{Refused, Paused}
 use Rattle.xp_board.specs.declared.step.Act.TheVariants.{Load, Max, Store}
@@ -31,9 +28,7 @@ use Rattle.answer_fits.specs.Finding.{FoundAt}
 use Rattle.answer_fits.specs.Reasons.{OfOwner, Those, Whose}
 use Rattle.answer_fits.specs.Visits.{Does, Only, Then, Visit, Where, visit}
 use Rattle.answer_fits.proofs.Piecing.{each_append}
-use Rattle.flush_words.specs.Flushing as flushing
 use Rattle.flush_words.specs.Flushing.{FlushedBy}
-use Rattle.flush_waits.specs.Listing as waits
 use Rattle.flush_waits.specs.Listing.{LooksAt, Slow, WaitedFor, WaitsInOrder, WeighsBy, saw_flushed, saw_run}
 use Rattle.frame_words.specs.Freeing.{PutBy}
 use Rattle.frame_words.specs.Refs.{GetsBy, Raises, TakesFirst, UnreferredBy, had, outside as unknown, raises_refs, refused, saw_refs, stopped, Gets}
@@ -44,19 +39,14 @@ use Rattle.frame_types.specs.Found.{DeadBy, Dies, EndsBy, GoesBy, LosesBy, Share
 use Rattle.frame_types.specs.Plain.{IsTakenBy, is_own, waits_by}
 use Rattle.frame_types.specs.Standing.{standing_of}
 use Rattle.frame_types.specs.declared.standing.Standing.{Standing}
-use Rattle.frame_types.specs.declared.standing.Standing.TheVariants as stands
 use Rattle.frame_types.specs.declared.taking.Taken.{Taken}
-use Rattle.frame_types.specs.declared.taking.Taken.TheVariants as types
 use Rattle.table_words.specs.Entries.{Records, records_at}
 use Rattle.table_entries.specs.Found.{EntersBy, EntersFound, LastBy, LeftAfter, LeftBy, ReadBy, RefusesBy, ResumesBy, ResumesFound, TypedAgain, TypedBy, UnsettledBy, other, outside, saw_cell, settled}
 use Rattle.table_entries.specs.declared.entries.Entered.{Entered}
-use Rattle.table_entries.specs.declared.entries.Entered.TheVariants as entered
 use Rattle.table_entries.specs.declared.resuming.Resumed.{Resumed}
-use Rattle.table_entries.specs.declared.resuming.Resumed.TheVariants as again
 use Rattle.table_entries.proofs.HandLists.{asks_below}
 use Rattle.level_validate.specs.Leaving.{LeftWell}
-use Rattle.level_validate.proofs.LeftWell.{nothing_plain, only_plain, put_plain, stores_plain, then_plain, well_behind, well_by, well_then}
-use Rattle.level_validate.proofs.Forward.{IsPlain, Plain, forward_behind, forward_by, forward_then}
+use Rattle.level_validate.proofs.Steps.{nothing_plain, only_plain, put_plain, stores_plain, then_plain, well_behind, well_by, well_then, IsPlain, Plain, forward_behind, forward_by, forward_then}
 use Rattle.level_validate.proofs.Entered.{back_one}
 use Rattle.level_validate.proofs.Standing.{standing_top}
 use Rattle.level_validate.specs.Tables.{Carries, IsStanding}
@@ -64,7 +54,16 @@ use Rattle.level_validate.specs.Forward.{Forward}
 use Rattle.table_entries.specs.Tops.{WorksAtTop}
 use Rattle.table_entries.proofs.PiecesAsking.{top_here}
 use Rattle.partial_state.specs.declared.stack.TableWork.{TableWork}
-use Rattle.level_validate.proofs.Visited.{WasFound, each_first, each_next, first_is, were_found}
+use Rattle.level_validate.proofs.Looking.{WasFound, each_first, each_next, first_is, were_found}
+use Rattle.xp_words.specs.declared.entry.Demand.TheVariants as demands
+use Rattle.xp_words.specs.declared.kind.PageType.TheVariants as pages
+use Rattle.xp_words.specs.declared.reply.Refusal.TheVariants as refusals
+use Rattle.flush_words.specs.Flushing as flushing
+use Rattle.flush_waits.specs.Listing as waits
+use Rattle.frame_types.specs.declared.standing.Standing.TheVariants as stands
+use Rattle.frame_types.specs.declared.taking.Taken.TheVariants as types
+use Rattle.table_entries.specs.declared.entries.Entered.TheVariants as entered
+use Rattle.table_entries.specs.declared.resuming.Resumed.TheVariants as again
 
 -- ---- put together
 where_plain : (b : Bool) (P : List Visit → Type 0) → ((vs : List Visit) → P vs → Plain vs) → (vs : List Visit) → Where b P vs → Plain vs

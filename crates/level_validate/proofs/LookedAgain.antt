@@ -1,29 +1,105 @@
--- The last recorded entry of the innermost table is looked at again: what the call says, whatever it found; and where it is settled.
-use Rattle.std.proofs.Common.{◌≡◌, ℕ, ◌-◌, List, [], ◌∷◌, drop, false, Ok, sym, refl, subst}
+-- The last recorded entry of the innermost table is looked at again: what that is of the course, by the answer.
+use Rattle.std.proofs.Common.{◌≡◌, ℕ, ◌-◌, ◌<◌, Bool, true, false, List, ◌∷◌, Result, Ok, Err, sym, subst, arith, [], drop, refl, ◌≤◌, IfErr, ap, ◌∙◌}
 use Rattle.xp_words.specs.declared.kind.PageType.{PageType}
-use Rattle.xp_board.specs.Told.{PortValue}
-use Rattle.step_maker.specs.Moves.{Came}
-use Rattle.step_maker.proofs.Coming.{came_trans}
-use Rattle.answer_fits.specs.Answers.{Serves}
-use Rattle.answer_fits.proofs.Piecing.{serves_came}
+use Rattle.xp_words.specs.declared.reply.Stop.{Stop}
+use Rattle.xp_board.specs.Told.{PortValue, Post}
+use Rattle.answer_fits.specs.Answers.{Stops, Serves, missed}
+use Rattle.answer_fits.specs.Visits.{Does, Visit}
+use Rattle.frame_types.specs.Found.{SharedBy}
 use Rattle.partial_state.specs.Levels.{level_type}
 use Rattle.partial_state.specs.declared.stack.TableWork.{TableWork}
-use Rattle.table_entries.specs.Asking.{ShowsResumed, of_entries}
+use Rattle.table_entries.specs.Asking.{ShowsResumed, of_entries, IsEntryStop}
 use Rattle.table_entries.specs.Found.{ResumesFound}
 use Rattle.table_entries.specs.Plain.{TwinResume}
-use Rattle.table_entries.specs.Tops.{LeavesResumed}
 use Rattle.table_entries.specs.declared.resuming.Resumed.{Resumed}
-use Rattle.table_entries.specs.declared.resuming.Resumed.TheVariants as again
-use Rattle.table_courses.specs.Acquiring.{ResumedEntry}
+use Rattle.table_courses.specs.Acquiring.{GaveBack, LeftWaiting, ResumedEntry, TookOn, table_opened}
+use Rattle.step_maker.specs.Moves.{Came, Met}
+use Rattle.step_maker.proofs.Coming.{came_trans, came_post}
+use Rattle.answer_fits.proofs.Piecing.{serves_came}
+use Rattle.table_entries.specs.Tops.{LeavesResumed}
 use Rattle.level_validate.specs.Forward.{Forward}
 use Rattle.level_validate.specs.Leaving.{LeftWell}
 use Rattle.level_validate.specs.Tables.{Carries, IsStanding, IsTopReady, StandsOn}
-use Rattle.level_validate.proofs.Entered.{after_look, after_settled}
-use Rattle.level_validate.proofs.LeftWellEntries.{resumes_forward, resumes_well}
-use Rattle.level_validate.proofs.Looking.{FirstFound}
-use Rattle.level_validate.proofs.TakenOn.{resumed_ok}
-use Rattle.level_validate.proofs.Visited.{resumed_first}
+use Rattle.level_validate.proofs.Entered.{after_look, after_settled, back_one, taken_gives, taken_ready, taken_stands, after_again, fresh_ready}
+use Rattle.level_validate.proofs.LeftWellEntries.{resumes_forward, resumes_well, IsAskedType, shared_plain, stamp_small}
+use Rattle.level_validate.proofs.Looking.{FirstFound, resumed_first}
+use Rattle.step_maker.specs.Holds.{Holds, MayWork}
+use Rattle.answer_fits.specs.Asked.{of_back}
+use Rattle.answer_fits.specs.Pauses.{Progress}
+use Rattle.answer_fits.proofs.Progressing.{progress_before}
+use Rattle.frame_types.specs.Taking.{gave_type}
+use Rattle.level_validate.specs.Giving.{MayGiveBack}
+use Rattle.level_validate.specs.Serving.{CarriesOn, StopsIn}
+use Rattle.level_validate.proofs.Serving.{goes_back, goes_opened, stops_behind, goes_left, goes_waiting, stops_entries, stops_on}
+use Rattle.level_validate.proofs.Opening.{taken_found, left_waiting, wait_stops, waited_found, waits_there, again_found}
+use Rattle.partial_state.proofs.LevelFacts.{level_type-under, level_type-plain, level_type-typed}
+use Rattle.std.proofs.lemmas.Result.{IfErr-weaker}
+use Rattle.xp_words.specs.Entries.{below}
+use Rattle.partial_state.specs.Stacks.{IsTable}
+use Rattle.level_validate.proofs.Pushing.{pushed}
+use Rattle.level_validate.proofs.Standing.{may_back, may_stands}
+use Rattle.frame_types.specs.Leaving.{GivesBack, IsWaiting, ServesType}
+use Rattle.level_validate.proofs.Steps.{Plain, forward_by, forward_then, well_by, well_then}
+use Rattle.table_entries.specs.declared.resuming.Resumed.TheVariants as again
 
+-- ---- the call that looks, for the type of the table's level
+module _ (v w : PortValue) (owner : ℕ) (t : TableWork) {k : PageType} (is : k ≡ level_type t.level) where
+  pub resumed_ok : (b a : Resumed) → b ≡ a → ResumesFound v w t.frame (t.done - 1) k owner (Ok b) → TwinResume v w t.frame k (t.done - 1) owner (Ok b) → ((pages : ℕ) → ShowsResumed v w owner pages k b) → ResumedEntry v w owner t (Ok a)
+  resumed_ok b a same found plain shows =
+      record {
+        found = subst (λ (j : PageType). ResumesFound v w t.frame (t.done - 1) j owner (Ok a)) is (subst (λ (r : Resumed). ResumesFound v w t.frame (t.done - 1) k owner (Ok r)) same found);
+        plain = subst (λ (j : PageType). TwinResume v w t.frame j (t.done - 1) owner (Ok a)) is (subst (λ (r : Resumed). TwinResume v w t.frame k (t.done - 1) owner (Ok r)) same plain);
+        stops = λ pages. tt;
+        shows = λ pages. subst (λ (j : PageType). ShowsResumed v w owner pages j a) is (subst (λ (r : Resumed). ShowsResumed v w owner pages k r) same (shows pages));
+      }
+
+  pub resumed_err : (e : Stop) → ResumesFound v w t.frame (t.done - 1) k owner (Err e) → TwinResume v w t.frame k (t.done - 1) owner (Err e) → ((pages : ℕ) → Stops v w (of_entries owner pages) e) → ResumedEntry v w owner t (Err e)
+  resumed_err e found plain stops =
+      record {
+        found = subst (λ (j : PageType). ResumesFound v w t.frame (t.done - 1) j owner (Err e)) is found;
+        plain = subst (λ (j : PageType). TwinResume v w t.frame j (t.done - 1) owner (Err e)) is plain;
+        stops = stops;
+        shows = λ pages. tt;
+      }
+
+-- ---- from a stack of which that table is the top
+module _ (owner : ℕ) (v : PortValue) {t : TableWork} {ts stack : List TableWork} (top : stack ≡ t ∷ ts) where
+  -- the stack stays as it is
+  stays : (w : PortValue) (answer : Result Bool Stop) → TookOn owner v (t ∷ ts) w (t ∷ ts) answer → TookOn owner v stack w stack answer
+  stays w answer took = subst (λ (xs : List TableWork). TookOn owner v xs w xs answer) (sym top) took
+
+  pub fresh_on : t.done ≡ 0 → TookOn owner v stack v stack (Ok false)
+  fresh_on none = stays v (Ok false) (TookOn.fresh v t ts none)
+
+  module _ (some : t.done ≡ 0 → ⊥) where
+    least : 0 < t.done
+    least = omega (arith, some)
+
+    pub stopped_on : (w : PortValue) (answer : Result Bool Stop) (e : Stop) → answer ≡ Err e → ResumedEntry v w owner t (Err e) → TookOn owner v stack w stack answer
+    stopped_on w answer e is again = subst (λ (r : Result Bool Stop). TookOn owner v stack w stack r) (sym is) (stays w (Err e) (TookOn.stopped v w t ts e least again))
+
+    pub settled_on : (w : PortValue) → ResumedEntry v w owner t (Ok again.Settled) → TookOn owner v stack w stack (Ok false)
+    settled_on w resumed = stays w (Ok false) (TookOn.settled v w t ts least resumed)
+
+    pub taken_on : (u w : PortValue) (f : ℕ) → ResumedEntry v u owner t (Ok (again.Taken f)) → GaveBack u w f → TookOn owner v stack w stack (Ok true)
+    taken_on u w f resumed back = stays w (Ok true) (TookOn.taken v u w t ts f least resumed back)
+
+    -- the table that it names is on top then
+    pub opened_on : (u w : PortValue) (f progress : ℕ) (answer : Result Bool Stop) (next us : List TableWork) → next ≡ table_opened t f progress false true ∷ stack → ResumedEntry v u owner t (Ok (again.Opened f progress)) →
+        TookOn owner u next w us answer → TookOn owner v stack w us answer
+    opened_on u w f progress answer next us pushed resumed took =
+        subst (λ (xs : List TableWork). TookOn owner v xs w us answer) (sym top)
+        (TookOn.opened v u w t ts us f progress answer least resumed
+        (subst (λ (xs : List TableWork). TookOn owner u (table_opened t f progress false true ∷ xs) w us answer) top (subst (λ (xs : List TableWork). TookOn owner u xs w us answer) pushed took)))
+
+    pub waiting_on : (u w : PortValue) (f stamp : ℕ) (e : Stop) → ResumedEntry v u owner t (Ok (again.Waiting f stamp e)) → LeftWaiting u w f (t.level - 1) stamp → TookOn owner v stack w stack (Err e)
+    waiting_on u w f stamp e resumed left = stays w (Err e) (TookOn.waiting v u w t ts f stamp e least resumed left)
+
+-- ---- a frame that waits for a flush is left, for the type of a level
+pub shared_left : (v w : PortValue) (f level : ℕ) (k : PageType) → k ≡ level_type level → (stamp : ℕ) → Does v w (λ vs. SharedBy f k stamp vs) → LeftWaiting v w f level stamp
+shared_left v w f level k is stamp does = subst (λ (j : PageType). Does v w (λ vs. SharedBy f j stamp vs)) is does
+
+-- The last recorded entry of the innermost table is looked at again: what the call says, whatever it found; and where it is settled.
 -- for the type of the table's level
 pub record SaidAgain (u x : PortValue) (owner : ℕ) (t : TableWork) (a : Resumed) : Type 0 where
   pub entry : ResumedEntry u x owner t (Ok a)
@@ -65,3 +141,116 @@ module _ {u x : PortValue} {owner : ℕ} {t : TableWork} {stack : List TableWork
   pub settled_ready : IsStanding u owner stack → IsTopReady x
   settled_ready a =
       after_settled x (subst (λ xs. Carries a.0 u owner xs) top a.1) (again_came said) (again_first said) (t.done - 1) said.hand.0 said.hand.1
+
+-- The last recorded entry of the innermost table is looked at again, and its frame was live: the type count that was taken is given back.
+module _ {u x : PortValue} {owner : ℕ} {t : TableWork} {stack : List TableWork} (top : stack ≡ t ∷ drop 1 stack) (some : t.done ≡ 0 → ⊥) {f : ℕ} (said : SaidAgain u x owner t (again.Taken f)) where
+  pub took_inside : f < x.post.machine.frames
+  took_inside = subst (λ (p : Post). f < p.machine.frames) (sym (came_post u x (again_came said))) (taken_found u x t.frame (t.done - 1) (level_type t.level) owner f said.entry.found)
+
+  pub took_gives : IsStanding u owner stack → MayGiveBack x.post.machine x.post.vcpu f x.holdings
+  took_gives a =
+      taken_gives (subst (λ xs. Carries a.0 u owner xs) top a.1) (again_came said) (again_first said) (back_one t.done some) said.hand.0
+
+  module _ (w : PortValue) (gives : Holds x w (gave_type f x.holdings)) (on : Came x w) where
+    pub took_stands : StandsOn u w owner stack stack
+    took_stands v s =
+        subst (λ xs. Carries v w owner xs) (sym top)
+        (taken_stands (subst (λ xs. Carries v u owner xs) top s) (again_came said) (again_first said) (back_one t.done some) said.hand.0 w gives on)
+
+    pub took_ready : IsStanding u owner stack → IsTopReady w
+    took_ready a =
+        taken_ready (subst (λ xs. Carries a.0 u owner xs) top a.1) (again_came said) (again_first said) (back_one t.done some) said.hand.0 w gives on
+        said.hand.1
+
+  pub took_serves : (w : PortValue) → Serves x w (of_back f) [] → CarriesOn u w owner stack stack []
+  took_serves w put = goes_back u x owner stack (level_type t.level) f said.serves (λ pages. (said.entry.shows pages).0) w put
+
+  pub took_progress : (w : PortValue) → Came x w → Progress (Met u w)
+  took_progress w on = progress_before u x w on (said.entry.shows 0).1
+
+-- The last recorded entry of the innermost table is looked at again, and names a table that was left unfinished: that one is on top then.
+-- the table has a level
+pub top_low : (u : PortValue) (owner : ℕ) (t : TableWork) (stack : List TableWork) → stack ≡ t ∷ drop 1 stack → IsStanding u owner stack → 1 ≤ t.level
+top_low u owner t stack top a =
+    let s = subst (λ xs. Carries a.0 u owner xs) top a.1 in
+    s.stack.0.low
+
+module _ {u x : PortValue} {owner : ℕ} {t : TableWork} {stack : List TableWork} (top : stack ≡ t ∷ drop 1 stack) (some : t.done ≡ 0 → ⊥) {f progress : ℕ} (said : SaidAgain u x owner t (again.Opened f progress)) where
+  abbrev inner : TableWork
+  inner = pushed t f progress false true
+
+  below_is : IsStanding u owner stack → below (level_type t.level) ≡ level_type (t.level - 1)
+  below_is a =
+      let s = subst (λ xs. Carries a.0 u owner xs) top a.1 in
+      level_type-under t.level s.stack.0.low s.stack.0.high
+
+  on_top : (v : PortValue) → Carries v u owner stack → Carries v x owner (inner ∷ t ∷ drop 1 stack)
+  on_top v s =
+      after_again x (subst (λ xs. Carries v u owner xs) top s) (again_came said) (again_first said) (t.done - 1) f progress
+      (back_one t.done some) (again_found u x t.frame (t.done - 1) (level_type t.level) owner f progress said.entry.found) said.hand
+
+  pub opened_table : IsStanding u owner stack → IsTable inner
+  opened_table a = (on_top a.0 a.1).stack.0
+
+  pub opened_may : IsStanding u owner stack → MayWork u → MayWork x
+  opened_may a may = may_stands a.0 x owner (inner ∷ t ∷ drop 1 stack) (on_top a.0 a.1) (may_back a.0 u owner stack a.1 may)
+
+  pub opened_ready : progress ≡ 0 → IsTopReady x
+  opened_ready zero = fresh_ready u x t.frame (t.done - 1) (level_type t.level) f owner progress false said.hand zero
+
+  module _ {next : List TableWork} (is : next ≡ inner ∷ stack) where
+    pub opened_stands : StandsOn u x owner stack next
+    opened_stands v s = subst (λ xs. Carries v x owner xs) (sym (is ∙ ap (λ ys. inner ∷ ys) top)) (on_top v s)
+
+    pub opened_serves : IsStanding u owner stack → CarriesOn u x owner stack next []
+    opened_serves a = subst (λ xs. CarriesOn u x owner stack xs []) (sym is) (goes_opened u x owner stack (level_type t.level) f said.serves said.entry.shows inner refl (below_is a))
+
+    pub opened_stops : {A : Type 0} → IsStanding u owner stack → (y : PortValue) (r : Result A Stop) → IfErr r (λ e. StopsIn x y owner next e) → IfErr r (λ e. StopsIn u y owner stack e)
+    opened_stops a y r stops = IfErr-weaker r (λ e. StopsIn x y owner next e) (λ e. StopsIn u y owner stack e) (λ e so. stops_behind x y owner next e u stack opened_stands (opened_serves a) so) stops
+
+-- The last recorded entry of the innermost table is looked at again, and its frame waits for a flush that is not to be had: it is left.
+module _ {u x : PortValue} {owner : ℕ} {t : TableWork} {stack : List TableWork} (top : stack ≡ t ∷ drop 1 stack) (some : t.done ≡ 0 → ⊥) {f stamp : ℕ} {stop : Stop} (said : SaidAgain u x owner t (again.Waiting f stamp stop)) (a : IsStanding u owner stack) where
+  came : Came u x
+  came = again_came said
+
+  below_is_waitedagain : below (level_type t.level) ≡ level_type (t.level - 1)
+  below_is_waitedagain =
+      let s = subst (λ xs. Carries a.0 u owner xs) top a.1 in
+      level_type-under t.level s.stack.0.low s.stack.0.high
+
+  pub waited_inside : f < x.post.machine.frames
+  waited_inside = subst (λ (p : Post). f < p.machine.frames) (sym (came_post u x came)) (waited_found u x t.frame (t.done - 1) (level_type t.level) owner f stamp stop said.entry.found)
+
+  pub waited_kinds : IsEntryStop stop
+  waited_kinds = wait_stops stop (said.entry.shows 0).1
+
+  -- it is left
+  module _ {k : PageType} (kind : k ≡ level_type (t.level - 1)) where
+    pub waited_waits : IsWaiting x f k false stamp
+    waited_waits = waits_there (t.level - 1) below_is_waitedagain said.hand.0 k stamp kind said.hand.1
+
+    module _ (y : PortValue) (on : Came x y) where
+      pub waited_stands : GivesBack x y f k false → StandsOn u y owner stack stack
+      waited_stands gives v s =
+          subst (λ xs. Carries v y owner xs) (sym top)
+          (after_look y (subst (λ xs. Carries v u owner xs) top s) (again_then said y on) (again_first said) (t.done - 1)
+          (left_waiting (t.level - 1) below_is_waitedagain said.hand.0 y k kind gives))
+
+      pub waited_serves : ServesType x y f k → CarriesOn u y owner stack stack (missed u.post.machine stop)
+      waited_serves serves =
+          goes_waiting u y owner stack stack stop (said.entry.shows 0).1
+          (goes_left u x owner stack (level_type t.level) f said.serves (λ pages. (said.entry.shows pages).0) y (subst (λ j. ServesType x y f j) (kind ∙ sym below_is_waitedagain) serves))
+
+      pub waited_stops : StopsIn u y owner stack stop
+      waited_stops = stops_on u x owner stack stop y on (stops_entries u x owner stack stop (λ pages. (said.entry.shows pages).2))
+
+    -- ---- its steps
+    module _ (y : PortValue) where
+      by_plain : (vs : List Visit) → SharedBy f k stamp vs → Plain vs
+      by_plain = shared_plain f k stamp (subst (λ j. IsAskedType j) (sym kind) (level_type-typed (t.level - 1), level_type-plain (t.level - 1))) (stamp_small said.hand.0.work.word stamp said.hand.1)
+
+      pub shared_forward : Does x y (λ vs. SharedBy f k stamp vs) → Forward u y
+      shared_forward does = forward_then u x y (again_forward said stack top a some) (forward_by x y (λ vs. SharedBy f k stamp vs) by_plain does)
+
+      pub shared_well : Does x y (λ vs. SharedBy f k stamp vs) → (e : ℕ) → LeftWell u y false e
+      shared_well does e = well_then u x y false e (again_well said e) (well_by x y false e (λ vs. SharedBy f k stamp vs) by_plain does)

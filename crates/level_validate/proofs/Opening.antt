@@ -1,11 +1,10 @@
 -- An entry whose frame came into the own works: what the steps found of that frame.
-use Rattle.std.proofs.Common.{◌≡◌, ℕ, zero, suc, ◌<◌, ◌≤◌, if◌then◌else◌, Bool, true, false, List, Some, Ok, IsTrue, refl, sym, subst, arith}
+use Rattle.std.proofs.Common.{◌≡◌, ℕ, zero, suc, ◌<◌, ◌≤◌, if◌then◌else◌, Bool, true, false, List, Some, Ok, IsTrue, refl, sym, subst, arith, ◌==◌, not, ap, ◌∙◌}
 use Rattle.std.proofs.lemmas.Bool.Decides.{nat_tests}
 use Rattle.xp_words.specs.Entries.{below, demand_at}
 use Rattle.xp_words.specs.KindWords.{has_form, kind_fields, kind_read}
 use Rattle.xp_words.specs.Places.{is_place, sizes_of}
 use Rattle.xp_words.specs.declared.entry.Demand.{Demand}
-use Rattle.xp_words.specs.declared.entry.Demand.TheVariants as demands
 use Rattle.xp_words.specs.declared.kind.KindWord.{KindWord}
 use Rattle.xp_words.specs.declared.kind.PageType.{PageType}
 use Rattle.xp_words.specs.declared.place.Place.{Place}
@@ -21,20 +20,36 @@ use Rattle.kind_words.proofs.KindFacts.{kind_found}
 use Rattle.frame_types.specs.Found.{TakesFound, TakesOf, TypeBy, saw_kind}
 use Rattle.frame_types.specs.Plain.{IsTakenBy, is_read_first}
 use Rattle.frame_types.specs.Standing.{standing_of}
-use Rattle.frame_types.specs.Taking.{progress_of}
+use Rattle.frame_types.specs.Taking.{progress_of, working}
 use Rattle.frame_types.specs.declared.standing.Standing.{Standing}
-use Rattle.frame_types.specs.declared.standing.Standing.TheVariants as stands
 use Rattle.frame_types.specs.declared.taking.Taken.{Taken}
-use Rattle.frame_types.specs.declared.taking.Taken.TheVariants.{InWork}
-use Rattle.frame_words.specs.Refs.{TakesFirst, had, stopped}
+use Rattle.frame_types.specs.declared.taking.Taken.TheVariants.{InWork, Counted, Waiting}
+use Rattle.frame_words.specs.Refs.{TakesFirst, had, stopped, took}
 use Rattle.table_entries.specs.Found.{LastBy, EnteredBy, EntersBy, EntersFound, ResumedBy, ResumesBy, ResumesFound, TypedAgain, TypedBy, other, outside, settled}
 use Rattle.table_entries.specs.declared.entries.Entered.TheVariants.{Opened}
 use Rattle.table_entries.specs.declared.resuming.Resumed.{Resumed}
-use Rattle.table_entries.specs.declared.resuming.Resumed.TheVariants as again
-use Rattle.table_entries.proofs.HandLists.{asks_below}
+use Rattle.table_entries.proofs.HandLists.{asks_below, asks_some}
 use Rattle.partial_state.specs.Levels.{level_type}
-use Rattle.level_validate.proofs.Looking.{met_place}
-use Rattle.level_validate.proofs.Visited.{WasFound, does_shows, each_next, first_is}
+use Rattle.level_validate.proofs.Looking.{met_place, WasFound, does_shows, each_next, first_is}
+use Rattle.std.proofs.lemmas.Bool.{or_left}
+use Rattle.xp_words.specs.PageTypes.{type_number}
+use Rattle.xp_words.specs.declared.reply.Pause.TheVariants.{Flush}
+use Rattle.xp_words.specs.declared.reply.Stop.{Stop}
+use Rattle.xp_words.specs.declared.reply.Stop.TheVariants.{Refused, Paused}
+use Rattle.xp_board.specs.declared.holdings.Reference.{Reference}
+use Rattle.xp_board.specs.After.{learned_cell}
+use Rattle.step_maker.specs.Holds.{FlushedHolds, quiet}
+use Rattle.flush_waits.specs.Waiting.{IsWait}
+use Rattle.kind_words.proofs.Leaving.{without_newest}
+use Rattle.frame_types.specs.Leaving.{GivesBack, IsWaiting, WaitsFrom}
+use Rattle.table_entries.specs.Asking.{IsEntryStop}
+use Rattle.table_entries.specs.Tops.{LookedAnd, Opens, as_it_was}
+use Rattle.partial_state.proofs.LevelFacts.{level_type-plain}
+use Rattle.xp_words.specs.declared.entry.Demand.TheVariants as demands
+use Rattle.frame_types.specs.declared.standing.Standing.TheVariants as stands
+use Rattle.table_entries.specs.declared.resuming.Resumed.TheVariants as again
+use Rattle.xp_words.specs.declared.reply.Refusal.TheVariants as refusals
+use Rattle.xp_board.specs.declared.holdings.OwnerFound.TheVariants as owners
 
 -- ---- the kind word that was found
 kind_inside : (v w : PortValue) (g x : ℕ) → FoundAt (Met v w) (Kind g) x → g < v.post.machine.frames
@@ -138,3 +153,63 @@ pub read_level : (l : ℕ) → 1 ≤ l → is_read_first (below (level_type l)) 
 read_level zero low read = absurd (omega arith)
 read_level (suc zero) low read = absurd cc
 read_level (suc (suc l)) low read = omega arith
+
+-- The frame of the last recorded entry waits for a flush: it is left as it was found.
+pub wait_stops : (e : Stop) → IsWait e → IsEntryStop e
+wait_stops (Refused (refusals.Clock x)) wait = tt
+wait_stops (Paused (Flush v stamp x)) wait = tt
+wait_stops _ wait = absurd wait
+
+-- ---- the frame is one of the machine's
+module _ (v w : PortValue) (f i : ℕ) (t : PageType) (owner g : ℕ) where
+  pub waited_found : (stamp : ℕ) (stop : Stop) → ResumesFound v w f i t owner (Ok (again.Waiting g stamp stop)) → g < v.post.machine.frames
+  waited_found stamp stop resumes =
+      again_typed v w f i t owner (again.Waiting g stamp stop) (g < v.post.machine.frames) (λ is. absurd cc)
+      (λ h want is vs each way. subst (λ j. j < v.post.machine.frames) (sym way.0) (taken_inside v w vs each h owner want (Waiting false stamp stop) way.1)) resumes
+
+  pub taken_found : ResumesFound v w f i t owner (Ok (again.Taken g)) → g < v.post.machine.frames
+  taken_found resumes =
+      again_typed v w f i t owner (again.Taken g) (g < v.post.machine.frames) (λ is. absurd cc)
+      (λ h want is vs each way. subst (λ j. j < v.post.machine.frames) (sym way.0) (taken_inside v w vs each h owner want Counted way.1)) resumes
+
+-- ---- it waits there since a port that had looked, and had a reference more
+module _ {u x : PortValue} {f i : ℕ} {t : PageType} (l : ℕ) {g owner : ℕ} (is : below t ≡ level_type l) (o : Opens u x f i t g owner 0 false true) where
+  before : PortValue
+  before = record u { holdings = took g owner (learned_cell f i o.word u.holdings) }
+
+  waits_since : WaitsFrom before x g owner (level_type l) false (kind_fields o.work.word).number
+  unfolding before
+  waits_since =
+      record {
+        waits = record {
+          work = o.work;
+          works = record {
+            since = o.since;
+            taken = o.taken;
+            frame = o.frame;
+            in_work = o.in_work;
+            kind = o.kind ∙ is;
+            earlier = o.earlier;
+            aside = o.aside;
+            hand = subst (λ k. FlushedHolds u x (working g owner k false o.work o.since (took g owner (learned_cell f i o.word u.holdings)))) is o.hand;
+          };
+          none = o.recorded;
+          settled = o.settled refl;
+          marked = o.flushed;
+          stamped = refl;
+          typed = asks_some t i o.word g (level_type l) (o.asks ∙ ap (λ k. demands.Typed g k) is);
+          whose = or_left (not (type_number (level_type l) == 5)) false (level_type-plain l);
+        };
+        lent = record { others = u.holdings.refs; refs = refl };
+      }
+
+  pub waits_there : (k : PageType) (stamp : ℕ) → k ≡ level_type l → (kind_fields o.work.word).number ≡ stamp → IsWaiting x g k false stamp
+  waits_there k stamp kind number = (before, owner, subst (λ n. WaitsFrom before x g owner k false n) number (subst (λ y. WaitsFrom before x g owner y false (kind_fields o.work.word).number) (sym kind) waits_since))
+
+  pub left_waiting : (w : PortValue) (k : PageType) → k ≡ level_type l → GivesBack x w g k false → LookedAnd u w f i as_it_was
+  unfolding before
+  left_waiting w k kind gives = (
+    o.word,
+    gives before owner (kind_fields o.work.word).number (subst (λ y. WaitsFrom before x g owner y false (kind_fields o.work.word).number) (sym kind) waits_since)
+        ∙ ap (λ rs. quiet (record u { holdings = record (learned_cell f i o.word u.holdings) { refs = rs } })) (without_newest (λ (y : Reference). y.frame) g (record { frame = g; owner = owners.Of owner }) u.holdings.refs _ refl refl),
+  )

@@ -5,7 +5,6 @@ use Rattle.xp_words.specs.Entries.{below, demand_at}
 use Rattle.xp_words.specs.KindWords.{kind_fields}
 use Rattle.xp_words.specs.Places.{sizes_of}
 use Rattle.xp_words.specs.declared.entry.Demand.TheVariants.{Typed}
-use Rattle.xp_board.specs.declared.holdings.OwnerFound.TheVariants as owners
 use Rattle.xp_board.specs.declared.holdings.Reference.{Reference}
 use Rattle.xp_board.specs.declared.holdings.Unsettled.{Unsettled}
 use Rattle.xp_board.specs.declared.holdings.Work.{Work}
@@ -28,10 +27,10 @@ use Rattle.partial_state.specs.declared.stack.TableWork.{TableWork}
 use Rattle.partial_state.specs.Levels.{level_type}
 use Rattle.partial_state.specs.Stacks.{IsStack}
 use Rattle.level_validate.specs.Tables.{AreTables, AreTyped, IsLastWord, IsTopReady, IsTableWork, Reaches, Carries, innermost, taken_on, under_way}
-use Rattle.level_validate.proofs.LeavingTables.{top, top_done}
+use Rattle.level_validate.proofs.Standing.{top, top_done, stands_by, stands_post, tables_inner, tables_later, typed_done, typed_later, work_done}
 use Rattle.level_validate.proofs.Looking.{FirstFound, last_looked, looked_apart}
 use Rattle.level_validate.proofs.Opening.{CameOpen, read_level}
-use Rattle.level_validate.proofs.StandsFacts.{stands_by, stands_post, tables_inner, tables_later, typed_done, typed_later, work_done}
+use Rattle.xp_board.specs.declared.holdings.OwnerFound.TheVariants as owners
 
 -- a table that an entry of t names
 abbrev pub pushed : TableWork → ℕ → ℕ → Bool → Bool → TableWork

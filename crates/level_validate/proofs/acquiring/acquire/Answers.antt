@@ -1,9 +1,8 @@
 use Rattle.level_validate.proofs.LeftWellEntries.{had_forward, had_well, refers_forward, refers_well}
 use Rattle.frame_types.specs.Plain.{is_refused}
 use Rattle.level_validate.specs.Leaving.{LeftWell}
-use Rattle.level_validate.proofs.LeftWell.{put_plain, well_by, well_then}
+use Rattle.level_validate.proofs.Steps.{put_plain, well_by, well_then, forward_by, forward_then}
 use Rattle.frame_words.specs.Freeing.{PutBy}
-use Rattle.level_validate.proofs.Forward.{forward_by, forward_then}
 use Rattle.std.proofs.Common.{◌∙◌, false, [], Ok, Err, ap, subst, not, refl, sym, inl, rules}
 use Rattle.std.proofs.lemmas.Result.{err_from_is_err_and}
 use Rattle.answer_fits.specs.Answers.{missed}
@@ -12,10 +11,8 @@ use Rattle.frame_types.specs.Taking.{ShowsWait, TakesAs}
 use Rattle.frame_types.specs.declared.taking.Taken.TheVariants.{Counted, InWork, Waiting}
 use Rattle.partial_state.specs.Levels.{level_type}
 use Rattle.level_validate.specs.Acquiring.{is_due_stop, is_paused_answer}
-use Rattle.level_validate.proofs.Acquired.{answer_leaves, counted_hand, given_hand, idle_aside, idle_other, leaves_as, same_leaves, carries_taken, taken_ready, unwound_leaves}
-use Rattle.level_validate.proofs.AcquiredBy.{counted_by, finished_by, unfinished_by, unreferred_by, untyped_by, waiting_by}
+use Rattle.level_validate.proofs.Acquired.{answer_leaves, counted_hand, given_hand, idle_aside, idle_other, leaves_as, same_leaves, carries_taken, taken_ready, unwound_leaves, counted_by, finished_by, unfinished_by, unreferred_by, untyped_by, waiting_by, marked_acquired, plain_acquired, reference_serves, reference_stops, serves_as, stopped_serves, stopped_stops, stops_as, taken_serves, validated_misses, validated_serves, validated_stops, waited_serves, waited_stops}
 use Rattle.level_validate.proofs.LeftWaiting.{waits_on}
-use Rattle.level_validate.proofs.Requested.{marked_acquired, plain_acquired, reference_serves, reference_stops, serves_as, stopped_serves, stopped_stops, stops_as, taken_serves, validated_misses, validated_serves, validated_stops, waited_serves, waited_stops}
 use Rattle.level_validate.proofs.acquiring.acquire.Goals as goal
 
 -- ---- its reference is not to be had

@@ -1,7 +1,7 @@
 use Rattle.std.proofs.lemmas.Result.{IfErr-weaker}
 use Rattle.level_validate.specs.Acquiring.{StopsRisen}
 use Rattle.level_validate.specs.Serving.{StopsIn}
-use Rattle.level_validate.proofs.Rising.{risen_in}
+use Rattle.level_validate.proofs.Filling.{risen_in}
 use Rattle.level_validate.proofs.acquiring.advance.Goals as goal
 
 pub returns-clause-stops : goal.returns-clause-stops

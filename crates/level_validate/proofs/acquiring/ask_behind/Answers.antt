@@ -1,6 +1,6 @@
 use Rattle.std.proofs.Common.{◌&&◌, Bool, sym, ap, ◌∙◌}
 use Rattle.table_courses.specs.Acquiring.{is_asked}
-use Rattle.level_validate.proofs.AskedOnce.{not_asked, was_asked}
+use Rattle.level_validate.proofs.Filling.{not_asked, was_asked}
 use Rattle.level_validate.proofs.acquiring.ask_behind.Goals as goal
 
 pub returns-then-due-clause-course : goal.returns-then-due-clause-course

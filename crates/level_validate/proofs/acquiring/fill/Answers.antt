@@ -1,14 +1,10 @@
-use Rattle.level_validate.proofs.LeftWell.{well_then}
-use Rattle.level_validate.proofs.Forward.{forward_then}
+use Rattle.level_validate.proofs.Steps.{well_then, forward_then}
 use Rattle.std.proofs.Common.{Ok, Err, ap, ◌∙◌, false, rules}
 use Rattle.std.proofs.lemmas.Result.{err_from_is_err_and}
 use Rattle.xp_preempt.proofs.Hearing.{heard_as, heard_then}
 use Rattle.table_courses.specs.Acquiring.{is_asked}
-use Rattle.level_validate.proofs.AskedOnce.{asked_stops}
-use Rattle.level_validate.proofs.Asking.{goes_answer}
-use Rattle.level_validate.proofs.Filling.{filling_came, filling_may, filling_on, filling_serves, filling_standing, filling_stops}
-use Rattle.level_validate.proofs.Rising.{risen_answer, risen_in}
-use Rattle.level_validate.proofs.WorkedOn.{begun_working, cut_off_working, due_working, working_on, working_stops}
+use Rattle.level_validate.proofs.Filling.{asked_stops, filling_came, filling_may, filling_on, filling_serves, filling_standing, filling_stops, risen_answer, risen_in, begun_working, cut_off_working, due_working, working_on, working_stops}
+use Rattle.level_validate.proofs.Serving.{goes_answer}
 use Rattle.level_validate.proofs.acquiring.fill.Goals as goal
 
 pub returns-in_err-done-clause-stops : goal.returns-in_err-done-clause-stops

@@ -1,8 +1,7 @@
 use Rattle.std.proofs.Common.{Err, ap, ◌∙◌}
 use Rattle.std.proofs.lemmas.Result.{err_from_is_err_and}
 use Rattle.table_courses.specs.Acquiring.{is_asked}
-use Rattle.level_validate.proofs.AskedOnce.{asked_stops}
-use Rattle.level_validate.proofs.GoneOn.{asked_going, stopped_going}
+use Rattle.level_validate.proofs.Filling.{asked_stops, asked_going, stopped_going}
 use Rattle.level_validate.proofs.acquiring.go_on.Goals as goal
 
 pub returns-clause-stops : goal.returns-clause-stops

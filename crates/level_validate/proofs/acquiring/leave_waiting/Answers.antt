@@ -1,7 +1,5 @@
 use Rattle.frame_types.specs.Found.{SharedBy, StoresKind}
-use Rattle.level_validate.proofs.KeptSteps.{kept_forward, kept_well}
-use Rattle.level_validate.proofs.LeftWell.{shared_plain, stores_plain, well_by, well_step, well_then}
-use Rattle.level_validate.proofs.Forward.{forward_by, forward_step, forward_then}
+use Rattle.level_validate.proofs.Steps.{kept_forward, kept_well, shared_plain, stores_plain, well_by, well_step, well_then, forward_by, forward_step, forward_then}
 use Rattle.std.proofs.Common.{◌<◌, ◌+◌, true, false, refl, sym, subst, rules}
 use Rattle.xp_words.specs.declared.kind.KindWord.{KindWord}
 use Rattle.xp_board.specs.Told.{Post}
@@ -12,9 +10,9 @@ use Rattle.kind_words.specs.Kinds.{partial_kind}
 use Rattle.frame_types.specs.Leaving.{ServesType}
 use Rattle.level_validate.proofs.LeftWaiting.{gives_left, kept_hand, lent_hand, mark_known, mark_left, mark_looking, mark_may, named_hand, named_left, stays_held, stays_may, stays_room, unkept_is, waits_as}
 use Rattle.level_validate.specs.Serving.{ServesWaiting}
-use Rattle.level_validate.proofs.LeavingTables.{level_type-unpaged}
+use Rattle.level_validate.proofs.Standing.{level_type-unpaged}
 use Rattle.level_validate.proofs.Serving.{marked_kept, marked_none, old_serves, type_left}
-use Rattle.level_validate.proofs.LeftSo.{waiting_kept, waiting_lent, waiting_named}
+use Rattle.level_validate.proofs.Leaving.{waiting_kept, waiting_lent, waiting_named}
 use Rattle.level_validate.proofs.acquiring.leave_waiting.Goals as goal
 
 -- ---- the type count is another holder's

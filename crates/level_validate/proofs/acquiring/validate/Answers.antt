@@ -1,7 +1,6 @@
 use Rattle.frame_types.specs.Plain.{is_refused}
 use Rattle.level_validate.specs.Leaving.{LeftWell}
-use Rattle.level_validate.proofs.LeftWell.{well_more, well_then}
-use Rattle.level_validate.proofs.Forward.{forward_then}
+use Rattle.level_validate.proofs.Steps.{well_more, well_then, forward_then}
 use Rattle.std.proofs.Common.{◌≡◌, ◌<◌, ◌∷◌, ◌∙◌, [], List, length, refl, sym, ap, subst, false, not, rules}
 use Rattle.xp_board.specs.Told.{Post}
 use Rattle.step_maker.proofs.Coming.{came_post, came_trans}
@@ -11,10 +10,9 @@ use Rattle.level_validate.specs.Acquiring.{StopsRisen, outermost_work}
 use Rattle.level_validate.specs.Serving.{CarriesOn, ServesLeft}
 use Rattle.level_validate.specs.Tables.{IsStanding, StandsOn}
 use Rattle.level_validate.specs.Unwinding.{Unwinds, outermost_frame}
-use Rattle.level_validate.proofs.Outermost.{completed, filled_is, frame_alike, on_may, on_room, on_stands, unwound}
-use Rattle.level_validate.proofs.Rising.{risen_on}
+use Rattle.level_validate.proofs.Unwound.{completed, filled_is, frame_alike, on_may, on_room, on_stands, unwound}
+use Rattle.level_validate.proofs.Filling.{risen_on, validated_left, validated_live}
 use Rattle.level_validate.proofs.Serving.{goes_then, left_behind, left_on}
-use Rattle.level_validate.proofs.ValidatedBy.{validated_left, validated_live}
 use Rattle.level_validate.proofs.acquiring.validate.Goals as goal
 
 -- ---- all entries are recorded

@@ -2,14 +2,10 @@ use Rattle.std.proofs.Common.{◌∷◌, ◌<◌, true, false, refl, sym, subst,
 use Rattle.xp_board.specs.Told.{Post}
 use Rattle.step_maker.proofs.Coming.{came_post, came_trans, moves_came}
 use Rattle.level_validate.specs.Serving.{CarriesOn}
-use Rattle.level_validate.proofs.Completed.{live_hand, live_leaves}
-use Rattle.level_validate.proofs.CompletedSo.{completed_so}
-use Rattle.level_validate.proofs.Forward.{forward_step, forward_then}
-use Rattle.level_validate.proofs.LeftWell.{kind_well, well_step, well_then}
-use Rattle.level_validate.proofs.LeavingTables.{top_inside}
-use Rattle.level_validate.proofs.Nested.{live_gives, live_records, new_ready, new_stands, old_ready, old_stands}
+use Rattle.level_validate.proofs.Completed.{live_hand, live_leaves, completed_so, live_gives, live_records, new_ready, new_stands, old_ready, old_stands, progress_records, progress_settles}
+use Rattle.level_validate.proofs.Steps.{forward_step, forward_then, kind_well, well_step, well_then}
+use Rattle.level_validate.proofs.Standing.{top_inside}
 use Rattle.answer_fits.proofs.Progressing.{progress_after, progress_before}
-use Rattle.level_validate.proofs.Progressing.{progress_records, progress_settles}
 use Rattle.level_validate.proofs.Serving.{piece_back, piece_left, piece_records, piece_rest}
 use Rattle.level_validate.proofs.completing.complete_in.Goals as goal
 

@@ -2,9 +2,8 @@ use Rattle.std.proofs.Common.{[], false, refl, rules}
 use Rattle.step_maker.proofs.Coming.{moves_came}
 use Rattle.level_validate.specs.Serving.{CarriesOn}
 use Rattle.level_validate.proofs.Completed.{live_hand, live_leaves, outer_live}
-use Rattle.level_validate.proofs.Forward.{forward_step}
-use Rattle.level_validate.proofs.LeftWell.{kind_well}
-use Rattle.level_validate.proofs.LeavingTables.{top_inside}
+use Rattle.level_validate.proofs.Steps.{forward_step, kind_well}
+use Rattle.level_validate.proofs.Standing.{top_inside}
 use Rattle.level_validate.proofs.Serving.{piece_left, piece_rest}
 use Rattle.level_validate.proofs.completing.complete_outer.Goals as goal
 

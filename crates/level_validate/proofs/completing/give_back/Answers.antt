@@ -3,9 +3,8 @@ use Rattle.answer_fits.specs.Asked.{of_back}
 use Rattle.answer_fits.proofs.Piecing.{serves_came, serves_then}
 use Rattle.step_maker.proofs.Coming.{came_trans}
 use Rattle.frame_words.specs.Freeing.{PutBy}
-use Rattle.level_validate.proofs.Forward.{forward_by, forward_step, forward_then}
-use Rattle.level_validate.proofs.LeftWell.{put_plain, well_by, well_step, well_then}
-use Rattle.level_validate.proofs.Sharing.{back_given, back_puts, never_last}
+use Rattle.level_validate.proofs.Steps.{forward_by, forward_step, forward_then, put_plain, well_by, well_step, well_then}
+use Rattle.level_validate.proofs.Entered.{back_given, back_puts, never_last}
 use Rattle.level_validate.proofs.completing.give_back.Goals as goal
 
 pub unreachable-requires : goal.unreachable-requires

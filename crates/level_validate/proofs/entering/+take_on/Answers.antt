@@ -8,27 +8,19 @@ use Rattle.answer_fits.proofs.Piecing.{serves_came}
 use Rattle.frame_types.specs.Taking.{IsOfOther}
 use Rattle.table_entries.specs.Asking.{of_entries}
 use Rattle.table_entries.specs.Tops.{WorksAtTop}
-use Rattle.table_entries.specs.declared.resuming.Resumed.TheVariants as again
 use Rattle.partial_state.specs.Levels.{level_type}
 use Rattle.partial_state.specs.Weights.{weight}
 use Rattle.level_validate.specs.Tables.{Carries}
-use Rattle.level_validate.proofs.Asking.{goes_answer, goes_entries, goes_on, stops_answer, stops_entries}
-use Rattle.level_validate.proofs.Entered.{after_look, back_one}
-use Rattle.level_validate.proofs.Forward.{forward_nothing, forward_then}
-use Rattle.level_validate.proofs.LeavingTables.{top_inside}
-use Rattle.level_validate.proofs.LeftWell.{well_nothing, well_then}
+use Rattle.level_validate.proofs.Serving.{goes_answer, goes_entries, goes_on, stops_answer, stops_entries, goes_nothing}
+use Rattle.level_validate.proofs.Entered.{after_look, back_one, again_lowers}
+use Rattle.level_validate.proofs.Steps.{forward_nothing, forward_then, well_nothing, well_then}
+use Rattle.level_validate.proofs.Standing.{top_inside, standing_above, standing_held, standing_looked, standing_top}
 use Rattle.level_validate.proofs.LeftWellEntries.{resumes_forward, resumes_well}
-use Rattle.level_validate.proofs.LookedAgain.{again_came, again_forward, again_then, again_well, said_again, settled_ready, settled_stands}
-use Rattle.level_validate.proofs.Lowering.{again_lowers}
-use Rattle.level_validate.proofs.OpenedAgain.{opened_may, opened_ready, opened_serves, opened_stands, opened_stops, opened_table, top_low}
+use Rattle.level_validate.proofs.LookedAgain.{again_came, again_forward, again_then, again_well, said_again, settled_ready, settled_stands, opened_may, opened_ready, opened_serves, opened_stands, opened_stops, opened_table, top_low, fresh_on, opened_on, resumed_err, settled_on, shared_left, stopped_on, taken_on, waiting_on, took_gives, took_inside, took_progress, took_ready, took_serves, took_stands, shared_forward, shared_well, waited_inside, waited_kinds, waited_serves, waited_stands, waited_stops, waited_waits}
 use Rattle.level_validate.proofs.Pushing.{pushed}
-use Rattle.level_validate.proofs.Rising.{progress_answer}
-use Rattle.level_validate.proofs.Serving.{goes_nothing}
-use Rattle.level_validate.proofs.Standing.{standing_above, standing_held, standing_looked, standing_top}
-use Rattle.level_validate.proofs.TakenOn.{fresh_on, opened_on, resumed_err, settled_on, shared_left, stopped_on, taken_on, waiting_on}
-use Rattle.level_validate.proofs.TookAgain.{took_gives, took_inside, took_progress, took_ready, took_serves, took_stands}
-use Rattle.level_validate.proofs.Visited.{resumed_first}
-use Rattle.level_validate.proofs.WaitedAgain.{shared_forward, shared_well, waited_inside, waited_kinds, waited_serves, waited_stands, waited_stops, waited_waits}
+use Rattle.level_validate.proofs.Filling.{progress_answer}
+use Rattle.level_validate.proofs.Looking.{resumed_first}
+use Rattle.table_entries.specs.declared.resuming.Resumed.TheVariants as again
 use Rattle.level_validate.proofs.entering.+take_on.Goals as goal
 
 -- ---- none of its entries is recorded

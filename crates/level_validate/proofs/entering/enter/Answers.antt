@@ -10,27 +10,21 @@ use Rattle.frame_types.specs.Taking.{IsOfOther}
 use Rattle.table_entries.specs.Asking.{ShowsEntered, of_entries}
 use Rattle.table_entries.specs.Found.{EntersFound}
 use Rattle.table_entries.specs.Tops.{LeavesEntered, WorksNext}
-use Rattle.table_entries.specs.declared.entries.Entered.TheVariants as entered
 use Rattle.partial_state.specs.Levels.{level_type}
 use Rattle.partial_state.specs.Stacks.{advanced, left_on_top}
 use Rattle.partial_state.specs.Weights.{weight}
 use Rattle.level_validate.specs.Serving.{CarriesOn, StopsIn}
 use Rattle.level_validate.specs.Tables.{Carries, StandsOn}
-use Rattle.level_validate.proofs.Asking.{goes_advanced, goes_answer, goes_entries, goes_inner, goes_on, goes_opened, goes_waiting, stops_answer, stops_behind, stops_entries}
-use Rattle.level_validate.proofs.Entered.{after_look, after_next, after_record, after_record_ready, fresh_ready}
-use Rattle.level_validate.proofs.LeavingTables.{top_inside}
-use Rattle.level_validate.proofs.Lowering.{next_lowers}
-use Rattle.level_validate.proofs.Opening.{opened_found}
-use Rattle.level_validate.proofs.Visited.{entered_first}
+use Rattle.level_validate.proofs.Serving.{goes_advanced, goes_answer, goes_entries, goes_inner, goes_on, goes_opened, goes_waiting, stops_answer, stops_behind, stops_entries}
+use Rattle.level_validate.proofs.Entered.{after_look, after_next, after_record, after_record_ready, fresh_ready, next_lowers, entered_err, entered_ok, opened_next, recorded_next, stopped_next, unsettled_next}
+use Rattle.level_validate.proofs.Standing.{top_inside, standing_above, standing_held, standing_known, standing_looked, standing_next, may_back, may_stands}
+use Rattle.level_validate.proofs.Opening.{opened_found, wait_stops}
+use Rattle.level_validate.proofs.Looking.{entered_first}
 use Rattle.level_validate.proofs.Pushing.{pushed}
-use Rattle.level_validate.proofs.Standing.{standing_above, standing_held, standing_known, standing_looked, standing_next}
-use Rattle.level_validate.proofs.StandsFacts.{may_back, may_stands}
-use Rattle.level_validate.proofs.Rising.{progress_answer}
-use Rattle.level_validate.proofs.Waiting.{wait_stops}
-use Rattle.level_validate.proofs.Forward.{forward_then}
-use Rattle.level_validate.proofs.LeftWell.{well_then}
+use Rattle.level_validate.proofs.Filling.{progress_answer}
+use Rattle.level_validate.proofs.Steps.{forward_then, well_then}
 use Rattle.level_validate.proofs.LeftWellEntries.{enters_forward, enters_well}
-use Rattle.level_validate.proofs.EnteredOn.{entered_err, entered_ok, opened_next, recorded_next, stopped_next, unsettled_next}
+use Rattle.table_entries.specs.declared.entries.Entered.TheVariants as entered
 use Rattle.level_validate.proofs.entering.enter.Goals as goal
 
 pub take_entry-requires : goal.take_entry-requires

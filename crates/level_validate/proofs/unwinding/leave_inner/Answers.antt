@@ -1,7 +1,6 @@
 use Rattle.std.proofs.Common.{true, false, refl}
-use Rattle.level_validate.proofs.LeavingLent.{retreat_some}
-use Rattle.level_validate.proofs.LeavingTables.{is_so, not_so}
-use Rattle.level_validate.proofs.LeftSo.{lent_unwinds, own_unwinds}
+use Rattle.level_validate.proofs.Leaving.{retreat_some, lent_unwinds, own_unwinds}
+use Rattle.level_validate.proofs.Standing.{is_so, not_so}
 use Rattle.level_validate.proofs.unwinding.leave_inner.Goals as goal
 
 pub retreat-requires : goal.retreat-requires

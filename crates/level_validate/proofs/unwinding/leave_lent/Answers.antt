@@ -3,13 +3,12 @@ use Rattle.step_maker.proofs.Coming.{came_trans, moves_came}
 use Rattle.answer_fits.specs.Asked.{of_back}
 use Rattle.answer_fits.proofs.Piecing.{serves_came}
 use Rattle.level_validate.specs.Serving.{CarriesOn}
-use Rattle.level_validate.proofs.LeavingTables.{top_spelled}
+use Rattle.level_validate.proofs.Standing.{top_spelled}
 use Rattle.level_validate.proofs.Serving.{piece_around, piece_back, piece_left, piece_rest}
-use Rattle.level_validate.proofs.LeavingLent.{lent_puts, lent_stands}
+use Rattle.level_validate.proofs.Leaving.{lent_puts, lent_stands}
 use Rattle.frame_words.specs.Freeing.{PutBy}
-use Rattle.level_validate.proofs.Forward.{forward_by, forward_step, forward_then}
-use Rattle.level_validate.proofs.LeftWell.{put_plain, well_by, well_then}
-use Rattle.level_validate.proofs.Unkept.{unkept_well}
+use Rattle.level_validate.proofs.Steps.{forward_by, forward_step, forward_then, put_plain, well_by, well_then}
+use Rattle.level_validate.proofs.Unwound.{unkept_well}
 use Rattle.level_validate.proofs.unwinding.leave_lent.Goals as goal
 
 pub put_ref-requires-clause-gives : goal.put_ref-requires-clause-gives

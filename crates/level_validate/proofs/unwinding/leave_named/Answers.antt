@@ -6,14 +6,11 @@ use Rattle.kind_words.specs.Kinds.{MayLeave, partial_kind}
 use Rattle.kept_marks.specs.Marks.{IsUnpaged, KeptFor, LeavesKept}
 use Rattle.partial_state.specs.Levels.{level_type}
 use Rattle.level_validate.specs.Serving.{ServesLeft}
-use Rattle.level_validate.proofs.Forward.{forward_step, forward_then}
-use Rattle.level_validate.proofs.KeptSteps.{kept_forward, kept_well}
-use Rattle.level_validate.proofs.LeavingTables.{top_held, top_inside, top_kept_owner, top_leaves, top_spelled, top_unpaged}
-use Rattle.level_validate.proofs.LeftSo.{kept_left}
-use Rattle.level_validate.proofs.LeftWell.{well_step, well_then}
+use Rattle.level_validate.proofs.Steps.{forward_step, forward_then, kept_forward, kept_well, well_step, well_then}
+use Rattle.level_validate.proofs.Standing.{top_held, top_inside, top_kept_owner, top_leaves, top_spelled, top_unpaged}
+use Rattle.level_validate.proofs.Leaving.{kept_left}
 use Rattle.level_validate.proofs.Serving.{marked_kept, marked_none, piece_left, piece_names}
-use Rattle.level_validate.proofs.Unkept.{unkept_well}
-use Rattle.level_validate.proofs.Unwound.{outer_held, outer_kept, outer_named}
+use Rattle.level_validate.proofs.Unwound.{unkept_well, outer_held, outer_kept, outer_named}
 use Rattle.level_validate.proofs.unwinding.leave_named.Goals as goal
 
 -- ---- into its mark

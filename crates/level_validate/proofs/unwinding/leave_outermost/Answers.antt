@@ -1,6 +1,6 @@
 use Rattle.std.proofs.Common.{[], ◌∷◌, subst}
 use Rattle.level_validate.specs.Serving.{CarriesOn}
-use Rattle.level_validate.proofs.LeftWell.{well_more}
+use Rattle.level_validate.proofs.Steps.{well_more}
 use Rattle.level_validate.proofs.Serving.{left_on}
 use Rattle.level_validate.proofs.Unwound.{around_none, outer_lent}
 use Rattle.level_validate.proofs.unwinding.leave_outermost.Goals as goal

@@ -2,12 +2,11 @@ use Rattle.std.proofs.Common.{false, ◌∷◌, refl, sym, subst, rules}
 use Rattle.step_maker.proofs.Coming.{came_trans, moves_came}
 use Rattle.level_validate.specs.Serving.{CarriesOn}
 use Rattle.level_validate.specs.Tables.{Carries}
-use Rattle.level_validate.proofs.Forward.{forward_step, forward_then}
-use Rattle.level_validate.proofs.LeavingOwn.{own_new, own_records, own_stands}
-use Rattle.level_validate.proofs.LeavingTables.{top_spelled}
-use Rattle.level_validate.proofs.LeftWell.{well_step, well_then}
+use Rattle.level_validate.proofs.Steps.{forward_step, forward_then, well_step, well_then}
+use Rattle.level_validate.proofs.Leaving.{own_new, own_records, own_stands}
+use Rattle.level_validate.proofs.Standing.{top_spelled}
 use Rattle.level_validate.proofs.Serving.{piece_left, piece_records, piece_rest}
-use Rattle.level_validate.proofs.Unkept.{unkept_well}
+use Rattle.level_validate.proofs.Unwound.{unkept_well}
 use Rattle.level_validate.proofs.unwinding.leave_own.Goals as goal
 
 pub record_entry-requires : goal.record_entry-requires

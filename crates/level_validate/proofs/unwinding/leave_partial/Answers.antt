@@ -3,11 +3,11 @@ use Rattle.xp_words.specs.KindWords.{kind_write}
 use Rattle.xp_words.specs.declared.kind.KindWord.{KindWord}
 use Rattle.xp_words.specs.declared.place.Place.TheVariants.{Kind}
 use Rattle.xp_board.specs.declared.step.Act.TheVariants.{Store}
-use Rattle.xp_board.specs.declared.step.StepKind.TheVariants as kinds
 use Rattle.step_maker.specs.Holds.{Holds}
 use Rattle.step_maker.specs.Moves.{Moves}
 use Rattle.kind_words.specs.Kinds.{MayLeave, left, partial_kind}
-use Rattle.level_validate.proofs.LeavingTables.{top_inside, top_leaves, top_left}
+use Rattle.level_validate.proofs.Standing.{top_inside, top_leaves, top_left}
+use Rattle.xp_board.specs.declared.step.StepKind.TheVariants as kinds
 use Rattle.level_validate.proofs.unwinding.leave_partial.Goals as goal
 
 pub leave-requires-clause-frame : goal.leave-requires-clause-frame

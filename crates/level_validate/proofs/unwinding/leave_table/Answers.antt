@@ -1,6 +1,6 @@
 use Rattle.std.proofs.Common.{refl}
-use Rattle.level_validate.proofs.LeftWell.{well_more}
-use Rattle.level_validate.proofs.LeftSo.{outer_unwinds}
+use Rattle.level_validate.proofs.Steps.{well_more}
+use Rattle.level_validate.proofs.Leaving.{outer_unwinds}
 use Rattle.level_validate.proofs.Unwound.{none_hand, none_serves}
 use Rattle.level_validate.proofs.unwinding.leave_table.Goals as goal
 
