@@ -6,7 +6,7 @@ use Rattle.xp_words.specs.Places.{sizes_of, Sizes}
 use Rattle.xp_board.specs.declared.holdings.OwnerFound.{OwnerFound}
 use Rattle.xp_board.specs.declared.holdings.Reference.{Reference}
 use Rattle.xp_board.specs.declared.holdings.TypedReference.{TypedReference}
-use Rattle.xp_board.specs.Hands.{refs_to, without_ref, without_typed, without_work, changed_work, typed_to, lock_on, work_on, works_on}
+use Rattle.xp_board.specs.Hands.{refs_to, without_ref, without_typed, without_work, lock_on, work_on, works_on}
 use Rattle.xp_board.specs.KindSteps.{live_typed}
 use Rattle.xp_board.specs.Told.{PortValue, Post}
 use Rattle.board_lemmas.proofs.ListCounts.{newest_held, first_by-cons_here, first_by-cons_other, times_by-cons_here}
@@ -17,9 +17,10 @@ use Rattle.partial_state.proofs.LevelFacts.{level_type-plain, level_type-typed, 
 use Rattle.partial_state.specs.declared.stack.TableWork.{TableWork}
 use Rattle.partial_state.specs.Levels.{level_type}
 use Rattle.table_courses.specs.Acquiring.{type_counts, Advanced, Joined, MadeLive}
-use Rattle.level_validate.specs.Tables.{AreTyped, IsTopReady, Carries, refs_for, IsLastWord, IsTableWork, Reaches, innermost, taken_on, under_way}
+use Rattle.level_validate.specs.Tables.{IsTopReady, Carries, refs_for, IsLastWord, Reaches, innermost, taken_on, under_way}
 use Rattle.level_validate.proofs.Leaving.{refs_are, typed_gone}
-use Rattle.level_validate.proofs.Standing.{top, top_done, top_gone, top_held, top_here, top_owned, top_typed, UnderWay, reaches_under, ref_owned, refs_lent, tables_none, typed_lent, TopTable, inner_is, stands_by, stands_post, tables_later, tables_top, top_known, typed_later}
+use Rattle.level_validate.proofs.Recording.{TopGone, gone_held, gone_records, gone_stands, gone_typed, gone_works, outer, recorded_ready, recorded_stands_on}
+use Rattle.level_validate.proofs.Standing.{top, top_done, top_gone, top_held, top_here, top_owned, top_typed, ref_owned, refs_lent, tables_none, typed_lent, TopTable, inner_is}
 use Rattle.xp_words.specs.Entries.{demand_at}
 use Rattle.xp_words.specs.Machine.{Machine}
 use Rattle.xp_words.specs.declared.entry.Demand.TheVariants.{Typed}
@@ -36,25 +37,20 @@ use Rattle.xp_board.specs.Knowledge.{knows_live}
 use Rattle.xp_board.specs.Lists.{EachOf}
 use Rattle.xp_board.specs.Marks.{leaves_unsettled}
 use Rattle.xp_board.specs.Readings.{is_live_word}
-use Rattle.xp_board.specs.Settling.{HasLastDemand, demand_out, is_settled, settles, settles_last, settles_word}
+use Rattle.xp_board.specs.Settling.{is_settled, settles, settles_last, settles_word}
 use Rattle.xp_board.specs.Steps.{some_since}
 use Rattle.xp_board.specs.WellFormed.{IsWorkFormed}
 use Rattle.step_maker.specs.Moves.{Came, Moves, Met}
 use Rattle.step_maker.proofs.Coming.{came_post, came_trans, moves_came, moment_of, moves_met}
 use Rattle.step_maker.proofs.Noting.{moves_since}
-use Rattle.flush_words.proofs.Lasting.{came_longer}
 use Rattle.flush_waits.proofs.Growing.{came_grows}
 use Rattle.frame_types.specs.Taking.{gave_type}
-use Rattle.kind_words.proofs.KindHands.{known_first, typed_held, work_here, changed_first}
+use Rattle.kind_words.proofs.KindHands.{known_first, work_here}
 use Rattle.kind_words.proofs.KindWriting.{fields_write}
 use Rattle.table_words.specs.Entries.{RecordsNext, entry_recorded}
-use Rattle.table_words.proofs.EntryHands.{next_asks, record_left}
-use Rattle.table_entries.proofs.HandOwners.{typed_knows_its, typed_knows_still}
-use Rattle.table_entries.proofs.HandReady.{settled_more}
 use Rattle.level_validate.specs.Giving.{MayGiveBack}
 use Rattle.level_validate.proofs.Pushing.{ready_by}
 use Rattle.level_validate.proofs.Entered.{shared_by}
-use Rattle.table_words.proofs.Shedding.{none_unsettled}
 use Rattle.xp_board.specs.declared.step.Mark.TheVariants.{Record}
 use Rattle.board_lemmas.proofs.Works.{one_works}
 use Rattle.answer_fits.specs.Asked.{IsDemandOf}
@@ -94,12 +90,7 @@ module _ {v w : PortValue} {owner : ℕ} {t : TableWork} {ts : List TableWork} (
   abbrev pub live_ref : TypedReference
   live_ref = live_typed t.frame (level_type t.level) (owners.Of owner)
 
-  pub record LiveHand (d : PortValue) : Type 0 where
-    pub rest : List TypedReference
-    pub around : AreTyped (length w.holdings.steps) owner ts rest
-    pub hand : FlushedHolds w d (record w.holdings { refs = refs_for owner ts v.holdings.refs; typed = live_ref ∷ rest; works = (top s).others })
-
-  pub live_hand : (own : Bool) → t.own ≡ own → (d : PortValue) → Holds w d (left w t.frame (live_kind (level_type t.level) (type_counts own))) → LiveHand d
+  pub live_hand : (own : Bool) → t.own ≡ own → (d : PortValue) → Holds w d (left w t.frame (live_kind (level_type t.level) (type_counts own))) → TopGone s live_ref d
   live_hand true own d holds =
       let y = top_typed s own in
       record {
@@ -125,7 +116,7 @@ module _ {v w : PortValue} {owner : ℕ} {t : TableWork} {ts : List TableWork} (
       }
 
 -- ---- the outermost one: nothing else of the tables is in hand
-pub outer_live : (v w d : PortValue) (owner : ℕ) (t : TableWork) (s : Carries v w owner (t ∷ [])) → LiveHand s d → FlushedHolds v d (record v.holdings { typed = live_typed t.frame (level_type t.level) (owners.Of owner) ∷ v.holdings.typed })
+pub outer_live : (v w d : PortValue) (owner : ℕ) (t : TableWork) (s : Carries v w owner (t ∷ [])) → TopGone s (live_typed t.frame (level_type t.level) (owners.Of owner)) d → FlushedHolds v d (record v.holdings { typed = live_typed t.frame (level_type t.level) (owners.Of owner) ∷ v.holdings.typed })
 outer_live v w d owner t s l =
     let e = top s in
     let r = live_typed t.frame (level_type t.level) (owners.Of owner) in
@@ -168,15 +159,9 @@ second_of : (n : Machine) (h : Holdings) (x y : Work) (zs ws : List Work) → ws
 unfolding EachOf
 second_of n h x y zs ws are each = (subst (λ us. EachOf (IsWorkFormed n h) us) are each).1.0
 
-module _ {v w : PortValue} {owner : ℕ} {t u : TableWork} {us : List TableWork} {s : Carries v w owner (t ∷ u ∷ us)} {d : PortValue} {found : ℕ} (store : Moves w d (Kind t.frame) (Store (kind_write (live_kind (level_type t.level) (type_counts t.own)))) kinds.Kind None found) (l : LiveHand s d) where
-  abbrev z : Sizes
-  z = sizes_of v.post.machine
-
-  abbrev inner : TopTable z w.holdings.steps None t (u ∷ us) w.holdings.works
+module _ {v w : PortValue} {owner : ℕ} {t u : TableWork} {us : List TableWork} {s : Carries v w owner (t ∷ u ∷ us)} {d : PortValue} {found : ℕ} (store : Moves w d (Kind t.frame) (Store (kind_write (live_kind (level_type t.level) (type_counts t.own)))) kinds.Kind None found) (l : TopGone s (live_typed t.frame (level_type t.level) (owners.Of owner)) d) where
+  abbrev inner : TopTable (sizes_of v.post.machine) w.holdings.steps None t (u ∷ us) w.holdings.works
   inner = top s
-
-  pub outer : TopTable z w.holdings.steps (Some t) u us inner.others
-  outer = tables_top z w.holdings.steps (Some t) u us inner.others inner.around
 
   abbrev mine : TypedReference
   mine = live_typed t.frame (level_type t.level) (owners.Of owner)
@@ -184,147 +169,59 @@ module _ {v w : PortValue} {owner : ℕ} {t u : TableWork} {us : List TableWork}
   came_d : Came w d
   came_d = moves_came w d _ _ _ _ found store
 
-  post_d : d.post ≡ v.post
-  post_d = ap (λ (q : PortValue). q.post) l.hand ∙ stands_post v w owner (t ∷ u ∷ us) s
-
-  works_d : d.holdings.works ≡ outer.work ∷ outer.others
-  works_d = ap (λ (q : PortValue). q.holdings.works) l.hand ∙ outer.are
-
-  typed_d : d.holdings.typed ≡ mine ∷ l.rest
-  typed_d = ap (λ (q : PortValue). q.holdings.typed) l.hand
-
-  refs_d : d.holdings.refs ≡ refs_for owner (u ∷ us) v.holdings.refs
-  refs_d = ap (λ (q : PortValue). q.holdings.refs) l.hand
-
   knows : (n : Sizes) → IsTrue (knows_live n t.frame (level_type t.level) d.holdings)
-  knows n = known_first n t.frame (level_type t.level) (owners.Of owner) l.rest d.holdings typed_d
-
-  in_hand : 0 < typed_to t.frame d.holdings.typed
-  in_hand = subst (λ ys. 0 < typed_to t.frame ys) (sym typed_d) (typed_held t.frame mine l.rest refl)
-
-  -- what stands then
-  stands_then : (x : PortValue) (e : Work) → Came w x → FlushedHolds w x (record w.holdings { refs = refs_for owner (u ∷ us) v.holdings.refs; typed = l.rest; works = e ∷ outer.others }) → IsTableWork z u e → e.recorded ≡ u.done → Carries v x owner (u ∷ us)
-  stands_then x e came hand is all =
-      let longer = came_longer w x came in
-      stands_by v w x owner (t ∷ u ∷ us) (u ∷ us) (refs_for owner (u ∷ us) v.holdings.refs) l.rest (e ∷ outer.others) s hand s.stack.2
-      (is, innermost all, tables_later z (Some u) us outer.others w.holdings x.holdings (came_grows w x came) longer outer.around) refl
-      (typed_later (length w.holdings.steps) (length x.holdings.steps) owner (u ∷ us) l.rest longer l.around)
+  knows n = known_first n t.frame (level_type t.level) (owners.Of owner) l.rest d.holdings (gone_typed l)
 
   -- ---- recorded now
   module _ (new : t.recorded ≡ false) where
-    way : UnderWay z w.holdings.steps u outer.work t
-    way = reaches_under z w.holdings.steps u outer.work t (Some t) refl new outer.reaches
-
-    abbrev behind : Holdings
-    behind = record d.holdings { typed = l.rest }
-
-    has_typed : HasLastDemand d.post.machine u.frame (level_type u.level) d.holdings (Typed t.frame (level_type t.level))
-    has_typed =
-        let zd = sizes_of d.post.machine in (
-          record {
-            in_hand = in_hand;
-            owners = record {
-              table = owner;
-              frame = owner;
-              table_known = typed_knows_still zd owner behind d.holdings mine refl refl typed_d u.frame (top_known (length w.holdings.steps) owner u us v.holdings.refs behind refs_d l.around);
-              frame_known = typed_knows_its zd owner behind d.holdings mine refl refl typed_d;
-              meet = inl refl;
-            };
-          },
-          inl (knows zd),
-        )
-
-    settled_d : IsTrue (is_settled (sizes_of d.post.machine) d.holdings outer.work)
-    unfolding is_settled
-    settled_d =
-        subst (λ (p : Post). IsTrue (settles_last (sizes_of p.machine) outer.work d.holdings.steps outer.work.unsettled)) (sym post_d)
-        (settled_more z w.holdings d.holdings outer.work (came_grows w d came_d) way.settled)
-
     pub live_records : RecordsNext d.post.machine u.frame u.done d.holdings
-    live_records =
-        record {
-          work = outer.work;
-          may = record {
-            here = work_here u.frame outer.work outer.others d.holdings.works outer.is.frame works_d;
-            table = subst (λ k. IsTrue (is_table k)) (sym outer.is.kind) (level_type-table u.level s.stack.2.0.low);
-            unmarked = outer.is.unmarked;
-            next = sym way.next;
-            inside = (let next = way.next in let few = s.stack.2.0.done in omega (arith, next, few));
-            settled = settled_d;
-            word = way.word;
-            seen = way.seen;
-            in_hand = subst (λ k. HasLastDemand d.post.machine u.frame k d.holdings (demand_at k outer.work.recorded way.word)) (sym outer.is.kind)
-                (subst (λ y. HasLastDemand d.post.machine u.frame (level_type u.level) d.holdings y) (sym way.asks) has_typed);
-          };
-        }
-
-    asks_is : next_asks d.post.machine u.frame u.done d.holdings live_records ≡ Typed t.frame (level_type t.level)
-    unfolding live_records
-    asks_is = ap (λ k. demand_at k outer.work.recorded way.word) outer.is.kind ∙ way.asks
-
-    settles_it : leaves_unsettled (sizes_of d.post.machine) d.holdings (next_asks d.post.machine u.frame u.done d.holdings live_records) ≡ false
-    settles_it = ap (λ y. leaves_unsettled (sizes_of d.post.machine) d.holdings y) asks_is ∙ unsettled_not (knows_live (sizes_of d.post.machine) t.frame (level_type t.level) d.holdings) (knows (sizes_of d.post.machine))
-
-    recorded_now : Work → Work
-    recorded_now e = record e { recorded = u.done; unsettled = None }
-
-    recorded_left : entry_recorded d.post.machine u.frame d.holdings ≡ record d.holdings { typed = l.rest; works = recorded_now outer.work ∷ outer.others }
-    unfolding recorded_now
-    recorded_left =
-        record_left d.post.machine u.frame u.done d.holdings live_records false settles_it
-        ∙ ap (λ y. record (demand_out y d.holdings) { works = changed_work u.frame recorded_now d.holdings.works }) asks_is
-        ∙ ap (λ ys. record d.holdings { typed = ys; works = changed_work u.frame recorded_now d.holdings.works }) (without_newest (λ (y : TypedReference). y.frame) t.frame mine l.rest d.holdings.typed refl typed_d)
-        ∙ ap (λ ws. record d.holdings { typed = l.rest; works = ws }) (changed_first u.frame recorded_now outer.work outer.others d.holdings.works works_d outer.is.frame)
+    live_records = gone_records l refl refl came_d new (inl (knows (sizes_of d.post.machine)))
 
     module _ (x : PortValue) (holds : Holds d x (entry_recorded d.post.machine u.frame d.holdings)) (came : Came w x) where
-      recorded_hand : FlushedHolds w x (record w.holdings { refs = refs_for owner (u ∷ us) v.holdings.refs; typed = l.rest; works = recorded_now outer.work ∷ outer.others })
-      recorded_hand =
-          ap quiet holds ∙ ap (λ h. quiet (record d { holdings = h })) recorded_left
-          ∙ ap (λ (q : PortValue). quiet (record q { holdings = record q.holdings { typed = l.rest; works = recorded_now outer.work ∷ outer.others } })) l.hand
+      settles_it : leaves_unsettled (sizes_of d.post.machine) d.holdings (Typed t.frame (level_type t.level)) ≡ false
+      settles_it = unsettled_not (knows_live (sizes_of d.post.machine) t.frame (level_type t.level) d.holdings) (knows (sizes_of d.post.machine))
 
       pub new_stands : Carries v x owner (u ∷ us)
-      unfolding recorded_now
-      new_stands = stands_then x (recorded_now outer.work) came recorded_hand (record { inside = outer.is.inside; frame = outer.is.frame; work = outer.is.work; kind = outer.is.kind; unmarked = outer.is.unmarked; lent = outer.is.lent }) refl
+      new_stands = recorded_stands_on l refl refl came_d new (inl (knows (sizes_of d.post.machine))) false settles_it x holds came
 
       pub new_ready : IsTopReady x
-      unfolding recorded_now
-      new_ready = ready_by x (recorded_now outer.work) outer.others (ap (λ (q : PortValue). q.holdings.works) recorded_hand) (none_unsettled (sizes_of x.post.machine) x.holdings (recorded_now outer.work) refl)
+      new_ready = recorded_ready l refl refl came_d new (inl (knows (sizes_of d.post.machine))) false settles_it x holds came refl
 
   -- ---- recorded before
   module _ (old : t.recorded ≡ true) where
-    pub on : TakenOn u outer.work t
-    on = reaches_on z w.holdings.steps u outer.work t (Some t) refl old outer.reaches
+    pub on : TakenOn u (outer s).work t
+    on = reaches_on (sizes_of v.post.machine) w.holdings.steps u (outer s).work t (Some t) refl old (outer s).reaches
 
-    pub asks_on : demand_at (kind_fields outer.work.word).kind (u.done - 1) on.word ≡ Typed t.frame (level_type t.level)
-    asks_on = ap (λ k. demand_at k (u.done - 1) on.word) outer.is.kind ∙ on.asks
+    pub asks_on : demand_at (kind_fields (outer s).work.word).kind (u.done - 1) on.word ≡ Typed t.frame (level_type t.level)
+    asks_on = ap (λ k. demand_at k (u.done - 1) on.word) (outer s).is.kind ∙ on.asks
 
     pub live_gives : MayGiveBack d.post.machine d.post.vcpu t.frame d.holdings
     live_gives =
         let all = on.all in
         let some = on.some in
         record {
-          drops = record { in_hand = in_hand; kind = level_type t.level; live = knows (sizes_of d.post.machine) };
-          shared = shared_by d.post.machine d.post.vcpu d.holdings u.frame (work_here u.frame outer.work outer.others d.holdings.works outer.is.frame works_d) (ap is_table outer.is.kind ∙ level_type-table u.level s.stack.2.0.low) (u.done - 1) on.word
-              (omega (arith, all, some)) on.seen asks_on in_hand;
+          drops = record { in_hand = gone_held l refl; kind = level_type t.level; live = knows (sizes_of d.post.machine) };
+          shared = shared_by d.post.machine d.post.vcpu d.holdings u.frame (work_here u.frame (outer s).work (outer s).others d.holdings.works (outer s).is.frame (gone_works l)) (ap is_table (outer s).is.kind ∙ level_type-table u.level s.stack.2.0.low) (u.done - 1) on.word
+              (omega (arith, all, some)) on.seen asks_on (gone_held l refl);
         }
 
-    since_low : (y : Unsettled) → outer.work.unsettled ≡ Some y → y.since ≤ length w.holdings.steps
+    since_low : (y : Unsettled) → (outer s).work.unsettled ≡ Some y → y.since ≤ length w.holdings.steps
     since_low y is =
         let f = store.finds in
         let each = subst (λ (h : Holdings). EachOf (IsWorkFormed w.post.machine h) h.works) f.mine (f.sound.formed w.post.vcpu f.real).works in
-        ((second_of w.post.machine w.holdings inner.work outer.work outer.others w.holdings.works (inner.are ∙ ap (λ ws. inner.work ∷ ws) outer.are) each).unsettled y is).1
+        ((second_of w.post.machine w.holdings inner.work (outer s).work (outer s).others w.holdings.works (inner.are ∙ ap (λ ws. inner.work ∷ ws) (outer s).are) each).unsettled y is).1
 
     module _ (spelled : IsTrue (is_kind (live_kind (level_type t.level) (type_counts t.own)))) (x : PortValue) (holds : Holds d x (gave_type t.frame d.holdings)) (came : Came d x) where
-      given_hand : FlushedHolds w x (record w.holdings { refs = refs_for owner (u ∷ us) v.holdings.refs; typed = l.rest; works = outer.work ∷ outer.others })
+      given_hand : FlushedHolds w x (record w.holdings { refs = refs_for owner (u ∷ us) v.holdings.refs; typed = l.rest; works = (outer s).work ∷ (outer s).others })
       given_hand =
           ap quiet holds ∙ ap (λ (q : PortValue). quiet (record q { holdings = gave_type t.frame q.holdings })) l.hand
           ∙ ap (λ ys. quiet (record w { holdings = record w.holdings { refs = refs_for owner (u ∷ us) v.holdings.refs; typed = ys; works = inner.others } })) (without_newest (λ (y : TypedReference). y.frame) t.frame mine l.rest _ refl refl)
-          ∙ ap (λ ws. quiet (record w { holdings = record w.holdings { refs = refs_for owner (u ∷ us) v.holdings.refs; typed = l.rest; works = ws } })) outer.are
+          ∙ ap (λ ws. quiet (record w { holdings = record w.holdings { refs = refs_for owner (u ∷ us) v.holdings.refs; typed = l.rest; works = ws } })) (outer s).are
 
       pub old_stands : Carries v x owner (u ∷ us)
-      old_stands = stands_then x outer.work (came_trans w d x came_d came) given_hand outer.is on.all
+      old_stands = gone_stands l x (outer s).work (came_trans w d x came_d came) given_hand (outer s).is on.all
 
-      live_there : (y : Unsettled) → outer.work.unsettled ≡ Some y → IsTrue (some_since (sizes_of w.post.machine) y.since (Kind t.frame) is_live_word x.holdings.steps)
+      live_there : (y : Unsettled) → (outer s).work.unsettled ≡ Some y → IsTrue (some_since (sizes_of w.post.machine) y.since (Kind t.frame) is_live_word x.holdings.steps)
       unfolding left_by
       live_there y is =
           let k = live_kind (level_type t.level) (type_counts t.own) in
@@ -333,10 +230,10 @@ module _ {v w : PortValue} {owner : ℕ} {t u : TableWork} {us : List TableWork}
       pub old_ready : IsTopReady x
       unfolding is_settled
       old_ready =
-          ready_by x outer.work outer.others (ap (λ (q : PortValue). q.holdings.works) given_hand)
-          (subst (λ (p : Post). IsTrue (settles_last (sizes_of p.machine) outer.work x.holdings.steps outer.work.unsettled)) (sym (came_post w x (came_trans w d x came_d came)))
-          (last_by (sizes_of w.post.machine) outer.work x.holdings.steps on.word t.frame (level_type t.level) outer.work.unsettled
-          (ap (λ n. demand_at (kind_fields outer.work.word).kind (n - 1) on.word) on.all ∙ asks_on) on.last live_there))
+          ready_by x (outer s).work (outer s).others (ap (λ (q : PortValue). q.holdings.works) given_hand)
+          (subst (λ (p : Post). IsTrue (settles_last (sizes_of p.machine) (outer s).work x.holdings.steps (outer s).work.unsettled)) (sym (came_post w x (came_trans w d x came_d came)))
+          (last_by (sizes_of w.post.machine) (outer s).work x.holdings.steps on.word t.frame (level_type t.level) (outer s).work.unsettled
+          (ap (λ n. demand_at (kind_fields (outer s).work.word).kind (n - 1) on.word) on.all ∙ asks_on) on.last live_there))
 
 -- Progress: an entry of a table in the own works is recorded; or a recorded one is settled, as the table that it names is live.
 -- ---- an entry is recorded
@@ -358,22 +255,22 @@ second_here f x y zs ws are few second =
     ap (λ us. work_on f us) are ∙ first_by-cons_other (λ (e : Work). e.frame) f x (y ∷ zs) (λ first. two_works f x y zs ws are few first second)
     ∙ first_by-cons_here (λ (e : Work). e.frame) f y zs second
 
-module _ {v w : PortValue} {owner : ℕ} {t u : TableWork} {us : List TableWork} {s : Carries v w owner (t ∷ u ∷ us)} {d : PortValue} {found : ℕ} (store : Moves w d (Kind t.frame) (Store (kind_write (live_kind (level_type t.level) (type_counts t.own)))) kinds.Kind None found) (l : LiveHand s d) where
+module _ {v w : PortValue} {owner : ℕ} {t u : TableWork} {us : List TableWork} {s : Carries v w owner (t ∷ u ∷ us)} {d : PortValue} {found : ℕ} (store : Moves w d (Kind t.frame) (Store (kind_write (live_kind (level_type t.level) (type_counts t.own)))) kinds.Kind None found) (l : TopGone s (live_typed t.frame (level_type t.level) (owners.Of owner)) d) where
   few : works_on u.frame w.holdings.works ≤ 1
   few =
       let f = store.finds in
       subst (λ h. works_on u.frame h.works ≤ 1) f.mine (one_works w.post.machine f.words f.hands f.sound.alone u.frame w.post.vcpu f.real)
 
-  around_here : work_on u.frame w.holdings.works ≡ Some (outer store l).work
+  around_here : work_on u.frame w.holdings.works ≡ Some (outer s).work
   around_here =
       let i = top s in
-      let o = outer store l in
+      let o = outer s in
       second_here u.frame i.work o.work o.others w.holdings.works (i.are ∙ ap (λ ws. i.work ∷ ws) o.are) few o.is.frame
 
   pub progress_settles : t.recorded ≡ true → IsTrue (is_kind (live_kind (level_type t.level) (type_counts t.own))) → Progress (Met w d)
   unfolding moment_of
   progress_settles old spelled =
-      let o = outer store l in
+      let o = outer s in
       let k = on store l old in
       let live = live_kind (level_type t.level) (type_counts t.own) in
       let all = k.all in

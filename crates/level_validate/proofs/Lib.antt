@@ -9,6 +9,7 @@ mod LookedAgain
 mod Looking
 mod Opening
 mod Pushing
+mod Recording
 mod Serving
 mod Standing
 mod Steps
