@@ -20,26 +20,25 @@ use Rattle.level_validate.proofs.acquiring.acquire.Goals as goal
 pub returns-in_err-frame : goal.returns-in_err-frame
 returns-in_err-frame g c =
     let v = g.P.Port.value c.args.port.now in
-    let b = g.P.Port.value c.get_ref.new.port in
     let e = c.in_err-frame.field-0.0 in
     let answer = err_from_is_err_and c.from_residual.result c.from_residual.ensures.1 in
     let stopped = c.in_err-frame.ensures in
     record {
       frame = search rules;
-      serves = λ pages. serves_as v b c.args.f c.args.owner c.args.level pages c.from_residual.result e (answer.1 ∙ ap Err answer.2)
-          (plain_acquired v b c.args.f c.args.owner c.args.level pages (Err e) (reference_serves v c.args.f c.args.owner c.args.level pages (is_due_stop e) b (missed v.post.machine e) c.in_err-frame.ensures.serves));
-      stops = λ pages. stops_as v b c.args.f c.args.owner c.args.level pages c.from_residual.result e (answer.1 ∙ ap Err answer.2)
-          (reference_stops v c.args.f c.args.owner c.args.level pages (is_due_stop e) b e c.in_err-frame.ensures.stops);
+      serves = λ pages. serves_as _ _ _ _ _ pages _ _ (answer.1 ∙ ap Err answer.2)
+          (plain_acquired _ _ _ _ _ pages (Err e) (reference_serves _ _ _ _ pages (is_due_stop e) _ (missed v.post.machine e) c.in_err-frame.ensures.serves));
+      stops = λ pages. stops_as _ _ _ _ _ pages _ _ (answer.1 ∙ ap Err answer.2)
+          (reference_stops _ _ _ _ pages (is_due_stop e) _ _ c.in_err-frame.ensures.stops);
       kinds = search rules;
-      forward = refers_forward (g.P.Port.value c.args.port.now) (g.P.Port.value c.get_ref.new.port) c.args.f c.args.owner c.get_ref.result c.get_ref.ensures.gets;
-      leaves = refers_well (g.P.Port.value c.args.port.now) (g.P.Port.value c.get_ref.new.port) _ c.args.f c.args.f c.args.owner c.get_ref.result c.get_ref.ensures.gets;
+      forward = refers_forward _ _ _ _ _ c.get_ref.ensures.gets;
+      leaves = refers_well _ _ _ _ _ _ _ c.get_ref.ensures.gets;
       hand = search rules;
       gate = search rules;
       heard = search rules;
       says = search rules;
       paces = search rules;
       calm = search rules;
-      course = unreferred_by (g.P.Port.value c.args.port.now) c.args.f c.args.owner c.args.level _ _ _ (g.P.Port.value c.get_ref.new.port) c.from_residual.result e (answer.1 ∙ ap Err answer.2) stopped.kinds stopped.gets stopped.plain stopped.stops;
+      course = unreferred_by _ _ _ _ _ _ _ _ _ _ (answer.1 ∙ ap Err answer.2) stopped.kinds stopped.gets stopped.plain stopped.stops;
     }
 
 -- ---- its type
@@ -175,8 +174,8 @@ validate-requires g c =
     record {
       may = search rules;
       real = search rules;
-      stands = (v, carries_taken v b x h c.args.owner c.args.level progress own c.level_type.result c.requires.idle c.in_ok-frame.ensures.hand c.level_type.ensures c.requires.low c.requires.high c.in_ok-frame.ensures.frame.1 hand.1 found);
-      fresh = λ zero. taken_ready b h c.args.owner c.requires.idle c.in_ok-frame.ensures.hand x own c.level_type.result progress hand.1 zero;
+      stands = (v, carries_taken _ _ _ _ _ _ _ _ _ c.requires.idle c.in_ok-frame.ensures.hand c.level_type.ensures c.requires.low c.requires.high c.in_ok-frame.ensures.frame.1 hand.1 found);
+      fresh = λ zero. taken_ready _ _ _ c.requires.idle c.in_ok-frame.ensures.hand _ _ _ _ hand.1 zero;
       room = search rules;
     }
 
@@ -185,25 +184,24 @@ returns-in_ok-validate-in-Ok-InWork g c =
     let v = g.P.Port.value c.args.port.now in
     let b = g.P.Port.value c.get_ref.new.port in
     let x = g.P.Port.value c.take_type.new.port in
-    let w = g.P.Port.value c.validate.new.port in
     let h = c.in_ok-frame.frame in
     let progress = c.in-Ok-InWork.progress in
     let own = c.in-Ok-InWork.own in
     let hand : TakesAs b x h c.args.owner c.level_type.result (InWork progress own) = subst (λ t. TakesAs b x h c.args.owner c.level_type.result t) c.in-Ok-InWork.field-0-is c.in-Ok-InWork.ensures.hand in
     let found : TakesFound b x h c.args.owner c.level_type.result (Ok (InWork progress own)) = subst (λ t. TakesFound b x h c.args.owner c.level_type.result (Ok t)) c.in-Ok-InWork.field-0-is c.in-Ok-InWork.ensures.found in
-    let carries = carries_taken v b x h c.args.owner c.args.level progress own c.level_type.result c.requires.idle c.in_ok-frame.ensures.hand c.level_type.ensures c.requires.low c.requires.high c.in_ok-frame.ensures.frame.1 hand.1 found in
-    let before = had_forward v b x c.args.f c.args.owner c.args.level c.get_ref.result c.get_ref.ensures.gets c.in_ok-frame.frame c.level_type.ensures c.take_type.result c.take_type.ensures.found in
+    let carries = carries_taken _ _ _ _ _ _ _ _ _ c.requires.idle c.in_ok-frame.ensures.hand c.level_type.ensures c.requires.low c.requires.high c.in_ok-frame.ensures.frame.1 hand.1 found in
+    let before = had_forward _ _ _ _ _ _ _ c.get_ref.ensures.gets c.in_ok-frame.frame c.level_type.ensures _ c.take_type.ensures.found in
     let got = c.in_ok-frame.ensures in
     let took = c.in-Ok-InWork in
     record {
       frame = search rules;
-      serves = λ pages. let before = taken_serves v c.args.f c.args.owner c.args.level pages false b c.in_ok-frame.ensures.serves c.in_ok-frame.ensures.frame.0 c.level_type.ensures x c.in-Ok-InWork.ensures.serves in
-          marked_acquired v w c.args.f c.args.owner c.args.level pages h false (Ok h) c.in_ok-frame.ensures.frame.0 refl
-          (validated_serves v c.args.f c.args.owner c.args.level pages false x before c.in_ok-frame.ensures.frame.0 progress own w false [] c.in_ok-validate-in-Ok-InWork.ensures.serves);
+      serves = λ pages. let before = taken_serves _ _ _ _ pages false _ c.in_ok-frame.ensures.serves c.in_ok-frame.ensures.frame.0 c.level_type.ensures _ c.in-Ok-InWork.ensures.serves in
+          marked_acquired _ _ _ _ _ pages _ false (Ok h) c.in_ok-frame.ensures.frame.0 refl
+          (validated_serves _ _ _ _ pages false _ before c.in_ok-frame.ensures.frame.0 _ _ _ false [] c.in_ok-validate-in-Ok-InWork.ensures.serves);
       stops = search rules;
       kinds = search rules;
-      forward = forward_then v x (g.P.Port.value c.validate.new.port) before c.in_ok-validate-in-Ok-InWork.ensures.forward;
-      leaves = well_then v x (g.P.Port.value c.validate.new.port) false c.args.f (had_well v b x c.args.f c.args.owner c.args.level c.get_ref.result c.get_ref.ensures.gets c.in_ok-frame.frame c.level_type.ensures c.take_type.result c.take_type.ensures.found false c.args.f)
+      forward = forward_then _ _ _ before c.in_ok-validate-in-Ok-InWork.ensures.forward;
+      leaves = well_then _ _ _ false _ (had_well _ _ _ _ _ _ _ c.get_ref.ensures.gets c.in_ok-frame.frame c.level_type.ensures _ c.take_type.ensures.found false _)
           (subst (λ h. LeftWell x (g.P.Port.value c.validate.new.port) false h) c.in_ok-frame.ensures.frame.0 c.in_ok-validate-in-Ok-InWork.ensures.leaves);
       hand = c.in_ok-validate-in-Ok-InWork.ensures.hand v c.args.owner carries;
       gate = search rules;
@@ -211,7 +209,7 @@ returns-in_ok-validate-in-Ok-InWork g c =
       says = search rules;
       paces = search rules;
       calm = search rules;
-      course = finished_by v c.args.f c.args.owner c.args.level _ _ _ b got.frame.0 got.gets got.plain x c.level_type.ensures
+      course = finished_by _ _ _ _ _ _ _ _ got.frame.0 got.gets got.plain _ c.level_type.ensures
           took.field-0 took.ensures.found took.ensures.plain took.ensures.waits took.field-0-is (g.P.Port.value c.validate.new.port) _ _ c.in_ok-validate-in-Ok-InWork.ensures.course;
     }
 
@@ -258,9 +256,3 @@ returns-in_err-validate-in-Ok-InWork g c =
       course = unfinished_by v c.args.f c.args.owner c.args.level _ _ _ b got.frame.0 got.gets got.plain x c.level_type.ensures
           took.field-0 took.ensures.found took.ensures.plain took.ensures.waits took.field-0-is (g.P.Port.value c.validate.new.port) _ _ result e (answer.1 ∙ ap Err answer.2) c.in_err-validate-in-Ok-InWork.ensures.course;
     }
-
--- ---- it goes forward
-
--- ---- how frames are left
-
--- ---- the course

@@ -10,4 +10,4 @@ returns-clause-stops g c =
     let x = g.P.Port.value c.enter.new.port in
     let owner = c.args.owner in
     let ts = c.args.stack.now in
-    IfErr-weaker c.enter.result (λ e. StopsIn u x owner ts e) (λ e. StopsRisen u x owner ts e) (λ e stops. risen_in u x owner ts e stops) c.enter.ensures.stops
+    IfErr-weaker c.enter.result (λ e. StopsIn u x owner ts e) (λ e. StopsRisen u x owner ts e) (λ e stops. risen_in _ _ _ _ e stops) c.enter.ensures.stops

@@ -9,23 +9,17 @@ use Rattle.level_validate.proofs.acquiring.fill.Goals as goal
 
 pub returns-in_err-done-clause-stops : goal.returns-in_err-done-clause-stops
 returns-in_err-done-clause-stops g c =
-    let u = g.P.Port.value c.args.port.now in
-    let x = g.P.Port.value c.take_on.new.port in
-    let e = c.in_err-done.field-0.0 in
     let answer = err_from_is_err_and c.from_residual.result c.from_residual.ensures.1 in
-    risen_answer u x c.args.owner c.args.stack.now c.from_residual.result e (answer.1 ∙ ap Err answer.2) (risen_in u x c.args.owner c.args.stack.now e c.in_err-done.ensures.stops)
+    risen_answer _ _ _ _ _ _ (answer.1 ∙ ap Err answer.2) (risen_in _ _ _ _ _ c.in_err-done.ensures.stops)
 
 pub returns-in_err-ask_behind-clause-stops : goal.returns-in_err-ask_behind-clause-stops
 returns-in_err-ask_behind-clause-stops g c =
-    let u = g.P.Port.value c.args.port.now in
-    let x = g.P.Port.value c.take_on.new.port in
-    let owner = c.args.owner in
     let e = c.in_err-ask_behind.field-0.0 in
     let r = c.from_residual-in_err-ask_behind.result in
     let answer = err_from_is_err_and r c.from_residual-in_err-ask_behind.ensures.1 in
     let asked = c.in_err-ask_behind.ensures in
-    risen_answer u x owner c.args.stack.now r e (answer.1 ∙ ap Err answer.2)
-    (asked_stops u x owner c.args.stack.now c.in_ok-done.done (is_asked c.take_on.new.stack) (Err e) asked.kinds c.in_ok-done.ensures.progress asked.course.answers asked.course.due asked.course.course)
+    risen_answer _ _ _ _ r _ (answer.1 ∙ ap Err answer.2)
+    (asked_stops _ _ _ _ c.in_ok-done.done (is_asked c.take_on.new.stack) (Err e) asked.kinds c.in_ok-done.ensures.progress asked.course.answers asked.course.due asked.course.course)
 
 pub loop-port-init : goal.loop-port-init
 loop-port-init g c =
@@ -38,7 +32,7 @@ loop-port-init g c =
       says = a.says;
       paces = a.paces;
       calm = λ calm. (a.calm calm).1;
-      course = begun_working c.args.owner (g.P.Port.value c.args.port.now) c.args.table _ _ _ c.requires.only (g.P.Port.value c.take_on.new.port) c.take_on.new.stack t.course _ _ a.course;
+      course = begun_working _ _ _ _ _ _ c.requires.only _ _ t.course _ _ a.course;
     }
 
 pub go_on-requires : goal.go_on-requires
@@ -55,13 +49,13 @@ loop-port-preserved g c =
     let i = c.loop-port.invariant in
     let t = c.in_ok-go_on.ensures in
     record {
-      tables = filling_on (g.P.Port.value c.args.port.now) (g.P.Port.value c.loop-port.port) (g.P.Port.value c.go_on.new.port) c.args.owner c.args.stack.now c.loop-port.stack c.go_on.new.stack i.tables t.came t.forward t.leaves t.stands t.outer t.ready t.serves;
+      tables = filling_on _ _ _ _ _ c.loop-port.stack _ i.tables t.came t.forward t.leaves t.stands t.outer t.ready t.serves;
       gate = t.gate ∙ i.gate;
       heard = heard_then _ _ _ _ _ i.heard (heard_as _ _ _ _ _ i.says t.heard);
       says = λ n. t.says n ∙ i.says n;
       paces = t.paces ∙ i.paces;
       calm = λ calm. (t.calm (i.calm calm)).1;
-      course = working_on c.args.owner (g.P.Port.value c.args.port.now) c.args.table _ _ _ (g.P.Port.value c.loop-port.port) (g.P.Port.value c.go_on.new.port) c.loop-port.stack c.go_on.new.stack _ _ _ _ _ false (Ok tt) i.says i.course t.course;
+      course = working_on _ _ _ _ _ _ _ _ c.loop-port.stack _ _ _ _ _ _ false (Ok tt) i.says i.course t.course;
     }
 
 pub returns-in_err-go_on : goal.returns-in_err-go_on
@@ -106,10 +100,9 @@ returns-clause-leaves g c f = c.loop-port.invariant.tables.leaves f
 
 pub returns-in_err-done-clause-course : goal.returns-in_err-done-clause-course
 returns-in_err-done-clause-course g c =
-    let e = c.in_err-done.field-0.0 in
     let answer = err_from_is_err_and c.from_residual.result c.from_residual.ensures.1 in
     let stopped = c.in_err-done.ensures in
-    cut_off_working c.args.owner (g.P.Port.value c.args.port.now) c.args.table _ _ _ c.requires.only (g.P.Port.value c.take_on.new.port) c.take_on.new.stack c.from_residual.result e (answer.1 ∙ ap Err answer.2)
+    cut_off_working _ _ _ _ _ _ c.requires.only _ _ _ _ (answer.1 ∙ ap Err answer.2)
     stopped.kinds stopped.course
 
 pub returns-in_err-ask_behind-clause-course : goal.returns-in_err-ask_behind-clause-course
@@ -118,5 +111,5 @@ returns-in_err-ask_behind-clause-course g c =
     let r = c.from_residual-in_err-ask_behind.result in
     let answer = err_from_is_err_and r c.from_residual-in_err-ask_behind.ensures.1 in
     let asked = c.in_err-ask_behind.ensures in
-    due_working c.args.owner (g.P.Port.value c.args.port.now) c.args.table _ _ _ c.requires.only (g.P.Port.value c.take_on.new.port) c.take_on.new.stack c.in_ok-done.ensures.course _ _
+    due_working _ _ _ _ _ _ c.requires.only _ _ c.in_ok-done.ensures.course _ _
     r e (answer.1 ∙ ap Err answer.2) asked.kinds asked.course

@@ -7,19 +7,18 @@ use Rattle.level_validate.proofs.acquiring.go_on.Goals as goal
 pub returns-clause-stops : goal.returns-clause-stops
 returns-clause-stops g c =
     let asked = c.ask_behind.ensures in
-    asked_stops (g.P.Port.value c.args.port.now) (g.P.Port.value c.advance.new.port) c.args.owner c.args.stack.now c.in_ok-done.done (is_asked c.advance.new.stack) c.ask_behind.result asked.kinds c.in_ok-done.ensures.progress
+    asked_stops _ _ _ _ c.in_ok-done.done (is_asked c.advance.new.stack) _ asked.kinds c.in_ok-done.ensures.progress
     asked.course.answers asked.course.due asked.course.course
 
 -- ---- its part of the course
 
 pub returns-in_err-done-clause-course : goal.returns-in_err-done-clause-course
 returns-in_err-done-clause-course g c =
-    let e = c.in_err-done.field-0.0 in
     let answer = err_from_is_err_and c.from_residual.result c.from_residual.ensures.1 in
     let is = answer.1 ∙ ap Err answer.2 in
-    stopped_going c.args.owner (g.P.Port.value c.args.port.now) (g.P.Port.value c.advance.new.port) c.args.stack.now c.advance.new.stack _ _ _ c.from_residual.result e is c.in_err-done.ensures.undue c.in_err-done.ensures.course
+    stopped_going _ _ _ _ _ _ _ _ _ _ is c.in_err-done.ensures.undue c.in_err-done.ensures.course
 
 pub returns-clause-course : goal.returns-clause-course
 returns-clause-course g c =
     let asked = c.ask_behind.ensures in
-    asked_going c.args.owner (g.P.Port.value c.args.port.now) (g.P.Port.value c.advance.new.port) c.args.stack.now c.advance.new.stack _ _ _ _ _ c.in_ok-done.done c.in_ok-done.ensures.course c.ask_behind.result asked.kinds asked.course
+    asked_going _ _ _ _ _ _ _ _ _ _ c.in_ok-done.done c.in_ok-done.ensures.course _ asked.kinds asked.course

@@ -52,7 +52,7 @@ leave_kept-requires g c =
       leaves = rw c.waiting_kind.ensures (mark_may b.1 c.level_type-kind.ensures c.if-not-own.false);
       partial = search rules;
       kept = search rules;
-      page = rw c.waiting_kind.ensures (rw c.level_type-kind.ensures (level_type-unpaged c.args.level c.requires.low));
+      page = rw c.waiting_kind.ensures (rw c.level_type-kind.ensures (level_type-unpaged _ c.requires.low));
       known = mark_known b.1 c.level_type-kind.ensures c.if-not-own.false;
       real = search rules;
       looked = mark_looking b.1 c.level_type-kind.ensures c.if-not-own.false;
@@ -89,12 +89,12 @@ pub put_old-requires : goal.put_old-requires
 put_old-requires g c =
     let b = c.requires.waits in
     record {
-      frame = subst (λ (p : Post). c.args.frame < p.machine.frames) (sym (came_post (g.P.Port.value c.args.port.now) (g.P.Port.value c.leave_unsettled.new.port) c.leave_unsettled.ensures.came)) c.requires.frame;
-      may = stays_may b.1 c.level_type-kind.ensures c.if-not-own.false (g.P.Port.value c.leave_unsettled.new.port)
+      frame = subst (λ (p : Post). c.args.frame < p.machine.frames) (sym (came_post _ _ c.leave_unsettled.ensures.came)) c.requires.frame;
+      may = stays_may b.1 c.level_type-kind.ensures c.if-not-own.false _
           c.leave_unsettled.ensures.hand c.requires.may;
-      empty = stays_room b.1 c.level_type-kind.ensures c.if-not-own.false (g.P.Port.value c.leave_unsettled.new.port)
+      empty = stays_room b.1 c.level_type-kind.ensures c.if-not-own.false _
           c.leave_unsettled.ensures.hand c.requires.room;
-      held = stays_held b.1 c.level_type-kind.ensures c.if-not-own.false (g.P.Port.value c.leave_unsettled.new.port)
+      held = stays_held b.1 c.level_type-kind.ensures c.if-not-own.false _
           c.leave_unsettled.ensures.hand;
     }
 

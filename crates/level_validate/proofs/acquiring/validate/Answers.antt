@@ -68,10 +68,10 @@ unwind-requires g c =
     let u = g.P.Port.value c.args.port.now in
     let one = only c.args.table c.new-stack.result c.push.new.self c.new-stack.ensures c.push.ensures.pushed in
     record {
-      may = on_may u (g.P.Port.value c.fill.new.port) c.args.owner c.push.new.self c.fill.new.stack (subst (λ us. IsStanding u c.args.owner us) (sym one) c.requires.stands) c.fill.ensures.stands c.requires.may;
-      stands = on_stands u (g.P.Port.value c.fill.new.port) c.args.owner c.push.new.self c.fill.new.stack (subst (λ us. IsStanding u c.args.owner us) (sym one) c.requires.stands) c.fill.ensures.stands;
-      real = subst (λ (p : Post). c.args.owner < length p.machine.page_limit) (sym (came_post (g.P.Port.value c.args.port.now) (g.P.Port.value c.fill.new.port) c.fill.ensures.came)) c.requires.real;
-      room = on_room u (g.P.Port.value c.fill.new.port) c.args.owner c.push.new.self c.fill.new.stack (subst (λ us. IsStanding u c.args.owner us) (sym one) c.requires.stands) c.fill.ensures.stands c.requires.room;
+      may = on_may _ _ _ _ _ (subst (λ us. IsStanding u c.args.owner us) (sym one) c.requires.stands) c.fill.ensures.stands c.requires.may;
+      stands = on_stands _ _ _ _ _ (subst (λ us. IsStanding u c.args.owner us) (sym one) c.requires.stands) c.fill.ensures.stands;
+      real = subst (λ (p : Post). c.args.owner < length p.machine.page_limit) (sym (came_post _ _ c.fill.ensures.came)) c.requires.real;
+      room = on_room _ _ _ _ _ (subst (λ us. IsStanding u c.args.owner us) (sym one) c.requires.stands) c.fill.ensures.stands c.requires.room;
     }
 
 pub returns-in-Err : goal.returns-in-Err
@@ -106,9 +106,3 @@ returns-in-Err g c =
       calm = search rules;
       course = validated_left _ _ _ _ _ c.args.owner (g.P.Port.value c.args.port.now) (g.P.Port.value c.fill.new.port) (g.P.Port.value c.unwind.new.port) c.args.table c.fill.new.stack _ c.in-Err.stop c.is_paused.result c.is_paused.ensures c.unwind.ensures.course c.in-Err.ensures.course;
     }
-
--- ---- it goes forward
-
--- ---- how frames are left
-
--- ---- the course

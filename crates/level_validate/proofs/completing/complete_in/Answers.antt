@@ -11,101 +11,86 @@ use Rattle.level_validate.proofs.completing.complete_in.Goals as goal
 
 pub make_live-requires : goal.make_live-requires
 make_live-requires g c =
-    let t = c.args.table in
     let a = c.requires.stands in
     let s = a.2.1 in
     record {
       frame = top_inside s;
       may = search rules;
-      leaves = live_leaves s c.requires.full c.requires.ready t.own refl c.requires.may;
+      leaves = live_leaves s c.requires.full c.requires.ready _ refl c.requires.may;
     }
 
 pub give_back-requires : goal.give_back-requires
 give_back-requires g c =
-    let w = g.P.Port.value c.args.port.now in
     let t = c.args.table in
     let a = c.requires.stands in
     let s = a.2.1 in
-    let d = g.P.Port.value c.make_live.new.port in
-    let came_d = moves_came w d _ _ _ _ c.make_live.result c.make_live.ensures.moves in
-    let l = live_hand s t.own refl d c.make_live.ensures.hand in
+    let came_d = moves_came _ _ _ _ _ _ _ c.make_live.ensures.moves in
+    let l = live_hand s _ refl _ c.make_live.ensures.hand in
     record {
-      frame = subst (λ (p : Post). t.frame < p.machine.frames) (sym (came_post w d came_d)) (top_inside s);
+      frame = subst (λ (p : Post). t.frame < p.machine.frames) (sym (came_post _ _ came_d)) (top_inside s);
       may = search rules;
       gives = live_gives c.make_live.ensures.moves l c.if-table.true;
     }
 
 pub record_entry-requires : goal.record_entry-requires
 record_entry-requires g c =
-    let t = c.args.table in
     let a = c.requires.stands in
     let s = a.2.1 in
-    let d = g.P.Port.value c.make_live.new.port in
-    let l = live_hand s t.own refl d c.make_live.ensures.hand in
+    let l = live_hand s _ refl _ c.make_live.ensures.hand in
     live_records c.make_live.ensures.moves l c.if-table.false
 
 pub returns-then-table : goal.returns-then-table
 unfolding CarriesOn
 returns-then-table g c =
-    let w = g.P.Port.value c.args.port.now in
-    let t = c.args.table in
     let u = c.args.outer in
-    let d = g.P.Port.value c.make_live.new.port in
-    let came_d = moves_came w d _ _ _ _ c.make_live.result c.make_live.ensures.moves in
-    let x = g.P.Port.value c.give_back.new.port in
+    let came_d = moves_came _ _ _ _ _ _ _ c.make_live.ensures.moves in
     let b = c.requires.stands in
     let a = c.requires.stands in
     let owner = a.0 in
     let us = a.1 in
     let v = a.2.0 in
     let s = a.2.1 in
-    let l = live_hand s t.own refl d c.make_live.ensures.hand in
+    let l = live_hand s _ refl _ c.make_live.ensures.hand in
     let o = c.args.outer in
-    let is = (live_leaves b.2.1 c.requires.full c.requires.ready t.own refl c.requires.may).is in
+    let is = (live_leaves b.2.1 c.requires.full c.requires.ready _ refl c.requires.may).is in
     record {
-      came = came_trans w d x came_d c.give_back.ensures.came;
-      forward = forward_then w d x (forward_step w d _ _ _ _ c.make_live.result refl refl c.make_live.ensures.moves) c.give_back.ensures.forward;
-      leaves = λ f. well_then w d x false f (kind_well w d false f t.frame _ _ _ c.make_live.result is refl refl c.make_live.ensures.moves) (c.give_back.ensures.leaves f);
-      stands = λ owner us v s. let l = live_hand s t.own refl d c.make_live.ensures.hand in
-          old_stands c.make_live.ensures.moves l c.if-table.true (live_leaves b.2.1 c.requires.full c.requires.ready t.own refl c.requires.may).is x c.give_back.ensures.hand c.give_back.ensures.came;
-      serves = λ owner us u r ds a. let left = piece_left b.2.1 _ (live_leaves b.2.1 c.requires.full c.requires.ready t.own refl c.requires.may).is refl c.make_live.ensures.moves u r owner (o ∷ us) ds a in
-          piece_rest u x r owner t (o ∷ us) ds (piece_back x left c.give_back.ensures.serves);
-      progress = let l = live_hand b.2.1 t.own refl d c.make_live.ensures.hand in
-          progress_before w d x c.give_back.ensures.came
-          (progress_settles c.make_live.ensures.moves l c.if-table.true (live_leaves b.2.1 c.requires.full c.requires.ready t.own refl c.requires.may).is);
-      ready = old_ready c.make_live.ensures.moves l c.if-table.true (live_leaves b.2.1 c.requires.full c.requires.ready t.own refl c.requires.may).is x c.give_back.ensures.hand c.give_back.ensures.came;
-      course = λ owner us. completed_so w d (g.P.Port.value c.give_back.new.port) c.args.table c.args.outer true c.if-table.true c.requires.full (c.make_live.result, c.make_live.ensures.moves) c.give_back.ensures.course owner us;
+      came = came_trans _ _ _ came_d c.give_back.ensures.came;
+      forward = forward_then _ _ _ (forward_step _ _ _ _ _ _ _ refl refl c.make_live.ensures.moves) c.give_back.ensures.forward;
+      leaves = λ f. well_then _ _ _ false f (kind_well _ _ false f _ _ _ _ _ is refl refl c.make_live.ensures.moves) (c.give_back.ensures.leaves f);
+      stands = λ owner us v s. let l = live_hand s _ refl _ c.make_live.ensures.hand in
+          old_stands c.make_live.ensures.moves l c.if-table.true (live_leaves b.2.1 c.requires.full c.requires.ready _ refl c.requires.may).is _ c.give_back.ensures.hand c.give_back.ensures.came;
+      serves = λ owner us u r ds a. let left = piece_left b.2.1 _ (live_leaves b.2.1 c.requires.full c.requires.ready _ refl c.requires.may).is refl c.make_live.ensures.moves _ r _ (o ∷ us) ds a in
+          piece_rest _ _ r _ _ (o ∷ us) ds (piece_back _ left c.give_back.ensures.serves);
+      progress = let l = live_hand b.2.1 _ refl _ c.make_live.ensures.hand in
+          progress_before _ _ _ c.give_back.ensures.came
+          (progress_settles c.make_live.ensures.moves l c.if-table.true (live_leaves b.2.1 c.requires.full c.requires.ready _ refl c.requires.may).is);
+      ready = old_ready c.make_live.ensures.moves l c.if-table.true (live_leaves b.2.1 c.requires.full c.requires.ready _ refl c.requires.may).is _ c.give_back.ensures.hand c.give_back.ensures.came;
+      course = λ owner us. completed_so _ _ _ _ _ true c.if-table.true c.requires.full (c.make_live.result, c.make_live.ensures.moves) c.give_back.ensures.course _ _;
     }
 
 pub returns-else-table : goal.returns-else-table
 unfolding CarriesOn
 returns-else-table g c =
-    let w = g.P.Port.value c.args.port.now in
-    let t = c.args.table in
     let u = c.args.outer in
-    let d = g.P.Port.value c.make_live.new.port in
-    let came_d = moves_came w d _ _ _ _ c.make_live.result c.make_live.ensures.moves in
-    let x = g.P.Port.value c.record_entry.new.port in
+    let came_d = moves_came _ _ _ _ _ _ _ c.make_live.ensures.moves in
     let a = c.requires.stands in
     let owner = a.0 in
     let us = a.1 in
     let v = a.2.0 in
     let s = a.2.1 in
-    let l = live_hand s t.own refl d c.make_live.ensures.hand in
+    let l = live_hand s _ refl _ c.make_live.ensures.hand in
     let o = c.args.outer in
     let b = c.requires.stands in
-    let is = (live_leaves b.2.1 c.requires.full c.requires.ready t.own refl c.requires.may).is in
+    let is = (live_leaves b.2.1 c.requires.full c.requires.ready _ refl c.requires.may).is in
     record {
-      came = came_trans w d x came_d (moves_came d x _ _ _ _ c.record_entry.result c.record_entry.ensures.moves);
-      forward = forward_then w d x (forward_step w d _ _ _ _ c.make_live.result refl refl c.make_live.ensures.moves) (forward_step d x _ _ _ _ c.record_entry.result refl refl c.record_entry.ensures.moves);
-      leaves = λ f. well_then w d x false f (kind_well w d false f t.frame _ _ _ c.make_live.result is refl refl c.make_live.ensures.moves) (well_step d x false f _ _ _ _ c.record_entry.result refl c.record_entry.ensures.moves);
-      stands = λ owner us v s. let l = live_hand s t.own refl d c.make_live.ensures.hand in
-          new_stands c.make_live.ensures.moves l c.if-table.false x c.record_entry.ensures.hand (came_trans w d x came_d (moves_came d x _ _ _ _ c.record_entry.result c.record_entry.ensures.moves));
-      serves = λ owner us u r ds a. let left = piece_left b.2.1 _ (live_leaves b.2.1 c.requires.full c.requires.ready t.own refl c.requires.may).is refl c.make_live.ensures.moves u r owner (o ∷ us) ds a in
-          piece_rest u x r owner t (o ∷ us) ds (piece_records x left o.frame o.done c.record_entry.result c.record_entry.ensures.moves);
-      progress = progress_after w d x came_d (progress_records d x c.args.outer.frame c.args.outer.done c.record_entry.result c.record_entry.ensures.moves);
-      ready = new_ready c.make_live.ensures.moves l c.if-table.false x c.record_entry.ensures.hand (came_trans w d x came_d (moves_came d x _ _ _ _ c.record_entry.result c.record_entry.ensures.moves));
-      course = λ owner us. completed_so w d x c.args.table c.args.outer false c.if-table.false c.requires.full (c.make_live.result, c.make_live.ensures.moves) (c.record_entry.result, c.record_entry.ensures.moves) owner us;
+      came = came_trans _ _ _ came_d (moves_came _ _ _ _ _ _ _ c.record_entry.ensures.moves);
+      forward = forward_then _ _ _ (forward_step _ _ _ _ _ _ _ refl refl c.make_live.ensures.moves) (forward_step _ _ _ _ _ _ _ refl refl c.record_entry.ensures.moves);
+      leaves = λ f. well_then _ _ _ false f (kind_well _ _ false f _ _ _ _ _ is refl refl c.make_live.ensures.moves) (well_step _ _ false f _ _ _ _ _ refl c.record_entry.ensures.moves);
+      stands = λ owner us v s. let l = live_hand s _ refl _ c.make_live.ensures.hand in
+          new_stands c.make_live.ensures.moves l c.if-table.false _ c.record_entry.ensures.hand (came_trans _ _ _ came_d (moves_came _ _ _ _ _ _ _ c.record_entry.ensures.moves));
+      serves = λ owner us u r ds a. let left = piece_left b.2.1 _ (live_leaves b.2.1 c.requires.full c.requires.ready _ refl c.requires.may).is refl c.make_live.ensures.moves _ r _ (o ∷ us) ds a in
+          piece_rest _ _ r _ _ (o ∷ us) ds (piece_records _ left _ _ _ c.record_entry.ensures.moves);
+      progress = progress_after _ _ _ came_d (progress_records _ _ _ _ _ c.record_entry.ensures.moves);
+      ready = new_ready c.make_live.ensures.moves l c.if-table.false _ c.record_entry.ensures.hand (came_trans _ _ _ came_d (moves_came _ _ _ _ _ _ _ c.record_entry.ensures.moves));
+      course = λ owner us. completed_so _ _ _ _ _ false c.if-table.false c.requires.full (c.make_live.result, c.make_live.ensures.moves) (c.record_entry.result, c.record_entry.ensures.moves) _ _;
     }
-
--- ---- its part of the course

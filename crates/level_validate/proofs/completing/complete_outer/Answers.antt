@@ -12,7 +12,7 @@ make_live-requires-clause-frame g c = let a = c.requires.stands in top_inside a.
 
 pub make_live-requires-clause-leaves : goal.make_live-requires-clause-leaves
 make_live-requires-clause-leaves g c =
-    let a = c.requires.stands in live_leaves a.1.1 c.requires.full c.requires.ready c.args.table.own refl c.requires.may
+    let a = c.requires.stands in live_leaves a.1.1 c.requires.full c.requires.ready _ refl c.requires.may
 
 pub returns : goal.returns
 unfolding CarriesOn

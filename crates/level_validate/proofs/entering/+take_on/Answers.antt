@@ -28,18 +28,18 @@ use Rattle.level_validate.proofs.entering.+take_on.Goals as goal
 pub returns-then-top-eq0 : goal.returns-then-top-eq0
 returns-then-top-eq0 g n c =
     record {
-      came = came_self (g.P.Port.value c.args.port.now);
-      forward = forward_nothing (g.P.Port.value c.args.port.now);
-      leaves = λ e. well_nothing (g.P.Port.value c.args.port.now) false e;
+      came = came_self _;
+      forward = forward_nothing _;
+      leaves = λ e. well_nothing _ false e;
       stands = search rules;
       ready = c.requires.fresh c.if-top-eq0.true;
       kinds = search rules;
       outer = search rules;
       progress = search rules;
       less = search rules;
-      serves = goes_nothing (g.P.Port.value c.args.port.now) c.args.owner c.args.stack.now;
+      serves = goes_nothing _ _ _;
       stops = search rules;
-      course = fresh_on c.args.owner (g.P.Port.value c.args.port.now) c.requires.top c.if-top-eq0.true;
+      course = fresh_on _ _ c.requires.top c.if-top-eq0.true;
     }
 
 -- ---- its last one is looked at
@@ -49,7 +49,7 @@ resume_entry-requires g n c =
     let a = c.requires.stands in
     let u = g.P.Port.value c.args.port.now in
     let t = c.args.top in
-    let one = sym (back_one t.done c.if-top-eq0.false) in
+    let one = sym (back_one _ c.if-top-eq0.false) in
     record {
       frame = top_inside (subst (λ xs. Carries a.0 (g.P.Port.value c.args.port.now) c.args.owner xs) c.requires.top a.1);
       index = search rules;
@@ -69,42 +69,38 @@ returns-in_err-resume_entry g n c =
     let u = g.P.Port.value c.args.port.now in
     let w = g.P.Port.value c.resume_entry.new.port in
     let found = c.in_err-resume_entry.ensures.found in
-    let x = g.P.Port.value c.resume_entry.new.port in
     let answer = err_from_is_err_and c.from_residual.result c.from_residual.ensures.1 in
     let e = c.in_err-resume_entry.field-0.0 in
-    let t = c.args.top in
     let stopped = c.in_err-resume_entry.ensures in
     record {
-      came = serves_came (g.P.Port.value c.args.port.now) (g.P.Port.value c.resume_entry.new.port) (of_entries c.args.owner 0) _ (c.in_err-resume_entry.ensures.serves 0);
-      forward = resumes_forward (g.P.Port.value c.args.port.now) (g.P.Port.value c.resume_entry.new.port) c.args.owner c.requires.top c.requires.stands c.level_type.ensures _ c.if-top-eq0.false
+      came = serves_came _ _ (of_entries c.args.owner 0) _ (c.in_err-resume_entry.ensures.serves 0);
+      forward = resumes_forward _ _ _ c.requires.top c.requires.stands c.level_type.ensures _ c.if-top-eq0.false
           c.in_err-resume_entry.ensures.found;
-      leaves = λ e. resumes_well (g.P.Port.value c.args.port.now) (g.P.Port.value c.resume_entry.new.port) e c.args.top.frame (c.args.top.done - 1) c.level_type.result c.args.owner _ c.in_err-resume_entry.ensures.found;
+      leaves = λ e. resumes_well _ _ _ _ (c.args.top.done - 1) _ _ _ c.in_err-resume_entry.ensures.found;
       stands = λ v s. subst (λ xs. Carries v w c.args.owner xs) (sym c.requires.top)
-          (after_look w (subst (λ xs. Carries v u c.args.owner xs) c.requires.top s) (serves_came u w (of_entries c.args.owner 0) _ (c.in_err-resume_entry.ensures.serves 0))
-          (resumed_first u w c.args.top.frame (c.args.top.done - 1) c.level_type.result c.args.owner _ found) (c.args.top.done - 1) c.in_err-resume_entry.ensures.hand);
+          (after_look _ (subst (λ xs. Carries v u c.args.owner xs) c.requires.top s) (serves_came _ _ (of_entries c.args.owner 0) _ (c.in_err-resume_entry.ensures.serves 0))
+          (resumed_first _ _ _ (c.args.top.done - 1) _ _ _ found) (c.args.top.done - 1) c.in_err-resume_entry.ensures.hand);
       ready = search rules;
       kinds = search rules;
       outer = search rules;
       progress = search rules;
       less = search rules;
-      serves = goes_answer u x c.args.owner c.args.stack.now c.args.stack.now c.from_residual.result c.in_err-resume_entry.field-0.0 (answer.1 ∙ ap Err answer.2)
-          (goes_entries u x c.args.owner c.args.stack.now (missed u.post.machine c.in_err-resume_entry.field-0.0) c.in_err-resume_entry.ensures.serves);
-      stops = stops_answer u x c.args.owner c.args.stack.now c.from_residual.result e (answer.1 ∙ ap Err answer.2) (stops_entries u x c.args.owner c.args.stack.now e c.in_err-resume_entry.ensures.stops);
-      course = stopped_on c.args.owner u c.requires.top c.if-top-eq0.false x c.from_residual.result e (answer.1 ∙ ap Err answer.2)
-          (resumed_err u x c.args.owner t c.level_type.ensures e stopped.found stopped.plain stopped.stops);
+      serves = goes_answer _ _ _ _ _ _ c.in_err-resume_entry.field-0.0 (answer.1 ∙ ap Err answer.2)
+          (goes_entries _ _ _ _ (missed u.post.machine c.in_err-resume_entry.field-0.0) c.in_err-resume_entry.ensures.serves);
+      stops = stops_answer _ _ _ _ _ _ (answer.1 ∙ ap Err answer.2) (stops_entries _ _ _ _ _ c.in_err-resume_entry.ensures.stops);
+      course = stopped_on _ _ c.requires.top c.if-top-eq0.false _ _ _ (answer.1 ∙ ap Err answer.2)
+          (resumed_err _ _ _ _ c.level_type.ensures _ stopped.found stopped.plain stopped.stops);
     }
 
 -- ---- it is settled
 
 pub returns-in-Settled : goal.returns-in-Settled
 returns-in-Settled g n c =
-    let u = g.P.Port.value c.args.port.now in
-    let x = g.P.Port.value c.resume_entry.new.port in
     let e = c.in_ok-resume_entry.ensures in
-    let said = said_again u x c.args.owner c.args.top c.level_type.result c.level_type.ensures c.in_ok-resume_entry.field-0 again.Settled c.in-Settled.is e.found e.plain e.shows e.serves e.hand in
+    let said = said_again _ _ _ _ _ c.level_type.ensures c.in_ok-resume_entry.field-0 again.Settled c.in-Settled.is e.found e.plain e.shows e.serves e.hand in
     record {
-      came = serves_came u x (of_entries c.args.owner 0) [] (e.serves 0);
-      forward = again_forward said c.args.stack.now c.requires.top c.requires.stands c.if-top-eq0.false;
+      came = serves_came _ _ (of_entries c.args.owner 0) [] (e.serves 0);
+      forward = again_forward said _ c.requires.top c.requires.stands c.if-top-eq0.false;
       leaves = again_well said;
       stands = settled_stands c.requires.top said;
       ready = settled_ready c.requires.top said c.requires.stands;
@@ -112,19 +108,17 @@ returns-in-Settled g n c =
       outer = refl;
       progress = search rules;
       less = search rules;
-      serves = goes_entries u x c.args.owner c.args.stack.now [] e.serves;
+      serves = goes_entries _ _ _ _ [] e.serves;
       stops = tt;
-      course = settled_on c.args.owner u c.requires.top c.if-top-eq0.false x said.entry;
+      course = settled_on _ _ c.requires.top c.if-top-eq0.false _ said.entry;
     }
 
 -- ---- its frame was live
 
 pub give_back-requires : goal.give_back-requires
 give_back-requires g n c =
-    let u = g.P.Port.value c.args.port.now in
-    let x = g.P.Port.value c.resume_entry.new.port in
     let e = c.in_ok-resume_entry.ensures in
-    let said = said_again u x c.args.owner c.args.top c.level_type.result c.level_type.ensures c.in_ok-resume_entry.field-0 (again.Taken c.in-Taken.frame) c.in-Taken.is e.found e.plain e.shows e.serves e.hand in
+    let said = said_again _ _ _ _ _ c.level_type.ensures c.in_ok-resume_entry.field-0 (again.Taken c.in-Taken.frame) c.in-Taken.is e.found e.plain e.shows e.serves e.hand in
     record {
       frame = took_inside c.requires.top c.if-top-eq0.false said;
       may = search rules;
@@ -133,34 +127,30 @@ give_back-requires g n c =
 
 pub returns-in-Taken : goal.returns-in-Taken
 returns-in-Taken g n c =
-    let u = g.P.Port.value c.args.port.now in
-    let x = g.P.Port.value c.resume_entry.new.port in
     let e = c.in_ok-resume_entry.ensures in
-    let said = said_again u x c.args.owner c.args.top c.level_type.result c.level_type.ensures c.in_ok-resume_entry.field-0 (again.Taken c.in-Taken.frame) c.in-Taken.is e.found e.plain e.shows e.serves e.hand in
+    let said = said_again _ _ _ _ _ c.level_type.ensures c.in_ok-resume_entry.field-0 (again.Taken c.in-Taken.frame) c.in-Taken.is e.found e.plain e.shows e.serves e.hand in
     record {
-      came = again_then said (g.P.Port.value c.give_back.new.port) c.give_back.ensures.came;
-      forward = forward_then u x (g.P.Port.value c.give_back.new.port) (again_forward said c.args.stack.now c.requires.top c.requires.stands c.if-top-eq0.false) c.give_back.ensures.forward;
-      leaves = λ f. well_then u x (g.P.Port.value c.give_back.new.port) false f (again_well said f) (c.give_back.ensures.leaves f);
-      stands = took_stands c.requires.top c.if-top-eq0.false said (g.P.Port.value c.give_back.new.port) c.give_back.ensures.hand c.give_back.ensures.came;
-      ready = took_ready c.requires.top c.if-top-eq0.false said (g.P.Port.value c.give_back.new.port) c.give_back.ensures.hand c.give_back.ensures.came c.requires.stands;
+      came = again_then said _ c.give_back.ensures.came;
+      forward = forward_then _ _ _ (again_forward said _ c.requires.top c.requires.stands c.if-top-eq0.false) c.give_back.ensures.forward;
+      leaves = λ f. well_then _ _ _ false f (again_well said f) (c.give_back.ensures.leaves f);
+      stands = took_stands c.requires.top c.if-top-eq0.false said _ c.give_back.ensures.hand c.give_back.ensures.came;
+      ready = took_ready c.requires.top c.if-top-eq0.false said _ c.give_back.ensures.hand c.give_back.ensures.came c.requires.stands;
       kinds = search rules;
       outer = search rules;
-      progress = λ is. let said = said_again u x c.args.owner c.args.top c.level_type.result c.level_type.ensures c.in_ok-resume_entry.field-0 (again.Taken c.in-Taken.frame) c.in-Taken.is e.found e.plain e.shows e.serves e.hand in
-          took_progress c.requires.top c.if-top-eq0.false said (g.P.Port.value c.give_back.new.port) c.give_back.ensures.came;
+      progress = λ is. let said = said_again _ _ _ _ _ c.level_type.ensures c.in_ok-resume_entry.field-0 (again.Taken c.in-Taken.frame) c.in-Taken.is e.found e.plain e.shows e.serves e.hand in
+          took_progress c.requires.top c.if-top-eq0.false said _ c.give_back.ensures.came;
       less = search rules;
-      serves = took_serves c.requires.top c.if-top-eq0.false said (g.P.Port.value c.give_back.new.port) c.give_back.ensures.serves;
+      serves = took_serves c.requires.top c.if-top-eq0.false said _ c.give_back.ensures.serves;
       stops = search rules;
-      course = taken_on c.args.owner u c.requires.top c.if-top-eq0.false x (g.P.Port.value c.give_back.new.port) c.in-Taken.frame said.entry c.give_back.ensures.course;
+      course = taken_on _ _ c.requires.top c.if-top-eq0.false _ _ _ said.entry c.give_back.ensures.course;
     }
 
 -- ---- it names a table that was left unfinished
 
 pub push-requires-clause-table : goal.push-requires-clause-table
 push-requires-clause-table g n c =
-    let u = g.P.Port.value c.args.port.now in
-    let x = g.P.Port.value c.resume_entry.new.port in
     let e = c.in_ok-resume_entry.ensures in
-    let said = said_again u x c.args.owner c.args.top c.level_type.result c.level_type.ensures c.in_ok-resume_entry.field-0 (again.Opened c.in-Opened.frame c.in-Opened.progress) c.in-Opened.is e.found e.plain e.shows e.serves e.hand in
+    let said = said_again _ _ _ _ _ c.level_type.ensures c.in_ok-resume_entry.field-0 (again.Opened c.in-Opened.frame c.in-Opened.progress) c.in-Opened.is e.found e.plain e.shows e.serves e.hand in
     opened_table c.requires.top c.if-top-eq0.false said c.requires.stands
 
 pub take_on-requires : goal.take_on-requires
@@ -212,10 +202,8 @@ returns-in-Opened g n c =
 
 pub leave_shared-requires : goal.leave_shared-requires
 leave_shared-requires g n c =
-    let u = g.P.Port.value c.args.port.now in
-    let x = g.P.Port.value c.resume_entry.new.port in
     let e = c.in_ok-resume_entry.ensures in
-    let said = said_again u x c.args.owner c.args.top c.level_type.result c.level_type.ensures c.in_ok-resume_entry.field-0 (again.Waiting c.in-Waiting.frame c.in-Waiting.stamp c.in-Waiting.stop) c.in-Waiting.is e.found e.plain e.shows e.serves e.hand in
+    let said = said_again _ _ _ _ _ c.level_type.ensures c.in_ok-resume_entry.field-0 (again.Waiting c.in-Waiting.frame c.in-Waiting.stamp c.in-Waiting.stop) c.in-Waiting.is e.found e.plain e.shows e.serves e.hand in
     record {
       frame = waited_inside c.requires.top c.if-top-eq0.false said c.requires.stands;
       may = search rules;
@@ -224,22 +212,20 @@ leave_shared-requires g n c =
 
 pub returns-in-Waiting : goal.returns-in-Waiting
 returns-in-Waiting g n c =
-    let u = g.P.Port.value c.args.port.now in
-    let x = g.P.Port.value c.resume_entry.new.port in
     let e = c.in_ok-resume_entry.ensures in
-    let said = said_again u x c.args.owner c.args.top c.level_type.result c.level_type.ensures c.in_ok-resume_entry.field-0 (again.Waiting c.in-Waiting.frame c.in-Waiting.stamp c.in-Waiting.stop) c.in-Waiting.is e.found e.plain e.shows e.serves e.hand in
+    let said = said_again _ _ _ _ _ c.level_type.ensures c.in_ok-resume_entry.field-0 (again.Waiting c.in-Waiting.frame c.in-Waiting.stamp c.in-Waiting.stop) c.in-Waiting.is e.found e.plain e.shows e.serves e.hand in
     record {
-      came = again_then said (g.P.Port.value c.leave_shared.new.port) c.leave_shared.ensures.came;
-      forward = shared_forward c.requires.top c.if-top-eq0.false said c.requires.stands c.level_type-in-Waiting.ensures (g.P.Port.value c.leave_shared.new.port) c.leave_shared.ensures.visits;
-      leaves = shared_well c.requires.top c.if-top-eq0.false said c.requires.stands c.level_type-in-Waiting.ensures (g.P.Port.value c.leave_shared.new.port) c.leave_shared.ensures.visits;
-      stands = waited_stands c.requires.top c.if-top-eq0.false said c.requires.stands c.level_type-in-Waiting.ensures (g.P.Port.value c.leave_shared.new.port) c.leave_shared.ensures.came c.leave_shared.ensures.hand;
+      came = again_then said _ c.leave_shared.ensures.came;
+      forward = shared_forward c.requires.top c.if-top-eq0.false said c.requires.stands c.level_type-in-Waiting.ensures _ c.leave_shared.ensures.visits;
+      leaves = shared_well c.requires.top c.if-top-eq0.false said c.requires.stands c.level_type-in-Waiting.ensures _ c.leave_shared.ensures.visits;
+      stands = waited_stands c.requires.top c.if-top-eq0.false said c.requires.stands c.level_type-in-Waiting.ensures _ c.leave_shared.ensures.came c.leave_shared.ensures.hand;
       ready = search rules;
       kinds = waited_kinds c.requires.top c.if-top-eq0.false said c.requires.stands;
       outer = search rules;
       progress = search rules;
       less = search rules;
-      serves = waited_serves c.requires.top c.if-top-eq0.false said c.requires.stands c.level_type-in-Waiting.ensures (g.P.Port.value c.leave_shared.new.port) c.leave_shared.ensures.came c.leave_shared.ensures.serves;
-      stops = waited_stops c.requires.top c.if-top-eq0.false said c.requires.stands c.level_type-in-Waiting.ensures (g.P.Port.value c.leave_shared.new.port) c.leave_shared.ensures.came;
-      course = waiting_on c.args.owner u c.requires.top c.if-top-eq0.false x (g.P.Port.value c.leave_shared.new.port) c.in-Waiting.frame c.in-Waiting.stamp c.in-Waiting.stop said.entry
-          (shared_left x (g.P.Port.value c.leave_shared.new.port) c.in-Waiting.frame (c.args.top.level - 1) c.level_type-in-Waiting.result c.level_type-in-Waiting.ensures c.in-Waiting.stamp c.leave_shared.ensures.visits);
+      serves = waited_serves c.requires.top c.if-top-eq0.false said c.requires.stands c.level_type-in-Waiting.ensures _ c.leave_shared.ensures.came c.leave_shared.ensures.serves;
+      stops = waited_stops c.requires.top c.if-top-eq0.false said c.requires.stands c.level_type-in-Waiting.ensures _ c.leave_shared.ensures.came;
+      course = waiting_on _ _ c.requires.top c.if-top-eq0.false _ _ _ _ _ said.entry
+          (shared_left _ _ _ (c.args.top.level - 1) _ c.level_type-in-Waiting.ensures _ c.leave_shared.ensures.visits);
     }

@@ -49,7 +49,6 @@ take_entry-requires g c =
 pub returns-in_err-take_entry : goal.returns-in_err-take_entry
 returns-in_err-take_entry g c =
     let u = g.P.Port.value c.args.port.now in
-    let t = c.in-Some.top in
     let owner = c.args.owner in
     let is = c.in-Some.ensures.some in
     let x = g.P.Port.value c.take_entry.new.port in
@@ -58,21 +57,21 @@ returns-in_err-take_entry g c =
     let e = c.in_err-take_entry.field-0.0 in
     let stopped = c.in_err-take_entry.ensures in
     record {
-      came = serves_came (g.P.Port.value c.args.port.now) (g.P.Port.value c.take_entry.new.port) (of_entries c.args.owner 0) _ (c.in_err-take_entry.ensures.serves 0);
-      forward = enters_forward (g.P.Port.value c.args.port.now) (g.P.Port.value c.take_entry.new.port) c.args.owner c.in-Some.ensures.some c.requires.stands c.level_type.ensures _ c.in_err-take_entry.ensures.found;
-      leaves = λ e. enters_well (g.P.Port.value c.args.port.now) (g.P.Port.value c.take_entry.new.port) e c.in-Some.top.frame c.in-Some.top.done c.level_type.result c.args.owner _ c.in_err-take_entry.ensures.found;
+      came = serves_came _ _ (of_entries c.args.owner 0) _ (c.in_err-take_entry.ensures.serves 0);
+      forward = enters_forward _ _ _ c.in-Some.ensures.some c.requires.stands c.level_type.ensures _ c.in_err-take_entry.ensures.found;
+      leaves = λ e. enters_well _ _ _ c.in-Some.top.frame c.in-Some.top.done _ _ _ c.in_err-take_entry.ensures.found;
       stands = λ v s. let s0 = subst (λ xs. Carries v u owner xs) is s in
-          subst (λ xs. Carries v x owner xs) (sym is) (after_look x s0 (serves_came u x (of_entries owner 0) _ (c.in_err-take_entry.ensures.serves 0)) (entered_first u x _ _ _ _ _ found) t.done c.in_err-take_entry.ensures.hand);
+          subst (λ xs. Carries v x owner xs) (sym is) (after_look _ s0 (serves_came _ _ (of_entries owner 0) _ (c.in_err-take_entry.ensures.serves 0)) (entered_first _ _ _ _ _ _ _ found) _ c.in_err-take_entry.ensures.hand);
       ready = search rules;
       kinds = search rules;
       outer = search rules;
       progress = search rules;
       less = search rules;
-      serves = goes_answer u x c.args.owner c.args.stack.now c.args.stack.now c.from_residual.result c.in_err-take_entry.field-0.0 (answer.1 ∙ ap Err answer.2)
-          (goes_entries u x c.args.owner c.args.stack.now (missed u.post.machine c.in_err-take_entry.field-0.0) c.in_err-take_entry.ensures.serves);
-      stops = stops_answer u x c.args.owner c.args.stack.now c.from_residual.result e (answer.1 ∙ ap Err answer.2) (stops_entries u x c.args.owner c.args.stack.now e c.in_err-take_entry.ensures.stops);
-      course = stopped_next c.args.owner u c.in-Some.ensures.some c.requires.left x c.from_residual.result e (answer.1 ∙ ap Err answer.2)
-          (entered_err u x c.args.owner t c.level_type.ensures e stopped.found stopped.plain stopped.stops);
+      serves = goes_answer _ _ _ _ _ _ c.in_err-take_entry.field-0.0 (answer.1 ∙ ap Err answer.2)
+          (goes_entries _ _ _ _ (missed u.post.machine c.in_err-take_entry.field-0.0) c.in_err-take_entry.ensures.serves);
+      stops = stops_answer _ _ _ _ _ _ (answer.1 ∙ ap Err answer.2) (stops_entries _ _ _ _ _ c.in_err-take_entry.ensures.stops);
+      course = stopped_next _ _ c.in-Some.ensures.some c.requires.left _ _ _ (answer.1 ∙ ap Err answer.2)
+          (entered_err _ _ _ _ c.level_type.ensures _ stopped.found stopped.plain stopped.stops);
     }
 
 pub push-requires-clause-table : goal.push-requires-clause-table
@@ -85,13 +84,13 @@ push-requires-clause-table g c =
     let s0 = subst (λ xs. Carries a.0 u owner xs) is a.1 in
     let x = g.P.Port.value c.take_entry.new.port in
     let found = c.in_ok-take_entry.ensures.found in
-    let came = serves_came u x (of_entries owner 0) [] (c.in_ok-take_entry.ensures.serves 0) in
-    let first = entered_first u x _ _ _ _ _ found in
+    let came = serves_came _ _ (of_entries owner 0) [] (c.in_ok-take_entry.ensures.serves 0) in
+    let first = entered_first _ _ _ _ _ _ _ found in
     let room : 0 < 512 - t.done = subst (λ xs. 0 < left_on_top xs) is c.requires.left in
     let left = subst (λ k. LeavesEntered u x t.frame k t.done owner (entered.Opened c.in-Opened.frame c.in-Opened.progress c.in-Opened.own)) c.level_type.ensures (subst (λ r. LeavesEntered u x t.frame c.level_type.result t.done owner r) c.in-Opened.is c.in_ok-take_entry.ensures.hand) in
     let way = subst (λ k. EntersFound u x t.frame t.done k owner (Ok (entered.Opened c.in-Opened.frame c.in-Opened.progress c.in-Opened.own))) c.level_type.ensures (subst (λ r. EntersFound u x t.frame t.done c.level_type.result owner (Ok r)) c.in-Opened.is found) in
-    let came_open = opened_found u x t.frame t.done (level_type t.level) owner c.in-Opened.frame c.in-Opened.progress c.in-Opened.own way in
-    (after_next x s0 came first c.in-Opened.frame c.in-Opened.progress c.in-Opened.own (omega (arith, room)) c.requires.ready came_open left).stack.0
+    let came_open = opened_found _ _ _ _ (level_type t.level) _ _ _ _ way in
+    (after_next _ s0 came first _ _ _ (omega (arith, room)) c.requires.ready came_open left).stack.0
 
 pub take_on-requires : goal.take_on-requires
 take_on-requires g c =
@@ -125,8 +124,8 @@ returns-in-Recorded g c =
     let is = c.in-Some.ensures.some in
     let x = g.P.Port.value c.take_entry.new.port in
     let found = c.in_ok-take_entry.ensures.found in
-    let came = serves_came u x (of_entries owner 0) [] (c.in_ok-take_entry.ensures.serves 0) in
-    let first = entered_first u x _ _ _ _ _ found in
+    let came = serves_came _ _ (of_entries owner 0) [] (c.in_ok-take_entry.ensures.serves 0) in
+    let first = entered_first _ _ _ _ _ _ _ found in
     let room : 0 < 512 - t.done = subst (λ xs. 0 < left_on_top xs) is c.requires.left in
     let left = subst (λ k. LeavesEntered u x t.frame k t.done owner entered.Recorded) c.level_type.ensures (subst (λ r. LeavesEntered u x t.frame c.level_type.result t.done owner r) c.in-Recorded.is c.in_ok-take_entry.ensures.hand) in
     let a = c.requires.stands in
@@ -134,20 +133,20 @@ returns-in-Recorded g c =
     let answer = c.in_ok-take_entry.ensures in
     record {
       came = came;
-      forward = enters_forward (g.P.Port.value c.args.port.now) (g.P.Port.value c.take_entry.new.port) c.args.owner c.in-Some.ensures.some c.requires.stands c.level_type.ensures _ c.in_ok-take_entry.ensures.found;
-      leaves = λ e. enters_well (g.P.Port.value c.args.port.now) (g.P.Port.value c.take_entry.new.port) e c.in-Some.top.frame c.in-Some.top.done c.level_type.result c.args.owner _ c.in_ok-take_entry.ensures.found;
+      forward = enters_forward _ _ _ c.in-Some.ensures.some c.requires.stands c.level_type.ensures _ c.in_ok-take_entry.ensures.found;
+      leaves = λ e. enters_well _ _ e c.in-Some.top.frame c.in-Some.top.done _ _ _ c.in_ok-take_entry.ensures.found;
       stands = λ v s. let s0 = subst (λ xs. Carries v u owner xs) is s in
-          subst (λ xs. Carries v x owner xs) (sym (c.advance.ensures.advanced ∙ ap advanced is)) (after_record x s0 came first None room left);
-      ready = after_record_ready x s0 came first left;
+          subst (λ xs. Carries v x owner xs) (sym (c.advance.ensures.advanced ∙ ap advanced is)) (after_record _ s0 came first None room left);
+      ready = after_record_ready _ s0 came first left;
       kinds = search rules;
       outer = search rules;
       progress = λ same. subst (λ r. ShowsEntered u x c.args.owner 0 c.level_type.result r) c.in-Recorded.is (c.in_ok-take_entry.ensures.shows 0);
       less = search rules;
       serves = subst (λ xs. CarriesOn u x c.args.owner c.args.stack.now xs []) (sym c.advance.ensures.advanced)
-          (goes_advanced u x c.args.owner c.args.stack.now c.args.stack.now [] (goes_entries u x c.args.owner c.args.stack.now [] c.in_ok-take_entry.ensures.serves));
+          (goes_advanced _ _ _ _ _ [] (goes_entries _ _ _ _ [] c.in_ok-take_entry.ensures.serves));
       stops = search rules;
-      course = recorded_next c.args.owner u c.in-Some.ensures.some c.requires.left x c.advance.new.self c.advance.ensures.advanced
-          (entered_ok u x c.args.owner t c.level_type.ensures c.in_ok-take_entry.field-0 entered.Recorded c.in-Recorded.is answer.found answer.plain answer.shows);
+      course = recorded_next _ _ c.in-Some.ensures.some c.requires.left _ _ c.advance.ensures.advanced
+          (entered_ok _ _ _ _ c.level_type.ensures c.in_ok-take_entry.field-0 entered.Recorded c.in-Recorded.is answer.found answer.plain answer.shows);
     }
 
 pub returns-in-Opened : goal.returns-in-Opened
@@ -208,8 +207,8 @@ returns-in-Unsettled g c =
     let is = c.in-Some.ensures.some in
     let x = g.P.Port.value c.take_entry.new.port in
     let found = c.in_ok-take_entry.ensures.found in
-    let came = serves_came u x (of_entries owner 0) [] (c.in_ok-take_entry.ensures.serves 0) in
-    let first = entered_first u x _ _ _ _ _ found in
+    let came = serves_came _ _ (of_entries owner 0) [] (c.in_ok-take_entry.ensures.serves 0) in
+    let first = entered_first _ _ _ _ _ _ _ found in
     let room : 0 < 512 - t.done = subst (λ xs. 0 < left_on_top xs) is c.requires.left in
     let left = subst (λ k. LeavesEntered u x t.frame k t.done owner (entered.Unsettled c.in-Unsettled.stop)) c.level_type.ensures (subst (λ r. LeavesEntered u x t.frame c.level_type.result t.done owner r) c.in-Unsettled.is c.in_ok-take_entry.ensures.hand) in
     let stack = c.args.stack.now in
@@ -218,21 +217,19 @@ returns-in-Unsettled g c =
     let answer = c.in_ok-take_entry.ensures in
     record {
       came = came;
-      forward = enters_forward (g.P.Port.value c.args.port.now) (g.P.Port.value c.take_entry.new.port) c.args.owner c.in-Some.ensures.some c.requires.stands c.level_type.ensures _ c.in_ok-take_entry.ensures.found;
-      leaves = λ e. enters_well (g.P.Port.value c.args.port.now) (g.P.Port.value c.take_entry.new.port) e c.in-Some.top.frame c.in-Some.top.done c.level_type.result c.args.owner _ c.in_ok-take_entry.ensures.found;
+      forward = enters_forward _ _ _ c.in-Some.ensures.some c.requires.stands c.level_type.ensures _ c.in_ok-take_entry.ensures.found;
+      leaves = λ e. enters_well _ _ _ c.in-Some.top.frame c.in-Some.top.done _ _ _ c.in_ok-take_entry.ensures.found;
       stands = λ v s. let s0 = subst (λ xs. Carries v u owner xs) is s in
-          subst (λ xs. Carries v x owner xs) (sym (c.advance-in-Unsettled.ensures.advanced ∙ ap advanced is)) (after_record x s0 came first left.0 room left.1);
+          subst (λ xs. Carries v x owner xs) (sym (c.advance-in-Unsettled.ensures.advanced ∙ ap advanced is)) (after_record _ s0 came first left.0 room left.1);
       ready = search rules;
-      kinds = wait_stops c.in-Unsettled.stop (subst (λ r. ShowsEntered u x owner 0 c.level_type.result r) c.in-Unsettled.is (c.in_ok-take_entry.ensures.shows 0)).1;
+      kinds = wait_stops _ (subst (λ r. ShowsEntered u x owner 0 c.level_type.result r) c.in-Unsettled.is (c.in_ok-take_entry.ensures.shows 0)).1;
       outer = search rules;
       progress = search rules;
       less = search rules;
       serves = subst (λ xs. CarriesOn u x owner stack xs (missed u.post.machine c.in-Unsettled.stop)) (sym c.advance-in-Unsettled.ensures.advanced)
-          (goes_waiting u x owner stack (advanced stack) c.in-Unsettled.stop shows.1 (goes_advanced u x owner stack stack [] (goes_entries u x owner stack [] c.in_ok-take_entry.ensures.serves)));
+          (goes_waiting _ _ _ _ (advanced stack) _ shows.1 (goes_advanced _ _ _ _ _ [] (goes_entries _ _ _ _ [] c.in_ok-take_entry.ensures.serves)));
       stops = let shows = λ (pages : ℕ). subst (λ r. ShowsEntered u x owner pages c.level_type.result r) c.in-Unsettled.is (c.in_ok-take_entry.ensures.shows pages) in
-          stops_entries u x owner c.args.stack.now c.in-Unsettled.stop (λ pages. (shows pages).2);
-      course = unsettled_next c.args.owner u c.in-Some.ensures.some c.requires.left x c.advance-in-Unsettled.new.self e c.advance-in-Unsettled.ensures.advanced
-          (entered_ok u x c.args.owner t c.level_type.ensures c.in_ok-take_entry.field-0 (entered.Unsettled e) c.in-Unsettled.is answer.found answer.plain answer.shows);
+          stops_entries _ _ _ _ _ (λ pages. (shows pages).2);
+      course = unsettled_next _ _ c.in-Some.ensures.some c.requires.left _ _ _ c.advance-in-Unsettled.ensures.advanced
+          (entered_ok _ _ _ _ c.level_type.ensures c.in_ok-take_entry.field-0 (entered.Unsettled e) c.in-Unsettled.is answer.found answer.plain answer.shows);
     }
-
--- ---- its part of the course

@@ -21,22 +21,20 @@ pub returns-in-Some : goal.returns-in-Some
 unfolding CarriesOn
 returns-in-Some g c =
     let w = g.P.Port.value c.args.port.now in
-    let d = g.P.Port.value c.leave_partial.new.port in
     let x = g.P.Port.value c.record_entry.new.port in
     let t = c.args.table in
-    let came = came_trans w d x (moves_came w d _ _ _ _ c.leave_partial.result c.leave_partial.ensures.moves) (moves_came d x _ _ _ _ c.record_entry.result c.record_entry.ensures.moves) in
+    let came = came_trans _ _ _ (moves_came _ _ _ _ _ _ _ c.leave_partial.ensures.moves) (moves_came _ _ _ _ _ _ _ c.record_entry.ensures.moves) in
     let b = c.requires.stands in
     let ts = c.args.stack.now in
-    let o = c.in-Some.outer in
     let spelled = top_spelled b.1.1 false (λ on. absurd cc) in
     record {
-      came = came_trans w d x (moves_came w d _ _ _ _ c.leave_partial.result c.leave_partial.ensures.moves) (moves_came d x _ _ _ _ c.record_entry.result c.record_entry.ensures.moves);
-      forward = forward_then w d x (forward_step w d _ _ _ _ c.leave_partial.result refl refl c.leave_partial.ensures.moves) (forward_step d x _ _ _ _ c.record_entry.result refl refl c.record_entry.ensures.moves);
-      leaves = λ f. well_then w d x false f (unkept_well b.1.0 w b.0 c.args.table d c.leave_partial.result c.args.stack.now false f b.1.1 c.leave_partial.ensures.moves) (well_step d x false f _ _ _ _ c.record_entry.result refl c.record_entry.ensures.moves);
+      came = came_trans _ _ _ (moves_came _ _ _ _ _ _ _ c.leave_partial.ensures.moves) (moves_came _ _ _ _ _ _ _ c.record_entry.ensures.moves);
+      forward = forward_then _ _ _ (forward_step _ _ _ _ _ _ _ refl refl c.leave_partial.ensures.moves) (forward_step _ _ _ _ _ _ _ refl refl c.record_entry.ensures.moves);
+      leaves = λ f. well_then _ _ _ false f (unkept_well b.1.0 _ b.0 _ _ _ _ false f b.1.1 c.leave_partial.ensures.moves) (well_step _ _ false f _ _ _ _ _ refl c.record_entry.ensures.moves);
       stands = λ owner v s. subst (λ ts. Carries v x owner ts) (sym c.in-Some.ensures.some)
           (own_stands (subst (λ ts. Carries v w owner (t ∷ ts)) c.in-Some.ensures.some s) c.requires.own (own_new s c.requires.own)
           c.leave_partial.ensures.moves c.leave_partial.ensures.hand x c.record_entry.ensures.hand came);
-      serves = λ owner u r ds a. let left = piece_left b.1.1 _ spelled refl c.leave_partial.ensures.moves u r owner ts ds a in
-          piece_rest u x r owner t ts ds (piece_records x left o.frame o.done c.record_entry.result c.record_entry.ensures.moves);
+      serves = λ owner u r ds a. let left = piece_left b.1.1 _ spelled refl c.leave_partial.ensures.moves u r owner _ ds a in
+          piece_rest u _ r owner _ _ ds (piece_records _ left _ _ _ c.record_entry.ensures.moves);
       course = search rules;
     }

@@ -3,7 +3,7 @@ use Rattle.level_validate.proofs.Unwound.{Unwinding, unwinding_begins, unwinding
 use Rattle.level_validate.proofs.unwinding.unwind.Goals as goal
 
 pub loop-table-init : goal.loop-table-init
-loop-table-init g c = unwinding_begins (g.P.Port.value c.args.port.now) c.args.owner c.args.kept c.args.stack.now
+loop-table-init g c = unwinding_begins _ _ _ _
 
 pub loop-table-preserved : goal.loop-table-preserved
 loop-table-preserved g c =
