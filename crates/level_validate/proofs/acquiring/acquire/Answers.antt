@@ -19,14 +19,12 @@ use Rattle.level_validate.proofs.acquiring.acquire.Goals as goal
 
 pub returns-in_err-frame : goal.returns-in_err-frame
 returns-in_err-frame g c =
-    let v = g.P.Port.value c.args.port.now in
     let e = c.in_err-frame.field-0.0 in
     let answer = err_from_is_err_and c.from_residual.result c.from_residual.ensures.1 in
-    let stopped = c.in_err-frame.ensures in
     record {
       frame = search rules;
       serves = λ pages. serves_as _ _ _ _ _ pages _ _ (answer.1 ∙ ap Err answer.2)
-          (plain_acquired _ _ _ _ _ pages (Err e) (reference_serves _ _ _ _ pages (is_due_stop e) _ (missed v.post.machine e) c.in_err-frame.ensures.serves));
+          (plain_acquired _ _ _ _ _ pages (Err e) (reference_serves _ _ _ _ pages (is_due_stop e) _ (missed (g.P.Port.value c.args.port.now).post.machine e) c.in_err-frame.ensures.serves));
       stops = λ pages. stops_as _ _ _ _ _ pages _ _ (answer.1 ∙ ap Err answer.2)
           (reference_stops _ _ _ _ pages (is_due_stop e) _ _ c.in_err-frame.ensures.stops);
       kinds = search rules;
@@ -38,7 +36,7 @@ returns-in_err-frame g c =
       says = search rules;
       paces = search rules;
       calm = search rules;
-      course = unreferred_by _ _ _ _ _ _ _ _ _ _ (answer.1 ∙ ap Err answer.2) stopped.kinds stopped.gets stopped.plain stopped.stops;
+      course = unreferred_by _ _ _ _ _ _ _ _ _ _ (answer.1 ∙ ap Err answer.2) c.in_err-frame.ensures.kinds c.in_err-frame.ensures.gets c.in_err-frame.ensures.plain c.in_err-frame.ensures.stops;
     }
 
 -- ---- its type
@@ -64,8 +62,6 @@ returns-in-Ok-Counted g c =
     let b = g.P.Port.value c.get_ref.new.port in
     let h = c.in_ok-frame.frame in
     let taken : TakesAs b x h c.args.owner c.level_type.result Counted = subst (λ t. TakesAs b x h c.args.owner c.level_type.result t) c.in-Ok-Counted.field-0-is c.in-Ok-Counted.ensures.hand in
-    let got = c.in_ok-frame.ensures in
-    let took = c.in-Ok-Counted in
     record {
       frame = search rules;
       serves = λ pages. plain_acquired v x c.args.f c.args.owner c.args.level pages (Ok c.in_ok-frame.frame)
@@ -80,8 +76,8 @@ returns-in-Ok-Counted g c =
       says = search rules;
       paces = search rules;
       calm = search rules;
-      course = counted_by v c.args.f c.args.owner c.args.level _ _ _ b got.frame.0 got.gets got.plain x c.level_type.ensures
-          took.field-0 took.ensures.found took.ensures.plain took.ensures.waits took.field-0-is;
+      course = counted_by v c.args.f c.args.owner c.args.level _ _ _ b c.in_ok-frame.ensures.frame.0 c.in_ok-frame.ensures.gets c.in_ok-frame.ensures.plain x c.level_type.ensures
+          c.in-Ok-Counted.field-0 c.in-Ok-Counted.ensures.found c.in-Ok-Counted.ensures.plain c.in-Ok-Counted.ensures.waits c.in-Ok-Counted.field-0-is;
     }
 
 -- ---- its type is not to be had
@@ -95,8 +91,6 @@ returns-in-Err g c =
     let x = g.P.Port.value c.take_type.new.port in
     let before = had_forward v b x c.args.f c.args.owner c.args.level c.get_ref.result c.get_ref.ensures.gets c.in_ok-frame.frame c.level_type.ensures c.take_type.result c.take_type.ensures.found in
     let kept = not (is_refused c.in-Err.stop) in
-    let got = c.in_ok-frame.ensures in
-    let stopped = c.in-Err.ensures in
     record {
       frame = search rules;
       serves = λ pages. plain_acquired v w c.args.f c.args.owner c.args.level pages (Err e)
@@ -114,8 +108,8 @@ returns-in-Err g c =
       says = search rules;
       paces = search rules;
       calm = search rules;
-      course = untyped_by v c.args.f c.args.owner c.args.level _ _ _ b got.frame.0 got.gets got.plain x c.level_type.ensures
-          (g.P.Port.value c.put_ref.new.port) c.in-Err.stop stopped.kinds stopped.found stopped.plain stopped.stops c.put_ref.ensures.puts c.put_ref.ensures.plain;
+      course = untyped_by v c.args.f c.args.owner c.args.level _ _ _ b c.in_ok-frame.ensures.frame.0 c.in_ok-frame.ensures.gets c.in_ok-frame.ensures.plain x c.level_type.ensures
+          (g.P.Port.value c.put_ref.new.port) c.in-Err.stop c.in-Err.ensures.kinds c.in-Err.ensures.found c.in-Err.ensures.plain c.in-Err.ensures.stops c.put_ref.ensures.puts c.put_ref.ensures.plain;
     }
 
 -- ---- it waits for a flush
@@ -134,7 +128,6 @@ returns-in-Ok-Waiting g c =
     let stamp = c.in-Ok-Waiting.stamp in
     let waits : TakesAs b x h c.args.owner c.level_type.result (Waiting own stamp c.in-Ok-Waiting.stop) = subst (λ t. TakesAs b x h c.args.owner c.level_type.result t) c.in-Ok-Waiting.field-0-is c.in-Ok-Waiting.ensures.hand in
     let before = had_forward v b x c.args.f c.args.owner c.args.level c.get_ref.result c.get_ref.ensures.gets c.in_ok-frame.frame c.level_type.ensures c.take_type.result c.take_type.ensures.found in
-    let got = c.in_ok-frame.ensures in
     let took = c.in-Ok-Waiting in
     record {
       frame = search rules;
@@ -155,7 +148,7 @@ returns-in-Ok-Waiting g c =
       says = search rules;
       paces = search rules;
       calm = search rules;
-      course = waiting_by v c.args.f c.args.owner c.args.level _ _ _ b got.frame.0 got.gets got.plain x c.level_type.ensures
+      course = waiting_by v c.args.f c.args.owner c.args.level _ _ _ b c.in_ok-frame.ensures.frame.0 c.in_ok-frame.ensures.gets c.in_ok-frame.ensures.plain x c.level_type.ensures
           took.field-0 took.ensures.found took.ensures.plain took.ensures.waits took.own took.stamp took.stop took.field-0-is (g.P.Port.value c.leave_waiting.new.port) c.is_paused.result c.is_paused.ensures c.leave_waiting.ensures.course;
     }
 
@@ -181,7 +174,6 @@ validate-requires g c =
 
 pub returns-in_ok-validate-in-Ok-InWork : goal.returns-in_ok-validate-in-Ok-InWork
 returns-in_ok-validate-in-Ok-InWork g c =
-    let v = g.P.Port.value c.args.port.now in
     let b = g.P.Port.value c.get_ref.new.port in
     let x = g.P.Port.value c.take_type.new.port in
     let h = c.in_ok-frame.frame in
@@ -191,7 +183,6 @@ returns-in_ok-validate-in-Ok-InWork g c =
     let found : TakesFound b x h c.args.owner c.level_type.result (Ok (InWork progress own)) = subst (λ t. TakesFound b x h c.args.owner c.level_type.result (Ok t)) c.in-Ok-InWork.field-0-is c.in-Ok-InWork.ensures.found in
     let carries = carries_taken _ _ _ _ _ _ _ _ _ c.requires.idle c.in_ok-frame.ensures.hand c.level_type.ensures c.requires.low c.requires.high c.in_ok-frame.ensures.frame.1 hand.1 found in
     let before = had_forward _ _ _ _ _ _ _ c.get_ref.ensures.gets c.in_ok-frame.frame c.level_type.ensures _ c.take_type.ensures.found in
-    let got = c.in_ok-frame.ensures in
     let took = c.in-Ok-InWork in
     record {
       frame = search rules;
@@ -203,13 +194,13 @@ returns-in_ok-validate-in-Ok-InWork g c =
       forward = forward_then _ _ _ before c.in_ok-validate-in-Ok-InWork.ensures.forward;
       leaves = well_then _ _ _ false _ (had_well _ _ _ _ _ _ _ c.get_ref.ensures.gets c.in_ok-frame.frame c.level_type.ensures _ c.take_type.ensures.found false _)
           (subst (λ h. LeftWell x (g.P.Port.value c.validate.new.port) false h) c.in_ok-frame.ensures.frame.0 c.in_ok-validate-in-Ok-InWork.ensures.leaves);
-      hand = c.in_ok-validate-in-Ok-InWork.ensures.hand v c.args.owner carries;
+      hand = c.in_ok-validate-in-Ok-InWork.ensures.hand (g.P.Port.value c.args.port.now) c.args.owner carries;
       gate = search rules;
       heard = search rules;
       says = search rules;
       paces = search rules;
       calm = search rules;
-      course = finished_by _ _ _ _ _ _ _ _ got.frame.0 got.gets got.plain _ c.level_type.ensures
+      course = finished_by _ _ _ _ _ _ _ _ c.in_ok-frame.ensures.frame.0 c.in_ok-frame.ensures.gets c.in_ok-frame.ensures.plain _ c.level_type.ensures
           took.field-0 took.ensures.found took.ensures.plain took.ensures.waits took.field-0-is (g.P.Port.value c.validate.new.port) _ _ c.in_ok-validate-in-Ok-InWork.ensures.course;
     }
 
@@ -230,7 +221,6 @@ returns-in_err-validate-in-Ok-InWork g c =
     let carries = carries_taken v b x h c.args.owner c.args.level progress own c.level_type.result c.requires.idle c.in_ok-frame.ensures.hand c.level_type.ensures c.requires.low c.requires.high c.in_ok-frame.ensures.frame.1 hand.1 found in
     let before = had_forward v b x c.args.f c.args.owner c.args.level c.get_ref.result c.get_ref.ensures.gets c.in_ok-frame.frame c.level_type.ensures c.take_type.result c.take_type.ensures.found in
     let kept = not (is_refused e) in
-    let got = c.in_ok-frame.ensures in
     let took = c.in-Ok-InWork in
     record {
       frame = search rules;
@@ -253,6 +243,6 @@ returns-in_err-validate-in-Ok-InWork g c =
       says = search rules;
       paces = search rules;
       calm = search rules;
-      course = unfinished_by v c.args.f c.args.owner c.args.level _ _ _ b got.frame.0 got.gets got.plain x c.level_type.ensures
+      course = unfinished_by v c.args.f c.args.owner c.args.level _ _ _ b c.in_ok-frame.ensures.frame.0 c.in_ok-frame.ensures.gets c.in_ok-frame.ensures.plain x c.level_type.ensures
           took.field-0 took.ensures.found took.ensures.plain took.ensures.waits took.field-0-is (g.P.Port.value c.validate.new.port) _ _ result e (answer.1 ∙ ap Err answer.2) c.in_err-validate-in-Ok-InWork.ensures.course;
     }

@@ -60,14 +60,10 @@ loop-port-preserved g c =
 
 pub returns-in_err-go_on : goal.returns-in_err-go_on
 returns-in_err-go_on g c =
-    let u = g.P.Port.value c.args.port.now in
-    let x = g.P.Port.value c.loop-port.port in
     let w = g.P.Port.value c.go_on.new.port in
-    let owner = c.args.owner in
     let r = c.from_residual-in_err-go_on.result in
     let answer = err_from_is_err_and r c.from_residual-in_err-go_on.ensures.1 in
     let e = c.in_err-go_on.field-0.0 in
-    let i = c.loop-port.invariant in
     record {
       came = filling_came c.loop-port.invariant.tables (g.P.Port.value c.go_on.new.port) c.go_on.new.stack c.in_err-go_on.ensures.came;
       forward = forward_then (g.P.Port.value c.args.port.now) (g.P.Port.value c.loop-port.port) (g.P.Port.value c.go_on.new.port) c.loop-port.invariant.tables.forward c.in_err-go_on.ensures.forward;
@@ -78,8 +74,8 @@ returns-in_err-go_on g c =
       ready = search rules;
       kinds = search rules;
       serves = filling_serves c.loop-port.invariant.tables w c.go_on.new.stack r
-          (goes_answer x w owner c.loop-port.stack c.go_on.new.stack r c.in_err-go_on.field-0.0 (answer.1 ∙ ap Err answer.2) c.in_err-go_on.ensures.serves);
-      stops = risen_answer u w owner c.args.stack.now r e (answer.1 ∙ ap Err answer.2)
+          (goes_answer (g.P.Port.value c.loop-port.port) w c.args.owner c.loop-port.stack c.go_on.new.stack r c.in_err-go_on.field-0.0 (answer.1 ∙ ap Err answer.2) c.in_err-go_on.ensures.serves);
+      stops = risen_answer (g.P.Port.value c.args.port.now) w c.args.owner c.args.stack.now r e (answer.1 ∙ ap Err answer.2)
           (filling_stops c.loop-port.invariant.tables w c.go_on.new.stack e c.in_err-go_on.ensures.stops);
       gate = search rules;
       heard = search rules;
@@ -87,7 +83,7 @@ returns-in_err-go_on g c =
       paces = search rules;
       calm = search rules;
       course = working_stops c.args.owner (g.P.Port.value c.args.port.now) c.args.table _ _ _ (g.P.Port.value c.loop-port.port) (g.P.Port.value c.go_on.new.port) c.loop-port.stack c.go_on.new.stack _ _ _ _ _ r e (answer.1 ∙ ap Err answer.2)
-          i.says i.course c.in_err-go_on.ensures.course;
+          c.loop-port.invariant.says c.loop-port.invariant.course c.in_err-go_on.ensures.course;
     }
 
 pub returns-clause-forward : goal.returns-clause-forward
@@ -101,15 +97,12 @@ returns-clause-leaves g c f = c.loop-port.invariant.tables.leaves f
 pub returns-in_err-done-clause-course : goal.returns-in_err-done-clause-course
 returns-in_err-done-clause-course g c =
     let answer = err_from_is_err_and c.from_residual.result c.from_residual.ensures.1 in
-    let stopped = c.in_err-done.ensures in
     cut_off_working _ _ _ _ _ _ c.requires.only _ _ _ _ (answer.1 ∙ ap Err answer.2)
-    stopped.kinds stopped.course
+    c.in_err-done.ensures.kinds c.in_err-done.ensures.course
 
 pub returns-in_err-ask_behind-clause-course : goal.returns-in_err-ask_behind-clause-course
 returns-in_err-ask_behind-clause-course g c =
-    let e = c.in_err-ask_behind.field-0.0 in
     let r = c.from_residual-in_err-ask_behind.result in
     let answer = err_from_is_err_and r c.from_residual-in_err-ask_behind.ensures.1 in
-    let asked = c.in_err-ask_behind.ensures in
     due_working _ _ _ _ _ _ c.requires.only _ _ c.in_ok-done.ensures.course _ _
-    r e (answer.1 ∙ ap Err answer.2) asked.kinds asked.course
+    r c.in_err-ask_behind.field-0.0 (answer.1 ∙ ap Err answer.2) c.in_err-ask_behind.ensures.kinds c.in_err-ask_behind.ensures.course

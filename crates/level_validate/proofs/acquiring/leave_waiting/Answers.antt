@@ -27,9 +27,8 @@ returns-then-not-own g c =
     let w = g.P.Port.value c.leave_shared.new.port in
     let x = g.P.Port.value c.args.port.now in
     let f = c.args.frame in
-    let b = c.requires.waits in
     let k = c.level_type-kind.result in
-    let is = unkept_is b.1 c.level_type-kind.ensures c.if-not-own.true in
+    let is = unkept_is c.requires.waits.1 c.level_type-kind.ensures c.if-not-own.true in
     record {
       came = search rules;
       forward = forward_by x w (λ vs. SharedBy f k c.args.stamp vs) (shared_plain f k c.args.stamp is) c.leave_shared.ensures.visits;
@@ -45,17 +44,16 @@ returns-then-not-own g c =
 
 pub leave_kept-requires : goal.leave_kept-requires
 leave_kept-requires g c =
-    let b = c.requires.waits in
     record {
       frame = search rules;
       may = search rules;
-      leaves = rw c.waiting_kind.ensures (mark_may b.1 c.level_type-kind.ensures c.if-not-own.false);
+      leaves = rw c.waiting_kind.ensures (mark_may c.requires.waits.1 c.level_type-kind.ensures c.if-not-own.false);
       partial = search rules;
       kept = search rules;
       page = rw c.waiting_kind.ensures (rw c.level_type-kind.ensures (level_type-unpaged _ c.requires.low));
-      known = mark_known b.1 c.level_type-kind.ensures c.if-not-own.false;
+      known = mark_known c.requires.waits.1 c.level_type-kind.ensures c.if-not-own.false;
       real = search rules;
-      looked = mark_looking b.1 c.level_type-kind.ensures c.if-not-own.false;
+      looked = mark_looking c.requires.waits.1 c.level_type-kind.ensures c.if-not-own.false;
       room = search rules;
     }
 
@@ -64,9 +62,8 @@ unfolding ServesWaiting
 returns-then-kept g c =
     let x = g.P.Port.value c.args.port.now in
     let d = g.P.Port.value c.leave_kept.new.port in
-    let b = c.requires.waits in
     let f = c.args.frame in
-    let may = mark_may b.1 c.level_type-kind.ensures c.if-not-own.false in
+    let may = mark_may c.requires.waits.1 c.level_type-kind.ensures c.if-not-own.false in
     record {
       came = search rules;
       forward = kept_forward (g.P.Port.value c.args.port.now) (g.P.Port.value c.leave_kept.new.port) c.args.frame c.waiting_kind.result c.args.owner c.leave_kept.ensures.course;
@@ -87,14 +84,13 @@ leave_unsettled-requires-clause-waits g c =
 
 pub put_old-requires : goal.put_old-requires
 put_old-requires g c =
-    let b = c.requires.waits in
     record {
       frame = subst (λ (p : Post). c.args.frame < p.machine.frames) (sym (came_post _ _ c.leave_unsettled.ensures.came)) c.requires.frame;
-      may = stays_may b.1 c.level_type-kind.ensures c.if-not-own.false _
+      may = stays_may c.requires.waits.1 c.level_type-kind.ensures c.if-not-own.false _
           c.leave_unsettled.ensures.hand c.requires.may;
-      empty = stays_room b.1 c.level_type-kind.ensures c.if-not-own.false _
+      empty = stays_room c.requires.waits.1 c.level_type-kind.ensures c.if-not-own.false _
           c.leave_unsettled.ensures.hand c.requires.room;
-      held = stays_held b.1 c.level_type-kind.ensures c.if-not-own.false _
+      held = stays_held c.requires.waits.1 c.level_type-kind.ensures c.if-not-own.false _
           c.leave_unsettled.ensures.hand;
     }
 
@@ -107,8 +103,7 @@ returns-else-kept g c =
     let f = c.args.frame in
     let u = g.P.Port.value c.args.port.now in
     let k = partial_kind c.level_type-kind.result false true 0 c.args.stamp in
-    let b = c.requires.waits in
-    let is = unkept_is b.1 c.level_type-kind.ensures c.if-not-own.false in
+    let is = unkept_is c.requires.waits.1 c.level_type-kind.ensures c.if-not-own.false in
     record {
       came = came_trans (g.P.Port.value c.args.port.now) d z c.leave_unsettled.ensures.came (moves_came d z _ _ _ _ 0 c.put_old.ensures.moves);
       forward = forward_then u d z (forward_by u d (λ vs. StoresKind f k vs) (stores_plain f k is refl refl) c.leave_unsettled.ensures.visits) (forward_step d z _ _ _ _ 0 refl refl c.put_old.ensures.moves);

@@ -11,12 +11,10 @@ use Rattle.level_validate.proofs.completing.complete_in.Goals as goal
 
 pub make_live-requires : goal.make_live-requires
 make_live-requires g c =
-    let a = c.requires.stands in
-    let s = a.2.1 in
     record {
-      frame = top_inside s;
+      frame = top_inside c.requires.stands.2.1;
       may = search rules;
-      leaves = live_leaves s c.requires.full c.requires.ready _ refl c.requires.may;
+      leaves = live_leaves c.requires.stands.2.1 c.requires.full c.requires.ready _ refl c.requires.may;
     }
 
 pub give_back-requires : goal.give_back-requires
@@ -34,16 +32,12 @@ give_back-requires g c =
 
 pub record_entry-requires : goal.record_entry-requires
 record_entry-requires g c =
-    let a = c.requires.stands in
-    let s = a.2.1 in
-    let l = live_hand s _ refl _ c.make_live.ensures.hand in
-    live_records c.make_live.ensures.moves l c.if-table.false
+    live_records c.make_live.ensures.moves (live_hand c.requires.stands.2.1 _ refl _ c.make_live.ensures.hand) c.if-table.false
 
 pub returns-then-table : goal.returns-then-table
 unfolding CarriesOn
 returns-then-table g c =
     let u = c.args.outer in
-    let came_d = moves_came _ _ _ _ _ _ _ c.make_live.ensures.moves in
     let b = c.requires.stands in
     let a = c.requires.stands in
     let owner = a.0 in
@@ -54,7 +48,7 @@ returns-then-table g c =
     let o = c.args.outer in
     let is = (live_leaves b.2.1 c.requires.full c.requires.ready _ refl c.requires.may).is in
     record {
-      came = came_trans _ _ _ came_d c.give_back.ensures.came;
+      came = came_trans _ _ _ (moves_came _ _ _ _ _ _ _ c.make_live.ensures.moves) c.give_back.ensures.came;
       forward = forward_then _ _ _ (forward_step _ _ _ _ _ _ _ refl refl c.make_live.ensures.moves) c.give_back.ensures.forward;
       leaves = λ f. well_then _ _ _ false f (kind_well _ _ false f _ _ _ _ _ is refl refl c.make_live.ensures.moves) (c.give_back.ensures.leaves f);
       stands = λ owner us v s. let l = live_hand s _ refl _ c.make_live.ensures.hand in

@@ -48,14 +48,13 @@ pub resume_entry-requires : goal.resume_entry-requires
 resume_entry-requires g n c =
     let a = c.requires.stands in
     let u = g.P.Port.value c.args.port.now in
-    let t = c.args.top in
     let one = sym (back_one _ c.if-top-eq0.false) in
     record {
       frame = top_inside (subst (λ xs. Carries a.0 (g.P.Port.value c.args.port.now) c.args.owner xs) c.requires.top a.1);
       index = search rules;
       may = search rules;
-      works = subst (λ (k : PageType). WorksAtTop t.frame k (t.done - 1 + 1) u.holdings) (sym c.level_type.ensures)
-          (subst (λ n. WorksAtTop t.frame (level_type t.level) n u.holdings) one (standing_top (subst (λ xs. Carries a.0 u c.args.owner xs) c.requires.top a.1)));
+      works = subst (λ (k : PageType). WorksAtTop c.args.top.frame k (c.args.top.done - 1 + 1) u.holdings) (sym c.level_type.ensures)
+          (subst (λ n. WorksAtTop c.args.top.frame (level_type c.args.top.level) n u.holdings) one (standing_top (subst (λ xs. Carries a.0 u c.args.owner xs) c.requires.top a.1)));
       held = standing_held (subst (λ xs. Carries a.0 (g.P.Port.value c.args.port.now) c.args.owner xs) c.requires.top a.1);
       above = λ f. subst (λ (k : PageType). IsOfOther f (below k) u.holdings) (sym c.level_type.ensures)
           (standing_above (subst (λ xs. Carries a.0 u c.args.owner xs) c.requires.top a.1) f);
@@ -67,19 +66,16 @@ resume_entry-requires g n c =
 pub returns-in_err-resume_entry : goal.returns-in_err-resume_entry
 returns-in_err-resume_entry g n c =
     let u = g.P.Port.value c.args.port.now in
-    let w = g.P.Port.value c.resume_entry.new.port in
-    let found = c.in_err-resume_entry.ensures.found in
     let answer = err_from_is_err_and c.from_residual.result c.from_residual.ensures.1 in
     let e = c.in_err-resume_entry.field-0.0 in
-    let stopped = c.in_err-resume_entry.ensures in
     record {
       came = serves_came _ _ (of_entries c.args.owner 0) _ (c.in_err-resume_entry.ensures.serves 0);
       forward = resumes_forward _ _ _ c.requires.top c.requires.stands c.level_type.ensures _ c.if-top-eq0.false
           c.in_err-resume_entry.ensures.found;
       leaves = λ e. resumes_well _ _ _ _ (c.args.top.done - 1) _ _ _ c.in_err-resume_entry.ensures.found;
-      stands = λ v s. subst (λ xs. Carries v w c.args.owner xs) (sym c.requires.top)
+      stands = λ v s. subst (λ xs. Carries v (g.P.Port.value c.resume_entry.new.port) c.args.owner xs) (sym c.requires.top)
           (after_look _ (subst (λ xs. Carries v u c.args.owner xs) c.requires.top s) (serves_came _ _ (of_entries c.args.owner 0) _ (c.in_err-resume_entry.ensures.serves 0))
-          (resumed_first _ _ _ (c.args.top.done - 1) _ _ _ found) (c.args.top.done - 1) c.in_err-resume_entry.ensures.hand);
+          (resumed_first _ _ _ (c.args.top.done - 1) _ _ _ c.in_err-resume_entry.ensures.found) (c.args.top.done - 1) c.in_err-resume_entry.ensures.hand);
       ready = search rules;
       kinds = search rules;
       outer = search rules;
@@ -89,7 +85,7 @@ returns-in_err-resume_entry g n c =
           (goes_entries _ _ _ _ (missed u.post.machine c.in_err-resume_entry.field-0.0) c.in_err-resume_entry.ensures.serves);
       stops = stops_answer _ _ _ _ _ _ (answer.1 ∙ ap Err answer.2) (stops_entries _ _ _ _ _ c.in_err-resume_entry.ensures.stops);
       course = stopped_on _ _ c.requires.top c.if-top-eq0.false _ _ _ (answer.1 ∙ ap Err answer.2)
-          (resumed_err _ _ _ _ c.level_type.ensures _ stopped.found stopped.plain stopped.stops);
+          (resumed_err _ _ _ _ c.level_type.ensures _ c.in_err-resume_entry.ensures.found c.in_err-resume_entry.ensures.plain c.in_err-resume_entry.ensures.stops);
     }
 
 -- ---- it is settled
@@ -161,9 +157,8 @@ take_on-requires g n c κs low =
     let said = said_again u x c.args.owner c.args.top c.level_type.result c.level_type.ensures c.in_ok-resume_entry.field-0 (again.Opened c.in-Opened.frame c.in-Opened.progress) c.in-Opened.is e.found e.plain e.shows e.serves e.hand in
     let a = c.requires.stands in
     let inner = pushed c.args.top c.in-Opened.frame c.in-Opened.progress false true in
-    let least = top_low u c.args.owner c.args.top c.args.stack.now c.requires.top a in
     let d = c.decreases in (
-      omega (arith, d, least),
+      omega (arith, d, (top_low u c.args.owner c.args.top c.args.stack.now c.requires.top a)),
       (
         low,
         (

@@ -30,16 +30,12 @@ use Rattle.level_validate.proofs.entering.enter.Goals as goal
 pub take_entry-requires : goal.take_entry-requires
 take_entry-requires g c =
     let u = g.P.Port.value c.args.port.now in
-    let t = c.in-Some.top in
-    let owner = c.args.owner in
-    let is = c.in-Some.ensures.some in
-    let a = c.requires.stands in
-    let s0 = subst (λ xs. Carries a.0 u owner xs) is a.1 in
+    let s0 = subst (λ xs. Carries c.requires.stands.0 u c.args.owner xs) c.in-Some.ensures.some c.requires.stands.1 in
     record {
       frame = top_inside s0;
       index = search rules;
       may = search rules;
-      works = subst (λ (k : PageType). WorksNext u.post.machine t.frame k t.done u.holdings) (sym c.level_type.ensures) (standing_next s0 c.requires.ready);
+      works = subst (λ (k : PageType). WorksNext u.post.machine c.in-Some.top.frame k c.in-Some.top.done u.holdings) (sym c.level_type.ensures) (standing_next s0 c.requires.ready);
       known = standing_known s0;
       held = standing_held s0;
       above = λ f. subst (λ (k : PageType). IsOfOther f (below k) u.holdings) (sym c.level_type.ensures) (standing_above s0 f);
@@ -55,7 +51,6 @@ returns-in_err-take_entry g c =
     let found = c.in_err-take_entry.ensures.found in
     let answer = err_from_is_err_and c.from_residual.result c.from_residual.ensures.1 in
     let e = c.in_err-take_entry.field-0.0 in
-    let stopped = c.in_err-take_entry.ensures in
     record {
       came = serves_came _ _ (of_entries c.args.owner 0) _ (c.in_err-take_entry.ensures.serves 0);
       forward = enters_forward _ _ _ c.in-Some.ensures.some c.requires.stands c.level_type.ensures _ c.in_err-take_entry.ensures.found;
@@ -71,7 +66,7 @@ returns-in_err-take_entry g c =
           (goes_entries _ _ _ _ (missed u.post.machine c.in_err-take_entry.field-0.0) c.in_err-take_entry.ensures.serves);
       stops = stops_answer _ _ _ _ _ _ (answer.1 ∙ ap Err answer.2) (stops_entries _ _ _ _ _ c.in_err-take_entry.ensures.stops);
       course = stopped_next _ _ c.in-Some.ensures.some c.requires.left _ _ _ (answer.1 ∙ ap Err answer.2)
-          (entered_err _ _ _ _ c.level_type.ensures _ stopped.found stopped.plain stopped.stops);
+          (entered_err _ _ _ _ c.level_type.ensures _ c.in_err-take_entry.ensures.found c.in_err-take_entry.ensures.plain c.in_err-take_entry.ensures.stops);
     }
 
 pub push-requires-clause-table : goal.push-requires-clause-table
@@ -79,18 +74,15 @@ push-requires-clause-table g c =
     let u = g.P.Port.value c.args.port.now in
     let t = c.in-Some.top in
     let owner = c.args.owner in
-    let is = c.in-Some.ensures.some in
-    let a = c.requires.stands in
-    let s0 = subst (λ xs. Carries a.0 u owner xs) is a.1 in
+    let s0 = subst (λ xs. Carries c.requires.stands.0 u owner xs) c.in-Some.ensures.some c.requires.stands.1 in
     let x = g.P.Port.value c.take_entry.new.port in
     let found = c.in_ok-take_entry.ensures.found in
-    let came = serves_came _ _ (of_entries owner 0) [] (c.in_ok-take_entry.ensures.serves 0) in
     let first = entered_first _ _ _ _ _ _ _ found in
-    let room : 0 < 512 - t.done = subst (λ xs. 0 < left_on_top xs) is c.requires.left in
+    let room : 0 < 512 - t.done = subst (λ xs. 0 < left_on_top xs) c.in-Some.ensures.some c.requires.left in
     let left = subst (λ k. LeavesEntered u x t.frame k t.done owner (entered.Opened c.in-Opened.frame c.in-Opened.progress c.in-Opened.own)) c.level_type.ensures (subst (λ r. LeavesEntered u x t.frame c.level_type.result t.done owner r) c.in-Opened.is c.in_ok-take_entry.ensures.hand) in
     let way = subst (λ k. EntersFound u x t.frame t.done k owner (Ok (entered.Opened c.in-Opened.frame c.in-Opened.progress c.in-Opened.own))) c.level_type.ensures (subst (λ r. EntersFound u x t.frame t.done c.level_type.result owner (Ok r)) c.in-Opened.is found) in
     let came_open = opened_found _ _ _ _ (level_type t.level) _ _ _ _ way in
-    (after_next _ s0 came first _ _ _ (omega (arith, room)) c.requires.ready came_open left).stack.0
+    (after_next _ s0 (serves_came _ _ (of_entries owner 0) [] (c.in_ok-take_entry.ensures.serves 0)) first _ _ _ (omega (arith, room)) c.requires.ready came_open left).stack.0
 
 pub take_on-requires : goal.take_on-requires
 take_on-requires g c =
@@ -123,13 +115,11 @@ returns-in-Recorded g c =
     let owner = c.args.owner in
     let is = c.in-Some.ensures.some in
     let x = g.P.Port.value c.take_entry.new.port in
-    let found = c.in_ok-take_entry.ensures.found in
     let came = serves_came _ _ (of_entries owner 0) [] (c.in_ok-take_entry.ensures.serves 0) in
-    let first = entered_first _ _ _ _ _ _ _ found in
+    let first = entered_first _ _ _ _ _ _ _ c.in_ok-take_entry.ensures.found in
     let room : 0 < 512 - t.done = subst (λ xs. 0 < left_on_top xs) is c.requires.left in
     let left = subst (λ k. LeavesEntered u x t.frame k t.done owner entered.Recorded) c.level_type.ensures (subst (λ r. LeavesEntered u x t.frame c.level_type.result t.done owner r) c.in-Recorded.is c.in_ok-take_entry.ensures.hand) in
-    let a = c.requires.stands in
-    let s0 = subst (λ xs. Carries a.0 u owner xs) is a.1 in
+    let s0 = subst (λ xs. Carries c.requires.stands.0 u owner xs) is c.requires.stands.1 in
     let answer = c.in_ok-take_entry.ensures in
     record {
       came = came;
@@ -204,14 +194,11 @@ returns-in-Unsettled g c =
     let u = g.P.Port.value c.args.port.now in
     let t = c.in-Some.top in
     let owner = c.args.owner in
-    let is = c.in-Some.ensures.some in
     let x = g.P.Port.value c.take_entry.new.port in
-    let found = c.in_ok-take_entry.ensures.found in
     let came = serves_came _ _ (of_entries owner 0) [] (c.in_ok-take_entry.ensures.serves 0) in
-    let first = entered_first _ _ _ _ _ _ _ found in
-    let room : 0 < 512 - t.done = subst (λ xs. 0 < left_on_top xs) is c.requires.left in
+    let first = entered_first _ _ _ _ _ _ _ c.in_ok-take_entry.ensures.found in
+    let room : 0 < 512 - t.done = subst (λ xs. 0 < left_on_top xs) c.in-Some.ensures.some c.requires.left in
     let left = subst (λ k. LeavesEntered u x t.frame k t.done owner (entered.Unsettled c.in-Unsettled.stop)) c.level_type.ensures (subst (λ r. LeavesEntered u x t.frame c.level_type.result t.done owner r) c.in-Unsettled.is c.in_ok-take_entry.ensures.hand) in
-    let stack = c.args.stack.now in
     let shows = subst (λ r. ShowsEntered u x owner 0 c.level_type.result r) c.in-Unsettled.is (c.in_ok-take_entry.ensures.shows 0) in
     let e = c.in-Unsettled.stop in
     let answer = c.in_ok-take_entry.ensures in
@@ -219,15 +206,15 @@ returns-in-Unsettled g c =
       came = came;
       forward = enters_forward _ _ _ c.in-Some.ensures.some c.requires.stands c.level_type.ensures _ c.in_ok-take_entry.ensures.found;
       leaves = λ e. enters_well _ _ _ c.in-Some.top.frame c.in-Some.top.done _ _ _ c.in_ok-take_entry.ensures.found;
-      stands = λ v s. let s0 = subst (λ xs. Carries v u owner xs) is s in
-          subst (λ xs. Carries v x owner xs) (sym (c.advance-in-Unsettled.ensures.advanced ∙ ap advanced is)) (after_record _ s0 came first left.0 room left.1);
+      stands = λ v s. let s0 = subst (λ xs. Carries v u owner xs) c.in-Some.ensures.some s in
+          subst (λ xs. Carries v x owner xs) (sym (c.advance-in-Unsettled.ensures.advanced ∙ ap advanced c.in-Some.ensures.some)) (after_record _ s0 came first left.0 room left.1);
       ready = search rules;
       kinds = wait_stops _ (subst (λ r. ShowsEntered u x owner 0 c.level_type.result r) c.in-Unsettled.is (c.in_ok-take_entry.ensures.shows 0)).1;
       outer = search rules;
       progress = search rules;
       less = search rules;
-      serves = subst (λ xs. CarriesOn u x owner stack xs (missed u.post.machine c.in-Unsettled.stop)) (sym c.advance-in-Unsettled.ensures.advanced)
-          (goes_waiting _ _ _ _ (advanced stack) _ shows.1 (goes_advanced _ _ _ _ _ [] (goes_entries _ _ _ _ [] c.in_ok-take_entry.ensures.serves)));
+      serves = subst (λ xs. CarriesOn u x owner c.args.stack.now xs (missed u.post.machine c.in-Unsettled.stop)) (sym c.advance-in-Unsettled.ensures.advanced)
+          (goes_waiting _ _ _ _ (advanced c.args.stack.now) _ shows.1 (goes_advanced _ _ _ _ _ [] (goes_entries _ _ _ _ [] c.in_ok-take_entry.ensures.serves)));
       stops = let shows = λ (pages : ℕ). subst (λ r. ShowsEntered u x owner pages c.level_type.result r) c.in-Unsettled.is (c.in_ok-take_entry.ensures.shows pages) in
           stops_entries _ _ _ _ _ (λ pages. (shows pages).2);
       course = unsettled_next _ _ c.in-Some.ensures.some c.requires.left _ _ _ c.advance-in-Unsettled.ensures.advanced

@@ -5,8 +5,7 @@ use Rattle.level_validate.proofs.unwinding.leave_inner.Goals as goal
 
 pub retreat-requires : goal.retreat-requires
 retreat-requires g c =
-    let a = c.requires.stands in
-    retreat_some a.1.0 _ a.0 _ _ a.1.1 (not_so _ c.if-not-table.true) c.requires.inner
+    retreat_some c.requires.stands.1.0 _ c.requires.stands.0 _ _ c.requires.stands.1.1 (not_so _ c.if-not-table.true) c.requires.inner
 
 -- ---- its part of the course
 

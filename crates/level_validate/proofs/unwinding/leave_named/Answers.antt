@@ -17,17 +17,15 @@ use Rattle.level_validate.proofs.unwinding.leave_named.Goals as goal
 
 pub leave_kept-requires : goal.leave_kept-requires
 leave_kept-requires g c =
-    let a = c.requires.stands in
-    let w = g.P.Port.value c.args.port.now in
     let is = c.partial_kind-kind.ensures ∙ ap (λ k. partial_kind k true false c.args.table.done 0) c.level_type.ensures in
     record {
-      frame = top_inside a.1;
+      frame = top_inside c.requires.stands.1;
       may = search rules;
-      leaves = subst (λ (l : KindWord). MayLeave w c.args.table.frame l) (sym is) (top_leaves a.1 true (λ on. c.requires.own));
+      leaves = subst (λ (l : KindWord). MayLeave (g.P.Port.value c.args.port.now) c.args.table.frame l) (sym is) (top_leaves c.requires.stands.1 true (λ on. c.requires.own));
       partial = search rules;
       kept = search rules;
-      page = subst (λ (l : KindWord). IsUnpaged l) (sym is) (top_unpaged a.1);
-      known = top_kept_owner a.1 c.requires.own;
+      page = subst (λ (l : KindWord). IsUnpaged l) (sym is) (top_unpaged c.requires.stands.1);
+      known = top_kept_owner c.requires.stands.1 c.requires.own;
       real = search rules;
       looked = search rules;
       room = search rules;
@@ -55,8 +53,7 @@ returns-then-kept g c =
 
 pub put_old-requires-clause-held : goal.put_old-requires-clause-held
 put_old-requires-clause-held g c =
-    let a = c.requires.stands in
-    outer_held a.1 c.requires.own (g.P.Port.value c.leave_partial.new.port) c.leave_partial.ensures.hand (top_held a.1 c.requires.own)
+    outer_held c.requires.stands.1 c.requires.own (g.P.Port.value c.leave_partial.new.port) c.leave_partial.ensures.hand (top_held c.requires.stands.1 c.requires.own)
 
 pub returns-else-kept : goal.returns-else-kept
 unfolding ServesLeft
@@ -66,13 +63,12 @@ returns-else-kept g c =
     let x = g.P.Port.value c.put_old.new.port in
     let b = c.requires.stands in
     let t = c.args.table in
-    let spelled = top_spelled b.1 false (λ on. absurd cc) in
     record {
       came = came_trans w d x (moves_came w d _ _ _ _ c.leave_partial.result c.leave_partial.ensures.moves) (moves_came d x _ _ _ _ 0 c.put_old.ensures.moves);
       forward = forward_then w d x (forward_step w d _ _ _ _ c.leave_partial.result refl refl c.leave_partial.ensures.moves) (forward_step d x _ _ _ _ 0 refl refl c.put_old.ensures.moves);
       leaves = well_then w d x c.args.kept t.frame (unkept_well b.0 w c.args.owner t d c.leave_partial.result [] c.args.kept t.frame b.1 c.leave_partial.ensures.moves) (well_step d x c.args.kept t.frame _ _ _ _ 0 refl c.put_old.ensures.moves);
       hand = λ v s. outer_named s c.requires.own d c.leave_partial.ensures.hand c.args.kept c.if-kept.false (g.P.Port.value c.put_old.new.port) c.put_old.ensures.hand;
-      serves = λ u r ds a locks. let left = piece_left b.1 _ spelled refl c.leave_partial.ensures.moves u r c.args.owner [] ds a in
+      serves = λ u r ds a locks. let left = piece_left b.1 _ (top_spelled b.1 false (λ on. absurd cc)) refl c.leave_partial.ensures.moves u r c.args.owner [] ds a in
           marked_none u x r c.args.owner c.args.kept t.frame ds (piece_names x left (t.frame + 1) c.put_old.ensures.moves).serves;
       course = search rules;
     }

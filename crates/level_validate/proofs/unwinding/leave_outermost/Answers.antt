@@ -10,11 +10,9 @@ returns-else-table-clause-hand g c v s = outer_lent v (g.P.Port.value c.leave_le
 
 pub returns-else-table-clause-serves : goal.returns-else-table-clause-serves
 returns-else-table-clause-serves g c =
-    let w = g.P.Port.value c.args.port.now in
     let x = g.P.Port.value c.leave_lent.new.port in
-    let t = c.args.table in
-    let goes = subst (λ us. CarriesOn w x c.args.owner (t ∷ []) us []) (around_none _) (c.leave_lent.ensures.serves c.args.owner []) in
-    left_on _ _ _ _ _ (t ∷ []) [] [] goes
+    let goes = subst (λ us. CarriesOn (g.P.Port.value c.args.port.now) x c.args.owner (c.args.table ∷ []) us []) (around_none _) (c.leave_lent.ensures.serves c.args.owner []) in
+    left_on _ _ _ _ _ (c.args.table ∷ []) [] [] goes
 
 pub returns-else-table-clause-leaves : goal.returns-else-table-clause-leaves
 returns-else-table-clause-leaves g c =

@@ -11,30 +11,26 @@ use Rattle.level_validate.proofs.unwinding.leave_own.Goals as goal
 
 pub record_entry-requires : goal.record_entry-requires
 record_entry-requires g c =
-    let a = c.requires.stands in
     let w = g.P.Port.value c.args.port.now in
     let t = c.args.table in
-    own_records (subst (λ ts. Carries a.1.0 w a.0 (t ∷ ts)) c.in-Some.ensures.some a.1.1) c.requires.own (own_new a.1.1 c.requires.own)
+    own_records (subst (λ ts. Carries c.requires.stands.1.0 w c.requires.stands.0 (t ∷ ts)) c.in-Some.ensures.some c.requires.stands.1.1) c.requires.own (own_new c.requires.stands.1.1 c.requires.own)
     c.leave_partial.ensures.moves c.leave_partial.ensures.hand
 
 pub returns-in-Some : goal.returns-in-Some
 unfolding CarriesOn
 returns-in-Some g c =
-    let w = g.P.Port.value c.args.port.now in
     let x = g.P.Port.value c.record_entry.new.port in
-    let t = c.args.table in
     let came = came_trans _ _ _ (moves_came _ _ _ _ _ _ _ c.leave_partial.ensures.moves) (moves_came _ _ _ _ _ _ _ c.record_entry.ensures.moves) in
     let b = c.requires.stands in
     let ts = c.args.stack.now in
-    let spelled = top_spelled b.1.1 false (λ on. absurd cc) in
     record {
       came = came_trans _ _ _ (moves_came _ _ _ _ _ _ _ c.leave_partial.ensures.moves) (moves_came _ _ _ _ _ _ _ c.record_entry.ensures.moves);
       forward = forward_then _ _ _ (forward_step _ _ _ _ _ _ _ refl refl c.leave_partial.ensures.moves) (forward_step _ _ _ _ _ _ _ refl refl c.record_entry.ensures.moves);
       leaves = λ f. well_then _ _ _ false f (unkept_well b.1.0 _ b.0 _ _ _ _ false f b.1.1 c.leave_partial.ensures.moves) (well_step _ _ false f _ _ _ _ _ refl c.record_entry.ensures.moves);
       stands = λ owner v s. subst (λ ts. Carries v x owner ts) (sym c.in-Some.ensures.some)
-          (own_stands (subst (λ ts. Carries v w owner (t ∷ ts)) c.in-Some.ensures.some s) c.requires.own (own_new s c.requires.own)
+          (own_stands (subst (λ ts. Carries v (g.P.Port.value c.args.port.now) owner (c.args.table ∷ ts)) c.in-Some.ensures.some s) c.requires.own (own_new s c.requires.own)
           c.leave_partial.ensures.moves c.leave_partial.ensures.hand x c.record_entry.ensures.hand came);
-      serves = λ owner u r ds a. let left = piece_left b.1.1 _ spelled refl c.leave_partial.ensures.moves u r owner _ ds a in
+      serves = λ owner u r ds a. let left = piece_left b.1.1 _ (top_spelled b.1.1 false (λ on. absurd cc)) refl c.leave_partial.ensures.moves u r owner _ ds a in
           piece_rest u _ r owner _ _ ds (piece_records _ left _ _ _ c.record_entry.ensures.moves);
       course = search rules;
     }
