@@ -8,21 +8,21 @@ use Rattle.answer_fits.specs.Visits.{Does, Visit}
 use Rattle.frame_types.specs.Found.{SharedBy}
 use Rattle.partial_state.specs.Levels.{level_type}
 use Rattle.partial_state.specs.declared.stack.TableWork.{TableWork}
-use Rattle.table_entries.specs.Asking.{ShowsResumed, of_entries, IsEntryStop}
-use Rattle.table_entries.specs.Found.{ResumesFound}
-use Rattle.table_entries.specs.Plain.{TwinResume}
+use Rattle.table_entries.specs.Asking.{ShowsEntered, ShowsResumed, of_entries, IsEntryStop}
+use Rattle.table_entries.specs.Found.{EntersFound, ResumesFound}
+use Rattle.table_entries.specs.Plain.{TwinEntry, TwinResume}
 use Rattle.table_entries.specs.declared.resuming.Resumed.{Resumed}
-use Rattle.table_courses.specs.Acquiring.{GaveBack, LeftWaiting, ResumedEntry, TookOn, table_opened}
+use Rattle.table_courses.specs.Acquiring.{GaveBack, LeftWaiting, ResumedEntry, TookEntry, TookOn, table_opened}
 use Rattle.step_maker.specs.Moves.{Came, Met}
 use Rattle.step_maker.proofs.Coming.{came_trans, came_post}
 use Rattle.answer_fits.proofs.Piecing.{serves_came}
-use Rattle.table_entries.specs.Tops.{LeavesResumed}
+use Rattle.table_entries.specs.Tops.{LeavesEntered, LeavesResumed}
 use Rattle.level_validate.specs.Forward.{Forward}
 use Rattle.level_validate.specs.Leaving.{LeftWell}
 use Rattle.level_validate.specs.Tables.{Carries, IsStanding, IsTopReady, StandsOn}
-use Rattle.level_validate.proofs.Entered.{after_look, after_settled, back_one, taken_gives, taken_ready, taken_stands, after_again, fresh_ready}
+use Rattle.level_validate.proofs.Entered.{after_look, after_settled, back_one, taken_gives, taken_ready, taken_stands, after_again, after_next, entered_ok}
 use Rattle.level_validate.proofs.LeftWellEntries.{resumes_forward, resumes_well, IsAskedType, shared_plain, stamp_small}
-use Rattle.level_validate.proofs.Looking.{FirstFound, resumed_first}
+use Rattle.level_validate.proofs.Looking.{FirstFound, entered_first, resumed_first}
 use Rattle.step_maker.specs.Holds.{Holds, MayWork}
 use Rattle.answer_fits.specs.Asked.{of_back}
 use Rattle.answer_fits.specs.Pauses.{Progress}
@@ -30,8 +30,8 @@ use Rattle.answer_fits.proofs.Progressing.{progress_before}
 use Rattle.frame_types.specs.Taking.{gave_type}
 use Rattle.level_validate.specs.Giving.{MayGiveBack}
 use Rattle.level_validate.specs.Serving.{CarriesOn, StopsIn}
-use Rattle.level_validate.proofs.Serving.{goes_back, goes_opened, stops_behind, goes_left, goes_waiting, stops_entries, stops_on}
-use Rattle.level_validate.proofs.Opening.{taken_found, left_waiting, wait_stops, waited_found, waits_there, again_found}
+use Rattle.level_validate.proofs.Serving.{goes_back, goes_inner, goes_opened, stops_behind, goes_left, goes_waiting, stops_entries, stops_on}
+use Rattle.level_validate.proofs.Opening.{taken_found, left_waiting, wait_stops, waited_found, waits_there, again_found, opened_found}
 use Rattle.partial_state.proofs.LevelFacts.{level_type-under, level_type-plain, level_type-typed}
 use Rattle.std.proofs.lemmas.Result.{IfErr-weaker}
 use Rattle.xp_words.specs.Entries.{below}
@@ -40,7 +40,10 @@ use Rattle.level_validate.proofs.Pushing.{pushed}
 use Rattle.level_validate.proofs.Standing.{may_back, may_stands}
 use Rattle.frame_types.specs.Leaving.{GivesBack, IsWaiting, ServesType}
 use Rattle.level_validate.proofs.Steps.{Plain, forward_by, forward_then, well_by, well_then}
+use Rattle.partial_state.specs.Stacks.{advanced, left_on_top}
+use Rattle.table_entries.specs.declared.entries.Entered.{Entered}
 use Rattle.table_entries.specs.declared.resuming.Resumed.TheVariants as again
+use Rattle.table_entries.specs.declared.entries.Entered.TheVariants as entered
 
 -- ---- the call that looks, for the type of the table's level
 module _ (v w : PortValue) (owner : ℕ) (t : TableWork) {k : PageType} (is : k ≡ level_type t.level) where
@@ -169,54 +172,86 @@ module _ {u x : PortValue} {owner : ℕ} {t : TableWork} {stack : List TableWork
   took_progress w on = progress_before u x w on (said.entry.shows 0).1
 
 -- The last recorded entry of the innermost table is looked at again, and names a table that was left unfinished: that one is on top then.
--- the table has a level
-pub top_low : (u : PortValue) (owner : ℕ) (t : TableWork) (stack : List TableWork) → stack ≡ t ∷ drop 1 stack → IsStanding u owner stack → 1 ≤ t.level
-top_low u owner t stack top a =
-    let s = subst (λ xs. Carries a.0 u owner xs) top a.1 in
-    s.stack.0.low
+-- the table has a level, and the tables that its entries name have the next one
+module _ {u : PortValue} {owner : ℕ} {t : TableWork} {stack : List TableWork} (top : stack ≡ t ∷ drop 1 stack) (a : IsStanding u owner stack) where
+  pub top_low : 1 ≤ t.level
+  top_low = (subst (λ xs. Carries a.0 u owner xs) top a.1).stack.0.low
 
-module _ {u x : PortValue} {owner : ℕ} {t : TableWork} {stack : List TableWork} (top : stack ≡ t ∷ drop 1 stack) (some : t.done ≡ 0 → ⊥) {f progress : ℕ} (said : SaidAgain u x owner t (again.Opened f progress)) where
-  abbrev inner : TableWork
-  inner = pushed t f progress false true
+  below_is : below (level_type t.level) ≡ level_type (t.level - 1)
+  below_is = let s = subst (λ xs. Carries a.0 u owner xs) top a.1 in level_type-under t.level s.stack.0.low s.stack.0.high
 
-  below_is : IsStanding u owner stack → below (level_type t.level) ≡ level_type (t.level - 1)
-  below_is a =
-      let s = subst (λ xs. Carries a.0 u owner xs) top a.1 in
-      level_type-under t.level s.stack.0.low s.stack.0.high
+-- ---- the steps go on with that one
+pub record OnTop (u x : PortValue) (owner : ℕ) (stack next : List TableWork) (inner : TableWork) : Type 0 where
+  pub top : next ≡ inner ∷ drop 1 next
+  pub stands : StandsOn u x owner stack next
+  pub serves : CarriesOn u x owner stack next []
 
-  on_top : (v : PortValue) → Carries v u owner stack → Carries v x owner (inner ∷ t ∷ drop 1 stack)
-  on_top v s =
-      after_again x (subst (λ xs. Carries v u owner xs) top s) (again_came said) (again_first said) (t.done - 1) f progress
-      (back_one t.done some) (again_found u x t.frame (t.done - 1) (level_type t.level) owner f progress said.entry.found) said.hand
+module _ {u x : PortValue} {owner : ℕ} {stack next : List TableWork} {inner : TableWork} (o : OnTop u x owner stack next inner) where
+  pub opened_standing : IsStanding u owner stack → IsStanding x owner next
+  opened_standing a = (a.0, o.stands a.0 a.1)
 
   pub opened_table : IsStanding u owner stack → IsTable inner
-  opened_table a = (on_top a.0 a.1).stack.0
+  opened_table a = (subst (λ xs. Carries a.0 x owner xs) o.top (o.stands a.0 a.1)).stack.0
 
   pub opened_may : IsStanding u owner stack → MayWork u → MayWork x
-  opened_may a may = may_stands a.0 x owner (inner ∷ t ∷ drop 1 stack) (on_top a.0 a.1) (may_back a.0 u owner stack a.1 may)
+  opened_may a may = may_stands a.0 x owner next (o.stands a.0 a.1) (may_back a.0 u owner stack a.1 may)
 
-  pub opened_ready : progress ≡ 0 → IsTopReady x
-  opened_ready zero = fresh_ready u x t.frame (t.done - 1) (level_type t.level) f owner progress false said.hand zero
+  pub opened_stops : {A : Type 0} (y : PortValue) (r : Result A Stop) → IfErr r (λ e. StopsIn x y owner next e) → IfErr r (λ e. StopsIn u y owner stack e)
+  opened_stops y r stops = IfErr-weaker r (λ e. StopsIn x y owner next e) (λ e. StopsIn u y owner stack e) (λ e so. stops_behind x y owner next e u stack o.stands o.serves so) stops
 
-  module _ {next : List TableWork} (is : next ≡ inner ∷ stack) where
-    pub opened_stands : StandsOn u x owner stack next
-    opened_stands v s = subst (λ xs. Carries v x owner xs) (sym (is ∙ ap (λ ys. inner ∷ ys) top)) (on_top v s)
+-- the last recorded entry names it
+pub again_on_top : {u x : PortValue} {owner : ℕ} {t : TableWork} {stack next : List TableWork} {f progress : ℕ} → stack ≡ t ∷ drop 1 stack → (t.done ≡ 0 → ⊥) → SaidAgain u x owner t (again.Opened f progress) → next ≡ pushed t f progress false true ∷ stack →
+    IsStanding u owner stack → OnTop u x owner stack next (pushed t f progress false true)
+again_on_top {u} {x} {owner} {t} {stack} {next} {f} {progress} top some said is a =
+    let inner = pushed t f progress false true in
+    record {
+      top = is ∙ ap (λ ys. inner ∷ ys) (sym (ap (λ ys. drop 1 ys) is));
+      stands = λ v s. subst (λ xs. Carries v x owner xs) (sym (is ∙ ap (λ ys. inner ∷ ys) top))
+          (after_again x (subst (λ xs. Carries v u owner xs) top s) (again_came said) (again_first said) (t.done - 1) f progress
+          (back_one t.done some) (again_found u x t.frame (t.done - 1) (level_type t.level) owner f progress said.entry.found) said.hand);
+      serves = subst (λ xs. CarriesOn u x owner stack xs []) (sym is) (goes_opened u x owner stack (level_type t.level) f said.serves said.entry.shows inner refl (below_is top a));
+    }
 
-    pub opened_serves : IsStanding u owner stack → CarriesOn u x owner stack next []
-    opened_serves a = subst (λ xs. CarriesOn u x owner stack xs []) (sym is) (goes_opened u x owner stack (level_type t.level) f said.serves said.entry.shows inner refl (below_is a))
+-- the next one names it, and is done with
+pub record SaidNext (u x : PortValue) (owner : ℕ) (t : TableWork) (a : Entered) : Type 0 where
+  pub entry : TookEntry u x owner t (Ok a)
+  pub serves : (pages : ℕ) → Serves u x (of_entries owner pages) []
+  pub hand : LeavesEntered u x t.frame (level_type t.level) t.done owner a
 
-    pub opened_stops : {A : Type 0} → IsStanding u owner stack → (y : PortValue) (r : Result A Stop) → IfErr r (λ e. StopsIn x y owner next e) → IfErr r (λ e. StopsIn u y owner stack e)
-    opened_stops a y r stops = IfErr-weaker r (λ e. StopsIn x y owner next e) (λ e. StopsIn u y owner stack e) (λ e so. stops_behind x y owner next e u stack opened_stands (opened_serves a) so) stops
+pub said_next : (u x : PortValue) (owner : ℕ) (t : TableWork) (k : PageType) → k ≡ level_type t.level → (b a : Entered) → b ≡ a → EntersFound u x t.frame t.done k owner (Ok b) → TwinEntry u x t.frame k t.done owner (Ok b) →
+    ((pages : ℕ) → ShowsEntered u x owner pages k b) → ((pages : ℕ) → Serves u x (of_entries owner pages) []) → LeavesEntered u x t.frame k t.done owner b → SaidNext u x owner t a
+said_next u x owner t k is b a same found plain shows serves hand =
+    record {
+      entry = entered_ok u x owner t is b a same found plain shows;
+      serves = serves;
+      hand = subst (λ (j : PageType). LeavesEntered u x t.frame j t.done owner a) is (subst (λ (r : Entered). LeavesEntered u x t.frame k t.done owner r) same hand);
+    }
+
+module _ {u x : PortValue} {owner : ℕ} {t : TableWork} {a : Entered} (said : SaidNext u x owner t a) where
+  pub next_came : Came u x
+  next_came = serves_came u x (of_entries owner 0) [] (said.serves 0)
+
+  pub next_first : FirstFound u
+  next_first = entered_first u x t.frame t.done (level_type t.level) owner (Ok a) said.entry.found
+
+pub next_on_top : {u x : PortValue} {owner : ℕ} {t : TableWork} {stack more next : List TableWork} {f progress : ℕ} {own : Bool} → stack ≡ t ∷ drop 1 stack → 0 < left_on_top stack → SaidNext u x owner t (entered.Opened f progress own) → IsTopReady u →
+    more ≡ advanced stack → next ≡ pushed t f progress own false ∷ more → IsStanding u owner stack → OnTop u x owner stack next (pushed t f progress own false)
+next_on_top {u} {x} {owner} {t} {stack} {more} {next} {f} {progress} {own} top left said ready is on a =
+    let inner = pushed t f progress own false in
+    let room : 0 < 512 - t.done = subst (λ xs. 0 < left_on_top xs) top left in
+    record {
+      top = on ∙ ap (λ ys. inner ∷ ys) (sym (ap (λ ys. drop 1 ys) on));
+      stands = λ v s. subst (λ xs. Carries v x owner xs) (sym (on ∙ ap (λ ys. inner ∷ ys) (is ∙ ap advanced top)))
+          (after_next x (subst (λ xs. Carries v u owner xs) top s) (next_came said) (next_first said) f progress own (omega (arith, room)) ready
+          (opened_found u x t.frame t.done (level_type t.level) owner f progress own said.entry.found) said.hand);
+      serves = subst (λ xs. CarriesOn u x owner stack xs []) (sym (on ∙ ap (λ ys. inner ∷ ys) is))
+          (goes_inner u x owner stack inner stack [] (goes_opened u x owner stack (level_type t.level) f said.serves said.entry.shows inner refl (below_is top a)));
+    }
 
 -- The last recorded entry of the innermost table is looked at again, and its frame waits for a flush that is not to be had: it is left.
 module _ {u x : PortValue} {owner : ℕ} {t : TableWork} {stack : List TableWork} (top : stack ≡ t ∷ drop 1 stack) (some : t.done ≡ 0 → ⊥) {f stamp : ℕ} {stop : Stop} (said : SaidAgain u x owner t (again.Waiting f stamp stop)) (a : IsStanding u owner stack) where
   came : Came u x
   came = again_came said
-
-  below_is_waitedagain : below (level_type t.level) ≡ level_type (t.level - 1)
-  below_is_waitedagain =
-      let s = subst (λ xs. Carries a.0 u owner xs) top a.1 in
-      level_type-under t.level s.stack.0.low s.stack.0.high
 
   pub waited_inside : f < x.post.machine.frames
   waited_inside = subst (λ (p : Post). f < p.machine.frames) (sym (came_post u x came)) (waited_found u x t.frame (t.done - 1) (level_type t.level) owner f stamp stop said.entry.found)
@@ -227,19 +262,19 @@ module _ {u x : PortValue} {owner : ℕ} {t : TableWork} {stack : List TableWork
   -- it is left
   module _ {k : PageType} (kind : k ≡ level_type (t.level - 1)) where
     pub waited_waits : IsWaiting x f k false stamp
-    waited_waits = waits_there (t.level - 1) below_is_waitedagain said.hand.0 k stamp kind said.hand.1
+    waited_waits = waits_there (t.level - 1) (below_is top a) said.hand.0 k stamp kind said.hand.1
 
     module _ (y : PortValue) (on : Came x y) where
       pub waited_stands : GivesBack x y f k false → StandsOn u y owner stack stack
       waited_stands gives v s =
           subst (λ xs. Carries v y owner xs) (sym top)
           (after_look y (subst (λ xs. Carries v u owner xs) top s) (again_then said y on) (again_first said) (t.done - 1)
-          (left_waiting (t.level - 1) below_is_waitedagain said.hand.0 y k kind gives))
+          (left_waiting (t.level - 1) (below_is top a) said.hand.0 y k kind gives))
 
       pub waited_serves : ServesType x y f k → CarriesOn u y owner stack stack (missed u.post.machine stop)
       waited_serves serves =
           goes_waiting u y owner stack stack stop (said.entry.shows 0).1
-          (goes_left u x owner stack (level_type t.level) f said.serves (λ pages. (said.entry.shows pages).0) y (subst (λ j. ServesType x y f j) (kind ∙ sym below_is_waitedagain) serves))
+          (goes_left u x owner stack (level_type t.level) f said.serves (λ pages. (said.entry.shows pages).0) y (subst (λ j. ServesType x y f j) (kind ∙ sym (below_is top a)) serves))
 
       pub waited_stops : StopsIn u y owner stack stop
       waited_stops = stops_on u x owner stack stop y on (stops_entries u x owner stack stop (λ pages. (said.entry.shows pages).2))

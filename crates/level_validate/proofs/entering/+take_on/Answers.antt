@@ -1,4 +1,4 @@
-use Rattle.std.proofs.Common.{◌+◌, ◌-◌, ◌∷◌, [], drop, true, false, Err, sym, ap, ◌∙◌, subst, arith, refl, rules}
+use Rattle.std.proofs.Common.{◌+◌, ◌-◌, [], false, Err, sym, ap, ◌∙◌, subst, arith, refl, rules}
 use Rattle.std.proofs.lemmas.Result.{err_from_is_err_and}
 use Rattle.xp_words.specs.Entries.{below}
 use Rattle.xp_words.specs.declared.kind.PageType.{PageType}
@@ -16,8 +16,8 @@ use Rattle.level_validate.proofs.Entered.{after_look, back_one, again_lowers}
 use Rattle.level_validate.proofs.Steps.{forward_nothing, forward_then, well_nothing, well_then}
 use Rattle.level_validate.proofs.Standing.{top_inside, standing_above, standing_held, standing_looked, standing_top}
 use Rattle.level_validate.proofs.LeftWellEntries.{resumes_forward, resumes_well}
-use Rattle.level_validate.proofs.LookedAgain.{again_came, again_forward, again_then, again_well, said_again, settled_ready, settled_stands, opened_may, opened_ready, opened_serves, opened_stands, opened_stops, opened_table, top_low, fresh_on, opened_on, resumed_err, settled_on, shared_left, stopped_on, taken_on, waiting_on, took_gives, took_inside, took_progress, took_ready, took_serves, took_stands, shared_forward, shared_well, waited_inside, waited_kinds, waited_serves, waited_stands, waited_stops, waited_waits}
-use Rattle.level_validate.proofs.Pushing.{pushed}
+use Rattle.level_validate.proofs.Entered.{fresh_ready}
+use Rattle.level_validate.proofs.LookedAgain.{again_came, again_forward, again_then, again_well, said_again, settled_ready, settled_stands, again_on_top, opened_may, opened_standing, opened_stops, opened_table, top_low, fresh_on, opened_on, resumed_err, settled_on, shared_left, stopped_on, taken_on, waiting_on, took_gives, took_inside, took_progress, took_ready, took_serves, took_stands, shared_forward, shared_well, waited_inside, waited_kinds, waited_serves, waited_stands, waited_stops, waited_waits}
 use Rattle.level_validate.proofs.Filling.{progress_answer}
 use Rattle.level_validate.proofs.Looking.{resumed_first}
 use Rattle.table_entries.specs.declared.resuming.Resumed.TheVariants as again
@@ -147,50 +147,35 @@ pub push-requires-clause-table : goal.push-requires-clause-table
 push-requires-clause-table g n c =
     let e = c.in_ok-resume_entry.ensures in
     let said = said_again _ _ _ _ _ c.level_type.ensures c.in_ok-resume_entry.field-0 (again.Opened c.in-Opened.frame c.in-Opened.progress) c.in-Opened.is e.found e.plain e.shows e.serves e.hand in
-    opened_table c.requires.top c.if-top-eq0.false said c.requires.stands
+    opened_table (again_on_top c.requires.top c.if-top-eq0.false said refl c.requires.stands) c.requires.stands
 
 pub take_on-requires : goal.take_on-requires
 take_on-requires g n c κs low =
-    let u = g.P.Port.value c.args.port.now in
-    let x = g.P.Port.value c.resume_entry.new.port in
     let e = c.in_ok-resume_entry.ensures in
-    let said = said_again u x c.args.owner c.args.top c.level_type.result c.level_type.ensures c.in_ok-resume_entry.field-0 (again.Opened c.in-Opened.frame c.in-Opened.progress) c.in-Opened.is e.found e.plain e.shows e.serves e.hand in
+    let said = said_again _ _ _ _ _ c.level_type.ensures c.in_ok-resume_entry.field-0 (again.Opened c.in-Opened.frame c.in-Opened.progress) c.in-Opened.is e.found e.plain e.shows e.serves e.hand in
     let a = c.requires.stands in
-    let inner = pushed c.args.top c.in-Opened.frame c.in-Opened.progress false true in
-    let d = c.decreases in (
-      omega (arith, d, (top_low u c.args.owner c.args.top c.args.stack.now c.requires.top a)),
-      (
-        low,
-        (
-          opened_may c.requires.top c.if-top-eq0.false said a c.requires.may,
-          (c.push.ensures.pushed ∙ ap (λ ys. inner ∷ ys) (sym (ap (λ ys. drop 1 ys) c.push.ensures.pushed)), ((a.0, opened_stands c.requires.top c.if-top-eq0.false said c.push.ensures.pushed a.0 a.1), λ zero. opened_ready c.requires.top c.if-top-eq0.false said zero)),
-        ),
-      ),
-    )
+    let on = again_on_top c.requires.top c.if-top-eq0.false said c.push.ensures.pushed a in
+    let d = c.decreases in
+    (omega (arith, d, (top_low c.requires.top a)), (low, (opened_may on a c.requires.may, (on.top, (opened_standing on a, λ zero. fresh_ready _ _ _ _ _ _ _ _ _ said.hand zero)))))
 
 pub returns-in-Opened : goal.returns-in-Opened
 returns-in-Opened g n c =
-    let u = g.P.Port.value c.args.port.now in
-    let x = g.P.Port.value c.resume_entry.new.port in
     let e = c.in_ok-resume_entry.ensures in
-    let said = said_again u x c.args.owner c.args.top c.level_type.result c.level_type.ensures c.in_ok-resume_entry.field-0 (again.Opened c.in-Opened.frame c.in-Opened.progress) c.in-Opened.is e.found e.plain e.shows e.serves e.hand in
-    let t = c.args.top in
-    let inner = pushed t c.in-Opened.frame c.in-Opened.progress false true in
+    let said = said_again _ _ _ _ _ c.level_type.ensures c.in_ok-resume_entry.field-0 (again.Opened c.in-Opened.frame c.in-Opened.progress) c.in-Opened.is e.found e.plain e.shows e.serves e.hand in
+    let on = again_on_top c.requires.top c.if-top-eq0.false said c.push.ensures.pushed c.requires.stands in
     record {
-      came = again_then said (g.P.Port.value c.take_on.new.port) c.take_on.ensures.came;
-      forward = forward_then u x (g.P.Port.value c.take_on.new.port) (again_forward said c.args.stack.now c.requires.top c.requires.stands c.if-top-eq0.false) c.take_on.ensures.forward;
-      leaves = λ f. well_then u x (g.P.Port.value c.take_on.new.port) false f (again_well said f) (c.take_on.ensures.leaves f);
-      stands = λ v s. c.take_on.ensures.stands v (opened_stands c.requires.top c.if-top-eq0.false said c.push.ensures.pushed v s);
+      came = again_then said _ c.take_on.ensures.came;
+      forward = forward_then _ _ _ (again_forward said _ c.requires.top c.requires.stands c.if-top-eq0.false) c.take_on.ensures.forward;
+      leaves = λ f. well_then _ _ _ false f (again_well said f) (c.take_on.ensures.leaves f);
+      stands = λ v s. c.take_on.ensures.stands v (on.stands v s);
       ready = search rules;
       kinds = search rules;
       outer = search rules;
-      progress = progress_answer u x (g.P.Port.value c.take_on.new.port) c.take_on.result (serves_came u x (of_entries c.args.owner 0) [] (c.in_ok-resume_entry.ensures.serves 0)) c.take_on.ensures.progress;
-      less = again_lowers c.take_on.result (weight c.take_on.new.stack) inner t (drop 1 c.args.stack.now) c.args.stack.now c.push.new.self c.push.ensures.stack c.requires.top c.push.ensures.pushed c.take_on.ensures.less;
-      serves = goes_on u x (g.P.Port.value c.take_on.new.port) c.args.owner c.args.stack.now c.push.new.self c.take_on.new.stack c.take_on.result (again_came said)
-          (opened_serves c.requires.top c.if-top-eq0.false said c.push.ensures.pushed c.requires.stands) c.take_on.ensures.serves;
-      stops = opened_stops c.requires.top c.if-top-eq0.false said c.push.ensures.pushed c.requires.stands (g.P.Port.value c.take_on.new.port) c.take_on.result c.take_on.ensures.stops;
-      course = opened_on c.args.owner u c.requires.top c.if-top-eq0.false x (g.P.Port.value c.take_on.new.port) c.in-Opened.frame c.in-Opened.progress c.take_on.result
-          c.push.new.self c.take_on.new.stack c.push.ensures.pushed said.entry c.take_on.ensures.course;
+      progress = progress_answer _ _ _ c.take_on.result (again_came said) c.take_on.ensures.progress;
+      less = again_lowers c.take_on.result (weight c.take_on.new.stack) _ _ _ _ _ c.push.ensures.stack c.requires.top c.push.ensures.pushed c.take_on.ensures.less;
+      serves = goes_on _ _ _ _ _ c.push.new.self _ c.take_on.result (again_came said) on.serves c.take_on.ensures.serves;
+      stops = opened_stops on _ c.take_on.result c.take_on.ensures.stops;
+      course = opened_on _ _ c.requires.top c.if-top-eq0.false _ _ c.in-Opened.frame c.in-Opened.progress c.take_on.result c.push.new.self _ c.push.ensures.pushed said.entry c.take_on.ensures.course;
     }
 
 -- ---- it waits for a flush
