@@ -57,26 +57,25 @@ take_type-requires g c =
 
 pub returns-in-Ok-Counted : goal.returns-in-Ok-Counted
 returns-in-Ok-Counted g c =
-    let v = g.P.Port.value c.args.port.now in
     let x = g.P.Port.value c.take_type.new.port in
     let b = g.P.Port.value c.get_ref.new.port in
     let h = c.in_ok-frame.frame in
     let taken : TakesAs b x h c.args.owner c.level_type.result Counted = subst (λ t. TakesAs b x h c.args.owner c.level_type.result t) c.in-Ok-Counted.field-0-is c.in-Ok-Counted.ensures.hand in
     record {
       frame = search rules;
-      serves = λ pages. plain_acquired v x c.args.f c.args.owner c.args.level pages (Ok c.in_ok-frame.frame)
-          (taken_serves v c.args.f c.args.owner c.args.level pages false (g.P.Port.value c.get_ref.new.port) c.in_ok-frame.ensures.serves c.in_ok-frame.ensures.frame.0 c.level_type.ensures x c.in-Ok-Counted.ensures.serves);
+      serves = λ pages. plain_acquired _ _ _ _ _ pages (Ok c.in_ok-frame.frame)
+          (taken_serves _ _ _ _ pages false _ c.in_ok-frame.ensures.serves c.in_ok-frame.ensures.frame.0 c.level_type.ensures _ c.in-Ok-Counted.ensures.serves);
       stops = search rules;
       kinds = search rules;
-      forward = had_forward v b x c.args.f c.args.owner c.args.level c.get_ref.result c.get_ref.ensures.gets c.in_ok-frame.frame c.level_type.ensures c.take_type.result c.take_type.ensures.found;
-      leaves = had_well v b x c.args.f c.args.owner c.args.level c.get_ref.result c.get_ref.ensures.gets c.in_ok-frame.frame c.level_type.ensures c.take_type.result c.take_type.ensures.found false c.args.f;
+      forward = had_forward _ _ _ _ _ _ _ c.get_ref.ensures.gets c.in_ok-frame.frame c.level_type.ensures _ c.take_type.ensures.found;
+      leaves = had_well _ _ _ _ _ _ _ c.get_ref.ensures.gets c.in_ok-frame.frame c.level_type.ensures _ c.take_type.ensures.found false _;
       hand = counted_hand b h c.args.owner c.requires.idle c.in_ok-frame.ensures.hand x (level_type c.args.level) (subst (λ k. TakesAs b x h c.args.owner k Counted) c.level_type.ensures taken);
       gate = search rules;
       heard = search rules;
       says = search rules;
       paces = search rules;
       calm = search rules;
-      course = counted_by v c.args.f c.args.owner c.args.level _ _ _ b c.in_ok-frame.ensures.frame.0 c.in_ok-frame.ensures.gets c.in_ok-frame.ensures.plain x c.level_type.ensures
+      course = counted_by _ _ _ _ _ _ _ _ c.in_ok-frame.ensures.frame.0 c.in_ok-frame.ensures.gets c.in_ok-frame.ensures.plain _ c.level_type.ensures
           c.in-Ok-Counted.field-0 c.in-Ok-Counted.ensures.found c.in-Ok-Counted.ensures.plain c.in-Ok-Counted.ensures.waits c.in-Ok-Counted.field-0-is;
     }
 
@@ -87,20 +86,17 @@ returns-in-Err g c =
     let v = g.P.Port.value c.args.port.now in
     let w = g.P.Port.value c.put_ref.new.port in
     let e = c.in-Err.stop in
-    let b = g.P.Port.value c.get_ref.new.port in
-    let x = g.P.Port.value c.take_type.new.port in
-    let before = had_forward v b x c.args.f c.args.owner c.args.level c.get_ref.result c.get_ref.ensures.gets c.in_ok-frame.frame c.level_type.ensures c.take_type.result c.take_type.ensures.found in
-    let kept = not (is_refused c.in-Err.stop) in
+    let before = had_forward _ _ _ _ _ _ _ c.get_ref.ensures.gets c.in_ok-frame.frame c.level_type.ensures _ c.take_type.ensures.found in
     record {
       frame = search rules;
-      serves = λ pages. plain_acquired v w c.args.f c.args.owner c.args.level pages (Err e)
-          (stopped_serves v c.args.f c.args.owner c.args.level pages (is_due_stop e) (g.P.Port.value c.get_ref.new.port) c.in_ok-frame.ensures.serves c.in_ok-frame.ensures.frame.0 c.level_type.ensures
+      serves = λ pages. plain_acquired _ _ _ _ _ pages (Err e)
+          (stopped_serves _ _ _ _ pages (is_due_stop e) _ c.in_ok-frame.ensures.serves c.in_ok-frame.ensures.frame.0 c.level_type.ensures
           (g.P.Port.value c.take_type.new.port) w e c.in-Err.ensures.serves c.put_ref.ensures.serves);
-      stops = λ pages. stopped_stops (g.P.Port.value c.args.port.now) c.args.f c.args.owner c.args.level pages _ (g.P.Port.value c.get_ref.new.port) c.in_ok-frame.ensures.serves c.in_ok-frame.ensures.frame.0
+      stops = λ pages. stopped_stops _ _ _ _ pages _ _ c.in_ok-frame.ensures.serves c.in_ok-frame.ensures.frame.0
           c.level_type.ensures (g.P.Port.value c.take_type.new.port) (g.P.Port.value c.put_ref.new.port) c.in-Err.stop c.in-Err.ensures.kinds c.in-Err.ensures.stops c.put_ref.ensures.serves;
       kinds = search rules;
-      forward = forward_then v x w before (forward_by x w (λ vs. PutBy c.in_ok-frame.frame vs) (put_plain c.in_ok-frame.frame) c.put_ref.ensures.puts);
-      leaves = well_then v x w kept c.args.f (had_well v b x c.args.f c.args.owner c.args.level c.get_ref.result c.get_ref.ensures.gets c.in_ok-frame.frame c.level_type.ensures c.take_type.result c.take_type.ensures.found kept c.args.f) (well_by x w kept c.args.f (λ vs. PutBy c.in_ok-frame.frame vs) (put_plain c.in_ok-frame.frame) c.put_ref.ensures.puts);
+      forward = forward_then _ _ _ before (forward_by _ _ (λ vs. PutBy c.in_ok-frame.frame vs) (put_plain c.in_ok-frame.frame) c.put_ref.ensures.puts);
+      leaves = well_then _ _ _ _ _ (had_well _ _ _ _ _ _ _ c.get_ref.ensures.gets c.in_ok-frame.frame c.level_type.ensures _ c.take_type.ensures.found _ _) (well_by _ _ _ _ (λ vs. PutBy c.in_ok-frame.frame vs) (put_plain c.in_ok-frame.frame) c.put_ref.ensures.puts);
       hand = same_leaves v w c.args.f c.args.owner c.args.level c.in-Err.stop
           (given_hand (g.P.Port.value c.get_ref.new.port) c.in_ok-frame.frame c.args.owner c.requires.idle c.in_ok-frame.ensures.hand (g.P.Port.value c.take_type.new.port) w c.in-Err.ensures.hand c.put_ref.ensures.hand);
       gate = search rules;
@@ -108,7 +104,7 @@ returns-in-Err g c =
       says = search rules;
       paces = search rules;
       calm = search rules;
-      course = untyped_by v c.args.f c.args.owner c.args.level _ _ _ b c.in_ok-frame.ensures.frame.0 c.in_ok-frame.ensures.gets c.in_ok-frame.ensures.plain x c.level_type.ensures
+      course = untyped_by _ _ _ _ _ _ _ _ c.in_ok-frame.ensures.frame.0 c.in_ok-frame.ensures.gets c.in_ok-frame.ensures.plain _ c.level_type.ensures
           (g.P.Port.value c.put_ref.new.port) c.in-Err.stop c.in-Err.ensures.kinds c.in-Err.ensures.found c.in-Err.ensures.plain c.in-Err.ensures.stops c.put_ref.ensures.puts c.put_ref.ensures.plain;
     }
 
@@ -127,28 +123,28 @@ returns-in-Ok-Waiting g c =
     let own = c.in-Ok-Waiting.own in
     let stamp = c.in-Ok-Waiting.stamp in
     let waits : TakesAs b x h c.args.owner c.level_type.result (Waiting own stamp c.in-Ok-Waiting.stop) = subst (λ t. TakesAs b x h c.args.owner c.level_type.result t) c.in-Ok-Waiting.field-0-is c.in-Ok-Waiting.ensures.hand in
-    let before = had_forward v b x c.args.f c.args.owner c.args.level c.get_ref.result c.get_ref.ensures.gets c.in_ok-frame.frame c.level_type.ensures c.take_type.result c.take_type.ensures.found in
+    let before = had_forward _ _ _ _ _ _ _ c.get_ref.ensures.gets c.in_ok-frame.frame c.level_type.ensures _ c.take_type.ensures.found in
     let took = c.in-Ok-Waiting in
     record {
       frame = search rules;
-      serves = λ pages. let before = taken_serves v c.args.f c.args.owner c.args.level pages (is_due_stop e) b c.in_ok-frame.ensures.serves c.in_ok-frame.ensures.frame.0 c.level_type.ensures x c.in-Ok-Waiting.ensures.serves in
-          marked_acquired v w c.args.f c.args.owner c.args.level pages h kept (Err e) c.in_ok-frame.ensures.frame.0 c.is_paused.ensures
-          (waited_serves v c.args.f c.args.owner c.args.level pages (is_due_stop e) x before c.in_ok-frame.ensures.frame.0 w e kept shows.0 c.leave_waiting.ensures.serves);
-      stops = λ pages. waited_stops v c.args.f c.args.owner c.args.level pages (is_due_stop e) b c.in_ok-frame.ensures.serves c.in_ok-frame.ensures.frame.0 c.level_type.ensures x (g.P.Port.value c.leave_waiting.new.port)
+      serves = λ pages. let before = taken_serves _ _ _ _ pages (is_due_stop e) _ c.in_ok-frame.ensures.serves c.in_ok-frame.ensures.frame.0 c.level_type.ensures _ c.in-Ok-Waiting.ensures.serves in
+          marked_acquired _ _ _ _ _ pages _ _ (Err e) c.in_ok-frame.ensures.frame.0 c.is_paused.ensures
+          (waited_serves _ _ _ _ pages (is_due_stop e) _ before c.in_ok-frame.ensures.frame.0 _ _ _ shows.0 c.leave_waiting.ensures.serves);
+      stops = λ pages. waited_stops _ _ _ _ pages (is_due_stop e) _ c.in_ok-frame.ensures.serves c.in_ok-frame.ensures.frame.0 c.level_type.ensures _ _
           e shows.0 shows.1 c.leave_waiting.ensures.came;
       kinds = search rules;
-      forward = forward_then v x (g.P.Port.value c.leave_waiting.new.port) before c.leave_waiting.ensures.forward;
+      forward = forward_then _ _ _ before c.leave_waiting.ensures.forward;
       leaves = let kept = not (is_refused c.in-Ok-Waiting.stop) in
-          well_then v x w kept c.args.f (had_well v b x c.args.f c.args.owner c.args.level c.get_ref.result c.get_ref.ensures.gets c.in_ok-frame.frame c.level_type.ensures c.take_type.result c.take_type.ensures.found kept c.args.f)
+          well_then _ _ _ _ _ (had_well _ _ _ _ _ _ _ c.get_ref.ensures.gets c.in_ok-frame.frame c.level_type.ensures _ c.take_type.ensures.found _ _)
           (subst (λ h. LeftWell x w kept h) c.in_ok-frame.ensures.frame.0 (subst (λ k. LeftWell x w k c.in_ok-frame.frame) c.is_paused.ensures c.leave_waiting.ensures.leaves));
       hand = answer_leaves v (g.P.Port.value c.leave_waiting.new.port) c.args.f c.args.owner c.args.level h own c.is_paused.result c.in-Ok-Waiting.stop c.in_ok-frame.ensures.frame.0 c.is_paused.ensures
-          (c.leave_waiting.ensures.hand v (waits_on v b x h c.args.owner c.args.level own stamp c.level_type.result c.level_type.ensures c.requires.idle c.in_ok-frame.ensures.hand waits));
+          (c.leave_waiting.ensures.hand v (waits_on _ _ _ _ _ _ _ _ _ c.level_type.ensures c.requires.idle c.in_ok-frame.ensures.hand waits));
       gate = search rules;
       heard = search rules;
       says = search rules;
       paces = search rules;
       calm = search rules;
-      course = waiting_by v c.args.f c.args.owner c.args.level _ _ _ b c.in_ok-frame.ensures.frame.0 c.in_ok-frame.ensures.gets c.in_ok-frame.ensures.plain x c.level_type.ensures
+      course = waiting_by _ _ _ _ _ _ _ _ c.in_ok-frame.ensures.frame.0 c.in_ok-frame.ensures.gets c.in_ok-frame.ensures.plain _ c.level_type.ensures
           took.field-0 took.ensures.found took.ensures.plain took.ensures.waits took.own took.stamp took.stop took.field-0-is (g.P.Port.value c.leave_waiting.new.port) c.is_paused.result c.is_paused.ensures c.leave_waiting.ensures.course;
     }
 
@@ -218,24 +214,24 @@ returns-in_err-validate-in-Ok-InWork g c =
     let answer = err_from_is_err_and result c.from_residual-in_err-validate-in-Ok-InWork.ensures.1 in
     let hand : TakesAs b x h c.args.owner c.level_type.result (InWork progress own) = subst (λ t. TakesAs b x h c.args.owner c.level_type.result t) c.in-Ok-InWork.field-0-is c.in-Ok-InWork.ensures.hand in
     let found : TakesFound b x h c.args.owner c.level_type.result (Ok (InWork progress own)) = subst (λ t. TakesFound b x h c.args.owner c.level_type.result (Ok t)) c.in-Ok-InWork.field-0-is c.in-Ok-InWork.ensures.found in
-    let carries = carries_taken v b x h c.args.owner c.args.level progress own c.level_type.result c.requires.idle c.in_ok-frame.ensures.hand c.level_type.ensures c.requires.low c.requires.high c.in_ok-frame.ensures.frame.1 hand.1 found in
-    let before = had_forward v b x c.args.f c.args.owner c.args.level c.get_ref.result c.get_ref.ensures.gets c.in_ok-frame.frame c.level_type.ensures c.take_type.result c.take_type.ensures.found in
+    let carries = carries_taken _ _ _ _ _ _ _ _ _ c.requires.idle c.in_ok-frame.ensures.hand c.level_type.ensures c.requires.low c.requires.high c.in_ok-frame.ensures.frame.1 hand.1 found in
+    let before = had_forward _ _ _ _ _ _ _ c.get_ref.ensures.gets c.in_ok-frame.frame c.level_type.ensures _ c.take_type.ensures.found in
     let kept = not (is_refused e) in
     let took = c.in-Ok-InWork in
     record {
       frame = search rules;
-      serves = λ pages. let before = taken_serves v c.args.f c.args.owner c.args.level pages (is_due_stop e) b c.in_ok-frame.ensures.serves c.in_ok-frame.ensures.frame.0 c.level_type.ensures x c.in-Ok-InWork.ensures.serves in
-          serves_as v w c.args.f c.args.owner c.args.level pages result e (answer.1 ∙ ap Err answer.2)
-          (marked_acquired v w c.args.f c.args.owner c.args.level pages h (not (is_refused e)) (Err e) c.in_ok-frame.ensures.frame.0 refl
-          (validated_misses v c.args.f c.args.owner c.args.level pages (is_due_stop e) x before c.in_ok-frame.ensures.frame.0 progress own w (not (is_refused e)) e c.in_err-validate-in-Ok-InWork.ensures.serves));
-      stops = λ pages. let before = taken_serves v c.args.f c.args.owner c.args.level pages (is_due_stop e) b c.in_ok-frame.ensures.serves c.in_ok-frame.ensures.frame.0 c.level_type.ensures x c.in-Ok-InWork.ensures.serves in
-          stops_as v w c.args.f c.args.owner c.args.level pages result e (answer.1 ∙ ap Err answer.2)
-          (validated_stops v c.args.f c.args.owner c.args.level pages (is_due_stop e) x before c.in_ok-frame.ensures.frame.0 progress own w e (λ due. due) carries c.in_err-validate-in-Ok-InWork.ensures.stops);
+      serves = λ pages. let before = taken_serves _ _ _ _ pages (is_due_stop e) _ c.in_ok-frame.ensures.serves c.in_ok-frame.ensures.frame.0 c.level_type.ensures _ c.in-Ok-InWork.ensures.serves in
+          serves_as _ _ _ _ _ pages _ _ (answer.1 ∙ ap Err answer.2)
+          (marked_acquired _ _ _ _ _ pages _ (not (is_refused e)) (Err e) c.in_ok-frame.ensures.frame.0 refl
+          (validated_misses _ _ _ _ pages (is_due_stop e) _ before c.in_ok-frame.ensures.frame.0 _ _ _ (not (is_refused e)) _ c.in_err-validate-in-Ok-InWork.ensures.serves));
+      stops = λ pages. let before = taken_serves _ _ _ _ pages (is_due_stop e) _ c.in_ok-frame.ensures.serves c.in_ok-frame.ensures.frame.0 c.level_type.ensures _ c.in-Ok-InWork.ensures.serves in
+          stops_as _ _ _ _ _ pages _ _ (answer.1 ∙ ap Err answer.2)
+          (validated_stops _ _ _ _ pages (is_due_stop e) _ before c.in_ok-frame.ensures.frame.0 _ _ _ _ (λ due. due) carries c.in_err-validate-in-Ok-InWork.ensures.stops);
       kinds = search rules;
-      forward = forward_then v x (g.P.Port.value c.validate.new.port) before c.in_err-validate-in-Ok-InWork.ensures.forward;
+      forward = forward_then _ _ _ before c.in_err-validate-in-Ok-InWork.ensures.forward;
       leaves = let answer = err_from_is_err_and c.from_residual-in_err-validate-in-Ok-InWork.result c.from_residual-in_err-validate-in-Ok-InWork.ensures.1 in
           subst (λ r. LeftWell v w (is_paused_answer r) c.args.f) (sym (answer.1 ∙ ap Err answer.2))
-          (well_then v x w kept c.args.f (had_well v b x c.args.f c.args.owner c.args.level c.get_ref.result c.get_ref.ensures.gets c.in_ok-frame.frame c.level_type.ensures c.take_type.result c.take_type.ensures.found kept c.args.f) (subst (λ h. LeftWell x w kept h) c.in_ok-frame.ensures.frame.0 c.in_err-validate-in-Ok-InWork.ensures.leaves));
+          (well_then _ _ _ _ _ (had_well _ _ _ _ _ _ _ c.get_ref.ensures.gets c.in_ok-frame.frame c.level_type.ensures _ c.take_type.ensures.found _ _) (subst (λ h. LeftWell x w kept h) c.in_ok-frame.ensures.frame.0 c.in_err-validate-in-Ok-InWork.ensures.leaves));
       hand = leaves_as v w c.args.f c.args.owner c.args.level result e (answer.1 ∙ ap Err answer.2)
           (unwound_leaves v w c.args.f c.args.owner c.args.level x h progress own e c.in_ok-frame.ensures.frame.0 carries c.in_err-validate-in-Ok-InWork.ensures.hand);
       gate = search rules;

@@ -66,23 +66,23 @@ returns-in_err-go_on g c =
     let e = c.in_err-go_on.field-0.0 in
     record {
       came = filling_came c.loop-port.invariant.tables (g.P.Port.value c.go_on.new.port) c.go_on.new.stack c.in_err-go_on.ensures.came;
-      forward = forward_then (g.P.Port.value c.args.port.now) (g.P.Port.value c.loop-port.port) (g.P.Port.value c.go_on.new.port) c.loop-port.invariant.tables.forward c.in_err-go_on.ensures.forward;
-      leaves = λ f. well_then (g.P.Port.value c.args.port.now) (g.P.Port.value c.loop-port.port) (g.P.Port.value c.go_on.new.port) false f (c.loop-port.invariant.tables.leaves f) (c.in_err-go_on.ensures.leaves f);
+      forward = forward_then _ _ _ c.loop-port.invariant.tables.forward c.in_err-go_on.ensures.forward;
+      leaves = λ f. well_then _ _ _ false f (c.loop-port.invariant.tables.leaves f) (c.in_err-go_on.ensures.leaves f);
       stands = search rules;
       outer = search rules;
       filled = search rules;
       ready = search rules;
       kinds = search rules;
-      serves = filling_serves c.loop-port.invariant.tables w c.go_on.new.stack r
-          (goes_answer (g.P.Port.value c.loop-port.port) w c.args.owner c.loop-port.stack c.go_on.new.stack r c.in_err-go_on.field-0.0 (answer.1 ∙ ap Err answer.2) c.in_err-go_on.ensures.serves);
-      stops = risen_answer (g.P.Port.value c.args.port.now) w c.args.owner c.args.stack.now r e (answer.1 ∙ ap Err answer.2)
+      serves = filling_serves c.loop-port.invariant.tables _ _ r
+          (goes_answer _ _ _ c.loop-port.stack _ r c.in_err-go_on.field-0.0 (answer.1 ∙ ap Err answer.2) c.in_err-go_on.ensures.serves);
+      stops = risen_answer _ _ _ _ r _ (answer.1 ∙ ap Err answer.2)
           (filling_stops c.loop-port.invariant.tables w c.go_on.new.stack e c.in_err-go_on.ensures.stops);
       gate = search rules;
       heard = search rules;
       says = search rules;
       paces = search rules;
       calm = search rules;
-      course = working_stops c.args.owner (g.P.Port.value c.args.port.now) c.args.table _ _ _ (g.P.Port.value c.loop-port.port) (g.P.Port.value c.go_on.new.port) c.loop-port.stack c.go_on.new.stack _ _ _ _ _ r e (answer.1 ∙ ap Err answer.2)
+      course = working_stops _ _ _ _ _ _ _ _ c.loop-port.stack _ _ _ _ _ _ r _ (answer.1 ∙ ap Err answer.2)
           c.loop-port.invariant.says c.loop-port.invariant.course c.in_err-go_on.ensures.course;
     }
 

@@ -31,12 +31,12 @@ returns-then-not-own g c =
     let is = unkept_is c.requires.waits.1 c.level_type-kind.ensures c.if-not-own.true in
     record {
       came = search rules;
-      forward = forward_by x w (λ vs. SharedBy f k c.args.stamp vs) (shared_plain f k c.args.stamp is) c.leave_shared.ensures.visits;
-      leaves = well_by x (g.P.Port.value c.leave_shared.new.port) c.args.kept f (λ vs. SharedBy f k c.args.stamp vs) (shared_plain f k c.args.stamp is) c.leave_shared.ensures.visits;
-      serves = λ u r ds before asks locks. marked_none u w r c.args.owner c.args.kept f ds (type_left u x w r ds f c.args.owner c.args.level before asks (subst (λ k. ServesType x w f k) c.level_type-kind.ensures c.leave_shared.ensures.serves));
+      forward = forward_by _ _ (λ vs. SharedBy f k c.args.stamp vs) (shared_plain _ _ _ is) c.leave_shared.ensures.visits;
+      leaves = well_by _ _ _ _ (λ vs. SharedBy f k c.args.stamp vs) (shared_plain _ _ _ is) c.leave_shared.ensures.visits;
+      serves = λ u r ds before asks locks. marked_none u _ r _ _ _ ds (type_left u _ _ r ds _ _ _ before asks (subst (λ k. ServesType x w f k) c.level_type-kind.ensures c.leave_shared.ensures.serves));
       hand = λ v a. lent_hand v w c.args.frame c.args.owner c.args.own c.args.kept c.if-not-own.true
           (gives_left a c.level_type-kind.ensures c.if-not-own.true w c.leave_shared.ensures.hand);
-      course = waiting_lent (g.P.Port.value c.args.port.now) (g.P.Port.value c.leave_shared.new.port) c.args.frame c.args.level c.args.owner c.args.stamp c.args.own c.args.kept c.level_type-kind.ensures
+      course = waiting_lent _ _ _ _ _ _ _ _ c.level_type-kind.ensures
           c.if-not-own.true c.leave_shared.ensures.visits;
     }
 
@@ -66,13 +66,13 @@ returns-then-kept g c =
     let may = mark_may c.requires.waits.1 c.level_type-kind.ensures c.if-not-own.false in
     record {
       came = search rules;
-      forward = kept_forward (g.P.Port.value c.args.port.now) (g.P.Port.value c.leave_kept.new.port) c.args.frame c.waiting_kind.result c.args.owner c.leave_kept.ensures.course;
-      leaves = kept_well f (partial_kind c.level_type-kind.result true true 0 c.args.stamp) may.is refl c.if-kept.true x d c.args.owner (subst (λ (k : KindWord). KeptFor x d f k c.args.owner) c.waiting_kind.ensures c.leave_kept.ensures.course);
-      serves = λ u r ds before asks locks. marked_kept u (g.P.Port.value c.leave_kept.new.port) r c.args.owner c.args.kept c.args.frame ds c.if-kept.true (c.leave_kept.ensures.serves u r ds before (of c.args.owner _ asks) locks);
+      forward = kept_forward _ _ _ _ _ c.leave_kept.ensures.course;
+      leaves = kept_well _ (partial_kind c.level_type-kind.result true true 0 c.args.stamp) may.is refl c.if-kept.true _ _ _ (subst (λ (k : KindWord). KeptFor x d f k c.args.owner) c.waiting_kind.ensures c.leave_kept.ensures.course);
+      serves = λ u r ds before asks locks. marked_kept u _ r _ _ _ ds c.if-kept.true (c.leave_kept.ensures.serves u r ds before (of c.args.owner _ asks) locks);
       hand = λ v a. kept_hand v d c.args.frame c.args.owner c.args.own c.args.kept c.if-not-own.false c.if-kept.true
           (mark_left a c.level_type-kind.ensures c.if-not-own.false d
           (subst (λ (k : KindWord). LeavesKept x d c.args.frame k c.args.owner) c.waiting_kind.ensures c.leave_kept.ensures.hand));
-      course = waiting_kept (g.P.Port.value c.args.port.now) (g.P.Port.value c.leave_kept.new.port) c.args.frame c.args.level c.args.owner c.args.stamp c.args.own c.args.kept c.level_type-kind.ensures
+      course = waiting_kept _ _ _ _ _ _ _ _ c.level_type-kind.ensures
           c.if-not-own.false c.if-kept.true c.waiting_kind.result c.waiting_kind.ensures c.leave_kept.ensures.course;
     }
 
@@ -105,14 +105,14 @@ returns-else-kept g c =
     let k = partial_kind c.level_type-kind.result false true 0 c.args.stamp in
     let is = unkept_is c.requires.waits.1 c.level_type-kind.ensures c.if-not-own.false in
     record {
-      came = came_trans (g.P.Port.value c.args.port.now) d z c.leave_unsettled.ensures.came (moves_came d z _ _ _ _ 0 c.put_old.ensures.moves);
-      forward = forward_then u d z (forward_by u d (λ vs. StoresKind f k vs) (stores_plain f k is refl refl) c.leave_unsettled.ensures.visits) (forward_step d z _ _ _ _ 0 refl refl c.put_old.ensures.moves);
-      leaves = well_then x d z c.args.kept f (well_by x d c.args.kept f (λ vs. StoresKind f k vs) (stores_plain f k is refl refl) c.leave_unsettled.ensures.visits)
-          (well_step d z c.args.kept f _ _ _ _ 0 refl c.put_old.ensures.moves);
-      serves = λ u r ds before asks locks. marked_none u z r c.args.owner c.args.kept f ds
-          (old_serves u d z r ds (type_left u x d r ds f c.args.owner c.args.level before asks (subst (λ k. ServesType x d f k) c.level_type-kind.ensures c.leave_unsettled.ensures.serves)) (f + 1) c.put_old.ensures.moves);
+      came = came_trans _ _ _ c.leave_unsettled.ensures.came (moves_came _ _ _ _ _ _ 0 c.put_old.ensures.moves);
+      forward = forward_then _ _ _ (forward_by _ _ (λ vs. StoresKind f k vs) (stores_plain _ _ is refl refl) c.leave_unsettled.ensures.visits) (forward_step _ _ _ _ _ _ 0 refl refl c.put_old.ensures.moves);
+      leaves = well_then _ _ _ _ _ (well_by _ _ _ _ (λ vs. StoresKind f k vs) (stores_plain _ _ is refl refl) c.leave_unsettled.ensures.visits)
+          (well_step _ _ _ _ _ _ _ _ 0 refl c.put_old.ensures.moves);
+      serves = λ u r ds before asks locks. marked_none _ _ r _ _ _ ds
+          (old_serves _ _ _ r ds (type_left _ _ _ r ds _ _ _ before asks (subst (λ k. ServesType x d f k) c.level_type-kind.ensures c.leave_unsettled.ensures.serves)) (f + 1) c.put_old.ensures.moves);
       hand = λ v a. named_hand v z c.args.frame c.args.owner c.args.own c.args.kept c.if-not-own.false c.if-kept.false
           (named_left a c.level_type-kind.ensures c.if-not-own.false d c.leave_unsettled.ensures.hand z c.put_old.ensures.hand);
-      course = waiting_named (g.P.Port.value c.args.port.now) (g.P.Port.value c.put_old.new.port) c.args.frame c.args.level c.args.owner c.args.stamp c.args.own c.args.kept c.level_type-kind.ensures
+      course = waiting_named _ _ _ _ _ _ _ _ c.level_type-kind.ensures
           c.if-not-own.false c.if-kept.false (g.P.Port.value c.leave_unsettled.new.port) c.leave_unsettled.ensures.visits c.put_old.ensures.moves;
     }

@@ -1,7 +1,6 @@
-use Rattle.frame_types.specs.Plain.{is_refused}
 use Rattle.level_validate.specs.Leaving.{LeftWell}
 use Rattle.level_validate.proofs.Steps.{well_more, well_then, forward_then}
-use Rattle.std.proofs.Common.{◌≡◌, ◌<◌, ◌∷◌, ◌∙◌, [], List, length, refl, sym, ap, subst, false, not, rules}
+use Rattle.std.proofs.Common.{◌≡◌, ◌<◌, ◌∷◌, ◌∙◌, [], List, length, refl, sym, ap, subst, false, rules}
 use Rattle.xp_board.specs.Told.{Post}
 use Rattle.step_maker.proofs.Coming.{came_post, came_trans}
 use Rattle.partial_state.specs.declared.stack.TableWork.{TableWork}
@@ -28,8 +27,8 @@ complete_outer-requires g c =
     let one = only c.args.table c.new-stack.result c.push.new.self c.new-stack.ensures c.push.ensures.pushed in
     let t = c.args.table in
     record {
-      may = on_may u x c.args.owner c.push.new.self c.fill.new.stack (subst (λ us. IsStanding u c.args.owner us) (sym one) c.requires.stands) c.fill.ensures.stands c.requires.may;
-      stands = let one = only t c.new-stack.result c.push.new.self c.new-stack.ensures c.push.ensures.pushed in let stands = on_stands u x c.args.owner c.push.new.self c.fill.new.stack (subst (λ us. IsStanding u c.args.owner us) (sym one) c.requires.stands) c.fill.ensures.stands in
+      may = on_may _ _ _ _ _ (subst (λ us. IsStanding u c.args.owner us) (sym one) c.requires.stands) c.fill.ensures.stands c.requires.may;
+      stands = let one = only t c.new-stack.result c.push.new.self c.new-stack.ensures c.push.ensures.pushed in let stands = on_stands _ _ _ _ _ (subst (λ us. IsStanding u c.args.owner us) (sym one) c.requires.stands) c.fill.ensures.stands in
           (c.args.owner, subst (λ us. IsStanding x c.args.owner us) (filled_is t c.fill.new.stack c.in-Ok.ensures.filled (c.fill.ensures.outer ∙ ap outermost_work one)) stands);
       ready = search rules;
       full = search rules;
@@ -43,14 +42,14 @@ returns-in-Ok g c =
     let one = only t c.new-stack.result c.push.new.self c.new-stack.ensures c.push.ensures.pushed in
     let full = filled_is t c.fill.new.stack c.in-Ok.ensures.filled (c.fill.ensures.outer ∙ ap outermost_work one) in
     record {
-      came = came_trans (g.P.Port.value c.args.port.now) (g.P.Port.value c.fill.new.port) (g.P.Port.value c.complete_outer.new.port) c.fill.ensures.came c.complete_outer.ensures.came;
-      forward = forward_then (g.P.Port.value c.args.port.now) (g.P.Port.value c.fill.new.port) (g.P.Port.value c.complete_outer.new.port) c.fill.ensures.forward c.complete_outer.ensures.forward;
-      leaves = well_then (g.P.Port.value c.args.port.now) (g.P.Port.value c.fill.new.port) (g.P.Port.value c.complete_outer.new.port) false c.args.table.frame (c.fill.ensures.leaves c.args.table.frame) (c.complete_outer.ensures.leaves c.args.table.frame);
+      came = came_trans _ _ _ c.fill.ensures.came c.complete_outer.ensures.came;
+      forward = forward_then _ _ _ c.fill.ensures.forward c.complete_outer.ensures.forward;
+      leaves = well_then _ _ _ false _ (c.fill.ensures.leaves c.args.table.frame) (c.complete_outer.ensures.leaves c.args.table.frame);
       hand = completed u x (g.P.Port.value c.complete_outer.new.port) c.args.owner t c.requires.stands
           (subst (λ ts. StandsOn u x c.args.owner ts (record t { done = 512 } ∷ [])) one (subst (λ us. StandsOn u x c.args.owner c.push.new.self us) full c.fill.ensures.stands)) c.complete_outer.ensures.hand;
       kinds = search rules;
-      serves = left_on u (g.P.Port.value c.complete_outer.new.port) c.args.owner false t.frame (t ∷ []) [] []
-          (goes_then u x (g.P.Port.value c.complete_outer.new.port) c.args.owner (t ∷ []) (record t { done = 512 } ∷ []) [] [] []
+      serves = left_on _ _ _ false _ (t ∷ []) [] []
+          (goes_then _ _ _ _ (t ∷ []) (record t { done = 512 } ∷ []) [] [] []
           (subst (λ ts. CarriesOn u x c.args.owner ts (record t { done = 512 } ∷ []) []) one (subst (λ us. CarriesOn u x c.args.owner c.push.new.self us []) full c.in-Ok.ensures.serves)) (c.complete_outer.ensures.serves c.args.owner));
       stops = search rules;
       gate = search rules;
@@ -58,7 +57,7 @@ returns-in-Ok g c =
       says = search rules;
       paces = search rules;
       calm = search rules;
-      course = validated_live _ _ _ _ _ c.args.owner (g.P.Port.value c.args.port.now) (g.P.Port.value c.fill.new.port) (g.P.Port.value c.complete_outer.new.port) t c.fill.new.stack (record t { done = 512 }) full refl c.complete_outer.ensures.course c.in-Ok.ensures.course;
+      course = validated_live _ _ _ _ _ _ _ _ _ _ _ (record t { done = 512 }) full refl c.complete_outer.ensures.course c.in-Ok.ensures.course;
     }
 
 -- ---- a refusal or a pause
@@ -83,12 +82,11 @@ returns-in-Err g c =
     let owner = c.args.owner in
     let t = c.args.table in
     let e = missed u.post.machine c.in-Err.stop in
-    let kept = not (is_refused c.in-Err.stop) in
     record {
-      came = came_trans (g.P.Port.value c.args.port.now) (g.P.Port.value c.fill.new.port) (g.P.Port.value c.unwind.new.port) c.fill.ensures.came c.unwind.ensures.came;
-      forward = forward_then (g.P.Port.value c.args.port.now) (g.P.Port.value c.fill.new.port) (g.P.Port.value c.unwind.new.port) c.fill.ensures.forward c.unwind.ensures.forward;
+      came = came_trans _ _ _ c.fill.ensures.came c.unwind.ensures.came;
+      forward = forward_then _ _ _ c.fill.ensures.forward c.unwind.ensures.forward;
       leaves = let one = only t c.new-stack.result c.push.new.self c.new-stack.ensures c.push.ensures.pushed in
-          well_then u x w kept t.frame (well_more u x kept t.frame t.frame (c.fill.ensures.leaves t.frame))
+          well_then _ _ _ _ _ (well_more _ _ _ _ _ (c.fill.ensures.leaves t.frame))
           (subst (λ b. LeftWell x w b t.frame) c.is_paused.ensures (c.unwind.ensures.leaves (record t { done = 0 }) (c.fill.ensures.outer ∙ ap (λ us. outermost_work us) one)));
       hand = subst (λ b. Unwinds u w c.args.owner b (c.args.table ∷ [])) c.is_paused.ensures
           (subst (λ ts. Unwinds u w c.args.owner c.is_paused.result ts) one
@@ -96,13 +94,13 @@ returns-in-Err g c =
       kinds = search rules;
       serves = let one = only t c.new-stack.result c.push.new.self c.new-stack.ensures c.push.ensures.pushed in let frame : outermost_frame c.fill.new.stack ≡ t.frame = frame_alike c.fill.new.stack (t ∷ []) (c.fill.ensures.outer ∙ ap outermost_work one) in let left = subst (λ f. ServesLeft x w owner c.is_paused.result f c.fill.new.stack []) frame c.unwind.ensures.serves in
           subst (λ b. ServesLeft u w owner b t.frame (t ∷ []) e) c.is_paused.ensures
-          (subst (λ ts. ServesLeft u w owner c.is_paused.result t.frame ts e) one (left_behind u x w owner c.is_paused.result t.frame c.push.new.self c.fill.new.stack e [] c.fill.ensures.came c.in-Err.ensures.serves left));
+          (subst (λ ts. ServesLeft u w owner c.is_paused.result t.frame ts e) one (left_behind _ _ _ _ _ _ _ _ _ [] c.fill.ensures.came c.in-Err.ensures.serves left));
       stops = subst (λ ts. StopsRisen (g.P.Port.value c.args.port.now) (g.P.Port.value c.unwind.new.port) c.args.owner ts c.in-Err.stop) one
-          (risen_on (g.P.Port.value c.args.port.now) (g.P.Port.value c.fill.new.port) c.args.owner c.push.new.self c.in-Err.stop (g.P.Port.value c.unwind.new.port) c.unwind.ensures.came c.in-Err.ensures.stops);
+          (risen_on _ _ _ _ _ _ c.unwind.ensures.came c.in-Err.ensures.stops);
       gate = search rules;
       heard = search rules;
       says = search rules;
       paces = search rules;
       calm = search rules;
-      course = validated_left _ _ _ _ _ c.args.owner (g.P.Port.value c.args.port.now) (g.P.Port.value c.fill.new.port) (g.P.Port.value c.unwind.new.port) c.args.table c.fill.new.stack _ c.in-Err.stop c.is_paused.result c.is_paused.ensures c.unwind.ensures.course c.in-Err.ensures.course;
+      course = validated_left _ _ _ _ _ _ _ _ _ _ _ _ _ _ c.is_paused.ensures c.unwind.ensures.course c.in-Err.ensures.course;
     }

@@ -15,15 +15,13 @@ put_ref-requires-clause-gives g c = back_puts c.drop_type.ensures.drops c.if-dro
 
 pub returns : goal.returns
 returns g c =
-    let v = g.P.Port.value c.args.port.now in
     let a = g.P.Port.value c.drop_type.new.port in
-    let w = g.P.Port.value c.put_ref.new.port in
     let drops = c.drop_type.ensures.drops in
     record {
-      came = came_trans v a w (serves_came v a (of_back c.args.frame) [] c.drop_type.ensures.serves) (serves_came a w (of_back c.args.frame) [] c.put_ref.ensures.serves);
-      forward = forward_then v a w (forward_step v a _ _ _ _ drops.found refl refl drops.lowers.step) (forward_by a w (PutBy c.args.frame) (λ vs puts. put_plain c.args.frame vs puts) c.put_ref.ensures.puts);
-      leaves = λ f. well_then v a w false f (well_step v a false f _ _ _ _ drops.found refl drops.lowers.step) (well_by a w false f (PutBy c.args.frame) (λ vs puts. put_plain c.args.frame vs puts) c.put_ref.ensures.puts);
+      came = came_trans _ a _ (serves_came _ a (of_back c.args.frame) [] c.drop_type.ensures.serves) (serves_came a _ (of_back c.args.frame) [] c.put_ref.ensures.serves);
+      forward = forward_then _ a _ (forward_step _ a _ _ _ _ drops.found refl refl drops.lowers.step) (forward_by a _ (PutBy c.args.frame) (λ vs puts. put_plain _ vs puts) c.put_ref.ensures.puts);
+      leaves = λ f. well_then _ a _ false f (well_step _ a false f _ _ _ _ drops.found refl drops.lowers.step) (well_by a _ false f (PutBy c.args.frame) (λ vs puts. put_plain _ vs puts) c.put_ref.ensures.puts);
       hand = back_given c.drop_type.ensures.drops c.if-drop_type.false (g.P.Port.value c.put_ref.new.port) c.put_ref.ensures.hand;
-      serves = serves_then v a w (of_back c.args.frame) [] [] c.drop_type.ensures.serves c.put_ref.ensures.serves;
+      serves = serves_then _ a _ (of_back c.args.frame) [] [] c.drop_type.ensures.serves c.put_ref.ensures.serves;
       course = search rules;
     }

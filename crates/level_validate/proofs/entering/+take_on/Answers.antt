@@ -171,11 +171,11 @@ returns-in-Opened g n c =
       ready = search rules;
       kinds = search rules;
       outer = search rules;
-      progress = progress_answer _ _ _ c.take_on.result (again_came said) c.take_on.ensures.progress;
-      less = again_lowers c.take_on.result (weight c.take_on.new.stack) _ _ _ _ _ c.push.ensures.stack c.requires.top c.push.ensures.pushed c.take_on.ensures.less;
-      serves = goes_on _ _ _ _ _ c.push.new.self _ c.take_on.result (again_came said) on.serves c.take_on.ensures.serves;
-      stops = opened_stops on _ c.take_on.result c.take_on.ensures.stops;
-      course = opened_on _ _ c.requires.top c.if-top-eq0.false _ _ c.in-Opened.frame c.in-Opened.progress c.take_on.result c.push.new.self _ c.push.ensures.pushed said.entry c.take_on.ensures.course;
+      progress = progress_answer _ _ _ _ (again_came said) c.take_on.ensures.progress;
+      less = again_lowers _ (weight c.take_on.new.stack) _ _ _ _ _ c.push.ensures.stack c.requires.top c.push.ensures.pushed c.take_on.ensures.less;
+      serves = goes_on _ _ _ _ _ _ _ _ (again_came said) on.serves c.take_on.ensures.serves;
+      stops = opened_stops on _ _ c.take_on.ensures.stops;
+      course = opened_on _ _ c.requires.top c.if-top-eq0.false _ _ _ _ _ _ _ c.push.ensures.pushed said.entry c.take_on.ensures.course;
     }
 
 -- ---- it waits for a flush

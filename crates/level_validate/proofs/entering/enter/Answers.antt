@@ -121,12 +121,12 @@ returns-in-Opened g c =
       ready = search rules;
       kinds = search rules;
       outer = search rules;
-      progress = progress_answer _ _ _ c.take_on.result (next_came said) c.take_on.ensures.progress;
-      less = next_lowers c.take_on.result (weight c.take_on.new.stack) _ _ _ _ _ c.push.ensures.stack c.in-Some.ensures.some
+      progress = progress_answer _ _ _ _ (next_came said) c.take_on.ensures.progress;
+      less = next_lowers _ (weight c.take_on.new.stack) _ _ _ _ _ c.push.ensures.stack c.in-Some.ensures.some
           (c.push.ensures.pushed ∙ ap (λ ys. pushed c.in-Some.top c.in-Opened.frame c.in-Opened.progress c.in-Opened.own false ∷ ys) c.advance-in-Opened.ensures.advanced) c.requires.left c.take_on.ensures.less;
-      serves = goes_on _ _ _ _ _ c.push.new.self _ c.take_on.result (next_came said) on.serves c.take_on.ensures.serves;
-      stops = opened_stops on _ c.take_on.result c.take_on.ensures.stops;
-      course = opened_next _ _ c.in-Some.ensures.some c.requires.left _ _ c.in-Opened.frame c.in-Opened.progress c.in-Opened.own c.take_on.result _ _ _ c.advance-in-Opened.ensures.advanced c.push.ensures.pushed said.entry c.take_on.ensures.course;
+      serves = goes_on _ _ _ _ _ _ _ _ (next_came said) on.serves c.take_on.ensures.serves;
+      stops = opened_stops on _ _ c.take_on.ensures.stops;
+      course = opened_next _ _ c.in-Some.ensures.some c.requires.left _ _ _ _ _ _ _ _ _ c.advance-in-Opened.ensures.advanced c.push.ensures.pushed said.entry c.take_on.ensures.course;
     }
 
 pub returns-in-Unsettled : goal.returns-in-Unsettled

@@ -42,10 +42,10 @@ returns-then-kept g c =
     let spelled = top_spelled a.1 true (λ on. c.requires.own) in
     record {
       came = search rules;
-      forward = kept_forward (g.P.Port.value c.args.port.now) (g.P.Port.value c.leave_kept.new.port) c.args.table.frame c.partial_kind-kind.result c.args.owner c.leave_kept.ensures.course;
-      leaves = kept_well t.frame (partial_kind (level_type t.level) true false t.done 0) spelled refl c.if-kept.true w d c.args.owner (subst (λ (l : KindWord). KeptFor w d t.frame l c.args.owner) is c.leave_kept.ensures.course);
+      forward = kept_forward _ _ _ _ _ c.leave_kept.ensures.course;
+      leaves = kept_well _ (partial_kind (level_type t.level) true false t.done 0) spelled refl c.if-kept.true _ _ _ (subst (λ (l : KindWord). KeptFor w d t.frame l c.args.owner) is c.leave_kept.ensures.course);
       hand = λ v s. outer_kept s c.requires.own c.args.kept c.if-kept.true d (subst (λ (l : KindWord). LeavesKept w d t.frame l c.args.owner) is c.leave_kept.ensures.hand);
-      serves = λ u r ds a locks. marked_kept u d r c.args.owner c.args.kept t.frame ds c.if-kept.true (c.leave_kept.ensures.serves u r ds a.serves (of r.owner _ a.asked.0) locks);
+      serves = λ u r ds a locks. marked_kept u _ r _ _ _ ds c.if-kept.true (c.leave_kept.ensures.serves u r ds a.serves (of r.owner _ a.asked.0) locks);
       course = kept_left w d c.args.owner t c.args.kept c.if-kept.true (subst (λ (l : KindWord). KeptFor w d t.frame l c.args.owner) is c.leave_kept.ensures.course);
     }
 
@@ -58,17 +58,15 @@ put_old-requires-clause-held g c =
 pub returns-else-kept : goal.returns-else-kept
 unfolding ServesLeft
 returns-else-kept g c =
-    let w = g.P.Port.value c.args.port.now in
     let d = g.P.Port.value c.leave_partial.new.port in
-    let x = g.P.Port.value c.put_old.new.port in
     let b = c.requires.stands in
     let t = c.args.table in
     record {
-      came = came_trans w d x (moves_came w d _ _ _ _ c.leave_partial.result c.leave_partial.ensures.moves) (moves_came d x _ _ _ _ 0 c.put_old.ensures.moves);
-      forward = forward_then w d x (forward_step w d _ _ _ _ c.leave_partial.result refl refl c.leave_partial.ensures.moves) (forward_step d x _ _ _ _ 0 refl refl c.put_old.ensures.moves);
-      leaves = well_then w d x c.args.kept t.frame (unkept_well b.0 w c.args.owner t d c.leave_partial.result [] c.args.kept t.frame b.1 c.leave_partial.ensures.moves) (well_step d x c.args.kept t.frame _ _ _ _ 0 refl c.put_old.ensures.moves);
+      came = came_trans _ _ _ (moves_came _ _ _ _ _ _ _ c.leave_partial.ensures.moves) (moves_came _ _ _ _ _ _ 0 c.put_old.ensures.moves);
+      forward = forward_then _ _ _ (forward_step _ _ _ _ _ _ _ refl refl c.leave_partial.ensures.moves) (forward_step _ _ _ _ _ _ 0 refl refl c.put_old.ensures.moves);
+      leaves = well_then _ _ _ _ _ (unkept_well b.0 _ _ _ _ _ [] _ _ b.1 c.leave_partial.ensures.moves) (well_step _ _ _ _ _ _ _ _ 0 refl c.put_old.ensures.moves);
       hand = λ v s. outer_named s c.requires.own d c.leave_partial.ensures.hand c.args.kept c.if-kept.false (g.P.Port.value c.put_old.new.port) c.put_old.ensures.hand;
-      serves = λ u r ds a locks. let left = piece_left b.1 _ (top_spelled b.1 false (λ on. absurd cc)) refl c.leave_partial.ensures.moves u r c.args.owner [] ds a in
-          marked_none u x r c.args.owner c.args.kept t.frame ds (piece_names x left (t.frame + 1) c.put_old.ensures.moves).serves;
+      serves = λ u r ds a locks. let left = piece_left b.1 _ (top_spelled b.1 false (λ on. absurd cc)) refl c.leave_partial.ensures.moves u r _ [] ds a in
+          marked_none u _ r _ _ _ ds (piece_names _ left (t.frame + 1) c.put_old.ensures.moves).serves;
       course = search rules;
     }
