@@ -44,8 +44,7 @@ use Rattle.partial_state.proofs.LevelFacts.{level_type-table}
 use Rattle.partial_state.specs.declared.stack.TableWork.{TableWork}
 use Rattle.partial_state.specs.Levels.{level_type}
 use Rattle.level_validate.specs.Tables.{IsTopReady, Carries}
-use Rattle.level_validate.proofs.Looking.{FirstFound}
-use Rattle.level_validate.proofs.Opening.{CameOpen}
+use Rattle.level_validate.proofs.Opening.{FirstFound, CameOpen}
 use Rattle.level_validate.proofs.Pushing.{e, es, looked_hand, looked_only, looked_stands, next, pushed, pushed_lent, pushed_own, reach_again, reach_next, ready_by, recorded_hand, recorded_stands, seen, seen_recorded, seen_table, seen_word}
 use Rattle.table_words.proofs.Shedding.{none_unsettled}
 use Rattle.xp_words.specs.declared.reply.Stop.{Stop}

@@ -54,7 +54,7 @@ use Rattle.level_validate.specs.Forward.{Forward}
 use Rattle.table_entries.specs.Tops.{WorksAtTop}
 use Rattle.table_entries.proofs.PiecesAsking.{top_here}
 use Rattle.partial_state.specs.declared.stack.TableWork.{TableWork}
-use Rattle.level_validate.proofs.Looking.{WasFound, each_first, each_next, first_is, were_found}
+use Rattle.level_validate.proofs.Opening.{WasFound, each_first, each_next, first_is, were_found}
 use Rattle.xp_words.specs.declared.entry.Demand.TheVariants as demands
 use Rattle.xp_words.specs.declared.kind.PageType.TheVariants as pages
 use Rattle.xp_words.specs.declared.reply.Refusal.TheVariants as refusals

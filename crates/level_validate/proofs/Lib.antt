@@ -6,10 +6,8 @@ mod Leaving
 mod LeftWaiting
 mod LeftWellEntries
 mod LookedAgain
-mod Looking
 mod Opening
 mod Pushing
-mod Recording
 mod Serving
 mod Standing
 mod Steps

@@ -22,7 +22,7 @@ use Rattle.level_validate.specs.Leaving.{LeftWell}
 use Rattle.level_validate.specs.Tables.{Carries, IsStanding, IsTopReady, StandsOn}
 use Rattle.level_validate.proofs.Entered.{after_look, after_settled, back_one, taken_gives, taken_ready, taken_stands, after_again, after_next, entered_ok}
 use Rattle.level_validate.proofs.LeftWellEntries.{resumes_forward, resumes_well, IsAskedType, shared_plain, stamp_small}
-use Rattle.level_validate.proofs.Looking.{FirstFound, entered_first, resumed_first}
+use Rattle.level_validate.proofs.Opening.{FirstFound, entered_first, resumed_first, taken_found, left_waiting, wait_stops, waited_found, waits_there, again_found, opened_found}
 use Rattle.step_maker.specs.Holds.{Holds, MayWork}
 use Rattle.answer_fits.specs.Asked.{of_back}
 use Rattle.answer_fits.specs.Pauses.{Progress}
@@ -31,16 +31,14 @@ use Rattle.frame_types.specs.Taking.{gave_type}
 use Rattle.level_validate.specs.Giving.{MayGiveBack}
 use Rattle.level_validate.specs.Serving.{CarriesOn, StopsIn}
 use Rattle.level_validate.proofs.Serving.{goes_back, goes_inner, goes_opened, stops_behind, goes_left, goes_waiting, stops_entries, stops_on}
-use Rattle.level_validate.proofs.Opening.{taken_found, left_waiting, wait_stops, waited_found, waits_there, again_found, opened_found}
 use Rattle.partial_state.proofs.LevelFacts.{level_type-under, level_type-plain, level_type-typed}
 use Rattle.std.proofs.lemmas.Result.{IfErr-weaker}
 use Rattle.xp_words.specs.Entries.{below}
-use Rattle.partial_state.specs.Stacks.{IsTable}
+use Rattle.partial_state.specs.Stacks.{IsTable, advanced, left_on_top}
 use Rattle.level_validate.proofs.Pushing.{pushed}
 use Rattle.level_validate.proofs.Standing.{may_back, may_stands}
 use Rattle.frame_types.specs.Leaving.{GivesBack, IsWaiting, ServesType}
 use Rattle.level_validate.proofs.Steps.{Plain, forward_by, forward_then, well_by, well_then}
-use Rattle.partial_state.specs.Stacks.{advanced, left_on_top}
 use Rattle.table_entries.specs.declared.entries.Entered.{Entered}
 use Rattle.table_entries.specs.declared.resuming.Resumed.TheVariants as again
 use Rattle.table_entries.specs.declared.entries.Entered.TheVariants as entered

@@ -28,8 +28,7 @@ use Rattle.partial_state.specs.Levels.{level_type}
 use Rattle.partial_state.specs.Stacks.{IsStack}
 use Rattle.level_validate.specs.Tables.{AreTables, AreTyped, IsLastWord, IsTopReady, IsTableWork, Reaches, Carries, innermost, taken_on, under_way}
 use Rattle.level_validate.proofs.Standing.{top, top_done, stands_by, stands_post, tables_inner, tables_later, typed_done, typed_later, work_done}
-use Rattle.level_validate.proofs.Looking.{FirstFound, last_looked, looked_apart}
-use Rattle.level_validate.proofs.Opening.{CameOpen, read_level}
+use Rattle.level_validate.proofs.Opening.{FirstFound, last_looked, looked_apart, CameOpen, read_level}
 use Rattle.xp_board.specs.declared.holdings.OwnerFound.TheVariants as owners
 
 -- a table that an entry of t names

@@ -83,21 +83,19 @@ returns-in-Ok-Counted g c =
 
 pub returns-in-Err : goal.returns-in-Err
 returns-in-Err g c =
-    let v = g.P.Port.value c.args.port.now in
     let w = g.P.Port.value c.put_ref.new.port in
-    let e = c.in-Err.stop in
     let before = had_forward _ _ _ _ _ _ _ c.get_ref.ensures.gets c.in_ok-frame.frame c.level_type.ensures _ c.take_type.ensures.found in
     record {
       frame = search rules;
-      serves = λ pages. plain_acquired _ _ _ _ _ pages (Err e)
-          (stopped_serves _ _ _ _ pages (is_due_stop e) _ c.in_ok-frame.ensures.serves c.in_ok-frame.ensures.frame.0 c.level_type.ensures
-          (g.P.Port.value c.take_type.new.port) w e c.in-Err.ensures.serves c.put_ref.ensures.serves);
+      serves = λ pages. plain_acquired _ _ _ _ _ pages (Err c.in-Err.stop)
+          (stopped_serves _ _ _ _ pages (is_due_stop c.in-Err.stop) _ c.in_ok-frame.ensures.serves c.in_ok-frame.ensures.frame.0 c.level_type.ensures
+          (g.P.Port.value c.take_type.new.port) w c.in-Err.stop c.in-Err.ensures.serves c.put_ref.ensures.serves);
       stops = λ pages. stopped_stops _ _ _ _ pages _ _ c.in_ok-frame.ensures.serves c.in_ok-frame.ensures.frame.0
           c.level_type.ensures (g.P.Port.value c.take_type.new.port) (g.P.Port.value c.put_ref.new.port) c.in-Err.stop c.in-Err.ensures.kinds c.in-Err.ensures.stops c.put_ref.ensures.serves;
       kinds = search rules;
       forward = forward_then _ _ _ before (forward_by _ _ (λ vs. PutBy c.in_ok-frame.frame vs) (put_plain c.in_ok-frame.frame) c.put_ref.ensures.puts);
       leaves = well_then _ _ _ _ _ (had_well _ _ _ _ _ _ _ c.get_ref.ensures.gets c.in_ok-frame.frame c.level_type.ensures _ c.take_type.ensures.found _ _) (well_by _ _ _ _ (λ vs. PutBy c.in_ok-frame.frame vs) (put_plain c.in_ok-frame.frame) c.put_ref.ensures.puts);
-      hand = same_leaves v w c.args.f c.args.owner c.args.level c.in-Err.stop
+      hand = same_leaves (g.P.Port.value c.args.port.now) w c.args.f c.args.owner c.args.level c.in-Err.stop
           (given_hand (g.P.Port.value c.get_ref.new.port) c.in_ok-frame.frame c.args.owner c.requires.idle c.in_ok-frame.ensures.hand (g.P.Port.value c.take_type.new.port) w c.in-Err.ensures.hand c.put_ref.ensures.hand);
       gate = search rules;
       heard = search rules;

@@ -60,10 +60,8 @@ loop-port-preserved g c =
 
 pub returns-in_err-go_on : goal.returns-in_err-go_on
 returns-in_err-go_on g c =
-    let w = g.P.Port.value c.go_on.new.port in
     let r = c.from_residual-in_err-go_on.result in
     let answer = err_from_is_err_and r c.from_residual-in_err-go_on.ensures.1 in
-    let e = c.in_err-go_on.field-0.0 in
     record {
       came = filling_came c.loop-port.invariant.tables (g.P.Port.value c.go_on.new.port) c.go_on.new.stack c.in_err-go_on.ensures.came;
       forward = forward_then _ _ _ c.loop-port.invariant.tables.forward c.in_err-go_on.ensures.forward;
@@ -76,7 +74,7 @@ returns-in_err-go_on g c =
       serves = filling_serves c.loop-port.invariant.tables _ _ r
           (goes_answer _ _ _ c.loop-port.stack _ r c.in_err-go_on.field-0.0 (answer.1 ∙ ap Err answer.2) c.in_err-go_on.ensures.serves);
       stops = risen_answer _ _ _ _ r _ (answer.1 ∙ ap Err answer.2)
-          (filling_stops c.loop-port.invariant.tables w c.go_on.new.stack e c.in_err-go_on.ensures.stops);
+          (filling_stops c.loop-port.invariant.tables (g.P.Port.value c.go_on.new.port) c.go_on.new.stack c.in_err-go_on.field-0.0 c.in_err-go_on.ensures.stops);
       gate = search rules;
       heard = search rules;
       says = search rules;

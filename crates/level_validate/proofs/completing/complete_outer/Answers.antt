@@ -17,15 +17,13 @@ make_live-requires-clause-leaves g c =
 pub returns : goal.returns
 unfolding CarriesOn
 returns g c =
-    let w = g.P.Port.value c.args.port.now in
     let d = g.P.Port.value c.make_live.new.port in
-    let b = c.requires.stands in
     record {
       came = moves_came _ _ _ _ _ _ _ c.make_live.ensures.moves;
       forward = forward_step _ _ _ _ _ _ _ refl refl c.make_live.ensures.moves;
-      leaves = λ f. kind_well _ _ false f _ _ _ _ _ (live_leaves b.1.1 c.requires.full c.requires.ready _ refl c.requires.may).is refl refl c.make_live.ensures.moves;
-      hand = λ v owner s. outer_live v w d owner c.args.table s (live_hand s c.args.table.own refl d c.make_live.ensures.hand);
+      leaves = λ f. kind_well _ _ false f _ _ _ _ _ (live_leaves c.requires.stands.1.1 c.requires.full c.requires.ready _ refl c.requires.may).is refl refl c.make_live.ensures.moves;
+      hand = λ v owner s. outer_live v (g.P.Port.value c.args.port.now) d owner c.args.table s (live_hand s c.args.table.own refl d c.make_live.ensures.hand);
       serves = λ owner u r ds a. piece_rest u _ r owner _ [] ds
-          (piece_left b.1.1 _ (live_leaves b.1.1 c.requires.full c.requires.ready _ refl c.requires.may).is refl c.make_live.ensures.moves u r owner [] ds a);
+          (piece_left c.requires.stands.1.1 _ (live_leaves c.requires.stands.1.1 c.requires.full c.requires.ready _ refl c.requires.may).is refl c.make_live.ensures.moves u r owner [] ds a);
       course = search rules;
     }

@@ -12,14 +12,13 @@ use Rattle.partial_state.specs.Levels.{level_type}
 use Rattle.partial_state.specs.Weights.{weight}
 use Rattle.level_validate.specs.Tables.{Carries}
 use Rattle.level_validate.proofs.Serving.{goes_answer, goes_entries, goes_on, stops_answer, stops_entries, goes_nothing}
-use Rattle.level_validate.proofs.Entered.{after_look, back_one, again_lowers}
+use Rattle.level_validate.proofs.Entered.{after_look, back_one, again_lowers, fresh_ready}
 use Rattle.level_validate.proofs.Steps.{forward_nothing, forward_then, well_nothing, well_then}
 use Rattle.level_validate.proofs.Standing.{top_inside, standing_above, standing_held, standing_looked, standing_top}
 use Rattle.level_validate.proofs.LeftWellEntries.{resumes_forward, resumes_well}
-use Rattle.level_validate.proofs.Entered.{fresh_ready}
 use Rattle.level_validate.proofs.LookedAgain.{again_came, again_forward, again_then, again_well, said_again, settled_ready, settled_stands, again_on_top, opened_may, opened_standing, opened_stops, opened_table, top_low, fresh_on, opened_on, resumed_err, settled_on, shared_left, stopped_on, taken_on, waiting_on, took_gives, took_inside, took_progress, took_ready, took_serves, took_stands, shared_forward, shared_well, waited_inside, waited_kinds, waited_serves, waited_stands, waited_stops, waited_waits}
 use Rattle.level_validate.proofs.Filling.{progress_answer}
-use Rattle.level_validate.proofs.Looking.{resumed_first}
+use Rattle.level_validate.proofs.Opening.{resumed_first}
 use Rattle.table_entries.specs.declared.resuming.Resumed.TheVariants as again
 use Rattle.level_validate.proofs.entering.+take_on.Goals as goal
 
@@ -155,8 +154,7 @@ take_on-requires g n c κs low =
     let said = said_again _ _ _ _ _ c.level_type.ensures c.in_ok-resume_entry.field-0 (again.Opened c.in-Opened.frame c.in-Opened.progress) c.in-Opened.is e.found e.plain e.shows e.serves e.hand in
     let a = c.requires.stands in
     let on = again_on_top c.requires.top c.if-top-eq0.false said c.push.ensures.pushed a in
-    let d = c.decreases in
-    (omega (arith, d, (top_low c.requires.top a)), (low, (opened_may on a c.requires.may, (on.top, (opened_standing on a, λ zero. fresh_ready _ _ _ _ _ _ _ _ _ said.hand zero)))))
+    (omega (arith, c.decreases, (top_low c.requires.top a)), (low, (opened_may on a c.requires.may, (on.top, (opened_standing on a, λ zero. fresh_ready _ _ _ _ _ _ _ _ _ said.hand zero)))))
 
 pub returns-in-Opened : goal.returns-in-Opened
 returns-in-Opened g n c =

@@ -15,9 +15,8 @@ use Rattle.level_validate.specs.Tables.{Carries}
 use Rattle.level_validate.proofs.Serving.{goes_advanced, goes_answer, goes_entries, goes_on, goes_waiting, stops_answer, stops_entries}
 use Rattle.level_validate.proofs.Entered.{after_look, after_record, after_record_ready, fresh_ready, next_lowers, entered_err, opened_next, recorded_next, stopped_next, unsettled_next}
 use Rattle.level_validate.proofs.Standing.{top_inside, standing_above, standing_held, standing_known, standing_looked, standing_next}
-use Rattle.level_validate.proofs.Opening.{wait_stops}
+use Rattle.level_validate.proofs.Opening.{wait_stops, entered_first}
 use Rattle.level_validate.proofs.LookedAgain.{next_came, next_first, next_on_top, opened_may, opened_standing, opened_stops, opened_table, said_next}
-use Rattle.level_validate.proofs.Looking.{entered_first}
 use Rattle.level_validate.proofs.Pushing.{pushed}
 use Rattle.level_validate.proofs.Filling.{progress_answer}
 use Rattle.level_validate.proofs.Steps.{forward_then, well_then}

@@ -59,14 +59,12 @@ pub returns-else-kept : goal.returns-else-kept
 unfolding ServesLeft
 returns-else-kept g c =
     let d = g.P.Port.value c.leave_partial.new.port in
-    let b = c.requires.stands in
-    let t = c.args.table in
     record {
       came = came_trans _ _ _ (moves_came _ _ _ _ _ _ _ c.leave_partial.ensures.moves) (moves_came _ _ _ _ _ _ 0 c.put_old.ensures.moves);
       forward = forward_then _ _ _ (forward_step _ _ _ _ _ _ _ refl refl c.leave_partial.ensures.moves) (forward_step _ _ _ _ _ _ 0 refl refl c.put_old.ensures.moves);
-      leaves = well_then _ _ _ _ _ (unkept_well b.0 _ _ _ _ _ [] _ _ b.1 c.leave_partial.ensures.moves) (well_step _ _ _ _ _ _ _ _ 0 refl c.put_old.ensures.moves);
+      leaves = well_then _ _ _ _ _ (unkept_well c.requires.stands.0 _ _ _ _ _ [] _ _ c.requires.stands.1 c.leave_partial.ensures.moves) (well_step _ _ _ _ _ _ _ _ 0 refl c.put_old.ensures.moves);
       hand = λ v s. outer_named s c.requires.own d c.leave_partial.ensures.hand c.args.kept c.if-kept.false (g.P.Port.value c.put_old.new.port) c.put_old.ensures.hand;
-      serves = λ u r ds a locks. let left = piece_left b.1 _ (top_spelled b.1 false (λ on. absurd cc)) refl c.leave_partial.ensures.moves u r _ [] ds a in
-          marked_none u _ r _ _ _ ds (piece_names _ left (t.frame + 1) c.put_old.ensures.moves).serves;
+      serves = λ u r ds a locks. let left = piece_left c.requires.stands.1 _ (top_spelled c.requires.stands.1 false (λ on. absurd cc)) refl c.leave_partial.ensures.moves u r _ [] ds a in
+          marked_none u _ r _ _ _ ds (piece_names _ left (c.args.table.frame + 1) c.put_old.ensures.moves).serves;
       course = search rules;
     }
