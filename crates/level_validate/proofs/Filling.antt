@@ -1,23 +1,186 @@
--- The loop that takes one entry after the other: what it keeps, and what it gives where it ends.
-use Rattle.level_validate.proofs.LeftWell.{well_then}
-use Rattle.level_validate.specs.Leaving.{LeftWell}
-use Rattle.std.proofs.Common.{◌≡◌, ℕ, List, [], Result, ◌∙◌, false}
+-- Why a call stops that asked the tables in work, where the gate is one of the reasons.
+use Rattle.std.proofs.Common.{◌≡◌, ℕ, Bool, true, List, Result, Err, IfOk, IfErr, inl, refl, sym, subst, ◌+◌, ◌&&◌, if◌then◌else◌, false, [], ◌∷◌, Ok, ap, ◌∙◌, ◌++◌}
+use Rattle.std.proofs.lemmas.Result.{IfOk-weaker}
 use Rattle.xp_words.specs.declared.reply.Stop.{Stop}
+use Rattle.xp_words.specs.declared.reply.Pause.TheVariants.{Due, Busy, Flush, Lost}
+use Rattle.xp_words.specs.declared.reply.Stop.TheVariants.{Paused, Refused}
 use Rattle.xp_board.specs.Told.{PortValue}
-use Rattle.step_maker.specs.Holds.{MayWork}
-use Rattle.step_maker.specs.Moves.{Came}
-use Rattle.step_maker.proofs.Coming.{came_trans}
-use Rattle.answer_fits.specs.Answers.{misses}
+use Rattle.step_maker.specs.Moves.{Came, Met}
+use Rattle.answer_fits.specs.Answers.{Stops, misses}
+use Rattle.answer_fits.specs.Pauses.{Progress}
+use Rattle.answer_fits.proofs.Piecing.{serves_came, stops_before}
 use Rattle.partial_state.specs.declared.stack.TableWork.{TableWork}
+use Rattle.level_validate.specs.Acquiring.{StopsRisen, is_due_answer, is_due_stop, outermost_work}
+use Rattle.level_validate.specs.Serving.{StopsIn, CarriesOn}
+use Rattle.answer_fits.proofs.Progressing.{progress_after}
+use Rattle.xp_preempt.specs.Gates.{answer_at, ends_yes, next_ask}
+use Rattle.xp_preempt.proofs.Consulting.{consulted_ask, consulted_none, consulted_then}
+use Rattle.level_validate.specs.Courses.{Consults, asked_once, GoesOnFilling, ValidatesBy}
+use Rattle.table_entries.specs.Asking.{IsEntryStop}
+use Rattle.table_courses.specs.Acquiring.{Filled, TookOn, Worked, is_asked, Advanced, MadeLive, Unwound, keeps_it}
+use Rattle.level_validate.proofs.Steps.{well_then, forward_then}
+use Rattle.level_validate.specs.Leaving.{LeftWell}
+use Rattle.step_maker.specs.Holds.{MayWork}
+use Rattle.step_maker.proofs.Coming.{came_trans}
 use Rattle.level_validate.specs.Forward.{Forward}
-use Rattle.level_validate.proofs.Forward.{forward_then}
-use Rattle.level_validate.specs.Acquiring.{StopsRisen, outermost_work}
-use Rattle.level_validate.specs.Serving.{CarriesOn}
 use Rattle.level_validate.specs.Tables.{IsStanding, IsTopReady, StandsOn}
-use Rattle.level_validate.proofs.Asking.{goes_on}
-use Rattle.level_validate.proofs.Serving.{goes_then}
-use Rattle.level_validate.proofs.StandsFacts.{may_back, may_stands}
+use Rattle.level_validate.proofs.Serving.{goes_on, goes_then}
+use Rattle.level_validate.proofs.Standing.{may_back, may_stands}
 
+module _ (v w : PortValue) (owner : ℕ) (ts : List TableWork) (e : Stop) where
+  -- it is none of them
+  pub risen_in : StopsIn v w owner ts e → StopsRisen v w owner ts e
+  unfolding StopsIn StopsRisen
+  risen_in stops u r ds rose s a = stops u r ds s a
+
+  -- more steps behind
+  pub risen_on : (x : PortValue) → Came w x → StopsRisen v w owner ts e → StopsRisen v x owner ts e
+  unfolding StopsRisen
+  risen_on x came stops u r ds rose s a = stops_before u w x r e (stops u r ds rose s a) came
+
+-- the gate said yes, and something got on
+pub risen_due : (v w : PortValue) (owner : ℕ) (ts : List TableWork) → Progress (Met v w) → StopsRisen v w owner ts (Paused Due)
+unfolding StopsRisen Stops
+risen_due v w owner ts gets_on u r ds rose s a = (rose refl, inl (progress_after u v w (serves_came u v r ds a.serves) gets_on))
+
+-- ---- by the answer
+pub risen_answer : {A : Type 0} (v w : PortValue) (owner : ℕ) (ts : List TableWork) (r : Result A Stop) (e : Stop) → r ≡ Err e → StopsRisen v w owner ts e → IfErr r (λ k. StopsRisen v w owner ts k)
+risen_answer v w owner ts r e is stops = subst (λ y. IfErr y (λ k. StopsRisen v w owner ts k)) (sym is) stops
+
+-- an entry is done with behind a piece
+pub progress_answer : {E : Type 0} (v u w : PortValue) (r : Result Bool E) → Came v u → IfOk r (λ done. done ≡ true → Progress (Met u w)) → IfOk r (λ done. done ≡ true → Progress (Met v w))
+progress_answer v u w r came gets_on = IfOk-weaker r (λ done. done ≡ true → Progress (Met u w)) (λ done. done ≡ true → Progress (Met v w)) (λ done on is. progress_after v u w came (on is)) gets_on
+
+-- The gate is asked behind an entry, or not: what it answers, and what the answer of the call then says.
+module _ (says : ℕ → Bool) (before risen : ℕ) (asked : Bool) where
+  pub not_asked : asked ≡ false → Consults says before before risen risen false (λ answers. answers ≡ asked_once asked false)
+  not_asked none = record { answers = []; course = sym (ap (λ (b : Bool). asked_once b false) none); gate = consulted_none says before risen; due = refl }
+
+  pub was_asked : asked ≡ true → (after more : ℕ) (due rose : Bool) → due ≡ rose → due ≡ answer_at says before → after ≡ next_ask before → more ≡ (if due then risen + 1 else risen) → Consults says before after risen more rose (λ answers. answers ≡ asked_once asked rose)
+  was_asked once after more due rose same is on counted =
+      record {
+        answers = due ∷ [];
+        course = ap (λ (b : Bool). b ∷ []) same ∙ sym (ap (λ (b : Bool). asked_once b rose) once);
+        gate = consulted_ask says before after risen more due is on counted;
+        due = sym same;
+      }
+
+-- a pause: the gate was asked, behind an entry that is done with
+pub due_asked : (done asked : Bool) (answers : List Bool) → true ≡ ends_yes answers → answers ≡ asked_once (done && asked) true → (done ≡ true) × (asked ≡ true)
+due_asked true true answers ends is = (refl, refl)
+due_asked true false answers ends is = absurd cc
+due_asked false asked answers ends is = absurd cc
+
+pub asked_stops : (v w : PortValue) (owner : ℕ) (ts : List TableWork) (done asked : Bool) (answer : Result (Unit {0}) Stop) → IfErr answer (λ e. e ≡ Paused Due) → (done ≡ true → Progress (Met v w)) →
+    (answers : List Bool) → is_due_answer answer ≡ ends_yes answers → answers ≡ asked_once (done && asked) (is_due_answer answer) → IfErr answer (λ e. StopsRisen v w owner ts e)
+asked_stops v w owner ts done asked (Ok x) kinds gets_on answers due is = tt
+asked_stops v w owner ts done asked (Err (Paused Due)) kinds gets_on answers due is = risen_due v w owner ts (gets_on (due_asked done asked answers due is).0)
+asked_stops v w owner ts done asked (Err e) kinds gets_on answers due is = absurd cc
+
+-- The tables are filled, one step behind the other: that part of the course.
+pub entry_undue : (e : Stop) → IsEntryStop e → is_due_stop e ≡ false
+entry_undue (Refused x) is = refl
+entry_undue (Paused Due) is = absurd is
+entry_undue (Paused (Lost place expected found)) is = refl
+entry_undue (Paused (Busy f found)) is = refl
+entry_undue (Paused (Flush vcpu stamp found)) is = refl
+entry_undue _ is = absurd is
+
+module _ (owner : ℕ) (v : PortValue) (t : TableWork) (says : ℕ → Bool) (before risen : ℕ) where
+  -- ---- down to where the table was left
+  module _ {stack : List TableWork} (only : stack ≡ t ∷ []) (w : PortValue) (us : List TableWork) where
+    pub cut_off_working : (answer : Result (Unit {0}) Stop) (e : Stop) → answer ≡ Err e → IsEntryStop e → TookOn owner v stack w us (Err e) → Consults says before before risen risen (is_due_answer answer) (λ answers. Worked owner v t w us answers answer)
+    cut_off_working answer e is kind took =
+        record {
+          answers = [];
+          course = subst (λ (r : Result (Unit {0}) Stop). Worked owner v t w us [] r) (sym is) (Worked.cut_off w us e (subst (λ (xs : List TableWork). TookOn owner v xs w us (Err e)) only took));
+          gate = consulted_none says before risen;
+          due = ap (λ (r : Result (Unit {0}) Stop). is_due_answer r) is ∙ entry_undue e kind;
+        }
+
+    -- the gate is asked behind that, or not
+    module _ {done : Bool} (took : TookOn owner v stack w us (Ok done)) (after more : ℕ) where
+      pub begun_working : Consults says before after risen more false (λ answers. answers ≡ asked_once (done && is_asked us) false) → Consults says before after risen more false (λ answers. Worked owner v t w us answers (Ok tt))
+      begun_working c =
+          record {
+            answers = c.answers;
+            course = subst (λ given. Worked owner v t w us given (Ok tt)) (sym c.course)
+                (Worked.filled w w us us done (asked_once (done && is_asked us) false) (Ok tt) (subst (λ (xs : List TableWork). TookOn owner v xs w us (Ok done)) only took) Filled.begun);
+            gate = c.gate;
+            due = c.due;
+          }
+
+      pub due_working : (answer : Result (Unit {0}) Stop) (e : Stop) → answer ≡ Err e → e ≡ Paused Due → Consults says before after risen more (is_due_stop e) (λ answers. answers ≡ asked_once (done && is_asked us) (is_due_stop e)) →
+          Consults says before after risen more (is_due_answer answer) (λ answers. Worked owner v t w us answers answer)
+      due_working answer e is due c =
+          let rose : is_due_stop e ≡ true = ap (λ s. is_due_stop s) due in
+          let once : c.answers ≡ asked_once (done && is_asked us) true = c.course ∙ ap (λ (b : Bool). asked_once (done && is_asked us) b) rose in
+          let asks = due_asked done (is_asked us) c.answers (sym rose ∙ c.due) once in
+          let one : c.answers ≡ true ∷ [] = once ∙ ap (λ (b : Bool). asked_once (b && is_asked us) true) asks.0 ∙ ap (λ (b : Bool). asked_once b true) asks.1 in
+          let on : TookOn owner v (t ∷ []) w us (Ok true) = subst (λ (b : Bool). TookOn owner v (t ∷ []) w us (Ok b)) asks.0 (subst (λ (xs : List TableWork). TookOn owner v xs w us (Ok done)) only took) in
+          record {
+            answers = c.answers;
+            course = subst (λ (r : Result (Unit {0}) Stop). Worked owner v t w us c.answers r) (ap Err (sym due) ∙ sym is) (subst (λ given. Worked owner v t w us given (Err (Paused Due))) (sym one) (Worked.due w us on asks.1));
+            gate = c.gate;
+            due = ap (λ (r : Result (Unit {0}) Stop). is_due_answer r) is ∙ c.due;
+          }
+
+  -- ---- a step more
+  module _ (x w : PortValue) (us xs : List TableWork) where
+    worked_on : (earlier answers : List Bool) (answer : Result (Unit {0}) Stop) → Worked owner v t x us earlier (Ok tt) → GoesOnFilling owner x us w xs answers answer → Worked owner v t w xs (answers ++ earlier) answer
+    unfolding GoesOnFilling
+    worked_on earlier answers answer (Worked.filled u y ys zs done asked a took filled) on = Worked.filled u w ys xs done (answers ++ earlier) answer took (on u ys (asked_once (done && is_asked ys) false) earlier filled)
+
+    ends_on : (earlier answers : List Bool) (rose : Bool) → false ≡ ends_yes earlier → rose ≡ ends_yes answers → rose ≡ ends_yes (answers ++ earlier)
+    ends_on earlier [] rose before_no is = is ∙ before_no
+    ends_on earlier (a ∷ answers) rose before_no is = is
+
+    pub working_on : (new : ℕ → Bool) (asked after risen_asked risen_after : ℕ) (rose : Bool) (answer : Result (Unit {0}) Stop) → ((n : ℕ) → new n ≡ says n) →
+        Consults says before asked risen risen_asked false (λ answers. Worked owner v t x us answers (Ok tt)) → Consults new asked after risen_asked risen_after rose (λ answers. GoesOnFilling owner x us w xs answers answer) →
+        Consults says before after risen risen_after rose (λ answers. Worked owner v t w xs answers answer)
+    working_on new asked after risen_asked risen_after rose answer same first next =
+        record {
+          answers = next.answers ++ first.answers;
+          course = worked_on first.answers next.answers answer first.course next.course;
+          gate = consulted_then new says before asked after risen risen_asked risen_after first.answers next.answers same first.gate next.gate;
+          due = ends_on first.answers next.answers rose first.due next.due;
+        }
+
+    pub working_stops : (new : ℕ → Bool) (asked after risen_asked risen_after : ℕ) (answer : Result (Unit {0}) Stop) (e : Stop) → answer ≡ Err e → ((n : ℕ) → new n ≡ says n) →
+        Consults says before asked risen risen_asked false (λ answers. Worked owner v t x us answers (Ok tt)) → Consults new asked after risen_asked risen_after (is_due_stop e) (λ answers. GoesOnFilling owner x us w xs answers (Err e)) →
+        Consults says before after risen risen_after (is_due_answer answer) (λ answers. Worked owner v t w xs answers answer)
+    working_stops new asked after risen_asked risen_after answer e is same first next =
+        subst (λ (r : Result (Unit {0}) Stop). Consults says before after risen risen_after (is_due_answer r) (λ answers. Worked owner v t w xs answers r)) (sym is)
+        (working_on new asked after risen_asked risen_after (is_due_stop e) (Err e) same first next)
+
+-- One entry more, or one table, and what the gate answered behind it: that part of the course.
+module _ (owner : ℕ) (v w : PortValue) (ts us : List TableWork) where
+  pub stopped_going : (says : ℕ → Bool) (before risen : ℕ) (answer : Result (Unit {0}) Stop) (e : Stop) → answer ≡ Err e → is_due_stop e ≡ false → Advanced owner v ts w us (Err e) → Consults says before before risen risen (is_due_answer answer) (λ answers. GoesOnFilling owner v ts w us answers answer)
+  unfolding GoesOnFilling
+  stopped_going says before risen answer e is undue step =
+      record {
+        answers = [];
+        course = λ u xs first earlier filled. subst (λ (r : Result (Unit {0}) Stop). Filled owner u xs first w us earlier r) (sym is) (Filled.stopped v w ts us earlier e filled step);
+        gate = consulted_none says before risen;
+        due = ap (λ (r : Result (Unit {0}) Stop). is_due_answer r) is ∙ undue;
+      }
+
+  -- the gate is asked behind it, or not
+  by_answer : (done : Bool) → Advanced owner v ts w us (Ok done) → (asks : Bool) → is_asked us ≡ asks → (answer : Result (Unit {0}) Stop) → IfErr answer (λ e. e ≡ Paused Due) →
+      (answers : List Bool) → is_due_answer answer ≡ ends_yes answers → answers ≡ asked_once (done && asks) (is_due_answer answer) → GoesOnFilling owner v ts w us answers answer
+  unfolding GoesOnFilling
+  by_answer true step true so (Ok x) kinds answers due is u xs first earlier filled = subst (λ given. Filled owner u xs first w us (given ++ earlier) (Ok tt)) (sym is) (Filled.asked v w ts us earlier filled step so)
+  by_answer true step true so (Err (Paused Due)) kinds answers due is u xs first earlier filled = subst (λ given. Filled owner u xs first w us (given ++ earlier) (Err (Paused Due))) (sym is) (Filled.due v w ts us earlier filled step so)
+  by_answer true step false so (Ok x) kinds answers due is u xs first earlier filled = subst (λ given. Filled owner u xs first w us (given ++ earlier) (Ok tt)) (sym is) (Filled.unasked v w ts us true earlier filled step so)
+  by_answer false step asks so (Ok x) kinds answers due is u xs first earlier filled = subst (λ given. Filled owner u xs first w us (given ++ earlier) (Ok tt)) (sym is) (Filled.unasked v w ts us false earlier filled step refl)
+  by_answer _ step _ so (Err _) kinds answers due is u xs first earlier filled = absurd cc
+
+  pub asked_going : (says : ℕ → Bool) (before after risen more : ℕ) (done : Bool) → Advanced owner v ts w us (Ok done) → (answer : Result (Unit {0}) Stop) → IfErr answer (λ e. e ≡ Paused Due) →
+      Consults says before after risen more (is_due_answer answer) (λ answers. answers ≡ asked_once (done && is_asked us) (is_due_answer answer)) → Consults says before after risen more (is_due_answer answer) (λ answers. GoesOnFilling owner v ts w us answers answer)
+  asked_going says before after risen more done step answer kinds c =
+      record { answers = c.answers; course = by_answer done step (is_asked us) refl answer kinds c.answers c.due c.course; gate = c.gate; due = c.due }
+
+-- The loop that takes one entry after the other: what it keeps, and what it gives where it ends.
 -- wherever the tables ts came into work, us are in work now, with the same outermost one; and the steps went on with what asked ts
 pub record Filling (u w : PortValue) (owner : ℕ) (ts us : List TableWork) : Type 0 where
   pub came : Came u w
@@ -28,7 +191,7 @@ pub record Filling (u w : PortValue) (owner : ℕ) (ts us : List TableWork) : Ty
   pub ready : IsTopReady w
   pub serves : CarriesOn u w owner ts us []
 
-module _ (u x : PortValue) (owner : ℕ) (ts us : List TableWork) (f : Filling u x owner ts us) where
+module _ {u x : PortValue} {owner : ℕ} {ts us : List TableWork} (f : Filling u x owner ts us) where
   pub filling_may : IsStanding u owner ts → MayWork u → MayWork x
   filling_may s may = may_stands s.0 x owner us (f.stands s.0 s.1) (may_back s.0 u owner ts s.1 may)
 
@@ -53,11 +216,30 @@ module _ (u x : PortValue) (owner : ℕ) (ts us : List TableWork) (f : Filling u
 pub filling_on : (u x w : PortValue) (owner : ℕ) (ts us rs : List TableWork) → Filling u x owner ts us → Came x w → Forward x w → ((f : ℕ) → LeftWell x w false f) → StandsOn x w owner us rs → outermost_work rs ≡ outermost_work us → IsTopReady w → CarriesOn x w owner us rs [] → Filling u w owner ts rs
 filling_on u x w owner ts us rs f came forward leaves stands outer ready serves =
     record {
-      came = filling_came u x owner ts us f w rs came;
+      came = filling_came f w rs came;
       forward = forward_then u x w f.forward forward;
       leaves = λ g. well_then u x w false g (f.leaves g) (leaves g);
-      stands = filling_stands u x owner ts us f w rs stands;
+      stands = filling_stands f w rs stands;
       outer = outer ∙ f.outer;
       ready = ready;
       serves = goes_then u x w owner ts us rs [] [] f.serves serves;
     }
+
+-- A frame is taken as a page table: the course, of its parts.
+module _ (says : ℕ → Bool) (before after risen more : ℕ) where
+  -- of the same answers
+  pub consults_as : (rose : Bool) (P Q : List Bool → Type 0) → ((answers : List Bool) → P answers → Q answers) → Consults says before after risen more rose P → Consults says before after risen more rose Q
+  consults_as rose P Q so c = record { answers = c.answers; course = so c.answers c.course; gate = c.gate; due = c.due }
+
+  module _ (owner : ℕ) (v y w : PortValue) (t : TableWork) (us : List TableWork) where
+    pub validated_live : (u : TableWork) → us ≡ u ∷ [] → u.done ≡ 512 → MadeLive y w u → Consults says before after risen more false (λ answers. Worked owner v t y us answers (Ok tt)) →
+        Consults says before after risen more false (λ answers. ValidatesBy owner v t w answers (Ok tt))
+    validated_live u only full live c =
+        consults_as false (λ answers. Worked owner v t y us answers (Ok tt)) (λ answers. ValidatesBy owner v t w answers (Ok tt))
+        (λ answers worked. (y, u, subst (λ (xs : List TableWork). Worked owner v t y xs answers (Ok tt)) only worked, full, live)) c
+
+    pub validated_left : (rose : Bool) (e : Stop) (kept : Bool) → kept ≡ keeps_it e → Unwound y owner us kept w → Consults says before after risen more rose (λ answers. Worked owner v t y us answers (Err e)) →
+        Consults says before after risen more rose (λ answers. ValidatesBy owner v t w answers (Err e))
+    validated_left rose e kept is unwound c =
+        consults_as rose (λ answers. Worked owner v t y us answers (Err e)) (λ answers. ValidatesBy owner v t w answers (Err e))
+        (λ answers worked. (y, us, worked, subst (λ (b : Bool). Unwound y owner us b w) is unwound)) c

@@ -36,7 +36,7 @@ use Rattle.level_validate.specs.Tables.{IsIdle}
 pub waits_on : (v b x : PortValue) (f owner level : ℕ) (own : Bool) (stamp : ℕ) (want : PageType) → want ≡ level_type level → IsIdle v → Holds v b (took f owner v.holdings) → WaitsWith b x f owner want own stamp → TableWaits v x f level owner own stamp
 waits_on v b x f owner level own stamp want is idle referred waits = record { lent = b; idle = idle; referred = referred; waits = subst (λ k. WaitsWith b x f owner k own stamp) is waits }
 
-module _ (v x : PortValue) (f level owner : ℕ) (own : Bool) (stamp : ℕ) (a : TableWaits v x f level owner own stamp) where
+module _ {v x : PortValue} {f level owner : ℕ} {own : Bool} {stamp : ℕ} (a : TableWaits v x f level owner own stamp) where
   abbrev lent_ref : Reference
   lent_ref = record { frame = f; owner = owners.Of owner }
 
@@ -52,7 +52,7 @@ module _ (v x : PortValue) (f level owner : ℕ) (own : Bool) (stamp : ℕ) (a :
       back ∙ ap (λ (q : PortValue). quiet (record q { holdings = gave f q.holdings })) a.referred
       ∙ ap (λ rs. quiet (record v { holdings = record v.holdings { refs = rs } })) (without_newest (λ (y : Reference). y.frame) f lent_ref v.holdings.refs _ refl refl)
 
-  module _ (want : PageType) (is : want ≡ level_type level) (o : Bool) (whose : own ≡ o) where
+  module _ {want : PageType} (is : want ≡ level_type level) {o : Bool} (whose : own ≡ o) where
     pub waits_as : WaitsFrom a.lent x f owner want o stamp
     waits_as = subst (λ b. WaitsFrom a.lent x f owner want b stamp) whose (subst (λ k. WaitsFrom a.lent x f owner k own stamp) (sym is) waits_from)
 
@@ -64,9 +64,9 @@ module _ (v x : PortValue) (f level owner : ℕ) (own : Bool) (stamp : ℕ) (a :
     gives_left w gives = back_left w (gives a.lent owner stamp waits_as)
 
   -- ---- the type count is in hand
-  module _ (want : PageType) (is : want ≡ level_type level) (mine : own ≡ true) where
+  module _ {want : PageType} (is : want ≡ level_type level) (mine : own ≡ true) where
     abbrev w : WaitsFrom a.lent x f owner want true stamp
-    w = waits_as want is true mine
+    w = waits_as is mine
 
     abbrev e : Work
     e = w.waits.work

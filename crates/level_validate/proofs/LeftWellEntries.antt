@@ -1,7 +1,7 @@
 -- The steps that take a type, and an entry, leave each frame well.
 use Rattle.partial_state.specs.Levels.{level_type}
 use Rattle.partial_state.proofs.LevelFacts.{level_type-typed}
-use Rattle.std.proofs.Common.{◌≡◌, ◌+◌, ℕ, ◌^◌, ◌<◌, ◌==◌, ◌||◌, ◌&&◌, not, Bool, true, false, List, Option, None, Result, Ok, Err, IsTrue, refl, sym, ap, ◌∙◌, subst, arith, inl, inr}
+use Rattle.std.proofs.Common.{◌-◌, ◌∷◌, drop, ◌≡◌, ◌+◌, ℕ, ◌^◌, ◌<◌, ◌==◌, ◌||◌, ◌&&◌, not, Bool, true, false, List, Option, None, Result, Ok, Err, IsTrue, refl, sym, ap, ◌∙◌, subst, arith, inl, inr}
 use Rattle.std.proofs.lemmas.Bool.{or_left}
 use Rattle.std.proofs.lemmas.Bool.Decides.{nat_tests}
 use Rattle.xp_words.specs.Entries.{below, demand_at}
@@ -9,16 +9,13 @@ use Rattle.xp_words.specs.KindWords.{has_form, kind_fields, kind_write}
 use Rattle.xp_words.specs.Machine.{Machine}
 use Rattle.xp_words.specs.PageTypes.{is_none, is_table, type_number}
 use Rattle.xp_words.specs.declared.entry.Demand.{Demand}
-use Rattle.xp_words.specs.declared.entry.Demand.TheVariants as demands
 use Rattle.xp_words.specs.declared.kind.KindWord.{KindWord}
 use Rattle.xp_words.specs.declared.kind.PageType.{PageType}
-use Rattle.xp_words.specs.declared.kind.PageType.TheVariants as pages
 use Rattle.xp_words.specs.Places.{asked_of}
 use Rattle.xp_words.specs.declared.place.Place.{Place}
 use Rattle.xp_words.specs.declared.place.Place.TheVariants.{Clock, Kind, Priv}
 use Rattle.xp_words.specs.declared.reply.Pause.TheVariants.{Flush, Lost}
 use Rattle.xp_words.specs.declared.reply.Refusal.{Refusal}
-use Rattle.xp_words.specs.declared.reply.Refusal.TheVariants as refusals
 use Rattle.xp_words.specs.declared.reply.Stop.{Stop}
 use Rattle.xp_words.specs.declared.reply.Stop.TheVariants.{Refused, Paused}
 use Rattle.xp_board.specs.declared.step.Act.TheVariants.{Load, Max, Store}
@@ -29,11 +26,9 @@ use Rattle.step_maker.specs.Moves.{Met}
 use Rattle.step_maker.proofs.Coming.{came_self}
 use Rattle.answer_fits.specs.Finding.{FoundAt}
 use Rattle.answer_fits.specs.Reasons.{OfOwner, Those, Whose}
-use Rattle.answer_fits.specs.Visits.{Does, Only, Then, Visit, Where, visit, visits}
+use Rattle.answer_fits.specs.Visits.{Does, Only, Then, Visit, Where, visit}
 use Rattle.answer_fits.proofs.Piecing.{each_append}
-use Rattle.flush_words.specs.Flushing as flushing
 use Rattle.flush_words.specs.Flushing.{FlushedBy}
-use Rattle.flush_waits.specs.Listing as waits
 use Rattle.flush_waits.specs.Listing.{LooksAt, Slow, WaitedFor, WaitsInOrder, WeighsBy, saw_flushed, saw_run}
 use Rattle.frame_words.specs.Freeing.{PutBy}
 use Rattle.frame_words.specs.Refs.{GetsBy, Raises, TakesFirst, UnreferredBy, had, outside as unknown, raises_refs, refused, saw_refs, stopped, Gets}
@@ -44,19 +39,31 @@ use Rattle.frame_types.specs.Found.{DeadBy, Dies, EndsBy, GoesBy, LosesBy, Share
 use Rattle.frame_types.specs.Plain.{IsTakenBy, is_own, waits_by}
 use Rattle.frame_types.specs.Standing.{standing_of}
 use Rattle.frame_types.specs.declared.standing.Standing.{Standing}
-use Rattle.frame_types.specs.declared.standing.Standing.TheVariants as stands
 use Rattle.frame_types.specs.declared.taking.Taken.{Taken}
-use Rattle.frame_types.specs.declared.taking.Taken.TheVariants as types
 use Rattle.table_words.specs.Entries.{Records, records_at}
-use Rattle.table_entries.specs.Found.{EnteredBy, EntersBy, EntersFound, LastBy, LeftAfter, LeftBy, ReadBy, RefusesBy, ResumedBy, ResumesBy, ResumesFound, TypedAgain, TypedBy, UnsettledBy, other, outside, saw_cell, settled}
+use Rattle.table_entries.specs.Found.{EntersBy, EntersFound, LastBy, LeftAfter, LeftBy, ReadBy, RefusesBy, ResumesBy, ResumesFound, TypedAgain, TypedBy, UnsettledBy, other, outside, saw_cell, settled}
 use Rattle.table_entries.specs.declared.entries.Entered.{Entered}
-use Rattle.table_entries.specs.declared.entries.Entered.TheVariants as entered
 use Rattle.table_entries.specs.declared.resuming.Resumed.{Resumed}
-use Rattle.table_entries.specs.declared.resuming.Resumed.TheVariants as again
 use Rattle.table_entries.proofs.HandLists.{asks_below}
 use Rattle.level_validate.specs.Leaving.{LeftWell}
-use Rattle.level_validate.proofs.LeftWell.{IsPlain, Plain, nothing_plain, only_plain, put_plain, stores_plain, then_plain, well_by, well_then}
-use Rattle.level_validate.proofs.Visited.{WasFound, each_first, each_next, first_is, were_found}
+use Rattle.level_validate.proofs.Steps.{nothing_plain, only_plain, put_plain, stores_plain, then_plain, well_behind, well_by, well_then, IsPlain, Plain, forward_behind, forward_by, forward_then}
+use Rattle.level_validate.proofs.Entered.{back_one}
+use Rattle.level_validate.proofs.Standing.{standing_top}
+use Rattle.level_validate.specs.Tables.{Carries, IsStanding}
+use Rattle.level_validate.specs.Forward.{Forward}
+use Rattle.table_entries.specs.Tops.{WorksAtTop}
+use Rattle.table_entries.proofs.PiecesAsking.{top_here}
+use Rattle.partial_state.specs.declared.stack.TableWork.{TableWork}
+use Rattle.level_validate.proofs.Opening.{WasFound, each_first, each_next, first_is, were_found}
+use Rattle.xp_words.specs.declared.entry.Demand.TheVariants as demands
+use Rattle.xp_words.specs.declared.kind.PageType.TheVariants as pages
+use Rattle.xp_words.specs.declared.reply.Refusal.TheVariants as refusals
+use Rattle.flush_words.specs.Flushing as flushing
+use Rattle.flush_waits.specs.Listing as waits
+use Rattle.frame_types.specs.declared.standing.Standing.TheVariants as stands
+use Rattle.frame_types.specs.declared.taking.Taken.TheVariants as types
+use Rattle.table_entries.specs.declared.entries.Entered.TheVariants as entered
+use Rattle.table_entries.specs.declared.resuming.Resumed.TheVariants as again
 
 -- ---- put together
 where_plain : (b : Bool) (P : List Visit → Type 0) → ((vs : List Visit) → P vs → Plain vs) → (vs : List Visit) → Where b P vs → Plain vs
@@ -247,7 +254,7 @@ module _ (v w : PortValue) where
   then_shown : (P Q : List Visit → Type 0) → ((vs : List Visit) → Shown vs → P vs → Plain vs) → ((vs : List Visit) → Shown vs → Q vs → Plain vs) → (vs : List Visit) → Shown vs → Then P Q vs → Plain vs
   then_shown P Q p q vs each t =
       subst (λ us. Plain us) (sym t.list)
-      (each_append (λ s. IsPlain s) t.before t.after (p t.before (each_first (WasFound v w) P Q vs t each) t.first) (q t.after (each_next (WasFound v w) P Q vs t each) t.next))
+      (each_append (λ s. IsPlain s) t.before t.after (p t.before (each_first (WasFound v w) t each) t.first) (q t.after (each_next (WasFound v w) t each) t.next))
 
   dies_plain : (f : ℕ) (t : PageType) → IsTrue (not (is_none t)) → is_table t ≡ false → (vs : List Visit) → Shown vs → Dies f t true vs → Plain vs
   dies_plain f t typed off vs each a =
@@ -303,16 +310,16 @@ module _ (v w : PortValue) where
   enters_plain q f i owner k answer word (demands.Read g) is vs each a = read_plain q.machine g owner f i answer vs a
   enters_plain q f i owner k answer word (demands.Typed g t) is vs each a = asked_plain q g owner t (subst (λ y. IsAskedType y) (sym (asks_below k i word g t is)) (below_asked k)) f i answer vs each a
 
-  pub enters_well : (e f i : ℕ) (t : PageType) (owner : ℕ) (answer : Result Entered Stop) → EntersFound v w f i t owner answer → LeftWell v w false e
+  entered_plain : (f i : ℕ) (t : PageType) (owner : ℕ) (answer : Result Entered Stop) → EntersFound v w f i t owner answer → (word : ℕ) × Does v w (Then (Only (saw_cell f i word)) Plain)
   unfolding Does
-  enters_well e f i t owner answer a =
-      well_by v w false e (λ vs. vs ≡ visits a.0) (λ vs is. subst (λ us. Plain us) (sym is) (all_plain (visits a.0) (were_found v w w a.0 a.1 (came_self w)) a.2)) (a.0, a.1, refl)
-    where
-      all_plain : (vs : List Visit) → Shown vs → EnteredBy v.post f i t owner answer vs → Plain vs
-      all_plain vs each b =
-          let word = b.0 in
-          then_shown (Only (saw_cell f i word)) (λ us. EntersBy v.post f i owner answer word (demand_at t i word) us) (λ us shown one. only_plain (saw_cell f i word) refl us one)
-          (enters_plain v.post f i owner t answer word (demand_at t i word) refl) vs each b.1
+  entered_plain f i t owner answer a =
+      let word = a.2.0 in
+      let s = a.2.1 in
+      let shown = each_next (WasFound v w) s (were_found v w w a.0 a.1 (came_self w)) in
+      (word, (a.0, a.1, record { before = s.before; after = s.after; first = s.first; next = enters_plain v.post f i owner t answer word (demand_at t i word) refl s.after shown s.next; list = s.list }))
+
+  pub enters_well : (e f i : ℕ) (t : PageType) (owner : ℕ) (answer : Result Entered Stop) → EntersFound v w f i t owner answer → LeftWell v w false e
+  enters_well e f i t owner answer a = let l = entered_plain f i t owner answer a in well_behind v w false e f i l.0 l.1
 
 -- ---- the last recorded one again
 again_plain : (q : Post) (g owner : ℕ) (t : PageType) → IsAskedType t → (answer : Result Resumed Stop) (vs : List Visit) → TypedAgain q g owner t answer vs → Plain vs
@@ -333,19 +340,45 @@ resumes_plain : (q : Post) (owner i : ℕ) (k : PageType) (answer : Result Resum
 resumes_plain q owner i k answer word (demands.Typed g t) is vs a = last_plain q g t (subst (λ y. IsAskedType y) (sym (asks_below k i word g t is)) (below_asked k)) owner answer vs a
 resumes_plain q owner i k answer word _ is vs a = nothing_plain vs a.1
 
+resumed_plain : (v w : PortValue) (f i : ℕ) (t : PageType) (owner : ℕ) (answer : Result Resumed Stop) → ResumesFound v w f i t owner answer → (word : ℕ) × Does v w (Then (Only (saw_cell f i word)) Plain)
+unfolding Does
+resumed_plain v w f i t owner answer a =
+    let word = a.2.0 in
+    let s = a.2.1 in
+    (word, (a.0, a.1, record { before = s.before; after = s.after; first = s.first; next = resumes_plain v.post owner i t answer word (demand_at t i word) refl s.after s.next; list = s.list }))
+
 pub resumes_well : (v w : PortValue) (e f i : ℕ) (t : PageType) (owner : ℕ) (answer : Result Resumed Stop) → ResumesFound v w f i t owner answer → LeftWell v w false e
-resumes_well v w e f i t owner answer found =
-    well_by v w false e (λ vs. ResumedBy v.post f i t owner answer vs)
-    (λ vs b. then_plain (Only (saw_cell f i b.0)) (λ us. ResumesBy v.post owner answer (demand_at t i b.0) us) (only_plain (saw_cell f i b.0) refl)
-    (resumes_plain v.post owner i t answer b.0 (demand_at t i b.0) refl) vs b.1) found
+resumes_well v w e f i t owner answer a = let l = resumed_plain v w f i t owner answer a in well_behind v w false e f i l.0 l.1
+
+-- ---- of the innermost table
+module _ (u w : PortValue) (owner : ℕ) {t : TableWork} {stack : List TableWork} (is : stack ≡ t ∷ drop 1 stack) (a : IsStanding u owner stack) {k : PageType} (kind : k ≡ level_type t.level) where
+  on_top : WorksAtTop t.frame k t.done u.holdings
+  on_top = subst (λ j. WorksAtTop t.frame j t.done u.holdings) (sym kind) (standing_top (subst (λ xs. Carries a.0 u owner xs) is a.1))
+
+  pub enters_forward : (answer : Result Entered Stop) → EntersFound u w t.frame t.done k owner answer → Forward u w
+  enters_forward answer found =
+      let l = entered_plain u w t.frame t.done k owner answer found in
+      forward_behind u w t.frame t.done l.0 (record { work = on_top.top; here = top_here t.frame t.done k u.holdings on_top; at_end = inl (sym on_top.recorded) }) l.1
+
+  pub resumes_forward : (answer : Result Resumed Stop) → (t.done ≡ 0 → ⊥) → ResumesFound u w t.frame (t.done - 1) k owner answer → Forward u w
+  resumes_forward answer some found =
+      let l = resumed_plain u w t.frame (t.done - 1) k owner answer found in
+      forward_behind u w t.frame (t.done - 1) l.0 (record { work = on_top.top; here = top_here t.frame t.done k u.holdings on_top; at_end = inr (back_one t.done some ∙ sym on_top.recorded) }) l.1
 
 -- ---- calls
+pub refers_forward : (v w : PortValue) (f owner : ℕ) (answer : Result ℕ Stop) → Gets v w f owner answer → Forward v w
+refers_forward v w f owner answer a = forward_by v w (λ vs. GetsBy v.post.machine f owner answer vs) (gets_plain v.post.machine f owner answer) a
+
 pub refers_well : (v w : PortValue) (kept : Bool) (e f owner : ℕ) (answer : Result ℕ Stop) → Gets v w f owner answer → LeftWell v w kept e
 refers_well v w kept e f owner answer a = well_by v w kept e (λ vs. GetsBy v.post.machine f owner answer vs) (gets_plain v.post.machine f owner answer) a
 
 -- a reference, and then a type of a table
-pub had_well : (v u w : PortValue) (f owner level : ℕ) (answer : Result ℕ Stop) → Gets v u f owner answer → (g : ℕ) (t : PageType) → t ≡ level_type level → (taken : Result Taken Stop) → TakesFound u w g owner t taken → (kept : Bool) (e : ℕ) →
-    LeftWell v w kept e
-had_well v u w f owner level answer gets g t is taken types kept e =
-    well_then v u w kept e (refers_well v u kept e f owner answer gets)
-    (well_by u w kept e (λ vs. TypeBy u.post g owner t taken vs) (typed_plain u.post g owner t (subst (λ k. IsTrue (not (is_none k))) (sym is) (level_type-typed level)) taken) types)
+module _ (v u w : PortValue) (f owner level : ℕ) (answer : Result ℕ Stop) (gets : Gets v u f owner answer) (g : ℕ) {t : PageType} (is : t ≡ level_type level) (taken : Result Taken Stop) (types : TakesFound u w g owner t taken) where
+  had_plain : (vs : List Visit) → TypeBy u.post g owner t taken vs → Plain vs
+  had_plain = typed_plain u.post g owner t (subst (λ k. IsTrue (not (is_none k))) (sym is) (level_type-typed level)) taken
+
+  pub had_forward : Forward v w
+  had_forward = forward_then v u w (refers_forward v u f owner answer gets) (forward_by u w (λ vs. TypeBy u.post g owner t taken vs) had_plain types)
+
+  pub had_well : (kept : Bool) (e : ℕ) → LeftWell v w kept e
+  had_well kept e = well_then v u w kept e (refers_well v u kept e f owner answer gets) (well_by u w kept e (λ vs. TypeBy u.post g owner t taken vs) had_plain types)

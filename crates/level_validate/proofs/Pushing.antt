@@ -5,7 +5,6 @@ use Rattle.xp_words.specs.Entries.{below, demand_at}
 use Rattle.xp_words.specs.KindWords.{kind_fields}
 use Rattle.xp_words.specs.Places.{sizes_of}
 use Rattle.xp_words.specs.declared.entry.Demand.TheVariants.{Typed}
-use Rattle.xp_board.specs.declared.holdings.OwnerFound.TheVariants as owners
 use Rattle.xp_board.specs.declared.holdings.Reference.{Reference}
 use Rattle.xp_board.specs.declared.holdings.Unsettled.{Unsettled}
 use Rattle.xp_board.specs.declared.holdings.Work.{Work}
@@ -28,10 +27,9 @@ use Rattle.partial_state.specs.declared.stack.TableWork.{TableWork}
 use Rattle.partial_state.specs.Levels.{level_type}
 use Rattle.partial_state.specs.Stacks.{IsStack}
 use Rattle.level_validate.specs.Tables.{AreTables, AreTyped, IsLastWord, IsTopReady, IsTableWork, Reaches, Carries, innermost, taken_on, under_way}
-use Rattle.level_validate.proofs.LeavingTables.{top, top_done}
-use Rattle.level_validate.proofs.Looking.{FirstFound, last_looked, looked_apart}
-use Rattle.level_validate.proofs.Opening.{CameOpen, read_level}
-use Rattle.level_validate.proofs.StandsFacts.{stands_by, stands_post, tables_inner, tables_later, typed_done, typed_later, work_done}
+use Rattle.level_validate.proofs.Standing.{top, top_done, stands_by, stands_post, tables_inner, tables_later, typed_done, typed_later, work_done}
+use Rattle.level_validate.proofs.Opening.{FirstFound, last_looked, looked_apart, CameOpen, read_level}
+use Rattle.xp_board.specs.declared.holdings.OwnerFound.TheVariants as owners
 
 -- a table that an entry of t names
 abbrev pub pushed : TableWork → ℕ → ℕ → Bool → Bool → TableWork
@@ -44,28 +42,28 @@ head_is x y xs ys is = cc
 pub ready_by : (w : PortValue) (x : Work) (xs : List Work) → w.holdings.works ≡ x ∷ xs → IsTrue (is_settled (sizes_of w.post.machine) w.holdings x) → IsTopReady w
 ready_by w x xs are settled e es is = subst (λ y. IsTrue (is_settled (sizes_of w.post.machine) w.holdings y)) (sym (head_is x e xs es (sym are ∙ is))) settled
 
-module _ (v u w : PortValue) (owner : ℕ) (t : TableWork) (ts : List TableWork) (s : Carries v u owner (t ∷ ts)) (came : Came u w) (first : FirstFound u) (i word : ℕ) where
+module _ {v u : PortValue} (w : PortValue) {owner : ℕ} {t : TableWork} {ts : List TableWork} (s : Carries v u owner (t ∷ ts)) (came : Came u w) (first : FirstFound u) (i word : ℕ) where
   unfoldable pub e : Work
-  e = (top v u owner t ts s).work
+  e = (top s).work
 
   unfoldable pub es : List Work
-  es = (top v u owner t ts s).others
+  es = (top s).others
 
   works_were : u.holdings.works ≡ e ∷ es
   unfolding e es
-  works_were = (top v u owner t ts s).are
+  works_were = (top s).are
 
   is_table_work : IsTableWork (sizes_of v.post.machine) t e
   unfolding e
-  is_table_work = (top v u owner t ts s).is
+  is_table_work = (top s).is
 
   recorded_is : e.recorded ≡ t.done
   unfolding e
-  recorded_is = top_done v u owner t ts s
+  recorded_is = top_done s
 
   around_later : AreTables (sizes_of v.post.machine) w.holdings.steps (Some t) ts es
   unfolding es
-  around_later = tables_later (sizes_of v.post.machine) (Some t) ts es u.holdings w.holdings (came_grows u w came) (came_longer u w came) (top v u owner t ts s).around
+  around_later = tables_later (sizes_of v.post.machine) (Some t) ts es u.holdings w.holdings (came_grows u w came) (came_longer u w came) (top s).around
 
   around_done : (d : ℕ) → AreTables (sizes_of v.post.machine) w.holdings.steps (Some (record t { done = d })) ts es
   around_done d = tables_inner (sizes_of v.post.machine) w.holdings.steps t d ts es around_later
@@ -103,7 +101,7 @@ module _ (v u w : PortValue) (owner : ℕ) (t : TableWork) (ts : List TableWork)
   pub looked_hand : learned_cell t.frame i word u.holdings ≡ record u.holdings { works = seen ∷ es }
   unfolding seen
   looked_hand =
-      looked_apart u.post.machine u.post.vcpu u.holdings first.place first.word first.finds t.frame e (work_here t.frame e es u.holdings.works is_table_work.frame works_were) is_table_work.work i word
+      looked_apart first.finds t.frame (work_here t.frame e es u.holdings.works is_table_work.frame works_were) is_table_work.work i word
       ∙ ap (λ ws. record u.holdings { works = ws }) (changed_first t.frame (learned_work i word) e es u.holdings.works works_were is_table_work.frame)
 
   -- ---- looked at alone
@@ -136,8 +134,7 @@ module _ (v u w : PortValue) (owner : ℕ) (t : TableWork) (ts : List TableWork)
       s.refs (typed_done (length w.holdings.steps) owner t (t.done + 1) ts u.holdings.typed typed_now)
 
   -- ---- another table came into work
-  module _ (g progress d : ℕ) (r : Bool) (x : Work) (opens : CameOpen u g (below (level_type t.level)) progress) (fits : d ≤ 512) (frame : x.frame ≡ g) (in_work : IsTrue (is_work (kind_fields x.word)))
-      (kind : (kind_fields x.word).kind ≡ below (level_type t.level)) (unmarked : (kind_fields x.word).unflushed ≡ false) (recorded : x.recorded ≡ progress) where
+  module _ {g progress : ℕ} (d : ℕ) (r : Bool) (x : Work) (opens : CameOpen u g (below (level_type t.level)) progress) (fits : d ≤ 512) (frame : x.frame ≡ g) (in_work : IsTrue (is_work (kind_fields x.word))) (kind : (kind_fields x.word).kind ≡ below (level_type t.level)) (unmarked : (kind_fields x.word).unflushed ≡ false) (recorded : x.recorded ≡ progress) where
     low : 2 ≤ t.level
     low = read_level t.level s.stack.0.low opens.read
 

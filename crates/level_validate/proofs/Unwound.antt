@@ -1,36 +1,116 @@
--- The tables in work are left, one after the other.
-use Rattle.std.proofs.Common.{◌≡◌, ◌≢◌, ℕ, ◌+◌, ◌-◌, ◌<◌, Bool, true, false, List, [], ◌∷◌, Option, Some, refl, sym, ap, ◌∙◌, subst, inl, inr}
-use Rattle.xp_words.specs.Places.{sizes_of}
+-- The outermost table stays the same while the tables in it are validated: what that says when it is full, and when all are left.
+use Rattle.std.proofs.Common.{◌≡◌, ℕ, ◌==◌, Bool, true, false, List, [], ◌∷◌, Option, Some, None, refl, sym, ap, ◌∙◌, subst, arith, inl, inr, ◌≢◌, ◌+◌, ◌-◌, ◌<◌}
+use Rattle.std.proofs.lemmas.Bool.Decides.{nat_tests}
 use Rattle.xp_board.specs.declared.holdings.Holdings.{Holdings}
+use Rattle.xp_board.specs.Told.{PortValue, Post}
+use Rattle.step_maker.specs.Holds.{FlushedHolds, MayWork, Holds, quiet}
+use Rattle.table_words.specs.OldWords.{known_old, kept_in_old}
+use Rattle.table_words.specs.declared.old_words.OldWord.TheVariants.{First}
+use Rattle.partial_state.specs.declared.stack.TableWork.{TableWork}
+use Rattle.level_validate.specs.Acquiring.{is_filled, outermost_work}
+use Rattle.level_validate.specs.Completing.{Completes}
+use Rattle.level_validate.specs.Tables.{Carries, IsStanding, StandsOn, refs_for}
+use Rattle.level_validate.specs.Unwinding.{Unwinds, UnwoundHand, named_unless, outermost_frame, outermost_named, UnwindsTo, UnwoundTo, around_lent, left_so}
+use Rattle.level_validate.proofs.Standing.{top_owned, top, top_gone, top_kept, top_typed, top_spelled, may_back, may_stands, ref_owned, refs_lent, refs_own, stands_none, stands_post, tables_none}
+use Rattle.xp_words.specs.Places.{sizes_of}
 use Rattle.xp_board.specs.Hands.{typed_to, without_typed, without_work}
 use Rattle.xp_board.specs.Readings.{domain_of}
-use Rattle.xp_board.specs.Told.{Post, PortValue}
-use Rattle.step_maker.specs.Holds.{FlushedHolds, Holds, quiet}
-use Rattle.step_maker.specs.Moves.{Came}
+use Rattle.step_maker.specs.Moves.{Came, Moves}
 use Rattle.step_maker.proofs.Coming.{came_self, came_trans}
-use Rattle.table_words.specs.OldWords.{kept_in_old}
-use Rattle.table_words.specs.declared.old_words.OldWord.TheVariants.{First}
 use Rattle.kept_marks.specs.Marks.{LeavesKept}
 use Rattle.kind_words.specs.Kinds.{partial_kind}
 use Rattle.partial_state.specs.Levels.{level_type}
-use Rattle.partial_state.specs.declared.stack.TableWork.{TableWork}
-use Rattle.level_validate.specs.Acquiring.{outermost_work}
 use Rattle.table_courses.specs.Acquiring.{Unwound}
 use Rattle.level_validate.specs.Courses.{UnwindsOn}
 use Rattle.level_validate.specs.Forward.{Forward}
 use Rattle.level_validate.specs.Leaving.{LeftWell}
 use Rattle.level_validate.specs.Serving.{CarriesOn, ServesLeft, ServesTo}
-use Rattle.level_validate.specs.Tables.{Carries}
-use Rattle.level_validate.specs.Unwinding.{Unwinds, UnwindsTo, UnwoundHand, UnwoundTo, around_lent, left_so, named_unless, outermost_frame}
-use Rattle.level_validate.proofs.Forward.{forward_nothing, forward_then}
-use Rattle.level_validate.proofs.LeavingTables.{top, top_gone, top_kept, top_typed}
-use Rattle.level_validate.proofs.LeavingOwn.{typed_gone}
-use Rattle.level_validate.proofs.LeftSo.{unwinds_then}
-use Rattle.level_validate.proofs.LeftWell.{well_nothing, well_then}
-use Rattle.level_validate.proofs.Outermost.{frame_alike, hand_alike}
+use Rattle.level_validate.proofs.Steps.{forward_nothing, forward_then, well_nothing, well_then, well_store}
+use Rattle.level_validate.proofs.Leaving.{typed_gone, unwinds_then}
 use Rattle.level_validate.proofs.Serving.{goes_nothing, goes_then, left_behind, left_on}
-use Rattle.level_validate.proofs.StandsFacts.{refs_own, stands_none, stands_post, tables_none}
+use Rattle.xp_words.specs.KindWords.{kind_write}
+use Rattle.xp_words.specs.declared.place.Place.TheVariants.{Kind}
+use Rattle.xp_board.specs.declared.step.Act.TheVariants.{Store}
+use Rattle.xp_board.specs.declared.holdings.OwnerFound.TheVariants as owners
+use Rattle.xp_board.specs.declared.step.StepKind.TheVariants as kinds
 
+-- ---- full
+is_at : (m n : ℕ) → (m == n) ≡ true → m ≡ n
+is_at m n on = grind (arith, nat_tests)
+
+pub filled_is : (t : TableWork) (us : List TableWork) → is_filled us ≡ true → outermost_work us ≡ outermost_work (t ∷ []) → us ≡ record t { done = 512 } ∷ []
+filled_is t [] full same = absurd cc
+filled_is t (u ∷ []) full same =
+    let is : record u { done = 0 } ≡ record t { done = 0 } = cc in
+    let all : record u { done = u.done } ≡ record t { done = u.done } = ap (λ (y : TableWork). record y { done = u.done }) is in
+    ap (λ (y : TableWork). y ∷ []) (all ∙ ap (λ n. record t { done = n }) (is_at u.done 512 full))
+filled_is t (u ∷ x ∷ xs) full same = absurd cc
+
+-- ---- named
+abbrev named_by : Bool → Option TableWork → Holdings → Holdings
+named_by kept None h = h
+named_by kept (Some t) h = named_unless kept t h
+
+named_is : (kept : Bool) (ts : List TableWork) (h : Holdings) → outermost_named kept ts h ≡ named_by kept (outermost_work ts) h
+named_is kept [] h = refl
+named_is kept (t ∷ []) h = refl
+named_is kept (t ∷ u ∷ us) h = named_is kept (u ∷ us) h
+
+pub named_alike : (kept : Bool) (ts us : List TableWork) (h : Holdings) → outermost_work ts ≡ outermost_work us → outermost_named kept ts h ≡ outermost_named kept us h
+named_alike kept ts us h same = named_is kept ts h ∙ ap (λ o. named_by kept o h) same ∙ sym (named_is kept us h)
+
+pub hand_alike : (v w : PortValue) (owner : ℕ) (kept : Bool) (ts us : List TableWork) → outermost_work ts ≡ outermost_work us → UnwoundHand v w owner kept ts → UnwoundHand v w owner kept us
+hand_alike v w owner kept ts us same (inl hand) = inl (subst (λ h. FlushedHolds v w h) (named_alike kept ts us v.holdings same) hand)
+hand_alike v w owner kept ts us same (inr hand) = inr (hand.0, hand.1, subst (λ h. FlushedHolds v w h) (named_alike false ts us v.holdings same) hand.2)
+
+-- its frame
+abbrev frame_by : Option TableWork → ℕ
+frame_by None = 0
+frame_by (Some t) = t.frame
+
+frame_is : (ts : List TableWork) → outermost_frame ts ≡ frame_by (outermost_work ts)
+frame_is [] = refl
+frame_is (t ∷ []) = refl
+frame_is (t ∷ u ∷ us) = frame_is (u ∷ us)
+
+pub frame_alike : (ts us : List TableWork) → outermost_work ts ≡ outermost_work us → outermost_frame ts ≡ outermost_frame us
+frame_alike ts us same = frame_is ts ∙ ap frame_by same ∙ sym (frame_is us)
+
+-- ---- the tables have one owner
+same_number : (o p : ℕ) → owners.Of o ≡ owners.Of p → o ≡ p
+same_number o p same = cc
+
+pub one_owner : (v x w : PortValue) (o p : ℕ) (t : TableWork) (ts us : List TableWork) → Carries v w o (t ∷ ts) → Carries x w p (t ∷ us) → o ≡ p
+one_owner v x w o p t ts us s r = by t.own refl
+  where
+    by : (b : Bool) → t.own ≡ b → o ≡ p
+    by true own = same_number o p (sym (top_owned s own) ∙ top_owned r own)
+    by false lent =
+        let a = ref_owned t.frame o (record { frame = t.frame; owner = owners.Of o }) (refs_for o ts v.holdings.refs) w.holdings (s.refs ∙ refs_lent o t ts v.holdings.refs lent) refl refl in
+        let b = ref_owned t.frame p (record { frame = t.frame; owner = owners.Of p }) (refs_for p us x.holdings.refs) w.holdings (r.refs ∙ refs_lent p t us x.holdings.refs lent) refl refl in
+        same_number o p (sym a ∙ b)
+
+-- ---- behind steps on which the tables stand
+module _ (u x : PortValue) (owner : ℕ) (ts us : List TableWork) (a : IsStanding u owner ts) (stands : StandsOn u x owner ts us) where
+  pub on_stands : IsStanding x owner us
+  on_stands = (a.0, stands a.0 a.1)
+
+  pub on_may : MayWork u → MayWork x
+  on_may may = may_stands a.0 x owner us (stands a.0 a.1) (may_back a.0 u owner ts a.1 may)
+
+  -- the first old word stays as it was
+  pub on_room : known_old First u.holdings ≡ Some 0 → known_old First x.holdings ≡ Some 0
+  on_room room = ap (λ (q : PortValue). q.holdings.old0) (stands a.0 a.1).hand ∙ sym (ap (λ (q : PortValue). q.holdings.old0) a.1.hand) ∙ room
+
+-- it is made live
+pub completed : (u x w : PortValue) (owner : ℕ) (t : TableWork) → IsStanding u owner (t ∷ []) → StandsOn u x owner (t ∷ []) (record t { done = 512 } ∷ []) → Completes x w (record t { done = 512 }) → Completes u w t
+completed u x w owner t a stands live v o s = live v o (subst (λ p. Carries v x p (record t { done = 512 } ∷ [])) (one_owner a.0 v u owner o t [] [] a.1 s) (stands v (subst (λ p. Carries v u p (t ∷ [])) (sym (one_owner a.0 v u owner o t [] [] a.1 s)) s)))
+
+-- all are left
+pub unwound : (u x w : PortValue) (owner : ℕ) (kept : Bool) (ts us : List TableWork) → outermost_work us ≡ outermost_work ts → StandsOn u x owner ts us → Unwinds x w owner kept us → Unwinds u w owner kept ts
+unwound u x w owner kept ts us same stands left v s = hand_alike v w owner kept us ts same (left v (stands v s))
+
+-- The tables in work are left, one after the other.
 -- ---- the outermost table
 named_lent : (kept : Bool) (t : TableWork) (h : Holdings) → t.own ≡ false → named_unless kept t h ≡ h
 named_lent true t h lent = refl
@@ -49,15 +129,15 @@ outer_lent v x owner t kept lent s =
     inl (stands_none v x owner (subst (λ us. Carries v x owner us) (around_none t.recorded) s) ∙ ap (λ h. quiet (record v { holdings = h })) (sym (named_lent kept t v.holdings lent)))
 
 -- its type count went out of the hand
-module _ (v w : PortValue) (owner : ℕ) (t : TableWork) (s : Carries v w owner (t ∷ [])) (own : t.own ≡ true) where
+module _ {v w : PortValue} {owner : ℕ} {t : TableWork} (s : Carries v w owner (t ∷ [])) (own : t.own ≡ true) where
   outer_gone : (o : Option ℕ) (x : PortValue) → FlushedHolds w x (record w.holdings { typed = without_typed t.frame w.holdings.typed; works = without_work t.frame w.holdings.works; old0 = o }) → FlushedHolds v x (record v.holdings { old0 = o })
   outer_gone o x gone =
-      let y = top_typed v w owner t [] s own in
-      let e = top v w owner t [] s in
+      let y = top_typed s own in
+      let e = top s in
       gone
-      ∙ ap (λ ys. quiet (record w { holdings = record w.holdings { typed = ys; works = without_work t.frame w.holdings.works; old0 = o } })) (typed_gone v w owner t [] s own ∙ y.around ∙ sym s.idle.typed)
+      ∙ ap (λ ys. quiet (record w { holdings = record w.holdings { typed = ys; works = without_work t.frame w.holdings.works; old0 = o } })) (typed_gone s own ∙ y.around ∙ sym s.idle.typed)
       ∙ ap (λ ws. quiet (record w { holdings = record w.holdings { typed = v.holdings.typed; works = ws; old0 = o } }))
-      (top_gone v w owner t [] s ∙ tables_none (sizes_of v.post.machine) w.holdings.steps (Some t) e.others e.around ∙ sym s.idle.works)
+      (top_gone s ∙ tables_none (sizes_of v.post.machine) w.holdings.steps (Some t) e.others e.around ∙ sym s.idle.works)
       ∙ ap (λ (q : PortValue). quiet (record q { holdings = record q.holdings { typed = v.holdings.typed; works = v.holdings.works; old0 = o } })) s.hand
       ∙ ap (λ rs. quiet (record v { holdings = record v.holdings { refs = rs; old0 = o } })) (s.refs ∙ (let r = refs_own owner t [] v.holdings.refs own in r))
 
@@ -74,11 +154,11 @@ module _ (v w : PortValue) (owner : ℕ) (t : TableWork) (s : Carries v w owner 
   -- its `kept` mark has it; or that was taken back, and the first old word has it
   pub outer_kept : (kept : Bool) → kept ≡ true → (d : PortValue) → LeavesKept w d t.frame (partial_kind (level_type t.level) true false t.done 0) owner → UnwoundHand v d owner kept (t ∷ [])
   outer_kept kept on d (inl hand) =
-      let so = top_kept v w owner t [] s own in
+      let so = top_kept s own in
       inl (outer_gone w.holdings.old0 d (ap quiet hand ∙ ap (λ h. quiet (record w { holdings = h })) so) ∙ ap (λ o. quiet (record v { holdings = record v.holdings { old0 = o } })) (ap (λ (q : PortValue). q.holdings.old0) s.hand)
       ∙ ap (λ b. quiet (record v { holdings = named_unless b t v.holdings })) (sym on))
   outer_kept kept on d (inr back) =
-      let so = top_kept v w owner t [] s own in
+      let so = top_kept s own in
       inr (
         subst (λ (p : Post). owner ≢ domain_of p.machine p.vcpu) (stands_post v w owner (t ∷ []) s) back.0,
         on,
@@ -153,7 +233,7 @@ serves_on : (u w x : PortValue) (owner : ℕ) (kept : Bool) (ts us rs : List Tab
 serves_on u w x owner kept ts us [] same came goes left = subst (λ f. ServesLeft u x owner kept f ts []) (frame_alike us ts same) (left_behind u w x owner kept (outermost_frame us) ts us [] [] came goes left)
 serves_on u w x owner kept ts us (r ∷ rs) same came goes left = goes_then u w x owner ts us (r ∷ rs) [] [] goes left
 
-module _ (u w : PortValue) (owner : ℕ) (kept : Bool) (ts : List TableWork) (t : TableWork) (us : List TableWork) (g : Unwinding u w owner kept ts (t ∷ us)) where
+module _ {u w : PortValue} {owner : ℕ} {kept : Bool} {ts : List TableWork} {t : TableWork} {us : List TableWork} (g : Unwinding u w owner kept ts (t ∷ us)) where
   pub unwinding_on : (x : PortValue) (rs : List TableWork) → Came w x → Forward w x → ((o : TableWork) → outermost_work (t ∷ us) ≡ Some o → LeftWell w x kept o.frame) → (b : Bool) × (rs ≡ around_lent b us) →
       UnwindsTo w x owner kept (t ∷ us) rs → ServesTo w x owner kept (t ∷ us) rs → UnwindsOn w x owner kept (t ∷ us) rs → Unwinding u x owner kept ts rs
   unwinding_on x rs came forward leaves around hand serves course =
@@ -169,7 +249,7 @@ module _ (u w : PortValue) (owner : ℕ) (kept : Bool) (ts : List TableWork) (t 
       }
 
 -- none is left
-module _ (u w : PortValue) (owner : ℕ) (kept : Bool) (ts us : List TableWork) (none : us ≡ []) (g : Unwinding u w owner kept ts us) where
+module _ {u w : PortValue} {owner : ℕ} {kept : Bool} {ts us : List TableWork} (none : us ≡ []) (g : Unwinding u w owner kept ts us) where
   pub unwinding_hand : Unwinds u w owner kept ts
   unwinding_hand = subst (λ (rs : List TableWork). UnwindsTo u w owner kept ts rs) none g.hand
 
@@ -179,3 +259,9 @@ module _ (u w : PortValue) (owner : ℕ) (kept : Bool) (ts us : List TableWork) 
   pub unwinding_course : Unwound u owner ts kept w
   unfolding UnwindsOn
   unwinding_course = g.course w (subst (λ (rs : List TableWork). Unwound w owner rs kept w) (sym none) refl)
+
+-- A table in work is left partial, without a mark.
+pub unkept_well : (v w : PortValue) (owner : ℕ) (t : TableWork) (d : PortValue) (found : ℕ) (ts : List TableWork) (kept : Bool) (f : ℕ) → Carries v w owner (t ∷ ts) →
+    Moves w d (Kind t.frame) (Store (kind_write (partial_kind (level_type t.level) false false t.done 0))) kinds.Kind None found → LeftWell w d kept f
+unkept_well v w owner t d found ts kept f s store =
+    well_store w d kept f t.frame (partial_kind (level_type t.level) false false t.done 0) kinds.Kind None found (top_spelled s false (λ on. absurd cc)) (λ on. absurd cc) (λ dead. absurd cc) store

@@ -1,12 +1,9 @@
-use Rattle.level_validate.proofs.LeftWellEntries.{had_well, refers_well}
+use Rattle.level_validate.proofs.LeftWellEntries.{had_forward, had_well, refers_forward, refers_well}
 use Rattle.frame_types.specs.Plain.{is_refused}
 use Rattle.level_validate.specs.Leaving.{LeftWell}
-use Rattle.level_validate.proofs.LeftWell.{put_plain, well_by, well_then}
+use Rattle.level_validate.proofs.Steps.{put_plain, well_by, well_then, forward_by, forward_then}
 use Rattle.frame_words.specs.Freeing.{PutBy}
-use Rattle.level_validate.proofs.OnwardEntries.{refers_forward, types_forward}
-use Rattle.level_validate.proofs.Onward.{put_onward}
-use Rattle.level_validate.proofs.Forward.{forward_by, forward_then}
-use Rattle.std.proofs.Common.{◌∙◌, false, [], Ok, Err, ap, subst, not, refl, sym, inl}
+use Rattle.std.proofs.Common.{◌∙◌, false, [], Ok, Err, ap, subst, not, refl, sym, inl, rules}
 use Rattle.std.proofs.lemmas.Result.{err_from_is_err_and}
 use Rattle.answer_fits.specs.Answers.{missed}
 use Rattle.frame_types.specs.Found.{TakesFound}
@@ -14,129 +11,145 @@ use Rattle.frame_types.specs.Taking.{ShowsWait, TakesAs}
 use Rattle.frame_types.specs.declared.taking.Taken.TheVariants.{Counted, InWork, Waiting}
 use Rattle.partial_state.specs.Levels.{level_type}
 use Rattle.level_validate.specs.Acquiring.{is_due_stop, is_paused_answer}
-use Rattle.level_validate.proofs.Acquired.{answer_leaves, counted_hand, given_hand, idle_aside, idle_other, leaves_as, same_leaves, carries_taken, taken_ready, unwound_leaves}
-use Rattle.level_validate.proofs.AcquiredBy.{counted_by, finished_by, unfinished_by, unreferred_by, untyped_by, waiting_by}
+use Rattle.level_validate.proofs.Acquired.{answer_leaves, counted_hand, given_hand, idle_aside, idle_other, leaves_as, same_leaves, carries_taken, taken_ready, unwound_leaves, counted_by, finished_by, unfinished_by, unreferred_by, untyped_by, waiting_by, marked_acquired, plain_acquired, reference_serves, reference_stops, serves_as, stopped_serves, stopped_stops, stops_as, taken_serves, validated_misses, validated_serves, validated_stops, waited_serves, waited_stops}
 use Rattle.level_validate.proofs.LeftWaiting.{waits_on}
-use Rattle.level_validate.proofs.Requested.{marked_acquired, plain_acquired, reference_serves, reference_stops, serves_as, stopped_serves, stopped_stops, stops_as, taken_serves, validated_misses, validated_serves, validated_stops, waited_serves, waited_stops}
 use Rattle.level_validate.proofs.acquiring.acquire.Goals as goal
 
 -- ---- its reference is not to be had
 
-pub returns-in_err-frame-clause-serves : goal.returns-in_err-frame-clause-serves
-returns-in_err-frame-clause-serves g c pages =
-    let v = g.P.Port.value c.args.port.now in
-    let b = g.P.Port.value c.get_ref.new.port in
+pub returns-in_err-frame : goal.returns-in_err-frame
+returns-in_err-frame g c =
     let e = c.in_err-frame.field-0.0 in
     let answer = err_from_is_err_and c.from_residual.result c.from_residual.ensures.1 in
-    serves_as v b c.args.f c.args.owner c.args.level pages c.from_residual.result e (answer.1 ∙ ap Err answer.2)
-    (plain_acquired v b c.args.f c.args.owner c.args.level pages (Err e) (reference_serves v c.args.f c.args.owner c.args.level pages (is_due_stop e) b (missed v.post.machine e) c.in_err-frame.ensures.serves))
-
-pub returns-in_err-frame-clause-stops : goal.returns-in_err-frame-clause-stops
-returns-in_err-frame-clause-stops g c pages =
-    let v = g.P.Port.value c.args.port.now in
-    let b = g.P.Port.value c.get_ref.new.port in
-    let e = c.in_err-frame.field-0.0 in
-    let answer = err_from_is_err_and c.from_residual.result c.from_residual.ensures.1 in
-    stops_as v b c.args.f c.args.owner c.args.level pages c.from_residual.result e (answer.1 ∙ ap Err answer.2)
-    (reference_stops v c.args.f c.args.owner c.args.level pages (is_due_stop e) b e c.in_err-frame.ensures.stops)
+    record {
+      frame = search rules;
+      serves = λ pages. serves_as _ _ _ _ _ pages _ _ (answer.1 ∙ ap Err answer.2)
+          (plain_acquired _ _ _ _ _ pages (Err e) (reference_serves _ _ _ _ pages (is_due_stop e) _ (missed (g.P.Port.value c.args.port.now).post.machine e) c.in_err-frame.ensures.serves));
+      stops = λ pages. stops_as _ _ _ _ _ pages _ _ (answer.1 ∙ ap Err answer.2)
+          (reference_stops _ _ _ _ pages (is_due_stop e) _ _ c.in_err-frame.ensures.stops);
+      kinds = search rules;
+      forward = refers_forward _ _ _ _ _ c.get_ref.ensures.gets;
+      leaves = refers_well _ _ _ _ _ _ _ c.get_ref.ensures.gets;
+      hand = search rules;
+      gate = search rules;
+      heard = search rules;
+      says = search rules;
+      paces = search rules;
+      calm = search rules;
+      course = unreferred_by _ _ _ _ _ _ _ _ _ _ (answer.1 ∙ ap Err answer.2) c.in_err-frame.ensures.kinds c.in_err-frame.ensures.gets c.in_err-frame.ensures.plain c.in_err-frame.ensures.stops;
+    }
 
 -- ---- its type
 
-pub take_type-requires-clause-aside : goal.take_type-requires-clause-aside
-take_type-requires-clause-aside g c none =
-    inl (idle_aside (g.P.Port.value c.args.port.now) (g.P.Port.value c.get_ref.new.port) c.in_ok-frame.frame c.args.owner c.requires.idle c.in_ok-frame.ensures.hand)
-
-pub take_type-requires-clause-other : goal.take_type-requires-clause-other
-take_type-requires-clause-other g c =
-    idle_other (g.P.Port.value c.args.port.now) (g.P.Port.value c.get_ref.new.port) c.in_ok-frame.frame c.args.owner c.requires.idle c.in_ok-frame.ensures.hand c.level_type.result
+pub take_type-requires : goal.take_type-requires
+take_type-requires g c =
+    record {
+      frame = search rules;
+      may = search rules;
+      wanted = search rules;
+      lent = search rules;
+      aside = λ none. inl (idle_aside (g.P.Port.value c.get_ref.new.port) c.in_ok-frame.frame c.args.owner c.requires.idle c.in_ok-frame.ensures.hand);
+      other = idle_other (g.P.Port.value c.get_ref.new.port) c.in_ok-frame.frame c.args.owner c.requires.idle c.in_ok-frame.ensures.hand c.level_type.result;
+      looked = search rules;
+    }
 
 -- ---- it was live
 
-pub returns-in-Ok-Counted-clause-serves : goal.returns-in-Ok-Counted-clause-serves
-returns-in-Ok-Counted-clause-serves g c pages =
-    let v = g.P.Port.value c.args.port.now in
+pub returns-in-Ok-Counted : goal.returns-in-Ok-Counted
+returns-in-Ok-Counted g c =
     let x = g.P.Port.value c.take_type.new.port in
-    plain_acquired v x c.args.f c.args.owner c.args.level pages (Ok c.in_ok-frame.frame)
-    (taken_serves v c.args.f c.args.owner c.args.level pages false (g.P.Port.value c.get_ref.new.port) c.in_ok-frame.ensures.serves c.in_ok-frame.frame c.in_ok-frame.ensures.frame.0 c.level_type.result c.level_type.ensures x c.in-Ok-Counted.ensures.serves)
-
-pub returns-in-Ok-Counted-clause-hand : goal.returns-in-Ok-Counted-clause-hand
-returns-in-Ok-Counted-clause-hand g c =
-    let v = g.P.Port.value c.args.port.now in
     let b = g.P.Port.value c.get_ref.new.port in
-    let x = g.P.Port.value c.take_type.new.port in
     let h = c.in_ok-frame.frame in
     let taken : TakesAs b x h c.args.owner c.level_type.result Counted = subst (λ t. TakesAs b x h c.args.owner c.level_type.result t) c.in-Ok-Counted.field-0-is c.in-Ok-Counted.ensures.hand in
-    counted_hand v b h c.args.owner c.requires.idle c.in_ok-frame.ensures.hand x (level_type c.args.level) (subst (λ k. TakesAs b x h c.args.owner k Counted) c.level_type.ensures taken)
+    record {
+      frame = search rules;
+      serves = λ pages. plain_acquired _ _ _ _ _ pages (Ok c.in_ok-frame.frame)
+          (taken_serves _ _ _ _ pages false _ c.in_ok-frame.ensures.serves c.in_ok-frame.ensures.frame.0 c.level_type.ensures _ c.in-Ok-Counted.ensures.serves);
+      stops = search rules;
+      kinds = search rules;
+      forward = had_forward _ _ _ _ _ _ _ c.get_ref.ensures.gets c.in_ok-frame.frame c.level_type.ensures _ c.take_type.ensures.found;
+      leaves = had_well _ _ _ _ _ _ _ c.get_ref.ensures.gets c.in_ok-frame.frame c.level_type.ensures _ c.take_type.ensures.found false _;
+      hand = counted_hand b h c.args.owner c.requires.idle c.in_ok-frame.ensures.hand x (level_type c.args.level) (subst (λ k. TakesAs b x h c.args.owner k Counted) c.level_type.ensures taken);
+      gate = search rules;
+      heard = search rules;
+      says = search rules;
+      paces = search rules;
+      calm = search rules;
+      course = counted_by _ _ _ _ _ _ _ _ c.in_ok-frame.ensures.frame.0 c.in_ok-frame.ensures.gets c.in_ok-frame.ensures.plain _ c.level_type.ensures
+          c.in-Ok-Counted.field-0 c.in-Ok-Counted.ensures.found c.in-Ok-Counted.ensures.plain c.in-Ok-Counted.ensures.waits c.in-Ok-Counted.field-0-is;
+    }
 
 -- ---- its type is not to be had
 
-pub returns-in-Err-clause-serves : goal.returns-in-Err-clause-serves
-returns-in-Err-clause-serves g c pages =
-    let v = g.P.Port.value c.args.port.now in
+pub returns-in-Err : goal.returns-in-Err
+returns-in-Err g c =
     let w = g.P.Port.value c.put_ref.new.port in
-    let e = c.in-Err.stop in
-    plain_acquired v w c.args.f c.args.owner c.args.level pages (Err e)
-    (stopped_serves v c.args.f c.args.owner c.args.level pages (is_due_stop e) (g.P.Port.value c.get_ref.new.port) c.in_ok-frame.ensures.serves c.in_ok-frame.frame c.in_ok-frame.ensures.frame.0 c.level_type.result c.level_type.ensures
-    (g.P.Port.value c.take_type.new.port) w e c.in-Err.ensures.serves c.put_ref.ensures.serves)
-
-pub returns-in-Err-clause-stops : goal.returns-in-Err-clause-stops
-returns-in-Err-clause-stops g c pages =
-    stopped_stops (g.P.Port.value c.args.port.now) c.args.f c.args.owner c.args.level pages _ (g.P.Port.value c.get_ref.new.port) c.in_ok-frame.ensures.serves c.in_ok-frame.frame c.in_ok-frame.ensures.frame.0
-    c.level_type.result c.level_type.ensures (g.P.Port.value c.take_type.new.port) (g.P.Port.value c.put_ref.new.port) c.in-Err.stop c.in-Err.ensures.kinds c.in-Err.ensures.stops c.put_ref.ensures.serves
-
-pub returns-in-Err-clause-hand : goal.returns-in-Err-clause-hand
-returns-in-Err-clause-hand g c =
-    let v = g.P.Port.value c.args.port.now in
-    let w = g.P.Port.value c.put_ref.new.port in
-    same_leaves v w c.args.f c.args.owner c.args.level c.in-Err.stop
-    (given_hand v (g.P.Port.value c.get_ref.new.port) c.in_ok-frame.frame c.args.owner c.requires.idle c.in_ok-frame.ensures.hand (g.P.Port.value c.take_type.new.port) w c.in-Err.ensures.hand c.put_ref.ensures.hand)
+    let before = had_forward _ _ _ _ _ _ _ c.get_ref.ensures.gets c.in_ok-frame.frame c.level_type.ensures _ c.take_type.ensures.found in
+    record {
+      frame = search rules;
+      serves = λ pages. plain_acquired _ _ _ _ _ pages (Err c.in-Err.stop)
+          (stopped_serves _ _ _ _ pages (is_due_stop c.in-Err.stop) _ c.in_ok-frame.ensures.serves c.in_ok-frame.ensures.frame.0 c.level_type.ensures
+          (g.P.Port.value c.take_type.new.port) w c.in-Err.stop c.in-Err.ensures.serves c.put_ref.ensures.serves);
+      stops = λ pages. stopped_stops _ _ _ _ pages _ _ c.in_ok-frame.ensures.serves c.in_ok-frame.ensures.frame.0
+          c.level_type.ensures (g.P.Port.value c.take_type.new.port) (g.P.Port.value c.put_ref.new.port) c.in-Err.stop c.in-Err.ensures.kinds c.in-Err.ensures.stops c.put_ref.ensures.serves;
+      kinds = search rules;
+      forward = forward_then _ _ _ before (forward_by _ _ (λ vs. PutBy c.in_ok-frame.frame vs) (put_plain c.in_ok-frame.frame) c.put_ref.ensures.puts);
+      leaves = well_then _ _ _ _ _ (had_well _ _ _ _ _ _ _ c.get_ref.ensures.gets c.in_ok-frame.frame c.level_type.ensures _ c.take_type.ensures.found _ _) (well_by _ _ _ _ (λ vs. PutBy c.in_ok-frame.frame vs) (put_plain c.in_ok-frame.frame) c.put_ref.ensures.puts);
+      hand = same_leaves (g.P.Port.value c.args.port.now) w c.args.f c.args.owner c.args.level c.in-Err.stop
+          (given_hand (g.P.Port.value c.get_ref.new.port) c.in_ok-frame.frame c.args.owner c.requires.idle c.in_ok-frame.ensures.hand (g.P.Port.value c.take_type.new.port) w c.in-Err.ensures.hand c.put_ref.ensures.hand);
+      gate = search rules;
+      heard = search rules;
+      says = search rules;
+      paces = search rules;
+      calm = search rules;
+      course = untyped_by _ _ _ _ _ _ _ _ c.in_ok-frame.ensures.frame.0 c.in_ok-frame.ensures.gets c.in_ok-frame.ensures.plain _ c.level_type.ensures
+          (g.P.Port.value c.put_ref.new.port) c.in-Err.stop c.in-Err.ensures.kinds c.in-Err.ensures.found c.in-Err.ensures.plain c.in-Err.ensures.stops c.put_ref.ensures.puts c.put_ref.ensures.plain;
+    }
 
 -- ---- it waits for a flush
 
-pub returns-in-Ok-Waiting-clause-serves : goal.returns-in-Ok-Waiting-clause-serves
-returns-in-Ok-Waiting-clause-serves g c pages =
+pub returns-in-Ok-Waiting : goal.returns-in-Ok-Waiting
+returns-in-Ok-Waiting g c =
     let v = g.P.Port.value c.args.port.now in
     let b = g.P.Port.value c.get_ref.new.port in
     let x = g.P.Port.value c.take_type.new.port in
     let h = c.in_ok-frame.frame in
     let e = c.in-Ok-Waiting.stop in
-    let shows : ShowsWait b x h c.args.owner c.level_type.result (Waiting c.in-Ok-Waiting.own c.in-Ok-Waiting.stamp e) =
-    subst (λ t. ShowsWait b x h c.args.owner c.level_type.result t) c.in-Ok-Waiting.field-0-is c.in-Ok-Waiting.ensures.waits in
-    let before =
-    taken_serves v c.args.f c.args.owner c.args.level pages (is_due_stop e) b c.in_ok-frame.ensures.serves h c.in_ok-frame.ensures.frame.0 c.level_type.result c.level_type.ensures x c.in-Ok-Waiting.ensures.serves in
+    let shows : ShowsWait b x h c.args.owner c.level_type.result (Waiting c.in-Ok-Waiting.own c.in-Ok-Waiting.stamp e) = subst (λ t. ShowsWait b x h c.args.owner c.level_type.result t) c.in-Ok-Waiting.field-0-is c.in-Ok-Waiting.ensures.waits in
     let w = g.P.Port.value c.leave_waiting.new.port in
     let kept = c.is_paused.result in
-    marked_acquired v w c.args.f c.args.owner c.args.level pages h kept (Err e) c.in_ok-frame.ensures.frame.0 c.is_paused.ensures
-    (waited_serves v c.args.f c.args.owner c.args.level pages (is_due_stop e) x before h c.in_ok-frame.ensures.frame.0 w e kept shows.0 c.leave_waiting.ensures.serves)
-
-pub returns-in-Ok-Waiting-clause-stops : goal.returns-in-Ok-Waiting-clause-stops
-returns-in-Ok-Waiting-clause-stops g c pages =
-    let v = g.P.Port.value c.args.port.now in
-    let b = g.P.Port.value c.get_ref.new.port in
-    let x = g.P.Port.value c.take_type.new.port in
-    let h = c.in_ok-frame.frame in
-    let e = c.in-Ok-Waiting.stop in
-    let shows : ShowsWait b x h c.args.owner c.level_type.result (Waiting c.in-Ok-Waiting.own c.in-Ok-Waiting.stamp e) =
-    subst (λ t. ShowsWait b x h c.args.owner c.level_type.result t) c.in-Ok-Waiting.field-0-is c.in-Ok-Waiting.ensures.waits in
-    waited_stops v c.args.f c.args.owner c.args.level pages (is_due_stop e) b c.in_ok-frame.ensures.serves h c.in_ok-frame.ensures.frame.0 c.level_type.result c.level_type.ensures x (g.P.Port.value c.leave_waiting.new.port)
-    e shows.0 shows.1 c.leave_waiting.ensures.came
-
-pub returns-in-Ok-Waiting-clause-hand : goal.returns-in-Ok-Waiting-clause-hand
-returns-in-Ok-Waiting-clause-hand g c =
-    let v = g.P.Port.value c.args.port.now in
-    let b = g.P.Port.value c.get_ref.new.port in
-    let x = g.P.Port.value c.take_type.new.port in
-    let h = c.in_ok-frame.frame in
     let own = c.in-Ok-Waiting.own in
     let stamp = c.in-Ok-Waiting.stamp in
     let waits : TakesAs b x h c.args.owner c.level_type.result (Waiting own stamp c.in-Ok-Waiting.stop) = subst (λ t. TakesAs b x h c.args.owner c.level_type.result t) c.in-Ok-Waiting.field-0-is c.in-Ok-Waiting.ensures.hand in
-    answer_leaves v (g.P.Port.value c.leave_waiting.new.port) c.args.f c.args.owner c.args.level h own c.is_paused.result c.in-Ok-Waiting.stop c.in_ok-frame.ensures.frame.0 c.is_paused.ensures
-    (c.leave_waiting.ensures.hand v (waits_on v b x h c.args.owner c.args.level own stamp c.level_type.result c.level_type.ensures c.requires.idle c.in_ok-frame.ensures.hand waits))
+    let before = had_forward _ _ _ _ _ _ _ c.get_ref.ensures.gets c.in_ok-frame.frame c.level_type.ensures _ c.take_type.ensures.found in
+    let took = c.in-Ok-Waiting in
+    record {
+      frame = search rules;
+      serves = λ pages. let before = taken_serves _ _ _ _ pages (is_due_stop e) _ c.in_ok-frame.ensures.serves c.in_ok-frame.ensures.frame.0 c.level_type.ensures _ c.in-Ok-Waiting.ensures.serves in
+          marked_acquired _ _ _ _ _ pages _ _ (Err e) c.in_ok-frame.ensures.frame.0 c.is_paused.ensures
+          (waited_serves _ _ _ _ pages (is_due_stop e) _ before c.in_ok-frame.ensures.frame.0 _ _ _ shows.0 c.leave_waiting.ensures.serves);
+      stops = λ pages. waited_stops _ _ _ _ pages (is_due_stop e) _ c.in_ok-frame.ensures.serves c.in_ok-frame.ensures.frame.0 c.level_type.ensures _ _
+          e shows.0 shows.1 c.leave_waiting.ensures.came;
+      kinds = search rules;
+      forward = forward_then _ _ _ before c.leave_waiting.ensures.forward;
+      leaves = let kept = not (is_refused c.in-Ok-Waiting.stop) in
+          well_then _ _ _ _ _ (had_well _ _ _ _ _ _ _ c.get_ref.ensures.gets c.in_ok-frame.frame c.level_type.ensures _ c.take_type.ensures.found _ _)
+          (subst (λ h. LeftWell x w kept h) c.in_ok-frame.ensures.frame.0 (subst (λ k. LeftWell x w k c.in_ok-frame.frame) c.is_paused.ensures c.leave_waiting.ensures.leaves));
+      hand = answer_leaves v (g.P.Port.value c.leave_waiting.new.port) c.args.f c.args.owner c.args.level h own c.is_paused.result c.in-Ok-Waiting.stop c.in_ok-frame.ensures.frame.0 c.is_paused.ensures
+          (c.leave_waiting.ensures.hand v (waits_on _ _ _ _ _ _ _ _ _ c.level_type.ensures c.requires.idle c.in_ok-frame.ensures.hand waits));
+      gate = search rules;
+      heard = search rules;
+      says = search rules;
+      paces = search rules;
+      calm = search rules;
+      course = waiting_by _ _ _ _ _ _ _ _ c.in_ok-frame.ensures.frame.0 c.in_ok-frame.ensures.gets c.in_ok-frame.ensures.plain _ c.level_type.ensures
+          took.field-0 took.ensures.found took.ensures.plain took.ensures.waits took.own took.stamp took.stop took.field-0-is (g.P.Port.value c.leave_waiting.new.port) c.is_paused.result c.is_paused.ensures c.leave_waiting.ensures.course;
+    }
 
 -- ---- it is in work
 
-pub validate-requires-clause-stands : goal.validate-requires-clause-stands
-validate-requires-clause-stands g c =
+pub validate-requires : goal.validate-requires
+validate-requires g c =
     let v = g.P.Port.value c.args.port.now in
     let b = g.P.Port.value c.get_ref.new.port in
     let x = g.P.Port.value c.take_type.new.port in
@@ -145,65 +158,48 @@ validate-requires-clause-stands g c =
     let own = c.in-Ok-InWork.own in
     let hand : TakesAs b x h c.args.owner c.level_type.result (InWork progress own) = subst (λ t. TakesAs b x h c.args.owner c.level_type.result t) c.in-Ok-InWork.field-0-is c.in-Ok-InWork.ensures.hand in
     let found : TakesFound b x h c.args.owner c.level_type.result (Ok (InWork progress own)) = subst (λ t. TakesFound b x h c.args.owner c.level_type.result (Ok t)) c.in-Ok-InWork.field-0-is c.in-Ok-InWork.ensures.found in
-    (v, carries_taken v b x h c.args.owner c.args.level progress own c.level_type.result c.requires.idle c.in_ok-frame.ensures.hand c.level_type.ensures c.requires.low c.requires.high c.in_ok-frame.ensures.frame.1 hand.1 found)
+    record {
+      may = search rules;
+      real = search rules;
+      stands = (v, carries_taken _ _ _ _ _ _ _ _ _ c.requires.idle c.in_ok-frame.ensures.hand c.level_type.ensures c.requires.low c.requires.high c.in_ok-frame.ensures.frame.1 hand.1 found);
+      fresh = λ zero. taken_ready _ _ _ c.requires.idle c.in_ok-frame.ensures.hand _ _ _ _ hand.1 zero;
+      room = search rules;
+    }
 
-pub validate-requires-clause-fresh : goal.validate-requires-clause-fresh
-validate-requires-clause-fresh g c zero =
-    let v = g.P.Port.value c.args.port.now in
+pub returns-in_ok-validate-in-Ok-InWork : goal.returns-in_ok-validate-in-Ok-InWork
+returns-in_ok-validate-in-Ok-InWork g c =
     let b = g.P.Port.value c.get_ref.new.port in
     let x = g.P.Port.value c.take_type.new.port in
-    let h = c.in_ok-frame.frame in
-    let progress = c.in-Ok-InWork.progress in
-    let own = c.in-Ok-InWork.own in
-    let hand : TakesAs b x h c.args.owner c.level_type.result (InWork progress own) = subst (λ t. TakesAs b x h c.args.owner c.level_type.result t) c.in-Ok-InWork.field-0-is c.in-Ok-InWork.ensures.hand in
-    taken_ready v b h c.args.owner c.requires.idle c.in_ok-frame.ensures.hand x own c.level_type.result progress hand.1 zero
-
-pub returns-in_ok-validate-in-Ok-InWork-clause-serves : goal.returns-in_ok-validate-in-Ok-InWork-clause-serves
-returns-in_ok-validate-in-Ok-InWork-clause-serves g c pages =
-    let v = g.P.Port.value c.args.port.now in
-    let b = g.P.Port.value c.get_ref.new.port in
-    let x = g.P.Port.value c.take_type.new.port in
-    let w = g.P.Port.value c.validate.new.port in
-    let h = c.in_ok-frame.frame in
-    let progress = c.in-Ok-InWork.progress in
-    let own = c.in-Ok-InWork.own in
-    let before = taken_serves v c.args.f c.args.owner c.args.level pages false b c.in_ok-frame.ensures.serves h c.in_ok-frame.ensures.frame.0 c.level_type.result c.level_type.ensures x c.in-Ok-InWork.ensures.serves in
-    marked_acquired v w c.args.f c.args.owner c.args.level pages h false (Ok h) c.in_ok-frame.ensures.frame.0 refl
-    (validated_serves v c.args.f c.args.owner c.args.level pages false x before h c.in_ok-frame.ensures.frame.0 progress own w false [] c.in_ok-validate-in-Ok-InWork.ensures.serves)
-
-pub returns-in_ok-validate-in-Ok-InWork-clause-hand : goal.returns-in_ok-validate-in-Ok-InWork-clause-hand
-returns-in_ok-validate-in-Ok-InWork-clause-hand g c =
-    let v = g.P.Port.value c.args.port.now in
-    let b = g.P.Port.value c.get_ref.new.port in
-    let x = g.P.Port.value c.take_type.new.port in
-    let w = g.P.Port.value c.validate.new.port in
     let h = c.in_ok-frame.frame in
     let progress = c.in-Ok-InWork.progress in
     let own = c.in-Ok-InWork.own in
     let hand : TakesAs b x h c.args.owner c.level_type.result (InWork progress own) = subst (λ t. TakesAs b x h c.args.owner c.level_type.result t) c.in-Ok-InWork.field-0-is c.in-Ok-InWork.ensures.hand in
     let found : TakesFound b x h c.args.owner c.level_type.result (Ok (InWork progress own)) = subst (λ t. TakesFound b x h c.args.owner c.level_type.result (Ok t)) c.in-Ok-InWork.field-0-is c.in-Ok-InWork.ensures.found in
-    let carries = carries_taken v b x h c.args.owner c.args.level progress own c.level_type.result c.requires.idle c.in_ok-frame.ensures.hand c.level_type.ensures c.requires.low c.requires.high c.in_ok-frame.ensures.frame.1 hand.1 found in
-    c.in_ok-validate-in-Ok-InWork.ensures.hand v c.args.owner carries
+    let carries = carries_taken _ _ _ _ _ _ _ _ _ c.requires.idle c.in_ok-frame.ensures.hand c.level_type.ensures c.requires.low c.requires.high c.in_ok-frame.ensures.frame.1 hand.1 found in
+    let before = had_forward _ _ _ _ _ _ _ c.get_ref.ensures.gets c.in_ok-frame.frame c.level_type.ensures _ c.take_type.ensures.found in
+    let took = c.in-Ok-InWork in
+    record {
+      frame = search rules;
+      serves = λ pages. let before = taken_serves _ _ _ _ pages false _ c.in_ok-frame.ensures.serves c.in_ok-frame.ensures.frame.0 c.level_type.ensures _ c.in-Ok-InWork.ensures.serves in
+          marked_acquired _ _ _ _ _ pages _ false (Ok h) c.in_ok-frame.ensures.frame.0 refl
+          (validated_serves _ _ _ _ pages false _ before c.in_ok-frame.ensures.frame.0 _ _ _ false [] c.in_ok-validate-in-Ok-InWork.ensures.serves);
+      stops = search rules;
+      kinds = search rules;
+      forward = forward_then _ _ _ before c.in_ok-validate-in-Ok-InWork.ensures.forward;
+      leaves = well_then _ _ _ false _ (had_well _ _ _ _ _ _ _ c.get_ref.ensures.gets c.in_ok-frame.frame c.level_type.ensures _ c.take_type.ensures.found false _)
+          (subst (λ h. LeftWell x (g.P.Port.value c.validate.new.port) false h) c.in_ok-frame.ensures.frame.0 c.in_ok-validate-in-Ok-InWork.ensures.leaves);
+      hand = c.in_ok-validate-in-Ok-InWork.ensures.hand (g.P.Port.value c.args.port.now) c.args.owner carries;
+      gate = search rules;
+      heard = search rules;
+      says = search rules;
+      paces = search rules;
+      calm = search rules;
+      course = finished_by _ _ _ _ _ _ _ _ c.in_ok-frame.ensures.frame.0 c.in_ok-frame.ensures.gets c.in_ok-frame.ensures.plain _ c.level_type.ensures
+          took.field-0 took.ensures.found took.ensures.plain took.ensures.waits took.field-0-is (g.P.Port.value c.validate.new.port) _ _ c.in_ok-validate-in-Ok-InWork.ensures.course;
+    }
 
-pub returns-in_err-validate-in-Ok-InWork-clause-serves : goal.returns-in_err-validate-in-Ok-InWork-clause-serves
-returns-in_err-validate-in-Ok-InWork-clause-serves g c pages =
-    let v = g.P.Port.value c.args.port.now in
-    let b = g.P.Port.value c.get_ref.new.port in
-    let x = g.P.Port.value c.take_type.new.port in
-    let w = g.P.Port.value c.validate.new.port in
-    let h = c.in_ok-frame.frame in
-    let progress = c.in-Ok-InWork.progress in
-    let own = c.in-Ok-InWork.own in
-    let e = c.in_err-validate-in-Ok-InWork.field-0.0 in
-    let result = c.from_residual-in_err-validate-in-Ok-InWork.result in
-    let answer = err_from_is_err_and result c.from_residual-in_err-validate-in-Ok-InWork.ensures.1 in
-    let before = taken_serves v c.args.f c.args.owner c.args.level pages (is_due_stop e) b c.in_ok-frame.ensures.serves h c.in_ok-frame.ensures.frame.0 c.level_type.result c.level_type.ensures x c.in-Ok-InWork.ensures.serves in
-    serves_as v w c.args.f c.args.owner c.args.level pages result e (answer.1 ∙ ap Err answer.2)
-    (marked_acquired v w c.args.f c.args.owner c.args.level pages h (not (is_refused e)) (Err e) c.in_ok-frame.ensures.frame.0 refl
-    (validated_misses v c.args.f c.args.owner c.args.level pages (is_due_stop e) x before h c.in_ok-frame.ensures.frame.0 progress own w (not (is_refused e)) e c.in_err-validate-in-Ok-InWork.ensures.serves))
-
-pub returns-in_err-validate-in-Ok-InWork-clause-stops : goal.returns-in_err-validate-in-Ok-InWork-clause-stops
-returns-in_err-validate-in-Ok-InWork-clause-stops g c pages =
+pub returns-in_err-validate-in-Ok-InWork : goal.returns-in_err-validate-in-Ok-InWork
+returns-in_err-validate-in-Ok-InWork g c =
     let v = g.P.Port.value c.args.port.now in
     let b = g.P.Port.value c.get_ref.new.port in
     let x = g.P.Port.value c.take_type.new.port in
@@ -216,184 +212,31 @@ returns-in_err-validate-in-Ok-InWork-clause-stops g c pages =
     let answer = err_from_is_err_and result c.from_residual-in_err-validate-in-Ok-InWork.ensures.1 in
     let hand : TakesAs b x h c.args.owner c.level_type.result (InWork progress own) = subst (λ t. TakesAs b x h c.args.owner c.level_type.result t) c.in-Ok-InWork.field-0-is c.in-Ok-InWork.ensures.hand in
     let found : TakesFound b x h c.args.owner c.level_type.result (Ok (InWork progress own)) = subst (λ t. TakesFound b x h c.args.owner c.level_type.result (Ok t)) c.in-Ok-InWork.field-0-is c.in-Ok-InWork.ensures.found in
-    let carries = carries_taken v b x h c.args.owner c.args.level progress own c.level_type.result c.requires.idle c.in_ok-frame.ensures.hand c.level_type.ensures c.requires.low c.requires.high c.in_ok-frame.ensures.frame.1 hand.1 found in
-    let before = taken_serves v c.args.f c.args.owner c.args.level pages (is_due_stop e) b c.in_ok-frame.ensures.serves h c.in_ok-frame.ensures.frame.0 c.level_type.result c.level_type.ensures x c.in-Ok-InWork.ensures.serves in
-    stops_as v w c.args.f c.args.owner c.args.level pages result e (answer.1 ∙ ap Err answer.2)
-    (validated_stops v c.args.f c.args.owner c.args.level pages (is_due_stop e) x before h c.in_ok-frame.ensures.frame.0 progress own w e (λ due. due) carries c.in_err-validate-in-Ok-InWork.ensures.stops)
-
-pub returns-in_err-validate-in-Ok-InWork-clause-hand : goal.returns-in_err-validate-in-Ok-InWork-clause-hand
-returns-in_err-validate-in-Ok-InWork-clause-hand g c =
-    let v = g.P.Port.value c.args.port.now in
-    let b = g.P.Port.value c.get_ref.new.port in
-    let x = g.P.Port.value c.take_type.new.port in
-    let w = g.P.Port.value c.validate.new.port in
-    let h = c.in_ok-frame.frame in
-    let progress = c.in-Ok-InWork.progress in
-    let own = c.in-Ok-InWork.own in
-    let e = c.in_err-validate-in-Ok-InWork.field-0.0 in
-    let result = c.from_residual-in_err-validate-in-Ok-InWork.result in
-    let answer = err_from_is_err_and result c.from_residual-in_err-validate-in-Ok-InWork.ensures.1 in
-    let hand : TakesAs b x h c.args.owner c.level_type.result (InWork progress own) = subst (λ t. TakesAs b x h c.args.owner c.level_type.result t) c.in-Ok-InWork.field-0-is c.in-Ok-InWork.ensures.hand in
-    let found : TakesFound b x h c.args.owner c.level_type.result (Ok (InWork progress own)) = subst (λ t. TakesFound b x h c.args.owner c.level_type.result (Ok t)) c.in-Ok-InWork.field-0-is c.in-Ok-InWork.ensures.found in
-    let carries = carries_taken v b x h c.args.owner c.args.level progress own c.level_type.result c.requires.idle c.in_ok-frame.ensures.hand c.level_type.ensures c.requires.low c.requires.high c.in_ok-frame.ensures.frame.1 hand.1 found in
-    leaves_as v w c.args.f c.args.owner c.args.level result e (answer.1 ∙ ap Err answer.2)
-    (unwound_leaves v w c.args.f c.args.owner c.args.level x h progress own e c.in_ok-frame.ensures.frame.0 carries c.in_err-validate-in-Ok-InWork.ensures.hand)
-
--- ---- it goes forward
-
-pub returns-in_err-frame-clause-forward : goal.returns-in_err-frame-clause-forward
-returns-in_err-frame-clause-forward g c = refers_forward (g.P.Port.value c.args.port.now) (g.P.Port.value c.get_ref.new.port) c.args.f c.args.owner c.get_ref.result c.get_ref.ensures.gets
-
-pub returns-in-Ok-Counted-clause-forward : goal.returns-in-Ok-Counted-clause-forward
-returns-in-Ok-Counted-clause-forward g c =
-    let v = g.P.Port.value c.args.port.now in
-    let b = g.P.Port.value c.get_ref.new.port in
-    let x = g.P.Port.value c.take_type.new.port in
-    forward_then v b x (refers_forward v b c.args.f c.args.owner c.get_ref.result c.get_ref.ensures.gets) (types_forward b x c.in_ok-frame.frame c.args.owner c.level_type.result c.take_type.result c.take_type.ensures.found)
-
-pub returns-in_ok-validate-in-Ok-InWork-clause-forward : goal.returns-in_ok-validate-in-Ok-InWork-clause-forward
-returns-in_ok-validate-in-Ok-InWork-clause-forward g c =
-    let v = g.P.Port.value c.args.port.now in
-    let b = g.P.Port.value c.get_ref.new.port in
-    let x = g.P.Port.value c.take_type.new.port in
-    let before = forward_then v b x (refers_forward v b c.args.f c.args.owner c.get_ref.result c.get_ref.ensures.gets) (types_forward b x c.in_ok-frame.frame c.args.owner c.level_type.result c.take_type.result c.take_type.ensures.found) in
-    forward_then v x (g.P.Port.value c.validate.new.port) before c.in_ok-validate-in-Ok-InWork.ensures.forward
-
-pub returns-in_err-validate-in-Ok-InWork-clause-forward : goal.returns-in_err-validate-in-Ok-InWork-clause-forward
-returns-in_err-validate-in-Ok-InWork-clause-forward g c =
-    let v = g.P.Port.value c.args.port.now in
-    let b = g.P.Port.value c.get_ref.new.port in
-    let x = g.P.Port.value c.take_type.new.port in
-    let before = forward_then v b x (refers_forward v b c.args.f c.args.owner c.get_ref.result c.get_ref.ensures.gets) (types_forward b x c.in_ok-frame.frame c.args.owner c.level_type.result c.take_type.result c.take_type.ensures.found) in
-    forward_then v x (g.P.Port.value c.validate.new.port) before c.in_err-validate-in-Ok-InWork.ensures.forward
-
-pub returns-in-Ok-Waiting-clause-forward : goal.returns-in-Ok-Waiting-clause-forward
-returns-in-Ok-Waiting-clause-forward g c =
-    let v = g.P.Port.value c.args.port.now in
-    let b = g.P.Port.value c.get_ref.new.port in
-    let x = g.P.Port.value c.take_type.new.port in
-    let before = forward_then v b x (refers_forward v b c.args.f c.args.owner c.get_ref.result c.get_ref.ensures.gets) (types_forward b x c.in_ok-frame.frame c.args.owner c.level_type.result c.take_type.result c.take_type.ensures.found) in
-    forward_then v x (g.P.Port.value c.leave_waiting.new.port) before c.leave_waiting.ensures.forward
-
-pub returns-in-Err-clause-forward : goal.returns-in-Err-clause-forward
-returns-in-Err-clause-forward g c =
-    let v = g.P.Port.value c.args.port.now in
-    let b = g.P.Port.value c.get_ref.new.port in
-    let x = g.P.Port.value c.take_type.new.port in
-    let w = g.P.Port.value c.put_ref.new.port in
-    let before = forward_then v b x (refers_forward v b c.args.f c.args.owner c.get_ref.result c.get_ref.ensures.gets) (types_forward b x c.in_ok-frame.frame c.args.owner c.level_type.result c.take_type.result c.take_type.ensures.found) in
-    forward_then v x w before (forward_by x w (λ vs. PutBy c.in_ok-frame.frame vs) (put_onward c.in_ok-frame.frame) c.put_ref.ensures.puts)
-
--- ---- how frames are left
-
-pub returns-in_err-frame-clause-leaves : goal.returns-in_err-frame-clause-leaves
-returns-in_err-frame-clause-leaves g c =
-    refers_well (g.P.Port.value c.args.port.now) (g.P.Port.value c.get_ref.new.port) _ c.args.f c.args.f c.args.owner c.get_ref.result c.get_ref.ensures.gets
-
-pub returns-in-Ok-Counted-clause-leaves : goal.returns-in-Ok-Counted-clause-leaves
-returns-in-Ok-Counted-clause-leaves g c =
-    let v = g.P.Port.value c.args.port.now in
-    let b = g.P.Port.value c.get_ref.new.port in
-    let x = g.P.Port.value c.take_type.new.port in
-    had_well v b x c.args.f c.args.owner c.args.level c.get_ref.result c.get_ref.ensures.gets c.in_ok-frame.frame c.level_type.result c.level_type.ensures c.take_type.result c.take_type.ensures.found false c.args.f
-
-pub returns-in_ok-validate-in-Ok-InWork-clause-leaves : goal.returns-in_ok-validate-in-Ok-InWork-clause-leaves
-returns-in_ok-validate-in-Ok-InWork-clause-leaves g c =
-    let v = g.P.Port.value c.args.port.now in
-    let b = g.P.Port.value c.get_ref.new.port in
-    let x = g.P.Port.value c.take_type.new.port in
-    well_then v x (g.P.Port.value c.validate.new.port) false c.args.f (had_well v b x c.args.f c.args.owner c.args.level c.get_ref.result c.get_ref.ensures.gets c.in_ok-frame.frame c.level_type.result c.level_type.ensures c.take_type.result c.take_type.ensures.found false c.args.f)
-    (subst (λ h. LeftWell x (g.P.Port.value c.validate.new.port) false h) c.in_ok-frame.ensures.frame.0 c.in_ok-validate-in-Ok-InWork.ensures.leaves)
-
-pub returns-in_err-validate-in-Ok-InWork-clause-leaves : goal.returns-in_err-validate-in-Ok-InWork-clause-leaves
-returns-in_err-validate-in-Ok-InWork-clause-leaves g c =
-    let v = g.P.Port.value c.args.port.now in
-    let b = g.P.Port.value c.get_ref.new.port in
-    let x = g.P.Port.value c.take_type.new.port in
-    let w = g.P.Port.value c.validate.new.port in
-    let e = c.in_err-validate-in-Ok-InWork.field-0.0 in
-    let answer = err_from_is_err_and c.from_residual-in_err-validate-in-Ok-InWork.result c.from_residual-in_err-validate-in-Ok-InWork.ensures.1 in
+    let carries = carries_taken _ _ _ _ _ _ _ _ _ c.requires.idle c.in_ok-frame.ensures.hand c.level_type.ensures c.requires.low c.requires.high c.in_ok-frame.ensures.frame.1 hand.1 found in
+    let before = had_forward _ _ _ _ _ _ _ c.get_ref.ensures.gets c.in_ok-frame.frame c.level_type.ensures _ c.take_type.ensures.found in
     let kept = not (is_refused e) in
-    subst (λ r. LeftWell v w (is_paused_answer r) c.args.f) (sym (answer.1 ∙ ap Err answer.2))
-    (well_then v x w kept c.args.f (had_well v b x c.args.f c.args.owner c.args.level c.get_ref.result c.get_ref.ensures.gets c.in_ok-frame.frame c.level_type.result c.level_type.ensures c.take_type.result c.take_type.ensures.found kept c.args.f) (subst (λ h. LeftWell x w kept h) c.in_ok-frame.ensures.frame.0 c.in_err-validate-in-Ok-InWork.ensures.leaves))
-
-pub returns-in-Ok-Waiting-clause-leaves : goal.returns-in-Ok-Waiting-clause-leaves
-returns-in-Ok-Waiting-clause-leaves g c =
-    let v = g.P.Port.value c.args.port.now in
-    let b = g.P.Port.value c.get_ref.new.port in
-    let x = g.P.Port.value c.take_type.new.port in
-    let w = g.P.Port.value c.leave_waiting.new.port in
-    let kept = not (is_refused c.in-Ok-Waiting.stop) in
-    well_then v x w kept c.args.f (had_well v b x c.args.f c.args.owner c.args.level c.get_ref.result c.get_ref.ensures.gets c.in_ok-frame.frame c.level_type.result c.level_type.ensures c.take_type.result c.take_type.ensures.found kept c.args.f)
-    (subst (λ h. LeftWell x w kept h) c.in_ok-frame.ensures.frame.0 (subst (λ k. LeftWell x w k c.in_ok-frame.frame) c.is_paused.ensures c.leave_waiting.ensures.leaves))
-
-pub returns-in-Err-clause-leaves : goal.returns-in-Err-clause-leaves
-returns-in-Err-clause-leaves g c =
-    let v = g.P.Port.value c.args.port.now in
-    let b = g.P.Port.value c.get_ref.new.port in
-    let x = g.P.Port.value c.take_type.new.port in
-    let w = g.P.Port.value c.put_ref.new.port in
-    let kept = not (is_refused c.in-Err.stop) in
-    well_then v x w kept c.args.f (had_well v b x c.args.f c.args.owner c.args.level c.get_ref.result c.get_ref.ensures.gets c.in_ok-frame.frame c.level_type.result c.level_type.ensures c.take_type.result c.take_type.ensures.found kept c.args.f) (well_by x w kept c.args.f (λ vs. PutBy c.in_ok-frame.frame vs) (put_plain c.in_ok-frame.frame) c.put_ref.ensures.puts)
-
--- ---- the course
-
-pub returns-in_err-frame-clause-course : goal.returns-in_err-frame-clause-course
-returns-in_err-frame-clause-course g c =
-    let e = c.in_err-frame.field-0.0 in
-    let answer = err_from_is_err_and c.from_residual.result c.from_residual.ensures.1 in
-    let stopped = c.in_err-frame.ensures in
-    unreferred_by (g.P.Port.value c.args.port.now) c.args.f c.args.owner c.args.level _ _ _ (g.P.Port.value c.get_ref.new.port) c.from_residual.result e (answer.1 ∙ ap Err answer.2) stopped.kinds stopped.gets stopped.plain stopped.stops
-
-pub returns-in-Err-clause-course : goal.returns-in-Err-clause-course
-returns-in-Err-clause-course g c =
-    let v = g.P.Port.value c.args.port.now in
-    let b = g.P.Port.value c.get_ref.new.port in
-    let x = g.P.Port.value c.take_type.new.port in
-    let got = c.in_ok-frame.ensures in
-    let stopped = c.in-Err.ensures in
-    untyped_by v c.args.f c.args.owner c.args.level _ _ _ b c.in_ok-frame.frame got.frame.0 got.gets got.plain x c.level_type.result c.level_type.ensures
-    (g.P.Port.value c.put_ref.new.port) c.in-Err.stop stopped.kinds stopped.found stopped.plain stopped.stops c.put_ref.ensures.puts c.put_ref.ensures.plain
-
-pub returns-in-Ok-Counted-clause-course : goal.returns-in-Ok-Counted-clause-course
-returns-in-Ok-Counted-clause-course g c =
-    let v = g.P.Port.value c.args.port.now in
-    let b = g.P.Port.value c.get_ref.new.port in
-    let x = g.P.Port.value c.take_type.new.port in
-    let got = c.in_ok-frame.ensures in
-    let took = c.in-Ok-Counted in
-    counted_by v c.args.f c.args.owner c.args.level _ _ _ b c.in_ok-frame.frame got.frame.0 got.gets got.plain x c.level_type.result c.level_type.ensures
-    took.field-0 took.ensures.found took.ensures.plain took.ensures.waits took.field-0-is
-
-pub returns-in-Ok-Waiting-clause-course : goal.returns-in-Ok-Waiting-clause-course
-returns-in-Ok-Waiting-clause-course g c =
-    let v = g.P.Port.value c.args.port.now in
-    let b = g.P.Port.value c.get_ref.new.port in
-    let x = g.P.Port.value c.take_type.new.port in
-    let got = c.in_ok-frame.ensures in
-    let took = c.in-Ok-Waiting in
-    waiting_by v c.args.f c.args.owner c.args.level _ _ _ b c.in_ok-frame.frame got.frame.0 got.gets got.plain x c.level_type.result c.level_type.ensures
-    took.field-0 took.ensures.found took.ensures.plain took.ensures.waits took.own took.stamp took.stop took.field-0-is (g.P.Port.value c.leave_waiting.new.port) c.is_paused.result c.is_paused.ensures c.leave_waiting.ensures.course
-
-pub returns-in_ok-validate-in-Ok-InWork-clause-course : goal.returns-in_ok-validate-in-Ok-InWork-clause-course
-returns-in_ok-validate-in-Ok-InWork-clause-course g c =
-    let v = g.P.Port.value c.args.port.now in
-    let b = g.P.Port.value c.get_ref.new.port in
-    let x = g.P.Port.value c.take_type.new.port in
-    let got = c.in_ok-frame.ensures in
     let took = c.in-Ok-InWork in
-    finished_by v c.args.f c.args.owner c.args.level _ _ _ b c.in_ok-frame.frame got.frame.0 got.gets got.plain x c.level_type.result c.level_type.ensures
-    took.field-0 took.ensures.found took.ensures.plain took.ensures.waits took.progress took.own took.field-0-is (g.P.Port.value c.validate.new.port) _ _ c.in_ok-validate-in-Ok-InWork.ensures.course
-
-pub returns-in_err-validate-in-Ok-InWork-clause-course : goal.returns-in_err-validate-in-Ok-InWork-clause-course
-returns-in_err-validate-in-Ok-InWork-clause-course g c =
-    let v = g.P.Port.value c.args.port.now in
-    let b = g.P.Port.value c.get_ref.new.port in
-    let x = g.P.Port.value c.take_type.new.port in
-    let got = c.in_ok-frame.ensures in
-    let took = c.in-Ok-InWork in
-    let e = c.in_err-validate-in-Ok-InWork.field-0.0 in
-    let result = c.from_residual-in_err-validate-in-Ok-InWork.result in
-    let answer = err_from_is_err_and result c.from_residual-in_err-validate-in-Ok-InWork.ensures.1 in
-    unfinished_by v c.args.f c.args.owner c.args.level _ _ _ b c.in_ok-frame.frame got.frame.0 got.gets got.plain x c.level_type.result c.level_type.ensures
-    took.field-0 took.ensures.found took.ensures.plain took.ensures.waits took.progress took.own took.field-0-is (g.P.Port.value c.validate.new.port) _ _ result e (answer.1 ∙ ap Err answer.2) c.in_err-validate-in-Ok-InWork.ensures.course
+    record {
+      frame = search rules;
+      serves = λ pages. let before = taken_serves _ _ _ _ pages (is_due_stop e) _ c.in_ok-frame.ensures.serves c.in_ok-frame.ensures.frame.0 c.level_type.ensures _ c.in-Ok-InWork.ensures.serves in
+          serves_as _ _ _ _ _ pages _ _ (answer.1 ∙ ap Err answer.2)
+          (marked_acquired _ _ _ _ _ pages _ (not (is_refused e)) (Err e) c.in_ok-frame.ensures.frame.0 refl
+          (validated_misses _ _ _ _ pages (is_due_stop e) _ before c.in_ok-frame.ensures.frame.0 _ _ _ (not (is_refused e)) _ c.in_err-validate-in-Ok-InWork.ensures.serves));
+      stops = λ pages. let before = taken_serves _ _ _ _ pages (is_due_stop e) _ c.in_ok-frame.ensures.serves c.in_ok-frame.ensures.frame.0 c.level_type.ensures _ c.in-Ok-InWork.ensures.serves in
+          stops_as _ _ _ _ _ pages _ _ (answer.1 ∙ ap Err answer.2)
+          (validated_stops _ _ _ _ pages (is_due_stop e) _ before c.in_ok-frame.ensures.frame.0 _ _ _ _ (λ due. due) carries c.in_err-validate-in-Ok-InWork.ensures.stops);
+      kinds = search rules;
+      forward = forward_then _ _ _ before c.in_err-validate-in-Ok-InWork.ensures.forward;
+      leaves = let answer = err_from_is_err_and c.from_residual-in_err-validate-in-Ok-InWork.result c.from_residual-in_err-validate-in-Ok-InWork.ensures.1 in
+          subst (λ r. LeftWell v w (is_paused_answer r) c.args.f) (sym (answer.1 ∙ ap Err answer.2))
+          (well_then _ _ _ _ _ (had_well _ _ _ _ _ _ _ c.get_ref.ensures.gets c.in_ok-frame.frame c.level_type.ensures _ c.take_type.ensures.found _ _) (subst (λ h. LeftWell x w kept h) c.in_ok-frame.ensures.frame.0 c.in_err-validate-in-Ok-InWork.ensures.leaves));
+      hand = leaves_as v w c.args.f c.args.owner c.args.level result e (answer.1 ∙ ap Err answer.2)
+          (unwound_leaves v w c.args.f c.args.owner c.args.level x h progress own e c.in_ok-frame.ensures.frame.0 carries c.in_err-validate-in-Ok-InWork.ensures.hand);
+      gate = search rules;
+      heard = search rules;
+      says = search rules;
+      paces = search rules;
+      calm = search rules;
+      course = unfinished_by v c.args.f c.args.owner c.args.level _ _ _ b c.in_ok-frame.ensures.frame.0 c.in_ok-frame.ensures.gets c.in_ok-frame.ensures.plain x c.level_type.ensures
+          took.field-0 took.ensures.found took.ensures.plain took.ensures.waits took.field-0-is (g.P.Port.value c.validate.new.port) _ _ result e (answer.1 ∙ ap Err answer.2) c.in_err-validate-in-Ok-InWork.ensures.course;
+    }

@@ -1,17 +1,17 @@
 use Rattle.std.proofs.Common.{◌&&◌, Bool, sym, ap, ◌∙◌}
 use Rattle.table_courses.specs.Acquiring.{is_asked}
-use Rattle.level_validate.proofs.AskedOnce.{not_asked, was_asked}
+use Rattle.level_validate.proofs.Filling.{not_asked, was_asked}
 use Rattle.level_validate.proofs.acquiring.ask_behind.Goals as goal
 
 pub returns-then-due-clause-course : goal.returns-then-due-clause-course
 returns-then-due-clause-course g c =
     let said = c.due.ensures in
-    was_asked _ _ _ _ (ap (λ (done : Bool). done && is_asked c.args.stack.now) c.if-done.true ∙ sym c.is_asked.ensures ∙ c.if-is_asked.true) _ _ c.due.result _ c.if-due.true said.1.1.0 said.1.0 said.0
+    was_asked _ _ _ _ (ap (λ (done : Bool). done && is_asked c.args.stack.now) c.if-done.true ∙ sym c.is_asked.ensures ∙ c.if-is_asked.true) _ _ _ _ c.if-due.true said.1.1.0 said.1.0 said.0
 
 pub returns-else-due-clause-course : goal.returns-else-due-clause-course
 returns-else-due-clause-course g c =
     let said = c.due.ensures in
-    was_asked _ _ _ _ (ap (λ (done : Bool). done && is_asked c.args.stack.now) c.if-done.true ∙ sym c.is_asked.ensures ∙ c.if-is_asked.true) _ _ c.due.result _ c.if-due.false said.1.1.0 said.1.0 said.0
+    was_asked _ _ _ _ (ap (λ (done : Bool). done && is_asked c.args.stack.now) c.if-done.true ∙ sym c.is_asked.ensures ∙ c.if-is_asked.true) _ _ _ _ c.if-due.false said.1.1.0 said.1.0 said.0
 
 pub returns-else-is_asked-clause-course : goal.returns-else-is_asked-clause-course
 returns-else-is_asked-clause-course g c = not_asked _ _ _ _ (ap (λ (done : Bool). done && is_asked c.args.stack.now) c.if-done.true ∙ sym c.is_asked.ensures ∙ c.if-is_asked.false)

@@ -1,35 +1,25 @@
-use Rattle.level_validate.proofs.LeftWell.{well_then}
-use Rattle.level_validate.proofs.Forward.{forward_then}
-use Rattle.std.proofs.Common.{Ok, Err, ap, ◌∙◌, false}
+use Rattle.level_validate.proofs.Steps.{well_then, forward_then}
+use Rattle.std.proofs.Common.{Ok, Err, ap, ◌∙◌, false, rules}
 use Rattle.std.proofs.lemmas.Result.{err_from_is_err_and}
 use Rattle.xp_preempt.proofs.Hearing.{heard_as, heard_then}
 use Rattle.table_courses.specs.Acquiring.{is_asked}
-use Rattle.level_validate.proofs.AskedOnce.{asked_stops}
-use Rattle.level_validate.proofs.Asking.{goes_answer}
-use Rattle.level_validate.proofs.Filling.{filling_came, filling_may, filling_on, filling_serves, filling_standing, filling_stops}
-use Rattle.level_validate.proofs.Rising.{risen_answer, risen_in}
-use Rattle.level_validate.proofs.WorkedOn.{begun_working, cut_off_working, due_working, working_on, working_stops}
+use Rattle.level_validate.proofs.Filling.{asked_stops, filling_came, filling_may, filling_on, filling_serves, filling_standing, filling_stops, risen_answer, risen_in, begun_working, cut_off_working, due_working, working_on, working_stops}
+use Rattle.level_validate.proofs.Serving.{goes_answer}
 use Rattle.level_validate.proofs.acquiring.fill.Goals as goal
 
 pub returns-in_err-done-clause-stops : goal.returns-in_err-done-clause-stops
 returns-in_err-done-clause-stops g c =
-    let u = g.P.Port.value c.args.port.now in
-    let x = g.P.Port.value c.take_on.new.port in
-    let e = c.in_err-done.field-0.0 in
     let answer = err_from_is_err_and c.from_residual.result c.from_residual.ensures.1 in
-    risen_answer u x c.args.owner c.args.stack.now c.from_residual.result e (answer.1 ∙ ap Err answer.2) (risen_in u x c.args.owner c.args.stack.now e c.in_err-done.ensures.stops)
+    risen_answer _ _ _ _ _ _ (answer.1 ∙ ap Err answer.2) (risen_in _ _ _ _ _ c.in_err-done.ensures.stops)
 
 pub returns-in_err-ask_behind-clause-stops : goal.returns-in_err-ask_behind-clause-stops
 returns-in_err-ask_behind-clause-stops g c =
-    let u = g.P.Port.value c.args.port.now in
-    let x = g.P.Port.value c.take_on.new.port in
-    let owner = c.args.owner in
     let e = c.in_err-ask_behind.field-0.0 in
     let r = c.from_residual-in_err-ask_behind.result in
     let answer = err_from_is_err_and r c.from_residual-in_err-ask_behind.ensures.1 in
     let asked = c.in_err-ask_behind.ensures in
-    risen_answer u x owner c.args.stack.now r e (answer.1 ∙ ap Err answer.2)
-    (asked_stops u x owner c.args.stack.now c.in_ok-done.done (is_asked c.take_on.new.stack) (Err e) asked.kinds c.in_ok-done.ensures.progress asked.course.answers asked.course.due asked.course.course)
+    risen_answer _ _ _ _ r _ (answer.1 ∙ ap Err answer.2)
+    (asked_stops _ _ _ _ c.in_ok-done.done (is_asked c.take_on.new.stack) (Err e) asked.kinds c.in_ok-done.ensures.progress asked.course.answers asked.course.due asked.course.course)
 
 pub loop-port-init : goal.loop-port-init
 loop-port-init g c =
@@ -42,71 +32,60 @@ loop-port-init g c =
       says = a.says;
       paces = a.paces;
       calm = λ calm. (a.calm calm).1;
-      course = begun_working c.args.owner (g.P.Port.value c.args.port.now) c.args.table _ _ _ c.args.stack.now c.requires.only (g.P.Port.value c.take_on.new.port) c.take_on.new.stack c.in_ok-done.done t.course _ _ a.course;
+      course = begun_working _ _ _ _ _ _ c.requires.only _ _ t.course _ _ a.course;
     }
 
-pub go_on-requires-clause-may : goal.go_on-requires-clause-may
-go_on-requires-clause-may g c =
-    filling_may (g.P.Port.value c.args.port.now) (g.P.Port.value c.loop-port.port) c.args.owner c.args.stack.now c.loop-port.stack c.loop-port.invariant.tables c.requires.stands c.requires.may
-
-pub go_on-requires-clause-stands : goal.go_on-requires-clause-stands
-go_on-requires-clause-stands g c =
-    filling_standing (g.P.Port.value c.args.port.now) (g.P.Port.value c.loop-port.port) c.args.owner c.args.stack.now c.loop-port.stack c.loop-port.invariant.tables c.requires.stands
-
-pub go_on-requires-clause-ready : goal.go_on-requires-clause-ready
-go_on-requires-clause-ready g c = c.loop-port.invariant.tables.ready
+pub go_on-requires : goal.go_on-requires
+go_on-requires g c =
+    record {
+      may = filling_may c.loop-port.invariant.tables c.requires.stands c.requires.may;
+      stands = filling_standing c.loop-port.invariant.tables c.requires.stands;
+      ready = c.loop-port.invariant.tables.ready;
+      more = search rules;
+    }
 
 pub loop-port-preserved : goal.loop-port-preserved
 loop-port-preserved g c =
     let i = c.loop-port.invariant in
     let t = c.in_ok-go_on.ensures in
     record {
-      tables = filling_on (g.P.Port.value c.args.port.now) (g.P.Port.value c.loop-port.port) (g.P.Port.value c.go_on.new.port) c.args.owner c.args.stack.now c.loop-port.stack c.go_on.new.stack i.tables t.came t.forward t.leaves t.stands t.outer t.ready t.serves;
+      tables = filling_on _ _ _ _ _ c.loop-port.stack _ i.tables t.came t.forward t.leaves t.stands t.outer t.ready t.serves;
       gate = t.gate ∙ i.gate;
       heard = heard_then _ _ _ _ _ i.heard (heard_as _ _ _ _ _ i.says t.heard);
       says = λ n. t.says n ∙ i.says n;
       paces = t.paces ∙ i.paces;
       calm = λ calm. (t.calm (i.calm calm)).1;
-      course = working_on c.args.owner (g.P.Port.value c.args.port.now) c.args.table _ _ _ (g.P.Port.value c.loop-port.port) (g.P.Port.value c.go_on.new.port) c.loop-port.stack c.go_on.new.stack _ _ _ _ _ false (Ok tt) i.says i.course t.course;
+      course = working_on _ _ _ _ _ _ _ _ c.loop-port.stack _ _ _ _ _ _ false (Ok tt) i.says i.course t.course;
     }
 
-pub returns-in_err-go_on-clause-came : goal.returns-in_err-go_on-clause-came
-returns-in_err-go_on-clause-came g c =
-    filling_came (g.P.Port.value c.args.port.now) (g.P.Port.value c.loop-port.port) c.args.owner c.args.stack.now c.loop-port.stack c.loop-port.invariant.tables (g.P.Port.value c.go_on.new.port) c.go_on.new.stack c.in_err-go_on.ensures.came
-
-pub returns-in_err-go_on-clause-serves : goal.returns-in_err-go_on-clause-serves
-returns-in_err-go_on-clause-serves g c =
-    let u = g.P.Port.value c.args.port.now in
-    let x = g.P.Port.value c.loop-port.port in
-    let w = g.P.Port.value c.go_on.new.port in
-    let owner = c.args.owner in
+pub returns-in_err-go_on : goal.returns-in_err-go_on
+returns-in_err-go_on g c =
     let r = c.from_residual-in_err-go_on.result in
     let answer = err_from_is_err_and r c.from_residual-in_err-go_on.ensures.1 in
-    filling_serves u x owner c.args.stack.now c.loop-port.stack c.loop-port.invariant.tables w c.go_on.new.stack r
-    (goes_answer x w owner c.loop-port.stack c.go_on.new.stack r c.in_err-go_on.field-0.0 (answer.1 ∙ ap Err answer.2) c.in_err-go_on.ensures.serves)
-
-pub returns-in_err-go_on-clause-stops : goal.returns-in_err-go_on-clause-stops
-returns-in_err-go_on-clause-stops g c =
-    let u = g.P.Port.value c.args.port.now in
-    let x = g.P.Port.value c.loop-port.port in
-    let w = g.P.Port.value c.go_on.new.port in
-    let owner = c.args.owner in
-    let e = c.in_err-go_on.field-0.0 in
-    let r = c.from_residual-in_err-go_on.result in
-    let answer = err_from_is_err_and r c.from_residual-in_err-go_on.ensures.1 in
-    risen_answer u w owner c.args.stack.now r e (answer.1 ∙ ap Err answer.2)
-    (filling_stops u x owner c.args.stack.now c.loop-port.stack c.loop-port.invariant.tables w c.go_on.new.stack e c.in_err-go_on.ensures.stops)
-
-pub returns-in_err-go_on-clause-forward : goal.returns-in_err-go_on-clause-forward
-returns-in_err-go_on-clause-forward g c =
-    forward_then (g.P.Port.value c.args.port.now) (g.P.Port.value c.loop-port.port) (g.P.Port.value c.go_on.new.port) c.loop-port.invariant.tables.forward c.in_err-go_on.ensures.forward
+    record {
+      came = filling_came c.loop-port.invariant.tables (g.P.Port.value c.go_on.new.port) c.go_on.new.stack c.in_err-go_on.ensures.came;
+      forward = forward_then _ _ _ c.loop-port.invariant.tables.forward c.in_err-go_on.ensures.forward;
+      leaves = λ f. well_then _ _ _ false f (c.loop-port.invariant.tables.leaves f) (c.in_err-go_on.ensures.leaves f);
+      stands = search rules;
+      outer = search rules;
+      filled = search rules;
+      ready = search rules;
+      kinds = search rules;
+      serves = filling_serves c.loop-port.invariant.tables _ _ r
+          (goes_answer _ _ _ c.loop-port.stack _ r c.in_err-go_on.field-0.0 (answer.1 ∙ ap Err answer.2) c.in_err-go_on.ensures.serves);
+      stops = risen_answer _ _ _ _ r _ (answer.1 ∙ ap Err answer.2)
+          (filling_stops c.loop-port.invariant.tables (g.P.Port.value c.go_on.new.port) c.go_on.new.stack c.in_err-go_on.field-0.0 c.in_err-go_on.ensures.stops);
+      gate = search rules;
+      heard = search rules;
+      says = search rules;
+      paces = search rules;
+      calm = search rules;
+      course = working_stops _ _ _ _ _ _ _ _ c.loop-port.stack _ _ _ _ _ _ r _ (answer.1 ∙ ap Err answer.2)
+          c.loop-port.invariant.says c.loop-port.invariant.course c.in_err-go_on.ensures.course;
+    }
 
 pub returns-clause-forward : goal.returns-clause-forward
 returns-clause-forward g c = c.loop-port.invariant.tables.forward
-
-pub returns-in_err-go_on-clause-leaves : goal.returns-in_err-go_on-clause-leaves
-returns-in_err-go_on-clause-leaves g c f =
-    well_then (g.P.Port.value c.args.port.now) (g.P.Port.value c.loop-port.port) (g.P.Port.value c.go_on.new.port) false f (c.loop-port.invariant.tables.leaves f) (c.in_err-go_on.ensures.leaves f)
 
 pub returns-clause-leaves : goal.returns-clause-leaves
 returns-clause-leaves g c f = c.loop-port.invariant.tables.leaves f
@@ -115,26 +94,13 @@ returns-clause-leaves g c f = c.loop-port.invariant.tables.leaves f
 
 pub returns-in_err-done-clause-course : goal.returns-in_err-done-clause-course
 returns-in_err-done-clause-course g c =
-    let e = c.in_err-done.field-0.0 in
     let answer = err_from_is_err_and c.from_residual.result c.from_residual.ensures.1 in
-    let stopped = c.in_err-done.ensures in
-    cut_off_working c.args.owner (g.P.Port.value c.args.port.now) c.args.table _ _ _ c.args.stack.now c.requires.only (g.P.Port.value c.take_on.new.port) c.take_on.new.stack c.from_residual.result e (answer.1 ∙ ap Err answer.2)
-    stopped.kinds stopped.course
+    cut_off_working _ _ _ _ _ _ c.requires.only _ _ _ _ (answer.1 ∙ ap Err answer.2)
+    c.in_err-done.ensures.kinds c.in_err-done.ensures.course
 
 pub returns-in_err-ask_behind-clause-course : goal.returns-in_err-ask_behind-clause-course
 returns-in_err-ask_behind-clause-course g c =
-    let e = c.in_err-ask_behind.field-0.0 in
     let r = c.from_residual-in_err-ask_behind.result in
     let answer = err_from_is_err_and r c.from_residual-in_err-ask_behind.ensures.1 in
-    let asked = c.in_err-ask_behind.ensures in
-    due_working c.args.owner (g.P.Port.value c.args.port.now) c.args.table _ _ _ c.args.stack.now c.requires.only (g.P.Port.value c.take_on.new.port) c.take_on.new.stack c.in_ok-done.done c.in_ok-done.ensures.course _ _
-    r e (answer.1 ∙ ap Err answer.2) asked.kinds asked.course
-
-pub returns-in_err-go_on-clause-course : goal.returns-in_err-go_on-clause-course
-returns-in_err-go_on-clause-course g c =
-    let e = c.in_err-go_on.field-0.0 in
-    let r = c.from_residual-in_err-go_on.result in
-    let answer = err_from_is_err_and r c.from_residual-in_err-go_on.ensures.1 in
-    let i = c.loop-port.invariant in
-    working_stops c.args.owner (g.P.Port.value c.args.port.now) c.args.table _ _ _ (g.P.Port.value c.loop-port.port) (g.P.Port.value c.go_on.new.port) c.loop-port.stack c.go_on.new.stack _ _ _ _ _ r e (answer.1 ∙ ap Err answer.2)
-    i.says i.course c.in_err-go_on.ensures.course
+    due_working _ _ _ _ _ _ c.requires.only _ _ c.in_ok-done.ensures.course _ _
+    r c.in_err-ask_behind.field-0.0 (answer.1 ∙ ap Err answer.2) c.in_err-ask_behind.ensures.kinds c.in_err-ask_behind.ensures.course

@@ -1,9 +1,6 @@
 use Rattle.frame_types.specs.Found.{SharedBy, StoresKind}
-use Rattle.level_validate.proofs.Onward.{shared_onward, stores_onward}
-use Rattle.level_validate.proofs.KeptSteps.{kept_forward, kept_well}
-use Rattle.level_validate.proofs.LeftWell.{shared_plain, stores_plain, well_by, well_step, well_then}
-use Rattle.level_validate.proofs.Forward.{forward_by, forward_step, forward_then}
-use Rattle.std.proofs.Common.{◌<◌, ◌+◌, true, false, refl, sym, subst}
+use Rattle.level_validate.proofs.Steps.{kept_forward, kept_well, shared_plain, stores_plain, well_by, well_step, well_then, forward_by, forward_step, forward_then}
+use Rattle.std.proofs.Common.{◌<◌, ◌+◌, true, false, refl, sym, subst, rules}
 use Rattle.xp_words.specs.declared.kind.KindWord.{KindWord}
 use Rattle.xp_board.specs.Told.{Post}
 use Rattle.step_maker.proofs.Coming.{came_post, came_trans, moves_came}
@@ -13,176 +10,109 @@ use Rattle.kind_words.specs.Kinds.{partial_kind}
 use Rattle.frame_types.specs.Leaving.{ServesType}
 use Rattle.level_validate.proofs.LeftWaiting.{gives_left, kept_hand, lent_hand, mark_known, mark_left, mark_looking, mark_may, named_hand, named_left, stays_held, stays_may, stays_room, unkept_is, waits_as}
 use Rattle.level_validate.specs.Serving.{ServesWaiting}
-use Rattle.level_validate.proofs.LeavingTables.{level_type-unpaged}
+use Rattle.level_validate.proofs.Standing.{level_type-unpaged}
 use Rattle.level_validate.proofs.Serving.{marked_kept, marked_none, old_serves, type_left}
-use Rattle.level_validate.proofs.LeftSo.{waiting_kept, waiting_lent, waiting_named}
+use Rattle.level_validate.proofs.Leaving.{waiting_kept, waiting_lent, waiting_named}
 use Rattle.level_validate.proofs.acquiring.leave_waiting.Goals as goal
 
 -- ---- the type count is another holder's
 
 pub leave_shared-requires-clause-waits : goal.leave_shared-requires-clause-waits
 leave_shared-requires-clause-waits g c =
-    let b = c.requires.waits in (b.1.lent, _, waits_as b.0 (g.P.Port.value c.args.port.now) c.args.frame c.args.level c.args.owner c.args.own c.args.stamp b.1 c.level_type-kind.result c.level_type-kind.ensures false c.if-not-own.true)
+    let b = c.requires.waits in (b.1.lent, _, waits_as b.1 c.level_type-kind.ensures c.if-not-own.true)
 
-pub returns-then-not-own-clause-hand : goal.returns-then-not-own-clause-hand
-returns-then-not-own-clause-hand g c v a =
-    let w = g.P.Port.value c.leave_shared.new.port in
-    lent_hand v w c.args.frame c.args.owner c.args.own c.args.kept c.if-not-own.true
-    (gives_left v (g.P.Port.value c.args.port.now) c.args.frame c.args.level c.args.owner c.args.own c.args.stamp a c.level_type-kind.result c.level_type-kind.ensures false c.if-not-own.true w c.leave_shared.ensures.hand)
-
-pub returns-then-not-own-clause-serves : goal.returns-then-not-own-clause-serves
+pub returns-then-not-own : goal.returns-then-not-own
 unfolding ServesWaiting
-returns-then-not-own-clause-serves g c u r ds before asks locks =
-    let x = g.P.Port.value c.args.port.now in
+returns-then-not-own g c =
     let w = g.P.Port.value c.leave_shared.new.port in
+    let x = g.P.Port.value c.args.port.now in
     let f = c.args.frame in
-    marked_none u w r c.args.owner c.args.kept f ds (type_left u x w r ds f c.args.owner c.args.level before asks (subst (λ k. ServesType x w f k) c.level_type-kind.ensures c.leave_shared.ensures.serves))
+    let k = c.level_type-kind.result in
+    let is = unkept_is c.requires.waits.1 c.level_type-kind.ensures c.if-not-own.true in
+    record {
+      came = search rules;
+      forward = forward_by _ _ (λ vs. SharedBy f k c.args.stamp vs) (shared_plain _ _ _ is) c.leave_shared.ensures.visits;
+      leaves = well_by _ _ _ _ (λ vs. SharedBy f k c.args.stamp vs) (shared_plain _ _ _ is) c.leave_shared.ensures.visits;
+      serves = λ u r ds before asks locks. marked_none u _ r _ _ _ ds (type_left u _ _ r ds _ _ _ before asks (subst (λ k. ServesType x w f k) c.level_type-kind.ensures c.leave_shared.ensures.serves));
+      hand = λ v a. lent_hand v w c.args.frame c.args.owner c.args.own c.args.kept c.if-not-own.true
+          (gives_left a c.level_type-kind.ensures c.if-not-own.true w c.leave_shared.ensures.hand);
+      course = waiting_lent _ _ _ _ _ _ _ _ c.level_type-kind.ensures
+          c.if-not-own.true c.leave_shared.ensures.visits;
+    }
 
 -- ---- paused: it goes into the mark
 
-pub leave_kept-requires-clause-leaves : goal.leave_kept-requires-clause-leaves
-leave_kept-requires-clause-leaves g c =
-    let b = c.requires.waits in
-    rw c.waiting_kind.ensures (mark_may b.0 (g.P.Port.value c.args.port.now) c.args.frame c.args.level c.args.owner c.args.own c.args.stamp b.1 c.level_type-kind.result c.level_type-kind.ensures c.if-not-own.false)
+pub leave_kept-requires : goal.leave_kept-requires
+leave_kept-requires g c =
+    record {
+      frame = search rules;
+      may = search rules;
+      leaves = rw c.waiting_kind.ensures (mark_may c.requires.waits.1 c.level_type-kind.ensures c.if-not-own.false);
+      partial = search rules;
+      kept = search rules;
+      page = rw c.waiting_kind.ensures (rw c.level_type-kind.ensures (level_type-unpaged _ c.requires.low));
+      known = mark_known c.requires.waits.1 c.level_type-kind.ensures c.if-not-own.false;
+      real = search rules;
+      looked = mark_looking c.requires.waits.1 c.level_type-kind.ensures c.if-not-own.false;
+      room = search rules;
+    }
 
-pub leave_kept-requires-clause-page : goal.leave_kept-requires-clause-page
-leave_kept-requires-clause-page g c = rw c.waiting_kind.ensures (rw c.level_type-kind.ensures (level_type-unpaged c.args.level c.requires.low))
-
-pub leave_kept-requires-clause-known : goal.leave_kept-requires-clause-known
-leave_kept-requires-clause-known g c =
-    let b = c.requires.waits in mark_known b.0 (g.P.Port.value c.args.port.now) c.args.frame c.args.level c.args.owner c.args.own c.args.stamp b.1 c.level_type-kind.result c.level_type-kind.ensures c.if-not-own.false
-
-pub leave_kept-requires-clause-looked : goal.leave_kept-requires-clause-looked
-leave_kept-requires-clause-looked g c =
-    let b = c.requires.waits in mark_looking b.0 (g.P.Port.value c.args.port.now) c.args.frame c.args.level c.args.owner c.args.own c.args.stamp b.1 c.level_type-kind.result c.level_type-kind.ensures c.if-not-own.false
-
-pub returns-then-kept-clause-serves : goal.returns-then-kept-clause-serves
+pub returns-then-kept : goal.returns-then-kept
 unfolding ServesWaiting
-returns-then-kept-clause-serves g c u r ds before asks locks =
-    marked_kept u (g.P.Port.value c.leave_kept.new.port) r c.args.owner c.args.kept c.args.frame ds c.if-kept.true (c.leave_kept.ensures.serves u r ds before (of c.args.owner _ asks) locks)
-
-pub returns-then-kept-clause-hand : goal.returns-then-kept-clause-hand
-returns-then-kept-clause-hand g c v a =
+returns-then-kept g c =
     let x = g.P.Port.value c.args.port.now in
     let d = g.P.Port.value c.leave_kept.new.port in
-    kept_hand v d c.args.frame c.args.owner c.args.own c.args.kept c.if-not-own.false c.if-kept.true
-    (mark_left v x c.args.frame c.args.level c.args.owner c.args.own c.args.stamp a c.level_type-kind.result c.level_type-kind.ensures c.if-not-own.false d
-    (subst (λ (k : KindWord). LeavesKept x d c.args.frame k c.args.owner) c.waiting_kind.ensures c.leave_kept.ensures.hand))
+    let f = c.args.frame in
+    let may = mark_may c.requires.waits.1 c.level_type-kind.ensures c.if-not-own.false in
+    record {
+      came = search rules;
+      forward = kept_forward _ _ _ _ _ c.leave_kept.ensures.course;
+      leaves = kept_well _ (partial_kind c.level_type-kind.result true true 0 c.args.stamp) may.is refl c.if-kept.true _ _ _ (subst (λ (k : KindWord). KeptFor x d f k c.args.owner) c.waiting_kind.ensures c.leave_kept.ensures.course);
+      serves = λ u r ds before asks locks. marked_kept u _ r _ _ _ ds c.if-kept.true (c.leave_kept.ensures.serves u r ds before (of c.args.owner _ asks) locks);
+      hand = λ v a. kept_hand v d c.args.frame c.args.owner c.args.own c.args.kept c.if-not-own.false c.if-kept.true
+          (mark_left a c.level_type-kind.ensures c.if-not-own.false d
+          (subst (λ (k : KindWord). LeavesKept x d c.args.frame k c.args.owner) c.waiting_kind.ensures c.leave_kept.ensures.hand));
+      course = waiting_kept _ _ _ _ _ _ _ _ c.level_type-kind.ensures
+          c.if-not-own.false c.if-kept.true c.waiting_kind.result c.waiting_kind.ensures c.leave_kept.ensures.course;
+    }
 
 -- ---- refused: it goes into the first old word
 
 pub leave_unsettled-requires-clause-waits : goal.leave_unsettled-requires-clause-waits
 leave_unsettled-requires-clause-waits g c =
-    let b = c.requires.waits in (b.1.lent, _, waits_as b.0 (g.P.Port.value c.args.port.now) c.args.frame c.args.level c.args.owner c.args.own c.args.stamp b.1 c.level_type-kind.result c.level_type-kind.ensures true c.if-not-own.false)
+    let b = c.requires.waits in (b.1.lent, _, waits_as b.1 c.level_type-kind.ensures c.if-not-own.false)
 
-pub put_old-requires-clause-frame : goal.put_old-requires-clause-frame
-put_old-requires-clause-frame g c =
-    subst (λ (p : Post). c.args.frame < p.machine.frames) (sym (came_post (g.P.Port.value c.args.port.now) (g.P.Port.value c.leave_unsettled.new.port) c.leave_unsettled.ensures.came)) c.requires.frame
+pub put_old-requires : goal.put_old-requires
+put_old-requires g c =
+    record {
+      frame = subst (λ (p : Post). c.args.frame < p.machine.frames) (sym (came_post _ _ c.leave_unsettled.ensures.came)) c.requires.frame;
+      may = stays_may c.requires.waits.1 c.level_type-kind.ensures c.if-not-own.false _
+          c.leave_unsettled.ensures.hand c.requires.may;
+      empty = stays_room c.requires.waits.1 c.level_type-kind.ensures c.if-not-own.false _
+          c.leave_unsettled.ensures.hand c.requires.room;
+      held = stays_held c.requires.waits.1 c.level_type-kind.ensures c.if-not-own.false _
+          c.leave_unsettled.ensures.hand;
+    }
 
-pub put_old-requires-clause-may : goal.put_old-requires-clause-may
-put_old-requires-clause-may g c =
-    let b = c.requires.waits in
-    stays_may b.0 (g.P.Port.value c.args.port.now) c.args.frame c.args.level c.args.owner c.args.own c.args.stamp b.1 c.level_type-kind.result c.level_type-kind.ensures c.if-not-own.false (g.P.Port.value c.leave_unsettled.new.port)
-    c.leave_unsettled.ensures.hand c.requires.may
-
-pub put_old-requires-clause-empty : goal.put_old-requires-clause-empty
-put_old-requires-clause-empty g c =
-    let b = c.requires.waits in
-    stays_room b.0 (g.P.Port.value c.args.port.now) c.args.frame c.args.level c.args.owner c.args.own c.args.stamp b.1 c.level_type-kind.result c.level_type-kind.ensures c.if-not-own.false (g.P.Port.value c.leave_unsettled.new.port)
-    c.leave_unsettled.ensures.hand c.requires.room
-
-pub put_old-requires-clause-held : goal.put_old-requires-clause-held
-put_old-requires-clause-held g c =
-    let b = c.requires.waits in
-    stays_held b.0 (g.P.Port.value c.args.port.now) c.args.frame c.args.level c.args.owner c.args.own c.args.stamp b.1 c.level_type-kind.result c.level_type-kind.ensures c.if-not-own.false (g.P.Port.value c.leave_unsettled.new.port)
-    c.leave_unsettled.ensures.hand
-
-pub returns-else-kept-clause-came : goal.returns-else-kept-clause-came
-returns-else-kept-clause-came g c =
-    let d = g.P.Port.value c.leave_unsettled.new.port in
-    let z = g.P.Port.value c.put_old.new.port in
-    came_trans (g.P.Port.value c.args.port.now) d z c.leave_unsettled.ensures.came (moves_came d z _ _ _ _ 0 c.put_old.ensures.moves)
-
-pub returns-else-kept-clause-serves : goal.returns-else-kept-clause-serves
+pub returns-else-kept : goal.returns-else-kept
 unfolding ServesWaiting
-returns-else-kept-clause-serves g c u r ds before asks locks =
+returns-else-kept g c =
+    let d = g.P.Port.value c.leave_unsettled.new.port in
+    let z = g.P.Port.value c.put_old.new.port in
     let x = g.P.Port.value c.args.port.now in
-    let d = g.P.Port.value c.leave_unsettled.new.port in
-    let z = g.P.Port.value c.put_old.new.port in
     let f = c.args.frame in
-    marked_none u z r c.args.owner c.args.kept f ds
-    (old_serves u d z r ds (type_left u x d r ds f c.args.owner c.args.level before asks (subst (λ k. ServesType x d f k) c.level_type-kind.ensures c.leave_unsettled.ensures.serves)) (f + 1) c.put_old.ensures.moves)
-
-pub returns-else-kept-clause-hand : goal.returns-else-kept-clause-hand
-returns-else-kept-clause-hand g c v a =
-    let d = g.P.Port.value c.leave_unsettled.new.port in
-    let z = g.P.Port.value c.put_old.new.port in
-    named_hand v z c.args.frame c.args.owner c.args.own c.args.kept c.if-not-own.false c.if-kept.false
-    (named_left v (g.P.Port.value c.args.port.now) c.args.frame c.args.level c.args.owner c.args.own c.args.stamp a c.level_type-kind.result c.level_type-kind.ensures c.if-not-own.false d c.leave_unsettled.ensures.hand z c.put_old.ensures.hand)
-
--- ---- it goes forward
-
-pub returns-then-not-own-clause-forward : goal.returns-then-not-own-clause-forward
-returns-then-not-own-clause-forward g c =
-    forward_by (g.P.Port.value c.args.port.now) (g.P.Port.value c.leave_shared.new.port) (λ vs. SharedBy c.args.frame c.level_type-kind.result c.args.stamp vs) (shared_onward c.args.frame c.level_type-kind.result c.args.stamp) c.leave_shared.ensures.visits
-
-pub returns-then-kept-clause-forward : goal.returns-then-kept-clause-forward
-returns-then-kept-clause-forward g c = kept_forward (g.P.Port.value c.args.port.now) (g.P.Port.value c.leave_kept.new.port) c.args.frame c.waiting_kind.result c.args.owner c.leave_kept.ensures.course
-
-pub returns-else-kept-clause-forward : goal.returns-else-kept-clause-forward
-returns-else-kept-clause-forward g c =
     let u = g.P.Port.value c.args.port.now in
-    let d = g.P.Port.value c.leave_unsettled.new.port in
-    let z = g.P.Port.value c.put_old.new.port in
     let k = partial_kind c.level_type-kind.result false true 0 c.args.stamp in
-    forward_then u d z (forward_by u d (λ vs. StoresKind c.args.frame k vs) (stores_onward c.args.frame k) c.leave_unsettled.ensures.visits) (forward_step d z _ _ _ _ 0 refl refl c.put_old.ensures.moves)
-
--- ---- it leaves the frame well
-
-pub returns-then-not-own-clause-leaves : goal.returns-then-not-own-clause-leaves
-returns-then-not-own-clause-leaves g c =
-    let b = c.requires.waits in
-    let x = g.P.Port.value c.args.port.now in
-    let f = c.args.frame in
-    let k = c.level_type-kind.result in
-    let is = unkept_is b.0 x f c.args.level c.args.owner c.args.own c.args.stamp b.1 k c.level_type-kind.ensures false c.if-not-own.true in
-    well_by x (g.P.Port.value c.leave_shared.new.port) c.args.kept f (λ vs. SharedBy f k c.args.stamp vs) (shared_plain f k c.args.stamp is) c.leave_shared.ensures.visits
-
-pub returns-then-kept-clause-leaves : goal.returns-then-kept-clause-leaves
-returns-then-kept-clause-leaves g c =
-    let b = c.requires.waits in
-    let x = g.P.Port.value c.args.port.now in
-    let d = g.P.Port.value c.leave_kept.new.port in
-    let f = c.args.frame in
-    let may = mark_may b.0 x f c.args.level c.args.owner c.args.own c.args.stamp b.1 c.level_type-kind.result c.level_type-kind.ensures c.if-not-own.false in
-    kept_well f (partial_kind c.level_type-kind.result true true 0 c.args.stamp) may.is refl c.args.kept c.if-kept.true x d c.args.owner (subst (λ (k : KindWord). KeptFor x d f k c.args.owner) c.waiting_kind.ensures c.leave_kept.ensures.course)
-
-pub returns-else-kept-clause-leaves : goal.returns-else-kept-clause-leaves
-returns-else-kept-clause-leaves g c =
-    let b = c.requires.waits in
-    let x = g.P.Port.value c.args.port.now in
-    let d = g.P.Port.value c.leave_unsettled.new.port in
-    let z = g.P.Port.value c.put_old.new.port in
-    let f = c.args.frame in
-    let want = c.level_type-kind.result in
-    let k = partial_kind want false true 0 c.args.stamp in
-    let is = unkept_is b.0 x f c.args.level c.args.owner c.args.own c.args.stamp b.1 want c.level_type-kind.ensures true c.if-not-own.false in
-    well_then x d z c.args.kept f (well_by x d c.args.kept f (λ vs. StoresKind f k vs) (stores_plain f k is refl refl) c.leave_unsettled.ensures.visits)
-    (well_step d z c.args.kept f _ _ _ _ 0 refl c.put_old.ensures.moves)
-
--- ---- its part of the course
-
-pub returns-then-not-own-clause-course : goal.returns-then-not-own-clause-course
-returns-then-not-own-clause-course g c =
-    waiting_lent (g.P.Port.value c.args.port.now) (g.P.Port.value c.leave_shared.new.port) c.args.frame c.args.level c.args.owner c.args.stamp c.args.own c.args.kept c.level_type-kind.result c.level_type-kind.ensures
-    c.if-not-own.true c.leave_shared.ensures.visits
-
-pub returns-then-kept-clause-course : goal.returns-then-kept-clause-course
-returns-then-kept-clause-course g c =
-    waiting_kept (g.P.Port.value c.args.port.now) (g.P.Port.value c.leave_kept.new.port) c.args.frame c.args.level c.args.owner c.args.stamp c.args.own c.args.kept c.level_type-kind.result c.level_type-kind.ensures
-    c.if-not-own.false c.if-kept.true c.waiting_kind.result c.waiting_kind.ensures c.leave_kept.ensures.course
-
-pub returns-else-kept-clause-course : goal.returns-else-kept-clause-course
-returns-else-kept-clause-course g c =
-    waiting_named (g.P.Port.value c.args.port.now) (g.P.Port.value c.put_old.new.port) c.args.frame c.args.level c.args.owner c.args.stamp c.args.own c.args.kept c.level_type-kind.result c.level_type-kind.ensures
-    c.if-not-own.false c.if-kept.false (g.P.Port.value c.leave_unsettled.new.port) c.leave_unsettled.ensures.visits c.put_old.ensures.moves
+    let is = unkept_is c.requires.waits.1 c.level_type-kind.ensures c.if-not-own.false in
+    record {
+      came = came_trans _ _ _ c.leave_unsettled.ensures.came (moves_came _ _ _ _ _ _ 0 c.put_old.ensures.moves);
+      forward = forward_then _ _ _ (forward_by _ _ (λ vs. StoresKind f k vs) (stores_plain _ _ is refl refl) c.leave_unsettled.ensures.visits) (forward_step _ _ _ _ _ _ 0 refl refl c.put_old.ensures.moves);
+      leaves = well_then _ _ _ _ _ (well_by _ _ _ _ (λ vs. StoresKind f k vs) (stores_plain _ _ is refl refl) c.leave_unsettled.ensures.visits)
+          (well_step _ _ _ _ _ _ _ _ 0 refl c.put_old.ensures.moves);
+      serves = λ u r ds before asks locks. marked_none _ _ r _ _ _ ds
+          (old_serves _ _ _ r ds (type_left _ _ _ r ds _ _ _ before asks (subst (λ k. ServesType x d f k) c.level_type-kind.ensures c.leave_unsettled.ensures.serves)) (f + 1) c.put_old.ensures.moves);
+      hand = λ v a. named_hand v z c.args.frame c.args.owner c.args.own c.args.kept c.if-not-own.false c.if-kept.false
+          (named_left a c.level_type-kind.ensures c.if-not-own.false d c.leave_unsettled.ensures.hand z c.put_old.ensures.hand);
+      course = waiting_named _ _ _ _ _ _ _ _ c.level_type-kind.ensures
+          c.if-not-own.false c.if-kept.false (g.P.Port.value c.leave_unsettled.new.port) c.leave_unsettled.ensures.visits c.put_old.ensures.moves;
+    }

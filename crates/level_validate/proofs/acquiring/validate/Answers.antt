@@ -1,8 +1,6 @@
-use Rattle.frame_types.specs.Plain.{is_refused}
 use Rattle.level_validate.specs.Leaving.{LeftWell}
-use Rattle.level_validate.proofs.LeftWell.{well_more, well_then}
-use Rattle.level_validate.proofs.Forward.{forward_then}
-use Rattle.std.proofs.Common.{◌≡◌, ◌<◌, ◌∷◌, ◌∙◌, [], List, length, refl, sym, ap, subst, false, not}
+use Rattle.level_validate.proofs.Steps.{well_more, well_then, forward_then}
+use Rattle.std.proofs.Common.{◌≡◌, ◌<◌, ◌∷◌, ◌∙◌, [], List, length, refl, sym, ap, subst, false, rules}
 use Rattle.xp_board.specs.Told.{Post}
 use Rattle.step_maker.proofs.Coming.{came_post, came_trans}
 use Rattle.partial_state.specs.declared.stack.TableWork.{TableWork}
@@ -11,10 +9,9 @@ use Rattle.level_validate.specs.Acquiring.{StopsRisen, outermost_work}
 use Rattle.level_validate.specs.Serving.{CarriesOn, ServesLeft}
 use Rattle.level_validate.specs.Tables.{IsStanding, StandsOn}
 use Rattle.level_validate.specs.Unwinding.{Unwinds, outermost_frame}
-use Rattle.level_validate.proofs.Outermost.{completed, filled_is, frame_alike, on_may, on_room, on_stands, unwound}
-use Rattle.level_validate.proofs.Rising.{risen_on}
+use Rattle.level_validate.proofs.Unwound.{completed, filled_is, frame_alike, on_may, on_room, on_stands, unwound}
+use Rattle.level_validate.proofs.Filling.{risen_on, validated_left, validated_live}
 use Rattle.level_validate.proofs.Serving.{goes_then, left_behind, left_on}
-use Rattle.level_validate.proofs.ValidatedBy.{validated_left, validated_live}
 use Rattle.level_validate.proofs.acquiring.validate.Goals as goal
 
 -- ---- all entries are recorded
@@ -23,137 +20,87 @@ use Rattle.level_validate.proofs.acquiring.validate.Goals as goal
 only : (t : TableWork) (empty pushed : List TableWork) → empty ≡ [] → pushed ≡ t ∷ empty → pushed ≡ t ∷ []
 only t empty pushed none is = is ∙ ap (λ (us : List TableWork). t ∷ us) none
 
-pub complete_outer-requires-clause-may : goal.complete_outer-requires-clause-may
-complete_outer-requires-clause-may g c =
+pub complete_outer-requires : goal.complete_outer-requires
+complete_outer-requires g c =
     let u = g.P.Port.value c.args.port.now in
     let x = g.P.Port.value c.fill.new.port in
     let one = only c.args.table c.new-stack.result c.push.new.self c.new-stack.ensures c.push.ensures.pushed in
-    on_may u x c.args.owner c.push.new.self c.fill.new.stack (subst (λ us. IsStanding u c.args.owner us) (sym one) c.requires.stands) c.fill.ensures.stands c.requires.may
-
-pub complete_outer-requires-clause-stands : goal.complete_outer-requires-clause-stands
-complete_outer-requires-clause-stands g c =
-    let u = g.P.Port.value c.args.port.now in
-    let x = g.P.Port.value c.fill.new.port in
     let t = c.args.table in
-    let one = only t c.new-stack.result c.push.new.self c.new-stack.ensures c.push.ensures.pushed in
-    let stands = on_stands u x c.args.owner c.push.new.self c.fill.new.stack (subst (λ us. IsStanding u c.args.owner us) (sym one) c.requires.stands) c.fill.ensures.stands in
-    (c.args.owner, subst (λ us. IsStanding x c.args.owner us) (filled_is t c.fill.new.stack c.in-Ok.ensures.filled (c.fill.ensures.outer ∙ ap outermost_work one)) stands)
+    record {
+      may = on_may _ _ _ _ _ (subst (λ us. IsStanding u c.args.owner us) (sym one) c.requires.stands) c.fill.ensures.stands c.requires.may;
+      stands = let one = only t c.new-stack.result c.push.new.self c.new-stack.ensures c.push.ensures.pushed in let stands = on_stands _ _ _ _ _ (subst (λ us. IsStanding u c.args.owner us) (sym one) c.requires.stands) c.fill.ensures.stands in
+          (c.args.owner, subst (λ us. IsStanding x c.args.owner us) (filled_is t c.fill.new.stack c.in-Ok.ensures.filled (c.fill.ensures.outer ∙ ap outermost_work one)) stands);
+      ready = search rules;
+      full = search rules;
+    }
 
-pub returns-in-Ok-clause-came : goal.returns-in-Ok-clause-came
-returns-in-Ok-clause-came g c = came_trans (g.P.Port.value c.args.port.now) (g.P.Port.value c.fill.new.port) (g.P.Port.value c.complete_outer.new.port) c.fill.ensures.came c.complete_outer.ensures.came
-
-pub returns-in-Ok-clause-hand : goal.returns-in-Ok-clause-hand
-returns-in-Ok-clause-hand g c =
+pub returns-in-Ok : goal.returns-in-Ok
+returns-in-Ok g c =
     let u = g.P.Port.value c.args.port.now in
     let x = g.P.Port.value c.fill.new.port in
     let t = c.args.table in
     let one = only t c.new-stack.result c.push.new.self c.new-stack.ensures c.push.ensures.pushed in
     let full = filled_is t c.fill.new.stack c.in-Ok.ensures.filled (c.fill.ensures.outer ∙ ap outermost_work one) in
-    completed u x (g.P.Port.value c.complete_outer.new.port) c.args.owner t c.requires.stands
-    (subst (λ ts. StandsOn u x c.args.owner ts (record t { done = 512 } ∷ [])) one (subst (λ us. StandsOn u x c.args.owner c.push.new.self us) full c.fill.ensures.stands)) c.complete_outer.ensures.hand
-
-pub returns-in-Ok-clause-serves : goal.returns-in-Ok-clause-serves
-returns-in-Ok-clause-serves g c =
-    let u = g.P.Port.value c.args.port.now in
-    let x = g.P.Port.value c.fill.new.port in
-    let t = c.args.table in
-    let one = only t c.new-stack.result c.push.new.self c.new-stack.ensures c.push.ensures.pushed in
-    let full = filled_is t c.fill.new.stack c.in-Ok.ensures.filled (c.fill.ensures.outer ∙ ap outermost_work one) in
-    left_on u (g.P.Port.value c.complete_outer.new.port) c.args.owner false t.frame (t ∷ []) [] []
-    (goes_then u x (g.P.Port.value c.complete_outer.new.port) c.args.owner (t ∷ []) (record t { done = 512 } ∷ []) [] [] []
-    (subst (λ ts. CarriesOn u x c.args.owner ts (record t { done = 512 } ∷ []) []) one (subst (λ us. CarriesOn u x c.args.owner c.push.new.self us []) full c.in-Ok.ensures.serves)) (c.complete_outer.ensures.serves c.args.owner))
+    record {
+      came = came_trans _ _ _ c.fill.ensures.came c.complete_outer.ensures.came;
+      forward = forward_then _ _ _ c.fill.ensures.forward c.complete_outer.ensures.forward;
+      leaves = well_then _ _ _ false _ (c.fill.ensures.leaves c.args.table.frame) (c.complete_outer.ensures.leaves c.args.table.frame);
+      hand = completed u x (g.P.Port.value c.complete_outer.new.port) c.args.owner t c.requires.stands
+          (subst (λ ts. StandsOn u x c.args.owner ts (record t { done = 512 } ∷ [])) one (subst (λ us. StandsOn u x c.args.owner c.push.new.self us) full c.fill.ensures.stands)) c.complete_outer.ensures.hand;
+      kinds = search rules;
+      serves = left_on _ _ _ false _ (t ∷ []) [] []
+          (goes_then _ _ _ _ (t ∷ []) (record t { done = 512 } ∷ []) [] [] []
+          (subst (λ ts. CarriesOn u x c.args.owner ts (record t { done = 512 } ∷ []) []) one (subst (λ us. CarriesOn u x c.args.owner c.push.new.self us []) full c.in-Ok.ensures.serves)) (c.complete_outer.ensures.serves c.args.owner));
+      stops = search rules;
+      gate = search rules;
+      heard = search rules;
+      says = search rules;
+      paces = search rules;
+      calm = search rules;
+      course = validated_live _ _ _ _ _ _ _ _ _ _ _ (record t { done = 512 }) full refl c.complete_outer.ensures.course c.in-Ok.ensures.course;
+    }
 
 -- ---- a refusal or a pause
 
-pub unwind-requires-clause-may : goal.unwind-requires-clause-may
-unwind-requires-clause-may g c =
+pub unwind-requires : goal.unwind-requires
+unwind-requires g c =
     let u = g.P.Port.value c.args.port.now in
     let one = only c.args.table c.new-stack.result c.push.new.self c.new-stack.ensures c.push.ensures.pushed in
-    on_may u (g.P.Port.value c.fill.new.port) c.args.owner c.push.new.self c.fill.new.stack (subst (λ us. IsStanding u c.args.owner us) (sym one) c.requires.stands) c.fill.ensures.stands c.requires.may
+    record {
+      may = on_may _ _ _ _ _ (subst (λ us. IsStanding u c.args.owner us) (sym one) c.requires.stands) c.fill.ensures.stands c.requires.may;
+      stands = on_stands _ _ _ _ _ (subst (λ us. IsStanding u c.args.owner us) (sym one) c.requires.stands) c.fill.ensures.stands;
+      real = subst (λ (p : Post). c.args.owner < length p.machine.page_limit) (sym (came_post _ _ c.fill.ensures.came)) c.requires.real;
+      room = on_room _ _ _ _ _ (subst (λ us. IsStanding u c.args.owner us) (sym one) c.requires.stands) c.fill.ensures.stands c.requires.room;
+    }
 
-pub unwind-requires-clause-stands : goal.unwind-requires-clause-stands
-unwind-requires-clause-stands g c =
-    let u = g.P.Port.value c.args.port.now in
-    let one = only c.args.table c.new-stack.result c.push.new.self c.new-stack.ensures c.push.ensures.pushed in
-    on_stands u (g.P.Port.value c.fill.new.port) c.args.owner c.push.new.self c.fill.new.stack (subst (λ us. IsStanding u c.args.owner us) (sym one) c.requires.stands) c.fill.ensures.stands
-
-pub unwind-requires-clause-real : goal.unwind-requires-clause-real
-unwind-requires-clause-real g c =
-    subst (λ (p : Post). c.args.owner < length p.machine.page_limit) (sym (came_post (g.P.Port.value c.args.port.now) (g.P.Port.value c.fill.new.port) c.fill.ensures.came)) c.requires.real
-
-pub unwind-requires-clause-room : goal.unwind-requires-clause-room
-unwind-requires-clause-room g c =
-    let u = g.P.Port.value c.args.port.now in
-    let one = only c.args.table c.new-stack.result c.push.new.self c.new-stack.ensures c.push.ensures.pushed in
-    on_room u (g.P.Port.value c.fill.new.port) c.args.owner c.push.new.self c.fill.new.stack (subst (λ us. IsStanding u c.args.owner us) (sym one) c.requires.stands) c.fill.ensures.stands c.requires.room
-
-pub returns-in-Err-clause-came : goal.returns-in-Err-clause-came
-returns-in-Err-clause-came g c = came_trans (g.P.Port.value c.args.port.now) (g.P.Port.value c.fill.new.port) (g.P.Port.value c.unwind.new.port) c.fill.ensures.came c.unwind.ensures.came
-
-pub returns-in-Err-clause-hand : goal.returns-in-Err-clause-hand
-returns-in-Err-clause-hand g c =
+pub returns-in-Err : goal.returns-in-Err
+returns-in-Err g c =
     let u = g.P.Port.value c.args.port.now in
     let x = g.P.Port.value c.fill.new.port in
     let w = g.P.Port.value c.unwind.new.port in
     let one = only c.args.table c.new-stack.result c.push.new.self c.new-stack.ensures c.push.ensures.pushed in
-    subst (λ b. Unwinds u w c.args.owner b (c.args.table ∷ [])) c.is_paused.ensures
-    (subst (λ ts. Unwinds u w c.args.owner c.is_paused.result ts) one
-    (unwound u x w c.args.owner c.is_paused.result c.push.new.self c.fill.new.stack c.fill.ensures.outer c.fill.ensures.stands c.unwind.ensures.hand))
-
-pub returns-in-Err-clause-serves : goal.returns-in-Err-clause-serves
-returns-in-Err-clause-serves g c =
-    let u = g.P.Port.value c.args.port.now in
-    let x = g.P.Port.value c.fill.new.port in
-    let w = g.P.Port.value c.unwind.new.port in
     let owner = c.args.owner in
     let t = c.args.table in
     let e = missed u.post.machine c.in-Err.stop in
-    let one = only t c.new-stack.result c.push.new.self c.new-stack.ensures c.push.ensures.pushed in
-    let frame : outermost_frame c.fill.new.stack ≡ t.frame = frame_alike c.fill.new.stack (t ∷ []) (c.fill.ensures.outer ∙ ap outermost_work one) in
-    let left = subst (λ f. ServesLeft x w owner c.is_paused.result f c.fill.new.stack []) frame c.unwind.ensures.serves in
-    subst (λ b. ServesLeft u w owner b t.frame (t ∷ []) e) c.is_paused.ensures
-    (subst (λ ts. ServesLeft u w owner c.is_paused.result t.frame ts e) one (left_behind u x w owner c.is_paused.result t.frame c.push.new.self c.fill.new.stack e [] c.fill.ensures.came c.in-Err.ensures.serves left))
-
-pub returns-in-Err-clause-stops : goal.returns-in-Err-clause-stops
-returns-in-Err-clause-stops g c =
-    let one = only c.args.table c.new-stack.result c.push.new.self c.new-stack.ensures c.push.ensures.pushed in
-    subst (λ ts. StopsRisen (g.P.Port.value c.args.port.now) (g.P.Port.value c.unwind.new.port) c.args.owner ts c.in-Err.stop) one
-    (risen_on (g.P.Port.value c.args.port.now) (g.P.Port.value c.fill.new.port) c.args.owner c.push.new.self c.in-Err.stop (g.P.Port.value c.unwind.new.port) c.unwind.ensures.came c.in-Err.ensures.stops)
-
--- ---- it goes forward
-
-pub returns-in-Ok-clause-forward : goal.returns-in-Ok-clause-forward
-returns-in-Ok-clause-forward g c = forward_then (g.P.Port.value c.args.port.now) (g.P.Port.value c.fill.new.port) (g.P.Port.value c.complete_outer.new.port) c.fill.ensures.forward c.complete_outer.ensures.forward
-
-pub returns-in-Err-clause-forward : goal.returns-in-Err-clause-forward
-returns-in-Err-clause-forward g c = forward_then (g.P.Port.value c.args.port.now) (g.P.Port.value c.fill.new.port) (g.P.Port.value c.unwind.new.port) c.fill.ensures.forward c.unwind.ensures.forward
-
--- ---- how frames are left
-
-pub returns-in-Ok-clause-leaves : goal.returns-in-Ok-clause-leaves
-returns-in-Ok-clause-leaves g c =
-    well_then (g.P.Port.value c.args.port.now) (g.P.Port.value c.fill.new.port) (g.P.Port.value c.complete_outer.new.port) false c.args.table.frame (c.fill.ensures.leaves c.args.table.frame) (c.complete_outer.ensures.leaves c.args.table.frame)
-
-pub returns-in-Err-clause-leaves : goal.returns-in-Err-clause-leaves
-returns-in-Err-clause-leaves g c =
-    let u = g.P.Port.value c.args.port.now in
-    let x = g.P.Port.value c.fill.new.port in
-    let w = g.P.Port.value c.unwind.new.port in
-    let t = c.args.table in
-    let one = only t c.new-stack.result c.push.new.self c.new-stack.ensures c.push.ensures.pushed in
-    let kept = not (is_refused c.in-Err.stop) in
-    well_then u x w kept t.frame (well_more u x kept t.frame t.frame (c.fill.ensures.leaves t.frame))
-    (subst (λ b. LeftWell x w b t.frame) c.is_paused.ensures (c.unwind.ensures.leaves (record t { done = 0 }) (c.fill.ensures.outer ∙ ap (λ us. outermost_work us) one)))
-
--- ---- the course
-
-pub returns-in-Ok-clause-course : goal.returns-in-Ok-clause-course
-returns-in-Ok-clause-course g c =
-    let t = c.args.table in
-    let one = only t c.new-stack.result c.push.new.self c.new-stack.ensures c.push.ensures.pushed in
-    let full = filled_is t c.fill.new.stack c.in-Ok.ensures.filled (c.fill.ensures.outer ∙ ap outermost_work one) in
-    validated_live _ _ _ _ _ c.args.owner (g.P.Port.value c.args.port.now) (g.P.Port.value c.fill.new.port) (g.P.Port.value c.complete_outer.new.port) t c.fill.new.stack (record t { done = 512 }) full refl c.complete_outer.ensures.course c.in-Ok.ensures.course
-
-pub returns-in-Err-clause-course : goal.returns-in-Err-clause-course
-returns-in-Err-clause-course g c =
-    validated_left _ _ _ _ _ c.args.owner (g.P.Port.value c.args.port.now) (g.P.Port.value c.fill.new.port) (g.P.Port.value c.unwind.new.port) c.args.table c.fill.new.stack _ c.in-Err.stop c.is_paused.result c.is_paused.ensures c.unwind.ensures.course c.in-Err.ensures.course
+    record {
+      came = came_trans _ _ _ c.fill.ensures.came c.unwind.ensures.came;
+      forward = forward_then _ _ _ c.fill.ensures.forward c.unwind.ensures.forward;
+      leaves = let one = only t c.new-stack.result c.push.new.self c.new-stack.ensures c.push.ensures.pushed in
+          well_then _ _ _ _ _ (well_more _ _ _ _ _ (c.fill.ensures.leaves t.frame))
+          (subst (λ b. LeftWell x w b t.frame) c.is_paused.ensures (c.unwind.ensures.leaves (record t { done = 0 }) (c.fill.ensures.outer ∙ ap (λ us. outermost_work us) one)));
+      hand = subst (λ b. Unwinds u w c.args.owner b (c.args.table ∷ [])) c.is_paused.ensures
+          (subst (λ ts. Unwinds u w c.args.owner c.is_paused.result ts) one
+          (unwound u x w c.args.owner c.is_paused.result c.push.new.self c.fill.new.stack c.fill.ensures.outer c.fill.ensures.stands c.unwind.ensures.hand));
+      kinds = search rules;
+      serves = let one = only t c.new-stack.result c.push.new.self c.new-stack.ensures c.push.ensures.pushed in let frame : outermost_frame c.fill.new.stack ≡ t.frame = frame_alike c.fill.new.stack (t ∷ []) (c.fill.ensures.outer ∙ ap outermost_work one) in let left = subst (λ f. ServesLeft x w owner c.is_paused.result f c.fill.new.stack []) frame c.unwind.ensures.serves in
+          subst (λ b. ServesLeft u w owner b t.frame (t ∷ []) e) c.is_paused.ensures
+          (subst (λ ts. ServesLeft u w owner c.is_paused.result t.frame ts e) one (left_behind _ _ _ _ _ _ _ _ _ [] c.fill.ensures.came c.in-Err.ensures.serves left));
+      stops = subst (λ ts. StopsRisen (g.P.Port.value c.args.port.now) (g.P.Port.value c.unwind.new.port) c.args.owner ts c.in-Err.stop) one
+          (risen_on _ _ _ _ _ _ c.unwind.ensures.came c.in-Err.ensures.stops);
+      gate = search rules;
+      heard = search rules;
+      says = search rules;
+      paces = search rules;
+      calm = search rules;
+      course = validated_left _ _ _ _ _ _ _ _ _ _ _ _ _ _ c.is_paused.ensures c.unwind.ensures.course c.in-Err.ensures.course;
+    }

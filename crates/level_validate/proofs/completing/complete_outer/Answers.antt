@@ -1,45 +1,29 @@
-use Rattle.std.proofs.Common.{[], false, refl}
+use Rattle.std.proofs.Common.{[], false, refl, rules}
 use Rattle.step_maker.proofs.Coming.{moves_came}
 use Rattle.level_validate.specs.Serving.{CarriesOn}
 use Rattle.level_validate.proofs.Completed.{live_hand, live_leaves, outer_live}
-use Rattle.level_validate.proofs.Forward.{forward_step}
-use Rattle.level_validate.proofs.LeftWell.{kind_well}
-use Rattle.level_validate.proofs.LeavingTables.{top_inside}
+use Rattle.level_validate.proofs.Steps.{forward_step, kind_well}
+use Rattle.level_validate.proofs.Standing.{top_inside}
 use Rattle.level_validate.proofs.Serving.{piece_left, piece_rest}
 use Rattle.level_validate.proofs.completing.complete_outer.Goals as goal
 
 pub make_live-requires-clause-frame : goal.make_live-requires-clause-frame
-make_live-requires-clause-frame g c = let a = c.requires.stands in top_inside a.1.0 (g.P.Port.value c.args.port.now) a.0 c.args.table [] a.1.1
+make_live-requires-clause-frame g c = let a = c.requires.stands in top_inside a.1.1
 
 pub make_live-requires-clause-leaves : goal.make_live-requires-clause-leaves
 make_live-requires-clause-leaves g c =
-    let a = c.requires.stands in live_leaves a.1.0 (g.P.Port.value c.args.port.now) a.0 c.args.table [] a.1.1 c.requires.full c.requires.ready c.args.table.own refl c.requires.may
+    let a = c.requires.stands in live_leaves a.1.1 c.requires.full c.requires.ready _ refl c.requires.may
 
-pub returns-clause-came : goal.returns-clause-came
-returns-clause-came g c = moves_came (g.P.Port.value c.args.port.now) (g.P.Port.value c.make_live.new.port) _ _ _ _ c.make_live.result c.make_live.ensures.moves
-
-pub returns-clause-hand : goal.returns-clause-hand
-returns-clause-hand g c v owner s =
-    let w = g.P.Port.value c.args.port.now in
-    let d = g.P.Port.value c.make_live.new.port in
-    outer_live v w d owner c.args.table s (live_hand v w owner c.args.table [] s c.args.table.own refl d c.make_live.ensures.hand)
-
-pub returns-clause-serves : goal.returns-clause-serves
+pub returns : goal.returns
 unfolding CarriesOn
-returns-clause-serves g c owner u r ds a =
-    let b = c.requires.stands in
-    let t = c.args.table in
-    let w = g.P.Port.value c.args.port.now in
+returns g c =
     let d = g.P.Port.value c.make_live.new.port in
-    piece_rest u d r owner t [] ds
-    (piece_left b.1.0 w b.0 t [] b.1.1 _ (live_leaves b.1.0 w b.0 t [] b.1.1 c.requires.full c.requires.ready t.own refl c.requires.may).is refl d c.make_live.result c.make_live.ensures.moves u r owner [] ds a)
-
-pub returns-clause-forward : goal.returns-clause-forward
-returns-clause-forward g c = forward_step (g.P.Port.value c.args.port.now) (g.P.Port.value c.make_live.new.port) _ _ _ _ c.make_live.result refl refl c.make_live.ensures.moves
-
-pub returns-clause-leaves : goal.returns-clause-leaves
-returns-clause-leaves g c f =
-    let b = c.requires.stands in
-    let t = c.args.table in
-    let w = g.P.Port.value c.args.port.now in
-    kind_well w (g.P.Port.value c.make_live.new.port) false f t.frame _ _ _ c.make_live.result (live_leaves b.1.0 w b.0 t [] b.1.1 c.requires.full c.requires.ready t.own refl c.requires.may).is refl refl c.make_live.ensures.moves
+    record {
+      came = moves_came _ _ _ _ _ _ _ c.make_live.ensures.moves;
+      forward = forward_step _ _ _ _ _ _ _ refl refl c.make_live.ensures.moves;
+      leaves = λ f. kind_well _ _ false f _ _ _ _ _ (live_leaves c.requires.stands.1.1 c.requires.full c.requires.ready _ refl c.requires.may).is refl refl c.make_live.ensures.moves;
+      hand = λ v owner s. outer_live v (g.P.Port.value c.args.port.now) d owner c.args.table s (live_hand s c.args.table.own refl d c.make_live.ensures.hand);
+      serves = λ owner u r ds a. piece_rest u _ r owner _ [] ds
+          (piece_left c.requires.stands.1.1 _ (live_leaves c.requires.stands.1.1 c.requires.full c.requires.ready _ refl c.requires.may).is refl c.make_live.ensures.moves u r owner [] ds a);
+      course = search rules;
+    }

@@ -1,50 +1,27 @@
-use Rattle.std.proofs.Common.{[], false, refl}
+use Rattle.std.proofs.Common.{[], false, refl, rules}
 use Rattle.answer_fits.specs.Asked.{of_back}
 use Rattle.answer_fits.proofs.Piecing.{serves_came, serves_then}
 use Rattle.step_maker.proofs.Coming.{came_trans}
 use Rattle.frame_words.specs.Freeing.{PutBy}
-use Rattle.level_validate.proofs.Forward.{forward_by, forward_step, forward_then}
-use Rattle.level_validate.proofs.Onward.{put_onward}
-use Rattle.level_validate.proofs.LeftWell.{put_plain, well_by, well_step, well_then}
-use Rattle.level_validate.proofs.Sharing.{back_given, back_puts, never_last}
+use Rattle.level_validate.proofs.Steps.{forward_by, forward_step, forward_then, put_plain, well_by, well_step, well_then}
+use Rattle.level_validate.proofs.Entered.{back_given, back_puts, never_last}
 use Rattle.level_validate.proofs.completing.give_back.Goals as goal
 
 pub unreachable-requires : goal.unreachable-requires
-unreachable-requires g c = never_last (g.P.Port.value c.args.port.now) (g.P.Port.value c.drop_type.new.port) c.args.frame c.drop_type.result c.drop_type.ensures.drops c.requires.gives c.if-drop_type.true
+unreachable-requires g c = never_last c.drop_type.ensures.drops c.requires.gives c.if-drop_type.true
 
 pub put_ref-requires-clause-gives : goal.put_ref-requires-clause-gives
-put_ref-requires-clause-gives g c = back_puts (g.P.Port.value c.args.port.now) (g.P.Port.value c.drop_type.new.port) c.args.frame c.drop_type.result c.drop_type.ensures.drops c.if-drop_type.false
+put_ref-requires-clause-gives g c = back_puts c.drop_type.ensures.drops c.if-drop_type.false
 
-pub returns-clause-came : goal.returns-clause-came
-returns-clause-came g c =
-    let v = g.P.Port.value c.args.port.now in
+pub returns : goal.returns
+returns g c =
     let a = g.P.Port.value c.drop_type.new.port in
-    let w = g.P.Port.value c.put_ref.new.port in
-    came_trans v a w (serves_came v a (of_back c.args.frame) [] c.drop_type.ensures.serves) (serves_came a w (of_back c.args.frame) [] c.put_ref.ensures.serves)
-
-pub returns-clause-hand : goal.returns-clause-hand
-returns-clause-hand g c =
-    back_given (g.P.Port.value c.args.port.now) (g.P.Port.value c.drop_type.new.port) c.args.frame c.drop_type.result c.drop_type.ensures.drops c.if-drop_type.false (g.P.Port.value c.put_ref.new.port) c.put_ref.ensures.hand
-
-pub returns-clause-serves : goal.returns-clause-serves
-returns-clause-serves g c =
-    let v = g.P.Port.value c.args.port.now in
-    let a = g.P.Port.value c.drop_type.new.port in
-    let w = g.P.Port.value c.put_ref.new.port in
-    serves_then v a w (of_back c.args.frame) [] [] c.drop_type.ensures.serves c.put_ref.ensures.serves
-
-pub returns-clause-forward : goal.returns-clause-forward
-returns-clause-forward g c =
-    let v = g.P.Port.value c.args.port.now in
-    let a = g.P.Port.value c.drop_type.new.port in
-    let w = g.P.Port.value c.put_ref.new.port in
     let drops = c.drop_type.ensures.drops in
-    forward_then v a w (forward_step v a _ _ _ _ drops.found refl refl drops.lowers.step) (forward_by a w (PutBy c.args.frame) (λ vs puts. put_onward c.args.frame vs puts) c.put_ref.ensures.puts)
-
-pub returns-clause-leaves : goal.returns-clause-leaves
-returns-clause-leaves g c f =
-    let v = g.P.Port.value c.args.port.now in
-    let a = g.P.Port.value c.drop_type.new.port in
-    let w = g.P.Port.value c.put_ref.new.port in
-    let drops = c.drop_type.ensures.drops in
-    well_then v a w false f (well_step v a false f _ _ _ _ drops.found refl drops.lowers.step) (well_by a w false f (PutBy c.args.frame) (λ vs puts. put_plain c.args.frame vs puts) c.put_ref.ensures.puts)
+    record {
+      came = came_trans _ a _ (serves_came _ a (of_back c.args.frame) [] c.drop_type.ensures.serves) (serves_came a _ (of_back c.args.frame) [] c.put_ref.ensures.serves);
+      forward = forward_then _ a _ (forward_step _ a _ _ _ _ drops.found refl refl drops.lowers.step) (forward_by a _ (PutBy c.args.frame) (λ vs puts. put_plain _ vs puts) c.put_ref.ensures.puts);
+      leaves = λ f. well_then _ a _ false f (well_step _ a false f _ _ _ _ drops.found refl drops.lowers.step) (well_by a _ false f (PutBy c.args.frame) (λ vs puts. put_plain _ vs puts) c.put_ref.ensures.puts);
+      hand = back_given c.drop_type.ensures.drops c.if-drop_type.false (g.P.Port.value c.put_ref.new.port) c.put_ref.ensures.hand;
+      serves = serves_then _ a _ (of_back c.args.frame) [] [] c.drop_type.ensures.serves c.put_ref.ensures.serves;
+      course = search rules;
+    }

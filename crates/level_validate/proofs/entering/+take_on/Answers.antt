@@ -1,4 +1,4 @@
-use Rattle.std.proofs.Common.{◌+◌, ◌-◌, ◌∷◌, [], drop, true, false, Err, sym, ap, ◌∙◌, subst, arith}
+use Rattle.std.proofs.Common.{◌+◌, ◌-◌, [], false, Err, sym, ap, ◌∙◌, subst, arith, refl, rules}
 use Rattle.std.proofs.lemmas.Result.{err_from_is_err_and}
 use Rattle.xp_words.specs.Entries.{below}
 use Rattle.xp_words.specs.declared.kind.PageType.{PageType}
@@ -8,441 +8,202 @@ use Rattle.answer_fits.proofs.Piecing.{serves_came}
 use Rattle.frame_types.specs.Taking.{IsOfOther}
 use Rattle.table_entries.specs.Asking.{of_entries}
 use Rattle.table_entries.specs.Tops.{WorksAtTop}
-use Rattle.table_entries.specs.declared.resuming.Resumed.TheVariants as again
 use Rattle.partial_state.specs.Levels.{level_type}
 use Rattle.partial_state.specs.Weights.{weight}
 use Rattle.level_validate.specs.Tables.{Carries}
-use Rattle.level_validate.proofs.Asking.{goes_answer, goes_entries, goes_on, stops_answer, stops_entries}
-use Rattle.level_validate.proofs.Entered.{after_look, back_one}
-use Rattle.level_validate.proofs.Forward.{forward_nothing, forward_then}
-use Rattle.level_validate.proofs.LeavingTables.{top_inside}
-use Rattle.level_validate.proofs.LeftWell.{well_nothing, well_then}
-use Rattle.level_validate.proofs.LeftWellEntries.{resumes_well}
-use Rattle.level_validate.proofs.LookedAgain.{again_came, again_forward, again_then, again_well, said_again, settled_ready, settled_stands}
-use Rattle.level_validate.proofs.Lowering.{again_lowers}
-use Rattle.level_validate.proofs.OnwardEntries.{resumes_forward}
-use Rattle.level_validate.proofs.OpenedAgain.{opened_may, opened_ready, opened_serves, opened_stands, opened_stops, opened_table, top_low}
-use Rattle.level_validate.proofs.Pushing.{pushed}
-use Rattle.level_validate.proofs.Rising.{progress_answer}
-use Rattle.level_validate.proofs.Serving.{goes_nothing}
-use Rattle.level_validate.proofs.Standing.{standing_above, standing_held, standing_looked, standing_top}
-use Rattle.level_validate.proofs.TakenOn.{fresh_on, opened_on, resumed_err, settled_on, shared_left, stopped_on, taken_on, waiting_on}
-use Rattle.level_validate.proofs.TookAgain.{took_gives, took_inside, took_progress, took_ready, took_serves, took_stands}
-use Rattle.level_validate.proofs.Visited.{resumed_first}
-use Rattle.level_validate.proofs.WaitedAgain.{shared_forward, shared_well, waited_inside, waited_kinds, waited_serves, waited_stands, waited_stops, waited_waits}
+use Rattle.level_validate.proofs.Serving.{goes_answer, goes_entries, goes_on, stops_answer, stops_entries, goes_nothing}
+use Rattle.level_validate.proofs.Entered.{after_look, back_one, again_lowers, fresh_ready}
+use Rattle.level_validate.proofs.Steps.{forward_nothing, forward_then, well_nothing, well_then}
+use Rattle.level_validate.proofs.Standing.{top_inside, standing_above, standing_held, standing_looked, standing_top}
+use Rattle.level_validate.proofs.LeftWellEntries.{resumes_forward, resumes_well}
+use Rattle.level_validate.proofs.LookedAgain.{again_came, again_forward, again_then, again_well, said_again, settled_ready, settled_stands, again_on_top, opened_may, opened_standing, opened_stops, opened_table, top_low, fresh_on, opened_on, resumed_err, settled_on, shared_left, stopped_on, taken_on, waiting_on, took_gives, took_inside, took_progress, took_ready, took_serves, took_stands, shared_forward, shared_well, waited_inside, waited_kinds, waited_serves, waited_stands, waited_stops, waited_waits}
+use Rattle.level_validate.proofs.Filling.{progress_answer}
+use Rattle.level_validate.proofs.Opening.{resumed_first}
+use Rattle.table_entries.specs.declared.resuming.Resumed.TheVariants as again
 use Rattle.level_validate.proofs.entering.+take_on.Goals as goal
 
 -- ---- none of its entries is recorded
 
-pub returns-then-top-eq0-clause-came : goal.returns-then-top-eq0-clause-came
-returns-then-top-eq0-clause-came g n c = came_self (g.P.Port.value c.args.port.now)
-
-pub returns-then-top-eq0-clause-ready : goal.returns-then-top-eq0-clause-ready
-returns-then-top-eq0-clause-ready g n c = c.requires.fresh c.if-top-eq0.true
-
-pub returns-then-top-eq0-clause-serves : goal.returns-then-top-eq0-clause-serves
-returns-then-top-eq0-clause-serves g n c = goes_nothing (g.P.Port.value c.args.port.now) c.args.owner c.args.stack.now
-
-pub returns-then-top-eq0-clause-forward : goal.returns-then-top-eq0-clause-forward
-returns-then-top-eq0-clause-forward g n c = forward_nothing (g.P.Port.value c.args.port.now)
-
-pub returns-then-top-eq0-clause-leaves : goal.returns-then-top-eq0-clause-leaves
-returns-then-top-eq0-clause-leaves g n c e = well_nothing (g.P.Port.value c.args.port.now) false e
-
-pub returns-then-top-eq0-clause-course : goal.returns-then-top-eq0-clause-course
-returns-then-top-eq0-clause-course g n c = fresh_on c.args.owner (g.P.Port.value c.args.port.now) c.args.top (drop 1 c.args.stack.now) c.args.stack.now c.requires.top c.if-top-eq0.true
+pub returns-then-top-eq0 : goal.returns-then-top-eq0
+returns-then-top-eq0 g n c =
+    record {
+      came = came_self _;
+      forward = forward_nothing _;
+      leaves = λ e. well_nothing _ false e;
+      stands = search rules;
+      ready = c.requires.fresh c.if-top-eq0.true;
+      kinds = search rules;
+      outer = search rules;
+      progress = search rules;
+      less = search rules;
+      serves = goes_nothing _ _ _;
+      stops = search rules;
+      course = fresh_on _ _ c.requires.top c.if-top-eq0.true;
+    }
 
 -- ---- its last one is looked at
 
-pub resume_entry-requires-clause-frame : goal.resume_entry-requires-clause-frame
-resume_entry-requires-clause-frame g n c =
-    let a = c.requires.stands in
-    top_inside a.0 (g.P.Port.value c.args.port.now) c.args.owner c.args.top (drop 1 c.args.stack.now) (subst (λ xs. Carries a.0 (g.P.Port.value c.args.port.now) c.args.owner xs) c.requires.top a.1)
-
-pub resume_entry-requires-clause-works : goal.resume_entry-requires-clause-works
-resume_entry-requires-clause-works g n c =
+pub resume_entry-requires : goal.resume_entry-requires
+resume_entry-requires g n c =
     let a = c.requires.stands in
     let u = g.P.Port.value c.args.port.now in
-    let t = c.args.top in
-    let one = sym (back_one t.done c.if-top-eq0.false) in
-    subst (λ (k : PageType). WorksAtTop t.frame k (t.done - 1 + 1) u.holdings) (sym c.level_type.ensures)
-    (subst (λ n. WorksAtTop t.frame (level_type t.level) n u.holdings) one (standing_top a.0 u c.args.owner t (drop 1 c.args.stack.now) (subst (λ xs. Carries a.0 u c.args.owner xs) c.requires.top a.1)))
-
-pub resume_entry-requires-clause-held : goal.resume_entry-requires-clause-held
-resume_entry-requires-clause-held g n c =
-    let a = c.requires.stands in
-    standing_held a.0 (g.P.Port.value c.args.port.now) c.args.owner c.args.top (drop 1 c.args.stack.now) (subst (λ xs. Carries a.0 (g.P.Port.value c.args.port.now) c.args.owner xs) c.requires.top a.1)
-
-pub resume_entry-requires-clause-above : goal.resume_entry-requires-clause-above
-resume_entry-requires-clause-above g n c f =
-    let a = c.requires.stands in
-    let u = g.P.Port.value c.args.port.now in
-    subst (λ (k : PageType). IsOfOther f (below k) u.holdings) (sym c.level_type.ensures)
-    (standing_above a.0 u c.args.owner c.args.top (drop 1 c.args.stack.now) (subst (λ xs. Carries a.0 u c.args.owner xs) c.requires.top a.1) f)
-
-pub resume_entry-requires-clause-looked : goal.resume_entry-requires-clause-looked
-resume_entry-requires-clause-looked g n c =
-    let a = c.requires.stands in
-    standing_looked a.0 (g.P.Port.value c.args.port.now) c.args.owner c.args.top (drop 1 c.args.stack.now) (subst (λ xs. Carries a.0 (g.P.Port.value c.args.port.now) c.args.owner xs) c.requires.top a.1)
+    let one = sym (back_one _ c.if-top-eq0.false) in
+    record {
+      frame = top_inside (subst (λ xs. Carries a.0 (g.P.Port.value c.args.port.now) c.args.owner xs) c.requires.top a.1);
+      index = search rules;
+      may = search rules;
+      works = subst (λ (k : PageType). WorksAtTop c.args.top.frame k (c.args.top.done - 1 + 1) u.holdings) (sym c.level_type.ensures)
+          (subst (λ n. WorksAtTop c.args.top.frame (level_type c.args.top.level) n u.holdings) one (standing_top (subst (λ xs. Carries a.0 u c.args.owner xs) c.requires.top a.1)));
+      held = standing_held (subst (λ xs. Carries a.0 (g.P.Port.value c.args.port.now) c.args.owner xs) c.requires.top a.1);
+      above = λ f. subst (λ (k : PageType). IsOfOther f (below k) u.holdings) (sym c.level_type.ensures)
+          (standing_above (subst (λ xs. Carries a.0 u c.args.owner xs) c.requires.top a.1) f);
+      looked = standing_looked (subst (λ xs. Carries a.0 (g.P.Port.value c.args.port.now) c.args.owner xs) c.requires.top a.1);
+    }
 
 -- ---- that stops
 
-pub returns-in_err-resume_entry-clause-came : goal.returns-in_err-resume_entry-clause-came
-returns-in_err-resume_entry-clause-came g n c = serves_came (g.P.Port.value c.args.port.now) (g.P.Port.value c.resume_entry.new.port) (of_entries c.args.owner 0) _ (c.in_err-resume_entry.ensures.serves 0)
-
-pub returns-in_err-resume_entry-clause-stands : goal.returns-in_err-resume_entry-clause-stands
-returns-in_err-resume_entry-clause-stands g n c v s =
+pub returns-in_err-resume_entry : goal.returns-in_err-resume_entry
+returns-in_err-resume_entry g n c =
     let u = g.P.Port.value c.args.port.now in
-    let w = g.P.Port.value c.resume_entry.new.port in
-    let found = c.in_err-resume_entry.ensures.found in
-    subst (λ xs. Carries v w c.args.owner xs) (sym c.requires.top)
-    (after_look v u w c.args.owner c.args.top (drop 1 c.args.stack.now) (subst (λ xs. Carries v u c.args.owner xs) c.requires.top s) (serves_came u w (of_entries c.args.owner 0) _ (c.in_err-resume_entry.ensures.serves 0))
-    (resumed_first u w c.args.top.frame (c.args.top.done - 1) c.level_type.result c.args.owner _ found) (c.args.top.done - 1) c.in_err-resume_entry.ensures.hand)
-
-pub returns-in_err-resume_entry-clause-serves : goal.returns-in_err-resume_entry-clause-serves
-returns-in_err-resume_entry-clause-serves g n c =
-    let u = g.P.Port.value c.args.port.now in
-    let x = g.P.Port.value c.resume_entry.new.port in
     let answer = err_from_is_err_and c.from_residual.result c.from_residual.ensures.1 in
-    goes_answer u x c.args.owner c.args.stack.now c.args.stack.now c.from_residual.result c.in_err-resume_entry.field-0.0 (answer.1 ∙ ap Err answer.2)
-    (goes_entries u x c.args.owner c.args.stack.now (missed u.post.machine c.in_err-resume_entry.field-0.0) c.in_err-resume_entry.ensures.serves)
-
-pub returns-in_err-resume_entry-clause-stops : goal.returns-in_err-resume_entry-clause-stops
-returns-in_err-resume_entry-clause-stops g n c =
-    let u = g.P.Port.value c.args.port.now in
-    let x = g.P.Port.value c.resume_entry.new.port in
     let e = c.in_err-resume_entry.field-0.0 in
-    let answer = err_from_is_err_and c.from_residual.result c.from_residual.ensures.1 in
-    stops_answer u x c.args.owner c.args.stack.now c.from_residual.result e (answer.1 ∙ ap Err answer.2) (stops_entries u x c.args.owner c.args.stack.now e c.in_err-resume_entry.ensures.stops)
-
-pub returns-in_err-resume_entry-clause-forward : goal.returns-in_err-resume_entry-clause-forward
-returns-in_err-resume_entry-clause-forward g n c =
-    resumes_forward (g.P.Port.value c.args.port.now) (g.P.Port.value c.resume_entry.new.port) c.args.owner c.args.top c.args.stack.now c.requires.top c.requires.stands c.level_type.result c.level_type.ensures _ c.if-top-eq0.false
-    c.in_err-resume_entry.ensures.found
-
-pub returns-in_err-resume_entry-clause-leaves : goal.returns-in_err-resume_entry-clause-leaves
-returns-in_err-resume_entry-clause-leaves g n c e = resumes_well (g.P.Port.value c.args.port.now) (g.P.Port.value c.resume_entry.new.port) e c.args.top.frame (c.args.top.done - 1) c.level_type.result c.args.owner _ c.in_err-resume_entry.ensures.found
-
-pub returns-in_err-resume_entry-clause-course : goal.returns-in_err-resume_entry-clause-course
-returns-in_err-resume_entry-clause-course g n c =
-    let u = g.P.Port.value c.args.port.now in
-    let x = g.P.Port.value c.resume_entry.new.port in
-    let t = c.args.top in
-    let e = c.in_err-resume_entry.field-0.0 in
-    let answer = err_from_is_err_and c.from_residual.result c.from_residual.ensures.1 in
-    let stopped = c.in_err-resume_entry.ensures in
-    stopped_on c.args.owner u t (drop 1 c.args.stack.now) c.args.stack.now c.requires.top c.if-top-eq0.false x c.from_residual.result e (answer.1 ∙ ap Err answer.2)
-    (resumed_err u x c.args.owner t c.level_type.result c.level_type.ensures e stopped.found stopped.plain stopped.stops)
+    record {
+      came = serves_came _ _ (of_entries c.args.owner 0) _ (c.in_err-resume_entry.ensures.serves 0);
+      forward = resumes_forward _ _ _ c.requires.top c.requires.stands c.level_type.ensures _ c.if-top-eq0.false
+          c.in_err-resume_entry.ensures.found;
+      leaves = λ e. resumes_well _ _ _ _ (c.args.top.done - 1) _ _ _ c.in_err-resume_entry.ensures.found;
+      stands = λ v s. subst (λ xs. Carries v (g.P.Port.value c.resume_entry.new.port) c.args.owner xs) (sym c.requires.top)
+          (after_look _ (subst (λ xs. Carries v u c.args.owner xs) c.requires.top s) (serves_came _ _ (of_entries c.args.owner 0) _ (c.in_err-resume_entry.ensures.serves 0))
+          (resumed_first _ _ _ (c.args.top.done - 1) _ _ _ c.in_err-resume_entry.ensures.found) (c.args.top.done - 1) c.in_err-resume_entry.ensures.hand);
+      ready = search rules;
+      kinds = search rules;
+      outer = search rules;
+      progress = search rules;
+      less = search rules;
+      serves = goes_answer _ _ _ _ _ _ c.in_err-resume_entry.field-0.0 (answer.1 ∙ ap Err answer.2)
+          (goes_entries _ _ _ _ (missed u.post.machine c.in_err-resume_entry.field-0.0) c.in_err-resume_entry.ensures.serves);
+      stops = stops_answer _ _ _ _ _ _ (answer.1 ∙ ap Err answer.2) (stops_entries _ _ _ _ _ c.in_err-resume_entry.ensures.stops);
+      course = stopped_on _ _ c.requires.top c.if-top-eq0.false _ _ _ (answer.1 ∙ ap Err answer.2)
+          (resumed_err _ _ _ _ c.level_type.ensures _ c.in_err-resume_entry.ensures.found c.in_err-resume_entry.ensures.plain c.in_err-resume_entry.ensures.stops);
+    }
 
 -- ---- it is settled
 
-pub returns-in-Settled-clause-came : goal.returns-in-Settled-clause-came
-returns-in-Settled-clause-came g n c = serves_came (g.P.Port.value c.args.port.now) (g.P.Port.value c.resume_entry.new.port) (of_entries c.args.owner 0) [] (c.in_ok-resume_entry.ensures.serves 0)
-
-pub returns-in-Settled-clause-stands : goal.returns-in-Settled-clause-stands
-returns-in-Settled-clause-stands g n c =
-    let u = g.P.Port.value c.args.port.now in
-    let x = g.P.Port.value c.resume_entry.new.port in
+pub returns-in-Settled : goal.returns-in-Settled
+returns-in-Settled g n c =
     let e = c.in_ok-resume_entry.ensures in
-    let said = said_again u x c.args.owner c.args.top c.level_type.result c.level_type.ensures c.in_ok-resume_entry.field-0 again.Settled c.in-Settled.is e.found e.plain e.shows e.serves e.hand in
-    settled_stands u x c.args.owner c.args.top c.args.stack.now c.requires.top said
-
-pub returns-in-Settled-clause-ready : goal.returns-in-Settled-clause-ready
-returns-in-Settled-clause-ready g n c =
-    let u = g.P.Port.value c.args.port.now in
-    let x = g.P.Port.value c.resume_entry.new.port in
-    let e = c.in_ok-resume_entry.ensures in
-    let said = said_again u x c.args.owner c.args.top c.level_type.result c.level_type.ensures c.in_ok-resume_entry.field-0 again.Settled c.in-Settled.is e.found e.plain e.shows e.serves e.hand in
-    settled_ready u x c.args.owner c.args.top c.args.stack.now c.requires.top said c.requires.stands
-
-pub returns-in-Settled-clause-serves : goal.returns-in-Settled-clause-serves
-returns-in-Settled-clause-serves g n c = goes_entries (g.P.Port.value c.args.port.now) (g.P.Port.value c.resume_entry.new.port) c.args.owner c.args.stack.now [] c.in_ok-resume_entry.ensures.serves
-
-pub returns-in-Settled-clause-forward : goal.returns-in-Settled-clause-forward
-returns-in-Settled-clause-forward g n c =
-    let u = g.P.Port.value c.args.port.now in
-    let x = g.P.Port.value c.resume_entry.new.port in
-    let e = c.in_ok-resume_entry.ensures in
-    let said = said_again u x c.args.owner c.args.top c.level_type.result c.level_type.ensures c.in_ok-resume_entry.field-0 again.Settled c.in-Settled.is e.found e.plain e.shows e.serves e.hand in
-    again_forward u x c.args.owner c.args.top again.Settled said c.args.stack.now c.requires.top c.requires.stands c.if-top-eq0.false
-
-pub returns-in-Settled-clause-leaves : goal.returns-in-Settled-clause-leaves
-returns-in-Settled-clause-leaves g n c =
-    let u = g.P.Port.value c.args.port.now in
-    let x = g.P.Port.value c.resume_entry.new.port in
-    let e = c.in_ok-resume_entry.ensures in
-    let said = said_again u x c.args.owner c.args.top c.level_type.result c.level_type.ensures c.in_ok-resume_entry.field-0 again.Settled c.in-Settled.is e.found e.plain e.shows e.serves e.hand in
-    again_well u x c.args.owner c.args.top again.Settled said
-
-pub returns-in-Settled-clause-course : goal.returns-in-Settled-clause-course
-returns-in-Settled-clause-course g n c =
-    let u = g.P.Port.value c.args.port.now in
-    let x = g.P.Port.value c.resume_entry.new.port in
-    let e = c.in_ok-resume_entry.ensures in
-    let said = said_again u x c.args.owner c.args.top c.level_type.result c.level_type.ensures c.in_ok-resume_entry.field-0 again.Settled c.in-Settled.is e.found e.plain e.shows e.serves e.hand in
-    settled_on c.args.owner u c.args.top (drop 1 c.args.stack.now) c.args.stack.now c.requires.top c.if-top-eq0.false x said.entry
+    let said = said_again _ _ _ _ _ c.level_type.ensures c.in_ok-resume_entry.field-0 again.Settled c.in-Settled.is e.found e.plain e.shows e.serves e.hand in
+    record {
+      came = serves_came _ _ (of_entries c.args.owner 0) [] (e.serves 0);
+      forward = again_forward said _ c.requires.top c.requires.stands c.if-top-eq0.false;
+      leaves = again_well said;
+      stands = settled_stands c.requires.top said;
+      ready = settled_ready c.requires.top said c.requires.stands;
+      kinds = tt;
+      outer = refl;
+      progress = search rules;
+      less = search rules;
+      serves = goes_entries _ _ _ _ [] e.serves;
+      stops = tt;
+      course = settled_on _ _ c.requires.top c.if-top-eq0.false _ said.entry;
+    }
 
 -- ---- its frame was live
 
-pub give_back-requires-clause-frame : goal.give_back-requires-clause-frame
-give_back-requires-clause-frame g n c =
-    let u = g.P.Port.value c.args.port.now in
-    let x = g.P.Port.value c.resume_entry.new.port in
+pub give_back-requires : goal.give_back-requires
+give_back-requires g n c =
     let e = c.in_ok-resume_entry.ensures in
-    let said = said_again u x c.args.owner c.args.top c.level_type.result c.level_type.ensures c.in_ok-resume_entry.field-0 (again.Taken c.in-Taken.frame) c.in-Taken.is e.found e.plain e.shows e.serves e.hand in
-    took_inside u x c.args.owner c.args.top c.args.stack.now c.requires.top c.if-top-eq0.false c.in-Taken.frame said
+    let said = said_again _ _ _ _ _ c.level_type.ensures c.in_ok-resume_entry.field-0 (again.Taken c.in-Taken.frame) c.in-Taken.is e.found e.plain e.shows e.serves e.hand in
+    record {
+      frame = took_inside c.requires.top c.if-top-eq0.false said;
+      may = search rules;
+      gives = took_gives c.requires.top c.if-top-eq0.false said c.requires.stands;
+    }
 
-pub give_back-requires-clause-gives : goal.give_back-requires-clause-gives
-give_back-requires-clause-gives g n c =
-    let u = g.P.Port.value c.args.port.now in
-    let x = g.P.Port.value c.resume_entry.new.port in
+pub returns-in-Taken : goal.returns-in-Taken
+returns-in-Taken g n c =
     let e = c.in_ok-resume_entry.ensures in
-    let said = said_again u x c.args.owner c.args.top c.level_type.result c.level_type.ensures c.in_ok-resume_entry.field-0 (again.Taken c.in-Taken.frame) c.in-Taken.is e.found e.plain e.shows e.serves e.hand in
-    took_gives u x c.args.owner c.args.top c.args.stack.now c.requires.top c.if-top-eq0.false c.in-Taken.frame said c.requires.stands
-
-pub returns-in-Taken-clause-came : goal.returns-in-Taken-clause-came
-returns-in-Taken-clause-came g n c =
-    let u = g.P.Port.value c.args.port.now in
-    let x = g.P.Port.value c.resume_entry.new.port in
-    let e = c.in_ok-resume_entry.ensures in
-    let said = said_again u x c.args.owner c.args.top c.level_type.result c.level_type.ensures c.in_ok-resume_entry.field-0 (again.Taken c.in-Taken.frame) c.in-Taken.is e.found e.plain e.shows e.serves e.hand in
-    again_then u x c.args.owner c.args.top (again.Taken c.in-Taken.frame) said (g.P.Port.value c.give_back.new.port) c.give_back.ensures.came
-
-pub returns-in-Taken-clause-stands : goal.returns-in-Taken-clause-stands
-returns-in-Taken-clause-stands g n c =
-    let u = g.P.Port.value c.args.port.now in
-    let x = g.P.Port.value c.resume_entry.new.port in
-    let e = c.in_ok-resume_entry.ensures in
-    let said = said_again u x c.args.owner c.args.top c.level_type.result c.level_type.ensures c.in_ok-resume_entry.field-0 (again.Taken c.in-Taken.frame) c.in-Taken.is e.found e.plain e.shows e.serves e.hand in
-    took_stands u x c.args.owner c.args.top c.args.stack.now c.requires.top c.if-top-eq0.false c.in-Taken.frame said (g.P.Port.value c.give_back.new.port) c.give_back.ensures.hand c.give_back.ensures.came
-
-pub returns-in-Taken-clause-ready : goal.returns-in-Taken-clause-ready
-returns-in-Taken-clause-ready g n c =
-    let u = g.P.Port.value c.args.port.now in
-    let x = g.P.Port.value c.resume_entry.new.port in
-    let e = c.in_ok-resume_entry.ensures in
-    let said = said_again u x c.args.owner c.args.top c.level_type.result c.level_type.ensures c.in_ok-resume_entry.field-0 (again.Taken c.in-Taken.frame) c.in-Taken.is e.found e.plain e.shows e.serves e.hand in
-    took_ready u x c.args.owner c.args.top c.args.stack.now c.requires.top c.if-top-eq0.false c.in-Taken.frame said (g.P.Port.value c.give_back.new.port) c.give_back.ensures.hand c.give_back.ensures.came c.requires.stands
-
-pub returns-in-Taken-clause-progress : goal.returns-in-Taken-clause-progress
-returns-in-Taken-clause-progress g n c is =
-    let u = g.P.Port.value c.args.port.now in
-    let x = g.P.Port.value c.resume_entry.new.port in
-    let e = c.in_ok-resume_entry.ensures in
-    let said = said_again u x c.args.owner c.args.top c.level_type.result c.level_type.ensures c.in_ok-resume_entry.field-0 (again.Taken c.in-Taken.frame) c.in-Taken.is e.found e.plain e.shows e.serves e.hand in
-    took_progress u x c.args.owner c.args.top c.args.stack.now c.requires.top c.if-top-eq0.false c.in-Taken.frame said (g.P.Port.value c.give_back.new.port) c.give_back.ensures.came
-
-pub returns-in-Taken-clause-serves : goal.returns-in-Taken-clause-serves
-returns-in-Taken-clause-serves g n c =
-    let u = g.P.Port.value c.args.port.now in
-    let x = g.P.Port.value c.resume_entry.new.port in
-    let e = c.in_ok-resume_entry.ensures in
-    let said = said_again u x c.args.owner c.args.top c.level_type.result c.level_type.ensures c.in_ok-resume_entry.field-0 (again.Taken c.in-Taken.frame) c.in-Taken.is e.found e.plain e.shows e.serves e.hand in
-    took_serves u x c.args.owner c.args.top c.args.stack.now c.requires.top c.if-top-eq0.false c.in-Taken.frame said (g.P.Port.value c.give_back.new.port) c.give_back.ensures.serves
-
-pub returns-in-Taken-clause-forward : goal.returns-in-Taken-clause-forward
-returns-in-Taken-clause-forward g n c =
-    let u = g.P.Port.value c.args.port.now in
-    let x = g.P.Port.value c.resume_entry.new.port in
-    let e = c.in_ok-resume_entry.ensures in
-    let said = said_again u x c.args.owner c.args.top c.level_type.result c.level_type.ensures c.in_ok-resume_entry.field-0 (again.Taken c.in-Taken.frame) c.in-Taken.is e.found e.plain e.shows e.serves e.hand in
-    forward_then u x (g.P.Port.value c.give_back.new.port) (again_forward u x c.args.owner c.args.top (again.Taken c.in-Taken.frame) said c.args.stack.now c.requires.top c.requires.stands c.if-top-eq0.false) c.give_back.ensures.forward
-
-pub returns-in-Taken-clause-leaves : goal.returns-in-Taken-clause-leaves
-returns-in-Taken-clause-leaves g n c f =
-    let u = g.P.Port.value c.args.port.now in
-    let x = g.P.Port.value c.resume_entry.new.port in
-    let e = c.in_ok-resume_entry.ensures in
-    let said = said_again u x c.args.owner c.args.top c.level_type.result c.level_type.ensures c.in_ok-resume_entry.field-0 (again.Taken c.in-Taken.frame) c.in-Taken.is e.found e.plain e.shows e.serves e.hand in
-    well_then u x (g.P.Port.value c.give_back.new.port) false f (again_well u x c.args.owner c.args.top (again.Taken c.in-Taken.frame) said f) (c.give_back.ensures.leaves f)
-
-pub returns-in-Taken-clause-course : goal.returns-in-Taken-clause-course
-returns-in-Taken-clause-course g n c =
-    let u = g.P.Port.value c.args.port.now in
-    let x = g.P.Port.value c.resume_entry.new.port in
-    let e = c.in_ok-resume_entry.ensures in
-    let said = said_again u x c.args.owner c.args.top c.level_type.result c.level_type.ensures c.in_ok-resume_entry.field-0 (again.Taken c.in-Taken.frame) c.in-Taken.is e.found e.plain e.shows e.serves e.hand in
-    taken_on c.args.owner u c.args.top (drop 1 c.args.stack.now) c.args.stack.now c.requires.top c.if-top-eq0.false x (g.P.Port.value c.give_back.new.port) c.in-Taken.frame said.entry c.give_back.ensures.course
+    let said = said_again _ _ _ _ _ c.level_type.ensures c.in_ok-resume_entry.field-0 (again.Taken c.in-Taken.frame) c.in-Taken.is e.found e.plain e.shows e.serves e.hand in
+    record {
+      came = again_then said _ c.give_back.ensures.came;
+      forward = forward_then _ _ _ (again_forward said _ c.requires.top c.requires.stands c.if-top-eq0.false) c.give_back.ensures.forward;
+      leaves = λ f. well_then _ _ _ false f (again_well said f) (c.give_back.ensures.leaves f);
+      stands = took_stands c.requires.top c.if-top-eq0.false said _ c.give_back.ensures.hand c.give_back.ensures.came;
+      ready = took_ready c.requires.top c.if-top-eq0.false said _ c.give_back.ensures.hand c.give_back.ensures.came c.requires.stands;
+      kinds = search rules;
+      outer = search rules;
+      progress = λ is. let said = said_again _ _ _ _ _ c.level_type.ensures c.in_ok-resume_entry.field-0 (again.Taken c.in-Taken.frame) c.in-Taken.is e.found e.plain e.shows e.serves e.hand in
+          took_progress c.requires.top c.if-top-eq0.false said _ c.give_back.ensures.came;
+      less = search rules;
+      serves = took_serves c.requires.top c.if-top-eq0.false said _ c.give_back.ensures.serves;
+      stops = search rules;
+      course = taken_on _ _ c.requires.top c.if-top-eq0.false _ _ _ said.entry c.give_back.ensures.course;
+    }
 
 -- ---- it names a table that was left unfinished
 
 pub push-requires-clause-table : goal.push-requires-clause-table
 push-requires-clause-table g n c =
-    let u = g.P.Port.value c.args.port.now in
-    let x = g.P.Port.value c.resume_entry.new.port in
     let e = c.in_ok-resume_entry.ensures in
-    let said = said_again u x c.args.owner c.args.top c.level_type.result c.level_type.ensures c.in_ok-resume_entry.field-0 (again.Opened c.in-Opened.frame c.in-Opened.progress) c.in-Opened.is e.found e.plain e.shows e.serves e.hand in
-    opened_table u x c.args.owner c.args.top c.args.stack.now c.requires.top c.if-top-eq0.false c.in-Opened.frame c.in-Opened.progress said c.requires.stands
+    let said = said_again _ _ _ _ _ c.level_type.ensures c.in_ok-resume_entry.field-0 (again.Opened c.in-Opened.frame c.in-Opened.progress) c.in-Opened.is e.found e.plain e.shows e.serves e.hand in
+    opened_table (again_on_top c.requires.top c.if-top-eq0.false said refl c.requires.stands) c.requires.stands
 
 pub take_on-requires : goal.take_on-requires
 take_on-requires g n c κs low =
-    let u = g.P.Port.value c.args.port.now in
-    let x = g.P.Port.value c.resume_entry.new.port in
     let e = c.in_ok-resume_entry.ensures in
-    let said = said_again u x c.args.owner c.args.top c.level_type.result c.level_type.ensures c.in_ok-resume_entry.field-0 (again.Opened c.in-Opened.frame c.in-Opened.progress) c.in-Opened.is e.found e.plain e.shows e.serves e.hand in
+    let said = said_again _ _ _ _ _ c.level_type.ensures c.in_ok-resume_entry.field-0 (again.Opened c.in-Opened.frame c.in-Opened.progress) c.in-Opened.is e.found e.plain e.shows e.serves e.hand in
     let a = c.requires.stands in
-    let inner = pushed c.args.top c.in-Opened.frame c.in-Opened.progress false true in
-    let least = top_low u c.args.owner c.args.top c.args.stack.now c.requires.top a in
-    let d = c.decreases in (
-      omega (arith, d, least),
-      (
-        low,
-        (
-          opened_may u x c.args.owner c.args.top c.args.stack.now c.requires.top c.if-top-eq0.false c.in-Opened.frame c.in-Opened.progress said a c.requires.may,
-          (c.push.ensures.pushed ∙ ap (λ ys. inner ∷ ys) (sym (ap (λ ys. drop 1 ys) c.push.ensures.pushed)), ((a.0, opened_stands u x c.args.owner c.args.top c.args.stack.now c.requires.top c.if-top-eq0.false c.in-Opened.frame c.in-Opened.progress said c.push.new.self c.push.ensures.pushed a.0 a.1), λ zero. opened_ready u x c.args.owner c.args.top c.args.stack.now c.requires.top c.if-top-eq0.false c.in-Opened.frame c.in-Opened.progress said zero)),
-        ),
-      ),
-    )
+    let on = again_on_top c.requires.top c.if-top-eq0.false said c.push.ensures.pushed a in
+    (omega (arith, c.decreases, (top_low c.requires.top a)), (low, (opened_may on a c.requires.may, (on.top, (opened_standing on a, λ zero. fresh_ready _ _ _ _ _ _ _ _ _ said.hand zero)))))
 
-pub returns-in-Opened-clause-came : goal.returns-in-Opened-clause-came
-returns-in-Opened-clause-came g n c =
-    let u = g.P.Port.value c.args.port.now in
-    let x = g.P.Port.value c.resume_entry.new.port in
+pub returns-in-Opened : goal.returns-in-Opened
+returns-in-Opened g n c =
     let e = c.in_ok-resume_entry.ensures in
-    let said = said_again u x c.args.owner c.args.top c.level_type.result c.level_type.ensures c.in_ok-resume_entry.field-0 (again.Opened c.in-Opened.frame c.in-Opened.progress) c.in-Opened.is e.found e.plain e.shows e.serves e.hand in
-    again_then u x c.args.owner c.args.top (again.Opened c.in-Opened.frame c.in-Opened.progress) said (g.P.Port.value c.take_on.new.port) c.take_on.ensures.came
-
-pub returns-in-Opened-clause-stands : goal.returns-in-Opened-clause-stands
-returns-in-Opened-clause-stands g n c v s =
-    let u = g.P.Port.value c.args.port.now in
-    let x = g.P.Port.value c.resume_entry.new.port in
-    let e = c.in_ok-resume_entry.ensures in
-    let said = said_again u x c.args.owner c.args.top c.level_type.result c.level_type.ensures c.in_ok-resume_entry.field-0 (again.Opened c.in-Opened.frame c.in-Opened.progress) c.in-Opened.is e.found e.plain e.shows e.serves e.hand in
-    c.take_on.ensures.stands v (opened_stands u x c.args.owner c.args.top c.args.stack.now c.requires.top c.if-top-eq0.false c.in-Opened.frame c.in-Opened.progress said c.push.new.self c.push.ensures.pushed v s)
-
-pub returns-in-Opened-clause-progress : goal.returns-in-Opened-clause-progress
-returns-in-Opened-clause-progress g n c =
-    let u = g.P.Port.value c.args.port.now in
-    let x = g.P.Port.value c.resume_entry.new.port in
-    progress_answer u x (g.P.Port.value c.take_on.new.port) c.take_on.result (serves_came u x (of_entries c.args.owner 0) [] (c.in_ok-resume_entry.ensures.serves 0)) c.take_on.ensures.progress
-
-pub returns-in-Opened-clause-less : goal.returns-in-Opened-clause-less
-returns-in-Opened-clause-less g n c =
-    let t = c.args.top in
-    let inner = pushed t c.in-Opened.frame c.in-Opened.progress false true in
-    again_lowers c.take_on.result (weight c.take_on.new.stack) inner t (drop 1 c.args.stack.now) c.args.stack.now c.push.new.self c.push.ensures.stack c.requires.top c.push.ensures.pushed c.take_on.ensures.less
-
-pub returns-in-Opened-clause-serves : goal.returns-in-Opened-clause-serves
-returns-in-Opened-clause-serves g n c =
-    let u = g.P.Port.value c.args.port.now in
-    let x = g.P.Port.value c.resume_entry.new.port in
-    let e = c.in_ok-resume_entry.ensures in
-    let said = said_again u x c.args.owner c.args.top c.level_type.result c.level_type.ensures c.in_ok-resume_entry.field-0 (again.Opened c.in-Opened.frame c.in-Opened.progress) c.in-Opened.is e.found e.plain e.shows e.serves e.hand in
-    goes_on u x (g.P.Port.value c.take_on.new.port) c.args.owner c.args.stack.now c.push.new.self c.take_on.new.stack c.take_on.result (again_came u x c.args.owner c.args.top (again.Opened c.in-Opened.frame c.in-Opened.progress) said)
-    (opened_serves u x c.args.owner c.args.top c.args.stack.now c.requires.top c.if-top-eq0.false c.in-Opened.frame c.in-Opened.progress said c.push.new.self c.push.ensures.pushed c.requires.stands) c.take_on.ensures.serves
-
-pub returns-in-Opened-clause-stops : goal.returns-in-Opened-clause-stops
-returns-in-Opened-clause-stops g n c =
-    let u = g.P.Port.value c.args.port.now in
-    let x = g.P.Port.value c.resume_entry.new.port in
-    let e = c.in_ok-resume_entry.ensures in
-    let said = said_again u x c.args.owner c.args.top c.level_type.result c.level_type.ensures c.in_ok-resume_entry.field-0 (again.Opened c.in-Opened.frame c.in-Opened.progress) c.in-Opened.is e.found e.plain e.shows e.serves e.hand in
-    opened_stops u x c.args.owner c.args.top c.args.stack.now c.requires.top c.if-top-eq0.false c.in-Opened.frame c.in-Opened.progress said c.push.new.self c.push.ensures.pushed c.requires.stands (g.P.Port.value c.take_on.new.port) c.take_on.result c.take_on.ensures.stops
-
-pub returns-in-Opened-clause-forward : goal.returns-in-Opened-clause-forward
-returns-in-Opened-clause-forward g n c =
-    let u = g.P.Port.value c.args.port.now in
-    let x = g.P.Port.value c.resume_entry.new.port in
-    let e = c.in_ok-resume_entry.ensures in
-    let said = said_again u x c.args.owner c.args.top c.level_type.result c.level_type.ensures c.in_ok-resume_entry.field-0 (again.Opened c.in-Opened.frame c.in-Opened.progress) c.in-Opened.is e.found e.plain e.shows e.serves e.hand in
-    forward_then u x (g.P.Port.value c.take_on.new.port) (again_forward u x c.args.owner c.args.top (again.Opened c.in-Opened.frame c.in-Opened.progress) said c.args.stack.now c.requires.top c.requires.stands c.if-top-eq0.false) c.take_on.ensures.forward
-
-pub returns-in-Opened-clause-leaves : goal.returns-in-Opened-clause-leaves
-returns-in-Opened-clause-leaves g n c f =
-    let u = g.P.Port.value c.args.port.now in
-    let x = g.P.Port.value c.resume_entry.new.port in
-    let e = c.in_ok-resume_entry.ensures in
-    let said = said_again u x c.args.owner c.args.top c.level_type.result c.level_type.ensures c.in_ok-resume_entry.field-0 (again.Opened c.in-Opened.frame c.in-Opened.progress) c.in-Opened.is e.found e.plain e.shows e.serves e.hand in
-    well_then u x (g.P.Port.value c.take_on.new.port) false f (again_well u x c.args.owner c.args.top (again.Opened c.in-Opened.frame c.in-Opened.progress) said f) (c.take_on.ensures.leaves f)
-
-pub returns-in-Opened-clause-course : goal.returns-in-Opened-clause-course
-returns-in-Opened-clause-course g n c =
-    let u = g.P.Port.value c.args.port.now in
-    let x = g.P.Port.value c.resume_entry.new.port in
-    let e = c.in_ok-resume_entry.ensures in
-    let said = said_again u x c.args.owner c.args.top c.level_type.result c.level_type.ensures c.in_ok-resume_entry.field-0 (again.Opened c.in-Opened.frame c.in-Opened.progress) c.in-Opened.is e.found e.plain e.shows e.serves e.hand in
-    opened_on c.args.owner u c.args.top (drop 1 c.args.stack.now) c.args.stack.now c.requires.top c.if-top-eq0.false x (g.P.Port.value c.take_on.new.port) c.in-Opened.frame c.in-Opened.progress c.take_on.result
-    c.push.new.self c.take_on.new.stack c.push.ensures.pushed said.entry c.take_on.ensures.course
+    let said = said_again _ _ _ _ _ c.level_type.ensures c.in_ok-resume_entry.field-0 (again.Opened c.in-Opened.frame c.in-Opened.progress) c.in-Opened.is e.found e.plain e.shows e.serves e.hand in
+    let on = again_on_top c.requires.top c.if-top-eq0.false said c.push.ensures.pushed c.requires.stands in
+    record {
+      came = again_then said _ c.take_on.ensures.came;
+      forward = forward_then _ _ _ (again_forward said _ c.requires.top c.requires.stands c.if-top-eq0.false) c.take_on.ensures.forward;
+      leaves = λ f. well_then _ _ _ false f (again_well said f) (c.take_on.ensures.leaves f);
+      stands = λ v s. c.take_on.ensures.stands v (on.stands v s);
+      ready = search rules;
+      kinds = search rules;
+      outer = search rules;
+      progress = progress_answer _ _ _ _ (again_came said) c.take_on.ensures.progress;
+      less = again_lowers _ (weight c.take_on.new.stack) _ _ _ _ _ c.push.ensures.stack c.requires.top c.push.ensures.pushed c.take_on.ensures.less;
+      serves = goes_on _ _ _ _ _ _ _ _ (again_came said) on.serves c.take_on.ensures.serves;
+      stops = opened_stops on _ _ c.take_on.ensures.stops;
+      course = opened_on _ _ c.requires.top c.if-top-eq0.false _ _ _ _ _ _ _ c.push.ensures.pushed said.entry c.take_on.ensures.course;
+    }
 
 -- ---- it waits for a flush
 
-pub leave_shared-requires-clause-frame : goal.leave_shared-requires-clause-frame
-leave_shared-requires-clause-frame g n c =
-    let u = g.P.Port.value c.args.port.now in
-    let x = g.P.Port.value c.resume_entry.new.port in
+pub leave_shared-requires : goal.leave_shared-requires
+leave_shared-requires g n c =
     let e = c.in_ok-resume_entry.ensures in
-    let said = said_again u x c.args.owner c.args.top c.level_type.result c.level_type.ensures c.in_ok-resume_entry.field-0 (again.Waiting c.in-Waiting.frame c.in-Waiting.stamp c.in-Waiting.stop) c.in-Waiting.is e.found e.plain e.shows e.serves e.hand in
-    waited_inside u x c.args.owner c.args.top c.args.stack.now c.requires.top c.if-top-eq0.false c.in-Waiting.frame c.in-Waiting.stamp c.in-Waiting.stop said c.requires.stands
+    let said = said_again _ _ _ _ _ c.level_type.ensures c.in_ok-resume_entry.field-0 (again.Waiting c.in-Waiting.frame c.in-Waiting.stamp c.in-Waiting.stop) c.in-Waiting.is e.found e.plain e.shows e.serves e.hand in
+    record {
+      frame = waited_inside c.requires.top c.if-top-eq0.false said c.requires.stands;
+      may = search rules;
+      waits = waited_waits c.requires.top c.if-top-eq0.false said c.requires.stands c.level_type-in-Waiting.ensures;
+    }
 
-pub leave_shared-requires-clause-waits : goal.leave_shared-requires-clause-waits
-leave_shared-requires-clause-waits g n c =
-    let u = g.P.Port.value c.args.port.now in
-    let x = g.P.Port.value c.resume_entry.new.port in
+pub returns-in-Waiting : goal.returns-in-Waiting
+returns-in-Waiting g n c =
     let e = c.in_ok-resume_entry.ensures in
-    let said = said_again u x c.args.owner c.args.top c.level_type.result c.level_type.ensures c.in_ok-resume_entry.field-0 (again.Waiting c.in-Waiting.frame c.in-Waiting.stamp c.in-Waiting.stop) c.in-Waiting.is e.found e.plain e.shows e.serves e.hand in
-    waited_waits u x c.args.owner c.args.top c.args.stack.now c.requires.top c.if-top-eq0.false c.in-Waiting.frame c.in-Waiting.stamp c.in-Waiting.stop said c.requires.stands c.level_type-in-Waiting.result c.level_type-in-Waiting.ensures
-
-pub returns-in-Waiting-clause-came : goal.returns-in-Waiting-clause-came
-returns-in-Waiting-clause-came g n c =
-    let u = g.P.Port.value c.args.port.now in
-    let x = g.P.Port.value c.resume_entry.new.port in
-    let e = c.in_ok-resume_entry.ensures in
-    let said = said_again u x c.args.owner c.args.top c.level_type.result c.level_type.ensures c.in_ok-resume_entry.field-0 (again.Waiting c.in-Waiting.frame c.in-Waiting.stamp c.in-Waiting.stop) c.in-Waiting.is e.found e.plain e.shows e.serves e.hand in
-    again_then u x c.args.owner c.args.top (again.Waiting c.in-Waiting.frame c.in-Waiting.stamp c.in-Waiting.stop) said (g.P.Port.value c.leave_shared.new.port) c.leave_shared.ensures.came
-
-pub returns-in-Waiting-clause-stands : goal.returns-in-Waiting-clause-stands
-returns-in-Waiting-clause-stands g n c =
-    let u = g.P.Port.value c.args.port.now in
-    let x = g.P.Port.value c.resume_entry.new.port in
-    let e = c.in_ok-resume_entry.ensures in
-    let said = said_again u x c.args.owner c.args.top c.level_type.result c.level_type.ensures c.in_ok-resume_entry.field-0 (again.Waiting c.in-Waiting.frame c.in-Waiting.stamp c.in-Waiting.stop) c.in-Waiting.is e.found e.plain e.shows e.serves e.hand in
-    waited_stands u x c.args.owner c.args.top c.args.stack.now c.requires.top c.if-top-eq0.false c.in-Waiting.frame c.in-Waiting.stamp c.in-Waiting.stop said c.requires.stands c.level_type-in-Waiting.result c.level_type-in-Waiting.ensures (g.P.Port.value c.leave_shared.new.port) c.leave_shared.ensures.came c.leave_shared.ensures.hand
-
-pub returns-in-Waiting-clause-kinds : goal.returns-in-Waiting-clause-kinds
-returns-in-Waiting-clause-kinds g n c =
-    let u = g.P.Port.value c.args.port.now in
-    let x = g.P.Port.value c.resume_entry.new.port in
-    let e = c.in_ok-resume_entry.ensures in
-    let said = said_again u x c.args.owner c.args.top c.level_type.result c.level_type.ensures c.in_ok-resume_entry.field-0 (again.Waiting c.in-Waiting.frame c.in-Waiting.stamp c.in-Waiting.stop) c.in-Waiting.is e.found e.plain e.shows e.serves e.hand in
-    waited_kinds u x c.args.owner c.args.top c.args.stack.now c.requires.top c.if-top-eq0.false c.in-Waiting.frame c.in-Waiting.stamp c.in-Waiting.stop said c.requires.stands
-
-pub returns-in-Waiting-clause-serves : goal.returns-in-Waiting-clause-serves
-returns-in-Waiting-clause-serves g n c =
-    let u = g.P.Port.value c.args.port.now in
-    let x = g.P.Port.value c.resume_entry.new.port in
-    let e = c.in_ok-resume_entry.ensures in
-    let said = said_again u x c.args.owner c.args.top c.level_type.result c.level_type.ensures c.in_ok-resume_entry.field-0 (again.Waiting c.in-Waiting.frame c.in-Waiting.stamp c.in-Waiting.stop) c.in-Waiting.is e.found e.plain e.shows e.serves e.hand in
-    waited_serves u x c.args.owner c.args.top c.args.stack.now c.requires.top c.if-top-eq0.false c.in-Waiting.frame c.in-Waiting.stamp c.in-Waiting.stop said c.requires.stands c.level_type-in-Waiting.result c.level_type-in-Waiting.ensures (g.P.Port.value c.leave_shared.new.port) c.leave_shared.ensures.came c.leave_shared.ensures.serves
-
-pub returns-in-Waiting-clause-stops : goal.returns-in-Waiting-clause-stops
-returns-in-Waiting-clause-stops g n c =
-    let u = g.P.Port.value c.args.port.now in
-    let x = g.P.Port.value c.resume_entry.new.port in
-    let e = c.in_ok-resume_entry.ensures in
-    let said = said_again u x c.args.owner c.args.top c.level_type.result c.level_type.ensures c.in_ok-resume_entry.field-0 (again.Waiting c.in-Waiting.frame c.in-Waiting.stamp c.in-Waiting.stop) c.in-Waiting.is e.found e.plain e.shows e.serves e.hand in
-    waited_stops u x c.args.owner c.args.top c.args.stack.now c.requires.top c.if-top-eq0.false c.in-Waiting.frame c.in-Waiting.stamp c.in-Waiting.stop said c.requires.stands c.level_type-in-Waiting.result c.level_type-in-Waiting.ensures (g.P.Port.value c.leave_shared.new.port) c.leave_shared.ensures.came
-
-pub returns-in-Waiting-clause-forward : goal.returns-in-Waiting-clause-forward
-returns-in-Waiting-clause-forward g n c =
-    let u = g.P.Port.value c.args.port.now in
-    let x = g.P.Port.value c.resume_entry.new.port in
-    let e = c.in_ok-resume_entry.ensures in
-    let said = said_again u x c.args.owner c.args.top c.level_type.result c.level_type.ensures c.in_ok-resume_entry.field-0 (again.Waiting c.in-Waiting.frame c.in-Waiting.stamp c.in-Waiting.stop) c.in-Waiting.is e.found e.plain e.shows e.serves e.hand in
-    shared_forward u x c.args.owner c.args.top c.args.stack.now c.requires.top c.if-top-eq0.false c.in-Waiting.frame c.in-Waiting.stamp c.in-Waiting.stop said c.requires.stands c.level_type-in-Waiting.result c.level_type-in-Waiting.ensures (g.P.Port.value c.leave_shared.new.port) c.leave_shared.ensures.visits
-
-pub returns-in-Waiting-clause-leaves : goal.returns-in-Waiting-clause-leaves
-returns-in-Waiting-clause-leaves g n c =
-    let u = g.P.Port.value c.args.port.now in
-    let x = g.P.Port.value c.resume_entry.new.port in
-    let e = c.in_ok-resume_entry.ensures in
-    let said = said_again u x c.args.owner c.args.top c.level_type.result c.level_type.ensures c.in_ok-resume_entry.field-0 (again.Waiting c.in-Waiting.frame c.in-Waiting.stamp c.in-Waiting.stop) c.in-Waiting.is e.found e.plain e.shows e.serves e.hand in
-    shared_well u x c.args.owner c.args.top c.args.stack.now c.requires.top c.if-top-eq0.false c.in-Waiting.frame c.in-Waiting.stamp c.in-Waiting.stop said c.requires.stands c.level_type-in-Waiting.result c.level_type-in-Waiting.ensures (g.P.Port.value c.leave_shared.new.port) c.leave_shared.ensures.visits
-
-pub returns-in-Waiting-clause-course : goal.returns-in-Waiting-clause-course
-returns-in-Waiting-clause-course g n c =
-    let u = g.P.Port.value c.args.port.now in
-    let x = g.P.Port.value c.resume_entry.new.port in
-    let e = c.in_ok-resume_entry.ensures in
-    let said = said_again u x c.args.owner c.args.top c.level_type.result c.level_type.ensures c.in_ok-resume_entry.field-0 (again.Waiting c.in-Waiting.frame c.in-Waiting.stamp c.in-Waiting.stop) c.in-Waiting.is e.found e.plain e.shows e.serves e.hand in
-    waiting_on c.args.owner u c.args.top (drop 1 c.args.stack.now) c.args.stack.now c.requires.top c.if-top-eq0.false x (g.P.Port.value c.leave_shared.new.port) c.in-Waiting.frame c.in-Waiting.stamp c.in-Waiting.stop said.entry
-    (shared_left x (g.P.Port.value c.leave_shared.new.port) c.in-Waiting.frame (c.args.top.level - 1) c.level_type-in-Waiting.result c.level_type-in-Waiting.ensures c.in-Waiting.stamp c.leave_shared.ensures.visits)
+    let said = said_again _ _ _ _ _ c.level_type.ensures c.in_ok-resume_entry.field-0 (again.Waiting c.in-Waiting.frame c.in-Waiting.stamp c.in-Waiting.stop) c.in-Waiting.is e.found e.plain e.shows e.serves e.hand in
+    record {
+      came = again_then said _ c.leave_shared.ensures.came;
+      forward = shared_forward c.requires.top c.if-top-eq0.false said c.requires.stands c.level_type-in-Waiting.ensures _ c.leave_shared.ensures.visits;
+      leaves = shared_well c.requires.top c.if-top-eq0.false said c.requires.stands c.level_type-in-Waiting.ensures _ c.leave_shared.ensures.visits;
+      stands = waited_stands c.requires.top c.if-top-eq0.false said c.requires.stands c.level_type-in-Waiting.ensures _ c.leave_shared.ensures.came c.leave_shared.ensures.hand;
+      ready = search rules;
+      kinds = waited_kinds c.requires.top c.if-top-eq0.false said c.requires.stands;
+      outer = search rules;
+      progress = search rules;
+      less = search rules;
+      serves = waited_serves c.requires.top c.if-top-eq0.false said c.requires.stands c.level_type-in-Waiting.ensures _ c.leave_shared.ensures.came c.leave_shared.ensures.serves;
+      stops = waited_stops c.requires.top c.if-top-eq0.false said c.requires.stands c.level_type-in-Waiting.ensures _ c.leave_shared.ensures.came;
+      course = waiting_on _ _ c.requires.top c.if-top-eq0.false _ _ _ _ _ said.entry
+          (shared_left _ _ _ (c.args.top.level - 1) _ c.level_type-in-Waiting.ensures _ c.leave_shared.ensures.visits);
+    }

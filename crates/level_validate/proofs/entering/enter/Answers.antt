@@ -1,506 +1,152 @@
-use Rattle.std.proofs.Common.{ℕ, Err, refl, ◌-◌, ◌<◌, ◌∷◌, [], drop, false, None, Ok, sym, ap, ◌∙◌, subst, arith}
-use Rattle.partial_state.proofs.LevelFacts.{level_type-under}
-use Rattle.std.proofs.lemmas.Result.{IfErr-weaker, err_from_is_err_and}
+use Rattle.std.proofs.Common.{Err, refl, ◌-◌, ◌<◌, ◌∷◌, [], false, None, sym, ap, ◌∙◌, subst, rules}
+use Rattle.std.proofs.lemmas.Result.{err_from_is_err_and}
 use Rattle.xp_words.specs.Entries.{below}
 use Rattle.xp_words.specs.declared.kind.PageType.{PageType}
 use Rattle.step_maker.proofs.Coming.{came_trans}
 use Rattle.answer_fits.specs.Answers.{missed}
 use Rattle.answer_fits.proofs.Piecing.{serves_came}
 use Rattle.frame_types.specs.Taking.{IsOfOther}
-use Rattle.table_entries.specs.Asking.{ShowsEntered, of_entries}
-use Rattle.table_entries.specs.Found.{EntersFound}
-use Rattle.table_entries.specs.Tops.{LeavesEntered, WorksNext}
-use Rattle.table_entries.specs.declared.entries.Entered.TheVariants as entered
-use Rattle.partial_state.specs.Levels.{level_type}
+use Rattle.table_entries.specs.Asking.{of_entries}
+use Rattle.table_entries.specs.Tops.{WorksNext}
 use Rattle.partial_state.specs.Stacks.{advanced, left_on_top}
 use Rattle.partial_state.specs.Weights.{weight}
-use Rattle.level_validate.specs.Serving.{CarriesOn, StopsIn}
-use Rattle.level_validate.specs.Tables.{Carries, StandsOn}
-use Rattle.level_validate.proofs.Asking.{goes_advanced, goes_answer, goes_entries, goes_inner, goes_on, goes_opened, goes_waiting, stops_answer, stops_behind, stops_entries}
-use Rattle.level_validate.proofs.Entered.{after_look, after_next, after_record, after_record_ready, fresh_ready}
-use Rattle.level_validate.proofs.LeavingTables.{top_inside}
-use Rattle.level_validate.proofs.Lowering.{next_lowers}
-use Rattle.level_validate.proofs.Opening.{opened_found}
-use Rattle.level_validate.proofs.Visited.{entered_first}
+use Rattle.level_validate.specs.Serving.{CarriesOn}
+use Rattle.level_validate.specs.Tables.{Carries}
+use Rattle.level_validate.proofs.Serving.{goes_advanced, goes_answer, goes_entries, goes_on, goes_waiting, stops_answer, stops_entries}
+use Rattle.level_validate.proofs.Entered.{after_look, after_record, after_record_ready, fresh_ready, next_lowers, entered_err, opened_next, recorded_next, stopped_next, unsettled_next}
+use Rattle.level_validate.proofs.Standing.{top_inside, standing_above, standing_held, standing_known, standing_looked, standing_next}
+use Rattle.level_validate.proofs.Opening.{wait_stops, entered_first}
+use Rattle.level_validate.proofs.LookedAgain.{next_came, next_first, next_on_top, opened_may, opened_standing, opened_stops, opened_table, said_next}
 use Rattle.level_validate.proofs.Pushing.{pushed}
-use Rattle.level_validate.proofs.Standing.{standing_above, standing_held, standing_known, standing_looked, standing_next}
-use Rattle.level_validate.proofs.StandsFacts.{may_back, may_stands}
-use Rattle.level_validate.proofs.Rising.{progress_answer}
-use Rattle.level_validate.proofs.Waiting.{wait_stops}
-use Rattle.level_validate.proofs.Forward.{forward_then}
-use Rattle.level_validate.proofs.OnwardEntries.{enters_forward}
-use Rattle.level_validate.proofs.LeftWell.{well_then}
-use Rattle.level_validate.proofs.LeftWellEntries.{enters_well}
-use Rattle.level_validate.proofs.EnteredOn.{entered_err, entered_ok, opened_next, recorded_next, stopped_next, unsettled_next}
+use Rattle.level_validate.proofs.Filling.{progress_answer}
+use Rattle.level_validate.proofs.Steps.{forward_then, well_then}
+use Rattle.level_validate.proofs.LeftWellEntries.{enters_forward, enters_well}
+use Rattle.table_entries.specs.declared.entries.Entered.TheVariants as entered
 use Rattle.level_validate.proofs.entering.enter.Goals as goal
 
-pub take_entry-requires-clause-frame : goal.take_entry-requires-clause-frame
-take_entry-requires-clause-frame g c =
+pub take_entry-requires : goal.take_entry-requires
+take_entry-requires g c =
     let u = g.P.Port.value c.args.port.now in
-    let t = c.in-Some.top in
-    let ts = drop 1 c.args.stack.now in
+    let s0 = subst (λ xs. Carries c.requires.stands.0 u c.args.owner xs) c.in-Some.ensures.some c.requires.stands.1 in
+    record {
+      frame = top_inside s0;
+      index = search rules;
+      may = search rules;
+      works = subst (λ (k : PageType). WorksNext u.post.machine c.in-Some.top.frame k c.in-Some.top.done u.holdings) (sym c.level_type.ensures) (standing_next s0 c.requires.ready);
+      known = standing_known s0;
+      held = standing_held s0;
+      above = λ f. subst (λ (k : PageType). IsOfOther f (below k) u.holdings) (sym c.level_type.ensures) (standing_above s0 f);
+      looked = standing_looked s0;
+    }
+
+pub returns-in_err-take_entry : goal.returns-in_err-take_entry
+returns-in_err-take_entry g c =
+    let u = g.P.Port.value c.args.port.now in
     let owner = c.args.owner in
     let is = c.in-Some.ensures.some in
-    let a = c.requires.stands in
-    let s0 = subst (λ xs. Carries a.0 u owner xs) is a.1 in
-    top_inside a.0 u owner t ts s0
-
-pub take_entry-requires-clause-works : goal.take_entry-requires-clause-works
-take_entry-requires-clause-works g c =
-    let u = g.P.Port.value c.args.port.now in
-    let t = c.in-Some.top in
-    let ts = drop 1 c.args.stack.now in
-    let owner = c.args.owner in
-    let is = c.in-Some.ensures.some in
-    let a = c.requires.stands in
-    let s0 = subst (λ xs. Carries a.0 u owner xs) is a.1 in
-    subst (λ (k : PageType). WorksNext u.post.machine t.frame k t.done u.holdings) (sym c.level_type.ensures) (standing_next a.0 u owner t ts s0 c.requires.ready)
-
-pub take_entry-requires-clause-known : goal.take_entry-requires-clause-known
-take_entry-requires-clause-known g c =
-    let u = g.P.Port.value c.args.port.now in
-    let t = c.in-Some.top in
-    let ts = drop 1 c.args.stack.now in
-    let owner = c.args.owner in
-    let is = c.in-Some.ensures.some in
-    let a = c.requires.stands in
-    let s0 = subst (λ xs. Carries a.0 u owner xs) is a.1 in
-    standing_known a.0 u owner t ts s0
-
-pub take_entry-requires-clause-held : goal.take_entry-requires-clause-held
-take_entry-requires-clause-held g c =
-    let u = g.P.Port.value c.args.port.now in
-    let t = c.in-Some.top in
-    let ts = drop 1 c.args.stack.now in
-    let owner = c.args.owner in
-    let is = c.in-Some.ensures.some in
-    let a = c.requires.stands in
-    let s0 = subst (λ xs. Carries a.0 u owner xs) is a.1 in
-    standing_held a.0 u owner t ts s0
-
-pub take_entry-requires-clause-above : goal.take_entry-requires-clause-above
-take_entry-requires-clause-above g c f =
-    let u = g.P.Port.value c.args.port.now in
-    let t = c.in-Some.top in
-    let ts = drop 1 c.args.stack.now in
-    let owner = c.args.owner in
-    let is = c.in-Some.ensures.some in
-    let a = c.requires.stands in
-    let s0 = subst (λ xs. Carries a.0 u owner xs) is a.1 in
-    subst (λ (k : PageType). IsOfOther f (below k) u.holdings) (sym c.level_type.ensures) (standing_above a.0 u owner t ts s0 f)
-
-pub take_entry-requires-clause-looked : goal.take_entry-requires-clause-looked
-take_entry-requires-clause-looked g c =
-    let u = g.P.Port.value c.args.port.now in
-    let t = c.in-Some.top in
-    let ts = drop 1 c.args.stack.now in
-    let owner = c.args.owner in
-    let is = c.in-Some.ensures.some in
-    let a = c.requires.stands in
-    let s0 = subst (λ xs. Carries a.0 u owner xs) is a.1 in
-    standing_looked a.0 u owner t ts s0
-
-pub returns-in_err-take_entry-clause-came : goal.returns-in_err-take_entry-clause-came
-returns-in_err-take_entry-clause-came g c =
-    serves_came (g.P.Port.value c.args.port.now) (g.P.Port.value c.take_entry.new.port) (of_entries c.args.owner 0) _ (c.in_err-take_entry.ensures.serves 0)
-
-pub returns-in_err-take_entry-clause-stands : goal.returns-in_err-take_entry-clause-stands
-returns-in_err-take_entry-clause-stands g c v s =
-    let u = g.P.Port.value c.args.port.now in
-    let t = c.in-Some.top in
-    let ts = drop 1 c.args.stack.now in
-    let owner = c.args.owner in
-    let is = c.in-Some.ensures.some in
-    let s0 = subst (λ xs. Carries v u owner xs) is s in
     let x = g.P.Port.value c.take_entry.new.port in
     let found = c.in_err-take_entry.ensures.found in
-    subst (λ xs. Carries v x owner xs) (sym is) (after_look v u x owner t ts s0 (serves_came u x (of_entries owner 0) _ (c.in_err-take_entry.ensures.serves 0)) (entered_first u x _ _ _ _ _ found) t.done c.in_err-take_entry.ensures.hand)
+    let answer = err_from_is_err_and c.from_residual.result c.from_residual.ensures.1 in
+    let e = c.in_err-take_entry.field-0.0 in
+    record {
+      came = serves_came _ _ (of_entries c.args.owner 0) _ (c.in_err-take_entry.ensures.serves 0);
+      forward = enters_forward _ _ _ c.in-Some.ensures.some c.requires.stands c.level_type.ensures _ c.in_err-take_entry.ensures.found;
+      leaves = λ e. enters_well _ _ _ c.in-Some.top.frame c.in-Some.top.done _ _ _ c.in_err-take_entry.ensures.found;
+      stands = λ v s. let s0 = subst (λ xs. Carries v u owner xs) is s in
+          subst (λ xs. Carries v x owner xs) (sym is) (after_look _ s0 (serves_came _ _ (of_entries owner 0) _ (c.in_err-take_entry.ensures.serves 0)) (entered_first _ _ _ _ _ _ _ found) _ c.in_err-take_entry.ensures.hand);
+      ready = search rules;
+      kinds = search rules;
+      outer = search rules;
+      progress = search rules;
+      less = search rules;
+      serves = goes_answer _ _ _ _ _ _ c.in_err-take_entry.field-0.0 (answer.1 ∙ ap Err answer.2)
+          (goes_entries _ _ _ _ (missed u.post.machine c.in_err-take_entry.field-0.0) c.in_err-take_entry.ensures.serves);
+      stops = stops_answer _ _ _ _ _ _ (answer.1 ∙ ap Err answer.2) (stops_entries _ _ _ _ _ c.in_err-take_entry.ensures.stops);
+      course = stopped_next _ _ c.in-Some.ensures.some c.requires.left _ _ _ (answer.1 ∙ ap Err answer.2)
+          (entered_err _ _ _ _ c.level_type.ensures _ c.in_err-take_entry.ensures.found c.in_err-take_entry.ensures.plain c.in_err-take_entry.ensures.stops);
+    }
 
 pub push-requires-clause-table : goal.push-requires-clause-table
 push-requires-clause-table g c =
-    let u = g.P.Port.value c.args.port.now in
-    let t = c.in-Some.top in
-    let ts = drop 1 c.args.stack.now in
-    let owner = c.args.owner in
+    let e = c.in_ok-take_entry.ensures in
+    let said = said_next _ _ _ _ _ c.level_type.ensures c.in_ok-take_entry.field-0 (entered.Opened c.in-Opened.frame c.in-Opened.progress c.in-Opened.own) c.in-Opened.is e.found e.plain e.shows e.serves e.hand in
+    opened_table (next_on_top c.in-Some.ensures.some c.requires.left said c.requires.ready refl refl c.requires.stands) c.requires.stands
+
+pub take_on-requires : goal.take_on-requires
+take_on-requires g c =
+    let e = c.in_ok-take_entry.ensures in
+    let said = said_next _ _ _ _ _ c.level_type.ensures c.in_ok-take_entry.field-0 (entered.Opened c.in-Opened.frame c.in-Opened.progress c.in-Opened.own) c.in-Opened.is e.found e.plain e.shows e.serves e.hand in
+    let on = next_on_top c.in-Some.ensures.some c.requires.left said c.requires.ready c.advance-in-Opened.ensures.advanced c.push.ensures.pushed c.requires.stands in
+    record {
+      may = opened_may on c.requires.stands c.requires.may;
+      top = on.top;
+      stands = opened_standing on c.requires.stands;
+      fresh = λ zero. fresh_ready _ _ _ _ _ _ _ _ _ said.hand zero;
+    }
+
+pub returns-in-Recorded : goal.returns-in-Recorded
+returns-in-Recorded g c =
+    let e = c.in_ok-take_entry.ensures in
+    let said = said_next _ _ _ _ _ c.level_type.ensures c.in_ok-take_entry.field-0 entered.Recorded c.in-Recorded.is e.found e.plain e.shows e.serves e.hand in
     let is = c.in-Some.ensures.some in
-    let a = c.requires.stands in
-    let s0 = subst (λ xs. Carries a.0 u owner xs) is a.1 in
-    let x = g.P.Port.value c.take_entry.new.port in
-    let found = c.in_ok-take_entry.ensures.found in
-    let came = serves_came u x (of_entries owner 0) [] (c.in_ok-take_entry.ensures.serves 0) in
-    let first = entered_first u x _ _ _ _ _ found in
-    let room : 0 < 512 - t.done = subst (λ xs. 0 < left_on_top xs) is c.requires.left in
-    let left = subst (λ k. LeavesEntered u x t.frame k t.done owner (entered.Opened c.in-Opened.frame c.in-Opened.progress c.in-Opened.own)) c.level_type.ensures (subst (λ r. LeavesEntered u x t.frame c.level_type.result t.done owner r) c.in-Opened.is c.in_ok-take_entry.ensures.hand) in
-    let way = subst (λ k. EntersFound u x t.frame t.done k owner (Ok (entered.Opened c.in-Opened.frame c.in-Opened.progress c.in-Opened.own))) c.level_type.ensures (subst (λ r. EntersFound u x t.frame t.done c.level_type.result owner (Ok r)) c.in-Opened.is found) in
-    let came_open = opened_found u x t.frame t.done (level_type t.level) owner c.in-Opened.frame c.in-Opened.progress c.in-Opened.own way in
-    let inner = pushed t c.in-Opened.frame c.in-Opened.progress c.in-Opened.own false in
-    (after_next a.0 u x owner t ts s0 came first c.in-Opened.frame c.in-Opened.progress c.in-Opened.own (omega (arith, room)) c.requires.ready came_open left).stack.0
+    let room : 0 < 512 - c.in-Some.top.done = subst (λ xs. 0 < left_on_top xs) is c.requires.left in
+    record {
+      came = next_came said;
+      forward = enters_forward _ _ _ is c.requires.stands refl _ said.entry.found;
+      leaves = λ f. enters_well _ _ f _ _ _ _ _ said.entry.found;
+      stands = λ v s. subst (λ xs. Carries v (g.P.Port.value c.take_entry.new.port) c.args.owner xs) (sym (c.advance.ensures.advanced ∙ ap advanced is))
+          (after_record _ (subst (λ xs. Carries v (g.P.Port.value c.args.port.now) c.args.owner xs) is s) (next_came said) (next_first said) None room said.hand);
+      ready = after_record_ready _ (subst (λ xs. Carries c.requires.stands.0 (g.P.Port.value c.args.port.now) c.args.owner xs) is c.requires.stands.1) (next_came said) (next_first said) said.hand;
+      kinds = search rules;
+      outer = search rules;
+      progress = λ same. said.entry.shows 0;
+      less = search rules;
+      serves = subst (λ xs. CarriesOn (g.P.Port.value c.args.port.now) (g.P.Port.value c.take_entry.new.port) c.args.owner c.args.stack.now xs []) (sym c.advance.ensures.advanced)
+          (goes_advanced _ _ _ _ _ [] (goes_entries _ _ _ _ [] e.serves));
+      stops = search rules;
+      course = recorded_next _ _ is c.requires.left _ _ c.advance.ensures.advanced said.entry;
+    }
 
-pub take_on-requires-clause-may : goal.take_on-requires-clause-may
-take_on-requires-clause-may g c =
-    let u = g.P.Port.value c.args.port.now in
-    let t = c.in-Some.top in
-    let ts = drop 1 c.args.stack.now in
-    let owner = c.args.owner in
+pub returns-in-Opened : goal.returns-in-Opened
+returns-in-Opened g c =
+    let e = c.in_ok-take_entry.ensures in
+    let said = said_next _ _ _ _ _ c.level_type.ensures c.in_ok-take_entry.field-0 (entered.Opened c.in-Opened.frame c.in-Opened.progress c.in-Opened.own) c.in-Opened.is e.found e.plain e.shows e.serves e.hand in
+    let on = next_on_top c.in-Some.ensures.some c.requires.left said c.requires.ready c.advance-in-Opened.ensures.advanced c.push.ensures.pushed c.requires.stands in
+    record {
+      came = came_trans _ _ _ (next_came said) c.take_on.ensures.came;
+      forward = forward_then _ _ _ (enters_forward _ _ _ c.in-Some.ensures.some c.requires.stands refl _ said.entry.found) c.take_on.ensures.forward;
+      leaves = λ f. well_then _ _ _ false f (enters_well _ _ f _ _ _ _ _ said.entry.found) (c.take_on.ensures.leaves f);
+      stands = λ v s. c.take_on.ensures.stands v (on.stands v s);
+      ready = search rules;
+      kinds = search rules;
+      outer = search rules;
+      progress = progress_answer _ _ _ _ (next_came said) c.take_on.ensures.progress;
+      less = next_lowers _ (weight c.take_on.new.stack) _ _ _ _ _ c.push.ensures.stack c.in-Some.ensures.some
+          (c.push.ensures.pushed ∙ ap (λ ys. pushed c.in-Some.top c.in-Opened.frame c.in-Opened.progress c.in-Opened.own false ∷ ys) c.advance-in-Opened.ensures.advanced) c.requires.left c.take_on.ensures.less;
+      serves = goes_on _ _ _ _ _ _ _ _ (next_came said) on.serves c.take_on.ensures.serves;
+      stops = opened_stops on _ _ c.take_on.ensures.stops;
+      course = opened_next _ _ c.in-Some.ensures.some c.requires.left _ _ _ _ _ _ _ _ _ c.advance-in-Opened.ensures.advanced c.push.ensures.pushed said.entry c.take_on.ensures.course;
+    }
+
+pub returns-in-Unsettled : goal.returns-in-Unsettled
+returns-in-Unsettled g c =
+    let e = c.in_ok-take_entry.ensures in
+    let said = said_next _ _ _ _ _ c.level_type.ensures c.in_ok-take_entry.field-0 (entered.Unsettled c.in-Unsettled.stop) c.in-Unsettled.is e.found e.plain e.shows e.serves e.hand in
     let is = c.in-Some.ensures.some in
-    let a = c.requires.stands in
-    let s0 = subst (λ xs. Carries a.0 u owner xs) is a.1 in
-    let x = g.P.Port.value c.take_entry.new.port in
-    let found = c.in_ok-take_entry.ensures.found in
-    let came = serves_came u x (of_entries owner 0) [] (c.in_ok-take_entry.ensures.serves 0) in
-    let first = entered_first u x _ _ _ _ _ found in
-    let room : 0 < 512 - t.done = subst (λ xs. 0 < left_on_top xs) is c.requires.left in
-    let left = subst (λ k. LeavesEntered u x t.frame k t.done owner (entered.Opened c.in-Opened.frame c.in-Opened.progress c.in-Opened.own)) c.level_type.ensures (subst (λ r. LeavesEntered u x t.frame c.level_type.result t.done owner r) c.in-Opened.is c.in_ok-take_entry.ensures.hand) in
-    let way = subst (λ k. EntersFound u x t.frame t.done k owner (Ok (entered.Opened c.in-Opened.frame c.in-Opened.progress c.in-Opened.own))) c.level_type.ensures (subst (λ r. EntersFound u x t.frame t.done c.level_type.result owner (Ok r)) c.in-Opened.is found) in
-    let came_open = opened_found u x t.frame t.done (level_type t.level) owner c.in-Opened.frame c.in-Opened.progress c.in-Opened.own way in
-    let inner = pushed t c.in-Opened.frame c.in-Opened.progress c.in-Opened.own false in
-    may_stands a.0 x owner _ (after_next a.0 u x owner t ts s0 came first c.in-Opened.frame c.in-Opened.progress c.in-Opened.own (omega (arith, room)) c.requires.ready came_open left) (may_back a.0 u owner c.args.stack.now a.1 c.requires.may)
-
-pub take_on-requires-clause-stands : goal.take_on-requires-clause-stands
-take_on-requires-clause-stands g c =
-    let u = g.P.Port.value c.args.port.now in
-    let t = c.in-Some.top in
-    let ts = drop 1 c.args.stack.now in
-    let owner = c.args.owner in
-    let is = c.in-Some.ensures.some in
-    let a = c.requires.stands in
-    let s0 = subst (λ xs. Carries a.0 u owner xs) is a.1 in
-    let x = g.P.Port.value c.take_entry.new.port in
-    let found = c.in_ok-take_entry.ensures.found in
-    let came = serves_came u x (of_entries owner 0) [] (c.in_ok-take_entry.ensures.serves 0) in
-    let first = entered_first u x _ _ _ _ _ found in
-    let room : 0 < 512 - t.done = subst (λ xs. 0 < left_on_top xs) is c.requires.left in
-    let left = subst (λ k. LeavesEntered u x t.frame k t.done owner (entered.Opened c.in-Opened.frame c.in-Opened.progress c.in-Opened.own)) c.level_type.ensures (subst (λ r. LeavesEntered u x t.frame c.level_type.result t.done owner r) c.in-Opened.is c.in_ok-take_entry.ensures.hand) in
-    let way = subst (λ k. EntersFound u x t.frame t.done k owner (Ok (entered.Opened c.in-Opened.frame c.in-Opened.progress c.in-Opened.own))) c.level_type.ensures (subst (λ r. EntersFound u x t.frame t.done c.level_type.result owner (Ok r)) c.in-Opened.is found) in
-    let came_open = opened_found u x t.frame t.done (level_type t.level) owner c.in-Opened.frame c.in-Opened.progress c.in-Opened.own way in
-    let inner = pushed t c.in-Opened.frame c.in-Opened.progress c.in-Opened.own false in
-    (a.0, subst (λ xs. Carries a.0 x owner xs) (sym (c.push.ensures.pushed ∙ ap (λ ys. inner ∷ ys) (c.advance-in-Opened.ensures.advanced ∙ ap advanced is))) (after_next a.0 u x owner t ts s0 came first c.in-Opened.frame c.in-Opened.progress c.in-Opened.own (omega (arith, room)) c.requires.ready came_open left))
-
-pub take_on-requires-clause-top : goal.take_on-requires-clause-top
-take_on-requires-clause-top g c =
-    let u = g.P.Port.value c.args.port.now in
-    let t = c.in-Some.top in
-    let ts = drop 1 c.args.stack.now in
-    let owner = c.args.owner in
-    let is = c.in-Some.ensures.some in
-    let inner = pushed t c.in-Opened.frame c.in-Opened.progress c.in-Opened.own false in
-    c.push.ensures.pushed ∙ ap (λ ys. inner ∷ ys) (sym (ap (λ ys. drop 1 ys) c.push.ensures.pushed))
-
-pub take_on-requires-clause-fresh : goal.take_on-requires-clause-fresh
-take_on-requires-clause-fresh g c zero =
-    let u = g.P.Port.value c.args.port.now in
-    let t = c.in-Some.top in
-    let ts = drop 1 c.args.stack.now in
-    let owner = c.args.owner in
-    let is = c.in-Some.ensures.some in
-    let x = g.P.Port.value c.take_entry.new.port in
-    let left = subst (λ k. LeavesEntered u x t.frame k t.done owner (entered.Opened c.in-Opened.frame c.in-Opened.progress c.in-Opened.own)) c.level_type.ensures (subst (λ r. LeavesEntered u x t.frame c.level_type.result t.done owner r) c.in-Opened.is c.in_ok-take_entry.ensures.hand) in
-    fresh_ready u x t.frame t.done (level_type t.level) c.in-Opened.frame owner c.in-Opened.progress c.in-Opened.own left zero
-
-pub returns-in-Recorded-clause-came : goal.returns-in-Recorded-clause-came
-returns-in-Recorded-clause-came g c =
-    let u = g.P.Port.value c.args.port.now in
-    let t = c.in-Some.top in
-    let ts = drop 1 c.args.stack.now in
-    let owner = c.args.owner in
-    let is = c.in-Some.ensures.some in
-    let x = g.P.Port.value c.take_entry.new.port in
-    let found = c.in_ok-take_entry.ensures.found in
-    let came = serves_came u x (of_entries owner 0) [] (c.in_ok-take_entry.ensures.serves 0) in
-    let first = entered_first u x _ _ _ _ _ found in
-    let room : 0 < 512 - t.done = subst (λ xs. 0 < left_on_top xs) is c.requires.left in
-    came
-
-pub returns-in-Recorded-clause-stands : goal.returns-in-Recorded-clause-stands
-returns-in-Recorded-clause-stands g c v s =
-    let u = g.P.Port.value c.args.port.now in
-    let t = c.in-Some.top in
-    let ts = drop 1 c.args.stack.now in
-    let owner = c.args.owner in
-    let is = c.in-Some.ensures.some in
-    let s0 = subst (λ xs. Carries v u owner xs) is s in
-    let x = g.P.Port.value c.take_entry.new.port in
-    let found = c.in_ok-take_entry.ensures.found in
-    let came = serves_came u x (of_entries owner 0) [] (c.in_ok-take_entry.ensures.serves 0) in
-    let first = entered_first u x _ _ _ _ _ found in
-    let room : 0 < 512 - t.done = subst (λ xs. 0 < left_on_top xs) is c.requires.left in
-    let left = subst (λ k. LeavesEntered u x t.frame k t.done owner entered.Recorded) c.level_type.ensures (subst (λ r. LeavesEntered u x t.frame c.level_type.result t.done owner r) c.in-Recorded.is c.in_ok-take_entry.ensures.hand) in
-    subst (λ xs. Carries v x owner xs) (sym (c.advance.ensures.advanced ∙ ap advanced is)) (after_record v u x owner t ts s0 came first None room left)
-
-pub returns-in-Recorded-clause-ready : goal.returns-in-Recorded-clause-ready
-returns-in-Recorded-clause-ready g c =
-    let u = g.P.Port.value c.args.port.now in
-    let t = c.in-Some.top in
-    let ts = drop 1 c.args.stack.now in
-    let owner = c.args.owner in
-    let is = c.in-Some.ensures.some in
-    let a = c.requires.stands in
-    let s0 = subst (λ xs. Carries a.0 u owner xs) is a.1 in
-    let x = g.P.Port.value c.take_entry.new.port in
-    let found = c.in_ok-take_entry.ensures.found in
-    let came = serves_came u x (of_entries owner 0) [] (c.in_ok-take_entry.ensures.serves 0) in
-    let first = entered_first u x _ _ _ _ _ found in
-    let room : 0 < 512 - t.done = subst (λ xs. 0 < left_on_top xs) is c.requires.left in
-    let left = subst (λ k. LeavesEntered u x t.frame k t.done owner entered.Recorded) c.level_type.ensures (subst (λ r. LeavesEntered u x t.frame c.level_type.result t.done owner r) c.in-Recorded.is c.in_ok-take_entry.ensures.hand) in
-    after_record_ready a.0 u x owner t ts s0 came first left
-
-pub returns-in-Opened-clause-came : goal.returns-in-Opened-clause-came
-returns-in-Opened-clause-came g c =
-    let u = g.P.Port.value c.args.port.now in
-    let t = c.in-Some.top in
-    let ts = drop 1 c.args.stack.now in
-    let owner = c.args.owner in
-    let is = c.in-Some.ensures.some in
-    let x = g.P.Port.value c.take_entry.new.port in
-    let found = c.in_ok-take_entry.ensures.found in
-    let came = serves_came u x (of_entries owner 0) [] (c.in_ok-take_entry.ensures.serves 0) in
-    let first = entered_first u x _ _ _ _ _ found in
-    let room : 0 < 512 - t.done = subst (λ xs. 0 < left_on_top xs) is c.requires.left in
-    came_trans u x (g.P.Port.value c.take_on.new.port) came c.take_on.ensures.came
-
-pub returns-in-Opened-clause-stands : goal.returns-in-Opened-clause-stands
-returns-in-Opened-clause-stands g c v s =
-    let u = g.P.Port.value c.args.port.now in
-    let t = c.in-Some.top in
-    let ts = drop 1 c.args.stack.now in
-    let owner = c.args.owner in
-    let is = c.in-Some.ensures.some in
-    let s0 = subst (λ xs. Carries v u owner xs) is s in
-    let x = g.P.Port.value c.take_entry.new.port in
-    let found = c.in_ok-take_entry.ensures.found in
-    let came = serves_came u x (of_entries owner 0) [] (c.in_ok-take_entry.ensures.serves 0) in
-    let first = entered_first u x _ _ _ _ _ found in
-    let room : 0 < 512 - t.done = subst (λ xs. 0 < left_on_top xs) is c.requires.left in
-    let left = subst (λ k. LeavesEntered u x t.frame k t.done owner (entered.Opened c.in-Opened.frame c.in-Opened.progress c.in-Opened.own)) c.level_type.ensures (subst (λ r. LeavesEntered u x t.frame c.level_type.result t.done owner r) c.in-Opened.is c.in_ok-take_entry.ensures.hand) in
-    let way = subst (λ k. EntersFound u x t.frame t.done k owner (Ok (entered.Opened c.in-Opened.frame c.in-Opened.progress c.in-Opened.own))) c.level_type.ensures (subst (λ r. EntersFound u x t.frame t.done c.level_type.result owner (Ok r)) c.in-Opened.is found) in
-    let came_open = opened_found u x t.frame t.done (level_type t.level) owner c.in-Opened.frame c.in-Opened.progress c.in-Opened.own way in
-    let inner = pushed t c.in-Opened.frame c.in-Opened.progress c.in-Opened.own false in
-    c.take_on.ensures.stands v (subst (λ xs. Carries v x owner xs) (sym (c.push.ensures.pushed ∙ ap (λ ys. inner ∷ ys) (c.advance-in-Opened.ensures.advanced ∙ ap advanced is))) (after_next v u x owner t ts s0 came first c.in-Opened.frame c.in-Opened.progress c.in-Opened.own (omega (arith, room)) c.requires.ready came_open left))
-
-pub returns-in-Opened-clause-less : goal.returns-in-Opened-clause-less
-returns-in-Opened-clause-less g c =
-    let t = c.in-Some.top in
-    let inner = pushed t c.in-Opened.frame c.in-Opened.progress c.in-Opened.own false in
-    next_lowers c.take_on.result (weight c.take_on.new.stack) inner t (drop 1 c.args.stack.now) c.args.stack.now c.push.new.self c.push.ensures.stack c.in-Some.ensures.some
-    (c.push.ensures.pushed ∙ ap (λ ys. inner ∷ ys) c.advance-in-Opened.ensures.advanced) c.requires.left c.take_on.ensures.less
-
-pub returns-in-Unsettled-clause-came : goal.returns-in-Unsettled-clause-came
-returns-in-Unsettled-clause-came g c =
-    let u = g.P.Port.value c.args.port.now in
-    let t = c.in-Some.top in
-    let ts = drop 1 c.args.stack.now in
-    let owner = c.args.owner in
-    let is = c.in-Some.ensures.some in
-    let x = g.P.Port.value c.take_entry.new.port in
-    let found = c.in_ok-take_entry.ensures.found in
-    let came = serves_came u x (of_entries owner 0) [] (c.in_ok-take_entry.ensures.serves 0) in
-    let first = entered_first u x _ _ _ _ _ found in
-    let room : 0 < 512 - t.done = subst (λ xs. 0 < left_on_top xs) is c.requires.left in
-    came
-
-pub returns-in-Unsettled-clause-stands : goal.returns-in-Unsettled-clause-stands
-returns-in-Unsettled-clause-stands g c v s =
-    let u = g.P.Port.value c.args.port.now in
-    let t = c.in-Some.top in
-    let ts = drop 1 c.args.stack.now in
-    let owner = c.args.owner in
-    let is = c.in-Some.ensures.some in
-    let s0 = subst (λ xs. Carries v u owner xs) is s in
-    let x = g.P.Port.value c.take_entry.new.port in
-    let found = c.in_ok-take_entry.ensures.found in
-    let came = serves_came u x (of_entries owner 0) [] (c.in_ok-take_entry.ensures.serves 0) in
-    let first = entered_first u x _ _ _ _ _ found in
-    let room : 0 < 512 - t.done = subst (λ xs. 0 < left_on_top xs) is c.requires.left in
-    let left = subst (λ k. LeavesEntered u x t.frame k t.done owner (entered.Unsettled c.in-Unsettled.stop)) c.level_type.ensures (subst (λ r. LeavesEntered u x t.frame c.level_type.result t.done owner r) c.in-Unsettled.is c.in_ok-take_entry.ensures.hand) in
-    subst (λ xs. Carries v x owner xs) (sym (c.advance-in-Unsettled.ensures.advanced ∙ ap advanced is)) (after_record v u x owner t ts s0 came first left.0 room left.1)
-
-pub returns-in-Unsettled-clause-kinds : goal.returns-in-Unsettled-clause-kinds
-returns-in-Unsettled-clause-kinds g c =
-    let u = g.P.Port.value c.args.port.now in
-    let t = c.in-Some.top in
-    let ts = drop 1 c.args.stack.now in
-    let owner = c.args.owner in
-    let is = c.in-Some.ensures.some in
-    let x = g.P.Port.value c.take_entry.new.port in
-    wait_stops c.in-Unsettled.stop (subst (λ r. ShowsEntered u x owner 0 c.level_type.result r) c.in-Unsettled.is (c.in_ok-take_entry.ensures.shows 0)).1
-
-pub returns-in_err-take_entry-clause-serves : goal.returns-in_err-take_entry-clause-serves
-returns-in_err-take_entry-clause-serves g c =
-    let u = g.P.Port.value c.args.port.now in
-    let x = g.P.Port.value c.take_entry.new.port in
-    let answer = err_from_is_err_and c.from_residual.result c.from_residual.ensures.1 in
-    goes_answer u x c.args.owner c.args.stack.now c.args.stack.now c.from_residual.result c.in_err-take_entry.field-0.0 (answer.1 ∙ ap Err answer.2)
-    (goes_entries u x c.args.owner c.args.stack.now (missed u.post.machine c.in_err-take_entry.field-0.0) c.in_err-take_entry.ensures.serves)
-
-pub returns-in_err-take_entry-clause-stops : goal.returns-in_err-take_entry-clause-stops
-returns-in_err-take_entry-clause-stops g c =
-    let u = g.P.Port.value c.args.port.now in
-    let x = g.P.Port.value c.take_entry.new.port in
-    let e = c.in_err-take_entry.field-0.0 in
-    let answer = err_from_is_err_and c.from_residual.result c.from_residual.ensures.1 in
-    stops_answer u x c.args.owner c.args.stack.now c.from_residual.result e (answer.1 ∙ ap Err answer.2) (stops_entries u x c.args.owner c.args.stack.now e c.in_err-take_entry.ensures.stops)
-
-pub returns-in-Recorded-clause-serves : goal.returns-in-Recorded-clause-serves
-returns-in-Recorded-clause-serves g c =
-    let u = g.P.Port.value c.args.port.now in
-    let x = g.P.Port.value c.take_entry.new.port in
-    subst (λ xs. CarriesOn u x c.args.owner c.args.stack.now xs []) (sym c.advance.ensures.advanced)
-    (goes_advanced u x c.args.owner c.args.stack.now c.args.stack.now [] (goes_entries u x c.args.owner c.args.stack.now [] c.in_ok-take_entry.ensures.serves))
-
-pub returns-in-Opened-clause-serves : goal.returns-in-Opened-clause-serves
-returns-in-Opened-clause-serves g c =
-    let u = g.P.Port.value c.args.port.now in
-    let x = g.P.Port.value c.take_entry.new.port in
-    let y = g.P.Port.value c.take_on.new.port in
-    let t = c.in-Some.top in
-    let owner = c.args.owner in
-    let stack = c.args.stack.now in
-    let k = c.level_type.result in
-    let came = serves_came u x (of_entries owner 0) [] (c.in_ok-take_entry.ensures.serves 0) in
-    let shows = λ (pages : ℕ). subst (λ r. ShowsEntered u x owner pages k r) c.in-Opened.is (c.in_ok-take_entry.ensures.shows pages) in
-    let a = c.requires.stands in
-    let s0 = subst (λ xs. Carries a.0 u owner xs) c.in-Some.ensures.some a.1 in
-    let inner = pushed t c.in-Opened.frame c.in-Opened.progress c.in-Opened.own false in
-    let below_is = ap below c.level_type.ensures ∙ level_type-under t.level s0.stack.0.low s0.stack.0.high in
-    let first = goes_opened u x owner stack k c.in-Opened.frame c.in_ok-take_entry.ensures.serves shows inner refl below_is in
-    goes_on u x y owner stack c.push.new.self c.take_on.new.stack c.take_on.result came
-    (subst (λ xs. CarriesOn u x owner stack xs []) (sym (c.push.ensures.pushed ∙ ap (λ ys. inner ∷ ys) c.advance-in-Opened.ensures.advanced)) (goes_inner u x owner stack inner stack [] first)) c.take_on.ensures.serves
-
-pub returns-in-Opened-clause-stops : goal.returns-in-Opened-clause-stops
-returns-in-Opened-clause-stops g c =
-    let u = g.P.Port.value c.args.port.now in
-    let x = g.P.Port.value c.take_entry.new.port in
-    let y = g.P.Port.value c.take_on.new.port in
-    let t = c.in-Some.top in
-    let ts = drop 1 c.args.stack.now in
-    let owner = c.args.owner in
-    let stack = c.args.stack.now in
-    let k = c.level_type.result in
-    let is = c.in-Some.ensures.some in
-    let found = c.in_ok-take_entry.ensures.found in
-    let came = serves_came u x (of_entries owner 0) [] (c.in_ok-take_entry.ensures.serves 0) in
-    let first = entered_first u x _ _ _ _ _ found in
-    let shows = λ (pages : ℕ). subst (λ r. ShowsEntered u x owner pages k r) c.in-Opened.is (c.in_ok-take_entry.ensures.shows pages) in
-    let a = c.requires.stands in
-    let s0 = subst (λ xs. Carries a.0 u owner xs) is a.1 in
-    let room : 0 < 512 - t.done = subst (λ xs. 0 < left_on_top xs) is c.requires.left in
-    let left = subst (λ k. LeavesEntered u x t.frame k t.done owner (entered.Opened c.in-Opened.frame c.in-Opened.progress c.in-Opened.own)) c.level_type.ensures (subst (λ r. LeavesEntered u x t.frame c.level_type.result t.done owner r) c.in-Opened.is c.in_ok-take_entry.ensures.hand) in
-    let way = subst (λ k. EntersFound u x t.frame t.done k owner (Ok (entered.Opened c.in-Opened.frame c.in-Opened.progress c.in-Opened.own))) c.level_type.ensures (subst (λ r. EntersFound u x t.frame t.done c.level_type.result owner (Ok r)) c.in-Opened.is found) in
-    let came_open = opened_found u x t.frame t.done (level_type t.level) owner c.in-Opened.frame c.in-Opened.progress c.in-Opened.own way in
-    let inner = pushed t c.in-Opened.frame c.in-Opened.progress c.in-Opened.own false in
-    let below_is = ap below c.level_type.ensures ∙ level_type-under t.level s0.stack.0.low s0.stack.0.high in
-    let opened = goes_opened u x owner stack k c.in-Opened.frame c.in_ok-take_entry.ensures.serves shows inner refl below_is in
-    let now = c.push.ensures.pushed ∙ ap (λ ys. inner ∷ ys) c.advance-in-Opened.ensures.advanced in
-    let goes = subst (λ xs. CarriesOn u x owner stack xs []) (sym now) (goes_inner u x owner stack inner stack [] opened) in
-    let stands : StandsOn u x owner stack c.push.new.self =
-    λ v s. subst (λ xs. Carries v x owner xs) (sym (now ∙ ap (λ ys. inner ∷ advanced ys) is))
-    (after_next v u x owner t ts (subst (λ xs. Carries v u owner xs) is s) came first c.in-Opened.frame c.in-Opened.progress c.in-Opened.own (omega (arith, room)) c.requires.ready came_open left) in
-    IfErr-weaker c.take_on.result (λ e. StopsIn x y owner c.push.new.self e) (λ e. StopsIn u y owner stack e) (λ e stops. stops_behind x y owner c.push.new.self e u stack stands goes stops) c.take_on.ensures.stops
-
-pub returns-in-Unsettled-clause-serves : goal.returns-in-Unsettled-clause-serves
-returns-in-Unsettled-clause-serves g c =
-    let u = g.P.Port.value c.args.port.now in
-    let x = g.P.Port.value c.take_entry.new.port in
-    let owner = c.args.owner in
-    let stack = c.args.stack.now in
-    let shows = subst (λ r. ShowsEntered u x owner 0 c.level_type.result r) c.in-Unsettled.is (c.in_ok-take_entry.ensures.shows 0) in
-    subst (λ xs. CarriesOn u x owner stack xs (missed u.post.machine c.in-Unsettled.stop)) (sym c.advance-in-Unsettled.ensures.advanced)
-    (goes_waiting u x owner stack (advanced stack) c.in-Unsettled.stop shows.1 (goes_advanced u x owner stack stack [] (goes_entries u x owner stack [] c.in_ok-take_entry.ensures.serves)))
-
-pub returns-in-Unsettled-clause-stops : goal.returns-in-Unsettled-clause-stops
-returns-in-Unsettled-clause-stops g c =
-    let u = g.P.Port.value c.args.port.now in
-    let x = g.P.Port.value c.take_entry.new.port in
-    let owner = c.args.owner in
-    let shows = λ (pages : ℕ). subst (λ r. ShowsEntered u x owner pages c.level_type.result r) c.in-Unsettled.is (c.in_ok-take_entry.ensures.shows pages) in
-    stops_entries u x owner c.args.stack.now c.in-Unsettled.stop (λ pages. (shows pages).2)
-
-pub returns-in-Recorded-clause-progress : goal.returns-in-Recorded-clause-progress
-returns-in-Recorded-clause-progress g c same =
-    let u = g.P.Port.value c.args.port.now in
-    let x = g.P.Port.value c.take_entry.new.port in
-    subst (λ r. ShowsEntered u x c.args.owner 0 c.level_type.result r) c.in-Recorded.is (c.in_ok-take_entry.ensures.shows 0)
-
-pub returns-in-Opened-clause-progress : goal.returns-in-Opened-clause-progress
-returns-in-Opened-clause-progress g c =
-    let u = g.P.Port.value c.args.port.now in
-    let x = g.P.Port.value c.take_entry.new.port in
-    progress_answer u x (g.P.Port.value c.take_on.new.port) c.take_on.result (serves_came u x (of_entries c.args.owner 0) [] (c.in_ok-take_entry.ensures.serves 0)) c.take_on.ensures.progress
-
-pub returns-in_err-take_entry-clause-forward : goal.returns-in_err-take_entry-clause-forward
-returns-in_err-take_entry-clause-forward g c =
-    enters_forward (g.P.Port.value c.args.port.now) (g.P.Port.value c.take_entry.new.port) c.args.owner c.in-Some.top c.args.stack.now c.in-Some.ensures.some c.requires.stands c.level_type.result c.level_type.ensures _ c.in_err-take_entry.ensures.found
-
-pub returns-in-Recorded-clause-forward : goal.returns-in-Recorded-clause-forward
-returns-in-Recorded-clause-forward g c =
-    enters_forward (g.P.Port.value c.args.port.now) (g.P.Port.value c.take_entry.new.port) c.args.owner c.in-Some.top c.args.stack.now c.in-Some.ensures.some c.requires.stands c.level_type.result c.level_type.ensures _ c.in_ok-take_entry.ensures.found
-
-pub returns-in-Opened-clause-forward : goal.returns-in-Opened-clause-forward
-returns-in-Opened-clause-forward g c =
-    let u = g.P.Port.value c.args.port.now in
-    let x = g.P.Port.value c.take_entry.new.port in
-    forward_then u x (g.P.Port.value c.take_on.new.port)
-    (enters_forward u x c.args.owner c.in-Some.top c.args.stack.now c.in-Some.ensures.some c.requires.stands c.level_type.result c.level_type.ensures _ c.in_ok-take_entry.ensures.found) c.take_on.ensures.forward
-
-pub returns-in-Unsettled-clause-forward : goal.returns-in-Unsettled-clause-forward
-returns-in-Unsettled-clause-forward g c =
-    enters_forward (g.P.Port.value c.args.port.now) (g.P.Port.value c.take_entry.new.port) c.args.owner c.in-Some.top c.args.stack.now c.in-Some.ensures.some c.requires.stands c.level_type.result c.level_type.ensures _ c.in_ok-take_entry.ensures.found
-
-pub returns-in_err-take_entry-clause-leaves : goal.returns-in_err-take_entry-clause-leaves
-returns-in_err-take_entry-clause-leaves g c e = enters_well (g.P.Port.value c.args.port.now) (g.P.Port.value c.take_entry.new.port) e c.in-Some.top.frame c.in-Some.top.done c.level_type.result c.args.owner _ c.in_err-take_entry.ensures.found
-
-pub returns-in-Recorded-clause-leaves : goal.returns-in-Recorded-clause-leaves
-returns-in-Recorded-clause-leaves g c e = enters_well (g.P.Port.value c.args.port.now) (g.P.Port.value c.take_entry.new.port) e c.in-Some.top.frame c.in-Some.top.done c.level_type.result c.args.owner _ c.in_ok-take_entry.ensures.found
-
-pub returns-in-Opened-clause-leaves : goal.returns-in-Opened-clause-leaves
-returns-in-Opened-clause-leaves g c e =
-    let u = g.P.Port.value c.args.port.now in
-    let x = g.P.Port.value c.take_entry.new.port in
-    let t = c.in-Some.top in
-    well_then u x (g.P.Port.value c.take_on.new.port) false e (enters_well u x e t.frame t.done c.level_type.result c.args.owner _ c.in_ok-take_entry.ensures.found) (c.take_on.ensures.leaves e)
-
-pub returns-in-Unsettled-clause-leaves : goal.returns-in-Unsettled-clause-leaves
-returns-in-Unsettled-clause-leaves g c e = enters_well (g.P.Port.value c.args.port.now) (g.P.Port.value c.take_entry.new.port) e c.in-Some.top.frame c.in-Some.top.done c.level_type.result c.args.owner _ c.in_ok-take_entry.ensures.found
-
--- ---- its part of the course
-
-pub returns-in_err-take_entry-clause-course : goal.returns-in_err-take_entry-clause-course
-returns-in_err-take_entry-clause-course g c =
-    let u = g.P.Port.value c.args.port.now in
-    let x = g.P.Port.value c.take_entry.new.port in
-    let t = c.in-Some.top in
-    let e = c.in_err-take_entry.field-0.0 in
-    let answer = err_from_is_err_and c.from_residual.result c.from_residual.ensures.1 in
-    let stopped = c.in_err-take_entry.ensures in
-    stopped_next c.args.owner u t (drop 1 c.args.stack.now) c.args.stack.now c.in-Some.ensures.some c.requires.left x c.from_residual.result e (answer.1 ∙ ap Err answer.2)
-    (entered_err u x c.args.owner t c.level_type.result c.level_type.ensures e stopped.found stopped.plain stopped.stops)
-
-pub returns-in-Recorded-clause-course : goal.returns-in-Recorded-clause-course
-returns-in-Recorded-clause-course g c =
-    let u = g.P.Port.value c.args.port.now in
-    let x = g.P.Port.value c.take_entry.new.port in
-    let t = c.in-Some.top in
-    let answer = c.in_ok-take_entry.ensures in
-    recorded_next c.args.owner u t (drop 1 c.args.stack.now) c.args.stack.now c.in-Some.ensures.some c.requires.left x c.advance.new.self c.advance.ensures.advanced
-    (entered_ok u x c.args.owner t c.level_type.result c.level_type.ensures c.in_ok-take_entry.field-0 entered.Recorded c.in-Recorded.is answer.found answer.plain answer.shows)
-
-pub returns-in-Opened-clause-course : goal.returns-in-Opened-clause-course
-returns-in-Opened-clause-course g c =
-    let u = g.P.Port.value c.args.port.now in
-    let x = g.P.Port.value c.take_entry.new.port in
-    let t = c.in-Some.top in
-    let o = c.in-Opened in
-    let answer = c.in_ok-take_entry.ensures in
-    opened_next c.args.owner u t (drop 1 c.args.stack.now) c.args.stack.now c.in-Some.ensures.some c.requires.left x (g.P.Port.value c.take_on.new.port) o.frame o.progress o.own c.take_on.result
-    c.advance-in-Opened.new.self c.push.new.self c.take_on.new.stack c.advance-in-Opened.ensures.advanced c.push.ensures.pushed
-    (entered_ok u x c.args.owner t c.level_type.result c.level_type.ensures c.in_ok-take_entry.field-0 (entered.Opened o.frame o.progress o.own) o.is answer.found answer.plain answer.shows) c.take_on.ensures.course
-
-pub returns-in-Unsettled-clause-course : goal.returns-in-Unsettled-clause-course
-returns-in-Unsettled-clause-course g c =
-    let u = g.P.Port.value c.args.port.now in
-    let x = g.P.Port.value c.take_entry.new.port in
-    let t = c.in-Some.top in
-    let e = c.in-Unsettled.stop in
-    let answer = c.in_ok-take_entry.ensures in
-    unsettled_next c.args.owner u t (drop 1 c.args.stack.now) c.args.stack.now c.in-Some.ensures.some c.requires.left x c.advance-in-Unsettled.new.self e c.advance-in-Unsettled.ensures.advanced
-    (entered_ok u x c.args.owner t c.level_type.result c.level_type.ensures c.in_ok-take_entry.field-0 (entered.Unsettled e) c.in-Unsettled.is answer.found answer.plain answer.shows)
+    let room : 0 < 512 - c.in-Some.top.done = subst (λ xs. 0 < left_on_top xs) is c.requires.left in
+    record {
+      came = next_came said;
+      forward = enters_forward _ _ _ is c.requires.stands refl _ said.entry.found;
+      leaves = λ f. enters_well _ _ f _ _ _ _ _ said.entry.found;
+      stands = λ v s. subst (λ xs. Carries v (g.P.Port.value c.take_entry.new.port) c.args.owner xs) (sym (c.advance-in-Unsettled.ensures.advanced ∙ ap advanced is))
+          (after_record _ (subst (λ xs. Carries v (g.P.Port.value c.args.port.now) c.args.owner xs) is s) (next_came said) (next_first said) said.hand.0 room said.hand.1);
+      ready = search rules;
+      kinds = wait_stops _ (said.entry.shows 0).1;
+      outer = search rules;
+      progress = search rules;
+      less = search rules;
+      serves = subst (λ xs. CarriesOn (g.P.Port.value c.args.port.now) (g.P.Port.value c.take_entry.new.port) c.args.owner c.args.stack.now xs (missed (g.P.Port.value c.args.port.now).post.machine c.in-Unsettled.stop)) (sym c.advance-in-Unsettled.ensures.advanced)
+          (goes_waiting _ _ _ _ (advanced c.args.stack.now) _ (said.entry.shows 0).1 (goes_advanced _ _ _ _ _ [] (goes_entries _ _ _ _ [] e.serves)));
+      stops = stops_entries _ _ _ _ _ (λ pages. (said.entry.shows pages).2);
+      course = unsettled_next _ _ is c.requires.left _ _ _ c.advance-in-Unsettled.ensures.advanced said.entry;
+    }

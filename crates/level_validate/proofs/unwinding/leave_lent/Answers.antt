@@ -1,65 +1,33 @@
-use Rattle.std.proofs.Common.{false, [], refl}
+use Rattle.std.proofs.Common.{false, [], refl, rules}
 use Rattle.step_maker.proofs.Coming.{came_trans, moves_came}
 use Rattle.answer_fits.specs.Asked.{of_back}
 use Rattle.answer_fits.proofs.Piecing.{serves_came}
 use Rattle.level_validate.specs.Serving.{CarriesOn}
-use Rattle.level_validate.proofs.LeavingTables.{top_spelled}
+use Rattle.level_validate.proofs.Standing.{top_spelled}
 use Rattle.level_validate.proofs.Serving.{piece_around, piece_back, piece_left, piece_rest}
-use Rattle.level_validate.proofs.LeavingLent.{lent_puts, lent_stands}
+use Rattle.level_validate.proofs.Leaving.{lent_puts, lent_stands}
 use Rattle.frame_words.specs.Freeing.{PutBy}
-use Rattle.level_validate.proofs.Forward.{forward_by, forward_step, forward_then}
-use Rattle.level_validate.proofs.Onward.{put_onward}
-use Rattle.level_validate.proofs.LeftWell.{put_plain, well_by, well_then}
-use Rattle.level_validate.proofs.Unkept.{unkept_well}
+use Rattle.level_validate.proofs.Steps.{forward_by, forward_step, forward_then, put_plain, well_by, well_then}
+use Rattle.level_validate.proofs.Unwound.{unkept_well}
 use Rattle.level_validate.proofs.unwinding.leave_lent.Goals as goal
 
 pub put_ref-requires-clause-gives : goal.put_ref-requires-clause-gives
 put_ref-requires-clause-gives g c =
-    let a = c.requires.stands in
-    let w = g.P.Port.value c.args.port.now in
-    lent_puts a.2.0 w a.0 c.args.table a.1 a.2.1 c.requires.lent (g.P.Port.value c.leave_partial.new.port) c.leave_partial.result c.leave_partial.ensures.moves c.leave_partial.ensures.hand
+    lent_puts c.requires.stands.2.1 c.requires.lent c.leave_partial.ensures.moves c.leave_partial.ensures.hand
 
-pub returns-clause-came : goal.returns-clause-came
-returns-clause-came g c =
-    let w = g.P.Port.value c.args.port.now in
-    let d = g.P.Port.value c.leave_partial.new.port in
-    let x = g.P.Port.value c.put_ref.new.port in
-    came_trans w d x (moves_came w d _ _ _ _ c.leave_partial.result c.leave_partial.ensures.moves) (serves_came d x (of_back c.args.table.frame) [] c.put_ref.ensures.serves)
-
-pub returns-clause-stands : goal.returns-clause-stands
-returns-clause-stands g c owner ts v s =
-    let w = g.P.Port.value c.args.port.now in
-    let d = g.P.Port.value c.leave_partial.new.port in
-    let x = g.P.Port.value c.put_ref.new.port in
-    let came = came_trans w d x (moves_came w d _ _ _ _ c.leave_partial.result c.leave_partial.ensures.moves) (serves_came d x (of_back c.args.table.frame) [] c.put_ref.ensures.serves) in
-    lent_stands v w owner c.args.table ts s c.requires.lent d c.leave_partial.result c.leave_partial.ensures.moves c.leave_partial.ensures.hand x c.put_ref.ensures.hand came c.args.table.recorded refl
-
-pub returns-clause-serves : goal.returns-clause-serves
+pub returns : goal.returns
 unfolding CarriesOn
-returns-clause-serves g c owner ts u r ds a =
+returns g c =
+    let came = came_trans _ _ _ (moves_came _ _ _ _ _ _ _ c.leave_partial.ensures.moves) (serves_came _ _ (of_back c.args.table.frame) [] c.put_ref.ensures.serves) in
     let b = c.requires.stands in
-    let t = c.args.table in
-    let w = g.P.Port.value c.args.port.now in
-    let d = g.P.Port.value c.leave_partial.new.port in
-    let x = g.P.Port.value c.put_ref.new.port in
-    let spelled = top_spelled b.2.0 w b.0 t b.1 b.2.1 false (λ on. absurd cc) in
-    let left = piece_left b.2.0 w b.0 t b.1 b.2.1 _ spelled refl d c.leave_partial.result c.leave_partial.ensures.moves u r owner ts ds a in
-    piece_around t.recorded u x r owner ts ds (piece_rest u x r owner t ts ds (piece_back u d x r owner t ts ds left c.put_ref.ensures.serves))
-
-pub returns-clause-forward : goal.returns-clause-forward
-returns-clause-forward g c =
-    let w = g.P.Port.value c.args.port.now in
-    let d = g.P.Port.value c.leave_partial.new.port in
-    let x = g.P.Port.value c.put_ref.new.port in
     let f = c.args.table.frame in
-    forward_then w d x (forward_step w d _ _ _ _ c.leave_partial.result refl refl c.leave_partial.ensures.moves) (forward_by d x (PutBy f) (λ vs puts. put_onward f vs puts) c.put_ref.ensures.puts)
-
-pub returns-clause-leaves : goal.returns-clause-leaves
-returns-clause-leaves g c e =
-    let b = c.requires.stands in
-    let t = c.args.table in
-    let w = g.P.Port.value c.args.port.now in
-    let d = g.P.Port.value c.leave_partial.new.port in
-    let x = g.P.Port.value c.put_ref.new.port in
-    well_then w d x false e (unkept_well b.2.0 w b.0 t d c.leave_partial.result b.1 false e b.2.1 c.leave_partial.ensures.moves)
-    (well_by d x false e (PutBy t.frame) (λ vs puts. put_plain t.frame vs puts) c.put_ref.ensures.puts)
+    record {
+      came = came_trans _ _ _ (moves_came _ _ _ _ _ _ _ c.leave_partial.ensures.moves) (serves_came _ _ (of_back c.args.table.frame) [] c.put_ref.ensures.serves);
+      forward = forward_then _ _ _ (forward_step _ _ _ _ _ _ _ refl refl c.leave_partial.ensures.moves) (forward_by _ _ (PutBy f) (λ vs puts. put_plain _ vs puts) c.put_ref.ensures.puts);
+      leaves = λ e. well_then _ _ _ false e (unkept_well b.2.0 _ b.0 _ _ _ b.1 false e b.2.1 c.leave_partial.ensures.moves)
+          (well_by _ _ false e (PutBy c.args.table.frame) (λ vs puts. put_plain _ vs puts) c.put_ref.ensures.puts);
+      stands = λ owner ts v s. lent_stands s c.requires.lent c.leave_partial.ensures.moves c.leave_partial.ensures.hand _ c.put_ref.ensures.hand came _ refl;
+      serves = λ owner ts u r ds a. let left = piece_left b.2.1 _ (top_spelled b.2.1 false (λ on. absurd cc)) refl c.leave_partial.ensures.moves u r owner ts ds a in
+          piece_around _ u _ r owner ts ds (piece_rest u _ r owner _ ts ds (piece_back _ left c.put_ref.ensures.serves));
+      course = search rules;
+    }

@@ -1,4 +1,4 @@
-use Rattle.std.proofs.Common.{true, false, [], ◌∷◌, ◌+◌, refl, ap, sym, ◌∙◌, subst}
+use Rattle.std.proofs.Common.{true, false, [], ◌+◌, refl, ap, sym, ◌∙◌, subst, rules}
 use Rattle.xp_words.specs.declared.kind.KindWord.{KindWord}
 use Rattle.step_maker.proofs.Coming.{came_trans, moves_came}
 use Rattle.answer_fits.specs.Asked.{of}
@@ -6,118 +6,65 @@ use Rattle.kind_words.specs.Kinds.{MayLeave, partial_kind}
 use Rattle.kept_marks.specs.Marks.{IsUnpaged, KeptFor, LeavesKept}
 use Rattle.partial_state.specs.Levels.{level_type}
 use Rattle.level_validate.specs.Serving.{ServesLeft}
-use Rattle.level_validate.proofs.Forward.{forward_step, forward_then}
-use Rattle.level_validate.proofs.KeptSteps.{kept_forward, kept_well}
-use Rattle.level_validate.proofs.LeavingTables.{top_held, top_inside, top_kept_owner, top_leaves, top_spelled, top_unpaged}
-use Rattle.level_validate.proofs.LeftSo.{kept_left}
-use Rattle.level_validate.proofs.LeftWell.{well_step, well_then}
+use Rattle.level_validate.proofs.Steps.{forward_step, forward_then, kept_forward, kept_well, well_step, well_then}
+use Rattle.level_validate.proofs.Standing.{top_held, top_inside, top_kept_owner, top_leaves, top_spelled, top_unpaged}
+use Rattle.level_validate.proofs.Leaving.{kept_left}
 use Rattle.level_validate.proofs.Serving.{marked_kept, marked_none, piece_left, piece_names}
-use Rattle.level_validate.proofs.Unkept.{unkept_well}
-use Rattle.level_validate.proofs.Unwound.{outer_held, outer_kept, outer_named}
+use Rattle.level_validate.proofs.Unwound.{unkept_well, outer_held, outer_kept, outer_named}
 use Rattle.level_validate.proofs.unwinding.leave_named.Goals as goal
 
 -- ---- into its mark
 
-pub leave_kept-requires-clause-frame : goal.leave_kept-requires-clause-frame
-leave_kept-requires-clause-frame g c = let a = c.requires.stands in top_inside a.0 (g.P.Port.value c.args.port.now) c.args.owner c.args.table [] a.1
-
-pub leave_kept-requires-clause-leaves : goal.leave_kept-requires-clause-leaves
-leave_kept-requires-clause-leaves g c =
-    let a = c.requires.stands in
-    let w = g.P.Port.value c.args.port.now in
+pub leave_kept-requires : goal.leave_kept-requires
+leave_kept-requires g c =
     let is = c.partial_kind-kind.ensures ∙ ap (λ k. partial_kind k true false c.args.table.done 0) c.level_type.ensures in
-    subst (λ (l : KindWord). MayLeave w c.args.table.frame l) (sym is) (top_leaves a.0 w c.args.owner c.args.table [] a.1 true (λ on. c.requires.own))
+    record {
+      frame = top_inside c.requires.stands.1;
+      may = search rules;
+      leaves = subst (λ (l : KindWord). MayLeave (g.P.Port.value c.args.port.now) c.args.table.frame l) (sym is) (top_leaves c.requires.stands.1 true (λ on. c.requires.own));
+      partial = search rules;
+      kept = search rules;
+      page = subst (λ (l : KindWord). IsUnpaged l) (sym is) (top_unpaged c.requires.stands.1);
+      known = top_kept_owner c.requires.stands.1 c.requires.own;
+      real = search rules;
+      looked = search rules;
+      room = search rules;
+    }
 
-pub leave_kept-requires-clause-page : goal.leave_kept-requires-clause-page
-leave_kept-requires-clause-page g c =
-    let a = c.requires.stands in
-    let is = c.partial_kind-kind.ensures ∙ ap (λ k. partial_kind k true false c.args.table.done 0) c.level_type.ensures in
-    subst (λ (l : KindWord). IsUnpaged l) (sym is) (top_unpaged a.0 (g.P.Port.value c.args.port.now) c.args.owner c.args.table [] a.1)
-
-pub leave_kept-requires-clause-known : goal.leave_kept-requires-clause-known
-leave_kept-requires-clause-known g c = let a = c.requires.stands in top_kept_owner a.0 (g.P.Port.value c.args.port.now) c.args.owner c.args.table [] a.1 c.requires.own
-
-pub returns-then-kept-clause-forward : goal.returns-then-kept-clause-forward
-returns-then-kept-clause-forward g c = kept_forward (g.P.Port.value c.args.port.now) (g.P.Port.value c.leave_kept.new.port) c.args.table.frame c.partial_kind-kind.result c.args.owner c.leave_kept.ensures.course
-
-pub returns-then-kept-clause-leaves : goal.returns-then-kept-clause-leaves
-returns-then-kept-clause-leaves g c =
-    let a = c.requires.stands in
-    let w = g.P.Port.value c.args.port.now in
-    let d = g.P.Port.value c.leave_kept.new.port in
-    let t = c.args.table in
-    let is = c.partial_kind-kind.ensures ∙ ap (λ k. partial_kind k true false c.args.table.done 0) c.level_type.ensures in
-    let spelled = top_spelled a.0 w c.args.owner t [] a.1 true (λ on. c.requires.own) in
-    kept_well t.frame (partial_kind (level_type t.level) true false t.done 0) spelled refl c.args.kept c.if-kept.true w d c.args.owner (subst (λ (l : KindWord). KeptFor w d t.frame l c.args.owner) is c.leave_kept.ensures.course)
-
-pub returns-then-kept-clause-hand : goal.returns-then-kept-clause-hand
-returns-then-kept-clause-hand g c v s =
-    let w = g.P.Port.value c.args.port.now in
-    let d = g.P.Port.value c.leave_kept.new.port in
-    let t = c.args.table in
-    let is = c.partial_kind-kind.ensures ∙ ap (λ k. partial_kind k true false c.args.table.done 0) c.level_type.ensures in
-    outer_kept v w c.args.owner t s c.requires.own c.args.kept c.if-kept.true d (subst (λ (l : KindWord). LeavesKept w d t.frame l c.args.owner) is c.leave_kept.ensures.hand)
-
-pub returns-then-kept-clause-serves : goal.returns-then-kept-clause-serves
+pub returns-then-kept : goal.returns-then-kept
 unfolding ServesLeft
-returns-then-kept-clause-serves g c u r ds a locks =
-    let t = c.args.table in
-    let d = g.P.Port.value c.leave_kept.new.port in
-    marked_kept u d r c.args.owner c.args.kept t.frame ds c.if-kept.true (c.leave_kept.ensures.serves u r ds a.serves (of r.owner _ a.asked.0) locks)
-
-pub returns-then-kept-clause-course : goal.returns-then-kept-clause-course
-returns-then-kept-clause-course g c =
+returns-then-kept g c =
+    let a = c.requires.stands in
     let w = g.P.Port.value c.args.port.now in
     let d = g.P.Port.value c.leave_kept.new.port in
     let t = c.args.table in
     let is = c.partial_kind-kind.ensures ∙ ap (λ k. partial_kind k true false c.args.table.done 0) c.level_type.ensures in
-    kept_left w d c.args.owner t c.args.kept c.if-kept.true (subst (λ (l : KindWord). KeptFor w d t.frame l c.args.owner) is c.leave_kept.ensures.course)
+    let spelled = top_spelled a.1 true (λ on. c.requires.own) in
+    record {
+      came = search rules;
+      forward = kept_forward _ _ _ _ _ c.leave_kept.ensures.course;
+      leaves = kept_well _ (partial_kind (level_type t.level) true false t.done 0) spelled refl c.if-kept.true _ _ _ (subst (λ (l : KindWord). KeptFor w d t.frame l c.args.owner) is c.leave_kept.ensures.course);
+      hand = λ v s. outer_kept s c.requires.own c.args.kept c.if-kept.true d (subst (λ (l : KindWord). LeavesKept w d t.frame l c.args.owner) is c.leave_kept.ensures.hand);
+      serves = λ u r ds a locks. marked_kept u _ r _ _ _ ds c.if-kept.true (c.leave_kept.ensures.serves u r ds a.serves (of r.owner _ a.asked.0) locks);
+      course = kept_left w d c.args.owner t c.args.kept c.if-kept.true (subst (λ (l : KindWord). KeptFor w d t.frame l c.args.owner) is c.leave_kept.ensures.course);
+    }
 
 -- ---- into the first old word
 
 pub put_old-requires-clause-held : goal.put_old-requires-clause-held
 put_old-requires-clause-held g c =
-    let a = c.requires.stands in
-    let w = g.P.Port.value c.args.port.now in
-    outer_held a.0 w c.args.owner c.args.table a.1 c.requires.own (g.P.Port.value c.leave_partial.new.port) c.leave_partial.ensures.hand (top_held a.0 w c.args.owner c.args.table [] a.1 c.requires.own)
+    outer_held c.requires.stands.1 c.requires.own (g.P.Port.value c.leave_partial.new.port) c.leave_partial.ensures.hand (top_held c.requires.stands.1 c.requires.own)
 
-pub returns-else-kept-clause-came : goal.returns-else-kept-clause-came
-returns-else-kept-clause-came g c =
-    let w = g.P.Port.value c.args.port.now in
-    let d = g.P.Port.value c.leave_partial.new.port in
-    let x = g.P.Port.value c.put_old.new.port in
-    came_trans w d x (moves_came w d _ _ _ _ c.leave_partial.result c.leave_partial.ensures.moves) (moves_came d x _ _ _ _ 0 c.put_old.ensures.moves)
-
-pub returns-else-kept-clause-forward : goal.returns-else-kept-clause-forward
-returns-else-kept-clause-forward g c =
-    let w = g.P.Port.value c.args.port.now in
-    let d = g.P.Port.value c.leave_partial.new.port in
-    let x = g.P.Port.value c.put_old.new.port in
-    forward_then w d x (forward_step w d _ _ _ _ c.leave_partial.result refl refl c.leave_partial.ensures.moves) (forward_step d x _ _ _ _ 0 refl refl c.put_old.ensures.moves)
-
-pub returns-else-kept-clause-leaves : goal.returns-else-kept-clause-leaves
-returns-else-kept-clause-leaves g c =
-    let b = c.requires.stands in
-    let t = c.args.table in
-    let w = g.P.Port.value c.args.port.now in
-    let d = g.P.Port.value c.leave_partial.new.port in
-    let x = g.P.Port.value c.put_old.new.port in
-    well_then w d x c.args.kept t.frame (unkept_well b.0 w c.args.owner t d c.leave_partial.result [] c.args.kept t.frame b.1 c.leave_partial.ensures.moves) (well_step d x c.args.kept t.frame _ _ _ _ 0 refl c.put_old.ensures.moves)
-
-pub returns-else-kept-clause-hand : goal.returns-else-kept-clause-hand
-returns-else-kept-clause-hand g c v s =
-    let w = g.P.Port.value c.args.port.now in
-    let d = g.P.Port.value c.leave_partial.new.port in
-    outer_named v w c.args.owner c.args.table s c.requires.own d c.leave_partial.ensures.hand c.args.kept c.if-kept.false (g.P.Port.value c.put_old.new.port) c.put_old.ensures.hand
-
-pub returns-else-kept-clause-serves : goal.returns-else-kept-clause-serves
+pub returns-else-kept : goal.returns-else-kept
 unfolding ServesLeft
-returns-else-kept-clause-serves g c u r ds a locks =
-    let b = c.requires.stands in
-    let t = c.args.table in
-    let w = g.P.Port.value c.args.port.now in
+returns-else-kept g c =
     let d = g.P.Port.value c.leave_partial.new.port in
-    let x = g.P.Port.value c.put_old.new.port in
-    let spelled = top_spelled b.0 w c.args.owner t [] b.1 false (λ on. absurd cc) in
-    let left = piece_left b.0 w c.args.owner t [] b.1 _ spelled refl d c.leave_partial.result c.leave_partial.ensures.moves u r c.args.owner [] ds a in
-    marked_none u x r c.args.owner c.args.kept t.frame ds (piece_names u d x r c.args.owner (t ∷ []) ds left (t.frame + 1) c.put_old.ensures.moves).serves
+    record {
+      came = came_trans _ _ _ (moves_came _ _ _ _ _ _ _ c.leave_partial.ensures.moves) (moves_came _ _ _ _ _ _ 0 c.put_old.ensures.moves);
+      forward = forward_then _ _ _ (forward_step _ _ _ _ _ _ _ refl refl c.leave_partial.ensures.moves) (forward_step _ _ _ _ _ _ 0 refl refl c.put_old.ensures.moves);
+      leaves = well_then _ _ _ _ _ (unkept_well c.requires.stands.0 _ _ _ _ _ [] _ _ c.requires.stands.1 c.leave_partial.ensures.moves) (well_step _ _ _ _ _ _ _ _ 0 refl c.put_old.ensures.moves);
+      hand = λ v s. outer_named s c.requires.own d c.leave_partial.ensures.hand c.args.kept c.if-kept.false (g.P.Port.value c.put_old.new.port) c.put_old.ensures.hand;
+      serves = λ u r ds a locks. let left = piece_left c.requires.stands.1 _ (top_spelled c.requires.stands.1 false (λ on. absurd cc)) refl c.leave_partial.ensures.moves u r _ [] ds a in
+          marked_none u _ r _ _ _ ds (piece_names _ left (c.args.table.frame + 1) c.put_old.ensures.moves).serves;
+      course = search rules;
+    }

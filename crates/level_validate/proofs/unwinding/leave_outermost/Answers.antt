@@ -1,6 +1,6 @@
 use Rattle.std.proofs.Common.{[], ◌∷◌, subst}
 use Rattle.level_validate.specs.Serving.{CarriesOn}
-use Rattle.level_validate.proofs.LeftWell.{well_more}
+use Rattle.level_validate.proofs.Steps.{well_more}
 use Rattle.level_validate.proofs.Serving.{left_on}
 use Rattle.level_validate.proofs.Unwound.{around_none, outer_lent}
 use Rattle.level_validate.proofs.unwinding.leave_outermost.Goals as goal
@@ -10,12 +10,10 @@ returns-else-table-clause-hand g c v s = outer_lent v (g.P.Port.value c.leave_le
 
 pub returns-else-table-clause-serves : goal.returns-else-table-clause-serves
 returns-else-table-clause-serves g c =
-    let w = g.P.Port.value c.args.port.now in
     let x = g.P.Port.value c.leave_lent.new.port in
-    let t = c.args.table in
-    let goes = subst (λ us. CarriesOn w x c.args.owner (t ∷ []) us []) (around_none t.recorded) (c.leave_lent.ensures.serves c.args.owner []) in
-    left_on w x c.args.owner c.args.kept t.frame (t ∷ []) [] [] goes
+    let goes = subst (λ us. CarriesOn (g.P.Port.value c.args.port.now) x c.args.owner (c.args.table ∷ []) us []) (around_none _) (c.leave_lent.ensures.serves c.args.owner []) in
+    left_on _ _ _ _ _ (c.args.table ∷ []) [] [] goes
 
 pub returns-else-table-clause-leaves : goal.returns-else-table-clause-leaves
 returns-else-table-clause-leaves g c =
-    let f = c.args.table.frame in well_more (g.P.Port.value c.args.port.now) (g.P.Port.value c.leave_lent.new.port) c.args.kept f f (c.leave_lent.ensures.leaves f)
+    let f = c.args.table.frame in well_more _ _ _ f f (c.leave_lent.ensures.leaves f)

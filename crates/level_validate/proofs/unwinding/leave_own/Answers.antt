@@ -1,67 +1,36 @@
-use Rattle.std.proofs.Common.{false, ◌∷◌, drop, refl, sym, subst}
+use Rattle.std.proofs.Common.{false, ◌∷◌, refl, sym, subst, rules}
 use Rattle.step_maker.proofs.Coming.{came_trans, moves_came}
 use Rattle.level_validate.specs.Serving.{CarriesOn}
 use Rattle.level_validate.specs.Tables.{Carries}
-use Rattle.level_validate.proofs.Forward.{forward_step, forward_then}
-use Rattle.level_validate.proofs.LeavingOwn.{own_new, own_records, own_stands}
-use Rattle.level_validate.proofs.LeavingTables.{top_spelled}
-use Rattle.level_validate.proofs.LeftWell.{well_step, well_then}
+use Rattle.level_validate.proofs.Steps.{forward_step, forward_then, well_step, well_then}
+use Rattle.level_validate.proofs.Leaving.{own_new, own_records, own_stands}
+use Rattle.level_validate.proofs.Standing.{top_spelled}
 use Rattle.level_validate.proofs.Serving.{piece_left, piece_records, piece_rest}
-use Rattle.level_validate.proofs.Unkept.{unkept_well}
+use Rattle.level_validate.proofs.Unwound.{unkept_well}
 use Rattle.level_validate.proofs.unwinding.leave_own.Goals as goal
 
 pub record_entry-requires : goal.record_entry-requires
 record_entry-requires g c =
-    let a = c.requires.stands in
     let w = g.P.Port.value c.args.port.now in
-    let d = g.P.Port.value c.leave_partial.new.port in
     let t = c.args.table in
-    own_records a.1.0 w a.0 t c.in-Some.outer (drop 1 c.args.stack.now) (subst (λ ts. Carries a.1.0 w a.0 (t ∷ ts)) c.in-Some.ensures.some a.1.1) c.requires.own (own_new a.1.0 w a.0 t c.args.stack.now a.1.1 c.requires.own) d
-    c.leave_partial.result c.leave_partial.ensures.moves c.leave_partial.ensures.hand
+    own_records (subst (λ ts. Carries c.requires.stands.1.0 w c.requires.stands.0 (t ∷ ts)) c.in-Some.ensures.some c.requires.stands.1.1) c.requires.own (own_new c.requires.stands.1.1 c.requires.own)
+    c.leave_partial.ensures.moves c.leave_partial.ensures.hand
 
-pub returns-in-Some-clause-came : goal.returns-in-Some-clause-came
-returns-in-Some-clause-came g c =
-    let w = g.P.Port.value c.args.port.now in
-    let d = g.P.Port.value c.leave_partial.new.port in
-    let x = g.P.Port.value c.record_entry.new.port in
-    came_trans w d x (moves_came w d _ _ _ _ c.leave_partial.result c.leave_partial.ensures.moves) (moves_came d x _ _ _ _ c.record_entry.result c.record_entry.ensures.moves)
-
-pub returns-in-Some-clause-stands : goal.returns-in-Some-clause-stands
-returns-in-Some-clause-stands g c owner v s =
-    let w = g.P.Port.value c.args.port.now in
-    let d = g.P.Port.value c.leave_partial.new.port in
-    let x = g.P.Port.value c.record_entry.new.port in
-    let t = c.args.table in
-    let came = came_trans w d x (moves_came w d _ _ _ _ c.leave_partial.result c.leave_partial.ensures.moves) (moves_came d x _ _ _ _ c.record_entry.result c.record_entry.ensures.moves) in
-    subst (λ ts. Carries v x owner ts) (sym c.in-Some.ensures.some)
-    (own_stands v w owner t c.in-Some.outer (drop 1 c.args.stack.now) (subst (λ ts. Carries v w owner (t ∷ ts)) c.in-Some.ensures.some s) c.requires.own (own_new v w owner t c.args.stack.now s c.requires.own) d c.leave_partial.result
-    c.leave_partial.ensures.moves c.leave_partial.ensures.hand x c.record_entry.ensures.hand came)
-
-pub returns-in-Some-clause-serves : goal.returns-in-Some-clause-serves
+pub returns-in-Some : goal.returns-in-Some
 unfolding CarriesOn
-returns-in-Some-clause-serves g c owner u r ds a =
+returns-in-Some g c =
+    let x = g.P.Port.value c.record_entry.new.port in
+    let came = came_trans _ _ _ (moves_came _ _ _ _ _ _ _ c.leave_partial.ensures.moves) (moves_came _ _ _ _ _ _ _ c.record_entry.ensures.moves) in
     let b = c.requires.stands in
-    let t = c.args.table in
     let ts = c.args.stack.now in
-    let o = c.in-Some.outer in
-    let w = g.P.Port.value c.args.port.now in
-    let d = g.P.Port.value c.leave_partial.new.port in
-    let x = g.P.Port.value c.record_entry.new.port in
-    let spelled = top_spelled b.1.0 w b.0 t ts b.1.1 false (λ on. absurd cc) in
-    let left = piece_left b.1.0 w b.0 t ts b.1.1 _ spelled refl d c.leave_partial.result c.leave_partial.ensures.moves u r owner ts ds a in
-    piece_rest u x r owner t ts ds (piece_records u d x r owner (t ∷ ts) ds left o.frame o.done c.record_entry.result c.record_entry.ensures.moves)
-
-pub returns-in-Some-clause-forward : goal.returns-in-Some-clause-forward
-returns-in-Some-clause-forward g c =
-    let w = g.P.Port.value c.args.port.now in
-    let d = g.P.Port.value c.leave_partial.new.port in
-    let x = g.P.Port.value c.record_entry.new.port in
-    forward_then w d x (forward_step w d _ _ _ _ c.leave_partial.result refl refl c.leave_partial.ensures.moves) (forward_step d x _ _ _ _ c.record_entry.result refl refl c.record_entry.ensures.moves)
-
-pub returns-in-Some-clause-leaves : goal.returns-in-Some-clause-leaves
-returns-in-Some-clause-leaves g c f =
-    let b = c.requires.stands in
-    let w = g.P.Port.value c.args.port.now in
-    let d = g.P.Port.value c.leave_partial.new.port in
-    let x = g.P.Port.value c.record_entry.new.port in
-    well_then w d x false f (unkept_well b.1.0 w b.0 c.args.table d c.leave_partial.result c.args.stack.now false f b.1.1 c.leave_partial.ensures.moves) (well_step d x false f _ _ _ _ c.record_entry.result refl c.record_entry.ensures.moves)
+    record {
+      came = came_trans _ _ _ (moves_came _ _ _ _ _ _ _ c.leave_partial.ensures.moves) (moves_came _ _ _ _ _ _ _ c.record_entry.ensures.moves);
+      forward = forward_then _ _ _ (forward_step _ _ _ _ _ _ _ refl refl c.leave_partial.ensures.moves) (forward_step _ _ _ _ _ _ _ refl refl c.record_entry.ensures.moves);
+      leaves = λ f. well_then _ _ _ false f (unkept_well b.1.0 _ b.0 _ _ _ _ false f b.1.1 c.leave_partial.ensures.moves) (well_step _ _ false f _ _ _ _ _ refl c.record_entry.ensures.moves);
+      stands = λ owner v s. subst (λ ts. Carries v x owner ts) (sym c.in-Some.ensures.some)
+          (own_stands (subst (λ ts. Carries v (g.P.Port.value c.args.port.now) owner (c.args.table ∷ ts)) c.in-Some.ensures.some s) c.requires.own (own_new s c.requires.own)
+          c.leave_partial.ensures.moves c.leave_partial.ensures.hand x c.record_entry.ensures.hand came);
+      serves = λ owner u r ds a. let left = piece_left b.1.1 _ (top_spelled b.1.1 false (λ on. absurd cc)) refl c.leave_partial.ensures.moves u r owner _ ds a in
+          piece_rest u _ r owner _ _ ds (piece_records _ left _ _ _ c.record_entry.ensures.moves);
+      course = search rules;
+    }

@@ -1,6 +1,6 @@
 use Rattle.std.proofs.Common.{refl}
-use Rattle.level_validate.proofs.LeftWell.{well_more}
-use Rattle.level_validate.proofs.LeftSo.{outer_unwinds}
+use Rattle.level_validate.proofs.Steps.{well_more}
+use Rattle.level_validate.proofs.Leaving.{outer_unwinds}
 use Rattle.level_validate.proofs.Unwound.{none_hand, none_serves}
 use Rattle.level_validate.proofs.unwinding.leave_table.Goals as goal
 
@@ -8,17 +8,17 @@ use Rattle.level_validate.proofs.unwinding.leave_table.Goals as goal
 
 pub returns-then-is_empty-clause-hand : goal.returns-then-is_empty-clause-hand
 returns-then-is_empty-clause-hand g c =
-    none_hand (g.P.Port.value c.args.port.now) (g.P.Port.value c.leave_outermost.new.port) c.args.owner c.args.kept c.args.table c.args.stack.now (c.if-is_empty.ensures.0 refl) c.leave_outermost.ensures.hand
+    none_hand _ _ _ _ _ _ (c.if-is_empty.ensures.0 refl) c.leave_outermost.ensures.hand
 
 pub returns-then-is_empty-clause-serves : goal.returns-then-is_empty-clause-serves
 returns-then-is_empty-clause-serves g c =
-    none_serves (g.P.Port.value c.args.port.now) (g.P.Port.value c.leave_outermost.new.port) c.args.owner c.args.kept c.args.table c.args.stack.now (c.if-is_empty.ensures.0 refl) c.leave_outermost.ensures.serves
+    none_serves _ _ _ _ _ _ (c.if-is_empty.ensures.0 refl) c.leave_outermost.ensures.serves
 
 pub returns-then-is_empty-clause-course : goal.returns-then-is_empty-clause-course
 returns-then-is_empty-clause-course g c =
-    outer_unwinds (g.P.Port.value c.args.port.now) (g.P.Port.value c.leave_outermost.new.port) c.args.owner c.args.table c.args.kept c.args.stack.now (c.if-is_empty.ensures.0 refl) c.leave_outermost.ensures.course
+    outer_unwinds _ _ _ _ _ _ (c.if-is_empty.ensures.0 refl) c.leave_outermost.ensures.course
 
 -- ---- others stand around it
 
 pub returns-else-is_empty-clause-leaves : goal.returns-else-is_empty-clause-leaves
-returns-else-is_empty-clause-leaves g c t is = well_more (g.P.Port.value c.args.port.now) (g.P.Port.value c.leave_inner.new.port) c.args.kept t.frame t.frame (c.leave_inner.ensures.leaves t.frame)
+returns-else-is_empty-clause-leaves g c t is = well_more _ _ _ t.frame t.frame (c.leave_inner.ensures.leaves t.frame)

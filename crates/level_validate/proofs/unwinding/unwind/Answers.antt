@@ -3,20 +3,19 @@ use Rattle.level_validate.proofs.Unwound.{Unwinding, unwinding_begins, unwinding
 use Rattle.level_validate.proofs.unwinding.unwind.Goals as goal
 
 pub loop-table-init : goal.loop-table-init
-loop-table-init g c = unwinding_begins (g.P.Port.value c.args.port.now) c.args.owner c.args.kept c.args.stack.now
+loop-table-init g c = unwinding_begins _ _ _ _
 
 pub loop-table-preserved : goal.loop-table-preserved
 loop-table-preserved g c =
-    let u = g.P.Port.value c.args.port.now in
     let w = g.P.Port.value c.loop-table.port in
-    unwinding_on u w c.args.owner c.args.kept c.args.stack.now c.in-Some.table c.pop.new.self (subst (λ us. Unwinding u w c.args.owner c.args.kept c.args.stack.now us) c.in-Some.ensures.some c.loop-table.invariant)
+    unwinding_on (subst (λ us. Unwinding (g.P.Port.value c.args.port.now) w c.args.owner c.args.kept c.args.stack.now us) c.in-Some.ensures.some c.loop-table.invariant)
     (g.P.Port.value c.leave_table.new.port) c.leave_table.new.stack c.leave_table.ensures.came c.leave_table.ensures.forward c.leave_table.ensures.leaves c.leave_table.ensures.around c.leave_table.ensures.hand c.leave_table.ensures.serves c.leave_table.ensures.course
 
 pub returns-clause-hand : goal.returns-clause-hand
-returns-clause-hand g c = unwinding_hand (g.P.Port.value c.args.port.now) (g.P.Port.value c.loop-table.port) c.args.owner c.args.kept c.args.stack.now c.loop-table.stack c.in_default.ensures.none.0 c.loop-table.invariant
+returns-clause-hand g c = unwinding_hand c.in_default.ensures.none.0 c.loop-table.invariant
 
 pub returns-clause-serves : goal.returns-clause-serves
-returns-clause-serves g c = unwinding_serves (g.P.Port.value c.args.port.now) (g.P.Port.value c.loop-table.port) c.args.owner c.args.kept c.args.stack.now c.loop-table.stack c.in_default.ensures.none.0 c.loop-table.invariant
+returns-clause-serves g c = unwinding_serves c.in_default.ensures.none.0 c.loop-table.invariant
 
 pub returns-clause-course : goal.returns-clause-course
-returns-clause-course g c = unwinding_course (g.P.Port.value c.args.port.now) (g.P.Port.value c.loop-table.port) c.args.owner c.args.kept c.args.stack.now c.loop-table.stack c.in_default.ensures.none.0 c.loop-table.invariant
+returns-clause-course g c = unwinding_course c.in_default.ensures.none.0 c.loop-table.invariant
