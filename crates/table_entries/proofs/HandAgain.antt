@@ -112,8 +112,8 @@ live_hand b u v f i t word g want l asks live =
     )
 
 -- the vCPU may still work
-pub may_again : (b u v : PortValue) (f i word g : ℕ) (live : Bool) → Holds b u (learned_cell f i word b.holdings) → LooksLive u v g live → MayWork b → MayWork v
-may_again b u v f i word g live hand found_it m =
+pub may_again : {v : PortValue} {g : ℕ} {live : Bool} → (b u : PortValue) (f i word : ℕ) → Holds b u (learned_cell f i word b.holdings) → LooksLive u v g live → MayWork b → MayWork v
+may_again {v} {g} {live} b u f i word hand found_it m =
     let whole = live_same u v g live found_it ∙ hand in
     record {
       running = ap (λ (q : PortValue). q.holdings.run) whole ∙ m.running;

@@ -20,26 +20,6 @@ use Rattle.frame_types.specs.declared.taking.Counting.{Counting}
 use Rattle.frame_types.specs.declared.taking.Counting.TheVariants.{Found}
 use Rattle.table_entries.specs.Between.{FoundOther, LooksNext}
 
-pub found_from : (b v u x : PortValue) (f i owner : ℕ) (t : PageType) (word : ℕ) (n g : ℕ) (want : PageType) (found : ℕ) → LooksNext b v f i owner t word → demand_at t i word ≡ Typed n want →
-    (g ≡ n) × (g < v.post.machine.frames) → Serves v u (of_frame n owner None) [] → Holds v u (took g owner v.holdings) → TwinGet v u n owner (Ok g) → Gets v u n owner (Ok g) →
-    (k : Counting) → k ≡ Found found → CountsAs (Ok k) (λ r. Takes u x g owner want r) (λ m. Looked u x g owner want m) → CountsAs (Ok k) (λ r. TwinTake u x g want r) (λ m. IsNotLive want m) →
-    FoundOther b x f i owner t g want found
-found_from b v u x f i owner t word n g want found l asks is refers lent referred gets k at looked other =
-    record {
-      u = v;
-      x = u;
-      word = word;
-      looks = l;
-      asks = asks ∙ ap (λ m. Typed m want) (sym is.0);
-      inside = is.1;
-      refers = subst (λ m. Serves v u (of_frame m owner None) []) (sym is.0) refers;
-      lent = lent;
-      referred = subst (λ m. TwinGet v u m owner (Ok g)) (sym is.0) referred;
-      gets = subst (λ m. Gets v u m owner (Ok g)) (sym is.0) gets;
-      looked = subst (λ (j : Counting). CountsAs (Ok j) (λ r. Takes u x g owner want r) (λ m. Looked u x g owner want m)) at looked;
-      other = subst (λ (j : Counting). CountsAs (Ok j) (λ r. TwinTake u x g want r) (λ m. IsNotLive want m)) at other;
-    }
-
 -- ---- behind the rest of the call, by any way
 -- both ports are the one from which the looks went on
 pub both_same : (x v y : PortValue) → Same x v → Same x y → still y ≡ still v
@@ -66,8 +46,8 @@ working_run : (f owner : ℕ) (want : PageType) (own : Bool) (e : Work) (since :
 working_run f owner want true e since h = (refl, refl)
 working_run f owner want false e since h = (refl, refl)
 
-pub waits_may : (x v y : PortValue) (g owner : ℕ) (want : PageType) (own : Bool) (stamp : ℕ) → Same x v → WaitsWith x y g owner want own stamp → MayWork v → MayWork y
-waits_may x v y g owner want own stamp one w may =
+pub waits_may : {x v y : PortValue} {g owner : ℕ} {want : PageType} {own : Bool} {stamp : ℕ} → Same x v → WaitsWith x y g owner want own stamp → MayWork v → MayWork y
+waits_may {x} {v} {y} {g} {owner} {want} {own} one w may =
     let e = sym one in
     let h = w.works.hand in
     let k = working_run g owner want own w.work w.works.since x.holdings in

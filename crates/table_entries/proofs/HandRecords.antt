@@ -77,13 +77,13 @@ module _ (m : Machine) (f i : ℕ) (t : PageType) (word : ℕ) (h : Holdings) (i
       ∙ ap (λ y. record (demand_out y h) { works = changed_work f (λ x. record x { recorded = i + 1; unsettled = unsettled_for b word h }) h.works }) next_is
       ∙ out_recorded f (i + 1) (unsettled_for b word h) d h
 
-pub looks_next : (b v : PortValue) (f i owner : ℕ) (t : PageType) (word : ℕ) → Moves b v (Cell f i) Load kinds.Look None word → Holds b v (learned_cell f i word b.holdings) → f < b.post.machine.frames → i < 512 → HoldsWorks b.holdings →
+pub looks_next : {b v : PortValue} {f i word : ℕ} {t : PageType} → (owner : ℕ) → Moves b v (Cell f i) Load kinds.Look None word → Holds b v (learned_cell f i word b.holdings) → f < b.post.machine.frames → i < 512 → HoldsWorks b.holdings →
     ((g : ℕ) → IsOfOther g (below t) b.holdings) → b.holdings.looking ≡ [] → WorksNext b.post.machine f t i b.holdings → IsKnownOwner f owner b.holdings → LooksNext b v f i owner t word
-looks_next b v f i owner t word look hand frame index held above looked works known =
+looks_next owner look hand frame index held above looked works known =
     record { looks = record { look = look; hand = hand; frame = frame; index = index; held = held; above = above; looked = looked }; works = works; known = known }
 
 -- ---- from a look at it on
-module _ (b v : PortValue) (f i owner : ℕ) (t : PageType) (word : ℕ) (l : LooksNext b v f i owner t word) where
+module _ {b v : PortValue} {f i owner : ℕ} {t : PageType} {word : ℕ} (l : LooksNext b v f i owner t word) where
   ready_at : (w : PortValue) → Came v w → w.holdings.works ≡ v.holdings.works → w.post ≡ b.post → Ready w.post.machine f i t word w.holdings
   ready_at w came works post =
       subst (λ (p : Post). Ready p.machine f i t word w.holdings) (sym post)

@@ -3,8 +3,6 @@ pub mod HandOwners
 pub mod HandReady
 pub mod HandRecords
 pub mod HandTyped
-pub mod HandLive
-pub mod HandWaits
 pub mod HandAgain
 pub mod HandFound
 pub mod PiecesWithin
@@ -12,7 +10,6 @@ pub mod PiecesLooking
 pub mod PiecesAsking
 pub mod PiecesTaking
 pub mod PiecesEntering
-pub mod PiecesWaiting
 pub mod PiecesResuming
 pub mod PiecesStanding
 pub mod PiecesLive
@@ -20,10 +17,11 @@ pub mod TwinsLooked
 pub mod TwinsTaken
 pub mod TwinsTyped
 pub mod TwinsWaiting
-pub mod TwinsLeft
 pub mod FoundEntering
-pub mod FoundWaiting
 pub mod FoundResuming
 pub mod LastEntry
 pub mod LastSeen
 pub mod LastOwn
+pub mod NextWays
+pub mod NextLeft
+pub mod LastWays

@@ -1,0 +1,188 @@
+-- The last recorded entry again: all that its call ensures, by what became of it.
+use Rattle.std.proofs.Common.{◌≡◌, ℕ, ◌+◌, ◌<◌, not, Bool, true, false, [], Some, None, Result, Ok, Err, IsTrue, refl, sym, ap, ◌∙◌, subst}
+use Rattle.xp_words.specs.Entries.{below, demand_at}
+use Rattle.xp_words.specs.PageTypes.{is_none}
+use Rattle.xp_words.specs.declared.entry.Demand.TheVariants.{Typed}
+use Rattle.xp_words.specs.declared.kind.PageType.{PageType}
+use Rattle.xp_words.specs.declared.place.Place.TheVariants.{Cell}
+use Rattle.xp_words.specs.declared.reply.Stop.{Stop}
+use Rattle.xp_board.specs.declared.step.Act.TheVariants.{Load}
+use Rattle.xp_board.specs.declared.step.StepKind.TheVariants as kinds
+use Rattle.xp_board.specs.After.{learned_cell}
+use Rattle.xp_board.specs.Hands.{typed_to, work_on}
+use Rattle.xp_board.specs.Told.{PortValue, is_telling, told_word}
+use Rattle.step_maker.specs.Holds.{Holds, Same}
+use Rattle.step_maker.specs.Moves.{Came, Moves}
+use Rattle.step_maker.specs.Plain.{Leaves}
+use Rattle.step_maker.proofs.Telling.{came_telling}
+use Rattle.answer_fits.specs.Answers.{Serves, Stops, missed}
+use Rattle.answer_fits.specs.Asked.{of_back, of_frame}
+use Rattle.answer_fits.specs.Visits.{Does}
+use Rattle.answer_fits.proofs.Piecing.{serves_came}
+use Rattle.frame_words.specs.Freeing.{Puts, gave}
+use Rattle.frame_words.specs.Plain.{TwinGet, put}
+use Rattle.frame_words.specs.Refs.{Gets, IsRefStop, took}
+use Rattle.frame_types.specs.Taking.{IsOfOther, LeavesLive}
+use Rattle.frame_types.specs.declared.taking.Taken.{Taken}
+use Rattle.frame_types.specs.declared.taking.Taken.TheVariants.{Counted, InWork, Waiting}
+use Rattle.table_entries.specs.Between.{HandResumed, LooksAgain, LooksLive, Resumes, TakesLast, TypeTaken}
+use Rattle.table_entries.specs.Found.{ResumesFound, TypedAgain}
+use Rattle.table_entries.specs.Plain.{TwinResume, TypesAgain}
+use Rattle.table_entries.specs.Tops.{HoldsWorks, WorksAtTop}
+use Rattle.table_entries.specs.declared.resuming.Resumed.{Resumed}
+use Rattle.table_entries.specs.declared.resuming.Resumed.TheVariants as again
+use Rattle.table_entries.proofs.FoundResuming.{live_found, reopened, resumes_had, retaken, rewaited, standing_found, unreferred_found, untaken_found}
+use Rattle.table_entries.proofs.HandAgain.{live_hand, live_same, looked_again, taken_settled, takes_behind}
+use Rattle.table_entries.proofs.HandLists.{asks_some}
+use Rattle.table_entries.proofs.HandTyped.{given_up, opens_from, opens_waiting, take_aside, take_looking, take_other, takes_again}
+use Rattle.table_entries.proofs.LastOwn.{again_in_work, again_waits}
+use Rattle.table_entries.proofs.NextWays.{took_as}
+use Rattle.table_entries.proofs.PiecesAsking.{looked_goes}
+use Rattle.table_entries.proofs.PiecesLive.{ends_live, gets_on}
+use Rattle.table_entries.proofs.PiecesResuming.{live_goes, resumes_opened, resumes_taken, resumes_unreferred, resumes_untyped, resumes_waiting}
+use Rattle.table_entries.proofs.PiecesStanding.{AsksNoType, standing_hand, standing_twin}
+use Rattle.table_entries.proofs.PiecesTaking.{Goes}
+use Rattle.table_entries.proofs.TwinsLooked.{twin_again, twin_live}
+use Rattle.table_entries.proofs.TwinsTaken.{again_behind, again_refused}
+use Rattle.table_entries.proofs.TwinsTyped.{again_counted, again_opened, again_stopped, again_waiting}
+
+pub takes_last : {v w : PortValue} {f i owner : ℕ} {t : PageType} {answer : Result Resumed Stop} → ((pages : ℕ) → Resumes v w f i owner pages t answer) → ResumesFound v w f i t owner answer →
+    HandResumed v w f i owner t answer → TwinResume v w f t i owner answer → TakesLast v w f i owner t answer
+takes_last resumes found hand plain =
+    record {
+      serves = λ pages. (resumes pages).serves;
+      stops = λ pages. (resumes pages).stops;
+      kinds = (resumes 0).kinds;
+      shows = λ pages. (resumes pages).shows;
+      looks = (resumes 0).looks;
+      found = found;
+      hand = hand;
+      plain = plain;
+    }
+
+-- the look at it
+pub looks_last : {b v : PortValue} {f i word : ℕ} {t : PageType} → Moves b v (Cell f i) Load kinds.Look None word → Holds b v (learned_cell f i word b.holdings) → f < b.post.machine.frames → i < 512 → HoldsWorks b.holdings →
+    ((g : ℕ) → IsOfOther g (below t) b.holdings) → b.holdings.looking ≡ [] → WorksAtTop f t (i + 1) b.holdings → LooksAgain b v f i t word
+looks_last look hand frame index held above looked works = record { looks = record { look = look; hand = hand; frame = frame; index = index; held = held; above = above; looked = looked }; works = works }
+
+pub live_is : {v w : PortValue} {g : ℕ} {live on : Bool} → live ≡ on → LooksLive v w g live → LooksLive v w g on
+live_is {v} {w} {g} is looks = subst (λ k. LooksLive v w g k) is looks
+
+-- it stands
+stands : {b v : PortValue} {f i owner pages : ℕ} (t : PageType) → Goes b v f i owner pages [] → Resumes b v f i owner pages t (Ok again.Settled)
+stands t goes = record { serves = goes.serves; stops = tt; kinds = tt; shows = tt; looks = goes.looks }
+
+module _ {b u : PortValue} {f i word : ℕ} {t : PageType} (l : LooksAgain b u f i t word) where
+  pub last_standing : {owner : ℕ} → AsksNoType (demand_at t i word) → TakesLast b u f i owner t (Ok again.Settled)
+  last_standing {owner} none =
+      takes_last (λ pages. stands t (looked_goes b u f i t word l.looks owner pages)) (standing_found b u f i t word l.looks owner none) (standing_hand b u f i t word l.looks l.works none)
+      (standing_twin b u f i owner t word l.looks none)
+
+  module _ {v : PortValue} {g owner : ℕ} {want : PageType} (asks : demand_at t i word ≡ Typed g want) where
+    pub last_live : LooksLive u v g true → TakesLast b v f i owner t (Ok again.Settled)
+    last_live live =
+        takes_last (λ pages. stands t (live_goes b u v f i owner pages g true (looked_goes b u f i t word l.looks owner pages) live)) (live_found b u f i t word l.looks owner g want asks v live)
+        (live_hand b u v f i t word g want l asks live) (twin_live b u v f i owner t word g want l.looks.look asks live)
+
+    -- its frame is not live, and no reference to be had
+    pub last_unreferred : {x : PortValue} {e : Stop} → LooksLive u v g false → IsRefStop e → Serves v x (of_frame g owner None) (missed v.post.machine e) → Stops v x (of_frame g owner None) e → Gets {A = ℕ} v x g owner (Err e) →
+        TwinGet {A = ℕ} v x g owner (Err e) → Same v x → TakesLast b x f i owner t (Err e)
+    last_unreferred {x} {e} off is serves stops gets plain same =
+        takes_last (λ pages. resumes_unreferred b u v f i owner pages t word g want l asks off x e is serves stops) (unreferred_found b u f i t word l.looks owner g want asks v off x e gets)
+        (looked_again b u f i t word l v x g off same) (twin_again b u v f i owner t word g want l.looks.look asks off x (Err e) (λ telling. again_refused v x g owner e plain telling want))
+
+-- ---- its frame is not live, and a reference was taken
+pub record HadAgain (b x : PortValue) (f i owner : ℕ) (t : PageType) (g : ℕ) (want : PageType) : Type 0 where
+  pub u : PortValue
+  pub v : PortValue
+  pub word : ℕ
+  pub looks : LooksAgain b u f i t word
+  pub asks : demand_at t i word ≡ Typed g want
+  pub off : LooksLive u v g false
+  pub inside : g < v.post.machine.frames
+  pub refers : Serves v x (of_frame g owner None) []
+  pub lent : Holds v x (took g owner v.holdings)
+  pub referred : TwinGet v x g owner (Ok g)
+  pub gets : Gets v x g owner (Ok g)
+
+pub had_again : {b u v : PortValue} {f i word n g : ℕ} {t want : PageType} → (x : PortValue) (owner : ℕ) → LooksAgain b u f i t word → demand_at t i word ≡ Typed n want → LooksLive u v n false → (g ≡ n) × (g < v.post.machine.frames) →
+    Serves v x (of_frame n owner None) [] → Holds v x (took g owner v.holdings) → TwinGet v x n owner (Ok g) → Gets v x n owner (Ok g) → HadAgain b x f i owner t g want
+had_again {b} {u} {v} {f} {i} {word} {n} {g} {t} {want} x owner looks asks off is refers lent referred gets =
+    record {
+      u = u;
+      v = v;
+      word = word;
+      looks = looks;
+      asks = asks ∙ ap (λ k. Typed k want) (sym is.0);
+      off = subst (λ k. LooksLive u v k false) (sym is.0) off;
+      inside = is.1;
+      refers = subst (λ k. Serves v x (of_frame k owner None) []) (sym is.0) refers;
+      lent = lent;
+      referred = subst (λ k. TwinGet v x k owner (Ok g)) (sym is.0) referred;
+      gets = subst (λ k. Gets v x k owner (Ok g)) (sym is.0) gets;
+    }
+
+module _ {b x : PortValue} {f i owner g : ℕ} {t want : PageType} (had : HadAgain b x f i owner t g want) where
+  came_x : Came had.v x
+  came_x = serves_came had.v x (of_frame g owner None) [] had.refers
+
+  takes : Holds had.u x (took g owner had.u.holdings)
+  takes = takes_behind had.u had.v x g owner (live_same had.u had.v g false had.off) had.lent
+
+  -- what the type's call needs
+  pub again_some : IsTrue (not (is_none want))
+  again_some = asks_some t i had.word g want had.asks
+
+  pub again_aside : work_on g x.holdings.works ≡ None → typed_to g x.holdings.typed ≡ 0
+  again_aside none = take_aside b had.u f i t had.word had.looks.looks owner g want had.asks x takes none
+
+  pub again_other : IsOfOther g want x.holdings
+  again_other = take_other b had.u f i t had.word had.looks.looks owner g want had.asks x takes
+
+  pub again_looking : x.holdings.looking ≡ []
+  again_looking = take_looking b had.u f i t had.word had.looks.looks owner g want had.asks x takes
+
+  had_found : (w : PortValue) (answer : Result Resumed Stop) → Does x w (λ vs. TypedAgain x.post g owner want answer vs) → ResumesFound b w f i t owner answer
+  had_found w answer rest = resumes_had b had.u f i t had.word had.looks.looks owner g want had.asks had.v had.off x w g answer had.gets rest
+
+  had_plain : (w : PortValue) (answer : Result Resumed Stop) → (is_telling x ≡ true → TypesAgain w (told_word x) g want answer) → TwinResume b w f t i owner answer
+  had_plain w answer types =
+      twin_again b had.u had.v f i owner t had.word g want had.looks.looks.look had.asks had.off w answer
+      (λ telling. again_behind had.v x g g owner had.referred telling w want answer (types (came_telling had.v x came_x ∙ telling)))
+
+  -- it was counted
+  pub last_taken : {y : PortValue} {k : Taken} → TypeTaken x y g owner want (Ok Counted) → k ≡ Counted → LeavesLive x y g k → TakesLast b y f i owner t (Ok (again.Taken g))
+  last_taken {y} taken is leaves =
+      takes_last
+      (λ pages.
+      resumes_taken b had.u had.v f i owner pages t had.word g want had.looks had.asks had.off x had.refers y taken.takes.serves
+      (gets_on b had.u had.v x y f i t had.word g owner want had.looks had.asks had.off had.inside came_x had.lent taken.takes.hand (ends_live x y g owner want again_some taken.found)))
+      (had_found y (Ok (again.Taken g)) (retaken x y g owner want taken.found))
+      (takes_again b had.u f i t had.word had.looks.looks owner g want had.asks x takes y taken.takes.hand, taken_settled b had.u had.v x y f i t had.word g owner want had.looks had.asks had.off came_x had.lent taken.takes.hand (subst (λ j. LeavesLive x y g j) is leaves))
+      (had_plain y (Ok (again.Taken g)) (λ telling. again_counted x y g g want refl telling taken.plain))
+
+  -- it came into work, under an untyped reference: the entry has the type count
+  pub last_opened : {y : PortValue} {progress : ℕ} {own : Bool} → TypeTaken x y g owner want (Ok (InWork progress own)) → TakesLast b y f i owner t (Ok (again.Opened g progress))
+  last_opened {y} {progress} {own} is_taken =
+      let taken = took_as (again_in_work b had.u had.v x f i t had.word g owner want had.looks had.asks had.off had.lent y (InWork progress own) is_taken.found progress own refl) is_taken in
+      takes_last (λ pages. resumes_opened b had.u had.v f i owner pages t had.word g want had.looks had.asks had.off x had.refers y taken.takes.serves progress)
+      (had_found y (Ok (again.Opened g progress)) (reopened x y g owner want progress taken.found)) (opens_from b had.u f i t had.word had.looks.looks owner g want had.asks x takes y progress false taken.takes.hand.1)
+      (had_plain y (Ok (again.Opened g progress)) (λ telling. again_opened x y g g want refl telling progress taken.plain))
+
+  pub last_waiting : {y : PortValue} {own : Bool} {stamp : ℕ} {stop : Stop} → TypeTaken x y g owner want (Ok (Waiting own stamp stop)) → TakesLast b y f i owner t (Ok (again.Waiting g stamp stop))
+  last_waiting {y} {own} {stamp} {stop} is_taken =
+      let taken = took_as (again_waits b had.u had.v x f i t had.word g owner want had.looks had.asks had.off had.lent y (Waiting own stamp stop) is_taken.found own stamp stop refl) is_taken in
+      let shows = taken.takes.waits in
+      takes_last (λ pages. resumes_waiting b had.u had.v f i owner pages t had.word g want had.looks had.asks had.off x had.refers y taken.takes.serves stamp stop shows.0 shows.1)
+      (had_found y (Ok (again.Waiting g stamp stop)) (rewaited x y g owner want stamp stop taken.found))
+      (opens_waiting b had.u f i t had.word had.looks.looks owner g want had.asks x takes y false stamp taken.takes.hand)
+      (had_plain y (Ok (again.Waiting g stamp stop)) (λ telling. again_waiting x y g g want refl telling stamp stop taken.plain))
+
+  -- it is not to be had, and the reference was given back
+  pub last_untyped : {y z : PortValue} {e : Stop} → TypeTaken x y g owner want (Err e) → Serves y z (of_back g) [] → Puts y z g → Holds y z (gave g y.holdings) → (is_telling y ≡ true → Leaves z (put g (told_word y))) →
+      TakesLast b z f i owner t (Err e)
+  last_untyped {y} {z} {e} taken back puts gives leaves =
+      takes_last (λ pages. resumes_untyped b had.u had.v f i owner pages t had.word g want had.looks had.asks had.off x had.refers y z e taken.takes.kinds taken.takes.serves taken.takes.stops back)
+      (untaken_found b had.u f i t had.word had.looks.looks owner g want had.asks had.v had.off x y z g e had.gets taken.found puts)
+      (given_up b had.u f i t had.word had.looks.looks owner g want had.asks x takes y z taken.takes.hand gives)
+      (had_plain z (Err e) (λ telling. again_stopped x y g g want refl telling z (serves_came x y (of_frame g owner (Some want)) _ taken.takes.serves) leaves e taken.plain))
