@@ -57,12 +57,12 @@ pub hand_owned : (v w : PortValue) (f i : ℕ) (t : PageType) (a : Result Releas
 hand_owned v w f i t (Ok x) h = h.1
 hand_owned v w f i t (Err e) h = tt
 
-module _ (b v w : PortValue) (f i : ℕ) (t : PageType) (word : ℕ) (l : SeesLast b v f i t word) (y : ℕ) (step : Moves v w Clock Load kinds.Look (Some (Shed f i)) y) (shed : Holds v w (entry_shed v.post.machine f i v.holdings)) where
+module _ {b v w : PortValue} {f i : ℕ} {t : PageType} {word y : ℕ} (l : SeesLast b v f i t word) (step : Moves v w Clock Load kinds.Look (Some (Shed f i)) y) (shed : Holds v w (entry_shed v.post.machine f i v.holdings)) where
   pub shed_goes : (owner pages : ℕ) → Goes b w f i owner pages []
-  shed_goes owner pages = goes_shed b v w f i owner pages [] (look_goes b v f i t word l owner pages) f i y step
+  shed_goes owner pages = goes_shed w (look_goes l owner pages) f i y step
 
   entry_shows : (owner pages : ℕ) (z : PortValue) → Came w z → Progress (Met b z)
-  entry_shows owner pages z came = shed_shows b v w f i owner pages [] (look_goes b v f i t word l owner pages) Clock f i y step z came
+  entry_shows owner pages z came = shed_shows w (look_goes l owner pages) Clock f i y step z came
 
   pub nothing_shows : (owner pages : ℕ) → Progress (Met b w)
   nothing_shows owner pages = entry_shows owner pages w (came_self w)
@@ -77,17 +77,17 @@ module _ (b v w : PortValue) (f i : ℕ) (t : PageType) (word : ℕ) (l : SeesLa
   none_left left = left ∙ ap (λ (q : PortValue). still (record q { holdings = record q.holdings { works = fewer q.holdings.works } })) l.hand
 
   pub nothing_hand : (demand_at t i word ≡ Nothing) ⊎ (demand_at t i word ≡ Bad) → Holds b w (shed_once f i word b.holdings)
-  nothing_hand (inl asks) = none_left (shed_nothing v w f i t word (looked_seen b v f i t word l) shed asks)
-  nothing_hand (inr asks) = none_left (shed_bad v w f i t word (looked_seen b v f i t word l) shed asks)
+  nothing_hand (inl asks) = none_left (shed_nothing v w (looked_seen l) shed asks)
+  nothing_hand (inr asks) = none_left (shed_bad v w (looked_seen l) shed asks)
 
   pub nothing_found : (demand_at t i word ≡ Nothing) ⊎ (demand_at t i word ≡ Bad) → ReleasesFound b w f i t (Ok Given)
-  nothing_found (inl asks) = last_found b v f i t word l w (Ok Given) Nothing asks (does_as v w (ShedsAt Clock f i) (λ rs. ReleasesBy b.post.machine f i (Ok Given) Nothing rs) (λ vs one. (refl, one)) (sheds v w Clock f i y step))
-  nothing_found (inr asks) = last_found b v f i t word l w (Ok Given) Bad asks (does_as v w (ShedsAt Clock f i) (λ rs. ReleasesBy b.post.machine f i (Ok Given) Bad rs) (λ vs one. (refl, one)) (sheds v w Clock f i y step))
+  nothing_found (inl asks) = last_found l w (Ok Given) Nothing asks (does_as v w (ShedsAt Clock f i) (λ rs. ReleasesBy b.post.machine f i (Ok Given) Nothing rs) (λ vs one. (refl, one)) (sheds v w Clock f i y step))
+  nothing_found (inr asks) = last_found l w (Ok Given) Bad asks (does_as v w (ShedsAt Clock f i) (λ rs. ReleasesBy b.post.machine f i (Ok Given) Bad rs) (λ vs one. (refl, one)) (sheds v w Clock f i y step))
 
   -- ---- it asks a reference
   module _ (g : ℕ) (asks : demand_at t i word ≡ Read g) where
     plain_left : Holds v w (record (with_recorded f i None v.holdings) { refs = brought g v.holdings ∷ v.holdings.refs })
-    plain_left = shed_plain v w f i t word (looked_seen b v f i t word l) shed g asks
+    plain_left = shed_plain v w (looked_seen l) shed g asks
 
     pub plain_post : w.post ≡ b.post
     plain_post = ap (λ (q : PortValue). q.post) plain_left ∙ ap (λ (q : PortValue). q.post) l.hand
@@ -131,9 +131,9 @@ module _ (b v w : PortValue) (f i : ℕ) (t : PageType) (word : ℕ) (l : SeesLa
     pub plain_goes : (owner pages : ℕ) (z : PortValue) → Serves w z (of_back g) [] → Goes b z f i owner pages []
     plain_goes owner pages z back =
         goes_back b w f i owner pages [] (shed_goes owner pages) z g None
-        (asks_still b v f i owner pages [] (look_goes b v f i t word l owner pages) w g None (asks_plain b v f i t word l owner pages g asks) (moves_came v w Clock Load kinds.Look (Some (Shed f i)) y step)) back
+        (asks_still b v f i owner pages [] (look_goes l owner pages) w g None (asks_plain l owner pages g asks) (moves_came v w Clock Load kinds.Look (Some (Shed f i)) y step)) back
 
     pub plain_found : (z : PortValue) → Puts w z g → ReleasesFound b z f i t (Ok Given)
     plain_found z puts =
-        last_found b v f i t word l z (Ok Given) (Read g) asks
+        last_found l z (Ok Given) (Read g) asks
         (does_as v z (Then (ShedsAt Clock f i) (PutBy g)) (λ rs. ReleasesBy b.post.machine f i (Ok Given) (Read g) rs) (λ vs steps. (refl, steps)) (does_then v w z (ShedsAt Clock f i) (PutBy g) (sheds v w Clock f i y step) puts))

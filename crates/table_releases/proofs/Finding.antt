@@ -46,7 +46,7 @@ swaps v w g x k found read m =
     (subst (λ y. Does v w (Only (visit (Kind g) (Cas (kind_write k) (kind_write (resumed_kind y))) found))) (sym (fields_of x k read)) (does_one v w (Kind g) (Cas (kind_write k) (kind_write (resumed_kind k))) kinds.Kind None found m))
 
 -- ---- an entry that was looked at
-module _ (b v : PortValue) (f i : ℕ) (t : PageType) (word : ℕ) (l : SeesLast b v f i t word) where
+module _ {b v : PortValue} {f i : ℕ} {t : PageType} {word : ℕ} (l : SeesLast b v f i t word) where
   pub last_found : (w : PortValue) (answer : Result Released Stop) (d : Demand) → demand_at t i word ≡ d → Does v w (λ rs. ReleasesBy b.post.machine f i answer d rs) → ReleasesFound b w f i t answer
   last_found w answer d asks way =
       does_as b w (Then (Only (saw_cell f i word)) (λ rs. ReleasesBy b.post.machine f i answer (demand_at t i word) rs)) (λ vs. ReleasedBy b.post.machine f i t answer vs) (λ vs steps. (word, steps))
@@ -54,14 +54,14 @@ module _ (b v : PortValue) (f i : ℕ) (t : PageType) (word : ℕ) (l : SeesLast
       (subst (λ e. Does v w (λ rs. ReleasesBy b.post.machine f i answer e rs)) (sym asks) way))
 
 -- ---- and then the frame that it names
-module _ (b v : PortValue) (f i : ℕ) (t : PageType) (word g : ℕ) (want : PageType) (x : ℕ) (l : SeesKind b v f i t word g want x) where
+module _ {b v : PortValue} {f i : ℕ} {t : PageType} {word g : ℕ} {want : PageType} {x : ℕ} (l : SeesKind b v f i t word g want x) where
   pub kind_came : Came b v
   kind_came = came_trans b l.from v (moves_came b l.from (Cell f i) Load kinds.Look None word l.sees.sees.look) (moves_came l.from v (Kind g) Load kinds.Look None x l.look)
 
   pub kind_found : (w : PortValue) (answer : Result Released Stop) (r : Form) → form_of (kind_fields x) ≡ r → Does v w (λ ks. FormBy b.post.machine f i g want x answer r ks) → ReleasesFound b w f i t answer
   kind_found w answer r is way =
       let ways : List Visit → Type 0 = λ ks. FormBy b.post.machine f i g want x answer (form_of (kind_fields x)) ks in
-      last_found b l.from f i t word l.sees.sees w answer (Typed g want) l.sees.asks
+      last_found l.sees.sees w answer (Typed g want) l.sees.asks
       (does_as l.from w (Then (Only (saw_kind g x)) ways) (λ vs. TypedReleased b.post.machine f i g want answer vs) (λ vs steps. (x, steps))
       (does_then l.from v w (Only (saw_kind g x)) ways (does_one l.from v (Kind g) Load kinds.Look None x l.look) (subst (λ e. Does v w (λ ks. FormBy b.post.machine f i g want x answer e ks)) (sym is) way)))
 
@@ -100,10 +100,10 @@ module _ (b v : PortValue) (f i : ℕ) (t : PageType) (word g : ℕ) (want : Pag
 pub form_other : (k : KindWord) → k.validated ≡ false → k.partial ≡ false → (P : Form → Type 0) → P InWork → P Dead → P (form_of k)
 form_other k off none P work dead = rw (off, none) (elim k.locked as (λ c. P (if c then InWork else Dead)) [ true ↦ work | false ↦ dead ])
 
-pub busy_found : (b v : PortValue) (f i : ℕ) (t : PageType) (word g : ℕ) (want : PageType) (x : ℕ) → SeesKind b v f i t word g want x → (kind_fields x).validated ≡ false → (kind_fields x).partial ≡ false →
+pub busy_found : {b v : PortValue} {f i g x : ℕ} {want : PageType} {word : ℕ} {t : PageType} → SeesKind b v f i t word g want x → (kind_fields x).validated ≡ false → (kind_fields x).partial ≡ false →
     ReleasesFound b v f i t (Err (Paused (Busy g x)))
-busy_found b v f i t word g want x l off none =
+busy_found {b} {v} {f} {i} {g} {x} {want} l off none =
     let stays : (r : Form) → ((vs : _) → Nothing vs → FormBy b.post.machine f i g want x (Err (Paused (Busy g x))) r vs) → Does v v (λ ks. FormBy b.post.machine f i g want x (Err (Paused (Busy g x))) r ks) =
     λ r so. does_as v v Nothing (λ ks. FormBy b.post.machine f i g want x (Err (Paused (Busy g x))) r ks) so (does_nothing v) in
-    kind_found b v f i t word g want x l v (Err (Paused (Busy g x))) (form_of (kind_fields x)) refl
+    kind_found l v (Err (Paused (Busy g x))) (form_of (kind_fields x)) refl
     (form_other (kind_fields x) off none (λ r. Does v v (λ ks. FormBy b.post.machine f i g want x (Err (Paused (Busy g x))) r ks)) (stays InWork (λ vs no. (refl, no))) (stays Dead (λ vs no. (refl, no))))

@@ -38,11 +38,11 @@ use Rattle.xp_board.specs.declared.holdings.Unsettled.{Unsettled}
 abbrev pub seen_same : (f i : ℕ) (t : PageType) (word : ℕ) (h k : Holdings) → work_on f k.works ≡ work_on f h.works → SeenLast f i t word h → SeenLast f i t word k
 seen_same f i t word h k same l = record { work = l.work; here = same ∙ l.here; kind = l.kind; table = l.table; unmarked = l.unmarked; last = l.last; seen = l.seen; loaded = l.loaded }
 
-pub typed_post : (b v : PortValue) (f i : ℕ) (t : PageType) (word g : ℕ) (want : PageType) → SeesTyped b v f i t word g want → v.post ≡ b.post
-typed_post b v f i t word g want l = ap (λ (q : PortValue). q.post) l.sees.hand
+pub typed_post : {b v : PortValue} {f i word g : ℕ} {t want : PageType} → SeesTyped b v f i t word g want → v.post ≡ b.post
+typed_post l = ap (λ (q : PortValue). q.post) l.sees.hand
 
-pub typed_frame : (b v : PortValue) (f i : ℕ) (t : PageType) (word g : ℕ) (want : PageType) → SeesTyped b v f i t word g want → g < v.post.machine.frames
-typed_frame b v f i t word g want l = subst (λ (p : Post). g < p.machine.frames) (sym (typed_post b v f i t word g want l)) l.inside
+pub typed_frame : {g : ℕ} {b v : PortValue} {f i word : ℕ} {t want : PageType} → SeesTyped b v f i t word g want → g < v.post.machine.frames
+typed_frame {g} l = subst (λ (p : Post). g < p.machine.frames) (sym (typed_post l)) l.inside
 
 same_word : (i word : ℕ) (e x : Work) → (e ≡ x) ⊎ (e ≡ learned_work i word x) → e.word ≡ x.word
 same_word i word e x (inl is) = ap (λ (y : Work). y.word) is
@@ -59,18 +59,18 @@ pub form_partial_is : (x : ℕ) (k : KindWord) → kind_read x ≡ Some k → Is
 form_partial_is x k read partial = let parts = partial_parts k partial in ap form_of (fields_of x k read) ∙ rw (parts.0, parts.1) refl
 
 -- ---- by the look at its kind word
-module _ (b v : PortValue) (f i : ℕ) (t : PageType) (word g : ℕ) (want : PageType) (x : ℕ) (l : SeesKind b v f i t word g want x) where
+module _ {b v : PortValue} {f i : ℕ} {t : PageType} {word g : ℕ} {want : PageType} {x : ℕ} (l : SeesKind b v f i t word g want x) where
   abbrev from : PortValue
   from = l.from
 
   abbrev pub from_seen : SeenLast f i t word l.from.holdings
-  from_seen = looked_seen b l.from f i t word l.sees.sees
+  from_seen = looked_seen l.sees.sees
 
   abbrev pub now_seen : SeenLast f i t word v.holdings
   now_seen = seen_same f i t word l.from.holdings v.holdings (ap (λ (q : PortValue). work_on f q.holdings.works) l.same) from_seen
 
   pub kind_post : v.post ≡ b.post
-  kind_post = ap (λ (q : PortValue). q.post) l.same ∙ typed_post b l.from f i t word g want l.sees
+  kind_post = ap (λ (q : PortValue). q.post) l.same ∙ typed_post l.sees
 
   pub kind_frame : g < v.post.machine.frames
   kind_frame = subst (λ (p : Post). g < p.machine.frames) (sym kind_post) l.sees.inside
@@ -117,7 +117,7 @@ module _ (b v : PortValue) (f i : ℕ) (t : PageType) (word g : ℕ) (want : Pag
         (asked (Typed g want) l.sees.asks) g want refl)
       where
         none_noted : from_seen.work.unsettled ≡ None
-        none_noted = looked_settled b l.from f i t word l.sees.sees settled
+        none_noted = looked_settled l.sees.sees settled
 
         by_way : {A : Type 0} {B : Unsettled → Type 0} → IsTrue (is_live (kind_at l.look.finds.words g)) ⊎ (A × ((u : Unsettled) × (from_seen.work.unsettled ≡ Some u) × B u)) → k.validated ≡ true
         by_way (inl live) = subst (λ (y : KindWord). y.validated ≡ true) at_g live

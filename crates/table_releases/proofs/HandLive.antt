@@ -61,7 +61,7 @@ looks_none g w (x ∷ xs) none = absurd cc
 pub none_after : {A : Type 0} (key : A → ℕ) (g f : ℕ) (change : A → A) (xs : List A) → ((x : A) → key (change x) ≡ key x) → first_by key g xs ≡ None → first_by key g (changed_by key f change xs) ≡ None
 none_after key g f change xs kept none = first_by-none key g (changed_by key f change xs) (times-changed key g f change xs kept ∙ first_by-absent key g xs none)
 
-module _ (b v : PortValue) (f i : ℕ) (t : PageType) (word g : ℕ) (want : PageType) (x : ℕ) (l : SeesKind b v f i t word g want x) where
+module _ {b v : PortValue} {f i : ℕ} {t : PageType} {word g : ℕ} {want : PageType} {x : ℕ} (l : SeesKind b v f i t word g want x) where
   -- the hand, from before the looks
   pub hand_behind : (w : PortValue) (r : List Reference → List Reference) (y : List TypedReference → List TypedReference) (e : List Work → List Work) →
       Holds v w (record v.holdings { refs = r v.holdings.refs; typed = y v.holdings.typed; works = e v.holdings.works }) →
@@ -76,11 +76,11 @@ module _ (b v : PortValue) (f i : ℕ) (t : PageType) (word g : ℕ) (want : Pag
 
   module _ (live : is_live_word x ≡ true) where
     abbrev pub seen : SeenLast f i t word v.holdings
-    seen = now_seen b v f i t word g want x l
+    seen = now_seen l
 
     -- ---- the entry is settled by the look that found its frame live
     abbrev first : SeenLast f i t word l.from.holdings
-    first = from_seen b v f i t word g want x l
+    first = from_seen l
 
     low_since : (u : Unsettled) → first.work.unsettled ≡ Some u → u.since ≤ length l.from.holdings.steps
     low_since u at =
@@ -123,7 +123,7 @@ module _ (b v : PortValue) (f i : ℕ) (t : PageType) (word g : ℕ) (want : Pag
     newest = brought_as (is_settled (sizes_of v.post.machine) v.holdings (seen live).work) g want v.holdings
 
     pub live_shed : Holds v w (record (with_recorded f i None v.holdings) { typed = newest ∷ v.holdings.typed })
-    live_shed = shed_typed v w f i t word (seen live) shed g want l.sees.asks
+    live_shed = shed_typed v w (seen live) shed g want l.sees.asks
 
     pub live_post : w.post ≡ v.post
     live_post = ap (λ (q : PortValue). q.post) live_shed
@@ -254,9 +254,9 @@ may_dropped v w g last d m =
     by_post false h = ap (λ (q : PortValue). q.post) h
 
 -- ---- a look at the kind word behind the one at the entry
-pub sees_kind : (b v u : PortValue) (f i : ℕ) (t : PageType) (word g : ℕ) (want : PageType) (x : ℕ) → SeesTyped b v f i t word g want → Moves v u (Kind g) Load kinds.Look None x → Same v u → SeesKind b u f i t word g want x
-sees_kind b v u f i t word g want x l look same = record { from = v; sees = l; look = look; same = same }
+pub sees_kind : {v b u : PortValue} {f i word g x : ℕ} {t want : PageType} → SeesTyped b v f i t word g want → Moves v u (Kind g) Load kinds.Look None x → Same v u → SeesKind b u f i t word g want x
+sees_kind {v} l look same = record { from = v; sees = l; look = look; same = same }
 
 -- nothing more was done
-pub stays_recorded : (b v : PortValue) (f i : ℕ) (t : PageType) (word g : ℕ) (want : PageType) (x : ℕ) → SeesKind b v f i t word g want x → StaysRecorded b v f i
-stays_recorded b v f i t word g want x l = (word, l.same ∙ l.sees.sees.hand)
+pub stays_recorded : {word : ℕ} {b v : PortValue} {f i g x : ℕ} {t want : PageType} → SeesKind b v f i t word g want x → StaysRecorded b v f i
+stays_recorded {word} l = (word, l.same ∙ l.sees.sees.hand)

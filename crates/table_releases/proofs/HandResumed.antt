@@ -64,7 +64,7 @@ changed_behind : (f : ℕ) (change : Work → Work) (e : Work) (xs : List Work) 
 unfolding changed_by
 changed_behind f change e xs off = rw (when_ne e.frame f off) refl
 
-module _ (b v : PortValue) (f i : ℕ) (t : PageType) (word g : ℕ) (want : PageType) (k : KindWord) (r : Resumed b v f i t word g want k) where
+module _ {b v : PortValue} {f i : ℕ} {t : PageType} {word g : ℕ} {want : PageType} {k : KindWord} (r : Resumed b v f i t word g want k) where
   abbrev came : PortValue
   came = r.from
 
@@ -72,7 +72,7 @@ module _ (b v : PortValue) (f i : ℕ) (t : PageType) (word g : ℕ) (want : Pag
   is_spelled = (read_is r.found k r.read).0
 
   kind_is : k.kind ≡ want
-  kind_is = found_kind b r.from f i t word g want r.found r.sees k r.read
+  kind_is = found_kind r.sees k r.read
 
   form : PartialForm k
   form = let parts = partial_parts k r.partial in partial_form r.found k r.read parts.0 parts.1
@@ -94,7 +94,7 @@ module _ (b v : PortValue) (f i : ℕ) (t : PageType) (word g : ℕ) (want : Pag
 
   pub came_in : Holds r.from v (record r.from.holdings { works = new ∷ r.from.holdings.works })
   came_in =
-      r.hand ∙ ap (λ (h : Holdings). still (record r.from { holdings = h })) (resumed_unkept g k r.from.holdings (found_unkept b r.from f i t word g want r.found r.sees k r.read r.partial))
+      r.hand ∙ ap (λ (h : Holdings). still (record r.from { holdings = h })) (resumed_unkept g k r.from.holdings (found_unkept r.sees k r.read r.partial))
       ∙ ap (λ ys. still (record r.from { holdings = record r.from.holdings { looking = ys; works = new ∷ r.from.holdings.works } })) (looks_none g (kind_write (resumed_kind k)) r.from.holdings.looking no_looking)
 
   apart : work_on g r.from.holdings.works ≡ None
@@ -103,7 +103,7 @@ module _ (b v : PortValue) (f i : ℕ) (t : PageType) (word g : ℕ) (want : Pag
       ∙ partial_apart r.sees.from.post.machine r.sees.from.post.vcpu r.sees.from.holdings g r.found k r.sees.look.finds (fields_of r.found k r.read) r.partial
 
   abbrev before : SeenLast f i t word r.from.holdings
-  before = now_seen b r.from f i t word g want r.found r.sees
+  before = now_seen r.sees
 
   other : g ≢ f
   other same = let here : work_on g r.from.holdings.works ≡ Some before.work = subst (λ n. work_on n r.from.holdings.works ≡ Some before.work) (sym same) before.here in let both : None ≡ Some before.work = sym apart ∙ here in cc
@@ -115,7 +115,7 @@ module _ (b v : PortValue) (f i : ℕ) (t : PageType) (word g : ℕ) (want : Pag
   resumed_seen = seen_same f i t word r.from.holdings v.holdings same_works before
 
   pub resumed_post : v.post ≡ b.post
-  resumed_post = ap (λ (q : PortValue). q.post) came_in ∙ kind_post b r.from f i t word g want r.found r.sees
+  resumed_post = ap (λ (q : PortValue). q.post) came_in ∙ kind_post r.sees
 
   -- the entry is not settled: its frame is in work, and was not found live
   still_unsettled : (p : _) (y : ℕ) (mark : _) {w : PortValue} → Moves v w p Load kinds.Look mark y → is_settled (sizes_of v.post.machine) v.holdings resumed_seen.work ≡ false
@@ -150,11 +150,11 @@ module _ (b v : PortValue) (f i : ℕ) (t : PageType) (word g : ℕ) (want : Pag
     resumed_newest = brought_as (is_settled (sizes_of v.post.machine) v.holdings resumed_seen.work) g want v.holdings
 
     abbrev shed_all : List Work → List Work
-    shed_all ws = shed_works b r.from f i t word g want r.found r.sees ws
+    shed_all ws = shed_works r.sees ws
 
     pub resumed_shed : Holds r.from w (record r.from.holdings { typed = resumed_newest ∷ r.from.holdings.typed; works = new ∷ shed_all r.from.holdings.works })
     resumed_shed =
-        shed_typed v w f i t word resumed_seen shed g want r.sees.sees.asks
+        shed_typed v w resumed_seen shed g want r.sees.sees.asks
         ∙ ap (λ (q : PortValue). still (record q { holdings = record q.holdings { typed = resumed_newest ∷ q.holdings.typed; works = shed_all q.holdings.works } })) came_in
         ∙ ap (λ ws. still (record r.from { holdings = record r.from.holdings { typed = resumed_newest ∷ r.from.holdings.typed; works = ws } })) (changed_behind f (λ (e : Work). record e { recorded = i; unsettled = None }) new r.from.holdings.works other)
 
@@ -210,7 +210,7 @@ module _ (b v : PortValue) (f i : ℕ) (t : PageType) (word g : ℕ) (want : Pag
           since = λ off h others at. newest_since mark p y step h others at;
           after = record (shed_once f i word b.holdings) { typed = resumed_newest ∷ b.holdings.typed; works = new ∷ (shed_once f i word b.holdings).works };
           holding = record { untyped = λ on. absurd cc; typed = λ off. (resumed_newest, refl, ap (λ x. Some x) is, refl) };
-          hand = hand_behind b r.from f i t word g want r.found r.sees w (λ rs. rs) (λ ys. resumed_newest ∷ ys) (λ ws. new ∷ shed_all ws) resumed_shed;
+          hand = hand_behind r.sees w (λ rs. rs) (λ ys. resumed_newest ∷ ys) (λ ws. new ∷ shed_all ws) resumed_shed;
         }
       where
         no_mark : (u : Bool) → k.unflushed ≡ u → 0 < k.progress → k.unflushed ≡ false
@@ -267,6 +267,6 @@ module _ (b v : PortValue) (f i : ℕ) (t : PageType) (word g : ℕ) (want : Pag
 
         pub dead_given : (z : PortValue) → Holds d z (gave g d.holdings) → Holds b z (shed_once f i word b.holdings)
         dead_given z given =
-            hand_behind b r.from f i t word g want r.found r.sees z (λ rs. rs) (λ ys. ys) shed_all
+            hand_behind r.sees z (λ rs. rs) (λ ys. ys) shed_all
             (given ∙ ap (λ (q : PortValue). still (record q { holdings = gave g q.holdings })) dead_hand
             ∙ ap (λ rs. still (record r.from { holdings = record r.from.holdings { refs = rs; works = shed_all r.from.holdings.works } })) (without_newest (λ (e : Reference). e.frame) g dead_ref r.from.holdings.refs refl))

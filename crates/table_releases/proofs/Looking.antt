@@ -26,7 +26,7 @@ use Rattle.table_entries.proofs.LastSeen.{SeenLast, finds_inside, finds_plain, l
 use Rattle.table_releases.specs.Between.{SeesLast}
 use Rattle.table_releases.specs.Tops.{IsSettledTop}
 
-module _ (b v : PortValue) (f i : ℕ) (t : PageType) (word : ℕ) (l : SeesLast b v f i t word) where
+module _ {b v : PortValue} {f i : ℕ} {t : PageType} {word : ℕ} (l : SeesLast b v f i t word) where
   pub top_here : work_on f b.holdings.works ≡ Some l.works.top
   top_here = ap (λ ws. work_on f ws) l.works.works ∙ first_by-cons_here (λ (y : Work). y.frame) f l.works.top l.works.others l.works.frame
 
@@ -59,7 +59,7 @@ module _ (b v : PortValue) (f i : ℕ) (t : PageType) (word : ℕ) (l : SeesLast
       ap (λ (y : Work). y.unsettled) (unmarked_learns i word l.works.top l.works.unmarked) ∙ ap (λ o. learned_last i l.works.top.recorded word o) (settled l.works.top l.works.others l.works.works)
 
 -- ---- shed
-module _ (v w : PortValue) (f i : ℕ) (t : PageType) (word : ℕ) (l : SeenLast f i t word v.holdings) (shed : Holds v w (entry_shed v.post.machine f i v.holdings)) where
+module _ (v w : PortValue) {f i : ℕ} {t : PageType} {word : ℕ} (l : SeenLast f i t word v.holdings) (shed : Holds v w (entry_shed v.post.machine f i v.holdings)) where
   -- whether its frame is known live
   abbrev pub shed_sure : Bool
   shed_sure = is_settled (sizes_of v.post.machine) v.holdings l.work

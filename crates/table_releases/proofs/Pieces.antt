@@ -35,7 +35,7 @@ pub goes_step : (b v w : PortValue) (f i owner pages : ℕ) (ds : List Deed) (p 
 goes_step b v w f i owner pages ds p a kind mark found es goes m off serves =
     record { serves = serves; looks = looks_then b v w f i goes.looks (looks_step v w f i p a kind mark found m (λ h j at. absurd (off h j at))) }
 
-module _ (b v w : PortValue) (f i owner pages : ℕ) (ds : List Deed) (goes : Goes b v f i owner pages ds) (g upto found : ℕ) where
+module _ {b v : PortValue} (w : PortValue) {f i owner pages : ℕ} {ds : List Deed} (goes : Goes b v f i owner pages ds) (g upto found : ℕ) where
   pub goes_shed : Moves v w Clock Load kinds.Look (Some (Shed g upto)) found → Goes b w f i owner pages ds
   goes_shed m =
       goes_step b v w f i owner pages ds Clock Load kinds.Look (Some (Shed g upto)) found ds goes m (λ h j at. let same = at in cc)
@@ -47,7 +47,7 @@ module _ (b v w : PortValue) (f i owner pages : ℕ) (ds : List Deed) (goes : Go
       (serves_step b v w (of_entries owner pages) ds (Refs k) Load kinds.Look (Some (Shed g upto)) found goes.serves m tt)
 
 -- the step that shed the entry
-module _ (b v w : PortValue) (f i owner pages : ℕ) (ds : List Deed) (goes : Goes b v f i owner pages ds) where
+module _ {b v : PortValue} (w : PortValue) {f i owner pages : ℕ} {ds : List Deed} (goes : Goes b v f i owner pages ds) where
   pub shed_shows : (p : Place) (g upto found : ℕ) → Moves v w p Load kinds.Look (Some (Shed g upto)) found → (z : PortValue) → Came w z → Progress (Met b z)
   unfolding moment_of
   shed_shows p g upto found m z came =
@@ -61,7 +61,7 @@ held_by_work f i w t h e here kind unmarked table =
     ∙ ap (λ b. if is_table t && not b then Some (demand_at t i w) else None) unmarked
     ∙ ap (λ b. if b && true then Some (demand_at t i w) else None) table
 
-module _ (b v : PortValue) (f i : ℕ) (t : PageType) (word : ℕ) (l : SeesLast b v f i t word) where
+module _ {b v : PortValue} {f i : ℕ} {t : PageType} {word : ℕ} (l : SeesLast b v f i t word) where
   pub look_found : FoundWith (Met b v) (Cell f i) word b.holdings
   unfolding moment_of
   look_found = record { moment = moment_of b (Cell f i) Load kinds.Look None word; was = moves_met b v (Cell f i) Load kinds.Look None word l.look; place = refl; word = refl; hand = refl }
@@ -76,8 +76,8 @@ module _ (b v : PortValue) (f i : ℕ) (t : PageType) (word : ℕ) (l : SeesLast
   asks_by : (owner pages g : ℕ) (want : Option PageType) → IsDemandOf g want (Some (demand_at t i word)) → Asked b.post.machine b.post.vcpu (of_entries owner pages) (Met b v) g owner want
   asks_by owner pages g want is =
       demanded f i word b.holdings refl look_found
-      (subst (IsDemandOf g want) (sym (held_by_work f i word t b.holdings l.works.top (top_here b v f i t word l) l.works.kind l.works.unmarked l.works.table)) is)
-      (sym (ap (λ o. entry_owner (of_entries owner pages) o (lock_on f b.holdings.locks)) (top_here b v f i t word l)))
+      (subst (IsDemandOf g want) (sym (held_by_work f i word t b.holdings l.works.top (top_here l) l.works.kind l.works.unmarked l.works.table)) is)
+      (sym (ap (λ o. entry_owner (of_entries owner pages) o (lock_on f b.holdings.locks)) (top_here l)))
 
   pub asks_plain : (owner pages g : ℕ) → demand_at t i word ≡ demands.Read g → Asked b.post.machine b.post.vcpu (of_entries owner pages) (Met b v) g owner None
   asks_plain owner pages g is = asks_by owner pages g None (rw is (refl, tt))

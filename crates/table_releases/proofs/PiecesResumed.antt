@@ -42,29 +42,29 @@ use Rattle.table_releases.proofs.Pieces.{goes_shed, goes_shed_refs, goes_step, s
 use Rattle.table_releases.proofs.PiecesTyped.{IsOf, kind_asks, kind_goes, resumed_goes, typed_shows}
 use Rattle.frame_types.proofs.Serving.{work_alive}
 
-module _ (b v : PortValue) (f i : ℕ) (t : PageType) (word g : ℕ) (want : PageType) (k : KindWord) (r : Resumed b v f i t word g want k) where
+module _ {b v : PortValue} {f i : ℕ} {t : PageType} {word g : ℕ} {want : PageType} {k : KindWord} (r : Resumed b v f i t word g want k) where
   module _ (owner pages : ℕ) where
     in_goes : Goes b v f i owner pages []
-    in_goes = resumed_goes b r.from f i t word g want r.found r.sees owner pages k r.read r.partial v (kind_write k) r.step refl
+    in_goes = resumed_goes r.sees owner pages k r.read r.partial v (kind_write k) r.step refl
 
     in_asks : (w : PortValue) → Came v w → Asked b.post.machine b.post.vcpu (of_entries owner pages) (Met b w) g owner (Some want)
     in_asks w came =
-        asks_still b r.from f i owner pages [] (kind_goes b r.from f i t word g want r.found r.sees owner pages) w g (Some want) (kind_asks b r.from f i t word g want r.found r.sees owner pages)
+        asks_still b r.from f i owner pages [] (kind_goes r.sees owner pages) w g (Some want) (kind_asks r.sees owner pages)
         (came_trans r.from v w (moves_came r.from v (Kind g) _ kinds.Kind None (kind_write k) r.step) came)
 
     in_shows : (z : PortValue) (a : Released) → IsOf g a → Progress (Met b z) → Came v z → ShowsReleased b z owner pages t a
     in_shows z a is progress came =
-        typed_shows b r.from f i t word g want r.found r.sees owner pages z a is progress (came_trans r.from v z (moves_came r.from v (Kind g) _ kinds.Kind None (kind_write k) r.step) came)
+        typed_shows r.sees owner pages z a is progress (came_trans r.from v z (moves_came r.from v (Kind g) _ kinds.Kind None (kind_write k) r.step) came)
 
     -- a table of which entries are recorded
     pub table_releases : (w : PortValue) (y : ℕ) → Moves v w (Refs g) Load kinds.Look (Some (Shed f i)) y → Releases b w f i t owner pages (Ok (Opened g k.progress false))
     table_releases w y step =
-        let goes = goes_shed_refs b v w f i owner pages [] in_goes f i y g step in
+        let goes = goes_shed_refs w in_goes f i y g step in
         record {
           serves = goes.serves;
           stops = tt;
           kinds = tt;
-          shows = in_shows w (Opened g k.progress false) refl (shed_shows b v w f i owner pages [] in_goes (Refs g) f i y step w (came_self w)) (moves_came v w (Refs g) Load kinds.Look (Some (Shed f i)) y step);
+          shows = in_shows w (Opened g k.progress false) refl (shed_shows w in_goes (Refs g) f i y step w (came_self w)) (moves_came v w (Refs g) Load kinds.Look (Some (Shed f i)) y step);
           looks = goes.looks;
         }
 
@@ -72,7 +72,7 @@ module _ (b v : PortValue) (f i : ℕ) (t : PageType) (word g : ℕ) (want : Pag
     pub dead_releases : (w d z : PortValue) (clock x : ℕ) (l : KindWord) (e : Work) → Moves v w Clock Load kinds.Look (Some (Shed f i)) clock → Moves w d (Kind g) (Store (kind_write l)) kinds.Kind None x → work_on g w.holdings.works ≡ Some e →
         IsTrue (is_work (kind_fields e.word)) → (kind_fields e.word).kind ≡ want → IsTrue (is_kind l) → l.kind ≡ want → Serves d z (of_back g) [] → Releases b z f i t owner pages (Ok Given)
     dead_releases w d z clock x l e shed store here work kind is type back =
-        let one = goes_shed b v w f i owner pages [] in_goes f i clock shed in
+        let one = goes_shed w in_goes f i clock shed in
         let came = moves_came v w Clock Load kinds.Look (Some (Shed f i)) clock shed in
         let left = moves_came w d (Kind g) (Store (kind_write l)) kinds.Kind None x store in
         let same : x ≡ e.word = work_word w.post.machine w.post.vcpu w.holdings g x e store.finds here in
@@ -87,7 +87,7 @@ module _ (b v : PortValue) (f i : ℕ) (t : PageType) (word g : ℕ) (want : Pag
           serves = goes.serves;
           stops = tt;
           kinds = tt;
-          shows = in_shows z Given tt (shed_shows b v w f i owner pages [] in_goes Clock f i clock shed z last) (came_trans v w z came last);
+          shows = in_shows z Given tt (shed_shows w in_goes Clock f i clock shed z last) (came_trans v w z came last);
           looks = goes.looks;
         }
 
@@ -98,7 +98,7 @@ module _ (b v : PortValue) (f i : ℕ) (t : PageType) (word g : ℕ) (want : Pag
   partial_found : (z : PortValue) (a : Released) (opened : Bool) → has_recorded want k ≡ opened → Does v z (λ cs. ComesBy f i g want r.found (Ok a) opened cs) → ReleasesFound b z f i t (Ok a)
   partial_found z a opened is way =
       let came : ℕ → Visit = swaps_kind g r.found (resumed_kind (kind_fields r.found)) in
-      kind_found b r.from f i t word g want r.found r.sees z (Ok a) Partial (form_partial_is r.found k r.read r.partial)
+      kind_found r.sees z (Ok a) Partial (form_partial_is r.found k r.read r.partial)
       (does_then r.from v z (Only (came r.found)) (λ cs. ComesBy f i g want r.found (Ok a) (has_recorded want (kind_fields r.found)) cs)
       (subst (λ y. Does r.from v (Only (came y))) (sym (read_is r.found k r.read).1) (swaps r.from v g r.found k (kind_write k) r.read r.step))
       (subst (λ c. Does v z (λ cs. ComesBy f i g want r.found (Ok a) c cs)) (sym (found_recorded ∙ is)) way))

@@ -48,9 +48,9 @@ pub no_pin : (f : ℕ) (p : Bool) → pin_deed f p p ≡ []
 no_pin f true = refl
 no_pin f false = refl
 
-module _ (b v : PortValue) (f i : ℕ) (t : PageType) (word g : ℕ) (want : PageType) (x : ℕ) (l : SeesKind b v f i t word g want x) (owner pages : ℕ) where
+module _ {b v : PortValue} {f i : ℕ} {t : PageType} {word g : ℕ} {want : PageType} {x : ℕ} (l : SeesKind b v f i t word g want x) (owner pages : ℕ) where
   from_goes : Goes b l.from f i owner pages []
-  from_goes = look_goes b l.from f i t word l.sees.sees owner pages
+  from_goes = look_goes l.sees.sees owner pages
 
   pub kind_goes : Goes b v f i owner pages []
   kind_goes = goes_kind b l.from f i owner pages [] from_goes v g x l.look
@@ -59,7 +59,7 @@ module _ (b v : PortValue) (f i : ℕ) (t : PageType) (word g : ℕ) (want : Pag
   look_came = moves_came l.from v (Kind g) Load kinds.Look None x l.look
 
   pub kind_asks : Asked b.post.machine b.post.vcpu (of_entries owner pages) (Met b v) g owner (Some want)
-  kind_asks = asks_still b l.from f i owner pages [] from_goes v g (Some want) (asks_typed b l.from f i t word l.sees.sees owner pages g want l.sees.asks) look_came
+  kind_asks = asks_still b l.from f i owner pages [] from_goes v g (Some want) (asks_typed l.sees.sees owner pages g want l.sees.asks) look_came
 
   -- shed, and its frame is the one that is opened
   pub typed_shows : (z : PortValue) (a : Released) → IsOf g a → Progress (Met b z) → Came v z → ShowsReleased b z owner pages t a
@@ -79,7 +79,7 @@ module _ (b v : PortValue) (f i : ℕ) (t : PageType) (word g : ℕ) (want : Pag
   pub busy_releases : (k : KindWord) → kind_read x ≡ Some k → k.validated ≡ false → k.partial ≡ false → Releases b v f i t owner pages (Err (Paused (Busy g x)))
   unfolding Stops
   busy_releases k read off none =
-      let work = found_work b v f i t word g want x l k read off none in
+      let work = found_work l k read off none in
       let fields = fields_of x k read in
       record {
         serves = kind_goes.serves;
@@ -89,10 +89,10 @@ module _ (b v : PortValue) (f i : ℕ) (t : PageType) (word g : ℕ) (want : Pag
           l.from.holdings,
           kind_asks,
           found_there,
-          passed_by b l.from f i t word l.sees.sees owner pages g want l.sees.asks (Met b v) (λ m a. met_before b l.from v m a look_came) l.from.holdings (from_seen b v f i t word g want x l),
+          passed_by l.sees.sees owner pages g want l.sees.asks (Met b v) (λ m a. met_before b l.from v m a look_came) l.from.holdings (from_seen l),
           rw fields (rw work refl),
-          rw (fields, found_kind b v f i t word g want x l k read) (when_eq _ _ refl),
-          found_elsewhere b v f i t word g want x l k read work,
+          rw (fields, found_kind l k read) (when_eq _ _ refl),
+          found_elsewhere l k read work,
         );
         kinds = tt;
         shows = tt;
@@ -112,10 +112,10 @@ module _ (b v : PortValue) (f i : ℕ) (t : PageType) (word g : ℕ) (want : Pag
         inl (
           owner,
           subst (λ (y : PageType). Asked b.post.machine b.post.vcpu (of_entries owner pages) (Met b w) g owner (Some y))
-              (sym (ap (λ (y : KindWord). y.kind) (fields_write (resumed_kind k) is_next) ∙ found_kind b v f i t word g want x l k read))
+              (sym (ap (λ (y : KindWord). y.kind) (fields_write (resumed_kind k) is_next) ∙ found_kind l k read))
               (asks_still b v f i owner pages [] kind_goes w g (Some want) kind_asks (moves_came v w (Kind g) (Cas (kind_write k) (kind_write (resumed_kind k))) kinds.Kind None found change)),
-          passed_by b l.from f i t word l.sees.sees owner pages g want l.sees.asks (Met b w)
-              (λ m a. met_before b l.from w m a (came_trans l.from v w look_came (moves_came v w (Kind g) (Cas (kind_write k) (kind_write (resumed_kind k))) kinds.Kind None found change))) v.holdings (now_seen b v f i t word g want x l),
+          passed_by l.sees.sees owner pages g want l.sees.asks (Met b w)
+              (λ m a. met_before b l.from w m a (came_trans l.from v w look_came (moves_came v w (Kind g) (Cas (kind_write k) (kind_write (resumed_kind k))) kinds.Kind None found change))) v.holdings (now_seen l),
         )
 
     tried : Serves b w (of_entries owner pages) (deeds_by (Kind g) (Cas (kind_write k) (kind_write (resumed_kind k))) kinds.Kind found v.holdings ++ [])
@@ -133,7 +133,7 @@ module _ (b v : PortValue) (f i : ℕ) (t : PageType) (word g : ℕ) (want : Pag
 
     missed_serves : (place : ℕ) → place ≡ number (sizes_of b.post.machine) (Kind g) → found ≢ kind_write k → Serves b w (of_entries owner pages) (missed_at (place_at (sizes_of b.post.machine) place))
     missed_serves place at off =
-        let there : place_at (sizes_of b.post.machine) place ≡ Kind g = ap (λ y. place_at (sizes_of b.post.machine) y) at ∙ place_back (sizes_of b.post.machine) (Kind g) (subst (λ (p : Post). IsTrue (is_place (sizes_of p.machine) (Kind g))) (kind_post b v f i t word g want x l) change.may.place) in
+        let there : place_at (sizes_of b.post.machine) place ≡ Kind g = ap (λ y. place_at (sizes_of b.post.machine) y) at ∙ place_back (sizes_of b.post.machine) (Kind g) (subst (λ (p : Post). IsTrue (is_place (sizes_of p.machine) (Kind g))) (kind_post l) change.may.place) in
         rw there
         (subst (λ y. Serves b w (of_entries owner pages) ((if y then exchanged (Kind g) (kind_write k) (kind_write (resumed_kind k)) else (Misses (Kind g) ∷ [])) ++ [])) (when_ne found (kind_write k) off) tried)
 
@@ -177,7 +177,7 @@ module _ (b v : PortValue) (f i : ℕ) (t : PageType) (word g : ℕ) (want : Pag
   -- ---- it is live: shed by a look at its reference word, and its type count given back
   module _ (w : PortValue) (upto y : ℕ) (look : Moves v w (Refs g) Load kinds.Look (Some (Shed f upto)) y) where
     live_goes : Goes b w f i owner pages []
-    live_goes = goes_shed_refs b v w f i owner pages [] kind_goes f upto y g look
+    live_goes = goes_shed_refs w kind_goes f upto y g look
 
     live_asks : Asked b.post.machine b.post.vcpu (of_entries owner pages) (Met b w) g owner (Some want)
     live_asks = asks_still b v f i owner pages [] kind_goes w g (Some want) kind_asks (moves_came v w (Refs g) Load kinds.Look (Some (Shed f upto)) y look)
@@ -190,7 +190,7 @@ module _ (b v : PortValue) (f i : ℕ) (t : PageType) (word g : ℕ) (want : Pag
           serves = goes.serves;
           stops = tt;
           kinds = tt;
-          shows = typed_shows z a is (shed_shows b v w f i owner pages [] kind_goes (Refs g) f upto y look z came) (came_trans v w z (moves_came v w (Refs g) Load kinds.Look (Some (Shed f upto)) y look) came);
+          shows = typed_shows z a is (shed_shows w kind_goes (Refs g) f upto y look z came) (came_trans v w z (moves_came v w (Refs g) Load kinds.Look (Some (Shed f upto)) y look) came);
           looks = goes.looks;
         }
 

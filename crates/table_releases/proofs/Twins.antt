@@ -33,7 +33,7 @@ use Rattle.table_releases.proofs.Finding.{form_other}
 pub look_words : (v w : PortValue) (p : _) (mark : Option Mark) (x : ℕ) → Moves v w p Load kinds.Look mark x → is_telling v ≡ true → told_word w ≡ told_word v
 look_words v w p mark x m telling = λ i q. load_tells v w p kinds.Look mark x m telling q i
 
-module _ (b v : PortValue) (f i : ℕ) (t : PageType) (word : ℕ) (l : SeesLast b v f i t word) where
+module _ {b v : PortValue} {f i : ℕ} {t : PageType} {word : ℕ} (l : SeesLast b v f i t word) where
   pub last_telling : is_telling b ≡ true → is_telling v ≡ true
   last_telling telling = moves_telling b v (Cell f i) Load kinds.Look None word l.look ∙ telling
 
@@ -55,22 +55,22 @@ module _ (b v : PortValue) (f i : ℕ) (t : PageType) (word : ℕ) (l : SeesLast
       (λ telling.
       (refl, subst (λ (n : Words). Leaves z (put g n)) (look_words v w p mark y m (last_telling telling) ∙ last_words telling) (puts (moves_telling v w p Load kinds.Look mark y m ∙ last_telling telling))))
 
-module _ (b v : PortValue) (f i : ℕ) (t : PageType) (word g : ℕ) (want : PageType) (x : ℕ) (l : SeesKind b v f i t word g want x) where
+module _ {b v : PortValue} {f i : ℕ} {t : PageType} {word g : ℕ} {want : PageType} {x : ℕ} (l : SeesKind b v f i t word g want x) where
   from_telling : is_telling b ≡ true → is_telling l.from ≡ true
-  from_telling telling = last_telling b l.from f i t word l.sees.sees telling
+  from_telling telling = last_telling l.sees.sees telling
 
   pub kind_telling : is_telling b ≡ true → is_telling v ≡ true
   kind_telling telling = moves_telling l.from v (Kind g) Load kinds.Look None x l.look ∙ from_telling telling
 
   pub kind_words : is_telling b ≡ true → told_word v ≡ told_word b
-  kind_words telling = look_words l.from v (Kind g) None x l.look (from_telling telling) ∙ last_words b l.from f i t word l.sees.sees telling
+  kind_words telling = look_words l.from v (Kind g) None x l.look (from_telling telling) ∙ last_words l.sees.sees telling
 
   pub kind_told : is_telling b ≡ true → told_word b (Kind g) ≡ x
-  kind_told telling = ap (λ (m : Words). m (Kind g)) (sym (last_words b l.from f i t word l.sees.sees telling)) ∙ told_there l.from v (Kind g) Load kinds.Look None x l.look (from_telling telling)
+  kind_told telling = ap (λ (m : Words). m (Kind g)) (sym (last_words l.sees.sees telling)) ∙ told_there l.from v (Kind g) Load kinds.Look None x l.look (from_telling telling)
 
   pub twin_kind : (w : PortValue) (answer : Result Released Stop) → (is_telling b ≡ true → FormPlainly w (told_word b) g want answer (form_of (kind_fields x))) → TwinRelease b w f t i answer
   twin_kind w answer way =
-      twin_last b l.from f i t word l.sees.sees w answer (Typed g want) l.sees.asks
+      twin_last l.sees.sees w answer (Typed g want) l.sees.asks
       (λ telling. subst (λ y. FormPlainly w (told_word b) g want answer (form_of (kind_fields y))) (sym (kind_told telling)) (way telling))
 
   -- ---- in another vCPU's hand

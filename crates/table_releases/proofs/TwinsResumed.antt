@@ -37,23 +37,23 @@ unfolding left_by
 left_same e n x same = rw (when_eq x e same) refl
 
 -- no other word is found where all words are told
-pub never_lost : (b v w : PortValue) (f i : ℕ) (t : PageType) (word g : ℕ) (want : PageType) (x : ℕ) → SeesKind b v f i t word g want x → (k : KindWord) → kind_read x ≡ Some k → (a : _) (found : ℕ) → Moves v w (Kind g) a kinds.Kind None found →
+pub never_lost : {v w : PortValue} {g x : ℕ} {k : KindWord} {a : _} {found : ℕ} {b : PortValue} {f i word : ℕ} {t want : PageType} → SeesKind b v f i t word g want x → kind_read x ≡ Some k → Moves v w (Kind g) a kinds.Kind None found →
     found ≢ kind_write k → (e : _) → TwinRelease b w f t i e
-never_lost b v w f i t word g want x l k read a found m off e telling =
-    let here = told_there v w (Kind g) a kinds.Kind None found m (kind_telling b v f i t word g want x l telling) in
-    let same : found ≡ kind_write k = sym here ∙ ap (λ (n : Words). n (Kind g)) (kind_words b v f i t word g want x l telling) ∙ kind_told b v f i t word g want x l telling ∙ (read_is x k read).1 in
+never_lost {v} {w} {g} {x} {k} {a} {found} l read m off e telling =
+    let here = told_there v w (Kind g) a kinds.Kind None found m (kind_telling l telling) in
+    let same : found ≡ kind_write k = sym here ∙ ap (λ (n : Words). n (Kind g)) (kind_words l telling) ∙ kind_told l telling ∙ (read_is x k read).1 in
     absurd (off same)
 
-module _ (b v : PortValue) (f i : ℕ) (t : PageType) (word g : ℕ) (want : PageType) (k : KindWord) (r : Resumed b v f i t word g want k) where
+module _ {b v : PortValue} {f i : ℕ} {t : PageType} {word g : ℕ} {want : PageType} {k : KindWord} (r : Resumed b v f i t word g want k) where
   pub in_telling : is_telling b ≡ true → is_telling v ≡ true
-  in_telling telling = moves_telling r.from v (Kind g) _ kinds.Kind None (kind_write k) r.step ∙ kind_telling b r.from f i t word g want r.found r.sees telling
+  in_telling telling = moves_telling r.from v (Kind g) _ kinds.Kind None (kind_write k) r.step ∙ kind_telling r.sees telling
 
   pub in_words : is_telling b ≡ true → told_word v ≡ resumed_words g (told_word b)
   unfolding left_by
   in_words telling =
-      let there = kind_telling b r.from f i t word g want r.found r.sees telling in
-      let told = kind_told b r.from f i t word g want r.found r.sees telling in
-      let before = kind_words b r.from f i t word g want r.found r.sees telling in
+      let there = kind_telling r.sees telling in
+      let told = kind_told r.sees telling in
+      let before = kind_words r.sees telling in
       let one : told_word v ≡ change (Cas (kind_write k) (kind_write (resumed_kind k))) (Kind g) (told_word r.from) = λ j q. leaves r.from v (Kind g) _ kinds.Kind None (kind_write k) r.step there q j in
       let two = one ∙ ap (λ (m : Words). change (Cas (kind_write k) (kind_write (resumed_kind k))) (Kind g) m) before in
       let fields : kind_fields (told_word b (Kind g)) ≡ k = ap kind_fields told ∙ fields_of r.found k r.read in
@@ -63,11 +63,11 @@ module _ (b v : PortValue) (f i : ℕ) (t : PageType) (word g : ℕ) (want : Pag
       two ∙ (λ j q. if is_same q (Kind g) then three j else told_word b q)
 
   told_fields : is_telling b ≡ true → kind_fields (told_word b (Kind g)) ≡ k
-  told_fields telling = ap kind_fields (kind_told b r.from f i t word g want r.found r.sees telling) ∙ fields_of r.found k r.read
+  told_fields telling = ap kind_fields (kind_told r.sees telling) ∙ fields_of r.found k r.read
 
   partial_twin : (z : PortValue) (a : Released) (opened : Bool) → has_recorded want k ≡ opened → (is_telling b ≡ true → PartialPlainly z (told_word b) g want (Ok a) opened) → TwinRelease b z f t i (Ok a)
   partial_twin z a opened is way =
-      twin_kind b r.from f i t word g want r.found r.sees z (Ok a)
+      twin_kind r.sees z (Ok a)
       (λ telling.
       subst (λ c. FormPlainly z (told_word b) g want (Ok a) c) (sym (form_partial_is r.found k r.read r.partial))
       (subst (PartialPlainly z (told_word b) g want (Ok a)) (sym (ap (λ y. has_recorded want y) (told_fields telling) ∙ is)) (way telling)))
