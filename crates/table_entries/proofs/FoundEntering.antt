@@ -38,7 +38,7 @@ pub does_behind : (v u w : PortValue) (P : List Visit → Type 0) (Q : Post → 
 does_behind v u w P Q a b = does_then v u w P (Q v.post) a (does_before v u w Q (does_came v u P a) b)
 
 -- ---- the look at it
-module _ (b v : PortValue) (f i : ℕ) (t : PageType) (word : ℕ) (looks : SeesEntry b v f i t word) where
+module _ {b v : PortValue} {f i : ℕ} {t : PageType} {word : ℕ} (looks : SeesEntry b v f i t word) where
   pub looked_cell : Does b v (Only (saw_cell f i word))
   looked_cell = does_one b v _ _ _ _ word looks.look
 
@@ -88,9 +88,9 @@ pub typed_opened : (x y : PortValue) (g owner : ℕ) (t : PageType) (f i progres
 typed_opened x y g owner t f i progress own takes = does_as x y (λ ts. TakesOf x.post g owner t (types.InWork progress own) ts) (λ vs. TypedBy x.post g owner t f i (Ok (Opened g progress own)) vs) (λ vs taken. (refl, taken)) takes
 
 -- ---- an entry that asks a type
-module _ (b v : PortValue) (f i : ℕ) (t : PageType) (word : ℕ) (looks : SeesEntry b v f i t word) (owner g : ℕ) (want : PageType) (asks : demand_at t i word ≡ Typed g want) where
+module _ {b v : PortValue} {f i : ℕ} {t : PageType} {word : ℕ} (looks : SeesEntry b v f i t word) {g : ℕ} (owner : ℕ) {want : PageType} (asks : demand_at t i word ≡ Typed g want) where
   pub enters_had : (x w : PortValue) (k : ℕ) (answer : Result Entered Stop) → Gets {A = ℕ} v x g owner (Ok k) → Does x w (λ ts. TypedBy x.post g owner want f i answer ts) → EntersFound b w f i t owner answer
   enters_had x w k answer got rest =
-      enters_by b v f i t word looks owner (Typed g want) asks w answer
+      enters_by looks owner (Typed g want) asks w answer
       (first_had Entered v x g owner (λ ts. TypedBy v.post g owner want f i answer ts) w k answer got
       (does_before v x w (λ q ts. TypedBy q g owner want f i answer ts) (does_came v x (λ gs. GetsBy {A = ℕ} v.post.machine g owner (Ok k) gs) got) rest))

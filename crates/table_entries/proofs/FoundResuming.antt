@@ -38,12 +38,12 @@ pub rewaited : (x y : PortValue) (g owner : ℕ) (t : PageType) (stamp : ℕ) (s
 rewaited x y g owner t stamp stop takes =
     does_as x y (λ ts. TakesOf x.post g owner t (types.Waiting false stamp stop) ts) (λ vs. TypedAgain x.post g owner t (Ok (again.Waiting g stamp stop)) vs) (λ vs taken. (refl, taken)) takes
 
-module _ (b u : PortValue) (f i : ℕ) (t : PageType) (word : ℕ) (looks : SeesEntry b u f i t word) (owner : ℕ) where
+module _ {b u : PortValue} {f i : ℕ} {t : PageType} {word : ℕ} (looks : SeesEntry b u f i t word) (owner : ℕ) where
   -- the look at the entry, and the rest by what it asks
   resumes_by : (d : Demand) → demand_at t i word ≡ d → (w : PortValue) (answer : Result Resumed Stop) → Does u w (λ vs. ResumesBy u.post owner answer d vs) → ResumesFound b w f i t owner answer
   resumes_by d asks w answer rest =
       does_as b w (Then (Only (saw_cell f i word)) (λ rs. ResumesBy b.post owner answer (demand_at t i word) rs)) (λ vs. ResumedBy b.post f i t owner answer vs) (λ vs steps. (word, steps))
-      (does_behind b u w (Only (saw_cell f i word)) (λ q rs. ResumesBy q owner answer (demand_at t i word) rs) (looked_cell b u f i t word looks)
+      (does_behind b u w (Only (saw_cell f i word)) (λ q rs. ResumesBy q owner answer (demand_at t i word) rs) (looked_cell looks)
       (subst (λ k. Does u w (λ rs. ResumesBy u.post owner answer k rs)) (sym asks) rest))
 
   -- it asks no type

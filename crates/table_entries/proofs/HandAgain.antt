@@ -64,7 +64,7 @@ settles_by z e steps i word t (Some q) is kind f =
     (subst (λ n. IsTrue (settles z q.since steps (demand_at (kind_fields e.word).kind n word))) (sym before)
     (subst (λ k. IsTrue (settles z q.since steps (demand_at k i word))) (sym kind) (f q refl)))
 
-module _ (b u : PortValue) (f i : ℕ) (t : PageType) (word : ℕ) (l : LooksAgain b u f i t word) where
+module _ {b u : PortValue} {f i : ℕ} {t : PageType} {word : ℕ} (l : LooksAgain b u f i t word) where
   formed : WellFormed b.post.machine b.post.vcpu b.holdings
   formed = let finds = l.looks.look.finds in subst (λ (h : Holdings). WellFormed b.post.machine b.post.vcpu h) finds.mine (finds.sound.formed b.post.vcpu finds.real)
 
@@ -106,7 +106,7 @@ live_hand b u v f i t word g want l asks live =
     let same = live_same u v g true live in
     let more : length u.holdings.steps ≡ length b.holdings.steps + 1 = ap (λ xs. length xs) (moves_steps b u (Cell f i) Load kinds.Look None word l.looks.look) ∙ omega arith in (
       (word, ap quiet same ∙ ap quiet l.looks.hand),
-      settled_now b u f i t word l v (ap (λ (q : PortValue). q.holdings.works) same)
+      settled_now l v (ap (λ (q : PortValue). q.holdings.works) same)
           (λ n low. subst (λ d. IsTrue (settles (sizes_of v.post.machine) n v.holdings.steps d)) (sym asks)
           (subst (λ (p : Post). IsTrue (some_since (sizes_of p.machine) n (Kind g) is_live_word v.holdings.steps)) (sym (ap (λ (q : PortValue). q.post) same)) (found_live u v g true live refl n (omega (arith, more, low))))),
     )
@@ -147,6 +147,6 @@ taken_settled b u v r x f i t word g owner want l asks live refers takes typed l
     let lent = takes_behind u v r g owner same takes in
     let whole = typed ∙ ap (λ (q : PortValue). quiet (record q { holdings = typed_as g owner want q.holdings })) lent in
     let later = looked_before b u r f i word l.looks.look (came_trans u v r (live_came u v g false live) refers) in
-    settled_now b u f i t word l x (ap (λ (q : PortValue). q.holdings.works) whole)
+    settled_now l x (ap (λ (q : PortValue). q.holdings.works) whole)
     (λ n low. subst (λ d. IsTrue (settles (sizes_of x.post.machine) n x.holdings.steps d)) (sym asks)
     (subst (λ (p : Post). IsTrue (some_since (sizes_of p.machine) n (Kind g) is_live_word x.holdings.steps)) (sym (ap (λ (q : PortValue). q.post) typed)) (leaves n (omega (arith, later, low)))))

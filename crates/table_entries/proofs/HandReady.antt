@@ -97,7 +97,7 @@ settled_seen : (z : Sizes) (h : Holdings) (i w n : ℕ) (e : Work) → IsTrue (i
 unfolding is_settled with_fixed
 settled_seen z h i w n e s = s
 
-module _ (b v : PortValue) (f i owner : ℕ) (t : PageType) (word : ℕ) (l : LooksNext b v f i owner t word) where
+module _ {b v : PortValue} {f i owner : ℕ} {t : PageType} {word : ℕ} (l : LooksNext b v f i owner t word) where
   learned : learned_work i word l.works.on.top ≡ with_fixed i word (learned_work i word l.works.on.top).fixed l.works.on.top
   unfolding with_fixed
   learned =

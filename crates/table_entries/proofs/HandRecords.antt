@@ -47,7 +47,7 @@ out_recorded f n s (Read g) h = refl
 out_recorded f n s (Typed g t) h = refl
 
 -- ---- any hand that has what the entry asks
-module _ (m : Machine) (f i : ℕ) (t : PageType) (word : ℕ) (h : Holdings) (inside : i < 512) (r : Ready m f i t word h) (d : Demand) (asks : demand_at t i word ≡ d) (has : HasLastDemand m f t h d) where
+module _ {m : Machine} {f i : ℕ} {t : PageType} {word : ℕ} {h : Holdings} (inside : i < 512) (r : Ready m f i t word h) {d : Demand} (asks : demand_at t i word ≡ d) (has : HasLastDemand m f t h d) where
   pub records : RecordsNext m f (i + 1) h
   records =
       record {
@@ -87,7 +87,7 @@ module _ {b v : PortValue} {f i owner : ℕ} {t : PageType} {word : ℕ} (l : Lo
   ready_at : (w : PortValue) → Came v w → w.holdings.works ≡ v.holdings.works → w.post ≡ b.post → Ready w.post.machine f i t word w.holdings
   ready_at w came works post =
       subst (λ (p : Post). Ready p.machine f i t word w.holdings) (sym post)
-      (ready_later b.post.machine f i t word v.holdings w.holdings works (came_grows v w came) (next_ready b v f i owner t word l))
+      (ready_later b.post.machine f i t word v.holdings w.holdings works (came_grows v w came) (next_ready l))
 
   looked_recorded : (w : PortValue) (s : Option Unsettled) → FlushedHolds v w (with_recorded f (i + 1) s v.holdings) → FlushedHolds b w (with_recorded f (i + 1) s (learned_cell f i word b.holdings))
   looked_recorded w s holds = holds ∙ ap (λ (q : PortValue). quiet (record q { holdings = with_recorded f (i + 1) s q.holdings })) l.looks.hand
@@ -124,11 +124,11 @@ module _ {b v : PortValue} {f i owner : ℕ} {t : PageType} {word : ℕ} (l : Lo
         }
 
     pub plain_records : RecordsNext u.post.machine f (i + 1) u.holdings
-    plain_records = records u.post.machine f i t word u.holdings l.looks.index ready_plain (Read g) asks has_plain
+    plain_records = records l.looks.index ready_plain asks has_plain
 
     pub plain_hand : (w : PortValue) → Holds u w (entry_recorded u.post.machine f u.holdings) → LookedAnd b w f i (λ x h. with_recorded f (i + 1) None h)
     plain_hand w holds =
-        let as_is = recorded_as u.post.machine f i t word u.holdings l.looks.index ready_plain (Read g) asks has_plain false refl in (
+        let as_is = recorded_as l.looks.index ready_plain asks has_plain false refl in (
           word,
           looked_recorded w None
               (ap quiet holds ∙ ap (λ h. quiet (record u { holdings = h })) as_is
@@ -169,14 +169,14 @@ module _ {b v : PortValue} {f i owner : ℕ} {t : PageType} {word : ℕ} (l : Lo
         )
 
     pub typed_records : RecordsNext x.post.machine f (i + 1) x.holdings
-    typed_records = records x.post.machine f i t word x.holdings l.looks.index ready_typed (Typed g want) asks has_typed
+    typed_records = records l.looks.index ready_typed asks has_typed
 
     pub typed_hand : (w : PortValue) (leaves : Bool) → leaves_unsettled (sizes_of x.post.machine) x.holdings (Typed g want) ≡ leaves → Holds x w (entry_recorded x.post.machine f x.holdings) →
         FlushedHolds b w (with_recorded f (i + 1) (unsettled_for leaves word x.holdings) (learned_cell f i word b.holdings))
     typed_hand w leaves is holds =
         let s = unsettled_for leaves word x.holdings in
         looked_recorded w s
-        (ap quiet holds ∙ ap (λ h. quiet (record x { holdings = h })) (recorded_as x.post.machine f i t word x.holdings l.looks.index ready_typed (Typed g want) asks has_typed leaves is)
+        (ap quiet holds ∙ ap (λ h. quiet (record x { holdings = h })) (recorded_as l.looks.index ready_typed asks has_typed leaves is)
         ∙ ap (λ (q : PortValue). quiet (record q { holdings = with_recorded f (i + 1) s (record q.holdings { typed = without_typed g q.holdings.typed }) })) adds
         ∙ ap (λ ts. quiet (record v { holdings = with_recorded f (i + 1) s (record v.holdings { typed = ts }) }))
         (without_newest (λ (y : TypedReference). y.frame) g (record { frame = g; kind = Some want; owner = owners.Of owner; live = live }) v.holdings.typed refl))
@@ -187,10 +187,10 @@ module _ {b v : PortValue} {f i owner : ℕ} {t : PageType} {word : ℕ} (l : Lo
     ready_now = ready_at v (came_self v) refl (ap (λ (q : PortValue). q.post) l.looks.hand)
 
     pub nothing_records : RecordsNext v.post.machine f (i + 1) v.holdings
-    nothing_records = records v.post.machine f i t word v.holdings l.looks.index ready_now Nothing asks tt
+    nothing_records = records l.looks.index ready_now asks tt
 
     pub nothing_hand : (w : PortValue) → Holds v w (entry_recorded v.post.machine f v.holdings) → LookedAnd b w f i (λ x h. with_recorded f (i + 1) None h)
     nothing_hand w holds = (
       word,
-      looked_recorded w None (ap quiet holds ∙ ap (λ h. quiet (record v { holdings = h })) (recorded_as v.post.machine f i t word v.holdings l.looks.index ready_now Nothing asks tt false refl)),
+      looked_recorded w None (ap quiet holds ∙ ap (λ h. quiet (record v { holdings = h })) (recorded_as l.looks.index ready_now asks tt false refl)),
     )

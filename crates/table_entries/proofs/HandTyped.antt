@@ -31,7 +31,7 @@ works_behind v u w k g owner want true e since holds works = works ∙ ap (λ (q
 works_behind v u w k g owner want false e since holds works = works ∙ ap (λ (q : PortValue). quiet (record q { holdings = working g owner want false e since q.holdings })) holds
 
 -- ---- from a look on, with a reference to the frame
-module _ (b v : PortValue) (f i : ℕ) (t : PageType) (word : ℕ) (l : SeesEntry b v f i t word) (owner g : ℕ) (want : PageType) (asks : demand_at t i word ≡ Typed g want) (u : PortValue) (takes : Holds v u (took g owner v.holdings)) where
+module _ {b v : PortValue} {f i : ℕ} {t : PageType} {word : ℕ} (l : SeesEntry b v f i t word) {g : ℕ} (owner : ℕ) {want : PageType} (asks : demand_at t i word ≡ Typed g want) (u : PortValue) (takes : Holds v u (took g owner v.holdings)) where
   pub lent_all : Holds b u (took g owner (learned_cell f i word b.holdings))
   lent_all = takes ∙ ap (λ (q : PortValue). record q { holdings = took g owner q.holdings }) l.hand
 

@@ -64,26 +64,23 @@ module _ (k : KindWord) (want : PageType) (counts : 0 < type_count k) (unkept : 
   unowned_by stands.Other t is free way = absurd cc
 
 -- ---- behind the looks at the last recorded entry and at its frame, and the reference
-module _ (b u v r : PortValue) (f i : ℕ) (t : PageType) (word g owner : ℕ) (want : PageType) (looks : LooksAgain b u f i t word) (asks : demand_at t i word ≡ Typed g want) (other : LooksLive u v g false)
-    (takes : Holds v r (took g owner v.holdings)) where
+module _ {b u v : PortValue} (r : PortValue) {f i : ℕ} {t : PageType} {word g : ℕ} (owner : ℕ) {want : PageType} (looks : LooksAgain b u f i t word) (asks : demand_at t i word ≡ Typed g want) (other : LooksLive u v g false) (takes : Holds v r (took g owner v.holdings)) where
   seen : SeenLast f i t word r.holdings
   seen =
       let l = looks.works in
       learned_seen f i t word l.top r.holdings
-      (ap (λ (q : PortValue). work_on f q.holdings.works) (takes_behind u v r g owner (live_same u v g false other) takes) ∙ here_again b u f i t word looks) l.kind l.table l.unmarked l.recorded
+      (ap (λ (q : PortValue). work_on f q.holdings.works) (takes_behind u v r g owner (live_same u v g false other) takes) ∙ here_again looks) l.kind l.table l.unmarked l.recorded
 
   module _ (x : ℕ) (finds : Finds r.post.machine r.post.vcpu r.holdings (Kind g) x) where
     counts_there : 0 < type_count (kind_fields x)
     counts_there =
         subst (λ y. 0 < type_count (kind_fields y)) finds.word
-        (finds_counts r.post.machine r.post.vcpu r.holdings (Kind g) x finds f i t seen.work seen.here seen.kind seen.table seen.last (Typed g want)
-        (seen_asks r.post.machine r.post.vcpu r.holdings (Kind g) x finds f i t word seen ∙ asks) g want refl)
+        (finds_counts finds f i t seen.work seen.here seen.kind seen.table seen.last (Typed g want) (seen_asks r.post.machine r.post.vcpu r.holdings (Kind g) x finds f i t word seen ∙ asks) g want refl)
 
     unkept_there : IsTrue (is_partial (kind_fields x)) → (kind_fields x).kept ≡ false
     unkept_there =
         subst (λ y. IsTrue (is_partial (kind_fields y)) → (kind_fields y).kept ≡ false) finds.word
-        (finds_unkept r.post.machine r.post.vcpu r.holdings (Kind g) x finds f i t seen.work seen.here seen.kind seen.table seen.last (Typed g want)
-        (seen_asks r.post.machine r.post.vcpu r.holdings (Kind g) x finds f i t word seen ∙ asks) g want refl)
+        (finds_unkept finds f i t seen.work seen.here seen.kind seen.table seen.last (Typed g want) (seen_asks r.post.machine r.post.vcpu r.holdings (Kind g) x finds f i t word seen ∙ asks) g want refl)
 
   again_unowned : (y : PortValue) (way : Taken) → TakesFound r y g owner want (Ok way) → IsUnowned way
   unfolding Does

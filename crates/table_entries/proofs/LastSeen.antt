@@ -63,8 +63,7 @@ learned_seen f i t word e h here kind table unmarked recorded =
     }
 
 -- ---- what a step finds then
-module _ (n : Machine) (s : ℕ) (h : Holdings) (p : Place) (x : ℕ) (finds : Finds n s h p x) (f i : ℕ) (t : PageType) (e : Work) (here : work_on f h.works ≡ Some e) (kind : (kind_fields e.word).kind ≡ t)
-    (table : IsTrue (is_table t)) (last : e.recorded ≡ i + 1) (d : Demand) (is : entry_demand finds.words f i ≡ d) where
+module _ {n : Machine} {s : ℕ} {h : Holdings} {p : Place} {x : ℕ} (finds : Finds n s h p x) (f i : ℕ) (t : PageType) (e : Work) (here : work_on f h.works ≡ Some e) (kind : (kind_fields e.word).kind ≡ t) (table : IsTrue (is_table t)) (last : e.recorded ≡ i + 1) (d : Demand) (is : entry_demand finds.words f i ≡ d) where
   mine_here : work_on f (finds.hands s).works ≡ Some e
   mine_here = ap (λ (u : Holdings). work_on f u.works) finds.mine ∙ here
 

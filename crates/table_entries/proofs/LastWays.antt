@@ -75,21 +75,21 @@ stands t goes = record { serves = goes.serves; stops = tt; kinds = tt; shows = t
 module _ {b u : PortValue} {f i word : ℕ} {t : PageType} (l : LooksAgain b u f i t word) where
   pub last_standing : {owner : ℕ} → AsksNoType (demand_at t i word) → TakesLast b u f i owner t (Ok again.Settled)
   last_standing {owner} none =
-      takes_last (λ pages. stands t (looked_goes b u f i t word l.looks owner pages)) (standing_found b u f i t word l.looks owner none) (standing_hand b u f i t word l.looks l.works none)
+      takes_last (λ pages. stands t (looked_goes l.looks owner pages)) (standing_found l.looks owner none) (standing_hand l.looks l.works none)
       (standing_twin b u f i owner t word l.looks none)
 
   module _ {v : PortValue} {g owner : ℕ} {want : PageType} (asks : demand_at t i word ≡ Typed g want) where
     pub last_live : LooksLive u v g true → TakesLast b v f i owner t (Ok again.Settled)
     last_live live =
-        takes_last (λ pages. stands t (live_goes b u v f i owner pages g true (looked_goes b u f i t word l.looks owner pages) live)) (live_found b u f i t word l.looks owner g want asks v live)
-        (live_hand b u v f i t word g want l asks live) (twin_live b u v f i owner t word g want l.looks.look asks live)
+        takes_last (λ pages. stands t (live_goes b u v f i owner pages g true (looked_goes l.looks owner pages) live)) (live_found l.looks owner g want asks v live)
+        (live_hand b u v f i t word g want l asks live) (twin_live v owner t l.looks.look asks live)
 
     -- its frame is not live, and no reference to be had
     pub last_unreferred : {x : PortValue} {e : Stop} → LooksLive u v g false → IsRefStop e → Serves v x (of_frame g owner None) (missed v.post.machine e) → Stops v x (of_frame g owner None) e → Gets {A = ℕ} v x g owner (Err e) →
         TwinGet {A = ℕ} v x g owner (Err e) → Same v x → TakesLast b x f i owner t (Err e)
     last_unreferred {x} {e} off is serves stops gets plain same =
-        takes_last (λ pages. resumes_unreferred b u v f i owner pages t word g want l asks off x e is serves stops) (unreferred_found b u f i t word l.looks owner g want asks v off x e gets)
-        (looked_again b u f i t word l v x g off same) (twin_again b u v f i owner t word g want l.looks.look asks off x (Err e) (λ telling. again_refused v x g owner e plain telling want))
+        takes_last (λ pages. resumes_unreferred owner pages l asks off x e is serves stops) (unreferred_found l.looks owner g want asks v off x e gets)
+        (looked_again l v x g off same) (twin_again v owner t l.looks.look asks off x (Err e) (λ telling. again_refused v x g owner e plain telling want))
 
 -- ---- its frame is not live, and a reference was taken
 pub record HadAgain (b x : PortValue) (f i owner : ℕ) (t : PageType) (g : ℕ) (want : PageType) : Type 0 where
@@ -134,20 +134,20 @@ module _ {b x : PortValue} {f i owner g : ℕ} {t want : PageType} (had : HadAga
   again_some = asks_some t i had.word g want had.asks
 
   pub again_aside : work_on g x.holdings.works ≡ None → typed_to g x.holdings.typed ≡ 0
-  again_aside none = take_aside b had.u f i t had.word had.looks.looks owner g want had.asks x takes none
+  again_aside none = take_aside had.looks.looks owner had.asks x takes none
 
   pub again_other : IsOfOther g want x.holdings
-  again_other = take_other b had.u f i t had.word had.looks.looks owner g want had.asks x takes
+  again_other = take_other had.looks.looks owner had.asks x takes
 
   pub again_looking : x.holdings.looking ≡ []
-  again_looking = take_looking b had.u f i t had.word had.looks.looks owner g want had.asks x takes
+  again_looking = take_looking had.looks.looks owner had.asks x takes
 
   had_found : (w : PortValue) (answer : Result Resumed Stop) → Does x w (λ vs. TypedAgain x.post g owner want answer vs) → ResumesFound b w f i t owner answer
-  had_found w answer rest = resumes_had b had.u f i t had.word had.looks.looks owner g want had.asks had.v had.off x w g answer had.gets rest
+  had_found w answer rest = resumes_had had.looks.looks owner g want had.asks had.v had.off x w g answer had.gets rest
 
   had_plain : (w : PortValue) (answer : Result Resumed Stop) → (is_telling x ≡ true → TypesAgain w (told_word x) g want answer) → TwinResume b w f t i owner answer
   had_plain w answer types =
-      twin_again b had.u had.v f i owner t had.word g want had.looks.looks.look had.asks had.off w answer
+      twin_again had.v owner t had.looks.looks.look had.asks had.off w answer
       (λ telling. again_behind had.v x g g owner had.referred telling w want answer (types (came_telling had.v x came_x ∙ telling)))
 
   -- it was counted
@@ -155,34 +155,34 @@ module _ {b x : PortValue} {f i owner g : ℕ} {t want : PageType} (had : HadAga
   last_taken {y} taken is leaves =
       takes_last
       (λ pages.
-      resumes_taken b had.u had.v f i owner pages t had.word g want had.looks had.asks had.off x had.refers y taken.takes.serves
-      (gets_on b had.u had.v x y f i t had.word g owner want had.looks had.asks had.off had.inside came_x had.lent taken.takes.hand (ends_live x y g owner want again_some taken.found)))
+      resumes_taken owner pages had.looks had.asks had.off x had.refers y taken.takes.serves
+      (gets_on x y owner had.looks had.asks had.off had.inside came_x had.lent taken.takes.hand (ends_live x y g owner want again_some taken.found)))
       (had_found y (Ok (again.Taken g)) (retaken x y g owner want taken.found))
-      (takes_again b had.u f i t had.word had.looks.looks owner g want had.asks x takes y taken.takes.hand, taken_settled b had.u had.v x y f i t had.word g owner want had.looks had.asks had.off came_x had.lent taken.takes.hand (subst (λ j. LeavesLive x y g j) is leaves))
+      (takes_again had.looks.looks owner had.asks x takes y taken.takes.hand, taken_settled b had.u had.v x y f i t had.word g owner want had.looks had.asks had.off came_x had.lent taken.takes.hand (subst (λ j. LeavesLive x y g j) is leaves))
       (had_plain y (Ok (again.Taken g)) (λ telling. again_counted x y g g want refl telling taken.plain))
 
   -- it came into work, under an untyped reference: the entry has the type count
   pub last_opened : {y : PortValue} {progress : ℕ} {own : Bool} → TypeTaken x y g owner want (Ok (InWork progress own)) → TakesLast b y f i owner t (Ok (again.Opened g progress))
   last_opened {y} {progress} {own} is_taken =
-      let taken = took_as (again_in_work b had.u had.v x f i t had.word g owner want had.looks had.asks had.off had.lent y (InWork progress own) is_taken.found progress own refl) is_taken in
-      takes_last (λ pages. resumes_opened b had.u had.v f i owner pages t had.word g want had.looks had.asks had.off x had.refers y taken.takes.serves progress)
-      (had_found y (Ok (again.Opened g progress)) (reopened x y g owner want progress taken.found)) (opens_from b had.u f i t had.word had.looks.looks owner g want had.asks x takes y progress false taken.takes.hand.1)
+      let taken = took_as (again_in_work x owner had.looks had.asks had.off had.lent y (InWork progress own) is_taken.found progress own refl) is_taken in
+      takes_last (λ pages. resumes_opened owner pages had.looks had.asks had.off x had.refers y taken.takes.serves progress)
+      (had_found y (Ok (again.Opened g progress)) (reopened x y g owner want progress taken.found)) (opens_from had.looks.looks owner had.asks x takes y progress false taken.takes.hand.1)
       (had_plain y (Ok (again.Opened g progress)) (λ telling. again_opened x y g g want refl telling progress taken.plain))
 
   pub last_waiting : {y : PortValue} {own : Bool} {stamp : ℕ} {stop : Stop} → TypeTaken x y g owner want (Ok (Waiting own stamp stop)) → TakesLast b y f i owner t (Ok (again.Waiting g stamp stop))
   last_waiting {y} {own} {stamp} {stop} is_taken =
-      let taken = took_as (again_waits b had.u had.v x f i t had.word g owner want had.looks had.asks had.off had.lent y (Waiting own stamp stop) is_taken.found own stamp stop refl) is_taken in
+      let taken = took_as (again_waits x owner had.looks had.asks had.off had.lent y (Waiting own stamp stop) is_taken.found own stamp stop refl) is_taken in
       let shows = taken.takes.waits in
-      takes_last (λ pages. resumes_waiting b had.u had.v f i owner pages t had.word g want had.looks had.asks had.off x had.refers y taken.takes.serves stamp stop shows.0 shows.1)
+      takes_last (λ pages. resumes_waiting owner pages had.looks had.asks had.off x had.refers y taken.takes.serves stamp stop shows.0 shows.1)
       (had_found y (Ok (again.Waiting g stamp stop)) (rewaited x y g owner want stamp stop taken.found))
-      (opens_waiting b had.u f i t had.word had.looks.looks owner g want had.asks x takes y false stamp taken.takes.hand)
+      (opens_waiting had.looks.looks owner had.asks x takes y false stamp taken.takes.hand)
       (had_plain y (Ok (again.Waiting g stamp stop)) (λ telling. again_waiting x y g g want refl telling stamp stop taken.plain))
 
   -- it is not to be had, and the reference was given back
   pub last_untyped : {y z : PortValue} {e : Stop} → TypeTaken x y g owner want (Err e) → Serves y z (of_back g) [] → Puts y z g → Holds y z (gave g y.holdings) → (is_telling y ≡ true → Leaves z (put g (told_word y))) →
       TakesLast b z f i owner t (Err e)
   last_untyped {y} {z} {e} taken back puts gives leaves =
-      takes_last (λ pages. resumes_untyped b had.u had.v f i owner pages t had.word g want had.looks had.asks had.off x had.refers y z e taken.takes.kinds taken.takes.serves taken.takes.stops back)
-      (untaken_found b had.u f i t had.word had.looks.looks owner g want had.asks had.v had.off x y z g e had.gets taken.found puts)
-      (given_up b had.u f i t had.word had.looks.looks owner g want had.asks x takes y z taken.takes.hand gives)
+      takes_last (λ pages. resumes_untyped owner pages had.looks had.asks had.off x had.refers y z e taken.takes.kinds taken.takes.serves taken.takes.stops back)
+      (untaken_found had.looks.looks owner g want had.asks had.v had.off x y z g e had.gets taken.found puts)
+      (given_up had.looks.looks owner had.asks x takes y z taken.takes.hand gives)
       (had_plain z (Err e) (λ telling. again_stopped x y g g want refl telling z (serves_came x y (of_frame g owner (Some want)) _ taken.takes.serves) leaves e taken.plain))

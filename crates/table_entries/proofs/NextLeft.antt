@@ -142,7 +142,7 @@ module _ {b v : PortValue} {f i owner : ℕ} {t : PageType} {g : ℕ} {want : Pa
   -- ---- the reference is given back
   module _ (w : PortValue) (mine : Bool) (is : own ≡ mine) (serves : ServesType v w g want) (gives : GivesBack v w g want mine) where
     left_meets : (pages : ℕ) → MeetsEntry b w f i owner pages t (Err stop)
-    left_meets pages = enters_left b late.x f i owner pages g want (had_goes late.had pages) (had_asks late.had pages) v stop late.taken.takes.waits.0 late.taken.takes.serves late.taken.takes.waits.1 w serves t
+    left_meets pages = enters_left g want (had_goes late.had pages) (had_asks late.had pages) v stop late.taken.takes.waits.0 late.taken.takes.serves late.taken.takes.waits.1 w serves t
 
     left_found : Does v w (λ vs. LeftBy g want own stamp stop vs) → EntersFound b w f i t owner (Err stop)
     left_found left =
@@ -151,7 +151,7 @@ module _ {b v : PortValue} {f i owner : ℕ} {t : PageType} {g : ℕ} {want : Pa
         (does_then late.x v w (λ ts. TakesOf late.x.post g owner want (Waiting own stamp stop) ts) (λ vs. LeftBy g want own stamp stop vs) late.taken.found left))
 
     left_hand : LookedAnd b w f i as_it_was
-    left_hand = gave_up b late.had.u f i t late.had.word late.had.looks.looks owner g want late.had.asks late.x late.had.lent w (gives late.x owner stamp (waits_from mine is))
+    left_hand = gave_up late.had.looks.looks owner late.had.asks late.x late.had.lent w (gives late.x owner stamp (waits_from mine is))
 
   -- as another holder left it
   pub next_shared : {w : PortValue} → own ≡ false → ServesType v w g want → GivesBack v w g want false → Does v w (λ vs. SharedBy g want stamp vs) →
@@ -187,7 +187,7 @@ module _ {b v : PortValue} {f i owner : ℕ} {t : PageType} {g : ℕ} {want : Pa
     came_all = came_trans late.had.u late.x y (serves_came late.had.u late.x (of_frame g owner None) [] late.had.refers) (came_trans late.x v y came_x came)
 
     typed_now : FlushedHolds late.had.u y (record late.had.u.holdings { typed = working_typed g owner want stays.since ∷ late.had.u.holdings.typed })
-    typed_now = typed_from b late.had.u f i t late.had.word late.had.looks.looks owner g want late.had.asks late.x late.had.lent y (working_typed g owner want stays.since) stays.hand
+    typed_now = typed_from late.had.looks.looks owner late.had.asks late.x late.had.lent y (working_typed g owner want stays.since) stays.hand
 
     is_partial : IsTrue (knows_partial (sizes_of y.post.machine) g want y.holdings)
     is_partial = subst (λ (p : Post). IsTrue (knows_partial (sizes_of p.machine) g want y.holdings)) (sym (came_post v y came)) partial
@@ -202,7 +202,7 @@ module _ {b v : PortValue} {f i owner : ℕ} {t : PageType} {g : ℕ} {want : Pa
         let lasts = leaves_unsettled (sizes_of y.post.machine) y.holdings (Typed g want) in
         takes_next
         (λ pages.
-        enters_unsettled b late.x f i owner pages g want (had_goes late.had pages) (had_asks late.had pages) v stop late.taken.takes.waits.0 late.taken.takes.serves late.taken.takes.waits.1 y serves t w f (i + 1) clock moves)
+        enters_unsettled g want (had_goes late.had pages) (had_asks late.had pages) v stop late.taken.takes.waits.0 late.taken.takes.serves late.taken.takes.waits.1 y serves t w f (i + 1) clock moves)
         (had_found late.had w (Ok (Unsettled stop))
         (does_as late.x w _ (λ vs. TypedBy late.x.post g owner want f i (Ok (Unsettled stop)) vs)
         (λ vs steps.
@@ -215,6 +215,6 @@ module _ {b v : PortValue} {f i owner : ℕ} {t : PageType} {g : ℕ} {want : Pa
           (waits_is telling).0,
           sym (waits_is telling).1 ∙ is,
           first,
-          told_alike w _ (left_partial g want (told_word late.x)) (λ q. ap (λ (m : Words). m q) (load_keeps y w Clock kinds.Look _ clock moves (came_telling v y came ∙ on_v telling)) ∙ leaves (on_v telling) q)
+          told_alike w _ (left_partial g want (told_word late.x)) (λ q. ap (λ (m : Words). m q) (load_keeps moves (came_telling v y came ∙ on_v telling)) ∙ leaves (on_v telling) q)
               (partial_left g want (had_some late.had) mark own stamp low stop (told_word late.x) (told_word v) (way telling) (waiting telling).2),
         )))

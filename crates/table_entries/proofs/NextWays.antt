@@ -74,19 +74,19 @@ takes_next meets found hand plain =
 module _ {b v : PortValue} {f i owner word : ℕ} {t : PageType} (l : LooksNext b v f i owner t word) where
   pub next_nothing : {w : PortValue} {clock : ℕ} → demand_at t i word ≡ Nothing → Moves v w Clock Load kinds.Look (Some (Record f (i + 1))) clock → Holds v w (entry_recorded v.post.machine f v.holdings) → TakesNext b w f i owner t (Ok Recorded)
   next_nothing {w} {clock} asks moves holds =
-      takes_next (λ pages. enters_recorded b v w f i owner pages t f (i + 1) clock (looked_goes b v f i t word l.looks owner pages) moves)
-      (enters_by b v f i t word l.looks owner Nothing asks w (Ok Recorded) (nothing_recorded v w f i owner word clock moves)) (nothing_hand l asks w holds)
-      (twin_entry b v f i owner t word Nothing l.looks.look asks w (Ok Recorded) (λ telling. (refl, λ q. ap (λ (m : Words). m q) (load_keeps v w Clock kinds.Look _ clock moves telling))))
+      takes_next (λ pages. enters_recorded b v w f i owner pages t f (i + 1) clock (looked_goes l.looks owner pages) moves)
+      (enters_by l.looks owner Nothing asks w (Ok Recorded) (nothing_recorded v w f i owner word clock moves)) (nothing_hand l asks w holds)
+      (twin_entry owner t l.looks.look asks w (Ok Recorded) (λ telling. (refl, λ q. ap (λ (m : Words). m q) (load_keeps moves telling))))
 
   pub next_bad : demand_at t i word ≡ Bad → TakesNext b v f i owner t (Err (Refused (Reserved f i word)))
   next_bad asks =
       let answer = Err (Refused (Reserved f i word)) in
-      takes_next (λ pages. record { serves = look_serves b v f i t word l.looks owner pages; stops = look_bad b v f i t word l.looks i owner pages l.works.on asks; kinds = tt; shows = tt; looks = look_only b v f i t word l.looks })
-      (enters_by b v f i t word l.looks owner Bad asks v answer (bad_stopped v f i owner word)) (word, ap quiet l.looks.hand)
+      takes_next (λ pages. record { serves = look_serves l.looks owner pages; stops = look_bad l.looks i owner pages l.works.on asks; kinds = tt; shows = tt; looks = look_only l.looks })
+      (enters_by l.looks owner Bad asks v answer (bad_stopped v f i owner word)) (word, ap quiet l.looks.hand)
       (λ on.
-      let same = load_keeps b v (Cell f i) kinds.Look None word l.looks.look on in
+      let same = load_keeps l.looks.look on in
       let found = ap (λ (m : Words). m (Cell f i)) same ∙ told_there b v (Cell f i) Load kinds.Look None word l.looks.look on in
-      twin_entry b v f i owner t word Bad l.looks.look asks v answer (λ telling. (sym (ap (λ y. Err (Refused (Reserved f i y))) found), λ q. refl)) on)
+      twin_entry owner t l.looks.look asks v answer (λ telling. (sym (ap (λ y. Err (Refused (Reserved f i y))) found), λ q. refl)) on)
 
 -- a reference was taken of the frame that the entry names
 pub had_ref : {b u : PortValue} {f i owner word n g : ℕ} {t want : PageType} → (x : PortValue) → LooksNext b u f i owner t word → demand_at t i word ≡ Typed n want → (g ≡ n) × (g < u.post.machine.frames) →
@@ -132,20 +132,20 @@ taken_of {x} looked takes found plain = record { takes = takes x looked; found =
 -- ---- behind the reference
 module _ {b x : PortValue} {f i owner g : ℕ} {t want : PageType} (had : HadRef b x f i owner t g want) where
   asked : (pages : ℕ) → Asked b.post.machine b.post.vcpu (of_entries owner pages) (Met b had.u) g owner (Some want)
-  asked pages = asks_typed b had.u f i t had.word had.looks.looks i owner pages had.looks.works.on g want had.asks
+  asked pages = asks_typed had.looks.looks i owner pages had.looks.works.on g want had.asks
 
   pub had_goes : (pages : ℕ) → Goes b x f i owner pages []
-  had_goes pages = referred b had.u f i owner pages g (Some want) (looked_goes b had.u f i t had.word had.looks.looks owner pages) (asked pages) x had.refers
+  had_goes pages = referred g (Some want) (looked_goes had.looks.looks owner pages) (asked pages) x had.refers
 
   pub had_asks : (pages : ℕ) → Asked b.post.machine b.post.vcpu (of_entries owner pages) (Met b x) g owner (Some want)
-  had_asks pages = asks_referred b had.u f i owner pages g (Some want) (looked_goes b had.u f i t had.word had.looks.looks owner pages) (asked pages) x had.refers
+  had_asks pages = asks_referred g (Some want) (looked_goes had.looks.looks owner pages) (asked pages) x had.refers
 
   pub had_found : (w : PortValue) (answer : Result Entered Stop) → Does x w (λ ts. TypedBy x.post g owner want f i answer ts) → EntersFound b w f i t owner answer
-  had_found w answer rest = enters_had b had.u f i t had.word had.looks.looks owner g want had.asks x w g answer had.gets rest
+  had_found w answer rest = enters_had had.looks.looks owner had.asks x w g answer had.gets rest
 
   pub had_plain : (w : PortValue) (answer : Result Entered Stop) → (is_telling x ≡ true → TypesPlainly w (told_word x) g want answer) → TwinEntry b w f t i owner answer
   had_plain w answer types =
-      twin_entry b had.u f i owner t had.word (Typed g want) had.looks.looks.look had.asks w answer
+      twin_entry owner t had.looks.looks.look had.asks w answer
       (λ telling. typed_behind had.u x g g owner had.referred telling w f i want answer (types (came_telling had.u x (serves_came had.u x (of_frame g owner None) [] had.refers) ∙ telling)))
 
   -- what the type's call needs
@@ -153,15 +153,15 @@ module _ {b x : PortValue} {f i owner g : ℕ} {t want : PageType} (had : HadRef
   had_some = asks_some t i had.word g want had.asks
 
   pub had_aside : work_on g x.holdings.works ≡ None → typed_to g x.holdings.typed ≡ 0
-  had_aside none = take_aside b had.u f i t had.word had.looks.looks owner g want had.asks x had.lent none
+  had_aside none = take_aside had.looks.looks owner had.asks x had.lent none
 
   pub had_other : IsOfOther g want x.holdings
-  had_other = take_other b had.u f i t had.word had.looks.looks owner g want had.asks x had.lent
+  had_other = take_other had.looks.looks owner had.asks x had.lent
 
   -- it was counted
   module _ {y : PortValue} (taken : TypeTaken x y g owner want (Ok Counted)) where
     adds : FlushedHolds had.u y (record had.u.holdings { typed = live_typed g want (owners.Of owner) ∷ had.u.holdings.typed })
-    adds = typed_from b had.u f i t had.word had.looks.looks owner g want had.asks x had.lent y (live_typed g want (owners.Of owner)) taken.takes.hand
+    adds = typed_from had.looks.looks owner had.asks x had.lent y (live_typed g want (owners.Of owner)) taken.takes.hand
 
     came : Came had.u y
     came = came_trans had.u x y (serves_came had.u x (of_frame g owner None) [] had.refers) (serves_came x y (of_frame g owner (Some want)) [] taken.takes.serves)
@@ -175,25 +175,25 @@ module _ {b x : PortValue} {f i owner g : ℕ} {t want : PageType} (had : HadRef
     pub next_counted : {w : PortValue} {clock : ℕ} → Moves y w Clock Load kinds.Look (Some (Record f (i + 1))) clock → Holds y w (entry_recorded y.post.machine f y.holdings) → TakesNext b w f i owner t (Ok Recorded)
     next_counted {w} {clock} moves holds =
         takes_next
-        (λ pages. enters_recorded b y w f i owner pages t f (i + 1) clock (typed b x f i owner pages g want (had_goes pages) (had_asks pages) y taken.takes.serves) moves)
+        (λ pages. enters_recorded b y w f i owner pages t f (i + 1) clock (typed g want (had_goes pages) (had_asks pages) y taken.takes.serves) moves)
         (had_found w (Ok Recorded) (typed_recorded x y w g owner want f i clock taken.found moves))
         (had.word, typed_hand had.looks y g want Found adds came had.asks (inl known) w false (ap not known) holds)
         (had_plain w (Ok Recorded)
-        (λ telling. types_counted x y g g want refl telling w taken.plain (load_keeps y w Clock kinds.Look _ clock moves (came_telling x y (serves_came x y (of_frame g owner (Some want)) [] taken.takes.serves) ∙ telling))))
+        (λ telling. types_counted x y g g want refl telling w taken.plain (load_keeps moves (came_telling x y (serves_came x y (of_frame g owner (Some want)) [] taken.takes.serves) ∙ telling))))
 
   -- its frame is to be worked on first
   pub next_opened : {y : PortValue} {progress : ℕ} {own : Bool} → TypeTaken x y g owner want (Ok (InWork progress own)) → TakesNext b y f i owner t (Ok (Opened g progress own))
   next_opened {y} {progress} {own} taken =
-      takes_next (λ pages. enters_opened b x f i owner pages g want (had_goes pages) (had_asks pages) y taken.takes.serves t (asks_below t i had.word g want had.asks) progress own)
+      takes_next (λ pages. enters_opened g want (had_goes pages) (had_asks pages) y taken.takes.serves t (asks_below t i had.word g want had.asks) progress own)
       (had_found y (Ok (Opened g progress own)) (typed_opened x y g owner want f i progress own taken.found))
-      (opens_from b had.u f i t had.word had.looks.looks owner g want had.asks x had.lent y progress own taken.takes.hand.1)
+      (opens_from had.looks.looks owner had.asks x had.lent y progress own taken.takes.hand.1)
       (had_plain y (Ok (Opened g progress own)) (λ telling. types_opened x y g g want refl telling progress own taken.plain))
 
   -- it is not to be had, and the reference was given back
   pub next_untyped : {y z : PortValue} {e : Stop} → TypeTaken x y g owner want (Err e) → Serves y z (of_back g) [] → Puts y z g → Holds y z (gave g y.holdings) → (is_telling y ≡ true → Leaves z (put g (told_word y))) →
       TakesNext b z f i owner t (Err e)
   next_untyped {y} {z} {e} taken back puts gives leaves =
-      takes_next (λ pages. enters_untyped b x f i owner pages g want (had_goes pages) (had_asks pages) y z e taken.takes.kinds taken.takes.serves taken.takes.stops back t)
+      takes_next (λ pages. enters_untyped g want (had_goes pages) (had_asks pages) y z e taken.takes.kinds taken.takes.serves taken.takes.stops back t)
       (had_found z (Err e) (typed_stopped x y z g owner want f i e taken.found puts))
-      (given_up b had.u f i t had.word had.looks.looks owner g want had.asks x had.lent y z taken.takes.hand gives)
+      (given_up had.looks.looks owner had.asks x had.lent y z taken.takes.hand gives)
       (had_plain z (Err e) (λ telling. types_stopped x y g g want refl telling z (serves_came x y (of_frame g owner (Some want)) _ taken.takes.serves) leaves e taken.plain))

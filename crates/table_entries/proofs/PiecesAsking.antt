@@ -45,7 +45,7 @@ module _ (f n : ℕ) (t : PageType) (h : Holdings) (on : WorksAtTop f t n h) whe
   held_owner : (owner pages : ℕ) → owner ≡ entry_owner (of_entries owner pages) (work_on f h.works) (lock_on f h.locks)
   held_owner owner pages = sym (ap (λ o. entry_owner (of_entries owner pages) o (lock_on f h.locks)) top_here)
 
-module _ (b u : PortValue) (f i : ℕ) (t : PageType) (word : ℕ) (looks : SeesEntry b u f i t word) where
+module _ {b u : PortValue} {f i : ℕ} {t : PageType} {word : ℕ} (looks : SeesEntry b u f i t word) where
   pub look_found : FoundWith (Met b u) (Cell f i) word b.holdings
   unfolding moment_of
   look_found =

@@ -25,21 +25,21 @@ use Rattle.table_entries.proofs.PiecesTaking.{Goes, goes_back, goes_call, goes_c
 -- the entry is recorded
 pub enters_recorded : (b v w : PortValue) (f i owner pages : ℕ) (t : PageType) (g upto found : ℕ) → Goes b v f i owner pages [] → Moves v w Clock Load kinds.Look (Some (Record g upto)) found → MeetsEntry b w f i owner pages t (Ok Recorded)
 enters_recorded b v w f i owner pages t g upto found goes m =
-    let next = goes_record b v f i owner pages [] goes w g upto found m in
-    record { serves = next.serves; stops = tt; kinds = tt; shows = record_shows b v f i owner pages [] goes w g upto found m; looks = next.looks }
+    let next = goes_record goes w g upto found m in
+    record { serves = next.serves; stops = tt; kinds = tt; shows = record_shows goes w g upto found m; looks = next.looks }
 
 -- ---- behind the looks: the frame that the entry asks is asked so
-module _ (b v : PortValue) (f i owner pages g : ℕ) (want : Option PageType) (goes : Goes b v f i owner pages []) (asks : Asked b.post.machine b.post.vcpu (of_entries owner pages) (Met b v) g owner want) where
+module _ {b v : PortValue} {f i owner pages : ℕ} (g : ℕ) (want : Option PageType) (goes : Goes b v f i owner pages []) (asks : Asked b.post.machine b.post.vcpu (of_entries owner pages) (Met b v) g owner want) where
   asks_ref : Asked b.post.machine b.post.vcpu (of_entries owner pages) (Met b v) g owner None
   asks_ref = asked_less b.post.machine b.post.vcpu (of_entries owner pages) (Met b v) g owner None want tt asks
 
   -- its reference is not to be had
   module _ (more : NoMore (of_entries owner pages) v.holdings b.holdings) (x : PortValue) (e : Stop) (is : IsRefStop e) (serves : Serves v x (of_frame g owner None) (missed v.post.machine e)) (stops : Stops v x (of_frame g owner None) e) where
     pub refused_goes : Goes b x f i owner pages (missed b.post.machine e)
-    refused_goes = goes_missed b v x f i owner pages e (goes_came b v f i owner pages [] goes) (goes_call b v f i owner pages [] goes x g None asks_ref (missed v.post.machine e) serves)
+    refused_goes = goes_missed b v x f i owner pages e (goes_came goes) (goes_call goes x g None asks_ref (missed v.post.machine e) serves)
 
     pub refused_stops : Stops b x (of_entries owner pages) e
-    refused_stops = goes_stops b v f i owner pages [] goes x g None asks_ref e (serves_came v x (of_frame g owner None) (missed v.post.machine e) serves) more stops
+    refused_stops = goes_stops goes x g None asks_ref e (serves_came v x (of_frame g owner None) (missed v.post.machine e) serves) more stops
 
     pub enters_unreferred : (t : PageType) → MeetsEntry b x f i owner pages t (Err e)
     enters_unreferred t = record { serves = refused_goes.serves; stops = refused_stops; kinds = ref_kinds e is; shows = tt; looks = refused_goes.looks }
@@ -47,21 +47,21 @@ module _ (b v : PortValue) (f i owner pages g : ℕ) (want : Option PageType) (g
   -- its reference was taken
   module _ (x : PortValue) (refers : Serves v x (of_frame g owner None) []) where
     pub referred : Goes b x f i owner pages []
-    referred = goes_call b v f i owner pages [] goes x g None asks_ref [] refers
+    referred = goes_call goes x g None asks_ref [] refers
 
     pub asks_referred : Asked b.post.machine b.post.vcpu (of_entries owner pages) (Met b x) g owner want
-    asks_referred = asks_still b v f i owner pages [] goes x g want asks (serves_came v x (of_frame g owner None) [] refers)
+    asks_referred = asks_still goes x g want asks (serves_came v x (of_frame g owner None) [] refers)
 
 -- ---- behind its reference: the entry asks that type of the frame
-module _ (b x : PortValue) (f i owner pages g : ℕ) (want : PageType) (goes : Goes b x f i owner pages []) (asks : Asked b.post.machine b.post.vcpu (of_entries owner pages) (Met b x) g owner (Some want)) where
+module _ {b x : PortValue} {f i owner pages : ℕ} (g : ℕ) (want : PageType) (goes : Goes b x f i owner pages []) (asks : Asked b.post.machine b.post.vcpu (of_entries owner pages) (Met b x) g owner (Some want)) where
   -- it was taken
   pub typed : (y : PortValue) → Serves x y (of_frame g owner (Some want)) [] → Goes b y f i owner pages []
-  typed y types = goes_call b x f i owner pages [] goes y g (Some want) asks [] types
+  typed y types = goes_call goes y g (Some want) asks [] types
 
   -- and is asked still, which is the type of the level below
   pub still_below : (y : PortValue) → Serves x y (of_frame g owner (Some want)) [] → (t : PageType) → want ≡ below t → AsksBelow b y owner pages t g
   still_below y types t is =
-      subst (λ k. Asked b.post.machine b.post.vcpu (of_entries owner pages) (Met b y) g owner (Some k)) is (asks_still b x f i owner pages [] goes y g (Some want) asks (serves_came x y (of_frame g owner (Some want)) [] types))
+      subst (λ k. Asked b.post.machine b.post.vcpu (of_entries owner pages) (Met b y) g owner (Some k)) is (asks_still goes y g (Some want) asks (serves_came x y (of_frame g owner (Some want)) [] types))
 
   -- the frame is to be worked on first
   pub enters_opened : (y : PortValue) → Serves x y (of_frame g owner (Some want)) [] → (t : PageType) → want ≡ below t → (progress : ℕ) (own : Bool) → MeetsEntry b y f i owner pages t (Ok (Opened g progress own))
@@ -76,11 +76,11 @@ module _ (b x : PortValue) (f i owner pages g : ℕ) (want : PageType) (goes : G
 
     pub untyped_goes : Goes b z f i owner pages (missed b.post.machine e)
     untyped_goes =
-        let there = goes_missed b x y f i owner pages e (goes_came b x f i owner pages [] goes) (goes_call b x f i owner pages [] goes y g (Some want) asks (missed x.post.machine e) types) in
-        goes_back b y f i owner pages (missed b.post.machine e) there z g (Some want) (asks_still b x f i owner pages [] goes y g (Some want) asks came) back
+        let there = goes_missed b x y f i owner pages e (goes_came goes) (goes_call goes y g (Some want) asks (missed x.post.machine e) types) in
+        goes_back there z g (Some want) (asks_still goes y g (Some want) asks came) back
 
     pub untyped_stops : Stops b z (of_entries owner pages) e
-    untyped_stops = stops_before b y z (of_entries owner pages) e (goes_stops_later b x f i owner pages [] goes y g (Some want) asks e came is stops) (serves_came y z (of_back g) [] back)
+    untyped_stops = stops_before b y z (of_entries owner pages) e (goes_stops_later goes y g (Some want) asks e came is stops) (serves_came y z (of_back g) [] back)
 
     pub enters_untyped : (t : PageType) → MeetsEntry b z f i owner pages t (Err e)
     enters_untyped t = record { serves = untyped_goes.serves; stops = untyped_stops; kinds = type_kinds e is; shows = tt; looks = untyped_goes.looks }
@@ -88,13 +88,13 @@ module _ (b x : PortValue) (f i owner pages g : ℕ) (want : PageType) (goes : G
   -- it waits for a flush
   module _ (y : PortValue) (stop : Stop) (is : IsWait stop) (types : Serves x y (of_frame g owner (Some want)) []) (stops : Stops x y (of_frame g owner (Some want)) stop) where
     pub waits_stops : Stops b y (of_entries owner pages) stop
-    waits_stops = goes_stops_later b x f i owner pages [] goes y g (Some want) asks stop (serves_came x y (of_frame g owner (Some want)) [] types) (wait_kinds stop is) stops
+    waits_stops = goes_stops_later goes y g (Some want) asks stop (serves_came x y (of_frame g owner (Some want)) [] types) (wait_kinds stop is) stops
 
     -- and the frame is left so
     module _ (z : PortValue) (left : ServesType y z g want) where
       left_goes : Goes b z f i owner pages []
       left_goes =
-          goes_call b y f i owner pages [] (typed y types) z g (Some want) (asks_still b x f i owner pages [] goes y g (Some want) asks (serves_came x y (of_frame g owner (Some want)) [] types)) [] (left_serves y z g owner want left)
+          goes_call (typed y types) z g (Some want) (asks_still goes y g (Some want) asks (serves_came x y (of_frame g owner (Some want)) [] types)) [] (left_serves y z g owner want left)
 
       left_came : Came y z
       left_came = serves_came y z (of_frame g owner (Some want)) [] (left_serves y z g owner want left)
@@ -106,12 +106,12 @@ module _ (b x : PortValue) (f i owner pages g : ℕ) (want : PageType) (goes : G
 
       pub enters_unsettled : (t : PageType) (w : PortValue) (k upto found : ℕ) → Moves z w Clock Load kinds.Look (Some (Record k upto)) found → MeetsEntry b w f i owner pages t (Ok (Unsettled stop))
       enters_unsettled t w k upto found m =
-          let next = goes_record b z f i owner pages [] left_goes w k upto found m in
+          let next = goes_record left_goes w k upto found m in
           let late = came_trans y z w left_came (moves_came z w Clock Load kinds.Look (Some (Record k upto)) found m) in
           record {
             serves = next.serves;
             stops = tt;
             kinds = tt;
-            shows = (record_shows b z f i owner pages [] left_goes w k upto found m, is, stops_before b y w (of_entries owner pages) stop waits_stops late);
+            shows = (record_shows left_goes w k upto found m, is, stops_before b y w (of_entries owner pages) stop waits_stops late);
             looks = next.looks;
           }

@@ -63,7 +63,7 @@ unfolding Came
 last_of v w [] s rest ran list = absurd (cc)
 last_of v w (m ∷ ms) s rest ran list = record { moment = m; before = ran.0; came = (ms, ran.1); moved = ran.2; is = first_same (visit_of m) s (visits ms) rest list }
 
-module _ (v w : PortValue) (s : Visit) (l : Last v w s) where
+module _ {v w : PortValue} {s : Visit} (l : Last v w s) where
   last_met : Met v w l.moment
   last_met = record { from = l.before; to = w; before = l.came; moved = l.moved; after = came_self w }
 
@@ -195,8 +195,7 @@ ends_live v w g owner want typed takes =
     by_standing v w g owner want typed takes.0 takes.1 t.word (standing_of (kind_fields t.word) want) t.steps.after t.steps.before (λ is. (when_counted (kind_fields t.word) want is).live) t.steps.next t.steps.list
 
 -- ---- behind the looks at the last recorded entry and at its frame
-module _ (b u v r y : PortValue) (f i : ℕ) (t : PageType) (word g owner : ℕ) (want : PageType) (looks : LooksAgain b u f i t word) (asks : demand_at t i word ≡ Typed g want) (other : LooksLive u v g false)
-    (inside : g < v.post.machine.frames) (came : Came v r) (takes : Holds v r (took g owner v.holdings)) (typed : FlushedHolds r y (typed_as g owner want r.holdings)) where
+module _ {b u v : PortValue} (r y : PortValue) {f i : ℕ} {t : PageType} {word g : ℕ} (owner : ℕ) {want : PageType} (looks : LooksAgain b u f i t word) (asks : demand_at t i word ≡ Typed g want) (other : LooksLive u v g false) (inside : g < v.post.machine.frames) (came : Came v r) (takes : Holds v r (took g owner v.holdings)) (typed : FlushedHolds r y (typed_as g owner want r.holdings)) where
   table : Work
   table = learned_work i word looks.works.top
 
@@ -204,7 +203,7 @@ module _ (b u v r y : PortValue) (f i : ℕ) (t : PageType) (word g owner : ℕ)
   unfolding table
   here =
       let whole = typed ∙ ap (λ (q : PortValue). quiet (record q { holdings = typed_as g owner want q.holdings })) (takes_behind u v r g owner (live_same u v g false other) takes) in
-      ap (λ (q : PortValue). work_on f q.holdings.works) whole ∙ here_again b u f i t word looks
+      ap (λ (q : PortValue). work_on f q.holdings.works) whole ∙ here_again looks
 
   learns : (P : Work → Type 0) → P (record looks.works.top { seen = Some (record { index = i; word = word }); unsettled = learned_last i looks.works.top.recorded word looks.works.top.unsettled; fixed = table.fixed }) → P table
   unfolding table
@@ -232,16 +231,16 @@ module _ (b u v r y : PortValue) (f i : ℕ) (t : PageType) (word g owner : ℕ)
       let m = l.moment in
       let new = kind_write k in
       let left : (kind_fields new).validated ≡ true = ap (λ (q : KindWord). q.validated) (fields_write k is) ∙ live in
-      let at = ap (λ (h : Holdings). work_on f h.works) l.moved.hand ∙ stored_there l.before y g f new m.kind x table (last_moves r y (visit (Kind g) (Store new) x) l) (rw left refl) here in
-      settles m g f new table (record { index = i; word = word }) (met_after b r y m before_it (last_met r y (visit (Kind g) (Store new) x) l)) (ap (λ (q : Visit). q.place) l.is) (ap (λ (q : Visit). q.act) l.is) left at
+      let at = ap (λ (h : Holdings). work_on f h.works) l.moved.hand ∙ stored_there l.before y g f new m.kind x table (last_moves l) (rw left refl) here in
+      settles m g f new table (record { index = i; word = word }) (met_after b r y m before_it (last_met l)) (ap (λ (q : Visit). q.place) l.is) (ap (λ (q : Visit). q.act) l.is) left at
       seen_there recorded_there (asked_there m.hand at)
   gets_on (by_count x new live l) = counted_on other
     where
       at : work_on f l.moment.hand.works ≡ Some table
-      at = ap (λ (h : Holdings). work_on f h.works) l.moved.hand ∙ exchanged_there l.before y g f new l.moment.kind x table (last_moves r y (visit (Kind g) (Cas x new) x) l) live here
+      at = ap (λ (h : Holdings). work_on f h.works) l.moved.hand ∙ exchanged_there l.before y g f new l.moment.kind x table (last_moves l) live here
 
       left : IsTrue (is_live (kind_fields new))
-      left = exchanged_live l.before.post.machine l.before.post.vcpu g x new l.before.holdings l.moment.kind (last_moves r y (visit (Kind g) (Cas x new) x) l).may.act live
+      left = exchanged_live l.before.post.machine l.before.post.vcpu g x new l.before.holdings l.moment.kind (last_moves l).may.act live
 
       counted_on : LooksLive u v g false → Progress (Met b y)
       counted_on (unreal past is) = let in_it : g < u.post.machine.frames = subst (λ (q : PortValue). g < q.post.machine.frames) is inside in absurd (omega (arith, in_it, past))
@@ -249,5 +248,5 @@ module _ (b u v r y : PortValue) (f i : ℕ) (t : PageType) (word g owner : ℕ)
           let one = visit (Kind g) (Cas x new) x in
           let saw = met_after b u v (moment_of u (Kind g) Load kinds.Look None x2) (moves_came b u (Cell f i) Load kinds.Look None word looks.looks.look) (moves_met u v (Kind g) Load kinds.Look None x2 look) in
           counts (moment_of u (Kind g) Load kinds.Look None x2) l.moment g f x new table (record { index = i; word = word })
-          (met_before b v y (moment_of u (Kind g) Load kinds.Look None x2) saw (came_trans v r y came (last_came r y one l))) refl is (met_after b r y l.moment before_it (last_met r y one l)) (ap (λ (q : Visit). q.place) l.is)
+          (met_before b v y (moment_of u (Kind g) Load kinds.Look None x2) saw (came_trans v r y came (last_came l))) refl is (met_after b r y l.moment before_it (last_met l)) (ap (λ (q : Visit). q.place) l.is)
           (ap (λ (q : Visit). q.act) l.is) (ap (λ (q : Visit). q.found) l.is) left at seen_there recorded_there (asked_there l.moment.hand at)

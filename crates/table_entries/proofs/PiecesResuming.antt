@@ -25,7 +25,7 @@ use Rattle.table_entries.proofs.PiecesTaking.{Goes, asks_still, goes_kind, ref_k
 -- ---- the look at the frame itself
 pub live_goes : (b u v : PortValue) (f i owner pages g : ℕ) (live : Bool) → Goes b u f i owner pages [] → LooksLive u v g live → Goes b v f i owner pages []
 live_goes b u v f i owner pages g _ goes (outside past is) = subst (λ x. Goes b x f i owner pages []) (sym is) goes
-live_goes b u v f i owner pages g _ goes (found word live inside m same is) = goes_kind b u f i owner pages [] goes v g word m
+live_goes b u v f i owner pages g _ goes (found word live inside m same is) = goes_kind goes v g word m
 
 live_more : (b u v : PortValue) (owner pages g : ℕ) (live : Bool) → NoMore (of_entries owner pages) u.holdings b.holdings → LooksLive u v g live → NoMore (of_entries owner pages) v.holdings b.holdings
 live_more b u v owner pages g _ more (outside past is) = subst (λ (x : PortValue). NoMore (of_entries owner pages) x.holdings b.holdings) (sym is) more
@@ -38,23 +38,23 @@ live_more b u v owner pages g _ more (found word live inside m same is) = λ h.
     }
 
 -- ---- behind both looks
-module _ (b u v : PortValue) (f i owner pages : ℕ) (t : PageType) (word g : ℕ) (want : PageType) (looks : LooksAgain b u f i t word) (asks : demand_at t i word ≡ Typed g want) (other : LooksLive u v g false) where
+module _ {b u v : PortValue} {f i : ℕ} (owner pages : ℕ) {t : PageType} {word g : ℕ} {want : PageType} (looks : LooksAgain b u f i t word) (asks : demand_at t i word ≡ Typed g want) (other : LooksLive u v g false) where
   again_goes : Goes b v f i owner pages []
-  again_goes = live_goes b u v f i owner pages g false (looked_goes b u f i t word looks.looks owner pages) other
+  again_goes = live_goes b u v f i owner pages g false (looked_goes looks.looks owner pages) other
 
   again_more : NoMore (of_entries owner pages) v.holdings b.holdings
-  again_more = live_more b u v owner pages g false (look_more b u f i t word looks.looks owner pages) other
+  again_more = live_more b u v owner pages g false (look_more looks.looks owner pages) other
 
   again_asks : Asked b.post.machine b.post.vcpu (of_entries owner pages) (Met b v) g owner (Some want)
-  again_asks = asks_still b u f i owner pages [] (looked_goes b u f i t word looks.looks owner pages) v g (Some want) (asks_typed b u f i t word looks.looks (i + 1) owner pages looks.works g want asks) (live_came u v g false other)
+  again_asks = asks_still (looked_goes looks.looks owner pages) v g (Some want) (asks_typed looks.looks (i + 1) owner pages looks.works g want asks) (live_came u v g false other)
 
   -- no reference was to be had
   pub resumes_unreferred : (x : PortValue) (e : Stop) → IsRefStop e → Serves v x (of_frame g owner None) (missed v.post.machine e) → Stops v x (of_frame g owner None) e → Resumes b x f i owner pages t (Err e)
   resumes_unreferred x e is serves stops =
-      let next = refused_goes b v f i owner pages g (Some want) again_goes again_asks again_more x e is serves stops in
+      let next = refused_goes g (Some want) again_goes again_asks again_more x e is serves stops in
       record {
         serves = next.serves;
-        stops = refused_stops b v f i owner pages g (Some want) again_goes again_asks again_more x e is serves stops;
+        stops = refused_stops g (Some want) again_goes again_asks again_more x e is serves stops;
         kinds = ref_kinds e is;
         shows = tt;
         looks = next.looks;
@@ -63,18 +63,18 @@ module _ (b u v : PortValue) (f i owner pages : ℕ) (t : PageType) (word g : �
   -- one was taken
   module _ (x : PortValue) (refers : Serves v x (of_frame g owner None) []) where
     one : Goes b x f i owner pages []
-    one = referred b v f i owner pages g (Some want) again_goes again_asks x refers
+    one = referred g (Some want) again_goes again_asks x refers
 
     two : Asked b.post.machine b.post.vcpu (of_entries owner pages) (Met b x) g owner (Some want)
-    two = asks_referred b v f i owner pages g (Some want) again_goes again_asks x refers
+    two = asks_referred g (Some want) again_goes again_asks x refers
 
     -- and the type
     module _ (y : PortValue) (types : Serves x y (of_frame g owner (Some want)) []) where
       y_goes : Goes b y f i owner pages []
-      y_goes = typed b x f i owner pages g want one two y types
+      y_goes = typed g want one two y types
 
       y_below : AsksBelow b y owner pages t g
-      y_below = still_below b x f i owner pages g want one two y types t (asks_below t i word g want asks)
+      y_below = still_below g want one two y types t (asks_below t i word g want asks)
 
       pub resumes_taken : Progress (Met b y) → Resumes b y f i owner pages t (Ok (again.Taken g))
       resumes_taken more = record { serves = y_goes.serves; stops = tt; kinds = tt; shows = (y_below, more); looks = y_goes.looks }
@@ -84,16 +84,16 @@ module _ (b u v : PortValue) (f i owner pages : ℕ) (t : PageType) (word g : �
 
       pub resumes_waiting : (stamp : ℕ) (stop : Stop) → IsWait stop → Stops x y (of_frame g owner (Some want)) stop → Resumes b y f i owner pages t (Ok (again.Waiting g stamp stop))
       resumes_waiting stamp stop is stops =
-          record { serves = y_goes.serves; stops = tt; kinds = tt; shows = (y_below, is, waits_stops b x f i owner pages g want one two y stop is types stops); looks = y_goes.looks }
+          record { serves = y_goes.serves; stops = tt; kinds = tt; shows = (y_below, is, waits_stops g want one two y stop is types stops); looks = y_goes.looks }
 
     -- the type is not to be had, and the reference was given back
     pub resumes_untyped : (y z : PortValue) (e : Stop) → IsTypeStop e → Serves x y (of_frame g owner (Some want)) (missed x.post.machine e) → Stops x y (of_frame g owner (Some want)) e → Serves y z (of_back g) [] →
         Resumes b z f i owner pages t (Err e)
     resumes_untyped y z e is types stops back =
-        let next = untyped_goes b x f i owner pages g want one two y z e is types stops back in
+        let next = untyped_goes g want one two y z e is types stops back in
         record {
           serves = next.serves;
-          stops = untyped_stops b x f i owner pages g want one two y z e is types stops back;
+          stops = untyped_stops g want one two y z e is types stops back;
           kinds = type_kinds e is;
           shows = tt;
           looks = next.looks;

@@ -37,7 +37,7 @@ no_type_plain (Typed g t) n w m owner other leaves = absurd (other g t refl)
 
 pub standing_twin : (b u : PortValue) (f i owner : ℕ) (t : PageType) (word : ℕ) → SeesEntry b u f i t word → AsksNoType (demand_at t i word) → TwinResume b u f t i owner (Ok Settled)
 standing_twin b u f i owner t word looks other =
-    twin_resume b u f i owner t word (demand_at t i word) looks.look refl u (Ok Settled) (λ telling. no_type_plain (demand_at t i word) u.post.machine u (told_word u) owner other (λ q. refl))
+    twin_resume owner t looks.look refl u (Ok Settled) (λ telling. no_type_plain (demand_at t i word) u.post.machine u (told_word u) owner other (λ q. refl))
 
 -- ---- it is settled
 no_type_settles : (z : Sizes) (n : ℕ) (steps : List Made) (d : Demand) → AsksNoType d → IsTrue (settles z n steps d)
@@ -55,7 +55,7 @@ last_settled z steps i w t e (Some x) recorded kind other =
     (subst (λ k. IsTrue (settles z x.since steps (demand_at k (e.recorded - 1) w))) (sym kind)
     (subst (λ j. IsTrue (settles z x.since steps (demand_at t j w))) (sym before) (no_type_settles z x.since steps (demand_at t i w) other)))
 
-module _ (b u : PortValue) (f i : ℕ) (t : PageType) (word : ℕ) (looks : SeesEntry b u f i t word) (on : WorksAtTop f t (i + 1) b.holdings) where
+module _ {b u : PortValue} {f i : ℕ} {t : PageType} {word : ℕ} (looks : SeesEntry b u f i t word) (on : WorksAtTop f t (i + 1) b.holdings) where
   seen_top : Work
   seen_top =
       record on.top {

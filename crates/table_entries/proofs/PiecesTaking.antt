@@ -51,7 +51,7 @@ pub record Goes (b v : PortValue) (f i owner pages : ℕ) (ds : List Deed) : Typ
   pub serves : Serves b v (of_entries owner pages) ds
   pub looks : LooksOnly b v f i
 
-module _ (b v : PortValue) (f i owner pages : ℕ) (ds : List Deed) (goes : Goes b v f i owner pages ds) where
+module _ {b v : PortValue} {f i owner pages : ℕ} {ds : List Deed} (goes : Goes b v f i owner pages ds) where
   pub goes_came : Came b v
   goes_came = serves_came b v (of_entries owner pages) ds goes.serves
 

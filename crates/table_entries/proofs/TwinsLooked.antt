@@ -30,7 +30,7 @@ pub told_all : (w : PortValue) (m : Words) → Leaves w m → told_word w ≡ m
 told_all w m leaves = λ i q. leaves q i
 
 -- ---- one load
-module _ (v w : PortValue) (p : Place) (k : StepKind) (mark : Option Mark) (word : ℕ) (m : Moves v w p Load k mark word) where
+module _ {v w : PortValue} {p : Place} {k : StepKind} {mark : Option Mark} {word : ℕ} (m : Moves v w p Load k mark word) where
   pub load_keeps : is_telling v ≡ true → told_word w ≡ told_word v
   load_keeps telling = told_all w (told_word v) (load_tells v w p k mark word m telling)
 
@@ -41,9 +41,9 @@ module _ (v w : PortValue) (p : Place) (k : StepKind) (mark : Option Mark) (word
   same_machine = ap (λ (y : PortValue). y.post.machine) m.to
 
 -- ---- the look at the entry
-module _ (b v : PortValue) (f i owner : ℕ) (t : PageType) (word : ℕ) (d : Demand) (l : Moves b v (Cell f i) Load kinds.Look None word) (asks : demand_at t i word ≡ d) where
+module _ {b v : PortValue} {f i : ℕ} (owner : ℕ) (t : PageType) {word : ℕ} {d : Demand} (l : Moves b v (Cell f i) Load kinds.Look None word) (asks : demand_at t i word ≡ d) where
   on : is_telling b ≡ true → is_telling v ≡ true
-  on = load_telling b v (Cell f i) kinds.Look None word l
+  on = load_telling l
 
   asked_there : is_telling b ≡ true → d ≡ demand_at t i (told_word b (Cell f i))
   asked_there telling = sym (ap (λ y. demand_at t i y) (told_there b v (Cell f i) Load kinds.Look None word l telling) ∙ asks)
@@ -52,7 +52,7 @@ module _ (b v : PortValue) (f i owner : ℕ) (t : PageType) (word : ℕ) (d : De
   before_look : (P : Machine → Words → Demand → Type 0) → is_telling b ≡ true → P v.post.machine (told_word v) d → P b.post.machine (told_word b) (demand_at t i (told_word b (Cell f i)))
   before_look P telling holds =
       subst (λ e. P b.post.machine (told_word b) e) (asked_there telling)
-      (subst (λ m. P b.post.machine m d) (load_keeps b v (Cell f i) kinds.Look None word l telling) (subst (λ n. P n (told_word v) d) (same_machine b v (Cell f i) kinds.Look None word l) holds))
+      (subst (λ m. P b.post.machine m d) (load_keeps l telling) (subst (λ n. P n (told_word v) d) (same_machine l) holds))
 
   pub twin_entry : (w : PortValue) (answer : Result Entered Stop) → (is_telling v ≡ true → EntersPlainly v.post.machine w (told_word v) f i owner answer d) → TwinEntry b w f t i owner answer
   twin_entry w answer plain telling = before_look (λ n m e. EntersPlainly n w m f i owner answer e) telling (plain (on telling))
@@ -85,17 +85,17 @@ live_there v w g _ (outside out same) telling =
 live_there v w g _ (found word live inside look hand is) telling =
     record {
       is = inside_frames g v.post.machine.frames (is_live_word (told_word v (Kind g))) inside ∙ ap is_live_word (told_there v w (Kind g) Load kinds.Look None word look telling) ∙ is;
-      same = load_keeps v w (Kind g) kinds.Look None word look telling;
-      telling = load_telling v w (Kind g) kinds.Look None word look telling;
-      machine = same_machine v w (Kind g) kinds.Look None word look;
+      same = load_keeps look telling;
+      telling = load_telling look telling;
+      machine = same_machine look;
     }
 
 -- ---- the last recorded entry, whose frame was looked at
-module _ (b u v : PortValue) (f i owner : ℕ) (t : PageType) (word g : ℕ) (want : PageType) (look : Moves b u (Cell f i) Load kinds.Look None word) (asks : demand_at t i word ≡ Typed g want) where
+module _ {b u : PortValue} (v : PortValue) {f i : ℕ} (owner : ℕ) (t : PageType) {word g : ℕ} {want : PageType} (look : Moves b u (Cell f i) Load kinds.Look None word) (asks : demand_at t i word ≡ Typed g want) where
   -- it stands
   pub twin_live : LooksLive u v g true → TwinResume b v f t i owner (Ok Settled)
   twin_live live =
-      twin_resume b u f i owner t word (Typed g want) look asks v (Ok Settled)
+      twin_resume owner t look asks v (Ok Settled)
       (λ telling.
       let at = live_there u v g true live telling in
       subst (λ y. AgainWhere u.post.machine v (told_word u) g want owner (Ok Settled) y) (sym at.is) (refl, λ q. ap (λ (m : Words). m q) at.same))
@@ -104,7 +104,7 @@ module _ (b u v : PortValue) (f i owner : ℕ) (t : PageType) (word g : ℕ) (wa
   pub twin_again : LooksLive u v g false → (w : PortValue) (answer : Result Resumed Stop) →
       (is_telling v ≡ true → AgainBy w (told_word v) g want answer (refer v.post.machine owner g (told_word v (Refs g)))) → TwinResume b w f t i owner answer
   twin_again live w answer by =
-      twin_resume b u f i owner t word (Typed g want) look asks w answer
+      twin_resume owner t look asks w answer
       (λ telling.
       let at = live_there u v g false live telling in
       subst (λ y. AgainWhere u.post.machine w (told_word u) g want owner answer y) (sym at.is)

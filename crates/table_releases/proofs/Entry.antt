@@ -130,8 +130,8 @@ module _ {b v w : PortValue} {f i : ℕ} {t : PageType} {word y : ℕ} (l : Sees
 
     pub plain_goes : (owner pages : ℕ) (z : PortValue) → Serves w z (of_back g) [] → Goes b z f i owner pages []
     plain_goes owner pages z back =
-        goes_back b w f i owner pages [] (shed_goes owner pages) z g None
-        (asks_still b v f i owner pages [] (look_goes l owner pages) w g None (asks_plain l owner pages g asks) (moves_came v w Clock Load kinds.Look (Some (Shed f i)) y step)) back
+        goes_back (shed_goes owner pages) z g None
+        (asks_still (look_goes l owner pages) w g None (asks_plain l owner pages g asks) (moves_came v w Clock Load kinds.Look (Some (Shed f i)) y step)) back
 
     pub plain_found : (z : PortValue) → Puts w z g → ReleasesFound b z f i t (Ok Given)
     plain_found z puts =

@@ -85,25 +85,21 @@ module _ {b v : PortValue} {f i : ℕ} {t : PageType} {word g : ℕ} {want : Pag
     pub found_kind : k.kind ≡ want
     found_kind =
         ap (λ (y : KindWord). y.kind) (sym at_g)
-        ∙ finds_kind l.from.post.machine l.from.post.vcpu l.from.holdings (Kind g) x l.look.finds f i t from_seen.work from_seen.here from_seen.kind from_seen.table from_seen.last (Typed g want)
-        (asked (Typed g want) l.sees.asks) g want refl
+        ∙ finds_kind l.look.finds f i t from_seen.work from_seen.here from_seen.kind from_seen.table from_seen.last (Typed g want) (asked (Typed g want) l.sees.asks) g want refl
 
     pub found_unkept : IsTrue (is_partial k) → k.kept ≡ false
     found_unkept partial =
         ap (λ (y : KindWord). y.kept) (sym at_g)
-        ∙ finds_unkept l.from.post.machine l.from.post.vcpu l.from.holdings (Kind g) x l.look.finds f i t from_seen.work from_seen.here from_seen.kind from_seen.table from_seen.last (Typed g want)
-        (asked (Typed g want) l.sees.asks) g want refl (subst (λ y. IsTrue (is_partial y)) (sym at_g) partial)
+        ∙ finds_unkept l.look.finds f i t from_seen.work from_seen.here from_seen.kind from_seen.table from_seen.last (Typed g want) (asked (Typed g want) l.sees.asks) g want refl (subst (λ y. IsTrue (is_partial y)) (sym at_g) partial)
 
     referred : 0 < ref_count (l.look.finds.words (Refs g))
     referred =
-        finds_referred l.from.post.machine l.from.post.vcpu l.from.holdings (Kind g) x l.look.finds f i t from_seen.work from_seen.here from_seen.kind from_seen.table from_seen.last (Typed g want)
-        (asked (Typed g want) l.sees.asks) g want refl
+        finds_referred l.look.finds f i t from_seen.work from_seen.here from_seen.kind from_seen.table from_seen.last (Typed g want) (asked (Typed g want) l.sees.asks) g want refl
 
     leads : IsTrue (is_live k) ⊎ IsTrue (is_partial k || is_work k)
     leads =
         by_way
-        (finds_leads l.from.post.machine l.from.post.vcpu l.from.holdings (Kind g) x l.look.finds f i t from_seen.work from_seen.here from_seen.kind from_seen.table from_seen.last (Typed g want)
-        (asked (Typed g want) l.sees.asks) g want refl)
+        (finds_leads l.look.finds f i t from_seen.work from_seen.here from_seen.kind from_seen.table from_seen.last (Typed g want) (asked (Typed g want) l.sees.asks) g want refl)
       where
         by_way : {B : Type 0} → IsTrue (is_live (kind_at l.look.finds.words g)) ⊎ (IsTrue (is_partial (kind_at l.look.finds.words g) || is_work (kind_at l.look.finds.words g)) × B) → IsTrue (is_live k) ⊎ IsTrue (is_partial k || is_work k)
         by_way (inl live) = inl (subst (λ y. IsTrue (is_live y)) at_g live)
@@ -113,8 +109,7 @@ module _ {b v : PortValue} {f i : ℕ} {t : PageType} {word g : ℕ} {want : Pag
     pub found_live : IsSettledTop b.holdings → k.validated ≡ true
     found_live settled =
         by_way
-        (finds_leads l.from.post.machine l.from.post.vcpu l.from.holdings (Kind g) x l.look.finds f i t from_seen.work from_seen.here from_seen.kind from_seen.table from_seen.last (Typed g want)
-        (asked (Typed g want) l.sees.asks) g want refl)
+        (finds_leads l.look.finds f i t from_seen.work from_seen.here from_seen.kind from_seen.table from_seen.last (Typed g want) (asked (Typed g want) l.sees.asks) g want refl)
       where
         none_noted : from_seen.work.unsettled ≡ None
         none_noted = looked_settled l.sees.sees settled

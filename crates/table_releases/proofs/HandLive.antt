@@ -111,7 +111,7 @@ module _ {b v : PortValue} {f i : ℕ} {t : PageType} {word g : ℕ} {want : Pag
 
     x_counts : 0 < (kind_fields x).number
     x_counts =
-        let some = finds_counts l.from.post.machine l.from.post.vcpu l.from.holdings (Kind g) x l.look.finds f i t first.work first.here first.kind first.table first.last (Typed g want) asked g want refl in
+        let some = finds_counts l.look.finds f i t first.work first.here first.kind first.table first.last (Typed g want) asked g want refl in
         subst (λ n. 0 < (kind_fields n).number) l.look.finds.word (subst (λ n. 0 < n) (live_count (kind_at l.look.finds.words g) is_here) some)
 
     v_apart : work_on g v.holdings.works ≡ None

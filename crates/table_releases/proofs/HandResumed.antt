@@ -121,8 +121,7 @@ module _ {b v : PortValue} {f i : ℕ} {t : PageType} {word g : ℕ} {want : Pag
   still_unsettled : (p : _) (y : ℕ) (mark : _) {w : PortValue} → Moves v w p Load kinds.Look mark y → is_settled (sizes_of v.post.machine) v.holdings resumed_seen.work ≡ false
   still_unsettled p y mark step =
       by_way
-      (finds_leads v.post.machine v.post.vcpu v.holdings p y finds f i t resumed_seen.work resumed_seen.here resumed_seen.kind resumed_seen.table resumed_seen.last (Typed g want)
-      (seen_asks v.post.machine v.post.vcpu v.holdings p y finds f i t word resumed_seen ∙ r.sees.sees.asks) g want refl)
+      (finds_leads finds f i t resumed_seen.work resumed_seen.here resumed_seen.kind resumed_seen.table resumed_seen.last (Typed g want) (seen_asks v.post.machine v.post.vcpu v.holdings p y finds f i t word resumed_seen ∙ r.sees.sees.asks) g want refl)
     where
       finds : Finds v.post.machine v.post.vcpu v.holdings p y
       finds = step.finds

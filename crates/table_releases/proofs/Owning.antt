@@ -86,7 +86,7 @@ look_owns v w f i t word g want y s asks table look o knows =
     let asked = seen_asks v.post.machine v.post.vcpu v.holdings (Refs g) y finds f i t word s ∙ asks in
     let table_owned = (finds.sound.found v.post.vcpu finds.real).owners f o (subst (λ (u : Holdings). IsTrue (knows_owner (sizes_of v.post.machine) f o u)) (sym finds.mine) knows) in
     let above = above_one t (subst (λ x. IsTrue (is_table x)) (asks_below t i word g want asks) table) in
-    let owned = finds_owned v.post.machine v.post.vcpu v.holdings (Refs g) y finds f i t s.work s.here s.kind s.table s.last (Typed g want) asked g want refl o table_owned above in
+    let owned = finds_owned finds f i t s.work s.here s.kind s.table s.last (Typed g want) asked g want refl o table_owned above in
     let here : owner_of y ≡ Some o = ap owner_of (sym finds.word) ∙ owned in
     moves_since v w (Refs g) Load kinds.Look (Some (Shed f i)) y look (length v.holdings.steps) (is_owned_by o) (omega arith) (owned_is y o here)
 

@@ -51,7 +51,7 @@ module _ {b v : PortValue} (w : PortValue) {f i owner pages : ℕ} {ds : List De
   pub shed_shows : (p : Place) (g upto found : ℕ) → Moves v w p Load kinds.Look (Some (Shed g upto)) found → (z : PortValue) → Came w z → Progress (Met b z)
   unfolding moment_of
   shed_shows p g upto found m z came =
-      entry (moment_of v p Load kinds.Look (Some (Shed g upto)) found) (met_before b w z _ (met_after b v w _ (goes_came b v f i owner pages ds goes) (moves_met v w p Load kinds.Look (Some (Shed g upto)) found m)) came) refl
+      entry (moment_of v p Load kinds.Look (Some (Shed g upto)) found) (met_before b w z _ (met_after b v w _ (goes_came goes) (moves_met v w p Load kinds.Look (Some (Shed g upto)) found m)) came) refl
 
 -- ---- what the entry asks, in a hand where the table is in the own works
 held_by_work : (f i w : ℕ) (t : PageType) (h : Holdings) (e : Work) → work_on f h.works ≡ Some e → (kind_fields e.word).kind ≡ t → (kind_fields e.word).unflushed ≡ false → IsTrue (is_table t) → demand_held f i w h ≡ Some (demand_at t i w)

@@ -49,7 +49,7 @@ module _ {b v : PortValue} {f i : ℕ} {t : PageType} {word g : ℕ} {want : Pag
 
     in_asks : (w : PortValue) → Came v w → Asked b.post.machine b.post.vcpu (of_entries owner pages) (Met b w) g owner (Some want)
     in_asks w came =
-        asks_still b r.from f i owner pages [] (kind_goes r.sees owner pages) w g (Some want) (kind_asks r.sees owner pages)
+        asks_still (kind_goes r.sees owner pages) w g (Some want) (kind_asks r.sees owner pages)
         (came_trans r.from v w (moves_came r.from v (Kind g) _ kinds.Kind None (kind_write k) r.step) came)
 
     in_shows : (z : PortValue) (a : Released) → IsOf g a → Progress (Met b z) → Came v z → ShowsReleased b z owner pages t a
@@ -81,7 +81,7 @@ module _ {b v : PortValue} {f i : ℕ} {t : PageType} {word g : ℕ} {want : Pag
         (serves_step b w d (of_entries owner pages) [] (Kind g) (Store (kind_write l)) kinds.Kind None x one.serves store
         (of owner (Some want) (in_asks d (came_trans v w d came left)), kept_type x (kind_write l) (kind_fields e.word) l (ap (λ y. kind_fields y) same) (fields_write l is) (type ∙ sym kind) (work_alive (kind_fields e.word) work)))
         in
-        let goes = goes_back b d f i owner pages [] two z g (Some want) (in_asks d (came_trans v w d came left)) back in
+        let goes = goes_back two z g (Some want) (in_asks d (came_trans v w d came left)) back in
         let last = came_trans w d z left (serves_came d z (of_back g) [] back) in
         record {
           serves = goes.serves;

@@ -53,13 +53,13 @@ module _ {b v : PortValue} {f i : ℕ} {t : PageType} {word g : ℕ} {want : Pag
   from_goes = look_goes l.sees.sees owner pages
 
   pub kind_goes : Goes b v f i owner pages []
-  kind_goes = goes_kind b l.from f i owner pages [] from_goes v g x l.look
+  kind_goes = goes_kind from_goes v g x l.look
 
   look_came : Came l.from v
   look_came = moves_came l.from v (Kind g) Load kinds.Look None x l.look
 
   pub kind_asks : Asked b.post.machine b.post.vcpu (of_entries owner pages) (Met b v) g owner (Some want)
-  kind_asks = asks_still b l.from f i owner pages [] from_goes v g (Some want) (asks_typed l.sees.sees owner pages g want l.sees.asks) look_came
+  kind_asks = asks_still from_goes v g (Some want) (asks_typed l.sees.sees owner pages g want l.sees.asks) look_came
 
   -- shed, and its frame is the one that is opened
   pub typed_shows : (z : PortValue) (a : Released) → IsOf g a → Progress (Met b z) → Came v z → ShowsReleased b z owner pages t a
@@ -67,13 +67,13 @@ module _ {b v : PortValue} {f i : ℕ} {t : PageType} {word g : ℕ} {want : Pag
   typed_shows z (Opened h recorded closing) is progress came = (
     progress,
     subst (λ (n : ℕ). AsksBelow b z owner pages t n) (sym is)
-        (subst (λ (k : PageType). Asked b.post.machine b.post.vcpu (of_entries owner pages) (Met b z) g owner (Some k)) (asks_below t i word g want l.sees.asks) (asks_still b v f i owner pages [] kind_goes z g (Some want) kind_asks came)),
+        (subst (λ (k : PageType). Asked b.post.machine b.post.vcpu (of_entries owner pages) (Met b z) g owner (Some k)) (asks_below t i word g want l.sees.asks) (asks_still kind_goes z g (Some want) kind_asks came)),
   )
 
   found_there : FoundWith (Met b v) (Kind g) x l.from.holdings
   unfolding moment_of
   found_there =
-      record { moment = moment_of l.from (Kind g) Load kinds.Look None x; was = met_after b l.from v _ (goes_came b l.from f i owner pages [] from_goes) (moves_met l.from v (Kind g) Load kinds.Look None x l.look); place = refl; word = refl; hand = refl }
+      record { moment = moment_of l.from (Kind g) Load kinds.Look None x; was = met_after b l.from v _ (goes_came from_goes) (moves_met l.from v (Kind g) Load kinds.Look None x l.look); place = refl; word = refl; hand = refl }
 
   -- ---- another vCPU has it in its hand
   pub busy_releases : (k : KindWord) → kind_read x ≡ Some k → k.validated ≡ false → k.partial ≡ false → Releases b v f i t owner pages (Err (Paused (Busy g x)))
@@ -113,7 +113,7 @@ module _ {b v : PortValue} {f i : ℕ} {t : PageType} {word g : ℕ} {want : Pag
           owner,
           subst (λ (y : PageType). Asked b.post.machine b.post.vcpu (of_entries owner pages) (Met b w) g owner (Some y))
               (sym (ap (λ (y : KindWord). y.kind) (fields_write (resumed_kind k) is_next) ∙ found_kind l k read))
-              (asks_still b v f i owner pages [] kind_goes w g (Some want) kind_asks (moves_came v w (Kind g) (Cas (kind_write k) (kind_write (resumed_kind k))) kinds.Kind None found change)),
+              (asks_still kind_goes w g (Some want) kind_asks (moves_came v w (Kind g) (Cas (kind_write k) (kind_write (resumed_kind k))) kinds.Kind None found change)),
           passed_by l.sees.sees owner pages g want l.sees.asks (Met b w)
               (λ m a. met_before b l.from w m a (came_trans l.from v w look_came (moves_came v w (Kind g) (Cas (kind_write k) (kind_write (resumed_kind k))) kinds.Kind None found change))) v.holdings (now_seen l),
         )
@@ -157,8 +157,8 @@ module _ {b v : PortValue} {f i : ℕ} {t : PageType} {word g : ℕ} {want : Pag
                 before = moment_of l.from (Kind g) Load kinds.Look None x;
                 exchange = moment_of v (Kind g) (Cas (kind_write k) (kind_write (resumed_kind k))) kinds.Kind None found;
                 new = kind_write (resumed_kind k);
-                was_before = met_before b v w _ (met_after b l.from v _ (goes_came b l.from f i owner pages [] from_goes) (moves_met l.from v (Kind g) Load kinds.Look None x l.look)) (moves_came v w (Kind g) (Cas (kind_write k) (kind_write (resumed_kind k))) kinds.Kind None found change);
-                was_exchange = met_after b v w _ (goes_came b v f i owner pages [] kind_goes) (moves_met v w (Kind g) (Cas (kind_write k) (kind_write (resumed_kind k))) kinds.Kind None found change);
+                was_before = met_before b v w _ (met_after b l.from v _ (goes_came from_goes) (moves_met l.from v (Kind g) Load kinds.Look None x l.look)) (moves_came v w (Kind g) (Cas (kind_write k) (kind_write (resumed_kind k))) kinds.Kind None found change);
+                was_exchange = met_after b v w _ (goes_came kind_goes) (moves_met v w (Kind g) (Cas (kind_write k) (kind_write (resumed_kind k))) kinds.Kind None found change);
                 place_before = refl;
                 place = refl;
                 act = ap (λ y. Cas y (kind_write (resumed_kind k))) (sym (read_is x k read).1);
@@ -180,11 +180,11 @@ module _ {b v : PortValue} {f i : ℕ} {t : PageType} {word g : ℕ} {want : Pag
     live_goes = goes_shed_refs w kind_goes f upto y g look
 
     live_asks : Asked b.post.machine b.post.vcpu (of_entries owner pages) (Met b w) g owner (Some want)
-    live_asks = asks_still b v f i owner pages [] kind_goes w g (Some want) kind_asks (moves_came v w (Refs g) Load kinds.Look (Some (Shed f upto)) y look)
+    live_asks = asks_still kind_goes w g (Some want) kind_asks (moves_came v w (Refs g) Load kinds.Look (Some (Shed f upto)) y look)
 
     pub back_releases : (z : PortValue) (a : Released) → IsOf g a → Serves w z (of_back g) [] → Releases b z f i t owner pages (Ok a)
     back_releases z a is back =
-        let goes = goes_back b w f i owner pages [] live_goes z g (Some want) live_asks back in
+        let goes = goes_back live_goes z g (Some want) live_asks back in
         let came = serves_came w z (of_back g) [] back in
         record {
           serves = goes.serves;

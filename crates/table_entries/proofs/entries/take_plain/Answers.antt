@@ -42,10 +42,9 @@ returns-in_err-get_ref g c b word next asks =
     subst (λ (r : Result Entered Stop). TakesNext b x at.table at.index at.owner at.kind r) (sym (answer.1 ∙ ap Err answer.2))
     (takes_next
     (λ pages.
-    enters_unreferred b v at.table at.index at.owner pages c.args.frame None (looked_goes b v at.table at.index at.kind word next.looks at.owner pages)
-    (asks_plain b v at.table at.index at.kind word next.looks at.index at.owner pages next.works.on c.args.frame asks) (look_more b v at.table at.index at.kind word next.looks at.owner pages) x e no.kinds no.serves no.stops at.kind)
-    (enters_by b v at.table at.index at.kind word next.looks at.owner (Read c.args.frame) asks x (Err e) no.gets) (word, ap quiet no.hand ∙ ap quiet next.looks.hand)
-    (twin_entry b v at.table at.index at.owner at.kind word (Read c.args.frame) next.looks.look asks x (Err e) (λ telling. read_refused v x c.args.frame at.owner e no.plain telling at.table at.index)))
+    enters_unreferred c.args.frame None (looked_goes next.looks at.owner pages) (asks_plain next.looks at.index at.owner pages next.works.on c.args.frame asks) (look_more next.looks at.owner pages) x e no.kinds no.serves no.stops at.kind)
+    (enters_by next.looks at.owner (Read c.args.frame) asks x (Err e) no.gets) (word, ap quiet no.hand ∙ ap quiet next.looks.hand)
+    (twin_entry at.owner at.kind next.looks.look asks x (Err e) (λ telling. read_refused v x c.args.frame at.owner e no.plain telling at.table at.index)))
 
 pub returns : goal.returns
 returns g c b word next asks =
@@ -60,10 +59,9 @@ returns g c b word next asks =
     takes_next
     (λ pages.
     enters_recorded b u w at.table at.index at.owner pages at.kind at.table (at.index + 1) c.record_entry.result
-    (referred b v at.table at.index at.owner pages c.args.frame None (looked_goes b v at.table at.index at.kind word next.looks at.owner pages)
-    (asks_plain b v at.table at.index at.kind word next.looks at.index at.owner pages next.works.on c.args.frame asks) u got.serves)
+    (referred c.args.frame None (looked_goes next.looks at.owner pages) (asks_plain next.looks at.index at.owner pages next.works.on c.args.frame asks) u got.serves)
     record_it.moves)
-    (enters_by b v at.table at.index at.kind word next.looks at.owner (Read c.args.frame) asks w (Ok Recorded) (read_recorded v u w c.args.frame at.owner at.table at.index c.in_ok-get_ref.field-0 c.record_entry.result got.gets record_it.moves))
+    (enters_by next.looks at.owner (Read c.args.frame) asks w (Ok Recorded) (read_recorded v u w c.args.frame at.owner at.table at.index c.in_ok-get_ref.field-0 c.record_entry.result got.gets record_it.moves))
     (plain_hand next u c.args.frame takes came (subst (λ x. MayPut x u.holdings) got.frame.0 got.gives) asks w record_it.hand)
-    (twin_entry b v at.table at.index at.owner at.kind word (Read c.args.frame) next.looks.look asks w (Ok Recorded)
-    (λ telling. read_taken v u c.args.frame c.in_ok-get_ref.field-0 at.owner got.plain telling w at.table at.index (load_keeps u w Clock kinds.Look _ c.record_entry.result record_it.moves (came_telling v u came ∙ telling))))
+    (twin_entry at.owner at.kind next.looks.look asks w (Ok Recorded)
+    (λ telling. read_taken v u c.args.frame c.in_ok-get_ref.field-0 at.owner got.plain telling w at.table at.index (load_keeps record_it.moves (came_telling v u came ∙ telling))))

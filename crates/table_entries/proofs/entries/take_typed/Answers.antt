@@ -56,12 +56,11 @@ returns-in_err-frame g c b word next asks =
     subst (λ (r : Result Entered Stop). TakesNext b x at.table at.index at.owner at.kind r) (sym (answer.1 ∙ ap Err answer.2))
     (takes_next
     (λ pages.
-    enters_unreferred b v at.table at.index at.owner pages c.args.frame (Some c.args.want) (looked_goes b v at.table at.index at.kind word next.looks at.owner pages)
-    (asks_typed b v at.table at.index at.kind word next.looks at.index at.owner pages next.works.on c.args.frame c.args.want asks) (look_more b v at.table at.index at.kind word next.looks at.owner pages) x e no.kinds no.serves no.stops at.kind)
-    (enters_by b v at.table at.index at.kind word next.looks at.owner (Typed c.args.frame c.args.want) asks x (Err e)
+    enters_unreferred c.args.frame (Some c.args.want) (looked_goes next.looks at.owner pages) (asks_typed next.looks at.index at.owner pages next.works.on c.args.frame c.args.want asks) (look_more next.looks at.owner pages) x e no.kinds no.serves no.stops at.kind)
+    (enters_by next.looks at.owner (Typed c.args.frame c.args.want) asks x (Err e)
     (first_stopped Entered v x c.args.frame at.owner (λ ts. TypedBy v.post c.args.frame at.owner c.args.want at.table at.index (Err e) ts) e no.gets))
     (word, ap quiet no.hand ∙ ap quiet next.looks.hand)
-    (twin_entry b v at.table at.index at.owner at.kind word (Typed c.args.frame c.args.want) next.looks.look asks x (Err e) (λ telling. typed_refused v x c.args.frame at.owner e no.plain telling at.table at.index c.args.want)))
+    (twin_entry at.owner at.kind next.looks.look asks x (Err e) (λ telling. typed_refused v x c.args.frame at.owner e no.plain telling at.table at.index c.args.want)))
 
 pub returns-in-Ok-Counted : goal.returns-in-Ok-Counted
 returns-in-Ok-Counted g c b word next asks =
