@@ -25,7 +25,7 @@ use Rattle.frame_types.specs.declared.taking.Taken.TheVariants.{Counted, InWork,
 use Rattle.frame_types.proofs.Classing.{when_dead, when_partial}
 use Rattle.table_entries.specs.Between.{LooksAgain, LooksLive}
 use Rattle.table_entries.proofs.HandAgain.{here_again, live_same, takes_behind}
-use Rattle.table_entries.proofs.LastSeen.{SeenLast, finds_counts, finds_unkept, learned_seen, seen_asks}
+use Rattle.table_entries.proofs.LastEntry.{SeenLast, finds_counts, finds_unkept, learned_seen, seen_asks}
 
 -- ---- the first of the steps found its word in a sound state
 first_found : (v w : PortValue) (ms : List Moment) (after : List Visit) (s : Visit) → Ran v ms w → visits ms ≡ after ++ s ∷ [] → Finds v.post.machine v.post.vcpu v.holdings s.place s.found
@@ -75,12 +75,12 @@ module _ {b u v : PortValue} (r : PortValue) {f i : ℕ} {t : PageType} {word g 
     counts_there : 0 < type_count (kind_fields x)
     counts_there =
         subst (λ y. 0 < type_count (kind_fields y)) finds.word
-        (finds_counts finds f i t seen.work seen.here seen.kind seen.table seen.last (Typed g want) (seen_asks r.post.machine r.post.vcpu r.holdings (Kind g) x finds f i t word seen ∙ asks) g want refl)
+        (finds_counts finds f i t seen.work seen.here seen.kind seen.table seen.last g want (seen_asks finds seen ∙ asks))
 
     unkept_there : IsTrue (is_partial (kind_fields x)) → (kind_fields x).kept ≡ false
     unkept_there =
         subst (λ y. IsTrue (is_partial (kind_fields y)) → (kind_fields y).kept ≡ false) finds.word
-        (finds_unkept finds f i t seen.work seen.here seen.kind seen.table seen.last (Typed g want) (seen_asks r.post.machine r.post.vcpu r.holdings (Kind g) x finds f i t word seen ∙ asks) g want refl)
+        (finds_unkept finds f i t seen.work seen.here seen.kind seen.table seen.last g want (seen_asks finds seen ∙ asks))
 
   again_unowned : (y : PortValue) (way : Taken) → TakesFound r y g owner want (Ok way) → IsUnowned way
   unfolding Does

@@ -20,7 +20,6 @@ pub mod TwinsWaiting
 pub mod FoundEntering
 pub mod FoundResuming
 pub mod LastEntry
-pub mod LastSeen
 pub mod LastOwn
 pub mod NextWays
 pub mod NextLeft

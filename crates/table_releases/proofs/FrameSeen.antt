@@ -28,7 +28,7 @@ use Rattle.kind_words.proofs.KindFacts.{work_word}
 use Rattle.frame_types.specs.Taking.{IsOfOther}
 use Rattle.table_entries.proofs.HandLists.{asks_below, was_in}
 use Rattle.table_entries.proofs.HandReady.{learned_word}
-use Rattle.table_entries.proofs.LastSeen.{SeenLast, finds_kind, finds_leads, finds_referred, finds_unkept, seen_asks}
+use Rattle.table_entries.proofs.LastEntry.{SeenLast, finds_kind, finds_leads, finds_referred, finds_unkept, seen_asks}
 use Rattle.table_releases.specs.Between.{SeesKind, SeesTyped}
 use Rattle.table_releases.proofs.Looking.{looked_seen, looked_settled}
 use Rattle.table_releases.specs.Tops.{IsSettledTop}
@@ -76,7 +76,7 @@ module _ {b v : PortValue} {f i : ℕ} {t : PageType} {word g : ℕ} {want : Pag
   kind_frame = subst (λ (p : Post). g < p.machine.frames) (sym kind_post) l.sees.inside
 
   asked : (d : Demand) → demand_at t i word ≡ d → entry_demand l.look.finds.words f i ≡ d
-  asked d is = seen_asks l.from.post.machine l.from.post.vcpu l.from.holdings (Kind g) x l.look.finds f i t word from_seen ∙ is
+  asked d is = seen_asks l.look.finds from_seen ∙ is
 
   module _ (k : KindWord) (read : kind_read x ≡ Some k) where
     at_g : kind_at l.look.finds.words g ≡ k
@@ -85,21 +85,21 @@ module _ {b v : PortValue} {f i : ℕ} {t : PageType} {word g : ℕ} {want : Pag
     pub found_kind : k.kind ≡ want
     found_kind =
         ap (λ (y : KindWord). y.kind) (sym at_g)
-        ∙ finds_kind l.look.finds f i t from_seen.work from_seen.here from_seen.kind from_seen.table from_seen.last (Typed g want) (asked (Typed g want) l.sees.asks) g want refl
+        ∙ finds_kind l.look.finds f i t from_seen.work from_seen.here from_seen.kind from_seen.table from_seen.last g want (asked (Typed g want) l.sees.asks)
 
     pub found_unkept : IsTrue (is_partial k) → k.kept ≡ false
     found_unkept partial =
         ap (λ (y : KindWord). y.kept) (sym at_g)
-        ∙ finds_unkept l.look.finds f i t from_seen.work from_seen.here from_seen.kind from_seen.table from_seen.last (Typed g want) (asked (Typed g want) l.sees.asks) g want refl (subst (λ y. IsTrue (is_partial y)) (sym at_g) partial)
+        ∙ finds_unkept l.look.finds f i t from_seen.work from_seen.here from_seen.kind from_seen.table from_seen.last g want (asked (Typed g want) l.sees.asks) (subst (λ y. IsTrue (is_partial y)) (sym at_g) partial)
 
     referred : 0 < ref_count (l.look.finds.words (Refs g))
     referred =
-        finds_referred l.look.finds f i t from_seen.work from_seen.here from_seen.kind from_seen.table from_seen.last (Typed g want) (asked (Typed g want) l.sees.asks) g want refl
+        finds_referred l.look.finds f i t from_seen.work from_seen.here from_seen.kind from_seen.table from_seen.last g want (asked (Typed g want) l.sees.asks)
 
     leads : IsTrue (is_live k) ⊎ IsTrue (is_partial k || is_work k)
     leads =
         by_way
-        (finds_leads l.look.finds f i t from_seen.work from_seen.here from_seen.kind from_seen.table from_seen.last (Typed g want) (asked (Typed g want) l.sees.asks) g want refl)
+        (finds_leads l.look.finds f i t from_seen.work from_seen.here from_seen.kind from_seen.table from_seen.last g want (asked (Typed g want) l.sees.asks))
       where
         by_way : {B : Type 0} → IsTrue (is_live (kind_at l.look.finds.words g)) ⊎ (IsTrue (is_partial (kind_at l.look.finds.words g) || is_work (kind_at l.look.finds.words g)) × B) → IsTrue (is_live k) ⊎ IsTrue (is_partial k || is_work k)
         by_way (inl live) = inl (subst (λ y. IsTrue (is_live y)) at_g live)
@@ -109,7 +109,7 @@ module _ {b v : PortValue} {f i : ℕ} {t : PageType} {word g : ℕ} {want : Pag
     pub found_live : IsSettledTop b.holdings → k.validated ≡ true
     found_live settled =
         by_way
-        (finds_leads l.look.finds f i t from_seen.work from_seen.here from_seen.kind from_seen.table from_seen.last (Typed g want) (asked (Typed g want) l.sees.asks) g want refl)
+        (finds_leads l.look.finds f i t from_seen.work from_seen.here from_seen.kind from_seen.table from_seen.last g want (asked (Typed g want) l.sees.asks))
       where
         none_noted : from_seen.work.unsettled ≡ None
         none_noted = looked_settled l.sees.sees settled

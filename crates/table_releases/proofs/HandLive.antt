@@ -43,7 +43,7 @@ use Rattle.frame_types.specs.Taking.{MayDropPlain, gave_type}
 use Rattle.frame_types.proofs.Lowered.{closed_is, closed_kind, closed_unmarked, type_closed, type_counted}
 use Rattle.table_entries.specs.Tops.{with_recorded}
 use Rattle.table_entries.proofs.HandLists.{asks_below}
-use Rattle.table_entries.proofs.LastSeen.{SeenLast, finds_counts, seen_asks, seen_sheds}
+use Rattle.table_entries.proofs.LastEntry.{SeenLast, finds_counts, seen_asks, seen_sheds}
 use Rattle.table_words.specs.Entries.{entry_shed}
 use Rattle.table_words.proofs.Shedding.{none_unsettled, settled_by_step, shed_settled_known}
 use Rattle.table_releases.specs.Between.{SeesKind, SeesTyped}
@@ -107,11 +107,11 @@ module _ {b v : PortValue} {f i : ℕ} {t : PageType} {word g : ℕ} {want : Pag
     is_here = subst (λ n. IsTrue (is_live (kind_fields n))) (sym l.look.finds.word) live
 
     asked : entry_demand l.look.finds.words f i ≡ Typed g want
-    asked = seen_asks l.from.post.machine l.from.post.vcpu l.from.holdings (Kind g) x l.look.finds f i t word first ∙ l.sees.asks
+    asked = seen_asks l.look.finds first ∙ l.sees.asks
 
     x_counts : 0 < (kind_fields x).number
     x_counts =
-        let some = finds_counts l.look.finds f i t first.work first.here first.kind first.table first.last (Typed g want) asked g want refl in
+        let some = finds_counts l.look.finds f i t first.work first.here first.kind first.table first.last g want asked in
         subst (λ n. 0 < (kind_fields n).number) l.look.finds.word (subst (λ n. 0 < n) (live_count (kind_at l.look.finds.words g) is_here) some)
 
     v_apart : work_on g v.holdings.works ≡ None

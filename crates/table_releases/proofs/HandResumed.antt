@@ -43,7 +43,7 @@ use Rattle.kind_words.proofs.KindFacts.{clock_is_small, partial_apart, read_is}
 use Rattle.kind_words.proofs.KindHands.{apart_spares, resumed_fields, resumed_unkept, typed_held, work_here}
 use Rattle.kind_words.proofs.Leaving.{left_dead, may_leave_dead}
 use Rattle.table_entries.proofs.HandLists.{asks_below, asks_some}
-use Rattle.table_entries.proofs.LastSeen.{SeenLast, finds_leads, seen_asks}
+use Rattle.table_entries.proofs.LastEntry.{SeenLast, finds_leads, seen_asks}
 use Rattle.table_words.specs.Entries.{entry_shed}
 use Rattle.table_releases.specs.Between.{Resumed}
 use Rattle.table_releases.specs.Found.{has_recorded}
@@ -121,7 +121,7 @@ module _ {b v : PortValue} {f i : ℕ} {t : PageType} {word g : ℕ} {want : Pag
   still_unsettled : (p : _) (y : ℕ) (mark : _) {w : PortValue} → Moves v w p Load kinds.Look mark y → is_settled (sizes_of v.post.machine) v.holdings resumed_seen.work ≡ false
   still_unsettled p y mark step =
       by_way
-      (finds_leads finds f i t resumed_seen.work resumed_seen.here resumed_seen.kind resumed_seen.table resumed_seen.last (Typed g want) (seen_asks v.post.machine v.post.vcpu v.holdings p y finds f i t word resumed_seen ∙ r.sees.sees.asks) g want refl)
+      (finds_leads finds f i t resumed_seen.work resumed_seen.here resumed_seen.kind resumed_seen.table resumed_seen.last g want (seen_asks finds resumed_seen ∙ r.sees.sees.asks))
     where
       finds : Finds v.post.machine v.post.vcpu v.holdings p y
       finds = step.finds

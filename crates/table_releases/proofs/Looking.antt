@@ -22,7 +22,7 @@ use Rattle.table_words.specs.Entries.{entry_shed}
 use Rattle.table_words.proofs.EntryHands.{shed_left}
 use Rattle.table_entries.specs.Tops.{with_recorded}
 use Rattle.table_entries.proofs.HandReady.{unmarked_learns}
-use Rattle.table_entries.proofs.LastSeen.{SeenLast, finds_inside, finds_plain, learned_seen, seen_sheds}
+use Rattle.table_entries.proofs.LastEntry.{SeenLast, finds_inside, finds_plain, learned_seen, seen_sheds}
 use Rattle.table_releases.specs.Between.{SeesLast}
 use Rattle.table_releases.specs.Tops.{IsSettledTop}
 
@@ -42,11 +42,11 @@ module _ {b v : PortValue} {f i : ℕ} {t : PageType} {word : ℕ} (l : SeesLast
   -- what it names is a frame of the machine
   pub plain_there : (g : ℕ) → demand_at t i word ≡ Read g → g < b.post.machine.frames
   plain_there g asks =
-      finds_plain l.look.finds f i t l.works.top top_here l.works.kind l.works.table l.works.recorded (demand_at t i word) looked_asks g asks
+      finds_plain l.look.finds f i t l.works.top top_here l.works.kind l.works.table l.works.recorded g (looked_asks ∙ asks)
 
   pub typed_there : (g : ℕ) (want : PageType) → demand_at t i word ≡ Typed g want → g < b.post.machine.frames
   typed_there g want asks =
-      finds_inside l.look.finds f i t l.works.top top_here l.works.kind l.works.table l.works.recorded (demand_at t i word) looked_asks g want asks
+      finds_inside l.look.finds f i t l.works.top top_here l.works.kind l.works.table l.works.recorded g want (looked_asks ∙ asks)
 
   abbrev pub looked_seen : SeenLast f i t word v.holdings
   looked_seen =

@@ -32,7 +32,7 @@ use Rattle.step_maker.proofs.Noting.{moves_since}
 use Rattle.frame_types.specs.Lowering.{DropsType}
 use Rattle.flush_waits.proofs.Growing.{came_grows, knows_later}
 use Rattle.table_entries.proofs.HandLists.{asks_below}
-use Rattle.table_entries.proofs.LastSeen.{SeenLast, finds_owned, seen_asks}
+use Rattle.table_entries.proofs.LastEntry.{SeenLast, finds_owned, seen_asks}
 use Rattle.table_words.specs.Entries.{entry_shed}
 use Rattle.table_releases.specs.Between.{Resumed, SeesKind}
 use Rattle.table_releases.proofs.Finding.{kind_came}
@@ -83,10 +83,10 @@ look_owns : (v w : PortValue) (f i : ℕ) (t : PageType) (word g : ℕ) (want : 
 unfolding left_by
 look_owns v w f i t word g want y s asks table look o knows =
     let finds = look.finds in
-    let asked = seen_asks v.post.machine v.post.vcpu v.holdings (Refs g) y finds f i t word s ∙ asks in
+    let asked = seen_asks finds s ∙ asks in
     let table_owned = (finds.sound.found v.post.vcpu finds.real).owners f o (subst (λ (u : Holdings). IsTrue (knows_owner (sizes_of v.post.machine) f o u)) (sym finds.mine) knows) in
     let above = above_one t (subst (λ x. IsTrue (is_table x)) (asks_below t i word g want asks) table) in
-    let owned = finds_owned finds f i t s.work s.here s.kind s.table s.last (Typed g want) asked g want refl o table_owned above in
+    let owned = finds_owned finds f i t s.work s.here s.kind s.table s.last g want asked o table_owned above in
     let here : owner_of y ≡ Some o = ap owner_of (sym finds.word) ∙ owned in
     moves_since v w (Refs g) Load kinds.Look (Some (Shed f i)) y look (length v.holdings.steps) (is_owned_by o) (omega arith) (owned_is y o here)
 

@@ -1,6 +1,6 @@
 use Rattle.std.proofs.Common.{sym, subst, ◌∙◌}
 use Rattle.frame_types.specs.Lowering.{DropsType}
-use Rattle.table_entries.proofs.LastSeen.{seen_sheds}
+use Rattle.table_entries.proofs.LastEntry.{seen_sheds}
 use Rattle.table_releases.proofs.FrameSeen.{now_seen}
 use Rattle.table_releases.proofs.HandLive.{counted_gives, live_drops, live_drops_plain, live_may, may_dropped}
 use Rattle.table_releases.proofs.Ways.{releases_closed, releases_counted, releases_plain}
