@@ -1,24 +1,15 @@
 -- The frame that the entry asks is not found live: how it came there.
-use Rattle.std.proofs.Common.{◌≡◌, ℕ, ◌<◌, Bool, true, false, [], None, Ok, refl, sym, ap, ◌∙◌, subst}
-use Rattle.xp_words.specs.Entries.{demand_at}
-use Rattle.xp_words.specs.declared.entry.Demand.TheVariants.{Typed}
+use Rattle.std.proofs.Common.{◌≡◌, ℕ, ◌<◌, Bool, true, false, refl, sym, ap, ◌∙◌, subst}
 use Rattle.xp_words.specs.declared.kind.PageType.{PageType}
 use Rattle.xp_board.specs.Told.{PortValue}
 use Rattle.xp_words.specs.Machine.{IsMachine}
-use Rattle.step_maker.specs.Holds.{Holds, MayWork, Same, still}
-use Rattle.answer_fits.specs.Answers.{Serves}
-use Rattle.answer_fits.specs.Asked.{of_frame}
-use Rattle.frame_words.specs.Plain.{TwinGet}
+use Rattle.step_maker.specs.Holds.{MayWork, Same, still}
 use Rattle.xp_board.specs.declared.holdings.Holdings.{Holdings}
 use Rattle.xp_board.specs.declared.holdings.Work.{Work}
 use Rattle.xp_board.specs.Hands.{refs_to}
 use Rattle.xp_board.specs.RefSteps.{SparesClosing}
-use Rattle.frame_words.specs.Refs.{Gets, MayPut, took}
-use Rattle.frame_types.specs.Plain.{TwinTake}
-use Rattle.frame_types.specs.Taking.{CountsAs, IsNotLive, Looked, Takes, WaitsWith, working}
-use Rattle.frame_types.specs.declared.taking.Counting.{Counting}
-use Rattle.frame_types.specs.declared.taking.Counting.TheVariants.{Found}
-use Rattle.table_entries.specs.Between.{FoundOther, LooksNext}
+use Rattle.frame_words.specs.Refs.{MayPut}
+use Rattle.frame_types.specs.Taking.{WaitsWith, working}
 
 -- ---- behind the rest of the call, by any way
 -- both ports are the one from which the looks went on

@@ -28,7 +28,6 @@ use Rattle.board_lemmas.proofs.Counted.{entries-part, held_inside, names_typed-t
 use Rattle.board_lemmas.proofs.KindReadings.{busy_partial, partial_parts}
 use Rattle.board_lemmas.proofs.WorkFacts.{Works, work_held, work_word, works_facts, loaded_asks}
 use Rattle.board_lemmas.proofs.Works.{one_vcpu}
-use Rattle.xp_words.specs.declared.entry.Demand.{Demand}
 use Rattle.xp_board.specs.After.{learned_last, learned_work}
 use Rattle.xp_board.specs.Told.{Finds}
 use Rattle.table_words.specs.Entries.{ShedsLast}

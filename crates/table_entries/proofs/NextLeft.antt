@@ -1,5 +1,5 @@
 -- The next entry asks a frame that waits for a flush which is not to be had: how it is left, and all that the call ensures then.
-use Rattle.std.proofs.Common.{◌≡◌, ℕ, ◌+◌, ◌<◌, ◌^◌, ◌==◌, ◌||◌, not, Bool, true, false, [], ◌∷◌, List, None, Some, Result, Ok, Err, IsTrue, refl, sym, ap, ◌∙◌, subst, inr}
+use Rattle.std.proofs.Common.{◌≡◌, ℕ, ◌+◌, ◌<◌, ◌^◌, ◌==◌, ◌||◌, not, Bool, true, false, [], ◌∷◌, List, None, Some, Ok, Err, IsTrue, refl, sym, ap, ◌∙◌, subst, inr}
 use Rattle.xp_words.specs.Entries.{below}
 use Rattle.xp_words.specs.PageTypes.{is_table, type_number}
 use Rattle.xp_words.specs.Places.{sizes_of}
@@ -41,9 +41,8 @@ use Rattle.table_words.specs.Entries.{Records, RecordsNext, entry_recorded}
 use Rattle.table_words.proofs.EntryHands.{unsettled_for}
 use Rattle.table_entries.specs.Between.{EntryLeftWaiting, MeetsEntry, TakesNext}
 use Rattle.table_entries.specs.Found.{EntersFound, LeftAfter, LeftBy, TypedBy}
-use Rattle.table_entries.specs.Plain.{IsTakenOf, TwinEntry, TypesPlainly, WaitsPlainly, is_own_of, left_dead, left_partial, left_shared}
+use Rattle.table_entries.specs.Plain.{IsTakenOf, TypesPlainly, WaitsPlainly, is_own_of, left_dead, left_partial, left_shared}
 use Rattle.table_entries.specs.Tops.{LookedAnd, as_it_was}
-use Rattle.table_entries.specs.declared.entries.Entered.{Entered}
 use Rattle.table_entries.specs.declared.entries.Entered.TheVariants.{Unsettled}
 use Rattle.table_entries.proofs.FoundEntering.{does_record}
 use Rattle.table_entries.proofs.HandLists.{asks_below}

@@ -1,7 +1,7 @@
 -- All that the call on the last recorded entry ensures, by what became of it.
-use Rattle.std.proofs.Common.{◌≡◌, ◌≢◌, ◌⊎◌, ℕ, ◌+◌, ◌<◌, Bool, false, true, [], None, Some, Result, Ok, Err, IsTrue, refl, sym, ap, ◌∙◌, subst}
+use Rattle.std.proofs.Common.{◌≡◌, ◌≢◌, ◌⊎◌, ℕ, ◌+◌, ◌<◌, Bool, false, true, [], None, Some, Result, Ok, Err, IsTrue, refl, ap, ◌∙◌, subst}
 use Rattle.xp_words.specs.Entries.{below, demand_at}
-use Rattle.xp_words.specs.KindWords.{kind_fields, kind_read, kind_write}
+use Rattle.xp_words.specs.KindWords.{kind_read, kind_write}
 use Rattle.xp_words.specs.PageTypes.{is_table}
 use Rattle.xp_words.specs.Places.{number, sizes_of}
 use Rattle.xp_words.specs.declared.entry.Demand.TheVariants.{Bad, Nothing, Read, Typed}

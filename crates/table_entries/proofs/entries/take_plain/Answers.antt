@@ -1,9 +1,7 @@
 use Rattle.std.proofs.Common.{[], None, subst, Result, Err, sym, ap, ◌∙◌, Ok, ◌+◌}
 use Rattle.std.proofs.lemmas.Result.{err_from_is_err_and}
 use Rattle.xp_words.specs.declared.entry.Demand.TheVariants.{Read}
-use Rattle.xp_words.specs.declared.place.Place.TheVariants.{Clock}
 use Rattle.xp_words.specs.declared.reply.Stop.{Stop}
-use Rattle.xp_board.specs.declared.step.StepKind.TheVariants as kinds
 use Rattle.step_maker.specs.Holds.{Holds, quiet}
 use Rattle.step_maker.proofs.Telling.{came_telling}
 use Rattle.answer_fits.specs.Asked.{of_frame}

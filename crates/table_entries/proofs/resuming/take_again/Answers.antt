@@ -1,4 +1,4 @@
-use Rattle.std.proofs.Common.{Err, ap, sym, subst, ◌∙◌, Result, Ok, inl}
+use Rattle.std.proofs.Common.{Err, ap, sym, subst, ◌∙◌, Result, inl}
 use Rattle.std.proofs.lemmas.Result.{err_from_is_err_and}
 use Rattle.xp_words.specs.declared.reply.Stop.{Stop}
 use Rattle.table_entries.specs.Between.{TakesLast}
