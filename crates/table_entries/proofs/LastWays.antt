@@ -31,20 +31,17 @@ use Rattle.table_entries.specs.Plain.{TwinResume, TypesAgain}
 use Rattle.table_entries.specs.Tops.{HoldsWorks, WorksAtTop}
 use Rattle.table_entries.specs.declared.resuming.Resumed.{Resumed}
 use Rattle.table_entries.specs.declared.resuming.Resumed.TheVariants as again
-use Rattle.table_entries.proofs.FoundResuming.{live_found, reopened, resumes_had, retaken, rewaited, standing_found, unreferred_found, untaken_found}
-use Rattle.table_entries.proofs.HandAgain.{live_hand, live_same, looked_again, taken_settled, takes_behind}
+use Rattle.table_entries.proofs.Finding.{live_found, reopened, resumes_had, retaken, rewaited, standing_found, unreferred_found, untaken_found}
+use Rattle.table_entries.proofs.HandAgain.{again_in_work, again_waits, live_hand, live_same, looked_again, taken_settled, takes_behind}
 use Rattle.table_entries.proofs.HandLists.{asks_some}
-use Rattle.table_entries.proofs.HandTyped.{given_up, opens_from, opens_waiting, take_aside, take_looking, take_other, takes_again}
-use Rattle.table_entries.proofs.LastOwn.{again_in_work, again_waits}
+use Rattle.table_entries.proofs.HandRecords.{given_up, opens_from, opens_waiting, take_aside, take_looking, take_other, takes_again}
 use Rattle.table_entries.proofs.NextWays.{took_as}
 use Rattle.table_entries.proofs.PiecesAsking.{looked_goes}
 use Rattle.table_entries.proofs.PiecesLive.{ends_live, gets_on}
-use Rattle.table_entries.proofs.PiecesResuming.{live_goes, resumes_opened, resumes_taken, resumes_unreferred, resumes_untyped, resumes_waiting}
+use Rattle.table_entries.proofs.PiecesEntering.{live_goes, resumes_opened, resumes_taken, resumes_unreferred, resumes_untyped, resumes_waiting}
 use Rattle.table_entries.proofs.PiecesStanding.{AsksNoType, standing_hand, standing_twin}
 use Rattle.table_entries.proofs.PiecesTaking.{Goes}
-use Rattle.table_entries.proofs.TwinsLooked.{twin_again, twin_live}
-use Rattle.table_entries.proofs.TwinsTaken.{again_behind, again_refused}
-use Rattle.table_entries.proofs.TwinsTyped.{again_counted, again_opened, again_stopped, again_waiting}
+use Rattle.table_entries.proofs.Twins.{again_behind, again_counted, again_opened, again_refused, again_stopped, again_waiting, twin_again, twin_live}
 
 pub takes_last : {v w : PortValue} {f i owner : ℕ} {t : PageType} {answer : Result Resumed Stop} → ((pages : ℕ) → Resumes v w f i owner pages t answer) → ResumesFound v w f i t owner answer →
     HandResumed v w f i owner t answer → TwinResume v w f t i owner answer → TakesLast v w f i owner t answer

@@ -1,24 +1,28 @@
--- The next entry: all that its call ensures, by what became of it.
-use Rattle.std.proofs.Common.{◌≡◌, ℕ, ◌+◌, ◌<◌, not, Bool, true, false, [], ◌∷◌, Some, None, Result, Ok, Err, IsTrue, refl, sym, ap, ◌∙◌, subst, inl}
+-- The frame that the entry asks is not found live: how it came there.
+use Rattle.std.proofs.Common.{◌≡◌, ℕ, ◌<◌, Bool, true, false, refl, sym, ap, ◌∙◌, subst, ◌+◌, not, [], ◌∷◌, Some, None, Result, Ok, Err, IsTrue, inl}
+use Rattle.xp_words.specs.declared.kind.PageType.{PageType}
+use Rattle.xp_board.specs.Told.{PortValue, is_telling, told_word}
+use Rattle.xp_words.specs.Machine.{IsMachine}
+use Rattle.step_maker.specs.Holds.{MayWork, Same, still, FlushedHolds, Holds, quiet}
+use Rattle.xp_board.specs.declared.holdings.Holdings.{Holdings}
+use Rattle.xp_board.specs.declared.holdings.Work.{Work}
+use Rattle.xp_board.specs.Hands.{refs_to, typed_to, work_on}
+use Rattle.xp_board.specs.RefSteps.{SparesClosing}
+use Rattle.frame_words.specs.Refs.{MayPut, Gets, took}
+use Rattle.frame_types.specs.Taking.{WaitsWith, working, CountsAs, IsNotLive, IsOfOther, Looked, ShowsWait, Takes, TakesAs}
 use Rattle.xp_words.specs.Entries.{demand_at}
 use Rattle.xp_words.specs.PageTypes.{is_none}
 use Rattle.xp_words.specs.Places.{sizes_of}
 use Rattle.xp_words.specs.declared.entry.Demand.TheVariants.{Bad, Nothing, Typed}
-use Rattle.xp_words.specs.declared.kind.PageType.{PageType}
 use Rattle.xp_words.specs.declared.place.Place.TheVariants.{Cell, Clock}
 use Rattle.xp_words.specs.declared.reply.Refusal.TheVariants.{Reserved}
 use Rattle.xp_words.specs.declared.reply.Stop.{Stop}
 use Rattle.xp_words.specs.declared.reply.Stop.TheVariants.{Refused}
 use Rattle.xp_board.specs.declared.holdings.Liveness.TheVariants.{Found}
-use Rattle.xp_board.specs.declared.holdings.OwnerFound.TheVariants as owners
 use Rattle.xp_board.specs.declared.step.Act.TheVariants.{Load}
 use Rattle.xp_board.specs.declared.step.Mark.TheVariants.{Record}
-use Rattle.xp_board.specs.declared.step.StepKind.TheVariants as kinds
-use Rattle.xp_board.specs.Hands.{typed_to, work_on}
 use Rattle.xp_board.specs.KindSteps.{live_typed}
 use Rattle.xp_board.specs.Knowledge.{knows_live}
-use Rattle.xp_board.specs.Told.{PortValue, is_telling, told_word}
-use Rattle.step_maker.specs.Holds.{FlushedHolds, Holds, quiet}
 use Rattle.step_maker.specs.Moves.{Came, Met, Moves}
 use Rattle.step_maker.specs.Plain.{Leaves, Words}
 use Rattle.step_maker.proofs.Coming.{came_trans}
@@ -30,12 +34,9 @@ use Rattle.answer_fits.proofs.Piecing.{serves_came}
 use Rattle.kind_words.proofs.KindHands.{known_first}
 use Rattle.frame_words.specs.Freeing.{Puts, gave}
 use Rattle.frame_words.specs.Plain.{TwinGet, put}
-use Rattle.frame_words.specs.Refs.{Gets, took}
 use Rattle.frame_types.specs.Found.{TakesFound}
 use Rattle.frame_types.specs.Plain.{TwinTake}
-use Rattle.frame_types.specs.Taking.{CountsAs, IsNotLive, IsOfOther, Looked, ShowsWait, Takes, TakesAs}
 use Rattle.frame_types.specs.declared.taking.Counting.{Counting}
-use Rattle.frame_types.specs.declared.taking.Counting.TheVariants as countings
 use Rattle.frame_types.specs.declared.taking.Taken.{Taken}
 use Rattle.frame_types.specs.declared.taking.Taken.TheVariants.{Counted, InWork}
 use Rattle.table_words.specs.Entries.{RecordsNext, entry_recorded}
@@ -45,17 +46,55 @@ use Rattle.table_entries.specs.Found.{EntersFound, TypedBy}
 use Rattle.table_entries.specs.Plain.{TwinEntry, TypesPlainly}
 use Rattle.table_entries.specs.declared.entries.Entered.{Entered}
 use Rattle.table_entries.specs.declared.entries.Entered.TheVariants.{Opened, Recorded}
-use Rattle.table_entries.proofs.FoundEntering.{bad_stopped, enters_by, enters_had, nothing_recorded, typed_opened, typed_recorded, typed_stopped}
+use Rattle.table_entries.proofs.Finding.{bad_stopped, enters_by, enters_had, nothing_recorded, typed_opened, typed_recorded, typed_stopped}
 use Rattle.table_entries.proofs.HandLists.{asks_below, asks_some}
-use Rattle.table_entries.proofs.HandRecords.{nothing_hand, typed_hand, typed_records}
-use Rattle.table_entries.proofs.HandTyped.{given_up, opens_from, take_aside, take_other, typed_from}
+use Rattle.table_entries.proofs.HandRecords.{given_up, nothing_hand, opens_from, take_aside, take_other, typed_from, typed_hand, typed_records}
 use Rattle.table_entries.proofs.PiecesAsking.{asks_typed, look_bad, look_only, look_serves, looked_goes}
 use Rattle.table_entries.proofs.PiecesEntering.{asks_referred, enters_opened, enters_recorded, enters_untyped, referred, typed}
 use Rattle.table_entries.proofs.PiecesTaking.{Goes}
-use Rattle.table_entries.proofs.TwinsLooked.{load_keeps, twin_entry}
-use Rattle.table_entries.proofs.TwinsTaken.{typed_behind}
-use Rattle.table_entries.proofs.TwinsTyped.{types_counted, types_opened, types_stopped}
+use Rattle.table_entries.proofs.Twins.{load_keeps, twin_entry, typed_behind, types_counted, types_opened, types_stopped}
+use Rattle.xp_board.specs.declared.holdings.OwnerFound.TheVariants as owners
+use Rattle.xp_board.specs.declared.step.StepKind.TheVariants as kinds
+use Rattle.frame_types.specs.declared.taking.Counting.TheVariants as countings
 
+-- ---- behind the rest of the call, by any way
+-- both ports are the one from which the looks went on
+pub both_same : (x v y : PortValue) → Same x v → Same x y → still y ≡ still v
+both_same x v y one two = two ∙ sym one
+
+pub same_may : (x v y : PortValue) → Same x v → Same x y → MayWork v → MayWork y
+same_may x v y one two may =
+    let e = both_same x v y one two in
+    record {
+      running = ap (λ (q : PortValue). q.holdings.run) e ∙ may.running;
+      no_walk = ap (λ (q : PortValue). q.holdings.walk) e ∙ may.no_walk;
+      machine = subst (λ (q : PortValue). IsMachine q.post.machine) (sym e) may.machine;
+    }
+
+pub same_frame : (x v y : PortValue) (g : ℕ) → Same x v → Same x y → g < v.post.machine.frames → g < y.post.machine.frames
+same_frame x v y g one two lt = subst (λ (q : PortValue). g < q.post.machine.frames) (sym (both_same x v y one two)) lt
+
+pub same_gives : (x v y : PortValue) (g : ℕ) → Same x v → Same x y → MayPut g v.holdings → MayPut g y.holdings
+same_gives x v y g one two gives =
+    let e = sym (both_same x v y one two) in
+    record { held = subst (λ (q : PortValue). 0 < refs_to g q.holdings.refs) e gives.held; spares = subst (λ (q : PortValue). SparesClosing g q.holdings) e gives.spares }
+
+working_run : (f owner : ℕ) (want : PageType) (own : Bool) (e : Work) (since : ℕ) (h : Holdings) → ((working f owner want own e since h).run ≡ h.run) × ((working f owner want own e since h).walk ≡ h.walk)
+working_run f owner want true e since h = (refl, refl)
+working_run f owner want false e since h = (refl, refl)
+
+pub waits_may : {x v y : PortValue} {g owner : ℕ} {want : PageType} {own : Bool} {stamp : ℕ} → Same x v → WaitsWith x y g owner want own stamp → MayWork v → MayWork y
+waits_may {x} {v} {y} {g} {owner} {want} {own} one w may =
+    let e = sym one in
+    let h = w.works.hand in
+    let k = working_run g owner want own w.work w.works.since x.holdings in
+    record {
+      running = ap (λ (q : PortValue). q.holdings.run) h ∙ k.0 ∙ ap (λ (q : PortValue). q.holdings.run) e ∙ may.running;
+      no_walk = ap (λ (q : PortValue). q.holdings.walk) h ∙ k.1 ∙ ap (λ (q : PortValue). q.holdings.walk) e ∙ may.no_walk;
+      machine = subst (λ (q : PortValue). IsMachine q.post.machine) (sym h) (subst (λ (q : PortValue). IsMachine q.post.machine) one may.machine);
+    }
+
+-- ---- The next entry: all that its call ensures, by what became of it.
 pub takes_next : {v w : PortValue} {f i owner : ℕ} {t : PageType} {answer : Result Entered Stop} → ((pages : ℕ) → MeetsEntry v w f i owner pages t answer) → EntersFound v w f i t owner answer →
     HandEntered v w f i owner t answer → TwinEntry v w f t i owner answer → TakesNext v w f i owner t answer
 takes_next meets found hand plain =
@@ -74,7 +113,7 @@ takes_next meets found hand plain =
 module _ {b v : PortValue} {f i owner word : ℕ} {t : PageType} (l : LooksNext b v f i owner t word) where
   pub next_nothing : {w : PortValue} {clock : ℕ} → demand_at t i word ≡ Nothing → Moves v w Clock Load kinds.Look (Some (Record f (i + 1))) clock → Holds v w (entry_recorded v.post.machine f v.holdings) → TakesNext b w f i owner t (Ok Recorded)
   next_nothing {w} {clock} asks moves holds =
-      takes_next (λ pages. enters_recorded b v w f i owner pages t f (i + 1) clock (looked_goes l.looks owner pages) moves)
+      takes_next (λ pages. enters_recorded (looked_goes l.looks owner pages) moves)
       (enters_by l.looks owner Nothing asks w (Ok Recorded) (nothing_recorded v w f i owner word clock moves)) (nothing_hand l asks w holds)
       (twin_entry owner t l.looks.look asks w (Ok Recorded) (λ telling. (refl, λ q. ap (λ (m : Words). m q) (load_keeps moves telling))))
 
@@ -175,7 +214,7 @@ module _ {b x : PortValue} {f i owner g : ℕ} {t want : PageType} (had : HadRef
     pub next_counted : {w : PortValue} {clock : ℕ} → Moves y w Clock Load kinds.Look (Some (Record f (i + 1))) clock → Holds y w (entry_recorded y.post.machine f y.holdings) → TakesNext b w f i owner t (Ok Recorded)
     next_counted {w} {clock} moves holds =
         takes_next
-        (λ pages. enters_recorded b y w f i owner pages t f (i + 1) clock (typed g want (had_goes pages) (had_asks pages) y taken.takes.serves) moves)
+        (λ pages. enters_recorded (typed g want (had_goes pages) (had_asks pages) y taken.takes.serves) moves)
         (had_found w (Ok Recorded) (typed_recorded x y w g owner want f i clock taken.found moves))
         (had.word, typed_hand had.looks y g want Found adds came had.asks (inl known) w false (ap not known) holds)
         (had_plain w (Ok Recorded)

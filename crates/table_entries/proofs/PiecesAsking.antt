@@ -27,8 +27,7 @@ use Rattle.table_entries.specs.Asking.{LooksOnly, of_entries}
 use Rattle.table_entries.specs.Between.{SeesEntry}
 use Rattle.table_entries.specs.Tops.{WorksAtTop}
 use Rattle.table_entries.proofs.HandLists.{none_before}
-use Rattle.table_entries.proofs.PiecesLooking.{looks_step}
-use Rattle.table_entries.proofs.PiecesTaking.{Goes}
+use Rattle.table_entries.proofs.PiecesTaking.{Goes, looks_step}
 
 -- the newest of the own works is the one on that frame
 module _ (f n : ℕ) (t : PageType) (h : Holdings) (on : WorksAtTop f t n h) where

@@ -23,7 +23,7 @@ use Rattle.table_entries.specs.Plain.{ResumesPlainly, TwinResume}
 use Rattle.table_entries.specs.Tops.{IsSettledNow, LookedAnd, WorksAtTop, as_it_was}
 use Rattle.table_entries.specs.declared.resuming.Resumed.TheVariants.{Settled}
 use Rattle.table_entries.proofs.PiecesAsking.{top_here}
-use Rattle.table_entries.proofs.TwinsLooked.{twin_resume}
+use Rattle.table_entries.proofs.Twins.{twin_resume}
 
 abbrev pub AsksNoType : Demand → Type 0
 AsksNoType d = (g : ℕ) (want : PageType) → d ≡ Typed g want → ⊥

@@ -23,8 +23,7 @@ use Rattle.answer_fits.specs.Finding.{Finding, FoundWith}
 use Rattle.answer_fits.specs.Pauses.{Progress, entry}
 use Rattle.answer_fits.proofs.Piecing.{moves_serves, serves_step}
 use Rattle.table_entries.specs.Asking.{of_entries}
-use Rattle.table_entries.proofs.PiecesLooking.{looks_step, looks_then}
-use Rattle.table_entries.proofs.PiecesTaking.{Goes, goes_came}
+use Rattle.table_entries.proofs.PiecesTaking.{Goes, goes_came, looks_step, looks_then}
 use Rattle.table_entries.proofs.LastEntry.{SeenLast}
 use Rattle.table_releases.specs.Between.{SeesLast}
 use Rattle.table_releases.proofs.Looking.{top_here}

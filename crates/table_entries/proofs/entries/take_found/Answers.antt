@@ -1,5 +1,4 @@
-use Rattle.table_entries.proofs.HandFound.{same_frame, same_gives, same_may, waits_may}
-use Rattle.table_entries.proofs.NextWays.{counted_records, had_some, next_counted, next_opened, next_untyped, taken_of, took_as}
+use Rattle.table_entries.proofs.NextWays.{counted_records, had_some, next_counted, next_opened, next_untyped, same_frame, same_gives, same_may, taken_of, took_as, waits_may}
 use Rattle.table_entries.proofs.entries.take_found.Goals as goal
 
 pub take_looked-requires-clause-wanted : goal.take_looked-requires-clause-wanted

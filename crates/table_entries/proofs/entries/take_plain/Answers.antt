@@ -10,13 +10,12 @@ use Rattle.frame_words.specs.Refs.{MayPut, took}
 use Rattle.table_entries.specs.Between.{TakesNext}
 use Rattle.table_entries.specs.declared.entries.Entered.{Entered}
 use Rattle.table_entries.specs.declared.entries.Entered.TheVariants.{Recorded}
-use Rattle.table_entries.proofs.FoundEntering.{enters_by, read_recorded}
+use Rattle.table_entries.proofs.Finding.{enters_by, read_recorded}
 use Rattle.table_entries.proofs.HandRecords.{plain_hand, plain_records}
 use Rattle.table_entries.proofs.NextWays.{takes_next}
 use Rattle.table_entries.proofs.PiecesAsking.{asks_plain, look_more, looked_goes}
 use Rattle.table_entries.proofs.PiecesEntering.{enters_recorded, enters_unreferred, referred}
-use Rattle.table_entries.proofs.TwinsLooked.{load_keeps, twin_entry}
-use Rattle.table_entries.proofs.TwinsTaken.{read_refused, read_taken}
+use Rattle.table_entries.proofs.Twins.{load_keeps, read_refused, read_taken, twin_entry}
 use Rattle.table_entries.proofs.entries.take_plain.Goals as goal
 
 pub record_entry-requires : goal.record_entry-requires
@@ -56,7 +55,7 @@ returns g c b word next asks =
     let came = serves_came v u (of_frame c.args.frame at.owner None) [] got.serves in
     takes_next
     (λ pages.
-    enters_recorded b u w at.table at.index at.owner pages at.kind at.table (at.index + 1) c.record_entry.result
+    enters_recorded
     (referred c.args.frame None (looked_goes next.looks at.owner pages) (asks_plain next.looks at.index at.owner pages next.works.on c.args.frame asks) u got.serves)
     record_it.moves)
     (enters_by next.looks at.owner (Read c.args.frame) asks w (Ok Recorded) (read_recorded v u w c.args.frame at.owner at.table at.index c.in_ok-get_ref.field-0 c.record_entry.result got.gets record_it.moves))

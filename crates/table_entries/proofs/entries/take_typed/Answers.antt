@@ -7,12 +7,11 @@ use Rattle.frame_words.proofs.Getting.{first_stopped}
 use Rattle.table_entries.specs.Between.{TakesNext}
 use Rattle.table_entries.specs.Found.{TypedBy}
 use Rattle.table_entries.specs.declared.entries.Entered.{Entered}
-use Rattle.table_entries.proofs.FoundEntering.{enters_by}
+use Rattle.table_entries.proofs.Finding.{enters_by}
 use Rattle.table_entries.proofs.NextWays.{counted_as, counted_records, found_as, had_aside, had_other, had_ref, had_some, next_counted, next_untyped, takes_next}
 use Rattle.table_entries.proofs.PiecesAsking.{asks_typed, look_more, looked_goes}
 use Rattle.table_entries.proofs.PiecesEntering.{enters_unreferred}
-use Rattle.table_entries.proofs.TwinsLooked.{twin_entry}
-use Rattle.table_entries.proofs.TwinsTaken.{typed_refused}
+use Rattle.table_entries.proofs.Twins.{twin_entry, typed_refused}
 use Rattle.table_entries.proofs.entries.take_typed.Goals as goal
 
 pub count_live-requires-clause-wanted : goal.count_live-requires-clause-wanted
