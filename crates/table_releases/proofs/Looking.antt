@@ -4,7 +4,7 @@ use Rattle.xp_words.specs.Entries.{demand_at}
 use Rattle.xp_words.specs.declared.entry.Demand.{Demand}
 use Rattle.xp_words.specs.declared.entry.Demand.TheVariants.{Bad, Nothing, Read, Typed}
 use Rattle.xp_words.specs.declared.kind.PageType.{PageType}
-use Rattle.xp_words.specs.declared.place.Place.TheVariants.{Cell}
+use Rattle.xp_words.specs.declared.place.Place.TheVariants.{Cell, Refs}
 use Rattle.xp_words.specs.Places.{sizes_of}
 use Rattle.xp_board.specs.declared.holdings.Holdings.{Holdings}
 use Rattle.xp_board.specs.declared.holdings.Work.{Work}
@@ -18,13 +18,18 @@ use Rattle.board_lemmas.proofs.ListChanges.{first_by-changed_here}
 use Rattle.board_lemmas.proofs.ListCounts.{first_by-cons_here}
 use Rattle.board_lemmas.proofs.WorkFacts.{work_word, works_facts}
 use Rattle.step_maker.specs.Holds.{Holds, still}
-use Rattle.table_words.specs.Entries.{entry_shed}
+use Rattle.table_words.specs.Entries.{entry_shed, ShedsLast}
 use Rattle.table_words.proofs.EntryHands.{shed_left}
 use Rattle.table_entries.specs.Tops.{with_recorded}
 use Rattle.table_entries.proofs.HandReady.{unmarked_learns}
 use Rattle.table_entries.proofs.LastEntry.{SeenLast, finds_inside, finds_plain, learned_seen, seen_sheds}
 use Rattle.table_releases.specs.Between.{SeesLast}
 use Rattle.table_releases.specs.Tops.{IsSettledTop}
+use Rattle.xp_board.specs.declared.step.Act.TheVariants.{Load}
+use Rattle.xp_board.specs.declared.step.Mark.TheVariants.{Shed}
+use Rattle.board_lemmas.proofs.Numbers.{refs_there}
+use Rattle.step_maker.specs.Moves.{May}
+use Rattle.xp_board.specs.declared.step.StepKind.TheVariants as kinds
 
 module _ {b v : PortValue} {f i : ℕ} {t : PageType} {word : ℕ} (l : SeesLast b v f i t word) where
   pub top_here : work_on f b.holdings.works ≡ Some l.works.top
@@ -90,3 +95,8 @@ module _ (v w : PortValue) {f i : ℕ} {t : PageType} {word : ℕ} (l : SeenLast
           ≡ still (record v { holdings = record (with_recorded f i None v.holdings) { typed = brought_as sure g want v.holdings ∷ v.holdings.typed } })
       by_sure true = refl
       by_sure false = refl
+
+-- ---- When an entry may be shed with a look at a reference word.
+pub may_shed_by_owner : (v : PortValue) (t upto f : ℕ) → f < v.post.machine.frames → ShedsLast t upto v.holdings → May v (Refs f) Load kinds.Look (Some (Shed t upto))
+may_shed_by_owner v t upto f frame last =
+    record { place = refs_there (sizes_of v.post.machine) f frame; marked = (last.work, last.may); running = λ needs. absurd cc; spelling = tt; act = tt }

@@ -35,10 +35,8 @@ use Rattle.table_entries.proofs.HandLists.{asks_below}
 use Rattle.table_entries.proofs.LastEntry.{SeenLast, finds_owned, seen_asks}
 use Rattle.table_words.specs.Entries.{entry_shed}
 use Rattle.table_releases.specs.Between.{Resumed, SeesKind}
-use Rattle.table_releases.proofs.Finding.{kind_came}
-use Rattle.table_releases.proofs.FrameSeen.{kind_post, now_seen}
-use Rattle.table_releases.proofs.HandLive.{closed, closed_ref, live_shed, newest}
-use Rattle.table_releases.proofs.HandResumed.{came_in, resumed_newest, resumed_post, resumed_seen, resumed_shed}
+use Rattle.table_releases.proofs.FrameSeen.{kind_came, kind_post, now_seen}
+use Rattle.table_releases.proofs.HandLive.{came_in, closed, closed_ref, live_shed, newest, resumed_newest, resumed_post, resumed_seen, resumed_shed}
 
 -- ---- a look at a cell leaves what is known of owners
 some_changed : {A : Type 0} (test : A → Bool) (key : A → ℕ) (f : ℕ) (change : A → A) (xs : List A) → ((x : A) → test (change x) ≡ test x) → some_of test (changed_by key f change xs) ≡ some_of test xs

@@ -2,9 +2,8 @@ use Rattle.std.proofs.Common.{◌≡◌, ◌⊎◌, ◌<◌, sym, subst, ◌∙�
 use Rattle.xp_words.specs.declared.entry.Demand.TheVariants.{Bad, Nothing}
 use Rattle.xp_board.specs.Told.{Post}
 use Rattle.table_entries.proofs.LastEntry.{seen_sheds}
-use Rattle.table_releases.proofs.Entry.{frame_fits, plain_gives, plain_post}
+use Rattle.table_releases.proofs.Ways.{frame_fits, plain_gives, plain_post, releases_nothing, releases_ref, sees_last, sees_typed}
 use Rattle.table_releases.proofs.Looking.{looked_seen, plain_there, typed_there}
-use Rattle.table_releases.proofs.Ways.{releases_nothing, releases_ref, sees_last, sees_typed}
 use Rattle.table_releases.proofs.entries.release_entry.Goals as goal
 
 pub shed_entry-requires : goal.shed_entry-requires

@@ -2,8 +2,7 @@ use Rattle.std.proofs.Common.{sym, subst, Err}
 use Rattle.xp_words.specs.declared.reply.Stop.{Stop}
 use Rattle.kind_words.proofs.KindFacts.{read_is}
 use Rattle.table_releases.specs.Between.{ReleasesEntry}
-use Rattle.table_releases.proofs.Lost.{resumed_from}
-use Rattle.table_releases.proofs.Ways.{releases_lost}
+use Rattle.table_releases.proofs.Ways.{releases_lost, resumed_from}
 use Rattle.table_releases.proofs.entries.release_partial.Goals as goal
 
 pub resume_work-requires-clause-is : goal.resume_work-requires-clause-is

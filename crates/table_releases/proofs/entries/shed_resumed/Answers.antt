@@ -2,7 +2,7 @@ use Rattle.std.proofs.Common.{sym, subst, ◌∙◌}
 use Rattle.kind_words.specs.Kinds.{MayLeave, left}
 use Rattle.step_maker.specs.Holds.{Holds}
 use Rattle.table_entries.proofs.LastEntry.{seen_sheds}
-use Rattle.table_releases.proofs.HandResumed.{dead_gives, dead_may, dead_works, resumed_seen, shed_may}
+use Rattle.table_releases.proofs.HandLive.{dead_gives, dead_may, dead_works, resumed_seen, shed_may}
 use Rattle.table_releases.proofs.Ways.{releases_dead, releases_table}
 use Rattle.table_releases.proofs.entries.shed_resumed.Goals as goal
 
