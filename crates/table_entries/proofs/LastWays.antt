@@ -12,11 +12,11 @@ use Rattle.xp_board.specs.After.{learned_cell}
 use Rattle.xp_board.specs.Hands.{typed_to, work_on}
 use Rattle.xp_board.specs.Told.{PortValue, is_telling, told_word}
 use Rattle.step_maker.specs.Holds.{Holds, Same}
-use Rattle.step_maker.specs.Moves.{Came, Moves}
+use Rattle.step_maker.specs.Moves.{Came, Met, Moves}
 use Rattle.step_maker.specs.Plain.{Leaves}
 use Rattle.step_maker.proofs.Telling.{came_telling}
 use Rattle.answer_fits.specs.Answers.{Serves, Stops, missed}
-use Rattle.answer_fits.specs.Asked.{of_back, of_frame}
+use Rattle.answer_fits.specs.Asked.{Asked, of_back, of_frame}
 use Rattle.answer_fits.specs.Visits.{Does}
 use Rattle.answer_fits.proofs.Piecing.{serves_came}
 use Rattle.frame_words.specs.Freeing.{Puts, gave}
@@ -25,7 +25,8 @@ use Rattle.frame_words.specs.Refs.{Gets, IsRefStop, took}
 use Rattle.frame_types.specs.Taking.{IsOfOther, LeavesLive}
 use Rattle.frame_types.specs.declared.taking.Taken.{Taken}
 use Rattle.frame_types.specs.declared.taking.Taken.TheVariants.{Counted, InWork, Waiting}
-use Rattle.table_entries.specs.Between.{HandResumed, LooksAgain, LooksLive, Resumes, TakesLast, TypeTaken}
+use Rattle.table_entries.specs.Asking.{AsksBelow, ShowsResumed, of_entries}
+use Rattle.table_entries.specs.Between.{HandResumed, LooksAgain, LooksLive, Meets, TakesLast, TypeTaken}
 use Rattle.table_entries.specs.Found.{ResumesFound, TypedAgain}
 use Rattle.table_entries.specs.Plain.{TwinResume, TypesAgain}
 use Rattle.table_entries.specs.Tops.{HoldsWorks, WorksAtTop}
@@ -33,17 +34,17 @@ use Rattle.table_entries.specs.declared.resuming.Resumed.{Resumed}
 use Rattle.table_entries.specs.declared.resuming.Resumed.TheVariants as again
 use Rattle.table_entries.proofs.Finding.{live_found, reopened, resumes_had, retaken, rewaited, standing_found, unreferred_found, untaken_found}
 use Rattle.table_entries.proofs.HandAgain.{again_in_work, again_waits, live_hand, live_same, looked_again, taken_settled, takes_behind}
-use Rattle.table_entries.proofs.HandLists.{asks_some}
+use Rattle.table_entries.proofs.HandLists.{asks_below, asks_some}
 use Rattle.table_entries.proofs.HandRecords.{given_up, opens_from, opens_waiting, take_aside, take_looking, take_other, takes_again}
 use Rattle.table_entries.proofs.NextWays.{took_as}
 use Rattle.table_entries.proofs.PiecesAsking.{looked_goes}
 use Rattle.table_entries.proofs.PiecesLive.{ends_live, gets_on}
-use Rattle.table_entries.proofs.PiecesEntering.{live_goes, resumes_opened, resumes_taken, resumes_unreferred, resumes_untyped, resumes_waiting}
+use Rattle.table_entries.proofs.PiecesEntering.{again_asks, again_goes, again_more, asks_referred, live_goes, met, referred, still_below, typed, unreferred, untyped, waits_stops}
 use Rattle.table_entries.proofs.PiecesStanding.{AsksNoType, standing_hand, standing_twin}
 use Rattle.table_entries.proofs.PiecesTaking.{Goes}
 use Rattle.table_entries.proofs.Twins.{again_behind, again_counted, again_opened, again_refused, again_stopped, again_waiting, twin_again, twin_live}
 
-pub takes_last : {v w : PortValue} {f i owner : ℕ} {t : PageType} {answer : Result Resumed Stop} → ((pages : ℕ) → Resumes v w f i owner pages t answer) → ResumesFound v w f i t owner answer →
+pub takes_last : {v w : PortValue} {f i owner : ℕ} {t : PageType} {answer : Result Resumed Stop} → ((pages : ℕ) → Meets v w f i owner pages (λ a. ShowsResumed v w owner pages t a) answer) → ResumesFound v w f i t owner answer →
     HandResumed v w f i owner t answer → TwinResume v w f t i owner answer → TakesLast v w f i owner t answer
 takes_last resumes found hand plain =
     record {
@@ -65,27 +66,24 @@ looks_last look hand frame index held above looked works = record { looks = reco
 pub live_is : {v w : PortValue} {g : ℕ} {live on : Bool} → live ≡ on → LooksLive v w g live → LooksLive v w g on
 live_is {v} {w} {g} is looks = subst (λ k. LooksLive v w g k) is looks
 
--- it stands
-stands : {b v : PortValue} {f i owner pages : ℕ} (t : PageType) → Goes b v f i owner pages [] → Resumes b v f i owner pages t (Ok again.Settled)
-stands t goes = record { serves = goes.serves; stops = tt; kinds = tt; shows = tt; looks = goes.looks }
-
+-- ---- it stands, or no reference is to be had
 module _ {b u : PortValue} {f i word : ℕ} {t : PageType} (l : LooksAgain b u f i t word) where
   pub last_standing : {owner : ℕ} → AsksNoType (demand_at t i word) → TakesLast b u f i owner t (Ok again.Settled)
   last_standing {owner} none =
-      takes_last (λ pages. stands t (looked_goes l.looks owner pages)) (standing_found l.looks owner none) (standing_hand l.looks l.works none)
+      takes_last (λ pages. met (looked_goes l.looks owner pages) tt) (standing_found l.looks owner none) (standing_hand l.looks l.works none)
       (standing_twin b u f i owner t word l.looks none)
 
   module _ {v : PortValue} {g owner : ℕ} {want : PageType} (asks : demand_at t i word ≡ Typed g want) where
     pub last_live : LooksLive u v g true → TakesLast b v f i owner t (Ok again.Settled)
     last_live live =
-        takes_last (λ pages. stands t (live_goes b u v f i owner pages g true (looked_goes l.looks owner pages) live)) (live_found l.looks owner g want asks v live)
+        takes_last (λ pages. met (live_goes b u v f i owner pages g true (looked_goes l.looks owner pages) live) tt) (live_found l.looks owner g want asks v live)
         (live_hand b u v f i t word g want l asks live) (twin_live v owner t l.looks.look asks live)
 
     -- its frame is not live, and no reference to be had
     pub last_unreferred : {x : PortValue} {e : Stop} → LooksLive u v g false → IsRefStop e → Serves v x (of_frame g owner None) (missed v.post.machine e) → Stops v x (of_frame g owner None) e → Gets {A = ℕ} v x g owner (Err e) →
         TwinGet {A = ℕ} v x g owner (Err e) → Same v x → TakesLast b x f i owner t (Err e)
     last_unreferred {x} {e} off is serves stops gets plain same =
-        takes_last (λ pages. resumes_unreferred owner pages l asks off x e is serves stops) (unreferred_found l.looks owner g want asks v off x e gets)
+        takes_last (λ pages. unreferred g (Some want) (again_goes owner pages l asks off) (again_asks owner pages l asks off) (again_more owner pages l asks off) is serves stops) (unreferred_found l.looks owner g want asks v off x e gets)
         (looked_again l v x g off same) (twin_again v owner t l.looks.look asks off x (Err e) (λ telling. again_refused v x g owner e plain telling want))
 
 -- ---- its frame is not live, and a reference was taken
@@ -126,6 +124,15 @@ module _ {b x : PortValue} {f i owner g : ℕ} {t want : PageType} (had : HadAga
   takes : Holds had.u x (took g owner had.u.holdings)
   takes = takes_behind had.u had.v x g owner (live_same had.u had.v g false had.off) had.lent
 
+  had_goes : (pages : ℕ) → Goes b x f i owner pages []
+  had_goes pages = referred g (Some want) (again_goes owner pages had.looks had.asks had.off) (again_asks owner pages had.looks had.asks had.off) x had.refers
+
+  had_asks : (pages : ℕ) → Asked b.post.machine b.post.vcpu (of_entries owner pages) (Met b x) g owner (Some want)
+  had_asks pages = asks_referred g (Some want) (again_goes owner pages had.looks had.asks had.off) (again_asks owner pages had.looks had.asks had.off) x had.refers
+
+  had_below : (pages : ℕ) (y : PortValue) → Serves x y (of_frame g owner (Some want)) [] → AsksBelow b y owner pages t g
+  had_below pages y types = still_below g want (had_goes pages) (had_asks pages) y types t (asks_below t i had.word g want had.asks)
+
   -- what the type's call needs
   pub again_some : IsTrue (not (is_none want))
   again_some = asks_some t i had.word g want had.asks
@@ -152,8 +159,8 @@ module _ {b x : PortValue} {f i owner g : ℕ} {t want : PageType} (had : HadAga
   last_taken {y} taken is leaves =
       takes_last
       (λ pages.
-      resumes_taken owner pages had.looks had.asks had.off x had.refers y taken.takes.serves
-      (gets_on x y owner had.looks had.asks had.off had.inside came_x had.lent taken.takes.hand (ends_live x y g owner want again_some taken.found)))
+      met (typed g want (had_goes pages) (had_asks pages) y taken.takes.serves)
+      (had_below pages y taken.takes.serves, gets_on x y owner had.looks had.asks had.off had.inside came_x had.lent taken.takes.hand (ends_live x y g owner want again_some taken.found)))
       (had_found y (Ok (again.Taken g)) (retaken x y g owner want taken.found))
       (takes_again had.looks.looks owner had.asks x takes y taken.takes.hand, taken_settled b had.u had.v x y f i t had.word g owner want had.looks had.asks had.off came_x had.lent taken.takes.hand (subst (λ j. LeavesLive x y g j) is leaves))
       (had_plain y (Ok (again.Taken g)) (λ telling. again_counted x y g g want refl telling taken.plain))
@@ -162,7 +169,7 @@ module _ {b x : PortValue} {f i owner g : ℕ} {t want : PageType} (had : HadAga
   pub last_opened : {y : PortValue} {progress : ℕ} {own : Bool} → TypeTaken x y g owner want (Ok (InWork progress own)) → TakesLast b y f i owner t (Ok (again.Opened g progress))
   last_opened {y} {progress} {own} is_taken =
       let taken = took_as (again_in_work x owner had.looks had.asks had.off had.lent y (InWork progress own) is_taken.found progress own refl) is_taken in
-      takes_last (λ pages. resumes_opened owner pages had.looks had.asks had.off x had.refers y taken.takes.serves progress)
+      takes_last (λ pages. met (typed g want (had_goes pages) (had_asks pages) y taken.takes.serves) (had_below pages y taken.takes.serves))
       (had_found y (Ok (again.Opened g progress)) (reopened x y g owner want progress taken.found)) (opens_from had.looks.looks owner had.asks x takes y progress false taken.takes.hand.1)
       (had_plain y (Ok (again.Opened g progress)) (λ telling. again_opened x y g g want refl telling progress taken.plain))
 
@@ -170,7 +177,10 @@ module _ {b x : PortValue} {f i owner g : ℕ} {t want : PageType} (had : HadAga
   last_waiting {y} {own} {stamp} {stop} is_taken =
       let taken = took_as (again_waits x owner had.looks had.asks had.off had.lent y (Waiting own stamp stop) is_taken.found own stamp stop refl) is_taken in
       let shows = taken.takes.waits in
-      takes_last (λ pages. resumes_waiting owner pages had.looks had.asks had.off x had.refers y taken.takes.serves stamp stop shows.0 shows.1)
+      takes_last
+      (λ pages.
+      met (typed g want (had_goes pages) (had_asks pages) y taken.takes.serves)
+      (had_below pages y taken.takes.serves, shows.0, waits_stops g want (had_goes pages) (had_asks pages) y stop shows.0 taken.takes.serves shows.1))
       (had_found y (Ok (again.Waiting g stamp stop)) (rewaited x y g owner want stamp stop taken.found))
       (opens_waiting had.looks.looks owner had.asks x takes y false stamp taken.takes.hand)
       (had_plain y (Ok (again.Waiting g stamp stop)) (λ telling. again_waiting x y g g want refl telling stamp stop taken.plain))
@@ -179,7 +189,7 @@ module _ {b x : PortValue} {f i owner g : ℕ} {t want : PageType} (had : HadAga
   pub last_untyped : {y z : PortValue} {e : Stop} → TypeTaken x y g owner want (Err e) → Serves y z (of_back g) [] → Puts y z g → Holds y z (gave g y.holdings) → (is_telling y ≡ true → Leaves z (put g (told_word y))) →
       TakesLast b z f i owner t (Err e)
   last_untyped {y} {z} {e} taken back puts gives leaves =
-      takes_last (λ pages. resumes_untyped owner pages had.looks had.asks had.off x had.refers y z e taken.takes.kinds taken.takes.serves taken.takes.stops back)
+      takes_last (λ pages. untyped g want (had_goes pages) (had_asks pages) y taken.takes.kinds taken.takes.serves taken.takes.stops back)
       (untaken_found had.looks.looks owner g want had.asks had.v had.off x y z g e had.gets taken.found puts)
       (given_up had.looks.looks owner had.asks x takes y z taken.takes.hand gives)
       (had_plain z (Err e) (λ telling. again_stopped x y g g want refl telling z (serves_came x y (of_frame g owner (Some want)) _ taken.takes.serves) leaves e taken.plain))

@@ -47,7 +47,8 @@ use Rattle.frame_types.specs.Leaving.{GivesBack, IsWaiting, KeepsType, ServesTyp
 use Rattle.frame_types.specs.Taking.{working_typed}
 use Rattle.table_words.specs.Entries.{Records, RecordsNext, entry_recorded}
 use Rattle.table_words.proofs.EntryHands.{unsettled_for}
-use Rattle.table_entries.specs.Between.{EntryLeftWaiting, MeetsEntry, TakesNext}
+use Rattle.table_entries.specs.Asking.{ShowsEntered}
+use Rattle.table_entries.specs.Between.{EntryLeftWaiting, Meets, TakesNext}
 use Rattle.table_entries.specs.Found.{EntersFound, LeftAfter, LeftBy, TypedBy}
 use Rattle.table_entries.specs.Tops.{LookedAnd, as_it_was}
 use Rattle.table_entries.specs.declared.entries.Entered.TheVariants.{Unsettled}
@@ -221,8 +222,8 @@ module _ {b v : PortValue} {f i owner : ℕ} {t : PageType} {g : ℕ} {want : Pa
 
   -- ---- the reference is given back
   module _ (w : PortValue) (mine : Bool) (is : own ≡ mine) (serves : ServesType v w g want) (gives : GivesBack v w g want mine) where
-    left_meets : (pages : ℕ) → MeetsEntry b w f i owner pages t (Err stop)
-    left_meets pages = enters_left g want (had_goes late.had pages) (had_asks late.had pages) v stop late.taken.takes.waits.0 late.taken.takes.serves late.taken.takes.waits.1 w serves t
+    left_meets : (pages : ℕ) → Meets b w f i owner pages (λ a. ShowsEntered b w owner pages t a) (Err stop)
+    left_meets pages = enters_left g want (had_goes late.had pages) (had_asks late.had pages) v stop late.taken.takes.waits.0 late.taken.takes.serves late.taken.takes.waits.1 w serves
 
     left_found : Does v w (λ vs. LeftBy g want own stamp stop vs) → EntersFound b w f i t owner (Err stop)
     left_found left =
@@ -282,7 +283,7 @@ module _ {b v : PortValue} {f i owner : ℕ} {t : PageType} {g : ℕ} {want : Pa
         let lasts = leaves_unsettled (sizes_of y.post.machine) y.holdings (Typed g want) in
         takes_next
         (λ pages.
-        enters_unsettled g want (had_goes late.had pages) (had_asks late.had pages) v stop late.taken.takes.waits.0 late.taken.takes.serves late.taken.takes.waits.1 y serves t w f (i + 1) clock moves)
+        enters_unsettled g want (had_goes late.had pages) (had_asks late.had pages) v stop late.taken.takes.waits.0 late.taken.takes.serves late.taken.takes.waits.1 y serves t moves)
         (had_found late.had w (Ok (Unsettled stop))
         (does_as late.x w _ (λ vs. TypedBy late.x.post g owner want f i (Ok (Unsettled stop)) vs)
         (λ vs steps.

@@ -1,5 +1,5 @@
 -- The frame that the entry asks is not found live: how it came there.
-use Rattle.std.proofs.Common.{◌≡◌, ℕ, ◌<◌, Bool, true, false, refl, sym, ap, ◌∙◌, subst, ◌+◌, not, [], ◌∷◌, Some, None, Result, Ok, Err, IsTrue, inl}
+use Rattle.std.proofs.Common.{Option, ◌≡◌, ℕ, ◌<◌, Bool, true, false, refl, sym, ap, ◌∙◌, subst, ◌+◌, not, [], ◌∷◌, Some, None, Result, Ok, Err, IsTrue, inl}
 use Rattle.xp_words.specs.declared.kind.PageType.{PageType}
 use Rattle.xp_board.specs.Told.{PortValue, is_telling, told_word}
 use Rattle.xp_words.specs.Machine.{IsMachine}
@@ -8,11 +8,12 @@ use Rattle.xp_board.specs.declared.holdings.Holdings.{Holdings}
 use Rattle.xp_board.specs.declared.holdings.Work.{Work}
 use Rattle.xp_board.specs.Hands.{refs_to, typed_to, work_on}
 use Rattle.xp_board.specs.RefSteps.{SparesClosing}
-use Rattle.frame_words.specs.Refs.{MayPut, Gets, took}
+use Rattle.frame_words.specs.Refs.{Gets, IsRefStop, MayPut, took}
 use Rattle.frame_types.specs.Taking.{WaitsWith, working, CountsAs, IsNotLive, IsOfOther, Looked, ShowsWait, Takes, TakesAs}
 use Rattle.xp_words.specs.Entries.{demand_at}
 use Rattle.xp_words.specs.PageTypes.{is_none}
 use Rattle.xp_words.specs.Places.{sizes_of}
+use Rattle.xp_words.specs.declared.entry.Demand.{Demand}
 use Rattle.xp_words.specs.declared.entry.Demand.TheVariants.{Bad, Nothing, Typed}
 use Rattle.xp_words.specs.declared.place.Place.TheVariants.{Cell, Clock}
 use Rattle.xp_words.specs.declared.reply.Refusal.TheVariants.{Reserved}
@@ -27,8 +28,8 @@ use Rattle.step_maker.specs.Moves.{Came, Met, Moves}
 use Rattle.step_maker.specs.Plain.{Leaves, Words}
 use Rattle.step_maker.proofs.Coming.{came_trans}
 use Rattle.step_maker.proofs.Telling.{came_telling, told_there}
-use Rattle.answer_fits.specs.Answers.{Serves}
-use Rattle.answer_fits.specs.Asked.{Asked, of_back, of_frame}
+use Rattle.answer_fits.specs.Answers.{Serves, Stops, missed}
+use Rattle.answer_fits.specs.Asked.{Asked, IsDemandOf, of_back, of_frame}
 use Rattle.answer_fits.specs.Visits.{Does}
 use Rattle.answer_fits.proofs.Piecing.{serves_came}
 use Rattle.kind_words.proofs.KindHands.{known_first}
@@ -40,18 +41,18 @@ use Rattle.frame_types.specs.declared.taking.Counting.{Counting}
 use Rattle.frame_types.specs.declared.taking.Taken.{Taken}
 use Rattle.frame_types.specs.declared.taking.Taken.TheVariants.{Counted, InWork}
 use Rattle.table_words.specs.Entries.{RecordsNext, entry_recorded}
-use Rattle.table_entries.specs.Asking.{of_entries}
-use Rattle.table_entries.specs.Between.{HadRef, HandEntered, LooksNext, MeetsEntry, TakesNext, TypeTaken}
-use Rattle.table_entries.specs.Found.{EntersFound, TypedBy}
-use Rattle.table_entries.specs.Plain.{TwinEntry, TypesPlainly}
+use Rattle.table_entries.specs.Asking.{ShowsEntered, of_entries}
+use Rattle.table_entries.specs.Between.{HadRef, HandEntered, LooksNext, Meets, TakesNext, TypeTaken}
+use Rattle.table_entries.specs.Found.{EntersBy, EntersFound, TypedBy}
+use Rattle.table_entries.specs.Plain.{EntersPlainly, TwinEntry, TypesPlainly}
 use Rattle.table_entries.specs.declared.entries.Entered.{Entered}
 use Rattle.table_entries.specs.declared.entries.Entered.TheVariants.{Opened, Recorded}
 use Rattle.table_entries.proofs.Finding.{bad_stopped, enters_by, enters_had, nothing_recorded, typed_opened, typed_recorded, typed_stopped}
 use Rattle.table_entries.proofs.HandLists.{asks_below, asks_some}
 use Rattle.table_entries.proofs.HandRecords.{given_up, nothing_hand, opens_from, take_aside, take_other, typed_from, typed_hand, typed_records}
-use Rattle.table_entries.proofs.PiecesAsking.{asks_typed, look_bad, look_only, look_serves, looked_goes}
-use Rattle.table_entries.proofs.PiecesEntering.{asks_referred, enters_opened, enters_recorded, enters_untyped, referred, typed}
-use Rattle.table_entries.proofs.PiecesTaking.{Goes}
+use Rattle.table_entries.proofs.PiecesAsking.{asks_typed, look_asks, look_bad, look_more, looked_goes}
+use Rattle.table_entries.proofs.PiecesEntering.{asks_referred, met, referred, still_below, typed, unmet, unreferred, untyped}
+use Rattle.table_entries.proofs.PiecesTaking.{Goes, goes_record, record_shows}
 use Rattle.table_entries.proofs.Twins.{load_keeps, twin_entry, typed_behind, types_counted, types_opened, types_stopped}
 use Rattle.xp_board.specs.declared.holdings.OwnerFound.TheVariants as owners
 use Rattle.xp_board.specs.declared.step.StepKind.TheVariants as kinds
@@ -95,7 +96,7 @@ waits_may {x} {v} {y} {g} {owner} {want} {own} one w may =
     }
 
 -- ---- The next entry: all that its call ensures, by what became of it.
-pub takes_next : {v w : PortValue} {f i owner : ℕ} {t : PageType} {answer : Result Entered Stop} → ((pages : ℕ) → MeetsEntry v w f i owner pages t answer) → EntersFound v w f i t owner answer →
+pub takes_next : {v w : PortValue} {f i owner : ℕ} {t : PageType} {answer : Result Entered Stop} → ((pages : ℕ) → Meets v w f i owner pages (λ a. ShowsEntered v w owner pages t a) answer) → EntersFound v w f i t owner answer →
     HandEntered v w f i owner t answer → TwinEntry v w f t i owner answer → TakesNext v w f i owner t answer
 takes_next meets found hand plain =
     record {
@@ -113,19 +114,27 @@ takes_next meets found hand plain =
 module _ {b v : PortValue} {f i owner word : ℕ} {t : PageType} (l : LooksNext b v f i owner t word) where
   pub next_nothing : {w : PortValue} {clock : ℕ} → demand_at t i word ≡ Nothing → Moves v w Clock Load kinds.Look (Some (Record f (i + 1))) clock → Holds v w (entry_recorded v.post.machine f v.holdings) → TakesNext b w f i owner t (Ok Recorded)
   next_nothing {w} {clock} asks moves holds =
-      takes_next (λ pages. enters_recorded (looked_goes l.looks owner pages) moves)
+      takes_next (λ pages. met (goes_record (looked_goes l.looks owner pages) moves) (record_shows (looked_goes l.looks owner pages) moves))
       (enters_by l.looks owner Nothing asks w (Ok Recorded) (nothing_recorded v w f i owner word clock moves)) (nothing_hand l asks w holds)
       (twin_entry owner t l.looks.look asks w (Ok Recorded) (λ telling. (refl, λ q. ap (λ (m : Words). m q) (load_keeps moves telling))))
 
   pub next_bad : demand_at t i word ≡ Bad → TakesNext b v f i owner t (Err (Refused (Reserved f i word)))
   next_bad asks =
       let answer = Err (Refused (Reserved f i word)) in
-      takes_next (λ pages. record { serves = look_serves l.looks owner pages; stops = look_bad l.looks i owner pages l.works.on asks; kinds = tt; shows = tt; looks = look_only l.looks })
+      takes_next (λ pages. unmet (looked_goes l.looks owner pages) (look_bad l.looks owner pages l.works.on asks) tt)
       (enters_by l.looks owner Bad asks v answer (bad_stopped v f i owner word)) (word, ap quiet l.looks.hand)
       (λ on.
       let same = load_keeps l.looks.look on in
       let found = ap (λ (m : Words). m (Cell f i)) same ∙ told_there b v (Cell f i) Load kinds.Look None word l.looks.look on in
       twin_entry owner t l.looks.look asks v answer (λ telling. (sym (ap (λ y. Err (Refused (Reserved f i y))) found), λ q. refl)) on)
+
+  -- a reference to the frame that it asks is not to be had
+  pub next_unreferred : {x : PortValue} {e : Stop} {d : Demand} → (g : ℕ) (want : Option PageType) → demand_at t i word ≡ d → IsDemandOf g want (Some d) → IsRefStop e → Serves v x (of_frame g owner None) (missed v.post.machine e) →
+      Stops v x (of_frame g owner None) e → Same v x → Does v x (λ vs. EntersBy v.post f i owner (Err e) word d vs) → (is_telling v ≡ true → EntersPlainly v.post.machine x (told_word v) f i owner (Err e) d) → TakesNext b x f i owner t (Err e)
+  next_unreferred {x} {e} {d} g want asks is kinds serves stops same found plain =
+      takes_next
+      (λ pages. unreferred g want (looked_goes l.looks owner pages) (look_asks l.looks owner pages l.works.on g want (subst (λ k. IsDemandOf g want (Some k)) (sym asks) is)) (look_more l.looks owner pages) kinds serves stops)
+      (enters_by l.looks owner d asks x (Err e) found) (word, ap quiet same ∙ ap quiet l.looks.hand) (twin_entry owner t l.looks.look asks x (Err e) plain)
 
 -- a reference was taken of the frame that the entry names
 pub had_ref : {b u : PortValue} {f i owner word n g : ℕ} {t want : PageType} → (x : PortValue) → LooksNext b u f i owner t word → demand_at t i word ≡ Typed n want → (g ≡ n) × (g < u.post.machine.frames) →
@@ -171,7 +180,7 @@ taken_of {x} looked takes found plain = record { takes = takes x looked; found =
 -- ---- behind the reference
 module _ {b x : PortValue} {f i owner g : ℕ} {t want : PageType} (had : HadRef b x f i owner t g want) where
   asked : (pages : ℕ) → Asked b.post.machine b.post.vcpu (of_entries owner pages) (Met b had.u) g owner (Some want)
-  asked pages = asks_typed had.looks.looks i owner pages had.looks.works.on g want had.asks
+  asked pages = asks_typed had.looks.looks owner pages had.looks.works.on g want had.asks
 
   pub had_goes : (pages : ℕ) → Goes b x f i owner pages []
   had_goes pages = referred g (Some want) (looked_goes had.looks.looks owner pages) (asked pages) x had.refers
@@ -214,7 +223,7 @@ module _ {b x : PortValue} {f i owner g : ℕ} {t want : PageType} (had : HadRef
     pub next_counted : {w : PortValue} {clock : ℕ} → Moves y w Clock Load kinds.Look (Some (Record f (i + 1))) clock → Holds y w (entry_recorded y.post.machine f y.holdings) → TakesNext b w f i owner t (Ok Recorded)
     next_counted {w} {clock} moves holds =
         takes_next
-        (λ pages. enters_recorded (typed g want (had_goes pages) (had_asks pages) y taken.takes.serves) moves)
+        (λ pages. let goes = typed g want (had_goes pages) (had_asks pages) y taken.takes.serves in met (goes_record goes moves) (record_shows goes moves))
         (had_found w (Ok Recorded) (typed_recorded x y w g owner want f i clock taken.found moves))
         (had.word, typed_hand had.looks y g want Found adds came had.asks (inl known) w false (ap not known) holds)
         (had_plain w (Ok Recorded)
@@ -223,7 +232,7 @@ module _ {b x : PortValue} {f i owner g : ℕ} {t want : PageType} (had : HadRef
   -- its frame is to be worked on first
   pub next_opened : {y : PortValue} {progress : ℕ} {own : Bool} → TypeTaken x y g owner want (Ok (InWork progress own)) → TakesNext b y f i owner t (Ok (Opened g progress own))
   next_opened {y} {progress} {own} taken =
-      takes_next (λ pages. enters_opened g want (had_goes pages) (had_asks pages) y taken.takes.serves t (asks_below t i had.word g want had.asks) progress own)
+      takes_next (λ pages. met (typed g want (had_goes pages) (had_asks pages) y taken.takes.serves) (still_below g want (had_goes pages) (had_asks pages) y taken.takes.serves t (asks_below t i had.word g want had.asks)))
       (had_found y (Ok (Opened g progress own)) (typed_opened x y g owner want f i progress own taken.found))
       (opens_from had.looks.looks owner had.asks x had.lent y progress own taken.takes.hand.1)
       (had_plain y (Ok (Opened g progress own)) (λ telling. types_opened x y g g want refl telling progress own taken.plain))
@@ -232,7 +241,7 @@ module _ {b x : PortValue} {f i owner g : ℕ} {t want : PageType} (had : HadRef
   pub next_untyped : {y z : PortValue} {e : Stop} → TypeTaken x y g owner want (Err e) → Serves y z (of_back g) [] → Puts y z g → Holds y z (gave g y.holdings) → (is_telling y ≡ true → Leaves z (put g (told_word y))) →
       TakesNext b z f i owner t (Err e)
   next_untyped {y} {z} {e} taken back puts gives leaves =
-      takes_next (λ pages. enters_untyped g want (had_goes pages) (had_asks pages) y z e taken.takes.kinds taken.takes.serves taken.takes.stops back t)
+      takes_next (λ pages. untyped g want (had_goes pages) (had_asks pages) y taken.takes.kinds taken.takes.serves taken.takes.stops back)
       (had_found z (Err e) (typed_stopped x y z g owner want f i e taken.found puts))
       (given_up had.looks.looks owner had.asks x had.lent y z taken.takes.hand gives)
       (had_plain z (Err e) (λ telling. types_stopped x y g g want refl telling z (serves_came x y (of_frame g owner (Some want)) _ taken.takes.serves) leaves e taken.plain))

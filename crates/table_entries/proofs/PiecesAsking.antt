@@ -72,8 +72,8 @@ module _ {b u : PortValue} {f i : ℕ} {t : PageType} {word : ℕ} (looks : Sees
         typed = λ off. absurd cc;
       }
 
-  module _ (n owner pages : ℕ) (on : WorksAtTop f t n b.holdings) where
-    look_asks : (g : ℕ) (want : Option PageType) → IsDemandOf g want (Some (demand_at t i word)) → Asked b.post.machine b.post.vcpu (of_entries owner pages) (Met b u) g owner want
+  module _ {n : ℕ} (owner pages : ℕ) (on : WorksAtTop f t n b.holdings) where
+    pub look_asks : (g : ℕ) (want : Option PageType) → IsDemandOf g want (Some (demand_at t i word)) → Asked b.post.machine b.post.vcpu (of_entries owner pages) (Met b u) g owner want
     look_asks g want is =
         demanded f i word b.holdings refl look_found (subst (IsDemandOf g want) (sym (held_demand f n t b.holdings on i word)) is) (held_owner f n t b.holdings on owner pages)
 

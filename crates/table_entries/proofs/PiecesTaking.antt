@@ -100,16 +100,16 @@ module _ {b v : PortValue} {f i owner pages : ℕ} {ds : List Deed} (goes : Goes
         looks = looks_then b v w f i goes.looks (looks_step v w f i (Kind g) Load kinds.Look None found m (λ h j at. absurd (let same = at in cc)));
       }
 
-  pub goes_record : (w : PortValue) (g upto found : ℕ) → Moves v w Clock Load kinds.Look (Some (Record g upto)) found → Goes b w f i owner pages ds
-  goes_record w g upto found m =
+  pub goes_record : {w : PortValue} {g upto found : ℕ} → Moves v w Clock Load kinds.Look (Some (Record g upto)) found → Goes b w f i owner pages ds
+  goes_record {w} {g} {upto} {found} m =
       record {
         serves = serves_step b v w (of_entries owner pages) ds Clock Load kinds.Look (Some (Record g upto)) found goes.serves m tt;
         looks = looks_then b v w f i goes.looks (looks_step v w f i Clock Load kinds.Look (Some (Record g upto)) found m (λ h j at. absurd (let same = at in cc)));
       }
 
-  pub record_shows : (w : PortValue) (g upto found : ℕ) → Moves v w Clock Load kinds.Look (Some (Record g upto)) found → Progress (Met b w)
+  pub record_shows : {w : PortValue} {g upto found : ℕ} → Moves v w Clock Load kinds.Look (Some (Record g upto)) found → Progress (Met b w)
   unfolding moment_of
-  record_shows w g upto found m =
+  record_shows {w} {g} {upto} {found} m =
       entry (moment_of v Clock Load kinds.Look (Some (Record g upto)) found) (met_after b v w _ goes_came (moves_met v w Clock Load kinds.Look (Some (Record g upto)) found m)) refl
 
   -- a call on a frame that is asked so

@@ -68,19 +68,12 @@ abbrev pub HasFoundOther : PortValue → ℕ → ℕ → PageType → Demand →
 HasFoundOther v f i t (Typed g want) = (u : PortValue) × HasLookedAgain u f i t (Typed g want) × LooksLive u v g false
 HasFoundOther v f i t d = ⊥
 
--- what the steps of the call are and show, from before the look on
-pub record MeetsEntry (v w : PortValue) (f i owner pages : ℕ) (t : PageType) (answer : Result Entered Stop) : Type 0 where
+-- what the steps of the call are and show, from before the look on; S of what is answered where it does not stop
+pub record Meets {A : Type 0} (v w : PortValue) (f i owner pages : ℕ) (S : A → Type 0) (answer : Result A Stop) : Type 0 where
   pub serves : Serves v w (of_entries owner pages) (misses v.post.machine answer)
   pub stops : IfErr answer (λ e. Stops v w (of_entries owner pages) e)
   pub kinds : IfErr answer IsEntryStop
-  pub shows : IfOk answer (λ a. ShowsEntered v w owner pages t a)
-  pub looks : LooksOnly v w f i
-
-pub record Resumes (v w : PortValue) (f i owner pages : ℕ) (t : PageType) (answer : Result Resumed Stop) : Type 0 where
-  pub serves : Serves v w (of_entries owner pages) (misses v.post.machine answer)
-  pub stops : IfErr answer (λ e. Stops v w (of_entries owner pages) e)
-  pub kinds : IfErr answer IsEntryStop
-  pub shows : IfOk answer (λ a. ShowsResumed v w owner pages t a)
+  pub shows : IfOk answer S
   pub looks : LooksOnly v w f i
 
 -- and what it leaves in hand

@@ -1,4 +1,4 @@
-use Rattle.std.proofs.Common.{[], None, subst, Result, Err, sym, ap, ◌∙◌, Ok, ◌+◌}
+use Rattle.std.proofs.Common.{refl, [], None, subst, Result, Err, sym, ap, ◌∙◌, Ok}
 use Rattle.std.proofs.lemmas.Result.{err_from_is_err_and}
 use Rattle.xp_words.specs.declared.entry.Demand.TheVariants.{Read}
 use Rattle.xp_words.specs.declared.reply.Stop.{Stop}
@@ -12,9 +12,10 @@ use Rattle.table_entries.specs.declared.entries.Entered.{Entered}
 use Rattle.table_entries.specs.declared.entries.Entered.TheVariants.{Recorded}
 use Rattle.table_entries.proofs.Finding.{enters_by, read_recorded}
 use Rattle.table_entries.proofs.HandRecords.{plain_hand, plain_records}
-use Rattle.table_entries.proofs.NextWays.{takes_next}
-use Rattle.table_entries.proofs.PiecesAsking.{asks_plain, look_more, looked_goes}
-use Rattle.table_entries.proofs.PiecesEntering.{enters_recorded, enters_unreferred, referred}
+use Rattle.table_entries.proofs.NextWays.{next_unreferred, takes_next}
+use Rattle.table_entries.proofs.PiecesAsking.{asks_plain, looked_goes}
+use Rattle.table_entries.proofs.PiecesEntering.{met, referred}
+use Rattle.table_entries.proofs.PiecesTaking.{goes_record, record_shows}
 use Rattle.table_entries.proofs.Twins.{load_keeps, read_refused, read_taken, twin_entry}
 use Rattle.table_entries.proofs.entries.take_plain.Goals as goal
 
@@ -37,11 +38,7 @@ returns-in_err-get_ref g c b word next asks =
     let no = c.in_err-get_ref.ensures in
     let answer = err_from_is_err_and c.from_residual.result c.from_residual.ensures.1 in
     subst (λ (r : Result Entered Stop). TakesNext b x at.table at.index at.owner at.kind r) (sym (answer.1 ∙ ap Err answer.2))
-    (takes_next
-    (λ pages.
-    enters_unreferred c.args.frame None (looked_goes next.looks at.owner pages) (asks_plain next.looks at.index at.owner pages next.works.on c.args.frame asks) (look_more next.looks at.owner pages) x e no.kinds no.serves no.stops at.kind)
-    (enters_by next.looks at.owner (Read c.args.frame) asks x (Err e) no.gets) (word, ap quiet no.hand ∙ ap quiet next.looks.hand)
-    (twin_entry at.owner at.kind next.looks.look asks x (Err e) (λ telling. read_refused v x c.args.frame at.owner e no.plain telling at.table at.index)))
+    (next_unreferred next c.args.frame None asks (refl, tt) no.kinds no.serves no.stops no.hand no.gets (λ telling. read_refused v x c.args.frame at.owner e no.plain telling at.table at.index))
 
 pub returns : goal.returns
 returns g c b word next asks =
@@ -55,9 +52,8 @@ returns g c b word next asks =
     let came = serves_came v u (of_frame c.args.frame at.owner None) [] got.serves in
     takes_next
     (λ pages.
-    enters_recorded
-    (referred c.args.frame None (looked_goes next.looks at.owner pages) (asks_plain next.looks at.index at.owner pages next.works.on c.args.frame asks) u got.serves)
-    record_it.moves)
+    let goes = referred c.args.frame None (looked_goes next.looks at.owner pages) (asks_plain next.looks at.owner pages next.works.on c.args.frame asks) u got.serves in
+    met (goes_record goes record_it.moves) (record_shows goes record_it.moves))
     (enters_by next.looks at.owner (Read c.args.frame) asks w (Ok Recorded) (read_recorded v u w c.args.frame at.owner at.table at.index c.in_ok-get_ref.field-0 c.record_entry.result got.gets record_it.moves))
     (plain_hand next u c.args.frame takes came (subst (λ x. MayPut x u.holdings) got.frame.0 got.gives) asks w record_it.hand)
     (twin_entry at.owner at.kind next.looks.look asks w (Ok Recorded)

@@ -1,4 +1,4 @@
-use Rattle.std.proofs.Common.{Err, ap, sym, subst, ◌∙◌, Result, inl, Some}
+use Rattle.std.proofs.Common.{refl, Err, ap, sym, subst, ◌∙◌, Result, inl, Some}
 use Rattle.std.proofs.lemmas.Result.{err_from_is_err_and}
 use Rattle.xp_words.specs.declared.entry.Demand.TheVariants.{Typed}
 use Rattle.xp_words.specs.declared.reply.Stop.{Stop}
@@ -8,9 +8,7 @@ use Rattle.table_entries.specs.Between.{TakesNext}
 use Rattle.table_entries.specs.Found.{TypedBy}
 use Rattle.table_entries.specs.declared.entries.Entered.{Entered}
 use Rattle.table_entries.proofs.Finding.{enters_by}
-use Rattle.table_entries.proofs.NextWays.{counted_as, counted_records, found_as, had_aside, had_other, had_ref, had_some, next_counted, next_untyped, takes_next}
-use Rattle.table_entries.proofs.PiecesAsking.{asks_typed, look_more, looked_goes}
-use Rattle.table_entries.proofs.PiecesEntering.{enters_unreferred}
+use Rattle.table_entries.proofs.NextWays.{counted_as, counted_records, found_as, had_aside, had_other, had_ref, had_some, next_counted, next_untyped, next_unreferred}
 use Rattle.table_entries.proofs.Twins.{twin_entry, typed_refused}
 use Rattle.table_entries.proofs.entries.take_typed.Goals as goal
 
@@ -53,13 +51,8 @@ returns-in_err-frame g c b word next asks =
     let no = c.in_err-frame.ensures in
     let answer = err_from_is_err_and c.from_residual.result c.from_residual.ensures.1 in
     subst (λ (r : Result Entered Stop). TakesNext b x at.table at.index at.owner at.kind r) (sym (answer.1 ∙ ap Err answer.2))
-    (takes_next
-    (λ pages.
-    enters_unreferred c.args.frame (Some c.args.want) (looked_goes next.looks at.owner pages) (asks_typed next.looks at.index at.owner pages next.works.on c.args.frame c.args.want asks) (look_more next.looks at.owner pages) x e no.kinds no.serves no.stops at.kind)
-    (enters_by next.looks at.owner (Typed c.args.frame c.args.want) asks x (Err e)
-    (first_stopped Entered v x c.args.frame at.owner (λ ts. TypedBy v.post c.args.frame at.owner c.args.want at.table at.index (Err e) ts) e no.gets))
-    (word, ap quiet no.hand ∙ ap quiet next.looks.hand)
-    (twin_entry at.owner at.kind next.looks.look asks x (Err e) (λ telling. typed_refused v x c.args.frame at.owner e no.plain telling at.table at.index c.args.want)))
+    (next_unreferred next c.args.frame (Some c.args.want) asks (refl, refl) no.kinds no.serves no.stops no.hand
+    (first_stopped Entered v x c.args.frame at.owner (λ ts. TypedBy v.post c.args.frame at.owner c.args.want at.table at.index (Err e) ts) e no.gets) (λ telling. typed_refused v x c.args.frame at.owner e no.plain telling at.table at.index c.args.want))
 
 pub returns-in-Ok-Counted : goal.returns-in-Ok-Counted
 returns-in-Ok-Counted g c b word next asks =
