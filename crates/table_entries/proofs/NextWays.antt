@@ -60,25 +60,19 @@ use Rattle.frame_types.specs.declared.taking.Counting.TheVariants as countings
 
 -- ---- behind the rest of the call, by any way
 -- both ports are the one from which the looks went on
-pub both_same : (x v y : PortValue) → Same x v → Same x y → still y ≡ still v
-both_same x v y one two = two ∙ sym one
-
-pub same_may : (x v y : PortValue) → Same x v → Same x y → MayWork v → MayWork y
-same_may x v y one two may =
-    let e = both_same x v y one two in
-    record {
-      running = ap (λ (q : PortValue). q.holdings.run) e ∙ may.running;
-      no_walk = ap (λ (q : PortValue). q.holdings.walk) e ∙ may.no_walk;
-      machine = subst (λ (q : PortValue). IsMachine q.post.machine) (sym e) may.machine;
-    }
-
-pub same_frame : (x v y : PortValue) (g : ℕ) → Same x v → Same x y → g < v.post.machine.frames → g < y.post.machine.frames
-same_frame x v y g one two lt = subst (λ (q : PortValue). g < q.post.machine.frames) (sym (both_same x v y one two)) lt
-
-pub same_gives : (x v y : PortValue) (g : ℕ) → Same x v → Same x y → MayPut g v.holdings → MayPut g y.holdings
-same_gives x v y g one two gives =
-    let e = sym (both_same x v y one two) in
-    record { held = subst (λ (q : PortValue). 0 < refs_to g q.holdings.refs) e gives.held; spares = subst (λ (q : PortValue). SparesClosing g q.holdings) e gives.spares }
+pub same_puts : (x v y : PortValue) (g : ℕ) → Same x v → Same x y → g < v.post.machine.frames → MayWork v → MayPut g v.holdings → (g < y.post.machine.frames) × (MayWork y × MayPut g y.holdings)
+same_puts x v y g one two lt may gives =
+    let e : still v ≡ still y = one ∙ sym two in (
+      subst (λ (q : PortValue). g < q.post.machine.frames) e lt,
+      (
+        record {
+          running = ap (λ (q : PortValue). q.holdings.run) (sym e) ∙ may.running;
+          no_walk = ap (λ (q : PortValue). q.holdings.walk) (sym e) ∙ may.no_walk;
+          machine = subst (λ (q : PortValue). IsMachine q.post.machine) e may.machine;
+        },
+        record { held = subst (λ (q : PortValue). 0 < refs_to g q.holdings.refs) e gives.held; spares = subst (λ (q : PortValue). SparesClosing g q.holdings) e gives.spares },
+      ),
+    )
 
 working_run : (f owner : ℕ) (want : PageType) (own : Bool) (e : Work) (since : ℕ) (h : Holdings) → ((working f owner want own e since h).run ≡ h.run) × ((working f owner want own e since h).walk ≡ h.walk)
 working_run f owner want true e since h = (refl, refl)

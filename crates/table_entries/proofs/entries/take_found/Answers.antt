@@ -1,14 +1,10 @@
-use Rattle.table_entries.proofs.NextWays.{counted_records, had_some, next_counted, next_opened, next_untyped, same_frame, same_gives, same_may, taken_of, took_as, waits_may}
+use Rattle.table_entries.proofs.NextWays.{counted_records, had_some, next_counted, next_opened, next_untyped, same_puts, taken_of, took_as, waits_may}
 use Rattle.table_entries.proofs.entries.take_found.Goals as goal
 
-pub take_looked-requires-clause-wanted : goal.take_looked-requires-clause-wanted
-take_looked-requires-clause-wanted g c = had_some c.requires.finds.1.had
-
-pub take_looked-requires-clause-looked : goal.take_looked-requires-clause-looked
-take_looked-requires-clause-looked g c = (c.requires.finds.1.x, c.requires.finds.1.looked)
-
-pub take_looked-requires-clause-other : goal.take_looked-requires-clause-other
-take_looked-requires-clause-other g c = c.requires.finds.1.other
+pub take_looked-requires : goal.take_looked-requires
+take_looked-requires g c =
+    let w = c.requires.finds.1 in
+    record { frame = c.requires.frame; may = c.requires.may; wanted = had_some w.had; looked = (w.x, w.looked); other = w.other }
 
 pub record_entry-requires : goal.record_entry-requires
 record_entry-requires g c =
@@ -48,17 +44,9 @@ returns-in-Err g c b w =
     let way = c.in-Err in
     next_untyped w.had (taken_of w.looked way.ensures.takes way.ensures.found way.ensures.plain) c.put_ref.ensures.serves c.put_ref.ensures.puts c.put_ref.ensures.hand c.put_ref.ensures.plain
 
-pub put_ref-requires-clause-frame : goal.put_ref-requires-clause-frame
-put_ref-requires-clause-frame g c =
-    let w = c.requires.finds.1 in
-    same_frame w.x (g.P.Port.value c.args.port.now) (g.P.Port.value c.take_looked.new.port) c.args.frame w.looked.same (c.in-Err.ensures.takes w.x w.looked).hand c.requires.frame
-
-pub put_ref-requires-clause-may : goal.put_ref-requires-clause-may
-put_ref-requires-clause-may g c =
-    let w = c.requires.finds.1 in
-    same_may w.x (g.P.Port.value c.args.port.now) (g.P.Port.value c.take_looked.new.port) w.looked.same (c.in-Err.ensures.takes w.x w.looked).hand c.requires.may
-
-pub put_ref-requires-clause-gives : goal.put_ref-requires-clause-gives
-put_ref-requires-clause-gives g c =
-    let w = c.requires.finds.1 in
-    same_gives w.x (g.P.Port.value c.args.port.now) (g.P.Port.value c.take_looked.new.port) c.args.frame w.looked.same (c.in-Err.ensures.takes w.x w.looked).hand c.requires.gives
+pub put_ref-requires : goal.put_ref-requires
+put_ref-requires g c =
+    let r = c.requires in
+    let w = r.finds.1 in
+    let puts = same_puts w.x (g.P.Port.value c.args.port.now) (g.P.Port.value c.take_looked.new.port) c.args.frame w.looked.same (c.in-Err.ensures.takes w.x w.looked).hand r.frame r.may r.gives in
+    record { frame = puts.0; may = puts.1.0; gives = puts.1.1 }

@@ -1,4 +1,4 @@
-use Rattle.std.proofs.Common.{refl, Err, ap, sym, subst, ◌∙◌, Result, inl, Some}
+use Rattle.std.proofs.Common.{rules, refl, Err, ap, sym, subst, ◌∙◌, Result, inl, Some}
 use Rattle.std.proofs.lemmas.Result.{err_from_is_err_and}
 use Rattle.xp_words.specs.declared.entry.Demand.TheVariants.{Typed}
 use Rattle.xp_words.specs.declared.reply.Stop.{Stop}
@@ -12,20 +12,11 @@ use Rattle.table_entries.proofs.NextWays.{counted_as, counted_records, found_as,
 use Rattle.table_entries.proofs.Twins.{twin_entry, typed_refused}
 use Rattle.table_entries.proofs.entries.take_typed.Goals as goal
 
-pub count_live-requires-clause-wanted : goal.count_live-requires-clause-wanted
-count_live-requires-clause-wanted g c =
+pub count_live-requires : goal.count_live-requires
+count_live-requires g c =
     let got = c.in_ok-frame.ensures in
-    had_some (had_ref (g.P.Port.value c.get_ref.new.port) c.requires.looked.2 c.requires.looked.3 got.frame got.serves got.hand got.plain got.gets)
-
-pub count_live-requires-clause-aside : goal.count_live-requires-clause-aside
-count_live-requires-clause-aside g c =
-    let got = c.in_ok-frame.ensures in
-    λ none. inl (had_aside (had_ref (g.P.Port.value c.get_ref.new.port) c.requires.looked.2 c.requires.looked.3 got.frame got.serves got.hand got.plain got.gets) none)
-
-pub count_live-requires-clause-other : goal.count_live-requires-clause-other
-count_live-requires-clause-other g c =
-    let got = c.in_ok-frame.ensures in
-    had_other (had_ref (g.P.Port.value c.get_ref.new.port) c.requires.looked.2 c.requires.looked.3 got.frame got.serves got.hand got.plain got.gets)
+    let had = had_ref (g.P.Port.value c.get_ref.new.port) c.requires.looked.2 c.requires.looked.3 got.frame got.serves got.hand got.plain got.gets in
+    record { frame = search rules; may = search rules; wanted = had_some had; lent = search rules; aside = λ none. inl (had_aside had none); other = had_other had; looked = search rules }
 
 pub record_entry-requires : goal.record_entry-requires
 record_entry-requires g c =

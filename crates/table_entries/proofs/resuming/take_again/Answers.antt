@@ -1,4 +1,4 @@
-use Rattle.std.proofs.Common.{Err, ap, sym, subst, ◌∙◌, Result, inl}
+use Rattle.std.proofs.Common.{rules, Err, ap, sym, subst, ◌∙◌, Result, inl}
 use Rattle.std.proofs.lemmas.Result.{err_from_is_err_and}
 use Rattle.xp_words.specs.declared.reply.Stop.{Stop}
 use Rattle.table_entries.specs.Between.{TakesLast}
@@ -7,29 +7,12 @@ use Rattle.table_entries.proofs.LastWays.{again_aside, again_looking, again_othe
 use Rattle.table_entries.proofs.NextWays.{type_taken}
 use Rattle.table_entries.proofs.resuming.take_again.Goals as goal
 
-pub take_type-requires-clause-wanted : goal.take_type-requires-clause-wanted
-take_type-requires-clause-wanted g c =
+pub take_type-requires : goal.take_type-requires
+take_type-requires g c =
     let was = c.requires.looked in
     let got = c.in_ok-frame.ensures in
-    again_some (had_again (g.P.Port.value c.get_ref.new.port) c.args.at.owner was.1.2 was.1.3 was.2 got.frame got.serves got.hand got.plain got.gets)
-
-pub take_type-requires-clause-aside : goal.take_type-requires-clause-aside
-take_type-requires-clause-aside g c =
-    let was = c.requires.looked in
-    let got = c.in_ok-frame.ensures in
-    λ none. inl (again_aside (had_again (g.P.Port.value c.get_ref.new.port) c.args.at.owner was.1.2 was.1.3 was.2 got.frame got.serves got.hand got.plain got.gets) none)
-
-pub take_type-requires-clause-other : goal.take_type-requires-clause-other
-take_type-requires-clause-other g c =
-    let was = c.requires.looked in
-    let got = c.in_ok-frame.ensures in
-    again_other (had_again (g.P.Port.value c.get_ref.new.port) c.args.at.owner was.1.2 was.1.3 was.2 got.frame got.serves got.hand got.plain got.gets)
-
-pub take_type-requires-clause-looked : goal.take_type-requires-clause-looked
-take_type-requires-clause-looked g c =
-    let was = c.requires.looked in
-    let got = c.in_ok-frame.ensures in
-    again_looking (had_again (g.P.Port.value c.get_ref.new.port) c.args.at.owner was.1.2 was.1.3 was.2 got.frame got.serves got.hand got.plain got.gets)
+    let had = had_again (g.P.Port.value c.get_ref.new.port) c.args.at.owner was.1.2 was.1.3 was.2 got.frame got.serves got.hand got.plain got.gets in
+    record { frame = search rules; may = search rules; wanted = again_some had; lent = search rules; aside = λ none. inl (again_aside had none); other = again_other had; looked = again_looking had }
 
 pub returns-in_err-frame : goal.returns-in_err-frame
 returns-in_err-frame g c b u word l asks off =
