@@ -1,4 +1,4 @@
-use Rattle.std.proofs.Common.{◌||◌, ◌==◌, true, false, sym, ap, ◌∙◌}
+use Rattle.std.proofs.Common.{rules, ◌||◌, ◌==◌, true, false, sym, ap, ◌∙◌}
 use Rattle.xp_words.specs.PageTypes.{type_number}
 use Rattle.frame_types.specs.Plain.{is_refused}
 use Rattle.table_entries.proofs.NextLeft.{has_entries, is_waiting, next_dead, next_shared, next_unsettled, own_is_not, unsettled_records}
@@ -11,11 +11,10 @@ leave_shared-requires-clause-waits g c = is_waiting c.requires.waits.1 false (ow
 pub leave_dead-requires-clause-waits : goal.leave_dead-requires-clause-waits
 leave_dead-requires-clause-waits g c = (c.args.late.stamp, is_waiting c.requires.waits.1 true (own_is_not c.args.late.own false c.if-not-late.false))
 
-pub leave_unsettled-requires-clause-entries : goal.leave_unsettled-requires-clause-entries
-leave_unsettled-requires-clause-entries g c = has_entries c.requires.waits.1
-
-pub leave_unsettled-requires-clause-waits : goal.leave_unsettled-requires-clause-waits
-leave_unsettled-requires-clause-waits g c = is_waiting c.requires.waits.1 true (own_is_not c.args.late.own false c.if-not-late.false)
+pub leave_unsettled-requires : goal.leave_unsettled-requires
+leave_unsettled-requires g c =
+    let late = c.requires.waits.1 in
+    record { frame = search rules; may = c.requires.may; entries = has_entries late; waits = is_waiting late true (own_is_not c.args.late.own false c.if-not-late.false) }
 
 pub record_entry-requires : goal.record_entry-requires
 record_entry-requires g c =

@@ -1,4 +1,4 @@
-use Rattle.std.proofs.Common.{◌≡◌, ◌⊎◌, ◌<◌, sym, subst, ◌∙◌}
+use Rattle.std.proofs.Common.{rules, ◌≡◌, ◌⊎◌, ◌<◌, sym, subst, ◌∙◌}
 use Rattle.xp_words.specs.declared.entry.Demand.TheVariants.{Bad, Nothing}
 use Rattle.xp_board.specs.Told.{Post}
 use Rattle.table_entries.proofs.LastEntry.{seen_sheds}
@@ -24,19 +24,18 @@ overflow_cast-frame g c =
     let look = c.look_cell-word.ensures in
     frame_fits _ _ r.may.machine (plain_there (sees_last look.moves look.hand r.frame r.index r.works r.above r.looked) _ (sym c.demand.ensures ∙ c.in-Read.is))
 
-pub put_ref-requires-clause-frame : goal.put_ref-requires-clause-frame
-put_ref-requires-clause-frame g c =
+pub put_ref-requires : goal.put_ref-requires
+put_ref-requires g c =
     let r = c.requires in
     let look = c.look_cell-word.ensures in
+    let shed = c.shed_entry-in-Read.ensures in
     let l = sees_last look.moves look.hand r.frame r.index r.works r.above r.looked in
     let asks = sym c.demand.ensures ∙ c.in-Read.is in
-    subst (λ (p : Post). c.in-Read.frame < p.machine.frames) (sym (plain_post l c.shed_entry-in-Read.ensures.moves c.shed_entry-in-Read.ensures.hand _ asks)) (plain_there l _ asks)
-
-pub put_ref-requires-clause-gives : goal.put_ref-requires-clause-gives
-put_ref-requires-clause-gives g c =
-    let r = c.requires in
-    let look = c.look_cell-word.ensures in
-    plain_gives (sees_last look.moves look.hand r.frame r.index r.works r.above r.looked) c.shed_entry-in-Read.ensures.moves c.shed_entry-in-Read.ensures.hand _ (sym c.demand.ensures ∙ c.in-Read.is)
+    record {
+      frame = subst (λ (p : Post). c.in-Read.frame < p.machine.frames) (sym (plain_post l shed.moves shed.hand _ asks)) (plain_there l _ asks);
+      may = search rules;
+      gives = plain_gives l shed.moves shed.hand _ asks;
+    }
 
 pub overflow_cast-frame-in-Typed : goal.overflow_cast-frame-in-Typed
 overflow_cast-frame-in-Typed g c =

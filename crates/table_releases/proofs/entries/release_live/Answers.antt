@@ -1,4 +1,4 @@
-use Rattle.std.proofs.Common.{sym, subst, ◌∙◌}
+use Rattle.std.proofs.Common.{rules, sym, subst, ◌∙◌}
 use Rattle.frame_types.specs.Lowering.{DropsType}
 use Rattle.table_entries.proofs.LastEntry.{seen_sheds}
 use Rattle.table_releases.proofs.FrameSeen.{now_seen}
@@ -15,16 +15,17 @@ drop_plain-requires-clause-drops g c = live_drops_plain c.requires.seen.1.3 c.re
 pub drop_type-requires-clause-drops : goal.drop_type-requires-clause-drops
 drop_type-requires-clause-drops g c = live_drops c.requires.seen.1.3 c.requires.seen.2 (g.P.Port.value c.shed_by_owner.new.port) c.shed_by_owner.ensures.hand
 
-pub put_ref-requires-clause-may : goal.put_ref-requires-clause-may
-put_ref-requires-clause-may g c =
-    let w = g.P.Port.value c.shed_by_owner.new.port in
-    may_dropped w (g.P.Port.value c.drop_type.new.port) c.args.frame c.drop_type.result c.drop_type.ensures.drops (live_may c.requires.seen.1.3 c.requires.seen.2 w c.shed_by_owner.ensures.hand c.requires.may)
-
-pub put_ref-requires-clause-gives : goal.put_ref-requires-clause-gives
-put_ref-requires-clause-gives g c =
+pub put_ref-requires : goal.put_ref-requires
+put_ref-requires g c =
+    let l = c.requires.seen.1.3 in
     let w = g.P.Port.value c.shed_by_owner.new.port in
     let z = g.P.Port.value c.drop_type.new.port in
-    counted_gives c.requires.seen.1.3 c.requires.seen.2 w c.shed_by_owner.ensures.hand z (subst (λ r. DropsType w z c.args.frame r) c.if-drop_type.false c.drop_type.ensures.drops)
+    let shed = c.shed_by_owner.ensures.hand in
+    record {
+      frame = search rules;
+      may = may_dropped w z c.args.frame c.drop_type.result c.drop_type.ensures.drops (live_may l c.requires.seen.2 w shed c.requires.may);
+      gives = counted_gives l c.requires.seen.2 w shed z (subst (λ r. DropsType w z c.args.frame r) c.if-drop_type.false c.drop_type.ensures.drops);
+    }
 
 pub returns-then-not-is_table : goal.returns-then-not-is_table
 returns-then-not-is_table g c x live b t word l =
