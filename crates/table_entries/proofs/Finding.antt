@@ -105,17 +105,6 @@ no_type_by q owner Bad none vs same = (refl, same)
 no_type_by q owner (Read g) none vs same = (refl, same)
 no_type_by q owner (Typed g t) none vs same = absurd (none g t refl)
 
--- ---- behind the look at the frame: its reference, and the type
-pub retaken : (x y : PortValue) (g owner : ℕ) (t : PageType) → TakesFound x y g owner t (Ok types.Counted) → Does x y (λ vs. TypedAgain x.post g owner t (Ok (again.Taken g)) vs)
-retaken x y g owner t takes = does_as x y (λ ts. TakesOf x.post g owner t types.Counted ts) (λ vs. TypedAgain x.post g owner t (Ok (again.Taken g)) vs) (λ vs taken. (refl, taken)) takes
-
-pub reopened : (x y : PortValue) (g owner : ℕ) (t : PageType) (progress : ℕ) → TakesFound x y g owner t (Ok (types.InWork progress false)) → Does x y (λ vs. TypedAgain x.post g owner t (Ok (again.Opened g progress)) vs)
-reopened x y g owner t progress takes = does_as x y (λ ts. TakesOf x.post g owner t (types.InWork progress false) ts) (λ vs. TypedAgain x.post g owner t (Ok (again.Opened g progress)) vs) (λ vs taken. (refl, taken)) takes
-
-pub rewaited : (x y : PortValue) (g owner : ℕ) (t : PageType) (stamp : ℕ) (stop : Stop) → TakesFound x y g owner t (Ok (types.Waiting false stamp stop)) → Does x y (λ vs. TypedAgain x.post g owner t (Ok (again.Waiting g stamp stop)) vs)
-rewaited x y g owner t stamp stop takes =
-    does_as x y (λ ts. TakesOf x.post g owner t (types.Waiting false stamp stop) ts) (λ vs. TypedAgain x.post g owner t (Ok (again.Waiting g stamp stop)) vs) (λ vs taken. (refl, taken)) takes
-
 module _ {b u : PortValue} {f i : ℕ} {t : PageType} {word : ℕ} (looks : SeesEntry b u f i t word) (owner : ℕ) where
   -- the look at the entry, and the rest by what it asks
   resumes_by : (d : Demand) → demand_at t i word ≡ d → (w : PortValue) (answer : Result Resumed Stop) → Does u w (λ vs. ResumesBy u.post owner answer d vs) → ResumesFound b w f i t owner answer

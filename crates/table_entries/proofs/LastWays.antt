@@ -19,6 +19,7 @@ use Rattle.answer_fits.specs.Answers.{Serves, Stops, missed}
 use Rattle.answer_fits.specs.Asked.{Asked, of_back, of_frame}
 use Rattle.answer_fits.specs.Visits.{Does}
 use Rattle.answer_fits.proofs.Piecing.{serves_came}
+use Rattle.answer_fits.proofs.Visiting.{does_as}
 use Rattle.frame_words.specs.Freeing.{Puts, gave}
 use Rattle.frame_words.specs.Plain.{TwinGet, put}
 use Rattle.frame_words.specs.Refs.{Gets, IsRefStop, took}
@@ -32,7 +33,7 @@ use Rattle.table_entries.specs.Plain.{TwinResume, TypesAgain}
 use Rattle.table_entries.specs.Tops.{HoldsWorks, WorksAtTop}
 use Rattle.table_entries.specs.declared.resuming.Resumed.{Resumed}
 use Rattle.table_entries.specs.declared.resuming.Resumed.TheVariants as again
-use Rattle.table_entries.proofs.Finding.{live_found, reopened, resumes_had, retaken, rewaited, standing_found, unreferred_found, untaken_found}
+use Rattle.table_entries.proofs.Finding.{live_found, resumes_had, standing_found, unreferred_found, untaken_found}
 use Rattle.table_entries.proofs.HandAgain.{again_in_work, again_waits, live_hand, live_same, looked_again, taken_settled, takes_behind}
 use Rattle.table_entries.proofs.HandLists.{asks_below, asks_some}
 use Rattle.table_entries.proofs.HandRecords.{given_up, opens_from, opens_waiting, take_aside, take_looking, take_other, takes_again}
@@ -42,7 +43,7 @@ use Rattle.table_entries.proofs.PiecesLive.{ends_live, gets_on}
 use Rattle.table_entries.proofs.PiecesEntering.{again_asks, again_goes, again_more, asks_referred, live_goes, met, referred, still_below, typed, unreferred, untyped, waits_stops}
 use Rattle.table_entries.proofs.PiecesStanding.{AsksNoType, standing_hand, standing_twin}
 use Rattle.table_entries.proofs.PiecesTaking.{Goes}
-use Rattle.table_entries.proofs.Twins.{again_behind, again_counted, again_opened, again_refused, again_stopped, again_waiting, twin_again, twin_live}
+use Rattle.table_entries.proofs.Twins.{again_behind, again_refused, again_stopped, twin_again, twin_live}
 
 pub takes_last : {v w : PortValue} {f i owner : ℕ} {t : PageType} {answer : Result Resumed Stop} → ((pages : ℕ) → Meets v w f i owner pages (λ a. ShowsResumed v w owner pages t a) answer) → ResumesFound v w f i t owner answer →
     HandResumed v w f i owner t answer → TwinResume v w f t i owner answer → TakesLast v w f i owner t answer
@@ -161,17 +162,17 @@ module _ {b x : PortValue} {f i owner g : ℕ} {t want : PageType} (had : HadAga
       (λ pages.
       met (typed g want (had_goes pages) (had_asks pages) y taken.takes.serves)
       (had_below pages y taken.takes.serves, gets_on x y owner had.looks had.asks had.off had.inside came_x had.lent taken.takes.hand (ends_live x y g owner want again_some taken.found)))
-      (had_found y (Ok (again.Taken g)) (retaken x y g owner want taken.found))
+      (had_found y (Ok (again.Taken g)) (does_as x y _ (λ vs. TypedAgain x.post g owner want (Ok (again.Taken g)) vs) (λ vs took. (refl, took)) taken.found))
       (takes_again had.looks.looks owner had.asks x takes y taken.takes.hand, taken_settled b had.u had.v x y f i t had.word g owner want had.looks had.asks had.off came_x had.lent taken.takes.hand (subst (λ j. LeavesLive x y g j) is leaves))
-      (had_plain y (Ok (again.Taken g)) (λ telling. again_counted x y g g want refl telling taken.plain))
+      (had_plain y (Ok (again.Taken g)) (λ telling. let twin = taken.plain telling in (refl, (twin.0, twin.1), twin.2)))
 
   -- it came into work, under an untyped reference: the entry has the type count
   pub last_opened : {y : PortValue} {progress : ℕ} {own : Bool} → TypeTaken x y g owner want (Ok (InWork progress own)) → TakesLast b y f i owner t (Ok (again.Opened g progress))
   last_opened {y} {progress} {own} is_taken =
       let taken = took_as (again_in_work x owner had.looks had.asks had.off had.lent y (InWork progress own) is_taken.found progress own refl) is_taken in
       takes_last (λ pages. met (typed g want (had_goes pages) (had_asks pages) y taken.takes.serves) (had_below pages y taken.takes.serves))
-      (had_found y (Ok (again.Opened g progress)) (reopened x y g owner want progress taken.found)) (opens_from had.looks.looks owner had.asks x takes y progress false taken.takes.hand.1)
-      (had_plain y (Ok (again.Opened g progress)) (λ telling. again_opened x y g g want refl telling progress taken.plain))
+      (had_found y (Ok (again.Opened g progress)) (does_as x y _ (λ vs. TypedAgain x.post g owner want (Ok (again.Opened g progress)) vs) (λ vs took. (refl, took)) taken.found)) (opens_from had.looks.looks owner had.asks x takes y progress false taken.takes.hand.1)
+      (had_plain y (Ok (again.Opened g progress)) (λ telling. let twin = taken.plain telling in (refl, (twin.0, twin.1), twin.2)))
 
   pub last_waiting : {y : PortValue} {own : Bool} {stamp : ℕ} {stop : Stop} → TypeTaken x y g owner want (Ok (Waiting own stamp stop)) → TakesLast b y f i owner t (Ok (again.Waiting g stamp stop))
   last_waiting {y} {own} {stamp} {stop} is_taken =
@@ -181,9 +182,9 @@ module _ {b x : PortValue} {f i owner g : ℕ} {t want : PageType} (had : HadAga
       (λ pages.
       met (typed g want (had_goes pages) (had_asks pages) y taken.takes.serves)
       (had_below pages y taken.takes.serves, shows.0, waits_stops g want (had_goes pages) (had_asks pages) y stop shows.0 taken.takes.serves shows.1))
-      (had_found y (Ok (again.Waiting g stamp stop)) (rewaited x y g owner want stamp stop taken.found))
+      (had_found y (Ok (again.Waiting g stamp stop)) (does_as x y _ (λ vs. TypedAgain x.post g owner want (Ok (again.Waiting g stamp stop)) vs) (λ vs took. (refl, took)) taken.found))
       (opens_waiting had.looks.looks owner had.asks x takes y false stamp taken.takes.hand)
-      (had_plain y (Ok (again.Waiting g stamp stop)) (λ telling. again_waiting x y g g want refl telling stamp stop taken.plain))
+      (had_plain y (Ok (again.Waiting g stamp stop)) (λ telling. let twin = taken.plain telling in (refl, (twin.0, twin.1), twin.2)))
 
   -- it is not to be had, and the reference was given back
   pub last_untyped : {y z : PortValue} {e : Stop} → TypeTaken x y g owner want (Err e) → Serves y z (of_back g) [] → Puts y z g → Holds y z (gave g y.holdings) → (is_telling y ≡ true → Leaves z (put g (told_word y))) →
@@ -192,4 +193,4 @@ module _ {b x : PortValue} {f i owner g : ℕ} {t want : PageType} (had : HadAga
       takes_last (λ pages. untyped g want (had_goes pages) (had_asks pages) y taken.takes.kinds taken.takes.serves taken.takes.stops back)
       (untaken_found had.looks.looks owner g want had.asks had.v had.off x y z g e had.gets taken.found puts)
       (given_up had.looks.looks owner had.asks x takes y z taken.takes.hand gives)
-      (had_plain z (Err e) (λ telling. again_stopped x y g g want refl telling z (serves_came x y (of_frame g owner (Some want)) _ taken.takes.serves) leaves e taken.plain))
+      (had_plain z (Err e) (λ telling. again_stopped x y z g want telling (serves_came x y (of_frame g owner (Some want)) _ taken.takes.serves) leaves e taken.plain))

@@ -53,7 +53,7 @@ use Rattle.table_entries.proofs.HandRecords.{given_up, nothing_hand, opens_from,
 use Rattle.table_entries.proofs.PiecesAsking.{asks_typed, look_asks, look_bad, look_more, looked_goes}
 use Rattle.table_entries.proofs.PiecesEntering.{asks_referred, met, referred, still_below, typed, unmet, unreferred, untyped}
 use Rattle.table_entries.proofs.PiecesTaking.{Goes, goes_record, record_shows}
-use Rattle.table_entries.proofs.Twins.{load_keeps, twin_entry, typed_behind, types_counted, types_opened, types_stopped}
+use Rattle.table_entries.proofs.Twins.{load_keeps, twin_entry, typed_behind, types_counted, types_stopped}
 use Rattle.xp_board.specs.declared.holdings.OwnerFound.TheVariants as owners
 use Rattle.xp_board.specs.declared.step.StepKind.TheVariants as kinds
 use Rattle.frame_types.specs.declared.taking.Counting.TheVariants as countings
@@ -221,7 +221,7 @@ module _ {b x : PortValue} {f i owner g : ℕ} {t want : PageType} (had : HadRef
         (had_found w (Ok Recorded) (typed_recorded x y w g owner want f i clock taken.found moves))
         (had.word, typed_hand had.looks y g want Found adds came had.asks (inl known) w false (ap not known) holds)
         (had_plain w (Ok Recorded)
-        (λ telling. types_counted x y g g want refl telling w taken.plain (load_keeps moves (came_telling x y (serves_came x y (of_frame g owner (Some want)) [] taken.takes.serves) ∙ telling))))
+        (λ telling. types_counted x y w g want (taken.plain telling) (load_keeps moves (came_telling x y (serves_came x y (of_frame g owner (Some want)) [] taken.takes.serves) ∙ telling))))
 
   -- its frame is to be worked on first
   pub next_opened : {y : PortValue} {progress : ℕ} {own : Bool} → TypeTaken x y g owner want (Ok (InWork progress own)) → TakesNext b y f i owner t (Ok (Opened g progress own))
@@ -229,7 +229,7 @@ module _ {b x : PortValue} {f i owner g : ℕ} {t want : PageType} (had : HadRef
       takes_next (λ pages. met (typed g want (had_goes pages) (had_asks pages) y taken.takes.serves) (still_below g want (had_goes pages) (had_asks pages) y taken.takes.serves t (asks_below t i had.word g want had.asks)))
       (had_found y (Ok (Opened g progress own)) (typed_opened x y g owner want f i progress own taken.found))
       (opens_from had.looks.looks owner had.asks x had.lent y progress own taken.takes.hand.1)
-      (had_plain y (Ok (Opened g progress own)) (λ telling. types_opened x y g g want refl telling progress own taken.plain))
+      (had_plain y (Ok (Opened g progress own)) (λ telling. let twin = taken.plain telling in (refl, (twin.0, twin.1), twin.2)))
 
   -- it is not to be had, and the reference was given back
   pub next_untyped : {y z : PortValue} {e : Stop} → TypeTaken x y g owner want (Err e) → Serves y z (of_back g) [] → Puts y z g → Holds y z (gave g y.holdings) → (is_telling y ≡ true → Leaves z (put g (told_word y))) →
@@ -238,4 +238,4 @@ module _ {b x : PortValue} {f i owner g : ℕ} {t want : PageType} (had : HadRef
       takes_next (λ pages. untyped g want (had_goes pages) (had_asks pages) y taken.takes.kinds taken.takes.serves taken.takes.stops back)
       (had_found z (Err e) (typed_stopped x y z g owner want f i e taken.found puts))
       (given_up had.looks.looks owner had.asks x had.lent y z taken.takes.hand gives)
-      (had_plain z (Err e) (λ telling. types_stopped x y g g want refl telling z (serves_came x y (of_frame g owner (Some want)) _ taken.takes.serves) leaves e taken.plain))
+      (had_plain z (Err e) (λ telling. types_stopped x y z g want telling (serves_came x y (of_frame g owner (Some want)) _ taken.takes.serves) leaves e taken.plain))
