@@ -25,7 +25,6 @@ use Rattle.table_entries.specs.declared.entries.Entered.{Entered}
 use Rattle.table_entries.specs.declared.entries.Entered.TheVariants.{Opened, Recorded}
 use Rattle.table_entries.proofs.Twins.{not_awaited}
 use Rattle.table_entries.specs.declared.resuming.Resumed.{Resumed}
-use Rattle.table_entries.proofs.PiecesStanding.{AsksNoType}
 use Rattle.xp_words.specs.declared.reply.Pause.TheVariants as pauses
 use Rattle.xp_words.specs.declared.reply.Refusal.TheVariants as refusals
 use Rattle.xp_board.specs.declared.step.StepKind.TheVariants as kinds
@@ -99,6 +98,9 @@ module _ {b v : PortValue} {f i : ℕ} {t : PageType} {word : ℕ} (looks : Sees
       (does_before v x w (λ q ts. TypedBy q g owner want f i answer ts) (does_came v x (λ gs. GetsBy {A = ℕ} v.post.machine g owner (Ok k) gs) got) rest))
 
 -- ---- The last recorded entry again by its steps: which there are, by what became of it.
+abbrev pub AsksNoType : Demand → Type 0
+AsksNoType d = (g : ℕ) (want : PageType) → d ≡ Typed g want → ⊥
+
 no_type_by : (q : Post) (owner : ℕ) (d : Demand) → AsksNoType d → (vs : List Visit) → NoVisit vs → ResumesBy q owner (Ok again.Settled) d vs
 no_type_by q owner Nothing none vs same = (refl, same)
 no_type_by q owner Bad none vs same = (refl, same)

@@ -1,13 +1,10 @@
 pub mod HandLists
 pub mod HandOwners
 pub mod HandReady
-pub mod HandRecords
 pub mod PiecesWithin
 pub mod PiecesAsking
 pub mod PiecesTaking
 pub mod PiecesEntering
-pub mod PiecesStanding
-pub mod PiecesLive
 pub mod Twins
 pub mod Finding
 pub mod LastEntry

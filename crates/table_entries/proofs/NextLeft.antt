@@ -54,7 +54,7 @@ use Rattle.table_entries.specs.Tops.{LookedAnd, as_it_was}
 use Rattle.table_entries.specs.declared.entries.Entered.TheVariants.{Unsettled}
 use Rattle.table_entries.proofs.Finding.{does_record}
 use Rattle.table_entries.proofs.HandLists.{asks_below}
-use Rattle.table_entries.proofs.HandRecords.{gave_up, typed_from, typed_hand, typed_records}
+use Rattle.table_entries.proofs.HandReady.{gave_up, typed_from, typed_hand, typed_records}
 use Rattle.table_entries.proofs.NextWays.{had_asks, had_found, had_goes, had_plain, had_some, takes_next}
 use Rattle.table_entries.proofs.PiecesEntering.{enters_left, enters_unsettled}
 use Rattle.table_entries.proofs.Twins.{load_keeps, told_all}

@@ -49,7 +49,7 @@ use Rattle.table_entries.specs.declared.entries.Entered.{Entered}
 use Rattle.table_entries.specs.declared.entries.Entered.TheVariants.{Opened, Recorded}
 use Rattle.table_entries.proofs.Finding.{bad_stopped, enters_by, enters_had, nothing_recorded, typed_opened, typed_recorded, typed_stopped}
 use Rattle.table_entries.proofs.HandLists.{asks_below, asks_some}
-use Rattle.table_entries.proofs.HandRecords.{given_up, nothing_hand, opens_from, take_aside, take_other, typed_from, typed_hand, typed_records}
+use Rattle.table_entries.proofs.HandReady.{given_up, nothing_hand, opens_from, take_aside, take_other, typed_from, typed_hand, typed_records}
 use Rattle.table_entries.proofs.PiecesAsking.{asks_typed, look_asks, look_bad, look_more, looked_goes}
 use Rattle.table_entries.proofs.PiecesEntering.{asks_referred, met, referred, still_below, typed, unmet, unreferred, untyped}
 use Rattle.table_entries.proofs.PiecesTaking.{Goes, goes_record, record_shows}

@@ -1,5 +1,5 @@
 -- The next entry: what its steps are and show, by what became of it.
-use Rattle.std.proofs.Common.{◌≡◌, ℕ, [], Bool, Option, Some, None, Ok, Err, subst, ◌+◌, false, sym, ap, ◌∙◌}
+use Rattle.std.proofs.Common.{◌≡◌, ℕ, [], Bool, Option, Some, None, Ok, Err, subst, false, sym, ap, ◌∙◌}
 use Rattle.xp_words.specs.Entries.{below, demand_at}
 use Rattle.xp_words.specs.declared.kind.PageType.{PageType}
 use Rattle.xp_words.specs.declared.place.Place.TheVariants.{Clock}
@@ -18,16 +18,13 @@ use Rattle.frame_words.specs.Refs.{IsRefStop}
 use Rattle.flush_waits.specs.Waiting.{IsWait}
 use Rattle.table_entries.specs.Asking.{AsksBelow, IsEntryStop, ShowsEntered, of_entries}
 use Rattle.table_entries.specs.Between.{LooksAgain, LooksLive, Meets, found, outside}
-use Rattle.table_entries.specs.declared.entries.Entered.TheVariants.{Opened, Recorded, Unsettled}
+use Rattle.table_entries.specs.declared.entries.Entered.TheVariants.{Unsettled}
 use Rattle.table_entries.proofs.PiecesTaking.{Goes, asks_still, goes_back, goes_call, goes_came, goes_missed, goes_record, goes_stops, goes_stops_later, left_serves, record_shows, ref_kinds, type_kinds, wait_kinds, wait_missed, goes_kind}
 use Rattle.xp_words.specs.declared.entry.Demand.TheVariants.{Typed}
 use Rattle.xp_board.specs.Hands.{work_on}
-use Rattle.answer_fits.specs.Pauses.{Progress}
 use Rattle.table_entries.proofs.HandAgain.{live_came}
-use Rattle.table_entries.proofs.HandLists.{asks_below}
 use Rattle.table_entries.proofs.PiecesAsking.{asks_typed, look_more, looked_goes}
 use Rattle.xp_board.specs.declared.step.StepKind.TheVariants as kinds
-use Rattle.table_entries.specs.declared.resuming.Resumed.TheVariants as again
 
 -- the entry is met; or the call stops
 pub met : {A : Type 0} {S : A → Type 0} {a : A} {b w : PortValue} {f i owner pages : ℕ} → Goes b w f i owner pages [] → S a → Meets b w f i owner pages S (Ok a)

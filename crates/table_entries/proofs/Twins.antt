@@ -19,24 +19,22 @@ use Rattle.step_maker.specs.Plain.{Leaves, Words}
 use Rattle.step_maker.proofs.Telling.{load_tells, moves_telling, told_there, came_telling}
 use Rattle.frame_words.specs.Plain.{refer, TwinGet, got, put}
 use Rattle.table_entries.specs.Between.{LooksLive, found, outside}
-use Rattle.table_entries.specs.Plain.{AgainBy, AgainWhere, EntersPlainly, ResumesPlainly, TwinEntry, TwinResume, RefersPlainly, TypedPlainly, TypesAgain, TypesPlainly, IsTakenOf}
+use Rattle.table_entries.specs.Plain.{AgainBy, AgainWhere, EntersPlainly, ResumesPlainly, TwinEntry, TwinResume, RefersPlainly, TypedPlainly, TypesAgain, TypesPlainly}
 use Rattle.table_entries.specs.declared.entries.Entered.{Entered}
 use Rattle.table_entries.specs.declared.resuming.Resumed.{Resumed}
 use Rattle.table_entries.specs.declared.resuming.Resumed.TheVariants.{Settled}
 use Rattle.xp_words.specs.declared.reply.Refusal.{Refusal}
 use Rattle.xp_words.specs.declared.reply.Stop.TheVariants.{Refused, Paused}
 use Rattle.answer_fits.specs.Twins.{AnswersAs, Alike}
-use Rattle.table_entries.specs.declared.entries.Entered.TheVariants.{Recorded, Opened}
+use Rattle.table_entries.specs.declared.entries.Entered.TheVariants.{Recorded}
 use Rattle.flush_waits.specs.Waiting.{IsWait}
 use Rattle.frame_types.specs.Plain.{TakesPlainly, TwinTake, stop_by, taken, type_stop}
 use Rattle.frame_types.specs.declared.standing.Standing.{Standing}
-use Rattle.frame_types.specs.declared.taking.Taken.{Taken}
 use Rattle.xp_board.specs.declared.step.StepKind.TheVariants as kinds
 use Rattle.xp_words.specs.declared.reply.Pause.TheVariants as pauses
 use Rattle.xp_words.specs.declared.reply.Refusal.TheVariants as refusals
 use Rattle.frame_types.specs.declared.standing.Standing.TheVariants as stands
 use Rattle.frame_types.specs.declared.taking.Taken.TheVariants as types
-use Rattle.table_entries.specs.declared.resuming.Resumed.TheVariants as again
 
 -- words told one by one, as one function
 pub told_all : (w : PortValue) (m : Words) → Leaves w m → told_word w ≡ m

@@ -1,5 +1,5 @@
 use Rattle.std.proofs.Common.{◌∙◌, sym}
-use Rattle.table_entries.proofs.HandRecords.{looks_next, nothing_records}
+use Rattle.table_entries.proofs.HandReady.{looks_next, nothing_records}
 use Rattle.table_entries.proofs.NextWays.{next_bad, next_nothing}
 use Rattle.table_entries.proofs.entries.take_entry.Goals as goal
 

@@ -2,7 +2,7 @@ use Rattle.std.proofs.Common.{refl, [], None, subst, Result, Err, sym, ap, â—Œâˆ
 use Rattle.std.proofs.lemmas.Result.{err_from_is_err_and}
 use Rattle.xp_words.specs.declared.entry.Demand.TheVariants.{Read}
 use Rattle.xp_words.specs.declared.reply.Stop.{Stop}
-use Rattle.step_maker.specs.Holds.{Holds, quiet}
+use Rattle.step_maker.specs.Holds.{Holds}
 use Rattle.step_maker.proofs.Telling.{came_telling}
 use Rattle.answer_fits.specs.Asked.{of_frame}
 use Rattle.answer_fits.proofs.Piecing.{serves_came}
@@ -11,7 +11,7 @@ use Rattle.table_entries.specs.Between.{TakesNext}
 use Rattle.table_entries.specs.declared.entries.Entered.{Entered}
 use Rattle.table_entries.specs.declared.entries.Entered.TheVariants.{Recorded}
 use Rattle.table_entries.proofs.Finding.{enters_by, read_recorded}
-use Rattle.table_entries.proofs.HandRecords.{plain_hand, plain_records}
+use Rattle.table_entries.proofs.HandReady.{plain_hand, plain_records}
 use Rattle.table_entries.proofs.NextWays.{next_unreferred, takes_next}
 use Rattle.table_entries.proofs.PiecesAsking.{asks_plain, looked_goes}
 use Rattle.table_entries.proofs.PiecesEntering.{met, referred}

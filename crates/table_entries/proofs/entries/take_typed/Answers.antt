@@ -1,15 +1,12 @@
 use Rattle.std.proofs.Common.{rules, refl, Err, ap, sym, subst, ◌∙◌, Result, inl, Some}
 use Rattle.std.proofs.lemmas.Result.{err_from_is_err_and}
-use Rattle.xp_words.specs.declared.entry.Demand.TheVariants.{Typed}
 use Rattle.xp_words.specs.declared.reply.Stop.{Stop}
-use Rattle.step_maker.specs.Holds.{quiet}
 use Rattle.frame_words.proofs.Getting.{first_stopped}
 use Rattle.table_entries.specs.Between.{TakesNext}
 use Rattle.table_entries.specs.Found.{TypedBy}
 use Rattle.table_entries.specs.declared.entries.Entered.{Entered}
-use Rattle.table_entries.proofs.Finding.{enters_by}
 use Rattle.table_entries.proofs.NextWays.{counted_as, counted_records, found_as, had_aside, had_other, had_ref, had_some, next_counted, next_untyped, next_unreferred}
-use Rattle.table_entries.proofs.Twins.{twin_entry, typed_refused}
+use Rattle.table_entries.proofs.Twins.{typed_refused}
 use Rattle.table_entries.proofs.entries.take_typed.Goals as goal
 
 pub count_live-requires : goal.count_live-requires
