@@ -118,6 +118,10 @@ abbrev pub IsOf : ℕ → Released → Type 0
 IsOf g Given = Unit {0}
 IsOf g (Opened h recorded closing) = h ≡ g
 
+-- the entry is shed
+pub gone : {b z : PortValue} {f i owner pages : ℕ} {t : PageType} {a : Released} → Goes b z f i owner pages [] → ShowsReleased b z owner pages t a → Releases b z f i t owner pages (Ok a)
+gone goes shows = record { serves = goes.serves; stops = tt; kinds = tt; shows = shows; looks = goes.looks }
+
 pub no_pin : (f : ℕ) (p : Bool) → pin_deed f p p ≡ []
 no_pin f true = refl
 no_pin f false = refl
@@ -260,13 +264,7 @@ module _ {b v : PortValue} {f i : ℕ} {t : PageType} {word g : ℕ} {want : Pag
     back_releases z a is back =
         let goes = goes_back live_goes z g (Some want) live_asks back in
         let came = serves_came w z (of_back g) [] back in
-        record {
-          serves = goes.serves;
-          stops = tt;
-          kinds = tt;
-          shows = typed_shows z a is (shed_shows w kind_goes (Refs g) f upto y look z came) (came_trans v w z (moves_came v w (Refs g) Load kinds.Look (Some (Shed f upto)) y look) came);
-          looks = goes.looks;
-        }
+        gone goes (typed_shows z a is (shed_shows w kind_goes (Refs g) f upto y look z came) (came_trans v w z (moves_came v w (Refs g) Load kinds.Look (Some (Shed f upto)) y look) came))
 
     pub two_back_releases : (z q : PortValue) (a : Released) → IsOf g a → Serves w z (of_back g) [] → Serves z q (of_back g) [] → Releases b q f i t owner pages (Ok a)
     two_back_releases z q a is one two = back_releases q a is (serves_then w z q (of_back g) [] [] one two)

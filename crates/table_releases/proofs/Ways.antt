@@ -34,14 +34,14 @@ use Rattle.table_entries.specs.Tops.{with_recorded}
 use Rattle.table_entries.proofs.HandLists.{was_in}
 use Rattle.table_entries.proofs.PiecesTaking.{Goes, asks_still, goes_back}
 use Rattle.table_words.specs.Entries.{ShedsAt, entry_shed, sheds_at}
-use Rattle.table_releases.specs.Between.{HandReleased, SeesLast, Resumed, SeesKind, Releases, ReleasesEntry, SeesTyped}
+use Rattle.table_releases.specs.Between.{SeesLast, Resumed, SeesKind, Releases, ReleasesEntry, SeesTyped}
 use Rattle.table_releases.specs.Found.{ReleasesBy, ReleasesFound, PartialBy, ComesBy, DiesShed, has_recorded}
 use Rattle.table_releases.specs.Tops.{LeavesReleased, OwnsReleased, StaysRecorded, shed_once, ShowsReleased, IsSettledTop, IsShedLive, ReleasesTop}
 use Rattle.table_releases.specs.declared.entries.Released.{Released}
 use Rattle.table_releases.specs.declared.entries.Released.TheVariants.{Given, Opened}
 use Rattle.table_releases.proofs.FrameSeen.{last_found, sheds, form_partial_is, kind_found, kind_post, swaps, busy_found, closed_found, counted_found, found_live, plain_found}
 use Rattle.table_releases.proofs.Looking.{looked_seen, shed_bad, shed_nothing, shed_plain, typed_there}
-use Rattle.table_releases.proofs.PiecesTyped.{asks_plain, goes_shed, look_goes, shed_shows, IsOf, goes_shed_refs, goes_step, kind_asks, kind_goes, resumed_goes, typed_shows, back_releases, busy_releases, lost_releases, two_back_releases}
+use Rattle.table_releases.proofs.PiecesTyped.{gone, asks_plain, goes_shed, look_goes, shed_shows, IsOf, goes_shed_refs, goes_step, kind_asks, kind_goes, resumed_goes, typed_shows, back_releases, busy_releases, lost_releases, two_back_releases}
 use Rattle.xp_words.specs.Places.{number, sizes_of}
 use Rattle.xp_words.specs.declared.kind.KindWord.{KindWord}
 use Rattle.xp_words.specs.declared.reply.Pause.TheVariants.{Lost, Busy}
@@ -73,15 +73,6 @@ use Rattle.xp_board.specs.declared.step.StepKind.TheVariants as kinds
 -- ---- numbers of frames are small
 pub frame_fits : (n : Machine) (g : ℕ) → IsMachine n → g < n.frames → Fits w32 g
 frame_fits n g m inside = let few = m.few_frames in omega (arith, few, inside)
-
--- ---- the two parts of what is left in hand
-pub hand_left : (v w : PortValue) (f i : ℕ) (t : PageType) (a : Result Released Stop) → HandReleased v w f i t a → MatchResult a (λ x. LeavesReleased v w f t i x) (λ _. StaysRecorded v w f i)
-hand_left v w f i t (Ok x) h = h.0
-hand_left v w f i t (Err e) h = h
-
-pub hand_owned : (v w : PortValue) (f i : ℕ) (t : PageType) (a : Result Released Stop) → HandReleased v w f i t a → IfOk a (λ x. OwnsReleased v w f x)
-hand_owned v w f i t (Ok x) h = h.1
-hand_owned v w f i t (Err e) h = tt
 
 module _ {b v w : PortValue} {f i : ℕ} {t : PageType} {word y : ℕ} (l : SeesLast b v f i t word) (step : Moves v w Clock Load kinds.Look (Some (Shed f i)) y) (shed : Holds v w (entry_shed v.post.machine f i v.holdings)) where
   pub shed_goes : (owner pages : ℕ) → Goes b w f i owner pages []
@@ -208,13 +199,7 @@ module _ {b v : PortValue} {f i : ℕ} {t : PageType} {word g : ℕ} {want : Pag
     pub table_releases : (w : PortValue) (y : ℕ) → Moves v w (Refs g) Load kinds.Look (Some (Shed f i)) y → Releases b w f i t owner pages (Ok (Opened g k.progress false))
     table_releases w y step =
         let goes = goes_shed_refs w in_goes f i y g step in
-        record {
-          serves = goes.serves;
-          stops = tt;
-          kinds = tt;
-          shows = in_shows w (Opened g k.progress false) refl (shed_shows w in_goes (Refs g) f i y step w (came_self w)) (moves_came v w (Refs g) Load kinds.Look (Some (Shed f i)) y step);
-          looks = goes.looks;
-        }
+        gone goes (in_shows w (Opened g k.progress false) refl (shed_shows w in_goes (Refs g) f i y step w (came_self w)) (moves_came v w (Refs g) Load kinds.Look (Some (Shed f i)) y step))
 
     -- a frame of which none are
     pub dead_releases : (w d z : PortValue) (clock x : ℕ) (l : KindWord) (e : Work) → Moves v w Clock Load kinds.Look (Some (Shed f i)) clock → Moves w d (Kind g) (Store (kind_write l)) kinds.Kind None x → work_on g w.holdings.works ≡ Some e →
@@ -231,13 +216,7 @@ module _ {b v : PortValue} {f i : ℕ} {t : PageType} {word g : ℕ} {want : Pag
         in
         let goes = goes_back two z g (Some want) (in_asks d (came_trans v w d came left)) back in
         let last = came_trans w d z left (serves_came d z (of_back g) [] back) in
-        record {
-          serves = goes.serves;
-          stops = tt;
-          kinds = tt;
-          shows = in_shows z Given tt (shed_shows w in_goes Clock f i clock shed z last) (came_trans v w z came last);
-          looks = goes.looks;
-        }
+        gone goes (in_shows z Given tt (shed_shows w in_goes Clock f i clock shed z last) (came_trans v w z came last))
 
   -- ---- the steps
   found_recorded : has_recorded want (kind_fields r.found) ≡ has_recorded want k
@@ -269,9 +248,9 @@ module _ {b v : PortValue} {f i : ℕ} {t : PageType} {word g : ℕ} {want : Pag
       (does_as w d (Only (visit (Kind g) (Store (kind_write (dead_kind want k.unflushed clock))) x)) dead (λ vs one. (x, one)) (does_one w d (Kind g) (Store (kind_write (dead_kind want k.unflushed clock))) kinds.Kind None x store)) puts)))
 
 -- ---- All that the call on the last recorded entry ensures, by what became of it.
-releases_entry : {v w : PortValue} {f i : ℕ} {t : PageType} {answer : Result Released Stop} → ((owner pages : ℕ) → Releases v w f i t owner pages answer) → ReleasesFound v w f i t answer → HandReleased v w f i t answer →
-    TwinRelease v w f t i answer → (IsSettledTop v.holdings → IsShedLive answer) → ReleasesEntry v w f i t answer
-releases_entry {v} {w} {f} {i} {t} {answer} goes found hand plain settled =
+releases_entry : {v w : PortValue} {f i : ℕ} {t : PageType} {answer : Result Released Stop} → ((owner pages : ℕ) → Releases v w f i t owner pages answer) → ReleasesFound v w f i t answer → MatchResult answer (λ a. LeavesReleased v w f t i a) (λ _. StaysRecorded v w f i) →
+    IfOk answer (λ a. OwnsReleased v w f a) → TwinRelease v w f t i answer → (IsSettledTop v.holdings → IsShedLive answer) → ReleasesEntry v w f i t answer
+releases_entry goes found hand owned plain settled =
     record {
       serves = λ owner pages. (goes owner pages).serves;
       stops = λ owner pages. (goes owner pages).stops;
@@ -279,8 +258,8 @@ releases_entry {v} {w} {f} {i} {t} {answer} goes found hand plain settled =
       settled = settled;
       shows = λ owner pages. (goes owner pages).shows;
       looks = (goes 0 0).looks;
-      hand = hand_left v w f i t answer hand;
-      owned = hand_owned v w f i t answer hand;
+      hand = hand;
+      owned = owned;
       found = found;
       plain = plain;
     }
@@ -298,14 +277,13 @@ module _ {b v w : PortValue} {f i word y : ℕ} {t : PageType} (l : SeesLast b v
   pub releases_nothing : (demand_at t i word ≡ Nothing) ⊎ (demand_at t i word ≡ Bad) → ReleasesEntry b w f i t (Ok Given)
   releases_nothing asks =
       releases_entry
-      (λ owner pages. record { serves = (shed_goes l step shed owner pages).serves; stops = tt; kinds = tt; shows = nothing_shows l step shed owner pages; looks = (shed_goes l step shed owner pages).looks })
-      (nothing_found l step shed asks) ((word, nothing_hand l step shed asks), tt) (nothing_twin l w _ _ y step asks) (λ settled. tt)
+      (λ owner pages. gone (shed_goes l step shed owner pages) (nothing_shows l step shed owner pages))
+      (nothing_found l step shed asks) (word, nothing_hand l step shed asks) tt (nothing_twin l w _ _ y step asks) (λ settled. tt)
 
   pub releases_ref : {z : PortValue} {g : ℕ} → demand_at t i word ≡ Read g → Serves w z (of_back g) [] → Puts w z g → Holds w z (gave g w.holdings) → (is_telling w ≡ true → Leaves z (put g (told_word w))) → ReleasesEntry b z f i t (Ok Given)
   releases_ref {z} {g} asks back puts gives leaves =
-      let goes = λ (owner pages : ℕ). plain_goes l step shed g asks owner pages z back in
-      releases_entry (λ owner pages. record { serves = (goes owner pages).serves; stops = tt; kinds = tt; shows = plain_shows l step shed g owner pages z back; looks = (goes owner pages).looks })
-      (ref_found l step shed g asks z puts) ((word, plain_hand l step shed g asks z gives), tt) (plain_twin l w z _ _ y g step asks leaves) (λ settled. tt)
+      releases_entry (λ owner pages. gone (plain_goes l step shed g asks owner pages z back) (plain_shows l step shed g owner pages z back))
+      (ref_found l step shed g asks z puts) (word, plain_hand l step shed g asks z gives) tt (plain_twin l w z _ _ y g step asks leaves) (λ settled. tt)
 
 -- ---- its frame was looked at
 module _ {b v : PortValue} {f i word g x : ℕ} {t want : PageType} (l : SeesKind b v f i t word g want x) where
@@ -314,33 +292,33 @@ module _ {b v : PortValue} {f i word g x : ℕ} {t want : PageType} (l : SeesKin
   releases_busy {k} read off none =
       let dead = ap (λ (y : KindWord). y.validated) (fields_of x k read) ∙ off in
       let whole = ap (λ (y : KindWord). y.partial) (fields_of x k read) ∙ none in
-      releases_entry (λ owner pages. busy_releases l owner pages k read off none) (busy_found l dead whole) (stays_recorded l) (busy_twin l dead whole) (λ settled. absurd (let live = found_live l k read settled in cc))
+      releases_entry (λ owner pages. busy_releases l owner pages k read off none) (busy_found l dead whole) (stays_recorded l) tt (busy_twin l dead whole) (λ settled. absurd (let live = found_live l k read settled in cc))
 
   -- an exchange that was to bring it into the own works found another word
   pub releases_lost : {w : PortValue} {k : KindWord} {found : ℕ} → kind_read x ≡ Some k → IsTrue (is_partial k) → Moves v w (Kind g) (Cas (kind_write k) (kind_write (resumed_kind k))) kinds.Kind None found → found ≢ kind_write k →
       Holds v w (looked_at g found v.holdings) → ReleasesEntry b w f i t (Err (Paused (Lost (number (sizes_of w.post.machine) (Kind g)) x found)))
   releases_lost {w} {k} {found} read partial change off looks =
       let place = lost_place l w found looks in
-      releases_entry (λ owner pages. lost_releases l owner pages k read partial w found change _ place off) (lost_found l w found k read partial change _ place off) (lost_stays l w found looks) (never_lost l read change off _)
+      releases_entry (λ owner pages. lost_releases l owner pages k read partial w found change _ place off) (lost_found l w found k read partial change _ place off) (lost_stays l w found looks) tt (never_lost l read change off _)
       (λ settled. absurd (let live = found_live l k read settled in let parts = partial_parts k partial in let off = parts.0 in cc))
 
   -- it is live, and its entry shed by a look at its reference word
   module _ (live : is_live_word x ≡ true) {w : PortValue} {y : ℕ} (look : Moves v w (Refs g) Load kinds.Look (Some (Shed f i)) y) (shed : Holds v w (entry_shed v.post.machine f i v.holdings)) where
     pub releases_plain : {z : PortValue} → is_table want ≡ false → Serves w z (of_back g) [] → Holds w z (gave_type g w.holdings) → DropsPlain w z g want → (is_telling w ≡ true → Leaves z (dropped_plain g want (told_word w))) → ReleasesEntry b z f i t (Ok Given)
     releases_plain {z} plain back gives drops leaves =
-        releases_entry (λ owner pages. back_releases l owner pages w i y look z Given tt back) (plain_found l live w y look z plain drops) ((word, plain_given l live w shed z gives), tt) (dropped_twin l live w _ y look z plain leaves) (λ settled. tt)
+        releases_entry (λ owner pages. back_releases l owner pages w i y look z Given tt back) (plain_found l live w y look z plain drops) (word, plain_given l live w shed z gives) tt (dropped_twin l live w _ y look z plain leaves) (λ settled. tt)
 
     module _ {z : PortValue} {last : Bool} (drops : DropsType w z g last) (table : is_table want ≡ true) (back : Serves w z (of_back g) []) (leaves : is_telling w ≡ true → Leaves z (change (Add one_down) (Kind g) (told_word w))) where
       pub releases_closed : last ≡ true → ReleasesEntry b z f i t (Ok (Opened g 512 true))
       releases_closed is =
           let closes = subst (λ r. DropsType w z g r) is drops in
           releases_entry (λ owner pages. back_releases l owner pages w i y look z (Opened g 512 true) refl back) (closed_found l live w y look z last drops table is)
-          (closed_opens l live w shed z closes table, live_owned l live w y look shed z closes table) (closed_twin l live w _ y look z last drops table leaves is) (λ settled. refl)
+          (closed_opens l live w shed z closes table) (live_owned l live w y look shed z closes table) (closed_twin l live w _ y look z last drops table leaves is) (λ settled. refl)
 
       pub releases_counted : {q : PortValue} → last ≡ false → Serves z q (of_back g) [] → Puts z q g → Holds z q (gave g z.holdings) → (is_telling z ≡ true → Leaves q (put g (told_word z))) → ReleasesEntry b q f i t (Ok Given)
       releases_counted {q} is two puts gives given =
           releases_entry (λ owner pages. two_back_releases l owner pages w i y look z q Given tt back two) (counted_found l live w y look z last drops table is q puts)
-          ((word, counted_given l live w shed z (subst (λ r. DropsType w z g r) is drops) q gives), tt) (counted_twin l live w _ y look z last drops table leaves is q given) (λ settled. tt)
+          (word, counted_given l live w shed z (subst (λ r. DropsType w z g r) is drops) q gives) tt (counted_twin l live w _ y look z last drops table leaves is q given) (λ settled. tt)
 
 -- ---- it was partial, and came into the own works
 module _ {b v : PortValue} {f i word g : ℕ} {t want : PageType} {k : KindWord} (r : Resumed b v f i t word g want k) where
@@ -350,7 +328,7 @@ module _ {b v : PortValue} {f i word g : ℕ} {t want : PageType} {k : KindWord}
   pub releases_table : {w : PortValue} {y : ℕ} → Moves v w (Refs g) Load kinds.Look (Some (Shed f i)) y → Holds v w (entry_shed v.post.machine f i v.holdings) → has_recorded want k ≡ true → ReleasesEntry b w f i t (Ok (Opened g k.progress false))
   releases_table {w} {y} look shed opened =
       releases_entry (λ owner pages. table_releases r owner pages w y look) (table_found r w y look opened)
-      (resumed_opens r w shed _ _ y look opened, resumed_owned r w y look shed (recorded_table want k opened)) (table_twin r w _ y look opened) (unsettled (Ok (Opened g k.progress false)))
+      (resumed_opens r w shed _ _ y look opened) (resumed_owned r w y look shed (recorded_table want k opened)) (table_twin r w _ y look opened) (unsettled (Ok (Opened g k.progress false)))
 
   pub releases_dead : {w d z : PortValue} {clock x : ℕ} {dead : KindWord} → Moves v w Clock Load kinds.Look (Some (Shed f i)) clock → Holds v w (entry_shed v.post.machine f i v.holdings) → has_recorded want k ≡ false →
       dead ≡ dead_kind want k.unflushed clock → Moves w d (Kind g) (Store (kind_write dead)) kinds.Kind None x → Holds w d (left w g dead) → Serves d z (of_back g) [] → Puts d z g → Holds d z (gave g d.holdings) →
@@ -360,5 +338,5 @@ module _ {b v : PortValue} {f i word g : ℕ} {t want : PageType} {k : KindWord}
       releases_entry
       (λ owner pages.
       dead_releases r owner pages w d z clock x (dead_kind want k.unflushed clock) (new r) step store (shed_here r w shed) (new_in_work r) (new_kind r) (dead_may r w shed shut clock step).is refl back)
-      (dead_found r w d z clock x step store puts shut) ((word, dead_given r w shed shut clock step d (subst (λ y. Holds w d (left w g y)) is leaves) z gives), tt)
+      (dead_found r w d z clock x step store puts shut) (word, dead_given r w shed shut clock step d (subst (λ y. Holds w d (left w g y)) is leaves) z gives) tt
       (dead_twin r w d z _ clock x step store words shut) (unsettled (Ok Given))

@@ -90,10 +90,6 @@ pub record Releases (v w : PortValue) (f i : ℕ) (t : PageType) (owner pages : 
   pub shows : IfOk answer (λ a. ShowsReleased v w owner pages t a)
   pub looks : LooksOnly v w f i
 
--- and what they leave in hand
-abbrev pub HandReleased : PortValue → PortValue → ℕ → ℕ → PageType → Result Released Stop → Type 0
-HandReleased v w f i t answer = MatchResult answer (λ a. LeavesReleased v w f t i a × OwnsReleased v w f a) (λ _. StaysRecorded v w f i)
-
 -- ---- what a call ensures
 pub record ReleasesEntry (v w : PortValue) (f i : ℕ) (t : PageType) (answer : Result Released Stop) : Type 0 where
   pub serves : (owner pages : ℕ) → Serves v w (of_entries owner pages) (misses v.post.machine answer)
