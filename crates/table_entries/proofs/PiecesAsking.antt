@@ -27,8 +27,7 @@ use Rattle.table_entries.specs.Asking.{LooksOnly, of_entries}
 use Rattle.table_entries.specs.Between.{SeesEntry}
 use Rattle.table_entries.specs.Tops.{WorksAtTop}
 use Rattle.table_entries.proofs.HandLists.{none_before}
-use Rattle.table_entries.proofs.PiecesLooking.{looks_step}
-use Rattle.table_entries.proofs.PiecesTaking.{Goes}
+use Rattle.table_entries.proofs.PiecesTaking.{Goes, looks_step}
 
 -- the newest of the own works is the one on that frame
 module _ (f n : ℕ) (t : PageType) (h : Holdings) (on : WorksAtTop f t n h) where
@@ -45,7 +44,7 @@ module _ (f n : ℕ) (t : PageType) (h : Holdings) (on : WorksAtTop f t n h) whe
   held_owner : (owner pages : ℕ) → owner ≡ entry_owner (of_entries owner pages) (work_on f h.works) (lock_on f h.locks)
   held_owner owner pages = sym (ap (λ o. entry_owner (of_entries owner pages) o (lock_on f h.locks)) top_here)
 
-module _ (b u : PortValue) (f i : ℕ) (t : PageType) (word : ℕ) (looks : SeesEntry b u f i t word) where
+module _ {b u : PortValue} {f i : ℕ} {t : PageType} {word : ℕ} (looks : SeesEntry b u f i t word) where
   pub look_found : FoundWith (Met b u) (Cell f i) word b.holdings
   unfolding moment_of
   look_found =
@@ -73,8 +72,8 @@ module _ (b u : PortValue) (f i : ℕ) (t : PageType) (word : ℕ) (looks : Sees
         typed = λ off. absurd cc;
       }
 
-  module _ (n owner pages : ℕ) (on : WorksAtTop f t n b.holdings) where
-    look_asks : (g : ℕ) (want : Option PageType) → IsDemandOf g want (Some (demand_at t i word)) → Asked b.post.machine b.post.vcpu (of_entries owner pages) (Met b u) g owner want
+  module _ {n : ℕ} (owner pages : ℕ) (on : WorksAtTop f t n b.holdings) where
+    pub look_asks : (g : ℕ) (want : Option PageType) → IsDemandOf g want (Some (demand_at t i word)) → Asked b.post.machine b.post.vcpu (of_entries owner pages) (Met b u) g owner want
     look_asks g want is =
         demanded f i word b.holdings refl look_found (subst (IsDemandOf g want) (sym (held_demand f n t b.holdings on i word)) is) (held_owner f n t b.holdings on owner pages)
 

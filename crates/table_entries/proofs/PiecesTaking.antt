@@ -1,30 +1,67 @@
--- The steps behind a look at an entry: each call goes on with the piece of the whole.
-use Rattle.std.proofs.Common.{ℕ, List, [], ◌++◌, Option, Some, None, refl, subst, append-nil}
+-- Which cells the steps of an entry look at.
+use Rattle.std.proofs.Common.{◌≡◌, ℕ, List, [], ◌∷◌, ◌++◌, Option, Some, None, false, sym, ◌∙◌, subst, inl, inr, refl, append-nil}
+use Rattle.xp_words.specs.Machine.{Machine}
+use Rattle.xp_words.specs.declared.place.Place.{Place}
+use Rattle.xp_words.specs.declared.place.Place.TheVariants.{Cell, Clock, Kind}
+use Rattle.xp_board.specs.declared.step.Act.{Act}
+use Rattle.xp_board.specs.declared.step.Mark.{Mark}
+use Rattle.xp_board.specs.declared.step.StepKind.{StepKind}
+use Rattle.xp_board.specs.Lists.{EachOf}
+use Rattle.xp_board.specs.Told.{PortValue, Post}
+use Rattle.board_lemmas.proofs.HandLists.{EachOf-map}
+use Rattle.step_maker.specs.Moves.{Moment, Met, Moves, Came}
+use Rattle.step_maker.proofs.Coming.{moment_of, moves_ran, ran_more, came_post, met_after, met_before, moves_met}
+use Rattle.answer_fits.specs.Answers.{Deed, Serves, Stops, missed}
+use Rattle.answer_fits.specs.Asked.{Request, Asked, NoMore, of, of_back, of_frame}
+use Rattle.answer_fits.specs.Finding.{Finding}
+use Rattle.answer_fits.specs.Reasons.{HasReason, MayLook}
+use Rattle.answer_fits.proofs.Piecing.{each_append, same_request, serves_back, serves_call, serves_came, serves_nothing, serves_step, stops_call, within_frame}
+use Rattle.table_entries.specs.Asking.{LooksAtEntry, LooksOnly, IsEntryStop, of_entries}
 use Rattle.xp_words.specs.declared.kind.PageType.{PageType}
-use Rattle.xp_words.specs.declared.place.Place.TheVariants.{Clock, Kind}
 use Rattle.xp_words.specs.declared.reply.Pause.TheVariants.{Busy, Flush, Lost}
-use Rattle.xp_words.specs.declared.reply.Refusal.TheVariants as refusals
 use Rattle.xp_words.specs.declared.reply.Stop.{Stop}
 use Rattle.xp_words.specs.declared.reply.Stop.TheVariants.{Refused, Paused}
 use Rattle.xp_board.specs.declared.step.Act.TheVariants.{Load}
 use Rattle.xp_board.specs.declared.step.Mark.TheVariants.{Record}
-use Rattle.xp_board.specs.declared.step.StepKind.TheVariants as kinds
-use Rattle.xp_board.specs.Told.{Post, PortValue}
-use Rattle.step_maker.specs.Moves.{Came, Met, Moves}
-use Rattle.step_maker.proofs.Coming.{came_post, met_after, met_before, moment_of, moves_met}
-use Rattle.answer_fits.specs.Answers.{Deed, Serves, Stops, missed}
-use Rattle.answer_fits.specs.Asked.{Asked, NoMore, of, of_back, of_frame}
 use Rattle.answer_fits.specs.Pauses.{Progress, entry}
 use Rattle.answer_fits.proofs.Later.{stops_later}
-use Rattle.answer_fits.proofs.Piecing.{same_request, serves_back, serves_call, serves_came, serves_nothing, serves_step, stops_call, within_frame}
 use Rattle.frame_types.specs.Leaving.{ServesType}
 use Rattle.frame_types.specs.Taking.{IsTypeStop}
 use Rattle.frame_types.proofs.Serving.{type_uncounted}
 use Rattle.frame_words.specs.Refs.{IsRefStop}
 use Rattle.flush_waits.specs.Waiting.{IsWait}
-use Rattle.table_entries.specs.Asking.{IsEntryStop, LooksOnly, of_entries}
-use Rattle.table_entries.proofs.PiecesLooking.{looks_aside, looks_step, looks_then}
+use Rattle.xp_words.specs.declared.reply.Refusal.TheVariants as refusals
+use Rattle.xp_board.specs.declared.step.StepKind.TheVariants as kinds
 
+-- a call that reads no entries, does not walk and writes no cell
+pub record LooksAside (r : Request) : Type 0 where
+  pub entries : r.entries ≡ false
+  pub walks : r.walks ≡ false
+  pub index : r.index ≡ None
+
+no_cell : (r : Request) (g j : ℕ) → LooksAside r → MayLook r (Cell g j) → ⊥
+no_cell r g j aside (inl a) = let b : false ≡ _ = sym aside.entries ∙ a in cc
+no_cell r g j aside (inr (inl a)) = let b : false ≡ _ = sym aside.walks ∙ a in cc
+no_cell r g j aside (inr (inr a)) = let b : None ≡ Some a.0 = sym aside.index ∙ a.1 in cc
+
+not_looked : (n : Machine) (s f i : ℕ) (r : Request) (F : Finding) → LooksAside r → (m : Moment) → HasReason n s r F m.place m.act m.found m.hand → LooksAtEntry f i m
+not_looked n s f i r F aside m reason load g j at =
+    absurd (no_cell r g j aside (subst (λ p. MayLook r p) at (subst (λ a. HasReason n s r F m.place a m.found m.hand) load reason)))
+
+pub looks_then : (v u w : PortValue) (f i : ℕ) → LooksOnly v u f i → LooksOnly u w f i → LooksOnly v w f i
+unfolding LooksOnly
+looks_then v u w f i a b = (b.0 ++ a.0, ran_more v u w a.0 b.0 a.1 b.1, each_append (LooksAtEntry f i) a.0 b.0 a.2 b.2)
+
+pub looks_aside : (v w : PortValue) (f i : ℕ) (r : Request) (ds : List Deed) → LooksAside r → Serves v w r ds → LooksOnly v w f i
+unfolding Serves LooksOnly
+looks_aside v w f i r ds aside a = (a.0, a.1.ran, EachOf-map _ _ a.0 (not_looked v.post.machine v.post.vcpu f i r (Met v w) aside) a.1.reasons)
+
+pub looks_step : (v w : PortValue) (f i : ℕ) (p : Place) (a : Act) (kind : StepKind) (mark : Option Mark) (found : ℕ) → Moves v w p a kind mark found →
+    ((g j : ℕ) → p ≡ Cell g j → (g ≡ f) × (j ≡ i)) → LooksOnly v w f i
+unfolding LooksOnly EachOf moment_of
+looks_step v w f i p a kind mark found m at = (moment_of v p a kind mark found ∷ [], moves_ran v w p a kind mark found m, (λ load. at, tt))
+
+-- ---- The steps behind a look at an entry: each call goes on with the piece of the whole.
 -- ---- by kind of stop
 pub ref_kinds : (e : Stop) → IsRefStop e → IsEntryStop e
 ref_kinds (Refused (refusals.NoFrame f)) is = tt
@@ -51,7 +88,7 @@ pub record Goes (b v : PortValue) (f i owner pages : ℕ) (ds : List Deed) : Typ
   pub serves : Serves b v (of_entries owner pages) ds
   pub looks : LooksOnly b v f i
 
-module _ (b v : PortValue) (f i owner pages : ℕ) (ds : List Deed) (goes : Goes b v f i owner pages ds) where
+module _ {b v : PortValue} {f i owner pages : ℕ} {ds : List Deed} (goes : Goes b v f i owner pages ds) where
   pub goes_came : Came b v
   goes_came = serves_came b v (of_entries owner pages) ds goes.serves
 
@@ -63,16 +100,16 @@ module _ (b v : PortValue) (f i owner pages : ℕ) (ds : List Deed) (goes : Goes
         looks = looks_then b v w f i goes.looks (looks_step v w f i (Kind g) Load kinds.Look None found m (λ h j at. absurd (let same = at in cc)));
       }
 
-  pub goes_record : (w : PortValue) (g upto found : ℕ) → Moves v w Clock Load kinds.Look (Some (Record g upto)) found → Goes b w f i owner pages ds
-  goes_record w g upto found m =
+  pub goes_record : {w : PortValue} {g upto found : ℕ} → Moves v w Clock Load kinds.Look (Some (Record g upto)) found → Goes b w f i owner pages ds
+  goes_record {w} {g} {upto} {found} m =
       record {
         serves = serves_step b v w (of_entries owner pages) ds Clock Load kinds.Look (Some (Record g upto)) found goes.serves m tt;
         looks = looks_then b v w f i goes.looks (looks_step v w f i Clock Load kinds.Look (Some (Record g upto)) found m (λ h j at. absurd (let same = at in cc)));
       }
 
-  pub record_shows : (w : PortValue) (g upto found : ℕ) → Moves v w Clock Load kinds.Look (Some (Record g upto)) found → Progress (Met b w)
+  pub record_shows : {w : PortValue} {g upto found : ℕ} → Moves v w Clock Load kinds.Look (Some (Record g upto)) found → Progress (Met b w)
   unfolding moment_of
-  record_shows w g upto found m =
+  record_shows {w} {g} {upto} {found} m =
       entry (moment_of v Clock Load kinds.Look (Some (Record g upto)) found) (met_after b v w _ goes_came (moves_met v w Clock Load kinds.Look (Some (Record g upto)) found m)) refl
 
   -- a call on a frame that is asked so

@@ -1,17 +1,13 @@
 //! The next entry of a table in work.
-ghost use Rattle.std.specs.Prelude.{◌≡◌, ◌<◌, ℕ, [], IfOk, IfErr, MatchResult};
+ghost use Rattle.std.specs.Prelude.{◌≡◌, ◌<◌, ℕ, []};
 ghost use Rattle.xp_words.specs.Entries.{below};
 ghost use Rattle.xp_words.specs.declared.entry.Demand.TheVariants.{Read, Typed};
-ghost use Rattle.answer_fits.specs.Answers.{Serves, Stops, misses};
 ghost use Rattle.flush_waits.specs.Waiting.{IsKnownOwner};
 ghost use Rattle.frame_types.specs.Taking.{IsOfOther};
 ghost use Rattle.frame_words.specs.Refs.{MayPut};
 ghost use Rattle.step_maker.specs.Holds.{MayWork};
-ghost use Rattle.table_entries.specs.Asking.{IsEntryStop, LooksOnly, ShowsEntered, of_entries};
-ghost use Rattle.table_entries.specs.Between.{MeetsEntry, FromFound, FromLook, HandEntered, HasFound, HasLooked};
-ghost use Rattle.table_entries.specs.Found.{EntersFound};
-ghost use Rattle.table_entries.specs.Plain.{TwinEntry};
-ghost use Rattle.table_entries.specs.Tops.{HoldsWorks, LeavesEntered, LookedAnd, WorksNext, as_it_was};
+ghost use Rattle.table_entries.specs.Between.{FromFound, FromLook, HasFound, HasLooked, TakesNext};
+ghost use Rattle.table_entries.specs.Tops.{HoldsWorks, WorksNext};
 
 use crate::waiting::{Late, wait_entry};
 use frame_types::{Counting, Taken, count_live, take_looked};
@@ -62,16 +58,7 @@ pub fn take_entry<P: Port>(port: &mut P, at: TableEntry) -> Result<Entered, Stop
     // No frame in the own works is of the type that the entries ask: each is of a level above.
     requires above { (g : ℕ) → IsOfOther g (below at.kind) (P.value port.old).holdings }
     requires looked { (P.value port.old).holdings.looking ≡ [] }
-    ensures serves { (pages : ℕ) → Serves (P.value port.old) (P.value port.new) (of_entries at.owner pages) (misses (P.value port.old).post.machine result) }
-    ensures stops { (pages : ℕ) → IfErr result (λ e. Stops (P.value port.old) (P.value port.new) (of_entries at.owner pages) e) }
-    ensures kinds { IfErr result IsEntryStop }
-    ensures shows { (pages : ℕ) → IfOk result (λ a. ShowsEntered (P.value port.old) (P.value port.new) at.owner pages at.kind a) }
-    ensures looks { LooksOnly (P.value port.old) (P.value port.new) at.table at.index }
-    // By the words that the steps found.
-    ensures found { EntersFound (P.value port.old) (P.value port.new) at.table at.index at.kind at.owner result }
-    ensures hand { MatchResult result (λ a. LeavesEntered (P.value port.old) (P.value port.new) at.table at.kind at.index at.owner a) (λ _. LookedAnd (P.value port.old) (P.value port.new) at.table at.index as_it_was) }
-    // On a board that tells all words.
-    ensures plain { TwinEntry (P.value port.old) (P.value port.new) at.table at.kind at.index at.owner result }
+    ensures { TakesNext (P.value port.old) (P.value port.new) at.table at.index at.owner at.kind result }
 {
     let word = look_cell(port, at.table, at.index);
     match demand(at.kind, at.index, word) {
@@ -93,10 +80,7 @@ pub fn take_entry<P: Port>(port: &mut P, at: TableEntry) -> Result<Entered, Stop
 fn take_plain<P: Port>(port: &mut P, at: TableEntry, frame: u64) -> Result<Entered, Stop>
     requires may { MayWork (P.value port.old) }
     requires looked { HasLooked (P.value port.old) at.table at.index at.owner at.kind (Read frame) }
-    ensures enters { FromLook (P.value port.old) at.table at.index at.owner at.kind (Read frame) (λ b. (pages : ℕ) → MeetsEntry b (P.value port.new) at.table at.index at.owner pages at.kind result) }
-    ensures hand { FromLook (P.value port.old) at.table at.index at.owner at.kind (Read frame) (λ b. HandEntered b (P.value port.new) at.table at.index at.owner at.kind result) }
-    ensures found { FromLook (P.value port.old) at.table at.index at.owner at.kind (Read frame) (λ b. EntersFound b (P.value port.new) at.table at.index at.kind at.owner result) }
-    ensures plain { FromLook (P.value port.old) at.table at.index at.owner at.kind (Read frame) (λ b. TwinEntry b (P.value port.new) at.table at.kind at.index at.owner result) }
+    ensures { FromLook (P.value port.old) at.table at.index at.owner at.kind (Read frame) (λ b. TakesNext b (P.value port.new) at.table at.index at.owner at.kind result) }
 {
     get_ref(port, frame, at.owner)?;
     record_entry(port, at.table, at.index + 1);
@@ -112,10 +96,7 @@ fn take_typed<P: Port>(
 ) -> Result<Entered, Stop>
     requires may { MayWork (P.value port.old) }
     requires looked { HasLooked (P.value port.old) at.table at.index at.owner at.kind (Typed frame want) }
-    ensures enters { FromLook (P.value port.old) at.table at.index at.owner at.kind (Typed frame want) (λ b. (pages : ℕ) → MeetsEntry b (P.value port.new) at.table at.index at.owner pages at.kind result) }
-    ensures hand { FromLook (P.value port.old) at.table at.index at.owner at.kind (Typed frame want) (λ b. HandEntered b (P.value port.new) at.table at.index at.owner at.kind result) }
-    ensures found { FromLook (P.value port.old) at.table at.index at.owner at.kind (Typed frame want) (λ b. EntersFound b (P.value port.new) at.table at.index at.kind at.owner result) }
-    ensures plain { FromLook (P.value port.old) at.table at.index at.owner at.kind (Typed frame want) (λ b. TwinEntry b (P.value port.new) at.table at.kind at.index at.owner result) }
+    ensures { FromLook (P.value port.old) at.table at.index at.owner at.kind (Typed frame want) (λ b. TakesNext b (P.value port.new) at.table at.index at.owner at.kind result) }
 {
     let frame = get_ref(port, frame, at.owner)?;
     match count_live(port, frame, at.owner, want) {
@@ -147,10 +128,7 @@ fn take_found<P: Port>(
     requires may { MayWork (P.value port.old) }
     requires gives { MayPut frame (P.value port.old).holdings }
     requires finds { HasFound (P.value port.old) at.table at.index at.owner at.kind frame want word }
-    ensures enters { FromFound (P.value port.old) at.table at.index at.owner at.kind frame want word (λ b. (pages : ℕ) → MeetsEntry b (P.value port.new) at.table at.index at.owner pages at.kind result) }
-    ensures hand { FromFound (P.value port.old) at.table at.index at.owner at.kind frame want word (λ b. HandEntered b (P.value port.new) at.table at.index at.owner at.kind result) }
-    ensures found { FromFound (P.value port.old) at.table at.index at.owner at.kind frame want word (λ b. EntersFound b (P.value port.new) at.table at.index at.kind at.owner result) }
-    ensures plain { FromFound (P.value port.old) at.table at.index at.owner at.kind frame want word (λ b. TwinEntry b (P.value port.new) at.table at.kind at.index at.owner result) }
+    ensures { FromFound (P.value port.old) at.table at.index at.owner at.kind frame want word (λ b. TakesNext b (P.value port.new) at.table at.index at.owner at.kind result) }
 {
     match take_looked(port, frame, at.owner, want, word) {
         Ok(Taken::Counted) => {

@@ -1,15 +1,11 @@
 //! The last recorded entry of a table that came into work partial.
-ghost use Rattle.std.specs.Prelude.{◌≡◌, ◌+◌, ◌<◌, [], ℕ, IfOk, IfErr, MatchResult};
+ghost use Rattle.std.specs.Prelude.{◌≡◌, ◌+◌, ◌<◌, [], ℕ};
 ghost use Rattle.xp_words.specs.Entries.{below};
 ghost use Rattle.xp_words.specs.declared.entry.Demand.TheVariants.{Typed};
-ghost use Rattle.answer_fits.specs.Answers.{Serves, Stops, misses};
 ghost use Rattle.frame_types.specs.Taking.{IsOfOther};
 ghost use Rattle.step_maker.specs.Holds.{MayWork};
-ghost use Rattle.table_entries.specs.Asking.{IsEntryStop, LooksOnly, ShowsResumed, of_entries};
-ghost use Rattle.table_entries.specs.Between.{FromLooks, HandResumed, HasFoundOther, LooksLive, Resumes};
-ghost use Rattle.table_entries.specs.Found.{ResumesFound};
-ghost use Rattle.table_entries.specs.Plain.{TwinResume};
-ghost use Rattle.table_entries.specs.Tops.{HoldsWorks, LeavesResumed, LookedAnd, WorksAtTop, as_it_was};
+ghost use Rattle.table_entries.specs.Between.{FromLooks, HasFoundOther, LooksLive, TakesLast};
+ghost use Rattle.table_entries.specs.Tops.{HoldsWorks, WorksAtTop};
 
 use crate::entries::TableEntry;
 use frame_types::{Taken, take_type};
@@ -44,15 +40,7 @@ pub fn resume_entry<P: Port>(port: &mut P, at: TableEntry) -> Result<Resumed, St
     requires held { HoldsWorks (P.value port.old).holdings }
     requires above { (g : ℕ) → IsOfOther g (below at.kind) (P.value port.old).holdings }
     requires looked { (P.value port.old).holdings.looking ≡ [] }
-    ensures serves { (pages : ℕ) → Serves (P.value port.old) (P.value port.new) (of_entries at.owner pages) (misses (P.value port.old).post.machine result) }
-    ensures stops { (pages : ℕ) → IfErr result (λ e. Stops (P.value port.old) (P.value port.new) (of_entries at.owner pages) e) }
-    ensures kinds { IfErr result IsEntryStop }
-    ensures shows { (pages : ℕ) → IfOk result (λ a. ShowsResumed (P.value port.old) (P.value port.new) at.owner pages at.kind a) }
-    ensures looks { LooksOnly (P.value port.old) (P.value port.new) at.table at.index }
-    // By the words that the steps found: it is taken again only where its frame was not found live.
-    ensures found { ResumesFound (P.value port.old) (P.value port.new) at.table at.index at.kind at.owner result }
-    ensures hand { MatchResult result (λ a. LeavesResumed (P.value port.old) (P.value port.new) at.table at.kind at.index at.owner a) (λ _. LookedAnd (P.value port.old) (P.value port.new) at.table at.index as_it_was) }
-    ensures plain { TwinResume (P.value port.old) (P.value port.new) at.table at.kind at.index at.owner result }
+    ensures { TakesLast (P.value port.old) (P.value port.new) at.table at.index at.owner at.kind result }
 {
     let word = look_cell(port, at.table, at.index);
     match demand(at.kind, at.index, word) {
@@ -91,10 +79,7 @@ fn take_again<P: Port>(
 ) -> Result<Resumed, Stop>
     requires may { MayWork (P.value port.old) }
     requires looked { HasFoundOther (P.value port.old) at.table at.index at.kind (Typed frame want) }
-    ensures resumes { FromLooks (P.value port.old) at.table at.index at.kind (Typed frame want) (λ b. (pages : ℕ) → Resumes b (P.value port.new) at.table at.index at.owner pages at.kind result) }
-    ensures hand { FromLooks (P.value port.old) at.table at.index at.kind (Typed frame want) (λ b. HandResumed b (P.value port.new) at.table at.index at.owner at.kind result) }
-    ensures found { FromLooks (P.value port.old) at.table at.index at.kind (Typed frame want) (λ b. ResumesFound b (P.value port.new) at.table at.index at.kind at.owner result) }
-    ensures plain { FromLooks (P.value port.old) at.table at.index at.kind (Typed frame want) (λ b. TwinResume b (P.value port.new) at.table at.kind at.index at.owner result) }
+    ensures { FromLooks (P.value port.old) at.table at.index at.kind (Typed frame want) (λ b. TakesLast b (P.value port.new) at.table at.index at.owner at.kind result) }
 {
     let frame = get_ref(port, frame, at.owner)?;
     match take_type(port, frame, at.owner, want) {

@@ -1,9 +1,6 @@
 //! An entry whose frame waits for a flush that is not to be had.
-ghost use Rattle.std.specs.Prelude.{ℕ};
 ghost use Rattle.step_maker.specs.Holds.{MayWork};
-ghost use Rattle.table_entries.specs.Between.{MeetsEntry, FromWait, HandEntered, HasWaited};
-ghost use Rattle.table_entries.specs.Found.{EntersFound};
-ghost use Rattle.table_entries.specs.Plain.{TwinEntry};
+ghost use Rattle.table_entries.specs.Between.{FromWait, HasWaited, TakesNext};
 
 use crate::entries::{Entered, TableEntry};
 use frame_types::{leave_dead, leave_shared, leave_unsettled};
@@ -27,10 +24,7 @@ pub(crate) struct Late {
 pub(crate) fn wait_entry<P: Port>(port: &mut P, at: TableEntry, late: Late) -> Result<Entered, Stop>
     requires may { MayWork (P.value port.old) }
     requires waits { HasWaited (P.value port.old) at.table at.index at.owner at.kind late.frame late.want late.own late.stamp late.stop }
-    ensures enters { FromWait (P.value port.old) at.table at.index at.owner at.kind late.frame late.want late.own late.stamp late.stop (λ b. (pages : ℕ) → MeetsEntry b (P.value port.new) at.table at.index at.owner pages at.kind result) }
-    ensures hand { FromWait (P.value port.old) at.table at.index at.owner at.kind late.frame late.want late.own late.stamp late.stop (λ b. HandEntered b (P.value port.new) at.table at.index at.owner at.kind result) }
-    ensures found { FromWait (P.value port.old) at.table at.index at.owner at.kind late.frame late.want late.own late.stamp late.stop (λ b. EntersFound b (P.value port.new) at.table at.index at.kind at.owner result) }
-    ensures plain { FromWait (P.value port.old) at.table at.index at.owner at.kind late.frame late.want late.own late.stamp late.stop (λ b. TwinEntry b (P.value port.new) at.table at.kind at.index at.owner result) }
+    ensures { FromWait (P.value port.old) at.table at.index at.owner at.kind late.frame late.want late.own late.stamp late.stop (λ b. TakesNext b (P.value port.new) at.table at.index at.owner at.kind result) }
 {
     if !late.own {
         leave_shared(port, late.frame, late.want, late.stamp);

@@ -1,13 +1,13 @@
 -- A frame that was found live, and its entry shed by a look at its reference word.
-use Rattle.std.proofs.Common.{◌≡◌, ℕ, ◌-◌, ◌<◌, ◌≤◌, if◌then◌else◌, Bool, true, false, List, [], ◌∷◌, length, Option, Some, None, IsTrue, refl, sym, ap, ◌∙◌, subst, arith}
+use Rattle.std.proofs.Common.{◌≡◌, ℕ, ◌-◌, ◌<◌, ◌≤◌, if◌then◌else◌, Bool, true, false, List, [], ◌∷◌, length, Option, Some, None, IsTrue, refl, sym, ap, ◌∙◌, subst, arith, ◌≢◌, ◌^◌, ◌==◌, ◌⊎◌, ◌||◌, not, inl, inr}
 use Rattle.xp_words.specs.Entries.{demand_at}
-use Rattle.xp_words.specs.KindWords.{kind_fields}
+use Rattle.xp_words.specs.KindWords.{kind_fields, is_kind, kind_write}
 use Rattle.xp_words.specs.Machine.{IsMachine}
 use Rattle.xp_words.specs.PageTypes.{is_table}
-use Rattle.xp_words.specs.Places.{sizes_of}
+use Rattle.xp_words.specs.Places.{sizes_of, Sizes}
 use Rattle.xp_words.specs.declared.entry.Demand.TheVariants.{Typed}
 use Rattle.xp_words.specs.declared.kind.PageType.{PageType}
-use Rattle.xp_words.specs.declared.place.Place.TheVariants.{Kind}
+use Rattle.xp_words.specs.declared.place.Place.TheVariants.{Kind, Clock}
 use Rattle.xp_board.specs.declared.holdings.Holdings.{Holdings}
 use Rattle.xp_board.specs.declared.holdings.Looking.{Looking}
 use Rattle.xp_board.specs.declared.holdings.Reference.{Reference}
@@ -15,41 +15,52 @@ use Rattle.xp_board.specs.declared.holdings.TypedReference.{TypedReference}
 use Rattle.xp_board.specs.declared.holdings.Unsettled.{Unsettled}
 use Rattle.xp_board.specs.declared.holdings.Work.{Work}
 use Rattle.xp_board.specs.declared.step.Act.TheVariants.{Load}
-use Rattle.xp_board.specs.declared.step.StepKind.TheVariants as kinds
 use Rattle.xp_board.specs.Acts.{left_by}
 use Rattle.xp_board.specs.After.{learned_cell}
-use Rattle.xp_board.specs.Hands.{brought_as, changed_work, refs_to, typed_owner, typed_to, without_typed, work_on}
-use Rattle.xp_board.specs.KindSteps.{MayDrop, still_looking}
+use Rattle.xp_board.specs.Hands.{brought_as, changed_work, refs_to, typed_owner, typed_to, without_typed, work_on, surely, without_work}
+use Rattle.xp_board.specs.KindSteps.{MayDrop, still_looking, new_work, resumed_kind, unsettled_from}
 use Rattle.xp_board.specs.Knowledge.{knows_live}
 use Rattle.xp_board.specs.Lists.{changed_by, first_by, kept_of}
-use Rattle.xp_board.specs.Readings.{is_live, is_live_word, kind_at}
+use Rattle.xp_board.specs.Readings.{is_live, is_live_word, kind_at, is_partial, is_work}
 use Rattle.xp_board.specs.Recorded.{entry_demand}
-use Rattle.xp_board.specs.Settling.{is_settled}
-use Rattle.xp_board.specs.Told.{Post, PortValue}
+use Rattle.xp_board.specs.Settling.{is_settled, settles, settles_last}
+use Rattle.xp_board.specs.Told.{Post, PortValue, Finds}
 use Rattle.board_lemmas.proofs.HandLists.{times-changed}
-use Rattle.board_lemmas.proofs.KindReadings.{live_count}
-use Rattle.board_lemmas.proofs.ListCounts.{first_by-absent, first_by-none, newest_held}
-use Rattle.board_lemmas.proofs.WorkFacts.{works_facts}
+use Rattle.board_lemmas.proofs.KindReadings.{live_count, partial_parts, resumed_in_work, work_alone, work_unlive}
+use Rattle.board_lemmas.proofs.ListCounts.{first_by-absent, first_by-none, newest_held, first_by-cons_other}
+use Rattle.board_lemmas.proofs.WorkFacts.{works_facts, work_word as works_word}
 use Rattle.step_maker.specs.Holds.{Holds, MayWork, Same, still}
 use Rattle.step_maker.specs.Moves.{Moves}
 use Rattle.flush_words.proofs.Lasting.{moves_longer}
 use Rattle.frame_words.specs.Freeing.{gave}
 use Rattle.frame_words.specs.Refs.{MayPut}
 use Rattle.frame_words.proofs.Putting.{without_newest}
-use Rattle.kind_words.proofs.KindFacts.{live_apart}
-use Rattle.kind_words.proofs.KindHands.{apart_spares, typed_held}
+use Rattle.kind_words.proofs.KindFacts.{live_apart, clock_is_small, partial_apart, read_is}
+use Rattle.kind_words.proofs.KindHands.{apart_spares, typed_held, resumed_fields, resumed_unkept, work_here}
 use Rattle.frame_types.specs.Lowering.{DropsType, closing_from, closing_in, uncounted}
 use Rattle.frame_types.specs.Taking.{MayDropPlain, gave_type}
 use Rattle.frame_types.proofs.Lowered.{closed_is, closed_kind, closed_unmarked, type_closed, type_counted}
 use Rattle.table_entries.specs.Tops.{with_recorded}
-use Rattle.table_entries.proofs.HandLists.{asks_below}
-use Rattle.table_entries.proofs.LastSeen.{SeenLast, finds_counts, seen_asks, seen_sheds}
+use Rattle.table_entries.proofs.HandLists.{asks_below, asks_some}
+use Rattle.table_entries.proofs.LastEntry.{SeenLast, finds_counts, seen_asks, seen_sheds, finds_leads}
 use Rattle.table_words.specs.Entries.{entry_shed}
 use Rattle.table_words.proofs.Shedding.{none_unsettled, settled_by_step, shed_settled_known}
-use Rattle.table_releases.specs.Between.{SeesKind, SeesTyped}
-use Rattle.table_releases.specs.Tops.{Reopens, StaysRecorded, shed_once}
-use Rattle.table_releases.proofs.FrameSeen.{from_seen, now_seen}
+use Rattle.table_releases.specs.Between.{SeesKind, SeesTyped, Resumed}
+use Rattle.table_releases.specs.Tops.{Reopens, StaysRecorded, shed_once, IsSince}
+use Rattle.table_releases.proofs.FrameSeen.{found_kind, found_unkept, from_seen, kind_post, now_seen, seen_same}
 use Rattle.table_releases.proofs.Looking.{shed_typed}
+use Rattle.xp_words.specs.declared.kind.KindWord.{KindWord}
+use Rattle.xp_board.specs.declared.step.Mark.TheVariants.{Shed}
+use Rattle.xp_board.specs.Steps.{some_since}
+use Rattle.board_lemmas.proofs.KindForms.{PartialForm, fields_of, partial_form}
+use Rattle.board_lemmas.proofs.Sums.{when_eq, when_ne}
+use Rattle.step_maker.proofs.Noting.{moves_since}
+use Rattle.kind_words.specs.Kinds.{MayLeave, dead_kind, left}
+use Rattle.kind_words.proofs.Leaving.{left_dead, may_leave_dead}
+use Rattle.table_releases.specs.Found.{has_recorded}
+use Rattle.table_releases.proofs.Recording.{recorded_some, recorded_table, recorded_none}
+use Rattle.xp_board.specs.declared.step.StepKind.TheVariants as kinds
+use Rattle.xp_words.specs.PageTypes as types
 
 -- ---- lists
 -- a vCPU that looks at nothing goes on so
@@ -61,7 +72,7 @@ looks_none g w (x ∷ xs) none = absurd cc
 pub none_after : {A : Type 0} (key : A → ℕ) (g f : ℕ) (change : A → A) (xs : List A) → ((x : A) → key (change x) ≡ key x) → first_by key g xs ≡ None → first_by key g (changed_by key f change xs) ≡ None
 none_after key g f change xs kept none = first_by-none key g (changed_by key f change xs) (times-changed key g f change xs kept ∙ first_by-absent key g xs none)
 
-module _ (b v : PortValue) (f i : ℕ) (t : PageType) (word g : ℕ) (want : PageType) (x : ℕ) (l : SeesKind b v f i t word g want x) where
+module _ {b v : PortValue} {f i : ℕ} {t : PageType} {word g : ℕ} {want : PageType} {x : ℕ} (l : SeesKind b v f i t word g want x) where
   -- the hand, from before the looks
   pub hand_behind : (w : PortValue) (r : List Reference → List Reference) (y : List TypedReference → List TypedReference) (e : List Work → List Work) →
       Holds v w (record v.holdings { refs = r v.holdings.refs; typed = y v.holdings.typed; works = e v.holdings.works }) →
@@ -76,11 +87,11 @@ module _ (b v : PortValue) (f i : ℕ) (t : PageType) (word g : ℕ) (want : Pag
 
   module _ (live : is_live_word x ≡ true) where
     abbrev pub seen : SeenLast f i t word v.holdings
-    seen = now_seen b v f i t word g want x l
+    seen = now_seen l
 
     -- ---- the entry is settled by the look that found its frame live
     abbrev first : SeenLast f i t word l.from.holdings
-    first = from_seen b v f i t word g want x l
+    first = from_seen l
 
     low_since : (u : Unsettled) → first.work.unsettled ≡ Some u → u.since ≤ length l.from.holdings.steps
     low_since u at =
@@ -107,11 +118,11 @@ module _ (b v : PortValue) (f i : ℕ) (t : PageType) (word g : ℕ) (want : Pag
     is_here = subst (λ n. IsTrue (is_live (kind_fields n))) (sym l.look.finds.word) live
 
     asked : entry_demand l.look.finds.words f i ≡ Typed g want
-    asked = seen_asks l.from.post.machine l.from.post.vcpu l.from.holdings (Kind g) x l.look.finds f i t word first ∙ l.sees.asks
+    asked = seen_asks l.look.finds first ∙ l.sees.asks
 
     x_counts : 0 < (kind_fields x).number
     x_counts =
-        let some = finds_counts l.from.post.machine l.from.post.vcpu l.from.holdings (Kind g) x l.look.finds f i t first.work first.here first.kind first.table first.last (Typed g want) asked g want refl in
+        let some = finds_counts l.look.finds f i t first.work first.here first.kind first.table first.last g want asked in
         subst (λ n. 0 < (kind_fields n).number) l.look.finds.word (subst (λ n. 0 < n) (live_count (kind_at l.look.finds.words g) is_here) some)
 
     v_apart : work_on g v.holdings.works ≡ None
@@ -123,7 +134,7 @@ module _ (b v : PortValue) (f i : ℕ) (t : PageType) (word g : ℕ) (want : Pag
     newest = brought_as (is_settled (sizes_of v.post.machine) v.holdings (seen live).work) g want v.holdings
 
     pub live_shed : Holds v w (record (with_recorded f i None v.holdings) { typed = newest ∷ v.holdings.typed })
-    live_shed = shed_typed v w f i t word (seen live) shed g want l.sees.asks
+    live_shed = shed_typed v w (seen live) shed g want l.sees.asks
 
     pub live_post : w.post ≡ v.post
     live_post = ap (λ (q : PortValue). q.post) live_shed
@@ -254,9 +265,227 @@ may_dropped v w g last d m =
     by_post false h = ap (λ (q : PortValue). q.post) h
 
 -- ---- a look at the kind word behind the one at the entry
-pub sees_kind : (b v u : PortValue) (f i : ℕ) (t : PageType) (word g : ℕ) (want : PageType) (x : ℕ) → SeesTyped b v f i t word g want → Moves v u (Kind g) Load kinds.Look None x → Same v u → SeesKind b u f i t word g want x
-sees_kind b v u f i t word g want x l look same = record { from = v; sees = l; look = look; same = same }
+pub sees_kind : {v b u : PortValue} {f i word g x : ℕ} {t want : PageType} → SeesTyped b v f i t word g want → Moves v u (Kind g) Load kinds.Look None x → Same v u → SeesKind b u f i t word g want x
+sees_kind {v} l look same = record { from = v; sees = l; look = look; same = same }
 
 -- nothing more was done
-pub stays_recorded : (b v : PortValue) (f i : ℕ) (t : PageType) (word g : ℕ) (want : PageType) (x : ℕ) → SeesKind b v f i t word g want x → StaysRecorded b v f i
-stays_recorded b v f i t word g want x l = (word, l.same ∙ l.sees.sees.hand)
+pub stays_recorded : {word : ℕ} {b v : PortValue} {f i g x : ℕ} {t want : PageType} → SeesKind b v f i t word g want x → StaysRecorded b v f i
+stays_recorded {word} l = (word, l.same ∙ l.sees.sees.hand)
+
+-- ---- A partial frame that came into the own works, and its entry shed then.
+-- the frame of the unsettled entry was not found live
+unsettled_by : (z : Sizes) (h : Holdings) (e : Work) (u : Unsettled) (word g : ℕ) (t : PageType) → e.unsettled ≡ Some (record { since = u.since; word = Some word }) → demand_at (kind_fields e.word).kind (e.recorded - 1) word ≡ Typed g t →
+    some_since z u.since (Kind g) is_live_word h.steps ≡ false → is_settled z h e ≡ false
+unfolding is_settled
+unsettled_by z h e u word g t unsettled asks unfound =
+    subst (λ o. settles_last z e h.steps o ≡ false) (sym unsettled) (subst (λ d. settles z u.since h.steps d ≡ false) (sym asks) unfound)
+
+changed_behind : (f : ℕ) (change : Work → Work) (e : Work) (xs : List Work) → e.frame ≢ f → changed_work f change (e ∷ xs) ≡ e ∷ changed_work f change xs
+unfolding changed_by
+changed_behind f change e xs off = rw (when_ne e.frame f off) refl
+
+module _ {b v : PortValue} {f i : ℕ} {t : PageType} {word g : ℕ} {want : PageType} {k : KindWord} (r : Resumed b v f i t word g want k) where
+  abbrev came : PortValue
+  came = r.from
+
+  is_spelled : IsTrue (is_kind k)
+  is_spelled = (read_is r.found k r.read).0
+
+  kind_is : k.kind ≡ want
+  kind_is = found_kind r.sees k r.read
+
+  form : PartialForm k
+  form = let parts = partial_parts k r.partial in partial_form r.found k r.read parts.0 parts.1
+
+  abbrev pub new : Work
+  new = new_work g (kind_write (resumed_kind k)) k.progress (unsettled_from k.progress r.from.holdings) r.from.holdings
+
+  new_fields : kind_fields new.word ≡ resumed_kind k
+  new_fields = resumed_fields k is_spelled r.partial
+
+  pub new_in_work : IsTrue (is_work (kind_fields new.word))
+  new_in_work = subst (λ y. IsTrue (is_work y)) (sym new_fields) (resumed_in_work k r.partial)
+
+  pub new_kind : (kind_fields new.word).kind ≡ want
+  new_kind = ap (λ (x : KindWord). x.kind) new_fields ∙ kind_is
+
+  no_looking : r.from.holdings.looking ≡ []
+  no_looking = ap (λ (q : PortValue). q.holdings.looking) r.sees.same ∙ ap (λ (q : PortValue). q.holdings.looking) r.sees.sees.sees.hand ∙ r.sees.sees.sees.looked
+
+  pub came_in : Holds r.from v (record r.from.holdings { works = new ∷ r.from.holdings.works })
+  came_in =
+      r.hand ∙ ap (λ (h : Holdings). still (record r.from { holdings = h })) (resumed_unkept g k r.from.holdings (found_unkept r.sees k r.read r.partial))
+      ∙ ap (λ ys. still (record r.from { holdings = record r.from.holdings { looking = ys; works = new ∷ r.from.holdings.works } })) (looks_none g (kind_write (resumed_kind k)) r.from.holdings.looking no_looking)
+
+  apart : work_on g r.from.holdings.works ≡ None
+  apart =
+      ap (λ (q : PortValue). work_on g q.holdings.works) r.sees.same
+      ∙ partial_apart r.sees.from.post.machine r.sees.from.post.vcpu r.sees.from.holdings g r.found k r.sees.look.finds (fields_of r.found k r.read) r.partial
+
+  abbrev before : SeenLast f i t word r.from.holdings
+  before = now_seen r.sees
+
+  other : g ≢ f
+  other same = let here : work_on g r.from.holdings.works ≡ Some before.work = subst (λ n. work_on n r.from.holdings.works ≡ Some before.work) (sym same) before.here in let both : None ≡ Some before.work = sym apart ∙ here in cc
+
+  same_works : work_on f v.holdings.works ≡ work_on f r.from.holdings.works
+  same_works = ap (λ (q : PortValue). work_on f q.holdings.works) came_in ∙ first_by-cons_other (λ (e : Work). e.frame) f new r.from.holdings.works other
+
+  pub resumed_seen : SeenLast f i t word v.holdings
+  resumed_seen = seen_same f i t word r.from.holdings v.holdings same_works before
+
+  pub resumed_post : v.post ≡ b.post
+  resumed_post = ap (λ (q : PortValue). q.post) came_in ∙ kind_post r.sees
+
+  -- the entry is not settled: its frame is in work, and was not found live
+  still_unsettled : (p : _) (y : ℕ) (mark : _) {w : PortValue} → Moves v w p Load kinds.Look mark y → is_settled (sizes_of v.post.machine) v.holdings resumed_seen.work ≡ false
+  still_unsettled p y mark step =
+      by_way
+      (finds_leads finds f i t resumed_seen.work resumed_seen.here resumed_seen.kind resumed_seen.table resumed_seen.last g want (seen_asks finds resumed_seen ∙ r.sees.sees.asks))
+    where
+      finds : Finds v.post.machine v.post.vcpu v.holdings p y
+      finds = step.finds
+
+      mine : work_on g (finds.hands v.post.vcpu).works ≡ Some new
+      mine = ap (λ (u : Holdings). work_on g u.works) finds.mine ∙ work_here g new r.from.holdings.works v.holdings.works refl (ap (λ (q : PortValue). q.holdings.works) came_in)
+
+      working : IsTrue (is_work (kind_at finds.words g))
+      working =
+          subst (λ y. IsTrue (is_work y)) (sym (works_word v.post.machine finds.words finds.hands v.post.vcpu g new (works_facts v.post.machine finds.words finds.hands v.post.vcpu g new finds.sound finds.real mine))) new_in_work
+
+      by_way : IsTrue (is_live (kind_at finds.words g))
+          ⊎ (IsTrue (is_partial (kind_at finds.words g) || is_work (kind_at finds.words g)) × ((u : Unsettled) × (resumed_seen.work.unsettled ≡ Some u) × (some_since (sizes_of v.post.machine) u.since (Kind g) is_live_word v.holdings.steps ≡ false))) →
+          is_settled (sizes_of v.post.machine) v.holdings resumed_seen.work ≡ false
+      by_way (inl live) = absurd (let dead = work_unlive (kind_at finds.words g) working in cc)
+      by_way (inr (form, (u, at, unfound))) =
+          unsettled_by (sizes_of v.post.machine) v.holdings resumed_seen.work u word g want (at ∙ ap (λ o. Some (record u { word = o })) (resumed_seen.loaded u at))
+          (let before : resumed_seen.work.recorded - 1 ≡ i = (let n = resumed_seen.last in omega (arith, n)) in
+          ap (λ k. demand_at k (resumed_seen.work.recorded - 1) word) resumed_seen.kind ∙ ap (λ n. demand_at t n word) before ∙ r.sees.sees.asks)
+          unfound
+
+  -- ---- shed
+  module _ (w : PortValue) (shed : Holds v w (entry_shed v.post.machine f i v.holdings)) where
+    abbrev pub resumed_newest : TypedReference
+    resumed_newest = brought_as (is_settled (sizes_of v.post.machine) v.holdings resumed_seen.work) g want v.holdings
+
+    abbrev shed_all : List Work → List Work
+    shed_all ws = shed_works r.sees ws
+
+    pub resumed_shed : Holds r.from w (record r.from.holdings { typed = resumed_newest ∷ r.from.holdings.typed; works = new ∷ shed_all r.from.holdings.works })
+    resumed_shed =
+        shed_typed v w resumed_seen shed g want r.sees.sees.asks
+        ∙ ap (λ (q : PortValue). still (record q { holdings = record q.holdings { typed = resumed_newest ∷ q.holdings.typed; works = shed_all q.holdings.works } })) came_in
+        ∙ ap (λ ws. still (record r.from { holdings = record r.from.holdings { typed = resumed_newest ∷ r.from.holdings.typed; works = ws } })) (changed_behind f (λ (e : Work). record e { recorded = i; unsettled = None }) new r.from.holdings.works other)
+
+    shed_held : 0 < typed_to g w.holdings.typed
+    shed_held = subst (λ xs. 0 < typed_to g xs) (sym (ap (λ (q : PortValue). q.holdings.typed) resumed_shed)) (typed_held g resumed_newest r.from.holdings.typed refl)
+
+    pub shed_here : work_on g w.holdings.works ≡ Some new
+    shed_here = work_here g new (shed_all r.from.holdings.works) w.holdings.works refl (ap (λ (q : PortValue). q.holdings.works) resumed_shed)
+
+    pub shed_may : MayWork v → MayWork w
+    shed_may m =
+        record {
+          running = ap (λ (q : PortValue). q.holdings.run) resumed_shed ∙ sym (ap (λ (q : PortValue). q.holdings.run) came_in) ∙ m.running;
+          no_walk = ap (λ (q : PortValue). q.holdings.walk) resumed_shed ∙ sym (ap (λ (q : PortValue). q.holdings.walk) came_in) ∙ m.no_walk;
+          machine = subst (λ (p : Post). IsMachine p.machine) (sym (ap (λ (q : PortValue). q.post) resumed_shed ∙ sym (ap (λ (q : PortValue). q.post) came_in))) m.machine;
+        }
+
+    -- what brought the typed reference does not say that its frame is live
+    newest_since : (mark : _) (p : _) (y : ℕ) → Moves v w p Load kinds.Look mark y → (h : TypedReference) (others : List TypedReference) → w.holdings.typed ≡ h ∷ others → IsSince (length w.holdings.steps) h.live
+    newest_since mark p y step h others at =
+        let two = moves_longer v w p Load kinds.Look mark y step in
+        let late : length v.holdings.steps ≤ length w.holdings.steps = omega (arith, two) in
+        let both : resumed_newest ∷ r.from.holdings.typed ≡ h ∷ others = sym (ap (λ (q : PortValue). q.holdings.typed) resumed_shed) ∙ at in
+        let same : resumed_newest ≡ h = cc in
+        let unsure = ap (λ b. surely b v.holdings) (still_unsettled p y mark step) in
+        subst (λ (e : TypedReference). IsSince (length w.holdings.steps) e.live) same (subst (IsSince (length w.holdings.steps)) (sym unsure) late)
+
+    -- ---- a table of which entries are recorded
+    pub resumed_opens : (mark : _) (p : _) (y : ℕ) → Moves v w p Load kinds.Look mark y → has_recorded want k ≡ true → Reopens b w f i t g k.progress false
+    resumed_opens mark p y step opened =
+        let table = recorded_table want k opened in
+        let some = recorded_some want k opened in
+        let is = asks_below t i word g want r.sees.sees.asks in
+        let one = moves_longer r.from v _ _ _ _ _ r.step in
+        let two = moves_longer v w p Load kinds.Look mark y step in
+        let low = form.progress in
+        record {
+          word = word;
+          asks = r.sees.sees.asks ∙ ap (λ x. Typed g x) is;
+          inside = r.sees.sees.inside;
+          work = new;
+          frame = refl;
+          kind = ap (λ (x : KindWord). x.kind) new_fields ∙ kind_is ∙ is;
+          table = subst (λ x. IsTrue (is_table x)) is table;
+          closing_is = work_alone (kind_fields new.word) new_in_work;
+          in_work = λ off. new_in_work;
+          unmarked = ap (λ (x : KindWord). x.unflushed) new_fields ∙ no_mark k.unflushed refl some;
+          recorded_is = refl;
+          some = some;
+          few = omega (arith, low);
+          settled = λ on. absurd cc;
+          earlier = omega (arith, one, two);
+          since = λ off h others at. newest_since mark p y step h others at;
+          after = record (shed_once f i word b.holdings) { typed = resumed_newest ∷ b.holdings.typed; works = new ∷ (shed_once f i word b.holdings).works };
+          holding = record { untyped = λ on. absurd cc; typed = λ off. (resumed_newest, refl, ap (λ x. Some x) is, refl) };
+          hand = hand_behind r.sees w (λ rs. rs) (λ ys. resumed_newest ∷ ys) (λ ws. new ∷ shed_all ws) resumed_shed;
+        }
+      where
+        no_mark : (u : Bool) → k.unflushed ≡ u → 0 < k.progress → k.unflushed ≡ false
+        no_mark false at some = at
+        no_mark true at some = let none = form.marked at in absurd (omega (arith, none, some))
+
+    -- ---- nothing of it is recorded: it is left dead, with its mark as it was
+    module _ (shut : has_recorded want k ≡ false) (clock : ℕ) (step : Moves v w Clock Load kinds.Look (Some (Shed f i)) clock) where
+      none : k.progress ≡ 0
+      none = recorded_none want k shut (λ plain. (form.page (ap is_table kind_is ∙ plain)).0)
+
+      small : clock < 2 ^ 36
+      small = clock_is_small v.post.machine v.post.vcpu v.holdings clock step.finds
+
+      wanted : IsTrue (not (types.is_none want))
+      wanted = asks_some t i word g want r.sees.sees.asks
+
+      clock_found : IsTrue (some_since (sizes_of w.post.machine) new.since Clock (λ y. y == clock) w.holdings.steps)
+      unfolding left_by
+      clock_found =
+          let one = moves_longer r.from v _ _ _ _ _ r.step in
+          subst (λ (q : Post). IsTrue (some_since (sizes_of q.machine) new.since Clock (λ y. y == clock) w.holdings.steps)) (sym (ap (λ (q : PortValue). q.post) resumed_shed ∙ sym (ap (λ (q : PortValue). q.post) came_in)))
+          (moves_since v w Clock Load kinds.Look (Some (Shed f i)) clock step new.since (λ y. y == clock) (omega (arith, one)) (when_eq clock clock refl))
+
+      pub dead_may : MayLeave w g (dead_kind want k.unflushed clock)
+      dead_may =
+          may_leave_dead w g want new shed_here wanted k.unflushed clock (ap (λ (x : KindWord). x.kind) new_fields ∙ kind_is) none (inl (sym (ap (λ (x : KindWord). x.unflushed) new_fields))) small clock_found (λ work. shed_held)
+
+      abbrev dead_ref : Reference
+      dead_ref = record { frame = g; owner = typed_owner g w.holdings }
+
+      module _ (d : PortValue) (dead : Holds w d (left w g (dead_kind want k.unflushed clock))) where
+        dead_hand : Holds r.from d (record r.from.holdings { refs = dead_ref ∷ r.from.holdings.refs; works = shed_all r.from.holdings.works })
+        dead_hand =
+            dead ∙ ap (λ (h : Holdings). still (record w { holdings = h })) (left_dead w g want new shed_here wanted k.unflushed clock small new_in_work)
+            ∙ ap (λ (q : PortValue). still (record q { holdings = record q.holdings { refs = dead_ref ∷ q.holdings.refs; typed = without_typed g q.holdings.typed; works = without_work g q.holdings.works } })) resumed_shed
+            ∙ ap (λ xs. still (record r.from { holdings = record r.from.holdings { refs = dead_ref ∷ r.from.holdings.refs; typed = xs; works = without_work g (new ∷ shed_all r.from.holdings.works) } })) (without_newest (λ (e : TypedReference). e.frame) g resumed_newest r.from.holdings.typed refl)
+            ∙ ap (λ ws. still (record r.from { holdings = record r.from.holdings { refs = dead_ref ∷ r.from.holdings.refs; works = ws } })) (without_newest (λ (e : Work). e.frame) g new (shed_all r.from.holdings.works) refl)
+
+        pub dead_gives : MayPut g d.holdings
+        dead_gives =
+            record {
+              held = subst (λ rs. 0 < refs_to g rs) (sym (ap (λ (q : PortValue). q.holdings.refs) dead_hand)) (newest_held g dead_ref r.from.holdings.refs refl);
+              spares = apart_spares g d.holdings (ap (λ (q : PortValue). work_on g q.holdings.works) dead_hand ∙ none_after (λ (e : Work). e.frame) g f (λ e. record e { recorded = i; unsettled = None }) r.from.holdings.works (λ e. refl) apart);
+            }
+
+        pub dead_works : MayWork w → MayWork d
+        dead_works m =
+            record {
+              running = ap (λ (q : PortValue). q.holdings.run) dead_hand ∙ sym (ap (λ (q : PortValue). q.holdings.run) resumed_shed) ∙ m.running;
+              no_walk = ap (λ (q : PortValue). q.holdings.walk) dead_hand ∙ sym (ap (λ (q : PortValue). q.holdings.walk) resumed_shed) ∙ m.no_walk;
+              machine = subst (λ (p : Post). IsMachine p.machine) (sym (ap (λ (q : PortValue). q.post) dead_hand ∙ sym (ap (λ (q : PortValue). q.post) resumed_shed))) m.machine;
+            }
+
+        pub dead_given : (z : PortValue) → Holds d z (gave g d.holdings) → Holds b z (shed_once f i word b.holdings)
+        dead_given z given =
+            hand_behind r.sees z (λ rs. rs) (λ ys. ys) shed_all
+            (given ∙ ap (λ (q : PortValue). still (record q { holdings = gave g q.holdings })) dead_hand
+            ∙ ap (λ rs. still (record r.from { holdings = record r.from.holdings { refs = rs; works = shed_all r.from.holdings.works } })) (without_newest (λ (e : Reference). e.frame) g dead_ref r.from.holdings.refs refl))

@@ -4,7 +4,7 @@ use Rattle.xp_words.specs.Entries.{demand_at}
 use Rattle.xp_words.specs.declared.entry.Demand.{Demand}
 use Rattle.xp_words.specs.declared.entry.Demand.TheVariants.{Bad, Nothing, Read, Typed}
 use Rattle.xp_words.specs.declared.kind.PageType.{PageType}
-use Rattle.xp_words.specs.declared.place.Place.TheVariants.{Cell}
+use Rattle.xp_words.specs.declared.place.Place.TheVariants.{Cell, Refs}
 use Rattle.xp_words.specs.Places.{sizes_of}
 use Rattle.xp_board.specs.declared.holdings.Holdings.{Holdings}
 use Rattle.xp_board.specs.declared.holdings.Work.{Work}
@@ -18,15 +18,20 @@ use Rattle.board_lemmas.proofs.ListChanges.{first_by-changed_here}
 use Rattle.board_lemmas.proofs.ListCounts.{first_by-cons_here}
 use Rattle.board_lemmas.proofs.WorkFacts.{work_word, works_facts}
 use Rattle.step_maker.specs.Holds.{Holds, still}
-use Rattle.table_words.specs.Entries.{entry_shed}
+use Rattle.table_words.specs.Entries.{entry_shed, ShedsLast}
 use Rattle.table_words.proofs.EntryHands.{shed_left}
 use Rattle.table_entries.specs.Tops.{with_recorded}
 use Rattle.table_entries.proofs.HandReady.{unmarked_learns}
-use Rattle.table_entries.proofs.LastSeen.{SeenLast, finds_inside, finds_plain, learned_seen, seen_sheds}
+use Rattle.table_entries.proofs.LastEntry.{SeenLast, finds_inside, finds_plain, learned_seen, seen_sheds}
 use Rattle.table_releases.specs.Between.{SeesLast}
 use Rattle.table_releases.specs.Tops.{IsSettledTop}
+use Rattle.xp_board.specs.declared.step.Act.TheVariants.{Load}
+use Rattle.xp_board.specs.declared.step.Mark.TheVariants.{Shed}
+use Rattle.board_lemmas.proofs.Numbers.{refs_there}
+use Rattle.step_maker.specs.Moves.{May}
+use Rattle.xp_board.specs.declared.step.StepKind.TheVariants as kinds
 
-module _ (b v : PortValue) (f i : ℕ) (t : PageType) (word : ℕ) (l : SeesLast b v f i t word) where
+module _ {b v : PortValue} {f i : ℕ} {t : PageType} {word : ℕ} (l : SeesLast b v f i t word) where
   pub top_here : work_on f b.holdings.works ≡ Some l.works.top
   top_here = ap (λ ws. work_on f ws) l.works.works ∙ first_by-cons_here (λ (y : Work). y.frame) f l.works.top l.works.others l.works.frame
 
@@ -42,11 +47,11 @@ module _ (b v : PortValue) (f i : ℕ) (t : PageType) (word : ℕ) (l : SeesLast
   -- what it names is a frame of the machine
   pub plain_there : (g : ℕ) → demand_at t i word ≡ Read g → g < b.post.machine.frames
   plain_there g asks =
-      finds_plain b.post.machine b.post.vcpu b.holdings (Cell f i) word l.look.finds f i t l.works.top top_here l.works.kind l.works.table l.works.recorded (demand_at t i word) looked_asks g asks
+      finds_plain l.look.finds f i t l.works.top top_here l.works.kind l.works.table l.works.recorded g (looked_asks ∙ asks)
 
   pub typed_there : (g : ℕ) (want : PageType) → demand_at t i word ≡ Typed g want → g < b.post.machine.frames
   typed_there g want asks =
-      finds_inside b.post.machine b.post.vcpu b.holdings (Cell f i) word l.look.finds f i t l.works.top top_here l.works.kind l.works.table l.works.recorded (demand_at t i word) looked_asks g want asks
+      finds_inside l.look.finds f i t l.works.top top_here l.works.kind l.works.table l.works.recorded g want (looked_asks ∙ asks)
 
   abbrev pub looked_seen : SeenLast f i t word v.holdings
   looked_seen =
@@ -59,7 +64,7 @@ module _ (b v : PortValue) (f i : ℕ) (t : PageType) (word : ℕ) (l : SeesLast
       ap (λ (y : Work). y.unsettled) (unmarked_learns i word l.works.top l.works.unmarked) ∙ ap (λ o. learned_last i l.works.top.recorded word o) (settled l.works.top l.works.others l.works.works)
 
 -- ---- shed
-module _ (v w : PortValue) (f i : ℕ) (t : PageType) (word : ℕ) (l : SeenLast f i t word v.holdings) (shed : Holds v w (entry_shed v.post.machine f i v.holdings)) where
+module _ (v w : PortValue) {f i : ℕ} {t : PageType} {word : ℕ} (l : SeenLast f i t word v.holdings) (shed : Holds v w (entry_shed v.post.machine f i v.holdings)) where
   -- whether its frame is known live
   abbrev pub shed_sure : Bool
   shed_sure = is_settled (sizes_of v.post.machine) v.holdings l.work
@@ -90,3 +95,8 @@ module _ (v w : PortValue) (f i : ℕ) (t : PageType) (word : ℕ) (l : SeenLast
           ≡ still (record v { holdings = record (with_recorded f i None v.holdings) { typed = brought_as sure g want v.holdings ∷ v.holdings.typed } })
       by_sure true = refl
       by_sure false = refl
+
+-- ---- When an entry may be shed with a look at a reference word.
+pub may_shed_by_owner : (v : PortValue) (t upto f : ℕ) → f < v.post.machine.frames → ShedsLast t upto v.holdings → May v (Refs f) Load kinds.Look (Some (Shed t upto))
+may_shed_by_owner v t upto f frame last =
+    record { place = refs_there (sizes_of v.post.machine) f frame; marked = (last.work, last.may); running = λ needs. absurd cc; spelling = tt; act = tt }

@@ -32,13 +32,11 @@ use Rattle.step_maker.proofs.Noting.{moves_since}
 use Rattle.frame_types.specs.Lowering.{DropsType}
 use Rattle.flush_waits.proofs.Growing.{came_grows, knows_later}
 use Rattle.table_entries.proofs.HandLists.{asks_below}
-use Rattle.table_entries.proofs.LastSeen.{SeenLast, finds_owned, seen_asks}
+use Rattle.table_entries.proofs.LastEntry.{SeenLast, finds_owned, seen_asks}
 use Rattle.table_words.specs.Entries.{entry_shed}
 use Rattle.table_releases.specs.Between.{Resumed, SeesKind}
-use Rattle.table_releases.proofs.Finding.{kind_came}
-use Rattle.table_releases.proofs.FrameSeen.{kind_post, now_seen}
-use Rattle.table_releases.proofs.HandLive.{closed, closed_ref, live_shed, newest}
-use Rattle.table_releases.proofs.HandResumed.{came_in, resumed_newest, resumed_post, resumed_seen, resumed_shed}
+use Rattle.table_releases.proofs.FrameSeen.{kind_came, kind_post, now_seen}
+use Rattle.table_releases.proofs.HandLive.{came_in, closed, closed_ref, live_shed, newest, resumed_newest, resumed_post, resumed_seen, resumed_shed}
 
 -- ---- a look at a cell leaves what is known of owners
 some_changed : {A : Type 0} (test : A → Bool) (key : A → ℕ) (f : ℕ) (change : A → A) (xs : List A) → ((x : A) → test (change x) ≡ test x) → some_of test (changed_by key f change xs) ≡ some_of test xs
@@ -83,18 +81,18 @@ look_owns : (v w : PortValue) (f i : ℕ) (t : PageType) (word g : ℕ) (want : 
 unfolding left_by
 look_owns v w f i t word g want y s asks table look o knows =
     let finds = look.finds in
-    let asked = seen_asks v.post.machine v.post.vcpu v.holdings (Refs g) y finds f i t word s ∙ asks in
+    let asked = seen_asks finds s ∙ asks in
     let table_owned = (finds.sound.found v.post.vcpu finds.real).owners f o (subst (λ (u : Holdings). IsTrue (knows_owner (sizes_of v.post.machine) f o u)) (sym finds.mine) knows) in
     let above = above_one t (subst (λ x. IsTrue (is_table x)) (asks_below t i word g want asks) table) in
-    let owned = finds_owned v.post.machine v.post.vcpu v.holdings (Refs g) y finds f i t s.work s.here s.kind s.table s.last (Typed g want) asked g want refl o table_owned above in
+    let owned = finds_owned finds f i t s.work s.here s.kind s.table s.last g want asked o table_owned above in
     let here : owner_of y ≡ Some o = ap owner_of (sym finds.word) ∙ owned in
     moves_since v w (Refs g) Load kinds.Look (Some (Shed f i)) y look (length v.holdings.steps) (is_owned_by o) (omega arith) (owned_is y o here)
 
-module _ (b v : PortValue) (f i : ℕ) (t : PageType) (word g : ℕ) (want : PageType) (x : ℕ) (l : SeesKind b v f i t word g want x) where
+module _ {b v : PortValue} {f i : ℕ} {t : PageType} {word g : ℕ} {want : PageType} {x : ℕ} (l : SeesKind b v f i t word g want x) where
   -- the owner of the table is known behind the looks
   pub still_known : (o : ℕ) → IsTrue (knows_owner (sizes_of b.post.machine) f o b.holdings) → IsTrue (knows_owner (sizes_of b.post.machine) f o v.holdings)
   still_known o knows =
-      knows_later (sizes_of b.post.machine) f o (record b.holdings { locks = changed_lock f (learned_lock i word) b.holdings.locks }) v.holdings (came_grows b v (kind_came b v f i t word g want x l))
+      knows_later (sizes_of b.post.machine) f o (record b.holdings { locks = changed_lock f (learned_lock i word) b.holdings.locks }) v.holdings (came_grows b v (kind_came l))
       (ap (λ (q : PortValue). q.holdings.refs) l.same ∙ ap (λ (q : PortValue). q.holdings.refs) l.sees.sees.hand)
       (ap (λ (q : PortValue). q.holdings.typed) l.same ∙ ap (λ (q : PortValue). q.holdings.typed) l.sees.sees.hand)
       (ap (λ (q : PortValue). q.holdings.locks) l.same ∙ ap (λ (q : PortValue). q.holdings.locks) l.sees.sees.hand)
@@ -104,31 +102,31 @@ module _ (b v : PortValue) (f i : ℕ) (t : PageType) (word g : ℕ) (want : Pag
   pub live_owned : (live : is_live_word x ≡ true) (w : PortValue) (y : ℕ) (look : Moves v w (Refs g) Load kinds.Look (Some (Shed f i)) y) (shed : Holds v w (entry_shed v.post.machine f i v.holdings)) (z : PortValue) (drops : DropsType w z g true) →
       is_table want ≡ true → (o : ℕ) → IsTrue (knows_owner (sizes_of b.post.machine) f o b.holdings) → IsTrue (knows_owner (sizes_of b.post.machine) g o z.holdings)
   live_owned live w y look shed z drops table o knows =
-      let brings = newest b v f i t word g want x l live w shed in
-      let typed_are : w.holdings.typed ≡ brings ∷ v.holdings.typed = ap (λ (q : PortValue). q.holdings.typed) (live_shed b v f i t word g want x l live w shed) in
+      let brings = newest l live w shed in
+      let typed_are : w.holdings.typed ≡ brings ∷ v.holdings.typed = ap (λ (q : PortValue). q.holdings.typed) (live_shed l live w shed) in
       let owner_is : typed_owner g w.holdings ≡ owner_from v.holdings =
       ap (λ xs. owner_by_typed (typed_on g xs) (owner_from w.holdings)) typed_are ∙ ap (λ e. owner_by_typed e (owner_from w.holdings)) (first_by-cons_here (λ (e : TypedReference). e.frame) g brings v.holdings.typed refl)
       in
-      let now_known = subst (λ (p : Post). IsTrue (knows_owner (sizes_of p.machine) f o v.holdings)) (sym (kind_post b v f i t word g want x l)) (still_known o knows) in
-      let tells = look_owns v w f i t word g want y (now_seen b v f i t word g want x l) l.sees.asks table look o now_known in
+      let now_known = subst (λ (p : Post). IsTrue (knows_owner (sizes_of p.machine) f o v.holdings)) (sym (kind_post l)) (still_known o knows) in
+      let tells = look_owns v w f i t word g want y (now_seen l) l.sees.asks table look o now_known in
       let later : tells_owner (sizes_of v.post.machine) z.holdings.steps g o (owner_from v.holdings) ≡ true = came_grows w z (moves_came w z _ _ _ _ _ drops.lowers.step) _ tells in
-      subst (λ (p : Post). IsTrue (knows_owner (sizes_of p.machine) g o z.holdings)) (kind_post b v f i t word g want x l)
-      (known_by_ref (sizes_of v.post.machine) g o (closed_ref b v f i t word g want x l live w shed z drops table) v.holdings.refs z.holdings
-      (ap (λ (q : PortValue). q.holdings.refs) (closed b v f i t word g want x l live w shed z drops table)) refl
+      subst (λ (p : Post). IsTrue (knows_owner (sizes_of p.machine) g o z.holdings)) (kind_post l)
+      (known_by_ref (sizes_of v.post.machine) g o (closed_ref l live w shed z drops table) v.holdings.refs z.holdings
+      (ap (λ (q : PortValue). q.holdings.refs) (closed l live w shed z drops table)) refl
       (subst (λ e. tells_owner (sizes_of v.post.machine) z.holdings.steps g o e ≡ true) (sym owner_is) later))
 
 -- ---- partial, and in work then
-module _ (b v : PortValue) (f i : ℕ) (t : PageType) (word g : ℕ) (want : PageType) (k : KindWord) (r : Resumed b v f i t word g want k) where
+module _ {b v : PortValue} {f i : ℕ} {t : PageType} {word g : ℕ} {want : PageType} {k : KindWord} (r : Resumed b v f i t word g want k) where
   in_known : (o : ℕ) → IsTrue (knows_owner (sizes_of b.post.machine) f o b.holdings) → IsTrue (knows_owner (sizes_of v.post.machine) f o v.holdings)
   in_known o knows =
-      subst (λ (p : Post). IsTrue (knows_owner (sizes_of p.machine) f o v.holdings)) (sym (resumed_post b v f i t word g want k r))
+      subst (λ (p : Post). IsTrue (knows_owner (sizes_of p.machine) f o v.holdings)) (sym (resumed_post r))
       (knows_later (sizes_of b.post.machine) f o r.from.holdings v.holdings (came_grows r.from v (moves_came r.from v _ _ kinds.Kind None _ r.step))
-      (ap (λ (q : PortValue). q.holdings.refs) (came_in b v f i t word g want k r)) (ap (λ (q : PortValue). q.holdings.typed) (came_in b v f i t word g want k r))
-      (ap (λ (q : PortValue). q.holdings.locks) (came_in b v f i t word g want k r)) (still_known b r.from f i t word g want r.found r.sees o knows))
+      (ap (λ (q : PortValue). q.holdings.refs) (came_in r)) (ap (λ (q : PortValue). q.holdings.typed) (came_in r))
+      (ap (λ (q : PortValue). q.holdings.locks) (came_in r)) (still_known r.sees o knows))
 
   pub resumed_owned : (w : PortValue) (y : ℕ) → Moves v w (Refs g) Load kinds.Look (Some (Shed f i)) y → Holds v w (entry_shed v.post.machine f i v.holdings) → is_table want ≡ true → (o : ℕ) →
       IsTrue (knows_owner (sizes_of b.post.machine) f o b.holdings) → IsTrue (knows_owner (sizes_of b.post.machine) g o w.holdings)
   resumed_owned w y look shed table o knows =
-      let tells = look_owns v w f i t word g want y (resumed_seen b v f i t word g want k r) r.sees.sees.asks table look o (in_known o knows) in
-      subst (λ (p : Post). IsTrue (knows_owner (sizes_of p.machine) g o w.holdings)) (resumed_post b v f i t word g want k r)
-      (known_first (sizes_of v.post.machine) g o (resumed_newest b v f i t word g want k r w shed) r.from.holdings.typed w.holdings (ap (λ (q : PortValue). q.holdings.typed) (resumed_shed b v f i t word g want k r w shed)) refl tells)
+      let tells = look_owns v w f i t word g want y (resumed_seen r) r.sees.sees.asks table look o (in_known o knows) in
+      subst (λ (p : Post). IsTrue (knows_owner (sizes_of p.machine) g o w.holdings)) (resumed_post r)
+      (known_first (sizes_of v.post.machine) g o (resumed_newest r w shed) r.from.holdings.typed w.holdings (ap (λ (q : PortValue). q.holdings.typed) (resumed_shed r w shed)) refl tells)

@@ -19,7 +19,9 @@ use Rattle.answer_fits.specs.Answers.{Serves, Stops, misses}
 use Rattle.frame_types.specs.Taking.{IsOfOther}
 use Rattle.kind_words.specs.Kinds.{resumed_work}
 use Rattle.table_entries.specs.Asking.{LooksOnly, of_entries}
-use Rattle.table_releases.specs.Tops.{IsReleaseStop, LeavesReleased, OwnsReleased, ReleasesTop, ShowsReleased, StaysRecorded}
+use Rattle.table_releases.specs.Found.{ReleasesFound}
+use Rattle.table_releases.specs.Plain.{TwinRelease}
+use Rattle.table_releases.specs.Tops.{IsReleaseStop, IsSettledTop, IsShedLive, LeavesReleased, OwnsReleased, ReleasesTop, ShowsReleased, StaysRecorded}
 use Rattle.table_releases.specs.declared.entries.Released.{Released}
 
 -- from b to v entry i of frame f was looked at, the last recorded one of the newest own work
@@ -88,6 +90,18 @@ pub record Releases (v w : PortValue) (f i : ℕ) (t : PageType) (owner pages : 
   pub shows : IfOk answer (λ a. ShowsReleased v w owner pages t a)
   pub looks : LooksOnly v w f i
 
--- and what they leave in hand
-abbrev pub HandReleased : PortValue → PortValue → ℕ → ℕ → PageType → Result Released Stop → Type 0
-HandReleased v w f i t answer = MatchResult answer (λ a. LeavesReleased v w f t i a × OwnsReleased v w f a) (λ _. StaysRecorded v w f i)
+-- ---- what a call ensures
+pub record ReleasesEntry (v w : PortValue) (f i : ℕ) (t : PageType) (answer : Result Released Stop) : Type 0 where
+  pub serves : (owner pages : ℕ) → Serves v w (of_entries owner pages) (misses v.post.machine answer)
+  pub stops : (owner pages : ℕ) → IfErr answer (λ e. Stops v w (of_entries owner pages) e)
+  pub kinds : IfErr answer IsReleaseStop
+  -- so it stops only where the last entry was noted as unsettled: then its frame may be partial, or in another vCPU's work
+  pub settled : IsSettledTop v.holdings → IsShedLive answer
+  pub shows : (owner pages : ℕ) → IfOk answer (λ a. ShowsReleased v w owner pages t a)
+  pub looks : LooksOnly v w f i
+  pub hand : MatchResult answer (λ a. LeavesReleased v w f t i a) (λ _. StaysRecorded v w f i)
+  pub owned : IfOk answer (λ a. OwnsReleased v w f a)
+  -- by the words that the steps found
+  pub found : ReleasesFound v w f i t answer
+  -- on a board that tells all words
+  pub plain : TwinRelease v w f t i answer

@@ -1,5 +1,5 @@
 //! The last recorded entry of a table, given back.
-ghost use Rattle.std.specs.Prelude.{◌≡◌, ◌+◌, ◌<◌, ℕ, [], Some, None, Ok, true, IfOk, IfErr, MatchResult, IsTrue};
+ghost use Rattle.std.specs.Prelude.{◌≡◌, ◌+◌, ◌<◌, ℕ, [], Some, Ok, true, IsTrue};
 ghost use Rattle.xp_words.specs.Entries.{below};
 ghost use Rattle.xp_words.specs.KindWords.{kind_read};
 ghost use Rattle.xp_words.specs.declared.place.Place.TheVariants.{Refs};
@@ -7,16 +7,13 @@ ghost use Rattle.xp_board.specs.Readings.{is_partial};
 ghost use Rattle.xp_board.specs.declared.step.Act.TheVariants.{Load};
 ghost use Rattle.xp_board.specs.declared.step.Mark.TheVariants.{Shed};
 ghost use Rattle.xp_board.specs.declared.step.StepKind.TheVariants as kinds;
-ghost use Rattle.answer_fits.specs.Answers.{Serves, Stops, misses};
 ghost use Rattle.frame_types.specs.Taking.{IsOfOther};
 ghost use Rattle.kind_words.specs.Kinds.{dead_kind};
 ghost use Rattle.step_maker.specs.Holds.{Holds, MayWork};
 ghost use Rattle.step_maker.specs.Moves.{Moves};
-ghost use Rattle.table_entries.specs.Asking.{LooksOnly, of_entries};
-ghost use Rattle.table_releases.specs.Between.{FromKind, FromLive, FromResumed, FromTyped, HandReleased, HasResumed, HasSeenKind, HasSeenLive, HasSeenTyped, Releases};
-ghost use Rattle.table_releases.specs.Found.{ReleasesFound, has_recorded};
-ghost use Rattle.table_releases.specs.Plain.{TwinRelease};
-ghost use Rattle.table_releases.specs.Tops.{IsReleaseStop, IsSettledTop, IsShedLive, LeavesReleased, OwnsReleased, ReleasesTop, ShowsReleased, StaysRecorded};
+ghost use Rattle.table_releases.specs.Between.{FromKind, FromLive, FromResumed, FromTyped, HasResumed, HasSeenKind, HasSeenLive, HasSeenTyped, ReleasesEntry};
+ghost use Rattle.table_releases.specs.Found.{has_recorded};
+ghost use Rattle.table_releases.specs.Tops.{ReleasesTop};
 ghost use Rattle.table_words.specs.Entries.{ShedsLast, entry_shed};
 
 use frame_types::{drop_plain, drop_type};
@@ -59,19 +56,7 @@ pub fn release_entry<P: Port>(
     // No frame in the own works is of the type that the entries ask: each is of a level above.
     requires above { (g : ℕ) → IsOfOther g (below kind) (P.value port.old).holdings }
     requires looked { (P.value port.old).holdings.looking ≡ [] }
-    ensures serves { (owner pages : ℕ) → Serves (P.value port.old) (P.value port.new) (of_entries owner pages) (misses (P.value port.old).post.machine result) }
-    ensures stops { (owner pages : ℕ) → IfErr result (λ e. Stops (P.value port.old) (P.value port.new) (of_entries owner pages) e) }
-    ensures kinds { IfErr result IsReleaseStop }
-    // So it stops only where the last entry was noted as unsettled: then its frame may be partial, or in another vCPU's work.
-    ensures settled { IsSettledTop (P.value port.old).holdings → IsShedLive result }
-    ensures shows { (owner pages : ℕ) → IfOk result (λ a. ShowsReleased (P.value port.old) (P.value port.new) owner pages kind a) }
-    ensures looks { LooksOnly (P.value port.old) (P.value port.new) table index }
-    ensures hand { MatchResult result (λ a. LeavesReleased (P.value port.old) (P.value port.new) table kind index a) (λ _. StaysRecorded (P.value port.old) (P.value port.new) table index) }
-    ensures owned { IfOk result (λ a. OwnsReleased (P.value port.old) (P.value port.new) table a) }
-    // By the words that the steps found.
-    ensures found { ReleasesFound (P.value port.old) (P.value port.new) table index kind result }
-    // On a board that tells all words.
-    ensures plain { TwinRelease (P.value port.old) (P.value port.new) table kind index result }
+    ensures { ReleasesEntry (P.value port.old) (P.value port.new) table index kind result }
 {
     let word = look_cell(port, table, index);
     match demand(kind, index, word) {
@@ -100,11 +85,7 @@ fn release_typed<P: Port>(
 ) -> Result<Released, Stop>
     requires may { MayWork (P.value port.old) }
     requires seen { HasSeenTyped (P.value port.old) table index frame want }
-    ensures goes { FromTyped (P.value port.old) table index frame want (λ b t. (owner pages : ℕ) → Releases b (P.value port.new) table index t owner pages result) }
-    ensures hand { FromTyped (P.value port.old) table index frame want (λ b t. HandReleased b (P.value port.new) table index t result) }
-    ensures found { FromTyped (P.value port.old) table index frame want (λ b t. ReleasesFound b (P.value port.new) table index t result) }
-    ensures plain { FromTyped (P.value port.old) table index frame want (λ b t. TwinRelease b (P.value port.new) table t index result) }
-    ensures settled { FromTyped (P.value port.old) table index frame want (λ b t. IsSettledTop b.holdings → IsShedLive result) }
+    ensures { FromTyped (P.value port.old) table index frame want (λ b t. ReleasesEntry b (P.value port.new) table index t result) }
 {
     let word = look_kind(port, frame);
     let kind = read_kind(word);
@@ -127,11 +108,7 @@ fn release_live<P: Port>(
 ) -> Released
     requires may { MayWork (P.value port.old) }
     requires seen { HasSeenLive (P.value port.old) table index frame want }
-    ensures goes { FromLive (P.value port.old) table index frame want (λ b t. (owner pages : ℕ) → Releases b (P.value port.new) table index t owner pages (Ok result)) }
-    ensures hand { FromLive (P.value port.old) table index frame want (λ b t. HandReleased b (P.value port.new) table index t (Ok result)) }
-    ensures found { FromLive (P.value port.old) table index frame want (λ b t. ReleasesFound b (P.value port.new) table index t (Ok result)) }
-    ensures plain { FromLive (P.value port.old) table index frame want (λ b t. TwinRelease b (P.value port.new) table t index (Ok result)) }
-    ensures lived { IsShedLive (Ok result) }
+    ensures { FromLive (P.value port.old) table index frame want (λ b t. ReleasesEntry b (P.value port.new) table index t (Ok result)) }
 {
     shed_by_owner(port, table, index, frame);
     if !want.is_table() {
@@ -163,10 +140,7 @@ fn release_partial<P: Port>(
     requires seen { HasSeenKind (P.value port.old) table index frame want word }
     requires read { kind_read word ≡ Some kind }
     requires partial { IsTrue (is_partial kind) }
-    ensures goes { FromKind (P.value port.old) table index frame want word (λ b t. (owner pages : ℕ) → Releases b (P.value port.new) table index t owner pages result) }
-    ensures hand { FromKind (P.value port.old) table index frame want word (λ b t. HandReleased b (P.value port.new) table index t result) }
-    ensures found { FromKind (P.value port.old) table index frame want word (λ b t. ReleasesFound b (P.value port.new) table index t result) }
-    ensures plain { FromKind (P.value port.old) table index frame want word (λ b t. TwinRelease b (P.value port.new) table t index result) }
+    ensures { FromKind (P.value port.old) table index frame want word (λ b t. ReleasesEntry b (P.value port.new) table index t result) }
 {
     match resume_work(port, frame, kind) {
         Ok(()) => Ok(shed_resumed(port, table, index, frame, want, kind)),
@@ -186,10 +160,7 @@ fn shed_resumed<P: Port>(
 ) -> Released
     requires may { MayWork (P.value port.old) }
     requires seen { HasResumed (P.value port.old) table index frame want kind }
-    ensures goes { FromResumed (P.value port.old) table index frame want kind (λ b t. (owner pages : ℕ) → Releases b (P.value port.new) table index t owner pages (Ok result)) }
-    ensures hand { FromResumed (P.value port.old) table index frame want kind (λ b t. HandReleased b (P.value port.new) table index t (Ok result)) }
-    ensures found { FromResumed (P.value port.old) table index frame want kind (λ b t. ReleasesFound b (P.value port.new) table index t (Ok result)) }
-    ensures plain { FromResumed (P.value port.old) table index frame want kind (λ b t. TwinRelease b (P.value port.new) table t index (Ok result)) }
+    ensures { FromResumed (P.value port.old) table index frame want kind (λ b t. ReleasesEntry b (P.value port.new) table index t (Ok result)) }
 {
     if has_recorded(want, kind) {
         shed_by_owner(port, table, index, frame);

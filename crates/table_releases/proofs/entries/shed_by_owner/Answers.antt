@@ -1,4 +1,4 @@
-use Rattle.table_releases.proofs.Shedding.{may_shed_by_owner}
+use Rattle.table_releases.proofs.Looking.{may_shed_by_owner}
 use Rattle.table_releases.proofs.entries.shed_by_owner.Goals as goal
 
 pub make-requires : goal.make-requires
