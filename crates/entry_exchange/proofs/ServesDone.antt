@@ -1,5 +1,5 @@
 -- An exchange as a whole: by its answer, what a guest sees of it, and why it is not done.
-use Rattle.std.proofs.Common.{◌≡◌, ◌⊎◌, ℕ, Bool, List, [], ◌∷◌, ◌++◌, Option, Some, None, Result, Ok, Err, IfErr, refl, sym, ap, ◌∙◌, subst, append-nil, inl}
+use Rattle.std.proofs.Common.{◌≡◌, ◌⊎◌, ℕ, Bool, List, [], ◌∷◌, ◌++◌, Option, Some, None, Result, Ok, Err, refl, sym, ap, ◌∙◌, subst, append-nil, inl}
 use Rattle.xp_words.specs.declared.entry.Demand.{Demand}
 use Rattle.xp_words.specs.declared.entry.Demand.TheVariants.{Bad, Nothing, Read, Typed}
 use Rattle.xp_words.specs.declared.kind.PageType.{PageType}
@@ -175,10 +175,3 @@ module _ (a b : PortValue) (x : EntryUpdate) (o : Owners) (seen : ℕ) (holds : 
           let came_l = serves_came a l (of_exchange x o (Ok tt)) (SetsEntry x.table x.index old new ∷ []) unlocked in
           let within = within_giving a.post.machine a.post.vcpu x o (Ok tt) (Met a w) (old_demand x old) (Met l w) (λ m k. met_after a l w m came_l k) asks refl in
           (SetsEntry x.table x.index old new ∷ [], stored seen old, serves_inner a l w (of_exchange x o (Ok tt)) (of_given (old_demand x old) o.tables o.frames) (SetsEntry x.table x.index old new ∷ []) [] within unlocked given)
-
--- ---- by the answer
-pub serves_as : (a w : PortValue) (x : EntryUpdate) (o : Owners) (answer : Result (Unit {0}) Stop) (e : Stop) → answer ≡ Err e → ServesExchange a w x o (Err e) → ServesExchange a w x o answer
-serves_as a w x o answer e is serves = subst (λ y. ServesExchange a w x o y) (sym is) serves
-
-pub stops_as : (a w : PortValue) (x : EntryUpdate) (o : Owners) (answer : Result (Unit {0}) Stop) (e : Stop) → answer ≡ Err e → Stops a w (of_exchange x o (Err e)) e → IfErr answer (λ k. Stops a w (of_exchange x o answer) k)
-stops_as a w x o answer e is stops = subst (λ (y : Result (Unit {0}) Stop). IfErr y (λ k. Stops a w (of_exchange x o y) k)) (sym is) stops
