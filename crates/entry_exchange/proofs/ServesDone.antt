@@ -1,11 +1,10 @@
 -- An exchange as a whole: by its answer, what a guest sees of it, and why it is not done.
-use Rattle.std.proofs.Common.{◌≡◌, ◌⊎◌, ℕ, Bool, List, [], ◌∷◌, ◌++◌, Option, Some, None, Result, Ok, Err, refl, sym, ap, ◌∙◌, subst, append-nil, inl}
+use Rattle.std.proofs.Common.{◌≡◌, ◌⊎◌, ℕ, Bool, List, [], ◌∷◌, ◌++◌, Option, Some, None, Result, Ok, Err, refl, sym, ap, ◌∙◌, subst, append-nil}
 use Rattle.xp_words.specs.declared.entry.Demand.{Demand}
 use Rattle.xp_words.specs.declared.entry.Demand.TheVariants.{Bad, Nothing, Read, Typed}
 use Rattle.xp_words.specs.declared.kind.PageType.{PageType}
 use Rattle.xp_words.specs.declared.place.Place.TheVariants.{Cell, Kind}
 use Rattle.xp_words.specs.declared.reply.Stop.{Stop}
-use Rattle.xp_words.specs.declared.reply.Stop.TheVariants.{Paused, Refused}
 use Rattle.xp_board.specs.declared.holdings.Holdings.{Holdings}
 use Rattle.xp_board.specs.declared.step.Act.{Act}
 use Rattle.xp_board.specs.declared.step.Act.TheVariants.{Cas, Store}
@@ -30,16 +29,12 @@ use Rattle.entry_exchange.specs.Parts.{HoldsSeen, IsOfLevel}
 use Rattle.entry_exchange.specs.Serving.{ServesDemandBehind, ServesGiven, ServesPut, ServesTaken, StopsPut, of_demand, of_given, put_deeds}
 use Rattle.entry_exchange.specs.Words.{word_kept}
 use Rattle.entry_exchange.proofs.ServesChanged.{asks_table_in, came_look, demand_asked, lock_there, look_serves, put_serves, take_serves, take_stops, taken_serves, unlocked_serves}
+use Rattle.entry_exchange.proofs.Taking.{hides_none}
 use Rattle.entry_exchange.proofs.ServesWithin.{asks_by, owner_lower, within_giving}
 
 -- ---- an exchange that was lost is a pause
 put_hides : (v w : PortValue) (f i seen new : ℕ) (keep : Bool) (e : Stop) → PutEntry v w f i seen new keep (Err e) → (ds : List Deed) → (ds ≡ []) ⊎ ((g : ℕ) × (ds ≡ Misses (Kind g) ∷ [])) → IsHidden e ds
 put_hides v w f i seen new keep e (courses.lost found off try) ds hidden = hidden
-
--- nothing is hidden
-hides_none : (e : Stop) → IsHidden e []
-hides_none (Refused x) = refl
-hides_none (Paused x) = inl refl
 
 -- ---- the frames that the old word asks, as the entry was under the own lock
 -- the entry was found by one step there, with that in hand

@@ -86,9 +86,9 @@ nothing_taken {v} {owner} fits (inl is) =
 referring : (v w : PortValue) (g owner pages : ℕ) (rose : Bool) → Within v.post.machine v.post.vcpu (of_frame g owner None) (Met v w) (of_demand (Read g) owner pages rose) (Met v w)
 referring v w g owner pages rose = within_frame v.post.machine v.post.vcpu g owner None (of_demand (Read g) owner pages rose) (Met v w) (Met v w) (λ m a. a) (named (when_eq g g refl) refl tt)
 
-no_hidden : (e : Stop) → IsHidden e []
-no_hidden (Refused x) = refl
-no_hidden (Paused x) = inl refl
+pub hides_none : (e : Stop) → IsHidden e []
+hides_none (Refused x) = refl
+hides_none (Paused x) = inl refl
 
 module _ {v w : PortValue} {owner level g : ℕ} {says : ℕ → Bool} {before agreed : ℕ} where
   pub referred : {h : ℕ} → (h ≡ g) × (h < v.post.machine.frames) → GotRef v w g owner (Ok h) → Serves v w (of_frame g owner None) [] → Holds v w (took h owner v.holdings) →
@@ -111,7 +111,7 @@ module _ {v w : PortValue} {owner level g : ℕ} {says : ℕ → Bool} {before a
       record {
         came = serves_came v w (of_frame g owner None) (missed v.post.machine stop) serves;
         inside = tt;
-        serves = λ pages. record { hidden = []; may = no_hidden stop; serves = serves_within v w (of_frame g owner None) (of_demand (Read g) owner pages (is_due_stop stop)) (missed v.post.machine stop) (within pages) serves };
+        serves = λ pages. record { hidden = []; may = hides_none stop; serves = serves_within v w (of_frame g owner None) (of_demand (Read g) owner pages (is_due_stop stop)) (missed v.post.machine stop) (within pages) serves };
         stops = λ pages. stops_within v w (of_frame g owner None) (of_demand (Read g) owner pages (is_due_stop stop)) stop (within pages) got.stops;
         kinds = why.0;
         hand = (v.holdings.old0, ap quiet same);
@@ -119,14 +119,14 @@ module _ {v w : PortValue} {owner level g : ℕ} {says : ℕ → Bool} {before a
       }
 
 -- ---- a page
+pub hides_mark : (v : PortValue) (owner g : ℕ) (e : Stop) (ds : List Deed) → (ds ≡ []) ⊎ (HidesMark {A = ℕ} v owner (Err e) × (ds ≡ Misses (Kind g) ∷ [])) → IsHidden e ds
+hides_mark v owner g e ds (inl none) = subst (λ xs. IsHidden e xs) (sym none) (hides_none e)
+hides_mark v owner g (Refused x) ds (inr one) = absurd one.0
+hides_mark v owner g (Paused x) ds (inr one) = inr (g, one.1)
+
 module _ (v w : PortValue) (owner g : ℕ) where
   paging : (pages : ℕ) (rose : Bool) → Within v.post.machine v.post.vcpu (of_page v g owner) (Met v w) (of_demand (Typed g Writable) owner pages rose) (Met v w)
   paging pages rose = within_demand v.post.machine v.post.vcpu g owner owner pages Writable (Some Writable) false rose (not (owner == domain_of v.post.machine v.post.vcpu)) false (Met v w) refl (λ on. absurd cc) (λ on. absurd cc)
-
-  unpaged_hides : (e : Stop) (ds : List Deed) → (ds ≡ []) ⊎ (HidesMark {A = ℕ} v owner (Err e) × (ds ≡ Misses (Kind g) ∷ [])) → IsHidden e ds
-  unpaged_hides e ds (inl none) = subst (λ xs. IsHidden e xs) (sym none) (no_hidden e)
-  unpaged_hides (Refused x) ds (inr one) = absurd one.0
-  unpaged_hides (Paused x) ds (inr one) = inr (g, one.1)
 
   unpaged_hand : (d : Demand) (stop : Stop) → LeavesGot v w g owner (Err stop) → LeavesDemand v w d owner (Err stop)
   unpaged_hand d (Refused x) leaves = (v.holdings.old0, leaves)
@@ -160,7 +160,7 @@ module _ {v w : PortValue} {owner g level : ℕ} {says : ℕ → Bool} {before a
         inside = tt;
         serves = λ pages. record {
           hidden = serves.hidden;
-          may = unpaged_hides v w owner g stop serves.hidden serves.may;
+          may = hides_mark v owner g stop serves.hidden serves.may;
           serves = serves_within v w (of_page v g owner) (of_demand (Typed g Writable) owner pages (is_due_stop stop)) (serves.hidden ++ missed v.post.machine stop) (paging v w owner g pages (is_due_stop stop)) serves.serves;
         };
         stops = λ pages. stops_within v w (of_page v g owner) (of_demand (Typed g Writable) owner pages (is_due_stop stop)) stop (paging v w owner g pages (is_due_stop stop)) stops;
@@ -178,7 +178,7 @@ module _ (v w : PortValue) (owner level g : ℕ) where
       (λ on. (level_type-table (level - 1) (omega (arith, above)), refl)) rises
 
   unacquired_hides : (e : Stop) (ds : List Deed) → (ds ≡ []) ⊎ (IsForeign v owner × (is_paused_answer {A = ℕ} (Err e) ≡ true) × (ds ≡ Misses (Kind g) ∷ [])) → IsHidden e ds
-  unacquired_hides e ds (inl none) = subst (λ xs. IsHidden e xs) (sym none) (no_hidden e)
+  unacquired_hides e ds (inl none) = subst (λ xs. IsHidden e xs) (sym none) (hides_none e)
   unacquired_hides (Refused x) ds (inr one) = absurd (let on = one.1 in cc)
   unacquired_hides (Paused x) ds (inr one) = inr (g, one.2)
 

@@ -21,8 +21,9 @@ use Rattle.mmu_update.specs.Fits.{Updates}
 use Rattle.mmu_update.specs.Writing.{MayBeginElement, Ordinary, Referred, UnderLock}
 use Rattle.mmu_update.specs.declared.element.Element.TheVariants.{Write}
 use Rattle.mmu_update.proofs.Holding.{given_up, leaves_rests, leaves_same, lent_by, no_work}
+use Rattle.entry_exchange.proofs.Taking.{hides_none}
 use Rattle.mmu_update.proofs.WriteKinds.{lock_kinds, ref_kinds}
-use Rattle.mmu_update.proofs.Serving.{hides_nothing, referred_serves, referred_stops, unlocked_serves, unlocked_stops}
+use Rattle.mmu_update.proofs.Serving.{referred_serves, referred_stops, unlocked_serves, unlocked_stops}
 
 -- ---- it is not to be had
 pub unreferred : {b w : PortValue} {o : Owners} {f i word : ℕ} {keep : Bool} {e : Stop} → MayBeginElement b o → Serves b w (of_frame f o.tables None) (missed b.post.machine e) → IsRefStop e → Same b w → GotRef b w f o.tables (Err e) →
@@ -30,7 +31,7 @@ pub unreferred : {b w : PortValue} {o : Owners} {f i word : ℕ} {keep : Bool} {
 unreferred {b} {w} {o} {f} {i} {word} {keep} {e} begins serves kind same got =
     let hand = leaves_same b w (ap quiet same) in
     record {
-      serves = (missed b.post.machine e, stopped f i word keep e [] (hides_nothing e), referred_serves o f i word keep (Err e) b w (missed b.post.machine e) serves);
+      serves = (missed b.post.machine e, stopped f i word keep e [] (hides_none e), referred_serves o f i word keep (Err e) b w (missed b.post.machine e) serves);
       stops = referred_stops o f i word keep (Err e) b w e got.stops;
       kinds = ref_kinds e kind;
       numbers = λ x is. absurd cc;
