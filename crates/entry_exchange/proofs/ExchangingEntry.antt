@@ -21,8 +21,7 @@ use Rattle.entry_exchange.specs.Holding.{HoldsLockOf, HoldsTableLock, LeavesExch
 use Rattle.entry_exchange.specs.Parts.{DemandChanged, EntryExchanged, EntryPut, HoldsSeen, LeavesPut, LockLeft}
 use Rattle.entry_exchange.specs.Words.{same_demand, word_kept}
 use Rattle.entry_exchange.proofs.ChangingDemand.{may_standing, undue}
-use Rattle.entry_exchange.proofs.ServesDone.{same_serves, unput_serves, unput_stops}
-use Rattle.entry_exchange.proofs.StopsBad.{bad_serves, bad_stops}
+use Rattle.entry_exchange.proofs.ServesDone.{bad_serves, bad_stops, same_serves, unput_serves, unput_stops}
 use Rattle.entry_exchange.proofs.Steps.{exchange_short}
 use Rattle.xp_preempt.proofs.Consulting.{consulted_none, not_due}
 use Rattle.answer_fits.specs.Answers.{Stops}
@@ -102,7 +101,7 @@ module _ {v b : PortValue} (x : EntryUpdate) (o : Owners) {seen : ℕ} (holds : 
     -- ---- the new word asks what it may not
     pub ended_bad : {w : PortValue} → MayWork v → new_demand x seen ≡ Bad → LockLeft b w x.table x.level → EntryExchanged v w x o says before before agreed agreed (Err (Refused (Reserved x.table x.index (word_kept x.keep seen x.word))))
     ended_bad {w} may bad left =
-        ended may (came_trans v b w came_look left.came) (bad_serves v b w x o seen holds saw left.serves) (bad_stops v b w x o seen holds saw left.serves bad) tt (off_hand b w seen_lock holds.frame behind left.hand)
+        ended may (came_trans v b w came_look left.came) (bad_serves v b x o seen holds saw w left.serves) (bad_stops v b x o seen holds saw w left.serves bad) tt (off_hand b w seen_lock holds.frame behind left.hand)
         (unasked (Err (Refused (Reserved x.table x.index new))) refl (courses.bad b w seen saw bad left.course))
 
   -- ---- it asks the same

@@ -9,7 +9,6 @@ pub mod Lengths
 pub mod LockOff
 pub mod PageKinds
 pub mod Putting
-pub mod ServesChanged
 pub mod ServesDone
 pub mod ServesGiving
 pub mod ServesPut
@@ -18,6 +17,5 @@ pub mod ServesWords
 pub mod Standing
 pub mod Staying
 pub mod Steps
-pub mod StopsBad
 pub mod StopsPutting
 pub mod Taking
