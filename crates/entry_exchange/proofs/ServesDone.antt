@@ -87,6 +87,9 @@ module _ (a b : PortValue) (x : EntryUpdate) (o : Owners) (seen : ℕ) (holds : 
   pub came_look : Came a b
   came_look = moves_came a b (Cell x.table x.index) Load kinds.Look None seen saw
 
+  met_look : (w : PortValue) → Came b w → Met a w (moment_of a (Cell x.table x.index) Load kinds.Look None seen)
+  met_look w came = met_before a b w _ (moves_met a b (Cell x.table x.index) Load kinds.Look None seen saw) came
+
   module _ (answer : Result (Unit {0}) Stop) where
     abbrev whole : Request
     whole = of_exchange x o answer
@@ -99,13 +102,10 @@ module _ (a b : PortValue) (x : EntryUpdate) (o : Owners) (seen : ℕ) (holds : 
 
     -- the frames that the new word asks
     module _ (w : PortValue) (came : Came b w) where
-      met_look : Met a w (moment_of a (Cell x.table x.index) Load kinds.Look None seen)
-      met_look = met_before a b w _ (moves_met a b (Cell x.table x.index) Load kinds.Look None seen saw) came
-
       asks_wanted : (d : Demand) → d ≡ new_demand x seen → (g : ℕ) (k : Option PageType) → IsDemandOf g k (Some d) → Asked n s whole (Met a w) g owner k
       unfolding moment_of
       asks_wanted d is =
-          asks_new n s x o answer (Met a w) holds.lock (moment_of a (Cell x.table x.index) Load kinds.Look None seen) met_look (lock_there a x.table x.level o.tables holds) holds.kind d
+          asks_new n s x o answer (Met a w) holds.lock (moment_of a (Cell x.table x.index) Load kinds.Look None seen) (met_look w came) (lock_there a x.table x.level o.tables holds) holds.kind d
           (is ∙ kept_asks (level_type x.level) x.index x.keep seen x.word)
 
       pub demand_asked : (d : Demand) → d ≡ new_demand x seen → AsksDemand n s whole (Met a w) d
@@ -159,12 +159,9 @@ module _ (a b : PortValue) (x : EntryUpdate) (o : Owners) (seen : ℕ) (holds : 
     pub bad_serves : ServesExchange a w x o (Err stop)
     bad_serves = ([], stopped stop [] refl, unlocked_serves (Err stop) b w [] (look_serves (Err stop)) gives)
 
-    met_look_at : Met a w (moment_of a (Cell x.table x.index) Load kinds.Look None seen)
-    met_look_at = met_before a b w _ (moves_met a b (Cell x.table x.index) Load kinds.Look None seen saw) (serves_came b w (of_back x.table) [] gives)
-
     found_look : FoundAt (Met a w) (Cell x.table x.index) seen
     unfolding moment_of
-    found_look = record { moment = moment_of a (Cell x.table x.index) Load kinds.Look None seen; was = met_look_at; place = refl; word = refl }
+    found_look = record { moment = moment_of a (Cell x.table x.index) Load kinds.Look None seen; was = met_look w (serves_came b w (of_back x.table) [] gives); place = refl; word = refl }
 
     is_new : (keep : Bool) → IsNewWord (Met a w) x.table x.index x.word (word_kept keep seen x.word)
     is_new true = inr (seen, found_look, refl)
@@ -178,7 +175,7 @@ module _ (a b : PortValue) (x : EntryUpdate) (o : Owners) (seen : ℕ) (holds : 
 
       pub bad_stops : Stops a w (of_exchange x o (Err stop)) stop
       unfolding Stops moment_of
-      bad_stops = inr (x.word, moment_of a (Cell x.table x.index) Load kinds.Look None seen, when_eq x.table x.table refl, refl, refl, met_look_at, bad_under, is_new x.keep)
+      bad_stops = inr (x.word, moment_of a (Cell x.table x.index) Load kinds.Look None seen, when_eq x.table x.table refl, refl, refl, met_look w (serves_came b w (of_back x.table) [] gives), bad_under, is_new x.keep)
 
   -- ---- it asks the same, and the word alone is put there
   module _ (z w : PortValue) (gives : Serves z w (of_back x.table) []) where
