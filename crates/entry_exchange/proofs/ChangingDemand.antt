@@ -71,14 +71,15 @@ module _ {v : PortValue} (x : EntryUpdate) (o : Owners) {seen : ℕ} (locked : H
   off_hand u w e a at stands off = let out = off_stands v u w x.table [] [] e a v.holdings.old1 at stands off in leaves v x.table x.level o.tables locked.holds w a out.0 out.1
 
   -- ---- what the new word asks is not to be had
-  module _ {u : PortValue} {says : ℕ → Bool} {before after yes_before yes_after : ℕ} {stop : Stop} (took : DemandTaken v u (owner_at x.level o.tables o.frames) x.level (new_demand x seen) says before after yes_before yes_after (Err stop)) where
+  module _ {u : PortValue} {says : ℕ → Bool} {before after yes_before yes_after : ℕ} {stop : Stop} (took : DemandTaken v u owner x.level wanted says before after yes_before yes_after (Err stop)) where
     untaken : (a : Option ℕ) × Stands v u [] [] (the_lock ∷ []) a v.holdings.old1
     untaken = untaken_stands v u wanted owner the_lock stop begun took.hand
 
     pub untaken_lock : HoldsLockOf u x.table x.level
     untaken_lock = lock_of v u [] [] the_lock untaken.0 v.holdings.old1 untaken.1 x.table x.level locked.holds.frame locked.holds.kind
 
-    pub untaken_changed : {w : PortValue} → new_demand x seen ≢ Bad → same_demand (new_demand x seen) (old_demand x seen) ≡ false → LockLeft u w x.table x.level → DemandChanged v w x o seen says before after yes_before yes_after (Err stop)
+    pub untaken_changed : {w : PortValue} → wanted ≢ Bad → same_demand wanted (old_demand x seen) ≡ false → LockLeft u w x.table x.level →
+        DemandChanged v w x o seen says before after yes_before yes_after (Err stop)
     untaken_changed {w} fits other left =
         let by = took.course in
         record {
@@ -91,27 +92,29 @@ module _ {v : PortValue} (x : EntryUpdate) (o : Owners) {seen : ℕ} (locked : H
         }
 
   -- ---- it is in hand
-  module _ {u : PortValue} {says : ℕ → Bool} {before after yes_before yes_after : ℕ} (took : DemandTaken v u (owner_at x.level o.tables o.frames) x.level (new_demand x seen) says before after yes_before yes_after (Ok tt)) where
+  module _ {u : PortValue} {says : ℕ → Bool} {before after yes_before yes_after : ℕ} (took : DemandTaken v u owner x.level wanted says before after yes_before yes_after (Ok tt)) where
     taken : Stands v u (refs_of wanted owner) (typed_of wanted owner) (the_lock ∷ []) v.holdings.old0 v.holdings.old1
     taken = took_stands v u wanted owner the_lock begun took.hand
 
-    pub may_put : MayMapFor v o → new_demand x seen ≢ Bad → MaySwapEntry u.post.machine x.table x.index seen (word_kept x.keep seen x.word) u.holdings
+    pub may_put : MayMapFor v o → wanted ≢ Bad → MaySwapEntry u.post.machine x.table x.index seen new u.holdings
     may_put maps fits =
         may_change v u the_lock x.table x.index seen new x.level o wanted v.holdings.old0 v.holdings.old1 taken locked.holds.frame locked.holds.kind locked.holds.owned locked.holds.others.works
         (may_map v u o took.came (ap (λ (q : PortValue). q.holdings.turn) taken) maps) (fits_it fits) locked.seen refl
 
     -- and given back, where the word is not put there
-    module _ {z : PortValue} {stop : Stop} (put : EntryPut u z x.table x.index seen (word_kept x.keep seen x.word) x.keep (Err stop)) where
+    module _ {z : PortValue} {stop : Stop} (put : EntryPut u z x.table x.index seen new x.keep (Err stop)) where
       abbrev found_lock : Lock
       found_lock = learned_lock x.index put.hand.0 the_lock
 
       unput : Stands v z (refs_of wanted owner) (typed_of wanted owner) (found_lock ∷ []) v.holdings.old0 v.holdings.old1
-      unput = unset_stands v u z x.table x.index the_lock (refs_of wanted owner) (typed_of wanted owner) v.holdings.old0 v.holdings.old1 locked.holds.frame locked.holds.others.works locked.holds.others.claimed taken put.hand.0 put.hand.1
+      unput =
+          unset_stands v u z x.table x.index the_lock (refs_of wanted owner)
+          (typed_of wanted owner) v.holdings.old0 v.holdings.old1 locked.holds.frame locked.holds.others.works locked.holds.others.claimed taken put.hand.0 put.hand.1
 
-      pub unput_taken : HoldsTaken z (new_demand x seen) (owner_at x.level o.tables o.frames)
+      pub unput_taken : HoldsTaken z wanted owner
       unput_taken = holds_taken v z wanted owner (found_lock ∷ []) v.holdings.old0 v.holdings.old1 locked.holds.others.works locked.holds.others.looking unput
 
-      module _ {p : PortValue} (gave : DemandGiven z p (owner_at x.level o.tables o.frames) x.level (new_demand x seen)) where
+      module _ {p : PortValue} (gave : DemandGiven z p owner x.level wanted) where
         given : (c : Option ℕ) × Stands v p [] [] (found_lock ∷ []) c v.holdings.old1
         given = gone v z (refs_of wanted owner) (typed_of wanted owner) (found_lock ∷ []) v.holdings.old0 v.holdings.old1 unput p wanted (is_taken wanted owner) gave.hand
 
@@ -121,13 +124,16 @@ module _ {v : PortValue} (x : EntryUpdate) (o : Owners) {seen : ℕ} (locked : H
         pub given_works : p.holdings.works ≡ []
         given_works = works_are v p [] [] (found_lock ∷ []) given.0 v.holdings.old1 given.1 locked.holds.others.works
 
-        pub lost_changed : {w : PortValue} → new_demand x seen ≢ Bad → same_demand (new_demand x seen) (old_demand x seen) ≡ false → LockLeft p w x.table x.level → DemandChanged v w x o seen says before after yes_before yes_after (Err stop)
+        pub lost_changed : {w : PortValue} → wanted ≢ Bad → same_demand wanted (old_demand x seen) ≡ false → LockLeft p w x.table x.level →
+            DemandChanged v w x o seen says before after yes_before yes_after (Err stop)
         lost_changed {w} fits other left =
             let by = took.course in
             record {
               came = came_trans v u w took.came (came_trans u z w put.came (came_trans z p w gave.came left.came));
-              serves = λ a holds saw. lost_serves a v x o seen holds saw locked wanted refl (fits_it fits) u z took.came (took.serves o.frames) put.came stop p w put.course left.serves put.serves gave.serves;
-              stops = λ a holds saw. lost_stops a v x o seen holds saw locked wanted refl (fits_it fits) u z took.came (took.serves o.frames) put.came stop p w put.course left.serves put.stops gave.came;
+              serves = λ a holds saw. lost_serves a v x o seen holds saw locked wanted refl (fits_it fits) u z took.came
+                  (took.serves o.frames) put.came stop p w put.course left.serves put.serves gave.serves;
+              stops = λ a holds saw. lost_stops a v x o seen holds saw locked wanted refl (fits_it fits) u z took.came
+                  (took.serves o.frames) put.came stop p w put.course left.serves put.stops gave.came;
               kinds = put.kinds;
               hand = off_hand p w found_lock given.0 locked.holds.frame given.1 left.hand;
               course = λ a holds saw. record {
@@ -139,7 +145,7 @@ module _ {v : PortValue} (x : EntryUpdate) (o : Owners) {seen : ℕ} (locked : H
             }
 
     -- or goes into the entry
-    module _ {z : PortValue} {old : ℕ} (other : same_demand (new_demand x seen) (old_demand x seen) ≡ false) (put : EntryPut u z x.table x.index seen (word_kept x.keep seen x.word) x.keep (Ok old)) where
+    module _ {z : PortValue} {old : ℕ} (other : same_demand wanted (old_demand x seen) ≡ false) (put : EntryPut u z x.table x.index seen new x.keep (Ok old)) where
       abbrev freed : Demand
       freed = demand_at the_lock.kind x.index old
 
@@ -183,15 +189,19 @@ module _ {v : PortValue} (x : EntryUpdate) (o : Owners) {seen : ℕ} (locked : H
             subst (λ y. HoldsFreed p y) was
             (holds_freed v p freed since [] v.holdings.old0 unlocked.0 locked.holds.others.works locked.holds.others.looking (came_longer u p (came_trans u z p put.came left.came)) unlocked.1)
 
-        pub done_changed : {w : PortValue} {later : ℕ → Bool} {last yes_last : ℕ} → new_demand x seen ≢ Bad → ((n : ℕ) → later n ≡ says n) → DemandReleased p w (old_demand x old) later after last yes_after yes_last →
+        pub done_changed : {w : PortValue} {later : ℕ → Bool} {last yes_last : ℕ} → wanted ≢ Bad → ((n : ℕ) → later n ≡ says n) →
+            DemandReleased p w (old_demand x old) later after last yes_after yes_last →
             DemandChanged v w x o seen says before last yes_before yes_last (Ok tt)
         done_changed {w} {later} {last} {yes_last} fits same freeing =
             let by = took.course in
             let more = freeing.course in
-            let end = gone v p (refs_from freed since) (typed_from freed since) [] v.holdings.old0 unlocked.0 unlocked.1 w freed (is_from freed since) (subst (λ y. LeavesGone p w y) (sym was) freeing.hand) in
+            let end = gone v p (refs_from freed since) (typed_from freed since) [] v.holdings.old0 unlocked.0 unlocked.1 w freed (is_from freed since)
+            (subst (λ y. LeavesGone p w y) (sym was) freeing.hand) in
             record {
               came = came_trans v u w took.came (came_trans u z w put.came (came_trans z p w left.came freeing.came));
-              serves = λ a holds saw. done_serves a v x o seen holds saw locked wanted refl (fits_it fits) u z took.came (took.serves o.frames) put.came old p w put.course took.hand left.serves freeing.came put.serves
+              serves =
+                  λ a holds saw. done_serves a v x o seen holds saw locked wanted refl (fits_it fits) u z took.came
+                  (took.serves o.frames) put.came old p w put.course took.hand left.serves freeing.came put.serves
                   (freeing.serves o.tables o.frames);
               stops = λ a holds saw. tt;
               kinds = tt;

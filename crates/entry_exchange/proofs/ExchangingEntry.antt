@@ -35,7 +35,8 @@ use Rattle.entry_exchange.proofs.Hands.{Stands, kept_stands, off_stands, unset_s
 use Rattle.entry_exchange.proofs.Standing.{holds_seen, leaves, leaves_behind, rests_then, lock_of, looked_stands, may_same, seen_keeps}
 use Rattle.entry_exchange.proofs.Staying.{may_map}
 
-module _ {v b : PortValue} (x : EntryUpdate) (o : Owners) {seen : ℕ} (holds : HoldsTableLock v x.table x.level o.tables) (saw : SawEntry v b x.table x.index seen) (looked : Holds v b (learned_cell x.table x.index seen v.holdings)) where
+module _ {v b : PortValue} (x : EntryUpdate) (o : Owners) {seen : ℕ} (holds : HoldsTableLock v x.table x.level o.tables) (saw : SawEntry v b x.table x.index seen)
+    (looked : Holds v b (learned_cell x.table x.index seen v.holdings)) where
   abbrev seen_lock : Lock
   seen_lock = learned_lock x.index seen holds.lock
 
@@ -81,17 +82,29 @@ module _ {v b : PortValue} (x : EntryUpdate) (o : Owners) {seen : ℕ} (holds : 
   off_hand u w e at stands off = let out = off_stands v u w x.table [] [] e v.holdings.old0 v.holdings.old1 at stands off in leaves v x.table x.level o.tables holds w v.holdings.old0 out.0 out.1
 
   -- ---- the end
-  ended : {w : PortValue} {says : ℕ → Bool} {before after yes_before yes_after : ℕ} {answer : Result (Unit {0}) Stop} → MayWork v → Came v w → ServesExchange v w x o answer → IfErr answer (λ e. Stops v w (of_exchange x o answer) e) → IfErr answer IsAcquireStop →
+  ended : {w : PortValue} {says : ℕ → Bool} {before after yes_before yes_after : ℕ} {answer : Result (Unit {0}) Stop} → MayWork v → Came v w → ServesExchange v w x o answer →
+      IfErr answer (λ e. Stops v w (of_exchange x o answer) e) → IfErr answer IsAcquireStop →
       LeavesExchange v w → ExchangesBy v w x o says before after yes_before yes_after answer → EntryExchanged v w x o says before after yes_before yes_after answer
   ended {w} {answer = answer} may came serves stops kinds hand by =
-      record { came = came; serves = serves; stops = stops; kinds = kinds; hand = hand; rests = rests_then v x.table x.level o.tables holds w may hand; course = by; short = exchange_short v w x o by.answers answer may.machine by.course }
+      record {
+        came = came;
+        serves = serves;
+        stops = stops;
+        kinds = kinds;
+        hand = hand;
+        rests = rests_then v x.table x.level o.tables holds w may hand;
+        course = by;
+        short = exchange_short v w x o by.answers answer may.machine by.course;
+      }
 
   -- the gate is not asked
-  unasked : {w : PortValue} {says : ℕ → Bool} {before agreed : ℕ} (answer : Result (Unit {0}) Stop) → is_due_answer answer ≡ false → Exchanged v x o w [] answer → ExchangesBy v w x o says before before agreed agreed answer
+  unasked : {w : PortValue} {says : ℕ → Bool} {before agreed : ℕ} (answer : Result (Unit {0}) Stop) → is_due_answer answer ≡ false → Exchanged v x o w [] answer →
+      ExchangesBy v w x o says before before agreed agreed answer
   unasked answer undue course = record { answers = []; course = course; gate = consulted_none _ _ _; due = not_due (is_due_answer answer) [] undue }
 
   -- ---- it asks something else
-  pub ended_changed : {w : PortValue} {says : ℕ → Bool} {before after yes_before yes_after : ℕ} {answer : Result (Unit {0}) Stop} → MayWork v → DemandChanged b w x o seen says before after yes_before yes_after answer →
+  pub ended_changed : {w : PortValue} {says : ℕ → Bool} {before after yes_before yes_after : ℕ} {answer : Result (Unit {0}) Stop} → MayWork v →
+      DemandChanged b w x o seen says before after yes_before yes_after answer →
       EntryExchanged v w x o says before after yes_before yes_after answer
   ended_changed {w} may did =
       let hand = leaves_behind v x.table x.level o.tables holds w b (seen_lock ∷ []) v.holdings.old0 v.holdings.old1 behind did.hand in
@@ -99,9 +112,11 @@ module _ {v b : PortValue} (x : EntryUpdate) (o : Owners) {seen : ℕ} (holds : 
 
   module _ {says : ℕ → Bool} {before agreed : ℕ} where
     -- ---- the new word asks what it may not
-    pub ended_bad : {w : PortValue} → MayWork v → new_demand x seen ≡ Bad → LockLeft b w x.table x.level → EntryExchanged v w x o says before before agreed agreed (Err (Refused (Reserved x.table x.index (word_kept x.keep seen x.word))))
+    pub ended_bad : {w : PortValue} → MayWork v → new_demand x seen ≡ Bad → LockLeft b w x.table x.level →
+        EntryExchanged v w x o says before before agreed agreed (Err (Refused (Reserved x.table x.index new)))
     ended_bad {w} may bad left =
-        ended may (came_trans v b w came_look left.came) (bad_serves v b x o seen holds saw w left.serves) (bad_stops v b x o seen holds saw w left.serves bad) tt (off_hand b w seen_lock holds.frame behind left.hand)
+        ended may (came_trans v b w came_look left.came) (bad_serves v b x o seen holds saw w left.serves) (bad_stops v b x o seen holds saw w left.serves bad) tt
+        (off_hand b w seen_lock holds.frame behind left.hand)
         (unasked (Err (Refused (Reserved x.table x.index new))) refl (courses.bad b w seen saw bad left.course))
 
   -- ---- it asks the same
@@ -109,14 +124,14 @@ module _ {v b : PortValue} (x : EntryUpdate) (o : Owners) {seen : ℕ} (holds : 
     keeps : keeps_demand seen_lock x.index new ≡ true
     keeps = seen_keeps seen_lock x.index seen new x.level holds.kind refl ∙ same
 
-    pub may_keep : MaySwapEntry b.post.machine x.table x.index seen (word_kept x.keep seen x.word) b.holdings
+    pub may_keep : MaySwapEntry b.post.machine x.table x.index seen new b.holdings
     may_keep = may_same v b seen_lock x.table x.index seen new x.level [] [] v.holdings.old0 v.holdings.old1 behind holds.frame refl keeps
 
     kept_by : (z : PortValue) (a : Result ℕ Stop) → LeavesPut b z x.table x.index new a → (y : ℕ) × Stands v z [] [] (learned_lock x.index y seen_lock ∷ []) v.holdings.old0 v.holdings.old1
     kept_by z (Ok old) p = (new, kept_stands v b z x.table x.index seen_lock [] [] v.holdings.old0 v.holdings.old1 holds.frame holds.others.works holds.others.claimed behind new old keeps p)
     kept_by z (Err e) p = (p.0, unset_stands v b z x.table x.index seen_lock [] [] v.holdings.old0 v.holdings.old1 holds.frame holds.others.works holds.others.claimed behind p.0 p.1)
 
-    module _ {z : PortValue} {answer : Result ℕ Stop} (put : EntryPut b z x.table x.index seen (word_kept x.keep seen x.word) x.keep answer) where
+    module _ {z : PortValue} {answer : Result ℕ Stop} (put : EntryPut b z x.table x.index seen new x.keep answer) where
       kept : (y : ℕ) × Stands v z [] [] (learned_lock x.index y seen_lock ∷ []) v.holdings.old0 v.holdings.old1
       kept = kept_by z answer put.hand
 
@@ -142,12 +157,14 @@ module _ {v b : PortValue} (x : EntryUpdate) (o : Owners) {seen : ℕ} (holds : 
       keep_came w left = came_trans v b w came_look (came_trans b z w put.came left.came)
 
     module _ {z w : PortValue} {says : ℕ → Bool} {before agreed : ℕ} where
-      pub ended_same : {old : ℕ} (put : EntryPut b z x.table x.index seen (word_kept x.keep seen x.word) x.keep (Ok old)) → MayWork v → LockLeft z w x.table x.level → EntryExchanged v w x o says before before agreed agreed (Ok tt)
+      pub ended_same : {old : ℕ} (put : EntryPut b z x.table x.index seen new x.keep (Ok old)) → MayWork v → LockLeft z w x.table x.level →
+          EntryExchanged v w x o says before before agreed agreed (Ok tt)
       ended_same {old} put may left =
           ended may (keep_came put w left) (same_serves v b x o seen holds saw z w left.serves old put.serves) tt tt (off_hand z w (kept_lock put) holds.frame (kept put).1 left.hand)
           (unasked (Ok tt) refl (courses.same b z w seen old saw same put.course left.course))
 
-      pub ended_unput : {stop : Stop} (put : EntryPut b z x.table x.index seen (word_kept x.keep seen x.word) x.keep (Err stop)) → MayWork v → LockLeft z w x.table x.level → EntryExchanged v w x o says before before agreed agreed (Err stop)
+      pub ended_unput : {stop : Stop} (put : EntryPut b z x.table x.index seen new x.keep (Err stop)) → MayWork v → LockLeft z w x.table x.level →
+          EntryExchanged v w x o says before before agreed agreed (Err stop)
       ended_unput {stop} put may left =
           ended may (keep_came put w left) (unput_serves v b x o seen holds saw z w left.serves stop put.serves) (unput_stops v b x o seen holds saw z w left.serves stop put.stops) put.kinds
           (off_hand z w (kept_lock put) holds.frame (kept put).1 left.hand) (unasked (Err stop) (undue put.course) (courses.unput b z w seen stop saw same put.course left.course))

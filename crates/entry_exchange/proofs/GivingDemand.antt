@@ -50,7 +50,12 @@ may_drop_page {v} {g} holds = record { held = held holds; live = live holds; pla
 -- ---- given back
 pub nothing_given : {v : PortValue} {owner level : ℕ} {d : Demand} → IsOfLevel level d → (d ≡ Nothing) ⊎ (d ≡ Bad) → DemandGiven v v owner level d
 nothing_given {level = level} fits (inr is) = absurd (subst (λ k. IsOfLevel level k) is fits)
-nothing_given {v} fits (inl is) = rw is (record { came = came_self v; serves = λ u r ds before asked locks. record { more = []; hidden = inl refl; serves = before }; hand = (v.holdings.old0, refl); course = courses.nothing })
+nothing_given {v} fits (inl is) = rw is (record {
+  came = came_self v;
+  serves = λ u r ds before asked locks. record { more = []; hidden = inl refl; serves = before };
+  hand = (v.holdings.old0, refl);
+  course = courses.nothing;
+})
 
 module _ {v w : PortValue} {owner level g : ℕ} where
   pub ref_given : Serves v w (of_back g) [] → Holds v w (gave g v.holdings) → GaveRef v w g → DemandGiven v w owner level (Read g)
@@ -77,12 +82,22 @@ unasked : {v w : PortValue} {d : Demand} {says : ℕ → Bool} {before agreed : 
 unasked course = record { answers = []; course = course; gate = consulted_none _ _ _; due = not_due false [] refl }
 
 pub nothing_released : {v : PortValue} {d : Demand} {says : ℕ → Bool} {before agreed : ℕ} → (d ≡ Nothing) ⊎ (d ≡ Bad) → DemandReleased v v d says before before agreed agreed
-nothing_released {v} (inl is) = rw is (record { came = came_self v; serves = λ owner pages. serves_nothing v (of_given Nothing owner pages); hand = (v.holdings.old0, refl); course = unasked courses.nothing })
+nothing_released {v} (inl is) = rw is (record {
+  came = came_self v;
+  serves = λ owner pages. serves_nothing v (of_given Nothing owner pages);
+  hand = (v.holdings.old0, refl);
+  course = unasked courses.nothing;
+})
 nothing_released {v} (inr is) = rw is (record { came = came_self v; serves = λ owner pages. serves_nothing v (of_given Bad owner pages); hand = (v.holdings.old0, refl); course = unasked courses.bad })
 
 module _ {v w : PortValue} {g : ℕ} {says : ℕ → Bool} where
   pub ref_released : {before agreed : ℕ} → Serves v w (of_back g) [] → Holds v w (gave g v.holdings) → GaveRef v w g → DemandReleased v w (Read g) says before before agreed agreed
-  ref_released gives hand gave = record { came = serves_came v w (of_back g) [] gives; serves = λ owner pages. released_ref v w g owner pages gives; hand = (v.holdings.old0, hand); course = unasked (courses.referred w g gave) }
+  ref_released gives hand gave = record {
+    came = serves_came v w (of_back g) [] gives;
+    serves = λ owner pages. released_ref v w g owner pages gives;
+    hand = (v.holdings.old0, hand);
+    course = unasked (courses.referred w g gave);
+  }
 
   pub typed_released : {t : PageType} {before after yes_before yes_after : ℕ} {answer : Result (Unit {0}) Stop} → HoldsLive v g t → IfErr answer (λ e. e ≡ Paused Due) →
       ((owner pages : ℕ) → Serves v w (of_release g owner pages answer) (misses v.post.machine answer)) → LeavesUnheld v w g answer → ReleasesFrameBy v w g t says before after yes_before yes_after answer →

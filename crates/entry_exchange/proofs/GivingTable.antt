@@ -170,7 +170,8 @@ module _ {v u : PortValue} {f owner : ℕ} (level : ℕ) (low : 1 ≤ level) (ho
       ap (λ (h : Holdings). still (record u { holdings = record h { old0 = a } })) kept_hand
       ∙ ap (λ (rs : List Reference). still (record u { holdings = record u.holdings { refs = rs; works = without_work f u.holdings.works; looking = []; old0 = a } })) (refs_gone holds drops)
       ∙ ap (λ (ws : List Work). still (record u { holdings = record u.holdings { refs = v.holdings.refs; works = ws; looking = []; old0 = a } })) (works_gone holds drops)
-      ∙ ap (λ (ys : List TypedReference). still (record u { holdings = record u.holdings { refs = v.holdings.refs; typed = ys; works = v.holdings.works; looking = []; old0 = a } })) (typed_gone holds drops)
+      ∙ ap (λ (ys : List TypedReference). still (record u { holdings = record u.holdings { refs = v.holdings.refs; typed = ys; works = v.holdings.works; looking = []; old0 = a } }))
+      (typed_gone holds drops)
       ∙ ap (λ (q : PortValue). still (record q { holdings = record q.holdings { refs = v.holdings.refs; typed = []; works = v.holdings.works; looking = []; old0 = a } })) (closed holds drops)
       ∙ ap (λ xs. still (record v { holdings = record v.holdings { typed = []; looking = xs; old0 = a } })) (sym holds.looking)
 
@@ -179,7 +180,8 @@ module _ {v u : PortValue} {f owner : ℕ} (level : ℕ) (low : 1 ≤ level) (ho
   left_hand w (inr names) = (Some (f + 1), names.1 ∙ emptied (Some (f + 1)))
 
   -- all that is said of it
-  pub last_given : {w : PortValue} {l : KindWord} → l ≡ mark → Serves v u (of_back f) [] → Came u w → LeavesKept u w f l owner → ServesKept u w f owner → KeptFor u w f l owner → TableGiven v w f level owner
+  pub last_given : {w : PortValue} {l : KindWord} → l ≡ mark → Serves v u (of_back f) [] → Came u w → LeavesKept u w f l owner → ServesKept u w f owner → KeptFor u w f l owner →
+      TableGiven v w f level owner
   last_given {w} is gives came hand serves kept =
       record {
         came = came_trans v u w (serves_came v u (of_back f) [] gives) came;
@@ -188,7 +190,8 @@ module _ {v u : PortValue} {f owner : ℕ} (level : ℕ) (low : 1 ≤ level) (ho
         course = last u w drops (subst (λ l. KeptFor u w f l owner) is kept);
       }
 
-pub shared_given : {v u w : PortValue} {f level owner : ℕ} {t : PageType} → HoldsTyped v f t owner → DropsType v u f false → Serves v u (of_back f) [] → Serves u w (of_back f) [] → Holds u w (gave f u.holdings) → GaveRef u w f →
+pub shared_given : {v u w : PortValue} {f level owner : ℕ} {t : PageType} → HoldsTyped v f t owner → DropsType v u f false → Serves v u (of_back f) [] → Serves u w (of_back f) [] →
+    Holds u w (gave f u.holdings) → GaveRef u w f →
     TableGiven v w f level owner
 shared_given {v} {u} {w} {f} holds drops gives puts hand gave =
     let both = serves_then v u w (of_back f) [] [] gives puts in

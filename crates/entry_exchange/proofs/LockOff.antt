@@ -72,7 +72,8 @@ module _ {v : PortValue} {f level : ℕ} (locked : HoldsLockOf v f level) where
           serves = both;
           hand = inl (
               put ∙ ap (λ (q : PortValue). still (record q { holdings = gave f q.holdings })) unlocks.hand
-              ∙ ap (λ (rs : List Reference). still (record v { holdings = record off_it { refs = rs } })) (without_newest (λ (y : Reference). y.frame) f lock_ref v.holdings.refs (lock_ref ∷ v.holdings.refs) refl refl)
+              ∙ ap (λ (rs : List Reference). still (record v { holdings = record off_it { refs = rs } }))
+              (without_newest (λ (y : Reference). y.frame) f lock_ref v.holdings.refs (lock_ref ∷ v.holdings.refs) refl refl)
               );
           course = shared u w unlocks gave_ref;
         }
@@ -139,7 +140,8 @@ module _ {v : PortValue} {f level : ℕ} (locked : HoldsLockOf v f level) where
         ∙ ap (λ (ws : List Work). still (record u { holdings = record u.holdings { refs = v.holdings.refs; typed = new_count ∷ u.holdings.typed; works = ws } })) works_gone
         ∙ ap (λ (q : PortValue). still (record q { holdings = record q.holdings { refs = v.holdings.refs; typed = new_count ∷ q.holdings.typed; works = v.holdings.works } })) unlocks.hand
 
-    module _ {l : KindWord} (is : l ≡ partial_kind (level_type level) false false 512 0) {x : PortValue} {found : ℕ} (store : Moves u x (Kind f) (Store (kind_write l)) kinds.Kind None found) (leaves : Holds u x (left u f l)) where
+    module _ {l : KindWord} (is : l ≡ partial_kind (level_type level) false false 512 0) {x : PortValue} {found : ℕ} (store : Moves u x (Kind f) (Store (kind_write l)) kinds.Kind None found)
+        (leaves : Holds u x (left u f l)) where
       hand : Holds v x (record off_it { typed = new_count ∷ v.holdings.typed })
       hand = partial_hand x (subst (λ k. Holds u x (left u f k)) is leaves)
 
@@ -147,7 +149,8 @@ module _ {v : PortValue} {f level : ℕ} (locked : HoldsLockOf v f level) where
       still_held = subst (λ ys. 0 < typed_to f ys) (sym (ap (λ (q : PortValue). q.holdings.typed) hand)) (typed_held f new_count v.holdings.typed refl)
 
       -- and goes into the second old word
-      pub last_left : {w : PortValue} → Serves v u (of_back f) [] → Moves x w (old_place x.post.vcpu Second) (Store (f + 1)) kinds.Context None 0 → Holds x w (kept_in_old Second f x.holdings) → LockLeft v w f level
+      pub last_left : {w : PortValue} → Serves v u (of_back f) [] → Moves x w (old_place x.post.vcpu Second) (Store (f + 1)) kinds.Context None 0 → Holds x w (kept_in_old Second f x.holdings) →
+          LockLeft v w f level
       last_left {w} off names keeps =
           let posts : x.post ≡ v.post = ap (λ (q : PortValue). q.post) store.to ∙ ap (λ (q : PortValue). q.post) unlocks.hand in
           let gives = named_serves v u x w f mark may_leave refl found (subst (λ k. Moves u x (Kind f) (Store (kind_write k)) kinds.Kind None found) is store) names off in
@@ -156,7 +159,9 @@ module _ {v : PortValue} {f level : ℕ} (locked : HoldsLockOf v f level) where
             serves = gives;
             hand = inr (
                 keeps ∙ ap (λ (q : PortValue). still (record q { holdings = kept_in_old Second f q.holdings })) hand
-                ∙ ap (λ (ys : List TypedReference). still (record v { holdings = record off_it { typed = ys; old1 = Some (f + 1) } })) (without_newest (λ (y : TypedReference). y.frame) f new_count v.holdings.typed (new_count ∷ v.holdings.typed) refl refl)
+                ∙ ap (λ (ys : List TypedReference). still (record v { holdings = record off_it { typed = ys; old1 = Some (f + 1) } }))
+                (without_newest (λ (y : TypedReference). y.frame) f new_count v.holdings.typed (new_count ∷ v.holdings.typed) refl refl)
                 );
-            course = last u x w found unlocks (subst (λ k. Moves u x (Kind f) (Store (kind_write k)) kinds.Kind None found) is store) (subst (λ (p : Post). Moves x w (old_place p.vcpu Second) (Store (f + 1)) kinds.Context None 0) posts names);
+            course = last u x w found unlocks (subst (λ k. Moves u x (Kind f) (Store (kind_write k)) kinds.Kind None found) is store)
+                (subst (λ (p : Post). Moves x w (old_place p.vcpu Second) (Store (f + 1)) kinds.Context None 0) posts names);
           }

@@ -175,7 +175,8 @@ module _ (a b : PortValue) (x : EntryUpdate) (o : Owners) (seen : ℕ) (holds : 
 
       pub bad_stops : Stops a w (of_exchange x o (Err stop)) stop
       unfolding Stops moment_of
-      bad_stops = inr (x.word, moment_of a (Cell x.table x.index) Load kinds.Look None seen, when_eq x.table x.table refl, refl, refl, met_look w (serves_came b w (of_back x.table) [] gives), bad_under, is_new x.keep)
+      bad_stops =
+          inr (x.word, moment_of a (Cell x.table x.index) Load kinds.Look None seen, when_eq x.table x.table refl, refl, refl, met_look w (serves_came b w (of_back x.table) [] gives), bad_under, is_new x.keep)
 
   -- ---- it asks the same, and the word alone is put there
   module _ (z w : PortValue) (gives : Serves z w (of_back x.table) []) where

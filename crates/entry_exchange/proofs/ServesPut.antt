@@ -27,10 +27,12 @@ use Rattle.entry_exchange.specs.Serving.{ServesPut, put_deeds}
 use Rattle.entry_exchange.proofs.Inside.{was_inside}
 use Rattle.entry_exchange.proofs.StopsPutting.{lost_stops}
 
-put_serves : {v w : PortValue} {f i old : ℕ} {act : Act} (new : ℕ) (answer : Result ℕ Stop) → Moves v w (Cell f i) act kinds.Cell None old → deeds_by (Cell f i) act kinds.Cell old v.holdings ≡ put_deeds v.post.machine f i new answer →
+put_serves : {v w : PortValue} {f i old : ℕ} {act : Act} (new : ℕ) (answer : Result ℕ Stop) → Moves v w (Cell f i) act kinds.Cell None old →
+    deeds_by (Cell f i) act kinds.Cell old v.holdings ≡ put_deeds v.post.machine f i new answer →
     ((u : PortValue) (r : Request) → IsAsked u.post.machine u.post.vcpu r (Met u w) f → HasReason u.post.machine u.post.vcpu r (Met u w) (Cell f i) act old v.holdings) → ServesPut v w f i new answer
 put_serves {v} {w} {f} {i} {old} {act} new answer step deed why u r ds before asked =
-    subst (λ (es : List Deed). Serves u w r (es ++ ds)) deed (serves_step u v w r ds (Cell f i) act kinds.Cell None old before step (why u r (asked_later u v w r f (moves_came v w (Cell f i) act kinds.Cell None old step) asked)))
+    subst (λ (es : List Deed). Serves u w r (es ++ ds)) deed
+    (serves_step u v w r ds (Cell f i) act kinds.Cell None old before step (why u r (asked_later u v w r f (moves_came v w (Cell f i) act kinds.Cell None old step) asked)))
 
 module _ {v w : PortValue} {f i seen new : ℕ} {keep : Bool} (index : i < 512) (may : MaySwapEntry v.post.machine f i seen new v.holdings) where
   pub put_stored : {old : ℕ} → not keep ≡ true → Moves v w (Cell f i) (Store new) kinds.Cell None old → Holds v w (entry_set f i new old v.holdings) → EntryPut v w f i seen new keep (Ok old)
@@ -58,11 +60,13 @@ module _ {v w : PortValue} {f i seen new : ℕ} {keep : Bool} (index : i < 512) 
       }
 
   -- another word is found there
-  pub put_lost : {place found : ℕ} → not keep ≡ false → found ≢ seen → Moves v w (Cell f i) (Cas seen new) kinds.Cell None found → Holds v w (entry_unset f i found v.holdings) → place ≡ number (sizes_of v.post.machine) (Cell f i) →
+  pub put_lost : {place found : ℕ} → not keep ≡ false → found ≢ seen → Moves v w (Cell f i) (Cas seen new) kinds.Cell None found → Holds v w (entry_unset f i found v.holdings) →
+      place ≡ number (sizes_of v.post.machine) (Cell f i) →
       EntryPut v w f i seen new keep (Err (Paused (Lost place seen found)))
   put_lost {place} {found} off other step hand at =
       let came = moves_came v w (Cell f i) (Cas seen new) kinds.Cell None found step in
-      let misses : missed v.post.machine (Paused (Lost (number (sizes_of v.post.machine) (Cell f i)) seen found)) ≡ Misses (Cell f i) ∷ [] = ap (λ p. missed_at p) (place_back (sizes_of v.post.machine) (Cell f i) step.may.place) in
+      let misses : missed v.post.machine (Paused (Lost (number (sizes_of v.post.machine) (Cell f i)) seen found)) ≡ Misses (Cell f i) ∷ [] = ap (λ p. missed_at p)
+      (place_back (sizes_of v.post.machine) (Cell f i) step.may.place) in
       rw at (record {
         came = came;
         serves = put_serves new (Err (Paused (Lost (number (sizes_of v.post.machine) (Cell f i)) seen found))) step (rw (when_ne found seen other) (sym misses)) (λ u r asked. asked);

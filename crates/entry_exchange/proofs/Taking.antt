@@ -64,12 +64,14 @@ module _ (n : Machine) (s f owner pages within_pages : ℕ) (t : PageType) (want
         grown_where n s inner outer F F (λ m a. a) (search (rules, gate, tables, marking)) same_owners (λ g here k less. named here refl (subst (λ w. IsFor k w) is less)) (λ any g here. here) (λ g none. absurd cc)
 
 -- ---- the gate was not asked
-unasked : {v w : PortValue} {owner level : ℕ} {says : ℕ → Bool} {d : Demand} {answer : Result (Unit {0}) Stop} {before agreed : ℕ} → is_due_answer answer ≡ false → TookDemand owner level v d w [] answer →
+unasked : {v w : PortValue} {owner level : ℕ} {says : ℕ → Bool} {d : Demand} {answer : Result (Unit {0}) Stop} {before agreed : ℕ} → is_due_answer answer ≡ false →
+    TookDemand owner level v d w [] answer →
     TakesDemand v w owner level d says before before agreed agreed answer
 unasked undue course = record { answers = []; course = course; gate = consulted_none _ _ _; due = not_due _ [] undue }
 
 -- ---- it asks nothing, and no step is made
-pub nothing_taken : {v : PortValue} {owner level : ℕ} {d : Demand} {says : ℕ → Bool} {before agreed : ℕ} → IsOfLevel level d → (d ≡ Nothing) ⊎ (d ≡ Bad) → DemandTaken v v owner level d says before before agreed agreed (Ok tt)
+pub nothing_taken : {v : PortValue} {owner level : ℕ} {d : Demand} {says : ℕ → Bool} {before agreed : ℕ} → IsOfLevel level d → (d ≡ Nothing) ⊎ (d ≡ Bad) →
+    DemandTaken v v owner level d says before before agreed agreed (Ok tt)
 nothing_taken {v} {level = level} fits (inr is) = absurd (subst (λ k. IsOfLevel level k) is fits)
 nothing_taken {v} {owner} fits (inl is) =
     rw is (record {
@@ -104,14 +106,19 @@ module _ {v w : PortValue} {owner level g : ℕ} {says : ℕ → Bool} {before a
         course = unasked refl (courses.referred w g (subst (λ k. GotRef v w g owner (Ok k)) at.0 got));
       }
 
-  pub unreferred : {stop : Stop} → GotRef v w g owner (Err stop) → Serves v w (of_frame g owner None) (missed v.post.machine stop) → Same v w → DemandTaken v w owner level (Read g) says before before agreed agreed (Err stop)
+  pub unreferred : {stop : Stop} → GotRef v w g owner (Err stop) → Serves v w (of_frame g owner None) (missed v.post.machine stop) → Same v w →
+      DemandTaken v w owner level (Read g) says before before agreed agreed (Err stop)
   unreferred {stop} got serves same =
       let why = ref_why v w g owner stop got in
       let within = λ (pages : ℕ). referring v w g owner pages (is_due_stop stop) in
       record {
         came = serves_came v w (of_frame g owner None) (missed v.post.machine stop) serves;
         inside = tt;
-        serves = λ pages. record { hidden = []; may = hides_none stop; serves = serves_within v w (of_frame g owner None) (of_demand (Read g) owner pages (is_due_stop stop)) (missed v.post.machine stop) (within pages) serves };
+        serves = λ pages. record {
+          hidden = [];
+          may = hides_none stop;
+          serves = serves_within v w (of_frame g owner None) (of_demand (Read g) owner pages (is_due_stop stop)) (missed v.post.machine stop) (within pages) serves;
+        };
         stops = λ pages. stops_within v w (of_frame g owner None) (of_demand (Read g) owner pages (is_due_stop stop)) stop (within pages) got.stops;
         kinds = why.0;
         hand = (v.holdings.old0, ap quiet same);
@@ -126,7 +133,9 @@ hides_mark v owner g (Paused x) ds (inr one) = inr (g, one.1)
 
 module _ (v w : PortValue) (owner g : ℕ) where
   paging : (pages : ℕ) (rose : Bool) → Within v.post.machine v.post.vcpu (of_page v g owner) (Met v w) (of_demand (Typed g Writable) owner pages rose) (Met v w)
-  paging pages rose = within_demand v.post.machine v.post.vcpu g owner owner pages Writable (Some Writable) false rose (not (owner == domain_of v.post.machine v.post.vcpu)) false (Met v w) refl (λ on. absurd cc) (λ on. absurd cc)
+  paging pages rose =
+      within_demand v.post.machine v.post.vcpu g owner owner pages Writable (Some Writable) false rose (not (owner == domain_of v.post.machine v.post.vcpu)) false (Met v w) refl (λ on. absurd cc)
+      (λ on. absurd cc)
 
   unpaged_hand : (d : Demand) (stop : Stop) → LeavesGot v w g owner (Err stop) → LeavesDemand v w d owner (Err stop)
   unpaged_hand d (Refused x) leaves = (v.holdings.old0, leaves)
@@ -140,7 +149,11 @@ module _ {v w : PortValue} {owner g level : ℕ} {says : ℕ → Bool} {before a
       record {
         came = came;
         inside = subst (λ k. k < v.post.machine.frames) at.0 at.1;
-        serves = λ pages. record { hidden = serves.hidden; may = paged_hides serves.hidden serves.may; serves = serves_within v w (of_page v g owner) (of_demand (Typed g Writable) owner pages false) (serves.hidden ++ []) (paging v w owner g pages false) serves.serves };
+        serves = λ pages. record {
+          hidden = serves.hidden;
+          may = paged_hides serves.hidden serves.may;
+          serves = serves_within v w (of_page v g owner) (of_demand (Typed g Writable) owner pages false) (serves.hidden ++ []) (paging v w owner g pages false) serves.serves;
+        };
         stops = λ pages. tt;
         kinds = tt;
         hand = subst (λ k. LeavesGot v w g owner (Ok k)) at.0 hand;
@@ -161,7 +174,8 @@ module _ {v w : PortValue} {owner g level : ℕ} {says : ℕ → Bool} {before a
         serves = λ pages. record {
           hidden = serves.hidden;
           may = hides_mark v owner g stop serves.hidden serves.may;
-          serves = serves_within v w (of_page v g owner) (of_demand (Typed g Writable) owner pages (is_due_stop stop)) (serves.hidden ++ missed v.post.machine stop) (paging v w owner g pages (is_due_stop stop)) serves.serves;
+          serves = serves_within v w (of_page v g owner) (of_demand (Typed g Writable) owner pages (is_due_stop stop)) (serves.hidden ++ missed v.post.machine stop)
+              (paging v w owner g pages (is_due_stop stop)) serves.serves;
         };
         stops = λ pages. stops_within v w (of_page v g owner) (of_demand (Typed g Writable) owner pages (is_due_stop stop)) stop (paging v w owner g pages (is_due_stop stop)) stops;
         kinds = why.0;
@@ -174,7 +188,8 @@ module _ (v w : PortValue) (owner level g : ℕ) where
   acquiring : (answer : Result ℕ Stop) (pages : ℕ) (rose : Bool) → 2 ≤ level → (acquires.is_due_answer answer ≡ true → rose ≡ true) →
       Within v.post.machine v.post.vcpu (of_acquire v g owner (level - 1) pages answer) (Met v w) (of_demand (Typed g (level_type (level - 1))) owner pages rose) (Met v w)
   acquiring answer pages rose above rises =
-      within_demand v.post.machine v.post.vcpu g owner pages pages (level_type (level - 1)) (Some (level_type (level - 1))) (acquires.is_due_answer answer) rose (not (owner == own_domain v)) true (Met v w) refl
+      within_demand v.post.machine v.post.vcpu g owner pages pages (level_type (level - 1)) (Some (level_type (level - 1))) (acquires.is_due_answer answer) rose (not (owner == own_domain v)) true
+      (Met v w) refl
       (λ on. (level_type-table (level - 1) (omega (arith, above)), refl)) rises
 
   unacquired_hides : (e : Stop) (ds : List Deed) → (ds ≡ []) ⊎ (IsForeign v owner × (is_paused_answer {A = ℕ} (Err e) ≡ true) × (ds ≡ Misses (Kind g) ∷ [])) → IsHidden e ds
@@ -198,19 +213,26 @@ module _ {v w : PortValue} {owner level g : ℕ} {says : ℕ → Bool} {before a
         serves = λ pages. record {
           hidden = (serves pages).hidden;
           may = acquired_hides (serves pages).hidden (serves pages).may;
-          serves = serves_within v w (of_acquire {A = ℕ} v g owner (level - 1) pages (Ok h)) (of_demand (Typed g (level_type (level - 1))) owner pages false) ((serves pages).hidden ++ []) (acquiring v w owner level g (Ok h) pages false above (λ on. absurd cc)) (serves pages).serves;
+          serves = serves_within v w (of_acquire {A = ℕ} v g owner (level - 1) pages (Ok h)) (of_demand (Typed g (level_type (level - 1))) owner pages false) ((serves pages).hidden ++ [])
+              (acquiring v w owner level g (Ok h) pages false above (λ on. absurd cc)) (serves pages).serves;
         };
         stops = λ pages. tt;
         kinds = tt;
         hand = subst (λ k. LeavesAcquired v w g owner (level - 1) (Ok k)) at.0 hand;
-        course = record { answers = by.answers; course = courses.acquired w g by.answers above (subst (λ k. Acquired v g owner (level - 1) w by.answers (Ok k)) at.0 by.course); gate = by.gate; due = not_due false by.answers refl };
+        course = record {
+          answers = by.answers;
+          course = courses.acquired w g by.answers above (subst (λ k. Acquired v g owner (level - 1) w by.answers (Ok k)) at.0 by.course);
+          gate = by.gate;
+          due = not_due false by.answers refl;
+        };
       }
     where
       acquired_hides : (ds : List Deed) → (ds ≡ []) ⊎ (IsForeign v owner × (is_paused_answer {A = ℕ} (Ok h) ≡ true) × (ds ≡ Misses (Kind g) ∷ [])) → ds ≡ []
       acquired_hides ds (inl none) = none
       acquired_hides ds (inr one) = absurd (let on = one.1 in cc)
 
-  pub refused : {stop : Stop} → IsAcquireStop stop → ((pages : ℕ) → ServesAcquired v w g owner (level - 1) pages (Err stop)) → ((pages : ℕ) → Stops v w (of_acquire {A = ℕ} v g owner (level - 1) pages (Err stop)) stop) →
+  pub refused : {stop : Stop} → IsAcquireStop stop → ((pages : ℕ) → ServesAcquired v w g owner (level - 1) pages (Err stop)) →
+      ((pages : ℕ) → Stops v w (of_acquire {A = ℕ} v g owner (level - 1) pages (Err stop)) stop) →
       LeavesAcquired v w g owner (level - 1) (Err stop) → AcquiresBy v w g owner (level - 1) says before after yes_before yes_after (Err stop) →
       DemandTaken v w owner level (Typed g (level_type (level - 1))) says before after yes_before yes_after (Err stop)
   refused {stop} kinds serves stops hand by =
@@ -221,9 +243,11 @@ module _ {v w : PortValue} {owner level g : ℕ} {says : ℕ → Bool} {before a
         serves = λ pages. record {
           hidden = (serves pages).hidden;
           may = unacquired_hides v w owner level g stop (serves pages).hidden (serves pages).may;
-          serves = serves_within v w (of_acquire {A = ℕ} v g owner (level - 1) pages (Err stop)) (of_demand (Typed g (level_type (level - 1))) owner pages (is_due_stop stop)) ((serves pages).hidden ++ missed v.post.machine stop) (within pages) (serves pages).serves;
+          serves = serves_within v w (of_acquire {A = ℕ} v g owner (level - 1) pages (Err stop)) (of_demand (Typed g (level_type (level - 1))) owner pages (is_due_stop stop))
+              ((serves pages).hidden ++ missed v.post.machine stop) (within pages) (serves pages).serves;
         };
-        stops = λ pages. stops_within v w (of_acquire {A = ℕ} v g owner (level - 1) pages (Err stop)) (of_demand (Typed g (level_type (level - 1))) owner pages (is_due_stop stop)) stop (within pages) (stops pages);
+        stops = λ pages. stops_within v w (of_acquire {A = ℕ} v g owner (level - 1) pages (Err stop)) (of_demand (Typed g (level_type (level - 1))) owner pages (is_due_stop stop)) stop (within pages)
+            (stops pages);
         kinds = kinds;
         hand = refused_hand v w owner level g (Typed g (level_type (level - 1))) stop hand;
         course = record { answers = by.answers; course = courses.refused w g by.answers stop above by.course; gate = by.gate; due = λ on. sym by.due ∙ on };

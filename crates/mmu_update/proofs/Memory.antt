@@ -40,7 +40,8 @@ module _ {b v : PortValue} {o : Owners} {f : ℕ} (a : Ordinary b v o f) where
   page_hand x (Paused p) (inr leaves) = given_to_old b v f o.tables a.referred.begins.rests lent x leaves.1
 
   module _ {i word : ℕ} {keep : Bool} where
-    pub untaken : {x : PortValue} {e : Stop} → ServesPage {A = Unit {0}} v x f o.tables (Err e) → Stops v x (of_page v f o.tables) e → IsTypeStop e → LeavesPage v x f o.tables (Err e) → TookPage v f o.tables x (Err e) →
+    pub untaken : {x : PortValue} {e : Stop} → ServesPage {A = Unit {0}} v x f o.tables (Err e) → Stops v x (of_page v f o.tables) e → IsTypeStop e → LeavesPage v x f o.tables (Err e) →
+        TookPage v f o.tables x (Err e) →
         Updates o (Write f i word keep) b x [] (Err e)
     untaken {x} {e} page why kind leaves taken =
         record {
@@ -53,7 +54,8 @@ module _ {b v : PortValue} {o : Owners} {f : ℕ} (a : Ordinary b v o f) where
           course = courses.untaken a.at v x a.found e a.referred.got a.tried taken;
         }
 
-    pub stored : {x y z : PortValue} {found : ℕ} → ServesPage {A = Unit {0}} v x f o.tables (Ok tt) → FlushedHolds v x (typed_as f o.tables Writable v.holdings) → TookPage v f o.tables x (Ok tt) → Moves x y (Cell f i) (Store word) kinds.Cell None found → Same x y →
+    pub stored : {x y z : PortValue} {found : ℕ} → ServesPage {A = Unit {0}} v x f o.tables (Ok tt) → FlushedHolds v x (typed_as f o.tables Writable v.holdings) → TookPage v f o.tables x (Ok tt) →
+        Moves x y (Cell f i) (Store word) kinds.Cell None found → Same x y →
         Serves y z (of_back f) [] → Holds y z (gave_type f y.holdings) → GaveType y z f Writable → Updates o (Write f i word keep) b z [] (Ok tt)
     stored {x} {y} {z} {found} page typed taken made same back gives drops =
         let hand = given_back b v f o.tables a.referred.begins.rests lent x typed y z same gives in

@@ -26,7 +26,8 @@ use Rattle.mmu_update.proofs.WriteKinds.{lock_kinds, ref_kinds}
 use Rattle.mmu_update.proofs.Serving.{referred_serves, referred_stops, unlocked_serves, unlocked_stops}
 
 -- ---- it is not to be had
-pub unreferred : {b w : PortValue} {o : Owners} {f i word : ℕ} {keep : Bool} {e : Stop} → MayBeginElement b o → Serves b w (of_frame f o.tables None) (missed b.post.machine e) → IsRefStop e → Same b w → GotRef b w f o.tables (Err e) →
+pub unreferred : {b w : PortValue} {o : Owners} {f i word : ℕ} {keep : Bool} {e : Stop} → MayBeginElement b o → Serves b w (of_frame f o.tables None) (missed b.post.machine e) → IsRefStop e →
+    Same b w → GotRef b w f o.tables (Err e) →
     Updates o (Write f i word keep) b w [] (Err e)
 unreferred {b} {w} {o} {f} {i} {word} {keep} {e} begins serves kind same got =
     let hand = leaves_same b w (ap quiet same) in
@@ -41,17 +42,25 @@ unreferred {b} {w} {o} {f} {i} {word} {keep} {e} begins serves kind same got =
     }
 
 -- ---- it was taken
-pub referred_by : {b u : PortValue} {o : Owners} {f g : ℕ} → (g ≡ f) × (g < b.post.machine.frames) → MayBeginElement b o → GotRef b u f o.tables (Ok g) → Serves b u (of_frame f o.tables None) [] → Holds b u (took g o.tables b.holdings) →
+pub referred_by : {b u : PortValue} {o : Owners} {f g : ℕ} → (g ≡ f) × (g < b.post.machine.frames) → MayBeginElement b o → GotRef b u f o.tables (Ok g) → Serves b u (of_frame f o.tables None) [] →
+    Holds b u (took g o.tables b.holdings) →
     Referred b u o g
 referred_by {b} {u} {o} {f} {g} at begins got serves hand =
-    record { begins = begins; frame = at.1; got = subst (λ k. GotRef b u k o.tables (Ok g)) (sym at.0) got; serves = subst (λ k. Serves b u (of_frame k o.tables None) []) (sym at.0) serves; hand = hand }
+    record {
+      begins = begins;
+      frame = at.1;
+      got = subst (λ k. GotRef b u k o.tables (Ok g)) (sym at.0) got;
+      serves = subst (λ k. Serves b u (of_frame k o.tables None) []) (sym at.0) serves;
+      hand = hand;
+    }
 
 -- ---- the frame cannot be locked, and it is given back
 module _ {b u : PortValue} {o : Owners} {f : ℕ} (y : PortValue) (r : Referred b u o f) (same : Same u y) where
   pub may_put : MayPut f y.holdings
   may_put = err_gives u y f o.tables (lent_by b u f o.tables r.begins.rests r.hand) (no_work b u f o.tables r.begins.rests r.hand) same
 
-  pub unlocked : {w : PortValue} {i word : ℕ} {keep : Bool} {e : Stop} → Holds y w (gave f y.holdings) → Serves u y (of_lock f o.tables) (missed u.post.machine e) → IsLockStop e → TriedLock u y f o.tables (Err e) → Serves y w (of_back f) [] →
+  pub unlocked : {w : PortValue} {i word : ℕ} {keep : Bool} {e : Stop} → Holds y w (gave f y.holdings) → Serves u y (of_lock f o.tables) (missed u.post.machine e) → IsLockStop e →
+      TriedLock u y f o.tables (Err e) → Serves y w (of_back f) [] →
       GaveRef y w f → Updates o (Write f i word keep) b w [] (Err e)
   unlocked {w} {i} {word} {keep} {e} gives lock kind tried back gone =
       let hand = given_up b y f o.tables r.begins.rests (same ∙ r.hand) w (ap quiet gives) in
@@ -66,10 +75,18 @@ module _ {b u : PortValue} {o : Owners} {f : ℕ} (y : PortValue) (r : Referred 
       }
 
 -- ---- it was looked at
-module _ {b u y : PortValue} {o : Owners} {f : ℕ} {k : Locked} (r : Referred b u o f) (serves : Serves u y (of_lock f o.tables) []) (tried : TriedLock u y f o.tables (Ok k)) (hand : LeavesLocked u y f o.tables (Ok k)) where
+module _ {b u y : PortValue} {o : Owners} {f : ℕ} {k : Locked} (r : Referred b u o f) (serves : Serves u y (of_lock f o.tables) []) (tried : TriedLock u y f o.tables (Ok k))
+    (hand : LeavesLocked u y f o.tables (Ok k)) where
   pub under_lock : {level word : ℕ} → k ≡ Table level word → UnderLock b y o f level
   under_lock {level} {word} is =
       record { at = u; found = word; referred = r; tried = subst (λ j. TriedLock u y f o.tables (Ok j)) is tried; serves = serves; holds = subst (λ j. LeavesLocked u y f o.tables (Ok j)) is hand }
 
   pub ordinary : {word : ℕ} → k ≡ Other word → Ordinary b y o f
-  ordinary {word} is = record { at = u; found = word; referred = r; tried = subst (λ j. TriedLock u y f o.tables (Ok j)) is tried; serves = serves; same = subst (λ j. LeavesLocked u y f o.tables (Ok j)) is hand }
+  ordinary {word} is = record {
+    at = u;
+    found = word;
+    referred = r;
+    tried = subst (λ j. TriedLock u y f o.tables (Ok j)) is tried;
+    serves = serves;
+    same = subst (λ j. LeavesLocked u y f o.tables (Ok j)) is hand;
+  }

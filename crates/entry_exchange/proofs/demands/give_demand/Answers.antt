@@ -17,7 +17,11 @@ returns-in-Read g c = let put = c.put_ref.ensures in rw c.in-Read.is (ref_given 
 pub returns-in-Typed : goal.returns-in-Typed
 returns-in-Typed g c =
     let drops = c.drop_plain.ensures in
-    rw (page_named c.in-Typed.is c.requires.asks c.if-level-eq1.true) (page_given c.if-level-eq1.true drops.serves drops.hand (record { found = drops.found; plain = drops.plain; stands = drops.stands }))
+    rw (page_named c.in-Typed.is c.requires.asks c.if-level-eq1.true) (page_given c.if-level-eq1.true drops.serves drops.hand (record {
+      found = drops.found;
+      plain = drops.plain;
+      stands = drops.stands;
+    }))
 
 pub returns-in-Typed-2 : goal.returns-in-Typed-2
 returns-in-Typed-2 g c =

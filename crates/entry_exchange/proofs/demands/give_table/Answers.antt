@@ -27,4 +27,5 @@ leave_kept-requires-clause-looked g c = looked c.requires.holds (rw c.if-drop_ty
 pub returns-then-drop_type : goal.returns-then-drop_type
 returns-then-drop_type g c =
     let left = c.leave_kept.ensures in
-    last_given c.args.level c.requires.low c.requires.holds (rw c.if-drop_type.true at c.drop_type.ensures.drops) (rw c.level_type.ensures at c.partial_kind.ensures) c.drop_type.ensures.serves left.came left.hand left.serves left.course
+    last_given c.args.level c.requires.low c.requires.holds (rw c.if-drop_type.true at c.drop_type.ensures.drops)
+    (rw c.level_type.ensures at c.partial_kind.ensures) c.drop_type.ensures.serves left.came left.hand left.serves left.course

@@ -14,7 +14,11 @@ returns-in_err-get_ref-in-Read-clause-did g c =
     rw (p.1, p.2, c.in-Read.is) (unreferred (record { found = got.gets; plain = got.plain; stops = got.stops }) got.serves got.hand)
 
 pub returns-in_ok-get_ref-in-Read-clause-did : goal.returns-in_ok-get_ref-in-Read-clause-did
-returns-in_ok-get_ref-in-Read-clause-did g c = let got = c.in_ok-get_ref-in-Read.ensures in rw c.in-Read.is (referred got.frame (record { found = got.gets; plain = got.plain; stops = tt }) got.serves got.hand)
+returns-in_ok-get_ref-in-Read-clause-did g c = let got = c.in_ok-get_ref-in-Read.ensures in rw c.in-Read.is (referred got.frame (record {
+  found = got.gets;
+  plain = got.plain;
+  stops = tt;
+}) got.serves got.hand)
 
 -- ---- a page
 pub returns-in_err-get_page-in-Typed-clause-did : goal.returns-in_err-get_page-in-Typed-clause-did
@@ -38,7 +42,8 @@ pub returns-in_err-acquire-in-Typed-2-clause-did : goal.returns-in_err-acquire-i
 returns-in_err-acquire-in-Typed-2-clause-did g c =
     let p = err_from_is_err_and c.from_residual-in_err-acquire-in-Typed-2.result c.from_residual-in_err-acquire-in-Typed-2.ensures.1 in
     let got = c.in_err-acquire-in-Typed-2.ensures in
-    rw (p.1, p.2, table_named c.in-Typed-2.is c.requires.asks c.requires.low c.requires.high) (refused (above_one c.requires.low c.if-level-eq1.false) got.kinds got.serves got.stops got.hand got.course)
+    rw (p.1, p.2, table_named c.in-Typed-2.is c.requires.asks c.requires.low c.requires.high)
+    (refused (above_one c.requires.low c.if-level-eq1.false) got.kinds got.serves got.stops got.hand got.course)
 
 pub returns-in_ok-acquire-in-Typed-2-clause-did : goal.returns-in_ok-acquire-in-Typed-2-clause-did
 returns-in_ok-acquire-in-Typed-2-clause-did g c =

@@ -70,7 +70,8 @@ leave_lock-requires-in-Err-put_entry-clause-locked g c =
 pub leave_lock-requires-in-Err-put_entry-clause-works : goal.leave_lock-requires-in-Err-put_entry-clause-works
 leave_lock-requires-in-Err-put_entry-clause-works g c =
     let took = rw (c.owner_at-owner.ensures, c.requires.wanted) at c.in-Ok.ensures.did in
-    given_works c.args.update c.args.owners c.requires.locked took (rw c.word_kept-new.ensures at c.in-Err-put_entry.ensures) (rw (c.owner_at-owner.ensures, c.requires.wanted) at c.give_demand.ensures)
+    given_works c.args.update c.args.owners c.requires.locked took (rw c.word_kept-new.ensures at c.in-Err-put_entry.ensures)
+    (rw (c.owner_at-owner.ensures, c.requires.wanted) at c.give_demand.ensures)
 
 pub returns-in-Err-put_entry-clause-did : goal.returns-in-Err-put_entry-clause-did
 returns-in-Err-put_entry-clause-did g c =

@@ -16,5 +16,6 @@ returns-in-Ok g c = put_swapped c.requires.index c.requires.exchanges c.if-not-u
 
 pub returns-in-Err : goal.returns-in-Err
 returns-in-Err g c =
-    let at = c.place-place.ensures ∙ ap (λ m. number (sizes_of m) (Cell c.args.update.table c.args.update.index)) (c.layout.ensures.layout ∙ ap (λ (q : PortValue). q.post.machine) c.in-Err.ensures.moves.to) in
+    let at = c.place-place.ensures ∙ ap (λ m. number (sizes_of m) (Cell c.args.update.table c.args.update.index))
+    (c.layout.ensures.layout ∙ ap (λ (q : PortValue). q.post.machine) c.in-Err.ensures.moves.to) in
     put_lost c.requires.index c.requires.exchanges c.if-not-update.false c.in-Err.ensures.lost c.in-Err.ensures.moves c.in-Err.ensures.hand at

@@ -7,7 +7,8 @@ pub take_page-requires-clause-apart : goal.take_page-requires-clause-apart
 take_page-requires-clause-apart g c = let a = c.requires.ordinary.1 in no_work c.requires.ordinary.0 (g.P.Port.value c.args.port.now) c.args.frame c.args.owners.tables a.referred.begins.rests (lent a)
 
 pub take_page-requires-clause-untyped : goal.take_page-requires-clause-untyped
-take_page-requires-clause-untyped g c = let a = c.requires.ordinary.1 in no_type c.requires.ordinary.0 (g.P.Port.value c.args.port.now) c.args.frame c.args.owners.tables a.referred.begins.rests (lent a)
+take_page-requires-clause-untyped g c =
+    let a = c.requires.ordinary.1 in no_type c.requires.ordinary.0 (g.P.Port.value c.args.port.now) c.args.frame c.args.owners.tables a.referred.begins.rests (lent a)
 
 pub returns-in_err-take_page-clause-writes : goal.returns-in_err-take_page-clause-writes
 returns-in_err-take_page-clause-writes g c = λ b keep a.
@@ -18,12 +19,14 @@ returns-in_err-take_page-clause-writes g c = λ b keep a.
 pub store_cell-requires-clause-writes : goal.store_cell-requires-clause-writes
 store_cell-requires-clause-writes g c =
     let a = c.requires.ordinary.1 in
-    may_write c.requires.ordinary.0 (g.P.Port.value c.args.port.now) c.args.frame c.args.owners.tables a.referred.begins.rests (lent a) (g.P.Port.value c.take_page.new.port) c.in_ok-take_page.ensures.hand c.args.word
+    may_write c.requires.ordinary.0 (g.P.Port.value c.args.port.now) c.args.frame c.args.owners.tables a.referred.begins.rests (lent a)
+    (g.P.Port.value c.take_page.new.port) c.in_ok-take_page.ensures.hand c.args.word
 
 pub drop_plain-requires-clause-drops : goal.drop_plain-requires-clause-drops
 drop_plain-requires-clause-drops g c =
     let a = c.requires.ordinary.1 in
-    may_drop c.requires.ordinary.0 (g.P.Port.value c.args.port.now) (g.P.Port.value c.take_page.new.port) (g.P.Port.value c.store_cell.new.port) c.args.frame c.args.owners.tables a.referred.begins.rests (lent a)
+    may_drop c.requires.ordinary.0 (g.P.Port.value c.args.port.now) (g.P.Port.value c.take_page.new.port)
+    (g.P.Port.value c.store_cell.new.port) c.args.frame c.args.owners.tables a.referred.begins.rests (lent a)
     c.in_ok-take_page.ensures.hand c.store_cell.ensures.hand
 
 pub returns-clause-writes : goal.returns-clause-writes

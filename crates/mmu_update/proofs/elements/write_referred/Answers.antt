@@ -30,4 +30,8 @@ pub returns-in-Err-clause-writes : goal.returns-in-Err-clause-writes
 returns-in-Err-clause-writes g c = λ b r.
     let t = c.in-Err.ensures in
     let p = c.put_ref.ensures in
-    ungated (lock_kinds c.in-Err.stop t.kinds).1 (unlocked _ r t.hand p.hand t.serves t.kinds (record { found = t.found; plain = t.plain; stops = t.stops }) p.serves (record { found = p.puts; plain = p.plain }))
+    ungated (lock_kinds c.in-Err.stop t.kinds).1 (unlocked _ r t.hand p.hand t.serves t.kinds (record {
+      found = t.found;
+      plain = t.plain;
+      stops = t.stops;
+    }) p.serves (record { found = p.puts; plain = p.plain }))
