@@ -81,14 +81,12 @@ module _ {v w : PortValue} {owner level g : ℕ} where
 unasked : {v w : PortValue} {d : Demand} {says : ℕ → Bool} {before agreed : ℕ} → ReleasedDemand v d w [] → ReleasesDemand v w d says before before agreed agreed
 unasked course = record { answers = []; course = course; gate = consulted_none _ _ _; due = not_due false [] refl }
 
+still_released : {v : PortValue} {d : Demand} {says : ℕ → Bool} {before agreed : ℕ} → LeavesGone v v d → ReleasedDemand v d v [] → DemandReleased v v d says before before agreed agreed
+still_released {v} {d} hand course = record { came = came_self v; serves = λ owner pages. serves_nothing v (of_given d owner pages); hand = hand; course = unasked course }
+
 pub nothing_released : {v : PortValue} {d : Demand} {says : ℕ → Bool} {before agreed : ℕ} → (d ≡ Nothing) ⊎ (d ≡ Bad) → DemandReleased v v d says before before agreed agreed
-nothing_released {v} (inl is) = rw is (record {
-  came = came_self v;
-  serves = λ owner pages. serves_nothing v (of_given Nothing owner pages);
-  hand = (v.holdings.old0, refl);
-  course = unasked courses.nothing;
-})
-nothing_released {v} (inr is) = rw is (record { came = came_self v; serves = λ owner pages. serves_nothing v (of_given Bad owner pages); hand = (v.holdings.old0, refl); course = unasked courses.bad })
+nothing_released {v} (inl is) = rw is (still_released (v.holdings.old0, refl) courses.nothing)
+nothing_released {v} (inr is) = rw is (still_released (v.holdings.old0, refl) courses.bad)
 
 module _ {v w : PortValue} {g : ℕ} {says : ℕ → Bool} where
   pub ref_released : {before agreed : ℕ} → Serves v w (of_back g) [] → Holds v w (gave g v.holdings) → GaveRef v w g → DemandReleased v w (Read g) says before before agreed agreed

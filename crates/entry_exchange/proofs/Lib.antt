@@ -17,5 +17,4 @@ pub mod ServesWords
 pub mod Standing
 pub mod Staying
 pub mod Steps
-pub mod StopsPutting
 pub mod Taking

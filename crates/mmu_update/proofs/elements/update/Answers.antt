@@ -28,32 +28,20 @@ returns-in-SetM2p-clause-calm g c = λ calm. (map_undue (g.P.Port.value c.args.p
 pub returns-in-Write-clause-came : goal.returns-in-Write-clause-came
 returns-in-Write-clause-came g c = serves_came (g.P.Port.value c.args.port.now) (g.P.Port.value c.write_word.new.port) _ _ c.write_word.ensures.writes.course.serves.2
 
-pub returns-in-Misaligned-clause-came : goal.returns-in-Misaligned-clause-came
-returns-in-Misaligned-clause-came g c = came_self (g.P.Port.value c.args.port.now)
-
 pub returns-in-Misaligned-clause-serves : goal.returns-in-Misaligned-clause-serves
 returns-in-Misaligned-clause-serves g c = misaligned_serves (g.P.Port.value c.args.port.now) c.args.owners _ (sym c.element_of.ensures ∙ c.in-Misaligned.is)
 
 pub returns-in-Misaligned-clause-stops : goal.returns-in-Misaligned-clause-stops
 returns-in-Misaligned-clause-stops g c = misaligned_stops (g.P.Port.value c.args.port.now) c.args.owners _ (sym c.element_of.ensures ∙ c.in-Misaligned.is)
 
-pub returns-in-Misaligned-clause-hand : goal.returns-in-Misaligned-clause-hand
-returns-in-Misaligned-clause-hand g c = same_hand (g.P.Port.value c.args.port.now)
-
 pub returns-in-Misaligned-clause-course : goal.returns-in-Misaligned-clause-course
 returns-in-Misaligned-clause-course g c = misaligned_course (g.P.Port.value c.args.port.now) c.args.owners _ (sym c.element_of.ensures ∙ c.in-Misaligned.is) _ _ _
-
-pub returns-in-Unknown-clause-came : goal.returns-in-Unknown-clause-came
-returns-in-Unknown-clause-came g c = came_self (g.P.Port.value c.args.port.now)
 
 pub returns-in-Unknown-clause-serves : goal.returns-in-Unknown-clause-serves
 returns-in-Unknown-clause-serves g c = unknown_serves (g.P.Port.value c.args.port.now) c.args.owners _ (sym c.element_of.ensures ∙ c.in-Unknown.is)
 
 pub returns-in-Unknown-clause-stops : goal.returns-in-Unknown-clause-stops
 returns-in-Unknown-clause-stops g c = unknown_stops (g.P.Port.value c.args.port.now) c.args.owners _ (sym c.element_of.ensures ∙ c.in-Unknown.is)
-
-pub returns-in-Unknown-clause-hand : goal.returns-in-Unknown-clause-hand
-returns-in-Unknown-clause-hand g c = same_hand (g.P.Port.value c.args.port.now)
 
 pub returns-in-Unknown-clause-course : goal.returns-in-Unknown-clause-course
 returns-in-Unknown-clause-course g c = unknown_course (g.P.Port.value c.args.port.now) c.args.owners _ (sym c.element_of.ensures ∙ c.in-Unknown.is) _ _ _
