@@ -8,6 +8,8 @@ use Rattle.xp_board.specs.Told.{PortValue}
 use Rattle.step_maker.specs.Holds.{Same, quiet}
 use Rattle.answer_fits.specs.Answers.{Serves, Stops}
 use Rattle.answer_fits.specs.Asked.{of_frame}
+use Rattle.step_maker.proofs.Coming.{came_self}
+use Rattle.answer_fits.proofs.Piecing.{serves_came}
 use Rattle.answer_fits.specs.Visits.{Does}
 use Rattle.foreign_map.specs.declared.owners.Owners.{Owners}
 use Rattle.level_release.specs.Asking.{is_due_answer, is_due_stop}
@@ -82,3 +84,6 @@ module _ (v : PortValue) (o : Owners) (e : Element) where
     pub unknown_course : (says : ℕ → Bool) (asks agreed : ℕ) → UpdatesBy v v o e says asks asks agreed agreed (Err (Refused BadCommand))
     unknown_course says asks agreed =
         subst (λ k. UpdatesBy v v o k says asks asks agreed agreed (Err (Refused BadCommand))) (sym is) (record { answers = []; course = (refl, refl, refl); gate = consulted_none says asks agreed; due = not_due false [] refl })
+
+-- what the search needs at the elements that write no word of a frame
+pub ruleset plain_ways = (came_self, serves_came, same_hand, map_hand, misaligned_serves, unknown_serves, misaligned_stops, unknown_stops)
