@@ -1,88 +1,116 @@
--- What an entry asks is given back, for an entry that is not put there: what it needs, what is in hand then, and the course.
-use Rattle.std.proofs.Common.{◌≡◌, ◌≢◌, ◌⊎◌, ℕ, ◌-◌, ◌<◌, ◌≤◌, List, refl, sym, ap, ◌∙◌, subst, arith, inl, inr}
-use Rattle.xp_words.specs.Entries.{below}
+-- What an entry asks is given back, or released: what that needs, and by the call, all that is said of it.
+use Rattle.std.proofs.Common.{◌≡◌, ◌⊎◌, ℕ, ◌+◌, ◌-◌, ◌<◌, ◌≤◌, Bool, false, List, [], Some, Result, Ok, Err, IfErr, refl, sym, ap, ◌∙◌, subst, inl, inr}
 use Rattle.xp_words.specs.declared.entry.Demand.{Demand}
 use Rattle.xp_words.specs.declared.entry.Demand.TheVariants.{Bad, Nothing, Read, Typed}
 use Rattle.xp_words.specs.declared.kind.PageType.{PageType}
 use Rattle.xp_words.specs.declared.kind.PageType.TheVariants.{Writable}
+use Rattle.xp_words.specs.declared.reply.Pause.TheVariants.{Due}
+use Rattle.xp_words.specs.declared.reply.Stop.{Stop}
+use Rattle.xp_words.specs.declared.reply.Stop.TheVariants.{Paused}
 use Rattle.xp_board.specs.declared.holdings.Reference.{Reference}
-use Rattle.xp_board.specs.Hands.{refs_to}
+use Rattle.xp_board.specs.declared.holdings.TypedReference.{TypedReference}
+use Rattle.xp_board.specs.Hands.{refs_to, without_typed}
 use Rattle.xp_board.specs.Told.{PortValue}
+use Rattle.xp_preempt.proofs.Consulting.{consulted_none, not_due}
 use Rattle.board_lemmas.proofs.ListCounts.{newest_held}
 use Rattle.step_maker.specs.Holds.{Holds, still}
-use Rattle.frame_types.specs.Taking.{MayDropPlain, gave_type}
+use Rattle.step_maker.proofs.Coming.{came_self}
+use Rattle.answer_fits.specs.Answers.{Serves, misses}
+use Rattle.answer_fits.specs.Asked.{of_back}
+use Rattle.answer_fits.proofs.Piecing.{serves_came, serves_nothing}
 use Rattle.frame_words.specs.Freeing.{gave}
 use Rattle.frame_words.specs.Refs.{MayPut}
+use Rattle.frame_types.specs.Taking.{MayDropPlain, gave_type}
 use Rattle.kind_words.proofs.KindHands.{apart_spares, no_work}
+use Rattle.kind_words.proofs.Leaving.{without_newest}
+use Rattle.level_release.specs.Asking.{of_release}
+use Rattle.level_release.specs.Course.{ReleasesFrameBy}
+use Rattle.level_release.specs.Holding.{HoldsLive, LeavesUnheld}
 use Rattle.partial_state.specs.Levels.{level_type}
-use Rattle.partial_state.proofs.LevelFacts.{level_type-under}
 use Rattle.table_courses.specs.Acquiring.{GaveRef, GaveType}
-use Rattle.entry_exchange.specs.Course.{GaveDemand}
+use Rattle.entry_exchange.specs.Course.{GaveDemand, ReleasedDemand}
 use Rattle.entry_exchange.specs.Course as courses
-use Rattle.entry_exchange.specs.Parts.{GaveTable, HoldsRef, HoldsTyped, IsOfLevel, LeavesGone, LeavesUntyped}
+use Rattle.entry_exchange.specs.Parts.{DemandGiven, DemandReleased, GaveTable, HoldsRef, HoldsTyped, IsOfLevel, LeavesGone, ReleasesDemand, TableGiven}
 use Rattle.entry_exchange.specs.Parts as parts
-use Rattle.entry_exchange.specs.Serving.{ServesGiven, ServesTable}
+use Rattle.entry_exchange.specs.Serving.{of_given}
 use Rattle.entry_exchange.proofs.GivingTable.{held, live, none_left}
+use Rattle.entry_exchange.proofs.ServesGiving.{behind_back, released_ref, released_typed}
 
 -- ---- what it needs
-pub may_put_ref : (v : PortValue) (g : ℕ) → HoldsRef v g → MayPut g v.holdings
-may_put_ref v g holds =
+pub may_put_ref : {v : PortValue} {g : ℕ} → HoldsRef v g → MayPut g v.holdings
+may_put_ref {v} {g} holds =
     record {
       held = subst (λ (rs : List Reference). 0 < refs_to g rs) (sym holds.refs) (newest_held g holds.reference holds.others holds.here);
       spares = apart_spares g v.holdings (no_work g v.holdings.works holds.works);
     }
 
--- an entry of level 1 asks a page
-pub page_asked : (level : ℕ) (t : PageType) → t ≡ below (level_type level) → level ≡ 1 → t ≡ Writable
-page_asked level t asks one = asks ∙ ap (λ l. below (level_type l)) one
+pub may_drop_page : {v : PortValue} {g owner : ℕ} → HoldsTyped v g Writable owner → MayDropPlain v.post.machine g Writable v.holdings
+may_drop_page {v} {g} holds = record { held = held holds; live = live holds; plain = refl; apart = no_work g v.holdings.works holds.works }
 
-pub may_drop_page : (v : PortValue) (g : ℕ) (t : PageType) (owner : ℕ) → HoldsTyped v g t owner → t ≡ Writable → MayDropPlain v.post.machine g Writable v.holdings
-may_drop_page v g t owner holds is =
-    let page : HoldsTyped v g Writable owner = subst (λ k. HoldsTyped v g k owner) is holds in
-    record { held = held v g Writable owner page; live = live v g Writable owner page; plain = refl; apart = no_work g v.holdings.works page.works }
+-- ---- given back
+pub nothing_given : {v : PortValue} {owner level : ℕ} {d : Demand} → IsOfLevel level d → (d ≡ Nothing) ⊎ (d ≡ Bad) → DemandGiven v v owner level d
+nothing_given {level = level} fits (inr is) = absurd (subst (λ k. IsOfLevel level k) is fits)
+nothing_given {v} fits (inl is) = rw is (record {
+  came = came_self v;
+  serves = λ u r ds before asked locks. record { more = []; hidden = inl refl; serves = before };
+  hand = (v.holdings.old0, refl);
+  course = courses.nothing;
+})
 
--- ---- what is in hand then
-pub nothing_gone : (v : PortValue) (d : Demand) → (d ≡ Nothing) ⊎ (d ≡ Bad) → LeavesGone v v d
-nothing_gone v d (inl is) = subst (λ k. LeavesGone v v k) (sym is) (v.holdings.old0, refl)
-nothing_gone v d (inr is) = subst (λ k. LeavesGone v v k) (sym is) (v.holdings.old0, refl)
+module _ {v w : PortValue} {owner level g : ℕ} where
+  pub ref_given : Serves v w (of_back g) [] → Holds v w (gave g v.holdings) → GaveRef v w g → DemandGiven v w owner level (Read g)
+  ref_given gives hand gave = record { came = serves_came v w (of_back g) [] gives; serves = behind_back v w g gives; hand = (v.holdings.old0, hand); course = courses.referred w g gave }
 
-module _ (v w : PortValue) (d : Demand) (g : ℕ) where
-  pub ref_gone : d ≡ Read g → Holds v w (gave g v.holdings) → LeavesGone v w d
-  ref_gone is put = subst (λ k. LeavesGone v w k) (sym is) (v.holdings.old0, put)
+  pub page_given : level ≡ 1 → Serves v w (of_back g) [] → Holds v w (gave_type g v.holdings) → GaveType v w g Writable → DemandGiven v w owner level (Typed g Writable)
+  page_given one gives hand gave = record { came = serves_came v w (of_back g) [] gives; serves = behind_back v w g gives; hand = (v.holdings.old0, hand); course = courses.paged w g one gave }
 
-  pub page_gone : (t : PageType) → d ≡ Typed g t → Holds v w (gave_type g v.holdings) → LeavesGone v w d
-  page_gone t is drops = subst (λ k. LeavesGone v w k) (sym is) (v.holdings.old0, drops)
+  pub table_given : 2 ≤ level → HoldsTyped v g (level_type (level - 1)) owner → TableGiven v w g (level - 1) owner → DemandGiven v w owner level (Typed g (level_type (level - 1)))
+  table_given above holds given =
+      record {
+        came = given.came;
+        serves = given.serves;
+        hand = (given.hand.0, given.hand.1 ∙ ap (λ ys. still (record v { holdings = record v.holdings { typed = ys; old0 = given.hand.0 } })) (sym (none_left holds)));
+        course = by_course given.course;
+      }
+    where
+      by_course : GaveTable v g (level - 1) owner w → GaveDemand owner level v (Typed g (level_type (level - 1))) w
+      by_course (parts.shared u x drops put) = courses.shared u x g above drops put
+      by_course (parts.last u x drops kept) = courses.last u x g above drops kept
 
-  pub table_gone : (t : PageType) (owner : ℕ) → d ≡ Typed g t → HoldsTyped v g t owner → LeavesUntyped v w → LeavesGone v w d
-  table_gone t owner is holds leaves =
-      subst (λ k. LeavesGone v w k) (sym is)
-      (leaves.0, leaves.1 ∙ ap (λ ys. still (record v { holdings = record v.holdings { typed = ys; old0 = leaves.0 } })) (sym (none_left v g t owner holds)))
+-- ---- released
+unasked : {v w : PortValue} {d : Demand} {says : ℕ → Bool} {before agreed : ℕ} → ReleasedDemand v d w [] → ReleasesDemand v w d says before before agreed agreed
+unasked course = record { answers = []; course = course; gate = consulted_none _ _ _; due = not_due false [] refl }
 
-  -- ---- what a guest sees of it
-  pub ref_serves : d ≡ Read g → ServesTable v w g → ServesGiven v w d
-  ref_serves is serves = subst (λ k. ServesGiven v w k) (sym is) serves
+still_released : {v : PortValue} {d : Demand} {says : ℕ → Bool} {before agreed : ℕ} → LeavesGone v v d → ReleasedDemand v d v [] → DemandReleased v v d says before before agreed agreed
+still_released {v} {d} hand course = record { came = came_self v; serves = λ owner pages. serves_nothing v (of_given d owner pages); hand = hand; course = unasked course }
 
-  pub typed_serves : (t : PageType) → d ≡ Typed g t → ServesTable v w g → ServesGiven v w d
-  typed_serves t is serves = subst (λ k. ServesGiven v w k) (sym is) serves
+pub nothing_released : {v : PortValue} {d : Demand} {says : ℕ → Bool} {before agreed : ℕ} → (d ≡ Nothing) ⊎ (d ≡ Bad) → DemandReleased v v d says before before agreed agreed
+nothing_released {v} (inl is) = rw is (still_released (v.holdings.old0, refl) courses.nothing)
+nothing_released {v} (inr is) = rw is (still_released (v.holdings.old0, refl) courses.bad)
 
-  -- ---- the course
-  pub ref_course : (owner level : ℕ) → d ≡ Read g → GaveRef v w g → GaveDemand owner level v d w
-  ref_course owner level is put = subst (λ k. GaveDemand owner level v k w) (sym is) (courses.referred w g put)
+module _ {v w : PortValue} {g : ℕ} {says : ℕ → Bool} where
+  pub ref_released : {before agreed : ℕ} → Serves v w (of_back g) [] → Holds v w (gave g v.holdings) → GaveRef v w g → DemandReleased v w (Read g) says before before agreed agreed
+  ref_released gives hand gave = record {
+    came = serves_came v w (of_back g) [] gives;
+    serves = λ owner pages. released_ref v w g owner pages gives;
+    hand = (v.holdings.old0, hand);
+    course = unasked (courses.referred w g gave);
+  }
 
-  pub page_course : (owner level : ℕ) (t : PageType) → d ≡ Typed g t → t ≡ Writable → level ≡ 1 → GaveType v w g Writable → GaveDemand owner level v d w
-  page_course owner level t is writable one drops = subst (λ k. GaveDemand owner level v k w) (sym (is ∙ ap (λ k. Typed g k) writable)) (courses.paged w g one drops)
+  pub typed_released : {t : PageType} {before after yes_before yes_after : ℕ} {answer : Result (Unit {0}) Stop} → HoldsLive v g t → IfErr answer (λ e. e ≡ Paused Due) →
+      ((owner pages : ℕ) → Serves v w (of_release g owner pages answer) (misses v.post.machine answer)) → LeavesUnheld v w g answer → ReleasesFrameBy v w g t says before after yes_before yes_after answer →
+      DemandReleased v w (Typed g t) says before after yes_before yes_after
+  typed_released {t} {answer = answer} holds due serves hand by =
+      record {
+        came = serves_came v w (of_release g 0 0 answer) (misses v.post.machine answer) (serves 0 0);
+        serves = λ owner pages. released_typed v w g owner pages t answer due (serves owner pages);
+        hand = by_answer answer hand;
+        course = record { answers = by.answers; course = courses.released w g t by.answers answer by.course due; gate = by.gate; due = not_due false by.answers refl };
+      }
+    where
+      none : without_typed g v.holdings.typed ≡ []
+      none = without_newest (λ (y : TypedReference). y.frame) g holds.reference [] v.holdings.typed holds.frame holds.typed
 
-  module _ (owner level : ℕ) (t : PageType) (is : d ≡ Typed g t) (asks : t ≡ below (level_type level)) (low : 1 ≤ level) (high : level ≤ 4) (off : level ≢ 1) where
-    above : 2 ≤ level
-    above = omega (arith, off)
-
-    pub table_course : GaveTable v g (level - 1) owner w → GaveDemand owner level v d w
-    table_course given = subst (λ k. GaveDemand owner level v k w) (sym (is ∙ ap (λ k. Typed g k) (asks ∙ level_type-under level low high))) (by_course given)
-      where
-        by_course : GaveTable v g (level - 1) owner w → GaveDemand owner level v (Typed g (level_type (level - 1))) w
-        by_course (parts.shared u x drops put) = courses.shared u x g above drops put
-        by_course (parts.last u x drops kept) = courses.last u x g above drops kept
-
-pub nothing_course : (v : PortValue) (owner level : ℕ) (d : Demand) → IsOfLevel level d → (d ≡ Nothing) ⊎ (d ≡ Bad) → GaveDemand owner level v d v
-nothing_course v owner level d fits (inl is) = subst (λ k. GaveDemand owner level v k v) (sym is) courses.nothing
-nothing_course v owner level d fits (inr is) = absurd (subst (λ k. IsOfLevel level k) is fits)
+      by_answer : (a : Result (Unit {0}) Stop) → LeavesUnheld v w g a → LeavesGone v w (Typed g t)
+      by_answer (Ok done) leaves = (v.holdings.old0, leaves ∙ ap (λ ys. still (record v { holdings = record v.holdings { typed = ys } })) (sym none))
+      by_answer (Err e) leaves = (Some (g + 1), leaves ∙ ap (λ ys. still (record v { holdings = record v.holdings { typed = ys; old0 = Some (g + 1) } })) (sym none))

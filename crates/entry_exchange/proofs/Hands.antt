@@ -70,23 +70,11 @@ is_from (Typed g t) n = (_, refl, refl, refl)
 
 -- ---- parts of a port
 module _ (v w : PortValue) (rs : List Reference) (ys : List TypedReference) (ls : List Lock) (a b : Option ℕ) (stands : Stands v w rs ys ls a b) where
-  pub refs_are : w.holdings.refs ≡ rs
-  refs_are = ap (λ (q : PortValue). q.holdings.refs) stands
-
-  pub typed_are : w.holdings.typed ≡ ys
-  typed_are = ap (λ (q : PortValue). q.holdings.typed) stands
-
   pub locks_are : w.holdings.locks ≡ ls
   locks_are = ap (λ (q : PortValue). q.holdings.locks) stands
 
   pub works_are : v.holdings.works ≡ [] → w.holdings.works ≡ []
   works_are idle = ap (λ (q : PortValue). q.holdings.works) stands ∙ idle
-
-  pub looking_are : v.holdings.looking ≡ [] → w.holdings.looking ≡ []
-  looking_are idle = ap (λ (q : PortValue). q.holdings.looking) stands ∙ idle
-
-  pub claimed_are : v.holdings.claimed ≡ [] → w.holdings.claimed ≡ []
-  claimed_are idle = ap (λ (q : PortValue). q.holdings.claimed) stands ∙ idle
 
   -- ---- given back
   nothing_left : (x : PortValue) (c : Option ℕ) → Holds w x (record w.holdings { old0 = c }) → rs ≡ [] → ys ≡ [] → Stands v x [] [] ls c b
@@ -178,27 +166,21 @@ module _ (v y z : PortValue) (f i : ℕ) (e : Lock) (d : Demand) (owner : ℕ) (
           ap (λ (q : PortValue). quiet (record q { holdings = record q.holdings { typed = without_typed g q.holdings.typed } })) s
           ∙ ap (λ xs. with_parts v [] xs (e ∷ []) a b) (without_newest (λ (x : TypedReference). x.frame) g (live_typed g t (owners.Of owner)) [] (typed_of (Typed g t) owner) refl refl)
 
+  steps_out : (k : ℕ → PortValue → PortValue) (x : Demand) → k (length (demand_out x y.holdings).steps) (record y { holdings = demand_out x y.holdings }) ≡ k (length y.holdings.steps) (record y { holdings = demand_out x y.holdings })
+  steps_out k Nothing = refl
+  steps_out k Bad = refl
+  steps_out k (Read h) = refl
+  steps_out k (Typed h t) = refl
+
   in_stands : (new : ℕ) (c : Demand) → quiet (record y { holdings = learned_cell f i new (demand_in true c (demand_out d y.holdings)) }) ≡ learned_port f i new (with_parts v (refs_from c (length y.holdings.steps)) (typed_from c (length y.holdings.steps)) (e ∷ []) a b)
   in_stands new Nothing = ap (learned_port f i new) out_stands
   in_stands new Bad = ap (learned_port f i new) out_stands
   in_stands new (Read g) =
       steps_out (λ n (q : PortValue). learned_port f i new (record q { holdings = record q.holdings { refs = record { frame = g; owner = owners.Since n } ∷ q.holdings.refs } })) d
       ∙ ap (λ (q : PortValue). learned_port f i new (record q { holdings = record q.holdings { refs = record { frame = g; owner = owners.Since (length y.holdings.steps) } ∷ q.holdings.refs } })) out_stands
-    where
-      steps_out : (k : ℕ → PortValue → PortValue) (x : Demand) → k (length (demand_out x y.holdings).steps) (record y { holdings = demand_out x y.holdings }) ≡ k (length y.holdings.steps) (record y { holdings = demand_out x y.holdings })
-      steps_out k Nothing = refl
-      steps_out k Bad = refl
-      steps_out k (Read h) = refl
-      steps_out k (Typed h t) = refl
   in_stands new (Typed g t) =
       steps_out (λ n (q : PortValue). learned_port f i new (record q { holdings = record q.holdings { typed = live_typed g t (owners.Since n) ∷ q.holdings.typed } })) d
       ∙ ap (λ (q : PortValue). learned_port f i new (record q { holdings = record q.holdings { typed = live_typed g t (owners.Since (length y.holdings.steps)) ∷ q.holdings.typed } })) out_stands
-    where
-      steps_out : (k : ℕ → PortValue → PortValue) (x : Demand) → k (length (demand_out x y.holdings).steps) (record y { holdings = demand_out x y.holdings }) ≡ k (length y.holdings.steps) (record y { holdings = demand_out x y.holdings })
-      steps_out k Nothing = refl
-      steps_out k Bad = refl
-      steps_out k (Read h) = refl
-      steps_out k (Typed h u) = refl
 
   pub changed_stands : (new old : ℕ) → keeps_demand e i new ≡ false → demand_at e.kind i new ≡ d → Holds y z (entry_set f i new old y.holdings) →
       Stands v z (refs_from (demand_at e.kind i old) (length y.holdings.steps)) (typed_from (demand_at e.kind i old) (length y.holdings.steps)) (learned_lock i new e ∷ []) a b

@@ -1,5 +1,4 @@
 pub mod ChangingDemand
-pub mod Courses
 pub mod ExchangingEntry
 pub mod GivingDemand
 pub mod GivingTable
@@ -10,9 +9,6 @@ pub mod Lengths
 pub mod LockOff
 pub mod PageKinds
 pub mod Putting
-pub mod ReleasingDemand
-pub mod ServesChanged
-pub mod ServesDemands
 pub mod ServesDone
 pub mod ServesGiving
 pub mod ServesPut
@@ -21,6 +17,4 @@ pub mod ServesWords
 pub mod Standing
 pub mod Staying
 pub mod Steps
-pub mod StopsBad
-pub mod StopsPutting
 pub mod Taking

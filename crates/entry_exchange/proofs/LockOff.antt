@@ -1,5 +1,5 @@
 -- The own entry lock goes off a table: what is in hand behind each step, and that these serve.
-use Rattle.std.proofs.Common.{◌≡◌, ℕ, ◌+◌, ◌-◌, ◌<◌, ◌≤◌, ◌==◌, true, false, List, ◌∷◌, length, Some, None, IsTrue, refl, sym, ap, ◌∙◌, subst, arith, inl, inr}
+use Rattle.std.proofs.Common.{◌≡◌, ℕ, ◌+◌, ◌-◌, ◌<◌, ◌≤◌, ◌==◌, true, false, List, [], ◌∷◌, length, Some, None, IsTrue, refl, sym, ap, ◌∙◌, subst, arith, inl, inr}
 use Rattle.std.proofs.lemmas.Bool.Decides.{nat_tests}
 use Rattle.xp_words.specs.KindWords.{is_kind, kind_fields, kind_write}
 use Rattle.xp_words.specs.declared.kind.KindWord.{KindWord}
@@ -32,8 +32,14 @@ use Rattle.partial_state.specs.Levels.{level_type}
 use Rattle.partial_state.proofs.LevelFacts.{level_type-table, level_type-typed}
 use Rattle.table_words.specs.OldWords.{kept_in_old, old_place}
 use Rattle.table_words.specs.declared.old_words.OldWord.TheVariants.{Second}
-use Rattle.entry_exchange.specs.Course.{LeftLock, last}
-use Rattle.entry_exchange.specs.Holding.{HoldsLockOf, LeavesUnlocked}
+use Rattle.entry_exchange.specs.Course.{last, shared}
+use Rattle.entry_exchange.specs.Holding.{HoldsLockOf}
+use Rattle.entry_exchange.specs.Parts.{LockLeft}
+use Rattle.entry_exchange.proofs.ServesGiving.{named_serves}
+use Rattle.answer_fits.specs.Answers.{Serves}
+use Rattle.answer_fits.specs.Asked.{of_back}
+use Rattle.answer_fits.proofs.Piecing.{serves_came, serves_then}
+use Rattle.table_courses.specs.Acquiring.{GaveRef}
 
 -- without its last type count a live table is closing
 closes : (k : KindWord) → IsTrue (is_live k) → (k.number == 1) ≡ true → IsTrue (is_closing (record k { number = k.number - 1; locked = false }))
@@ -42,15 +48,15 @@ closes k live one =
     let none : (k.number - 1 == 0) ≡ true = grind (arith, nat_tests) in
     rw (none, live) refl
 
-module _ (v u : PortValue) (f level : ℕ) (locked : HoldsLockOf v f level) where
-  abbrev off : Holdings
-  off = record v.holdings { locks = without_lock f v.holdings.locks }
+module _ {v : PortValue} {f level : ℕ} (locked : HoldsLockOf v f level) where
+  abbrev off_it : Holdings
+  off_it = record v.holdings { locks = without_lock f v.holdings.locks }
 
   abbrev lock_ref : Reference
   lock_ref = record { frame = f; owner = lock_owner f v.holdings }
 
   -- ---- other type counts are left
-  module _ (unlocks : Unlocks v u f false) where
+  module _ {u : PortValue} (unlocks : Unlocks v u f false) where
     pub may_put : MayPut f u.holdings
     may_put =
         record {
@@ -58,15 +64,22 @@ module _ (v u : PortValue) (f level : ℕ) (locked : HoldsLockOf v f level) wher
           spares = apart_spares f u.holdings (ap (λ (q : PortValue). work_on f q.holdings.works) unlocks.hand ∙ unlocks.unlocks.apart);
         }
 
-    pub shared_hand : (w : PortValue) → Holds u w (gave f u.holdings) → LeavesUnlocked v w f
-    shared_hand w put =
-        inl (
-        put ∙ ap (λ (q : PortValue). still (record q { holdings = gave f q.holdings })) unlocks.hand
-        ∙ ap (λ (rs : List Reference). still (record v { holdings = record off { refs = rs } })) (without_newest (λ (y : Reference). y.frame) f lock_ref v.holdings.refs (lock_ref ∷ v.holdings.refs) refl refl)
-        )
+    pub shared_left : {w : PortValue} → Serves v u (of_back f) [] → Serves u w (of_back f) [] → Holds u w (gave f u.holdings) → GaveRef u w f → LockLeft v w f level
+    shared_left {w} off gives put gave_ref =
+        let both = serves_then v u w (of_back f) [] [] off gives in
+        record {
+          came = serves_came v w (of_back f) [] both;
+          serves = both;
+          hand = inl (
+              put ∙ ap (λ (q : PortValue). still (record q { holdings = gave f q.holdings })) unlocks.hand
+              ∙ ap (λ (rs : List Reference). still (record v { holdings = record off_it { refs = rs } }))
+              (without_newest (λ (y : Reference). y.frame) f lock_ref v.holdings.refs (lock_ref ∷ v.holdings.refs) refl refl)
+              );
+          course = shared u w unlocks gave_ref;
+        }
 
   -- ---- it was the last one: the table is closing in the hand
-  module _ (frame : f < v.post.machine.frames) (low : 1 ≤ level) (unlocks : Unlocks v u f true) where
+  module _ {u : PortValue} (frame : f < v.post.machine.frames) (low : 1 ≤ level) (unlocks : Unlocks v u f true) where
     abbrev closing : Work
     closing = closing_unlocked f unlocks.found v.holdings
 
@@ -116,32 +129,39 @@ module _ (v u : PortValue) (f level : ℕ) (locked : HoldsLockOf v f level) wher
     works_gone : without_work f u.holdings.works ≡ v.holdings.works
     works_gone = without_newest (λ (y : Work). y.frame) f closing v.holdings.works u.holdings.works refl works_now
 
-    module _ (x : PortValue) (leaves : Holds u x (left u f mark)) where
-      abbrev new_count : TypedReference
-      new_count = record { frame = f; kind = Some (kind_fields closing.word).kind; owner = ref_owner f u.holdings; live = lives.Since (length u.holdings.steps) }
+    abbrev new_count : TypedReference
+    new_count = record { frame = f; kind = Some (kind_fields closing.word).kind; owner = ref_owner f u.holdings; live = lives.Since (length u.holdings.steps) }
 
-      -- the reference is in hand as a typed one
-      partial_hand : Holds v x (record off { typed = new_count ∷ v.holdings.typed })
-      partial_hand =
-          leaves ∙ ap (λ (h : Holdings). still (record u { holdings = h })) (left_partial_closing u f (level_type level) closing here false 512 0 is_closed spelled)
-          ∙ ap (λ (rs : List Reference). still (record u { holdings = record u.holdings { refs = rs; typed = new_count ∷ u.holdings.typed; works = without_work f u.holdings.works } })) refs_gone
-          ∙ ap (λ (ws : List Work). still (record u { holdings = record u.holdings { refs = v.holdings.refs; typed = new_count ∷ u.holdings.typed; works = ws } })) works_gone
-          ∙ ap (λ (q : PortValue). still (record q { holdings = record q.holdings { refs = v.holdings.refs; typed = new_count ∷ q.holdings.typed; works = v.holdings.works } })) unlocks.hand
+    -- the reference is in hand as a typed one
+    partial_hand : (x : PortValue) → Holds u x (left u f mark) → Holds v x (record off_it { typed = new_count ∷ v.holdings.typed })
+    partial_hand x leaves =
+        leaves ∙ ap (λ (h : Holdings). still (record u { holdings = h })) (left_partial_closing u f (level_type level) closing here false 512 0 is_closed spelled)
+        ∙ ap (λ (rs : List Reference). still (record u { holdings = record u.holdings { refs = rs; typed = new_count ∷ u.holdings.typed; works = without_work f u.holdings.works } })) refs_gone
+        ∙ ap (λ (ws : List Work). still (record u { holdings = record u.holdings { refs = v.holdings.refs; typed = new_count ∷ u.holdings.typed; works = ws } })) works_gone
+        ∙ ap (λ (q : PortValue). still (record q { holdings = record q.holdings { refs = v.holdings.refs; typed = new_count ∷ q.holdings.typed; works = v.holdings.works } })) unlocks.hand
+
+    module _ {l : KindWord} (is : l ≡ partial_kind (level_type level) false false 512 0) {x : PortValue} {found : ℕ} (store : Moves u x (Kind f) (Store (kind_write l)) kinds.Kind None found)
+        (leaves : Holds u x (left u f l)) where
+      hand : Holds v x (record off_it { typed = new_count ∷ v.holdings.typed })
+      hand = partial_hand x (subst (λ k. Holds u x (left u f k)) is leaves)
 
       pub still_held : 0 < typed_to f x.holdings.typed
-      still_held = subst (λ ys. 0 < typed_to f ys) (sym (ap (λ (q : PortValue). q.holdings.typed) partial_hand)) (typed_held f new_count v.holdings.typed refl)
+      still_held = subst (λ ys. 0 < typed_to f ys) (sym (ap (λ (q : PortValue). q.holdings.typed) hand)) (typed_held f new_count v.holdings.typed refl)
 
       -- and goes into the second old word
-      pub named_hand : (w : PortValue) → Holds x w (kept_in_old Second f x.holdings) → LeavesUnlocked v w f
-      named_hand w names =
-          inr (
-          names ∙ ap (λ (q : PortValue). still (record q { holdings = kept_in_old Second f q.holdings })) partial_hand
-          ∙ ap (λ (ys : List TypedReference). still (record v { holdings = record off { typed = ys; old1 = Some (f + 1) } })) (without_newest (λ (y : TypedReference). y.frame) f new_count v.holdings.typed (new_count ∷ v.holdings.typed) refl refl)
-          )
-
--- ---- the course where it was the last one
-pub last_left : (v : PortValue) (f level : ℕ) (u x w : PortValue) → Unlocks v u f true → (found : ℕ) → Moves u x (Kind f) (Store (kind_write (partial_kind (level_type level) false false 512 0))) kinds.Kind None found →
-    Moves x w (old_place x.post.vcpu Second) (Store (f + 1)) kinds.Context None 0 → LeftLock v f level w
-last_left v f level u x w unlocks found leaves names =
-    let posts : x.post ≡ v.post = ap (λ (q : PortValue). q.post) leaves.to ∙ ap (λ (q : PortValue). q.post) unlocks.hand in
-    last u x w found unlocks leaves (subst (λ (p : Post). Moves x w (old_place p.vcpu Second) (Store (f + 1)) kinds.Context None 0) posts names)
+      pub last_left : {w : PortValue} → Serves v u (of_back f) [] → Moves x w (old_place x.post.vcpu Second) (Store (f + 1)) kinds.Context None 0 → Holds x w (kept_in_old Second f x.holdings) →
+          LockLeft v w f level
+      last_left {w} off names keeps =
+          let posts : x.post ≡ v.post = ap (λ (q : PortValue). q.post) store.to ∙ ap (λ (q : PortValue). q.post) unlocks.hand in
+          let gives = named_serves v u x w f mark may_leave refl found (subst (λ k. Moves u x (Kind f) (Store (kind_write k)) kinds.Kind None found) is store) names off in
+          record {
+            came = serves_came v w (of_back f) [] gives;
+            serves = gives;
+            hand = inr (
+                keeps ∙ ap (λ (q : PortValue). still (record q { holdings = kept_in_old Second f q.holdings })) hand
+                ∙ ap (λ (ys : List TypedReference). still (record v { holdings = record off_it { typed = ys; old1 = Some (f + 1) } }))
+                (without_newest (λ (y : TypedReference). y.frame) f new_count v.holdings.typed (new_count ∷ v.holdings.typed) refl refl)
+                );
+            course = last u x w found unlocks (subst (λ k. Moves u x (Kind f) (Store (kind_write k)) kinds.Kind None found) is store)
+                (subst (λ (p : Post). Moves x w (old_place p.vcpu Second) (Store (f + 1)) kinds.Context None 0) posts names);
+          }

@@ -15,7 +15,7 @@ use Rattle.xp_board.specs.Told.{Post, PortValue}
 use Rattle.answer_fits.specs.Visits.{Does, Visit}
 use Rattle.flush_waits.specs.Waiting.{IsWait}
 use Rattle.frame_words.specs.Plain.{refer_by}
-use Rattle.frame_words.specs.Refs.{GetsBy, UnreferredBy, outside, refused}
+use Rattle.frame_words.specs.Refs.{GetsBy, IsRefStop, outside, refused}
 use Rattle.frame_types.specs.Found.{TypeBy}
 use Rattle.frame_types.specs.Plain.{stop_by}
 use Rattle.frame_types.specs.Standing.{standing_of}
@@ -33,39 +33,40 @@ abbrev pub Undue : Stop → Type 0
 Undue e = IsAcquireStop e × (is_due_stop e ≡ false)
 
 -- ---- a reference
-owned_why : (a b : Bool) (f x : ℕ) (r : Refusal) → (if a then (if b then Some (refusals.CountFull f x) else None) else Some (refusals.WrongOwner f x)) ≡ Some r → Undue (Refused r)
-owned_why true true f x r e = let is : refusals.CountFull f x ≡ r = cc in subst (λ y. Undue (Refused y)) is (tt, refl)
-owned_why true false f x r e = absurd cc
-owned_why false b f x r e = let is : refusals.WrongOwner f x ≡ r = cc in subst (λ y. Undue (Refused y)) is (tt, refl)
+named_kind : (a r : Refusal) → IsRefStop (Refused a) → Some a ≡ Some r → IsRefStop (Refused r)
+named_kind a r kind e = let same : a ≡ r = cc in subst (λ y. IsRefStop (Refused y)) same kind
 
-wrong_why : (f x : ℕ) (r : Refusal) → Some (refusals.WrongOwner f x) ≡ Some r → Undue (Refused r)
-wrong_why f x r e = let is : refusals.WrongOwner f x ≡ r = cc in subst (λ y. Undue (Refused y)) is (tt, refl)
+owned_kind : (a b : Bool) (f x : ℕ) (r : Refusal) → (if a then (if b then Some (refusals.CountFull f x) else None) else Some (refusals.WrongOwner f x)) ≡ Some r → IsRefStop (Refused r)
+owned_kind true true f x r e = named_kind (refusals.CountFull f x) r tt e
+owned_kind true false f x r e = absurd cc
+owned_kind false b f x r e = named_kind (refusals.WrongOwner f x) r tt e
 
-read_why : (limit owner f x : ℕ) (o : Option RefWord) (r : Refusal) → refer_by limit owner f x o ≡ Some r → Undue (Refused r)
-read_why limit owner f x (Some (refs.Owned d allocated count)) r e = owned_why (d == owner) (nat_le limit count) f x r e
-read_why limit owner f x (Some (refs.Free stamp)) r e = wrong_why f x r e
-read_why limit owner f x (Some (refs.Dying d)) r e = wrong_why f x r e
-read_why limit owner f x None r e = wrong_why f x r e
+word_kind : (limit owner f x : ℕ) (o : Option RefWord) (r : Refusal) → refer_by limit owner f x o ≡ Some r → IsRefStop (Refused r)
+word_kind limit owner f x (Some (refs.Owned d allocated count)) r e = owned_kind (d == owner) (nat_le limit count) f x r e
+word_kind limit owner f x (Some (refs.Free stamp)) r e = named_kind (refusals.WrongOwner f x) r tt e
+word_kind limit owner f x (Some (refs.Dying d)) r e = named_kind (refusals.WrongOwner f x) r tt e
+word_kind limit owner f x None r e = named_kind (refusals.WrongOwner f x) r tt e
 
-inside_why : (n : Machine) (owner f x : ℕ) (b : Bool) (r : Refusal) → (if b then refer_by n.limit owner f x (ref_read x) else Some (refusals.NoFrame f)) ≡ Some r → Undue (Refused r)
-inside_why n owner f x true r e = read_why n.limit owner f x (ref_read x) r e
-inside_why n owner f x false r e = let is : refusals.NoFrame f ≡ r = cc in subst (λ y. Undue (Refused y)) is (tt, refl)
+inside_kind : (n : Machine) (owner f x : ℕ) (b : Bool) (r : Refusal) → (if b then refer_by n.limit owner f x (ref_read x) else Some (refusals.NoFrame f)) ≡ Some r → IsRefStop (Refused r)
+inside_kind n owner f x true r e = word_kind n.limit owner f x (ref_read x) r e
+inside_kind n owner f x false r e = named_kind (refusals.NoFrame f) r tt e
 
-unreferred_why : (n : Machine) (f owner : ℕ) (r : Refusal) (vs : List Visit) → UnreferredBy n f owner r vs → Undue (Refused r)
-unreferred_why n f owner r vs (outside low is none) = subst (λ y. Undue (Refused y)) (sym is) (tt, refl)
-unreferred_why n f owner r vs (refused x inside why only) = inside_why n owner f x (nat_lt f n.frames) r why
+pub gets_kind : (n : Machine) (f owner : ℕ) (e : Stop) (vs : List Visit) → GetsBy {A = ℕ} n f owner (Err e) vs → IsRefStop e
+gets_kind n f owner (Refused r) vs (outside low is none) = subst (λ y. IsRefStop (Refused y)) (sym is) tt
+gets_kind n f owner (Refused r) vs (refused x inside why only) = inside_kind n owner f x (nat_lt f n.frames) r why
+gets_kind n f owner (Paused (pauses.Lost place expected found)) vs by = tt
+gets_kind n f owner (Paused _) vs by = absurd by
 
-gets_why : (n : Machine) (f owner : ℕ) (e : Stop) (vs : List Visit) → GetsBy {A = ℕ} n f owner (Err e) vs → Undue e
-gets_why n f owner (Refused r) vs by = unreferred_why n f owner r vs by
-gets_why n f owner (Paused (pauses.Lost place expected found)) vs by = (tt, refl)
-gets_why n f owner (Paused pauses.Due) vs by = absurd by
-gets_why n f owner (Paused (pauses.Busy g found)) vs by = absurd by
-gets_why n f owner (Paused (pauses.Flush vcpu stamp found)) vs by = absurd by
-gets_why n f owner (Paused (pauses.Alive vcpu found)) vs by = absurd by
+ref_undue : (e : Stop) → IsRefStop e → Undue e
+ref_undue (Refused (refusals.NoFrame f)) is = (tt, refl)
+ref_undue (Refused (refusals.WrongOwner f found)) is = (tt, refl)
+ref_undue (Refused (refusals.CountFull f found)) is = (tt, refl)
+ref_undue (Paused (pauses.Lost place expected found)) is = (tt, refl)
+ref_undue _ is = absurd is
 
 pub ref_why : (v w : PortValue) (f owner : ℕ) (e : Stop) → GotRef v w f owner (Err e) → Undue e
 unfolding Does
-ref_why v w f owner e got = gets_why v.post.machine f owner e _ got.found.2
+ref_why v w f owner e got = ref_undue e (gets_kind v.post.machine f owner e _ got.found.2)
 
 -- ---- a type
 stop_why : (f : ℕ) (want : PageType) (x : ℕ) (s : Standing) (e : Stop) → stop_by f want x s ≡ Some e → Undue e
@@ -78,12 +79,9 @@ stop_why f want x stands.Partial e why = absurd cc
 type_by_why : (q : Post) (f owner : ℕ) (want : PageType) (e : Stop) (vs : List Visit) → TypeBy q f owner want (Err e) vs → Undue e
 type_by_why q f owner want (Refused r) vs by = stop_why f want by.0 (standing_of (kind_fields by.0) want) (Refused r) by.1
 type_by_why q f owner want (Paused (pauses.Lost place expected found)) vs by = (tt, refl)
-type_by_why q f owner want (Paused pauses.Due) vs by = stop_why f want by.0 (standing_of (kind_fields by.0) want) (Paused pauses.Due) by.1
-type_by_why q f owner want (Paused (pauses.Busy g found)) vs by = (tt, refl)
-type_by_why q f owner want (Paused (pauses.Flush vcpu stamp found)) vs by = (tt, refl)
-type_by_why q f owner want (Paused (pauses.Alive vcpu found)) vs by = stop_why f want by.0 (standing_of (kind_fields by.0) want) (Paused (pauses.Alive vcpu found)) by.1
+type_by_why q f owner want (Paused p) vs by = stop_why f want by.0 (standing_of (kind_fields by.0) want) (Paused p) by.1
 
-pub type_why : (v w : PortValue) (f owner level : ℕ) (e : Stop) → TookType v w f owner level (Err e) → Undue e
+type_why : (v w : PortValue) (f owner level : ℕ) (e : Stop) → TookType v w f owner level (Err e) → Undue e
 unfolding Does
 type_why v w f owner level e took = type_by_why v.post f owner (level_type level) e _ took.found.2
 

@@ -1,5 +1,5 @@
 -- What an entry asks is given back or released, and the lock goes off: what a guest sees of it.
-use Rattle.std.proofs.Common.{◌≡◌, ◌⊎◌, ℕ, ◌+◌, true, List, [], ◌∷◌, Option, None, IsTrue, Result, Ok, Err, IfErr, refl, rules, ap, subst, inl, inr}
+use Rattle.std.proofs.Common.{◌≡◌, ◌⊎◌, ℕ, ◌+◌, List, [], ◌∷◌, None, IsTrue, Result, Ok, Err, IfErr, refl, rules, ap, subst, inl, inr}
 use Rattle.xp_words.specs.KindWords.{kind_write}
 use Rattle.xp_words.specs.Machine.{Machine}
 use Rattle.xp_words.specs.declared.entry.Demand.TheVariants.{Read, Typed}
@@ -17,10 +17,10 @@ use Rattle.board_lemmas.proofs.Sums.{when_eq}
 use Rattle.step_maker.specs.Moves.{Met, Moves}
 use Rattle.step_maker.proofs.Coming.{came_post}
 use Rattle.answer_fits.specs.Answers.{Deed, Misses, Serves, misses}
-use Rattle.answer_fits.specs.Asked.{Request, Within, back, of_back}
+use Rattle.answer_fits.specs.Asked.{Within, back, of_back}
 use Rattle.answer_fits.specs.Finding.{Finding}
 use Rattle.answer_fits.proofs.Grown.{grown_by, risen}
-use Rattle.answer_fits.proofs.Piecing.{serves_back, serves_came, serves_step, serves_then, serves_within, within_back}
+use Rattle.answer_fits.proofs.Piecing.{serves_back, serves_came, serves_step, serves_within, within_back}
 use Rattle.kept_marks.specs.Marks.{IsForeign, ServesKept}
 use Rattle.kept_marks.proofs.Serving.{asked_later, left_serves}
 use Rattle.kind_words.specs.Kinds.{MayLeave}
@@ -38,10 +38,6 @@ behind_back v w f gives u r ds before asked locks =
       hidden = inl refl;
       serves = serves_back u v w r ds [] before f (asked_later u v w r f (serves_came v w (of_back f) [] gives) asked) gives;
     }
-
--- two of them
-pub back_twice : (v u w : PortValue) (f : ℕ) → Serves v u (of_back f) [] → Serves u w (of_back f) [] → Serves v w (of_back f) []
-back_twice v u w f one two = serves_then v u w (of_back f) [] [] one two
 
 -- and one that leaves it with its mark
 pub behind_kept : (v a w : PortValue) (f owner : ℕ) → Serves v a (of_back f) [] → ServesKept a w f owner → ServesTable v w f

@@ -10,8 +10,7 @@ use Rattle.xp_words.specs.declared.kind.PageType.{PageType}
 use Rattle.xp_words.specs.declared.kind.PageType.TheVariants as kinds
 use Rattle.xp_words.specs.declared.reply.Stop.{Stop}
 use Rattle.xp_board.specs.declared.holdings.Lock.{Lock}
-use Rattle.xp_board.specs.declared.holdings.Work.{Work}
-use Rattle.xp_board.specs.Hands.{lock_on, work_on}
+use Rattle.xp_board.specs.Hands.{lock_on}
 use Rattle.board_lemmas.proofs.Sums.{when_eq, when_ne}
 use Rattle.step_maker.specs.Moves.{Moment}
 use Rattle.answer_fits.specs.Asked.{Asked, Implies, IsAsked, IsDemandOf, IsFor, IsNaming, Request, Within, entered, named, of, owner_below}

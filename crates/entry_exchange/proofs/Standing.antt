@@ -1,7 +1,6 @@
 -- The table under the own lock along an exchange: what each part of it needs, and what is in hand at the end.
 use Rattle.std.proofs.Common.{◌≡◌, ℕ, ◌≤◌, if◌then◌else◌, true, false, List, [], ◌∷◌, length, Option, Some, refl, sym, ap, ◌∙◌, subst, inl, inr}
 use Rattle.xp_words.specs.Entries.{demand_at}
-use Rattle.xp_words.specs.Machine.{IsMachine}
 use Rattle.xp_words.specs.Places.{sizes_of}
 use Rattle.xp_words.specs.declared.entry.Demand.{Demand}
 use Rattle.xp_words.specs.declared.entry.Demand.TheVariants.{Bad, Nothing, Read, Typed}
@@ -15,7 +14,7 @@ use Rattle.xp_board.specs.declared.holdings.Seen.{Seen}
 use Rattle.xp_board.specs.Hands.{lock_on}
 use Rattle.xp_board.specs.KindSteps.{live_typed}
 use Rattle.xp_board.specs.Settling.{HasDemand}
-use Rattle.xp_board.specs.Told.{Post, PortValue}
+use Rattle.xp_board.specs.Told.{PortValue}
 use Rattle.board_lemmas.proofs.ListCounts.{first_by-cons_here}
 use Rattle.board_lemmas.proofs.Sums.{when_eq}
 use Rattle.step_maker.specs.Holds.{Holds, MayWork, Rests, quiet}
@@ -23,11 +22,11 @@ use Rattle.entry_locks.specs.Entries.{MaySwapEntry}
 use Rattle.foreign_map.specs.Owning.{MayMapFor}
 use Rattle.foreign_map.specs.declared.owners.Owners.{Owners}
 use Rattle.kind_words.proofs.KindHands.{known_first}
-use Rattle.level_validate.specs.Tables.{IsIdle}
 use Rattle.partial_state.specs.Levels.{level_type}
 use Rattle.entry_exchange.specs.Holding.{HoldsLockOf, HoldsTableLock, LeavesExchange, owner_at}
 use Rattle.entry_exchange.specs.Parts.{HoldsFreed, HoldsSeen, HoldsTaken, IsOfLevel}
 use Rattle.entry_exchange.proofs.Hands.{Stands, locks_are, refs_from, refs_of, stands_self, typed_from, typed_of, unset_stands}
+use Rattle.entry_exchange.proofs.Staying.{rests_by}
 use Rattle.entry_exchange.proofs.Putting.{has_read, has_typed}
 
 -- ---- whether the new word asks the same as the one seen
@@ -44,9 +43,6 @@ seen_keeps e i seen new level kind saw = keeps_by e.seen saw
 module _ (v : PortValue) (f level owner : ℕ) (holds : HoldsTableLock v f level owner) where
   pub begins : Stands v v [] [] (holds.lock ∷ []) v.holdings.old0 v.holdings.old1
   begins = stands_self v holds.lock holds.others.refs holds.others.typed holds.locks
-
-  pub idle : IsIdle v
-  idle = record { works = holds.others.works; typed = holds.others.typed; looking = holds.others.looking }
 
   -- the entry was looked at
   module _ (u : PortValue) (i word : ℕ) (looked : Holds v u (learned_cell f i word v.holdings)) where
@@ -89,24 +85,8 @@ module _ (v : PortValue) (f level owner : ℕ) (holds : HoldsTableLock v f level
 
     pub rests_then : MayWork v → LeavesExchange v w → Rests w
     rests_then may out =
-        record {
-          may = record {
-            running = ap (λ (q : PortValue). q.holdings.run) out.2 ∙ may.running;
-            no_walk = ap (λ (q : PortValue). q.holdings.walk) out.2 ∙ may.no_walk;
-            machine = subst (λ (p : Post). IsMachine p.machine) (sym (ap (λ (q : PortValue). q.post) out.2)) may.machine;
-          };
-          empty = record {
-            refs = ap (λ (q : PortValue). q.holdings.refs) out.2 ∙ holds.others.refs;
-            typed = ap (λ (q : PortValue). q.holdings.typed) out.2 ∙ holds.others.typed;
-            works = ap (λ (q : PortValue). q.holdings.works) out.2 ∙ holds.others.works;
-            locks = ap (λ (q : PortValue). q.holdings.locks) out.2;
-            ending = ap (λ (q : PortValue). q.holdings.ending) out.2 ∙ holds.others.ending;
-            claimed = ap (λ (q : PortValue). q.holdings.claimed) out.2 ∙ holds.others.claimed;
-            raised = ap (λ (q : PortValue). q.holdings.raised) out.2 ∙ holds.others.raised;
-            credits = ap (λ (q : PortValue). q.holdings.credits) out.2 ∙ holds.others.credits;
-            looking = ap (λ (q : PortValue). q.holdings.looking) out.2 ∙ holds.others.looking;
-          };
-        }
+        let away : PortValue = record v { holdings = record v.holdings { locks = [] } } in
+        rests_by away w out.0 out.1 (record { may = record { running = may.running; no_walk = may.no_walk; machine = may.machine }; empty = holds.others }) out.2
 
     -- behind the look
     pub leaves_behind : (u : PortValue) (ls : List Lock) (p q : Option ℕ) → Stands v u [] [] ls p q → LeavesExchange u w → LeavesExchange v w

@@ -45,39 +45,34 @@ abbrev vcpus : PortValue → ℕ
 vcpus v = length v.post.machine.vcpu_domain
 
 -- w is the same port as v, with no more than k steps more in its list
-abbrev Adds : PortValue → PortValue → ℕ → Type 0
-Adds v w k = (w.post ≡ v.post) × (length w.holdings.steps ≤ length v.holdings.steps + k)
+record Adds (v w : PortValue) (k : ℕ) : Type 0 where
+  post : w.post ≡ v.post
+  few : length w.holdings.steps ≤ length v.holdings.steps + k
 
-adds_none : (v : PortValue) → Adds v v 0
-adds_none v = (refl, omega arith)
+adds_none : {v : PortValue} → Adds v v 0
+adds_none = record { post = refl; few = omega arith }
 
-adds_more : (v w : PortValue) (j k : ℕ) → j ≤ k → Adds v w j → Adds v w k
-adds_more v w j k low a = let few = a.1 in (a.0, omega arith)
+adds_more : {v w : PortValue} {j k : ℕ} → Adds v w j → j ≤ k → Adds v w k
+adds_more a low = record { post = a.post; few = (let few = a.few in omega arith) }
 
-adds_then : (v u w : PortValue) (j k : ℕ) → Adds v u j → Adds u w k → Adds v w (j + k)
-adds_then v u w j k a b = let before = a.1 in let after = b.1 in (b.0 ∙ a.0, omega arith)
+adds_then : {v u w : PortValue} {j k : ℕ} → Adds v u j → Adds u w k → Adds v w (j + k)
+adds_then a b = record { post = b.post ∙ a.post; few = (let before = a.few in let after = b.few in omega arith) }
 
 -- the vCPUs are the same before and behind steps
-adds_at : (v u w : PortValue) (j k n : ℕ) → Adds v u j → Adds u w (k + n * vcpus u) → Adds v w (j + k + n * vcpus v)
-adds_at v u w j k n a b =
-    let there : Adds u w (k + n * vcpus v) = subst (λ (p : Post). Adds u w (k + n * length p.machine.vcpu_domain)) a.0 b in
-    let all = adds_then v u w j (k + n * vcpus v) a there in
-    adds_more v w (j + (k + n * vcpus v)) (j + k + n * vcpus v) (omega arith) all
+adds_at : {v u w : PortValue} {j : ℕ} (k n : ℕ) → Adds v u j → Adds u w (k + n * vcpus u) → Adds v w (j + k + n * vcpus v)
+adds_at {v} {u} {w} k n a b = adds_more (adds_then a (subst (λ (p : Post). Adds u w (k + n * length p.machine.vcpu_domain)) a.post b)) (omega arith)
 
 -- one step is one more
-moves_length : (v w : PortValue) (p : Place) (a : Act) (kind : StepKind) (mark : Option Mark) (found : ℕ) → Moves v w p a kind mark found → length w.holdings.steps ≡ length v.holdings.steps + 1
-moves_length v w p a kind mark found m = ap (λ xs. length xs) (moves_steps v w p a kind mark found m) ∙ omega arith
+moves_length : {v w : PortValue} {p : Place} {a : Act} {kind : StepKind} {mark : Option Mark} {found : ℕ} → Moves v w p a kind mark found → length w.holdings.steps ≡ length v.holdings.steps + 1
+moves_length m = ap (λ xs. length xs) (moves_steps _ _ _ _ _ _ _ m) ∙ omega arith
 
-moves_adds : (v w : PortValue) (p : Place) (a : Act) (kind : StepKind) (mark : Option Mark) (found : ℕ) → Moves v w p a kind mark found → Adds v w 1
-moves_adds v w p a kind mark found m = let one = moves_length v w p a kind mark found m in (ap (λ (x : PortValue). x.post) m.to, omega arith)
+moves_adds : {v w : PortValue} {p : Place} {a : Act} {kind : StepKind} {mark : Option Mark} {found : ℕ} → Moves v w p a kind mark found → Adds v w 1
+moves_adds m = record { post = ap (λ (x : PortValue). x.post) m.to; few = (let one = moves_length m in omega arith) }
 
 -- all steps of a list, and each is at a word of the machine
 ran_length : (v w : PortValue) (ms : List Moment) → Ran v ms w → length w.holdings.steps ≡ length v.holdings.steps + length (visits ms)
 ran_length v w [] ran = ap (λ (x : PortValue). length x.holdings.steps) ran ∙ omega arith
-ran_length v w (m ∷ ms) ran =
-    let before = ran_length v ran.0 ms ran.1 in
-    let one = moves_length ran.0 w m.place m.act m.kind m.mark m.found ran.2.moves in
-    omega arith
+ran_length v w (m ∷ ms) ran = let before = ran_length v ran.0 ms ran.1 in let one = moves_length ran.2.moves in omega arith
 
 ran_there : (v w : PortValue) (ms : List Moment) → Ran v ms w → are_there (sizes_of v.post.machine) (visits ms) ≡ true
 ran_there v w [] ran = refl
@@ -88,19 +83,19 @@ ran_there v w (m ∷ ms) ran =
 does_adds : (v w : PortValue) (P : List Visit → Type 0) (k : ℕ) → Short (sizes_of v.post.machine) P k → Does v w P → Adds v w k
 unfolding Does
 does_adds v w P k short does =
-    let few = short (visits does.0) (ran_there v w does.0 does.1) does.2 in
+    let less = short (visits does.0) (ran_there v w does.0 does.1) does.2 in
     let all = ran_length v w does.0 does.1 in
-    (ran_post v w does.0 does.1, omega arith)
+    record { post = ran_post v w does.0 does.1; few = omega arith }
 
 -- ---- single calls
-got_ref : (v w : PortValue) (f owner : ℕ) (answer : Result ℕ Stop) → GotRef v w f owner answer → Adds v w 2
-got_ref v w f owner answer a = does_adds v w (λ vs. GetsBy v.post.machine f owner answer vs) 2 (gets_short (sizes_of v.post.machine) v.post.machine f owner answer) a.found
+got_ref : {v w : PortValue} {f owner : ℕ} {answer : Result ℕ Stop} → GotRef v w f owner answer → Adds v w 2
+got_ref {v} {w} {f} {owner} {answer} a = does_adds v w (λ vs. GetsBy v.post.machine f owner answer vs) 2 (gets_short (sizes_of v.post.machine) v.post.machine f owner answer) a.found
 
-gave_ref : (v w : PortValue) (f : ℕ) → GaveRef v w f → Adds v w 5
-gave_ref v w f a = does_adds v w (PutBy f) 5 (puts_short (sizes_of v.post.machine) f) a.found
+gave_ref : {v w : PortValue} {f : ℕ} → GaveRef v w f → Adds v w 5
+gave_ref {v} {w} {f} a = does_adds v w (PutBy f) 5 (puts_short (sizes_of v.post.machine) f) a.found
 
-gave_type : (v w : PortValue) (f : ℕ) (kind : PageType) → GaveType v w f kind → Adds v w 8
-gave_type v w f kind a = does_adds v w (λ vs. DropsBy f kind vs) 8 (drops_short (sizes_of v.post.machine) f kind) a.found
+gave_type : {v w : PortValue} {f : ℕ} {kind : PageType} → GaveType v w f kind → Adds v w 8
+gave_type {v} {w} {f} {kind} a = does_adds v w (λ vs. DropsBy f kind vs) 8 (drops_short (sizes_of v.post.machine) f kind) a.found
 
 took_type : (v w : PortValue) (f owner level : ℕ) (answer : Result Taken Stop) → TookType v w f owner level answer → Adds v w (8 + 4 * vcpus v)
 took_type v w f owner level answer a =
@@ -108,79 +103,70 @@ took_type v w f owner level answer a =
 
 -- ---- ordinary memory is taken
 kept_adds : (v w : PortValue) (f owner stamp : ℕ) → KeptFor v w f (partial_kind Writable true true 0 stamp) owner → Adds v w 4
-kept_adds v w f owner stamp (marks.own mine left) = adds_more v w 1 4 (omega arith) (moves_adds v w _ _ _ _ _ left.1)
-kept_adds v w f owner stamp (marks.alive u foreign left look) =
-    adds_more v w 2 4 (omega arith) (adds_then v u w 1 1 (moves_adds v u _ _ _ _ _ left.1) (moves_adds u w _ _ _ _ _ look))
-kept_adds v w f owner stamp (marks.dying u x y life foreign left look dead back names) =
-    adds_then v u w 1 3 (moves_adds v u _ _ _ _ _ left.1)
-    (adds_then u x w 1 2 (moves_adds u x _ _ _ _ _ look) (adds_then x y w 1 1 (moves_adds x y _ _ _ _ _ back) (moves_adds y w _ _ _ _ _ names)))
-kept_adds v w f owner stamp (marks.taken u x life found foreign left look dead back other) =
-    adds_more v w 3 4 (omega arith)
-    (adds_then v u w 1 2 (moves_adds v u _ _ _ _ _ left.1) (adds_then u x w 1 1 (moves_adds u x _ _ _ _ _ look) (moves_adds x w _ _ _ _ _ back)))
+kept_adds v w f owner stamp (marks.own mine left) = adds_more (moves_adds left.1) (omega arith)
+kept_adds v w f owner stamp (marks.alive u foreign left look) = adds_more (adds_then (moves_adds left.1) (moves_adds look)) (omega arith)
+kept_adds v w f owner stamp (marks.dying u x y life foreign left look dead back names) = adds_then (moves_adds left.1) (adds_then (moves_adds look) (adds_then (moves_adds back) (moves_adds names)))
+kept_adds v w f owner stamp (marks.taken u x life found foreign left look dead back other) = adds_more (adds_then (moves_adds left.1) (adds_then (moves_adds look) (moves_adds back))) (omega arith)
 
 left_adds : (v w : PortValue) (f owner stamp : ℕ) (own refused : Bool) → PageLeft v w f owner stamp own refused → Adds v w 7
 left_adds v w f owner stamp true true a = does_adds v w (λ vs. DeadBy f Writable vs) 7 (dead_short (sizes_of v.post.machine) f Writable) a
-left_adds v w f owner stamp true false a = adds_more v w 4 7 (omega arith) (kept_adds v w f owner stamp a)
-left_adds v w f owner stamp false refused a =
-    adds_more v w 6 7 (omega arith) (does_adds v w (λ vs. SharedBy f Writable stamp vs) 6 (shared_short (sizes_of v.post.machine) f Writable stamp) a)
+left_adds v w f owner stamp true false a = adds_more (kept_adds v w f owner stamp a) (omega arith)
+left_adds v w f owner stamp false refused a = adds_more (does_adds v w (λ vs. SharedBy f Writable stamp vs) 6 (shared_short (sizes_of v.post.machine) f Writable stamp) a) (omega arith)
 
 -- a type with its wait, and then what gives it or its reference back
-took_then : (v u w : PortValue) (f owner : ℕ) (taken : Result Taken Stop) (k : ℕ) → k ≤ 7 → TookType v u f owner 0 taken → Adds u w k → Adds v w (15 + 4 * vcpus v)
-took_then v u w f owner taken k low took after =
-    adds_more v w (8 + 4 * vcpus v + k) (15 + 4 * vcpus v) (omega arith) (adds_then v u w (8 + 4 * vcpus v) k (took_type v u f owner 0 taken took) after)
+took_then : {v u w : PortValue} {f owner : ℕ} {taken : Result Taken Stop} {k : ℕ} → TookType v u f owner 0 taken → Adds u w k → k ≤ 7 → Adds v w (15 + 4 * vcpus v)
+took_then {v} {u} {w} {f} {owner} {taken} {k} took after low = adds_more (adds_then (took_type v u f owner 0 taken took) after) (omega arith)
 
 took_page : (v w : PortValue) (f owner : ℕ) (answer : Result (Unit {0}) Stop) → TookPage v f owner w answer → Adds v w (15 + 4 * vcpus v)
-took_page v w f owner answer (pages.counted _ took) = took_then v w w f owner _ 0 (omega arith) took (adds_none w)
-took_page v w f owner answer (pages.untyped u _ stop took gave) = took_then v u w f owner _ 5 (omega arith) took (gave_ref u w f gave)
-took_page v w f owner answer (pages.waiting u _ own stamp stop took left) = took_then v u w f owner _ 7 (omega arith) took (left_adds u w f owner stamp own _ left.steps)
+took_page v w f owner answer (pages.counted _ took) = took_then took adds_none (omega arith)
+took_page v w f owner answer (pages.untyped u _ stop took gave) = took_then took (gave_ref gave) (omega arith)
+took_page v w f owner answer (pages.waiting u _ own stamp stop took left) = took_then took (left_adds u w f owner stamp own _ left.steps) (omega arith)
 
 got_page : (v w : PortValue) (f owner : ℕ) (answer : Result ℕ Stop) → GotPage v f owner w answer → Adds v w (17 + 4 * vcpus v)
-got_page v w f owner answer (pages.unreferred _ stop got) = adds_more v w 2 (17 + 4 * vcpus v) (omega arith) (got_ref v w f owner (Err stop) got)
-got_page v w f owner answer (pages.refused u _ stop got took) = adds_at v u w 2 15 4 (got_ref v u f owner (Ok f) got) (took_page u w f owner (Err stop) took)
-got_page v w f owner answer (pages.had u _ got took) = adds_at v u w 2 15 4 (got_ref v u f owner (Ok f) got) (took_page u w f owner (Ok tt) took)
+got_page v w f owner answer (pages.unreferred _ stop got) = adds_more (got_ref got) (omega arith)
+got_page v w f owner answer (pages.refused u _ stop got took) = adds_at 15 4 (got_ref got) (took_page u w f owner (Err stop) took)
+got_page v w f owner answer (pages.had u _ got took) = adds_at 15 4 (got_ref got) (took_page u w f owner (Ok tt) took)
 
 -- ---- what the words ask, at level 1
 took_demand : (owner level : ℕ) (v w : PortValue) (d : Demand) (answers : List Bool) (answer : Result (Unit {0}) Stop) → level ≡ 1 → TookDemand owner level v d w answers answer → Adds v w (17 + 4 * vcpus v)
-took_demand owner level v w d answers answer one courses.nothing = adds_more v v 0 (17 + 4 * vcpus v) (omega arith) (adds_none v)
-took_demand owner level v w d answers answer one (courses.referred _ g got) = adds_more v w 2 (17 + 4 * vcpus v) (omega arith) (got_ref v w g owner (Ok g) got)
-took_demand owner level v w d answers answer one (courses.unreferred _ g stop got) = adds_more v w 2 (17 + 4 * vcpus v) (omega arith) (got_ref v w g owner (Err stop) got)
+took_demand owner level v w d answers answer one courses.nothing = adds_more adds_none (omega arith)
+took_demand owner level v w d answers answer one (courses.referred _ g got) = adds_more (got_ref got) (omega arith)
+took_demand owner level v w d answers answer one (courses.unreferred _ g stop got) = adds_more (got_ref got) (omega arith)
 took_demand owner level v w d answers answer one (courses.paged _ g low got) = got_page v w g owner (Ok g) got
 took_demand owner level v w d answers answer one (courses.unpaged _ g stop low got) = got_page v w g owner (Err stop) got
 took_demand owner level v w d answers answer one (courses.acquired _ g _ high got) = absurd (omega arith)
 took_demand owner level v w d answers answer one (courses.refused _ g _ stop high got) = absurd (omega arith)
 
 gave_demand : (owner level : ℕ) (v w : PortValue) (d : Demand) → level ≡ 1 → GaveDemand owner level v d w → Adds v w 8
-gave_demand owner level v w d one courses.nothing = adds_more v v 0 8 (omega arith) (adds_none v)
-gave_demand owner level v w d one (courses.referred _ g gave) = adds_more v w 5 8 (omega arith) (gave_ref v w g gave)
-gave_demand owner level v w d one (courses.paged _ g low gave) = gave_type v w g Writable gave
+gave_demand owner level v w d one courses.nothing = adds_more adds_none (omega arith)
+gave_demand owner level v w d one (courses.referred _ g gave) = adds_more (gave_ref gave) (omega arith)
+gave_demand owner level v w d one (courses.paged _ g low gave) = gave_type gave
 gave_demand owner level v w d one (courses.shared u _ g high drops gave) = absurd (omega arith)
 gave_demand owner level v w d one (courses.last u _ g high drops kept) = absurd (omega arith)
 
 was_released : (v w : PortValue) (f : ℕ) (kind : PageType) (answers : List Bool) (answer : Result (Unit {0}) Stop) → is_table kind ≡ false → WasReleased v f kind w answers answer → Adds v w 8
-was_released v w f kind answers answer off (releases.plain _ plain gave) = gave_type v w f kind gave
+was_released v w f kind answers answer off (releases.plain _ plain gave) = gave_type gave
 was_released v w f kind answers answer off (releases.shared u _ table drops gave) = absurd cc
 was_released v w f kind answers answer off (releases.last u x _ word level _ _ table named low drops look empties) = absurd cc
 
 released_demand : (v w : PortValue) (d : Demand) (answers : List Bool) → (d ≢ demands.Bad → IsOfLevel 1 d) → ReleasedDemand v d w answers → Adds v w 8
-released_demand v w d answers fits courses.nothing = adds_more v v 0 8 (omega arith) (adds_none v)
-released_demand v w d answers fits courses.bad = adds_more v v 0 8 (omega arith) (adds_none v)
-released_demand v w d answers fits (courses.referred _ g gave) = adds_more v w 5 8 (omega arith) (gave_ref v w g gave)
-released_demand v w d answers fits (courses.released _ g t _ answer released due) =
-    was_released v w g t answers answer (ap (λ k. is_table k) (fits (λ e. absurd cc))) released
+released_demand v w d answers fits courses.nothing = adds_more adds_none (omega arith)
+released_demand v w d answers fits courses.bad = adds_more adds_none (omega arith)
+released_demand v w d answers fits (courses.referred _ g gave) = adds_more (gave_ref gave) (omega arith)
+released_demand v w d answers fits (courses.released _ g t _ answer released due) = was_released v w g t answers answer (ap (λ k. is_table k) (fits (λ e. absurd cc))) released
 
 -- ---- the entry, and the lock
-put_adds : (v w : PortValue) (f i seen new : ℕ) (keep : Bool) (answer : Result ℕ Stop) → PutEntry v w f i seen new keep answer → Adds v w 1
-put_adds v w f i seen new keep answer (courses.stored old m) = moves_adds v w _ _ _ _ _ m
-put_adds v w f i seen new keep answer (courses.exchanged m) = moves_adds v w _ _ _ _ _ m
-put_adds v w f i seen new keep answer (courses.lost found other m) = moves_adds v w _ _ _ _ _ m
+put_adds : {v w : PortValue} {f i seen new : ℕ} {keep : Bool} {answer : Result ℕ Stop} → PutEntry v w f i seen new keep answer → Adds v w 1
+put_adds (courses.stored old m) = moves_adds m
+put_adds (courses.exchanged m) = moves_adds m
+put_adds (courses.lost found other m) = moves_adds m
 
-unlocks_adds : (v w : PortValue) (f : ℕ) (last : Bool) → Unlocks v w f last → Adds v w 1
-unlocks_adds v w f last a = moves_adds v w _ _ _ _ _ a.unlocks.step
+unlocks_adds : {v w : PortValue} {f : ℕ} {last : Bool} → Unlocks v w f last → Adds v w 1
+unlocks_adds a = moves_adds a.unlocks.step
 
-left_lock : (v w : PortValue) (f level : ℕ) → LeftLock v f level w → Adds v w 6
-left_lock v w f level (courses.shared u _ off gave) = adds_then v u w 1 5 (unlocks_adds v u f false off) (gave_ref u w f gave)
-left_lock v w f level (courses.last u y _ found off left named) =
-    adds_more v w 3 6 (omega arith) (adds_then v u w 1 2 (unlocks_adds v u f true off) (adds_then u y w 1 1 (moves_adds u y _ _ _ _ _ left) (moves_adds y w _ _ _ _ _ named)))
+left_lock : {v w : PortValue} {f level : ℕ} → LeftLock v f level w → Adds v w 6
+left_lock (courses.shared u _ off gave) = adds_then (unlocks_adds off) (gave_ref gave)
+left_lock (courses.last u y _ found off left named) = adds_more (adds_then (unlocks_adds off) (adds_then (moves_adds left) (moves_adds named))) (omega arith)
 
 -- ---- the whole
 module _ (v : PortValue) (x : EntryUpdate) (o : Owners) (one : x.level ≡ 1) where
@@ -188,32 +174,23 @@ module _ (v : PortValue) (x : EntryUpdate) (o : Owners) (one : x.level ≡ 1) wh
   old_fits old off = subst (λ n. IsOfLevel n (old_demand x old)) one (fits_level x.level x.index old off)
 
   -- the look, what was taken, and what follows
-  behind_took : (u y w : PortValue) (k : ℕ) → k ≤ 15 → Adds v u 1 → Adds u y (17 + 4 * vcpus u) → Adds y w k → Adds v w (33 + 4 * vcpus v)
-  behind_took u y w k low saw took after =
-      adds_more v w (18 + 4 * vcpus v + k) (33 + 4 * vcpus v) (omega arith) (adds_then v y w (18 + 4 * vcpus v) k (adds_at v u y 1 17 4 saw took) after)
+  behind_took : {u y w : PortValue} {k : ℕ} → Adds v u 1 → Adds u y (17 + 4 * vcpus u) → Adds y w k → k ≤ 15 → Adds v w (33 + 4 * vcpus v)
+  behind_took {u} {y} {w} {k} saw took after low = adds_more (adds_then (adds_at 17 4 saw took) after) (omega arith)
 
   exchanged_adds : (w : PortValue) (answers : List Bool) (answer : Result (Unit {0}) Stop) → Exchanged v x o w answers answer → Adds v w (33 + 4 * vcpus v)
-  exchanged_adds w answers answer (courses.bad u _ seen saw asks left) =
-      adds_more v w 7 (33 + 4 * vcpus v) (omega arith) (adds_then v u w 1 6 (moves_adds v u _ _ _ _ _ saw) (left_lock u w x.table x.level left))
-  exchanged_adds w answers answer (courses.same u y _ seen old saw same put left) =
-      adds_more v w 8 (33 + 4 * vcpus v) (omega arith)
-      (adds_then v u w 1 7 (moves_adds v u _ _ _ _ _ saw) (adds_then u y w 1 6 (put_adds u y _ _ _ _ _ _ put) (left_lock y w x.table x.level left)))
-  exchanged_adds w answers answer (courses.unput u y _ seen stop saw same put left) =
-      adds_more v w 8 (33 + 4 * vcpus v) (omega arith)
-      (adds_then v u w 1 7 (moves_adds v u _ _ _ _ _ saw) (adds_then u y w 1 6 (put_adds u y _ _ _ _ _ _ put) (left_lock y w x.table x.level left)))
-  exchanged_adds w answers answer (courses.untaken u y _ seen _ stop saw other took left) =
-      behind_took u y w 6 (omega arith) (moves_adds v u _ _ _ _ _ saw) (took_demand _ x.level u y _ _ _ one took) (left_lock y w x.table x.level left)
+  exchanged_adds w answers answer (courses.bad u _ seen saw asks left) = adds_more (adds_then (moves_adds saw) (left_lock left)) (omega arith)
+  exchanged_adds w answers answer (courses.same u y _ seen old saw same put left) = adds_more (adds_then (moves_adds saw) (adds_then (put_adds put) (left_lock left))) (omega arith)
+  exchanged_adds w answers answer (courses.unput u y _ seen stop saw same put left) = adds_more (adds_then (moves_adds saw) (adds_then (put_adds put) (left_lock left))) (omega arith)
+  exchanged_adds w answers answer (courses.untaken u y _ seen _ stop saw other took left) = behind_took (moves_adds saw) (took_demand _ x.level u y _ _ _ one took) (left_lock left) (omega arith)
   exchanged_adds w answers answer (courses.lost u y z a _ seen _ stop saw other took put gave left) =
-      behind_took u y w 15 (omega arith) (moves_adds v u _ _ _ _ _ saw) (took_demand _ x.level u y _ _ _ one took)
-      (adds_then y z w 1 14 (put_adds y z _ _ _ _ _ _ put) (adds_then z a w 8 6 (gave_demand _ x.level z a _ one gave) (left_lock a w x.table x.level left)))
+      behind_took (moves_adds saw) (took_demand _ x.level u y _ _ _ one took) (adds_then (put_adds put) (adds_then (gave_demand _ x.level z a _ one gave) (left_lock left))) (omega arith)
   exchanged_adds w answers answer (courses.done u y z a _ seen old _ more saw other took put left gives) =
-      behind_took u y w 15 (omega arith) (moves_adds v u _ _ _ _ _ saw) (took_demand _ x.level u y _ _ _ one took)
-      (adds_then y z w 1 14 (put_adds y z _ _ _ _ _ _ put) (adds_then z a w 6 8 (left_lock z a x.table x.level left) (released_demand a w _ more (old_fits old) gives)))
+      behind_took (moves_adds saw) (took_demand _ x.level u y _ _ _ one took) (adds_then (put_adds put) (adds_then (left_lock left) (released_demand a w _ more (old_fits old) gives))) (omega arith)
 
 -- No machine has more than 16 vCPUs, so that 3 steps for each are enough beside the 64.
 pub exchange_short : (v w : PortValue) (x : EntryUpdate) (o : Owners) (answers : List Bool) (answer : Result (Unit {0}) Stop) → IsMachine v.post.machine → Exchanged v x o w answers answer → x.level ≡ 1 →
     length w.holdings.steps ≤ length v.holdings.steps + (64 + 3 * length v.post.machine.vcpu_domain)
 exchange_short v w x o answers answer machine course one =
-    let few = (exchanged_adds v x o one w answers answer course).1 in
+    let few = (exchanged_adds v x o one w answers answer course).few in
     let vcpus = machine.few_vcpus in
     omega arith

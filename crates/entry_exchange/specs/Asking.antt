@@ -9,6 +9,7 @@ use Rattle.answer_fits.specs.Answers.{Deed, Misses, Serves, SetsEntry, missed}
 use Rattle.answer_fits.specs.Asked.{Request, of_frame}
 use Rattle.foreign_map.specs.declared.owners.Owners.{Owners}
 pub use Rattle.table_courses.specs.Ending.{may_rise}
+pub use Rattle.level_validate.specs.Acquiring.{IsAcquireStop}
 use Rattle.entry_exchange.specs.declared.exchanging.EntryUpdate.{EntryUpdate}
 use Rattle.entry_exchange.specs.Words.{word_kept}
 

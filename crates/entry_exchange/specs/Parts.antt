@@ -1,5 +1,5 @@
 -- The parts of an exchange: what each needs, and what it leaves in hand.
-use Rattle.std.specs.Prelude.{◌≡◌, ℕ, ◌<◌, Bool, true, false, List, [], ◌∷◌, Option, Some, Result, Ok, Err}
+use Rattle.std.specs.Prelude.{◌≡◌, ℕ, ◌+◌, ◌*◌, ◌<◌, ◌≤◌, Bool, true, false, List, [], ◌∷◌, length, Option, Some, Result, Ok, Err, IfOk, IfErr}
 use Rattle.xp_words.specs.Entries.{below, demand_at}
 use Rattle.xp_words.specs.Machine.{Machine}
 use Rattle.xp_words.specs.declared.entry.Demand.{Demand}
@@ -13,19 +13,26 @@ use Rattle.xp_board.specs.Hands.{lock_on}
 use Rattle.xp_board.specs.KindSteps.{live_typed}
 use Rattle.xp_board.specs.Settling.{demand_out}
 use Rattle.xp_board.specs.Told.{PortValue}
-use Rattle.step_maker.specs.Holds.{Holds}
+use Rattle.step_maker.specs.Holds.{Holds, Rests}
+use Rattle.step_maker.specs.Moves.{Came}
+use Rattle.answer_fits.specs.Answers.{Serves, Stops}
+use Rattle.answer_fits.specs.Asked.{of_back}
 use Rattle.entry_locks.specs.Entries.{entry_set, entry_unset}
 use Rattle.frame_types.specs.Lowering.{DropsType}
 use Rattle.kept_marks.specs.Marks.{KeptFor}
 use Rattle.kind_words.specs.Kinds.{partial_kind}
+use Rattle.level_release.specs.Asking.{is_due_answer}
 use Rattle.level_release.specs.Course.{WithGate}
 use Rattle.level_release.specs.Holding.{HoldsLive}
 use Rattle.partial_state.specs.Levels.{level_type}
 use Rattle.table_courses.specs.Acquiring.{GaveRef}
 use Rattle.entry_exchange.specs.declared.exchanging.EntryUpdate.{EntryUpdate}
 use Rattle.foreign_map.specs.declared.owners.Owners.{Owners}
-use Rattle.entry_exchange.specs.Course.{ReleasedDemand, SawEntry, TookDemand}
-use Rattle.entry_exchange.specs.Holding.{HoldsTableLock}
+use Rattle.entry_exchange.specs.Asking.{ServesExchange, of_exchange}
+use Rattle.entry_exchange.specs.Course.{ExchangesBy, GaveDemand, LeftLock, PutEntry, ReleasedDemand, SawEntry, TookDemand}
+use Rattle.entry_exchange.specs.Holding.{HoldsTableLock, LeavesDemand, LeavesExchange, LeavesUnlocked}
+use Rattle.entry_exchange.specs.Serving.{ServesGiven, ServesPut, ServesTable, ServesTaken, StopsPut, of_demand, of_given}
+use Rattle.level_validate.specs.Acquiring.{IsAcquireStop}
 
 -- ---- demands
 -- the machine has the frame that it names
@@ -101,5 +108,70 @@ pub data GaveTable (v : PortValue) (f level owner : ℕ) : PortValue → Type 0 
 abbrev pub TakesDemand : PortValue → PortValue → ℕ → ℕ → Demand → (ℕ → Bool) → ℕ → ℕ → ℕ → ℕ → Result (Unit {0}) Stop → Type 0
 TakesDemand v w owner level d says before after yes_before yes_after answer = WithGate (λ answers. TookDemand owner level v d w answers answer) says before after yes_before yes_after answer
 
+-- all that is said of it
+pub record DemandTaken (v w : PortValue) (owner level : ℕ) (d : Demand) (says : ℕ → Bool) (before after yes_before yes_after : ℕ) (answer : Result (Unit {0}) Stop) : Type 0 where
+  pub came : Came v w
+  pub inside : IfOk answer (λ _. IsInside v.post.machine d)
+  pub serves : (pages : ℕ) → ServesTaken v w d owner pages answer
+  pub stops : (pages : ℕ) → IfErr answer (λ e. Stops v w (of_demand d owner pages (is_due_answer answer)) e)
+  pub kinds : IfErr answer IsAcquireStop
+  pub hand : LeavesDemand v w d owner answer
+  pub course : TakesDemand v w owner level d says before after yes_before yes_after answer
+
 abbrev pub ReleasesDemand : PortValue → PortValue → Demand → (ℕ → Bool) → ℕ → ℕ → ℕ → ℕ → Type 0
 ReleasesDemand v w d says before after yes_before yes_after = WithGate (λ answers. ReleasedDemand v d w answers) says before after yes_before yes_after (Ok tt)
+
+pub record DemandReleased (v w : PortValue) (d : Demand) (says : ℕ → Bool) (before after yes_before yes_after : ℕ) : Type 0 where
+  pub came : Came v w
+  pub serves : (owner pages : ℕ) → Serves v w (of_given d owner pages) []
+  pub hand : LeavesGone v w d
+  pub course : ReleasesDemand v w d says before after yes_before yes_after
+
+pub record DemandGiven (v w : PortValue) (owner level : ℕ) (d : Demand) : Type 0 where
+  pub came : Came v w
+  pub serves : ServesGiven v w d
+  pub hand : LeavesGone v w d
+  pub course : GaveDemand owner level v d w
+
+pub record TableGiven (v w : PortValue) (f level owner : ℕ) : Type 0 where
+  pub came : Came v w
+  pub serves : ServesTable v w f
+  pub hand : LeavesUntyped v w
+  pub course : GaveTable v f level owner w
+
+pub record EntryPut (v w : PortValue) (f i seen new : ℕ) (keep : Bool) (answer : Result ℕ Stop) : Type 0 where
+  pub came : Came v w
+  pub serves : ServesPut v w f i new answer
+  pub stops : IfErr answer (StopsPut v w f i seen)
+  pub kinds : IfErr answer IsAcquireStop
+  pub inside : IfOk answer (WasInside v f i)
+  pub hand : LeavesPut v w f i new answer
+  pub course : PutEntry v w f i seen new keep answer
+
+-- the own entry lock taken off a table of that level
+pub record LockLeft (v w : PortValue) (f level : ℕ) : Type 0 where
+  pub came : Came v w
+  pub serves : Serves v w (of_back f) []
+  pub hand : LeavesUnlocked v w f
+  pub course : LeftLock v f level w
+
+-- the exchange behind its look, for a word that asks something else
+pub record DemandChanged (v w : PortValue) (x : EntryUpdate) (o : Owners) (seen : ℕ) (says : ℕ → Bool) (before after yes_before yes_after : ℕ) (answer : Result (Unit {0}) Stop) : Type 0 where
+  pub came : Came v w
+  pub serves : BehindLook v x o seen (λ a. ServesExchange a w x o answer)
+  pub stops : BehindLook v x o seen (λ a. IfErr answer (λ e. Stops a w (of_exchange x o answer) e))
+  pub kinds : IfErr answer IsAcquireStop
+  pub hand : LeavesExchange v w
+  pub course : BehindLook v x o seen (λ a. ExchangesBy a w x o says before after yes_before yes_after answer)
+
+-- the exchange as a whole
+pub record EntryExchanged (v w : PortValue) (x : EntryUpdate) (o : Owners) (says : ℕ → Bool) (before after yes_before yes_after : ℕ) (answer : Result (Unit {0}) Stop) : Type 0 where
+  pub came : Came v w
+  pub serves : ServesExchange v w x o answer
+  pub stops : IfErr answer (λ e. Stops v w (of_exchange x o answer) e)
+  pub kinds : IfErr answer IsAcquireStop
+  pub hand : LeavesExchange v w
+  pub rests : Rests w
+  pub course : ExchangesBy v w x o says before after yes_before yes_after answer
+  -- A table of level 1 is not walked: the steps are few, and how many depends on the number of vCPUs alone.
+  pub short : x.level ≡ 1 → length w.holdings.steps ≤ length v.holdings.steps + (64 + 3 * length v.post.machine.vcpu_domain)

@@ -12,7 +12,7 @@ ghost use Rattle.table_words.specs.OldWords.{known_old};
 ghost use Rattle.table_words.specs.declared.old_words.OldWord.TheVariants.{First};
 ghost use Rattle.entry_exchange.specs.Course.{GaveDemand};
 ghost use Rattle.entry_exchange.specs.Holding.{LeavesDemand};
-ghost use Rattle.entry_exchange.specs.Parts.{GaveTable, HoldsFreed, HoldsTaken, HoldsTyped, IsInside, IsOfLevel, LeavesGone, LeavesUntyped, ReleasesDemand, TakesDemand};
+ghost use Rattle.entry_exchange.specs.Parts.{DemandGiven, DemandReleased, DemandTaken, HoldsFreed, HoldsTaken, HoldsTyped, IsInside, IsOfLevel, TableGiven};
 ghost use Rattle.entry_exchange.specs.Serving.{ServesGiven, ServesTable, ServesTaken, of_demand, of_given};
 
 use frame_types::{drop_plain, drop_type};
@@ -42,13 +42,7 @@ pub(crate) fn take_demand<P: Port>(
     requires idle { IsIdle (P.value port.old) }
     requires asks { IsOfLevel level wanted }
     requires room { known_old First (P.value port.old).holdings ≡ Some 0 }
-    ensures came { Came (P.value port.old) (P.value port.new) }
-    ensures inside { IfOk result (λ _. IsInside (P.value port.old).post.machine wanted) }
-    ensures serves { (pages : ℕ) → ServesTaken (P.value port.old) (P.value port.new) wanted owner pages result }
-    ensures stops { (pages : ℕ) → IfErr result (λ e. Stops (P.value port.old) (P.value port.new) (of_demand wanted owner pages (is_due_answer result)) e) }
-    ensures kinds { IfErr result IsAcquireStop }
-    ensures hand { LeavesDemand (P.value port.old) (P.value port.new) wanted owner result }
-    ensures course { TakesDemand (P.value port.old) (P.value port.new) owner level wanted (says gate.old) (count_asks gate.old) (count_asks gate.new) (count_yes gate.old) (count_yes gate.new) result }
+    ensures did { DemandTaken (P.value port.old) (P.value port.new) owner level wanted (says gate.old) (count_asks gate.old) (count_asks gate.new) (count_yes gate.old) (count_yes gate.new) result }
     ensures says { (n : ℕ) → says gate.new n ≡ says gate.old n }
     ensures paces { paces gate.new ≡ paces gate.old }
     ensures calm { calm gate.old ≡ true → (is_due_answer result ≡ false) × (calm gate.new ≡ true) }
@@ -78,10 +72,7 @@ pub(crate) fn give_demand<P: Port>(port: &mut P, level: u8, owner: u16, wanted: 
     requires inside { IsInside (P.value port.old).post.machine wanted }
     requires taken { HoldsTaken (P.value port.old) wanted owner }
     requires room { known_old First (P.value port.old).holdings ≡ Some 0 }
-    ensures came { Came (P.value port.old) (P.value port.new) }
-    ensures serves { ServesGiven (P.value port.old) (P.value port.new) wanted }
-    ensures hand { LeavesGone (P.value port.old) (P.value port.new) wanted }
-    ensures course { GaveDemand owner level (P.value port.old) wanted (P.value port.new) }
+    ensures { DemandGiven (P.value port.old) (P.value port.new) owner level wanted }
 {
     match wanted {
         Demand::Nothing | Demand::Bad => {}
@@ -103,10 +94,7 @@ fn give_table<P: Port>(port: &mut P, frame: u32, level: u8, owner: u16)
     requires real { owner < length (P.value port.old).post.machine.page_limit }
     requires holds { HoldsTyped (P.value port.old) frame (level_type level) owner }
     requires room { known_old First (P.value port.old).holdings ≡ Some 0 }
-    ensures came { Came (P.value port.old) (P.value port.new) }
-    ensures serves { ServesTable (P.value port.old) (P.value port.new) frame }
-    ensures hand { LeavesUntyped (P.value port.old) (P.value port.new) }
-    ensures course { GaveTable (P.value port.old) frame level owner (P.value port.new) }
+    ensures { TableGiven (P.value port.old) (P.value port.new) frame level owner }
 {
     if drop_type(port, frame) {
         leave_kept(
@@ -126,10 +114,7 @@ pub(crate) fn release_demand<P: Port>(port: &mut P, gate: &mut dyn Preempt, old:
     requires inside { IsInside (P.value port.old).post.machine old }
     requires freed { HoldsFreed (P.value port.old) old }
     requires room { known_old First (P.value port.old).holdings ≡ Some 0 }
-    ensures came { Came (P.value port.old) (P.value port.new) }
-    ensures serves { (owner pages : ℕ) → Serves (P.value port.old) (P.value port.new) (of_given old owner pages) [] }
-    ensures hand { LeavesGone (P.value port.old) (P.value port.new) old }
-    ensures course { ReleasesDemand (P.value port.old) (P.value port.new) old (says gate.old) (count_asks gate.old) (count_asks gate.new) (count_yes gate.old) (count_yes gate.new) }
+    ensures did { DemandReleased (P.value port.old) (P.value port.new) old (says gate.old) (count_asks gate.old) (count_asks gate.new) (count_yes gate.old) (count_yes gate.new) }
     ensures says { (n : ℕ) → says gate.new n ≡ says gate.old n }
     ensures paces { paces gate.new ≡ paces gate.old }
     ensures calm { calm gate.old ≡ true → calm gate.new ≡ true }

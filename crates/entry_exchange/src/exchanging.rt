@@ -13,10 +13,9 @@ ghost use Rattle.level_validate.specs.Acquiring.{IsAcquireStop};
 ghost use Rattle.table_words.specs.OldWords.{known_old};
 ghost use Rattle.table_words.specs.declared.old_words.OldWord.TheVariants.{First, Second};
 ghost use Rattle.entry_exchange.specs.Asking.{ServesExchange, of_exchange};
-ghost use Rattle.entry_exchange.specs.Course.{ExchangesBy, PutEntry, new_demand, old_demand};
+ghost use Rattle.entry_exchange.specs.Course.{ExchangesBy, new_demand, old_demand};
 ghost use Rattle.entry_exchange.specs.Holding.{HoldsTableLock, LeavesExchange, owner_at};
-ghost use Rattle.entry_exchange.specs.Parts.{BehindLook, HoldsSeen, LeavesPut, WasInside};
-ghost use Rattle.entry_exchange.specs.Serving.{ServesPut, StopsPut};
+ghost use Rattle.entry_exchange.specs.Parts.{DemandChanged, EntryExchanged, EntryPut, HoldsSeen};
 ghost use Rattle.entry_exchange.specs.Words.{same_demand};
 
 use crate::demands::{give_demand, release_demand, take_demand};
@@ -64,15 +63,7 @@ pub fn exchange_entry<P: Port>(
     requires maps { MayMapFor (P.value port.old) owners }
     requires room { known_old First (P.value port.old).holdings ≡ Some 0 }
     requires room_too { known_old Second (P.value port.old).holdings ≡ Some 0 }
-    ensures came { Came (P.value port.old) (P.value port.new) }
-    ensures serves { ServesExchange (P.value port.old) (P.value port.new) update owners result }
-    ensures stops { IfErr result (λ e. Stops (P.value port.old) (P.value port.new) (of_exchange update owners result) e) }
-    ensures kinds { IfErr result IsAcquireStop }
-    ensures hand { LeavesExchange (P.value port.old) (P.value port.new) }
-    ensures rests { Rests (P.value port.new) }
-    ensures course { ExchangesBy (P.value port.old) (P.value port.new) update owners (says gate.old) (count_asks gate.old) (count_asks gate.new) (count_yes gate.old) (count_yes gate.new) result }
-    // A table of level 1 is not walked: the steps are few, and how many depends on the number of vCPUs alone.
-    ensures short { update.level ≡ 1 → length (P.value port.new).holdings.steps ≤ length (P.value port.old).holdings.steps + (64 + 3 * length (P.value port.old).post.machine.vcpu_domain) }
+    ensures did { EntryExchanged (P.value port.old) (P.value port.new) update owners (says gate.old) (count_asks gate.old) (count_asks gate.new) (count_yes gate.old) (count_yes gate.new) result }
     ensures says { (n : ℕ) → says gate.new n ≡ says gate.old n }
     ensures paces { paces gate.new ≡ paces gate.old }
     ensures calm { calm gate.old ≡ true → (is_due_answer result ≡ false) × (calm gate.new ≡ true) }
@@ -120,12 +111,7 @@ fn change_demand<P: Port>(
     requires wanted { wanted ≡ new_demand update seen }
     requires fits { wanted ≢ Bad }
     requires other { same_demand wanted (old_demand update seen) ≡ false }
-    ensures came { Came (P.value port.old) (P.value port.new) }
-    ensures serves { BehindLook (P.value port.old) update owners seen (λ a. ServesExchange a (P.value port.new) update owners result) }
-    ensures stops { BehindLook (P.value port.old) update owners seen (λ a. IfErr result (λ e. Stops a (P.value port.new) (of_exchange update owners result) e)) }
-    ensures kinds { IfErr result IsAcquireStop }
-    ensures hand { LeavesExchange (P.value port.old) (P.value port.new) }
-    ensures course { BehindLook (P.value port.old) update owners seen (λ a. ExchangesBy a (P.value port.new) update owners (says gate.old) (count_asks gate.old) (count_asks gate.new) (count_yes gate.old) (count_yes gate.new) result) }
+    ensures did { DemandChanged (P.value port.old) (P.value port.new) update owners seen (says gate.old) (count_asks gate.old) (count_asks gate.new) (count_yes gate.old) (count_yes gate.new) result }
     ensures says { (n : ℕ) → says gate.new n ≡ says gate.old n }
     ensures paces { paces gate.new ≡ paces gate.old }
     ensures calm { calm gate.old ≡ true → (is_due_answer result ≡ false) × (calm gate.new ≡ true) }
@@ -175,13 +161,7 @@ fn put_entry<P: Port>(port: &mut P, update: EntryUpdate, seen: u64, new: u64) ->
     requires index { update.index < 512 }
     requires may { MayWork (P.value port.old) }
     requires exchanges { MaySwapEntry (P.value port.old).post.machine update.table update.index seen new (P.value port.old).holdings }
-    ensures came { Came (P.value port.old) (P.value port.new) }
-    ensures serves { ServesPut (P.value port.old) (P.value port.new) update.table update.index new result }
-    ensures stops { IfErr result (StopsPut (P.value port.old) (P.value port.new) update.table update.index seen) }
-    ensures kinds { IfErr result IsAcquireStop }
-    ensures inside { IfOk result (WasInside (P.value port.old) update.table update.index) }
-    ensures hand { LeavesPut (P.value port.old) (P.value port.new) update.table update.index new result }
-    ensures course { PutEntry (P.value port.old) (P.value port.new) update.table update.index seen new update.keep result }
+    ensures { EntryPut (P.value port.old) (P.value port.new) update.table update.index seen new update.keep result }
 {
     if !update.keep {
         return Ok(store_entry(port, update.table, update.index, new));

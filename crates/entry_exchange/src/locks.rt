@@ -6,8 +6,8 @@ ghost use Rattle.answer_fits.specs.Answers.{Serves};
 ghost use Rattle.answer_fits.specs.Asked.{of_back};
 ghost use Rattle.table_words.specs.OldWords.{known_old};
 ghost use Rattle.table_words.specs.declared.old_words.OldWord.TheVariants.{Second};
-ghost use Rattle.entry_exchange.specs.Course.{LeftLock};
-ghost use Rattle.entry_exchange.specs.Holding.{HoldsLockOf, LeavesUnlocked};
+ghost use Rattle.entry_exchange.specs.Holding.{HoldsLockOf};
+ghost use Rattle.entry_exchange.specs.Parts.{LockLeft};
 
 use entry_locks::unlock_entry;
 use frame_words::put_ref;
@@ -26,10 +26,7 @@ pub fn leave_lock<P: Port>(port: &mut P, table: u32, level: u8)
     requires locked { HoldsLockOf (P.value port.old) table level }
     requires works { (P.value port.old).holdings.works ≡ [] }
     requires room { known_old Second (P.value port.old).holdings ≡ Some 0 }
-    ensures came { Came (P.value port.old) (P.value port.new) }
-    ensures serves { Serves (P.value port.old) (P.value port.new) (of_back table) [] }
-    ensures hand { LeavesUnlocked (P.value port.old) (P.value port.new) table }
-    ensures course { LeftLock (P.value port.old) table level (P.value port.new) }
+    ensures { LockLeft (P.value port.old) (P.value port.new) table level }
 {
     if unlock_entry(port, table) {
         leave(port, table, partial_kind(level_type(level), false, 512));

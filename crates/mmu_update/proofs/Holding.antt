@@ -1,6 +1,5 @@
 -- What is in hand between the calls of a write, and that nothing is behind it.
-use Rattle.std.proofs.Common.{◌≡◌, ℕ, ◌+◌, List, [], ◌∷◌, Option, Some, None, refl, sym, ap, ◌∙◌, subst, inl, ◌<◌, IsTrue}
-use Rattle.xp_words.specs.Machine.{IsMachine}
+use Rattle.std.proofs.Common.{◌≡◌, ℕ, ◌+◌, List, [], ◌∷◌, Some, None, refl, ap, ◌∙◌, inl, ◌<◌, IsTrue}
 use Rattle.xp_words.specs.declared.kind.PageType.TheVariants.{Writable}
 use Rattle.xp_words.specs.Places.{sizes_of}
 use Rattle.xp_board.specs.declared.holdings.Claimed.{Claimed}
@@ -14,37 +13,16 @@ use Rattle.xp_board.specs.Hands.{ending_of, lock_on, typed_to, without_ref, work
 use Rattle.xp_board.specs.KindSteps.{live_typed}
 use Rattle.xp_board.specs.Knowledge.{knows_live}
 use Rattle.xp_board.specs.Lists.{first_by, times_by}
-use Rattle.xp_board.specs.Told.{Post, PortValue}
-use Rattle.step_maker.specs.Holds.{FlushedHolds, FlushedSame, Holds, MayWork, Rests, Same, quiet}
+use Rattle.xp_board.specs.Told.{PortValue}
+use Rattle.step_maker.specs.Holds.{FlushedHolds, FlushedSame, Holds, Rests, Same, quiet}
 use Rattle.frame_words.specs.Cells.{IsApart, MayStoreCell}
 use Rattle.frame_words.specs.Freeing.{gave}
 use Rattle.frame_words.specs.Refs.{took}
 use Rattle.frame_words.proofs.CellSteps.{newest_held, newest_live, writes_live}
 use Rattle.frame_words.proofs.Putting.{without_newest}
 use Rattle.frame_types.specs.Taking.{LentBy, MayDropPlain, gave_type, typed_as}
+use Rattle.entry_exchange.proofs.Staying.{rests_by}
 use Rattle.mmu_update.specs.Elements.{LeavesUpdate}
-
--- ---- nothing is in hand, whatever the old words name
-pub rests_by : (v w : PortValue) (a b : Option ℕ) → Rests v → FlushedHolds v w (record v.holdings { old0 = a; old1 = b }) → Rests w
-rests_by v w a b rests holds =
-    record {
-      may = record {
-        running = ap (λ (q : PortValue). q.holdings.run) holds ∙ rests.may.running;
-        no_walk = ap (λ (q : PortValue). q.holdings.walk) holds ∙ rests.may.no_walk;
-        machine = subst (λ (p : Post). IsMachine p.machine) (sym (ap (λ (q : PortValue). q.post) holds)) rests.may.machine;
-      };
-      empty = record {
-        refs = ap (λ (q : PortValue). q.holdings.refs) holds ∙ rests.empty.refs;
-        typed = ap (λ (q : PortValue). q.holdings.typed) holds ∙ rests.empty.typed;
-        works = ap (λ (q : PortValue). q.holdings.works) holds ∙ rests.empty.works;
-        locks = ap (λ (q : PortValue). q.holdings.locks) holds ∙ rests.empty.locks;
-        ending = ap (λ (q : PortValue). q.holdings.ending) holds ∙ rests.empty.ending;
-        claimed = ap (λ (q : PortValue). q.holdings.claimed) holds ∙ rests.empty.claimed;
-        raised = ap (λ (q : PortValue). q.holdings.raised) holds ∙ rests.empty.raised;
-        credits = ap (λ (q : PortValue). q.holdings.credits) holds ∙ rests.empty.credits;
-        looking = ap (λ (q : PortValue). q.holdings.looking) holds ∙ rests.empty.looking;
-      };
-    }
 
 pub leaves_same : (v w : PortValue) → FlushedSame v w → LeavesUpdate v w
 leaves_same v w same = (v.holdings.old0, v.holdings.old1, same)
@@ -63,17 +41,6 @@ none_to key f xs e = ap (λ ys. times_by key f ys) e
 
 -- ---- from a port at rest, with a reference to the frame
 module _ (b v : PortValue) (f d : ℕ) (rests : Rests b) (takes : Holds b v (took f d b.holdings)) where
-  pub same_post : v.post ≡ b.post
-  same_post = ap (λ (q : PortValue). q.post) takes
-
-  pub may_work : MayWork v
-  may_work =
-      record {
-        running = ap (λ (q : PortValue). q.holdings.run) takes ∙ rests.may.running;
-        no_walk = ap (λ (q : PortValue). q.holdings.walk) takes ∙ rests.may.no_walk;
-        machine = subst (λ (p : Post). IsMachine p.machine) (sym same_post) rests.may.machine;
-      }
-
   pub lent_by : LentBy f d v.holdings
   lent_by = record { others = b.holdings.refs; refs = ap (λ (q : PortValue). q.holdings.refs) takes }
 
@@ -88,9 +55,6 @@ module _ (b v : PortValue) (f d : ℕ) (rests : Rests b) (takes : Holds b v (too
 
   pub no_type : typed_to f v.holdings.typed ≡ 0
   no_type = none_to (λ (y : TypedReference). y.frame) f v.holdings.typed (ap (λ (q : PortValue). q.holdings.typed) takes ∙ rests.empty.typed)
-
-  pub no_look : v.holdings.looking ≡ []
-  no_look = ap (λ (q : PortValue). q.holdings.looking) takes ∙ rests.empty.looking
 
   abbrev lent_ref : Reference
   lent_ref = record { frame = f; owner = owners.Of d }
@@ -116,9 +80,6 @@ module _ (b v : PortValue) (f d : ℕ) (rests : Rests b) (takes : Holds b v (too
   module _ (x : PortValue) (typed : FlushedHolds v x (typed_as f d Writable v.holdings)) where
     whole : FlushedHolds b x (typed_as f d Writable (took f d b.holdings))
     whole = typed ∙ ap (λ (q : PortValue). quiet (record q { holdings = typed_as f d Writable q.holdings })) takes
-
-    pub typed_post : x.post ≡ b.post
-    typed_post = ap (λ (q : PortValue). q.post) whole
 
     pub apart : IsApart f x.holdings
     apart =

@@ -13,13 +13,11 @@ use Rattle.board_lemmas.proofs.Sums.{when_eq}
 use Rattle.step_maker.specs.Holds.{Holds, Rests, quiet, still}
 use Rattle.step_maker.specs.Moves.{Came}
 use Rattle.step_maker.proofs.Coming.{came_trans}
-use Rattle.answer_fits.specs.Answers.{Serves, Stops}
-use Rattle.answer_fits.specs.Asked.{of_back, of_frame}
+use Rattle.answer_fits.specs.Answers.{Serves}
+use Rattle.answer_fits.specs.Asked.{of_frame}
 use Rattle.answer_fits.proofs.Piecing.{serves_came}
-use Rattle.entry_exchange.specs.Asking.{ServesExchange, of_exchange}
-use Rattle.entry_exchange.specs.Course.{Exchanged, LeftLock}
 use Rattle.entry_exchange.specs.Holding.{HoldsLockOf, HoldsTableLock, LeavesExchange, LeavesUnlocked}
-use Rattle.entry_exchange.specs.declared.exchanging.EntryUpdate.{EntryUpdate}
+use Rattle.entry_exchange.specs.Parts.{EntryExchanged, LockLeft}
 use Rattle.entry_locks.specs.Locks.{of_lock}
 use Rattle.foreign_map.specs.Owning.{MayMapFor}
 use Rattle.foreign_map.specs.declared.owners.Owners.{Owners}
@@ -27,13 +25,14 @@ use Rattle.frame_words.proofs.Putting.{without_newest}
 use Rattle.partial_state.specs.Levels.{level_type}
 use Rattle.mmu_update.specs.Course as courses
 use Rattle.mmu_update.specs.Course.{entry_update}
-use Rattle.mmu_update.specs.Elements.{IsWriteStop, LeavesUpdate, stopped}
+use Rattle.mmu_update.specs.Elements.{LeavesUpdate, stopped}
 use Rattle.mmu_update.specs.Fits.{Updates}
-use Rattle.mmu_update.specs.Writing.{UnderLock}
+use Rattle.mmu_update.specs.Writing.{UnderLock, WritesBy}
 use Rattle.mmu_update.specs.declared.element.Element.TheVariants.{Write}
 use Rattle.mmu_update.proofs.Entering.{exchanged_serves, exchanged_stops, slot_stops}
 use Rattle.entry_exchange.proofs.Staying.{may_map}
 use Rattle.mmu_update.proofs.Holding.{leaves_rests, ref_gone}
+use Rattle.mmu_update.proofs.WriteKinds.{write_kinds}
 use Rattle.mmu_update.proofs.Serving.{asks, back_behind, locked_serves}
 
 -- what holds of each stop holds of the one that is answered
@@ -41,7 +40,7 @@ each_stop : (P Q : Stop → Type 0) → ((e : Stop) → P e → Q e) → (answer
 each_stop P Q more (Ok done) is = tt
 each_stop P Q more (Err e) is = more e is
 
-module _ (b y : PortValue) (o : Owners) (f level : ℕ) (a : UnderLock b y o f level) where
+module _ {b y : PortValue} {o : Owners} {f level : ℕ} (a : UnderLock b y o f level) where
   rests_b : Rests b
   rests_b = a.referred.begins.rests
 
@@ -97,58 +96,57 @@ module _ (b y : PortValue) (o : Owners) (f level : ℕ) (a : UnderLock b y o f l
   before i word keep answer = locked_serves o f i word keep answer b a.at y [] a.referred.serves a.serves
 
   -- ---- a slot that is Xen's: the lock is gone
-  module _ (w : PortValue) where
-    unlocked_hand : LeavesUnlocked y w f → LeavesUpdate b w
-    unlocked_hand (inl gone) = (
-      b.holdings.old0,
-      b.holdings.old1,
-      ap quiet gone ∙ ap (λ (q : PortValue). quiet (record q { holdings = record q.holdings { locks = without_lock f q.holdings.locks } })) locked_hand
-          ∙ ap (λ (ls : List Lock). quiet (record b { holdings = record b.holdings { locks = ls } })) (without_newest (λ (e : Lock). e.frame) f lock b.holdings.locks a.holds.is.frame),
-    )
-    unlocked_hand (inr gone) = (
-      b.holdings.old0,
-      Some (f + 1),
-      ap quiet gone ∙ ap (λ (q : PortValue). quiet (record q { holdings = record q.holdings { locks = without_lock f q.holdings.locks; old1 = Some (f + 1) } })) locked_hand
-          ∙ ap (λ (ls : List Lock). quiet (record b { holdings = record b.holdings { locks = ls; old1 = Some (f + 1) } })) (without_newest (λ (e : Lock). e.frame) f lock b.holdings.locks a.holds.is.frame),
-    )
+  unlocked_hand : (w : PortValue) → LeavesUnlocked y w f → LeavesUpdate b w
+  unlocked_hand w (inl gone) = (
+    b.holdings.old0,
+    b.holdings.old1,
+    ap quiet gone ∙ ap (λ (q : PortValue). quiet (record q { holdings = record q.holdings { locks = without_lock f q.holdings.locks } })) locked_hand
+        ∙ ap (λ (ls : List Lock). quiet (record b { holdings = record b.holdings { locks = ls } })) (without_newest (λ (e : Lock). e.frame) f lock b.holdings.locks a.holds.is.frame),
+  )
+  unlocked_hand w (inr gone) = (
+    b.holdings.old0,
+    Some (f + 1),
+    ap quiet gone ∙ ap (λ (q : PortValue). quiet (record q { holdings = record q.holdings { locks = without_lock f q.holdings.locks; old1 = Some (f + 1) } })) locked_hand
+        ∙ ap (λ (ls : List Lock). quiet (record b { holdings = record b.holdings { locks = ls; old1 = Some (f + 1) } })) (without_newest (λ (e : Lock). e.frame) f lock b.holdings.locks a.holds.is.frame),
+  )
 
-    pub slot_updates : (i word : ℕ) (keep : Bool) → is_slot (level_type level) i ≡ true → Came y w → Serves y w (of_back f) [] → LeavesUnlocked y w f → LeftLock y f level w →
-        Updates o (Write f i word keep) b w [] (Err (Refused (refusals.Slot i)))
-    slot_updates i word keep on later back leaves left =
-        let e = Refused (refusals.Slot i) in
-        let hand = unlocked_hand leaves in
-        record {
-          serves = ([], stopped f i word keep e [] refl, back_behind o f i word keep (Err e) b y [] (before i word keep (Err e)) w back);
-          stops = slot_stops o f level i word a.found keep b a.at y a.tried.found w first later on;
-          kinds = tt;
+  pub slot_updates : {w : PortValue} {i word : ℕ} {keep : Bool} → is_slot (level_type level) i ≡ true → LockLeft y w f level → Updates o (Write f i word keep) b w [] (Err (Refused (refusals.Slot i)))
+  slot_updates {w} {i} {word} {keep} on left =
+      let e = Refused (refusals.Slot i) in
+      let hand = unlocked_hand w left.hand in
+      record {
+        serves = ([], stopped f i word keep e [] refl, back_behind o f i word keep (Err e) b y [] (before i word keep (Err e)) w left.serves);
+        stops = slot_stops o f level i word a.found keep b a.at y a.tried.found w first left.came on;
+        kinds = tt;
+        numbers = λ x is. absurd cc;
+        hand = hand;
+        rests = leaves_rests b w rests_b hand;
+        course = courses.slot a.at y w level a.found a.referred.got a.tried on left.course;
+      }
+
+  -- ---- an entry that is the guest's
+  exchanged_hand : (w : PortValue) → LeavesExchange y w → LeavesUpdate b w
+  exchanged_hand w (c, d, leaves) = (
+    c,
+    d,
+    leaves ∙ ap (λ (q : PortValue). quiet (record q { holdings = record q.holdings { locks = []; old0 = c; old1 = d } })) locked_hand
+        ∙ ap (λ (ls : List Lock). quiet (record b { holdings = record b.holdings { locks = ls; old0 = c; old1 = d } })) (sym rests_b.empty.locks),
+  )
+
+  pub exchanged_writes : {w : PortValue} {i word : ℕ} {keep : Bool} {says : ℕ → Bool} {asked after yes_before yes_after : ℕ} {answer : Result (Unit {0}) Stop} → is_slot (level_type level) i ≡ false →
+      EntryExchanged y w (entry_update f level i word keep) o says asked after yes_before yes_after answer → WritesBy b w o f i word keep says asked after yes_before yes_after answer
+  exchanged_writes {w} {i} {word} {keep} {answer = answer} off did =
+      record {
+        answers = did.course.answers;
+        course = record {
+          serves = exchanged_serves o f level i word keep answer b y w (before i word keep answer) did.serves;
+          stops = each_stop _ _ (λ e z. exchanged_stops o f level i word keep answer b y w (before i word keep answer) e rests_b no_refs z) answer did.stops;
+          kinds = write_kinds answer did.kinds;
           numbers = λ x is. absurd cc;
-          hand = hand;
-          rests = leaves_rests b w rests_b hand;
-          course = courses.slot a.at y w level a.found a.referred.got a.tried on left;
-        }
-
-    -- ---- an entry that is the guest's
-    exchanged_hand : LeavesExchange y w → LeavesUpdate b w
-    exchanged_hand (c, d, leaves) = (
-      c,
-      d,
-      leaves ∙ ap (λ (q : PortValue). quiet (record q { holdings = record q.holdings { locks = []; old0 = c; old1 = d } })) locked_hand
-          ∙ ap (λ (ls : List Lock). quiet (record b { holdings = record b.holdings { locks = ls; old0 = c; old1 = d } })) (sym rests_b.empty.locks),
-    )
-
-    module _ (i word : ℕ) (keep : Bool) (answers : List Bool) (answer : Result (Unit {0}) Stop) where
-      abbrev x_update : EntryUpdate
-      x_update = entry_update f level i word keep
-
-      pub exchanged_updates : is_slot (level_type level) i ≡ false → ServesExchange y w x_update o answer → IfErr answer (λ e. Stops y w (of_exchange x_update o answer) e) → IfErr answer IsWriteStop →
-          LeavesExchange y w → Rests w → Exchanged y x_update o w answers answer → Updates o (Write f i word keep) b w answers answer
-      exchanged_updates off serves why kind leaves rests exchanged =
-          record {
-            serves = exchanged_serves o f level i word keep answer b y w (before i word keep answer) serves;
-            stops = each_stop _ _ (λ e z. exchanged_stops o f level i word keep answer b y w (before i word keep answer) e rests_b no_refs z) answer why;
-            kinds = kind;
-            numbers = λ x is. absurd cc;
-            hand = exchanged_hand leaves;
-            rests = rests;
-            course = courses.exchanged a.at y w level a.found answers answer a.referred.got a.tried off exchanged;
-          }
+          hand = exchanged_hand w did.hand;
+          rests = did.rests;
+          course = courses.exchanged a.at y w level a.found did.course.answers answer a.referred.got a.tried off did.course.course;
+        };
+        gate = did.course.gate;
+        due = did.course.due;
+      }

@@ -2,8 +2,6 @@
 use Rattle.std.proofs.Common.{ℕ, Bool, [], None, Result, Ok, Err, ◌∙◌, inl, inr}
 use Rattle.xp_words.specs.declared.kind.PageType.TheVariants.{Writable}
 use Rattle.xp_words.specs.declared.place.Place.TheVariants.{Cell}
-use Rattle.xp_words.specs.declared.reply.Pause.TheVariants as pauses
-use Rattle.xp_words.specs.declared.reply.Refusal.TheVariants as refusals
 use Rattle.xp_words.specs.declared.reply.Stop.{Stop}
 use Rattle.xp_words.specs.declared.reply.Stop.TheVariants.{Refused, Paused}
 use Rattle.xp_board.specs.declared.step.Act.TheVariants.{Store}
@@ -20,63 +18,53 @@ use Rattle.frame_types.proofs.Serving.{type_uncounted}
 use Rattle.table_courses.specs.Acquiring.{GaveType}
 use Rattle.writable_pages.specs.Pages.{LeavesPage, ServesPage, TookPage, of_page}
 use Rattle.mmu_update.specs.Course as courses
-use Rattle.mmu_update.specs.Elements.{IsWriteStop, LeavesUpdate}
+use Rattle.mmu_update.specs.Elements.{LeavesUpdate}
 use Rattle.mmu_update.specs.Fits.{Updates}
 use Rattle.mmu_update.specs.Writing.{Ordinary}
 use Rattle.mmu_update.specs.declared.element.Element.TheVariants.{Write}
 use Rattle.mmu_update.proofs.Holding.{apart, given_back, given_to_old, given_up, leaves_rests}
+use Rattle.mmu_update.proofs.WriteKinds.{type_kinds}
 use Rattle.mmu_update.proofs.Serving.{asks, locked_serves, stored_serves, untaken_serves, untaken_stops}
 
-type_kinds : (e : Stop) → IsTypeStop e → IsWriteStop e
-type_kinds (Refused (refusals.OtherType f want x)) is = tt
-type_kinds (Refused (refusals.Clock x)) is = tt
-type_kinds (Paused (pauses.Lost place e x)) is = tt
-type_kinds (Paused (pauses.Busy f x)) is = tt
-type_kinds (Paused (pauses.Flush v stamp x)) is = tt
-type_kinds _ is = absurd is
+module _ {b v : PortValue} {o : Owners} {f : ℕ} (a : Ordinary b v o f) where
+  -- the reference is in hand still
+  pub lent : Holds b v (took f o.tables b.holdings)
+  lent = a.same ∙ a.referred.hand
 
--- the reference is in hand still
-pub lent : (b v : PortValue) (o : Owners) (f : ℕ) → Ordinary b v o f → Holds b v (took f o.tables b.holdings)
-lent b v o f a = a.same ∙ a.referred.hand
-
-module _ (b v : PortValue) (o : Owners) (f i word : ℕ) (keep : Bool) (a : Ordinary b v o f) where
-  takes : Holds b v (took f o.tables b.holdings)
-  takes = lent b v o f a
-
-  before : (answer : Result (Unit {0}) Stop) → Serves b v (asks o f i word keep answer) []
-  before answer = locked_serves o f i word keep answer b a.at v [] a.referred.serves a.serves
+  before : (i word : ℕ) (keep : Bool) (answer : Result (Unit {0}) Stop) → Serves b v (asks o f i word keep answer) []
+  before i word keep answer = locked_serves o f i word keep answer b a.at v [] a.referred.serves a.serves
 
   page_hand : (x : PortValue) (e : Stop) → LeavesPage v x f o.tables (Err e) → LeavesUpdate b x
-  page_hand x (Refused r) leaves = given_up b v f o.tables a.referred.begins.rests takes x leaves
-  page_hand x (Paused p) (inl leaves) = given_up b v f o.tables a.referred.begins.rests takes x leaves
-  page_hand x (Paused p) (inr leaves) = given_to_old b v f o.tables a.referred.begins.rests takes x leaves.1
+  page_hand x (Refused r) leaves = given_up b v f o.tables a.referred.begins.rests lent x leaves
+  page_hand x (Paused p) (inl leaves) = given_up b v f o.tables a.referred.begins.rests lent x leaves
+  page_hand x (Paused p) (inr leaves) = given_to_old b v f o.tables a.referred.begins.rests lent x leaves.1
 
-  pub untaken : (x : PortValue) (e : Stop) → ServesPage {A = Unit {0}} v x f o.tables (Err e) → Stops v x (of_page v f o.tables) e → IsTypeStop e → LeavesPage v x f o.tables (Err e) → TookPage v f o.tables x (Err e) →
-      Updates o (Write f i word keep) b x [] (Err e)
-  untaken x e page why kind leaves taken =
-      record {
-        serves = untaken_serves o f i word keep e b v x (before (Err e)) page;
-        stops = untaken_stops o f i word keep e b v x (before (Err e)) (type_uncounted e kind) why;
-        kinds = type_kinds e kind;
-        numbers = λ y is. absurd cc;
-        hand = page_hand x e leaves;
-        rests = leaves_rests b x a.referred.begins.rests (page_hand x e leaves);
-        course = courses.untaken a.at v x a.found e a.referred.got a.tried taken;
-      }
-
-  module _ (x y z : PortValue) (found : ℕ) (page : ServesPage {A = Unit {0}} v x f o.tables (Ok tt)) (typed : FlushedHolds v x (typed_as f o.tables Writable v.holdings)) (same : Same x y)
-      (gives : Holds y z (gave_type f y.holdings)) where
-    stored_hand : LeavesUpdate b z
-    stored_hand = given_back b v f o.tables a.referred.begins.rests takes x typed y z same gives
-
-    pub stored : TookPage v f o.tables x (Ok tt) → Moves x y (Cell f i) (Store word) kinds.Cell None found → Serves y z (of_back f) [] → GaveType y z f Writable → Updates o (Write f i word keep) b z [] (Ok tt)
-    stored taken made back drops =
+  module _ {i word : ℕ} {keep : Bool} where
+    pub untaken : {x : PortValue} {e : Stop} → ServesPage {A = Unit {0}} v x f o.tables (Err e) → Stops v x (of_page v f o.tables) e → IsTypeStop e → LeavesPage v x f o.tables (Err e) →
+        TookPage v f o.tables x (Err e) →
+        Updates o (Write f i word keep) b x [] (Err e)
+    untaken {x} {e} page why kind leaves taken =
         record {
-          serves = stored_serves o f i word keep b v x y z found (before (Ok tt)) page (apart b v f o.tables a.referred.begins.rests takes x typed) made back;
+          serves = untaken_serves o f i word keep e b v x (before i word keep (Err e)) page;
+          stops = untaken_stops o f i word keep e b v x (before i word keep (Err e)) (type_uncounted e kind) why;
+          kinds = type_kinds e kind;
+          numbers = λ y is. absurd cc;
+          hand = page_hand x e leaves;
+          rests = leaves_rests b x a.referred.begins.rests (page_hand x e leaves);
+          course = courses.untaken a.at v x a.found e a.referred.got a.tried taken;
+        }
+
+    pub stored : {x y z : PortValue} {found : ℕ} → ServesPage {A = Unit {0}} v x f o.tables (Ok tt) → FlushedHolds v x (typed_as f o.tables Writable v.holdings) → TookPage v f o.tables x (Ok tt) →
+        Moves x y (Cell f i) (Store word) kinds.Cell None found → Same x y →
+        Serves y z (of_back f) [] → Holds y z (gave_type f y.holdings) → GaveType y z f Writable → Updates o (Write f i word keep) b z [] (Ok tt)
+    stored {x} {y} {z} {found} page typed taken made same back gives drops =
+        let hand = given_back b v f o.tables a.referred.begins.rests lent x typed y z same gives in
+        record {
+          serves = stored_serves o f i word keep b v x y z found (before i word keep (Ok tt)) page (apart b v f o.tables a.referred.begins.rests lent x typed) made back;
           stops = tt;
           kinds = tt;
           numbers = λ y is. absurd cc;
-          hand = stored_hand;
-          rests = leaves_rests b z a.referred.begins.rests stored_hand;
+          hand = hand;
+          rests = leaves_rests b z a.referred.begins.rests hand;
           course = courses.stored a.at v x y z a.found found a.referred.got a.tried taken made drops;
         }

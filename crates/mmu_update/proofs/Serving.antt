@@ -4,7 +4,6 @@ use Rattle.xp_words.specs.declared.kind.PageType.{PageType}
 use Rattle.xp_words.specs.declared.kind.PageType.TheVariants.{Writable}
 use Rattle.xp_words.specs.declared.place.Place.TheVariants.{Cell, Kind}
 use Rattle.xp_words.specs.declared.reply.Stop.{Stop}
-use Rattle.xp_words.specs.declared.reply.Stop.TheVariants.{Refused, Paused}
 use Rattle.xp_board.specs.declared.holdings.Holdings.{Holdings}
 use Rattle.xp_board.specs.declared.step.Act.TheVariants.{Store}
 use Rattle.xp_board.specs.declared.step.StepKind.TheVariants as kinds
@@ -15,25 +14,14 @@ use Rattle.answer_fits.specs.Answers.{Deed, Misses, Serves, Stops, Writes, deeds
 use Rattle.answer_fits.specs.Asked.{IsFor, Request, of_back, of_frame}
 use Rattle.answer_fits.proofs.Later.{IsUncounted, stops_later}
 use Rattle.answer_fits.proofs.Piecing.{serves_back, serves_came, serves_inner, serves_step, serves_within, stops_before, stops_within}
-use Rattle.entry_exchange.specs.Asking.{IsHidden}
 use Rattle.entry_locks.specs.Locks.{of_lock}
 use Rattle.foreign_map.specs.declared.owners.Owners.{Owners}
 use Rattle.frame_words.specs.Cells.{IsApart}
 use Rattle.writable_pages.specs.Pages.{HidesMark, ServesPage, of_page}
 use Rattle.mmu_update.specs.Elements.{ServesUpdate, stopped, stored, update_request}
 use Rattle.mmu_update.specs.declared.element.Element.TheVariants.{Write}
+use Rattle.entry_exchange.proofs.Taking.{hides_mark, hides_none}
 use Rattle.mmu_update.proofs.Asking.{names_frame, of_call, within_call}
-
--- ---- what a guest sees of one that is stopped: the exchange that was lost, and perhaps a hidden one
-pub hides_nothing : (e : Stop) → IsHidden e []
-hides_nothing (Refused x) = refl
-hides_nothing (Paused x) = inl refl
-
-pub hides_mark : (v : PortValue) (f d : ℕ) (e : Stop) (hidden : List Deed) → (hidden ≡ []) ⊎ (HidesMark {A = Unit {0}} v d (Err e) × (hidden ≡ Misses (Kind f) ∷ [])) → IsHidden e hidden
-hides_mark v f d (Refused x) hidden (inl none) = none
-hides_mark v f d (Refused x) hidden (inr mark) = absurd mark.0
-hides_mark v f d (Paused x) hidden (inl none) = inl none
-hides_mark v f d (Paused x) hidden (inr mark) = inr (f, mark.1)
 
 -- of one that is done it sees nothing
 shows_nothing : (v : PortValue) (f d : ℕ) (hidden : List Deed) → (hidden ≡ []) ⊎ (HidesMark {A = Unit {0}} v d (Ok tt) × (hidden ≡ Misses (Kind f) ∷ [])) → hidden ++ [] ≡ []
@@ -85,7 +73,7 @@ module _ (o : Owners) (f i word : ℕ) (keep : Bool) (e : Stop) (b u y : PortVal
   pub unlocked_serves : (w : PortValue) → Serves u y (of_lock f o.tables) (missed u.post.machine e) → Serves y w (of_back f) [] → ServesUpdate b w o (Write f i word keep) (Err e)
   unlocked_serves w lock back = (
     missed b.post.machine e,
-    stopped f i word keep e [] (hides_nothing e),
+    stopped f i word keep e [] (hides_none e),
     back_behind o f i word keep (Err e) b y (missed b.post.machine e)
         (locked_serves o f i word keep (Err e) b u y (missed b.post.machine e) first (subst (λ (p : Post). Serves u y (of_lock f o.tables) (missed p.machine e)) (came_post b u came_u) lock)) w back,
   )
@@ -103,7 +91,7 @@ module _ (o : Owners) (f i word : ℕ) (keep : Bool) (e : Stop) (b v x : PortVal
       let ds = page.hidden ++ missed b.post.machine e in
       let post = came_post b v (serves_came b v r [] before) in (
         ds,
-        stopped f i word keep e page.hidden (hides_mark v f o.tables e page.hidden page.may),
+        stopped f i word keep e page.hidden (hides_mark v o.tables f e page.hidden page.may),
         subst (λ es. Serves b x r es) (append-nil ds)
             (behind o f i word keep (Err e) b v [] before x (Some Writable) (of_page v f o.tables).locks ds refl
             (subst (λ (p : Post). Serves v x (of_page v f o.tables) (page.hidden ++ missed p.machine e)) post page.serves)),

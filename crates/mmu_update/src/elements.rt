@@ -33,6 +33,7 @@ use xp_words::{PageType, Pair, Refusal, Stop};
 /// One element of `mmu_update`: a machine-to-physical word of a frame of `owners.frames`, or a word in a frame of `owners.tables`, which is
 /// an entry exchanged where that frame is a live table, and else a store into ordinary memory. Both old words are known to name no frame.
 /// What a paused release leaves of the old entry stands in them; the element is done all the same.
+#[tactic(auto, using(crate::proofs::Updating::plain_ways))]
 pub fn update<P: Port>(
     port: &mut P,
     gate: &mut dyn Preempt,

@@ -1,6 +1,7 @@
 use Rattle.mmu_update.proofs.Gating.{ungated}
 use Rattle.mmu_update.proofs.Holding.{no_ending, no_lock, no_work}
-use Rattle.mmu_update.proofs.Referring.{lock_undue, may_put, ordinary, under_lock, unlocked}
+use Rattle.mmu_update.proofs.Referring.{may_put, ordinary, under_lock, unlocked}
+use Rattle.mmu_update.proofs.WriteKinds.{lock_kinds}
 use Rattle.mmu_update.proofs.elements.write_referred.Goals as goal
 
 pub lock_entry-requires-clause-apart : goal.lock_entry-requires-clause-apart
@@ -13,26 +14,24 @@ pub lock_entry-requires-clause-lasting : goal.lock_entry-requires-clause-lasting
 lock_entry-requires-clause-lasting g c = let r = c.requires.referred.1 in no_ending c.requires.referred.0 (g.P.Port.value c.args.port.now) c.args.frame c.args.owners.tables r.begins.rests r.hand
 
 pub put_ref-requires-clause-gives : goal.put_ref-requires-clause-gives
-put_ref-requires-clause-gives g c = may_put c.requires.referred.0 (g.P.Port.value c.args.port.now) (g.P.Port.value c.lock_entry.new.port) c.args.owners c.args.frame c.requires.referred.1 c.in-Err.ensures.hand
+put_ref-requires-clause-gives g c = may_put (g.P.Port.value c.lock_entry.new.port) c.requires.referred.1 c.in-Err.ensures.hand
 
 pub returns-in-Ok-Table-clause-writes : goal.returns-in-Ok-Table-clause-writes
 returns-in-Ok-Table-clause-writes g c = λ b r.
-    let t = c.in-Ok-Table in
-    c.write_entry.ensures.writes b
-    (under_lock b (g.P.Port.value c.args.port.now) (g.P.Port.value c.lock_entry.new.port) c.args.owners c.args.frame r t.field-0 t.ensures.serves t.ensures.found t.ensures.plain t.ensures.hand t.level t.field-0-1 t.field-0-is)
+    let t = c.in-Ok-Table.ensures in
+    c.write_entry.ensures.writes b (under_lock r t.serves (record { found = t.found; plain = t.plain; stops = tt }) t.hand c.in-Ok-Table.field-0-is)
 
 pub returns-in-Ok-Other-clause-writes : goal.returns-in-Ok-Other-clause-writes
 returns-in-Ok-Other-clause-writes g c = λ b r.
-    let t = c.in-Ok-Other in
-    ungated b (g.P.Port.value c.write_memory.new.port) c.args.owners c.args.frame c.args.index c.args.word c.args.keep c.write_memory.result _ _ _ c.write_memory.ensures.undue
-    (c.write_memory.ensures.writes b c.args.keep
-    (ordinary b (g.P.Port.value c.args.port.now) (g.P.Port.value c.lock_entry.new.port) c.args.owners c.args.frame r t.field-0 t.ensures.serves t.ensures.found t.ensures.plain t.ensures.hand t.field-0-0 t.field-0-is))
+    let t = c.in-Ok-Other.ensures in
+    ungated c.write_memory.ensures.undue (c.write_memory.ensures.writes b c.args.keep (ordinary r t.serves (record { found = t.found; plain = t.plain; stops = tt }) t.hand c.in-Ok-Other.field-0-is))
 
 pub returns-in-Err-clause-writes : goal.returns-in-Err-clause-writes
 returns-in-Err-clause-writes g c = λ b r.
     let t = c.in-Err.ensures in
     let p = c.put_ref.ensures in
-    let w = g.P.Port.value c.put_ref.new.port in
-    ungated b w c.args.owners c.args.frame c.args.index c.args.word c.args.keep _ _ _ _ (lock_undue c.in-Err.stop t.kinds)
-    (unlocked b (g.P.Port.value c.args.port.now) (g.P.Port.value c.lock_entry.new.port) c.args.owners c.args.frame r t.hand w p.hand c.args.index c.args.word c.args.keep c.in-Err.stop t.serves t.stops t.kinds
-    (record { found = t.found; plain = t.plain; stops = t.stops }) p.serves (record { found = p.puts; plain = p.plain }))
+    ungated (lock_kinds c.in-Err.stop t.kinds).1 (unlocked _ r t.hand p.hand t.serves t.kinds (record {
+      found = t.found;
+      plain = t.plain;
+      stops = t.stops;
+    }) p.serves (record { found = p.puts; plain = p.plain }))
