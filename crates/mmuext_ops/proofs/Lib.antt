@@ -4,6 +4,7 @@ mod Looked
 mod Marking
 mod Numbers
 mod PinCourse
+mod PinWays
 mod Pinned
 mod PinningLive
 mod Released

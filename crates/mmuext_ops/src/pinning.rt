@@ -6,11 +6,10 @@ ghost use Rattle.answer_fits.specs.Answers.{Serves, Stops};
 ghost use Rattle.answer_fits.specs.Asked.{of_back};
 ghost use Rattle.table_words.specs.OldWords.{known_old};
 ghost use Rattle.table_words.specs.declared.old_words.OldWord.TheVariants.{First};
-ghost use Rattle.level_validate.specs.Unwinding.{own_domain};
-ghost use Rattle.mmuext_ops.specs.Course.{GivenUp, PinEnds, PinsBy};
+ghost use Rattle.mmuext_ops.specs.Course.{GivenUp, PinsBy};
 ghost use Rattle.level_release.specs.Asking.{is_due_answer};
-ghost use Rattle.mmuext_ops.specs.Elements.{IsElementStop, LeavesElement, ServesElement, of_pin, ext_request};
-ghost use Rattle.mmuext_ops.specs.Holding.{GivesTableUp, HoldsTable, IsPinEnd, LeavesTable, ServesLive};
+ghost use Rattle.mmuext_ops.specs.Elements.{IsElementStop, LeavesElement, ServesElement, ext_request};
+ghost use Rattle.mmuext_ops.specs.Holding.{GivesTableUp, HoldsTable, PinsLive};
 ghost use Rattle.mmuext_ops.specs.declared.element.Element.TheVariants.{Pin};
 
 use frame_types::drop_type;
@@ -67,11 +66,7 @@ fn pin_live<P: Port>(port: &mut P, frame: u32, level: u8) -> Result<(), Stop>
     requires high { level ≤ 4 }
     requires holds { HoldsTable (P.value port.old) frame level }
     requires room { known_old First (P.value port.old).holdings ≡ Some 0 }
-    ensures serves { ServesLive (P.value port.old) (P.value port.new) frame level result }
-    ensures stops { IfErr result (λ e. Stops (P.value port.old) (P.value port.new) (of_pin (own_domain (P.value port.old)) frame level false) e) }
-    ensures kinds { IfErr result IsPinEnd }
-    ensures hand { LeavesTable (P.value port.old) (P.value port.new) frame result }
-    ensures course { PinEnds (P.value port.old) (P.value port.new) frame level result }
+    ensures { PinsLive (P.value port.old) (P.value port.new) frame level result }
 {
     let found = look_kind(port, frame);
     let kind = read_kind(found);
