@@ -1,15 +1,14 @@
 //! Pins.
-ghost use Rattle.std.specs.Prelude.{◌≡◌, ◌<◌, ◌≤◌, ℕ, [], Some, true, false, IfErr};
+ghost use Rattle.std.specs.Prelude.{◌≡◌, ◌<◌, ◌≤◌, ℕ, [], Some, true, false};
 ghost use Rattle.xp_board.specs.Readings.{domain_of};
 ghost use Rattle.step_maker.specs.Holds.{MayWork, Rests};
-ghost use Rattle.answer_fits.specs.Answers.{Serves, Stops};
+ghost use Rattle.answer_fits.specs.Answers.{Serves};
 ghost use Rattle.answer_fits.specs.Asked.{of_back};
 ghost use Rattle.table_words.specs.OldWords.{known_old};
 ghost use Rattle.table_words.specs.declared.old_words.OldWord.TheVariants.{First};
-ghost use Rattle.mmuext_ops.specs.Course.{GivenUp, PinsBy};
+ghost use Rattle.mmuext_ops.specs.Course.{GivenUp};
 ghost use Rattle.level_release.specs.Asking.{is_due_answer};
-ghost use Rattle.mmuext_ops.specs.Elements.{IsElementStop, LeavesElement, ServesElement, ext_request};
-ghost use Rattle.mmuext_ops.specs.Holding.{GivesTableUp, HoldsTable, PinsLive};
+ghost use Rattle.mmuext_ops.specs.Holding.{GivesTableUp, HoldsTable, MeetsElement, PinsLive};
 ghost use Rattle.mmuext_ops.specs.declared.element.Element.TheVariants.{Pin};
 
 use frame_types::drop_type;
@@ -36,12 +35,7 @@ pub fn pin<P: Port>(
     requires low { 1 ≤ level }
     requires high { level ≤ 4 }
     requires room { known_old First (P.value port.old).holdings ≡ Some 0 }
-    ensures serves { ServesElement (P.value port.old) (P.value port.new) domain (Pin f level) None result }
-    ensures stops { IfErr result (λ e. Stops (P.value port.old) (P.value port.new) (ext_request (P.value port.old).post.machine (P.value port.old).post.vcpu domain (Pin f level) None result) e) }
-    ensures kinds { IfErr result (IsElementStop (Pin f level)) }
-    ensures hand { LeavesElement (P.value port.old) (P.value port.new) (Pin f level) result }
-    ensures rests { Rests (P.value port.new) }
-    ensures course { PinsBy (P.value port.old) (P.value port.new) domain f level (says gate.old) (count_asks gate.old) (count_asks gate.new) (count_yes gate.old) (count_yes gate.new) result }
+    ensures met { MeetsElement (P.value port.old) (P.value port.new) domain (Pin f level) None (says gate.old) (count_asks gate.old) (count_asks gate.new) (count_yes gate.old) (count_yes gate.new) result }
     ensures says { (n : ℕ) → says gate.new n ≡ says gate.old n }
     ensures paces { paces gate.new ≡ paces gate.old }
     ensures calm { calm gate.old ≡ true → (is_due_answer result ≡ false) × (calm gate.new ≡ true) }
