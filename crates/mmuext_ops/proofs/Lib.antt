@@ -4,7 +4,6 @@ mod Looked
 mod Marking
 mod Numbers
 mod PinCourse
-mod PinWays
 mod Pinned
 mod PinningLive
 mod Released

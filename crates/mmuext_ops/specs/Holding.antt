@@ -11,9 +11,10 @@ use Rattle.xp_board.specs.KindSteps.{live_typed}
 use Rattle.xp_board.specs.Told.{PortValue}
 use Rattle.step_maker.specs.Holds.{Holds, Rests}
 use Rattle.answer_fits.specs.Answers.{Deed, Serves, Stops}
+use Rattle.answer_fits.specs.Asked.{of_back}
 use Rattle.partial_state.specs.Levels.{level_type}
 use Rattle.level_validate.specs.Unwinding.{own_domain}
-use Rattle.mmuext_ops.specs.Course.{PerformsBy, PinEnds}
+use Rattle.mmuext_ops.specs.Course.{GivenUp, PerformsBy, PinEnds}
 use Rattle.mmuext_ops.specs.Elements.{HasDeeds, IsElementStop, LeavesElement, ServesElement, StopsElement, of_pin}
 use Rattle.mmuext_ops.specs.declared.element.Element.{Element}
 use Rattle.mmuext_ops.specs.declared.element.Element.TheVariants.{Pin}
@@ -51,6 +52,12 @@ LeavesTable v w f (Err (Paused x)) = GivesTableUp v w f true
 -- its steps are those of a pin, whose gate did not say yes
 abbrev pub ServesLive : PortValue → PortValue → ℕ → ℕ → Result (Unit {0}) Stop → Type 0
 ServesLive v w f level answer = (ds : List Deed) × HasDeeds v.post.machine v.post.vcpu (Pin f level) answer ds × Serves v w (of_pin (own_domain v) f level false) ds
+
+-- A typed reference to a live table is given back: its steps give a reference back, leave that in hand, and are these calls.
+pub record GivesUp (v w : PortValue) (f level : ℕ) (kept : Bool) : Type 0 where
+  pub serves : Serves v w (of_back f) []
+  pub hand : GivesTableUp v w f kept
+  pub course : GivenUp v f level kept w
 
 -- A live table is pinned, or its typed reference given back: its steps serve a pin, show why not, leave that in hand, and are these calls.
 pub record PinsLive (v w : PortValue) (f level : ℕ) (answer : Result (Unit {0}) Stop) : Type 0 where

@@ -2,13 +2,10 @@
 ghost use Rattle.std.specs.Prelude.{◌≡◌, ◌<◌, ◌≤◌, ℕ, [], Some, true, false};
 ghost use Rattle.xp_board.specs.Readings.{domain_of};
 ghost use Rattle.step_maker.specs.Holds.{MayWork, Rests};
-ghost use Rattle.answer_fits.specs.Answers.{Serves};
-ghost use Rattle.answer_fits.specs.Asked.{of_back};
 ghost use Rattle.table_words.specs.OldWords.{known_old};
 ghost use Rattle.table_words.specs.declared.old_words.OldWord.TheVariants.{First};
-ghost use Rattle.mmuext_ops.specs.Course.{GivenUp};
 ghost use Rattle.level_release.specs.Asking.{is_due_answer};
-ghost use Rattle.mmuext_ops.specs.Holding.{GivesTableUp, HoldsTable, MeetsElement, PinsLive};
+ghost use Rattle.mmuext_ops.specs.Holding.{GivesUp, HoldsTable, MeetsElement, PinsLive};
 ghost use Rattle.mmuext_ops.specs.declared.element.Element.TheVariants.{Pin};
 
 use frame_types::drop_type;
@@ -91,9 +88,7 @@ fn give_up<P: Port>(port: &mut P, frame: u32, level: u8, kept: bool)
     requires high { level ≤ 4 }
     requires holds { HoldsTable (P.value port.old) frame level }
     requires room { known_old First (P.value port.old).holdings ≡ Some 0 }
-    ensures serves { Serves (P.value port.old) (P.value port.new) (of_back frame) [] }
-    ensures hand { GivesTableUp (P.value port.old) (P.value port.new) frame kept }
-    ensures course { GivenUp (P.value port.old) frame level kept (P.value port.new) }
+    ensures { GivesUp (P.value port.old) (P.value port.new) frame level kept }
 {
     if drop_type(port, frame) {
         leave(port, frame, partial_kind(level_type(level), kept, 512));
