@@ -1,9 +1,6 @@
 -- A pin: its ways out, one lemma each.
 use Rattle.std.proofs.Common.{◌≡◌, ℕ, Bool, true, false, [], None, Result, Ok, Err, IfErr, refl, sym, ap, ◌∙◌, subst, inl, rules}
-use Rattle.xp_words.specs.KindWords.{kind_fields}
 use Rattle.xp_words.specs.declared.kind.KindWord.{KindWord}
-use Rattle.xp_words.specs.declared.reply.Pause.TheVariants as pauses
-use Rattle.xp_words.specs.declared.reply.Refusal.TheVariants as refusals
 use Rattle.xp_words.specs.declared.reply.Refusal.TheVariants.{AlreadyPinned}
 use Rattle.xp_words.specs.declared.reply.Stop.{Stop}
 use Rattle.xp_words.specs.declared.reply.Stop.TheVariants.{Paused, Refused}

@@ -1,6 +1,5 @@
 -- A pin: its calls one behind the other, what is in hand behind each, and why it is not done.
-use Rattle.std.proofs.Common.{◌≡◌, ◌⊎◌, ℕ, ◌+◌, ◌<◌, Bool, true, false, not, List, [], ◌∷◌, ◌++◌, Some, None, Result, Ok, Err, IfErr, refl, sym, ap, ◌∙◌, subst, append-nil, inl, inr}
-use Rattle.xp_words.specs.KindWords.{kind_read}
+use Rattle.std.proofs.Common.{◌≡◌, ◌⊎◌, ℕ, ◌+◌, Bool, true, false, not, List, [], ◌∷◌, ◌++◌, Some, None, Result, Ok, Err, IfErr, refl, sym, ap, ◌∙◌, subst, append-nil, inl, inr}
 use Rattle.xp_words.specs.declared.kind.KindWord.{KindWord}
 use Rattle.xp_words.specs.declared.place.Place.TheVariants.{Kind}
 use Rattle.xp_words.specs.declared.reply.Pause.TheVariants as pauses
@@ -9,28 +8,25 @@ use Rattle.xp_words.specs.declared.reply.Stop.{Stop}
 use Rattle.xp_words.specs.declared.reply.Stop.TheVariants.{Paused, Refused}
 use Rattle.xp_board.specs.declared.holdings.OwnerFound.TheVariants as owners
 use Rattle.xp_board.specs.declared.holdings.TypedReference.{TypedReference}
-use Rattle.xp_board.specs.declared.step.Act.TheVariants.{Load}
-use Rattle.xp_board.specs.declared.step.StepKind.TheVariants as kinds
 use Rattle.xp_board.specs.KindSteps.{live_typed}
 use Rattle.xp_board.specs.Readings.{domain_of}
 use Rattle.xp_board.specs.Told.{Post, PortValue}
 use Rattle.board_lemmas.proofs.Sums.{when_eq}
 use Rattle.step_maker.specs.Holds.{FlushedHolds, Holds, Rests, Same, quiet}
-use Rattle.step_maker.specs.Moves.{Came, Met, Moves}
+use Rattle.step_maker.specs.Moves.{Came, Met}
 use Rattle.step_maker.proofs.Coming.{came_post, met_after}
-use Rattle.answer_fits.specs.Answers.{Misses, Serves, Stops, missed, misses}
+use Rattle.answer_fits.specs.Answers.{Misses, Serves, Stops, misses}
 use Rattle.answer_fits.specs.Asked.{Asked, Within, checked, named, of_table}
 use Rattle.answer_fits.specs.Finding.{Finding}
 use Rattle.answer_fits.proofs.Later.{IsUncounted, stops_then}
 use Rattle.answer_fits.proofs.Piecing.{serves_came, serves_inner, serves_then, stops_inner}
-use Rattle.frame_words.specs.Refs.{took}
 use Rattle.partial_state.specs.Levels.{level_type}
 use Rattle.kept_marks.specs.Marks.{IsForeign}
 use Rattle.level_validate.specs.Acquiring.{LeavesAcquired, ServesAcquired, of_acquire}
 use Rattle.level_validate.specs.Acquiring as acquires
 use Rattle.level_validate.specs.Unwinding.{own_domain}
-use Rattle.level_release.specs.Asking.{is_due_answer, is_due_stop}
-use Rattle.mmuext_ops.specs.Elements.{HasDeeds, LeavesElement, ServesElement, of_pin, told}
+use Rattle.level_release.specs.Asking.{is_due_answer}
+use Rattle.mmuext_ops.specs.Elements.{HasDeeds, LeavesElement, ServesElement, of_pin}
 use Rattle.mmuext_ops.specs.Holding.{HoldsTable, IsPinEnd, LeavesTable, ServesLive, named_old, untyped_hand}
 use Rattle.mmuext_ops.specs.declared.element.Element.TheVariants.{Pin}
 use Rattle.mmuext_ops.proofs.Looked.{Looked, fields, found_with, owner_known}

@@ -1,6 +1,6 @@
 -- An unpin: its ways out, one lemma each.
 use Rattle.std.proofs.Common.{◌≡◌, ◌≢◌, ℕ, Bool, true, false, [], Some, None, Result, Ok, Err, IfErr, refl, sym, ap, ◌∙◌, subst, rules}
-use Rattle.xp_words.specs.KindWords.{kind_fields, kind_read, kind_write}
+use Rattle.xp_words.specs.KindWords.{kind_read, kind_write}
 use Rattle.xp_words.specs.Places.{number, sizes_of}
 use Rattle.xp_words.specs.declared.kind.KindWord.{KindWord}
 use Rattle.xp_words.specs.declared.place.Place.TheVariants.{Kind}

@@ -1,5 +1,5 @@
 -- An unpin: what its words tell, its calls one behind the other, what is in hand behind each, and why it is not done.
-use Rattle.std.proofs.Common.{◌≡◌, ◌≢◌, ℕ, ◌<◌, nat_lt, true, false, List, [], ◌∷◌, ◌++◌, ◌^◌, Some, None, Result, Err, is_some, IfErr, IsTrue, refl, sym, ap, ◌∙◌, subst, arith}
+use Rattle.std.proofs.Common.{◌≡◌, ◌≢◌, ℕ, nat_lt, true, false, List, [], ◌∷◌, ◌++◌, ◌^◌, Some, None, Err, is_some, IsTrue, refl, sym, ap, ◌∙◌, subst, arith}
 use Rattle.std.proofs.lemmas.Bool.{and_parts}
 use Rattle.std.proofs.lemmas.Bool.Decides.{nat_tests}
 use Rattle.xp_words.specs.KindWords.{has_form, is_kind, kind_fields, kind_read, kind_write}
@@ -10,15 +10,13 @@ use Rattle.xp_words.specs.declared.reply.Pause.TheVariants as pauses
 use Rattle.xp_words.specs.declared.reply.Refusal.TheVariants.{NotPinned}
 use Rattle.xp_words.specs.declared.reply.Stop.{Stop}
 use Rattle.xp_words.specs.declared.reply.Stop.TheVariants.{Paused, Refused}
-use Rattle.xp_board.specs.declared.step.Act.TheVariants.{Cas, Load}
+use Rattle.xp_board.specs.declared.step.Act.TheVariants.{Cas}
 use Rattle.xp_board.specs.declared.step.StepKind.TheVariants as kinds
 use Rattle.xp_board.specs.KindSteps.{MayUnpin}
 use Rattle.xp_board.specs.Readings.{is_live}
-use Rattle.xp_board.specs.Spelling.{is_kind_in}
 use Rattle.xp_board.specs.Told.{Post, PortValue}
 use Rattle.board_lemmas.proofs.KindForms.{fields_of}
 use Rattle.board_lemmas.proofs.Sums.{when_eq}
-use Rattle.step_maker.specs.Holds.{Holds, Same}
 use Rattle.step_maker.specs.Moves.{Came, Met, Moves}
 use Rattle.step_maker.proofs.Coming.{came_post, came_trans, met_after, met_before, moment_of, moves_came, moves_met}
 use Rattle.answer_fits.specs.Answers.{Deed, Serves, Stops, Unpins, deeds_by, missed, missed_at}
@@ -26,7 +24,6 @@ use Rattle.answer_fits.specs.Asked.{Asked, IsAsked, Request, checked, named, of,
 use Rattle.answer_fits.specs.Finding.{Finding, FoundWith}
 use Rattle.answer_fits.specs.Reasons.{keeps_type}
 use Rattle.answer_fits.proofs.Piecing.{serves_back, serves_came}
-use Rattle.frame_words.specs.Refs.{took}
 use Rattle.kind_words.proofs.KindFacts.{kind_is_some}
 use Rattle.kind_words.proofs.KindWriting.{fields_write}
 use Rattle.table_words.specs.Pins.{unpinned_kind}

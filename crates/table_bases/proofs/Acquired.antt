@@ -8,7 +8,7 @@ use Rattle.xp_board.specs.Readings.{domain_of, last_clock}
 use Rattle.xp_board.specs.Told.{Post, PortValue}
 use Rattle.board_lemmas.proofs.Sums.{when_eq}
 use Rattle.step_maker.specs.Holds.{Same}
-use Rattle.step_maker.specs.Moves.{Came, Met}
+use Rattle.step_maker.specs.Moves.{Met}
 use Rattle.step_maker.proofs.Coming.{came_post, met_after}
 use Rattle.answer_fits.specs.Answers.{Misses, Serves, Stops, misses}
 use Rattle.answer_fits.specs.Asked.{NoMore, Request, Within, of_table}
@@ -23,9 +23,7 @@ use Rattle.table_bases.specs.declared.words.Base.{Base}
 use Rattle.table_bases.specs.Asking.{base_deeds, of_base}
 use Rattle.table_bases.specs.Course.{InstallsBy, MeetsBase, SawClock}
 use Rattle.table_bases.specs.Course as course
-use Rattle.table_bases.specs.Holding.{FoundClockLow}
-use Rattle.table_bases.proofs.Behind.{stays_warm}
-use Rattle.table_bases.proofs.Clocked.{installed, looked, looked_came, looked_warm}
+use Rattle.table_bases.proofs.Clocked.{installed, looked, looked_came}
 use Rattle.table_bases.proofs.Requests.{within_acquire}
 
 module _ (v a e : PortValue) (clock f d : ℕ) (look : SawClock v a clock) (home : d ≡ own_domain a) where

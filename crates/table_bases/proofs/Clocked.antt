@@ -27,7 +27,7 @@ use Rattle.flush_words.proofs.FlushServes.{own_stops}
 use Rattle.flush_words.proofs.OwnFlush.{clock_below, less_is, spent_own}
 use Rattle.level_validate.specs.Unwinding.{own_domain}
 use Rattle.table_bases.specs.declared.words.Base.{Base}
-use Rattle.table_bases.specs.Asking.{ServesBase, StopsBase, base_deeds, of_base}
+use Rattle.table_bases.specs.Asking.{ServesBase, base_deeds, of_base}
 use Rattle.table_bases.specs.Course.{AcquiresTop, InstallsBy, MeetsBase, SawClock, SetsBase, SetsBaseBy}
 use Rattle.table_bases.specs.Course as course
 use Rattle.table_bases.specs.Holding.{FoundClockLow, base_number, naming}
