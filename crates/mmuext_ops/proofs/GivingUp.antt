@@ -41,10 +41,14 @@ use Rattle.table_words.specs.OldWords.{kept_in_old, old_place}
 use Rattle.table_words.specs.declared.old_words.OldWord.TheVariants.{First}
 use Rattle.level_release.proofs.ServingTables.{closing_alive}
 use Rattle.mmuext_ops.proofs.Marking.{mark_keeps}
-use Rattle.mmuext_ops.specs.Holding.{GivesTableUp, HoldsTable, named_old, untyped_hand}
+use Rattle.mmuext_ops.specs.Course as ends
+use Rattle.mmuext_ops.specs.Holding.{GivesTableUp, GivesUp, HoldsTable, named_old, untyped_hand}
+use Rattle.mmuext_ops.proofs.Looked.{GivenBack}
+use Rattle.xp_words.specs.declared.kind.KindWord.{KindWord}
+use Rattle.xp_words.specs.declared.kind.PageType.{PageType}
 
 -- ---- the reference
-module _ (v : PortValue) (f level : ℕ) (holds : HoldsTable v f level) where
+module _ {v : PortValue} {f level : ℕ} (holds : HoldsTable v f level) where
   abbrev pub own : OwnerFound
   own = owners.Of (domain_of v.post.machine v.post.vcpu)
 
@@ -68,15 +72,15 @@ module _ (v : PortValue) (f level : ℕ) (holds : HoldsTable v f level) where
   pub none_left : without_typed f v.holdings.typed ≡ []
   none_left = without_newest (λ (y : TypedReference). y.frame) f reference [] v.holdings.typed refl holds.typed
 
-  -- its type count was given back
-  module _ (u : PortValue) where
-    abbrev left_ref : Reference
-    left_ref = record { frame = f; owner = typed_owner f v.holdings }
+  abbrev left_ref : Reference
+  left_ref = record { frame = f; owner = typed_owner f v.holdings }
 
+  -- its type count was given back
+  module _ {u : PortValue} where
     -- ---- not the last
-    module _ (drops : DropsType v u f false) where
+    module _ {b : Bool} (drops : DropsType v u f b) (more : b ≡ false) where
       counted : Holds v u (uncounted f v.holdings)
-      counted = type_counted v u f false drops refl
+      counted = type_counted v u f b drops more
 
       pub may_put : MayPut f u.holdings
       may_put =
@@ -93,21 +97,21 @@ module _ (v : PortValue) (f level : ℕ) (holds : HoldsTable v f level) where
           ∙ ap (λ (ys : List TypedReference). still (record v { holdings = record v.holdings { typed = ys } })) none_left
 
     -- ---- the last: the frame is closing in the hand, and is left partial with all its entries recorded
-    module _ (drops : DropsType v u f true) where
+    module _ {b : Bool} (drops : DropsType v u f b) (last : b ≡ true) where
       abbrev closing : Work
       closing = closing_from f drops.found v.holdings
 
       closed : Holds v u (closing_in f drops.found v.holdings)
-      closed = type_closed v u f true drops refl
+      closed = type_closed v u f b drops last
 
       pub here : work_on f u.holdings.works ≡ Some closing
-      here = closed_here v u f true drops refl
+      here = closed_here v u f b drops last
 
       pub is_closed : IsTrue (is_closing (kind_fields closing.word))
-      is_closed = closed_is v u f true drops refl
+      is_closed = closed_is v u f b drops last
 
       pub kind_is : (kind_fields closing.word).kind ≡ level_type level
-      kind_is = closed_kind v u f true drops refl (level_type level) live
+      kind_is = closed_kind v u f b drops last (level_type level) live
 
       refs_left : u.holdings.refs ≡ left_ref ∷ v.holdings.refs
       refs_left = ap (λ (q : PortValue). q.holdings.refs) closed
@@ -129,7 +133,7 @@ module _ (v : PortValue) (f level : ℕ) (holds : HoldsTable v f level) where
         may_leave kept =
             subst (λ n. MayLeave u f (partial_kind (level_type level) kept false n 0)) recorded_all
             (may_leave_partial u f (level_type level) closing here (level_type-typed level) kind_is kept (λ on. may_keep_closing f closing u.holdings (domain_of u.post.machine u.post.vcpu) is_closed owner_left)
-            (level_type-table level low) (let all = recorded_all in omega (arith, all)) (inl (closed_unmarked v u f true drops refl))
+            (level_type-table level low) (let all = recorded_all in omega (arith, all)) (inl (closed_unmarked v u f b drops last))
             (λ shut. subst (λ (rs : List Reference). 0 < refs_to f rs) (sym refs_left) (newest_held f left_ref v.holdings.refs refl)))
 
         refs_gone : without_ref f u.holdings.refs ≡ v.holdings.refs
@@ -177,33 +181,67 @@ module _ (v : PortValue) (f level : ℕ) (holds : HoldsTable v f level) where
                 ∙ ap (λ (ys : List TypedReference). still (record v { holdings = record v.holdings { typed = ys; old0 = Some (f + 1) } })) (without_newest (λ (y : TypedReference). y.frame) f new_count [] (new_count ∷ []) refl refl)
 
 -- ---- its steps
-module _ (v u w : PortValue) (f level : ℕ) (holds : HoldsTable v f level) (low : 1 ≤ level) where
-  pub shared_serves : Serves v u (of_back f) [] → Serves u w (of_back f) [] → Serves v w (of_back f) []
-  shared_serves drop put = serves_then v u w (of_back f) [] [] drop put
-
-  module _ (drops : DropsType v u f true) (kept : Bool) (found : ℕ) (store : Moves u w (Kind f) (Store (kind_write (partial_kind (level_type level) kept false 512 0))) kinds.Kind None found) where
-    -- the word found is that of the closing frame
-    keeps : IsTrue (keeps_type found (kind_write (partial_kind (level_type level) kept false 512 0)))
-    keeps =
-        let e = closing_from f drops.found v.holdings in
-        let l = partial_kind (level_type level) kept false 512 0 in
-        mark_keeps found (kind_write l) (kind_fields e.word) l (ap (λ y. kind_fields y) (work_word u.post.machine u.post.vcpu u.holdings f found e store.finds (here v f level holds u drops))) (fields_write l (spelled v f level holds u drops low kept))
-        (sym (kind_is v f level holds u drops)) (closing_alive (kind_fields e.word) (is_closed v f level holds u drops))
-
-    pub left_serves : Serves v u (of_back f) [] → Serves v w (of_back f) []
-    left_serves drop = serves_step v u w (of_back f) [] _ _ _ _ _ drop store (backs_itself v.post.machine v.post.vcpu f _, keeps)
-
 -- the first old word is stored
 pub named_serves : (v u w : PortValue) (r : Request) (ds : List Deed) (word : ℕ) → Serves v u r ds → Moves u w (old_place u.post.vcpu First) (Store word) kinds.Context None 0 → Serves v w r ds
 named_serves v u w r ds word before store =
     let here : Moves u w (Vcpu v.post.vcpu 2) (Store word) kinds.Context None 0 = subst (λ (p : Post). Moves u w (Vcpu p.vcpu 2) (Store word) kinds.Context None 0) (came_post v u (serves_came v u r ds before)) store in
     serves_step v u w r ds _ _ _ _ _ before here (inl (refl, inl (λ e. cc)))
 
--- ---- by whether a mark is to keep it
-pub gone_by : (v w : PortValue) (f : ℕ) (kept : Bool) → Holds v w (untyped_hand v.holdings) → GivesTableUp v w f kept
-gone_by v w f true gone = gone
-gone_by v w f false gone = inl gone
+-- ---- its ways out
+-- it was not the last
+pub shared : {v u w : PortValue} {f level : ℕ} {kept b : Bool} → HoldsTable v f level → DropsType v u f b → b ≡ false → Serves v u (of_back f) [] → GivenBack u w f → GivesUp v w f level kept
+shared {v} {u} {w} {f} {level} {kept} holds drops more dropped back =
+    record {
+      serves = serves_then v u w (of_back f) [] [] dropped back.serves;
+      hand = by kept (shared_hand holds drops more w back.hand);
+      course = ends.shared u w kept (subst (λ y. DropsType v u f y) more drops) back.puts;
+    }
+  where
+    by : (k : Bool) → Holds v w (untyped_hand v.holdings) → GivesTableUp v w f k
+    by true gone = gone
+    by false gone = inl gone
 
-pub named_by : (v w : PortValue) (f : ℕ) (kept : Bool) → kept ≡ false → Holds v w (named_old f (untyped_hand v.holdings)) → GivesTableUp v w f kept
-named_by v w f true off named = absurd cc
-named_by v w f false off named = inr named
+-- it was
+module _ {v u : PortValue} {f level : ℕ} (holds : HoldsTable v f level) (low : 1 ≤ level) {b : Bool} (drops : DropsType v u f b) (last : b ≡ true) {l : KindWord} {t : PageType} {kept : Bool} (word : l ≡ partial_kind t kept false 512 0) (typed : t ≡ level_type level) where
+  closes : DropsType v u f true
+  closes = subst (λ y. DropsType v u f y) last drops
+
+  word_is : (k : Bool) → kept ≡ k → l ≡ partial_kind (level_type level) k false 512 0
+  word_is k is = word ∙ ap (λ y. partial_kind y kept false 512 0) typed ∙ ap (λ y. partial_kind (level_type level) y false 512 0) is
+
+  pub leaves : MayLeave u f l
+  leaves = subst (λ y. MayLeave u f y) (sym (word_is kept refl)) (may_leave holds drops last low kept)
+
+  module _ {w : PortValue} {found : ℕ} (store : Moves u w (Kind f) (Store (kind_write l)) kinds.Kind None found) (left_it : Holds u w (left u f l)) (dropped : Serves v u (of_back f) []) where
+    stored : (k : Bool) → kept ≡ k → Moves u w (Kind f) (Store (kind_write (partial_kind (level_type level) k false 512 0))) kinds.Kind None found
+    stored k is = subst (λ (y : KindWord). Moves u w (Kind f) (Store (kind_write y)) kinds.Kind None found) (word_is k is) store
+
+    holds_left : (k : Bool) → kept ≡ k → Holds u w (left u f (partial_kind (level_type level) k false 512 0))
+    holds_left k is = subst (λ y. Holds u w (left u f y)) (word_is k is) left_it
+
+    -- the word found is that of the closing frame
+    keeps : IsTrue (keeps_type found (kind_write (partial_kind (level_type level) kept false 512 0)))
+    keeps =
+        let e = closing_from f drops.found v.holdings in
+        let p = partial_kind (level_type level) kept false 512 0 in
+        mark_keeps found (kind_write p) (kind_fields e.word) p (ap (λ y. kind_fields y) (work_word u.post.machine u.post.vcpu u.holdings f found e store.finds (here holds drops last))) (fields_write p (spelled holds drops last low kept))
+        (sym (kind_is holds drops last)) (closing_alive (kind_fields e.word) (is_closed holds drops last))
+
+    left_serves : Serves v w (of_back f) []
+    left_serves = serves_step v u w (of_back f) [] _ _ _ _ _ dropped (stored kept refl) (backs_itself v.post.machine v.post.vcpu f _, keeps)
+
+    pub marked : kept ≡ true → GivesUp v w f level kept
+    marked on = rw on (record { serves = left_serves; hand = marked_hand holds drops last low w (holds_left true on); course = ends.marked u w found closes (stored true on) })
+
+    module _ (off : kept ≡ false) where
+      pub held_still : 0 < typed_to f w.holdings.typed
+      held_still = still_held holds drops last low w (holds_left false off)
+
+      pub named : {z : PortValue} → Moves w z (old_place w.post.vcpu First) (Store (f + 1)) kinds.Context None 0 → Holds w z (kept_in_old First f w.holdings) → GivesUp v z f level kept
+      named {z} names hand =
+          rw off
+          (record {
+            serves = named_serves v w z (of_back f) [] (f + 1) left_serves names;
+            hand = inr (named_hand holds drops last low w (holds_left false off) z hand);
+            course = ends.named u w z found closes (stored false off) names;
+          })

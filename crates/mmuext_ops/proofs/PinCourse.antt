@@ -1,51 +1,113 @@
--- The course of a pin, over its calls, with the answers of its gate.
-use Rattle.std.proofs.Common.{◌≡◌, ℕ, Bool, true, false, [], Result, Ok, Err, IfErr, refl, sym, ◌∙◌, subst}
+-- A pin: its ways out, one lemma each.
+use Rattle.std.proofs.Common.{◌≡◌, ℕ, Bool, true, false, [], None, Result, Ok, Err, IfErr, refl, sym, ap, ◌∙◌, subst, inl, rules}
+use Rattle.xp_words.specs.declared.kind.KindWord.{KindWord}
 use Rattle.xp_words.specs.declared.reply.Refusal.TheVariants.{AlreadyPinned}
 use Rattle.xp_words.specs.declared.reply.Stop.{Stop}
-use Rattle.xp_words.specs.declared.reply.Stop.TheVariants.{Refused}
+use Rattle.xp_words.specs.declared.reply.Stop.TheVariants.{Paused, Refused}
 use Rattle.xp_preempt.proofs.Consulting.{consulted_none, not_due}
-use Rattle.xp_board.specs.Told.{PortValue, is_telling, told_word}
-use Rattle.step_maker.specs.Plain.{Leaves}
-use Rattle.frame_words.specs.Freeing.{Puts}
-use Rattle.frame_words.specs.Plain.{put}
+use Rattle.xp_board.specs.Told.{PortValue}
+use Rattle.step_maker.specs.Holds.{Rests, Same, quiet}
+use Rattle.answer_fits.specs.Answers.{Serves, Stops, missed}
+use Rattle.answer_fits.specs.Asked.{of_frame}
 use Rattle.frame_words.specs.Refs.{IsRefStop}
-use Rattle.table_courses.specs.Acquiring.{Acquired, GaveRef, GotRef}
-use Rattle.level_validate.specs.Acquiring.{AcquiresBy}
+use Rattle.partial_state.specs.Levels.{level_type}
+use Rattle.table_courses.specs.Acquiring.{Acquired, GotRef}
+use Rattle.level_validate.specs.Acquiring.{AcquiresBy, IsAcquireStop, LeavesAcquired, ServesAcquired, of_acquire}
+use Rattle.level_validate.specs.Unwinding.{own_domain}
 use Rattle.table_courses.proofs.Ending.{reference_undue}
-use Rattle.mmuext_ops.specs.Course.{IsPinnedAs, PinEnds, PinsBy, SawKind}
+use Rattle.mmuext_ops.specs.Course.{IsPinnedAs, PinEnds}
 use Rattle.mmuext_ops.specs.Course as course
+use Rattle.mmuext_ops.specs.declared.element.Element.TheVariants.{Pin}
 use Rattle.level_release.specs.Asking.{is_due_answer, is_due_stop}
-use Rattle.mmuext_ops.specs.Holding.{IsPinEnd}
-use Rattle.mmuext_ops.proofs.Pinned.{pin_undue}
+use Rattle.mmuext_ops.specs.Elements.{IsPinStop, LeavesElement, of_pin, told}
+use Rattle.mmuext_ops.specs.Holding.{HoldsTable, IsPinEnd, MeetsElement, PinsLive}
+use Rattle.mmuext_ops.proofs.Looked.{GivenBack, Looked, came_back, fields, gave_ref, given_back, look_there, not_referred, put_back, referred}
+use Rattle.mmuext_ops.proofs.Pinned.{acquired_holds, acquired_serves, asks, before_stops, live_hand, live_serves, live_stops, pin_undue, unacquired_hand, unacquired_stops}
+use Rattle.mmuext_ops.proofs.Rests.{rests_pinned}
 
--- a reference given back, of the frame that was asked
-pub gave_ref : (b c : PortValue) (f g : ℕ) → g ≡ f → Puts b c g → (is_telling b ≡ true → Leaves c (put g (told_word b))) → GaveRef b c f
-gave_ref b c f g at puts plain = subst (λ k. GaveRef b c k) at (record { found = puts; plain = plain })
+-- ---- why it is not done
+ref_stop : (e : Stop) → IsRefStop e → IsPinStop e
+ref_stop e is = search rules
 
-module _ (v w : PortValue) (d f level : ℕ) (says : ℕ → Bool) (asks agreed : ℕ) where
-  pub unreferred_course : (answer : Result (Unit {0}) Stop) (stop : Stop) → answer ≡ Err stop → IsRefStop stop → GotRef v w f d (Err stop) → PinsBy v w d f level says asks asks agreed agreed answer
-  unreferred_course answer stop is kind got =
-      subst (λ y. PinsBy v w d f level says asks asks agreed agreed y) (sym is)
-      (record { answers = []; course = course.unreferred stop got; gate = consulted_none says asks agreed; due = not_due (is_due_stop stop) [] (reference_undue stop kind) })
+acquire_stop : (e : Stop) → IsAcquireStop e → IsPinStop e
+acquire_stop e is = search rules
 
-  pub before_course : (a b : PortValue) (x : ℕ) → GotRef v a f d (Ok f) → SawKind a b f x → GaveRef b w f → IsPinnedAs level x → PinsBy v w d f level says asks asks agreed agreed (Err (Refused (AlreadyPinned x)))
-  before_course a b x got saw gave typed =
-      record { answers = []; course = course.pinned_before a b x got saw gave typed; gate = consulted_none says asks agreed; due = not_due false [] refl }
+pin_stop : (answer : Result (Unit {0}) Stop) → IfErr answer IsPinEnd → IfErr answer IsPinStop
+pin_stop answer is = search rules
 
--- behind the look
-module _ (v a b c : PortValue) (d f level x : ℕ) (got : GotRef v a f d (Ok f)) (saw : SawKind a b f x) (gave : GaveRef b c f) (other : IsPinnedAs level x → ⊥) (says : ℕ → Bool) (before after agreed agrees : ℕ) where
-  pub refused_course : (e : PortValue) (answer : Result (Unit {0}) Stop) (stop : Stop) → answer ≡ Err stop → AcquiresBy c e f d level says before after agreed agrees (Err stop) →
-      PinsBy v e d f level says before after agreed agrees answer
-  refused_course e answer stop is by =
-      subst (λ y. PinsBy v e d f level says before after agreed agrees y) (sym is)
-      (record { answers = by.answers; course = course.refused a b c x by.answers stop got saw gave other by.course; gate = by.gate; due = λ on. sym by.due ∙ on })
+-- nothing is left of it
+none_left : (v w : PortValue) (f level : ℕ) (e : Stop) → Same v w → LeavesElement v w (Pin f level) (Err e)
+none_left v w f level (Refused x) same = inl (ap quiet same)
+none_left v w f level (Paused x) same = ap quiet same
 
-  pub live_course : (e w : PortValue) (g : ℕ) (answer : Result (Unit {0}) Stop) → g ≡ f → AcquiresBy c e f d level says before after agreed agrees (Ok g) → IfErr answer IsPinEnd → PinEnds e w g level answer →
-      PinsBy v w d f level says before after agreed agrees answer
-  live_course e w g answer at by kind ends =
+module _ {v w : PortValue} {d f level : ℕ} {says : ℕ → Bool} {asked agreed : ℕ} (rests : Rests v) where
+  -- its reference is not to be had
+  pub unreferred : {answer : Result (Unit {0}) Stop} {stop : Stop} → answer ≡ Err stop → Serves v w (of_frame f d None) (missed v.post.machine stop) → IsRefStop stop → Same v w → GotRef v w f d (Err stop) →
+      MeetsElement v w d (Pin f level) None says asked asked agreed agreed answer
+  unreferred {stop} is serves kind same got =
+      let left = none_left v w f level stop same in
+      rw is
+      (record {
+        serves = (missed v.post.machine stop, told _ _, referred v f d (of_pin d f level (is_due_stop stop)) (asks v f d level (is_due_stop stop)) w (missed v.post.machine stop) serves);
+        stops = not_referred v f d (of_pin d f level (is_due_stop stop)) (asks v f d level (is_due_stop stop)) w stop got.stops;
+        kinds = ref_stop stop kind;
+        hand = left;
+        rests = rests_pinned v w f level (Err stop) rests left;
+        course = record { answers = []; course = course.unreferred stop got; gate = consulted_none says asked agreed; due = not_due (is_due_stop stop) [] (reference_undue stop kind) };
+      })
+
+  -- it is pinned already
+  pub seen : {a b : PortValue} {g x : ℕ} {k : KindWord} → Looked v a b f d g x k → GivenBack b w g → k.pinned ≡ true → k.kind ≡ level_type level → MeetsElement v w d (Pin f level) None says asked asked agreed agreed (Err (Refused (AlreadyPinned x)))
+  seen {a} {b} {x} saw back on kind =
+      let left = none_left v w f level (Refused (AlreadyPinned x)) (given_back saw back) in
+      let typed : IsPinnedAs level x = (ap (λ (y : KindWord). y.pinned) (fields saw) ∙ on, ap (λ (y : KindWord). y.kind) (fields saw) ∙ kind) in
       record {
-        answers = by.answers;
-        course = course.acquired a b c e x by.answers answer got saw gave other (subst (λ k. Acquired c f d level e by.answers (Ok k)) at by.course) (subst (λ k. PinEnds e w k level answer) at ends);
-        gate = by.gate;
-        due = not_due (is_due_answer answer) by.answers (pin_undue answer kind);
+        serves = ([], told _ _, put_back saw (of_pin d f level false) (asks v f d level false) back);
+        stops = before_stops v f d level false saw w (came_back saw back) on kind;
+        kinds = tt;
+        hand = left;
+        rests = rests_pinned v w f level (Err (Refused (AlreadyPinned x))) rests left;
+        course = record { answers = []; course = course.pinned_before a b x saw.got (look_there saw) (gave_ref saw back) typed; gate = consulted_none says asked agreed; due = not_due false [] refl };
       }
+
+module _ {v a b : PortValue} {d f g x : ℕ} {k : KindWord} (rests : Rests v) (saw : Looked v a b f d g x k) (p : PortValue) (back : GivenBack b p g) (own : d ≡ own_domain v) where
+  module _ {level : ℕ} {says : ℕ → Bool} {before after agreed agrees : ℕ} (other : IsPinnedAs level x → ⊥) where
+    -- it is not acquired
+    pub refused : {e : PortValue} {answer : Result (Unit {0}) Stop} {stop : Stop} → answer ≡ Err stop → ServesAcquired p e f d level d (Err stop) → Stops p e (of_acquire {A = ℕ} p f d level d (Err stop)) stop → IsAcquireStop stop →
+        LeavesAcquired p e f d level (Err stop) → AcquiresBy p e f d level says before after agreed agrees (Err stop) → MeetsElement v e d (Pin f level) None says before after agreed agrees answer
+    refused {e} {stop} is serves stops kind hand by =
+        let same = given_back saw back in
+        let left = unacquired_hand v p e f d level same own stop hand in
+        let put = put_back saw (of_pin d f level (is_due_stop stop)) (asks v f d level (is_due_stop stop)) back in
+        rw is
+        (record {
+          serves = (missed v.post.machine stop, told _ _, acquired_serves v f d level (is_due_stop stop) p put e (Err stop) (λ due. due) own serves);
+          stops = unacquired_stops v f d level (is_due_stop stop) p put e (Err stop) (λ due. due) own same stop stops;
+          kinds = acquire_stop stop kind;
+          hand = left;
+          rests = rests_pinned v e f level (Err stop) rests left;
+          course = record { answers = by.answers; course = course.refused a b p x by.answers stop saw.got (look_there saw) (gave_ref saw back) other by.course; gate = by.gate; due = λ on. sym by.due ∙ on };
+        })
+
+    -- it is live
+    pub live : {e w : PortValue} {h : ℕ} {answer : Result (Unit {0}) Stop} → h ≡ f → ServesAcquired p e f d level d (Ok h) → LeavesAcquired p e f d level (Ok h) → AcquiresBy p e f d level says before after agreed agrees (Ok h) →
+        PinsLive e w h level answer → MeetsElement v w d (Pin f level) None says before after agreed agrees answer
+    live {e} {w} {h} {answer} at serves hand by ends =
+        let served = acquired_serves v f d level false p (put_back saw (of_pin d f level false) (asks v f d level false) back) e (Ok h) (λ due. due) own serves in
+        let left = live_hand v p e f d level (given_back saw back) h at rests hand w answer ends.hand in
+        record {
+          serves = live_serves v e w f d level h at own served answer ends.kinds ends.serves;
+          stops = live_stops v e w f d level h at own served answer ends.kinds ends.stops;
+          kinds = pin_stop answer ends.kinds;
+          hand = left;
+          rests = rests_pinned v w f level answer rests left;
+          course = record {
+            answers = by.answers;
+            course = course.acquired a b p e x by.answers answer saw.got (look_there saw) (gave_ref saw back) other (subst (λ j. Acquired p f d level e by.answers (Ok j)) at by.course) (subst (λ j. PinEnds e w j level answer) at ends.course);
+            gate = by.gate;
+            due = not_due (is_due_answer answer) by.answers (pin_undue answer ends.kinds);
+          };
+        }
+
+  pub holds : {e : PortValue} {level h : ℕ} → LeavesAcquired p e f d level (Ok h) → HoldsTable e h level
+  holds {e} {level} {h} hand = acquired_holds v p e f d level h rests (given_back saw back) own hand

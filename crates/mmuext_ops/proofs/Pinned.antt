@@ -1,6 +1,5 @@
 -- A pin: its calls one behind the other, what is in hand behind each, and why it is not done.
-use Rattle.std.proofs.Common.{◌≡◌, ◌⊎◌, ℕ, ◌+◌, ◌<◌, Bool, true, false, not, List, [], ◌∷◌, ◌++◌, Some, None, Result, Ok, Err, IfErr, refl, sym, ap, ◌∙◌, subst, append-nil, inl, inr}
-use Rattle.xp_words.specs.KindWords.{kind_read}
+use Rattle.std.proofs.Common.{◌≡◌, ◌⊎◌, ℕ, ◌+◌, Bool, true, false, not, List, [], ◌∷◌, ◌++◌, Some, None, Result, Ok, Err, IfErr, refl, sym, ap, ◌∙◌, subst, append-nil, inl, inr}
 use Rattle.xp_words.specs.declared.kind.KindWord.{KindWord}
 use Rattle.xp_words.specs.declared.place.Place.TheVariants.{Kind}
 use Rattle.xp_words.specs.declared.reply.Pause.TheVariants as pauses
@@ -9,43 +8,29 @@ use Rattle.xp_words.specs.declared.reply.Stop.{Stop}
 use Rattle.xp_words.specs.declared.reply.Stop.TheVariants.{Paused, Refused}
 use Rattle.xp_board.specs.declared.holdings.OwnerFound.TheVariants as owners
 use Rattle.xp_board.specs.declared.holdings.TypedReference.{TypedReference}
-use Rattle.xp_board.specs.declared.step.Act.TheVariants.{Load}
-use Rattle.xp_board.specs.declared.step.StepKind.TheVariants as kinds
 use Rattle.xp_board.specs.KindSteps.{live_typed}
 use Rattle.xp_board.specs.Readings.{domain_of}
 use Rattle.xp_board.specs.Told.{Post, PortValue}
 use Rattle.board_lemmas.proofs.Sums.{when_eq}
 use Rattle.step_maker.specs.Holds.{FlushedHolds, Holds, Rests, Same, quiet}
-use Rattle.step_maker.specs.Moves.{Came, Met, Moves}
+use Rattle.step_maker.specs.Moves.{Came, Met}
 use Rattle.step_maker.proofs.Coming.{came_post, met_after}
-use Rattle.answer_fits.specs.Answers.{Misses, Serves, Stops, missed, misses}
+use Rattle.answer_fits.specs.Answers.{Misses, Serves, Stops, misses}
 use Rattle.answer_fits.specs.Asked.{Asked, Within, checked, named, of_table}
 use Rattle.answer_fits.specs.Finding.{Finding}
 use Rattle.answer_fits.proofs.Later.{IsUncounted, stops_then}
 use Rattle.answer_fits.proofs.Piecing.{serves_came, serves_inner, serves_then, stops_inner}
-use Rattle.frame_words.specs.Refs.{took}
 use Rattle.partial_state.specs.Levels.{level_type}
 use Rattle.kept_marks.specs.Marks.{IsForeign}
 use Rattle.level_validate.specs.Acquiring.{LeavesAcquired, ServesAcquired, of_acquire}
 use Rattle.level_validate.specs.Acquiring as acquires
 use Rattle.level_validate.specs.Unwinding.{own_domain}
-use Rattle.level_release.specs.Asking.{is_due_answer, is_due_stop}
-use Rattle.mmuext_ops.specs.Elements.{HasDeeds, LeavesElement, ServesElement, of_pin, told}
+use Rattle.level_release.specs.Asking.{is_due_answer}
+use Rattle.mmuext_ops.specs.Elements.{HasDeeds, LeavesElement, ServesElement, of_pin}
 use Rattle.mmuext_ops.specs.Holding.{HoldsTable, IsPinEnd, LeavesTable, ServesLive, named_old, untyped_hand}
 use Rattle.mmuext_ops.specs.declared.element.Element.TheVariants.{Pin}
-use Rattle.mmuext_ops.proofs.Looked.{fields, found_with, owner_known}
+use Rattle.mmuext_ops.proofs.Looked.{Looked, fields, found_with, owner_known}
 use Rattle.mmuext_ops.proofs.Within.{same_no_more, within_table}
-
--- ---- by the answer
-module _ (v w : PortValue) (f d level : ℕ) (answer : Result (Unit {0}) Stop) (e : Stop) (is : answer ≡ Err e) where
-  pub serves_as : Serves v w (of_pin d f level (is_due_stop e)) (missed v.post.machine e) → ServesElement v w d (Pin f level) None answer
-  serves_as a = subst (λ (y : Result (Unit {0}) Stop). ServesElement v w d (Pin f level) None y) (sym is) (missed v.post.machine e, told _ _, a)
-
-  pub stops_as : Stops v w (of_pin d f level (is_due_stop e)) e → IfErr answer (λ k. Stops v w (of_pin d f level (is_due_answer answer)) k)
-  stops_as a = subst (λ (y : Result (Unit {0}) Stop). IfErr y (λ k. Stops v w (of_pin d f level (is_due_answer y)) k)) (sym is) a
-
-  pub leaves_as : LeavesElement v w (Pin f level) (Err e) → LeavesElement v w (Pin f level) answer
-  leaves_as a = subst (λ y. LeavesElement v w (Pin f level) y) (sym is) a
 
 module _ (v : PortValue) (f d level : ℕ) (rose : Bool) where
   pub asks : (F : Finding) → Asked v.post.machine v.post.vcpu (of_pin d f level rose) F f d None
@@ -54,26 +39,11 @@ module _ (v : PortValue) (f d level : ℕ) (rose : Bool) where
   asks_type : (F : Finding) → Asked v.post.machine v.post.vcpu (of_pin d f level rose) F f d (Some (level_type level))
   asks_type F = named (when_eq f f refl) refl refl
 
-  -- ---- the frame is looked at
-  module _ (a b : PortValue) (g x : ℕ) (at : g ≡ f) (taken : Holds v a (took g d v.holdings)) (look : Moves a b (Kind g) Load kinds.Look None x) (same : Same a b) (inside : g < v.post.machine.frames)
-      (k : KindWord) (read : kind_read x ≡ Some k) where
-    -- it is pinned with the type of that level
-    pub before_stops : (c : PortValue) → Came v a → Came b c → k.pinned ≡ true → k.kind ≡ level_type level → Stops v c (of_pin d f level rose) (Refused (AlreadyPinned x))
-    unfolding Stops
-    before_stops c came after on kind =
-        let is = fields v a b f d g x at taken look same inside k read in (
-          f,
-          d,
-          level_type level,
-          a.holdings,
-          asks_type (Met v c),
-          found_with v a b f d g x at taken look same c came after,
-          checked (owner_known v a b f d g x at taken look same),
-          refl,
-          when_eq f f refl,
-          ap (λ (y : KindWord). y.pinned) is ∙ on,
-          ap (λ (y : KindWord). y.kind) is ∙ kind,
-        )
+  -- ---- it was looked at, and is pinned with the type of that level
+  pub before_stops : {a b : PortValue} {g x : ℕ} {k : KindWord} → Looked v a b f d g x k → (c : PortValue) → Came b c → k.pinned ≡ true → k.kind ≡ level_type level → Stops v c (of_pin d f level rose) (Refused (AlreadyPinned x))
+  unfolding Stops
+  before_stops {a} saw c after on kind =
+      (f, d, level_type level, a.holdings, asks_type (Met v c), found_with saw c after, checked (owner_known saw), refl, when_eq f f refl, ap (λ (y : KindWord). y.pinned) (fields saw) ∙ on, ap (λ (y : KindWord). y.kind) (fields saw) ∙ kind)
 
   -- ---- behind a piece that left nothing in hand it is acquired
   module _ (c : PortValue) (before : Serves v c (of_pin d f level rose) []) where

@@ -44,7 +44,7 @@ use Rattle.table_releases.proofs.HandLive.{looks_none}
 use Rattle.mmuext_ops.specs.Elements.{of_pin, raced_pin, told}
 use Rattle.mmuext_ops.specs.Course.{GivenUp, PinEnds, SetsPin}
 use Rattle.mmuext_ops.specs.Course as ends
-use Rattle.mmuext_ops.specs.Holding.{GivesTableUp, HoldsTable, ServesLive, named_old, untyped_hand}
+use Rattle.mmuext_ops.specs.Holding.{GivesTableUp, GivesUp, HoldsTable, PinsLive, named_old, untyped_hand}
 use Rattle.level_validate.specs.Unwinding.{own_domain}
 use Rattle.mmuext_ops.proofs.GivingUp.{held, live, may_drop, none_left}
 use Rattle.mmuext_ops.proofs.Marking.{live_undead, lost_deeds, lost_misses, lost_stops, mark_keeps, pins_deed, tried}
@@ -85,7 +85,7 @@ owner_known v f level holds =
 pub pinned_hand : (v a b : PortValue) (f level : ℕ) (k : KindWord) → HoldsTable v f level → Same v a → Holds a b (gave_pin f k a.holdings) → Holds v b (untyped_hand v.holdings)
 pinned_hand v a b f level k holds same pins =
     pins ∙ ap (λ (h : Holdings). still (record a { holdings = record h { typed = without_typed f h.typed } })) (looks_same f _ a.holdings (holds_still v a f level same holds).others.looking)
-    ∙ ap (λ (ys : List TypedReference). still (record a { holdings = record a.holdings { typed = ys } })) (none_left a f level (holds_still v a f level same holds))
+    ∙ ap (λ (ys : List TypedReference). still (record a { holdings = record a.holdings { typed = ys } })) (none_left (holds_still v a f level same holds))
     ∙ ap (λ (q : PortValue). still (record q { holdings = record q.holdings { typed = [] } })) same
 
 -- another word was found
@@ -98,7 +98,7 @@ gives_from v a w f false same (inl gone) = inl (gone ∙ ap (λ (q : PortValue).
 gives_from v a w f false same (inr names) = inr (names ∙ ap (λ (q : PortValue). still (record q { holdings = named_old f (untyped_hand q.holdings) })) same)
 
 -- ---- the word that the look found
-module _ (v a : PortValue) (f level x : ℕ) (frame : f < v.post.machine.frames) (holds : HoldsTable v f level) (look : Moves v a (Kind f) Load kinds.Look None x) (same : Same v a) where
+module _ {v a : PortValue} {f level x : ℕ} (frame : f < v.post.machine.frames) (holds : HoldsTable v f level) (look : Moves v a (Kind f) Load kinds.Look None x) (same : Same v a) where
   pub read_some : IsTrue (is_some (kind_read x))
   read_some = kind_is_some v.post.machine v.post.vcpu v.holdings f x frame look.finds
 
@@ -108,7 +108,7 @@ module _ (v a : PortValue) (f level x : ℕ) (frame : f < v.post.machine.frames)
   came_a : Came v a
   came_a = moves_came v a (Kind f) Load kinds.Look None x look
 
-  module _ (k : KindWord) (read : kind_read x ≡ Some k) where
+  module _ {k : KindWord} (read : kind_read x ≡ Some k) where
     fields : kind_fields x ≡ k
     fields = fields_of x k read
 
@@ -124,7 +124,7 @@ module _ (v a : PortValue) (f level x : ℕ) (frame : f < v.post.machine.frames)
         subst (λ (p : Post). IsTrue (is_kind_in p.machine (Some k))) (sym (came_post v a came_a)) (subst (λ o. IsTrue (is_kind_in v.post.machine o)) (sym is.read ∙ read) is.fits)
 
     lives : IsTrue (is_live k) × (k.kind ≡ level_type level)
-    lives = known_live v.post.machine v.post.vcpu v.holdings f x k look.finds fields (level_type level) (live v f level holds)
+    lives = known_live v.post.machine v.post.vcpu v.holdings f x k look.finds fields (level_type level) (live holds)
 
     pub may_pin : 1 ≤ level → k.pinned ≡ false → MayPin a.post.machine a.post.vcpu f k (pinned_kind k) a.holdings
     may_pin low off =
@@ -132,18 +132,18 @@ module _ (v a : PortValue) (f level x : ℕ) (frame : f < v.post.machine.frames)
           live = lives.0;
           table = rw lives.1 (level_type-table level low);
           unpinned = off;
-          counted = subst (λ (y : KindWord). 0 < y.number) fields (found_live v.post.machine v.post.vcpu v.holdings f x look.finds (may_drop v f level holds)).some;
+          counted = subst (λ (y : KindWord). 0 < y.number) fields (found_live v.post.machine v.post.vcpu v.holdings f x look.finds (may_drop holds)).some;
           left = refl;
-          in_hand = held a f level holds_a;
+          in_hand = held holds_a;
           own = owner_known a f level holds_a;
         }
 
     -- the exchange by the word that was found
-    pub try_as : (b : PortValue) (found : ℕ) → Moves a b (Kind f) (Cas (kind_write k) (kind_write (pinned_kind k))) kinds.Kind None found → Moves a b (Kind f) (Cas x (kind_write (pinned_kind k))) kinds.Kind None found
-    try_as b found m = subst (λ e. Moves a b (Kind f) (Cas e (kind_write (pinned_kind k))) kinds.Kind None found) written m
+    try_as : {b : PortValue} {found : ℕ} → Moves a b (Kind f) (Cas (kind_write k) (kind_write (pinned_kind k))) kinds.Kind None found → Moves a b (Kind f) (Cas x (kind_write (pinned_kind k))) kinds.Kind None found
+    try_as {b} {found} m = subst (λ e. Moves a b (Kind f) (Cas e (kind_write (pinned_kind k))) kinds.Kind None found) written m
 
-    pub sets_pin : (b : PortValue) (found : ℕ) → Moves a b (Kind f) (Cas (kind_write k) (kind_write (pinned_kind k))) kinds.Kind None found → SetsPin a b f x found
-    sets_pin b found m = subst (λ (y : KindWord). Moves a b (Kind f) (Cas x (kind_write (pinned_kind y))) kinds.Kind None found) (sym fields) (try_as b found m)
+    sets_pin : {b : PortValue} {found : ℕ} → Moves a b (Kind f) (Cas (kind_write k) (kind_write (pinned_kind k))) kinds.Kind None found → SetsPin a b f x found
+    sets_pin {b} {found} m = subst (λ (y : KindWord). Moves a b (Kind f) (Cas x (kind_write (pinned_kind y))) kinds.Kind None found) (sym fields) (try_as m)
 
     pub is_pinned_as : (on : Bool) → k.pinned ≡ on → (kind_fields x).pinned ≡ on
     is_pinned_as on is = ap (λ (y : KindWord). y.pinned) fields ∙ is
@@ -163,18 +163,25 @@ module _ (v a : PortValue) (f level x : ℕ) (frame : f < v.post.machine.frames)
 
     -- ---- it is pinned already: the reference is given back
     module _ (w : PortValue) (gives : Serves a w (of_back f) []) where
-      pub seen_serves : ServesLive v w f level (Err (Refused (AlreadyPinned x)))
-      seen_serves = ([], told _ _, serves_back v a w request [] [] looked f (is_asked (Met v w)) gives)
-
       found_with : FoundWith (Met v w) (Kind f) x v.holdings
       unfolding moment_of
       found_with =
           record { moment = moment_of v (Kind f) Load kinds.Look None x; was = met_before v a w _ (moves_met v a (Kind f) Load kinds.Look None x look) (serves_came a w (of_back f) [] gives); place = refl; word = refl; hand = refl }
 
-      pub seen_stops : k.pinned ≡ true → Stops v w request (Refused (AlreadyPinned x))
+      seen_stops : k.pinned ≡ true → Stops v w request (Refused (AlreadyPinned x))
       unfolding Stops
       seen_stops on =
           (f, own_domain v, level_type level, v.holdings, asked (Met v w), found_with, checked (owner_known v f level holds), refl, when_eq f f refl, ap (λ (y : KindWord). y.pinned) fields ∙ on, ap (λ (y : KindWord). y.kind) fields ∙ lives.1)
+
+    pub seen : {w : PortValue} → k.pinned ≡ true → GivesUp a w f level false → PinsLive v w f level (Err (Refused (AlreadyPinned x)))
+    seen {w} on gone =
+        record {
+          serves = ([], told _ _, serves_back v a w request [] [] looked f (is_asked (Met v w)) gone.serves);
+          stops = seen_stops w gone.serves on;
+          kinds = tt;
+          hand = gives_from v a w f false same gone.hand;
+          course = ends.seen a x look (is_pinned_as true on) gone.course;
+        }
 
     -- ---- the exchange
     module _ (low : 1 ≤ level) (off : k.pinned ≡ false) where
@@ -187,18 +194,29 @@ module _ (v a : PortValue) (f level x : ℕ) (frame : f < v.post.machine.frames)
       keeps : IsTrue (keeps_type x (kind_write (pinned_kind k)))
       keeps = mark_keeps x (kind_write (pinned_kind k)) k (pinned_kind k) fields new_fields refl (live_undead k lives.0)
 
-      module _ (b : PortValue) (found : ℕ) (try : Moves a b (Kind f) (Cas x (kind_write (pinned_kind k))) kinds.Kind None found) where
+      module _ {b : PortValue} {found : ℕ} (set : Moves a b (Kind f) (Cas (kind_write k) (kind_write (pinned_kind k))) kinds.Kind None found) where
+        try : Moves a b (Kind f) (Cas x (kind_write (pinned_kind k))) kinds.Kind None found
+        try = try_as set
+
         tried_serves : Serves v b request (deeds_by (Kind f) (Cas x (kind_write (pinned_kind k))) kinds.Kind found a.holdings ++ [])
         tried_serves = tried v a b request f x (kind_write (pinned_kind k)) found try refl (is_asked (Met v b)) keeps [] looked
 
-        pub pinned_serves : found ≡ x → ServesLive v b f level (Ok tt)
-        pinned_serves at = (
-          Pins f ∷ [],
-          told _ _,
-          subst (λ ds. Serves v b request (ds ++ []))
-              (ap (λ y. deeds_by (Kind f) (Cas x (kind_write (pinned_kind k))) kinds.Kind y a.holdings) at ∙ pins_deed f x (kind_write (pinned_kind k)) a.holdings (ap (λ (y : KindWord). y.pinned) fields ∙ off) (ap (λ (y : KindWord). y.pinned) new_fields))
-              tried_serves,
-        )
+        pub pinned : found ≡ kind_write k → Holds a b (gave_pin f k a.holdings) → PinsLive v b f level (Ok tt)
+        pinned at pins =
+            record {
+              serves = (
+                Pins f ∷ [],
+                told _ _,
+                subst (λ ds. Serves v b request (ds ++ []))
+                    (ap (λ y. deeds_by (Kind f) (Cas x (kind_write (pinned_kind k))) kinds.Kind y a.holdings) (at ∙ written)
+                    ∙ pins_deed f x (kind_write (pinned_kind k)) a.holdings (ap (λ (y : KindWord). y.pinned) fields ∙ off) (ap (λ (y : KindWord). y.pinned) new_fields))
+                    tried_serves,
+              );
+              stops = tt;
+              kinds = tt;
+              hand = pinned_hand v a b f level k holds same pins;
+              course = ends.pinned a x look (is_pinned_as false off) (subst (λ y. SetsPin a b f x y) (at ∙ written) (sets_pin set));
+            }
 
         inside_a : f < a.post.machine.frames
         inside_a = subst (λ (p : Post). f < p.machine.frames) (sym (came_post v a came_a)) frame
@@ -207,7 +225,16 @@ module _ (v a : PortValue) (f level x : ℕ) (frame : f < v.post.machine.frames)
         found_some = kind_is_some a.post.machine a.post.vcpu a.holdings f found inside_a try.finds
 
         -- ---- another word was found: the reference is given back
-        module _ (other : found ≢ x) (w : PortValue) (gives : Serves b w (of_back f) []) (j : KindWord) (read_now : kind_read found ≡ Some j) where
+        pub still_holds : Holds a b (looked_at f found a.holdings) → HoldsTable b f level
+        still_holds looks = holds_still a b f level (lost_hand a b f level found holds_a looks) holds_a
+
+        module _ (lost : found ≢ kind_write k) (looks : Holds a b (looked_at f found a.holdings)) {j : KindWord} (read_now : kind_read found ≡ Some j) {w : PortValue} {kept : Bool} (gone : GivesUp b w f level kept) where
+          other : found ≢ x
+          other = subst (λ e. found ≢ e) written lost
+
+          hand_w : GivesTableUp v w f kept
+          hand_w = gives_from v b w f kept (lost_hand a b f level found holds_a looks ∙ same) gone.hand
+
           fields_now : kind_fields found ≡ j
           fields_now = fields_of found j read_now
 
@@ -215,15 +242,11 @@ module _ (v a : PortValue) (f level x : ℕ) (frame : f < v.post.machine.frames)
           came_b = moves_came a b (Kind f) (Cas x (kind_write (pinned_kind k))) kinds.Kind None found try
 
           came_end : Came b w
-          came_end = serves_came b w (of_back f) [] gives
+          came_end = serves_came b w (of_back f) [] gone.serves
 
           missed_serves : Serves v w request (missed_at (Kind f))
           missed_serves =
-              serves_back v b w request (missed_at (Kind f)) [] (subst (λ ds. Serves v b request (ds ++ [])) (lost_deeds f x (kind_write (pinned_kind k)) a.holdings found other) tried_serves) f (is_asked (Met v w)) gives
-
-          -- it is pinned by now
-          pub raced_serves : ServesLive v w f level (Err (Refused (AlreadyPinned found)))
-          raced_serves = (missed_at (Kind f), raced_pin f level found, missed_serves)
+              serves_back v b w request (missed_at (Kind f)) [] (subst (λ ds. Serves v b request (ds ++ [])) (lost_deeds f x (kind_write (pinned_kind k)) a.holdings found other) tried_serves) f (is_asked (Met v w)) gone.serves
 
           found_now : FoundWith (Met v w) (Kind f) found a.holdings
           unfolding moment_of
@@ -239,27 +262,35 @@ module _ (v a : PortValue) (f level x : ℕ) (frame : f < v.post.machine.frames)
           owner_a : IsTrue (knows_owner (sizes_of v.post.machine) f (own_domain v) a.holdings)
           owner_a = subst (λ (p : Post). IsTrue (knows_owner (sizes_of p.machine) f (domain_of p.machine p.vcpu) a.holdings)) (came_post v a came_a) (owner_known a f level holds_a)
 
-          pub raced_stops : j.pinned ≡ true → Stops v w request (Refused (AlreadyPinned found))
+          raced_stops : j.pinned ≡ true → Stops v w request (Refused (AlreadyPinned found))
           unfolding Stops
           raced_stops on =
-              let lives_now = known_live a.post.machine a.post.vcpu a.holdings f found j try.finds fields_now (level_type level) (live a f level holds_a) in
+              let lives_now = known_live a.post.machine a.post.vcpu a.holdings f found j try.finds fields_now (level_type level) (live holds_a) in
               (f, own_domain v, level_type level, a.holdings, asked (Met v w), found_now, checked owner_a, refl, when_eq f f refl, ap (λ (y : KindWord). y.pinned) fields_now ∙ on, ap (λ (y : KindWord). y.kind) fields_now ∙ lives_now.1)
 
-          pub raced_course : j.pinned ≡ true → SetsPin a b f x found → GivenUp b f level false w → PinEnds v w f level (Err (Refused (AlreadyPinned found)))
-          raced_course on sets gone = ends.raced a b x found look (ap (λ (y : KindWord). y.pinned) fields ∙ off) sets other (ap (λ (y : KindWord). y.pinned) fields_now ∙ on) gone
+          place_is : number (sizes_of w.post.machine) (Kind f) ≡ number (sizes_of v.post.machine) (Kind f)
+          place_is = ap (λ (p : Post). number (sizes_of p.machine) (Kind f)) (came_post v w (came_trans v b w (came_trans v a b came_a came_b) came_end))
 
-          -- it is not
-          module _ (stop : Stop) (is : stop ≡ Paused (Lost (number (sizes_of w.post.machine) (Kind f)) x found)) where
-            place_is : number (sizes_of w.post.machine) (Kind f) ≡ number (sizes_of v.post.machine) (Kind f)
-            place_is = ap (λ (p : Post). number (sizes_of p.machine) (Kind f)) (came_post v w (came_trans v b w (came_trans v a b came_a came_b) came_end))
+        -- it is pinned by now, or it is not
+        module _ (lost : found ≢ kind_write k) (looks : Holds a b (looked_at f found a.holdings)) {j : KindWord} (read_now : kind_read found ≡ Some j) {w : PortValue} where
+          pub raced : GivesUp b w f level false → j.pinned ≡ true → PinsLive v w f level (Err (Refused (AlreadyPinned found)))
+          raced gone on =
+              record {
+                serves = (missed_at (Kind f), raced_pin f level found, missed_serves lost looks read_now gone);
+                stops = raced_stops lost looks read_now gone on;
+                kinds = tt;
+                hand = hand_w lost looks read_now gone;
+                course = ends.raced a b x found look (is_pinned_as false off) (sets_pin set) (other lost looks read_now gone) (ap (λ (y : KindWord). y.pinned) (fields_now lost looks read_now gone) ∙ on) gone.course;
+              }
 
-            pub lost_serves : ServesLive v w f level (Err stop)
-            lost_serves = rw is (missed v.post.machine (Paused (Lost (number (sizes_of w.post.machine) (Kind f)) x found)), told _ _, rw (lost_misses v.post.machine f x found (number (sizes_of w.post.machine) (Kind f)) look.may.place place_is) missed_serves)
-
-            pub lost_why : Stops v w request stop
-            lost_why =
-                rw is
-                (lost_stops v v a b w f x (kind_write (pinned_kind k)) found (came_self v) look try came_end other request (number (sizes_of w.post.machine) (Kind f)) place_is refl (is_asked (Met v w)) keeps)
-
-            pub lost_course : j.pinned ≡ false → SetsPin a b f x found → GivenUp b f level true w → PinEnds v w f level (Err stop)
-            lost_course still sets gone = rw (is, place_is) (ends.lost a b x found look (ap (λ (y : KindWord). y.pinned) fields ∙ off) sets other (ap (λ (y : KindWord). y.pinned) fields_now ∙ still) gone)
+          pub missed_it : {stop : Stop} → GivesUp b w f level true → j.pinned ≡ false → stop ≡ Paused (Lost (number (sizes_of w.post.machine) (Kind f)) x found) → PinsLive v w f level (Err stop)
+          missed_it gone still is =
+              let there = place_is lost looks read_now gone in
+              rw is
+              (record {
+                serves = (missed v.post.machine (Paused (Lost (number (sizes_of w.post.machine) (Kind f)) x found)), told _ _, rw (lost_misses v.post.machine f x found (number (sizes_of w.post.machine) (Kind f)) look.may.place there) (missed_serves lost looks read_now gone));
+                stops = lost_stops v v a b w f x (kind_write (pinned_kind k)) found (came_self v) look try (serves_came b w (of_back f) [] gone.serves) (other lost looks read_now gone) request (number (sizes_of w.post.machine) (Kind f)) there refl (is_asked (Met v w)) keeps;
+                kinds = tt;
+                hand = hand_w lost looks read_now gone;
+                course = rw there (ends.lost a b x found look (is_pinned_as false off) (sets_pin set) (other lost looks read_now gone) (ap (λ (y : KindWord). y.pinned) (fields_now lost looks read_now gone) ∙ still) gone.course);
+              })

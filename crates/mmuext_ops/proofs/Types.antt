@@ -25,9 +25,9 @@ pub other_is : (t u : PageType) (same : Bool) → same ≡ sameb the_type t u �
 other_is t u same e off is = let on : same ≡ true = e ∙ ap (λ y. sameb the_type t y) (sym is) ∙ itself t in absurd cc
 
 -- ---- a word that is not that of a frame which is pinned with the type of that level
-module _ (level x : ℕ) (k : KindWord) (fields : kind_fields x ≡ k) where
-  pub other_type : (t : PageType) (same : Bool) → t ≡ level_type level → same ≡ sameb the_type k.kind t → same ≡ false → IsPinnedAs level x → ⊥
-  other_type t same want e off is = other_is k.kind t same e off (ap (λ (y : KindWord). y.kind) (sym fields) ∙ is.1 ∙ sym want)
+module _ (level x : ℕ) {k : KindWord} (fields : kind_fields x ≡ k) where
+  pub other_type : {t : PageType} {same : Bool} → t ≡ level_type level → same ≡ sameb the_type k.kind t → same ≡ false → IsPinnedAs level x → ⊥
+  other_type {t} {same} want e off is = other_is k.kind t same e off (ap (λ (y : KindWord). y.kind) (sym fields) ∙ is.1 ∙ sym want)
 
   pub other_mark : k.pinned ≡ false → IsPinnedAs level x → ⊥
   other_mark off is = let on : k.pinned ≡ true = ap (λ (y : KindWord). y.pinned) (sym fields) ∙ is.0 in absurd cc

@@ -1,52 +1,143 @@
--- The course of an unpin, over its calls, with the answers of its gate.
-use Rattle.std.proofs.Common.{◌≡◌, ◌≢◌, ℕ, Bool, true, false, [], Result, Ok, Err, IfErr, refl, sym, subst}
-use Rattle.xp_words.specs.KindWords.{kind_fields}
+-- An unpin: its ways out, one lemma each.
+use Rattle.std.proofs.Common.{◌≡◌, ◌≢◌, ℕ, Bool, true, false, [], Some, None, Result, Ok, Err, IfErr, refl, sym, ap, ◌∙◌, subst, rules}
+use Rattle.xp_words.specs.KindWords.{kind_read, kind_write}
 use Rattle.xp_words.specs.Places.{number, sizes_of}
-use Rattle.xp_words.specs.declared.kind.PageType.{PageType}
+use Rattle.xp_words.specs.declared.kind.KindWord.{KindWord}
 use Rattle.xp_words.specs.declared.place.Place.TheVariants.{Kind}
 use Rattle.xp_words.specs.declared.reply.Pause.TheVariants.{Due, Lost}
 use Rattle.xp_words.specs.declared.reply.Refusal.TheVariants.{NotPinned}
 use Rattle.xp_words.specs.declared.reply.Stop.{Stop}
 use Rattle.xp_words.specs.declared.reply.Stop.TheVariants.{Paused, Refused}
+use Rattle.xp_board.specs.declared.step.Act.TheVariants.{Cas}
+use Rattle.xp_board.specs.declared.step.StepKind.TheVariants as kinds
 use Rattle.xp_board.specs.Told.{PortValue}
+use Rattle.board_lemmas.proofs.KindForms.{fields_of}
+use Rattle.step_maker.specs.Holds.{FlushedSame, Holds, Rests, Same, quiet}
+use Rattle.step_maker.specs.Moves.{Moves}
+use Rattle.step_maker.proofs.Coming.{came_trans, moves_came}
+use Rattle.answer_fits.specs.Answers.{Serves, missed, misses}
+use Rattle.answer_fits.specs.Asked.{of_back, of_frame}
+use Rattle.answer_fits.proofs.Piecing.{serves_came}
 use Rattle.frame_words.specs.Refs.{IsRefStop}
+use Rattle.kind_words.specs.Kinds.{looked_at}
+use Rattle.table_words.specs.Pins.{took_pin, unpinned_kind}
 use Rattle.table_courses.specs.Acquiring.{GaveRef, GotRef}
+use Rattle.level_release.specs.Asking.{is_due_stop, of_release}
 use Rattle.level_release.specs.Course.{ReleasesFrameBy, WasReleased}
+use Rattle.level_release.specs.Holding.{HoldsLive, LeavesUnheld}
 use Rattle.table_courses.proofs.Ending.{reference_undue}
-use Rattle.mmuext_ops.specs.Course.{SawKind, TakesPinOff, Unpinned, UnpinsBy, is_pinned}
+use Rattle.mmuext_ops.specs.Course.{TakesPinOff, Unpinned, UnpinsBy, is_pinned}
 use Rattle.mmuext_ops.specs.Course as course
-use Rattle.level_release.specs.Asking.{is_due_stop}
+use Rattle.mmuext_ops.specs.declared.element.Element.TheVariants.{Unpin}
+use Rattle.mmuext_ops.specs.Elements.{IsUnpinStop, told}
+use Rattle.mmuext_ops.specs.Holding.{MeetsElement}
+use Rattle.mmuext_ops.proofs.Looked.{GivenBack, Looked, came_back, fields, given_back, look_there, not_referred, put_back, referred, written}
+use Rattle.mmuext_ops.proofs.Looked as look
+use Rattle.mmuext_ops.proofs.Released.{holds_live, lost_hand, released_hand, released_serves}
+use Rattle.mmuext_ops.proofs.Rests.{rests_same, rests_unpinned}
+use Rattle.mmuext_ops.proofs.Within.{of_unpin}
+use Rattle.mmuext_ops.proofs.Unpinned.{asks, before_stops, lost_serves, lost_why, raced_serves, raced_stops, stop_is, takes_off, unpinned_serves}
 use Rattle.xp_preempt.proofs.Consulting.{consulted_none, not_due}
 
+ref_stop : (e : Stop) → IsRefStop e → IsUnpinStop e
+ref_stop e is = search rules
+
 -- the gate is asked nothing
-module _ (v w : PortValue) (d f : ℕ) (says : ℕ → Bool) (asks agreed : ℕ) where
-  unasked_course : (stop : Stop) → is_due_stop stop ≡ false → Unpinned v w d f [] (Err stop) → UnpinsBy v w d f says asks asks agreed agreed (Err stop)
-  unasked_course stop undue by = record { answers = []; course = by; gate = consulted_none says asks agreed; due = not_due (is_due_stop stop) [] undue }
+unasked : (v w : PortValue) (d f : ℕ) (says : ℕ → Bool) (asked agreed : ℕ) (stop : Stop) → is_due_stop stop ≡ false → Unpinned v w d f [] (Err stop) → UnpinsBy v w d f says asked asked agreed agreed (Err stop)
+unasked v w d f says asked agreed stop undue by = record { answers = []; course = by; gate = consulted_none says asked agreed; due = not_due (is_due_stop stop) [] undue }
 
-  pub unreferred_course : (answer : Result (Unit {0}) Stop) (stop : Stop) → answer ≡ Err stop → IsRefStop stop → GotRef v w f d (Err stop) → UnpinsBy v w d f says asks asks agreed agreed answer
-  unreferred_course answer stop is kind got = subst (λ y. UnpinsBy v w d f says asks asks agreed agreed y) (sym is) (unasked_course stop (reference_undue stop kind) (course.unreferred stop got))
+module _ {v w : PortValue} {d f : ℕ} {says : ℕ → Bool} {asked agreed : ℕ} (rests : Rests v) where
+  -- its reference is not to be had
+  pub unreferred : {answer : Result (Unit {0}) Stop} {stop : Stop} → answer ≡ Err stop → Serves v w (of_frame f d None) (missed v.post.machine stop) → IsRefStop stop → Same v w → GotRef v w f d (Err stop) →
+      MeetsElement v w d (Unpin f) None says asked asked agreed agreed answer
+  unreferred {stop} is serves kind same got =
+      rw is
+      (record {
+        serves = (missed v.post.machine stop, told _ _, referred v f d (of_unpin d f) (asks v f d) w (missed v.post.machine stop) serves);
+        stops = not_referred v f d (of_unpin d f) (asks v f d) w stop got.stops;
+        kinds = ref_stop stop kind;
+        hand = ap quiet same;
+        rests = rests_same v w rests (ap quiet same);
+        course = unasked v w d f says asked agreed stop (reference_undue stop kind) (course.unreferred stop got);
+      })
 
-  module _ (a b : PortValue) (x : ℕ) (got : GotRef v a f d (Ok f)) (saw : SawKind a b f x) where
-    pub before_course : is_pinned x ≡ false → GaveRef b w f → UnpinsBy v w d f says asks asks agreed agreed (Err (Refused (NotPinned x)))
-    before_course off gave = unasked_course (Refused (NotPinned x)) refl (course.unpinned_before a b x got saw off gave)
+  -- it is not pinned
+  pub seen : {a b : PortValue} {g x : ℕ} {k : KindWord} → Looked v a b f d g x k → GivenBack b w g → k.pinned ≡ false → MeetsElement v w d (Unpin f) None says asked asked agreed agreed (Err (Refused (NotPinned x)))
+  seen {a} {b} {x} saw back off =
+      let left : FlushedSame v w = ap quiet (given_back saw back) in
+      record {
+        serves = ([], told _ _, put_back saw (of_unpin d f) (asks v f d) back);
+        stops = before_stops saw w (came_back saw back) off;
+        kinds = tt;
+        hand = left;
+        rests = rests_same v w rests left;
+        course = unasked v w d f says asked agreed (Refused (NotPinned x)) refl (course.unpinned_before a b x saw.got (look_there saw) (ap (λ (y : KindWord). y.pinned) (fields saw) ∙ off) (look.gave_ref saw back));
+      }
 
-    module _ (c : PortValue) (found : ℕ) (on : is_pinned x ≡ true) (takes : TakesPinOff b c f x found) (other : found ≢ x) (gave : GaveRef c w f) where
-      pub raced_course : is_pinned found ≡ false → UnpinsBy v w d f says asks asks agreed agreed (Err (Refused (NotPinned found)))
-      raced_course off = unasked_course (Refused (NotPinned found)) refl (course.raced a b c x found got saw on takes other off gave)
+-- ---- it is: the exchange
+module _ {v a b : PortValue} {d f g x : ℕ} {k : KindWord} (rests : Rests v) (saw : Looked v a b f d g x k) (on : k.pinned ≡ true) {q : PortValue} {found : ℕ} (try : Moves b q (Kind g) (Cas (kind_write k) (kind_write (unpinned_kind k))) kinds.Kind None found) where
+  on_x : is_pinned x ≡ true
+  on_x = ap (λ (y : KindWord). y.pinned) (fields saw) ∙ on
 
-      pub lost_course : (stop : Stop) → stop ≡ Paused (Lost (number (sizes_of v.post.machine) (Kind f)) x found) → is_pinned found ≡ true → UnpinsBy v w d f says asks asks agreed agreed (Err stop)
-      lost_course stop is still =
-          subst (λ e. UnpinsBy v w d f says asks asks agreed agreed (Err e)) (sym is)
-          (unasked_course (Paused (Lost (number (sizes_of v.post.machine) (Kind f)) x found)) refl (course.lost a b c x found got saw on takes other still gave))
+  gave_ref : (r : PortValue) → GivenBack q r g → GaveRef q r f
+  gave_ref r back = subst (λ j. GaveRef q r j) saw.at back.puts
 
--- it is released
-pub released_course : (v a b c e w : PortValue) (d f g x : ℕ) (kind : PageType) (answer : Result (Unit {0}) Stop) (says : ℕ → Bool) (before after agreed agrees : ℕ) → GotRef v a f d (Ok f) → SawKind a b f x → is_pinned x ≡ true →
-    TakesPinOff b c f x x → GaveRef c e f → g ≡ f → (kind_fields x).kind ≡ kind → ReleasesFrameBy e w g kind says before after agreed agrees answer → IfErr answer (λ stop. stop ≡ Paused Due) → UnpinsBy v w d f says before after agreed agrees (Ok tt)
-released_course v a b c e w d f g x kind answer says before after agreed agrees got saw on takes gave at is by due =
-    record {
-      answers = by.answers;
-      course = course.released a b c e x by.answers answer got saw on takes gave
-          (subst (λ t. WasReleased e f t w by.answers answer) (sym is) (subst (λ j. WasReleased e j kind w by.answers answer) at by.course)) due;
-      gate = by.gate;
-      due = not_due false by.answers refl;
-    }
+  -- it found the same word: the table is released
+  module _ (same_word : found ≡ kind_write k) (pins : Holds b q (took_pin g k b.holdings)) (r : PortValue) (back : GivenBack q r g) where
+    pub holds : HoldsLive r g k.kind
+    holds = holds_live v a b q r d g rests saw.taken saw.same k pins back.hand (came_trans b q r (moves_came b q _ _ _ _ _ try) (serves_came q r (of_back g) [] back.serves))
+
+    pub released : {w : PortValue} {answer : Result (Unit {0}) Stop} {says : ℕ → Bool} {before after agreed agrees : ℕ} → Serves r w (of_release g d d answer) (misses r.post.machine answer) → IfErr answer (λ e. e ≡ Paused Due) → LeavesUnheld r w g answer →
+        ReleasesFrameBy r w g k.kind says before after agreed agrees answer → MeetsElement v w d (Unpin f) None says before after agreed agrees (Ok tt)
+    released {w} {answer} serves due leaves by =
+        let left = released_hand v a b q r d g rests saw.taken saw.same k pins back.hand w f saw.at answer leaves in
+        record {
+          serves = released_serves v r w f d g answer saw.at (unpinned_serves saw try on r (same_word ∙ written saw) back.serves) serves due;
+          stops = tt;
+          kinds = tt;
+          hand = left;
+          rests = rests_unpinned v w f (Ok tt) rests left;
+          course = record {
+            answers = by.answers;
+            course = course.released a b q r x by.answers answer saw.got (look_there saw) on_x (subst (λ y. TakesPinOff b q f x y) (same_word ∙ written saw) (takes_off saw try)) (gave_ref r back)
+                (subst (λ t. WasReleased r f t w by.answers answer) (sym (ap (λ (y : KindWord). y.kind) (fields saw))) (subst (λ j. WasReleased r j k.kind w by.answers answer) saw.at by.course)) due;
+            gate = by.gate;
+            due = not_due false by.answers refl;
+          };
+        }
+
+  -- it found another word
+  module _ (lost_it : found ≢ kind_write k) (looks : Holds b q (looked_at g found b.holdings)) {r : PortValue} (back : GivenBack q r g) {j : KindWord} (read_now : kind_read found ≡ Some j) where
+    other : found ≢ x
+    other = subst (λ e. found ≢ e) (written saw) lost_it
+
+    left : FlushedSame v r
+    left = ap quiet (lost_hand v a b q r d g rests saw.taken saw.same found looks back.hand)
+
+    -- which is not pinned
+    pub raced : {says : ℕ → Bool} {asked agreed : ℕ} → j.pinned ≡ false → MeetsElement v r d (Unpin f) None says asked asked agreed agreed (Err (Refused (NotPinned found)))
+    raced {says} {asked} {agreed} off =
+        record {
+          serves = raced_serves saw try on other r back.serves;
+          stops = raced_stops saw try on other r back.serves j read_now off;
+          kinds = tt;
+          hand = left;
+          rests = rests_same v r rests left;
+          course = unasked v r d f says asked agreed (Refused (NotPinned found)) refl
+              (course.raced a b q x found saw.got (look_there saw) on_x (takes_off saw try) other (ap (λ (y : KindWord). y.pinned) (fields_of found j read_now) ∙ off) (gave_ref r back));
+        }
+
+    -- which is
+    pub lost : {stop : Stop} {says : ℕ → Bool} {asked agreed : ℕ} → stop ≡ Paused (Lost (number (sizes_of r.post.machine) (Kind g)) x found) → j.pinned ≡ true → MeetsElement v r d (Unpin f) None says asked asked agreed agreed (Err stop)
+    lost {stop} {says} {asked} {agreed} is still =
+        let why = stop_is saw try on other r back.serves stop is in
+        record {
+          serves = lost_serves saw try on other r back.serves stop is;
+          stops = lost_why saw try on other r back.serves stop is;
+          kinds = rw why tt;
+          hand = left;
+          rests = rests_same v r rests left;
+          course = rw why
+              (unasked v r d f says asked agreed (Paused (Lost (number (sizes_of v.post.machine) (Kind f)) x found)) refl
+              (course.lost a b q x found saw.got (look_there saw) on_x (takes_off saw try) other (ap (λ (y : KindWord). y.pinned) (fields_of found j read_now) ∙ still) (gave_ref r back)));
+        }

@@ -1,5 +1,5 @@
 -- An unpin: what its words tell, its calls one behind the other, what is in hand behind each, and why it is not done.
-use Rattle.std.proofs.Common.{◌≡◌, ◌≢◌, ℕ, ◌<◌, nat_lt, true, false, List, [], ◌∷◌, ◌++◌, ◌^◌, Some, None, Result, Err, is_some, IfErr, IsTrue, refl, sym, ap, ◌∙◌, subst, arith}
+use Rattle.std.proofs.Common.{◌≡◌, ◌≢◌, ℕ, nat_lt, true, false, List, [], ◌∷◌, ◌++◌, ◌^◌, Some, None, Err, is_some, IsTrue, refl, sym, ap, ◌∙◌, subst, arith}
 use Rattle.std.proofs.lemmas.Bool.{and_parts}
 use Rattle.std.proofs.lemmas.Bool.Decides.{nat_tests}
 use Rattle.xp_words.specs.KindWords.{has_form, is_kind, kind_fields, kind_read, kind_write}
@@ -10,15 +10,13 @@ use Rattle.xp_words.specs.declared.reply.Pause.TheVariants as pauses
 use Rattle.xp_words.specs.declared.reply.Refusal.TheVariants.{NotPinned}
 use Rattle.xp_words.specs.declared.reply.Stop.{Stop}
 use Rattle.xp_words.specs.declared.reply.Stop.TheVariants.{Paused, Refused}
-use Rattle.xp_board.specs.declared.step.Act.TheVariants.{Cas, Load}
+use Rattle.xp_board.specs.declared.step.Act.TheVariants.{Cas}
 use Rattle.xp_board.specs.declared.step.StepKind.TheVariants as kinds
 use Rattle.xp_board.specs.KindSteps.{MayUnpin}
 use Rattle.xp_board.specs.Readings.{is_live}
-use Rattle.xp_board.specs.Spelling.{is_kind_in}
 use Rattle.xp_board.specs.Told.{Post, PortValue}
 use Rattle.board_lemmas.proofs.KindForms.{fields_of}
 use Rattle.board_lemmas.proofs.Sums.{when_eq}
-use Rattle.step_maker.specs.Holds.{Holds, Same}
 use Rattle.step_maker.specs.Moves.{Came, Met, Moves}
 use Rattle.step_maker.proofs.Coming.{came_post, came_trans, met_after, met_before, moment_of, moves_came, moves_met}
 use Rattle.answer_fits.specs.Answers.{Deed, Serves, Stops, Unpins, deeds_by, missed, missed_at}
@@ -26,7 +24,6 @@ use Rattle.answer_fits.specs.Asked.{Asked, IsAsked, Request, checked, named, of,
 use Rattle.answer_fits.specs.Finding.{Finding, FoundWith}
 use Rattle.answer_fits.specs.Reasons.{keeps_type}
 use Rattle.answer_fits.proofs.Piecing.{serves_back, serves_came}
-use Rattle.frame_words.specs.Refs.{took}
 use Rattle.kind_words.proofs.KindFacts.{kind_is_some}
 use Rattle.kind_words.proofs.KindWriting.{fields_write}
 use Rattle.table_words.specs.Pins.{unpinned_kind}
@@ -34,7 +31,7 @@ use Rattle.table_words.proofs.PinWords.{unpinned_is}
 use Rattle.mmuext_ops.specs.Course.{TakesPinOff}
 use Rattle.mmuext_ops.specs.Elements.{ServesElement, raced_unpin, told}
 use Rattle.mmuext_ops.specs.declared.element.Element.TheVariants.{Unpin}
-use Rattle.mmuext_ops.proofs.Looked.{fields, fits, found_with, look_there, owner_known, owner_still, spelled, written}
+use Rattle.mmuext_ops.proofs.Looked.{Looked, came_a, fields, found_with, inside_b, look_there, looked, owner_known, owner_still, spelled, written}
 use Rattle.mmuext_ops.proofs.Within.{of_unpin}
 use Rattle.mmuext_ops.proofs.Marking.{live_undead, lost_deeds, lost_misses, lost_stops, mark_keeps, tried, unpins_deed}
 
@@ -50,129 +47,116 @@ pinned_lives k is on = pinned_form k (and_parts (nat_lt k.progress (2 ^ 10)) (ha
 pub may_unpin : (k : KindWord) → IsTrue (is_kind k) → k.pinned ≡ true → MayUnpin k (unpinned_kind k)
 may_unpin k is on = record { live = pinned_lives k is on; pinned = on; left = refl }
 
--- ---- by the answer
-module _ (v w : PortValue) (f d : ℕ) (answer : Result (Unit {0}) Stop) (e : Stop) (is : answer ≡ Err e) where
-  pub serves_as : Serves v w (of_unpin d f) (missed v.post.machine e) → ServesElement v w d (Unpin f) None answer
-  serves_as a = subst (λ (y : Result (Unit {0}) Stop). ServesElement v w d (Unpin f) None y) (sym is) (missed v.post.machine e, told _ _, a)
-
-  pub stops_as : Stops v w (of_unpin d f) e → IfErr answer (λ k. Stops v w (of_unpin d f) k)
-  stops_as a = subst (λ (y : Result (Unit {0}) Stop). IfErr y (λ k. Stops v w (of_unpin d f) k)) (sym is) a
-
 -- ---- the request
 module _ (v : PortValue) (f d : ℕ) where
-  abbrev request : Request
-  request = of_unpin d f
-
-  pub asks : (F : Finding) → Asked v.post.machine v.post.vcpu request F f d None
+  pub asks : (F : Finding) → Asked v.post.machine v.post.vcpu (of_unpin d f) F f d None
   asks F = named (when_eq f f refl) refl tt
 
-  is_asked : (F : Finding) → IsAsked v.post.machine v.post.vcpu request F f
+  is_asked : (F : Finding) → IsAsked v.post.machine v.post.vcpu (of_unpin d f) F f
   is_asked F = of d None (asks F)
 
-  module _ (a b : PortValue) (g x : ℕ) (at : g ≡ f) (taken : Holds v a (took g d v.holdings)) (look : Moves a b (Kind g) Load kinds.Look None x) (same : Same a b) (inside : g < v.post.machine.frames)
-      (k : KindWord) (read : kind_read x ≡ Some k) (came : Came v a) where
-    -- it is not pinned
-    pub before_stops : (c : PortValue) → Came b c → k.pinned ≡ false → Stops v c request (Refused (NotPinned x))
-    unfolding Stops
-    before_stops c after off =
-        let is = fields v a b f d g x at taken look same inside k read in
-        (f, d, None, a.holdings, asks (Met v c), found_with v a b f d g x at taken look same c came after, checked (owner_known v a b f d g x at taken look same), refl, when_eq f f refl, ap (λ (y : KindWord). y.pinned) is ∙ off)
+module _ {v a b : PortValue} {f d g x : ℕ} {k : KindWord} (saw : Looked v a b f d g x k) where
+  -- it is not pinned
+  pub before_stops : (c : PortValue) → Came b c → k.pinned ≡ false → Stops v c (of_unpin d f) (Refused (NotPinned x))
+  unfolding Stops
+  before_stops c after off = (f, d, None, a.holdings, asks v f d (Met v c), found_with saw c after, checked (owner_known saw), refl, when_eq f f refl, ap (λ (y : KindWord). y.pinned) (fields saw) ∙ off)
 
-    pub fits_b : IsTrue (is_kind_in b.post.machine (Some k))
-    fits_b = subst (λ (p : Post). IsTrue (is_kind_in p.machine (Some k))) (sym (ap (λ (q : PortValue). q.post) same)) (fits v a b f d g x at taken look same inside k read)
+  -- ---- the exchange
+  module _ {q : PortValue} {found : ℕ} (try : Moves b q (Kind g) (Cas (kind_write k) (kind_write (unpinned_kind k))) kinds.Kind None found) where
+    abbrev new : ℕ
+    new = kind_write (unpinned_kind k)
 
-    -- ---- the exchange
-    module _ (q : PortValue) (found : ℕ) (try : Moves b q (Kind g) (Cas (kind_write k) (kind_write (unpinned_kind k))) kinds.Kind None found) where
-      abbrev new : ℕ
-      new = kind_write (unpinned_kind k)
+    abbrev request : Request
+    request = of_unpin d f
 
-      is : kind_fields x ≡ k
-      is = fields v a b f d g x at taken look same inside k read
+    try_there : Moves b q (Kind f) (Cas x new) kinds.Kind None found
+    try_there =
+        subst (λ j. Moves b q (Kind j) (Cas x new) kinds.Kind None found) saw.at
+        (subst (λ e. Moves b q (Kind g) (Cas e new) kinds.Kind None found) (written saw) try)
 
-      try_there : Moves b q (Kind f) (Cas x new) kinds.Kind None found
-      try_there =
-          subst (λ j. Moves b q (Kind j) (Cas x new) kinds.Kind None found) at
-          (subst (λ e. Moves b q (Kind g) (Cas e new) kinds.Kind None found) (written v a b f d g x at taken look same inside k read) try)
+    pub takes_off : TakesPinOff b q f x found
+    takes_off = subst (λ (y : KindWord). Moves b q (Kind f) (Cas x (kind_write (unpinned_kind y))) kinds.Kind None found) (sym (fields saw)) try_there
 
-      pub takes_off : TakesPinOff b q f x found
-      takes_off = subst (λ (y : KindWord). Moves b q (Kind f) (Cas x (kind_write (unpinned_kind y))) kinds.Kind None found) (sym is) try_there
+    pub found_some : IsTrue (is_some (kind_read found))
+    found_some = kind_is_some b.post.machine b.post.vcpu b.holdings f found (inside_b saw) try_there.finds
 
-      pub found_some : IsTrue (is_some (kind_read found))
-      found_some =
-          let here : f < b.post.machine.frames = subst (λ (p : Post). f < p.machine.frames) (sym (ap (λ (y : PortValue). y.post) (same ∙ taken))) (subst (λ j. j < v.post.machine.frames) at inside) in
-          kind_is_some b.post.machine b.post.vcpu b.holdings f found here try_there.finds
+    module _ (on : k.pinned ≡ true) where
+      before : Serves v b request []
+      before = looked saw request (asks v f d)
 
-      module _ (on : k.pinned ≡ true) (before : Serves v b request []) where
-        spells : IsTrue (is_kind k)
-        spells = spelled v a b f d g x at taken look same inside k read
+      asked : (F : Finding) → IsAsked v.post.machine v.post.vcpu request F f
+      asked F = is_asked v f d F
 
-        new_fields : kind_fields new ≡ unpinned_kind k
-        new_fields = fields_write (unpinned_kind k) (unpinned_is k spells (pinned_lives k spells on))
+      spells : IsTrue (is_kind k)
+      spells = spelled saw
 
-        keeps : IsTrue (keeps_type x new)
-        keeps = mark_keeps x new k (unpinned_kind k) is new_fields refl (live_undead k (pinned_lives k spells on))
+      new_fields : kind_fields new ≡ unpinned_kind k
+      new_fields = fields_write (unpinned_kind k) (unpinned_is k spells (pinned_lives k spells on))
 
-        tried_serves : Serves v q request (deeds_by (Kind f) (Cas x new) kinds.Kind found b.holdings ++ [])
-        tried_serves = tried v b q request f x new found try_there refl (is_asked (Met v q)) keeps [] before
+      keeps : IsTrue (keeps_type x new)
+      keeps = mark_keeps x new k (unpinned_kind k) (fields saw) new_fields refl (live_undead k (pinned_lives k spells on))
 
-        came_r : (r : PortValue) → Serves q r (of_back g) [] → Came q r
-        came_r r gives = serves_came q r (of_back g) [] gives
+      tried_serves : Serves v q request (deeds_by (Kind f) (Cas x new) kinds.Kind found b.holdings ++ [])
+      tried_serves = tried v b q request f x new found try_there refl (asked (Met v q)) keeps [] before
 
-        put_serves : (r : PortValue) (ds : List Deed) → Serves v q request ds → Serves q r (of_back g) [] → Serves v r request ds
-        put_serves r ds behind gives = serves_back v q r request ds [] behind f (is_asked (Met v r)) (subst (λ j. Serves q r (of_back j) []) at gives)
+      came_r : (r : PortValue) → Serves q r (of_back g) [] → Came q r
+      came_r r gives = serves_came q r (of_back g) [] gives
 
-        -- it found the same word, and the reference is given back
-        pub unpinned_serves : (r : PortValue) → found ≡ x → Serves q r (of_back g) [] → Serves v r request (Unpins f ∷ [])
-        unpinned_serves r same_word gives =
-            put_serves r (Unpins f ∷ [])
-            (subst (λ ds. Serves v q request (ds ++ []))
-            (ap (λ y. deeds_by (Kind f) (Cas x new) kinds.Kind y b.holdings) same_word ∙ unpins_deed f x new b.holdings (ap (λ (y : KindWord). y.pinned) is ∙ on) (ap (λ (y : KindWord). y.pinned) new_fields)) tried_serves) gives
+      put_serves : (r : PortValue) (ds : List Deed) → Serves v q request ds → Serves q r (of_back g) [] → Serves v r request ds
+      put_serves r ds behind gives = serves_back v q r request ds [] behind f (asked (Met v r)) (subst (λ j. Serves q r (of_back j) []) saw.at gives)
 
-        -- ---- it found another word
-        module _ (other : found ≢ x) (r : PortValue) (gives : Serves q r (of_back g) []) where
-          missed_serves : Serves v r request (missed_at (Kind f))
-          missed_serves = put_serves r (missed_at (Kind f)) (subst (λ ds. Serves v q request (ds ++ [])) (lost_deeds f x new b.holdings found other) tried_serves) gives
+      -- it found the same word, and the reference is given back
+      pub unpinned_serves : (r : PortValue) → found ≡ x → Serves q r (of_back g) [] → Serves v r request (Unpins f ∷ [])
+      unpinned_serves r same_word gives =
+          put_serves r (Unpins f ∷ [])
+          (subst (λ ds. Serves v q request (ds ++ []))
+          (ap (λ y. deeds_by (Kind f) (Cas x new) kinds.Kind y b.holdings) same_word ∙ unpins_deed f x new b.holdings (ap (λ (y : KindWord). y.pinned) (fields saw) ∙ on) (ap (λ (y : KindWord). y.pinned) new_fields)) tried_serves) gives
 
-          came_b : Came v b
-          came_b = serves_came v b request [] before
+      -- ---- it found another word
+      module _ (other : found ≢ x) (r : PortValue) (gives : Serves q r (of_back g) []) where
+        missed_serves : Serves v r request (missed_at (Kind f))
+        missed_serves = put_serves r (missed_at (Kind f)) (subst (λ ds. Serves v q request (ds ++ [])) (lost_deeds f x new b.holdings found other) tried_serves) gives
 
-          -- which is not pinned
-          pub raced_serves : ServesElement v r d (Unpin f) None (Err (Refused (NotPinned found)))
-          raced_serves = (missed_at (Kind f), raced_unpin f found, missed_serves)
+        came_b : Came v b
+        came_b = serves_came v b request [] before
 
-          found_now : FoundWith (Met v r) (Kind f) found b.holdings
-          unfolding moment_of
-          found_now =
-              record {
-                moment = moment_of b (Kind f) (Cas x new) kinds.Kind None found;
-                was = met_after v b r _ came_b (met_before b q r _ (moves_met b q (Kind f) (Cas x new) kinds.Kind None found try_there) (came_r r gives));
-                place = refl;
-                word = refl;
-                hand = refl;
-              }
+        -- which is not pinned
+        pub raced_serves : ServesElement v r d (Unpin f) None (Err (Refused (NotPinned found)))
+        raced_serves = (missed_at (Kind f), raced_unpin f found, missed_serves)
 
-          pub raced_stops : (j : KindWord) → kind_read found ≡ Some j → j.pinned ≡ false → Stops v r request (Refused (NotPinned found))
-          unfolding Stops
-          raced_stops j read_now off =
-              (f, d, None, b.holdings, asks (Met v r), found_now, checked (owner_still v a b f d g x at taken look same), refl, when_eq f f refl, ap (λ (y : KindWord). y.pinned) (fields_of found j read_now) ∙ off)
+        found_now : FoundWith (Met v r) (Kind f) found b.holdings
+        unfolding moment_of
+        found_now =
+            record {
+              moment = moment_of b (Kind f) (Cas x new) kinds.Kind None found;
+              was = met_after v b r _ came_b (met_before b q r _ (moves_met b q (Kind f) (Cas x new) kinds.Kind None found try_there) (came_r r gives));
+              place = refl;
+              word = refl;
+              hand = refl;
+            }
 
-          -- which is
-          module _ (stop : Stop) (why : stop ≡ Paused (pauses.Lost (number (sizes_of r.post.machine) (Kind g)) x found)) where
-            place_is : number (sizes_of r.post.machine) (Kind g) ≡ number (sizes_of v.post.machine) (Kind f)
-            place_is =
-                let came_end = came_trans v q r (came_trans v b q came_b (moves_came b q (Kind f) (Cas x new) kinds.Kind None found try_there)) (came_r r gives) in
-                ap (λ (p : Post). number (sizes_of p.machine) (Kind g)) (came_post v r came_end) ∙ ap (λ j. number (sizes_of v.post.machine) (Kind j)) at
+        pub raced_stops : (j : KindWord) → kind_read found ≡ Some j → j.pinned ≡ false → Stops v r request (Refused (NotPinned found))
+        unfolding Stops
+        raced_stops j read_now off =
+            (f, d, None, b.holdings, asks v f d (Met v r), found_now, checked (owner_still saw), refl, when_eq f f refl, ap (λ (y : KindWord). y.pinned) (fields_of found j read_now) ∙ off)
 
-            pub stop_is : stop ≡ Paused (pauses.Lost (number (sizes_of v.post.machine) (Kind f)) x found)
-            stop_is = why ∙ ap (λ i. Paused (pauses.Lost i x found)) place_is
+        -- which is
+        module _ (stop : Stop) (why : stop ≡ Paused (pauses.Lost (number (sizes_of r.post.machine) (Kind g)) x found)) where
+          place_is : number (sizes_of r.post.machine) (Kind g) ≡ number (sizes_of v.post.machine) (Kind f)
+          place_is =
+              let came_end = came_trans v q r (came_trans v b q came_b (moves_came b q (Kind f) (Cas x new) kinds.Kind None found try_there)) (came_r r gives) in
+              ap (λ (p : Post). number (sizes_of p.machine) (Kind g)) (came_post v r came_end) ∙ ap (λ j. number (sizes_of v.post.machine) (Kind j)) saw.at
 
-            pub lost_serves : ServesElement v r d (Unpin f) None (Err stop)
-            lost_serves =
-                let there : IsTrue (is_place (sizes_of v.post.machine) (Kind f)) = subst (λ (p : Post). IsTrue (is_place (sizes_of p.machine) (Kind f))) (came_post v b came_b) try_there.may.place in
-                rw stop_is
-                (missed v.post.machine (Paused (pauses.Lost (number (sizes_of v.post.machine) (Kind f)) x found)), told _ _, rw (lost_misses v.post.machine f x found (number (sizes_of v.post.machine) (Kind f)) there refl) missed_serves)
+          pub stop_is : stop ≡ Paused (pauses.Lost (number (sizes_of v.post.machine) (Kind f)) x found)
+          stop_is = why ∙ ap (λ i. Paused (pauses.Lost i x found)) place_is
 
-            pub lost_why : Stops v r request stop
-            lost_why =
-                rw stop_is
-                (lost_stops v a b q r f x new found came (look_there v a b f d g x at taken look same) try_there (came_r r gives) other request (number (sizes_of v.post.machine) (Kind f)) refl refl (is_asked (Met v r)) keeps)
+          pub lost_serves : ServesElement v r d (Unpin f) None (Err stop)
+          lost_serves =
+              let there : IsTrue (is_place (sizes_of v.post.machine) (Kind f)) = subst (λ (p : Post). IsTrue (is_place (sizes_of p.machine) (Kind f))) (came_post v b came_b) try_there.may.place in
+              rw stop_is
+              (missed v.post.machine (Paused (pauses.Lost (number (sizes_of v.post.machine) (Kind f)) x found)), told _ _, rw (lost_misses v.post.machine f x found (number (sizes_of v.post.machine) (Kind f)) there refl) missed_serves)
+
+          pub lost_why : Stops v r request stop
+          lost_why =
+              rw stop_is
+              (lost_stops v a b q r f x new found (came_a saw) (look_there saw) try_there (came_r r gives) other request (number (sizes_of v.post.machine) (Kind f)) refl refl (asked (Met v r)) keeps)

@@ -1,5 +1,5 @@
 -- What an acquisition or a release asks is within what the element asks that calls it.
-use Rattle.std.proofs.Common.{◌≡◌, ℕ, ◌==◌, Bool, true, Option, Some, None, refl, rules, ◌∙◌, ap, sym, arith}
+use Rattle.std.proofs.Common.{◌≡◌, ℕ, ◌==◌, Bool, true, Some, None, refl, rules, ◌∙◌, ap, sym, arith}
 use Rattle.xp_words.specs.Machine.{Machine}
 use Rattle.xp_words.specs.declared.kind.PageType.{PageType}
 use Rattle.xp_board.specs.Hands.{refs_to, work_on}

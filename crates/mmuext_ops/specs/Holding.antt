@@ -1,5 +1,5 @@
 -- What is in hand on the way of a pin: a typed reference to a live table, which goes into the pin or is given back.
-use Rattle.std.specs.Prelude.{◌≡◌, ◌⊎◌, ℕ, ◌+◌, Bool, true, false, List, [], ◌∷◌, Some, Result, Ok, Err}
+use Rattle.std.specs.Prelude.{◌≡◌, ◌⊎◌, ℕ, ◌+◌, Bool, true, false, List, [], ◌∷◌, Option, Some, Result, Ok, Err, IfErr}
 use Rattle.xp_words.specs.declared.reply.Pause.TheVariants.{Lost}
 use Rattle.xp_words.specs.declared.reply.Refusal.TheVariants.{AlreadyPinned}
 use Rattle.xp_words.specs.declared.reply.Stop.{Stop}
@@ -9,11 +9,14 @@ use Rattle.xp_board.specs.declared.holdings.OwnerFound.TheVariants as owners
 use Rattle.xp_board.specs.Hands.{IsEmptyHand}
 use Rattle.xp_board.specs.KindSteps.{live_typed}
 use Rattle.xp_board.specs.Told.{PortValue}
-use Rattle.step_maker.specs.Holds.{Holds}
-use Rattle.answer_fits.specs.Answers.{Deed, Serves}
+use Rattle.step_maker.specs.Holds.{Holds, Rests}
+use Rattle.answer_fits.specs.Answers.{Deed, Serves, Stops}
+use Rattle.answer_fits.specs.Asked.{of_back}
 use Rattle.partial_state.specs.Levels.{level_type}
 use Rattle.level_validate.specs.Unwinding.{own_domain}
-use Rattle.mmuext_ops.specs.Elements.{HasDeeds, of_pin}
+use Rattle.mmuext_ops.specs.Course.{GivenUp, PerformsBy, PinEnds}
+use Rattle.mmuext_ops.specs.Elements.{HasDeeds, IsElementStop, LeavesElement, ServesElement, StopsElement, of_pin}
+use Rattle.mmuext_ops.specs.declared.element.Element.{Element}
 use Rattle.mmuext_ops.specs.declared.element.Element.TheVariants.{Pin}
 
 -- no typed reference is in hand
@@ -49,3 +52,27 @@ LeavesTable v w f (Err (Paused x)) = GivesTableUp v w f true
 -- its steps are those of a pin, whose gate did not say yes
 abbrev pub ServesLive : PortValue → PortValue → ℕ → ℕ → Result (Unit {0}) Stop → Type 0
 ServesLive v w f level answer = (ds : List Deed) × HasDeeds v.post.machine v.post.vcpu (Pin f level) answer ds × Serves v w (of_pin (own_domain v) f level false) ds
+
+-- A typed reference to a live table is given back: its steps give a reference back, leave that in hand, and are these calls.
+pub record GivesUp (v w : PortValue) (f level : ℕ) (kept : Bool) : Type 0 where
+  pub serves : Serves v w (of_back f) []
+  pub hand : GivesTableUp v w f kept
+  pub course : GivenUp v f level kept w
+
+-- A live table is pinned, or its typed reference given back: its steps serve a pin, show why not, leave that in hand, and are these calls.
+pub record PinsLive (v w : PortValue) (f level : ℕ) (answer : Result (Unit {0}) Stop) : Type 0 where
+  pub serves : ServesLive v w f level answer
+  pub stops : IfErr answer (λ e. Stops v w (of_pin (own_domain v) f level false) e)
+  pub kinds : IfErr answer IsPinEnd
+  pub hand : LeavesTable v w f answer
+  pub course : PinEnds v w f level answer
+
+-- ---- a whole element
+-- Its steps serve what it asks, and show why it stops; they leave that in hand, and are these calls, whose gate gave these answers.
+pub record MeetsElement (v w : PortValue) (d : ℕ) (e : Element) (awaited : Option ℕ) (says : ℕ → Bool) (before after yes_before yes_after : ℕ) (answer : Result (Unit {0}) Stop) : Type 0 where
+  pub serves : ServesElement v w d e awaited answer
+  pub stops : StopsElement v w d e awaited answer
+  pub kinds : IfErr answer (IsElementStop e)
+  pub hand : LeavesElement v w e answer
+  pub rests : Rests w
+  pub course : PerformsBy v w d e awaited says before after yes_before yes_after answer

@@ -1,16 +1,11 @@
 //! Pins.
-ghost use Rattle.std.specs.Prelude.{◌≡◌, ◌<◌, ◌≤◌, ℕ, [], Some, true, false, IfErr};
+ghost use Rattle.std.specs.Prelude.{◌≡◌, ◌<◌, ◌≤◌, ℕ, [], Some, true, false};
 ghost use Rattle.xp_board.specs.Readings.{domain_of};
 ghost use Rattle.step_maker.specs.Holds.{MayWork, Rests};
-ghost use Rattle.answer_fits.specs.Answers.{Serves, Stops};
-ghost use Rattle.answer_fits.specs.Asked.{of_back};
 ghost use Rattle.table_words.specs.OldWords.{known_old};
 ghost use Rattle.table_words.specs.declared.old_words.OldWord.TheVariants.{First};
-ghost use Rattle.level_validate.specs.Unwinding.{own_domain};
-ghost use Rattle.mmuext_ops.specs.Course.{GivenUp, PinEnds, PinsBy};
 ghost use Rattle.level_release.specs.Asking.{is_due_answer};
-ghost use Rattle.mmuext_ops.specs.Elements.{IsElementStop, LeavesElement, ServesElement, of_pin, ext_request};
-ghost use Rattle.mmuext_ops.specs.Holding.{GivesTableUp, HoldsTable, IsPinEnd, LeavesTable, ServesLive};
+ghost use Rattle.mmuext_ops.specs.Holding.{GivesUp, HoldsTable, MeetsElement, PinsLive};
 ghost use Rattle.mmuext_ops.specs.declared.element.Element.TheVariants.{Pin};
 
 use frame_types::drop_type;
@@ -37,12 +32,7 @@ pub fn pin<P: Port>(
     requires low { 1 ≤ level }
     requires high { level ≤ 4 }
     requires room { known_old First (P.value port.old).holdings ≡ Some 0 }
-    ensures serves { ServesElement (P.value port.old) (P.value port.new) domain (Pin f level) None result }
-    ensures stops { IfErr result (λ e. Stops (P.value port.old) (P.value port.new) (ext_request (P.value port.old).post.machine (P.value port.old).post.vcpu domain (Pin f level) None result) e) }
-    ensures kinds { IfErr result (IsElementStop (Pin f level)) }
-    ensures hand { LeavesElement (P.value port.old) (P.value port.new) (Pin f level) result }
-    ensures rests { Rests (P.value port.new) }
-    ensures course { PinsBy (P.value port.old) (P.value port.new) domain f level (says gate.old) (count_asks gate.old) (count_asks gate.new) (count_yes gate.old) (count_yes gate.new) result }
+    ensures met { MeetsElement (P.value port.old) (P.value port.new) domain (Pin f level) None (says gate.old) (count_asks gate.old) (count_asks gate.new) (count_yes gate.old) (count_yes gate.new) result }
     ensures says { (n : ℕ) → says gate.new n ≡ says gate.old n }
     ensures paces { paces gate.new ≡ paces gate.old }
     ensures calm { calm gate.old ≡ true → (is_due_answer result ≡ false) × (calm gate.new ≡ true) }
@@ -67,11 +57,7 @@ fn pin_live<P: Port>(port: &mut P, frame: u32, level: u8) -> Result<(), Stop>
     requires high { level ≤ 4 }
     requires holds { HoldsTable (P.value port.old) frame level }
     requires room { known_old First (P.value port.old).holdings ≡ Some 0 }
-    ensures serves { ServesLive (P.value port.old) (P.value port.new) frame level result }
-    ensures stops { IfErr result (λ e. Stops (P.value port.old) (P.value port.new) (of_pin (own_domain (P.value port.old)) frame level false) e) }
-    ensures kinds { IfErr result IsPinEnd }
-    ensures hand { LeavesTable (P.value port.old) (P.value port.new) frame result }
-    ensures course { PinEnds (P.value port.old) (P.value port.new) frame level result }
+    ensures { PinsLive (P.value port.old) (P.value port.new) frame level result }
 {
     let found = look_kind(port, frame);
     let kind = read_kind(found);
@@ -102,9 +88,7 @@ fn give_up<P: Port>(port: &mut P, frame: u32, level: u8, kept: bool)
     requires high { level ≤ 4 }
     requires holds { HoldsTable (P.value port.old) frame level }
     requires room { known_old First (P.value port.old).holdings ≡ Some 0 }
-    ensures serves { Serves (P.value port.old) (P.value port.new) (of_back frame) [] }
-    ensures hand { GivesTableUp (P.value port.old) (P.value port.new) frame kept }
-    ensures course { GivenUp (P.value port.old) frame level kept (P.value port.new) }
+    ensures { GivesUp (P.value port.old) (P.value port.new) frame level kept }
 {
     if drop_type(port, frame) {
         leave(port, frame, partial_kind(level_type(level), kept, 512));

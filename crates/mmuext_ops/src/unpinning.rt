@@ -1,13 +1,11 @@
 //! Unpins.
-ghost use Rattle.std.specs.Prelude.{◌≡◌, ℕ, Some, true, false, IfErr};
+ghost use Rattle.std.specs.Prelude.{◌≡◌, ℕ, Some, true, false};
 ghost use Rattle.xp_board.specs.Readings.{domain_of};
 ghost use Rattle.step_maker.specs.Holds.{Rests};
-ghost use Rattle.answer_fits.specs.Answers.{Stops};
 ghost use Rattle.table_words.specs.OldWords.{known_old};
 ghost use Rattle.table_words.specs.declared.old_words.OldWord.TheVariants.{First};
-ghost use Rattle.mmuext_ops.specs.Course.{UnpinsBy};
 ghost use Rattle.level_release.specs.Asking.{is_due_answer};
-ghost use Rattle.mmuext_ops.specs.Elements.{IsElementStop, LeavesElement, ServesElement, ext_request};
+ghost use Rattle.mmuext_ops.specs.Holding.{MeetsElement};
 ghost use Rattle.mmuext_ops.specs.declared.element.Element.TheVariants.{Unpin};
 
 use frame_words::{get_ref, put_ref};
@@ -24,12 +22,7 @@ pub fn unpin<P: Port>(port: &mut P, gate: &mut dyn Preempt, domain: u16, f: u64)
     requires rests { Rests (P.value port.old) }
     requires own { domain ≡ domain_of (P.value port.old).post.machine (P.value port.old).post.vcpu }
     requires room { known_old First (P.value port.old).holdings ≡ Some 0 }
-    ensures serves { ServesElement (P.value port.old) (P.value port.new) domain (Unpin f) None result }
-    ensures stops { IfErr result (λ e. Stops (P.value port.old) (P.value port.new) (ext_request (P.value port.old).post.machine (P.value port.old).post.vcpu domain (Unpin f) None result) e) }
-    ensures kinds { IfErr result (IsElementStop (Unpin f)) }
-    ensures hand { LeavesElement (P.value port.old) (P.value port.new) (Unpin f) result }
-    ensures rests { Rests (P.value port.new) }
-    ensures course { UnpinsBy (P.value port.old) (P.value port.new) domain f (says gate.old) (count_asks gate.old) (count_asks gate.new) (count_yes gate.old) (count_yes gate.new) result }
+    ensures met { MeetsElement (P.value port.old) (P.value port.new) domain (Unpin f) None (says gate.old) (count_asks gate.old) (count_asks gate.new) (count_yes gate.old) (count_yes gate.new) result }
     ensures says { (n : ℕ) → says gate.new n ≡ says gate.old n }
     ensures paces { paces gate.new ≡ paces gate.old }
     ensures calm { calm gate.old ≡ true → (is_due_answer result ≡ false) × (calm gate.new ≡ true) }

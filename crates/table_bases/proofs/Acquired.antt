@@ -8,11 +8,11 @@ use Rattle.xp_board.specs.Readings.{domain_of, last_clock}
 use Rattle.xp_board.specs.Told.{Post, PortValue}
 use Rattle.board_lemmas.proofs.Sums.{when_eq}
 use Rattle.step_maker.specs.Holds.{Same}
-use Rattle.step_maker.specs.Moves.{Came, Met}
+use Rattle.step_maker.specs.Moves.{Met}
 use Rattle.step_maker.proofs.Coming.{came_post, met_after}
 use Rattle.answer_fits.specs.Answers.{Misses, Serves, Stops, misses}
 use Rattle.answer_fits.specs.Asked.{NoMore, Request, Within, of_table}
-use Rattle.answer_fits.proofs.Piecing.{serves_inner, stops_inner}
+use Rattle.answer_fits.proofs.Piecing.{serves_came, serves_inner, stops_inner}
 use Rattle.kept_marks.specs.Marks.{IsForeign}
 use Rattle.level_validate.specs.Acquiring.{AcquiresBy, ServesAcquired, of_acquire}
 use Rattle.level_validate.specs.Acquiring as acquires
@@ -20,17 +20,15 @@ use Rattle.level_validate.specs.Unwinding.{own_domain}
 use Rattle.level_release.specs.Asking.{is_due_stop}
 use Rattle.table_courses.specs.Acquiring.{Acquired}
 use Rattle.table_bases.specs.declared.words.Base.{Base}
-use Rattle.table_bases.specs.Asking.{ServesBase, StopsBase, of_base}
-use Rattle.table_bases.specs.Course.{InstallsBy, SawClock, SetsBase, SetsBaseBy}
+use Rattle.table_bases.specs.Asking.{base_deeds, of_base}
+use Rattle.table_bases.specs.Course.{InstallsBy, MeetsBase, SawClock}
 use Rattle.table_bases.specs.Course as course
-use Rattle.table_bases.specs.Holding.{FoundClockLow}
-use Rattle.table_bases.proofs.Behind.{stays_warm}
-use Rattle.table_bases.proofs.Clocked.{installed_course, looked, looked_came, looked_warm}
+use Rattle.table_bases.proofs.Clocked.{installed, looked, looked_came}
 use Rattle.table_bases.proofs.Requests.{within_acquire}
 
 module _ (v a e : PortValue) (clock f d : ℕ) (look : SawClock v a clock) (home : d ≡ own_domain a) where
   there : d ≡ own_domain v
-  there = home ∙ ap (λ (p : Post). domain_of p.machine p.vcpu) (came_post v a (looked_came v a clock look))
+  there = home ∙ ap (λ (p : Post). domain_of p.machine p.vcpu) (came_post v a (looked_came look))
 
   -- the frame is the own domain's: no mark of it is taken back
   module _ (answer : Result ℕ Stop) where
@@ -49,19 +47,19 @@ module _ (v a e : PortValue) (clock f d : ℕ) (look : SawClock v a clock) (home
 
     module _ (rose : Bool) (rises : acquires.is_due_answer answer ≡ true → rose ≡ true) where
       acquiring : Within v.post.machine v.post.vcpu request (Met a e) (of_base d (Some f) rose) (Met v e)
-      acquiring = within_acquire v.post.machine v.post.vcpu f d (acquires.is_due_answer answer) rose (Met a e) (Met v e) (λ m x. met_after v a e m (looked_came v a clock look) x) rises
+      acquiring = within_acquire v.post.machine v.post.vcpu f d (acquires.is_due_answer answer) rose (Met a e) (Met v e) (λ m x. met_after v a e m (looked_came look) x) rises
 
       pub acquired_serves : ServesAcquired a e f d 4 d answer → Serves v e (of_base (own_domain v) (Some f) rose) (misses v.post.machine answer)
       acquired_serves s =
           subst (λ o. Serves v e (of_base o (Some f) rose) (misses v.post.machine answer)) there
           (subst (λ ds. Serves v e (of_base d (Some f) rose) ds) (append-nil (misses v.post.machine answer))
-          (serves_inner v a e (of_base d (Some f) rose) request [] (misses v.post.machine answer) acquiring (looked v a clock look (of_base d (Some f) rose))
-          (subst (λ (p : Post). Serves a e request (misses p.machine answer)) (came_post v a (looked_came v a clock look)) (seen s))))
+          (serves_inner v a e (of_base d (Some f) rose) request [] (misses v.post.machine answer) acquiring (looked look (of_base d (Some f) rose))
+          (subst (λ (p : Post). Serves a e request (misses p.machine answer)) (came_post v a (looked_came look)) (seen s))))
 
       pub unacquired_stops : Same v a → (stop : Stop) → Stops a e (of_acquire a f d 4 d answer) stop → Stops v e (of_base (own_domain v) (Some f) rose) stop
       unacquired_stops same stop s =
           subst (λ o. Stops v e (of_base o (Some f) rose) stop) there
-          (stops_inner v a e (of_base d (Some f) rose) request stop acquiring (no_more same) (looked_came v a clock look) (subst (λ r. Stops a e r stop) request_is s))
+          (stops_inner v a e (of_base d (Some f) rose) request stop acquiring (no_more same) (looked_came look) (subst (λ r. Stops a e r stop) request_is s))
         where
           no_more : Same v a → NoMore (of_base d (Some f) rose) a.holdings v.holdings
           no_more same g =
@@ -71,33 +69,30 @@ module _ (v a e : PortValue) (clock f d : ℕ) (look : SawClock v a clock) (home
                 typed = λ off. absurd cc;
               }
 
-  -- ---- it is not had
-  module _ (answer : Result (Unit {0}) Stop) (stop : Stop) (is : answer ≡ Err stop) (base : Base) where
-    pub refused_serves : ServesAcquired a e f d 4 d (Err stop) → ServesBase v e base (Some f) answer
-    refused_serves s = subst (λ y. ServesBase v e base (Some f) y) (sym is) (acquired_serves (Err stop) (is_due_stop stop) (λ due. due) s)
-
-    pub refused_stops : Same v a → Stops a e (of_acquire {A = ℕ} a f d 4 d (Err stop)) stop → StopsBase v e (Some f) answer
-    refused_stops same s = subst (λ y. StopsBase v e (Some f) y) (sym is) (unacquired_stops (Err stop) (is_due_stop stop) (λ due. due) same stop s)
-
-    pub refused_course : (says : ℕ → Bool) (before after agreed agrees : ℕ) → clock ≢ last_clock → AcquiresBy a e f d 4 says before after agreed agrees (Err stop) →
-        SetsBaseBy v e base (Some f) says before after agreed agrees answer
-    refused_course says before after agreed agrees some by =
-        subst (λ y. SetsBaseBy v e base (Some f) says before after agreed agrees y) (sym is)
-        (record {
+-- ---- the ways out
+module _ {v a e : PortValue} {clock f d : ℕ} (look : SawClock v a clock) (home : d ≡ own_domain a) (some : clock ≢ last_clock) where
+  -- it is not had
+  pub refused : {answer : Result (Unit {0}) Stop} {stop : Stop} {base : Base} {says : ℕ → Bool} {before after agreed agrees : ℕ} → answer ≡ Err stop → Same v a → ServesAcquired a e f d 4 d (Err stop) → Stops a e (of_acquire {A = ℕ} a f d 4 d (Err stop)) stop →
+      AcquiresBy a e f d 4 says before after agreed agrees (Err stop) → MeetsBase v e base (Some f) says before after agreed agrees answer
+  refused {stop} is same serves stops by =
+      let served = acquired_serves v a e clock f d look home (Err stop) (is_due_stop stop) (λ due. due) serves in
+      rw is
+      (record {
+        came = serves_came v e _ _ served;
+        serves = served;
+        stops = unacquired_stops v a e clock f d look home (Err stop) (is_due_stop stop) (λ due. due) same stop stops;
+        course = record {
           answers = by.answers;
-          course = course.unacquired a f clock by.answers stop look some (subst (λ o. Acquired a f o 4 e by.answers (Err stop)) there by.course);
+          course = course.unacquired a f clock by.answers stop look some (subst (λ o. Acquired a f o 4 e by.answers (Err stop)) (there v a e clock f d look home) by.course);
           gate = by.gate;
           due = λ on. sym by.due ∙ on;
-        })
+        };
+      })
 
-  -- ---- it is
-  module _ (g : ℕ) (at : g ≡ f) where
-    pub named_course : (w : PortValue) (base : Base) (says later : ℕ → Bool) (x y z i j k : ℕ) → clock ≢ last_clock → AcquiresBy a e f d 4 says x y i j (Ok g) → ((n : ℕ) → later n ≡ says n) →
-        InstallsBy e w base (Some g) later y z j k → SetsBaseBy v w base (Some f) says x z i k (Ok tt)
-    named_course w base says later x y z i j k some by same installs =
-        installed_course v a clock look e w (Some f) base some by.answers says later x y z i j k
-        (subst (λ o. Acquired a f o 4 e by.answers (Ok f)) home (subst (λ q. Acquired a f d 4 e by.answers (Ok q)) at by.course)) by.gate same
-        (subst (λ q. InstallsBy e w base (Some q) later y z j k) at installs)
-
-    pub named_warm : clock ≢ last_clock → Came a e → e.holdings.ran ≡ a.holdings.ran → FoundClockLow e
-    named_warm some came same = stays_warm a e came same (looked_warm v a clock look some)
+  -- it is
+  pub named : {g : ℕ} {w : PortValue} {base : Base} {says later : ℕ → Bool} {x y z i j k : ℕ} → g ≡ f → ServesAcquired a e f d 4 d (Ok g) → AcquiresBy a e f d 4 says x y i j (Ok g) →
+      Serves e w (of_base (own_domain e) (Some g) true) (base_deeds e base (Some g) (Ok tt)) → ((n : ℕ) → later n ≡ says n) → InstallsBy e w base (Some g) later y z j k → MeetsBase v w base (Some f) says x z i k (Ok tt)
+  named {g} {w} {base} {says} {later} {x} {y} {z} {i} {j} {k} at serves by sets same installs =
+      installed look e (acquired_serves v a e clock f d look home (Ok g) true (λ due. cc) serves) some
+      (subst (λ o. Acquired a f o 4 e by.answers (Ok f)) home (subst (λ q. Acquired a f d 4 e by.answers (Ok q)) at by.course)) by.gate
+      (subst (λ q. Serves e w (of_base (own_domain e) (Some q) true) (base_deeds e base (Some q) (Ok tt))) at sets) same (subst (λ q. InstallsBy e w base (Some q) later y z j k) at installs)

@@ -27,14 +27,14 @@ use Rattle.flush_words.proofs.FlushServes.{own_stops}
 use Rattle.flush_words.proofs.OwnFlush.{clock_below, less_is, spent_own}
 use Rattle.level_validate.specs.Unwinding.{own_domain}
 use Rattle.table_bases.specs.declared.words.Base.{Base}
-use Rattle.table_bases.specs.Asking.{ServesBase, StopsBase, base_deeds, of_base}
-use Rattle.table_bases.specs.Course.{AcquiresTop, InstallsBy, Installed, SawClock, SetsBase, SetsBaseBy}
+use Rattle.table_bases.specs.Asking.{ServesBase, base_deeds, of_base}
+use Rattle.table_bases.specs.Course.{AcquiresTop, InstallsBy, MeetsBase, SawClock, SetsBase, SetsBaseBy}
 use Rattle.table_bases.specs.Course as course
 use Rattle.table_bases.specs.Holding.{FoundClockLow, base_number, naming}
 use Rattle.table_bases.proofs.Requests.{base_flushes}
 
 -- ---- the look
-module _ (v a : PortValue) (clock : ℕ) (look : SawClock v a clock) where
+module _ {v a : PortValue} {clock : ℕ} (look : SawClock v a clock) where
   pub looked : (r : Request) → Serves v a r []
   looked r = serves_step v v a r [] Clock Load kinds.Look None clock (serves_nothing v r) look tt
 
@@ -42,18 +42,19 @@ module _ (v a : PortValue) (clock : ℕ) (look : SawClock v a clock) where
   looked_came = moves_came v a Clock Load kinds.Look None clock look
 
   -- ---- the clock goes no further
-  module _ (is : clock ≡ last_clock) (new : Option ℕ) where
-    pub spent_stops : StopsBase v a new (Err (Refused (refusals.Clock clock)))
-    spent_stops = own_stops v v a (of_base (own_domain v) new false) (refusals.Clock clock) (came_self v) (own (base_flushes (own_domain v) new false)) (spent_own v a clock look is)
-
-    pub spent_course : (base : Base) (says : ℕ → Bool) (asks agreed : ℕ) → SetsBaseBy v a base new says asks asks agreed agreed (Err (Refused (refusals.Clock clock)))
-    spent_course base says asks agreed =
-        record {
+  pub spent : {base : Base} {new : Option ℕ} {says : ℕ → Bool} {asks agreed : ℕ} → clock ≡ last_clock → MeetsBase v a base new says asks asks agreed agreed (Err (Refused (refusals.Clock clock)))
+  spent {base} {new} {says} {asks} {agreed} is =
+      record {
+        came = looked_came;
+        serves = looked (of_base (own_domain v) new false);
+        stops = own_stops v v a (of_base (own_domain v) new false) (refusals.Clock clock) (came_self v) (own (base_flushes (own_domain v) new false)) (spent_own v a clock look is);
+        course = record {
           answers = [];
           course = subst (λ y. SetsBase v a base new [] (Err (Refused (refusals.Clock y)))) (sym is) (course.spent new (subst (λ y. SawClock v a y) is look));
           gate = consulted_none says asks agreed;
           due = not_due false [] refl;
-        }
+        };
+      }
 
   -- ---- it was found below its last value
   ran_past : (n : Machine) (s : ℕ) (h : Holdings) (p : Place) (w : ℕ) → Finds n s h p w → h.ran ≤ length h.steps
@@ -68,19 +69,20 @@ module _ (v a : PortValue) (clock : ℕ) (look : SawClock v a clock) where
       (moves_since v a Clock Load kinds.Look None clock look a.holdings.ran (λ w. nat_lt w last_clock) late (less_is clock last_clock (clock_below v a clock look some)))
 
   -- ---- installed behind it, and behind what acquired the table
-  module _ (b : PortValue) (new : Option ℕ) (base : Base) (before : Serves v b (of_base (own_domain v) new true) []) (w : PortValue) where
-    pub installed_serves : Serves b w (of_base (own_domain b) new true) (base_deeds b base new (Ok tt)) → ServesBase v w base new (Ok tt)
-    installed_serves a =
-        let came : Came v b = serves_came v b (of_base (own_domain v) new true) [] before in
-        serves_then v b w (of_base (own_domain v) new true) [] (base_deeds v base new (Ok tt)) before
-        (subst (λ (p : Post). Serves b w (of_base (domain_of p.machine p.vcpu) new true) (SetsWord p.vcpu (base_number base) (naming new) ∷ [])) (came_post v b came) a)
-
-  pub installed_course : (b w : PortValue) (new : Option ℕ) (base : Base) (some : clock ≢ last_clock) (answers : List Bool) (says later : ℕ → Bool) (x y z i j k : ℕ) → AcquiresTop a b new answers →
-      Consulted says x y i j answers → ((n : ℕ) → later n ≡ says n) → InstallsBy b w base new later y z j k → SetsBaseBy v w base new says x z i k (Ok tt)
-  installed_course b w new base some answers says later x y z i j k takes gate same by =
+  pub installed : (b : PortValue) {w : PortValue} {new : Option ℕ} {base : Base} {answers : List Bool} {says later : ℕ → Bool} {x y z i j k : ℕ} → Serves v b (of_base (own_domain v) new true) [] → clock ≢ last_clock → AcquiresTop a b new answers →
+      Consulted says x y i j answers → Serves b w (of_base (own_domain b) new true) (base_deeds b base new (Ok tt)) → ((n : ℕ) → later n ≡ says n) → InstallsBy b w base new later y z j k → MeetsBase v w base new says x z i k (Ok tt)
+  installed b {w} {new} {base} {answers} {says} {later} {x} {y} {z} {i} {j} {k} before some takes gate sets same by =
+      let served : ServesBase v w base new (Ok tt) =
+      serves_then v b w (of_base (own_domain v) new true) [] (base_deeds v base new (Ok tt)) before
+      (subst (λ (p : Post). Serves b w (of_base (domain_of p.machine p.vcpu) new true) (SetsWord p.vcpu (base_number base) (naming new) ∷ [])) (came_post v b (serves_came v b (of_base (own_domain v) new true) [] before)) sets) in
       record {
-        answers = by.answers ++ answers;
-        course = course.installed a b clock new answers by.answers look some takes by.course;
-        gate = consulted_then later says x y z i j k answers by.answers same gate by.gate;
-        due = not_due false (by.answers ++ answers) refl;
+        came = serves_came v w (of_base (own_domain v) new true) (base_deeds v base new (Ok tt)) served;
+        serves = served;
+        stops = tt;
+        course = record {
+          answers = by.answers ++ answers;
+          course = course.installed a b clock new answers by.answers look some takes by.course;
+          gate = consulted_then later says x y z i j k answers by.answers same gate by.gate;
+          due = not_due false (by.answers ++ answers) refl;
+        };
       }

@@ -56,11 +56,11 @@ word_after old some = omega (arith, some)
 done_due : (answers : List Bool) → false ≡ true → ends_yes answers ≡ true
 done_due answers on = absurd cc
 
-pub warm_behind : (v x : PortValue) (base : Base) (new : Option ℕ) (old : ℕ) → Moves v x (base_place v.post.vcpu base) (Store (naming new)) kinds.Context None old → Holds v x (with_typed (came_out old v.holdings) v.holdings) → FoundClockLow v → FoundClockLow x
-warm_behind v x base new old store put warm = stays_warm v x (moves_came v x (base_place v.post.vcpu base) (Store (naming new)) kinds.Context None old store) (ap (λ (q : PortValue). q.holdings.ran) put) warm
+pub warm_behind : (base : Base) (new : Option ℕ) {v x : PortValue} {old : ℕ} → Moves v x (base_place v.post.vcpu base) (Store (naming new)) kinds.Context None old → Holds v x (with_typed (came_out old v.holdings) v.holdings) → FoundClockLow v → FoundClockLow x
+warm_behind base new {v} {x} {old} store put warm = stays_warm v x (moves_came v x (base_place v.post.vcpu base) (Store (naming new)) kinds.Context None old store) (ap (λ (q : PortValue). q.holdings.ran) put) warm
 
 -- ---- behind the store and the flush
-module _ (v x c : PortValue) (base : Base) (new : Option ℕ) (old : ℕ) (store : Moves v x (base_place v.post.vcpu base) (Store (naming new)) kinds.Context None old) (behind : FlushesBehind x c) where
+module _ (base : Base) (new : Option ℕ) {v x c : PortValue} {old : ℕ} (store : Moves v x (base_place v.post.vcpu base) (Store (naming new)) kinds.Context None old) (behind : FlushesBehind x c) where
   abbrev request : Request
   request = of_base (own_domain v) new true
 
@@ -126,8 +126,8 @@ module _ (v x c : PortValue) (base : Base) (new : Option ℕ) (old : ℕ) (store
         }
 
   -- ---- the course
-  pub none_course : (says : ℕ → Bool) (asks agreed : ℕ) → old ≡ 0 → InstallsBy v c base new says asks asks agreed agreed
-  none_course says asks agreed none =
+  pub none_course : {says : ℕ → Bool} {asks agreed : ℕ} → old ≡ 0 → InstallsBy v c base new says asks asks agreed agreed
+  none_course {says} {asks} {agreed} none =
       record {
         answers = [];
         course = record { stored = x; flushed = c; old = old; stores = store; flushes = behind; releases = subst (λ y. ReleasesOld c c y []) (sym none) (refl, refl) };
@@ -135,9 +135,9 @@ module _ (v x c : PortValue) (base : Base) (new : Option ℕ) (old : ℕ) (store
         due = done_due [];
       }
 
-  pub old_course : (w : PortValue) (answer : Result (Unit {0}) Stop) (says : ℕ → Bool) (before after agreed agrees : ℕ) → old ≢ 0 → IfErr answer (λ e. e ≡ Paused Due) →
+  pub old_course : {w : PortValue} {answer : Result (Unit {0}) Stop} {says : ℕ → Bool} {before after agreed agrees : ℕ} → old ≢ 0 → IfErr answer (λ e. e ≡ Paused Due) →
       ReleasesFrameBy c w (old - 1) L4 says before after agreed agrees answer → InstallsBy v w base new says before after agreed agrees
-  old_course w answer says before after agreed agrees some due by =
+  old_course {w} {answer} some due by =
       record {
         answers = by.answers;
         course = record {

@@ -11,12 +11,13 @@ use Rattle.xp_board.specs.declared.step.Act.TheVariants.{Load, Store}
 use Rattle.xp_board.specs.declared.step.StepKind.TheVariants as kinds
 use Rattle.xp_board.specs.Readings.{last_clock}
 use Rattle.xp_board.specs.Told.{PortValue}
-use Rattle.step_maker.specs.Moves.{Moves}
+use Rattle.step_maker.specs.Moves.{Came, Moves}
 use Rattle.flush_words.specs.Flushing.{FlushesOwn}
 use Rattle.table_courses.specs.Acquiring.{Acquired}
 use Rattle.level_validate.specs.Unwinding.{own_domain}
 use Rattle.level_release.specs.Course.{WasReleased, WithGate}
 use Rattle.table_bases.specs.declared.words.Base.{Base}
+use Rattle.table_bases.specs.Asking.{ServesBase, StopsBase}
 use Rattle.table_bases.specs.Holding.{base_place, naming}
 
 -- ---- the flush behind the store: where the clock is at its last value, the own cache is emptied and that value stored
@@ -61,3 +62,11 @@ InstallsBy v w base new says before after yes_before yes_after = WithGate (λ an
 
 abbrev pub SetsBaseBy : PortValue → PortValue → Base → Option ℕ → (ℕ → Bool) → ℕ → ℕ → ℕ → ℕ → Result (Unit {0}) Stop → Type 0
 SetsBaseBy v w base new says before after yes_before yes_after answer = WithGate (λ answers. SetsBase v w base new answers answer) says before after yes_before yes_after answer
+
+-- ---- the whole call
+-- It came to where it ends, its steps serve what the base asks, show why it is not set, and are these calls, whose gate gave these answers.
+pub record MeetsBase (v w : PortValue) (base : Base) (new : Option ℕ) (says : ℕ → Bool) (before after yes_before yes_after : ℕ) (answer : Result (Unit {0}) Stop) : Type 0 where
+  pub came : Came v w
+  pub serves : ServesBase v w base new answer
+  pub stops : StopsBase v w new answer
+  pub course : SetsBaseBy v w base new says before after yes_before yes_after answer

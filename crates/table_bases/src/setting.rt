@@ -7,7 +7,7 @@ ghost use Rattle.table_words.specs.OldWords.{known_old};
 ghost use Rattle.table_words.specs.declared.old_words.OldWord.TheVariants.{First};
 ghost use Rattle.level_release.specs.Asking.{is_due_answer};
 ghost use Rattle.table_bases.specs.Asking.{IsBaseStop, LeavesBase, ServesBase, StopsBase, user_frame};
-ghost use Rattle.table_bases.specs.Course.{SetsBaseBy};
+ghost use Rattle.table_bases.specs.Course.{MeetsBase, SetsBaseBy};
 ghost use Rattle.table_bases.specs.declared.words.Base.TheVariants.{Kernel, User};
 
 use crate::installing::{LAST_CLOCK, install};
@@ -67,13 +67,10 @@ pub fn new_user_base<P: Port>(port: &mut P, gate: &mut dyn Preempt, f: u64) -> R
 fn name_base<P: Port>(port: &mut P, gate: &mut dyn Preempt, base: Base, f: u64) -> Result<(), Stop>
     requires rests { Rests (P.value port.old) }
     requires room { known_old First (P.value port.old).holdings ≡ Some 0 }
-    ensures came { Came (P.value port.old) (P.value port.new) }
-    ensures serves { ServesBase (P.value port.old) (P.value port.new) base (Some f) result }
-    ensures stops { StopsBase (P.value port.old) (P.value port.new) (Some f) result }
+    ensures met { MeetsBase (P.value port.old) (P.value port.new) base (Some f) (says gate.old) (count_asks gate.old) (count_asks gate.new) (count_yes gate.old) (count_yes gate.new) result }
     ensures kinds { IfErr result (IsBaseStop (Some f)) }
     ensures hand { LeavesBase (P.value port.old) (P.value port.new) (Some f) result }
     ensures rests { Rests (P.value port.new) }
-    ensures course { SetsBaseBy (P.value port.old) (P.value port.new) base (Some f) (says gate.old) (count_asks gate.old) (count_asks gate.new) (count_yes gate.old) (count_yes gate.new) result }
     ensures says { (n : ℕ) → says gate.new n ≡ says gate.old n }
     ensures paces { paces gate.new ≡ paces gate.old }
     ensures calm { calm gate.old ≡ true → (is_due_answer result ≡ false) × (calm gate.new ≡ true) }
@@ -92,13 +89,10 @@ fn name_base<P: Port>(port: &mut P, gate: &mut dyn Preempt, base: Base, f: u64) 
 fn empty_base<P: Port>(port: &mut P, gate: &mut dyn Preempt, base: Base) -> Result<(), Stop>
     requires rests { Rests (P.value port.old) }
     requires room { known_old First (P.value port.old).holdings ≡ Some 0 }
-    ensures came { Came (P.value port.old) (P.value port.new) }
-    ensures serves { ServesBase (P.value port.old) (P.value port.new) base None result }
-    ensures stops { StopsBase (P.value port.old) (P.value port.new) None result }
+    ensures met { MeetsBase (P.value port.old) (P.value port.new) base None (says gate.old) (count_asks gate.old) (count_asks gate.new) (count_yes gate.old) (count_yes gate.new) result }
     ensures kinds { IfErr result (IsBaseStop None) }
     ensures hand { LeavesBase (P.value port.old) (P.value port.new) None result }
     ensures rests { Rests (P.value port.new) }
-    ensures course { SetsBaseBy (P.value port.old) (P.value port.new) base None (says gate.old) (count_asks gate.old) (count_asks gate.new) (count_yes gate.old) (count_yes gate.new) result }
     ensures says { (n : ℕ) → says gate.new n ≡ says gate.old n }
     ensures paces { paces gate.new ≡ paces gate.old }
     ensures calm { calm gate.old ≡ true → (is_due_answer result ≡ false) × (calm gate.new ≡ true) }

@@ -6,52 +6,38 @@ use Rattle.table_bases.proofs.Installed.{holds_old, none_course, old_course, rel
 use Rattle.table_bases.proofs.installing.install.Goals as goal
 
 pub flush_behind-requires-clause-warm : goal.flush_behind-requires-clause-warm
-flush_behind-requires-clause-warm g c =
-    warm_behind (g.P.Port.value c.args.port.now) (g.P.Port.value c.put_base-old.new.port) c.args.base c.args.new c.put_base-old.result c.put_base-old.ensures.moves c.put_base-old.ensures.hand c.requires.warm
+flush_behind-requires-clause-warm g c = warm_behind c.args.base c.args.new c.put_base-old.ensures.moves c.put_base-old.ensures.hand c.requires.warm
 
 -- ---- the word named none
 pub returns-then-old-eq0-clause-serves : goal.returns-then-old-eq0-clause-serves
-returns-then-old-eq0-clause-serves g c =
-    set_serves (g.P.Port.value c.args.port.now) (g.P.Port.value c.put_base-old.new.port) (g.P.Port.value c.flush_behind.new.port) c.args.base c.args.new c.put_base-old.result c.put_base-old.ensures.moves
-    c.flush_behind.ensures.flushes
+returns-then-old-eq0-clause-serves g c = set_serves c.args.base c.args.new c.put_base-old.ensures.moves c.flush_behind.ensures.flushes
 
 pub returns-then-old-eq0-clause-course : goal.returns-then-old-eq0-clause-course
-returns-then-old-eq0-clause-course g c =
-    none_course (g.P.Port.value c.args.port.now) (g.P.Port.value c.put_base-old.new.port) (g.P.Port.value c.flush_behind.new.port) c.args.base c.args.new c.put_base-old.result c.put_base-old.ensures.moves
-    c.flush_behind.ensures.flushes _ _ _ c.if-old-eq0.true
+returns-then-old-eq0-clause-course g c = none_course c.args.base c.args.new c.put_base-old.ensures.moves c.flush_behind.ensures.flushes c.if-old-eq0.true
 
 -- ---- what it named is released
 pub release-requires-clause-holds : goal.release-requires-clause-holds
 release-requires-clause-holds g c =
-    holds_old (g.P.Port.value c.args.port.now) (g.P.Port.value c.put_base-old.new.port) (g.P.Port.value c.flush_behind.new.port) c.args.base c.args.new c.put_base-old.result c.put_base-old.ensures.moves
-    c.flush_behind.ensures.flushes c.put_base-old.ensures.hand c.flush_behind.ensures.hand c.requires.others c.if-old-eq0.false
+    holds_old c.args.base c.args.new c.put_base-old.ensures.moves c.flush_behind.ensures.flushes c.put_base-old.ensures.hand c.flush_behind.ensures.hand c.requires.others c.if-old-eq0.false
 
 pub returns-else-old-eq0-clause-serves : goal.returns-else-old-eq0-clause-serves
 returns-else-old-eq0-clause-serves g c =
-    let v = g.P.Port.value c.args.port.now in
-    let f = g.P.Port.value c.flush_behind.new.port in
+    let d = own_domain (g.P.Port.value c.args.port.now) in
+    let serves = c.release.ensures.serves d (of_base d c.args.new true).pages_of in
     let w = g.P.Port.value c.release.new.port in
-    let d = own_domain v in
-    let pages = (of_base d c.args.new true).pages_of in
-    released_serves v (g.P.Port.value c.put_base-old.new.port) f c.args.base c.args.new c.put_base-old.result c.put_base-old.ensures.moves c.flush_behind.ensures.flushes w
-    (serves_came f w _ _ (c.release.ensures.serves d pages)) _ (word_after c.put_base-old.result c.if-old-eq0.false) c.release.result c.release.ensures.kinds (c.release.ensures.serves d pages)
+    let came = serves_came (g.P.Port.value c.flush_behind.new.port) w _ _ serves in
+    released_serves c.args.base c.args.new c.put_base-old.ensures.moves c.flush_behind.ensures.flushes w came _ (word_after c.put_base-old.result c.if-old-eq0.false) c.release.result c.release.ensures.kinds serves
 
 pub returns-else-old-eq0-clause-course : goal.returns-else-old-eq0-clause-course
-returns-else-old-eq0-clause-course g c =
-    old_course (g.P.Port.value c.args.port.now) (g.P.Port.value c.put_base-old.new.port) (g.P.Port.value c.flush_behind.new.port) c.args.base c.args.new c.put_base-old.result c.put_base-old.ensures.moves
-    c.flush_behind.ensures.flushes (g.P.Port.value c.release.new.port) c.release.result _ _ _ _ _ c.if-old-eq0.false c.release.ensures.kinds c.release.ensures.course
+returns-else-old-eq0-clause-course g c = old_course c.args.base c.args.new c.put_base-old.ensures.moves c.flush_behind.ensures.flushes c.if-old-eq0.false c.release.ensures.kinds c.release.ensures.course
 
 pub returns-else-old-eq0-2-clause-serves : goal.returns-else-old-eq0-2-clause-serves
 returns-else-old-eq0-2-clause-serves g c =
-    let v = g.P.Port.value c.args.port.now in
-    let f = g.P.Port.value c.flush_behind.new.port in
+    let d = own_domain (g.P.Port.value c.args.port.now) in
+    let serves = c.release.ensures.serves d (of_base d c.args.new true).pages_of in
     let w = g.P.Port.value c.release.new.port in
-    let d = own_domain v in
-    let pages = (of_base d c.args.new true).pages_of in
-    released_serves v (g.P.Port.value c.put_base-old.new.port) f c.args.base c.args.new c.put_base-old.result c.put_base-old.ensures.moves c.flush_behind.ensures.flushes w
-    (serves_came f w _ _ (c.release.ensures.serves d pages)) _ (word_after c.put_base-old.result c.if-old-eq0.false) c.release.result c.release.ensures.kinds (c.release.ensures.serves d pages)
+    let came = serves_came (g.P.Port.value c.flush_behind.new.port) w _ _ serves in
+    released_serves c.args.base c.args.new c.put_base-old.ensures.moves c.flush_behind.ensures.flushes w came _ (word_after c.put_base-old.result c.if-old-eq0.false) c.release.result c.release.ensures.kinds serves
 
 pub returns-else-old-eq0-2-clause-course : goal.returns-else-old-eq0-2-clause-course
-returns-else-old-eq0-2-clause-course g c =
-    old_course (g.P.Port.value c.args.port.now) (g.P.Port.value c.put_base-old.new.port) (g.P.Port.value c.flush_behind.new.port) c.args.base c.args.new c.put_base-old.result c.put_base-old.ensures.moves
-    c.flush_behind.ensures.flushes (g.P.Port.value c.release.new.port) c.release.result _ _ _ _ _ c.if-old-eq0.false c.release.ensures.kinds c.release.ensures.course
+returns-else-old-eq0-2-clause-course g c = old_course c.args.base c.args.new c.put_base-old.ensures.moves c.flush_behind.ensures.flushes c.if-old-eq0.false c.release.ensures.kinds c.release.ensures.course

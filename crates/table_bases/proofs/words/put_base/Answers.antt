@@ -11,13 +11,7 @@ returns-clause-moves g c =
     c.word_naming-new.ensures c.make.ensures
 
 pub returns-clause-inside : goal.returns-clause-inside
-returns-clause-inside g c =
-    base_within (g.P.Port.value c.args.port.now) (g.P.Port.value c.make.new.port) c.args.base _ c.make.result
-    (put_moves (g.P.Port.value c.args.port.now) _ _ c.args.base c.vcpu-vcpu.ensures.vcpu c.vcpu-vcpu.ensures.real c.number-word.ensures c.requires.may (g.P.Port.value c.make.new.port) c.args.new _ c.make.result
-    c.word_naming-new.ensures c.make.ensures)
+returns-clause-inside g c = base_within (g.P.Port.value c.args.port.now) (g.P.Port.value c.make.new.port) c.args.base _ c.make.result (returns-clause-moves g c)
 
 pub returns-clause-hand : goal.returns-clause-hand
-returns-clause-hand g c =
-    put_hand (g.P.Port.value c.args.port.now) (g.P.Port.value c.make.new.port) c.args.base c.args.new c.make.result c.requires.holds
-    (put_moves (g.P.Port.value c.args.port.now) _ _ c.args.base c.vcpu-vcpu.ensures.vcpu c.vcpu-vcpu.ensures.real c.number-word.ensures c.requires.may (g.P.Port.value c.make.new.port) c.args.new _ c.make.result
-    c.word_naming-new.ensures c.make.ensures)
+returns-clause-hand g c = put_hand (g.P.Port.value c.args.port.now) (g.P.Port.value c.make.new.port) c.args.base c.args.new c.make.result c.requires.holds (returns-clause-moves g c)
