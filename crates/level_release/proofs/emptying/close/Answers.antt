@@ -21,7 +21,7 @@ leave-requires-clause-leaves g c =
     let v = g.P.Port.value c.args.port.now in
     let x = g.P.Port.value c.look_clock-clock.new.port in
     let s = c.requires.stands in
-    close_leaves s.1.0 v x c.args.table s.0 s.1.1 c.requires.empty c.look_clock-clock.result c.look_clock-clock.ensures.moves c.look_clock-clock.ensures.hand c.dead_kind.result c.level_type.result c.level_type.ensures c.dead_kind.ensures
+    close_leaves s.1.1 c.requires.empty c.look_clock-clock.ensures.moves c.look_clock-clock.ensures.hand c.level_type.ensures c.dead_kind.ensures
 
 pub put_ref-requires-clause-gives : goal.put_ref-requires-clause-gives
 put_ref-requires-clause-gives g c =
@@ -29,8 +29,8 @@ put_ref-requires-clause-gives g c =
     let x = g.P.Port.value c.look_clock-clock.new.port in
     let d = g.P.Port.value c.leave.new.port in
     let s = c.requires.stands in
-    close_gives s.1.0 v x c.args.table s.0 s.1.1 c.requires.empty c.look_clock-clock.result c.look_clock-clock.ensures.moves c.look_clock-clock.ensures.hand c.dead_kind.result c.level_type.result c.level_type.ensures c.dead_kind.ensures
-    d c.leave.result c.leave.ensures.moves c.leave.ensures.hand
+    close_gives s.1.1 c.requires.empty c.look_clock-clock.ensures.moves c.look_clock-clock.ensures.hand c.level_type.ensures c.dead_kind.ensures
+     c.leave.ensures.moves c.leave.ensures.hand
 
 pub returns-clause-came : goal.returns-clause-came
 returns-clause-came g c =
@@ -39,8 +39,8 @@ returns-clause-came g c =
     let d = g.P.Port.value c.leave.new.port in
     let w = g.P.Port.value c.put_ref.new.port in
     let s = c.requires.stands in
-    close_came s.1.0 v x c.args.table s.0 s.1.1 c.requires.empty c.look_clock-clock.result c.look_clock-clock.ensures.moves c.look_clock-clock.ensures.hand c.dead_kind.result c.level_type.result c.level_type.ensures c.dead_kind.ensures
-    d c.leave.result c.leave.ensures.moves c.leave.ensures.hand w c.put_ref.ensures.hand (serves_came _ _ _ _ c.put_ref.ensures.serves)
+    close_came s.1.1 c.requires.empty c.look_clock-clock.ensures.moves c.look_clock-clock.ensures.hand c.level_type.ensures c.dead_kind.ensures
+     c.leave.ensures.moves c.leave.ensures.hand w c.put_ref.ensures.hand (serves_came _ _ _ _ c.put_ref.ensures.serves)
 
 pub returns-clause-stands : goal.returns-clause-stands
 returns-clause-stands g c ts h s =
@@ -48,8 +48,8 @@ returns-clause-stands g c ts h s =
     let x = g.P.Port.value c.look_clock-clock.new.port in
     let d = g.P.Port.value c.leave.new.port in
     let w = g.P.Port.value c.put_ref.new.port in
-    close_stands h v x c.args.table ts s c.requires.empty c.look_clock-clock.result c.look_clock-clock.ensures.moves c.look_clock-clock.ensures.hand c.dead_kind.result c.level_type.result c.level_type.ensures c.dead_kind.ensures
-    d c.leave.result c.leave.ensures.moves c.leave.ensures.hand w c.put_ref.ensures.hand (serves_came _ _ _ _ c.put_ref.ensures.serves)
+    close_stands s c.requires.empty c.look_clock-clock.ensures.moves c.look_clock-clock.ensures.hand c.level_type.ensures c.dead_kind.ensures
+     c.leave.ensures.moves c.leave.ensures.hand w c.put_ref.ensures.hand (serves_came _ _ _ _ c.put_ref.ensures.serves)
 
 pub returns-clause-settled : goal.returns-clause-settled
 returns-clause-settled g c =
@@ -58,8 +58,8 @@ returns-clause-settled g c =
     let d = g.P.Port.value c.leave.new.port in
     let w = g.P.Port.value c.put_ref.new.port in
     let s = c.requires.stands in
-    close_settled s.1.0 v x c.args.table s.0 s.1.1 c.requires.empty c.look_clock-clock.result c.look_clock-clock.ensures.moves c.look_clock-clock.ensures.hand c.dead_kind.result c.level_type.result c.level_type.ensures c.dead_kind.ensures
-    d c.leave.result c.leave.ensures.moves c.leave.ensures.hand w c.put_ref.ensures.hand (serves_came _ _ _ _ c.put_ref.ensures.serves)
+    close_settled s.1.1 c.requires.empty c.look_clock-clock.ensures.moves c.look_clock-clock.ensures.hand c.level_type.ensures c.dead_kind.ensures
+     c.leave.ensures.moves c.leave.ensures.hand w c.put_ref.ensures.hand (serves_came _ _ _ _ c.put_ref.ensures.serves)
 
 pub returns-clause-serves : goal.returns-clause-serves
 returns-clause-serves g c =
@@ -69,7 +69,7 @@ returns-clause-serves g c =
     let t = c.args.table in
     let clock = c.look_clock-clock.result in
     let is = c.dead_kind.ensures ∙ ap (λ k. dead_kind k false clock) c.level_type.ensures in
-    closes a.1.0 (g.P.Port.value c.args.port.now) x d (g.P.Port.value c.put_ref.new.port) t a.0 clock c.leave.result a.1.1 c.look_clock-clock.ensures.moves c.look_clock-clock.ensures.hand
+    closes (g.P.Port.value c.put_ref.new.port) a.1.1 c.look_clock-clock.ensures.moves c.look_clock-clock.ensures.hand
     (subst (λ (l : KindWord). Moves x d (Kind t.frame) (Store (kind_write l)) kinds.Kind None c.leave.result) is c.leave.ensures.moves) c.put_ref.ensures.serves
 
 pub returns-clause-course : goal.returns-clause-course

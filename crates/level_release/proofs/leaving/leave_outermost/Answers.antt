@@ -12,7 +12,7 @@ put_old-requires-clause-held g c =
     let v = g.P.Port.value c.args.port.now in
     let d = g.P.Port.value c.leave_partial.new.port in
     let s = c.requires.stands in
-    left_held s.0 v c.args.table [] s.1 d (partial_hand s.0 v c.args.table [] s.1 d c.leave_partial.ensures.hand)
+    left_held s.1 (partial_hand s.1 d c.leave_partial.ensures.hand)
 
 pub returns-clause-came : goal.returns-clause-came
 returns-clause-came g c =
@@ -22,7 +22,7 @@ pub returns-clause-hand : goal.returns-clause-hand
 returns-clause-hand g c h s =
     let v = g.P.Port.value c.args.port.now in
     let d = g.P.Port.value c.leave_partial.new.port in
-    named_stands h v c.args.table s d (partial_hand h v c.args.table [] s d c.leave_partial.ensures.hand) (g.P.Port.value c.put_old.new.port) c.put_old.ensures.hand
+    named_stands s (partial_hand s d c.leave_partial.ensures.hand) (g.P.Port.value c.put_old.new.port) c.put_old.ensures.hand
 
 pub returns-clause-serves : goal.returns-clause-serves
 unfolding Continues
@@ -32,5 +32,5 @@ returns-clause-serves g c u r ds a =
     let v = g.P.Port.value c.args.port.now in
     let x = g.P.Port.value c.leave_partial.new.port in
     let w = g.P.Port.value c.put_old.new.port in
-    let left = piece_partial b.0 v x t [] c.leave_partial.result b.1 c.leave_partial.ensures.moves u r [] ds a in
-    piece_rest u w r t [] ds (piece_names u x w r (t ∷ []) ds left (t.frame + 1) c.put_old.ensures.moves)
+    let left = piece_partial b.1 c.leave_partial.ensures.moves u r [] ds a in
+    piece_rest (piece_names w left c.put_old.ensures.moves)

@@ -10,7 +10,7 @@ use Rattle.level_release.proofs.settling.settle.Goals as goal
 pub returns-in_err-settle_word-clause-course : goal.returns-in_err-settle_word-clause-course
 returns-in_err-settle_word-clause-course g c =
     let answer = err_from_is_err_and c.from_residual.result c.from_residual.ensures.1 in
-    first_by c.args.left.now c.settle_word.new.left (g.P.Port.value c.args.port.now) (g.P.Port.value c.settle_word.new.port) _ _ _ _ _ c.from_residual.result c.in_err-settle_word.field-0.0 (answer.1 ∙ ap Err answer.2) c.in_err-settle_word.ensures.course
+    first_by c.args.left.now c.settle_word.new.left (g.P.Port.value c.args.port.now) (g.P.Port.value c.settle_word.new.port) (answer.1 ∙ ap Err answer.2) c.in_err-settle_word.ensures.course
 
 pub returns-clause-serves : goal.returns-clause-serves
 returns-clause-serves g c owner pages =
@@ -28,7 +28,7 @@ returns-clause-course g c =
     let u = g.P.Port.value c.settle_word.new.port in
     let w = g.P.Port.value c.settle_word-2.new.port in
     let answer = c.settle_word-2.result in
-    by_then _ _ (λ answers. SettledOneTo c.args.left.now c.settle_word.new.left v First u answers (Ok tt)) (λ more. SettledOneTo None c.settle_word-2.new.left u Second w more answer) (λ answers. SettledTo c.args.left.now c.settle_word-2.new.left v w answers answer) _ _ _ _ _ _ answer c.in_ok-settle_word.ensures.says
+    by_then (λ answers. SettledOneTo c.args.left.now c.settle_word.new.left v First u answers (Ok tt)) (λ more. SettledOneTo None c.settle_word-2.new.left u Second w more answer) (λ answers. SettledTo c.args.left.now c.settle_word-2.new.left v w answers answer) c.in_ok-settle_word.ensures.says
     (λ answers more one two. (both u w answers more answer one.0 two.0, two.1)) c.in_ok-settle_word.ensures.course c.settle_word-2.ensures.course
 
 pub returns-clause-none : goal.returns-clause-none

@@ -35,26 +35,26 @@ put_old-requires-clause-held g c =
     let t = c.requires.took in
     let v = g.P.Port.value c.args.port.now in
     let d = g.P.Port.value c.resume_work.new.port in
-    subst (λ (q : PortValue). 0 < typed_to c.args.frame q.holdings.typed) (sym (lost_typed t.0 v t.1 c.args.frame c.args.found t.2 c.args.kind c.requires.read c.requires.partial d c.in-Err.other c.in-Err.ensures.hand))
-    (took_held t.0 v t.1 c.args.frame c.args.found t.2)
+    subst (λ (q : PortValue). 0 < typed_to c.args.frame q.holdings.typed) (sym (lost_typed t.2 c.requires.read c.requires.partial d c.in-Err.other c.in-Err.ensures.hand))
+    (took_held t.2)
 
 pub returns-in-Err-clause-hand : goal.returns-in-Err-clause-hand
 returns-in-Err-clause-hand g c u which t =
     let v = g.P.Port.value c.args.port.now in
     let d = g.P.Port.value c.resume_work.new.port in
     let w = g.P.Port.value c.put_old.new.port in
-    took_settled u v w which c.args.frame c.args.found t (Err c.lost-stop.result)
-    (lost_named u v which c.args.frame c.args.found t c.args.kind c.requires.read c.requires.partial d w c.in-Err.other c.lost-stop.result c.in-Err.ensures.hand c.put_old.ensures.hand)
+    took_settled w t (Err c.lost-stop.result)
+    (lost_named t c.requires.read c.requires.partial d w c.in-Err.other c.lost-stop.result c.in-Err.ensures.hand c.put_old.ensures.hand)
 
 pub returns-in-Err-clause-rests : goal.returns-in-Err-clause-rests
 returns-in-Err-clause-rests g c =
     let t = c.requires.took in
-    settled_rests t.0 (g.P.Port.value c.put_old.new.port) t.1 (Err c.lost-stop.result) t.2.rests (returns-in-Err-clause-hand g c t.0 t.1 t.2)
+    settled_rests t.1 (Err c.lost-stop.result) t.2.rests (returns-in-Err-clause-hand g c t.0 t.1 t.2)
 
 -- ---- a table of which something is recorded
 
 pub overflow_sub-table : goal.overflow_sub-table
-overflow_sub-table g c = recorded_most c.args.found c.args.kind c.requires.read c.requires.partial
+overflow_sub-table g c = recorded_most c.args.found c.requires.read c.requires.partial
 
 pub empty-requires-clause-stands : goal.empty-requires-clause-stands
 empty-requires-clause-stands g c =
@@ -63,7 +63,7 @@ empty-requires-clause-stands g c =
     let d = g.P.Port.value c.resume_work.new.port in
     let x = g.P.Port.value c.look_refs.new.port in (
       record v.holdings { typed = [] },
-      resumed_empties t.0 v t.1 c.args.frame c.args.found t.2 c.args.kind c.requires.read c.requires.partial d c.in-Ok.ensures.moves c.in-Ok.ensures.hand x c.look_refs.result c.look_refs.ensures.moves c.look_refs.ensures.hand
+      resumed_empties t.2 c.requires.read c.requires.partial c.in-Ok.ensures.moves c.in-Ok.ensures.hand c.look_refs.ensures.moves c.look_refs.ensures.hand
           c.level_of.result c.level_of.ensures.kind c.level_of.ensures.low c.level_of.ensures.high (recorded_some c.args.kind (sym c.has_recorded.ensures ∙ c.if-has_recorded.true)).1 c.requires.frame,
     )
 
@@ -73,14 +73,14 @@ returns-in-Ok-clause-hand g c u which t =
     let d = g.P.Port.value c.resume_work.new.port in
     let x = g.P.Port.value c.look_refs.new.port in
     let w = g.P.Port.value c.empty.new.port in
-    took_settled u v w which c.args.frame c.args.found t c.empty.result
-    (resumed_released u v which c.args.frame c.args.found t c.args.kind c.requires.read c.requires.partial d c.in-Ok.ensures.moves c.in-Ok.ensures.hand x c.look_refs.result c.look_refs.ensures.moves c.look_refs.ensures.hand
+    took_settled w t c.empty.result
+    (resumed_released t c.requires.read c.requires.partial c.in-Ok.ensures.moves c.in-Ok.ensures.hand c.look_refs.ensures.moves c.look_refs.ensures.hand
     c.level_of.result c.level_of.ensures.kind c.level_of.ensures.low c.level_of.ensures.high (recorded_some c.args.kind (sym c.has_recorded.ensures ∙ c.if-has_recorded.true)).1 c.requires.frame w c.empty.result c.empty.ensures.came
     c.empty.ensures.hand)
 
 pub returns-in-Ok-clause-rests : goal.returns-in-Ok-clause-rests
 returns-in-Ok-clause-rests g c =
-    let t = c.requires.took in settled_rests t.0 (g.P.Port.value c.empty.new.port) t.1 c.empty.result t.2.rests (returns-in-Ok-clause-hand g c t.0 t.1 t.2)
+    let t = c.requires.took in settled_rests t.1 c.empty.result t.2.rests (returns-in-Ok-clause-hand g c t.0 t.1 t.2)
 
 -- ---- any other frame
 
@@ -91,8 +91,8 @@ leave-requires-clause-leaves g c =
     let d = g.P.Port.value c.resume_work.new.port in
     let a = g.P.Port.value c.look_clock-clock.new.port in
     rw c.dead_kind.ensures
-    (dead_may t.0 v t.1 c.args.frame c.args.found t.2 c.args.kind c.requires.read c.requires.partial d c.in-Ok.ensures.moves c.in-Ok.ensures.hand a c.look_clock-clock.result c.look_clock-clock.ensures.moves
-    c.look_clock-clock.ensures.hand (recorded_none c.args.found c.args.kind c.requires.read c.requires.partial (sym c.has_recorded.ensures ∙ c.if-has_recorded.false)))
+    (dead_may t.2 c.requires.read c.requires.partial c.in-Ok.ensures.moves c.in-Ok.ensures.hand c.look_clock-clock.ensures.moves
+    c.look_clock-clock.ensures.hand (recorded_none c.args.found c.requires.read c.requires.partial (sym c.has_recorded.ensures ∙ c.if-has_recorded.false)))
 
 pub put_ref-requires-clause-gives : goal.put_ref-requires-clause-gives
 put_ref-requires-clause-gives g c =
@@ -101,7 +101,7 @@ put_ref-requires-clause-gives g c =
     let d = g.P.Port.value c.resume_work.new.port in
     let a = g.P.Port.value c.look_clock-clock.new.port in
     let e = g.P.Port.value c.leave.new.port in
-    dead_gives t.0 v t.1 c.args.frame c.args.found t.2 c.args.kind c.requires.read c.requires.partial d c.in-Ok.ensures.moves c.in-Ok.ensures.hand a c.look_clock-clock.result c.look_clock-clock.ensures.moves
+    dead_gives t.2 c.requires.read c.requires.partial c.in-Ok.ensures.moves c.in-Ok.ensures.hand c.look_clock-clock.ensures.moves
     c.look_clock-clock.ensures.hand e (subst (λ k. Holds a e (left a c.args.frame k)) c.dead_kind.ensures c.leave.ensures.hand)
 
 pub put_ref-requires-clause-may : goal.put_ref-requires-clause-may
@@ -111,7 +111,7 @@ put_ref-requires-clause-may g c =
     let d = g.P.Port.value c.resume_work.new.port in
     let a = g.P.Port.value c.look_clock-clock.new.port in
     let e = g.P.Port.value c.leave.new.port in
-    dead_work t.0 v t.1 c.args.frame c.args.found t.2 c.args.kind c.requires.read c.requires.partial d c.in-Ok.ensures.moves c.in-Ok.ensures.hand a c.look_clock-clock.result c.look_clock-clock.ensures.moves
+    dead_work t.2 c.requires.read c.requires.partial c.in-Ok.ensures.moves c.in-Ok.ensures.hand c.look_clock-clock.ensures.moves
     c.look_clock-clock.ensures.hand e (subst (λ k. Holds a e (left a c.args.frame k)) c.dead_kind.ensures c.leave.ensures.hand) c.requires.may
 
 pub returns-in-Ok-2-clause-hand : goal.returns-in-Ok-2-clause-hand
@@ -121,13 +121,13 @@ returns-in-Ok-2-clause-hand g c u which t =
     let a = g.P.Port.value c.look_clock-clock.new.port in
     let e = g.P.Port.value c.leave.new.port in
     let w = g.P.Port.value c.put_ref.new.port in
-    took_settled u v w which c.args.frame c.args.found t (Ok tt)
-    (dead_released u v which c.args.frame c.args.found t c.args.kind c.requires.read c.requires.partial d c.in-Ok.ensures.moves c.in-Ok.ensures.hand a c.look_clock-clock.result c.look_clock-clock.ensures.moves
+    took_settled w t (Ok tt)
+    (dead_released t c.requires.read c.requires.partial c.in-Ok.ensures.moves c.in-Ok.ensures.hand c.look_clock-clock.ensures.moves
     c.look_clock-clock.ensures.hand e (subst (λ k. Holds a e (left a c.args.frame k)) c.dead_kind.ensures c.leave.ensures.hand) w c.put_ref.ensures.hand)
 
 pub returns-in-Ok-2-clause-rests : goal.returns-in-Ok-2-clause-rests
 returns-in-Ok-2-clause-rests g c =
-    let t = c.requires.took in settled_rests t.0 (g.P.Port.value c.put_ref.new.port) t.1 (Ok tt) t.2.rests (returns-in-Ok-2-clause-hand g c t.0 t.1 t.2)
+    let t = c.requires.took in settled_rests t.1 (Ok tt) t.2.rests (returns-in-Ok-2-clause-hand g c t.0 t.1 t.2)
 
 -- ---- what the steps serve, and why they stop
 
@@ -138,9 +138,9 @@ returns-in-Err-clause-serves g c u which t owner pages =
     let w = g.P.Port.value c.put_old.new.port in
     let e = c.lost-stop.result in
     let rose = is_due_stop e in
-    again_serves u v which c.args.frame c.args.found t owner pages rose d w (missed u.post.machine e)
-    (lost_serves u v which c.args.frame c.args.found t owner pages rose c.args.kind c.requires.read c.requires.partial d c.in-Err.other c.in-Err.ensures.moves c.in-Err.ensures.lost e c.lost-stop.ensures)
-    (change_came u v which c.args.frame c.args.found t owner pages rose c.args.kind c.requires.read c.requires.partial d c.in-Err.other c.in-Err.ensures.moves) c.put_old.ensures.moves
+    again_serves t owner pages rose (missed u.post.machine e)
+    (lost_serves t owner pages rose c.requires.read c.requires.partial c.in-Err.ensures.moves c.in-Err.ensures.lost c.lost-stop.ensures)
+    (change_came t owner pages rose c.requires.read c.requires.partial c.in-Err.ensures.moves) c.put_old.ensures.moves
 
 pub returns-in-Err-clause-stops : goal.returns-in-Err-clause-stops
 returns-in-Err-clause-stops g c u which t owner pages =
@@ -150,7 +150,7 @@ returns-in-Err-clause-stops g c u which t owner pages =
     let e = c.lost-stop.result in
     let rose = is_due_stop e in
     stops_before u d w (settling owner pages rose) e
-    (lost_stops u v which c.args.frame c.args.found t owner pages rose c.args.kind c.requires.read c.requires.partial d c.in-Err.other c.in-Err.ensures.moves c.in-Err.ensures.lost e c.lost-stop.ensures)
+    (lost_stops t owner pages rose c.requires.read c.requires.partial c.in-Err.ensures.moves c.in-Err.ensures.lost c.lost-stop.ensures)
     (moves_came d w _ _ _ _ _ c.put_old.ensures.moves)
 
 pub returns-in-Ok-clause-serves : goal.returns-in-Ok-clause-serves
@@ -160,8 +160,8 @@ returns-in-Ok-clause-serves g c u which t owner pages =
     let x = g.P.Port.value c.look_refs.new.port in
     let answer = c.empty.result in
     let table = resumed_table c.args.frame c.level_of.result c.args.kind in
-    emptied_serves u x (g.P.Port.value c.empty.new.port) (of_settle owner pages answer) table
-    (resumed_piece u v which c.args.frame c.args.found t owner pages (is_due_answer answer) c.args.kind c.requires.read c.requires.partial d _ c.in-Ok.ensures.moves refl x c.look_refs.result table refl c.look_refs.ensures.moves)
+    emptied_serves (g.P.Port.value c.empty.new.port)
+    (resumed_piece t owner pages (is_due_answer answer) c.requires.read c.requires.partial c.in-Ok.ensures.moves refl refl c.look_refs.ensures.moves)
     answer c.empty.ensures.serves
 
 pub returns-in-Ok-clause-stops : goal.returns-in-Ok-clause-stops
@@ -171,8 +171,8 @@ returns-in-Ok-clause-stops g c u which t owner pages =
     let x = g.P.Port.value c.look_refs.new.port in
     let answer = c.empty.result in
     let table = resumed_table c.args.frame c.level_of.result c.args.kind in
-    answer_stops u x (g.P.Port.value c.empty.new.port) (of_settle owner pages answer) table answer refl
-    (resumed_piece u v which c.args.frame c.args.found t owner pages (is_due_answer answer) c.args.kind c.requires.read c.requires.partial d _ c.in-Ok.ensures.moves refl x c.look_refs.result table refl c.look_refs.ensures.moves)
+    answer_stops (g.P.Port.value c.empty.new.port) answer refl
+    (resumed_piece t owner pages (is_due_answer answer) c.requires.read c.requires.partial c.in-Ok.ensures.moves refl refl c.look_refs.ensures.moves)
     c.empty.ensures.stops
 
 pub returns-in-Ok-2-clause-serves : goal.returns-in-Ok-2-clause-serves
@@ -183,11 +183,11 @@ returns-in-Ok-2-clause-serves g c u which t owner pages =
     let e = g.P.Port.value c.leave.new.port in
     let k = c.args.kind in
     let f = c.args.frame in
-    let may = dead_may u v which f c.args.found t k c.requires.read c.requires.partial d c.in-Ok.ensures.moves c.in-Ok.ensures.hand a c.look_clock-clock.result c.look_clock-clock.ensures.moves c.look_clock-clock.ensures.hand (recorded_none c.args.found k c.requires.read c.requires.partial (sym c.has_recorded.ensures ∙ c.if-has_recorded.false)) in
-    dead_serves u v which f c.args.found t owner pages false k c.requires.read c.requires.partial d _ c.in-Ok.ensures.moves refl a e (g.P.Port.value c.put_ref.new.port) c.look_clock-clock.result c.leave.result
-    (item u v which f c.args.found t k c.requires.read c.requires.partial) (dead_kind k.kind k.unflushed c.look_clock-clock.result) c.look_clock-clock.ensures.moves
-    (at_a u v which f c.args.found t k c.requires.read c.requires.partial d c.in-Ok.ensures.moves c.in-Ok.ensures.hand a c.look_clock-clock.result c.look_clock-clock.ensures.moves c.look_clock-clock.ensures.hand)
-    (working u v which f c.args.found t k c.requires.read c.requires.partial) (ap (λ (y : KindWord). y.kind) (item_fields u v which f c.args.found t k c.requires.read c.requires.partial)) may.is
+    let may = dead_may t c.requires.read c.requires.partial c.in-Ok.ensures.moves c.in-Ok.ensures.hand c.look_clock-clock.ensures.moves c.look_clock-clock.ensures.hand (recorded_none c.args.found c.requires.read c.requires.partial (sym c.has_recorded.ensures ∙ c.if-has_recorded.false)) in
+    dead_serves t owner pages false c.requires.read c.requires.partial c.in-Ok.ensures.moves refl (g.P.Port.value c.put_ref.new.port)
+     (dead_kind k.kind k.unflushed c.look_clock-clock.result) c.look_clock-clock.ensures.moves
+    (at_a t c.requires.read c.requires.partial c.in-Ok.ensures.moves c.in-Ok.ensures.hand c.look_clock-clock.ensures.moves c.look_clock-clock.ensures.hand)
+    (working t c.requires.read c.requires.partial) (ap (λ (y : KindWord). y.kind) (item_fields t c.requires.read c.requires.partial)) may.is
     (subst (λ y. Moves a e (Kind f) (Store (kind_write y)) kinds.Kind None c.leave.result) c.dead_kind.ensures c.leave.ensures.moves) c.put_ref.ensures.serves
 
 -- ---- by which steps
@@ -197,8 +197,8 @@ returns-in-Err-clause-course g c u which t =
     let v = g.P.Port.value c.args.port.now in
     let d = g.P.Port.value c.resume_work.new.port in
     let w = g.P.Port.value c.put_old.new.port in
-    by_none _ _ _ _ _ (lost_undue c.lost-stop.result _ _ _ c.lost-stop.ensures)
-    (lost_course u v which c.args.frame c.args.found t c.args.kind c.requires.read c.requires.partial d c.in-Err.other c.in-Err.ensures.moves c.args.left.now w c.lost-stop.result c.in-Err.ensures.lost c.lost-stop.ensures c.put_old.ensures.moves)
+    by_none _ _ (lost_undue _ _ _ c.lost-stop.ensures)
+    (lost_course t c.requires.read c.requires.partial c.in-Err.ensures.moves c.args.left.now w c.in-Err.ensures.lost c.lost-stop.ensures c.put_old.ensures.moves)
 
 pub returns-in-Ok-clause-course : goal.returns-in-Ok-clause-course
 returns-in-Ok-clause-course g c u which t =
@@ -206,8 +206,8 @@ returns-in-Ok-clause-course g c u which t =
     let d = g.P.Port.value c.resume_work.new.port in
     let x = g.P.Port.value c.look_refs.new.port in
     let w = g.P.Port.value c.empty.new.port in
-    by_as _ (λ answers. EmptiedTo c.args.left.now c.empty.new.left x (resumed_table c.args.frame c.level_of.result c.args.kind) w answers c.empty.result) (λ answers. SettledOneTo c.args.left.now c.empty.new.left u which w answers c.empty.result) _ _ _ _ _
-    (λ answers emptied. emptied_course u v which c.args.frame c.args.found t c.args.kind c.requires.read c.requires.partial d _ c.in-Ok.ensures.moves refl c.args.left.now c.empty.new.left x w c.look_refs.result c.level_of.result answers c.empty.result
+    by_as _ (λ answers. EmptiedTo c.args.left.now c.empty.new.left x (resumed_table c.args.frame c.level_of.result c.args.kind) w answers c.empty.result) (λ answers. SettledOneTo c.args.left.now c.empty.new.left u which w answers c.empty.result)
+    (λ answers emptied. emptied_course t c.requires.read c.requires.partial c.in-Ok.ensures.moves refl c.args.left.now c.empty.new.left w c.level_of.result answers c.empty.result
     (sym c.has_recorded.ensures ∙ c.if-has_recorded.true) c.level_of.ensures.kind c.level_of.ensures.high c.look_refs.ensures.moves emptied) c.empty.ensures.course
 
 pub returns-in-Ok-2-clause-course : goal.returns-in-Ok-2-clause-course
@@ -218,7 +218,7 @@ returns-in-Ok-2-clause-course g c u which t =
     let e = g.P.Port.value c.leave.new.port in
     let w = g.P.Port.value c.put_ref.new.port in
     let k = c.args.kind in
-    by_none _ _ _ _ _ refl
-    (dead_course u v which c.args.frame c.args.found t k c.requires.read c.requires.partial d _ c.in-Ok.ensures.moves refl c.args.left.now w (sym c.has_recorded.ensures ∙ c.if-has_recorded.false)
-    (dead_steps d a e w c.args.frame c.leave.result c.look_clock-clock.result k.kind k.unflushed c.look_clock-clock.ensures.moves
+    by_none _ _ refl
+    (dead_course t c.requires.read c.requires.partial c.in-Ok.ensures.moves refl c.args.left.now w (sym c.has_recorded.ensures ∙ c.if-has_recorded.false)
+    (dead_steps w k.kind k.unflushed c.look_clock-clock.ensures.moves
     (subst (λ y. Moves a e (Kind c.args.frame) (Store (kind_write y)) kinds.Kind None c.leave.result) c.dead_kind.ensures c.leave.ensures.moves) c.put_ref.ensures.puts))
