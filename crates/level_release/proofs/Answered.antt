@@ -58,8 +58,7 @@ module _ {u v : PortValue} {which : OldWord} {f word : ℕ} (t : TookOld u v whi
         (subst (λ (p : Post). Serves v w (of_release f owner pages answer) (misses p.machine answer)) same_post serves))
 
     released_stop : (e : Stop) → IsReleaseEnd e → Stops v w (of_release f owner pages answer) e → Stops u w (of_settle owner pages answer) e
-    released_stop e end stops =
-        stops_later u v w (of_settle owner pages answer) (of_release f owner pages answer) e (end_uncounted e end) inside (took_came t owner pages (is_due_answer answer)) stops
+    released_stop e end stops = stops_later u v w (of_settle owner pages answer) (of_release f owner pages answer) e (end_uncounted e end) inside (took_came t owner pages (is_due_answer answer)) stops
 
   pub released_stops : (w : PortValue) (answer : Result (Unit {0}) Stop) → Came v w → IfErr answer (λ e. e ≡ Paused Due) → IfErr answer (λ e. Stops v w (of_release f owner pages answer) e) → IfErr answer (λ e. Stops u w (of_settle owner pages answer) e)
   released_stops w (Ok done) came ends stops = tt
@@ -69,7 +68,6 @@ module _ {u v : PortValue} {which : OldWord} {f word : ℕ} (t : TookOld u v whi
   pub busy_stops : (kind_fields word).validated ≡ false → (kind_fields word).partial ≡ false → Stops u v (of_settle {A = Unit {0}} owner pages (Err (Paused (Busy f word)))) (Paused (Busy f word))
   unfolding Stops moment_of
   busy_stops unlive whole =
-      let working = in_work t.kind.finds (taken_held t) unlive whole in
       inl (
         domain_of u.post.machine u.post.vcpu,
         None,
@@ -83,7 +81,7 @@ module _ {u v : PortValue} {which : OldWord} {f word : ℕ} (t : TookOld u v whi
           hand = refl;
         },
         passed_it t owner pages false v (came_self v) t.b.holdings,
-        or_left _ _ working,
+        or_left _ _ (in_work t.kind.finds (taken_held t) unlive whole),
         inr refl,
         taken_elsewhere t,
       )

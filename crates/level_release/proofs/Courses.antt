@@ -16,18 +16,14 @@ use Rattle.level_release.specs.Course.{GaveEntry, Lowered, MadeDead, emptied, gi
 
 -- not all entries are done with
 pub some_left : {t : TableWork} {rest ts : List TableWork} → ts ≡ t ∷ rest → IsStack ts → (t.done ≡ 512 → ⊥) → t.done < 512
-some_left are stack more = let few = (subst (λ us. IsStack us) are stack).0.done in grind (arith, few, more)
+some_left are stack more = grind (arith, ((subst (λ us. IsStack us) are stack).0.done), more)
 
 -- ---- the last recorded entry of the innermost table
 module _ (v w : PortValue) {t : TableWork} {rest ts : List TableWork} (are : ts ≡ t ∷ rest) {k : PageType} (is : k ≡ level_type t.level) (few : t.done < 512) where
   gave : {answer : Result Released Stop} → ReleasesFound v w t.frame (511 - t.done) k answer → TwinRelease v w t.frame k (511 - t.done) answer → ((owner pages : ℕ) → IfErr answer (λ e. Stops v w (of_entries owner pages) e)) →
       GaveEntry v w t answer
   gave {answer} found plain stops =
-      record {
-        found = subst (λ y. ReleasesFound v w t.frame (511 - t.done) y answer) is found;
-        plain = subst (λ y. TwinRelease v w t.frame y (511 - t.done) answer) is plain;
-        stops = stops;
-      }
+      record { found = subst (λ y. ReleasesFound v w t.frame (511 - t.done) y answer) is found; plain = subst (λ y. TwinRelease v w t.frame y (511 - t.done) answer) is plain; stops = stops }
 
   module _ {a b : Released} (so : a ≡ b) (found : ReleasesFound v w t.frame (511 - t.done) k (Ok a)) (plain : TwinRelease v w t.frame k (511 - t.done) (Ok a)) where
     done_so : GaveEntry v w t (Ok b)
@@ -35,8 +31,7 @@ module _ (v w : PortValue) {t : TableWork} {rest ts : List TableWork} (are : ts 
 
   pub lowered_given : {a : Released} {us : List TableWork} → a ≡ Given → us ≡ advanced ts → ReleasesFound v w t.frame (511 - t.done) k (Ok a) → TwinRelease v w t.frame k (511 - t.done) (Ok a) → Lowered v ts w us (Ok true)
   lowered_given {a} {us} so on found plain =
-      subst (λ xs. Lowered v xs w us (Ok true)) (sym are)
-      (subst (λ xs. Lowered v (t ∷ rest) w xs (Ok true)) (sym (on ∙ ap (λ xs. advanced xs) are)) (given v w t rest few (done_so so found plain)))
+      subst (λ xs. Lowered v xs w us (Ok true)) (sym are) (subst (λ xs. Lowered v (t ∷ rest) w xs (Ok true)) (sym (on ∙ ap (λ xs. advanced xs) are)) (given v w t rest few (done_so so found plain)))
 
   pub lowered_opened : {a : Released} {f recorded : ℕ} {closing : Bool} {us xs : List TableWork} → a ≡ Opened f recorded closing → us ≡ advanced ts → xs ≡ table_under t f recorded closing ∷ us →
       ReleasesFound v w t.frame (511 - t.done) k (Ok a) → TwinRelease v w t.frame k (511 - t.done) (Ok a) → Lowered v ts w xs (Ok false)
@@ -47,8 +42,7 @@ module _ (v w : PortValue) {t : TableWork} {rest ts : List TableWork} (are : ts 
 
   pub lowered_stopped : {e : Stop} {answer : Result Bool Stop} → answer ≡ Err e → ReleasesFound v w t.frame (511 - t.done) k (Err e) → TwinRelease v w t.frame k (511 - t.done) (Err e) →
       ((owner pages : ℕ) → Stops v w (of_entries owner pages) e) → Lowered v ts w ts answer
-  lowered_stopped {e} so found plain stops =
-      subst (λ y. Lowered v ts w ts y) (sym so) (subst (λ xs. Lowered v xs w xs (Err e)) (sym are) (stopped v w t rest e few (gave found plain stops)))
+  lowered_stopped {e} so found plain stops = subst (λ y. Lowered v ts w ts y) (sym so) (subst (λ xs. Lowered v xs w xs (Err e)) (sym are) (stopped v w t rest e few (gave found plain stops)))
 
 -- ---- the innermost table, of which nothing is recorded any more
 pub lowered_emptied : {v w : PortValue} (t : TableWork) {us ts : List TableWork} → ts ≡ t ∷ us → t.done ≡ 512 → MadeDead v w t → Lowered v ts w us (Ok true)

@@ -33,11 +33,7 @@ inside_first v w t (outer ∷ us) rs left x more = (w, (refl, left.1), subst (λ
 
 pub unwinding_on : {u v w : PortValue} {t : TableWork} {ts us rs : List TableWork} → Unwinding u v ts (t ∷ us) → Came v w → Continues v w (t ∷ us) rs [] → LeftInside v t us w rs → Unwinding u w ts rs
 unwinding_on {u} {v} {w} {t} {ts} {us} {rs} i came serves course =
-    record {
-      came = came_trans u v w i.came came;
-      serves = goes_then u v w ts (t ∷ us) rs [] [] i.serves serves;
-      course = λ x more. i.course x (inside_first v w t us rs course x more);
-    }
+    record { came = came_trans u v w i.came came; serves = goes_then u v w ts (t ∷ us) rs [] [] i.serves serves; course = λ x more. i.course x (inside_first v w t us rs course x more) }
 
 -- none is left to do
 pub unwinding_done : {u w : PortValue} {ts us : List TableWork} → Unwinding u w ts us → us ≡ [] → Continues u w ts [] [] × UnwoundDown u ts w

@@ -87,8 +87,7 @@ module _ {u v : PortValue} {which : OldWord} {f word : ℕ} (t : TookOld u v whi
     stop_is = is ∙ ap (λ (p : Post). Paused (Lost (number (sizes_of p.machine) (Kind f)) word found)) same_post
 
     there : place_at (sizes_of u.post.machine) (number (sizes_of u.post.machine) (Kind f)) ≡ Kind f
-    there =
-        subst (λ (p : Post). place_at (sizes_of p.machine) (number (sizes_of p.machine) (Kind f)) ≡ Kind f) (took_post t) (place_back (sizes_of v.post.machine) (Kind f) change.may.place)
+    there = subst (λ (p : Post). place_at (sizes_of p.machine) (number (sizes_of p.machine) (Kind f)) ≡ Kind f) (took_post t) (place_back (sizes_of v.post.machine) (Kind f) change.may.place)
 
     missed_is : missed u.post.machine e ≡ Misses (Kind f) ∷ []
     missed_is = ap (λ y. missed u.post.machine y) stop_is ∙ ap (λ p. missed_at p) there

@@ -1,5 +1,5 @@
 -- Paused for its gate, a release leaves less than the bound below which that was asked.
-use Rattle.std.proofs.Common.{◌≡◌, ◌⊎◌, ℕ, ◌<◌, ◌&&◌, nat_lt, Option, None, Some, Bool, true, false, List, [], ◌∷◌, Result, Ok, Err, IfOk, refl, ◌∙◌, arith, inl, inr}
+use Rattle.std.proofs.Common.{◌≡◌, ◌⊎◌, ℕ, ◌<◌, ◌&&◌, Option, None, Some, Bool, true, false, List, Result, Ok, Err, IfOk, refl, ◌∙◌, arith, inl, inr}
 use Rattle.xp_words.specs.KindWords.{kind_fields}
 use Rattle.xp_words.specs.declared.kind.KindWord.{KindWord}
 use Rattle.xp_words.specs.declared.kind.PageType.{PageType}
@@ -30,12 +30,12 @@ pub ran_falls : {k : ℕ} {v : PortValue} {ts : List TableWork} {w : PortValue} 
 ran_falls said course.RanDown.begun = absurd (cc)
 ran_falls {k} {v} {ts} said (course.RanDown.unasked u w us xs done answers ran one off) = let no = on_no refl ran in absurd (cc)
 ran_falls said (course.RanDown.asked u w us xs answers ran one on) = absurd (cc)
-ran_falls {k} said (course.RanDown.due u w us xs answers ran one on) = let less = second (is_asked_down xs) on in grind (arith, less)
+ran_falls {k} said (course.RanDown.due u w us xs answers ran one on) = grind (arith, (second (is_asked_down xs) on))
 ran_falls {k} {v} {ts} said (course.RanDown.stopped u w us xs answers stop ran one) = let no = on_no refl ran in absurd (cc)
 
 -- Where the last answer is yes, it stops for that.
 ran_leaves : {k : ℕ} {v : PortValue} {ts : List TableWork} {w : PortValue} {us : List TableWork} {answers : List Bool} {stop : Stop} → ends_yes answers ≡ true → RanDown (Some k) v ts w us answers (Err stop) → LeavesLess k (left_by (Some k) stop us)
-ran_leaves {k} said (course.RanDown.due u w us xs answers ran one on) = let less = second (is_asked_down xs) on in grind (arith, less)
+ran_leaves {k} said (course.RanDown.due u w us xs answers ran one on) = grind (arith, (second (is_asked_down xs) on))
 ran_leaves {k} {v} {ts} said (course.RanDown.stopped u w us xs answers stop ran one) = let no = on_no refl ran in absurd (cc)
 
 emptied_leaves : (k : ℕ) (v : PortValue) (t : TableWork) (w : PortValue) (answers : List Bool) (answer : Result (Unit {0}) Stop) → ends_yes answers ≡ true → (run : Emptied (Some k) v t w answers answer) → LeavesLess k (left_emptied run)

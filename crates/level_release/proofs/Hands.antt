@@ -35,8 +35,7 @@ tables_none z made inner (e ∷ es) are = absurd are
 -- after more steps
 work_later : {z : Sizes} {a b : ℕ} {t : TableWork} {e : Work} → a ≤ b → IsReleasedWork z a t e → IsReleasedWork z b t e
 work_later more is =
-    let low = is.earlier in
-    record { inside = is.inside; frame = is.frame; kind = is.kind; unmarked = is.unmarked; recorded = is.recorded; work = is.work; closing = is.closing; earlier = omega (arith, low, more) }
+    record { inside = is.inside; frame = is.frame; kind = is.kind; unmarked = is.unmarked; recorded = is.recorded; work = is.work; closing = is.closing; earlier = omega (arith, is.earlier, more) }
 
 pub tables_later : (z : Sizes) (a b : ℕ) (inner : Option TableWork) (ts : List TableWork) (es : List Work) → a ≤ b → AreInRelease z a inner ts es → AreInRelease z b inner ts es
 tables_later z a b inner [] [] more are = tt

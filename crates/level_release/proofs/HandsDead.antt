@@ -52,7 +52,7 @@ pub record DeadHand (h : Holdings) (x d : PortValue) (t : TableWork) (ts : List 
 
 module _ {h : Holdings} {x : PortValue} {t : TableWork} {ts : List TableWork} (s : Empties h x (t ∷ ts)) (empty : t.done ≡ 512) where
   none_left : (top s).work.recorded ≡ 0
-  none_left = let all = (top s).is.recorded in omega (arith, all, empty)
+  none_left = omega (arith, ((top s).is.recorded), empty)
 
   counts : (b : Bool) → t.own ≡ b → IsTrue (is_work (kind_fields (top s).work.word)) → 0 < typed_to t.frame x.holdings.typed
   counts true own work = own_held s own
@@ -123,8 +123,7 @@ module _ {h : Holdings} {x : PortValue} {t : TableWork} {ts : List TableWork} (s
 
       pub dead_settled : IsSettledTop w.holdings
       dead_settled work others are =
-          let e = top s in
-          around_settled (sizes_of x.post.machine) (length x.holdings.steps) t ts e.others e.around work others (sym (ap (λ (q : PortValue). q.holdings.works) given) ∙ are)
+          let e = top s in around_settled (sizes_of x.post.machine) (length x.holdings.steps) t ts e.others e.around work others (sym (ap (λ (q : PortValue). q.holdings.works) given) ∙ are)
 
       pub dead_stands : Empties h w ts
       dead_stands =
@@ -157,10 +156,8 @@ module _ {h : Holdings} {v x : PortValue} {t : TableWork} {ts : List TableWork} 
   same_work =
       let old = top s in
       let new = top now in
-      let both : new.work ∷ new.others ≡ old.work ∷ old.others = sym new.are ∙ ap (λ (q : PortValue). q.holdings.works) same ∙ old.are in
-      let one : new.work ≡ old.work = cc in
-      let low = old.is.earlier in
-      subst (λ (e : Work). e.since ≤ length v.holdings.steps) (sym one) low
+      let both : new.work ∷ new.others ≡ old.work ∷ old.others = sym new.are ∙ ap (λ (q : PortValue). q.holdings.works) same ∙ old.are in let one : new.work ≡ old.work = cc in let low = old.is.earlier
+      in subst (λ (e : Work). e.since ≤ length v.holdings.steps) (sym one) low
 
   pub close_leaves : MayLeave x t.frame k
   close_leaves = subst (λ y. MayLeave x t.frame y) (sym is_dead) (dead_leaves now empty clock small (clock_since v x clock (top now).work.since look same_work))

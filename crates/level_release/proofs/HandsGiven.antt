@@ -29,8 +29,7 @@ abbrev pub shed_work : ℕ → ℕ → Work → Work
 shed_work i word e = record e { recorded = i; seen = Some (record { index = i; word = word }); unsettled = None; fixed = (learned_work i word e).fixed }
 
 looked_is : {z : Sizes} {made : ℕ} (i word : ℕ) {t : TableWork} {e : Work} → IsReleasedWork z made t e → IsReleasedWork z made t (looked_work i word e)
-looked_is i word is =
-    record { inside = is.inside; frame = is.frame; kind = is.kind; unmarked = is.unmarked; recorded = is.recorded; work = is.work; closing = is.closing; earlier = is.earlier }
+looked_is i word is = record { inside = is.inside; frame = is.frame; kind = is.kind; unmarked = is.unmarked; recorded = is.recorded; work = is.work; closing = is.closing; earlier = is.earlier }
 
 pub shed_is : {z : Sizes} {made : ℕ} (i word : ℕ) {t : TableWork} {e : Work} → i + 1 + t.done ≡ 512 → IsReleasedWork z made t e → IsReleasedWork z made (one_more_done t) (shed_work i word e)
 shed_is i word next is =
@@ -57,32 +56,25 @@ module _ {h : Holdings} {v : PortValue} {t : TableWork} {ts : List TableWork} (s
     looked_hand : learned_cell t.frame i word v.holdings ≡ record v.holdings { works = looked_work i word (top s).work ∷ (top s).others }
     looked_hand =
         let e = top s in
-        looked_apart first.finds e.are e.is.frame e.is.inside i word
-        ∙ ap (λ es. record v.holdings { works = es }) (changed_first t.frame (learned_work i word) e.work e.others v.holdings.works e.are e.is.frame)
-        ∙ ap (λ x. record v.holdings { works = x ∷ e.others }) (unmarked_learns i word e.work e.is.unmarked)
+        looked_apart first.finds e.are e.is.frame e.is.inside i word ∙ ap (λ es. record v.holdings { works = es })
+        (changed_first t.frame (learned_work i word) e.work e.others v.holdings.works e.are e.is.frame) ∙ ap (λ x. record v.holdings { works = x ∷ e.others })
+        (unmarked_learns i word e.work e.is.unmarked)
 
     pub shed_hand : shed_once t.frame i word v.holdings ≡ record v.holdings { works = shed_work i word (top s).work ∷ (top s).others }
     shed_hand =
         let e = top s in
-        ap (λ (k : Holdings). record k { works = changed_work t.frame (λ x. record x { recorded = i; unsettled = None }) k.works }) looked_hand
-        ∙ ap (λ es. record v.holdings { works = es }) (changed_first t.frame (λ x. record x { recorded = i; unsettled = None }) (looked_work i word e.work) e.others (looked_work i word e.work ∷ e.others) refl e.is.frame)
+        ap (λ (k : Holdings). record k { works = changed_work t.frame (λ x. record x { recorded = i; unsettled = None }) k.works }) looked_hand ∙ ap (λ es. record v.holdings { works = es })
+        (changed_first t.frame (λ x. record x { recorded = i; unsettled = None }) (looked_work i word e.work) e.others (looked_work i word e.work ∷ e.others) refl e.is.frame)
 
     -- it is only looked at
     pub stays_stands : {w : PortValue} → Holds v w (learned_cell t.frame i word v.holdings) → Came v w → Empties h w (t ∷ ts)
-    stays_stands {w} holds came =
-        let e = top s in
-        stands_top t.done s.stack.0.done (looked_is i word e.is)
-        (holds ∙ ap (λ (k : Holdings). still (record v { holdings = k })) looked_hand) came
+    stays_stands {w} holds came = stands_top t.done s.stack.0.done (looked_is i word (top s).is) (holds ∙ ap (λ (k : Holdings). still (record v { holdings = k })) looked_hand) came
 
     -- it is given back
     pub given_stands : {w : PortValue} → i + 1 + t.done ≡ 512 → Holds v w (shed_once t.frame i word v.holdings) → Came v w → Empties h w (one_more_done t ∷ ts)
-    given_stands {w} next holds came =
-        let e = top s in
-        stands_top (t.done + 1) (omega (arith, next)) (shed_is i word next e.is)
-        (holds ∙ ap (λ (k : Holdings). still (record v { holdings = k })) shed_hand) came
+    given_stands {w} next holds came = stands_top (t.done + 1) (omega (arith, next)) (shed_is i word next (top s).is) (holds ∙ ap (λ (k : Holdings). still (record v { holdings = k })) shed_hand) came
 
     pub given_settled : (w : PortValue) → Holds v w (shed_once t.frame i word v.holdings) → IsSettledTop w.holdings
     given_settled w holds work others are =
-        let both : work ∷ others ≡ shed_work i word (top s).work ∷ (top s).others = sym are ∙ (ap (λ (q : PortValue). q.holdings.works) holds ∙ ap (λ (k : Holdings). k.works) shed_hand) in
-        let one : shed_work i word (top s).work ≡ work = cc in
-        subst (λ (y : Work). y.unsettled ≡ None) one refl
+        let both : work ∷ others ≡ shed_work i word (top s).work ∷ (top s).others = sym are ∙ (ap (λ (q : PortValue). q.holdings.works) holds ∙ ap (λ (k : Holdings). k.works) shed_hand) in let one :
+        shed_work i word (top s).work ≡ work = cc in subst (λ (y : Work). y.unsettled ≡ None) one refl

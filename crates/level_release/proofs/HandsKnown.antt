@@ -30,8 +30,7 @@ off_first false b c off t = t
 
 pub still_less : {A : Type 0} (key : A → ℕ) (g : ℕ) {x : A} {xs ys : List A} → key x ≢ g → xs ≡ x ∷ ys → Still key g xs ys
 unfolding some_of
-still_less key g {x} other less test passes =
-    off_first (key x == g) (test x) _ (when_ne (key x) g other) (subst (λ zs. IsTrue (some_of (λ e. (key e == g) && test e) zs)) less passes)
+still_less key g {x} other less test passes = off_first (key x == g) (test x) _ (when_ne (key x) g other) (subst (λ zs. IsTrue (some_of (λ e. (key e == g) && test e) zs)) less passes)
 
 -- ---- the owner
 pub known_still : (z : Sizes) (g o : ℕ) (h k : Holdings) → Grows h k → Still (λ (e : Reference). e.frame) g h.refs k.refs → Still (λ (e : TypedReference). e.frame) g h.typed k.typed → k.locks ≡ h.locks →

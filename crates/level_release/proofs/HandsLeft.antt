@@ -59,7 +59,7 @@ left_kind t = partial_kind (level_type t.level) false false (512 - t.done) 0
 
 module _ {h : Holdings} {v : PortValue} {t : TableWork} {ts : List TableWork} (s : Empties h v (t ∷ ts)) where
   left_over : (top s).work.recorded ≡ 512 - t.done
-  left_over = let all = (top s).is.recorded in omega (arith, all)
+  left_over = omega (arith, ((top s).is.recorded))
 
   held : (b : Bool) → t.own ≡ b → IsTrue (is_closing (kind_fields (top s).work.word)) → 0 < refs_to t.frame v.holdings.refs
   held true own closing = absurd (let off = work_alone (kind_fields (top s).work.word) (own_works s own) in cc)

@@ -64,9 +64,8 @@ least_of {t} {u} are = let same : t ≡ u = cc in subst (λ (k : TableWork). t.l
 
 pub lower_above : {h : Holdings} {v : PortValue} {t : TableWork} {stack ts : List TableWork} {kind : PageType} → stack ≡ t ∷ ts → kind ≡ level_type t.level → Empties h v stack → (g : ℕ) → IsOfOther g (below kind) v.holdings
 lower_above {h} {v} {t} {ts} {kind} are is_kind s g e at =
-    let z = sizes_of v.post.machine in
     let now = subst (λ xs. Empties h v xs) are s in
-    let l = found_level z _ None g t.level (t ∷ ts) v.holdings.works now.stack (λ u us same. least_of same) now.tables at in
+    let l = found_level (sizes_of v.post.machine) _ None g t.level (t ∷ ts) v.holdings.works now.stack (λ u us same. least_of same) now.tables at in
     ap (λ k. is_type k (below kind)) l.kind ∙ ap (λ k. is_type (level_type l.level) (below k)) is_kind ∙ level_type-above t.level l.level now.stack.0.low l.low l.high
 
 -- ---- what the steps found

@@ -107,13 +107,12 @@ module _ {h : Holdings} {v : PortValue} {t : TableWork} {ts : List TableWork} (s
     unfolding outer
     opened_by rs ys holds refs typed still_refs still_typed =
         let z = sizes_of v.post.machine in
-        let longer = came_longer v w came in
         let o = top s in
         hands_by w (new ∷ one_more_done t ∷ ts) rs ys (r.work ∷ outer ∷ o.others) s holds
         (opened_table, opened_under, (record { low = s.stack.0.low; high = s.stack.0.high; done = omega (arith, next) }, s.stack.1, s.stack.2)) (
           new_is,
           tt,
-          tables_later z (length v.holdings.steps) (length w.holdings.steps) (Some new) (one_more_done t ∷ ts) (outer ∷ o.others) longer
+          tables_later z (length v.holdings.steps) (length w.holdings.steps) (Some new) (one_more_done t ∷ ts) (outer ∷ o.others) (came_longer v w came)
               (shed_is i r.word next o.is, new_inside, tables_done z (length v.holdings.steps) t (t.done + 1) ts o.others o.around),
         )
         refs typed (

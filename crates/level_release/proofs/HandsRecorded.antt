@@ -134,9 +134,7 @@ module _ {h : Holdings} {v : PortValue} {t u : TableWork} {us : List TableWork} 
         ∙ ap (λ (q : PortValue). still (record q { holdings = record q.holdings { typed = k.typed; works = again ∷ outer.others } })) k.hand
 
     apart : AreApart t.frame (u ∷ us)
-    apart =
-        tables_apart (sizes_of v.post.machine) (length v.holdings.steps) (Some t) t.frame (u ∷ us) inner.others inner.around
-        (others_apart store.finds inner.are inner.is.frame)
+    apart = tables_apart (sizes_of v.post.machine) (length v.holdings.steps) (Some t) t.frame (u ∷ us) inner.others inner.around (others_apart store.finds inner.are inner.is.frame)
 
     known_x : (g : ℕ) → t.frame ≢ g → IsTrue (knows_owner (sizes_of v.post.machine) g s.owner v.holdings) → IsTrue (knows_owner (sizes_of v.post.machine) g s.owner x.holdings)
     known_x g other knows =
@@ -170,8 +168,7 @@ outer_is u are = cc
 module _ (h : Holdings) {v : PortValue} (t : TableWork) {d : PortValue} (hand : Holds v d (left v t.frame (left_kind t))) {found : ℕ} (store : Moves v d (Kind t.frame) (Store (kind_write (left_kind t))) kinds.Kind None found) where
   pub inside_asks : (stack : List TableWork) → stack ≢ [] → Empties h v (t ∷ stack) → (o : TableWork) (rest : List TableWork) → retreated stack ≡ o ∷ rest → RecordsNext d.post.machine o.frame (512 - o.done) d.holdings
   inside_asks [] some s o rest are = absurd (some refl)
-  inside_asks (u ∷ us) some s o rest are =
-      subst (λ (k : TableWork). RecordsNext d.post.machine k.frame (512 - k.done) d.holdings) (outer_is u are) (inside_records s (partial_hand s d hand) store)
+  inside_asks (u ∷ us) some s o rest are = subst (λ (k : TableWork). RecordsNext d.post.machine k.frame (512 - k.done) d.holdings) (outer_is u are) (inside_records s (partial_hand s d hand) store)
 
   pub inside_done : (stack : List TableWork) → stack ≢ [] → Empties h v (t ∷ stack) → (o : TableWork) (rest new : List TableWork) → new ≡ o ∷ rest → new ≡ retreated stack →
       (x : PortValue) → Holds d x (entry_recorded d.post.machine o.frame d.holdings) → Came d x → Empties h x new

@@ -49,8 +49,7 @@ module _ {u w : PortValue} {ts : List TableWork} {t : TableWork} {us all : List 
     -- it was the outermost one
     named : us ≡ [] → LeavesNamed w x (t ∷ []) → (h : Holdings) → Empties h u ts → HoldsNow x (named_hand (outermost_frame ts) h)
     named none leaves h s =
-        let before = now s in
-        subst (λ f. HoldsNow x (named_hand f h)) (ap (λ xs. outermost_frame (t ∷ xs)) (sym none) ∙ before.1) (leaves h (subst (λ xs. Empties h w (t ∷ xs)) none before.0))
+        let before = now s in subst (λ f. HoldsNow x (named_hand f h)) (ap (λ xs. outermost_frame (t ∷ xs)) (sym none) ∙ before.1) (leaves h (subst (λ xs. Empties h w (t ∷ xs)) none before.0))
 
     pub leaving_named : us ≡ [] → LeavesNamed w x (t ∷ []) → LeavingDown u x ts us
     leaving_named none leaves = record { came = came_trans u w x g.came came; hand = λ h s. subst (λ xs. LeftTo h x ts xs) (sym none) (named none leaves h s) }

@@ -28,13 +28,4 @@ module _ {u v : PortValue} {which : OldWord} {f word : ℕ} (t : TookOld u v whi
       (live_by_step t.b v f k.kind Load kinds.Look None word t.kind (named_ref f (named_since t)) [] (named_since t) (took_typed t) refl refl (named_before t) live_as)
 
   pub named_live : HoldsLive v f k.kind
-  named_live =
-      record {
-        works = took_works t;
-        looking = took_looking t;
-        reference = named_ref f (named_since t);
-        typed = took_typed t;
-        frame = refl;
-        recent = named_later t;
-        live = knows;
-      }
+  named_live = record { works = took_works t; looking = took_looking t; reference = named_ref f (named_since t); typed = took_typed t; frame = refl; recent = named_later t; live = knows }

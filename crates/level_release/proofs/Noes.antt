@@ -1,5 +1,5 @@
 -- A release that ends: the gate said no each time.
-use Rattle.std.proofs.Common.{◌≡◌, ℕ, Option, Bool, true, false, List, [], ◌∷◌, Result, Ok, refl, ap, arith}
+use Rattle.std.proofs.Common.{◌≡◌, ℕ, Option, Bool, true, false, List, Result, Ok, refl, ap, arith}
 use Rattle.xp_words.specs.KindWords.{kind_fields}
 use Rattle.xp_words.specs.declared.kind.KindWord.{KindWord}
 use Rattle.xp_words.specs.declared.kind.PageType.{PageType}
@@ -47,8 +47,4 @@ one_no ok (course.SettledOne.busy a b c w f word looks takes sees off away named
 
 pub settled_no : {below : Option ℕ} → (v w : PortValue) (answers : List Bool) (answer : Result (Unit {0}) Stop) → answer ≡ Ok tt → Settled below v w answers answer → yeses answers ≡ 0
 settled_no v _ _ _ ok (course.Settled.first w answers stop one) = absurd (cc)
-settled_no v _ _ _ ok (course.Settled.both u w answers more answer one two) =
-    let early = one_no refl one in
-    let late = one_no ok two in
-    let sum = yeses_then answers more in
-    omega (arith, early, late, sum)
+settled_no v _ _ _ ok (course.Settled.both u w answers more answer one two) = omega (arith, (one_no refl one), (one_no ok two), (yeses_then answers more))

@@ -79,9 +79,7 @@ module _ {u v : PortValue} {which : OldWord} {f word : ℕ} (t : TookOld u v whi
   spelled = (read_is word k read).0
 
   pub mark_off : k.kept ≡ false
-  mark_off =
-      subst (λ (y : KindWord). y.kept ≡ false) fields
-      (unkept t.kind.finds (taken_held t) (subst (λ y. IsTrue (is_partial y)) (sym fields) partial))
+  mark_off = subst (λ (y : KindWord). y.kept ≡ false) fields (unkept t.kind.finds (taken_held t) (subst (λ y. IsTrue (is_partial y)) (sym fields) partial))
 
   abbrev pub item : Work
   item = new_work f (kind_write (resumed_kind k)) k.progress (unsettled_from k.progress v.holdings) v.holdings
@@ -129,10 +127,10 @@ module _ {u v : PortValue} {which : OldWord} {f word : ℕ} (t : TookOld u v whi
       same_post = ap (λ (q : PortValue). q.post) looked_hand
 
       held_named : 0 < refs_to f d.holdings.refs + typed_to f d.holdings.typed
-      held_named = let typed = subst (λ ys. 0 < typed_to f ys) (sym resumed_typed) (typed_held f (named_ref f (named_since t)) [] refl) in omega (arith, typed)
+      held_named = omega (arith, (subst (λ ys. 0 < typed_to f ys) (sym resumed_typed) (typed_held f (named_ref f (named_since t)) [] refl)))
 
       since_made : named_since t ≤ length d.holdings.steps
-      since_made = let later = named_later t in let more = longer in omega (arith, later, more)
+      since_made = omega (arith, (named_later t), longer)
 
       owner_tells : (o : ℕ) × IsTrue (knows_owner (sizes_of x.post.machine) f o x.holdings)
       owner_tells =
@@ -163,9 +161,6 @@ module _ {u v : PortValue} {which : OldWord} {f word : ℕ} (t : TookOld u v whi
 
       pub resumed_empties : f < v.post.machine.frames → Empties (record v.holdings { typed = [] }) x (resumed_table f level k ∷ [])
       resumed_empties frame =
-          let told = owner_tells in
-          let late = since_made in
-          let on = moves_longer d x (Refs f) Load kinds.Look None refs_word look in
           record {
             works = took_works t;
             typed = refl;
@@ -173,9 +168,9 @@ module _ {u v : PortValue} {which : OldWord} {f word : ℕ} (t : TookOld u v whi
             stack = (record { low = low; high = high; done = omega arith }, tt, tt);
             tables = subst (λ ws. AreInRelease (sizes_of x.post.machine) (length x.holdings.steps) None (resumed_table f level k ∷ []) ws) (sym one_work) (resumed_work_is frame, tt, tt);
             refs = ap (λ (q : PortValue). q.holdings.refs) looked_hand;
-            types = (named_ref f (named_since t), [], refl, omega (arith, late, on), one_typed, refl);
-            owner = told.0;
-            owned = (told.1, tt);
+            types = (named_ref f (named_since t), [], refl, omega (arith, since_made, (moves_longer d x (Refs f) Load kinds.Look None refs_word look)), one_typed, refl);
+            owner = owner_tells.0;
+            owned = (owner_tells.1, tt);
             hand = now_beside v x (record v.holdings { typed = [] }) v.holdings.refs v.holdings.typed (item ∷ v.holdings.works) looked_hand;
           }
 
@@ -203,8 +198,7 @@ module _ {u v : PortValue} {which : OldWord} {f word : ℕ} (t : TookOld u v whi
       dead_may none =
           let more = longer in
           may_leave_dead a f k.kind item at_a typed_kind k.unflushed clock (ap (λ (y : KindWord). y.kind) item_fields) none (inl (sym (ap (λ (y : KindWord). y.unflushed) item_fields))) small
-          (clock_since d a clock (length v.holdings.steps + 1) look (omega (arith, more)))
-          (λ work. subst (λ ys. 0 < typed_to f ys) (sym typed_a) (typed_held f (named_ref f (named_since t)) [] refl))
+          (clock_since d a clock (length v.holdings.steps + 1) look (omega (arith, more))) (λ work. subst (λ ys. 0 < typed_to f ys) (sym typed_a) (typed_held f (named_ref f (named_since t)) [] refl))
 
       abbrev back_ref : Reference
       back_ref = record { frame = f; owner = typed_owner f a.holdings }

@@ -49,11 +49,7 @@ piece_retreated {u} {v} {r} {ts} {ds} a = piece_of (asked_retreated u.post.machi
 -- more steps, which serve too
 pub piece_later : {u v w : PortValue} {r : Request} {ts : List TableWork} {ds es : List Deed} → IsReleasePiece u v r ts ds → Came v w → Serves u w r es → IsReleasePiece u w r ts es
 piece_later {u} {v} {w} {r} {ts} a came serves =
-    record {
-      entries = a.entries;
-      serves = serves;
-      asked = asked_later u.post.machine u.post.vcpu r (Met u v) (Met u w) (λ m x. met_before u v w m x came) ts a.asked;
-    }
+    record { entries = a.entries; serves = serves; asked = asked_later u.post.machine u.post.vcpu r (Met u v) (Met u w) (λ m x. met_before u v w m x came) ts a.asked }
 
 module _ {u v : PortValue} (w : PortValue) {r : Request} {ts : List TableWork} {ds : List Deed} (a : IsReleasePiece u v r ts ds) where
   -- the clock is loaded, with no mark or one that no guest sees
@@ -67,8 +63,7 @@ module _ {u v : PortValue} (w : PortValue) {r : Request} {ts : List TableWork} {
   -- a frame goes into the own first old word
   pub piece_names : {word : ℕ} → Moves v w (old_place v.post.vcpu First) (Store word) kinds.Context None 0 → IsReleasePiece u w r ts ds
   piece_names {word} store =
-      let same : v.post.vcpu ≡ u.post.vcpu = ap (λ (p : Post). p.vcpu) (came_post u v (serves_came u v r ds a.serves)) in
-      piece_later a (moves_came v w _ _ _ _ 0 store)
+      let same : v.post.vcpu ≡ u.post.vcpu = ap (λ (p : Post). p.vcpu) (came_post u v (serves_came u v r ds a.serves)) in piece_later a (moves_came v w _ _ _ _ 0 store)
       (serves_step u v w r ds (old_place v.post.vcpu First) (Store word) kinds.Context None 0 a.serves store (inl (same, inl (λ e. absurd cc))))
 
 module _ {u v : PortValue} (w : PortValue) {r : Request} {t : TableWork} {ts : List TableWork} {ds : List Deed} (a : IsReleasePiece u v r (t ∷ ts) ds) (came : Came v w) where
@@ -79,5 +74,4 @@ module _ {u v : PortValue} (w : PortValue) {r : Request} {t : TableWork} {ts : L
 -- its reference is given back
 pub piece_back : {u v w : PortValue} {r : Request} {t : TableWork} {ts : List TableWork} {ds : List Deed} → IsReleasePiece u v r (t ∷ ts) ds → Serves v w (of_back t.frame) [] → IsReleasePiece u w r (t ∷ ts) ds
 piece_back {u} {v} {w} {r} {t} {ts} {ds} a put =
-    let came = serves_came v w (of_back t.frame) [] put in
-    piece_later a came (serves_back u v w r ds [] a.serves t.frame (top_asked w a came) put)
+    let came = serves_came v w (of_back t.frame) [] put in piece_later a came (serves_back u v w r ds [] a.serves t.frame (top_asked w a came) put)

@@ -26,8 +26,7 @@ module _ {u v : PortValue} (w : PortValue) {r : Request} {ts : List TableWork} {
   entries_in = within_entries u.post.machine u.post.vcpu r.owner r (Met v w) (Met u w) (λ m x. met_after u v w m (serves_came u v r ds a.serves) x) a.entries refl
 
   pub piece_entries : (es : List Deed) → Serves v w (of_entries r.owner r.pages_of) es → IsReleasePiece u w r ts (es ++ ds)
-  piece_entries es b =
-      piece_later a (serves_came v w (of_entries r.owner r.pages_of) es b) (serves_inner u v w r (of_entries r.owner r.pages_of) ds es entries_in a.serves b)
+  piece_entries es b = piece_later a (serves_came v w (of_entries r.owner r.pages_of) es b) (serves_inner u v w r (of_entries r.owner r.pages_of) ds es entries_in a.serves b)
 
   -- what an entry asks there is asked of the whole call
   entries_ask : (k : PageType) (f : ℕ) → AsksBelow v w r.owner r.pages_of k f → IsAsked u.post.machine u.post.vcpu r (Met u w) f
@@ -61,8 +60,7 @@ module _ (v w : PortValue) (ts : List TableWork) where
   pub goes_opened : (t : TableWork) (k : PageType) → ((owner pages : ℕ) → Serves v w (of_entries owner pages) []) → ((owner pages : ℕ) → AsksBelow v w owner pages k t.frame) → Continues v w ts (t ∷ advanced ts) []
   unfolding Continues
   goes_opened t k serves asks u r ds a =
-      piece_of (λ asked. (asked.0, asked_advanced u.post.machine u.post.vcpu r (Met u w) ts asked.1))
-      (piece_opened w a t k (serves r.owner r.pages_of) (asks r.owner r.pages_of))
+      piece_of (λ asked. (asked.0, asked_advanced u.post.machine u.post.vcpu r (Met u w) ts asked.1)) (piece_opened w a t k (serves r.owner r.pages_of) (asks r.owner r.pages_of))
 
 release_uncounted : (e : Stop) → IsReleaseStop e → IsUncounted e
 release_uncounted (Paused (Lost place e x)) is = tt

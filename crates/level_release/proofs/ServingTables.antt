@@ -1,8 +1,8 @@
 -- The innermost of the tables that are being released is left with another kind word, of its type: that goes on with a call that asked it.
-use Rattle.std.proofs.Common.{length, ◌≡◌, ℕ, ◌-◌, Bool, true, false, List, [], ◌∷◌, None, IsTrue, refl, sym, ap, ◌∙◌, arith}
+use Rattle.std.proofs.Common.{◌≡◌, ℕ, ◌-◌, Bool, true, false, List, [], ◌∷◌, None, IsTrue, refl, sym, ap, ◌∙◌, arith}
 use Rattle.std.proofs.lemmas.Bool.Decides.{nat_tests}
 use Rattle.xp_words.specs.KindWords.{is_kind, kind_fields, kind_write}
-use Rattle.xp_words.specs.Places.{Sizes, sizes_of}
+use Rattle.xp_words.specs.Places.{Sizes}
 use Rattle.xp_words.specs.declared.kind.KindWord.{KindWord}
 use Rattle.xp_words.specs.declared.place.Place.TheVariants.{Clock, Kind}
 use Rattle.xp_board.specs.declared.holdings.Holdings.{Holdings}
@@ -49,8 +49,8 @@ module _ {h : Holdings} {v : PortValue} {t : TableWork} {us : List TableWork} (s
   keeps : IsTrue (keeps_type found (kind_write l))
   keeps =
       let e = top s in
-      let word : found ≡ e.work.word = work_word v.post.machine v.post.vcpu v.holdings t.frame found e.work store.finds (top_here s) in
-      kept_type found (kind_write l) (kind_fields e.work.word) l (ap (λ y. kind_fields y) word) (fields_write l spelled) (typed ∙ sym e.is.kind) (alive e.is)
+      let word : found ≡ e.work.word = work_word v.post.machine v.post.vcpu v.holdings t.frame found e.work store.finds (top_here s) in kept_type found (kind_write l) (kind_fields e.work.word) l
+      (ap (λ y. kind_fields y) word) (fields_write l spelled) (typed ∙ sym e.is.kind) (alive e.is)
 
   piece_left : {u : PortValue} {r : Request} {ts : List TableWork} {ds : List Deed} → IsReleasePiece u v r (t ∷ ts) ds → IsReleasePiece u w r (t ∷ ts) ds
   piece_left {u} {r} {ts} {ds} a =
@@ -61,8 +61,7 @@ module _ {h : Holdings} {v : PortValue} {t : TableWork} {us : List TableWork} (s
 pub piece_partial : {h : Holdings} {v w : PortValue} {t : TableWork} {us : List TableWork} {found : ℕ} → Empties h v (t ∷ us) →
     Moves v w (Kind t.frame) (Store (kind_write (partial_kind (level_type t.level) false false (512 - t.done) 0))) kinds.Kind None found →
     (u : PortValue) (r : Request) (ts : List TableWork) (ds : List Deed) → IsReleasePiece u v r (t ∷ ts) ds → IsReleasePiece u w r (t ∷ ts) ds
-piece_partial {h} {v} {w} {t} {us} {found} s store u r ts ds a =
-    piece_left s (partial_kind (level_type t.level) false false (512 - t.done) 0) (partial_leaves s).is refl store a
+piece_partial {h} {v} {w} {t} {us} {found} s store u r ts ds a = piece_left s (partial_kind (level_type t.level) false false (512 - t.done) 0) (partial_leaves s).is refl store a
 
 -- dead, with a clock value that was found; and its reference is given back
 module _ {h : Holdings} {v x d : PortValue} (w : PortValue) {t : TableWork} {us : List TableWork} {clock found : ℕ} (s : Empties h v (t ∷ us)) (look : Moves v x Clock Load kinds.Look None clock) (same : Same v x)
@@ -74,6 +73,4 @@ module _ {h : Holdings} {v x d : PortValue} (w : PortValue) {t : TableWork} {us 
   unfolding Continues
   closes ts u r ds a =
       let looked = piece_looks x a look in
-      let still = hands_same same (moves_came v x Clock Load kinds.Look None clock look) s in
-      let left = piece_left still (dead_kind (level_type t.level) false clock) spelled refl store looked in
-      piece_rest (piece_back left put)
+      piece_rest (piece_back (piece_left (hands_same same (moves_came v x Clock Load kinds.Look None clock look) s) (dead_kind (level_type t.level) false clock) spelled refl store looked) put)

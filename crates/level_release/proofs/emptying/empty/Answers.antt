@@ -13,12 +13,11 @@ unwind-requires-clause-may g c =
     c.run_down.ensures.came c.run_down.ensures.stands c.requires.stands c.requires.may
 
 pub unwind-requires-clause-stands : goal.unwind-requires-clause-stands
-unwind-requires-clause-stands g c =
-    let s = c.requires.stands in (
-      s.0,
-      from_one (g.P.Port.value c.args.port.now) (g.P.Port.value c.run_down.new.port) c.run_down.new.stack (c.push.ensures.pushed ∙ ap (λ ts. c.args.table ∷ ts) c.new-stack.ensures)
-          c.run_down.ensures.came c.run_down.ensures.stands s.1,
-    )
+unwind-requires-clause-stands g c = (
+  c.requires.stands.0,
+  from_one (g.P.Port.value c.args.port.now) (g.P.Port.value c.run_down.new.port) c.run_down.new.stack (c.push.ensures.pushed ∙ ap (λ ts. c.args.table ∷ ts) c.new-stack.ensures)
+      c.run_down.ensures.came c.run_down.ensures.stands c.requires.stands.1,
+)
 
 pub unwind-requires-clause-room : goal.unwind-requires-clause-room
 unwind-requires-clause-room g c =
@@ -41,9 +40,8 @@ returns-in-Err-clause-hand g c =
 -- ---- nothing is left
 pub returns-in-Ok-clause-course : goal.returns-in-Ok-clause-course
 returns-in-Ok-clause-course g c =
-    let t = c.args.table in
-    let one = c.push.ensures.pushed ∙ ap (λ ts. t ∷ ts) c.new-stack.ensures in
-    empties_finished c.args.left.now (g.P.Port.value c.args.port.now) (g.P.Port.value c.run_down.new.port) c.run_down.new.stack one _ _ _ _ _ c.in-Ok.ensures.emptied c.in-Ok.ensures.course
+    empties_finished c.args.left.now (g.P.Port.value c.args.port.now) (g.P.Port.value c.run_down.new.port) c.run_down.new.stack
+    (c.push.ensures.pushed ∙ ap (λ ts. c.args.table ∷ ts) c.new-stack.ensures) _ _ _ _ _ c.in-Ok.ensures.emptied c.in-Ok.ensures.course
 
 -- ---- the rest is left partial
 pub returns-in-Err-clause-serves : goal.returns-in-Err-clause-serves
@@ -66,6 +64,5 @@ returns-in-Err-clause-stops g c =
 
 pub returns-in-Err-clause-course : goal.returns-in-Err-clause-course
 returns-in-Err-clause-course g c =
-    let t = c.args.table in
-    let one = c.push.ensures.pushed ∙ ap (λ ts. t ∷ ts) c.new-stack.ensures in
-    empties_paused c.args.left.now (g.P.Port.value c.args.port.now) (g.P.Port.value c.run_down.new.port) c.run_down.new.stack one _ _ _ _ _ c.left_by.ensures c.unwind.ensures.course c.in-Err.ensures.course
+    empties_paused c.args.left.now (g.P.Port.value c.args.port.now) (g.P.Port.value c.run_down.new.port) c.run_down.new.stack (c.push.ensures.pushed ∙ ap (λ ts. c.args.table ∷ ts) c.new-stack.ensures)
+    _ _ _ _ _ c.left_by.ensures c.unwind.ensures.course c.in-Err.ensures.course

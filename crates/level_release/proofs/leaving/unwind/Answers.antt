@@ -4,24 +4,19 @@ use Rattle.level_release.proofs.CoursesUnwound.{Unwinding, unwinding_begins, unw
 use Rattle.level_release.proofs.leaving.unwind.Goals as goal
 
 pub leave_outermost-requires-clause-may : goal.leave_outermost-requires-clause-may
-leave_outermost-requires-clause-may g c =
-    leaving_may c.loop-table.invariant.hands c.in-Some.ensures.some c.requires.stands c.requires.may
+leave_outermost-requires-clause-may g c = leaving_may c.loop-table.invariant.hands c.in-Some.ensures.some c.requires.stands c.requires.may
 
 pub leave_outermost-requires-clause-stands : goal.leave_outermost-requires-clause-stands
-leave_outermost-requires-clause-stands g c =
-    leaving_last c.loop-table.invariant.hands c.in-Some.ensures.some c.requires.stands (c.is_empty.ensures.0 c.if-is_empty.true)
+leave_outermost-requires-clause-stands g c = leaving_last c.loop-table.invariant.hands c.in-Some.ensures.some c.requires.stands (c.is_empty.ensures.0 c.if-is_empty.true)
 
 pub leave_outermost-requires-clause-room : goal.leave_outermost-requires-clause-room
-leave_outermost-requires-clause-room g c =
-    leaving_room c.loop-table.invariant.hands c.in-Some.ensures.some c.requires.stands c.requires.room
+leave_outermost-requires-clause-room g c = leaving_room c.loop-table.invariant.hands c.in-Some.ensures.some c.requires.stands c.requires.room
 
 pub leave_inside-requires-clause-may : goal.leave_inside-requires-clause-may
-leave_inside-requires-clause-may g c =
-    leaving_may c.loop-table.invariant.hands c.in-Some.ensures.some c.requires.stands c.requires.may
+leave_inside-requires-clause-may g c = leaving_may c.loop-table.invariant.hands c.in-Some.ensures.some c.requires.stands c.requires.may
 
 pub leave_inside-requires-clause-stands : goal.leave_inside-requires-clause-stands
-leave_inside-requires-clause-stands g c =
-    leaving_stands c.loop-table.invariant.hands c.in-Some.ensures.some c.requires.stands
+leave_inside-requires-clause-stands g c = leaving_stands c.loop-table.invariant.hands c.in-Some.ensures.some c.requires.stands
 
 pub returns-clause-hand : goal.returns-clause-hand
 returns-clause-hand g c = leaving_done c.loop-table.invariant.hands c.in_default.ensures.none.0
@@ -38,10 +33,9 @@ loop-table-preserved-then-is_empty g c =
     let ts = c.args.stack.now in
     let none = c.if-is_empty.ensures.0 refl in
     let left = subst (λ us. Unwinding u v ts (t ∷ us)) none (subst (λ us. Unwinding u v ts us) c.in-Some.ensures.some c.loop-table.invariant.goes) in
-    let a = c.leave_outermost.ensures in
     record {
-      hands = leaving_named c.loop-table.invariant.hands c.in-Some.ensures.some w a.came none a.hand;
-      goes = subst (λ us. Unwinding u w ts us) (sym none) (unwinding_ends left a.came a.serves a.course);
+      hands = leaving_named c.loop-table.invariant.hands c.in-Some.ensures.some w c.leave_outermost.ensures.came none c.leave_outermost.ensures.hand;
+      goes = subst (λ us. Unwinding u w ts us) (sym none) (unwinding_ends left c.leave_outermost.ensures.came c.leave_outermost.ensures.serves c.leave_outermost.ensures.course);
     }
 
 pub loop-table-preserved : goal.loop-table-preserved
@@ -49,14 +43,10 @@ loop-table-preserved g c =
     let u = g.P.Port.value c.args.port.now in
     let v = g.P.Port.value c.loop-table.port in
     let w = g.P.Port.value c.leave_inside.new.port in
-    let t = c.in-Some.table in
     let ts = c.args.stack.now in
     let left = subst (λ us. Unwinding u v ts us) c.in-Some.ensures.some c.loop-table.invariant.goes in
     let a = c.leave_inside.ensures in
-    record {
-      hands = leaving_inside c.loop-table.invariant.hands c.in-Some.ensures.some w a.came a.stands a.course;
-      goes = unwinding_on left a.came a.serves a.course;
-    }
+    record { hands = leaving_inside c.loop-table.invariant.hands c.in-Some.ensures.some w a.came a.stands a.course; goes = unwinding_on left a.came a.serves a.course }
 
 pub returns-clause-serves : goal.returns-clause-serves
 returns-clause-serves g c = (unwinding_done c.loop-table.invariant.goes c.in_default.ensures.none.0).0

@@ -1,7 +1,7 @@
-use Rattle.std.proofs.Common.{Err, Ok, ap, ◌∙◌, None}
+use Rattle.std.proofs.Common.{Err, ap, ◌∙◌}
 use Rattle.std.proofs.lemmas.Result.{err_from_is_err_and}
-use Rattle.table_words.specs.declared.old_words.OldWord.TheVariants.{First, Second}
-use Rattle.level_release.specs.Course.{SettledOneTo, SettledTo, both}
+use Rattle.table_words.specs.declared.old_words.OldWord.TheVariants.{Second}
+use Rattle.level_release.specs.Course.{both}
 use Rattle.level_release.proofs.Consulting.{by_then}
 use Rattle.level_release.proofs.Falling.{none_left}
 use Rattle.level_release.proofs.Settled.{both_serve, both_stop, first_by}
@@ -24,12 +24,9 @@ returns-clause-stops g c owner pages =
 
 pub returns-clause-course : goal.returns-clause-course
 returns-clause-course g c =
-    let v = g.P.Port.value c.args.port.now in
     let u = g.P.Port.value c.settle_word.new.port in
-    let w = g.P.Port.value c.settle_word-2.new.port in
-    let answer = c.settle_word-2.result in
-    by_then (λ answers. SettledOneTo c.args.left.now c.settle_word.new.left v First u answers (Ok tt)) (λ more. SettledOneTo None c.settle_word-2.new.left u Second w more answer) (λ answers. SettledTo c.args.left.now c.settle_word-2.new.left v w answers answer) c.in_ok-settle_word.ensures.says
-    (λ answers more one two. (both u w answers more answer one.0 two.0, two.1)) c.in_ok-settle_word.ensures.course c.settle_word-2.ensures.course
+    by_then c.in_ok-settle_word.ensures.says (λ answers more one two. (both u (g.P.Port.value c.settle_word-2.new.port) answers more c.settle_word-2.result one.0 two.0, two.1))
+    c.in_ok-settle_word.ensures.course c.settle_word-2.ensures.course
 
 pub returns-clause-none : goal.returns-clause-none
 returns-clause-none g c =
