@@ -53,9 +53,8 @@ module _ {u v : PortValue} {which : OldWord} {f word : ℕ} (t : TookOld u v whi
     pub released_serves : Serves v w (of_release f owner pages answer) (misses v.post.machine answer) → Serves u w (of_settle owner pages answer) (misses u.post.machine answer)
     released_serves serves =
         let ds = misses u.post.machine answer in
-        subst (λ es. Serves u w (of_settle owner pages answer) es) (append-nil ds)
-        (serves_inner u v w (of_settle owner pages answer) (of_release f owner pages answer) [] ds inside (took_serves t owner pages (is_due_answer answer))
-        (subst (λ (p : Post). Serves v w (of_release f owner pages answer) (misses p.machine answer)) same_post serves))
+        subst (λ es. Serves u w (of_settle owner pages answer) es) (append-nil ds) (serves_inner u v w (of_settle owner pages answer) (of_release f owner pages answer) [] ds inside
+        (took_serves t owner pages (is_due_answer answer)) (subst (λ (p : Post). Serves v w (of_release f owner pages answer) (misses p.machine answer)) same_post serves))
 
     released_stop : (e : Stop) → IsReleaseEnd e → Stops v w (of_release f owner pages answer) e → Stops u w (of_settle owner pages answer) e
     released_stop e end stops = stops_later u v w (of_settle owner pages answer) (of_release f owner pages answer) e (end_uncounted e end) inside (took_came t owner pages (is_due_answer answer)) stops

@@ -36,9 +36,8 @@ module _ (v w : PortValue) {t : TableWork} {rest ts : List TableWork} (are : ts 
   pub lowered_opened : {a : Released} {f recorded : ℕ} {closing : Bool} {us xs : List TableWork} → a ≡ Opened f recorded closing → us ≡ advanced ts → xs ≡ table_under t f recorded closing ∷ us →
       ReleasesFound v w t.frame (511 - t.done) k (Ok a) → TwinRelease v w t.frame k (511 - t.done) (Ok a) → Lowered v ts w xs (Ok false)
   lowered_opened {a} {f} {recorded} {closing} {xs} so on pushed found plain =
-      subst (λ ys. Lowered v ys w xs (Ok false)) (sym are)
-      (subst (λ ys. Lowered v (t ∷ rest) w ys (Ok false)) (sym (pushed ∙ ap (λ ys. table_under t f recorded closing ∷ ys) (on ∙ ap (λ ys. advanced ys) are)))
-      (opened v w t rest f recorded closing few (done_so so found plain)))
+      subst (λ ys. Lowered v ys w xs (Ok false)) (sym are) (subst (λ ys. Lowered v (t ∷ rest) w ys (Ok false))
+      (sym (pushed ∙ ap (λ ys. table_under t f recorded closing ∷ ys) (on ∙ ap (λ ys. advanced ys) are))) (opened v w t rest f recorded closing few (done_so so found plain)))
 
   pub lowered_stopped : {e : Stop} {answer : Result Bool Stop} → answer ≡ Err e → ReleasesFound v w t.frame (511 - t.done) k (Err e) → TwinRelease v w t.frame k (511 - t.done) (Err e) →
       ((owner pages : ℕ) → Stops v w (of_entries owner pages) e) → Lowered v ts w ts answer

@@ -118,9 +118,8 @@ module _ {n : Machine} {s : ℕ} {h : Holdings} {p : Place} {w : ℕ} (finds : F
 
     no_claim : claim_of f h.claimed ≡ None
     no_claim =
-        first_by-none (λ (y : Claimed). y.frame) f h.claimed
-        (subst (λ (u : Holdings). claims_of f u.claimed ≡ 0) finds.mine (no_claims (endings_of f (finds.hands s).ending)
-        (counted_alive n finds.words finds.hands finds.sound.alone f s finds.real counted)))
+        first_by-none (λ (y : Claimed). y.frame) f h.claimed (subst (λ (u : Holdings). claims_of f u.claimed ≡ 0) finds.mine
+        (no_claims (endings_of f (finds.hands s).ending) (counted_alive n finds.words finds.hands finds.sound.alone f s finds.real counted)))
 
     bare : Holdings
     bare = record h { works = [] }

@@ -156,8 +156,8 @@ module _ {h : Holdings} {v x : PortValue} {t : TableWork} {ts : List TableWork} 
   same_work =
       let old = top s in
       let new = top now in
-      let both : new.work ∷ new.others ≡ old.work ∷ old.others = sym new.are ∙ ap (λ (q : PortValue). q.holdings.works) same ∙ old.are in let one : new.work ≡ old.work = cc in let low = old.is.earlier
-      in subst (λ (e : Work). e.since ≤ length v.holdings.steps) (sym one) low
+      let both : new.work ∷ new.others ≡ old.work ∷ old.others = sym new.are ∙ ap (λ (q : PortValue). q.holdings.works) same ∙ old.are in let one : new.work ≡ old.work = cc in let
+      low = old.is.earlier in subst (λ (e : Work). e.since ≤ length v.holdings.steps) (sym one) low
 
   pub close_leaves : MayLeave x t.frame k
   close_leaves = subst (λ y. MayLeave x t.frame y) (sym is_dead) (dead_leaves now empty clock small (clock_since v x clock (top now).work.since look same_work))

@@ -68,8 +68,8 @@ module _ {h : Holdings} {v : PortValue} {t : TableWork} {ts : List TableWork} (s
   pub partial_leaves : MayLeave v t.frame (left_kind t)
   partial_leaves =
       let e = top s in
-      subst (λ n. MayLeave v t.frame (partial_kind (level_type t.level) false false n 0)) left_over
-      (may_leave_partial v t.frame (level_type t.level) e.work (top_here s) (level_type-typed t.level) e.is.kind false (λ on. absurd cc) (top_table s) (top_few s) (inl e.is.unmarked) (held t.own refl))
+      subst (λ n. MayLeave v t.frame (partial_kind (level_type t.level) false false n 0)) left_over (may_leave_partial v t.frame (level_type t.level) e.work (top_here s) (level_type-typed t.level)
+      e.is.kind false (λ on. absurd cc) (top_table s) (top_few s) (inl e.is.unmarked) (held t.own refl))
 
   pub partial_hand : (d : PortValue) → Holds v d (left v t.frame (left_kind t)) → LeftHand h v d t ts (top s).others
   partial_hand d hand = by_own t.own refl

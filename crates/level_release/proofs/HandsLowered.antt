@@ -95,8 +95,8 @@ module _ {h : Holdings} {v : PortValue} (w : PortValue) {t : TableWork} {stack t
     pub lower_given : a ≡ Given → Empties h w next
     lower_given is =
         let given = subst (λ (r : Released). LeavesReleased v w t.frame kind (511 - t.done) r) is leaves in
-        subst (λ xs. Empties h w xs) (sym (goes_on ∙ ap advanced are))
-        (given_stands now (lower_first w t.frame (511 - t.done) kind answer found) (511 - t.done) given.0 all given.1 (lower_came v w t.frame (511 - t.done) kind answer found))
+        subst (λ xs. Empties h w xs) (sym (goes_on ∙ ap advanced are)) (given_stands now (lower_first w t.frame (511 - t.done) kind answer found) (511 - t.done) given.0 all given.1
+        (lower_came v w t.frame (511 - t.done) kind answer found))
 
     pub lower_opened : {g recorded : ℕ} {closing : _} → a ≡ Opened g recorded closing → OwnsReleased v w t.frame a → (new : List TableWork) → new ≡ table_under t g recorded closing ∷ next → Empties h w new
     lower_opened {g} {recorded} {closing} is owns new pushed =

@@ -138,10 +138,9 @@ module _ {h : Holdings} {v : PortValue} {t u : TableWork} {us : List TableWork} 
 
     known_x : (g : ℕ) → t.frame ≢ g → IsTrue (knows_owner (sizes_of v.post.machine) g s.owner v.holdings) → IsTrue (knows_owner (sizes_of v.post.machine) g s.owner x.holdings)
     known_x g other knows =
-        known_still (sizes_of v.post.machine) g s.owner d.holdings x.holdings (came_grows d x came)
-        (still_same (λ (y : Reference). y.frame) g (ap (λ (q : PortValue). q.holdings.refs) recorded_hand ∙ sym (ap (λ (q : PortValue). q.holdings.refs) k.hand)))
-        (still_less (λ (y : TypedReference). y.frame) g (λ same. other (sym k.frame ∙ same))
-        (left_typed s k ∙ ap (λ ys. k.ref ∷ ys) (sym (ap (λ (q : PortValue). q.holdings.typed) recorded_hand))))
+        known_still (sizes_of v.post.machine) g s.owner d.holdings x.holdings (came_grows d x came) (still_same (λ (y : Reference). y.frame) g
+        (ap (λ (q : PortValue). q.holdings.refs) recorded_hand ∙ sym (ap (λ (q : PortValue). q.holdings.refs) k.hand)))
+        (still_less (λ (y : TypedReference). y.frame) g (λ same. other (sym k.frame ∙ same)) (left_typed s k ∙ ap (λ ys. k.ref ∷ ys) (sym (ap (λ (q : PortValue). q.holdings.typed) recorded_hand))))
         (ap (λ (q : PortValue). q.holdings.locks) recorded_hand ∙ sym (ap (λ (q : PortValue). q.holdings.locks) k.hand)) (known_d g s.owner knows)
 
     owned_x : AreOwned (sizes_of v.post.machine) s.owner (u ∷ us) x.holdings
@@ -151,15 +150,11 @@ module _ {h : Holdings} {v : PortValue} {t u : TableWork} {us : List TableWork} 
     inside_stands =
         let z = sizes_of v.post.machine in
         let made = length v.holdings.steps in
-        let one = came_longer v d (moves_came v d _ _ kinds.Kind None found store) in
-        let two = came_longer d x came in
-        let longer : made ≤ length x.holdings.steps = omega (arith, one, two) in
-        let few = s.stack.2.0.done in
-        hands_by x (one_less u ∷ us) k.refs k.typed (again ∷ outer.others) s recorded_hand
-        (record { low = s.stack.2.0.low; high = s.stack.2.0.high; done = omega (arith, few) }, s.stack.2.1, s.stack.2.2)
-        (tables_later z made (length x.holdings.steps) None (one_less u ∷ us) (again ∷ outer.others) longer
-        (recorded_is unsettled outer.inside.inside next_one outer.is, tt, tables_done z made u (u.done - 1) us outer.others outer.around))
-        k.are_refs (typed_later made (length x.holdings.steps) (u ∷ us) k.typed longer k.are_typed) owned_x
+        let longer : made ≤ length x.holdings.steps = omega (arith, (came_longer v d (moves_came v d _ _ kinds.Kind None found store)), (came_longer d x came)) in let few = s.stack.2.0.done
+        in hands_by x (one_less u ∷ us) k.refs k.typed (again ∷ outer.others) s recorded_hand (record { low = s.stack.2.0.low; high = s.stack.2.0.high; done = omega (arith, few) }, s.stack.2.1,
+        s.stack.2.2) (tables_later z made (length x.holdings.steps) None (one_less u ∷ us) (again ∷ outer.others) longer
+        (recorded_is unsettled outer.inside.inside next_one outer.is, tt, tables_done z made u (u.done - 1) us outer.others outer.around)) k.are_refs
+        (typed_later made (length x.holdings.steps) (u ∷ us) k.typed longer k.are_typed) owned_x
 
 -- ---- whatever stack it was in
 outer_is : (u : TableWork) {o : TableWork} {us rest : List TableWork} → one_less u ∷ us ≡ o ∷ rest → one_less u ≡ o

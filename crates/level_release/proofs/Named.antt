@@ -66,8 +66,8 @@ module _ {u v : PortValue} {which : OldWord} {f word : ℕ} (t : TookOld u v whi
 
   pub took_serves : Serves u v request []
   took_serves =
-      serves_step u t.b v request [] (Kind f) Load kinds.Look None word
-      (old_serves u owner pages rose which [] (moves_serves u t.a request (old_place u.post.vcpu which) Load kinds.Look None (f + 1) t.look tt) came_a t.take) t.kind tt
+      serves_step u t.b v request [] (Kind f) Load kinds.Look None word (old_serves u owner pages rose which []
+      (moves_serves u t.a request (old_place u.post.vcpu which) Load kinds.Look None (f + 1) t.look tt) came_a t.take) t.kind tt
 
   -- ---- the frame is asked
   alive : is_dead (kind_fields word) ≡ false

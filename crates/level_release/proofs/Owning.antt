@@ -39,9 +39,9 @@ counted_owned w some = owned_by (ref_read w) some
 
 pub held_owned : {n : Machine} {s : ℕ} {h : Holdings} {f w : ℕ} → Finds n s h (Refs f) w → 0 < refs_to f h.refs + typed_to f h.typed → (owner : ℕ) × (owner_of w ≡ Some owner)
 held_owned {n} {s} {h} {f} {w} finds held =
-    let m = finds.words in
-    let mine : hand f (finds.hands s) ≡ hand f h = ap (λ (u : Holdings). hand f u) finds.mine in let sum = hand_is f h in let typed = typed_hand_is f h in let some : 0 < ref_count (m (Refs f)) = omega
-    (arith, (finds.sound.counts.refs f), (hands-part (hand f) (sizes_of n) finds.hands s finds.real), mine, sum, typed, held) in counted_owned w (subst (λ y. 0 < ref_count y) finds.word some)
+    let mine : hand f (finds.hands s) ≡ hand f h = ap (λ (u : Holdings). hand f u) finds.mine in let sum = hand_is f h in let typed = typed_hand_is f h in let some : 0 < ref_count
+    (finds.words (Refs f)) = omega (arith, (finds.sound.counts.refs f), (hands-part (hand f) (sizes_of n) finds.hands s finds.real), mine, sum, typed, held) in counted_owned w
+    (subst (λ y. 0 < ref_count y) finds.word some)
 
 -- ---- it is known by the newest reference
 pub first_passes : {A : Type 0} (test : A → Bool) (e : A) (xs ys : List A) → ys ≡ e ∷ xs → IsTrue (test e) → IsTrue (some_of test ys)

@@ -97,14 +97,14 @@ module _ {u v : PortValue} {which : OldWord} {f word : ℕ} (t : TookOld u v whi
   pub lost_named : (d w : PortValue) (found : ℕ) (e : Stop) → Holds v d (looked_at f found v.holdings) → Holds d w (kept_in_old First f d.holdings) → LeavesUnheld v w f (Err e)
   lost_named d w found e hand kept =
       let same = lost_typed d found hand in
-      named_again d w e (ap (λ (q : PortValue). q.holdings.typed) same ∙ took_typed t) refl kept
-      ∙ ap (λ (q : PortValue). still (record q { holdings = record q.holdings { typed = []; old0 = Some (f + 1) } })) same
+      named_again d w e (ap (λ (q : PortValue). q.holdings.typed) same ∙ took_typed t) refl kept ∙ ap (λ (q : PortValue). still
+      (record q { holdings = record q.holdings { typed = []; old0 = Some (f + 1) } })) same
 
   module _ {d : PortValue} (change : Moves v d (Kind f) (Cas (kind_write k) (kind_write (resumed_kind k))) kinds.Kind None (kind_write k)) (hand : Holds v d (resumed_work f k v.holdings)) where
     resumed_hand : Holds v d (record v.holdings { works = item ∷ v.holdings.works })
     resumed_hand =
-        hand ∙ ap (λ h. still (record v { holdings = h })) (resumed_unkept f k v.holdings mark_off)
-        ∙ ap (λ xs. still (record v { holdings = record v.holdings { looking = xs; works = item ∷ v.holdings.works } })) (looks_none f (kind_write (resumed_kind k)) v.holdings.looking (took_looking t))
+        hand ∙ ap (λ h. still (record v { holdings = h })) (resumed_unkept f k v.holdings mark_off) ∙ ap
+        (λ xs. still (record v { holdings = record v.holdings { looking = xs; works = item ∷ v.holdings.works } })) (looks_none f (kind_write (resumed_kind k)) v.holdings.looking (took_looking t))
 
     resumed_typed : d.holdings.typed ≡ named_ref f (named_since t) ∷ []
     resumed_typed = ap (λ (q : PortValue). q.holdings.typed) resumed_hand ∙ took_typed t
@@ -196,9 +196,9 @@ module _ {u v : PortValue} {which : OldWord} {f word : ℕ} (t : TookOld u v whi
 
       pub dead_may : k.progress ≡ 0 → MayLeave a f (dead_kind k.kind k.unflushed clock)
       dead_may none =
-          let more = longer in
           may_leave_dead a f k.kind item at_a typed_kind k.unflushed clock (ap (λ (y : KindWord). y.kind) item_fields) none (inl (sym (ap (λ (y : KindWord). y.unflushed) item_fields))) small
-          (clock_since d a clock (length v.holdings.steps + 1) look (omega (arith, more))) (λ work. subst (λ ys. 0 < typed_to f ys) (sym typed_a) (typed_held f (named_ref f (named_since t)) [] refl))
+          (clock_since d a clock (length v.holdings.steps + 1) look (omega (arith, longer))) (λ work. subst (λ ys. 0 < typed_to f ys) (sym typed_a)
+          (typed_held f (named_ref f (named_since t)) [] refl))
 
       abbrev back_ref : Reference
       back_ref = record { frame = f; owner = typed_owner f a.holdings }

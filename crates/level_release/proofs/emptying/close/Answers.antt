@@ -41,14 +41,9 @@ returns-clause-settled g c =
 
 pub returns-clause-serves : goal.returns-clause-serves
 returns-clause-serves g c =
-    let a = c.requires.stands in
-    let x = g.P.Port.value c.look_clock-clock.new.port in
-    let d = g.P.Port.value c.leave.new.port in
-    let t = c.args.table in
-    let clock = c.look_clock-clock.result in
-    let is = c.dead_kind.ensures ∙ ap (λ k. dead_kind k false clock) c.level_type.ensures in
-    closes (g.P.Port.value c.put_ref.new.port) a.1.1 c.look_clock-clock.ensures.moves c.look_clock-clock.ensures.hand
-    (subst (λ (l : KindWord). Moves x d (Kind t.frame) (Store (kind_write l)) kinds.Kind None c.leave.result) is c.leave.ensures.moves) c.put_ref.ensures.serves
+    closes (g.P.Port.value c.put_ref.new.port) c.requires.stands.1.1 c.look_clock-clock.ensures.moves c.look_clock-clock.ensures.hand
+    (subst (λ (l : KindWord). Moves (g.P.Port.value c.look_clock-clock.new.port) (g.P.Port.value c.leave.new.port) (Kind c.args.table.frame) (Store (kind_write l)) kinds.Kind None c.leave.result)
+    (c.dead_kind.ensures ∙ ap (λ k. dead_kind k false c.look_clock-clock.result) c.level_type.ensures) c.leave.ensures.moves) c.put_ref.ensures.serves
 
 pub returns-clause-course : goal.returns-clause-course
 returns-clause-course g c =

@@ -64,5 +64,5 @@ returns-in-Err-clause-stops g c =
 
 pub returns-in-Err-clause-course : goal.returns-in-Err-clause-course
 returns-in-Err-clause-course g c =
-    empties_paused c.args.left.now (g.P.Port.value c.args.port.now) (g.P.Port.value c.run_down.new.port) c.run_down.new.stack (c.push.ensures.pushed ∙ ap (λ ts. c.args.table ∷ ts) c.new-stack.ensures)
-    _ _ _ _ _ c.left_by.ensures c.unwind.ensures.course c.in-Err.ensures.course
+    empties_paused c.args.left.now (g.P.Port.value c.args.port.now) (g.P.Port.value c.run_down.new.port) c.run_down.new.stack
+    (c.push.ensures.pushed ∙ ap (λ ts. c.args.table ∷ ts) c.new-stack.ensures) _ _ _ _ _ c.left_by.ensures c.unwind.ensures.course c.in-Err.ensures.course

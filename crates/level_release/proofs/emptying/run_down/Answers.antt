@@ -33,11 +33,10 @@ returns-in_err-lower-clause-serves g c =
 
 pub returns-in_err-lower-clause-stops : goal.returns-in_err-lower-clause-stops
 returns-in_err-lower-clause-stops g c =
-    let u = g.P.Port.value c.args.port.now in
     let w = g.P.Port.value c.lower.new.port in
-    let ts = c.args.stack.now in
     let answer = err_from_is_err_and c.from_residual.result c.from_residual.ensures.1 in
-    risen_answer u w ts (answer.1 ∙ ap Err answer.2) (serving_stops c.loop-below.invariant.goes w c.lower.new.stack c.in_err-lower.ensures.came c.in_err-lower.field-0.0 c.in_err-lower.ensures.stops)
+    risen_answer (g.P.Port.value c.args.port.now) w c.args.stack.now (answer.1 ∙ ap Err answer.2) (serving_stops c.loop-below.invariant.goes w c.lower.new.stack c.in_err-lower.ensures.came
+    c.in_err-lower.field-0.0 c.in_err-lower.ensures.stops)
 
 pub returns-in_err-lower-clause-course : goal.returns-in_err-lower-clause-course
 returns-in_err-lower-clause-course g c =
@@ -55,10 +54,9 @@ returns-then-due-clause-stops g c =
 
 pub returns-then-due-clause-course : goal.returns-then-due-clause-course
 returns-then-due-clause-course g c =
-    let v = g.P.Port.value c.loop-below.port in
     let w = g.P.Port.value c.lower.new.port in
-    runs_due c.loop-below.invariant.course w c.lower.new.stack (subst (λ b. Lowered v c.loop-below.stack w c.lower.new.stack (Ok b)) c.if-branch.true c.in_ok-lower.ensures.course)
-    (sym c.if-is_asked.ensures) _ c.loop-below.invariant.says _ c.if-due.ensures.1.0 c.if-due.ensures.1.1.0 c.if-due.ensures.0
+    runs_due c.loop-below.invariant.course w c.lower.new.stack (subst (λ b. Lowered (g.P.Port.value c.loop-below.port) c.loop-below.stack w c.lower.new.stack (Ok b)) c.if-branch.true
+    c.in_ok-lower.ensures.course) (sym c.if-is_asked.ensures) _ c.loop-below.invariant.says _ c.if-due.ensures.1.0 c.if-due.ensures.1.1.0 c.if-due.ensures.0
 
 pub returns-then-due-clause-stands : goal.returns-then-due-clause-stands
 returns-then-due-clause-stands g c h s = c.lower.ensures.stands h (c.loop-below.invariant.hands.stands h s)

@@ -77,15 +77,13 @@ returns-then-drop_type-clause-hand g c =
 
 pub returns-then-drop_type-clause-serves : goal.returns-then-drop_type-clause-serves
 returns-then-drop_type-clause-serves g c owner pages =
-    let v = g.P.Port.value c.args.port.now in
-    let rose = is_due_answer c.empty.result in
-    emptied_serves (g.P.Port.value c.empty.new.port) (closed_piece v c.args.frame owner pages rose refl c.drop_type.ensures.serves c.look_refs.ensures.moves) c.empty.result c.empty.ensures.serves
+    emptied_serves (g.P.Port.value c.empty.new.port) (closed_piece (g.P.Port.value c.args.port.now) c.args.frame owner pages (is_due_answer c.empty.result) refl c.drop_type.ensures.serves
+    c.look_refs.ensures.moves) c.empty.result c.empty.ensures.serves
 
 pub returns-then-drop_type-clause-stops : goal.returns-then-drop_type-clause-stops
 returns-then-drop_type-clause-stops g c owner pages =
-    let v = g.P.Port.value c.args.port.now in
-    let rose = is_due_answer c.empty.result in
-    answer_stops (g.P.Port.value c.empty.new.port) c.empty.result refl (closed_piece v c.args.frame owner pages rose refl c.drop_type.ensures.serves c.look_refs.ensures.moves) c.empty.ensures.stops
+    answer_stops (g.P.Port.value c.empty.new.port) c.empty.result refl (closed_piece (g.P.Port.value c.args.port.now) c.args.frame owner pages (is_due_answer c.empty.result) refl
+    c.drop_type.ensures.serves c.look_refs.ensures.moves) c.empty.ensures.stops
 
 pub returns-then-drop_type-clause-course : goal.returns-then-drop_type-clause-course
 returns-then-drop_type-clause-course g c =
@@ -100,5 +98,5 @@ returns-then-drop_type-clause-course g c =
 pub returns-then-drop_type-clause-kinds : goal.returns-then-drop_type-clause-kinds
 returns-then-drop_type-clause-kinds g c =
     let v = g.P.Port.value c.args.port.now in
-    let a = g.P.Port.value c.drop_type.new.port in
-    c.empty.ensures.settled (closed_settled c.requires.holds (subst (λ b. DropsType v a c.args.frame b) c.if-drop_type.true c.drop_type.ensures.drops) c.look_refs.ensures.moves c.look_refs.ensures.hand c.level_of.result c.level_of.ensures.kind)
+    c.empty.ensures.settled (closed_settled c.requires.holds (subst (λ b. DropsType v (g.P.Port.value c.drop_type.new.port) c.args.frame b) c.if-drop_type.true c.drop_type.ensures.drops)
+    c.look_refs.ensures.moves c.look_refs.ensures.hand c.level_of.result c.level_of.ensures.kind)

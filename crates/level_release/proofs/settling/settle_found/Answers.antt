@@ -34,16 +34,14 @@ returns-then-kind-clause-serves g c u which t owner pages =
 
 pub returns-then-kind-clause-stops : goal.returns-then-kind-clause-stops
 returns-then-kind-clause-stops g c u which t owner pages =
-    let v = g.P.Port.value c.args.port.now in
     let w = g.P.Port.value c.release_within.new.port in
-    released_stops t owner pages w c.release_within.result (serves_came v w (of_release c.args.frame owner pages c.release_within.result) _ (c.release_within.ensures.serves owner pages))
-    c.release_within.ensures.kinds (c.release_within.ensures.stops owner pages)
+    released_stops t owner pages w c.release_within.result (serves_came (g.P.Port.value c.args.port.now) w (of_release c.args.frame owner pages c.release_within.result) _
+    (c.release_within.ensures.serves owner pages)) c.release_within.ensures.kinds (c.release_within.ensures.stops owner pages)
 
 pub returns-then-kind-clause-course : goal.returns-then-kind-clause-course
 returns-then-kind-clause-course g c u which t =
-    let w = g.P.Port.value c.release_within.new.port in
-    by_as (λ answers released. live_course t c.read_kind-kind.ensures c.args.left.now c.release_within.new.left w answers c.release_within.result c.if-kind.true released)
-    c.release_within.ensures.course
+    by_as (λ answers released. live_course t c.read_kind-kind.ensures c.args.left.now c.release_within.new.left (g.P.Port.value c.release_within.new.port) answers c.release_within.result
+    c.if-kind.true released) c.release_within.ensures.course
 
 -- ---- it was found in another vCPU's hand: the first word names it again
 
@@ -69,8 +67,8 @@ returns-else-kind-2-clause-stops g c u which t owner pages =
     let w = g.P.Port.value c.put_old.new.port in
     let e = Paused (Busy c.args.frame c.args.found) in
     let fields = fields_of c.args.found c.read_kind-kind.result c.read_kind-kind.ensures in
-    stops_before u v w (of_settle {A = Unit {0}} owner pages (Err e)) e
-    (busy_stops t owner pages (ap (λ (k : KindWord). k.validated) fields ∙ c.if-kind.false) (ap (λ (k : KindWord). k.partial) fields ∙ c.if-kind-2.false)) (moves_came v w _ _ _ _ _ c.put_old.ensures.moves)
+    stops_before u v w (of_settle {A = Unit {0}} owner pages (Err e)) e (busy_stops t owner pages (ap (λ (k : KindWord). k.validated) fields ∙ c.if-kind.false)
+    (ap (λ (k : KindWord). k.partial) fields ∙ c.if-kind-2.false)) (moves_came v w _ _ _ _ _ c.put_old.ensures.moves)
 
 pub returns-else-kind-2-clause-course : goal.returns-else-kind-2-clause-course
 returns-else-kind-2-clause-course g c u which t =

@@ -60,10 +60,9 @@ empty-requires-clause-stands g c = (
 pub returns-in-Ok-clause-hand : goal.returns-in-Ok-clause-hand
 returns-in-Ok-clause-hand g c u which t =
     let w = g.P.Port.value c.empty.new.port in
-    took_settled w t c.empty.result
-    (resumed_released t c.requires.read c.requires.partial c.in-Ok.ensures.moves c.in-Ok.ensures.hand c.look_refs.ensures.moves c.look_refs.ensures.hand
-    c.level_of.result c.level_of.ensures.kind c.level_of.ensures.low c.level_of.ensures.high (recorded_some c.args.kind (sym c.has_recorded.ensures ∙ c.if-has_recorded.true)).1 c.requires.frame w c.empty.result c.empty.ensures.came
-    c.empty.ensures.hand)
+    took_settled w t c.empty.result (resumed_released t c.requires.read c.requires.partial c.in-Ok.ensures.moves c.in-Ok.ensures.hand c.look_refs.ensures.moves c.look_refs.ensures.hand
+    c.level_of.result c.level_of.ensures.kind c.level_of.ensures.low c.level_of.ensures.high (recorded_some c.args.kind (sym c.has_recorded.ensures ∙ c.if-has_recorded.true)).1 c.requires.frame w
+    c.empty.result c.empty.ensures.came c.empty.ensures.hand)
 
 pub returns-in-Ok-clause-rests : goal.returns-in-Ok-clause-rests
 returns-in-Ok-clause-rests g c = settled_rests c.requires.took.1 c.empty.result c.requires.took.2.rests (returns-in-Ok-clause-hand g c c.requires.took.0 c.requires.took.1 c.requires.took.2)
@@ -72,10 +71,8 @@ returns-in-Ok-clause-rests g c = settled_rests c.requires.took.1 c.empty.result 
 
 pub leave-requires-clause-leaves : goal.leave-requires-clause-leaves
 leave-requires-clause-leaves g c =
-    let t = c.requires.took in
-    rw c.dead_kind.ensures
-    (dead_may t.2 c.requires.read c.requires.partial c.in-Ok.ensures.moves c.in-Ok.ensures.hand c.look_clock-clock.ensures.moves
-    c.look_clock-clock.ensures.hand (recorded_none c.args.found c.requires.read c.requires.partial (sym c.has_recorded.ensures ∙ c.if-has_recorded.false)))
+    rw c.dead_kind.ensures (dead_may c.requires.took.2 c.requires.read c.requires.partial c.in-Ok.ensures.moves c.in-Ok.ensures.hand c.look_clock-clock.ensures.moves c.look_clock-clock.ensures.hand
+    (recorded_none c.args.found c.requires.read c.requires.partial (sym c.has_recorded.ensures ∙ c.if-has_recorded.false)))
 
 pub put_ref-requires-clause-gives : goal.put_ref-requires-clause-gives
 put_ref-requires-clause-gives g c =
@@ -96,9 +93,8 @@ returns-in-Ok-2-clause-hand g c u which t =
     let a = g.P.Port.value c.look_clock-clock.new.port in
     let e = g.P.Port.value c.leave.new.port in
     let w = g.P.Port.value c.put_ref.new.port in
-    took_settled w t (Ok tt)
-    (dead_released t c.requires.read c.requires.partial c.in-Ok.ensures.moves c.in-Ok.ensures.hand c.look_clock-clock.ensures.moves
-    c.look_clock-clock.ensures.hand e (subst (λ k. Holds a e (left a c.args.frame k)) c.dead_kind.ensures c.leave.ensures.hand) w c.put_ref.ensures.hand)
+    took_settled w t (Ok tt) (dead_released t c.requires.read c.requires.partial c.in-Ok.ensures.moves c.in-Ok.ensures.hand c.look_clock-clock.ensures.moves c.look_clock-clock.ensures.hand e
+    (subst (λ k. Holds a e (left a c.args.frame k)) c.dead_kind.ensures c.leave.ensures.hand) w c.put_ref.ensures.hand)
 
 pub returns-in-Ok-2-clause-rests : goal.returns-in-Ok-2-clause-rests
 returns-in-Ok-2-clause-rests g c = settled_rests c.requires.took.1 (Ok tt) c.requires.took.2.rests (returns-in-Ok-2-clause-hand g c c.requires.took.0 c.requires.took.1 c.requires.took.2)
@@ -107,59 +103,50 @@ returns-in-Ok-2-clause-rests g c = settled_rests c.requires.took.1 (Ok tt) c.req
 
 pub returns-in-Err-clause-serves : goal.returns-in-Err-clause-serves
 returns-in-Err-clause-serves g c u which t owner pages =
-    let e = c.lost-stop.result in
-    let rose = is_due_stop e in
-    again_serves t owner pages rose (missed u.post.machine e) (lost_serves t owner pages rose c.requires.read c.requires.partial c.in-Err.ensures.moves c.in-Err.ensures.lost c.lost-stop.ensures)
-    (change_came t owner pages rose c.requires.read c.requires.partial c.in-Err.ensures.moves) c.put_old.ensures.moves
+    let rose = is_due_stop c.lost-stop.result in
+    again_serves t owner pages rose (missed u.post.machine c.lost-stop.result) (lost_serves t owner pages rose c.requires.read c.requires.partial c.in-Err.ensures.moves c.in-Err.ensures.lost
+    c.lost-stop.ensures) (change_came t owner pages rose c.requires.read c.requires.partial c.in-Err.ensures.moves) c.put_old.ensures.moves
 
 pub returns-in-Err-clause-stops : goal.returns-in-Err-clause-stops
 returns-in-Err-clause-stops g c u which t owner pages =
     let d = g.P.Port.value c.resume_work.new.port in
     let w = g.P.Port.value c.put_old.new.port in
-    let e = c.lost-stop.result in
-    let rose = is_due_stop e in
-    stops_before u d w (settling owner pages rose) e (lost_stops t owner pages rose c.requires.read c.requires.partial c.in-Err.ensures.moves c.in-Err.ensures.lost c.lost-stop.ensures)
-    (moves_came d w _ _ _ _ _ c.put_old.ensures.moves)
+    let rose = is_due_stop c.lost-stop.result in
+    stops_before u d w (settling owner pages rose) c.lost-stop.result (lost_stops t owner pages rose c.requires.read c.requires.partial c.in-Err.ensures.moves c.in-Err.ensures.lost
+    c.lost-stop.ensures) (moves_came d w _ _ _ _ _ c.put_old.ensures.moves)
 
 pub returns-in-Ok-clause-serves : goal.returns-in-Ok-clause-serves
 returns-in-Ok-clause-serves g c u which t owner pages =
-    let answer = c.empty.result in
-    emptied_serves (g.P.Port.value c.empty.new.port) (resumed_piece t owner pages (is_due_answer answer) c.requires.read c.requires.partial c.in-Ok.ensures.moves refl refl c.look_refs.ensures.moves)
-    answer c.empty.ensures.serves
+    emptied_serves (g.P.Port.value c.empty.new.port) (resumed_piece t owner pages (is_due_answer c.empty.result) c.requires.read c.requires.partial c.in-Ok.ensures.moves refl refl
+    c.look_refs.ensures.moves) c.empty.result c.empty.ensures.serves
 
 pub returns-in-Ok-clause-stops : goal.returns-in-Ok-clause-stops
 returns-in-Ok-clause-stops g c u which t owner pages =
-    let answer = c.empty.result in
-    answer_stops (g.P.Port.value c.empty.new.port) answer refl
-    (resumed_piece t owner pages (is_due_answer answer) c.requires.read c.requires.partial c.in-Ok.ensures.moves refl refl c.look_refs.ensures.moves)
-    c.empty.ensures.stops
+    answer_stops (g.P.Port.value c.empty.new.port) c.empty.result refl (resumed_piece t owner pages (is_due_answer c.empty.result) c.requires.read c.requires.partial c.in-Ok.ensures.moves refl refl
+    c.look_refs.ensures.moves) c.empty.ensures.stops
 
 pub returns-in-Ok-2-clause-serves : goal.returns-in-Ok-2-clause-serves
 returns-in-Ok-2-clause-serves g c u which t owner pages =
-    let a = g.P.Port.value c.look_clock-clock.new.port in
-    let e = g.P.Port.value c.leave.new.port in
-    let k = c.args.kind in
-    let f = c.args.frame in
-    let may = dead_may t c.requires.read c.requires.partial c.in-Ok.ensures.moves c.in-Ok.ensures.hand c.look_clock-clock.ensures.moves c.look_clock-clock.ensures.hand (recorded_none c.args.found c.requires.read c.requires.partial (sym c.has_recorded.ensures ∙ c.if-has_recorded.false)) in
-    dead_serves t owner pages false c.requires.read c.requires.partial c.in-Ok.ensures.moves refl (g.P.Port.value c.put_ref.new.port) (dead_kind k.kind k.unflushed c.look_clock-clock.result)
-    c.look_clock-clock.ensures.moves (at_a t c.requires.read c.requires.partial c.in-Ok.ensures.moves c.in-Ok.ensures.hand c.look_clock-clock.ensures.moves c.look_clock-clock.ensures.hand)
-    (working t c.requires.read c.requires.partial) (ap (λ (y : KindWord). y.kind) (item_fields t c.requires.read c.requires.partial)) may.is
-    (subst (λ y. Moves a e (Kind f) (Store (kind_write y)) kinds.Kind None c.leave.result) c.dead_kind.ensures c.leave.ensures.moves) c.put_ref.ensures.serves
+    dead_serves t owner pages false c.requires.read c.requires.partial c.in-Ok.ensures.moves refl (g.P.Port.value c.put_ref.new.port)
+    (dead_kind c.args.kind.kind c.args.kind.unflushed c.look_clock-clock.result) c.look_clock-clock.ensures.moves
+    (at_a t c.requires.read c.requires.partial c.in-Ok.ensures.moves c.in-Ok.ensures.hand c.look_clock-clock.ensures.moves c.look_clock-clock.ensures.hand)
+    (working t c.requires.read c.requires.partial) (ap (λ (y : KindWord). y.kind) (item_fields t c.requires.read c.requires.partial))
+    (dead_may t c.requires.read c.requires.partial c.in-Ok.ensures.moves c.in-Ok.ensures.hand c.look_clock-clock.ensures.moves c.look_clock-clock.ensures.hand
+    (recorded_none c.args.found c.requires.read c.requires.partial (sym c.has_recorded.ensures ∙ c.if-has_recorded.false))).is
+    (subst (λ y. Moves (g.P.Port.value c.look_clock-clock.new.port) (g.P.Port.value c.leave.new.port) (Kind c.args.frame) (Store (kind_write y)) kinds.Kind None c.leave.result) c.dead_kind.ensures
+    c.leave.ensures.moves) c.put_ref.ensures.serves
 
 -- ---- by which steps
 
 pub returns-in-Err-clause-course : goal.returns-in-Err-clause-course
 returns-in-Err-clause-course g c u which t =
-    let w = g.P.Port.value c.put_old.new.port in
-    by_none (lost_undue _ _ _ c.lost-stop.ensures)
-    (lost_course t c.requires.read c.requires.partial c.in-Err.ensures.moves c.args.left.now w c.in-Err.ensures.lost c.lost-stop.ensures c.put_old.ensures.moves)
+    by_none (lost_undue _ _ _ c.lost-stop.ensures) (lost_course t c.requires.read c.requires.partial c.in-Err.ensures.moves c.args.left.now (g.P.Port.value c.put_old.new.port) c.in-Err.ensures.lost
+    c.lost-stop.ensures c.put_old.ensures.moves)
 
 pub returns-in-Ok-clause-course : goal.returns-in-Ok-clause-course
 returns-in-Ok-clause-course g c u which t =
-    let w = g.P.Port.value c.empty.new.port in
-    by_as
-    (λ answers emptied. emptied_course t c.requires.read c.requires.partial c.in-Ok.ensures.moves refl c.args.left.now c.empty.new.left w c.level_of.result answers c.empty.result
-    (sym c.has_recorded.ensures ∙ c.if-has_recorded.true) c.level_of.ensures.kind c.level_of.ensures.high c.look_refs.ensures.moves emptied) c.empty.ensures.course
+    by_as (λ answers emptied. emptied_course t c.requires.read c.requires.partial c.in-Ok.ensures.moves refl c.args.left.now c.empty.new.left (g.P.Port.value c.empty.new.port) c.level_of.result
+    answers c.empty.result (sym c.has_recorded.ensures ∙ c.if-has_recorded.true) c.level_of.ensures.kind c.level_of.ensures.high c.look_refs.ensures.moves emptied) c.empty.ensures.course
 
 pub returns-in-Ok-2-clause-course : goal.returns-in-Ok-2-clause-course
 returns-in-Ok-2-clause-course g c u which t =
