@@ -35,16 +35,6 @@ put_old-requires-clause-held g c =
     let d = g.P.Port.value c.resume_work.new.port in
     subst (λ (q : PortValue). 0 < typed_to c.args.frame q.holdings.typed) (sym (lost_typed t.2 c.requires.read c.requires.partial d c.in-Err.other c.in-Err.ensures.hand)) (took_held t.2)
 
-pub returns-in-Err-clause-hand : goal.returns-in-Err-clause-hand
-returns-in-Err-clause-hand g c u which t =
-    let d = g.P.Port.value c.resume_work.new.port in
-    let w = g.P.Port.value c.put_old.new.port in
-    took_settled w t (Err c.lost-stop.result) (lost_named t c.requires.read c.requires.partial d w c.in-Err.other c.lost-stop.result c.in-Err.ensures.hand c.put_old.ensures.hand)
-
-pub returns-in-Err-clause-rests : goal.returns-in-Err-clause-rests
-returns-in-Err-clause-rests g c =
-    let t = c.requires.took in settled_rests t.1 (Err c.lost-stop.result) t.2.rests (returns-in-Err-clause-hand g c t.0 t.1 t.2)
-
 -- ---- a table of which something is recorded
 
 pub overflow_sub-table : goal.overflow_sub-table
@@ -56,16 +46,6 @@ empty-requires-clause-stands g c = (
   resumed_empties c.requires.took.2 c.requires.read c.requires.partial c.in-Ok.ensures.moves c.in-Ok.ensures.hand c.look_refs.ensures.moves c.look_refs.ensures.hand
       c.level_of.result c.level_of.ensures.kind c.level_of.ensures.low c.level_of.ensures.high (recorded_some c.args.kind (sym c.has_recorded.ensures ∙ c.if-has_recorded.true)).1 c.requires.frame,
 )
-
-pub returns-in-Ok-clause-hand : goal.returns-in-Ok-clause-hand
-returns-in-Ok-clause-hand g c u which t =
-    let w = g.P.Port.value c.empty.new.port in
-    took_settled w t c.empty.result (resumed_released t c.requires.read c.requires.partial c.in-Ok.ensures.moves c.in-Ok.ensures.hand c.look_refs.ensures.moves c.look_refs.ensures.hand
-    c.level_of.result c.level_of.ensures.kind c.level_of.ensures.low c.level_of.ensures.high (recorded_some c.args.kind (sym c.has_recorded.ensures ∙ c.if-has_recorded.true)).1 c.requires.frame w
-    c.empty.result c.empty.ensures.came c.empty.ensures.hand)
-
-pub returns-in-Ok-clause-rests : goal.returns-in-Ok-clause-rests
-returns-in-Ok-clause-rests g c = settled_rests c.requires.took.1 c.empty.result c.requires.took.2.rests (returns-in-Ok-clause-hand g c c.requires.took.0 c.requires.took.1 c.requires.took.2)
 
 -- ---- any other frame
 
@@ -88,73 +68,65 @@ put_ref-requires-clause-may g c =
     dead_work c.requires.took.2 c.requires.read c.requires.partial c.in-Ok.ensures.moves c.in-Ok.ensures.hand c.look_clock-clock.ensures.moves c.look_clock-clock.ensures.hand e
     (subst (λ k. Holds a e (left a c.args.frame k)) c.dead_kind.ensures c.leave.ensures.hand) c.requires.may
 
-pub returns-in-Ok-2-clause-hand : goal.returns-in-Ok-2-clause-hand
-returns-in-Ok-2-clause-hand g c u which t =
-    let a = g.P.Port.value c.look_clock-clock.new.port in
-    let e = g.P.Port.value c.leave.new.port in
-    let w = g.P.Port.value c.put_ref.new.port in
-    took_settled w t (Ok tt) (dead_released t c.requires.read c.requires.partial c.in-Ok.ensures.moves c.in-Ok.ensures.hand c.look_clock-clock.ensures.moves c.look_clock-clock.ensures.hand e
-    (subst (λ k. Holds a e (left a c.args.frame k)) c.dead_kind.ensures c.leave.ensures.hand) w c.put_ref.ensures.hand)
+-- ---- the ways out
 
-pub returns-in-Ok-2-clause-rests : goal.returns-in-Ok-2-clause-rests
-returns-in-Ok-2-clause-rests g c = settled_rests c.requires.took.1 (Ok tt) c.requires.took.2.rests (returns-in-Ok-2-clause-hand g c c.requires.took.0 c.requires.took.1 c.requires.took.2)
-
--- ---- what the steps serve, and why they stop
-
-pub returns-in-Err-clause-serves : goal.returns-in-Err-clause-serves
-returns-in-Err-clause-serves g c u which t owner pages =
-    let rose = is_due_stop c.lost-stop.result in
-    again_serves t owner pages rose (missed u.post.machine c.lost-stop.result) (lost_serves t owner pages rose c.requires.read c.requires.partial c.in-Err.ensures.moves c.in-Err.ensures.lost
-    c.lost-stop.ensures) (change_came t owner pages rose c.requires.read c.requires.partial c.in-Err.ensures.moves) c.put_old.ensures.moves
-
-pub returns-in-Err-clause-stops : goal.returns-in-Err-clause-stops
-returns-in-Err-clause-stops g c u which t owner pages =
+pub returns-in-Err-clause-met : goal.returns-in-Err-clause-met
+returns-in-Err-clause-met g c u which t =
     let d = g.P.Port.value c.resume_work.new.port in
     let w = g.P.Port.value c.put_old.new.port in
-    let rose = is_due_stop c.lost-stop.result in
-    stops_before u d w (settling owner pages rose) c.lost-stop.result (lost_stops t owner pages rose c.requires.read c.requires.partial c.in-Err.ensures.moves c.in-Err.ensures.lost
-    c.lost-stop.ensures) (moves_came d w _ _ _ _ _ c.put_old.ensures.moves)
+    let e = c.lost-stop.result in
+    let a = c.in-Err.ensures in
+    let hand = took_settled w t (Err e) (lost_named t c.requires.read c.requires.partial d w c.in-Err.other e a.hand c.put_old.ensures.hand) in
+    record {
+      rests = settled_rests which (Err e) t.rests hand;
+      serves = λ owner pages. again_serves t owner pages (is_due_stop e) (missed u.post.machine e) (lost_serves t owner pages (is_due_stop e) c.requires.read c.requires.partial a.moves a.lost c.lost-stop.ensures)
+          (change_came t owner pages (is_due_stop e) c.requires.read c.requires.partial a.moves) c.put_old.ensures.moves;
+      stops = λ owner pages. stops_before u d w (settling owner pages (is_due_stop e)) e (lost_stops t owner pages (is_due_stop e) c.requires.read c.requires.partial a.moves a.lost c.lost-stop.ensures)
+          (moves_came d w _ _ _ _ _ c.put_old.ensures.moves);
+      kinds = rw c.lost-stop.ensures tt;
+      hand = hand;
+      course = by_none (lost_undue _ _ _ c.lost-stop.ensures) (lost_course t c.requires.read c.requires.partial a.moves c.args.left.now w a.lost c.lost-stop.ensures c.put_old.ensures.moves);
+    }
 
-pub returns-in-Ok-clause-serves : goal.returns-in-Ok-clause-serves
-returns-in-Ok-clause-serves g c u which t owner pages =
-    emptied_serves (g.P.Port.value c.empty.new.port) (resumed_piece t owner pages (is_due_answer c.empty.result) c.requires.read c.requires.partial c.in-Ok.ensures.moves refl refl
-    c.look_refs.ensures.moves) c.empty.result c.empty.ensures.serves
+pub returns-in-Ok-clause-met : goal.returns-in-Ok-clause-met
+returns-in-Ok-clause-met g c u which t =
+    let w = g.P.Port.value c.empty.new.port in
+    let a = c.in-Ok.ensures in
+    let look = c.look_refs.ensures in
+    let level = c.level_of.ensures in
+    let answer = c.empty.result in
+    let table = sym c.has_recorded.ensures ∙ c.if-has_recorded.true in
+    let hand = took_settled w t answer (resumed_released t c.requires.read c.requires.partial a.moves a.hand look.moves look.hand c.level_of.result level.kind level.low level.high (recorded_some c.args.kind table).1
+    c.requires.frame w answer c.empty.ensures.came c.empty.ensures.hand) in
+    record {
+      rests = settled_rests which answer t.rests hand;
+      serves = λ owner pages. emptied_serves w (resumed_piece t owner pages (is_due_answer answer) c.requires.read c.requires.partial a.moves refl refl look.moves) answer c.empty.ensures.serves;
+      stops = λ owner pages. answer_stops w answer refl (resumed_piece t owner pages (is_due_answer answer) c.requires.read c.requires.partial a.moves refl refl look.moves) c.empty.ensures.stops;
+      kinds = c.empty.ensures.kinds;
+      hand = hand;
+      course = by_as (λ answers emptied. emptied_course t c.requires.read c.requires.partial a.moves refl c.args.left.now c.empty.new.left w c.level_of.result answers answer table level.kind level.high look.moves emptied)
+          c.empty.ensures.course;
+    }
 
-pub returns-in-Ok-clause-stops : goal.returns-in-Ok-clause-stops
-returns-in-Ok-clause-stops g c u which t owner pages =
-    answer_stops (g.P.Port.value c.empty.new.port) c.empty.result refl (resumed_piece t owner pages (is_due_answer c.empty.result) c.requires.read c.requires.partial c.in-Ok.ensures.moves refl refl
-    c.look_refs.ensures.moves) c.empty.ensures.stops
-
-pub returns-in-Ok-2-clause-serves : goal.returns-in-Ok-2-clause-serves
-returns-in-Ok-2-clause-serves g c u which t owner pages =
-    dead_serves t owner pages false c.requires.read c.requires.partial c.in-Ok.ensures.moves refl (g.P.Port.value c.put_ref.new.port)
-    (dead_kind c.args.kind.kind c.args.kind.unflushed c.look_clock-clock.result) c.look_clock-clock.ensures.moves
-    (at_a t c.requires.read c.requires.partial c.in-Ok.ensures.moves c.in-Ok.ensures.hand c.look_clock-clock.ensures.moves c.look_clock-clock.ensures.hand)
-    (working t c.requires.read c.requires.partial) (ap (λ (y : KindWord). y.kind) (item_fields t c.requires.read c.requires.partial))
-    (dead_may t c.requires.read c.requires.partial c.in-Ok.ensures.moves c.in-Ok.ensures.hand c.look_clock-clock.ensures.moves c.look_clock-clock.ensures.hand
-    (recorded_none c.args.found c.requires.read c.requires.partial (sym c.has_recorded.ensures ∙ c.if-has_recorded.false))).is
-    (subst (λ y. Moves (g.P.Port.value c.look_clock-clock.new.port) (g.P.Port.value c.leave.new.port) (Kind c.args.frame) (Store (kind_write y)) kinds.Kind None c.leave.result) c.dead_kind.ensures
-    c.leave.ensures.moves) c.put_ref.ensures.serves
-
--- ---- by which steps
-
-pub returns-in-Err-clause-course : goal.returns-in-Err-clause-course
-returns-in-Err-clause-course g c u which t =
-    by_none (lost_undue _ _ _ c.lost-stop.ensures) (lost_course t c.requires.read c.requires.partial c.in-Err.ensures.moves c.args.left.now (g.P.Port.value c.put_old.new.port) c.in-Err.ensures.lost
-    c.lost-stop.ensures c.put_old.ensures.moves)
-
-pub returns-in-Ok-clause-course : goal.returns-in-Ok-clause-course
-returns-in-Ok-clause-course g c u which t =
-    by_as (λ answers emptied. emptied_course t c.requires.read c.requires.partial c.in-Ok.ensures.moves refl c.args.left.now c.empty.new.left (g.P.Port.value c.empty.new.port) c.level_of.result
-    answers c.empty.result (sym c.has_recorded.ensures ∙ c.if-has_recorded.true) c.level_of.ensures.kind c.level_of.ensures.high c.look_refs.ensures.moves emptied) c.empty.ensures.course
-
-pub returns-in-Ok-2-clause-course : goal.returns-in-Ok-2-clause-course
-returns-in-Ok-2-clause-course g c u which t =
+pub returns-in-Ok-2-clause-met : goal.returns-in-Ok-2-clause-met
+returns-in-Ok-2-clause-met g c u which t =
     let a = g.P.Port.value c.look_clock-clock.new.port in
     let e = g.P.Port.value c.leave.new.port in
     let w = g.P.Port.value c.put_ref.new.port in
     let k = c.args.kind in
-    by_none refl
-    (dead_course t c.requires.read c.requires.partial c.in-Ok.ensures.moves refl c.args.left.now w (sym c.has_recorded.ensures ∙ c.if-has_recorded.false)
-    (dead_steps w k.kind k.unflushed c.look_clock-clock.ensures.moves
-    (subst (λ y. Moves a e (Kind c.args.frame) (Store (kind_write y)) kinds.Kind None c.leave.result) c.dead_kind.ensures c.leave.ensures.moves) c.put_ref.ensures.puts))
+    let clock = c.look_clock-clock.ensures in
+    let back = c.in-Ok.ensures in
+    let none = sym c.has_recorded.ensures ∙ c.if-has_recorded.false in
+    let may = dead_may t c.requires.read c.requires.partial back.moves back.hand clock.moves clock.hand (recorded_none c.args.found c.requires.read c.requires.partial none) in
+    let store = subst (λ y. Moves a e (Kind c.args.frame) (Store (kind_write y)) kinds.Kind None c.leave.result) c.dead_kind.ensures c.leave.ensures.moves in
+    let left_dead = subst (λ y. Holds a e (left a c.args.frame y)) c.dead_kind.ensures c.leave.ensures.hand in
+    let hand = took_settled w t (Ok tt) (dead_released t c.requires.read c.requires.partial back.moves back.hand clock.moves clock.hand e left_dead w c.put_ref.ensures.hand) in
+    record {
+      rests = settled_rests which (Ok tt) t.rests hand;
+      serves = λ owner pages. dead_serves t owner pages false c.requires.read c.requires.partial back.moves refl w (dead_kind k.kind k.unflushed c.look_clock-clock.result) clock.moves
+          (at_a t c.requires.read c.requires.partial back.moves back.hand clock.moves clock.hand) (working t c.requires.read c.requires.partial) (ap (λ (y : KindWord). y.kind) (item_fields t c.requires.read c.requires.partial)) may.is store c.put_ref.ensures.serves;
+      stops = λ owner pages. tt;
+      kinds = tt;
+      hand = hand;
+      course = by_none refl (dead_course t c.requires.read c.requires.partial back.moves refl c.args.left.now w none (dead_steps w k.kind k.unflushed clock.moves store c.put_ref.ensures.puts));
+    }
