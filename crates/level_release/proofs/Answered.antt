@@ -38,28 +38,26 @@ end_uncounted (Refused x) is = absurd is
 pub due_ends : (e : Stop) → e ≡ Paused Due → IsReleaseEnd e
 due_ends e is = rw is tt
 
-module _ (u v : PortValue) (which : OldWord) (f word : ℕ) (t : TookOld u v which f word) (owner pages : ℕ) where
+module _ {u v : PortValue} {which : OldWord} {f word : ℕ} (t : TookOld u v which f word) (owner pages : ℕ) where
   -- ---- it is released
   module _ (w : PortValue) (answer : Result (Unit {0}) Stop) (came : Came v w) where
     inside : Within u.post.machine u.post.vcpu (of_release f owner pages answer) (Met v w) (of_settle owner pages answer) (Met u w)
     inside =
         let rose = is_due_answer answer in
-        settle_within u.post.machine u.post.vcpu owner pages (λ g. g == f) false rose rose (Met v w) (Met u w) (λ m y. met_after u v w m (took_came u v which f word t owner pages rose) y)
-        (λ g at. subst (λ h. IsAsked u.post.machine u.post.vcpu (of_settle owner pages answer) (Met u w) h) (let is : f ≡ g = grind (arith, nat_tests) in is) (asks_it u v which f word t owner pages rose w came)) (λ due. due)
+        settle_within u.post.machine u.post.vcpu owner pages (λ g. g == f) false rose rose (Met v w) (Met u w) (λ m y. met_after u v w m (took_came t owner pages rose) y)
+        (λ g at. subst (λ h. IsAsked u.post.machine u.post.vcpu (of_settle owner pages answer) (Met u w) h) (let is : f ≡ g = grind (arith, nat_tests) in is) (asks_it t owner pages rose w came)) (λ due. due)
 
     same_post : v.post ≡ u.post
-    same_post = took_post u v which f word t
+    same_post = took_post t
 
     pub released_serves : Serves v w (of_release f owner pages answer) (misses v.post.machine answer) → Serves u w (of_settle owner pages answer) (misses u.post.machine answer)
     released_serves serves =
         let ds = misses u.post.machine answer in
-        subst (λ es. Serves u w (of_settle owner pages answer) es) (append-nil ds)
-        (serves_inner u v w (of_settle owner pages answer) (of_release f owner pages answer) [] ds inside (took_serves u v which f word t owner pages (is_due_answer answer))
-        (subst (λ (p : Post). Serves v w (of_release f owner pages answer) (misses p.machine answer)) same_post serves))
+        subst (λ es. Serves u w (of_settle owner pages answer) es) (append-nil ds) (serves_inner u v w (of_settle owner pages answer) (of_release f owner pages answer) [] ds inside
+        (took_serves t owner pages (is_due_answer answer)) (subst (λ (p : Post). Serves v w (of_release f owner pages answer) (misses p.machine answer)) same_post serves))
 
     released_stop : (e : Stop) → IsReleaseEnd e → Stops v w (of_release f owner pages answer) e → Stops u w (of_settle owner pages answer) e
-    released_stop e end stops =
-        stops_later u v w (of_settle owner pages answer) (of_release f owner pages answer) e (end_uncounted e end) inside (took_came u v which f word t owner pages (is_due_answer answer)) stops
+    released_stop e end stops = stops_later u v w (of_settle owner pages answer) (of_release f owner pages answer) e (end_uncounted e end) inside (took_came t owner pages (is_due_answer answer)) stops
 
   pub released_stops : (w : PortValue) (answer : Result (Unit {0}) Stop) → Came v w → IfErr answer (λ e. e ≡ Paused Due) → IfErr answer (λ e. Stops v w (of_release f owner pages answer) e) → IfErr answer (λ e. Stops u w (of_settle owner pages answer) e)
   released_stops w (Ok done) came ends stops = tt
@@ -69,23 +67,22 @@ module _ (u v : PortValue) (which : OldWord) (f word : ℕ) (t : TookOld u v whi
   pub busy_stops : (kind_fields word).validated ≡ false → (kind_fields word).partial ≡ false → Stops u v (of_settle {A = Unit {0}} owner pages (Err (Paused (Busy f word)))) (Paused (Busy f word))
   unfolding Stops moment_of
   busy_stops unlive whole =
-      let working = in_work t.b.post.machine t.b.post.vcpu t.b.holdings f word t.kind.finds (taken_held u v which f word t) unlive whole in
       inl (
         domain_of u.post.machine u.post.vcpu,
         None,
         t.b.holdings,
-        names_it u v which f word t owner pages false v (came_self v) None tt,
+        names_it t owner pages false v (came_self v) None tt,
         record {
           moment = moment_of t.b (Kind f) Load kinds.Look None word;
-          was = met_after u t.b v _ (taken_came u v which f word t owner pages false) (moves_met t.b v (Kind f) Load kinds.Look None word t.kind);
+          was = met_after u t.b v _ (taken_came t owner pages false) (moves_met t.b v (Kind f) Load kinds.Look None word t.kind);
           place = refl;
           word = refl;
           hand = refl;
         },
-        passed_it u v which f word t owner pages false v (came_self v) t.b.holdings,
-        or_left _ _ working,
+        passed_it t owner pages false v (came_self v) t.b.holdings,
+        or_left _ _ (in_work t.kind.finds (taken_held t) unlive whole),
         inr refl,
-        taken_elsewhere u v which f word t,
+        taken_elsewhere t,
       )
 
 -- ---- by which steps
@@ -99,7 +96,7 @@ by_lock false = (λ e. cc, λ e. cc)
 other_form : (k : KindWord) → k.validated ≡ false → k.partial ≡ false → (form_of k ≢ Live) × (form_of k ≢ Partial)
 other_form k unlive whole = rw (unlive, whole) (by_lock k.locked)
 
-module _ (u v : PortValue) (which : OldWord) (f word : ℕ) (t : TookOld u v which f word) (k : KindWord) (read : kind_read word ≡ Some k) where
+module _ {u v : PortValue} {which : OldWord} {f word : ℕ} (t : TookOld u v which f word) {k : KindWord} (read : kind_read word ≡ Some k) where
   pub live_course : (below left : Option ℕ) (w : PortValue) (answers : List Bool) (answer : Result (Unit {0}) Stop) → k.validated ≡ true → ReleasedTo below left v f k.kind w answers answer → SettledOneTo below left u which w answers answer
   live_course below left w answers answer live released =
       let fields = fields_of word k read in

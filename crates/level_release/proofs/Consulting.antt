@@ -5,17 +5,17 @@ use Rattle.xp_preempt.specs.Gates.{Consulted, GivesAnswers, answer_at, asks_on, 
 use Rattle.level_release.specs.Asking.{is_due_answer}
 use Rattle.level_release.specs.Course.{By}
 
-pub consulted_none : (says : ℕ → Bool) (asks positive : ℕ) → Consulted says asks asks positive positive []
+pub consulted_none : {says : ℕ → Bool} {asks positive : ℕ} → Consulted says asks asks positive positive []
 unfolding GivesAnswers asks_on yeses
-consulted_none says asks positive = record { gives = tt; asks = refl; yes = omega arith }
+consulted_none {asks} = record { gives = tt; asks = refl; yes = omega arith }
 
-module _ (says : ℕ → Bool) where
-  pub by_none : (P : List Bool → Type 0) (asks positive : ℕ) (answer : Result (Unit {0}) Stop) → is_due_answer answer ≡ false → P [] → By P says asks asks positive positive answer
-  by_none P asks positive answer undue course = record { answers = []; course = course; gate = consulted_none says asks positive; due = undue }
+module _ {says : ℕ → Bool} where
+  pub by_none : {P : List Bool → Type 0} {asks positive : ℕ} {answer : Result (Unit {0}) Stop} → is_due_answer answer ≡ false → P [] → By P says asks asks positive positive answer
+  by_none {asks} {positive} undue course = record { answers = []; course = course; gate = consulted_none; due = undue }
 
-  pub by_as : (P Q : List Bool → Type 0) (before after yes_before yes_after : ℕ) (answer : Result (Unit {0}) Stop) → ((answers : List Bool) → P answers → Q answers) → By P says before after yes_before yes_after answer →
+  pub by_as : {P Q : List Bool → Type 0} {before after yes_before yes_after : ℕ} {answer : Result (Unit {0}) Stop} → ((answers : List Bool) → P answers → Q answers) → By P says before after yes_before yes_after answer →
       By Q says before after yes_before yes_after answer
-  by_as P Q before after yes_before yes_after answer so b = record { answers = b.answers; course = so b.answers b.course; gate = b.gate; due = b.due }
+  by_as so b = record { answers = b.answers; course = so b.answers b.course; gate = b.gate; due = b.due }
 
 -- ---- one part behind another
 asks_more : (rest answers : List Bool) (before : ℕ) → asks_on (length rest) (asks_on (length answers) before) ≡ asks_on (length (rest ++ answers)) before
@@ -37,28 +37,25 @@ unfolding yeses
 yeses_more [] answers = omega arith
 yeses_more (a ∷ more) answers = ap (one_more_if a) (yeses_more more answers) ∙ one_more a (yeses more) (yeses answers)
 
-pub consulted_then : (says : ℕ → Bool) (a b c x y z : ℕ) (answers more : List Bool) → Consulted says a b x y answers → Consulted says b c y z more → Consulted says a c x z (more ++ answers)
-consulted_then says a b c x y z answers more first second =
-    let all = yeses_more more answers in
-    let one = first.yes in
-    let two = second.yes in
+pub consulted_then : {says : ℕ → Bool} {a b c x y z : ℕ} {answers more : List Bool} → Consulted says a b x y answers → Consulted says b c y z more → Consulted says a c x z (more ++ answers)
+consulted_then {says} {a} {answers} {more} first second =
     record {
       gives = gives_more says a answers more first.gives (subst (λ n. GivesAnswers says n more) first.asks second.gives);
       asks = second.asks ∙ ap (asks_on (length more)) first.asks ∙ asks_more more answers a;
-      yes = omega (arith, all, one, two);
+      yes = omega (arith, (yeses_more more answers), first.yes, second.yes);
     }
 
-ends_more : (due : Bool) (answers more : List Bool) → ends_yes answers ≡ false → due ≡ ends_yes more → due ≡ ends_yes (more ++ answers)
-ends_more due answers [] none ends = ends ∙ sym none
-ends_more due answers (a ∷ more) none ends = ends
+ends_more : {due : Bool} (answers more : List Bool) → ends_yes answers ≡ false → due ≡ ends_yes more → due ≡ ends_yes (more ++ answers)
+ends_more answers [] none ends = ends ∙ sym none
+ends_more answers (a ∷ more) none ends = ends
 
 -- behind a part that was not paused, with a gate that says the same
-pub by_then : (says later : ℕ → Bool) (P Q R : List Bool → Type 0) (a b c x y z : ℕ) (answer : Result (Unit {0}) Stop) → ((n : ℕ) → later n ≡ says n) → ((answers more : List Bool) → P answers → Q more → R (more ++ answers)) →
+pub by_then : {says later : ℕ → Bool} {P Q R : List Bool → Type 0} {a b c x y z : ℕ} {answer : Result (Unit {0}) Stop} → ((n : ℕ) → later n ≡ says n) → ((answers more : List Bool) → P answers → Q more → R (more ++ answers)) →
     By P says a b x y (Ok tt) → By Q later b c y z answer → By R says a c x z answer
-by_then says later P Q R a b c x y z answer same so first second =
+by_then {says} {a} {b} {c} {x} {y} {z} {answer} same so first second =
     record {
       answers = second.answers ++ first.answers;
       course = so first.answers second.answers first.course second.course;
-      gate = consulted_then says a b c x y z first.answers second.answers first.gate (subst (λ (s : ℕ → Bool). Consulted s b c y z second.answers) (λ i n. same n i) second.gate);
-      due = ends_more (is_due_answer answer) first.answers second.answers (sym first.due) second.due;
+      gate = consulted_then first.gate (subst (λ (s : ℕ → Bool). Consulted s b c y z second.answers) (λ i n. same n i) second.gate);
+      due = ends_more first.answers second.answers (sym first.due) second.due;
     }

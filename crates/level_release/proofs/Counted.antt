@@ -27,11 +27,11 @@ kept_marks : (k : KindWord) → k.kept ≡ true → 1 ≤ marks k
 unfolding marks
 kept_marks k on = let one : bit k.kept ≡ 1 = ap bit on in omega (arith, one)
 
-neither : (a b c : Bool) → a ≡ false → b ≡ false → (not a && (not b && not c)) ≡ false → IsTrue (not a && (not b && c))
-neither a b true first second alive = rw (first, second) refl
-neither a b false first second alive = absurd (let dead : (not a && (not b && true)) ≡ true = rw (first, second) refl in cc)
+neither : {a b : Bool} (c : Bool) → a ≡ false → b ≡ false → (not a && (not b && not c)) ≡ false → IsTrue (not a && (not b && c))
+neither true first second alive = rw (first, second) refl
+neither {a} {b} false first second alive = absurd (let dead : (not a && (not b && true)) ≡ true = rw (first, second) refl in cc)
 
-module _ (n : Machine) (s : ℕ) (h : Holdings) (f w : ℕ) (finds : Finds n s h (Kind f) w) (held : 0 < typed_to f h.typed) where
+module _ {n : Machine} {s : ℕ} {h : Holdings} {f w : ℕ} (finds : Finds n s h (Kind f) w) (held : 0 < typed_to f h.typed) where
   abbrev k : KindWord
   k = kind_fields w
 
@@ -62,7 +62,7 @@ module _ (n : Machine) (s : ℕ) (h : Holdings) (f w : ℕ) (finds : Finds n s h
 
   -- a frame that is neither live nor partial is in work
   pub in_work : k.validated ≡ false → k.partial ≡ false → IsTrue (is_work k)
-  in_work unlive whole = neither k.validated k.partial k.locked unlive whole undead
+  in_work unlive whole = neither k.locked unlive whole undead
 
 -- ---- nothing else of it is in hand
 pub elsewhere : (f : ℕ) (h : Holdings) → h.works ≡ [] → h.locks ≡ [] → h.ending ≡ [] → IsElsewhere f h

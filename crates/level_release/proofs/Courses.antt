@@ -15,41 +15,34 @@ use Rattle.table_releases.specs.declared.entries.Released.TheVariants.{Given, Op
 use Rattle.level_release.specs.Course.{GaveEntry, Lowered, MadeDead, emptied, given, opened, stopped, table_under}
 
 -- not all entries are done with
-pub some_left : (t : TableWork) (rest ts : List TableWork) → ts ≡ t ∷ rest → IsStack ts → (t.done ≡ 512 → ⊥) → t.done < 512
-some_left t rest ts are stack more = let few = (subst (λ us. IsStack us) are stack).0.done in grind (arith, few, more)
+pub some_left : {t : TableWork} {rest ts : List TableWork} → ts ≡ t ∷ rest → IsStack ts → (t.done ≡ 512 → ⊥) → t.done < 512
+some_left are stack more = grind (arith, ((subst (λ us. IsStack us) are stack).0.done), more)
 
 -- ---- the last recorded entry of the innermost table
-module _ (v w : PortValue) (t : TableWork) (rest ts : List TableWork) (are : ts ≡ t ∷ rest) (k : PageType) (is : k ≡ level_type t.level) (few : t.done < 512) where
-  gave : (answer : Result Released Stop) → ReleasesFound v w t.frame (511 - t.done) k answer → TwinRelease v w t.frame k (511 - t.done) answer → ((owner pages : ℕ) → IfErr answer (λ e. Stops v w (of_entries owner pages) e)) →
+module _ (v w : PortValue) {t : TableWork} {rest ts : List TableWork} (are : ts ≡ t ∷ rest) {k : PageType} (is : k ≡ level_type t.level) (few : t.done < 512) where
+  gave : {answer : Result Released Stop} → ReleasesFound v w t.frame (511 - t.done) k answer → TwinRelease v w t.frame k (511 - t.done) answer → ((owner pages : ℕ) → IfErr answer (λ e. Stops v w (of_entries owner pages) e)) →
       GaveEntry v w t answer
-  gave answer found plain stops =
-      record {
-        found = subst (λ y. ReleasesFound v w t.frame (511 - t.done) y answer) is found;
-        plain = subst (λ y. TwinRelease v w t.frame y (511 - t.done) answer) is plain;
-        stops = stops;
-      }
+  gave {answer} found plain stops =
+      record { found = subst (λ y. ReleasesFound v w t.frame (511 - t.done) y answer) is found; plain = subst (λ y. TwinRelease v w t.frame y (511 - t.done) answer) is plain; stops = stops }
 
-  module _ (a b : Released) (so : a ≡ b) (found : ReleasesFound v w t.frame (511 - t.done) k (Ok a)) (plain : TwinRelease v w t.frame k (511 - t.done) (Ok a)) where
+  module _ {a b : Released} (so : a ≡ b) (found : ReleasesFound v w t.frame (511 - t.done) k (Ok a)) (plain : TwinRelease v w t.frame k (511 - t.done) (Ok a)) where
     done_so : GaveEntry v w t (Ok b)
-    done_so = subst (λ y. GaveEntry v w t (Ok y)) so (gave (Ok a) found plain (λ owner pages. tt))
+    done_so = subst (λ y. GaveEntry v w t (Ok y)) so (gave found plain (λ owner pages. tt))
 
-  pub lowered_given : (a : Released) (us : List TableWork) → a ≡ Given → us ≡ advanced ts → ReleasesFound v w t.frame (511 - t.done) k (Ok a) → TwinRelease v w t.frame k (511 - t.done) (Ok a) → Lowered v ts w us (Ok true)
-  lowered_given a us so on found plain =
-      subst (λ xs. Lowered v xs w us (Ok true)) (sym are)
-      (subst (λ xs. Lowered v (t ∷ rest) w xs (Ok true)) (sym (on ∙ ap (λ xs. advanced xs) are)) (given v w t rest few (done_so a Given so found plain)))
+  pub lowered_given : {a : Released} {us : List TableWork} → a ≡ Given → us ≡ advanced ts → ReleasesFound v w t.frame (511 - t.done) k (Ok a) → TwinRelease v w t.frame k (511 - t.done) (Ok a) → Lowered v ts w us (Ok true)
+  lowered_given {a} {us} so on found plain =
+      subst (λ xs. Lowered v xs w us (Ok true)) (sym are) (subst (λ xs. Lowered v (t ∷ rest) w xs (Ok true)) (sym (on ∙ ap (λ xs. advanced xs) are)) (given v w t rest few (done_so so found plain)))
 
-  pub lowered_opened : (a : Released) (f recorded : ℕ) (closing : Bool) (us xs : List TableWork) → a ≡ Opened f recorded closing → us ≡ advanced ts → xs ≡ table_under t f recorded closing ∷ us →
+  pub lowered_opened : {a : Released} {f recorded : ℕ} {closing : Bool} {us xs : List TableWork} → a ≡ Opened f recorded closing → us ≡ advanced ts → xs ≡ table_under t f recorded closing ∷ us →
       ReleasesFound v w t.frame (511 - t.done) k (Ok a) → TwinRelease v w t.frame k (511 - t.done) (Ok a) → Lowered v ts w xs (Ok false)
-  lowered_opened a f recorded closing us xs so on pushed found plain =
-      subst (λ ys. Lowered v ys w xs (Ok false)) (sym are)
-      (subst (λ ys. Lowered v (t ∷ rest) w ys (Ok false)) (sym (pushed ∙ ap (λ ys. table_under t f recorded closing ∷ ys) (on ∙ ap (λ ys. advanced ys) are)))
-      (opened v w t rest f recorded closing few (done_so a (Opened f recorded closing) so found plain)))
+  lowered_opened {a} {f} {recorded} {closing} {xs} so on pushed found plain =
+      subst (λ ys. Lowered v ys w xs (Ok false)) (sym are) (subst (λ ys. Lowered v (t ∷ rest) w ys (Ok false))
+      (sym (pushed ∙ ap (λ ys. table_under t f recorded closing ∷ ys) (on ∙ ap (λ ys. advanced ys) are))) (opened v w t rest f recorded closing few (done_so so found plain)))
 
-  pub lowered_stopped : (e : Stop) (answer : Result Bool Stop) → answer ≡ Err e → ReleasesFound v w t.frame (511 - t.done) k (Err e) → TwinRelease v w t.frame k (511 - t.done) (Err e) →
+  pub lowered_stopped : {e : Stop} {answer : Result Bool Stop} → answer ≡ Err e → ReleasesFound v w t.frame (511 - t.done) k (Err e) → TwinRelease v w t.frame k (511 - t.done) (Err e) →
       ((owner pages : ℕ) → Stops v w (of_entries owner pages) e) → Lowered v ts w ts answer
-  lowered_stopped e answer so found plain stops =
-      subst (λ y. Lowered v ts w ts y) (sym so) (subst (λ xs. Lowered v xs w xs (Err e)) (sym are) (stopped v w t rest e few (gave (Err e) found plain stops)))
+  lowered_stopped {e} so found plain stops = subst (λ y. Lowered v ts w ts y) (sym so) (subst (λ xs. Lowered v xs w xs (Err e)) (sym are) (stopped v w t rest e few (gave found plain stops)))
 
 -- ---- the innermost table, of which nothing is recorded any more
-pub lowered_emptied : (v w : PortValue) (t : TableWork) (us ts : List TableWork) → ts ≡ t ∷ us → t.done ≡ 512 → MadeDead v w t → Lowered v ts w us (Ok true)
-lowered_emptied v w t us ts are all dead = subst (λ xs. Lowered v xs w us (Ok true)) (sym are) (emptied v w t us all dead)
+pub lowered_emptied : {v w : PortValue} (t : TableWork) {us ts : List TableWork} → ts ≡ t ∷ us → t.done ≡ 512 → MadeDead v w t → Lowered v ts w us (Ok true)
+lowered_emptied {v} {w} t {us} are all dead = subst (λ xs. Lowered v xs w us (Ok true)) (sym are) (emptied v w t us all dead)

@@ -14,12 +14,12 @@ pub record Unwinding (u w : PortValue) (ts us : List TableWork) : Type 0 where
   pub serves : Continues u w ts us []
   pub course : (x : PortValue) → UnwoundDown w us x → UnwoundDown u ts x
 
-pub unwinding_begins : (u : PortValue) (ts : List TableWork) → Unwinding u u ts ts
-unwinding_begins u ts = record { came = came_self u; serves = goes_nothing u ts; course = λ x a. a }
+pub unwinding_begins : {u : PortValue} {ts : List TableWork} → Unwinding u u ts ts
+unwinding_begins {u} {ts} = record { came = came_self u; serves = goes_nothing u ts; course = λ x a. a }
 
 -- the outermost one is left
-pub unwinding_ends : (u v w : PortValue) (t : TableWork) (ts : List TableWork) → Unwinding u v ts (t ∷ []) → Came v w → Continues v w (t ∷ []) [] [] → UnwoundDown v (t ∷ []) w → Unwinding u w ts []
-unwinding_ends u v w t ts i came serves course =
+pub unwinding_ends : {u v w : PortValue} {t : TableWork} {ts : List TableWork} → Unwinding u v ts (t ∷ []) → Came v w → Continues v w (t ∷ []) [] [] → UnwoundDown v (t ∷ []) w → Unwinding u w ts []
+unwinding_ends {u} {v} {w} {t} {ts} i came serves course =
     record {
       came = came_trans u v w i.came came;
       serves = goes_then u v w ts (t ∷ []) [] [] [] i.serves serves;
@@ -31,14 +31,10 @@ inside_first : (v w : PortValue) (t : TableWork) (us rs : List TableWork) → Le
 inside_first v w t [] rs left x more = absurd left
 inside_first v w t (outer ∷ us) rs left x more = (w, (refl, left.1), subst (λ ys. UnwoundDown w ys x) left.0 more)
 
-pub unwinding_on : (u v w : PortValue) (t : TableWork) (ts us rs : List TableWork) → Unwinding u v ts (t ∷ us) → Came v w → Continues v w (t ∷ us) rs [] → LeftInside v t us w rs → Unwinding u w ts rs
-unwinding_on u v w t ts us rs i came serves course =
-    record {
-      came = came_trans u v w i.came came;
-      serves = goes_then u v w ts (t ∷ us) rs [] [] i.serves serves;
-      course = λ x more. i.course x (inside_first v w t us rs course x more);
-    }
+pub unwinding_on : {u v w : PortValue} {t : TableWork} {ts us rs : List TableWork} → Unwinding u v ts (t ∷ us) → Came v w → Continues v w (t ∷ us) rs [] → LeftInside v t us w rs → Unwinding u w ts rs
+unwinding_on {u} {v} {w} {t} {ts} {us} {rs} i came serves course =
+    record { came = came_trans u v w i.came came; serves = goes_then u v w ts (t ∷ us) rs [] [] i.serves serves; course = λ x more. i.course x (inside_first v w t us rs course x more) }
 
 -- none is left to do
-pub unwinding_done : (u w : PortValue) (ts us : List TableWork) → Unwinding u w ts us → us ≡ [] → Continues u w ts [] [] × UnwoundDown u ts w
-unwinding_done u w ts us i none = let j = subst (λ xs. Unwinding u w ts xs) none i in (j.serves, j.course w refl)
+pub unwinding_done : {u w : PortValue} {ts us : List TableWork} → Unwinding u w ts us → us ≡ [] → Continues u w ts [] [] × UnwoundDown u ts w
+unwinding_done {u} {w} {ts} i none = let j = subst (λ xs. Unwinding u w ts xs) none i in (j.serves, j.course w refl)

@@ -37,7 +37,7 @@ use Rattle.level_release.proofs.Handing.{emptied_leaves, now_beside}
 use Rattle.level_release.proofs.Owning.{known_by_ref, look_tells, made_later}
 use Rattle.kind_words.proofs.KindHands.{no_work}
 
-module _ (v : PortValue) (f : ℕ) (kind : PageType) (holds : HoldsLive v f kind) where
+module _ {v : PortValue} {f : ℕ} {kind : PageType} (holds : HoldsLive v f kind) where
   none_typed : without_typed f v.holdings.typed ≡ []
   none_typed = without_newest (λ (y : TypedReference). y.frame) f holds.reference [] v.holdings.typed holds.frame holds.typed
 
@@ -61,7 +61,7 @@ module _ (v : PortValue) (f : ℕ) (kind : PageType) (holds : HoldsLive v f kind
   beside ws = record v.holdings { refs = plain_ref ∷ v.holdings.refs; typed = []; works = ws }
 
   -- ---- other type counts are left
-  module _ (a : PortValue) (d : DropsType v a f false) where
+  module _ {a : PortValue} (d : DropsType v a f false) where
     counted_hand : Holds v a (beside v.holdings.works)
     counted_hand = type_counted v a f false d refl ∙ ap (λ ys. still (record v { holdings = record v.holdings { refs = plain_ref ∷ v.holdings.refs; typed = ys } })) none_typed
 
@@ -78,7 +78,7 @@ module _ (v : PortValue) (f : ℕ) (kind : PageType) (holds : HoldsLive v f kind
         ∙ ap (λ (rs : List Reference). still (record v { holdings = record v.holdings { refs = rs; typed = [] } })) (without_newest (λ (y : Reference). y.frame) f plain_ref v.holdings.refs _ refl refl)
 
   -- ---- none is left: the table is closing in the hand, with all its entries recorded
-  module _ (a : PortValue) (d : DropsType v a f true) where
+  module _ {a : PortValue} (d : DropsType v a f true) where
     abbrev closing : Work
     closing = closing_from f d.found v.holdings
 
@@ -92,7 +92,7 @@ module _ (v : PortValue) (f : ℕ) (kind : PageType) (holds : HoldsLive v f kind
     all_recorded table = let k : is_table (kind_fields d.found).kind ≡ true = ap is_table (d.lowers.kind kind holds.live) ∙ table in ap (λ b. if b then 512 else 0) k
 
     -- behind a look at its reference word
-    module _ (x : PortValue) (word : ℕ) (look : Moves a x (Refs f) Load kinds.Look None word) (same : Same a x) (level : ℕ) (is : level_type level ≡ kind) where
+    module _ {x : PortValue} {word : ℕ} (look : Moves a x (Refs f) Load kinds.Look None word) (same : Same a x) (level : ℕ) (is : level_type level ≡ kind) where
       looked_hand : Holds v x (beside (closing ∷ v.holdings.works))
       looked_hand = same ∙ closed_hand
 
@@ -119,9 +119,9 @@ module _ (v : PortValue) (f : ℕ) (kind : PageType) (holds : HoldsLive v f kind
 
       owner_tells : (o : ℕ) × IsTrue (knows_owner (sizes_of x.post.machine) f o x.holdings)
       owner_tells =
-          let told = look_tells a x f word look held_plain (typed_owner f v.holdings) (subst (λ k. IsMadeSince (length a.holdings.steps) k) (sym owner_is) (made_later (length v.holdings.steps) (length a.holdings.steps) holds.reference.owner steps_on holds.recent)) in (
+          let told = look_tells look held_plain (typed_owner f v.holdings) (subst (λ k. IsMadeSince (length a.holdings.steps) k) (sym owner_is) (made_later (length v.holdings.steps) (length a.holdings.steps) holds.reference.owner steps_on holds.recent)) in (
             told.0,
-            known_by_ref (sizes_of x.post.machine) f told.0 x.holdings plain_ref v.holdings.refs (ap (λ (q : PortValue). q.holdings.refs) looked_hand) refl
+            known_by_ref (sizes_of x.post.machine) told.0 x.holdings (ap (λ (q : PortValue). q.holdings.refs) looked_hand) refl
                 (subst (λ (q : Post). IsTrue (tells_owner (sizes_of q.machine) x.holdings.steps f told.0 plain_ref.owner)) (sym (ap (λ (q : PortValue). q.post) same)) told.1),
           )
 
@@ -159,4 +159,4 @@ module _ (v : PortValue) (f : ℕ) (kind : PageType) (holds : HoldsLive v f kind
             }
 
         pub emptied_released : (w : PortValue) (answer : Result (Unit {0}) Stop) → Came x w → LeavesEmptied x w (closing_table f level) answer → LeavesUnheld v w f answer
-        emptied_released w answer came left = emptied_leaves v x w (closing_table f level) same_post came closed_empties answer left
+        emptied_released w answer came left = emptied_leaves v w same_post came closed_empties answer left

@@ -39,7 +39,7 @@ use Rattle.level_release.proofs.Asking.{settling}
 use Rattle.level_release.proofs.Named.{asks_it, names_it, passed_it, taken_came, took_came, took_serves}
 use Rattle.level_release.proofs.Taken.{took_post}
 
-module _ (u v : PortValue) (which : OldWord) (f word : ℕ) (t : TookOld u v which f word) (owner pages : ℕ) (rose : Bool) (k : KindWord) (read : kind_read word ≡ Some k) (partial : IsTrue (is_partial k)) (d : PortValue) (found : ℕ)
+module _ {u v : PortValue} {which : OldWord} {f word : ℕ} (t : TookOld u v which f word) (owner pages : ℕ) (rose : Bool) {k : KindWord} (read : kind_read word ≡ Some k) (partial : IsTrue (is_partial k)) {d : PortValue} {found : ℕ}
     (change : Moves v d (Kind f) (Cas (kind_write k) (kind_write (resumed_kind k))) kinds.Kind None found) where
   spelled : IsTrue (is_kind k)
   spelled = (read_is word k read).0
@@ -54,20 +54,20 @@ module _ (u v : PortValue) (which : OldWord) (f word : ℕ) (t : TookOld u v whi
   came_d = moves_came v d (Kind f) (Cas (kind_write k) (kind_write (resumed_kind k))) kinds.Kind None found change
 
   pub change_came : Came u d
-  change_came = came_trans u v d (took_came u v which f word t owner pages rose) came_d
+  change_came = came_trans u v d (took_came t owner pages rose) came_d
 
   -- the type is asked
   asks : MayType u.post.machine u.post.vcpu (settling owner pages rose) (Met u d) f (Cas (kind_write k) (kind_write (resumed_kind k))) found v.holdings
   asks =
       inl (
         domain_of u.post.machine u.post.vcpu,
-        names_it u v which f word t owner pages rose d came_d (Some (kind_fields (kind_write (resumed_kind k))).kind)
+        names_it t owner pages rose d came_d (Some (kind_fields (kind_write (resumed_kind k))).kind)
             (ap (λ (y : KindWord). Some y.kind) (fields_of word k read) ∙ sym (ap (λ (y : KindWord). Some y.kind) next_fields)),
-        passed_it u v which f word t owner pages rose d came_d v.holdings,
+        passed_it t owner pages rose d came_d v.holdings,
       )
 
   tried : Serves u d (settling owner pages rose) (deeds_by (Kind f) (Cas (kind_write k) (kind_write (resumed_kind k))) kinds.Kind found v.holdings ++ [])
-  tried = serves_step u v d (settling owner pages rose) [] (Kind f) (Cas (kind_write k) (kind_write (resumed_kind k))) kinds.Kind None found (took_serves u v which f word t owner pages rose) change asks
+  tried = serves_step u v d (settling owner pages rose) [] (Kind f) (Cas (kind_write k) (kind_write (resumed_kind k))) kinds.Kind None found (took_serves t owner pages rose) change asks
 
   no_deed : exchanged (Kind f) (kind_write k) (kind_write (resumed_kind k)) ≡ []
   no_deed =
@@ -79,7 +79,7 @@ module _ (u v : PortValue) (which : OldWord) (f word : ℕ) (t : TookOld u v whi
       (ap (λ y. if y then exchanged (Kind f) (kind_write k) (kind_write (resumed_kind k)) else (Misses (Kind f) ∷ [])) (when_eq found (kind_write k) at) ∙ no_deed) tried
 
   -- ---- another word was found
-  module _ (off : found ≢ kind_write k) (e : Stop) (is : e ≡ Paused (Lost (number (sizes_of d.post.machine) (Kind f)) word found)) where
+  module _ (off : found ≢ kind_write k) {e : Stop} (is : e ≡ Paused (Lost (number (sizes_of d.post.machine) (Kind f)) word found)) where
     same_post : d.post ≡ u.post
     same_post = came_post u d change_came
 
@@ -87,8 +87,7 @@ module _ (u v : PortValue) (which : OldWord) (f word : ℕ) (t : TookOld u v whi
     stop_is = is ∙ ap (λ (p : Post). Paused (Lost (number (sizes_of p.machine) (Kind f)) word found)) same_post
 
     there : place_at (sizes_of u.post.machine) (number (sizes_of u.post.machine) (Kind f)) ≡ Kind f
-    there =
-        subst (λ (p : Post). place_at (sizes_of p.machine) (number (sizes_of p.machine) (Kind f)) ≡ Kind f) (took_post u v which f word t) (place_back (sizes_of v.post.machine) (Kind f) change.may.place)
+    there = subst (λ (p : Post). place_at (sizes_of p.machine) (number (sizes_of p.machine) (Kind f)) ≡ Kind f) (took_post t) (place_back (sizes_of v.post.machine) (Kind f) change.may.place)
 
     missed_is : missed u.post.machine e ≡ Misses (Kind f) ∷ []
     missed_is = ap (λ y. missed u.post.machine y) stop_is ∙ ap (λ p. missed_at p) there
@@ -101,7 +100,7 @@ module _ (u v : PortValue) (which : OldWord) (f word : ℕ) (t : TookOld u v whi
     just_looked : last_since (sizes_of u.post.machine) (length t.b.holdings.steps) (Kind f) v.holdings.steps ≡ Some word
     unfolding left_by
     just_looked =
-        subst (λ (p : Post). last_since (sizes_of p.machine) (length t.b.holdings.steps) (Kind f) v.holdings.steps ≡ Some word) (came_post u t.b (taken_came u v which f word t owner pages rose))
+        subst (λ (p : Post). last_since (sizes_of p.machine) (length t.b.holdings.steps) (Kind f) v.holdings.steps ≡ Some word) (came_post u t.b (taken_came t owner pages rose))
         (last_left t.b v (Kind f) Load kinds.Look None word t.kind (length t.b.holdings.steps) (omega arith))
 
     lost_so : Stops u d (settling owner pages rose) (Paused (Lost (number (sizes_of u.post.machine) (Kind f)) word found))
@@ -115,8 +114,8 @@ module _ (u v : PortValue) (which : OldWord) (f word : ℕ) (t : TookOld u v whi
           before = moment_of t.b (Kind f) Load kinds.Look None word;
           exchange = moment_of v (Kind f) (Cas (kind_write k) (kind_write (resumed_kind k))) kinds.Kind None found;
           new = kind_write (resumed_kind k);
-          was_before = met_after u t.b d _ (taken_came u v which f word t owner pages rose) (met_before t.b v d _ (moves_met t.b v (Kind f) Load kinds.Look None word t.kind) came_d);
-          was_exchange = met_after u v d _ (took_came u v which f word t owner pages rose) (moves_met v d (Kind f) (Cas (kind_write k) (kind_write (resumed_kind k))) kinds.Kind None found change);
+          was_before = met_after u t.b d _ (taken_came t owner pages rose) (met_before t.b v d _ (moves_met t.b v (Kind f) Load kinds.Look None word t.kind) came_d);
+          was_exchange = met_after u v d _ (took_came t owner pages rose) (moves_met v d (Kind f) (Cas (kind_write k) (kind_write (resumed_kind k))) kinds.Kind None found change);
           place_before = refl;
           place = refl;
           act = ap (λ y. Cas y (kind_write (resumed_kind k))) (sym was);
@@ -134,28 +133,28 @@ module _ (u v : PortValue) (which : OldWord) (f word : ℕ) (t : TookOld u v whi
   -- ---- it was found as expected
   module _ (at : found ≡ kind_write k) where
     -- a table is emptied behind a look at its reference word
-    pub resumed_piece : (x : PortValue) (refs_word : ℕ) (table : TableWork) → table.frame ≡ f → Moves d x (Refs f) Load kinds.Look None refs_word → IsReleasePiece u x (settling owner pages rose) (table ∷ []) []
-    resumed_piece x refs_word table same look =
+    pub resumed_piece : {x : PortValue} {refs_word : ℕ} {table : TableWork} → table.frame ≡ f → Moves d x (Refs f) Load kinds.Look None refs_word → IsReleasePiece u x (settling owner pages rose) (table ∷ []) []
+    resumed_piece {x} {refs_word} same look =
         record {
           entries = refl;
           serves = serves_step u d x (settling owner pages rose) [] (Refs f) Load kinds.Look None refs_word (change_serves at) look tt;
           asked = (
             subst (λ g. IsAsked u.post.machine u.post.vcpu (settling owner pages rose) (Met u x) g) (sym same)
-                (asks_it u v which f word t owner pages rose x (came_trans v d x came_d (moves_came d x (Refs f) Load kinds.Look None refs_word look))),
+                (asks_it t owner pages rose x (came_trans v d x came_d (moves_came d x (Refs f) Load kinds.Look None refs_word look))),
             tt,
           );
         }
 
     -- any other frame is left dead
-    pub dead_serves : (a e w : PortValue) (clock x : ℕ) (item : Work) (l : KindWord) → Moves d a Clock Load kinds.Look None clock → work_on f a.holdings.works ≡ Some item → IsTrue (is_work (kind_fields item.word)) →
+    pub dead_serves : {a e : PortValue} (w : PortValue) {clock x : ℕ} {item : Work} (l : KindWord) → Moves d a Clock Load kinds.Look None clock → work_on f a.holdings.works ≡ Some item → IsTrue (is_work (kind_fields item.word)) →
         (kind_fields item.word).kind ≡ l.kind → IsTrue (is_kind l) → Moves a e (Kind f) (Store (kind_write l)) kinds.Kind None x → Serves e w (of_back f) [] → Serves u w (settling owner pages rose) []
-    dead_serves a e w clock x item l look here working kind is store put =
+    dead_serves {a} {e} w {clock} {x} {item} l look here working kind is store put =
         serves_back u e w (settling owner pages rose) [] []
         (serves_step u a e (settling owner pages rose) [] (Kind f) (Store (kind_write l)) kinds.Kind None x
         (serves_step u d a (settling owner pages rose) [] Clock Load kinds.Look None clock (change_serves at) look tt) store (
-          asks_it u v which f word t owner pages rose e came_e,
+          asks_it t owner pages rose e came_e,
           kept_type x (kind_write l) (kind_fields item.word) l (ap (λ y. kind_fields y) (work_word a.post.machine a.post.vcpu a.holdings f x item store.finds here)) (fields_write l is) (sym kind) (work_alive (kind_fields item.word) working),
-        )) f (asks_it u v which f word t owner pages rose w (came_trans v e w came_e (serves_came e w (of_back f) [] put))) put
+        )) f (asks_it t owner pages rose w (came_trans v e w came_e (serves_came e w (of_back f) [] put))) put
       where
         came_e : Came v e
         came_e = came_trans v d e came_d (came_trans d a e (moves_came d a Clock Load kinds.Look None clock look) (moves_came a e (Kind f) (Store (kind_write l)) kinds.Kind None x store))

@@ -21,8 +21,8 @@ module _ (v w : PortValue) (h : Holdings) where
   held_from same now = now ∙ ap (λ (p : Post). still (record w { post = p; holdings = h })) same
 
 -- the only table was emptied, whose reference was the only typed one
-pub emptied_leaves : (v x w : PortValue) (t : TableWork) → x.post ≡ v.post → Came x w → Empties (record v.holdings { typed = [] }) x (t ∷ []) → (answer : Result (Unit {0}) Stop) → LeavesEmptied x w t answer →
+pub emptied_leaves : (v : PortValue) {x : PortValue} (w : PortValue) {t : TableWork} → x.post ≡ v.post → Came x w → Empties (record v.holdings { typed = [] }) x (t ∷ []) → (answer : Result (Unit {0}) Stop) → LeavesEmptied x w t answer →
     LeavesUnheld v w t.frame answer
-emptied_leaves v x w t same came stands (Ok done) left = held_from v w (record v.holdings { typed = [] }) (came_post x w came ∙ same) (left (record v.holdings { typed = [] }) stands)
-emptied_leaves v x w t same came stands (Err e) left =
+emptied_leaves v {x} w same came stands (Ok done) left = held_from v w (record v.holdings { typed = [] }) (came_post x w came ∙ same) (left (record v.holdings { typed = [] }) stands)
+emptied_leaves v {x} w {t} same came stands (Err e) left =
     held_from v w (named_hand t.frame (record v.holdings { typed = [] })) (came_post x w came ∙ same) (left (record v.holdings { typed = [] }) stands)

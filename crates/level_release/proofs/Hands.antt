@@ -33,20 +33,19 @@ tables_none z made inner [] are = refl
 tables_none z made inner (e ∷ es) are = absurd are
 
 -- after more steps
-work_later : (z : Sizes) (a b : ℕ) (t : TableWork) (e : Work) → a ≤ b → IsReleasedWork z a t e → IsReleasedWork z b t e
-work_later z a b t e more is =
-    let low = is.earlier in
-    record { inside = is.inside; frame = is.frame; kind = is.kind; unmarked = is.unmarked; recorded = is.recorded; work = is.work; closing = is.closing; earlier = omega (arith, low, more) }
+work_later : {z : Sizes} {a b : ℕ} {t : TableWork} {e : Work} → a ≤ b → IsReleasedWork z a t e → IsReleasedWork z b t e
+work_later more is =
+    record { inside = is.inside; frame = is.frame; kind = is.kind; unmarked = is.unmarked; recorded = is.recorded; work = is.work; closing = is.closing; earlier = omega (arith, is.earlier, more) }
 
 pub tables_later : (z : Sizes) (a b : ℕ) (inner : Option TableWork) (ts : List TableWork) (es : List Work) → a ≤ b → AreInRelease z a inner ts es → AreInRelease z b inner ts es
 tables_later z a b inner [] [] more are = tt
 tables_later z a b inner [] (e ∷ es) more are = absurd are
 tables_later z a b inner (t ∷ ts) [] more are = absurd are
-tables_later z a b inner (t ∷ ts) (e ∷ es) more are = (work_later z a b t e more are.0, are.1, tables_later z a b (Some t) ts es more are.2)
+tables_later z a b inner (t ∷ ts) (e ∷ es) more are = (work_later more are.0, are.1, tables_later z a b (Some t) ts es more are.2)
 
 -- the one inside them is gone, or only more or fewer of its entries are done with
-around_done : (t : TableWork) (e : Work) (g : TableWork) (n : ℕ) → IsAround t e g → IsAround t e (record g { done = n })
-around_done t e g n is = record { settled = is.settled; word = is.word; seen = is.seen; asks = is.asks; inside = is.inside }
+around_done : {t : TableWork} {e : Work} {g : TableWork} (n : ℕ) → IsAround t e g → IsAround t e (record g { done = n })
+around_done n is = record { settled = is.settled; word = is.word; seen = is.seen; asks = is.asks; inside = is.inside }
 
 pub tables_outer : (z : Sizes) (made : ℕ) (g : TableWork) (ts : List TableWork) (es : List Work) → AreInRelease z made (Some g) ts es → AreInRelease z made None ts es
 tables_outer z made g [] [] are = tt
@@ -58,7 +57,7 @@ pub tables_done : (z : Sizes) (made : ℕ) (g : TableWork) (n : ℕ) (ts : List 
 tables_done z made g n [] [] are = tt
 tables_done z made g n [] (e ∷ es) are = absurd are
 tables_done z made g n (t ∷ ts) [] are = absurd are
-tables_done z made g n (t ∷ ts) (e ∷ es) are = (are.0, around_done t e g n are.1, are.2)
+tables_done z made g n (t ∷ ts) (e ∷ es) are = (are.0, around_done n are.1, are.2)
 
 -- around another one nothing is noted as unsettled
 pub around_settled : (z : Sizes) (made : ℕ) (g : TableWork) (ts : List TableWork) (es : List Work) → AreInRelease z made (Some g) ts es → (top : Work) (others : List Work) → es ≡ top ∷ others → top.unsettled ≡ None
@@ -113,7 +112,7 @@ typed_later a b (t ∷ ts) ys more are = typed_for_later t.own a b t.frame (AreO
 
 -- ---- the whole
 
-module _ (h : Holdings) (v w : PortValue) (ts us : List TableWork) (rs : List Reference) (ys : List TypedReference) (es : List Work) (s : Empties h v ts)
+module _ {h : Holdings} {v : PortValue} (w : PortValue) {ts : List TableWork} (us : List TableWork) (rs : List Reference) (ys : List TypedReference) (es : List Work) (s : Empties h v ts)
     (holds : Holds v w (record v.holdings { refs = rs; typed = ys; works = es })) where
   same_post : w.post ≡ v.post
   same_post = ap (λ (q : PortValue). q.post) holds
@@ -146,14 +145,14 @@ module _ (h : Holdings) (v w : PortValue) (ts us : List TableWork) (rs : List Re
       }
 
 -- no table is left
-pub hands_none : (h : Holdings) (w : PortValue) → Empties h w [] → HoldsNow w h
-hands_none h w s =
+pub hands_none : {h : Holdings} {w : PortValue} → Empties h w [] → HoldsNow w h
+hands_none {h} {w} s =
     s.hand ∙ ap (λ xs. record { post = w.post; holdings = record h { refs = xs; typed = w.holdings.typed; works = w.holdings.works; steps = [] }; told = None }) s.refs
     ∙ ap (λ xs. record { post = w.post; holdings = record h { typed = xs; works = w.holdings.works; steps = [] }; told = None }) (s.types ∙ sym s.typed)
     ∙ ap (λ xs. record { post = w.post; holdings = record h { works = xs; steps = [] }; told = None }) (tables_none (sizes_of w.post.machine) (length w.holdings.steps) None w.holdings.works s.tables ∙ sym s.works)
 
 -- what the vCPU may do, and the old words, stay as they were
-module _ (h : Holdings) (v w : PortValue) (ts us : List TableWork) (a : Empties h v ts) (b : Empties h w us) where
+module _ {h : Holdings} {v w : PortValue} {ts us : List TableWork} (a : Empties h v ts) (b : Empties h w us) where
   pub hands_may : w.post ≡ v.post → MayWork v → MayWork w
   hands_may post m =
       record {

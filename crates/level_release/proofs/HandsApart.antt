@@ -37,28 +37,28 @@ pub record FirstFound (v : PortValue) : Type 0 where
   pub word : ℕ
   pub finds : Finds v.post.machine v.post.vcpu v.holdings place word
 
-first_by_ran : (v x y : PortValue) (ms : List Moment) → Ran v ms x → (m : Moment) → MovesBy x y m → FirstFound v
-first_by_ran v x y [] ran m moves = subst (λ (q : PortValue). FirstFound q) ran (record { place = m.place; word = m.found; finds = moves.moves.finds })
-first_by_ran v x y (k ∷ ks) ran m moves = first_by_ran v ran.0 x ks ran.1 k ran.2
+first_by_ran : {v : PortValue} (x y : PortValue) (ms : List Moment) → Ran v ms x → (m : Moment) → MovesBy x y m → FirstFound v
+first_by_ran x y [] ran m moves = subst (λ (q : PortValue). FirstFound q) ran (record { place = m.place; word = m.found; finds = moves.moves.finds })
+first_by_ran {v} x y (k ∷ ks) ran m moves = first_by_ran ran.0 x ks ran.1 k ran.2
 
-first_of_some : (v w : PortValue) (ms : List Moment) → Ran v ms w → visits ms ≢ [] → FirstFound v
-first_of_some v w [] ran some = absurd (some refl)
-first_of_some v w (m ∷ ms) ran some = first_by_ran v ran.0 w ms ran.1 m ran.2
+first_of_some : {v : PortValue} (w : PortValue) (ms : List Moment) → Ran v ms w → visits ms ≢ [] → FirstFound v
+first_of_some w [] ran some = absurd (some refl)
+first_of_some {v} w (m ∷ ms) ran some = first_by_ran ran.0 w ms ran.1 m ran.2
 
-pub does_first : (v w : PortValue) (P : List Visit → Type 0) → Does v w P → ((vs : List Visit) → P vs → vs ≢ []) → FirstFound v
+pub does_first : {v : PortValue} (w : PortValue) (P : List Visit → Type 0) → Does v w P → ((vs : List Visit) → P vs → vs ≢ []) → FirstFound v
 unfolding Does
-does_first v w P does some = first_of_some v w does.0 does.1 (some (visits does.0) does.2)
+does_first {v} w P does some = first_of_some w does.0 does.1 (some (visits does.0) does.2)
 
-pub list_some : {A : Type 0} (xs : List A) (y : A) (zs : List A) → zs ≡ xs ++ (y ∷ []) → zs ≢ []
-list_some [] y zs is none = let k : y ∷ [] ≡ [] = sym is ∙ none in cc
-list_some (x ∷ xs) y zs is none = let k : x ∷ (xs ++ (y ∷ [])) ≡ [] = sym is ∙ none in cc
+pub list_some : {A : Type 0} (xs : List A) (y : A) {zs : List A} → zs ≡ xs ++ (y ∷ []) → zs ≢ []
+list_some [] y is none = let k : y ∷ [] ≡ [] = sym is ∙ none in cc
+list_some (x ∷ xs) y is none = let k : x ∷ (xs ++ (y ∷ [])) ≡ [] = sym is ∙ none in cc
 
 busy_unlocked : (k : KindWord) → has_form k ≡ true → is_busy k ≡ true → is_locked k ≡ false
 unfolding has_form
 busy_unlocked k form busy = grind (arith, nat_tests)
 
-no_claims : (a b : ℕ) → a + b ≡ 0 → b ≡ 0
-no_claims a b none = omega arith
+no_claims : (a : ℕ) {b : ℕ} → a + b ≡ 0 → b ≡ 0
+no_claims a none = omega arith
 
 -- ---- different frames
 pub tables_apart : (z : Sizes) (made : ℕ) (inner : Option TableWork) (f : ℕ) (ts : List TableWork) (es : List Work) → AreInRelease z made inner ts es → works_on f es ≡ 0 → AreApart f ts
@@ -69,7 +69,7 @@ tables_apart z made inner f (t ∷ ts) (e ∷ es) are none = (
   tables_apart z made (Some t) f ts es are.2 (let more = times_by-cons (λ (y : Work). y.frame) f e es in omega (arith, more, none)),
 )
 
-module _ (n : Machine) (s : ℕ) (h : Holdings) (p : Place) (w : ℕ) (finds : Finds n s h p w) (f : ℕ) (e : Work) (es : List Work) (are : h.works ≡ e ∷ es) (at : e.frame ≡ f) where
+module _ {n : Machine} {s : ℕ} {h : Holdings} {p : Place} {w : ℕ} (finds : Finds n s h p w) {f : ℕ} {e : Work} {es : List Work} (are : h.works ≡ e ∷ es) (at : e.frame ≡ f) where
   once : works_on f h.works ≤ 1
   once = subst (λ (u : Holdings). works_on f u.works ≤ 1) finds.mine (one_works n finds.words finds.hands finds.sound.alone f s finds.real)
 
@@ -118,9 +118,8 @@ module _ (n : Machine) (s : ℕ) (h : Holdings) (p : Place) (w : ℕ) (finds : F
 
     no_claim : claim_of f h.claimed ≡ None
     no_claim =
-        first_by-none (λ (y : Claimed). y.frame) f h.claimed
-        (subst (λ (u : Holdings). claims_of f u.claimed ≡ 0) finds.mine (no_claims (endings_of f (finds.hands s).ending) (claims_of f (finds.hands s).claimed)
-        (counted_alive n finds.words finds.hands finds.sound.alone f s finds.real counted)))
+        first_by-none (λ (y : Claimed). y.frame) f h.claimed (subst (λ (u : Holdings). claims_of f u.claimed ≡ 0) finds.mine
+        (no_claims (endings_of f (finds.hands s).ending) (counted_alive n finds.words finds.hands finds.sound.alone f s finds.real counted)))
 
     bare : Holdings
     bare = record h { works = [] }

@@ -50,89 +50,88 @@ pub record DeadHand (h : Holdings) (x d : PortValue) (t : TableWork) (ts : List 
   pub still_typed : (g : ℕ) → t.frame ≢ g → Still (λ (e : TypedReference). e.frame) g x.holdings.typed typed
   pub hand : Holds x d (record x.holdings { refs = ref ∷ refs; typed = typed; works = others })
 
-module _ (h : Holdings) (x : PortValue) (t : TableWork) (ts : List TableWork) (s : Empties h x (t ∷ ts)) (empty : t.done ≡ 512) where
-  none_left : (top h x t ts s).work.recorded ≡ 0
-  none_left = let all = (top h x t ts s).is.recorded in omega (arith, all, empty)
+module _ {h : Holdings} {x : PortValue} {t : TableWork} {ts : List TableWork} (s : Empties h x (t ∷ ts)) (empty : t.done ≡ 512) where
+  none_left : (top s).work.recorded ≡ 0
+  none_left = omega (arith, ((top s).is.recorded), empty)
 
-  counts : (b : Bool) → t.own ≡ b → IsTrue (is_work (kind_fields (top h x t ts s).work.word)) → 0 < typed_to t.frame x.holdings.typed
-  counts true own work = own_held h x t ts s own
-  counts false lent work = absurd (let idle = closing_alone (kind_fields (top h x t ts s).work.word) (closing_closes h x t ts s lent) in cc)
+  counts : (b : Bool) → t.own ≡ b → IsTrue (is_work (kind_fields (top s).work.word)) → 0 < typed_to t.frame x.holdings.typed
+  counts true own work = own_held s own
+  counts false lent work = absurd (let idle = closing_alone (kind_fields (top s).work.word) (closing_closes s lent) in cc)
 
   module _ (clock : ℕ) (small : clock < 2 ^ 36) where
-    pub dead_leaves : IsTrue (some_since (sizes_of x.post.machine) (top h x t ts s).work.since Clock (λ w. w == clock) x.holdings.steps) → MayLeave x t.frame (dead_kind (level_type t.level) false clock)
+    pub dead_leaves : IsTrue (some_since (sizes_of x.post.machine) (top s).work.since Clock (λ w. w == clock) x.holdings.steps) → MayLeave x t.frame (dead_kind (level_type t.level) false clock)
     dead_leaves since =
-        let e = top h x t ts s in
-        may_leave_dead x t.frame (level_type t.level) e.work (top_here h x t ts s) (level_type-typed t.level) false clock e.is.kind none_left (inl (sym e.is.unmarked)) small since (counts t.own refl)
+        let e = top s in
+        may_leave_dead x t.frame (level_type t.level) e.work (top_here s) (level_type-typed t.level) false clock e.is.kind none_left (inl (sym e.is.unmarked)) small since (counts t.own refl)
 
-    pub dead_hand : (d : PortValue) → Holds x d (left x t.frame (dead_kind (level_type t.level) false clock)) → DeadHand h x d t ts (top h x t ts s).others
-    dead_hand d hand = by_own t.own refl
+    pub dead_hand : {d : PortValue} → Holds x d (left x t.frame (dead_kind (level_type t.level) false clock)) → DeadHand h x d t ts (top s).others
+    dead_hand {d} hand = by_own t.own refl
       where
-        by_own : (b : Bool) → t.own ≡ b → DeadHand h x d t ts (top h x t ts s).others
+        by_own : (b : Bool) → t.own ≡ b → DeadHand h x d t ts (top s).others
         by_own true own =
-            let e = top h x t ts s in
-            let y = own_typed h x t ts s own in
+            let e = top s in
+            let y = own_typed s own in
             let r : Reference = record { frame = t.frame; owner = typed_owner t.frame x.holdings } in
             record {
               ref = r;
               refs = x.holdings.refs;
               typed = y.others;
               frame = refl;
-              are_refs = own_refs h x t ts s own;
+              are_refs = own_refs s own;
               are_typed = y.around;
-              still_refs = λ g other. still_same (λ (k : Reference). k.frame) g x.holdings.refs x.holdings.refs refl;
-              still_typed = λ g other. still_less (λ (k : TypedReference). k.frame) g y.ref x.holdings.typed y.others (λ same. other (sym y.frame ∙ same)) y.are;
+              still_refs = λ g other. still_same (λ (k : Reference). k.frame) g refl;
+              still_typed = λ g other. still_less (λ (k : TypedReference). k.frame) g (λ same. other (sym y.frame ∙ same)) y.are;
               hand =
-                  hand ∙ ap (λ (k : Holdings). still (record x { holdings = k })) (left_dead x t.frame (level_type t.level) e.work (top_here h x t ts s) (level_type-typed t.level) false clock small (own_works h x t ts s own))
-                  ∙ ap (λ ys. still (record x { holdings = record x.holdings { refs = r ∷ x.holdings.refs; typed = ys; works = without_work t.frame x.holdings.works } })) (own_gone h x t ts s own)
-                  ∙ ap (λ es. still (record x { holdings = record x.holdings { refs = r ∷ x.holdings.refs; typed = y.others; works = es } })) (top_gone h x t ts s);
+                  hand ∙ ap (λ (k : Holdings). still (record x { holdings = k })) (left_dead x t.frame (level_type t.level) e.work (top_here s) (level_type-typed t.level) false clock small (own_works s own))
+                  ∙ ap (λ ys. still (record x { holdings = record x.holdings { refs = r ∷ x.holdings.refs; typed = ys; works = without_work t.frame x.holdings.works } })) (own_gone s own)
+                  ∙ ap (λ es. still (record x { holdings = record x.holdings { refs = r ∷ x.holdings.refs; typed = y.others; works = es } })) (top_gone s);
             }
         by_own false lent =
-            let e = top h x t ts s in
-            let r = closing_ref h x t ts s lent in
+            let e = top s in
+            let r = closing_ref s lent in
             record {
               ref = r.ref;
               refs = r.others;
               typed = x.holdings.typed;
               frame = r.frame;
               are_refs = r.around;
-              are_typed = closing_typed h x t ts s lent;
-              still_refs = λ g other. still_less (λ (k : Reference). k.frame) g r.ref x.holdings.refs r.others (λ same. other (sym r.frame ∙ same)) r.are;
-              still_typed = λ g other. still_same (λ (k : TypedReference). k.frame) g x.holdings.typed x.holdings.typed refl;
+              are_typed = closing_typed s lent;
+              still_refs = λ g other. still_less (λ (k : Reference). k.frame) g (λ same. other (sym r.frame ∙ same)) r.are;
+              still_typed = λ g other. still_same (λ (k : TypedReference). k.frame) g refl;
               hand =
-                  hand ∙ ap (λ (k : Holdings). still (record x { holdings = k })) (left_dead_closing x t.frame (level_type t.level) e.work (top_here h x t ts s) (level_type-typed t.level) false clock small (closing_closes h x t ts s lent))
-                  ∙ ap (λ es. still (record x { holdings = record x.holdings { works = es } })) (top_gone h x t ts s)
+                  hand ∙ ap (λ (k : Holdings). still (record x { holdings = k })) (left_dead_closing x t.frame (level_type t.level) e.work (top_here s) (level_type-typed t.level) false clock small (closing_closes s lent))
+                  ∙ ap (λ es. still (record x { holdings = record x.holdings { works = es } })) (top_gone s)
                   ∙ ap (λ rs. still (record x { holdings = record x.holdings { refs = rs; works = e.others } })) r.are;
             }
 
   -- ---- its reference
-  module _ (d : PortValue) (k : DeadHand h x d t ts (top h x t ts s).others) (new found : ℕ) (store : Moves x d (Kind t.frame) (Store new) kinds.Kind None found) where
+  module _ {d : PortValue} (k : DeadHand h x d t ts (top s).others) {new found : ℕ} (store : Moves x d (Kind t.frame) (Store new) kinds.Kind None found) where
     pub dead_gives : MayPut t.frame d.holdings
     dead_gives =
-        let e = top h x t ts s in
+        let e = top s in
         record {
           held = subst (λ xs. 0 < refs_to t.frame xs) (sym (ap (λ (q : PortValue). q.holdings.refs) k.hand)) (newest_held t.frame k.ref k.refs k.frame);
           spares = apart_spares t.frame d.holdings
-              (ap (λ (q : PortValue). work_on t.frame q.holdings.works) k.hand ∙ none_else x.post.machine x.post.vcpu x.holdings (Kind t.frame) found store.finds t.frame e.work e.others e.are e.is.frame);
+              (ap (λ (q : PortValue). work_on t.frame q.holdings.works) k.hand ∙ none_else store.finds e.are e.is.frame);
         }
 
     module _ (w : PortValue) (put : Holds d w (gave t.frame d.holdings)) (came : Came x w) where
-      given : Holds x w (record x.holdings { refs = k.refs; typed = k.typed; works = (top h x t ts s).others })
+      given : Holds x w (record x.holdings { refs = k.refs; typed = k.typed; works = (top s).others })
       given =
           put ∙ ap (λ (q : PortValue). still (record q { holdings = gave t.frame q.holdings })) k.hand
-          ∙ ap (λ rs. still (record x { holdings = record x.holdings { refs = rs; typed = k.typed; works = (top h x t ts s).others } })) (without_newest (λ (z : Reference). z.frame) t.frame k.ref k.refs (k.ref ∷ k.refs) k.frame refl)
+          ∙ ap (λ rs. still (record x { holdings = record x.holdings { refs = rs; typed = k.typed; works = (top s).others } })) (without_newest (λ (z : Reference). z.frame) t.frame k.ref k.refs (k.ref ∷ k.refs) k.frame refl)
 
       pub dead_settled : IsSettledTop w.holdings
       dead_settled work others are =
-          let e = top h x t ts s in
-          around_settled (sizes_of x.post.machine) (length x.holdings.steps) t ts e.others e.around work others (sym (ap (λ (q : PortValue). q.holdings.works) given) ∙ are)
+          let e = top s in around_settled (sizes_of x.post.machine) (length x.holdings.steps) t ts e.others e.around work others (sym (ap (λ (q : PortValue). q.holdings.works) given) ∙ are)
 
       pub dead_stands : Empties h w ts
       dead_stands =
-          let e = top h x t ts s in
+          let e = top s in
           let z = sizes_of x.post.machine in
           let longer = came_longer x w came in
-          let apart = tables_apart z (length x.holdings.steps) (Some t) t.frame ts e.others e.around (others_apart x.post.machine x.post.vcpu x.holdings (Kind t.frame) found store.finds t.frame e.work e.others e.are e.is.frame) in
-          hands_by h x w (t ∷ ts) ts k.refs k.typed e.others s given s.stack.2
+          let apart = tables_apart z (length x.holdings.steps) (Some t) t.frame ts e.others e.around (others_apart store.finds e.are e.is.frame) in
+          hands_by w ts k.refs k.typed e.others s given s.stack.2
           (tables_later z (length x.holdings.steps) (length w.holdings.steps) None ts e.others longer (tables_outer z (length x.holdings.steps) t ts e.others e.around)) k.are_refs
           (typed_later (length x.holdings.steps) (length w.holdings.steps) ts k.typed longer k.are_typed)
           (owned_apart z s.owner t.frame ts x.holdings w.holdings
@@ -142,35 +141,33 @@ module _ (h : Holdings) (x : PortValue) (t : TableWork) (ts : List TableWork) (s
           (ap (λ (q : PortValue). q.holdings.locks) given)) apart s.owned.1)
 
 -- ---- the clock is looked at first
-module _ (h : Holdings) (v x : PortValue) (t : TableWork) (ts : List TableWork) (s : Empties h v (t ∷ ts)) (empty : t.done ≡ 512) (clock : ℕ) (look : Moves v x Clock Load kinds.Look None clock) (same : Same v x)
-    (k : KindWord) (kind : PageType) (is_type : kind ≡ level_type t.level) (is : k ≡ dead_kind kind false clock) where
+module _ {h : Holdings} {v x : PortValue} {t : TableWork} {ts : List TableWork} (s : Empties h v (t ∷ ts)) (empty : t.done ≡ 512) {clock : ℕ} (look : Moves v x Clock Load kinds.Look None clock) (same : Same v x)
+    {k : KindWord} {kind : PageType} (is_type : kind ≡ level_type t.level) (is : k ≡ dead_kind kind false clock) where
   is_dead : k ≡ dead_kind (level_type t.level) false clock
   is_dead = is ∙ ap (λ y. dead_kind y false clock) is_type
 
   now : Empties h x (t ∷ ts)
-  now = hands_same h v x (t ∷ ts) same (moves_came v x Clock Load kinds.Look None clock look) s
+  now = hands_same same (moves_came v x Clock Load kinds.Look None clock look) s
 
   small : clock < 2 ^ 36
   small = clock_is_small v.post.machine v.post.vcpu v.holdings clock look.finds
 
-  same_work : (top h x t ts now).work.since ≤ length v.holdings.steps
+  same_work : (top now).work.since ≤ length v.holdings.steps
   same_work =
-      let old = top h v t ts s in
-      let new = top h x t ts now in
-      let both : new.work ∷ new.others ≡ old.work ∷ old.others = sym new.are ∙ ap (λ (q : PortValue). q.holdings.works) same ∙ old.are in
-      let one : new.work ≡ old.work = cc in
-      let low = old.is.earlier in
-      subst (λ (e : Work). e.since ≤ length v.holdings.steps) (sym one) low
+      let old = top s in
+      let new = top now in
+      let both : new.work ∷ new.others ≡ old.work ∷ old.others = sym new.are ∙ ap (λ (q : PortValue). q.holdings.works) same ∙ old.are in let one : new.work ≡ old.work = cc in let
+      low = old.is.earlier in subst (λ (e : Work). e.since ≤ length v.holdings.steps) (sym one) low
 
   pub close_leaves : MayLeave x t.frame k
-  close_leaves = subst (λ y. MayLeave x t.frame y) (sym is_dead) (dead_leaves h x t ts now empty clock small (clock_since v x clock (top h x t ts now).work.since look same_work))
+  close_leaves = subst (λ y. MayLeave x t.frame y) (sym is_dead) (dead_leaves now empty clock small (clock_since v x clock (top now).work.since look same_work))
 
-  module _ (d : PortValue) (found : ℕ) (store : Moves x d (Kind t.frame) (Store (kind_write k)) kinds.Kind None found) (hand : Holds x d (left x t.frame k)) where
-    close_hand : DeadHand h x d t ts (top h x t ts now).others
-    close_hand = dead_hand h x t ts now empty clock small d (subst (λ y. Holds x d (left x t.frame y)) is_dead hand)
+  module _ {d : PortValue} {found : ℕ} (store : Moves x d (Kind t.frame) (Store (kind_write k)) kinds.Kind None found) (hand : Holds x d (left x t.frame k)) where
+    close_hand : DeadHand h x d t ts (top now).others
+    close_hand = dead_hand now empty clock small (subst (λ y. Holds x d (left x t.frame y)) is_dead hand)
 
     pub close_gives : MayPut t.frame d.holdings
-    close_gives = dead_gives h x t ts now empty d close_hand (kind_write k) found store
+    close_gives = dead_gives now empty close_hand store
 
     module _ (w : PortValue) (put : Holds d w (gave t.frame d.holdings)) (behind : Came d w) where
       came_dead : Came x w
@@ -180,7 +177,7 @@ module _ (h : Holdings) (v x : PortValue) (t : TableWork) (ts : List TableWork) 
       close_came = came_trans v x w (moves_came v x Clock Load kinds.Look None clock look) came_dead
 
       pub close_stands : Empties h w ts
-      close_stands = dead_stands h x t ts now empty d close_hand (kind_write k) found store w put came_dead
+      close_stands = dead_stands now empty close_hand store w put came_dead
 
       pub close_settled : IsSettledTop w.holdings
-      close_settled = dead_settled h x t ts now empty d close_hand (kind_write k) found store w put came_dead
+      close_settled = dead_settled now empty close_hand store w put came_dead

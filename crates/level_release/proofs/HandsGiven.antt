@@ -28,24 +28,23 @@ looked_work i word e = record e { seen = Some (record { index = i; word = word }
 abbrev pub shed_work : ℕ → ℕ → Work → Work
 shed_work i word e = record e { recorded = i; seen = Some (record { index = i; word = word }); unsettled = None; fixed = (learned_work i word e).fixed }
 
-looked_is : (z : Sizes) (made i word : ℕ) (t : TableWork) (e : Work) → IsReleasedWork z made t e → IsReleasedWork z made t (looked_work i word e)
-looked_is z made i word t e is =
-    record { inside = is.inside; frame = is.frame; kind = is.kind; unmarked = is.unmarked; recorded = is.recorded; work = is.work; closing = is.closing; earlier = is.earlier }
+looked_is : {z : Sizes} {made : ℕ} (i word : ℕ) {t : TableWork} {e : Work} → IsReleasedWork z made t e → IsReleasedWork z made t (looked_work i word e)
+looked_is i word is = record { inside = is.inside; frame = is.frame; kind = is.kind; unmarked = is.unmarked; recorded = is.recorded; work = is.work; closing = is.closing; earlier = is.earlier }
 
-pub shed_is : (z : Sizes) (made i word : ℕ) (t : TableWork) (e : Work) → i + 1 + t.done ≡ 512 → IsReleasedWork z made t e → IsReleasedWork z made (one_more_done t) (shed_work i word e)
-shed_is z made i word t e next is =
+pub shed_is : {z : Sizes} {made : ℕ} (i word : ℕ) {t : TableWork} {e : Work} → i + 1 + t.done ≡ 512 → IsReleasedWork z made t e → IsReleasedWork z made (one_more_done t) (shed_work i word e)
+shed_is i word next is =
     record { inside = is.inside; frame = is.frame; kind = is.kind; unmarked = is.unmarked; recorded = omega (arith, next); work = is.work; closing = is.closing; earlier = is.earlier }
 
-module _ (h : Holdings) (v : PortValue) (t : TableWork) (ts : List TableWork) (s : Empties h v (t ∷ ts)) where
+module _ {h : Holdings} {v : PortValue} {t : TableWork} {ts : List TableWork} (s : Empties h v (t ∷ ts)) where
   -- ---- the newest work is another one, with so many entries done
-  pub stands_top : (n : ℕ) (e : Work) (w : PortValue) → n ≤ 512 → IsReleasedWork (sizes_of v.post.machine) (length v.holdings.steps) (record t { done = n }) e →
-      Holds v w (record v.holdings { works = e ∷ (top h v t ts s).others }) → Came v w → Empties h w (record t { done = n } ∷ ts)
-  stands_top n e w few is holds came =
+  pub stands_top : (n : ℕ) {e : Work} {w : PortValue} → n ≤ 512 → IsReleasedWork (sizes_of v.post.machine) (length v.holdings.steps) (record t { done = n }) e →
+      Holds v w (record v.holdings { works = e ∷ (top s).others }) → Came v w → Empties h w (record t { done = n } ∷ ts)
+  stands_top n {e} {w} few is holds came =
       let z = sizes_of v.post.machine in
       let longer = came_longer v w came in
       let made = length v.holdings.steps in
-      let o = top h v t ts s in
-      hands_by h v w (t ∷ ts) (record t { done = n } ∷ ts) v.holdings.refs v.holdings.typed (e ∷ o.others) s holds
+      let o = top s in
+      hands_by w (record t { done = n } ∷ ts) v.holdings.refs v.holdings.typed (e ∷ o.others) s holds
       (record { low = s.stack.0.low; high = s.stack.0.high; done = few }, s.stack.1, s.stack.2)
       (tables_later z made (length w.holdings.steps) None (record t { done = n } ∷ ts) (e ∷ o.others) longer (is, tt, tables_done z made t n ts o.others o.around))
       s.refs (typed_later made (length w.holdings.steps) (t ∷ ts) v.holdings.typed longer s.types)
@@ -54,35 +53,28 @@ module _ (h : Holdings) (v : PortValue) (t : TableWork) (ts : List TableWork) (s
       (ap (λ (q : PortValue). q.holdings.locks) holds)) s.owned)
 
   module _ (first : FirstFound v) (i word : ℕ) where
-    looked_hand : learned_cell t.frame i word v.holdings ≡ record v.holdings { works = looked_work i word (top h v t ts s).work ∷ (top h v t ts s).others }
+    looked_hand : learned_cell t.frame i word v.holdings ≡ record v.holdings { works = looked_work i word (top s).work ∷ (top s).others }
     looked_hand =
-        let e = top h v t ts s in
-        looked_apart v.post.machine v.post.vcpu v.holdings first.place first.word first.finds t.frame e.work e.others e.are e.is.frame e.is.inside i word
-        ∙ ap (λ es. record v.holdings { works = es }) (changed_first t.frame (learned_work i word) e.work e.others v.holdings.works e.are e.is.frame)
-        ∙ ap (λ x. record v.holdings { works = x ∷ e.others }) (unmarked_learns i word e.work e.is.unmarked)
+        let e = top s in
+        looked_apart first.finds e.are e.is.frame e.is.inside i word ∙ ap (λ es. record v.holdings { works = es })
+        (changed_first t.frame (learned_work i word) e.work e.others v.holdings.works e.are e.is.frame) ∙ ap (λ x. record v.holdings { works = x ∷ e.others })
+        (unmarked_learns i word e.work e.is.unmarked)
 
-    pub shed_hand : shed_once t.frame i word v.holdings ≡ record v.holdings { works = shed_work i word (top h v t ts s).work ∷ (top h v t ts s).others }
+    pub shed_hand : shed_once t.frame i word v.holdings ≡ record v.holdings { works = shed_work i word (top s).work ∷ (top s).others }
     shed_hand =
-        let e = top h v t ts s in
-        ap (λ (k : Holdings). record k { works = changed_work t.frame (λ x. record x { recorded = i; unsettled = None }) k.works }) looked_hand
-        ∙ ap (λ es. record v.holdings { works = es }) (changed_first t.frame (λ x. record x { recorded = i; unsettled = None }) (looked_work i word e.work) e.others (looked_work i word e.work ∷ e.others) refl e.is.frame)
+        let e = top s in
+        ap (λ (k : Holdings). record k { works = changed_work t.frame (λ x. record x { recorded = i; unsettled = None }) k.works }) looked_hand ∙ ap (λ es. record v.holdings { works = es })
+        (changed_first t.frame (λ x. record x { recorded = i; unsettled = None }) (looked_work i word e.work) e.others (looked_work i word e.work ∷ e.others) refl e.is.frame)
 
     -- it is only looked at
-    pub stays_stands : (w : PortValue) → Holds v w (learned_cell t.frame i word v.holdings) → Came v w → Empties h w (t ∷ ts)
-    stays_stands w holds came =
-        let e = top h v t ts s in
-        stands_top t.done (looked_work i word e.work) w s.stack.0.done (looked_is (sizes_of v.post.machine) (length v.holdings.steps) i word t e.work e.is)
-        (holds ∙ ap (λ (k : Holdings). still (record v { holdings = k })) looked_hand) came
+    pub stays_stands : {w : PortValue} → Holds v w (learned_cell t.frame i word v.holdings) → Came v w → Empties h w (t ∷ ts)
+    stays_stands {w} holds came = stands_top t.done s.stack.0.done (looked_is i word (top s).is) (holds ∙ ap (λ (k : Holdings). still (record v { holdings = k })) looked_hand) came
 
     -- it is given back
-    pub given_stands : (w : PortValue) → i + 1 + t.done ≡ 512 → Holds v w (shed_once t.frame i word v.holdings) → Came v w → Empties h w (one_more_done t ∷ ts)
-    given_stands w next holds came =
-        let e = top h v t ts s in
-        stands_top (t.done + 1) (shed_work i word e.work) w (omega (arith, next)) (shed_is (sizes_of v.post.machine) (length v.holdings.steps) i word t e.work next e.is)
-        (holds ∙ ap (λ (k : Holdings). still (record v { holdings = k })) shed_hand) came
+    pub given_stands : {w : PortValue} → i + 1 + t.done ≡ 512 → Holds v w (shed_once t.frame i word v.holdings) → Came v w → Empties h w (one_more_done t ∷ ts)
+    given_stands {w} next holds came = stands_top (t.done + 1) (omega (arith, next)) (shed_is i word next (top s).is) (holds ∙ ap (λ (k : Holdings). still (record v { holdings = k })) shed_hand) came
 
     pub given_settled : (w : PortValue) → Holds v w (shed_once t.frame i word v.holdings) → IsSettledTop w.holdings
     given_settled w holds work others are =
-        let both : work ∷ others ≡ shed_work i word (top h v t ts s).work ∷ (top h v t ts s).others = sym are ∙ (ap (λ (q : PortValue). q.holdings.works) holds ∙ ap (λ (k : Holdings). k.works) shed_hand) in
-        let one : shed_work i word (top h v t ts s).work ≡ work = cc in
-        subst (λ (y : Work). y.unsettled ≡ None) one refl
+        let both : work ∷ others ≡ shed_work i word (top s).work ∷ (top s).others = sym are ∙ (ap (λ (q : PortValue). q.holdings.works) holds ∙ ap (λ (k : Holdings). k.works) shed_hand) in let one :
+        shed_work i word (top s).work ≡ work = cc in subst (λ (y : Work). y.unsettled ≡ None) one refl

@@ -17,21 +17,20 @@ use Rattle.level_release.specs.Holding.{AreOwned}
 abbrev pub Still : {A : Type 0} → (A → ℕ) → ℕ → List A → List A → Type 0
 Still {A} key g xs ys = (test : A → Bool) → IsTrue (some_of (λ e. (key e == g) && test e) xs) → IsTrue (some_of (λ e. (key e == g) && test e) ys)
 
-pub still_same : {A : Type 0} (key : A → ℕ) (g : ℕ) (xs ys : List A) → ys ≡ xs → Still key g xs ys
-still_same key g xs ys same test passes = subst (λ zs. IsTrue (some_of (λ e. (key e == g) && test e) zs)) (sym same) passes
+pub still_same : {A : Type 0} (key : A → ℕ) (g : ℕ) {xs ys : List A} → ys ≡ xs → Still key g xs ys
+still_same key g same test passes = subst (λ zs. IsTrue (some_of (λ e. (key e == g) && test e) zs)) (sym same) passes
 
-pub still_more : {A : Type 0} (key : A → ℕ) (g : ℕ) (x : A) (xs ys : List A) → ys ≡ x ∷ xs → Still key g xs ys
+pub still_more : {A : Type 0} (key : A → ℕ) (g : ℕ) {x : A} {xs ys : List A} → ys ≡ x ∷ xs → Still key g xs ys
 unfolding some_of
-still_more key g x xs ys more test passes = subst (λ zs. IsTrue (some_of (λ e. (key e == g) && test e) zs)) (sym more) (or_right _ _ passes)
+still_more key g more test passes = subst (λ zs. IsTrue (some_of (λ e. (key e == g) && test e) zs)) (sym more) (or_right _ _ passes)
 
 off_first : (a b c : Bool) → a ≡ false → IsTrue ((a && b) || c) → IsTrue c
 off_first true b c off t = absurd cc
 off_first false b c off t = t
 
-pub still_less : {A : Type 0} (key : A → ℕ) (g : ℕ) (x : A) (xs ys : List A) → key x ≢ g → xs ≡ x ∷ ys → Still key g xs ys
+pub still_less : {A : Type 0} (key : A → ℕ) (g : ℕ) {x : A} {xs ys : List A} → key x ≢ g → xs ≡ x ∷ ys → Still key g xs ys
 unfolding some_of
-still_less key g x xs ys other less test passes =
-    off_first (key x == g) (test x) _ (when_ne (key x) g other) (subst (λ zs. IsTrue (some_of (λ e. (key e == g) && test e) zs)) less passes)
+still_less key g {x} other less test passes = off_first (key x == g) (test x) _ (when_ne (key x) g other) (subst (λ zs. IsTrue (some_of (λ e. (key e == g) && test e) zs)) less passes)
 
 -- ---- the owner
 pub known_still : (z : Sizes) (g o : ℕ) (h k : Holdings) → Grows h k → Still (λ (e : Reference). e.frame) g h.refs k.refs → Still (λ (e : TypedReference). e.frame) g h.typed k.typed → k.locks ≡ h.locks →
@@ -50,17 +49,17 @@ known_still z g o h k grows refs typed locks knows =
 moved_first : (z : Sizes) (g o : ℕ) (steps : List Made) (r : Reference) (y : TypedReference) → y.frame ≡ r.frame → y.owner ≡ r.owner → IsTrue ((r.frame == g) && tells_owner z steps g o r.owner) → IsTrue ((y.frame == g) && tells_owner z steps g o y.owner)
 moved_first z g o steps r y frame owner passes = rw (frame, owner) passes
 
-pub known_moved : (z : Sizes) (g o : ℕ) (h k : Holdings) (r : Reference) (y : TypedReference) → Grows h k → h.refs ≡ r ∷ k.refs → k.typed ≡ y ∷ h.typed → y.frame ≡ r.frame → y.owner ≡ r.owner → k.locks ≡ h.locks →
+pub known_moved : (z : Sizes) (g o : ℕ) (h k : Holdings) {r : Reference} {y : TypedReference} → Grows h k → h.refs ≡ r ∷ k.refs → k.typed ≡ y ∷ h.typed → y.frame ≡ r.frame → y.owner ≡ r.owner → k.locks ≡ h.locks →
     IsTrue (knows_owner z g o h) → IsTrue (knows_owner z g o k)
 unfolding knows_owner some_of
-known_moved z g o h k r y grows refs typed frame owner locks knows =
+known_moved z g o h k {r} {y} grows refs typed frame owner locks knows =
     elim (or_cases _ _ (knows_later z g o h (record k { refs = h.refs; typed = h.typed }) grows refl refl locks knows)) [
       | inl ref ↦ elim (or_cases _ _ (subst (λ zs. IsTrue (some_of (λ (e : Reference). (e.frame == g) && tells_owner z k.steps g o e.owner) zs)) refs ref)) [
         | inl first ↦ or_right _ _ (or_left _ _ (subst (λ zs. IsTrue (some_of (λ (e : TypedReference). (e.frame == g) && tells_owner z k.steps g o e.owner) zs)) (sym typed) (or_left _ _ (moved_first z g o k.steps r y frame owner first))))
         | inr other ↦ or_left _ _ other
       ]
       | inr rest ↦ elim (or_cases _ _ rest) [
-        | inl one ↦ or_right _ _ (or_left _ _ (still_more (λ (e : TypedReference). e.frame) g y h.typed k.typed typed (λ e. tells_owner z k.steps g o e.owner) one))
+        | inl one ↦ or_right _ _ (or_left _ _ (still_more (λ (e : TypedReference). e.frame) g typed (λ e. tells_owner z k.steps g o e.owner) one))
         | inr lock ↦ or_right _ _ (or_right _ _ lock)
       ]
     ]

@@ -57,27 +57,27 @@ since_is made Found low = absurd low
 abbrev pub left_kind : TableWork → KindWord
 left_kind t = partial_kind (level_type t.level) false false (512 - t.done) 0
 
-module _ (h : Holdings) (v : PortValue) (t : TableWork) (ts : List TableWork) (s : Empties h v (t ∷ ts)) where
-  left_over : (top h v t ts s).work.recorded ≡ 512 - t.done
-  left_over = let all = (top h v t ts s).is.recorded in omega (arith, all)
+module _ {h : Holdings} {v : PortValue} {t : TableWork} {ts : List TableWork} (s : Empties h v (t ∷ ts)) where
+  left_over : (top s).work.recorded ≡ 512 - t.done
+  left_over = omega (arith, ((top s).is.recorded))
 
-  held : (b : Bool) → t.own ≡ b → IsTrue (is_closing (kind_fields (top h v t ts s).work.word)) → 0 < refs_to t.frame v.holdings.refs
-  held true own closing = absurd (let off = work_alone (kind_fields (top h v t ts s).work.word) (own_works h v t ts s own) in cc)
-  held false lent closing = closing_held h v t ts s lent
+  held : (b : Bool) → t.own ≡ b → IsTrue (is_closing (kind_fields (top s).work.word)) → 0 < refs_to t.frame v.holdings.refs
+  held true own closing = absurd (let off = work_alone (kind_fields (top s).work.word) (own_works s own) in cc)
+  held false lent closing = closing_held s lent
 
   pub partial_leaves : MayLeave v t.frame (left_kind t)
   partial_leaves =
-      let e = top h v t ts s in
-      subst (λ n. MayLeave v t.frame (partial_kind (level_type t.level) false false n 0)) left_over
-      (may_leave_partial v t.frame (level_type t.level) e.work (top_here h v t ts s) (level_type-typed t.level) e.is.kind false (λ on. absurd cc) (top_table h v t ts s) (top_few h v t ts s) (inl e.is.unmarked) (held t.own refl))
+      let e = top s in
+      subst (λ n. MayLeave v t.frame (partial_kind (level_type t.level) false false n 0)) left_over (may_leave_partial v t.frame (level_type t.level) e.work (top_here s) (level_type-typed t.level)
+      e.is.kind false (λ on. absurd cc) (top_table s) (top_few s) (inl e.is.unmarked) (held t.own refl))
 
-  pub partial_hand : (d : PortValue) → Holds v d (left v t.frame (left_kind t)) → LeftHand h v d t ts (top h v t ts s).others
+  pub partial_hand : (d : PortValue) → Holds v d (left v t.frame (left_kind t)) → LeftHand h v d t ts (top s).others
   partial_hand d hand = by_own t.own refl
     where
-      by_own : (b : Bool) → t.own ≡ b → LeftHand h v d t ts (top h v t ts s).others
+      by_own : (b : Bool) → t.own ≡ b → LeftHand h v d t ts (top s).others
       by_own true own =
-          let e = top h v t ts s in
-          let y = own_typed h v t ts s own in
+          let e = top s in
+          let y = own_typed s own in
           let l = since_is (length v.holdings.steps) y.ref.live y.since in
           record {
             ref = y.ref;
@@ -87,17 +87,17 @@ module _ (h : Holdings) (v : PortValue) (t : TableWork) (ts : List TableWork) (s
             steps = l.0;
             since = l.2;
             earlier = l.1;
-            are_refs = own_refs h v t ts s own;
+            are_refs = own_refs s own;
             are_typed = y.around;
-            known = λ z g o k grows refs typed locks. known_still z g o v.holdings k grows (still_same (λ (x : Reference). x.frame) g v.holdings.refs k.refs refs) (still_same (λ (x : TypedReference). x.frame) g v.holdings.typed k.typed (typed ∙ sym y.are)) locks;
+            known = λ z g o k grows refs typed locks. known_still z g o v.holdings k grows (still_same (λ (x : Reference). x.frame) g refs) (still_same (λ (x : TypedReference). x.frame) g (typed ∙ sym y.are)) locks;
             hand =
-                hand ∙ ap (λ (k : Holdings). still (record v { holdings = k })) (left_partial v t.frame (level_type t.level) e.work (top_here h v t ts s) false (512 - t.done) 0 (own_works h v t ts s own) partial_leaves.is)
-                ∙ ap (λ es. still (record v { holdings = record v.holdings { works = es } })) (top_gone h v t ts s)
+                hand ∙ ap (λ (k : Holdings). still (record v { holdings = k })) (left_partial v t.frame (level_type t.level) e.work (top_here s) false (512 - t.done) 0 (own_works s own) partial_leaves.is)
+                ∙ ap (λ es. still (record v { holdings = record v.holdings { works = es } })) (top_gone s)
                 ∙ ap (λ ys. still (record v { holdings = record v.holdings { typed = ys; works = e.others } })) y.are;
           }
       by_own false lent =
-          let e = top h v t ts s in
-          let r = closing_ref h v t ts s lent in
+          let e = top s in
+          let r = closing_ref s lent in
           let y : TypedReference = record { frame = t.frame; kind = Some (kind_fields e.work.word).kind; owner = ref_owner t.frame v.holdings; live = Since (length v.holdings.steps) } in
           let owner : ref_owner t.frame v.holdings ≡ r.ref.owner = ap (λ rs. owner_by (first_by (λ (x : Reference). x.frame) t.frame rs) (owner_from v.holdings)) r.are ∙ ap (λ x. owner_by x (owner_from v.holdings)) (first_by-cons_here (λ (x : Reference). x.frame) t.frame r.ref r.others r.frame) in
           record {
@@ -109,23 +109,23 @@ module _ (h : Holdings) (v : PortValue) (t : TableWork) (ts : List TableWork) (s
             since = refl;
             earlier = omega arith;
             are_refs = r.around;
-            are_typed = closing_typed h v t ts s lent;
-            known = λ z g o k grows refs typed locks. known_moved z g o v.holdings k r.ref y grows (r.are ∙ ap (λ rs. r.ref ∷ rs) (sym refs)) typed (sym r.frame) owner locks;
+            are_typed = closing_typed s lent;
+            known = λ z g o k grows refs typed locks. known_moved z g o v.holdings k grows (r.are ∙ ap (λ rs. r.ref ∷ rs) (sym refs)) typed (sym r.frame) owner locks;
             hand =
-                hand ∙ ap (λ (k : Holdings). still (record v { holdings = k })) (left_partial_closing v t.frame (level_type t.level) e.work (top_here h v t ts s) false (512 - t.done) 0 (closing_closes h v t ts s lent) partial_leaves.is)
-                ∙ ap (λ es. still (record v { holdings = record v.holdings { refs = without_ref t.frame v.holdings.refs; typed = y ∷ v.holdings.typed; works = es } })) (top_gone h v t ts s)
-                ∙ ap (λ rs. still (record v { holdings = record v.holdings { refs = rs; typed = y ∷ v.holdings.typed; works = e.others } })) (closing_gone h v t ts s lent);
+                hand ∙ ap (λ (k : Holdings). still (record v { holdings = k })) (left_partial_closing v t.frame (level_type t.level) e.work (top_here s) false (512 - t.done) 0 (closing_closes s lent) partial_leaves.is)
+                ∙ ap (λ es. still (record v { holdings = record v.holdings { refs = without_ref t.frame v.holdings.refs; typed = y ∷ v.holdings.typed; works = es } })) (top_gone s)
+                ∙ ap (λ rs. still (record v { holdings = record v.holdings { refs = rs; typed = y ∷ v.holdings.typed; works = e.others } })) (closing_gone s lent);
           }
 
   -- ---- what is known of it
-  module _ (d : PortValue) (k : LeftHand h v d t ts (top h v t ts s).others) where
+  module _ {d : PortValue} (k : LeftHand h v d t ts (top s).others) where
     pub left_typed : d.holdings.typed ≡ k.ref ∷ k.typed
     left_typed = ap (λ (q : PortValue). q.holdings.typed) k.hand
 
     pub left_held : 0 < typed_to t.frame d.holdings.typed
     left_held = subst (λ xs. 0 < typed_to t.frame xs) (sym left_typed) (typed_held t.frame k.ref k.typed k.frame)
 
-    pub left_partial_known : (found : ℕ) → Moves v d (Kind t.frame) (Store (kind_write (left_kind t))) kinds.Kind None found → IsTrue (knows_partial (sizes_of v.post.machine) t.frame (level_type t.level) d.holdings)
+    pub left_partial_known : {found : ℕ} → Moves v d (Kind t.frame) (Store (kind_write (left_kind t))) kinds.Kind None found → IsTrue (knows_partial (sizes_of v.post.machine) t.frame (level_type t.level) d.holdings)
     unfolding left_by
-    left_partial_known found store =
+    left_partial_known {found} store =
         partial_by_step v d t.frame (level_type t.level) (Store (kind_write (left_kind t))) kinds.Kind None found store k.ref k.typed k.steps left_typed k.frame k.since k.earlier (partial_as (level_type t.level) (512 - t.done) partial_leaves.is)

@@ -14,10 +14,10 @@ use Rattle.level_release.proofs.Hands.{tables_none}
 use Rattle.level_release.proofs.HandsLeft.{LeftHand}
 use Rattle.level_release.proofs.HandsTop.{top}
 
-module _ (h : Holdings) (v : PortValue) (t : TableWork) (s : Empties h v (t ∷ [])) (d : PortValue) (k : LeftHand h v d t [] (top h v t [] s).others) where
+module _ {h : Holdings} {v : PortValue} {t : TableWork} (s : Empties h v (t ∷ [])) {d : PortValue} (k : LeftHand h v d t [] (top s).others) where
   pub named_stands : (x : PortValue) → Holds d x (kept_in_old First t.frame d.holdings) → HoldsNow x (named_hand t.frame h)
   named_stands x put =
-      let e = top h v t [] s in
+      let e = top s in
       let holds : Holds v x (record v.holdings { refs = k.refs; typed = k.typed; works = e.others; old0 = Some (t.frame + 1) }) =
       put ∙ ap (λ (q : PortValue). still (record q { holdings = kept_in_old First t.frame q.holdings })) k.hand
       ∙ ap (λ ys. still (record v { holdings = record v.holdings { refs = k.refs; typed = ys; works = e.others; old0 = Some (t.frame + 1) } }))

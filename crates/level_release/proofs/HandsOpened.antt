@@ -29,17 +29,17 @@ use Rattle.level_release.proofs.HandsKnown.{Still, known_still, owned_still, sti
 use Rattle.level_release.proofs.HandsTop.{top}
 
 -- ---- a reference more
-pub ref_more : (own : Bool) (f : ℕ) (P : List Reference → Type 0) (r : Reference) (xs ys : List Reference) → own ≡ false → r.frame ≡ f → ys ≡ r ∷ xs → P xs → RefFor own f P ys
-ref_more true f P r xs ys off at are rest = absurd cc
-ref_more false f P r xs ys off at are rest = (r, xs, at, are, rest)
+pub ref_more : (own : Bool) {f : ℕ} (P : List Reference → Type 0) {r : Reference} {xs ys : List Reference} → own ≡ false → r.frame ≡ f → ys ≡ r ∷ xs → P xs → RefFor own f P ys
+ref_more true P off at are rest = absurd cc
+ref_more false P {r} {xs} off at are rest = (r, xs, at, are, rest)
 
 pub ref_none : (own : Bool) (f : ℕ) (P : List Reference → Type 0) (xs : List Reference) → own ≡ true → P xs → RefFor own f P xs
 ref_none true f P xs on rest = rest
 ref_none false f P xs on rest = absurd cc
 
-pub typed_more : (own : Bool) (made f : ℕ) (P : List TypedReference → Type 0) (r : TypedReference) (xs ys : List TypedReference) → own ≡ true → r.frame ≡ f → IsSince made r.live → ys ≡ r ∷ xs → P xs → TypedIfOwn own made f P ys
-typed_more true made f P r xs ys on at since are rest = (r, xs, at, since, are, rest)
-typed_more false made f P r xs ys on at since are rest = absurd cc
+pub typed_more : (own : Bool) (made : ℕ) {f : ℕ} (P : List TypedReference → Type 0) {r : TypedReference} {xs ys : List TypedReference} → own ≡ true → r.frame ≡ f → IsSince made r.live → ys ≡ r ∷ xs → P xs → TypedIfOwn own made f P ys
+typed_more true made P {r} {xs} on at since are rest = (r, xs, at, since, are, rest)
+typed_more false made P on at since are rest = absurd cc
 
 pub typed_none : (own : Bool) (made f : ℕ) (P : List TypedReference → Type 0) (xs : List TypedReference) → own ≡ false → P xs → TypedIfOwn own made f P xs
 typed_none true made f P xs off rest = absurd cc
@@ -53,13 +53,13 @@ level_under l low table =
       | inr other ↦ omega (arith, low, other)
     ]
 
-module _ (h : Holdings) (v : PortValue) (t : TableWork) (ts : List TableWork) (s : Empties h v (t ∷ ts)) (first : FirstFound v) (i : ℕ) (next : i + 1 + t.done ≡ 512) (g recorded : ℕ) (closing : Bool)
+module _ {h : Holdings} {v : PortValue} {t : TableWork} {ts : List TableWork} (s : Empties h v (t ∷ ts)) (first : FirstFound v) (i : ℕ) (next : i + 1 + t.done ≡ 512) (g recorded : ℕ) (closing : Bool)
     (w : PortValue) (r : Reopens v w t.frame i (level_type t.level) g recorded closing) where
   abbrev new : TableWork
   new = table_under t g recorded closing
 
   outer : Work
-  outer = shed_work i r.word (top h v t ts s).work
+  outer = shed_work i r.word (top s).work
 
   low : 1 ≤ t.level - 1
   low = level_under t.level s.stack.0.low r.table
@@ -101,20 +101,19 @@ module _ (h : Holdings) (v : PortValue) (t : TableWork) (ts : List TableWork) (s
   new_inside = record { settled = refl; word = r.word; seen = refl; asks = r.asks ∙ ap (λ k. Typed g k) new_type; inside = omega (arith, next) }
 
   module _ (came : Came v w) (owns : OwnsReleased v w t.frame (Opened g recorded closing)) where
-    opened_by : (rs : List Reference) (ys : List TypedReference) → Holds v w (record v.holdings { refs = rs; typed = ys; works = r.work ∷ outer ∷ (top h v t ts s).others }) → AreRefs h.refs (new ∷ one_more_done t ∷ ts) rs →
+    opened_by : (rs : List Reference) (ys : List TypedReference) → Holds v w (record v.holdings { refs = rs; typed = ys; works = r.work ∷ outer ∷ (top s).others }) → AreRefs h.refs (new ∷ one_more_done t ∷ ts) rs →
         AreOwnTyped (length w.holdings.steps) (new ∷ one_more_done t ∷ ts) ys → ((f : ℕ) → Still (λ (e : Reference). e.frame) f v.holdings.refs rs) → ((f : ℕ) → Still (λ (e : TypedReference). e.frame) f v.holdings.typed ys) →
         Empties h w (new ∷ one_more_done t ∷ ts)
     unfolding outer
     opened_by rs ys holds refs typed still_refs still_typed =
         let z = sizes_of v.post.machine in
-        let longer = came_longer v w came in
-        let o = top h v t ts s in
-        hands_by h v w (t ∷ ts) (new ∷ one_more_done t ∷ ts) rs ys (r.work ∷ outer ∷ o.others) s holds
+        let o = top s in
+        hands_by w (new ∷ one_more_done t ∷ ts) rs ys (r.work ∷ outer ∷ o.others) s holds
         (opened_table, opened_under, (record { low = s.stack.0.low; high = s.stack.0.high; done = omega (arith, next) }, s.stack.1, s.stack.2)) (
           new_is,
           tt,
-          tables_later z (length v.holdings.steps) (length w.holdings.steps) (Some new) (one_more_done t ∷ ts) (outer ∷ o.others) longer
-              (shed_is z (length v.holdings.steps) i r.word t o.work next o.is, new_inside, tables_done z (length v.holdings.steps) t (t.done + 1) ts o.others o.around),
+          tables_later z (length v.holdings.steps) (length w.holdings.steps) (Some new) (one_more_done t ∷ ts) (outer ∷ o.others) (came_longer v w came)
+              (shed_is i r.word next o.is, new_inside, tables_done z (length v.holdings.steps) t (t.done + 1) ts o.others o.around),
         )
         refs typed (
           owns s.owner s.owned.0,
@@ -136,24 +135,24 @@ module _ (h : Holdings) (v : PortValue) (t : TableWork) (ts : List TableWork) (s
             let own : new.own ≡ false = ap (λ b. not b) is in
             opened_by (one ∷ v.holdings.refs) v.holdings.typed
             (r.hand ∙ ap (λ (k : Holdings). still (record v { holdings = k })) u.2
-            ∙ ap (λ (k : Holdings). still (record v { holdings = record k { refs = one ∷ k.refs; works = r.work ∷ k.works } })) (shed_hand h v t ts s first i r.word))
-            (ref_more new.own g (AreRefs h.refs (one_more_done t ∷ ts)) one v.holdings.refs (one ∷ v.holdings.refs) own u.1 refl s.refs)
+            ∙ ap (λ (k : Holdings). still (record v { holdings = record k { refs = one ∷ k.refs; works = r.work ∷ k.works } })) (shed_hand s first i r.word))
+            (ref_more new.own (AreRefs h.refs (one_more_done t ∷ ts)) own u.1 refl s.refs)
             (typed_none new.own (length w.holdings.steps) g (AreOwnTyped (length w.holdings.steps) (one_more_done t ∷ ts)) v.holdings.typed own
             (typed_later (length v.holdings.steps) (length w.holdings.steps) (t ∷ ts) v.holdings.typed (came_longer v w came) s.types))
-            (λ f. still_more (λ (e : Reference). e.frame) f one v.holdings.refs (one ∷ v.holdings.refs) refl) (λ f. still_same (λ (e : TypedReference). e.frame) f v.holdings.typed v.holdings.typed refl)
+            (λ f. still_more (λ (e : Reference). e.frame) f refl) (λ f. still_same (λ (e : TypedReference). e.frame) f refl)
         by_closing false is =
             let u = r.holding.typed is in
             let one = u.0 in
             let own : new.own ≡ true = ap (λ b. not b) is in
-            let holds : Holds v w (record v.holdings { refs = v.holdings.refs; typed = one ∷ v.holdings.typed; works = r.work ∷ outer ∷ (top h v t ts s).others }) =
+            let holds : Holds v w (record v.holdings { refs = v.holdings.refs; typed = one ∷ v.holdings.typed; works = r.work ∷ outer ∷ (top s).others }) =
             r.hand ∙ ap (λ (k : Holdings). still (record v { holdings = k })) u.3
-            ∙ ap (λ (k : Holdings). still (record v { holdings = record k { typed = one ∷ k.typed; works = r.work ∷ k.works } })) (shed_hand h v t ts s first i r.word) in
+            ∙ ap (λ (k : Holdings). still (record v { holdings = record k { typed = one ∷ k.typed; works = r.work ∷ k.works } })) (shed_hand s first i r.word) in
             opened_by v.holdings.refs (one ∷ v.holdings.typed) holds
             (ref_none new.own g (AreRefs h.refs (one_more_done t ∷ ts)) v.holdings.refs own s.refs)
-            (typed_more new.own (length w.holdings.steps) g (AreOwnTyped (length w.holdings.steps) (one_more_done t ∷ ts)) one v.holdings.typed (one ∷ v.holdings.typed) own u.1
+            (typed_more new.own (length w.holdings.steps) (AreOwnTyped (length w.holdings.steps) (one_more_done t ∷ ts)) own u.1
             (r.since is one v.holdings.typed (ap (λ (q : PortValue). q.holdings.typed) holds)) refl
             (typed_later (length v.holdings.steps) (length w.holdings.steps) (t ∷ ts) v.holdings.typed (came_longer v w came) s.types))
-            (λ f. still_same (λ (e : Reference). e.frame) f v.holdings.refs v.holdings.refs refl) (λ f. still_more (λ (e : TypedReference). e.frame) f one v.holdings.typed (one ∷ v.holdings.typed) refl)
+            (λ f. still_same (λ (e : Reference). e.frame) f refl) (λ f. still_more (λ (e : TypedReference). e.frame) f refl)
 
   pub opened_settled : closing ≡ true → IsSettledTop w.holdings
   opened_settled is work others are =

@@ -48,19 +48,19 @@ settled_none z k e none = subst (λ o. IsTrue (settles_last z e k.steps o)) (sym
 recorded_work : ℕ → Option Unsettled → Work → Work
 recorded_work upto u e = record e { recorded = upto; unsettled = u }
 
-recorded_is : (z : Sizes) (made upto : ℕ) (o : Option Unsettled) (u : TableWork) (e : Work) → e.recorded < 512 → upto ≡ e.recorded + 1 → IsReleasedWork z made u e → IsReleasedWork z made (one_less u) (recorded_work upto o e)
+recorded_is : {z : Sizes} {made upto : ℕ} (o : Option Unsettled) {u : TableWork} {e : Work} → e.recorded < 512 → upto ≡ e.recorded + 1 → IsReleasedWork z made u e → IsReleasedWork z made (one_less u) (recorded_work upto o e)
 unfolding recorded_work
-recorded_is z made upto o u e inside next is =
+recorded_is o inside next is =
     let all = is.recorded in
     record { inside = is.inside; frame = is.frame; kind = is.kind; unmarked = is.unmarked; recorded = omega (arith, all, inside, next); work = is.work; closing = is.closing; earlier = is.earlier }
 
-module _ (h : Holdings) (v : PortValue) (t u : TableWork) (us : List TableWork) (s : Empties h v (t ∷ u ∷ us)) (d : PortValue) (k : LeftHand h v d t (u ∷ us) (top h v t (u ∷ us) s).others) (found : ℕ)
+module _ {h : Holdings} {v : PortValue} {t u : TableWork} {us : List TableWork} (s : Empties h v (t ∷ u ∷ us)) {d : PortValue} (k : LeftHand h v d t (u ∷ us) (top s).others) {found : ℕ}
     (store : Moves v d (Kind t.frame) (Store (kind_write (left_kind t))) kinds.Kind None found) where
   inner : TopTable (sizes_of v.post.machine) (length v.holdings.steps) None t (u ∷ us) v.holdings.works
-  inner = top h v t (u ∷ us) s
+  inner = top s
 
-  abbrev outer : TopTable (sizes_of v.post.machine) (length v.holdings.steps) (Some t) u us (top h v t (u ∷ us) s).others
-  outer = tables_top (sizes_of v.post.machine) (length v.holdings.steps) (Some t) u us (top h v t (u ∷ us) s).others (top h v t (u ∷ us) s).around
+  abbrev outer : TopTable (sizes_of v.post.machine) (length v.holdings.steps) (Some t) u us (top s).others
+  outer = tables_top (sizes_of v.post.machine) (length v.holdings.steps) (Some t) u us (top s).others (top s).around
 
   works_d : d.holdings.works ≡ outer.work ∷ outer.others
   works_d = ap (λ (q : PortValue). q.holdings.works) k.hand ∙ outer.are
@@ -83,10 +83,10 @@ module _ (h : Holdings) (v : PortValue) (t u : TableWork) (us : List TableWork) 
   has_there : HasLastDemand v.post.machine u.frame (kind_fields outer.work.word).kind d.holdings (Typed t.frame (level_type t.level))
   has_there = (
     record {
-      in_hand = left_held h v t (u ∷ us) s d k;
+      in_hand = left_held s k;
       owners = record { table = s.owner; frame = s.owner; table_known = known_d u.frame s.owner s.owned.1.0; frame_known = known_d t.frame s.owner s.owned.0; meet = inl refl };
     },
-    inr (left_partial_known h v t (u ∷ us) s d k found store),
+    inr (left_partial_known s k store),
   )
 
   has_last : HasLastDemand d.post.machine u.frame (kind_fields outer.work.word).kind d.holdings (demand_at (kind_fields outer.work.word).kind outer.work.recorded outer.inside.word)
@@ -124,7 +124,7 @@ module _ (h : Holdings) (v : PortValue) (t u : TableWork) (us : List TableWork) 
       record_left d.post.machine u.frame (512 - (u.done - 1)) d.holdings inside_records _ refl
       ∙ ap (λ y. record (demand_out y d.holdings) { works = changed_work u.frame (recorded_work (512 - (u.done - 1)) unsettled) d.holdings.works }) asks_is
       ∙ ap (λ ys. record d.holdings { typed = ys; works = changed_work u.frame (recorded_work (512 - (u.done - 1)) unsettled) d.holdings.works })
-      (without_newest (λ (y : TypedReference). y.frame) t.frame k.ref k.typed d.holdings.typed k.frame (left_typed h v t (u ∷ us) s d k))
+      (without_newest (λ (y : TypedReference). y.frame) t.frame k.ref k.typed d.holdings.typed k.frame (left_typed s k))
       ∙ ap (λ ws. record d.holdings { typed = k.typed; works = ws }) (changed_first u.frame (recorded_work (512 - (u.done - 1)) unsettled) outer.work outer.others d.holdings.works works_d outer.is.frame)
 
   module _ (x : PortValue) (holds : Holds d x (entry_recorded d.post.machine u.frame d.holdings)) (came : Came d x) where
@@ -134,16 +134,13 @@ module _ (h : Holdings) (v : PortValue) (t u : TableWork) (us : List TableWork) 
         ∙ ap (λ (q : PortValue). still (record q { holdings = record q.holdings { typed = k.typed; works = again ∷ outer.others } })) k.hand
 
     apart : AreApart t.frame (u ∷ us)
-    apart =
-        tables_apart (sizes_of v.post.machine) (length v.holdings.steps) (Some t) t.frame (u ∷ us) inner.others inner.around
-        (others_apart v.post.machine v.post.vcpu v.holdings (Kind t.frame) found store.finds t.frame inner.work inner.others inner.are inner.is.frame)
+    apart = tables_apart (sizes_of v.post.machine) (length v.holdings.steps) (Some t) t.frame (u ∷ us) inner.others inner.around (others_apart store.finds inner.are inner.is.frame)
 
     known_x : (g : ℕ) → t.frame ≢ g → IsTrue (knows_owner (sizes_of v.post.machine) g s.owner v.holdings) → IsTrue (knows_owner (sizes_of v.post.machine) g s.owner x.holdings)
     known_x g other knows =
-        known_still (sizes_of v.post.machine) g s.owner d.holdings x.holdings (came_grows d x came)
-        (still_same (λ (y : Reference). y.frame) g d.holdings.refs x.holdings.refs (ap (λ (q : PortValue). q.holdings.refs) recorded_hand ∙ sym (ap (λ (q : PortValue). q.holdings.refs) k.hand)))
-        (still_less (λ (y : TypedReference). y.frame) g k.ref d.holdings.typed x.holdings.typed (λ same. other (sym k.frame ∙ same))
-        (left_typed h v t (u ∷ us) s d k ∙ ap (λ ys. k.ref ∷ ys) (sym (ap (λ (q : PortValue). q.holdings.typed) recorded_hand))))
+        known_still (sizes_of v.post.machine) g s.owner d.holdings x.holdings (came_grows d x came) (still_same (λ (y : Reference). y.frame) g
+        (ap (λ (q : PortValue). q.holdings.refs) recorded_hand ∙ sym (ap (λ (q : PortValue). q.holdings.refs) k.hand)))
+        (still_less (λ (y : TypedReference). y.frame) g (λ same. other (sym k.frame ∙ same)) (left_typed s k ∙ ap (λ ys. k.ref ∷ ys) (sym (ap (λ (q : PortValue). q.holdings.typed) recorded_hand))))
         (ap (λ (q : PortValue). q.holdings.locks) recorded_hand ∙ sym (ap (λ (q : PortValue). q.holdings.locks) k.hand)) (known_d g s.owner knows)
 
     owned_x : AreOwned (sizes_of v.post.machine) s.owner (u ∷ us) x.holdings
@@ -153,30 +150,25 @@ module _ (h : Holdings) (v : PortValue) (t u : TableWork) (us : List TableWork) 
     inside_stands =
         let z = sizes_of v.post.machine in
         let made = length v.holdings.steps in
-        let one = came_longer v d (moves_came v d _ _ kinds.Kind None found store) in
-        let two = came_longer d x came in
-        let longer : made ≤ length x.holdings.steps = omega (arith, one, two) in
-        let few = s.stack.2.0.done in
-        hands_by h v x (t ∷ u ∷ us) (one_less u ∷ us) k.refs k.typed (again ∷ outer.others) s recorded_hand
-        (record { low = s.stack.2.0.low; high = s.stack.2.0.high; done = omega (arith, few) }, s.stack.2.1, s.stack.2.2)
-        (tables_later z made (length x.holdings.steps) None (one_less u ∷ us) (again ∷ outer.others) longer
-        (recorded_is z made (512 - (u.done - 1)) unsettled u outer.work outer.inside.inside next_one outer.is, tt, tables_done z made u (u.done - 1) us outer.others outer.around))
-        k.are_refs (typed_later made (length x.holdings.steps) (u ∷ us) k.typed longer k.are_typed) owned_x
+        let longer : made ≤ length x.holdings.steps = omega (arith, (came_longer v d (moves_came v d _ _ kinds.Kind None found store)), (came_longer d x came)) in let few = s.stack.2.0.done
+        in hands_by x (one_less u ∷ us) k.refs k.typed (again ∷ outer.others) s recorded_hand (record { low = s.stack.2.0.low; high = s.stack.2.0.high; done = omega (arith, few) }, s.stack.2.1,
+        s.stack.2.2) (tables_later z made (length x.holdings.steps) None (one_less u ∷ us) (again ∷ outer.others) longer
+        (recorded_is unsettled outer.inside.inside next_one outer.is, tt, tables_done z made u (u.done - 1) us outer.others outer.around)) k.are_refs
+        (typed_later made (length x.holdings.steps) (u ∷ us) k.typed longer k.are_typed) owned_x
 
 -- ---- whatever stack it was in
-outer_is : (u o : TableWork) (us rest : List TableWork) → one_less u ∷ us ≡ o ∷ rest → one_less u ≡ o
-outer_is u o us rest are = cc
+outer_is : (u : TableWork) {o : TableWork} {us rest : List TableWork} → one_less u ∷ us ≡ o ∷ rest → one_less u ≡ o
+outer_is u are = cc
 
-module _ (h : Holdings) (v : PortValue) (t : TableWork) (d : PortValue) (hand : Holds v d (left v t.frame (left_kind t))) (found : ℕ) (store : Moves v d (Kind t.frame) (Store (kind_write (left_kind t))) kinds.Kind None found) where
+module _ (h : Holdings) {v : PortValue} (t : TableWork) {d : PortValue} (hand : Holds v d (left v t.frame (left_kind t))) {found : ℕ} (store : Moves v d (Kind t.frame) (Store (kind_write (left_kind t))) kinds.Kind None found) where
   pub inside_asks : (stack : List TableWork) → stack ≢ [] → Empties h v (t ∷ stack) → (o : TableWork) (rest : List TableWork) → retreated stack ≡ o ∷ rest → RecordsNext d.post.machine o.frame (512 - o.done) d.holdings
   inside_asks [] some s o rest are = absurd (some refl)
-  inside_asks (u ∷ us) some s o rest are =
-      subst (λ (k : TableWork). RecordsNext d.post.machine k.frame (512 - k.done) d.holdings) (outer_is u o us rest are) (inside_records h v t u us s d (partial_hand h v t (u ∷ us) s d hand) found store)
+  inside_asks (u ∷ us) some s o rest are = subst (λ (k : TableWork). RecordsNext d.post.machine k.frame (512 - k.done) d.holdings) (outer_is u are) (inside_records s (partial_hand s d hand) store)
 
   pub inside_done : (stack : List TableWork) → stack ≢ [] → Empties h v (t ∷ stack) → (o : TableWork) (rest new : List TableWork) → new ≡ o ∷ rest → new ≡ retreated stack →
       (x : PortValue) → Holds d x (entry_recorded d.post.machine o.frame d.holdings) → Came d x → Empties h x new
   inside_done [] some s o rest new top_is goes_back x holds came = absurd (some refl)
   inside_done (u ∷ us) some s o rest new top_is goes_back x holds came =
-      let same = outer_is u o us rest (sym goes_back ∙ top_is) in
+      let same = outer_is u (sym goes_back ∙ top_is) in
       subst (λ xs. Empties h x xs) (sym goes_back)
-      (inside_stands h v t u us s d (partial_hand h v t (u ∷ us) s d hand) found store x (subst (λ (k : TableWork). Holds d x (entry_recorded d.post.machine k.frame d.holdings)) (sym same) holds) came)
+      (inside_stands s (partial_hand s d hand) store x (subst (λ (k : TableWork). Holds d x (entry_recorded d.post.machine k.frame d.holdings)) (sym same) holds) came)

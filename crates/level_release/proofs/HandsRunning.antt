@@ -16,36 +16,36 @@ pub record RunningDown (u w : PortValue) (ts us : List TableWork) : Type 0 where
   pub stands : StaysEmptying u w ts us
   pub outer : us ≢ [] → outermost_frame us ≡ outermost_frame ts
 
-pub running_begins : (u : PortValue) (ts : List TableWork) → RunningDown u u ts ts
-running_begins u ts = record { came = came_self u; stands = λ h s. s; outer = λ some. refl }
+pub running_begins : {u : PortValue} {ts : List TableWork} → RunningDown u u ts ts
+running_begins {u} = record { came = came_self u; stands = λ h s. s; outer = λ some. refl }
 
-module _ (u w : PortValue) (ts us : List TableWork) (g : RunningDown u w ts us) where
+module _ {u w : PortValue} {ts us : List TableWork} (g : RunningDown u w ts us) where
   pub running_may : IsReleasing u ts → MayWork u → MayWork w
-  running_may a may = hands_may a.0 u w ts us a.1 (g.stands a.0 a.1) (came_post u w g.came) may
+  running_may a may = hands_may a.1 (g.stands a.0 a.1) (came_post u w g.came) may
 
   pub running_on : us ≢ [] → (x : PortValue) (rs : List TableWork) → Came w x → StaysEmptying w x us rs → (rs ≢ [] → outermost_frame rs ≡ outermost_frame us) → RunningDown u x ts rs
   running_on some x rs came stands outer =
       record { came = came_trans u w x g.came came; stands = λ h s. stands h (g.stands h s); outer = λ more. outer more ∙ g.outer some }
 
 -- what a test of the stack says
-pub tested_some : (ts : List TableWork) (b : Bool) → b ≡ false → (ts ≡ [] → IsTrue b) → ts ≢ []
-tested_some ts b off test none = absurd (let on = test none in cc)
+pub tested_some : (ts : List TableWork) {b : Bool} → b ≡ false → (ts ≡ [] → IsTrue b) → ts ≢ []
+tested_some ts off test none = absurd (let on = test none in cc)
 
 -- ---- from one table alone
-module _ (u w : PortValue) (t : TableWork) (all us : List TableWork) (is : all ≡ t ∷ []) (came : Came u w) (stands : StaysEmptying u w all us) where
-  pub from_one : (h : Holdings) → Empties h u (t ∷ []) → Empties h w us
-  from_one h s = stands h (subst (λ xs. Empties h u xs) (sym is) s)
+module _ (u w : PortValue) {t : TableWork} {all : List TableWork} (us : List TableWork) (is : all ≡ t ∷ []) (came : Came u w) (stands : StaysEmptying u w all us) where
+  pub from_one : {h : Holdings} → Empties h u (t ∷ []) → Empties h w us
+  from_one {h} s = stands h (subst (λ xs. Empties h u xs) (sym is) s)
 
   pub emptied_may : IsReleasing u (t ∷ []) → MayWork u → MayWork w
-  emptied_may a may = hands_may a.0 u w (t ∷ []) us a.1 (from_one a.0 a.1) (came_post u w came) may
+  emptied_may a may = hands_may a.1 (from_one a.1) (came_post u w came) may
 
   pub emptied_room : IsReleasing u (t ∷ []) → known_old First u.holdings ≡ Some 0 → known_old First w.holdings ≡ Some 0
-  emptied_room a room = hands_old a.0 u w (t ∷ []) us a.1 (from_one a.0 a.1) ∙ room
+  emptied_room a room = hands_old a.1 (from_one a.1) ∙ room
 
   -- it is dead
   pub emptied_dead : us ≡ [] → (h : Holdings) → Empties h u (t ∷ []) → HoldsNow w h
-  emptied_dead none h s = hands_none h w (subst (λ xs. Empties h w xs) none (from_one h s))
+  emptied_dead none h s = hands_none (subst (λ xs. Empties h w xs) none (from_one s))
 
   -- or what is left of it is named
   pub emptied_named : outermost_frame us ≡ outermost_frame all → (x : PortValue) → LeavesNamed w x us → (h : Holdings) → Empties h u (t ∷ []) → HoldsNow x (named_hand t.frame h)
-  emptied_named outer x leaves h s = subst (λ f. HoldsNow x (named_hand f h)) (outer ∙ ap outermost_frame is) (leaves h (from_one h s))
+  emptied_named outer x leaves h s = subst (λ f. HoldsNow x (named_hand f h)) (outer ∙ ap outermost_frame is) (leaves h (from_one s))

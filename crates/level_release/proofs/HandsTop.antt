@@ -24,7 +24,7 @@ use Rattle.level_release.specs.Holding.{AreRefs, AreOwnTyped, Empties}
 use Rattle.level_release.proofs.Hands.{TopRef, TopTable, TopTyped, hands_by, refs_own, refs_top, tables_later, tables_top, typed_later, typed_lent, typed_top}
 use Rattle.level_release.proofs.HandsKnown.{owned_still}
 
-module _ (h : Holdings) (v : PortValue) (t : TableWork) (ts : List TableWork) (s : Empties h v (t ∷ ts)) where
+module _ {h : Holdings} {v : PortValue} {t : TableWork} {ts : List TableWork} (s : Empties h v (t ∷ ts)) where
   abbrev pub top : TopTable (sizes_of v.post.machine) (length v.holdings.steps) None t ts v.holdings.works
   top = tables_top (sizes_of v.post.machine) (length v.holdings.steps) None t ts v.holdings.works s.tables
 
@@ -75,10 +75,10 @@ module _ (h : Holdings) (v : PortValue) (t : TableWork) (ts : List TableWork) (s
     closing_gone = let y = closing_ref in without_newest (λ (z : Reference). z.frame) t.frame y.ref y.others v.holdings.refs y.frame y.are
 
 -- ---- a look
-pub hands_same : (h : Holdings) (v w : PortValue) (ts : List TableWork) → Same v w → Came v w → Empties h v ts → Empties h w ts
-hands_same h v w ts same came s =
+pub hands_same : {h : Holdings} {v w : PortValue} {ts : List TableWork} → Same v w → Came v w → Empties h v ts → Empties h w ts
+hands_same {h} {v} {w} {ts} same came s =
     let longer = came_longer v w came in
-    hands_by h v w ts ts v.holdings.refs v.holdings.typed v.holdings.works s same s.stack
+    hands_by w ts v.holdings.refs v.holdings.typed v.holdings.works s same s.stack
     (tables_later (sizes_of v.post.machine) (length v.holdings.steps) (length w.holdings.steps) None ts v.holdings.works longer s.tables) s.refs
     (typed_later (length v.holdings.steps) (length w.holdings.steps) ts v.holdings.typed longer s.types)
     (owned_still (sizes_of v.post.machine) s.owner ts v.holdings w.holdings

@@ -21,43 +21,42 @@ pub record LeavingDown (u w : PortValue) (ts us : List TableWork) : Type 0 where
   pub came : Came u w
   pub hand : (h : Holdings) → Empties h u ts → LeftTo h w ts us
 
-begins : (u : PortValue) (ts : List TableWork) → ts ≢ [] → (h : Holdings) → Empties h u ts → LeftTo h u ts ts
-begins u [] some h s = absurd (some refl)
-begins u (t ∷ ts) some h s = (s, refl)
+begins : {u : PortValue} (ts : List TableWork) → ts ≢ [] → (h : Holdings) → Empties h u ts → LeftTo h u ts ts
+begins [] some h s = absurd (some refl)
+begins (t ∷ ts) some h s = (s, refl)
 
-pub leaving_begins : (u : PortValue) (ts : List TableWork) → ts ≢ [] → LeavingDown u u ts ts
-leaving_begins u ts some = record { came = came_self u; hand = begins u ts some }
+pub leaving_begins : {u : PortValue} {ts : List TableWork} → ts ≢ [] → LeavingDown u u ts ts
+leaving_begins {u} {ts} some = record { came = came_self u; hand = begins ts some }
 
 -- ---- one table more was popped
-module _ (u w : PortValue) (ts : List TableWork) (t : TableWork) (us all : List TableWork) (g : LeavingDown u w ts all) (popped : all ≡ t ∷ us) where
-  now : (h : Holdings) → Empties h u ts → Empties h w (t ∷ us) × (outermost_frame (t ∷ us) ≡ outermost_frame ts)
-  now h s = subst (λ xs. LeftTo h w ts xs) popped (g.hand h s)
+module _ {u w : PortValue} {ts : List TableWork} {t : TableWork} {us all : List TableWork} (g : LeavingDown u w ts all) (popped : all ≡ t ∷ us) where
+  now : {h : Holdings} → Empties h u ts → Empties h w (t ∷ us) × (outermost_frame (t ∷ us) ≡ outermost_frame ts)
+  now {h} s = subst (λ xs. LeftTo h w ts xs) popped (g.hand h s)
 
   pub leaving_may : IsReleasing u ts → MayWork u → MayWork w
-  leaving_may a may = hands_may a.0 u w ts (t ∷ us) a.1 (now a.0 a.1).0 (came_post u w g.came) may
+  leaving_may a may = hands_may a.1 (now a.1).0 (came_post u w g.came) may
 
   pub leaving_stands : IsReleasing u ts → IsReleasing w (t ∷ us)
-  leaving_stands a = (a.0, (now a.0 a.1).0)
+  leaving_stands a = (a.0, (now a.1).0)
 
   pub leaving_last : IsReleasing u ts → us ≡ [] → IsReleasing w (t ∷ [])
   leaving_last a none = subst (λ xs. IsReleasing w (t ∷ xs)) none (leaving_stands a)
 
   pub leaving_room : IsReleasing u ts → known_old First u.holdings ≡ Some 0 → known_old First w.holdings ≡ Some 0
-  leaving_room a room = hands_old a.0 u w ts (t ∷ us) a.1 (now a.0 a.1).0 ∙ room
+  leaving_room a room = hands_old a.1 (now a.1).0 ∙ room
 
   module _ (x : PortValue) (came : Came w x) where
     -- it was the outermost one
     named : us ≡ [] → LeavesNamed w x (t ∷ []) → (h : Holdings) → Empties h u ts → HoldsNow x (named_hand (outermost_frame ts) h)
     named none leaves h s =
-        let before = now h s in
-        subst (λ f. HoldsNow x (named_hand f h)) (ap (λ xs. outermost_frame (t ∷ xs)) (sym none) ∙ before.1) (leaves h (subst (λ xs. Empties h w (t ∷ xs)) none before.0))
+        let before = now s in subst (λ f. HoldsNow x (named_hand f h)) (ap (λ xs. outermost_frame (t ∷ xs)) (sym none) ∙ before.1) (leaves h (subst (λ xs. Empties h w (t ∷ xs)) none before.0))
 
     pub leaving_named : us ≡ [] → LeavesNamed w x (t ∷ []) → LeavingDown u x ts us
     leaving_named none leaves = record { came = came_trans u w x g.came came; hand = λ h s. subst (λ xs. LeftTo h x ts xs) (sym none) (named none leaves h s) }
 
     -- it was inside another one
-    pub leaving_inside : (rs : List TableWork) → StaysEmptying w x (t ∷ us) rs → LeftInside w t us x rs → LeavingDown u x ts rs
-    leaving_inside rs stands shape = record { came = came_trans u w x g.came came; hand = λ h s. by_shape us rs shape h (stands h (now h s).0) (now h s).1 }
+    pub leaving_inside : {rs : List TableWork} → StaysEmptying w x (t ∷ us) rs → LeftInside w t us x rs → LeavingDown u x ts rs
+    leaving_inside {rs} stands shape = record { came = came_trans u w x g.came came; hand = λ h s. by_shape us rs shape h (stands h (now s).0) (now s).1 }
       where
         same_named : (o : TableWork) (ks : List TableWork) → outermost_frame (one_less o ∷ ks) ≡ outermost_frame (o ∷ ks)
         same_named o [] = refl
@@ -69,5 +68,5 @@ module _ (u w : PortValue) (ts : List TableWork) (t : TableWork) (us all : List 
 
 -- ---- each time there is one table less
 
-pub leaving_done : (u w : PortValue) (ts us : List TableWork) → LeavingDown u w ts us → us ≡ [] → LeavesNamed u w ts
-leaving_done u w ts us g none h s = subst (λ xs. LeftTo h w ts xs) none (g.hand h s)
+pub leaving_done : {u w : PortValue} {ts us : List TableWork} → LeavingDown u w ts us → us ≡ [] → LeavesNamed u w ts
+leaving_done {w} {ts} g none h s = subst (λ xs. LeftTo h w ts xs) none (g.hand h s)

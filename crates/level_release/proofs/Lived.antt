@@ -17,7 +17,7 @@ use Rattle.level_release.specs.Holding.{HoldsLive}
 use Rattle.level_release.specs.Settling.{TookOld}
 use Rattle.level_release.proofs.Taken.{named_before, named_later, named_ref, named_since, took_looking, took_typed, took_works}
 
-module _ (u v : PortValue) (which : OldWord) (f word : ℕ) (t : TookOld u v which f word) (k : KindWord) (read : kind_read word ≡ Some k) (live : k.validated ≡ true) where
+module _ {u v : PortValue} {which : OldWord} {f word : ℕ} (t : TookOld u v which f word) {k : KindWord} (read : kind_read word ≡ Some k) (live : k.validated ≡ true) where
   live_as : is_live_as k.kind (left_by Load word) ≡ true
   unfolding left_by
   live_as = rw (fields_of word k read, live) (same_type k.kind)
@@ -25,16 +25,7 @@ module _ (u v : PortValue) (which : OldWord) (f word : ℕ) (t : TookOld u v whi
   knows : IsTrue (knows_live (sizes_of v.post.machine) f k.kind v.holdings)
   knows =
       subst (λ (p : Post). IsTrue (knows_live (sizes_of p.machine) f k.kind v.holdings)) (sym (ap (λ (q : PortValue). q.post) t.same))
-      (live_by_step t.b v f k.kind Load kinds.Look None word t.kind (named_ref f (named_since u v which f word t)) [] (named_since u v which f word t) (took_typed u v which f word t) refl refl (named_before u v which f word t) live_as)
+      (live_by_step t.b v f k.kind Load kinds.Look None word t.kind (named_ref f (named_since t)) [] (named_since t) (took_typed t) refl refl (named_before t) live_as)
 
   pub named_live : HoldsLive v f k.kind
-  named_live =
-      record {
-        works = took_works u v which f word t;
-        looking = took_looking u v which f word t;
-        reference = named_ref f (named_since u v which f word t);
-        typed = took_typed u v which f word t;
-        frame = refl;
-        recent = named_later u v which f word t;
-        live = knows;
-      }
+  named_live = record { works = took_works t; looking = took_looking t; reference = named_ref f (named_since t); typed = took_typed t; frame = refl; recent = named_later t; live = knows }

@@ -15,14 +15,14 @@ use Rattle.table_words.specs.declared.old_words.OldWord.TheVariants.{First, Seco
 use Rattle.table_words.proofs.OldHands.{old_within}
 use Rattle.level_release.specs.Settling.{TookOld}
 
-known_by : (which : OldWord) (u a : PortValue) (w : ℕ) → Holds u a (learned_old which w u.holdings) → known_old which a.holdings ≡ Some w
-known_by First u a w looked = ap (λ (q : PortValue). q.holdings.old0) looked
-known_by Second u a w looked = ap (λ (q : PortValue). q.holdings.old1) looked
+known_by : (which : OldWord) (u a : PortValue) {w : ℕ} → Holds u a (learned_old which w u.holdings) → known_old which a.holdings ≡ Some w
+known_by First u a looked = ap (λ (q : PortValue). q.holdings.old0) looked
+known_by Second u a looked = ap (λ (q : PortValue). q.holdings.old1) looked
 
-module _ (u a b : PortValue) (which : OldWord) (w x : ℕ) (rests : Rests u) (look : Moves u a (old_place u.post.vcpu which) Load kinds.Look None w) (looked : Holds u a (learned_old which w u.holdings)) (some : w ≡ 0 → ⊥)
+module _ {u a b : PortValue} (which : OldWord) {w x : ℕ} (rests : Rests u) (look : Moves u a (old_place u.post.vcpu which) Load kinds.Look None w) (looked : Holds u a (learned_old which w u.holdings)) (some : w ≡ 0 → ⊥)
     (take : Moves a b (old_place a.post.vcpu which) (Store 0) kinds.Context None x) (taken : Holds a b (taken_from_old which x a.holdings)) (own : (y : ℕ) → known_old which a.holdings ≡ Some y → x ≡ y) where
   same_word : x ≡ w
-  same_word = own w (known_by which u a w looked)
+  same_word = own w (known_by which u a looked)
 
   abbrev frame : ℕ
   frame = x - 1
@@ -49,7 +49,7 @@ module _ (u a b : PortValue) (which : OldWord) (w x : ℕ) (rests : Rests u) (lo
   pub named_there : frame < b.post.machine.frames
   named_there = subst (λ (p : Post). frame < p.machine.frames) (sym post_b) named_inside
 
-  module _ (v : PortValue) (word : ℕ) (kind : Moves b v (Kind frame) Load kinds.Look None word) (same : Same b v) where
+  module _ {v : PortValue} {word : ℕ} (kind : Moves b v (Kind frame) Load kinds.Look None word) (same : Same b v) where
     pub kind_reads : IsTrue (is_some (kind_read word))
     kind_reads = kind_is_some b.post.machine b.post.vcpu b.holdings frame word named_there kind.finds
 

@@ -39,13 +39,13 @@ untold First s w h = refl
 untold Second s w h = refl
 
 -- an old word is stored: the own one
-pub old_serves : (u x w : PortValue) (owner pages : ℕ) (rose : Bool) (which : OldWord) (new found : ℕ) (ds : List Deed) → Serves u x (settling owner pages rose) ds → Came u x → Moves x w (old_place u.post.vcpu which) (Store new) kinds.Context None found →
+pub old_serves : (u : PortValue) {x w : PortValue} (owner pages : ℕ) (rose : Bool) (which : OldWord) {new found : ℕ} (ds : List Deed) → Serves u x (settling owner pages rose) ds → Came u x → Moves x w (old_place u.post.vcpu which) (Store new) kinds.Context None found →
     Serves u w (settling owner pages rose) ds
-old_serves u x w owner pages rose which new found ds before came store =
+old_serves u {x} {w} owner pages rose which {new} {found} ds before came store =
     subst (λ es. Serves u w (settling owner pages rose) (es ++ ds)) (untold which u.post.vcpu new x.holdings)
     (serves_step u x w (settling owner pages rose) ds (old_place u.post.vcpu which) (Store new) kinds.Context None found before store (inl (refl, inl (not_flushed which))))
 
-module _ (u v : PortValue) (which : OldWord) (f word : ℕ) (t : TookOld u v which f word) (owner pages : ℕ) (rose : Bool) where
+module _ {u v : PortValue} {which : OldWord} {f word : ℕ} (t : TookOld u v which f word) (owner pages : ℕ) (rose : Bool) where
   abbrev request : Request
   request = settling owner pages rose
 
@@ -66,12 +66,12 @@ module _ (u v : PortValue) (which : OldWord) (f word : ℕ) (t : TookOld u v whi
 
   pub took_serves : Serves u v request []
   took_serves =
-      serves_step u t.b v request [] (Kind f) Load kinds.Look None word
-      (old_serves u t.a t.b owner pages rose which 0 (f + 1) [] (moves_serves u t.a request (old_place u.post.vcpu which) Load kinds.Look None (f + 1) t.look tt) came_a t.take) t.kind tt
+      serves_step u t.b v request [] (Kind f) Load kinds.Look None word (old_serves u owner pages rose which []
+      (moves_serves u t.a request (old_place u.post.vcpu which) Load kinds.Look None (f + 1) t.look tt) came_a t.take) t.kind tt
 
   -- ---- the frame is asked
   alive : is_dead (kind_fields word) ≡ false
-  alive = undead t.b.post.machine t.b.post.vcpu t.b.holdings f word t.kind.finds (taken_held u v which f word t)
+  alive = undead t.kind.finds (taken_held t)
 
   module _ (w : PortValue) (came : Came v w) where
     found_old : FoundAt (Met u w) (Vcpu u.post.vcpu (old_number which)) (f + 1)
@@ -93,6 +93,6 @@ module _ (u v : PortValue) (which : OldWord) (f word : ℕ) (t : TookOld u v whi
     passed_it h = old u.post.vcpu (old_number which) (f + 1) refl found_old (elim which as (λ y. IsTrue (is_context (old_number y))) [ First ↦ refl | Second ↦ refl ]) (when_eq (f + 1) (f + 1) refl)
 
   -- the first word names the frame again
-  pub again_serves : (x w : PortValue) (ds : List Deed) → Serves u x request ds → Came u x → Moves x w (old_place x.post.vcpu First) (Store (f + 1)) kinds.Context None 0 → Serves u w request ds
-  again_serves x w ds before came store =
-      old_serves u x w owner pages rose First (f + 1) 0 ds before came (subst (λ (p : Post). Moves x w (old_place p.vcpu First) (Store (f + 1)) kinds.Context None 0) (came_post u x came) store)
+  pub again_serves : {x w : PortValue} (ds : List Deed) → Serves u x request ds → Came u x → Moves x w (old_place x.post.vcpu First) (Store (f + 1)) kinds.Context None 0 → Serves u w request ds
+  again_serves {x} {w} ds before came store =
+      old_serves u owner pages rose First ds before came (subst (λ (p : Post). Moves x w (old_place p.vcpu First) (Store (f + 1)) kinds.Context None 0) (came_post u x came) store)

@@ -37,43 +37,38 @@ counted_owned : (w : ℕ) → 0 < ref_count w → (owner : ℕ) × (owner_of w �
 unfolding ref_count owner_of
 counted_owned w some = owned_by (ref_read w) some
 
-pub held_owned : (n : Machine) (s : ℕ) (h : Holdings) (f w : ℕ) → Finds n s h (Refs f) w → 0 < refs_to f h.refs + typed_to f h.typed → (owner : ℕ) × (owner_of w ≡ Some owner)
-held_owned n s h f w finds held =
-    let m = finds.words in
-    let all = finds.sound.counts.refs f in
-    let part = hands-part (hand f) (sizes_of n) finds.hands s finds.real in
-    let mine : hand f (finds.hands s) ≡ hand f h = ap (λ (u : Holdings). hand f u) finds.mine in
-    let sum = hand_is f h in
-    let typed = typed_hand_is f h in
-    let some : 0 < ref_count (m (Refs f)) = omega (arith, all, part, mine, sum, typed, held) in
-    counted_owned w (subst (λ y. 0 < ref_count y) finds.word some)
+pub held_owned : {n : Machine} {s : ℕ} {h : Holdings} {f w : ℕ} → Finds n s h (Refs f) w → 0 < refs_to f h.refs + typed_to f h.typed → (owner : ℕ) × (owner_of w ≡ Some owner)
+held_owned {n} {s} {h} {f} {w} finds held =
+    let mine : hand f (finds.hands s) ≡ hand f h = ap (λ (u : Holdings). hand f u) finds.mine in let sum = hand_is f h in let typed = typed_hand_is f h in let some : 0 < ref_count
+    (finds.words (Refs f)) = omega (arith, (finds.sound.counts.refs f), (hands-part (hand f) (sizes_of n) finds.hands s finds.real), mine, sum, typed, held) in counted_owned w
+    (subst (λ y. 0 < ref_count y) finds.word some)
 
 -- ---- it is known by the newest reference
 pub first_passes : {A : Type 0} (test : A → Bool) (e : A) (xs ys : List A) → ys ≡ e ∷ xs → IsTrue (test e) → IsTrue (some_of test ys)
 unfolding some_of
 first_passes test e xs ys is passes = rw is (or_left _ _ passes)
 
-at_frame : (f g : ℕ) (b : Bool) → g ≡ f → IsTrue b → IsTrue ((g == f) && b)
-at_frame f g b same is = rw (when_eq g f same) is
+at_frame : {f g : ℕ} (b : Bool) → g ≡ f → IsTrue b → IsTrue ((g == f) && b)
+at_frame {f} {g} b same is = rw (when_eq g f same) is
 
-pub known_by_ref : (z : Sizes) (f o : ℕ) (h : Holdings) (r : Reference) (xs : List Reference) → h.refs ≡ r ∷ xs → r.frame ≡ f → IsTrue (tells_owner z h.steps f o r.owner) → IsTrue (knows_owner z f o h)
+pub known_by_ref : (z : Sizes) {f : ℕ} (o : ℕ) (h : Holdings) {r : Reference} {xs : List Reference} → h.refs ≡ r ∷ xs → r.frame ≡ f → IsTrue (tells_owner z h.steps f o r.owner) → IsTrue (knows_owner z f o h)
 unfolding knows_owner
-known_by_ref z f o h r xs newest same tells =
-    or_left _ _ (first_passes (λ (e : Reference). (e.frame == f) && tells_owner z h.steps f o e.owner) r xs h.refs newest (at_frame f r.frame (tells_owner z h.steps f o r.owner) same tells))
+known_by_ref z {f} o h {r} {xs} newest same tells =
+    or_left _ _ (first_passes (λ (e : Reference). (e.frame == f) && tells_owner z h.steps f o e.owner) r xs h.refs newest (at_frame (tells_owner z h.steps f o r.owner) same tells))
 
-pub known_by_typed : (z : Sizes) (f o : ℕ) (h : Holdings) (r : TypedReference) (xs : List TypedReference) → h.typed ≡ r ∷ xs → r.frame ≡ f → IsTrue (tells_owner z h.steps f o r.owner) → IsTrue (knows_owner z f o h)
+pub known_by_typed : (z : Sizes) {f : ℕ} (o : ℕ) (h : Holdings) {r : TypedReference} {xs : List TypedReference} → h.typed ≡ r ∷ xs → r.frame ≡ f → IsTrue (tells_owner z h.steps f o r.owner) → IsTrue (knows_owner z f o h)
 unfolding knows_owner
-known_by_typed z f o h r xs newest same tells =
-    or_right _ _ (or_left _ _ (first_passes (λ (e : TypedReference). (e.frame == f) && tells_owner z h.steps f o e.owner) r xs h.typed newest (at_frame f r.frame (tells_owner z h.steps f o r.owner) same tells)))
+known_by_typed z {f} o h {r} {xs} newest same tells =
+    or_right _ _ (or_left _ _ (first_passes (λ (e : TypedReference). (e.frame == f) && tells_owner z h.steps f o e.owner) r xs h.typed newest (at_frame (tells_owner z h.steps f o r.owner) same tells)))
 
 -- ---- by a look at the reference word
-module _ (v w : PortValue) (f word : ℕ) (look : Moves v w (Refs f) Load kinds.Look None word) (held : 0 < refs_to f v.holdings.refs + typed_to f v.holdings.typed) where
+module _ {v w : PortValue} {f word : ℕ} (look : Moves v w (Refs f) Load kinds.Look None word) (held : 0 < refs_to f v.holdings.refs + typed_to f v.holdings.typed) where
   abbrev whose : ℕ
-  whose = (held_owned v.post.machine v.post.vcpu v.holdings f word look.finds held).0
+  whose = (held_owned look.finds held).0
 
   is_whose : is_owned_by whose (left_by Load word) ≡ true
   unfolding left_by
-  is_whose = rw (held_owned v.post.machine v.post.vcpu v.holdings f word look.finds held).1 (when_eq whose whose refl)
+  is_whose = rw (held_owned look.finds held).1 (when_eq whose whose refl)
 
   -- what is told of the owner now
   pub look_tells : (k : OwnerFound) → IsMadeSince (length v.holdings.steps) k → (o : ℕ) × IsTrue (tells_owner (sizes_of v.post.machine) w.holdings.steps f o k)

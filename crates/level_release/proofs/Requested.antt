@@ -17,7 +17,7 @@ use Rattle.partial_state.specs.declared.stack.TableWork.{TableWork}
 use Rattle.level_release.specs.Asking.{Continues, IsReleasePiece, StopsRelease, is_due_answer, is_due_stop}
 
 -- ---- behind a piece that asks the only table
-module _ (v x w : PortValue) (r : Request) (t : TableWork) (piece : IsReleasePiece v x r (t ∷ []) []) where
+module _ {v x : PortValue} (w : PortValue) {r : Request} {t : TableWork} (piece : IsReleasePiece v x r (t ∷ []) []) where
   same_post : x.post ≡ v.post
   same_post = came_post v x (serves_came v x r [] piece.serves)
 
@@ -34,9 +34,9 @@ module _ (v x w : PortValue) (r : Request) (t : TableWork) (piece : IsReleasePie
   emptied_stops e rises stops = stops v r [] rises piece
 
 -- by the answer
-pub answer_stops : (v x w : PortValue) (r : Request) (t : TableWork) (answer : Result (Unit {0}) Stop) → r.rose ≡ is_due_answer answer → IsReleasePiece v x r (t ∷ []) [] → IfErr answer (λ e. StopsRelease x w (t ∷ []) e) → IfErr answer (λ e. Stops v w r e)
-answer_stops v x w r t (Ok done) rose piece stops = tt
-answer_stops v x w r t (Err e) rose piece stops = emptied_stops v x w r t piece e (λ due. rose ∙ due) stops
+pub answer_stops : {v x : PortValue} (w : PortValue) {r : Request} {t : TableWork} (answer : Result (Unit {0}) Stop) → r.rose ≡ is_due_answer answer → IsReleasePiece v x r (t ∷ []) [] → IfErr answer (λ e. StopsRelease x w (t ∷ []) e) → IfErr answer (λ e. Stops v w r e)
+answer_stops w (Ok done) rose piece stops = tt
+answer_stops {v} {x} w {r} {t} (Err e) rose piece stops = emptied_stops w piece e (λ due. rose ∙ due) stops
 
 -- ---- a release
 module _ (v : PortValue) (f owner pages : ℕ) (rose : Bool) where
@@ -54,8 +54,8 @@ module _ (v : PortValue) (f owner pages : ℕ) (rose : Bool) where
   both_serve a w drop put = serves_back v a w request [] [] (back_serves a [] drop) f (asks_back (Met v w)) put
 
   -- the type count was the last: the table is emptied behind a look at its reference word
-  pub closed_piece : (a x : PortValue) (word : ℕ) (t : TableWork) → t.frame ≡ f → Serves v a (of_back f) [] → Moves a x (Refs f) Load kinds.Look None word → IsReleasePiece v x request (t ∷ []) []
-  closed_piece a x word t same drop look =
+  pub closed_piece : {a x : PortValue} {word : ℕ} {t : TableWork} → t.frame ≡ f → Serves v a (of_back f) [] → Moves a x (Refs f) Load kinds.Look None word → IsReleasePiece v x request (t ∷ []) []
+  closed_piece {a} {x} {word} same drop look =
       record {
         entries = refl;
         serves = serves_step v a x request [] (Refs f) Load kinds.Look None word (back_serves a [] drop) look tt;

@@ -57,18 +57,18 @@ unmarked_by false n none some = refl
 pub recorded_some : (k : KindWord) → has_recorded k.kind k ≡ true → IsTrue (is_table k.kind) × (0 < k.progress)
 recorded_some k has = let both = and_parts (is_table k.kind) (nat_lt 0 k.progress) has in (both.0, grind (arith, nat_tests))
 
-recorded_by : (table : Bool) (n : ℕ) → (table ≡ false → n ≡ 0) → (table && nat_lt 0 n) ≡ false → n ≡ 0
-recorded_by true n page none = grind (arith, nat_tests)
-recorded_by false n page none = page refl
+recorded_by : (table : Bool) {n : ℕ} → (table ≡ false → n ≡ 0) → (table && nat_lt 0 n) ≡ false → n ≡ 0
+recorded_by true page none = grind (arith, nat_tests)
+recorded_by false page none = page refl
 
-pub recorded_none : (word : ℕ) (k : KindWord) → kind_read word ≡ Some k → IsTrue (is_partial k) → has_recorded k.kind k ≡ false → k.progress ≡ 0
-recorded_none word k read partial none =
-    let form = partial_form word k read (partial_parts k partial).0 (partial_parts k partial).1 in recorded_by (is_table k.kind) k.progress (λ page. (form.page page).0) none
+pub recorded_none : (word : ℕ) {k : KindWord} → kind_read word ≡ Some k → IsTrue (is_partial k) → has_recorded k.kind k ≡ false → k.progress ≡ 0
+recorded_none word {k} read partial none =
+    let form = partial_form word k read (partial_parts k partial).0 (partial_parts k partial).1 in recorded_by (is_table k.kind) (λ page. (form.page page).0) none
 
-pub recorded_most : (word : ℕ) (k : KindWord) → kind_read word ≡ Some k → IsTrue (is_partial k) → k.progress ≤ 512
-recorded_most word k read partial = let form = partial_form word k read (partial_parts k partial).0 (partial_parts k partial).1 in let below = form.progress in omega (arith, below)
+pub recorded_most : (word : ℕ) {k : KindWord} → kind_read word ≡ Some k → IsTrue (is_partial k) → k.progress ≤ 512
+recorded_most word {k} read partial = let form = partial_form word k read (partial_parts k partial).0 (partial_parts k partial).1 in let below = form.progress in omega (arith, below)
 
-module _ (u v : PortValue) (which : OldWord) (f word : ℕ) (t : TookOld u v which f word) (k : KindWord) (read : kind_read word ≡ Some k) (partial : IsTrue (is_partial k)) where
+module _ {u v : PortValue} {which : OldWord} {f word : ℕ} (t : TookOld u v which f word) {k : KindWord} (read : kind_read word ≡ Some k) (partial : IsTrue (is_partial k)) where
   fields : kind_fields word ≡ k
   fields = fields_of word k read
 
@@ -79,9 +79,7 @@ module _ (u v : PortValue) (which : OldWord) (f word : ℕ) (t : TookOld u v whi
   spelled = (read_is word k read).0
 
   pub mark_off : k.kept ≡ false
-  mark_off =
-      subst (λ (y : KindWord). y.kept ≡ false) fields
-      (unkept t.b.post.machine t.b.post.vcpu t.b.holdings f word t.kind.finds (taken_held u v which f word t) (subst (λ y. IsTrue (is_partial y)) (sym fields) partial))
+  mark_off = subst (λ (y : KindWord). y.kept ≡ false) fields (unkept t.kind.finds (taken_held t) (subst (λ y. IsTrue (is_partial y)) (sym fields) partial))
 
   abbrev pub item : Work
   item = new_work f (kind_write (resumed_kind k)) k.progress (unsettled_from k.progress v.holdings) v.holdings
@@ -94,52 +92,52 @@ module _ (u v : PortValue) (which : OldWord) (f word : ℕ) (t : TookOld u v whi
 
   -- ---- an exchange that was lost changes nothing
   pub lost_typed : (d : PortValue) (found : ℕ) → Holds v d (looked_at f found v.holdings) → Holds v d v.holdings
-  lost_typed d found hand = hand ∙ ap (λ xs. still (record v { holdings = record v.holdings { looking = xs } })) (looks_none f found v.holdings.looking (took_looking u v which f word t))
+  lost_typed d found hand = hand ∙ ap (λ xs. still (record v { holdings = record v.holdings { looking = xs } })) (looks_none f found v.holdings.looking (took_looking t))
 
   pub lost_named : (d w : PortValue) (found : ℕ) (e : Stop) → Holds v d (looked_at f found v.holdings) → Holds d w (kept_in_old First f d.holdings) → LeavesUnheld v w f (Err e)
   lost_named d w found e hand kept =
       let same = lost_typed d found hand in
-      named_again d w f (named_ref f (named_since u v which f word t)) e (ap (λ (q : PortValue). q.holdings.typed) same ∙ took_typed u v which f word t) refl kept
-      ∙ ap (λ (q : PortValue). still (record q { holdings = record q.holdings { typed = []; old0 = Some (f + 1) } })) same
+      named_again d w e (ap (λ (q : PortValue). q.holdings.typed) same ∙ took_typed t) refl kept ∙ ap (λ (q : PortValue). still
+      (record q { holdings = record q.holdings { typed = []; old0 = Some (f + 1) } })) same
 
-  module _ (d : PortValue) (change : Moves v d (Kind f) (Cas (kind_write k) (kind_write (resumed_kind k))) kinds.Kind None (kind_write k)) (hand : Holds v d (resumed_work f k v.holdings)) where
+  module _ {d : PortValue} (change : Moves v d (Kind f) (Cas (kind_write k) (kind_write (resumed_kind k))) kinds.Kind None (kind_write k)) (hand : Holds v d (resumed_work f k v.holdings)) where
     resumed_hand : Holds v d (record v.holdings { works = item ∷ v.holdings.works })
     resumed_hand =
-        hand ∙ ap (λ h. still (record v { holdings = h })) (resumed_unkept f k v.holdings mark_off)
-        ∙ ap (λ xs. still (record v { holdings = record v.holdings { looking = xs; works = item ∷ v.holdings.works } })) (looks_none f (kind_write (resumed_kind k)) v.holdings.looking (took_looking u v which f word t))
+        hand ∙ ap (λ h. still (record v { holdings = h })) (resumed_unkept f k v.holdings mark_off) ∙ ap
+        (λ xs. still (record v { holdings = record v.holdings { looking = xs; works = item ∷ v.holdings.works } })) (looks_none f (kind_write (resumed_kind k)) v.holdings.looking (took_looking t))
 
-    resumed_typed : d.holdings.typed ≡ named_ref f (named_since u v which f word t) ∷ []
-    resumed_typed = ap (λ (q : PortValue). q.holdings.typed) resumed_hand ∙ took_typed u v which f word t
+    resumed_typed : d.holdings.typed ≡ named_ref f (named_since t) ∷ []
+    resumed_typed = ap (λ (q : PortValue). q.holdings.typed) resumed_hand ∙ took_typed t
 
     longer : length d.holdings.steps ≡ length v.holdings.steps + 1
     longer = moves_longer v d (Kind f) (Cas (kind_write k) (kind_write (resumed_kind k))) kinds.Kind None (kind_write k) change
 
     -- ---- a table of which something is recorded is emptied, behind a look at its reference word
-    module _ (x : PortValue) (refs_word : ℕ) (look : Moves d x (Refs f) Load kinds.Look None refs_word) (same : Same d x) (level : ℕ) (is : level_type level ≡ k.kind) (low : 1 ≤ level) (high : level ≤ 4) (some : 0 < k.progress) where
+    module _ {x : PortValue} {refs_word : ℕ} (look : Moves d x (Refs f) Load kinds.Look None refs_word) (same : Same d x) (level : ℕ) (is : level_type level ≡ k.kind) (low : 1 ≤ level) (high : level ≤ 4) (some : 0 < k.progress) where
       looked_hand : Holds v x (record v.holdings { works = item ∷ v.holdings.works })
       looked_hand = same ∙ resumed_hand
 
       one_work : x.holdings.works ≡ item ∷ []
-      one_work = ap (λ (q : PortValue). q.holdings.works) looked_hand ∙ ap (λ ws. item ∷ ws) (took_works u v which f word t)
+      one_work = ap (λ (q : PortValue). q.holdings.works) looked_hand ∙ ap (λ ws. item ∷ ws) (took_works t)
 
-      one_typed : x.holdings.typed ≡ named_ref f (named_since u v which f word t) ∷ []
-      one_typed = ap (λ (q : PortValue). q.holdings.typed) looked_hand ∙ took_typed u v which f word t
+      one_typed : x.holdings.typed ≡ named_ref f (named_since t) ∷ []
+      one_typed = ap (λ (q : PortValue). q.holdings.typed) looked_hand ∙ took_typed t
 
       same_post : x.post ≡ v.post
       same_post = ap (λ (q : PortValue). q.post) looked_hand
 
       held_named : 0 < refs_to f d.holdings.refs + typed_to f d.holdings.typed
-      held_named = let typed = subst (λ ys. 0 < typed_to f ys) (sym resumed_typed) (typed_held f (named_ref f (named_since u v which f word t)) [] refl) in omega (arith, typed)
+      held_named = omega (arith, (subst (λ ys. 0 < typed_to f ys) (sym resumed_typed) (typed_held f (named_ref f (named_since t)) [] refl)))
 
-      since_made : named_since u v which f word t ≤ length d.holdings.steps
-      since_made = let later = named_later u v which f word t in let more = longer in omega (arith, later, more)
+      since_made : named_since t ≤ length d.holdings.steps
+      since_made = omega (arith, (named_later t), longer)
 
       owner_tells : (o : ℕ) × IsTrue (knows_owner (sizes_of x.post.machine) f o x.holdings)
       owner_tells =
-          let told = look_tells d x f refs_word look held_named (owners.Since (named_since u v which f word t)) since_made in (
+          let told = look_tells look held_named (owners.Since (named_since t)) since_made in (
             told.0,
-            known_by_typed (sizes_of x.post.machine) f told.0 x.holdings (named_ref f (named_since u v which f word t)) [] one_typed refl
-                (subst (λ (q : Post). IsTrue (tells_owner (sizes_of q.machine) x.holdings.steps f told.0 (owners.Since (named_since u v which f word t)))) (sym (ap (λ (q : PortValue). q.post) same)) told.1),
+            known_by_typed (sizes_of x.post.machine) told.0 x.holdings one_typed refl
+                (subst (λ (q : Post). IsTrue (tells_owner (sizes_of q.machine) x.holdings.steps f told.0 (owners.Since (named_since t)))) (sym (ap (λ (q : PortValue). q.post) same)) told.1),
           )
 
       few : k.progress ≤ 512
@@ -163,34 +161,31 @@ module _ (u v : PortValue) (which : OldWord) (f word : ℕ) (t : TookOld u v whi
 
       pub resumed_empties : f < v.post.machine.frames → Empties (record v.holdings { typed = [] }) x (resumed_table f level k ∷ [])
       resumed_empties frame =
-          let told = owner_tells in
-          let late = since_made in
-          let on = moves_longer d x (Refs f) Load kinds.Look None refs_word look in
           record {
-            works = took_works u v which f word t;
+            works = took_works t;
             typed = refl;
-            looking = took_looking u v which f word t;
+            looking = took_looking t;
             stack = (record { low = low; high = high; done = omega arith }, tt, tt);
             tables = subst (λ ws. AreInRelease (sizes_of x.post.machine) (length x.holdings.steps) None (resumed_table f level k ∷ []) ws) (sym one_work) (resumed_work_is frame, tt, tt);
             refs = ap (λ (q : PortValue). q.holdings.refs) looked_hand;
-            types = (named_ref f (named_since u v which f word t), [], refl, omega (arith, late, on), one_typed, refl);
-            owner = told.0;
-            owned = (told.1, tt);
+            types = (named_ref f (named_since t), [], refl, omega (arith, since_made, (moves_longer d x (Refs f) Load kinds.Look None refs_word look)), one_typed, refl);
+            owner = owner_tells.0;
+            owned = (owner_tells.1, tt);
             hand = now_beside v x (record v.holdings { typed = [] }) v.holdings.refs v.holdings.typed (item ∷ v.holdings.works) looked_hand;
           }
 
       pub resumed_released : f < v.post.machine.frames → (w : PortValue) (answer : Result (Unit {0}) Stop) → Came x w → LeavesEmptied x w (resumed_table f level k) answer → LeavesUnheld v w f answer
-      resumed_released frame w answer came left = emptied_leaves v x w (resumed_table f level k) same_post came (resumed_empties frame) answer left
+      resumed_released frame w answer came left = emptied_leaves v w same_post came (resumed_empties frame) answer left
 
     -- ---- any other frame is dead, with its mark as it was found, and a clock value that was found then
-    module _ (a : PortValue) (clock : ℕ) (look : Moves d a Clock Load kinds.Look None clock) (same : Same d a) where
+    module _ {a : PortValue} {clock : ℕ} (look : Moves d a Clock Load kinds.Look None clock) (same : Same d a) where
       clocked_hand : Holds v a (record v.holdings { works = item ∷ v.holdings.works })
       clocked_hand = same ∙ resumed_hand
 
       pub at_a : work_on f a.holdings.works ≡ Some item
       at_a = work_here f item v.holdings.works a.holdings.works refl (ap (λ (q : PortValue). q.holdings.works) clocked_hand)
 
-      typed_a : a.holdings.typed ≡ named_ref f (named_since u v which f word t) ∷ []
+      typed_a : a.holdings.typed ≡ named_ref f (named_since t) ∷ []
       typed_a = ap (λ (q : PortValue). q.holdings.typed) same ∙ resumed_typed
 
       small : clock < 2 ^ 36
@@ -201,10 +196,9 @@ module _ (u v : PortValue) (which : OldWord) (f word : ℕ) (t : TookOld u v whi
 
       pub dead_may : k.progress ≡ 0 → MayLeave a f (dead_kind k.kind k.unflushed clock)
       dead_may none =
-          let more = longer in
           may_leave_dead a f k.kind item at_a typed_kind k.unflushed clock (ap (λ (y : KindWord). y.kind) item_fields) none (inl (sym (ap (λ (y : KindWord). y.unflushed) item_fields))) small
-          (clock_since d a clock (length v.holdings.steps + 1) look (omega (arith, more)))
-          (λ work. subst (λ ys. 0 < typed_to f ys) (sym typed_a) (typed_held f (named_ref f (named_since u v which f word t)) [] refl))
+          (clock_since d a clock (length v.holdings.steps + 1) look (omega (arith, longer))) (λ work. subst (λ ys. 0 < typed_to f ys) (sym typed_a)
+          (typed_held f (named_ref f (named_since t)) [] refl))
 
       abbrev back_ref : Reference
       back_ref = record { frame = f; owner = typed_owner f a.holdings }
@@ -213,7 +207,7 @@ module _ (u v : PortValue) (which : OldWord) (f word : ℕ) (t : TookOld u v whi
         dead_hand : Holds v e (record v.holdings { refs = back_ref ∷ v.holdings.refs; typed = []; works = v.holdings.works })
         dead_hand =
             dead ∙ ap (λ (h : Holdings). still (record a { holdings = h })) (left_dead a f k.kind item at_a typed_kind k.unflushed clock small working)
-            ∙ ap (λ ys. still (record a { holdings = record a.holdings { refs = back_ref ∷ a.holdings.refs; typed = ys; works = without_work f a.holdings.works } })) (without_newest (λ (y : TypedReference). y.frame) f (named_ref f (named_since u v which f word t)) [] a.holdings.typed refl typed_a)
+            ∙ ap (λ ys. still (record a { holdings = record a.holdings { refs = back_ref ∷ a.holdings.refs; typed = ys; works = without_work f a.holdings.works } })) (without_newest (λ (y : TypedReference). y.frame) f (named_ref f (named_since t)) [] a.holdings.typed refl typed_a)
             ∙ ap (λ ws. still (record a { holdings = record a.holdings { refs = back_ref ∷ a.holdings.refs; typed = []; works = ws } }))
             (without_newest (λ (y : Work). y.frame) f item v.holdings.works a.holdings.works refl (ap (λ (q : PortValue). q.holdings.works) clocked_hand))
             ∙ ap (λ (q : PortValue). still (record q { holdings = record q.holdings { refs = back_ref ∷ q.holdings.refs; typed = []; works = v.holdings.works } })) clocked_hand
@@ -230,7 +224,7 @@ module _ (u v : PortValue) (which : OldWord) (f word : ℕ) (t : TookOld u v whi
         dead_gives =
             record {
               held = subst (λ rs. 0 < refs_to f rs) (sym (ap (λ (q : PortValue). q.holdings.refs) dead_hand)) (newest_held f back_ref v.holdings.refs refl);
-              spares = apart_spares f e.holdings (no_work f e.holdings.works (ap (λ (q : PortValue). q.holdings.works) dead_hand ∙ took_works u v which f word t));
+              spares = apart_spares f e.holdings (no_work f e.holdings.works (ap (λ (q : PortValue). q.holdings.works) dead_hand ∙ took_works t));
             }
 
         pub dead_released : (w : PortValue) → Holds e w (gave f e.holdings) → Holds v w (record v.holdings { typed = [] })

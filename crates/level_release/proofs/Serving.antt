@@ -36,48 +36,42 @@ asked_retreated n s r F (t ∷ ts) asked = asked
 
 -- ---- pieces
 -- the same steps, with other tables that are asked
-pub piece_of : (u v : PortValue) (r : Request) (ts us : List TableWork) (ds : List Deed) → (AskTables u.post.machine u.post.vcpu r (Met u v) ts → AskTables u.post.machine u.post.vcpu r (Met u v) us) → IsReleasePiece u v r ts ds →
+pub piece_of : {u v : PortValue} {r : Request} {ts us : List TableWork} {ds : List Deed} → (AskTables u.post.machine u.post.vcpu r (Met u v) ts → AskTables u.post.machine u.post.vcpu r (Met u v) us) → IsReleasePiece u v r ts ds →
     IsReleasePiece u v r us ds
-piece_of u v r ts us ds less a = record { entries = a.entries; serves = a.serves; asked = less a.asked }
+piece_of less a = record { entries = a.entries; serves = a.serves; asked = less a.asked }
 
-pub piece_rest : (u v : PortValue) (r : Request) (t : TableWork) (ts : List TableWork) (ds : List Deed) → IsReleasePiece u v r (t ∷ ts) ds → IsReleasePiece u v r ts ds
-piece_rest u v r t ts ds a = piece_of u v r (t ∷ ts) ts ds (λ asked. asked.1) a
+pub piece_rest : {u v : PortValue} {r : Request} {t : TableWork} {ts : List TableWork} {ds : List Deed} → IsReleasePiece u v r (t ∷ ts) ds → IsReleasePiece u v r ts ds
+piece_rest {u} {v} {r} {t} {ts} {ds} a = piece_of (λ asked. asked.1) a
 
-pub piece_retreated : (u v : PortValue) (r : Request) (ts : List TableWork) (ds : List Deed) → IsReleasePiece u v r ts ds → IsReleasePiece u v r (retreated ts) ds
-piece_retreated u v r ts ds a = piece_of u v r ts (retreated ts) ds (asked_retreated u.post.machine u.post.vcpu r (Met u v) ts) a
+pub piece_retreated : {u v : PortValue} {r : Request} {ts : List TableWork} {ds : List Deed} → IsReleasePiece u v r ts ds → IsReleasePiece u v r (retreated ts) ds
+piece_retreated {u} {v} {r} {ts} {ds} a = piece_of (asked_retreated u.post.machine u.post.vcpu r (Met u v) ts) a
 
 -- more steps, which serve too
-pub piece_later : (u v w : PortValue) (r : Request) (ts : List TableWork) (ds es : List Deed) → IsReleasePiece u v r ts ds → Came v w → Serves u w r es → IsReleasePiece u w r ts es
-piece_later u v w r ts ds es a came serves =
-    record {
-      entries = a.entries;
-      serves = serves;
-      asked = asked_later u.post.machine u.post.vcpu r (Met u v) (Met u w) (λ m x. met_before u v w m x came) ts a.asked;
-    }
+pub piece_later : {u v w : PortValue} {r : Request} {ts : List TableWork} {ds es : List Deed} → IsReleasePiece u v r ts ds → Came v w → Serves u w r es → IsReleasePiece u w r ts es
+piece_later {u} {v} {w} {r} {ts} a came serves =
+    record { entries = a.entries; serves = serves; asked = asked_later u.post.machine u.post.vcpu r (Met u v) (Met u w) (λ m x. met_before u v w m x came) ts a.asked }
 
-module _ (u v w : PortValue) (r : Request) (ts : List TableWork) (ds : List Deed) (a : IsReleasePiece u v r ts ds) where
+module _ {u v : PortValue} (w : PortValue) {r : Request} {ts : List TableWork} {ds : List Deed} (a : IsReleasePiece u v r ts ds) where
   -- the clock is loaded, with no mark or one that no guest sees
-  pub piece_looks : (clock : ℕ) → Moves v w Clock Load kinds.Look None clock → IsReleasePiece u w r ts ds
-  piece_looks clock look = piece_later u v w r ts ds ds a (moves_came v w Clock Load kinds.Look None clock look) (serves_step u v w r ds Clock Load kinds.Look None clock a.serves look tt)
+  pub piece_looks : {clock : ℕ} → Moves v w Clock Load kinds.Look None clock → IsReleasePiece u w r ts ds
+  piece_looks {clock} look = piece_later a (moves_came v w Clock Load kinds.Look None clock look) (serves_step u v w r ds Clock Load kinds.Look None clock a.serves look tt)
 
-  pub piece_records : (f upto clock : ℕ) → Moves v w Clock Load kinds.Look (Some (Record f upto)) clock → IsReleasePiece u w r ts ds
-  piece_records f upto clock look =
-      piece_later u v w r ts ds ds a (moves_came v w Clock Load kinds.Look (Some (Record f upto)) clock look) (serves_step u v w r ds Clock Load kinds.Look (Some (Record f upto)) clock a.serves look tt)
+  pub piece_records : {f upto clock : ℕ} → Moves v w Clock Load kinds.Look (Some (Record f upto)) clock → IsReleasePiece u w r ts ds
+  piece_records {f} {upto} {clock} look =
+      piece_later a (moves_came v w Clock Load kinds.Look (Some (Record f upto)) clock look) (serves_step u v w r ds Clock Load kinds.Look (Some (Record f upto)) clock a.serves look tt)
 
   -- a frame goes into the own first old word
-  pub piece_names : (word : ℕ) → Moves v w (old_place v.post.vcpu First) (Store word) kinds.Context None 0 → IsReleasePiece u w r ts ds
-  piece_names word store =
-      let same : v.post.vcpu ≡ u.post.vcpu = ap (λ (p : Post). p.vcpu) (came_post u v (serves_came u v r ds a.serves)) in
-      piece_later u v w r ts ds ds a (moves_came v w _ _ _ _ 0 store)
+  pub piece_names : {word : ℕ} → Moves v w (old_place v.post.vcpu First) (Store word) kinds.Context None 0 → IsReleasePiece u w r ts ds
+  piece_names {word} store =
+      let same : v.post.vcpu ≡ u.post.vcpu = ap (λ (p : Post). p.vcpu) (came_post u v (serves_came u v r ds a.serves)) in piece_later a (moves_came v w _ _ _ _ 0 store)
       (serves_step u v w r ds (old_place v.post.vcpu First) (Store word) kinds.Context None 0 a.serves store (inl (same, inl (λ e. absurd cc))))
 
-module _ (u v w : PortValue) (r : Request) (t : TableWork) (ts : List TableWork) (ds : List Deed) (a : IsReleasePiece u v r (t ∷ ts) ds) (came : Came v w) where
+module _ {u v : PortValue} (w : PortValue) {r : Request} {t : TableWork} {ts : List TableWork} {ds : List Deed} (a : IsReleasePiece u v r (t ∷ ts) ds) (came : Came v w) where
   -- the innermost table is asked still
   pub top_asked : IsAsked u.post.machine u.post.vcpu r (Met u w) t.frame
   top_asked = (asked_later u.post.machine u.post.vcpu r (Met u v) (Met u w) (λ m x. met_before u v w m x came) (t ∷ ts) a.asked).0
 
 -- its reference is given back
-pub piece_back : (u v w : PortValue) (r : Request) (t : TableWork) (ts : List TableWork) (ds : List Deed) → IsReleasePiece u v r (t ∷ ts) ds → Serves v w (of_back t.frame) [] → IsReleasePiece u w r (t ∷ ts) ds
-piece_back u v w r t ts ds a put =
-    let came = serves_came v w (of_back t.frame) [] put in
-    piece_later u v w r (t ∷ ts) ds ds a came (serves_back u v w r ds [] a.serves t.frame (top_asked u v w r t ts ds a came) put)
+pub piece_back : {u v w : PortValue} {r : Request} {t : TableWork} {ts : List TableWork} {ds : List Deed} → IsReleasePiece u v r (t ∷ ts) ds → Serves v w (of_back t.frame) [] → IsReleasePiece u w r (t ∷ ts) ds
+piece_back {u} {v} {w} {r} {t} {ts} {ds} a put =
+    let came = serves_came v w (of_back t.frame) [] put in piece_later a came (serves_back u v w r ds [] a.serves t.frame (top_asked w a came) put)

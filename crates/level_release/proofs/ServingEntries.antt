@@ -21,13 +21,12 @@ use Rattle.level_release.specs.Asking.{Continues, IsReleasePiece, StopsRelease}
 use Rattle.level_release.proofs.Serving.{asked_advanced, piece_later, piece_of}
 
 -- ---- behind a piece, a call on the entries of the tables in the own works
-module _ (u v w : PortValue) (r : Request) (ts : List TableWork) (ds : List Deed) (a : IsReleasePiece u v r ts ds) where
+module _ {u v : PortValue} (w : PortValue) {r : Request} {ts : List TableWork} {ds : List Deed} (a : IsReleasePiece u v r ts ds) where
   entries_in : Within u.post.machine u.post.vcpu (of_entries r.owner r.pages_of) (Met v w) r (Met u w)
   entries_in = within_entries u.post.machine u.post.vcpu r.owner r (Met v w) (Met u w) (λ m x. met_after u v w m (serves_came u v r ds a.serves) x) a.entries refl
 
   pub piece_entries : (es : List Deed) → Serves v w (of_entries r.owner r.pages_of) es → IsReleasePiece u w r ts (es ++ ds)
-  piece_entries es b =
-      piece_later u v w r ts ds (es ++ ds) a (serves_came v w (of_entries r.owner r.pages_of) es b) (serves_inner u v w r (of_entries r.owner r.pages_of) ds es entries_in a.serves b)
+  piece_entries es b = piece_later a (serves_came v w (of_entries r.owner r.pages_of) es b) (serves_inner u v w r (of_entries r.owner r.pages_of) ds es entries_in a.serves b)
 
   -- what an entry asks there is asked of the whole call
   entries_ask : (k : PageType) (f : ℕ) → AsksBelow v w r.owner r.pages_of k f → IsAsked u.post.machine u.post.vcpu r (Met u w) f
@@ -50,19 +49,18 @@ module _ (u v w : PortValue) (r : Request) (ts : List TableWork) (ds : List Deed
 module _ (v w : PortValue) (ts : List TableWork) where
   pub goes_entries : (es : List Deed) → ((owner pages : ℕ) → Serves v w (of_entries owner pages) es) → Continues v w ts ts es
   unfolding Continues
-  goes_entries es serves u r ds a = piece_entries u v w r ts ds a es (serves r.owner r.pages_of)
+  goes_entries es serves u r ds a = piece_entries w a es (serves r.owner r.pages_of)
 
   -- one entry more of the innermost table is done with
   pub goes_advanced : (us : List TableWork) (es : List Deed) → Continues v w ts us es → Continues v w ts (advanced us) es
   unfolding Continues
-  goes_advanced us es goes u r ds a = piece_of u w r us (advanced us) (es ++ ds) (asked_advanced u.post.machine u.post.vcpu r (Met u w) us) (goes u r ds a)
+  goes_advanced us es goes u r ds a = piece_of (asked_advanced u.post.machine u.post.vcpu r (Met u w) us) (goes u r ds a)
 
   -- or it names a table
   pub goes_opened : (t : TableWork) (k : PageType) → ((owner pages : ℕ) → Serves v w (of_entries owner pages) []) → ((owner pages : ℕ) → AsksBelow v w owner pages k t.frame) → Continues v w ts (t ∷ advanced ts) []
   unfolding Continues
   goes_opened t k serves asks u r ds a =
-      piece_of u w r (t ∷ ts) (t ∷ advanced ts) ds (λ asked. (asked.0, asked_advanced u.post.machine u.post.vcpu r (Met u w) ts asked.1))
-      (piece_opened u v w r ts ds a t k (serves r.owner r.pages_of) (asks r.owner r.pages_of))
+      piece_of (λ asked. (asked.0, asked_advanced u.post.machine u.post.vcpu r (Met u w) ts asked.1)) (piece_opened w a t k (serves r.owner r.pages_of) (asks r.owner r.pages_of))
 
 release_uncounted : (e : Stop) → IsReleaseStop e → IsUncounted e
 release_uncounted (Paused (Lost place e x)) is = tt
@@ -71,11 +69,11 @@ release_uncounted _ is = absurd is
 
 pub risen_entries : (v w : PortValue) (ts : List TableWork) (e : Stop) → IsReleaseStop e → ((owner pages : ℕ) → Stops v w (of_entries owner pages) e) → StopsRelease v w ts e
 unfolding StopsRelease
-risen_entries v w ts e is stops u r ds rose a = entries_stop u v w r ts ds a e (release_uncounted e is) (stops r.owner r.pages_of)
+risen_entries v w ts e is stops u r ds rose a = entries_stop w a e (release_uncounted e is) (stops r.owner r.pages_of)
 
 -- ---- by the answer
-pub goes_answer : {A : Type 0} (v w : PortValue) (ts us : List TableWork) (r : Result A Stop) (e : Stop) → r ≡ Err e → Continues v w ts us (missed v.post.machine e) → Continues v w ts us (misses v.post.machine r)
-goes_answer v w ts us r e is goes = subst (λ y. Continues v w ts us (misses v.post.machine y)) (sym is) goes
+pub goes_answer : {A : Type 0} (v w : PortValue) (ts us : List TableWork) {r : Result A Stop} {e : Stop} → r ≡ Err e → Continues v w ts us (missed v.post.machine e) → Continues v w ts us (misses v.post.machine r)
+goes_answer v w ts us is goes = subst (λ y. Continues v w ts us (misses v.post.machine y)) (sym is) goes
 
-pub risen_answer : {A : Type 0} (v w : PortValue) (ts : List TableWork) (r : Result A Stop) (e : Stop) → r ≡ Err e → StopsRelease v w ts e → IfErr r (λ k. StopsRelease v w ts k)
-risen_answer v w ts r e is stops = subst (λ y. IfErr y (λ k. StopsRelease v w ts k)) (sym is) stops
+pub risen_answer : {A : Type 0} (v w : PortValue) (ts : List TableWork) {r : Result A Stop} {e : Stop} → r ≡ Err e → StopsRelease v w ts e → IfErr r (λ k. StopsRelease v w ts k)
+risen_answer v w ts is stops = subst (λ y. IfErr y (λ k. StopsRelease v w ts k)) (sym is) stops

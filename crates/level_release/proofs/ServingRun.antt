@@ -21,14 +21,14 @@ pub record Serving (u w : PortValue) (ts us : List TableWork) : Type 0 where
   pub serves : Continues u w ts us []
   pub progress : length us ≤ 1 ⊎ Progress (Met u w)
 
-pub serving_begins : (u : PortValue) (ts : List TableWork) → length ts ≡ 1 → Serving u u ts ts
-serving_begins u ts one = record { came = came_self u; serves = goes_nothing u ts; progress = inl (omega (arith, one)) }
+pub serving_begins : {u : PortValue} {ts : List TableWork} → length ts ≡ 1 → Serving u u ts ts
+serving_begins {u} {ts} one = record { came = came_self u; serves = goes_nothing u ts; progress = inl (omega (arith, one)) }
 
 some_asked : (below : Option ℕ) (xs : List TableWork) → is_asked_within below xs ≡ true → 0 < length xs
 some_asked below [] asks = absurd (cc)
 some_asked below (t ∷ xs) asks = omega arith
 
-module _ (u v : PortValue) (ts us : List TableWork) (i : Serving u v ts us) (w : PortValue) (xs : List TableWork) (came : Came v w) where
+module _ {u v : PortValue} {ts us : List TableWork} (i : Serving u v ts us) (w : PortValue) (xs : List TableWork) (came : Came v w) where
   -- Something was shed, unless no table is left: where there is one less now, it was not the only one.
   gets_on : (length us ≤ length xs → Progress (Met v w)) → 0 < length xs → Progress (Met u w)
   gets_on more some = elim (cases_order (length xs) (length us)) [

@@ -1,8 +1,8 @@
 -- The innermost of the tables that are being released is left with another kind word, of its type: that goes on with a call that asked it.
-use Rattle.std.proofs.Common.{length, ◌≡◌, ℕ, ◌-◌, Bool, true, false, List, [], ◌∷◌, None, IsTrue, refl, sym, ap, ◌∙◌, arith}
+use Rattle.std.proofs.Common.{◌≡◌, ℕ, ◌-◌, Bool, true, false, List, [], ◌∷◌, None, IsTrue, refl, sym, ap, ◌∙◌, arith}
 use Rattle.std.proofs.lemmas.Bool.Decides.{nat_tests}
 use Rattle.xp_words.specs.KindWords.{is_kind, kind_fields, kind_write}
-use Rattle.xp_words.specs.Places.{Sizes, sizes_of}
+use Rattle.xp_words.specs.Places.{Sizes}
 use Rattle.xp_words.specs.declared.kind.KindWord.{KindWord}
 use Rattle.xp_words.specs.declared.place.Place.TheVariants.{Clock, Kind}
 use Rattle.xp_board.specs.declared.holdings.Holdings.{Holdings}
@@ -36,36 +36,35 @@ use Rattle.level_release.proofs.Serving.{piece_back, piece_later, piece_looks, p
 pub closing_alive : (k : KindWord) → IsTrue (is_closing k) → is_dead k ≡ false
 closing_alive k closing = grind (arith, nat_tests)
 
-alive : (z : Sizes) (made : ℕ) (t : TableWork) (e : Work) → IsReleasedWork z made t e → is_dead (kind_fields e.word) ≡ false
-alive z made t e is = by t.own refl
+alive : {z : Sizes} {made : ℕ} {t : TableWork} {e : Work} → IsReleasedWork z made t e → is_dead (kind_fields e.word) ≡ false
+alive {t} {e} is = by t.own refl
   where
     by : (b : Bool) → t.own ≡ b → is_dead (kind_fields e.word) ≡ false
     by true own = work_alive (kind_fields e.word) (is.work own)
     by false lent = closing_alive (kind_fields e.word) (is.closing lent)
 
 -- ---- the store
-module _ (h : Holdings) (v : PortValue) (t : TableWork) (us : List TableWork) (s : Empties h v (t ∷ us)) (l : KindWord) (spelled : IsTrue (is_kind l)) (typed : l.kind ≡ level_type t.level) (w : PortValue) (found : ℕ)
+module _ {h : Holdings} {v : PortValue} {t : TableWork} {us : List TableWork} (s : Empties h v (t ∷ us)) (l : KindWord) (spelled : IsTrue (is_kind l)) (typed : l.kind ≡ level_type t.level) {w : PortValue} {found : ℕ}
     (store : Moves v w (Kind t.frame) (Store (kind_write l)) kinds.Kind None found) where
   keeps : IsTrue (keeps_type found (kind_write l))
   keeps =
-      let e = top h v t us s in
-      let word : found ≡ e.work.word = work_word v.post.machine v.post.vcpu v.holdings t.frame found e.work store.finds (top_here h v t us s) in
-      kept_type found (kind_write l) (kind_fields e.work.word) l (ap (λ y. kind_fields y) word) (fields_write l spelled) (typed ∙ sym e.is.kind) (alive (sizes_of v.post.machine) (length v.holdings.steps) t e.work e.is)
+      let e = top s in
+      let word : found ≡ e.work.word = work_word v.post.machine v.post.vcpu v.holdings t.frame found e.work store.finds (top_here s) in kept_type found (kind_write l) (kind_fields e.work.word) l
+      (ap (λ y. kind_fields y) word) (fields_write l spelled) (typed ∙ sym e.is.kind) (alive e.is)
 
-  piece_left : (u : PortValue) (r : Request) (ts : List TableWork) (ds : List Deed) → IsReleasePiece u v r (t ∷ ts) ds → IsReleasePiece u w r (t ∷ ts) ds
-  piece_left u r ts ds a =
+  piece_left : {u : PortValue} {r : Request} {ts : List TableWork} {ds : List Deed} → IsReleasePiece u v r (t ∷ ts) ds → IsReleasePiece u w r (t ∷ ts) ds
+  piece_left {u} {r} {ts} {ds} a =
       let came = moves_came v w (Kind t.frame) (Store (kind_write l)) kinds.Kind None found store in
-      piece_later u v w r (t ∷ ts) ds ds a came (serves_step u v w r ds (Kind t.frame) (Store (kind_write l)) kinds.Kind None found a.serves store (top_asked u v w r t ts ds a came, keeps))
+      piece_later a came (serves_step u v w r ds (Kind t.frame) (Store (kind_write l)) kinds.Kind None found a.serves store (top_asked w a came, keeps))
 
 -- partial, with what is recorded still
-pub piece_partial : (h : Holdings) (v w : PortValue) (t : TableWork) (us : List TableWork) (found : ℕ) → Empties h v (t ∷ us) →
+pub piece_partial : {h : Holdings} {v w : PortValue} {t : TableWork} {us : List TableWork} {found : ℕ} → Empties h v (t ∷ us) →
     Moves v w (Kind t.frame) (Store (kind_write (partial_kind (level_type t.level) false false (512 - t.done) 0))) kinds.Kind None found →
     (u : PortValue) (r : Request) (ts : List TableWork) (ds : List Deed) → IsReleasePiece u v r (t ∷ ts) ds → IsReleasePiece u w r (t ∷ ts) ds
-piece_partial h v w t us found s store u r ts ds a =
-    piece_left h v t us s (partial_kind (level_type t.level) false false (512 - t.done) 0) (partial_leaves h v t us s).is refl w found store u r ts ds a
+piece_partial {h} {v} {w} {t} {us} {found} s store u r ts ds a = piece_left s (partial_kind (level_type t.level) false false (512 - t.done) 0) (partial_leaves s).is refl store a
 
 -- dead, with a clock value that was found; and its reference is given back
-module _ (h : Holdings) (v x d w : PortValue) (t : TableWork) (us : List TableWork) (clock found : ℕ) (s : Empties h v (t ∷ us)) (look : Moves v x Clock Load kinds.Look None clock) (same : Same v x)
+module _ {h : Holdings} {v x d : PortValue} (w : PortValue) {t : TableWork} {us : List TableWork} {clock found : ℕ} (s : Empties h v (t ∷ us)) (look : Moves v x Clock Load kinds.Look None clock) (same : Same v x)
     (store : Moves x d (Kind t.frame) (Store (kind_write (dead_kind (level_type t.level) false clock))) kinds.Kind None found) (put : Serves d w (of_back t.frame) []) where
   spelled : IsTrue (is_kind (dead_kind (level_type t.level) false clock))
   spelled = dead_is (level_type t.level) (level_type-typed t.level) false clock (clock_is_small v.post.machine v.post.vcpu v.holdings clock look.finds)
@@ -73,7 +72,5 @@ module _ (h : Holdings) (v x d w : PortValue) (t : TableWork) (us : List TableWo
   pub closes : (ts : List TableWork) → Continues v w (t ∷ ts) ts []
   unfolding Continues
   closes ts u r ds a =
-      let looked = piece_looks u v x r (t ∷ ts) ds a clock look in
-      let still = hands_same h v x (t ∷ us) same (moves_came v x Clock Load kinds.Look None clock look) s in
-      let left = piece_left h x t us still (dead_kind (level_type t.level) false clock) spelled refl d found store u r ts ds looked in
-      piece_rest u w r t ts ds (piece_back u d w r t ts ds left put)
+      let looked = piece_looks x a look in
+      piece_rest (piece_back (piece_left (hands_same same (moves_came v x Clock Load kinds.Look None clock look) s) (dead_kind (level_type t.level) false clock) spelled refl store looked) put)

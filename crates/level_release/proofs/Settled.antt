@@ -35,8 +35,7 @@ module _ (v u w : PortValue) (owner pages : ℕ) (before : Serves v u (of_settle
   both_stop (Err e) ends stops = stops_then v u w (of_settle {A = Unit {0}} owner pages (Err e)) e (end_uncounted e ends) came stops
 
 -- paused at the first
-pub first_by : (below left : Option ℕ) (v w : PortValue) (says : ℕ → Bool) (a b x y : ℕ) (answer : Result (Unit {0}) Stop) (e : Stop) → answer ≡ Err e → By (λ answers. SettledOneTo below left v First w answers (Err e)) says a b x y (Err e) →
+pub first_by : (below left : Option ℕ) (v w : PortValue) {says : ℕ → Bool} {a b x y : ℕ} {answer : Result (Unit {0}) Stop} {e : Stop} → answer ≡ Err e → By (λ answers. SettledOneTo below left v First w answers (Err e)) says a b x y (Err e) →
     By (λ answers. SettledTo below left v w answers answer) says a b x y answer
-first_by below left v w says a b x y answer e is paused =
-    subst (λ (r : Result (Unit {0}) Stop). By (λ answers. SettledTo below left v w answers r) says a b x y r) (sym is)
-    (by_as says (λ answers. SettledOneTo below left v First w answers (Err e)) (λ answers. SettledTo below left v w answers (Err e)) a b x y (Err e) (λ answers one. (first w answers e one.0, one.1)) paused)
+first_by below left v w {says} {a} {b} {x} {y} {e} is paused =
+    subst (λ (r : Result (Unit {0}) Stop). By (λ answers. SettledTo below left v w answers r) says a b x y r) (sym is) (by_as (λ answers one. (first w answers e one.0, one.1)) paused)

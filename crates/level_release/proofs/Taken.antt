@@ -61,7 +61,7 @@ first_clear : (which : OldWord) (f since : ℕ) (h : Holdings) → (which ≡ Se
 first_clear First f since h clear = refl
 first_clear Second f since h clear = clear refl
 
-module _ (u v : PortValue) (which : OldWord) (f word : ℕ) (t : TookOld u v which f word) where
+module _ {u v : PortValue} {which : OldWord} {f word : ℕ} (t : TookOld u v which f word) where
   abbrev pub named_since : ℕ
   named_since = length t.a.holdings.steps
 
@@ -135,17 +135,17 @@ left_by Second f since u v w hand none (Err e) left = (
       ∙ ap (λ ys. still (record u { holdings = record u.holdings { typed = ys; old0 = Some (f + 1); old1 = Some 0 } })) (sym none),
 )
 
-pub took_settled : (u v w : PortValue) (which : OldWord) (f word : ℕ) (t : TookOld u v which f word) (answer : Result (Unit {0}) Stop) → LeavesUnheld v w f answer → SettledWord u w which answer
-took_settled u v w which f word t answer left = left_by which f (length t.a.holdings.steps) u v w (took_hand u v which f word t) t.rests.empty.typed answer left
+pub took_settled : {u v : PortValue} (w : PortValue) {which : OldWord} {f word : ℕ} (t : TookOld u v which f word) (answer : Result (Unit {0}) Stop) → LeavesUnheld v w f answer → SettledWord u w which answer
+took_settled {u} {v} w {which} {f} {word} t answer left = left_by which f (length t.a.holdings.steps) u v w (took_hand t) t.rests.empty.typed answer left
 
 -- the first word names the frame again
-pub named_again : (v w : PortValue) (f : ℕ) (r : TypedReference) (e : Stop) → v.holdings.typed ≡ r ∷ [] → r.frame ≡ f → Holds v w (kept_in_old First f v.holdings) → LeavesUnheld v w f (Err e)
-named_again v w f r e typed same kept =
+pub named_again : (v w : PortValue) {f : ℕ} {r : TypedReference} (e : Stop) → v.holdings.typed ≡ r ∷ [] → r.frame ≡ f → Holds v w (kept_in_old First f v.holdings) → LeavesUnheld v w f (Err e)
+named_again v w {f} {r} e typed same kept =
     kept ∙ ap (λ ys. still (record v { holdings = record v.holdings { typed = ys; old0 = Some (f + 1) } })) (without_newest (λ (y : TypedReference). y.frame) f r [] v.holdings.typed same typed)
 
 -- ---- nothing is in hand then
-rests_by : (u w : PortValue) (first second : Option ℕ) → Rests u → Holds u w (record u.holdings { old0 = first; old1 = second }) → Rests w
-rests_by u w first second rests hand =
+rests_by : {u w : PortValue} (first second : Option ℕ) → Rests u → Holds u w (record u.holdings { old0 = first; old1 = second }) → Rests w
+rests_by first second rests hand =
     record {
       may = record {
         running = ap (λ (q : PortValue). q.holdings.run) hand ∙ rests.may.running;
@@ -165,8 +165,8 @@ rests_by u w first second rests hand =
       };
     }
 
-pub settled_rests : (u w : PortValue) (which : OldWord) (answer : Result (Unit {0}) Stop) → Rests u → SettledWord u w which answer → Rests w
-settled_rests u w First (Ok done) rests settled = rests_by u w (Some 0) u.holdings.old1 rests settled
-settled_rests u w Second (Ok done) rests settled = rests_by u w u.holdings.old0 (Some 0) rests settled
-settled_rests u w First (Err e) rests settled = rests_by u w (Some (settled.0 + 1)) u.holdings.old1 rests settled.1
-settled_rests u w Second (Err e) rests settled = rests_by u w (Some (settled.0 + 1)) (Some 0) rests settled.1
+pub settled_rests : {u w : PortValue} (which : OldWord) (answer : Result (Unit {0}) Stop) → Rests u → SettledWord u w which answer → Rests w
+settled_rests {u} {w} First (Ok done) rests settled = rests_by (Some 0) u.holdings.old1 rests settled
+settled_rests {u} {w} Second (Ok done) rests settled = rests_by u.holdings.old0 (Some 0) rests settled
+settled_rests {u} {w} First (Err e) rests settled = rests_by (Some (settled.0 + 1)) u.holdings.old1 rests settled.1
+settled_rests {u} {w} Second (Err e) rests settled = rests_by (Some (settled.0 + 1)) (Some 0) rests settled.1

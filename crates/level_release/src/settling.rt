@@ -10,8 +10,8 @@ ghost use Rattle.table_words.specs.OldWords.{known_old};
 ghost use Rattle.table_words.specs.declared.old_words.OldWord.{OldWord};
 ghost use Rattle.table_words.specs.declared.old_words.OldWord.TheVariants.{First, Second};
 ghost use Rattle.level_release.specs.Asking.{IsReleaseEnd, is_due_answer, of_settle};
-ghost use Rattle.level_release.specs.Course.{SettlesBy, SettlesOneBy};
-ghost use Rattle.level_release.specs.Settling.{HasTakenOld, SettledHand, SettledWord, TookOld};
+ghost use Rattle.level_release.specs.Course.{SettlesBy};
+ghost use Rattle.level_release.specs.Settling.{HasTakenOld, SettledHand, SettlesWord, TookOld};
 
 use crate::emptying::empty;
 use crate::releasing::release_within;
@@ -62,12 +62,7 @@ fn settle_word<P: Port>(
 ) -> Result<(), Stop>
     requires rests { Rests (P.value port.old) }
     requires first { which ≡ Second → known_old First (P.value port.old).holdings ≡ Some 0 }
-    ensures rests { Rests (P.value port.new) }
-    ensures serves { (owner pages : ℕ) → Serves (P.value port.old) (P.value port.new) (of_settle owner pages result) (misses (P.value port.old).post.machine result) }
-    ensures stops { (owner pages : ℕ) → IfErr result (λ e. Stops (P.value port.old) (P.value port.new) (of_settle owner pages result) e) }
-    ensures kinds { IfErr result IsReleaseEnd }
-    ensures hand { SettledWord (P.value port.old) (P.value port.new) which result }
-    ensures course { SettlesOneBy left.old left.new (P.value port.old) (P.value port.new) which (says gate.old) (count_asks gate.old) (count_asks gate.new) (count_yes gate.old) (count_yes gate.new) result }
+    ensures met { SettlesWord (P.value port.old) (P.value port.new) which left.old left.new (says gate.old) (count_asks gate.old) (count_asks gate.new) (count_yes gate.old) (count_yes gate.new) result }
     ensures says { (n : ℕ) → says gate.new n ≡ says gate.old n }
     ensures paces { paces gate.new ≡ paces gate.old }
     ensures calm { calm gate.old ≡ true → (is_due_answer result ≡ false) × (calm gate.new ≡ true) }
@@ -93,12 +88,7 @@ fn settle_found<P: Port>(
     requires took { HasTakenOld (P.value port.old) frame found }
     requires read { IsTrue (is_some (kind_read found)) }
     requires room { known_old First (P.value port.old).holdings ≡ Some 0 }
-    ensures rests { Rests (P.value port.new) }
-    ensures serves { (u : PortValue) (which : OldWord) → TookOld u (P.value port.old) which frame found → (owner pages : ℕ) → Serves u (P.value port.new) (of_settle owner pages result) (misses u.post.machine result) }
-    ensures stops { (u : PortValue) (which : OldWord) → TookOld u (P.value port.old) which frame found → (owner pages : ℕ) → IfErr result (λ e. Stops u (P.value port.new) (of_settle owner pages result) e) }
-    ensures kinds { IfErr result IsReleaseEnd }
-    ensures hand { (u : PortValue) (which : OldWord) → TookOld u (P.value port.old) which frame found → SettledWord u (P.value port.new) which result }
-    ensures course { (u : PortValue) (which : OldWord) → TookOld u (P.value port.old) which frame found → SettlesOneBy left.old left.new u (P.value port.new) which (says gate.old) (count_asks gate.old) (count_asks gate.new) (count_yes gate.old) (count_yes gate.new) result }
+    ensures met { (u : PortValue) (which : OldWord) → TookOld u (P.value port.old) which frame found → SettlesWord u (P.value port.new) which left.old left.new (says gate.old) (count_asks gate.old) (count_asks gate.new) (count_yes gate.old) (count_yes gate.new) result }
     ensures says { (n : ℕ) → says gate.new n ≡ says gate.old n }
     ensures paces { paces gate.new ≡ paces gate.old }
     ensures calm { calm gate.old ≡ true → (is_due_answer result ≡ false) × (calm gate.new ≡ true) }
@@ -129,12 +119,7 @@ fn settle_partial<P: Port>(
     requires read { kind_read found ≡ Some kind }
     requires partial { IsTrue (is_partial kind) }
     requires room { known_old First (P.value port.old).holdings ≡ Some 0 }
-    ensures rests { Rests (P.value port.new) }
-    ensures serves { (u : PortValue) (which : OldWord) → TookOld u (P.value port.old) which frame found → (owner pages : ℕ) → Serves u (P.value port.new) (of_settle owner pages result) (misses u.post.machine result) }
-    ensures stops { (u : PortValue) (which : OldWord) → TookOld u (P.value port.old) which frame found → (owner pages : ℕ) → IfErr result (λ e. Stops u (P.value port.new) (of_settle owner pages result) e) }
-    ensures kinds { IfErr result IsReleaseEnd }
-    ensures hand { (u : PortValue) (which : OldWord) → TookOld u (P.value port.old) which frame found → SettledWord u (P.value port.new) which result }
-    ensures course { (u : PortValue) (which : OldWord) → TookOld u (P.value port.old) which frame found → SettlesOneBy left.old left.new u (P.value port.new) which (says gate.old) (count_asks gate.old) (count_asks gate.new) (count_yes gate.old) (count_yes gate.new) result }
+    ensures met { (u : PortValue) (which : OldWord) → TookOld u (P.value port.old) which frame found → SettlesWord u (P.value port.new) which left.old left.new (says gate.old) (count_asks gate.old) (count_asks gate.new) (count_yes gate.old) (count_yes gate.new) result }
     ensures says { (n : ℕ) → says gate.new n ≡ says gate.old n }
     ensures paces { paces gate.new ≡ paces gate.old }
     ensures calm { calm gate.old ≡ true → (is_due_answer result ≡ false) × (calm gate.new ≡ true) }

@@ -17,60 +17,33 @@ use Rattle.xp_board.specs.declared.step.StepKind.TheVariants as kinds
 use Rattle.level_release.proofs.emptying.close.Goals as goal
 
 pub leave-requires-clause-leaves : goal.leave-requires-clause-leaves
-leave-requires-clause-leaves g c =
-    let v = g.P.Port.value c.args.port.now in
-    let x = g.P.Port.value c.look_clock-clock.new.port in
-    let s = c.requires.stands in
-    close_leaves s.1.0 v x c.args.table s.0 s.1.1 c.requires.empty c.look_clock-clock.result c.look_clock-clock.ensures.moves c.look_clock-clock.ensures.hand c.dead_kind.result c.level_type.result c.level_type.ensures c.dead_kind.ensures
+leave-requires-clause-leaves g c = close_leaves c.requires.stands.1.1 c.requires.empty c.look_clock-clock.ensures.moves c.look_clock-clock.ensures.hand c.level_type.ensures c.dead_kind.ensures
 
 pub put_ref-requires-clause-gives : goal.put_ref-requires-clause-gives
 put_ref-requires-clause-gives g c =
-    let v = g.P.Port.value c.args.port.now in
-    let x = g.P.Port.value c.look_clock-clock.new.port in
-    let d = g.P.Port.value c.leave.new.port in
     let s = c.requires.stands in
-    close_gives s.1.0 v x c.args.table s.0 s.1.1 c.requires.empty c.look_clock-clock.result c.look_clock-clock.ensures.moves c.look_clock-clock.ensures.hand c.dead_kind.result c.level_type.result c.level_type.ensures c.dead_kind.ensures
-    d c.leave.result c.leave.ensures.moves c.leave.ensures.hand
+    close_gives s.1.1 c.requires.empty c.look_clock-clock.ensures.moves c.look_clock-clock.ensures.hand c.level_type.ensures c.dead_kind.ensures c.leave.ensures.moves c.leave.ensures.hand
 
 pub returns-clause-came : goal.returns-clause-came
 returns-clause-came g c =
-    let v = g.P.Port.value c.args.port.now in
-    let x = g.P.Port.value c.look_clock-clock.new.port in
-    let d = g.P.Port.value c.leave.new.port in
-    let w = g.P.Port.value c.put_ref.new.port in
-    let s = c.requires.stands in
-    close_came s.1.0 v x c.args.table s.0 s.1.1 c.requires.empty c.look_clock-clock.result c.look_clock-clock.ensures.moves c.look_clock-clock.ensures.hand c.dead_kind.result c.level_type.result c.level_type.ensures c.dead_kind.ensures
-    d c.leave.result c.leave.ensures.moves c.leave.ensures.hand w c.put_ref.ensures.hand (serves_came _ _ _ _ c.put_ref.ensures.serves)
+    close_came c.requires.stands.1.1 c.requires.empty c.look_clock-clock.ensures.moves c.look_clock-clock.ensures.hand c.level_type.ensures c.dead_kind.ensures c.leave.ensures.moves
+    c.leave.ensures.hand (g.P.Port.value c.put_ref.new.port) c.put_ref.ensures.hand (serves_came _ _ _ _ c.put_ref.ensures.serves)
 
 pub returns-clause-stands : goal.returns-clause-stands
 returns-clause-stands g c ts h s =
-    let v = g.P.Port.value c.args.port.now in
-    let x = g.P.Port.value c.look_clock-clock.new.port in
-    let d = g.P.Port.value c.leave.new.port in
-    let w = g.P.Port.value c.put_ref.new.port in
-    close_stands h v x c.args.table ts s c.requires.empty c.look_clock-clock.result c.look_clock-clock.ensures.moves c.look_clock-clock.ensures.hand c.dead_kind.result c.level_type.result c.level_type.ensures c.dead_kind.ensures
-    d c.leave.result c.leave.ensures.moves c.leave.ensures.hand w c.put_ref.ensures.hand (serves_came _ _ _ _ c.put_ref.ensures.serves)
+    close_stands s c.requires.empty c.look_clock-clock.ensures.moves c.look_clock-clock.ensures.hand c.level_type.ensures c.dead_kind.ensures c.leave.ensures.moves c.leave.ensures.hand
+    (g.P.Port.value c.put_ref.new.port) c.put_ref.ensures.hand (serves_came _ _ _ _ c.put_ref.ensures.serves)
 
 pub returns-clause-settled : goal.returns-clause-settled
 returns-clause-settled g c =
-    let v = g.P.Port.value c.args.port.now in
-    let x = g.P.Port.value c.look_clock-clock.new.port in
-    let d = g.P.Port.value c.leave.new.port in
-    let w = g.P.Port.value c.put_ref.new.port in
-    let s = c.requires.stands in
-    close_settled s.1.0 v x c.args.table s.0 s.1.1 c.requires.empty c.look_clock-clock.result c.look_clock-clock.ensures.moves c.look_clock-clock.ensures.hand c.dead_kind.result c.level_type.result c.level_type.ensures c.dead_kind.ensures
-    d c.leave.result c.leave.ensures.moves c.leave.ensures.hand w c.put_ref.ensures.hand (serves_came _ _ _ _ c.put_ref.ensures.serves)
+    close_settled c.requires.stands.1.1 c.requires.empty c.look_clock-clock.ensures.moves c.look_clock-clock.ensures.hand c.level_type.ensures c.dead_kind.ensures c.leave.ensures.moves
+    c.leave.ensures.hand (g.P.Port.value c.put_ref.new.port) c.put_ref.ensures.hand (serves_came _ _ _ _ c.put_ref.ensures.serves)
 
 pub returns-clause-serves : goal.returns-clause-serves
 returns-clause-serves g c =
-    let a = c.requires.stands in
-    let x = g.P.Port.value c.look_clock-clock.new.port in
-    let d = g.P.Port.value c.leave.new.port in
-    let t = c.args.table in
-    let clock = c.look_clock-clock.result in
-    let is = c.dead_kind.ensures ∙ ap (λ k. dead_kind k false clock) c.level_type.ensures in
-    closes a.1.0 (g.P.Port.value c.args.port.now) x d (g.P.Port.value c.put_ref.new.port) t a.0 clock c.leave.result a.1.1 c.look_clock-clock.ensures.moves c.look_clock-clock.ensures.hand
-    (subst (λ (l : KindWord). Moves x d (Kind t.frame) (Store (kind_write l)) kinds.Kind None c.leave.result) is c.leave.ensures.moves) c.put_ref.ensures.serves
+    closes (g.P.Port.value c.put_ref.new.port) c.requires.stands.1.1 c.look_clock-clock.ensures.moves c.look_clock-clock.ensures.hand
+    (subst (λ (l : KindWord). Moves (g.P.Port.value c.look_clock-clock.new.port) (g.P.Port.value c.leave.new.port) (Kind c.args.table.frame) (Store (kind_write l)) kinds.Kind None c.leave.result)
+    (c.dead_kind.ensures ∙ ap (λ k. dead_kind k false c.look_clock-clock.result) c.level_type.ensures) c.leave.ensures.moves) c.put_ref.ensures.serves
 
 pub returns-clause-course : goal.returns-clause-course
 returns-clause-course g c =

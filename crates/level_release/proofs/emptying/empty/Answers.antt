@@ -9,25 +9,24 @@ use Rattle.level_release.proofs.emptying.empty.Goals as goal
 
 pub unwind-requires-clause-may : goal.unwind-requires-clause-may
 unwind-requires-clause-may g c =
-    emptied_may (g.P.Port.value c.args.port.now) (g.P.Port.value c.run_down.new.port) c.args.table c.push.new.self c.run_down.new.stack (c.push.ensures.pushed ∙ ap (λ ts. c.args.table ∷ ts) c.new-stack.ensures)
+    emptied_may (g.P.Port.value c.args.port.now) (g.P.Port.value c.run_down.new.port) c.run_down.new.stack (c.push.ensures.pushed ∙ ap (λ ts. c.args.table ∷ ts) c.new-stack.ensures)
     c.run_down.ensures.came c.run_down.ensures.stands c.requires.stands c.requires.may
 
 pub unwind-requires-clause-stands : goal.unwind-requires-clause-stands
-unwind-requires-clause-stands g c =
-    let s = c.requires.stands in (
-      s.0,
-      from_one (g.P.Port.value c.args.port.now) (g.P.Port.value c.run_down.new.port) c.args.table c.push.new.self c.run_down.new.stack (c.push.ensures.pushed ∙ ap (λ ts. c.args.table ∷ ts) c.new-stack.ensures)
-          c.run_down.ensures.came c.run_down.ensures.stands s.0 s.1,
-    )
+unwind-requires-clause-stands g c = (
+  c.requires.stands.0,
+  from_one (g.P.Port.value c.args.port.now) (g.P.Port.value c.run_down.new.port) c.run_down.new.stack (c.push.ensures.pushed ∙ ap (λ ts. c.args.table ∷ ts) c.new-stack.ensures)
+      c.run_down.ensures.came c.run_down.ensures.stands c.requires.stands.1,
+)
 
 pub unwind-requires-clause-room : goal.unwind-requires-clause-room
 unwind-requires-clause-room g c =
-    emptied_room (g.P.Port.value c.args.port.now) (g.P.Port.value c.run_down.new.port) c.args.table c.push.new.self c.run_down.new.stack (c.push.ensures.pushed ∙ ap (λ ts. c.args.table ∷ ts) c.new-stack.ensures)
+    emptied_room (g.P.Port.value c.args.port.now) (g.P.Port.value c.run_down.new.port) c.run_down.new.stack (c.push.ensures.pushed ∙ ap (λ ts. c.args.table ∷ ts) c.new-stack.ensures)
     c.run_down.ensures.came c.run_down.ensures.stands c.requires.stands c.requires.room
 
 pub returns-in-Ok-clause-hand : goal.returns-in-Ok-clause-hand
 returns-in-Ok-clause-hand g c =
-    emptied_dead (g.P.Port.value c.args.port.now) (g.P.Port.value c.run_down.new.port) c.args.table c.push.new.self c.run_down.new.stack (c.push.ensures.pushed ∙ ap (λ ts. c.args.table ∷ ts) c.new-stack.ensures)
+    emptied_dead (g.P.Port.value c.args.port.now) (g.P.Port.value c.run_down.new.port) c.run_down.new.stack (c.push.ensures.pushed ∙ ap (λ ts. c.args.table ∷ ts) c.new-stack.ensures)
     c.run_down.ensures.came c.run_down.ensures.stands c.in-Ok.ensures.emptied
 
 pub returns-in-Err-clause-came : goal.returns-in-Err-clause-came
@@ -35,15 +34,14 @@ returns-in-Err-clause-came g c = came_trans (g.P.Port.value c.args.port.now) (g.
 
 pub returns-in-Err-clause-hand : goal.returns-in-Err-clause-hand
 returns-in-Err-clause-hand g c =
-    emptied_named (g.P.Port.value c.args.port.now) (g.P.Port.value c.run_down.new.port) c.args.table c.push.new.self c.run_down.new.stack (c.push.ensures.pushed ∙ ap (λ ts. c.args.table ∷ ts) c.new-stack.ensures)
+    emptied_named (g.P.Port.value c.args.port.now) (g.P.Port.value c.run_down.new.port) c.run_down.new.stack (c.push.ensures.pushed ∙ ap (λ ts. c.args.table ∷ ts) c.new-stack.ensures)
     c.run_down.ensures.came c.run_down.ensures.stands c.in-Err.ensures.outer (g.P.Port.value c.unwind.new.port) c.unwind.ensures.hand
 
 -- ---- nothing is left
 pub returns-in-Ok-clause-course : goal.returns-in-Ok-clause-course
 returns-in-Ok-clause-course g c =
-    let t = c.args.table in
-    let one = c.push.ensures.pushed ∙ ap (λ ts. t ∷ ts) c.new-stack.ensures in
-    empties_finished c.args.left.now (g.P.Port.value c.args.port.now) (g.P.Port.value c.run_down.new.port) t c.push.new.self c.run_down.new.stack one _ _ _ _ _ c.in-Ok.ensures.emptied c.in-Ok.ensures.course
+    empties_finished c.args.left.now (g.P.Port.value c.args.port.now) (g.P.Port.value c.run_down.new.port) c.run_down.new.stack
+    (c.push.ensures.pushed ∙ ap (λ ts. c.args.table ∷ ts) c.new-stack.ensures) _ _ _ _ _ c.in-Ok.ensures.emptied c.in-Ok.ensures.course
 
 -- ---- the rest is left partial
 pub returns-in-Err-clause-serves : goal.returns-in-Err-clause-serves
@@ -66,6 +64,5 @@ returns-in-Err-clause-stops g c =
 
 pub returns-in-Err-clause-course : goal.returns-in-Err-clause-course
 returns-in-Err-clause-course g c =
-    let t = c.args.table in
-    let one = c.push.ensures.pushed ∙ ap (λ ts. t ∷ ts) c.new-stack.ensures in
-    empties_paused c.args.left.now (g.P.Port.value c.args.port.now) (g.P.Port.value c.run_down.new.port) t c.push.new.self c.run_down.new.stack one _ _ _ _ _ (g.P.Port.value c.unwind.new.port) c.in-Err.stop c.left_by.result c.left_by.ensures c.unwind.ensures.course c.in-Err.ensures.course
+    empties_paused c.args.left.now (g.P.Port.value c.args.port.now) (g.P.Port.value c.run_down.new.port) c.run_down.new.stack
+    (c.push.ensures.pushed ∙ ap (λ ts. c.args.table ∷ ts) c.new-stack.ensures) _ _ _ _ _ c.left_by.ensures c.unwind.ensures.course c.in-Err.ensures.course

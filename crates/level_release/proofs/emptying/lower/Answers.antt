@@ -1,4 +1,4 @@
-use Rattle.std.proofs.Common.{drop, rules, ℕ, Err, [], ◌∷◌, sym, ap, ◌∙◌, subst}
+use Rattle.std.proofs.Common.{rules, ℕ, Err, [], ◌∷◌, sym, ap, ◌∙◌, subst}
 use Rattle.level_release.proofs.HandsLowered.{given_clear, lower_above, lower_came, lower_given, lower_opened, lower_stays, opened_clear}
 use Rattle.std.proofs.lemmas.Result.{err_from_is_err_and}
 use Rattle.answer_fits.specs.Answers.{missed}
@@ -11,39 +11,34 @@ use Rattle.level_release.proofs.ServingEntries.{goes_advanced, goes_answer, goes
 use Rattle.level_release.proofs.emptying.lower.Goals as goal
 
 pub release_entry-requires-clause-above : goal.release_entry-requires-clause-above
-release_entry-requires-clause-above g c =
-    let s = c.requires.stands in
-    lower_above s.0 (g.P.Port.value c.args.port.now) c.in-Some.top c.args.stack.now (drop 1 c.args.stack.now) c.level_type.result c.in-Some.ensures.some c.level_type.ensures s.1
+release_entry-requires-clause-above g c = lower_above c.in-Some.ensures.some c.level_type.ensures c.requires.stands.1
 
 pub returns-in_err-release_entry-clause-came : goal.returns-in_err-release_entry-clause-came
 returns-in_err-release_entry-clause-came g c = lower_came _ _ _ _ _ _ c.release_entry.ensures.found
 
 pub returns-in_err-release_entry-clause-stands : goal.returns-in_err-release_entry-clause-stands
 returns-in_err-release_entry-clause-stands g c h s =
-    lower_stays h (g.P.Port.value c.args.port.now) (g.P.Port.value c.release_entry.new.port) c.in-Some.top c.args.stack.now (drop 1 c.args.stack.now) c.level_type.result c.in-Some.ensures.some c.level_type.ensures s
-    c.release_entry.result c.release_entry.ensures.found c.in_err-release_entry.ensures.hand
+    lower_stays (g.P.Port.value c.release_entry.new.port) c.in-Some.ensures.some c.level_type.ensures s c.release_entry.result c.release_entry.ensures.found c.in_err-release_entry.ensures.hand
 
 pub returns-in-Given-clause-came : goal.returns-in-Given-clause-came
 returns-in-Given-clause-came g c = lower_came _ _ _ _ _ _ c.release_entry.ensures.found
 
 pub returns-in-Given-clause-stands : goal.returns-in-Given-clause-stands
 returns-in-Given-clause-stands g c h s =
-    lower_given h (g.P.Port.value c.args.port.now) (g.P.Port.value c.release_entry.new.port) c.in-Some.top c.args.stack.now (drop 1 c.args.stack.now) c.level_type.result c.in-Some.ensures.some c.level_type.ensures s
-    c.release_entry.result c.release_entry.ensures.found c.if-top-eq512.false c.in_ok-release_entry.field-0 c.in_ok-release_entry.ensures.hand c.advance.new.self c.advance.ensures.advanced c.in-Given.is
+    lower_given (g.P.Port.value c.release_entry.new.port) c.in-Some.ensures.some c.level_type.ensures s c.release_entry.result c.release_entry.ensures.found c.if-top-eq512.false
+    c.in_ok-release_entry.field-0 c.in_ok-release_entry.ensures.hand c.advance.ensures.advanced c.in-Given.is
 
 pub returns-in-Opened-clause-came : goal.returns-in-Opened-clause-came
 returns-in-Opened-clause-came g c = lower_came _ _ _ _ _ _ c.release_entry.ensures.found
 
 pub returns-in-Opened-clause-stands : goal.returns-in-Opened-clause-stands
 returns-in-Opened-clause-stands g c h s =
-    lower_opened h (g.P.Port.value c.args.port.now) (g.P.Port.value c.release_entry.new.port) c.in-Some.top c.args.stack.now (drop 1 c.args.stack.now) c.level_type.result c.in-Some.ensures.some c.level_type.ensures s
-    c.release_entry.result c.release_entry.ensures.found c.if-top-eq512.false c.in_ok-release_entry.field-0 c.in_ok-release_entry.ensures.hand c.advance-in-Opened.new.self c.advance-in-Opened.ensures.advanced
-    c.in-Opened.frame c.in-Opened.recorded c.in-Opened.closing c.in-Opened.is c.in_ok-release_entry.ensures.owned c.push.new.self c.push.ensures.pushed
+    lower_opened (g.P.Port.value c.release_entry.new.port) c.in-Some.ensures.some c.level_type.ensures s c.release_entry.result c.release_entry.ensures.found c.if-top-eq512.false
+    c.in_ok-release_entry.field-0 c.in_ok-release_entry.ensures.hand c.advance-in-Opened.ensures.advanced c.in-Opened.is c.in_ok-release_entry.ensures.owned c.push.new.self c.push.ensures.pushed
 
 -- ---- the innermost table is empty
 pub returns-then-top-eq512-clause-course : goal.returns-then-top-eq512-clause-course
-returns-then-top-eq512-clause-course g c =
-    lowered_emptied (g.P.Port.value c.args.port.now) (g.P.Port.value c.close.new.port) c.in-Some.top c.pop.new.self c.args.stack.now (search rules) c.if-top-eq512.true c.close.ensures.course
+returns-then-top-eq512-clause-course g c = lowered_emptied c.in-Some.top (search rules) c.if-top-eq512.true c.close.ensures.course
 
 -- ---- its last recorded entry is not given back
 pub returns-in_err-release_entry-clause-serves : goal.returns-in_err-release_entry-clause-serves
@@ -51,28 +46,23 @@ returns-in_err-release_entry-clause-serves g c =
     let v = g.P.Port.value c.args.port.now in
     let w = g.P.Port.value c.release_entry.new.port in
     let ts = c.args.stack.now in
-    let e = c.in_err-release_entry.field-0.0 in
     let answer = err_from_is_err_and c.from_residual.result c.from_residual.ensures.1 in
-    goes_answer v w ts ts c.from_residual.result e (answer.1 ∙ ap Err answer.2) (goes_entries v w ts (missed v.post.machine e) c.in_err-release_entry.ensures.serves)
+    goes_answer v w ts ts (answer.1 ∙ ap Err answer.2) (goes_entries v w ts (missed v.post.machine c.in_err-release_entry.field-0.0) c.in_err-release_entry.ensures.serves)
 
 pub returns-in_err-release_entry-clause-stops : goal.returns-in_err-release_entry-clause-stops
 returns-in_err-release_entry-clause-stops g c =
     let v = g.P.Port.value c.args.port.now in
     let w = g.P.Port.value c.release_entry.new.port in
     let ts = c.args.stack.now in
-    let e = c.in_err-release_entry.field-0.0 in
     let answer = err_from_is_err_and c.from_residual.result c.from_residual.ensures.1 in
-    risen_answer v w ts c.from_residual.result e (answer.1 ∙ ap Err answer.2) (risen_entries v w ts e c.in_err-release_entry.ensures.kinds c.in_err-release_entry.ensures.stops)
+    risen_answer v w ts (answer.1 ∙ ap Err answer.2) (risen_entries v w ts c.in_err-release_entry.field-0.0 c.in_err-release_entry.ensures.kinds c.in_err-release_entry.ensures.stops)
 
 pub returns-in_err-release_entry-clause-course : goal.returns-in_err-release_entry-clause-course
 returns-in_err-release_entry-clause-course g c =
-    let ts = c.args.stack.now in
-    let t = c.in-Some.top in
     let are = c.in-Some.ensures.some in
-    let e = c.in_err-release_entry.field-0.0 in
     let answer = err_from_is_err_and c.from_residual.result c.from_residual.ensures.1 in
-    lowered_stopped (g.P.Port.value c.args.port.now) (g.P.Port.value c.release_entry.new.port) t (drop 1 ts) ts are c.level_type.result c.level_type.ensures (some_left t (drop 1 ts) ts are c.in-Some.ensures.stack c.if-top-eq512.false) e
-    c.from_residual.result (answer.1 ∙ ap Err answer.2) c.in_err-release_entry.ensures.found c.in_err-release_entry.ensures.plain c.in_err-release_entry.ensures.stops
+    lowered_stopped (g.P.Port.value c.args.port.now) (g.P.Port.value c.release_entry.new.port) are c.level_type.ensures (some_left are c.in-Some.ensures.stack c.if-top-eq512.false)
+    (answer.1 ∙ ap Err answer.2) c.in_err-release_entry.ensures.found c.in_err-release_entry.ensures.plain c.in_err-release_entry.ensures.stops
 
 -- ---- it is given back
 pub returns-in-Given-clause-progress : goal.returns-in-Given-clause-progress
@@ -88,11 +78,8 @@ returns-in-Given-clause-serves g c =
 
 pub returns-in-Given-clause-course : goal.returns-in-Given-clause-course
 returns-in-Given-clause-course g c =
-    let ts = c.args.stack.now in
-    let t = c.in-Some.top in
-    let are = c.in-Some.ensures.some in
-    lowered_given (g.P.Port.value c.args.port.now) (g.P.Port.value c.release_entry.new.port) t (drop 1 ts) ts are c.level_type.result c.level_type.ensures (some_left t (drop 1 ts) ts are c.in-Some.ensures.stack c.if-top-eq512.false)
-    c.in_ok-release_entry.field-0 c.advance.new.self c.in-Given.is c.advance.ensures.advanced c.in_ok-release_entry.ensures.found c.in_ok-release_entry.ensures.plain
+    lowered_given (g.P.Port.value c.args.port.now) (g.P.Port.value c.release_entry.new.port) c.in-Some.ensures.some c.level_type.ensures
+    (some_left c.in-Some.ensures.some c.in-Some.ensures.stack c.if-top-eq512.false) c.in-Given.is c.advance.ensures.advanced c.in_ok-release_entry.ensures.found c.in_ok-release_entry.ensures.plain
 
 -- ---- its frame is a table that is to be released first
 pub returns-in-Opened-clause-progress : goal.returns-in-Opened-clause-progress
@@ -111,12 +98,9 @@ returns-in-Opened-clause-serves g c =
 
 pub returns-in-Opened-clause-course : goal.returns-in-Opened-clause-course
 returns-in-Opened-clause-course g c =
-    let ts = c.args.stack.now in
-    let t = c.in-Some.top in
     let are = c.in-Some.ensures.some in
-    lowered_opened (g.P.Port.value c.args.port.now) (g.P.Port.value c.release_entry.new.port) t (drop 1 ts) ts are c.level_type.result c.level_type.ensures (some_left t (drop 1 ts) ts are c.in-Some.ensures.stack c.if-top-eq512.false)
-    c.in_ok-release_entry.field-0 c.in-Opened.frame c.in-Opened.recorded c.in-Opened.closing c.advance-in-Opened.new.self c.push.new.self c.in-Opened.is c.advance-in-Opened.ensures.advanced c.push.ensures.pushed
-    c.in_ok-release_entry.ensures.found c.in_ok-release_entry.ensures.plain
+    lowered_opened (g.P.Port.value c.args.port.now) (g.P.Port.value c.release_entry.new.port) are c.level_type.ensures (some_left are c.in-Some.ensures.stack c.if-top-eq512.false) c.in-Opened.is
+    c.advance-in-Opened.ensures.advanced c.push.ensures.pushed c.in_ok-release_entry.ensures.found c.in_ok-release_entry.ensures.plain
 
 -- ---- where nothing was noted as unsettled
 pub returns-then-top-eq512-clause-settled : goal.returns-then-top-eq512-clause-settled
@@ -128,14 +112,14 @@ returns-in_err-release_entry-clause-settled g c settled = absurd (subst IsShedLi
 pub returns-in-Given-clause-settled : goal.returns-in-Given-clause-settled
 returns-in-Given-clause-settled g c settled = (
   tt,
-  given_clear c.requires.stands.0 (g.P.Port.value c.args.port.now) (g.P.Port.value c.release_entry.new.port) c.in-Some.top c.args.stack.now (drop 1 c.args.stack.now) c.level_type.result c.in-Some.ensures.some c.level_type.ensures c.requires.stands.1
-      c.release_entry.result c.release_entry.ensures.found c.if-top-eq512.false c.in_ok-release_entry.field-0 c.in_ok-release_entry.ensures.hand c.advance.new.self c.advance.ensures.advanced c.in-Given.is,
+  given_clear (g.P.Port.value c.release_entry.new.port) c.in-Some.ensures.some c.level_type.ensures c.requires.stands.1
+      c.release_entry.result c.release_entry.ensures.found c.if-top-eq512.false c.in_ok-release_entry.field-0 c.in_ok-release_entry.ensures.hand c.advance.ensures.advanced c.in-Given.is,
 )
 
 pub returns-in-Opened-clause-settled : goal.returns-in-Opened-clause-settled
 returns-in-Opened-clause-settled g c settled = (
   tt,
-  opened_clear c.requires.stands.0 (g.P.Port.value c.args.port.now) (g.P.Port.value c.release_entry.new.port) c.in-Some.top c.args.stack.now (drop 1 c.args.stack.now) c.level_type.result c.in-Some.ensures.some c.level_type.ensures c.requires.stands.1
-      c.release_entry.result c.release_entry.ensures.found c.if-top-eq512.false c.in_ok-release_entry.field-0 c.in_ok-release_entry.ensures.hand c.advance-in-Opened.new.self c.advance-in-Opened.ensures.advanced
-      c.in-Opened.frame c.in-Opened.recorded c.in-Opened.closing c.in-Opened.is (subst IsShedLive c.in_ok-release_entry.was (c.release_entry.ensures.settled settled)),
+  opened_clear (g.P.Port.value c.release_entry.new.port) c.in-Some.ensures.some c.level_type.ensures c.requires.stands.1
+      c.release_entry.result c.release_entry.ensures.found c.if-top-eq512.false c.in_ok-release_entry.field-0 c.in_ok-release_entry.ensures.hand c.advance-in-Opened.ensures.advanced
+      c.in-Opened.is (subst IsShedLive c.in_ok-release_entry.was (c.release_entry.ensures.settled settled)),
 )

@@ -1,4 +1,4 @@
-use Rattle.std.proofs.Common.{refl, ◌∙◌, ◌&&◌, true, Bool, Result, Err, Ok, IfErr, sym, ap, subst}
+use Rattle.std.proofs.Common.{refl, ◌∙◌, ◌&&◌, Bool, Result, Err, Ok, IfErr, sym, ap, subst}
 use Rattle.xp_words.specs.declared.reply.Stop.{Stop}
 use Rattle.step_maker.proofs.Coming.{came_trans}
 use Rattle.level_release.proofs.HandsRunning.{running_begins, running_may, running_on, tested_some}
@@ -10,8 +10,7 @@ use Rattle.level_release.proofs.ServingRun.{serving_begins, serving_due, serving
 use Rattle.level_release.proofs.emptying.run_down.Goals as goal
 
 pub lower-requires-clause-may : goal.lower-requires-clause-may
-lower-requires-clause-may g c =
-    running_may (g.P.Port.value c.args.port.now) (g.P.Port.value c.loop-below.port) c.args.stack.now c.loop-below.stack c.loop-below.invariant.hands c.requires.stands c.requires.may
+lower-requires-clause-may g c = running_may c.loop-below.invariant.hands c.requires.stands c.requires.may
 
 pub returns-in_err-lower-clause-came : goal.returns-in_err-lower-clause-came
 returns-in_err-lower-clause-came g c =
@@ -22,56 +21,42 @@ returns-then-due-clause-came g c =
     came_trans (g.P.Port.value c.args.port.now) (g.P.Port.value c.loop-below.port) (g.P.Port.value c.lower.new.port) c.loop-below.invariant.hands.came c.lower.ensures.came
 
 pub loop-below-init : goal.loop-below-init
-loop-below-init g c = record { hands = running_begins (g.P.Port.value c.args.port.now) c.args.stack.now; goes = serving_begins (g.P.Port.value c.args.port.now) c.args.stack.now c.requires.one; course = runs_nothing c.args.below _ _ _ _ _; settled = λ s. s; says = λ n. refl; paces = refl; calm = λ calm. calm }
+loop-below-init g c = record { hands = running_begins; goes = serving_begins c.requires.one; course = runs_nothing; settled = λ s. s; says = λ n. refl; paces = refl; calm = λ calm. calm }
 
 -- ---- an entry, or a table, stops it
 pub returns-in_err-lower-clause-serves : goal.returns-in_err-lower-clause-serves
 returns-in_err-lower-clause-serves g c =
-    let u = g.P.Port.value c.args.port.now in
-    let v = g.P.Port.value c.loop-below.port in
     let w = g.P.Port.value c.lower.new.port in
-    let ts = c.args.stack.now in
-    let xs = c.lower.new.stack in
-    let e = c.in_err-lower.field-0.0 in
     let answer = err_from_is_err_and c.from_residual.result c.from_residual.ensures.1 in
-    goes_answer u w ts xs c.from_residual.result e (answer.1 ∙ ap Err answer.2)
-    (serving_misses u v ts c.loop-below.stack c.loop-below.invariant.goes w xs c.in_err-lower.ensures.came e c.in_err-lower.ensures.serves)
+    goes_answer (g.P.Port.value c.args.port.now) w c.args.stack.now c.lower.new.stack (answer.1 ∙ ap Err answer.2)
+    (serving_misses c.loop-below.invariant.goes w c.lower.new.stack c.in_err-lower.ensures.came c.in_err-lower.field-0.0 c.in_err-lower.ensures.serves)
 
 pub returns-in_err-lower-clause-stops : goal.returns-in_err-lower-clause-stops
 returns-in_err-lower-clause-stops g c =
-    let u = g.P.Port.value c.args.port.now in
     let w = g.P.Port.value c.lower.new.port in
-    let ts = c.args.stack.now in
-    let e = c.in_err-lower.field-0.0 in
     let answer = err_from_is_err_and c.from_residual.result c.from_residual.ensures.1 in
-    risen_answer u w ts c.from_residual.result e (answer.1 ∙ ap Err answer.2)
-    (serving_stops u (g.P.Port.value c.loop-below.port) ts c.loop-below.stack c.loop-below.invariant.goes w c.lower.new.stack c.in_err-lower.ensures.came e c.in_err-lower.ensures.stops)
+    risen_answer (g.P.Port.value c.args.port.now) w c.args.stack.now (answer.1 ∙ ap Err answer.2) (serving_stops c.loop-below.invariant.goes w c.lower.new.stack c.in_err-lower.ensures.came
+    c.in_err-lower.field-0.0 c.in_err-lower.ensures.stops)
 
 pub returns-in_err-lower-clause-course : goal.returns-in_err-lower-clause-course
 returns-in_err-lower-clause-course g c =
     let answer = err_from_is_err_and c.from_residual.result c.from_residual.ensures.1 in
-    runs_stopped c.args.below (g.P.Port.value c.args.port.now) (g.P.Port.value c.loop-below.port) c.args.stack.now c.loop-below.stack _ _ _ _ _ c.loop-below.invariant.course (g.P.Port.value c.lower.new.port) c.lower.new.stack c.lower.result
-    c.in_err-lower.field-0.0 c.from_residual.result c.in_err-lower.was (answer.1 ∙ ap Err answer.2) c.lower.ensures.course c.lower.ensures.undue
+    runs_stopped c.loop-below.invariant.course (g.P.Port.value c.lower.new.port) c.lower.new.stack c.in_err-lower.was (answer.1 ∙ ap Err answer.2) c.lower.ensures.course c.lower.ensures.undue
 
 -- ---- the gate says yes
 pub returns-then-due-clause-serves : goal.returns-then-due-clause-serves
 returns-then-due-clause-serves g c =
-    let a = c.in_ok-lower.ensures in
-    (serving_on (g.P.Port.value c.args.port.now) (g.P.Port.value c.loop-below.port) c.args.stack.now c.loop-below.stack c.loop-below.invariant.goes (g.P.Port.value c.lower.new.port) c.lower.new.stack a.came a.serves a.progress).serves
+    let a = c.in_ok-lower.ensures in (serving_on c.loop-below.invariant.goes (g.P.Port.value c.lower.new.port) c.lower.new.stack a.came a.serves a.progress).serves
 
 pub returns-then-due-clause-stops : goal.returns-then-due-clause-stops
 returns-then-due-clause-stops g c =
-    serving_due (g.P.Port.value c.args.port.now) (g.P.Port.value c.loop-below.port) c.args.stack.now c.loop-below.stack c.loop-below.invariant.goes (g.P.Port.value c.lower.new.port) c.lower.new.stack c.in_ok-lower.ensures.came c.args.below
-    c.in_ok-lower.ensures.progress (sym c.if-is_asked.ensures)
+    serving_due c.loop-below.invariant.goes (g.P.Port.value c.lower.new.port) c.lower.new.stack c.in_ok-lower.ensures.came c.args.below c.in_ok-lower.ensures.progress (sym c.if-is_asked.ensures)
 
 pub returns-then-due-clause-course : goal.returns-then-due-clause-course
 returns-then-due-clause-course g c =
-    let v = g.P.Port.value c.loop-below.port in
     let w = g.P.Port.value c.lower.new.port in
-    let us = c.loop-below.stack in
-    let xs = c.lower.new.stack in
-    runs_due c.args.below (g.P.Port.value c.args.port.now) v c.args.stack.now us _ _ _ _ _ c.loop-below.invariant.course w xs (subst (λ b. Lowered v us w xs (Ok b)) c.if-branch.true c.in_ok-lower.ensures.course) (sym c.if-is_asked.ensures) _
-    c.loop-below.invariant.says _ _ c.if-due.ensures.1.0 c.if-due.ensures.1.1.0 c.if-due.ensures.0
+    runs_due c.loop-below.invariant.course w c.lower.new.stack (subst (λ b. Lowered (g.P.Port.value c.loop-below.port) c.loop-below.stack w c.lower.new.stack (Ok b)) c.if-branch.true
+    c.in_ok-lower.ensures.course) (sym c.if-is_asked.ensures) _ c.loop-below.invariant.says _ c.if-due.ensures.1.0 c.if-due.ensures.1.1.0 c.if-due.ensures.0
 
 pub returns-then-due-clause-stands : goal.returns-then-due-clause-stands
 returns-then-due-clause-stands g c h s = c.lower.ensures.stands h (c.loop-below.invariant.hands.stands h s)
@@ -79,18 +64,16 @@ returns-then-due-clause-stands g c h s = c.lower.ensures.stands h (c.loop-below.
 -- ---- or no
 pub loop-below-preserved-else-due : goal.loop-below-preserved-else-due
 loop-below-preserved-else-due g c =
-    let u = g.P.Port.value c.args.port.now in
     let v = g.P.Port.value c.loop-below.port in
     let w = g.P.Port.value c.lower.new.port in
-    let ts = c.args.stack.now in
     let us = c.loop-below.stack in
     let xs = c.lower.new.stack in
     let i = c.loop-below.invariant in
     let a = c.in_ok-lower.ensures in
     record {
-      hands = running_on u v ts us i.hands (tested_some _ _ c.loop-below-test.true c.is_empty.ensures.1) w xs a.came a.stands a.outer;
-      goes = serving_on u v ts us i.goes w xs a.came a.serves a.progress;
-      course = runs_on c.args.below u v ts us _ _ _ _ _ i.course w xs (subst (λ b. Lowered v us w xs (Ok b)) c.if-branch.true a.course) (sym c.if-is_asked.ensures) _ i.says _ _ c.if-due.ensures.1.0 c.if-due.ensures.1.1.0 c.if-due.ensures.0;
+      hands = running_on i.hands (tested_some _ c.loop-below-test.true c.is_empty.ensures.1) w xs a.came a.stands a.outer;
+      goes = serving_on i.goes w xs a.came a.serves a.progress;
+      course = runs_on i.course w xs (subst (λ b. Lowered v us w xs (Ok b)) c.if-branch.true a.course) (sym c.if-is_asked.ensures) _ i.says _ c.if-due.ensures.1.0 c.if-due.ensures.1.1.0 c.if-due.ensures.0;
       says = λ n. c.if-due.ensures.1.1.1.0 n ∙ i.says n;
       settled = λ s. (c.lower.ensures.settled (i.settled s)).1;
       paces = c.due.ensures.1.1.1.1.0 ∙ i.paces;
@@ -100,18 +83,15 @@ loop-below-preserved-else-due g c =
 -- ---- it is not asked
 pub loop-below-preserved-else-is_asked : goal.loop-below-preserved-else-is_asked
 loop-below-preserved-else-is_asked g c =
-    let u = g.P.Port.value c.args.port.now in
     let v = g.P.Port.value c.loop-below.port in
     let w = g.P.Port.value c.lower.new.port in
-    let ts = c.args.stack.now in
     let us = c.loop-below.stack in
     let xs = c.lower.new.stack in
     let i = c.loop-below.invariant in
-    let a = c.in_ok-lower.ensures in
     record {
-      hands = running_on u v ts us i.hands (tested_some _ _ c.loop-below-test.true c.is_empty.ensures.1) w xs a.came a.stands a.outer;
-      goes = serving_on u v ts us i.goes w xs a.came a.serves a.progress;
-      course = runs_unasked c.args.below u v ts us _ _ _ _ _ i.course w xs true (subst (λ b. Lowered v us w xs (Ok b)) c.if-branch.true a.course) (sym c.if-is_asked.ensures);
+      hands = running_on i.hands (tested_some _ c.loop-below-test.true c.is_empty.ensures.1) w xs c.in_ok-lower.ensures.came c.in_ok-lower.ensures.stands c.in_ok-lower.ensures.outer;
+      goes = serving_on i.goes w xs c.in_ok-lower.ensures.came c.in_ok-lower.ensures.serves c.in_ok-lower.ensures.progress;
+      course = runs_unasked i.course w xs (subst (λ b. Lowered v us w xs (Ok b)) c.if-branch.true c.in_ok-lower.ensures.course) (sym c.if-is_asked.ensures);
       says = i.says;
       settled = λ s. (c.lower.ensures.settled (i.settled s)).1;
       paces = i.paces;
@@ -120,18 +100,13 @@ loop-below-preserved-else-is_asked g c =
 
 pub loop-below-preserved : goal.loop-below-preserved
 loop-below-preserved g c =
-    let u = g.P.Port.value c.args.port.now in
-    let v = g.P.Port.value c.loop-below.port in
     let w = g.P.Port.value c.lower.new.port in
-    let ts = c.args.stack.now in
-    let us = c.loop-below.stack in
     let xs = c.lower.new.stack in
     let i = c.loop-below.invariant in
-    let a = c.in_ok-lower.ensures in
     record {
-      hands = running_on u v ts us i.hands (tested_some _ _ c.loop-below-test.true c.is_empty.ensures.1) w xs a.came a.stands a.outer;
-      goes = serving_on u v ts us i.goes w xs a.came a.serves a.progress;
-      course = runs_unasked c.args.below u v ts us _ _ _ _ _ i.course w xs c.in_ok-lower.field-0 a.course (ap (λ b. b && is_asked_within c.args.below xs) c.if-branch.false);
+      hands = running_on i.hands (tested_some _ c.loop-below-test.true c.is_empty.ensures.1) w xs c.in_ok-lower.ensures.came c.in_ok-lower.ensures.stands c.in_ok-lower.ensures.outer;
+      goes = serving_on i.goes w xs c.in_ok-lower.ensures.came c.in_ok-lower.ensures.serves c.in_ok-lower.ensures.progress;
+      course = runs_unasked i.course w xs c.in_ok-lower.ensures.course (ap (λ b. b && is_asked_within c.args.below xs) c.if-branch.false);
       says = i.says;
       settled = λ s. (c.lower.ensures.settled (i.settled s)).1;
       paces = i.paces;

@@ -1,4 +1,4 @@
-use Rattle.std.proofs.Common.{[], ◌∷◌, ◌+◌}
+use Rattle.std.proofs.Common.{[]}
 use Rattle.step_maker.proofs.Coming.{came_trans, moves_came}
 use Rattle.level_release.proofs.HandsLeft.{left_held, partial_hand}
 use Rattle.level_release.proofs.HandsNamed.{named_stands}
@@ -8,29 +8,15 @@ use Rattle.level_release.proofs.ServingTables.{piece_partial}
 use Rattle.level_release.proofs.leaving.leave_outermost.Goals as goal
 
 pub put_old-requires-clause-held : goal.put_old-requires-clause-held
-put_old-requires-clause-held g c =
-    let v = g.P.Port.value c.args.port.now in
-    let d = g.P.Port.value c.leave_partial.new.port in
-    let s = c.requires.stands in
-    left_held s.0 v c.args.table [] s.1 d (partial_hand s.0 v c.args.table [] s.1 d c.leave_partial.ensures.hand)
+put_old-requires-clause-held g c = left_held c.requires.stands.1 (partial_hand c.requires.stands.1 (g.P.Port.value c.leave_partial.new.port) c.leave_partial.ensures.hand)
 
 pub returns-clause-came : goal.returns-clause-came
 returns-clause-came g c =
     came_trans (g.P.Port.value c.args.port.now) (g.P.Port.value c.leave_partial.new.port) (g.P.Port.value c.put_old.new.port) (moves_came _ _ _ _ _ _ _ c.leave_partial.ensures.moves) (moves_came _ _ _ _ _ _ _ c.put_old.ensures.moves)
 
 pub returns-clause-hand : goal.returns-clause-hand
-returns-clause-hand g c h s =
-    let v = g.P.Port.value c.args.port.now in
-    let d = g.P.Port.value c.leave_partial.new.port in
-    named_stands h v c.args.table s d (partial_hand h v c.args.table [] s d c.leave_partial.ensures.hand) (g.P.Port.value c.put_old.new.port) c.put_old.ensures.hand
+returns-clause-hand g c h s = named_stands s (partial_hand s (g.P.Port.value c.leave_partial.new.port) c.leave_partial.ensures.hand) (g.P.Port.value c.put_old.new.port) c.put_old.ensures.hand
 
 pub returns-clause-serves : goal.returns-clause-serves
 unfolding Continues
-returns-clause-serves g c u r ds a =
-    let b = c.requires.stands in
-    let t = c.args.table in
-    let v = g.P.Port.value c.args.port.now in
-    let x = g.P.Port.value c.leave_partial.new.port in
-    let w = g.P.Port.value c.put_old.new.port in
-    let left = piece_partial b.0 v x t [] c.leave_partial.result b.1 c.leave_partial.ensures.moves u r [] ds a in
-    piece_rest u w r t [] ds (piece_names u x w r (t ∷ []) ds left (t.frame + 1) c.put_old.ensures.moves)
+returns-clause-serves g c u r ds a = piece_rest (piece_names (g.P.Port.value c.put_old.new.port) (piece_partial c.requires.stands.1 c.leave_partial.ensures.moves u r [] ds a) c.put_old.ensures.moves)

@@ -8,5 +8,4 @@ pub leave-requires-clause-leaves : goal.leave-requires-clause-leaves
 leave-requires-clause-leaves g c =
     let v = g.P.Port.value c.args.port.now in
     let t = c.args.table in
-    let s = c.requires.stands in
-    subst (λ (k : KindWord). MayLeave v t.frame k) (sym (c.partial_kind.ensures ∙ ap (λ y. partial_kind y false false (512 - t.done) 0) c.level_type.ensures)) (partial_leaves s.1.0 v t s.0 s.1.1)
+    subst (λ (k : KindWord). MayLeave v t.frame k) (sym (c.partial_kind.ensures ∙ ap (λ y. partial_kind y false false (512 - t.done) 0) c.level_type.ensures)) (partial_leaves c.requires.stands.1.1)

@@ -4,30 +4,25 @@ use Rattle.level_release.proofs.CoursesUnwound.{Unwinding, unwinding_begins, unw
 use Rattle.level_release.proofs.leaving.unwind.Goals as goal
 
 pub leave_outermost-requires-clause-may : goal.leave_outermost-requires-clause-may
-leave_outermost-requires-clause-may g c =
-    leaving_may (g.P.Port.value c.args.port.now) (g.P.Port.value c.loop-table.port) c.args.stack.now c.in-Some.table c.pop.new.self c.loop-table.stack c.loop-table.invariant.hands c.in-Some.ensures.some c.requires.stands c.requires.may
+leave_outermost-requires-clause-may g c = leaving_may c.loop-table.invariant.hands c.in-Some.ensures.some c.requires.stands c.requires.may
 
 pub leave_outermost-requires-clause-stands : goal.leave_outermost-requires-clause-stands
-leave_outermost-requires-clause-stands g c =
-    leaving_last (g.P.Port.value c.args.port.now) (g.P.Port.value c.loop-table.port) c.args.stack.now c.in-Some.table c.pop.new.self c.loop-table.stack c.loop-table.invariant.hands c.in-Some.ensures.some c.requires.stands (c.is_empty.ensures.0 c.if-is_empty.true)
+leave_outermost-requires-clause-stands g c = leaving_last c.loop-table.invariant.hands c.in-Some.ensures.some c.requires.stands (c.is_empty.ensures.0 c.if-is_empty.true)
 
 pub leave_outermost-requires-clause-room : goal.leave_outermost-requires-clause-room
-leave_outermost-requires-clause-room g c =
-    leaving_room (g.P.Port.value c.args.port.now) (g.P.Port.value c.loop-table.port) c.args.stack.now c.in-Some.table c.pop.new.self c.loop-table.stack c.loop-table.invariant.hands c.in-Some.ensures.some c.requires.stands c.requires.room
+leave_outermost-requires-clause-room g c = leaving_room c.loop-table.invariant.hands c.in-Some.ensures.some c.requires.stands c.requires.room
 
 pub leave_inside-requires-clause-may : goal.leave_inside-requires-clause-may
-leave_inside-requires-clause-may g c =
-    leaving_may (g.P.Port.value c.args.port.now) (g.P.Port.value c.loop-table.port) c.args.stack.now c.in-Some.table c.pop.new.self c.loop-table.stack c.loop-table.invariant.hands c.in-Some.ensures.some c.requires.stands c.requires.may
+leave_inside-requires-clause-may g c = leaving_may c.loop-table.invariant.hands c.in-Some.ensures.some c.requires.stands c.requires.may
 
 pub leave_inside-requires-clause-stands : goal.leave_inside-requires-clause-stands
-leave_inside-requires-clause-stands g c =
-    leaving_stands (g.P.Port.value c.args.port.now) (g.P.Port.value c.loop-table.port) c.args.stack.now c.in-Some.table c.pop.new.self c.loop-table.stack c.loop-table.invariant.hands c.in-Some.ensures.some c.requires.stands
+leave_inside-requires-clause-stands g c = leaving_stands c.loop-table.invariant.hands c.in-Some.ensures.some c.requires.stands
 
 pub returns-clause-hand : goal.returns-clause-hand
-returns-clause-hand g c = leaving_done (g.P.Port.value c.args.port.now) (g.P.Port.value c.loop-table.port) c.args.stack.now c.loop-table.stack c.loop-table.invariant.hands c.in_default.ensures.none.0
+returns-clause-hand g c = leaving_done c.loop-table.invariant.hands c.in_default.ensures.none.0
 
 pub loop-table-init : goal.loop-table-init
-loop-table-init g c = record { hands = leaving_begins (g.P.Port.value c.args.port.now) c.args.stack.now c.requires.some; goes = unwinding_begins (g.P.Port.value c.args.port.now) c.args.stack.now }
+loop-table-init g c = record { hands = leaving_begins c.requires.some; goes = unwinding_begins }
 
 pub loop-table-preserved-then-is_empty : goal.loop-table-preserved-then-is_empty
 loop-table-preserved-then-is_empty g c =
@@ -38,28 +33,20 @@ loop-table-preserved-then-is_empty g c =
     let ts = c.args.stack.now in
     let none = c.if-is_empty.ensures.0 refl in
     let left = subst (λ us. Unwinding u v ts (t ∷ us)) none (subst (λ us. Unwinding u v ts us) c.in-Some.ensures.some c.loop-table.invariant.goes) in
-    let a = c.leave_outermost.ensures in
     record {
-      hands = leaving_named u v ts t c.pop.new.self c.loop-table.stack c.loop-table.invariant.hands c.in-Some.ensures.some w a.came none a.hand;
-      goes = subst (λ us. Unwinding u w ts us) (sym none) (unwinding_ends u v w t ts left a.came a.serves a.course);
+      hands = leaving_named c.loop-table.invariant.hands c.in-Some.ensures.some w c.leave_outermost.ensures.came none c.leave_outermost.ensures.hand;
+      goes = subst (λ us. Unwinding u w ts us) (sym none) (unwinding_ends left c.leave_outermost.ensures.came c.leave_outermost.ensures.serves c.leave_outermost.ensures.course);
     }
 
 pub loop-table-preserved : goal.loop-table-preserved
 loop-table-preserved g c =
     let u = g.P.Port.value c.args.port.now in
-    let v = g.P.Port.value c.loop-table.port in
-    let w = g.P.Port.value c.leave_inside.new.port in
-    let t = c.in-Some.table in
-    let ts = c.args.stack.now in
-    let left = subst (λ us. Unwinding u v ts us) c.in-Some.ensures.some c.loop-table.invariant.goes in
-    let a = c.leave_inside.ensures in
-    record {
-      hands = leaving_inside u v ts t c.pop.new.self c.loop-table.stack c.loop-table.invariant.hands c.in-Some.ensures.some w a.came c.leave_inside.new.stack a.stands a.course;
-      goes = unwinding_on u v w t ts c.pop.new.self c.leave_inside.new.stack left a.came a.serves a.course;
-    }
+    record { hands = leaving_inside c.loop-table.invariant.hands c.in-Some.ensures.some (g.P.Port.value c.leave_inside.new.port) c.leave_inside.ensures.came c.leave_inside.ensures.stands
+    c.leave_inside.ensures.course; goes = unwinding_on (subst (λ us. Unwinding u (g.P.Port.value c.loop-table.port) c.args.stack.now us) c.in-Some.ensures.some c.loop-table.invariant.goes)
+    c.leave_inside.ensures.came c.leave_inside.ensures.serves c.leave_inside.ensures.course }
 
 pub returns-clause-serves : goal.returns-clause-serves
-returns-clause-serves g c = (unwinding_done (g.P.Port.value c.args.port.now) (g.P.Port.value c.loop-table.port) c.args.stack.now c.loop-table.stack c.loop-table.invariant.goes c.in_default.ensures.none.0).0
+returns-clause-serves g c = (unwinding_done c.loop-table.invariant.goes c.in_default.ensures.none.0).0
 
 pub returns-clause-course : goal.returns-clause-course
-returns-clause-course g c = (unwinding_done (g.P.Port.value c.args.port.now) (g.P.Port.value c.loop-table.port) c.args.stack.now c.loop-table.stack c.loop-table.invariant.goes c.in_default.ensures.none.0).1
+returns-clause-course g c = (unwinding_done c.loop-table.invariant.goes c.in_default.ensures.none.0).1

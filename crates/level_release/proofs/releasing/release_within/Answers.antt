@@ -1,8 +1,8 @@
 use Rattle.std.proofs.Common.{[], false, refl, sym, ◌∙◌, subst}
 use Rattle.frame_types.specs.Lowering.{DropsType}
 use Rattle.level_release.proofs.Dropped.{closed_empties, closed_settled, counted_gives, counted_left, emptied_released, may_drop, may_drop_plain, plain_left}
-use Rattle.level_release.specs.Asking.{is_due_answer, of_release}
-use Rattle.level_release.specs.Course.{EmptiedTo, ReleasedTo, closing_table, last, plain, shared}
+use Rattle.level_release.specs.Asking.{is_due_answer}
+use Rattle.level_release.specs.Course.{last, plain, shared}
 use Rattle.level_release.proofs.Consulting.{by_as, by_none}
 use Rattle.level_release.proofs.Requested.{answer_stops, back_serves, both_serve, closed_piece, emptied_serves}
 use Rattle.level_release.proofs.releasing.release_within.Goals as goal
@@ -10,35 +10,33 @@ use Rattle.level_release.proofs.releasing.release_within.Goals as goal
 -- ---- no table
 
 pub drop_plain-requires-clause-drops : goal.drop_plain-requires-clause-drops
-drop_plain-requires-clause-drops g c = may_drop_plain (g.P.Port.value c.args.port.now) c.args.frame c.args.kind c.requires.holds (sym c.is_table.ensures ∙ c.if-not-is_table.true)
+drop_plain-requires-clause-drops g c = may_drop_plain c.requires.holds (sym c.is_table.ensures ∙ c.if-not-is_table.true)
 
 pub returns-then-not-is_table-clause-serves : goal.returns-then-not-is_table-clause-serves
 returns-then-not-is_table-clause-serves g c owner pages =
     back_serves (g.P.Port.value c.args.port.now) c.args.frame owner pages false (g.P.Port.value c.drop_plain.new.port) [] c.drop_plain.ensures.serves
 
 pub returns-then-not-is_table-clause-hand : goal.returns-then-not-is_table-clause-hand
-returns-then-not-is_table-clause-hand g c = plain_left (g.P.Port.value c.args.port.now) c.args.frame c.args.kind c.requires.holds (g.P.Port.value c.drop_plain.new.port) c.drop_plain.ensures.hand
+returns-then-not-is_table-clause-hand g c = plain_left c.requires.holds (g.P.Port.value c.drop_plain.new.port) c.drop_plain.ensures.hand
 
 -- ---- a table
 
 pub returns-then-not-is_table-clause-course : goal.returns-then-not-is_table-clause-course
 returns-then-not-is_table-clause-course g c =
-    by_none _ _ _ _ _ refl (
+    by_none refl (
       plain (g.P.Port.value c.drop_plain.new.port) (sym c.is_table.ensures ∙ c.if-not-is_table.true)
           (record { found = c.drop_plain.ensures.found; plain = c.drop_plain.ensures.plain; stands = c.drop_plain.ensures.stands }),
       refl,
     )
 
 pub drop_type-requires-clause-drops : goal.drop_type-requires-clause-drops
-drop_type-requires-clause-drops g c = may_drop (g.P.Port.value c.args.port.now) c.args.frame c.args.kind c.requires.holds
+drop_type-requires-clause-drops g c = may_drop c.requires.holds
 
 -- ---- other type counts are left
 
 pub put_ref-requires-clause-gives : goal.put_ref-requires-clause-gives
 put_ref-requires-clause-gives g c =
-    let v = g.P.Port.value c.args.port.now in
-    let a = g.P.Port.value c.drop_type.new.port in
-    counted_gives v c.args.frame c.args.kind c.requires.holds a (subst (λ b. DropsType v a c.args.frame b) c.if-drop_type.false c.drop_type.ensures.drops)
+    counted_gives c.requires.holds (subst (λ b. DropsType (g.P.Port.value c.args.port.now) (g.P.Port.value c.drop_type.new.port) c.args.frame b) c.if-drop_type.false c.drop_type.ensures.drops)
 
 pub returns-else-drop_type-clause-serves : goal.returns-else-drop_type-clause-serves
 returns-else-drop_type-clause-serves g c owner pages =
@@ -46,15 +44,14 @@ returns-else-drop_type-clause-serves g c owner pages =
 
 pub returns-else-drop_type-clause-hand : goal.returns-else-drop_type-clause-hand
 returns-else-drop_type-clause-hand g c =
-    let v = g.P.Port.value c.args.port.now in
-    let a = g.P.Port.value c.drop_type.new.port in
-    counted_left v c.args.frame c.args.kind c.requires.holds a (subst (λ b. DropsType v a c.args.frame b) c.if-drop_type.false c.drop_type.ensures.drops) (g.P.Port.value c.put_ref.new.port) c.put_ref.ensures.hand
+    counted_left c.requires.holds (subst (λ b. DropsType (g.P.Port.value c.args.port.now) (g.P.Port.value c.drop_type.new.port) c.args.frame b) c.if-drop_type.false c.drop_type.ensures.drops)
+    (g.P.Port.value c.put_ref.new.port) c.put_ref.ensures.hand
 
 pub returns-else-drop_type-clause-course : goal.returns-else-drop_type-clause-course
 returns-else-drop_type-clause-course g c =
     let v = g.P.Port.value c.args.port.now in
     let a = g.P.Port.value c.drop_type.new.port in
-    by_none _ _ _ _ _ refl (
+    by_none refl (
       shared a (g.P.Port.value c.put_ref.new.port) (sym c.is_table.ensures ∙ c.if-not-is_table.false) (subst (λ b. DropsType v a c.args.frame b) c.if-drop_type.false c.drop_type.ensures.drops)
           (record { found = c.put_ref.ensures.puts; plain = c.put_ref.ensures.plain }),
       refl,
@@ -66,41 +63,27 @@ pub empty-requires-clause-stands : goal.empty-requires-clause-stands
 empty-requires-clause-stands g c =
     let v = g.P.Port.value c.args.port.now in
     let a = g.P.Port.value c.drop_type.new.port in
-    let x = g.P.Port.value c.look_refs.new.port in
     let d = subst (λ b. DropsType v a c.args.frame b) c.if-drop_type.true c.drop_type.ensures.drops in (
       record v.holdings { typed = [] },
-      closed_empties v c.args.frame c.args.kind c.requires.holds a d x c.look_refs.result c.look_refs.ensures.moves c.look_refs.ensures.hand c.level_of.result c.level_of.ensures.kind c.level_of.ensures.low c.level_of.ensures.high
+      closed_empties c.requires.holds d c.look_refs.ensures.moves c.look_refs.ensures.hand c.level_of.result c.level_of.ensures.kind c.level_of.ensures.low c.level_of.ensures.high
           (sym c.is_table.ensures ∙ c.if-not-is_table.false) c.requires.frame,
     )
 
 pub returns-then-drop_type-clause-hand : goal.returns-then-drop_type-clause-hand
 returns-then-drop_type-clause-hand g c =
-    let v = g.P.Port.value c.args.port.now in
-    let a = g.P.Port.value c.drop_type.new.port in
-    let x = g.P.Port.value c.look_refs.new.port in
-    let d = subst (λ b. DropsType v a c.args.frame b) c.if-drop_type.true c.drop_type.ensures.drops in
-    emptied_released v c.args.frame c.args.kind c.requires.holds a d x c.look_refs.result c.look_refs.ensures.moves c.look_refs.ensures.hand c.level_of.result c.level_of.ensures.kind c.level_of.ensures.low c.level_of.ensures.high
-    (sym c.is_table.ensures ∙ c.if-not-is_table.false) c.requires.frame (g.P.Port.value c.empty.new.port) c.empty.result c.empty.ensures.came c.empty.ensures.hand
+    emptied_released c.requires.holds (subst (λ b. DropsType (g.P.Port.value c.args.port.now) (g.P.Port.value c.drop_type.new.port) c.args.frame b) c.if-drop_type.true c.drop_type.ensures.drops)
+    c.look_refs.ensures.moves c.look_refs.ensures.hand c.level_of.result c.level_of.ensures.kind c.level_of.ensures.low c.level_of.ensures.high (sym c.is_table.ensures ∙ c.if-not-is_table.false)
+    c.requires.frame (g.P.Port.value c.empty.new.port) c.empty.result c.empty.ensures.came c.empty.ensures.hand
 
 pub returns-then-drop_type-clause-serves : goal.returns-then-drop_type-clause-serves
 returns-then-drop_type-clause-serves g c owner pages =
-    let v = g.P.Port.value c.args.port.now in
-    let a = g.P.Port.value c.drop_type.new.port in
-    let x = g.P.Port.value c.look_refs.new.port in
-    let t = closing_table c.args.frame c.level_of.result in
-    let rose = is_due_answer c.empty.result in
-    emptied_serves v x (g.P.Port.value c.empty.new.port) (of_release c.args.frame owner pages c.empty.result) t
-    (closed_piece v c.args.frame owner pages rose a x c.look_refs.result t refl c.drop_type.ensures.serves c.look_refs.ensures.moves) c.empty.result c.empty.ensures.serves
+    emptied_serves (g.P.Port.value c.empty.new.port) (closed_piece (g.P.Port.value c.args.port.now) c.args.frame owner pages (is_due_answer c.empty.result) refl c.drop_type.ensures.serves
+    c.look_refs.ensures.moves) c.empty.result c.empty.ensures.serves
 
 pub returns-then-drop_type-clause-stops : goal.returns-then-drop_type-clause-stops
 returns-then-drop_type-clause-stops g c owner pages =
-    let v = g.P.Port.value c.args.port.now in
-    let a = g.P.Port.value c.drop_type.new.port in
-    let x = g.P.Port.value c.look_refs.new.port in
-    let t = closing_table c.args.frame c.level_of.result in
-    let rose = is_due_answer c.empty.result in
-    answer_stops v x (g.P.Port.value c.empty.new.port) (of_release c.args.frame owner pages c.empty.result) t c.empty.result refl
-    (closed_piece v c.args.frame owner pages rose a x c.look_refs.result t refl c.drop_type.ensures.serves c.look_refs.ensures.moves) c.empty.ensures.stops
+    answer_stops (g.P.Port.value c.empty.new.port) c.empty.result refl (closed_piece (g.P.Port.value c.args.port.now) c.args.frame owner pages (is_due_answer c.empty.result) refl
+    c.drop_type.ensures.serves c.look_refs.ensures.moves) c.empty.ensures.stops
 
 pub returns-then-drop_type-clause-course : goal.returns-then-drop_type-clause-course
 returns-then-drop_type-clause-course g c =
@@ -109,12 +92,11 @@ returns-then-drop_type-clause-course g c =
     let x = g.P.Port.value c.look_refs.new.port in
     let w = g.P.Port.value c.empty.new.port in
     let d = subst (λ b. DropsType v a c.args.frame b) c.if-drop_type.true c.drop_type.ensures.drops in
-    by_as _ (λ answers. EmptiedTo c.args.left.now c.empty.new.left x (closing_table c.args.frame c.level_of.result) w answers c.empty.result) (λ answers. ReleasedTo c.args.left.now c.empty.new.left v c.args.frame c.args.kind w answers c.empty.result) _ _ _ _ _
+    by_as
     (λ answers emptied. (last a x w c.look_refs.result c.level_of.result answers c.empty.result (sym c.is_table.ensures ∙ c.if-not-is_table.false) c.level_of.ensures.kind c.level_of.ensures.high d c.look_refs.ensures.moves emptied.0, emptied.1)) c.empty.ensures.course
 
 pub returns-then-drop_type-clause-kinds : goal.returns-then-drop_type-clause-kinds
 returns-then-drop_type-clause-kinds g c =
     let v = g.P.Port.value c.args.port.now in
-    let a = g.P.Port.value c.drop_type.new.port in
-    let x = g.P.Port.value c.look_refs.new.port in
-    c.empty.ensures.settled (closed_settled v c.args.frame c.args.kind c.requires.holds a (subst (λ b. DropsType v a c.args.frame b) c.if-drop_type.true c.drop_type.ensures.drops) x c.look_refs.result c.look_refs.ensures.moves c.look_refs.ensures.hand c.level_of.result c.level_of.ensures.kind)
+    c.empty.ensures.settled (closed_settled c.requires.holds (subst (λ b. DropsType v (g.P.Port.value c.drop_type.new.port) c.args.frame b) c.if-drop_type.true c.drop_type.ensures.drops)
+    c.look_refs.ensures.moves c.look_refs.ensures.hand c.level_of.result c.level_of.ensures.kind)

@@ -1,7 +1,7 @@
-use Rattle.std.proofs.Common.{Err, Ok, ap, ◌∙◌, None}
+use Rattle.std.proofs.Common.{Err, ap, ◌∙◌}
 use Rattle.std.proofs.lemmas.Result.{err_from_is_err_and}
-use Rattle.table_words.specs.declared.old_words.OldWord.TheVariants.{First, Second}
-use Rattle.level_release.specs.Course.{SettledOneTo, SettledTo, both}
+use Rattle.table_words.specs.declared.old_words.OldWord.TheVariants.{Second}
+use Rattle.level_release.specs.Course.{both}
 use Rattle.level_release.proofs.Consulting.{by_then}
 use Rattle.level_release.proofs.Falling.{none_left}
 use Rattle.level_release.proofs.Settled.{both_serve, both_stop, first_by}
@@ -10,29 +10,26 @@ use Rattle.level_release.proofs.settling.settle.Goals as goal
 pub returns-in_err-settle_word-clause-course : goal.returns-in_err-settle_word-clause-course
 returns-in_err-settle_word-clause-course g c =
     let answer = err_from_is_err_and c.from_residual.result c.from_residual.ensures.1 in
-    first_by c.args.left.now c.settle_word.new.left (g.P.Port.value c.args.port.now) (g.P.Port.value c.settle_word.new.port) _ _ _ _ _ c.from_residual.result c.in_err-settle_word.field-0.0 (answer.1 ∙ ap Err answer.2) c.in_err-settle_word.ensures.course
+    first_by c.args.left.now c.settle_word.new.left (g.P.Port.value c.args.port.now) (g.P.Port.value c.settle_word.new.port) (answer.1 ∙ ap Err answer.2) c.in_err-settle_word.ensures.met.course
 
 pub returns-clause-serves : goal.returns-clause-serves
 returns-clause-serves g c owner pages =
-    both_serve (g.P.Port.value c.args.port.now) (g.P.Port.value c.settle_word.new.port) (g.P.Port.value c.settle_word-2.new.port) owner pages (c.in_ok-settle_word.ensures.serves owner pages) c.settle_word-2.result
-    (c.settle_word-2.ensures.serves owner pages)
+    both_serve (g.P.Port.value c.args.port.now) (g.P.Port.value c.settle_word.new.port) (g.P.Port.value c.settle_word-2.new.port) owner pages (c.in_ok-settle_word.ensures.met.serves owner pages) c.settle_word-2.result
+    (c.settle_word-2.ensures.met.serves owner pages)
 
 pub returns-clause-stops : goal.returns-clause-stops
 returns-clause-stops g c owner pages =
-    both_stop (g.P.Port.value c.args.port.now) (g.P.Port.value c.settle_word.new.port) (g.P.Port.value c.settle_word-2.new.port) owner pages (c.in_ok-settle_word.ensures.serves owner pages) c.settle_word-2.result
-    c.settle_word-2.ensures.kinds (c.settle_word-2.ensures.stops owner pages)
+    both_stop (g.P.Port.value c.args.port.now) (g.P.Port.value c.settle_word.new.port) (g.P.Port.value c.settle_word-2.new.port) owner pages (c.in_ok-settle_word.ensures.met.serves owner pages) c.settle_word-2.result
+    c.settle_word-2.ensures.met.kinds (c.settle_word-2.ensures.met.stops owner pages)
 
 pub returns-clause-course : goal.returns-clause-course
 returns-clause-course g c =
-    let v = g.P.Port.value c.args.port.now in
     let u = g.P.Port.value c.settle_word.new.port in
-    let w = g.P.Port.value c.settle_word-2.new.port in
-    let answer = c.settle_word-2.result in
-    by_then _ _ (λ answers. SettledOneTo c.args.left.now c.settle_word.new.left v First u answers (Ok tt)) (λ more. SettledOneTo None c.settle_word-2.new.left u Second w more answer) (λ answers. SettledTo c.args.left.now c.settle_word-2.new.left v w answers answer) _ _ _ _ _ _ answer c.in_ok-settle_word.ensures.says
-    (λ answers more one two. (both u w answers more answer one.0 two.0, two.1)) c.in_ok-settle_word.ensures.course c.settle_word-2.ensures.course
+    by_then c.in_ok-settle_word.ensures.says (λ answers more one two. (both u (g.P.Port.value c.settle_word-2.new.port) answers more c.settle_word-2.result one.0 two.0, two.1))
+    c.in_ok-settle_word.ensures.met.course c.settle_word-2.ensures.met.course
 
 pub returns-clause-none : goal.returns-clause-none
 returns-clause-none g c =
     let u = g.P.Port.value c.settle_word.new.port in
     let w = g.P.Port.value c.settle_word-2.new.port in
-    none_left c.settle_word-2.new.left u Second w _ c.settle_word-2.result c.settle_word-2.ensures.course.course
+    none_left c.settle_word-2.new.left u Second w _ c.settle_word-2.result c.settle_word-2.ensures.met.course.course

@@ -7,87 +7,53 @@ use Rattle.board_lemmas.proofs.KindForms.{fields_of}
 use Rattle.step_maker.proofs.Coming.{moves_came}
 use Rattle.answer_fits.proofs.Piecing.{serves_came, stops_before}
 use Rattle.level_release.specs.Asking.{of_release, of_settle}
-use Rattle.level_release.specs.Course.{ReleasedTo, SettledOneTo}
 use Rattle.level_release.proofs.Answered.{busy_course, busy_stops, due_ends, live_course, released_serves, released_stops}
 use Rattle.level_release.proofs.Consulting.{by_as, by_none}
 use Rattle.level_release.proofs.Lived.{named_live}
 use Rattle.level_release.proofs.Named.{again_serves, took_came, took_serves}
-use Rattle.level_release.proofs.Taken.{named_again, named_ref, named_since, settled_rests, took_held, took_settled, took_typed}
+use Rattle.level_release.proofs.Taken.{named_again, settled_rests, took_held, took_settled, took_typed}
 use Rattle.level_release.proofs.settling.settle_found.Goals as goal
 
 -- ---- it was found live
 
 pub release_within-requires-clause-holds : goal.release_within-requires-clause-holds
-release_within-requires-clause-holds g c =
-    let t = c.requires.took in named_live t.0 (g.P.Port.value c.args.port.now) t.1 c.args.frame c.args.found t.2 c.read_kind-kind.result c.read_kind-kind.ensures c.if-kind.true
+release_within-requires-clause-holds g c = named_live c.requires.took.2 c.read_kind-kind.ensures c.if-kind.true
 
-pub returns-then-kind-clause-hand : goal.returns-then-kind-clause-hand
-returns-then-kind-clause-hand g c u which t =
-    took_settled u (g.P.Port.value c.args.port.now) (g.P.Port.value c.release_within.new.port) which c.args.frame c.args.found t c.release_within.result c.release_within.ensures.hand
-
-pub returns-then-kind-clause-rests : goal.returns-then-kind-clause-rests
-returns-then-kind-clause-rests g c =
-    let t = c.requires.took in settled_rests t.0 (g.P.Port.value c.release_within.new.port) t.1 c.release_within.result t.2.rests (returns-then-kind-clause-hand g c t.0 t.1 t.2)
-
-pub returns-then-kind-clause-serves : goal.returns-then-kind-clause-serves
-returns-then-kind-clause-serves g c u which t owner pages =
-    let v = g.P.Port.value c.args.port.now in
+pub returns-then-kind-clause-met : goal.returns-then-kind-clause-met
+returns-then-kind-clause-met g c u which t =
     let w = g.P.Port.value c.release_within.new.port in
-    let serves = c.release_within.ensures.serves owner pages in
-    released_serves u v which c.args.frame c.args.found t owner pages w c.release_within.result (serves_came v w (of_release c.args.frame owner pages c.release_within.result) _ serves) serves
-
-pub returns-then-kind-clause-stops : goal.returns-then-kind-clause-stops
-returns-then-kind-clause-stops g c u which t owner pages =
-    let v = g.P.Port.value c.args.port.now in
-    let w = g.P.Port.value c.release_within.new.port in
-    released_stops u v which c.args.frame c.args.found t owner pages w c.release_within.result (serves_came v w (of_release c.args.frame owner pages c.release_within.result) _ (c.release_within.ensures.serves owner pages)) c.release_within.ensures.kinds
-    (c.release_within.ensures.stops owner pages)
-
-pub returns-then-kind-clause-course : goal.returns-then-kind-clause-course
-returns-then-kind-clause-course g c u which t =
-    let v = g.P.Port.value c.args.port.now in
-    let w = g.P.Port.value c.release_within.new.port in
-    let k = c.read_kind-kind.result in
-    by_as _ (λ answers. ReleasedTo c.args.left.now c.release_within.new.left v c.args.frame k.kind w answers c.release_within.result) (λ answers. SettledOneTo c.args.left.now c.release_within.new.left u which w answers c.release_within.result) _ _ _ _ _
-    (λ answers released. live_course u v which c.args.frame c.args.found t k c.read_kind-kind.ensures c.args.left.now c.release_within.new.left w answers c.release_within.result c.if-kind.true released) c.release_within.ensures.course
+    let answer = c.release_within.result in
+    let e = c.release_within.ensures in
+    let hand = took_settled w t answer e.hand in
+    let came = serves_came (g.P.Port.value c.args.port.now) w (of_release c.args.frame 0 0 answer) _ (e.serves 0 0) in
+    record {
+      rests = settled_rests which answer t.rests hand;
+      serves = λ owner pages. released_serves t owner pages w answer came (e.serves owner pages);
+      stops = λ owner pages. released_stops t owner pages w answer came e.kinds (e.stops owner pages);
+      kinds = IfErr-weaker answer _ _ due_ends e.kinds;
+      hand = hand;
+      course = by_as (λ answers released. live_course t c.read_kind-kind.ensures c.args.left.now c.release_within.new.left w answers answer c.if-kind.true released) e.course;
+    }
 
 -- ---- it was found in another vCPU's hand: the first word names it again
 
 pub put_old-requires-clause-held : goal.put_old-requires-clause-held
-put_old-requires-clause-held g c = let t = c.requires.took in took_held t.0 (g.P.Port.value c.args.port.now) t.1 c.args.frame c.args.found t.2
+put_old-requires-clause-held g c = took_held c.requires.took.2
 
-pub returns-else-kind-2-clause-hand : goal.returns-else-kind-2-clause-hand
-returns-else-kind-2-clause-hand g c u which t =
+pub returns-else-kind-2-clause-met : goal.returns-else-kind-2-clause-met
+returns-else-kind-2-clause-met g c u which t =
     let v = g.P.Port.value c.args.port.now in
     let w = g.P.Port.value c.put_old.new.port in
     let e = Paused (Busy c.args.frame c.args.found) in
-    took_settled u v w which c.args.frame c.args.found t (Err e)
-    (named_again v w c.args.frame (named_ref c.args.frame (named_since u v which c.args.frame c.args.found t)) e (took_typed u v which c.args.frame c.args.found t) refl c.put_old.ensures.hand)
-
-pub returns-else-kind-2-clause-rests : goal.returns-else-kind-2-clause-rests
-returns-else-kind-2-clause-rests g c =
-    let t = c.requires.took in settled_rests t.0 (g.P.Port.value c.put_old.new.port) t.1 (Err (Paused (Busy c.args.frame c.args.found))) t.2.rests (returns-else-kind-2-clause-hand g c t.0 t.1 t.2)
-
-pub returns-else-kind-2-clause-serves : goal.returns-else-kind-2-clause-serves
-returns-else-kind-2-clause-serves g c u which t owner pages =
-    let v = g.P.Port.value c.args.port.now in
-    again_serves u v which c.args.frame c.args.found t owner pages false v (g.P.Port.value c.put_old.new.port) [] (took_serves u v which c.args.frame c.args.found t owner pages false)
-    (took_came u v which c.args.frame c.args.found t owner pages false) c.put_old.ensures.moves
-
-pub returns-else-kind-2-clause-stops : goal.returns-else-kind-2-clause-stops
-returns-else-kind-2-clause-stops g c u which t owner pages =
-    let v = g.P.Port.value c.args.port.now in
-    let w = g.P.Port.value c.put_old.new.port in
-    let e = Paused (Busy c.args.frame c.args.found) in
+    let put = c.put_old.ensures in
     let fields = fields_of c.args.found c.read_kind-kind.result c.read_kind-kind.ensures in
-    stops_before u v w (of_settle {A = Unit {0}} owner pages (Err e)) e
-    (busy_stops u v which c.args.frame c.args.found t owner pages (ap (λ (k : KindWord). k.validated) fields ∙ c.if-kind.false) (ap (λ (k : KindWord). k.partial) fields ∙ c.if-kind-2.false)) (moves_came v w _ _ _ _ _ c.put_old.ensures.moves)
-
-pub returns-else-kind-2-clause-course : goal.returns-else-kind-2-clause-course
-returns-else-kind-2-clause-course g c u which t =
-    let v = g.P.Port.value c.args.port.now in
-    by_none _ _ _ _ _ refl
-    (busy_course u v which c.args.frame c.args.found t c.read_kind-kind.result c.read_kind-kind.ensures c.args.left.now (g.P.Port.value c.put_old.new.port) c.if-kind.false c.if-kind-2.false c.put_old.ensures.moves)
-
-pub returns-then-kind-clause-kinds : goal.returns-then-kind-clause-kinds
-returns-then-kind-clause-kinds g c = IfErr-weaker c.release_within.result _ _ due_ends c.release_within.ensures.kinds
+    let hand = took_settled w t (Err e) (named_again v w e (took_typed t) refl put.hand) in
+    record {
+      rests = settled_rests which (Err e) t.rests hand;
+      serves = λ owner pages. again_serves t owner pages false [] (took_serves t owner pages false) (took_came t owner pages false) put.moves;
+      stops = λ owner pages. stops_before u v w (of_settle {A = Unit {0}} owner pages (Err e)) e (busy_stops t owner pages (ap (λ (k : KindWord). k.validated) fields ∙ c.if-kind.false)
+          (ap (λ (k : KindWord). k.partial) fields ∙ c.if-kind-2.false)) (moves_came v w _ _ _ _ _ put.moves);
+      kinds = tt;
+      hand = hand;
+      course = by_none refl (busy_course t c.read_kind-kind.ensures c.args.left.now w c.if-kind.false c.if-kind-2.false put.moves);
+    }

@@ -13,14 +13,13 @@ use Rattle.answer_fits.specs.Answers.{missed}
 use Rattle.answer_fits.proofs.Piecing.{stops_before}
 use Rattle.kind_words.specs.Kinds.{dead_kind, left}
 use Rattle.kind_words.proofs.KindFacts.{read_is}
-use Rattle.level_release.specs.Asking.{is_due_answer, is_due_stop, of_settle}
-use Rattle.level_release.specs.Course.{EmptiedTo, SettledOneTo, resumed_table}
+use Rattle.level_release.specs.Asking.{is_due_answer, is_due_stop}
 use Rattle.level_release.proofs.Asking.{settling}
 use Rattle.level_release.proofs.Consulting.{by_as, by_none}
 use Rattle.level_release.proofs.Exchanged.{change_came, dead_serves, lost_serves, lost_stops, resumed_piece}
 use Rattle.level_release.proofs.Named.{again_serves}
 use Rattle.level_release.proofs.Requested.{answer_stops, emptied_serves}
-use Rattle.level_release.proofs.Resumed.{at_a, dead_gives, dead_may, dead_released, dead_work, item, item_fields, lost_named, lost_typed, recorded_most, recorded_none, recorded_some, resumed_empties, resumed_released, working}
+use Rattle.level_release.proofs.Resumed.{at_a, dead_gives, dead_may, dead_released, dead_work, item_fields, lost_named, lost_typed, recorded_most, recorded_none, recorded_some, resumed_empties, resumed_released, working}
 use Rattle.level_release.proofs.SettlingSteps.{dead_course, dead_steps, emptied_course, lost_course, lost_undue}
 use Rattle.level_release.proofs.Taken.{settled_rests, took_held, took_settled}
 use Rattle.level_release.proofs.settling.settle_partial.Goals as goal
@@ -33,192 +32,101 @@ resume_work-requires-clause-is g c = (read_is c.args.found c.args.kind c.require
 pub put_old-requires-clause-held : goal.put_old-requires-clause-held
 put_old-requires-clause-held g c =
     let t = c.requires.took in
-    let v = g.P.Port.value c.args.port.now in
     let d = g.P.Port.value c.resume_work.new.port in
-    subst (λ (q : PortValue). 0 < typed_to c.args.frame q.holdings.typed) (sym (lost_typed t.0 v t.1 c.args.frame c.args.found t.2 c.args.kind c.requires.read c.requires.partial d c.in-Err.other c.in-Err.ensures.hand))
-    (took_held t.0 v t.1 c.args.frame c.args.found t.2)
-
-pub returns-in-Err-clause-hand : goal.returns-in-Err-clause-hand
-returns-in-Err-clause-hand g c u which t =
-    let v = g.P.Port.value c.args.port.now in
-    let d = g.P.Port.value c.resume_work.new.port in
-    let w = g.P.Port.value c.put_old.new.port in
-    took_settled u v w which c.args.frame c.args.found t (Err c.lost-stop.result)
-    (lost_named u v which c.args.frame c.args.found t c.args.kind c.requires.read c.requires.partial d w c.in-Err.other c.lost-stop.result c.in-Err.ensures.hand c.put_old.ensures.hand)
-
-pub returns-in-Err-clause-rests : goal.returns-in-Err-clause-rests
-returns-in-Err-clause-rests g c =
-    let t = c.requires.took in
-    settled_rests t.0 (g.P.Port.value c.put_old.new.port) t.1 (Err c.lost-stop.result) t.2.rests (returns-in-Err-clause-hand g c t.0 t.1 t.2)
+    subst (λ (q : PortValue). 0 < typed_to c.args.frame q.holdings.typed) (sym (lost_typed t.2 c.requires.read c.requires.partial d c.in-Err.other c.in-Err.ensures.hand)) (took_held t.2)
 
 -- ---- a table of which something is recorded
 
 pub overflow_sub-table : goal.overflow_sub-table
-overflow_sub-table g c = recorded_most c.args.found c.args.kind c.requires.read c.requires.partial
+overflow_sub-table g c = recorded_most c.args.found c.requires.read c.requires.partial
 
 pub empty-requires-clause-stands : goal.empty-requires-clause-stands
-empty-requires-clause-stands g c =
-    let t = c.requires.took in
-    let v = g.P.Port.value c.args.port.now in
-    let d = g.P.Port.value c.resume_work.new.port in
-    let x = g.P.Port.value c.look_refs.new.port in (
-      record v.holdings { typed = [] },
-      resumed_empties t.0 v t.1 c.args.frame c.args.found t.2 c.args.kind c.requires.read c.requires.partial d c.in-Ok.ensures.moves c.in-Ok.ensures.hand x c.look_refs.result c.look_refs.ensures.moves c.look_refs.ensures.hand
-          c.level_of.result c.level_of.ensures.kind c.level_of.ensures.low c.level_of.ensures.high (recorded_some c.args.kind (sym c.has_recorded.ensures ∙ c.if-has_recorded.true)).1 c.requires.frame,
-    )
-
-pub returns-in-Ok-clause-hand : goal.returns-in-Ok-clause-hand
-returns-in-Ok-clause-hand g c u which t =
-    let v = g.P.Port.value c.args.port.now in
-    let d = g.P.Port.value c.resume_work.new.port in
-    let x = g.P.Port.value c.look_refs.new.port in
-    let w = g.P.Port.value c.empty.new.port in
-    took_settled u v w which c.args.frame c.args.found t c.empty.result
-    (resumed_released u v which c.args.frame c.args.found t c.args.kind c.requires.read c.requires.partial d c.in-Ok.ensures.moves c.in-Ok.ensures.hand x c.look_refs.result c.look_refs.ensures.moves c.look_refs.ensures.hand
-    c.level_of.result c.level_of.ensures.kind c.level_of.ensures.low c.level_of.ensures.high (recorded_some c.args.kind (sym c.has_recorded.ensures ∙ c.if-has_recorded.true)).1 c.requires.frame w c.empty.result c.empty.ensures.came
-    c.empty.ensures.hand)
-
-pub returns-in-Ok-clause-rests : goal.returns-in-Ok-clause-rests
-returns-in-Ok-clause-rests g c =
-    let t = c.requires.took in settled_rests t.0 (g.P.Port.value c.empty.new.port) t.1 c.empty.result t.2.rests (returns-in-Ok-clause-hand g c t.0 t.1 t.2)
+empty-requires-clause-stands g c = (
+  record (g.P.Port.value c.args.port.now).holdings { typed = [] },
+  resumed_empties c.requires.took.2 c.requires.read c.requires.partial c.in-Ok.ensures.moves c.in-Ok.ensures.hand c.look_refs.ensures.moves c.look_refs.ensures.hand
+      c.level_of.result c.level_of.ensures.kind c.level_of.ensures.low c.level_of.ensures.high (recorded_some c.args.kind (sym c.has_recorded.ensures ∙ c.if-has_recorded.true)).1 c.requires.frame,
+)
 
 -- ---- any other frame
 
 pub leave-requires-clause-leaves : goal.leave-requires-clause-leaves
 leave-requires-clause-leaves g c =
-    let t = c.requires.took in
-    let v = g.P.Port.value c.args.port.now in
-    let d = g.P.Port.value c.resume_work.new.port in
-    let a = g.P.Port.value c.look_clock-clock.new.port in
-    rw c.dead_kind.ensures
-    (dead_may t.0 v t.1 c.args.frame c.args.found t.2 c.args.kind c.requires.read c.requires.partial d c.in-Ok.ensures.moves c.in-Ok.ensures.hand a c.look_clock-clock.result c.look_clock-clock.ensures.moves
-    c.look_clock-clock.ensures.hand (recorded_none c.args.found c.args.kind c.requires.read c.requires.partial (sym c.has_recorded.ensures ∙ c.if-has_recorded.false)))
+    rw c.dead_kind.ensures (dead_may c.requires.took.2 c.requires.read c.requires.partial c.in-Ok.ensures.moves c.in-Ok.ensures.hand c.look_clock-clock.ensures.moves c.look_clock-clock.ensures.hand
+    (recorded_none c.args.found c.requires.read c.requires.partial (sym c.has_recorded.ensures ∙ c.if-has_recorded.false)))
 
 pub put_ref-requires-clause-gives : goal.put_ref-requires-clause-gives
 put_ref-requires-clause-gives g c =
-    let t = c.requires.took in
-    let v = g.P.Port.value c.args.port.now in
-    let d = g.P.Port.value c.resume_work.new.port in
     let a = g.P.Port.value c.look_clock-clock.new.port in
     let e = g.P.Port.value c.leave.new.port in
-    dead_gives t.0 v t.1 c.args.frame c.args.found t.2 c.args.kind c.requires.read c.requires.partial d c.in-Ok.ensures.moves c.in-Ok.ensures.hand a c.look_clock-clock.result c.look_clock-clock.ensures.moves
-    c.look_clock-clock.ensures.hand e (subst (λ k. Holds a e (left a c.args.frame k)) c.dead_kind.ensures c.leave.ensures.hand)
+    dead_gives c.requires.took.2 c.requires.read c.requires.partial c.in-Ok.ensures.moves c.in-Ok.ensures.hand c.look_clock-clock.ensures.moves c.look_clock-clock.ensures.hand e
+    (subst (λ k. Holds a e (left a c.args.frame k)) c.dead_kind.ensures c.leave.ensures.hand)
 
 pub put_ref-requires-clause-may : goal.put_ref-requires-clause-may
 put_ref-requires-clause-may g c =
-    let t = c.requires.took in
-    let v = g.P.Port.value c.args.port.now in
-    let d = g.P.Port.value c.resume_work.new.port in
     let a = g.P.Port.value c.look_clock-clock.new.port in
     let e = g.P.Port.value c.leave.new.port in
-    dead_work t.0 v t.1 c.args.frame c.args.found t.2 c.args.kind c.requires.read c.requires.partial d c.in-Ok.ensures.moves c.in-Ok.ensures.hand a c.look_clock-clock.result c.look_clock-clock.ensures.moves
-    c.look_clock-clock.ensures.hand e (subst (λ k. Holds a e (left a c.args.frame k)) c.dead_kind.ensures c.leave.ensures.hand) c.requires.may
+    dead_work c.requires.took.2 c.requires.read c.requires.partial c.in-Ok.ensures.moves c.in-Ok.ensures.hand c.look_clock-clock.ensures.moves c.look_clock-clock.ensures.hand e
+    (subst (λ k. Holds a e (left a c.args.frame k)) c.dead_kind.ensures c.leave.ensures.hand) c.requires.may
 
-pub returns-in-Ok-2-clause-hand : goal.returns-in-Ok-2-clause-hand
-returns-in-Ok-2-clause-hand g c u which t =
-    let v = g.P.Port.value c.args.port.now in
-    let d = g.P.Port.value c.resume_work.new.port in
-    let a = g.P.Port.value c.look_clock-clock.new.port in
-    let e = g.P.Port.value c.leave.new.port in
-    let w = g.P.Port.value c.put_ref.new.port in
-    took_settled u v w which c.args.frame c.args.found t (Ok tt)
-    (dead_released u v which c.args.frame c.args.found t c.args.kind c.requires.read c.requires.partial d c.in-Ok.ensures.moves c.in-Ok.ensures.hand a c.look_clock-clock.result c.look_clock-clock.ensures.moves
-    c.look_clock-clock.ensures.hand e (subst (λ k. Holds a e (left a c.args.frame k)) c.dead_kind.ensures c.leave.ensures.hand) w c.put_ref.ensures.hand)
+-- ---- the ways out
 
-pub returns-in-Ok-2-clause-rests : goal.returns-in-Ok-2-clause-rests
-returns-in-Ok-2-clause-rests g c =
-    let t = c.requires.took in settled_rests t.0 (g.P.Port.value c.put_ref.new.port) t.1 (Ok tt) t.2.rests (returns-in-Ok-2-clause-hand g c t.0 t.1 t.2)
-
--- ---- what the steps serve, and why they stop
-
-pub returns-in-Err-clause-serves : goal.returns-in-Err-clause-serves
-returns-in-Err-clause-serves g c u which t owner pages =
-    let v = g.P.Port.value c.args.port.now in
+pub returns-in-Err-clause-met : goal.returns-in-Err-clause-met
+returns-in-Err-clause-met g c u which t =
     let d = g.P.Port.value c.resume_work.new.port in
     let w = g.P.Port.value c.put_old.new.port in
     let e = c.lost-stop.result in
-    let rose = is_due_stop e in
-    again_serves u v which c.args.frame c.args.found t owner pages rose d w (missed u.post.machine e)
-    (lost_serves u v which c.args.frame c.args.found t owner pages rose c.args.kind c.requires.read c.requires.partial d c.in-Err.other c.in-Err.ensures.moves c.in-Err.ensures.lost e c.lost-stop.ensures)
-    (change_came u v which c.args.frame c.args.found t owner pages rose c.args.kind c.requires.read c.requires.partial d c.in-Err.other c.in-Err.ensures.moves) c.put_old.ensures.moves
+    let a = c.in-Err.ensures in
+    let hand = took_settled w t (Err e) (lost_named t c.requires.read c.requires.partial d w c.in-Err.other e a.hand c.put_old.ensures.hand) in
+    record {
+      rests = settled_rests which (Err e) t.rests hand;
+      serves = λ owner pages. again_serves t owner pages (is_due_stop e) (missed u.post.machine e) (lost_serves t owner pages (is_due_stop e) c.requires.read c.requires.partial a.moves a.lost c.lost-stop.ensures)
+          (change_came t owner pages (is_due_stop e) c.requires.read c.requires.partial a.moves) c.put_old.ensures.moves;
+      stops = λ owner pages. stops_before u d w (settling owner pages (is_due_stop e)) e (lost_stops t owner pages (is_due_stop e) c.requires.read c.requires.partial a.moves a.lost c.lost-stop.ensures)
+          (moves_came d w _ _ _ _ _ c.put_old.ensures.moves);
+      kinds = rw c.lost-stop.ensures tt;
+      hand = hand;
+      course = by_none (lost_undue _ _ _ c.lost-stop.ensures) (lost_course t c.requires.read c.requires.partial a.moves c.args.left.now w a.lost c.lost-stop.ensures c.put_old.ensures.moves);
+    }
 
-pub returns-in-Err-clause-stops : goal.returns-in-Err-clause-stops
-returns-in-Err-clause-stops g c u which t owner pages =
-    let v = g.P.Port.value c.args.port.now in
-    let d = g.P.Port.value c.resume_work.new.port in
-    let w = g.P.Port.value c.put_old.new.port in
-    let e = c.lost-stop.result in
-    let rose = is_due_stop e in
-    stops_before u d w (settling owner pages rose) e
-    (lost_stops u v which c.args.frame c.args.found t owner pages rose c.args.kind c.requires.read c.requires.partial d c.in-Err.other c.in-Err.ensures.moves c.in-Err.ensures.lost e c.lost-stop.ensures)
-    (moves_came d w _ _ _ _ _ c.put_old.ensures.moves)
-
-pub returns-in-Ok-clause-serves : goal.returns-in-Ok-clause-serves
-returns-in-Ok-clause-serves g c u which t owner pages =
-    let v = g.P.Port.value c.args.port.now in
-    let d = g.P.Port.value c.resume_work.new.port in
-    let x = g.P.Port.value c.look_refs.new.port in
-    let answer = c.empty.result in
-    let table = resumed_table c.args.frame c.level_of.result c.args.kind in
-    emptied_serves u x (g.P.Port.value c.empty.new.port) (of_settle owner pages answer) table
-    (resumed_piece u v which c.args.frame c.args.found t owner pages (is_due_answer answer) c.args.kind c.requires.read c.requires.partial d _ c.in-Ok.ensures.moves refl x c.look_refs.result table refl c.look_refs.ensures.moves)
-    answer c.empty.ensures.serves
-
-pub returns-in-Ok-clause-stops : goal.returns-in-Ok-clause-stops
-returns-in-Ok-clause-stops g c u which t owner pages =
-    let v = g.P.Port.value c.args.port.now in
-    let d = g.P.Port.value c.resume_work.new.port in
-    let x = g.P.Port.value c.look_refs.new.port in
-    let answer = c.empty.result in
-    let table = resumed_table c.args.frame c.level_of.result c.args.kind in
-    answer_stops u x (g.P.Port.value c.empty.new.port) (of_settle owner pages answer) table answer refl
-    (resumed_piece u v which c.args.frame c.args.found t owner pages (is_due_answer answer) c.args.kind c.requires.read c.requires.partial d _ c.in-Ok.ensures.moves refl x c.look_refs.result table refl c.look_refs.ensures.moves)
-    c.empty.ensures.stops
-
-pub returns-in-Ok-2-clause-serves : goal.returns-in-Ok-2-clause-serves
-returns-in-Ok-2-clause-serves g c u which t owner pages =
-    let v = g.P.Port.value c.args.port.now in
-    let d = g.P.Port.value c.resume_work.new.port in
-    let a = g.P.Port.value c.look_clock-clock.new.port in
-    let e = g.P.Port.value c.leave.new.port in
-    let k = c.args.kind in
-    let f = c.args.frame in
-    let may = dead_may u v which f c.args.found t k c.requires.read c.requires.partial d c.in-Ok.ensures.moves c.in-Ok.ensures.hand a c.look_clock-clock.result c.look_clock-clock.ensures.moves c.look_clock-clock.ensures.hand (recorded_none c.args.found k c.requires.read c.requires.partial (sym c.has_recorded.ensures ∙ c.if-has_recorded.false)) in
-    dead_serves u v which f c.args.found t owner pages false k c.requires.read c.requires.partial d _ c.in-Ok.ensures.moves refl a e (g.P.Port.value c.put_ref.new.port) c.look_clock-clock.result c.leave.result
-    (item u v which f c.args.found t k c.requires.read c.requires.partial) (dead_kind k.kind k.unflushed c.look_clock-clock.result) c.look_clock-clock.ensures.moves
-    (at_a u v which f c.args.found t k c.requires.read c.requires.partial d c.in-Ok.ensures.moves c.in-Ok.ensures.hand a c.look_clock-clock.result c.look_clock-clock.ensures.moves c.look_clock-clock.ensures.hand)
-    (working u v which f c.args.found t k c.requires.read c.requires.partial) (ap (λ (y : KindWord). y.kind) (item_fields u v which f c.args.found t k c.requires.read c.requires.partial)) may.is
-    (subst (λ y. Moves a e (Kind f) (Store (kind_write y)) kinds.Kind None c.leave.result) c.dead_kind.ensures c.leave.ensures.moves) c.put_ref.ensures.serves
-
--- ---- by which steps
-
-pub returns-in-Err-clause-course : goal.returns-in-Err-clause-course
-returns-in-Err-clause-course g c u which t =
-    let v = g.P.Port.value c.args.port.now in
-    let d = g.P.Port.value c.resume_work.new.port in
-    let w = g.P.Port.value c.put_old.new.port in
-    by_none _ _ _ _ _ (lost_undue c.lost-stop.result _ _ _ c.lost-stop.ensures)
-    (lost_course u v which c.args.frame c.args.found t c.args.kind c.requires.read c.requires.partial d c.in-Err.other c.in-Err.ensures.moves c.args.left.now w c.lost-stop.result c.in-Err.ensures.lost c.lost-stop.ensures c.put_old.ensures.moves)
-
-pub returns-in-Ok-clause-course : goal.returns-in-Ok-clause-course
-returns-in-Ok-clause-course g c u which t =
-    let v = g.P.Port.value c.args.port.now in
-    let d = g.P.Port.value c.resume_work.new.port in
-    let x = g.P.Port.value c.look_refs.new.port in
+pub returns-in-Ok-clause-met : goal.returns-in-Ok-clause-met
+returns-in-Ok-clause-met g c u which t =
     let w = g.P.Port.value c.empty.new.port in
-    by_as _ (λ answers. EmptiedTo c.args.left.now c.empty.new.left x (resumed_table c.args.frame c.level_of.result c.args.kind) w answers c.empty.result) (λ answers. SettledOneTo c.args.left.now c.empty.new.left u which w answers c.empty.result) _ _ _ _ _
-    (λ answers emptied. emptied_course u v which c.args.frame c.args.found t c.args.kind c.requires.read c.requires.partial d _ c.in-Ok.ensures.moves refl c.args.left.now c.empty.new.left x w c.look_refs.result c.level_of.result answers c.empty.result
-    (sym c.has_recorded.ensures ∙ c.if-has_recorded.true) c.level_of.ensures.kind c.level_of.ensures.high c.look_refs.ensures.moves emptied) c.empty.ensures.course
+    let a = c.in-Ok.ensures in
+    let look = c.look_refs.ensures in
+    let level = c.level_of.ensures in
+    let answer = c.empty.result in
+    let table = sym c.has_recorded.ensures ∙ c.if-has_recorded.true in
+    let hand = took_settled w t answer (resumed_released t c.requires.read c.requires.partial a.moves a.hand look.moves look.hand c.level_of.result level.kind level.low level.high (recorded_some c.args.kind table).1
+    c.requires.frame w answer c.empty.ensures.came c.empty.ensures.hand) in
+    record {
+      rests = settled_rests which answer t.rests hand;
+      serves = λ owner pages. emptied_serves w (resumed_piece t owner pages (is_due_answer answer) c.requires.read c.requires.partial a.moves refl refl look.moves) answer c.empty.ensures.serves;
+      stops = λ owner pages. answer_stops w answer refl (resumed_piece t owner pages (is_due_answer answer) c.requires.read c.requires.partial a.moves refl refl look.moves) c.empty.ensures.stops;
+      kinds = c.empty.ensures.kinds;
+      hand = hand;
+      course = by_as (λ answers emptied. emptied_course t c.requires.read c.requires.partial a.moves refl c.args.left.now c.empty.new.left w c.level_of.result answers answer table level.kind level.high look.moves emptied)
+          c.empty.ensures.course;
+    }
 
-pub returns-in-Ok-2-clause-course : goal.returns-in-Ok-2-clause-course
-returns-in-Ok-2-clause-course g c u which t =
-    let v = g.P.Port.value c.args.port.now in
-    let d = g.P.Port.value c.resume_work.new.port in
+pub returns-in-Ok-2-clause-met : goal.returns-in-Ok-2-clause-met
+returns-in-Ok-2-clause-met g c u which t =
     let a = g.P.Port.value c.look_clock-clock.new.port in
     let e = g.P.Port.value c.leave.new.port in
     let w = g.P.Port.value c.put_ref.new.port in
     let k = c.args.kind in
-    by_none _ _ _ _ _ refl
-    (dead_course u v which c.args.frame c.args.found t k c.requires.read c.requires.partial d _ c.in-Ok.ensures.moves refl c.args.left.now w (sym c.has_recorded.ensures ∙ c.if-has_recorded.false)
-    (dead_steps d a e w c.args.frame c.leave.result c.look_clock-clock.result k.kind k.unflushed c.look_clock-clock.ensures.moves
-    (subst (λ y. Moves a e (Kind c.args.frame) (Store (kind_write y)) kinds.Kind None c.leave.result) c.dead_kind.ensures c.leave.ensures.moves) c.put_ref.ensures.puts))
+    let clock = c.look_clock-clock.ensures in
+    let back = c.in-Ok.ensures in
+    let none = sym c.has_recorded.ensures ∙ c.if-has_recorded.false in
+    let may = dead_may t c.requires.read c.requires.partial back.moves back.hand clock.moves clock.hand (recorded_none c.args.found c.requires.read c.requires.partial none) in
+    let store = subst (λ y. Moves a e (Kind c.args.frame) (Store (kind_write y)) kinds.Kind None c.leave.result) c.dead_kind.ensures c.leave.ensures.moves in
+    let left_dead = subst (λ y. Holds a e (left a c.args.frame y)) c.dead_kind.ensures c.leave.ensures.hand in
+    let hand = took_settled w t (Ok tt) (dead_released t c.requires.read c.requires.partial back.moves back.hand clock.moves clock.hand e left_dead w c.put_ref.ensures.hand) in
+    record {
+      rests = settled_rests which (Ok tt) t.rests hand;
+      serves = λ owner pages. dead_serves t owner pages false c.requires.read c.requires.partial back.moves refl w (dead_kind k.kind k.unflushed c.look_clock-clock.result) clock.moves
+          (at_a t c.requires.read c.requires.partial back.moves back.hand clock.moves clock.hand) (working t c.requires.read c.requires.partial) (ap (λ (y : KindWord). y.kind) (item_fields t c.requires.read c.requires.partial)) may.is store c.put_ref.ensures.serves;
+      stops = λ owner pages. tt;
+      kinds = tt;
+      hand = hand;
+      course = by_none refl (dead_course t c.requires.read c.requires.partial back.moves refl c.args.left.now w none (dead_steps w k.kind k.unflushed clock.moves store c.put_ref.ensures.puts));
+    }
