@@ -1,5 +1,5 @@
 //! A block of free frames is claimed.
-ghost use Rattle.std.specs.Prelude.{◌≡◌, ◌+◌, ◌*◌, ◌/◌, ◌%◌, ◌^◌, ◌<◌, ◌≤◌, [], length, IfSome, IfErr, MatchResult};
+ghost use Rattle.std.specs.Prelude.{◌≡◌, ◌+◌, ◌*◌, ◌/◌, ◌%◌, ◌^◌, ◌<◌, ◌≤◌, [], length, IfSome, IfErr, IfOk, MatchResult};
 ghost use Rattle.xp_board.specs.Readings.{domain_of};
 ghost use Rattle.step_maker.specs.Holds.{FlushedSame, Holds, MayWork, Rests, Same};
 ghost use Rattle.answer_fits.specs.Answers.{misses};
@@ -87,6 +87,7 @@ pub fn claim<P: Port>(port: &mut P, owner: u16, order: u8, gpfn: Option<u64>) ->
     requires order { order ≤ 9 }
     requires number { IfSome gpfn (λ g. g < 2 ^ 52) }
     requires rests { Rests (P.value port.old) }
+    ensures block { IfOk result (λ f. (f % 2 ^ order ≡ 0) × (f + 2 ^ order ≤ (P.value port.old).post.machine.frames)) }
     ensures serves { ServesClaim (P.value port.old) (P.value port.new) (2 ^ order) result }
     ensures kinds { IfErr result IsClaimStop }
     ensures hand { FlushedSame (P.value port.old) (P.value port.new) }

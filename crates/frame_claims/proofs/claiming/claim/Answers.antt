@@ -1,4 +1,4 @@
-use Rattle.std.proofs.Common.{◌≡◌, ℕ, ◌^◌, ◌≤◌, [], length, ap, refl, sym, ◌∙◌, subst}
+use Rattle.std.proofs.Common.{◌≡◌, ℕ, ◌+◌, ◌%◌, ◌^◌, ◌≤◌, [], length, ap, refl, sym, ◌∙◌, subst}
 use Rattle.xp_board.specs.Readings.{domain_of}
 use Rattle.xp_board.specs.Told.{Post, PortValue}
 use Rattle.answer_fits.specs.Answers.{missed}
@@ -13,6 +13,13 @@ take-requires-clause-row g c = charged_row (g.P.Port.value c.args.port.now) (g.P
 
 pub refund_pages-requires-clause-credit : goal.refund_pages-requires-clause-credit
 refund_pages-requires-clause-credit g c = credit_for (g.P.Port.value c.charge.new.port) (g.P.Port.value c.take.new.port) c.args.owner c.size_of-size.result c.from.result c.from.ensures c.in-Err.ensures.took
+
+pub returns-in-Ok-clause-block : goal.returns-in-Ok-clause-block
+returns-in-Ok-clause-block g c =
+    let v = g.P.Port.value c.args.port.now in
+    let f = c.in-Ok.first in
+    subst (λ k. (f % k ≡ 0) × (f + k ≤ v.post.machine.frames)) c.size_of-size.ensures.power
+    (c.in-Ok.ensures.serves.aligned, subst (λ (q : Post). f + c.size_of-size.result ≤ q.machine.frames) (ap (λ (y : PortValue). y.post) c.in_ok-charge.ensures.hand) c.in-Ok.ensures.took.inside)
 
 pub returns-in-Ok-clause-serves : goal.returns-in-Ok-clause-serves
 returns-in-Ok-clause-serves g c =
