@@ -90,7 +90,7 @@ block_free v a size stamps c some f g same =
     let inside = in_block c.first size g c.latest some f.aligned f.latest.from f.latest.to same in
     let at : c.first + (g - c.first) ≡ g = (let low = inside.0 in omega (arith, low)) in
     let under : g - c.first < size = (let high = inside.1 in let low = inside.0 in omega (arith, low, high)) in
-    let seen = subst (λ k. SeenFree v a k (slice_index stamps (g - c.first))) at (f.seen (g - c.first) under) in
+    let seen = subst (λ k. SeenFree v a k (slice_index stamps (g - c.first))) at (f.seen (g - c.first) under).seen in
     let most = f.most (g - c.first) under in
     (slice_index stamps (g - c.first), seen.found, seen.free, subst (λ k. k ≤ free_stamp c.stamp) (sym (free_stamp_is _ seen.free)) (subst (λ k. slice_index stamps (g - c.first) ≤ k) (sym (free_stamp_is c.stamp f.latest.seen.free)) most))
 

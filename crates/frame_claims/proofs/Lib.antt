@@ -2,6 +2,9 @@ pub mod Closing
 mod Composing
 pub mod Finding
 pub mod Heads
+mod Lasting
+mod Passing
+mod Refusing
 pub mod Reaching
 pub mod Rows
 pub mod Serving

@@ -6,7 +6,7 @@ ghost use Rattle.xp_words.specs.RefWords.{ref_read};
 ghost use Rattle.xp_words.specs.declared.refs.RefWord.TheVariants.{Free};
 ghost use Rattle.xp_board.specs.Readings.{is_free};
 ghost use Rattle.step_maker.specs.Holds.{MayWork};
-ghost use Rattle.frame_claims.specs.Choosing.{FreeWord, IsFound, Looks};
+ghost use Rattle.frame_claims.specs.Choosing.{FreeWord, IsFound, Looks, NoneFree, SeenTaken};
 
 use arrayvec::ArrayVec;
 use claim_words::look_map;
@@ -26,9 +26,14 @@ pub(crate) struct Chosen {
 }
 
 // The stamp of a free frame.
-#[tactic(auto, using(crate::proofs::Finding::free_told))]
+#[tactic(
+    auto,
+    using(crate::proofs::Finding::free_told),
+    unfolding(xp_board::specs::Readings::is_free)
+)]
 fn free_stamp(word: u64) -> Option<u64>
     ensures some { IfSome result (λ stamp. FreeWord word stamp) }
+    ensures none { IfNone result (is_free word ≡ false) }
 {
     match RefWord::read(word) {
         Some(RefWord::Free { stamp }) => Some(stamp),
@@ -45,6 +50,7 @@ fn try_block<P: Port>(port: &mut P, first: u32, size: u32, stamps: &mut Stamps) 
     requires may { MayWork (P.value port.old) }
     ensures looks { Looks (P.value port.old) (P.value port.new) }
     ensures found { IfSome result (λ c. IsFound (P.value port.old) (P.value port.new) size stamps.new.items c) }
+    ensures none { IfNone result (SeenTaken (P.value port.old) (P.value port.new) first size) }
 {
     stamps.clear();
     let mut latest = first;
@@ -191,6 +197,7 @@ fn by_frames<P: Port>(port: &mut P, size: u32, stamps: &mut Stamps) -> Option<Ch
     requires may { MayWork (P.value port.old) }
     ensures looks { Looks (P.value port.old) (P.value port.new) }
     ensures found { IfSome result (λ c. IsFound (P.value port.old) (P.value port.new) size stamps.new.items c) }
+    ensures none { IfNone result (NoneFree (P.value port.old) (P.value port.new) size) }
 {
     for block in 0..port.layout().frames / size {
         let chosen = try_block(port, block * size, size, stamps);
@@ -227,6 +234,7 @@ pub(crate) fn choose<P: Port>(port: &mut P, size: u32, stamps: &mut Stamps) -> O
     requires may { MayWork (P.value port.old) }
     ensures looks { Looks (P.value port.old) (P.value port.new) }
     ensures found { IfSome result (λ c. IsFound (P.value port.old) (P.value port.new) size stamps.new.items c) }
+    ensures none { IfNone result (NoneFree (P.value port.old) (P.value port.new) size) }
 {
     match by_bits(port, size, stamps) {
         Some(chosen) => Some(chosen),

@@ -1,8 +1,12 @@
 use Rattle.std.proofs.Common.{◌≡◌, ℕ, ◌+◌, ◌<◌, ◌≤◌, ◌^◌, ◌++◌, ◌∷◌, [], List, length, ap, ◌∙◌, arith, refl, subst, sym, slice_index_or}
-use Rattle.step_maker.proofs.Coming.{moves_came}
+use Rattle.xp_words.specs.declared.place.Place.TheVariants.{Refs}
+use Rattle.xp_board.specs.Told.{Post}
+use Rattle.step_maker.proofs.Coming.{came_post, moves_came}
 use Rattle.flush_waits.specs.Waiting.{HadFree}
-use Rattle.frame_claims.specs.Choosing.{IsLatest, SeenFree}
-use Rattle.frame_claims.proofs.Finding.{each_more, had_later, had_now, latest_later, latest_now, look_refs_looks, looks_came, looks_nothing, one_longer, seen_later, seen_now, some_of}
+use Rattle.frame_claims.specs.Choosing.{IsLatest, StillFree}
+use Rattle.frame_claims.proofs.Finding.{each_more, had_later, had_now, latest_later, latest_now, look_refs_looks, looks_came, looks_nothing, one_longer, some_of, still_later, still_now}
+use Rattle.frame_claims.proofs.Lasting.{keeps_moves}
+use Rattle.frame_claims.proofs.Refusing.{seen_taken}
 use Rattle.frame_claims.proofs.choosing.try_block.Goals.{then-stamp-greatest, else-stamp-greatest}
 use Rattle.frame_claims.proofs.choosing.try_block.Goals as goal
 
@@ -43,9 +47,11 @@ loop-frame-preserved g c =
       looks = look_refs_looks v u w frame x so.looks moves c.look_refs-word.ensures.hand;
       count = ap (λ (ys : List ℕ). c.args.first + length ys) c.push.ensures.items ∙ omega (arith, longer, at);
       low = subst (λ ys. (j : ℕ) → j < length ys → slice_index_or ys j 0 < 2 ^ 36) (sym c.push.ensures.items) (each_more (λ j t. t < 2 ^ 36) xs s so.low word.low);
-      seen = subst (λ ys. (j : ℕ) → j < length ys → SeenFree v w (c.args.first + j) (slice_index_or ys j 0)) (sym c.push.ensures.items)
-          (each_more (λ j t. SeenFree v w (c.args.first + j) t) xs s (λ j l. seen_later v u w (c.args.first + j) (slice_index_or xs j 0) came (so.seen j l))
-          (subst (λ f. SeenFree v w f s) (sym at) (seen_now v u w frame x s (looks_came v u so.looks) moves word)));
+      seen = subst (λ ys. (j : ℕ) → j < length ys → StillFree v w (c.args.first + j) (slice_index_or ys j 0)) (sym c.push.ensures.items)
+          (each_more (λ j t. StillFree v w (c.args.first + j) t) xs s
+          (λ j l. still_later v u w (c.args.first + j) (slice_index_or xs j 0) (looks_came v u so.looks) came
+          (keeps_moves u w (Refs frame) _ _ _ x (Refs (c.args.first + j)) moves (λ e. let is : frame ≡ c.args.first + j = cc in absurd (omega (arith, at, l, is)))) (so.seen j l))
+          (subst (λ f. StillFree v w f s) (sym at) (still_now v u w frame x s (looks_came v u so.looks) moves word)));
       free = subst (λ ys. (j : ℕ) → j < length ys → HadFree w.post.machine (c.args.first + j) (slice_index_or ys j 0) w.holdings) (sym c.push.ensures.items)
           (each_more (λ j t. HadFree w.post.machine (c.args.first + j) t w.holdings) xs s (λ j l. had_later u w (c.args.first + j) (slice_index_or xs j 0) came (so.free j l))
           (subst (λ f. HadFree w.post.machine f s w.holdings) (sym at) (had_now u w frame x s moves word)));
@@ -65,4 +71,34 @@ loop-frame-preserved g c =
                 (subst (λ f. IsLatest v w c.args.first (frame + 1) f c.loop-frame.greatest) (sym b.latest-is)
                 (latest_later v u w c.args.first frame c.loop-frame.latest c.loop-frame.greatest came (so.latest (some_of (length xs) c.loop-frame.greatest s so.none (λ l. (let less = b.if-stamp-greatest in absurd (omega (arith, l, less))))))))
           ];
+    }
+
+pub returns-in_err-stamp-clause-none : goal.returns-in_err-stamp-clause-none
+returns-in_err-stamp-clause-none g c =
+    let low = c.loop-frame.auto.frame in
+    let high = c.loop-frame-test.true in
+    rw c.from_residual.ensures
+    (seen_taken (g.P.Port.value c.args.port.now) (g.P.Port.value c.loop-frame.port) (g.P.Port.value c.look_refs-word.new.port) c.args.first c.args.size c.loop-frame.frame c.look_refs-word.result
+    c.loop-frame.invariant.looks c.look_refs-word.ensures.moves c.in_err-stamp.ensures.none low high)
+
+pub returns-clause-found : goal.returns-clause-found
+returns-clause-found g c =
+    let so = c.loop-frame.invariant in
+    let v = g.P.Port.value c.args.port.now in
+    let u = g.P.Port.value c.loop-frame.port in
+    let at = so.count in
+    let end = c.loop-frame-test.false in
+    let low = c.loop-frame.auto.frame-end (omega arith) in
+    let some = c.requires.some in
+    let whole : length c.loop-frame.stamps.items ≡ c.args.size = omega (arith, at, end, low) in
+    let last : c.loop-frame.frame ≡ c.args.first + c.args.size = omega (arith, end, low) in
+    record {
+      inside = subst (λ (q : Post). c.args.first + c.args.size ≤ q.machine.frames) (sym (came_post v u (looks_came v u so.looks))) c.requires.inside;
+      aligned = c.requires.aligned;
+      whole = whole;
+      low = λ j l. so.low j (omega (arith, l, whole));
+      seen = λ j l. so.seen j (omega (arith, l, whole));
+      free = λ j l. so.free j (omega (arith, l, whole));
+      most = λ j l. so.most j (omega (arith, l, whole));
+      latest = subst (λ k. IsLatest v u c.args.first k c.loop-frame.latest c.loop-frame.greatest) last (so.latest (omega (arith, whole, some)));
     }

@@ -1,6 +1,6 @@
 use Rattle.std.proofs.Common.{◌+◌, ◌<◌, ◌≤◌, ◌^◌, ◌≡◌, ℕ, length, slice_index_or}
 use Rattle.flush_waits.specs.Waiting.{HadFree}
-use Rattle.frame_claims.specs.Choosing.{IsLatest, Looks, SeenFree}
+use Rattle.frame_claims.specs.Choosing.{IsLatest, Looks, StillFree}
 use Rattle.frame_claims.proofs.choosing.try_block.Given as goal
 
 abbrev pub invariant-loop-frame : goal.invariant-loop-frame
@@ -11,7 +11,7 @@ invariant-loop-frame g l =
       looks : Looks v u;
       count : l.first + length l.stamps.items ≡ l.frame;
       low : (j : ℕ) → j < length l.stamps.items → slice_index_or l.stamps.items j 0 < 2 ^ 36;
-      seen : (j : ℕ) → j < length l.stamps.items → SeenFree v u (l.first + j) (slice_index_or l.stamps.items j 0);
+      seen : (j : ℕ) → j < length l.stamps.items → StillFree v u (l.first + j) (slice_index_or l.stamps.items j 0);
       free : (j : ℕ) → j < length l.stamps.items → HadFree u.post.machine (l.first + j) (slice_index_or l.stamps.items j 0) u.holdings;
       most : (j : ℕ) → j < length l.stamps.items → slice_index_or l.stamps.items j 0 ≤ l.greatest;
       none : length l.stamps.items ≡ 0 → l.greatest ≡ 0;
