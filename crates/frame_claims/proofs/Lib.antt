@@ -3,9 +3,11 @@ mod Composing
 pub mod Finding
 pub mod Heads
 mod Lasting
+mod Losing
 mod Passing
 mod Refusing
 pub mod Reaching
 pub mod Rows
 pub mod Serving
 mod Sizes
+mod Stopping

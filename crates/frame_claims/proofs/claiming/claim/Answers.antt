@@ -1,11 +1,15 @@
-use Rattle.std.proofs.Common.{◌≡◌, ℕ, ◌+◌, ◌%◌, ◌^◌, ◌≤◌, [], length, ap, refl, sym, ◌∙◌, subst}
+use Rattle.std.proofs.Common.{◌≡◌, ℕ, ◌+◌, ◌%◌, ◌^◌, ◌≤◌, [], length, Err, ap, refl, sym, ◌∙◌, subst}
+use Rattle.std.proofs.lemmas.Result.{err_from_is_err_and}
 use Rattle.xp_board.specs.Readings.{domain_of}
 use Rattle.xp_board.specs.Told.{Post, PortValue}
+use Rattle.step_maker.proofs.Coming.{moves_came}
 use Rattle.answer_fits.specs.Answers.{missed}
-use Rattle.frame_claims.specs.Claiming.{ServesWhole}
+use Rattle.frame_claims.specs.Claiming.{ServesWhole, StopsClaim}
 use Rattle.frame_claims.specs.Blocks.{given_deeds}
 use Rattle.frame_claims.proofs.Closing.{back_for, charged_row, credit_for, gave_all, gave_back, given_all, pages_first, pages_last, post_there, same_missed}
 use Rattle.frame_claims.proofs.Composing.{pages_back}
+use Rattle.frame_claims.proofs.Losing.{pages_came}
+use Rattle.frame_claims.proofs.Stopping.{claim_stops, no_credit, pages_stop, when_err}
 use Rattle.frame_claims.proofs.claiming.claim.Goals as goal
 
 pub take-requires-clause-row : goal.take-requires-clause-row
@@ -55,3 +59,23 @@ returns-in-Err-clause-hand g c =
     let u = g.P.Port.value c.take.new.port in
     gave_back (g.P.Port.value c.args.port.now) (g.P.Port.value c.charge.new.port) u (g.P.Port.value c.refund_pages.new.port) c.args.owner c.size_of-size.result c.requires.rests.empty c.in_ok-charge.ensures.hand c.in-Err.ensures.took
     (back_for u (g.P.Port.value c.refund_pages.new.port) c.args.owner c.size_of-size.result c.from.result c.from.ensures c.refund_pages.ensures.hand)
+
+pub charge-requires-clause-none : goal.charge-requires-clause-none
+charge-requires-clause-none g c = no_credit (g.P.Port.value c.args.port.now) c.args.owner c.requires.rests.empty.credits
+
+pub returns-in_err-charge-clause-stops : goal.returns-in_err-charge-clause-stops
+returns-in_err-charge-clause-stops g c =
+    let v = g.P.Port.value c.args.port.now in
+    let x = g.P.Port.value c.charge.new.port in
+    let answer = err_from_is_err_and c.from_residual.result c.from_residual.ensures.1 in
+    when_err _ _ (λ e. StopsClaim v x (2 ^ c.args.order) e) (answer.1 ∙ ap Err answer.2)
+    (subst (λ k. StopsClaim v x k c.in_err-charge.field-0.0) c.size_of-size.ensures.power (pages_stop v x c.size_of-size.result _ c.in_err-charge.ensures.stops))
+
+pub returns-in-Err-clause-stops : goal.returns-in-Err-clause-stops
+returns-in-Err-clause-stops g c =
+    let v = g.P.Port.value c.args.port.now in
+    let x = g.P.Port.value c.charge.new.port in
+    let u = g.P.Port.value c.take.new.port in
+    let w = g.P.Port.value c.refund_pages.new.port in
+    subst (λ k. StopsClaim v w k c.in-Err.stop) c.size_of-size.ensures.power
+    (claim_stops v x u w c.size_of-size.result c.in-Err.stop c.in-Err.ensures.kinds (pages_came v x [] c.in_ok-charge.ensures.serves) c.in-Err.ensures.stops (moves_came u w _ _ _ _ _ c.refund_pages.ensures.moves))
