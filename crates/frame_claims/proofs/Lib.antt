@@ -3,6 +3,7 @@ mod Composing
 pub mod Finding
 pub mod Heads
 mod Lasting
+mod Listing
 mod Losing
 mod Passing
 mod Refusing
@@ -11,3 +12,4 @@ pub mod Rows
 pub mod Serving
 mod Sizes
 mod Stopping
+mod Visiting
