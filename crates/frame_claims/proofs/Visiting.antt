@@ -1,5 +1,5 @@
 -- What single steps of a claim are in its list.
-use Rattle.std.proofs.Common.{◌≡◌, ◌≢◌, ℕ, ◌+◌, ◌-◌, ◌/◌, ◌^◌, ◌<◌, ◌≤◌, true, List, [], ◌∷◌, length, slice_index, Option, Some, None, Err, refl, sym, ap, ◌∙◌, subst, arith}
+use Rattle.std.proofs.Common.{◌≡◌, ◌≢◌, ℕ, ◌+◌, ◌-◌, ◌/◌, ◌^◌, ◌<◌, ◌≤◌, true, List, [], ◌∷◌, length, slice_index, Option, Some, None, Err, Ok, refl, sym, ap, ◌∙◌, subst, arith}
 use Rattle.xp_words.specs.Machine.{Machine}
 use Rattle.xp_words.specs.Places.{number, sizes_of}
 use Rattle.xp_words.specs.RefWords.{ref_write}
@@ -7,7 +7,8 @@ use Rattle.xp_words.specs.declared.place.Place.{Place}
 use Rattle.xp_words.specs.declared.place.Place.TheVariants.{Cell, M2p, Map, Pages, Refs}
 use Rattle.xp_words.specs.declared.refs.RefWord.TheVariants.{Dying, Free, Owned}
 use Rattle.xp_words.specs.declared.reply.Pause.TheVariants.{Lost}
-use Rattle.xp_words.specs.declared.reply.Stop.TheVariants.{Paused}
+use Rattle.xp_words.specs.declared.reply.Refusal.TheVariants.{DomainFull}
+use Rattle.xp_words.specs.declared.reply.Stop.TheVariants.{Paused, Refused}
 use Rattle.xp_board.specs.HintSteps.{map_bit}
 use Rattle.xp_board.specs.declared.step.Act.{Act}
 use Rattle.xp_board.specs.declared.step.Act.TheVariants.{Add, Cas, Load, Store}
@@ -16,7 +17,7 @@ use Rattle.xp_board.specs.Told.{PortValue}
 use Rattle.step_maker.specs.Moves.{Moves}
 use Rattle.answer_fits.specs.Visits.{Visit, Does, Only, Then, usual_kind, visit}
 use Rattle.answer_fits.proofs.Visiting.{does_as, does_one, does_then}
-use Rattle.frame_claims.specs.Found.{Downwards, FreesOne, GivenBy, LoweredBy, NamedBy, OwnedBy, ScrubbedBy, ScrubsOne, TakenBy, TakesOne, Upwards}
+use Rattle.frame_claims.specs.Found.{ChargedBy, Downwards, FreesOne, GivenBy, LoweredBy, NamedBy, OwnedBy, ScrubbedBy, ScrubsOne, TakenBy, TakesOne, Upwards, counts_pages, saw_pages}
 
 -- a step, whatever word it finds
 pub some_word : (v w : PortValue) (p : Place) (a : Act) (x : ℕ) → Moves v w p a (usual_kind p a) None x → Does v w (λ vs. (y : ℕ) × Only (visit p a y) vs)
@@ -55,3 +56,22 @@ lost_visits v u x w n d first stamps j place found low at before m off after =
     (does_then v u w (λ vs. Downwards (TakesOne d first stamps) (length stamps) (j + 1) vs) (Then (Only (visit (Refs (first + j)) (Cas s (ref_write (Dying d))) found)) (Upwards (FreesOne first stamps) (j + 1) (length stamps))) before
     (does_then u x w (Only (visit (Refs (first + j)) (Cas s (ref_write (Dying d))) found)) (λ vs. Upwards (FreesOne first stamps) (j + 1) (length stamps) vs)
     (does_one u x (Refs (first + j)) (Cas s (ref_write (Dying d))) kinds.Ref None found m) after))
+
+-- ---- pages are counted
+module _ (v a : PortValue) (n : Machine) (d k p : ℕ) (look : Moves v a (Pages d) Load kinds.Look None p) where
+  pub full_visits : slice_index n.page_limit d < p + k → Does v a (λ vs. ChargedBy n d k (Err (Refused (DomainFull p))) vs)
+  full_visits over = does_as v a (Only (saw_pages d p)) (λ vs. ChargedBy n d k (Err (Refused (DomainFull p))) vs) (λ vs is. (over, is)) (does_one v a (Pages d) Load kinds.Look None p look)
+
+  module _ (w : PortValue) (x j : ℕ) (same : j ≡ k) (within : p + k ≤ slice_index n.page_limit d) (try : Moves a w (Pages d) (Cas p (p + j)) kinds.Pages None x) where
+    pair : Does v w (Then (Only (saw_pages d p)) (Only (counts_pages d k p x)))
+    pair =
+        does_then v a w (Only (saw_pages d p)) (Only (counts_pages d k p x)) (does_one v a (Pages d) Load kinds.Look None p look)
+        (subst (λ i. Does a w (Only (counts_pages d i p x))) same (does_one a w (Pages d) (Cas p (p + j)) kinds.Pages None x try))
+
+    pub lost_count : (place : ℕ) → place ≡ number (sizes_of n) (Pages d) → x ≢ p → Does v w (λ vs. ChargedBy n d k (Err (Paused (Lost place p x))) vs)
+    lost_count place at off =
+        does_as v w (Then (Only (saw_pages d p)) (Only (counts_pages d k p x))) (λ vs. ChargedBy n d k (Err (Paused (Lost place p x))) vs) (λ vs t. (at, off, within, t)) pair
+
+  pub counted : (w : PortValue) (j : ℕ) → j ≡ k → p + k ≤ slice_index n.page_limit d → Moves a w (Pages d) (Cas p (p + j)) kinds.Pages None p → Does v w (λ vs. ChargedBy n d k (Ok tt) vs)
+  counted w j same within try =
+      does_as v w (Then (Only (saw_pages d p)) (Only (counts_pages d k p p))) (λ vs. ChargedBy n d k (Ok tt) vs) (λ vs t. (p, within, t)) (pair w p j same within try)

@@ -4,9 +4,11 @@ ghost use Rattle.xp_board.specs.Lists.{times};
 ghost use Rattle.xp_board.specs.Readings.{domain_of};
 ghost use Rattle.step_maker.specs.Holds.{FlushedSame, Holds, MayWork, Rests, Same};
 ghost use Rattle.answer_fits.specs.Answers.{misses};
+ghost use Rattle.answer_fits.specs.Visits.{Does};
 ghost use Rattle.claim_words.specs.Claims.{charged, uncharged};
 ghost use Rattle.frame_claims.specs.Blocks.{HasRow, IsBlockSize, IsPlain};
 ghost use Rattle.frame_claims.specs.Claiming.{IsClaimStop, ServesClaim, ServesPages, ServesTaken, StopsClaim, StopsPages, Took};
+ghost use Rattle.frame_claims.specs.Found.{ChargedBy};
 
 use crate::choosing::{Stamps, choose};
 use crate::giving::give_block;
@@ -29,6 +31,7 @@ fn charge<P: Port>(port: &mut P, owner: u16, size: u32) -> Result<(), Stop>
     ensures stops { IfErr result (λ e. StopsPages (P.value port.old) (P.value port.new) size e) }
     ensures kinds { IfErr result IsClaimStop }
     ensures hand { MatchResult result (λ _. Holds (P.value port.old) (P.value port.new) (charged size owner (P.value port.old).holdings)) (λ _. Same (P.value port.old) (P.value port.new)) }
+    ensures visits { Does (P.value port.old) (P.value port.new) (λ vs. ChargedBy (P.value port.old).post.machine owner size result vs) }
 {
     let limit = u64::from(port.layout().page_limit.as_slice()[owner as usize]);
     let found = look_pages(port, owner);
