@@ -12,4 +12,5 @@ pub mod Rows
 pub mod Serving
 mod Sizes
 mod Stopping
+mod Trying
 mod Visiting

@@ -76,9 +76,16 @@ SawFree f vs = (x : ℕ) × (is_free x ≡ true) × Only (saw_refs f x) vs
 abbrev pub SawTaken : ℕ → List Visit → Type 0
 SawTaken f vs = (x : ℕ) × (is_free x ≡ false) × Only (saw_refs f x) vs
 
+-- each with its stamp
+abbrev pub FreeAt : ℕ → List ℕ → ℕ → List Visit → Type 0
+FreeAt f stamps j vs = (is_free (slice_index stamps j) ≡ true) × Only (saw_refs (f + j) (slice_index stamps j)) vs
+
+abbrev pub AllFree : ℕ → List ℕ → List Visit → Type 0
+AllFree f stamps vs = Upwards (FreeAt f stamps) 0 (length stamps) vs
+
 -- The frames from f on are looked at, upwards: all k of them are free, or all but the last that is looked at.
 abbrev pub TriedBy : ℕ → ℕ → Option FreeBlock → List Visit → Type 0
-TriedBy k f (Some b) vs = (b.first ≡ f) × (length b.stamps ≡ k) × Upwards (λ j us. (is_free (slice_index b.stamps j) ≡ true) × Only (saw_refs (f + j) (slice_index b.stamps j)) us) 0 k vs
+TriedBy k f (Some b) vs = (b.first ≡ f) × (length b.stamps ≡ k) × AllFree f b.stamps vs
 TriedBy k f None vs = (m : ℕ) × (m < k) × Then (Upwards (λ j us. SawFree (f + j) us) 0 m) (λ us. SawTaken (f + m) us) vs
 
 -- that, or no look at it
@@ -91,8 +98,11 @@ abbrev pub are_set : ℕ → ℕ → ℕ → Bool
 are_set k at x = x / 2 ^ at % 2 ^ k == 2 ^ k - 1
 
 -- a word of the map: each of its blocks of k frames is tried whose bits are all set in it
+abbrev pub BlockBy : Machine → ℕ → ℕ → ℕ → ℕ → Option FreeBlock → List Visit → Type 0
+BlockBy n k word x at o vs = TriedWhere (are_set k (k * at) x && nat_le (64 * word + k * at + k) n.frames) k (64 * word + k * at) o vs
+
 abbrev pub InWordBy : Machine → ℕ → ℕ → ℕ → Option FreeBlock → List Visit → Type 0
-InWordBy n k word x o vs = FirstOf (λ at p us. TriedWhere (are_set k (k * at) x && nat_le (64 * word + k * at + k) n.frames) k (64 * word + k * at) p us) (64 / k) o vs
+InWordBy n k word x o vs = FirstOf (BlockBy n k word x) (64 / k) o vs
 
 abbrev pub saw_map : ℕ → ℕ → Visit
 saw_map word x = visit (Map word) Load x
@@ -116,8 +126,11 @@ RunBy words block o vs = (full : Bool) × Then (FullBy (block * words) words ful
 abbrev pub HintedBy : Machine → ℕ → Option FreeBlock → List Visit → Type 0
 HintedBy n k o vs = ((k ≤ 64) × FirstOf (WordBy n k) (map_words (sizes_of n)) o vs) ⊎ ((64 < k) × FirstOf (RunBy (k / 64)) (n.frames / k) o vs)
 
+abbrev pub PassBy : ℕ → ℕ → Option FreeBlock → List Visit → Type 0
+PassBy k block o vs = TriedBy k (block * k) o vs
+
 abbrev pub ScannedBy : Machine → ℕ → Option FreeBlock → List Visit → Type 0
-ScannedBy n k o vs = FirstOf (λ block p us. TriedBy k (block * k) p us) (n.frames / k) o vs
+ScannedBy n k o vs = FirstOf (PassBy k) (n.frames / k) o vs
 
 abbrev pub ChosenBy : Machine → ℕ → Option FreeBlock → List Visit → Type 0
 ChosenBy n k (Some b) vs = HintedBy n k (Some b) vs ⊎ Then (HintedBy n k None) (ScannedBy n k (Some b)) vs

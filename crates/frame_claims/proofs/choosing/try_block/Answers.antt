@@ -1,8 +1,12 @@
-use Rattle.std.proofs.Common.{◌≡◌, ℕ, ◌+◌, ◌<◌, ◌≤◌, ◌^◌, ◌++◌, ◌∷◌, [], List, length, ap, ◌∙◌, arith, refl, subst, sym, slice_index_or}
+use Rattle.std.proofs.Common.{◌≡◌, ℕ, ◌+◌, ◌<◌, ◌≤◌, ◌^◌, ◌++◌, ◌∷◌, [], List, Some, length, ap, ◌∙◌, arith, refl, subst, sym, slice_index_or}
 use Rattle.xp_words.specs.declared.place.Place.TheVariants.{Refs}
 use Rattle.xp_board.specs.Told.{Post}
 use Rattle.step_maker.proofs.Coming.{came_post, moves_came}
 use Rattle.flush_waits.specs.Waiting.{HadFree}
+use Rattle.answer_fits.specs.Visits.{Does}
+use Rattle.answer_fits.proofs.Visiting.{does_as}
+use Rattle.frame_claims.specs.Found.{AllFree, TriedBy}
+use Rattle.frame_claims.proofs.Trying.{all_more, all_none, tried_none}
 use Rattle.frame_claims.specs.Choosing.{IsLatest, StillFree}
 use Rattle.frame_claims.proofs.Finding.{each_more, had_later, had_now, latest_later, latest_now, look_refs_looks, looks_came, looks_nothing, one_longer, some_of, still_later, still_now}
 use Rattle.frame_claims.proofs.Lasting.{keeps_moves}
@@ -20,6 +24,7 @@ loop-frame-init g c =
       seen = λ j l. absurd (omega (arith, none, l));
       free = λ j l. absurd (omega (arith, none, l));
       most = λ j l. absurd (omega (arith, none, l));
+      visits = all_none (g.P.Port.value c.args.port.now) c.args.first c.clear.new.self.items c.clear.ensures;
       none = λ e. refl;
       latest = λ l. absurd (omega (arith, none, l));
     }
@@ -60,6 +65,7 @@ loop-frame-preserved g c =
             | then-stamp-greatest b ↦ each_more (λ j t. t ≤ c.if-stamp-greatest.greatest) xs s (λ j l. (let most = so.most j l in let is = b.greatest-is in let more = b.if-stamp-greatest in omega (arith, most, is, more))) (let is = b.greatest-is in omega (arith, is))
             | else-stamp-greatest b ↦ each_more (λ j t. t ≤ c.if-stamp-greatest.greatest) xs s (λ j l. (let most = so.most j l in let is = b.greatest-is in omega (arith, most, is))) (let is = b.greatest-is in let less = b.if-stamp-greatest in omega (arith, is, less))
           ]);
+      visits = subst (λ ys. Does v w (λ vs. AllFree c.args.first ys vs)) (sym c.push.ensures.items) (all_more v u w c.args.first frame s x xs at word moves so.visits);
       none = λ e. absurd (let long : length c.push.new.self.items ≡ length xs + 1 = ap (λ (ys : List ℕ). length ys) c.push.ensures.items ∙ longer in omega (arith, long, e));
       latest = λ some.
           elim c.if-stamp-greatest.branch [
@@ -102,3 +108,20 @@ returns-clause-found g c =
       most = λ j l. so.most j (omega (arith, l, whole));
       latest = subst (λ k. IsLatest v u c.args.first k c.loop-frame.latest c.loop-frame.greatest) last (so.latest (omega (arith, whole, some)));
     }
+
+pub returns-in_err-stamp-clause-visits : goal.returns-in_err-stamp-clause-visits
+returns-in_err-stamp-clause-visits g c =
+    let high = c.loop-frame-test.true in
+    rw c.from_residual.ensures
+    (tried_none (g.P.Port.value c.args.port.now) (g.P.Port.value c.loop-frame.port) (g.P.Port.value c.look_refs-word.new.port) c.args.first c.loop-frame.frame c.args.size c.look_refs-word.result c.loop-frame.stamps.items c.loop-frame.invariant.count
+    high c.in_err-stamp.ensures.none c.look_refs-word.ensures.moves c.loop-frame.invariant.visits)
+
+pub returns-clause-visits : goal.returns-clause-visits
+returns-clause-visits g c =
+    let v = g.P.Port.value c.args.port.now in
+    let u = g.P.Port.value c.loop-frame.port in
+    let at = c.loop-frame.invariant.count in
+    let end = c.loop-frame-test.false in
+    let low = c.loop-frame.auto.frame-end (omega arith) in
+    let whole : length c.loop-frame.stamps.items ≡ c.args.size = omega (arith, at, end, low) in
+    does_as v u (λ vs. AllFree c.args.first c.loop-frame.stamps.items vs) (λ vs. TriedBy c.args.size c.args.first (Some (record { first = c.args.first; stamps = c.loop-frame.stamps.items })) vs) (λ vs all. (refl, whole, all)) c.loop-frame.invariant.visits
