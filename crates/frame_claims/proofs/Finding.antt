@@ -1,5 +1,5 @@
 -- A block that is tried: each look finds a frame free, and its stamp.
-use Rattle.std.proofs.Common.{◌≡◌, ◌≢◌, ℕ, suc, zero, ◌+◌, ◌-◌, ◌*◌, ◌/◌, ◌%◌, ◌^◌, ◌<◌, ◌≤◌, ◌==◌, ◌&&◌, ◌++◌, true, false, List, [], ◌∷◌, length, Option, Some, None, IfSome, IsTrue, refl, sym, ap, ◌∙◌, subst, inl, inr, ◌⊎◌, arith, slice_index_or}
+use Rattle.std.proofs.Common.{◌≡◌, ◌≢◌, ℕ, suc, zero, ◌+◌, ◌-◌, ◌*◌, ◌/◌, ◌%◌, ◌^◌, ◌<◌, ◌≤◌, ◌==◌, ◌&&◌, ◌++◌, true, false, List, [], ◌∷◌, length, Option, Some, None, IfSome, IsTrue, refl, sym, ap, ◌∙◌, subst, inl, inr, ◌⊎◌, arith, slice_index_or, max}
 use Rattle.std.proofs.Math.Nat.{add-mul-mod_self_left, le-div_iff_mul-le, mul-mod_left, zero-mod}
 use Rattle.std.proofs.lemmas.Nat.{mul-mod_first}
 use Rattle.xp_words.specs.Machine.{Machine, IsMachine}
@@ -30,7 +30,7 @@ use Rattle.flush_words.proofs.Lasting.{last_left}
 use Rattle.flush_waits.specs.Waiting.{HadFree}
 use Rattle.flush_waits.proofs.Growing.{came_grows}
 use Rattle.frame_claims.specs.declared.choosing.Chosen.{Chosen}
-use Rattle.frame_claims.specs.Choosing.{FreeWord, IsFound, IsLatest, KeepsLast, Looks, SeenFree, StillFree}
+use Rattle.frame_claims.specs.Choosing.{FreeWord, IsFound, IsLatest, KeepsLast, Looks, SeenFree, StillFree, greatest}
 use Rattle.frame_claims.proofs.Lasting.{met_within}
 
 -- ---- words
@@ -89,6 +89,10 @@ each_more P xs s all here j low =
       | inl under ↦ subst (P j) (sym (at_old xs s j under)) (all j under)
       | inr is ↦ subst (λ k. P k (slice_index_or (xs ++ s ∷ []) k 0)) (sym is) (subst (P (length xs)) (sym (at_new xs s)) here)
     ]
+
+pub greatest_more : (xs : List ℕ) (s : ℕ) → greatest (xs ++ s ∷ []) ≡ max s (greatest xs)
+greatest_more [] s = refl
+greatest_more (x ∷ xs) s = let rest = greatest_more xs s in omega (arith, rest)
 
 -- ---- what was seen
 found_seen : (v u w : PortValue) (p : Place) (x : ℕ) → Came v u → FoundAt (Met u w) p x → FoundAt (Met v w) p x
@@ -183,6 +187,7 @@ found_from v u w size stamps c looks f =
       seen = λ j l. still_from v u w _ _ came (f.seen j l);
       free = f.free;
       most = f.most;
+      stamp = f.stamp;
       latest = record { seen = seen_from v u w c.latest c.stamp came l.seen; had = l.had; from = l.from; to = l.to };
     }
 

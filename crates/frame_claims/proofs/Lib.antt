@@ -1,3 +1,4 @@
+mod Chaining
 pub mod Closing
 mod Composing
 pub mod Finding

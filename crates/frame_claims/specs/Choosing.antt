@@ -1,5 +1,5 @@
 -- A block that was found wholly free.
-use Rattle.std.specs.Prelude.{◌≡◌, true, false, ℕ, ◌+◌, ◌%◌, ◌^◌, ◌<◌, ◌≤◌, List, [], length, slice_index, Some}
+use Rattle.std.specs.Prelude.{◌≡◌, true, false, ℕ, ◌+◌, ◌%◌, ◌^◌, ◌<◌, ◌≤◌, max, List, [], ◌∷◌, length, slice_index, Some}
 use Rattle.xp_words.specs.Places.{sizes_of}
 use Rattle.xp_words.specs.RefWords.{ref_read}
 use Rattle.xp_words.specs.declared.refs.RefWord.TheVariants.{Free}
@@ -65,6 +65,10 @@ pub record IsLatest (v w : PortValue) (first below latest stamp : ℕ) : Type 0 
   pub from : first ≤ latest
   pub to : latest < below
 
+abbrev pub greatest : List ℕ → ℕ
+greatest [] = 0
+greatest (s ∷ ss) = max s (greatest ss)
+
 -- Each of the block's frames was found free by the steps from v to w, with that stamp; and the latest has the greatest.
 pub record IsFound (v w : PortValue) (size : ℕ) (stamps : List ℕ) (c : Chosen) : Type 0 where
   pub inside : c.first + size ≤ w.post.machine.frames
@@ -74,4 +78,5 @@ pub record IsFound (v w : PortValue) (size : ℕ) (stamps : List ℕ) (c : Chose
   pub seen : (j : ℕ) → j < size → StillFree v w (c.first + j) (slice_index stamps j)
   pub free : (j : ℕ) → j < size → HadFree w.post.machine (c.first + j) (slice_index stamps j) w.holdings
   pub most : (j : ℕ) → j < size → slice_index stamps j ≤ c.stamp
+  pub stamp : c.stamp ≡ greatest stamps
   pub latest : IsLatest v w c.first (c.first + size) c.latest c.stamp

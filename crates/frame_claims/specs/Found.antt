@@ -1,5 +1,5 @@
 -- The steps of a claim as a list, the newest in front: the pages are counted, a block chosen, its flush awaited, its frames taken, and given.
-use Rattle.std.specs.Prelude.{◌≡◌, ◌≢◌, ◌⊎◌, ℕ, ◌+◌, ◌-◌, ◌*◌, ◌/◌, ◌%◌, ◌^◌, ◌<◌, ◌≤◌, ◌==◌, ◌&&◌, nat_le, max, Bool, true, false, List, [], ◌∷◌, ◌++◌, length, slice_index, Option, Some, None, Result, Ok, Err}
+use Rattle.std.specs.Prelude.{◌≡◌, ◌≢◌, ◌⊎◌, ℕ, ◌+◌, ◌-◌, ◌*◌, ◌/◌, ◌%◌, ◌^◌, ◌<◌, ◌≤◌, ◌==◌, ◌&&◌, nat_le, Bool, true, false, List, [], ◌∷◌, ◌++◌, length, slice_index, Option, Some, None, Result, Ok, Err}
 use Rattle.xp_words.specs.Machine.{Machine}
 use Rattle.xp_words.specs.Places.{map_words, number, sizes_of}
 use Rattle.xp_words.specs.RefWords.{ref_write}
@@ -18,6 +18,7 @@ use Rattle.answer_fits.specs.Visits.{Visit, visit, Nothing, Only, Then}
 use Rattle.flush_waits.specs.Listing.{WaitedFor}
 use Rattle.flush_waits.specs.Waiting.{everyone}
 use Rattle.frame_claims.specs.Blocks.{numbered}
+use Rattle.frame_claims.specs.Choosing.{greatest}
 use Rattle.frame_claims.specs.declared.choosing.Chosen.{Chosen}
 
 -- ---- lists in order
@@ -175,10 +176,6 @@ abbrev pub AllGivenBy : ℕ → ℕ → Option ℕ → ℕ → List Visit → Ty
 AllGivenBy d f g k vs = Upwards (λ i us. GivenBy d (f + i) (numbered g i) us) 0 k vs
 
 -- ---- as a whole
-abbrev pub greatest : List ℕ → ℕ
-greatest [] = 0
-greatest (s ∷ ss) = max s (greatest ss)
-
 -- a block is chosen, and all vCPUs are waited for
 abbrev pub FlushedFor : Post → ℕ → FreeBlock → Result (Unit {0}) Stop → List Visit → Type 0
 FlushedFor q k b answer vs = Then (ChosenBy q.machine k (Some b)) (WaitedFor q (Those everyone) (greatest b.stamps) answer) vs

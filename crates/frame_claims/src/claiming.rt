@@ -8,7 +8,7 @@ ghost use Rattle.answer_fits.specs.Visits.{Does};
 ghost use Rattle.claim_words.specs.Claims.{charged, uncharged};
 ghost use Rattle.frame_claims.specs.Blocks.{HasRow, IsBlockSize, IsPlain};
 ghost use Rattle.frame_claims.specs.Claiming.{IsClaimStop, ServesClaim, ServesPages, ServesTaken, StopsClaim, StopsPages, Took};
-ghost use Rattle.frame_claims.specs.Found.{ChargedBy};
+ghost use Rattle.frame_claims.specs.Found.{ChargedBy, ClaimsBy, TookBy};
 
 use crate::choosing::{Stamps, choose};
 use crate::giving::give_block;
@@ -75,6 +75,7 @@ fn take<P: Port>(port: &mut P, owner: u16, size: u32, stamps: &mut Stamps) -> Re
     ensures stops { IfErr result (λ e. StopsClaim (P.value port.old) (P.value port.new) size e) }
     ensures kinds { IfErr result IsClaimStop }
     ensures took { Took (P.value port.old) (P.value port.new) owner size stamps.new.items result }
+    ensures visits { Does (P.value port.old) (P.value port.new) (λ vs. TookBy (P.value port.old).post owner size result vs) }
 {
     match choose(port, size, stamps) {
         None => Err(Stop::Refused(Refusal::NoFree)),
@@ -99,6 +100,7 @@ pub fn claim<P: Port>(port: &mut P, owner: u16, order: u8, gpfn: Option<u64>) ->
     ensures stops { IfErr result (λ e. StopsClaim (P.value port.old) (P.value port.new) (2 ^ order) e) }
     ensures kinds { IfErr result IsClaimStop }
     ensures hand { FlushedSame (P.value port.old) (P.value port.new) }
+    ensures found { Does (P.value port.old) (P.value port.new) (λ vs. ClaimsBy (P.value port.old).post owner (2 ^ order) gpfn result vs) }
 {
     let size = size_of(order);
     charge(port, owner, size)?;

@@ -7,12 +7,15 @@ use Rattle.answer_fits.specs.Visits.{Does}
 use Rattle.answer_fits.proofs.Visiting.{does_as}
 use Rattle.frame_claims.specs.Found.{AllFree, TriedBy}
 use Rattle.frame_claims.proofs.Trying.{all_more, all_none, tried_none}
-use Rattle.frame_claims.specs.Choosing.{IsLatest, StillFree}
-use Rattle.frame_claims.proofs.Finding.{each_more, had_later, had_now, latest_later, latest_now, look_refs_looks, looks_came, looks_nothing, one_longer, some_of, still_later, still_now}
+use Rattle.frame_claims.specs.Choosing.{IsLatest, StillFree, greatest}
+use Rattle.frame_claims.proofs.Finding.{each_more, greatest_more, had_later, had_now, latest_later, latest_now, look_refs_looks, looks_came, looks_nothing, one_longer, some_of, still_later, still_now}
 use Rattle.frame_claims.proofs.Lasting.{keeps_moves}
 use Rattle.frame_claims.proofs.Refusing.{seen_taken}
 use Rattle.frame_claims.proofs.choosing.try_block.Goals.{then-stamp-greatest, else-stamp-greatest}
 use Rattle.frame_claims.proofs.choosing.try_block.Goals as goal
+
+greater : (g s : ℕ) (xs ys : List ℕ) → g ≡ greatest (xs ++ s ∷ []) → ys ≡ xs ++ s ∷ [] → g ≡ greatest ys
+greater g s xs ys e is = e ∙ ap greatest (sym is)
 
 pub loop-frame-init : goal.loop-frame-init
 loop-frame-init g c =
@@ -25,6 +28,7 @@ loop-frame-init g c =
       free = λ j l. absurd (omega (arith, none, l));
       most = λ j l. absurd (omega (arith, none, l));
       visits = all_none (g.P.Port.value c.args.port.now) c.args.first c.clear.new.self.items c.clear.ensures;
+      stamp = ap greatest (sym c.clear.ensures);
       none = λ e. refl;
       latest = λ l. absurd (omega (arith, none, l));
     }
@@ -66,6 +70,10 @@ loop-frame-preserved g c =
             | else-stamp-greatest b ↦ each_more (λ j t. t ≤ c.if-stamp-greatest.greatest) xs s (λ j l. (let most = so.most j l in let is = b.greatest-is in omega (arith, most, is))) (let is = b.greatest-is in let less = b.if-stamp-greatest in omega (arith, is, less))
           ]);
       visits = subst (λ ys. Does v w (λ vs. AllFree c.args.first ys vs)) (sym c.push.ensures.items) (all_more v u w c.args.first frame s x xs at word moves so.visits);
+      stamp = greater c.if-stamp-greatest.greatest s xs c.push.new.self.items (elim c.if-stamp-greatest.branch [
+        | then-stamp-greatest b ↦ (let is = b.greatest-is in let more = b.if-stamp-greatest in let was = so.stamp in let now = greatest_more xs s in omega (arith, is, more, was, now))
+        | else-stamp-greatest b ↦ (let is = b.greatest-is in let less = b.if-stamp-greatest in let was = so.stamp in let now = greatest_more xs s in omega (arith, is, less, was, now))
+      ]) c.push.ensures.items;
       none = λ e. absurd (let long : length c.push.new.self.items ≡ length xs + 1 = ap (λ (ys : List ℕ). length ys) c.push.ensures.items ∙ longer in omega (arith, long, e));
       latest = λ some.
           elim c.if-stamp-greatest.branch [
@@ -106,6 +114,7 @@ returns-clause-found g c =
       seen = λ j l. so.seen j (omega (arith, l, whole));
       free = λ j l. so.free j (omega (arith, l, whole));
       most = λ j l. so.most j (omega (arith, l, whole));
+      stamp = so.stamp;
       latest = subst (λ k. IsLatest v u c.args.first k c.loop-frame.latest c.loop-frame.greatest) last (so.latest (omega (arith, whole, some)));
     }
 

@@ -1,4 +1,4 @@
-use Rattle.std.proofs.Common.{◌≡◌, ℕ, ◌+◌, ◌%◌, ◌^◌, ◌≤◌, [], length, Err, ap, refl, sym, ◌∙◌, subst}
+use Rattle.std.proofs.Common.{◌≡◌, ℕ, ◌+◌, ◌%◌, ◌^◌, ◌≤◌, [], length, Err, Ok, ap, refl, sym, ◌∙◌, subst}
 use Rattle.std.proofs.lemmas.Result.{err_from_is_err_and}
 use Rattle.xp_board.specs.Readings.{domain_of}
 use Rattle.xp_board.specs.Told.{Post, PortValue}
@@ -10,6 +10,9 @@ use Rattle.frame_claims.proofs.Closing.{back_for, charged_row, credit_for, gave_
 use Rattle.frame_claims.proofs.Composing.{pages_back}
 use Rattle.frame_claims.proofs.Losing.{pages_came}
 use Rattle.frame_claims.proofs.Stopping.{claim_stops, no_credit, pages_stop, when_err}
+use Rattle.answer_fits.specs.Visits.{Does}
+use Rattle.frame_claims.specs.Found.{ClaimsBy}
+use Rattle.frame_claims.proofs.Chaining.{answers, claim_had, claim_stopped, claim_uncounted}
 use Rattle.frame_claims.proofs.claiming.claim.Goals as goal
 
 pub take-requires-clause-row : goal.take-requires-clause-row
@@ -79,3 +82,30 @@ returns-in-Err-clause-stops g c =
     let w = g.P.Port.value c.refund_pages.new.port in
     subst (λ k. StopsClaim v w k c.in-Err.stop) c.size_of-size.ensures.power
     (claim_stops v x u w c.size_of-size.result c.in-Err.stop c.in-Err.ensures.kinds (pages_came v x [] c.in_ok-charge.ensures.serves) c.in-Err.ensures.stops (moves_came u w _ _ _ _ _ c.refund_pages.ensures.moves))
+
+pub returns-in_err-charge-clause-found : goal.returns-in_err-charge-clause-found
+returns-in_err-charge-clause-found g c =
+    let v = g.P.Port.value c.args.port.now in
+    let x = g.P.Port.value c.charge.new.port in
+    let answer = err_from_is_err_and c.from_residual.result c.from_residual.ensures.1 in
+    answers v x (ClaimsBy v.post c.args.owner (2 ^ c.args.order) c.args.gpfn) _ _ (answer.1 ∙ ap Err answer.2)
+    (claim_uncounted v x c.args.owner (2 ^ c.args.order) c.size_of-size.result c.args.gpfn _ c.size_of-size.ensures.power c.in_err-charge.ensures.visits)
+
+pub returns-in-Ok-clause-found : goal.returns-in-Ok-clause-found
+returns-in-Ok-clause-found g c =
+    let v = g.P.Port.value c.args.port.now in
+    let x = g.P.Port.value c.charge.new.port in
+    let u = g.P.Port.value c.take.new.port in
+    let w = g.P.Port.value c.give_block.new.port in
+    let long = ap (λ l. length l) c.as_slice.ensures.value ∙ c.in-Ok.ensures.took.whole in
+    subst (λ k. Does v w (λ vs. ClaimsBy v.post c.args.owner k c.args.gpfn (Ok c.in-Ok.first) vs)) c.size_of-size.ensures.power
+    (claim_had v x u w c.args.owner c.size_of-size.result c.args.gpfn c.in_ok-charge.ensures.visits c.in-Ok.first (length c.as_slice.result.now) long c.in-Ok.ensures.visits c.give_block.ensures.visits)
+
+pub returns-in-Err-clause-found : goal.returns-in-Err-clause-found
+returns-in-Err-clause-found g c =
+    let v = g.P.Port.value c.args.port.now in
+    let x = g.P.Port.value c.charge.new.port in
+    let u = g.P.Port.value c.take.new.port in
+    let w = g.P.Port.value c.refund_pages.new.port in
+    subst (λ k. Does v w (λ vs. ClaimsBy v.post c.args.owner k c.args.gpfn (Err c.in-Err.stop) vs)) c.size_of-size.ensures.power
+    (claim_stopped v x u w c.args.owner c.size_of-size.result c.args.gpfn c.in_ok-charge.ensures.visits c.in-Err.stop c.in-Err.ensures.visits c.refund_pages.result c.from.result c.from.ensures c.refund_pages.ensures.moves)
