@@ -1,12 +1,12 @@
 -- The steps of a claim, put together.
-use Rattle.std.proofs.Common.{◌≡◌, ℕ, ◌+◌, ◌-◌, ◌^◌, List, [], length, Option, Some, None, Result, Ok, Err, inl, inr, refl, sym, ap, ◌∙◌, subst, arith}
+use Rattle.std.proofs.Common.{◌≡◌, ℕ, ◌-◌, ◌^◌, List, Option, Some, None, Result, Ok, Err, inl, inr, refl, sym, subst}
 use Rattle.xp_words.specs.declared.place.Place.TheVariants.{Pages}
 use Rattle.xp_words.specs.declared.reply.Refusal.TheVariants.{NoFree}
 use Rattle.xp_words.specs.declared.reply.Stop.{Stop}
 use Rattle.xp_words.specs.declared.reply.Stop.TheVariants.{Refused}
 use Rattle.xp_board.specs.declared.step.Act.TheVariants.{Add}
 use Rattle.xp_board.specs.declared.step.StepKind.TheVariants as kinds
-use Rattle.xp_board.specs.Told.{Post, PortValue}
+use Rattle.xp_board.specs.Told.{PortValue}
 use Rattle.step_maker.specs.Moves.{Moves}
 use Rattle.answer_fits.specs.Reasons.{Those}
 use Rattle.answer_fits.specs.Visits.{Visit, Does, Then}

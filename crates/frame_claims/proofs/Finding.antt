@@ -1,5 +1,5 @@
 -- A block that is tried: each look finds a frame free, and its stamp.
-use Rattle.std.proofs.Common.{◌≡◌, ◌≢◌, ℕ, suc, zero, ◌+◌, ◌-◌, ◌*◌, ◌/◌, ◌%◌, ◌^◌, ◌<◌, ◌≤◌, ◌==◌, ◌&&◌, ◌++◌, true, false, List, [], ◌∷◌, length, Option, Some, None, IfSome, IsTrue, refl, sym, ap, ◌∙◌, subst, inl, inr, ◌⊎◌, arith, slice_index_or, max}
+use Rattle.std.proofs.Common.{◌≡◌, ℕ, suc, zero, ◌+◌, ◌*◌, ◌/◌, ◌%◌, ◌<◌, ◌≤◌, ◌==◌, ◌&&◌, ◌++◌, true, List, [], ◌∷◌, length, Option, Some, None, IfSome, refl, sym, ap, ◌∙◌, subst, inl, inr, ◌⊎◌, arith, slice_index_or, max}
 use Rattle.std.proofs.Math.Nat.{add-mul-mod_self_left, le-div_iff_mul-le, mul-mod_left, zero-mod}
 use Rattle.std.proofs.lemmas.Nat.{mul-mod_first}
 use Rattle.xp_words.specs.Machine.{Machine, IsMachine}
@@ -21,10 +21,8 @@ use Rattle.step_maker.specs.Holds.{MayWork, Same}
 use Rattle.step_maker.specs.Moves.{Came, Met, Moves}
 use Rattle.step_maker.proofs.Coming.{came_post, met_after, met_before, moment_of, moves_came, moves_met}
 use Rattle.step_maker.proofs.Noting.{moves_since}
-use Rattle.answer_fits.specs.Answers.{Serves}
 use Rattle.answer_fits.specs.Finding.{FoundAt}
 use Rattle.answer_fits.specs.Asked.{of_back}
-use Rattle.answer_fits.proofs.Changing.{moves_found}
 use Rattle.answer_fits.proofs.Piecing.{serves_came, serves_nothing, serves_step, serves_then}
 use Rattle.flush_words.proofs.Lasting.{last_left}
 use Rattle.flush_waits.specs.Waiting.{HadFree}

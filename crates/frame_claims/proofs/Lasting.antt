@@ -1,5 +1,5 @@
 -- Steps elsewhere: what was last found or left at a place stays so.
-use Rattle.std.proofs.Common.{◌≡◌, ◌≢◌, ℕ, ◌+◌, ◌<◌, ◌≤◌, ◌⊎◌, Bool, true, false, List, [], ◌∷◌, length, Option, Some, None, Result, Ok, Err, refl, sym, ap, ◌∙◌, subst, inl, inr, arith}
+use Rattle.std.proofs.Common.{◌≡◌, ◌≢◌, ℕ, ◌<◌, ◌≤◌, Bool, true, false, List, [], ◌∷◌, length, Option, None, Result, Ok, Err, refl, sym, ◌∙◌, subst, inl, inr, arith}
 use Rattle.xp_words.specs.Machine.{Machine}
 use Rattle.xp_words.specs.Places.{sizes_of}
 use Rattle.xp_words.specs.declared.place.Place.{Place}
@@ -15,7 +15,7 @@ use Rattle.xp_board.specs.Lists.{EachOf}
 use Rattle.xp_board.specs.Steps.{last_since}
 use Rattle.xp_board.specs.Told.{Post, PortValue}
 use Rattle.step_maker.specs.Moves.{Came, Met, Moment, Moves, Ran}
-use Rattle.step_maker.proofs.Coming.{came_post, ran_post}
+use Rattle.step_maker.proofs.Coming.{came_post}
 use Rattle.answer_fits.specs.Reasons.{OfOwner, Those, Whose}
 use Rattle.answer_fits.specs.Visits.{Visit, visits, Does, Nothing, Only, Then}
 use Rattle.answer_fits.proofs.Piecing.{each_append}

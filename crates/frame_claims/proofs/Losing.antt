@@ -1,5 +1,5 @@
 -- Why a claim stops: an exchange was lost, or the domain is full.
-use Rattle.std.proofs.Common.{◌≡◌, ◌≢◌, ℕ, ◌+◌, ◌^◌, ◌<◌, ◌≤◌, true, List, [], length, slice_index, Option, None, Some, refl, sym, ap, ◌∙◌, subst, arith}
+use Rattle.std.proofs.Common.{◌≡◌, ◌≢◌, ℕ, ◌+◌, ◌<◌, ◌≤◌, true, List, length, slice_index, None, refl, ap, subst, arith}
 use Rattle.xp_words.specs.Places.{number, sizes_of}
 use Rattle.xp_words.specs.RefWords.{ref_write}
 use Rattle.xp_words.specs.declared.place.Place.TheVariants.{Pages, Refs}
@@ -12,9 +12,9 @@ use Rattle.xp_board.specs.Lists.{times}
 use Rattle.xp_board.specs.Readings.{domain_of}
 use Rattle.xp_board.specs.declared.step.Act.TheVariants.{Cas, Load}
 use Rattle.xp_board.specs.declared.step.StepKind.TheVariants as kinds
-use Rattle.xp_board.specs.Told.{Post, PortValue}
+use Rattle.xp_board.specs.Told.{PortValue}
 use Rattle.step_maker.specs.Moves.{Came, Met, Moves}
-use Rattle.step_maker.proofs.Coming.{came_self, came_trans, moment_of, met_after, met_before, moves_came, moves_met}
+use Rattle.step_maker.proofs.Coming.{came_trans, moment_of, met_after, met_before, moves_came, moves_met}
 use Rattle.answer_fits.specs.Answers.{Deed, Stops}
 use Rattle.answer_fits.specs.Asked.{Request, of_block}
 use Rattle.answer_fits.specs.Pauses.{Loses}
@@ -23,7 +23,7 @@ use Rattle.answer_fits.proofs.Piecing.{serves_came}
 use Rattle.flush_words.proofs.Lasting.{last_left}
 use Rattle.frame_claims.specs.Blocks.{IsBlockOf, ServesBlock}
 use Rattle.frame_claims.specs.Choosing.{KeepsLast, StillFree}
-use Rattle.frame_claims.specs.Claiming.{ServesPages, StopsPages, TakesPages}
+use Rattle.frame_claims.specs.Claiming.{ServesPages, StopsPages}
 use Rattle.frame_claims.proofs.Finding.{still_later}
 use Rattle.frame_claims.proofs.Serving.{block_asks}
 
@@ -73,17 +73,17 @@ module _ (v a : PortValue) (d found : ℕ) (own : d ≡ domain_of v.post.machine
   pub full : (k : ℕ) → times d v.holdings.credits ≡ 0 → slice_index v.post.machine.page_limit d < found + k → StopsPages v a k (Refused (DomainFull found))
   unfolding Stops moment_of
   full k none less r t enough = (
-        v.holdings,
-        record {
-          moment = moment_of v (Pages d) Load kinds.Look None found;
-          was = moves_met v a _ _ _ _ _ look;
-          place = ap (λ e. Pages e) own;
-          word = refl;
-          hand = refl;
-        },
-        subst (λ e. times e v.holdings.credits ≡ 0) own none,
-        (t.number, t.pages, subst (λ e. slice_index v.post.machine.page_limit e < found + t.number) own (omega (arith, less, enough))),
-      )
+    v.holdings,
+    record {
+      moment = moment_of v (Pages d) Load kinds.Look None found;
+      was = moves_met v a _ _ _ _ _ look;
+      place = ap (λ e. Pages e) own;
+      word = refl;
+      hand = refl;
+    },
+    subst (λ e. times e v.holdings.credits ≡ 0) own none,
+    (t.number, t.pages, subst (λ e. slice_index v.post.machine.page_limit e < found + t.number) own (omega (arith, less, enough))),
+  )
 
   module _ (w : PortValue) (k other : ℕ) (try : Moves a w (Pages d) (Cas found (found + k)) kinds.Pages None other) (off : other ≢ found) where
     pages_lose : Loses v.post.machine (Met v w) (Pages d) found other

@@ -1,10 +1,9 @@
 -- One pass upwards over the blocks, each of which has a frame that is taken.
-use Rattle.std.proofs.Common.{◌≡◌, ℕ, zero, suc, ◌+◌, ◌*◌, ◌/◌, ◌<◌, ◌≤◌, ◌⊎◌, length, refl, sym, ◌∙◌, ap, subst, inl, inr, arith}
+use Rattle.std.proofs.Common.{◌≡◌, ℕ, zero, suc, ◌+◌, ◌*◌, ◌/◌, ◌<◌, ◌≤◌, ◌⊎◌, length, sym, ◌∙◌, subst, inl, inr, arith}
 use Rattle.std.proofs.Math.Nat.{le-div_iff_mul-le}
-use Rattle.std.proofs.lemmas.Nat.{div-mul-add}
 use Rattle.xp_words.specs.Machine.{Machine}
 use Rattle.step_maker.specs.Moves.{Moment}
-use Rattle.answer_fits.specs.Finding.{Finding, FoundWith}
+use Rattle.answer_fits.specs.Finding.{Finding}
 use Rattle.answer_fits.specs.Licences.{HasTaken, HasTakenAll}
 
 -- each block below that number, by steps below number `at`

@@ -1,7 +1,6 @@
 -- Blocks that are not free: a frame of each was found taken, the lower block the earlier.
-use Rattle.std.proofs.Common.{◌≡◌, ℕ, ◌+◌, ◌-◌, ◌*◌, ◌/◌, ◌<◌, ◌≤◌, true, false, [], length, Option, None, Some, IfNone, is_some, refl, sym, ap, ◌∙◌, subst, arith}
+use Rattle.std.proofs.Common.{◌≡◌, ℕ, ◌+◌, ◌-◌, ◌*◌, ◌/◌, ◌<◌, ◌≤◌, false, [], length, Option, None, Some, IfNone, is_some, refl, ap, ◌∙◌, subst, arith}
 use Rattle.std.proofs.lemmas.Nat.{div-mul-add}
-use Rattle.xp_words.specs.Machine.{Machine}
 use Rattle.xp_words.specs.declared.place.Place.TheVariants.{Refs}
 use Rattle.xp_board.specs.Hands.{claim_of}
 use Rattle.xp_board.specs.Lists.{first_by}

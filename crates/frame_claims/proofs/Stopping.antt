@@ -1,18 +1,15 @@
 -- A claim that stops shows why, whatever was done before and behind it.
-use Rattle.std.proofs.Common.{◌≡◌, ℕ, ◌+◌, ◌*◌, ◌%◌, ◌<◌, ◌≤◌, List, [], length, slice_index, Option, None, Some, Result, Ok, Err, IfErr, refl, sym, ap, ◌∙◌, subst, arith}
+use Rattle.std.proofs.Common.{◌≡◌, ℕ, ◌+◌, ◌<◌, List, [], length, slice_index, Result, Err, IfErr, refl, sym, ap, ◌∙◌, subst, arith}
 use Rattle.std.proofs.Math.Nat.{zero-mod}
 use Rattle.xp_words.specs.declared.place.Place.TheVariants.{Refs}
-use Rattle.xp_words.specs.declared.reply.Pause.TheVariants as pauses
 use Rattle.xp_words.specs.declared.reply.Refusal.TheVariants as refusals
 use Rattle.xp_words.specs.declared.reply.Stop.{Stop}
 use Rattle.xp_words.specs.declared.reply.Stop.TheVariants.{Refused, Paused}
 use Rattle.xp_board.specs.Lists.{times, times_by}
 use Rattle.xp_board.specs.Told.{PortValue}
-use Rattle.step_maker.specs.Moves.{Came, Met}
+use Rattle.step_maker.specs.Moves.{Came}
 use Rattle.step_maker.proofs.Coming.{came_trans}
 use Rattle.answer_fits.specs.Answers.{Stops}
-use Rattle.answer_fits.specs.Asked.{Request}
-use Rattle.answer_fits.specs.Licences.{HasTakenAll}
 use Rattle.answer_fits.specs.Reasons.{Those}
 use Rattle.answer_fits.specs.Visits.{Does}
 use Rattle.answer_fits.proofs.Later.{IsUncounted, stops_then}
@@ -22,7 +19,7 @@ use Rattle.flush_waits.specs.Waiting.{StopsBehind, everyone}
 use Rattle.frame_claims.specs.Blocks.{HasRow, IsBlockOf}
 use Rattle.frame_claims.specs.declared.choosing.Chosen.{Chosen}
 use Rattle.frame_claims.specs.Choosing.{IsFound, Looks, NoneFree, StillFree}
-use Rattle.frame_claims.specs.Claiming.{IsClaimStop, StopsClaim, StopsPages, StopsTaking, TakesBlock}
+use Rattle.frame_claims.specs.Claiming.{IsClaimStop, StopsClaim, StopsPages, StopsTaking}
 use Rattle.frame_claims.proofs.Composing.{awaits_block}
 use Rattle.frame_claims.proofs.Finding.{looks_came, still_later}
 use Rattle.frame_claims.proofs.Lasting.{does_keeps, waited_off}

@@ -1,5 +1,5 @@
 -- What single steps of a claim are in its list.
-use Rattle.std.proofs.Common.{◌≡◌, ◌≢◌, ℕ, ◌+◌, ◌-◌, ◌/◌, ◌^◌, ◌<◌, ◌≤◌, true, List, [], ◌∷◌, length, slice_index, Option, Some, None, Err, Ok, refl, sym, ap, ◌∙◌, subst, arith}
+use Rattle.std.proofs.Common.{◌≡◌, ◌≢◌, ℕ, ◌+◌, ◌-◌, ◌/◌, ◌^◌, ◌<◌, ◌≤◌, true, List, length, slice_index, None, Err, Ok, refl, subst}
 use Rattle.xp_words.specs.Machine.{Machine}
 use Rattle.xp_words.specs.Places.{number, sizes_of}
 use Rattle.xp_words.specs.RefWords.{ref_write}
@@ -15,7 +15,7 @@ use Rattle.xp_board.specs.declared.step.Act.TheVariants.{Add, Cas, Load, Store}
 use Rattle.xp_board.specs.declared.step.StepKind.TheVariants as kinds
 use Rattle.xp_board.specs.Told.{PortValue}
 use Rattle.step_maker.specs.Moves.{Moves}
-use Rattle.answer_fits.specs.Visits.{Visit, Does, Only, Then, usual_kind, visit}
+use Rattle.answer_fits.specs.Visits.{Does, Only, Then, usual_kind, visit}
 use Rattle.answer_fits.proofs.Visiting.{does_as, does_one, does_then}
 use Rattle.frame_claims.specs.Found.{ChargedBy, Downwards, FreesOne, GivenBy, LoweredBy, NamedBy, OwnedBy, ScrubbedBy, ScrubsOne, TakenBy, TakesOne, Upwards, counts_pages, saw_pages}
 

@@ -6,7 +6,7 @@ use Rattle.xp_board.specs.Lists.{times, with_more}
 use Rattle.xp_board.specs.Told.{PortValue}
 use Rattle.step_maker.specs.Holds.{Holds}
 use Rattle.answer_fits.specs.Answers.{Deed, Gives, Serves}
-use Rattle.answer_fits.specs.Asked.{Request, of_frame}
+use Rattle.answer_fits.specs.Asked.{Request}
 use Rattle.claim_words.specs.Claims.{behind_newest}
 
 -- ---- what is asked

@@ -1,5 +1,5 @@
 -- A claim as a whole: whom its steps serve, and what is in hand between its parts.
-use Rattle.std.specs.Prelude.{◌≡◌, ℕ, ◌+◌, ◌%◌, ◌<◌, ◌≤◌, List, [], length, slice_index, Option, Some, Result, Ok, Err}
+use Rattle.std.specs.Prelude.{◌≡◌, ℕ, ◌+◌, ◌%◌, ◌<◌, ◌≤◌, List, [], length, slice_index, Some, Result, Ok, Err}
 use Rattle.xp_words.specs.declared.reply.Pause.TheVariants.{Lost, Flush}
 use Rattle.xp_words.specs.declared.reply.Refusal.TheVariants.{Clock, DomainFull, NoFree}
 use Rattle.xp_words.specs.declared.reply.Stop.{Stop}

@@ -28,11 +28,7 @@ pub(crate) struct Chosen {
 }
 
 // The stamp of a free frame.
-#[tactic(
-    auto,
-    using(crate::proofs::Finding::free_told),
-    unfolding(xp_board::specs::Readings::is_free)
-)]
+#[tactic(auto, using(crate::proofs::Finding::free_told), unfolding(xp_board::specs::Readings::is_free))]
 fn free_stamp(word: u64) -> Option<u64>
     ensures some { IfSome result (λ stamp. FreeWord word stamp) }
     ensures none { IfNone result (is_free word ≡ false) }

@@ -1,4 +1,4 @@
-use Rattle.std.proofs.Common.{◌≡◌, ℕ, ◌+◌, ◌%◌, ◌^◌, ◌≤◌, [], length, Err, Ok, ap, refl, sym, ◌∙◌, subst}
+use Rattle.std.proofs.Common.{◌≡◌, ℕ, ◌+◌, ◌%◌, ◌^◌, ◌≤◌, [], length, Err, Ok, ap, sym, ◌∙◌, subst}
 use Rattle.std.proofs.lemmas.Result.{err_from_is_err_and}
 use Rattle.xp_board.specs.Readings.{domain_of}
 use Rattle.xp_board.specs.Told.{Post, PortValue}
@@ -53,9 +53,11 @@ returns-in-Err-clause-serves g c =
     let took = c.in-Err.ensures.took in
     let n = ap (λ (y : PortValue). y.post.machine) c.in_ok-charge.ensures.hand in
     let own = c.requires.own ∙ sym (ap (λ (q : Post). domain_of q.machine q.vcpu) (post_there v x u c.args.owner c.size_of-size.result c.in_ok-charge.ensures.hand took)) in
-    subst (λ k. (j : ℕ) × ServesWhole v w j k (missed v.post.machine c.in-Err.stop)) c.size_of-size.ensures.power
-    (b, pages_last v u w b c.size_of-size.result _ (pages_first v x u b c.size_of-size.result _ c.in_ok-charge.ensures.serves (same_missed x.post.machine v.post.machine x u b c.size_of-size.result c.in-Err.stop n c.in-Err.ensures.serves.1))
-    (pages_back u w c.args.owner _ _ own c.refund_pages.ensures.moves))
+    subst (λ k. (j : ℕ) × ServesWhole v w j k (missed v.post.machine c.in-Err.stop)) c.size_of-size.ensures.power (
+      b,
+      pages_last v u w b c.size_of-size.result _ (pages_first v x u b c.size_of-size.result _ c.in_ok-charge.ensures.serves (same_missed x.post.machine v.post.machine x u b c.size_of-size.result c.in-Err.stop n c.in-Err.ensures.serves.1))
+          (pages_back u w c.args.owner _ _ own c.refund_pages.ensures.moves),
+    )
 
 pub returns-in-Err-clause-hand : goal.returns-in-Err-clause-hand
 returns-in-Err-clause-hand g c =
