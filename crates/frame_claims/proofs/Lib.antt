@@ -2,16 +2,20 @@ mod Chaining
 pub mod Closing
 mod Composing
 pub mod Finding
+mod Firsts
 pub mod Heads
+mod Hinting
 mod Lasting
 mod Listing
 mod Losing
 mod Passing
 mod Refusing
+mod Setting
 pub mod Reaching
 pub mod Rows
 pub mod Serving
 mod Sizes
 mod Stopping
+mod Telling
 mod Trying
 mod Visiting
