@@ -10,6 +10,7 @@ mod Listing
 mod Losing
 mod Passing
 mod Refusing
+mod Running
 mod Setting
 pub mod Reaching
 pub mod Rows
