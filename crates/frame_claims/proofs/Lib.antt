@@ -20,3 +20,4 @@ mod Stopping
 mod Telling
 mod Trying
 mod Visiting
+mod Waiting

@@ -27,7 +27,7 @@ full_looks first count false vs t =
     (alls_then IsNoRefLook (Upwards SawFull first t.0) (λ us. (x : ℕ) × (x ≢ 2 ^ 64 - 1) × Only (saw_map t.0 x) us) (alls_up IsNoRefLook SawFull first t.0 (λ w. alls_one IsNoRefLook (saw_map w (2 ^ 64 - 1)) refl))
     (λ us o. alls_one IsNoRefLook (saw_map t.0 o.0) refl us o.2) vs t.3)
 
-module _ (n : Machine) (m : Words) (agrees : MapAgrees n m) (small : (p : Place) → m p < 2 ^ 64) where
+module _ (n : Machine) (m : Words) (agrees : MapAgrees n m) (small : (w : ℕ) → m (Map w) < 2 ^ 64) where
   -- ---- a block of several words
   module _ (words : ℕ) (some : 0 < 64 * words) where
     abbrev size : ℕ
@@ -65,7 +65,7 @@ module _ (n : Machine) (m : Words) (agrees : MapAgrees n m) (small : (p : Place)
           let to = t.2 in
           let last = (seen_parts m vs t.3.before t.3.after t.3.list seen).1 in
           let is = seen_one m t.3.after (saw_map w t.3.next.0) t.3.next.2 last in
-          t.3.next.1 (is ∙ full_of (m (Map w)) (small (Map w)) (λ i low. bit_there w i from to low))
+          t.3.next.1 (is ∙ full_of (m (Map w)) (small w) (λ i low. bit_there w i from to low))
         where
           bit_there : (w i : ℕ) → block * words ≤ w → w < block * words + words → i < 64 → is_bit i (m (Map w)) ≡ true
           bit_there w i from to low =
