@@ -8,7 +8,9 @@ mod Hinting
 mod Lasting
 mod Listing
 mod Losing
+mod Outcomes
 mod Passing
+mod Plainly
 mod Refusing
 mod Running
 mod Setting
