@@ -7,6 +7,7 @@ pub mod Heads
 mod Hinting
 mod Lasting
 mod Listing
+mod Lone
 mod Losing
 mod Outcomes
 mod Passing

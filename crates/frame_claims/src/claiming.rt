@@ -2,13 +2,16 @@
 ghost use Rattle.std.specs.Prelude.{◌≡◌, ◌+◌, ◌*◌, ◌/◌, ◌%◌, ◌^◌, ◌<◌, ◌≤◌, [], length, IfSome, IfErr, IfOk, MatchResult};
 ghost use Rattle.xp_board.specs.Lists.{times};
 ghost use Rattle.xp_board.specs.Readings.{domain_of};
+ghost use Rattle.xp_board.specs.Told.{told_word};
 ghost use Rattle.step_maker.specs.Holds.{FlushedSame, Holds, MayWork, Rests, Same};
 ghost use Rattle.answer_fits.specs.Answers.{misses};
 ghost use Rattle.answer_fits.specs.Visits.{Does};
+ghost use Rattle.answer_laws.specs.Alone.{IsAlone};
 ghost use Rattle.claim_words.specs.Claims.{charged, uncharged};
 ghost use Rattle.frame_claims.specs.Blocks.{HasRow, IsBlockSize, IsPlain};
 ghost use Rattle.frame_claims.specs.Claiming.{IsClaimStop, ServesClaim, ServesPages, ServesTaken, StopsClaim, StopsPages, Took};
 ghost use Rattle.frame_claims.specs.Found.{ChargedBy, ClaimsBy, TookBy};
+ghost use Rattle.frame_claims.specs.Plain.{ClaimsPlainly, ref_looks};
 
 use crate::choosing::{Stamps, choose};
 use crate::giving::give_block;
@@ -101,6 +104,9 @@ pub fn claim<P: Port>(port: &mut P, owner: u16, order: u8, gpfn: Option<u64>) ->
     ensures kinds { IfErr result IsClaimStop }
     ensures hand { FlushedSame (P.value port.old) (P.value port.new) }
     ensures found { Does (P.value port.old) (P.value port.new) (λ vs. ClaimsBy (P.value port.old).post owner (2 ^ order) gpfn result vs) }
+    // Where nobody else holds anything: it is the first free block, and no reference word is looked at but those of its frames.
+    ensures plain { IsAlone (P.value port.old) → ClaimsPlainly (P.value port.old).post.machine (told_word (P.value port.old)) owner (2 ^ order) result }
+    ensures bound { IsAlone (P.value port.old) → IfOk result (λ f. Does (P.value port.old) (P.value port.new) (λ vs. ref_looks vs ≡ 2 ^ order)) }
 {
     let size = size_of(order);
     charge(port, owner, size)?;

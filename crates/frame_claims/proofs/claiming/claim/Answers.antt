@@ -13,6 +13,8 @@ use Rattle.frame_claims.proofs.Stopping.{claim_stops, no_credit, pages_stop, whe
 use Rattle.answer_fits.specs.Visits.{Does}
 use Rattle.frame_claims.specs.Found.{ClaimsBy}
 use Rattle.frame_claims.proofs.Chaining.{answers, claim_had, claim_stopped, claim_uncounted}
+use Rattle.frame_claims.proofs.Lone.{lone_answer, lone_bound, lone_had, lone_stops}
+use Rattle.frame_claims.proofs.Sizes.{block_size}
 use Rattle.frame_claims.proofs.claiming.claim.Goals as goal
 
 pub take-requires-clause-row : goal.take-requires-clause-row
@@ -111,3 +113,31 @@ returns-in-Err-clause-found g c =
     let w = g.P.Port.value c.refund_pages.new.port in
     subst (λ k. Does v w (λ vs. ClaimsBy v.post c.args.owner k c.args.gpfn (Err c.in-Err.stop) vs)) c.size_of-size.ensures.power
     (claim_stopped v x u w c.args.owner c.size_of-size.result c.args.gpfn c.in_ok-charge.ensures.visits c.in-Err.stop c.in-Err.ensures.visits c.refund_pages.result c.from.result c.from.ensures c.refund_pages.ensures.moves)
+
+pub returns-in_err-charge-clause-plain : goal.returns-in_err-charge-clause-plain
+returns-in_err-charge-clause-plain g c alone =
+    let v = g.P.Port.value c.args.port.now in
+    let x = g.P.Port.value c.charge.new.port in
+    let answer = err_from_is_err_and c.from_residual.result c.from_residual.ensures.1 in
+    lone_answer v alone c.requires.rests.empty x c.args.owner (2 ^ c.args.order) (block_size c.args.order c.requires.order) c.args.gpfn c.from_residual.result c.in_err-charge.field-0.0 (answer.1 ∙ ap Err answer.2)
+    (subst (λ k. StopsClaim v x k c.in_err-charge.field-0.0) c.size_of-size.ensures.power (pages_stop v x c.size_of-size.result _ c.in_err-charge.ensures.stops)) (returns-in_err-charge-clause-found g c)
+
+pub returns-in-Err-clause-plain : goal.returns-in-Err-clause-plain
+returns-in-Err-clause-plain g c alone =
+    lone_stops (g.P.Port.value c.args.port.now) alone c.requires.rests.empty (g.P.Port.value c.refund_pages.new.port) c.args.owner (2 ^ c.args.order) (block_size c.args.order c.requires.order) c.args.gpfn c.in-Err.stop
+    (returns-in-Err-clause-stops g c) (returns-in-Err-clause-found g c)
+
+pub returns-in-Ok-clause-plain : goal.returns-in-Ok-clause-plain
+returns-in-Ok-clause-plain g c alone =
+    lone_had (g.P.Port.value c.args.port.now) alone c.requires.rests.empty (g.P.Port.value c.give_block.new.port) c.args.owner (2 ^ c.args.order) (block_size c.args.order c.requires.order) c.args.gpfn c.in-Ok.first
+    (returns-in-Ok-clause-found g c)
+
+pub returns-in-Ok-clause-bound : goal.returns-in-Ok-clause-bound
+returns-in-Ok-clause-bound g c alone =
+    lone_bound (g.P.Port.value c.args.port.now) alone c.requires.rests.empty (g.P.Port.value c.give_block.new.port) c.args.owner (2 ^ c.args.order) (block_size c.args.order c.requires.order) c.args.gpfn c.in-Ok.first
+    (returns-in-Ok-clause-found g c)
+
+pub returns-in_err-charge-clause-bound : goal.returns-in_err-charge-clause-bound
+returns-in_err-charge-clause-bound g c alone =
+    let answer = err_from_is_err_and c.from_residual.result c.from_residual.ensures.1 in
+    rw (answer.1 ∙ ap Err answer.2) tt
