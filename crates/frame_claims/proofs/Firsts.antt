@@ -1,23 +1,17 @@
 -- The first block that is wholly free: by words of the map, by runs of words, by the reference words.
-use Rattle.std.proofs.Common.{◌≡◌, ◌≢◌, ℕ, zero, suc, ◌+◌, ◌-◌, ◌*◌, ◌/◌, ◌%◌, ◌^◌, ◌<◌, ◌≤◌, ◌⊎◌, Bool, true, false, List, [], ◌∷◌, ◌++◌, length, slice_index, Option, Some, None, refl, sym, ap, ◌∙◌, subst, inl, inr, arith}
+use Rattle.std.proofs.Common.{◌≡◌, ℕ, zero, suc, ◌+◌, ◌-◌, ◌*◌, ◌/◌, ◌%◌, ◌<◌, ◌≤◌, ◌⊎◌, List, Option, Some, None, sym, ap, ◌∙◌, subst, inl, inr, arith}
 use Rattle.std.proofs.Math.Nat.{div-add-mod, le-div_iff_mul-le, mod-lt, mul_comm}
 use Rattle.std.proofs.lemmas.Bool.{cases_order}
-use Rattle.xp_words.specs.Entries.{is_bit}
 use Rattle.xp_words.specs.Machine.{Machine}
 use Rattle.xp_words.specs.Places.{map_words, sizes_of}
-use Rattle.xp_words.specs.declared.place.Place.{Place}
-use Rattle.xp_words.specs.declared.place.Place.TheVariants.{Map, Refs}
-use Rattle.xp_board.specs.Readings.{is_free}
 use Rattle.step_maker.specs.Plain.{Words}
-use Rattle.answer_fits.specs.Visits.{Visit, Nothing, Only, Then}
-use Rattle.frame_claims.specs.Blocks.{IsBlockSize}
+use Rattle.answer_fits.specs.Visits.{Visit, Only}
 use Rattle.frame_claims.specs.Found as founds
 use Rattle.frame_claims.specs.Found.{BlockBy, ChosenBy, FirstOf, FreeBlock, FullBy, HintedBy, InWordBy, PassBy, RunBy, ScannedBy, SawFull, TriedBy, TriedWhere, Upwards, WordBy, saw_map}
-use Rattle.frame_claims.specs.Plain.{IsFirstFree, IsWhollyFree, MapAgrees, NoneBelow, ref_looks}
-use Rattle.frame_claims.proofs.Finding.{bits_aligned, block_aligned, block_fits}
-use Rattle.frame_claims.proofs.Hinting.{IsHere, Seen, block_none, block_some, free_bit, looks_none, looks_then, looks_tried, seen_one, seen_parts, seen_up, tried_free, tried_taken}
-use Rattle.frame_claims.proofs.Setting.{full_bits, full_of}
-use Rattle.frame_claims.proofs.Telling.{IsNoRefLook, alls_one, alls_then, alls_up, looks_append, no_looks}
+use Rattle.frame_claims.specs.Plain.{IsFirstFree, IsWhollyFree, MapAgrees, ref_looks}
+use Rattle.frame_claims.proofs.Finding.{bits_aligned, block_fits}
+use Rattle.frame_claims.proofs.Hinting.{IsHere, Seen, block_none, block_some, looks_none, looks_then, seen_one, seen_parts}
+use Rattle.frame_claims.proofs.Telling.{looks_append}
 
 -- ---- the first of several
 module _ (m : Words) (k n : ℕ) (P : ℕ → Option FreeBlock → List Visit → Type 0) (C : ℕ → Type 0) (D : ℕ → FreeBlock → Type 0)
@@ -92,7 +86,7 @@ module _ (n : Machine) (m : Words) (agrees : MapAgrees n m) (k : ℕ) (some : 0 
         let seens = seen_parts m us t.1.before t.1.after t.1.list seen in
         let is = seen_one m t.1.before (saw_map w t.0) t.1.first seens.0 in
         let rest = firsts_fail m k (64 / k) (BlockBy n k w t.0) (NotAt w) (λ at c. IsHere n m k (64 * w + k * at) c) (λ at low ws s see. block_none n m agrees k w at some (room at low) t.0 ws is s see)
-            (λ at low b ws s see. block_some n m agrees k w at some (room at low) t.0 ws b is s see) t.1.after t.1.next seens.1 in
+        (λ at low b ws s see. block_some n m agrees k w at some (room at low) t.0 ws b is s see) t.1.after t.1.next seens.1 in
         let one : ref_looks t.1.before ≡ 0 = ap ref_looks t.1.first in
         let all = looks_then m (Only (saw_map w t.0)) (λ ws. InWordBy n k w t.0 None ws) us t.1 in
         let none = rest.0 in
@@ -103,7 +97,7 @@ module _ (n : Machine) (m : Words) (agrees : MapAgrees n m) (k : ℕ) (some : 0 
         let seens = seen_parts m us t.1.before t.1.after t.1.list seen in
         let is = seen_one m t.1.before (saw_map w t.0) t.1.first seens.0 in
         let rest = firsts_had m k (64 / k) (BlockBy n k w t.0) (NotAt w) (λ at c. IsHere n m k (64 * w + k * at) c) (λ at low ws s see. block_none n m agrees k w at some (room at low) t.0 ws is s see)
-            (λ at low c ws s see. block_some n m agrees k w at some (room at low) t.0 ws c is s see) b t.1.after t.1.next seens.1 in
+        (λ at low c ws s see. block_some n m agrees k w at some (room at low) t.0 ws c is s see) b t.1.after t.1.next seens.1 in
         let one : ref_looks t.1.before ≡ 0 = ap ref_looks t.1.first in
         let all = looks_then m (Only (saw_map w t.0)) (λ ws. InWordBy n k w t.0 (Some b) ws) us t.1 in
         let k_is = rest.0 in
@@ -122,8 +116,7 @@ module _ (n : Machine) (m : Words) (agrees : MapAgrees n m) (k : ℕ) (some : 0 
 
     pub words_fail : (vs : List Visit) → FirstOf (WordBy n k) (map_words (sizes_of n)) None vs → Seen m vs → (ref_looks vs ≡ 0) × ((b : ℕ) → b * k + k ≤ n.frames → IsWhollyFree m k (b * k) → ⊥)
     words_fail vs t seen =
-        let all = firsts_fail m k (map_words (sizes_of n)) (WordBy n k) NotIn FreeIn (λ w low us s see. word_fails w us s see) (λ w low b us s see. word_had w b us s see) vs t seen in
-        (
+        let all = firsts_fail m k (map_words (sizes_of n)) (WordBy n k) NotIn FreeIn (λ w low us s see. word_fails w us s see) (λ w low b us s see. word_had w b us s see) vs t seen in (
           all.0,
           λ b fits free.
               (let w = b / (64 / k) in
@@ -143,8 +136,7 @@ module _ (n : Machine) (m : Words) (agrees : MapAgrees n m) (k : ℕ) (some : 0 
         let all = firsts_had m k (map_words (sizes_of n)) (WordBy n k) NotIn FreeIn (λ w low us s see. word_fails w us s see) (λ w low c us s see. word_had w c us s see) b vs t seen in
         let w = all.1.0 in
         let found = all.1.2 in
-        let is = found.block.first in
-        (
+        let is = found.block.first in (
           all.0,
           record {
             aligned = subst (λ f. f % k ≡ 0) (sym is) (bits_aligned w found.at k some parts);

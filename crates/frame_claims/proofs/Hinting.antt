@@ -1,12 +1,10 @@
 -- Blocks by the map of free frames, where its bits are those of the free frames: a block that is tried is free, and one that is not tried is not.
-use Rattle.std.proofs.Common.{◌≡◌, ◌≢◌, ℕ, zero, suc, ◌+◌, ◌-◌, ◌*◌, ◌/◌, ◌%◌, ◌^◌, ◌<◌, ◌≤◌, ◌==◌, ◌&&◌, ◌⊎◌, nat_le, Bool, true, false, List, [], ◌∷◌, ◌++◌, length, slice_index, Option, Some, None, IsTrue, refl, sym, ap, ◌∙◌, subst, inl, inr, arith}
-use Rattle.std.proofs.Math.Nat.{div-add-mod, mod-lt}
-use Rattle.std.proofs.lemmas.Bool.{and_parts}
+use Rattle.std.proofs.Common.{◌≡◌, ℕ, ◌+◌, ◌*◌, ◌/◌, ◌%◌, ◌<◌, ◌≤◌, ◌&&◌, ◌⊎◌, nat_le, Bool, true, false, List, ◌++◌, length, slice_index, Some, None, refl, sym, ap, ◌∙◌, subst, inl, inr, arith}
+use Rattle.std.proofs.Math.Nat.{div-add-mod}
 use Rattle.std.proofs.lemmas.Bool.Decides.{nat_tests}
 use Rattle.std.proofs.lemmas.Nat.{div-mul-add}
 use Rattle.xp_words.specs.Entries.{is_bit}
 use Rattle.xp_words.specs.Machine.{Machine}
-use Rattle.xp_words.specs.declared.place.Place.{Place}
 use Rattle.xp_words.specs.declared.place.Place.TheVariants.{Map, Refs}
 use Rattle.xp_board.specs.Lists.{EachOf}
 use Rattle.xp_board.specs.Readings.{is_free}
@@ -16,8 +14,8 @@ use Rattle.answer_fits.specs.Visits.{Visit, Nothing, Only, Then}
 use Rattle.frame_claims.specs.Found as founds
 use Rattle.frame_claims.specs.Found.{BlockBy, FirstOf, FreeAt, FreeBlock, FullBy, InWordBy, PassBy, RunBy, SawFree, SawFull, SawTaken, TriedBy, TriedWhere, Upwards, WordBy, are_set, saw_map, saw_refs}
 use Rattle.frame_claims.specs.Plain.{IsWhollyFree, MapAgrees, ref_looks}
-use Rattle.frame_claims.proofs.Setting.{bits_of, full_bits, full_of, set_of}
-use Rattle.frame_claims.proofs.Telling.{IsNoRefLook, Saw, alls_one, alls_up, each_parts, looks_append, no_looks}
+use Rattle.frame_claims.proofs.Setting.{bits_of, set_of}
+use Rattle.frame_claims.proofs.Telling.{Saw, each_parts, looks_append}
 use Rattle.frame_claims.proofs.Trying.{both_hold, fits_in}
 
 -- a block that is free, and is the one that is answered

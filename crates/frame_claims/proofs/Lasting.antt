@@ -1,13 +1,9 @@
 -- Steps elsewhere: what was last found or left at a place stays so.
-use Rattle.std.proofs.Common.{◌≡◌, ◌≢◌, ℕ, ◌<◌, ◌≤◌, Bool, true, false, List, [], ◌∷◌, length, Option, None, Result, Ok, Err, refl, sym, ◌∙◌, subst, inl, inr, arith}
-use Rattle.xp_words.specs.Machine.{Machine}
+use Rattle.std.proofs.Common.{◌≡◌, ◌≢◌, ℕ, ◌<◌, ◌≤◌, List, [], ◌∷◌, length, Option, Result, refl, sym, ◌∙◌, subst, arith}
 use Rattle.xp_words.specs.Places.{sizes_of}
 use Rattle.xp_words.specs.declared.place.Place.{Place}
 use Rattle.xp_words.specs.declared.place.Place.TheVariants.{Refs}
-use Rattle.xp_words.specs.declared.reply.Pause.TheVariants.{Flush}
-use Rattle.xp_words.specs.declared.reply.Refusal.{Refusal}
 use Rattle.xp_words.specs.declared.reply.Stop.{Stop}
-use Rattle.xp_words.specs.declared.reply.Stop.TheVariants.{Refused, Paused}
 use Rattle.xp_board.specs.declared.step.Act.{Act}
 use Rattle.xp_board.specs.declared.step.Mark.{Mark}
 use Rattle.xp_board.specs.declared.step.StepKind.{StepKind}
@@ -16,14 +12,10 @@ use Rattle.xp_board.specs.Steps.{last_since}
 use Rattle.xp_board.specs.Told.{Post, PortValue}
 use Rattle.step_maker.specs.Moves.{Came, Met, Moment, Moves, Ran}
 use Rattle.step_maker.proofs.Coming.{came_post}
-use Rattle.answer_fits.specs.Reasons.{OfOwner, Those, Whose}
-use Rattle.answer_fits.specs.Visits.{Visit, visits, Does, Nothing, Only, Then}
-use Rattle.answer_fits.proofs.Piecing.{each_append}
-use Rattle.flush_words.specs.Flushing as flushing
-use Rattle.flush_words.specs.Flushing.{FlushedBy}
+use Rattle.answer_fits.specs.Reasons.{Whose}
+use Rattle.answer_fits.specs.Visits.{Visit, visits, Does}
 use Rattle.flush_words.proofs.Lasting.{came_longer, last_kept, moves_longer}
-use Rattle.flush_waits.specs.Listing as waits
-use Rattle.flush_waits.specs.Listing.{LooksAt, Slow, WaitedFor, WaitsInOrder, WeighsBy}
+use Rattle.flush_waits.specs.Listing.{WaitedFor}
 use Rattle.frame_claims.specs.Choosing.{KeepsLast}
 use Rattle.frame_claims.proofs.Telling.{Alls}
 use Rattle.frame_claims.proofs.Waiting.{not_refs, waited_all}

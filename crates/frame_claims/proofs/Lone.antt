@@ -1,25 +1,20 @@
 -- A vCPU that is alone and holds nothing: the map of free frames has the bits of the free frames, and no exchange of a claim is lost.
-use Rattle.std.proofs.Common.{◌≡◌, ◌≢◌, ℕ, ◌+◌, ◌^◌, ◌<◌, ◌≤◌, Bool, true, false, List, [], is_some, Option, Some, None, Result, Ok, Err, IfOk, refl, sym, ap, ◌∙◌, subst, inl, inr, arith}
+use Rattle.std.proofs.Common.{◌≡◌, ℕ, ◌^◌, ◌<◌, Bool, true, false, [], is_some, Option, Result, Ok, Err, refl, sym, ap, ◌∙◌, subst, inl, inr, arith}
 use Rattle.std.proofs.lemmas.Bool.{cases_eq}
-use Rattle.xp_words.specs.Machine.{Machine}
 use Rattle.xp_words.specs.Places.{sizes_of}
 use Rattle.xp_words.specs.RefWords.{bit}
-use Rattle.xp_words.specs.declared.place.Place.{Place}
 use Rattle.xp_words.specs.declared.place.Place.TheVariants.{Map, Refs}
-use Rattle.xp_words.specs.declared.reply.Pause.TheVariants.{Lost}
 use Rattle.xp_words.specs.declared.reply.Stop.{Stop}
-use Rattle.xp_words.specs.declared.reply.Stop.TheVariants.{Paused}
 use Rattle.xp_board.specs.declared.holdings.Holdings.{Holdings}
 use Rattle.xp_board.specs.Hands.{IsEmptyHand}
 use Rattle.xp_board.specs.Lists.{times, times_by}
 use Rattle.xp_board.specs.Readings.{is_free}
 use Rattle.xp_board.specs.Recorded.{hands}
 use Rattle.xp_board.specs.Sound.{hand_of, is_hinted}
-use Rattle.xp_board.specs.Told.{Post, PortValue, Story, is_telling, told_word, word_in}
+use Rattle.xp_board.specs.Told.{PortValue, Story, is_telling, told_word, word_in}
 use Rattle.board_lemmas.proofs.Sums.{sum_below-none}
-use Rattle.answer_fits.specs.Answers.{Stops}
 use Rattle.answer_fits.specs.Asked.{Request, of_block}
-use Rattle.answer_fits.specs.Visits.{Visit, Does}
+use Rattle.answer_fits.specs.Visits.{Does}
 use Rattle.answer_laws.specs.Alone.{IsAlone}
 use Rattle.answer_laws.proofs.NothingLost.{never_lost}
 use Rattle.frame_claims.specs.Blocks.{IsBlockSize}

@@ -1,16 +1,12 @@
 -- What a claim comes to on a board that tells all words, and by how many looks at reference words.
-use Rattle.std.proofs.Common.{◌≡◌, ◌≢◌, ℕ, ◌+◌, ◌*◌, ◌/◌, ◌%◌, ◌^◌, ◌<◌, ◌≤◌, ◌⊎◌, true, false, List, [], ◌∷◌, ◌++◌, length, Option, Some, None, Result, Ok, Err, IfOk, refl, sym, ap, ◌∙◌, subst, inl, inr, arith}
+use Rattle.std.proofs.Common.{◌≡◌, ◌≢◌, ℕ, ◌+◌, ◌*◌, ◌/◌, ◌%◌, ◌^◌, ◌<◌, ◌≤◌, List, Option, Some, None, Result, Ok, Err, refl, sym, ap, ◌∙◌, subst, inl, inr, arith}
 use Rattle.xp_words.specs.Entries.{is_bit}
-use Rattle.xp_words.specs.Machine.{Machine}
 use Rattle.xp_words.specs.declared.place.Place.{Place}
 use Rattle.xp_words.specs.declared.place.Place.TheVariants.{Map, Pages, Refs}
 use Rattle.xp_words.specs.declared.reply.Pause.TheVariants.{Flush, Lost}
-use Rattle.xp_words.specs.declared.reply.Refusal.{Refusal}
-use Rattle.xp_words.specs.declared.reply.Refusal.TheVariants as refusals
 use Rattle.xp_words.specs.declared.reply.Stop.{Stop}
 use Rattle.xp_words.specs.declared.reply.Stop.TheVariants.{Refused, Paused}
-use Rattle.xp_board.specs.Readings.{is_free, last_clock}
-use Rattle.xp_board.specs.Sound.{is_hinted}
+use Rattle.xp_board.specs.Readings.{is_free}
 use Rattle.xp_board.specs.Told.{Post}
 use Rattle.step_maker.specs.Plain.{Words}
 use Rattle.answer_fits.specs.Reasons.{Those}
@@ -19,7 +15,7 @@ use Rattle.flush_waits.specs.Listing.{WaitedFor}
 use Rattle.flush_waits.specs.Waiting.{everyone}
 use Rattle.frame_claims.specs.Blocks.{IsBlockSize}
 use Rattle.frame_claims.specs.Choosing.{greatest}
-use Rattle.frame_claims.specs.Found.{AllGivenBy, ChargedBy, ChosenBy, ClaimsBy, FlushedFor, FreeBlock, RefundedBy, TakenBy, TookBy}
+use Rattle.frame_claims.specs.Found.{AllGivenBy, ChargedBy, ChosenBy, ClaimsBy, FlushedFor, FreeBlock, TakenBy, TookBy}
 use Rattle.frame_claims.specs.Plain.{ClaimsPlainly, HasRoom, IsFirstFree, IsWhollyFree, MapAgrees, ref_looks}
 use Rattle.frame_claims.proofs.Hinting.{looks_then}
 use Rattle.frame_claims.proofs.Plainly.{aside_quiet, charge_stops, charged_away, charged_quiet, chosen_looks, given_quiet, room_by, taken_quiet}

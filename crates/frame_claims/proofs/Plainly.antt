@@ -1,31 +1,20 @@
 -- A claim on a board that tells all words, by the list of its steps.
-use Rattle.std.proofs.Common.{◌≡◌, ◌≢◌, ℕ, ◌+◌, ◌-◌, ◌*◌, ◌/◌, ◌%◌, ◌^◌, ◌<◌, ◌≤◌, ◌==◌, ◌⊎◌, if◌then◌else◌, Bool, true, false, List, [], ◌∷◌, ◌++◌, length, slice_index, Option, Some, None, Result, Ok, Err, IfOk, refl, sym, ap, ◌∙◌, subst, inl, inr, arith}
-use Rattle.xp_words.specs.Entries.{is_bit}
+use Rattle.std.proofs.Common.{◌≡◌, ◌≢◌, ℕ, ◌+◌, ◌-◌, ◌*◌, ◌/◌, ◌^◌, ◌≤◌, Bool, true, false, List, length, slice_index, Option, Some, None, Ok, Err, refl, sym, ap, subst, inl, inr, arith}
 use Rattle.xp_words.specs.Machine.{Machine}
 use Rattle.xp_words.specs.Places.{map_words, sizes_of}
 use Rattle.xp_words.specs.declared.place.Place.{Place}
 use Rattle.xp_words.specs.declared.place.Place.TheVariants.{Clock, Pages, Life, Vcpu, Refs, Kind, M2p, Cell, Map, Priv}
-use Rattle.xp_words.specs.declared.reply.Pause.TheVariants.{Flush, Lost}
-use Rattle.xp_words.specs.declared.reply.Refusal.{Refusal}
+use Rattle.xp_words.specs.declared.reply.Pause.TheVariants.{Lost}
 use Rattle.xp_words.specs.declared.reply.Refusal.TheVariants as refusals
 use Rattle.xp_words.specs.declared.reply.Stop.{Stop}
 use Rattle.xp_words.specs.declared.reply.Stop.TheVariants.{Refused, Paused}
-use Rattle.xp_board.specs.Lists.{EachOf}
-use Rattle.xp_board.specs.Readings.{is_free, last_clock}
-use Rattle.xp_board.specs.Told.{Post}
 use Rattle.step_maker.specs.Plain.{Words}
-use Rattle.answer_fits.specs.Reasons.{Those}
-use Rattle.answer_fits.specs.Visits.{Visit, Nothing, Only, Then}
-use Rattle.flush_waits.specs.Listing.{WaitedFor}
-use Rattle.flush_waits.specs.Waiting.{everyone}
-use Rattle.frame_claims.specs.Blocks.{IsBlockSize, numbered}
-use Rattle.frame_claims.specs.Choosing.{greatest}
-use Rattle.frame_claims.specs.Found.{AllFree, AllGivenBy, BlockBy, ChargedBy, ChosenBy, ClaimsBy, FirstOf, FlushedFor, FreeAt, FreeBlock, FreesOne, FullBy, GivenBy, HintedBy, InWordBy, LoweredBy, NamedBy, OwnedBy, PassBy, RefundedBy, RunBy, SawFree, SawFull, SawTaken, ScannedBy, ScrubbedBy, ScrubsOne, TakenBy, TakesOne, TookBy, TriedBy, TriedWhere, Upwards, WordBy, counts_pages, saw_map, saw_pages, saw_refs}
-use Rattle.frame_claims.specs.Plain.{ClaimsPlainly, HasRoom, IsFirstFree, IsWhollyFree, MapAgrees, ref_look, ref_looks}
-use Rattle.frame_claims.proofs.Hinting.{looks_then}
-use Rattle.frame_claims.proofs.Running.{chosen_fails, chosen_had}
-use Rattle.frame_claims.proofs.Telling.{AllTold, Alls, IsAway, IsLook, IsNoRefLook, alls_down, alls_first, alls_nothing, alls_one, alls_then, alls_up, away_same, looks_saw, no_looks, told_parts, words_after}
-use Rattle.frame_claims.proofs.Waiting.{IsAside, is_clock, waited_all}
+use Rattle.answer_fits.specs.Visits.{Visit, Only, Then}
+use Rattle.frame_claims.specs.Blocks.{numbered}
+use Rattle.frame_claims.specs.Found.{AllGivenBy, BlockBy, ChargedBy, ChosenBy, FreeAt, FreeBlock, FullBy, GivenBy, HintedBy, InWordBy, LoweredBy, NamedBy, OwnedBy, PassBy, RunBy, SawFree, SawFull, SawTaken, ScannedBy, ScrubbedBy, ScrubsOne, TakenBy, TakesOne, TriedBy, TriedWhere, Upwards, WordBy, counts_pages, saw_map, saw_pages, saw_refs}
+use Rattle.frame_claims.specs.Plain.{ClaimsPlainly, HasRoom, ref_look}
+use Rattle.frame_claims.proofs.Telling.{AllTold, Alls, IsAway, IsLook, IsNoRefLook, alls_down, alls_first, alls_nothing, alls_one, alls_then, alls_up, told_parts}
+use Rattle.frame_claims.proofs.Waiting.{IsAside}
 
 -- ---- the choice makes looks alone
 tried_looks : (k f : ℕ) (o : Option FreeBlock) → Alls IsLook (λ vs. TriedBy k f o vs)

@@ -1,23 +1,20 @@
 -- Blocks of several words of the map; and the choice as a whole, where the bits in the map are those of the free frames.
-use Rattle.std.proofs.Common.{◌≡◌, ◌≢◌, ℕ, zero, suc, ◌+◌, ◌-◌, ◌*◌, ◌/◌, ◌%◌, ◌^◌, ◌<◌, ◌≤◌, ◌⊎◌, Bool, true, false, List, [], ◌∷◌, ◌++◌, length, slice_index, Option, Some, None, refl, sym, ap, ◌∙◌, subst, inl, inr, arith}
-use Rattle.std.proofs.Math.Nat.{div-add-mod, le-div_iff_mul-le, mod-lt, mul_comm}
+use Rattle.std.proofs.Common.{◌≡◌, ◌≢◌, ℕ, ◌+◌, ◌-◌, ◌*◌, ◌/◌, ◌%◌, ◌^◌, ◌<◌, ◌≤◌, Bool, true, false, List, Option, Some, None, refl, sym, ap, ◌∙◌, subst, inl, inr, arith}
+use Rattle.std.proofs.Math.Nat.{div-add-mod, le-div_iff_mul-le, mod-lt}
 use Rattle.xp_words.specs.Entries.{is_bit}
 use Rattle.xp_words.specs.Machine.{Machine}
-use Rattle.xp_words.specs.Places.{map_words, sizes_of}
-use Rattle.xp_words.specs.declared.place.Place.{Place}
 use Rattle.xp_words.specs.declared.place.Place.TheVariants.{Map, Refs}
 use Rattle.xp_board.specs.Readings.{is_free}
 use Rattle.step_maker.specs.Plain.{Words}
-use Rattle.answer_fits.specs.Visits.{Visit, Nothing, Only, Then}
+use Rattle.answer_fits.specs.Visits.{Visit, Only}
 use Rattle.frame_claims.specs.Blocks.{IsBlockSize}
-use Rattle.frame_claims.specs.Found as founds
-use Rattle.frame_claims.specs.Found.{ChosenBy, FirstOf, FreeBlock, FullBy, HintedBy, PassBy, RunBy, ScannedBy, SawFull, TriedBy, TriedWhere, Upwards, WordBy, saw_map}
-use Rattle.frame_claims.specs.Plain.{IsFirstFree, IsWhollyFree, MapAgrees, NoneBelow, ref_looks}
+use Rattle.frame_claims.specs.Found.{ChosenBy, FirstOf, FreeBlock, FullBy, HintedBy, RunBy, SawFull, TriedWhere, Upwards, saw_map}
+use Rattle.frame_claims.specs.Plain.{IsFirstFree, IsWhollyFree, MapAgrees, ref_looks}
 use Rattle.frame_claims.proofs.Finding.{block_aligned, block_fits}
 use Rattle.frame_claims.proofs.Firsts.{firsts_fail, firsts_had, words_fail, words_had}
 use Rattle.frame_claims.proofs.Hinting.{IsHere, Seen, free_bit, looks_none, looks_then, looks_tried, seen_one, seen_parts, seen_up, tried_free, tried_taken}
 use Rattle.frame_claims.proofs.Setting.{full_bits, full_of}
-use Rattle.frame_claims.proofs.Telling.{IsNoRefLook, alls_one, alls_then, alls_up, looks_append, no_looks}
+use Rattle.frame_claims.proofs.Telling.{IsNoRefLook, alls_one, alls_then, alls_up, no_looks}
 
 -- ---- looks at the map alone
 full_looks : (first count : ℕ) (b : Bool) (vs : List Visit) → FullBy first count b vs → ref_looks vs ≡ 0
@@ -121,8 +118,7 @@ module _ (n : Machine) (m : Words) (agrees : MapAgrees n m) (small : (w : ℕ) �
     runs_had c vs t seen =
         let all = firsts_had m size (n.frames / size) (RunBy words) NotFree (λ b c. IsHere n m size (b * size) c) (λ b low us s see. run_fails b (fits_by b low) us s see) (λ b low c us s see. run_had b (fits_by b low) c us s see) c vs t seen in
         let i = all.1.0 in
-        let h = all.1.2 in
-        (
+        let h = all.1.2 in (
           all.0,
           record {
             aligned = subst (λ f. f % size ≡ 0) (sym h.first) (block_aligned i size some);

@@ -1,8 +1,8 @@
 -- Where the steps of a wait for flushes are: at words of vCPUs, the clock, and words of privileges.
-use Rattle.std.proofs.Common.{◌≡◌, ◌≢◌, ◌⊎◌, ℕ, ◌+◌, Bool, true, false, List, [], ◌∷◌, Option, Some, None, Result, Ok, Err, refl, sym, subst, inl, inr}
+use Rattle.std.proofs.Common.{◌≡◌, ℕ, Bool, true, false, List, Option, None, Result, Ok, Err, refl, sym, subst, inl, inr}
 use Rattle.xp_words.specs.Machine.{Machine}
 use Rattle.xp_words.specs.declared.place.Place.{Place}
-use Rattle.xp_words.specs.declared.place.Place.TheVariants.{Clock, Pages, Life, Vcpu, Refs, Kind, M2p, Cell, Map, Priv}
+use Rattle.xp_words.specs.declared.place.Place.TheVariants.{Clock, Vcpu, Refs, Priv}
 use Rattle.xp_words.specs.declared.reply.Pause.TheVariants.{Flush}
 use Rattle.xp_words.specs.declared.reply.Refusal.{Refusal}
 use Rattle.xp_words.specs.declared.reply.Refusal.TheVariants as refusals
@@ -12,7 +12,7 @@ use Rattle.xp_board.specs.Lists.{EachOf}
 use Rattle.xp_board.specs.Readings.{last_clock}
 use Rattle.xp_board.specs.Told.{Post}
 use Rattle.answer_fits.specs.Reasons.{OfOwner, Those, Whose}
-use Rattle.answer_fits.specs.Visits.{Visit, Nothing, Only, Then}
+use Rattle.answer_fits.specs.Visits.{Visit, Only, Then}
 use Rattle.answer_fits.proofs.Piecing.{each_append}
 use Rattle.flush_words.specs.Flushing as flushing
 use Rattle.flush_words.specs.Flushing.{FlushedBy}
