@@ -1,16 +1,15 @@
 -- A claim, put together: pages, the choice, the wait, the block; and what is in hand behind each.
-use Rattle.std.proofs.Common.{◌≡◌, ◌≢◌, ℕ, suc, zero, ◌+◌, ◌-◌, ◌/◌, ◌%◌, ◌*◌, ◌^◌, ◌<◌, ◌≤◌, ◌==◌, ◌++◌, true, List, [], ◌∷◌, length, slice_index, Some, None, Result, Ok, Err, IfErr, refl, sym, ap, ◌∙◌, subst, arith, append-nil}
+use Rattle.std.proofs.Common.{◌≡◌, ◌≢◌, ℕ, suc, zero, ◌+◌, ◌-◌, ◌/◌, ◌%◌, ◌*◌, ◌<◌, ◌≤◌, ◌++◌, List, [], ◌∷◌, length, slice_index, None, Result, Err, refl, sym, ap, ◌∙◌, subst, arith, append-nil}
 use Rattle.std.proofs.Math.Nat.{div-add-mod, mod-lt, mul_comm}
 use Rattle.std.proofs.lemmas.Nat.{div-mul-add}
 use Rattle.xp_words.specs.Machine.{Machine}
 use Rattle.xp_words.specs.Places.{number, place_at, sizes_of}
-use Rattle.xp_words.specs.declared.place.Place.TheVariants.{Pages, Refs}
+use Rattle.xp_words.specs.declared.place.Place.TheVariants.{Pages}
 use Rattle.xp_words.specs.declared.reply.Pause.TheVariants as pauses
 use Rattle.xp_words.specs.declared.reply.Refusal.TheVariants as refusals
 use Rattle.xp_words.specs.declared.reply.Stop.{Stop}
 use Rattle.xp_words.specs.declared.reply.Stop.TheVariants.{Refused, Paused}
 use Rattle.xp_words.proofs.PlaceLaws.{place_back}
-use Rattle.xp_board.specs.declared.holdings.Holdings.{Holdings}
 use Rattle.xp_board.specs.declared.step.Act.TheVariants.{Load, Cas, Add}
 use Rattle.xp_board.specs.declared.step.StepKind.TheVariants as kinds
 use Rattle.xp_board.specs.Hands.{IsEmptyHand, empty}
@@ -20,12 +19,12 @@ use Rattle.xp_board.specs.RefSteps.{IsUnreachable}
 use Rattle.xp_board.specs.Told.{Post, PortValue}
 use Rattle.board_lemmas.proofs.ListChanges.{times-with_more_here}
 use Rattle.board_lemmas.proofs.Sums.{when_eq, when_ne}
-use Rattle.step_maker.specs.Holds.{FlushedSame, Holds, MayWork, Rests, Same, quiet, still}
+use Rattle.step_maker.specs.Holds.{FlushedSame, Holds, quiet, still}
 use Rattle.step_maker.specs.Moves.{Came, Met, Moves}
 use Rattle.step_maker.proofs.Coming.{came_post}
 use Rattle.answer_fits.specs.Answers.{Deed, Misses, Serves, deeds_by, missed, missed_at}
 use Rattle.answer_fits.specs.Asked.{Request}
-use Rattle.answer_fits.specs.Reasons.{AwaitsStamp, FoundFreeBy, MayCountPages, Those, free, taken}
+use Rattle.answer_fits.specs.Reasons.{AwaitsStamp, FoundFreeBy, Those, free, taken}
 use Rattle.answer_fits.proofs.Piecing.{serves_nothing, serves_step, serves_then}
 use Rattle.frame_words.proofs.FreeSteps.{pages_there}
 use Rattle.claim_words.specs.Claims.{charged, uncharged}
@@ -90,7 +89,7 @@ block_free v a size stamps c some f g same =
     let inside = in_block c.first size g c.latest some f.aligned f.latest.from f.latest.to same in
     let at : c.first + (g - c.first) ≡ g = (let low = inside.0 in omega (arith, low)) in
     let under : g - c.first < size = (let high = inside.1 in let low = inside.0 in omega (arith, low, high)) in
-    let seen = subst (λ k. SeenFree v a k (slice_index stamps (g - c.first))) at (f.seen (g - c.first) under) in
+    let seen = subst (λ k. SeenFree v a k (slice_index stamps (g - c.first))) at (f.seen (g - c.first) under).seen in
     let most = f.most (g - c.first) under in
     (slice_index stamps (g - c.first), seen.found, seen.free, subst (λ k. k ≤ free_stamp c.stamp) (sym (free_stamp_is _ seen.free)) (subst (λ k. slice_index stamps (g - c.first) ≤ k) (sym (free_stamp_is c.stamp f.latest.seen.free)) most))
 

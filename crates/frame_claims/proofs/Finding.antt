@@ -1,8 +1,9 @@
 -- A block that is tried: each look finds a frame free, and its stamp.
-use Rattle.std.proofs.Common.{◌≡◌, ◌≢◌, ℕ, suc, zero, ◌+◌, ◌-◌, ◌*◌, ◌/◌, ◌%◌, ◌^◌, ◌<◌, ◌≤◌, ◌==◌, ◌&&◌, ◌++◌, true, false, List, [], ◌∷◌, length, Option, Some, None, IfSome, IsTrue, refl, sym, ap, ◌∙◌, subst, inl, inr, ◌⊎◌, arith, slice_index_or}
+use Rattle.std.proofs.Common.{◌≡◌, ℕ, suc, zero, ◌+◌, ◌*◌, ◌/◌, ◌%◌, ◌<◌, ◌≤◌, ◌==◌, ◌&&◌, ◌++◌, true, List, [], ◌∷◌, length, Option, Some, None, IfSome, refl, sym, ap, ◌∙◌, subst, inl, inr, ◌⊎◌, arith, slice_index_or, max}
 use Rattle.std.proofs.Math.Nat.{add-mul-mod_self_left, le-div_iff_mul-le, mul-mod_left, zero-mod}
 use Rattle.std.proofs.lemmas.Nat.{mul-mod_first}
 use Rattle.xp_words.specs.Machine.{Machine, IsMachine}
+use Rattle.xp_words.specs.Places.{sizes_of}
 use Rattle.xp_words.specs.RefWords.{ref_read, ref_write, IsRef}
 use Rattle.xp_words.specs.declared.place.Place.{Place}
 use Rattle.xp_words.specs.declared.place.Place.TheVariants.{Map, Refs}
@@ -11,23 +12,24 @@ use Rattle.xp_words.proofs.RefLaws.{ref_write-read}
 use Rattle.xp_board.proofs.RefWords.{read_small}
 use Rattle.xp_board.specs.Acts.{left_by}
 use Rattle.xp_board.specs.Readings.{is_free}
+use Rattle.xp_board.specs.Steps.{last_since}
 use Rattle.xp_board.specs.declared.step.Act.TheVariants.{Load}
 use Rattle.xp_board.specs.declared.step.StepKind.TheVariants as kinds
 use Rattle.xp_board.specs.Told.{Post, PortValue}
 use Rattle.board_lemmas.proofs.Sums.{when_eq}
 use Rattle.step_maker.specs.Holds.{MayWork, Same}
 use Rattle.step_maker.specs.Moves.{Came, Met, Moves}
-use Rattle.step_maker.proofs.Coming.{came_post, met_after, met_before, moves_came}
+use Rattle.step_maker.proofs.Coming.{came_post, met_after, met_before, moment_of, moves_came, moves_met}
 use Rattle.step_maker.proofs.Noting.{moves_since}
-use Rattle.answer_fits.specs.Answers.{Serves}
 use Rattle.answer_fits.specs.Finding.{FoundAt}
 use Rattle.answer_fits.specs.Asked.{of_back}
-use Rattle.answer_fits.proofs.Changing.{moves_found}
 use Rattle.answer_fits.proofs.Piecing.{serves_came, serves_nothing, serves_step, serves_then}
+use Rattle.flush_words.proofs.Lasting.{last_left}
 use Rattle.flush_waits.specs.Waiting.{HadFree}
 use Rattle.flush_waits.proofs.Growing.{came_grows}
 use Rattle.frame_claims.specs.declared.choosing.Chosen.{Chosen}
-use Rattle.frame_claims.specs.Choosing.{FreeWord, IsFound, IsLatest, Looks, SeenFree}
+use Rattle.frame_claims.specs.Choosing.{FreeWord, IsFound, IsLatest, KeepsLast, Looks, SeenFree, StillFree, greatest}
+use Rattle.frame_claims.proofs.Lasting.{met_within}
 
 -- ---- words
 pub free_word : (w stamp : ℕ) → ref_read w ≡ Some (Free stamp) → w ≡ stamp
@@ -86,15 +88,29 @@ each_more P xs s all here j low =
       | inr is ↦ subst (λ k. P k (slice_index_or (xs ++ s ∷ []) k 0)) (sym is) (subst (P (length xs)) (sym (at_new xs s)) here)
     ]
 
+pub greatest_more : (xs : List ℕ) (s : ℕ) → greatest (xs ++ s ∷ []) ≡ max s (greatest xs)
+greatest_more [] s = refl
+greatest_more (x ∷ xs) s = let rest = greatest_more xs s in omega (arith, rest)
+
 -- ---- what was seen
 found_seen : (v u w : PortValue) (p : Place) (x : ℕ) → Came v u → FoundAt (Met u w) p x → FoundAt (Met v w) p x
 found_seen v u w p x came f = record { moment = f.moment; was = met_after v u w f.moment came f.was; place = f.place; word = f.word }
 
 pub seen_now : (v u w : PortValue) (f x s : ℕ) → Came v u → Moves u w (Refs f) Load kinds.Look None x → FreeWord x s → SeenFree v w f s
+unfolding moment_of
 seen_now v u w f x s came m word =
     record {
-      found = subst (λ y. FoundAt (Met v w) (Refs f) y) word.is (found_seen v u w (Refs f) x came (moves_found u w (Refs f) Load kinds.Look None x m));
+      found = record { moment = moment_of u (Refs f) Load kinds.Look None x; was = met_after v u w _ came (moves_met u w (Refs f) Load kinds.Look None x m); place = refl; word = word.is };
       free = subst (λ y. is_free y ≡ true) word.is (word_free x s word);
+    }
+
+pub still_now : (v u w : PortValue) (f x s : ℕ) → Came v u → Moves u w (Refs f) Load kinds.Look None x → FreeWord x s → StillFree v w f s
+unfolding left_by moment_of seen_now
+still_now v u w f x s came m word =
+    record {
+      seen = seen_now v u w f x s came m word;
+      last = subst (λ (q : Post). last_since (sizes_of q.machine) (length u.holdings.steps) (Refs f) w.holdings.steps ≡ Some s) (came_post v u came)
+          (last_left u w (Refs f) Load kinds.Look None x m (length u.holdings.steps) (omega arith) ∙ ap (λ y. Some y) word.is);
     }
 
 pub seen_later : (v u w : PortValue) (f s : ℕ) → Came u w → SeenFree v u f s → SeenFree v w f s
@@ -103,6 +119,25 @@ seen_later v u w f s came seen =
 
 pub seen_from : (v u w : PortValue) (f s : ℕ) → Came v u → SeenFree u w f s → SeenFree v w f s
 seen_from v u w f s came seen = record { found = found_seen v u w (Refs f) s came seen.found; free = seen.free }
+
+-- its word was kept since
+pub still_later : (v u w : PortValue) (f s : ℕ) → Came v u → Came u w → KeepsLast u w (Refs f) → StillFree v u f s → StillFree v w f s
+unfolding seen_later
+still_later v u w f s first came keeps still =
+    let k = length still.seen.found.moment.hand.steps in
+    let early : k ≤ length u.holdings.steps = (let low = (met_within v u still.seen.found.moment still.seen.found.was).1 in omega (arith, low)) in
+    record {
+      seen = seen_later v u w f s came still.seen;
+      last = subst (λ (q : Post). last_since (sizes_of q.machine) k (Refs f) w.holdings.steps ≡ last_since (sizes_of q.machine) k (Refs f) u.holdings.steps) (came_post v u first) (keeps k early) ∙ still.last;
+    }
+
+pub still_from : (v u w : PortValue) (f s : ℕ) → Came v u → StillFree u w f s → StillFree v w f s
+unfolding seen_from found_seen
+still_from v u w f s came still =
+    record {
+      seen = seen_from v u w f s came still.seen;
+      last = subst (λ (q : Post). last_since (sizes_of q.machine) (length still.seen.found.moment.hand.steps) (Refs f) w.holdings.steps ≡ Some s) (came_post v u came) still.last;
+    }
 
 -- ---- the one with the greatest stamp
 pub latest_now : (v u w : PortValue) (first f x s : ℕ) → Came v u → Moves u w (Refs f) Load kinds.Look None x → FreeWord x s → first ≤ f → IsLatest v w first (f + 1) f s
@@ -147,9 +182,10 @@ found_from v u w size stamps c looks f =
       aligned = f.aligned;
       whole = f.whole;
       low = f.low;
-      seen = λ j l. seen_from v u w _ _ came (f.seen j l);
+      seen = λ j l. still_from v u w _ _ came (f.seen j l);
       free = f.free;
       most = f.most;
+      stamp = f.stamp;
       latest = record { seen = seen_from v u w c.latest c.stamp came l.seen; had = l.had; from = l.from; to = l.to };
     }
 

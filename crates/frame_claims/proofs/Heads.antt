@@ -1,10 +1,10 @@
 -- The newest of the claimed frames: it is scrubbed, and given.
-use Rattle.std.proofs.Common.{◌≡◌, ℕ, ◌+◌, ◌-◌, ◌/◌, ◌^◌, ◌<◌, List, [], ◌∷◌, None, refl, sym, ap, ◌∙◌, subst, arith}
+use Rattle.std.proofs.Common.{◌≡◌, ℕ, List, [], ◌∷◌, refl, sym, ap, ◌∙◌, subst}
 use Rattle.xp_words.specs.Machine.{Machine, IsMachine}
 use Rattle.xp_board.specs.declared.holdings.Claimed.{Claimed}
 use Rattle.xp_board.specs.declared.holdings.Holdings.{Holdings}
 use Rattle.xp_board.specs.Lists.{times}
-use Rattle.xp_board.specs.Told.{Post, PortValue}
+use Rattle.xp_board.specs.Told.{PortValue}
 use Rattle.step_maker.specs.Holds.{Holds, Same, MayWork, still}
 use Rattle.claim_words.specs.Claims.{IsNewest, IsRaised, MayScrub, given_newest, lowered_newest, behind_newest, scrubbed_newest, scrubbed_to}
 use Rattle.frame_claims.specs.Blocks.{IsHead, IsPlain, without_head}

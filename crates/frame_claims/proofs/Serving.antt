@@ -1,14 +1,13 @@
 -- What is asked of a block's frames, and what a guest sees of the steps on them: nothing, but that they are given.
-use Rattle.std.proofs.Common.{◌≡◌, ◌≢◌, append-nil, ℕ, suc, ◌+◌, ◌-◌, ◌/◌, ◌^◌, ◌<◌, ◌≤◌, ◌==◌, ◌++◌, nat_lt, true, List, [], ◌∷◌, Some, None, IsTrue, refl, sym, ap, ◌∙◌, subst, arith}
+use Rattle.std.proofs.Common.{◌≡◌, ◌≢◌, append-nil, ℕ, suc, ◌+◌, ◌-◌, ◌/◌, ◌^◌, ◌<◌, ◌≤◌, ◌==◌, ◌++◌, nat_lt, true, List, [], ◌∷◌, None, refl, ap, subst, arith}
 use Rattle.xp_words.specs.Machine.{Machine}
-use Rattle.xp_words.specs.RefWords.{ref_read, ref_write}
-use Rattle.xp_words.specs.declared.place.Place.TheVariants.{Refs, M2p, Cell, Map, Pages}
+use Rattle.xp_words.specs.RefWords.{ref_write}
+use Rattle.xp_words.specs.declared.place.Place.TheVariants.{Refs, M2p, Cell, Map}
 use Rattle.xp_words.specs.declared.refs.RefWord.TheVariants.{Free, Owned, Dying}
 use Rattle.xp_board.specs.declared.holdings.Holdings.{Holdings}
-use Rattle.xp_board.specs.declared.holdings.Work.{Work}
 use Rattle.xp_board.specs.declared.step.Act.TheVariants.{Cas, Store, Add}
 use Rattle.xp_board.specs.declared.step.StepKind.TheVariants as kinds
-use Rattle.xp_board.specs.Hands.{empty, hand, typed_hand, refs_to, typed_to, locks_on, work_on}
+use Rattle.xp_board.specs.Hands.{empty, hand, typed_hand, work_on}
 use Rattle.xp_board.specs.HintSteps.{map_bit}
 use Rattle.xp_board.specs.Lists.{first_by, times_by}
 use Rattle.xp_board.specs.Readings.{allocated_mark}

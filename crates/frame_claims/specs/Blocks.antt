@@ -1,12 +1,12 @@
 -- Blocks of frames that are claimed: what is in hand of them, and what is asked.
-use Rattle.std.specs.Prelude.{◌≡◌, ℕ, suc, zero, ◌+◌, ◌*◌, ◌/◌, ◌%◌, ◌<◌, ◌≤◌, List, [], ◌∷◌, Option, Some, None, IsTrue}
+use Rattle.std.specs.Prelude.{◌≡◌, ℕ, suc, zero, ◌+◌, ◌-◌, ◌*◌, ◌/◌, ◌%◌, ◌^◌, ◌<◌, ◌≤◌, List, [], ◌∷◌, Option, Some, None, IsTrue}
 use Rattle.xp_board.specs.declared.holdings.Claimed.{Claimed}
 use Rattle.xp_board.specs.declared.holdings.Holdings.{Holdings}
 use Rattle.xp_board.specs.Lists.{times, with_more}
 use Rattle.xp_board.specs.Told.{PortValue}
 use Rattle.step_maker.specs.Holds.{Holds}
 use Rattle.answer_fits.specs.Answers.{Deed, Gives, Serves}
-use Rattle.answer_fits.specs.Asked.{Request, of_frame}
+use Rattle.answer_fits.specs.Asked.{Request}
 use Rattle.claim_words.specs.Claims.{behind_newest}
 
 -- ---- what is asked
@@ -69,6 +69,11 @@ pub record IsHead (f stamp : ℕ) (h : Holdings) : Type 0 where
 -- it is given
 abbrev pub without_head : Holdings → Holdings
 without_head h = record h { claimed = behind_newest h.claimed; raised = behind_newest h.raised }
+
+-- the machine-to-physical word of the frame with that number in its block, whose first page has that number; 2^64 - 1 for none
+abbrev pub numbered : Option ℕ → ℕ → ℕ
+numbered (Some first) at = first + at
+numbered None at = 2 ^ 64 - 1
 
 -- ---- sizes
 -- how many frames a block may have: parts of a word of the map, or whole words

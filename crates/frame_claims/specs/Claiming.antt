@@ -1,14 +1,16 @@
 -- A claim as a whole: whom its steps serve, and what is in hand between its parts.
-use Rattle.std.specs.Prelude.{◌≡◌, ℕ, ◌+◌, ◌%◌, ◌≤◌, List, [], length, Option, Some, Result, Ok, Err}
+use Rattle.std.specs.Prelude.{◌≡◌, ℕ, ◌+◌, ◌%◌, ◌<◌, ◌≤◌, List, [], length, slice_index, Some, Result, Ok, Err}
 use Rattle.xp_words.specs.declared.reply.Pause.TheVariants.{Lost, Flush}
 use Rattle.xp_words.specs.declared.reply.Refusal.TheVariants.{Clock, DomainFull, NoFree}
 use Rattle.xp_words.specs.declared.reply.Stop.{Stop}
 use Rattle.xp_words.specs.declared.reply.Stop.TheVariants.{Refused, Paused}
 use Rattle.xp_board.specs.Told.{PortValue}
 use Rattle.step_maker.specs.Holds.{FlushedSame}
-use Rattle.answer_fits.specs.Answers.{Deed, Serves, missed}
+use Rattle.step_maker.specs.Moves.{Came}
+use Rattle.answer_fits.specs.Answers.{Deed, Serves, Stops, missed}
 use Rattle.answer_fits.specs.Asked.{Request}
 use Rattle.frame_claims.specs.Blocks.{HasRow, IsBlockOf, given_deeds}
+use Rattle.frame_claims.specs.Choosing.{StillFree}
 
 -- a call that takes pages
 pub record TakesPages (r : Request) : Type 0 where
@@ -46,6 +48,21 @@ abbrev pub ServesClaim : PortValue → PortValue → ℕ → Result ℕ Stop →
 ServesClaim v w size (Ok first) = ServesWhole v w first size (given_deeds first size)
 ServesClaim v w size (Err e) = (b : ℕ) × ServesWhole v w b size (missed v.post.machine e)
 
+-- ---- why it stops
+-- The steps from v to w show it to each call that takes at least so many pages.
+abbrev pub StopsPages : PortValue → PortValue → ℕ → Stop → Type 0
+StopsPages v w size e = (r : Request) → (t : TakesPages r) → size ≤ t.number → Stops v w r e
+
+-- Behind looks that found each frame of the block free, they show it to each call that may take it.
+abbrev pub StopsTaking : PortValue → PortValue → ℕ → List ℕ → Stop → Type 0
+StopsTaking v w first stamps e =
+    (u : PortValue) → Came u v → ((j : ℕ) → j < length stamps → StillFree u v (first + j) (slice_index stamps j)) → (r : Request) → IsBlockOf r first (length stamps) → Stops u w r e
+
+-- They show it to each call that takes one such block or more, and may take this one. The block is aligned.
+abbrev pub StopsClaim : PortValue → PortValue → ℕ → Stop → Type 0
+StopsClaim v w size e = (b : ℕ) × (b % size ≡ 0) × ((r : Request) → (t : TakesBlock r b size) → size ≤ t.asks.number → Stops v w r e)
+
+-- ---- what is in hand
 -- what is in hand behind the wait: the block, or the pages that were counted for it
 pub record TookBlock (v w : PortValue) (d size first : ℕ) (stamps : List ℕ) : Type 0 where
   pub between : PortValue

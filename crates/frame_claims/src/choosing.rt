@@ -6,7 +6,9 @@ ghost use Rattle.xp_words.specs.RefWords.{ref_read};
 ghost use Rattle.xp_words.specs.declared.refs.RefWord.TheVariants.{Free};
 ghost use Rattle.xp_board.specs.Readings.{is_free};
 ghost use Rattle.step_maker.specs.Holds.{MayWork};
-ghost use Rattle.frame_claims.specs.Choosing.{FreeWord, IsFound, Looks};
+ghost use Rattle.answer_fits.specs.Visits.{Does};
+ghost use Rattle.frame_claims.specs.Choosing.{FreeWord, IsFound, Looks, NoneFree, SeenTaken};
+ghost use Rattle.frame_claims.specs.Found.{BlockBy, ChosenBy, FirstOf, FullBy, HintedBy, InWordBy, RunBy, ScannedBy, TriedBy, WordBy, block_of};
 
 use arrayvec::ArrayVec;
 use claim_words::look_map;
@@ -26,9 +28,10 @@ pub(crate) struct Chosen {
 }
 
 // The stamp of a free frame.
-#[tactic(auto, using(crate::proofs::Finding::free_told))]
+#[tactic(auto, using(crate::proofs::Finding::free_told), unfolding(xp_board::specs::Readings::is_free))]
 fn free_stamp(word: u64) -> Option<u64>
     ensures some { IfSome result (λ stamp. FreeWord word stamp) }
+    ensures none { IfNone result (is_free word ≡ false) }
 {
     match RefWord::read(word) {
         Some(RefWord::Free { stamp }) => Some(stamp),
@@ -45,6 +48,8 @@ fn try_block<P: Port>(port: &mut P, first: u32, size: u32, stamps: &mut Stamps) 
     requires may { MayWork (P.value port.old) }
     ensures looks { Looks (P.value port.old) (P.value port.new) }
     ensures found { IfSome result (λ c. IsFound (P.value port.old) (P.value port.new) size stamps.new.items c) }
+    ensures none { IfNone result (SeenTaken (P.value port.old) (P.value port.new) first size) }
+    ensures visits { Does (P.value port.old) (P.value port.new) (λ vs. TriedBy size first (block_of result stamps.new.items) vs) }
 {
     stamps.clear();
     let mut latest = first;
@@ -82,6 +87,7 @@ fn try_bits<P: Port>(
     requires may { MayWork (P.value port.old) }
     ensures looks { Looks (P.value port.old) (P.value port.new) }
     ensures found { IfSome result (λ c. IsFound (P.value port.old) (P.value port.new) size stamps.new.items c) }
+    ensures visits { Does (P.value port.old) (P.value port.new) (λ vs. BlockBy (P.value port.old).post.machine size word bits at (block_of result stamps.new.items) vs) }
 {
     let all = u64::MAX >> (64 - size);
     let first = 64 * word + size * at;
@@ -106,6 +112,7 @@ fn in_word<P: Port>(
     requires may { MayWork (P.value port.old) }
     ensures looks { Looks (P.value port.old) (P.value port.new) }
     ensures found { IfSome result (λ c. IsFound (P.value port.old) (P.value port.new) size stamps.new.items c) }
+    ensures visits { Does (P.value port.old) (P.value port.new) (λ vs. InWordBy (P.value port.old).post.machine size word bits (block_of result stamps.new.items) vs) }
 {
     if bits == 0 {
         return None;
@@ -127,6 +134,7 @@ fn by_words<P: Port>(port: &mut P, size: u32, stamps: &mut Stamps) -> Option<Cho
     requires may { MayWork (P.value port.old) }
     ensures looks { Looks (P.value port.old) (P.value port.new) }
     ensures found { IfSome result (λ c. IsFound (P.value port.old) (P.value port.new) size stamps.new.items c) }
+    ensures visits { Does (P.value port.old) (P.value port.new) (λ vs. FirstOf (WordBy (P.value port.old).post.machine size) (map_words (sizes_of (P.value port.old).post.machine)) (block_of result stamps.new.items) vs) }
 {
     for word in 0..port.layout().map_words() {
         let bits = look_map(port, word);
@@ -143,6 +151,7 @@ fn are_full<P: Port>(port: &mut P, first: u32, count: u32) -> bool
     requires inside { first + count ≤ map_words (sizes_of (P.value port.old).post.machine) }
     requires may { MayWork (P.value port.old) }
     ensures looks { Looks (P.value port.old) (P.value port.new) }
+    ensures visits { Does (P.value port.old) (P.value port.new) (λ vs. FullBy first count result vs) }
 {
     for word in first..first + count {
         if look_map(port, word) != u64::MAX {
@@ -160,6 +169,7 @@ fn try_run<P: Port>(port: &mut P, block: u32, words: u32, stamps: &mut Stamps) -
     requires may { MayWork (P.value port.old) }
     ensures looks { Looks (P.value port.old) (P.value port.new) }
     ensures found { IfSome result (λ c. IsFound (P.value port.old) (P.value port.new) (64 * words) stamps.new.items c) }
+    ensures visits { Does (P.value port.old) (P.value port.new) (λ vs. RunBy words block (block_of result stamps.new.items) vs) }
 {
     if !are_full(port, block * words, words) {
         return None;
@@ -174,6 +184,7 @@ fn by_runs<P: Port>(port: &mut P, words: u32, stamps: &mut Stamps) -> Option<Cho
     requires may { MayWork (P.value port.old) }
     ensures looks { Looks (P.value port.old) (P.value port.new) }
     ensures found { IfSome result (λ c. IsFound (P.value port.old) (P.value port.new) (64 * words) stamps.new.items c) }
+    ensures visits { Does (P.value port.old) (P.value port.new) (λ vs. FirstOf (RunBy words) ((P.value port.old).post.machine.frames / (64 * words)) (block_of result stamps.new.items) vs) }
 {
     for block in 0..port.layout().frames / (64 * words) {
         let chosen = try_run(port, block, words, stamps);
@@ -191,6 +202,8 @@ fn by_frames<P: Port>(port: &mut P, size: u32, stamps: &mut Stamps) -> Option<Ch
     requires may { MayWork (P.value port.old) }
     ensures looks { Looks (P.value port.old) (P.value port.new) }
     ensures found { IfSome result (λ c. IsFound (P.value port.old) (P.value port.new) size stamps.new.items c) }
+    ensures none { IfNone result (NoneFree (P.value port.old) (P.value port.new) size) }
+    ensures visits { Does (P.value port.old) (P.value port.new) (λ vs. ScannedBy (P.value port.old).post.machine size (block_of result stamps.new.items) vs) }
 {
     for block in 0..port.layout().frames / size {
         let chosen = try_block(port, block * size, size, stamps);
@@ -210,6 +223,7 @@ fn by_bits<P: Port>(port: &mut P, size: u32, stamps: &mut Stamps) -> Option<Chos
     requires may { MayWork (P.value port.old) }
     ensures looks { Looks (P.value port.old) (P.value port.new) }
     ensures found { IfSome result (λ c. IsFound (P.value port.old) (P.value port.new) size stamps.new.items c) }
+    ensures visits { Does (P.value port.old) (P.value port.new) (λ vs. HintedBy (P.value port.old).post.machine size (block_of result stamps.new.items) vs) }
 {
     if size <= 64 {
         by_words(port, size, stamps)
@@ -227,6 +241,8 @@ pub(crate) fn choose<P: Port>(port: &mut P, size: u32, stamps: &mut Stamps) -> O
     requires may { MayWork (P.value port.old) }
     ensures looks { Looks (P.value port.old) (P.value port.new) }
     ensures found { IfSome result (λ c. IsFound (P.value port.old) (P.value port.new) size stamps.new.items c) }
+    ensures none { IfNone result (NoneFree (P.value port.old) (P.value port.new) size) }
+    ensures visits { Does (P.value port.old) (P.value port.new) (λ vs. ChosenBy (P.value port.old).post.machine size (block_of result stamps.new.items) vs) }
 {
     match by_bits(port, size, stamps) {
         Some(chosen) => Some(chosen),

@@ -1,11 +1,17 @@
 //! A block of free frames is claimed.
-ghost use Rattle.std.specs.Prelude.{◌≡◌, ◌+◌, ◌*◌, ◌/◌, ◌%◌, ◌^◌, ◌<◌, ◌≤◌, [], length, IfSome, IfErr, MatchResult};
+ghost use Rattle.std.specs.Prelude.{◌≡◌, ◌+◌, ◌*◌, ◌/◌, ◌%◌, ◌^◌, ◌<◌, ◌≤◌, [], length, IfSome, IfErr, IfOk, MatchResult};
+ghost use Rattle.xp_board.specs.Lists.{times};
 ghost use Rattle.xp_board.specs.Readings.{domain_of};
+ghost use Rattle.xp_board.specs.Told.{told_word};
 ghost use Rattle.step_maker.specs.Holds.{FlushedSame, Holds, MayWork, Rests, Same};
 ghost use Rattle.answer_fits.specs.Answers.{misses};
+ghost use Rattle.answer_fits.specs.Visits.{Does};
+ghost use Rattle.answer_laws.specs.Alone.{IsAlone};
 ghost use Rattle.claim_words.specs.Claims.{charged, uncharged};
 ghost use Rattle.frame_claims.specs.Blocks.{HasRow, IsBlockSize, IsPlain};
-ghost use Rattle.frame_claims.specs.Claiming.{IsClaimStop, ServesClaim, ServesPages, ServesTaken, Took};
+ghost use Rattle.frame_claims.specs.Claiming.{IsClaimStop, ServesClaim, ServesPages, ServesTaken, StopsClaim, StopsPages, Took};
+ghost use Rattle.frame_claims.specs.Found.{ChargedBy, ClaimsBy, TookBy};
+ghost use Rattle.frame_claims.specs.Plain.{ClaimsPlainly, ref_looks};
 
 use crate::choosing::{Stamps, choose};
 use crate::giving::give_block;
@@ -23,9 +29,12 @@ fn charge<P: Port>(port: &mut P, owner: u16, size: u32) -> Result<(), Stop>
     requires may { MayWork (P.value port.old) }
     requires some { 0 < size }
     requires few { size ≤ 512 }
+    requires none { times owner (P.value port.old).holdings.credits ≡ 0 }
     ensures serves { ServesPages (P.value port.old) (P.value port.new) (misses (P.value port.old).post.machine result) }
+    ensures stops { IfErr result (λ e. StopsPages (P.value port.old) (P.value port.new) size e) }
     ensures kinds { IfErr result IsClaimStop }
     ensures hand { MatchResult result (λ _. Holds (P.value port.old) (P.value port.new) (charged size owner (P.value port.old).holdings)) (λ _. Same (P.value port.old) (P.value port.new)) }
+    ensures visits { Does (P.value port.old) (P.value port.new) (λ vs. ChargedBy (P.value port.old).post.machine owner size result vs) }
 {
     let limit = u64::from(port.layout().page_limit.as_slice()[owner as usize]);
     let found = look_pages(port, owner);
@@ -66,8 +75,10 @@ fn take<P: Port>(port: &mut P, owner: u16, size: u32, stamps: &mut Stamps) -> Re
     requires plain { IsPlain (P.value port.old).holdings }
     requires row { HasRow (P.value port.old) (P.value port.old) 0 [] owner size }
     ensures serves { ServesTaken (P.value port.old) (P.value port.new) size result }
+    ensures stops { IfErr result (λ e. StopsClaim (P.value port.old) (P.value port.new) size e) }
     ensures kinds { IfErr result IsClaimStop }
     ensures took { Took (P.value port.old) (P.value port.new) owner size stamps.new.items result }
+    ensures visits { Does (P.value port.old) (P.value port.new) (λ vs. TookBy (P.value port.old).post owner size result vs) }
 {
     match choose(port, size, stamps) {
         None => Err(Stop::Refused(Refusal::NoFree)),
@@ -87,9 +98,15 @@ pub fn claim<P: Port>(port: &mut P, owner: u16, order: u8, gpfn: Option<u64>) ->
     requires order { order ≤ 9 }
     requires number { IfSome gpfn (λ g. g < 2 ^ 52) }
     requires rests { Rests (P.value port.old) }
+    ensures block { IfOk result (λ f. (f % 2 ^ order ≡ 0) × (f + 2 ^ order ≤ (P.value port.old).post.machine.frames)) }
     ensures serves { ServesClaim (P.value port.old) (P.value port.new) (2 ^ order) result }
+    ensures stops { IfErr result (λ e. StopsClaim (P.value port.old) (P.value port.new) (2 ^ order) e) }
     ensures kinds { IfErr result IsClaimStop }
     ensures hand { FlushedSame (P.value port.old) (P.value port.new) }
+    ensures found { Does (P.value port.old) (P.value port.new) (λ vs. ClaimsBy (P.value port.old).post owner (2 ^ order) gpfn result vs) }
+    // Where nobody else holds anything: it is the first free block, and no reference word is looked at but those of its frames.
+    ensures plain { IsAlone (P.value port.old) → ClaimsPlainly (P.value port.old).post.machine (told_word (P.value port.old)) owner (2 ^ order) result }
+    ensures bound { IsAlone (P.value port.old) → IfOk result (λ f. Does (P.value port.old) (P.value port.new) (λ vs. ref_looks vs ≡ 2 ^ order)) }
 {
     let size = size_of(order);
     charge(port, owner, size)?;
