@@ -63,6 +63,7 @@ pub fn exchange_entry<P: Port>(
     requires maps { MayMapFor (P.value port.old) owners }
     requires room { known_old First (P.value port.old).holdings ≡ Some 0 }
     requires room_too { known_old Second (P.value port.old).holdings ≡ Some 0 }
+    // What it promises are the fields of that record, in specs/Parts.antt.
     ensures did { EntryExchanged (P.value port.old) (P.value port.new) update owners (says gate.old) (count_asks gate.old) (count_asks gate.new) (count_yes gate.old) (count_yes gate.new) result }
     ensures says { (n : ℕ) → says gate.new n ≡ says gate.old n }
     ensures paces { paces gate.new ≡ paces gate.old }

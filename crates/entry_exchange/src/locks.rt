@@ -26,6 +26,7 @@ pub fn leave_lock<P: Port>(port: &mut P, table: u32, level: u8)
     requires locked { HoldsLockOf (P.value port.old) table level }
     requires works { (P.value port.old).holdings.works ≡ [] }
     requires room { known_old Second (P.value port.old).holdings ≡ Some 0 }
+    // What it promises are the fields of that record, in specs/Parts.antt.
     ensures { LockLeft (P.value port.old) (P.value port.new) table level }
 {
     if unlock_entry(port, table) {
