@@ -30,6 +30,7 @@ use Rattle.mmuext_ops.specs.Elements.{HasDeeds, LeavesElement, ServesElement, of
 use Rattle.mmuext_ops.specs.Holding.{HoldsTable, IsPinEnd, LeavesTable, ServesLive, named_old, untyped_hand}
 use Rattle.mmuext_ops.specs.declared.element.Element.TheVariants.{Pin}
 use Rattle.mmuext_ops.proofs.Looked.{Looked, fields, found_with, owner_known}
+use Rattle.mmuext_ops.proofs.Rests.{bare, empty_as}
 use Rattle.mmuext_ops.proofs.Within.{same_no_more, within_table}
 
 module _ (v : PortValue) (f d level : ℕ) (rose : Bool) where
@@ -134,17 +135,8 @@ acquired_holds v c e f d level g rests same own holds =
     record {
       typed = ap (λ (q : PortValue). q.holdings.typed) holds ∙ ap (λ (ys : List TypedReference). live_typed g (level_type level) (owners.Of d) ∷ ys) (ap (λ (q : PortValue). q.holdings.typed) same ∙ rests.empty.typed)
           ∙ ap (λ o. live_typed g (level_type level) (owners.Of o) ∷ []) is;
-      others = record {
-        refs = ap (λ (q : PortValue). q.holdings.refs) holds ∙ ap (λ (q : PortValue). q.holdings.refs) same ∙ rests.empty.refs;
-        typed = refl;
-        works = ap (λ (q : PortValue). q.holdings.works) holds ∙ ap (λ (q : PortValue). q.holdings.works) same ∙ rests.empty.works;
-        locks = ap (λ (q : PortValue). q.holdings.locks) holds ∙ ap (λ (q : PortValue). q.holdings.locks) same ∙ rests.empty.locks;
-        ending = ap (λ (q : PortValue). q.holdings.ending) holds ∙ ap (λ (q : PortValue). q.holdings.ending) same ∙ rests.empty.ending;
-        claimed = ap (λ (q : PortValue). q.holdings.claimed) holds ∙ ap (λ (q : PortValue). q.holdings.claimed) same ∙ rests.empty.claimed;
-        raised = ap (λ (q : PortValue). q.holdings.raised) holds ∙ ap (λ (q : PortValue). q.holdings.raised) same ∙ rests.empty.raised;
-        credits = ap (λ (q : PortValue). q.holdings.credits) holds ∙ ap (λ (q : PortValue). q.holdings.credits) same ∙ rests.empty.credits;
-        looking = ap (λ (q : PortValue). q.holdings.looking) holds ∙ ap (λ (q : PortValue). q.holdings.looking) same ∙ rests.empty.looking;
-      };
+      others = empty_as (untyped_hand e.holdings) v.holdings
+          (ap (λ (q : PortValue). bare (untyped_hand q.holdings)) holds ∙ ap (λ (q : PortValue). bare (untyped_hand q.holdings)) same ∙ ap (λ (ys : List TypedReference). bare (record v.holdings { typed = ys })) (sym rests.empty.typed)) rests.empty;
     }
 
 module _ (v c e : PortValue) (f d level : ℕ) (same : Same v c) where

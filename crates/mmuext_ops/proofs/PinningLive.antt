@@ -47,6 +47,7 @@ use Rattle.mmuext_ops.specs.Course as ends
 use Rattle.mmuext_ops.specs.Holding.{GivesTableUp, GivesUp, HoldsTable, PinsLive, named_old, untyped_hand}
 use Rattle.level_validate.specs.Unwinding.{own_domain}
 use Rattle.mmuext_ops.proofs.GivingUp.{held, live, may_drop, none_left}
+use Rattle.mmuext_ops.proofs.Rests.{bare, empty_as}
 use Rattle.mmuext_ops.proofs.Marking.{live_undead, lost_deeds, lost_misses, lost_stops, mark_keeps, pins_deed, tried}
 
 -- ---- the hand
@@ -55,17 +56,7 @@ pub holds_still : (v w : PortValue) (f level : ℕ) → Holds v w v.holdings →
 holds_still v w f level same holds =
     record {
       typed = ap (λ (q : PortValue). q.holdings.typed) same ∙ holds.typed ∙ ap (λ (q : PortValue). live_typed f (level_type level) (owners.Of (own_domain q)) ∷ []) (sym same);
-      others = record {
-        refs = ap (λ (q : PortValue). q.holdings.refs) same ∙ holds.others.refs;
-        typed = refl;
-        works = ap (λ (q : PortValue). q.holdings.works) same ∙ holds.others.works;
-        locks = ap (λ (q : PortValue). q.holdings.locks) same ∙ holds.others.locks;
-        ending = ap (λ (q : PortValue). q.holdings.ending) same ∙ holds.others.ending;
-        claimed = ap (λ (q : PortValue). q.holdings.claimed) same ∙ holds.others.claimed;
-        raised = ap (λ (q : PortValue). q.holdings.raised) same ∙ holds.others.raised;
-        credits = ap (λ (q : PortValue). q.holdings.credits) same ∙ holds.others.credits;
-        looking = ap (λ (q : PortValue). q.holdings.looking) same ∙ holds.others.looking;
-      };
+      others = empty_as (untyped_hand w.holdings) (untyped_hand v.holdings) (ap (λ (q : PortValue). bare (untyped_hand q.holdings)) same) holds.others;
     }
 
 -- where the vCPU looks at no frame, an exchange ends no looking

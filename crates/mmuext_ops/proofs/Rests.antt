@@ -1,9 +1,11 @@
 -- Nothing is in hand behind an element, whatever the first old word names; and an element that asks its gate nothing.
-use Rattle.std.proofs.Common.{◌≡◌, ℕ, Bool, false, [], Option, Result, Ok, Err, IfErr, refl, sym, ap, ◌∙◌, subst, inl, inr}
+use Rattle.std.proofs.Common.{◌≡◌, ℕ, Bool, false, [], Option, None, Result, Ok, Err, IfErr, refl, sym, ap, ◌∙◌, subst, inl, inr}
 use Rattle.xp_words.specs.Machine.{IsMachine}
 use Rattle.xp_words.specs.declared.reply.Pause.TheVariants as pauses
 use Rattle.xp_words.specs.declared.reply.Stop.{Stop}
 use Rattle.xp_words.specs.declared.reply.Stop.TheVariants.{Paused, Refused}
+use Rattle.xp_board.specs.declared.holdings.Holdings.{Holdings}
+use Rattle.xp_board.specs.Hands.{IsEmptyHand}
 use Rattle.xp_board.specs.Told.{Post, PortValue}
 use Rattle.xp_preempt.proofs.Consulting.{consulted_none}
 use Rattle.step_maker.specs.Holds.{FlushedHolds, FlushedSame, Rests}
@@ -16,6 +18,24 @@ use Rattle.mmuext_ops.specs.declared.element.Element.{Element}
 use Rattle.mmuext_ops.specs.declared.element.Element.TheVariants.{Pin, Unpin}
 
 -- ---- the hand
+-- what emptiness does not see
+abbrev pub bare : Holdings → Holdings
+bare h = record h { steps = []; cache = []; acked = 0; cold = false; old0 = None }
+
+pub empty_as : (h k : Holdings) → bare h ≡ bare k → IsEmptyHand k → IsEmptyHand h
+empty_as h k same none =
+    record {
+      refs = ap (λ (q : Holdings). q.refs) same ∙ none.refs;
+      typed = ap (λ (q : Holdings). q.typed) same ∙ none.typed;
+      works = ap (λ (q : Holdings). q.works) same ∙ none.works;
+      locks = ap (λ (q : Holdings). q.locks) same ∙ none.locks;
+      ending = ap (λ (q : Holdings). q.ending) same ∙ none.ending;
+      claimed = ap (λ (q : Holdings). q.claimed) same ∙ none.claimed;
+      raised = ap (λ (q : Holdings). q.raised) same ∙ none.raised;
+      credits = ap (λ (q : Holdings). q.credits) same ∙ none.credits;
+      looking = ap (λ (q : Holdings). q.looking) same ∙ none.looking;
+    }
+
 rests_by : (v w : PortValue) (o : Option ℕ) → Rests v → FlushedHolds v w (record v.holdings { old0 = o }) → Rests w
 rests_by v w o rests holds =
     record {
@@ -24,17 +44,7 @@ rests_by v w o rests holds =
         no_walk = ap (λ (q : PortValue). q.holdings.walk) holds ∙ rests.may.no_walk;
         machine = subst (λ (p : Post). IsMachine p.machine) (sym (ap (λ (q : PortValue). q.post) holds)) rests.may.machine;
       };
-      empty = record {
-        refs = ap (λ (q : PortValue). q.holdings.refs) holds ∙ rests.empty.refs;
-        typed = ap (λ (q : PortValue). q.holdings.typed) holds ∙ rests.empty.typed;
-        works = ap (λ (q : PortValue). q.holdings.works) holds ∙ rests.empty.works;
-        locks = ap (λ (q : PortValue). q.holdings.locks) holds ∙ rests.empty.locks;
-        ending = ap (λ (q : PortValue). q.holdings.ending) holds ∙ rests.empty.ending;
-        claimed = ap (λ (q : PortValue). q.holdings.claimed) holds ∙ rests.empty.claimed;
-        raised = ap (λ (q : PortValue). q.holdings.raised) holds ∙ rests.empty.raised;
-        credits = ap (λ (q : PortValue). q.holdings.credits) holds ∙ rests.empty.credits;
-        looking = ap (λ (q : PortValue). q.holdings.looking) holds ∙ rests.empty.looking;
-      };
+      empty = empty_as w.holdings v.holdings (ap (λ (q : PortValue). bare q.holdings) holds) rests.empty;
     }
 
 pub rests_same : (v w : PortValue) → Rests v → FlushedSame v w → Rests w
