@@ -1,5 +1,5 @@
 -- Courses with a gate: that was not asked, or in a part of the course alone.
-use Rattle.std.proofs.Common.{◌≡◌, ℕ, ◌+◌, Bool, true, false, List, [], ◌∷◌, ◌++◌, length, Result, Ok, refl, sym, ap, ◌∙◌, subst, arith}
+use Rattle.std.proofs.Common.{◌≡◌, ℕ, Bool, false, List, [], ◌∷◌, ◌++◌, Result, Ok, sym, ◌∙◌}
 use Rattle.xp_words.specs.declared.reply.Stop.{Stop}
 use Rattle.xp_preempt.specs.Gates.{ends_yes}
 use Rattle.xp_preempt.proofs.Consulting.{consulted_none, consulted_then}
