@@ -151,8 +151,11 @@ module _ {h : Holdings} {v : PortValue} {t u : TableWork} {us : List TableWork} 
         let z = sizes_of v.post.machine in
         let made = length v.holdings.steps in
         let longer : made ≤ length x.holdings.steps = omega (arith, (came_longer v d (moves_came v d _ _ kinds.Kind None found store)), (came_longer d x came)) in let few = s.stack.2.0.done
-        in hands_by x (one_less u ∷ us) k.refs k.typed (again ∷ outer.others) s recorded_hand (record { low = s.stack.2.0.low; high = s.stack.2.0.high; done = omega (arith, few) }, s.stack.2.1,
-        s.stack.2.2) (tables_later z made (length x.holdings.steps) None (one_less u ∷ us) (again ∷ outer.others) longer
+        in hands_by x (one_less u ∷ us) k.refs k.typed (again ∷ outer.others) s recorded_hand (
+          record { low = s.stack.2.0.low; high = s.stack.2.0.high; done = omega (arith, few) },
+          s.stack.2.1,
+          s.stack.2.2,
+        ) (tables_later z made (length x.holdings.steps) None (one_less u ∷ us) (again ∷ outer.others) longer
         (recorded_is unsettled outer.inside.inside next_one outer.is, tt, tables_done z made u (u.done - 1) us outer.others outer.around)) k.are_refs
         (typed_later made (length x.holdings.steps) (u ∷ us) k.typed longer k.are_typed) owned_x
 

@@ -1,4 +1,5 @@
 pub mod Asking
+pub mod Calls
 pub mod Course
 pub mod Holding
 pub mod Settling

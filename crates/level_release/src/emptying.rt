@@ -1,9 +1,8 @@
 //! Tables that are emptied, one in the other: the innermost first, and of each the highest recorded entry first.
 ghost use Rattle.std.specs.Prelude.{◌≡◌, ◌≢◌, ◌<◌, ◌≤◌, ◌∷◌, ℕ, [], Some, true, false, List, length, IfOk, IfErr};
 ghost use Rattle.step_maker.specs.Holds.{MayWork};
-ghost use Rattle.step_maker.specs.Moves.{Came, Met};
+ghost use Rattle.step_maker.specs.Moves.{Came};
 ghost use Rattle.answer_fits.specs.Answers.{misses};
-ghost use Rattle.answer_fits.specs.Pauses.{Progress};
 ghost use Rattle.partial_state.specs.Weights.{weight};
 ghost use Rattle.partial_state.specs.declared.stack.TableWork.{TableWork};
 ghost use Rattle.table_words.specs.OldWords.{known_old};
@@ -12,8 +11,9 @@ ghost use Rattle.table_releases.specs.Tops.{IsSettledTop};
 ghost use Rattle.xp_words.specs.declared.reply.Pause.TheVariants.{Due};
 ghost use Rattle.xp_words.specs.declared.reply.Stop.TheVariants.{Paused};
 ghost use Rattle.level_release.specs.Asking.{Continues, IsReleaseEnd, StopsRelease, is_due_answer};
-ghost use Rattle.level_release.specs.Course.{EmptiesBy, Lowered, MadeDead, RunsDownBy, is_asked_down, is_asked_within, is_less, left_by};
-ghost use Rattle.level_release.specs.Holding.{Empties, HoldsNow, IsReleasing, LeavesEmptied, StaysEmptying, StaysSettled, outermost_frame};
+ghost use Rattle.level_release.specs.Calls.{Lowers};
+ghost use Rattle.level_release.specs.Course.{EmptiesBy, MadeDead, RunsDownBy, is_asked_down, is_asked_within, is_less, left_by};
+ghost use Rattle.level_release.specs.Holding.{Empties, HoldsNow, IsReleasing, LeavesEmptied, StaysEmptying, outermost_frame};
 
 use crate::leaving::unwind;
 use frame_words::put_ref;
@@ -111,19 +111,12 @@ fn lower<P: Port>(port: &mut P, stack: &mut Stack) -> Result<bool, Stop>
     requires may { MayWork (P.value port.old) }
     requires stands { IsReleasing (P.value port.old) stack.old }
     requires some { stack.old ≢ [] }
-    ensures came { Came (P.value port.old) (P.value port.new) }
-    ensures stands { StaysEmptying (P.value port.old) (P.value port.new) stack.old stack.new }
+    ensures met { Lowers (P.value port.old) (P.value port.new) stack.old stack.new result }
     ensures outer { stack.new ≢ [] → outermost_frame stack.new ≡ outermost_frame stack.old }
     ensures kept { IfErr result (λ _. stack.new ≡ stack.old) }
     ensures less { IfOk result (λ _. weight stack.new < weight stack.old) }
     ensures kinds { IfErr result IsReleaseEnd }
     ensures undue { is_due_answer result ≡ false }
-    ensures settled { StaysSettled (P.value port.old) (P.value port.new) result }
-    // Where the stack is not shorter, an entry was shed.
-    ensures progress { IfOk result (λ _. length stack.old ≤ length stack.new → Progress (Met (P.value port.old) (P.value port.new))) }
-    ensures serves { Continues (P.value port.old) (P.value port.new) stack.old stack.new (misses (P.value port.old).post.machine result) }
-    ensures stops { IfErr result (λ e. StopsRelease (P.value port.old) (P.value port.new) stack.old e) }
-    ensures course { Lowered (P.value port.old) stack.old (P.value port.new) stack.new result }
 {
     let Some(top) = stack.top() else {
         unreachable!()

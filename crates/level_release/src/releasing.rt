@@ -7,7 +7,8 @@ ghost use Rattle.answer_fits.specs.Answers.{Serves, Stops, misses};
 ghost use Rattle.table_words.specs.OldWords.{known_old};
 ghost use Rattle.table_words.specs.declared.old_words.OldWord.TheVariants.{First};
 ghost use Rattle.level_release.specs.Asking.{is_due_answer, of_release};
-ghost use Rattle.level_release.specs.Course.{ReleasesFrameBy, ReleasesWithinBy};
+ghost use Rattle.level_release.specs.Calls.{Releases};
+ghost use Rattle.level_release.specs.Course.{ReleasesFrameBy};
 ghost use Rattle.level_release.specs.Holding.{HoldsLive, LeavesUnheld};
 ghost use Rattle.xp_preempt.specs.Gates.{Heard};
 
@@ -58,12 +59,7 @@ pub(crate) fn release_within<P: Port>(
     requires may { MayWork (P.value port.old) }
     requires holds { HoldsLive (P.value port.old) frame kind }
     requires room { known_old First (P.value port.old).holdings ≡ Some 0 }
-    ensures serves { (owner pages : ℕ) → Serves (P.value port.old) (P.value port.new) (of_release frame owner pages result) (misses (P.value port.old).post.machine result) }
-    ensures stops { (owner pages : ℕ) → IfErr result (λ e. Stops (P.value port.old) (P.value port.new) (of_release frame owner pages result) e) }
-    // What the entries of a live tree ask is live: it is paused for the gate alone.
-    ensures kinds { IfErr result (λ e. e ≡ Paused Due) }
-    ensures hand { LeavesUnheld (P.value port.old) (P.value port.new) frame result }
-    ensures course { ReleasesWithinBy left.old left.new (P.value port.old) (P.value port.new) frame kind (says gate.old) (count_asks gate.old) (count_asks gate.new) (count_yes gate.old) (count_yes gate.new) result }
+    ensures met { Releases (P.value port.old) (P.value port.new) frame kind left.old left.new (says gate.old) (count_asks gate.old) (count_asks gate.new) (count_yes gate.old) (count_yes gate.new) result }
     ensures says { (n : ℕ) → says gate.new n ≡ says gate.old n }
     ensures paces { paces gate.new ≡ paces gate.old }
     ensures calm { calm gate.old ≡ true → (is_due_answer result ≡ false) × (calm gate.new ≡ true) }

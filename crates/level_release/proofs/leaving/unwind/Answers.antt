@@ -41,9 +41,12 @@ loop-table-preserved-then-is_empty g c =
 pub loop-table-preserved : goal.loop-table-preserved
 loop-table-preserved g c =
     let u = g.P.Port.value c.args.port.now in
-    record { hands = leaving_inside c.loop-table.invariant.hands c.in-Some.ensures.some (g.P.Port.value c.leave_inside.new.port) c.leave_inside.ensures.came c.leave_inside.ensures.stands
-    c.leave_inside.ensures.course; goes = unwinding_on (subst (λ us. Unwinding u (g.P.Port.value c.loop-table.port) c.args.stack.now us) c.in-Some.ensures.some c.loop-table.invariant.goes)
-    c.leave_inside.ensures.came c.leave_inside.ensures.serves c.leave_inside.ensures.course }
+    record {
+      hands = leaving_inside c.loop-table.invariant.hands c.in-Some.ensures.some (g.P.Port.value c.leave_inside.new.port) c.leave_inside.ensures.came c.leave_inside.ensures.stands
+          c.leave_inside.ensures.course;
+      goes = unwinding_on (subst (λ us. Unwinding u (g.P.Port.value c.loop-table.port) c.args.stack.now us) c.in-Some.ensures.some c.loop-table.invariant.goes)
+          c.leave_inside.ensures.came c.leave_inside.ensures.serves c.leave_inside.ensures.course;
+    }
 
 pub returns-clause-serves : goal.returns-clause-serves
 returns-clause-serves g c = (unwinding_done c.loop-table.invariant.goes c.in_default.ensures.none.0).0

@@ -23,7 +23,7 @@ pub returns-then-kind-clause-met : goal.returns-then-kind-clause-met
 returns-then-kind-clause-met g c u which t =
     let w = g.P.Port.value c.release_within.new.port in
     let answer = c.release_within.result in
-    let e = c.release_within.ensures in
+    let e = c.release_within.ensures.met in
     let hand = took_settled w t answer e.hand in
     let came = serves_came (g.P.Port.value c.args.port.now) w (of_release c.args.frame 0 0 answer) _ (e.serves 0 0) in
     record {
