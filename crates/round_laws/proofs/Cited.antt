@@ -9,7 +9,6 @@ use Rattle.xp_words.specs.declared.reply.Stop.TheVariants.{Paused}
 use Rattle.xp_words.specs.Places.{asked_of, flushed_of, run_of}
 use Rattle.xp_board.specs.Readings.{last_clock}
 use Rattle.xp_board.specs.Told.{PortValue, told_word}
-use Rattle.step_maker.specs.Holds.{Rests}
 use Rattle.step_maker.specs.Moves.{Came}
 use Rattle.answer_laws.specs.Alone.{IsAlone}
 use Rattle.level_release.specs.Course.{left_settled}
@@ -39,9 +38,9 @@ pub record TurnLaws : Type 0 where
       ⊎ ((olds_named (told_word w) v.post.vcpu ≡ olds_named (told_word v) v.post.vcpu) × (left_rank (left_settled settles.course) < left_rank below))
   pub none : (below : Option ℕ) (v w : PortValue) (answers : List Bool) → IsAlone v → Settles below v w answers (Ok tt) → olds_named (told_word w) v.post.vcpu ≡ 0
   pub same : (below : Option ℕ) (v w : PortValue) (answers : List Bool) → IsAlone v → Settles below v w answers (Ok tt) → olds_named (told_word v) v.post.vcpu ≡ 0 → (q : Place) → told_word w q ≡ told_word v q
-  pub forward : (c d : Processing) (op : Op) (v w : PortValue) (answers : List Bool) (p : Pause) → IsAlone v → Rests v → AreAllAlive v.post.machine (told_word v) → olds_named (told_word v) v.post.vcpu ≡ 0 →
+  pub forward : (c d : Processing) (op : Op) (v w : PortValue) (answers : List Bool) (p : Pause) → IsAlone v → AreAllAlive v.post.machine (told_word v) → olds_named (told_word v) v.post.vcpu ≡ 0 →
       IsUnhindered v.post.machine (ends.Paused p) → GoesOnWith c op d v w answers (ends.Paused p) → d.at.done ≡ c.at.done → GoesForward v.post.machine (told_word v) (told_word w)
-  pub further : (c d : Processing) (op : Op) (v w : PortValue) (answers : List Bool) → IsAlone v → Rests v → AreAllAlive v.post.machine (told_word v) → olds_named (told_word v) v.post.vcpu ≡ 0 →
+  pub further : (c d : Processing) (op : Op) (v w : PortValue) (answers : List Bool) → IsAlone v → AreAllAlive v.post.machine (told_word v) → olds_named (told_word v) v.post.vcpu ≡ 0 →
       GoesOnWith c op d v w answers (ends.Paused Due) → d.at.done ≡ c.at.done → GetsFurther v.post.machine (told_word v) (told_word w)
 
 -- of waits for flushes

@@ -89,7 +89,7 @@ module _ (laws : TurnLaws) (c : Processing) (b : PortValue) (alone : IsAlone b) 
           (λ k real. serves_leaves b u (of_settle {A = Unit {0}} 0 0 (Ok tt)) _ k refl telling (settles.serves 0 0) ∙ alive k real)
 
       forward : GoesForward u.post.machine (told_word u) (told_word w)
-      forward = laws.forward (nothing_left c) d op u w later p alone_then settles.rests alive_then none_own (subst (λ (q : Post). IsUnhindered q.machine (ends.Paused p)) (sym post) free) does done
+      forward = laws.forward (nothing_left c) d op u w later p alone_then alive_then none_own (subst (λ (q : Post). IsUnhindered q.machine (ends.Paused p)) (sym post) free) does done
 
       none_behind : olds_named (told_word w) b.post.vcpu ≡ 0
       none_behind = (λ i. bit_named (forward.olds b.post.vcpu First i) + bit_named (forward.olds b.post.vcpu Second i)) ∙ none_then
@@ -104,7 +104,7 @@ module _ (laws : TurnLaws) (c : Processing) (b : PortValue) (alone : IsAlone b) 
         further : p ≡ Due → GetsFurther b.post.machine (told_word b) (told_word w)
         further due =
             let more : GetsFurther u.post.machine (told_word u) (told_word w) =
-            laws.further (nothing_left c) d op u w later alone_then settles.rests alive_then none_own (subst (λ y. GoesOnWith (nothing_left c) op d u w later (ends.Paused y)) due does) done in
+            laws.further (nothing_left c) d op u w later alone_then alive_then none_own (subst (λ y. GoesOnWith (nothing_left c) op d u w later (ends.Paused y)) due does) done in
             record {
               frame = more.frame;
               real = subst (λ (q : Post). more.frame < q.machine.frames) post more.real;

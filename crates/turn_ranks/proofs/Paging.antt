@@ -32,6 +32,7 @@ use Rattle.table_words.specs.declared.old_words.OldWord.{OldWord}
 use Rattle.turn_laws.specs.Unhindered.{IsUnhindered}
 use Rattle.vcpu_turn.specs.declared.cpu.TurnEnd.TheVariants as ends
 use Rattle.table_twins.proofs.Typing.{dead_says}
+use Rattle.frame_ranks.proofs.Stamps.{type_low}
 use Rattle.frame_ranks.specs.Ranks.{GoesForward, rank_at, rank_of}
 use Rattle.turn_ranks.proofs.Forward.{alike_counts, alike_olds, alike_ranks, is_ranked, old_ranked}
 use Rattle.turn_ranks.proofs.Asides.{does_tells, put_still}
@@ -47,22 +48,6 @@ never_by n f w want stands.Partial x is un = cc
 
 pub never_busy : (n : Machine) (f w : ℕ) (want : PageType) (x : Pause) → type_stop f want w ≡ Some (Paused x) → IsUnhindered n (ends.Paused x) → ⊥
 never_busy n f w want x is un = never_by n f w want (standing_of (kind_fields w) want) x is un
-
--- ---- the stamp that it waits for was found in its word
-awaited_is : (q : Post) (owner : ℕ) (marked : Bool) (n : ℕ) (own : Bool) (stamp : ℕ) (stop : Stop) (vs : List Visit) → marked ≡ true → WaitsOf q owner marked n (types.Waiting own stamp stop) vs → stamp ≡ n
-awaited_is q owner true n own stamp stop vs on a = a.0
-awaited_is q owner false n own stamp stop vs on a = cc
-
-goes_low : (q : Post) (f owner : ℕ) (want : PageType) (marked : Bool) (x : ℕ) (mine own : Bool) (stamp : ℕ) (stop : Stop) (vs : List Visit) → marked ≡ true → GoesBy q f owner want marked (kind_fields x).number mine (types.Waiting own stamp stop) vs → stamp < 2 ^ 36
-unfolding kind_fields
-goes_low q f owner want marked x mine own stamp stop vs on a = let is = awaited_is q owner marked (kind_fields x).number own stamp stop a.before on a.first in omega (arith, is)
-
-takes_low : (q : Post) (f owner : ℕ) (want : PageType) (x : ℕ) (s : Standing) (own : Bool) (stamp : ℕ) (stop : Stop) (vs : List Visit) → IsTakenBy want (kind_fields x) s (types.Waiting own stamp stop) → TakesBy q f owner want x s (types.Waiting own stamp stop) vs → stamp < 2 ^ 36
-takes_low q f owner want x stands.Counted own stamp stop vs way a = absurd cc
-takes_low q f owner want x s own stamp stop vs way a = goes_low q f owner want (waits_by (kind_fields x) want s) x (is_own (kind_fields x) s) own stamp stop a.next.after way.0 a.next.next
-
-taken_low : (q : Post) (f owner : ℕ) (want : PageType) (own : Bool) (stamp : ℕ) (stop : Stop) (vs : List Visit) → TakesOf q f owner want (types.Waiting own stamp stop) vs → stamp < 2 ^ 36
-taken_low q f owner want own stamp stop vs a = takes_low q f owner want a.word (standing_of (kind_fields a.word) want) own stamp stop a.steps.after a.way a.steps.next
 
 -- ---- its word before
 dead_low : (v p l u : Bool) (j : ℕ) → (not v && (not p && not l)) ≡ true → (v ≡ false) × ((if v then 515 else if p then (if u then 1 else j + 2) else 0) ≤ 1)
@@ -119,7 +104,7 @@ module _ (v u : PortValue) (f owner stamp : ℕ) (own : Bool) (stop : Stop) (tel
   alike = (type.plain telling).2
 
   low : stamp < 2 ^ 36
-  low = let t = does_tells v u (TypeBy v.post f owner Writable (Ok (types.Waiting own stamp stop))) type.found telling in taken_low v.post f owner Writable own stamp stop t.list t.is
+  low = type_low v u f owner Writable own stamp stop type.found
 
   before : ((kind_at m f).validated ≡ false) × (rank_at m f ≤ 1)
   before = let a = type.plain telling in low_before f (m (Kind f)) Writable own stamp stop s refl a.0 a.1
