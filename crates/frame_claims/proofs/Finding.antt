@@ -4,12 +4,10 @@ use Rattle.std.proofs.Math.Nat.{add-mul-mod_self_left, le-div_iff_mul-le, mul-mo
 use Rattle.std.proofs.lemmas.Nat.{mul-mod_first}
 use Rattle.xp_words.specs.Machine.{Machine, IsMachine}
 use Rattle.xp_words.specs.Places.{sizes_of}
-use Rattle.xp_words.specs.RefWords.{ref_read, ref_write, IsRef}
+use Rattle.xp_words.specs.RefWords.{ref_read, IsRef}
 use Rattle.xp_words.specs.declared.place.Place.{Place}
 use Rattle.xp_words.specs.declared.place.Place.TheVariants.{Map, Refs}
 use Rattle.xp_words.specs.declared.refs.RefWord.TheVariants.{Free}
-use Rattle.xp_words.proofs.RefLaws.{ref_write-read}
-use Rattle.xp_board.proofs.RefWords.{read_small}
 use Rattle.xp_board.specs.Acts.{left_by}
 use Rattle.xp_board.specs.Readings.{is_free}
 use Rattle.xp_board.specs.Steps.{last_since}
@@ -17,6 +15,7 @@ use Rattle.xp_board.specs.declared.step.Act.TheVariants.{Load}
 use Rattle.xp_board.specs.declared.step.StepKind.TheVariants as kinds
 use Rattle.xp_board.specs.Told.{Post, PortValue}
 use Rattle.board_lemmas.proofs.Sums.{when_eq}
+use Rattle.board_lemmas.proofs.RefForms.{free_number}
 use Rattle.step_maker.specs.Holds.{MayWork, Same}
 use Rattle.step_maker.specs.Moves.{Came, Met, Moves}
 use Rattle.step_maker.proofs.Coming.{came_post, met_after, met_before, moment_of, moves_came, moves_met}
@@ -32,10 +31,6 @@ use Rattle.frame_claims.specs.Choosing.{FreeWord, IsFound, IsLatest, KeepsLast, 
 use Rattle.frame_claims.proofs.Lasting.{met_within}
 
 -- ---- words
-pub free_word : (w stamp : ℕ) → ref_read w ≡ Some (Free stamp) → w ≡ stamp
-unfolding ref_write
-free_word w stamp e = sym (ref_write-read w (Free stamp) (read_small w (Free stamp) e) e).1
-
 pub word_free : (w stamp : ℕ) → FreeWord w stamp → is_free w ≡ true
 unfolding is_free
 word_free w stamp f = rw f.read refl
@@ -160,7 +155,7 @@ some_of (suc k) greatest s none less = omega arith
 -- ---- for the search
 pub free_told : (w stamp : ℕ) → Some (Free stamp) ≡ ref_read w → IsRef (Free stamp) → FreeWord w stamp
 unfolding IsRef
-free_told w stamp reads low = record { read = sym reads; is = free_word w stamp (sym reads); low = low }
+free_told w stamp reads low = record { read = sym reads; is = free_number w stamp (sym reads); low = low }
 
 pub look_map_looks : (v u w : PortValue) (k x : ℕ) → Looks v u → Moves u w (Map k) Load kinds.Look None x → Same u w → Looks v w
 look_map_looks v u w k x a m same = record { serves = λ r. serves_step v u w r [] (Map k) Load kinds.Look None x (a.serves r) m tt; hand = same ∙ a.hand }

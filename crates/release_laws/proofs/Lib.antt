@@ -1,4 +1,4 @@
-mod Parts
+pub mod Parts
 pub mod Seen
 pub mod Words
 mod Putting

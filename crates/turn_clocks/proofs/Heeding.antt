@@ -27,7 +27,7 @@ use Rattle.flush_words.proofs.Flushed.{own_flushed}
 use Rattle.flush_words.proofs.FlushTwin.{own_refused, own_ticked}
 use Rattle.flush_words.proofs.Lasting.{came_keeps}
 use Rattle.tlb_walks.specs.Dropping.{Acks, Heeds}
-use Rattle.turn_clocks.proofs.Waiting.{alone_telling}
+use Rattle.course_laws.proofs.Awaiting.{alone_telling}
 
 -- ---- what is sound of the own flush
 module _ (n : Machine) (s t : ℕ) (o : Option Story) (h : Holdings) (story : Story) (is : o ≡ Some story) (state : SoundState n story.words story.hands) where

@@ -40,7 +40,7 @@ use Rattle.step_maker.proofs.Noting.{moves_keeps}
 use Rattle.step_maker.proofs.Telling.{told_elsewhere}
 use Rattle.answer_laws.specs.Alone.{IsAlone}
 use Rattle.turn_laws.proofs.Hindering.{AloneStays}
-use Rattle.turn_clocks.proofs.Waiting.{alone_telling}
+use Rattle.course_laws.proofs.Awaiting.{alone_telling}
 use Rattle.turn_clocks.proofs.Others.{is_there, word_here}
 
 -- ---- by kind

@@ -1,5 +1,5 @@
 -- Who a flush is waited for runs, and stays asked for it.
-use Rattle.std.proofs.Common.{◌≡◌, ◌≢◌, ℕ, ◌<◌, ◌≤◌, ◌==◌, ◌||◌, true, false, is_some, length, refl, sym, ap, ◌∙◌, subst, arith}
+use Rattle.std.proofs.Common.{◌≡◌, ◌≢◌, ℕ, ◌<◌, ◌≤◌, ◌==◌, ◌||◌, true, false, length, refl, sym, ap, ◌∙◌, subst, arith}
 use Rattle.xp_words.specs.Places.{asked_of, flushed_of, run_of}
 use Rattle.xp_words.specs.declared.place.Place.TheVariants.{Vcpu}
 use Rattle.xp_words.specs.declared.reply.Pause.TheVariants.{Flush}
@@ -15,12 +15,8 @@ use Rattle.step_maker.proofs.Telling.{came_telling, told_here, told_there}
 use Rattle.answer_fits.specs.Answers.{Stops}
 use Rattle.answer_fits.specs.Finding.{FoundAt}
 use Rattle.answer_fits.specs.Pauses.{AskedTo}
-use Rattle.answer_laws.specs.Alone.{IsAlone}
 use Rattle.turn_clocks.proofs.Others.{others_least, others_same}
 use Rattle.turn_clocks.proofs.Pausing.{StopsWithin}
-
-pub alone_telling : (v : PortValue) → IsAlone v → is_telling v ≡ true
-alone_telling v alone = ap is_some alone.telling
 
 -- ---- what was found of another vCPU stays so
 module _ (v w : PortValue) (u : ℕ) (other : u ≢ v.post.vcpu) (is : is_telling v ≡ true) where

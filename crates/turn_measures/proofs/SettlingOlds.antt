@@ -1,5 +1,5 @@
 -- Both old words: what a settling that ends leaves of them, and one that the gate pauses.
-use Rattle.std.proofs.Common.{◌≡◌, ◌≢◌, ◌⊎◌, ℕ, ◌<◌, Bool, true, List, is_some, Option, Some, None, Result, Ok, Err, refl, sym, ap, ◌∙◌, subst, inl, inr, arith}
+use Rattle.std.proofs.Common.{◌≡◌, ◌≢◌, ◌⊎◌, ℕ, ◌<◌, Bool, true, List, Option, Some, None, Result, Ok, Err, refl, sym, ap, ◌∙◌, subst, inl, inr, arith}
 use Rattle.std.proofs.lemmas.Bool.{cases_eq}
 use Rattle.std.proofs.lemmas.Bool.Decides.{nat_tests}
 use Rattle.xp_words.specs.Machine.{Machine}
@@ -12,6 +12,7 @@ use Rattle.xp_words.specs.declared.reply.Stop.TheVariants.{Paused}
 use Rattle.xp_board.specs.Told.{PortValue, is_telling, told_word}
 use Rattle.step_maker.specs.Plain.{Words}
 use Rattle.step_maker.proofs.Telling.{came_telling}
+use Rattle.course_laws.proofs.Awaiting.{alone_telling}
 use Rattle.answer_laws.specs.Alone.{IsAlone}
 use Rattle.level_release.specs.Asking.{IsReleaseEnd}
 use Rattle.level_release.specs.Course as course
@@ -128,9 +129,6 @@ due_only n (Lost place expected found) kind free = absurd free
 due_only n (Busy f found) kind free = absurd free
 due_only n (Flush u stamp found) kind free = absurd kind
 due_only n (Alive u found) kind free = absurd kind
-
-alone_telling : (v : PortValue) → IsAlone v → is_telling v ≡ true
-alone_telling v alone = ap is_some alone.telling
 
 pub settles_less : (below : Option ℕ) (v w : PortValue) (answers : List Bool) (p : Pause) → IsAlone v → IsUnhindered v.post.machine (ends.Paused p) → KeepsLeft (told_word v) v.post.vcpu below →
     (settles : Settles below v w answers (Err (Paused p))) → NamesLess below (told_word v) (told_word w) v.post.vcpu (left_settled settles.course)

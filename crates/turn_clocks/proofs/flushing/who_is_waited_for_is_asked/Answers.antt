@@ -1,4 +1,5 @@
-use Rattle.turn_clocks.proofs.Waiting.{alone_telling, waited_asked, waited_other, waited_runs}
+use Rattle.course_laws.proofs.Awaiting.{alone_telling}
+use Rattle.turn_clocks.proofs.Waiting.{waited_asked, waited_other, waited_runs}
 use Rattle.turn_clocks.proofs.Pausing.{turn_paused}
 use Rattle.turn_clocks.proofs.flushing.who_is_waited_for_is_asked.Goals as goal
 
