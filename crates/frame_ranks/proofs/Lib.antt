@@ -6,7 +6,6 @@ pub mod Standings
 pub mod Taking
 pub mod Entering
 pub mod Resuming
-pub mod Stamps
 pub mod Stepping
 pub mod Going
 pub mod Advancing

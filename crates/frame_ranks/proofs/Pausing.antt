@@ -29,7 +29,7 @@ use Rattle.frame_ranks.proofs.Entering.{refer_inside}
 use Rattle.frame_ranks.proofs.Facing.{calm_then, got_calm, same_calm, turned_twice}
 use Rattle.frame_ranks.proofs.Going.{At, Led, at_later, at_spelled, at_telling}
 use Rattle.frame_ranks.proofs.Leaving.{goes_alive, unwound_moved, waiting_turned}
-use Rattle.frame_ranks.proofs.Stamps.{type_low}
+use Rattle.acquisition_laws.proofs.Lows.{type_low}
 use Rattle.frame_ranks.proofs.Stepping.{gave_calm}
 use Rattle.frame_ranks.proofs.Taking.{takes_wait, takes_work}
 use Rattle.frame_ranks.proofs.Turning.{beside, calm_moved, dead_lasts, into}
@@ -83,7 +83,7 @@ module _ (stays : AloneStays) (n : Machine) (f owner level : ℕ) where
         let at_x = at_later stays n u x at_u (took_came u x _ a) in
         let waits = took.0 in
         let on_x : AreAllAlive n (told_word x) = λ d real. took.1.1.lives d ∙ goes_alive n (told_word v) [] (told_word u) [] got_moved.goes alive d real in
-        let left = waiting_turned n x w f level owner stamp own at_x on_x (type_low u x f owner (level_type level) own stamp (Paused p) a.found) b in
+        let left = waiting_turned n x w f level owner stamp own at_x on_x (type_low u x f owner (level_type level) _ a.found) b in
         let k = partial_kind (level_type level) left.0 true 0 stamp in
         record {
           moved = moved_then n (told_word v) [] (told_word u) [] (told_word w) [] got_moved

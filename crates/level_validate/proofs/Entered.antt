@@ -38,7 +38,7 @@ use Rattle.xp_board.specs.Settling.{is_settled}
 use Rattle.step_maker.specs.Moves.{Came}
 use Rattle.step_maker.proofs.Coming.{came_post, came_trans}
 use Rattle.flush_waits.proofs.Growing.{came_grows}
-use Rattle.table_entries.specs.Tops.{IsSettledNow, LookedAnd, Opens, TakesAgain, as_it_was, with_recorded}
+use Rattle.table_entries.specs.Tops.{IsSettledNow, LookedAnd, Opens, TakesAgain, WorksAtTop, as_it_was, with_recorded}
 use Rattle.table_entries.proofs.HandReady.{settled_more}
 use Rattle.partial_state.proofs.LevelFacts.{level_type-table}
 use Rattle.partial_state.specs.declared.stack.TableWork.{TableWork}
@@ -219,10 +219,11 @@ module _ {v u x : PortValue} {owner : ℕ} {t : TableWork} {ts : List TableWork}
 
 -- The next entry of the innermost table is taken: what that is of the course, by the answer.
 -- ---- the call that takes it, for the type of the table's level
-module _ (v w : PortValue) (owner : ℕ) (t : TableWork) {k : PageType} (is : k ≡ level_type t.level) where
+module _ (v w : PortValue) (owner : ℕ) (t : TableWork) {k : PageType} (is : k ≡ level_type t.level) (top : WorksAtTop t.frame (level_type t.level) t.done v.holdings) where
   pub entered_ok : (b a : Entered) → b ≡ a → EntersFound v w t.frame t.done k owner (Ok b) → TwinEntry v w t.frame k t.done owner (Ok b) → ((pages : ℕ) → ShowsEntered v w owner pages k b) → TookEntry v w owner t (Ok a)
   entered_ok b a same found plain shows =
       record {
+        top = top;
         found = subst (λ (j : PageType). EntersFound v w t.frame t.done j owner (Ok a)) is (subst (λ (r : Entered). EntersFound v w t.frame t.done k owner (Ok r)) same found);
         plain = subst (λ (j : PageType). TwinEntry v w t.frame j t.done owner (Ok a)) is (subst (λ (r : Entered). TwinEntry v w t.frame k t.done owner (Ok r)) same plain);
         stops = λ pages. tt;
@@ -232,6 +233,7 @@ module _ (v w : PortValue) (owner : ℕ) (t : TableWork) {k : PageType} (is : k 
   pub entered_err : (e : Stop) → EntersFound v w t.frame t.done k owner (Err e) → TwinEntry v w t.frame k t.done owner (Err e) → ((pages : ℕ) → Stops v w (of_entries owner pages) e) → TookEntry v w owner t (Err e)
   entered_err e found plain stops =
       record {
+        top = top;
         found = subst (λ (j : PageType). EntersFound v w t.frame t.done j owner (Err e)) is found;
         plain = subst (λ (j : PageType). TwinEntry v w t.frame j t.done owner (Err e)) is plain;
         stops = stops;

@@ -18,11 +18,8 @@ use Rattle.xp_preempt.proofs.Consulting.{consulted_ask, consulted_none, consulte
 use Rattle.level_validate.specs.Courses.{Consults, asked_once, GoesOnFilling, ValidatesBy}
 use Rattle.table_entries.specs.Asking.{IsEntryStop}
 use Rattle.table_courses.specs.Acquiring.{Filled, TookOn, Worked, is_asked, Advanced, MadeLive, Unwound, keeps_it}
-use Rattle.level_validate.proofs.Steps.{well_then, forward_then}
-use Rattle.level_validate.specs.Leaving.{LeftWell}
 use Rattle.step_maker.specs.Holds.{MayWork}
 use Rattle.step_maker.proofs.Coming.{came_trans}
-use Rattle.level_validate.specs.Forward.{Forward}
 use Rattle.level_validate.specs.Tables.{IsStanding, IsTopReady, StandsOn}
 use Rattle.level_validate.proofs.Serving.{goes_on, goes_then}
 use Rattle.level_validate.proofs.Standing.{may_back, may_stands}
@@ -184,8 +181,6 @@ module _ (owner : ℕ) (v w : PortValue) (ts us : List TableWork) where
 -- wherever the tables ts came into work, us are in work now, with the same outermost one; and the steps went on with what asked ts
 pub record Filling (u w : PortValue) (owner : ℕ) (ts us : List TableWork) : Type 0 where
   pub came : Came u w
-  pub forward : Forward u w
-  pub leaves : (f : ℕ) → LeftWell u w false f
   pub stands : StandsOn u w owner ts us
   pub outer : outermost_work us ≡ outermost_work ts
   pub ready : IsTopReady w
@@ -213,12 +208,10 @@ module _ {u x : PortValue} {owner : ℕ} {ts us : List TableWork} (f : Filling u
     unfolding StopsRisen CarriesOn
     filling_stops e stops v r ds rose s a = stops v r ds rose (f.stands v s) (f.serves v r ds a)
 
-pub filling_on : (u x w : PortValue) (owner : ℕ) (ts us rs : List TableWork) → Filling u x owner ts us → Came x w → Forward x w → ((f : ℕ) → LeftWell x w false f) → StandsOn x w owner us rs → outermost_work rs ≡ outermost_work us → IsTopReady w → CarriesOn x w owner us rs [] → Filling u w owner ts rs
-filling_on u x w owner ts us rs f came forward leaves stands outer ready serves =
+pub filling_on : (u x w : PortValue) (owner : ℕ) (ts us rs : List TableWork) → Filling u x owner ts us → Came x w → StandsOn x w owner us rs → outermost_work rs ≡ outermost_work us → IsTopReady w → CarriesOn x w owner us rs [] → Filling u w owner ts rs
+filling_on u x w owner ts us rs f came stands outer ready serves =
     record {
       came = filling_came f w rs came;
-      forward = forward_then u x w f.forward forward;
-      leaves = λ g. well_then u x w false g (f.leaves g) (leaves g);
       stands = filling_stands f w rs stands;
       outer = outer ∙ f.outer;
       ready = ready;

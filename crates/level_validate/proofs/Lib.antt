@@ -4,11 +4,9 @@ mod Entered
 mod Filling
 mod Leaving
 mod LeftWaiting
-mod LeftWellEntries
 mod LookedAgain
 mod Opening
 mod Pushing
 mod Serving
 mod Standing
-mod Steps
 mod Unwound

@@ -4,7 +4,7 @@ use Rattle.xp_words.specs.declared.kind.PageType.{PageType}
 use Rattle.xp_words.specs.declared.reply.Stop.{Stop}
 use Rattle.xp_board.specs.Told.{PortValue, Post}
 use Rattle.answer_fits.specs.Answers.{Stops, Serves, missed}
-use Rattle.answer_fits.specs.Visits.{Does, Visit}
+use Rattle.answer_fits.specs.Visits.{Does}
 use Rattle.frame_types.specs.Found.{SharedBy}
 use Rattle.partial_state.specs.Levels.{level_type}
 use Rattle.partial_state.specs.declared.stack.TableWork.{TableWork}
@@ -16,12 +16,9 @@ use Rattle.table_courses.specs.Acquiring.{GaveBack, LeftWaiting, ResumedEntry, T
 use Rattle.step_maker.specs.Moves.{Came, Met}
 use Rattle.step_maker.proofs.Coming.{came_trans, came_post}
 use Rattle.answer_fits.proofs.Piecing.{serves_came}
-use Rattle.table_entries.specs.Tops.{LeavesEntered, LeavesResumed}
-use Rattle.level_validate.specs.Forward.{Forward}
-use Rattle.level_validate.specs.Leaving.{LeftWell}
+use Rattle.table_entries.specs.Tops.{LeavesEntered, LeavesResumed, WorksAtTop}
 use Rattle.level_validate.specs.Tables.{Carries, IsStanding, IsTopReady, StandsOn}
 use Rattle.level_validate.proofs.Entered.{after_look, after_settled, back_one, taken_gives, taken_ready, taken_stands, after_again, after_next, entered_ok}
-use Rattle.level_validate.proofs.LeftWellEntries.{resumes_forward, resumes_well, IsAskedType, shared_plain, stamp_small}
 use Rattle.level_validate.proofs.Opening.{FirstFound, entered_first, resumed_first, taken_found, left_waiting, wait_stops, waited_found, waits_there, again_found, opened_found}
 use Rattle.step_maker.specs.Holds.{Holds, MayWork}
 use Rattle.answer_fits.specs.Asked.{of_back}
@@ -31,23 +28,23 @@ use Rattle.frame_types.specs.Taking.{gave_type}
 use Rattle.level_validate.specs.Giving.{MayGiveBack}
 use Rattle.level_validate.specs.Serving.{CarriesOn, StopsIn}
 use Rattle.level_validate.proofs.Serving.{goes_back, goes_inner, goes_opened, stops_behind, goes_left, goes_waiting, stops_entries, stops_on}
-use Rattle.partial_state.proofs.LevelFacts.{level_type-under, level_type-plain, level_type-typed}
+use Rattle.partial_state.proofs.LevelFacts.{level_type-under}
 use Rattle.std.proofs.lemmas.Result.{IfErr-weaker}
 use Rattle.xp_words.specs.Entries.{below}
 use Rattle.partial_state.specs.Stacks.{IsTable, advanced, left_on_top}
 use Rattle.level_validate.proofs.Pushing.{pushed}
 use Rattle.level_validate.proofs.Standing.{may_back, may_stands}
 use Rattle.frame_types.specs.Leaving.{GivesBack, IsWaiting, ServesType}
-use Rattle.level_validate.proofs.Steps.{Plain, forward_by, forward_then, well_by, well_then}
 use Rattle.table_entries.specs.declared.entries.Entered.{Entered}
 use Rattle.table_entries.specs.declared.resuming.Resumed.TheVariants as again
 use Rattle.table_entries.specs.declared.entries.Entered.TheVariants as entered
 
 -- ---- the call that looks, for the type of the table's level
-module _ (v w : PortValue) (owner : ℕ) (t : TableWork) {k : PageType} (is : k ≡ level_type t.level) where
+module _ (v w : PortValue) (owner : ℕ) (t : TableWork) {k : PageType} (is : k ≡ level_type t.level) (top : WorksAtTop t.frame (level_type t.level) t.done v.holdings) where
   pub resumed_ok : (b a : Resumed) → b ≡ a → ResumesFound v w t.frame (t.done - 1) k owner (Ok b) → TwinResume v w t.frame k (t.done - 1) owner (Ok b) → ((pages : ℕ) → ShowsResumed v w owner pages k b) → ResumedEntry v w owner t (Ok a)
   resumed_ok b a same found plain shows =
       record {
+        top = top;
         found = subst (λ (j : PageType). ResumesFound v w t.frame (t.done - 1) j owner (Ok a)) is (subst (λ (r : Resumed). ResumesFound v w t.frame (t.done - 1) k owner (Ok r)) same found);
         plain = subst (λ (j : PageType). TwinResume v w t.frame j (t.done - 1) owner (Ok a)) is (subst (λ (r : Resumed). TwinResume v w t.frame k (t.done - 1) owner (Ok r)) same plain);
         stops = λ pages. tt;
@@ -57,6 +54,7 @@ module _ (v w : PortValue) (owner : ℕ) (t : TableWork) {k : PageType} (is : k 
   pub resumed_err : (e : Stop) → ResumesFound v w t.frame (t.done - 1) k owner (Err e) → TwinResume v w t.frame k (t.done - 1) owner (Err e) → ((pages : ℕ) → Stops v w (of_entries owner pages) e) → ResumedEntry v w owner t (Err e)
   resumed_err e found plain stops =
       record {
+        top = top;
         found = subst (λ (j : PageType). ResumesFound v w t.frame (t.done - 1) j owner (Err e)) is found;
         plain = subst (λ (j : PageType). TwinResume v w t.frame j (t.done - 1) owner (Err e)) is plain;
         stops = stops;
@@ -107,11 +105,11 @@ pub record SaidAgain (u x : PortValue) (owner : ℕ) (t : TableWork) (a : Resume
   pub serves : (pages : ℕ) → Serves u x (of_entries owner pages) []
   pub hand : LeavesResumed u x t.frame (level_type t.level) (t.done - 1) owner a
 
-pub said_again : (u x : PortValue) (owner : ℕ) (t : TableWork) (k : PageType) → k ≡ level_type t.level → (b a : Resumed) → b ≡ a → ResumesFound u x t.frame (t.done - 1) k owner (Ok b) → TwinResume u x t.frame k (t.done - 1) owner (Ok b) →
+pub said_again : (u x : PortValue) (owner : ℕ) (t : TableWork) (k : PageType) → k ≡ level_type t.level → WorksAtTop t.frame (level_type t.level) t.done u.holdings → (b a : Resumed) → b ≡ a → ResumesFound u x t.frame (t.done - 1) k owner (Ok b) → TwinResume u x t.frame k (t.done - 1) owner (Ok b) →
     ((pages : ℕ) → ShowsResumed u x owner pages k b) → ((pages : ℕ) → Serves u x (of_entries owner pages) []) → LeavesResumed u x t.frame k (t.done - 1) owner b → SaidAgain u x owner t a
-said_again u x owner t k is b a same found plain shows serves hand =
+said_again u x owner t k is top b a same found plain shows serves hand =
     record {
-      entry = resumed_ok u x owner t is b a same found plain shows;
+      entry = resumed_ok u x owner t is top b a same found plain shows;
       serves = serves;
       hand = subst (λ (j : PageType). LeavesResumed u x t.frame j (t.done - 1) owner a) is (subst (λ (r : Resumed). LeavesResumed u x t.frame k (t.done - 1) owner r) same hand);
     }
@@ -125,12 +123,6 @@ module _ {u x : PortValue} {owner : ℕ} {t : TableWork} {a : Resumed} (said : S
 
   pub again_first : FirstFound u
   again_first = resumed_first u x t.frame (t.done - 1) (level_type t.level) owner (Ok a) said.entry.found
-
-  pub again_forward : (stack : List TableWork) → stack ≡ t ∷ drop 1 stack → IsStanding u owner stack → (t.done ≡ 0 → ⊥) → Forward u x
-  again_forward stack top stands some = resumes_forward u x owner top stands refl (Ok a) some said.entry.found
-
-  pub again_well : (e : ℕ) → LeftWell u x false e
-  again_well e = resumes_well u x e t.frame (t.done - 1) (level_type t.level) owner (Ok a) said.entry.found
 
 -- ---- it is settled
 module _ {u x : PortValue} {owner : ℕ} {t : TableWork} {stack : List TableWork} (top : stack ≡ t ∷ drop 1 stack) (said : SaidAgain u x owner t again.Settled) where
@@ -216,11 +208,11 @@ pub record SaidNext (u x : PortValue) (owner : ℕ) (t : TableWork) (a : Entered
   pub serves : (pages : ℕ) → Serves u x (of_entries owner pages) []
   pub hand : LeavesEntered u x t.frame (level_type t.level) t.done owner a
 
-pub said_next : (u x : PortValue) (owner : ℕ) (t : TableWork) (k : PageType) → k ≡ level_type t.level → (b a : Entered) → b ≡ a → EntersFound u x t.frame t.done k owner (Ok b) → TwinEntry u x t.frame k t.done owner (Ok b) →
+pub said_next : (u x : PortValue) (owner : ℕ) (t : TableWork) (k : PageType) → k ≡ level_type t.level → WorksAtTop t.frame (level_type t.level) t.done u.holdings → (b a : Entered) → b ≡ a → EntersFound u x t.frame t.done k owner (Ok b) → TwinEntry u x t.frame k t.done owner (Ok b) →
     ((pages : ℕ) → ShowsEntered u x owner pages k b) → ((pages : ℕ) → Serves u x (of_entries owner pages) []) → LeavesEntered u x t.frame k t.done owner b → SaidNext u x owner t a
-said_next u x owner t k is b a same found plain shows serves hand =
+said_next u x owner t k is top b a same found plain shows serves hand =
     record {
-      entry = entered_ok u x owner t is b a same found plain shows;
+      entry = entered_ok u x owner t is top b a same found plain shows;
       serves = serves;
       hand = subst (λ (j : PageType). LeavesEntered u x t.frame j t.done owner a) is (subst (λ (r : Entered). LeavesEntered u x t.frame k t.done owner r) same hand);
     }
@@ -276,14 +268,3 @@ module _ {u x : PortValue} {owner : ℕ} {t : TableWork} {stack : List TableWork
 
       pub waited_stops : StopsIn u y owner stack stop
       waited_stops = stops_on u x owner stack stop y on (stops_entries u x owner stack stop (λ pages. (said.entry.shows pages).2))
-
-    -- ---- its steps
-    module _ (y : PortValue) where
-      by_plain : (vs : List Visit) → SharedBy f k stamp vs → Plain vs
-      by_plain = shared_plain f k stamp (subst (λ j. IsAskedType j) (sym kind) (level_type-typed (t.level - 1), level_type-plain (t.level - 1))) (stamp_small said.hand.0.work.word stamp said.hand.1)
-
-      pub shared_forward : Does x y (λ vs. SharedBy f k stamp vs) → Forward u y
-      shared_forward does = forward_then u x y (again_forward said stack top a some) (forward_by x y (λ vs. SharedBy f k stamp vs) by_plain does)
-
-      pub shared_well : Does x y (λ vs. SharedBy f k stamp vs) → (e : ℕ) → LeftWell u y false e
-      shared_well does e = well_then u x y false e (again_well said e) (well_by x y false e (λ vs. SharedBy f k stamp vs) by_plain does)

@@ -1,5 +1,5 @@
 -- A look at an entry of a frame in the own works changes nothing but what is known of that frame.
-use Rattle.std.proofs.Common.{◌≡◌, ℕ, ◌+◌, ◌<◌, false, List, [], ◌∷◌, Option, Some, None, IsTrue, refl, sym, ap, ◌∙◌, subst, arith, ◌++◌, Result, zero, suc, ◌≤◌, if◌then◌else◌, Bool, true, Ok, ◌==◌, not}
+use Rattle.std.proofs.Common.{◌≡◌, ℕ, ◌+◌, ◌<◌, false, List, [], ◌∷◌, Option, Some, None, IsTrue, refl, sym, ap, ◌∙◌, subst, arith, Result, zero, suc, ◌≤◌, if◌then◌else◌, Bool, true, Ok, ◌==◌, not}
 use Rattle.xp_words.specs.KindWords.{kind_fields, has_form, kind_read}
 use Rattle.xp_words.specs.Machine.{Machine}
 use Rattle.xp_words.specs.Places.{is_place, sizes_of}
@@ -24,11 +24,12 @@ use Rattle.board_lemmas.proofs.Works.{counted_alive, nobody_locks}
 use Rattle.step_maker.specs.Moves.{Came, Met, Moment, MovesBy, Ran}
 use Rattle.step_maker.proofs.Coming.{came_post, came_self, came_trans}
 use Rattle.frame_words.proofs.CellSteps.{learned_apart}
+use Rattle.table_courses.proofs.Listing.{each_next, first_is}
 use Rattle.level_validate.specs.Tables.{IsLastWord}
 use Rattle.xp_words.specs.declared.kind.PageType.{PageType}
 use Rattle.xp_words.specs.declared.reply.Stop.{Stop}
 use Rattle.answer_fits.specs.Finding.{FoundAt}
-use Rattle.answer_fits.specs.Visits.{Visit, Does, Only, Then, visits}
+use Rattle.answer_fits.specs.Visits.{Visit, Does, visits}
 use Rattle.table_entries.specs.Found.{EnteredBy, EntersFound, ResumedBy, ResumesFound, saw_cell, LastBy, EntersBy, ResumesBy, TypedAgain, TypedBy, other, outside, settled}
 use Rattle.table_entries.specs.declared.entries.Entered.{Entered}
 use Rattle.table_entries.specs.declared.resuming.Resumed.{Resumed}
@@ -158,32 +159,6 @@ were_found v w x (m ∷ ms) ran after = (
 pub does_shows : {A : Type 0} (v w : PortValue) (P : List Visit → Type 0) → Does v w P → ((vs : List Visit) → EachOf (WasFound v w) vs → P vs → A) → A
 unfolding Does
 does_shows v w P does so = so (visits does.0) (were_found v w w does.0 does.1 (came_self w)) does.2
-
--- ---- in the pieces of a list
-module _ (Q : Visit → Type 0) where
-  each_before : (xs ys : List Visit) → EachOf Q (ys ++ xs) → EachOf Q xs
-  unfolding EachOf
-  each_before xs [] each = each
-  each_before xs (y ∷ ys) each = each_before xs ys each.1
-
-  each_after : (xs ys : List Visit) → EachOf Q (ys ++ xs) → EachOf Q ys
-  unfolding EachOf
-  each_after xs [] each = tt
-  each_after xs (y ∷ ys) each = (each.0, each_after xs ys each.1)
-
-  module _ {A B : List Visit → Type 0} {vs : List Visit} (both : Then A B vs) (each : EachOf Q vs) where
-    pub each_first : EachOf Q both.before
-    each_first = each_before both.before both.after (subst (λ xs. EachOf Q xs) both.list each)
-
-    pub each_next : EachOf Q both.after
-    each_next = each_after both.before both.after (subst (λ xs. EachOf Q xs) both.list each)
-
-  only_is : (s : Visit) (vs : List Visit) → Only s vs → EachOf Q vs → Q s
-  unfolding EachOf
-  only_is s vs one each = (subst (λ xs. EachOf Q xs) one each).0
-
-  pub first_is : (s : Visit) (B : List Visit → Type 0) (vs : List Visit) → Then (Only s) B vs → EachOf Q vs → Q s
-  first_is s B vs both each = only_is s both.before both.first (each_first both each)
 
 -- ---- the look at the entry
 module _ (v w : PortValue) (f i : ℕ) (t : PageType) (owner : ℕ) where

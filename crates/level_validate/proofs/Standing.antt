@@ -1,5 +1,5 @@
 -- Tables in work: the innermost, what is known of each by its references, and how they stand when steps are noted.
-use Rattle.std.proofs.Common.{◌≡◌, ℕ, ◌<◌, ◌≤◌, Bool, true, false, List, [], ◌∷◌, length, Option, Some, None, IsTrue, refl, sym, ap, ◌∙◌, subst, arith, inl, inr, ◌≢◌, ◌+◌, not}
+use Rattle.std.proofs.Common.{◌≡◌, ℕ, ◌<◌, ◌≤◌, Bool, true, false, List, [], ◌∷◌, drop, length, Option, Some, None, IsTrue, refl, sym, ap, ◌∙◌, subst, arith, inl, inr, ◌≢◌, ◌+◌, not}
 use Rattle.xp_words.specs.Machine.{IsMachine}
 use Rattle.xp_words.specs.Places.{Sizes, sizes_of}
 use Rattle.xp_words.specs.declared.entry.Demand.TheVariants.{Typed}
@@ -21,7 +21,7 @@ use Rattle.table_entries.proofs.HandReady.{settled_more}
 use Rattle.partial_state.specs.declared.stack.TableWork.{TableWork}
 use Rattle.partial_state.specs.Levels.{level_type}
 use Rattle.partial_state.specs.Stacks.{IsStack}
-use Rattle.level_validate.specs.Tables.{AreTables, AreTyped, IsTableWork, Reaches, Carries, TypedFor, innermost, refs_for, taken_on, under_way, IsTopReady}
+use Rattle.level_validate.specs.Tables.{IsStanding, AreTables, AreTyped, IsTableWork, Reaches, Carries, TypedFor, innermost, refs_for, taken_on, under_way, IsTopReady}
 use Rattle.frame_types.proofs.Entering.{typed_owned}
 use Rattle.std.proofs.lemmas.Bool.{cases_eq}
 use Rattle.xp_words.specs.Entries.{demand_at, below}
@@ -422,3 +422,7 @@ module _ {v w : PortValue} {owner : ℕ} {t : TableWork} {ts : List TableWork} (
 
   pub standing_looked : w.holdings.looking ≡ []
   standing_looked = ap (λ (q : PortValue). q.holdings.looking) s.hand ∙ s.idle.looking
+
+-- from a stack of which that table is the top
+pub stack_top : {w : PortValue} {owner : ℕ} {t : TableWork} {stack : List TableWork} → stack ≡ t ∷ drop 1 stack → IsStanding w owner stack → WorksAtTop t.frame (level_type t.level) t.done w.holdings
+stack_top {w} {owner} is a = standing_top (subst (λ xs. Carries a.0 w owner xs) is a.1)

@@ -11,28 +11,21 @@ use Rattle.level_validate.specs.Acquiring.{is_filled, outermost_work}
 use Rattle.level_validate.specs.Completing.{Completes}
 use Rattle.level_validate.specs.Tables.{Carries, IsStanding, StandsOn, refs_for}
 use Rattle.level_validate.specs.Unwinding.{Unwinds, UnwoundHand, named_unless, outermost_frame, outermost_named, UnwindsTo, UnwoundTo, around_lent, left_so}
-use Rattle.level_validate.proofs.Standing.{top_owned, top, top_gone, top_kept, top_typed, top_spelled, may_back, may_stands, ref_owned, refs_lent, refs_own, stands_none, stands_post, tables_none}
+use Rattle.level_validate.proofs.Standing.{top_owned, top, top_gone, top_kept, top_typed, may_back, may_stands, ref_owned, refs_lent, refs_own, stands_none, stands_post, tables_none}
 use Rattle.xp_words.specs.Places.{sizes_of}
 use Rattle.xp_board.specs.Hands.{typed_to, without_typed, without_work}
 use Rattle.xp_board.specs.Readings.{domain_of}
-use Rattle.step_maker.specs.Moves.{Came, Moves}
+use Rattle.step_maker.specs.Moves.{Came}
 use Rattle.step_maker.proofs.Coming.{came_self, came_trans}
 use Rattle.kept_marks.specs.Marks.{LeavesKept}
 use Rattle.kind_words.specs.Kinds.{partial_kind}
 use Rattle.partial_state.specs.Levels.{level_type}
 use Rattle.table_courses.specs.Acquiring.{Unwound}
 use Rattle.level_validate.specs.Courses.{UnwindsOn}
-use Rattle.level_validate.specs.Forward.{Forward}
-use Rattle.level_validate.specs.Leaving.{LeftWell}
 use Rattle.level_validate.specs.Serving.{CarriesOn, ServesLeft, ServesTo}
-use Rattle.level_validate.proofs.Steps.{forward_nothing, forward_then, well_nothing, well_then, well_store}
 use Rattle.level_validate.proofs.Leaving.{typed_gone, unwinds_then}
 use Rattle.level_validate.proofs.Serving.{goes_nothing, goes_then, left_behind, left_on}
-use Rattle.xp_words.specs.KindWords.{kind_write}
-use Rattle.xp_words.specs.declared.place.Place.TheVariants.{Kind}
-use Rattle.xp_board.specs.declared.step.Act.TheVariants.{Store}
 use Rattle.xp_board.specs.declared.holdings.OwnerFound.TheVariants as owners
-use Rattle.xp_board.specs.declared.step.StepKind.TheVariants as kinds
 
 -- ---- full
 is_at : (m n : ℕ) → (m == n) ≡ true → m ≡ n
@@ -196,8 +189,6 @@ outermost_left b t us rs is some =
 -- ---- the loop: from u on so many of the tables ts were left, and us stand
 pub record Unwinding (u w : PortValue) (owner : ℕ) (kept : Bool) (ts us : List TableWork) : Type 0 where
   pub came : Came u w
-  pub forward : Forward u w
-  pub leaves : (t : TableWork) → outermost_work ts ≡ Some t → LeftWell u w kept t.frame
   pub outermost : us ≢ [] → outermost_work us ≡ outermost_work ts
   pub hand : UnwindsTo u w owner kept ts us
   pub serves : ServesTo u w owner kept ts us
@@ -216,8 +207,6 @@ unfolding UnwindsOn
 unwinding_begins u owner kept ts =
     record {
       came = came_self u;
-      forward = forward_nothing u;
-      leaves = λ t is. well_nothing u kept t.frame;
       outermost = λ some. refl;
       hand = λ v s. begins u v owner kept ts s;
       serves = serves_begin u owner kept ts;
@@ -234,14 +223,12 @@ serves_on u w x owner kept ts us [] same came goes left = subst (λ f. ServesLef
 serves_on u w x owner kept ts us (r ∷ rs) same came goes left = goes_then u w x owner ts us (r ∷ rs) [] [] goes left
 
 module _ {u w : PortValue} {owner : ℕ} {kept : Bool} {ts : List TableWork} {t : TableWork} {us : List TableWork} (g : Unwinding u w owner kept ts (t ∷ us)) where
-  pub unwinding_on : (x : PortValue) (rs : List TableWork) → Came w x → Forward w x → ((o : TableWork) → outermost_work (t ∷ us) ≡ Some o → LeftWell w x kept o.frame) → (b : Bool) × (rs ≡ around_lent b us) →
+  pub unwinding_on : (x : PortValue) (rs : List TableWork) → Came w x → (b : Bool) × (rs ≡ around_lent b us) →
       UnwindsTo w x owner kept (t ∷ us) rs → ServesTo w x owner kept (t ∷ us) rs → UnwindsOn w x owner kept (t ∷ us) rs → Unwinding u x owner kept ts rs
-  unwinding_on x rs came forward leaves around hand serves course =
+  unwinding_on x rs came around hand serves course =
       let same : outermost_work (t ∷ us) ≡ outermost_work ts = g.outermost (λ none. absurd cc) in
       record {
         came = came_trans u w x g.came came;
-        forward = forward_then u w x g.forward forward;
-        leaves = λ o is. well_then u w x kept o.frame (g.leaves o is) (leaves o (same ∙ is));
         outermost = λ some. outermost_left around.0 t us rs around.1 some ∙ same;
         hand = λ v s. hand_on v x owner kept ts (t ∷ us) rs same (hand v (g.hand v s));
         serves = serves_on u w x owner kept ts (t ∷ us) rs same g.came g.serves serves;
@@ -259,9 +246,3 @@ module _ {u w : PortValue} {owner : ℕ} {kept : Bool} {ts us : List TableWork} 
   pub unwinding_course : Unwound u owner ts kept w
   unfolding UnwindsOn
   unwinding_course = g.course w (subst (λ (rs : List TableWork). Unwound w owner rs kept w) (sym none) refl)
-
--- A table in work is left partial, without a mark.
-pub unkept_well : (v w : PortValue) (owner : ℕ) (t : TableWork) (d : PortValue) (found : ℕ) (ts : List TableWork) (kept : Bool) (f : ℕ) → Carries v w owner (t ∷ ts) →
-    Moves w d (Kind t.frame) (Store (kind_write (partial_kind (level_type t.level) false false t.done 0))) kinds.Kind None found → LeftWell w d kept f
-unkept_well v w owner t d found ts kept f s store =
-    well_store w d kept f t.frame (partial_kind (level_type t.level) false false t.done 0) kinds.Kind None found (top_spelled s false (λ on. absurd cc)) (λ on. absurd cc) (λ dead. absurd cc) store

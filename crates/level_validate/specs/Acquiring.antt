@@ -19,7 +19,7 @@ use Rattle.kept_marks.specs.Marks.{IsForeign}
 use Rattle.partial_state.specs.Levels.{level_type}
 use Rattle.partial_state.specs.declared.stack.TableWork.{TableWork}
 use Rattle.table_courses.specs.Acquiring.{Acquired}
-pub use Rattle.table_courses.specs.Ending.{is_due_answer, is_due_stop}
+pub use Rattle.table_courses.specs.Ending.{is_due_answer, is_due_stop, is_paused_answer}
 use Rattle.xp_preempt.specs.Gates.{Consulted, ends_yes}
 use Rattle.level_validate.specs.Completing.{Completes}
 use Rattle.level_validate.specs.Serving.{IsPiece}
@@ -27,11 +27,6 @@ use Rattle.level_validate.specs.Tables.{Carries, IsIdle}
 use Rattle.level_validate.specs.Unwinding.{Unwinds, own_domain}
 
 -- ---- answers
-
--- it is a pause
-abbrev pub is_paused_answer : {A : Type 0} → Result A Stop → Bool
-is_paused_answer (Err e) = not (is_refused e)
-is_paused_answer (Ok a) = false
 
 -- why a table is not to be had
 abbrev pub IsAcquireStop : Stop → Type 0

@@ -1,9 +1,7 @@
 pub mod Acquiring
 pub mod Completing
 pub mod Courses
-pub mod Forward
 pub mod Giving
-pub mod Leaving
 pub mod Tables
 pub mod Unwinding
 pub mod Serving

@@ -12,8 +12,6 @@ ghost use Rattle.partial_state.specs.Weights.{weight};
 ghost use Rattle.table_courses.specs.Acquiring.{Advanced, WaitingLeft, Worked, is_asked};
 ghost use Rattle.level_validate.specs.Acquiring.{AcquiresBy, IsAcquireStop, IsTableWaiting, LeavesAcquired, LeavesWaiting, ServesAcquired, StopsRisen, Validated, is_due_answer, is_filled, is_paused_answer, of_acquire, outermost_work};
 ghost use Rattle.level_validate.specs.Courses.{Consults, GoesOnFilling, ValidatesBy, asked_once};
-ghost use Rattle.level_validate.specs.Forward.{Forward};
-ghost use Rattle.level_validate.specs.Leaving.{LeftWell};
 ghost use Rattle.level_validate.specs.Serving.{CarriesOn, ServesLeft, ServesWaiting};
 ghost use Rattle.level_validate.specs.Tables.{IsIdle, IsStanding, IsTopReady, StandsOn};
 ghost use Rattle.xp_preempt.specs.Gates.{Heard};
@@ -55,11 +53,6 @@ pub fn acquire<P: Port>(
     ensures serves { (pages : ℕ) → ServesAcquired (P.value port.old) (P.value port.new) f owner level pages result }
     ensures stops { (pages : ℕ) → IfErr result (λ e. Stops (P.value port.old) (P.value port.new) (of_acquire (P.value port.old) f owner level pages result) e) }
     ensures kinds { IfErr result IsAcquireStop }
-    // No entry is given back, and none read but the next one of a table in work, or the last recorded one.
-    ensures forward { Forward (P.value port.old) (P.value port.new) }
-    // A `kept` mark goes on the frame itself, where it is paused; and on no other but one that a recorded entry asks. No table is left dead
-    // but for such an entry.
-    ensures leaves { LeftWell (P.value port.old) (P.value port.new) (is_paused_answer result) f }
     ensures hand { LeavesAcquired (P.value port.old) (P.value port.new) f owner level result }
     ensures gate { count_yes gate.new ≡ (if is_due_answer result then count_yes gate.old + 1 else count_yes gate.old) }
     ensures heard { Heard (says gate.old) (count_asks gate.old) (count_asks gate.new) (is_due_answer result) }
@@ -119,8 +112,6 @@ fn leave_waiting<P: Port>(
     requires real { owner < length (P.value port.old).post.machine.page_limit }
     requires room { known_old First (P.value port.old).holdings ≡ Some 0 }
     ensures came { Came (P.value port.old) (P.value port.new) }
-    ensures forward { Forward (P.value port.old) (P.value port.new) }
-    ensures leaves { LeftWell (P.value port.old) (P.value port.new) kept frame }
     ensures serves { ServesWaiting (P.value port.old) (P.value port.new) frame level owner kept }
     ensures hand { LeavesWaiting (P.value port.old) (P.value port.new) frame level owner own stamp kept }
     ensures course { WaitingLeft (P.value port.old) (P.value port.new) frame level owner stamp own kept }
@@ -149,8 +140,6 @@ fn validate<P: Port>(
     requires fresh { table.done ≡ 0 → IsTopReady (P.value port.old) }
     requires room { known_old First (P.value port.old).holdings ≡ Some 0 }
     ensures came { Came (P.value port.old) (P.value port.new) }
-    ensures forward { Forward (P.value port.old) (P.value port.new) }
-    ensures leaves { LeftWell (P.value port.old) (P.value port.new) (is_paused_answer result) table.frame }
     ensures hand { Validated (P.value port.old) (P.value port.new) owner table result }
     ensures kinds { IfErr result IsAcquireStop }
     ensures serves { ServesLeft (P.value port.old) (P.value port.new) owner (is_paused_answer result) table.frame (table ∷ []) (misses (P.value port.old).post.machine result) }
@@ -189,8 +178,6 @@ fn fill<P: Port>(
     requires stands { IsStanding (P.value port.old) owner stack.old }
     requires fresh { table.done ≡ 0 → IsTopReady (P.value port.old) }
     ensures came { Came (P.value port.old) (P.value port.new) }
-    ensures forward { Forward (P.value port.old) (P.value port.new) }
-    ensures leaves { (f : ℕ) → LeftWell (P.value port.old) (P.value port.new) false f }
     ensures stands { StandsOn (P.value port.old) (P.value port.new) owner stack.old stack.new }
     ensures outer { outermost_work stack.new ≡ outermost_work stack.old }
     ensures filled { IfOk result (λ _. is_filled stack.new ≡ true) }
@@ -225,8 +212,6 @@ fn go_on<P: Port>(
     requires ready { IsTopReady (P.value port.old) }
     requires more { is_filled stack.old ≡ false }
     ensures came { Came (P.value port.old) (P.value port.new) }
-    ensures forward { Forward (P.value port.old) (P.value port.new) }
-    ensures leaves { (f : ℕ) → LeftWell (P.value port.old) (P.value port.new) false f }
     ensures stands { StandsOn (P.value port.old) (P.value port.new) owner stack.old stack.new }
     ensures outer { outermost_work stack.new ≡ outermost_work stack.old }
     ensures ready { IfOk result (λ _. IsTopReady (P.value port.new)) }
@@ -272,8 +257,6 @@ fn advance<P: Port>(port: &mut P, owner: u16, stack: &mut Stack) -> Result<bool,
     requires ready { IsTopReady (P.value port.old) }
     requires more { is_filled stack.old ≡ false }
     ensures came { Came (P.value port.old) (P.value port.new) }
-    ensures forward { Forward (P.value port.old) (P.value port.new) }
-    ensures leaves { (f : ℕ) → LeftWell (P.value port.old) (P.value port.new) false f }
     ensures stands { StandsOn (P.value port.old) (P.value port.new) owner stack.old stack.new }
     ensures outer { outermost_work stack.new ≡ outermost_work stack.old }
     ensures ready { IfOk result (λ _. IsTopReady (P.value port.new)) }

@@ -16,8 +16,6 @@ ghost use Rattle.partial_state.specs.declared.stack.TableWork.{TableWork};
 ghost use Rattle.table_courses.specs.Acquiring.{Advanced, GaveBack, MadeLive, type_counts};
 ghost use Rattle.level_validate.specs.Completing.{Completes, IsInnerFull};
 ghost use Rattle.level_validate.specs.Giving.{MayGiveBack};
-ghost use Rattle.level_validate.specs.Forward.{Forward};
-ghost use Rattle.level_validate.specs.Leaving.{LeftWell};
 ghost use Rattle.level_validate.specs.Serving.{CarriesOn};
 ghost use Rattle.level_validate.specs.Tables.{IsTopReady, IsStanding, StandsOn};
 
@@ -35,8 +33,6 @@ pub(crate) fn complete_outer<P: Port>(port: &mut P, table: TableWork)
     requires ready { IsTopReady (P.value port.old) }
     requires full { table.done ≡ 512 }
     ensures came { Came (P.value port.old) (P.value port.new) }
-    ensures forward { Forward (P.value port.old) (P.value port.new) }
-    ensures leaves { (f : ℕ) → LeftWell (P.value port.old) (P.value port.new) false f }
     ensures hand { Completes (P.value port.old) (P.value port.new) table }
     ensures serves { (owner : ℕ) → CarriesOn (P.value port.old) (P.value port.new) owner (table ∷ []) [] [] }
     ensures course { MadeLive (P.value port.old) (P.value port.new) table }
@@ -52,8 +48,6 @@ pub(crate) fn complete_inner<P: Port>(port: &mut P, stack: &mut Stack)
     requires ready { IsTopReady (P.value port.old) }
     requires full { IsInnerFull stack.old }
     ensures came { Came (P.value port.old) (P.value port.new) }
-    ensures forward { Forward (P.value port.old) (P.value port.new) }
-    ensures leaves { (f : ℕ) → LeftWell (P.value port.old) (P.value port.new) false f }
     ensures stands { (owner : ℕ) → StandsOn (P.value port.old) (P.value port.new) owner stack.old stack.new }
     ensures popped { stack.new ≡ drop 1 stack.old }
     ensures progress { Progress (Met (P.value port.old) (P.value port.new)) }
@@ -79,8 +73,6 @@ fn complete_in<P: Port>(port: &mut P, table: TableWork, outer: TableWork)
     requires ready { IsTopReady (P.value port.old) }
     requires full { table.done ≡ 512 }
     ensures came { Came (P.value port.old) (P.value port.new) }
-    ensures forward { Forward (P.value port.old) (P.value port.new) }
-    ensures leaves { (f : ℕ) → LeftWell (P.value port.old) (P.value port.new) false f }
     ensures stands { (owner : ℕ) (us : List TableWork) → StandsOn (P.value port.old) (P.value port.new) owner (table ∷ outer ∷ us) (outer ∷ us) }
     ensures serves { (owner : ℕ) (us : List TableWork) → CarriesOn (P.value port.old) (P.value port.new) owner (table ∷ outer ∷ us) (outer ∷ us) [] }
     ensures progress { Progress (Met (P.value port.old) (P.value port.new)) }
@@ -115,8 +107,6 @@ pub(crate) fn give_back<P: Port>(port: &mut P, frame: u32)
     requires may { MayWork (P.value port.old) }
     requires gives { MayGiveBack (P.value port.old).post.machine (P.value port.old).post.vcpu frame (P.value port.old).holdings }
     ensures came { Came (P.value port.old) (P.value port.new) }
-    ensures forward { Forward (P.value port.old) (P.value port.new) }
-    ensures leaves { (f : ℕ) → LeftWell (P.value port.old) (P.value port.new) false f }
     ensures hand { Holds (P.value port.old) (P.value port.new) (gave_type frame (P.value port.old).holdings) }
     ensures serves { Serves (P.value port.old) (P.value port.new) (of_back frame) [] }
     ensures course { GaveBack (P.value port.old) (P.value port.new) frame }

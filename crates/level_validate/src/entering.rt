@@ -9,8 +9,6 @@ ghost use Rattle.partial_state.specs.Stacks.{left_on_top};
 ghost use Rattle.partial_state.specs.Weights.{entry_weight, weight};
 ghost use Rattle.table_courses.specs.Acquiring.{Advanced, TookOn};
 ghost use Rattle.level_validate.specs.Acquiring.{outermost_work};
-ghost use Rattle.level_validate.specs.Forward.{Forward};
-ghost use Rattle.level_validate.specs.Leaving.{LeftWell};
 ghost use Rattle.level_validate.specs.Serving.{CarriesOn, StopsIn};
 ghost use Rattle.level_validate.specs.Tables.{IsTopReady, IsStanding, StandsOn};
 
@@ -29,8 +27,6 @@ pub(crate) fn enter<P: Port>(port: &mut P, owner: u16, stack: &mut Stack) -> Res
     requires ready { IsTopReady (P.value port.old) }
     requires left { 0 < left_on_top stack.old }
     ensures came { Came (P.value port.old) (P.value port.new) }
-    ensures forward { Forward (P.value port.old) (P.value port.new) }
-    ensures leaves { (f : ℕ) → LeftWell (P.value port.old) (P.value port.new) false f }
     ensures stands { StandsOn (P.value port.old) (P.value port.new) owner stack.old stack.new }
     ensures ready { IfOk result (λ _. IsTopReady (P.value port.new)) }
     ensures kinds { IfErr result IsEntryStop }
@@ -92,8 +88,6 @@ pub(crate) fn take_on<P: Port>(
     requires stands { IsStanding (P.value port.old) owner stack.old }
     requires fresh { top.done ≡ 0 → IsTopReady (P.value port.old) }
     ensures came { Came (P.value port.old) (P.value port.new) }
-    ensures forward { Forward (P.value port.old) (P.value port.new) }
-    ensures leaves { (f : ℕ) → LeftWell (P.value port.old) (P.value port.new) false f }
     ensures stands { StandsOn (P.value port.old) (P.value port.new) owner stack.old stack.new }
     ensures ready { IfOk result (λ _. IsTopReady (P.value port.new)) }
     ensures kinds { IfErr result IsEntryStop }

@@ -15,8 +15,6 @@ ghost use Rattle.partial_state.specs.declared.stack.TableWork.{TableWork};
 ghost use Rattle.table_courses.specs.Acquiring.{GaveRef, InnerLeft, LeftPartial, OutermostLeft, Unwound};
 ghost use Rattle.level_validate.specs.Acquiring.{outermost_work};
 ghost use Rattle.level_validate.specs.Courses.{UnwindsOn};
-ghost use Rattle.level_validate.specs.Forward.{Forward};
-ghost use Rattle.level_validate.specs.Leaving.{LeftWell};
 ghost use Rattle.level_validate.specs.Serving.{CarriesOn, ServesLeft, ServesTo};
 ghost use Rattle.level_validate.specs.Tables.{IsStanding, StandsOn};
 ghost use Rattle.level_validate.specs.Unwinding.{Unwinds, UnwindsTo, around_lent, left_so, outermost_frame};
@@ -37,8 +35,6 @@ pub(crate) fn unwind<P: Port>(port: &mut P, stack: &mut Stack, kept: bool, owner
     requires real { owner < length (P.value port.old).post.machine.page_limit }
     requires room { known_old First (P.value port.old).holdings ≡ Some 0 }
     ensures came { Came (P.value port.old) (P.value port.new) }
-    ensures forward { Forward (P.value port.old) (P.value port.new) }
-    ensures leaves { (t : TableWork) → outermost_work stack.old ≡ Some t → LeftWell (P.value port.old) (P.value port.new) kept t.frame }
     ensures hand { Unwinds (P.value port.old) (P.value port.new) owner kept stack.old }
     ensures done { stack.new ≡ [] }
     ensures serves { ServesLeft (P.value port.old) (P.value port.new) owner kept (outermost_frame stack.old) stack.old [] }
@@ -56,8 +52,6 @@ fn leave_table<P: Port>(port: &mut P, stack: &mut Stack, table: TableWork, kept:
     requires real { owner < length (P.value port.old).post.machine.page_limit }
     requires room { known_old First (P.value port.old).holdings ≡ Some 0 }
     ensures came { Came (P.value port.old) (P.value port.new) }
-    ensures forward { Forward (P.value port.old) (P.value port.new) }
-    ensures leaves { (t : TableWork) → outermost_work (table ∷ stack.old) ≡ Some t → LeftWell (P.value port.old) (P.value port.new) kept t.frame }
     ensures hand { UnwindsTo (P.value port.old) (P.value port.new) owner kept (table ∷ stack.old) stack.new }
     ensures fewer { length stack.new ≡ length stack.old }
     ensures around { (b : Bool) × (stack.new ≡ around_lent b stack.old) }
@@ -78,8 +72,6 @@ fn leave_outermost<P: Port>(port: &mut P, table: TableWork, kept: bool, owner: u
     requires real { owner < length (P.value port.old).post.machine.page_limit }
     requires room { known_old First (P.value port.old).holdings ≡ Some 0 }
     ensures came { Came (P.value port.old) (P.value port.new) }
-    ensures forward { Forward (P.value port.old) (P.value port.new) }
-    ensures leaves { LeftWell (P.value port.old) (P.value port.new) kept table.frame }
     ensures hand { Unwinds (P.value port.old) (P.value port.new) owner kept (table ∷ []) }
     ensures serves { ServesLeft (P.value port.old) (P.value port.new) owner kept table.frame (table ∷ []) [] }
     ensures course { OutermostLeft (P.value port.old) (P.value port.new) owner table table.own kept }
@@ -99,8 +91,6 @@ fn leave_named<P: Port>(port: &mut P, table: TableWork, kept: bool, owner: u16)
     requires real { owner < length (P.value port.old).post.machine.page_limit }
     requires room { known_old First (P.value port.old).holdings ≡ Some 0 }
     ensures came { Came (P.value port.old) (P.value port.new) }
-    ensures forward { Forward (P.value port.old) (P.value port.new) }
-    ensures leaves { LeftWell (P.value port.old) (P.value port.new) kept table.frame }
     ensures hand { Unwinds (P.value port.old) (P.value port.new) owner kept (table ∷ []) }
     ensures serves { ServesLeft (P.value port.old) (P.value port.new) owner kept table.frame (table ∷ []) [] }
     ensures course { OutermostLeft (P.value port.old) (P.value port.new) owner table true kept }
@@ -120,8 +110,6 @@ fn leave_inner<P: Port>(port: &mut P, stack: &mut Stack, table: TableWork)
     requires stands { (owner : ℕ) × IsStanding (P.value port.old) owner (table ∷ stack.old) }
     requires inner { stack.old ≢ [] }
     ensures came { Came (P.value port.old) (P.value port.new) }
-    ensures forward { Forward (P.value port.old) (P.value port.new) }
-    ensures leaves { (f : ℕ) → LeftWell (P.value port.old) (P.value port.new) false f }
     ensures stands { (owner : ℕ) → StandsOn (P.value port.old) (P.value port.new) owner (table ∷ stack.old) stack.new }
     ensures around { (b : Bool) × (stack.new ≡ around_lent b stack.old) }
     ensures serves { (owner : ℕ) → CarriesOn (P.value port.old) (P.value port.new) owner (table ∷ stack.old) stack.new [] }
@@ -144,8 +132,6 @@ fn leave_own<P: Port>(port: &mut P, stack: &Stack, table: TableWork)
     requires own { table.own ≡ true }
     requires inner { stack.now ≢ [] }
     ensures came { Came (P.value port.old) (P.value port.new) }
-    ensures forward { Forward (P.value port.old) (P.value port.new) }
-    ensures leaves { (f : ℕ) → LeftWell (P.value port.old) (P.value port.new) false f }
     ensures stands { (owner : ℕ) → StandsOn (P.value port.old) (P.value port.new) owner (table ∷ stack.now) stack.now }
     ensures serves { (owner : ℕ) → CarriesOn (P.value port.old) (P.value port.new) owner (table ∷ stack.now) stack.now [] }
     ensures course { (outer : TableWork) (ts : List TableWork) → stack.now ≡ outer ∷ ts → InnerLeft (P.value port.old) (P.value port.new) table outer true }
@@ -162,8 +148,6 @@ fn leave_lent<P: Port>(port: &mut P, table: TableWork)
     requires stands { (owner : ℕ) × (ts : List TableWork) × IsStanding (P.value port.old) owner (table ∷ ts) }
     requires lent { table.own ≡ false }
     ensures came { Came (P.value port.old) (P.value port.new) }
-    ensures forward { Forward (P.value port.old) (P.value port.new) }
-    ensures leaves { (f : ℕ) → LeftWell (P.value port.old) (P.value port.new) false f }
     ensures stands { (owner : ℕ) (ts : List TableWork) → StandsOn (P.value port.old) (P.value port.new) owner (table ∷ ts) (around_lent table.recorded ts) }
     ensures serves { (owner : ℕ) (ts : List TableWork) → CarriesOn (P.value port.old) (P.value port.new) owner (table ∷ ts) (around_lent table.recorded ts) [] }
     ensures course { (u : PortValue) × LeftPartial (P.value port.old) u table × GaveRef u (P.value port.new) table.frame }

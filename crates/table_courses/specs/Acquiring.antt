@@ -35,6 +35,7 @@ use Rattle.table_words.specs.declared.old_words.OldWord.TheVariants.{First}
 use Rattle.table_entries.specs.Asking.{ShowsEntered, ShowsResumed, of_entries}
 use Rattle.table_entries.specs.Found.{EntersFound, ResumesFound}
 use Rattle.table_entries.specs.Plain.{TwinEntry, TwinResume}
+use Rattle.table_entries.specs.Tops.{WorksAtTop}
 use Rattle.table_entries.specs.declared.entries.Entered.{Entered}
 use Rattle.table_entries.specs.declared.entries.Entered.TheVariants.{Recorded, Opened, Unsettled}
 use Rattle.table_entries.specs.declared.resuming.Resumed.{Resumed}
@@ -62,8 +63,9 @@ pub record TookType (v w : PortValue) (f owner level : ℕ) (answer : Result Tak
   pub stops : IfErr answer (λ e. Stops v w (of_frame f owner (Some (level_type level))) e)
   pub waits : IfOk answer (λ t. ShowsWait v w f owner (level_type level) t)
 
--- the next entry of the innermost table
+-- the next entry of the innermost table, of which the vCPU has so many recorded
 pub record TookEntry (v w : PortValue) (owner : ℕ) (t : TableWork) (answer : Result Entered Stop) : Type 0 where
+  pub top : WorksAtTop t.frame (level_type t.level) t.done v.holdings
   pub found : EntersFound v w t.frame t.done (level_type t.level) owner answer
   pub plain : TwinEntry v w t.frame (level_type t.level) t.done owner answer
   pub stops : (pages : ℕ) → IfErr answer (λ e. Stops v w (of_entries owner pages) e)
@@ -71,6 +73,7 @@ pub record TookEntry (v w : PortValue) (owner : ℕ) (t : TableWork) (answer : R
 
 -- its last recorded entry
 pub record ResumedEntry (v w : PortValue) (owner : ℕ) (t : TableWork) (answer : Result Resumed Stop) : Type 0 where
+  pub top : WorksAtTop t.frame (level_type t.level) t.done v.holdings
   pub found : ResumesFound v w t.frame (t.done - 1) (level_type t.level) owner answer
   pub plain : TwinResume v w t.frame (level_type t.level) (t.done - 1) owner answer
   pub stops : (pages : ℕ) → IfErr answer (λ e. Stops v w (of_entries owner pages) e)

@@ -1,16 +1,12 @@
-use Rattle.level_validate.proofs.LeftWellEntries.{had_forward, had_well, refers_forward, refers_well}
 use Rattle.frame_types.specs.Plain.{is_refused}
-use Rattle.level_validate.specs.Leaving.{LeftWell}
-use Rattle.level_validate.proofs.Steps.{put_plain, well_by, well_then, forward_by, forward_then}
-use Rattle.frame_words.specs.Freeing.{PutBy}
-use Rattle.std.proofs.Common.{◌∙◌, false, [], Ok, Err, ap, subst, not, refl, sym, inl, rules}
+use Rattle.std.proofs.Common.{◌∙◌, false, [], Ok, Err, ap, subst, not, refl, inl, rules}
 use Rattle.std.proofs.lemmas.Result.{err_from_is_err_and}
 use Rattle.answer_fits.specs.Answers.{missed}
 use Rattle.frame_types.specs.Found.{TakesFound}
 use Rattle.frame_types.specs.Taking.{ShowsWait, TakesAs}
 use Rattle.frame_types.specs.declared.taking.Taken.TheVariants.{Counted, InWork, Waiting}
 use Rattle.partial_state.specs.Levels.{level_type}
-use Rattle.level_validate.specs.Acquiring.{is_due_stop, is_paused_answer}
+use Rattle.level_validate.specs.Acquiring.{is_due_stop}
 use Rattle.level_validate.proofs.Acquired.{answer_leaves, counted_hand, given_hand, idle_aside, idle_other, leaves_as, same_leaves, carries_taken, taken_ready, unwound_leaves, counted_by, finished_by, unfinished_by, unreferred_by, untyped_by, waiting_by, marked_acquired, plain_acquired, reference_serves, reference_stops, serves_as, stopped_serves, stopped_stops, stops_as, taken_serves, validated_misses, validated_serves, validated_stops, waited_serves, waited_stops}
 use Rattle.level_validate.proofs.LeftWaiting.{waits_on}
 use Rattle.level_validate.proofs.acquiring.acquire.Goals as goal
@@ -28,8 +24,6 @@ returns-in_err-frame g c =
       stops = λ pages. stops_as _ _ _ _ _ pages _ _ (answer.1 ∙ ap Err answer.2)
           (reference_stops _ _ _ _ pages (is_due_stop e) _ _ c.in_err-frame.ensures.stops);
       kinds = search rules;
-      forward = refers_forward _ _ _ _ _ c.get_ref.ensures.gets;
-      leaves = refers_well _ _ _ _ _ _ _ c.get_ref.ensures.gets;
       hand = search rules;
       gate = search rules;
       heard = search rules;
@@ -67,8 +61,6 @@ returns-in-Ok-Counted g c =
           (taken_serves _ _ _ _ pages false _ c.in_ok-frame.ensures.serves c.in_ok-frame.ensures.frame.0 c.level_type.ensures _ c.in-Ok-Counted.ensures.serves);
       stops = search rules;
       kinds = search rules;
-      forward = had_forward _ _ _ _ _ _ _ c.get_ref.ensures.gets c.in_ok-frame.frame c.level_type.ensures _ c.take_type.ensures.found;
-      leaves = had_well _ _ _ _ _ _ _ c.get_ref.ensures.gets c.in_ok-frame.frame c.level_type.ensures _ c.take_type.ensures.found false _;
       hand = counted_hand b h c.args.owner c.requires.idle c.in_ok-frame.ensures.hand x (level_type c.args.level) (subst (λ k. TakesAs b x h c.args.owner k Counted) c.level_type.ensures taken);
       gate = search rules;
       heard = search rules;
@@ -84,7 +76,6 @@ returns-in-Ok-Counted g c =
 pub returns-in-Err : goal.returns-in-Err
 returns-in-Err g c =
     let w = g.P.Port.value c.put_ref.new.port in
-    let before = had_forward _ _ _ _ _ _ _ c.get_ref.ensures.gets c.in_ok-frame.frame c.level_type.ensures _ c.take_type.ensures.found in
     record {
       frame = search rules;
       serves = λ pages. plain_acquired _ _ _ _ _ pages (Err c.in-Err.stop)
@@ -93,8 +84,6 @@ returns-in-Err g c =
       stops = λ pages. stopped_stops _ _ _ _ pages _ _ c.in_ok-frame.ensures.serves c.in_ok-frame.ensures.frame.0
           c.level_type.ensures (g.P.Port.value c.take_type.new.port) (g.P.Port.value c.put_ref.new.port) c.in-Err.stop c.in-Err.ensures.kinds c.in-Err.ensures.stops c.put_ref.ensures.serves;
       kinds = search rules;
-      forward = forward_then _ _ _ before (forward_by _ _ (λ vs. PutBy c.in_ok-frame.frame vs) (put_plain c.in_ok-frame.frame) c.put_ref.ensures.puts);
-      leaves = well_then _ _ _ _ _ (had_well _ _ _ _ _ _ _ c.get_ref.ensures.gets c.in_ok-frame.frame c.level_type.ensures _ c.take_type.ensures.found _ _) (well_by _ _ _ _ (λ vs. PutBy c.in_ok-frame.frame vs) (put_plain c.in_ok-frame.frame) c.put_ref.ensures.puts);
       hand = same_leaves (g.P.Port.value c.args.port.now) w c.args.f c.args.owner c.args.level c.in-Err.stop
           (given_hand (g.P.Port.value c.get_ref.new.port) c.in_ok-frame.frame c.args.owner c.requires.idle c.in_ok-frame.ensures.hand (g.P.Port.value c.take_type.new.port) w c.in-Err.ensures.hand c.put_ref.ensures.hand);
       gate = search rules;
@@ -121,7 +110,6 @@ returns-in-Ok-Waiting g c =
     let own = c.in-Ok-Waiting.own in
     let stamp = c.in-Ok-Waiting.stamp in
     let waits : TakesAs b x h c.args.owner c.level_type.result (Waiting own stamp c.in-Ok-Waiting.stop) = subst (λ t. TakesAs b x h c.args.owner c.level_type.result t) c.in-Ok-Waiting.field-0-is c.in-Ok-Waiting.ensures.hand in
-    let before = had_forward _ _ _ _ _ _ _ c.get_ref.ensures.gets c.in_ok-frame.frame c.level_type.ensures _ c.take_type.ensures.found in
     let took = c.in-Ok-Waiting in
     record {
       frame = search rules;
@@ -131,10 +119,6 @@ returns-in-Ok-Waiting g c =
       stops = λ pages. waited_stops _ _ _ _ pages (is_due_stop e) _ c.in_ok-frame.ensures.serves c.in_ok-frame.ensures.frame.0 c.level_type.ensures _ _
           e shows.0 shows.1 c.leave_waiting.ensures.came;
       kinds = search rules;
-      forward = forward_then _ _ _ before c.leave_waiting.ensures.forward;
-      leaves = let kept = not (is_refused c.in-Ok-Waiting.stop) in
-          well_then _ _ _ _ _ (had_well _ _ _ _ _ _ _ c.get_ref.ensures.gets c.in_ok-frame.frame c.level_type.ensures _ c.take_type.ensures.found _ _)
-          (subst (λ h. LeftWell x w kept h) c.in_ok-frame.ensures.frame.0 (subst (λ k. LeftWell x w k c.in_ok-frame.frame) c.is_paused.ensures c.leave_waiting.ensures.leaves));
       hand = answer_leaves v (g.P.Port.value c.leave_waiting.new.port) c.args.f c.args.owner c.args.level h own c.is_paused.result c.in-Ok-Waiting.stop c.in_ok-frame.ensures.frame.0 c.is_paused.ensures
           (c.leave_waiting.ensures.hand v (waits_on _ _ _ _ _ _ _ _ _ c.level_type.ensures c.requires.idle c.in_ok-frame.ensures.hand waits));
       gate = search rules;
@@ -176,7 +160,6 @@ returns-in_ok-validate-in-Ok-InWork g c =
     let hand : TakesAs b x h c.args.owner c.level_type.result (InWork progress own) = subst (λ t. TakesAs b x h c.args.owner c.level_type.result t) c.in-Ok-InWork.field-0-is c.in-Ok-InWork.ensures.hand in
     let found : TakesFound b x h c.args.owner c.level_type.result (Ok (InWork progress own)) = subst (λ t. TakesFound b x h c.args.owner c.level_type.result (Ok t)) c.in-Ok-InWork.field-0-is c.in-Ok-InWork.ensures.found in
     let carries = carries_taken _ _ _ _ _ _ _ _ _ c.requires.idle c.in_ok-frame.ensures.hand c.level_type.ensures c.requires.low c.requires.high c.in_ok-frame.ensures.frame.1 hand.1 found in
-    let before = had_forward _ _ _ _ _ _ _ c.get_ref.ensures.gets c.in_ok-frame.frame c.level_type.ensures _ c.take_type.ensures.found in
     let took = c.in-Ok-InWork in
     record {
       frame = search rules;
@@ -185,9 +168,6 @@ returns-in_ok-validate-in-Ok-InWork g c =
           (validated_serves _ _ _ _ pages false _ before c.in_ok-frame.ensures.frame.0 _ _ _ false [] c.in_ok-validate-in-Ok-InWork.ensures.serves);
       stops = search rules;
       kinds = search rules;
-      forward = forward_then _ _ _ before c.in_ok-validate-in-Ok-InWork.ensures.forward;
-      leaves = well_then _ _ _ false _ (had_well _ _ _ _ _ _ _ c.get_ref.ensures.gets c.in_ok-frame.frame c.level_type.ensures _ c.take_type.ensures.found false _)
-          (subst (λ h. LeftWell x (g.P.Port.value c.validate.new.port) false h) c.in_ok-frame.ensures.frame.0 c.in_ok-validate-in-Ok-InWork.ensures.leaves);
       hand = c.in_ok-validate-in-Ok-InWork.ensures.hand (g.P.Port.value c.args.port.now) c.args.owner carries;
       gate = search rules;
       heard = search rules;
@@ -213,7 +193,6 @@ returns-in_err-validate-in-Ok-InWork g c =
     let hand : TakesAs b x h c.args.owner c.level_type.result (InWork progress own) = subst (λ t. TakesAs b x h c.args.owner c.level_type.result t) c.in-Ok-InWork.field-0-is c.in-Ok-InWork.ensures.hand in
     let found : TakesFound b x h c.args.owner c.level_type.result (Ok (InWork progress own)) = subst (λ t. TakesFound b x h c.args.owner c.level_type.result (Ok t)) c.in-Ok-InWork.field-0-is c.in-Ok-InWork.ensures.found in
     let carries = carries_taken _ _ _ _ _ _ _ _ _ c.requires.idle c.in_ok-frame.ensures.hand c.level_type.ensures c.requires.low c.requires.high c.in_ok-frame.ensures.frame.1 hand.1 found in
-    let before = had_forward _ _ _ _ _ _ _ c.get_ref.ensures.gets c.in_ok-frame.frame c.level_type.ensures _ c.take_type.ensures.found in
     let kept = not (is_refused e) in
     let took = c.in-Ok-InWork in
     record {
@@ -226,10 +205,6 @@ returns-in_err-validate-in-Ok-InWork g c =
           stops_as _ _ _ _ _ pages _ _ (answer.1 ∙ ap Err answer.2)
           (validated_stops _ _ _ _ pages (is_due_stop e) _ before c.in_ok-frame.ensures.frame.0 _ _ _ _ (λ due. due) carries c.in_err-validate-in-Ok-InWork.ensures.stops);
       kinds = search rules;
-      forward = forward_then _ _ _ before c.in_err-validate-in-Ok-InWork.ensures.forward;
-      leaves = let answer = err_from_is_err_and c.from_residual-in_err-validate-in-Ok-InWork.result c.from_residual-in_err-validate-in-Ok-InWork.ensures.1 in
-          subst (λ r. LeftWell v w (is_paused_answer r) c.args.f) (sym (answer.1 ∙ ap Err answer.2))
-          (well_then _ _ _ _ _ (had_well _ _ _ _ _ _ _ c.get_ref.ensures.gets c.in_ok-frame.frame c.level_type.ensures _ c.take_type.ensures.found _ _) (subst (λ h. LeftWell x w kept h) c.in_ok-frame.ensures.frame.0 c.in_err-validate-in-Ok-InWork.ensures.leaves));
       hand = leaves_as v w c.args.f c.args.owner c.args.level result e (answer.1 ∙ ap Err answer.2)
           (unwound_leaves v w c.args.f c.args.owner c.args.level x h progress own e c.in_ok-frame.ensures.frame.0 carries c.in_err-validate-in-Ok-InWork.ensures.hand);
       gate = search rules;

@@ -1,4 +1,3 @@
-use Rattle.level_validate.proofs.Steps.{well_then, forward_then}
 use Rattle.std.proofs.Common.{Ok, Err, ap, ◌∙◌, false, rules}
 use Rattle.std.proofs.lemmas.Result.{err_from_is_err_and}
 use Rattle.xp_preempt.proofs.Hearing.{heard_as, heard_then}
@@ -26,7 +25,7 @@ loop-port-init g c =
     let t = c.in_ok-done.ensures in
     let a = c.in_ok-ask_behind.ensures in
     record {
-      tables = record { came = t.came; forward = t.forward; leaves = t.leaves; stands = t.stands; outer = t.outer; ready = t.ready; serves = t.serves };
+      tables = record { came = t.came; stands = t.stands; outer = t.outer; ready = t.ready; serves = t.serves };
       gate = a.gate;
       heard = a.heard;
       says = a.says;
@@ -49,7 +48,7 @@ loop-port-preserved g c =
     let i = c.loop-port.invariant in
     let t = c.in_ok-go_on.ensures in
     record {
-      tables = filling_on _ _ _ _ _ c.loop-port.stack _ i.tables t.came t.forward t.leaves t.stands t.outer t.ready t.serves;
+      tables = filling_on _ _ _ _ _ c.loop-port.stack _ i.tables t.came t.stands t.outer t.ready t.serves;
       gate = t.gate ∙ i.gate;
       heard = heard_then _ _ _ _ _ i.heard (heard_as _ _ _ _ _ i.says t.heard);
       says = λ n. t.says n ∙ i.says n;
@@ -64,8 +63,6 @@ returns-in_err-go_on g c =
     let answer = err_from_is_err_and r c.from_residual-in_err-go_on.ensures.1 in
     record {
       came = filling_came c.loop-port.invariant.tables (g.P.Port.value c.go_on.new.port) c.go_on.new.stack c.in_err-go_on.ensures.came;
-      forward = forward_then _ _ _ c.loop-port.invariant.tables.forward c.in_err-go_on.ensures.forward;
-      leaves = λ f. well_then _ _ _ false f (c.loop-port.invariant.tables.leaves f) (c.in_err-go_on.ensures.leaves f);
       stands = search rules;
       outer = search rules;
       filled = search rules;
@@ -83,12 +80,6 @@ returns-in_err-go_on g c =
       course = working_stops _ _ _ _ _ _ _ _ c.loop-port.stack _ _ _ _ _ _ r _ (answer.1 ∙ ap Err answer.2)
           c.loop-port.invariant.says c.loop-port.invariant.course c.in_err-go_on.ensures.course;
     }
-
-pub returns-clause-forward : goal.returns-clause-forward
-returns-clause-forward g c = c.loop-port.invariant.tables.forward
-
-pub returns-clause-leaves : goal.returns-clause-leaves
-returns-clause-leaves g c f = c.loop-port.invariant.tables.leaves f
 
 -- ---- its part of the course
 

@@ -1,11 +1,9 @@
-use Rattle.frame_types.specs.Found.{SharedBy, StoresKind}
-use Rattle.level_validate.proofs.Steps.{kept_forward, kept_well, shared_plain, stores_plain, well_by, well_step, well_then, forward_by, forward_step, forward_then}
-use Rattle.std.proofs.Common.{◌<◌, ◌+◌, true, false, refl, sym, subst, rules}
+use Rattle.std.proofs.Common.{◌<◌, ◌+◌, true, false, sym, subst, rules}
 use Rattle.xp_words.specs.declared.kind.KindWord.{KindWord}
 use Rattle.xp_board.specs.Told.{Post}
 use Rattle.step_maker.proofs.Coming.{came_post, came_trans, moves_came}
 use Rattle.answer_fits.specs.Asked.{of}
-use Rattle.kept_marks.specs.Marks.{KeptFor, LeavesKept}
+use Rattle.kept_marks.specs.Marks.{LeavesKept}
 use Rattle.kind_words.specs.Kinds.{partial_kind}
 use Rattle.frame_types.specs.Leaving.{ServesType}
 use Rattle.level_validate.proofs.LeftWaiting.{gives_left, kept_hand, lent_hand, mark_known, mark_left, mark_looking, mark_may, named_hand, named_left, stays_held, stays_may, stays_room, unkept_is, waits_as}
@@ -31,8 +29,6 @@ returns-then-not-own g c =
     let is = unkept_is c.requires.waits.1 c.level_type-kind.ensures c.if-not-own.true in
     record {
       came = search rules;
-      forward = forward_by _ _ (λ vs. SharedBy f k c.args.stamp vs) (shared_plain _ _ _ is) c.leave_shared.ensures.visits;
-      leaves = well_by _ _ _ _ (λ vs. SharedBy f k c.args.stamp vs) (shared_plain _ _ _ is) c.leave_shared.ensures.visits;
       serves = λ u r ds before asks locks. marked_none u _ r _ _ _ ds (type_left u _ _ r ds _ _ _ before asks (subst (λ k. ServesType x w f k) c.level_type-kind.ensures c.leave_shared.ensures.serves));
       hand = λ v a. lent_hand v w c.args.frame c.args.owner c.args.own c.args.kept c.if-not-own.true
           (gives_left a c.level_type-kind.ensures c.if-not-own.true w c.leave_shared.ensures.hand);
@@ -66,8 +62,6 @@ returns-then-kept g c =
     let may = mark_may c.requires.waits.1 c.level_type-kind.ensures c.if-not-own.false in
     record {
       came = search rules;
-      forward = kept_forward _ _ _ _ _ c.leave_kept.ensures.course;
-      leaves = kept_well _ (partial_kind c.level_type-kind.result true true 0 c.args.stamp) may.is refl c.if-kept.true _ _ _ (subst (λ (k : KindWord). KeptFor x d f k c.args.owner) c.waiting_kind.ensures c.leave_kept.ensures.course);
       serves = λ u r ds before asks locks. marked_kept u _ r _ _ _ ds c.if-kept.true (c.leave_kept.ensures.serves u r ds before (of c.args.owner _ asks) locks);
       hand = λ v a. kept_hand v d c.args.frame c.args.owner c.args.own c.args.kept c.if-not-own.false c.if-kept.true
           (mark_left a c.level_type-kind.ensures c.if-not-own.false d
@@ -106,9 +100,6 @@ returns-else-kept g c =
     let is = unkept_is c.requires.waits.1 c.level_type-kind.ensures c.if-not-own.false in
     record {
       came = came_trans _ _ _ c.leave_unsettled.ensures.came (moves_came _ _ _ _ _ _ 0 c.put_old.ensures.moves);
-      forward = forward_then _ _ _ (forward_by _ _ (λ vs. StoresKind f k vs) (stores_plain _ _ is refl refl) c.leave_unsettled.ensures.visits) (forward_step _ _ _ _ _ _ 0 refl refl c.put_old.ensures.moves);
-      leaves = well_then _ _ _ _ _ (well_by _ _ _ _ (λ vs. StoresKind f k vs) (stores_plain _ _ is refl refl) c.leave_unsettled.ensures.visits)
-          (well_step _ _ _ _ _ _ _ _ 0 refl c.put_old.ensures.moves);
       serves = λ u r ds before asks locks. marked_none _ _ r _ _ _ ds
           (old_serves _ _ _ r ds (type_left _ _ _ r ds _ _ _ before asks (subst (λ k. ServesType x d f k) c.level_type-kind.ensures c.leave_unsettled.ensures.serves)) (f + 1) c.put_old.ensures.moves);
       hand = λ v a. named_hand v z c.args.frame c.args.owner c.args.own c.args.kept c.if-not-own.false c.if-kept.false

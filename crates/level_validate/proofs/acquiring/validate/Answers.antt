@@ -1,5 +1,3 @@
-use Rattle.level_validate.specs.Leaving.{LeftWell}
-use Rattle.level_validate.proofs.Steps.{well_more, well_then, forward_then}
 use Rattle.std.proofs.Common.{◌≡◌, ◌<◌, ◌∷◌, ◌∙◌, [], List, length, refl, sym, ap, subst, false, rules}
 use Rattle.xp_board.specs.Told.{Post}
 use Rattle.step_maker.proofs.Coming.{came_post, came_trans}
@@ -43,8 +41,6 @@ returns-in-Ok g c =
     let full = filled_is t c.fill.new.stack c.in-Ok.ensures.filled (c.fill.ensures.outer ∙ ap outermost_work one) in
     record {
       came = came_trans _ _ _ c.fill.ensures.came c.complete_outer.ensures.came;
-      forward = forward_then _ _ _ c.fill.ensures.forward c.complete_outer.ensures.forward;
-      leaves = well_then _ _ _ false _ (c.fill.ensures.leaves c.args.table.frame) (c.complete_outer.ensures.leaves c.args.table.frame);
       hand = completed u x (g.P.Port.value c.complete_outer.new.port) c.args.owner t c.requires.stands
           (subst (λ ts. StandsOn u x c.args.owner ts (record t { done = 512 } ∷ [])) one (subst (λ us. StandsOn u x c.args.owner c.push.new.self us) full c.fill.ensures.stands)) c.complete_outer.ensures.hand;
       kinds = search rules;
@@ -84,10 +80,6 @@ returns-in-Err g c =
     let e = missed u.post.machine c.in-Err.stop in
     record {
       came = came_trans _ _ _ c.fill.ensures.came c.unwind.ensures.came;
-      forward = forward_then _ _ _ c.fill.ensures.forward c.unwind.ensures.forward;
-      leaves = let one = only t c.new-stack.result c.push.new.self c.new-stack.ensures c.push.ensures.pushed in
-          well_then _ _ _ _ _ (well_more _ _ _ _ _ (c.fill.ensures.leaves t.frame))
-          (subst (λ b. LeftWell x w b t.frame) c.is_paused.ensures (c.unwind.ensures.leaves (record t { done = 0 }) (c.fill.ensures.outer ∙ ap (λ us. outermost_work us) one)));
       hand = subst (λ b. Unwinds u w c.args.owner b (c.args.table ∷ [])) c.is_paused.ensures
           (subst (λ ts. Unwinds u w c.args.owner c.is_paused.result ts) one
           (unwound u x w c.args.owner c.is_paused.result c.push.new.self c.fill.new.stack c.fill.ensures.outer c.fill.ensures.stands c.unwind.ensures.hand));

@@ -3,7 +3,6 @@ use Rattle.xp_board.specs.Told.{Post}
 use Rattle.step_maker.proofs.Coming.{came_post, came_trans, moves_came}
 use Rattle.level_validate.specs.Serving.{CarriesOn}
 use Rattle.level_validate.proofs.Completed.{live_hand, live_leaves, completed_so, live_gives, live_records, new_ready, new_stands, old_ready, old_stands, progress_records, progress_settles}
-use Rattle.level_validate.proofs.Steps.{forward_step, forward_then, kind_well, well_step, well_then}
 use Rattle.level_validate.proofs.Standing.{top_inside}
 use Rattle.answer_fits.proofs.Progressing.{progress_after, progress_before}
 use Rattle.level_validate.proofs.Serving.{piece_back, piece_left, piece_records, piece_rest}
@@ -49,8 +48,6 @@ returns-then-table g c =
     let is = (live_leaves b.2.1 c.requires.full c.requires.ready _ refl c.requires.may).is in
     record {
       came = came_trans _ _ _ (moves_came _ _ _ _ _ _ _ c.make_live.ensures.moves) c.give_back.ensures.came;
-      forward = forward_then _ _ _ (forward_step _ _ _ _ _ _ _ refl refl c.make_live.ensures.moves) c.give_back.ensures.forward;
-      leaves = λ f. well_then _ _ _ false f (kind_well _ _ false f _ _ _ _ _ is refl refl c.make_live.ensures.moves) (c.give_back.ensures.leaves f);
       stands = λ owner us v s. let l = live_hand s _ refl _ c.make_live.ensures.hand in
           old_stands c.make_live.ensures.moves l c.if-table.true (live_leaves b.2.1 c.requires.full c.requires.ready _ refl c.requires.may).is _ c.give_back.ensures.hand c.give_back.ensures.came;
       serves = λ owner us u r ds a. let left = piece_left b.2.1 _ (live_leaves b.2.1 c.requires.full c.requires.ready _ refl c.requires.may).is refl c.make_live.ensures.moves _ r _ (o ∷ us) ds a in
@@ -78,8 +75,6 @@ returns-else-table g c =
     let is = (live_leaves b.2.1 c.requires.full c.requires.ready _ refl c.requires.may).is in
     record {
       came = came_trans _ _ _ came_d (moves_came _ _ _ _ _ _ _ c.record_entry.ensures.moves);
-      forward = forward_then _ _ _ (forward_step _ _ _ _ _ _ _ refl refl c.make_live.ensures.moves) (forward_step _ _ _ _ _ _ _ refl refl c.record_entry.ensures.moves);
-      leaves = λ f. well_then _ _ _ false f (kind_well _ _ false f _ _ _ _ _ is refl refl c.make_live.ensures.moves) (well_step _ _ false f _ _ _ _ _ refl c.record_entry.ensures.moves);
       stands = λ owner us v s. let l = live_hand s _ refl _ c.make_live.ensures.hand in
           new_stands c.make_live.ensures.moves l c.if-table.false _ c.record_entry.ensures.hand (came_trans _ _ _ came_d (moves_came _ _ _ _ _ _ _ c.record_entry.ensures.moves));
       serves = λ owner us u r ds a. let left = piece_left b.2.1 _ (live_leaves b.2.1 c.requires.full c.requires.ready _ refl c.requires.may).is refl c.make_live.ensures.moves _ r _ (o ∷ us) ds a in

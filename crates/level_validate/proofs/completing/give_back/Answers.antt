@@ -1,9 +1,7 @@
-use Rattle.std.proofs.Common.{[], false, refl, rules}
+use Rattle.std.proofs.Common.{[], rules}
 use Rattle.answer_fits.specs.Asked.{of_back}
 use Rattle.answer_fits.proofs.Piecing.{serves_came, serves_then}
 use Rattle.step_maker.proofs.Coming.{came_trans}
-use Rattle.frame_words.specs.Freeing.{PutBy}
-use Rattle.level_validate.proofs.Steps.{forward_by, forward_step, forward_then, put_plain, well_by, well_step, well_then}
 use Rattle.level_validate.proofs.Entered.{back_given, back_puts, never_last}
 use Rattle.level_validate.proofs.completing.give_back.Goals as goal
 
@@ -19,8 +17,6 @@ returns g c =
     let drops = c.drop_type.ensures.drops in
     record {
       came = came_trans _ a _ (serves_came _ a (of_back c.args.frame) [] c.drop_type.ensures.serves) (serves_came a _ (of_back c.args.frame) [] c.put_ref.ensures.serves);
-      forward = forward_then _ a _ (forward_step _ a _ _ _ _ drops.found refl refl drops.lowers.step) (forward_by a _ (PutBy c.args.frame) (λ vs puts. put_plain _ vs puts) c.put_ref.ensures.puts);
-      leaves = λ f. well_then _ a _ false f (well_step _ a false f _ _ _ _ drops.found refl drops.lowers.step) (well_by a _ false f (PutBy c.args.frame) (λ vs puts. put_plain _ vs puts) c.put_ref.ensures.puts);
       hand = back_given c.drop_type.ensures.drops c.if-drop_type.false (g.P.Port.value c.put_ref.new.port) c.put_ref.ensures.hand;
       serves = serves_then _ a _ (of_back c.args.frame) [] [] c.drop_type.ensures.serves c.put_ref.ensures.serves;
       course = search rules;

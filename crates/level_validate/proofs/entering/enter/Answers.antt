@@ -14,13 +14,11 @@ use Rattle.level_validate.specs.Serving.{CarriesOn}
 use Rattle.level_validate.specs.Tables.{Carries}
 use Rattle.level_validate.proofs.Serving.{goes_advanced, goes_answer, goes_entries, goes_on, goes_waiting, stops_answer, stops_entries}
 use Rattle.level_validate.proofs.Entered.{after_look, after_record, after_record_ready, fresh_ready, next_lowers, entered_err, opened_next, recorded_next, stopped_next, unsettled_next}
-use Rattle.level_validate.proofs.Standing.{top_inside, standing_above, standing_held, standing_known, standing_looked, standing_next}
+use Rattle.level_validate.proofs.Standing.{top_inside, standing_above, standing_held, standing_known, standing_looked, standing_next, stack_top}
 use Rattle.level_validate.proofs.Opening.{wait_stops, entered_first}
 use Rattle.level_validate.proofs.LookedAgain.{next_came, next_first, next_on_top, opened_may, opened_standing, opened_stops, opened_table, said_next}
 use Rattle.level_validate.proofs.Pushing.{pushed}
 use Rattle.level_validate.proofs.Filling.{progress_answer}
-use Rattle.level_validate.proofs.Steps.{forward_then, well_then}
-use Rattle.level_validate.proofs.LeftWellEntries.{enters_forward, enters_well}
 use Rattle.table_entries.specs.declared.entries.Entered.TheVariants as entered
 use Rattle.level_validate.proofs.entering.enter.Goals as goal
 
@@ -50,8 +48,6 @@ returns-in_err-take_entry g c =
     let e = c.in_err-take_entry.field-0.0 in
     record {
       came = serves_came _ _ (of_entries c.args.owner 0) _ (c.in_err-take_entry.ensures.serves 0);
-      forward = enters_forward _ _ _ c.in-Some.ensures.some c.requires.stands c.level_type.ensures _ c.in_err-take_entry.ensures.found;
-      leaves = λ e. enters_well _ _ _ c.in-Some.top.frame c.in-Some.top.done _ _ _ c.in_err-take_entry.ensures.found;
       stands = λ v s. let s0 = subst (λ xs. Carries v u owner xs) is s in
           subst (λ xs. Carries v x owner xs) (sym is) (after_look _ s0 (serves_came _ _ (of_entries owner 0) _ (c.in_err-take_entry.ensures.serves 0)) (entered_first _ _ _ _ _ _ _ found) _ c.in_err-take_entry.ensures.hand);
       ready = search rules;
@@ -63,19 +59,19 @@ returns-in_err-take_entry g c =
           (goes_entries _ _ _ _ (missed u.post.machine c.in_err-take_entry.field-0.0) c.in_err-take_entry.ensures.serves);
       stops = stops_answer _ _ _ _ _ _ (answer.1 ∙ ap Err answer.2) (stops_entries _ _ _ _ _ c.in_err-take_entry.ensures.stops);
       course = stopped_next _ _ c.in-Some.ensures.some c.requires.left _ _ _ (answer.1 ∙ ap Err answer.2)
-          (entered_err _ _ _ _ c.level_type.ensures _ c.in_err-take_entry.ensures.found c.in_err-take_entry.ensures.plain c.in_err-take_entry.ensures.stops);
+          (entered_err _ _ _ _ c.level_type.ensures (stack_top c.in-Some.ensures.some c.requires.stands) _ c.in_err-take_entry.ensures.found c.in_err-take_entry.ensures.plain c.in_err-take_entry.ensures.stops);
     }
 
 pub push-requires-clause-table : goal.push-requires-clause-table
 push-requires-clause-table g c =
     let e = c.in_ok-take_entry.ensures in
-    let said = said_next _ _ _ _ _ c.level_type.ensures c.in_ok-take_entry.field-0 (entered.Opened c.in-Opened.frame c.in-Opened.progress c.in-Opened.own) c.in-Opened.is e.found e.plain e.shows e.serves e.hand in
+    let said = said_next _ _ _ _ _ c.level_type.ensures (stack_top c.in-Some.ensures.some c.requires.stands) c.in_ok-take_entry.field-0 (entered.Opened c.in-Opened.frame c.in-Opened.progress c.in-Opened.own) c.in-Opened.is e.found e.plain e.shows e.serves e.hand in
     opened_table (next_on_top c.in-Some.ensures.some c.requires.left said c.requires.ready refl refl c.requires.stands) c.requires.stands
 
 pub take_on-requires : goal.take_on-requires
 take_on-requires g c =
     let e = c.in_ok-take_entry.ensures in
-    let said = said_next _ _ _ _ _ c.level_type.ensures c.in_ok-take_entry.field-0 (entered.Opened c.in-Opened.frame c.in-Opened.progress c.in-Opened.own) c.in-Opened.is e.found e.plain e.shows e.serves e.hand in
+    let said = said_next _ _ _ _ _ c.level_type.ensures (stack_top c.in-Some.ensures.some c.requires.stands) c.in_ok-take_entry.field-0 (entered.Opened c.in-Opened.frame c.in-Opened.progress c.in-Opened.own) c.in-Opened.is e.found e.plain e.shows e.serves e.hand in
     let on = next_on_top c.in-Some.ensures.some c.requires.left said c.requires.ready c.advance-in-Opened.ensures.advanced c.push.ensures.pushed c.requires.stands in
     record {
       may = opened_may on c.requires.stands c.requires.may;
@@ -87,13 +83,11 @@ take_on-requires g c =
 pub returns-in-Recorded : goal.returns-in-Recorded
 returns-in-Recorded g c =
     let e = c.in_ok-take_entry.ensures in
-    let said = said_next _ _ _ _ _ c.level_type.ensures c.in_ok-take_entry.field-0 entered.Recorded c.in-Recorded.is e.found e.plain e.shows e.serves e.hand in
+    let said = said_next _ _ _ _ _ c.level_type.ensures (stack_top c.in-Some.ensures.some c.requires.stands) c.in_ok-take_entry.field-0 entered.Recorded c.in-Recorded.is e.found e.plain e.shows e.serves e.hand in
     let is = c.in-Some.ensures.some in
     let room : 0 < 512 - c.in-Some.top.done = subst (λ xs. 0 < left_on_top xs) is c.requires.left in
     record {
       came = next_came said;
-      forward = enters_forward _ _ _ is c.requires.stands refl _ said.entry.found;
-      leaves = λ f. enters_well _ _ f _ _ _ _ _ said.entry.found;
       stands = λ v s. subst (λ xs. Carries v (g.P.Port.value c.take_entry.new.port) c.args.owner xs) (sym (c.advance.ensures.advanced ∙ ap advanced is))
           (after_record _ (subst (λ xs. Carries v (g.P.Port.value c.args.port.now) c.args.owner xs) is s) (next_came said) (next_first said) None room said.hand);
       ready = after_record_ready _ (subst (λ xs. Carries c.requires.stands.0 (g.P.Port.value c.args.port.now) c.args.owner xs) is c.requires.stands.1) (next_came said) (next_first said) said.hand;
@@ -110,12 +104,10 @@ returns-in-Recorded g c =
 pub returns-in-Opened : goal.returns-in-Opened
 returns-in-Opened g c =
     let e = c.in_ok-take_entry.ensures in
-    let said = said_next _ _ _ _ _ c.level_type.ensures c.in_ok-take_entry.field-0 (entered.Opened c.in-Opened.frame c.in-Opened.progress c.in-Opened.own) c.in-Opened.is e.found e.plain e.shows e.serves e.hand in
+    let said = said_next _ _ _ _ _ c.level_type.ensures (stack_top c.in-Some.ensures.some c.requires.stands) c.in_ok-take_entry.field-0 (entered.Opened c.in-Opened.frame c.in-Opened.progress c.in-Opened.own) c.in-Opened.is e.found e.plain e.shows e.serves e.hand in
     let on = next_on_top c.in-Some.ensures.some c.requires.left said c.requires.ready c.advance-in-Opened.ensures.advanced c.push.ensures.pushed c.requires.stands in
     record {
       came = came_trans _ _ _ (next_came said) c.take_on.ensures.came;
-      forward = forward_then _ _ _ (enters_forward _ _ _ c.in-Some.ensures.some c.requires.stands refl _ said.entry.found) c.take_on.ensures.forward;
-      leaves = λ f. well_then _ _ _ false f (enters_well _ _ f _ _ _ _ _ said.entry.found) (c.take_on.ensures.leaves f);
       stands = λ v s. c.take_on.ensures.stands v (on.stands v s);
       ready = search rules;
       kinds = search rules;
@@ -131,13 +123,11 @@ returns-in-Opened g c =
 pub returns-in-Unsettled : goal.returns-in-Unsettled
 returns-in-Unsettled g c =
     let e = c.in_ok-take_entry.ensures in
-    let said = said_next _ _ _ _ _ c.level_type.ensures c.in_ok-take_entry.field-0 (entered.Unsettled c.in-Unsettled.stop) c.in-Unsettled.is e.found e.plain e.shows e.serves e.hand in
+    let said = said_next _ _ _ _ _ c.level_type.ensures (stack_top c.in-Some.ensures.some c.requires.stands) c.in_ok-take_entry.field-0 (entered.Unsettled c.in-Unsettled.stop) c.in-Unsettled.is e.found e.plain e.shows e.serves e.hand in
     let is = c.in-Some.ensures.some in
     let room : 0 < 512 - c.in-Some.top.done = subst (λ xs. 0 < left_on_top xs) is c.requires.left in
     record {
       came = next_came said;
-      forward = enters_forward _ _ _ is c.requires.stands refl _ said.entry.found;
-      leaves = λ f. enters_well _ _ f _ _ _ _ _ said.entry.found;
       stands = λ v s. subst (λ xs. Carries v (g.P.Port.value c.take_entry.new.port) c.args.owner xs) (sym (c.advance-in-Unsettled.ensures.advanced ∙ ap advanced is))
           (after_record _ (subst (λ xs. Carries v (g.P.Port.value c.args.port.now) c.args.owner xs) is s) (next_came said) (next_first said) said.hand.0 room said.hand.1);
       ready = search rules;

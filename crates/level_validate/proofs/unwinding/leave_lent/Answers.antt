@@ -6,9 +6,6 @@ use Rattle.level_validate.specs.Serving.{CarriesOn}
 use Rattle.level_validate.proofs.Standing.{top_spelled}
 use Rattle.level_validate.proofs.Serving.{piece_around, piece_back, piece_left, piece_rest}
 use Rattle.level_validate.proofs.Leaving.{lent_puts, lent_stands}
-use Rattle.frame_words.specs.Freeing.{PutBy}
-use Rattle.level_validate.proofs.Steps.{forward_by, forward_step, forward_then, put_plain, well_by, well_then}
-use Rattle.level_validate.proofs.Unwound.{unkept_well}
 use Rattle.level_validate.proofs.unwinding.leave_lent.Goals as goal
 
 pub put_ref-requires-clause-gives : goal.put_ref-requires-clause-gives
@@ -23,9 +20,6 @@ returns g c =
     let f = c.args.table.frame in
     record {
       came = came_trans _ _ _ (moves_came _ _ _ _ _ _ _ c.leave_partial.ensures.moves) (serves_came _ _ (of_back c.args.table.frame) [] c.put_ref.ensures.serves);
-      forward = forward_then _ _ _ (forward_step _ _ _ _ _ _ _ refl refl c.leave_partial.ensures.moves) (forward_by _ _ (PutBy f) (λ vs puts. put_plain _ vs puts) c.put_ref.ensures.puts);
-      leaves = λ e. well_then _ _ _ false e (unkept_well b.2.0 _ b.0 _ _ _ b.1 false e b.2.1 c.leave_partial.ensures.moves)
-          (well_by _ _ false e (PutBy c.args.table.frame) (λ vs puts. put_plain _ vs puts) c.put_ref.ensures.puts);
       stands = λ owner ts v s. lent_stands s c.requires.lent c.leave_partial.ensures.moves c.leave_partial.ensures.hand _ c.put_ref.ensures.hand came _ refl;
       serves = λ owner ts u r ds a. let left = piece_left b.2.1 _ (top_spelled b.2.1 false (λ on. absurd cc)) refl c.leave_partial.ensures.moves u r owner ts ds a in
           piece_around _ u _ r owner ts ds (piece_rest u _ r owner _ ts ds (piece_back _ left c.put_ref.ensures.serves));

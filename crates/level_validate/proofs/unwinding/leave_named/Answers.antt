@@ -4,13 +4,11 @@ use Rattle.step_maker.proofs.Coming.{came_trans, moves_came}
 use Rattle.answer_fits.specs.Asked.{of}
 use Rattle.kind_words.specs.Kinds.{MayLeave, partial_kind}
 use Rattle.kept_marks.specs.Marks.{IsUnpaged, KeptFor, LeavesKept}
-use Rattle.partial_state.specs.Levels.{level_type}
 use Rattle.level_validate.specs.Serving.{ServesLeft}
-use Rattle.level_validate.proofs.Steps.{forward_step, forward_then, kept_forward, kept_well, well_step, well_then}
 use Rattle.level_validate.proofs.Standing.{top_held, top_inside, top_kept_owner, top_leaves, top_spelled, top_unpaged}
 use Rattle.level_validate.proofs.Leaving.{kept_left}
 use Rattle.level_validate.proofs.Serving.{marked_kept, marked_none, piece_left, piece_names}
-use Rattle.level_validate.proofs.Unwound.{unkept_well, outer_held, outer_kept, outer_named}
+use Rattle.level_validate.proofs.Unwound.{outer_held, outer_kept, outer_named}
 use Rattle.level_validate.proofs.unwinding.leave_named.Goals as goal
 
 -- ---- into its mark
@@ -42,8 +40,6 @@ returns-then-kept g c =
     let spelled = top_spelled a.1 true (λ on. c.requires.own) in
     record {
       came = search rules;
-      forward = kept_forward _ _ _ _ _ c.leave_kept.ensures.course;
-      leaves = kept_well _ (partial_kind (level_type t.level) true false t.done 0) spelled refl c.if-kept.true _ _ _ (subst (λ (l : KindWord). KeptFor w d t.frame l c.args.owner) is c.leave_kept.ensures.course);
       hand = λ v s. outer_kept s c.requires.own c.args.kept c.if-kept.true d (subst (λ (l : KindWord). LeavesKept w d t.frame l c.args.owner) is c.leave_kept.ensures.hand);
       serves = λ u r ds a locks. marked_kept u _ r _ _ _ ds c.if-kept.true (c.leave_kept.ensures.serves u r ds a.serves (of r.owner _ a.asked.0) locks);
       course = kept_left w d c.args.owner t c.args.kept c.if-kept.true (subst (λ (l : KindWord). KeptFor w d t.frame l c.args.owner) is c.leave_kept.ensures.course);
@@ -61,8 +57,6 @@ returns-else-kept g c =
     let d = g.P.Port.value c.leave_partial.new.port in
     record {
       came = came_trans _ _ _ (moves_came _ _ _ _ _ _ _ c.leave_partial.ensures.moves) (moves_came _ _ _ _ _ _ 0 c.put_old.ensures.moves);
-      forward = forward_then _ _ _ (forward_step _ _ _ _ _ _ _ refl refl c.leave_partial.ensures.moves) (forward_step _ _ _ _ _ _ 0 refl refl c.put_old.ensures.moves);
-      leaves = well_then _ _ _ _ _ (unkept_well c.requires.stands.0 _ _ _ _ _ [] _ _ c.requires.stands.1 c.leave_partial.ensures.moves) (well_step _ _ _ _ _ _ _ _ 0 refl c.put_old.ensures.moves);
       hand = λ v s. outer_named s c.requires.own d c.leave_partial.ensures.hand c.args.kept c.if-kept.false (g.P.Port.value c.put_old.new.port) c.put_old.ensures.hand;
       serves = λ u r ds a locks. let left = piece_left c.requires.stands.1 _ (top_spelled c.requires.stands.1 false (λ on. absurd cc)) refl c.leave_partial.ensures.moves u r _ [] ds a in
           marked_none u _ r _ _ _ ds (piece_names _ left (c.args.table.frame + 1) c.put_old.ensures.moves).serves;

@@ -1,6 +1,5 @@
 use Rattle.std.proofs.Common.{[], ◌∷◌, subst}
 use Rattle.level_validate.specs.Serving.{CarriesOn}
-use Rattle.level_validate.proofs.Steps.{well_more}
 use Rattle.level_validate.proofs.Serving.{left_on}
 use Rattle.level_validate.proofs.Unwound.{around_none, outer_lent}
 use Rattle.level_validate.proofs.unwinding.leave_outermost.Goals as goal
@@ -13,7 +12,3 @@ returns-else-table-clause-serves g c =
     let x = g.P.Port.value c.leave_lent.new.port in
     let goes = subst (λ us. CarriesOn (g.P.Port.value c.args.port.now) x c.args.owner (c.args.table ∷ []) us []) (around_none _) (c.leave_lent.ensures.serves c.args.owner []) in
     left_on _ _ _ _ _ (c.args.table ∷ []) [] [] goes
-
-pub returns-else-table-clause-leaves : goal.returns-else-table-clause-leaves
-returns-else-table-clause-leaves g c =
-    let f = c.args.table.frame in well_more _ _ _ f f (c.leave_lent.ensures.leaves f)

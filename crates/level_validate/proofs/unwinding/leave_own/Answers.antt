@@ -2,11 +2,9 @@ use Rattle.std.proofs.Common.{false, ◌∷◌, refl, sym, subst, rules}
 use Rattle.step_maker.proofs.Coming.{came_trans, moves_came}
 use Rattle.level_validate.specs.Serving.{CarriesOn}
 use Rattle.level_validate.specs.Tables.{Carries}
-use Rattle.level_validate.proofs.Steps.{forward_step, forward_then, well_step, well_then}
 use Rattle.level_validate.proofs.Leaving.{own_new, own_records, own_stands}
 use Rattle.level_validate.proofs.Standing.{top_spelled}
 use Rattle.level_validate.proofs.Serving.{piece_left, piece_records, piece_rest}
-use Rattle.level_validate.proofs.Unwound.{unkept_well}
 use Rattle.level_validate.proofs.unwinding.leave_own.Goals as goal
 
 pub record_entry-requires : goal.record_entry-requires
@@ -25,8 +23,6 @@ returns-in-Some g c =
     let ts = c.args.stack.now in
     record {
       came = came_trans _ _ _ (moves_came _ _ _ _ _ _ _ c.leave_partial.ensures.moves) (moves_came _ _ _ _ _ _ _ c.record_entry.ensures.moves);
-      forward = forward_then _ _ _ (forward_step _ _ _ _ _ _ _ refl refl c.leave_partial.ensures.moves) (forward_step _ _ _ _ _ _ _ refl refl c.record_entry.ensures.moves);
-      leaves = λ f. well_then _ _ _ false f (unkept_well b.1.0 _ b.0 _ _ _ _ false f b.1.1 c.leave_partial.ensures.moves) (well_step _ _ false f _ _ _ _ _ refl c.record_entry.ensures.moves);
       stands = λ owner v s. subst (λ ts. Carries v x owner ts) (sym c.in-Some.ensures.some)
           (own_stands (subst (λ ts. Carries v (g.P.Port.value c.args.port.now) owner (c.args.table ∷ ts)) c.in-Some.ensures.some s) c.requires.own (own_new s c.requires.own)
           c.leave_partial.ensures.moves c.leave_partial.ensures.hand x c.record_entry.ensures.hand came);

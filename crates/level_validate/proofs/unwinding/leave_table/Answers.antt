@@ -1,5 +1,4 @@
 use Rattle.std.proofs.Common.{refl}
-use Rattle.level_validate.proofs.Steps.{well_more}
 use Rattle.level_validate.proofs.Leaving.{outer_unwinds}
 use Rattle.level_validate.proofs.Unwound.{none_hand, none_serves}
 use Rattle.level_validate.proofs.unwinding.leave_table.Goals as goal
@@ -19,6 +18,3 @@ returns-then-is_empty-clause-course g c =
     outer_unwinds _ _ _ _ _ _ (c.if-is_empty.ensures.0 refl) c.leave_outermost.ensures.course
 
 -- ---- others stand around it
-
-pub returns-else-is_empty-clause-leaves : goal.returns-else-is_empty-clause-leaves
-returns-else-is_empty-clause-leaves g c t is = well_more _ _ _ t.frame t.frame (c.leave_inner.ensures.leaves t.frame)

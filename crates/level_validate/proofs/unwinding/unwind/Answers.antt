@@ -9,7 +9,7 @@ pub loop-table-preserved : goal.loop-table-preserved
 loop-table-preserved g c =
     let w = g.P.Port.value c.loop-table.port in
     unwinding_on (subst (λ us. Unwinding (g.P.Port.value c.args.port.now) w c.args.owner c.args.kept c.args.stack.now us) c.in-Some.ensures.some c.loop-table.invariant)
-    (g.P.Port.value c.leave_table.new.port) c.leave_table.new.stack c.leave_table.ensures.came c.leave_table.ensures.forward c.leave_table.ensures.leaves c.leave_table.ensures.around c.leave_table.ensures.hand c.leave_table.ensures.serves c.leave_table.ensures.course
+    (g.P.Port.value c.leave_table.new.port) c.leave_table.new.stack c.leave_table.ensures.came c.leave_table.ensures.around c.leave_table.ensures.hand c.leave_table.ensures.serves c.leave_table.ensures.course
 
 pub returns-clause-hand : goal.returns-clause-hand
 returns-clause-hand g c = unwinding_hand c.in_default.ensures.none.0 c.loop-table.invariant

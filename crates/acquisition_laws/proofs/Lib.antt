@@ -1,0 +1,5 @@
+pub mod Spelled
+pub mod Steps
+pub mod Lows
+pub mod Visits
+pub mod Walking
