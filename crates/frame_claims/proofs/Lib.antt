@@ -6,21 +6,22 @@ mod Firsts
 pub mod Heads
 mod Hinting
 mod Lasting
-mod Listing
+pub mod Listing
 mod Lone
 mod Losing
 mod Outcomes
 mod Passing
-mod Plainly
-mod Refusing
-mod Running
-mod Setting
+pub mod Plainly
 pub mod Reaching
+mod Refusing
 pub mod Rows
+mod Running
+mod Scrubbing
 pub mod Serving
+mod Setting
 mod Sizes
 mod Stopping
-mod Telling
+pub mod Telling
 mod Trying
 mod Visiting
-mod Waiting
+pub mod Waiting

@@ -3,7 +3,7 @@ use Rattle.std.proofs.Common.{◌≡◌, ◌≢◌, ℕ, ◌+◌, ◌-◌, ◌*�
 use Rattle.xp_words.specs.Machine.{Machine}
 use Rattle.xp_words.specs.Places.{map_words, sizes_of}
 use Rattle.xp_words.specs.declared.place.Place.{Place}
-use Rattle.xp_words.specs.declared.place.Place.TheVariants.{Clock, Pages, Life, Vcpu, Refs, Kind, M2p, Cell, Map, Priv}
+use Rattle.xp_words.specs.declared.place.Place.TheVariants.{Clock, Pages, Vcpu, Priv}
 use Rattle.xp_words.specs.declared.reply.Pause.TheVariants.{Lost}
 use Rattle.xp_words.specs.declared.reply.Refusal.TheVariants as refusals
 use Rattle.xp_words.specs.declared.reply.Stop.{Stop}
@@ -62,13 +62,7 @@ aside_quiet x aside = by x.place aside
     by Clock a = refl
     by (Vcpu u k) a = refl
     by (Priv d) a = refl
-    by (Pages d) a = absurd a
-    by (Life d) a = absurd a
-    by (Refs f) a = absurd a
-    by (Kind f) a = absurd a
-    by (M2p f) a = absurd a
-    by (Cell f i) a = absurd a
-    by (Map k) a = absurd a
+    by _ a = absurd a
 
 pub charged_quiet : (n : Machine) (d k : ℕ) → Alls IsNoRefLook (λ vs. ChargedBy n d k (Ok tt) vs)
 charged_quiet n d k vs t =

@@ -62,17 +62,17 @@ abbrev pub AllTold : Words → List Visit → Type 0
 AllTold m [] = Unit {0}
 AllTold m (s ∷ vs) = (s.found ≡ words_after m vs s.place) × AllTold m vs
 
+pub after_parts : (m : Words) (xs ys : List Visit) → words_after m (ys ++ xs) ≡ words_after (words_after m xs) ys
+after_parts m xs [] = refl
+after_parts m xs (y ∷ ys) = ap (change y.act y.place) (after_parts m xs ys)
+
 pub told_parts : (m : Words) (xs ys : List Visit) → AllTold m (ys ++ xs) → AllTold m xs × AllTold (words_after m xs) ys
 told_parts m xs [] told = (told, tt)
 told_parts m xs (y ∷ ys) told =
     let rest = told_parts m xs ys told.1 in
     (rest.0, ((told.0 ∙ ap (λ (k : Words). k y.place) (after_parts m xs ys), rest.1)))
-  where
-    after_parts : (m : Words) (xs ys : List Visit) → words_after m (ys ++ xs) ≡ words_after (words_after m xs) ys
-    after_parts m xs [] = refl
-    after_parts m xs (y ∷ ys) = ap (λ (k : Words). change y.act y.place k) (after_parts m xs ys)
 
-told_ran : (v w : PortValue) (ms : List Moment) → Ran v ms w → is_telling v ≡ true → AllTold (told_word v) (visits ms) × Leaves w (words_after (told_word v) (visits ms))
+pub told_ran : (v w : PortValue) (ms : List Moment) → Ran v ms w → is_telling v ≡ true → AllTold (told_word v) (visits ms) × Leaves w (words_after (told_word v) (visits ms))
 told_ran v w [] ran telling = (tt, λ q. ap (λ (y : PortValue). told_word y q) ran)
 told_ran v w (m ∷ ms) ran telling =
     let u = ran.0 in
@@ -96,7 +96,7 @@ does_holds v w P C telling so does = so (visits does.0) (told_ran v w does.0 doe
 abbrev pub IsAway : Place → Visit → Type 0
 IsAway p s = (s.act ≡ Load) ⊎ (s.place ≢ p)
 
-load_leaves : (p : Place) (m : Words) (q : Place) → change Load p m q ≡ m q
+pub load_leaves : (p : Place) (m : Words) (q : Place) → change Load p m q ≡ m q
 unfolding left_by
 load_leaves p m q = sym (by_test (is_same q p) (m p) (m q) (m q) (λ on. ap m (same_place q p on)) (λ off. refl))
 

@@ -1,5 +1,5 @@
--- Where the steps of a wait for flushes are: at words of vCPUs, the clock, and words of privileges.
-use Rattle.std.proofs.Common.{◌≡◌, ℕ, Bool, true, false, List, Option, None, Result, Ok, Err, refl, sym, subst, inl, inr}
+-- Where the steps of a wait for flushes are: at words of flushes and runs of vCPUs, the clock, and words of privileges.
+use Rattle.std.proofs.Common.{◌≡◌, ℕ, nat_le, Bool, true, false, List, Option, None, Result, Ok, Err, refl, sym, subst, inl, inr}
 use Rattle.xp_words.specs.Machine.{Machine}
 use Rattle.xp_words.specs.declared.place.Place.{Place}
 use Rattle.xp_words.specs.declared.place.Place.TheVariants.{Clock, Vcpu, Refs, Priv}
@@ -22,7 +22,7 @@ use Rattle.frame_claims.proofs.Telling.{Alls, alls_nothing, alls_one, alls_then}
 
 abbrev pub IsAside : Place → Type 0
 IsAside Clock = Unit {0}
-IsAside (Vcpu u k) = Unit {0}
+IsAside (Vcpu u k) = nat_le 4 k ≡ true
 IsAside (Priv d) = Unit {0}
 IsAside _ = ⊥
 
@@ -38,7 +38,7 @@ module _ (Q : Visit → Type 0) (aside : (x : Visit) → IsAside x.place → Q x
   flushes : (s : ℕ) (answer : Result (Unit {0}) Refusal) → Alls Q (FlushedBy s answer)
   unfolding EachOf
   flushes s _ _ flushing.FlushedBy.none = (aside _ tt, tt)
-  flushes s _ _ (flushing.FlushedBy.once clock found to before some left) = (aside _ tt, (aside _ tt, (aside _ tt, tt)))
+  flushes s _ _ (flushing.FlushedBy.once clock found to before some left) = (aside _ refl, (aside _ tt, (aside _ tt, tt)))
 
   module _ (q : Post) (whose : Whose) (stamp : ℕ) where
     one : (x : Visit) → Q x → Alls Q (Only x)
@@ -49,13 +49,13 @@ module _ (Q : Visit → Type 0) (aside : (x : Visit) → IsAside x.place → Q x
 
     looks : (u : ℕ) (answer : Result (Option ℕ) Refusal) → (vs : List Visit) → LooksAt q whose stamp u vs answer → EachOf Q vs
     looks u _ vs (waits.LooksAt.unmeant means is off none) = alls_nothing Q vs none
-    looks u _ vs (waits.LooksAt.idle x other runs saw) = one _ (aside _ tt) vs saw
-    looks u _ vs (waits.LooksAt.late y other past saw) = two _ _ (one _ (aside _ tt)) (one _ (aside _ tt)) vs saw
-    looks u _ vs (waits.LooksAt.barred y other most saw) = two _ _ (one _ (aside _ tt)) (two _ _ (one _ (aside _ tt)) (weighs q.machine whose u false)) vs saw
-    looks u _ vs (waits.LooksAt.behind y z other most saw) = two _ _ (one _ (aside _ tt)) (two _ _ (one _ (aside _ tt)) (two _ _ (weighs q.machine whose u true) (one _ (aside _ tt)))) vs saw
-    looks u _ vs (waits.LooksAt.own_late y own past saw) = one _ (aside _ tt) vs saw
-    looks u _ vs (waits.LooksAt.own_flushed y own most saw) = two _ _ (one _ (aside _ tt)) (flushes u (Ok tt)) vs saw
-    looks u _ vs (waits.LooksAt.own_spent y r own most saw) = two _ _ (one _ (aside _ tt)) (flushes u (Err r)) vs saw
+    looks u _ vs (waits.LooksAt.idle x other runs saw) = one _ (aside _ refl) vs saw
+    looks u _ vs (waits.LooksAt.late y other past saw) = two _ _ (one _ (aside _ refl)) (one _ (aside _ refl)) vs saw
+    looks u _ vs (waits.LooksAt.barred y other most saw) = two _ _ (one _ (aside _ refl)) (two _ _ (one _ (aside _ refl)) (weighs q.machine whose u false)) vs saw
+    looks u _ vs (waits.LooksAt.behind y z other most saw) = two _ _ (one _ (aside _ refl)) (two _ _ (one _ (aside _ refl)) (two _ _ (weighs q.machine whose u true) (one _ (aside _ refl)))) vs saw
+    looks u _ vs (waits.LooksAt.own_late y own past saw) = one _ (aside _ refl) vs saw
+    looks u _ vs (waits.LooksAt.own_flushed y own most saw) = two _ _ (one _ (aside _ refl)) (flushes u (Ok tt)) vs saw
+    looks u _ vs (waits.LooksAt.own_spent y r own most saw) = two _ _ (one _ (aside _ refl)) (flushes u (Err r)) vs saw
 
     in_order : (n : ℕ) (answer : Result (Option Slow) Refusal) → (vs : List Visit) → WaitsInOrder q whose stamp vs n answer → EachOf Q vs
     in_order _ _ _ (waits.WaitsInOrder.none vs is) = alls_nothing Q vs is

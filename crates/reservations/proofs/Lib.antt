@@ -1,0 +1,3 @@
+pub mod Decreasing
+pub mod GivingBack
+mod Reserving
