@@ -93,7 +93,7 @@ pauses_too p (Err e) answer valued_is is =
     ap (λ (x : Stop). Err x) same
 
 -- what is answered waits no more
-pub knows_left : (o : Option Task) (w : PortValue) (to : ℕ) (answer : Result ℕ Stop) → ((p : Pause) → answer ≡ Err (Paused p) → KnowsAwaited w (awaited_in o to p)) → KnowsAwaited w (awaited_left o to answer)
+knows_left : (o : Option Task) (w : PortValue) (to : ℕ) (answer : Result ℕ Stop) → ((p : Pause) → answer ≡ Err (Paused p) → KnowsAwaited w (awaited_in o to p)) → KnowsAwaited w (awaited_left o to answer)
 knows_left o w to (Ok value) knows = tt
 knows_left o w to (Err (Refused r)) knows = tt
 knows_left o w to (Err (Paused p)) knows = knows p refl

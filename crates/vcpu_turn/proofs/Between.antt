@@ -1,5 +1,6 @@
 -- Between turns: the port is still that of the vCPU.
 use Rattle.std.proofs.Common.{◌≡◌, ℕ, Bool, true, false, List, Option, Some, None, Result, Ok, Err, refl, sym, ap, ◌∙◌, subst}
+use Rattle.xp_words.specs.declared.reply.LogLine.{LogLine}
 use Rattle.xp_words.specs.declared.reply.Stop.{Stop}
 use Rattle.xp_words.specs.declared.reply.Stop.TheVariants.{Refused, Paused}
 use Rattle.xp_board.specs.Readings.{domain_of}
@@ -24,21 +25,21 @@ runs_on w rests = ap (λ o. run_or w.post.run o) rests.may.running
 rests_idles : (w : PortValue) → Rests w → IsWarm w → Idles w
 rests_idles w rests warm = record { empty = rests.empty; no_walk = rests.may.no_walk; machine = rests.may.machine; warm = warm }
 
-after_vcpu : (c : Processing) (to : Progress) (answer : Result ℕ Stop) → (after_turn c to (end_of to.done answer)).vcpu ≡ c.vcpu
-after_vcpu c to (Ok value) = refl
-after_vcpu c to (Err (Refused r)) = refl
-after_vcpu c to (Err (Paused p)) = refl
+after_vcpu : (c : Processing) (to : Progress) (log : List LogLine) (answer : Result ℕ Stop) → (after_turn c to log (end_of to.done answer)).vcpu ≡ c.vcpu
+after_vcpu c to log (Ok value) = refl
+after_vcpu c to log (Err (Refused r)) = refl
+after_vcpu c to log (Err (Paused p)) = refl
 
-after_domain : (c : Processing) (to : Progress) (answer : Result ℕ Stop) → (after_turn c to (end_of to.done answer)).domain ≡ c.domain
-after_domain c to (Ok value) = refl
-after_domain c to (Err (Refused r)) = refl
-after_domain c to (Err (Paused p)) = refl
+after_domain : (c : Processing) (to : Progress) (log : List LogLine) (answer : Result ℕ Stop) → (after_turn c to log (end_of to.done answer)).domain ≡ c.domain
+after_domain c to log (Ok value) = refl
+after_domain c to log (Err (Refused r)) = refl
+after_domain c to log (Err (Paused p)) = refl
 
 -- behind the end of its turn it knows what it knew before that
-ended_knows : (c : Processing) (to : Progress) (answer : Result ℕ Stop) (v w : PortValue) → EndsTurn (end_of to.done answer) v w → KnowsAwaited v to.awaited → KnowsAwaited w (after_turn c to (end_of to.done answer)).at.awaited
-ended_knows c to (Ok value) v w ends knows = tt
-ended_knows c to (Err (Refused r)) v w ends knows = tt
-ended_knows c to (Err (Paused p)) v w ends knows = subst (λ (x : PortValue). KnowsAwaited x to.awaited) (sym ends) knows
+ended_knows : (c : Processing) (to : Progress) (log : List LogLine) (answer : Result ℕ Stop) (v w : PortValue) → EndsTurn (end_of to.done answer) v w → KnowsAwaited v to.awaited → KnowsAwaited w (after_turn c to log (end_of to.done answer)).at.awaited
+ended_knows c to log (Ok value) v w ends knows = tt
+ended_knows c to log (Err (Refused r)) v w ends knows = tt
+ended_knows c to log (Err (Paused p)) v w ends knows = subst (λ (x : PortValue). KnowsAwaited x to.awaited) (sym ends) knows
 
 pub not_both : (b : Bool) → b ≡ true → b ≡ false → ⊥
 not_both b on off = cc
@@ -66,14 +67,14 @@ module _ (v w : PortValue) (c c1 c2 : Processing) (of : IsOf v c) (post : w.post
       of_retired_now (came_trans v b w (subst (λ (x : PortValue). Came v x) (sym h.2) came) (moves_came b w _ _ _ _ _ stop.stop.1))
       (stop.cpu ∙ ap (λ (x : Processing). record x { retired = true }) h.1) idles
 
-  pub of_gone_on : (a b : PortValue) (answers : List Bool) (answer : Result ℕ Stop) → NextWentOn (next_of c) c c1 a b answers (Some answer) → c2 ≡ after_turn c1 c1.at (end_of c1.at.done answer) →
+  pub of_gone_on : (a b : PortValue) (answers : List Bool) (answer : Result ℕ Stop) → NextWentOn (next_of c) c c1 a b answers (Some answer) → c2 ≡ after_turn c1 c1.at c1.log (end_of c1.at.done answer) →
       KnowsAwaited b c1.at.awaited → EndsTurn (end_of c1.at.done answer) b w → Rests w → IsWarm w → IsOf w c2
   of_gone_on a b answers answer worked cpu awaits ends rests warm =
       let h = worked_some (next_of c) c c1 a b answers answer worked in
-      of_now (ap (λ (x : Processing). x.vcpu) cpu ∙ after_vcpu c1 c1.at answer ∙ ap (λ (x : Processing). x.vcpu) h.worked.cpu)
-      (ap (λ (x : Processing). x.domain) cpu ∙ after_domain c1 c1.at answer ∙ ap (λ (x : Processing). x.domain) h.worked.cpu) (rests_idles w rests warm)
+      of_now (ap (λ (x : Processing). x.vcpu) cpu ∙ after_vcpu c1 c1.at c1.log answer ∙ ap (λ (x : Processing). x.vcpu) h.worked.cpu)
+      (ap (λ (x : Processing). x.domain) cpu ∙ after_domain c1 c1.at c1.log answer ∙ ap (λ (x : Processing). x.domain) h.worked.cpu) (rests_idles w rests warm)
       (subst (λ (x : Processing). KnowsAwaited w x.at.awaited) (sym cpu)
-      (ended_knows c1 c1.at answer b w ends awaits))
+      (ended_knows c1 c1.at c1.log answer b w ends awaits))
       (λ on. runs_on w rests)
 
 -- stopped between its turns

@@ -1,12 +1,12 @@
 -- The next operation of a vCPU.
-use Rattle.std.proofs.Common.{◌≡◌, ℕ, ◌+◌, ◌<◌, ◌≤◌, Bool, false, List, [], ◌∷◌, length, get_or, slice_get, sum_by, Option, Some, None, Result, refl, sym, ap, ◌∙◌, arith, subst}
-use Rattle.std.proofs.lemmas.List.Sums.{sum_by-cons, sum_by-drop_more}
-use Rattle.std.proofs.lemmas.Option.{slice_get-get_or, slice_get_past, slice_get_within}
+use Rattle.std.proofs.Common.{◌≡◌, ℕ, ◌+◌, ◌<◌, ◌≤◌, Bool, false, List, [], length, get_or, slice_get, Option, Some, None, Result, refl, sym, ap, ◌∙◌, arith, inl, inr, subst}
+use Rattle.std.proofs.lemmas.List.Sums.{sum_by-drop_more}
+use Rattle.std.proofs.lemmas.Option.{get_or_from_slice_get, slice_get-get_or, slice_get_cases, slice_get_past, slice_get_within}
 use Rattle.xp_words.specs.declared.ops.Op.{Op}
-use Rattle.xp_words.specs.declared.ops.Op.TheVariants as ops
+use Rattle.xp_words.specs.declared.reply.LogLine.{LogLine}
 use Rattle.xp_words.specs.declared.reply.Stop.{Stop}
 use Rattle.xp_board.specs.Told.{PortValue}
-use Rattle.vcpu_turn.specs.Cpus.{Processing, lines_ahead, lines_of, next_of, task_of}
+use Rattle.vcpu_turn.specs.Cpus.{Processing, lines_ahead, lines_made, lines_of, next_of, room_of, task_next, task_of}
 use Rattle.vcpu_turn.specs.Lists.{Answering, is_due_answer}
 use Rattle.vcpu_turn.specs.Turning.{OperationWentOn, NextWentOn}
 use Rattle.vcpu_turn.specs.Working.{WentOn}
@@ -40,13 +40,13 @@ module _ (c seen : Processing) (is : seen ≡ c) (v : PortValue) (says : ℕ →
       subst (λ p. Answering (λ answers. NextWentOn p c c v v answers None) says before before yes_before yes_before false) (sym (ap next_of (sym is) ∙ next))
       (answers_nothing says before yes_before false (λ answers. NextWentOn None c c v v answers None) refl (refl, refl, refl))
 
-  pub goes_on : (op : Op) → next_of seen ≡ Some op → (to : Progress) (w : PortValue) (after yes_after : ℕ) (answer : Result ℕ Stop) →
-      Answering (λ answers. WentOn seen.domain (task_of op) v seen.at to w answers answer) says before after yes_before yes_after (is_due_answer answer) →
-      Answering (λ answers. NextWentOn (next_of c) c (record seen { at = to }) v w answers (Some answer)) says before after yes_before yes_after (is_due_answer answer)
-  goes_on op next to w after yes_after answer went =
-      subst (λ (x : Processing). Answering (λ answers. NextWentOn (next_of x) x (record seen { at = to }) v w answers (Some answer)) says before after yes_before yes_after (is_due_answer answer)) is
-      (subst (λ p. Answering (λ answers. NextWentOn p seen (record seen { at = to }) v w answers (Some answer)) says before after yes_before yes_after (is_due_answer answer)) (sym next)
-      (answers_as (λ answers. WentOn seen.domain (task_of op) v seen.at to w answers answer) (λ answers. NextWentOn (Some op) seen (record seen { at = to }) v w answers (Some answer)) says before after yes_before yes_after (is_due_answer answer)
+  pub goes_on : (op : Op) → next_of seen ≡ Some op → (to : Progress) (log : List LogLine) (w : PortValue) (after yes_after : ℕ) (answer : Result ℕ Stop) →
+      Answering (λ answers. WentOn seen.domain (task_of op) (seen.answered + 1) v seen.at to w seen.log log answers answer) says before after yes_before yes_after (is_due_answer answer) →
+      Answering (λ answers. NextWentOn (next_of c) c (record seen { at = to; log = log }) v w answers (Some answer)) says before after yes_before yes_after (is_due_answer answer)
+  goes_on op next to log w after yes_after answer went =
+      subst (λ (x : Processing). Answering (λ answers. NextWentOn (next_of x) x (record seen { at = to; log = log }) v w answers (Some answer)) says before after yes_before yes_after (is_due_answer answer)) is
+      (subst (λ p. Answering (λ answers. NextWentOn p seen (record seen { at = to; log = log }) v w answers (Some answer)) says before after yes_before yes_after (is_due_answer answer)) (sym next)
+      (answers_as (λ answers. WentOn seen.domain (task_of op) (seen.answered + 1) v seen.at to w seen.log log answers answer) (λ answers. NextWentOn (Some op) seen (record seen { at = to; log = log }) v w answers (Some answer)) says before after yes_before yes_after (is_due_answer answer)
       (λ answers on. record { went = on; cpu = refl }) went))
 
 -- it is not answered yet
@@ -60,15 +60,32 @@ pub more_seen : (seen c : Processing) → seen ≡ c → (left : Option ℕ) (v 
 more_seen seen c is left v w c' answers answer worked = more_left v w (record seen { left = left }) c' answers answer worked
 
 -- ---- the room of the log
-lines_all : (script : List Op) → sum_by lines_of script ≡ length script
-lines_all [] = refl
-lines_all (op ∷ script) = let all = sum_by-cons lines_of op script in let rest = lines_all script in omega (arith, all, rest)
+pub ahead_more : (script : List Op) (answered : ℕ) (op : Op) → slice_get script answered ≡ Some op → lines_ahead script answered ≡ lines_of op + lines_ahead script (answered + 1)
+ahead_more script answered op at =
+    let all = sum_by-drop_more lines_of script answered op (slice_get_within script answered op at) in
+    all ∙ ap (λ (x : Op). lines_of x + lines_ahead script (answered + 1)) (get_or_from_slice_get script answered op op at)
 
--- one line for each operation
-pub ahead_all : (script : List Op) → lines_ahead script 0 ≡ length script
-ahead_all script = lines_all script
+module _ (script : List Op) (answered len capacity done : ℕ) (room : len + lines_ahead script answered ≤ capacity + lines_made (task_next (slice_get script answered)) done) where
+  module _ (op : Op) (next : slice_get script answered ≡ Some op) where
+    room_of_op : len + lines_ahead script answered ≤ capacity + lines_made (task_of op) done
+    room_of_op = subst (λ (o : Option Op). len + lines_ahead script answered ≤ capacity + lines_made (task_next o) done) next room
 
-pub ahead_more : (script : List Op) (answered : ℕ) → answered < length script → lines_ahead script answered ≡ lines_ahead script (answered + 1) + 1
-ahead_more script answered less =
-    let all : lines_ahead script answered ≡ 1 + lines_ahead script (answered + 1) = sum_by-drop_more lines_of script answered (ops.Read false 0) less in
-    omega (arith, all)
+    pub room_next : len + room_of (task_of op) ≤ capacity + lines_made (task_of op) done
+    room_next = let lines = ahead_more script answered op next in let at = room_of_op in omega (arith, lines, at)
+
+    -- it went on
+    pub room_kept : (len' capacity' done' : ℕ) → capacity' ≡ capacity → len' + lines_made (task_of op) done ≤ len + lines_made (task_of op) done' →
+        len' + lines_ahead script answered ≤ capacity' + lines_made (task_next (slice_get script answered)) done'
+    room_kept len' capacity' done' same more =
+        let at = room_of_op in
+        subst (λ (o : Option Op). len' + lines_ahead script answered ≤ capacity' + lines_made (task_next o) done') (sym next) (omega (arith, at, same, more))
+
+    room_op_answered : len + 1 + lines_ahead script (answered + 1) ≤ capacity
+    room_op_answered = let lines = ahead_more script answered op next in let at = room_of_op in omega (arith, lines, at)
+
+  -- there is room for the line of its answer
+  pub room_answered : answered < length script → len + 1 + lines_ahead script (answered + 1) ≤ capacity
+  room_answered more = elim (slice_get_cases script answered).1 [
+    | inl (op, less, next, at) ↦ room_op_answered op next
+    | inr (past, next) ↦ absurd (omega (arith, more, past))
+  ]

@@ -1,7 +1,8 @@
 -- The work of a turn on lists of any length, and on operations.
-use Rattle.std.proofs.Common.{◌≡◌, ℕ, ◌<◌, ◌≤◌, ◌==◌, Bool, false, List, [], length, Option, Some, None, Result, Ok, Err, IfErr, refl, sym, ap, ◌∙◌, arith, inl, inr, subst}
+use Rattle.std.proofs.Common.{◌≡◌, ℕ, ◌<◌, ◌≤◌, ◌==◌, Bool, false, List, [], ◌++◌, append-nil, length, Option, Some, None, Result, Ok, Err, IfErr, refl, sym, ap, ◌∙◌, arith, inl, inr, subst}
 use Rattle.std.proofs.lemmas.Bool.Decides.{nat_tests}
 use Rattle.xp_words.specs.declared.ops.Pair.{Pair}
+use Rattle.xp_words.specs.declared.reply.LogLine.{LogLine}
 use Rattle.xp_words.specs.declared.reply.Refusal.{Refusal}
 use Rattle.xp_words.specs.declared.reply.Refusal.TheVariants as refusals
 use Rattle.xp_words.specs.declared.reply.Stop.{Stop}
@@ -11,9 +12,11 @@ use Rattle.xp_board.specs.Told.{PortValue}
 use Rattle.foreign_map.specs.declared.owners.Owners.{Owners}
 use Rattle.tlb_walks.specs.Asking.{IsGuestReadStop, IsGuestWriteStop}
 use Rattle.vcpu_turn.specs.Lists.{Answering, Fitting, WorksOn, is_due_answer, WorksThrough}
-use Rattle.vcpu_turn.specs.Cpus.{Task, elements_in, size_of}
+use Rattle.vcpu_turn.specs.Cpus.{OfExt, OfMem, OfPairs, OfRead, OfWrite, Task, left_waiting}
+use Rattle.vcpu_turn.specs.Extents.{Block, given_lines}
 use Rattle.vcpu_turn.specs.Pairs.{FindsOwners, PairFits, WorksOwned, long, none, unowned, owned}
-use Rattle.vcpu_turn.specs.Working.{Valued, Works, valued}
+use Rattle.vcpu_turn.specs.Working.{GoesExtents, IsPlaced, Valued, WentOn, Works, gave_of, valued}
+use Rattle.vcpu_turn.specs.declared.cpu.Progress.{Progress}
 use Rattle.vcpu_turn.proofs.Gating.{answers_as, answers_nothing}
 use Rattle.vcpu_turn.proofs.Listing.{works_within}
 
@@ -91,18 +94,75 @@ write_not_due (Err (Paused (Busy f found))) kinds = refl
 write_not_due (Err (Paused (Flush u stamp found))) kinds = refl
 write_not_due (Err (Paused (Alive u found))) kinds = refl
 
-module _ (d from : ℕ) (awaited : Option ℕ) (v : PortValue) (o : Option Task) (says : ℕ → Bool) where
-  pub not_built : o ≡ None → (asks risen : ℕ) → Answering (λ answers. Works d o awaited v from 0 v answers (Err (Refused refusals.BadCommand))) says asks asks risen risen false
+-- ---- how far the vCPU is
+-- operations without extents keep the place within an element, and the log
+abbrev pub IsPlain : Option Task → Type 0
+IsPlain (Some (OfMem command order items)) = ⊥
+IsPlain _ = Unit {0}
+
+module _ (d : ℕ) (awaited : Option ℕ) (v : PortValue) (from to : ℕ) (w : PortValue) (answers : List Bool) (answer : Result ℕ Stop) where
+  placed_plain : (o : Option Task) → IsPlain o → (works : Works d o awaited v from to w answers answer) (old : ℕ) → IsPlaced d o awaited v from to w answers answer works old old
+  placed_plain None plain works old = refl
+  placed_plain (Some (OfPairs foreign pairs)) plain works old = refl
+  placed_plain (Some (OfExt list)) plain works old = refl
+  placed_plain (Some (OfMem command order items)) plain works old = absurd plain
+  placed_plain (Some (OfRead user va)) plain works old = refl
+  placed_plain (Some (OfWrite user va val)) plain works old = refl
+
+  gave_plain : (o : Option Task) → IsPlain o → (works : Works d o awaited v from to w answers answer) → gave_of d o awaited v from to w answers answer works ≡ []
+  gave_plain None plain works = refl
+  gave_plain (Some (OfPairs foreign pairs)) plain works = refl
+  gave_plain (Some (OfExt list)) plain works = refl
+  gave_plain (Some (OfMem command order items)) plain works = absurd plain
+  gave_plain (Some (OfRead user va)) plain works = refl
+  gave_plain (Some (OfWrite user va val)) plain works = refl
+
+module _ (d number : ℕ) (v : PortValue) (from : Progress) (log : List LogLine) (o : Option Task) (says : ℕ → Bool) where
+  went_plain : (p : Option Task) → IsPlain p → (to : ℕ) (w : PortValue) (answers : List Bool) (answer : Result ℕ Stop) → Works d p from.awaited v from.done to w answers answer →
+      WentOn d p number v from (left_waiting p (record from { done = to }) answer) w log log answers answer
+  went_plain p plain to w answers answer works =
+      record {
+        works = works;
+        calls = refl;
+        within = placed_plain d from.awaited v from.done to w answers answer p plain works from.within;
+        waits = refl;
+        lines = sym (append-nil log) ∙ ap (λ (bs : List Block). log ++ given_lines number bs) (sym (gave_plain d from.awaited v from.done to w answers answer p plain works));
+      }
+
+  pub not_built : o ≡ None → (asks risen : ℕ) →
+      Answering (λ answers. WentOn d o number v from (left_waiting o (record from { done = 0 }) (Err (Refused refusals.BadCommand))) v log log answers (Err (Refused refusals.BadCommand))) says asks asks risen risen false
   not_built is asks risen =
-      subst (λ (p : Option Task). Answering (λ answers. Works d p awaited v from 0 v answers (Err (Refused refusals.BadCommand))) says asks asks risen risen false) (sym is)
-      (answers_nothing says asks risen false (λ answers. Works d None awaited v from 0 v answers (Err (Refused refusals.BadCommand))) refl (record { none = refl; no_step = refl; no_ask = refl; refused = refl }))
+      subst (λ (p : Option Task). Answering (λ answers. WentOn d p number v from (left_waiting p (record from { done = 0 }) (Err (Refused refusals.BadCommand))) v log log answers (Err (Refused refusals.BadCommand))) says asks asks risen risen false) (sym is)
+      (answers_nothing says asks risen false (λ answers. WentOn d None number v from (left_waiting None (record from { done = 0 }) (Err (Refused refusals.BadCommand))) v log log answers (Err (Refused refusals.BadCommand))) refl
+      (went_plain None tt 0 v [] (Err (Refused refusals.BadCommand)) (record { none = refl; no_step = refl; no_ask = refl; refused = refl })))
 
-  pub built : (task : Task) → o ≡ Some task → (before after yes_before yes_after to : ℕ) (w : PortValue) (answer : Result ℕ Stop) →
-      Answering (λ answers. Works d (Some task) awaited v from to w answers answer) says before after yes_before yes_after (is_due_answer answer) →
-      Answering (λ answers. Works d o awaited v from to w answers answer) says before after yes_before yes_after (is_due_answer answer)
-  built task is before after yes_before yes_after to w answer works =
-      subst (λ (p : Option Task). Answering (λ answers. Works d p awaited v from to w answers answer) says before after yes_before yes_after (is_due_answer answer)) (sym is) works
+  module _ (task : Task) (is : o ≡ Some task) (before after yes_before yes_after : ℕ) (w : PortValue) (answer : Result ℕ Stop) where
+    went_as : (to : Progress) (log' : List LogLine) → Answering (λ answers. WentOn d (Some task) number v from (left_waiting (Some task) to answer) w log log' answers answer) says before after yes_before yes_after (is_due_answer answer) →
+        Answering (λ answers. WentOn d o number v from (left_waiting o to answer) w log log' answers answer) says before after yes_before yes_after (is_due_answer answer)
+    went_as to log' went =
+        subst (λ (p : Option Task). Answering (λ answers. WentOn d p number v from (left_waiting p to answer) w log log' answers answer) says before after yes_before yes_after (is_due_answer answer)) (sym is) went
 
--- ---- no more elements are done than there are
-pub built_within : (o : Option Task) (task : Task) → o ≡ Some task → (to : ℕ) → to ≤ size_of task → to ≤ elements_in o
-built_within o task is to most = subst (λ (p : Option Task). to ≤ elements_in p) (sym is) most
+    pub built : IsPlain (Some task) → (to : ℕ) → Answering (λ answers. Works d (Some task) from.awaited v from.done to w answers answer) says before after yes_before yes_after (is_due_answer answer) →
+        Answering (λ answers. WentOn d o number v from (left_waiting o (record from { done = to }) answer) w log log answers answer) says before after yes_before yes_after (is_due_answer answer)
+    built plain to works =
+        went_as (record from { done = to }) log
+        (answers_as (λ answers. Works d (Some task) from.awaited v from.done to w answers answer) (λ answers. WentOn d (Some task) number v from (left_waiting (Some task) (record from { done = to }) answer) w log log answers answer)
+        says before after yes_before yes_after (is_due_answer answer) (λ answers on. went_plain (Some task) plain to w answers answer on) works)
+
+  pub built_extents : (command order : ℕ) (items : List ℕ) → o ≡ Some (OfMem command order items) → (before after yes_before yes_after : ℕ) (to : Progress) (w : PortValue) (log' : List LogLine) (ended : Result (Unit {0}) Stop) (answer : Result ℕ Stop) → answer ≡ valued ended →
+      Answering (λ answers. GoesExtents d command order items number v from to w log log' answers ended) says before after yes_before yes_after (is_due_answer ended) →
+      Answering (λ answers. WentOn d o number v from (left_waiting o to answer) w log log' answers answer) says before after yes_before yes_after (is_due_answer answer)
+  built_extents command order items is before after yes_before yes_after to w log' ended answer valued_is goes =
+      went_as (OfMem command order items) is before after yes_before yes_after w answer to log'
+      (record {
+        answers = goes.answers;
+        goes = record {
+          works = record { ended = ended; works = goes.goes.works; answer_is = valued_is };
+          calls = goes.goes.calls;
+          within = goes.goes.within;
+          waits = refl;
+          lines = goes.goes.lines;
+        };
+        gate = goes.gate;
+        due_is = λ due. goes.due_is (sym (due_valued ended) ∙ sym (ap is_due_answer valued_is) ∙ due);
+      })

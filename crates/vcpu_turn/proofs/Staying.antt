@@ -24,6 +24,8 @@ use Rattle.mmu_update.specs.Elements.{LeavesUpdate}
 use Rattle.mmuext_ops.specs.Elements.{KnowsAwaited, LeavesElement, ServesElement}
 use Rattle.mmuext_ops.specs.declared.element.Element.{Element}
 use Rattle.mmuext_ops.specs.declared.element.Element.TheVariants as elements
+use Rattle.reservations.specs.Extents.{Reserves}
+use Rattle.reservations.specs.declared.extents.Extent.{Extent}
 use Rattle.vcpu_turn.specs.Ext.{SuitsExt}
 use Rattle.vcpu_turn.specs.Pairs.{SuitsPairs}
 use Rattle.vcpu_turn.specs.Settling.{IsWarm}
@@ -52,6 +54,10 @@ module _ (v w : PortValue) (answer : Result (Unit {0}) Stop) (serves : (owner pa
 pub suits_pairs_updated : (v w : PortValue) (o : Owners) → Came v w → LeavesUpdate v w → SuitsPairs o v → SuitsPairs o w
 suits_pairs_updated v w o came hand suits =
     record { may = may_map_updated v w o came hand suits.may; warm = came_warm v w came (ap (λ (y : PortValue). y.holdings.ran) hand.2) suits.warm }
+
+-- ---- an extent of `memory_op`
+pub reserved_warm : {owner size : ℕ} {extent : Extent} {from : ℕ} {v : PortValue} {to : ℕ} {w : PortValue} {answer : Result (Option ℕ) Stop} → Reserves owner size extent from v to w answer → IsWarm v → IsWarm w
+reserved_warm {v = v} {w = w} r warm = came_warm v w (serves_came v w _ _ r.serves.serves) (ap (λ (y : PortValue). y.holdings.ran) r.hand) warm
 
 -- ---- an element of `mmuext_op`
 ran_of : (v w : PortValue) → FlushedSame v w → w.holdings.ran ≡ v.holdings.ran

@@ -2,6 +2,7 @@
 use Rattle.std.proofs.Common.{◌≡◌, ℕ, Bool, true, false, List, Option, Some, None, Result, Ok, Err, refl, sym, ap, ◌∙◌, subst}
 use Rattle.xp_words.specs.declared.reply.Stop.{Stop}
 use Rattle.xp_words.specs.declared.reply.Stop.TheVariants.{Refused, Paused}
+use Rattle.xp_words.specs.declared.reply.LogLine.{LogLine}
 use Rattle.xp_words.specs.declared.reply.Pause.{Pause}
 use Rattle.xp_words.specs.declared.reply.Pause.TheVariants.{Due, Lost, Busy, Flush, Alive}
 use Rattle.xp_board.specs.Told.{PortValue}
@@ -33,10 +34,10 @@ settled_behind v a b begins answer serves = came_trans v a b (begins_came v a be
 pub settled_post : (v a b : PortValue) → Begins v a → (answer : Result (Unit {0}) Stop) → ((owner pages : ℕ) → Serves a b (of_settle owner pages answer) (misses a.post.machine answer)) → b.post ≡ v.post
 settled_post v a b begins answer serves = came_post v b (settled_behind v a b begins answer serves)
 
-after_same : (c : Processing) (at to : Progress) (answer : Result ℕ Stop) → after_turn (record c { at = at }) to (end_of to.done answer) ≡ after_turn c to (end_of to.done answer)
-after_same c at to (Ok ok) = refl
-after_same c at to (Err (Refused r)) = refl
-after_same c at to (Err (Paused p)) = refl
+after_same : (c : Processing) (at to : Progress) (l log : List LogLine) (answer : Result ℕ Stop) → after_turn (record c { at = at; log = l }) to log (end_of to.done answer) ≡ after_turn c to log (end_of to.done answer)
+after_same c at to l log (Ok ok) = refl
+after_same c at to l log (Err (Refused r)) = refl
+after_same c at to l log (Err (Paused p)) = refl
 
 -- ---- the whole turn
 -- the turn is paused for the gate where its last call is
@@ -97,7 +98,7 @@ module _ (v a b : PortValue) (c : Processing) (runs : c.retired ≡ false) (begi
 
     -- the next operation went on
     pub turn_goes_on : (answer : Result ℕ Stop) → Answering (λ answers. NextWentOn (next_of c) (nothing_left c) c1 b x answers (Some answer)) now after last yes_after yes_last (is_due_answer answer) →
-        c2 ≡ after_turn c1 c1.at (end_of c1.at.done answer) → EndsTurn (end_of c1.at.done answer) x w → Answering (λ answers. TurnBy c.retired c c2 (end_of c1.at.done answer) v w answers) says before last yes_before yes_last (is_due (end_of c1.at.done answer))
+        c2 ≡ after_turn c1 c1.at c1.log (end_of c1.at.done answer) → EndsTurn (end_of c1.at.done answer) x w → Answering (λ answers. TurnBy c.retired c c2 (end_of c1.at.done answer) v w answers) says before last yes_before yes_last (is_due (end_of c1.at.done answer))
     turn_goes_on answer worked cpu finishes =
         behind (end_of c1.at.done answer) (is_due_answer answer) (λ answers. NextWentOn (next_of c) (nothing_left c) c1 b x answers (Some answer)) worked does finishes (due_ended c1.at.done answer)
       where
@@ -107,10 +108,11 @@ module _ (v a b : PortValue) (c : Processing) (runs : c.retired ≡ false) (begi
             subst (λ o. DoesNext (nothing_left c) o c2 b x answers (end_of c1.at.done answer)) (sym h.next)
             (record {
               to = c1.at;
+              log = c1.log;
               answer = answer;
               went = h.worked.went;
               end_is = refl;
-              cpu = cpu ∙ ap (λ (y : Processing). after_turn y c1.at (end_of c1.at.done answer)) h.worked.cpu ∙ after_same (nothing_left c) c1.at c1.at answer;
+              cpu = cpu ∙ ap (λ (y : Processing). after_turn y c1.at c1.log (end_of c1.at.done answer)) h.worked.cpu ∙ after_same (nothing_left c) c1.at c1.at c1.log c1.log answer;
             })
 
 -- ---- the same, of a vCPU as the code sees it, with what is left behind the settling
@@ -131,7 +133,7 @@ module _ (seen c : Processing) (is : seen ≡ c) (v a b : PortValue) (runs : see
         (subst (λ (k : Option ℕ). Answering (λ answers. NextWentOn (next_of seen) (record seen { left = k }) c1 b x answers None) now after last yes_after yes_last false) none worked) stop)
 
     pub seen_goes_on : (answer : Result ℕ Stop) → Answering (λ answers. NextWentOn (next_of seen) (record seen { left = left }) c1 b x answers (Some answer)) now after last yes_after yes_last (is_due_answer answer) →
-        c2 ≡ after_turn c1 c1.at (end_of c1.at.done answer) → EndsTurn (end_of c1.at.done answer) x w → By c2 (end_of c1.at.done answer) w last yes_last c
+        c2 ≡ after_turn c1 c1.at c1.log (end_of c1.at.done answer) → EndsTurn (end_of c1.at.done answer) x w → By c2 (end_of c1.at.done answer) w last yes_last c
     seen_goes_on answer worked cpu finishes =
         subst (By c2 (end_of c1.at.done answer) w last yes_last) is
         (turn_goes_on v a b seen runs begins says before after yes_before yes_after left settles now same last yes_last x w c1 c2 answer

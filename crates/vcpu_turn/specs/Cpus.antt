@@ -1,5 +1,5 @@
 -- The vCPUs between their turns: their operations, and what they answered.
-use Rattle.std.specs.Prelude.{ℕ, ◌+◌, ◌-◌, Bool, false, List, [], ◌∷◌, ◌++◌, drop, length, slice_get, sum_by, Option, Some, None, Result, Ok, Err}
+use Rattle.std.specs.Prelude.{ℕ, ◌+◌, ◌-◌, min, Bool, true, false, List, [], ◌∷◌, ◌++◌, drop, length, slice_get, sum_by, Option, Some, None, Result, Ok, Err}
 use Rattle.xp_words.specs.declared.ops.ExtOp.{ExtOp}
 use Rattle.xp_words.specs.declared.ops.Pair.{Pair}
 use Rattle.xp_words.specs.declared.ops.Call.{Call}
@@ -14,6 +14,7 @@ use Rattle.xp_words.specs.declared.reply.Stop.TheVariants.{Refused, Paused}
 use Rattle.xp_words.specs.declared.reply.LogLine.{LogLine}
 use Rattle.xp_words.specs.declared.reply.LogLine.TheVariants as lines
 use Rattle.mmuext_ops.specs.Elements.{awaited_by, ext_element}
+use Rattle.vcpu_turn.specs.Extents.{begins_in, extents_in, gives_blocks, mem_refusal}
 use Rattle.vcpu_turn.specs.declared.tasks.Viewed.{Viewed}
 use Rattle.vcpu_turn.specs.declared.tasks.Viewed.TheVariants as viewing
 use Rattle.vcpu_turn.specs.declared.cpu.Progress.{Progress}
@@ -48,17 +49,19 @@ nothing_left c = record c { left = None }
 abbrev pub next_of : Processing → Option Op
 next_of c = slice_get c.script c.answered
 
--- ---- operations that are built: lists of `mmu_update`, with the number that names whose tables and frames they are about, and of `mmuext_op`;
--- and reads and writes of the guest
+-- ---- operations that are built: lists of `mmu_update`, with the number that names whose tables and frames they are about, of `mmuext_op`, and of
+-- `memory_op`, with its command and order; and reads and writes of the guest
 pub data Task : Type 0 where
   OfPairs : ℕ → List Pair → Task
   OfExt : List ExtOp → Task
+  OfMem : ℕ → ℕ → List ℕ → Task
   OfRead : Bool → ℕ → Task
   OfWrite : Bool → ℕ → ℕ → Task
 
 abbrev pub task_in : Call → Option Task
 task_in (calls.Mmu foreign pairs) = Some (OfPairs foreign pairs)
 task_in (calls.Ext list) = Some (OfExt list)
+task_in (calls.Mem command order items) = Some (OfMem command order items)
 task_in _ = None
 
 abbrev pub task_of : Op → Option Task
@@ -76,14 +79,21 @@ task_next None = None
 abbrev pub viewed : Viewed → Task
 viewed (viewing.Pairs foreign pairs) = OfPairs foreign pairs.now
 viewed (viewing.Ext list) = OfExt list.now
+viewed (viewing.Mem command order items) = OfMem command order items.now
 viewed (viewing.Read user va) = OfRead user va
 viewed (viewing.Write user va val) = OfWrite user va val
 
 abbrev pub size_of : Task → ℕ
 size_of (OfPairs foreign pairs) = length pairs
 size_of (OfExt list) = length list
+size_of (OfMem command order items) = extents_in command items
 size_of (OfRead user va) = 1
 size_of (OfWrite user va val) = 1
+
+-- the element from which a turn goes on, where so many are done: a list of extents has a first one that is still to be done
+abbrev pub begins_at : Option Task → ℕ → ℕ
+begins_at (Some (OfMem command order items)) from = begins_in command from
+begins_at _ from = from
 
 -- how many elements the operation has of which some may be done
 abbrev pub elements_in : Option Task → ℕ
@@ -110,10 +120,25 @@ awaited_left task done (Ok value) = None
 awaited_left task done (Err (Refused r)) = None
 awaited_left task done (Err (Paused p)) = awaited_in task done p
 
+abbrev pub left_waiting : Option Task → Progress → Result ℕ Stop → Progress
+left_waiting task to answer = record to { awaited = awaited_left task to.done answer }
+
 -- ---- how many lines the log may still get
--- An operation logs its answer. One that logs lines before that says so here.
+-- An operation logs its answer, and before that a line for each block that it gives.
+abbrev pub room_by : Bool → Option Refusal → ℕ → ℕ
+room_by true None count = count
+room_by _ refusal count = 0
+
+abbrev pub room_of : Option Task → ℕ
+room_of (Some (OfMem command order items)) = room_by (gives_blocks command) (mem_refusal command order items) (extents_in command items)
+room_of _ = 0
+
 abbrev pub lines_of : Op → ℕ
-lines_of op = 1
+lines_of op = room_of (task_of op) + 1
+
+-- how many lines it may have made before its answer, where so many elements are done
+abbrev pub lines_made : Option Task → ℕ → ℕ
+lines_made task done = min done (room_of task)
 
 -- of the operations that are not answered
 abbrev pub lines_ahead : List Op → ℕ → ℕ
@@ -129,11 +154,11 @@ end_of done (Ok value) = ends.Answered (reply_of done value None)
 end_of done (Err (Refused r)) = ends.Answered (reply_of done 0 (Some r))
 end_of done (Err (Paused p)) = ends.Paused p
 
--- The vCPU after it, where the operation came so far: an answer is logged under the number of its operation, and the next one begins.
-abbrev pub after_turn : Processing → Progress → TurnEnd → Processing
-after_turn c to (ends.Answered reply) = record c { log = c.log ++ lines.Answer (c.answered + 1) 0 reply ∷ []; answered = c.answered + 1; at = begun }
-after_turn c to (ends.Paused p) = record c { at = to }
-after_turn c to ends.Retired = c
+-- The vCPU after it, where the operation came so far and left that log: an answer is logged under the number of its operation, and the next one begins.
+abbrev pub after_turn : Processing → Progress → List LogLine → TurnEnd → Processing
+after_turn c to log (ends.Answered reply) = record c { log = log ++ lines.Answer (c.answered + 1) 0 reply ∷ []; answered = c.answered + 1; at = begun }
+after_turn c to log (ends.Paused p) = record c { at = to; log = log }
+after_turn c to log ends.Retired = c
 
 abbrev pub pending_of : Processing → ℕ
 pending_of c = length c.script - c.answered

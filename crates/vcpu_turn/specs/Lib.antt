@@ -1,6 +1,7 @@
 pub mod Accesses
 pub mod Cpus
 pub mod Ext
+pub mod Extents
 pub mod Lists
 pub mod Pairs
 pub mod Settling

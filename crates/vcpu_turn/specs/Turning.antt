@@ -19,6 +19,8 @@ pub use Rattle.mmuext_ops.specs.Elements.{KnowsAwaited}
 use Rattle.level_release.specs.Course.{left_settled}
 use Rattle.tlb_walks.specs.Dropping.{Acks}
 use Rattle.vcpu_turn.specs.Cpus.{Processing, after_turn, end_of, next_of, nothing_left, task_of}
+use Rattle.xp_words.specs.declared.reply.LogLine.{LogLine}
+use Rattle.vcpu_turn.specs.Extents.{Block, given_lines}
 use Rattle.vcpu_turn.specs.Lists.{asks_between, is_due_answer}
 use Rattle.vcpu_turn.specs.Settling.{IsWarm, Settles}
 use Rattle.vcpu_turn.specs.Working.{WentOn}
@@ -48,10 +50,11 @@ EndsTurn ends.Retired v w = IsStop v w
 -- The next operation goes on until it answers or pauses. At the script's end the vCPU is retired.
 pub record GoesOnWith (c : Processing) (op : Op) (c' : Processing) (v w : PortValue) (answers : List Bool) (end : TurnEnd) : Type 0 where
   pub to : Progress
+  pub log : List LogLine
   pub answer : Result ℕ Stop
-  pub went : WentOn c.domain (task_of op) v c.at to w answers answer
+  pub went : WentOn c.domain (task_of op) (c.answered + 1) v c.at to w c.log log answers answer
   pub end_is : end ≡ end_of to.done answer
-  pub cpu : c' ≡ after_turn c to end
+  pub cpu : c' ≡ after_turn c to log end
 
 pub record Retires (c c' : Processing) (v w : PortValue) (answers : List Bool) (end : TurnEnd) : Type 0 where
   pub no_step : w ≡ v
@@ -85,9 +88,10 @@ pub data CountsAsks (below : Option ℕ) (from : ℕ) (end : TurnEnd) (answers :
       length later ≡ asks_between from to answer + within → CountsAsks below from end answers within
   settling : (u x : PortValue) (p : Pause) → Settles below u x answers (Err (Paused p)) → end ≡ ends.Paused p → within ≡ 0 → CountsAsks below from end answers within
 
--- the vCPU behind a turn in which the next operation came so far; or settling was all that it did, and left the vCPU as it was, but for how much is left
+-- the vCPU behind a turn in which the next operation came so far, and was given blocks; or settling was all that it did, and left the vCPU as it was, but for how
+-- much is left
 abbrev pub IsLeftAt : Processing → Processing → Progress → TurnEnd → Type 0
-IsLeftAt c c' to end = (c' ≡ after_turn (nothing_left c) to end) ⊎ ((p : Pause) × (end ≡ ends.Paused p) × (to ≡ c.at) × (c' ≡ record c { left = c'.left }))
+IsLeftAt c c' to end = ((gave : List Block) × (c' ≡ after_turn (nothing_left c) to (c.log ++ given_lines (c.answered + 1) gave) end)) ⊎ ((p : Pause) × (end ≡ ends.Paused p) × (to ≡ c.at) × (c' ≡ record c { left = c'.left }))
 
 -- the turn went on with an operation, of which no more than `most` elements are done then
 pub record GoesNoFurther (c c' : Processing) (end : TurnEnd) (most : ℕ) : Type 0 where
@@ -145,8 +149,8 @@ StopsWhere false c c' v w = MakesStop c c' v w
 
 -- ---- a vCPU whose next operation goes on
 pub record OperationWentOn (op : Op) (c c' : Processing) (v w : PortValue) (answers : List Bool) (answer : Result ℕ Stop) : Type 0 where
-  pub went : WentOn c.domain (task_of op) v c.at c'.at w answers answer
-  pub cpu : c' ≡ record c { at = c'.at }
+  pub went : WentOn c.domain (task_of op) (c.answered + 1) v c.at c'.at w c.log c'.log answers answer
+  pub cpu : c' ≡ record c { at = c'.at; log = c'.log }
 
 -- the next operation went on, where there is one
 abbrev pub NextWentOn : Option Op → Processing → Processing → PortValue → PortValue → List Bool → Option (Result ℕ Stop) → Type 0

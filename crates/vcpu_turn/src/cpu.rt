@@ -1,11 +1,12 @@
 ghost use Rattle.std.specs.Prelude.{◌≡◌, ◌<◌, ◌^◌, length, IfOk};
 ghost use Rattle.xp_words.specs.Places.{sizes_of};
 ghost use Rattle.xp_board.specs.Readings.{domain_of};
-ghost use Rattle.vcpu_turn.specs.Cpus.{begun, fresh, pending_of};
+ghost use Rattle.vcpu_turn.specs.Cpus.{begun, fresh, lines_ahead, pending_of};
 
+use crate::tasks::lines_of;
 use std::alloc::{AllocError, Global};
 use std::marker::Model;
-use xp_words::{Layout, Log, LogLine, Pause, Reply, Script};
+use xp_words::{Layout, Log, LogLine, Op, Pause, Reply, Script};
 
 /// How a turn ended.
 #[derive(Clone, Copy, Debug, PartialEq, Eq, Drop)]
@@ -60,25 +61,37 @@ pub struct Cpu {
     pub(crate) retired: bool,
 }
 
+// How many lines these operations log at most.
+fn lines_in(script: &[Op]) -> usize
+    requires short { length script.now < 2 ^ 32 }
+    ensures { result ≡ lines_ahead script.now 0 }
+{
+    let mut lines = 0;
+    for op in script {
+        lines += lines_of(op);
+    }
+    lines
+}
+
 impl Model for Cpu {
     ghost use Rattle.std.specs.Prelude.{◌≡◌, ◌+◌, ◌≤◌, length, slice_get, vec_len, vec_capacity};
-    ghost use Rattle.vcpu_turn.specs.Cpus.{Processing, elements_of, lines_ahead};
+    ghost use Rattle.vcpu_turn.specs.Cpus.{Processing, elements_of, lines_ahead, lines_made, task_next};
 
     ghost Value = { Processing };
 
     ghost view = { λ c. record { vcpu = c.vcpu; domain = c.domain; script = c.script; log = c.log.items; answered = c.answered; at = c.at; left = c.left; retired = c.retired } };
 
-    ghost invariant = { λ c. (c.answered ≤ length c.script) × (vec_capacity c.log ≡ lines_ahead c.script 0) × (vec_len c.log + lines_ahead c.script c.answered ≤ vec_capacity c.log) × (c.at.done ≤ elements_of (slice_get c.script c.answered)) };
+    ghost invariant = { λ c. (c.answered ≤ length c.script) × (vec_capacity c.log ≡ lines_ahead c.script 0) × (vec_len c.log + lines_ahead c.script c.answered ≤ vec_capacity c.log + lines_made (task_next (slice_get c.script c.answered)) c.at.done) × (c.at.done ≤ elements_of (slice_get c.script c.answered)) };
 }
 
 impl Cpu {
     /// A vCPU of the machine before its first turn. All room that its log will need is taken here.
     pub fn new(alloc: Global, layout: &Layout, vcpu: u32, script: Script) -> Result<Cpu, AllocError>
-        requires { vcpu < (sizes_of layout.now).vcpus }
+        requires vcpu { vcpu < (sizes_of layout.now).vcpus }
+        requires short { length script < 2 ^ 32 }
         ensures { IfOk result (λ c. c ≡ fresh vcpu (domain_of layout.now vcpu) script) }
     {
-        // One line for each operation.
-        let log = Vec::with_capacity(alloc, script.len())?;
+        let log = Vec::with_capacity(alloc, lines_in(script.as_slice()))?;
         Ok(Cpu {
             vcpu,
             domain: layout.vcpu_domain.as_slice()[vcpu as usize],

@@ -5,6 +5,7 @@ mod accesses;
 mod beginning;
 mod cpu;
 mod ext;
+mod extents;
 mod lists;
 mod pairs;
 mod tasks;

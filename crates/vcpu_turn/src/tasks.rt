@@ -1,29 +1,45 @@
 //! Operations that are built: what each asks for, and the work of a turn on it.
-ghost use Rattle.std.specs.Prelude.{ℕ, ◌≡◌, ◌≤◌, true, false, Some, None, IfSome, IfNone};
+ghost use Rattle.std.specs.Prelude.{ℕ, ◌≡◌, ◌+◌, ◌≤◌, true, false, Some, None, IfSome, IfNone, vec_len, vec_capacity};
 ghost use Rattle.xp_board.specs.Readings.{domain_of};
 ghost use Rattle.step_maker.specs.Holds.{Rests};
 ghost use Rattle.mmuext_ops.specs.Elements.{KnowsAwaited};
-ghost use Rattle.vcpu_turn.specs.Cpus.{awaited_in, awaited_left, elements_in, task_of, viewed};
+ghost use Rattle.vcpu_turn.specs.Cpus.{awaited_in, awaited_left, elements_in, left_waiting, lines_made, lines_of, room_of, task_of, viewed};
 ghost use Rattle.vcpu_turn.specs.Lists.{Answering, is_due_answer};
 ghost use Rattle.vcpu_turn.specs.Settling.{IsWarm};
-ghost use Rattle.vcpu_turn.specs.Working.{WentOn, Works};
+ghost use Rattle.vcpu_turn.specs.Working.{WentOn};
 
 use crate::accesses::{read, write};
 use crate::cpu::Progress;
 use crate::ext::OwnElements;
+use crate::extents::{Extents, go_through_extents};
 use crate::working::{go_through, go_through_pairs, valued};
 use mmuext_ops::awaited_of;
 use xp_board::Port;
 use xp_preempt::Preempt;
-use xp_words::{Call, ExtOp, Op, Pair, Pause, Refusal, Stop};
+use xp_words::{Call, ExtOp, LogLine, Op, Pair, Pause, Refusal, Stop};
 
 // What an operation asks for.
 #[derive(Drop)]
 enum Viewed<'a> {
-    Pairs { foreign: u64, pairs: &'a [Pair] },
+    Pairs {
+        foreign: u64,
+        pairs: &'a [Pair],
+    },
     Ext(&'a [ExtOp]),
-    Read { user: bool, va: u64 },
-    Write { user: bool, va: u64, val: u64 },
+    Mem {
+        command: u64,
+        order: u64,
+        items: &'a [u64],
+    },
+    Read {
+        user: bool,
+        va: u64,
+    },
+    Write {
+        user: bool,
+        va: u64,
+        val: u64,
+    },
 }
 
 fn task_of(op: &Op) -> Option<Viewed<'_>>
@@ -40,6 +56,17 @@ fn task_of(op: &Op) -> Option<Viewed<'_>>
         Op::One {
             call: Call::Ext { list },
         } => Some(Viewed::Ext(list.as_slice())),
+        Op::One {
+            call: Call::Mem {
+                command,
+                order,
+                items,
+            },
+        } => Some(Viewed::Mem {
+            command: *command,
+            order: *order,
+            items: items.as_slice(),
+        }),
         Op::Read { user, va } => Some(Viewed::Read {
             user: *user,
             va: *va,
@@ -76,24 +103,54 @@ fn awaited_left(op: &Op, done: u32, answer: Result<u64, Stop>) -> Option<u64>
     }
 }
 
-// An operation goes on from its element `done`, and that one with a wait, past the clock value `awaited`, where it was paused in one.
+// How many lines an operation logs at most.
+pub(crate) fn lines_of(op: &Op) -> usize
+    ensures lines { result ≡ lines_of op.now }
+    ensures few { result ≤ 513 }
+{
+    match task_of(op) {
+        Some(
+            Viewed::Mem {
+                command,
+                order,
+                items,
+            },
+        ) => {
+            let list = Extents {
+                domain: 0,
+                number: 0,
+                command,
+                order,
+                items,
+            };
+            list.room() + 1
+        }
+        _ => 1,
+    }
+}
+
+// An operation goes on from where it is, and its next element with a wait, where it was paused in one.
 fn go_from<P: Port>(
     port: &mut P,
     gate: &mut dyn Preempt,
     domain: u16,
     op: &Op,
-    awaited: Option<u64>,
-    done: &mut u32,
+    number: u32,
+    at: &mut Progress,
+    log: &mut Vec<LogLine>,
 ) -> Result<u64, Stop>
-    requires within { done.old ≤ elements_in (task_of op.now) }
+    requires within { at.old.done ≤ elements_in (task_of op.now) }
     requires own { domain ≡ domain_of (P.value port.old).post.machine (P.value port.old).post.vcpu }
-    requires awaits { KnowsAwaited (P.value port.old) awaited }
+    requires awaits { KnowsAwaited (P.value port.old) at.old.awaited }
     requires rests { Rests (P.value port.old) }
     requires warm { IsWarm (P.value port.old) }
+    requires room { vec_len log.old + room_of (task_of op.now) ≤ vec_capacity log.old + lines_made (task_of op.now) at.old.done }
     ensures post { (P.value port.new).post ≡ (P.value port.old).post }
-    ensures within { done.new ≤ elements_in (task_of op.now) }
-    ensures awaits { KnowsAwaited (P.value port.new) (awaited_left (task_of op.now) done.new result) }
-    ensures works { Answering (λ answers. Works domain (task_of op.now) awaited (P.value port.old) done.old done.new (P.value port.new) answers result) (says gate.old) (count_asks gate.old) (count_asks gate.new) (count_yes gate.old) (count_yes gate.new) (is_due_answer result) }
+    ensures within { at.new.done ≤ elements_in (task_of op.now) }
+    ensures awaits { KnowsAwaited (P.value port.new) (awaited_left (task_of op.now) at.new.done result) }
+    ensures went { Answering (λ answers. WentOn domain (task_of op.now) number (P.value port.old) at.old (left_waiting (task_of op.now) at.new result) (P.value port.new) log.old.items log.new.items answers result) (says gate.old) (count_asks gate.old) (count_asks gate.new) (count_yes gate.old) (count_yes gate.new) (is_due_answer result) }
+    ensures capacity { vec_capacity log.new ≡ vec_capacity log.old }
+    ensures room { vec_len log.new + lines_made (task_of op.now) at.old.done ≤ vec_len log.old + lines_made (task_of op.now) at.new.done }
     ensures rests { Rests (P.value port.new) }
     ensures warm { IsWarm (P.value port.new) }
     ensures says { (n : ℕ) → says gate.new n ≡ says gate.old n }
@@ -102,50 +159,74 @@ fn go_from<P: Port>(
 {
     match task_of(op) {
         None => {
-            *done = 0;
+            at.done = 0;
             Err(Stop::Refused(Refusal::BadCommand))
         }
         Some(Viewed::Pairs { foreign, pairs }) => {
+            let done = &mut at.done;
             valued(go_through_pairs(port, gate, domain, foreign, pairs, done))
         }
         Some(Viewed::Ext(elements)) => {
             let items = OwnElements {
                 elements,
                 domain,
-                from: *done as usize,
-                awaited,
+                from: at.done as usize,
+                awaited: at.awaited,
             };
-            valued(go_through(port, gate, &items, done))
+            valued(go_through(port, gate, &items, &mut at.done))
         }
-        Some(Viewed::Read { user, va }) => read(port, user, va, done),
-        Some(Viewed::Write { user, va, val }) => valued(write(port, user, va, val, done)),
+        Some(
+            Viewed::Mem {
+                command,
+                order,
+                items,
+            },
+        ) => {
+            let list = Extents {
+                domain,
+                number,
+                command,
+                order,
+                items,
+            };
+            valued(go_through_extents(port, gate, &list, at, log))
+        }
+        Some(Viewed::Read { user, va }) => read(port, user, va, &mut at.done),
+        Some(Viewed::Write { user, va, val }) => {
+            valued(write(port, user, va, val, &mut at.done))
+        }
     }
 }
 
-/// An operation goes on from where it is, which says in the end how far it came.
+/// Operation number `number` goes on from where it is, which says in the end how far it came. The log has room for its lines.
 pub(crate) fn work_on<P: Port>(
     port: &mut P,
     gate: &mut dyn Preempt,
     domain: u16,
     op: &Op,
+    number: u32,
     at: &mut Progress,
+    log: &mut Vec<LogLine>,
 ) -> Result<u64, Stop>
     requires within { at.old.done ≤ elements_in (task_of op.now) }
     requires own { domain ≡ domain_of (P.value port.old).post.machine (P.value port.old).post.vcpu }
     requires awaits { KnowsAwaited (P.value port.old) at.old.awaited }
     requires rests { Rests (P.value port.old) }
     requires warm { IsWarm (P.value port.old) }
+    requires room { vec_len log.old + room_of (task_of op.now) ≤ vec_capacity log.old + lines_made (task_of op.now) at.old.done }
     ensures post { (P.value port.new).post ≡ (P.value port.old).post }
     ensures within { at.new.done ≤ elements_in (task_of op.now) }
     ensures awaits { KnowsAwaited (P.value port.new) at.new.awaited }
-    ensures went { Answering (λ answers. WentOn domain (task_of op.now) (P.value port.old) at.old at.new (P.value port.new) answers result) (says gate.old) (count_asks gate.old) (count_asks gate.new) (count_yes gate.old) (count_yes gate.new) (is_due_answer result) }
+    ensures went { Answering (λ answers. WentOn domain (task_of op.now) number (P.value port.old) at.old at.new (P.value port.new) log.old.items log.new.items answers result) (says gate.old) (count_asks gate.old) (count_asks gate.new) (count_yes gate.old) (count_yes gate.new) (is_due_answer result) }
+    ensures capacity { vec_capacity log.new ≡ vec_capacity log.old }
+    ensures room { vec_len log.new + lines_made (task_of op.now) at.old.done ≤ vec_len log.old + lines_made (task_of op.now) at.new.done }
     ensures rests { Rests (P.value port.new) }
     ensures warm { IsWarm (P.value port.new) }
     ensures says { (n : ℕ) → says gate.new n ≡ says gate.old n }
     ensures paces { paces gate.new ≡ paces gate.old }
     ensures calm { calm gate.old ≡ true → (is_due_answer result ≡ false) × (calm gate.new ≡ true) }
 {
-    let answer = go_from(port, gate, domain, op, at.awaited, &mut at.done);
+    let answer = go_from(port, gate, domain, op, number, at, log);
     at.awaited = awaited_left(op, at.done, answer);
     answer
 }

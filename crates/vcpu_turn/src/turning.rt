@@ -19,6 +19,7 @@ use xp_words::{LogLine, Refusal, Reply, Stop};
 
 // The next operation goes on; there is none at the script's end.
 fn go_on<P: Port>(port: &mut P, cpu: &mut Cpu, gate: &mut dyn Preempt) -> Option<Result<u64, Stop>>
+    requires short { length cpu.old.script < 2 ^ 32 }
     requires own { cpu.old.domain ≡ domain_of (P.value port.old).post.machine (P.value port.old).post.vcpu }
     requires awaits { KnowsAwaited (P.value port.old) cpu.old.at.awaited }
     requires rests { Rests (P.value port.old) }
@@ -34,7 +35,11 @@ fn go_on<P: Port>(port: &mut P, cpu: &mut Cpu, gate: &mut dyn Preempt) -> Option
 {
     match cpu.script.as_slice().get(cpu.answered) {
         None => None,
-        Some(op) => Some(work_on(port, gate, cpu.domain, op, &mut cpu.at)),
+        Some(op) => {
+            let number = cpu.answered as u32 + 1;
+            let at = &mut cpu.at;
+            Some(work_on(port, gate, cpu.domain, op, number, at, &mut cpu.log))
+        }
     }
 }
 
@@ -47,7 +52,7 @@ fn log_answer<P: Port>(port: &mut P, cpu: &mut Cpu, value: u64, refusal: Option<
     ensures warm { IsWarm (P.value port.new) }
     ensures post { (P.value port.new).post ≡ (P.value port.old).post }
     ensures reply { result ≡ reply_of cpu.old.at.done value refusal }
-    ensures cpu { cpu.new ≡ after_turn cpu.old cpu.old.at (Answered result) }
+    ensures cpu { cpu.new ≡ after_turn cpu.old cpu.old.at cpu.old.log (Answered result) }
     ensures ends { EndsTurn (Answered result) (P.value port.old) (P.value port.new) }
     ensures rests { Rests (P.value port.new) }
 {
@@ -77,7 +82,7 @@ fn finish<P: Port>(port: &mut P, cpu: &mut Cpu, answer: Result<u64, Stop>) -> Tu
     ensures warm { IsWarm (P.value port.new) }
     ensures post { (P.value port.new).post ≡ (P.value port.old).post }
     ensures end { result ≡ end_of cpu.old.at.done answer }
-    ensures cpu { cpu.new ≡ after_turn cpu.old cpu.old.at (end_of cpu.old.at.done answer) }
+    ensures cpu { cpu.new ≡ after_turn cpu.old cpu.old.at cpu.old.log (end_of cpu.old.at.done answer) }
     ensures ends { EndsTurn (end_of cpu.old.at.done answer) (P.value port.old) (P.value port.new) }
     ensures rests { Rests (P.value port.new) }
 {

@@ -4,7 +4,7 @@ use Rattle.xp_words.specs.Machine.{Machine}
 use Rattle.xp_words.specs.declared.ops.Op.{Op}
 use Rattle.xp_preempt.specs.Gates.{Heard, last_ask}
 use Rattle.turn_laws.specs.Asking.{HearsNoWithin, asks_within, elements_tried}
-use Rattle.vcpu_runners.specs.Turns.{Processing, is_due, next_of}
+use Rattle.vcpu_runners.specs.Turns.{Processing, begins_at, is_due, next_of, task_of}
 use Rattle.vcpu_runners.specs.Gates.{Gate}
 use Rattle.xp_machine.specs.Turns.{MakesStagedTurn, Stage, StaysWithin}
 use Rattle.turn_laws.proofs.Asking.{turn_within}
@@ -14,7 +14,7 @@ gate_same : (o : Option Gate) (g k : Gate) → o ≡ Some g → o ≡ Some k →
 gate_same o g k a b = cc
 
 pub own_turn_stops : (n : Machine) (v : ℕ) (c : Processing) (s t : Stage) (g : Gate) (op : Op) (j : ℕ) → (m : MakesStagedTurn n v c s t) → slice_get s.gates v ≡ Some g → next_of c ≡ Some op →
-    HearsNoWithin (elements_tried m.turn) → 0 < j → g.asks + j < last_ask → g.says (g.asks + j) ≡ true → StaysWithin v c s t (c.at.done + (j - asks_within (elements_tried m.turn)))
+    HearsNoWithin (elements_tried m.turn) → 0 < j → g.asks + j < last_ask → g.says (g.asks + j) ≡ true → StaysWithin v c s t (begins_at (task_of op) c.at.done + (j - asks_within (elements_tried m.turn)))
 own_turn_stops n v c s t g op j m has next hears some less is_yes =
     let same = gate_same (slice_get s.gates v) g m.gate has m.own in
     record {

@@ -5,7 +5,7 @@ use Rattle.std.specs.List.{enumerate_from, range_with_len, zip}
 use Rattle.std.proofs.lemmas.List.{get_or-map, length-map}
 use Rattle.std.proofs.lemmas.List.Elements.{All-from_get_or}
 use Rattle.std.proofs.lemmas.List.FromFn.{length-enumerate_from, get_or-enumerate_from}
-use Rattle.std.proofs.lemmas.List.Sums.{get_or-le-sum_by}
+use Rattle.std.proofs.lemmas.List.Sums.{get_or-le-sum_by, sum_by-cons}
 use Rattle.xp_words.specs.declared.ops.Op.{Op}
 use Rattle.xp_words.specs.Machine.{Machine}
 use Rattle.vcpu_runners.specs.Cpus.{IsShort, AreShort, first_cpu, first_cpus}
@@ -53,6 +53,25 @@ number_real a (suc n) (x ∷ xs) (g ∷ gs) (suc k) d within = let rest = number
 pub number_below : {X G : Type 0} (n vcpus : ℕ) (xs : List X) (gates : List G) (k v : ℕ) (d : (ℕ × X) × G) → k < length (zip (zip (range_with_len 0 n) xs) gates) →
     v ≡ (slice_index_or (zip (zip (range_with_len 0 n) xs) gates) k d).0.0 → n ≡ vcpus → v < vcpus
 number_below n vcpus xs gates k v d within at same = let real = number_real 0 n xs gates k d within in omega arith
+
+-- and its script is no longer than all of them together
+script_part : {G : Type 0} (a n : ℕ) (scripts : List (List Op)) (gates : List G) (k : ℕ) (d : (ℕ × List Op) × G) → k < length (zip (zip (range_with_len a n) scripts) gates) →
+    length ((slice_index_or (zip (zip (range_with_len a n) scripts) gates) k d).0.1) ≤ sum_by length scripts
+script_part a zero scripts gates k d within = absurd (omega arith)
+script_part a (suc n) [] gates k d within = absurd (omega arith)
+script_part a (suc n) (s ∷ ss) [] k d within = absurd (omega arith)
+script_part a (suc n) (s ∷ ss) (g ∷ gs) zero d within = let all = sum_by-cons length s ss in omega (arith, all)
+script_part a (suc n) (s ∷ ss) (g ∷ gs) (suc k) d within =
+    let rest = script_part (a + 1) n ss gs k d (omega arith) in
+    let all = sum_by-cons length s ss in
+    omega (arith, rest, all)
+
+pub script_short : {G : Type 0} (n : ℕ) (scripts : List (List Op)) (gates : List G) (k : ℕ) (script : List Op) (d : (ℕ × List Op) × G) → k < length (zip (zip (range_with_len 0 n) scripts) gates) →
+    script ≡ (slice_index_or (zip (zip (range_with_len 0 n) scripts) gates) k d).0.1 → sum_by length scripts ≤ 65536 → length script < 2 ^ 32
+script_short n scripts gates k script d within at few =
+    let part = script_part 0 n scripts gates k d within in
+    let same = ap (λ (s : List Op). length s) at in
+    omega (arith, part, same, few)
 
 -- ---- how many and how long
 pub length_first : (n : Machine) (scripts : List (List Op)) → length (first_cpus n scripts) ≡ length scripts

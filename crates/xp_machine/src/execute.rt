@@ -1,6 +1,7 @@
 ghost use Rattle.std.specs.Prelude.{◌≡◌, ◌≤◌, length, map, vec_len, IfOk};
 ghost use Rattle.xp_words.specs.Places.{size, sizes_of};
 ghost use Rattle.report_text.specs.ReportOf.{report_of};
+ghost use Rattle.trace_text.specs.Counted.{ops_of};
 ghost use Rattle.trace_text.specs.WellFormed.{IsWellFormed};
 ghost use Rattle.vcpu_runners.specs.Turns.{pending_of};
 ghost use Rattle.vcpu_runners.specs.Cpus.{AreShort, first_cpus};
@@ -30,6 +31,7 @@ pub(crate) fn first_runners(
     gates: Vec<Box<dyn Preempt + Send>>,
 ) -> Result<Vec<Runner>, AllocError>
     requires scripts { length scripts ≡ (sizes_of layout.now).vcpus }
+    requires few { ops_of scripts ≤ 65536 }
     requires gates { length scripts ≤ vec_len gates }
     ensures { IfOk result (λ v. (cpus_of v.items ≡ first_cpus layout.now scripts) × (gates_of (gate_of calm paces count_asks says) v.items ≡ first_gates layout.now (map (gate_of calm paces count_asks says) gates.items))) }
 {

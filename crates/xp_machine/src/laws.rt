@@ -4,7 +4,7 @@ ghost use Rattle.xp_words.specs.Machine.{Machine};
 ghost use Rattle.xp_words.specs.declared.ops.Op.{Op};
 ghost use Rattle.xp_preempt.specs.Gates.{Heard, last_ask};
 ghost use Rattle.turn_laws.specs.Asking.{AsksNothingWithin, HearsNoWithin, asks_within, elements_tried};
-ghost use Rattle.vcpu_runners.specs.Turns.{PassesYes, Processing, ReleasesNothing, Task, Tried, is_due, next_of, task_next, task_of};
+ghost use Rattle.vcpu_runners.specs.Turns.{PassesYes, Processing, ReleasesNothing, Task, Tried, begins_at, is_due, next_of, task_next, task_of};
 ghost use Rattle.vcpu_runners.specs.Gates.{Gate};
 ghost use Rattle.xp_machine.specs.Turns.{MakesStagedTurn, Stage, StaysWithin};
 
@@ -15,7 +15,7 @@ pub fn a_turn_hears_no_until_it_pauses()
 
 /// So its operation, which asks it behind each element but the last, does no more elements than asks up to one at which it says yes, those within elements taken off.
 pub fn a_turn_stops_for_its_own_gate()
-    ensures { (n : Machine) (v : ℕ) (c : Processing) (s t : Stage) (g : Gate) (op : Op) (j : ℕ) → (m : MakesStagedTurn n v c s t) → slice_get s.gates v ≡ Some g → next_of c ≡ Some op → HearsNoWithin (elements_tried m.turn) → 0 < j → g.asks + j < last_ask → g.says (g.asks + j) ≡ true → StaysWithin v c s t (c.at.done + (j - asks_within (elements_tried m.turn))) }
+    ensures { (n : Machine) (v : ℕ) (c : Processing) (s t : Stage) (g : Gate) (op : Op) (j : ℕ) → (m : MakesStagedTurn n v c s t) → slice_get s.gates v ≡ Some g → next_of c ≡ Some op → HearsNoWithin (elements_tried m.turn) → 0 < j → g.asks + j < last_ask → g.says (g.asks + j) ≡ true → StaysWithin v c s t (begins_at (task_of op) c.at.done + (j - asks_within (elements_tried m.turn))) }
 {}
 
 /// No element is done past a yes in a turn with an operation that releases nothing, nor in one whose elements ask nothing; nor with any operation, unless the gate pauses the release

@@ -1,22 +1,20 @@
 use Rattle.std.proofs.Common.{◌<◌, length, sym, ap, ◌∙◌, arith, subst}
 use Rattle.vcpu_turn.specs.Cpus.{Processing}
 use Rattle.vcpu_turn.specs.declared.cpu.Progress.{Progress}
-use Rattle.vcpu_turn.proofs.NextOps.{ahead_more}
+use Rattle.vcpu_turn.proofs.NextOps.{room_answered}
 use Rattle.vcpu_turn.proofs.turning.log_answer.Goals as goal
 
 pub push_reserved-requires : goal.push_reserved-requires
 push_reserved-requires g c =
     let more = subst (λ (x : Processing). x.answered < length x.script) (sym c.cpu.view_is) c.requires.more in
-    let line = ahead_more c.cpu.inside.script c.cpu.inside.answered more in
-    let room = c.cpu.invariant.2 in
-    omega (arith, line, room)
+    let room = room_answered _ _ _ _ _ c.cpu.invariant.2 more in
+    omega (arith, room)
 
 pub invariant_of-cpu : goal.invariant_of-cpu
 invariant_of-cpu g c =
     let more = subst (λ (x : Processing). x.answered < length x.script) (sym c.cpu.view_is) c.requires.more in
-    let line = ahead_more c.cpu.inside.script c.cpu.inside.answered more in
-    let room = c.cpu.invariant.2 in
+    let room = room_answered _ _ _ _ _ c.cpu.invariant.2 more in
     let len = c.push_reserved.ensures.len in
     let capacity = c.push_reserved.ensures.capacity in
     let begins = ap (λ (p : Progress). p.done) c.begun-cpu-inside.ensures in
-    (omega (arith, more), capacity ∙ c.cpu.invariant.1, omega (arith, line, room, len, capacity), omega (arith, begins))
+    (omega (arith, more), capacity ∙ c.cpu.invariant.1, omega (arith, room, len, capacity), omega (arith, begins))

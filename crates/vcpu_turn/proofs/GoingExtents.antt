@@ -1,0 +1,133 @@
+-- A list of extents that goes on by one, with a gate and a log.
+use Rattle.std.proofs.Common.{◌≡◌, ℕ, ◌+◌, ◌^◌, ◌<◌, if◌then◌else◌, Bool, true, false, List, [], ◌∷◌, ◌++◌, append_assoc, append-nil, Option, Some, None, Result, Ok, Err, refl, sym, ap, ◌∙◌, arith, subst}
+use Rattle.std.specs.Result.{IsErrAnd}
+use Rattle.std.proofs.lemmas.Bool.Decides.{nat_tests}
+use Rattle.xp_words.specs.declared.reply.LogLine.{LogLine}
+use Rattle.xp_words.specs.declared.reply.LogLine.TheVariants as logged
+use Rattle.xp_words.specs.declared.reply.Stop.{Stop}
+use Rattle.xp_words.specs.declared.reply.Stop.TheVariants.{Refused, Paused}
+use Rattle.xp_words.specs.declared.reply.Pause.TheVariants.{Due, Lost, Busy, Flush, Alive}
+use Rattle.xp_board.specs.Told.{PortValue}
+use Rattle.xp_preempt.specs.Gates.{Consulted, answer_at, next_ask}
+use Rattle.xp_preempt.proofs.Consulting.{consulted_ask, consulted_then}
+use Rattle.level_release.specs.Asking.{is_due_stop}
+use Rattle.reservations.specs.Extents.{IsExtentStop, Reserves}
+use Rattle.reservations.specs.declared.extents.Extent.{Extent}
+use Rattle.reservations.specs.declared.extents.Extent.TheVariants.{Increase, Decrease, Populate}
+use Rattle.vcpu_turn.specs.Extents.{Block, ExtentFits, ListsExtents, block_at, extent_at, extents_in, gave_did, given_by, given_lines, place_for}
+use Rattle.vcpu_turn.specs.Lists as lists
+use Rattle.vcpu_turn.specs.Lists.{Answering, DidItems, is_due_answer}
+use Rattle.vcpu_turn.proofs.Gating.{is_err}
+use Rattle.vcpu_turn.proofs.Listing.{did_on}
+
+-- ---- lines
+pub lines_both : (op : ℕ) (bs cs : List Block) → given_lines op (bs ++ cs) ≡ given_lines op bs ++ given_lines op cs
+lines_both op [] cs = refl
+lines_both op (b ∷ bs) cs = ap (λ (ls : List LogLine). logged.Given op 0 b.extent b.first ∷ ls) (lines_both op bs cs)
+
+-- ---- an extent does not pause for the gate
+pub extent_not_due : (x : Extent) (e : Stop) → IsExtentStop x e → is_due_stop e ≡ false
+extent_not_due x (Refused r) kinds = refl
+extent_not_due Increase (Paused Due) kinds = absurd kinds
+extent_not_due (Decrease first) (Paused Due) kinds = absurd kinds
+extent_not_due (Populate gpfn) (Paused Due) kinds = absurd kinds
+extent_not_due x (Paused (Lost place expected found)) kinds = refl
+extent_not_due x (Paused (Busy f found)) kinds = refl
+extent_not_due x (Paused (Flush u stamp found)) kinds = refl
+extent_not_due x (Paused (Alive u found)) kinds = refl
+
+-- ---- those from number `from` to below that one are done: how far the next one is, and what the log got
+pub record Went (d command order : ℕ) (items : List ℕ) (number from within : ℕ) (v : PortValue) (log : List LogLine) (to : ℕ) (u : PortValue) (left : ℕ) (log' : List LogLine) (answers : List Bool) : Type 0 where
+  pub did : DidItems (ExtentFits d command order items from within) (extents_in command items) from v to u answers
+  pub place : left ≡ place_for from within to
+  pub lines : log' ≡ log ++ given_lines number (gave_did did)
+
+pub went_none : (d command order : ℕ) (items : List ℕ) (number from within : ℕ) (v : PortValue) (log : List LogLine) → Went d command order items number from within v log from v within log []
+went_none d command order items number from within v log = record { did = lists.DidItems.none; place = grind (arith, nat_tests); lines = sym (append-nil log) }
+
+-- none is left as the turn begins
+all_of : {d command order : ℕ} {items : List ℕ} {number from within : ℕ} {v : PortValue} {log : List LogLine} {k : ℕ} {u : PortValue} {left : ℕ} {log' : List LogLine} {early : List Bool} →
+    (did : DidItems (ExtentFits d command order items from within) (extents_in command items) from v k u early) → k ≡ extents_in command items → left ≡ place_for from within k → log' ≡ log ++ given_lines number (gave_did did) →
+    ListsExtents d command order items number from within v k left u log log' early (Ok tt)
+all_of {from = from} {within = within} lists.DidItems.none at place lines = record { works = lists.WorksOn.all_done at; place = place ∙ first from within; lines = lines }
+  where
+    first : (n m : ℕ) → place_for n m n ≡ m
+    first n m = grind (arith, nat_tests)
+all_of (lists.DidItems.more k u w answers asked did f less) at place lines = absurd (omega (arith, less, at))
+
+module _ {d command order : ℕ} {items : List ℕ} {number from within : ℕ} {v : PortValue} {log : List LogLine} {k : ℕ} {u : PortValue} {left : ℕ} {log' : List LogLine} {early : List Bool}
+    (went : Went d command order items number from within v log k u left log' early) where
+  -- the next one
+  abbrev fit : (x : Extent) → extent_at command items k ≡ Some x → (given : Option ℕ) (to : ℕ) (w : PortValue) (answer : Result (Unit {0}) Stop) → Reserves d (2 ^ order) x left u to w (given_by given answer) →
+      ExtentFits d command order items from within k u w [] answer
+  fit x is given to w answer reserves =
+      record { extent = x; is = is; given = given; left = to; reserves = subst (λ (n : ℕ). Reserves d (2 ^ order) x n u to w (given_by given answer)) went.place reserves; no_ask = refl }
+
+  -- there is none
+  pub went_all : k ≡ extents_in command items → ListsExtents d command order items number from within v k left u log log' early (Ok tt)
+  went_all at = all_of went.did at went.place went.lines
+
+  -- it stopped
+  stopped : (x : Extent) → extent_at command items k ≡ Some x → (to : ℕ) (w : PortValue) (e : Stop) → Reserves d (2 ^ order) x left u to w (Err e) → k < extents_in command items →
+      ListsExtents d command order items number from within v k to w log log' early (Err e)
+  stopped x is to w e reserves less =
+      record { works = lists.WorksOn.stopped k u w early [] e went.did (fit x is None to w (Err e) reserves) less; place = refl; lines = went.lines }
+
+  -- it was done
+  module _ (x : Extent) (is : extent_at command items k ≡ Some x) (given : Option ℕ) (to : ℕ) (w : PortValue) (reserves : Reserves d (2 ^ order) x left u to w (Ok given)) (log'' : List LogLine)
+      (more : log'' ≡ log' ++ given_lines number (block_at k given)) where
+    lines_on : log'' ≡ log ++ given_lines number (gave_did went.did ++ block_at k given)
+    lines_on =
+        more ∙ ap (λ (ls : List LogLine). ls ++ given_lines number (block_at k given)) went.lines ∙ append_assoc log (given_lines number (gave_did went.did)) (given_lines number (block_at k given)) ∙
+        ap (λ (ls : List LogLine). log ++ ls) (sym (lines_both number (gave_did went.did) (block_at k given)))
+
+    -- it was the last one
+    pub last_done : k + 1 ≡ extents_in command items → ListsExtents d command order items number from within v (k + 1) 0 w log log'' early (Ok tt)
+    last_done at = record { works = lists.WorksOn.last_done k u w early [] went.did (fit x is given to w (Ok tt) reserves) at; place = refl; lines = lines_on }
+
+    -- the gate said yes behind it
+    due_behind : k + 1 < extents_in command items → ListsExtents d command order items number from within v (k + 1) 0 w log log'' (true ∷ early) (Err (Paused Due))
+    due_behind less = record { works = lists.WorksOn.due k u w early [] went.did (fit x is given to w (Ok tt) reserves) less; place = refl; lines = lines_on }
+
+    -- it said no
+    went_more : k + 1 < extents_in command items → Went d command order items number from within v log (k + 1) w 0 log'' (false ∷ early)
+    went_more less =
+        let on = did_on _ _ _ _ _ _ _ went.did in
+        record { did = lists.DidItems.more k u w early [] went.did (fit x is given to w (Ok tt) reserves) less; place = grind (arith, nat_tests); lines = lines_on }
+
+-- ---- and what the gate was asked
+module _ {d command order : ℕ} {items : List ℕ} {number from within : ℕ} {v : PortValue} {log : List LogLine} {k : ℕ} {u : PortValue} {left : ℕ} {log' : List LogLine} {early : List Bool}
+    (went : Went d command order items number from within v log k u left log' early) (says : ℕ → Bool) (before after yes_before yes_after : ℕ) (first : Consulted says before after yes_before yes_after early) where
+  -- there was none left
+  pub answers_all : k ≡ extents_in command items → Answering (λ answers. ListsExtents d command order items number from within v k left u log log' answers (Ok tt)) says before after yes_before yes_after false
+  answers_all at = record { answers = early; goes = went_all went at; gate = first; due_is = λ due. absurd cc }
+
+  module _ (x : Extent) (is : extent_at command items k ≡ Some x) (to : ℕ) (w : PortValue) where
+    -- one was refused or paused
+    pub answers_stopped : (e : Stop) → Reserves d (2 ^ order) x left u to w (Err e) → k < extents_in command items → (answer : Result (Unit {0}) Stop) → IsErrAnd answer (λ y. y ≡ e) →
+        Answering (λ answers. ListsExtents d command order items number from within v k to w log log' answers answer) says before after yes_before yes_after (is_due_answer answer)
+    answers_stopped e reserves less answer stops =
+        subst (λ (a : Result (Unit {0}) Stop). Answering (λ answers. ListsExtents d command order items number from within v k to w log log' answers a) says before after yes_before yes_after (is_due_answer a)) (sym (is_err answer e stops))
+        (record { answers = early; goes = stopped went x is to w e reserves less; gate = first; due_is = λ due. absurd (not_both (extent_not_due x e reserves.kinds) due) })
+      where
+        not_both : {b : Bool} → b ≡ false → b ≡ true → ⊥
+        not_both off on = cc
+
+    module _ (given : Option ℕ) (reserves : Reserves d (2 ^ order) x left u to w (Ok given)) (log'' : List LogLine) (more : log'' ≡ log' ++ given_lines number (block_at k given)) where
+      -- the last one was done
+      pub answers_done : k + 1 ≡ extents_in command items → Answering (λ answers. ListsExtents d command order items number from within v (k + 1) 0 w log log'' answers (Ok tt)) says before after yes_before yes_after false
+      answers_done at = record { answers = early; goes = last_done went x is given to w reserves log'' more at; gate = first; due_is = λ due. absurd cc }
+
+      -- the gate was asked behind one
+      module _ (less : k + 1 < extents_in command items) (now : ℕ → Bool) (same : (n : ℕ) → now n ≡ says n) (final yes_final : ℕ) where
+        asked : (due : Bool) → due ≡ answer_at now after → final ≡ next_ask after → yes_final ≡ (if due then yes_after + 1 else yes_after) → Consulted says before final yes_before yes_final (due ∷ early)
+        asked due said on rose = consulted_then now says before after final yes_before yes_after yes_final early (due ∷ []) same first (consulted_ask now after final yes_after yes_final due said on rose)
+
+        pub answers_due : true ≡ answer_at now after → final ≡ next_ask after → yes_final ≡ yes_after + 1 →
+            Answering (λ answers. ListsExtents d command order items number from within v (k + 1) 0 w log log'' answers (Err (Paused Due))) says before final yes_before yes_final true
+        answers_due said on rose =
+            record { answers = true ∷ early; goes = due_behind went x is given to w reserves log'' more less; gate = asked true said on rose; due_is = λ due. refl }
+
+        pub answers_more : false ≡ answer_at now after → final ≡ next_ask after → yes_final ≡ yes_after →
+            Went d command order items number from within v log (k + 1) w 0 log'' (false ∷ early) × Consulted says before final yes_before yes_final (false ∷ early)
+        answers_more said on rose = (went_more went x is given to w reserves log'' more less, asked false said on rose)
