@@ -5,6 +5,7 @@ use Rattle.xp_words.specs.Places.{run_of}
 use Rattle.xp_words.specs.declared.ops.Op.{Op}
 use Rattle.xp_words.specs.declared.place.Place.{Place}
 use Rattle.xp_words.specs.declared.place.Place.TheVariants.{Vcpu}
+use Rattle.xp_words.specs.declared.reply.LogLine.{LogLine}
 use Rattle.xp_words.specs.declared.reply.Pause.{Pause}
 use Rattle.xp_words.specs.declared.reply.Pause.TheVariants.{Due, Lost, Busy, Flush, Alive}
 use Rattle.xp_board.specs.Told.{PortValue}
@@ -38,18 +39,18 @@ pub record TurnLeaves (n : Machine) (v : ℕ) (c d : Processing) (end : TurnEnd)
   pub less : Less n v c d end m m'
 
 -- ---- plain facts
-pub after_left : (c : Processing) (to : Progress) (end : TurnEnd) → (after_turn c to end).left ≡ c.left
-after_left c to (ends.Answered reply) = refl
-after_left c to (ends.Paused p) = refl
-after_left c to ends.Retired = refl
+pub after_left : (c : Processing) (to : Progress) (log : List LogLine) (end : TurnEnd) → (after_turn c to log end).left ≡ c.left
+after_left c to log (ends.Answered reply) = refl
+after_left c to log (ends.Paused p) = refl
+after_left c to log ends.Retired = refl
 
-pub after_retired : (c : Processing) (to : Progress) (end : TurnEnd) → (after_turn c to end).retired ≡ c.retired
-after_retired c to (ends.Answered reply) = refl
-after_retired c to (ends.Paused p) = refl
-after_retired c to ends.Retired = refl
+pub after_retired : (c : Processing) (to : Progress) (log : List LogLine) (end : TurnEnd) → (after_turn c to log end).retired ≡ c.retired
+after_retired c to log (ends.Answered reply) = refl
+after_retired c to log (ends.Paused p) = refl
+after_retired c to log ends.Retired = refl
 
 pub next_left : (c : Processing) (o : Option Op) (d : Processing) (v w : PortValue) (answers : List Bool) (end : TurnEnd) → DoesNext (nothing_left c) o d v w answers end → d.left ≡ None
-next_left c (Some op) d v w answers end does = ap (λ (x : Processing). x.left) does.cpu ∙ after_left (nothing_left c) does.to end
+next_left c (Some op) d v w answers end does = ap (λ (x : Processing). x.left) does.cpu ∙ after_left (nothing_left c) does.to does.log end
 next_left c None d v w answers end does = ap (λ (x : Processing). x.left) does.cpu
 
 pub none_kept : (m : Words) (v : ℕ) (left : Option ℕ) → KeepsLeft m v left → olds_named m v ≡ 0 → left ≡ None

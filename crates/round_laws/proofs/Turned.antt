@@ -41,7 +41,7 @@ module _ (laws : TurnLaws) (c : Processing) (b : PortValue) (alone : IsAlone b) 
       d.retired ≡ true → (told_word w (run_of b.post.vcpu) ≢ 0) × (next_of d ≡ None)
   unfolding left_by
   next_retires (Some op) d u x later end is came does w finish retired =
-      let same : d.retired ≡ c.retired = ap (λ (y : Processing). y.retired) does.cpu ∙ after_retired (nothing_left c) does.to end in
+      let same : d.retired ≡ c.retired = ap (λ (y : Processing). y.retired) does.cpu ∙ after_retired (nothing_left c) does.to does.log end in
       absurd cc
   next_retires None d u x later end is came does w finish retired =
       let stop : IsStop x w = subst (λ e. EndsTurn e x w) does.end_is finish in

@@ -1,5 +1,5 @@
 -- A turn that is paused for a flush ends with a call that stopped for that.
-use Rattle.std.proofs.Common.{◌≡◌, ℕ, Bool, List, length, Option, Some, None, Result, Ok, Err, IfErr, refl, sym, subst, inl, inr}
+use Rattle.std.proofs.Common.{◌≡◌, ◌^◌, ℕ, Bool, List, length, Option, Some, None, Result, Ok, Err, IfErr, refl, sym, subst, inl, inr}
 use Rattle.std.specs.Prelude.{slice_get}
 use Rattle.xp_words.specs.declared.ops.ExtOp.{ExtOp}
 use Rattle.xp_words.specs.declared.ops.Op.{Op}
@@ -18,25 +18,27 @@ use Rattle.level_release.specs.Asking.{of_settle}
 use Rattle.mmu_update.specs.Elements as pairs
 use Rattle.mmu_update.specs.Fits.{Updates}
 use Rattle.mmu_update.specs.declared.element.Element as updating
+use Rattle.reservations.specs.Extents.{StopsExtent, of_extent}
+use Rattle.reservations.specs.declared.extents.Extent.{Extent}
 use Rattle.mmuext_ops.specs.Elements as elements
 use Rattle.mmuext_ops.specs.declared.element.Element.{Element}
 use Rattle.tlb_walks.specs.Asking.{of_read, of_write}
 use Rattle.vcpu_turn.specs.declared.cpu.TurnEnd.{TurnEnd}
 use Rattle.vcpu_turn.specs.declared.cpu.TurnEnd.TheVariants as ends
-use Rattle.vcpu_turn.specs.Lists as lists
-use Rattle.vcpu_turn.specs.Lists.{DidItems, Fitting, IsRefusedWhole, WorksOn, WorksThrough, more, all_done, last_done, due, stopped}
-use Rattle.vcpu_turn.specs.Cpus.{OfExt, OfPairs, OfRead, OfWrite, Processing, Task, end_of, next_of, nothing_left, task_of}
+use Rattle.vcpu_turn.specs.Lists.{Fitting, IsRefusedWhole, WorksOn, WorksThrough, all_done, last_done, due, stopped}
+use Rattle.vcpu_turn.specs.Cpus.{OfExt, OfMem, OfPairs, OfRead, OfWrite, Processing, Task, end_of, next_of, nothing_left, task_of}
 use Rattle.vcpu_turn.specs.Ext.{ExtFits, FitsExt, Performs, awaited_for}
+use Rattle.vcpu_turn.specs.Extents as extending
+use Rattle.vcpu_turn.specs.Extents.{ExtentFits, WorksExtents, begins_in, extents_in, given_by}
 use Rattle.vcpu_turn.specs.Pairs as owning
 use Rattle.vcpu_turn.specs.Pairs.{FitsPair, PairFits, WorksOwned}
 use Rattle.vcpu_turn.specs.Settling.{Settles, SettlesFirst, unsettled, performed}
 use Rattle.vcpu_turn.specs.Turning as turning
-use Rattle.vcpu_turn.specs.Turning.{DoesNext, DoesTurn, EndsTurn, IsTurn}
+use Rattle.vcpu_turn.specs.Turning.{DoesNext, DoesTurn, IsTurn}
 use Rattle.vcpu_turn.specs.Working.{Works, valued}
 use Rattle.vcpu_turn.proofs.Turns.{begins_came}
-use Rattle.turn_laws.proofs.Bringing.{brings}
-use Rattle.turn_laws.proofs.Hindering.{exts_came, owners_came, pairs_came, same_came, settles_came}
-use Rattle.turn_laws.proofs.TurnSteps.{stop_came}
+use Rattle.turn_laws.proofs.Hindering.{did_came, extent_came, exts_came, owners_came, pairs_came, settles_came}
+use Rattle.turn_laws.proofs.TurnSteps.{begun_came}
 
 -- some of the steps from v to w are a call that stopped for that
 pub record StopsWithin (v w : PortValue) (e : Stop) : Type 0 where
@@ -90,18 +92,22 @@ ext_paused : (d : ℕ) (awaited : Option ℕ) (x : Option ExtOp) (v w : PortValu
 ext_paused d awaited None v w answers answer f = absurd f
 ext_paused d awaited (Some op) v w answers answer f = first_paused (Performs d (elements.ext_element op) awaited) (performs_paused d (elements.ext_element op) awaited) v w answers answer f
 
+-- an extent, whose answer says besides which block was given
+reserves_paused : (owner size : ℕ) (extent : Extent) (given : Option ℕ) (v w : PortValue) (answer : Result (Unit {0}) Stop) → IfErr (given_by given answer) (λ e. StopsExtent owner size extent v w e) → PausesWithin v w answer
+reserves_paused owner size extent given v w (Ok done) stops = tt
+reserves_paused owner size extent given v w (Err e) stops = paused_here {A = Unit {0}} v w (of_extent owner size extent stops.0) (Err e) stops.1
+
+extent_paused : (d command order : ℕ) (items : List ℕ) (from within k : ℕ) (v w : PortValue) (answers : List Bool) (answer : Result (Unit {0}) Stop) → ExtentFits d command order items from within k v w answers answer → PausesWithin v w answer
+extent_paused d command order items from within k v w answers answer f = reserves_paused d (2 ^ order) f.extent f.given v w answer f.reserves.stops
+
 -- ---- a list
 module _ (fits : Fitting) (comes : (k : ℕ) (v w : PortValue) (answers : List Bool) (answer : Result (Unit {0}) Stop) → fits k v w answers answer → Came v w)
     (pauses : (k : ℕ) (v w : PortValue) (answers : List Bool) (answer : Result (Unit {0}) Stop) → fits k v w answers answer → PausesWithin v w answer) (count from : ℕ) (v : PortValue) where
-  did_came : (k : ℕ) (w : PortValue) (answers : List Bool) → DidItems fits count from v k w answers → Came v w
-  did_came _ _ _ lists.DidItems.none = came_self v
-  did_came _ _ _ (more k u w answers asked before f less) = came_trans v u w (did_came k u answers before) (comes k u w asked (Ok tt) f)
-
   list_paused : (to : ℕ) (w : PortValue) (answers : List Bool) (answer : Result (Unit {0}) Stop) → (works : WorksOn fits count from v to w answers answer) → PausesWithin v w answer
   list_paused _ _ _ _ (all_done same) = tt
   list_paused _ _ _ _ (last_done k u w answers asked before f at) = tt
   list_paused _ _ _ _ (due k u w answers asked before f less) = tt
-  list_paused _ _ _ _ (stopped k u w answers asked e before f less) = behind {A = Unit {0}} v u w (Err e) (did_came k u answers before) (pauses k u w asked (Err e) f)
+  list_paused _ _ _ _ (stopped k u w answers asked e before f less) = behind {A = Unit {0}} v u w (Err e) (did_came fits comes count from v k u answers before) (pauses k u w asked (Err e) f)
 
 -- ---- an operation
 module _ {v : PortValue} {to : ℕ} {w : PortValue} {answers : List Bool} where
@@ -121,10 +127,18 @@ owned_paused d foreign list from {v} (owning.WorksOwned.owned to u w o answers e
     behind v u w ended (owners_came v u d foreign (Ok o) finds)
     (list_paused (PairFits o list) (pairs_came o list) (λ k x y asked a fit. pair_paused o (slice_get list k) x y asked a fit) (length list) from u to w answers ended on)
 
+extents_paused : (d command order : ℕ) (items : List ℕ) (from : ℕ) {v : PortValue} {to : ℕ} {w : PortValue} {answers : List Bool} {ended : Result (Unit {0}) Stop} → WorksExtents d command order items v from to w answers ended → PausesWithin v w ended
+extents_paused d command order items from (extending.WorksExtents.refused to w answers ended x why whole) = whole_paused ended whole
+extents_paused d command order items from (extending.WorksExtents.none why empty) = tt
+extents_paused d command order items from {v} (extending.WorksExtents.on to within w answers ended why some works) =
+    let first = begins_in command from in
+    list_paused (ExtentFits d command order items first within) (extent_came d command order items first within) (extent_paused d command order items first within) (extents_in command items) first v to w answers ended works
+
 works_paused : (d : ℕ) (o : Option Task) (awaited : Option ℕ) (v : PortValue) (from to : ℕ) (w : PortValue) (answers : List Bool) (answer : Result ℕ Stop) → Works d o awaited v from to w answers answer → PausesWithin v w answer
 works_paused d None awaited v from to w answers answer works = whole_paused answer works
 works_paused d (Some (OfPairs foreign list)) awaited v from to w answers answer works = valued_paused v w works.ended answer works.answer_is (owned_paused d foreign list from works.works)
 works_paused d (Some (OfExt list)) awaited v from to w answers answer works = valued_paused v w works.ended answer works.answer_is (ext_list_paused d list from awaited works.ended works.works)
+works_paused d (Some (OfMem command order items)) awaited v from to w answers answer works = valued_paused v w works.ended answer works.answer_is (extents_paused d command order items from works.works)
 works_paused d (Some (OfRead user va)) awaited v from to w answers answer works = paused_here v w (of_read va) answer works.stops
 works_paused d (Some (OfWrite user va val)) awaited v from to w answers answer works = valued_paused v w works.ended answer works.answer_is (paused_here v w (of_write v user va) works.ended works.works.stops)
 
@@ -153,20 +167,5 @@ turn_paused c c2 v w answers vcpu stamp found t =
     subst (λ y. StopsWithin v y (Paused (Flush vcpu stamp found))) (sym t.ends) all
 
 -- ---- the steps behind the beginning of a turn
-ends_came : (end : TurnEnd) (v w : PortValue) → EndsTurn end v w → Came v w
-ends_came (ends.Answered reply) v w e = moves_came v w _ _ _ _ _ e.1
-ends_came (ends.Paused p) v w e = same_came v w e
-ends_came ends.Retired v w e = stop_came v w e
-
-next_came : (c : Processing) (o : Option Op) (c2 : Processing) (v w : PortValue) (answers : List Bool) (end : TurnEnd) → DoesNext c o c2 v w answers end → Came v w
-next_came c (Some op) c2 v w answers end d = (brings c.domain (task_of op) c.at.awaited v c.at.done d.to.done w answers d.answer d.went.works).came
-next_came c None c2 v w answers end d = same_came v w d.no_step
-
-does_came : (c : Processing) (o : Option Op) (v : PortValue) (c2 : Processing) (w : PortValue) (answers : List Bool) (end : TurnEnd) → DoesTurn c o v c2 w answers end → Came v w
-does_came c o v _ _ _ _ (turning.unsettled w answers p s) = settles_came v w answers (Err (Paused p)) s
-does_came c o v _ _ _ _ (turning.settled u w c2 early answers end s d) = came_trans v u w (settles_came v u early (Ok tt) s) (next_came (nothing_left c) o c2 u w answers end d)
-
 pub acked_came : (c c2 : Processing) (end : TurnEnd) (v w : PortValue) (answers : List Bool) (t : IsTurn c c2 end v w answers) → Came t.begins.acked w
-acked_came c c2 end v w answers t =
-    came_trans t.begins.acked t.begun w (moves_came t.begins.acked t.begun _ _ _ _ _ t.begins.running)
-    (came_trans t.begun t.worked w (does_came c (next_of c) t.begun c2 t.worked answers end t.does) (ends_came end t.worked w t.ends))
+acked_came c c2 end v w answers t = came_trans t.begins.acked t.begun w (moves_came t.begins.acked t.begun _ _ _ _ _ t.begins.running) (begun_came c c2 end v w answers t)

@@ -1,5 +1,5 @@
 -- What the work of a turn on an operation brings, whatever it is; of a list, by the laws of its items. A new operation has its case in `brings` and in `releases_none`.
-use Rattle.std.proofs.Common.{◌≡◌, ℕ, Bool, List, [], length, Option, Some, None, Result, Ok, Err, refl, sym, subst, inl, inr, arith, ◌⊎◌, ◌+◌, ap, ◌∙◌, All, slice_get}
+use Rattle.std.proofs.Common.{◌≡◌, ℕ, Bool, List, [], length, Option, Some, None, Result, Ok, Err, refl, sym, subst, inl, inr, arith, ◌⊎◌, ◌+◌, ◌≤◌, ap, ◌∙◌, All, slice_get}
 use Rattle.std.proofs.lemmas.List.Elements.{All-nil, All-get_or}
 use Rattle.std.proofs.lemmas.Option.{get_or_from_slice_get, slice_get_within}
 use Rattle.xp_words.specs.declared.ops.ExtOp.{ExtOp}
@@ -15,8 +15,10 @@ use Rattle.mmu_update.specs.declared.element.Element.TheVariants as updates
 use Rattle.mmu_update.specs.Elements.{element_of}
 use Rattle.mmu_update.specs.declared.element.Element.{Element}
 use Rattle.tlb_walks.specs.Asking.{of_read, of_write}
-use Rattle.vcpu_turn.specs.Cpus.{Task, OfPairs, OfExt, OfRead, OfWrite}
+use Rattle.vcpu_turn.specs.Cpus.{Task, OfPairs, OfExt, OfMem, OfRead, OfWrite, begins_at}
 use Rattle.vcpu_turn.specs.Lists.{Fitting, WorksOn, WorksThrough, tried_through, asks_between, is_due_answer, IsRefusedWhole, Tried, tried, tried_in}
+use Rattle.vcpu_turn.specs.Extents as lists
+use Rattle.vcpu_turn.specs.Extents.{ExtentFits, WorksExtents, begins_in, tried_extents}
 use Rattle.vcpu_turn.specs.Pairs as owning
 use Rattle.vcpu_turn.specs.Ext.{ExtFits, awaited_for, PausesOldBase, PausesUnpin, IsNoRelease}
 use Rattle.vcpu_turn.specs.Pairs.{PairFits, WorksOwned, tried_owned, ExchangesEntry, IsNoWrite}
@@ -27,7 +29,7 @@ use Rattle.turn_laws.proofs.Noes.{noes_none, noes_same}
 use Rattle.vcpu_turn.proofs.Operations.{due_valued}
 use Rattle.turn_laws.proofs.Trying.{works_asks, works_hears, tried_each}
 use Rattle.turn_laws.proofs.Hearing.{elements_hear, pairs_hear}
-use Rattle.turn_laws.proofs.Hindering.{AloneStays, NeitherLostNorBusy, NobodyWaitedFor, IsSpared, Spared, call_spared, ext_spared, exts_came, list_came, list_spared, owners_came, pair_spared, pairs_came, reads_came, refused_whole, same_came, spared_back, spared_on, valued_spared, writes_came}
+use Rattle.turn_laws.proofs.Hindering.{AloneStays, NeitherLostNorBusy, NobodyWaitedFor, IsSpared, Spared, call_spared, ext_spared, extent_came, extent_spared, exts_came, list_came, list_spared, owners_came, pair_spared, pairs_came, reads_came, refused_whole, same_came, spared_back, spared_on, valued_spared, writes_came}
 
 -- ---- what a list brings with its items
 -- F holds of each that was tried, and G where one is done past a yes of the gate.
@@ -55,6 +57,16 @@ ext_laws d list from awaited =
       hears = elements_hear list d from awaited;
     }
 
+extents_laws : (d command order : ℕ) (items : List ℕ) (from within : ℕ) (awaited : Option ℕ) →
+    ItemLaws (ExtentFits d command order items (begins_in command from) within) (ElementFits d (OfMem command order items) from awaited) (PassesYes (OfMem command order items))
+extents_laws d command order items from within awaited =
+    record {
+      came = extent_came d command order items (begins_in command from) within;
+      spared = λ stays neither nobody k x y asked a s fit. extent_spared stays neither nobody d command order items (begins_in command from) within k x y asked a s fit;
+      is = λ k x y asked a fit. (within, fit);
+      hears = λ k x y asked a fit. inl (noes_same asked [] (is_due_answer a) fit.no_ask (noes_none (is_due_answer a)));
+    }
+
 -- ---- and so the work of a turn
 pub record Brings (F G : Tried → Type 0) (v : PortValue) (from to : ℕ) (w : PortValue) (answers : List Bool) (answer : Result ℕ Stop) (items : List Tried) : Type 0 where
   pub came : Came v w
@@ -63,6 +75,15 @@ pub record Brings (F G : Tried → Type 0) (v : PortValue) (from to : ℕ) (w : 
   pub hears : HearsNoWithin items → NoUntilDue answers (is_due_answer answer)
   pub fits : All F items
   pub passes : All (λ (t : Tried). HearsNo t ⊎ G t) items
+
+-- a turn goes on no earlier than behind the elements that are done
+pub begins_later : (o : Option Task) (from : ℕ) → from ≤ begins_at o from
+begins_later None from = omega arith
+begins_later (Some (OfPairs foreign list)) from = omega arith
+begins_later (Some (OfExt list)) from = omega arith
+begins_later (Some (OfMem command order items)) from = omega arith
+begins_later (Some (OfRead user va)) from = omega arith
+begins_later (Some (OfWrite user va val)) from = omega arith
 
 -- a value is no ask
 between_valued : (from to : ℕ) (ended : Result (Unit {0}) Stop) (answer : Result ℕ Stop) → answer ≡ valued ended → asks_between from to answer ≡ asks_between from to ended
@@ -76,6 +97,9 @@ refused_between from to (Err e) none = omega (arith, none)
 empty_between : (from : ℕ) (ended : Result (Unit {0}) Stop) → asks_between from from ended ≡ 0
 empty_between from (Ok done) = omega arith
 empty_between from (Err e) = omega arith
+
+none_between : (from to : ℕ) → to ≤ from → asks_between {A = Unit {0}} from to (Ok tt) ≡ 0
+none_between from to less = omega (arith, less)
 
 one_between : {A : Type 0} (from to : ℕ) (answer : Result A Stop) → to ≡ done_by answer → asks_between from to answer ≡ 0
 one_between from to (Ok a) is = omega (arith, is)
@@ -133,16 +157,29 @@ owned_brings d foreign list from awaited {v} answer (owning.WorksOwned.unowned w
 owned_brings d foreign list from awaited {v} answer (owning.WorksOwned.owned to u w o answers ended some few finds on) is =
     listed (pairs_laws d foreign list from awaited o) (owners_came v u d foreign (Ok o) finds) on is
 
+-- a list of extents begins with the one that its command names
+extents_bring : (d command order : ℕ) (items : List ℕ) (from : ℕ) (awaited : Option ℕ) {v : PortValue} {to : ℕ} {w : PortValue} {answers : List Bool} {ended : Result (Unit {0}) Stop} (answer : Result ℕ Stop) →
+    (works : WorksExtents d command order items v from to w answers ended) → answer ≡ valued ended →
+    Brings (ElementFits d (OfMem command order items) from awaited) (PassesYes (OfMem command order items)) v (begins_in command from) to w answers answer (tried_extents works)
+extents_bring d command order items from awaited {v} answer (lists.WorksExtents.refused to w answers ended x why whole) is =
+    refused ended whole (valued_spared v ended answer is) (λ none. between_valued (begins_in command from) to ended answer is ∙ none)
+extents_bring d command order items from awaited {v} answer (lists.WorksExtents.none why empty) is =
+    unlisted (came_self v) (λ stays neither nobody s. valued_spared v (Ok tt) answer is tt) refl
+    (between_valued (begins_in command from) from (Ok tt) answer is ∙ none_between (begins_in command from) from (begins_later (Some (OfMem command order items)) from))
+extents_bring d command order items from awaited {v} answer (lists.WorksExtents.on to within w answers ended why some works) is =
+    listed (extents_laws d command order items from within awaited) (came_self v) works is
+
 -- ---- of each operation that is built, and of one that is not
 abbrev pub OfTask : (Task → Tried → Type 0) → Option Task → Tried → Type 0
 OfTask P (Some task) = P task
 OfTask P None = λ t. ⊥
 
 pub brings : (d : ℕ) (o : Option Task) (awaited : Option ℕ) (v : PortValue) (from to : ℕ) (w : PortValue) (answers : List Bool) (answer : Result ℕ Stop) → (works : Works d o awaited v from to w answers answer) →
-    Brings (OfTask (λ task. ElementFits d task from awaited) o) (OfTask PassesYes o) v from to w answers answer (tried_of d o awaited v from to w answers answer works)
+    Brings (OfTask (λ task. ElementFits d task from awaited) o) (OfTask PassesYes o) v (begins_at o from) to w answers answer (tried_of d o awaited v from to w answers answer works)
 brings d None awaited v from to w answers answer works = refused answer works (λ spared. spared) (λ none. none)
 brings d (Some (OfPairs foreign list)) awaited v from to w answers answer works = owned_brings d foreign list from awaited answer works.works works.answer_is
 brings d (Some (OfExt list)) awaited v from to w answers answer works = through (ext_laws d list from awaited) works.works works.answer_is
+brings d (Some (OfMem command order items)) awaited v from to w answers answer works = extents_bring d command order items from awaited answer works.works works.answer_is
 brings d (Some (OfRead user va)) awaited v from to w answers answer works =
     unlisted (reads_came user va v to w answers answer works) (λ stays neither nobody s. call_spared stays neither nobody v w (of_read va) answer refl s works.stops) works.no_ask (one_between from to answer works.done)
 brings d (Some (OfWrite user va val)) awaited v from to w answers answer works =
@@ -181,5 +218,6 @@ pub releases_none : (o : Option Task) → ReleasesNothing o → (t : Tried) → 
 releases_none None off t passes = passes
 releases_none (Some (OfPairs foreign pairs)) off t passes = writes_none pairs off t passes.exchange
 releases_none (Some (OfExt list)) off t passes = unpins_none list off t passes
+releases_none (Some (OfMem command order items)) off t passes = passes
 releases_none (Some (OfRead user va)) off t passes = passes
 releases_none (Some (OfWrite user va val)) off t passes = passes

@@ -1,5 +1,5 @@
 -- What an element of an operation does as steps of its port, and what pauses it where no other vCPU holds anything.
-use Rattle.std.proofs.Common.{◌≡◌, ℕ, ◌<◌, Bool, List, [], length, Option, Some, None, Result, Ok, Err, IfErr, refl, sym, subst, inl, inr, arith}
+use Rattle.std.proofs.Common.{◌≡◌, ◌^◌, ℕ, ◌<◌, Bool, List, [], length, Option, Some, None, Result, Ok, Err, IfErr, refl, sym, subst, inl, inr, arith}
 use Rattle.std.specs.Prelude.{slice_get}
 use Rattle.std.proofs.lemmas.Bool.{cases_eq}
 use Rattle.xp_words.specs.Machine.{Machine}
@@ -37,6 +37,10 @@ use Rattle.vcpu_turn.specs.Accesses.{MakesRead, MakesWrite}
 use Rattle.vcpu_turn.specs.Ext.{ExtFits, FitsExt, Performs, awaited_for}
 use Rattle.vcpu_turn.specs.Pairs.{FindsOwners, FitsPair, PairFits}
 use Rattle.vcpu_turn.specs.Settling.{SettlesFirst, Settles, unsettled, performed}
+use Rattle.reservations.specs.Extents.{StopsExtent, of_extent}
+use Rattle.reservations.specs.declared.extents.Extent.{Extent}
+use Rattle.reservations.specs.declared.extents.Extent.TheVariants as extents
+use Rattle.vcpu_turn.specs.Extents.{ExtentFits, given_by}
 use Rattle.vcpu_turn.specs.Working.{valued}
 use Rattle.turn_laws.specs.Unhindered.{IsUnhindered}
 
@@ -87,9 +91,12 @@ pub exts_came : (d : ℕ) (list : List ExtOp) (from : ℕ) (awaited : Option ℕ
     Came v w
 exts_came d list from awaited k v w answers answer f = ext_came d (awaited_for from awaited k) (slice_get list k) v w answers answer f
 
+pub extent_came : (d command order : ℕ) (items : List ℕ) (from within k : ℕ) (v w : PortValue) (answers : List Bool) (answer : Result (Unit {0}) Stop) → ExtentFits d command order items from within k v w answers answer → Came v w
+extent_came d command order items from within k v w answers answer f = serves_came v w _ _ f.reserves.serves.serves
+
 -- a list of items
 module _ (fits : Fitting) (comes : (k : ℕ) (v w : PortValue) (answers : List Bool) (answer : Result (Unit {0}) Stop) → fits k v w answers answer → Came v w) (count from : ℕ) (v : PortValue) where
-  did_came : (k : ℕ) (w : PortValue) (answers : List Bool) → DidItems fits count from v k w answers → Came v w
+  pub did_came : (k : ℕ) (w : PortValue) (answers : List Bool) → DidItems fits count from v k w answers → Came v w
   did_came _ _ _ lists.DidItems.none = came_self v
   did_came _ _ _ (more k u w answers asked before f less) = came_trans v u w (did_came k u answers before) (comes k u w asked (Ok tt) f)
 
@@ -109,7 +116,7 @@ NeitherLostNorBusy = (v w : PortValue) (r : Request) (x : Pause) → IsAlone v �
 abbrev pub NobodyWaitedFor : Type 0
 NobodyWaitedFor = (v w : PortValue) (r : Request) (u stamp x : ℕ) → length v.post.machine.vcpu_domain ≡ 1 → Stops v w r (Paused (Flush u stamp x)) → ⊥
 
-pair_destroys : (o : Owners) (e : updating.Element) (answer : Result (Unit {0}) Stop) → (pairs.update_request o e answer).destroys ≡ None
+pub pair_destroys : (o : Owners) (e : updating.Element) (answer : Result (Unit {0}) Stop) → (pairs.update_request o e answer).destroys ≡ None
 pair_destroys o (updates.SetM2p f w) answer = refl
 pair_destroys o (updates.Write f i w keep) answer = refl
 pair_destroys o updates.Misaligned answer = refl
@@ -119,7 +126,7 @@ base_destroys : (d : ℕ) (new : Option ℕ) (rose : Bool) → (of_base d new ro
 base_destroys d None rose = refl
 base_destroys d (Some f) rose = refl
 
-element_destroys : (n : Machine) (s d : ℕ) (e : Element) (awaited : Option ℕ) (answer : Result (Unit {0}) Stop) → (elements.ext_request n s d e awaited answer).destroys ≡ None
+pub element_destroys : (n : Machine) (s d : ℕ) (e : Element) (awaited : Option ℕ) (answer : Result (Unit {0}) Stop) → (elements.ext_request n s d e awaited answer).destroys ≡ None
 element_destroys n s d (performs.Pin f level) awaited answer = refl
 element_destroys n s d (performs.Unpin f) awaited answer = refl
 element_destroys n s d (performs.NewBase f) awaited answer = refl
@@ -128,6 +135,11 @@ element_destroys n s d performs.FlushLocal awaited answer = refl
 element_destroys n s d (performs.Invalidate va) awaited answer = refl
 element_destroys n s d (performs.FlushVcpus mask) awaited answer = refl
 element_destroys n s d performs.Unknown awaited answer = refl
+
+pub extent_destroys : (owner size : ℕ) (extent : Extent) (block : ℕ) → (of_extent owner size extent block).destroys ≡ None
+extent_destroys owner size extents.Increase block = refl
+extent_destroys owner size (extents.Decrease first) block = refl
+extent_destroys owner size (extents.Populate gpfn) block = refl
 
 -- no turn of a vCPU of the machine is paused so
 abbrev pub Spared : {A : Type 0} → PortValue → Result A Stop → Type 0
@@ -200,6 +212,14 @@ module _ (stays : AloneStays) (neither : NeitherLostNorBusy) (nobody : NobodyWai
   ext_spared d awaited None v w answers answer s f = absurd f
   ext_spared d awaited (Some op) v w answers answer s f =
       behind_spared (Performs d (elements.ext_element op) awaited) (performs_spared d (elements.ext_element op) awaited) v w answers answer s f
+
+  -- an extent, whose answer says besides which block was given
+  reserves_spared : (owner size : ℕ) (extent : Extent) (given : Option ℕ) (v w : PortValue) (answer : Result (Unit {0}) Stop) → IsSpared v → IfErr (given_by given answer) (λ e. StopsExtent owner size extent v w e) → Spared v answer
+  reserves_spared owner size extent given v w (Ok done) s stops = tt
+  reserves_spared owner size extent given v w (Err e) s stops = call_spared {A = Unit {0}} v w (of_extent owner size extent stops.0) (Err e) (extent_destroys owner size extent stops.0) s stops.1
+
+  pub extent_spared : (d command order : ℕ) (items : List ℕ) (from within k : ℕ) (v w : PortValue) (answers : List Bool) (answer : Result (Unit {0}) Stop) → IsSpared v → ExtentFits d command order items from within k v w answers answer → Spared v answer
+  extent_spared d command order items from within k v w answers answer s f = reserves_spared d (2 ^ order) f.extent f.given v w answer s f.reserves.stops
 
   pub list_spared : (fits : Fitting) → ((k : ℕ) (v w : PortValue) (answers : List Bool) (answer : Result (Unit {0}) Stop) → fits k v w answers answer → Came v w) →
       ((k : ℕ) (v w : PortValue) (answers : List Bool) (answer : Result (Unit {0}) Stop) → IsSpared v → fits k v w answers answer → Spared v answer) →

@@ -43,7 +43,7 @@ use Rattle.turn_laws.specs.Asking.{AsksNothingWithin, asks_within, elements_trie
 use Rattle.vcpu_turn.specs.Lists.{Tried, did_in, tried, tried_in, DidItems, WorksOn}
 use Rattle.vcpu_turn.specs.Pairs.{ExchangesEntry, IsLast, MovesATable, MovesNoTable, MovesTable, tried_owned, FindsOwners, FitsPair, PairFits, WorksOwned}
 use Rattle.vcpu_turn.specs.Working.{tried_of, Works}
-use Rattle.vcpu_turn.specs.Cpus.{OfPairs, Task, Processing, next_of, task_next, task_of}
+use Rattle.vcpu_turn.specs.Cpus.{OfPairs, Task, Processing, begins_at, next_of, task_next, task_of}
 use Rattle.vcpu_turn.specs.Lists as lists
 use Rattle.vcpu_turn.specs.Turning as turning
 use Rattle.vcpu_turn.specs.Turning.{Begins, CountsAsks, DoesTurn, GoesNoFurther, IsTurn}
@@ -337,11 +337,14 @@ module _ (c d : Processing) (op : Op) (foreign : ℕ) (pairs : List Pair) (end :
   asks_none = within_none (elements_tried turn) quiet
 
   pub silent_counts : CountsAsks c.left c.at.done end answers 0
-  silent_counts = subst (λ (n : ℕ). CountsAsks c.left c.at.done end answers n) asks_none (turn_asks c d op end v w answers next turn)
+  silent_counts =
+      subst (λ (n : ℕ). CountsAsks c.left c.at.done end answers n) asks_none
+      (subst (λ (o : Option Task). CountsAsks c.left (begins_at o c.at.done) end answers (asks_within (elements_tried turn))) built (turn_asks c d op end v w answers next turn))
 
   pub silent_within : (before : ℕ) (says : ℕ → Bool) → GivesAnswers says before answers → (j : ℕ) → 0 < j → before + j < last_ask → says (before + j) ≡ true → GoesNoFurther c d end (c.at.done + j)
   silent_within before says gives j some less is_yes =
       let none = asks_none in
       let same : c.at.done + (j - asks_within (elements_tried turn)) ≡ c.at.done + j = omega (arith, none) in
-      subst (λ (n : ℕ). GoesNoFurther c d end n) same (turn_within c d op end v w before answers says next turn
-      (hears_nothing (elements_tried turn) quiet) gives j some less is_yes)
+      subst (λ (n : ℕ). GoesNoFurther c d end n) same
+      (subst (λ (o : Option Task). GoesNoFurther c d end (begins_at o c.at.done + (j - asks_within (elements_tried turn)))) built
+      (turn_within c d op end v w before answers says next turn (hears_nothing (elements_tried turn) quiet) gives j some less is_yes))

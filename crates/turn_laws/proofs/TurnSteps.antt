@@ -34,10 +34,11 @@ goes_came : (c : Processing) (o : Option Op) (v : PortValue) (c2 : Processing) (
 goes_came c o v _ _ _ _ (turning.unsettled w answers p s) = settles_came v w answers (Err (Paused p)) s
 goes_came c o v _ _ _ _ (turning.settled u w c2 early answers end s d) = came_trans v u w (settles_came v u early (Ok tt) s) (does_came (nothing_left c) o c2 u w answers end d)
 
+pub begun_came : (c c2 : Processing) (end : TurnEnd) (v w : PortValue) (answers : List Bool) (t : IsTurn c c2 end v w answers) → Came t.begun w
+begun_came c c2 end v w answers t = came_trans t.begun t.worked w (goes_came c (next_of c) t.begun c2 t.worked answers end t.does) (ends_came end t.worked w t.ends)
+
 pub turn_came : (c c2 : Processing) (end : TurnEnd) (v w : PortValue) (answers : List Bool) → IsTurn c c2 end v w answers → Came v w
-turn_came c c2 end v w answers t =
-    came_trans v t.begun w (begins_came v t.begun t.begins)
-    (came_trans t.begun t.worked w (goes_came c (next_of c) t.begun c2 t.worked answers end t.does) (ends_came end t.worked w t.ends))
+turn_came c c2 end v w answers t = came_trans v t.begun w (begins_came v t.begun t.begins) (begun_came c c2 end v w answers t)
 
 -- ---- pauses
 spared_end : (v : PortValue) (to : ℕ) (answer : Result ℕ Stop) → Spared v answer → IsUnhindered v.post.machine (end_of to answer)

@@ -10,7 +10,7 @@ ghost use Rattle.turn_laws.specs.Asking.{AsksNothingWithin, HearsNo, HearsNoWith
 ghost use Rattle.turn_laws.specs.Logging.{answers_in};
 ghost use Rattle.vcpu_turn.specs.Lists.{Tried, tried_in, AsksNothing, WorksOn, asks_between, is_due_answer};
 ghost use Rattle.vcpu_turn.specs.Pairs.{MovesATable, MovesNoTable};
-ghost use Rattle.vcpu_turn.specs.Cpus.{OfPairs, Processing, Task, next_of, task_of};
+ghost use Rattle.vcpu_turn.specs.Cpus.{OfPairs, Processing, Task, begins_at, next_of, task_of};
 ghost use Rattle.vcpu_turn.specs.Working.{ElementFits, PassesYes};
 ghost use Rattle.vcpu_turn.specs.Turning.{CountsAsks, GoesNoFurther, IsTurn, is_due};
 ghost use Rattle.vcpu_turn.specs.declared.cpu.TurnEnd.{TurnEnd};
@@ -46,9 +46,10 @@ pub fn elements_go_by_their_courses()
     ensures { (c d : Processing) (op : Op) (task : Task) (end : TurnEnd) (v w : PortValue) (answers : List Bool) → next_of c ≡ Some op → task_of op ≡ Some task → (turn : IsTurn c d end v w answers) → All (ElementFits c.domain task c.at.done c.at.awaited) (elements_tried turn) }
 {}
 
-/// And a turn, whatever operation stands next, asks the own gate between the elements, and within them as their courses say, behind what was settled first.
+/// And a turn, whatever operation stands next, asks the own gate between the elements, and within them as their courses say, behind what was settled first. It goes on from the
+/// element behind those that are done; a list of `memory_op` not before the extent that its command names.
 pub fn a_turn_counts_its_asks()
-    ensures { (c d : Processing) (op : Op) (end : TurnEnd) (v w : PortValue) (answers : List Bool) → next_of c ≡ Some op → (turn : IsTurn c d end v w answers) → CountsAsks c.left c.at.done end answers (asks_within (elements_tried turn)) }
+    ensures { (c d : Processing) (op : Op) (end : TurnEnd) (v w : PortValue) (answers : List Bool) → next_of c ≡ Some op → (turn : IsTurn c d end v w answers) → CountsAsks c.left (begins_at (task_of op) c.at.done) end answers (asks_within (elements_tried turn)) }
 {}
 
 /// Within an element the gate says no, until that is paused for it, and so the turn. Else the element is done, and only the release was paused that goes with it: of what
@@ -64,7 +65,7 @@ pub fn a_turn_asks_no_more_behind_a_yes()
 
 /// So it does not go on past the element behind which, or within which, the own gate says yes: no more elements are done than asks up to that one, those within elements taken off.
 pub fn a_turn_never_passes_a_yes()
-    ensures { (c d : Processing) (op : Op) (end : TurnEnd) (v w : PortValue) (before : ℕ) (answers : List Bool) (says : ℕ → Bool) → next_of c ≡ Some op → (turn : IsTurn c d end v w answers) → HearsNoWithin (elements_tried turn) → GivesAnswers says before answers → (j : ℕ) → 0 < j → before + j < last_ask → says (before + j) ≡ true → GoesNoFurther c d end (c.at.done + (j - asks_within (elements_tried turn))) }
+    ensures { (c d : Processing) (op : Op) (end : TurnEnd) (v w : PortValue) (before : ℕ) (answers : List Bool) (says : ℕ → Bool) → next_of c ≡ Some op → (turn : IsTurn c d end v w answers) → HearsNoWithin (elements_tried turn) → GivesAnswers says before answers → (j : ℕ) → 0 < j → before + j < last_ask → says (before + j) ≡ true → GoesNoFurther c d end (begins_at (task_of op) c.at.done + (j - asks_within (elements_tried turn))) }
 {}
 
 /// A turn with a list of `mmu_update` asks nothing within its elements, or one of them exchanged an entry and took or gave back a table with that. Where none did, a write counts as

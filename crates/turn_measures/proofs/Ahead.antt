@@ -5,6 +5,7 @@ use Rattle.std.proofs.lemmas.Option.{get_or_from_slice_get, slice_get_within}
 use Rattle.std.proofs.lemmas.Bool.{cases_eq}
 use Rattle.xp_words.specs.Machine.{Machine}
 use Rattle.xp_words.specs.declared.ops.Op.{Op}
+use Rattle.xp_words.specs.declared.reply.LogLine.{LogLine}
 use Rattle.xp_words.specs.declared.reply.Pause.{Pause}
 use Rattle.xp_words.specs.declared.reply.Pause.TheVariants.{Due, Lost, Busy, Flush, Alive}
 use Rattle.xp_words.specs.declared.reply.Refusal.{Refusal}
@@ -13,7 +14,10 @@ use Rattle.xp_words.specs.declared.reply.Stop.TheVariants.{Refused, Paused}
 use Rattle.xp_board.specs.Told.{PortValue}
 use Rattle.tlb_walks.specs.Asking.{IsGuestReadStop, IsGuestWriteStop}
 use Rattle.turn_laws.specs.Unhindered.{IsUnhindered}
-use Rattle.vcpu_turn.specs.Cpus.{OfExt, OfPairs, OfRead, OfWrite, Processing, Task, after_turn, elements_in, elements_of, end_of, next_of, nothing_left, task_of}
+use Rattle.turn_laws.proofs.Bringing.{begins_later}
+use Rattle.vcpu_turn.specs.Cpus.{OfExt, OfMem, OfPairs, OfRead, OfWrite, Processing, Task, after_turn, elements_in, elements_of, end_of, next_of, nothing_left, task_of}
+use Rattle.vcpu_turn.specs.Extents as extents
+use Rattle.vcpu_turn.specs.Extents.{WorksExtents, extents_in}
 use Rattle.vcpu_turn.specs.Lists as lists
 use Rattle.vcpu_turn.specs.Lists.{DidItems, Fitting, IsRefusedWhole, WorksOn, WorksThrough}
 use Rattle.vcpu_turn.specs.Pairs as owning
@@ -70,6 +74,16 @@ through_forth : {fits : Fitting} {v : PortValue} (count from to : ℕ) (w : Port
 through_forth count from to w answers ended (inl whole) = refused_forth _ from to count ended whole.1.refused
 through_forth count from to w answers ended (inr on) = between_forth from to count ended (list_forth to w answers ended on.1)
 
+-- a list of extents begins no earlier than behind those that are done
+extents_forth : (d command order : ℕ) (items : List ℕ) (v : PortValue) (from to : ℕ) (w : PortValue) (answers : List Bool) (ended : Result (Unit {0}) Stop) → WorksExtents d command order items v from to w answers ended →
+    GoesForth from to (extents_in command items) ended
+extents_forth d command order items v from _ _ _ _ (extents.WorksExtents.refused to w answers answer x why whole) = refused_forth x from to (extents_in command items) answer whole.refused
+extents_forth d command order items v from _ _ _ _ (extents.WorksExtents.none why empty) = tt
+extents_forth d command order items v from _ _ _ _ (extents.WorksExtents.on to within w answers answer why some works) =
+    let on = list_forth to w answers answer works in
+    let later = begins_later (Some (OfMem command order items)) from in
+    between_forth from to (extents_in command items) answer (omega (arith, later, on), on.1)
+
 -- a read or write of the guest is paused only where a walk lost an exchange
 read_lost : (n : Machine) (p : Pause) → IsGuestReadStop (Paused p) → IsUnhindered n (ends.Paused p) → ⊥
 read_lost n Due stop free = stop
@@ -95,6 +109,8 @@ works_forth n d (Some (OfPairs foreign list)) awaited v from to w answers answer
     valued_forth from to (length list) works.ended answer works.answer_is (owned_forth d foreign list v from to w answers works.ended works.works)
 works_forth n d (Some (OfExt list)) awaited v from to w answers answer works free =
     valued_forth from to (length list) works.ended answer works.answer_is (through_forth (length list) from to w answers works.ended works.works)
+works_forth n d (Some (OfMem command order items)) awaited v from to w answers answer works free =
+    valued_forth from to (extents_in command items) works.ended answer works.answer_is (extents_forth d command order items v from to w answers works.ended works.works)
 works_forth n d (Some (OfRead user va)) awaited v from to w answers answer works free = reads_forth n from to 1 answer works.kinds free
 works_forth n d (Some (OfWrite user va val)) awaited v from to w answers answer works free =
     valued_forth from to 1 works.ended answer works.answer_is
@@ -121,8 +137,8 @@ module _ (c : Processing) (within : IsWithin c) (runs : c.retired ≡ false) whe
     answered_gets : (ahead (record c { answered = c.answered + 1; at = record c.at { done = 0 } }) < ahead c)
     answered_gets = let all = next_ahead c.script c.answered op next in let few = within_op in omega (arith, all, few)
 
-    paused_gets : (to : Progress) (p : Pause) → Between c.at.done to.done (elements_of (Some op)) → Gets c (after_turn (nothing_left c) to (ends.Paused p)) (ends.Paused p)
-    paused_gets to p on = (
+    paused_gets : (to : Progress) (log : List LogLine) (p : Pause) → Between c.at.done to.done (elements_of (Some op)) → Gets c (after_turn (nothing_left c) to log (ends.Paused p)) (ends.Paused p)
+    paused_gets to log p on = (
       subst (λ (o : Option Op). to.done ≤ elements_of o) (sym next) on.1,
       elim (cases_eq to.done c.at.done) [
         | inl same ↦ inr (record { pause = p; end_is = refl; ahead = ap (λ k. to_retire c.retired + (sum_by op_size (drop c.answered c.script) - k)) same; done = same; answered = refl; goes_on = runs })
@@ -130,10 +146,10 @@ module _ (c : Processing) (within : IsWithin c) (runs : c.retired ≡ false) whe
       ],
     )
 
-    after_gets : (to : Progress) (answer : Result ℕ Stop) → GoesForth c.at.done to.done (elements_of (Some op)) answer → Gets c (after_turn (nothing_left c) to (end_of to.done answer)) (end_of to.done answer)
-    after_gets to (Ok value) forth = (omega arith, inl answered_gets)
-    after_gets to (Err (Refused r)) forth = (omega arith, inl answered_gets)
-    after_gets to (Err (Paused p)) forth = paused_gets to p forth
+    after_gets : (to : Progress) (log : List LogLine) (answer : Result ℕ Stop) → GoesForth c.at.done to.done (elements_of (Some op)) answer → Gets c (after_turn (nothing_left c) to log (end_of to.done answer)) (end_of to.done answer)
+    after_gets to log (Ok value) forth = (omega arith, inl answered_gets)
+    after_gets to log (Err (Refused r)) forth = (omega arith, inl answered_gets)
+    after_gets to log (Err (Paused p)) forth = paused_gets to log p forth
 
   retires_gets : (end : TurnEnd) → Gets c (record (nothing_left c) { retired = true }) end
   retires_gets end = (within, inl (subst (λ r. 0 + (sum_by op_size (drop c.answered c.script) - c.at.done) < to_retire r + (sum_by op_size (drop c.answered c.script) - c.at.done)) (sym runs) (omega arith)))
@@ -146,22 +162,22 @@ module _ (c : Processing) (within : IsWithin c) (runs : c.retired ≡ false) whe
   going_gets n None next v _ _ _ _ free (turning.DoesTurn.settled u w d early answers end settles retires) = subst (λ (x : Processing). Gets c x end) (sym retires.cpu) (retires_gets end)
   going_gets n (Some op) next v _ _ _ _ free (turning.DoesTurn.settled u w d early answers end settles on) =
       let forth = works_forth n c.domain (task_of op) c.at.awaited u c.at.done on.to.done w answers on.answer on.went.works (subst (IsUnhindered n) on.end_is free) in
-      let gets = after_gets op next on.to on.answer forth in
-      subst (λ (x : Processing). Gets c x end) (sym (on.cpu ∙ ap (after_turn (nothing_left c) on.to) on.end_is)) (subst (Gets c (after_turn (nothing_left c) on.to (end_of on.to.done on.answer))) (sym on.end_is) gets)
+      let gets = after_gets op next on.to on.log on.answer forth in
+      subst (λ (x : Processing). Gets c x end) (sym (on.cpu ∙ ap (after_turn (nothing_left c) on.to on.log) on.end_is)) (subst (Gets c (after_turn (nothing_left c) on.to on.log (end_of on.to.done on.answer))) (sym on.end_is) gets)
 
 pub turn_gets : (c d : Processing) (end : TurnEnd) (v w : PortValue) (answers : List Bool) → IsWithin c → c.retired ≡ false → IsUnhindered v.post.machine end → IsTurn c d end v w answers → Gets c d end
 turn_gets c d end v w answers within runs free turn = going_gets c within runs v.post.machine (next_of c) refl turn.begun d turn.worked answers end free turn.does
 
 -- ---- the operations stay
-after_script : (c : Processing) (to : Progress) (end : TurnEnd) → (after_turn c to end).script ≡ c.script
-after_script c to (ends.Answered reply) = refl
-after_script c to (ends.Paused p) = refl
-after_script c to ends.Retired = refl
+after_script : (c : Processing) (to : Progress) (log : List LogLine) (end : TurnEnd) → (after_turn c to log end).script ≡ c.script
+after_script c to log (ends.Answered reply) = refl
+after_script c to log (ends.Paused p) = refl
+after_script c to log ends.Retired = refl
 
 going_script : (c : Processing) (o : Option Op) (v : PortValue) (d : Processing) (w : PortValue) (answers : List Bool) (end : TurnEnd) → DoesTurn c o v d w answers end → d.script ≡ c.script
 going_script c o v _ _ _ _ (turning.DoesTurn.unsettled w answers p settles) = refl
 going_script c None v _ _ _ _ (turning.DoesTurn.settled u w d early answers end settles retires) = ap (λ (x : Processing). x.script) retires.cpu
-going_script c (Some op) v _ _ _ _ (turning.DoesTurn.settled u w d early answers end settles on) = ap (λ (x : Processing). x.script) on.cpu ∙ after_script (nothing_left c) on.to end
+going_script c (Some op) v _ _ _ _ (turning.DoesTurn.settled u w d early answers end settles on) = ap (λ (x : Processing). x.script) on.cpu ∙ after_script (nothing_left c) on.to on.log end
 
 pub turn_script : (c d : Processing) (end : TurnEnd) (v w : PortValue) (answers : List Bool) → IsTurn c d end v w answers → d.script ≡ c.script
 turn_script c d end v w answers turn = going_script c (next_of c) turn.begun d turn.worked answers end turn.does

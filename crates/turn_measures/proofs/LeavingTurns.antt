@@ -1,7 +1,6 @@
 -- What a turn leaves of the others.
-use Rattle.std.proofs.Common.{◌≡◌, ℕ, length, Bool, true, false, List, [], Option, Some, None, Result, Ok, Err, is_some, refl, sym, ap, ◌∙◌, subst, inl, inr}
+use Rattle.std.proofs.Common.{◌≡◌, ◌^◌, ℕ, length, Bool, true, false, List, [], Option, Some, None, Result, Ok, Err, is_some, refl, sym, ap, ◌∙◌, subst, inl, inr}
 use Rattle.std.specs.Prelude.{slice_get}
-use Rattle.xp_words.specs.Machine.{Machine}
 use Rattle.xp_words.specs.declared.ops.ExtOp.{ExtOp}
 use Rattle.xp_words.specs.declared.ops.Op.{Op}
 use Rattle.xp_words.specs.declared.ops.Pair.{Pair}
@@ -30,15 +29,15 @@ use Rattle.level_release.specs.Asking.{of_settle}
 use Rattle.mmu_update.specs.Elements as pairs
 use Rattle.mmu_update.specs.Fits.{Updates}
 use Rattle.mmu_update.specs.declared.element.Element as updating
-use Rattle.mmu_update.specs.declared.element.Element.TheVariants as updates
-use Rattle.mmuext_ops.specs.Bases.{may_rise, of_base, user_frame}
 use Rattle.mmuext_ops.specs.Elements as elements
 use Rattle.mmuext_ops.specs.declared.element.Element.{Element}
-use Rattle.mmuext_ops.specs.declared.element.Element.TheVariants as performs
+use Rattle.reservations.specs.Extents.{of_extent}
 use Rattle.tlb_walks.specs.Accesses.{ServesWrite}
 use Rattle.tlb_walks.specs.Asking.{of_read, of_write}
 use Rattle.tlb_walks.specs.Dropping.{Acks, Heeds}
-use Rattle.vcpu_turn.specs.Cpus.{OfExt, OfPairs, OfRead, OfWrite, Processing, Task, next_of, nothing_left, task_of}
+use Rattle.vcpu_turn.specs.Cpus.{OfExt, OfMem, OfPairs, OfRead, OfWrite, Processing, Task, next_of, nothing_left, task_of}
+use Rattle.vcpu_turn.specs.Extents as extents
+use Rattle.vcpu_turn.specs.Extents.{ExtentFits, WorksExtents, begins_in, extents_in}
 use Rattle.vcpu_turn.specs.Lists as lists
 use Rattle.vcpu_turn.specs.Lists.{DidItems, Fitting, WorksOn, WorksThrough, more, all_done, last_done, due, stopped}
 use Rattle.vcpu_turn.specs.Ext.{ExtFits, FitsExt, Performs, awaited_for}
@@ -50,6 +49,7 @@ use Rattle.vcpu_turn.specs.Turning.{Begins, DoesNext, DoesTurn, EndsTurn, IsStop
 use Rattle.vcpu_turn.specs.Working.{Works}
 use Rattle.vcpu_turn.specs.declared.cpu.TurnEnd.{TurnEnd}
 use Rattle.vcpu_turn.specs.declared.cpu.TurnEnd.TheVariants as ends
+use Rattle.turn_laws.proofs.Hindering.{element_destroys, extent_destroys, pair_destroys}
 use Rattle.turn_measures.proofs.Leaving.{Spared, Spares, same_spared, spared_trans, step_leaves}
 use Rattle.turn_measures.proofs.LeavingCalls.{clock_spares, load_spares, moves_up, own_spares, serves_spares}
 
@@ -109,27 +109,6 @@ ends_kept (ends.Answered reply) v w e = kept_look v w _ _ _ _ e.1
 ends_kept (ends.Paused p) v w e = kept_same v w e
 ends_kept ends.Retired v w e = kept_moves v w _ _ _ _ _ e.1 (own_spares v.post.vcpu 6 (Store 1) e.0)
 
--- ---- requests that destroy no domain
-pair_destroys : (o : Owners) (e : updating.Element) (answer : Result (Unit {0}) Stop) → (pairs.update_request o e answer).destroys ≡ None
-pair_destroys o (updates.SetM2p f w) answer = refl
-pair_destroys o (updates.Write f i w keep) answer = refl
-pair_destroys o updates.Misaligned answer = refl
-pair_destroys o updates.Unknown answer = refl
-
-base_destroys : (d : ℕ) (new : Option ℕ) (rose : Bool) → (of_base d new rose).destroys ≡ None
-base_destroys d None rose = refl
-base_destroys d (Some f) rose = refl
-
-element_destroys : (n : Machine) (s d : ℕ) (e : Element) (awaited : Option ℕ) (answer : Result (Unit {0}) Stop) → (elements.ext_request n s d e awaited answer).destroys ≡ None
-element_destroys n s d (performs.Pin f level) awaited answer = refl
-element_destroys n s d (performs.Unpin f) awaited answer = refl
-element_destroys n s d (performs.NewBase f) awaited answer = refl
-element_destroys n s d (performs.NewUserBase f) awaited answer = base_destroys d (user_frame f) (may_rise answer)
-element_destroys n s d performs.FlushLocal awaited answer = refl
-element_destroys n s d (performs.Invalidate va) awaited answer = refl
-element_destroys n s d (performs.FlushVcpus mask) awaited answer = refl
-element_destroys n s d performs.Unknown awaited answer = refl
-
 -- ---- what is done between
 settles_kept : {below : Option ℕ} → (v w : PortValue) (answers : List Bool) (answer : Result (Unit {0}) Stop) → Settles below v w answers answer → Kept v w
 settles_kept v w answers answer s = kept_serves v w (of_settle 0 0 answer) (misses v.post.machine answer) refl (s.serves 0 0)
@@ -163,6 +142,11 @@ ext_kept : (d : ℕ) (awaited : Option ℕ) (x : Option ExtOp) (v w : PortValue)
 ext_kept d awaited None v w answers answer f = absurd f
 ext_kept d awaited (Some op) v w answers answer f = behind_kept (Performs d (elements.ext_element op) awaited) (performs_kept d (elements.ext_element op) awaited) v w answers answer f
 
+extent_kept : (d command order : ℕ) (items : List ℕ) (from within k : ℕ) (v w : PortValue) (asked : List Bool) (answer : Result (Unit {0}) Stop) → ExtentFits d command order items from within k v w asked answer → Kept v w
+extent_kept d command order items from within k v w asked answer f =
+    let serves = f.reserves.serves in
+    kept_serves v w (of_extent d (2 ^ order) f.extent serves.block) _ (extent_destroys d (2 ^ order) f.extent serves.block) serves.serves
+
 -- a list of items
 module _ (fits : Fitting) (keeps : (k : ℕ) (v w : PortValue) (answers : List Bool) (answer : Result (Unit {0}) Stop) → fits k v w answers answer → Kept v w) (count from : ℕ) (v : PortValue) where
   did_kept : (k : ℕ) (w : PortValue) (answers : List Bool) → DidItems fits count from v k w answers → Kept v w
@@ -188,10 +172,18 @@ through_kept d list awaited v from to w answers answer (inl whole) = kept_same v
 through_kept d list awaited v from to w answers answer (inr on) =
     list_kept (ExtFits d list from awaited) (λ k x y asked a f. ext_kept d (awaited_for from awaited k) (slice_get list k) x y asked a f) (length list) from v to w answers answer on.1
 
+extents_kept : (d command order : ℕ) (items : List ℕ) (v : PortValue) (from to : ℕ) (w : PortValue) (answers : List Bool) (answer : Result (Unit {0}) Stop) → WorksExtents d command order items v from to w answers answer → Kept v w
+extents_kept d command order items v from _ _ _ _ (extents.WorksExtents.refused to w answers answer x why whole) = kept_same v w whole.no_step
+extents_kept d command order items v from _ _ _ _ (extents.WorksExtents.none why empty) = kept_self v
+extents_kept d command order items v from _ _ _ _ (extents.WorksExtents.on to within w answers answer why some works) =
+    let at = begins_in command from in
+    list_kept (ExtentFits d command order items at within) (extent_kept d command order items at within) (extents_in command items) at v to w answers answer works
+
 works_kept : (d : ℕ) (o : Option Task) (awaited : Option ℕ) (v : PortValue) (from to : ℕ) (w : PortValue) (answers : List Bool) (answer : Result ℕ Stop) → Works d o awaited v from to w answers answer → Kept v w
 works_kept d None awaited v from to w answers answer whole = kept_same v w whole.no_step
 works_kept d (Some (OfPairs foreign list)) awaited v from to w answers answer x = owned_kept d foreign list v from to w answers x.ended x.works
 works_kept d (Some (OfExt list)) awaited v from to w answers answer x = through_kept d list awaited v from to w answers x.ended x.works
+works_kept d (Some (OfMem command order items)) awaited v from to w answers answer x = extents_kept d command order items v from to w answers x.ended x.works
 works_kept d (Some (OfRead user va)) awaited v from to w answers answer x = kept_serves v w (of_read va) (misses v.post.machine answer) refl x.serves
 works_kept d (Some (OfWrite user va val)) awaited v from to w answers answer x = write_kept user va val v w x.ended x.works.serves
 

@@ -7,7 +7,7 @@ pub mod Pages
 pub mod Locking
 pub mod Unlocking
 pub mod Updating
-pub mod Waiting
+pub mod Reserving
 pub mod Performing
 pub mod Settled
 pub mod Owners

@@ -1,5 +1,5 @@
 -- A frame that is asked as ordinary memory, and waits for a flush: it is left with its mark, and stands no lower than before.
-use Rattle.std.proofs.Common.{◌≡◌, ◌≢◌, ◌⊎◌, ℕ, ◌+◌, ◌<◌, ◌≤◌, ◌^◌, ◌==◌, ◌&&◌, not, if◌then◌else◌, Bool, true, false, List, Some, None, Ok, refl, sym, ap, ◌∙◌, subst, subst₂, inl, inr, arith}
+use Rattle.std.proofs.Common.{◌≡◌, ◌≢◌, ◌⊎◌, ℕ, ◌+◌, ◌<◌, ◌≤◌, ◌^◌, ◌==◌, ◌&&◌, not, if◌then◌else◌, Bool, true, false, Some, None, Ok, refl, sym, ap, ◌∙◌, subst, subst₂, inl, inr, arith}
 use Rattle.std.proofs.lemmas.Bool.{cases_eq}
 use Rattle.xp_words.specs.KindWords.{kind_fields}
 use Rattle.xp_words.specs.Machine.{Machine}
@@ -13,13 +13,11 @@ use Rattle.xp_words.specs.declared.reply.Pause.TheVariants.{Busy}
 use Rattle.xp_words.specs.declared.reply.Stop.{Stop}
 use Rattle.xp_words.specs.declared.reply.Stop.TheVariants.{Paused}
 use Rattle.xp_board.specs.Readings.{kind_at}
-use Rattle.xp_board.specs.Told.{Post, PortValue, is_telling, told_word}
+use Rattle.xp_board.specs.Told.{PortValue, is_telling, told_word}
 use Rattle.step_maker.specs.Plain.{Words}
 use Rattle.answer_fits.specs.Twins.{Alike, IsAlikeKind}
-use Rattle.answer_fits.specs.Visits.{Visit}
 use Rattle.frame_words.specs.Plain.{put}
-use Rattle.frame_types.specs.Found.{GoesBy, TakesBy, TakesOf, TypeBy, WaitsOf}
-use Rattle.frame_types.specs.Plain.{IsTakenBy, is_own, stop_by, taken_by, type_stop, waits_by}
+use Rattle.frame_types.specs.Plain.{IsTakenBy, stop_by, taken_by, type_stop}
 use Rattle.frame_types.specs.Standing.{is_same_type, standing_of}
 use Rattle.frame_types.specs.declared.standing.Standing.{Standing}
 use Rattle.frame_types.specs.declared.standing.Standing.TheVariants as stands
@@ -32,10 +30,10 @@ use Rattle.table_words.specs.declared.old_words.OldWord.{OldWord}
 use Rattle.turn_laws.specs.Unhindered.{IsUnhindered}
 use Rattle.vcpu_turn.specs.declared.cpu.TurnEnd.TheVariants as ends
 use Rattle.table_twins.proofs.Typing.{dead_says}
-use Rattle.frame_ranks.proofs.Stamps.{type_low}
+use Rattle.acquisition_laws.proofs.Lows.{type_low}
 use Rattle.frame_ranks.specs.Ranks.{GoesForward, rank_at, rank_of}
 use Rattle.turn_ranks.proofs.Forward.{alike_counts, alike_olds, alike_ranks, is_ranked, old_ranked}
-use Rattle.turn_ranks.proofs.Asides.{does_tells, put_still}
+use Rattle.turn_ranks.proofs.Asides.{put_still}
 use Rattle.turn_ranks.proofs.Storing.{Stored, set_there}
 
 -- ---- a busy frame pauses nobody that is unhindered
@@ -104,7 +102,7 @@ module _ (v u : PortValue) (f owner stamp : ℕ) (own : Bool) (stop : Stop) (tel
   alike = (type.plain telling).2
 
   low : stamp < 2 ^ 36
-  low = type_low v u f owner Writable own stamp stop type.found
+  low = type_low v u f owner Writable (types.Waiting own stamp stop) type.found
 
   before : ((kind_at m f).validated ≡ false) × (rank_at m f ≤ 1)
   before = let a = type.plain telling in low_before f (m (Kind f)) Writable own stamp stop s refl a.0 a.1

@@ -21,10 +21,9 @@ use Rattle.table_bases.specs.declared.words.Base.TheVariants.{Kernel, User}
 use Rattle.table_courses.specs.Acquiring.{GaveRef, GotRef}
 use Rattle.course_laws.proofs.Awaiting.{AloneStays}
 use Rattle.turn_ranks.proofs.Forward.{comes_so, still_forward}
-use Rattle.turn_ranks.proofs.Asides.{Passes, does_passes, does_tells, gave_passes, moves_passes, passes_then, ref_passes}
+use Rattle.turn_ranks.proofs.Asides.{Passes, does_passes, does_tells, gave_passes, moves_passes, passes_then, ref_passes, waited_aside}
 use Rattle.turn_ranks.proofs.Calm.{AcquiredForward, AcquiredFurther, IsCalm, calm_on, calm_telling}
 use Rattle.turn_ranks.proofs.Pages.{ComesBy, acquired_for, for_from, is_lost, never_for, unreferred_for}
-use Rattle.turn_ranks.proofs.Waiting.{waited_aside}
 
 module _ (n : Machine) (stays : AloneStays) (forward : AcquiredForward) (further : AcquiredFurther) where
   -- ---- pins

@@ -1,5 +1,5 @@
 -- An operation that is paused before another element of it is done lets no frame fall back; and where its gate pauses it, one is further.
-use Rattle.std.proofs.Common.{◌≡◌, ℕ, ◌≤◌, Bool, List, length, Option, Some, None, Result, Ok, Err, IfErr, refl, sym, ap, ◌∙◌, subst, inl, inr, arith}
+use Rattle.std.proofs.Common.{◌≡◌, ℕ, ◌≤◌, Bool, true, List, length, Option, Some, None, Result, Ok, Err, IfErr, refl, sym, ap, ◌∙◌, subst, inl, inr, arith}
 use Rattle.std.specs.Prelude.{slice_get}
 use Rattle.xp_words.specs.Machine.{Machine}
 use Rattle.xp_words.specs.declared.ops.ExtOp.{ExtOp}
@@ -10,7 +10,7 @@ use Rattle.xp_words.specs.declared.reply.Pause.TheVariants.{Due, Lost, Busy, Flu
 use Rattle.xp_words.specs.declared.reply.Refusal.{Refusal}
 use Rattle.xp_words.specs.declared.reply.Stop.{Stop}
 use Rattle.xp_words.specs.declared.reply.Stop.TheVariants.{Refused, Paused}
-use Rattle.xp_board.specs.Told.{PortValue}
+use Rattle.xp_board.specs.Told.{PortValue, is_telling}
 use Rattle.foreign_map.specs.declared.owners.Owners.{Owners}
 use Rattle.mmu_update.specs.Elements.{element_of}
 use Rattle.mmu_update.specs.Fits.{Updates}
@@ -18,8 +18,11 @@ use Rattle.mmuext_ops.specs.Elements.{ext_element}
 use Rattle.tlb_walks.specs.Asking.{IsGuestReadStop, IsGuestWriteStop}
 use Rattle.course_laws.proofs.Awaiting.{AloneStays, alone_telling}
 use Rattle.turn_laws.specs.Unhindered.{IsUnhindered}
-use Rattle.vcpu_turn.specs.Cpus.{OfExt, OfPairs, OfRead, OfWrite, Processing, Task, end_of, task_of}
+use Rattle.turn_laws.proofs.Bringing.{begins_later}
+use Rattle.vcpu_turn.specs.Cpus.{OfExt, OfMem, OfPairs, OfRead, OfWrite, Processing, Task, end_of, task_of}
 use Rattle.vcpu_turn.specs.Ext.{ExtFits, FitsExt, Performs, awaited_for}
+use Rattle.vcpu_turn.specs.Extents as extents
+use Rattle.vcpu_turn.specs.Extents.{ExtentFits, WorksExtents, begins_in, extents_in}
 use Rattle.vcpu_turn.specs.Lists as lists
 use Rattle.vcpu_turn.specs.Lists.{DidItems, Fitting, IsRefusedWhole, WorksOn, WorksThrough}
 use Rattle.vcpu_turn.specs.Pairs as pairs
@@ -32,6 +35,7 @@ use Rattle.turn_ranks.proofs.Calm.{AcquiredForward, AcquiredFurther, ComesTo}
 use Rattle.turn_ranks.proofs.Owners.{owners_pass}
 use Rattle.turn_ranks.proofs.Pages.{ComesBy, by_passes}
 use Rattle.turn_ranks.proofs.Performing.{performed_for}
+use Rattle.turn_ranks.proofs.Reserving.{extent_for}
 use Rattle.turn_ranks.proofs.Settled.{IsSettled, SettledSame, first_for, settled_on}
 use Rattle.turn_ranks.proofs.Updating.{updated_for}
 
@@ -40,21 +44,32 @@ did_least : (fits : Fitting) (count from : ℕ) (v : PortValue) (k : ℕ) (u : P
 did_least fits count from v _ _ _ lists.DidItems.none = omega arith
 did_least fits count from v _ _ _ (lists.DidItems.more k u w answers asked did fit less) = let a = did_least fits count from v k u answers did in omega (arith, a)
 
-did_none : (fits : Fitting) (count from : ℕ) (v : PortValue) (k : ℕ) (u : PortValue) (answers : List Bool) → DidItems fits count from v k u answers → k ≡ from → u ≡ v
-did_none fits count from v _ _ _ lists.DidItems.none is = refl
-did_none fits count from v _ _ _ (lists.DidItems.more k u w answers asked did fit less) is = absurd (let a = did_least fits count from v k u answers did in omega (arith, a, is))
+did_none : (fits : Fitting) (count from : ℕ) (v : PortValue) (k : ℕ) (u : PortValue) (answers : List Bool) → DidItems fits count from v k u answers → k ≤ from → u ≡ v
+did_none fits count from v _ _ _ lists.DidItems.none most = refl
+did_none fits count from v _ _ _ (lists.DidItems.more k u w answers asked did fit less) most = absurd (let a = did_least fits count from v k u answers did in omega (arith, a, most))
 
 module _ (n : Machine) where
   whole_for : {A : Type 0} (x : Refusal) (v a b : PortValue) (to : ℕ) (w : PortValue) (answers : List Bool) (r : Result A Stop) → IsRefusedWhole x v to w answers r → ComesBy n r a b
   whole_for x v a b to w answers r whole = subst (λ y. ComesBy n y a b) (sym whole.refused) tt
 
   on_for : (fits : Fitting) (count from : ℕ) (v : PortValue) → ((k : ℕ) (w : PortValue) (asked : List Bool) (r : Result (Unit {0}) Stop) → fits k v w asked r → ComesBy n r v w) →
-      (to : ℕ) (w : PortValue) (answers : List Bool) (r : Result (Unit {0}) Stop) → WorksOn fits count from v to w answers r → to ≡ from → ComesBy n r v w
-  on_for fits count from v goes _ _ _ _ (lists.WorksOn.all_done at) is = tt
-  on_for fits count from v goes _ _ _ _ (lists.WorksOn.last_done k u w answers asked did fit at) is = tt
-  on_for fits count from v goes _ _ _ _ (lists.WorksOn.due k u w answers asked did fit less) is = absurd (let a = did_least fits count from v k u answers did in omega (arith, a, is))
-  on_for fits count from v goes _ _ _ _ (lists.WorksOn.stopped k u w answers asked e did fit less) is =
-      goes k w asked (Err e) (subst (λ (x : PortValue). fits k x w asked (Err e)) (did_none fits count from v k u answers did is) fit)
+      (to : ℕ) (w : PortValue) (answers : List Bool) (r : Result (Unit {0}) Stop) → WorksOn fits count from v to w answers r → to ≤ from → ComesBy n r v w
+  on_for fits count from v goes _ _ _ _ (lists.WorksOn.all_done at) most = tt
+  on_for fits count from v goes _ _ _ _ (lists.WorksOn.last_done k u w answers asked did fit at) most = tt
+  on_for fits count from v goes _ _ _ _ (lists.WorksOn.due k u w answers asked did fit less) most = absurd (let a = did_least fits count from v k u answers did in omega (arith, a, most))
+  on_for fits count from v goes _ _ _ _ (lists.WorksOn.stopped k u w answers asked e did fit less) most =
+      goes k w asked (Err e) (subst (λ (x : PortValue). fits k x w asked (Err e)) (did_none fits count from v k u answers did most) fit)
+
+  -- ---- extents: the first of them is no earlier than behind those that are done
+  extents_for : (d command order : ℕ) (items : List ℕ) (v : PortValue) (from to : ℕ) (w : PortValue) (answers : List Bool) (r : Result (Unit {0}) Stop) → is_telling v ≡ true →
+      WorksExtents d command order items v from to w answers r → to ≡ from → ComesBy n r v w
+  extents_for d command order items v from _ _ _ _ telling (extents.WorksExtents.refused to w answers r x why whole) is = whole_for x v v w to w answers r whole
+  extents_for d command order items v from _ _ _ _ telling (extents.WorksExtents.none why empty) is = tt
+  extents_for d command order items v from _ _ _ _ telling (extents.WorksExtents.on to within w answers r why some works) is =
+      let at = begins_in command from in
+      let later = begins_later (Some (OfMem command order items)) from in
+      on_for (ExtentFits d command order items at within) (extents_in command items) at v (λ k y asked a fit. extent_for n d command order items at within k v y asked a telling fit) to w answers r works
+      (omega (arith, is, later))
 
   -- ---- reads and writes of the guest
   read_for : (v w : PortValue) (r : Result ℕ Stop) → IfErr r IsGuestReadStop → ComesBy n r v w
@@ -99,13 +114,13 @@ module _ (n : Machine) where
     owned_for d foreign list v from _ _ _ _ s (pairs.WorksOwned.owned to u w o answers answer some few finds on) is =
         let p = owners_pass v u d foreign (Ok o) (alone_telling v s.alone) finds.found in
         by_passes n answer v u w p
-        (on_for (PairFits o list) (length list) from u (λ k y asked a fit. pair_for o (slice_get list k) u y asked a (settled_on stays v u s p) fit) to w answers answer on is)
+        (on_for (PairFits o list) (length list) from u (λ k y asked a fit. pair_for o (slice_get list k) u y asked a (settled_on stays v u s p) fit) to w answers answer on (omega (arith, is)))
 
     through_for : (d : ℕ) (list : List ExtOp) (awaited : Option ℕ) (v : PortValue) (from to : ℕ) (w : PortValue) (answers : List Bool) (r : Result (Unit {0}) Stop) → IsSettled v →
         WorksThrough (ExtFits d list from awaited) (length list) v from to w answers r → to ≡ from → ComesBy n r v w
     through_for d list awaited v from to w answers r s (inl long) is = whole_for _ v v w to w answers r long.1
     through_for d list awaited v from to w answers r s (inr on) is =
-        on_for (ExtFits d list from awaited) (length list) from v (λ k y asked a fit. ext_for d (awaited_for from awaited k) (slice_get list k) v y asked a s fit) to w answers r on.1 is
+        on_for (ExtFits d list from awaited) (length list) from v (λ k y asked a fit. ext_for d (awaited_for from awaited k) (slice_get list k) v y asked a s fit) to w answers r on.1 (omega (arith, is))
 
     works_for : (d : ℕ) (o : Option Task) (awaited : Option ℕ) (v : PortValue) (from to : ℕ) (w : PortValue) (answers : List Bool) (r : Result ℕ Stop) → IsSettled v → Works d o awaited v from to w answers r → to ≡ from → ComesBy n r v w
     works_for d None awaited v from to w answers r s works is = whole_for _ v v w to w answers r works
@@ -113,6 +128,8 @@ module _ (n : Machine) where
         subst (λ x. ComesBy n x v w) (sym works.answer_is) (valued_for v w works.ended (owned_for d foreign list v from to w answers works.ended s works.works is))
     works_for d (Some (OfExt list)) awaited v from to w answers r s works is =
         subst (λ x. ComesBy n x v w) (sym works.answer_is) (valued_for v w works.ended (through_for d list awaited v from to w answers works.ended s works.works is))
+    works_for d (Some (OfMem command order items)) awaited v from to w answers r s works is =
+        subst (λ x. ComesBy n x v w) (sym works.answer_is) (valued_for v w works.ended (extents_for d command order items v from to w answers works.ended (alone_telling v s.alone) works.works is))
     works_for d (Some (OfRead user va)) awaited v from to w answers r s works is = read_for v w r works.kinds
     works_for d (Some (OfWrite user va val)) awaited v from to w answers r s works is =
         subst (λ x. ComesBy n x v w) (sym works.answer_is) (valued_for v w works.ended (write_for v w works.ended works.works.kinds))

@@ -1,5 +1,5 @@
 -- A kind word that is stored, and nothing else of which ranks, old words and lives are read.
-use Rattle.std.proofs.Common.{◌≡◌, ◌≢◌, ℕ, ◌<◌, if◌then◌else◌, true, false, List, Option, Some, None, IsTrue, refl, sym, ap, ◌∙◌, subst, arith}
+use Rattle.std.proofs.Common.{◌≡◌, ◌≢◌, ℕ, ◌<◌, if◌then◌else◌, true, false, Option, Some, None, IsTrue, refl, sym, ap, ◌∙◌, subst, arith}
 use Rattle.std.proofs.lemmas.Bool.Decides.{nat_tests}
 use Rattle.xp_words.specs.KindWords.{kind_write}
 use Rattle.xp_words.specs.Machine.{Machine}
@@ -9,6 +9,7 @@ use Rattle.xp_words.specs.declared.kind.PageType.{PageType}
 use Rattle.xp_words.specs.declared.place.Place.{Place}
 use Rattle.xp_words.specs.declared.place.Place.TheVariants.{Kind, Life}
 use Rattle.xp_board.specs.Acts.{left_by}
+use Rattle.xp_board.specs.Lists.{EachOf}
 use Rattle.xp_board.specs.Told.{PortValue, is_telling, told_word}
 use Rattle.xp_board.specs.declared.step.Act.TheVariants.{Load, Store}
 use Rattle.xp_board.specs.declared.step.StepKind.TheVariants as kinds
@@ -17,15 +18,16 @@ use Rattle.step_maker.specs.Moves.{Moves}
 use Rattle.step_maker.specs.Plain.{Words, change}
 use Rattle.step_maker.proofs.Coming.{moves_came}
 use Rattle.step_maker.proofs.Telling.{came_telling, told_elsewhere, told_here, told_there}
-use Rattle.answer_fits.specs.Visits.{Does, Visit}
+use Rattle.answer_fits.specs.Visits.{Does}
 use Rattle.frame_words.specs.Freeing.{FreesBy, PutBy}
+use Rattle.frame_claims.proofs.Telling.{Alls, after_parts, alls_nothing, alls_one, alls_then, words_after}
 use Rattle.frame_types.specs.Found.{SharedBy}
 use Rattle.kept_marks.specs.Marks as marks
 use Rattle.kept_marks.specs.Marks.{KeptFor, LeftSo}
 use Rattle.kind_words.specs.Kinds.{partial_kind}
 use Rattle.frame_ranks.specs.Ranks.{AreAllAlive}
 use Rattle.turn_ranks.proofs.Forward.{Still, is_ranked}
-use Rattle.turn_ranks.proofs.Asides.{AreAside, Passes, after_both, aside_both, aside_still, does_tells, moves_passes, words_after}
+use Rattle.turn_ranks.proofs.Asides.{LeavesRanks, Passes, aside_still, does_tells, moves_passes}
 
 pub record Stored (v w : PortValue) (f : ℕ) (k : KindWord) : Type 0 where
   pub here : told_word w (Kind f) ≡ kind_write k
@@ -63,12 +65,13 @@ kept_stored v w f k owner telling alive (marks.dying u x y life foreign left loo
 kept_stored v w f k owner telling alive (marks.taken u x life found foreign left look off back other) = absurd (off (life_none v u x f owner life k telling alive left look))
 
 -- ---- left as another holder left it
-frees_aside : (f : ℕ) (o : Option ℕ) (vs : List Visit) → FreesBy f o vs → AreAside vs
-frees_aside f (Some owner) vs h = subst AreAside (sym h.4) (refl, (refl, (refl, (refl, tt))))
-frees_aside f None vs h = subst AreAside (sym h) tt
+frees_aside : (f : ℕ) (o : Option ℕ) → Alls LeavesRanks (FreesBy f o)
+unfolding EachOf
+frees_aside f (Some owner) vs h = subst (EachOf LeavesRanks) (sym h.4) (refl, (refl, (refl, (refl, tt))))
+frees_aside f None vs h = alls_nothing LeavesRanks vs h
 
-pub put_aside : (f : ℕ) (vs : List Visit) → PutBy f vs → AreAside vs
-put_aside f vs h = subst AreAside (sym h.steps.list) (aside_both h.steps.after h.steps.before (frees_aside f h.last h.steps.after h.steps.next) (subst AreAside (sym h.steps.first) (refl, tt)))
+put_aside : (f : ℕ) → Alls LeavesRanks (PutBy f)
+put_aside f vs h = alls_then LeavesRanks _ _ (alls_one LeavesRanks _ refl) (frees_aside f h.last) vs h.steps
 
 pub set_here : (f : ℕ) (k : KindWord) (m : Words) → change (Store (kind_write k)) (Kind f) m (Kind f) ≡ kind_write k
 unfolding left_by
@@ -84,9 +87,9 @@ shared_stored v w f stamp want telling does =
     let m : Words = told_word v in
     let t = does_tells v w (λ vs. SharedBy f want stamp vs) does telling in
     let set : Words = change (Store (kind_write k)) (Kind f) m in
-    let is : words_after t.list m ≡ words_after t.is.after set =
-    ap (λ vs. words_after vs m) t.is.list ∙ after_both t.is.after t.is.before m ∙ ap (λ vs. words_after t.is.after (words_after vs m)) t.is.first.1 in
-    let still : Still set (words_after t.is.after set) = aside_still t.is.after set (put_aside f t.is.after t.is.next) in
+    let is : words_after m t.list ≡ words_after set t.is.after =
+    ap (words_after m) t.is.list ∙ after_parts m t.is.before t.is.after ∙ ap (λ vs. words_after (words_after m vs) t.is.after) t.is.first.1 in
+    let still : Still set (words_after set t.is.after) = aside_still set t.is.after (put_aside f t.is.after t.is.next) in
     record {
       here = t.words (Kind f) ∙ ap (λ (y : Words). y (Kind f)) is ∙ still (Kind f) refl ∙ set_here f k m;
       there = λ q ranked off. t.words q ∙ ap (λ (y : Words). y q) is ∙ still q ranked ∙ set_there f (kind_write k) m q off;
