@@ -214,6 +214,70 @@ const EXAMPLES: [Example; 33] = [
     },
 ];
 
+// Frames given back and blocks taken.
+const EXTENTS: [Example; 10] = [
+    Example {
+        shows: "A frame given back while a table maps it stays its owner's, and is no longer allocated; so it cannot be given back twice.",
+        pace: "",
+        trace: "xen-pv-trace 1\nframes 16\ndomain 16\nvcpu 0\nown 0 0 8\ncell 5 0 1 0x6001\nop 0 ext 0 5 0\nop 0 mem 1 0 6\nop 0 mem 1 0 6\nop 0 ext 4 5 0\nturn 0 3\nend\n",
+        lines: "op 2 ok done 1 value 0x0\nop 3 refused 2 done 0 WrongOwner frame=6 found=d0,1\ndomain 0 live pages 8\nframe 6 owner 0 refs 1 - type none count 0 flags - at 0 m2p -\n",
+    },
+    Example {
+        shows: "It is free when the last table that maps it is unpinned.",
+        pace: "",
+        trace: "xen-pv-trace 1\nframes 16\ndomain 16\nvcpu 0\nown 0 0 8\ncell 5 0 1 0x6001\nop 0 ext 0 5 0\nop 0 mem 1 0 6\nop 0 ext 4 5 0\nturn 0 3\nend\n",
+        lines: "op 3 ok done 1 value 0x0\ndomain 0 live pages 7\nfree 9\n",
+    },
+    Example {
+        shows: "A list of extents goes on from the one that its command names; and a block is aligned.",
+        pace: "",
+        trace: "xen-pv-trace 1\nframes 16\ndomain 16\nvcpu 0\nown 0 0 8\nop 0 mem 65 0 6 7\nop 0 mem 0 1 1\nop 0 mem 0 3 1\nturn 0 3\nend\n",
+        lines: "op 1 ok done 2 value 0x0\nop 2 given 0 8\nop 2 ok done 1 value 0x0\nop 3 refused 15 done 0 DomainFull found=9\nframe 6 owner 0 refs 1 alloc type none count 0 flags - at 0 m2p -\nfree 7\n",
+    },
+    Example {
+        shows: "Blocks of orders 9, 7, 6, 4 and 0 around a frame that is not free.",
+        pace: "",
+        trace: "xen-pv-trace 1\nframes 600\ndomain 600\nvcpu 0\nown 0 0 1\nown 0 130 1\nop 0 mem 0 9 1\nop 0 mem 0 7 1\nop 0 mem 0 6 1\nop 0 mem 0 4 1\nop 0 mem 0 0 2\nturn 0 5\nend\n",
+        lines: "op 1 refused 16 done 0 NoFree\nop 2 given 0 256\nop 3 given 0 64\nop 4 given 0 16\nop 5 given 0 1\nop 5 given 1 2\nop 5 ok done 2 value 0x0\ndomain 0 live pages 212\nfree 388\n",
+    },
+    Example {
+        shows: "A block that is populated has the page numbers from the one asked on; a number that no guest has is refused, and what was given before stays.",
+        pace: "",
+        trace: "xen-pv-trace 1\nframes 16\ndomain 16\nvcpu 0\nown 0 0 3\nop 0 mem 6 1 0x40 0x10000000000000\nturn 0 1\nend\n",
+        lines: "op 1 given 0 4\nop 1 refused 17 done 1 BadRange\ndomain 0 live pages 5\nframe 4 owner 0 refs 1 alloc type none count 0 flags - at 0 m2p 0x40\nframe 5 owner 0 refs 1 alloc type none count 0 flags - at 0 m2p 0x41\n",
+    },
+    Example {
+        shows: "What a list of extents is refused for as a whole, in its order: no single count, too many, no such command, the order, the first extent.",
+        pace: "",
+        trace: "xen-pv-trace 1\nframes 16\ndomain 16\nvcpu 0\nown 0 0 3\nop 0 mem 0 0\nop 0 mem 0 0 1 1\nop 0 mem 0 0 513\nop 0 mem 2 0\nop 0 mem 2 10 0\nop 0 mem 1 10 0\nop 0 mem 129 0 0\nop 0 mem 0 10 0\nop 0 mem 64 0 1\nturn 0 9\nend\n",
+        lines: "op 1 refused 17 done 0 BadRange\nop 2 refused 17 done 0 BadRange\nop 3 refused 21 done 0 BatchLong\nop 4 ok done 0 value 0x0\nop 5 refused 19 done 0 BadCommand\nop 6 refused 17 done 0 BadRange\nop 7 refused 17 done 0 BadRange\nop 8 ok done 0 value 0x0\nop 9 ok done 1 value 0x0\n",
+    },
+    Example {
+        shows: "Paused behind each extent, it has given the blocks of those that are done.",
+        pace: "1",
+        trace: "xen-pv-trace 1\nframes 16\ndomain 16\nvcpu 0\nown 0 0 3\nop 0 mem 0 0 3\nop 0 mem 1 0 0 1\nturn 0 2\nend\n",
+        lines: "op 1 given 0 3\nop 1 given 1 4\npending 2\ndomain 0 live pages 5\n",
+    },
+    Example {
+        shows: "An extent is given back up to the first frame that may not be; the frames before it stay given back.",
+        pace: "",
+        trace: "xen-pv-trace 1\nframes 16\ndomain 16\ndomain 16\nvcpu 0\nvcpu 1\nown 0 0 4\nown 1 4 4\nop 0 mem 1 2 2\nturn 0 1\nend\n",
+        lines: "op 1 refused 2 done 0 WrongOwner frame=4 found=d1,1,a\ndomain 0 live pages 2\nfree 10\n",
+    },
+    Example {
+        shows: "A frame is not given while a vCPU of its last owner may have a translation to it.",
+        pace: "",
+        trace: "xen-pv-trace 1\nframes 16\ndomain 16\ndomain 16\nvcpu 0\nvcpu 1\nown 0 0 8\nown 1 8 2\ncell 1 0 1 0x2003\ncell 2 0 1 0x3003\ncell 3 0 1 0x4003\ncell 4 0 1 0x5003\ncell 5 7 1 0x77\nop 0 ext 5 1 0\nop 0 read k 0x38\nop 0 mmu 0x7ff0 0x4000 0\nop 0 mem 1 0 5\nop 0 read k 0x38\nop 1 mem 0 0 1\nturn 0 4\nturn 1 2\nend\n",
+        lines: "op 2 ok done 1 value 0x77\nop 4 ok done 1 value 0x0\ndomain 0 live pages 7\ndomain 1 live pages 2\nfree 7\n",
+    },
+    Example {
+        shows: "When that one has flushed, the frame is given, and nothing leads to it.",
+        pace: "",
+        trace: "xen-pv-trace 1\nframes 16\ndomain 16\ndomain 16\nvcpu 0\nvcpu 1\nown 0 0 8\nown 1 8 2\ncell 1 0 1 0x2003\ncell 2 0 1 0x3003\ncell 3 0 1 0x4003\ncell 4 0 1 0x5003\ncell 5 7 1 0x77\nop 0 ext 5 1 0\nop 0 read k 0x38\nop 0 mmu 0x7ff0 0x4000 0\nop 0 mem 1 0 5\nop 0 read k 0x38\nop 1 mem 0 0 1\nturn 0 4\nturn 1 2\nturn 0 1\nturn 1 1\nend\n",
+        lines: "op 5 refused 9 done 0 NotMapped level=1 entry=0x0\nop 1 given 0 5\ndomain 1 live pages 3\nframe 5 owner 1 refs 1 alloc type wr count 0 flags - at 0 m2p -\n",
+    },
+];
+
 // What the count limit and the last value of the clock refuse, each beside the same trace with one more. (A table of its own: the proof of
 // one test goes no further than some 35 examples.)
 const AT_LIMITS: [Example; 6] = [
@@ -263,7 +327,7 @@ fn report(rt: &(impl Abort + AllocGlobal), example: &Example) -> Vec<u8> {
         with_pace(rt, example.pace)
     };
     let mut source = MemorySource::new(bytes(rt, example.trace), Vec::new(rt.alloc()));
-    let mut sink = MemorySink::new(rt.alloc(), 8192, 8192, Vec::new(rt.alloc())).expect(
+    let mut sink = MemorySink::new(rt.alloc(), 32768, 32768, Vec::new(rt.alloc())).expect(
         rt, "memory",
     );
     let answer = run_paced(rt, &words, &mut source, &mut sink);
@@ -276,6 +340,21 @@ fn report(rt: &(impl Abort + AllocGlobal), example: &Example) -> Vec<u8> {
 #[test]
 fn each_example_is_reported_with_what_it_leaves(rt: HostRuntime) {
     for example in EXAMPLES.iter() {
+        let text = report(&rt, example);
+        let text = str::from_utf8(&text).expect(&rt, "a text");
+        for wanted in example.lines.lines() {
+            assert!(rt;
+                text.lines().any(|line| line == wanted),
+                "{}",
+                example.shows
+            );
+        }
+    }
+}
+
+#[test]
+fn each_example_of_extents_is_reported_with_what_it_leaves(rt: HostRuntime) {
+    for example in EXTENTS.iter() {
         let text = report(&rt, example);
         let text = str::from_utf8(&text).expect(&rt, "a text");
         for wanted in example.lines.lines() {

@@ -10,6 +10,8 @@ pub use two::{both, two_passes};
 #[cfg(test)]
 mod audit;
 #[cfg(test)]
+mod claims;
+#[cfg(test)]
 mod random;
 #[cfg(test)]
 mod replays;

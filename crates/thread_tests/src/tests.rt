@@ -35,7 +35,7 @@ fn board_of(alloc: Global, trace: Trace) -> Result<(SharedBoard, Vec<Pass>), All
     SharedBoard::make(alloc, layout, words)
 }
 
-fn opened(alloc: Global, text: &str) -> Option<(SharedBoard, Vec<Pass>)>
+pub(crate) fn opened(alloc: Global, text: &str) -> Option<(SharedBoard, Vec<Pass>)>
     ensures { IfSome result (λ b. (length b.1.items ≡ (sizes_of b.0.machine).vcpus) × AreOpened b.0.table b.1.items) }
 {
     match read_trace(alloc, text.as_bytes()) {
