@@ -1,0 +1,6 @@
+mod Parts
+mod Walked
+mod Looks
+mod Asking
+mod Touched
+mod Entered

@@ -1,0 +1,6 @@
+mod Filling
+mod Held
+mod Asking
+mod StopKinds
+mod Cleared
+mod Copied
