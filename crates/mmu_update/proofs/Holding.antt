@@ -31,7 +31,7 @@ pub leaves_rests : (v w : PortValue) → Rests v → LeavesUpdate v w → Rests 
 leaves_rests v w rests leaves = rests_by v w leaves.0 leaves.1 rests leaves.2
 
 -- ---- the frame is in none of the own lists
-none_on : {A : Type 0} (key : A → ℕ) (f : ℕ) (xs : List A) → xs ≡ [] → first_by key f xs ≡ None
+pub none_on : {A : Type 0} (key : A → ℕ) (f : ℕ) (xs : List A) → xs ≡ [] → first_by key f xs ≡ None
 unfolding first_by
 none_on key f xs e = ap (λ ys. first_by key f ys) e
 

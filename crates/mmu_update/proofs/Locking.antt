@@ -14,7 +14,7 @@ use Rattle.step_maker.specs.Holds.{Holds, Rests, quiet, still}
 use Rattle.step_maker.specs.Moves.{Came}
 use Rattle.step_maker.proofs.Coming.{came_trans}
 use Rattle.answer_fits.specs.Answers.{Serves}
-use Rattle.answer_fits.specs.Asked.{of_frame}
+use Rattle.answer_fits.specs.Asked.{Request, of_frame}
 use Rattle.answer_fits.proofs.Piecing.{serves_came}
 use Rattle.entry_exchange.specs.Holding.{HoldsLockOf, HoldsTableLock, LeavesExchange, LeavesUnlocked}
 use Rattle.entry_exchange.specs.Parts.{EntryExchanged, LockLeft}
@@ -33,21 +33,22 @@ use Rattle.mmu_update.proofs.Entering.{exchanged_serves, exchanged_stops, slot_s
 use Rattle.entry_exchange.proofs.Staying.{may_map}
 use Rattle.mmu_update.proofs.Holding.{leaves_rests, ref_gone}
 use Rattle.mmu_update.proofs.WriteKinds.{write_kinds}
-use Rattle.mmu_update.proofs.Serving.{asks, back_behind, locked_serves}
+use Rattle.mmu_update.proofs.Asking.{Covers, write_covers}
+use Rattle.mmu_update.proofs.Serving.{back_behind, locked_serves}
 
 -- what holds of each stop holds of the one that is answered
-each_stop : (P Q : Stop → Type 0) → ((e : Stop) → P e → Q e) → (answer : Result (Unit {0}) Stop) → IfErr answer P → IfErr answer Q
+pub each_stop : (P Q : Stop → Type 0) → ((e : Stop) → P e → Q e) → (answer : Result (Unit {0}) Stop) → IfErr answer P → IfErr answer Q
 each_stop P Q more (Ok done) is = tt
 each_stop P Q more (Err e) is = more e is
 
 module _ {b y : PortValue} {o : Owners} {f level : ℕ} (a : UnderLock b y o f level) where
-  rests_b : Rests b
+  pub rests_b : Rests b
   rests_b = a.referred.begins.rests
 
   abbrev lock : Lock
   lock = a.holds.lock
 
-  first : Came b a.at
+  pub first : Came b a.at
   first = serves_came b a.at (of_frame f o.tables None) [] a.referred.serves
 
   locked_hand : Holds b y (record b.holdings { locks = lock ∷ b.holdings.locks })
@@ -55,7 +56,7 @@ module _ {b y : PortValue} {o : Owners} {f level : ℕ} (a : UnderLock b y o f l
       a.holds.hand ∙ ap (λ (q : PortValue). still (record q { holdings = record q.holdings { refs = without_ref f q.holdings.refs; locks = lock ∷ q.holdings.locks } })) a.referred.hand
       ∙ ap (λ (rs : List Reference). still (record b { holdings = record b.holdings { refs = rs; locks = lock ∷ b.holdings.locks } })) (ref_gone b a.at f o.tables rests_b a.referred.hand)
 
-  no_refs : y.holdings.refs ≡ []
+  pub no_refs : y.holdings.refs ≡ []
   no_refs = ap (λ (q : PortValue). q.holdings.refs) locked_hand ∙ rests_b.empty.refs
 
   pub holds_table : HoldsTableLock y f level o.tables
@@ -92,11 +93,12 @@ module _ {b y : PortValue} {o : Owners} {f level : ℕ} (a : UnderLock b y o f l
   maps_still =
       may_map b y o (came_trans b a.at y first (serves_came a.at y (of_lock f o.tables) [] a.serves)) (ap (λ (q : PortValue). q.holdings.turn) locked_hand) a.referred.begins.maps
 
-  before : (i word : ℕ) (keep : Bool) (answer : Result (Unit {0}) Stop) → Serves b y (asks o f i word keep answer) []
-  before i word keep answer = locked_serves o f i word keep answer b a.at y [] a.referred.serves a.serves
+  module _ {r : Request} {i word : ℕ} {answer : Result (Unit {0}) Stop} (covers : Covers r o f i word answer) where
+    pub before : Serves b y r []
+    before = locked_serves covers b a.at y [] a.referred.serves a.serves
 
   -- ---- a slot that is Xen's: the lock is gone
-  unlocked_hand : (w : PortValue) → LeavesUnlocked y w f → LeavesUpdate b w
+  pub unlocked_hand : (w : PortValue) → LeavesUnlocked y w f → LeavesUpdate b w
   unlocked_hand w (inl gone) = (
     b.holdings.old0,
     b.holdings.old1,
@@ -115,7 +117,7 @@ module _ {b y : PortValue} {o : Owners} {f level : ℕ} (a : UnderLock b y o f l
       let e = Refused (refusals.Slot i) in
       let hand = unlocked_hand w left.hand in
       record {
-        serves = ([], stopped f i word keep e [] refl, back_behind o f i word keep (Err e) b y [] (before i word keep (Err e)) w left.serves);
+        serves = ([], stopped f i word keep e [] refl, back_behind (write_covers o f i word keep (Err e)) b y [] (before (write_covers o f i word keep (Err e))) w left.serves);
         stops = slot_stops o f level i word a.found keep b a.at y a.tried.found w first left.came on;
         kinds = tt;
         numbers = λ x is. absurd cc;
@@ -125,7 +127,7 @@ module _ {b y : PortValue} {o : Owners} {f level : ℕ} (a : UnderLock b y o f l
       }
 
   -- ---- an entry that is the guest's
-  exchanged_hand : (w : PortValue) → LeavesExchange y w → LeavesUpdate b w
+  pub exchanged_hand : (w : PortValue) → LeavesExchange y w → LeavesUpdate b w
   exchanged_hand w (c, d, leaves) = (
     c,
     d,
@@ -139,8 +141,8 @@ module _ {b y : PortValue} {o : Owners} {f level : ℕ} (a : UnderLock b y o f l
       record {
         answers = did.course.answers;
         course = record {
-          serves = exchanged_serves o f level i word keep answer b y w (before i word keep answer) did.serves;
-          stops = each_stop _ _ (λ e z. exchanged_stops o f level i word keep answer b y w (before i word keep answer) e rests_b no_refs z) answer did.stops;
+          serves = exchanged_serves o f level i word keep answer b y w (before (write_covers o f i word keep answer)) did.serves;
+          stops = each_stop _ _ (λ e z. exchanged_stops (write_covers o f i word keep answer) level keep b y w (before (write_covers o f i word keep answer)) e rests_b no_refs z) answer did.stops;
           kinds = write_kinds answer did.kinds;
           numbers = λ x is. absurd cc;
           hand = exchanged_hand w did.hand;

@@ -24,6 +24,7 @@ use Rattle.mmu_update.specs.Writing.{Ordinary}
 use Rattle.mmu_update.specs.declared.element.Element.TheVariants.{Write}
 use Rattle.mmu_update.proofs.Holding.{apart, given_back, given_to_old, given_up, leaves_rests}
 use Rattle.mmu_update.proofs.WriteKinds.{type_kinds}
+use Rattle.mmu_update.proofs.Asking.{write_covers}
 use Rattle.mmu_update.proofs.Serving.{asks, locked_serves, stored_serves, untaken_serves, untaken_stops}
 
 module _ {b v : PortValue} {o : Owners} {f : ℕ} (a : Ordinary b v o f) where
@@ -32,7 +33,7 @@ module _ {b v : PortValue} {o : Owners} {f : ℕ} (a : Ordinary b v o f) where
   lent = a.same ∙ a.referred.hand
 
   before : (i word : ℕ) (keep : Bool) (answer : Result (Unit {0}) Stop) → Serves b v (asks o f i word keep answer) []
-  before i word keep answer = locked_serves o f i word keep answer b a.at v [] a.referred.serves a.serves
+  before i word keep answer = locked_serves (write_covers o f i word keep answer) b a.at v [] a.referred.serves a.serves
 
   page_hand : (x : PortValue) (e : Stop) → LeavesPage v x f o.tables (Err e) → LeavesUpdate b x
   page_hand x (Refused r) leaves = given_up b v f o.tables a.referred.begins.rests lent x leaves

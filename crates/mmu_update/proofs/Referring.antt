@@ -23,6 +23,7 @@ use Rattle.mmu_update.specs.declared.element.Element.TheVariants.{Write}
 use Rattle.mmu_update.proofs.Holding.{given_up, leaves_rests, leaves_same, lent_by, no_work}
 use Rattle.entry_exchange.proofs.Taking.{hides_none}
 use Rattle.mmu_update.proofs.WriteKinds.{lock_kinds, ref_kinds}
+use Rattle.mmu_update.proofs.Asking.{write_covers}
 use Rattle.mmu_update.proofs.Serving.{referred_serves, referred_stops, unlocked_serves, unlocked_stops}
 
 -- ---- it is not to be had
@@ -32,8 +33,8 @@ pub unreferred : {b w : PortValue} {o : Owners} {f i word : ℕ} {keep : Bool} {
 unreferred {b} {w} {o} {f} {i} {word} {keep} {e} begins serves kind same got =
     let hand = leaves_same b w (ap quiet same) in
     record {
-      serves = (missed b.post.machine e, stopped f i word keep e [] (hides_none e), referred_serves o f i word keep (Err e) b w (missed b.post.machine e) serves);
-      stops = referred_stops o f i word keep (Err e) b w e got.stops;
+      serves = (missed b.post.machine e, stopped f i word keep e [] (hides_none e), referred_serves (write_covers o f i word keep (Err e)) b w (missed b.post.machine e) serves);
+      stops = referred_stops (write_covers o f i word keep (Err e)) b w e got.stops;
       kinds = ref_kinds e kind;
       numbers = λ x is. absurd cc;
       hand = hand;
@@ -66,7 +67,7 @@ module _ {b u : PortValue} {o : Owners} {f : ℕ} (y : PortValue) (r : Referred 
       let hand = given_up b y f o.tables r.begins.rests (same ∙ r.hand) w (ap quiet gives) in
       record {
         serves = unlocked_serves o f i word keep e b u y r.serves w lock back;
-        stops = unlocked_stops o f i word keep e b u y r.serves w (lock_kinds e kind).2 tried.stops (serves_came y w (of_back f) [] back);
+        stops = unlocked_stops (write_covers o f i word keep (Err e)) b u y r.serves w e (lock_kinds e kind).2 tried.stops (serves_came y w (of_back f) [] back);
         kinds = (lock_kinds e kind).0;
         numbers = λ x is. absurd cc;
         hand = hand;
@@ -77,11 +78,11 @@ module _ {b u : PortValue} {o : Owners} {f : ℕ} (y : PortValue) (r : Referred 
 -- ---- it was looked at
 module _ {b u y : PortValue} {o : Owners} {f : ℕ} {k : Locked} (r : Referred b u o f) (serves : Serves u y (of_lock f o.tables) []) (tried : TriedLock u y f o.tables (Ok k))
     (hand : LeavesLocked u y f o.tables (Ok k)) where
-  pub under_lock : {level word : ℕ} → k ≡ Table level word → UnderLock b y o f level
+  abbrev pub under_lock : {level word : ℕ} → k ≡ Table level word → UnderLock b y o f level
   under_lock {level} {word} is =
       record { at = u; found = word; referred = r; tried = subst (λ j. TriedLock u y f o.tables (Ok j)) is tried; serves = serves; holds = subst (λ j. LeavesLocked u y f o.tables (Ok j)) is hand }
 
-  pub ordinary : {word : ℕ} → k ≡ Other word → Ordinary b y o f
+  abbrev pub ordinary : {word : ℕ} → k ≡ Other word → Ordinary b y o f
   ordinary {word} is = record {
     at = u;
     found = word;

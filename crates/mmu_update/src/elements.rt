@@ -158,7 +158,7 @@ fn write_entry<P: Port>(
 }
 
 // One of Xen's slots, of a table of level 4.
-fn is_slot(level: u8, index: u16) -> bool
+pub(crate) fn is_slot(level: u8, index: u16) -> bool
     requires low { 1 ≤ level }
     requires high { level ≤ 4 }
     ensures { result ≡ is_slot (level_type level) index }

@@ -1,0 +1,72 @@
+use Rattle.std.proofs.Common.{refl, ap, ◌∙◌}
+use Rattle.entry_locks.specs.declared.locking.Locked.TheVariants.{Table}
+use Rattle.mmu_update.proofs.EnteringAt.{at_level, at_ordinary, at_unlocked}
+use Rattle.mmu_update.proofs.Holding.{no_ending, no_lock, no_work}
+use Rattle.mmu_update.proofs.Locking.{holds_lock}
+use Rattle.mmu_update.proofs.Reaching.{at_ungated}
+use Rattle.mmu_update.proofs.Referring.{may_put, ordinary, under_lock}
+use Rattle.mmu_update.proofs.WriteKinds.{lock_kinds}
+use Rattle.mmu_update.proofs.updates_at.enter_referred.Goals as goal
+
+pub lock_entry-requires-clause-apart : goal.lock_entry-requires-clause-apart
+lock_entry-requires-clause-apart g c = let r = c.requires.referred.1 in no_work c.requires.referred.0 (g.P.Port.value c.args.port.now) c.args.table c.args.owners.tables r.begins.rests r.hand
+
+pub lock_entry-requires-clause-unlocked : goal.lock_entry-requires-clause-unlocked
+lock_entry-requires-clause-unlocked g c = let r = c.requires.referred.1 in no_lock c.requires.referred.0 (g.P.Port.value c.args.port.now) c.args.table c.args.owners.tables r.begins.rests r.hand
+
+pub lock_entry-requires-clause-lasting : goal.lock_entry-requires-clause-lasting
+lock_entry-requires-clause-lasting g c = let r = c.requires.referred.1 in no_ending c.requires.referred.0 (g.P.Port.value c.args.port.now) c.args.table c.args.owners.tables r.begins.rests r.hand
+
+pub leave_lock-requires-clause-locked : goal.leave_lock-requires-clause-locked
+leave_lock-requires-clause-locked g c =
+    let t = c.in-Ok-Table.ensures in
+    holds_lock (under_lock c.requires.referred.1 t.serves (record { found = t.found; plain = t.plain; stops = tt }) t.hand c.in-Ok-Table.field-0-is)
+
+pub enter_locked-requires : goal.enter_locked-requires
+enter_locked-requires g c =
+    let t = c.in-Ok-Table.ensures in
+    record {
+      locked = (
+        c.requires.referred.0,
+        under_lock c.requires.referred.1 t.serves (record { found = t.found; plain = t.plain; stops = tt }) t.hand (c.in-Ok-Table.field-0-is ∙ ap (λ l. Table l c.in-Ok-Table.found) c.if-level-ne-LAST.false),
+      );
+    }
+
+pub put_ref-requires-clause-gives : goal.put_ref-requires-clause-gives
+put_ref-requires-clause-gives g c =
+    let r = c.requires.referred.1 in
+    let t = c.in-Ok-Other.ensures in
+    may_put (g.P.Port.value c.lock_entry.new.port) r (ordinary r t.serves (record { found = t.found; plain = t.plain; stops = tt }) t.hand c.in-Ok-Other.field-0-is).same
+
+pub put_ref-requires-in-Err-clause-gives : goal.put_ref-requires-in-Err-clause-gives
+put_ref-requires-in-Err-clause-gives g c = may_put (g.P.Port.value c.lock_entry.new.port) c.requires.referred.1 c.in-Err.ensures.hand
+
+pub returns-in-Ok-Table-clause-enters : goal.returns-in-Ok-Table-clause-enters
+returns-in-Ok-Table-clause-enters g c = λ b r.
+    let t = c.in-Ok-Table.ensures in
+    rw c.other_type.ensures (at_ungated refl
+    (at_level (under_lock r t.serves (record { found = t.found; plain = t.plain; stops = tt }) t.hand c.in-Ok-Table.field-0-is) c.if-level-ne-LAST.true c.leave_lock.ensures))
+
+pub returns-in-Ok-Table-2-clause-enters : goal.returns-in-Ok-Table-2-clause-enters
+returns-in-Ok-Table-2-clause-enters g c = λ b r.
+    let t = c.in-Ok-Table.ensures in
+    c.enter_locked.ensures.enters b
+    (under_lock r t.serves (record { found = t.found; plain = t.plain; stops = tt }) t.hand (c.in-Ok-Table.field-0-is ∙ ap (λ l. Table l c.in-Ok-Table.found) c.if-level-ne-LAST.false))
+
+pub returns-in-Ok-Other-clause-enters : goal.returns-in-Ok-Other-clause-enters
+returns-in-Ok-Other-clause-enters g c = λ b r.
+    let t = c.in-Ok-Other.ensures in
+    let p = c.put_ref.ensures in
+    rw c.other_type-in-Ok-Other.ensures (at_ungated refl
+    (at_ordinary (ordinary r t.serves (record { found = t.found; plain = t.plain; stops = tt }) t.hand c.in-Ok-Other.field-0-is) p.hand p.serves (record { found = p.puts; plain = p.plain })))
+
+pub returns-in-Err-clause-enters : goal.returns-in-Err-clause-enters
+returns-in-Err-clause-enters g c = λ b r.
+    let t = c.in-Err.ensures in
+    let p = c.put_ref-in-Err.ensures in
+    at_ungated (lock_kinds c.in-Err.stop t.kinds).1
+    (at_unlocked _ r t.hand p.hand p.serves (record { found = p.puts; plain = p.plain }) t.serves t.kinds (record {
+      found = t.found;
+      plain = t.plain;
+      stops = t.stops;
+    }))
