@@ -22,7 +22,7 @@ last_value s e vs none = refl
 
 module _ (v w : PortValue) where
   pub flushed_serves : (d : ℕ) → Serves v w of_flush [] → ServesElement v w d FlushLocal None (Ok tt)
-  flushed_serves d a = ([], told FlushLocal (Ok tt), a)
+  flushed_serves d a = ([], told FlushLocal (Ok tt) tt, a)
 
   -- where it is not done, the clock is at its last value
   module _ (e : Refusal) (does : Does v w (FlushedBy v.post.vcpu (Err e))) where
@@ -31,7 +31,7 @@ module _ (v w : PortValue) where
     is_last = last_value v.post.vcpu e _ does.2
 
     pub spent_serves : (d : ℕ) → Serves v w of_flush [] → ServesElement v w d FlushLocal None (Err (Refused e))
-    spent_serves d a = ([], told FlushLocal (Err (Refused e)), a)
+    spent_serves d a = ([], told FlushLocal (Err (Refused e)) tt, a)
 
     pub spent_kind : IsElementStop FlushLocal (Refused e)
     spent_kind = rw is_last tt
@@ -42,4 +42,4 @@ module _ (v w : PortValue) where
   -- ---- those of one page
   module _ (va : ℕ) where
     pub page_serves : (d : ℕ) → ((r : Request) → Serves v w r (only_if (is_canonical va) (Forgets (page_of va)))) → ServesElement v w d (Invalidate va) None (Ok tt)
-    page_serves d a = (only_if (is_canonical va) (Forgets (page_of va)), told (Invalidate va) (Ok tt), a (ext_request v.post.machine v.post.vcpu d (Invalidate va) None (Ok tt)))
+    page_serves d a = (only_if (is_canonical va) (Forgets (page_of va)), told (Invalidate va) (Ok tt) tt, a (ext_request v.post.machine v.post.vcpu d (Invalidate va) None (Ok tt)))

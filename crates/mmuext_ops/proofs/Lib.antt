@@ -14,3 +14,4 @@ mod UnpinCourse
 mod Unpinned
 mod Waited
 mod Within
+mod Wholes

@@ -12,7 +12,7 @@ use Rattle.mmuext_ops.proofs.Rests.{ungated}
 
 module _ (v : PortValue) (d : ℕ) (awaited : Option ℕ) where
   pub unknown_serves : ServesElement v v d Unknown awaited (Err (Refused BadCommand))
-  unknown_serves = ([], told Unknown (Err (Refused BadCommand)), serves_nothing v (ext_request v.post.machine v.post.vcpu d Unknown awaited (Err (Refused BadCommand))))
+  unknown_serves = ([], told Unknown (Err (Refused BadCommand)) tt, serves_nothing v (ext_request v.post.machine v.post.vcpu d Unknown awaited (Err (Refused BadCommand))))
 
   pub unknown_stops : Stops v v (ext_request v.post.machine v.post.vcpu d Unknown awaited (Err (Refused BadCommand))) (Refused BadCommand)
   unfolding Stops

@@ -48,7 +48,7 @@ module _ {v w : PortValue} {d f level : ℕ} {says : ℕ → Bool} {asked agreed
       let left = none_left v w f level stop same in
       rw is
       (record {
-        serves = (missed v.post.machine stop, told _ _, referred v f d (of_pin d f level (is_due_stop stop)) (asks v f d level (is_due_stop stop)) w (missed v.post.machine stop) serves);
+        serves = (missed v.post.machine stop, told _ _ tt, referred v f d (of_pin d f level (is_due_stop stop)) (asks v f d level (is_due_stop stop)) w (missed v.post.machine stop) serves);
         stops = not_referred v f d (of_pin d f level (is_due_stop stop)) (asks v f d level (is_due_stop stop)) w stop got.stops;
         kinds = ref_stop stop kind;
         hand = left;
@@ -62,7 +62,7 @@ module _ {v w : PortValue} {d f level : ℕ} {says : ℕ → Bool} {asked agreed
       let left = none_left v w f level (Refused (AlreadyPinned x)) (given_back saw back) in
       let typed : IsPinnedAs level x = (ap (λ (y : KindWord). y.pinned) (fields saw) ∙ on, ap (λ (y : KindWord). y.kind) (fields saw) ∙ kind) in
       record {
-        serves = ([], told _ _, put_back saw (of_pin d f level false) (asks v f d level false) back);
+        serves = ([], told _ _ tt, put_back saw (of_pin d f level false) (asks v f d level false) back);
         stops = before_stops v f d level false saw w (came_back saw back) on kind;
         kinds = tt;
         hand = left;
@@ -81,7 +81,7 @@ module _ {v a b : PortValue} {d f g x : ℕ} {k : KindWord} (rests : Rests v) (s
         let put = put_back saw (of_pin d f level (is_due_stop stop)) (asks v f d level (is_due_stop stop)) back in
         rw is
         (record {
-          serves = (missed v.post.machine stop, told _ _, acquired_serves v f d level (is_due_stop stop) p put e (Err stop) (λ due. due) own serves);
+          serves = (missed v.post.machine stop, told _ _ tt, acquired_serves v f d level (is_due_stop stop) p put e (Err stop) (λ due. due) own serves);
           stops = unacquired_stops v f d level (is_due_stop stop) p put e (Err stop) (λ due. due) own same stop stops;
           kinds = acquire_stop stop kind;
           hand = left;

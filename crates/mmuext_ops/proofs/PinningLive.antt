@@ -167,7 +167,7 @@ module _ {v a : PortValue} {f level x : ℕ} (frame : f < v.post.machine.frames)
     pub seen : {w : PortValue} → k.pinned ≡ true → GivesUp a w f level false → PinsLive v w f level (Err (Refused (AlreadyPinned x)))
     seen {w} on gone =
         record {
-          serves = ([], told _ _, serves_back v a w request [] [] looked f (is_asked (Met v w)) gone.serves);
+          serves = ([], told _ _ tt, serves_back v a w request [] [] looked f (is_asked (Met v w)) gone.serves);
           stops = seen_stops w gone.serves on;
           kinds = tt;
           hand = gives_from v a w f false same gone.hand;
@@ -197,7 +197,7 @@ module _ {v a : PortValue} {f level x : ℕ} (frame : f < v.post.machine.frames)
             record {
               serves = (
                 Pins f ∷ [],
-                told _ _,
+                told _ _ tt,
                 subst (λ ds. Serves v b request (ds ++ []))
                     (ap (λ y. deeds_by (Kind f) (Cas x (kind_write (pinned_kind k))) kinds.Kind y a.holdings) (at ∙ written)
                     ∙ pins_deed f x (kind_write (pinned_kind k)) a.holdings (ap (λ (y : KindWord). y.pinned) fields ∙ off) (ap (λ (y : KindWord). y.pinned) new_fields))
@@ -279,7 +279,7 @@ module _ {v a : PortValue} {f level x : ℕ} (frame : f < v.post.machine.frames)
               let there = place_is lost looks read_now gone in
               rw is
               (record {
-                serves = (missed v.post.machine (Paused (Lost (number (sizes_of w.post.machine) (Kind f)) x found)), told _ _, rw (lost_misses v.post.machine f x found (number (sizes_of w.post.machine) (Kind f)) look.may.place there) (missed_serves lost looks read_now gone));
+                serves = (missed v.post.machine (Paused (Lost (number (sizes_of w.post.machine) (Kind f)) x found)), told _ _ tt, rw (lost_misses v.post.machine f x found (number (sizes_of w.post.machine) (Kind f)) look.may.place there) (missed_serves lost looks read_now gone));
                 stops = lost_stops v v a b w f x (kind_write (pinned_kind k)) found (came_self v) look try (serves_came b w (of_back f) [] gone.serves) (other lost looks read_now gone) request (number (sizes_of w.post.machine) (Kind f)) there refl (is_asked (Met v w)) keeps;
                 kinds = tt;
                 hand = hand_w lost looks read_now gone;

@@ -36,8 +36,8 @@ use Rattle.mmuext_ops.proofs.Within.{of_unpin, within_release}
 
 -- ---- the steps
 has_release : (n : Machine) (s f : ℕ) (answer : Result (Unit {0}) Stop) → IfErr answer (λ e. e ≡ Paused Due) → HasDeeds n s (Unpin f) (Ok tt) (misses n answer ++ (Unpins f ∷ []))
-has_release n s f (Ok done) due = told (Unpin f) (Ok tt)
-has_release n s f (Err e) due = rw due (told (Unpin f) (Ok tt))
+has_release n s f (Ok done) due = told (Unpin f) (Ok tt) tt
+has_release n s f (Err e) due = rw due (told (Unpin f) (Ok tt) tt)
 
 pub released_serves : (v r w : PortValue) (f d g : ℕ) (answer : Result (Unit {0}) Stop) → g ≡ f → Serves v r (of_unpin d f) (Unpins f ∷ []) →
     Serves r w (of_release g d d answer) (misses r.post.machine answer) → IfErr answer (λ e. e ≡ Paused Due) → ServesElement v w d (Unpin f) None (Ok tt)

@@ -53,7 +53,7 @@ module _ {v w : PortValue} {d f : ℕ} {says : ℕ → Bool} {asked agreed : ℕ
   unreferred {stop} is serves kind same got =
       rw is
       (record {
-        serves = (missed v.post.machine stop, told _ _, referred v f d (of_unpin d f) (asks v f d) w (missed v.post.machine stop) serves);
+        serves = (missed v.post.machine stop, told _ _ tt, referred v f d (of_unpin d f) (asks v f d) w (missed v.post.machine stop) serves);
         stops = not_referred v f d (of_unpin d f) (asks v f d) w stop got.stops;
         kinds = ref_stop stop kind;
         hand = ap quiet same;
@@ -66,7 +66,7 @@ module _ {v w : PortValue} {d f : ℕ} {says : ℕ → Bool} {asked agreed : ℕ
   seen {a} {b} {x} saw back off =
       let left : FlushedSame v w = ap quiet (given_back saw back) in
       record {
-        serves = ([], told _ _, put_back saw (of_unpin d f) (asks v f d) back);
+        serves = ([], told _ _ tt, put_back saw (of_unpin d f) (asks v f d) back);
         stops = before_stops saw w (came_back saw back) off;
         kinds = tt;
         hand = left;

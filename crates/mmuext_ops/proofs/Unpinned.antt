@@ -154,7 +154,7 @@ module _ {v a b : PortValue} {f d g x : ℕ} {k : KindWord} (saw : Looked v a b 
           lost_serves =
               let there : IsTrue (is_place (sizes_of v.post.machine) (Kind f)) = subst (λ (p : Post). IsTrue (is_place (sizes_of p.machine) (Kind f))) (came_post v b came_b) try_there.may.place in
               rw stop_is
-              (missed v.post.machine (Paused (pauses.Lost (number (sizes_of v.post.machine) (Kind f)) x found)), told _ _, rw (lost_misses v.post.machine f x found (number (sizes_of v.post.machine) (Kind f)) there refl) missed_serves)
+              (missed v.post.machine (Paused (pauses.Lost (number (sizes_of v.post.machine) (Kind f)) x found)), told _ _ tt, rw (lost_misses v.post.machine f x found (number (sizes_of v.post.machine) (Kind f)) there refl) missed_serves)
 
           pub lost_why : Stops v r request stop
           lost_why =

@@ -27,9 +27,9 @@ use Rattle.mmuext_ops.specs.declared.element.Element.TheVariants.{FlushVcpus}
 
 -- no guest sees it
 has_none : (n : Machine) (s mask : ℕ) (answer : Result (Unit {0}) Stop) → IfErr answer IsWait → HasDeeds n s (FlushVcpus mask) answer []
-has_none n s mask (Ok done) kind = told (FlushVcpus mask) (Ok done)
-has_none n s mask (Err (Refused x)) kind = told (FlushVcpus mask) (Err (Refused x))
-has_none n s mask (Err (Paused (Flush vcpu stamp found))) kind = told (FlushVcpus mask) (Err (Paused (Flush vcpu stamp found)))
+has_none n s mask (Ok done) kind = told (FlushVcpus mask) (Ok done) tt
+has_none n s mask (Err (Refused x)) kind = told (FlushVcpus mask) (Err (Refused x)) tt
+has_none n s mask (Err (Paused (Flush vcpu stamp found))) kind = told (FlushVcpus mask) (Err (Paused (Flush vcpu stamp found))) tt
 has_none n s mask (Err (Paused _)) kind = absurd kind
 
 -- what was found stays found

@@ -28,8 +28,10 @@ use Rattle.partial_state.specs.Levels.{level_type}
 use Rattle.table_words.specs.Pins.{pinned_kind, unpinned_kind}
 use Rattle.table_courses.specs.Acquiring.{Acquired, GaveRef, GotRef, Named}
 use Rattle.level_release.specs.Course.{WasReleased, WithGate}
+use Rattle.desc_pages.specs.Ldt.{SetsLdt}
+use Rattle.whole_pages.specs.Whole.{ClearsPage, CopiesPage}
 use Rattle.mmuext_ops.specs.declared.element.Element.{Element}
-use Rattle.mmuext_ops.specs.declared.element.Element.TheVariants.{Pin, Unpin, NewBase, NewUserBase, FlushLocal, Invalidate, FlushVcpus, Unknown}
+use Rattle.mmuext_ops.specs.declared.element.Element.TheVariants.{Pin, Unpin, NewBase, NewUserBase, FlushLocal, Invalidate, FlushVcpus, SetLdt, ClearPage, CopyPage, Unknown}
 
 -- the kind word of frame f was looked at
 abbrev pub SawKind : PortValue → PortValue → ℕ → ℕ → Type 0
@@ -131,6 +133,9 @@ Performed v w d (NewUserBase f) awaited answers answer = SetsBase v w User (user
 Performed v w d FlushLocal awaited answers answer = FlushedLocal v w answers answer
 Performed v w d (Invalidate va) awaited answers answer = Invalidated v w va answers answer
 Performed v w d (FlushVcpus mask) awaited answers answer = WaitedForVcpus v w mask awaited answers answer
+Performed v w d (SetLdt address entries) awaited answers answer = (answers ≡ []) × SetsLdt v address entries w answer
+Performed v w d (ClearPage f) awaited answers answer = (answers ≡ []) × ClearsPage v d f w answer
+Performed v w d (CopyPage to from) awaited answers answer = (answers ≡ []) × ((words : List ℕ) × CopiesPage v d to from words w answer)
 Performed v w d Unknown awaited answers answer = (w ≡ v) × (answers ≡ []) × (answer ≡ Err (Refused refusals.BadCommand))
 
 abbrev pub PerformsBy : PortValue → PortValue → ℕ → Element → Option ℕ → (ℕ → Bool) → ℕ → ℕ → ℕ → ℕ → Result (Unit {0}) Stop → Type 0

@@ -1,5 +1,6 @@
 -- The elements of `mmuext_op`: what each asks for, what a guest sees of it, and what it leaves in hand.
-use Rattle.std.specs.Prelude.{◌≡◌, ◌⊎◌, ◌==◌, ◌||◌, ℕ, ◌+◌, ◌%◌, ◌^◌, nat_lt, if◌then◌else◌, Bool, true, false, List, [], ◌∷◌, Option, Some, None, Result, Ok, Err, IfErr}
+use Rattle.std.specs.Prelude.{◌≡◌, ◌⊎◌, ◌==◌, ◌||◌, ℕ, ◌+◌, ◌%◌, ◌^◌, nat_lt, if◌then◌else◌, Bool, true, false, List, [], ◌∷◌, length, Option, Some, None, Result, Ok, Err, IfErr}
+use Rattle.xp_words.specs.ContextWords.{ldt_write}
 use Rattle.xp_words.specs.Machine.{Machine}
 use Rattle.xp_words.specs.declared.ops.ExtOp.{ExtOp}
 use Rattle.xp_words.specs.declared.place.Place.TheVariants.{Kind}
@@ -19,15 +20,17 @@ use Rattle.tlb_walks.specs.Addresses.{is_canonical, page_of}
 use Rattle.tlb_walks.specs.Dropping.{of_flush}
 use Rattle.partial_state.specs.Levels.{level_type}
 use Rattle.level_release.specs.Asking.{is_due_answer}
+use Rattle.desc_pages.specs.Ldt.{IsLdtStop, ldt_base, of_ldt, unnamed_from}
+use Rattle.whole_pages.specs.Whole.{IsWholeStop, clears, copies, of_clear, of_copy}
 use Rattle.mmuext_ops.specs.declared.element.Element.{Element}
-use Rattle.mmuext_ops.specs.declared.element.Element.TheVariants.{Pin, Unpin, NewBase, NewUserBase, FlushLocal, Invalidate, FlushVcpus, Unknown}
+use Rattle.mmuext_ops.specs.declared.element.Element.TheVariants.{Pin, Unpin, NewBase, NewUserBase, FlushLocal, Invalidate, FlushVcpus, SetLdt, ClearPage, CopyPage, Unknown}
 
 -- ---- what an element asks for
 -- A mask has a bit for each of 16 vCPUs; commands 8 and 9 have one, 10 and 11 are for all of the domain. INVLPG of others empties their whole caches.
 abbrev pub every_vcpu : ℕ
 every_vcpu = 65535
 
--- commands 5 and 15 set a base, 6 and 7 drop own translations, and 8 to 11 those of vCPUs of the domain
+-- commands 5 and 15 set a base, 6 and 7 drop own translations, and 8 to 11 those of vCPUs of the domain; 13 sets the LDT, and 16 and 17 clear and copy pages
 abbrev pub own_element : ℕ → ℕ → ℕ → Element
 own_element command first second =
     if command == 5 then NewBase first
@@ -35,7 +38,10 @@ own_element command first second =
     else if command == 7 then Invalidate first
     else if (command == 8) || (command == 9) then FlushVcpus (second % 2 ^ 16)
     else if (command == 10) || (command == 11) then FlushVcpus every_vcpu
+    else if command == 13 then SetLdt first second
     else if command == 15 then NewUserBase first
+    else if command == 16 then ClearPage first
+    else if command == 17 then CopyPage first second
     else Unknown
 
 -- commands 0 to 3 pin a frame as a table of levels 1 to 4, and 4 unpins one
@@ -63,10 +69,14 @@ ext_request n s d (NewUserBase f) awaited answer = of_base d (user_frame f) (may
 ext_request n s d FlushLocal awaited answer = of_flush
 ext_request n s d (Invalidate va) awaited answer = record (of_frame 0 0 None) { names = λ f. false }
 ext_request n s d (FlushVcpus mask) awaited answer = of_wait n s mask awaited
+ext_request n s d (SetLdt address entries) awaited answer = of_ldt d address entries
+ext_request n s d (ClearPage f) awaited answer = of_clear d f
+ext_request n s d (CopyPage to from) awaited answer = of_copy d to from
 ext_request n s d Unknown awaited answer = of_numbers refusals.BadCommand
 
 -- ---- what a guest sees
--- the one deed of an element that is done; one that is not has none, but for the exchange that was lost
+-- The deeds of an element that is done: one of most elements; all words of an LDT or of a page that is cleared. One that is not done has none, but for the
+-- exchange that was lost. Those of a copy are not told by its numbers.
 abbrev pub ext_deeds : Machine → ℕ → Element → Result (Unit {0}) Stop → List Deed
 ext_deeds n s (Pin f level) (Ok done) = Pins f ∷ []
 ext_deeds n s (Unpin f) (Ok done) = Unpins f ∷ []
@@ -75,13 +85,21 @@ ext_deeds n s (NewUserBase f) (Ok done) = SetsWord s 1 (naming (user_frame f)) �
 ext_deeds n s (Invalidate va) (Ok done) = only_if (is_canonical va) (Forgets (page_of va))
 ext_deeds n s FlushLocal (Ok done) = []
 ext_deeds n s (FlushVcpus mask) (Ok done) = []
+ext_deeds n s (SetLdt address entries) (Ok done) = SetsWord s 7 (ldt_write (ldt_base address entries)) ∷ unnamed_from s 0 16
+ext_deeds n s (ClearPage f) (Ok done) = clears f 512
+ext_deeds n s (CopyPage to from) (Ok done) = []
 ext_deeds n s Unknown (Ok done) = []
 ext_deeds n s _ (Err e) = missed n e
 
--- The answer to an element tells its deeds, but for an exchange that it hides: one that found another word, for which a pin or an unpin
--- is refused at once.
+abbrev pub IsTold : Element → Result (Unit {0}) Stop → Type 0
+IsTold (CopyPage to from) (Ok done) = ⊥
+IsTold _ _ = Unit {0}
+
+-- The answer to an element tells its deeds, but for the words that are copied, and for an exchange that it hides: one that found another word, for which a
+-- pin or an unpin is refused at once.
 pub data HasDeeds (n : Machine) (s : ℕ) : Element → Result (Unit {0}) Stop → List Deed → Type 0 where
-  told : (e : Element) (answer : Result (Unit {0}) Stop) → HasDeeds n s e answer (ext_deeds n s e answer)
+  told : (e : Element) (answer : Result (Unit {0}) Stop) → IsTold e answer → HasDeeds n s e answer (ext_deeds n s e answer)
+  copied : (to from : ℕ) (words : List ℕ) → length words ≡ 512 → HasDeeds n s (CopyPage to from) (Ok tt) (copies to words)
   raced_pin : (f level found : ℕ) → HasDeeds n s (Pin f level) (Err (Refused (refusals.AlreadyPinned found))) (Misses (Kind f) ∷ [])
   raced_unpin : (f found : ℕ) → HasDeeds n s (Unpin f) (Err (Refused (refusals.NotPinned found))) (Misses (Kind f) ∷ [])
 
@@ -136,6 +154,9 @@ IsElementStop (NewUserBase f) e = IsBaseStop (user_frame f) e
 IsElementStop FlushLocal e = IsSpentStop e
 IsElementStop (Invalidate va) e = ⊥
 IsElementStop (FlushVcpus mask) e = IsWait e
+IsElementStop (SetLdt address entries) e = IsLdtStop e
+IsElementStop (ClearPage f) e = IsWholeStop e
+IsElementStop (CopyPage to from) e = IsWholeStop e
 IsElementStop Unknown e = e ≡ Refused refusals.BadCommand
 
 -- ---- what it leaves in hand: nothing; and what is known of the first old word

@@ -21,6 +21,12 @@ pub enum Element {
     /// Commands 8 to 11 (`MMUEXT_TLB_FLUSH_MULTI`, `MMUEXT_INVLPG_MULTI`, `MMUEXT_TLB_FLUSH_ALL` and `MMUEXT_INVLPG_ALL`): vCPUs of the own domain
     /// are waited for until each has dropped all its translations. Bit v of the mask is vCPU v; the last two commands mean all.
     FlushVcpus { mask: u16 },
+    /// Command 13 (`MMUEXT_SET_LDT`): the LDT of the vCPU is set to that address and number of entries.
+    SetLdt { address: u64, entries: u64 },
+    /// Command 16 (`MMUEXT_CLEAR_PAGE`): all words of a frame are set to 0.
+    ClearPage { frame: u64 },
+    /// Command 17 (`MMUEXT_COPY_PAGE`): all words of a frame are copied into another one.
+    CopyPage { to: u64, from: u64 },
     /// No command of the simulated interface.
     Unknown,
 }
@@ -56,7 +62,16 @@ pub(crate) fn element_of(op: ExtOp) -> Element
             mask: (op.second & 0xffff) as u16,
         },
         10 | 11 => Element::FlushVcpus { mask: EVERY_VCPU },
+        13 => Element::SetLdt {
+            address: op.first,
+            entries: op.second,
+        },
         15 => Element::NewUserBase { frame: op.first },
+        16 => Element::ClearPage { frame: op.first },
+        17 => Element::CopyPage {
+            to: op.first,
+            from: op.second,
+        },
         _ => Element::Unknown,
     }
 }

@@ -15,7 +15,9 @@ use crate::pinning::pin;
 use crate::translations::{flush_local, invalidate};
 use crate::unpinning::unpin;
 use crate::waiting::flush_vcpus;
+use desc_pages::set_ldt;
 use table_bases::{new_base, new_user_base};
+use whole_pages::{clear_page, copy_page};
 use xp_board::Port;
 use xp_preempt::Preempt;
 use xp_words::{ExtOp, Pause, Refusal, Stop};
@@ -61,6 +63,9 @@ pub fn perform<P: Port>(
             Ok(())
         }
         Element::FlushVcpus { mask } => flush_vcpus(port, mask, awaited),
+        Element::SetLdt { address, entries } => set_ldt(port, address, entries),
+        Element::ClearPage { frame } => clear_page(port, domain, frame),
+        Element::CopyPage { to, from } => copy_page(port, domain, to, from),
         Element::Unknown => Err(Stop::Refused(Refusal::BadCommand)),
     }
 }

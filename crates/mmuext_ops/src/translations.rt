@@ -10,7 +10,7 @@ use xp_board::Port;
 use xp_words::Stop;
 
 /// All of them.
-pub(crate) fn flush_local<P: Port>(port: &mut P) -> Result<(), Stop>
+pub fn flush_local<P: Port>(port: &mut P) -> Result<(), Stop>
     requires rests { Rests (P.value port.old) }
     ensures serves { (d : ℕ) → ServesElement (P.value port.old) (P.value port.new) d FlushLocal None result }
     ensures stops { (d : ℕ) → IfErr result (λ e. Stops (P.value port.old) (P.value port.new) (ext_request (P.value port.old).post.machine (P.value port.old).post.vcpu d FlushLocal None result) e) }
@@ -26,7 +26,7 @@ pub(crate) fn flush_local<P: Port>(port: &mut P) -> Result<(), Stop>
 }
 
 /// Those of the page of an address.
-pub(crate) fn invalidate<P: Port>(port: &mut P, va: u64)
+pub fn invalidate<P: Port>(port: &mut P, va: u64)
     requires rests { Rests (P.value port.old) }
     ensures serves { (d : ℕ) → ServesElement (P.value port.old) (P.value port.new) d (Invalidate va) None (Ok tt) }
     ensures hand { FlushedSame (P.value port.old) (P.value port.new) }

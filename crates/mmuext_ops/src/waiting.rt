@@ -14,11 +14,7 @@ use xp_words::Stop;
 
 /// Waits until each vCPU of the mask that belongs to the own domain has dropped its translations: the own one drops them at once, each
 /// other is asked to. It is waited for past the clock value that is found first, or past `awaited`, where the wait began in an earlier turn.
-pub(crate) fn flush_vcpus<P: Port>(
-    port: &mut P,
-    mask: u16,
-    awaited: Option<u64>,
-) -> Result<(), Stop>
+pub fn flush_vcpus<P: Port>(port: &mut P, mask: u16, awaited: Option<u64>) -> Result<(), Stop>
     requires rests { Rests (P.value port.old) }
     requires known { KnowsAwaited (P.value port.old) awaited }
     ensures serves { (d : ℕ) → ServesElement (P.value port.old) (P.value port.new) d (FlushVcpus mask) awaited result }

@@ -4,6 +4,7 @@ use Rattle.mmuext_ops.specs.declared.element.Element.TheVariants.{FlushLocal, Fl
 use Rattle.mmuext_ops.proofs.Numbers.{unknown_course, unknown_serves, unknown_stops}
 use Rattle.mmuext_ops.proofs.Rests.{spent_undue, ungated, wait_undue}
 use Rattle.mmuext_ops.proofs.Setting.{base_stops, kernel_serves, user_serves}
+use Rattle.mmuext_ops.proofs.Wholes.{clear_course, clear_serves, copy_course, copy_serves, ldt_course, ldt_serves, ldt_stops}
 use Rattle.mmuext_ops.proofs.elements.perform.Goals as goal
 
 -- ---- a new base
@@ -58,6 +59,36 @@ pub returns-in-FlushVcpus-clause-course : goal.returns-in-FlushVcpus-clause-cour
 returns-in-FlushVcpus-clause-course g c =
     rw (sym c.element_of.ensures ∙ c.in-FlushVcpus.is)
     (ungated (g.P.Port.value c.args.port.now) (g.P.Port.value c.flush_vcpus.new.port) c.args.domain (FlushVcpus c.in-FlushVcpus.mask) c.args.awaited c.flush_vcpus.result _ _ _ c.flush_vcpus.ensures.course (wait_undue c.flush_vcpus.result c.flush_vcpus.ensures.kinds))
+
+-- ---- the LDT
+pub returns-in-SetLdt-clause-serves : goal.returns-in-SetLdt-clause-serves
+returns-in-SetLdt-clause-serves g c = rw (sym c.element_of.ensures ∙ c.in-SetLdt.is) (ldt_serves c.args.awaited {address = c.in-SetLdt.address} {entries = c.in-SetLdt.entries} c.set_ldt.result c.requires.own c.set_ldt.ensures)
+
+pub returns-in-SetLdt-clause-stops : goal.returns-in-SetLdt-clause-stops
+returns-in-SetLdt-clause-stops g c = rw (sym c.element_of.ensures ∙ c.in-SetLdt.is) (ldt_stops c.args.awaited {address = c.in-SetLdt.address} {entries = c.in-SetLdt.entries} c.set_ldt.result c.requires.own c.set_ldt.ensures)
+
+pub returns-in-SetLdt-clause-course : goal.returns-in-SetLdt-clause-course
+returns-in-SetLdt-clause-course g c = rw (sym c.element_of.ensures ∙ c.in-SetLdt.is) (ldt_course c.args.awaited {address = c.in-SetLdt.address} {entries = c.in-SetLdt.entries} c.set_ldt.result c.requires.own c.set_ldt.ensures _ _ _)
+
+-- ---- a page cleared
+pub returns-in-ClearPage-clause-serves : goal.returns-in-ClearPage-clause-serves
+returns-in-ClearPage-clause-serves g c = rw (sym c.element_of.ensures ∙ c.in-ClearPage.is) (clear_serves c.args.awaited {f = c.in-ClearPage.frame} c.clear_page.result c.clear_page.ensures)
+
+pub returns-in-ClearPage-clause-stops : goal.returns-in-ClearPage-clause-stops
+returns-in-ClearPage-clause-stops g c = rw (sym c.element_of.ensures ∙ c.in-ClearPage.is) (c.clear_page.ensures.stops)
+
+pub returns-in-ClearPage-clause-course : goal.returns-in-ClearPage-clause-course
+returns-in-ClearPage-clause-course g c = rw (sym c.element_of.ensures ∙ c.in-ClearPage.is) (clear_course c.args.awaited {f = c.in-ClearPage.frame} c.clear_page.result c.clear_page.ensures _ _ _)
+
+-- ---- a page copied
+pub returns-in-CopyPage-clause-serves : goal.returns-in-CopyPage-clause-serves
+returns-in-CopyPage-clause-serves g c = rw (sym c.element_of.ensures ∙ c.in-CopyPage.is) (copy_serves c.args.awaited {to = c.in-CopyPage.to} {from = c.in-CopyPage.from} c.copy_page.result c.copy_page.ensures)
+
+pub returns-in-CopyPage-clause-stops : goal.returns-in-CopyPage-clause-stops
+returns-in-CopyPage-clause-stops g c = rw (sym c.element_of.ensures ∙ c.in-CopyPage.is) (c.copy_page.ensures.stops)
+
+pub returns-in-CopyPage-clause-course : goal.returns-in-CopyPage-clause-course
+returns-in-CopyPage-clause-course g c = rw (sym c.element_of.ensures ∙ c.in-CopyPage.is) (copy_course c.args.awaited {to = c.in-CopyPage.to} {from = c.in-CopyPage.from} c.copy_page.result c.copy_page.ensures _ _ _)
 
 -- ---- no element
 pub returns-in-Unknown-clause-serves : goal.returns-in-Unknown-clause-serves
