@@ -1,5 +1,5 @@
 -- A wait that goes on in a later turn: the vCPU had found the clock value past which it waits.
-use Rattle.std.proofs.Common.{◌≡◌, ℕ, ◌+◌, ◌==◌, if◌then◌else◌, Bool, true, false, List, length, slice_get, Option, Some, None, Result, Ok, Err, refl, sym, ap, ◌∙◌, inl, inr, subst}
+use Rattle.std.proofs.Common.{◌≡◌, ℕ, zero, suc, ◌+◌, ◌==◌, if◌then◌else◌, Bool, true, false, List, length, slice_get, Option, Some, None, Result, Ok, Err, refl, sym, ap, ◌∙◌, inl, inr, subst}
 use Rattle.xp_words.specs.declared.ops.ExtOp.{ExtOp}
 use Rattle.xp_words.specs.declared.reply.Pause.{Pause}
 use Rattle.xp_words.specs.declared.reply.Pause.TheVariants.{Due, Lost, Busy, Flush, Alive}
@@ -11,10 +11,11 @@ use Rattle.level_release.specs.Asking.{IsReleaseEnd}
 use Rattle.mmuext_ops.specs.Elements.{KnowsAwaited, awaited_by, ext_element}
 use Rattle.mmuext_ops.specs.declared.element.Element.{Element}
 use Rattle.mmuext_ops.specs.declared.element.Element.TheVariants as elements
-use Rattle.vcpu_turn.specs.Cpus.{OfExt, Task, awaited_at, awaited_in, awaited_left}
+use Rattle.vcpu_turn.specs.Cpus.{OfExt, OfMapping, Task, awaited_at, awaited_behind, awaited_in, awaited_left}
 use Rattle.vcpu_turn.specs.Lists.{Answering, WorksOn, all_done, last_done, due, stopped, is_due_answer, WorksThrough}
 use Rattle.vcpu_turn.specs.Settling as settling
 use Rattle.vcpu_turn.specs.Ext.{ExtFits, FitsExt, Performs, awaited_for}
+use Rattle.vcpu_turn.specs.Mappings.{AwaitsWhere}
 use Rattle.vcpu_turn.specs.Settling.{SettlesFirst}
 use Rattle.vcpu_turn.specs.Working.{valued}
 
@@ -46,6 +47,9 @@ release_waits_for_none (elements.FlushVcpus mask) (Paused (Lost place expected f
 release_waits_for_none (elements.FlushVcpus mask) (Paused (Busy f found)) is = refl
 release_waits_for_none (elements.FlushVcpus mask) (Paused (Flush u stamp found)) is = absurd is
 release_waits_for_none (elements.FlushVcpus mask) (Paused (Alive u found)) is = refl
+release_waits_for_none (elements.SetLdt address entries) stop is = refl
+release_waits_for_none (elements.ClearPage f) stop is = refl
+release_waits_for_none (elements.CopyPage to from) stop is = refl
 release_waits_for_none elements.Unknown stop is = refl
 
 due_waits_for_none : (x : Option ExtOp) → awaited_at x Due ≡ None
@@ -102,6 +106,14 @@ pub ext_awaits : (d : ℕ) (list : List ExtOp) (from : ℕ) (awaited : Option �
     WorksThrough (ExtFits d list from awaited) (length list) v from to w answers ended → KnowsAwaited w (awaited_left (Some (OfExt list)) to answer)
 ext_awaits d list from awaited v to w answers ended answer valued_is works =
     knows_left (Some (OfExt list)) w to answer (λ p is. through_awaits d list from awaited (length list) v p to w answers ended (pauses_too p ended answer valued_is is) works)
+
+-- an update by address: behind its entry it waits for all vCPUs
+pub mapping_awaits : (foreign va word flags to : ℕ) (w : PortValue) (ended : Result (Unit {0}) Stop) (answer : Result ℕ Stop) → answer ≡ valued ended → AwaitsWhere w to ended → KnowsAwaited w (awaited_left (Some (OfMapping foreign va word flags)) to answer)
+mapping_awaits foreign va word flags to w ended answer valued_is waits = knows_left (Some (OfMapping foreign va word flags)) w to answer (λ p is. by to p (pauses_too p ended answer valued_is is) waits)
+  where
+    by : (k : ℕ) (p : Pause) → ended ≡ Err (Paused p) → AwaitsWhere w k ended → KnowsAwaited w (awaited_behind k p)
+    by zero p is known = tt
+    by (suc k) p is known = subst (λ (a : Result (Unit {0}) Stop). AwaitsWhere w (suc k) a) is known
 
 -- by what stands next
 pub built_awaits : (o : Option Task) (task : Task) → o ≡ Some task → (w : PortValue) (to : ℕ) (answer : Result ℕ Stop) → KnowsAwaited w (awaited_left (Some task) to answer) → KnowsAwaited w (awaited_left o to answer)

@@ -12,7 +12,7 @@ use Rattle.xp_board.specs.Told.{PortValue}
 use Rattle.foreign_map.specs.declared.owners.Owners.{Owners}
 use Rattle.tlb_walks.specs.Asking.{IsGuestReadStop, IsGuestWriteStop}
 use Rattle.vcpu_turn.specs.Lists.{Answering, Fitting, WorksOn, is_due_answer, WorksThrough}
-use Rattle.vcpu_turn.specs.Cpus.{OfExt, OfMem, OfPairs, OfRead, OfWrite, Task, left_waiting}
+use Rattle.vcpu_turn.specs.Cpus.{OfDescriptors, OfExt, OfMapping, OfMem, OfPairs, OfRead, OfWrite, Task, left_waiting}
 use Rattle.vcpu_turn.specs.Extents.{Block, given_lines}
 use Rattle.vcpu_turn.specs.Pairs.{FindsOwners, PairFits, WorksOwned, long, none, unowned, owned}
 use Rattle.vcpu_turn.specs.Working.{GoesExtents, IsPlaced, Valued, WentOn, Works, gave_of, valued}
@@ -106,6 +106,8 @@ module _ (d : ℕ) (awaited : Option ℕ) (v : PortValue) (from to : ℕ) (w : P
   placed_plain (Some (OfPairs foreign pairs)) plain works old = refl
   placed_plain (Some (OfExt list)) plain works old = refl
   placed_plain (Some (OfMem command order items)) plain works old = absurd plain
+  placed_plain (Some (OfMapping foreign va word flags)) plain works old = refl
+  placed_plain (Some (OfDescriptors tables)) plain works old = refl
   placed_plain (Some (OfRead user va)) plain works old = refl
   placed_plain (Some (OfWrite user va val)) plain works old = refl
 
@@ -114,6 +116,8 @@ module _ (d : ℕ) (awaited : Option ℕ) (v : PortValue) (from to : ℕ) (w : P
   gave_plain (Some (OfPairs foreign pairs)) plain works = refl
   gave_plain (Some (OfExt list)) plain works = refl
   gave_plain (Some (OfMem command order items)) plain works = absurd plain
+  gave_plain (Some (OfMapping foreign va word flags)) plain works = refl
+  gave_plain (Some (OfDescriptors tables)) plain works = refl
   gave_plain (Some (OfRead user va)) plain works = refl
   gave_plain (Some (OfWrite user va val)) plain works = refl
 

@@ -60,8 +60,12 @@ pub reserved_warm : {owner size : ℕ} {extent : Extent} {from : ℕ} {v : PortV
 reserved_warm {v = v} {w = w} r warm = came_warm v w (serves_came v w _ _ r.serves.serves) (ap (λ (y : PortValue). y.holdings.ran) r.hand) warm
 
 -- ---- an element of `mmuext_op`
-ran_of : (v w : PortValue) → FlushedSame v w → w.holdings.ran ≡ v.holdings.ran
+pub ran_of : (v w : PortValue) → FlushedSame v w → w.holdings.ran ≡ v.holdings.ran
 ran_of v w same = ap (λ (y : PortValue). y.holdings.ran) same
+
+-- a call that leaves nothing in hand
+pub kept_warm : (v w : PortValue) → Came v w → FlushedSame v w → IsWarm v → IsWarm w
+kept_warm v w came same warm = came_warm v w came (ran_of v w same) warm
 
 base_ran : (v w : PortValue) (new : Option ℕ) (answer : Result (Unit {0}) Stop) → LeavesBase v w new answer → w.holdings.ran ≡ v.holdings.ran
 base_ran v w new (Ok done) (inl same) = ran_of v w same
@@ -84,6 +88,9 @@ element_ran v w (elements.NewUserBase f) answer leaves = base_ran v w _ answer l
 element_ran v w elements.FlushLocal answer same = ran_of v w same
 element_ran v w (elements.Invalidate va) answer same = ran_of v w same
 element_ran v w (elements.FlushVcpus mask) answer same = ran_of v w same
+element_ran v w (elements.SetLdt address entries) answer same = ran_of v w same
+element_ran v w (elements.ClearPage f) answer same = ran_of v w same
+element_ran v w (elements.CopyPage to from) answer same = ran_of v w same
 element_ran v w elements.Unknown answer same = ran_of v w same
 
 module _ (d : ℕ) (awaited : Option ℕ) (v w : PortValue) (came : Came v w) (ran : w.holdings.ran ≡ v.holdings.ran) where

@@ -1,5 +1,5 @@
 -- The vCPUs between their turns: their operations, and what they answered.
-use Rattle.std.specs.Prelude.{ℕ, ◌+◌, ◌-◌, min, Bool, true, false, List, [], ◌∷◌, ◌++◌, drop, length, slice_get, sum_by, Option, Some, None, Result, Ok, Err}
+use Rattle.std.specs.Prelude.{ℕ, zero, suc, ◌+◌, ◌-◌, min, Bool, true, false, List, [], ◌∷◌, ◌++◌, drop, length, slice_get, sum_by, Option, Some, None, Result, Ok, Err}
 use Rattle.xp_words.specs.declared.ops.ExtOp.{ExtOp}
 use Rattle.xp_words.specs.declared.ops.Pair.{Pair}
 use Rattle.xp_words.specs.declared.ops.Call.{Call}
@@ -13,8 +13,12 @@ use Rattle.xp_words.specs.declared.reply.Stop.{Stop}
 use Rattle.xp_words.specs.declared.reply.Stop.TheVariants.{Refused, Paused}
 use Rattle.xp_words.specs.declared.reply.LogLine.{LogLine}
 use Rattle.xp_words.specs.declared.reply.LogLine.TheVariants as lines
-use Rattle.mmuext_ops.specs.Elements.{awaited_by, ext_element}
+use Rattle.mmuext_ops.specs.Elements.{awaited_by, every_vcpu, ext_element}
+use Rattle.mmuext_ops.specs.declared.element.Element.TheVariants.{FlushVcpus}
+use Rattle.vcpu_turn.specs.Descriptors.{DescriptorTask, SetDescriptor, SetGdt, TouchLdt}
 use Rattle.vcpu_turn.specs.Extents.{begins_in, extents_in, gives_blocks, mem_refusal}
+use Rattle.vcpu_turn.specs.declared.descriptors.Descriptors.{Descriptors}
+use Rattle.vcpu_turn.specs.declared.descriptors.Descriptors.TheVariants as tables
 use Rattle.vcpu_turn.specs.declared.tasks.Viewed.{Viewed}
 use Rattle.vcpu_turn.specs.declared.tasks.Viewed.TheVariants as viewing
 use Rattle.vcpu_turn.specs.declared.cpu.Progress.{Progress}
@@ -50,24 +54,35 @@ abbrev pub next_of : Processing → Option Op
 next_of c = slice_get c.script c.answered
 
 -- ---- operations that are built: lists of `mmu_update`, with the number that names whose tables and frames they are about, of `mmuext_op`, and of
--- `memory_op`, with its command and order; and reads and writes of the guest
+-- `memory_op`, with its command and order; updates by address, with the number that names whose frame is mapped, the word, and the flags; those on descriptor tables; and
+-- reads and writes of the guest
 pub data Task : Type 0 where
   OfPairs : ℕ → List Pair → Task
   OfExt : List ExtOp → Task
   OfMem : ℕ → ℕ → List ℕ → Task
+  OfMapping : (foreign va word flags : ℕ) → Task
+  OfDescriptors : DescriptorTask → Task
   OfRead : Bool → ℕ → Task
   OfWrite : Bool → ℕ → ℕ → Task
+
+-- the number that stands for the own domain (`DOMID_SELF` of xen.h)
+abbrev pub own_frames : ℕ
+own_frames = 32752
 
 abbrev pub task_in : Call → Option Task
 task_in (calls.Mmu foreign pairs) = Some (OfPairs foreign pairs)
 task_in (calls.Ext list) = Some (OfExt list)
 task_in (calls.Mem command order items) = Some (OfMem command order items)
-task_in _ = None
+task_in (calls.Va va word flags) = Some (OfMapping own_frames va word flags)
+task_in (calls.VaOther va word flags domain) = Some (OfMapping domain va word flags)
+task_in (calls.Gdt entries frames) = Some (OfDescriptors (SetGdt entries frames))
+task_in (calls.Desc address word) = Some (OfDescriptors (SetDescriptor address word))
 
 abbrev pub task_of : Op → Option Task
 task_of (ops.One call) = task_in call
 task_of (ops.Read user va) = Some (OfRead user va)
 task_of (ops.Write user va val) = Some (OfWrite user va val)
+task_of (ops.TouchLdt page) = Some (OfDescriptors (TouchLdt page))
 task_of _ = None
 
 -- the operation that stands next, where there is one that is built
@@ -76,10 +91,17 @@ task_next (Some op) = task_of op
 task_next None = None
 
 -- as the code sees them
+abbrev pub viewed_descriptors : Descriptors → DescriptorTask
+viewed_descriptors (tables.Gdt entries frames) = SetGdt entries frames.now
+viewed_descriptors (tables.Descriptor address word) = SetDescriptor address word
+viewed_descriptors (tables.Ldt page) = TouchLdt page
+
 abbrev pub viewed : Viewed → Task
 viewed (viewing.Pairs foreign pairs) = OfPairs foreign pairs.now
 viewed (viewing.Ext list) = OfExt list.now
 viewed (viewing.Mem command order items) = OfMem command order items.now
+viewed (viewing.Mapping m) = OfMapping m.foreign m.va m.word m.flags
+viewed (viewing.Descriptors tables) = OfDescriptors (viewed_descriptors tables)
 viewed (viewing.Read user va) = OfRead user va
 viewed (viewing.Write user va val) = OfWrite user va val
 
@@ -87,6 +109,8 @@ abbrev pub size_of : Task → ℕ
 size_of (OfPairs foreign pairs) = length pairs
 size_of (OfExt list) = length list
 size_of (OfMem command order items) = extents_in command items
+size_of (OfMapping foreign va word flags) = 1
+size_of (OfDescriptors tables) = 1
 size_of (OfRead user va) = 1
 size_of (OfWrite user va val) = 1
 
@@ -109,9 +133,15 @@ abbrev pub awaited_at : Option ExtOp → Pause → Option ℕ
 awaited_at (Some op) p = awaited_by (ext_element op) (Err (Paused p))
 awaited_at None p = None
 
+-- An update by address waits for all vCPUs of the domain once its entry is set; a flush that is waited for before that is another one.
+abbrev pub awaited_behind : ℕ → Pause → Option ℕ
+awaited_behind zero p = None
+awaited_behind (suc done) p = awaited_by (FlushVcpus every_vcpu) (Err (Paused p))
+
 -- an operation was paused with so many elements done: the clock value past which the next of them goes on to wait
 abbrev pub awaited_in : Option Task → ℕ → Pause → Option ℕ
 awaited_in (Some (OfExt list)) done p = awaited_at (slice_get list done) p
+awaited_in (Some (OfMapping foreign va word flags)) done p = awaited_behind done p
 awaited_in _ done p = None
 
 -- and ended so

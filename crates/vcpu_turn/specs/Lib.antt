@@ -1,8 +1,10 @@
 pub mod Accesses
 pub mod Cpus
+pub mod Descriptors
 pub mod Ext
 pub mod Extents
 pub mod Lists
+pub mod Mappings
 pub mod Pairs
 pub mod Settling
 pub mod Turning

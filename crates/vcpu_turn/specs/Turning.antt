@@ -18,7 +18,7 @@ use Rattle.step_maker.specs.Moves.{Moves}
 pub use Rattle.mmuext_ops.specs.Elements.{KnowsAwaited}
 use Rattle.level_release.specs.Course.{left_settled}
 use Rattle.tlb_walks.specs.Dropping.{Acks}
-use Rattle.vcpu_turn.specs.Cpus.{Processing, after_turn, end_of, next_of, nothing_left, task_of}
+use Rattle.vcpu_turn.specs.Cpus.{OfMapping, Processing, Task, after_turn, begins_at, end_of, next_of, nothing_left, task_of}
 use Rattle.xp_words.specs.declared.reply.LogLine.{LogLine}
 use Rattle.vcpu_turn.specs.Extents.{Block, given_lines}
 use Rattle.vcpu_turn.specs.Lists.{asks_between, is_due_answer}
@@ -81,12 +81,17 @@ pub record IsTurn (c c' : Processing) (end : TurnEnd) (v w : PortValue) (answers
   pub does : DoesTurn c (next_of c) begun c' worked answers end
   pub ends : EndsTurn end worked w
 
+-- how often an operation that ended so asks between its elements: an update by address has one, and its wait is none
+abbrev pub asks_for : Option Task → ℕ → ℕ → Result ℕ Stop → ℕ
+asks_for (Some (OfMapping foreign va word flags)) from to answer = 0
+asks_for task from to answer = asks_between (begins_at task from) to answer
+
 -- In a turn an operation went on from element `from` to element `to`, and ended so; and behind the answers to what was settled first the gate was
 -- asked so often: between the elements, and `within` times within them. Or settling was all that the turn did. `below`: how much was left before.
-pub data CountsAsks (below : Option ℕ) (from : ℕ) (end : TurnEnd) (answers : List Bool) (within : ℕ) : Type 0 where
+pub data CountsAsks (below : Option ℕ) (task : Option Task) (from : ℕ) (end : TurnEnd) (answers : List Bool) (within : ℕ) : Type 0 where
   counted : (to : ℕ) (answer : Result ℕ Stop) (u x : PortValue) (early later : List Bool) → Settles below u x early (Ok tt) → end ≡ end_of to answer → answers ≡ later ++ early →
-      length later ≡ asks_between from to answer + within → CountsAsks below from end answers within
-  settling : (u x : PortValue) (p : Pause) → Settles below u x answers (Err (Paused p)) → end ≡ ends.Paused p → within ≡ 0 → CountsAsks below from end answers within
+      length later ≡ asks_for task from to answer + within → CountsAsks below task from end answers within
+  settling : (u x : PortValue) (p : Pause) → Settles below u x answers (Err (Paused p)) → end ≡ ends.Paused p → within ≡ 0 → CountsAsks below task from end answers within
 
 -- the vCPU behind a turn in which the next operation came so far, and was given blocks; or settling was all that it did, and left the vCPU as it was, but for how
 -- much is left

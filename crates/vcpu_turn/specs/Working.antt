@@ -1,12 +1,14 @@
 -- The work of one turn on an operation.
-use Rattle.std.specs.Prelude.{◌≡◌, ◌⊎◌, ℕ, Bool, List, [], ◌++◌, length, Option, Some, None, Result, Ok, Err, All}
+use Rattle.std.specs.Prelude.{◌≡◌, ◌⊎◌, ℕ, Bool, List, [], ◌∷◌, ◌++◌, length, Option, Some, None, Result, Ok, Err, All}
 use Rattle.xp_words.specs.declared.reply.Refusal.TheVariants as refusals
 use Rattle.xp_words.specs.declared.reply.Stop.{Stop}
 use Rattle.xp_board.specs.Told.{PortValue}
 use Rattle.foreign_map.specs.declared.owners.Owners.{Owners}
 use Rattle.xp_words.specs.declared.reply.LogLine.{LogLine}
-use Rattle.vcpu_turn.specs.Cpus.{Task, OfExt, OfMem, OfPairs, OfRead, OfWrite, awaited_left}
-use Rattle.vcpu_turn.specs.Lists.{IsRefusedWhole, Tried, WorksThrough, tried_through}
+use Rattle.vcpu_turn.specs.Cpus.{Task, OfDescriptors, OfExt, OfMapping, OfMem, OfPairs, OfRead, OfWrite, awaited_left}
+use Rattle.vcpu_turn.specs.Descriptors.{DoesDescriptors}
+use Rattle.vcpu_turn.specs.Lists.{IsRefusedWhole, Tried, WorksThrough, tried, tried_through}
+use Rattle.vcpu_turn.specs.Mappings.{MapsWord, PausesOldEntry}
 use Rattle.vcpu_turn.specs.Pairs.{IsNoWrite, PairFits, PausesRelease, WorksOwned, tried_owned}
 use Rattle.vcpu_turn.specs.Extents.{Block, ExtentFits, PlacesExtents, WorksExtents, begins_in, gave_extents, given_lines, tried_extents}
 use Rattle.vcpu_turn.specs.Ext.{ExtFits, IsNoRelease, PausesOldBase, PausesUnpin}
@@ -31,16 +33,20 @@ Works d (Some (OfPairs foreign list)) awaited v from to w answers answer = Value
 Works d (Some (OfExt list)) awaited v from to w answers answer =
     Valued (λ ended. WorksThrough (ExtFits d list from awaited) (length list) v from to w answers ended) answer
 Works d (Some (OfMem command order items)) awaited v from to w answers answer = Valued (λ ended. WorksExtents d command order items v from to w answers ended) answer
+Works d (Some (OfMapping foreign va word flags)) awaited v from to w answers answer = Valued (λ ended. MapsWord d foreign va word flags awaited v from to w answers ended) answer
+Works d (Some (OfDescriptors tables)) awaited v from to w answers answer = Valued (λ ended. DoesDescriptors tables v to w answers ended) answer
 Works d (Some (OfRead user va)) awaited v from to w answers answer = MakesRead user va v to w answers answer
 Works d (Some (OfWrite user va val)) awaited v from to w answers answer = Valued (λ ended. MakesWrite user va val v to w answers ended) answer
 
 -- ---- the elements of a list
--- which of them the turn tried; a read or write has none
+-- which of them the turn tried: an update by address is one; what asks no gate has none
 abbrev pub tried_of : (d : ℕ) (o : Option Task) (awaited : Option ℕ) (v : PortValue) (from to : ℕ) (w : PortValue) (answers : List Bool) (answer : Result ℕ Stop) → Works d o awaited v from to w answers answer → List Tried
 tried_of d None awaited v from to w answers answer refused = []
 tried_of d (Some (OfPairs foreign list)) awaited v from to w answers answer listed = tried_owned listed.works
 tried_of d (Some (OfExt list)) awaited v from to w answers answer listed = tried_through listed.works
 tried_of d (Some (OfMem command order items)) awaited v from to w answers answer listed = tried_extents listed.works
+tried_of d (Some (OfMapping foreign va word flags)) awaited v from to w answers answer maps = tried 0 v w answers maps.ended ∷ []
+tried_of d (Some (OfDescriptors tables)) awaited v from to w answers answer does = []
 tried_of d (Some (OfRead user va)) awaited v from to w answers answer reads = []
 tried_of d (Some (OfWrite user va val)) awaited v from to w answers answer writes = []
 
@@ -49,6 +55,8 @@ abbrev pub ElementFits : ℕ → Task → ℕ → Option ℕ → Tried → Type 
 ElementFits d (OfPairs foreign list) from awaited t = (o : Owners) × PairFits o list t.number t.before t.behind t.asked t.answer
 ElementFits d (OfExt list) from awaited t = ExtFits d list from awaited t.number t.before t.behind t.asked t.answer
 ElementFits d (OfMem command order items) from awaited t = (within : ℕ) × ExtentFits d command order items (begins_in command from) within t.number t.before t.behind t.asked t.answer
+ElementFits d (OfMapping foreign va word flags) from awaited t = (to : ℕ) × MapsWord d foreign va word flags awaited t.before from to t.behind t.asked t.answer
+ElementFits d (OfDescriptors tables) from awaited t = ⊥
 ElementFits d (OfRead user va) from awaited t = ⊥
 ElementFits d (OfWrite user va val) from awaited t = ⊥
 
@@ -57,6 +65,8 @@ abbrev pub PassesYes : Task → Tried → Type 0
 PassesYes (OfPairs foreign list) t = PausesRelease list t
 PassesYes (OfExt list) t = PausesUnpin list t ⊎ PausesOldBase list t
 PassesYes (OfMem command order items) t = ⊥
+PassesYes (OfMapping foreign va word flags) t = PausesOldEntry t
+PassesYes (OfDescriptors tables) t = ⊥
 PassesYes (OfRead user va) t = ⊥
 PassesYes (OfWrite user va val) t = ⊥
 
@@ -65,6 +75,8 @@ abbrev pub ReleasesNothing : Option Task → Type 0
 ReleasesNothing (Some (OfPairs foreign pairs)) = All IsNoWrite pairs
 ReleasesNothing (Some (OfExt list)) = All IsNoRelease list
 ReleasesNothing (Some (OfMem command order items)) = Unit {0}
+ReleasesNothing (Some (OfMapping foreign va word flags)) = ⊥
+ReleasesNothing (Some (OfDescriptors tables)) = Unit {0}
 ReleasesNothing (Some (OfRead user va)) = Unit {0}
 ReleasesNothing (Some (OfWrite user va val)) = Unit {0}
 ReleasesNothing None = Unit {0}

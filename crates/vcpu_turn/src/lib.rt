@@ -4,9 +4,11 @@
 mod accesses;
 mod beginning;
 mod cpu;
+mod descriptors;
 mod ext;
 mod extents;
 mod lists;
+mod mappings;
 mod pairs;
 mod tasks;
 mod turning;

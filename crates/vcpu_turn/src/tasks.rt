@@ -10,13 +10,18 @@ ghost use Rattle.vcpu_turn.specs.Working.{WentOn};
 
 use crate::accesses::{read, write};
 use crate::cpu::Progress;
+use crate::descriptors::{Descriptors, work_on_descriptors};
 use crate::ext::OwnElements;
 use crate::extents::{Extents, go_through_extents};
+use crate::mappings::{Mapping, awaited_behind, map_word};
 use crate::working::{go_through, go_through_pairs, valued};
 use mmuext_ops::awaited_of;
 use xp_board::Port;
 use xp_preempt::Preempt;
 use xp_words::{Call, ExtOp, LogLine, Op, Pair, Pause, Refusal, Stop};
+
+// The number that stands for the own domain (`DOMID_SELF` of `xen.h`).
+const OWN_FRAMES: u64 = 0x7ff0;
 
 // What an operation asks for.
 #[derive(Drop)]
@@ -31,6 +36,8 @@ enum Viewed<'a> {
         order: u64,
         items: &'a [u64],
     },
+    Mapping(Mapping),
+    Descriptors(Descriptors<'a>),
     Read {
         user: bool,
         va: u64,
@@ -67,6 +74,40 @@ fn task_of(op: &Op) -> Option<Viewed<'_>>
             order: *order,
             items: items.as_slice(),
         }),
+        Op::One {
+            call: Call::Va { va, val, flags },
+        } => Some(Viewed::Mapping(Mapping {
+            foreign: OWN_FRAMES,
+            va: *va,
+            word: *val,
+            flags: *flags,
+        })),
+        Op::One {
+            call: Call::VaOther {
+                va,
+                val,
+                flags,
+                domain,
+            },
+        } => Some(Viewed::Mapping(Mapping {
+            foreign: *domain,
+            va: *va,
+            word: *val,
+            flags: *flags,
+        })),
+        Op::One {
+            call: Call::Gdt { entries, frames },
+        } => Some(Viewed::Descriptors(Descriptors::Gdt {
+            entries: *entries,
+            frames: frames.as_slice(),
+        })),
+        Op::One {
+            call: Call::Desc { address, word },
+        } => Some(Viewed::Descriptors(Descriptors::Descriptor {
+            address: *address,
+            word: *word,
+        })),
+        Op::TouchLdt { page } => Some(Viewed::Descriptors(Descriptors::Ldt { page: *page })),
         Op::Read { user, va } => Some(Viewed::Read {
             user: *user,
             va: *va,
@@ -89,6 +130,7 @@ fn awaited_in(op: &Op, done: u32, pause: Pause) -> Option<u64>
             Some(element) => awaited_of(*element, &Err(Stop::Paused(pause))),
             None => None,
         },
+        Some(Viewed::Mapping(_)) => awaited_behind(done, pause),
         _ => None,
     }
 }
@@ -190,6 +232,13 @@ fn go_from<P: Port>(
                 items,
             };
             valued(go_through_extents(port, gate, &list, at, log))
+        }
+        Some(Viewed::Mapping(mapping)) => {
+            let done = &mut at.done;
+            valued(map_word(port, gate, domain, &mapping, done, at.awaited))
+        }
+        Some(Viewed::Descriptors(tables)) => {
+            valued(work_on_descriptors(port, &tables, &mut at.done))
         }
         Some(Viewed::Read { user, va }) => read(port, user, va, &mut at.done),
         Some(Viewed::Write { user, va, val }) => {

@@ -1,7 +1,7 @@
 use Rattle.std.proofs.Common.{Some, ap, ◌∙◌}
-use Rattle.vcpu_turn.specs.Cpus.{OfExt, OfPairs, OfRead, OfWrite, viewed}
+use Rattle.vcpu_turn.specs.Cpus.{OfDescriptors, OfExt, OfMapping, OfPairs, OfRead, OfWrite, viewed, viewed_descriptors}
 use Rattle.vcpu_turn.specs.declared.tasks.Viewed.{Viewed}
-use Rattle.vcpu_turn.proofs.Awaiting.{built_awaits, ext_awaits}
+use Rattle.vcpu_turn.proofs.Awaiting.{built_awaits, ext_awaits, mapping_awaits}
 use Rattle.vcpu_turn.proofs.Gating.{answers_nothing}
 use Rattle.vcpu_turn.proofs.Operations.{built, built_extents, not_built, read_not_due, without_value, write_not_due}
 use Rattle.vcpu_turn.proofs.tasks.go_from.Goals as goal
@@ -31,6 +31,25 @@ pub returns-in-Some-Mem-clause-went : goal.returns-in-Some-Mem-clause-went
 returns-in-Some-Mem-clause-went g c =
     built_extents _ _ _ _ _ _ _ c.in-Some-Mem.command c.in-Some-Mem.order c.in-Some-Mem.items.now (c.in-Some-Mem.ensures.some ∙ ap (λ (l : Viewed). Some (viewed l)) c.in-Some-Mem.field-0-is) _ _ _ _ _ _ _
     c.go_through_extents.result _ c.valued-in-Some-Mem.ensures c.go_through_extents.ensures.works
+
+-- ---- updates by address
+pub returns-in-Some-Mapping-clause-awaits : goal.returns-in-Some-Mapping-clause-awaits
+returns-in-Some-Mapping-clause-awaits g c =
+    let m = c.in-Some-Mapping.mapping in
+    built_awaits _ (OfMapping m.foreign m.va m.word m.flags) (c.in-Some-Mapping.ensures.some ∙ ap (λ (l : Viewed). Some (viewed l)) c.in-Some-Mapping.field-0-is) (g.P.Port.value c.map_word.new.port) c.map_word.new.done c.valued-in-Some-Mapping.result
+    (mapping_awaits m.foreign m.va m.word m.flags c.map_word.new.done (g.P.Port.value c.map_word.new.port) c.map_word.result c.valued-in-Some-Mapping.result c.valued-in-Some-Mapping.ensures c.map_word.ensures.awaits)
+
+pub returns-in-Some-Mapping-clause-went : goal.returns-in-Some-Mapping-clause-went
+returns-in-Some-Mapping-clause-went g c =
+    let m = c.in-Some-Mapping.mapping in
+    built _ _ _ _ _ _ _ (OfMapping m.foreign m.va m.word m.flags) (c.in-Some-Mapping.ensures.some ∙ ap (λ (l : Viewed). Some (viewed l)) c.in-Some-Mapping.field-0-is) _ _ _ _ _ _ tt _
+    (without_value _ _ _ _ _ _ c.map_word.result _ c.valued-in-Some-Mapping.ensures c.map_word.ensures.works)
+
+-- ---- descriptor tables
+pub returns-in-Some-Descriptors-clause-went : goal.returns-in-Some-Descriptors-clause-went
+returns-in-Some-Descriptors-clause-went g c =
+    built _ _ _ _ _ _ _ (OfDescriptors (viewed_descriptors c.in-Some-Descriptors.tables)) (c.in-Some-Descriptors.ensures.some ∙ ap (λ (l : Viewed). Some (viewed l)) c.in-Some-Descriptors.field-0-is) _ _ _ _ _ _ tt _
+    (without_value _ _ _ _ _ _ c.work_on_descriptors.result _ c.valued-in-Some-Descriptors.ensures (answers_nothing _ _ _ _ _ c.work_on_descriptors.ensures.undue c.work_on_descriptors.ensures.works))
 
 -- ---- accesses
 pub returns-in-Some-Read-clause-went : goal.returns-in-Some-Read-clause-went
