@@ -4,7 +4,7 @@ use Rattle.std.proofs.lemmas.Bool.Decides.{nat_tests}
 use Rattle.xp_words.specs.KindWords.{kind_fields, kind_write}
 use Rattle.xp_words.specs.declared.kind.KindWord.{KindWord}
 use Rattle.xp_words.specs.declared.place.Place.{Place}
-use Rattle.xp_words.specs.declared.place.Place.TheVariants.{Clock, Kind, Life, Map, Pages, Refs, Vcpu}
+use Rattle.xp_words.specs.declared.place.Place.TheVariants.{Cell, Clock, Kind, Life, Map, Pages, Refs, Vcpu}
 use Rattle.xp_board.specs.declared.step.Act.{Act}
 use Rattle.xp_board.specs.declared.step.Act.TheVariants.{Load, Store}
 use Rattle.xp_board.specs.declared.step.Mark.{Mark}
@@ -143,6 +143,7 @@ is_quiet Clock = true
 is_quiet (Pages d) = true
 is_quiet (Refs f) = true
 is_quiet (Map k) = true
+is_quiet (Cell f i) = true
 is_quiet _ = false
 
 other_place : (p q : Place) → is_quiet p ≡ true → is_quiet q ≡ false → q ≢ p

@@ -2,8 +2,10 @@
 use Rattle.std.proofs.Common.{◌≡◌, ℕ, ◌+◌, ◌<◌, ◌≤◌, ◌^◌, ◌==◌, ◌&&◌, not, if◌then◌else◌, Bool, true, false, IsTrue, refl, ap, ◌∙◌, arith}
 use Rattle.std.proofs.lemmas.Bool.Decides.{nat_tests}
 use Rattle.xp_words.specs.KindWords.{has_form, is_kind, kind_fields}
+use Rattle.xp_words.specs.PageTypes.{type_number}
 use Rattle.xp_words.specs.declared.kind.KindWord.{KindWord}
 use Rattle.xp_words.specs.declared.kind.PageType.{PageType}
+use Rattle.xp_words.specs.declared.kind.PageType.TheVariants.{Desc}
 use Rattle.xp_board.specs.Readings.{is_work}
 use Rattle.frame_types.specs.Standing.{is_same_type, standing_of}
 use Rattle.frame_types.specs.declared.standing.Standing.{Standing}
@@ -34,17 +36,27 @@ stands_so k want = stands_by k k.validated k.partial k.locked (is_same_type k.ki
 -- ---- ranks by what the word says
 module _ (k : KindWord) where
   pub rank_live : k.validated ≡ true → rank_of k ≡ 515
-  rank_live live = ap (λ b. if b then 515 else if k.partial then (if k.unflushed then 1 else k.progress + 2) else 0) live
+  rank_live live = ap (λ b. if b then 515 else if k.partial then (if k.unflushed then 1 else k.progress + 2) else if type_number k.kind == 5 then 1 else 0) live
 
   module _ (off : k.validated ≡ false) where
-    rank_off : rank_of k ≡ (if k.partial then (if k.unflushed then 1 else k.progress + 2) else 0)
-    rank_off = ap (λ b. if b then 515 else if k.partial then (if k.unflushed then 1 else k.progress + 2) else 0) off
+    rank_off : rank_of k ≡ (if k.partial then (if k.unflushed then 1 else k.progress + 2) else if type_number k.kind == 5 then 1 else 0)
+    rank_off = ap (λ b. if b then 515 else if k.partial then (if k.unflushed then 1 else k.progress + 2) else if type_number k.kind == 5 then 1 else 0) off
 
-    pub rank_dead : k.partial ≡ false → rank_of k ≡ 0
-    rank_dead none = rank_off ∙ ap (λ b. if b then (if k.unflushed then 1 else k.progress + 2) else 0) none
+    dead_by : (b : Bool) → (if b then 1 else 0) ≤ 1
+    dead_by true = omega arith
+    dead_by false = omega arith
+
+    rank_none : k.partial ≡ false → rank_of k ≡ (if type_number k.kind == 5 then 1 else 0)
+    rank_none none = rank_off ∙ ap (λ b. if b then (if k.unflushed then 1 else k.progress + 2) else if type_number k.kind == 5 then 1 else 0) none
+
+    pub rank_dead : k.partial ≡ false → rank_of k ≤ 1
+    rank_dead none = let e = rank_none none in let b = dead_by (type_number k.kind == 5) in omega arith
+
+    pub rank_desc : k.partial ≡ false → k.kind ≡ Desc → rank_of k ≡ 1
+    rank_desc none desc = rank_none none ∙ ap (λ t. if type_number t == 5 then 1 else 0) desc
 
     pub rank_partial : k.partial ≡ true → rank_of k ≡ (if k.unflushed then 1 else k.progress + 2)
-    rank_partial some = rank_off ∙ ap (λ b. if b then (if k.unflushed then 1 else k.progress + 2) else 0) some
+    rank_partial some = rank_off ∙ ap (λ b. if b then (if k.unflushed then 1 else k.progress + 2) else if type_number k.kind == 5 then 1 else 0) some
 
     pub rank_waits : k.partial ≡ true → k.unflushed ≡ true → rank_of k ≡ 1
     rank_waits some marked = rank_partial some ∙ ap (λ b. if b then 1 else k.progress + 2) marked

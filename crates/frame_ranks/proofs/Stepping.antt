@@ -26,10 +26,10 @@ use Rattle.frame_ranks.proofs.Facing.{Calm, Turned, at_kind, calm_then, is_quiet
 use Rattle.frame_ranks.proofs.Reading.{written}
 
 -- ---- lists of steps that are at no kind word, old word or life word
-abbrev IsQuiet : Visit → Type 0
+abbrev pub IsQuiet : Visit → Type 0
 IsQuiet x = is_quiet x.place ≡ true
 
-ran_calm : (v w : PortValue) (ms : List Moment) → Ran v ms w → EachOf IsQuiet (visits ms) → Calm (told_word v) (told_word w)
+pub ran_calm : (v w : PortValue) (ms : List Moment) → Ran v ms w → EachOf IsQuiet (visits ms) → Calm (told_word v) (told_word w)
 unfolding EachOf
 ran_calm v w [] ran off = same_calm (told_word v) (told_word w) (λ q. ap (λ (y : PortValue). told_word y q) ran)
 ran_calm v w (m ∷ ms) ran off =
@@ -49,7 +49,7 @@ puts_quiet f vs p =
     let s = p.steps in
     subst (EachOf IsQuiet) (sym s.list) (each_append IsQuiet s.before s.after (subst (EachOf IsQuiet) (sym s.first) (one_quiet (lowers_refs f p.word) refl)) (frees_quiet f p.last s.after s.next))
 
-puts_calm : (v w : PortValue) (f : ℕ) → Does v w (PutBy f) → Calm (told_word v) (told_word w)
+pub puts_calm : (v w : PortValue) (f : ℕ) → Does v w (PutBy f) → Calm (told_word v) (told_word w)
 unfolding Does
 puts_calm v w f a = ran_calm v w a.0 a.1 (puts_quiet f (visits a.0) a.2)
 

@@ -1,5 +1,5 @@
 -- A turn that is paused for a flush ends with a call that stopped for that.
-use Rattle.std.proofs.Common.{◌≡◌, ◌^◌, ℕ, Bool, List, length, Option, Some, None, Result, Ok, Err, IfErr, refl, sym, subst, inl, inr}
+use Rattle.std.proofs.Common.{◌≡◌, ◌^◌, ℕ, Bool, true, false, List, [], length, Option, Some, None, Result, Ok, Err, IfErr, refl, sym, subst, inl, inr}
 use Rattle.std.specs.Prelude.{slice_get}
 use Rattle.xp_words.specs.declared.ops.ExtOp.{ExtOp}
 use Rattle.xp_words.specs.declared.ops.Op.{Op}
@@ -13,8 +13,13 @@ use Rattle.step_maker.specs.Moves.{Came}
 use Rattle.step_maker.proofs.Coming.{came_self, came_trans, moves_came}
 use Rattle.answer_fits.specs.Answers.{Stops}
 use Rattle.answer_fits.specs.Asked.{Request}
+use Rattle.desc_pages.specs.Descriptors.{of_descriptor}
+use Rattle.desc_pages.specs.Gdt.{of_gdt}
+use Rattle.desc_pages.specs.Names.{own_domain}
 use Rattle.foreign_map.specs.declared.owners.Owners.{Owners}
+use Rattle.ldt_pages.specs.Touching.{of_touch}
 use Rattle.level_release.specs.Asking.{of_settle}
+use Rattle.mmu_update.specs.Addresses.{of_at}
 use Rattle.mmu_update.specs.Elements as pairs
 use Rattle.mmu_update.specs.Fits.{Updates}
 use Rattle.mmu_update.specs.declared.element.Element as updating
@@ -22,14 +27,18 @@ use Rattle.reservations.specs.Extents.{StopsExtent, of_extent}
 use Rattle.reservations.specs.declared.extents.Extent.{Extent}
 use Rattle.mmuext_ops.specs.Elements as elements
 use Rattle.mmuext_ops.specs.declared.element.Element.{Element}
+use Rattle.mmuext_ops.specs.declared.element.Element.TheVariants.{FlushVcpus}
 use Rattle.tlb_walks.specs.Asking.{of_read, of_write}
 use Rattle.vcpu_turn.specs.declared.cpu.TurnEnd.{TurnEnd}
 use Rattle.vcpu_turn.specs.declared.cpu.TurnEnd.TheVariants as ends
 use Rattle.vcpu_turn.specs.Lists.{Fitting, IsRefusedWhole, WorksOn, WorksThrough, all_done, last_done, due, stopped}
-use Rattle.vcpu_turn.specs.Cpus.{OfExt, OfMem, OfPairs, OfRead, OfWrite, Processing, Task, end_of, next_of, nothing_left, task_of}
+use Rattle.vcpu_turn.specs.Cpus.{OfDescriptors, OfExt, OfMapping, OfMem, OfPairs, OfRead, OfWrite, Processing, Task, end_of, next_of, nothing_left, task_of}
+use Rattle.vcpu_turn.specs.Descriptors.{DescriptorFits, DescriptorTask, SetDescriptor, SetGdt, TouchLdt}
 use Rattle.vcpu_turn.specs.Ext.{ExtFits, FitsExt, Performs, awaited_for}
 use Rattle.vcpu_turn.specs.Extents as extending
 use Rattle.vcpu_turn.specs.Extents.{ExtentFits, WorksExtents, begins_in, extents_in, given_by}
+use Rattle.vcpu_turn.specs.Mappings as mapping
+use Rattle.vcpu_turn.specs.Mappings.{DropsBehind, DropsOwn, MapsWord, UpdatesWord, WaitsForAll, own_drop, waits_for_all}
 use Rattle.vcpu_turn.specs.Pairs as owning
 use Rattle.vcpu_turn.specs.Pairs.{FitsPair, PairFits, WorksOwned}
 use Rattle.vcpu_turn.specs.Settling.{Settles, SettlesFirst, unsettled, performed}
@@ -37,7 +46,7 @@ use Rattle.vcpu_turn.specs.Turning as turning
 use Rattle.vcpu_turn.specs.Turning.{DoesNext, DoesTurn, IsTurn}
 use Rattle.vcpu_turn.specs.Working.{Works, valued}
 use Rattle.vcpu_turn.proofs.Turns.{begins_came}
-use Rattle.turn_laws.proofs.Hindering.{did_came, extent_came, exts_came, owners_came, pairs_came, settles_came}
+use Rattle.turn_laws.proofs.Hindering.{behind_came, did_came, drop_came, word_came, extent_came, exts_came, owners_came, pairs_came, settles_came}
 use Rattle.turn_laws.proofs.TurnSteps.{begun_came}
 
 -- some of the steps from v to w are a call that stopped for that
@@ -134,11 +143,47 @@ extents_paused d command order items from {v} (extending.WorksExtents.on to with
     let first = begins_in command from in
     list_paused (ExtentFits d command order items first within) (extent_came d command order items first within) (extent_paused d command order items first within) (extents_in command items) first v to w answers ended works
 
+-- an update by address
+word_paused : (d foreign va word flags : ℕ) (v w : PortValue) (answers : List Bool) (answer : Result (Unit {0}) Stop) → UpdatesWord d foreign va word flags v w answers answer → PausesWithin v w answer
+word_paused d foreign va word flags v _ _ _ (mapping.UpdatesWord.far above) = tt
+word_paused d foreign va word flags v _ _ _ (mapping.UpdatesWord.unowned w x few finds) = tt
+word_paused d foreign va word flags v _ _ _ (mapping.UpdatesWord.flagged w o few finds bad) = tt
+word_paused d foreign va word flags v _ _ _ (mapping.UpdatesWord.owned u w o answers answer few finds good at) =
+    behind v u w answer (owners_came v u d foreign (Ok o) finds) (paused_here u w (of_at o va at.table word answer) answer at.stops)
+
+drop_paused : (d : ℕ) (e : Option Element) (v w : PortValue) (answer : Result (Unit {0}) Stop) → DropsOwn d e v w answer → PausesWithin v w answer
+drop_paused d (Some e) v w answer drops = performs_paused d e None v w [] answer drops
+drop_paused d None v w answer drops = rw drops.1 tt
+
+wait_paused : (d : ℕ) (waits : Bool) (awaited : Option ℕ) (v w : PortValue) (answer : Result (Unit {0}) Stop) → WaitsForAll d waits awaited v w answer → PausesWithin v w answer
+wait_paused d true awaited v w answer waits = performs_paused d (FlushVcpus elements.every_vcpu) awaited v w [] answer waits
+wait_paused d false awaited v w answer waits = rw waits.1 tt
+
+drops_paused : (d flags va : ℕ) (v w : PortValue) (answer : Result (Unit {0}) Stop) → DropsBehind d flags va v w answer → PausesWithin v w answer
+drops_paused d flags va v _ _ (mapping.DropsBehind.undropped w e drops) = drop_paused d (own_drop flags va) v w (Err e) drops
+drops_paused d flags va v _ _ (mapping.DropsBehind.dropped u w answer drops waits) =
+    behind v u w answer (drop_came d (own_drop flags va) v u (Ok tt) drops) (wait_paused d (waits_for_all flags) None u w answer waits)
+
+maps_paused : (d foreign va word flags : ℕ) (awaited : Option ℕ) {v : PortValue} {from to : ℕ} {w : PortValue} {answers : List Bool} {ended : Result (Unit {0}) Stop} → MapsWord d foreign va word flags awaited v from to w answers ended →
+    PausesWithin v w ended
+maps_paused d foreign va word flags awaited {v} (mapping.MapsWord.unset w answers e first) = first_paused (UpdatesWord d foreign va word flags) (word_paused d foreign va word flags) v w answers (Err e) first
+maps_paused d foreign va word flags awaited {v} (mapping.MapsWord.set u w answers answer first drops) =
+    behind v u w answer (behind_came (UpdatesWord d foreign va word flags) (word_came d foreign va word flags) v u answers (Ok tt) first) (drops_paused d flags va u w answer drops)
+maps_paused d foreign va word flags awaited {v} (mapping.MapsWord.waited w answer waits) = wait_paused d true awaited v w answer waits
+
+-- an operation on descriptor tables
+descriptors_paused : (t : DescriptorTask) (v w : PortValue) (answer : Result (Unit {0}) Stop) → DescriptorFits t v w answer → PausesWithin v w answer
+descriptors_paused (SetGdt entries frames) v w answer fit = paused_here v w (of_gdt (own_domain v) entries frames) answer fit.stops
+descriptors_paused (SetDescriptor address word) v w answer fit = paused_here v w (of_descriptor (own_domain v) address word fit.want) answer fit.stops
+descriptors_paused (TouchLdt page) v w answer fit = paused_here v w (of_touch (own_domain v) page fit.base) answer fit.stops
+
 works_paused : (d : ℕ) (o : Option Task) (awaited : Option ℕ) (v : PortValue) (from to : ℕ) (w : PortValue) (answers : List Bool) (answer : Result ℕ Stop) → Works d o awaited v from to w answers answer → PausesWithin v w answer
 works_paused d None awaited v from to w answers answer works = whole_paused answer works
 works_paused d (Some (OfPairs foreign list)) awaited v from to w answers answer works = valued_paused v w works.ended answer works.answer_is (owned_paused d foreign list from works.works)
 works_paused d (Some (OfExt list)) awaited v from to w answers answer works = valued_paused v w works.ended answer works.answer_is (ext_list_paused d list from awaited works.ended works.works)
 works_paused d (Some (OfMem command order items)) awaited v from to w answers answer works = valued_paused v w works.ended answer works.answer_is (extents_paused d command order items from works.works)
+works_paused d (Some (OfMapping foreign va word flags)) awaited v from to w answers answer works = valued_paused v w works.ended answer works.answer_is (maps_paused d foreign va word flags awaited works.works)
+works_paused d (Some (OfDescriptors tables)) awaited v from to w answers answer works = valued_paused v w works.ended answer works.answer_is (descriptors_paused tables v w works.ended works.works.does)
 works_paused d (Some (OfRead user va)) awaited v from to w answers answer works = paused_here v w (of_read va) answer works.stops
 works_paused d (Some (OfWrite user va val)) awaited v from to w answers answer works = valued_paused v w works.ended answer works.answer_is (paused_here v w (of_write v user va) works.ended works.works.stops)
 

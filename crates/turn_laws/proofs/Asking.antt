@@ -1,9 +1,8 @@
 -- The asks of whole turns: how many there are, and that none follows a yes but where an element goes on past one.
-use Rattle.std.proofs.Common.{◌≡◌, ℕ, ◌<◌, Bool, List, [], length, Option, Some, None, Result, Ok, Err, refl, sym, subst, inl, inr, arith, ◌⊎◌, ◌+◌, ◌-◌, ◌≤◌, true, false, ◌∷◌, ◌++◌, ap, ◌∙◌, length-append}
+use Rattle.std.proofs.Common.{◌≡◌, ℕ, ◌<◌, Bool, List, [], length, Option, Some, None, Ok, Err, refl, sym, subst, inl, inr, arith, ◌⊎◌, ◌+◌, ◌-◌, ◌≤◌, true, false, ◌∷◌, ◌++◌, ap, ◌∙◌, length-append}
 use Rattle.std.proofs.lemmas.Bool.{cases_order}
 use Rattle.xp_words.specs.declared.ops.Op.{Op}
 use Rattle.xp_words.specs.declared.reply.LogLine.{LogLine}
-use Rattle.xp_words.specs.declared.reply.Stop.{Stop}
 use Rattle.xp_words.specs.declared.reply.Stop.TheVariants.{Paused}
 use Rattle.xp_board.specs.Told.{PortValue}
 use Rattle.xp_preempt.specs.Gates.{GivesAnswers, last_ask}
@@ -11,8 +10,8 @@ use Rattle.xp_preempt.proofs.Numbering.{says_last, says_no}
 use Rattle.level_release.proofs.Noes.{settled_no}
 use Rattle.vcpu_turn.specs.declared.cpu.TurnEnd.{TurnEnd}
 use Rattle.vcpu_turn.specs.Cpus.{Processing, after_turn, begins_at, next_of, nothing_left, task_next, task_of}
-use Rattle.vcpu_turn.specs.Lists.{asks_between, is_due_answer}
-use Rattle.vcpu_turn.specs.Turning.{DoesNext, DoesTurn, IsTurn, CountsAsks, GoesNoFurther, is_due}
+use Rattle.vcpu_turn.specs.Lists.{is_due_answer}
+use Rattle.vcpu_turn.specs.Turning.{DoesNext, DoesTurn, IsTurn, CountsAsks, GoesNoFurther, asks_for, is_due}
 use Rattle.vcpu_turn.specs.Turning as turning
 use Rattle.vcpu_turn.specs.Working.{gave_of}
 use Rattle.turn_laws.specs.Asking.{HearsNoWithin, NoUntilDue, asks_within, elements_tried, tried_going, tried_next}
@@ -36,16 +35,16 @@ pub turn_hears : (c c2 : Processing) (end : TurnEnd) (v w : PortValue) (answers 
 turn_hears c c2 end v w answers turn hears = going_hears c (next_of c) turn.begun c2 turn.worked answers end turn.does hears
 
 going_asks : (c : Processing) (o : Option Op) (op : Op) → o ≡ Some op → (v : PortValue) (c2 : Processing) (w : PortValue) (answers : List Bool) (end : TurnEnd) → (does : DoesTurn c o v c2 w answers end) →
-    CountsAsks c.left (begins_at (task_next o) c.at.done) end answers (asks_within (tried_going does))
+    CountsAsks c.left (task_next o) c.at.done end answers (asks_within (tried_going does))
 going_asks c None op is v c2 w answers end does = absurd (cc)
 going_asks c (Some other) op is v _ _ _ _ (turning.DoesTurn.unsettled w answers p settles) = turning.CountsAsks.settling v w p settles refl refl
 going_asks c (Some other) op is v _ _ _ _ (turning.DoesTurn.settled u w c2 early answers end settles on) =
     turning.CountsAsks.counted on.to.done on.answer v u early answers settles on.end_is refl (brings c.domain (task_of other) c.at.awaited u c.at.done on.to.done w answers on.answer on.went.works).asks
 
 pub turn_asks : (c d : Processing) (op : Op) (end : TurnEnd) (v w : PortValue) (answers : List Bool) → next_of c ≡ Some op → (turn : IsTurn c d end v w answers) →
-    CountsAsks c.left (begins_at (task_of op) c.at.done) end answers (asks_within (elements_tried turn))
+    CountsAsks c.left (task_of op) c.at.done end answers (asks_within (elements_tried turn))
 turn_asks c d op end v w answers next turn =
-    subst (λ (o : Option Op). CountsAsks c.left (begins_at (task_next o) c.at.done) end answers (asks_within (elements_tried turn))) next (going_asks c (next_of c) op next turn.begun d turn.worked answers end turn.does)
+    subst (λ (o : Option Op). CountsAsks c.left (task_next o) c.at.done end answers (asks_within (elements_tried turn))) next (going_asks c (next_of c) op next turn.begun d turn.worked answers end turn.does)
 
 -- ---- no ask follows one at which the gate says yes
 past : (says : ℕ → Bool) (before : ℕ) (answers : List Bool) (due : Bool) → GivesAnswers says before answers → NoUntilDue answers due → (j : ℕ) → 0 < j → before + j < last_ask → says (before + j) ≡ true →
@@ -71,11 +70,9 @@ pub turn_stops : (c c2 : Processing) (end : TurnEnd) (v w : PortValue) (before :
 turn_stops c c2 end v w before answers says turn hears gives j some less is_yes = past says before answers (is_due end) gives (turn_hears c c2 end v w answers turn hears) j some less is_yes
 
 -- so no more elements are done than up to there
-within_by : (from to within asks all j : ℕ) (answer : Result ℕ Stop) → asks ≡ asks_between from to answer + within → asks ≤ all → (all < j) ⊎ ((all ≡ j) × (is_due_answer answer ≡ true)) → to ≤ from + (j - within)
-within_by from to within asks all j (Ok done) number few (inl before) = omega (arith, number, few, before)
-within_by from to within asks all j (Ok done) number few (inr last) = absurd (let is = last.1 in cc)
-within_by from to within asks all j (Err e) number few (inl before) = omega (arith, number, few, before)
-within_by from to within asks all j (Err e) number few (inr last) = let at = last.0 in omega (arith, number, few, at)
+within_by : (from to between within asks all j : ℕ) (due : Bool) → asks ≡ between + within → to ≤ from + between + 1 → (due ≡ true → to ≤ from + between) → asks ≤ all → (all < j) ⊎ ((all ≡ j) × (due ≡ true)) → to ≤ from + (j - within)
+within_by from to between within asks all j due number most paused few (inl before) = omega (arith, number, most, few, before)
+within_by from to between within asks all j due number most paused few (inr last) = let at = last.0 in let less = paused last.1 in omega (arith, number, less, few, at)
 
 module _ (c : Processing) (before : ℕ) (says : ℕ → Bool) (j : ℕ) (some : 0 < j) (less : before + j < last_ask) (is_yes : says (before + j) ≡ true) where
   going_within : (o : Option Op) (op : Op) → o ≡ Some op → (v : PortValue) (c2 : Processing) (w : PortValue) (answers : List Bool) (end : TurnEnd) → (does : DoesTurn c o v c2 w answers end) → HearsNoWithin (tried_going does) → GivesAnswers says before answers →
@@ -84,14 +81,15 @@ module _ (c : Processing) (before : ℕ) (says : ℕ → Bool) (j : ℕ) (some :
   going_within (Some other) op is v _ _ _ _ (turning.DoesTurn.unsettled w answers p settles) hears gives = record { to = c.at; answer = Err (Paused p); end_is = refl; cpu = inr (p, refl, refl, refl); within = (let later = begins_later (task_of other) c.at.done in omega (arith, later)) }
   going_within (Some other) op is v _ _ _ _ (turning.DoesTurn.settled u w c2 early answers end settles on) hears gives =
       let all = length-append answers early in
+      let brought = brings c.domain (task_of other) c.at.awaited u c.at.done on.to.done w answers on.answer on.went.works in
       let noes = going_hears c (Some other) v c2 w (answers ++ early) end (turning.DoesTurn.settled u w c2 early answers end settles on) hears in
       record {
         to = on.to;
         answer = on.answer;
         end_is = on.end_is;
         cpu = inl (gave_of c.domain (task_of other) c.at.awaited u c.at.done on.to.done w answers on.answer on.went.works, on.cpu ∙ ap (λ (log : List LogLine). after_turn (nothing_left c) on.to log end) on.went.lines);
-        within = within_by (begins_at (task_of other) c.at.done) on.to.done (asks_within (tried_next (nothing_left c) (Some other) c2 u w answers end on)) (length answers) (length (answers ++ early)) j on.answer
-            (brings c.domain (task_of other) c.at.awaited u c.at.done on.to.done w answers on.answer on.went.works).asks (omega (arith, all))
+        within = within_by (begins_at (task_of other) c.at.done) on.to.done (asks_for (task_of other) c.at.done on.to.done on.answer) (asks_within (tried_next (nothing_left c) (Some other) c2 u w answers end on))
+            (length answers) (length (answers ++ early)) j (is_due_answer on.answer) brought.asks brought.most brought.due (omega (arith, all))
             (subst (λ (b : Bool). (length (answers ++ early) < j) ⊎ ((length (answers ++ early) ≡ j) × (b ≡ true))) (ap is_due on.end_is ∙ due_ended on.to.done on.answer)
             (past says before (answers ++ early) (is_due end) gives noes j some less is_yes));
       }

@@ -17,6 +17,8 @@ use Rattle.xp_preempt.proofs.Consulting.{yeses_then}
 use Rattle.foreign_map.specs.declared.owners.Owners.{Owners}
 use Rattle.level_release.specs.Course.{WasReleased}
 use Rattle.level_release.proofs.Noes.{settled_no}
+use Rattle.mmu_update.specs.Addresses as entering
+use Rattle.mmu_update.specs.Addresses.{EnteredAt, UpdatedAt}
 use Rattle.mmu_update.specs.Exchanges as exchanging
 use Rattle.mmu_update.specs.Exchanges.{EntryUpdate, Exchanged, ReleasedDemand, TookDemand}
 use Rattle.mmu_update.specs.Course as updating
@@ -31,12 +33,15 @@ use Rattle.mmuext_ops.specs.declared.element.Element.{Element}
 use Rattle.mmuext_ops.specs.declared.element.Element.TheVariants as elements
 use Rattle.mmuext_ops.specs.Bases.{AcquiresTop, Base, Kernel, ReleasesOld, SetsBase, User, user_frame}
 use Rattle.mmuext_ops.specs.Bases as basing
+use Rattle.tlb_walks.specs.Addresses.{index_of}
 use Rattle.turn_laws.specs.Asking.{HearsNo, NoUntilDue}
 use Rattle.vcpu_turn.specs.Ext.{PausesOldBase, PausesUnpin, ExtFits, FitsExt, awaited_for}
 use Rattle.vcpu_turn.specs.Lists.{Tried, tried, is_due_answer}
+use Rattle.vcpu_turn.specs.Mappings as mapping
+use Rattle.vcpu_turn.specs.Mappings.{MapsWord, PausesOldEntry, UpdatesWord}
 use Rattle.vcpu_turn.specs.Pairs.{ExchangesEntry, PausesRelease, FitsPair, PairFits}
 use Rattle.vcpu_turn.specs.Settling as settling
-use Rattle.vcpu_turn.specs.Settling.{Settles}
+use Rattle.vcpu_turn.specs.Settling.{Settles, SettlesFirst}
 use Rattle.vcpu_turn.proofs.Extending.{due_released}
 use Rattle.vcpu_turn.proofs.Gating.{ends_behind}
 use Rattle.turn_laws.proofs.Noes.{acquired_noes, noes_all, noes_no, noes_none, noes_same, noes_then, released_noes, settled_noes}
@@ -193,6 +198,104 @@ pub pairs_hear : (pairs : List Pair) (o : Owners) (k : ℕ) (v w : PortValue) (a
     HearsNo (tried k v w asked answer) ⊎ PausesRelease pairs (tried k v w asked answer)
 pairs_hear pairs o k v w asked answer fit = pair_hears pairs o k (slice_get pairs k) refl v w asked answer fit
 
+-- ---- an update by address
+-- the entry is set, and the release of what the old word asked is paused
+record PausesEntry (o : Owners) (word : ℕ) (w : PortValue) (answers : List Bool) (answer : Result (Unit {0}) Stop) : Type 0 where
+  table : ℕ
+  index : ℕ
+  held : PortValue
+  exchanged : Exchanged held (entry_update table 1 index word false) o w answers answer
+  kind : PageType
+  pause : PausesBehind kind w answers answer
+
+entered_hears : (v : PortValue) (o : Owners) (table i word : ℕ) (w : PortValue) (answers : List Bool) (answer : Result (Unit {0}) Stop) → EnteredAt v o table i word w answers answer →
+    NoUntilDue answers (is_due_answer answer) ⊎ PausesEntry o word w answers answer
+entered_hears v o table i word _ _ _ (entering.EnteredAt.unreferred w stop got) = inl (noes_none _)
+entered_hears v o table i word _ _ _ (entering.EnteredAt.unlocked u y w stop got locked gave) = inl (noes_none _)
+entered_hears v o table i word _ _ _ (entering.EnteredAt.other u y w found got locked gave) = inl (noes_none _)
+entered_hears v o table i word _ _ _ (entering.EnteredAt.level u y w level found got locked off left) = inl (noes_none _)
+entered_hears v o table i word _ _ _ (entering.EnteredAt.exchanged u y w found answers answer got locked exchanged) = elim (exchanged_hears y (entry_update table 1 i word false) o w answers answer exchanged) [
+  | inl noes ↦ inl noes
+  | inr pause ↦ inr (record { table = table; index = i; held = y; exchanged = exchanged; kind = pause.0; pause = pause.1 })
+]
+
+led_hears : (v : PortValue) (o : Owners) (va word table : ℕ) (w : PortValue) (answers : List Bool) (answer : Result (Unit {0}) Stop) → UpdatedAt v o va word table w answers answer →
+    NoUntilDue answers (is_due_answer answer) ⊎ PausesEntry o word w answers answer
+led_hears v o va word table _ _ _ (entering.UpdatedAt.unled w stop above leads) = inl (noes_none _)
+led_hears v o va word table _ _ _ (entering.UpdatedAt.led u w answers answer leads entered) = entered_hears u o table (index_of va 1) word w answers answer entered
+
+word_hears : (d foreign va word flags : ℕ) (v w : PortValue) (answers : List Bool) (answer : Result (Unit {0}) Stop) → UpdatesWord d foreign va word flags v w answers answer →
+    NoUntilDue answers (is_due_answer answer) ⊎ ((o : Owners) × PausesEntry o word w answers answer)
+word_hears d foreign va word flags v _ _ _ (mapping.UpdatesWord.far above) = inl (noes_none _)
+word_hears d foreign va word flags v _ _ _ (mapping.UpdatesWord.unowned w x few finds) = inl (noes_none _)
+word_hears d foreign va word flags v _ _ _ (mapping.UpdatesWord.flagged w o few finds bad) = inl (noes_none _)
+word_hears d foreign va word flags v _ _ _ (mapping.UpdatesWord.owned u w o answers answer few finds good at) = elim (led_hears u o va word at.table w answers answer at.course) [
+  | inl noes ↦ inl noes
+  | inr pause ↦ inr (o, pause)
+]
+
+-- behind what was settled first
+record PausesWord (word : ℕ) (v w : PortValue) (asked : List Bool) (answer : Result (Unit {0}) Stop) : Type 0 where
+  owners : Owners
+  settled : PortValue
+  before : List Bool
+  answers : List Bool
+  settles : Settles None v settled before (Ok tt)
+  entry : PausesEntry owners word w answers answer
+  all : asked ≡ answers ++ before
+
+first_hears : (d foreign va word flags : ℕ) (v w : PortValue) (asked : List Bool) (answer : Result (Unit {0}) Stop) → SettlesFirst (UpdatesWord d foreign va word flags) v w asked answer →
+    NoUntilDue asked (is_due_answer answer) ⊎ PausesWord word v w asked answer
+first_hears d foreign va word flags v _ _ _ (settling.SettlesFirst.unsettled w answers stop s) = inl (settles_hears v w answers (Err stop) s)
+first_hears d foreign va word flags v _ _ _ (settling.SettlesFirst.performed z w early answers answer s u) = elim (word_hears d foreign va word flags z w answers answer u) [
+  | inl noes ↦ inl (settled_then v z early answers answer s noes)
+  | inr pause ↦ inr (record { owners = pause.0; settled = z; before = early; answers = answers; settles = s; entry = pause.1; all = refl })
+]
+
+old_entry : (word : ℕ) (v u w : PortValue) (asked : List Bool) (answer : Result (Unit {0}) Stop) → PausesWord word v u asked (Ok tt) → PausesOldEntry (tried 0 v w asked answer)
+old_entry word v u w asked answer set =
+    let pause = set.entry.pause in
+    let none = settled_no v set.settled set.before (Ok tt) refl set.settles.course in
+    let unsaid = pause.unsaid in
+    let one = pause.pausing.early in
+    let inner = ap yeses pause.asked ∙ yeses_then pause.first pause.more in
+    let all = ap yeses set.all ∙ yeses_then set.before set.answers in
+    record {
+      owners = set.owners;
+      table = set.entry.table;
+      index = set.entry.index;
+      word = word;
+      settled = set.settled;
+      held = set.entry.held;
+      updated = u;
+      before = set.before;
+      answers = set.answers;
+      settles = set.settles;
+      exchanged = set.entry.exchanged;
+      all = set.all;
+      unlocked = pause.pausing.unlocked;
+      frame = pause.pausing.frame;
+      kind = set.entry.kind;
+      first = pause.first ++ set.before;
+      more = pause.more;
+      released = pause.pausing.released;
+      asked = set.all ∙ ap (λ (xs : List Bool). xs ++ set.before) pause.asked ∙ append_assoc pause.more pause.first set.before;
+      early = omega (arith, none, unsaid, one, inner, all);
+      last = ap ends_yes set.all ∙ ends_behind set.before set.answers (ap ends_yes pause.asked ∙ ends_behind pause.first pause.more pause.pausing.last);
+    }
+
+pub maps_hear : (d foreign va word flags : ℕ) (awaited : Option ℕ) (v : PortValue) (from to : ℕ) (w : PortValue) (asked : List Bool) (answer : Result (Unit {0}) Stop) →
+    MapsWord d foreign va word flags awaited v from to w asked answer → HearsNo (tried 0 v w asked answer) ⊎ PausesOldEntry (tried 0 v w asked answer)
+maps_hear d foreign va word flags awaited v _ _ _ _ _ (mapping.MapsWord.unset w asked e first) = elim (first_hears d foreign va word flags v w asked (Err e) first) [
+  | inl noes ↦ inl noes
+  | inr pause ↦ absurd (let done = pause.entry.pause.done in cc)
+]
+maps_hear d foreign va word flags awaited v _ _ _ _ _ (mapping.MapsWord.set u w asked answer first drops) = elim (first_hears d foreign va word flags v u asked (Ok tt) first) [
+  | inl noes ↦ inl (noes_all asked _ (noes_no asked noes))
+  | inr pause ↦ inr (old_entry word v u w asked answer pause)
+]
+maps_hear d foreign va word flags awaited v _ _ _ _ _ (mapping.MapsWord.waited w answer waits) = inl (noes_none _)
+
 -- ---- an element of `mmuext_op`
 pinned_noes : (v w : PortValue) (d f level : ℕ) (answers : List Bool) (answer : Result (Unit {0}) Stop) → Pinned v w d f level answers answer → NoUntilDue answers (is_due_answer answer)
 pinned_noes v w d f level _ _ (course.Pinned.unreferred stop got) = noes_none _
@@ -238,45 +341,64 @@ flushed_noes v w _ _ (course.FlushedLocal.spent does same) = noes_none false
 
 -- which command it is
 module _ (op : ExtOp) where
-  abbrev own_by : (base flush page some all user : Bool) → Element
-  own_by base flush page some all user =
+  -- a command of pages, or none
+  abbrev whole_by : (clear copy : Bool) → Element
+  whole_by clear copy =
+      if clear then elements.ClearPage op.first
+      else if copy then elements.CopyPage op.first op.second
+      else elements.Unknown
+
+  abbrev own_by : (base flush page some all table user clear copy : Bool) → Element
+  own_by base flush page some all table user clear copy =
       if base then elements.NewBase op.first
       else if flush then elements.FlushLocal
       else if page then elements.Invalidate op.first
       else if some then elements.FlushVcpus (op.second % 2 ^ 16)
       else if all then elements.FlushVcpus every_vcpu
+      else if table then elements.SetLdt op.first op.second
       else if user then elements.NewUserBase op.first
-      else elements.Unknown
+      else whole_by clear copy
 
-  not_unpin : (f : ℕ) (base flush page some all user : Bool) → own_by base flush page some all user ≡ elements.Unpin f → ⊥
-  not_unpin f true flush page some all user e = cc
-  not_unpin f false true page some all user e = cc
-  not_unpin f false false true some all user e = cc
-  not_unpin f false false false true all user e = cc
-  not_unpin f false false false false true user e = cc
-  not_unpin f false false false false false true e = cc
-  not_unpin f false false false false false false e = cc
+  not_unpin : (f : ℕ) (base flush page some all table user clear copy : Bool) → own_by base flush page some all table user clear copy ≡ elements.Unpin f → ⊥
+  not_unpin f true flush page some all table user clear copy e = cc
+  not_unpin f false true page some all table user clear copy e = cc
+  not_unpin f false false true some all table user clear copy e = cc
+  not_unpin f false false false true all table user clear copy e = cc
+  not_unpin f false false false false true table user clear copy e = cc
+  not_unpin f false false false false false true user clear copy e = cc
+  not_unpin f false false false false false false true clear copy e = cc
+  not_unpin f false false false false false false false true copy e = cc
+  not_unpin f false false false false false false false false true e = cc
+  not_unpin f false false false false false false false false false e = cc
 
-  new_base : (f : ℕ) (base flush page some all user : Bool) → own_by base flush page some all user ≡ elements.NewBase f → base ≡ true
-  new_base f true flush page some all user e = refl
-  new_base f false true page some all user e = absurd (cc)
-  new_base f false false true some all user e = absurd (cc)
-  new_base f false false false true all user e = absurd (cc)
-  new_base f false false false false true user e = absurd (cc)
-  new_base f false false false false false true e = absurd (cc)
-  new_base f false false false false false false e = absurd (cc)
+  new_base : (f : ℕ) (base flush page some all table user clear copy : Bool) → own_by base flush page some all table user clear copy ≡ elements.NewBase f → base ≡ true
+  new_base f true flush page some all table user clear copy e = refl
+  new_base f false true page some all table user clear copy e = absurd (cc)
+  new_base f false false true some all table user clear copy e = absurd (cc)
+  new_base f false false false true all table user clear copy e = absurd (cc)
+  new_base f false false false false true table user clear copy e = absurd (cc)
+  new_base f false false false false false true user clear copy e = absurd (cc)
+  new_base f false false false false false false true clear copy e = absurd (cc)
+  new_base f false false false false false false false true copy e = absurd (cc)
+  new_base f false false false false false false false false true e = absurd (cc)
+  new_base f false false false false false false false false false e = absurd (cc)
 
-  new_user_base : (f : ℕ) (base flush page some all user : Bool) → own_by base flush page some all user ≡ elements.NewUserBase f → user ≡ true
-  new_user_base f true flush page some all user e = absurd (cc)
-  new_user_base f false true page some all user e = absurd (cc)
-  new_user_base f false false true some all user e = absurd (cc)
-  new_user_base f false false false true all user e = absurd (cc)
-  new_user_base f false false false false true user e = absurd (cc)
-  new_user_base f false false false false false true e = refl
-  new_user_base f false false false false false false e = absurd (cc)
+  new_user_base : (f : ℕ) (base flush page some all table user clear copy : Bool) → own_by base flush page some all table user clear copy ≡ elements.NewUserBase f → user ≡ true
+  new_user_base f true flush page some all table user clear copy e = absurd (cc)
+  new_user_base f false true page some all table user clear copy e = absurd (cc)
+  new_user_base f false false true some all table user clear copy e = absurd (cc)
+  new_user_base f false false false true all table user clear copy e = absurd (cc)
+  new_user_base f false false false false true table user clear copy e = absurd (cc)
+  new_user_base f false false false false false true user clear copy e = absurd (cc)
+  new_user_base f false false false false false false true clear copy e = refl
+  new_user_base f false false false false false false false true copy e = absurd (cc)
+  new_user_base f false false false false false false false false true e = absurd (cc)
+  new_user_base f false false false false false false false false false e = absurd (cc)
 
   abbrev is_own : Element
-  is_own = own_by (op.command == 5) (op.command == 6) (op.command == 7) ((op.command == 8) || (op.command == 9)) ((op.command == 10) || (op.command == 11)) (op.command == 15)
+  is_own =
+      own_by (op.command == 5) (op.command == 6) (op.command == 7) ((op.command == 8) || (op.command == 9)) ((op.command == 10) || (op.command == 11)) (op.command == 13) (op.command == 15) (op.command == 16)
+      (op.command == 17)
 
   -- an element that is neither a pin nor an unpin
   is_unpin : (f : ℕ) → ext_element op ≡ elements.Unpin f → op.command ≡ 4
@@ -285,7 +407,7 @@ module _ (op : ExtOp) where
       by_test : (pins unpins : Bool) → (op.command == 4) ≡ unpins → (if pins then elements.Pin op.first (op.command + 1) else if unpins then elements.Unpin op.first else is_own) ≡ elements.Unpin f → op.command ≡ 4
       by_test true unpins same e = absurd (cc)
       by_test false true same e = eqb-true op.command 4 same
-      by_test false false same e = absurd (not_unpin f (op.command == 5) (op.command == 6) (op.command == 7) ((op.command == 8) || (op.command == 9)) ((op.command == 10) || (op.command == 11)) (op.command == 15) e)
+      by_test false false same e = absurd (not_unpin f (op.command == 5) (op.command == 6) (op.command == 7) ((op.command == 8) || (op.command == 9)) ((op.command == 10) || (op.command == 11)) (op.command == 13) (op.command == 15) (op.command == 16) (op.command == 17) e)
 
   sets_base : (f : ℕ) → ext_element op ≡ elements.NewBase f → op.command ≡ 5
   sets_base f is = by_test (nat_lt op.command 4) (op.command == 4) is
@@ -293,7 +415,7 @@ module _ (op : ExtOp) where
       by_test : (pins unpins : Bool) → (if pins then elements.Pin op.first (op.command + 1) else if unpins then elements.Unpin op.first else is_own) ≡ elements.NewBase f → op.command ≡ 5
       by_test true unpins e = absurd (cc)
       by_test false true e = absurd (cc)
-      by_test false false e = eqb-true op.command 5 (new_base f (op.command == 5) (op.command == 6) (op.command == 7) ((op.command == 8) || (op.command == 9)) ((op.command == 10) || (op.command == 11)) (op.command == 15) e)
+      by_test false false e = eqb-true op.command 5 (new_base f (op.command == 5) (op.command == 6) (op.command == 7) ((op.command == 8) || (op.command == 9)) ((op.command == 10) || (op.command == 11)) (op.command == 13) (op.command == 15) (op.command == 16) (op.command == 17) e)
 
   sets_user_base : (f : ℕ) → ext_element op ≡ elements.NewUserBase f → op.command ≡ 15
   sets_user_base f is = by_test (nat_lt op.command 4) (op.command == 4) is
@@ -301,7 +423,7 @@ module _ (op : ExtOp) where
       by_test : (pins unpins : Bool) → (if pins then elements.Pin op.first (op.command + 1) else if unpins then elements.Unpin op.first else is_own) ≡ elements.NewUserBase f → op.command ≡ 15
       by_test true unpins e = absurd (cc)
       by_test false true e = absurd (cc)
-      by_test false false e = eqb-true op.command 15 (new_user_base f (op.command == 5) (op.command == 6) (op.command == 7) ((op.command == 8) || (op.command == 9)) ((op.command == 10) || (op.command == 11)) (op.command == 15) e)
+      by_test false false e = eqb-true op.command 15 (new_user_base f (op.command == 5) (op.command == 6) (op.command == 7) ((op.command == 8) || (op.command == 9)) ((op.command == 10) || (op.command == 11)) (op.command == 13) (op.command == 15) (op.command == 16) (op.command == 17) e)
 
 abbrev ElementHears : List ExtOp → Tried → Type 0
 ElementHears list t = HearsNo t ⊎ (PausesUnpin list t ⊎ PausesOldBase list t)
@@ -369,6 +491,9 @@ module _ (list : List ExtOp) (d k : ℕ) (v z : PortValue) (early : List Bool) (
   performed_hears elements.FlushLocal is awaited w answers answer p = inl (settled_then v z early answers answer settles (flushed_noes z w answers answer p))
   performed_hears (elements.Invalidate va) is awaited w answers answer p = inl (settled_then v z early answers answer settles (noes_same answers [] _ p.no_ask (noes_none _)))
   performed_hears (elements.FlushVcpus mask) is awaited w answers answer p = inl (settled_then v z early answers answer settles (noes_same answers [] _ p.no_ask (noes_none _)))
+  performed_hears (elements.SetLdt address entries) is awaited w answers answer p = inl (settled_then v z early answers answer settles (noes_same answers [] _ p.0 (noes_none _)))
+  performed_hears (elements.ClearPage f) is awaited w answers answer p = inl (settled_then v z early answers answer settles (noes_same answers [] _ p.0 (noes_none _)))
+  performed_hears (elements.CopyPage to from) is awaited w answers answer p = inl (settled_then v z early answers answer settles (noes_same answers [] _ p.0 (noes_none _)))
   performed_hears elements.Unknown is awaited w answers answer p = inl (settled_then v z early answers answer settles (noes_same answers [] _ p.1 (noes_none _)))
 
 ext_hears : (list : List ExtOp) (d k : ℕ) (awaited : Option ℕ) (x : Option ExtOp) → slice_get list k ≡ x → (v w : PortValue) (asked : List Bool) (answer : Result (Unit {0}) Stop) → FitsExt d awaited x v w asked answer →

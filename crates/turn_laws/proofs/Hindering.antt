@@ -1,5 +1,5 @@
 -- What an element of an operation does as steps of its port, and what pauses it where no other vCPU holds anything.
-use Rattle.std.proofs.Common.{◌≡◌, ◌^◌, ℕ, ◌<◌, Bool, List, [], length, Option, Some, None, Result, Ok, Err, IfErr, refl, sym, subst, inl, inr, arith}
+use Rattle.std.proofs.Common.{◌≡◌, ◌^◌, ℕ, ◌<◌, Bool, List, [], length, Option, Some, None, Result, Ok, Err, IfErr, refl, sym, subst, inl, inr, arith, true, false}
 use Rattle.std.specs.Prelude.{slice_get}
 use Rattle.std.proofs.lemmas.Bool.{cases_eq}
 use Rattle.xp_words.specs.Machine.{Machine}
@@ -19,7 +19,12 @@ use Rattle.answer_fits.proofs.Piecing.{serves_came}
 use Rattle.answer_laws.specs.Alone.{IsAlone, IsDueOrFlush}
 use Rattle.foreign_map.specs.Owning.{of_owners}
 use Rattle.foreign_map.specs.declared.owners.Owners.{Owners}
+use Rattle.desc_pages.specs.Descriptors.{of_descriptor}
+use Rattle.desc_pages.specs.Gdt.{of_gdt}
+use Rattle.desc_pages.specs.Names.{own_domain}
+use Rattle.ldt_pages.specs.Touching.{of_touch}
 use Rattle.level_release.specs.Asking.{of_settle}
+use Rattle.mmu_update.specs.Addresses.{of_at}
 use Rattle.mmu_update.specs.Elements as pairs
 use Rattle.mmu_update.specs.Fits.{Updates}
 use Rattle.mmu_update.specs.declared.element.Element as updating
@@ -31,10 +36,13 @@ use Rattle.mmuext_ops.specs.declared.element.Element.TheVariants as performs
 use Rattle.tlb_walks.specs.Accesses.{ServesWrite}
 use Rattle.tlb_walks.specs.Asking.{of_read, of_write}
 use Rattle.vcpu_turn.specs.declared.cpu.TurnEnd.TheVariants as ends
+use Rattle.vcpu_turn.specs.Descriptors.{DescriptorFits, DescriptorTask, SetDescriptor, SetGdt, TouchLdt}
 use Rattle.vcpu_turn.specs.Lists as lists
 use Rattle.vcpu_turn.specs.Lists.{DidItems, Fitting, WorksOn, more, all_done, last_done, due, stopped}
 use Rattle.vcpu_turn.specs.Accesses.{MakesRead, MakesWrite}
 use Rattle.vcpu_turn.specs.Ext.{ExtFits, FitsExt, Performs, awaited_for}
+use Rattle.vcpu_turn.specs.Mappings as mapping
+use Rattle.vcpu_turn.specs.Mappings.{DropsBehind, DropsOwn, MapsWord, UpdatesWord, WaitsForAll, own_drop, waits_for_all}
 use Rattle.vcpu_turn.specs.Pairs.{FindsOwners, FitsPair, PairFits}
 use Rattle.vcpu_turn.specs.Settling.{SettlesFirst, Settles, unsettled, performed}
 use Rattle.reservations.specs.Extents.{StopsExtent, of_extent}
@@ -72,7 +80,7 @@ owners_came v w d foreign answer f = serves_came v w (of_owners v.post.machine d
 
 -- what is done behind a settling
 module _ (P : PortValue → PortValue → List Bool → Result (Unit {0}) Stop → Type 0) (comes : (v w : PortValue) (answers : List Bool) (answer : Result (Unit {0}) Stop) → P v w answers answer → Came v w) where
-  behind_came : (v w : PortValue) (answers : List Bool) (answer : Result (Unit {0}) Stop) → SettlesFirst P v w answers answer → Came v w
+  pub behind_came : (v w : PortValue) (answers : List Bool) (answer : Result (Unit {0}) Stop) → SettlesFirst P v w answers answer → Came v w
   behind_came v _ _ _ (unsettled w answers stop s) = settles_came v w answers (Err stop) s
   behind_came v _ _ _ (performed u w early answers answer s p) = came_trans v u w (settles_came v u early (Ok tt) s) (comes u w answers answer p)
 
@@ -90,6 +98,41 @@ pairs_came o list k v w answers answer f = pair_came o (slice_get list k) v w an
 pub exts_came : (d : ℕ) (list : List ExtOp) (from : ℕ) (awaited : Option ℕ) (k : ℕ) (v w : PortValue) (answers : List Bool) (answer : Result (Unit {0}) Stop) → ExtFits d list from awaited k v w answers answer →
     Came v w
 exts_came d list from awaited k v w answers answer f = ext_came d (awaited_for from awaited k) (slice_get list k) v w answers answer f
+
+-- an update by address
+pub word_came : (d foreign va word flags : ℕ) (v w : PortValue) (answers : List Bool) (answer : Result (Unit {0}) Stop) → UpdatesWord d foreign va word flags v w answers answer → Came v w
+word_came d foreign va word flags v _ _ _ (mapping.UpdatesWord.far above) = came_self v
+word_came d foreign va word flags v _ _ _ (mapping.UpdatesWord.unowned w x few finds) = owners_came v w d foreign (Err x) finds
+word_came d foreign va word flags v _ _ _ (mapping.UpdatesWord.flagged w o few finds bad) = owners_came v w d foreign (Ok o) finds
+word_came d foreign va word flags v _ _ _ (mapping.UpdatesWord.owned u w o answers answer few finds good at) =
+    came_trans v u w (owners_came v u d foreign (Ok o) finds) (serves_came u w (of_at o va at.table word answer) at.serves.0 at.serves.2)
+
+pub drop_came : (d : ℕ) (e : Option Element) (v w : PortValue) (answer : Result (Unit {0}) Stop) → DropsOwn d e v w answer → Came v w
+drop_came d (Some e) v w answer drops = performs_came d e None v w [] answer drops
+drop_came d None v w answer drops = same_came v w drops.0
+
+wait_came : (d : ℕ) (waits : Bool) (awaited : Option ℕ) (v w : PortValue) (answer : Result (Unit {0}) Stop) → WaitsForAll d waits awaited v w answer → Came v w
+wait_came d true awaited v w answer waits = performs_came d (performs.FlushVcpus elements.every_vcpu) awaited v w [] answer waits
+wait_came d false awaited v w answer waits = same_came v w waits.0
+
+drops_came : (d flags va : ℕ) (v w : PortValue) (answer : Result (Unit {0}) Stop) → DropsBehind d flags va v w answer → Came v w
+drops_came d flags va v _ _ (mapping.DropsBehind.undropped w e drops) = drop_came d (own_drop flags va) v w (Err e) drops
+drops_came d flags va v _ _ (mapping.DropsBehind.dropped u w answer drops waits) =
+    came_trans v u w (drop_came d (own_drop flags va) v u (Ok tt) drops) (wait_came d (waits_for_all flags) None u w answer waits)
+
+pub maps_came : (d foreign va word flags : ℕ) (awaited : Option ℕ) (v : PortValue) (from to : ℕ) (w : PortValue) (answers : List Bool) (answer : Result (Unit {0}) Stop) →
+    MapsWord d foreign va word flags awaited v from to w answers answer → Came v w
+maps_came d foreign va word flags awaited v _ _ _ _ _ (mapping.MapsWord.unset w answers e first) =
+    behind_came (UpdatesWord d foreign va word flags) (word_came d foreign va word flags) v w answers (Err e) first
+maps_came d foreign va word flags awaited v _ _ _ _ _ (mapping.MapsWord.set u w answers answer first drops) =
+    came_trans v u w (behind_came (UpdatesWord d foreign va word flags) (word_came d foreign va word flags) v u answers (Ok tt) first) (drops_came d flags va u w answer drops)
+maps_came d foreign va word flags awaited v _ _ _ _ _ (mapping.MapsWord.waited w answer waits) = wait_came d true awaited v w answer waits
+
+-- an operation on descriptor tables
+pub descriptors_came : (t : DescriptorTask) (v w : PortValue) (answer : Result (Unit {0}) Stop) → DescriptorFits t v w answer → Came v w
+descriptors_came (SetGdt entries frames) v w answer fit = fit.came
+descriptors_came (SetDescriptor address word) v w answer fit = fit.came
+descriptors_came (TouchLdt page) v w answer fit = serves_came v w _ _ fit.serves
 
 pub extent_came : (d command order : ℕ) (items : List ℕ) (from within k : ℕ) (v w : PortValue) (answers : List Bool) (answer : Result (Unit {0}) Stop) → ExtentFits d command order items from within k v w answers answer → Came v w
 extent_came d command order items from within k v w answers answer f = serves_came v w _ _ f.reserves.serves.serves
@@ -134,6 +177,9 @@ element_destroys n s d (performs.NewUserBase f) awaited answer = base_destroys d
 element_destroys n s d performs.FlushLocal awaited answer = refl
 element_destroys n s d (performs.Invalidate va) awaited answer = refl
 element_destroys n s d (performs.FlushVcpus mask) awaited answer = refl
+element_destroys n s d (performs.SetLdt address entries) awaited answer = refl
+element_destroys n s d (performs.ClearPage f) awaited answer = refl
+element_destroys n s d (performs.CopyPage to from) awaited answer = refl
 element_destroys n s d performs.Unknown awaited answer = refl
 
 pub extent_destroys : (owner size : ℕ) (extent : Extent) (block : ℕ) → (of_extent owner size extent block).destroys ≡ None
@@ -212,6 +258,44 @@ module _ (stays : AloneStays) (neither : NeitherLostNorBusy) (nobody : NobodyWai
   ext_spared d awaited None v w answers answer s f = absurd f
   ext_spared d awaited (Some op) v w answers answer s f =
       behind_spared (Performs d (elements.ext_element op) awaited) (performs_spared d (elements.ext_element op) awaited) v w answers answer s f
+
+  -- an update by address
+  word_spared : (d foreign va word flags : ℕ) (v w : PortValue) (answers : List Bool) (answer : Result (Unit {0}) Stop) → IsSpared v → UpdatesWord d foreign va word flags v w answers answer → Spared v answer
+  word_spared d foreign va word flags v _ _ _ s (mapping.UpdatesWord.far above) = tt
+  word_spared d foreign va word flags v _ _ _ s (mapping.UpdatesWord.unowned w x few finds) = tt
+  word_spared d foreign va word flags v _ _ _ s (mapping.UpdatesWord.flagged w o few finds bad) = tt
+  word_spared d foreign va word flags v _ _ _ s (mapping.UpdatesWord.owned u w o answers answer few finds good at) =
+      let came = owners_came v u d foreign (Ok o) finds in
+      spared_back v u answer came (call_spared u w (of_at o va at.table word answer) answer refl (spared_on v u came s) at.stops)
+
+  drop_spared : (d : ℕ) (e : Option Element) (v w : PortValue) (answer : Result (Unit {0}) Stop) → IsSpared v → DropsOwn d e v w answer → Spared v answer
+  drop_spared d (Some e) v w answer s drops = performs_spared d e None v w [] answer s drops
+  drop_spared d None v w answer s drops = rw drops.1 tt
+
+  wait_spared : (d : ℕ) (waits : Bool) (awaited : Option ℕ) (v w : PortValue) (answer : Result (Unit {0}) Stop) → IsSpared v → WaitsForAll d waits awaited v w answer → Spared v answer
+  wait_spared d true awaited v w answer s waits = performs_spared d (performs.FlushVcpus elements.every_vcpu) awaited v w [] answer s waits
+  wait_spared d false awaited v w answer s waits = rw waits.1 tt
+
+  drops_spared : (d flags va : ℕ) (v w : PortValue) (answer : Result (Unit {0}) Stop) → IsSpared v → DropsBehind d flags va v w answer → Spared v answer
+  drops_spared d flags va v _ _ s (mapping.DropsBehind.undropped w e drops) = drop_spared d (own_drop flags va) v w (Err e) s drops
+  drops_spared d flags va v _ _ s (mapping.DropsBehind.dropped u w answer drops waits) =
+      let came = drop_came d (own_drop flags va) v u (Ok tt) drops in
+      spared_back v u answer came (wait_spared d (waits_for_all flags) None u w answer (spared_on v u came s) waits)
+
+  pub maps_spared : (d foreign va word flags : ℕ) (awaited : Option ℕ) (v : PortValue) (from to : ℕ) (w : PortValue) (answers : List Bool) (answer : Result (Unit {0}) Stop) → IsSpared v →
+      MapsWord d foreign va word flags awaited v from to w answers answer → Spared v answer
+  maps_spared d foreign va word flags awaited v _ _ _ _ _ s (mapping.MapsWord.unset w answers e first) =
+      behind_spared (UpdatesWord d foreign va word flags) (word_spared d foreign va word flags) v w answers (Err e) s first
+  maps_spared d foreign va word flags awaited v _ _ _ _ _ s (mapping.MapsWord.set u w answers answer first drops) =
+      let came = behind_came (UpdatesWord d foreign va word flags) (word_came d foreign va word flags) v u answers (Ok tt) first in
+      spared_back v u answer came (drops_spared d flags va u w answer (spared_on v u came s) drops)
+  maps_spared d foreign va word flags awaited v _ _ _ _ _ s (mapping.MapsWord.waited w answer waits) = wait_spared d true awaited v w answer s waits
+
+  -- an operation on descriptor tables
+  pub descriptors_spared : (t : DescriptorTask) (v w : PortValue) (answer : Result (Unit {0}) Stop) → IsSpared v → DescriptorFits t v w answer → Spared v answer
+  descriptors_spared (SetGdt entries frames) v w answer s fit = call_spared v w (of_gdt (own_domain v) entries frames) answer refl s fit.stops
+  descriptors_spared (SetDescriptor address word) v w answer s fit = call_spared v w (of_descriptor (own_domain v) address word fit.want) answer refl s fit.stops
+  descriptors_spared (TouchLdt page) v w answer s fit = call_spared v w (of_touch (own_domain v) page fit.base) answer refl s fit.stops
 
   -- an extent, whose answer says besides which block was given
   reserves_spared : (owner size : ℕ) (extent : Extent) (given : Option ℕ) (v w : PortValue) (answer : Result (Unit {0}) Stop) → IsSpared v → IfErr (given_by given answer) (λ e. StopsExtent owner size extent v w e) → Spared v answer

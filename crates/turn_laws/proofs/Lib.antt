@@ -5,6 +5,7 @@ pub mod Hearing
 pub mod Hindering
 pub mod Leaving
 pub mod Logging
+pub mod Mapping
 pub mod Noes
 pub mod PairTurns
 pub mod Retiring

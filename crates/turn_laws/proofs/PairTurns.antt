@@ -336,10 +336,10 @@ module _ (c d : Processing) (op : Op) (foreign : ℕ) (pairs : List Pair) (end :
   asks_none : asks_within (elements_tried turn) ≡ 0
   asks_none = within_none (elements_tried turn) quiet
 
-  pub silent_counts : CountsAsks c.left c.at.done end answers 0
+  pub silent_counts : CountsAsks c.left (Some (OfPairs foreign pairs)) c.at.done end answers 0
   silent_counts =
-      subst (λ (n : ℕ). CountsAsks c.left c.at.done end answers n) asks_none
-      (subst (λ (o : Option Task). CountsAsks c.left (begins_at o c.at.done) end answers (asks_within (elements_tried turn))) built (turn_asks c d op end v w answers next turn))
+      subst (λ (n : ℕ). CountsAsks c.left (Some (OfPairs foreign pairs)) c.at.done end answers n) asks_none
+      (subst (λ (o : Option Task). CountsAsks c.left o c.at.done end answers (asks_within (elements_tried turn))) built (turn_asks c d op end v w answers next turn))
 
   pub silent_within : (before : ℕ) (says : ℕ → Bool) → GivesAnswers says before answers → (j : ℕ) → 0 < j → before + j < last_ask → says (before + j) ≡ true → GoesNoFurther c d end (c.at.done + j)
   silent_within before says gives j some less is_yes =

@@ -47,13 +47,14 @@ pub fn elements_go_by_their_courses()
 {}
 
 /// And a turn, whatever operation stands next, asks the own gate between the elements, and within them as their courses say, behind what was settled first. It goes on from the
-/// element behind those that are done; a list of `memory_op` not before the extent that its command names.
+/// element behind those that are done; a list of `memory_op` not before the extent that its command names. An update by address is one element, and asks nothing between or in its wait.
 pub fn a_turn_counts_its_asks()
-    ensures { (c d : Processing) (op : Op) (end : TurnEnd) (v w : PortValue) (answers : List Bool) → next_of c ≡ Some op → (turn : IsTurn c d end v w answers) → CountsAsks c.left (begins_at (task_of op) c.at.done) end answers (asks_within (elements_tried turn)) }
+    ensures { (c d : Processing) (op : Op) (end : TurnEnd) (v w : PortValue) (answers : List Bool) → next_of c ≡ Some op → (turn : IsTurn c d end v w answers) → CountsAsks c.left (task_of op) c.at.done end answers (asks_within (elements_tried turn)) }
 {}
 
 /// Within an element the gate says no, until that is paused for it, and so the turn. Else the element is done, and only the release was paused that goes with it: of what
-/// the old word of an exchanged entry asked, of an unpinned frame, or of the table that a base named before.
+/// the old word of an exchanged entry asked, of an unpinned frame, or of the table that a base named before. An update by address has set its entry then, and drops translations as if
+/// the gate had said no.
 pub fn a_yes_within_an_element_pauses()
     ensures { (c d : Processing) (op : Op) (task : Task) (end : TurnEnd) (v w : PortValue) (answers : List Bool) → next_of c ≡ Some op → task_of op ≡ Some task → (turn : IsTurn c d end v w answers) → All (λ (t : Tried). HearsNo t ⊎ PassesYes task t) (elements_tried turn) }
 {}
@@ -72,7 +73,7 @@ pub fn a_turn_never_passes_a_yes()
 /// a machine-to-physical update does: the gate is asked between the elements, and no more, and the turn does not go on past the element behind which it says yes.
 pub fn only_tables_ask_within()
     ensures tables { (c d : Processing) (op : Op) (foreign : ℕ) (pairs : List Pair) (end : TurnEnd) (v w : PortValue) (answers : List Bool) → next_of c ≡ Some op → task_of op ≡ Some (OfPairs foreign pairs) → (turn : IsTurn c d end v w answers) → AsksNothingWithin (elements_tried turn) ⊎ Any (λ (t : Tried). MovesATable pairs t) (elements_tried turn) }
-    ensures counts { (c d : Processing) (op : Op) (foreign : ℕ) (pairs : List Pair) (end : TurnEnd) (v w : PortValue) (answers : List Bool) → next_of c ≡ Some op → task_of op ≡ Some (OfPairs foreign pairs) → (turn : IsTurn c d end v w answers) → MovesNoTable pairs (elements_tried turn) → CountsAsks c.left c.at.done end answers 0 }
+    ensures counts { (c d : Processing) (op : Op) (foreign : ℕ) (pairs : List Pair) (end : TurnEnd) (v w : PortValue) (answers : List Bool) → next_of c ≡ Some op → task_of op ≡ Some (OfPairs foreign pairs) → (turn : IsTurn c d end v w answers) → MovesNoTable pairs (elements_tried turn) → CountsAsks c.left (Some (OfPairs foreign pairs)) c.at.done end answers 0 }
     ensures stops { (c d : Processing) (op : Op) (foreign : ℕ) (pairs : List Pair) (end : TurnEnd) (v w : PortValue) (before : ℕ) (answers : List Bool) (says : ℕ → Bool) → next_of c ≡ Some op → task_of op ≡ Some (OfPairs foreign pairs) → (turn : IsTurn c d end v w answers) → MovesNoTable pairs (elements_tried turn) → GivesAnswers says before answers → (j : ℕ) → 0 < j → before + j < last_ask → says (before + j) ≡ true → GoesNoFurther c d end (c.at.done + j) }
 {}
 

@@ -15,11 +15,15 @@ use Rattle.xp_board.specs.Told.{PortValue}
 use Rattle.tlb_walks.specs.Asking.{IsGuestReadStop, IsGuestWriteStop}
 use Rattle.turn_laws.specs.Unhindered.{IsUnhindered}
 use Rattle.turn_laws.proofs.Bringing.{begins_later}
-use Rattle.vcpu_turn.specs.Cpus.{OfExt, OfMem, OfPairs, OfRead, OfWrite, Processing, Task, after_turn, elements_in, elements_of, end_of, next_of, nothing_left, task_of}
+use Rattle.turn_laws.proofs.Mapping.{behind_one}
+use Rattle.vcpu_turn.specs.Accesses.{done_by}
+use Rattle.vcpu_turn.specs.Cpus.{OfDescriptors, OfExt, OfMapping, OfMem, OfPairs, OfRead, OfWrite, Processing, Task, after_turn, elements_in, elements_of, end_of, next_of, nothing_left, task_next, task_of}
 use Rattle.vcpu_turn.specs.Extents as extents
 use Rattle.vcpu_turn.specs.Extents.{WorksExtents, extents_in}
 use Rattle.vcpu_turn.specs.Lists as lists
 use Rattle.vcpu_turn.specs.Lists.{DidItems, Fitting, IsRefusedWhole, WorksOn, WorksThrough}
+use Rattle.vcpu_turn.specs.Mappings as mapping
+use Rattle.vcpu_turn.specs.Mappings.{MapsWord, done_behind}
 use Rattle.vcpu_turn.specs.Pairs as owning
 use Rattle.vcpu_turn.specs.Pairs.{WorksOwned}
 use Rattle.vcpu_turn.specs.Turning as turning
@@ -28,7 +32,7 @@ use Rattle.vcpu_turn.specs.Working.{Works, valued}
 use Rattle.vcpu_turn.specs.declared.cpu.Progress.{Progress}
 use Rattle.vcpu_turn.specs.declared.cpu.TurnEnd.{TurnEnd}
 use Rattle.vcpu_turn.specs.declared.cpu.TurnEnd.TheVariants as ends
-use Rattle.turn_measures.specs.Measures.{IsWithin, StaysAt, ahead, op_size, to_retire}
+use Rattle.turn_measures.specs.Measures.{IsWithin, StaysAt, ahead, most_done, op_size, to_retire}
 
 -- ---- how far an operation comes
 did_forth : {fits : Fitting} {count from : ℕ} {v : PortValue} (k : ℕ) (w : PortValue) (answers : List Bool) → DidItems fits count from v k w answers → from ≤ k
@@ -102,21 +106,53 @@ writes_forth n from to size (Ok done) stops free = tt
 writes_forth n from to size (Err (Refused r)) stops free = tt
 writes_forth n from to size (Err (Paused p)) stops free = absurd (read_lost n p stops free)
 
+-- an update by address goes from none to its one element, or stays there
+waited_forth : (answer : Result (Unit {0}) Stop) → GoesForth 1 (done_behind answer) 1 answer
+waited_forth (Ok done) = tt
+waited_forth (Err (Refused r)) = tt
+waited_forth (Err (Paused p)) = (omega arith, omega arith)
+
+maps_forth : {d foreign va word flags : ℕ} {awaited : Option ℕ} {v : PortValue} (from to : ℕ) (w : PortValue) (answers : List Bool) (ended : Result (Unit {0}) Stop) → MapsWord d foreign va word flags awaited v from to w answers ended →
+    GoesForth from to 1 ended
+maps_forth _ _ _ _ _ (mapping.MapsWord.unset w answers e first) = between_forth {A = Unit {0}} 0 0 1 (Err e) (omega arith, omega arith)
+maps_forth _ _ _ _ _ (mapping.MapsWord.set u w answers answer first drops) = between_forth 0 (done_behind answer) 1 answer (omega arith, behind_one answer)
+maps_forth _ _ _ _ _ (mapping.MapsWord.waited w answer waits) = waited_forth answer
+
+-- an operation on descriptor tables is paused before its only element
+single_forth : (from to : ℕ) (ended : Result (Unit {0}) Stop) → from ≤ 0 → to ≡ done_by ended → GoesForth from to 0 ended
+single_forth from to (Ok done) few is = tt
+single_forth from to (Err (Refused r)) few is = tt
+single_forth from to (Err (Paused p)) few is = (omega (arith, few), omega (arith, is))
+
 works_forth : (n : Machine) (d : ℕ) (o : Option Task) (awaited : Option ℕ) (v : PortValue) (from to : ℕ) (w : PortValue) (answers : List Bool) (answer : Result ℕ Stop) → Works d o awaited v from to w answers answer →
-    IsUnhindered n (end_of to answer) → GoesForth from to (elements_in o) answer
-works_forth n d None awaited v from to w answers answer works free = refused_forth _ from to 0 answer works.refused
-works_forth n d (Some (OfPairs foreign list)) awaited v from to w answers answer works free =
+    from ≤ most_done o → IsUnhindered n (end_of to answer) → GoesForth from to (most_done o) answer
+works_forth n d None awaited v from to w answers answer works few free = refused_forth _ from to 0 answer works.refused
+works_forth n d (Some (OfPairs foreign list)) awaited v from to w answers answer works few free =
     valued_forth from to (length list) works.ended answer works.answer_is (owned_forth d foreign list v from to w answers works.ended works.works)
-works_forth n d (Some (OfExt list)) awaited v from to w answers answer works free =
+works_forth n d (Some (OfExt list)) awaited v from to w answers answer works few free =
     valued_forth from to (length list) works.ended answer works.answer_is (through_forth (length list) from to w answers works.ended works.works)
-works_forth n d (Some (OfMem command order items)) awaited v from to w answers answer works free =
+works_forth n d (Some (OfMem command order items)) awaited v from to w answers answer works few free =
     valued_forth from to (extents_in command items) works.ended answer works.answer_is (extents_forth d command order items v from to w answers works.ended works.works)
-works_forth n d (Some (OfRead user va)) awaited v from to w answers answer works free = reads_forth n from to 1 answer works.kinds free
-works_forth n d (Some (OfWrite user va val)) awaited v from to w answers answer works free =
+works_forth n d (Some (OfMapping foreign va word flags)) awaited v from to w answers answer works few free =
+    valued_forth from to 1 works.ended answer works.answer_is (maps_forth from to w answers works.ended works.works)
+works_forth n d (Some (OfDescriptors tables)) awaited v from to w answers answer works few free =
+    valued_forth from to 0 works.ended answer works.answer_is (single_forth from to works.ended few works.works.done)
+works_forth n d (Some (OfRead user va)) awaited v from to w answers answer works few free = reads_forth n from to 1 answer works.kinds free
+works_forth n d (Some (OfWrite user va val)) awaited v from to w answers answer works few free =
     valued_forth from to 1 works.ended answer works.answer_is
     (writes_forth n from to 1 works.ended works.works.kinds (subst (λ (a : Result ℕ Stop). IsUnhindered n (end_of to a)) works.answer_is free))
 
 -- ---- what is ahead then
+most_few : (o : Option Task) → most_done o ≤ elements_in o
+most_few None = omega arith
+most_few (Some (OfPairs foreign list)) = omega arith
+most_few (Some (OfExt list)) = omega arith
+most_few (Some (OfMem command order items)) = omega arith
+most_few (Some (OfMapping foreign va word flags)) = omega arith
+most_few (Some (OfDescriptors tables)) = omega arith
+most_few (Some (OfRead user va)) = omega arith
+most_few (Some (OfWrite user va val)) = omega arith
+
 next_ahead : (script : List Op) (k : ℕ) (op : Op) → slice_get script k ≡ Some op → sum_by op_size (drop k script) ≡ op_size op + sum_by op_size (drop (k + 1) script)
 next_ahead script k op at =
     let all = sum_by-drop_more op_size script k op (slice_get_within script k op at) in
@@ -131,22 +167,25 @@ module _ (c : Processing) (within : IsWithin c) (runs : c.retired ≡ false) whe
     rest : ℕ
     rest = sum_by op_size (drop (c.answered + 1) c.script)
 
+    within_task : c.at.done ≤ most_done (task_of op)
+    within_task = subst (λ (o : Option Op). c.at.done ≤ most_done (task_next o)) next within
+
     within_op : c.at.done ≤ elements_of (Some op)
-    within_op = subst (λ (o : Option Op). c.at.done ≤ elements_of o) next within
+    within_op = let most = most_few (task_of op) in let few = within_task in omega (arith, most, few)
 
     answered_gets : (ahead (record c { answered = c.answered + 1; at = record c.at { done = 0 } }) < ahead c)
     answered_gets = let all = next_ahead c.script c.answered op next in let few = within_op in omega (arith, all, few)
 
-    paused_gets : (to : Progress) (log : List LogLine) (p : Pause) → Between c.at.done to.done (elements_of (Some op)) → Gets c (after_turn (nothing_left c) to log (ends.Paused p)) (ends.Paused p)
+    paused_gets : (to : Progress) (log : List LogLine) (p : Pause) → Between c.at.done to.done (most_done (task_of op)) → Gets c (after_turn (nothing_left c) to log (ends.Paused p)) (ends.Paused p)
     paused_gets to log p on = (
-      subst (λ (o : Option Op). to.done ≤ elements_of o) (sym next) on.1,
+      subst (λ (o : Option Op). to.done ≤ most_done (task_next o)) (sym next) on.1,
       elim (cases_eq to.done c.at.done) [
         | inl same ↦ inr (record { pause = p; end_is = refl; ahead = ap (λ k. to_retire c.retired + (sum_by op_size (drop c.answered c.script) - k)) same; done = same; answered = refl; goes_on = runs })
-        | inr other ↦ inl (let all = next_ahead c.script c.answered op next in let up = on.0 in let most = on.1 in omega (arith, all, up, most, other))
+        | inr other ↦ inl (let all = next_ahead c.script c.answered op next in let up = on.0 in let most = on.1 in let few = most_few (task_of op) in omega (arith, all, up, most, few, other))
       ],
     )
 
-    after_gets : (to : Progress) (log : List LogLine) (answer : Result ℕ Stop) → GoesForth c.at.done to.done (elements_of (Some op)) answer → Gets c (after_turn (nothing_left c) to log (end_of to.done answer)) (end_of to.done answer)
+    after_gets : (to : Progress) (log : List LogLine) (answer : Result ℕ Stop) → GoesForth c.at.done to.done (most_done (task_of op)) answer → Gets c (after_turn (nothing_left c) to log (end_of to.done answer)) (end_of to.done answer)
     after_gets to log (Ok value) forth = (omega arith, inl answered_gets)
     after_gets to log (Err (Refused r)) forth = (omega arith, inl answered_gets)
     after_gets to log (Err (Paused p)) forth = paused_gets to log p forth
@@ -161,7 +200,7 @@ module _ (c : Processing) (within : IsWithin c) (runs : c.retired ≡ false) whe
   going_gets n o next v _ _ _ _ free (turning.DoesTurn.unsettled w answers p settles) = unsettled_gets _ p
   going_gets n None next v _ _ _ _ free (turning.DoesTurn.settled u w d early answers end settles retires) = subst (λ (x : Processing). Gets c x end) (sym retires.cpu) (retires_gets end)
   going_gets n (Some op) next v _ _ _ _ free (turning.DoesTurn.settled u w d early answers end settles on) =
-      let forth = works_forth n c.domain (task_of op) c.at.awaited u c.at.done on.to.done w answers on.answer on.went.works (subst (IsUnhindered n) on.end_is free) in
+      let forth = works_forth n c.domain (task_of op) c.at.awaited u c.at.done on.to.done w answers on.answer on.went.works (within_task op next) (subst (IsUnhindered n) on.end_is free) in
       let gets = after_gets op next on.to on.log on.answer forth in
       subst (λ (x : Processing). Gets c x end) (sym (on.cpu ∙ ap (after_turn (nothing_left c) on.to on.log) on.end_is)) (subst (Gets c (after_turn (nothing_left c) on.to on.log (end_of on.to.done on.answer))) (sym on.end_is) gets)
 

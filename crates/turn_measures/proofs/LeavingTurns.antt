@@ -23,24 +23,33 @@ use Rattle.answer_fits.proofs.Piecing.{serves_came}
 use Rattle.answer_laws.specs.Alone.{IsAlone}
 use Rattle.flush_words.specs.Flushing.{FlushesOwn}
 use Rattle.flush_words.specs.Flushing as flushing
+use Rattle.desc_pages.specs.Descriptors.{descriptor_deeds, of_descriptor}
+use Rattle.desc_pages.specs.Gdt.{gdt_deeds, of_gdt}
+use Rattle.desc_pages.specs.Names.{own_domain}
 use Rattle.foreign_map.specs.Owning.{of_owners}
 use Rattle.foreign_map.specs.declared.owners.Owners.{Owners}
+use Rattle.ldt_pages.specs.Touching.{of_touch, touch_deeds}
 use Rattle.level_release.specs.Asking.{of_settle}
+use Rattle.mmu_update.specs.Addresses.{of_at}
 use Rattle.mmu_update.specs.Elements as pairs
 use Rattle.mmu_update.specs.Fits.{Updates}
 use Rattle.mmu_update.specs.declared.element.Element as updating
 use Rattle.mmuext_ops.specs.Elements as elements
 use Rattle.mmuext_ops.specs.declared.element.Element.{Element}
+use Rattle.mmuext_ops.specs.declared.element.Element.TheVariants.{FlushVcpus}
 use Rattle.reservations.specs.Extents.{of_extent}
 use Rattle.tlb_walks.specs.Accesses.{ServesWrite}
 use Rattle.tlb_walks.specs.Asking.{of_read, of_write}
 use Rattle.tlb_walks.specs.Dropping.{Acks, Heeds}
-use Rattle.vcpu_turn.specs.Cpus.{OfExt, OfMem, OfPairs, OfRead, OfWrite, Processing, Task, next_of, nothing_left, task_of}
+use Rattle.vcpu_turn.specs.Cpus.{OfDescriptors, OfExt, OfMapping, OfMem, OfPairs, OfRead, OfWrite, Processing, Task, next_of, nothing_left, task_of}
+use Rattle.vcpu_turn.specs.Descriptors.{DescriptorFits, DescriptorTask, SetDescriptor, SetGdt, TouchLdt}
 use Rattle.vcpu_turn.specs.Extents as extents
 use Rattle.vcpu_turn.specs.Extents.{ExtentFits, WorksExtents, begins_in, extents_in}
 use Rattle.vcpu_turn.specs.Lists as lists
 use Rattle.vcpu_turn.specs.Lists.{DidItems, Fitting, WorksOn, WorksThrough, more, all_done, last_done, due, stopped}
 use Rattle.vcpu_turn.specs.Ext.{ExtFits, FitsExt, Performs, awaited_for}
+use Rattle.vcpu_turn.specs.Mappings as mapping
+use Rattle.vcpu_turn.specs.Mappings.{DropsBehind, DropsOwn, MapsWord, UpdatesWord, WaitsForAll, own_drop, waits_for_all}
 use Rattle.vcpu_turn.specs.Pairs as owning
 use Rattle.vcpu_turn.specs.Pairs.{FindsOwners, FitsPair, PairFits, WorksOwned}
 use Rattle.vcpu_turn.specs.Settling.{SettlesFirst, Settles, unsettled, performed}
@@ -179,11 +188,47 @@ extents_kept d command order items v from _ _ _ _ (extents.WorksExtents.on to wi
     let at = begins_in command from in
     list_kept (ExtentFits d command order items at within) (extent_kept d command order items at within) (extents_in command items) at v to w answers answer works
 
+-- an update by address
+word_kept : (d foreign va word flags : ℕ) (v w : PortValue) (answers : List Bool) (answer : Result (Unit {0}) Stop) → UpdatesWord d foreign va word flags v w answers answer → Kept v w
+word_kept d foreign va word flags v _ _ _ (mapping.UpdatesWord.far above) = kept_self v
+word_kept d foreign va word flags v _ _ _ (mapping.UpdatesWord.unowned w x few finds) = owners_kept v w d foreign (Err x) finds
+word_kept d foreign va word flags v _ _ _ (mapping.UpdatesWord.flagged w o few finds bad) = owners_kept v w d foreign (Ok o) finds
+word_kept d foreign va word flags v _ _ _ (mapping.UpdatesWord.owned u w o answers answer few finds good at) =
+    kept_trans v u w (owners_kept v u d foreign (Ok o) finds) (kept_serves u w (of_at o va at.table word answer) at.serves.0 refl at.serves.2)
+
+drop_kept : (d : ℕ) (e : Option Element) (v w : PortValue) (answer : Result (Unit {0}) Stop) → DropsOwn d e v w answer → Kept v w
+drop_kept d (Some e) v w answer drops = performs_kept d e None v w [] answer drops
+drop_kept d None v w answer drops = kept_same v w drops.0
+
+wait_kept : (d : ℕ) (waits : Bool) (awaited : Option ℕ) (v w : PortValue) (answer : Result (Unit {0}) Stop) → WaitsForAll d waits awaited v w answer → Kept v w
+wait_kept d true awaited v w answer waits = performs_kept d (FlushVcpus elements.every_vcpu) awaited v w [] answer waits
+wait_kept d false awaited v w answer waits = kept_same v w waits.0
+
+drops_kept : (d flags va : ℕ) (v w : PortValue) (answer : Result (Unit {0}) Stop) → DropsBehind d flags va v w answer → Kept v w
+drops_kept d flags va v _ _ (mapping.DropsBehind.undropped w e drops) = drop_kept d (own_drop flags va) v w (Err e) drops
+drops_kept d flags va v _ _ (mapping.DropsBehind.dropped u w answer drops waits) =
+    kept_trans v u w (drop_kept d (own_drop flags va) v u (Ok tt) drops) (wait_kept d (waits_for_all flags) None u w answer waits)
+
+maps_kept : (d foreign va word flags : ℕ) (awaited : Option ℕ) (v : PortValue) (from to : ℕ) (w : PortValue) (answers : List Bool) (answer : Result (Unit {0}) Stop) → MapsWord d foreign va word flags awaited v from to w answers answer → Kept v w
+maps_kept d foreign va word flags awaited v _ _ _ _ _ (mapping.MapsWord.unset w answers e first) =
+    behind_kept (UpdatesWord d foreign va word flags) (word_kept d foreign va word flags) v w answers (Err e) first
+maps_kept d foreign va word flags awaited v _ _ _ _ _ (mapping.MapsWord.set u w answers answer first drops) =
+    kept_trans v u w (behind_kept (UpdatesWord d foreign va word flags) (word_kept d foreign va word flags) v u answers (Ok tt) first) (drops_kept d flags va u w answer drops)
+maps_kept d foreign va word flags awaited v _ _ _ _ _ (mapping.MapsWord.waited w answer waits) = wait_kept d true awaited v w answer waits
+
+-- an operation on descriptor tables
+descriptors_kept : (t : DescriptorTask) (v w : PortValue) (answer : Result (Unit {0}) Stop) → DescriptorFits t v w answer → Kept v w
+descriptors_kept (SetGdt entries frames) v w answer fit = kept_serves v w (of_gdt (own_domain v) entries frames) (gdt_deeds v frames answer) refl fit.serves
+descriptors_kept (SetDescriptor address word) v w answer fit = kept_serves v w (of_descriptor (own_domain v) address word fit.want) (descriptor_deeds v address word answer) refl fit.serves
+descriptors_kept (TouchLdt page) v w answer fit = kept_serves v w (of_touch (own_domain v) page fit.base) (touch_deeds v page fit.frame answer) refl fit.serves
+
 works_kept : (d : ℕ) (o : Option Task) (awaited : Option ℕ) (v : PortValue) (from to : ℕ) (w : PortValue) (answers : List Bool) (answer : Result ℕ Stop) → Works d o awaited v from to w answers answer → Kept v w
 works_kept d None awaited v from to w answers answer whole = kept_same v w whole.no_step
 works_kept d (Some (OfPairs foreign list)) awaited v from to w answers answer x = owned_kept d foreign list v from to w answers x.ended x.works
 works_kept d (Some (OfExt list)) awaited v from to w answers answer x = through_kept d list awaited v from to w answers x.ended x.works
 works_kept d (Some (OfMem command order items)) awaited v from to w answers answer x = extents_kept d command order items v from to w answers x.ended x.works
+works_kept d (Some (OfMapping foreign va word flags)) awaited v from to w answers answer x = maps_kept d foreign va word flags awaited v from to w answers x.ended x.works
+works_kept d (Some (OfDescriptors tables)) awaited v from to w answers answer x = descriptors_kept tables v w x.ended x.works.does
 works_kept d (Some (OfRead user va)) awaited v from to w answers answer x = kept_serves v w (of_read va) (misses v.post.machine answer) refl x.serves
 works_kept d (Some (OfWrite user va val)) awaited v from to w answers answer x = write_kept user va val v w x.ended x.works.serves
 

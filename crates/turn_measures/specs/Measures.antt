@@ -8,7 +8,7 @@ use Rattle.xp_words.specs.declared.place.Place.TheVariants.{Clock, Life, Vcpu}
 use Rattle.step_maker.specs.Plain.{Words}
 use Rattle.table_words.specs.OldWords.{old_place}
 use Rattle.table_words.specs.declared.old_words.OldWord.TheVariants.{First, Second}
-use Rattle.vcpu_turn.specs.Cpus.{Processing, elements_of, next_of}
+use Rattle.vcpu_turn.specs.Cpus.{OfDescriptors, Processing, Task, elements_in, elements_of, next_of, task_next}
 use Rattle.vcpu_turn.specs.declared.cpu.TurnEnd.{TurnEnd}
 use Rattle.vcpu_turn.specs.declared.cpu.TurnEnd.TheVariants as ends
 
@@ -24,9 +24,14 @@ to_retire retired = if retired then 0 else 1
 abbrev pub ahead : Processing → ℕ
 ahead c = to_retire c.retired + (sum_by op_size (drop c.answered c.script) - c.at.done)
 
--- no more elements are done than the operation has
+-- how many elements of an operation may be done that is not answered: an operation on descriptor tables is paused before its only one
+abbrev pub most_done : Option Task → ℕ
+most_done (Some (OfDescriptors tables)) = 0
+most_done o = elements_in o
+
+-- no more elements are done than that
 abbrev pub IsWithin : Processing → Type 0
-IsWithin c = c.at.done ≤ elements_of (next_of c)
+IsWithin c = c.at.done ≤ most_done (task_next (next_of c))
 
 -- the turn was paused, and no more is done than before
 pub record StaysAt (c d : Processing) (end : TurnEnd) : Type 0 where

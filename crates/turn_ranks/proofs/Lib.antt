@@ -8,7 +8,10 @@ pub mod Locking
 pub mod Unlocking
 pub mod Updating
 pub mod Reserving
+pub mod Walking
+pub mod Describing
 pub mod Performing
 pub mod Settled
 pub mod Owners
+pub mod Addressing
 pub mod Staying

@@ -25,6 +25,7 @@ use Rattle.table_twins.proofs.Referring.{is_inside, not_full}
 use Rattle.table_words.specs.OldWords.{old_place}
 use Rattle.course_laws.specs.Courses.{IsOrderly}
 use Rattle.frame_ranks.specs.Ranks.{AreAllAlive, GetsFurther, GoesForward, rank_at, rank_of}
+use Rattle.frame_ranks.proofs.Standings.{rank_live}
 use Rattle.turn_ranks.proofs.Forward.{Comes, is_ranked, old_ranked}
 use Rattle.turn_ranks.proofs.Storing.{set_here, set_there}
 
@@ -82,9 +83,6 @@ pub record IsUnlocked (z y : Words) (f : ℕ) : Type 0 where
   pub kind : kind_at y f ≡ record (kind_at z f) { number = (kind_at z f).number - 1; locked = false }
   pub there : (q : Place) → is_ranked q ≡ true → q ≢ Kind f → y q ≡ z q
 
-live_rank : (k : KindWord) → k.validated ≡ true → rank_of k ≡ 515
-live_rank k live = ap (λ b. if b then 515 else if k.partial then (if k.unflushed then 1 else k.progress + 2) else 0) live
-
 same_at : (x y : Words) (g : ℕ) → x (Kind g) ≡ y (Kind g) → kind_at x g ≡ kind_at y g
 same_at x y g e = ap kind_fields e
 
@@ -119,7 +117,7 @@ module _ (n : Machine) (m x : Words) (f : ℕ) (l : IsLocked m x f) where
       ranks : (g : ℕ) → g < n.frames → rank_at m g ≤ rank_at y g
       ranks g real =
           elim (cases_eq g f) [
-            | inl at ↦ subst (λ h. rank_at m h ≤ rank_at y h) (sym at) (let c = live_rank (kind_at m f) l.live in let d = live_rank (kind_at y f) live_again in omega (arith, c, d))
+            | inl at ↦ subst (λ h. rank_at m h ≤ rank_at y h) (sym at) (let c = rank_live (kind_at m f) l.live in let d = rank_live (kind_at y f) live_again in omega (arith, c, d))
             | inr off ↦ let c = a.ranks g real in let d = ap rank_of (off_at g off) in let e = ap rank_of (gone_at g off) in omega (arith, c, d, e)
           ]
 
@@ -157,8 +155,8 @@ module _ (n : Machine) (m x : Words) (f : ℕ) (l : IsLocked m x f) where
             | inl at ↦
                 absurd
                 (let h : rank_at x f < rank_at z f = subst (λ g. rank_at x g < rank_at z g) at b.higher in
-                let c = live_rank (kind_at x f) locked_live in
-                let d = live_rank (kind_at z f) live_still in
+                let c = rank_live (kind_at x f) locked_live in
+                let d = rank_live (kind_at z f) live_still in
                 omega (arith, h, c, d))
             | inr off ↦ record { frame = b.frame; real = b.real; higher = let c = b.higher in let d = ap rank_of (off_at b.frame off) in let e = ap rank_of (gone_at b.frame off) in omega (arith, c, d, e) }
           ]

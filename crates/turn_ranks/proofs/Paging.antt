@@ -1,5 +1,5 @@
 -- A frame that is asked as ordinary memory, and waits for a flush: it is left with its mark, and stands no lower than before.
-use Rattle.std.proofs.Common.{◌≡◌, ◌≢◌, ◌⊎◌, ℕ, ◌+◌, ◌<◌, ◌≤◌, ◌^◌, ◌==◌, ◌&&◌, not, if◌then◌else◌, Bool, true, false, Some, None, Ok, refl, sym, ap, ◌∙◌, subst, subst₂, inl, inr, arith}
+use Rattle.std.proofs.Common.{◌≡◌, ◌≢◌, ◌⊎◌, ℕ, ◌<◌, ◌≤◌, ◌^◌, ◌==◌, ◌&&◌, not, if◌then◌else◌, Bool, true, false, Some, None, Ok, refl, sym, ap, ◌∙◌, subst, subst₂, inl, inr, arith}
 use Rattle.std.proofs.lemmas.Bool.{cases_eq}
 use Rattle.xp_words.specs.KindWords.{kind_fields}
 use Rattle.xp_words.specs.Machine.{Machine}
@@ -32,6 +32,7 @@ use Rattle.vcpu_turn.specs.declared.cpu.TurnEnd.TheVariants as ends
 use Rattle.table_twins.proofs.Typing.{dead_says}
 use Rattle.acquisition_laws.proofs.Lows.{type_low}
 use Rattle.frame_ranks.specs.Ranks.{GoesForward, rank_at, rank_of}
+use Rattle.frame_ranks.proofs.Standings.{rank_dead, rank_waits}
 use Rattle.turn_ranks.proofs.Forward.{alike_counts, alike_olds, alike_ranks, is_ranked, old_ranked}
 use Rattle.turn_ranks.proofs.Asides.{put_still}
 use Rattle.turn_ranks.proofs.Storing.{Stored, set_there}
@@ -48,10 +49,10 @@ pub never_busy : (n : Machine) (f w : ℕ) (want : PageType) (x : Pause) → typ
 never_busy n f w want x is un = never_by n f w want (standing_of (kind_fields w) want) x is un
 
 -- ---- its word before
-dead_low : (v p l u : Bool) (j : ℕ) → (not v && (not p && not l)) ≡ true → (v ≡ false) × ((if v then 515 else if p then (if u then 1 else j + 2) else 0) ≤ 1)
-dead_low true p l u j is = absurd cc
-dead_low false true l u j is = absurd cc
-dead_low false false l u j is = (refl, omega arith)
+dead_parts : (v p l : Bool) → (not v && (not p && not l)) ≡ true → (v ≡ false) × (p ≡ false)
+dead_parts true p l is = absurd cc
+dead_parts false true l is = absurd cc
+dead_parts false false l is = (refl, refl)
 
 partial_by : (d s v z p : Bool) → (if d then stands.Dead else if not s then stands.Other else if v then (if z then stands.Busy else stands.Counted) else if p then stands.Partial else stands.Busy) ≡ stands.Partial → (v ≡ false) × (p ≡ true)
 partial_by true s v z p is = absurd cc
@@ -61,16 +62,13 @@ partial_by false true true false p is = absurd cc
 partial_by false true false z true is = (refl, refl)
 partial_by false true false z false is = absurd cc
 
-partial_low : (v p u : Bool) (j : ℕ) → v ≡ false → p ≡ true → u ≡ true → (if v then 515 else if p then (if u then 1 else j + 2) else 0) ≤ 1
-partial_low v p u j a b c = rw (a, b, c) (omega arith)
-
 pub low_before : (f w : ℕ) (want : PageType) (own : Bool) (stamp : ℕ) (stop : Stop) (s : Standing) → standing_of (kind_fields w) want ≡ s → stop_by f want w s ≡ None → IsTakenBy want (kind_fields w) s (types.Waiting own stamp stop) →
     ((kind_fields w).validated ≡ false) × (rank_of (kind_fields w) ≤ 1)
-low_before f w want own stamp stop stands.Dead is none way = let k = kind_fields w in dead_low k.validated k.partial k.locked k.unflushed k.progress (dead_says k want is)
+low_before f w want own stamp stop stands.Dead is none way = let k = kind_fields w in let a = dead_parts k.validated k.partial k.locked (dead_says k want is) in (a.0, rank_dead k a.0 a.1)
 low_before f w want own stamp stop stands.Partial is none way =
     let k = kind_fields w in
     let a = partial_by (not k.validated && (not k.partial && not k.locked)) (is_same_type k.kind want) k.validated (k.number == 0) k.partial is in
-    (a.0, partial_low k.validated k.partial k.unflushed k.progress a.0 a.1 way.0)
+    (a.0, (let e = rank_waits k a.0 a.1 way.0 in omega (arith, e)))
 low_before f w want own stamp stop stands.Counted is none way = absurd cc
 low_before f w want own stamp stop stands.Busy is none way = absurd cc
 low_before f w want own stamp stop stands.Other is none way = absurd cc

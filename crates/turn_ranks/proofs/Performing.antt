@@ -5,6 +5,8 @@ use Rattle.xp_words.specs.declared.reply.Pause.TheVariants.{Due}
 use Rattle.xp_words.specs.declared.reply.Stop.{Stop}
 use Rattle.xp_words.specs.declared.reply.Stop.TheVariants.{Refused, Paused}
 use Rattle.xp_board.specs.Told.{PortValue, is_telling, told_word}
+use Rattle.step_maker.specs.Moves.{Came}
+use Rattle.step_maker.proofs.Coming.{came_trans}
 use Rattle.step_maker.proofs.Telling.{came_telling}
 use Rattle.answer_fits.specs.Reasons.{Those, Whose}
 use Rattle.flush_waits.specs.Listing.{WaitedFor}
@@ -12,18 +14,26 @@ use Rattle.flush_waits.specs.Waiting.{meant}
 use Rattle.mmuext_ops.specs.Course as course
 use Rattle.mmuext_ops.specs.Course.{FlushedLocal, Performed, PinEnds, Pinned, SawKind, Unpinned, WaitedForVcpus, stamp_for}
 use Rattle.mmuext_ops.specs.declared.element.Element.{Element}
-use Rattle.mmuext_ops.specs.declared.element.Element.TheVariants.{Pin, Unpin, NewBase, NewUserBase, FlushLocal, Invalidate, FlushVcpus, Unknown}
+use Rattle.mmuext_ops.specs.declared.element.Element.TheVariants.{Pin, Unpin, NewBase, NewUserBase, FlushLocal, Invalidate, FlushVcpus, SetLdt, ClearPage, CopyPage, Unknown}
 use Rattle.table_bases.specs.Asking.{user_frame}
 use Rattle.table_bases.specs.Course as bases
 use Rattle.table_bases.specs.Course.{SetsBase}
 use Rattle.table_bases.specs.declared.words.Base.{Base}
 use Rattle.table_bases.specs.declared.words.Base.TheVariants.{Kernel, User}
 use Rattle.table_courses.specs.Acquiring.{GaveRef, GotRef}
+use Rattle.desc_pages.specs.Ldt as ldt
+use Rattle.desc_pages.specs.Ldt.{SetsLdt}
+use Rattle.whole_pages.specs.Whole as whole
+use Rattle.whole_pages.specs.Whole.{ClearsPage, CopiesPage}
+use Rattle.writable_pages.specs.Pages as pages
+use Rattle.writable_pages.specs.Pages.{GotPage}
+use Rattle.writable_pages.proofs.TakenWords.{page_came}
 use Rattle.course_laws.proofs.Awaiting.{AloneStays}
+use Rattle.course_laws.proofs.Stopping.{ref_came}
 use Rattle.turn_ranks.proofs.Forward.{comes_so, still_forward}
 use Rattle.turn_ranks.proofs.Asides.{Passes, does_passes, does_tells, gave_passes, moves_passes, passes_then, ref_passes, waited_aside}
 use Rattle.turn_ranks.proofs.Calm.{AcquiredForward, AcquiredFurther, IsCalm, calm_on, calm_telling}
-use Rattle.turn_ranks.proofs.Pages.{ComesBy, acquired_for, for_from, is_lost, never_for, unreferred_for}
+use Rattle.turn_ranks.proofs.Pages.{ComesBy, ComesFor, acquired_for, for_from, is_lost, never_for, page_for, unreferred_for}
 
 module _ (n : Machine) (stays : AloneStays) (forward : AcquiredForward) (further : AcquiredFurther) where
   -- ---- pins
@@ -82,6 +92,28 @@ module _ (n : Machine) (stays : AloneStays) (forward : AcquiredForward) (further
       let off : x ≢ Due = λ due. subst (λ y. WaitedFor v.post whose stamp (Err (Paused y)) t.list) due t.is in
       λ un. comes_so v.post.machine x (told_word v) (told_word w) off (still_forward v.post.machine (told_word v) (told_word w) (passes_then v a.looked w p q).still)
 
+  -- ---- whole pages
+  clear_for : (v : PortValue) (d f : ℕ) (w : PortValue) (r : Result (Unit {0}) Stop) → IsCalm v → ClearsPage v d f w r → ComesBy n r v w
+  clear_for v d f _ _ calm (whole.ClearsPage.unhad w e got) = page_for n v f d w (Err e) (calm_telling v calm) calm.alive got
+  clear_for v d f _ _ calm (whole.ClearsPage.cleared a b w got steps gave) = tt
+
+  got_came : (v : PortValue) (f owner : ℕ) (w : PortValue) (g : ℕ) → GotPage v f owner w (Ok g) → Came v w
+  got_came v f owner _ _ (pages.GotPage.had u w ref took) = came_trans v u w (ref_came v u f owner _ ref) (page_came u w f owner took)
+
+  unreferred_by : (v a b w : PortValue) (f owner : ℕ) (e : Stop) → is_telling a ≡ true → GotRef a b f owner (Err e) → ComesFor n e v w
+  unreferred_by v a b w f owner (Refused x) telling ref = tt
+  unreferred_by v a b w f owner (Paused x) telling ref = absurd (ref.plain telling)
+
+  copy_for : (v : PortValue) (d to from : ℕ) (words : List ℕ) (w : PortValue) (r : Result (Unit {0}) Stop) → IsCalm v → CopiesPage v d to from words w r → ComesBy n r v w
+  copy_for v d to from words _ _ calm (whole.CopiesPage.unhad w e got) = page_for n v to d w (Err e) (calm_telling v calm) calm.alive got
+  copy_for v d to from words _ _ calm (whole.CopiesPage.unreferred a b w e got ref gave) = unreferred_by v a b w from d e (came_telling v a (got_came v to d a to got) ∙ calm_telling v calm) ref
+  copy_for v d to from words _ _ calm (whole.CopiesPage.copied a b c e w all got ref steps back gave) = tt
+
+  -- ---- the LDT
+  table_for : (v : PortValue) (address entries : ℕ) (w : PortValue) (r : Result (Unit {0}) Stop) → SetsLdt v address entries w r → ComesBy n r v w
+  table_for v address entries _ _ (ldt.SetsLdt.barred x is) = tt
+  table_for v address entries _ _ (ldt.SetsLdt.set u w old none names stores) = tt
+
   -- ---- one element
   pub performed_for : (v w : PortValue) (d : ℕ) (e : Element) (awaited : Option ℕ) (answers : List Bool) (r : Result (Unit {0}) Stop) → IsCalm v → Performed v w d e awaited answers r → ComesBy n r v w
   performed_for v w d (Pin f level) awaited answers r calm a = pinned_for v w d f level answers r calm a
@@ -91,4 +123,7 @@ module _ (n : Machine) (stays : AloneStays) (forward : AcquiredForward) (further
   performed_for v w d FlushLocal awaited answers r calm a = local_for v w answers r a
   performed_for v w d (Invalidate va) awaited answers r calm a = subst (λ x. ComesBy n x v w) (sym a.done) tt
   performed_for v w d (FlushVcpus mask) awaited answers r calm a = waited_for v w mask awaited answers r calm a
+  performed_for v w d (SetLdt address entries) awaited answers r calm a = table_for v address entries w r a.1
+  performed_for v w d (ClearPage f) awaited answers r calm a = clear_for v d f w r calm a.1
+  performed_for v w d (CopyPage to from) awaited answers r calm a = copy_for v d to from a.1.0 w r calm a.1.1
   performed_for v w d Unknown awaited answers r calm a = subst (λ x. ComesBy n x v w) (sym a.2) tt

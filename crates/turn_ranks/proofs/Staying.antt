@@ -1,5 +1,5 @@
 -- An operation that is paused before another element of it is done lets no frame fall back; and where its gate pauses it, one is further.
-use Rattle.std.proofs.Common.{◌≡◌, ℕ, ◌≤◌, Bool, true, List, length, Option, Some, None, Result, Ok, Err, IfErr, refl, sym, ap, ◌∙◌, subst, inl, inr, arith}
+use Rattle.std.proofs.Common.{◌≡◌, ℕ, ◌≤◌, Bool, true, List, [], length, Option, Some, None, Result, Ok, Err, IfErr, refl, sym, ap, ◌∙◌, subst, inl, inr, arith}
 use Rattle.std.specs.Prelude.{slice_get}
 use Rattle.xp_words.specs.Machine.{Machine}
 use Rattle.xp_words.specs.declared.ops.ExtOp.{ExtOp}
@@ -14,12 +14,16 @@ use Rattle.xp_board.specs.Told.{PortValue, is_telling}
 use Rattle.foreign_map.specs.declared.owners.Owners.{Owners}
 use Rattle.mmu_update.specs.Elements.{element_of}
 use Rattle.mmu_update.specs.Fits.{Updates}
-use Rattle.mmuext_ops.specs.Elements.{ext_element}
+use Rattle.mmuext_ops.specs.Elements.{every_vcpu, ext_element}
+use Rattle.mmuext_ops.specs.declared.element.Element.TheVariants.{FlushVcpus}
 use Rattle.tlb_walks.specs.Asking.{IsGuestReadStop, IsGuestWriteStop}
 use Rattle.course_laws.proofs.Awaiting.{AloneStays, alone_telling}
 use Rattle.turn_laws.specs.Unhindered.{IsUnhindered}
 use Rattle.turn_laws.proofs.Bringing.{begins_later}
-use Rattle.vcpu_turn.specs.Cpus.{OfExt, OfMem, OfPairs, OfRead, OfWrite, Processing, Task, end_of, task_of}
+use Rattle.vcpu_turn.specs.Cpus.{OfDescriptors, OfExt, OfMapping, OfMem, OfPairs, OfRead, OfWrite, Processing, Task, end_of, task_of}
+use Rattle.vcpu_turn.specs.Descriptors.{DescriptorFits, DescriptorTask, SetDescriptor, SetGdt, TouchLdt}
+use Rattle.vcpu_turn.specs.Mappings as mappings
+use Rattle.vcpu_turn.specs.Mappings.{MapsWord, UpdatesWord}
 use Rattle.vcpu_turn.specs.Ext.{ExtFits, FitsExt, Performs, awaited_for}
 use Rattle.vcpu_turn.specs.Extents as extents
 use Rattle.vcpu_turn.specs.Extents.{ExtentFits, WorksExtents, begins_in, extents_in}
@@ -32,6 +36,8 @@ use Rattle.vcpu_turn.specs.Working.{Works, valued}
 use Rattle.vcpu_turn.specs.declared.cpu.Progress.{Progress}
 use Rattle.vcpu_turn.specs.declared.cpu.TurnEnd.TheVariants as ends
 use Rattle.turn_ranks.proofs.Calm.{AcquiredForward, AcquiredFurther, ComesTo}
+use Rattle.turn_ranks.proofs.Addressing.{word_for}
+use Rattle.turn_ranks.proofs.Describing.{DescLaws, descriptor_for, gdt_for, ldt_for}
 use Rattle.turn_ranks.proofs.Owners.{owners_pass}
 use Rattle.turn_ranks.proofs.Pages.{ComesBy, by_passes}
 use Rattle.turn_ranks.proofs.Performing.{performed_for}
@@ -94,7 +100,7 @@ module _ (n : Machine) where
   valued_for v w (Ok done) c = tt
   valued_for v w (Err e) c = c
 
-  module _ (stays : AloneStays) (forward : AcquiredForward) (further : AcquiredFurther) (same : SettledSame) where
+  module _ (stays : AloneStays) (forward : AcquiredForward) (further : AcquiredFurther) (laws : DescLaws) (same : SettledSame) where
     -- ---- one item
     pair_for : (o : Owners) (q : Option Pair) (v w : PortValue) (answers : List Bool) (r : Result (Unit {0}) Stop) → IsSettled v → FitsPair o q v w answers r → ComesBy n r v w
     pair_for o None v w answers r s fit = absurd fit
@@ -122,6 +128,23 @@ module _ (n : Machine) where
     through_for d list awaited v from to w answers r s (inr on) is =
         on_for (ExtFits d list from awaited) (length list) from v (λ k y asked a fit. ext_for d (awaited_for from awaited k) (slice_get list k) v y asked a s fit) to w answers r on.1 (omega (arith, is))
 
+    -- ---- an update by address: one that is paused behind its entry went on no further only where it waited before, too
+    maps_for : (d foreign va word flags : ℕ) (awaited : Option ℕ) (v : PortValue) (from to : ℕ) (w : PortValue) (answers : List Bool) (r : Result (Unit {0}) Stop) → IsSettled v →
+        MapsWord d foreign va word flags awaited v from to w answers r → to ≡ from → ComesBy n r v w
+    maps_for d foreign va word flags awaited v _ _ _ _ _ s (mappings.MapsWord.unset w answers e first) is =
+        first_for n stays same (UpdatesWord d foreign va word flags) (λ u y asked a calm does. word_for n stays forward further d foreign va word flags u y asked a calm does) v w answers (Err e) s first
+    maps_for d foreign va word flags awaited v _ _ _ _ _ s (mappings.MapsWord.set u w answers (Ok done) first drops) is = tt
+    maps_for d foreign va word flags awaited v _ _ _ _ _ s (mappings.MapsWord.set u w answers (Err (Refused x)) first drops) is = tt
+    maps_for d foreign va word flags awaited v _ _ _ _ _ s (mappings.MapsWord.set u w answers (Err (Paused x)) first drops) is = absurd (omega (arith, is))
+    maps_for d foreign va word flags awaited v _ _ _ _ _ s (mappings.MapsWord.waited w answer waits) is =
+        performed_for n stays forward further v w d (FlushVcpus every_vcpu) awaited [] answer (record { alone = s.alone; alive = s.alive }) waits.course
+
+    -- ---- descriptor tables
+    tables_for : (t : DescriptorTask) (v w : PortValue) (r : Result (Unit {0}) Stop) → IsSettled v → DescriptorFits t v w r → ComesBy n r v w
+    tables_for (SetGdt entries frames) v w r s fits = gdt_for n stays laws v w entries frames r (record { alone = s.alone; alive = s.alive }) fits
+    tables_for (SetDescriptor address word) v w r s fits = descriptor_for n stays laws v w address word r (record { alone = s.alone; alive = s.alive }) fits
+    tables_for (TouchLdt page) v w r s fits = ldt_for n stays laws v w page r (record { alone = s.alone; alive = s.alive }) fits
+
     works_for : (d : ℕ) (o : Option Task) (awaited : Option ℕ) (v : PortValue) (from to : ℕ) (w : PortValue) (answers : List Bool) (r : Result ℕ Stop) → IsSettled v → Works d o awaited v from to w answers r → to ≡ from → ComesBy n r v w
     works_for d None awaited v from to w answers r s works is = whole_for _ v v w to w answers r works
     works_for d (Some (OfPairs foreign list)) awaited v from to w answers r s works is =
@@ -130,6 +153,10 @@ module _ (n : Machine) where
         subst (λ x. ComesBy n x v w) (sym works.answer_is) (valued_for v w works.ended (through_for d list awaited v from to w answers works.ended s works.works is))
     works_for d (Some (OfMem command order items)) awaited v from to w answers r s works is =
         subst (λ x. ComesBy n x v w) (sym works.answer_is) (valued_for v w works.ended (extents_for d command order items v from to w answers works.ended (alone_telling v s.alone) works.works is))
+    works_for d (Some (OfMapping foreign va word flags)) awaited v from to w answers r s works is =
+        subst (λ x. ComesBy n x v w) (sym works.answer_is) (valued_for v w works.ended (maps_for d foreign va word flags awaited v from to w answers works.ended s works.works is))
+    works_for d (Some (OfDescriptors tables)) awaited v from to w answers r s works is =
+        subst (λ x. ComesBy n x v w) (sym works.answer_is) (valued_for v w works.ended (tables_for tables v w works.ended s works.works.does))
     works_for d (Some (OfRead user va)) awaited v from to w answers r s works is = read_for v w r works.kinds
     works_for d (Some (OfWrite user va val)) awaited v from to w answers r s works is =
         subst (λ x. ComesBy n x v w) (sym works.answer_is) (valued_for v w works.ended (write_for v w works.ended works.works.kinds))

@@ -76,7 +76,7 @@ module _ (n : Machine) (stays : AloneStays) (forward : AcquiredForward) (further
       under_lock n u y z x.table stop l same inside (came_telling y z came ∙ calm_telling y calm) (for_from n stop y a z look c) w x.level lock
 
   -- ---- the word is written
-  lock_never : (y : PortValue) (f : ℕ) (m : Words) (e : Stop) → LocksPlainly y f m (Err e) → (p : Pause) → e ≡ Paused p → IsUnhindered n (ends.Paused p) → ⊥
+  pub lock_never : (y : PortValue) (f : ℕ) (m : Words) (e : Stop) → LocksPlainly y f m (Err e) → (p : Pause) → e ≡ Paused p → IsUnhindered n (ends.Paused p) → ⊥
   lock_never y f m (Refused x) plain p is un = plain
   lock_never y f m (Paused (Busy g x)) plain p is un = let e : p ≡ Busy g x = cc in subst (λ q. IsUnhindered n (ends.Paused q)) e un
   lock_never y f m (Paused Due) plain p is un = plain
@@ -87,7 +87,7 @@ module _ (n : Machine) (stays : AloneStays) (forward : AcquiredForward) (further
   other_passes : (u y : PortValue) (f owner found : ℕ) → is_telling u ≡ true → TriedLock u y f owner (Ok (Other found)) → Passes u y
   other_passes u y f owner found telling lock = record { came = does_came u y _ lock.found; still = still_all (told_word u) (told_word y) (lock.plain telling).3 }
 
-  exchanged_from : (v u y : PortValue) (o : Owners) (f i word : ℕ) (keep : Bool) (level found : ℕ) (w : PortValue) (answers : List Bool) (r : Result (Unit {0}) Stop) → IsCalm v → GotRef v u f o.tables (Ok f) →
+  pub exchanged_from : (v u y : PortValue) (o : Owners) (f i word : ℕ) (keep : Bool) (level found : ℕ) (w : PortValue) (answers : List Bool) (r : Result (Unit {0}) Stop) → IsCalm v → GotRef v u f o.tables (Ok f) →
       TriedLock u y f o.tables (Ok (Table level found)) → Exchanged y (entry_update f level i word keep) o w answers r → ComesBy n r v w
   exchanged_from v u y o f i word keep level found w answers r calm ref lock exchange =
       let p = ref_passes v u f o.tables (calm_telling v calm) ref in

@@ -13,6 +13,7 @@ ghost use Rattle.vcpu_turn.specs.Turning.{GoesOnWith};
 ghost use Rattle.vcpu_turn.specs.declared.cpu.TurnEnd.TheVariants as ends;
 
 use answer_laws::alone_stays;
+use desc_ranks::a_paused_taking_of_pages_goes_forward;
 use frame_ranks::a_paused_acquisition_goes_forward;
 use turn_measures::a_settling_that_ends_names_none;
 
@@ -26,5 +27,6 @@ pub fn a_turn_paused_within_an_element_goes_forward()
 {
     alone_stays();
     a_paused_acquisition_goes_forward();
+    a_paused_taking_of_pages_goes_forward();
     a_settling_that_ends_names_none();
 }

@@ -1,0 +1,5 @@
+pub mod Counts
+pub mod Taking
+pub mod Dropping
+pub mod Getting
+pub mod Tabled
