@@ -237,8 +237,8 @@ const EXTENTS: [Example; 10] = [
     Example {
         shows: "Blocks of orders 9, 7, 6, 4 and 0 around a frame that is not free.",
         pace: "",
-        trace: "xen-pv-trace 1\nframes 600\ndomain 600\nvcpu 0\nown 0 0 1\nown 0 130 1\nop 0 mem 0 9 1\nop 0 mem 0 7 1\nop 0 mem 0 6 1\nop 0 mem 0 4 1\nop 0 mem 0 0 2\nturn 0 5\nend\n",
-        lines: "op 1 refused 16 done 0 NoFree\nop 2 given 0 256\nop 3 given 0 64\nop 4 given 0 16\nop 5 given 0 1\nop 5 given 1 2\nop 5 ok done 2 value 0x0\ndomain 0 live pages 212\nfree 388\n",
+        trace: "xen-pv-trace 1\nframes 600\ndomain 600\nvcpu 0\nown 0 0 1\nown 0 130 1\nop 0 mem 0 9 1\nop 0 mem 0 7 1\nop 0 mem 1 7 256\nop 0 mem 0 6 1\nop 0 mem 1 6 64\nop 0 mem 0 4 1\nop 0 mem 0 0 2\nturn 0 7\nend\n",
+        lines: "op 1 refused 16 done 0 NoFree\nop 2 given 0 256\nop 3 ok done 1 value 0x0\nop 4 given 0 64\nop 6 given 0 16\nop 7 given 0 1\nop 7 given 1 2\nop 7 ok done 2 value 0x0\ndomain 0 live pages 20\nfree 580\n",
     },
     Example {
         shows: "A block that is populated has the page numbers from the one asked on; a number that no guest has is refused, and what was given before stays.",
@@ -319,6 +319,64 @@ const AT_LIMITS: [Example; 6] = [
     },
 ];
 
+// Descriptor tables, whole pages, and updates by address.
+const BY_ADDRESS: [Example; 9] = [
+    Example {
+        shows: "A GDT may name one frame twice, and then counts it twice; another GDT gives the pages of the first back, and an empty one all.",
+        pace: "",
+        trace: "xen-pv-trace 1\nframes 16\ndomain 16\nvcpu 0\nown 0 0 8\ncell 5 0 1 0xcf92000000ffff\nop 0 gdt 1024 5 5\nop 0 gdt 512 5\nop 0 gdt 0\nturn 0 3\nend\n",
+        lines: "op 1 ok done 1 value 0x0\nop 2 ok done 1 value 0x0\nop 3 ok done 1 value 0x0\nframe 5 owner 0 refs 1 alloc type desc count 0 flags - at 0 m2p -\n",
+    },
+    Example {
+        shows: "A descriptor that has no fixed form, in the last word of the third page, refuses the GDT; the pages before it are given back, and the GDT that stands stays. So does a wrong number of pages, or of entries.",
+        pace: "",
+        trace: "xen-pv-trace 1\nframes 16\ndomain 16\nvcpu 0\nown 0 0 8\ncell 3 511 1 0x8c0000000000\nop 0 gdt 512 4\nop 0 gdt 1536 1 2 3\nop 0 gdt 513 1\nop 0 gdt 7169 1\nturn 0 4\nend\n",
+        lines: "op 1 ok done 1 value 0x0\nop 2 refused 18 done 0 BadDescriptor frame=3 index=511 word=0x8c0000000000\nop 3 refused 17 done 0 BadRange\nop 4 refused 17 done 0 BadRange\nframe 1 owner 0 refs 1 alloc type desc count 0 flags - at 0 m2p -\nframe 3 owner 0 refs 1 alloc type desc count 0 flags - at 0 m2p -\nframe 4 owner 0 refs 2 alloc type desc count 1 flags v at 0 m2p -\n",
+    },
+    Example {
+        shows: "Of a GDT's two pages the second waits for a flush: the first is given back. Another vCPU takes the waiting page on, which has flushed then; and the first one goes on.",
+        pace: "",
+        trace: "xen-pv-trace 1\nframes 16\ndomain 8\nvcpu 0\nvcpu 0\nown 0 0 8\nop 0 mmu 0x7ff0 0x5000 0x1\nop 0 gdt 1024 4 5\nop 1 gdt 1 5\nturn 0 3\nturn 1 1\nturn 0 1\nend\n",
+        lines: "op 1 ok done 1 value 0x0\nop 2 ok done 1 value 0x0\nframe 4 owner 0 refs 2 alloc type desc count 1 flags v at 0 m2p -\nframe 5 owner 0 refs 3 alloc type desc count 2 flags v at 0 m2p -\n",
+    },
+    Example {
+        shows: "Pages are copied, onto themselves too, and cleared; not from or to a frame of nobody, and not into a page of the GDT. A descriptor there is updated in its fixed form, and one in ordinary memory too.",
+        pace: "",
+        trace: "xen-pv-trace 1\nframes 16\ndomain 16\nvcpu 0\nown 0 0 8\nop 0 mmu 0x7ff0 0x5000 0x1234 0x5ff8 0x5678\nop 0 ext 17 6 5 17 5 5 16 5 0\nop 0 ext 17 6 9\nop 0 gdt 512 6\nop 0 ext 16 6 0\nop 0 desc 0x6008 0xaf9a000000ffff\nop 0 desc 0x6004 0\nop 0 desc 0x6010 0x8c0000000000\nop 0 desc 0x7010 0xaf9a000000ffff\nop 0 desc 0x9000 0\nturn 0 10\nend\n",
+        lines: "op 1 ok done 2 value 0x0\nop 2 ok done 3 value 0x0\nop 3 refused 2 done 0 WrongOwner frame=9 found=free\nop 4 ok done 1 value 0x0\nop 5 refused 3 done 0 OtherType frame=6 want=wr found=desc,1,v\nop 6 ok done 1 value 0x0\nop 7 refused 17 done 0 BadRange\nop 8 refused 18 done 0 BadDescriptor frame=6 index=2 word=0x8c0000000000\nop 9 ok done 1 value 0x0\nop 10 refused 2 done 0 WrongOwner frame=9 found=free\n",
+    },
+    Example {
+        shows: "An LDT begins at a page, at a canonical address; its pages are walked to where the guest touches them, also across the edge of the canonical addresses, and without a base there is no way.",
+        pace: "",
+        trace: "xen-pv-trace 1\nframes 16\ndomain 16\nvcpu 0\nown 0 0 8\nop 0 ext 13 0x1001 1\nop 0 ext 13 0x1000 8193\nop 0 ext 13 0x800000000000 1\nop 0 ext 13 0x7ffffffff000 1024\nop 0 ldt 1\nop 0 ldt 2\nop 0 ext 13 0xffff7ffffffff000 1\nop 0 ext 13 0x7fffff000 8192\nop 0 ldt 0\nturn 0 9\nend\n",
+        lines: "op 1 refused 17 done 0 BadRange\nop 2 refused 17 done 0 BadRange\nop 3 refused 11 done 0 NonCanonical\nop 4 ok done 1 value 0x0\nop 5 refused 11 done 0 NonCanonical\nop 6 refused 17 done 0 BadRange\nop 7 refused 11 done 0 NonCanonical\nop 8 ok done 1 value 0x0\nop 9 refused 9 done 0 NotMapped level=5 entry=0x0\n",
+    },
+    Example {
+        shows: "A page of the LDT is taken at its first touch, and given back where an LDT is set again.",
+        pace: "",
+        trace: "xen-pv-trace 1\nframes 16\ndomain 14\nvcpu 0\nown 0 0 14\ncell 0 0 1 0x1007\ncell 1 0 1 0x2007\ncell 2 0 1 0x3007\ncell 3 9 1 0x9005\nop 0 ext 5 0 0\nop 0 ext 13 0x9000 512\nop 0 ldt 0\nop 0 ldt 0\nop 0 ext 13 0x9000 512\nop 0 ldt 1\nturn 0 6\nend\n",
+        lines: "op 3 ok done 1 value 0x0\nop 4 ok done 1 value 0x0\nop 5 ok done 1 value 0x0\nop 6 refused 17 done 0 BadRange\nframe 9 owner 0 refs 2 alloc type desc count 0 flags - at 0 m2p -\n",
+    },
+    Example {
+        shows: "An entry is set by the address that it maps, with each of its flags, for own frames and for another domain's; what is no address, leads to no table, or names no such domain is refused.",
+        pace: "",
+        trace: "xen-pv-trace 1\nframes 16\ndomain 8\ndomain 8\npriv 0 1\nvcpu 0\nown 0 0 8\nown 1 8 8\ncell 0 0 1 0x1007\ncell 1 0 1 0x2007\ncell 2 0 1 0x3007\nop 0 va 0x4000 0x4007 0\nop 0 ext 5 0 0\nop 0 va 0x4000 0x4007 0\nop 0 va 0x4000 0x5007 1\nop 0 va 0x4000 0x6007 2\nop 0 va 0x4000 0x6007 3\nop 0 va 0x4000 0x6007 8\nop 0 va 0x4000 0x7007 4\nop 0 va 0x4000 0x7007 6\nop 0 va 0x200000 0x7007 0\nop 0 va 0x800000000000 0 0\nop 0 va 0xffff800000000000 0 0\nop 0 va 0x5000 0x8007 0\nop 0 vaother 0x5000 0x8007 0 1\nop 0 vaother 0x5000 0x8007 0 0x10000\nop 0 vaother 0x5000 0x8007 0 2\nturn 0 16\nend\n",
+        lines: "op 1 refused 9 done 0 NotMapped level=5 entry=0x0\nop 3 ok done 1 value 0x0\nop 4 ok done 1 value 0x0\nop 5 ok done 1 value 0x0\nop 6 refused 17 done 0 BadRange\nop 7 refused 17 done 0 BadRange\nop 8 ok done 1 value 0x0\nop 9 ok done 1 value 0x0\nop 10 refused 9 done 0 NotMapped level=2 entry=0x0\nop 11 refused 11 done 0 NonCanonical\nop 12 refused 8 done 0 Slot index=256\nop 13 refused 2 done 0 WrongOwner frame=8 found=d1,1,a\nop 14 ok done 1 value 0x0\nop 15 refused 17 done 0 BadRange\nframe 8 owner 1 refs 2 alloc type wr count 1 flags v at 0 m2p -\n",
+    },
+    Example {
+        shows: "An update by address waits until the other vCPU of the domain has dropped its translations; its entry is set meanwhile.",
+        pace: "",
+        trace: "xen-pv-trace 1\nframes 16\ndomain 8\nvcpu 0\nvcpu 0\nown 0 0 8\ncell 0 0 1 0x1007\ncell 1 0 1 0x2007\ncell 2 0 1 0x3007\ncell 3 4 1 0x4007\nop 0 ext 5 0 0\nop 0 va 0x4000 0x5007 6\nop 1 ext 5 0 0\nop 1 write k 0x4008 0x11\nturn 0 1\nturn 1 2\nturn 0 2\nend\n",
+        lines: "pending 1\nframe 4 owner 0 refs 1 alloc type wr count 0 flags - at 0 m2p -\nframe 5 owner 0 refs 2 alloc type wr count 1 flags v at 0 m2p -\n",
+    },
+    Example {
+        shows: "It goes on when that has flushed, at the beginning of its next turn.",
+        pace: "",
+        trace: "xen-pv-trace 1\nframes 16\ndomain 8\nvcpu 0\nvcpu 0\nown 0 0 8\ncell 0 0 1 0x1007\ncell 1 0 1 0x2007\ncell 2 0 1 0x3007\ncell 3 4 1 0x4007\nop 0 ext 5 0 0\nop 0 va 0x4000 0x5007 6\nop 0 read k 0x4000\nop 1 ext 5 0 0\nop 1 write k 0x4008 0x11\nop 1 read k 0x4008\nturn 0 1\nturn 1 2\nturn 0 1\nturn 0 1\nturn 1 1\nturn 0 1\nturn 0 1\nend\n",
+        lines: "op 2 ok done 1 value 0x0\nop 3 ok done 1 value 0x0\n",
+    },
+];
+
 // The report of that example.
 fn report(rt: &(impl Abort + AllocGlobal), example: &Example) -> Vec<u8> {
     let words = if example.pace.is_empty() {
@@ -327,7 +385,7 @@ fn report(rt: &(impl Abort + AllocGlobal), example: &Example) -> Vec<u8> {
         with_pace(rt, example.pace)
     };
     let mut source = MemorySource::new(bytes(rt, example.trace), Vec::new(rt.alloc()));
-    let mut sink = MemorySink::new(rt.alloc(), 32768, 32768, Vec::new(rt.alloc())).expect(
+    let mut sink = MemorySink::new(rt.alloc(), 8192, 8192, Vec::new(rt.alloc())).expect(
         rt, "memory",
     );
     let answer = run_paced(rt, &words, &mut source, &mut sink);
@@ -370,6 +428,21 @@ fn each_example_of_extents_is_reported_with_what_it_leaves(rt: HostRuntime) {
 #[test]
 fn each_example_at_a_limit_is_reported_with_what_it_leaves(rt: HostRuntime) {
     for example in AT_LIMITS.iter() {
+        let text = report(&rt, example);
+        let text = str::from_utf8(&text).expect(&rt, "a text");
+        for wanted in example.lines.lines() {
+            assert!(rt;
+                text.lines().any(|line| line == wanted),
+                "{}",
+                example.shows
+            );
+        }
+    }
+}
+
+#[test]
+fn each_example_by_address_is_reported_with_what_it_leaves(rt: HostRuntime) {
+    for example in BY_ADDRESS.iter() {
         let text = report(&rt, example);
         let text = str::from_utf8(&text).expect(&rt, "a text");
         for wanted in example.lines.lines() {
