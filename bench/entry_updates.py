@@ -12,12 +12,7 @@ UPDATES = 60_000
 
 
 def trace():
-    lines = ["xen-pv-trace 1", "frames 4096", "domain 4096", "vcpu 0", "own 0 0 4096", "op 0 ext 0 0 0"]
-    for k in range(UPDATES):
-        # each entry in turn, to another page, writable and read-only
-        lines.append(f"op 0 mmu 0x7ff0 {8 * (k % 512)} {(1 + k % 4000) * 4096 + 1 + 2 * (k // 512 % 2)}")
-    lines += [f"turn 0 {UPDATES + 2}", "end"]
-    return ("\n".join(lines) + "\n").encode()
+    return timing.trace_of_updates(["op 0 ext 0 0 0"], lambda k, entry: f"op 0 mmu 0x7ff0 {8 * (k % 512)} {entry}", 1, UPDATES)
 
 
 if __name__ == "__main__":

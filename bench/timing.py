@@ -80,3 +80,12 @@ def print_beside(what, ours, other, data, runs=7):
     (one, two), (text, text_too) = medians(runs, [([ours, "turns"], data), ([other, "turns"], data)])
     same = "the same text" if text == text_too else "ANOTHER TEXT"
     print(f"{what}: {1000 * one:.1f} ms, {1000 * two:.1f} ms, ratio {one / two:.2f}, {same}")
+
+
+def trace_of_updates(start, update, first, updates):
+    """A trace of one guest that owns all 4,096 frames: the lines `start`, then that many updates of one live L1 table, each entry in turn, each time
+    to another page from `first` on, writable and read-only. `update` is the text of the k-th with this entry."""
+    lines = ["xen-pv-trace 1", "frames 4096", "domain 4096", "vcpu 0", "own 0 0 4096", *start]
+    lines += [update(k, (first + k % 4000) * 4096 + 1 + 2 * (k // 512 % 2)) for k in range(updates)]
+    lines += [f"turn 0 {updates + 2}", "end"]
+    return ("\n".join(lines) + "\n").encode()
