@@ -8,7 +8,7 @@ use Rattle.xp_words.specs.declared.entry.Demand.TheVariants as demands
 use Rattle.xp_words.specs.declared.kind.PageType.{PageType}
 use Rattle.xp_words.specs.declared.reply.Stop.{Stop}
 use Rattle.xp_board.specs.Told.{Post, PortValue}
-use Rattle.answer_fits.specs.Visits.{Does, Visit}
+use Rattle.step_maker.specs.Visits.{Does, Visit}
 use Rattle.frame_words.specs.Refs.{TakesFirst, had, stopped}
 use Rattle.frame_types.specs.Found.{GoesBy, TakesBy, TakesFound, TakesOf}
 use Rattle.frame_types.specs.Plain.{IsTakenBy, is_own, waits_by}

@@ -16,8 +16,8 @@ use Rattle.xp_board.specs.Readings.{is_dead}
 use Rattle.xp_board.specs.Told.{Finds, PortValue}
 use Rattle.step_maker.specs.Moves.{Moment, Moves, Ran}
 use Rattle.step_maker.proofs.Coming.{moment_of, moves_ran, ran_more}
-use Rattle.answer_fits.specs.Visits.{Does, Only, Then, Visit, visit_of, visits}
-use Rattle.answer_fits.proofs.Piecing.{each_append}
+use Rattle.step_maker.specs.Visits.{Does, Only, Then, Visit, visit_of, visits}
+use Rattle.step_maker.proofs.Piecing.{each_append}
 use Rattle.kind_words.proofs.KindFacts.{clock_is_small}
 use Rattle.kept_marks.specs.Marks.{KeptFor, alive, dying, own, taken}
 use Rattle.table_entries.specs.Found.{saw_cell}

@@ -17,9 +17,9 @@ use Rattle.xp_board.specs.declared.step.Act.TheVariants.{Load}
 use Rattle.xp_board.specs.Lists.{EachOf}
 use Rattle.xp_board.specs.Readings.{is_dead}
 use Rattle.xp_board.specs.Told.{Post}
-use Rattle.answer_fits.specs.Reasons.{OfOwner, Those, Whose}
-use Rattle.answer_fits.specs.Visits.{Nothing, Only, Then, Visit, Where, visit}
-use Rattle.answer_fits.proofs.Piecing.{each_append}
+use Rattle.step_maker.specs.Reasons.{OfOwner, Those, Whose}
+use Rattle.step_maker.specs.Visits.{Nothing, Only, Then, Visit, Where, visit}
+use Rattle.step_maker.proofs.Piecing.{each_append}
 use Rattle.flush_words.specs.Flushing.{FlushedBy}
 use Rattle.flush_words.specs.Flushing as flushing
 use Rattle.flush_waits.specs.Listing.{LooksAt, Slow, WaitedFor, WaitsInOrder, WeighsBy}

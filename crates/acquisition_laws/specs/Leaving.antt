@@ -14,7 +14,7 @@ use Rattle.xp_board.specs.Lists.{EachOf}
 use Rattle.xp_board.specs.Readings.{is_dead}
 use Rattle.xp_board.specs.Told.{PortValue}
 use Rattle.step_maker.specs.Moves.{Moment, Ran}
-use Rattle.answer_fits.specs.Asked.{demand_held}
+use Rattle.step_maker.specs.Asked.{demand_held}
 
 -- a recorded entry asks a type of frame g, of a table in the own works, as it was found
 pub record IsRecorded (h : Holdings) (g : ℕ) : Type 0 where

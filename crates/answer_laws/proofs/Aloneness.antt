@@ -21,10 +21,10 @@ use Rattle.sound_rule.proofs.OwnRun.{RunsSound}
 use Rattle.step_maker.specs.Moves.{Moment, Ran, Came, Met, step_at}
 use Rattle.step_maker.proofs.Noting.{made_now}
 use Rattle.step_maker.proofs.Telling.{moves_went}
-use Rattle.answer_fits.specs.Answers.{Stops}
-use Rattle.answer_fits.specs.Asked.{Request}
-use Rattle.answer_fits.specs.Finding.{FoundWith}
-use Rattle.answer_fits.specs.Pauses.{IsElsewhere, found_busy}
+use Rattle.step_maker.specs.Answers.{Stops}
+use Rattle.step_maker.specs.Asked.{Request}
+use Rattle.step_maker.specs.Finding.{FoundWith}
+use Rattle.step_maker.specs.Pauses.{IsElsewhere, found_busy}
 use Rattle.answer_laws.specs.Alone.{IsAlone, IsDueOrFlush}
 use Rattle.answer_laws.proofs.Holding.{nobody_busies, empty_elsewhere}
 use Rattle.answer_laws.proofs.Meeting.{nobody_in_the_way, none_some}

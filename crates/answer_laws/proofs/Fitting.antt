@@ -20,14 +20,14 @@ use Rattle.xp_board.specs.Marks.{after_mark}
 use Rattle.xp_board.specs.Readings.{allocated_mark, is_free}
 use Rattle.xp_board.specs.Told.{PortValue}
 use Rattle.step_maker.specs.Moves.{Moment, Met}
-use Rattle.answer_fits.specs.Answers.{Deed, Piece, Misses, Returns, SetsPrivilege, deeds, deeds_by, marked_by, exchanged, exchanged_as, missed_at}
-use Rattle.answer_fits.specs.Asked.{Request, of_frame, IsFor, Asked, named, demanded, entered, walked, context, of_old, doomed, IsAsked, of, back}
-use Rattle.answer_fits.specs.Finding.{Finding}
-use Rattle.answer_fits.specs.Reasons.{IsFlushedNext, MayFlush, MayAskFor, HasReason}
+use Rattle.step_maker.specs.Answers.{Deed, Piece, Misses, Returns, SetsPrivilege, deeds, deeds_by, marked_by, exchanged, exchanged_as, missed_at}
+use Rattle.step_maker.specs.Asked.{Request, of_frame, IsFor, Asked, named, demanded, entered, walked, context, of_old, doomed, IsAsked, of, back}
+use Rattle.step_maker.specs.Finding.{Finding}
+use Rattle.step_maker.specs.Reasons.{IsFlushedNext, MayFlush, MayAskFor, HasReason}
 use Rattle.xp_words.specs.Machine.{Machine}
-use Rattle.board_lemmas.proofs.EntryWords.{type_same}
-use Rattle.board_lemmas.proofs.Sums.{when_eq}
-use Rattle.board_lemmas.proofs.PlaceTests.{equal_by}
+use Rattle.xp_board.proofs.EntryWords.{type_same}
+use Rattle.xp_board.proofs.Sums.{when_eq}
+use Rattle.xp_board.proofs.PlaceTests.{equal_by}
 use Rattle.answer_laws.proofs.Meeting.{none_some, member_may}
 
 each_at : {A : Type 0} (P : A → Type 0) (xs : List A) (x : A) → EachOf P xs → Member x xs → P x

@@ -11,10 +11,10 @@ use Rattle.xp_board.specs.Hands.{work_on, lock_on, locks_on, ending_of, IsEmptyH
 use Rattle.xp_board.specs.Lists.{first_by}
 use Rattle.xp_board.specs.Readings.{kind_at, is_work, is_closing, is_locked}
 use Rattle.xp_board.specs.Sound.{HeldAlone}
-use Rattle.board_lemmas.proofs.ListCounts.{first_by-some}
-use Rattle.board_lemmas.proofs.Sums.{hands-some}
-use Rattle.board_lemmas.proofs.Works.{in_works}
-use Rattle.answer_fits.specs.Pauses.{IsElsewhere, found_busy}
+use Rattle.xp_board.proofs.ListCounts.{first_by-some}
+use Rattle.xp_board.proofs.Sums.{hands-some}
+use Rattle.xp_board.proofs.Works.{in_works}
+use Rattle.step_maker.specs.Pauses.{IsElsewhere, found_busy}
 use Rattle.answer_laws.proofs.Meeting.{none_some}
 
 which : (w c l : Bool) → IsTrue (w || (l || c)) → ((w || c) ≡ true) ⊎ (l ≡ true)

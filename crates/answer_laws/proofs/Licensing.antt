@@ -10,15 +10,15 @@ use Rattle.xp_words.specs.declared.reply.Stop.TheVariants.{Refused, Paused}
 use Rattle.xp_words.specs.declared.reply.Refusal.TheVariants.{NoFree, NoPrivilege, NotMapped, OtherType, ReadOnly, WrongOwner}
 use Rattle.xp_board.specs.Told.{PortValue}
 use Rattle.step_maker.specs.Moves.{Met}
-use Rattle.answer_fits.specs.Answers.{Stops}
+use Rattle.step_maker.specs.Answers.{Stops}
 use Rattle.xp_board.specs.Readings.{domain_of, has_now, is_context, is_frame_word, is_live_as, owner_of}
-use Rattle.board_lemmas.proofs.PlaceTests.{equal_by}
-use Rattle.board_lemmas.proofs.Sums.{when_eq}
-use Rattle.answer_fits.specs.Asked.{Asked, IsAsked, IsFor, Request, back, context, demanded, doomed, entered, named, of, of_block, of_destroy, of_grant, of_old, of_return, walked}
-use Rattle.answer_fits.specs.Finding.{Finding, FoundAt}
-use Rattle.answer_fits.specs.Licences.{HasTakenAll, IsReached, below, is_allocated, over_itself, to_grant, top}
-use Rattle.answer_fits.specs.Pauses.{LeftAs, vcpu}
-use Rattle.answer_fits.specs.Reasons.{AwaitsStamp, FoundFreeBy, Whose, begun, free, goes_on, marked, other}
+use Rattle.xp_board.proofs.PlaceTests.{equal_by}
+use Rattle.xp_board.proofs.Sums.{when_eq}
+use Rattle.step_maker.specs.Asked.{Asked, IsAsked, IsFor, Request, back, context, demanded, doomed, entered, named, of, of_block, of_destroy, of_grant, of_old, of_return, walked}
+use Rattle.step_maker.specs.Finding.{Finding, FoundAt}
+use Rattle.step_maker.specs.Licences.{HasTakenAll, IsReached, below, is_allocated, over_itself, to_grant, top}
+use Rattle.step_maker.specs.Pauses.{LeftAs, vcpu}
+use Rattle.step_maker.specs.Reasons.{AwaitsStamp, FoundFreeBy, Whose, begun, free, goes_on, marked, other}
 use Rattle.answer_laws.specs.Walked.{SeenBelow}
 use Rattle.answer_laws.proofs.Meeting.{none_some}
 

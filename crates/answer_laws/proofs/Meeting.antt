@@ -9,9 +9,9 @@ use Rattle.xp_board.specs.Legal.{LegalMove}
 use Rattle.xp_board.specs.Lists.{Member}
 use Rattle.step_maker.specs.Moves.{Moment, Ran, Met}
 use Rattle.step_maker.proofs.Coming.{ran_post, came_post}
-use Rattle.answer_fits.specs.Asked.{Request}
-use Rattle.answer_fits.specs.Finding.{Finding, FoundAt, FoundWith}
-use Rattle.answer_fits.specs.Pauses.{IsInTheWay, in_use, dying}
+use Rattle.step_maker.specs.Asked.{Request}
+use Rattle.step_maker.specs.Finding.{Finding, FoundAt, FoundWith}
+use Rattle.step_maker.specs.Pauses.{IsInTheWay, in_use, dying}
 
 pub none_some : {A : Type 0} (o : Option A) (x : A) → o ≡ None → o ≡ Some x → ⊥
 none_some o x a b = let e = sym a ∙ b in absurd cc

@@ -10,13 +10,13 @@ use Rattle.xp_board.specs.declared.holdings.Made.{Made}
 use Rattle.xp_board.specs.declared.holdings.Holdings.{Holdings}
 use Rattle.xp_board.specs.Steps.{last_since}
 use Rattle.xp_board.specs.Told.{Post, PortValue, is_telling, told_word}
-use Rattle.board_lemmas.proofs.MoreSteps.{last_since-cases, last_since-here, last_since-elsewhere, none_last}
+use Rattle.xp_board.proofs.MoreSteps.{last_since-cases, last_since-here, last_since-elsewhere, none_last}
 use Rattle.step_maker.specs.Moves.{Moment, Ran, Came, step_at}
 use Rattle.step_maker.proofs.Coming.{ran_post}
 use Rattle.step_maker.proofs.Noting.{made_now, moves_steps}
 use Rattle.step_maker.proofs.Telling.{ran_telling, told_there, told_here, told_elsewhere}
-use Rattle.answer_fits.specs.Answers.{Stops}
-use Rattle.answer_fits.specs.Asked.{Request}
+use Rattle.step_maker.specs.Answers.{Stops}
+use Rattle.step_maker.specs.Asked.{Request}
 
 -- ---- the last step at a place
 or_less : (k l : ℕ) → (k ≤ l) ⊎ (l < k)

@@ -12,9 +12,9 @@ use Rattle.xp_board.specs.Readings.{domain_of}
 use Rattle.xp_board.specs.Told.{Post, PortValue, Finds}
 use Rattle.step_maker.specs.Moves.{Met}
 use Rattle.step_maker.proofs.Coming.{came_post}
-use Rattle.answer_fits.specs.Answers.{Stops}
-use Rattle.answer_fits.specs.Asked.{Request}
-use Rattle.answer_fits.specs.Pauses.{IsElsewhere, found_busy}
+use Rattle.step_maker.specs.Answers.{Stops}
+use Rattle.step_maker.specs.Asked.{Request}
+use Rattle.step_maker.specs.Pauses.{IsElsewhere, found_busy}
 use Rattle.answer_laws.proofs.Holding.{nobody_busies}
 use Rattle.answer_laws.proofs.Meeting.{nobody_in_the_way, found_finds, found_real}
 

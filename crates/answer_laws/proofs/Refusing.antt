@@ -11,9 +11,9 @@ use Rattle.xp_board.specs.Knowledge.{knows_owner}
 use Rattle.xp_words.specs.Places.{sizes_of}
 use Rattle.xp_board.specs.Told.{PortValue}
 use Rattle.step_maker.specs.Moves.{Moment, Met}
-use Rattle.answer_fits.specs.Answers.{Stops}
-use Rattle.answer_fits.specs.Asked.{Request, of_frame, Asked, named, demanded, entered, walked, context, of_old, doomed, Passed, checked, given, old, stands}
-use Rattle.answer_fits.specs.Pauses.{AskedTo, IsElsewhere}
+use Rattle.step_maker.specs.Answers.{Stops}
+use Rattle.step_maker.specs.Asked.{Request, of_frame, Asked, named, demanded, entered, walked, context, of_old, doomed, Passed, checked, given, old, stands}
+use Rattle.step_maker.specs.Pauses.{AskedTo, IsElsewhere}
 use Rattle.answer_laws.proofs.Meeting.{nobody_in_the_way}
 
 never : (a b : ℕ) → a < b → b ≤ a → ⊥

@@ -4,8 +4,8 @@ use Rattle.xp_words.specs.Entries.{frame_of}
 use Rattle.xp_words.specs.Machine.{Machine}
 use Rattle.xp_words.specs.declared.place.Place.TheVariants.{Cell, Vcpu}
 use Rattle.xp_board.specs.Readings.{is_frame_word}
-use Rattle.answer_fits.specs.Finding.{Finding, FoundAt}
-use Rattle.answer_fits.specs.Licences.{is_unmapped}
+use Rattle.step_maker.specs.Finding.{Finding, FoundAt}
+use Rattle.step_maker.specs.Licences.{is_unmapped}
 
 -- That entry was found in a table of level 3 which an entry of level 4 names, that is mapped; and that one in the table that a base of the vCPU names.
 pub record SeenBelow (n : Machine) (s : ℕ) (F : Finding) (e : ℕ) : Type 0 where

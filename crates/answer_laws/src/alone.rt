@@ -5,8 +5,8 @@ ghost use Rattle.xp_words.specs.declared.reply.Pause.TheVariants.{Lost, Busy};
 ghost use Rattle.xp_words.specs.declared.reply.Stop.TheVariants.{Paused};
 ghost use Rattle.xp_board.specs.Told.{PortValue, is_telling};
 ghost use Rattle.step_maker.specs.Moves.{Came};
-ghost use Rattle.answer_fits.specs.Answers.{Stops};
-ghost use Rattle.answer_fits.specs.Asked.{Request};
+ghost use Rattle.step_maker.specs.Answers.{Stops};
+ghost use Rattle.step_maker.specs.Asked.{Request};
 ghost use Rattle.answer_laws.specs.Alone.{IsAlone, IsDueOrFlush};
 
 use sound_rule::every_run_stays_sound;

@@ -10,9 +10,9 @@ ghost use Rattle.xp_board.specs.Hands.{refs_to, typed_hand, typed_to, work_on};
 ghost use Rattle.xp_board.specs.Knowledge.{knows_owner};
 ghost use Rattle.xp_board.specs.Told.{PortValue};
 ghost use Rattle.step_maker.specs.Moves.{Moment, Met};
-ghost use Rattle.answer_fits.specs.Answers.{Stops};
-ghost use Rattle.answer_fits.specs.Asked.{Request, of_frame};
-ghost use Rattle.answer_fits.specs.Pauses.{AskedTo, IsElsewhere};
+ghost use Rattle.step_maker.specs.Answers.{Stops};
+ghost use Rattle.step_maker.specs.Asked.{Request, of_frame};
+ghost use Rattle.step_maker.specs.Pauses.{AskedTo, IsElsewhere};
 
 /// Where the count was found full only while the vCPU had more untyped references to the frame than as it began, nothing is
 /// refused for it. In a call for which entries ask frames that is said of frames that the vCPU does not work on: a table that

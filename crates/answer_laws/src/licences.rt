@@ -11,12 +11,12 @@ ghost use Rattle.xp_words.specs.declared.reply.Stop.TheVariants.{Refused, Paused
 ghost use Rattle.xp_board.specs.Readings.{domain_of, has_now, is_context, is_live_as, owner_of};
 ghost use Rattle.xp_board.specs.Told.{PortValue};
 ghost use Rattle.step_maker.specs.Moves.{Met};
-ghost use Rattle.answer_fits.specs.Answers.{Stops};
-ghost use Rattle.answer_fits.specs.Asked.{Asked, IsAsked, Request, of_block, of_destroy, of_grant, of_return};
-ghost use Rattle.answer_fits.specs.Finding.{FoundAt};
-ghost use Rattle.answer_fits.specs.Licences.{HasTakenAll, is_allocated};
-ghost use Rattle.answer_fits.specs.Pauses.{LeftAs};
-ghost use Rattle.answer_fits.specs.Reasons.{AwaitsStamp, FoundFreeBy, Whose};
+ghost use Rattle.step_maker.specs.Answers.{Stops};
+ghost use Rattle.step_maker.specs.Asked.{Asked, IsAsked, Request, of_block, of_destroy, of_grant, of_return};
+ghost use Rattle.step_maker.specs.Finding.{FoundAt};
+ghost use Rattle.step_maker.specs.Licences.{HasTakenAll, is_allocated};
+ghost use Rattle.step_maker.specs.Pauses.{LeftAs};
+ghost use Rattle.step_maker.specs.Reasons.{AwaitsStamp, FoundFreeBy, Whose};
 ghost use Rattle.answer_laws.specs.Walked.{SeenBelow};
 
 /// A call that takes a block of frames waits past no clock value but the greatest that it found in that block, all of which it found free: not

@@ -4,8 +4,8 @@ ghost use Rattle.xp_words.specs.declared.reply.Pause.TheVariants.{Busy, Flush, A
 ghost use Rattle.xp_words.specs.declared.reply.Stop.TheVariants.{Paused};
 ghost use Rattle.xp_board.specs.Readings.{domain_of};
 ghost use Rattle.xp_board.specs.Told.{PortValue};
-ghost use Rattle.answer_fits.specs.Answers.{Stops};
-ghost use Rattle.answer_fits.specs.Asked.{Request};
+ghost use Rattle.step_maker.specs.Answers.{Stops};
+ghost use Rattle.step_maker.specs.Asked.{Request};
 
 /// No frame is busy: what is in work, locked or closing is in the own hand.
 #[tactic(auto, using(crate::proofs::OneVcpu::never_busy))]

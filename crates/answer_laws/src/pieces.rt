@@ -11,9 +11,9 @@ ghost use Rattle.xp_board.specs.Marks.{after_mark};
 ghost use Rattle.xp_board.specs.Readings.{allocated_mark, is_free};
 ghost use Rattle.xp_board.specs.Told.{PortValue};
 ghost use Rattle.step_maker.specs.Moves.{Moment, Met};
-ghost use Rattle.answer_fits.specs.Answers.{Deed, Piece, Misses, Returns, SetsPrivilege};
-ghost use Rattle.answer_fits.specs.Asked.{Request, of_frame};
-ghost use Rattle.answer_fits.specs.Reasons.{IsFlushedNext, MayFlush, MayAskFor};
+ghost use Rattle.step_maker.specs.Answers.{Deed, Piece, Misses, Returns, SetsPrivilege};
+ghost use Rattle.step_maker.specs.Asked.{Request, of_frame};
+ghost use Rattle.step_maker.specs.Reasons.{IsFlushedNext, MayFlush, MayAskFor};
 
 /// A call on one frame changes no kind word but that frame's.
 #[tactic(auto, using(crate::proofs::Fitting::others_stay))]

@@ -21,9 +21,9 @@ use Rattle.xp_board.specs.Readings.{domain_of}
 use Rattle.xp_board.specs.RefSteps.{IsUnreachable, IsFreeStamp, AllowsRef, after_ref_row, after_ref_store, ref_row, credited}
 use Rattle.xp_board.specs.Spelling.{IsSpelling}
 use Rattle.xp_board.specs.Told.{PortValue}
-use Rattle.board_lemmas.proofs.ListCounts.{first_by-cons_here, times_by-cons_here}
-use Rattle.board_lemmas.proofs.Numbers.{refs_there, cell_there}
-use Rattle.board_lemmas.proofs.Sums.{when_eq, when_ne, if_itself}
+use Rattle.xp_board.proofs.ListCounts.{first_by-cons_here, times_by-cons_here}
+use Rattle.xp_board.proofs.Numbers.{refs_there, cell_there}
+use Rattle.xp_board.proofs.Sums.{when_eq, when_ne, if_itself}
 use Rattle.step_maker.specs.Holds.{Holds, Same, MayWork, still}
 use Rattle.step_maker.specs.Moves.{May, Moves, found_by}
 use Rattle.frame_words.proofs.FreeSteps.{map_there, pages_there, free_read}

@@ -19,9 +19,9 @@ use Rattle.xp_board.specs.Sound.{WorkAgrees}
 use Rattle.xp_board.specs.Spelling.{IsSpelling}
 use Rattle.xp_board.specs.Told.{PortValue}
 use Rattle.xp_board.proofs.RefWords.{fits_owned}
-use Rattle.board_lemmas.proofs.ListCounts.{EachOf-found, newest_held, times_by-cons_here}
-use Rattle.board_lemmas.proofs.Numbers.{refs_there}
-use Rattle.board_lemmas.proofs.Sums.{if_itself}
+use Rattle.xp_board.proofs.ListCounts.{EachOf-found, newest_held, times_by-cons_here}
+use Rattle.xp_board.proofs.Numbers.{refs_there}
+use Rattle.xp_board.proofs.Sums.{if_itself}
 use Rattle.step_maker.specs.Holds.{Holds, Same, MayWork, still}
 use Rattle.step_maker.specs.Moves.{May, Moves, found_by}
 use Rattle.frame_words.specs.Refs.{MayPut, took}

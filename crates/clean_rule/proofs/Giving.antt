@@ -27,8 +27,8 @@ use Rattle.xp_board.specs.Readings.{domain_of, ref_count}
 use Rattle.xp_board.specs.RefSteps.{AllowsRefStore, MayGive}
 use Rattle.xp_board.specs.Settling.{demand_in, demand_out}
 use Rattle.xp_board.specs.Sound.{Sound}
-use Rattle.board_lemmas.proofs.Sums.{when_eq, when_ne}
-use Rattle.board_lemmas.proofs.Works.{dying_in_hand}
+use Rattle.xp_board.proofs.Sums.{when_eq, when_ne}
+use Rattle.xp_board.proofs.Works.{dying_in_hand}
 use Rattle.clean_rule.specs.Clean.{GivesFrame, IsClean}
 use Rattle.clean_rule.proofs.Paths.{path_counted}
 

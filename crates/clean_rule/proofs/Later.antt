@@ -11,8 +11,8 @@ use Rattle.xp_board.specs.Acts.{left_by}
 use Rattle.xp_board.specs.Runs.{Run, State, StepsTo, place_of, word_at}
 use Rattle.xp_board.specs.Sound.{SoundState, hand_of}
 use Rattle.xp_board.specs.declared.step.Step.{Step}
-use Rattle.board_lemmas.proofs.Numbers.{place_number}
-use Rattle.board_lemmas.proofs.PlaceTests.{same_or_other}
+use Rattle.xp_board.proofs.Numbers.{place_number}
+use Rattle.xp_board.proofs.PlaceTests.{same_or_other}
 use Rattle.clean_rule.specs.Clean.{GivesFrame, WroteIn}
 use Rattle.clean_rule.proofs.Giving.{given_clean}
 

@@ -18,7 +18,7 @@ use Rattle.count_rule.proofs.Learning.{Kept, same_refl, same_hand, same_own, sam
 use Rattle.count_rule.proofs.PartLaws.{stamped_by, idle_still, idle_other}
 use Rattle.count_rule.proofs.SpelledLaw.{wrote_spelled}
 use Rattle.count_rule.proofs.Told.{clock_found}
-use Rattle.board_lemmas.proofs.Sums.{when_eq, when_ne}
+use Rattle.xp_board.proofs.Sums.{when_eq, when_ne}
 use Rattle.count_rule.proofs.Outcome.{apart, Outcome, is_counted, calm_away, quiet_outcome}
 use Rattle.count_rule.proofs.WalkHands.{same_ran, same_twice}
 

@@ -2,7 +2,7 @@
 use Rattle.xp_board.specs.After.{noted, learned_cell}
 use Rattle.xp_board.specs.GuestSteps.{MayStore}
 use Rattle.xp_board.proofs.RefWords.{is_dying-read, dying_says}
-use Rattle.board_lemmas.proofs.Sums.{some_bit, hands-part}
+use Rattle.xp_board.proofs.Sums.{some_bit, hands-part}
 use Rattle.std.proofs.Common.{◌≡◌, ◌≢◌, ℕ, ◌+◌, ◌<◌, ◌==◌, ◌&&◌, false, Option, Some, None, refl, sym, ◌∙◌, ap, subst, arith, IsTrue, inl, inr}
 use Rattle.std.proofs.lemmas.Bool.{and_parts}
 use Rattle.std.proofs.lemmas.Bool.Decides.{nat_tests}
@@ -25,17 +25,17 @@ use Rattle.xp_board.specs.Reach.{Writes, Reach, cached, use_of}
 use Rattle.xp_board.specs.Keeping.{MayAct}
 use Rattle.xp_board.specs.Sound.{Sound, Spelled}
 use Rattle.step_effects.proofs.ActEffects.{Rewrote, Filled, GuestStored, Touched}
-use Rattle.board_lemmas.proofs.HandLists.{first-some, some_of-member}
+use Rattle.xp_board.proofs.HandLists.{first-some, some_of-member}
 use Rattle.count_rule.proofs.Learning.{kept_noted, kept_cell, same_hand}
 use Rattle.count_rule.proofs.SpelledLaw.{wrote_spelled}
-use Rattle.board_lemmas.proofs.EntryWords.{entry_asks_same, touched_same}
+use Rattle.xp_board.proofs.EntryWords.{entry_asks_same, touched_same}
 use Rattle.count_rule.proofs.WalkHands.{same_descended, cold_descended}
-use Rattle.board_lemmas.proofs.Recordless.{marked_none, unreferenced_none}
-use Rattle.board_lemmas.proofs.HeldByForm.{no_table}
+use Rattle.xp_board.proofs.Recordless.{marked_none, unreferenced_none}
+use Rattle.xp_board.proofs.HeldByForm.{no_table}
 use Rattle.count_rule.proofs.CellLaw.{cell_outcome}
 use Rattle.count_rule.proofs.Outcome.{Outcome}
-use Rattle.board_lemmas.proofs.LockFacts.{lock_facts, rewritten_same}
-use Rattle.board_lemmas.proofs.WorkFacts.{work_word, works_facts}
+use Rattle.xp_board.proofs.LockFacts.{lock_facts, rewritten_same}
+use Rattle.xp_board.proofs.WorkFacts.{work_word, works_facts}
 
 not_seven : (t : PageType) → type_number t ≡ 7 → is_table t ≡ false
 not_seven t e = grind (arith, nat_tests)

@@ -14,10 +14,10 @@ use Rattle.xp_board.specs.Hands.{typed_to, locks_on, hand, typed_hand}
 use Rattle.xp_board.specs.ContextSteps.{context_type}
 use Rattle.xp_board.specs.Sums.{sum_below}
 use Rattle.xp_board.specs.Recorded.{held, entry_demand, names, names_typed, entries, contexts, marks, HasType, is_page_of, TypesAgree, CountsAgree}
-use Rattle.board_lemmas.proofs.Sums.{hands-one, hands-part}
-use Rattle.board_lemmas.proofs.ListCounts.{EachOf-counted, EachOf-both}
-use Rattle.board_lemmas.proofs.Counted.{entries-same, contexts-same, entries-part, contexts-part, names_typed-typed}
-use Rattle.board_lemmas.proofs.HandLists.{EachOf-map}
+use Rattle.xp_board.proofs.Sums.{hands-one, hands-part}
+use Rattle.xp_board.proofs.ListCounts.{EachOf-counted, EachOf-both}
+use Rattle.xp_board.proofs.Counted.{entries-same, contexts-same, entries-part, contexts-part, names_typed-typed}
+use Rattle.xp_board.proofs.HandLists.{EachOf-map}
 
 -- the pages that domains have
 abbrev pub pages_of : Machine → (Place → ℕ) → ℕ → ℕ

@@ -14,9 +14,9 @@ use Rattle.xp_board.specs.RefSteps.{SparesClosing}
 use Rattle.xp_words.specs.Machine.{Machine}
 use Rattle.xp_words.specs.declared.place.Place.{Place}
 use Rattle.xp_board.specs.Readings.{kind_at}
-use Rattle.board_lemmas.proofs.Sums.{one_at-same, one_at-other}
+use Rattle.xp_board.proofs.Sums.{one_at-same, one_at-other}
 use Rattle.count_rule.proofs.Quiet.{is_closing_at}
-use Rattle.board_lemmas.proofs.ListCounts.{times_by-cons, times_by-without}
+use Rattle.xp_board.proofs.ListCounts.{times_by-cons, times_by-without}
 
 -- ---- the hand
 abbrev pub IsInHand : Demand → Holdings → Type 0

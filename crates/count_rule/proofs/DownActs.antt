@@ -27,20 +27,20 @@ use Rattle.xp_board.specs.Spelling.{IsSpelling}
 use Rattle.xp_board.specs.Keeping.{MayAct}
 use Rattle.xp_board.specs.Sound.{is_busy, HeldAlone, Sound}
 use Rattle.step_effects.proofs.ActEffects.{Wrote, Dropped, Unlocked}
-use Rattle.board_lemmas.proofs.Sums.{when_eq, when_ne, no_bit}
-use Rattle.board_lemmas.proofs.ListCounts.{first_by-cons_here}
-use Rattle.board_lemmas.proofs.Works.{nobody_works, held_free, held_mine}
+use Rattle.xp_board.proofs.Sums.{when_eq, when_ne, no_bit}
+use Rattle.xp_board.proofs.ListCounts.{first_by-cons_here}
+use Rattle.xp_board.proofs.Works.{nobody_works, held_free, held_mine}
 use Rattle.count_rule.proofs.ListMoves.{cons_other, out_other, cons_here, out_here, recorded_cons}
 use Rattle.count_rule.proofs.KindForms.{Says, live_says, closing_says}
-use Rattle.board_lemmas.proofs.HeldByForm.{held_live, held_work, held_same}
-use Rattle.board_lemmas.proofs.KindForms.{spelled_form}
+use Rattle.xp_board.proofs.HeldByForm.{held_live, held_work, held_same}
+use Rattle.xp_board.proofs.KindForms.{spelled_form}
 use Rattle.count_rule.proofs.KindSpelled.{form_was, kind_spelled}
 use Rattle.count_rule.proofs.KindActs.{Elsewhere, beside, rest_by, turn_outcome, free_outcome}
 use Rattle.count_rule.proofs.KindWorks.{works_in}
 use Rattle.count_rule.proofs.Outcome.{Outcome}
-use Rattle.board_lemmas.proofs.HandLists.{EachOf-without}
-use Rattle.board_lemmas.proofs.KindReadings.{stamp_live}
-use Rattle.board_lemmas.proofs.CountsDown.{drop_live, drop_some, drop_word, lock_live, lock_set, lock_some, unlock_word}
+use Rattle.xp_board.proofs.HandLists.{EachOf-without}
+use Rattle.xp_board.proofs.KindReadings.{stamp_live}
+use Rattle.xp_board.proofs.CountsDown.{drop_live, drop_some, drop_word, lock_live, lock_set, lock_some, unlock_word}
 
 closing_off : (k : KindWord) → has_form k ≡ true → IsTrue (is_live k) → k.number ≡ 0 → (k.pinned ≡ false) × (k.locked ≡ false) × (k.unflushed ≡ false)
 unfolding has_form

@@ -15,14 +15,14 @@ use Rattle.xp_board.specs.Readings.{kind_at}
 use Rattle.xp_board.specs.Hands.{refs_to, works_on, work_on, hand, typed_hand, changed_work}
 use Rattle.xp_board.specs.Recorded.{held, held_of, entry_demand, names, names_typed, entries, recorded_in, recorded_number, HasType, TypesAgree}
 use Rattle.xp_board.specs.Sound.{HeldAlone, Sound}
-use Rattle.board_lemmas.proofs.ListChanges.{first_by-changed_here, first_by-changed_other}
+use Rattle.xp_board.proofs.ListChanges.{first_by-changed_here, first_by-changed_other}
 use Rattle.count_rule.proofs.Twins.{EachTwo, EachTwo-changed_at, EachTwo-times, LikeWork}
-use Rattle.board_lemmas.proofs.Works.{held_mine}
+use Rattle.xp_board.proofs.Works.{held_mine}
 use Rattle.count_rule.proofs.CountLaw.{counts_law, each_vcpu}
 use Rattle.count_rule.proofs.PartLaws.{alone_law, map_law, works_law, idle_fewer}
 use Rattle.count_rule.proofs.Quiet.{held_still, is_closing_at, works_spared}
 use Rattle.count_rule.proofs.Outcome.{Outcome}
-use Rattle.board_lemmas.proofs.WorkFacts.{works_facts, work_word}
+use Rattle.xp_board.proofs.WorkFacts.{works_facts, work_word}
 
 no_work : (f : ℕ) (e : Work) → work_on f [] ≡ Some e → ⊥
 unfolding first_by

@@ -25,24 +25,24 @@ use Rattle.xp_board.specs.Settling.{demand_in, demand_out}
 use Rattle.xp_board.specs.Keeping.{MayAct}
 use Rattle.xp_board.specs.Sound.{is_busy, Sound}
 use Rattle.step_effects.proofs.ActEffects.{Exchanged}
-use Rattle.board_lemmas.proofs.PlaceTests.{same_or_other}
-use Rattle.board_lemmas.proofs.HandLists.{EachOf-map}
+use Rattle.xp_board.proofs.PlaceTests.{same_or_other}
+use Rattle.xp_board.proofs.HandLists.{EachOf-map}
 use Rattle.count_rule.proofs.Twins.{EachTwo, EachTwo-each, SameWork, SameLock, SameClaim, recorded_in-same}
-use Rattle.board_lemmas.proofs.Works.{held_free}
-use Rattle.board_lemmas.proofs.Counted.{entries-one, table_entries-changed, contexts-same, hand_is, typed_hand_is, has_type-same}
+use Rattle.xp_board.proofs.Works.{held_free}
+use Rattle.xp_board.proofs.Counted.{entries-one, table_entries-changed, contexts-same, hand_is, typed_hand_is, has_type-same}
 use Rattle.count_rule.proofs.CountLaw.{each_vcpu}
 use Rattle.count_rule.proofs.PartLaws.{stamped_by, idle_running}
 use Rattle.count_rule.proofs.Learning.{works_learnt, locks_learnt, claims_learnt}
 use Rattle.count_rule.proofs.Quiet.{held_still, locks_times}
 use Rattle.count_rule.proofs.Demands.{IsInHand, Spares, out_hand, out_typed, in_hand, in_typed, out_spares, in_more, has_demand, demand_type}
-use Rattle.board_lemmas.proofs.HeldByForm.{held_live}
+use Rattle.xp_board.proofs.HeldByForm.{held_live}
 use Rattle.count_rule.proofs.KindSpelled.{form_was}
 use Rattle.count_rule.proofs.SpelledLaw.{wrote_spelled}
 use Rattle.count_rule.proofs.Outcome.{Outcome, runs}
 use Rattle.count_rule.proofs.HandLaw.{HandMove, hand_outcome}
-use Rattle.board_lemmas.proofs.HandParts.{Beside, Translations, beside_then, translations_then, beside_out, beside_in, translations_out, translations_in}
-use Rattle.board_lemmas.proofs.LockFacts.{Locks, lock_facts}
-use Rattle.board_lemmas.proofs.HandTypes.{typed_out, typed_in}
+use Rattle.xp_board.proofs.HandParts.{Beside, Translations, beside_then, translations_then, beside_out, beside_in, translations_out, translations_in}
+use Rattle.xp_board.proofs.LockFacts.{Locks, lock_facts}
+use Rattle.xp_board.proofs.HandTypes.{typed_out, typed_in}
 
 locked_free : (k : KindWord) → has_form k ≡ true → is_locked k ≡ true → is_busy k ≡ false
 unfolding has_form

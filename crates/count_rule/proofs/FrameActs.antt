@@ -20,9 +20,9 @@ use Rattle.xp_board.specs.Found.{ClaimFound, EndingFound}
 use Rattle.xp_board.specs.Keeping.{MayAct}
 use Rattle.xp_board.specs.Sound.{Sound}
 use Rattle.step_effects.proofs.ActEffects.{Took, Freed, Gave}
-use Rattle.board_lemmas.proofs.Sums.{when_eq, when_ne, one_at-same, hands-part, bit_most, some_bit}
-use Rattle.board_lemmas.proofs.ListCounts.{first_by-absent, EachOf-found, first_by-some, times_by-without_one, times_by-cons, times_by-without, times_by-cons_here, times_by-cons_other, times_by-without_other}
-use Rattle.board_lemmas.proofs.HandLists.{first-some}
+use Rattle.xp_board.proofs.Sums.{when_eq, when_ne, one_at-same, hands-part, bit_most, some_bit}
+use Rattle.xp_board.proofs.ListCounts.{first_by-absent, EachOf-found, first_by-some, times_by-without_one, times_by-cons, times_by-without, times_by-cons_here, times_by-cons_other, times_by-without_other}
+use Rattle.xp_board.proofs.HandLists.{first-some}
 use Rattle.xp_board.proofs.RefWords.{owned_says, free_says, dying_says, is_dying-read, dying_owner}
 use Rattle.count_rule.proofs.Told.{clock_found}
 use Rattle.count_rule.proofs.Outcome.{Outcome}

@@ -13,7 +13,7 @@ use Rattle.count_rule.proofs.CountLaw.{counts_law, pages_of}
 use Rattle.count_rule.proofs.PartLaws.{alone_law, map_law, works_law}
 use Rattle.count_rule.proofs.Quiet.{works_times, locks_times, claims_times, is_closing_at, like_works, works_spared}
 use Rattle.count_rule.proofs.Outcome.{Outcome}
-use Rattle.board_lemmas.proofs.Sums.{sum_below-same}
+use Rattle.xp_board.proofs.Sums.{sum_below-same}
 
 module _ (n : Machine) (s : ℕ) (m m2 : Place → ℕ) (b c : ℕ → Holdings) (vcpu : s < (sizes_of n).vcpus) (others : (t : ℕ) → t ≢ s → c t ≡ b t) where
   pub record HandMove : Type 0 where

@@ -21,16 +21,16 @@ use Rattle.xp_board.specs.Spelling.{IsSpelling, map_bits}
 use Rattle.xp_board.specs.Keeping.{MayAct}
 use Rattle.xp_board.specs.Sound.{Spelled, Sound, is_hinted}
 use Rattle.step_effects.proofs.ActEffects.{Wrote, Hinted}
-use Rattle.board_lemmas.proofs.Sums.{hands-only, one_at-same, hands-part, hands-two, bit_most, some_bit}
-use Rattle.board_lemmas.proofs.ListCounts.{times_by-cons_here, times_by-cons_other, times_by-without, times_by-without_other}
+use Rattle.xp_board.proofs.Sums.{hands-only, one_at-same, hands-part, hands-two, bit_most, some_bit}
+use Rattle.xp_board.proofs.ListCounts.{times_by-cons_here, times_by-cons_other, times_by-without, times_by-without_other}
 use Rattle.xp_board.proofs.RefWords.{is_dying-read, dying_says}
 use Rattle.count_rule.proofs.Learning.{Stays, works_kept, locks_kept, claims_kept}
 use Rattle.count_rule.proofs.PartLaws.{stamped_by, idle_running}
 use Rattle.count_rule.proofs.SpelledLaw.{wrote_spelled}
 use Rattle.count_rule.proofs.Outcome.{Outcome, calm_outcome, runs}
 use Rattle.count_rule.proofs.PageActs.{calm}
-use Rattle.board_lemmas.proofs.Bits.{added_small, added_here, added_other, has_bit, cleared_bit}
-use Rattle.board_lemmas.proofs.Hints.{Hint, sets, clears, hint_is}
+use Rattle.xp_board.proofs.Bits.{added_small, added_here, added_other, has_bit, cleared_bit}
+use Rattle.xp_board.proofs.Hints.{Hint, sets, clears, hint_is}
 
 bit_at_bit : (w i : ℕ) → bit (w / 2 ^ i % 2 == 1) ≡ bit_at w i
 bit_at_bit w i = grind (arith, nat_tests)

@@ -15,14 +15,14 @@ use Rattle.xp_board.specs.Recorded.{held, held_of, HasType, recorded_in}
 use Rattle.xp_board.specs.Keeping.{MayAct}
 use Rattle.xp_board.specs.Sound.{is_busy, HeldAlone, WorkAgrees, Sound}
 use Rattle.step_effects.proofs.ActEffects.{Wrote}
-use Rattle.board_lemmas.proofs.Works.{nobody_works, held_free}
+use Rattle.xp_board.proofs.Works.{nobody_works, held_free}
 use Rattle.count_rule.proofs.ListMoves.{kept_other, recorded_kept}
 use Rattle.count_rule.proofs.KindForms.{Says}
 use Rattle.count_rule.proofs.KindSpelled.{kind_spelled}
 use Rattle.count_rule.proofs.KindLaw.{Rest, kind_outcome}
 use Rattle.count_rule.proofs.KindWorks.{works_apart}
 use Rattle.count_rule.proofs.Outcome.{Outcome}
-use Rattle.board_lemmas.proofs.Sums.{no_bit}
+use Rattle.xp_board.proofs.Sums.{no_bit}
 
 module _ (n : Machine) (s : ℕ) (x : Step) (m m2 : Place → ℕ) (b c : ℕ → Holdings) (vcpu : s < (sizes_of n).vcpus) (others : (t : ℕ) → t ≢ s → c t ≡ b t) (may : MayAct n s x (b s)) (sound : Sound n m b) (f : ℕ) where
   -- a frame that nobody has in hand alone, before and after

@@ -16,9 +16,9 @@ use Rattle.xp_board.specs.Sound.{is_busy, Spelled, HeldAlone, WorkAgrees, Sound}
 use Rattle.count_rule.proofs.CountLaw.{pages_of, Steady, types_steady, counted_steady, counts_law}
 use Rattle.count_rule.proofs.PartLaws.{alone_law, map_law, works_law, stamped_by, idle_running}
 use Rattle.count_rule.proofs.Quiet.{held_still}
-use Rattle.board_lemmas.proofs.Counted.{held_inside, hand_is, typed_hand_is}
+use Rattle.xp_board.proofs.Counted.{held_inside, hand_is, typed_hand_is}
 use Rattle.count_rule.proofs.Outcome.{Outcome, runs}
-use Rattle.board_lemmas.proofs.Sums.{sum_below-same}
+use Rattle.xp_board.proofs.Sums.{sum_below-same}
 
 module _ (n : Machine) (s : ℕ) (m m2 : Place → ℕ) (b c : ℕ → Holdings) (vcpu : s < (sizes_of n).vcpus) (others : (t : ℕ) → t ≢ s → c t ≡ b t) (f : ℕ) where
   -- what of the hand stays

@@ -19,13 +19,13 @@ use Rattle.xp_board.specs.Spelling.{IsSpelling, is_kind_in}
 use Rattle.xp_board.specs.Keeping.{MayAct}
 use Rattle.xp_board.specs.Sound.{Spelled, Sound}
 use Rattle.step_effects.proofs.ActEffects.{Wrote}
-use Rattle.board_lemmas.proofs.Sums.{hands-plus, hands-part}
-use Rattle.board_lemmas.proofs.KindForms.{spelled_form, fields_of}
+use Rattle.xp_board.proofs.Sums.{hands-plus, hands-part}
+use Rattle.xp_board.proofs.KindForms.{spelled_form, fields_of}
 use Rattle.count_rule.proofs.KindDown.{read_made, read_type, dropped_form, unlocked_form, down_type, unlock_type}
 use Rattle.count_rule.proofs.SpelledLaw.{wrote_spelled}
-use Rattle.board_lemmas.proofs.Counted.{typed_hand_is}
-use Rattle.board_lemmas.proofs.CountsDown.{drop_live, drop_some, drop_word, lock_live, lock_set, lock_some, unlock_word}
-use Rattle.board_lemmas.proofs.KindReadings.{live_count}
+use Rattle.xp_board.proofs.Counted.{typed_hand_is}
+use Rattle.xp_board.proofs.CountsDown.{drop_live, drop_some, drop_word, lock_live, lock_set, lock_some, unlock_word}
+use Rattle.xp_board.proofs.KindReadings.{live_count}
 
 limit_by : (n : Machine) (k : KindWord) → IsTrue (is_kind_in n (Some k)) → IsTrue (is_live k) → k.number ≤ n.limit
 limit_by n k t live = grind (arith, nat_tests)

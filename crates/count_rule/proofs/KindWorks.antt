@@ -5,8 +5,8 @@ use Rattle.xp_board.specs.declared.holdings.Work.{Work}
 use Rattle.xp_board.specs.Lists.{EachOf}
 use Rattle.xp_board.specs.Hands.{refs_to, works_on, without_work}
 use Rattle.xp_board.specs.Sound.{WorkAgrees}
-use Rattle.board_lemmas.proofs.ListCounts.{EachOf-both, EachOf-apart, times_by-without_one}
-use Rattle.board_lemmas.proofs.HandLists.{EachOf-map, EachOf-without}
+use Rattle.xp_board.proofs.ListCounts.{EachOf-both, EachOf-apart, times_by-without_one}
+use Rattle.xp_board.proofs.HandLists.{EachOf-map, EachOf-without}
 
 module _ (f : ℕ) (u v : Holdings) (refs : (g : ℕ) → g ≢ f → refs_to g v.refs ≡ refs_to g u.refs) where
   apart_agrees : (xs : List Work) → works_on f xs ≡ 0 → EachOf (WorkAgrees u) xs → EachOf (WorkAgrees v) xs

@@ -11,8 +11,8 @@ use Rattle.xp_board.specs.Lists.{kept_of}
 use Rattle.xp_board.specs.Hands.{IsEmptyHand}
 use Rattle.xp_board.specs.After.{noted, learned, learned_cell, learned_work, learned_lock, learned_claim, learned_life, learned_own}
 use Rattle.count_rule.proofs.Twins.{EachTwo, EachTwo-same, EachTwo-changed, EachTwo-none, SameWork, SameLock, SameClaim}
-use Rattle.board_lemmas.proofs.HandParts.{References, Beside, references_own, beside_own, translations_own, learned_by}
-use Rattle.board_lemmas.proofs.Sums.{either}
+use Rattle.xp_board.proofs.HandParts.{References, Beside, references_own, beside_own, translations_own, learned_by}
+use Rattle.xp_board.proofs.Sums.{either}
 
 same_work : (e : Work) → SameWork e e
 same_work e = record { frame = refl; word = refl; recorded = refl }

@@ -4,9 +4,9 @@ use Rattle.xp_words.specs.RefWords.{bit}
 use Rattle.xp_board.specs.Lists.{times_by, without_by, changed_by}
 use Rattle.xp_board.specs.declared.holdings.Work.{Work}
 use Rattle.xp_board.specs.Recorded.{recorded_in, recorded_number}
-use Rattle.board_lemmas.proofs.Sums.{one_at-same}
-use Rattle.board_lemmas.proofs.ListCounts.{times_by-without, times_by-cons_here, times_by-cons_other, times_by-without_other, first_by-cons_other, first_by-without_other}
-use Rattle.board_lemmas.proofs.ListChanges.{first_by-changed_other}
+use Rattle.xp_board.proofs.Sums.{one_at-same}
+use Rattle.xp_board.proofs.ListCounts.{times_by-without, times_by-cons_here, times_by-cons_other, times_by-without_other, first_by-cons_other, first_by-without_other}
+use Rattle.xp_board.proofs.ListChanges.{first_by-changed_other}
 
 module _ {A : Type 0} (key : A → ℕ) (f : ℕ) (xs ys : List A) where
   pub kept_other : ys ≡ xs → (g : ℕ) → g ≢ f → times_by key g ys ≡ times_by key g xs

@@ -17,9 +17,9 @@ use Rattle.xp_board.specs.After.{learned}
 use Rattle.xp_board.specs.Keeping.{MayAct}
 use Rattle.xp_board.specs.Sound.{Sound}
 use Rattle.step_effects.proofs.ActEffects.{Named}
-use Rattle.board_lemmas.proofs.PlaceTests.{same_or_other}
+use Rattle.xp_board.proofs.PlaceTests.{same_or_other}
 use Rattle.count_rule.proofs.Twins.{EachTwo-each, SameLock, recorded_in-same, EachTwo, SameWork, SameClaim}
-use Rattle.board_lemmas.proofs.Counted.{entries-same, contexts-one, hand_is, typed_hand_is, not_context, has_type-same}
+use Rattle.xp_board.proofs.Counted.{entries-same, contexts-one, hand_is, typed_hand_is, not_context, has_type-same}
 use Rattle.count_rule.proofs.CountLaw.{each_vcpu}
 use Rattle.count_rule.proofs.PartLaws.{stamped_by, idle_running}
 use Rattle.count_rule.proofs.Learning.{Kept, Learnt, learnt, kept_noted}
@@ -27,10 +27,10 @@ use Rattle.count_rule.proofs.Quiet.{held_still, locks_times}
 use Rattle.count_rule.proofs.SpelledLaw.{wrote_spelled}
 use Rattle.count_rule.proofs.Outcome.{Outcome, cells_same, runs}
 use Rattle.count_rule.proofs.HandLaw.{HandMove, hand_outcome}
-use Rattle.board_lemmas.proofs.HandLists.{EachOf-map}
+use Rattle.xp_board.proofs.HandLists.{EachOf-map}
 use Rattle.count_rule.proofs.NameHands.{named_out_typed, named_in_typed, IsNamed}
-use Rattle.board_lemmas.proofs.HandParts.{Beside, Translations, beside_then, translations_then, beside_named_out, beside_named_in, translations_named_out, translations_named_in, refs_named_in, refs_named_out}
-use Rattle.board_lemmas.proofs.HandTypes.{typed_named_out, typed_named_in}
+use Rattle.xp_board.proofs.HandParts.{Beside, Translations, beside_then, translations_then, beside_named_out, beside_named_in, translations_named_out, translations_named_in, refs_named_in, refs_named_out}
+use Rattle.xp_board.proofs.HandTypes.{typed_named_out, typed_named_in}
 
 module _ (n : Machine) (s : ℕ) (x : Step) (m m2 : Place → ℕ) (b c : ℕ → Holdings) (vcpu : s < (sizes_of n).vcpus) (others : (t : ℕ) → t ≢ s → c t ≡ b t) (may : MayAct n s x (b s)) (sound : Sound n m b) (v k : ℕ) (d : Named n s x v k m m2 (b s) (c s)) where
   abbrev was : ℕ

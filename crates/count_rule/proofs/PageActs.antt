@@ -16,13 +16,13 @@ use Rattle.xp_board.specs.PagesSteps.{MayRefund}
 use Rattle.xp_board.specs.Keeping.{MayAct}
 use Rattle.xp_board.specs.Sound.{Spelled, Sound}
 use Rattle.step_effects.proofs.ActEffects.{Wrote, Charged, Refunded}
-use Rattle.board_lemmas.proofs.ListChanges.{times-with_more_here, times-with_more_other, times-with_fewer_here, times-with_fewer_other}
+use Rattle.xp_board.proofs.ListChanges.{times-with_more_here, times-with_more_other, times-with_fewer_here, times-with_fewer_other}
 use Rattle.count_rule.proofs.Learning.{Stays, works_kept, locks_kept, claims_kept}
 use Rattle.count_rule.proofs.PartLaws.{stamped_by, idle_running}
 use Rattle.count_rule.proofs.SpelledLaw.{wrote_spelled}
 use Rattle.count_rule.proofs.Quiet.{Calm}
 use Rattle.count_rule.proofs.Outcome.{Outcome, cells_same, calm_outcome, runs}
-use Rattle.board_lemmas.proofs.Sums.{hands-part}
+use Rattle.xp_board.proofs.Sums.{hands-part}
 
 module _ (n : Machine) (s : ℕ) (x : Step) (m m2 : Place → ℕ) (b c : ℕ → Holdings) (vcpu : s < (sizes_of n).vcpus) (others : (t : ℕ) → t ≢ s → c t ≡ b t) (may : MayAct n s x (b s)) (sound : Sound n m b) where
   pub calm : (p : Place) → ((q : Place) → q ≢ p → m2 q ≡ m q) → ((f : ℕ) → Refs f ≢ p) → ((f : ℕ) → Kind f ≢ p) → ((v k : ℕ) → Vcpu v k ≢ p) → ((f i : ℕ) → Cell f i ≢ p) → Calm n s m m2 b c vcpu others

@@ -12,8 +12,8 @@ use Rattle.xp_board.specs.Readings.{kind_at, is_locked, is_dying, is_free, free_
 use Rattle.xp_board.specs.Hands.{works_on, locks_on, endings_of, claims_of, IsEmptyHand}
 use Rattle.xp_board.specs.Spelling.{IsSpelling}
 use Rattle.xp_board.specs.Sound.{is_busy, is_hinted, Spelled, HeldAlone, WorkAgrees, Stamped, Idle, FreeMap}
-use Rattle.board_lemmas.proofs.PlaceTests.{same_or_other}
-use Rattle.board_lemmas.proofs.Sums.{hands-one}
+use Rattle.xp_board.proofs.PlaceTests.{same_or_other}
+use Rattle.xp_board.proofs.Sums.{hands-one}
 use Rattle.count_rule.proofs.CountLaw.{each_vcpu}
 
 -- ---- words

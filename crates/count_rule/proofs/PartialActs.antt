@@ -25,14 +25,14 @@ use Rattle.xp_board.specs.Sound.{Sound}
 use Rattle.step_effects.proofs.ActEffects.{Wrote, Stored}
 use Rattle.count_rule.proofs.ListMoves.{cons_other, out_other, cons_here, out_here, maybe_out_other, maybe_out_here}
 use Rattle.count_rule.proofs.KindForms.{closing_says, partial_says, work_says, closing_flushed, partial_number}
-use Rattle.board_lemmas.proofs.HeldByForm.{held_partial}
+use Rattle.xp_board.proofs.HeldByForm.{held_partial}
 use Rattle.count_rule.proofs.KindActs.{beside}
-use Rattle.board_lemmas.proofs.FormsLeft.{form_partial}
+use Rattle.xp_board.proofs.FormsLeft.{form_partial}
 use Rattle.count_rule.proofs.Outcome.{Outcome}
 use Rattle.count_rule.proofs.StoreActs.{form_before, forms, stamp_was, out_outcome, type_is}
-use Rattle.board_lemmas.proofs.KindForms.{form_read}
-use Rattle.board_lemmas.proofs.KindReadings.{work_alone, partial_unlive, stamp_of}
-use Rattle.board_lemmas.proofs.HandLists.{EachOf-maybe_without}
+use Rattle.xp_board.proofs.KindForms.{form_read}
+use Rattle.xp_board.proofs.KindReadings.{work_alone, partial_unlive, stamp_of}
+use Rattle.xp_board.proofs.HandLists.{EachOf-maybe_without}
 use Rattle.xp_board.specs.Recorded.{HasType}
 
 module _ (n : Machine) (s : ℕ) (x : Step) (m m2 : Place → ℕ) (b c : ℕ → Holdings) (vcpu : s < (sizes_of n).vcpus) (others : (t : ℕ) → t ≢ s → c t ≡ b t) (may : MayAct n s x (b s)) (sound : Sound n m b) (f : ℕ) where

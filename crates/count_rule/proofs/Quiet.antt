@@ -15,14 +15,14 @@ use Rattle.xp_board.specs.Hands.{refs_to, typed_to, locks_on, works_on, endings_
 use Rattle.xp_board.specs.RefSteps.{is_closing_on}
 use Rattle.xp_board.specs.Recorded.{recorded_in, held, held_of, entry_demand, HasType, is_page_of, CountsAgree}
 use Rattle.xp_board.specs.Sound.{is_hinted, HeldAlone, WorkAgrees, FreeMap, Sound}
-use Rattle.board_lemmas.proofs.ListCounts.{EachOf-both, EachOf-once}
+use Rattle.xp_board.proofs.ListCounts.{EachOf-both, EachOf-once}
 use Rattle.count_rule.proofs.Twins.{EachTwo, EachTwo-times, EachTwo-each, EachTwo-map, SameWork, LikeWork, SameLock, SameClaim, recorded_in-same}
-use Rattle.board_lemmas.proofs.Works.{one_works, work_of-same}
+use Rattle.xp_board.proofs.Works.{one_works, work_of-same}
 use Rattle.count_rule.proofs.CountLaw.{pages_of, Steady, types_steady, counted_steady, counts_law}
 use Rattle.count_rule.proofs.PartLaws.{alone_law, map_law, works_law}
 use Rattle.count_rule.proofs.Learning.{Stays}
-use Rattle.board_lemmas.proofs.Sums.{sum_below-same}
-use Rattle.board_lemmas.proofs.Counted.{held_inside, hand_is, typed_hand-same}
+use Rattle.xp_board.proofs.Sums.{sum_below-same}
+use Rattle.xp_board.proofs.Counted.{held_inside, hand_is, typed_hand-same}
 
 -- ---- a hand that keeps its lists
 pub works_times : (b c : Holdings) → EachTwo SameWork b.works c.works → (g : ℕ) → works_on g c.works ≡ works_on g b.works

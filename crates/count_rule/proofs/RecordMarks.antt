@@ -18,14 +18,14 @@ use Rattle.xp_board.specs.Settling.{HasLastDemand, demand_in, demand_out, is_set
 use Rattle.xp_board.specs.Marks.{MayRecord, MayShed, demand_seen, seen_word, unsettled_by}
 use Rattle.xp_board.specs.Sound.{HeldAlone, Sound}
 use Rattle.step_effects.proofs.MarkEffects.{Recorded, Shed}
-use Rattle.board_lemmas.proofs.Counted.{entries-one, table_entries-more, table_inside}
+use Rattle.xp_board.proofs.Counted.{entries-one, table_entries-more, table_inside}
 use Rattle.count_rule.proofs.Quiet.{is_closing_at}
 use Rattle.count_rule.proofs.Demands.{IsInHand, out_hand, out_typed, in_hand, in_typed, Spares, out_spares, in_more, has_last, last_type}
 use Rattle.count_rule.proofs.EntryMarks.{MarkMove, mark_alone, mark_held_other, mark_held_here, marked_outcome}
 use Rattle.count_rule.proofs.Outcome.{Outcome}
-use Rattle.board_lemmas.proofs.HandParts.{beside_out, beside_in, translations_out, translations_in}
-use Rattle.board_lemmas.proofs.WorkFacts.{work_word, work_held, seen_unmarked, loaded_asks, works_facts}
-use Rattle.board_lemmas.proofs.HandTypes.{typed_out, typed_in}
+use Rattle.xp_board.proofs.HandParts.{beside_out, beside_in, translations_out, translations_in}
+use Rattle.xp_board.proofs.WorkFacts.{work_word, work_held, seen_unmarked, loaded_asks, works_facts}
+use Rattle.xp_board.proofs.HandTypes.{typed_out, typed_in}
 
 module _ (n : Machine) (s : ℕ) (m : Place → ℕ) (h b : ℕ → Holdings) (vcpu : s < (sizes_of n).vcpus) (others : (t : ℕ) → t ≢ s → b t ≡ h t) (sound : Sound n m h) (f upto : ℕ) where
   hand_alike : (g : ℕ) (u v : Holdings) → v.refs ≡ u.refs → v.typed ≡ u.typed → v.locks ≡ u.locks → (hand g v ≡ hand g u) × (typed_hand g v ≡ typed_hand g u)

@@ -21,8 +21,8 @@ use Rattle.xp_board.specs.After.{noted}
 use Rattle.xp_board.specs.Keeping.{MayAct}
 use Rattle.xp_board.specs.Sound.{Spelled, Sound}
 use Rattle.step_effects.proofs.ActEffects.{Wrote, Raised, Cleared, Lowered}
-use Rattle.board_lemmas.proofs.Sums.{when_eq, when_ne, one_at-same, hands-part}
-use Rattle.board_lemmas.proofs.ListCounts.{times_by-without, times_by-cons_here, times_by-cons_other, times_by-without_other}
+use Rattle.xp_board.proofs.Sums.{when_eq, when_ne, one_at-same, hands-part}
+use Rattle.xp_board.proofs.ListCounts.{times_by-without, times_by-cons_here, times_by-cons_other, times_by-without_other}
 use Rattle.xp_board.proofs.RefWords.{owned_says, dying_says, OneLess, more, last, one_down_leaves, owned_fits, fits_owned, fits_dying}
 use Rattle.count_rule.proofs.SpelledLaw.{wrote_spelled}
 use Rattle.count_rule.proofs.Outcome.{Outcome}

@@ -16,9 +16,9 @@ use Rattle.count_rule.proofs.Learning.{works_kept}
 use Rattle.count_rule.proofs.CountLaw.{pages_of, Steady, types_steady, counted_steady, counts_law}
 use Rattle.count_rule.proofs.PartLaws.{alone_law, map_law, works_law, stamped_by, idle_running}
 use Rattle.count_rule.proofs.Quiet.{held_still, is_closing_at, like_works, works_spared}
-use Rattle.board_lemmas.proofs.Counted.{held_inside, hand_is, typed_hand-same}
+use Rattle.xp_board.proofs.Counted.{held_inside, hand_is, typed_hand-same}
 use Rattle.count_rule.proofs.Outcome.{Outcome, cells_same, runs}
-use Rattle.board_lemmas.proofs.Sums.{sum_below-one}
+use Rattle.xp_board.proofs.Sums.{sum_below-one}
 
 module _ (n : Machine) (s : ℕ) (m m2 : Place → ℕ) (b c : ℕ → Holdings) (vcpu : s < (sizes_of n).vcpus) (others : (t : ℕ) → t ≢ s → c t ≡ b t) (f : ℕ) where
   -- how the word of frame f moves, and what the hand has of references, endings, claims, raised frames and credits

@@ -15,7 +15,7 @@ use Rattle.xp_board.specs.Sound.{Spelled}
 use Rattle.step_effects.proofs.ActEffects.{Wrote}
 use Rattle.count_rule.proofs.PartLaws.{spelled_by}
 use Rattle.count_rule.proofs.Spellings.{spelling_small}
-use Rattle.board_lemmas.proofs.Sums.{either}
+use Rattle.xp_board.proofs.Sums.{either}
 
 module _ (n : Machine) (s : ℕ) (x : Step) (p : Place) (kind : StepKind) (m m2 : Place → ℕ) (b : Holdings) where
   -- the act at its place, with its kind

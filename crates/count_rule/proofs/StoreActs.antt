@@ -21,23 +21,23 @@ use Rattle.xp_board.specs.After.{noted}
 use Rattle.xp_board.specs.Keeping.{MayAct}
 use Rattle.xp_board.specs.Sound.{is_busy, WorkAgrees, Sound}
 use Rattle.step_effects.proofs.ActEffects.{Wrote, Stored}
-use Rattle.board_lemmas.proofs.Sums.{when_eq, when_ne, no_bit}
-use Rattle.board_lemmas.proofs.HandLists.{first-some, times-changed, EachOf-without}
-use Rattle.board_lemmas.proofs.ListChanges.{first_by-changed_here, EachOf-changed_into}
-use Rattle.board_lemmas.proofs.Works.{one_works, is_busy-mine, held_free, held_mine}
+use Rattle.xp_board.proofs.Sums.{when_eq, when_ne, no_bit}
+use Rattle.xp_board.proofs.HandLists.{first-some, times-changed, EachOf-without}
+use Rattle.xp_board.proofs.ListChanges.{first_by-changed_here, EachOf-changed_into}
+use Rattle.xp_board.proofs.Works.{one_works, is_busy-mine, held_free, held_mine}
 use Rattle.count_rule.proofs.ListMoves.{cons_other, out_other, swap_other, cons_here, out_here, swap_here, recorded_out, recorded_changed}
 use Rattle.count_rule.proofs.KindForms.{Says, live_says, closing_says, work_says, dead_says, same_if}
-use Rattle.board_lemmas.proofs.HeldByForm.{held_live, held_dead, held_work, same_zero}
+use Rattle.xp_board.proofs.HeldByForm.{held_live, held_dead, held_work, same_zero}
 use Rattle.count_rule.proofs.KindSpelled.{form_was}
 use Rattle.count_rule.proofs.KindActs.{Beside, beside, rest_by, turn_outcome, keeps_kind}
 use Rattle.count_rule.proofs.KindWorks.{works_out}
 use Rattle.count_rule.proofs.WorkActs.{not_closing}
-use Rattle.board_lemmas.proofs.FormsLeft.{form_live, form_work, form_dead}
+use Rattle.xp_board.proofs.FormsLeft.{form_live, form_work, form_dead}
 use Rattle.count_rule.proofs.Told.{clock_found}
 use Rattle.count_rule.proofs.Outcome.{Outcome}
-use Rattle.board_lemmas.proofs.KindForms.{form_read}
-use Rattle.board_lemmas.proofs.KindReadings.{busy_forms, closing_alone, work_unlive, dead_unlive, stamp_live, stamp_of}
-use Rattle.board_lemmas.proofs.WorkFacts.{work_word, works_facts}
+use Rattle.xp_board.proofs.KindForms.{form_read}
+use Rattle.xp_board.proofs.KindReadings.{busy_forms, closing_alone, work_unlive, dead_unlive, stamp_live, stamp_of}
+use Rattle.xp_board.proofs.WorkFacts.{work_word, works_facts}
 
 flat_says : (k : KindWord) (count mark lock : ℕ) → mark ≡ 0 → lock ≡ 0 → Says k count mark 0 lock → Says k count 0 0 0
 flat_says k count mark lock p q says = record { counts = says.counts; mark_is = says.mark_is ∙ p; busy_is = says.busy_is; lock_is = says.lock_is ∙ q }

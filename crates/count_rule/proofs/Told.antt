@@ -9,7 +9,7 @@ use Rattle.xp_board.specs.declared.holdings.Made.{Made}
 use Rattle.xp_board.specs.Lists.{EachOf}
 use Rattle.xp_board.specs.Readings.{clock_value}
 use Rattle.xp_board.specs.Steps.{is_same, is_at, left_of, some_step, some_since}
-use Rattle.board_lemmas.proofs.PlaceTests.{same_place}
+use Rattle.xp_board.proofs.PlaceTests.{same_place}
 
 or_either : (s t : Bool) → (s || t) ≡ true → (s ≡ true) ⊎ (t ≡ true)
 or_either true t e = inl refl

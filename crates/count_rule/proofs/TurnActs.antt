@@ -22,10 +22,10 @@ use Rattle.count_rule.proofs.ListMoves.{cons_other, out_other, cons_here, out_he
 use Rattle.count_rule.proofs.KindForms.{Says, live_says, partial_says}
 use Rattle.count_rule.proofs.KindActs.{beside, free_outcome, keeps_kind}
 use Rattle.count_rule.proofs.Outcome.{Outcome}
-use Rattle.board_lemmas.proofs.HandLists.{EachOf-without}
-use Rattle.board_lemmas.proofs.KindForms.{form_read}
-use Rattle.board_lemmas.proofs.HeldByForm.{held_same}
-use Rattle.board_lemmas.proofs.KindReadings.{stamp_live}
+use Rattle.xp_board.proofs.HandLists.{EachOf-without}
+use Rattle.xp_board.proofs.KindForms.{form_read}
+use Rattle.xp_board.proofs.HeldByForm.{held_same}
+use Rattle.xp_board.proofs.KindReadings.{stamp_live}
 
 pub left_says : (l r : KindWord) (c m b k : ℕ) → l ≡ r → Says r c m b k → Says l c m b k
 left_says l r c m b k e says = subst (λ y. Says y c m b k) (sym e) says

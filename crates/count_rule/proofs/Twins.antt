@@ -7,7 +7,7 @@ use Rattle.xp_board.specs.declared.holdings.Lock.{Lock}
 use Rattle.xp_board.specs.declared.holdings.Claimed.{Claimed}
 use Rattle.xp_board.specs.Lists.{times_by, first_by, changed_by, EachOf}
 use Rattle.xp_board.specs.Recorded.{recorded_in}
-use Rattle.board_lemmas.proofs.Sums.{when_eq, when_ne}
+use Rattle.xp_board.proofs.Sums.{when_eq, when_ne}
 
 unfoldable pub EachTwo : {A : Type 0} → (A → A → Type 0) → List A → List A → Type 0
 EachTwo R [] [] = Unit {0}

@@ -7,8 +7,8 @@ use Rattle.xp_board.specs.declared.holdings.Walk.{Walk}
 use Rattle.xp_board.specs.FillSteps.{level_of, touched, started, loaded, descended}
 use Rattle.xp_board.specs.RunSteps.{ran_now}
 use Rattle.count_rule.proofs.Learning.{Same, same_refl, same_of}
-use Rattle.board_lemmas.proofs.HandParts.{references_descended, beside_descended, references_loaded, beside_loaded, references_started, beside_started, references_ran, beside_ran}
-use Rattle.board_lemmas.proofs.Sums.{either}
+use Rattle.xp_board.proofs.HandParts.{references_descended, beside_descended, references_loaded, beside_loaded, references_started, beside_started, references_ran, beside_ran}
+use Rattle.xp_board.proofs.Sums.{either}
 
 -- ---- what a walk leaves in the hand
 pub same_descended : (n : Machine) (walk : Walk) (w : ℕ) (b : Holdings) → Same b (descended n walk w b)

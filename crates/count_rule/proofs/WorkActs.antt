@@ -20,19 +20,19 @@ use Rattle.xp_board.specs.KindSteps.{Resume, Begin, begun_kind, resumed_kind, is
 use Rattle.xp_board.specs.Keeping.{MayAct}
 use Rattle.xp_board.specs.Sound.{is_busy, HeldAlone, WorkAgrees, Sound}
 use Rattle.step_effects.proofs.ActEffects.{Turned}
-use Rattle.board_lemmas.proofs.ListCounts.{first_by-cons_here}
-use Rattle.board_lemmas.proofs.Works.{nobody_works, held_free, held_mine}
+use Rattle.xp_board.proofs.ListCounts.{first_by-cons_here}
+use Rattle.xp_board.proofs.Works.{nobody_works, held_free, held_mine}
 use Rattle.count_rule.proofs.ListMoves.{cons_other, out_other, cons_here, out_here, maybe_other, maybe_here, recorded_cons}
 use Rattle.count_rule.proofs.KindForms.{partial_says, work_says, dead_says}
-use Rattle.board_lemmas.proofs.HeldByForm.{held_partial, held_dead, held_work, same_zero}
+use Rattle.xp_board.proofs.HeldByForm.{held_partial, held_dead, held_work, same_zero}
 use Rattle.count_rule.proofs.KindActs.{beside, rest_by, turn_outcome, keeps_kind}
 use Rattle.count_rule.proofs.KindWorks.{works_in}
 use Rattle.count_rule.proofs.TurnActs.{turned_hand, left_says, stamp_kept}
 use Rattle.count_rule.proofs.Outcome.{Outcome}
-use Rattle.board_lemmas.proofs.KindForms.{form_read}
-use Rattle.board_lemmas.proofs.Sums.{no_bit, if_fewer}
-use Rattle.board_lemmas.proofs.KindReadings.{dead_unlive, stamp_number, stamp_of, resumed_in_work}
-use Rattle.board_lemmas.proofs.HandLists.{EachOf-maybe}
+use Rattle.xp_board.proofs.KindForms.{form_read}
+use Rattle.xp_board.proofs.Sums.{no_bit, if_fewer}
+use Rattle.xp_board.proofs.KindReadings.{dead_unlive, stamp_number, stamp_of, resumed_in_work}
+use Rattle.xp_board.proofs.HandLists.{EachOf-maybe}
 
 marked_none : (k : KindWord) → has_form k ≡ true → IsTrue (is_partial k) → k.unflushed ≡ true → k.progress ≡ 0
 unfolding has_form

@@ -17,13 +17,13 @@ use Rattle.xp_board.specs.Readings.{kind_at}
 use Rattle.xp_board.specs.Sound.{Sound}
 use Rattle.xp_board.specs.Spelling.{IsSpelling, is_kind_in}
 use Rattle.xp_board.specs.Told.{Post, PortValue, Story, is_telling, told_word, word_in}
-use Rattle.board_lemmas.proofs.Counted.{type_below}
-use Rattle.board_lemmas.proofs.KindForms.{fields_of}
-use Rattle.board_lemmas.proofs.KindReadings.{live_count}
+use Rattle.xp_board.proofs.Counted.{type_below}
+use Rattle.xp_board.proofs.KindForms.{fields_of}
+use Rattle.xp_board.proofs.KindReadings.{live_count}
 use Rattle.step_maker.specs.Moves.{Came}
 use Rattle.step_maker.proofs.Coming.{came_post, met_after, met_before}
-use Rattle.answer_fits.specs.Answers.{Stops}
-use Rattle.answer_fits.specs.Asked.{Request}
+use Rattle.step_maker.specs.Answers.{Stops}
+use Rattle.step_maker.specs.Asked.{Request}
 use Rattle.answer_laws.specs.Alone.{IsAlone, IsDueOrFlush}
 use Rattle.kind_words.proofs.KindFacts.{read_is}
 use Rattle.kind_words.proofs.RowSteps.{kind_there}

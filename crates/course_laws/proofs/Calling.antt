@@ -16,8 +16,8 @@ use Rattle.step_maker.specs.Moves.{Came}
 use Rattle.step_maker.specs.Plain.{Words}
 use Rattle.step_maker.proofs.Coming.{came_post, came_trans, met_after}
 use Rattle.step_maker.proofs.Telling.{came_telling}
-use Rattle.answer_fits.specs.Twins.{Alike}
-use Rattle.answer_fits.proofs.Visiting.{does_came}
+use Rattle.step_maker.specs.Twins.{Alike}
+use Rattle.step_maker.proofs.Visiting.{does_came}
 use Rattle.frame_words.specs.Plain.{got, put, refer}
 use Rattle.frame_types.specs.Plain.{IsTakenBy, set_kind, taken as types_taken, type_stop, work_unmarked}
 use Rattle.frame_types.specs.Standing.{standing_of}

@@ -11,7 +11,7 @@ use Rattle.xp_board.specs.RefSteps.{one_down, owner_number}
 use Rattle.xp_board.specs.declared.step.Act.TheVariants.{Add}
 use Rattle.xp_words.specs.declared.place.Place.{Place}
 use Rattle.step_maker.specs.Plain.{Words, change}
-use Rattle.answer_fits.proofs.Alikes.{same_alike}
+use Rattle.step_maker.proofs.Alikes.{same_alike}
 use Rattle.frame_words.specs.Plain.{lowered, put, set_free}
 use Rattle.frame_types.specs.Plain.{set_kind}
 use Rattle.kind_words.specs.Kinds.{live_kind}

@@ -10,7 +10,7 @@ use Rattle.xp_words.specs.declared.reply.Refusal.{Refusal}
 use Rattle.xp_board.specs.Readings.{kind_at}
 use Rattle.xp_board.specs.Told.{PortValue, told_word}
 use Rattle.step_maker.specs.Plain.{Words}
-use Rattle.answer_fits.specs.Twins.{Alike}
+use Rattle.step_maker.specs.Twins.{Alike}
 use Rattle.frame_words.specs.Plain.{got, refer}
 use Rattle.frame_types.specs.Plain.{IsTakenBy, is_read_first, taken}
 use Rattle.frame_types.specs.Standing.{standing_of}

@@ -12,8 +12,8 @@ use Rattle.xp_board.specs.KindSteps.{begun_kind, raised_kind}
 use Rattle.xp_board.specs.Readings.{is_dead, is_type, kind_at}
 use Rattle.xp_board.specs.Told.{PortValue, told_word}
 use Rattle.step_maker.specs.Plain.{Leaves, Words}
-use Rattle.answer_fits.specs.Twins.{Alike}
-use Rattle.answer_fits.proofs.Alikes.{same_alike}
+use Rattle.step_maker.specs.Twins.{Alike}
+use Rattle.step_maker.proofs.Alikes.{same_alike}
 use Rattle.frame_words.specs.Plain.{got, refer}
 use Rattle.kind_words.specs.Kinds.{live_kind, work_kind}
 use Rattle.kind_words.proofs.KindWriting.{live_is, raised_is}

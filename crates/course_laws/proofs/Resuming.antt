@@ -17,7 +17,7 @@ use Rattle.step_maker.specs.Moves.{Came}
 use Rattle.step_maker.specs.Plain.{Leaves, Words}
 use Rattle.step_maker.proofs.Coming.{came_post}
 use Rattle.step_maker.proofs.Telling.{came_telling}
-use Rattle.answer_fits.specs.Twins.{Alike}
+use Rattle.step_maker.specs.Twins.{Alike}
 use Rattle.frame_words.specs.Plain.{got, refer}
 use Rattle.frame_types.specs.Plain.{IsTakenBy, set_kind, taken as types_taken, type_stop, work_unmarked}
 use Rattle.frame_types.specs.Standing.{standing_of}

@@ -6,7 +6,7 @@ use Rattle.xp_words.specs.Machine.{Machine}
 use Rattle.xp_words.specs.KindWords.{is_kind, kind_fields, kind_write}
 use Rattle.xp_words.specs.declared.place.Place.TheVariants.{Kind}
 use Rattle.xp_board.specs.Acts.{left_by}
-use Rattle.answer_fits.specs.Twins.{Alike, IsAlikeKind}
+use Rattle.step_maker.specs.Twins.{Alike, IsAlikeKind}
 use Rattle.frame_types.specs.Plain.{set_kind}
 use Rattle.kind_words.proofs.KindWriting.{fields_write}
 use Rattle.xp_words.specs.declared.entry.Demand.TheVariants.{Typed}

@@ -14,7 +14,7 @@ use Rattle.step_maker.specs.Plain.{Words}
 use Rattle.step_maker.specs.Moves.{Came, Moment, Moves}
 use Rattle.step_maker.proofs.Coming.{came_post, came_self, came_trans, met_after, moves_came}
 use Rattle.step_maker.proofs.Telling.{came_telling, leaves, load_tells}
-use Rattle.answer_fits.proofs.Alikes.{same_alike}
+use Rattle.step_maker.proofs.Alikes.{same_alike}
 use Rattle.frame_words.specs.Plain.{put}
 use Rattle.frame_types.specs.Plain.{set_kind}
 use Rattle.kind_words.specs.Kinds.{partial_kind}

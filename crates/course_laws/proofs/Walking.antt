@@ -5,7 +5,7 @@ use Rattle.xp_words.specs.declared.reply.Stop.{Stop}
 use Rattle.xp_board.specs.Told.{PortValue}
 use Rattle.step_maker.specs.Moves.{Came}
 use Rattle.step_maker.proofs.Coming.{came_self, came_trans, moves_came}
-use Rattle.answer_fits.proofs.Visiting.{does_came}
+use Rattle.step_maker.proofs.Visiting.{does_came}
 use Rattle.kept_marks.specs.Marks as marks
 use Rattle.kept_marks.specs.Marks.{KeptFor}
 use Rattle.partial_state.specs.declared.stack.TableWork.{TableWork}

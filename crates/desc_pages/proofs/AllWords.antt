@@ -4,8 +4,8 @@ use Rattle.xp_board.specs.declared.holdings.Work.{Work}
 use Rattle.xp_words.specs.Machine.{IsMachine}
 use Rattle.xp_board.specs.Told.{PortValue}
 use Rattle.step_maker.specs.Holds.{MayWork, still}
-use Rattle.answer_fits.specs.Visits.{Nothing, Visit, Then}
-use Rattle.answer_fits.proofs.Visiting.{does_as, does_nothing, does_then}
+use Rattle.step_maker.specs.Visits.{Nothing, Visit, Then}
+use Rattle.step_maker.proofs.Visiting.{does_as, does_nothing, does_then}
 use Rattle.desc_pages.specs.declared.fixing.Unfixed.{Unfixed}
 use Rattle.desc_pages.specs.Fixing.{Fixes, FixesAll, FixesBy, FixesOne, FixesWord, IsPageWork, Unfixes, UnfixesWord, WordBy, changed, changes, none, stands, stood}
 

@@ -8,8 +8,8 @@ use Rattle.xp_words.specs.declared.reply.Stop.{Stop}
 use Rattle.xp_words.specs.declared.reply.Stop.TheVariants.{Refused, Paused}
 use Rattle.xp_board.specs.Told.{Post, PortValue}
 use Rattle.step_maker.specs.Moves.{Moment, Ran}
-use Rattle.answer_fits.specs.Reasons.{OfOwner, Those, Whose}
-use Rattle.answer_fits.specs.Visits.{Visit, Does, Nothing, Only, Then, Where, visits}
+use Rattle.step_maker.specs.Reasons.{OfOwner, Those, Whose}
+use Rattle.step_maker.specs.Visits.{Visit, Does, Nothing, Only, Then, Where, visits}
 use Rattle.flush_words.proofs.Lasting.{moves_longer}
 use Rattle.flush_words.specs.Flushing.{FlushedBy}
 use Rattle.flush_words.specs.Flushing as flushing

@@ -11,15 +11,15 @@ use Rattle.xp_words.specs.declared.reply.Stop.TheVariants.{Refused}
 use Rattle.xp_board.specs.declared.holdings.OwnerFound.TheVariants as owners
 use Rattle.xp_board.specs.declared.holdings.Reference.{Reference}
 use Rattle.xp_board.specs.Told.{Post, PortValue, is_telling, told_word}
-use Rattle.board_lemmas.proofs.Sums.{when_eq}
+use Rattle.xp_board.proofs.Sums.{when_eq}
 use Rattle.step_maker.specs.Holds.{FlushedSame, Holds, Rests, Same, quiet}
 use Rattle.step_maker.specs.Moves.{Came, Met}
 use Rattle.step_maker.specs.Plain.{Leaves}
 use Rattle.step_maker.proofs.Coming.{came_post, came_self, came_trans}
-use Rattle.answer_fits.specs.Answers.{Deed, Serves, Stops, missed}
-use Rattle.answer_fits.specs.Asked.{Request, Within, named, of, of_back, of_frame}
-use Rattle.answer_fits.proofs.Later.{stops_then}
-use Rattle.answer_fits.proofs.Piecing.{serves_back, serves_came, serves_nothing, serves_then, serves_within, stops_within, within_frame}
+use Rattle.step_maker.specs.Answers.{Deed, Serves, Stops, missed}
+use Rattle.step_maker.specs.Asked.{Request, Within, named, of, of_back, of_frame}
+use Rattle.step_maker.proofs.Later.{stops_then}
+use Rattle.step_maker.proofs.Piecing.{serves_back, serves_came, serves_nothing, serves_then, serves_within, stops_within, within_frame}
 use Rattle.frame_words.specs.Freeing.{Puts, gave}
 use Rattle.frame_words.specs.Plain.{TwinGet, put}
 use Rattle.frame_words.specs.Refs.{Gets, IsRefStop, took}

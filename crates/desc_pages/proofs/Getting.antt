@@ -19,14 +19,14 @@ use Rattle.xp_board.specs.Knowledge.{knows_live, tells_live}
 use Rattle.xp_board.specs.Lists.{some_of}
 use Rattle.xp_board.specs.Readings.{is_type}
 use Rattle.xp_board.specs.Told.{Post, PortValue}
-use Rattle.board_lemmas.proofs.Sums.{when_eq}
+use Rattle.xp_board.proofs.Sums.{when_eq}
 use Rattle.step_maker.specs.Holds.{FlushedSame, Holds, Same, quiet}
 use Rattle.step_maker.specs.Moves.{Came, Met}
 use Rattle.step_maker.proofs.Coming.{came_post, came_trans}
-use Rattle.answer_fits.specs.Answers.{Deed, Serves, Stops, missed}
-use Rattle.answer_fits.specs.Asked.{Within, named, of_frame}
-use Rattle.answer_fits.proofs.Later.{IsUncounted, stops_then}
-use Rattle.answer_fits.proofs.Piecing.{serves_came, serves_then, serves_within, stops_within, within_frame}
+use Rattle.step_maker.specs.Answers.{Deed, Serves, Stops, missed}
+use Rattle.step_maker.specs.Asked.{Within, named, of_frame}
+use Rattle.step_maker.proofs.Later.{IsUncounted, stops_then}
+use Rattle.step_maker.proofs.Piecing.{serves_came, serves_then, serves_within, stops_within, within_frame}
 use Rattle.flush_words.proofs.Lasting.{came_keeps}
 use Rattle.frame_words.specs.Freeing.{gave}
 use Rattle.frame_words.specs.Plain.{TwinGet}

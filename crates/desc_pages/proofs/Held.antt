@@ -12,14 +12,14 @@ use Rattle.xp_board.specs.KindSteps.{live_typed}
 use Rattle.xp_board.specs.Knowledge.{knows_live, tells_live}
 use Rattle.xp_board.specs.Lists.{first_by, some_of, times_by}
 use Rattle.xp_board.specs.Told.{PortValue}
-use Rattle.board_lemmas.proofs.ListCounts.{times_by-cons_other}
-use Rattle.board_lemmas.proofs.Sums.{when_eq}
+use Rattle.xp_board.proofs.ListCounts.{times_by-cons_other}
+use Rattle.xp_board.proofs.Sums.{when_eq}
 use Rattle.step_maker.specs.Holds.{Holds, MayWork, still}
 use Rattle.step_maker.specs.Moves.{Came}
 use Rattle.step_maker.proofs.Coming.{came_self, came_trans}
-use Rattle.answer_fits.specs.Answers.{Deed, Serves}
-use Rattle.answer_fits.specs.Asked.{Request, named, of, of_back}
-use Rattle.answer_fits.proofs.Piecing.{serves_back, serves_came}
+use Rattle.step_maker.specs.Answers.{Deed, Serves}
+use Rattle.step_maker.specs.Asked.{Request, named, of, of_back}
+use Rattle.step_maker.proofs.Piecing.{serves_back, serves_came}
 use Rattle.frame_types.specs.Found.{DropsPlain}
 use Rattle.frame_types.specs.Taking.{MayDropPlain, gave_type}
 use Rattle.kind_words.proofs.KindHands.{known_first, typed_held}

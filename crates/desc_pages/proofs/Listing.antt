@@ -12,9 +12,9 @@ use Rattle.xp_board.specs.Told.{Post, PortValue}
 use Rattle.step_maker.specs.Holds.{FlushedHolds, FlushedSame, MayWork, Rests, quiet}
 use Rattle.step_maker.specs.Moves.{Met}
 use Rattle.step_maker.proofs.Coming.{came_self, came_trans, met_after}
-use Rattle.answer_fits.specs.Answers.{Deed, Serves, Stops, missed}
-use Rattle.answer_fits.specs.Asked.{NoMore, Within}
-use Rattle.answer_fits.proofs.Piecing.{serves_came, serves_inner, serves_nothing, stops_before, stops_inner}
+use Rattle.step_maker.specs.Answers.{Deed, Serves, Stops, missed}
+use Rattle.step_maker.specs.Asked.{NoMore, Within}
+use Rattle.step_maker.proofs.Piecing.{serves_came, serves_inner, serves_nothing, stops_before, stops_inner}
 use Rattle.desc_pages.specs.Gdt.{GaveAll, HoldsPages, Takes, Untakes, held, more, none, of_gdt, own_domain, untaken}
 use Rattle.desc_pages.specs.Pages.{GotDesc, IsDescAside, IsDescStop, LeavesDesc, of_desc}
 use Rattle.desc_pages.proofs.Held.{aside_held}

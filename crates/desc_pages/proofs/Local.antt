@@ -13,9 +13,9 @@ use Rattle.xp_board.specs.Told.{PortValue}
 use Rattle.step_maker.specs.Holds.{FlushedSame, Rests, Same, quiet}
 use Rattle.step_maker.specs.Moves.{Moves}
 use Rattle.step_maker.proofs.Coming.{came_self, came_trans, moves_came}
-use Rattle.answer_fits.specs.Answers.{Serves, Stops}
-use Rattle.answer_fits.specs.Asked.{Request}
-use Rattle.answer_fits.proofs.Piecing.{serves_nothing, serves_step}
+use Rattle.step_maker.specs.Answers.{Serves, Stops}
+use Rattle.step_maker.specs.Asked.{Request}
+use Rattle.step_maker.proofs.Piecing.{serves_nothing, serves_step}
 use Rattle.desc_pages.specs.Ldt.{IsLdtStop, LdtSet, UnnamesAll, barred, is_bad_ldt, is_canonical, ldt_base, ldt_refusal, of_ldt, set, unnamed_from}
 use Rattle.desc_pages.specs.Names.{own_domain}
 use Rattle.desc_pages.proofs.Setting.{still_rests}

@@ -9,7 +9,7 @@ use Rattle.xp_board.specs.KindSteps.{live_typed}
 use Rattle.xp_board.specs.Told.{PortValue}
 use Rattle.step_maker.specs.Holds.{MayWork, still}
 use Rattle.step_maker.proofs.Coming.{came_self, came_trans}
-use Rattle.answer_fits.specs.Answers.{Serves, SetsWord}
+use Rattle.step_maker.specs.Answers.{Serves, SetsWord}
 use Rattle.desc_pages.specs.Names.{HoldsForPage, PutsPage, own_domain}
 use Rattle.context_words.specs.Names.{naming}
 use Rattle.desc_pages.specs.Gdt.{HoldsPages, NamesAll, held, least, more, none, page_at, words_from}

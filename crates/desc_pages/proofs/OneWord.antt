@@ -19,16 +19,16 @@ use Rattle.xp_board.specs.Lists.{changed_by, first_by}
 use Rattle.xp_board.specs.Readings.{is_work}
 use Rattle.xp_board.specs.Spelling.{IsSpelling}
 use Rattle.xp_board.specs.Told.{PortValue}
-use Rattle.board_lemmas.proofs.Numbers.{cell_there}
-use Rattle.board_lemmas.proofs.Sums.{when_eq, when_ne}
+use Rattle.xp_board.proofs.Numbers.{cell_there}
+use Rattle.xp_board.proofs.Sums.{when_eq, when_ne}
 use Rattle.step_maker.specs.Holds.{Holds, MayWork, still}
 use Rattle.step_maker.specs.Moves.{May, Met, Moves}
 use Rattle.kind_words.proofs.KindHands.{work_here}
-use Rattle.answer_fits.specs.Answers.{Deed, Serves, Writes, SetsEntry, is_apart, only_if, stored_cell}
-use Rattle.answer_fits.specs.Asked.{IsAsked, Request, named, of}
-use Rattle.answer_fits.specs.Visits.{Visit, visit, Only, Then}
-use Rattle.answer_fits.proofs.Piecing.{serves_step}
-use Rattle.answer_fits.proofs.Visiting.{does_as, does_one, does_then}
+use Rattle.step_maker.specs.Answers.{Deed, Serves, Writes, SetsEntry, is_apart, only_if, stored_cell}
+use Rattle.step_maker.specs.Asked.{IsAsked, Request, named, of}
+use Rattle.step_maker.specs.Visits.{Visit, visit, Only, Then}
+use Rattle.step_maker.proofs.Piecing.{serves_step}
+use Rattle.step_maker.proofs.Visiting.{does_as, does_one, does_then}
 use Rattle.desc_pages.specs.Fixing.{FixesWord, IsPage, IsPageWork, MayStoreFixed, UnfixesWord, WordBy, changed, stood}
 
 -- ---- what is learned of the page

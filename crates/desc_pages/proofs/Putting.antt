@@ -15,14 +15,14 @@ use Rattle.xp_board.specs.KindSteps.{live_typed}
 use Rattle.xp_board.specs.Lists.{first_by}
 use Rattle.xp_board.specs.Readings.{domain_of, is_context}
 use Rattle.xp_board.specs.Told.{Post, PortValue}
-use Rattle.board_lemmas.proofs.Sums.{when_eq}
+use Rattle.xp_board.proofs.Sums.{when_eq}
 use Rattle.step_maker.specs.Holds.{Holds, still}
 use Rattle.step_maker.specs.Moves.{Came, Met, Moves}
 use Rattle.step_maker.proofs.Coming.{came_post, came_trans, moves_came}
-use Rattle.answer_fits.specs.Answers.{Deed, Serves, SetsWord, is_told_word}
-use Rattle.answer_fits.specs.Asked.{IsAsked, Request, context, of, of_back}
-use Rattle.answer_fits.proofs.Changing.{found_after, found_before, moves_found}
-use Rattle.answer_fits.proofs.Piecing.{serves_back, serves_came, serves_step}
+use Rattle.step_maker.specs.Answers.{Deed, Serves, SetsWord, is_told_word}
+use Rattle.step_maker.specs.Asked.{IsAsked, Request, context, of, of_back}
+use Rattle.step_maker.proofs.Changing.{found_after, found_before, moves_found}
+use Rattle.step_maker.proofs.Piecing.{serves_back, serves_came, serves_step}
 use Rattle.frame_types.specs.Found.{DropsPlain}
 use Rattle.frame_types.specs.Taking.{MayDropPlain, gave_type}
 use Rattle.kind_words.proofs.KindHands.{known_first, typed_held}

@@ -11,8 +11,8 @@ use Rattle.xp_board.specs.Told.{PortValue}
 use Rattle.step_maker.specs.Holds.{FlushedSame, Rests, quiet}
 use Rattle.step_maker.specs.Moves.{Came}
 use Rattle.step_maker.proofs.Coming.{came_self, came_trans}
-use Rattle.answer_fits.proofs.Piecing.{serves_nothing}
-use Rattle.answer_fits.specs.Answers.{Serves, Stops}
+use Rattle.step_maker.proofs.Piecing.{serves_nothing}
+use Rattle.step_maker.specs.Answers.{Serves, Stops}
 use Rattle.desc_pages.specs.Gdt.{GdtSet, HoldsPages, IsGdtStop, NamesAll, SetsGdt, Takes, Untakes, barred, gdt_deeds, gdt_refusal, held, is_bad_gdt, least, of_gdt, own_domain, set, words_from}
 use Rattle.desc_pages.specs.Pages.{IsDescStop}
 use Rattle.desc_pages.proofs.Listing.{holds_pages}

@@ -16,9 +16,9 @@ use Rattle.xp_board.specs.declared.step.StepKind.{StepKind}
 use Rattle.xp_board.specs.Told.{Post, PortValue}
 use Rattle.step_maker.specs.Moves.{Came, Moment, Moves, Ran}
 use Rattle.step_maker.proofs.Coming.{came_post, came_trans, moves_came, ran_post}
-use Rattle.answer_fits.proofs.Visiting.{does_came}
-use Rattle.answer_fits.specs.Reasons.{OfOwner, Whose}
-use Rattle.answer_fits.specs.Visits.{Visit, Does, Only, Then, Where, visits}
+use Rattle.step_maker.proofs.Visiting.{does_came}
+use Rattle.step_maker.specs.Reasons.{OfOwner, Whose}
+use Rattle.step_maker.specs.Visits.{Visit, Does, Only, Then, Where, visits}
 use Rattle.flush_words.proofs.Lasting.{moves_longer}
 use Rattle.flush_waits.specs.Listing.{Slow, WaitedFor, WaitsInOrder}
 use Rattle.flush_waits.specs.Listing as listing

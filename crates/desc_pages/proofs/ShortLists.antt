@@ -9,7 +9,7 @@ use Rattle.xp_words.specs.declared.reply.Refusal.TheVariants as refusals
 use Rattle.xp_words.specs.declared.reply.Stop.{Stop}
 use Rattle.xp_board.specs.Told.{PortValue}
 use Rattle.step_maker.proofs.Coming.{came_post}
-use Rattle.answer_fits.specs.Visits.{Only, Then, Where}
+use Rattle.step_maker.specs.Visits.{Only, Then, Where}
 use Rattle.frame_words.specs.Freeing.{PutBy}
 use Rattle.frame_types.specs.Found.{Dies, DropsBy, DropsPlain}
 use Rattle.desc_pages.specs.Gdt.{GivesPages, NamedFrom, IsShortGdt, SetsGdt, TookPages, gdt_refusal, is_bad_gdt, own_domain}

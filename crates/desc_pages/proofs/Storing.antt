@@ -20,14 +20,14 @@ use Rattle.xp_board.specs.KindSteps.{live_typed}
 use Rattle.xp_board.specs.Lists.{first_by}
 use Rattle.xp_board.specs.Readings.{is_live, is_type}
 use Rattle.xp_board.specs.Told.{Post, PortValue}
-use Rattle.board_lemmas.proofs.Sums.{when_eq}
+use Rattle.xp_board.proofs.Sums.{when_eq}
 use Rattle.step_maker.specs.Holds.{FlushedHolds, Holds, Same, quiet}
 use Rattle.step_maker.specs.Moves.{Came, Met, Moves}
 use Rattle.step_maker.proofs.Coming.{came_post, came_trans, met_after, moves_came}
-use Rattle.answer_fits.specs.Answers.{Deed, Serves, Writes, deeds_by, missed}
-use Rattle.answer_fits.specs.Asked.{IsAsked, Request, Within, named, of, of_back, of_table}
-use Rattle.answer_fits.proofs.Later.{stops_later}
-use Rattle.answer_fits.proofs.Piecing.{serves_back, serves_came, serves_inner, serves_nothing, serves_step}
+use Rattle.step_maker.specs.Answers.{Deed, Serves, Writes, deeds_by, missed}
+use Rattle.step_maker.specs.Asked.{IsAsked, Request, Within, named, of, of_back, of_table}
+use Rattle.step_maker.proofs.Later.{stops_later}
+use Rattle.step_maker.proofs.Piecing.{serves_back, serves_came, serves_inner, serves_nothing, serves_step}
 use Rattle.frame_words.specs.Cells.{IsApart, MayStoreCell}
 use Rattle.frame_words.specs.Freeing.{gave}
 use Rattle.frame_words.proofs.CellSteps.{newest_held, newest_live, writes_live}

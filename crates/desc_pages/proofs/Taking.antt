@@ -9,14 +9,14 @@ use Rattle.xp_words.specs.declared.reply.Stop.TheVariants.{Refused, Paused}
 use Rattle.xp_board.specs.Hands.{work_on}
 use Rattle.xp_board.specs.Lists.{first_by}
 use Rattle.xp_board.specs.Told.{PortValue, is_telling, told_word}
-use Rattle.board_lemmas.proofs.Sums.{when_eq}
+use Rattle.xp_board.proofs.Sums.{when_eq}
 use Rattle.step_maker.specs.Holds.{FlushedHolds, Holds, Same, quiet}
 use Rattle.step_maker.specs.Moves.{Came, Met}
 use Rattle.step_maker.specs.Plain.{Leaves}
 use Rattle.step_maker.proofs.Coming.{came_trans}
-use Rattle.answer_fits.specs.Answers.{Deed, Serves, Stops, missed, misses}
-use Rattle.answer_fits.specs.Asked.{Within, named, of_back, of_frame}
-use Rattle.answer_fits.proofs.Piecing.{serves_came, serves_within, stops_before, stops_within, within_frame}
+use Rattle.step_maker.specs.Answers.{Deed, Serves, Stops, missed, misses}
+use Rattle.step_maker.specs.Asked.{Within, named, of_back, of_frame}
+use Rattle.step_maker.proofs.Piecing.{serves_came, serves_within, stops_before, stops_within, within_frame}
 use Rattle.flush_waits.specs.Waiting.{IsWait}
 use Rattle.frame_words.specs.Freeing.{Puts, gave}
 use Rattle.frame_words.specs.Plain.{put}

@@ -10,11 +10,11 @@ use Rattle.xp_board.specs.Hands.{typed_to}
 use Rattle.xp_board.specs.Lists.{times_by}
 use Rattle.xp_board.specs.Readings.{domain_of, is_live_as}
 use Rattle.xp_board.specs.Told.{PortValue}
-use Rattle.board_lemmas.proofs.Sums.{when_eq}
+use Rattle.xp_board.proofs.Sums.{when_eq}
 use Rattle.step_maker.specs.Moves.{Came, Met}
-use Rattle.answer_fits.specs.Answers.{Deed, Misses, Serves, Stops, misses}
-use Rattle.answer_fits.specs.Asked.{Request, Within, named, of_frame, of_table}
-use Rattle.answer_fits.proofs.Piecing.{serves_within, stops_within, within_frame}
+use Rattle.step_maker.specs.Answers.{Deed, Misses, Serves, Stops, misses}
+use Rattle.step_maker.specs.Asked.{Request, Within, named, of_frame, of_table}
+use Rattle.step_maker.proofs.Piecing.{serves_within, stops_within, within_frame}
 use Rattle.writable_pages.specs.Pages.{HidesMark, IsPageStop, LeavesPage, ServesPage, TookPage, of_page}
 use Rattle.desc_pages.specs.Descriptors.{IsDescriptorType, LeavesAs, TakesAs, as_desc, as_memory, descriptor_type}
 use Rattle.desc_pages.specs.Names.{own_domain}

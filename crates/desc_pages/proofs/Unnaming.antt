@@ -12,12 +12,12 @@ use Rattle.xp_board.specs.declared.step.StepKind.TheVariants as kinds
 use Rattle.xp_board.specs.Acts.{left_by}
 use Rattle.xp_board.specs.Spelling.{IsSpelling}
 use Rattle.xp_board.specs.Told.{PortValue}
-use Rattle.board_lemmas.proofs.Numbers.{vcpu_there}
-use Rattle.board_lemmas.proofs.Sums.{when_found}
+use Rattle.xp_board.proofs.Numbers.{vcpu_there}
+use Rattle.xp_board.proofs.Sums.{when_found}
 use Rattle.step_maker.specs.Holds.{MayWork, Same, still}
 use Rattle.step_maker.specs.Moves.{May, Moves}
 use Rattle.step_maker.proofs.Coming.{came_self, came_trans}
-use Rattle.answer_fits.specs.Answers.{Serves, SetsWord}
+use Rattle.step_maker.specs.Answers.{Serves, SetsWord}
 use Rattle.desc_pages.specs.Ldt.{UnnamesAll, more, none, unnamed_from}
 use Rattle.desc_pages.specs.Names.{HoldsForPage, PutsPage}
 

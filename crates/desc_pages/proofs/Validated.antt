@@ -8,14 +8,14 @@ use Rattle.xp_words.specs.KindWords.{kind_write}
 use Rattle.xp_board.specs.declared.step.Act.TheVariants.{Load, Store}
 use Rattle.xp_board.specs.declared.step.StepKind.TheVariants as kinds
 use Rattle.xp_board.specs.Told.{PortValue, is_telling, told_word}
-use Rattle.board_lemmas.proofs.Sums.{when_eq}
+use Rattle.xp_board.proofs.Sums.{when_eq}
 use Rattle.step_maker.specs.Holds.{Holds, MayWork, Same}
 use Rattle.step_maker.specs.Moves.{Came, Moves}
 use Rattle.step_maker.specs.Plain.{Leaves}
 use Rattle.step_maker.proofs.Coming.{came_trans, moves_came}
-use Rattle.answer_fits.specs.Answers.{Serves}
-use Rattle.answer_fits.specs.Asked.{of_back}
-use Rattle.answer_fits.proofs.Visiting.{does_came}
+use Rattle.step_maker.specs.Answers.{Serves}
+use Rattle.step_maker.specs.Asked.{of_back}
+use Rattle.step_maker.proofs.Visiting.{does_came}
 use Rattle.flush_words.proofs.Lasting.{came_longer}
 use Rattle.frame_words.specs.Freeing.{Puts, gave}
 use Rattle.frame_words.specs.Plain.{put}

@@ -17,17 +17,17 @@ use Rattle.xp_board.specs.Hands.{refs_to, typed_owner, typed_to, without_ref, wi
 use Rattle.xp_board.specs.KindSteps.{live_typed}
 use Rattle.xp_board.specs.Lists.{first_by}
 use Rattle.xp_board.specs.Told.{PortValue}
-use Rattle.board_lemmas.proofs.ListCounts.{times_by-cons_here}
-use Rattle.board_lemmas.proofs.Sums.{when_eq}
+use Rattle.xp_board.proofs.ListCounts.{times_by-cons_here}
+use Rattle.xp_board.proofs.Sums.{when_eq}
 use Rattle.step_maker.specs.Holds.{FlushedHolds, Holds, MayWork, Same, quiet}
 use Rattle.step_maker.specs.Moves.{Came, Met, Moves}
 use Rattle.step_maker.proofs.Coming.{came_trans, met_after, met_before, moment_of, moves_came, moves_met}
-use Rattle.answer_fits.specs.Answers.{Deed, Serves, Stops}
-use Rattle.answer_fits.specs.Asked.{named, of, of_back, of_frame}
-use Rattle.answer_fits.specs.Finding.{FoundWith}
-use Rattle.answer_fits.specs.Licences.{is_desc_work}
-use Rattle.answer_fits.proofs.Piecing.{serves_back, serves_call, serves_came, serves_nothing, serves_step}
-use Rattle.answer_fits.proofs.Visiting.{does_came}
+use Rattle.step_maker.specs.Answers.{Deed, Serves, Stops}
+use Rattle.step_maker.specs.Asked.{named, of, of_back, of_frame}
+use Rattle.step_maker.specs.Finding.{FoundWith}
+use Rattle.step_maker.specs.Licences.{is_desc_work}
+use Rattle.step_maker.proofs.Piecing.{serves_back, serves_call, serves_came, serves_nothing, serves_step}
+use Rattle.step_maker.proofs.Visiting.{does_came}
 use Rattle.frame_words.specs.Freeing.{gave}
 use Rattle.frame_words.specs.Refs.{MayPut}
 use Rattle.frame_types.specs.Taking.{typed_as, working_typed}

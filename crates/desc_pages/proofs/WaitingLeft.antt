@@ -17,7 +17,7 @@ use Rattle.xp_board.specs.Told.{PortValue}
 use Rattle.step_maker.specs.Holds.{FlushedHolds, Holds, quiet}
 use Rattle.step_maker.specs.Moves.{Came, Moves}
 use Rattle.step_maker.proofs.Coming.{moves_came}
-use Rattle.answer_fits.specs.Visits.{Does}
+use Rattle.step_maker.specs.Visits.{Does}
 use Rattle.frame_words.specs.Freeing.{gave}
 use Rattle.kind_words.specs.Kinds.{MayLeave, left, partial_kind}
 use Rattle.kind_words.proofs.Leaving as leaving

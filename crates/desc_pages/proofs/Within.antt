@@ -6,11 +6,11 @@ use Rattle.xp_words.specs.Machine.{Machine}
 use Rattle.xp_words.specs.declared.kind.PageType.{PageType}
 use Rattle.xp_words.specs.declared.reply.Refusal.{Refusal}
 use Rattle.xp_board.specs.Lists.{some_of}
-use Rattle.board_lemmas.proofs.Sums.{when_eq}
+use Rattle.xp_board.proofs.Sums.{when_eq}
 use Rattle.step_maker.specs.Moves.{Moment}
-use Rattle.answer_fits.specs.Asked.{Within, named, of_table}
-use Rattle.answer_fits.specs.Finding.{Finding}
-use Rattle.answer_fits.proofs.Grown.{grown_by}
+use Rattle.step_maker.specs.Asked.{Within, named, of_table}
+use Rattle.step_maker.specs.Finding.{Finding}
+use Rattle.step_maker.proofs.Grown.{grown_by}
 use Rattle.desc_pages.specs.Descriptors.{of_cell}
 use Rattle.desc_pages.specs.Gdt.{is_listed, of_gdt}
 use Rattle.desc_pages.specs.Pages.{of_desc}

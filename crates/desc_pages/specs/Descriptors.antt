@@ -14,8 +14,8 @@ use Rattle.xp_board.specs.Readings.{is_live_as}
 use Rattle.xp_board.specs.Told.{PortValue}
 use Rattle.step_maker.specs.Holds.{FlushedHolds, FlushedSame, Rests}
 use Rattle.step_maker.specs.Moves.{Came, Moves}
-use Rattle.answer_fits.specs.Answers.{Deed, Serves, Stops, Writes, missed, misses}
-use Rattle.answer_fits.specs.Asked.{Request, of_table}
+use Rattle.step_maker.specs.Answers.{Deed, Serves, Stops, Writes, missed, misses}
+use Rattle.step_maker.specs.Asked.{Request, of_table}
 use Rattle.frame_words.specs.Freeing.{gave}
 use Rattle.frame_types.specs.Taking.{LentBy, typed_as}
 use Rattle.table_courses.specs.Acquiring.{GaveRef, GaveType, GotRef}

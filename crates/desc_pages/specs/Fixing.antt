@@ -14,9 +14,9 @@ use Rattle.xp_board.specs.Readings.{is_work}
 use Rattle.xp_board.specs.Told.{PortValue}
 use Rattle.step_maker.specs.Holds.{Holds}
 use Rattle.step_maker.specs.Moves.{Moves}
-use Rattle.answer_fits.specs.Answers.{Deed, Serves}
-use Rattle.answer_fits.specs.Asked.{Request}
-use Rattle.answer_fits.specs.Visits.{Visit, visit, Does}
+use Rattle.step_maker.specs.Answers.{Deed, Serves}
+use Rattle.step_maker.specs.Asked.{Request}
+use Rattle.step_maker.specs.Visits.{Visit, visit, Does}
 use Rattle.desc_pages.specs.declared.fixing.Unfixed.{Unfixed}
 
 -- ---- the page

@@ -13,8 +13,8 @@ use Rattle.xp_board.specs.Lists.{some_of}
 use Rattle.xp_board.specs.Told.{PortValue}
 use Rattle.step_maker.specs.Holds.{FlushedHolds, FlushedSame, Holds, Rests}
 use Rattle.step_maker.specs.Moves.{Came}
-use Rattle.answer_fits.specs.Answers.{Deed, Serves, SetsWord, Stops, missed}
-use Rattle.answer_fits.specs.Asked.{Request, of_table}
+use Rattle.step_maker.specs.Answers.{Deed, Serves, SetsWord, Stops, missed}
+use Rattle.step_maker.specs.Asked.{Request, of_table}
 use Rattle.frame_types.specs.Found.{DropsPlain}
 use Rattle.desc_pages.specs.Names.{NamesPage}
 use Rattle.context_words.specs.Names.{naming}

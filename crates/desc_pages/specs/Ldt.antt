@@ -12,8 +12,8 @@ use Rattle.xp_board.specs.declared.step.StepKind.TheVariants as kinds
 use Rattle.xp_board.specs.Told.{PortValue}
 use Rattle.step_maker.specs.Holds.{FlushedSame, Rests, Same}
 use Rattle.step_maker.specs.Moves.{Came, Moves}
-use Rattle.answer_fits.specs.Answers.{Deed, Serves, SetsWord, Stops, missed}
-use Rattle.answer_fits.specs.Asked.{Request, of_frame}
+use Rattle.step_maker.specs.Answers.{Deed, Serves, SetsWord, Stops, missed}
+use Rattle.step_maker.specs.Asked.{Request, of_frame}
 use Rattle.desc_pages.specs.Names.{NamesPage, own_domain}
 
 -- ---- by its numbers

@@ -11,8 +11,8 @@ use Rattle.xp_board.specs.Readings.{domain_of}
 use Rattle.xp_board.specs.Told.{PortValue}
 use Rattle.step_maker.specs.Holds.{Holds}
 use Rattle.step_maker.specs.Moves.{Came, Moves}
-use Rattle.answer_fits.specs.Answers.{Deed, Serves, SetsWord}
-use Rattle.answer_fits.specs.Asked.{Request}
+use Rattle.step_maker.specs.Answers.{Deed, Serves, SetsWord}
+use Rattle.step_maker.specs.Asked.{Request}
 use Rattle.context_words.specs.Names.{naming}
 use Rattle.frame_types.specs.Found.{DropsPlain}
 

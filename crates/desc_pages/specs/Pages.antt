@@ -18,9 +18,9 @@ use Rattle.xp_board.specs.Knowledge.{knows_live}
 use Rattle.xp_board.specs.Told.{PortValue}
 use Rattle.step_maker.specs.Holds.{FlushedHolds, FlushedSame}
 use Rattle.step_maker.specs.Moves.{Came, Moves}
-use Rattle.answer_fits.specs.Answers.{Deed, Serves, Stops, misses}
-use Rattle.answer_fits.specs.Asked.{Request, of_frame, of_table}
-use Rattle.answer_fits.specs.Visits.{Does}
+use Rattle.step_maker.specs.Answers.{Deed, Serves, Stops, misses}
+use Rattle.step_maker.specs.Asked.{Request, of_frame, of_table}
+use Rattle.step_maker.specs.Visits.{Does}
 use Rattle.kept_marks.specs.Marks.{KeptFor}
 use Rattle.kind_words.specs.Kinds.{dead_kind, live_kind, partial_kind}
 use Rattle.frame_types.specs.Found.{DeadBy, TakesFound}

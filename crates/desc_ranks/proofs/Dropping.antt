@@ -11,13 +11,13 @@ use Rattle.xp_board.specs.RefSteps.{one_down}
 use Rattle.xp_board.specs.Told.{PortValue, is_telling, told_word}
 use Rattle.xp_board.specs.declared.step.Act.TheVariants.{Add, Load}
 use Rattle.xp_board.specs.declared.step.StepKind.{StepKind}
-use Rattle.board_lemmas.proofs.KindForms.{fields_down}
+use Rattle.xp_board.proofs.KindForms.{fields_down}
 use Rattle.step_maker.specs.Moves.{Came, Moves}
 use Rattle.step_maker.specs.Plain.{Words}
 use Rattle.step_maker.proofs.Coming.{moves_came}
 use Rattle.step_maker.proofs.Telling.{came_telling, told_there}
-use Rattle.answer_fits.specs.Visits.{Does, Only, Then, Where, visit}
-use Rattle.answer_fits.proofs.Visiting.{does_came}
+use Rattle.step_maker.specs.Visits.{Does, Only, Then, Where, visit}
+use Rattle.step_maker.proofs.Visiting.{does_came}
 use Rattle.frame_words.specs.Freeing.{PutBy}
 use Rattle.kind_words.specs.Kinds.{dead_kind}
 use Rattle.kind_words.proofs.KindFacts.{clock_is_small}

@@ -15,8 +15,8 @@ use Rattle.step_maker.specs.Moves.{Came}
 use Rattle.step_maker.specs.Plain.{Words}
 use Rattle.step_maker.proofs.Coming.{came_trans, moves_came}
 use Rattle.step_maker.proofs.Telling.{came_telling}
-use Rattle.answer_fits.specs.Visits.{Does, Visit, visits}
-use Rattle.answer_fits.proofs.Visiting.{does_came}
+use Rattle.step_maker.specs.Visits.{Does, Visit, visits}
+use Rattle.step_maker.proofs.Visiting.{does_came}
 use Rattle.frame_words.specs.Plain.{got, refer}
 use Rattle.kept_marks.specs.Marks as marks
 use Rattle.kept_marks.specs.Marks.{KeptFor}

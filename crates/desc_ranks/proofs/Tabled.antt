@@ -11,7 +11,7 @@ use Rattle.xp_board.specs.Readings.{kind_at}
 use Rattle.xp_board.specs.Told.{PortValue, is_telling, told_word}
 use Rattle.step_maker.specs.Plain.{Words}
 use Rattle.step_maker.proofs.Telling.{came_telling}
-use Rattle.answer_fits.proofs.Visiting.{does_came}
+use Rattle.step_maker.proofs.Visiting.{does_came}
 use Rattle.answer_laws.specs.Alone.{IsAlone}
 use Rattle.table_words.specs.OldWords.{old_place}
 use Rattle.table_words.specs.declared.old_words.OldWord.{OldWord}

@@ -9,7 +9,7 @@ use Rattle.xp_words.specs.declared.place.Place.TheVariants.{Kind}
 use Rattle.xp_board.specs.KindSteps.{raised_kind}
 use Rattle.xp_board.specs.Readings.{kind_at}
 use Rattle.step_maker.specs.Plain.{Words}
-use Rattle.answer_fits.specs.Twins.{Alike}
+use Rattle.step_maker.specs.Twins.{Alike}
 use Rattle.frame_types.specs.Plain.{IsTakenBy, set_kind, stop_by, taken_by, type_stop}
 use Rattle.frame_types.specs.Standing.{standing_of}
 use Rattle.frame_types.specs.declared.standing.Standing.{Standing}

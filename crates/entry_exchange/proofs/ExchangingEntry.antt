@@ -24,7 +24,7 @@ use Rattle.entry_exchange.proofs.ChangingDemand.{may_standing, undue}
 use Rattle.entry_exchange.proofs.ServesDone.{bad_serves, bad_stops, same_serves, unput_serves, unput_stops}
 use Rattle.entry_exchange.proofs.Steps.{exchange_short}
 use Rattle.xp_preempt.proofs.Consulting.{consulted_none, not_due}
-use Rattle.answer_fits.specs.Answers.{Stops}
+use Rattle.step_maker.specs.Answers.{Stops}
 use Rattle.level_release.specs.Asking.{is_due_answer}
 use Rattle.level_validate.specs.Acquiring.{IsAcquireStop}
 use Rattle.entry_exchange.specs.Asking.{ServesExchange, of_exchange}

@@ -12,12 +12,12 @@ use Rattle.xp_board.specs.declared.holdings.TypedReference.{TypedReference}
 use Rattle.xp_board.specs.Hands.{refs_to, without_typed}
 use Rattle.xp_board.specs.Told.{PortValue}
 use Rattle.xp_preempt.proofs.Consulting.{consulted_none, not_due}
-use Rattle.board_lemmas.proofs.ListCounts.{newest_held}
+use Rattle.xp_board.proofs.ListCounts.{newest_held}
 use Rattle.step_maker.specs.Holds.{Holds, still}
 use Rattle.step_maker.proofs.Coming.{came_self}
-use Rattle.answer_fits.specs.Answers.{Serves, misses}
-use Rattle.answer_fits.specs.Asked.{of_back}
-use Rattle.answer_fits.proofs.Piecing.{serves_came, serves_nothing}
+use Rattle.step_maker.specs.Answers.{Serves, misses}
+use Rattle.step_maker.specs.Asked.{of_back}
+use Rattle.step_maker.proofs.Piecing.{serves_came, serves_nothing}
 use Rattle.frame_words.specs.Freeing.{gave}
 use Rattle.frame_words.specs.Refs.{MayPut}
 use Rattle.frame_types.specs.Taking.{MayDropPlain, gave_type}

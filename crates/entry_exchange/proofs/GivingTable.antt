@@ -15,7 +15,7 @@ use Rattle.xp_board.specs.Knowledge.{knows_live}
 use Rattle.xp_board.specs.KindSteps.{MayDrop, kept_owner, live_typed}
 use Rattle.xp_board.specs.Readings.{domain_of, is_closing}
 use Rattle.xp_board.specs.Told.{PortValue}
-use Rattle.board_lemmas.proofs.ListCounts.{first_by-cons_here, newest_held}
+use Rattle.xp_board.proofs.ListCounts.{first_by-cons_here, newest_held}
 use Rattle.step_maker.specs.Holds.{Holds, still}
 use Rattle.frame_words.specs.Freeing.{gave}
 use Rattle.frame_words.specs.Refs.{MayPut}
@@ -32,9 +32,9 @@ use Rattle.entry_exchange.specs.Parts.{HoldsTyped, LeavesUntyped, TableGiven, la
 use Rattle.entry_exchange.proofs.ServesGiving.{behind_back, behind_kept}
 use Rattle.step_maker.specs.Moves.{Came}
 use Rattle.step_maker.proofs.Coming.{came_trans}
-use Rattle.answer_fits.specs.Answers.{Serves}
-use Rattle.answer_fits.specs.Asked.{of_back}
-use Rattle.answer_fits.proofs.Piecing.{serves_came, serves_then}
+use Rattle.step_maker.specs.Answers.{Serves}
+use Rattle.step_maker.specs.Asked.{of_back}
+use Rattle.step_maker.proofs.Piecing.{serves_came, serves_then}
 use Rattle.table_courses.specs.Acquiring.{GaveRef}
 
 -- ---- the reference

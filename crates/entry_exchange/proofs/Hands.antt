@@ -17,8 +17,8 @@ use Rattle.xp_board.specs.KindSteps.{live_typed}
 use Rattle.xp_board.specs.Lists.{changed_by}
 use Rattle.xp_board.specs.Settling.{demand_in, demand_out}
 use Rattle.xp_board.specs.Told.{PortValue}
-use Rattle.board_lemmas.proofs.ListCounts.{first_by-cons_here}
-use Rattle.board_lemmas.proofs.Sums.{when_eq}
+use Rattle.xp_board.proofs.ListCounts.{first_by-cons_here}
+use Rattle.xp_board.proofs.Sums.{when_eq}
 use Rattle.step_maker.specs.Holds.{Holds, quiet}
 use Rattle.kind_words.proofs.Leaving.{without_newest}
 use Rattle.entry_locks.specs.Entries.{entry_set, entry_unset}

@@ -16,11 +16,11 @@ use Rattle.xp_board.specs.Readings.{kind_at}
 use Rattle.xp_board.specs.Recorded.{entry_demand, held, names_typed}
 use Rattle.xp_board.specs.Sound.{Sound}
 use Rattle.xp_board.specs.Told.{Finds, PortValue}
-use Rattle.board_lemmas.proofs.Counted.{entries-part, held_inside, names_typed-typed, plain_counted, type_below, typed_counted}
-use Rattle.board_lemmas.proofs.KindReadings.{live_count}
-use Rattle.board_lemmas.proofs.LiveTables.{table_held}
-use Rattle.board_lemmas.proofs.LockFacts.{Locks, lock_facts}
-use Rattle.board_lemmas.proofs.KindForms.{table_levels}
+use Rattle.xp_board.proofs.Counted.{entries-part, held_inside, names_typed-typed, plain_counted, type_below, typed_counted}
+use Rattle.xp_board.proofs.KindReadings.{live_count}
+use Rattle.xp_board.proofs.LiveTables.{table_held}
+use Rattle.xp_board.proofs.LockFacts.{Locks, lock_facts}
+use Rattle.xp_board.proofs.KindForms.{table_levels}
 use Rattle.table_entries.proofs.LastEntry.{counted_inside}
 use Rattle.entry_exchange.specs.Parts.{IsInside, WasInside}
 

@@ -9,7 +9,7 @@ use Rattle.std.specs.Int.RustNames.{bit_and, bit_or}
 use Rattle.xp_words.specs.Entries.{is_bit}
 use Rattle.pte_check.proofs.Masks.{and-or}
 use Rattle.xp_board.specs.FillSteps.{with_bit}
-use Rattle.answer_fits.specs.Licences.{with_old_bit}
+use Rattle.step_maker.specs.Licences.{with_old_bit}
 
 -- ---- unions
 max_max : (x y z : ℕ) → max x (max y z) ≡ max (max x y) z

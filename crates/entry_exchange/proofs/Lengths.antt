@@ -20,8 +20,8 @@ use Rattle.xp_board.specs.RefSteps.{one_down}
 use Rattle.xp_board.specs.Told.{Post}
 use Rattle.xp_board.specs.declared.step.Act.{Act}
 use Rattle.xp_board.specs.declared.step.Act.TheVariants.{Add, Load, Max}
-use Rattle.answer_fits.specs.Reasons.{OfOwner}
-use Rattle.answer_fits.specs.Visits.{Nothing, Only, Then, Visit, Where, visit}
+use Rattle.step_maker.specs.Reasons.{OfOwner}
+use Rattle.step_maker.specs.Visits.{Nothing, Only, Then, Visit, Where, visit}
 use Rattle.flush_words.specs.Flushing as flushing
 use Rattle.flush_words.specs.Flushing.{FlushedBy}
 use Rattle.flush_waits.specs.Listing as waits

@@ -16,8 +16,8 @@ use Rattle.xp_board.specs.Acts.{left_by}
 use Rattle.xp_board.specs.Hands.{lock_owner, ref_owner, refs_to, typed_to, without_lock, without_ref, without_work, work_on}
 use Rattle.xp_board.specs.Readings.{is_closing, is_live}
 use Rattle.xp_board.specs.Told.{Post, PortValue}
-use Rattle.board_lemmas.proofs.KindForms.{fields_unlocked}
-use Rattle.board_lemmas.proofs.ListCounts.{first_by-cons_here, newest_held}
+use Rattle.xp_board.proofs.KindForms.{fields_unlocked}
+use Rattle.xp_board.proofs.ListCounts.{first_by-cons_here, newest_held}
 use Rattle.step_maker.specs.Holds.{Holds, still}
 use Rattle.step_maker.specs.Moves.{Moves}
 use Rattle.frame_words.specs.Freeing.{gave}
@@ -36,9 +36,9 @@ use Rattle.entry_exchange.specs.Course.{last, shared}
 use Rattle.entry_exchange.specs.Holding.{HoldsLockOf}
 use Rattle.entry_exchange.specs.Parts.{LockLeft}
 use Rattle.entry_exchange.proofs.ServesGiving.{named_serves}
-use Rattle.answer_fits.specs.Answers.{Serves}
-use Rattle.answer_fits.specs.Asked.{of_back}
-use Rattle.answer_fits.proofs.Piecing.{serves_came, serves_then}
+use Rattle.step_maker.specs.Answers.{Serves}
+use Rattle.step_maker.specs.Asked.{of_back}
+use Rattle.step_maker.proofs.Piecing.{serves_came, serves_then}
 use Rattle.table_courses.specs.Acquiring.{GaveRef}
 
 -- without its last type count a live table is closing

@@ -20,8 +20,8 @@ use Rattle.xp_board.specs.Readings.{has_now}
 use Rattle.xp_board.specs.Settling.{HasDemand, OwnersMeet}
 use Rattle.xp_board.specs.Steps.{some_since}
 use Rattle.xp_board.specs.Told.{PortValue}
-use Rattle.board_lemmas.proofs.ListCounts.{newest_held}
-use Rattle.board_lemmas.proofs.Sums.{when_eq, when_ne}
+use Rattle.xp_board.proofs.ListCounts.{newest_held}
+use Rattle.xp_board.proofs.Sums.{when_eq, when_ne}
 use Rattle.foreign_map.specs.Owning.{MayMapFor}
 use Rattle.foreign_map.specs.declared.owners.Owners.{Owners}
 use Rattle.kind_words.proofs.KindHands.{apart_spares, known_first, no_work, typed_held}

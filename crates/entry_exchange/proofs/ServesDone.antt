@@ -12,13 +12,13 @@ use Rattle.xp_board.specs.declared.step.StepKind.TheVariants as kinds
 use Rattle.xp_board.specs.Hands.{lock_on, refs_to, work_on}
 use Rattle.xp_board.specs.Lists.{times_by}
 use Rattle.xp_board.specs.Told.{PortValue, Post}
-use Rattle.board_lemmas.proofs.ListCounts.{first_by-cons_here}
+use Rattle.xp_board.proofs.ListCounts.{first_by-cons_here}
 use Rattle.step_maker.specs.Moves.{Came, Met, Moves}
 use Rattle.step_maker.proofs.Coming.{met_after, met_before, moment_of, moves_came, moves_met, came_post, came_self, came_trans}
-use Rattle.answer_fits.specs.Answers.{Deed, Serves, Stops, Misses, SetsEntry, missed}
-use Rattle.answer_fits.specs.Asked.{Asked, IsAsked, IsDemandOf, NoMore, Request, Within, of_back, demand_held, demanded, entry_owner}
-use Rattle.answer_fits.specs.Finding.{Finding, FoundWith, FoundAt}
-use Rattle.answer_fits.proofs.Piecing.{moves_serves, serves_back, serves_inner, stops_inner, serves_came, stops_before}
+use Rattle.step_maker.specs.Answers.{Deed, Serves, Stops, Misses, SetsEntry, missed}
+use Rattle.step_maker.specs.Asked.{Asked, IsAsked, IsDemandOf, NoMore, Request, Within, of_back, demand_held, demanded, entry_owner}
+use Rattle.step_maker.specs.Finding.{Finding, FoundWith, FoundAt}
+use Rattle.step_maker.proofs.Piecing.{moves_serves, serves_back, serves_inner, stops_inner, serves_came, stops_before}
 use Rattle.foreign_map.specs.declared.owners.Owners.{Owners}
 use Rattle.kind_words.proofs.KindHands.{no_work}
 use Rattle.partial_state.specs.Levels.{level_type}
@@ -40,8 +40,8 @@ use Rattle.entry_exchange.proofs.Taking.{hides_none}
 use Rattle.xp_words.specs.Entries.{demand_at}
 use Rattle.xp_words.specs.declared.reply.Refusal.TheVariants.{Reserved}
 use Rattle.xp_words.specs.declared.reply.Stop.TheVariants.{Refused}
-use Rattle.board_lemmas.proofs.Sums.{when_eq}
-use Rattle.answer_fits.specs.Licences.{IsBadUnder, IsNewWord}
+use Rattle.xp_board.proofs.Sums.{when_eq}
+use Rattle.step_maker.specs.Licences.{IsBadUnder, IsNewWord}
 
 -- ---- an exchange that was lost is a pause
 put_hides : (v w : PortValue) (f i seen new : ℕ) (keep : Bool) (e : Stop) → PutEntry v w f i seen new keep (Err e) → (ds : List Deed) → (ds ≡ []) ⊎ ((g : ℕ) × (ds ≡ Misses (Kind g) ∷ [])) → IsHidden e ds

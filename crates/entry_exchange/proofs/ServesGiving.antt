@@ -13,14 +13,14 @@ use Rattle.xp_board.specs.declared.step.Act.TheVariants.{Store}
 use Rattle.xp_board.specs.declared.step.StepKind.TheVariants as kinds
 use Rattle.xp_board.specs.Readings.{is_partial}
 use Rattle.xp_board.specs.Told.{Post, PortValue}
-use Rattle.board_lemmas.proofs.Sums.{when_eq}
+use Rattle.xp_board.proofs.Sums.{when_eq}
 use Rattle.step_maker.specs.Moves.{Met, Moves}
 use Rattle.step_maker.proofs.Coming.{came_post}
-use Rattle.answer_fits.specs.Answers.{Deed, Misses, Serves, misses}
-use Rattle.answer_fits.specs.Asked.{Within, back, of_back}
-use Rattle.answer_fits.specs.Finding.{Finding}
-use Rattle.answer_fits.proofs.Grown.{grown_by, risen}
-use Rattle.answer_fits.proofs.Piecing.{serves_back, serves_came, serves_step, serves_within, within_back}
+use Rattle.step_maker.specs.Answers.{Deed, Misses, Serves, misses}
+use Rattle.step_maker.specs.Asked.{Within, back, of_back}
+use Rattle.step_maker.specs.Finding.{Finding}
+use Rattle.step_maker.proofs.Grown.{grown_by, risen}
+use Rattle.step_maker.proofs.Piecing.{serves_back, serves_came, serves_step, serves_within, within_back}
 use Rattle.kept_marks.specs.Marks.{IsForeign, ServesKept}
 use Rattle.kept_marks.proofs.Serving.{asked_later, left_serves}
 use Rattle.kind_words.specs.Kinds.{MayLeave}

@@ -14,15 +14,15 @@ use Rattle.xp_board.specs.Acts.{left_by}
 use Rattle.xp_board.specs.Hands.{lock_on}
 use Rattle.xp_board.specs.Steps.{is_at, last_since, left_of}
 use Rattle.xp_board.specs.Told.{Post, PortValue}
-use Rattle.board_lemmas.proofs.LockFacts.{lock_facts}
-use Rattle.board_lemmas.proofs.MoreSteps.{last_since-cases, none_last}
-use Rattle.board_lemmas.proofs.WorkFacts.{seen_is}
+use Rattle.xp_board.proofs.LockFacts.{lock_facts}
+use Rattle.xp_board.proofs.MoreSteps.{last_since-cases, none_last}
+use Rattle.xp_board.proofs.WorkFacts.{seen_is}
 use Rattle.step_maker.specs.Moves.{Came, Met, Moment, Moves, Ran, step_at}
 use Rattle.step_maker.proofs.Coming.{came_post, came_trans, met_after, met_before, moment_of, moves_came, moves_met}
 use Rattle.step_maker.proofs.Noting.{made_now, moves_steps}
-use Rattle.answer_fits.specs.Answers.{Stops, Deed, Misses, Serves, deeds_by, missed, missed_at}
-use Rattle.answer_fits.specs.Asked.{IsAsked, Request}
-use Rattle.answer_fits.specs.Pauses.{Loses}
+use Rattle.step_maker.specs.Answers.{Stops, Deed, Misses, Serves, deeds_by, missed, missed_at}
+use Rattle.step_maker.specs.Asked.{IsAsked, Request}
+use Rattle.step_maker.specs.Pauses.{Loses}
 use Rattle.flush_words.proofs.Lasting.{came_longer, last_left}
 use Rattle.entry_locks.specs.Entries.{MaySwapEntry, entry_set, entry_unset}
 use Rattle.entry_exchange.specs.Course.{SawEntry, exchanged, lost, stored}
@@ -30,10 +30,10 @@ use Rattle.std.proofs.lemmas.Grind.{common_steps}
 use Rattle.xp_words.specs.declared.reply.Stop.{Stop}
 use Rattle.xp_words.proofs.PlaceLaws.{place_back}
 use Rattle.xp_board.specs.declared.step.Act.{Act}
-use Rattle.board_lemmas.proofs.Sums.{when_eq, when_ne}
+use Rattle.xp_board.proofs.Sums.{when_eq, when_ne}
 use Rattle.step_maker.specs.Holds.{Holds}
-use Rattle.answer_fits.specs.Reasons.{HasReason}
-use Rattle.answer_fits.proofs.Piecing.{serves_step}
+use Rattle.step_maker.specs.Reasons.{HasReason}
+use Rattle.step_maker.proofs.Piecing.{serves_step}
 use Rattle.kept_marks.proofs.Serving.{asked_later}
 use Rattle.entry_exchange.specs.Parts.{EntryPut}
 use Rattle.entry_exchange.specs.Serving.{ServesPut, put_deeds}

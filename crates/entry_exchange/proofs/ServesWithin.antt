@@ -11,12 +11,12 @@ use Rattle.xp_words.specs.declared.kind.PageType.TheVariants as kinds
 use Rattle.xp_words.specs.declared.reply.Stop.{Stop}
 use Rattle.xp_board.specs.declared.holdings.Lock.{Lock}
 use Rattle.xp_board.specs.Hands.{lock_on}
-use Rattle.board_lemmas.proofs.Sums.{when_eq, when_ne}
+use Rattle.xp_board.proofs.Sums.{when_eq, when_ne}
 use Rattle.step_maker.specs.Moves.{Moment}
-use Rattle.answer_fits.specs.Asked.{Asked, Implies, IsAsked, IsDemandOf, IsFor, IsNaming, Request, Within, entered, named, of, owner_below}
-use Rattle.answer_fits.specs.Finding.{Finding}
-use Rattle.answer_fits.specs.Rising.{IsOfSame, NeedsOwners}
-use Rattle.answer_fits.proofs.Grown.{grown_by, grown_where, implied, risen}
+use Rattle.step_maker.specs.Asked.{Asked, Implies, IsAsked, IsDemandOf, IsFor, IsNaming, Request, Within, entered, named, of, owner_below}
+use Rattle.step_maker.specs.Finding.{Finding}
+use Rattle.step_maker.specs.Rising.{IsOfSame, NeedsOwners}
+use Rattle.step_maker.proofs.Grown.{grown_by, grown_where, implied, risen}
 use Rattle.foreign_map.specs.declared.owners.Owners.{Owners}
 use Rattle.partial_state.specs.Levels.{level_type}
 use Rattle.entry_exchange.specs.declared.exchanging.EntryUpdate.{EntryUpdate}

@@ -6,8 +6,8 @@ use Rattle.xp_words.specs.declared.entry.Demand.{Demand}
 use Rattle.xp_words.specs.declared.entry.Demand.TheVariants.{Bad, Nothing, Read, Typed}
 use Rattle.xp_words.specs.declared.kind.PageType.{PageType}
 use Rattle.xp_board.specs.Found.{is_same_entry, without_bits}
-use Rattle.board_lemmas.proofs.EntryWords.{entry_asks_same}
-use Rattle.answer_fits.specs.Licences.{with_old_bit}
+use Rattle.xp_board.proofs.EntryWords.{entry_asks_same}
+use Rattle.step_maker.specs.Licences.{with_old_bit}
 use Rattle.partial_state.specs.Levels.{level_type}
 use Rattle.entry_exchange.specs.Parts.{IsOfLevel}
 use Rattle.entry_exchange.specs.Words.{word_kept}

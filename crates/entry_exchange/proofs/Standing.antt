@@ -15,8 +15,8 @@ use Rattle.xp_board.specs.Hands.{lock_on}
 use Rattle.xp_board.specs.KindSteps.{live_typed}
 use Rattle.xp_board.specs.Settling.{HasDemand}
 use Rattle.xp_board.specs.Told.{PortValue}
-use Rattle.board_lemmas.proofs.ListCounts.{first_by-cons_here}
-use Rattle.board_lemmas.proofs.Sums.{when_eq}
+use Rattle.xp_board.proofs.ListCounts.{first_by-cons_here}
+use Rattle.xp_board.proofs.Sums.{when_eq}
 use Rattle.step_maker.specs.Holds.{Holds, MayWork, Rests, quiet}
 use Rattle.entry_locks.specs.Entries.{MaySwapEntry}
 use Rattle.foreign_map.specs.Owning.{MayMapFor}

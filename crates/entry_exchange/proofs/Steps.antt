@@ -17,7 +17,7 @@ use Rattle.xp_board.specs.Told.{Post, PortValue}
 use Rattle.step_maker.specs.Moves.{Moment, Moves, Ran}
 use Rattle.step_maker.proofs.Coming.{ran_post}
 use Rattle.step_maker.proofs.Noting.{moves_steps}
-use Rattle.answer_fits.specs.Visits.{Does, Visit, visits}
+use Rattle.step_maker.specs.Visits.{Does, Visit, visits}
 use Rattle.entry_locks.specs.Locks.{Unlocks}
 use Rattle.foreign_map.specs.declared.owners.Owners.{Owners}
 use Rattle.frame_types.specs.Found.{DeadBy, DropsBy, SharedBy, TypeBy}

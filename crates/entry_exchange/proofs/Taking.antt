@@ -13,16 +13,16 @@ use Rattle.xp_words.specs.declared.reply.Stop.TheVariants.{Paused, Refused}
 use Rattle.xp_board.specs.Readings.{domain_of}
 use Rattle.xp_board.specs.Told.{PortValue}
 use Rattle.xp_preempt.proofs.Consulting.{consulted_none, not_due}
-use Rattle.board_lemmas.proofs.Sums.{when_eq}
+use Rattle.xp_board.proofs.Sums.{when_eq}
 use Rattle.step_maker.specs.Holds.{FlushedHolds, Holds, Same, quiet}
 use Rattle.step_maker.specs.Moves.{Came, Met}
 use Rattle.step_maker.proofs.Coming.{came_self}
-use Rattle.answer_fits.specs.Answers.{Deed, Misses, Serves, Stops, missed}
-use Rattle.answer_fits.specs.Asked.{Implies, IsFor, Request, Within, named, of_frame, of_table}
-use Rattle.answer_fits.specs.Finding.{Finding}
-use Rattle.answer_fits.specs.Rising.{IsOfSame, NeedsOwners}
-use Rattle.answer_fits.proofs.Grown.{grown_where, implied, risen}
-use Rattle.answer_fits.proofs.Piecing.{serves_came, serves_nothing, serves_within, stops_within, within_frame}
+use Rattle.step_maker.specs.Answers.{Deed, Misses, Serves, Stops, missed}
+use Rattle.step_maker.specs.Asked.{Implies, IsFor, Request, Within, named, of_frame, of_table}
+use Rattle.step_maker.specs.Finding.{Finding}
+use Rattle.step_maker.specs.Rising.{IsOfSame, NeedsOwners}
+use Rattle.step_maker.proofs.Grown.{grown_where, implied, risen}
+use Rattle.step_maker.proofs.Piecing.{serves_came, serves_nothing, serves_within, stops_within, within_frame}
 use Rattle.frame_words.specs.Refs.{took}
 use Rattle.kept_marks.specs.Marks.{IsForeign}
 use Rattle.level_release.specs.Asking.{is_due_answer, is_due_stop}

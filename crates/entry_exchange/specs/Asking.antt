@@ -5,8 +5,8 @@ use Rattle.xp_words.specs.declared.place.Place.TheVariants.{Kind}
 use Rattle.xp_words.specs.declared.reply.Stop.{Stop}
 use Rattle.xp_words.specs.declared.reply.Stop.TheVariants.{Paused}
 use Rattle.xp_board.specs.Told.{PortValue}
-use Rattle.answer_fits.specs.Answers.{Deed, Misses, Serves, SetsEntry, missed}
-use Rattle.answer_fits.specs.Asked.{Request, of_frame}
+use Rattle.step_maker.specs.Answers.{Deed, Misses, Serves, SetsEntry, missed}
+use Rattle.step_maker.specs.Asked.{Request, of_frame}
 use Rattle.foreign_map.specs.declared.owners.Owners.{Owners}
 pub use Rattle.table_courses.specs.Ending.{may_rise}
 pub use Rattle.level_validate.specs.Acquiring.{IsAcquireStop}

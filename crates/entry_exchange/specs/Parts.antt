@@ -15,8 +15,8 @@ use Rattle.xp_board.specs.Settling.{demand_out}
 use Rattle.xp_board.specs.Told.{PortValue}
 use Rattle.step_maker.specs.Holds.{Holds, Rests}
 use Rattle.step_maker.specs.Moves.{Came}
-use Rattle.answer_fits.specs.Answers.{Serves, Stops}
-use Rattle.answer_fits.specs.Asked.{of_back}
+use Rattle.step_maker.specs.Answers.{Serves, Stops}
+use Rattle.step_maker.specs.Asked.{of_back}
 use Rattle.entry_locks.specs.Entries.{entry_set, entry_unset}
 use Rattle.frame_types.specs.Lowering.{DropsType}
 use Rattle.kept_marks.specs.Marks.{KeptFor}

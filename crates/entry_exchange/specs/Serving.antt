@@ -9,9 +9,9 @@ use Rattle.xp_words.specs.declared.place.Place.TheVariants.{Kind}
 use Rattle.xp_words.specs.declared.reply.Stop.{Stop}
 use Rattle.xp_board.specs.Told.{PortValue}
 use Rattle.step_maker.specs.Moves.{Came, Met}
-use Rattle.answer_fits.specs.Answers.{Deed, Misses, Serves, SetsEntry, Stops, missed, misses}
-use Rattle.answer_fits.specs.Asked.{IsAsked, Request, of_table}
-use Rattle.answer_fits.specs.Finding.{Finding}
+use Rattle.step_maker.specs.Answers.{Deed, Misses, Serves, SetsEntry, Stops, missed, misses}
+use Rattle.step_maker.specs.Asked.{IsAsked, Request, of_table}
+use Rattle.step_maker.specs.Finding.{Finding}
 use Rattle.level_release.specs.Asking.{is_due_answer}
 use Rattle.table_entries.specs.Asking.{of_entries}
 use Rattle.entry_exchange.specs.Asking.{IsHidden}

@@ -2,7 +2,7 @@
 use Rattle.std.specs.Prelude.{ℕ, if◌then◌else◌, Bool}
 use Rattle.xp_words.specs.declared.entry.Demand.{Demand}
 use Rattle.xp_board.specs.CellSteps.{is_same_demand}
-use Rattle.answer_fits.specs.Licences.{with_old_bit}
+use Rattle.step_maker.specs.Licences.{with_old_bit}
 
 -- where they are kept, with the accessed and dirty bits of the old word, 5 and 6
 abbrev pub word_kept : Bool → ℕ → ℕ → ℕ

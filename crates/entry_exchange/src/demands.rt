@@ -3,7 +3,7 @@
 ghost use Rattle.std.specs.Prelude.{◌≡◌, ◌-◌, ◌<◌, ◌≤◌, ℕ, Some, true, false, [], length, IfOk, IfErr};
 ghost use Rattle.step_maker.specs.Holds.{MayWork};
 ghost use Rattle.step_maker.specs.Moves.{Came};
-ghost use Rattle.answer_fits.specs.Answers.{Serves, Stops};
+ghost use Rattle.step_maker.specs.Answers.{Serves, Stops};
 ghost use Rattle.partial_state.specs.Levels.{level_type};
 ghost use Rattle.level_release.specs.Asking.{is_due_answer};
 ghost use Rattle.level_validate.specs.Acquiring.{IsAcquireStop};

@@ -5,7 +5,7 @@ ghost use Rattle.xp_words.specs.declared.entry.Demand.TheVariants.{Bad};
 ghost use Rattle.partial_state.specs.Levels.{level_type};
 ghost use Rattle.step_maker.specs.Holds.{MayWork, Rests};
 ghost use Rattle.step_maker.specs.Moves.{Came};
-ghost use Rattle.answer_fits.specs.Answers.{Stops};
+ghost use Rattle.step_maker.specs.Answers.{Stops};
 ghost use Rattle.entry_locks.specs.Entries.{MaySwapEntry};
 ghost use Rattle.foreign_map.specs.Owning.{MayMapFor};
 ghost use Rattle.level_release.specs.Asking.{is_due_answer};

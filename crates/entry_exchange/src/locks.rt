@@ -2,8 +2,8 @@
 ghost use Rattle.std.specs.Prelude.{◌≡◌, ◌<◌, ◌≤◌, [], Some};
 ghost use Rattle.step_maker.specs.Holds.{MayWork, Rests};
 ghost use Rattle.step_maker.specs.Moves.{Came};
-ghost use Rattle.answer_fits.specs.Answers.{Serves};
-ghost use Rattle.answer_fits.specs.Asked.{of_back};
+ghost use Rattle.step_maker.specs.Answers.{Serves};
+ghost use Rattle.step_maker.specs.Asked.{of_back};
 ghost use Rattle.table_words.specs.OldWords.{known_old};
 ghost use Rattle.table_words.specs.declared.old_words.OldWord.TheVariants.{Second};
 ghost use Rattle.entry_exchange.specs.Holding.{HoldsLockOf};

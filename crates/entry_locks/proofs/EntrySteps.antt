@@ -10,8 +10,8 @@ use Rattle.xp_board.specs.CellSteps.{exchanged}
 use Rattle.xp_board.specs.Hands.{lock_on}
 use Rattle.xp_board.specs.Spelling.{IsSpelling}
 use Rattle.xp_board.specs.Told.{PortValue}
-use Rattle.board_lemmas.proofs.Numbers.{cell_there}
-use Rattle.board_lemmas.proofs.Sums.{if_itself, when_ne}
+use Rattle.xp_board.proofs.Numbers.{cell_there}
+use Rattle.xp_board.proofs.Sums.{if_itself, when_ne}
 use Rattle.step_maker.specs.Holds.{Holds, MayWork, still}
 use Rattle.step_maker.specs.Moves.{May, Moves, found_by}
 use Rattle.entry_locks.specs.Entries.{MayStoreEntry, MaySwapEntry, entry_set, entry_unset}

@@ -17,16 +17,16 @@ use Rattle.xp_board.specs.KindSteps.{locked_kind}
 use Rattle.xp_board.specs.Readings.{is_live}
 use Rattle.xp_board.specs.Steps.{last_since}
 use Rattle.xp_board.specs.Told.{PortValue}
-use Rattle.board_lemmas.proofs.Sums.{when_eq, when_ne}
+use Rattle.xp_board.proofs.Sums.{when_eq, when_ne}
 use Rattle.step_maker.specs.Holds.{Holds, Same, still}
 use Rattle.step_maker.specs.Moves.{Met, Moves}
 use Rattle.step_maker.proofs.Coming.{moment_of, met_after, met_before, moves_came, moves_met}
-use Rattle.answer_fits.specs.Answers.{Misses, Serves, Stops, deeds_by, exchanged, missed_at, pin_deed}
-use Rattle.answer_fits.specs.Asked.{of}
-use Rattle.answer_fits.specs.Finding.{Finding}
-use Rattle.answer_fits.specs.Reasons.{MayType}
-use Rattle.answer_fits.proofs.Piecing.{serves_step}
-use Rattle.answer_fits.proofs.Keeping.{kept_type}
+use Rattle.step_maker.specs.Answers.{Misses, Serves, Stops, deeds_by, exchanged, missed_at, pin_deed}
+use Rattle.step_maker.specs.Asked.{of}
+use Rattle.step_maker.specs.Finding.{Finding}
+use Rattle.step_maker.specs.Reasons.{MayType}
+use Rattle.step_maker.proofs.Piecing.{serves_step}
+use Rattle.step_maker.proofs.Keeping.{kept_type}
 use Rattle.flush_words.proofs.Lasting.{last_left, moves_longer}
 use Rattle.kind_words.specs.Kinds.{looked_at}
 use Rattle.kind_words.proofs.KindWriting.{fields_write}

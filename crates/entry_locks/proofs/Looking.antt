@@ -14,14 +14,14 @@ use Rattle.xp_board.specs.Hands.{ref_owner, refs_to}
 use Rattle.xp_board.specs.KindSteps.{MayLock, locked_kind, still_looking}
 use Rattle.xp_board.specs.Lists.{kept_of}
 use Rattle.xp_board.specs.Told.{PortValue}
-use Rattle.board_lemmas.proofs.KindForms.{fields_of}
-use Rattle.board_lemmas.proofs.Sums.{when_eq}
+use Rattle.xp_board.proofs.KindForms.{fields_of}
+use Rattle.xp_board.proofs.Sums.{when_eq}
 use Rattle.step_maker.specs.Moves.{Met}
 use Rattle.step_maker.proofs.Coming.{moment_of, moves_met}
-use Rattle.answer_fits.specs.Answers.{Serves, Stops}
-use Rattle.answer_fits.specs.Asked.{Asked, Passed, checked, named}
-use Rattle.answer_fits.specs.Finding.{Finding, FoundWith}
-use Rattle.answer_fits.proofs.Piecing.{moves_serves}
+use Rattle.step_maker.specs.Answers.{Serves, Stops}
+use Rattle.step_maker.specs.Asked.{Asked, Passed, checked, named}
+use Rattle.step_maker.specs.Finding.{Finding, FoundWith}
+use Rattle.step_maker.proofs.Piecing.{moves_serves}
 use Rattle.frame_types.specs.Taking.{LentBy}
 use Rattle.frame_types.proofs.Entering.{lent_held, lent_known, lent_owner}
 use Rattle.kind_words.proofs.KindFacts.{type_is_below}

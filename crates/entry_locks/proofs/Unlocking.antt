@@ -15,16 +15,16 @@ use Rattle.xp_board.specs.Hands.{lock_on, locks_on, work_on}
 use Rattle.xp_board.specs.KindSteps.{new_work, unlocked, unlocked_down}
 use Rattle.xp_board.specs.Readings.{is_live, is_locked}
 use Rattle.xp_board.specs.Told.{Finds, PortValue, is_telling, told_word}
-use Rattle.board_lemmas.proofs.HandLists.{first-some}
-use Rattle.board_lemmas.proofs.KindForms.{live_form}
-use Rattle.board_lemmas.proofs.LockFacts.{lock_facts}
+use Rattle.xp_board.proofs.HandLists.{first-some}
+use Rattle.xp_board.proofs.KindForms.{live_form}
+use Rattle.xp_board.proofs.LockFacts.{lock_facts}
 use Rattle.step_maker.specs.Holds.{Holds, still}
 use Rattle.step_maker.specs.Moves.{Moves}
 use Rattle.step_maker.specs.Plain.{Leaves, change}
 use Rattle.step_maker.proofs.Telling.{leaves}
-use Rattle.answer_fits.specs.Answers.{Serves}
-use Rattle.answer_fits.specs.Asked.{of_back}
-use Rattle.answer_fits.proofs.Piecing.{moves_serves}
+use Rattle.step_maker.specs.Answers.{Serves}
+use Rattle.step_maker.specs.Asked.{of_back}
+use Rattle.step_maker.proofs.Piecing.{moves_serves}
 use Rattle.frame_words.proofs.Taking.{backs_itself}
 use Rattle.kind_words.proofs.KindFacts.{kind_found}
 use Rattle.entry_locks.specs.Locks.{Unlocks, closing_unlocked, unlocked_hand}

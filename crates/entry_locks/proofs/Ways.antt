@@ -13,15 +13,15 @@ use Rattle.xp_board.specs.Acts.{left_by}
 use Rattle.xp_board.specs.KindSteps.{locked_kind}
 use Rattle.xp_board.specs.Steps.{is_same}
 use Rattle.xp_board.specs.Told.{Post, PortValue, is_telling, told_word}
-use Rattle.board_lemmas.proofs.KindForms.{fields_of}
-use Rattle.board_lemmas.proofs.Sums.{when_eq}
+use Rattle.xp_board.proofs.KindForms.{fields_of}
+use Rattle.xp_board.proofs.Sums.{when_eq}
 use Rattle.step_maker.specs.Holds.{Holds}
 use Rattle.step_maker.specs.Moves.{Moves}
 use Rattle.step_maker.specs.Plain.{Leaves, Words, change}
 use Rattle.step_maker.proofs.Coming.{came_post, came_trans, moves_came}
 use Rattle.step_maker.proofs.Telling.{leaves, load_tells, moves_telling, told_there}
-use Rattle.answer_fits.specs.Visits.{Does, Only, visit}
-use Rattle.answer_fits.proofs.Visiting.{does_as, does_one, does_then}
+use Rattle.step_maker.specs.Visits.{Does, Only, visit}
+use Rattle.step_maker.proofs.Visiting.{does_as, does_one, does_then}
 use Rattle.kind_words.specs.Kinds.{looked_at}
 use Rattle.partial_state.specs.Levels.{level_type}
 use Rattle.entry_locks.specs.declared.locking.Locked.TheVariants.{Other, Table}

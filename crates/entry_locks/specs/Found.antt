@@ -11,7 +11,7 @@ use Rattle.xp_words.specs.KindWords.{kind_write}
 use Rattle.xp_board.specs.declared.step.Act.TheVariants.{Cas, Load}
 use Rattle.xp_board.specs.KindSteps.{locked_kind}
 use Rattle.xp_board.specs.Told.{PortValue}
-use Rattle.answer_fits.specs.Visits.{Visit, visit, Does, Only, Then}
+use Rattle.step_maker.specs.Visits.{Visit, visit, Does, Only, Then}
 use Rattle.partial_state.specs.Levels.{level_type}
 use Rattle.entry_locks.specs.Locks.{is_lockable, is_worked_on}
 use Rattle.entry_locks.specs.declared.locking.Locked.{Locked}

@@ -20,7 +20,7 @@ use Rattle.xp_board.specs.Readings.{is_closing, is_live, is_locked, is_work}
 use Rattle.xp_board.specs.Told.{PortValue}
 use Rattle.step_maker.specs.Holds.{Holds, Same}
 use Rattle.step_maker.specs.Moves.{Moves}
-use Rattle.answer_fits.specs.Asked.{Request, of_frame}
+use Rattle.step_maker.specs.Asked.{Request, of_frame}
 use Rattle.kind_words.specs.Kinds.{looked_at}
 use Rattle.partial_state.specs.Levels.{level_type}
 use Rattle.entry_locks.specs.declared.locking.Locked.{Locked}

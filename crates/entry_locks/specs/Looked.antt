@@ -7,8 +7,8 @@ use Rattle.xp_board.specs.declared.step.StepKind.TheVariants as kinds
 use Rattle.xp_board.specs.Told.{PortValue}
 use Rattle.step_maker.specs.Holds.{Same}
 use Rattle.step_maker.specs.Moves.{Moves}
-use Rattle.answer_fits.specs.Answers.{Serves, Stops, misses}
-use Rattle.answer_fits.specs.Pauses.{IsElsewhere}
+use Rattle.step_maker.specs.Answers.{Serves, Stops, misses}
+use Rattle.step_maker.specs.Pauses.{IsElsewhere}
 use Rattle.frame_types.specs.Taking.{LentBy}
 use Rattle.entry_locks.specs.Found.{LocksFound}
 use Rattle.entry_locks.specs.Locks.{IsLockStop, LeavesLocked, of_lock}

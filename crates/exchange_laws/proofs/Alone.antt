@@ -8,8 +8,8 @@ use Rattle.xp_words.specs.declared.reply.Stop.TheVariants.{Refused, Paused}
 use Rattle.xp_preempt.specs.Gates.{yeses}
 use Rattle.xp_board.specs.Told.{PortValue, is_telling, told_word}
 use Rattle.step_maker.proofs.Coming.{moves_came}
-use Rattle.answer_fits.specs.Answers.{Stops}
-use Rattle.answer_fits.specs.Asked.{of_frame}
+use Rattle.step_maker.specs.Answers.{Stops}
+use Rattle.step_maker.specs.Asked.{of_frame}
 use Rattle.answer_laws.specs.Alone.{IsAlone}
 use Rattle.partial_state.specs.Levels.{level_type}
 use Rattle.table_law.specs.Alone.{PlainOutcome}

@@ -5,7 +5,7 @@ use Rattle.xp_words.specs.declared.reply.Stop.{Stop}
 use Rattle.xp_board.specs.Told.{PortValue}
 use Rattle.step_maker.specs.Moves.{Came}
 use Rattle.step_maker.proofs.Coming.{came_self, came_trans}
-use Rattle.answer_fits.proofs.Visiting.{does_came}
+use Rattle.step_maker.proofs.Visiting.{does_came}
 use Rattle.course_laws.proofs.Stopping.{acquired_came, ref_came}
 use Rattle.course_laws.proofs.Walking.{gave_came, left_came}
 use Rattle.writable_pages.specs.Pages as pages

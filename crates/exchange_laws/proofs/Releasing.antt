@@ -9,10 +9,10 @@ use Rattle.xp_words.specs.declared.reply.Stop.{Stop}
 use Rattle.xp_words.specs.declared.reply.Stop.TheVariants.{Paused}
 use Rattle.xp_preempt.specs.Gates.{yeses}
 use Rattle.xp_board.specs.Told.{PortValue, is_telling, told_word}
-use Rattle.board_lemmas.proofs.KindForms.{frame_inside}
+use Rattle.xp_board.proofs.KindForms.{frame_inside}
 use Rattle.partial_state.specs.Levels.{level_type}
 use Rattle.partial_state.specs.declared.stack.TableWork.{TableWork}
-use Rattle.answer_fits.specs.Answers.{Stops}
+use Rattle.step_maker.specs.Answers.{Stops}
 use Rattle.frame_types.specs.Lowering.{DropsType}
 use Rattle.table_entries.specs.Asking.{of_entries}
 use Rattle.table_law.specs.Plain.{Describes, Plain}

@@ -9,7 +9,7 @@ use Rattle.xp_board.specs.declared.step.Act.TheVariants.{Add, Store}
 use Rattle.xp_board.specs.declared.step.StepKind.TheVariants as kinds
 use Rattle.xp_board.specs.KindSteps.{unlocked_down}
 use Rattle.xp_board.specs.Told.{Post, PortValue, is_telling, told_word}
-use Rattle.board_lemmas.proofs.KindForms.{fields_unlocked, frame_inside}
+use Rattle.xp_board.proofs.KindForms.{fields_unlocked, frame_inside}
 use Rattle.step_maker.specs.Moves.{Came, Moves}
 use Rattle.step_maker.specs.Plain.{Words, change}
 use Rattle.step_maker.proofs.Coming.{came_post, came_trans, moves_came}

@@ -4,7 +4,7 @@ ghost use Rattle.xp_words.specs.Machine.{IsMachine};
 ghost use Rattle.xp_words.specs.declared.reply.Stop.{Stop};
 ghost use Rattle.xp_board.specs.Told.{PortValue, is_telling, told_word};
 ghost use Rattle.xp_preempt.specs.Gates.{yeses};
-ghost use Rattle.answer_fits.specs.Answers.{Stops};
+ghost use Rattle.step_maker.specs.Answers.{Stops};
 ghost use Rattle.answer_laws.specs.Alone.{IsAlone};
 ghost use Rattle.table_law.specs.Lawful.{IsAtRest};
 ghost use Rattle.table_law.specs.Plain.{plain_of};

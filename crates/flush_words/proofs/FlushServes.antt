@@ -18,12 +18,12 @@ use Rattle.xp_board.specs.Steps.{last_since}
 use Rattle.xp_board.specs.Told.{Post, PortValue}
 use Rattle.step_maker.specs.Moves.{Moves, Moment, Came, Met}
 use Rattle.step_maker.proofs.Coming.{came_trans, came_post, moves_came, moves_met, moment_of, met_before, met_after}
-use Rattle.answer_fits.specs.Answers.{Deed, Serves, Stops}
-use Rattle.answer_fits.specs.Asked.{Request, Within}
-use Rattle.answer_fits.specs.Finding.{Finding}
-use Rattle.answer_fits.specs.Reasons.{AwaitsStamp, IsMeant, LastAtMost, NeedsFlush, Whose, own, awaited, IsFlushedNext, MayFlush, needed, asked}
-use Rattle.answer_fits.proofs.Growing as growing
-use Rattle.answer_fits.proofs.Piecing.{same_request, serves_came, serves_step, serves_two}
+use Rattle.step_maker.specs.Answers.{Deed, Serves, Stops}
+use Rattle.step_maker.specs.Asked.{Request, Within}
+use Rattle.step_maker.specs.Finding.{Finding}
+use Rattle.step_maker.specs.Reasons.{AwaitsStamp, IsMeant, LastAtMost, NeedsFlush, Whose, own, awaited, IsFlushedNext, MayFlush, needed, asked}
+use Rattle.step_maker.proofs.Growing as growing
+use Rattle.step_maker.proofs.Piecing.{same_request, serves_came, serves_step, serves_two}
 use Rattle.flush_words.specs.Flushing.{FlushesOwn, spent}
 use Rattle.flush_words.proofs.Flushed.{Flushed, own_flushed}
 use Rattle.flush_words.proofs.Lasting.{last_kept, last_looked, last_at_most, moves_longer}

@@ -11,8 +11,8 @@ use Rattle.xp_board.specs.Acts.{left_by}
 use Rattle.xp_board.specs.Readings.{last_clock}
 use Rattle.xp_board.specs.Told.{PortValue, is_telling, told_word}
 use Rattle.step_maker.proofs.Telling.{moves_telling, told_there, told_here, told_elsewhere}
-use Rattle.answer_fits.specs.Twins.{Alike}
-use Rattle.answer_fits.proofs.Alikes.{alike_same}
+use Rattle.step_maker.specs.Twins.{Alike}
+use Rattle.step_maker.proofs.Alikes.{alike_same}
 use Rattle.flush_words.specs.Flushing.{FlushesOwn, spent}
 use Rattle.flush_words.proofs.Flushed.{Flushed, own_flushed}
 use Rattle.flush_words.proofs.OwnFlush.{to_next}

@@ -16,20 +16,20 @@ use Rattle.xp_board.specs.Lists.{EachOf}
 use Rattle.xp_board.specs.Readings.{last_clock, clock_value, kind_stamp}
 use Rattle.xp_board.specs.Steps.{is_at, left_of, some_step, some_since}
 use Rattle.xp_board.specs.Told.{Post, PortValue}
-use Rattle.board_lemmas.proofs.KindForms.{marked_unlive}
-use Rattle.board_lemmas.proofs.KindReadings.{stamp_of}
-use Rattle.board_lemmas.proofs.PlaceTests.{same_place, equal_by}
-use Rattle.board_lemmas.proofs.StepLists.{head_or_tail}
-use Rattle.board_lemmas.proofs.WorkFacts.{works_facts}
-use Rattle.board_lemmas.proofs.HandLists.{EachOf-map}
+use Rattle.xp_board.proofs.KindForms.{marked_unlive}
+use Rattle.xp_board.proofs.KindReadings.{stamp_of}
+use Rattle.xp_board.proofs.PlaceTests.{same_place, equal_by}
+use Rattle.xp_board.proofs.StepLists.{head_or_tail}
+use Rattle.xp_board.proofs.WorkFacts.{works_facts}
+use Rattle.xp_board.proofs.HandLists.{EachOf-map}
 use Rattle.step_maker.specs.Moves.{Moves, Came, Met}
 use Rattle.step_maker.proofs.Coming.{came_trans, came_self, came_post, moves_came, moves_by, moment_of}
 use Rattle.step_maker.proofs.Noting.{moves_since}
-use Rattle.answer_fits.specs.Visits.{Visit, visit, Does, Only, Then}
-use Rattle.answer_fits.proofs.Visiting.{does_as, does_one, does_then}
-use Rattle.answer_fits.specs.Finding.{Did}
-use Rattle.answer_fits.specs.Reasons.{HadClock, Whose}
-use Rattle.answer_fits.specs.Pauses.{Clear, own}
+use Rattle.step_maker.specs.Visits.{Visit, visit, Does, Only, Then}
+use Rattle.step_maker.proofs.Visiting.{does_as, does_one, does_then}
+use Rattle.step_maker.specs.Finding.{Did}
+use Rattle.step_maker.specs.Reasons.{HadClock, Whose}
+use Rattle.step_maker.specs.Pauses.{Clear, own}
 use Rattle.xp_words.specs.declared.reply.Refusal.TheVariants as refusals
 use Rattle.flush_words.specs.Flushing.{FlushedBy, FlushesOwn, none, once, spent, ticked, overtaken}
 use Rattle.flush_words.proofs.Lasting.{came_longer}

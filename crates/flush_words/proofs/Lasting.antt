@@ -11,10 +11,10 @@ use Rattle.xp_board.specs.declared.holdings.Made.{Made}
 use Rattle.xp_board.specs.Acts.{left_by}
 use Rattle.xp_board.specs.Steps.{some_step, last_since}
 use Rattle.xp_board.specs.Told.{PortValue}
-use Rattle.board_lemmas.proofs.MoreSteps.{last_since-here, last_since-elsewhere}
+use Rattle.xp_board.proofs.MoreSteps.{last_since-here, last_since-elsewhere}
 use Rattle.step_maker.specs.Moves.{Moves, Moment, Ran, Came, step_at}
 use Rattle.step_maker.proofs.Noting.{made_now, moves_steps, moves_keeps}
-use Rattle.answer_fits.specs.Reasons.{LastAtMost}
+use Rattle.step_maker.specs.Reasons.{LastAtMost}
 
 module _ (v w : PortValue) (p : Place) (a : Act) (k : StepKind) (mark : Option Mark) (found : ℕ) (m : Moves v w p a k mark found) where
   at_place : place_at (sizes_of v.post.machine) (step_at v.post.machine p a k mark).place ≡ p

@@ -19,7 +19,7 @@ use Rattle.xp_board.specs.Spelling.{IsSpelling}
 use Rattle.xp_board.specs.Steps.{left_of, some_since}
 use Rattle.xp_board.specs.Told.{Post, PortValue, Finds}
 use Rattle.xp_board.specs.WellFormed.{WellFormed}
-use Rattle.board_lemmas.proofs.Sums.{when_eq, when_ne}
+use Rattle.xp_board.proofs.Sums.{when_eq, when_ne}
 use Rattle.step_maker.specs.Moves.{Moves, step_at}
 use Rattle.step_maker.proofs.Noting.{made_now, moves_steps, moves_since, moves_keeps}
 use Rattle.flush_words.specs.Flushing.{MayFlushTo, FlushesOwn, spent, ticked, overtaken}

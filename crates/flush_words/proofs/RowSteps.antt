@@ -13,8 +13,8 @@ use Rattle.xp_board.specs.RunSteps.{after_run}
 use Rattle.xp_board.specs.declared.step.Act.TheVariants.{Load, Cas, Store, Max}
 use Rattle.xp_board.specs.declared.step.Mark.TheVariants.{Cut, Turn}
 use Rattle.xp_board.specs.declared.step.StepKind.TheVariants as kinds
-use Rattle.board_lemmas.proofs.Numbers.{vcpu_there}
-use Rattle.board_lemmas.proofs.Sums.{when_found}
+use Rattle.xp_board.proofs.Numbers.{vcpu_there}
+use Rattle.xp_board.proofs.Sums.{when_found}
 use Rattle.step_maker.specs.Holds.{Holds, MayWork, still}
 use Rattle.step_maker.specs.Moves.{May, Moves}
 use Rattle.flush_words.specs.Flushing.{MayFlushTo}

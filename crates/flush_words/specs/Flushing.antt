@@ -13,7 +13,7 @@ use Rattle.xp_board.specs.Readings.{last_clock}
 use Rattle.xp_board.specs.Steps.{some_since}
 use Rattle.xp_board.specs.Told.{PortValue}
 use Rattle.step_maker.specs.Moves.{Moves}
-use Rattle.answer_fits.specs.Visits.{Visit, visit}
+use Rattle.step_maker.specs.Visits.{Visit, visit}
 
 -- the own flush may go to that clock value: it was found or left since the last flush
 pub record MayFlushTo (n : Machine) (clock : ℕ) (h : Holdings) : Type 0 where

@@ -13,8 +13,8 @@ use Rattle.xp_board.specs.Readings.{has_now}
 use Rattle.xp_board.specs.Told.{PortValue}
 use Rattle.step_maker.specs.Holds.{Holds, Same}
 use Rattle.step_maker.specs.Moves.{Moves}
-use Rattle.answer_fits.specs.Visits.{Does, Nothing, Only, Then}
-use Rattle.answer_fits.proofs.Visiting.{does_as, does_nothing, does_one, does_then}
+use Rattle.step_maker.specs.Visits.{Does, Nothing, Only, Then}
+use Rattle.step_maker.proofs.Visiting.{does_as, does_nothing, does_one, does_then}
 use Rattle.foreign_map.specs.Owning.{Admits, AdmitsBy, AdmitsFound, AllowsBy, AllowsFound, OverOf, saw_life, saw_privileges}
 use Rattle.foreign_map.specs.Owning as by
 

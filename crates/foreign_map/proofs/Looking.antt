@@ -16,12 +16,12 @@ use Rattle.step_maker.specs.Plain.{Leaves}
 use Rattle.step_maker.proofs.Coming.{came_self, moves_came, ran_post}
 use Rattle.step_maker.proofs.Noting.{moves_keeps, moves_since, moves_steps}
 use Rattle.step_maker.proofs.Telling.{load_tells, ran_telling, told_there}
-use Rattle.answer_fits.specs.Answers.{Serves, deeds}
-use Rattle.answer_fits.specs.Asked.{Request}
-use Rattle.answer_fits.specs.Finding.{Finding, FoundAt}
-use Rattle.answer_fits.specs.Reasons.{HasReason}
-use Rattle.answer_fits.specs.Visits.{Visit, Does, visits}
-use Rattle.answer_fits.proofs.Changing.{found_before}
+use Rattle.step_maker.specs.Answers.{Serves, deeds}
+use Rattle.step_maker.specs.Asked.{Request}
+use Rattle.step_maker.specs.Finding.{Finding, FoundAt}
+use Rattle.step_maker.specs.Reasons.{HasReason}
+use Rattle.step_maker.specs.Visits.{Visit, Does, visits}
+use Rattle.step_maker.proofs.Changing.{found_before}
 
 -- ---- visits
 abbrev pub is_word : Place → Bool

@@ -1,15 +1,15 @@
 -- What the steps show that read whose tables and frames a call names.
 use Rattle.std.proofs.Common.{◌≡◌, ℕ, ◌<◌, ◌≤◌, ◌==◌, ◌||◌, ◌^◌, nat_lt, if◌then◌else◌, Bool, true, false, List, ◌++◌, length, Option, None, Result, refl, inl, inr, arith}
 use Rattle.std.proofs.lemmas.Bool.Decides.{nat_tests}
-use Rattle.board_lemmas.proofs.Sums.{when_eq, when_ne}
+use Rattle.xp_board.proofs.Sums.{when_eq, when_ne}
 use Rattle.xp_words.specs.Machine.{Machine}
 use Rattle.xp_words.specs.declared.place.Place.{Place}
 use Rattle.xp_words.specs.declared.place.Place.TheVariants.{Life, Priv}
 use Rattle.xp_words.specs.declared.reply.Refusal.{Refusal}
 use Rattle.xp_board.specs.Lists.{EachOf}
 use Rattle.step_maker.specs.Plain.{Words}
-use Rattle.answer_fits.specs.Visits.{Visit}
-use Rattle.answer_fits.proofs.Piecing.{each_append}
+use Rattle.step_maker.specs.Visits.{Visit}
+use Rattle.step_maker.proofs.Piecing.{each_append}
 use Rattle.foreign_map.specs.declared.owners.Owners.{Owners}
 use Rattle.foreign_map.specs.Owning.{Admits, OverOf, OwnersBy, admit, allow, frames_of, refuse_owners, owners_answer, saw_life, saw_privileges, tables_of}
 use Rattle.foreign_map.specs.Owning as by

@@ -12,9 +12,9 @@ use Rattle.xp_board.specs.Steps.{some_since}
 use Rattle.xp_board.specs.Told.{Post, PortValue, told_word}
 use Rattle.step_maker.specs.Holds.{Same}
 use Rattle.step_maker.specs.Moves.{Met}
-use Rattle.answer_fits.specs.Answers.{Serves, Stops}
-use Rattle.answer_fits.specs.Visits.{Visit, Does, Nothing, Then}
-use Rattle.answer_fits.proofs.Visiting.{does_as, does_next, does_nothing, does_then}
+use Rattle.step_maker.specs.Answers.{Serves, Stops}
+use Rattle.step_maker.specs.Visits.{Visit, Does, Nothing, Then}
+use Rattle.step_maker.proofs.Visiting.{does_as, does_next, does_nothing, does_then}
 use Rattle.foreign_map.specs.declared.owners.Owners.{Owners}
 use Rattle.foreign_map.specs.Owning.{Admits, AdmitsBy, AdmitsFound, AllowsBy, AllowsFound, MayMapFor, OverOf, OwnersBy, FoundOwners, TwinOwners, frames_of, of_owners, tables_of}
 use Rattle.foreign_map.specs.Owning as by

@@ -1,7 +1,7 @@
 -- Why a call is refused whose tables and frames a number names, and what is known where it is not.
 use Rattle.std.proofs.Common.{◌≡◌, ◌⊎◌, ℕ, ◌<◌, ◌≤◌, ◌^◌, ◌||◌, not, if◌then◌else◌, Bool, true, false, List, ◌++◌, length, Option, Some, None, Ok, Err, IsTrue, refl, sym, ◌∙◌, subst, inl, inr}
 use Rattle.std.proofs.lemmas.Bool.{or_left, or_right}
-use Rattle.board_lemmas.proofs.Sums.{when_eq}
+use Rattle.xp_board.proofs.Sums.{when_eq}
 use Rattle.xp_words.specs.Machine.{Machine}
 use Rattle.xp_words.specs.Places.{sizes_of}
 use Rattle.xp_words.specs.declared.place.Place.{Place}
@@ -12,9 +12,9 @@ use Rattle.xp_board.specs.declared.holdings.Holdings.{Holdings}
 use Rattle.xp_board.specs.Readings.{domain_of, has_now}
 use Rattle.xp_board.specs.Steps.{some_since}
 use Rattle.xp_board.specs.Told.{PortValue}
-use Rattle.answer_fits.specs.Finding.{Finding, FoundAt}
-use Rattle.answer_fits.specs.Licences.{Licensed, over_others}
-use Rattle.answer_fits.specs.Visits.{Visit}
+use Rattle.step_maker.specs.Finding.{Finding, FoundAt}
+use Rattle.step_maker.specs.Licences.{Licensed, over_others}
+use Rattle.step_maker.specs.Visits.{Visit}
 use Rattle.foreign_map.specs.declared.owners.Owners.{Owners}
 use Rattle.foreign_map.specs.Owning.{Admits, OverOf, OwnersBy, by_number, frames_of, of_owners, tables_of}
 use Rattle.foreign_map.specs.Owning as by

@@ -10,8 +10,8 @@ use Rattle.xp_board.specs.Readings.{has_now}
 use Rattle.xp_board.specs.Steps.{some_since}
 use Rattle.xp_board.specs.Told.{PortValue, is_telling, told_word}
 use Rattle.step_maker.specs.Plain.{Leaves, Words}
-use Rattle.answer_fits.specs.Asked.{Request, of_frame}
-use Rattle.answer_fits.specs.Visits.{Visit, visit, Does}
+use Rattle.step_maker.specs.Asked.{Request, of_frame}
+use Rattle.step_maker.specs.Visits.{Visit, visit, Does}
 use Rattle.foreign_map.specs.declared.owners.Owners.{Owners}
 
 -- ---- the number

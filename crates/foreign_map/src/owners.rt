@@ -3,7 +3,7 @@ ghost use Rattle.std.specs.Prelude.{◌≡◌, ◌<◌, ◌≤◌, length, [], I
 ghost use Rattle.xp_words.specs.declared.reply.Stop.TheVariants.{Refused};
 ghost use Rattle.xp_board.specs.Readings.{domain_of, has_now};
 ghost use Rattle.step_maker.specs.Holds.{Rests, Same};
-ghost use Rattle.answer_fits.specs.Answers.{Serves, Stops};
+ghost use Rattle.step_maker.specs.Answers.{Serves, Stops};
 ghost use Rattle.foreign_map.specs.Owning.{AdmitsFound, AllowsFound, MayMapFor, FoundOwners, TwinOwners, frames_of, of_owners, tables_of};
 
 use flush_words::{look_life, look_privileges};

@@ -18,13 +18,13 @@ use Rattle.xp_board.specs.Found.{WorkFound, is_same_entry}
 use Rattle.xp_board.specs.Sound.{Sound, WorkAgrees}
 use Rattle.found_rule.proofs.WordsOf.{CellSpared}
 use Rattle.found_rule.proofs.SoundWords.{work_counted, lock_counted}
-use Rattle.board_lemmas.proofs.HeldByForm.{live_idle}
-use Rattle.board_lemmas.proofs.KindReadings.{live_count}
-use Rattle.board_lemmas.proofs.HandLists.{EachOf-all, EachOf-first, first-key}
-use Rattle.board_lemmas.proofs.ListCounts.{EachOf-there, first_by-some}
-use Rattle.board_lemmas.proofs.Counted.{type_below}
-use Rattle.board_lemmas.proofs.Works.{nobody_works, counted_alive}
-use Rattle.board_lemmas.proofs.LockFacts.{lock_facts}
+use Rattle.xp_board.proofs.HeldByForm.{live_idle}
+use Rattle.xp_board.proofs.KindReadings.{live_count}
+use Rattle.xp_board.proofs.HandLists.{EachOf-all, EachOf-first, first-key}
+use Rattle.xp_board.proofs.ListCounts.{EachOf-there, first_by-some}
+use Rattle.xp_board.proofs.Counted.{type_below}
+use Rattle.xp_board.proofs.Works.{nobody_works, counted_alive}
+use Rattle.xp_board.proofs.LockFacts.{lock_facts}
 
 -- no frame in work is marked, or no descriptor page, and has words that are known to be fixed
 abbrev pub FixedWorks : Machine → (ℕ → Holdings) → Type 0

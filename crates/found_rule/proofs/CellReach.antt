@@ -13,11 +13,11 @@ use Rattle.xp_board.specs.Lists.{Member}
 use Rattle.xp_board.specs.Readings.{kind_at}
 use Rattle.xp_board.specs.Reach.{Use, Table, use_of, reached_by, Reach, cached, walked}
 use Rattle.xp_board.specs.Sound.{Sound}
-use Rattle.board_lemmas.proofs.PlaceTests.{same_or_other}
+use Rattle.xp_board.proofs.PlaceTests.{same_or_other}
 use Rattle.found_rule.proofs.HandFacts.{ReachKept}
 use Rattle.found_rule.proofs.Serving.{Came, PassesOn, alike_passes, came_all, came_kept}
-use Rattle.board_lemmas.proofs.ReachAll.{IsLevel, unmarked_matches, reach_level}
-use Rattle.board_lemmas.proofs.CellAlike.{alike_same, not_reads}
+use Rattle.xp_board.proofs.ReachAll.{IsLevel, unmarked_matches, reach_level}
+use Rattle.xp_board.proofs.CellAlike.{alike_same, not_reads}
 
 module _ (n : Machine) (m : Place → ℕ) (h : ℕ → Holdings) (sound : Sound n m h) where
   -- a table that is come to, unmarked: its type is its level

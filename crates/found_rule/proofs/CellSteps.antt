@@ -35,14 +35,14 @@ use Rattle.found_rule.proofs.CellFacts.{lock_type, lock_table, live_alone, spare
 use Rattle.found_rule.proofs.MyHand.{refs_old, typed_old}
 use Rattle.found_rule.proofs.RestLaw.{rest_done, rest_of}
 use Rattle.found_rule.proofs.Quiet.{Done}
-use Rattle.board_lemmas.proofs.EntryAsks.{walked_inside}
-use Rattle.board_lemmas.proofs.HandLists.{first-some}
-use Rattle.board_lemmas.proofs.Works.{only_my_lock}
-use Rattle.board_lemmas.proofs.KindForms.{live_unmarked, table_levels}
-use Rattle.board_lemmas.proofs.LockFacts.{lock_facts, rewritten_same}
-use Rattle.board_lemmas.proofs.HandTypes.{refs_out, typed_out, refs_in, typed_in}
-use Rattle.board_lemmas.proofs.CountsDown.{lock_live, lock_some}
-use Rattle.board_lemmas.proofs.Serving.{AsksLive, target_serves, recorded_asks, asks_hand}
+use Rattle.xp_board.proofs.EntryAsks.{walked_inside}
+use Rattle.xp_board.proofs.HandLists.{first-some}
+use Rattle.xp_board.proofs.Works.{only_my_lock}
+use Rattle.xp_board.proofs.KindForms.{live_unmarked, table_levels}
+use Rattle.xp_board.proofs.LockFacts.{lock_facts, rewritten_same}
+use Rattle.xp_board.proofs.HandTypes.{refs_out, typed_out, refs_in, typed_in}
+use Rattle.xp_board.proofs.CountsDown.{lock_live, lock_some}
+use Rattle.xp_board.proofs.Serving.{AsksLive, target_serves, recorded_asks, asks_hand}
 
 module _ (n : Machine) (s : ℕ) (x : Step) (m m2 : Place → ℕ) (b c : ℕ → Holdings) (l : s < (sizes_of n).vcpus) (sound : Sound n m b) (others : (t : ℕ) → t ≢ s → c t ≡ b t) (f i : ℕ) where
   -- ---- an act on a cell that moves references alone

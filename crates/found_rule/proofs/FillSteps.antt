@@ -28,14 +28,14 @@ use Rattle.found_rule.proofs.CellReach.{unreached_passes, came_table}
 use Rattle.found_rule.proofs.CellFacts.{uncounted_works, uncounted_locks, lock_table, live_alone, spared_alone, fix_none, zero_none}
 use Rattle.found_rule.proofs.CellSteps.{cell_done}
 use Rattle.found_rule.proofs.Quiet.{Done}
-use Rattle.board_lemmas.proofs.CellAlike.{not_reads}
-use Rattle.board_lemmas.proofs.KindReadings.{live_count, work_unlive, busy_cases}
-use Rattle.board_lemmas.proofs.HandLists.{EachOf-all, EachOf-first, first-key, first-some}
-use Rattle.board_lemmas.proofs.Counted.{type_below}
-use Rattle.board_lemmas.proofs.Works.{is_busy-mine, is_dying-mine, nobody_locks, counted_alive, only_mine, only_my_ending}
-use Rattle.board_lemmas.proofs.KindForms.{live_unmarked, table_levels}
-use Rattle.board_lemmas.proofs.RefForms.{dying_uncounted}
-use Rattle.board_lemmas.proofs.EntryWords.{fixed_by}
+use Rattle.xp_board.proofs.CellAlike.{not_reads}
+use Rattle.xp_board.proofs.KindReadings.{live_count, work_unlive, busy_cases}
+use Rattle.xp_board.proofs.HandLists.{EachOf-all, EachOf-first, first-key, first-some}
+use Rattle.xp_board.proofs.Counted.{type_below}
+use Rattle.xp_board.proofs.Works.{is_busy-mine, is_dying-mine, nobody_locks, counted_alive, only_mine, only_my_ending}
+use Rattle.xp_board.proofs.KindForms.{live_unmarked, table_levels}
+use Rattle.xp_board.proofs.RefForms.{dying_uncounted}
+use Rattle.xp_board.proofs.EntryWords.{fixed_by}
 use Rattle.found_rule.proofs.SoundWords.{typed_ref_counted}
 
 module _ (n : Machine) (s : ℕ) (x : Step) (m m2 : Place → ℕ) (b c : ℕ → Holdings) (l : s < (sizes_of n).vcpus) (sound : Sound n m b) (others : (t : ℕ) → t ≢ s → c t ≡ b t) (f i : ℕ)

@@ -25,10 +25,10 @@ use Rattle.found_rule.proofs.MyHand.{HandRight, hand_with, mine_by}
 use Rattle.found_rule.proofs.Outcome.{all_grown}
 use Rattle.found_rule.proofs.FormedLaw.{formed_by, ending_formed_old, claimed_formed_old}
 use Rattle.found_rule.proofs.Quiet.{Done, fix_kept, zero_kept, works_form, locks_form}
-use Rattle.board_lemmas.proofs.HandLists.{EachOf-map, EachOf-all}
-use Rattle.board_lemmas.proofs.MoreSteps.{EachSince-some}
-use Rattle.board_lemmas.proofs.ReachAll.{Reach-none}
-use Rattle.board_lemmas.proofs.Sums.{either}
+use Rattle.xp_board.proofs.HandLists.{EachOf-map, EachOf-all}
+use Rattle.xp_board.proofs.MoreSteps.{EachSince-some}
+use Rattle.xp_board.proofs.ReachAll.{Reach-none}
+use Rattle.xp_board.proofs.Sums.{either}
 
 module _ (n : Machine) (s : ℕ) (x : Step) (m m2 : Place → ℕ) (b c : ℕ → Holdings) (l : s < (sizes_of n).vcpus) (sound : Sound n m b) (others : (t : ℕ) → t ≢ s → c t ≡ b t) where
   -- ---- an act on a word of the own vCPU, which may drop its translations

@@ -14,9 +14,9 @@ use Rattle.xp_board.specs.WellFormed.{IsWorkFormed, IsLockFormed, IsRaisedFormed
 use Rattle.found_rule.proofs.Growth.{Grown, added, grown_longer, grown_once, grown_places}
 use Rattle.found_rule.proofs.Learning.{CellsLearned, cells_off, cells_at, WordLearned, word_off, word_at, looking_each, Act, acted_here, acted_off}
 use Rattle.found_rule.proofs.FormedWorks.{FormedWork, work_stays, work_learned, lock_stays, lock_learned}
-use Rattle.board_lemmas.proofs.HandLists.{EachOf-map, times-changed}
-use Rattle.board_lemmas.proofs.ListCounts.{EachOf-both}
-use Rattle.board_lemmas.proofs.ListChanges.{EachOf-changes, EachOf-changed_one}
+use Rattle.xp_board.proofs.HandLists.{EachOf-map, times-changed}
+use Rattle.xp_board.proofs.ListCounts.{EachOf-both}
+use Rattle.xp_board.proofs.ListChanges.{EachOf-changes, EachOf-changed_one}
 
 -- the hand that the act leaves
 pub record FormedHand (n : Machine) (s : ℕ) (b u w : Holdings) : Type 0 where

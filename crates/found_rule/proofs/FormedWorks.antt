@@ -17,7 +17,7 @@ use Rattle.xp_board.specs.Steps.{last_since, some_before}
 use Rattle.xp_board.specs.After.{learned_work, learned_lock, learned_last, counts_fixed, is_fixed}
 use Rattle.xp_board.specs.Readings.{is_type}
 use Rattle.xp_board.specs.WellFormed.{SeenIs, LastIs, IsWorkFormed, IsLockFormed}
-use Rattle.board_lemmas.proofs.EntryWords.{type_same}
+use Rattle.xp_board.proofs.EntryWords.{type_same}
 
 -- what is well formed, and nothing is recorded of it while it is marked
 pub record FormedWork (n : Machine) (a : Holdings) (e : Work) : Type 0 where

@@ -21,11 +21,11 @@ use Rattle.found_rule.proofs.KnownStays.{owner_right, live_right, live_kept, par
 use Rattle.found_rule.proofs.HandFacts.{ReachKept, their_work, their_lock, their_claim}
 use Rattle.found_rule.proofs.SoundWords.{clock_within, had, work_counted, typed_ref_counted, lock_counted, ref_counted}
 use Rattle.xp_board.specs.Steps.{last_since}
-use Rattle.board_lemmas.proofs.PlaceTests.{same_or_other}
-use Rattle.board_lemmas.proofs.ListCounts.{EachOf-both, EachOf-there}
-use Rattle.board_lemmas.proofs.Counted.{type_below}
-use Rattle.board_lemmas.proofs.Works.{is_busy-mine}
-use Rattle.board_lemmas.proofs.MoreSteps.{EachSince-none}
+use Rattle.xp_board.proofs.PlaceTests.{same_or_other}
+use Rattle.xp_board.proofs.ListCounts.{EachOf-both, EachOf-there}
+use Rattle.xp_board.proofs.Counted.{type_below}
+use Rattle.xp_board.proofs.Works.{is_busy-mine}
+use Rattle.xp_board.proofs.MoreSteps.{EachSince-none}
 
 -- of vCPUs that were found off
 pub record Offs (n : Machine) (m m2 : Place → ℕ) (b c : ℕ → Holdings) : Type 0 where

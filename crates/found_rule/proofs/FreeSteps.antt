@@ -30,11 +30,11 @@ use Rattle.found_rule.proofs.Outcome.{Outcome, outcome_by}
 use Rattle.found_rule.proofs.FormedLaw.{ending_formed_old, claimed_formed_old}
 use Rattle.found_rule.proofs.RefSteps.{alive_words, alive_hand, alive_outcome}
 use Rattle.found_rule.proofs.Quiet.{Done, fix_kept, zero_kept, works_form, locks_form, formed_with}
-use Rattle.board_lemmas.proofs.HandLists.{EachOf-map, EachOf-more, EachOf-without, EachOf-first, first-some}
-use Rattle.board_lemmas.proofs.ListCounts.{EachOf-there, EachOf-others, times_by-without, times_by-without_other}
-use Rattle.board_lemmas.proofs.Works.{is_dying-mine, one_ending, only_my_ending}
-use Rattle.board_lemmas.proofs.MoreSteps.{none_last}
-use Rattle.board_lemmas.proofs.RefForms.{dying_uncounted, free_number, dying_number}
+use Rattle.xp_board.proofs.HandLists.{EachOf-map, EachOf-more, EachOf-without, EachOf-first, first-some}
+use Rattle.xp_board.proofs.ListCounts.{EachOf-there, EachOf-others, times_by-without, times_by-without_other}
+use Rattle.xp_board.proofs.Works.{is_dying-mine, one_ending, only_my_ending}
+use Rattle.xp_board.proofs.MoreSteps.{none_last}
+use Rattle.xp_board.proofs.RefForms.{dying_uncounted, free_number, dying_number}
 use Rattle.xp_board.proofs.RefWords.{free_says, dying_says, owned_says}
 
 -- ---- taken

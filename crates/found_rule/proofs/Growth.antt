@@ -6,9 +6,9 @@ use Rattle.xp_board.specs.declared.holdings.Made.{Made}
 use Rattle.xp_board.specs.Lists.{EachOf}
 use Rattle.xp_board.specs.Steps.{is_at, left_of, some_since, some_before, last_since, EachSince, steps_before}
 use Rattle.xp_board.specs.Readings.{clock_value}
-use Rattle.board_lemmas.proofs.HandLists.{EachOf-more}
-use Rattle.board_lemmas.proofs.StepLists.{one_more}
-use Rattle.board_lemmas.proofs.MoreSteps.{some_since-cases, last_since-cases, EachSince-more, steps_before-cases}
+use Rattle.xp_board.proofs.HandLists.{EachOf-more}
+use Rattle.xp_board.proofs.StepLists.{one_more}
+use Rattle.xp_board.proofs.MoreSteps.{some_since-cases, last_since-cases, EachSince-more, steps_before-cases}
 
 -- a step at p that found the word that stood there, and left that which stands there
 pub record Added (z : Sizes) (m m2 : Place → ℕ) (x : Made) (p : Place) : Type 0 where

@@ -27,12 +27,12 @@ use Rattle.found_rule.proofs.CellReach.{unreached_passes}
 use Rattle.found_rule.proofs.CellFacts.{FixedWorks, lock_table, zero_none}
 use Rattle.found_rule.proofs.CellSteps.{cell_done}
 use Rattle.found_rule.proofs.Quiet.{Done}
-use Rattle.board_lemmas.proofs.CellAlike.{not_reads}
-use Rattle.board_lemmas.proofs.HandLists.{EachOf-map}
-use Rattle.board_lemmas.proofs.ListCounts.{EachOf-both}
-use Rattle.board_lemmas.proofs.KindForms.{live_unmarked, table_levels}
-use Rattle.board_lemmas.proofs.ReachAll.{unmarked_matches, written_reach}
-use Rattle.board_lemmas.proofs.CountsDown.{lock_live, lock_some}
+use Rattle.xp_board.proofs.CellAlike.{not_reads}
+use Rattle.xp_board.proofs.HandLists.{EachOf-map}
+use Rattle.xp_board.proofs.ListCounts.{EachOf-both}
+use Rattle.xp_board.proofs.KindForms.{live_unmarked, table_levels}
+use Rattle.xp_board.proofs.ReachAll.{unmarked_matches, written_reach}
+use Rattle.xp_board.proofs.CountsDown.{lock_live, lock_some}
 
 module _ (n : Machine) (s : ℕ) (x : Step) (m m2 : Place → ℕ) (b c : ℕ → Holdings) (l : s < (sizes_of n).vcpus) (sound : Sound n m b) (others : (t : ℕ) → t ≢ s → c t ≡ b t) (f i : ℕ)
     (fixed : FixedWorks n b) where

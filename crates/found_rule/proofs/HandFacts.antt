@@ -19,7 +19,7 @@ use Rattle.xp_board.specs.Reach.{Use, Reads, Reach}
 use Rattle.xp_board.specs.Fresh.{FreshFor}
 use Rattle.xp_board.specs.Found.{CellsFound, is_known_inside, WorkFound, LockFound, ClaimFound, is_same_cell, is_same_entry, without_bits}
 use Rattle.xp_board.specs.Sound.{is_busy}
-use Rattle.board_lemmas.proofs.PlaceTests.{same_or_other, equal_refl}
+use Rattle.xp_board.proofs.PlaceTests.{same_or_other, equal_refl}
 use Rattle.found_rule.proofs.Growth.{Added, Grown, grown_some, added_last}
 use Rattle.found_rule.proofs.ReachSame.{reads_only}
 

@@ -16,9 +16,9 @@ use Rattle.step_effects.proofs.ActEffects.{Hinted}
 use Rattle.found_rule.proofs.Learning.{act}
 use Rattle.found_rule.proofs.QuietSteps.{unread_raised}
 use Rattle.found_rule.proofs.Quiet.{Done, SameHand}
-use Rattle.board_lemmas.proofs.Hints.{Hint, sets, clears, hint_is}
-use Rattle.board_lemmas.proofs.ListCounts.{times_by-cons_here, times_by-cons_other}
-use Rattle.board_lemmas.proofs.HandLists.{times-without}
+use Rattle.xp_board.proofs.Hints.{Hint, sets, clears, hint_is}
+use Rattle.xp_board.proofs.ListCounts.{times_by-cons_here, times_by-cons_other}
+use Rattle.xp_board.proofs.HandLists.{times-without}
 
 same_raised : (a : Holdings) (xs : List ℕ) → SameHand a (record a { raised = xs })
 same_raised a xs =

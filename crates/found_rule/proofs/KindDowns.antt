@@ -24,10 +24,10 @@ use Rattle.found_rule.proofs.MyHand.{refs_old, typed_old, lock_right_old, locks_
 use Rattle.found_rule.proofs.KindLaw.{KindRest, kind_done, kind_grown, kind_works_stay, kind_works_formed, kind_locks_formed, new_found, new_formed, typed_owner_right, lock_owner_right}
 use Rattle.found_rule.proofs.KindRows.{live_words}
 use Rattle.found_rule.proofs.Quiet.{Done}
-use Rattle.board_lemmas.proofs.HeldByForm.{live_idle}
-use Rattle.board_lemmas.proofs.HandLists.{EachOf-more, EachOf-without, EachOf-maybe}
-use Rattle.board_lemmas.proofs.Works.{nobody_works}
-use Rattle.board_lemmas.proofs.CountsDown.{drop_live, drop_some, drop_word, lock_live, lock_some, unlock_word}
+use Rattle.xp_board.proofs.HeldByForm.{live_idle}
+use Rattle.xp_board.proofs.HandLists.{EachOf-more, EachOf-without, EachOf-maybe}
+use Rattle.xp_board.proofs.Works.{nobody_works}
+use Rattle.xp_board.proofs.CountsDown.{drop_live, drop_some, drop_word, lock_live, lock_some, unlock_word}
 
 table_512 : (t : Bool) → (if t then 512 else 0) ≤ 512
 table_512 true = omega arith

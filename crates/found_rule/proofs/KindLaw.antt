@@ -22,7 +22,7 @@ use Rattle.xp_board.specs.KindSteps.{new_work}
 use Rattle.xp_board.specs.Found.{WorkFound, LockFound, EndingFound, ClaimFound}
 use Rattle.xp_board.specs.WellFormed.{LastIs, IsWorkFormed, IsLockFormed, IsLookingFormed}
 use Rattle.xp_board.specs.Sound.{Sound}
-use Rattle.board_lemmas.proofs.PlaceTests.{equal_refl, is_same-by}
+use Rattle.xp_board.proofs.PlaceTests.{equal_refl, is_same-by}
 use Rattle.found_rule.proofs.Growth.{Grown, added}
 use Rattle.found_rule.proofs.Learning.{CellsLearned, cells_off, cells_at, Act}
 use Rattle.found_rule.proofs.Words.{Words}
@@ -33,9 +33,9 @@ use Rattle.found_rule.proofs.MyHand.{works_old, endings_old, claims_old}
 use Rattle.found_rule.proofs.Outcome.{outcome_by}
 use Rattle.found_rule.proofs.FormedLaw.{works_formed_old, locks_formed_old, ending_formed_old, claimed_formed_old}
 use Rattle.found_rule.proofs.Quiet.{Done, fix_kept, zero_kept, formed_with}
-use Rattle.board_lemmas.proofs.HandLists.{EachOf-map, EachOf-first, first-key}
-use Rattle.board_lemmas.proofs.ListCounts.{EachOf-there}
-use Rattle.board_lemmas.proofs.MoreSteps.{none_last, none_since}
+use Rattle.xp_board.proofs.HandLists.{EachOf-map, EachOf-first, first-key}
+use Rattle.xp_board.proofs.ListCounts.{EachOf-there}
+use Rattle.xp_board.proofs.MoreSteps.{none_last, none_since}
 
 -- ---- what is known of the owner by the newest reference
 module _ (z : Sizes) (m m2 : Place → ℕ) (xs ys : List Made) (g : Grown z m m2 xs ys) (f : ℕ) (h : Holdings) (long : length xs ≤ length h.steps) where

@@ -21,7 +21,7 @@ use Rattle.xp_board.specs.Found.{WorkFound, LockFound}
 use Rattle.xp_board.specs.WellFormed.{IsWorkFormed, IsLockFormed, IsLookingFormed}
 use Rattle.xp_board.specs.Sound.{Sound, is_busy}
 use Rattle.step_effects.proofs.ActEffects.{Turned}
-use Rattle.board_lemmas.proofs.KindForms.{live_form}
+use Rattle.xp_board.proofs.KindForms.{live_form}
 use Rattle.found_rule.proofs.Learning.{Act, act}
 use Rattle.found_rule.proofs.Words.{Words}
 use Rattle.found_rule.proofs.WordsAt.{words_kind}
@@ -31,12 +31,12 @@ use Rattle.found_rule.proofs.HandFacts.{ReachKept}
 use Rattle.found_rule.proofs.MyHand.{refs_old, typed_old, lock_right_old, locks_old}
 use Rattle.found_rule.proofs.KindLaw.{KindRest, kind_done, kind_grown, kind_works_stay, kind_works_formed, kind_locks_formed, ref_owner_right}
 use Rattle.found_rule.proofs.Quiet.{Done}
-use Rattle.board_lemmas.proofs.HeldByForm.{live_idle}
-use Rattle.board_lemmas.proofs.KindReadings.{stamp_live}
-use Rattle.board_lemmas.proofs.HandLists.{EachOf-more, EachOf-without, EachOf-kept}
-use Rattle.board_lemmas.proofs.Works.{nobody_works}
-use Rattle.board_lemmas.proofs.MoreSteps.{none_last}
-use Rattle.board_lemmas.proofs.EntryWords.{type_same}
+use Rattle.xp_board.proofs.HeldByForm.{live_idle}
+use Rattle.xp_board.proofs.KindReadings.{stamp_live}
+use Rattle.xp_board.proofs.HandLists.{EachOf-more, EachOf-without, EachOf-kept}
+use Rattle.xp_board.proofs.Works.{nobody_works}
+use Rattle.xp_board.proofs.MoreSteps.{none_last}
+use Rattle.xp_board.proofs.EntryWords.{type_same}
 
 module _ (n : Machine) (s : ℕ) (x : Step) (m m2 : Place → ℕ) (b c : ℕ → Holdings) (l : s < (sizes_of n).vcpus) (sound : Sound n m b) (others : (t : ℕ) → t ≢ s → c t ≡ b t) (f : ℕ) where
   -- the hand once the exchange has told that the vCPU looks no more

@@ -23,10 +23,10 @@ use Rattle.found_rule.proofs.HandFacts.{ReachKept}
 use Rattle.found_rule.proofs.MyHand.{refs_old, typed_old, lock_right_old, locks_old}
 use Rattle.found_rule.proofs.KindLaw.{KindRest, kind_done, kind_grown, kind_works_found, kind_others, kind_works_formed, kind_locks_formed, ref_owner_right, typed_owner_right}
 use Rattle.found_rule.proofs.Quiet.{Done}
-use Rattle.board_lemmas.proofs.KindReadings.{stamp_of, work_unlive, busy_cases}
-use Rattle.board_lemmas.proofs.HandLists.{EachOf-without, EachOf-first, first-key, first-some}
-use Rattle.board_lemmas.proofs.ListCounts.{EachOf-others}
-use Rattle.board_lemmas.proofs.Works.{is_busy-mine, one_works, only_mine}
+use Rattle.xp_board.proofs.KindReadings.{stamp_of, work_unlive, busy_cases}
+use Rattle.xp_board.proofs.HandLists.{EachOf-without, EachOf-first, first-key, first-some}
+use Rattle.xp_board.proofs.ListCounts.{EachOf-others}
+use Rattle.xp_board.proofs.Works.{is_busy-mine, one_works, only_mine}
 
 -- ---- forms
 

@@ -21,19 +21,19 @@ use Rattle.xp_board.specs.Found.{WorkFound, LockFound}
 use Rattle.xp_board.specs.WellFormed.{LastIs, IsWorkFormed, IsLockFormed}
 use Rattle.xp_board.specs.Sound.{Sound, is_busy}
 use Rattle.step_effects.proofs.ActEffects.{Turned}
-use Rattle.board_lemmas.proofs.KindForms.{partial_form}
+use Rattle.xp_board.proofs.KindForms.{partial_form}
 use Rattle.found_rule.proofs.Learning.{Act}
 use Rattle.found_rule.proofs.Words.{Words}
 use Rattle.found_rule.proofs.KnownFacts.{RefRight, TypedRight, LockRight}
 use Rattle.found_rule.proofs.HandFacts.{ReachKept}
 use Rattle.found_rule.proofs.MyHand.{lock_right_old, locks_old}
-use Rattle.board_lemmas.proofs.KindReadings.{partial_idle, partial_parts, dead_idle, dead_unlive, dead_count}
+use Rattle.xp_board.proofs.KindReadings.{partial_idle, partial_parts, dead_idle, dead_unlive, dead_count}
 use Rattle.found_rule.proofs.KindLaw.{KindRest, kind_done, kind_works_stay, kind_works_formed, kind_locks_formed, new_found, new_formed}
 use Rattle.found_rule.proofs.Quiet.{Done}
 use Rattle.found_rule.proofs.KindRows.{free_words, row_done, refs_are, typed_are, owner_is, new_reference, owner_none, none, looked, turned_act, count_done, lock_done, pin_done, unpin_done}
-use Rattle.board_lemmas.proofs.KindReadings.{stamp_of}
-use Rattle.board_lemmas.proofs.HandLists.{EachOf-more, EachOf-without}
-use Rattle.board_lemmas.proofs.Sums.{if_fewer}
+use Rattle.xp_board.proofs.KindReadings.{stamp_of}
+use Rattle.xp_board.proofs.HandLists.{EachOf-more, EachOf-without}
+use Rattle.xp_board.proofs.Sums.{if_fewer}
 
 module _ (n : Machine) (s : ℕ) (x : Step) (m m2 : Place → ℕ) (b c : ℕ → Holdings) (l : s < (sizes_of n).vcpus) (sound : Sound n m b) (others : (t : ℕ) → t ≢ s → c t ≡ b t) (f : ℕ) where
   abbrev base : Holdings

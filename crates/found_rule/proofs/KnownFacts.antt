@@ -16,9 +16,9 @@ use Rattle.xp_board.specs.Lists.{some_of, EachOf}
 use Rattle.xp_board.specs.Readings.{kind_at, owner_of, is_number, is_live, is_type}
 use Rattle.xp_board.specs.Knowledge.{tells_owner, knows_owner, tells_live, knows_live, tells_partial, passes, knows_partial}
 use Rattle.xp_board.specs.Found.{OwnersFound, LivesFound, PartialsFound}
-use Rattle.board_lemmas.proofs.PlaceTests.{equal_refl}
-use Rattle.board_lemmas.proofs.HandLists.{EachOf-map}
-use Rattle.board_lemmas.proofs.ListCounts.{EachOf-both}
+use Rattle.xp_board.proofs.PlaceTests.{equal_refl}
+use Rattle.xp_board.proofs.HandLists.{EachOf-map}
+use Rattle.xp_board.proofs.ListCounts.{EachOf-both}
 
 -- ---- some element of a list tells, and each that tells is right
 each_right : {A B : Type 0} (key : A → ℕ) (tells : ℕ → B → A → Bool) (G : ℕ → B → Type 0) (xs : List A) →

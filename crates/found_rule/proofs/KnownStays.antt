@@ -16,8 +16,8 @@ use Rattle.xp_board.specs.Readings.{kind_at, owner_of, is_live, is_type, is_owne
 use Rattle.xp_board.specs.Knowledge.{passes}
 use Rattle.found_rule.proofs.Growth.{Grown, grown_some, grown_last}
 use Rattle.found_rule.proofs.KnownFacts.{OwnerRight, IsLiveAs, LiveRight, PartialRight, owned_by, passes_some}
-use Rattle.board_lemmas.proofs.MoreSteps.{none_last, none_since}
-use Rattle.board_lemmas.proofs.EntryWords.{type_same}
+use Rattle.xp_board.proofs.MoreSteps.{none_last, none_since}
+use Rattle.xp_board.proofs.EntryWords.{type_same}
 
 module _ (z : Sizes) (m m2 : Place → ℕ) (xs ys : List Made) (g : Grown z m m2 xs ys) (f : ℕ) where
   -- ---- what was known

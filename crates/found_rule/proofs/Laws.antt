@@ -38,7 +38,7 @@ use Rattle.found_rule.proofs.CellSteps as cells
 use Rattle.found_rule.proofs.FillSteps as fills
 use Rattle.found_rule.proofs.MarkSteps as turns
 use Rattle.found_rule.proofs.RecordMarks as entries
-use Rattle.board_lemmas.proofs.HandLists.{EachOf-map}
+use Rattle.xp_board.proofs.HandLists.{EachOf-map}
 
 -- ---- acts
 module _ (n : Machine) (s : ℕ) (x : Step) (m m2 : Place → ℕ) (b c : ℕ → Holdings) (l : s < (sizes_of n).vcpus) (sound : Sound n m b) (others : (t : ℕ) → t ≢ s → c t ≡ b t) where

@@ -16,9 +16,9 @@ use Rattle.xp_board.specs.After.{noted, learned, learned_own, learned_work, lear
 use Rattle.xp_board.specs.Runs.{place_of}
 use Rattle.found_rule.proofs.Growth.{Added}
 use Rattle.xp_board.specs.Steps.{last_since}
-use Rattle.board_lemmas.proofs.HandLists.{EachOf-kept}
-use Rattle.board_lemmas.proofs.MoreSteps.{last_since-here, last_since-elsewhere}
-use Rattle.board_lemmas.proofs.HandParts.{learned_steps}
+use Rattle.xp_board.proofs.HandLists.{EachOf-kept}
+use Rattle.xp_board.proofs.MoreSteps.{last_since-here, last_since-elsewhere}
+use Rattle.xp_board.proofs.HandParts.{learned_steps}
 
 -- of a cell
 pub data CellsLearned (p : Place) (left : ℕ) (u w : Holdings) : Type 0 where

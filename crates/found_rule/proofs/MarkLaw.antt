@@ -18,8 +18,8 @@ use Rattle.found_rule.proofs.WordsAt.{words_quiet}
 use Rattle.found_rule.proofs.KnownFacts.{RefRight, TypedRight, KnownRight, known_each, owners_by, lives_by, partials_by}
 use Rattle.found_rule.proofs.HandFacts.{ReachKept}
 use Rattle.found_rule.proofs.FoundLaw.{Offs, their_found}
-use Rattle.board_lemmas.proofs.HandLists.{EachOf-map}
-use Rattle.board_lemmas.proofs.Sums.{seat_same}
+use Rattle.xp_board.proofs.HandLists.{EachOf-map}
+use Rattle.xp_board.proofs.Sums.{seat_same}
 
 -- what no mark moves
 pub record MarkKept (a u : Holdings) : Type 0 where

@@ -16,9 +16,9 @@ use Rattle.step_effects.proofs.MarkEffects.{Forgot}
 use Rattle.found_rule.proofs.KnownFacts.{KnownRight, known_each}
 use Rattle.found_rule.proofs.HandFacts.{ReachKept}
 use Rattle.found_rule.proofs.MarkLaw.{MarkKept, marked_found, marked_formed}
-use Rattle.board_lemmas.proofs.ListCounts.{EachOf-there}
-use Rattle.board_lemmas.proofs.Works.{is_busy-mine}
-use Rattle.board_lemmas.proofs.HandLists.{Member-kept}
+use Rattle.xp_board.proofs.ListCounts.{EachOf-there}
+use Rattle.xp_board.proofs.Works.{is_busy-mine}
+use Rattle.xp_board.proofs.HandLists.{Member-kept}
 
 -- ---- fewer translations
 

@@ -23,11 +23,11 @@ use Rattle.found_rule.proofs.KnownFacts.{RefRight, TypedRight, LockRight}
 use Rattle.found_rule.proofs.SoundWords.{work_counted}
 use Rattle.found_rule.proofs.HandFacts.{ReachKept, my_work, my_lock, my_claim}
 use Rattle.found_rule.proofs.FoundLaw.{Mine, refs_kept, typed_kept, locks_kept}
-use Rattle.board_lemmas.proofs.HandLists.{EachOf-map}
-use Rattle.board_lemmas.proofs.ListCounts.{EachOf-both, EachOf-there}
-use Rattle.board_lemmas.proofs.ListChanges.{EachOf-changes}
-use Rattle.board_lemmas.proofs.Works.{is_busy-mine}
-use Rattle.board_lemmas.proofs.Sums.{either}
+use Rattle.xp_board.proofs.HandLists.{EachOf-map}
+use Rattle.xp_board.proofs.ListCounts.{EachOf-both, EachOf-there}
+use Rattle.xp_board.proofs.ListChanges.{EachOf-changes}
+use Rattle.xp_board.proofs.Works.{is_busy-mine}
+use Rattle.xp_board.proofs.Sums.{either}
 
 -- ---- what is learned of the word of one cell
 fixed_if : (m2 : Place → ℕ) (f i w bound : ℕ) (t b : Bool) → b ≡ (t && ((i == bound) && is_fixed w)) → m2 (Cell f i) ≡ w →

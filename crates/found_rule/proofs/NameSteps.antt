@@ -31,12 +31,12 @@ use Rattle.found_rule.proofs.Outcome.{reach_kept}
 use Rattle.found_rule.proofs.Quiet.{Done, fix_kept, zero_kept, same_hand, done_same}
 use Rattle.xp_board.specs.After.{noted}
 use Rattle.found_rule.proofs.RestLaw.{rest_done, rest_of}
-use Rattle.board_lemmas.proofs.MoreSteps.{EachSince-some}
-use Rattle.board_lemmas.proofs.LiveTables.{has_type}
-use Rattle.board_lemmas.proofs.Counted.{not_context}
-use Rattle.board_lemmas.proofs.HandTypes.{typed_named_out, typed_named_in}
-use Rattle.board_lemmas.proofs.HandParts.{refs_named_out, refs_named_in}
-use Rattle.board_lemmas.proofs.Sums.{either}
+use Rattle.xp_board.proofs.MoreSteps.{EachSince-some}
+use Rattle.xp_board.proofs.LiveTables.{has_type}
+use Rattle.xp_board.proofs.Counted.{not_context}
+use Rattle.xp_board.proofs.HandTypes.{typed_named_out, typed_named_in}
+use Rattle.xp_board.proofs.HandParts.{refs_named_out, refs_named_in}
+use Rattle.xp_board.proofs.Sums.{either}
 
 moved_named_out : (w : ℕ) (a : Holdings) → RefsMoved a (named_out w a)
 moved_named_out zero a = same_rest a a refl

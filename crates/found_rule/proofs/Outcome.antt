@@ -16,7 +16,7 @@ use Rattle.found_rule.proofs.HandFacts.{ReachKept}
 use Rattle.found_rule.proofs.ReachSame.{reach_same}
 use Rattle.found_rule.proofs.FoundLaw.{Offs, Mine, all_found}
 use Rattle.found_rule.proofs.MyHand.{HandRight, mine_by}
-use Rattle.board_lemmas.proofs.Sums.{seat_same}
+use Rattle.xp_board.proofs.Sums.{seat_same}
 
 -- what facts ask of an act
 pub record Outcome (n : Machine) (s : ℕ) (m m2 : Place → ℕ) (b c : ℕ → Holdings) : Type 0 where

@@ -20,8 +20,8 @@ use Rattle.found_rule.proofs.HandFacts.{ReachKept}
 use Rattle.found_rule.proofs.MyHand.{HandRight, hand_old}
 use Rattle.found_rule.proofs.Outcome.{Outcome, outcome_by}
 use Rattle.found_rule.proofs.FormedLaw.{formed_by, works_formed, locks_formed, ending_formed_old, claimed_formed_old}
-use Rattle.board_lemmas.proofs.HandLists.{EachOf-map}
-use Rattle.board_lemmas.proofs.Works.{one_works, one_lock}
+use Rattle.xp_board.proofs.HandLists.{EachOf-map}
+use Rattle.xp_board.proofs.Works.{one_works, one_lock}
 
 -- what an act of vCPU s did, as facts and the forms of holdings ask it
 pub record Done (n : Machine) (s : ℕ) (m m2 : Place → ℕ) (b c : ℕ → Holdings) : Type 0 where

@@ -16,8 +16,8 @@ use Rattle.step_effects.proofs.ActEffects.{Looked, Mapped, Charged, Refunded, As
 use Rattle.found_rule.proofs.Learning.{Act, act}
 use Rattle.found_rule.proofs.WordsAt.{is_read, words_quiet}
 use Rattle.found_rule.proofs.Quiet.{Done, SameHand, same_hand, done_same, found_same, formed_same}
-use Rattle.board_lemmas.proofs.HandLists.{EachOf-kept}
-use Rattle.board_lemmas.proofs.Sums.{either}
+use Rattle.xp_board.proofs.HandLists.{EachOf-kept}
+use Rattle.xp_board.proofs.Sums.{either}
 
 same_looking : (a : Holdings) (xs : List Looking) → SameHand a (record a { looking = xs })
 same_looking a xs =

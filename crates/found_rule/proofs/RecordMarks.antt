@@ -28,11 +28,11 @@ use Rattle.found_rule.proofs.HandFacts.{ReachKept}
 use Rattle.found_rule.proofs.Demands.{RefsMoved, moved_out, moved_in}
 use Rattle.found_rule.proofs.MarkLaw.{MarkKept, marked_found, marked_formed}
 use Rattle.found_rule.proofs.MarkSteps.{works_marked, known_was}
-use Rattle.board_lemmas.proofs.ListChanges.{EachOf-changes, EachOf-changed_first}
-use Rattle.board_lemmas.proofs.Works.{one_works}
-use Rattle.board_lemmas.proofs.WorkFacts.{seen_is}
-use Rattle.board_lemmas.proofs.HandTypes.{refs_out, typed_out, refs_in, typed_in}
-use Rattle.board_lemmas.proofs.Sums.{seat_same}
+use Rattle.xp_board.proofs.ListChanges.{EachOf-changes, EachOf-changed_first}
+use Rattle.xp_board.proofs.Works.{one_works}
+use Rattle.xp_board.proofs.WorkFacts.{seen_is}
+use Rattle.xp_board.proofs.HandTypes.{refs_out, typed_out, refs_in, typed_in}
+use Rattle.xp_board.proofs.Sums.{seat_same}
 
 seen_there : (z : Sizes) (k f : ℕ) (steps : List Made) (o : Option Seen) (i w : ℕ) → SeenIs z k f steps o → o ≡ Some (record { index = i; word = w }) → last_since z k (Cell f i) steps ≡ Some (seen_word o)
 seen_there z k f steps o i w h e = seen_is z k f steps o i w h e ∙ ap (λ y. Some (seen_word y)) (sym e)

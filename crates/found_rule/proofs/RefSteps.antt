@@ -28,12 +28,12 @@ use Rattle.found_rule.proofs.MyHand.{HandRight, hand_old}
 use Rattle.found_rule.proofs.Outcome.{Outcome, outcome_by}
 use Rattle.found_rule.proofs.FormedLaw.{ending_formed_old, claimed_formed_old}
 use Rattle.found_rule.proofs.Quiet.{Done, fix_kept, zero_kept, works_form, locks_form, formed_with}
-use Rattle.board_lemmas.proofs.HandLists.{EachOf-more, EachOf-without, EachOf-maybe}
-use Rattle.board_lemmas.proofs.ListCounts.{times_by-cons}
-use Rattle.board_lemmas.proofs.Works.{nobody_ends}
-use Rattle.board_lemmas.proofs.Counted.{in_hand_counted}
+use Rattle.xp_board.proofs.HandLists.{EachOf-more, EachOf-without, EachOf-maybe}
+use Rattle.xp_board.proofs.ListCounts.{times_by-cons}
+use Rattle.xp_board.proofs.Works.{nobody_ends}
+use Rattle.xp_board.proofs.Counted.{in_hand_counted}
 use Rattle.xp_board.proofs.RefWords.{OneLess, more, last, one_down_leaves, owned_says, dying_says}
-use Rattle.board_lemmas.proofs.RefForms.{dying_number}
+use Rattle.xp_board.proofs.RefForms.{dying_number}
 use Rattle.xp_words.specs.declared.refs.RefWord.TheVariants.{Dying}
 
 owner_numbered : (o : Option ℕ) (d : ℕ) → o ≡ Some d → o ≡ Some (owner_number o)

@@ -19,7 +19,7 @@ use Rattle.found_rule.proofs.MyHand.{HandRight, mine_by, lock_right_old, works_o
 use Rattle.found_rule.proofs.Outcome.{offs_kept}
 use Rattle.found_rule.proofs.FormedLaw.{formed_by, ending_formed_old, claimed_formed_old}
 use Rattle.found_rule.proofs.Quiet.{Done, works_form, locks_form}
-use Rattle.board_lemmas.proofs.HandLists.{EachOf-map}
+use Rattle.xp_board.proofs.HandLists.{EachOf-map}
 use Rattle.found_rule.proofs.Demands.{RefsMoved}
 
 pub record Rest (a u : Holdings) : Type 0 where

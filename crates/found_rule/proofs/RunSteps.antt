@@ -21,9 +21,9 @@ use Rattle.found_rule.proofs.MyHand.{mine_by}
 use Rattle.found_rule.proofs.FormedLaw.{formed_by, ending_formed_old, claimed_formed_old}
 use Rattle.found_rule.proofs.Quiet.{Done, works_form, locks_form}
 use Rattle.found_rule.proofs.FlushSteps.{less_reach, vcpu_hand, other_off, other_cold}
-use Rattle.board_lemmas.proofs.HandLists.{EachOf-all}
-use Rattle.board_lemmas.proofs.MoreSteps.{EachSince-none}
-use Rattle.board_lemmas.proofs.Sums.{if_itself}
+use Rattle.xp_board.proofs.HandLists.{EachOf-all}
+use Rattle.xp_board.proofs.MoreSteps.{EachSince-none}
+use Rattle.xp_board.proofs.Sums.{if_itself}
 
 module _ (n : Machine) (s : ℕ) (x : Step) (m m2 : Place → ℕ) (b c : ℕ → Holdings) (l : s < (sizes_of n).vcpus) (sound : Sound n m b) (others : (t : ℕ) → t ≢ s → c t ≡ b t) where
   -- ---- stopped, off, or on a processor

@@ -13,11 +13,11 @@ use Rattle.xp_board.specs.FillSteps.{is_walked}
 use Rattle.xp_board.specs.Readings.{kind_at}
 use Rattle.xp_board.specs.Reach.{Use, Table, Writes, Reads, use_of, use_below, reached_by, Reach, entry}
 use Rattle.xp_board.specs.Sound.{Sound, is_busy}
-use Rattle.board_lemmas.proofs.ReachAll.{Reach-all}
-use Rattle.board_lemmas.proofs.CellAlike.{CellAlike, not_reads}
-use Rattle.board_lemmas.proofs.HeldByForm.{live_idle}
-use Rattle.board_lemmas.proofs.WalkDown.{Passes, passes_alike}
-use Rattle.board_lemmas.proofs.Serving.{Serves, entry_serves}
+use Rattle.xp_board.proofs.ReachAll.{Reach-all}
+use Rattle.xp_board.proofs.CellAlike.{CellAlike, not_reads}
+use Rattle.xp_board.proofs.HeldByForm.{live_idle}
+use Rattle.xp_board.proofs.WalkDown.{Passes, passes_alike}
+use Rattle.xp_board.proofs.Serving.{Serves, entry_serves}
 
 -- ---- what is come to
 abbrev pub Came : Machine → (Place → ℕ) → (ℕ → Holdings) → ℕ → ℕ → Use → Type 0

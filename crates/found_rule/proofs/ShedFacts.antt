@@ -16,10 +16,10 @@ use Rattle.xp_board.specs.Recorded.{held, entry_demand}
 use Rattle.xp_board.specs.Settling.{is_settled}
 use Rattle.xp_board.specs.Valid.{EntryPermitted}
 use Rattle.xp_board.specs.Sound.{Sound}
-use Rattle.board_lemmas.proofs.WorkFacts.{Works, works_facts, work_held, loaded_asks}
-use Rattle.board_lemmas.proofs.Settled.{nothing_unsettled}
+use Rattle.xp_board.proofs.WorkFacts.{Works, works_facts, work_held, loaded_asks}
+use Rattle.xp_board.proofs.Settled.{nothing_unsettled}
 use Rattle.found_rule.proofs.KnownFacts.{IsLiveAs}
-use Rattle.board_lemmas.proofs.KindReadings.{busy_partial}
+use Rattle.xp_board.proofs.KindReadings.{busy_partial}
 
 module _ (n : Machine) (s : ℕ) (m : Place → ℕ) (h : ℕ → Holdings) (l : s < (sizes_of n).vcpus) (sound : Sound n m h) (f upto : ℕ) (e : Work) (may : MayShed f upto (h s) e) where
   k : Works n m h s f e

@@ -13,9 +13,9 @@ use Rattle.xp_board.specs.Hands.{works_on, refs_to, typed_to, locks_on}
 use Rattle.xp_board.specs.Spelling.{IsSpelling}
 use Rattle.xp_board.specs.Found.{WorkFound}
 use Rattle.xp_board.specs.Sound.{Stamped, Sound, WorkAgrees}
-use Rattle.board_lemmas.proofs.KindReadings.{busy_cases}
-use Rattle.board_lemmas.proofs.Counted.{type_below, in_hand_counted, typed_counted}
-use Rattle.board_lemmas.proofs.Works.{is_busy-mine}
+use Rattle.xp_board.proofs.KindReadings.{busy_cases}
+use Rattle.xp_board.proofs.Counted.{type_below, in_hand_counted, typed_counted}
+use Rattle.xp_board.proofs.Works.{is_busy-mine}
 
 clock_if : (m : Place → ℕ) (v k : ℕ) (t : Bool) → (k == 5) ≡ t → m (flushed_of v) ≤ m Clock → (if t then m (Vcpu v k) else 0) ≤ m Clock
 clock_if m v k true e h = let q = eqb-true k 5 e in subst (λ j. m (Vcpu v j) ≤ m Clock) (sym q) h

@@ -25,9 +25,9 @@ use Rattle.found_rule.proofs.KindLaw.{kind_grown}
 use Rattle.found_rule.proofs.KindStores.{store_words, refs_are, typed_are, ref_owner_is, typed_owner_is, store_done}
 use Rattle.found_rule.proofs.StorePartial.{partial_done, unmarked_done}
 use Rattle.found_rule.proofs.Quiet.{Done}
-use Rattle.board_lemmas.proofs.KindReadings.{stamp_live, stamp_of}
-use Rattle.board_lemmas.proofs.FormsLeft.{is_live_left, is_dead_left}
-use Rattle.board_lemmas.proofs.HandLists.{EachOf-more, EachOf-without}
+use Rattle.xp_board.proofs.KindReadings.{stamp_live, stamp_of}
+use Rattle.xp_board.proofs.FormsLeft.{is_live_left, is_dead_left}
+use Rattle.xp_board.proofs.HandLists.{EachOf-more, EachOf-without}
 
 module _ (n : Machine) (s : ℕ) (x : Step) (m m2 : Place → ℕ) (b c : ℕ → Holdings) (l : s < (sizes_of n).vcpus) (sound : Sound n m b) (others : (t : ℕ) → t ≢ s → c t ≡ b t) (f : ℕ) where
   stored_act : (form : Form) (d : Stored n s x f form m m2 (b s) (c s)) (u : Holdings) → after_form form n s f d.e d.l (m2 (Kind f)) (b s) ≡ u → u.steps ≡ (b s).steps → u.run ≡ (b s).run →

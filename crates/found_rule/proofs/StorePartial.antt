@@ -23,7 +23,7 @@ use Rattle.xp_board.specs.Found.{WorkFound}
 use Rattle.xp_board.specs.WellFormed.{IsWorkFormed, IsLookingFormed}
 use Rattle.xp_board.specs.Sound.{Sound}
 use Rattle.step_effects.proofs.ActEffects.{Stored}
-use Rattle.board_lemmas.proofs.KindForms.{partial_form}
+use Rattle.xp_board.proofs.KindForms.{partial_form}
 use Rattle.found_rule.proofs.Learning.{act}
 use Rattle.found_rule.proofs.Words.{Words}
 use Rattle.found_rule.proofs.KnownFacts.{RefRight, TypedRight}
@@ -34,14 +34,14 @@ use Rattle.found_rule.proofs.FormedWorks.{seen_none, last_none}
 use Rattle.found_rule.proofs.KindLaw.{kind_done, kind_grown, kind_works_found, kind_others, kind_works_formed, kind_locks_formed}
 use Rattle.found_rule.proofs.KindStores.{was_found, frame, number, store_words, refs_are, typed_are, ref_owner_is, store_done}
 use Rattle.found_rule.proofs.Quiet.{Done, marked}
-use Rattle.board_lemmas.proofs.KindReadings.{stamp_of}
-use Rattle.board_lemmas.proofs.FormsLeft.{is_partial_left, is_work_left}
-use Rattle.board_lemmas.proofs.ListCounts.{EachOf-both}
-use Rattle.board_lemmas.proofs.HandLists.{EachOf-more, EachOf-without, EachOf-maybe_without}
-use Rattle.board_lemmas.proofs.ListChanges.{EachOf-changed_first}
-use Rattle.board_lemmas.proofs.Works.{one_works}
-use Rattle.board_lemmas.proofs.MoreSteps.{none_last}
-use Rattle.board_lemmas.proofs.Sums.{either}
+use Rattle.xp_board.proofs.KindReadings.{stamp_of}
+use Rattle.xp_board.proofs.FormsLeft.{is_partial_left, is_work_left}
+use Rattle.xp_board.proofs.ListCounts.{EachOf-both}
+use Rattle.xp_board.proofs.HandLists.{EachOf-more, EachOf-without, EachOf-maybe_without}
+use Rattle.xp_board.proofs.ListChanges.{EachOf-changed_first}
+use Rattle.xp_board.proofs.Works.{one_works}
+use Rattle.xp_board.proofs.MoreSteps.{none_last}
+use Rattle.xp_board.proofs.Sums.{either}
 
 -- ---- from closing an untyped reference becomes the type count
 

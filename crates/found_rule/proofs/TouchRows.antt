@@ -30,9 +30,9 @@ use Rattle.found_rule.proofs.GuestSteps.{no_fixed, spared_fixed, my_fixed}
 use Rattle.found_rule.proofs.WalkSteps.{WalkHand, descends}
 use Rattle.found_rule.proofs.WalkRows.{walk_done}
 use Rattle.found_rule.proofs.Quiet.{Done}
-use Rattle.board_lemmas.proofs.CellAlike.{CellAlike, not_reads, touched_alike}
-use Rattle.board_lemmas.proofs.ReachAll.{unmarked_matches, reach_level}
-use Rattle.board_lemmas.proofs.EntryWords.{touched_back}
+use Rattle.xp_board.proofs.CellAlike.{CellAlike, not_reads, touched_alike}
+use Rattle.xp_board.proofs.ReachAll.{unmarked_matches, reach_level}
+use Rattle.xp_board.proofs.EntryWords.{touched_back}
 
 -- ---- the entry is the same but for these bits
 

@@ -30,9 +30,9 @@ use Rattle.found_rule.proofs.MyHand.{refs_old, typed_old}
 use Rattle.found_rule.proofs.RestLaw.{rest_done}
 use Rattle.found_rule.proofs.WalkSteps.{WalkHand, if_walk, walk_hand, no_walk, same_walk, descends}
 use Rattle.found_rule.proofs.Quiet.{Done, fix_kept, zero_kept}
-use Rattle.board_lemmas.proofs.CellAlike.{alike_same}
-use Rattle.board_lemmas.proofs.Sums.{if_itself}
-use Rattle.board_lemmas.proofs.LiveTables.{base_table}
+use Rattle.xp_board.proofs.CellAlike.{alike_same}
+use Rattle.xp_board.proofs.Sums.{if_itself}
+use Rattle.xp_board.proofs.LiveTables.{base_table}
 
 module _ (n : Machine) (s : ℕ) (x : Step) (m m2 : Place → ℕ) (b c : ℕ → Holdings) (l : s < (sizes_of n).vcpus) (sound : Sound n m b) (others : (t : ℕ) → t ≢ s → c t ≡ b t) where
   -- ---- an act that moves the walk and the cache alone

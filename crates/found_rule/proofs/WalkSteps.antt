@@ -17,8 +17,8 @@ use Rattle.xp_board.specs.WellFormed.{IsDescent, IsWalkFormed, IsCacheFormed}
 use Rattle.xp_board.specs.Sound.{Sound}
 use Rattle.found_rule.proofs.Serving.{Came}
 use Rattle.found_rule.proofs.RestLaw.{Rest}
-use Rattle.board_lemmas.proofs.CellAlike.{CellAlike}
-use Rattle.board_lemmas.proofs.WalkDown.{cached_comes, deeper_comes}
+use Rattle.xp_board.proofs.CellAlike.{CellAlike}
+use Rattle.xp_board.proofs.WalkDown.{cached_comes, deeper_comes}
 
 length_take : {A : Type 0} (n : ℕ) (xs : List A) → length (take n xs) ≤ n
 length_take zero xs = omega arith

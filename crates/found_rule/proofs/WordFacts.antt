@@ -13,9 +13,9 @@ use Rattle.xp_board.specs.Readings.{clock_value, has_now, has_ever}
 use Rattle.xp_board.specs.Found.{ClockFound, FlushedFound, StoppedFound, ClockSinceAck, LifeFound, before_off, FlushedSinceOff, ColdSinceOff, PrivilegesFound}
 use Rattle.found_rule.proofs.Growth.{Grown, grown_each, grown_clock, grown_before}
 use Rattle.found_rule.proofs.Words.{Moves}
-use Rattle.board_lemmas.proofs.HandLists.{EachOf-map, EachOf-all}
-use Rattle.board_lemmas.proofs.ListCounts.{EachOf-both}
-use Rattle.board_lemmas.proofs.MoreSteps.{EachOf-before, EachSince-map, some_since-cases}
+use Rattle.xp_board.proofs.HandLists.{EachOf-map, EachOf-all}
+use Rattle.xp_board.proofs.ListCounts.{EachOf-both}
+use Rattle.xp_board.proofs.MoreSteps.{EachOf-before, EachSince-map, some_since-cases}
 
 module _ (n : Machine) (m m2 : Place → ℕ) (k : Moves n m m2) (clock_was : (p : Place) → clock_value p (m p) ≤ m Clock) (a b : Holdings) (g : Grown (sizes_of n) m m2 a.steps b.steps) where
   pub clock_law : ClockFound (sizes_of n) m a → ClockFound (sizes_of n) m2 b

@@ -15,7 +15,7 @@ use Rattle.found_rule.proofs.Words.{Words}
 use Rattle.found_rule.proofs.WordsOf.{words_lone, lone_off}
 use Rattle.found_rule.proofs.SoundWords.{had}
 use Rattle.found_rule.proofs.Quiet.{Done, same_hand, done_same}
-use Rattle.board_lemmas.proofs.Bits.{granted-ever, revoked-ever, granted-now, revoked-now}
+use Rattle.xp_board.proofs.Bits.{granted-ever, revoked-ever, granted-now, revoked-now}
 
 module _ (n : Machine) (s : ℕ) (x : Step) (m m2 : Place → ℕ) (b c : ℕ → Holdings) (l : s < (sizes_of n).vcpus) (sound : Sound n m b) (others : (t : ℕ) → t ≢ s → c t ≡ b t) where
   -- a word that is neither a frame's nor a vCPU's

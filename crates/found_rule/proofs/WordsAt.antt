@@ -12,11 +12,11 @@ use Rattle.xp_board.specs.declared.holdings.Holdings.{Holdings}
 use Rattle.xp_board.specs.Readings.{kind_at, is_live, owner_of, ref_count, type_count, clock_value, free_stamp, kind_stamp}
 use Rattle.xp_board.specs.Hands.{works_on, endings_of, claims_of}
 use Rattle.xp_board.specs.Sound.{Sound}
-use Rattle.board_lemmas.proofs.PlaceTests.{same_or_other}
+use Rattle.xp_board.proofs.PlaceTests.{same_or_other}
 use Rattle.found_rule.proofs.SoundWords.{clock_within, had}
 use Rattle.found_rule.proofs.HandFacts.{entry_kept, cell_kept}
 use Rattle.found_rule.proofs.Words.{Words}
-use Rattle.board_lemmas.proofs.HandLists.{EachOf-all}
+use Rattle.xp_board.proofs.HandLists.{EachOf-all}
 
 -- a place of which facts speak
 abbrev pub is_read : Place → Bool

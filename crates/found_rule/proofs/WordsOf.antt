@@ -12,12 +12,12 @@ use Rattle.xp_board.specs.Readings.{kind_at, owner_of, clock_value, has_now, has
 use Rattle.xp_board.specs.Hands.{works_on, locks_on, claims_of}
 use Rattle.xp_board.specs.Found.{is_known_inside, is_same_cell, is_same_entry}
 use Rattle.xp_board.specs.Sound.{Sound}
-use Rattle.board_lemmas.proofs.PlaceTests.{same_or_other}
+use Rattle.xp_board.proofs.PlaceTests.{same_or_other}
 use Rattle.found_rule.proofs.SoundWords.{had}
 use Rattle.found_rule.proofs.HandFacts.{entry_kept, cell_kept}
 use Rattle.found_rule.proofs.Words.{Words}
 use Rattle.found_rule.proofs.WordsAt.{clock_at}
-use Rattle.board_lemmas.proofs.HandLists.{EachOf-map, EachOf-all}
+use Rattle.xp_board.proofs.HandLists.{EachOf-map, EachOf-all}
 
 -- ---- a place that is no frame's: what it leaves is told place by place
 pub record Lone (n : Machine) (s : ℕ) (m m2 : Place → ℕ) : Type 0 where

@@ -8,9 +8,9 @@ use Rattle.xp_board.specs.declared.step.Act.TheVariants.{Add}
 use Rattle.xp_board.specs.declared.step.StepKind.TheVariants as kinds
 use Rattle.xp_board.specs.Told.{PortValue}
 use Rattle.step_maker.specs.Moves.{Moves}
-use Rattle.answer_fits.specs.Reasons.{Those}
-use Rattle.answer_fits.specs.Visits.{Visit, Does, Then}
-use Rattle.answer_fits.proofs.Visiting.{does_as}
+use Rattle.step_maker.specs.Reasons.{Those}
+use Rattle.step_maker.specs.Visits.{Visit, Does, Then}
+use Rattle.step_maker.proofs.Visiting.{does_as}
 use Rattle.flush_waits.specs.Listing.{WaitedFor}
 use Rattle.flush_waits.specs.Waiting.{everyone}
 use Rattle.frame_claims.specs.Choosing.{greatest}

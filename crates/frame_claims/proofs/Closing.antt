@@ -6,8 +6,8 @@ use Rattle.xp_board.specs.Hands.{IsEmptyHand}
 use Rattle.xp_board.specs.Lists.{times, with_more}
 use Rattle.xp_board.specs.Told.{PortValue}
 use Rattle.step_maker.specs.Holds.{FlushedSame, Holds, still}
-use Rattle.answer_fits.specs.Answers.{Deed, Serves, missed}
-use Rattle.answer_fits.proofs.Piecing.{serves_then}
+use Rattle.step_maker.specs.Answers.{Deed, Serves, missed}
+use Rattle.step_maker.proofs.Piecing.{serves_then}
 use Rattle.claim_words.specs.Claims.{charged, uncharged}
 use Rattle.frame_claims.specs.Blocks.{HasRow, ServesBlock, given_deeds, holding, rising}
 use Rattle.frame_claims.specs.Claiming.{ServesPages, ServesWhole, TookBlock, TookNone}

@@ -17,15 +17,15 @@ use Rattle.xp_board.specs.Lists.{times, with_fewer, with_more, without_by}
 use Rattle.xp_board.specs.Readings.{domain_of, free_stamp}
 use Rattle.xp_board.specs.RefSteps.{IsUnreachable}
 use Rattle.xp_board.specs.Told.{Post, PortValue}
-use Rattle.board_lemmas.proofs.ListChanges.{times-with_more_here}
-use Rattle.board_lemmas.proofs.Sums.{when_eq, when_ne}
+use Rattle.xp_board.proofs.ListChanges.{times-with_more_here}
+use Rattle.xp_board.proofs.Sums.{when_eq, when_ne}
 use Rattle.step_maker.specs.Holds.{FlushedSame, Holds, quiet, still}
 use Rattle.step_maker.specs.Moves.{Came, Met, Moves}
 use Rattle.step_maker.proofs.Coming.{came_post}
-use Rattle.answer_fits.specs.Answers.{Deed, Misses, Serves, deeds_by, missed, missed_at}
-use Rattle.answer_fits.specs.Asked.{Request}
-use Rattle.answer_fits.specs.Reasons.{AwaitsStamp, FoundFreeBy, Those, free, taken}
-use Rattle.answer_fits.proofs.Piecing.{serves_nothing, serves_step, serves_then}
+use Rattle.step_maker.specs.Answers.{Deed, Misses, Serves, deeds_by, missed, missed_at}
+use Rattle.step_maker.specs.Asked.{Request}
+use Rattle.step_maker.specs.Reasons.{AwaitsStamp, FoundFreeBy, Those, free, taken}
+use Rattle.step_maker.proofs.Piecing.{serves_nothing, serves_step, serves_then}
 use Rattle.frame_words.proofs.FreeSteps.{pages_there}
 use Rattle.claim_words.specs.Claims.{charged, uncharged}
 use Rattle.flush_waits.specs.Waiting.{ArePast, IsWait, ServesBehind, everyone}

@@ -14,15 +14,15 @@ use Rattle.xp_board.specs.Steps.{last_since}
 use Rattle.xp_board.specs.declared.step.Act.TheVariants.{Load}
 use Rattle.xp_board.specs.declared.step.StepKind.TheVariants as kinds
 use Rattle.xp_board.specs.Told.{Post, PortValue}
-use Rattle.board_lemmas.proofs.Sums.{when_eq}
-use Rattle.board_lemmas.proofs.RefForms.{free_number}
+use Rattle.xp_board.proofs.Sums.{when_eq}
+use Rattle.xp_board.proofs.RefForms.{free_number}
 use Rattle.step_maker.specs.Holds.{MayWork, Same}
 use Rattle.step_maker.specs.Moves.{Came, Met, Moves}
 use Rattle.step_maker.proofs.Coming.{came_post, met_after, met_before, moment_of, moves_came, moves_met}
 use Rattle.step_maker.proofs.Noting.{moves_since}
-use Rattle.answer_fits.specs.Finding.{FoundAt}
-use Rattle.answer_fits.specs.Asked.{of_back}
-use Rattle.answer_fits.proofs.Piecing.{serves_came, serves_nothing, serves_step, serves_then}
+use Rattle.step_maker.specs.Finding.{FoundAt}
+use Rattle.step_maker.specs.Asked.{of_back}
+use Rattle.step_maker.proofs.Piecing.{serves_came, serves_nothing, serves_step, serves_then}
 use Rattle.flush_words.proofs.Lasting.{last_left}
 use Rattle.flush_waits.specs.Waiting.{HadFree}
 use Rattle.flush_waits.proofs.Growing.{came_grows}

@@ -5,7 +5,7 @@ use Rattle.std.proofs.lemmas.Bool.{cases_order}
 use Rattle.xp_words.specs.Machine.{Machine}
 use Rattle.xp_words.specs.Places.{map_words, sizes_of}
 use Rattle.step_maker.specs.Plain.{Words}
-use Rattle.answer_fits.specs.Visits.{Visit, Only}
+use Rattle.step_maker.specs.Visits.{Visit, Only}
 use Rattle.frame_claims.specs.Found as founds
 use Rattle.frame_claims.specs.Found.{BlockBy, ChosenBy, FirstOf, FreeBlock, FullBy, HintedBy, InWordBy, PassBy, RunBy, ScannedBy, SawFull, TriedBy, TriedWhere, Upwards, WordBy, saw_map}
 use Rattle.frame_claims.specs.Plain.{IsFirstFree, IsWhollyFree, MapAgrees, ref_looks}

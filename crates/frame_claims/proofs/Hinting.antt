@@ -10,7 +10,7 @@ use Rattle.xp_board.specs.Lists.{EachOf}
 use Rattle.xp_board.specs.Readings.{is_free}
 use Rattle.xp_board.specs.Sound.{is_hinted}
 use Rattle.step_maker.specs.Plain.{Words}
-use Rattle.answer_fits.specs.Visits.{Visit, Nothing, Only, Then}
+use Rattle.step_maker.specs.Visits.{Visit, Nothing, Only, Then}
 use Rattle.frame_claims.specs.Found as founds
 use Rattle.frame_claims.specs.Found.{BlockBy, FirstOf, FreeAt, FreeBlock, FullBy, InWordBy, PassBy, RunBy, SawFree, SawFull, SawTaken, TriedBy, TriedWhere, Upwards, WordBy, are_set, saw_map, saw_refs}
 use Rattle.frame_claims.specs.Plain.{IsWhollyFree, MapAgrees, ref_looks}

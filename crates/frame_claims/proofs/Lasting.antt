@@ -12,8 +12,8 @@ use Rattle.xp_board.specs.Steps.{last_since}
 use Rattle.xp_board.specs.Told.{Post, PortValue}
 use Rattle.step_maker.specs.Moves.{Came, Met, Moment, Moves, Ran}
 use Rattle.step_maker.proofs.Coming.{came_post}
-use Rattle.answer_fits.specs.Reasons.{Whose}
-use Rattle.answer_fits.specs.Visits.{Visit, visits, Does}
+use Rattle.step_maker.specs.Reasons.{Whose}
+use Rattle.step_maker.specs.Visits.{Visit, visits, Does}
 use Rattle.flush_words.proofs.Lasting.{came_longer, last_kept, moves_longer}
 use Rattle.flush_waits.specs.Listing.{WaitedFor}
 use Rattle.frame_claims.specs.Choosing.{KeepsLast}

@@ -1,8 +1,8 @@
 -- Lists of steps in order, put together.
 use Rattle.std.proofs.Common.{ℕ, ◌+◌, ◌<◌, List, Option, Some, None, subst, arith}
 use Rattle.xp_board.specs.Told.{Post, PortValue}
-use Rattle.answer_fits.specs.Visits.{Visit, Does, Nothing, Then}
-use Rattle.answer_fits.proofs.Visiting.{does_as, does_came, does_nothing, does_then}
+use Rattle.step_maker.specs.Visits.{Visit, Does, Nothing, Then}
+use Rattle.step_maker.proofs.Visiting.{does_as, does_came, does_nothing, does_then}
 use Rattle.step_maker.proofs.Coming.{came_post}
 use Rattle.frame_claims.specs.Found as founds
 use Rattle.frame_claims.specs.Found.{Downwards, FirstOf, Upwards}

@@ -12,9 +12,9 @@ use Rattle.xp_board.specs.Readings.{is_free}
 use Rattle.xp_board.specs.Recorded.{hands}
 use Rattle.xp_board.specs.Sound.{hand_of, is_hinted}
 use Rattle.xp_board.specs.Told.{PortValue, Story, is_telling, told_word, word_in}
-use Rattle.board_lemmas.proofs.Sums.{sum_below-none}
-use Rattle.answer_fits.specs.Asked.{Request, of_block}
-use Rattle.answer_fits.specs.Visits.{Does}
+use Rattle.xp_board.proofs.Sums.{sum_below-none}
+use Rattle.step_maker.specs.Asked.{Request, of_block}
+use Rattle.step_maker.specs.Visits.{Does}
 use Rattle.answer_laws.specs.Alone.{IsAlone}
 use Rattle.answer_laws.proofs.NothingLost.{never_lost}
 use Rattle.frame_claims.specs.Blocks.{IsBlockSize}

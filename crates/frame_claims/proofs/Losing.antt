@@ -15,11 +15,11 @@ use Rattle.xp_board.specs.declared.step.StepKind.TheVariants as kinds
 use Rattle.xp_board.specs.Told.{PortValue}
 use Rattle.step_maker.specs.Moves.{Came, Met, Moves}
 use Rattle.step_maker.proofs.Coming.{came_trans, moment_of, met_after, met_before, moves_came, moves_met}
-use Rattle.answer_fits.specs.Answers.{Deed, Stops}
-use Rattle.answer_fits.specs.Asked.{Request, of_block}
-use Rattle.answer_fits.specs.Pauses.{Loses}
-use Rattle.answer_fits.specs.Reasons.{taken}
-use Rattle.answer_fits.proofs.Piecing.{serves_came}
+use Rattle.step_maker.specs.Answers.{Deed, Stops}
+use Rattle.step_maker.specs.Asked.{Request, of_block}
+use Rattle.step_maker.specs.Pauses.{Loses}
+use Rattle.step_maker.specs.Reasons.{taken}
+use Rattle.step_maker.proofs.Piecing.{serves_came}
 use Rattle.flush_words.proofs.Lasting.{last_left}
 use Rattle.frame_claims.specs.Blocks.{IsBlockOf, ServesBlock}
 use Rattle.frame_claims.specs.Choosing.{KeepsLast, StillFree}

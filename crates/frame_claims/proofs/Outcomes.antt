@@ -9,8 +9,8 @@ use Rattle.xp_words.specs.declared.reply.Stop.TheVariants.{Refused, Paused}
 use Rattle.xp_board.specs.Readings.{is_free}
 use Rattle.xp_board.specs.Told.{Post}
 use Rattle.step_maker.specs.Plain.{Words}
-use Rattle.answer_fits.specs.Reasons.{Those}
-use Rattle.answer_fits.specs.Visits.{Visit, Then}
+use Rattle.step_maker.specs.Reasons.{Those}
+use Rattle.step_maker.specs.Visits.{Visit, Then}
 use Rattle.flush_waits.specs.Listing.{WaitedFor}
 use Rattle.flush_waits.specs.Waiting.{everyone}
 use Rattle.frame_claims.specs.Blocks.{IsBlockSize}

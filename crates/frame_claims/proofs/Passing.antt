@@ -3,8 +3,8 @@ use Rattle.std.proofs.Common.{◌≡◌, ℕ, zero, suc, ◌+◌, ◌*◌, ◌/�
 use Rattle.std.proofs.Math.Nat.{le-div_iff_mul-le}
 use Rattle.xp_words.specs.Machine.{Machine}
 use Rattle.step_maker.specs.Moves.{Moment}
-use Rattle.answer_fits.specs.Finding.{Finding}
-use Rattle.answer_fits.specs.Licences.{HasTaken, HasTakenAll}
+use Rattle.step_maker.specs.Finding.{Finding}
+use Rattle.step_maker.specs.Licences.{HasTaken, HasTakenAll}
 
 -- each block below that number, by steps below number `at`
 abbrev pub TakenBelow : ℕ → Finding → ℕ → ℕ → Type 0

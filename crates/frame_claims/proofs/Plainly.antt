@@ -9,7 +9,7 @@ use Rattle.xp_words.specs.declared.reply.Refusal.TheVariants as refusals
 use Rattle.xp_words.specs.declared.reply.Stop.{Stop}
 use Rattle.xp_words.specs.declared.reply.Stop.TheVariants.{Refused, Paused}
 use Rattle.step_maker.specs.Plain.{Words}
-use Rattle.answer_fits.specs.Visits.{Visit, Only, Then}
+use Rattle.step_maker.specs.Visits.{Visit, Only, Then}
 use Rattle.frame_claims.specs.Blocks.{numbered}
 use Rattle.frame_claims.specs.Found.{AllGivenBy, BlockBy, ChargedBy, ChosenBy, FreeAt, FreeBlock, FullBy, GivenBy, HintedBy, InWordBy, LoweredBy, NamedBy, OwnedBy, PassBy, RunBy, SawFree, SawFull, SawTaken, ScannedBy, ScrubbedBy, ScrubsOne, TakenBy, TakesOne, TriedBy, TriedWhere, Upwards, WordBy, counts_pages, saw_map, saw_pages, saw_refs}
 use Rattle.frame_claims.specs.Plain.{ClaimsPlainly, HasRoom, ref_look}

@@ -11,7 +11,7 @@ use Rattle.xp_board.specs.declared.step.StepKind.TheVariants as kinds
 use Rattle.xp_board.specs.Told.{Post, PortValue}
 use Rattle.step_maker.specs.Moves.{Came, Met, Moves}
 use Rattle.step_maker.proofs.Coming.{came_post, met_after, met_before, moment_of, moves_met}
-use Rattle.answer_fits.specs.Licences.{HasTaken, HasTakenAll}
+use Rattle.step_maker.specs.Licences.{HasTaken, HasTakenAll}
 use Rattle.frame_claims.specs.Choosing.{Looks, NoneFree, SeenTaken}
 use Rattle.frame_claims.proofs.Finding.{looks_came}
 use Rattle.frame_claims.proofs.Lasting.{met_within}

@@ -3,7 +3,7 @@ use Rattle.std.proofs.Common.{◌≡◌, ℕ, suc, zero, ◌+◌, ◌<◌, List,
 use Rattle.xp_board.specs.declared.holdings.Claimed.{Claimed}
 use Rattle.xp_board.specs.Lists.{one_at, times, times_by, with_more, without_by}
 use Rattle.xp_board.specs.Told.{PortValue}
-use Rattle.board_lemmas.proofs.Sums.{when_eq, when_ne}
+use Rattle.xp_board.proofs.Sums.{when_eq, when_ne}
 use Rattle.step_maker.specs.Holds.{Holds, still}
 use Rattle.claim_words.specs.Claims.{IsNewest, IsRaised, freed_again, behind_newest, taken_at}
 use Rattle.frame_claims.specs.Blocks.{HasRow, IsHead, IsPlain, IsRow, holding, rising, without_head}

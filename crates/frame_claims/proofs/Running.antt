@@ -6,7 +6,7 @@ use Rattle.xp_words.specs.Machine.{Machine}
 use Rattle.xp_words.specs.declared.place.Place.TheVariants.{Map, Refs}
 use Rattle.xp_board.specs.Readings.{is_free}
 use Rattle.step_maker.specs.Plain.{Words}
-use Rattle.answer_fits.specs.Visits.{Visit, Only}
+use Rattle.step_maker.specs.Visits.{Visit, Only}
 use Rattle.frame_claims.specs.Blocks.{IsBlockSize}
 use Rattle.frame_claims.specs.Found.{ChosenBy, FirstOf, FreeBlock, FullBy, HintedBy, RunBy, SawFull, TriedWhere, Upwards, saw_map}
 use Rattle.frame_claims.specs.Plain.{IsFirstFree, IsWhollyFree, MapAgrees, ref_looks}

@@ -6,8 +6,8 @@ use Rattle.xp_board.specs.declared.step.Act.TheVariants.{Store}
 use Rattle.xp_board.specs.declared.step.StepKind.TheVariants as kinds
 use Rattle.step_maker.specs.Holds.{Holds}
 use Rattle.step_maker.specs.Moves.{Moves}
-use Rattle.answer_fits.specs.Visits.{Does}
-use Rattle.answer_fits.proofs.Piecing.{serves_nothing}
+use Rattle.step_maker.specs.Visits.{Does}
+use Rattle.step_maker.proofs.Piecing.{serves_nothing}
 use Rattle.claim_words.specs.Claims.{MayScrub, scrubbed_newest}
 use Rattle.frame_claims.specs.Blocks.{ServesBlock}
 use Rattle.frame_claims.specs.Found.{ScrubsOne, Upwards}

@@ -12,12 +12,12 @@ use Rattle.xp_board.specs.HintSteps.{map_bit}
 use Rattle.xp_board.specs.Lists.{first_by, times_by}
 use Rattle.xp_board.specs.Readings.{allocated_mark}
 use Rattle.xp_board.specs.Told.{PortValue}
-use Rattle.board_lemmas.proofs.Sums.{when_eq, when_ne}
+use Rattle.xp_board.proofs.Sums.{when_eq, when_ne}
 use Rattle.step_maker.specs.Moves.{Moves, Met}
-use Rattle.answer_fits.specs.Answers.{Deed, Gives, Misses, SetsM2p, Serves, deeds_by, only_if, stored_cell}
-use Rattle.answer_fits.specs.Asked.{Request, IsAsked, named, of}
-use Rattle.answer_fits.specs.Finding.{Finding}
-use Rattle.answer_fits.proofs.Piecing.{serves_step}
+use Rattle.step_maker.specs.Answers.{Deed, Gives, Misses, SetsM2p, Serves, deeds_by, only_if, stored_cell}
+use Rattle.step_maker.specs.Asked.{Request, IsAsked, named, of}
+use Rattle.step_maker.specs.Finding.{Finding}
+use Rattle.step_maker.proofs.Piecing.{serves_step}
 use Rattle.frame_words.proofs.FreeSteps.{free_read}
 use Rattle.claim_words.specs.Claims.{MayScrub}
 use Rattle.claim_words.proofs.ClaimSteps.{no_lock, owned_read, scrubs_claim}

@@ -3,8 +3,8 @@ use Rattle.std.proofs.Common.{◌≡◌, ℕ, zero, suc, ◌+◌, ◌-◌, ◌*�
 use Rattle.std.proofs.Math.Nat.{mod-lt, mod-eq_of_lt, one-le-pow}
 use Rattle.std.proofs.lemmas.Nat.{mod-pow-add, shr-shr}
 use Rattle.xp_words.specs.Entries.{is_bit}
-use Rattle.board_lemmas.proofs.PlaceTests.{equal_by}
-use Rattle.board_lemmas.proofs.Sums.{when_eq}
+use Rattle.xp_board.proofs.PlaceTests.{equal_by}
+use Rattle.xp_board.proofs.Sums.{when_eq}
 use Rattle.frame_claims.specs.Found.{are_set}
 
 below_or : (j k : ℕ) → j < suc k → (j < k) ⊎ (j ≡ k)

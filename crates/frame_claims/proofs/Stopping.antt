@@ -9,11 +9,11 @@ use Rattle.xp_board.specs.Lists.{times, times_by}
 use Rattle.xp_board.specs.Told.{PortValue}
 use Rattle.step_maker.specs.Moves.{Came}
 use Rattle.step_maker.proofs.Coming.{came_trans}
-use Rattle.answer_fits.specs.Answers.{Stops}
-use Rattle.answer_fits.specs.Reasons.{Those}
-use Rattle.answer_fits.specs.Visits.{Does}
-use Rattle.answer_fits.proofs.Later.{IsUncounted, stops_then}
-use Rattle.answer_fits.proofs.Piecing.{stops_before}
+use Rattle.step_maker.specs.Answers.{Stops}
+use Rattle.step_maker.specs.Reasons.{Those}
+use Rattle.step_maker.specs.Visits.{Does}
+use Rattle.step_maker.proofs.Later.{IsUncounted, stops_then}
+use Rattle.step_maker.proofs.Piecing.{stops_before}
 use Rattle.flush_waits.specs.Listing.{WaitedFor}
 use Rattle.flush_waits.specs.Waiting.{StopsBehind, everyone}
 use Rattle.frame_claims.specs.Blocks.{HasRow, IsBlockOf}

@@ -6,12 +6,12 @@ use Rattle.xp_board.specs.Acts.{left_by}
 use Rattle.xp_board.specs.Lists.{EachOf}
 use Rattle.xp_board.specs.Steps.{is_same}
 use Rattle.xp_board.specs.Told.{PortValue, is_telling, told_word}
-use Rattle.board_lemmas.proofs.PlaceTests.{is_same-other, same_place}
+use Rattle.xp_board.proofs.PlaceTests.{is_same-other, same_place}
 use Rattle.step_maker.specs.Moves.{Moment, Ran}
 use Rattle.step_maker.specs.Plain.{Leaves, Words, change}
 use Rattle.step_maker.proofs.Telling.{by_test, changed, leaves, ran_telling, told_there}
-use Rattle.answer_fits.specs.Visits.{Visit, Does, Nothing, Only, Then, visits}
-use Rattle.answer_fits.proofs.Piecing.{each_append}
+use Rattle.step_maker.specs.Visits.{Visit, Does, Nothing, Only, Then, visits}
+use Rattle.step_maker.proofs.Piecing.{each_append}
 use Rattle.frame_claims.specs.Found as founds
 use Rattle.frame_claims.specs.Found.{FirstOf, Upwards}
 use Rattle.frame_claims.specs.Plain.{ref_look, ref_looks}

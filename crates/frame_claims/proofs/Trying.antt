@@ -12,11 +12,11 @@ use Rattle.xp_board.specs.Readings.{is_free}
 use Rattle.xp_board.specs.declared.step.Act.TheVariants.{Load}
 use Rattle.xp_board.specs.declared.step.StepKind.TheVariants as kinds
 use Rattle.xp_board.specs.Told.{Post, PortValue}
-use Rattle.board_lemmas.proofs.Sums.{when_eq, when_ne}
+use Rattle.xp_board.proofs.Sums.{when_eq, when_ne}
 use Rattle.step_maker.specs.Moves.{Moves}
 use Rattle.step_maker.proofs.Coming.{came_post}
-use Rattle.answer_fits.specs.Visits.{Visit, Does, Nothing, Only, Then}
-use Rattle.answer_fits.proofs.Visiting.{does_as, does_nothing, does_one, does_then}
+use Rattle.step_maker.specs.Visits.{Visit, Does, Nothing, Only, Then}
+use Rattle.step_maker.proofs.Visiting.{does_as, does_nothing, does_one, does_then}
 use Rattle.frame_claims.specs.declared.choosing.Chosen.{Chosen}
 use Rattle.frame_claims.specs.Choosing.{FreeWord, Looks}
 use Rattle.frame_claims.specs.Found as founds

@@ -15,8 +15,8 @@ use Rattle.xp_board.specs.declared.step.Act.TheVariants.{Add, Cas, Load, Store}
 use Rattle.xp_board.specs.declared.step.StepKind.TheVariants as kinds
 use Rattle.xp_board.specs.Told.{PortValue}
 use Rattle.step_maker.specs.Moves.{Moves}
-use Rattle.answer_fits.specs.Visits.{Does, Only, Then, usual_kind, visit}
-use Rattle.answer_fits.proofs.Visiting.{does_as, does_one, does_then}
+use Rattle.step_maker.specs.Visits.{Does, Only, Then, usual_kind, visit}
+use Rattle.step_maker.proofs.Visiting.{does_as, does_one, does_then}
 use Rattle.frame_claims.specs.Found.{ChargedBy, Downwards, FreesOne, GivenBy, LoweredBy, NamedBy, OwnedBy, ScrubbedBy, ScrubsOne, TakenBy, TakesOne, Upwards, counts_pages, saw_pages}
 
 -- a step, whatever word it finds

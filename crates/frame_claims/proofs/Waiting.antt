@@ -11,9 +11,9 @@ use Rattle.xp_words.specs.declared.reply.Stop.TheVariants.{Refused, Paused}
 use Rattle.xp_board.specs.Lists.{EachOf}
 use Rattle.xp_board.specs.Readings.{last_clock}
 use Rattle.xp_board.specs.Told.{Post}
-use Rattle.answer_fits.specs.Reasons.{OfOwner, Those, Whose}
-use Rattle.answer_fits.specs.Visits.{Visit, Only, Then}
-use Rattle.answer_fits.proofs.Piecing.{each_append}
+use Rattle.step_maker.specs.Reasons.{OfOwner, Those, Whose}
+use Rattle.step_maker.specs.Visits.{Visit, Only, Then}
+use Rattle.step_maker.proofs.Piecing.{each_append}
 use Rattle.flush_words.specs.Flushing as flushing
 use Rattle.flush_words.specs.Flushing.{FlushedBy}
 use Rattle.flush_waits.specs.Listing as waits

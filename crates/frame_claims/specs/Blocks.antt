@@ -5,8 +5,8 @@ use Rattle.xp_board.specs.declared.holdings.Holdings.{Holdings}
 use Rattle.xp_board.specs.Lists.{times, with_more}
 use Rattle.xp_board.specs.Told.{PortValue}
 use Rattle.step_maker.specs.Holds.{Holds}
-use Rattle.answer_fits.specs.Answers.{Deed, Gives, Serves}
-use Rattle.answer_fits.specs.Asked.{Request}
+use Rattle.step_maker.specs.Answers.{Deed, Gives, Serves}
+use Rattle.step_maker.specs.Asked.{Request}
 use Rattle.claim_words.specs.Claims.{behind_newest}
 
 -- ---- what is asked

@@ -11,10 +11,10 @@ use Rattle.xp_words.specs.declared.place.Place.TheVariants.{Refs}
 use Rattle.xp_board.specs.Readings.{is_free}
 use Rattle.xp_board.specs.Steps.{last_since}
 use Rattle.step_maker.specs.Moves.{Met}
-use Rattle.answer_fits.specs.Finding.{FoundAt, FoundWith}
-use Rattle.answer_fits.specs.Licences.{HasTakenAll}
-use Rattle.answer_fits.specs.Answers.{Serves}
-use Rattle.answer_fits.specs.Asked.{Request}
+use Rattle.step_maker.specs.Finding.{FoundAt, FoundWith}
+use Rattle.step_maker.specs.Licences.{HasTakenAll}
+use Rattle.step_maker.specs.Answers.{Serves}
+use Rattle.step_maker.specs.Asked.{Request}
 use Rattle.flush_waits.specs.Waiting.{HadFree}
 use Rattle.frame_claims.specs.declared.choosing.Chosen.{Chosen}
 

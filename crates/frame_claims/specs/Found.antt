@@ -13,8 +13,8 @@ use Rattle.xp_board.specs.HintSteps.{map_bit}
 use Rattle.xp_board.specs.Readings.{is_free}
 use Rattle.xp_board.specs.Told.{Post}
 use Rattle.xp_board.specs.declared.step.Act.TheVariants.{Load, Cas, Store, Add}
-use Rattle.answer_fits.specs.Reasons.{Those}
-use Rattle.answer_fits.specs.Visits.{Visit, visit, Nothing, Only, Then}
+use Rattle.step_maker.specs.Reasons.{Those}
+use Rattle.step_maker.specs.Visits.{Visit, visit, Nothing, Only, Then}
 use Rattle.flush_waits.specs.Listing.{WaitedFor}
 use Rattle.flush_waits.specs.Waiting.{everyone}
 use Rattle.frame_claims.specs.Blocks.{numbered}

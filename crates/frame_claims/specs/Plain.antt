@@ -12,7 +12,7 @@ use Rattle.xp_board.specs.declared.step.Act.TheVariants.{Load}
 use Rattle.xp_board.specs.Readings.{is_free}
 use Rattle.xp_board.specs.Sound.{is_hinted}
 use Rattle.step_maker.specs.Plain.{Words}
-use Rattle.answer_fits.specs.Visits.{Visit}
+use Rattle.step_maker.specs.Visits.{Visit}
 
 -- ---- looks
 -- how many loads of reference words there are

@@ -6,7 +6,7 @@ ghost use Rattle.xp_words.specs.RefWords.{ref_read};
 ghost use Rattle.xp_words.specs.declared.refs.RefWord.TheVariants.{Free};
 ghost use Rattle.xp_board.specs.Readings.{is_free};
 ghost use Rattle.step_maker.specs.Holds.{MayWork};
-ghost use Rattle.answer_fits.specs.Visits.{Does};
+ghost use Rattle.step_maker.specs.Visits.{Does};
 ghost use Rattle.frame_claims.specs.Choosing.{FreeWord, IsFound, Looks, NoneFree, SeenTaken};
 ghost use Rattle.frame_claims.specs.Found.{BlockBy, ChosenBy, FirstOf, FullBy, HintedBy, InWordBy, RunBy, ScannedBy, TriedBy, WordBy, block_of};
 

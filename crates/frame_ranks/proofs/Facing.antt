@@ -13,11 +13,11 @@ use Rattle.xp_board.specs.Acts.{left_by}
 use Rattle.xp_board.specs.Readings.{is_work, kind_at, owner_of, ref_count}
 use Rattle.xp_board.specs.RefSteps.{owner_number}
 use Rattle.xp_board.specs.Told.{PortValue, is_telling, told_word}
-use Rattle.board_lemmas.proofs.PlaceTests.{equal_refl}
+use Rattle.xp_board.proofs.PlaceTests.{equal_refl}
 use Rattle.step_maker.specs.Moves.{Moves}
 use Rattle.step_maker.specs.Plain.{Words}
 use Rattle.step_maker.proofs.Telling.{load_tells, told_elsewhere, told_here}
-use Rattle.answer_fits.specs.Twins.{Alike, IsAlikeKind}
+use Rattle.step_maker.specs.Twins.{Alike, IsAlikeKind}
 use Rattle.frame_words.specs.Plain.{got, lowered, put, set_free}
 use Rattle.frame_types.specs.Plain.{less_kept, set_kind}
 use Rattle.frame_types.specs.declared.standing.Standing.{Standing}

@@ -9,9 +9,9 @@ use Rattle.xp_words.specs.declared.reply.Stop.TheVariants.{Refused, Paused}
 use Rattle.xp_board.specs.Readings.{kind_at}
 use Rattle.xp_board.specs.Told.{PortValue, told_word}
 use Rattle.step_maker.specs.Moves.{Came}
-use Rattle.answer_fits.specs.Answers.{Stops}
-use Rattle.answer_fits.specs.Asked.{of_frame}
-use Rattle.answer_fits.proofs.Visiting.{does_came}
+use Rattle.step_maker.specs.Answers.{Stops}
+use Rattle.step_maker.specs.Asked.{of_frame}
+use Rattle.step_maker.proofs.Visiting.{does_came}
 use Rattle.answer_laws.specs.Alone.{IsAlone}
 use Rattle.frame_words.specs.Plain.{got, refer}
 use Rattle.kind_words.specs.Kinds.{partial_kind}

@@ -9,12 +9,12 @@ use Rattle.xp_board.specs.Acts.{left_by}
 use Rattle.xp_board.specs.Lists.{EachOf}
 use Rattle.xp_board.specs.RefSteps.{one_down}
 use Rattle.xp_board.specs.Told.{PortValue, is_telling, told_word}
-use Rattle.board_lemmas.proofs.KindForms.{fields_down}
+use Rattle.xp_board.proofs.KindForms.{fields_down}
 use Rattle.step_maker.specs.Moves.{Moment, Ran}
 use Rattle.step_maker.proofs.Coming.{moves_came}
 use Rattle.step_maker.proofs.Telling.{came_telling}
-use Rattle.answer_fits.specs.Visits.{Does, Only, Visit, visit, visits}
-use Rattle.answer_fits.proofs.Piecing.{each_append}
+use Rattle.step_maker.specs.Visits.{Does, Only, Visit, visit, visits}
+use Rattle.step_maker.proofs.Piecing.{each_append}
 use Rattle.frame_words.specs.Freeing.{FreesBy, PutBy, lowers_refs}
 use Rattle.kind_words.specs.Kinds.{live_kind, partial_kind}
 use Rattle.frame_types.specs.Found.{SharedBy, StoresKind}

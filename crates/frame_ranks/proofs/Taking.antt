@@ -8,7 +8,7 @@ use Rattle.xp_words.specs.declared.reply.Stop.{Stop}
 use Rattle.xp_board.specs.KindSteps.{begun_kind, is_stale, raised_kind, resumed_kind}
 use Rattle.xp_board.specs.Readings.{is_work, kind_at}
 use Rattle.step_maker.specs.Plain.{Words}
-use Rattle.answer_fits.specs.Twins.{Alike}
+use Rattle.step_maker.specs.Twins.{Alike}
 use Rattle.kind_words.specs.Kinds.{live_kind, partial_kind}
 use Rattle.frame_words.specs.Plain.{put}
 use Rattle.frame_types.specs.Plain.{IsTakenBy, less_kept, set_kind, stop_by, taken_by, type_stop, type_waits, waits_by, work_unmarked}

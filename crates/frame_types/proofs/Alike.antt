@@ -9,7 +9,7 @@ use Rattle.xp_board.specs.declared.step.Act.TheVariants.{Add}
 use Rattle.xp_board.specs.Readings.{is_free}
 use Rattle.xp_board.specs.RefSteps.{one_down}
 use Rattle.step_maker.specs.Plain.{Words, change}
-use Rattle.answer_fits.specs.Twins.{Alike, IsAlikeKind}
+use Rattle.step_maker.specs.Twins.{Alike, IsAlikeKind}
 use Rattle.frame_words.specs.Plain.{put, stamp_now}
 use Rattle.frame_words.proofs.Alike.{alike_act, alike_stores, put_alike, stamp_low}
 use Rattle.kind_words.specs.Kinds.{dead_kind}

@@ -16,16 +16,16 @@ use Rattle.xp_board.specs.declared.step.StepKind.TheVariants as kinds
 use Rattle.xp_board.specs.KindSteps.{begun_kind, is_stale, raised_kind, resumed_kind}
 use Rattle.xp_board.specs.Readings.{is_dead, is_type}
 use Rattle.xp_board.specs.Told.{Post, PortValue}
-use Rattle.board_lemmas.proofs.KindForms.{fields_of}
-use Rattle.board_lemmas.proofs.Sums.{when_eq}
+use Rattle.xp_board.proofs.KindForms.{fields_of}
+use Rattle.xp_board.proofs.Sums.{when_eq}
 use Rattle.step_maker.specs.Holds.{Holds}
 use Rattle.step_maker.specs.Moves.{Moves, Came, Met}
 use Rattle.step_maker.proofs.Coming.{moment_of, moves_met, moves_came, met_before, came_trans, came_post}
-use Rattle.answer_fits.specs.Answers.{Serves}
-use Rattle.answer_fits.specs.Asked.{of_back, of_frame}
-use Rattle.answer_fits.specs.Finding.{FoundWith}
-use Rattle.answer_fits.specs.Reasons.{AwaitsStamp, OfOwner, marked, other}
-use Rattle.answer_fits.proofs.Piecing.{serves_back, serves_came}
+use Rattle.step_maker.specs.Answers.{Serves}
+use Rattle.step_maker.specs.Asked.{of_back, of_frame}
+use Rattle.step_maker.specs.Finding.{FoundWith}
+use Rattle.step_maker.specs.Reasons.{AwaitsStamp, OfOwner, marked, other}
+use Rattle.step_maker.proofs.Piecing.{serves_back, serves_came}
 use Rattle.frame_words.proofs.Taking.{names_itself}
 use Rattle.kind_words.proofs.KindWriting.{begun_is, resumed_is}
 use Rattle.kind_words.specs.Kinds.{counted_type, looked_at}

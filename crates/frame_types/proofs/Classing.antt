@@ -7,7 +7,7 @@ use Rattle.xp_words.specs.KindWords.{kind_read}
 use Rattle.xp_words.specs.PageTypes.{type_number, type_of}
 use Rattle.xp_words.proofs.KindLaws.{type_back}
 use Rattle.xp_board.specs.Readings.{is_dead, is_live, is_partial, is_type, is_work, is_closing, is_locked}
-use Rattle.board_lemmas.proofs.KindForms.{live_form, dead_form}
+use Rattle.xp_board.proofs.KindForms.{live_form, dead_form}
 use Rattle.frame_types.specs.Standing.{is_same_type, standing_of}
 use Rattle.frame_types.specs.declared.standing.Standing.TheVariants.{Counted, Dead, Partial, Busy, Other}
 

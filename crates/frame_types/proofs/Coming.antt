@@ -18,8 +18,8 @@ use Rattle.xp_board.specs.KindSteps.{begun_kind, is_stale, live_typed, new_work,
 use Rattle.xp_board.specs.Lists.{kept_of}
 use Rattle.xp_board.specs.Readings.{is_dead, is_live, is_partial, is_work}
 use Rattle.xp_board.specs.Told.{PortValue}
-use Rattle.board_lemmas.proofs.KindForms.{fields_of, PartialForm, partial_form}
-use Rattle.board_lemmas.proofs.KindReadings.{partial_parts, resumed_in_work}
+use Rattle.xp_board.proofs.KindForms.{fields_of, PartialForm, partial_form}
+use Rattle.xp_board.proofs.KindReadings.{partial_parts, resumed_in_work}
 use Rattle.step_maker.specs.Holds.{FlushedHolds, Holds, MayWork, Same, quiet, still}
 use Rattle.step_maker.specs.Moves.{Moves}
 use Rattle.frame_words.specs.Freeing.{gave}

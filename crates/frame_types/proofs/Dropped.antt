@@ -1,6 +1,6 @@
 -- What the steps show that give a type back, and the words that they leave on a board that tells all words.
 use Rattle.std.proofs.Common.{◌≡◌, ℕ, ◌%◌, ◌^◌, ◌<◌, ◌==◌, ◌&&◌, if◌then◌else◌, not, Bool, true, false, [], None, IsTrue, refl, sym, ap, ◌∙◌}
-use Rattle.board_lemmas.proofs.Sums.{when_eq}
+use Rattle.xp_board.proofs.Sums.{when_eq}
 use Rattle.xp_words.specs.KindWords.{kind_fields, kind_write}
 use Rattle.xp_words.specs.PageTypes.{type_number}
 use Rattle.xp_words.specs.declared.kind.KindWord.{KindWord}
@@ -15,10 +15,10 @@ use Rattle.step_maker.specs.Holds.{Same}
 use Rattle.step_maker.specs.Moves.{Moves}
 use Rattle.step_maker.specs.Plain.{Words, change, Leaves}
 use Rattle.step_maker.proofs.Telling.{leaves, load_tells, moves_telling, told_there, told_elsewhere}
-use Rattle.answer_fits.specs.Answers.{Serves}
-use Rattle.answer_fits.specs.Asked.{of_back}
-use Rattle.answer_fits.specs.Reasons.{keeps_type}
-use Rattle.answer_fits.proofs.Piecing.{serves_step, serves_then}
+use Rattle.step_maker.specs.Answers.{Serves}
+use Rattle.step_maker.specs.Asked.{of_back}
+use Rattle.step_maker.specs.Reasons.{keeps_type}
+use Rattle.step_maker.proofs.Piecing.{serves_step, serves_then}
 use Rattle.frame_words.specs.Plain.{put, stamp_now}
 use Rattle.frame_words.proofs.Putting.{clock_low}
 use Rattle.frame_words.proofs.Twinning.{low_rest}

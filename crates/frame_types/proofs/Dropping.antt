@@ -24,7 +24,7 @@ use Rattle.flush_words.proofs.Lasting.{moves_longer}
 use Rattle.frame_words.specs.Freeing.{gave}
 use Rattle.frame_words.specs.Refs.{MayPut}
 use Rattle.kind_words.specs.Kinds.{MayLeave, dead_kind, left}
-use Rattle.board_lemmas.proofs.ListCounts.{newest_held}
+use Rattle.xp_board.proofs.ListCounts.{newest_held}
 use Rattle.kind_words.proofs.KindFacts.{IsFoundLive, found_live, kind_found, clock_is_small}
 use Rattle.kind_words.proofs.KindHands.{apart_spares, clock_since, closes, lowered_fields, lowered_last, lowered_more, work_here}
 use Rattle.kind_words.proofs.Leaving.{left_dead_closing, may_leave_dead, without_newest}

@@ -18,7 +18,7 @@ use Rattle.xp_board.specs.Hands.{refs_to, ref_to, without_ref, typed_to, typed_o
 use Rattle.xp_board.specs.Knowledge.{knows_owner, tells_owner}
 use Rattle.xp_board.specs.Lists.{some_of}
 use Rattle.xp_board.specs.Told.{PortValue}
-use Rattle.board_lemmas.proofs.ListCounts.{first_by-cons_here, times_by-cons_here}
+use Rattle.xp_board.proofs.ListCounts.{first_by-cons_here, times_by-cons_here}
 use Rattle.step_maker.specs.Holds.{FlushedSame}
 use Rattle.step_maker.specs.Moves.{Came}
 use Rattle.kind_words.proofs.KindHands.{typed_held, work_here}

@@ -21,18 +21,18 @@ use Rattle.xp_board.specs.Hands.{refs_to, work_on, lock_on, locks_on, ending_of,
 use Rattle.xp_board.specs.Readings.{is_type, is_locked, ref_count}
 use Rattle.xp_board.specs.Steps.{last_since}
 use Rattle.xp_board.specs.Told.{PortValue, Finds}
-use Rattle.board_lemmas.proofs.KindForms.{fields_of}
-use Rattle.board_lemmas.proofs.ListCounts.{first_by-none}
-use Rattle.board_lemmas.proofs.Sums.{when_eq, when_ne}
-use Rattle.board_lemmas.proofs.Works.{nobody_locks, counted_alive}
+use Rattle.xp_board.proofs.KindForms.{fields_of}
+use Rattle.xp_board.proofs.ListCounts.{first_by-none}
+use Rattle.xp_board.proofs.Sums.{when_eq, when_ne}
+use Rattle.xp_board.proofs.Works.{nobody_locks, counted_alive}
 use Rattle.step_maker.specs.Moves.{Moves, Met}
 use Rattle.step_maker.proofs.Coming.{moment_of, moves_met, moves_came, met_before, met_after}
-use Rattle.answer_fits.specs.Answers.{Serves, Stops, Misses, missed_at, deeds_by, exchanged, pin_deed}
-use Rattle.answer_fits.specs.Asked.{of_frame, Asked, named, Passed, checked}
-use Rattle.answer_fits.specs.Finding.{Finding, FoundWith}
-use Rattle.answer_fits.specs.Pauses.{IsElsewhere}
-use Rattle.answer_fits.specs.Reasons.{MayType}
-use Rattle.answer_fits.proofs.Piecing.{moves_serves, serves_step}
+use Rattle.step_maker.specs.Answers.{Serves, Stops, Misses, missed_at, deeds_by, exchanged, pin_deed}
+use Rattle.step_maker.specs.Asked.{of_frame, Asked, named, Passed, checked}
+use Rattle.step_maker.specs.Finding.{Finding, FoundWith}
+use Rattle.step_maker.specs.Pauses.{IsElsewhere}
+use Rattle.step_maker.specs.Reasons.{MayType}
+use Rattle.step_maker.proofs.Piecing.{moves_serves, serves_step}
 use Rattle.kind_words.proofs.KindFacts.{types_beside, work_word}
 use Rattle.kind_words.proofs.KindWriting.{fields_write}
 use Rattle.flush_words.proofs.Lasting.{last_left}

@@ -14,8 +14,8 @@ use Rattle.xp_board.specs.Readings.{is_free}
 use Rattle.xp_board.specs.Steps.{is_same}
 use Rattle.xp_board.specs.Told.{PortValue, told_word}
 use Rattle.step_maker.specs.Plain.{Leaves, Words}
-use Rattle.answer_fits.specs.Twins.{Alike, IsAlikeKind}
-use Rattle.answer_fits.proofs.Alikes.{alike_trans, same_alike}
+use Rattle.step_maker.specs.Twins.{Alike, IsAlikeKind}
+use Rattle.step_maker.proofs.Alikes.{alike_trans, same_alike}
 use Rattle.frame_words.specs.Plain.{put, stamp_now}
 use Rattle.frame_words.proofs.Alike.{alike_stores, put_alike, stamp_low}
 use Rattle.kind_words.specs.Kinds.{dead_kind, partial_kind}

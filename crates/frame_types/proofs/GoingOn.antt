@@ -8,11 +8,11 @@ use Rattle.xp_words.specs.KindWords.{kind_write}
 use Rattle.xp_board.specs.Told.{PortValue, is_telling, told_word}
 use Rattle.step_maker.specs.Holds.{FlushedSame}
 use Rattle.step_maker.specs.Moves.{Came, Met}
-use Rattle.answer_fits.specs.Answers.{Deed, Serves, Stops}
-use Rattle.answer_fits.specs.Asked.{of_frame}
-use Rattle.answer_fits.specs.Reasons.{AwaitsStamp, OfOwner}
-use Rattle.answer_fits.specs.Twins.{Alike}
-use Rattle.answer_fits.proofs.Alikes.{alike_trans, alike_store}
+use Rattle.step_maker.specs.Answers.{Deed, Serves, Stops}
+use Rattle.step_maker.specs.Asked.{of_frame}
+use Rattle.step_maker.specs.Reasons.{AwaitsStamp, OfOwner}
+use Rattle.step_maker.specs.Twins.{Alike}
+use Rattle.step_maker.proofs.Alikes.{alike_trans, alike_store}
 use Rattle.kind_words.specs.Kinds.{live_kind, work_kind}
 use Rattle.flush_waits.specs.Waiting.{ServesBehind, StopsBehind}
 use Rattle.step_maker.proofs.Telling.{came_telling}

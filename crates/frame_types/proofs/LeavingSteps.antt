@@ -9,8 +9,8 @@ use Rattle.xp_board.specs.declared.step.StepKind.TheVariants as kinds
 use Rattle.xp_board.specs.RefSteps.{one_down}
 use Rattle.xp_board.specs.Told.{PortValue}
 use Rattle.step_maker.specs.Moves.{Moves}
-use Rattle.answer_fits.specs.Visits.{visit, Does, Only, Then, Where}
-use Rattle.answer_fits.proofs.Visiting.{does_as, does_nothing, does_one, does_then}
+use Rattle.step_maker.specs.Visits.{visit, Does, Only, Then, Where}
+use Rattle.step_maker.proofs.Visiting.{does_as, does_nothing, does_one, does_then}
 use Rattle.frame_words.specs.Freeing.{PutBy, Puts}
 use Rattle.kind_words.specs.Kinds.{dead_kind, partial_kind}
 use Rattle.frame_types.specs.Found.{DeadBy, Dies, DropsBy, DropsPlain, SharedBy, StoresKind}

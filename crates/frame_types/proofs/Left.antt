@@ -19,7 +19,7 @@ use Rattle.xp_board.specs.Knowledge.{knows_partial}
 use Rattle.xp_board.specs.Readings.{is_partial_as}
 use Rattle.xp_board.specs.Told.{Finds, PortValue}
 use Rattle.xp_board.proofs.Returned.{same_type}
-use Rattle.board_lemmas.proofs.ListCounts.{newest_held}
+use Rattle.xp_board.proofs.ListCounts.{newest_held}
 use Rattle.step_maker.specs.Holds.{FlushedHolds, FlushedSame, Holds, Same, quiet}
 use Rattle.step_maker.specs.Moves.{Moves}
 use Rattle.frame_words.specs.Freeing.{gave}

@@ -19,9 +19,9 @@ use Rattle.step_maker.specs.Holds.{Holds, still}
 use Rattle.step_maker.specs.Moves.{Moves}
 use Rattle.step_maker.specs.Plain.{Leaves, change}
 use Rattle.step_maker.proofs.Telling.{leaves}
-use Rattle.answer_fits.specs.Answers.{Serves}
-use Rattle.answer_fits.specs.Asked.{of_back}
-use Rattle.answer_fits.proofs.Piecing.{moves_serves}
+use Rattle.step_maker.specs.Answers.{Serves}
+use Rattle.step_maker.specs.Asked.{of_back}
+use Rattle.step_maker.proofs.Piecing.{moves_serves}
 use Rattle.frame_words.proofs.Taking.{backs_itself}
 use Rattle.kind_words.proofs.KindFacts.{IsFoundLive, found_live}
 use Rattle.kind_words.proofs.KindHands.{closes, lowered_fields, lowered_last, lowered_more, work_here}

@@ -17,13 +17,13 @@ use Rattle.xp_board.specs.Readings.{ref_count, owner_of}
 use Rattle.xp_board.specs.RefSteps.{owner_number}
 use Rattle.xp_board.specs.Steps.{is_same}
 use Rattle.xp_board.specs.Told.{PortValue, is_telling, told_word}
-use Rattle.board_lemmas.proofs.KindForms.{fields_of}
-use Rattle.board_lemmas.proofs.Sums.{when_eq}
+use Rattle.xp_board.proofs.KindForms.{fields_of}
+use Rattle.xp_board.proofs.Sums.{when_eq}
 use Rattle.step_maker.specs.Moves.{Moves}
 use Rattle.step_maker.specs.Plain.{Words, change, Leaves}
 use Rattle.step_maker.proofs.Telling.{leaves, load_tells, moves_telling, told_there}
-use Rattle.answer_fits.specs.Twins.{Alike}
-use Rattle.answer_fits.proofs.Alikes.{same_alike}
+use Rattle.step_maker.specs.Twins.{Alike}
+use Rattle.step_maker.proofs.Alikes.{same_alike}
 use Rattle.frame_words.specs.Plain.{set_free, lowered, put}
 use Rattle.kind_words.specs.Kinds.{live_kind, work_kind}
 use Rattle.frame_types.specs.declared.standing.Standing.{Standing}

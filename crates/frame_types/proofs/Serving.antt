@@ -18,11 +18,11 @@ use Rattle.xp_board.specs.Told.{PortValue, is_telling, told_word}
 use Rattle.step_maker.specs.Moves.{Met, Moves}
 use Rattle.step_maker.specs.Plain.{Leaves, Words}
 use Rattle.step_maker.proofs.Telling.{leaves, load_tells, moves_telling, told_there}
-use Rattle.answer_fits.specs.Answers.{Deed, Serves}
-use Rattle.answer_fits.specs.Asked.{of_back, of_frame}
-use Rattle.answer_fits.proofs.Later.{IsUncounted}
-use Rattle.answer_fits.proofs.Piecing.{serves_back, serves_step}
-use Rattle.answer_fits.proofs.Keeping.{kept_type}
+use Rattle.step_maker.specs.Answers.{Deed, Serves}
+use Rattle.step_maker.specs.Asked.{of_back, of_frame}
+use Rattle.step_maker.proofs.Later.{IsUncounted}
+use Rattle.step_maker.proofs.Piecing.{serves_back, serves_step}
+use Rattle.step_maker.proofs.Keeping.{kept_type}
 use Rattle.frame_words.proofs.Taking.{names_itself}
 use Rattle.frame_words.proofs.Twinning.{low_rest}
 use Rattle.frame_words.specs.Plain.{put, stamp_now}

@@ -9,13 +9,13 @@ use Rattle.xp_board.specs.declared.step.StepKind.TheVariants as kinds
 use Rattle.xp_board.specs.Acts.{left_by}
 use Rattle.xp_board.specs.Steps.{is_same}
 use Rattle.xp_board.specs.Told.{PortValue, is_telling, told_word}
-use Rattle.board_lemmas.proofs.PlaceTests.{same_place}
+use Rattle.xp_board.proofs.PlaceTests.{same_place}
 use Rattle.step_maker.specs.Holds.{Holds}
 use Rattle.step_maker.specs.Moves.{Moves}
 use Rattle.step_maker.specs.Plain.{Words, change}
 use Rattle.step_maker.proofs.Telling.{by_test, leaves}
-use Rattle.answer_fits.specs.Twins.{Alike}
-use Rattle.answer_fits.proofs.Alikes.{same_alike}
+use Rattle.step_maker.specs.Twins.{Alike}
+use Rattle.step_maker.proofs.Alikes.{same_alike}
 use Rattle.kind_words.specs.Kinds.{left}
 use Rattle.frame_types.specs.Plain.{set_kind}
 

@@ -13,12 +13,12 @@ use Rattle.xp_board.specs.declared.step.Act.TheVariants.{Cas, Store}
 use Rattle.xp_board.specs.declared.step.StepKind.TheVariants as kinds
 use Rattle.xp_board.specs.KindSteps.{begun_kind, is_stale, raised_kind, resumed_kind}
 use Rattle.xp_board.specs.Told.{Post, PortValue}
-use Rattle.board_lemmas.proofs.KindForms.{fields_of}
+use Rattle.xp_board.proofs.KindForms.{fields_of}
 use Rattle.step_maker.specs.Moves.{Came, Moves}
 use Rattle.step_maker.proofs.Coming.{came_post, came_trans, moves_came}
-use Rattle.answer_fits.specs.Reasons.{OfOwner}
-use Rattle.answer_fits.specs.Visits.{Visit, visit, Does, Only, Then, Where}
-use Rattle.answer_fits.proofs.Visiting.{does_as, does_came, does_nothing, does_one, does_then}
+use Rattle.step_maker.specs.Reasons.{OfOwner}
+use Rattle.step_maker.specs.Visits.{Visit, visit, Does, Only, Then, Where}
+use Rattle.step_maker.proofs.Visiting.{does_as, does_came, does_nothing, does_one, does_then}
 use Rattle.flush_waits.specs.Listing.{WaitedFor}
 use Rattle.frame_words.specs.Freeing.{PutBy, Puts}
 use Rattle.kind_words.specs.Kinds.{live_kind, work_kind}

@@ -14,7 +14,7 @@ use Rattle.xp_board.specs.Told.{PortValue, is_telling, told_word}
 use Rattle.step_maker.specs.Holds.{Same}
 use Rattle.step_maker.specs.Moves.{Moves}
 use Rattle.step_maker.specs.Plain.{Leaves, Words}
-use Rattle.answer_fits.specs.Answers.{missed}
+use Rattle.step_maker.specs.Answers.{missed}
 use Rattle.flush_waits.specs.Waiting.{IsWait}
 use Rattle.frame_words.specs.Refs.{MayPut}
 use Rattle.kind_words.specs.Kinds.{partial_kind}

@@ -13,8 +13,8 @@ use Rattle.xp_board.specs.declared.step.Act.TheVariants.{Add, Cas, Load, Store}
 use Rattle.xp_board.specs.KindSteps.{raised_kind}
 use Rattle.xp_board.specs.RefSteps.{one_down}
 use Rattle.xp_board.specs.Told.{Post, PortValue}
-use Rattle.answer_fits.specs.Reasons.{OfOwner}
-use Rattle.answer_fits.specs.Visits.{Visit, visit, Does, Nothing, Only, Then, Where}
+use Rattle.step_maker.specs.Reasons.{OfOwner}
+use Rattle.step_maker.specs.Visits.{Visit, visit, Does, Nothing, Only, Then, Where}
 use Rattle.flush_waits.specs.Listing.{WaitedFor}
 use Rattle.frame_words.specs.Freeing.{PutBy}
 use Rattle.kind_words.specs.Kinds.{dead_kind, live_kind, partial_kind, work_kind}

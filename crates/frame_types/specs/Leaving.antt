@@ -6,8 +6,8 @@ use Rattle.xp_board.specs.declared.holdings.OwnerFound.TheVariants as owners
 use Rattle.xp_board.specs.Hands.{typed_owner, typed_to, without_ref}
 use Rattle.xp_board.specs.Told.{PortValue}
 use Rattle.step_maker.specs.Holds.{FlushedHolds}
-use Rattle.answer_fits.specs.Answers.{Deed, Serves}
-use Rattle.answer_fits.specs.Asked.{of_frame}
+use Rattle.step_maker.specs.Answers.{Deed, Serves}
+use Rattle.step_maker.specs.Asked.{of_frame}
 use Rattle.frame_words.specs.Freeing.{gave}
 use Rattle.frame_types.specs.Taking.{LentBy, WaitsWith, working_typed}
 

@@ -15,7 +15,7 @@ use Rattle.xp_board.specs.KindSteps.{begun_kind, resumed_kind, raised_kind, is_s
 use Rattle.xp_board.specs.RefSteps.{one_down}
 use Rattle.xp_board.specs.Told.{PortValue, is_telling, told_word}
 use Rattle.step_maker.specs.Plain.{Words, change, Leaves}
-use Rattle.answer_fits.specs.Twins.{Alike}
+use Rattle.step_maker.specs.Twins.{Alike}
 use Rattle.frame_words.specs.Plain.{put, stamp_now}
 use Rattle.kind_words.specs.Kinds.{live_kind, dead_kind, partial_kind, work_kind}
 use Rattle.frame_types.specs.Standing.{standing_of}

@@ -29,9 +29,9 @@ use Rattle.xp_words.specs.declared.place.Place.TheVariants.{Kind}
 use Rattle.xp_words.specs.declared.kind.KindWord.{KindWord}
 use Rattle.kind_words.specs.Kinds.{work_kind}
 use Rattle.xp_words.specs.declared.kind.PageType.TheVariants.{Writable}
-use Rattle.answer_fits.specs.Answers.{Deed, Serves, Stops, misses}
-use Rattle.answer_fits.specs.Reasons.{AwaitsStamp, OfOwner}
-use Rattle.answer_fits.specs.Asked.{of_frame}
+use Rattle.step_maker.specs.Answers.{Deed, Serves, Stops, misses}
+use Rattle.step_maker.specs.Reasons.{AwaitsStamp, OfOwner}
+use Rattle.step_maker.specs.Asked.{of_frame}
 use Rattle.flush_waits.specs.Waiting.{IsWait}
 use Rattle.frame_types.specs.Standing.{standing_of}
 use Rattle.frame_types.specs.declared.standing.Standing.TheVariants as stands

@@ -11,7 +11,7 @@ ghost use Rattle.step_maker.specs.Moves.{Came};
 ghost use Rattle.step_maker.specs.Plain.{Leaves};
 ghost use Rattle.frame_words.specs.Plain.{put, stamp_now};
 ghost use Rattle.kind_words.specs.Kinds.{dead_kind, partial_kind};
-ghost use Rattle.answer_fits.specs.Visits.{Does};
+ghost use Rattle.step_maker.specs.Visits.{Does};
 ghost use Rattle.frame_types.specs.Found.{DeadBy, SharedBy, StoresKind};
 ghost use Rattle.frame_types.specs.Leaving.{GivesBack, IsWaiting, KeepsType, ServesType};
 ghost use Rattle.frame_types.specs.Plain.{set_kind};

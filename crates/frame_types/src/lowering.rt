@@ -7,8 +7,8 @@ ghost use Rattle.xp_board.specs.Told.{is_telling, told_word};
 ghost use Rattle.xp_board.specs.declared.step.Act.TheVariants.{Add};
 ghost use Rattle.step_maker.specs.Holds.{MayWork};
 ghost use Rattle.step_maker.specs.Plain.{Leaves, change};
-ghost use Rattle.answer_fits.specs.Answers.{Serves};
-ghost use Rattle.answer_fits.specs.Asked.{of_back};
+ghost use Rattle.step_maker.specs.Answers.{Serves};
+ghost use Rattle.step_maker.specs.Asked.{of_back};
 ghost use Rattle.frame_types.specs.Lowering.{DropsType};
 
 use kind_words::{counts_one, lower_type};

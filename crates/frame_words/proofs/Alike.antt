@@ -16,14 +16,14 @@ use Rattle.xp_board.specs.Readings.{is_free, ref_count, owner_of}
 use Rattle.xp_board.specs.RefSteps.{one_down, owner_number}
 use Rattle.xp_board.specs.Steps.{is_same}
 use Rattle.xp_board.specs.Told.{PortValue, is_telling, told_word}
-use Rattle.board_lemmas.proofs.PlaceTests.{same_place}
-use Rattle.board_lemmas.proofs.RefForms.{counted_word}
-use Rattle.board_lemmas.proofs.Sums.{hands-part}
+use Rattle.xp_board.proofs.PlaceTests.{same_place}
+use Rattle.xp_board.proofs.RefForms.{counted_word}
+use Rattle.xp_board.proofs.Sums.{hands-part}
 use Rattle.step_maker.specs.Moves.{Moves}
 use Rattle.step_maker.specs.Plain.{Words, change}
 use Rattle.step_maker.proofs.Telling.{told_there}
-use Rattle.answer_fits.specs.Twins.{Alike, IsAlike, IsAlikeRef}
-use Rattle.answer_fits.proofs.Alikes.{alike_same}
+use Rattle.step_maker.specs.Twins.{Alike, IsAlike, IsAlikeRef}
+use Rattle.step_maker.proofs.Alikes.{alike_same}
 use Rattle.frame_words.specs.Plain.{set_free, lowered, put, stamp_now}
 use Rattle.frame_words.specs.Refs.{MayPut}
 use Rattle.frame_words.proofs.FreeSteps.{free_read}

@@ -20,9 +20,9 @@ use Rattle.xp_board.specs.Knowledge.{knows_live}
 use Rattle.xp_board.specs.Lists.{first_by, changed_by, some_of}
 use Rattle.xp_board.specs.Spelling.{IsSpelling}
 use Rattle.xp_board.specs.Told.{PortValue}
-use Rattle.board_lemmas.proofs.ListCounts.{times_by-cons_here}
-use Rattle.board_lemmas.proofs.Numbers.{cell_there}
-use Rattle.board_lemmas.proofs.Sums.{when_eq}
+use Rattle.xp_board.proofs.ListCounts.{times_by-cons_here}
+use Rattle.xp_board.proofs.Numbers.{cell_there}
+use Rattle.xp_board.proofs.Sums.{when_eq}
 use Rattle.step_maker.specs.Holds.{Holds, Same, MayWork, still}
 use Rattle.step_maker.specs.Moves.{May, Moves}
 use Rattle.frame_words.specs.Cells.{IsApart, MayStoreCell}

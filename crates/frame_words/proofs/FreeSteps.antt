@@ -18,9 +18,9 @@ use Rattle.xp_board.specs.Lists.{one_at, times, times_by, first_by, without_by, 
 use Rattle.xp_board.specs.RefSteps.{one_down, IsFreeStamp, credited, after_ref_store}
 use Rattle.xp_board.specs.Spelling.{IsSpelling}
 use Rattle.xp_board.specs.Told.{PortValue}
-use Rattle.board_lemmas.proofs.ListCounts.{first_by-cons_here, times_by-cons_here}
-use Rattle.board_lemmas.proofs.Sums.{when_eq}
-use Rattle.board_lemmas.proofs.Numbers.{refs_there}
+use Rattle.xp_board.proofs.ListCounts.{first_by-cons_here, times_by-cons_here}
+use Rattle.xp_board.proofs.Sums.{when_eq}
+use Rattle.xp_board.proofs.Numbers.{refs_there}
 use Rattle.step_maker.specs.Holds.{Holds, MayWork, still}
 use Rattle.step_maker.specs.Moves.{May, Moves}
 use Rattle.frame_words.specs.Freeing.{IsEnding, IsEndingSince, raised_bit, made_free, refunded}

@@ -13,8 +13,8 @@ use Rattle.xp_board.specs.declared.step.Act.TheVariants.{Load, Cas}
 use Rattle.xp_board.specs.declared.step.StepKind.TheVariants as kinds
 use Rattle.xp_board.specs.Told.{PortValue}
 use Rattle.step_maker.specs.Moves.{Moves}
-use Rattle.answer_fits.specs.Visits.{Visit, visit, Does, Only}
-use Rattle.answer_fits.proofs.Visiting.{does_as, does_nothing, does_one, does_then}
+use Rattle.step_maker.specs.Visits.{Visit, visit, Does, Only}
+use Rattle.step_maker.proofs.Visiting.{does_as, does_nothing, does_one, does_then}
 use Rattle.frame_words.specs.declared.rows.Open.{Open}
 use Rattle.frame_words.specs.Plain.{one_more, refer, refer_by}
 use Rattle.frame_words.specs.Refs.{open_word, raised_word, RefusesWord, Gets, GetsBy, Raises, raises_refs, saw_refs, TakesFirst, UnreferredBy, outside as unreal, refused, stopped, had}

@@ -19,22 +19,22 @@ use Rattle.xp_board.specs.Steps.{some_since}
 use Rattle.xp_board.specs.Spelling.{IsSpelling}
 use Rattle.xp_board.specs.Told.{PortValue}
 use Rattle.xp_board.specs.WellFormed.{WellFormed}
-use Rattle.board_lemmas.proofs.ListCounts.{first_by-none, times_by-cons_here}
+use Rattle.xp_board.proofs.ListCounts.{first_by-none, times_by-cons_here}
 use Rattle.xp_board.proofs.RefWords.{is_dying-read}
-use Rattle.board_lemmas.proofs.Sums.{when_eq}
-use Rattle.board_lemmas.proofs.Works.{is_dying-mine}
+use Rattle.xp_board.proofs.Sums.{when_eq}
+use Rattle.xp_board.proofs.Works.{is_dying-mine}
 use Rattle.step_maker.specs.Holds.{Holds, Same, still}
 use Rattle.step_maker.specs.Moves.{Moves, Came, Met}
 use Rattle.step_maker.proofs.Noting.{moves_since, moves_keeps}
 use Rattle.step_maker.proofs.Coming.{moves_came, came_trans}
-use Rattle.answer_fits.specs.Answers.{Serves, deeds_by}
-use Rattle.answer_fits.specs.Asked.{of_back, IsAsked}
-use Rattle.answer_fits.specs.Finding.{Finding, FoundAt}
-use Rattle.answer_fits.specs.Reasons as reasons
-use Rattle.answer_fits.specs.Visits.{Visit, visit, Only, Then}
-use Rattle.answer_fits.proofs.Piecing.{serves_step, moves_serves}
-use Rattle.answer_fits.proofs.Visiting.{does_as, does_one, does_then, then_none}
-use Rattle.answer_fits.proofs.Changing.{found_before, moves_found}
+use Rattle.step_maker.specs.Answers.{Serves, deeds_by}
+use Rattle.step_maker.specs.Asked.{of_back, IsAsked}
+use Rattle.step_maker.specs.Finding.{Finding, FoundAt}
+use Rattle.step_maker.specs.Reasons as reasons
+use Rattle.step_maker.specs.Visits.{Visit, visit, Only, Then}
+use Rattle.step_maker.proofs.Piecing.{serves_step, moves_serves}
+use Rattle.step_maker.proofs.Visiting.{does_as, does_one, does_then, then_none}
+use Rattle.step_maker.proofs.Changing.{found_before, moves_found}
 use Rattle.frame_words.specs.Freeing.{IsEnding, IsEndingSince, raised_bit, made_free, refunded, left_free, gave, Frees, FreesBy, PutBy, Puts, lowers_refs}
 use Rattle.frame_words.proofs.FreeSteps.{free_read}
 use Rattle.frame_words.proofs.Taking.{backs_itself}

@@ -12,8 +12,8 @@ use Rattle.xp_board.specs.Readings.{owner_of, owner_in}
 use Rattle.xp_board.specs.RefSteps.{Raise, one_down, after_ref_row, ref_row, owner_number}
 use Rattle.xp_board.specs.Told.{PortValue}
 use Rattle.xp_board.proofs.Rows.{raise_legal, map_legal}
-use Rattle.board_lemmas.proofs.Sums.{when_ne, if_itself}
-use Rattle.board_lemmas.proofs.Numbers.{refs_there}
+use Rattle.xp_board.proofs.Sums.{when_ne, if_itself}
+use Rattle.xp_board.proofs.Numbers.{refs_there}
 use Rattle.step_maker.specs.Holds.{Holds, Same, MayWork, still}
 use Rattle.step_maker.specs.Moves.{May, Moves, found_by}
 use Rattle.frame_words.specs.declared.rows.Open.{Open}

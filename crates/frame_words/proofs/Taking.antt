@@ -29,18 +29,18 @@ use Rattle.xp_board.specs.RefSteps.{is_closing_on}
 use Rattle.xp_board.specs.Sound.{WorkAgrees}
 use Rattle.xp_board.specs.Spelling.{IsSpelling}
 use Rattle.xp_board.specs.Told.{PortValue, Finds}
-use Rattle.board_lemmas.proofs.Sums.{one_at-same, when_eq, when_ne}
-use Rattle.board_lemmas.proofs.Numbers.{refs_there}
-use Rattle.board_lemmas.proofs.PlaceTests.{equal_by}
+use Rattle.xp_board.proofs.Sums.{one_at-same, when_eq, when_ne}
+use Rattle.xp_board.proofs.Numbers.{refs_there}
+use Rattle.xp_board.proofs.PlaceTests.{equal_by}
 use Rattle.step_maker.specs.Holds.{Holds, Same, still}
 use Rattle.step_maker.specs.Moves.{Moves, Met, step_at}
 use Rattle.step_maker.proofs.Coming.{moment_of, moves_met, moves_came, met_before, met_after}
-use Rattle.answer_fits.specs.Answers.{Serves, Stops, Deed, Returns, Misses, missed_at, deeds_by, exchanged, only_if}
-use Rattle.answer_fits.specs.Asked.{Request, of_frame, of_back, IsFor, IsAsked, of, back, named}
-use Rattle.answer_fits.specs.Finding.{Finding, FoundWith}
-use Rattle.answer_fits.specs.Reasons.{Reason, IsRefChange}
-use Rattle.answer_fits.proofs.Piecing.{serves_step, moves_serves, no_more}
-use Rattle.answer_fits.proofs.Changing.{moves_found}
+use Rattle.step_maker.specs.Answers.{Serves, Stops, Deed, Returns, Misses, missed_at, deeds_by, exchanged, only_if}
+use Rattle.step_maker.specs.Asked.{Request, of_frame, of_back, IsFor, IsAsked, of, back, named}
+use Rattle.step_maker.specs.Finding.{Finding, FoundWith}
+use Rattle.step_maker.specs.Reasons.{Reason, IsRefChange}
+use Rattle.step_maker.proofs.Piecing.{serves_step, moves_serves, no_more}
+use Rattle.step_maker.proofs.Changing.{moves_found}
 use Rattle.frame_words.specs.declared.rows.Open.{Open}
 use Rattle.frame_words.specs.Refs.{open_word, raised_word, IsOpen, took, MayPut, RefusesWord}
 

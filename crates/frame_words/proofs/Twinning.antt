@@ -16,11 +16,11 @@ use Rattle.xp_board.specs.Readings.{ref_count, owner_of}
 use Rattle.xp_board.specs.RefSteps.{one_down, owner_number}
 use Rattle.xp_board.specs.Steps.{is_same}
 use Rattle.xp_board.specs.Told.{PortValue, is_telling, told_word}
-use Rattle.board_lemmas.proofs.Sums.{when_eq, when_ne}
+use Rattle.xp_board.proofs.Sums.{when_eq, when_ne}
 use Rattle.step_maker.specs.Moves.{Moves}
 use Rattle.step_maker.specs.Plain.{Words, change, Leaves}
 use Rattle.step_maker.proofs.Telling.{moves_telling, told_there, leaves, leaves_then, load_tells}
-use Rattle.answer_fits.specs.Licences.{IsOwnedBy, IsFull}
+use Rattle.step_maker.specs.Licences.{IsOwnedBy, IsFull}
 use Rattle.frame_words.specs.declared.rows.Open.{Open}
 use Rattle.frame_words.specs.Freeing.{Frees}
 use Rattle.frame_words.specs.Plain.{refer_by, one_more, lowered, set_free, put, stamp_now, TwinGet}

@@ -18,7 +18,7 @@ use Rattle.xp_board.specs.declared.step.Act.TheVariants.{Load, Store, Add}
 use Rattle.xp_board.specs.declared.step.StepKind.TheVariants as kinds
 use Rattle.step_maker.specs.Holds.{Holds}
 use Rattle.step_maker.specs.Moves.{Moves}
-use Rattle.answer_fits.specs.Visits.{Visit, visit, Does, Nothing, Only, Then}
+use Rattle.step_maker.specs.Visits.{Visit, visit, Does, Nothing, Only, Then}
 
 -- the newest of the ending frames is f, of that owner; it is not claimed, and its bit in the map is not set
 pub record IsEnding (f owner : ℕ) (h : Holdings) : Type 0 where

@@ -12,7 +12,7 @@ use Rattle.xp_board.specs.declared.step.Act.TheVariants.{Store, Add}
 use Rattle.xp_board.specs.HintSteps.{map_bit}
 use Rattle.xp_board.specs.Readings.{ref_count, owner_of}
 use Rattle.xp_board.specs.RefSteps.{one_down, owner_number}
-use Rattle.answer_fits.specs.Twins.{Twin}
+use Rattle.step_maker.specs.Twins.{Twin}
 use Rattle.step_maker.specs.Plain.{Words, change}
 use Rattle.xp_board.specs.Told.{PortValue, told_word}
 

@@ -7,7 +7,7 @@ use Rattle.xp_words.specs.declared.reply.Pause.TheVariants.{Lost}
 use Rattle.xp_words.specs.declared.reply.Refusal.TheVariants.{WrongOwner, CountFull, NoFrame}
 use Rattle.xp_words.specs.declared.reply.Stop.{Stop}
 use Rattle.xp_words.specs.declared.reply.Stop.TheVariants.{Refused, Paused}
-use Rattle.answer_fits.specs.Licences.{IsOwnedBy, IsFull}
+use Rattle.step_maker.specs.Licences.{IsOwnedBy, IsFull}
 use Rattle.xp_words.specs.declared.refs.RefWord.TheVariants.{Owned}
 use Rattle.xp_board.specs.declared.holdings.Holdings.{Holdings}
 use Rattle.xp_board.specs.declared.holdings.OwnerFound.TheVariants as owners
@@ -17,7 +17,7 @@ use Rattle.xp_board.specs.Told.{PortValue}
 use Rattle.xp_board.specs.declared.step.Act.TheVariants.{Load, Cas}
 use Rattle.xp_words.specs.Places.{number, sizes_of}
 use Rattle.xp_words.specs.declared.place.Place.TheVariants.{Refs}
-use Rattle.answer_fits.specs.Visits.{Visit, visit, Does, Nothing, Only, Then}
+use Rattle.step_maker.specs.Visits.{Visit, visit, Does, Nothing, Only, Then}
 use Rattle.frame_words.specs.Plain.{one_more, refer}
 use Rattle.frame_words.specs.declared.rows.Open.{Open}
 

@@ -13,7 +13,7 @@ use Rattle.xp_board.specs.KindSteps.{Partial, as_typed, kept_owner, looking_at, 
 use Rattle.xp_board.specs.Lists.{kept_of}
 use Rattle.xp_board.specs.Readings.{domain_of, is_closing, is_partial}
 use Rattle.xp_board.specs.Told.{Post, PortValue}
-use Rattle.board_lemmas.proofs.Sums.{either, when_eq, when_lost, when_ne}
+use Rattle.xp_board.proofs.Sums.{either, when_eq, when_lost, when_ne}
 use Rattle.step_maker.specs.Holds.{Holds, MayWork, still}
 use Rattle.kind_words.specs.Kinds.{MayLeave, left, looked_at}
 use Rattle.kind_words.proofs.KindHands.{typed_held}

@@ -10,8 +10,8 @@ use Rattle.xp_board.specs.Readings.{domain_of, is_partial}
 use Rattle.xp_board.specs.Told.{Post, PortValue}
 use Rattle.step_maker.specs.Moves.{Came, Moves}
 use Rattle.step_maker.proofs.Coming.{came_post, came_trans, moves_came}
-use Rattle.answer_fits.specs.Answers.{Misses}
-use Rattle.answer_fits.proofs.Piecing.{serves_came}
+use Rattle.step_maker.specs.Answers.{Misses}
+use Rattle.step_maker.proofs.Piecing.{serves_came}
 use Rattle.kind_words.specs.Kinds.{MayLeave}
 use Rattle.table_words.specs.OldWords.{old_place}
 use Rattle.table_words.specs.declared.old_words.OldWord.TheVariants.{First}

@@ -12,16 +12,16 @@ use Rattle.xp_board.specs.KindSteps.{AllowsForm, MayMakePartial}
 use Rattle.xp_board.specs.Readings.{is_dead, is_partial}
 use Rattle.xp_board.specs.Sound.{is_busy}
 use Rattle.xp_board.specs.Told.{Post, PortValue}
-use Rattle.board_lemmas.proofs.Sums.{when_eq, when_ne}
-use Rattle.board_lemmas.proofs.WorkFacts.{works_facts}
+use Rattle.xp_board.proofs.Sums.{when_eq, when_ne}
+use Rattle.xp_board.proofs.WorkFacts.{works_facts}
 use Rattle.step_maker.specs.Moves.{Came, Met, Moves}
 use Rattle.step_maker.proofs.Coming.{came_post, met_before, moves_came}
-use Rattle.answer_fits.specs.Answers.{Deed, Misses, Serves, deeds_by, pin_deed}
-use Rattle.answer_fits.specs.Asked.{IsAsked, Request}
-use Rattle.answer_fits.specs.Reasons.{keeps_type}
-use Rattle.answer_fits.proofs.Growing.{asks}
-use Rattle.answer_fits.proofs.Piecing.{same_request, serves_came, serves_step}
-use Rattle.answer_fits.proofs.Keeping.{kept_type}
+use Rattle.step_maker.specs.Answers.{Deed, Misses, Serves, deeds_by, pin_deed}
+use Rattle.step_maker.specs.Asked.{IsAsked, Request}
+use Rattle.step_maker.specs.Reasons.{keeps_type}
+use Rattle.step_maker.proofs.Growing.{asks}
+use Rattle.step_maker.proofs.Piecing.{same_request, serves_came, serves_step}
+use Rattle.step_maker.proofs.Keeping.{kept_type}
 use Rattle.kind_words.specs.Kinds.{MayLeave}
 use Rattle.kind_words.proofs.KindFacts.{work_word}
 use Rattle.kind_words.proofs.KindWriting.{fields_write}

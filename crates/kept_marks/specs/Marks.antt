@@ -15,8 +15,8 @@ use Rattle.xp_board.specs.Readings.{domain_of}
 use Rattle.xp_board.specs.Told.{PortValue}
 use Rattle.step_maker.specs.Holds.{Holds}
 use Rattle.step_maker.specs.Moves.{Met, Moves}
-use Rattle.answer_fits.specs.Answers.{Deed, Misses, Serves}
-use Rattle.answer_fits.specs.Asked.{IsAsked, Request}
+use Rattle.step_maker.specs.Answers.{Deed, Misses, Serves}
+use Rattle.step_maker.specs.Asked.{IsAsked, Request}
 use Rattle.kind_words.specs.Kinds.{left, looked_at}
 use Rattle.table_words.specs.OldWords.{old_place}
 use Rattle.table_words.specs.declared.old_words.OldWord.TheVariants.{First}

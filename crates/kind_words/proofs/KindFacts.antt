@@ -22,16 +22,16 @@ use Rattle.xp_board.specs.Sound.{is_busy}
 use Rattle.xp_board.specs.Spelling.{IsSpelling, is_kind_in, is_ref_in}
 use Rattle.xp_board.specs.Told.{Finds}
 use Rattle.xp_board.proofs.RefWords.{owned_fits}
-use Rattle.board_lemmas.proofs.Counted.{typed_counted, entries-fewer, hand_is}
-use Rattle.board_lemmas.proofs.HeldByForm.{live_idle}
-use Rattle.board_lemmas.proofs.KindForms.{fields_of, live_unmarked, marked_unlive}
-use Rattle.board_lemmas.proofs.KindReadings.{live_count, partial_idle, dead_idle, stamp_of}
-use Rattle.board_lemmas.proofs.ListCounts.{first_by-none, times_by-without_one}
-use Rattle.board_lemmas.proofs.Sums.{hands-plus, hands-part}
-use Rattle.board_lemmas.proofs.WorkFacts.{Works, works_facts}
-use Rattle.board_lemmas.proofs.Works.{nobody_has, one_works}
-use Rattle.board_lemmas.proofs.Owners.{owner_is_real}
-use Rattle.board_lemmas.proofs.Numbers.{refs_there}
+use Rattle.xp_board.proofs.Counted.{typed_counted, entries-fewer, hand_is}
+use Rattle.xp_board.proofs.HeldByForm.{live_idle}
+use Rattle.xp_board.proofs.KindForms.{fields_of, live_unmarked, marked_unlive}
+use Rattle.xp_board.proofs.KindReadings.{live_count, partial_idle, dead_idle, stamp_of}
+use Rattle.xp_board.proofs.ListCounts.{first_by-none, times_by-without_one}
+use Rattle.xp_board.proofs.Sums.{hands-plus, hands-part}
+use Rattle.xp_board.proofs.WorkFacts.{Works, works_facts}
+use Rattle.xp_board.proofs.Works.{nobody_has, one_works}
+use Rattle.xp_board.proofs.Owners.{owner_is_real}
+use Rattle.xp_board.proofs.Numbers.{refs_there}
 use Rattle.kind_words.proofs.RowSteps.{kind_there}
 
 -- ---- a clock value has a place in a kind word

@@ -27,10 +27,10 @@ use Rattle.xp_board.specs.Readings.{is_dead, is_partial, is_work, is_closing}
 use Rattle.xp_board.specs.RefSteps.{SparesClosing, is_closing_on, one_down}
 use Rattle.xp_board.specs.Steps.{some_since}
 use Rattle.xp_board.specs.Told.{Post, PortValue}
-use Rattle.board_lemmas.proofs.KindForms.{fields_down}
-use Rattle.board_lemmas.proofs.KindReadings.{work_alone}
-use Rattle.board_lemmas.proofs.ListCounts.{first_by-cons_here, times_by-cons_here}
-use Rattle.board_lemmas.proofs.Sums.{when_eq}
+use Rattle.xp_board.proofs.KindForms.{fields_down}
+use Rattle.xp_board.proofs.KindReadings.{work_alone}
+use Rattle.xp_board.proofs.ListCounts.{first_by-cons_here, times_by-cons_here}
+use Rattle.xp_board.proofs.Sums.{when_eq}
 use Rattle.step_maker.specs.Moves.{Moves}
 use Rattle.step_maker.proofs.Noting.{moves_since}
 use Rattle.kind_words.specs.Kinds.{looked_at, resumed_work, IsWholeWork}

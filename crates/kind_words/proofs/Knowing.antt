@@ -16,8 +16,8 @@ use Rattle.xp_board.specs.Lists.{some_of}
 use Rattle.xp_board.specs.Readings.{is_live_as, is_partial_as}
 use Rattle.xp_board.specs.Steps.{last_since}
 use Rattle.xp_board.specs.Told.{PortValue}
-use Rattle.board_lemmas.proofs.MoreSteps.{last_since-here}
-use Rattle.board_lemmas.proofs.Sums.{when_eq}
+use Rattle.xp_board.proofs.MoreSteps.{last_since-here}
+use Rattle.xp_board.proofs.Sums.{when_eq}
 use Rattle.step_maker.specs.Moves.{Moves, step_at}
 use Rattle.step_maker.proofs.Noting.{made_now, moves_since, moves_steps}
 

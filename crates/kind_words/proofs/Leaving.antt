@@ -22,8 +22,8 @@ use Rattle.xp_board.specs.KindSteps.{Form, Live, Partial, InWork, Dead, form_of,
 use Rattle.xp_board.specs.Readings.{is_work, is_closing, domain_of}
 use Rattle.xp_board.specs.Steps.{some_since}
 use Rattle.xp_board.specs.Told.{PortValue}
-use Rattle.board_lemmas.proofs.KindReadings.{work_alone, closing_alone, work_unlive}
-use Rattle.board_lemmas.proofs.Sums.{when_eq, when_ne}
+use Rattle.xp_board.proofs.KindReadings.{work_alone, closing_alone, work_unlive}
+use Rattle.xp_board.proofs.Sums.{when_eq, when_ne}
 use Rattle.step_maker.specs.Holds.{MayWork}
 use Rattle.kind_words.specs.Kinds.{MayLeave, left, IsWholeWork, live_kind, partial_kind, unmarked_kind, dead_kind}
 use Rattle.kind_words.proofs.KindWriting.{fields_write, live_is, marked_is, partial_is, unmarked_is, dead_is, live_fits, unlive_fits}

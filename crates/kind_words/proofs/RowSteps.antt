@@ -19,7 +19,7 @@ use Rattle.xp_board.specs.Readings.{is_live, is_dead, is_partial}
 use Rattle.xp_board.specs.RefSteps.{one_down}
 use Rattle.xp_board.specs.Spelling.{IsSpelling, is_kind_in}
 use Rattle.xp_board.specs.Told.{PortValue}
-use Rattle.board_lemmas.proofs.Sums.{when_ne, if_itself}
+use Rattle.xp_board.proofs.Sums.{when_ne, if_itself}
 use Rattle.step_maker.specs.Holds.{Holds, MayWork, still}
 use Rattle.step_maker.specs.Moves.{May, Moves, found_by}
 use Rattle.kind_words.specs.Kinds.{looked_at, counted_type, begun_work, resumed_work, MayLeave}

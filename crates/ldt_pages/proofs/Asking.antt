@@ -17,10 +17,10 @@ use Rattle.xp_board.specs.Lists.{first_by, times_by}
 use Rattle.xp_board.specs.Told.{PortValue}
 use Rattle.step_maker.specs.Holds.{FlushedSame, Rests}
 use Rattle.step_maker.specs.Moves.{Moment}
-use Rattle.answer_fits.specs.Asked.{IsNaming, NoMore, Within, walked}
-use Rattle.answer_fits.specs.Finding.{Finding, FoundAt}
-use Rattle.answer_fits.proofs.Grown.{grown_by}
-use Rattle.answer_fits.proofs.Later.{IsUncounted}
+use Rattle.step_maker.specs.Asked.{IsNaming, NoMore, Within, walked}
+use Rattle.step_maker.specs.Finding.{Finding, FoundAt}
+use Rattle.step_maker.proofs.Grown.{grown_by}
+use Rattle.step_maker.proofs.Later.{IsUncounted}
 use Rattle.desc_pages.specs.Pages.{IsDescAside, IsDescStop, of_desc}
 use Rattle.tlb_walks.specs.Addresses.{walk_refusal}
 use Rattle.tlb_walks.specs.Asking.{IsWalkStop}

@@ -15,11 +15,11 @@ use Rattle.step_maker.specs.Holds.{FlushedSame, Rests, quiet}
 use Rattle.step_maker.specs.Moves.{Came, Met}
 use Rattle.step_maker.proofs.Coming.{came_post, came_trans, met_after}
 use Rattle.step_maker.proofs.Warming.{came_warm}
-use Rattle.answer_fits.specs.Answers.{Deed, Serves, SetsWord, misses}
-use Rattle.answer_fits.specs.Asked.{Request, Within}
-use Rattle.answer_fits.proofs.Changing.{found_after, found_before}
-use Rattle.answer_fits.proofs.Later.{stops_then}
-use Rattle.answer_fits.proofs.Piecing.{serves_inner, serves_then, stops_inner}
+use Rattle.step_maker.specs.Answers.{Deed, Serves, SetsWord, misses}
+use Rattle.step_maker.specs.Asked.{Request, Within}
+use Rattle.step_maker.proofs.Changing.{found_after, found_before}
+use Rattle.step_maker.proofs.Later.{stops_then}
+use Rattle.step_maker.proofs.Piecing.{serves_inner, serves_then, stops_inner}
 use Rattle.desc_pages.specs.Names.{HoldsForPage, PutsPage, own_domain}
 use Rattle.desc_pages.specs.Pages.{GetsDesc, of_desc}
 use Rattle.desc_pages.proofs.Setting.{still_rests}

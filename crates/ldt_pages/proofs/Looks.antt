@@ -7,7 +7,7 @@ use Rattle.xp_words.specs.declared.place.Place.TheVariants.{Vcpu}
 use Rattle.xp_board.specs.declared.holdings.Holdings.{Holdings}
 use Rattle.xp_board.specs.Spelling.{IsSpelling}
 use Rattle.xp_board.specs.Told.{Finds}
-use Rattle.board_lemmas.proofs.Numbers.{vcpu_there}
+use Rattle.xp_board.proofs.Numbers.{vcpu_there}
 
 -- each word that is found there says where an LDT is
 spelled_base : (n : Machine) (s w : ℕ) → IsSpelling n (Vcpu s 7) w → IsTrue (is_some (ldt_read w))

@@ -2,7 +2,7 @@
 use Rattle.std.proofs.Common.{◌≡◌, List, [], ◌∷◌, ◌++◌, refl, sym, ap, ◌∙◌, subst}
 use Rattle.xp_board.specs.Told.{PortValue}
 use Rattle.step_maker.specs.Moves.{Moment, Moves, Ran}
-use Rattle.answer_fits.specs.Visits.{Does, Nothing, Only, Then, Visit, visit_of, visits}
+use Rattle.step_maker.specs.Visits.{Does, Nothing, Only, Then, Visit, visit_of, visits}
 
 -- where the list of all steps is of two parts, there is a port between them
 pub record Cut (v w : PortValue) (before after : List Visit) : Type 0 where

@@ -10,10 +10,10 @@ use Rattle.xp_board.specs.Told.{Post, PortValue}
 use Rattle.step_maker.specs.Holds.{Rests, Same, quiet}
 use Rattle.step_maker.specs.Moves.{Came, Met, Moves}
 use Rattle.step_maker.proofs.Coming.{came_trans, moves_came}
-use Rattle.answer_fits.specs.Answers.{Serves, Stops}
-use Rattle.answer_fits.specs.Finding.{FoundAt}
-use Rattle.answer_fits.proofs.Changing.{found_before, moves_found}
-use Rattle.answer_fits.proofs.Piecing.{moves_serves, serves_step}
+use Rattle.step_maker.specs.Answers.{Serves, Stops}
+use Rattle.step_maker.specs.Finding.{FoundAt}
+use Rattle.step_maker.proofs.Changing.{found_before, moves_found}
+use Rattle.step_maker.proofs.Piecing.{moves_serves, serves_step}
 use Rattle.desc_pages.specs.Names.{own_domain}
 use Rattle.desc_pages.proofs.Setting.{still_rests}
 use Rattle.ldt_pages.specs.Touching as touching

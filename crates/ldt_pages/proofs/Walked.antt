@@ -13,9 +13,9 @@ use Rattle.xp_board.specs.declared.step.StepKind.TheVariants as kinds
 use Rattle.xp_board.specs.Told.{Post, PortValue}
 use Rattle.step_maker.specs.Moves.{Moment, Moves, Ran}
 use Rattle.step_maker.proofs.Coming.{came_post}
-use Rattle.answer_fits.specs.Licences.{is_unmapped}
-use Rattle.answer_fits.specs.Visits.{Does, Only, Visit, Where, visits}
-use Rattle.answer_fits.proofs.Visiting.{does_came}
+use Rattle.step_maker.specs.Licences.{is_unmapped}
+use Rattle.step_maker.specs.Visits.{Does, Only, Visit, Where, visits}
+use Rattle.step_maker.proofs.Visiting.{does_came}
 use Rattle.tlb_walks.specs.Addresses.{index_of}
 use Rattle.tlb_walks.specs.Flying as flying
 use Rattle.tlb_walks.specs.Flying.{EntryMoves, PathMoves, WalkMoves}

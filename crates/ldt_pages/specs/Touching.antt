@@ -14,9 +14,9 @@ use Rattle.xp_board.specs.declared.step.StepKind.TheVariants as kinds
 use Rattle.xp_board.specs.Told.{PortValue}
 use Rattle.step_maker.specs.Holds.{FlushedSame, Rests, Same}
 use Rattle.step_maker.specs.Moves.{Met, Moves}
-use Rattle.answer_fits.specs.Answers.{Deed, Serves, SetsWord, Stops, missed}
-use Rattle.answer_fits.specs.Asked.{Request, of_table}
-use Rattle.answer_fits.specs.Finding.{FoundAt}
+use Rattle.step_maker.specs.Answers.{Deed, Serves, SetsWord, Stops, missed}
+use Rattle.step_maker.specs.Asked.{Request, of_table}
+use Rattle.step_maker.specs.Finding.{FoundAt}
 use Rattle.desc_pages.specs.Names.{NamesPage, own_domain}
 use Rattle.desc_pages.specs.Pages.{GotDesc, IsDescStop}
 use Rattle.tlb_walks.specs.Addresses.{walk_refusal}

@@ -13,13 +13,13 @@ use Rattle.xp_board.specs.Readings.{domain_of}
 use Rattle.xp_board.specs.Told.{Post, PortValue}
 use Rattle.xp_board.specs.declared.step.Act.TheVariants.{Load}
 use Rattle.xp_board.specs.declared.step.StepKind.TheVariants as kinds
-use Rattle.board_lemmas.proofs.KindForms.{fields_of}
+use Rattle.xp_board.proofs.KindForms.{fields_of}
 use Rattle.step_maker.specs.Moves.{Came, Met}
 use Rattle.step_maker.proofs.Coming.{came_self, met_after, moment_of, moves_met}
-use Rattle.answer_fits.specs.Answers.{Serves, Stops, misses}
-use Rattle.answer_fits.specs.Asked.{IsAsked, Within}
-use Rattle.answer_fits.proofs.Later.{IsUncounted, stops_later}
-use Rattle.answer_fits.proofs.Piecing.{serves_inner}
+use Rattle.step_maker.specs.Answers.{Serves, Stops, misses}
+use Rattle.step_maker.specs.Asked.{IsAsked, Within}
+use Rattle.step_maker.proofs.Later.{IsUncounted, stops_later}
+use Rattle.step_maker.proofs.Piecing.{serves_inner}
 use Rattle.table_words.specs.declared.old_words.OldWord.{OldWord}
 use Rattle.level_release.specs.Asking.{IsReleaseEnd, is_due_answer, of_release, of_settle}
 use Rattle.table_courses.specs.Acquiring.{Named}

@@ -2,9 +2,9 @@
 use Rattle.std.proofs.Common.{ℕ, Bool, true, IsTrue, refl, rules}
 use Rattle.xp_words.specs.Machine.{Machine}
 use Rattle.step_maker.specs.Moves.{Moment}
-use Rattle.answer_fits.specs.Asked.{Implies, IsAsked, Request, Within}
-use Rattle.answer_fits.specs.Finding.{Finding}
-use Rattle.answer_fits.proofs.Grown.{grown_by, implied, risen}
+use Rattle.step_maker.specs.Asked.{Implies, IsAsked, Request, Within}
+use Rattle.step_maker.specs.Finding.{Finding}
+use Rattle.step_maker.proofs.Grown.{grown_by, implied, risen}
 use Rattle.table_entries.specs.Asking.{of_entries}
 
 -- the frames that the own old words name, and what recorded entries hold

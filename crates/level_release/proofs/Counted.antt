@@ -16,10 +16,10 @@ use Rattle.xp_board.specs.declared.holdings.Ending.{Ending}
 use Rattle.xp_board.specs.declared.holdings.Holdings.{Holdings}
 use Rattle.xp_board.specs.declared.holdings.Lock.{Lock}
 use Rattle.xp_board.specs.declared.holdings.Work.{Work}
-use Rattle.board_lemmas.proofs.Counted.{typed_hand_is}
-use Rattle.board_lemmas.proofs.KindReadings.{dead_count}
-use Rattle.board_lemmas.proofs.Sums.{hands-part}
-use Rattle.answer_fits.specs.Pauses.{IsElsewhere}
+use Rattle.xp_board.proofs.Counted.{typed_hand_is}
+use Rattle.xp_board.proofs.KindReadings.{dead_count}
+use Rattle.xp_board.proofs.Sums.{hands-part}
+use Rattle.step_maker.specs.Pauses.{IsElsewhere}
 use Rattle.table_entries.proofs.LastEntry.{partial_count}
 
 -- ---- counts

@@ -17,16 +17,16 @@ use Rattle.xp_board.specs.Told.{Post, PortValue}
 use Rattle.xp_board.specs.declared.holdings.Work.{Work}
 use Rattle.xp_board.specs.declared.step.Act.TheVariants.{Cas, Load, Store}
 use Rattle.xp_board.specs.declared.step.StepKind.TheVariants as kinds
-use Rattle.board_lemmas.proofs.KindForms.{fields_of}
-use Rattle.board_lemmas.proofs.Sums.{when_eq, when_ne}
+use Rattle.xp_board.proofs.KindForms.{fields_of}
+use Rattle.xp_board.proofs.Sums.{when_eq, when_ne}
 use Rattle.step_maker.specs.Moves.{Came, Met, Moves}
 use Rattle.step_maker.proofs.Coming.{came_post, came_trans, met_after, met_before, moment_of, moves_came, moves_met}
 use Rattle.flush_words.proofs.Lasting.{last_left}
-use Rattle.answer_fits.specs.Answers.{Misses, Serves, Stops, deeds_by, exchanged, missed, missed_at, pin_deed}
-use Rattle.answer_fits.specs.Asked.{IsAsked, of_back}
-use Rattle.answer_fits.specs.Reasons.{MayType}
-use Rattle.answer_fits.proofs.Piecing.{serves_back, serves_came, serves_step}
-use Rattle.answer_fits.proofs.Keeping.{kept_type}
+use Rattle.step_maker.specs.Answers.{Misses, Serves, Stops, deeds_by, exchanged, missed, missed_at, pin_deed}
+use Rattle.step_maker.specs.Asked.{IsAsked, of_back}
+use Rattle.step_maker.specs.Reasons.{MayType}
+use Rattle.step_maker.proofs.Piecing.{serves_back, serves_came, serves_step}
+use Rattle.step_maker.proofs.Keeping.{kept_type}
 use Rattle.frame_types.proofs.Serving.{work_alive}
 use Rattle.kind_words.proofs.KindFacts.{read_is, work_word}
 use Rattle.kind_words.proofs.KindWriting.{fields_write, resumed_is}

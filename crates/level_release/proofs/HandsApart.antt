@@ -18,14 +18,14 @@ use Rattle.xp_board.specs.declared.holdings.Claimed.{Claimed}
 use Rattle.xp_board.specs.declared.holdings.Holdings.{Holdings}
 use Rattle.xp_board.specs.declared.holdings.Lock.{Lock}
 use Rattle.xp_board.specs.declared.holdings.Work.{Work}
-use Rattle.board_lemmas.proofs.Counted.{in_hand_counted, type_below}
-use Rattle.board_lemmas.proofs.KindForms.{spelled_form}
-use Rattle.board_lemmas.proofs.KindReadings.{busy_forms, work_count}
-use Rattle.board_lemmas.proofs.ListCounts.{first_by-cons_here, first_by-none, times_by-cons, times_by-cons_here}
-use Rattle.board_lemmas.proofs.WorkFacts.{Works, work_word, works_facts}
-use Rattle.board_lemmas.proofs.Works.{counted_alive, nobody_locks, one_works}
+use Rattle.xp_board.proofs.Counted.{in_hand_counted, type_below}
+use Rattle.xp_board.proofs.KindForms.{spelled_form}
+use Rattle.xp_board.proofs.KindReadings.{busy_forms, work_count}
+use Rattle.xp_board.proofs.ListCounts.{first_by-cons_here, first_by-none, times_by-cons, times_by-cons_here}
+use Rattle.xp_board.proofs.WorkFacts.{Works, work_word, works_facts}
+use Rattle.xp_board.proofs.Works.{counted_alive, nobody_locks, one_works}
 use Rattle.step_maker.specs.Moves.{Moment, MovesBy, Ran}
-use Rattle.answer_fits.specs.Visits.{Does, Visit, visits}
+use Rattle.step_maker.specs.Visits.{Does, Visit, visits}
 use Rattle.frame_words.proofs.CellSteps.{learned_apart}
 use Rattle.partial_state.specs.declared.stack.TableWork.{TableWork}
 use Rattle.level_release.specs.Holding.{AreInRelease}

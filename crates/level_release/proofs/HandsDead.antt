@@ -15,8 +15,8 @@ use Rattle.xp_board.specs.declared.holdings.TypedReference.{TypedReference}
 use Rattle.xp_board.specs.declared.holdings.Work.{Work}
 use Rattle.xp_board.specs.declared.step.Act.TheVariants.{Load, Store}
 use Rattle.xp_board.specs.declared.step.StepKind.TheVariants as kinds
-use Rattle.board_lemmas.proofs.KindReadings.{closing_alone}
-use Rattle.board_lemmas.proofs.ListCounts.{newest_held}
+use Rattle.xp_board.proofs.KindReadings.{closing_alone}
+use Rattle.xp_board.proofs.ListCounts.{newest_held}
 use Rattle.step_maker.proofs.Coming.{came_trans, moves_came}
 use Rattle.step_maker.specs.Holds.{Holds, Same, still}
 use Rattle.step_maker.specs.Moves.{Came, Moves}

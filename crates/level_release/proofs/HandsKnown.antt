@@ -8,7 +8,7 @@ use Rattle.xp_board.specs.declared.holdings.Reference.{Reference}
 use Rattle.xp_board.specs.declared.holdings.TypedReference.{TypedReference}
 use Rattle.xp_board.specs.Knowledge.{knows_owner, tells_owner}
 use Rattle.xp_board.specs.Lists.{some_of}
-use Rattle.board_lemmas.proofs.Sums.{when_ne}
+use Rattle.xp_board.proofs.Sums.{when_ne}
 use Rattle.flush_waits.proofs.Growing.{Grows, knows_later}
 use Rattle.partial_state.specs.declared.stack.TableWork.{TableWork}
 use Rattle.level_release.specs.Holding.{AreOwned}

@@ -18,8 +18,8 @@ use Rattle.xp_board.specs.declared.holdings.TypedReference.{TypedReference}
 use Rattle.xp_board.specs.declared.holdings.Work.{Work}
 use Rattle.xp_board.specs.declared.step.Act.TheVariants.{Store}
 use Rattle.xp_board.specs.declared.step.StepKind.TheVariants as kinds
-use Rattle.board_lemmas.proofs.KindReadings.{work_alone}
-use Rattle.board_lemmas.proofs.ListCounts.{first_by-cons_here}
+use Rattle.xp_board.proofs.KindReadings.{work_alone}
+use Rattle.xp_board.proofs.ListCounts.{first_by-cons_here}
 use Rattle.step_maker.specs.Holds.{Holds, still}
 use Rattle.step_maker.specs.Moves.{Moves}
 use Rattle.flush_waits.proofs.Growing.{Grows}

@@ -12,10 +12,10 @@ use Rattle.xp_board.specs.Readings.{is_type}
 use Rattle.xp_board.specs.Told.{PortValue}
 use Rattle.xp_board.specs.declared.holdings.Holdings.{Holdings}
 use Rattle.xp_board.specs.declared.holdings.Work.{Work}
-use Rattle.board_lemmas.proofs.ListCounts.{first_by-cons_here, first_by-cons_other}
+use Rattle.xp_board.proofs.ListCounts.{first_by-cons_here, first_by-cons_other}
 use Rattle.step_maker.specs.Moves.{Came}
-use Rattle.answer_fits.proofs.Visiting.{does_came}
-use Rattle.answer_fits.specs.Visits.{Then, Visit}
+use Rattle.step_maker.proofs.Visiting.{does_came}
+use Rattle.step_maker.specs.Visits.{Then, Visit}
 use Rattle.frame_types.specs.Taking.{IsOfOther}
 use Rattle.partial_state.proofs.LevelFacts.{level_type-above}
 use Rattle.partial_state.specs.Levels.{level_type}

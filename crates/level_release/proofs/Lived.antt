@@ -10,7 +10,7 @@ use Rattle.xp_board.specs.Told.{Post, PortValue}
 use Rattle.xp_board.specs.declared.step.Act.TheVariants.{Load}
 use Rattle.xp_board.specs.declared.step.StepKind.TheVariants as kinds
 use Rattle.xp_board.proofs.Returned.{same_type}
-use Rattle.board_lemmas.proofs.KindForms.{fields_of}
+use Rattle.xp_board.proofs.KindForms.{fields_of}
 use Rattle.kind_words.proofs.Knowing.{live_by_step}
 use Rattle.table_words.specs.declared.old_words.OldWord.{OldWord}
 use Rattle.level_release.specs.Holding.{HoldsLive}

@@ -8,14 +8,14 @@ use Rattle.xp_board.specs.Told.{Post, PortValue}
 use Rattle.xp_board.specs.declared.holdings.Holdings.{Holdings}
 use Rattle.xp_board.specs.declared.step.Act.TheVariants.{Load, Store}
 use Rattle.xp_board.specs.declared.step.StepKind.TheVariants as kinds
-use Rattle.board_lemmas.proofs.Sums.{when_eq}
+use Rattle.xp_board.proofs.Sums.{when_eq}
 use Rattle.step_maker.specs.Moves.{Came, Met, Moves}
 use Rattle.step_maker.proofs.Coming.{came_post, came_trans, moves_came}
-use Rattle.answer_fits.specs.Answers.{Deed, Serves, stored}
-use Rattle.answer_fits.specs.Asked.{Asked, IsAsked, IsFor, Passed, Request, of, of_old, old}
-use Rattle.answer_fits.specs.Finding.{FoundAt}
-use Rattle.answer_fits.proofs.Changing.{found_after, found_before, moves_found}
-use Rattle.answer_fits.proofs.Piecing.{moves_serves, serves_step}
+use Rattle.step_maker.specs.Answers.{Deed, Serves, stored}
+use Rattle.step_maker.specs.Asked.{Asked, IsAsked, IsFor, Passed, Request, of, of_old, old}
+use Rattle.step_maker.specs.Finding.{FoundAt}
+use Rattle.step_maker.proofs.Changing.{found_after, found_before, moves_found}
+use Rattle.step_maker.proofs.Piecing.{moves_serves, serves_step}
 use Rattle.table_words.specs.OldWords.{old_number, old_place}
 use Rattle.table_words.specs.declared.old_words.OldWord.{OldWord}
 use Rattle.table_words.specs.declared.old_words.OldWord.TheVariants.{First, Second}

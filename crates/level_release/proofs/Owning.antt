@@ -20,8 +20,8 @@ use Rattle.xp_board.specs.declared.holdings.Reference.{Reference}
 use Rattle.xp_board.specs.declared.holdings.TypedReference.{TypedReference}
 use Rattle.xp_board.specs.declared.step.Act.TheVariants.{Load}
 use Rattle.xp_board.specs.declared.step.StepKind.TheVariants as kinds
-use Rattle.board_lemmas.proofs.Counted.{hand_is, typed_hand_is}
-use Rattle.board_lemmas.proofs.Sums.{hands-part, when_eq}
+use Rattle.xp_board.proofs.Counted.{hand_is, typed_hand_is}
+use Rattle.xp_board.proofs.Sums.{hands-part, when_eq}
 use Rattle.step_maker.specs.Moves.{Moves}
 use Rattle.step_maker.proofs.Noting.{moves_since}
 use Rattle.level_release.specs.Holding.{IsMadeSince}

@@ -5,13 +5,13 @@ use Rattle.xp_words.specs.declared.reply.Stop.{Stop}
 use Rattle.xp_board.specs.Told.{Post, PortValue}
 use Rattle.xp_board.specs.declared.step.Act.TheVariants.{Load}
 use Rattle.xp_board.specs.declared.step.StepKind.TheVariants as kinds
-use Rattle.board_lemmas.proofs.Sums.{when_eq}
+use Rattle.xp_board.proofs.Sums.{when_eq}
 use Rattle.step_maker.specs.Moves.{Met, Moves}
 use Rattle.step_maker.proofs.Coming.{came_post}
-use Rattle.answer_fits.specs.Answers.{Deed, Serves, Stops, misses}
-use Rattle.answer_fits.specs.Asked.{IsAsked, Request, back, of_back}
-use Rattle.answer_fits.specs.Finding.{Finding}
-use Rattle.answer_fits.proofs.Piecing.{serves_back, serves_came, serves_step, serves_within, within_back}
+use Rattle.step_maker.specs.Answers.{Deed, Serves, Stops, misses}
+use Rattle.step_maker.specs.Asked.{IsAsked, Request, back, of_back}
+use Rattle.step_maker.specs.Finding.{Finding}
+use Rattle.step_maker.proofs.Piecing.{serves_back, serves_came, serves_step, serves_within, within_back}
 use Rattle.table_entries.specs.Asking.{of_entries}
 use Rattle.partial_state.specs.declared.stack.TableWork.{TableWork}
 use Rattle.level_release.specs.Asking.{Continues, IsReleasePiece, StopsRelease, is_due_answer, is_due_stop}

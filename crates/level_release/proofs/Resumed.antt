@@ -21,9 +21,9 @@ use Rattle.xp_board.specs.declared.holdings.TypedReference.{TypedReference}
 use Rattle.xp_board.specs.declared.holdings.Work.{Work}
 use Rattle.xp_board.specs.declared.step.Act.TheVariants.{Cas, Load}
 use Rattle.xp_board.specs.declared.step.StepKind.TheVariants as kinds
-use Rattle.board_lemmas.proofs.KindForms.{PartialForm, fields_of, partial_form}
-use Rattle.board_lemmas.proofs.KindReadings.{partial_parts, resumed_in_work}
-use Rattle.board_lemmas.proofs.ListCounts.{newest_held}
+use Rattle.xp_board.proofs.KindForms.{PartialForm, fields_of, partial_form}
+use Rattle.xp_board.proofs.KindReadings.{partial_parts, resumed_in_work}
+use Rattle.xp_board.proofs.ListCounts.{newest_held}
 use Rattle.step_maker.specs.Holds.{Holds, MayWork, Same, still}
 use Rattle.step_maker.specs.Moves.{Came, Moves}
 use Rattle.flush_words.proofs.Lasting.{moves_longer}

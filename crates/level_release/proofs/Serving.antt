@@ -8,11 +8,11 @@ use Rattle.xp_board.specs.declared.step.StepKind.TheVariants as kinds
 use Rattle.xp_board.specs.Told.{Post, PortValue}
 use Rattle.step_maker.specs.Moves.{Came, Met, Moment, Moves}
 use Rattle.step_maker.proofs.Coming.{came_post, met_before, moves_came}
-use Rattle.answer_fits.specs.Answers.{Deed, Serves}
-use Rattle.answer_fits.specs.Asked.{IsAsked, Request, of_back}
-use Rattle.answer_fits.specs.Finding.{Finding}
-use Rattle.answer_fits.proofs.Growing.{asks}
-use Rattle.answer_fits.proofs.Piecing.{same_request, serves_back, serves_came, serves_step}
+use Rattle.step_maker.specs.Answers.{Deed, Serves}
+use Rattle.step_maker.specs.Asked.{IsAsked, Request, of_back}
+use Rattle.step_maker.specs.Finding.{Finding}
+use Rattle.step_maker.proofs.Growing.{asks}
+use Rattle.step_maker.proofs.Piecing.{same_request, serves_back, serves_came, serves_step}
 use Rattle.table_words.specs.OldWords.{old_place}
 use Rattle.table_words.specs.declared.old_words.OldWord.TheVariants.{First}
 use Rattle.partial_state.specs.declared.stack.TableWork.{TableWork}

@@ -8,10 +8,10 @@ use Rattle.xp_words.specs.declared.reply.Stop.TheVariants.{Paused}
 use Rattle.xp_board.specs.Told.{Post, PortValue}
 use Rattle.step_maker.specs.Moves.{Met}
 use Rattle.step_maker.proofs.Coming.{came_post, met_after}
-use Rattle.answer_fits.specs.Answers.{Deed, Serves, Stops, missed, misses}
-use Rattle.answer_fits.specs.Asked.{Asked, IsAsked, Request, Within, of}
-use Rattle.answer_fits.proofs.Later.{IsUncounted, stops_later}
-use Rattle.answer_fits.proofs.Piecing.{serves_came, serves_inner}
+use Rattle.step_maker.specs.Answers.{Deed, Serves, Stops, missed, misses}
+use Rattle.step_maker.specs.Asked.{Asked, IsAsked, Request, Within, of}
+use Rattle.step_maker.proofs.Later.{IsUncounted, stops_later}
+use Rattle.step_maker.proofs.Piecing.{serves_came, serves_inner}
 use Rattle.table_entries.specs.Asking.{AsksBelow, of_entries}
 use Rattle.table_entries.proofs.PiecesWithin.{within_entries}
 use Rattle.table_releases.specs.Tops.{IsReleaseStop}

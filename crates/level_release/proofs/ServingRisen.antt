@@ -6,10 +6,10 @@ use Rattle.xp_words.specs.declared.reply.Stop.TheVariants.{Paused}
 use Rattle.xp_board.specs.Told.{Post, PortValue}
 use Rattle.step_maker.specs.Moves.{Came, Met}
 use Rattle.step_maker.proofs.Coming.{came_post}
-use Rattle.answer_fits.specs.Answers.{Deed, Stops, missed}
-use Rattle.answer_fits.specs.Pauses.{Progress}
-use Rattle.answer_fits.proofs.Piecing.{serves_came, stops_before}
-use Rattle.answer_fits.proofs.Progressing.{progress_after}
+use Rattle.step_maker.specs.Answers.{Deed, Stops, missed}
+use Rattle.step_maker.specs.Pauses.{Progress}
+use Rattle.step_maker.proofs.Piecing.{serves_came, stops_before}
+use Rattle.step_maker.proofs.Progressing.{progress_after}
 use Rattle.partial_state.specs.declared.stack.TableWork.{TableWork}
 use Rattle.level_release.specs.Asking.{Continues, IsReleasePiece, StopsRelease}
 

@@ -7,9 +7,9 @@ use Rattle.xp_words.specs.declared.reply.Stop.TheVariants.{Paused}
 use Rattle.xp_board.specs.Told.{PortValue}
 use Rattle.step_maker.specs.Moves.{Came, Met}
 use Rattle.step_maker.proofs.Coming.{came_self, came_trans}
-use Rattle.answer_fits.specs.Answers.{missed}
-use Rattle.answer_fits.specs.Pauses.{Progress}
-use Rattle.answer_fits.proofs.Progressing.{progress_after, progress_before}
+use Rattle.step_maker.specs.Answers.{missed}
+use Rattle.step_maker.specs.Pauses.{Progress}
+use Rattle.step_maker.proofs.Progressing.{progress_after, progress_before}
 use Rattle.partial_state.specs.declared.stack.TableWork.{TableWork}
 use Rattle.level_release.specs.Asking.{Continues, StopsRelease}
 use Rattle.level_release.specs.Course.{is_asked_within}

@@ -14,11 +14,11 @@ use Rattle.xp_board.specs.Told.{PortValue}
 use Rattle.step_maker.specs.Holds.{Same}
 use Rattle.step_maker.specs.Moves.{Moves}
 use Rattle.step_maker.proofs.Coming.{moves_came}
-use Rattle.answer_fits.specs.Answers.{Deed, Serves}
-use Rattle.answer_fits.specs.Asked.{Request, of_back}
-use Rattle.answer_fits.specs.Reasons.{keeps_type}
-use Rattle.answer_fits.proofs.Piecing.{serves_step}
-use Rattle.answer_fits.proofs.Keeping.{kept_type}
+use Rattle.step_maker.specs.Answers.{Deed, Serves}
+use Rattle.step_maker.specs.Asked.{Request, of_back}
+use Rattle.step_maker.specs.Reasons.{keeps_type}
+use Rattle.step_maker.proofs.Piecing.{serves_step}
+use Rattle.step_maker.proofs.Keeping.{kept_type}
 use Rattle.frame_types.proofs.Serving.{work_alive}
 use Rattle.kind_words.specs.Kinds.{dead_kind, partial_kind}
 use Rattle.kind_words.proofs.KindFacts.{clock_is_small, work_word}

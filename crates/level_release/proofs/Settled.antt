@@ -4,9 +4,9 @@ use Rattle.xp_words.specs.declared.reply.Stop.{Stop}
 use Rattle.xp_board.specs.Told.{Post, PortValue}
 use Rattle.step_maker.specs.Moves.{Came, Met}
 use Rattle.step_maker.proofs.Coming.{came_post}
-use Rattle.answer_fits.specs.Answers.{Serves, Stops, misses}
-use Rattle.answer_fits.proofs.Later.{stops_then}
-use Rattle.answer_fits.proofs.Piecing.{serves_came, serves_then, serves_within}
+use Rattle.step_maker.specs.Answers.{Serves, Stops, misses}
+use Rattle.step_maker.proofs.Later.{stops_then}
+use Rattle.step_maker.proofs.Piecing.{serves_came, serves_then, serves_within}
 use Rattle.table_words.specs.declared.old_words.OldWord.TheVariants.{First}
 use Rattle.level_release.specs.Asking.{IsReleaseEnd, is_due_answer, of_settle}
 use Rattle.level_release.specs.Course.{By, SettledOneTo, SettledTo, first}

@@ -13,11 +13,11 @@ use Rattle.xp_board.specs.Readings.{is_partial}
 use Rattle.xp_board.specs.Told.{Post, PortValue}
 use Rattle.xp_board.specs.declared.step.Act.TheVariants.{Cas, Load, Store}
 use Rattle.xp_board.specs.declared.step.StepKind.TheVariants as kinds
-use Rattle.board_lemmas.proofs.KindForms.{fields_of}
+use Rattle.xp_board.proofs.KindForms.{fields_of}
 use Rattle.step_maker.specs.Moves.{Moves}
 use Rattle.step_maker.proofs.Coming.{came_post, moves_came}
-use Rattle.answer_fits.specs.Visits.{Does, Only, Then, visit}
-use Rattle.answer_fits.proofs.Visiting.{does_as, does_one, does_then}
+use Rattle.step_maker.specs.Visits.{Does, Only, Then, visit}
+use Rattle.step_maker.proofs.Visiting.{does_as, does_one, does_then}
 use Rattle.frame_words.specs.Freeing.{PutBy, Puts}
 use Rattle.kind_words.specs.Kinds.{dead_kind}
 use Rattle.kind_words.proofs.KindFacts.{read_is}

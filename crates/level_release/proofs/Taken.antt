@@ -19,7 +19,7 @@ use Rattle.kind_words.proofs.Leaving.{without_newest}
 use Rattle.table_words.specs.OldWords.{kept_in_old, known_old, learned_old, old_place, taken_from_old}
 use Rattle.table_words.specs.declared.old_words.OldWord.{OldWord}
 use Rattle.table_words.specs.declared.old_words.OldWord.TheVariants.{First, Second}
-use Rattle.answer_fits.specs.Pauses.{IsElsewhere}
+use Rattle.step_maker.specs.Pauses.{IsElsewhere}
 use Rattle.level_release.specs.Holding.{LeavesUnheld}
 use Rattle.level_release.specs.Settling.{SettledWord, TookOld}
 use Rattle.level_release.proofs.Counted.{elsewhere}

@@ -6,9 +6,9 @@ use Rattle.xp_words.specs.declared.reply.Stop.{Stop}
 use Rattle.xp_words.specs.declared.reply.Stop.TheVariants.{Paused}
 use Rattle.xp_board.specs.Told.{PortValue}
 use Rattle.step_maker.specs.Moves.{Met}
-use Rattle.answer_fits.specs.Answers.{Deed, Serves, Stops}
-use Rattle.answer_fits.specs.Asked.{IsAsked, Request}
-use Rattle.answer_fits.specs.Finding.{Finding}
+use Rattle.step_maker.specs.Answers.{Deed, Serves, Stops}
+use Rattle.step_maker.specs.Asked.{IsAsked, Request}
+use Rattle.step_maker.specs.Finding.{Finding}
 use Rattle.partial_state.specs.declared.stack.TableWork.{TableWork}
 use Rattle.table_entries.specs.Asking.{of_entries}
 pub use Rattle.table_courses.specs.Ending.{is_due_answer, is_due_stop}

@@ -6,8 +6,8 @@ use Rattle.xp_words.specs.declared.reply.Stop.{Stop}
 use Rattle.xp_words.specs.declared.reply.Stop.TheVariants.{Paused}
 use Rattle.xp_board.specs.Told.{PortValue}
 use Rattle.step_maker.specs.Moves.{Came, Met}
-use Rattle.answer_fits.specs.Answers.{Serves, Stops, misses}
-use Rattle.answer_fits.specs.Pauses.{Progress}
+use Rattle.step_maker.specs.Answers.{Serves, Stops, misses}
+use Rattle.step_maker.specs.Pauses.{Progress}
 use Rattle.partial_state.specs.declared.stack.TableWork.{TableWork}
 use Rattle.level_release.specs.Asking.{Continues, StopsRelease, of_release}
 use Rattle.level_release.specs.Course.{Lowered, ReleasesWithinBy}

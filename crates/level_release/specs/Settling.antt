@@ -7,7 +7,7 @@ use Rattle.xp_board.specs.declared.step.StepKind.TheVariants as kinds
 use Rattle.xp_board.specs.Told.{PortValue}
 use Rattle.step_maker.specs.Holds.{Holds, Rests, Same}
 use Rattle.step_maker.specs.Moves.{Moves}
-use Rattle.answer_fits.specs.Answers.{Serves, Stops, misses}
+use Rattle.step_maker.specs.Answers.{Serves, Stops, misses}
 use Rattle.table_words.specs.OldWords.{known_old, learned_old, old_place, taken_from_old}
 use Rattle.table_words.specs.declared.old_words.OldWord.{OldWord}
 use Rattle.table_words.specs.declared.old_words.OldWord.TheVariants.{First, Second}

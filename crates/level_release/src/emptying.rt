@@ -2,7 +2,7 @@
 ghost use Rattle.std.specs.Prelude.{◌≡◌, ◌≢◌, ◌<◌, ◌≤◌, ◌∷◌, ℕ, [], Some, true, false, List, length, IfOk, IfErr};
 ghost use Rattle.step_maker.specs.Holds.{MayWork};
 ghost use Rattle.step_maker.specs.Moves.{Came};
-ghost use Rattle.answer_fits.specs.Answers.{misses};
+ghost use Rattle.step_maker.specs.Answers.{misses};
 ghost use Rattle.partial_state.specs.Weights.{weight};
 ghost use Rattle.partial_state.specs.declared.stack.TableWork.{TableWork};
 ghost use Rattle.table_words.specs.OldWords.{known_old};

@@ -3,7 +3,7 @@ ghost use Rattle.std.specs.Prelude.{◌≡◌, ◌+◌, ◌<◌, ℕ, Some, true
 ghost use Rattle.xp_words.specs.declared.reply.Pause.TheVariants.{Due};
 ghost use Rattle.xp_words.specs.declared.reply.Stop.TheVariants.{Paused};
 ghost use Rattle.step_maker.specs.Holds.{MayWork};
-ghost use Rattle.answer_fits.specs.Answers.{Serves, Stops, misses};
+ghost use Rattle.step_maker.specs.Answers.{Serves, Stops, misses};
 ghost use Rattle.table_words.specs.OldWords.{known_old};
 ghost use Rattle.table_words.specs.declared.old_words.OldWord.TheVariants.{First};
 ghost use Rattle.level_release.specs.Asking.{is_due_answer, of_release};

@@ -4,7 +4,7 @@ ghost use Rattle.xp_words.specs.KindWords.{kind_read};
 ghost use Rattle.xp_board.specs.Readings.{is_partial};
 ghost use Rattle.xp_board.specs.Told.{PortValue};
 ghost use Rattle.step_maker.specs.Holds.{MayWork, Rests};
-ghost use Rattle.answer_fits.specs.Answers.{Serves, Stops, misses};
+ghost use Rattle.step_maker.specs.Answers.{Serves, Stops, misses};
 ghost use Rattle.table_releases.specs.Found.{has_recorded};
 ghost use Rattle.table_words.specs.OldWords.{known_old};
 ghost use Rattle.table_words.specs.declared.old_words.OldWord.{OldWord};

@@ -31,8 +31,8 @@ use Rattle.level_validate.specs.Unwinding.{Unwinds, UnwoundHand, named_unless, o
 use Rattle.level_validate.proofs.Opening.{taken_open, wait_stops}
 use Rattle.level_validate.proofs.Pushing.{ready_by}
 use Rattle.step_maker.specs.Plain.{Leaves}
-use Rattle.answer_fits.specs.Answers.{Stops, Deed, Misses, Serves, missed, misses}
-use Rattle.answer_fits.specs.Asked.{of_frame, Asked, IsFor, Request, named, of, of_back, of_table}
+use Rattle.step_maker.specs.Answers.{Stops, Deed, Misses, Serves, missed, misses}
+use Rattle.step_maker.specs.Asked.{of_frame, Asked, IsFor, Request, named, of, of_back, of_table}
 use Rattle.frame_words.specs.Plain.{TwinGet, put}
 use Rattle.frame_types.specs.declared.taking.Taken.{Taken}
 use Rattle.table_entries.proofs.PiecesTaking.{ref_kinds, type_kinds, wait_kinds}
@@ -42,12 +42,12 @@ use Rattle.level_validate.specs.Courses.{Consults, ValidatesBy}
 use Rattle.level_validate.proofs.Filling.{entry_undue}
 use Rattle.std.proofs.lemmas.Bool.Decides.{nat_tests}
 use Rattle.xp_words.specs.declared.place.Place.TheVariants.{Kind}
-use Rattle.board_lemmas.proofs.Sums.{when_eq}
+use Rattle.xp_board.proofs.Sums.{when_eq}
 use Rattle.step_maker.specs.Moves.{Came, Met}
 use Rattle.step_maker.proofs.Coming.{came_post, met_after}
-use Rattle.answer_fits.specs.Finding.{Finding}
-use Rattle.answer_fits.proofs.Later.{stops_later}
-use Rattle.answer_fits.proofs.Piecing.{serves_back, serves_call, serves_came, serves_within, stops_before, stops_within, within_frame}
+use Rattle.step_maker.specs.Finding.{Finding}
+use Rattle.step_maker.proofs.Later.{stops_later}
+use Rattle.step_maker.proofs.Piecing.{serves_back, serves_call, serves_came, serves_within, stops_before, stops_within, within_frame}
 use Rattle.flush_waits.specs.Waiting.{IsWait}
 use Rattle.frame_types.proofs.Serving.{type_uncounted}
 use Rattle.kept_marks.specs.Marks.{IsForeign}

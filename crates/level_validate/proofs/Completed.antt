@@ -9,7 +9,7 @@ use Rattle.xp_board.specs.declared.holdings.TypedReference.{TypedReference}
 use Rattle.xp_board.specs.Hands.{refs_to, without_ref, without_typed, without_work, lock_on, work_on, works_on}
 use Rattle.xp_board.specs.KindSteps.{live_typed}
 use Rattle.xp_board.specs.Told.{PortValue, Post}
-use Rattle.board_lemmas.proofs.ListCounts.{newest_held, first_by-cons_here, first_by-cons_other, times_by-cons_here}
+use Rattle.xp_board.proofs.ListCounts.{newest_held, first_by-cons_here, first_by-cons_other, times_by-cons_here}
 use Rattle.step_maker.specs.Holds.{FlushedHolds, Holds, MayWork, quiet}
 use Rattle.kind_words.specs.Kinds.{IsWholeWork, MayLeave, left, live_kind}
 use Rattle.kind_words.proofs.Leaving.{left_live, left_shared, may_leave_live, may_leave_shared, without_newest}
@@ -51,10 +51,10 @@ use Rattle.level_validate.specs.Giving.{MayGiveBack}
 use Rattle.level_validate.proofs.Pushing.{ready_by}
 use Rattle.level_validate.proofs.Entered.{shared_by}
 use Rattle.xp_board.specs.declared.step.Mark.TheVariants.{Record}
-use Rattle.board_lemmas.proofs.Works.{one_works}
-use Rattle.answer_fits.specs.Asked.{IsDemandOf}
-use Rattle.answer_fits.specs.Pauses.{Progress, entry, settles as settling}
-use Rattle.answer_fits.proofs.Progressing.{held_by}
+use Rattle.xp_board.proofs.Works.{one_works}
+use Rattle.step_maker.specs.Asked.{IsDemandOf}
+use Rattle.step_maker.specs.Pauses.{Progress, entry, settles as settling}
+use Rattle.step_maker.proofs.Progressing.{held_by}
 use Rattle.xp_words.specs.declared.kind.PageType.TheVariants as pages
 use Rattle.xp_board.specs.declared.holdings.OwnerFound.TheVariants as owners
 use Rattle.xp_board.specs.declared.step.StepKind.TheVariants as kinds

@@ -17,11 +17,11 @@ use Rattle.xp_board.specs.Readings.{kind_at, type_count}
 use Rattle.xp_board.specs.Recorded.{entry_demand, held, named_typed, names_typed}
 use Rattle.xp_board.specs.Sound.{Sound}
 use Rattle.xp_board.specs.Told.{PortValue, Post}
-use Rattle.board_lemmas.proofs.Counted.{entries-part, held_inside, names_typed-typed, typed_hand_is}
-use Rattle.board_lemmas.proofs.KindReadings.{live_count}
-use Rattle.board_lemmas.proofs.ListCounts.{newest_held}
-use Rattle.board_lemmas.proofs.Sums.{hands-part}
-use Rattle.board_lemmas.proofs.WorkFacts.{loaded_asks, work_held, works_facts}
+use Rattle.xp_board.proofs.Counted.{entries-part, held_inside, names_typed-typed, typed_hand_is}
+use Rattle.xp_board.proofs.KindReadings.{live_count}
+use Rattle.xp_board.proofs.ListCounts.{newest_held}
+use Rattle.xp_board.proofs.Sums.{hands-part}
+use Rattle.xp_board.proofs.WorkFacts.{loaded_asks, work_held, works_facts}
 use Rattle.step_maker.specs.Holds.{Holds, still, FlushedHolds, quiet}
 use Rattle.frame_words.specs.Freeing.{gave}
 use Rattle.frame_words.specs.Refs.{MayPut}
@@ -48,7 +48,7 @@ use Rattle.level_validate.proofs.Opening.{FirstFound, CameOpen}
 use Rattle.level_validate.proofs.Pushing.{e, es, looked_hand, looked_only, looked_stands, next, pushed, pushed_lent, pushed_own, reach_again, reach_next, ready_by, recorded_hand, recorded_stands, seen, seen_recorded, seen_table, seen_word}
 use Rattle.table_words.proofs.Shedding.{none_unsettled}
 use Rattle.xp_words.specs.declared.reply.Stop.{Stop}
-use Rattle.answer_fits.specs.Answers.{Stops}
+use Rattle.step_maker.specs.Answers.{Stops}
 use Rattle.partial_state.specs.Stacks.{advanced, left_on_top, IsStack}
 use Rattle.table_entries.specs.Asking.{ShowsEntered, of_entries}
 use Rattle.table_entries.specs.Found.{EntersFound}

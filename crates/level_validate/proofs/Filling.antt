@@ -6,13 +6,13 @@ use Rattle.xp_words.specs.declared.reply.Pause.TheVariants.{Due, Busy, Flush, Lo
 use Rattle.xp_words.specs.declared.reply.Stop.TheVariants.{Paused, Refused}
 use Rattle.xp_board.specs.Told.{PortValue}
 use Rattle.step_maker.specs.Moves.{Came, Met}
-use Rattle.answer_fits.specs.Answers.{Stops, misses}
-use Rattle.answer_fits.specs.Pauses.{Progress}
-use Rattle.answer_fits.proofs.Piecing.{serves_came, stops_before}
+use Rattle.step_maker.specs.Answers.{Stops, misses}
+use Rattle.step_maker.specs.Pauses.{Progress}
+use Rattle.step_maker.proofs.Piecing.{serves_came, stops_before}
 use Rattle.partial_state.specs.declared.stack.TableWork.{TableWork}
 use Rattle.level_validate.specs.Acquiring.{StopsRisen, is_due_answer, is_due_stop, outermost_work}
 use Rattle.level_validate.specs.Serving.{StopsIn, CarriesOn}
-use Rattle.answer_fits.proofs.Progressing.{progress_after}
+use Rattle.step_maker.proofs.Progressing.{progress_after}
 use Rattle.xp_preempt.specs.Gates.{answer_at, ends_yes, next_ask}
 use Rattle.xp_preempt.proofs.Consulting.{consulted_ask, consulted_none, consulted_then}
 use Rattle.level_validate.specs.Courses.{Consults, asked_once, GoesOnFilling, ValidatesBy}

@@ -34,7 +34,7 @@ use Rattle.xp_words.specs.declared.place.Place.TheVariants.{Kind}
 use Rattle.xp_board.specs.declared.holdings.Made.{Made}
 use Rattle.xp_board.specs.declared.holdings.Reference.{Reference}
 use Rattle.xp_board.specs.declared.step.Act.TheVariants.{Store}
-use Rattle.board_lemmas.proofs.ListCounts.{newest_held}
+use Rattle.xp_board.proofs.ListCounts.{newest_held}
 use Rattle.frame_words.specs.Freeing.{gave}
 use Rattle.frame_words.specs.Refs.{MayPut}
 use Rattle.kind_words.specs.Kinds.{partial_kind}
@@ -49,7 +49,7 @@ use Rattle.kind_words.proofs.KindWriting.{partial_as}
 use Rattle.kind_words.proofs.Knowing.{partial_by_step}
 use Rattle.xp_words.specs.declared.kind.KindWord.{KindWord}
 use Rattle.xp_words.specs.declared.kind.PageType.{PageType}
-use Rattle.answer_fits.specs.Visits.{Does}
+use Rattle.step_maker.specs.Visits.{Does}
 use Rattle.kept_marks.specs.Marks.{KeptFor}
 use Rattle.frame_types.specs.Found.{SharedBy, StoresKind}
 use Rattle.table_courses.specs.Acquiring.{GaveRef, InnerLeft, LeftPartial, Named, OutermostLeft, Unwound, WaitingLeft, around_left}

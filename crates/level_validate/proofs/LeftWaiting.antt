@@ -16,7 +16,7 @@ use Rattle.xp_board.specs.Readings.{domain_of}
 use Rattle.xp_board.specs.Told.{Post, PortValue}
 use Rattle.step_maker.specs.Holds.{FlushedHolds, Holds, MayWork, quiet}
 use Rattle.frame_words.specs.Freeing.{gave}
-use Rattle.board_lemmas.proofs.KindReadings.{work_alone}
+use Rattle.xp_board.proofs.KindReadings.{work_alone}
 use Rattle.kept_marks.specs.Marks.{IsForeign, IsKeptOf, LeavesKept, left_kept}
 use Rattle.kind_words.specs.Kinds.{MayLeave, partial_kind}
 use Rattle.kind_words.proofs.Leaving.{without_newest}

@@ -3,8 +3,8 @@ use Rattle.std.proofs.Common.{◌≡◌, ℕ, ◌-◌, ◌<◌, Bool, true, fals
 use Rattle.xp_words.specs.declared.kind.PageType.{PageType}
 use Rattle.xp_words.specs.declared.reply.Stop.{Stop}
 use Rattle.xp_board.specs.Told.{PortValue, Post}
-use Rattle.answer_fits.specs.Answers.{Stops, Serves, missed}
-use Rattle.answer_fits.specs.Visits.{Does}
+use Rattle.step_maker.specs.Answers.{Stops, Serves, missed}
+use Rattle.step_maker.specs.Visits.{Does}
 use Rattle.frame_types.specs.Found.{SharedBy}
 use Rattle.partial_state.specs.Levels.{level_type}
 use Rattle.partial_state.specs.declared.stack.TableWork.{TableWork}
@@ -15,15 +15,15 @@ use Rattle.table_entries.specs.declared.resuming.Resumed.{Resumed}
 use Rattle.table_courses.specs.Acquiring.{GaveBack, LeftWaiting, ResumedEntry, TookEntry, TookOn, table_opened}
 use Rattle.step_maker.specs.Moves.{Came, Met}
 use Rattle.step_maker.proofs.Coming.{came_trans, came_post}
-use Rattle.answer_fits.proofs.Piecing.{serves_came}
+use Rattle.step_maker.proofs.Piecing.{serves_came}
 use Rattle.table_entries.specs.Tops.{LeavesEntered, LeavesResumed, WorksAtTop}
 use Rattle.level_validate.specs.Tables.{Carries, IsStanding, IsTopReady, StandsOn}
 use Rattle.level_validate.proofs.Entered.{after_look, after_settled, back_one, taken_gives, taken_ready, taken_stands, after_again, after_next, entered_ok}
 use Rattle.level_validate.proofs.Opening.{FirstFound, entered_first, resumed_first, taken_found, left_waiting, wait_stops, waited_found, waits_there, again_found, opened_found}
 use Rattle.step_maker.specs.Holds.{Holds, MayWork}
-use Rattle.answer_fits.specs.Asked.{of_back}
-use Rattle.answer_fits.specs.Pauses.{Progress}
-use Rattle.answer_fits.proofs.Progressing.{progress_before}
+use Rattle.step_maker.specs.Asked.{of_back}
+use Rattle.step_maker.specs.Pauses.{Progress}
+use Rattle.step_maker.proofs.Progressing.{progress_before}
 use Rattle.frame_types.specs.Taking.{gave_type}
 use Rattle.level_validate.specs.Giving.{MayGiveBack}
 use Rattle.level_validate.specs.Serving.{CarriesOn, StopsIn}

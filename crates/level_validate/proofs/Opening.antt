@@ -15,12 +15,12 @@ use Rattle.xp_board.specs.Hands.{changed_claim, changed_lock, changed_work, clai
 use Rattle.xp_board.specs.Lists.{first_by, EachOf}
 use Rattle.xp_board.specs.Readings.{is_locked, is_work, kind_at, ref_count, type_count}
 use Rattle.xp_board.specs.Told.{Finds, Post, PortValue}
-use Rattle.board_lemmas.proofs.Counted.{type_below}
-use Rattle.board_lemmas.proofs.KindReadings.{work_count, work_unlive}
-use Rattle.board_lemmas.proofs.ListCounts.{first_by-none}
-use Rattle.board_lemmas.proofs.Sums.{when_eq}
-use Rattle.board_lemmas.proofs.WorkFacts.{Works, works_facts}
-use Rattle.board_lemmas.proofs.Works.{counted_alive, nobody_locks}
+use Rattle.xp_board.proofs.Counted.{type_below}
+use Rattle.xp_board.proofs.KindReadings.{work_count, work_unlive}
+use Rattle.xp_board.proofs.ListCounts.{first_by-none}
+use Rattle.xp_board.proofs.Sums.{when_eq}
+use Rattle.xp_board.proofs.WorkFacts.{Works, works_facts}
+use Rattle.xp_board.proofs.Works.{counted_alive, nobody_locks}
 use Rattle.step_maker.specs.Moves.{Came, Met, Moment, MovesBy, Ran}
 use Rattle.step_maker.proofs.Coming.{came_post, came_self, came_trans}
 use Rattle.frame_words.proofs.CellSteps.{learned_apart}
@@ -28,8 +28,8 @@ use Rattle.table_courses.proofs.Listing.{each_next, first_is}
 use Rattle.level_validate.specs.Tables.{IsLastWord}
 use Rattle.xp_words.specs.declared.kind.PageType.{PageType}
 use Rattle.xp_words.specs.declared.reply.Stop.{Stop}
-use Rattle.answer_fits.specs.Finding.{FoundAt}
-use Rattle.answer_fits.specs.Visits.{Visit, Does, visits}
+use Rattle.step_maker.specs.Finding.{FoundAt}
+use Rattle.step_maker.specs.Visits.{Visit, Does, visits}
 use Rattle.table_entries.specs.Found.{EnteredBy, EntersFound, ResumedBy, ResumesFound, saw_cell, LastBy, EntersBy, ResumesBy, TypedAgain, TypedBy, other, outside, settled}
 use Rattle.table_entries.specs.declared.entries.Entered.{Entered}
 use Rattle.table_entries.specs.declared.resuming.Resumed.{Resumed}
@@ -37,7 +37,7 @@ use Rattle.std.proofs.lemmas.Bool.Decides.{nat_tests}
 use Rattle.xp_words.specs.Entries.{below, demand_at}
 use Rattle.xp_words.specs.declared.entry.Demand.{Demand}
 use Rattle.xp_words.specs.declared.kind.KindWord.{KindWord}
-use Rattle.board_lemmas.proofs.KindForms.{form_read, frame_inside, partial_form}
+use Rattle.xp_board.proofs.KindForms.{form_read, frame_inside, partial_form}
 use Rattle.kind_words.proofs.KindFacts.{kind_found}
 use Rattle.frame_types.specs.Found.{TakesFound, TakesOf, TypeBy, saw_kind}
 use Rattle.frame_types.specs.Plain.{IsTakenBy, is_read_first}

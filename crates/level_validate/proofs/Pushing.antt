@@ -13,7 +13,7 @@ use Rattle.xp_board.specs.Hands.{typed_to}
 use Rattle.xp_board.specs.Readings.{is_work}
 use Rattle.xp_board.specs.Settling.{is_settled, settles_last}
 use Rattle.xp_board.specs.Told.{Post, PortValue}
-use Rattle.board_lemmas.proofs.Learned.{learned_frame}
+use Rattle.xp_board.proofs.Learned.{learned_frame}
 use Rattle.step_maker.specs.Holds.{FlushedHolds, quiet}
 use Rattle.step_maker.specs.Moves.{Came}
 use Rattle.flush_words.proofs.Lasting.{came_longer}

@@ -10,12 +10,12 @@ use Rattle.xp_board.specs.Readings.{domain_of}
 use Rattle.xp_board.specs.Told.{Post, PortValue}
 use Rattle.step_maker.specs.Moves.{Came, Met, Moment, Moves}
 use Rattle.step_maker.proofs.Coming.{came_post, met_before, moves_came, met_after}
-use Rattle.answer_fits.specs.Answers.{Deed, Misses, Serves, Stops, missed, misses}
-use Rattle.answer_fits.specs.Asked.{Asked, IsAsked, Request, of, of_back, of_frame, NoMore, Within}
-use Rattle.answer_fits.specs.Finding.{Finding}
-use Rattle.answer_fits.specs.Reasons.{keeps_type}
-use Rattle.answer_fits.proofs.Piecing.{same_request, serves_back, serves_call, serves_came, serves_step, serves_inner, serves_nothing, stops_before, stops_inner}
-use Rattle.answer_fits.proofs.Keeping.{kept_type}
+use Rattle.step_maker.specs.Answers.{Deed, Misses, Serves, Stops, missed, misses}
+use Rattle.step_maker.specs.Asked.{Asked, IsAsked, Request, of, of_back, of_frame, NoMore, Within}
+use Rattle.step_maker.specs.Finding.{Finding}
+use Rattle.step_maker.specs.Reasons.{keeps_type}
+use Rattle.step_maker.proofs.Piecing.{same_request, serves_back, serves_call, serves_came, serves_step, serves_inner, serves_nothing, stops_before, stops_inner}
+use Rattle.step_maker.proofs.Keeping.{kept_type}
 use Rattle.frame_types.specs.Leaving.{ServesType}
 use Rattle.table_entries.proofs.PiecesTaking.{left_serves}
 use Rattle.frame_types.proofs.Serving.{work_alive}
@@ -40,7 +40,7 @@ use Rattle.xp_board.specs.declared.holdings.Reference.{Reference}
 use Rattle.xp_board.specs.declared.holdings.Work.{Work}
 use Rattle.xp_board.specs.Hands.{refs_to, work_on}
 use Rattle.xp_board.specs.Lists.{first_by}
-use Rattle.board_lemmas.proofs.ListCounts.{times_by-cons_other}
+use Rattle.xp_board.proofs.ListCounts.{times_by-cons_other}
 use Rattle.flush_waits.specs.Waiting.{IsWait}
 use Rattle.table_entries.specs.Asking.{AsksBelow, of_entries}
 use Rattle.table_entries.proofs.PiecesWithin.{within_entries}

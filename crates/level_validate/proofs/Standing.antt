@@ -11,7 +11,7 @@ use Rattle.xp_board.specs.declared.holdings.Work.{Work}
 use Rattle.xp_board.specs.Hands.{owner_by, owner_from, ref_owner, ref_to, refs_to, typed_to, typed_owner, without_typed, without_work, work_on}
 use Rattle.xp_board.specs.Settling.{is_settled, settles_last}
 use Rattle.xp_board.specs.Told.{Post, PortValue}
-use Rattle.board_lemmas.proofs.ListCounts.{first_by-cons_here, newest_held, first_by-cons_other, times_by-cons_other}
+use Rattle.xp_board.proofs.ListCounts.{first_by-cons_here, newest_held, first_by-cons_other, times_by-cons_other}
 use Rattle.step_maker.specs.Holds.{FlushedHolds, MayWork, quiet}
 use Rattle.flush_waits.specs.Waiting.{IsKnownOwner}
 use Rattle.flush_waits.proofs.Growing.{Grows}
@@ -31,7 +31,7 @@ use Rattle.xp_words.specs.declared.kind.KindWord.{KindWord}
 use Rattle.xp_words.specs.declared.kind.PageType.TheVariants.{Desc}
 use Rattle.xp_board.specs.KindSteps.{MayKeep, kept_owner}
 use Rattle.xp_board.specs.Readings.{domain_of, is_type}
-use Rattle.board_lemmas.proofs.KindReadings.{work_alone}
+use Rattle.xp_board.proofs.KindReadings.{work_alone}
 use Rattle.kind_words.specs.Kinds.{MayLeave, left, partial_kind}
 use Rattle.kind_words.proofs.Leaving.{left_partial, may_keep, may_leave_partial, without_newest}
 use Rattle.kept_marks.specs.Marks.{IsKeptOf, left_kept}

@@ -10,8 +10,8 @@ use Rattle.xp_board.specs.declared.holdings.OwnerFound.TheVariants as owners
 use Rattle.xp_board.specs.KindSteps.{live_typed}
 use Rattle.xp_board.specs.Told.{PortValue}
 use Rattle.step_maker.specs.Holds.{FlushedHolds, FlushedSame, Holds}
-use Rattle.answer_fits.specs.Answers.{Deed, Misses, Serves, Stops, misses}
-use Rattle.answer_fits.specs.Asked.{Request, of_table}
+use Rattle.step_maker.specs.Answers.{Deed, Misses, Serves, Stops, misses}
+use Rattle.step_maker.specs.Asked.{Request, of_table}
 use Rattle.frame_types.specs.Plain.{is_refused}
 use Rattle.frame_types.specs.Taking.{WaitsWith}
 use Rattle.frame_words.specs.Refs.{took}

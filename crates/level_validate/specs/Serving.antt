@@ -5,9 +5,9 @@ use Rattle.xp_words.specs.declared.place.Place.TheVariants.{Kind}
 use Rattle.xp_words.specs.declared.reply.Stop.{Stop}
 use Rattle.xp_board.specs.Told.{PortValue}
 use Rattle.step_maker.specs.Moves.{Met}
-use Rattle.answer_fits.specs.Answers.{Deed, Misses, Serves, Stops}
-use Rattle.answer_fits.specs.Asked.{Asked, Request}
-use Rattle.answer_fits.specs.Finding.{Finding}
+use Rattle.step_maker.specs.Answers.{Deed, Misses, Serves, Stops}
+use Rattle.step_maker.specs.Asked.{Asked, Request}
+use Rattle.step_maker.specs.Finding.{Finding}
 use Rattle.kept_marks.specs.Marks.{IsForeign}
 use Rattle.partial_state.specs.Levels.{level_type}
 use Rattle.partial_state.specs.declared.stack.TableWork.{TableWork}

@@ -2,8 +2,8 @@
 ghost use Rattle.std.specs.Prelude.{◌≡◌, ◌+◌, ◌<◌, ◌≤◌, ◌∷◌, ℕ, [], Some, Bool, true, false, not, ◌&&◌, if◌then◌else◌, length, IfOk, IfErr};
 ghost use Rattle.step_maker.specs.Holds.{MayWork};
 ghost use Rattle.step_maker.specs.Moves.{Came, Met};
-ghost use Rattle.answer_fits.specs.Answers.{Stops, misses};
-ghost use Rattle.answer_fits.specs.Pauses.{Progress};
+ghost use Rattle.step_maker.specs.Answers.{Stops, misses};
+ghost use Rattle.step_maker.specs.Pauses.{Progress};
 ghost use Rattle.frame_types.specs.Plain.{is_refused};
 ghost use Rattle.partial_state.specs.Levels.{level_type};
 ghost use Rattle.table_words.specs.OldWords.{known_old};

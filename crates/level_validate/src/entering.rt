@@ -3,8 +3,8 @@ ghost use Rattle.std.specs.Prelude.{◌≡◌, ◌+◌, ◌<◌, ◌≤◌, ◌�
 ghost use Rattle.step_maker.specs.Holds.{MayWork};
 ghost use Rattle.step_maker.specs.Moves.{Came, Met};
 ghost use Rattle.table_entries.specs.Asking.{IsEntryStop};
-ghost use Rattle.answer_fits.specs.Answers.{misses};
-ghost use Rattle.answer_fits.specs.Pauses.{Progress};
+ghost use Rattle.step_maker.specs.Answers.{misses};
+ghost use Rattle.step_maker.specs.Pauses.{Progress};
 ghost use Rattle.partial_state.specs.Stacks.{left_on_top};
 ghost use Rattle.partial_state.specs.Weights.{entry_weight, weight};
 ghost use Rattle.table_courses.specs.Acquiring.{Advanced, TookOn};

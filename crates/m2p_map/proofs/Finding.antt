@@ -5,8 +5,8 @@ use Rattle.xp_board.specs.declared.step.Act.TheVariants.{Store}
 use Rattle.xp_board.specs.declared.step.StepKind.TheVariants as kinds
 use Rattle.xp_board.specs.Told.{PortValue}
 use Rattle.step_maker.specs.Moves.{Moves}
-use Rattle.answer_fits.specs.Visits.{Then, visit, Only}
-use Rattle.answer_fits.proofs.Visiting.{does_as, does_one, does_then}
+use Rattle.step_maker.specs.Visits.{Then, visit, Only}
+use Rattle.step_maker.proofs.Visiting.{does_as, does_one, does_then}
 use Rattle.frame_words.specs.Freeing.{PutBy, Puts}
 use Rattle.frame_words.specs.Refs.{Gets, GetsBy}
 use Rattle.m2p_map.specs.Found.{SetFound, StoresM2p}

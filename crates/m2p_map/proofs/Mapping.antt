@@ -11,13 +11,13 @@ use Rattle.xp_board.specs.Hands.{hand}
 use Rattle.xp_board.specs.Told.{PortValue}
 use Rattle.step_maker.specs.Holds.{Holds, Same, still}
 use Rattle.step_maker.specs.Moves.{Moves}
-use Rattle.answer_fits.specs.Answers.{Serves, Deed, SetsM2p, only_if}
-use Rattle.answer_fits.specs.Asked.{of_frame, of_back}
-use Rattle.answer_fits.proofs.Piecing.{serves_step, serves_back}
+use Rattle.step_maker.specs.Answers.{Serves, Deed, SetsM2p, only_if}
+use Rattle.step_maker.specs.Asked.{of_frame, of_back}
+use Rattle.step_maker.proofs.Piecing.{serves_step, serves_back}
 use Rattle.xp_words.specs.declared.place.Place.{Place}
 use Rattle.xp_board.specs.Told.{is_telling, told_word}
-use Rattle.answer_fits.specs.Asked.{Request}
-use Rattle.answer_fits.proofs.Piecing.{serves_came}
+use Rattle.step_maker.specs.Asked.{Request}
+use Rattle.step_maker.proofs.Piecing.{serves_came}
 use Rattle.step_maker.specs.Plain.{Words, change, Leaves}
 use Rattle.step_maker.proofs.Telling.{came_telling, moves_telling, leaves, leaves_then}
 use Rattle.frame_words.specs.Plain.{got, put, TwinGet}

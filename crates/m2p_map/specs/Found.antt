@@ -5,7 +5,7 @@ use Rattle.xp_words.specs.declared.place.Place.TheVariants.{M2p}
 use Rattle.xp_words.specs.declared.reply.Stop.{Stop}
 use Rattle.xp_board.specs.declared.step.Act.TheVariants.{Store}
 use Rattle.xp_board.specs.Told.{PortValue}
-use Rattle.answer_fits.specs.Visits.{Visit, visit, Does, Only, Then}
+use Rattle.step_maker.specs.Visits.{Visit, visit, Does, Only, Then}
 use Rattle.frame_words.specs.Freeing.{PutBy}
 use Rattle.frame_words.specs.Refs.{GetsBy}
 

@@ -6,9 +6,9 @@ use Rattle.xp_words.specs.declared.place.Place.TheVariants.{Refs, M2p}
 use Rattle.xp_board.specs.declared.step.Act.TheVariants.{Store}
 use Rattle.xp_board.specs.Told.{PortValue, told_word}
 use Rattle.step_maker.specs.Plain.{Words, change}
-use Rattle.answer_fits.specs.Twins.{Twin}
+use Rattle.step_maker.specs.Twins.{Twin}
 use Rattle.frame_words.specs.Plain.{got, put, refer}
-use Rattle.answer_fits.specs.Answers.{Deed, SetsM2p, missed}
+use Rattle.step_maker.specs.Answers.{Deed, SetsM2p, missed}
 
 abbrev pub deeds_of : Machine → ℕ → ℕ → Result (Unit {0}) Stop → List Deed
 deeds_of n f gpfn (Ok done) = SetsM2p f gpfn ∷ []

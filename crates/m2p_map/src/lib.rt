@@ -3,8 +3,8 @@
 
 ghost use Rattle.std.specs.Prelude.{◌≡◌, None, IfErr};
 ghost use Rattle.step_maker.specs.Holds.{Same, MayWork};
-ghost use Rattle.answer_fits.specs.Answers.{Serves, Stops};
-ghost use Rattle.answer_fits.specs.Asked.{of_frame};
+ghost use Rattle.step_maker.specs.Answers.{Serves, Stops};
+ghost use Rattle.step_maker.specs.Asked.{of_frame};
 ghost use Rattle.m2p_map.specs.Found.{SetFound};
 ghost use Rattle.m2p_map.specs.Maps.{deeds_of, TwinSet};
 

@@ -4,12 +4,12 @@ use Rattle.std.proofs.lemmas.Bool.Decides.{nat_tests}
 use Rattle.xp_words.specs.Machine.{Machine}
 use Rattle.xp_words.specs.declared.kind.PageType.{PageType}
 use Rattle.xp_words.specs.declared.reply.Stop.{Stop}
-use Rattle.board_lemmas.proofs.Sums.{when_eq}
+use Rattle.xp_board.proofs.Sums.{when_eq}
 use Rattle.step_maker.specs.Moves.{Moment}
-use Rattle.answer_fits.specs.Asked.{IsAsked, IsFor, Request, Within, named, of, of_frame}
-use Rattle.answer_fits.specs.Finding.{Finding}
-use Rattle.answer_fits.specs.Rising.{Grows, IsOfSame, NeedsOwners, Rises}
-use Rattle.answer_fits.proofs.Grown.{grown_by, grown_where, rises_self, risen}
+use Rattle.step_maker.specs.Asked.{IsAsked, IsFor, Request, Within, named, of, of_frame}
+use Rattle.step_maker.specs.Finding.{Finding}
+use Rattle.step_maker.specs.Rising.{Grows, IsOfSame, NeedsOwners, Rises}
+use Rattle.step_maker.proofs.Grown.{grown_by, grown_where, rises_self, risen}
 use Rattle.entry_exchange.specs.Asking.{may_rise, of_exchange}
 use Rattle.foreign_map.specs.declared.owners.Owners.{Owners}
 use Rattle.mmu_update.specs.Course.{entry_update}

@@ -17,11 +17,11 @@ use Rattle.xp_board.specs.Told.{Post, PortValue}
 use Rattle.step_maker.specs.Holds.{Rests}
 use Rattle.step_maker.specs.Moves.{Came, Met, Moment, Ran}
 use Rattle.step_maker.proofs.Coming.{came_post, came_self, met_after, met_before}
-use Rattle.answer_fits.specs.Answers.{Deed, Serves, Stops}
-use Rattle.answer_fits.specs.Asked.{NoMore, Request, Within}
-use Rattle.answer_fits.specs.Finding.{FoundAt}
-use Rattle.answer_fits.specs.Visits.{Visit, Does, visits}
-use Rattle.answer_fits.proofs.Piecing.{serves_came, serves_inner, stops_inner}
+use Rattle.step_maker.specs.Answers.{Deed, Serves, Stops}
+use Rattle.step_maker.specs.Asked.{NoMore, Request, Within}
+use Rattle.step_maker.specs.Finding.{FoundAt}
+use Rattle.step_maker.specs.Visits.{Visit, Does, visits}
+use Rattle.step_maker.proofs.Piecing.{serves_came, serves_inner, stops_inner}
 use Rattle.entry_exchange.specs.Asking.{HasExchangeDeeds, ServesExchange, of_exchange}
 use Rattle.entry_exchange.specs.Asking as exchanges
 use Rattle.entry_locks.specs.Found.{LocksFound}

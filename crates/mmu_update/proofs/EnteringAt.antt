@@ -13,12 +13,12 @@ use Rattle.xp_board.specs.Readings.{is_live_as, is_type}
 use Rattle.xp_board.specs.Told.{PortValue}
 use Rattle.step_maker.specs.Holds.{Holds, Same, quiet}
 use Rattle.step_maker.specs.Moves.{Came, Met}
-use Rattle.answer_fits.specs.Answers.{Serves, Stops, missed}
-use Rattle.answer_fits.specs.Asked.{of_back, of_frame}
-use Rattle.answer_fits.specs.Finding.{FoundAt}
-use Rattle.answer_fits.specs.Visits.{Does}
-use Rattle.answer_fits.proofs.Changing.{found_after, found_before}
-use Rattle.answer_fits.proofs.Piecing.{serves_came}
+use Rattle.step_maker.specs.Answers.{Serves, Stops, missed}
+use Rattle.step_maker.specs.Asked.{of_back, of_frame}
+use Rattle.step_maker.specs.Finding.{FoundAt}
+use Rattle.step_maker.specs.Visits.{Does}
+use Rattle.step_maker.proofs.Changing.{found_after, found_before}
+use Rattle.step_maker.proofs.Piecing.{serves_came}
 use Rattle.entry_exchange.specs.Asking as exchanges
 use Rattle.entry_exchange.specs.Parts.{EntryExchanged, LockLeft}
 use Rattle.entry_exchange.proofs.Taking.{hides_none}

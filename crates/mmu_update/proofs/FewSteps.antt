@@ -15,7 +15,7 @@ use Rattle.xp_board.specs.Told.{Post, PortValue}
 use Rattle.step_maker.specs.Moves.{Moment, Moves, Ran}
 use Rattle.step_maker.proofs.Coming.{ran_post}
 use Rattle.step_maker.proofs.Noting.{moves_steps}
-use Rattle.answer_fits.specs.Visits.{Does, Only, Then, Visit, visits}
+use Rattle.step_maker.specs.Visits.{Does, Only, Then, Visit, visits}
 use Rattle.entry_exchange.specs.Course as exchanges
 use Rattle.entry_exchange.specs.Course.{LeftLock}
 use Rattle.entry_exchange.proofs.Lengths.{Short, are_there, gets_short, puts_short}

@@ -17,17 +17,17 @@ use Rattle.xp_board.specs.declared.holdings.Work.{Work}
 use Rattle.xp_board.specs.declared.step.Act.TheVariants.{Load}
 use Rattle.xp_board.specs.declared.step.StepKind.TheVariants as kinds
 use Rattle.xp_board.specs.Told.{Post, PortValue}
-use Rattle.board_lemmas.proofs.Numbers.{vcpu_there}
-use Rattle.board_lemmas.proofs.Sums.{when_eq, when_found}
+use Rattle.xp_board.proofs.Numbers.{vcpu_there}
+use Rattle.xp_board.proofs.Sums.{when_eq, when_found}
 use Rattle.step_maker.specs.Holds.{Rests, Same, quiet, still}
 use Rattle.step_maker.specs.Moves.{Came, Met, Moves}
 use Rattle.step_maker.proofs.Coming.{came_post, came_self, came_trans, met_before, moves_came}
-use Rattle.answer_fits.specs.Answers.{Serves, Stops, missed}
-use Rattle.answer_fits.specs.Asked.{Request}
-use Rattle.answer_fits.specs.Licences.{IsReached, below, is_unmapped, top}
-use Rattle.answer_fits.proofs.Changing.{found_after, moves_found}
-use Rattle.answer_fits.proofs.Growing.{reached}
-use Rattle.answer_fits.proofs.Piecing.{moves_serves, same_request, serves_nothing, serves_step}
+use Rattle.step_maker.specs.Answers.{Serves, Stops, missed}
+use Rattle.step_maker.specs.Asked.{Request}
+use Rattle.step_maker.specs.Licences.{IsReached, below, is_unmapped, top}
+use Rattle.step_maker.proofs.Changing.{found_after, moves_found}
+use Rattle.step_maker.proofs.Growing.{reached}
+use Rattle.step_maker.proofs.Piecing.{moves_serves, same_request, serves_nothing, serves_step}
 use Rattle.entry_exchange.specs.Course.{SawEntry}
 use Rattle.frame_words.specs.Cells.{IsApart}
 use Rattle.frame_words.proofs.CellSteps.{look_apart}

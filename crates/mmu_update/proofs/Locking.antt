@@ -9,13 +9,13 @@ use Rattle.xp_board.specs.declared.holdings.Reference.{Reference}
 use Rattle.xp_board.specs.Hands.{lock_on, without_lock, without_ref}
 use Rattle.xp_board.specs.Lists.{first_by}
 use Rattle.xp_board.specs.Told.{PortValue}
-use Rattle.board_lemmas.proofs.Sums.{when_eq}
+use Rattle.xp_board.proofs.Sums.{when_eq}
 use Rattle.step_maker.specs.Holds.{Holds, Rests, quiet, still}
 use Rattle.step_maker.specs.Moves.{Came}
 use Rattle.step_maker.proofs.Coming.{came_trans}
-use Rattle.answer_fits.specs.Answers.{Serves}
-use Rattle.answer_fits.specs.Asked.{Request, of_frame}
-use Rattle.answer_fits.proofs.Piecing.{serves_came}
+use Rattle.step_maker.specs.Answers.{Serves}
+use Rattle.step_maker.specs.Asked.{Request, of_frame}
+use Rattle.step_maker.proofs.Piecing.{serves_came}
 use Rattle.entry_exchange.specs.Holding.{HoldsLockOf, HoldsTableLock, LeavesExchange, LeavesUnlocked}
 use Rattle.entry_exchange.specs.Parts.{EntryExchanged, LockLeft}
 use Rattle.entry_locks.specs.Locks.{of_lock}

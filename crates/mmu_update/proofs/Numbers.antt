@@ -4,9 +4,9 @@ use Rattle.xp_words.specs.declared.reply.Refusal.TheVariants.{BadRange, BadComma
 use Rattle.xp_words.specs.declared.reply.Stop.TheVariants.{Refused}
 use Rattle.xp_words.specs.declared.reply.Refusal.{Refusal}
 use Rattle.xp_board.specs.Told.{PortValue}
-use Rattle.answer_fits.specs.Answers.{Serves, Stops}
-use Rattle.answer_fits.specs.Asked.{of_numbers}
-use Rattle.answer_fits.proofs.Piecing.{serves_nothing}
+use Rattle.step_maker.specs.Answers.{Serves, Stops}
+use Rattle.step_maker.specs.Asked.{of_numbers}
+use Rattle.step_maker.proofs.Piecing.{serves_nothing}
 
 pub no_step : (v : PortValue) (x : Refusal) → Serves v v (of_numbers x) []
 no_step v x = serves_nothing v (of_numbers x)

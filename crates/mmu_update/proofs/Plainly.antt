@@ -16,9 +16,9 @@ use Rattle.step_maker.specs.Moves.{Came, Moves}
 use Rattle.step_maker.specs.Plain.{Leaves, Words, change}
 use Rattle.step_maker.proofs.Coming.{came_post, came_trans}
 use Rattle.step_maker.proofs.Telling.{came_telling, leaves, moves_telling}
-use Rattle.answer_fits.specs.Twins.{Alike, AnswersAs}
-use Rattle.answer_fits.proofs.Alikes.{alike_store}
-use Rattle.answer_fits.proofs.Visiting.{does_came}
+use Rattle.step_maker.specs.Twins.{Alike, AnswersAs}
+use Rattle.step_maker.proofs.Alikes.{alike_store}
+use Rattle.step_maker.proofs.Visiting.{does_came}
 use Rattle.frame_words.specs.Plain.{got, refer}
 use Rattle.frame_types.specs.Plain.{TakesMemory, taken}
 use Rattle.frame_types.specs.declared.taking.Taken.TheVariants.{Counted}

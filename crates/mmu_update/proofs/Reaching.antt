@@ -6,9 +6,9 @@ use Rattle.xp_board.specs.Told.{Post, PortValue}
 use Rattle.step_maker.specs.Holds.{Rests, Same, quiet}
 use Rattle.step_maker.specs.Moves.{Came, Met}
 use Rattle.step_maker.proofs.Coming.{came_post, came_trans, met_after}
-use Rattle.answer_fits.specs.Answers.{Serves, Stops, missed}
-use Rattle.answer_fits.specs.Asked.{NoMore, Request}
-use Rattle.answer_fits.proofs.Piecing.{same_request, serves_came, serves_then, stops_inner}
+use Rattle.step_maker.specs.Answers.{Serves, Stops, missed}
+use Rattle.step_maker.specs.Asked.{NoMore, Request}
+use Rattle.step_maker.proofs.Piecing.{same_request, serves_came, serves_then, stops_inner}
 use Rattle.entry_exchange.specs.Asking as exchanges
 use Rattle.entry_exchange.specs.Asking.{HasExchangeDeeds}
 use Rattle.entry_exchange.proofs.Staying.{may_map}

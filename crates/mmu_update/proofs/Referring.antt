@@ -3,9 +3,9 @@ use Rattle.std.proofs.Common.{◌≡◌, ℕ, ◌<◌, Bool, [], None, Ok, Err, 
 use Rattle.xp_words.specs.declared.reply.Stop.{Stop}
 use Rattle.xp_board.specs.Told.{PortValue}
 use Rattle.step_maker.specs.Holds.{Holds, Same, quiet}
-use Rattle.answer_fits.specs.Answers.{Serves, missed}
-use Rattle.answer_fits.specs.Asked.{of_back, of_frame}
-use Rattle.answer_fits.proofs.Piecing.{serves_came}
+use Rattle.step_maker.specs.Answers.{Serves, missed}
+use Rattle.step_maker.specs.Asked.{of_back, of_frame}
+use Rattle.step_maker.proofs.Piecing.{serves_came}
 use Rattle.entry_locks.specs.Locks.{IsLockStop, LeavesLocked, of_lock}
 use Rattle.entry_locks.specs.declared.locking.Locked.{Locked}
 use Rattle.entry_locks.specs.declared.locking.Locked.TheVariants.{Table, Other}

@@ -10,10 +10,10 @@ use Rattle.xp_board.specs.declared.step.StepKind.TheVariants as kinds
 use Rattle.xp_board.specs.Told.{Post, PortValue}
 use Rattle.step_maker.specs.Moves.{Came, Met, Moves}
 use Rattle.step_maker.proofs.Coming.{came_post, met_after}
-use Rattle.answer_fits.specs.Answers.{Deed, Misses, Serves, Stops, Writes, deeds_by, missed}
-use Rattle.answer_fits.specs.Asked.{IsFor, Request, of_back, of_frame}
-use Rattle.answer_fits.proofs.Later.{IsUncounted, stops_later}
-use Rattle.answer_fits.proofs.Piecing.{serves_back, serves_came, serves_inner, serves_step, serves_within, stops_before, stops_within}
+use Rattle.step_maker.specs.Answers.{Deed, Misses, Serves, Stops, Writes, deeds_by, missed}
+use Rattle.step_maker.specs.Asked.{IsFor, Request, of_back, of_frame}
+use Rattle.step_maker.proofs.Later.{IsUncounted, stops_later}
+use Rattle.step_maker.proofs.Piecing.{serves_back, serves_came, serves_inner, serves_step, serves_within, stops_before, stops_within}
 use Rattle.entry_locks.specs.Locks.{of_lock}
 use Rattle.foreign_map.specs.declared.owners.Owners.{Owners}
 use Rattle.frame_words.specs.Cells.{IsApart}

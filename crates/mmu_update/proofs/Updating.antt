@@ -6,11 +6,11 @@ use Rattle.xp_words.specs.declared.reply.Stop.{Stop}
 use Rattle.xp_words.specs.declared.reply.Stop.TheVariants.{Refused, Paused}
 use Rattle.xp_board.specs.Told.{PortValue}
 use Rattle.step_maker.specs.Holds.{Same, quiet}
-use Rattle.answer_fits.specs.Answers.{Serves, Stops}
-use Rattle.answer_fits.specs.Asked.{of_frame}
+use Rattle.step_maker.specs.Answers.{Serves, Stops}
+use Rattle.step_maker.specs.Asked.{of_frame}
 use Rattle.step_maker.proofs.Coming.{came_self}
-use Rattle.answer_fits.proofs.Piecing.{serves_came}
-use Rattle.answer_fits.specs.Visits.{Does}
+use Rattle.step_maker.proofs.Piecing.{serves_came}
+use Rattle.step_maker.specs.Visits.{Does}
 use Rattle.foreign_map.specs.declared.owners.Owners.{Owners}
 use Rattle.level_release.specs.Asking.{is_due_answer, is_due_stop}
 use Rattle.frame_words.specs.Refs.{IsRefStop}

@@ -4,7 +4,7 @@ use Rattle.xp_words.specs.declared.reply.Pause.TheVariants as pauses
 use Rattle.xp_words.specs.declared.reply.Refusal.TheVariants as refusals
 use Rattle.xp_words.specs.declared.reply.Stop.{Stop}
 use Rattle.xp_words.specs.declared.reply.Stop.TheVariants.{Refused, Paused}
-use Rattle.answer_fits.proofs.Later.{IsUncounted}
+use Rattle.step_maker.proofs.Later.{IsUncounted}
 use Rattle.entry_exchange.specs.Asking.{IsAcquireStop}
 use Rattle.entry_locks.specs.Locks.{IsLockStop}
 use Rattle.frame_types.specs.Taking.{IsTypeStop}

@@ -11,9 +11,9 @@ use Rattle.xp_board.specs.declared.step.Act.TheVariants.{Load}
 use Rattle.xp_board.specs.declared.step.StepKind.TheVariants as kinds
 use Rattle.xp_board.specs.Told.{PortValue}
 use Rattle.step_maker.specs.Moves.{Moves}
-use Rattle.answer_fits.specs.Answers.{Deed, Serves}
-use Rattle.answer_fits.specs.Asked.{Request}
-use Rattle.answer_fits.specs.Licences.{is_unmapped}
+use Rattle.step_maker.specs.Answers.{Deed, Serves}
+use Rattle.step_maker.specs.Asked.{Request}
+use Rattle.step_maker.specs.Licences.{is_unmapped}
 use Rattle.entry_exchange.specs.Asking.{HasExchangeDeeds, of_exchange}
 use Rattle.entry_exchange.specs.Course.{Exchanged, LeftLock, SawEntry}
 use Rattle.entry_locks.specs.declared.locking.Locked.TheVariants.{Table, Other}

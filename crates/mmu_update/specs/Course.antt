@@ -10,7 +10,7 @@ use Rattle.xp_board.specs.declared.step.Act.TheVariants.{Store}
 use Rattle.xp_board.specs.declared.step.StepKind.TheVariants as kinds
 use Rattle.xp_board.specs.Told.{PortValue}
 use Rattle.step_maker.specs.Moves.{Moves}
-use Rattle.answer_fits.specs.Answers.{Stops}
+use Rattle.step_maker.specs.Answers.{Stops}
 use Rattle.entry_exchange.specs.Course.{Exchanged, LeftLock}
 use Rattle.entry_exchange.specs.declared.exchanging.EntryUpdate.{EntryUpdate}
 use Rattle.entry_locks.specs.Found.{LocksFound}

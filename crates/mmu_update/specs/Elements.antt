@@ -9,8 +9,8 @@ use Rattle.xp_words.specs.declared.reply.Pause.TheVariants.{Busy, Due, Flush, Lo
 use Rattle.xp_words.specs.declared.reply.Refusal.TheVariants as refusals
 use Rattle.xp_board.specs.Told.{PortValue}
 use Rattle.step_maker.specs.Holds.{FlushedHolds}
-use Rattle.answer_fits.specs.Answers.{Deed, Serves, SetsEntry, Writes, missed}
-use Rattle.answer_fits.specs.Asked.{Request, of_frame, of_numbers}
+use Rattle.step_maker.specs.Answers.{Deed, Serves, SetsEntry, Writes, missed}
+use Rattle.step_maker.specs.Asked.{Request, of_frame, of_numbers}
 use Rattle.foreign_map.specs.declared.owners.Owners.{Owners}
 use Rattle.entry_exchange.specs.Asking.{IsHidden, may_rise}
 use Rattle.entry_exchange.specs.Words.{word_kept}

@@ -13,7 +13,7 @@ use Rattle.xp_board.specs.declared.step.Act.TheVariants.{Store}
 use Rattle.xp_board.specs.Readings.{domain_of}
 use Rattle.xp_board.specs.Told.{PortValue, is_telling, told_word}
 use Rattle.step_maker.specs.Plain.{Leaves, Words, change}
-use Rattle.answer_fits.specs.Twins.{Alike}
+use Rattle.step_maker.specs.Twins.{Alike}
 use Rattle.frame_words.specs.Plain.{got, put, refer}
 use Rattle.frame_types.specs.Plain.{dropped_plain, given_up, taken, type_stop, type_waits}
 use Rattle.frame_types.specs.declared.taking.Taken.TheVariants.{Counted}

@@ -5,7 +5,7 @@ use Rattle.xp_words.specs.declared.reply.Stop.{Stop}
 use Rattle.xp_words.specs.declared.reply.Stop.TheVariants.{Refused}
 use Rattle.xp_board.specs.Told.{PortValue}
 use Rattle.step_maker.specs.Holds.{Rests}
-use Rattle.answer_fits.specs.Answers.{Stops}
+use Rattle.step_maker.specs.Answers.{Stops}
 use Rattle.foreign_map.specs.declared.owners.Owners.{Owners}
 use Rattle.level_release.specs.Course.{WithGate}
 use Rattle.tlb_walks.specs.Addresses.{index_of, walk_refusal}

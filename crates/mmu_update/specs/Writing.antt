@@ -3,8 +3,8 @@ use Rattle.std.specs.Prelude.{◌≡◌, ℕ, ◌<◌, Bool, [], None, Some, Res
 use Rattle.xp_words.specs.declared.reply.Stop.{Stop}
 use Rattle.xp_board.specs.Told.{PortValue}
 use Rattle.step_maker.specs.Holds.{Holds, Rests, Same}
-use Rattle.answer_fits.specs.Answers.{Serves}
-use Rattle.answer_fits.specs.Asked.{of_frame}
+use Rattle.step_maker.specs.Answers.{Serves}
+use Rattle.step_maker.specs.Asked.{of_frame}
 use Rattle.entry_locks.specs.Locks.{HoldsLock, of_lock}
 use Rattle.entry_locks.specs.declared.locking.Locked.TheVariants.{Table, Other}
 use Rattle.foreign_map.specs.Owning.{MayMapFor}

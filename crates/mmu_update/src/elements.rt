@@ -6,7 +6,7 @@ ghost use Rattle.xp_board.specs.Told.{PortValue};
 ghost use Rattle.partial_state.specs.Levels.{level_type};
 ghost use Rattle.step_maker.specs.Holds.{Rests};
 ghost use Rattle.step_maker.specs.Moves.{Came};
-ghost use Rattle.answer_fits.specs.Answers.{Stops};
+ghost use Rattle.step_maker.specs.Answers.{Stops};
 ghost use Rattle.foreign_map.specs.Owning.{MayMapFor};
 ghost use Rattle.level_release.specs.Asking.{is_due_answer};
 ghost use Rattle.table_words.specs.OldWords.{known_old};

@@ -6,9 +6,9 @@ use Rattle.xp_words.specs.declared.reply.Stop.TheVariants.{Refused}
 use Rattle.xp_board.specs.Readings.{last_clock}
 use Rattle.xp_board.specs.Told.{PortValue}
 use Rattle.step_maker.specs.Holds.{Same}
-use Rattle.answer_fits.specs.Answers.{Forgets, Serves, only_if}
-use Rattle.answer_fits.specs.Asked.{Request}
-use Rattle.answer_fits.specs.Visits.{Does, Visit}
+use Rattle.step_maker.specs.Answers.{Forgets, Serves, only_if}
+use Rattle.step_maker.specs.Asked.{Request}
+use Rattle.step_maker.specs.Visits.{Does, Visit}
 use Rattle.flush_words.specs.Flushing.{FlushedBy, none}
 use Rattle.tlb_walks.specs.Addresses.{is_canonical, page_of}
 use Rattle.tlb_walks.specs.Dropping.{of_flush}

@@ -12,14 +12,14 @@ use Rattle.xp_board.specs.declared.step.StepKind.TheVariants as kinds
 use Rattle.xp_board.specs.Knowledge.{knows_owner}
 use Rattle.xp_board.specs.Spelling.{is_kind_in}
 use Rattle.xp_board.specs.Told.{Post, PortValue, is_telling, told_word}
-use Rattle.board_lemmas.proofs.KindForms.{fields_of}
+use Rattle.xp_board.proofs.KindForms.{fields_of}
 use Rattle.step_maker.specs.Holds.{Holds, Same, still}
 use Rattle.step_maker.specs.Moves.{Came, Met, Moves}
 use Rattle.step_maker.proofs.Coming.{met_after, met_before, moment_of, moves_met}
-use Rattle.answer_fits.specs.Answers.{Deed, Serves, Stops}
-use Rattle.answer_fits.specs.Asked.{Asked, Request, Within, of, of_back, of_frame}
-use Rattle.answer_fits.specs.Finding.{Finding, FoundWith}
-use Rattle.answer_fits.proofs.Piecing.{serves_back, serves_came, serves_step, serves_within, stops_within, within_frame}
+use Rattle.step_maker.specs.Answers.{Deed, Serves, Stops}
+use Rattle.step_maker.specs.Asked.{Asked, Request, Within, of, of_back, of_frame}
+use Rattle.step_maker.specs.Finding.{Finding, FoundWith}
+use Rattle.step_maker.proofs.Piecing.{serves_back, serves_came, serves_step, serves_within, stops_within, within_frame}
 use Rattle.frame_words.specs.Freeing.{Puts, gave}
 use Rattle.frame_words.specs.Refs.{Gets, took}
 use Rattle.frame_words.specs.Plain.{TwinGet, put}

@@ -3,8 +3,8 @@ use Rattle.std.proofs.Common.{ℕ, Bool, [], Option, Err, refl}
 use Rattle.xp_words.specs.declared.reply.Refusal.TheVariants.{BadCommand}
 use Rattle.xp_words.specs.declared.reply.Stop.TheVariants.{Refused}
 use Rattle.xp_board.specs.Told.{PortValue}
-use Rattle.answer_fits.specs.Answers.{Stops}
-use Rattle.answer_fits.proofs.Piecing.{serves_nothing}
+use Rattle.step_maker.specs.Answers.{Stops}
+use Rattle.step_maker.proofs.Piecing.{serves_nothing}
 use Rattle.mmuext_ops.specs.Course.{PerformsBy}
 use Rattle.mmuext_ops.specs.Elements.{ServesElement, ext_request, told}
 use Rattle.mmuext_ops.specs.declared.element.Element.TheVariants.{Unknown}

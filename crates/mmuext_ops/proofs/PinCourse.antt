@@ -7,8 +7,8 @@ use Rattle.xp_words.specs.declared.reply.Stop.TheVariants.{Paused, Refused}
 use Rattle.xp_preempt.proofs.Consulting.{consulted_none, not_due}
 use Rattle.xp_board.specs.Told.{PortValue}
 use Rattle.step_maker.specs.Holds.{Rests, Same, quiet}
-use Rattle.answer_fits.specs.Answers.{Serves, Stops, missed}
-use Rattle.answer_fits.specs.Asked.{of_frame}
+use Rattle.step_maker.specs.Answers.{Serves, Stops, missed}
+use Rattle.step_maker.specs.Asked.{of_frame}
 use Rattle.frame_words.specs.Refs.{IsRefStop}
 use Rattle.partial_state.specs.Levels.{level_type}
 use Rattle.table_courses.specs.Acquiring.{Acquired, GotRef}

@@ -11,15 +11,15 @@ use Rattle.xp_board.specs.declared.holdings.TypedReference.{TypedReference}
 use Rattle.xp_board.specs.KindSteps.{live_typed}
 use Rattle.xp_board.specs.Readings.{domain_of}
 use Rattle.xp_board.specs.Told.{Post, PortValue}
-use Rattle.board_lemmas.proofs.Sums.{when_eq}
+use Rattle.xp_board.proofs.Sums.{when_eq}
 use Rattle.step_maker.specs.Holds.{FlushedHolds, Holds, Rests, Same, quiet}
 use Rattle.step_maker.specs.Moves.{Came, Met}
 use Rattle.step_maker.proofs.Coming.{came_post, met_after}
-use Rattle.answer_fits.specs.Answers.{Misses, Serves, Stops, misses}
-use Rattle.answer_fits.specs.Asked.{Asked, Within, checked, named, of_table}
-use Rattle.answer_fits.specs.Finding.{Finding}
-use Rattle.answer_fits.proofs.Later.{IsUncounted, stops_then}
-use Rattle.answer_fits.proofs.Piecing.{serves_came, serves_inner, serves_then, stops_inner}
+use Rattle.step_maker.specs.Answers.{Misses, Serves, Stops, misses}
+use Rattle.step_maker.specs.Asked.{Asked, Within, checked, named, of_table}
+use Rattle.step_maker.specs.Finding.{Finding}
+use Rattle.step_maker.proofs.Later.{IsUncounted, stops_then}
+use Rattle.step_maker.proofs.Piecing.{serves_came, serves_inner, serves_then, stops_inner}
 use Rattle.partial_state.specs.Levels.{level_type}
 use Rattle.kept_marks.specs.Marks.{IsForeign}
 use Rattle.level_validate.specs.Acquiring.{LeavesAcquired, ServesAcquired, of_acquire}

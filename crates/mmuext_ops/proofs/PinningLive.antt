@@ -21,18 +21,18 @@ use Rattle.xp_board.specs.KindSteps.{MayPin, live_typed}
 use Rattle.xp_board.specs.Readings.{domain_of, is_live}
 use Rattle.xp_board.specs.Spelling.{is_kind_in}
 use Rattle.xp_board.specs.Told.{Post, PortValue}
-use Rattle.board_lemmas.proofs.KindForms.{fields_of}
-use Rattle.board_lemmas.proofs.ListCounts.{first_by-cons_here}
-use Rattle.board_lemmas.proofs.Owners.{typed_knows}
-use Rattle.board_lemmas.proofs.Sums.{when_eq}
+use Rattle.xp_board.proofs.KindForms.{fields_of}
+use Rattle.xp_board.proofs.ListCounts.{first_by-cons_here}
+use Rattle.xp_board.proofs.Owners.{typed_knows}
+use Rattle.xp_board.proofs.Sums.{when_eq}
 use Rattle.step_maker.specs.Holds.{Holds, Same, still}
 use Rattle.step_maker.specs.Moves.{Came, Met, Moves}
 use Rattle.step_maker.proofs.Coming.{came_post, came_self, came_trans, met_after, met_before, moment_of, moves_came, moves_met}
-use Rattle.answer_fits.specs.Answers.{Pins, Serves, Stops, deeds_by, missed, missed_at}
-use Rattle.answer_fits.specs.Asked.{Asked, IsAsked, Request, checked, named, of, of_back}
-use Rattle.answer_fits.specs.Finding.{Finding, FoundWith}
-use Rattle.answer_fits.specs.Reasons.{keeps_type}
-use Rattle.answer_fits.proofs.Piecing.{moves_serves, serves_back, serves_came}
+use Rattle.step_maker.specs.Answers.{Pins, Serves, Stops, deeds_by, missed, missed_at}
+use Rattle.step_maker.specs.Asked.{Asked, IsAsked, Request, checked, named, of, of_back}
+use Rattle.step_maker.specs.Finding.{Finding, FoundWith}
+use Rattle.step_maker.specs.Reasons.{keeps_type}
+use Rattle.step_maker.proofs.Piecing.{moves_serves, serves_back, serves_came}
 use Rattle.kind_words.specs.Kinds.{looked_at}
 use Rattle.kind_words.proofs.KindFacts.{found_live, kind_found, kind_is_some, known_live, read_is}
 use Rattle.kind_words.proofs.KindWriting.{fields_write}

@@ -17,8 +17,8 @@ use Rattle.xp_board.specs.Told.{Post, PortValue}
 use Rattle.step_maker.specs.Holds.{Holds, Rests, Same, quiet, still}
 use Rattle.step_maker.specs.Moves.{Came, Met}
 use Rattle.step_maker.proofs.Coming.{came_post, met_after}
-use Rattle.answer_fits.specs.Answers.{Serves, Unpins, misses}
-use Rattle.answer_fits.proofs.Piecing.{serves_came, serves_inner}
+use Rattle.step_maker.specs.Answers.{Serves, Unpins, misses}
+use Rattle.step_maker.proofs.Piecing.{serves_came, serves_inner}
 use Rattle.flush_words.proofs.Lasting.{came_longer}
 use Rattle.frame_words.specs.Freeing.{gave}
 use Rattle.frame_words.specs.Refs.{took}

@@ -2,7 +2,7 @@
 use Rattle.std.proofs.Common.{◌≡◌, ℕ, Option, Some, Result, Ok, Err, IfErr}
 use Rattle.xp_words.specs.declared.reply.Stop.{Stop}
 use Rattle.xp_board.specs.Told.{PortValue}
-use Rattle.answer_fits.specs.Answers.{Stops}
+use Rattle.step_maker.specs.Answers.{Stops}
 use Rattle.level_validate.specs.Unwinding.{own_domain}
 use Rattle.table_bases.specs.Asking.{ServesBase, StopsBase, may_rise, of_base, user_frame}
 use Rattle.table_bases.specs.declared.words.Base.TheVariants.{Kernel, User}

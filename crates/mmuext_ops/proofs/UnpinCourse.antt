@@ -11,13 +11,13 @@ use Rattle.xp_words.specs.declared.reply.Stop.TheVariants.{Paused, Refused}
 use Rattle.xp_board.specs.declared.step.Act.TheVariants.{Cas}
 use Rattle.xp_board.specs.declared.step.StepKind.TheVariants as kinds
 use Rattle.xp_board.specs.Told.{PortValue}
-use Rattle.board_lemmas.proofs.KindForms.{fields_of}
+use Rattle.xp_board.proofs.KindForms.{fields_of}
 use Rattle.step_maker.specs.Holds.{FlushedSame, Holds, Rests, Same, quiet}
 use Rattle.step_maker.specs.Moves.{Moves}
 use Rattle.step_maker.proofs.Coming.{came_trans, moves_came}
-use Rattle.answer_fits.specs.Answers.{Serves, missed, misses}
-use Rattle.answer_fits.specs.Asked.{of_back, of_frame}
-use Rattle.answer_fits.proofs.Piecing.{serves_came}
+use Rattle.step_maker.specs.Answers.{Serves, missed, misses}
+use Rattle.step_maker.specs.Asked.{of_back, of_frame}
+use Rattle.step_maker.proofs.Piecing.{serves_came}
 use Rattle.frame_words.specs.Refs.{IsRefStop}
 use Rattle.kind_words.specs.Kinds.{looked_at}
 use Rattle.table_words.specs.Pins.{took_pin, unpinned_kind}

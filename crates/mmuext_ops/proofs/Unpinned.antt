@@ -15,15 +15,15 @@ use Rattle.xp_board.specs.declared.step.StepKind.TheVariants as kinds
 use Rattle.xp_board.specs.KindSteps.{MayUnpin}
 use Rattle.xp_board.specs.Readings.{is_live}
 use Rattle.xp_board.specs.Told.{Post, PortValue}
-use Rattle.board_lemmas.proofs.KindForms.{fields_of}
-use Rattle.board_lemmas.proofs.Sums.{when_eq}
+use Rattle.xp_board.proofs.KindForms.{fields_of}
+use Rattle.xp_board.proofs.Sums.{when_eq}
 use Rattle.step_maker.specs.Moves.{Came, Met, Moves}
 use Rattle.step_maker.proofs.Coming.{came_post, came_trans, met_after, met_before, moment_of, moves_came, moves_met}
-use Rattle.answer_fits.specs.Answers.{Deed, Serves, Stops, Unpins, deeds_by, missed, missed_at}
-use Rattle.answer_fits.specs.Asked.{Asked, IsAsked, Request, checked, named, of, of_back}
-use Rattle.answer_fits.specs.Finding.{Finding, FoundWith}
-use Rattle.answer_fits.specs.Reasons.{keeps_type}
-use Rattle.answer_fits.proofs.Piecing.{serves_back, serves_came}
+use Rattle.step_maker.specs.Answers.{Deed, Serves, Stops, Unpins, deeds_by, missed, missed_at}
+use Rattle.step_maker.specs.Asked.{Asked, IsAsked, Request, checked, named, of, of_back}
+use Rattle.step_maker.specs.Finding.{Finding, FoundWith}
+use Rattle.step_maker.specs.Reasons.{keeps_type}
+use Rattle.step_maker.proofs.Piecing.{serves_back, serves_came}
 use Rattle.kind_words.proofs.KindFacts.{kind_is_some}
 use Rattle.kind_words.proofs.KindWriting.{fields_write}
 use Rattle.table_words.specs.Pins.{unpinned_kind}

@@ -9,15 +9,15 @@ use Rattle.xp_board.specs.declared.step.Act.TheVariants.{Load}
 use Rattle.xp_board.specs.declared.step.StepKind.TheVariants as kinds
 use Rattle.xp_board.specs.Acts.{left_by}
 use Rattle.xp_board.specs.Told.{Post, PortValue}
-use Rattle.board_lemmas.proofs.Sums.{when_eq}
+use Rattle.xp_board.proofs.Sums.{when_eq}
 use Rattle.step_maker.specs.Moves.{Came, Met, Moves}
 use Rattle.step_maker.proofs.Coming.{came_post, moment_of, moves_came, moves_met}
 use Rattle.step_maker.proofs.Noting.{moves_since}
-use Rattle.answer_fits.specs.Answers.{Serves, Stops}
-use Rattle.answer_fits.specs.Asked.{Request}
-use Rattle.answer_fits.specs.Reasons.{AwaitsStamp, HadClock, Those, Whose, begun, goes_on}
-use Rattle.answer_fits.specs.Visits.{Does}
-use Rattle.answer_fits.proofs.Piecing.{moves_serves}
+use Rattle.step_maker.specs.Answers.{Serves, Stops}
+use Rattle.step_maker.specs.Asked.{Request}
+use Rattle.step_maker.specs.Reasons.{AwaitsStamp, HadClock, Those, Whose, begun, goes_on}
+use Rattle.step_maker.specs.Visits.{Does}
+use Rattle.step_maker.proofs.Piecing.{moves_serves}
 use Rattle.flush_words.proofs.Lasting.{came_keeps}
 use Rattle.flush_waits.specs.Listing.{WaitedFor}
 use Rattle.flush_waits.specs.Waiting.{AreClear, IsWait, ServesBehind, StopsBehind, meant}

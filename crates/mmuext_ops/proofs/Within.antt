@@ -6,10 +6,10 @@ use Rattle.xp_board.specs.Hands.{refs_to, work_on}
 use Rattle.xp_board.specs.Told.{PortValue}
 use Rattle.step_maker.specs.Holds.{Same}
 use Rattle.step_maker.specs.Moves.{Moment}
-use Rattle.answer_fits.specs.Asked.{Implies, NoMore, Request, Within, back, named, of_table}
-use Rattle.answer_fits.specs.Finding.{Finding}
-use Rattle.answer_fits.proofs.Grown as rising
-use Rattle.answer_fits.proofs.Grown.{grown_by, implied}
+use Rattle.step_maker.specs.Asked.{Implies, NoMore, Request, Within, back, named, of_table}
+use Rattle.step_maker.specs.Finding.{Finding}
+use Rattle.step_maker.proofs.Grown as rising
+use Rattle.step_maker.proofs.Grown.{grown_by, implied}
 use Rattle.table_entries.specs.Asking.{of_entries}
 
 -- ---- an acquisition, within a pin

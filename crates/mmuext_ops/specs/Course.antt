@@ -12,8 +12,8 @@ use Rattle.xp_board.specs.declared.step.StepKind.TheVariants as kinds
 use Rattle.xp_board.specs.Readings.{last_clock}
 use Rattle.xp_board.specs.Told.{PortValue}
 use Rattle.step_maker.specs.Holds.{Holds, Same}
-use Rattle.answer_fits.specs.Reasons.{Those}
-use Rattle.answer_fits.specs.Visits.{Does}
+use Rattle.step_maker.specs.Reasons.{Those}
+use Rattle.step_maker.specs.Visits.{Does}
 use Rattle.flush_words.specs.Flushing.{FlushedBy}
 use Rattle.flush_waits.specs.Listing.{WaitedFor}
 use Rattle.flush_waits.specs.Waiting.{AreClear, meant}

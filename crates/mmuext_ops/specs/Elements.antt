@@ -10,9 +10,9 @@ use Rattle.xp_words.specs.declared.reply.Stop.{Stop}
 use Rattle.xp_words.specs.declared.reply.Stop.TheVariants.{Refused, Paused}
 use Rattle.xp_board.specs.Told.{PortValue}
 use Rattle.step_maker.specs.Holds.{FlushedSame}
-use Rattle.answer_fits.specs.Answers.{Deed, Forgets, Misses, Pins, Serves, SetsWord, Stops, Unpins, missed, only_if}
-use Rattle.answer_fits.specs.Asked.{Request, of_frame, of_numbers, of_table}
-use Rattle.answer_fits.specs.Reasons.{HadClock}
+use Rattle.step_maker.specs.Answers.{Deed, Forgets, Misses, Pins, Serves, SetsWord, Stops, Unpins, missed, only_if}
+use Rattle.step_maker.specs.Asked.{Request, of_frame, of_numbers, of_table}
+use Rattle.step_maker.specs.Reasons.{HadClock}
 use Rattle.flush_waits.specs.Waiting.{IsWait, meant}
 use Rattle.table_bases.specs.Asking.{IsBaseStop, IsSpentStop, LeavesBase, may_rise, of_base, user_frame, NamesInFirst}
 use Rattle.table_bases.specs.Holding.{naming}

@@ -10,8 +10,8 @@ use Rattle.xp_board.specs.Hands.{IsEmptyHand}
 use Rattle.xp_board.specs.KindSteps.{live_typed}
 use Rattle.xp_board.specs.Told.{PortValue}
 use Rattle.step_maker.specs.Holds.{Holds, Rests}
-use Rattle.answer_fits.specs.Answers.{Deed, Serves, Stops}
-use Rattle.answer_fits.specs.Asked.{of_back}
+use Rattle.step_maker.specs.Answers.{Deed, Serves, Stops}
+use Rattle.step_maker.specs.Asked.{of_back}
 use Rattle.partial_state.specs.Levels.{level_type}
 use Rattle.level_validate.specs.Unwinding.{own_domain}
 use Rattle.mmuext_ops.specs.Course.{GivenUp, PerformsBy, PinEnds}

@@ -1,7 +1,7 @@
 //! Translations of the own vCPU that are dropped.
 ghost use Rattle.std.specs.Prelude.{◌≡◌, ℕ, [], None, Ok, IfErr};
 ghost use Rattle.step_maker.specs.Holds.{FlushedSame, Rests};
-ghost use Rattle.answer_fits.specs.Answers.{Stops};
+ghost use Rattle.step_maker.specs.Answers.{Stops};
 ghost use Rattle.mmuext_ops.specs.Course.{FlushedLocal, Invalidated};
 ghost use Rattle.mmuext_ops.specs.Elements.{IsElementStop, ServesElement, ext_request};
 ghost use Rattle.mmuext_ops.specs.declared.element.Element.TheVariants.{FlushLocal, Invalidate};

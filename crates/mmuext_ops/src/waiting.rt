@@ -2,7 +2,7 @@
 ghost use Rattle.std.specs.Prelude.{◌≡◌, ℕ, [], IfErr};
 ghost use Rattle.xp_board.specs.Readings.{domain_of};
 ghost use Rattle.step_maker.specs.Holds.{FlushedSame, Rests};
-ghost use Rattle.answer_fits.specs.Answers.{Stops};
+ghost use Rattle.step_maker.specs.Answers.{Stops};
 ghost use Rattle.mmuext_ops.specs.Course.{WaitedForVcpus};
 ghost use Rattle.mmuext_ops.specs.Elements.{IsElementStop, KnowsAwaited, ServesElement, awaited_by, ext_request};
 ghost use Rattle.mmuext_ops.specs.declared.element.Element.TheVariants.{FlushVcpus};

@@ -17,7 +17,7 @@ use Rattle.trace_text.specs.Counted.{has_frame}
 use Rattle.machine_build.specs.Opening.{opening_at, untyped}
 use Rattle.opening_rule.proofs.Words.{Opens, vcpu_word, run_inside}
 use Rattle.opening_rule.proofs.Owners.{owner_in_run, frames_of_runs}
-use Rattle.board_lemmas.proofs.Sums.{sum_below-same, sum_below-none}
+use Rattle.xp_board.proofs.Sums.{sum_below-same, sum_below-none}
 use Rattle.opening_rule.proofs.Readings.{kind_is, count_is_mark, page_of}
 
 -- ---- empty hands

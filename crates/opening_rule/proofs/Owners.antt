@@ -6,7 +6,7 @@ use Rattle.xp_words.specs.RefWords.{bit}
 use Rattle.xp_board.specs.Sums.{sum_below}
 use Rattle.trace_text.specs.declared.trace.Own.{Own}
 use Rattle.trace_text.specs.Counted.{pages_of, pages_in, is_apart, has_frame}
-use Rattle.board_lemmas.proofs.Sums.{sum_below-same, sum_below-none, sum_below-plus}
+use Rattle.xp_board.proofs.Sums.{sum_below-same, sum_below-none, sum_below-plus}
 
 -- ---- one run
 -- 1 where the run has the frame and is the domain's

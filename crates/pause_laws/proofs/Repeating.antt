@@ -12,9 +12,9 @@ use Rattle.xp_board.specs.Lawful.{Lawful}
 use Rattle.xp_board.specs.Readings.{count_in, ref_count}
 use Rattle.xp_board.specs.Told.{Post, PortValue, is_telling, told_word}
 use Rattle.step_maker.proofs.Coming.{came_post, met_after, met_before}
-use Rattle.answer_fits.specs.Answers.{Stops}
-use Rattle.answer_fits.specs.Licences.{IsFull}
-use Rattle.answer_fits.proofs.Alikes.{same_alike}
+use Rattle.step_maker.specs.Answers.{Stops}
+use Rattle.step_maker.specs.Licences.{IsFull}
+use Rattle.step_maker.proofs.Alikes.{same_alike}
 use Rattle.partial_state.specs.Levels.{level_type}
 use Rattle.table_law.specs.Alone.{PlainOutcome, alone}
 use Rattle.table_law.specs.Lawful.{IsAtRest}

@@ -13,7 +13,7 @@ use Rattle.xp_board.specs.Acts.{left_by}
 use Rattle.xp_board.specs.Readings.{owner_of, ref_count}
 use Rattle.xp_board.specs.RefSteps.{one_down, owner_number}
 use Rattle.xp_board.proofs.RefWords.{owned_says, read_small}
-use Rattle.board_lemmas.proofs.PlaceTests.{is_same-other, is_same-refl, same_or_other}
+use Rattle.xp_board.proofs.PlaceTests.{is_same-other, is_same-refl, same_or_other}
 use Rattle.step_maker.specs.Plain.{Words}
 use Rattle.frame_words.specs.Plain.{got, lowered, one_more, put, refer, refer_by, set_free}
 use Rattle.table_twins.proofs.Referring.{not_full}

@@ -10,7 +10,7 @@ use Rattle.step_maker.specs.Moves.{Came}
 use Rattle.step_maker.specs.Plain.{Words}
 use Rattle.step_maker.proofs.Coming.{came_trans, moves_came}
 use Rattle.step_maker.proofs.Telling.{came_telling, load_tells, told_there}
-use Rattle.answer_fits.proofs.Visiting.{does_came}
+use Rattle.step_maker.proofs.Visiting.{does_came}
 use Rattle.frame_words.specs.Plain.{got, put, refer}
 use Rattle.table_courses.specs.Acquiring.{GaveRef, GotRef}
 use Rattle.mmuext_ops.specs.Course.{SawKind}

@@ -12,13 +12,13 @@ use Rattle.xp_board.specs.Acts.{left_by}
 use Rattle.xp_board.specs.KindSteps.{raised_kind}
 use Rattle.xp_board.specs.Readings.{kind_at}
 use Rattle.xp_board.specs.Told.{PortValue, is_telling, told_word}
-use Rattle.board_lemmas.proofs.EntryWords.{type_same}
-use Rattle.board_lemmas.proofs.PlaceTests.{is_same-refl}
+use Rattle.xp_board.proofs.EntryWords.{type_same}
+use Rattle.xp_board.proofs.PlaceTests.{is_same-refl}
 use Rattle.step_maker.specs.Plain.{Words}
 use Rattle.step_maker.proofs.Coming.{came_trans}
 use Rattle.step_maker.proofs.Telling.{came_telling, told_here}
-use Rattle.answer_fits.specs.Twins.{Alike, IsAlikeKind}
-use Rattle.answer_fits.proofs.Visiting.{does_came}
+use Rattle.step_maker.specs.Twins.{Alike, IsAlikeKind}
+use Rattle.step_maker.proofs.Visiting.{does_came}
 use Rattle.frame_words.specs.Plain.{refer}
 use Rattle.kind_words.specs.Kinds.{live_kind}
 use Rattle.kind_words.proofs.KindWriting.{fields_write, live_is, raised_is}

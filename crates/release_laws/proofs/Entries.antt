@@ -20,8 +20,8 @@ use Rattle.xp_board.specs.declared.step.Mark.TheVariants.{Shed}
 use Rattle.step_maker.specs.Plain.{Words, Leaves}
 use Rattle.step_maker.specs.Moves.{Moves}
 use Rattle.step_maker.proofs.Telling.{load_tells, moves_telling, told_there}
-use Rattle.answer_fits.specs.Visits.{Visit, Does, Only, Then}
-use Rattle.answer_fits.proofs.Visiting.{does_as}
+use Rattle.step_maker.specs.Visits.{Visit, Does, Only, Then}
+use Rattle.step_maker.proofs.Visiting.{does_as}
 use Rattle.frame_words.specs.Freeing.{PutBy}
 use Rattle.frame_words.specs.Plain.{put}
 use Rattle.frame_types.specs.Found.{DropsBy, StoresKind, saw_kind, swaps_kind}
@@ -43,7 +43,7 @@ use Rattle.release_laws.proofs.Parts.{does_only, does_parts, does_with}
 use Rattle.kind_words.proofs.KindFacts.{kind_found}
 use Rattle.xp_board.specs.declared.step.StepKind.{StepKind}
 use Rattle.table_twins.proofs.Entering.{described_leaves}
-use Rattle.board_lemmas.proofs.KindForms.{frame_inside}
+use Rattle.xp_board.proofs.KindForms.{frame_inside}
 use Rattle.release_laws.proofs.Seen.{IsCounted, IsLowered, drops_seen, kinded_counted, looked_counted, looked_lowered, lowers_seen, put_seen, stores_counted}
 use Rattle.release_laws.proofs.Words.{put_words}
 

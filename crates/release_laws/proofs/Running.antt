@@ -7,8 +7,8 @@ use Rattle.xp_board.specs.Told.{Post, PortValue, is_telling, told_word}
 use Rattle.step_maker.specs.Moves.{Came}
 use Rattle.step_maker.proofs.Coming.{came_post}
 use Rattle.step_maker.proofs.Telling.{came_telling}
-use Rattle.answer_fits.specs.Visits.{Does, Then}
-use Rattle.answer_fits.proofs.Visiting.{does_came}
+use Rattle.step_maker.specs.Visits.{Does, Then}
+use Rattle.step_maker.proofs.Visiting.{does_came}
 use Rattle.frame_words.specs.Freeing.{PutBy}
 use Rattle.frame_types.specs.Found.{Dies}
 use Rattle.partial_state.proofs.LevelFacts.{level_type-typed}

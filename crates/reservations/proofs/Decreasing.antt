@@ -15,14 +15,14 @@ use Rattle.step_maker.specs.Plain.{Words}
 use Rattle.step_maker.specs.Moves.{Came, Met}
 use Rattle.step_maker.proofs.Telling.{came_telling}
 use Rattle.step_maker.proofs.Coming.{came_post, met_after}
-use Rattle.answer_fits.specs.Twins.{AnswersAs, Twin}
-use Rattle.answer_fits.specs.Answers.{Deed, Returns, Serves, Stops, missed}
-use Rattle.answer_fits.specs.Asked.{Within, of_return, named}
-use Rattle.answer_fits.specs.Visits.{Does}
-use Rattle.answer_fits.proofs.Visiting.{does_then}
-use Rattle.answer_fits.proofs.Grown.{grown_by}
-use Rattle.answer_fits.proofs.Later.{IsUncounted, stops_later}
-use Rattle.answer_fits.proofs.Piecing.{serves_came, serves_inner, serves_nothing}
+use Rattle.step_maker.specs.Twins.{AnswersAs, Twin}
+use Rattle.step_maker.specs.Answers.{Deed, Returns, Serves, Stops, missed}
+use Rattle.step_maker.specs.Asked.{Within, of_return, named}
+use Rattle.step_maker.specs.Visits.{Does}
+use Rattle.step_maker.proofs.Visiting.{does_then}
+use Rattle.step_maker.proofs.Grown.{grown_by}
+use Rattle.step_maker.proofs.Later.{IsUncounted, stops_later}
+use Rattle.step_maker.proofs.Piecing.{serves_came, serves_inner, serves_nothing}
 use Rattle.frame_claims.proofs.Listing.{up_more, up_none}
 use Rattle.reservations.specs.Returning.{AllReturnBy, DecreasesBy, DecreasesPlainly, IsReturnStop, ReturnsBy, all_returned, next_refusal, number_at, of_returns, return_refusal, returned, returned_deeds, returns_deeds}
 

@@ -21,23 +21,23 @@ use Rattle.xp_board.specs.declared.holdings.Reference.{Reference}
 use Rattle.xp_board.specs.declared.step.Act.TheVariants.{Cas, Load, Store}
 use Rattle.xp_board.specs.declared.step.StepKind.TheVariants as kinds
 use Rattle.xp_board.proofs.RefWords.{owned_fits, owned_says, read_small}
-use Rattle.board_lemmas.proofs.Numbers.{refs_there}
-use Rattle.board_lemmas.proofs.Sums.{when_eq, when_ne}
+use Rattle.xp_board.proofs.Numbers.{refs_there}
+use Rattle.xp_board.proofs.Sums.{when_eq, when_ne}
 use Rattle.step_maker.specs.Holds.{Holds, Same, still}
 use Rattle.step_maker.specs.Moves.{Moves}
 use Rattle.step_maker.specs.Plain.{Leaves, Words, change}
 use Rattle.step_maker.proofs.Coming.{moment_of, met_after, met_before, moves_came, moves_met}
 use Rattle.step_maker.proofs.Telling.{leaves, leaves_then, load_tells, moves_telling, told_there}
-use Rattle.answer_fits.specs.Answers.{Misses, Returns, Serves, Stops, deeds_by, exchanged, missed_at}
-use Rattle.answer_fits.specs.Asked.{Asked, of, of_back, of_return, named}
-use Rattle.answer_fits.specs.Finding.{Finding}
-use Rattle.answer_fits.specs.Licences.{IsOwnedBy, is_allocated}
-use Rattle.answer_fits.specs.Reasons.{Reason}
-use Rattle.answer_fits.specs.Twins.{Twin}
-use Rattle.answer_fits.specs.Visits.{Does, Only}
-use Rattle.answer_fits.proofs.Changing.{moves_found}
-use Rattle.answer_fits.proofs.Piecing.{moves_serves, serves_back, serves_step}
-use Rattle.answer_fits.proofs.Visiting.{does_as, does_nothing, does_one, does_then}
+use Rattle.step_maker.specs.Answers.{Misses, Returns, Serves, Stops, deeds_by, exchanged, missed_at}
+use Rattle.step_maker.specs.Asked.{Asked, of, of_back, of_return, named}
+use Rattle.step_maker.specs.Finding.{Finding}
+use Rattle.step_maker.specs.Licences.{IsOwnedBy, is_allocated}
+use Rattle.step_maker.specs.Reasons.{Reason}
+use Rattle.step_maker.specs.Twins.{Twin}
+use Rattle.step_maker.specs.Visits.{Does, Only}
+use Rattle.step_maker.proofs.Changing.{moves_found}
+use Rattle.step_maker.proofs.Piecing.{moves_serves, serves_back, serves_step}
+use Rattle.step_maker.proofs.Visiting.{does_as, does_nothing, does_one, does_then}
 use Rattle.frame_claims.specs.Found.{saw_refs}
 use Rattle.frame_words.specs.Freeing.{PutBy, Puts, gave}
 use Rattle.frame_words.specs.Plain.{put}

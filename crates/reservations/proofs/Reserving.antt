@@ -7,13 +7,13 @@ use Rattle.xp_words.specs.declared.reply.Refusal.TheVariants.{BadRange}
 use Rattle.xp_words.specs.declared.reply.Stop.{Stop}
 use Rattle.xp_words.specs.declared.reply.Stop.TheVariants.{Refused, Paused}
 use Rattle.xp_board.specs.Told.{PortValue, told_word}
-use Rattle.board_lemmas.proofs.Sums.{when_eq}
+use Rattle.xp_board.proofs.Sums.{when_eq}
 use Rattle.step_maker.specs.Holds.{FlushedSame, Rests}
-use Rattle.answer_fits.specs.Answers.{Stops}
-use Rattle.answer_fits.specs.Asked.{Request, of_block}
-use Rattle.answer_fits.specs.Visits.{Does, Nothing}
-use Rattle.answer_fits.proofs.Piecing.{serves_nothing}
-use Rattle.answer_fits.proofs.Visiting.{does_as, does_nothing}
+use Rattle.step_maker.specs.Answers.{Stops}
+use Rattle.step_maker.specs.Asked.{Request, of_block}
+use Rattle.step_maker.specs.Visits.{Does, Nothing}
+use Rattle.step_maker.proofs.Piecing.{serves_nothing}
+use Rattle.step_maker.proofs.Visiting.{does_as, does_nothing}
 use Rattle.answer_laws.specs.Alone.{IsAlone}
 use Rattle.frame_claims.specs.Blocks.{given_deeds}
 use Rattle.frame_claims.specs.Claiming.{IsClaimStop, ServesClaim, ServesWhole, StopsClaim, TakesBlock}

@@ -8,9 +8,9 @@ use Rattle.xp_words.specs.declared.reply.Stop.TheVariants.{Refused}
 use Rattle.xp_board.specs.Told.{Post, PortValue, is_telling, told_word}
 use Rattle.step_maker.specs.Holds.{FlushedSame, Rests}
 use Rattle.step_maker.specs.Plain.{Words}
-use Rattle.answer_fits.specs.Answers.{Deed, Serves, Stops, missed}
-use Rattle.answer_fits.specs.Asked.{Request, of_block}
-use Rattle.answer_fits.specs.Visits.{Does, Nothing, Visit}
+use Rattle.step_maker.specs.Answers.{Deed, Serves, Stops, missed}
+use Rattle.step_maker.specs.Asked.{Request, of_block}
+use Rattle.step_maker.specs.Visits.{Does, Nothing, Visit}
 use Rattle.answer_laws.specs.Alone.{IsAlone}
 use Rattle.frame_claims.specs.Blocks.{given_deeds}
 use Rattle.frame_claims.specs.Claiming.{IsClaimStop}

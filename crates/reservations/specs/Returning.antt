@@ -14,9 +14,9 @@ use Rattle.xp_words.specs.declared.reply.Stop.TheVariants.{Refused, Paused}
 use Rattle.xp_board.specs.Told.{PortValue}
 use Rattle.xp_board.specs.declared.step.Act.TheVariants.{Cas, Store}
 use Rattle.step_maker.specs.Plain.{Leaves, Words, change}
-use Rattle.answer_fits.specs.Answers.{Deed, Returns, missed, misses}
-use Rattle.answer_fits.specs.Asked.{Request, of_frame}
-use Rattle.answer_fits.specs.Visits.{Nothing, Only, Then, Visit, visit}
+use Rattle.step_maker.specs.Answers.{Deed, Returns, missed, misses}
+use Rattle.step_maker.specs.Asked.{Request, of_frame}
+use Rattle.step_maker.specs.Visits.{Nothing, Only, Then, Visit, visit}
 use Rattle.frame_claims.specs.Found.{Upwards, saw_refs}
 use Rattle.frame_words.specs.Freeing.{PutBy}
 use Rattle.frame_words.specs.Plain.{put}

@@ -5,10 +5,10 @@ ghost use Rattle.xp_words.specs.declared.place.Place.TheVariants.{Refs};
 ghost use Rattle.xp_words.specs.declared.refs.RefWord.TheVariants.{Owned};
 ghost use Rattle.xp_board.specs.Told.{is_telling, told_word};
 ghost use Rattle.step_maker.specs.Holds.{Rests, Same};
-ghost use Rattle.answer_fits.specs.Answers.{Serves, Stops};
-ghost use Rattle.answer_fits.specs.Asked.{of_return};
-ghost use Rattle.answer_fits.specs.Twins.{Twin};
-ghost use Rattle.answer_fits.specs.Visits.{Does};
+ghost use Rattle.step_maker.specs.Answers.{Serves, Stops};
+ghost use Rattle.step_maker.specs.Asked.{of_return};
+ghost use Rattle.step_maker.specs.Twins.{Twin};
+ghost use Rattle.step_maker.specs.Visits.{Does};
 ghost use Rattle.reservations.specs.Returning.{DecreasesBy, DecreasesPlainly, EndsAt, IsReturnStop, ReturnsBy, is_own_allocated, of_returns, return_deeds, return_refusal, returned, returns_deeds};
 
 use claim_words::clear_allocated;

@@ -12,14 +12,14 @@ use Rattle.xp_board.specs.Acts.{left_by}
 use Rattle.xp_board.specs.Lists.{EachOf}
 use Rattle.xp_board.specs.Steps.{is_same}
 use Rattle.xp_board.specs.Told.{Post, PortValue, is_telling, told_word}
-use Rattle.board_lemmas.proofs.PlaceTests.{same_place}
+use Rattle.xp_board.proofs.PlaceTests.{same_place}
 use Rattle.step_maker.specs.Moves.{Met, Moment, MovesBy, Ran}
 use Rattle.step_maker.proofs.Coming.{came_post, moves_came}
 use Rattle.step_maker.proofs.Telling.{came_telling, leaves, load_tells, moves_telling, ran_telling, told_elsewhere}
-use Rattle.answer_fits.specs.Answers.{Deed, Serves}
-use Rattle.answer_fits.specs.Asked.{Request}
-use Rattle.answer_fits.specs.Finding.{Finding}
-use Rattle.answer_fits.specs.Reasons.{HasReason}
+use Rattle.step_maker.specs.Answers.{Deed, Serves}
+use Rattle.step_maker.specs.Asked.{Request}
+use Rattle.step_maker.specs.Finding.{Finding}
+use Rattle.step_maker.specs.Reasons.{HasReason}
 use Rattle.flush_words.specs.Flushing.{FlushesOwn}
 use Rattle.flush_words.specs.Flushing as flushes
 use Rattle.tlb_walks.specs.Dropping.{Acks, Heeds}

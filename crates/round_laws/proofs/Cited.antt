@@ -13,7 +13,7 @@ use Rattle.step_maker.specs.Moves.{Came}
 use Rattle.answer_laws.specs.Alone.{IsAlone}
 use Rattle.level_release.specs.Course.{left_settled}
 use Rattle.frame_ranks.specs.Ranks.{AreAllAlive, GetsFurther, GoesForward}
-use Rattle.turn_laws.specs.Unhindered.{IsUnhindered}
+use Rattle.vcpu_turn.specs.Unhindered.{IsUnhindered}
 use Rattle.course_laws.specs.Courses.{IsOrderly}
 use Rattle.turn_measures.specs.Measures.{IsWithin, KeepsLeft, LeavesOthers, StaysAt, ahead, left_rank, olds_named}
 use Rattle.vcpu_turn.specs.Cpus.{Processing}

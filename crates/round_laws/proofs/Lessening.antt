@@ -17,7 +17,7 @@ use Rattle.vcpu_turn.specs.Turning.{DoesNext}
 use Rattle.vcpu_turn.specs.declared.cpu.Progress.{Progress}
 use Rattle.vcpu_turn.specs.declared.cpu.TurnEnd.{TurnEnd}
 use Rattle.vcpu_turn.specs.declared.cpu.TurnEnd.TheVariants as ends
-use Rattle.turn_laws.specs.Unhindered.{IsUnhindered}
+use Rattle.vcpu_turn.specs.Unhindered.{IsUnhindered}
 use Rattle.frame_ranks.specs.Ranks.{GetsFurther, rank_at}
 use Rattle.turn_measures.specs.Measures.{IsWithin, KeepsLeft, LeavesOthers, ahead, bit_named, left_rank, olds_named}
 use Rattle.round_laws.specs.Rounds.{AwaitsFlush}

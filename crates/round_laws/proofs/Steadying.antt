@@ -16,8 +16,8 @@ use Rattle.step_maker.specs.Plain.{Words}
 use Rattle.answer_laws.specs.Alone.{IsAlone}
 use Rattle.course_laws.specs.Courses.{IsOrderly}
 use Rattle.vcpu_turn.specs.Cpus.{Processing}
-use Rattle.turn_laws.specs.Unhindered.{IsUnhindered}
-use Rattle.turn_laws.proofs.TurnSteps.{turn_came}
+use Rattle.vcpu_turn.specs.Unhindered.{IsUnhindered}
+use Rattle.vcpu_turn.proofs.TurnSteps.{turn_came}
 use Rattle.frame_ranks.specs.Ranks.{AreAllAlive, rank_at}
 use Rattle.turn_measures.specs.Measures.{KeepsLeft}
 use Rattle.xp_machine.specs.Turns.{ByCpu, IsStagedTurn, MakesStagedTurn, Stage, UnlessRetired}

@@ -23,8 +23,8 @@ use Rattle.vcpu_turn.specs.Turning.{DoesNext, DoesTurn, EndsTurn, GoesOnWith, Is
 use Rattle.vcpu_turn.specs.declared.cpu.TurnEnd.{TurnEnd}
 use Rattle.vcpu_turn.specs.declared.cpu.TurnEnd.TheVariants as ends
 use Rattle.vcpu_turn.proofs.Turns.{begins_came}
-use Rattle.turn_laws.specs.Unhindered.{IsUnhindered}
-use Rattle.turn_laws.proofs.Hindering.{settles_came}
+use Rattle.vcpu_turn.specs.Unhindered.{IsUnhindered}
+use Rattle.vcpu_turn.proofs.Hindering.{settles_came}
 use Rattle.frame_ranks.specs.Ranks.{AreAllAlive, GetsFurther, GoesForward, rank_at}
 use Rattle.turn_measures.specs.Measures.{IsWithin, KeepsLeft, StaysAt, ahead, bit_named, olds_named}
 use Rattle.round_laws.proofs.Beginning.{begins_leaves, serves_leaves}

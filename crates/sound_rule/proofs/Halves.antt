@@ -16,7 +16,7 @@ use Rattle.xp_board.specs.Marks.{after_mark, recorded, shed, demand_seen}
 use Rattle.xp_board.specs.Legal.{Legal}
 use Rattle.xp_board.specs.Runs.{Stepped}
 use Rattle.xp_board.specs.Keeping.{MayMark, Marked, MayAct, Acted}
-use Rattle.board_lemmas.proofs.Sums.{if_itself}
+use Rattle.xp_board.proofs.Sums.{if_itself}
 
 -- ---- a mark leaves the own run word as the vCPU knows it
 out_run : (d : Demand) (h : Holdings) → (demand_out d h).run ≡ h.run

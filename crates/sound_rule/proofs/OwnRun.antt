@@ -19,12 +19,12 @@ use Rattle.xp_board.specs.Marks.{after_mark}
 use Rattle.xp_board.specs.Runs as runs
 use Rattle.xp_board.specs.Runs.{place_of, word_at}
 use Rattle.xp_board.specs.Sound.{SoundState, hand_of}
-use Rattle.board_lemmas.proofs.PlaceTests.{same_or_other}
-use Rattle.board_lemmas.proofs.Numbers.{place_number}
+use Rattle.xp_board.proofs.PlaceTests.{same_or_other}
+use Rattle.xp_board.proofs.Numbers.{place_number}
 use Rattle.std.specs.Prelude.{nat_le}
 use Rattle.xp_board.specs.Steps.{last_since, is_at, is_same}
-use Rattle.board_lemmas.proofs.Noted.{move_steps}
-use Rattle.board_lemmas.proofs.PlaceTests.{is_same-refl}
+use Rattle.xp_board.proofs.Noted.{move_steps}
+use Rattle.xp_board.proofs.PlaceTests.{is_same-refl}
 use Rattle.step_effects.proofs.RunWords.{run_kept}
 
 -- no vCPU changes the run word of another one

@@ -13,8 +13,8 @@ use Rattle.xp_board.specs.Readings.{kind_at, is_free}
 use Rattle.xp_board.specs.Hands.{hand, typed_hand, works_on, locks_on, endings_of, claims_of, empty, IsEmptyHand}
 use Rattle.xp_board.specs.Recorded.{recorded_in, work_of, held_of, held, table_entries, entries, hands, named, named_typed, names, names_typed, TypesAgree, CountsAgree, is_page_of}
 use Rattle.xp_board.specs.Sound.{HeldAlone, FreeMap}
-use Rattle.board_lemmas.proofs.Sums.{sum_below-same}
-use Rattle.board_lemmas.proofs.Works.{work_of-none}
+use Rattle.xp_board.proofs.Sums.{sum_below-same}
+use Rattle.xp_board.proofs.Works.{work_of-none}
 
 -- no vCPU holds anything
 abbrev pub Nobody : ℕ → Holdings

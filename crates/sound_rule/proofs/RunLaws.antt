@@ -5,7 +5,7 @@ use Rattle.xp_words.specs.Machine.{Machine}
 use Rattle.xp_words.specs.declared.place.Place.{Place}
 use Rattle.xp_words.specs.Places.{Sizes, sizes_of, place_at, is_place, memory, size}
 use Rattle.xp_words.proofs.PlaceLaws.{memory_same, memory_other}
-use Rattle.board_lemmas.proofs.Numbers.{place_number}
+use Rattle.xp_board.proofs.Numbers.{place_number}
 use Rattle.xp_board.specs.declared.step.Step.{Step}
 use Rattle.xp_board.specs.declared.holdings.Holdings.{Holdings}
 use Rattle.xp_board.specs.Legal.{Legal}

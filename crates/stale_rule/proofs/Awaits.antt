@@ -9,9 +9,9 @@ use Rattle.xp_board.specs.Steps.{left_of, EachSince}
 use Rattle.xp_board.specs.After.{noted}
 use Rattle.xp_board.specs.Reach.{Use}
 use Rattle.xp_board.specs.Fresh.{Awaited}
-use Rattle.board_lemmas.proofs.HandLists.{EachOf-map}
+use Rattle.xp_board.proofs.HandLists.{EachOf-map}
 use Rattle.stale_rule.proofs.Like.{HandLike}
-use Rattle.board_lemmas.proofs.MoreSteps.{EachSince-more, EachSince-none}
+use Rattle.xp_board.proofs.MoreSteps.{EachSince-more, EachSince-none}
 
 -- the hand after a mark, which makes no step
 pub awaited_same : (z : Sizes) (flushed g : ℕ) (u : Use) (a b : Holdings) → HandLike a b → Awaited z flushed g u a → Awaited z flushed g u b

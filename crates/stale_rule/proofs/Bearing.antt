@@ -8,7 +8,7 @@ use Rattle.xp_board.specs.Readings.{is_dead, is_type}
 use Rattle.xp_board.specs.KindSteps.{is_stale, begun_kind}
 use Rattle.xp_board.specs.Reach.{Use, Table, Writes, Reads}
 use Rattle.xp_board.specs.Fresh.{Matches, Bears}
-use Rattle.board_lemmas.proofs.ReachAll.{IsLevel}
+use Rattle.xp_board.proofs.ReachAll.{IsLevel}
 
 -- ---- types
 matches_number : (s t : PageType) (u : Use) → type_number t ≡ type_number s → Matches s u → Matches t u

@@ -18,16 +18,16 @@ use Rattle.xp_board.specs.Reach.{Use, Table, Writes, Reads, use_of, use_below, r
 use Rattle.xp_board.specs.Fresh.{Matches, FreshAt}
 use Rattle.xp_board.specs.Sound.{Sound}
 use Rattle.stale_rule.proofs.Bearing.{bears_read}
-use Rattle.board_lemmas.proofs.KindForms.{live_unmarked}
+use Rattle.xp_board.proofs.KindForms.{live_unmarked}
 use Rattle.stale_rule.proofs.Served.{Served, entry_served}
-use Rattle.board_lemmas.proofs.HeldByForm.{live_idle}
-use Rattle.board_lemmas.proofs.Works.{nobody_works, nobody_ends}
-use Rattle.board_lemmas.proofs.ReachAll.{IsLevel, Reach-all, reach_level, unmarked_matches}
-use Rattle.board_lemmas.proofs.CellAlike.{CellAlike}
-use Rattle.board_lemmas.proofs.HandLists.{EachOf-map}
-use Rattle.board_lemmas.proofs.ListCounts.{EachOf-apart}
-use Rattle.board_lemmas.proofs.RefForms.{counted_word}
-use Rattle.board_lemmas.proofs.WalkDown.{Passes, passes_alike}
+use Rattle.xp_board.proofs.HeldByForm.{live_idle}
+use Rattle.xp_board.proofs.Works.{nobody_works, nobody_ends}
+use Rattle.xp_board.proofs.ReachAll.{IsLevel, Reach-all, reach_level, unmarked_matches}
+use Rattle.xp_board.proofs.CellAlike.{CellAlike}
+use Rattle.xp_board.proofs.HandLists.{EachOf-map}
+use Rattle.xp_board.proofs.ListCounts.{EachOf-apart}
+use Rattle.xp_board.proofs.RefForms.{counted_word}
+use Rattle.xp_board.proofs.WalkDown.{Passes, passes_alike}
 
 abbrev pub Came : Machine → (Place → ℕ) → (ℕ → Holdings) → ℕ → ℕ → Use → Type 0
 Came n m h v g u = Reach (sizes_of n) m (h v) g u ⊎ (Served m (domain_of n v) g u ⊎ ((u ≡ Reads) × Reach (sizes_of n) m (h v) g Writes))

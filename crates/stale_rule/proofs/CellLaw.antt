@@ -16,12 +16,12 @@ use Rattle.xp_board.specs.Reach.{Use, Table, use_of, reached_by, Reach, cached, 
 use Rattle.xp_board.specs.Fresh.{Fresh}
 use Rattle.xp_board.specs.Sound.{Sound}
 use Rattle.step_effects.proofs.ActEffects.{Wrote}
-use Rattle.board_lemmas.proofs.PlaceTests.{same_or_other}
+use Rattle.xp_board.proofs.PlaceTests.{same_or_other}
 use Rattle.stale_rule.proofs.CameFresh.{Came, PassesOn, alike_passes, came_all, came_fresh, came_one}
 use Rattle.stale_rule.proofs.Like.{HandLike}
 use Rattle.stale_rule.proofs.Moves.{by_vcpu, TellsClock, not_clock, awaits_on}
 use Rattle.stale_rule.proofs.Stays.{ref_same, KeepsEver, ever_same, Bearable, fresh_at}
-use Rattle.board_lemmas.proofs.CellAlike.{alike_same}
+use Rattle.xp_board.proofs.CellAlike.{alike_same}
 
 -- what all vCPUs come to after the step they came to, or it is fresh before the step
 pub came_law : (n : Machine) (m m2 : Place → ℕ) (h h2 : ℕ → Holdings) → Sound n m h → KeepsEver m m2 →

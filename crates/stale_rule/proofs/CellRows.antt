@@ -20,13 +20,13 @@ use Rattle.xp_board.specs.Keeping.{Acted}
 use Rattle.xp_board.specs.Sound.{Sound}
 use Rattle.step_effects.proofs.ActEffects.{Wrote, Filled, GuestStored}
 use Rattle.stale_rule.proofs.CameFresh.{Came, came_fresh, came_one}
-use Rattle.board_lemmas.proofs.KindForms.{live_unmarked}
+use Rattle.xp_board.proofs.KindForms.{live_unmarked}
 use Rattle.stale_rule.proofs.CellLaw.{written_law}
 use Rattle.stale_rule.proofs.FreeRows.{not_claimed}
 use Rattle.stale_rule.proofs.Like.{cell_stays}
 use Rattle.stale_rule.proofs.StoreRows.{its_word}
-use Rattle.board_lemmas.proofs.ReachAll.{IsLevel, reach_level, written_reach}
-use Rattle.board_lemmas.proofs.CellAlike.{not_reads}
+use Rattle.xp_board.proofs.ReachAll.{IsLevel, reach_level, written_reach}
+use Rattle.xp_board.proofs.CellAlike.{not_reads}
 
 -- ---- elements that pass
 

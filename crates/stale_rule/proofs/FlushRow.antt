@@ -16,7 +16,7 @@ use Rattle.step_effects.proofs.ActEffects.{Flushed}
 use Rattle.stale_rule.proofs.Like.{parts_like}
 use Rattle.stale_rule.proofs.Moves.{by_vcpu, awaits_on, not_clock}
 use Rattle.stale_rule.proofs.Stays.{ref_same, ever_same, fresh_law}
-use Rattle.board_lemmas.proofs.ReachAll.{Reach-none, Reach-same}
+use Rattle.xp_board.proofs.ReachAll.{Reach-none, Reach-same}
 
 module _ (n : Machine) (s : ℕ) (x : Step) (m m2 : Place → ℕ) (b c : ℕ → Holdings) (acted : Acted n s x m m2 b c) (sound : Sound n m b)
     (d : Flushed n s x m m2 (b s) (c s)) where

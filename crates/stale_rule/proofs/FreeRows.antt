@@ -18,14 +18,14 @@ use Rattle.xp_board.specs.Fresh.{FreshAt, Fresh}
 use Rattle.xp_board.specs.Keeping.{Acted}
 use Rattle.xp_board.specs.Sound.{Sound}
 use Rattle.step_effects.proofs.ActEffects.{Took, Freed, Gave}
-use Rattle.board_lemmas.proofs.HandLists.{EachOf-without, EachOf-first, first-key, first-some, times-without}
+use Rattle.xp_board.proofs.HandLists.{EachOf-without, EachOf-first, first-key, first-some, times-without}
 use Rattle.stale_rule.proofs.Like.{HandLike, parts_like}
 use Rattle.stale_rule.proofs.Past.{past_gone, gone_unreached}
 use Rattle.stale_rule.proofs.RefRows.{ref_law}
-use Rattle.board_lemmas.proofs.Sums.{one_at-other}
+use Rattle.xp_board.proofs.Sums.{one_at-other}
 use Rattle.xp_board.proofs.RefWords.{free_says}
-use Rattle.board_lemmas.proofs.MoreSteps.{since_each}
-use Rattle.board_lemmas.proofs.RefForms.{free_number}
+use Rattle.xp_board.proofs.MoreSteps.{since_each}
+use Rattle.xp_board.proofs.RefForms.{free_number}
 
 -- ---- free words
 

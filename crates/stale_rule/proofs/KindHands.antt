@@ -8,9 +8,9 @@ use Rattle.xp_board.specs.declared.holdings.OwnerFound.{OwnerFound}
 use Rattle.xp_board.specs.declared.holdings.Holdings.{Holdings}
 use Rattle.xp_board.specs.Readings.{is_work, is_closing}
 use Rattle.xp_board.specs.KindSteps.{KindRow, Count, Locks, Pin, Unpin, Resume, TakeBack, Begin, after_kind_row, Form, Live, Partial, InWork, Dead, after_form, dropped, unlocked, as_typed, put_partial, kept_owner}
-use Rattle.board_lemmas.proofs.HandLists.{EachOf-if, EachOf-more, EachOf-changed, EachOf-without}
+use Rattle.xp_board.proofs.HandLists.{EachOf-if, EachOf-more, EachOf-changed, EachOf-without}
 use Rattle.stale_rule.proofs.Like.{HandStays, same_stays, parts_stay, works_stay, then_stays}
-use Rattle.board_lemmas.proofs.Sums.{either}
+use Rattle.xp_board.proofs.Sums.{either}
 
 pub row_stays : (row : KindRow) (f : ℕ) (k l : KindWord) (new : ℕ) (a : Holdings) → HandStays a (after_kind_row row f k l new a)
 row_stays Count f k l new a = parts_stay a _ refl refl refl refl refl refl

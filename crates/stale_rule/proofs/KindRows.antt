@@ -18,13 +18,13 @@ use Rattle.xp_board.specs.Keeping.{Acted}
 use Rattle.xp_board.specs.Sound.{Sound}
 use Rattle.step_effects.proofs.ActEffects.{Wrote, Turned, Dropped, Unlocked}
 use Rattle.stale_rule.proofs.Bearing.{bears_same, bears_begun, OneLess}
-use Rattle.board_lemmas.proofs.KindForms.{marked_unlive}
+use Rattle.xp_board.proofs.KindForms.{marked_unlive}
 use Rattle.stale_rule.proofs.KindHands.{row_stays, dropped_stays, unlocked_stays}
 use Rattle.stale_rule.proofs.Like.{HandStays, parts_stay, then_stays}
 use Rattle.stale_rule.proofs.Moves.{act_law, not_clock}
 use Rattle.stale_rule.proofs.Stays.{ref_same, ever_same}
-use Rattle.board_lemmas.proofs.ReachAll.{IsLevel, Reach-level}
-use Rattle.board_lemmas.proofs.CountsDown.{drop_live, drop_word, lock_live, unlock_word}
+use Rattle.xp_board.proofs.ReachAll.{IsLevel, Reach-level}
+use Rattle.xp_board.proofs.CountsDown.{drop_live, drop_word, lock_live, unlock_word}
 
 -- the marks of an exchange that leaves type, mark and stamp
 row_bears : (row : KindRow) (n : Machine) (s f flushed : ℕ) (k l : KindWord) (a : Holdings) (u : Use) → IsLevel u → (k.unflushed ≡ true → k.validated ≡ false) →

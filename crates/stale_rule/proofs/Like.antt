@@ -11,9 +11,9 @@ use Rattle.xp_board.specs.Hands.{claims_of}
 use Rattle.xp_board.specs.Reach.{reached_by}
 use Rattle.xp_board.specs.Settling.{demand_in, demand_out}
 use Rattle.xp_board.specs.After.{learned, learned_cell, learned_own, learned_work, learned_claim}
-use Rattle.board_lemmas.proofs.HandLists.{EachOf-changed, times-changed}
-use Rattle.board_lemmas.proofs.HandParts.{Beside, Translations, beside_own, translations_own, beside_out, beside_in, translations_out, translations_in, learned_by}
-use Rattle.board_lemmas.proofs.Sums.{either}
+use Rattle.xp_board.proofs.HandLists.{EachOf-changed, times-changed}
+use Rattle.xp_board.proofs.HandParts.{Beside, Translations, beside_own, translations_own, beside_out, beside_in, translations_out, translations_in, learned_by}
+use Rattle.xp_board.proofs.Sums.{either}
 
 -- ---- hands
 -- From hand a to hand b the steps are the same; what is in work or ending besides the frames of before has been so

@@ -30,13 +30,13 @@ use Rattle.stale_rule.proofs.CellLaw.{written_law}
 use Rattle.stale_rule.proofs.Like.{HandStays, then_stays, cell_stays, in_stays, out_stays}
 use Rattle.stale_rule.proofs.Served.{Served, AsksWell, typed_counted, target_served, served_owner, recorded_well, Granted}
 use Rattle.xp_board.proofs.RefWords.{owner_few}
-use Rattle.board_lemmas.proofs.LockFacts.{lock_facts, rewritten_same}
-use Rattle.board_lemmas.proofs.Counted.{in_hand_counted}
-use Rattle.board_lemmas.proofs.CellAlike.{not_reads}
-use Rattle.board_lemmas.proofs.MoreSteps.{since_each, since_later}
-use Rattle.board_lemmas.proofs.ReachAll.{reach_level}
-use Rattle.board_lemmas.proofs.Serving.{asks_hand}
-use Rattle.board_lemmas.proofs.CountsDown.{lock_live, lock_some}
+use Rattle.xp_board.proofs.LockFacts.{lock_facts, rewritten_same}
+use Rattle.xp_board.proofs.Counted.{in_hand_counted}
+use Rattle.xp_board.proofs.CellAlike.{not_reads}
+use Rattle.xp_board.proofs.MoreSteps.{since_each, since_later}
+use Rattle.xp_board.proofs.ReachAll.{reach_level}
+use Rattle.xp_board.proofs.Serving.{asks_hand}
+use Rattle.xp_board.proofs.CountsDown.{lock_live, lock_some}
 
 some_is : (x y : ℕ) (o : Option ℕ) → o ≡ Some x → o ≡ Some y → x ≡ y
 some_is x y o a b = let e : Some x ≡ Some y = sym a ∙ b in cc

@@ -13,7 +13,7 @@ use Rattle.xp_board.specs.RefSteps.{one_down}
 use Rattle.xp_board.specs.Sound.{Sound}
 use Rattle.stale_rule.proofs.Stays.{RefKept}
 use Rattle.xp_board.proofs.RefWords.{OneLess, more, last, one_down_leaves}
-use Rattle.board_lemmas.proofs.Counted.{in_hand_counted}
+use Rattle.xp_board.proofs.Counted.{in_hand_counted}
 
 -- ---- one up
 pub owned_kept : (w w2 owner count count2 : ℕ) (allocated allocated2 : Bool) → ref_read w ≡ Some (Owned owner allocated count) →

@@ -23,7 +23,7 @@ use Rattle.step_effects.proofs.ActEffects.{Wrote}
 use Rattle.stale_rule.proofs.Awaits.{awaited_same, awaited_more}
 use Rattle.stale_rule.proofs.Like.{HandLike, HandStays}
 use Rattle.stale_rule.proofs.Stays.{RefStays, ref_same, KeepsEver, ever_same, fresh_law}
-use Rattle.board_lemmas.proofs.ReachAll.{Reach-same}
+use Rattle.xp_board.proofs.ReachAll.{Reach-same}
 
 -- ---- of one vCPU and of the others
 pub by_vcpu : (P : ℕ → Holdings → Type 0) (s t : ℕ) (h h2 : ℕ → Holdings) → ((t : ℕ) → t ≢ s → h2 t ≡ h t) → P s (h2 s) → (t ≢ s → P t (h t)) → P t (h2 t)

@@ -14,10 +14,10 @@ use Rattle.xp_board.specs.Flushes.{is_idle, is_past}
 use Rattle.xp_board.specs.Found.{EachClockValue}
 use Rattle.xp_board.specs.Reach.{Use, Reach}
 use Rattle.xp_board.specs.Sound.{Sound}
-use Rattle.board_lemmas.proofs.PlaceTests.{same_place}
-use Rattle.board_lemmas.proofs.StepLists.{since_within}
-use Rattle.board_lemmas.proofs.ReachAll.{Reach-none}
-use Rattle.board_lemmas.proofs.MoreSteps.{since_each, since_later}
+use Rattle.xp_board.proofs.PlaceTests.{same_place}
+use Rattle.xp_board.proofs.StepLists.{since_within}
+use Rattle.xp_board.proofs.ReachAll.{Reach-none}
+use Rattle.xp_board.proofs.MoreSteps.{since_each, since_later}
 
 -- ---- what was found in some step holds by what holds of each
 

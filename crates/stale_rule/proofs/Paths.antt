@@ -16,7 +16,7 @@ use Rattle.xp_board.specs.Reach.{Writes, Reads, Table, use_below, LeadsTo, Path,
 use Rattle.xp_board.specs.Fresh.{Belongs}
 use Rattle.xp_board.specs.Safe.{SafeAt, Safe}
 use Rattle.xp_board.specs.Sound.{Sound}
-use Rattle.board_lemmas.proofs.SafeItems.{items_safe}
+use Rattle.xp_board.proofs.SafeItems.{items_safe}
 use Rattle.stale_rule.proofs.Served.{Served, base_served, entry_served}
 
 -- a frame of the writable type is not in use

@@ -15,11 +15,11 @@ use Rattle.xp_board.specs.Keeping.{Acted, KeepsMark}
 use Rattle.xp_board.specs.Sound.{Sound}
 use Rattle.step_effects.proofs.MarkEffects.{MarkEffect, nothing, turned, forgot, recorded_entry, shed_entry, Recorded, Shed, mark_effect}
 use Rattle.step_effects.proofs.ActEffects.{Looked, Missed, Stumbled, Mapped, Charged, Refunded, Named, Based, Asked, Ran, Ticked, Doomed, Buried, Hinted}
-use Rattle.board_lemmas.proofs.HandLists.{EachOf-changed, Member-kept}
+use Rattle.xp_board.proofs.HandLists.{EachOf-changed, Member-kept}
 use Rattle.stale_rule.proofs.Like.{HandStays, same_stays, parts_like, parts_stay, works_stay, then_stays, learned_stays, cell_stays, own_stays, in_stays, out_stays}
 use Rattle.stale_rule.proofs.Moves.{mark_law, still_law, aside_law, not_clock}
-use Rattle.board_lemmas.proofs.Counted.{not_context}
-use Rattle.board_lemmas.proofs.Sums.{either}
+use Rattle.xp_board.proofs.Counted.{not_context}
+use Rattle.xp_board.proofs.Sums.{either}
 
 -- ---- marks
 recorded_stays : (n : Machine) (f upto : ℕ) (h b : Holdings) → Recorded n f upto h b → HandStays h b

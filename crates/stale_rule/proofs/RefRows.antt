@@ -19,8 +19,8 @@ use Rattle.xp_board.specs.Fresh.{Fresh}
 use Rattle.xp_board.specs.Keeping.{Acted}
 use Rattle.xp_board.specs.Sound.{Sound}
 use Rattle.step_effects.proofs.ActEffects.{Wrote, Raised, Cleared, Lowered, Privileged}
-use Rattle.board_lemmas.proofs.Bits.{granted-ever, revoked-ever}
-use Rattle.board_lemmas.proofs.HandLists.{EachOf-if, EachOf-more}
+use Rattle.xp_board.proofs.Bits.{granted-ever, revoked-ever}
+use Rattle.xp_board.proofs.HandLists.{EachOf-if, EachOf-more}
 use Rattle.stale_rule.proofs.Like.{HandStays, HandLike, same_stays, parts_stay}
 use Rattle.stale_rule.proofs.Lowers.{owned_kept, lowered_kept}
 use Rattle.stale_rule.proofs.Moves.{act_law, quiet_law, not_clock}

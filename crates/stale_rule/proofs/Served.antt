@@ -18,13 +18,13 @@ use Rattle.xp_board.specs.Valid.{Permits, EntryPermitted, PermitsOwner}
 use Rattle.xp_board.specs.Reach.{Use, Table, Writes, Reads, use_below}
 use Rattle.xp_board.specs.Fresh.{Belongs}
 use Rattle.xp_board.specs.Sound.{Sound}
-use Rattle.board_lemmas.proofs.Counted.{type_below, plain_counted}
-use Rattle.board_lemmas.proofs.EntryAsks.{asks_table, asks_leaf, LeafAsks, walked_inside}
-use Rattle.board_lemmas.proofs.CellAlike.{not_reads}
-use Rattle.board_lemmas.proofs.KindReadings.{live_count}
-use Rattle.board_lemmas.proofs.LiveTables.{table_held, base_table}
-use Rattle.board_lemmas.proofs.RefForms.{counted_word}
-use Rattle.board_lemmas.proofs.Serving.{Serves, AsksLive, target_serves, recorded_asks}
+use Rattle.xp_board.proofs.Counted.{type_below, plain_counted}
+use Rattle.xp_board.proofs.EntryAsks.{asks_table, asks_leaf, LeafAsks, walked_inside}
+use Rattle.xp_board.proofs.CellAlike.{not_reads}
+use Rattle.xp_board.proofs.KindReadings.{live_count}
+use Rattle.xp_board.proofs.LiveTables.{table_held, base_table}
+use Rattle.xp_board.proofs.RefForms.{counted_word}
+use Rattle.xp_board.proofs.Serving.{Serves, AsksLive, target_serves, recorded_asks}
 
 -- a frame with a type count has a reference count
 pub typed_counted : (n : Machine) (m : Place → ℕ) (h : ℕ → Holdings) (g : ℕ) → Sound n m h → (kind_at m g).validated ≡ true → 0 < (kind_at m g).number → 0 < ref_count (m (Refs g))

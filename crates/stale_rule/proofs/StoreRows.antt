@@ -21,14 +21,14 @@ use Rattle.xp_board.specs.Keeping.{Acted}
 use Rattle.xp_board.specs.Sound.{Sound}
 use Rattle.step_effects.proofs.ActEffects.{Stored}
 use Rattle.stale_rule.proofs.Bearing.{bears_read, bears_same, bears_dead, matches_same}
-use Rattle.board_lemmas.proofs.KindForms.{marked_unlive, live_form}
+use Rattle.xp_board.proofs.KindForms.{marked_unlive, live_form}
 use Rattle.stale_rule.proofs.KindHands.{form_stays}
 use Rattle.stale_rule.proofs.KindRows.{kind_law}
-use Rattle.board_lemmas.proofs.HandLists.{EachOf-first}
+use Rattle.xp_board.proofs.HandLists.{EachOf-first}
 use Rattle.stale_rule.proofs.Past.{past_gone, gone_unreached}
-use Rattle.board_lemmas.proofs.FormsLeft.{is_live_left, is_partial_left}
-use Rattle.board_lemmas.proofs.WorkFacts.{Works, works_facts}
-use Rattle.board_lemmas.proofs.MoreSteps.{since_each}
+use Rattle.xp_board.proofs.FormsLeft.{is_live_left, is_partial_left}
+use Rattle.xp_board.proofs.WorkFacts.{Works, works_facts}
+use Rattle.xp_board.proofs.MoreSteps.{since_each}
 
 -- the stamp that a marked word tells
 marked_tells : (f w x : ℕ) → (w == x) ≡ true → (kind_fields x).validated ≡ false → clock_value (Kind f) w ≡ (kind_fields x).number

@@ -30,8 +30,8 @@ use Rattle.stale_rule.proofs.CameFresh.{Came, alike_passes}
 use Rattle.stale_rule.proofs.CellLaw.{cells_law, written_law}
 use Rattle.stale_rule.proofs.Like.{HandLike, HandStays, same_stays, parts_like, then_like, cell_stays, own_stays}
 use Rattle.stale_rule.proofs.Served.{base_served}
-use Rattle.board_lemmas.proofs.CellAlike.{CellAlike, alike_same, touched_alike}
-use Rattle.board_lemmas.proofs.WalkDown.{cached_comes, deeper_comes}
+use Rattle.xp_board.proofs.CellAlike.{CellAlike, alike_same, touched_alike}
+use Rattle.xp_board.proofs.WalkDown.{cached_comes, deeper_comes}
 
 -- ---- hands that may come to more
 -- all that is held was held, or is come to

@@ -21,7 +21,7 @@ use Rattle.xp_board.specs.TouchSteps.{touched_by}
 use Rattle.xp_board.specs.After.{noted, learned_cell}
 use Rattle.step_effects.proofs.Doing.{Doing, wrote_by, load_words, load_left, lost_words, lost_left, now_by, store_now}
 use Rattle.step_effects.proofs.ActEffects.{Wrote, ActEffect, looked, exchanged, rewrote, filled, guest_stored, started_walk, went_on, touched_entry, stumbled}
-use Rattle.board_lemmas.proofs.Sums.{when_found, when_lost}
+use Rattle.xp_board.proofs.Sums.{when_found, when_lost}
 
 module _ (n : Machine) (s : ℕ) (x : Step) (m m2 : Place → ℕ) (b c : Holdings) (mark : Option Mark) where
   abbrev Effect : Type 0

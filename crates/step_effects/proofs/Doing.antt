@@ -13,9 +13,9 @@ use Rattle.xp_board.specs.Acts.{left_by}
 use Rattle.xp_board.specs.After.{noted, learned, after_act}
 use Rattle.xp_board.specs.Legal.{LegalAs, WritesSpelling, needs_running}
 use Rattle.xp_board.specs.Runs.{place_of}
-use Rattle.board_lemmas.proofs.PlaceTests.{same_or_other}
+use Rattle.xp_board.proofs.PlaceTests.{same_or_other}
 use Rattle.step_effects.proofs.ActEffects.{Wrote}
-use Rattle.board_lemmas.proofs.Sums.{when_found, when_lost}
+use Rattle.xp_board.proofs.Sums.{when_found, when_lost}
 
 -- no word changes where the word at p does not
 pub no_words : (p : Place) (m m2 : Place → ℕ) → m2 p ≡ m p → ((q : Place) → q ≢ p → m2 q ≡ m q) → (q : Place) → m2 q ≡ m q

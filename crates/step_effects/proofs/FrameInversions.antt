@@ -23,8 +23,8 @@ use Rattle.xp_board.specs.KindSteps.{AllowsKind, kind_row, after_kind_row, still
 use Rattle.xp_board.specs.After.{noted}
 use Rattle.step_effects.proofs.Doing.{Doing, wrote_by, lost_words, lost_left, now_by, store_now}
 use Rattle.step_effects.proofs.ActEffects.{Wrote, ActEffect, looked, raised, cleared, took, lowered, freed_frame, gave, turned, missed, dropped_type, unlocked_table, stored}
-use Rattle.board_lemmas.proofs.Sums.{when_found, when_lost}
-use Rattle.board_lemmas.proofs.KindForms.{fields_of}
+use Rattle.xp_board.proofs.Sums.{when_found, when_lost}
+use Rattle.xp_board.proofs.KindForms.{fields_of}
 
 raise_row : (o k : ℕ) (a : Bool) (r : RefWord) → r ≡ Owned o a (k + 1) → ref_row (Some (Owned o a k)) (Some r) ≡ Raise
 raise_row o k true r e = rw e refl

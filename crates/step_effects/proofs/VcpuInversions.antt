@@ -18,7 +18,7 @@ use Rattle.xp_board.specs.ContextSteps.{MayName, MayEmpty}
 use Rattle.xp_board.specs.After.{noted}
 use Rattle.step_effects.proofs.Doing.{Doing, wrote_by, store_now}
 use Rattle.step_effects.proofs.ActEffects.{ActEffect, asked, flushed, ran, named_frame, based}
-use Rattle.board_lemmas.proofs.Sums.{when_found}
+use Rattle.xp_board.proofs.Sums.{when_found}
 
 module _ (n : Machine) (s : ℕ) (x : Step) (m m2 : Place → ℕ) (b c : Holdings) (mark : Option Mark) where
   abbrev Effect : Type 0

@@ -13,9 +13,9 @@ use Rattle.xp_board.specs.declared.holdings.Made.{Made}
 use Rattle.xp_board.specs.Acts.{left_by}
 use Rattle.xp_board.specs.Steps.{is_same, some_step, some_since, some_before}
 use Rattle.xp_board.specs.Told.{PortValue}
-use Rattle.board_lemmas.proofs.Noted.{move_steps}
-use Rattle.board_lemmas.proofs.PlaceTests.{is_same-refl}
-use Rattle.board_lemmas.proofs.StepLists.{one_more}
+use Rattle.xp_board.proofs.Noted.{move_steps}
+use Rattle.xp_board.proofs.PlaceTests.{is_same-refl}
+use Rattle.xp_board.proofs.StepLists.{one_more}
 use Rattle.step_maker.specs.Moves.{Moves, step_at}
 
 below_here : (n k : ℕ) → k < n → nat_lt k n ≡ true

@@ -17,8 +17,8 @@ use Rattle.xp_board.specs.Runs.{place_of}
 use Rattle.xp_board.specs.Steps.{is_same}
 use Rattle.xp_board.specs.Told.{PortValue, Story, IsTold, Went, tells, is_telling, word_in, told_word}
 use Rattle.xp_board.proofs.Going.{went_step, went_telling}
-use Rattle.board_lemmas.proofs.Numbers.{place_number}
-use Rattle.board_lemmas.proofs.PlaceTests.{same_place, is_same-refl}
+use Rattle.xp_board.proofs.Numbers.{place_number}
+use Rattle.xp_board.proofs.PlaceTests.{same_place, is_same-refl}
 use Rattle.step_maker.specs.Moves.{Moment, Moves, Ran, Came, step_at}
 use Rattle.step_maker.specs.Plain.{Words, change, Leaves}
 use Rattle.step_maker.proofs.Moving.{legal_there}

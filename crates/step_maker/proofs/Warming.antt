@@ -4,7 +4,7 @@ use Rattle.xp_board.specs.declared.holdings.Holdings.{Holdings}
 use Rattle.xp_board.specs.After.{after_move}
 use Rattle.xp_board.specs.Told.{PortValue}
 use Rattle.xp_board.specs.WellFormed.{WellFormed}
-use Rattle.board_lemmas.proofs.Warming.{StaysWarm, move_stays}
+use Rattle.xp_board.proofs.Warming.{StaysWarm, move_stays}
 use Rattle.step_maker.specs.Moves.{Came, Moment, MovesBy, Ran}
 
 -- w is as warm as v, or a Run step was made since

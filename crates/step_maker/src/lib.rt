@@ -1,4 +1,5 @@
-//! One atomic step at a word that is given by name.
+//! One atomic step at a word that is given by name, and what it leaves. And what steps show of an answer: why a call may be refused or paused so, and why a
+//! step may change a word; these are definitions and lemmas alone, which the operations cite.
 #![tactic(auto)]
 
 ghost use Rattle.std.specs.Prelude.{◌≡◌, ◌≢◌, IsTrue, IfErr, None};

@@ -6,13 +6,13 @@ use Rattle.xp_words.specs.declared.reply.Stop.{Stop}
 use Rattle.xp_board.specs.Hands.{refs_to, work_on}
 use Rattle.xp_board.specs.Readings.{domain_of, last_clock}
 use Rattle.xp_board.specs.Told.{Post, PortValue}
-use Rattle.board_lemmas.proofs.Sums.{when_eq}
+use Rattle.xp_board.proofs.Sums.{when_eq}
 use Rattle.step_maker.specs.Holds.{Same}
 use Rattle.step_maker.specs.Moves.{Met}
 use Rattle.step_maker.proofs.Coming.{came_post, met_after}
-use Rattle.answer_fits.specs.Answers.{Misses, Serves, Stops, misses}
-use Rattle.answer_fits.specs.Asked.{NoMore, Request, Within, of_table}
-use Rattle.answer_fits.proofs.Piecing.{serves_came, serves_inner, stops_inner}
+use Rattle.step_maker.specs.Answers.{Misses, Serves, Stops, misses}
+use Rattle.step_maker.specs.Asked.{NoMore, Request, Within, of_table}
+use Rattle.step_maker.proofs.Piecing.{serves_came, serves_inner, stops_inner}
 use Rattle.kept_marks.specs.Marks.{IsForeign}
 use Rattle.level_validate.specs.Acquiring.{AcquiresBy, ServesAcquired, of_acquire}
 use Rattle.level_validate.specs.Acquiring as acquires

@@ -13,14 +13,14 @@ use Rattle.xp_board.specs.Steps.{some_since}
 use Rattle.xp_board.specs.Told.{Finds, Post, PortValue}
 use Rattle.xp_board.specs.WellFormed.{WellFormed}
 use Rattle.xp_words.specs.declared.place.Place.{Place}
-use Rattle.board_lemmas.proofs.Sums.{when_eq}
+use Rattle.xp_board.proofs.Sums.{when_eq}
 use Rattle.step_maker.specs.Moves.{Came, Moves}
 use Rattle.step_maker.proofs.Coming.{came_post, came_trans, moves_came}
 use Rattle.step_maker.proofs.Noting.{moves_since}
-use Rattle.answer_fits.specs.Answers.{Deed, Serves}
-use Rattle.answer_fits.specs.Asked.{Request}
-use Rattle.answer_fits.specs.Reasons.{needed, own}
-use Rattle.answer_fits.proofs.Piecing.{serves_came, serves_step}
+use Rattle.step_maker.specs.Answers.{Deed, Serves}
+use Rattle.step_maker.specs.Asked.{Request}
+use Rattle.step_maker.specs.Reasons.{needed, own}
+use Rattle.step_maker.proofs.Piecing.{serves_came, serves_step}
 use Rattle.flush_words.specs.Flushing.{FlushesOwn, MayFlushTo}
 use Rattle.flush_words.specs.Flushing as flushing
 use Rattle.flush_words.proofs.FlushServes.{own_serves}

@@ -19,10 +19,10 @@ use Rattle.xp_preempt.proofs.Consulting.{consulted_none, consulted_then, not_due
 use Rattle.step_maker.specs.Moves.{Came}
 use Rattle.step_maker.proofs.Coming.{came_post, came_self, moves_came}
 use Rattle.step_maker.proofs.Noting.{moves_since}
-use Rattle.answer_fits.specs.Answers.{Serves, SetsWord}
-use Rattle.answer_fits.specs.Asked.{Request}
-use Rattle.answer_fits.specs.Reasons.{own}
-use Rattle.answer_fits.proofs.Piecing.{serves_came, serves_nothing, serves_step, serves_then}
+use Rattle.step_maker.specs.Answers.{Serves, SetsWord}
+use Rattle.step_maker.specs.Asked.{Request}
+use Rattle.step_maker.specs.Reasons.{own}
+use Rattle.step_maker.proofs.Piecing.{serves_came, serves_nothing, serves_step, serves_then}
 use Rattle.flush_words.proofs.FlushServes.{own_stops}
 use Rattle.flush_words.proofs.OwnFlush.{clock_below, less_is, spent_own}
 use Rattle.level_validate.specs.Unwinding.{own_domain}

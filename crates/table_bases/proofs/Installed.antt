@@ -13,14 +13,14 @@ use Rattle.xp_board.specs.KindSteps.{live_typed}
 use Rattle.xp_board.specs.Told.{PortValue}
 use Rattle.xp_preempt.specs.Gates.{ends_yes}
 use Rattle.xp_preempt.proofs.Consulting.{consulted_none}
-use Rattle.board_lemmas.proofs.Sums.{when_eq}
+use Rattle.xp_board.proofs.Sums.{when_eq}
 use Rattle.step_maker.specs.Holds.{FlushedSame, Holds}
 use Rattle.step_maker.specs.Moves.{Came, Met, Moves}
 use Rattle.step_maker.proofs.Coming.{came_trans, met_after, met_before, moment_of, moves_came, moves_met}
-use Rattle.answer_fits.specs.Answers.{Deed, Serves, SetsWord, is_told_word, misses}
-use Rattle.answer_fits.specs.Asked.{IsAsked, IsFor, Request, context, named_type, of}
-use Rattle.answer_fits.specs.Finding.{FoundAt}
-use Rattle.answer_fits.proofs.Piecing.{serves_inner, serves_nothing, serves_step}
+use Rattle.step_maker.specs.Answers.{Deed, Serves, SetsWord, is_told_word, misses}
+use Rattle.step_maker.specs.Asked.{IsAsked, IsFor, Request, context, named_type, of}
+use Rattle.step_maker.specs.Finding.{FoundAt}
+use Rattle.step_maker.proofs.Piecing.{serves_inner, serves_nothing, serves_step}
 use Rattle.flush_words.proofs.Lasting.{came_longer}
 use Rattle.kind_words.proofs.KindHands.{known_first}
 use Rattle.level_validate.specs.Unwinding.{own_domain}

@@ -4,9 +4,9 @@ use Rattle.std.proofs.lemmas.Bool.Decides.{nat_tests}
 use Rattle.xp_words.specs.Machine.{Machine}
 use Rattle.xp_words.specs.declared.kind.PageType.TheVariants as kinds
 use Rattle.step_maker.specs.Moves.{Moment}
-use Rattle.answer_fits.specs.Asked.{Implies, IsAsked, Request, Within, named, of_table}
-use Rattle.answer_fits.specs.Finding.{Finding}
-use Rattle.answer_fits.proofs.Grown.{grown_by, implied}
+use Rattle.step_maker.specs.Asked.{Implies, IsAsked, Request, Within, named, of_table}
+use Rattle.step_maker.specs.Finding.{Finding}
+use Rattle.step_maker.proofs.Grown.{grown_by, implied}
 use Rattle.table_entries.specs.Asking.{of_entries}
 use Rattle.table_bases.specs.Asking.{of_base}
 

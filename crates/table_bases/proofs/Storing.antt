@@ -18,8 +18,8 @@ use Rattle.xp_board.specs.KindSteps.{live_typed}
 use Rattle.xp_board.specs.Readings.{is_context}
 use Rattle.xp_board.specs.Spelling.{IsSpelling, is_vcpu_word}
 use Rattle.xp_board.specs.Told.{PortValue}
-use Rattle.board_lemmas.proofs.Numbers.{vcpu_there}
-use Rattle.board_lemmas.proofs.Sums.{when_found}
+use Rattle.xp_board.proofs.Numbers.{vcpu_there}
+use Rattle.xp_board.proofs.Sums.{when_found}
 use Rattle.step_maker.specs.Holds.{Holds, MayWork, still}
 use Rattle.step_maker.specs.Moves.{May, Moves}
 use Rattle.kind_words.proofs.KindHands.{known_first, typed_held}

@@ -6,8 +6,8 @@ use Rattle.xp_words.specs.declared.reply.Stop.{Stop}
 use Rattle.xp_words.specs.declared.reply.Stop.TheVariants.{Refused, Paused}
 use Rattle.xp_board.specs.Told.{PortValue}
 use Rattle.step_maker.specs.Holds.{FlushedHolds, FlushedSame}
-use Rattle.answer_fits.specs.Answers.{Deed, Serves, SetsWord, Stops, missed}
-use Rattle.answer_fits.specs.Asked.{Request, of_table}
+use Rattle.step_maker.specs.Answers.{Deed, Serves, SetsWord, Stops, missed}
+use Rattle.step_maker.specs.Asked.{Request, of_table}
 use Rattle.level_validate.specs.Acquiring.{IsAcquireStop}
 use Rattle.level_validate.specs.Unwinding.{own_domain}
 pub use Rattle.table_courses.specs.Ending.{may_rise}

@@ -1,7 +1,7 @@
 -- What each visit of a list is, in the pieces of the list.
 use Rattle.std.proofs.Common.{List, [], ◌∷◌, ◌++◌, subst}
 use Rattle.xp_board.specs.Lists.{EachOf}
-use Rattle.answer_fits.specs.Visits.{Only, Then, Visit}
+use Rattle.step_maker.specs.Visits.{Only, Then, Visit}
 
 module _ (Q : Visit → Type 0) where
   pub each_before : (xs ys : List Visit) → EachOf Q (ys ++ xs) → EachOf Q xs

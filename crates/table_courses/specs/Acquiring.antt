@@ -14,9 +14,9 @@ use Rattle.xp_board.specs.Readings.{is_free}
 use Rattle.xp_board.specs.Told.{PortValue, is_telling, told_word}
 use Rattle.step_maker.specs.Moves.{Moves}
 use Rattle.step_maker.specs.Plain.{Leaves}
-use Rattle.answer_fits.specs.Answers.{Stops}
-use Rattle.answer_fits.specs.Asked.{of_frame}
-use Rattle.answer_fits.specs.Visits.{Does}
+use Rattle.step_maker.specs.Answers.{Stops}
+use Rattle.step_maker.specs.Asked.{of_frame}
+use Rattle.step_maker.specs.Visits.{Does}
 use Rattle.frame_words.specs.Plain.{TwinGet, put}
 use Rattle.frame_words.specs.Freeing.{Puts}
 use Rattle.frame_words.specs.Refs.{Gets}

@@ -12,8 +12,8 @@ use Rattle.xp_board.specs.declared.step.Mark.TheVariants.{Record}
 use Rattle.xp_board.specs.Told.{Post, PortValue}
 use Rattle.step_maker.specs.Moves.{Came, Moves}
 use Rattle.step_maker.proofs.Coming.{came_post}
-use Rattle.answer_fits.specs.Visits.{Visit, Does, Only, Then, Nothing as NoVisit}
-use Rattle.answer_fits.proofs.Visiting.{does_as, does_came, does_nothing, does_one, does_then}
+use Rattle.step_maker.specs.Visits.{Visit, Does, Only, Then, Nothing as NoVisit}
+use Rattle.step_maker.proofs.Visiting.{does_as, does_came, does_nothing, does_one, does_then}
 use Rattle.frame_words.specs.Freeing.{PutBy, Puts}
 use Rattle.frame_words.specs.Refs.{Gets, GetsBy, TakesFirst}
 use Rattle.frame_words.proofs.Getting.{first_had, first_stopped}

@@ -21,28 +21,28 @@ use Rattle.xp_board.specs.Hands.{work_on, lock_on, works_on, without_work}
 use Rattle.xp_board.specs.Settling.{is_settled, settles, settles_last}
 use Rattle.xp_board.specs.Told.{Post, PortValue, Finds}
 use Rattle.xp_board.specs.WellFormed.{WellFormed}
-use Rattle.board_lemmas.proofs.KindForms.{fields_of}
+use Rattle.xp_board.proofs.KindForms.{fields_of}
 use Rattle.kind_words.proofs.KindFacts.{kind_is_some}
-use Rattle.board_lemmas.proofs.HandLists.{EachOf-first}
-use Rattle.board_lemmas.proofs.ListChanges.{first_by-changed_here}
-use Rattle.board_lemmas.proofs.ListCounts.{first_by-cons_here, first_by-none, first_by-without_other, times_by-without_one}
-use Rattle.board_lemmas.proofs.Sums.{when_eq, when_ne}
+use Rattle.xp_board.proofs.HandLists.{EachOf-first}
+use Rattle.xp_board.proofs.ListChanges.{first_by-changed_here}
+use Rattle.xp_board.proofs.ListCounts.{first_by-cons_here, first_by-none, first_by-without_other, times_by-without_one}
+use Rattle.xp_board.proofs.Sums.{when_eq, when_ne}
 use Rattle.step_maker.specs.Holds.{FlushedHolds, Holds, MayWork, Same, quiet, still}
 use Rattle.step_maker.specs.Moves.{Came, Moves, Moment, Ran, Met, MovesBy}
 use Rattle.step_maker.proofs.Coming.{came_self, came_trans, moves_came, met_after, met_before, moment_of, moves_met}
 use Rattle.flush_waits.proofs.Growing.{came_grows}
-use Rattle.board_lemmas.proofs.StepLists.{since_within}
+use Rattle.xp_board.proofs.StepLists.{since_within}
 use Rattle.step_maker.proofs.Noting.{moves_since, moves_steps}
 use Rattle.frame_words.specs.Refs.{took}
 use Rattle.frame_types.specs.Taking.{LeavesLive, typed_as}
 use Rattle.frame_types.specs.declared.taking.Taken.TheVariants.{Counted, InWork, Waiting}
 use Rattle.table_entries.specs.Between.{LooksAgain, LooksLive, found, outside, found as was_found, outside as unreal}
 use Rattle.table_entries.specs.Tops.{IsSettledNow, LookedAnd, as_it_was}
-use Rattle.board_lemmas.proofs.Learned.{learned_frame}
+use Rattle.xp_board.proofs.Learned.{learned_frame}
 use Rattle.table_entries.proofs.HandReady.{unmarked_learns}
 use Rattle.xp_words.specs.declared.reply.Stop.{Stop}
-use Rattle.board_lemmas.proofs.KindReadings.{dead_count}
-use Rattle.answer_fits.specs.Visits.{Does, Visit, visit_of, visits, visit}
+use Rattle.xp_board.proofs.KindReadings.{dead_count}
+use Rattle.step_maker.specs.Visits.{Does, Visit, visit_of, visits, visit}
 use Rattle.frame_types.specs.Found.{TakesFound, saw_kind, GoesBy, TakesBy, next_kind}
 use Rattle.frame_types.specs.Plain.{IsTakenBy, is_own, stop_by, waits_by}
 use Rattle.frame_types.specs.Standing.{standing_of}
@@ -56,10 +56,10 @@ use Rattle.xp_board.specs.declared.step.Act.{Act}
 use Rattle.xp_board.specs.declared.step.StepKind.{StepKind}
 use Rattle.xp_board.specs.KindSteps.{AllowsKind, AllowsKindRow, Live, after_form, after_kind_cas, after_kind_row, after_kind_store, form_of, made_live, still_looking, Count, Locks, Pin, Unpin, Resume, TakeBack, Begin}
 use Rattle.xp_board.specs.Legal.{LegalAs}
-use Rattle.board_lemmas.proofs.Works.{one_works}
-use Rattle.answer_fits.specs.Asked.{IsDemandOf, demand_held}
-use Rattle.answer_fits.specs.Pauses.{Progress, counts, settles as settled_live}
-use Rattle.answer_fits.proofs.Progressing.{held_by}
+use Rattle.xp_board.proofs.Works.{one_works}
+use Rattle.step_maker.specs.Asked.{IsDemandOf, demand_held}
+use Rattle.step_maker.specs.Pauses.{Progress, counts, settles as settled_live}
+use Rattle.step_maker.proofs.Progressing.{held_by}
 use Rattle.kind_words.specs.Kinds.{live_kind}
 use Rattle.kind_words.proofs.KindWriting.{fields_write, live_is}
 use Rattle.xp_board.specs.declared.step.StepKind.TheVariants as kinds

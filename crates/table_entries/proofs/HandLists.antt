@@ -7,9 +7,9 @@ use Rattle.xp_words.specs.declared.entry.Demand.TheVariants.{Nothing, Bad, Read,
 use Rattle.xp_words.specs.declared.kind.PageType.{PageType}
 use Rattle.xp_words.specs.declared.kind.PageType.TheVariants as types
 use Rattle.xp_board.specs.Lists.{changed_by, first_by}
-use Rattle.board_lemmas.proofs.HandLists.{first-some, times-changed}
-use Rattle.board_lemmas.proofs.ListChanges.{first_by-changed_here, first_by-changed_other}
-use Rattle.board_lemmas.proofs.ListCounts.{first_by-absent, first_by-none, first_by-some}
+use Rattle.xp_board.proofs.HandLists.{first-some, times-changed}
+use Rattle.xp_board.proofs.ListChanges.{first_by-changed_here, first_by-changed_other}
+use Rattle.xp_board.proofs.ListCounts.{first_by-absent, first_by-none, first_by-some}
 
 -- ---- the newest element of a number is changed
 pub none_before : {A : Type 0} (key : A → ℕ) (g f : ℕ) (change : A → A) (xs : List A) → ((x : A) → key (change x) ≡ key x) → first_by key g (changed_by key f change xs) ≡ None → first_by key g xs ≡ None

@@ -8,8 +8,8 @@ use Rattle.xp_board.specs.declared.holdings.Reference.{Reference}
 use Rattle.xp_board.specs.declared.holdings.TypedReference.{TypedReference}
 use Rattle.xp_board.specs.Hands.{owner_by, owner_by_typed, ref_to, typed_on}
 use Rattle.xp_board.specs.Knowledge.{knows_owner}
-use Rattle.board_lemmas.proofs.ListCounts.{first_by-cons_here, first_by-cons_other}
-use Rattle.board_lemmas.proofs.Owners.{ref_knows, typed_knows}
+use Rattle.xp_board.proofs.ListCounts.{first_by-cons_here, first_by-cons_other}
+use Rattle.xp_board.proofs.Owners.{ref_knows, typed_knows}
 use Rattle.flush_waits.specs.Waiting.{IsKnownOwner}
 
 known_by_ref : (z : Sizes) (f o : ℕ) (k : Holdings) (e : Reference) → ref_to f k.refs ≡ Some e → e.owner ≡ owners.Of o → IsTrue (knows_owner z f o k)

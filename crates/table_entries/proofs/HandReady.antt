@@ -17,10 +17,10 @@ use Rattle.xp_board.specs.After.{counts_fixed, learned_last, learned_work, learn
 use Rattle.xp_board.specs.Hands.{changed_work, work_on, typed_to, without_ref, without_typed}
 use Rattle.xp_board.specs.Settling.{is_settled, settles, settles_last, settles_word, HasLastDemand, demand_out}
 use Rattle.xp_board.specs.Told.{PortValue, Post}
-use Rattle.board_lemmas.proofs.Learned.{learned_frame}
-use Rattle.board_lemmas.proofs.ListChanges.{first_by-changed_here}
-use Rattle.board_lemmas.proofs.ListCounts.{first_by-cons_here}
-use Rattle.board_lemmas.proofs.Sums.{when_ne}
+use Rattle.xp_board.proofs.Learned.{learned_frame}
+use Rattle.xp_board.proofs.ListChanges.{first_by-changed_here}
+use Rattle.xp_board.proofs.ListCounts.{first_by-cons_here}
+use Rattle.xp_board.proofs.Sums.{when_ne}
 use Rattle.flush_waits.proofs.Growing.{Grows, came_grows}
 use Rattle.step_maker.proofs.Coming.{moves_came, came_self}
 use Rattle.table_entries.specs.Between.{LooksNext, SeesEntry}

@@ -22,12 +22,12 @@ use Rattle.xp_board.specs.Steps.{some_since}
 use Rattle.xp_board.specs.Valid.{EntryPermitted, IsLastOfPartial, IsUnsettled}
 use Rattle.std.proofs.lemmas.Bool.{cases_Bool}
 use Rattle.std.proofs.lemmas.Bool.Decides.{nat_tests}
-use Rattle.board_lemmas.proofs.HandLists.{first-some}
-use Rattle.board_lemmas.proofs.Sums.{no_bit, when_eq}
-use Rattle.board_lemmas.proofs.Counted.{entries-part, held_inside, names_typed-typed, plain_counted, type_below}
-use Rattle.board_lemmas.proofs.KindReadings.{busy_partial, partial_parts}
-use Rattle.board_lemmas.proofs.WorkFacts.{Works, work_held, work_word, works_facts, loaded_asks}
-use Rattle.board_lemmas.proofs.Works.{one_vcpu}
+use Rattle.xp_board.proofs.HandLists.{first-some}
+use Rattle.xp_board.proofs.Sums.{no_bit, when_eq}
+use Rattle.xp_board.proofs.Counted.{entries-part, held_inside, names_typed-typed, plain_counted, type_below}
+use Rattle.xp_board.proofs.KindReadings.{busy_partial, partial_parts}
+use Rattle.xp_board.proofs.WorkFacts.{Works, work_held, work_word, works_facts, loaded_asks}
+use Rattle.xp_board.proofs.Works.{one_vcpu}
 use Rattle.xp_board.specs.After.{learned_last, learned_work}
 use Rattle.xp_board.specs.Told.{Finds}
 use Rattle.table_words.specs.Entries.{ShedsLast}

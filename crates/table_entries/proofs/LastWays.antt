@@ -14,8 +14,8 @@ use Rattle.xp_board.specs.After.{counts_fixed, learned_last, learned_work, learn
 use Rattle.xp_board.specs.Hands.{work_on, typed_to}
 use Rattle.xp_board.specs.Settling.{is_settled, settles, settles_last}
 use Rattle.xp_board.specs.Told.{PortValue, told_word, is_telling}
-use Rattle.board_lemmas.proofs.ListChanges.{first_by-changed_here}
-use Rattle.board_lemmas.proofs.Sums.{when_eq}
+use Rattle.xp_board.proofs.ListChanges.{first_by-changed_here}
+use Rattle.xp_board.proofs.Sums.{when_eq}
 use Rattle.step_maker.specs.Holds.{quiet, Holds, Same}
 use Rattle.step_maker.specs.Plain.{Leaves, Words}
 use Rattle.table_entries.specs.Between.{SeesEntry, HandResumed, LooksAgain, LooksLive, Meets, TakesLast, TypeTaken}
@@ -30,11 +30,11 @@ use Rattle.xp_words.specs.declared.reply.Stop.{Stop}
 use Rattle.xp_board.specs.declared.step.Act.TheVariants.{Load}
 use Rattle.step_maker.specs.Moves.{Came, Met, Moves}
 use Rattle.step_maker.proofs.Telling.{came_telling}
-use Rattle.answer_fits.specs.Answers.{Serves, Stops, missed}
-use Rattle.answer_fits.specs.Asked.{Asked, of_back, of_frame}
-use Rattle.answer_fits.specs.Visits.{Does}
-use Rattle.answer_fits.proofs.Piecing.{serves_came}
-use Rattle.answer_fits.proofs.Visiting.{does_as}
+use Rattle.step_maker.specs.Answers.{Serves, Stops, missed}
+use Rattle.step_maker.specs.Asked.{Asked, of_back, of_frame}
+use Rattle.step_maker.specs.Visits.{Does}
+use Rattle.step_maker.proofs.Piecing.{serves_came}
+use Rattle.step_maker.proofs.Visiting.{does_as}
 use Rattle.frame_words.specs.Freeing.{Puts, gave}
 use Rattle.frame_words.specs.Plain.{TwinGet, put}
 use Rattle.frame_words.specs.Refs.{Gets, IsRefStop, took}

@@ -12,9 +12,9 @@ use Rattle.xp_board.specs.declared.step.Act.TheVariants.{Store, Load}
 use Rattle.xp_board.specs.Acts.{left_by}
 use Rattle.xp_board.specs.Readings.{is_free}
 use Rattle.xp_board.specs.Steps.{is_same}
-use Rattle.board_lemmas.proofs.PlaceTests.{same_place}
+use Rattle.xp_board.proofs.PlaceTests.{same_place}
 use Rattle.step_maker.specs.Plain.{Words, change, Leaves}
-use Rattle.answer_fits.specs.Twins.{Alike, IsAlike, IsAlikeKind}
+use Rattle.step_maker.specs.Twins.{Alike, IsAlike, IsAlikeKind}
 use Rattle.frame_words.specs.Plain.{put, stamp_now}
 use Rattle.frame_words.proofs.Alike.{put_alike, stamp_low}
 use Rattle.kind_words.specs.Kinds.{dead_kind, partial_kind}
@@ -37,10 +37,10 @@ use Rattle.step_maker.specs.Holds.{FlushedHolds, Holds}
 use Rattle.step_maker.specs.Moves.{Came, Moves}
 use Rattle.step_maker.proofs.Coming.{came_post, came_trans}
 use Rattle.step_maker.proofs.Telling.{came_telling}
-use Rattle.answer_fits.specs.Asked.{of_frame}
-use Rattle.answer_fits.specs.Visits.{Visit, Does, Then}
-use Rattle.answer_fits.proofs.Piecing.{serves_came}
-use Rattle.answer_fits.proofs.Visiting.{does_as, does_then}
+use Rattle.step_maker.specs.Asked.{of_frame}
+use Rattle.step_maker.specs.Visits.{Visit, Does, Then}
+use Rattle.step_maker.proofs.Piecing.{serves_came}
+use Rattle.step_maker.proofs.Visiting.{does_as, does_then}
 use Rattle.flush_waits.specs.Waiting.{IsWait}
 use Rattle.frame_types.specs.Found.{DeadBy, SharedBy, StoresKind, TakesOf}
 use Rattle.frame_types.specs.Leaving.{GivesBack, IsWaiting, KeepsType, ServesType, StaysTyped, WaitsFrom}

@@ -28,10 +28,10 @@ use Rattle.step_maker.specs.Moves.{Came, Met, Moves}
 use Rattle.step_maker.specs.Plain.{Leaves, Words}
 use Rattle.step_maker.proofs.Coming.{came_trans}
 use Rattle.step_maker.proofs.Telling.{came_telling, told_there}
-use Rattle.answer_fits.specs.Answers.{Serves, Stops, missed}
-use Rattle.answer_fits.specs.Asked.{Asked, IsDemandOf, of_back, of_frame}
-use Rattle.answer_fits.specs.Visits.{Does}
-use Rattle.answer_fits.proofs.Piecing.{serves_came}
+use Rattle.step_maker.specs.Answers.{Serves, Stops, missed}
+use Rattle.step_maker.specs.Asked.{Asked, IsDemandOf, of_back, of_frame}
+use Rattle.step_maker.specs.Visits.{Does}
+use Rattle.step_maker.proofs.Piecing.{serves_came}
 use Rattle.kind_words.proofs.KindHands.{known_first}
 use Rattle.frame_words.specs.Freeing.{Puts, gave}
 use Rattle.frame_words.specs.Plain.{TwinGet, put}

@@ -15,14 +15,14 @@ use Rattle.xp_board.specs.declared.step.StepKind.TheVariants as kinds
 use Rattle.xp_board.specs.After.{learned_work}
 use Rattle.xp_board.specs.Hands.{lock_on, work_on}
 use Rattle.xp_board.specs.Told.{PortValue}
-use Rattle.board_lemmas.proofs.Learned.{learned_frame}
-use Rattle.board_lemmas.proofs.ListCounts.{first_by-cons_here}
+use Rattle.xp_board.proofs.Learned.{learned_frame}
+use Rattle.xp_board.proofs.ListCounts.{first_by-cons_here}
 use Rattle.step_maker.specs.Moves.{Met}
 use Rattle.step_maker.proofs.Coming.{moment_of, moves_met}
-use Rattle.answer_fits.specs.Answers.{Serves, Stops}
-use Rattle.answer_fits.specs.Asked.{Asked, IsDemandOf, NoMore, demand_by, demand_held, demanded, entry_owner}
-use Rattle.answer_fits.specs.Finding.{FoundWith}
-use Rattle.answer_fits.proofs.Piecing.{moves_serves}
+use Rattle.step_maker.specs.Answers.{Serves, Stops}
+use Rattle.step_maker.specs.Asked.{Asked, IsDemandOf, NoMore, demand_by, demand_held, demanded, entry_owner}
+use Rattle.step_maker.specs.Finding.{FoundWith}
+use Rattle.step_maker.proofs.Piecing.{moves_serves}
 use Rattle.table_entries.specs.Asking.{LooksOnly, of_entries}
 use Rattle.table_entries.specs.Between.{SeesEntry}
 use Rattle.table_entries.specs.Tops.{WorksAtTop}

@@ -9,9 +9,9 @@ use Rattle.xp_board.specs.declared.step.Mark.TheVariants.{Record}
 use Rattle.xp_board.specs.Told.{PortValue}
 use Rattle.step_maker.specs.Moves.{Came, Met, Moves}
 use Rattle.step_maker.proofs.Coming.{came_trans, moves_came}
-use Rattle.answer_fits.specs.Answers.{Serves, Stops, missed}
-use Rattle.answer_fits.specs.Asked.{Asked, NoMore, of_back, of_frame}
-use Rattle.answer_fits.proofs.Piecing.{asked_less, serves_came, stops_before}
+use Rattle.step_maker.specs.Answers.{Serves, Stops, missed}
+use Rattle.step_maker.specs.Asked.{Asked, NoMore, of_back, of_frame}
+use Rattle.step_maker.proofs.Piecing.{asked_less, serves_came, stops_before}
 use Rattle.frame_types.specs.Leaving.{ServesType}
 use Rattle.frame_types.specs.Taking.{IsTypeStop}
 use Rattle.frame_words.specs.Refs.{IsRefStop}

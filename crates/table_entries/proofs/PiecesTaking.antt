@@ -8,14 +8,14 @@ use Rattle.xp_board.specs.declared.step.Mark.{Mark}
 use Rattle.xp_board.specs.declared.step.StepKind.{StepKind}
 use Rattle.xp_board.specs.Lists.{EachOf}
 use Rattle.xp_board.specs.Told.{PortValue, Post}
-use Rattle.board_lemmas.proofs.HandLists.{EachOf-map}
+use Rattle.xp_board.proofs.HandLists.{EachOf-map}
 use Rattle.step_maker.specs.Moves.{Moment, Met, Moves, Came}
 use Rattle.step_maker.proofs.Coming.{moment_of, moves_ran, ran_more, came_post, met_after, met_before, moves_met}
-use Rattle.answer_fits.specs.Answers.{Deed, Serves, Stops, missed}
-use Rattle.answer_fits.specs.Asked.{Request, Asked, NoMore, of, of_back, of_frame}
-use Rattle.answer_fits.specs.Finding.{Finding}
-use Rattle.answer_fits.specs.Reasons.{HasReason, MayLook}
-use Rattle.answer_fits.proofs.Piecing.{each_append, same_request, serves_back, serves_call, serves_came, serves_nothing, serves_step, stops_call, within_frame}
+use Rattle.step_maker.specs.Answers.{Deed, Serves, Stops, missed}
+use Rattle.step_maker.specs.Asked.{Request, Asked, NoMore, of, of_back, of_frame}
+use Rattle.step_maker.specs.Finding.{Finding}
+use Rattle.step_maker.specs.Reasons.{HasReason, MayLook}
+use Rattle.step_maker.proofs.Piecing.{each_append, same_request, serves_back, serves_call, serves_came, serves_nothing, serves_step, stops_call, within_frame}
 use Rattle.table_entries.specs.Asking.{LooksAtEntry, LooksOnly, IsEntryStop, of_entries}
 use Rattle.xp_words.specs.declared.kind.PageType.{PageType}
 use Rattle.xp_words.specs.declared.reply.Pause.TheVariants.{Busy, Flush, Lost}
@@ -23,8 +23,8 @@ use Rattle.xp_words.specs.declared.reply.Stop.{Stop}
 use Rattle.xp_words.specs.declared.reply.Stop.TheVariants.{Refused, Paused}
 use Rattle.xp_board.specs.declared.step.Act.TheVariants.{Load}
 use Rattle.xp_board.specs.declared.step.Mark.TheVariants.{Record}
-use Rattle.answer_fits.specs.Pauses.{Progress, entry}
-use Rattle.answer_fits.proofs.Later.{stops_later}
+use Rattle.step_maker.specs.Pauses.{Progress, entry}
+use Rattle.step_maker.proofs.Later.{stops_later}
 use Rattle.frame_types.specs.Leaving.{ServesType}
 use Rattle.frame_types.specs.Taking.{IsTypeStop}
 use Rattle.frame_types.proofs.Serving.{type_uncounted}

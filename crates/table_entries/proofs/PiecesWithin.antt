@@ -2,9 +2,9 @@
 use Rattle.std.proofs.Common.{◌≡◌, ℕ, true, refl, rules, sym}
 use Rattle.xp_words.specs.Machine.{Machine}
 use Rattle.step_maker.specs.Moves.{Moment}
-use Rattle.answer_fits.specs.Asked.{Request, Within}
-use Rattle.answer_fits.specs.Finding.{Finding}
-use Rattle.answer_fits.proofs.Grown.{grown_by}
+use Rattle.step_maker.specs.Asked.{Request, Within}
+use Rattle.step_maker.specs.Finding.{Finding}
+use Rattle.step_maker.proofs.Grown.{grown_by}
 use Rattle.table_entries.specs.Asking.{of_entries}
 
 pub within_entries : (n : Machine) (s owner : ℕ) (r : Request) (F G : Finding) → ((m : Moment) → F m → G m) → r.entries ≡ true → r.owner ≡ owner → Within n s (of_entries owner r.pages_of) F r G

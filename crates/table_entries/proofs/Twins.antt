@@ -25,7 +25,7 @@ use Rattle.table_entries.specs.declared.resuming.Resumed.{Resumed}
 use Rattle.table_entries.specs.declared.resuming.Resumed.TheVariants.{Settled}
 use Rattle.xp_words.specs.declared.reply.Refusal.{Refusal}
 use Rattle.xp_words.specs.declared.reply.Stop.TheVariants.{Refused, Paused}
-use Rattle.answer_fits.specs.Twins.{AnswersAs, Alike}
+use Rattle.step_maker.specs.Twins.{AnswersAs, Alike}
 use Rattle.table_entries.specs.declared.entries.Entered.TheVariants.{Recorded}
 use Rattle.flush_waits.specs.Waiting.{IsWait}
 use Rattle.frame_types.specs.Plain.{TakesPlainly, TwinTake, stop_by, taken, type_stop}

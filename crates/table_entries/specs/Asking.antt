@@ -11,9 +11,9 @@ use Rattle.xp_board.specs.declared.step.Act.TheVariants.{Load}
 use Rattle.xp_board.specs.Lists.{EachOf}
 use Rattle.xp_board.specs.Told.{PortValue}
 use Rattle.step_maker.specs.Moves.{Moment, Ran, Met}
-use Rattle.answer_fits.specs.Answers.{Stops}
-use Rattle.answer_fits.specs.Asked.{Asked, Request, of_frame}
-use Rattle.answer_fits.specs.Pauses.{Progress}
+use Rattle.step_maker.specs.Answers.{Stops}
+use Rattle.step_maker.specs.Asked.{Asked, Request, of_frame}
+use Rattle.step_maker.specs.Pauses.{Progress}
 use Rattle.flush_waits.specs.Waiting.{IsWait}
 use Rattle.table_entries.specs.declared.entries.Entered.{Entered}
 use Rattle.table_entries.specs.declared.entries.Entered.TheVariants.{Recorded, Opened, Unsettled}

@@ -13,8 +13,8 @@ use Rattle.xp_board.specs.Readings.{is_live_word}
 use Rattle.xp_board.specs.Told.{PortValue}
 use Rattle.step_maker.specs.Holds.{Holds, Same}
 use Rattle.step_maker.specs.Moves.{Moves}
-use Rattle.answer_fits.specs.Answers.{Serves, Stops, misses}
-use Rattle.answer_fits.specs.Asked.{of_frame}
+use Rattle.step_maker.specs.Answers.{Serves, Stops, misses}
+use Rattle.step_maker.specs.Asked.{of_frame}
 use Rattle.flush_waits.specs.Waiting.{IsKnownOwner}
 use Rattle.frame_types.specs.Found.{TakesFound}
 use Rattle.frame_types.specs.Plain.{TwinTake}

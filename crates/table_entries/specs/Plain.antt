@@ -16,7 +16,7 @@ use Rattle.xp_words.specs.declared.reply.Stop.TheVariants.{Refused, Paused}
 use Rattle.xp_board.specs.Readings.{is_live_word}
 use Rattle.xp_board.specs.Told.{PortValue, is_telling, told_word}
 use Rattle.step_maker.specs.Plain.{Words, Leaves}
-use Rattle.answer_fits.specs.Twins.{Alike}
+use Rattle.step_maker.specs.Twins.{Alike}
 use Rattle.frame_words.specs.Plain.{got, put, refer}
 use Rattle.kind_words.specs.Kinds.{dead_kind, partial_kind}
 use Rattle.frame_types.specs.Plain.{IsTakenBy, is_own, is_read_first, is_refused, less_kept, set_kind, taken, type_stop, type_waits}

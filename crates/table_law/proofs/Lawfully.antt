@@ -10,7 +10,7 @@ use Rattle.xp_board.specs.Lists.{one_at}
 use Rattle.xp_board.specs.Readings.{is_dead}
 use Rattle.xp_board.specs.Sums.{sum_below}
 use Rattle.xp_board.specs.Recorded.{names}
-use Rattle.board_lemmas.proofs.Sums.{sum_below-none, sum_below-same}
+use Rattle.xp_board.proofs.Sums.{sum_below-none, sum_below-same}
 use Rattle.xp_words.specs.Machine.{Machine}
 use Rattle.partial_state.specs.Levels.{level_type}
 use Rattle.partial_state.proofs.LevelFacts.{level_type-table}

@@ -12,7 +12,7 @@ use Rattle.xp_board.specs.Lists.{one_at}
 use Rattle.xp_board.specs.Readings.{is_dead, kind_at, owner_of, ref_count}
 use Rattle.xp_board.specs.Recorded.{names}
 use Rattle.xp_board.specs.Sums.{sum_below}
-use Rattle.board_lemmas.proofs.Sums.{sum_below-same, sum_below-none, one_at-other}
+use Rattle.xp_board.proofs.Sums.{sum_below-same, sum_below-none, one_at-other}
 use Rattle.step_maker.specs.Plain.{Words}
 use Rattle.table_law.specs.Plain.{Plain, Share, Describes, share_of, sober}
 use Rattle.table_law.specs.Undone.{CountsSome}

@@ -3,7 +3,7 @@ use Rattle.std.proofs.Common.{◌≡◌, ◌≢◌, ℕ, ◌+◌, ◌<◌, ◌�
 use Rattle.std.proofs.lemmas.Bool.Decides.{nat_tests}
 use Rattle.std.proofs.lemmas.Bool.{cases_eq}
 use Rattle.xp_board.specs.Lists.{one_at}
-use Rattle.board_lemmas.proofs.Sums.{one_at-same, one_at-other}
+use Rattle.xp_board.proofs.Sums.{one_at-same, one_at-other}
 use Rattle.table_law.specs.Plain.{Plain, Share, at, with_share, raised_share}
 use Rattle.table_law.specs.Alone.{NoFrame, WrongOwner, CountFull, PlainOutcome, fine, take_reference, take_reference_of}
 use Rattle.table_law.specs.Lawful.{IsPlainOwned, IsShareOf, share_count}

@@ -7,7 +7,7 @@ use Rattle.xp_words.specs.declared.kind.PageType.{PageType}
 use Rattle.xp_board.specs.KindSteps.{raised_kind}
 use Rattle.xp_board.proofs.Returned.{same_type}
 use Rattle.xp_board.specs.Readings.{is_dead, is_type}
-use Rattle.board_lemmas.proofs.EntryWords.{type_same}
+use Rattle.xp_board.proofs.EntryWords.{type_same}
 use Rattle.partial_state.specs.Levels.{level_type}
 use Rattle.partial_state.proofs.LevelFacts.{level_type-apart}
 use Rattle.table_law.specs.Plain.{Plain, at, with_kind, reference_back}

@@ -8,8 +8,8 @@ use Rattle.xp_words.specs.declared.entry.Demand.TheVariants.{Nothing, Bad, Read,
 use Rattle.xp_words.specs.Entries.{demand_at}
 use Rattle.xp_board.proofs.Returned.{same_type}
 use Rattle.xp_board.specs.Readings.{is_partial, is_type}
-use Rattle.board_lemmas.proofs.EntryWords.{type_same}
-use Rattle.board_lemmas.proofs.Sums.{when_eq, when_ne}
+use Rattle.xp_board.proofs.EntryWords.{type_same}
+use Rattle.xp_board.proofs.Sums.{when_eq, when_ne}
 use Rattle.kind_words.specs.Kinds.{work_kind}
 use Rattle.partial_state.specs.Levels.{level_type}
 use Rattle.partial_state.proofs.LevelFacts.{level_type-apart}

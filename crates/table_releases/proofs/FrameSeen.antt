@@ -17,13 +17,13 @@ use Rattle.xp_board.specs.KindSteps.{Partial, form_of, Dead, Form, InWork, Live,
 use Rattle.xp_board.specs.Readings.{is_live, is_locked, is_partial, is_type, is_work, kind_at, ref_count, is_live_word}
 use Rattle.xp_board.specs.Recorded.{entry_demand}
 use Rattle.xp_board.specs.Told.{Finds, Post, PortValue}
-use Rattle.board_lemmas.proofs.KindForms.{fields_of}
-use Rattle.board_lemmas.proofs.KindReadings.{partial_parts}
-use Rattle.board_lemmas.proofs.Learned.{learned_frame}
-use Rattle.board_lemmas.proofs.ListCounts.{first_by-none}
-use Rattle.board_lemmas.proofs.Sums.{when_eq}
-use Rattle.board_lemmas.proofs.Works.{counted_alive, nobody_locks}
-use Rattle.answer_fits.specs.Pauses.{IsElsewhere}
+use Rattle.xp_board.proofs.KindForms.{fields_of}
+use Rattle.xp_board.proofs.KindReadings.{partial_parts}
+use Rattle.xp_board.proofs.Learned.{learned_frame}
+use Rattle.xp_board.proofs.ListCounts.{first_by-none}
+use Rattle.xp_board.proofs.Sums.{when_eq}
+use Rattle.xp_board.proofs.Works.{counted_alive, nobody_locks}
+use Rattle.step_maker.specs.Pauses.{IsElsewhere}
 use Rattle.kind_words.proofs.KindFacts.{work_word, read_is}
 use Rattle.frame_types.specs.Taking.{IsOfOther}
 use Rattle.table_entries.proofs.HandLists.{asks_below, was_in}
@@ -43,8 +43,8 @@ use Rattle.xp_board.specs.declared.step.Mark.TheVariants.{Shed}
 use Rattle.xp_board.specs.RefSteps.{one_down}
 use Rattle.step_maker.specs.Moves.{Came, Moves}
 use Rattle.step_maker.proofs.Coming.{came_trans, moves_came}
-use Rattle.answer_fits.specs.Visits.{Visit, Does, Nothing, Only, Then, visit}
-use Rattle.answer_fits.proofs.Visiting.{does_as, does_nothing, does_one, does_then}
+use Rattle.step_maker.specs.Visits.{Visit, Does, Nothing, Only, Then, visit}
+use Rattle.step_maker.proofs.Visiting.{does_as, does_nothing, does_one, does_then}
 use Rattle.frame_words.specs.Freeing.{PutBy, Puts}
 use Rattle.frame_types.specs.Found.{DropsBy, DropsPlain, saw_kind, swaps_kind}
 use Rattle.frame_types.specs.Lowering.{DropsType}

@@ -25,10 +25,10 @@ use Rattle.xp_board.specs.Readings.{is_live, is_live_word, kind_at, is_partial, 
 use Rattle.xp_board.specs.Recorded.{entry_demand}
 use Rattle.xp_board.specs.Settling.{is_settled, settles, settles_last}
 use Rattle.xp_board.specs.Told.{Post, PortValue, Finds}
-use Rattle.board_lemmas.proofs.HandLists.{times-changed}
-use Rattle.board_lemmas.proofs.KindReadings.{live_count, partial_parts, resumed_in_work, work_alone, work_unlive}
-use Rattle.board_lemmas.proofs.ListCounts.{first_by-absent, first_by-none, newest_held, first_by-cons_other}
-use Rattle.board_lemmas.proofs.WorkFacts.{works_facts, work_word as works_word}
+use Rattle.xp_board.proofs.HandLists.{times-changed}
+use Rattle.xp_board.proofs.KindReadings.{live_count, partial_parts, resumed_in_work, work_alone, work_unlive}
+use Rattle.xp_board.proofs.ListCounts.{first_by-absent, first_by-none, newest_held, first_by-cons_other}
+use Rattle.xp_board.proofs.WorkFacts.{works_facts, work_word as works_word}
 use Rattle.step_maker.specs.Holds.{Holds, MayWork, Same, still}
 use Rattle.step_maker.specs.Moves.{Moves}
 use Rattle.flush_words.proofs.Lasting.{moves_longer}
@@ -52,8 +52,8 @@ use Rattle.table_releases.proofs.Looking.{shed_typed}
 use Rattle.xp_words.specs.declared.kind.KindWord.{KindWord}
 use Rattle.xp_board.specs.declared.step.Mark.TheVariants.{Shed}
 use Rattle.xp_board.specs.Steps.{some_since}
-use Rattle.board_lemmas.proofs.KindForms.{PartialForm, fields_of, partial_form}
-use Rattle.board_lemmas.proofs.Sums.{when_eq, when_ne}
+use Rattle.xp_board.proofs.KindForms.{PartialForm, fields_of, partial_form}
+use Rattle.xp_board.proofs.Sums.{when_eq, when_ne}
 use Rattle.step_maker.proofs.Noting.{moves_since}
 use Rattle.kind_words.specs.Kinds.{MayLeave, dead_kind, left}
 use Rattle.kind_words.proofs.Leaving.{left_dead, may_leave_dead}

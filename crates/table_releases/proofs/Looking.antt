@@ -13,10 +13,10 @@ use Rattle.xp_board.specs.Hands.{brought, brought_as, changed_work, work_on}
 use Rattle.xp_board.specs.Recorded.{entry_demand}
 use Rattle.xp_board.specs.Settling.{demand_in, is_settled}
 use Rattle.xp_board.specs.Told.{PortValue}
-use Rattle.board_lemmas.proofs.Learned.{learned_frame}
-use Rattle.board_lemmas.proofs.ListChanges.{first_by-changed_here}
-use Rattle.board_lemmas.proofs.ListCounts.{first_by-cons_here}
-use Rattle.board_lemmas.proofs.WorkFacts.{work_word, works_facts}
+use Rattle.xp_board.proofs.Learned.{learned_frame}
+use Rattle.xp_board.proofs.ListChanges.{first_by-changed_here}
+use Rattle.xp_board.proofs.ListCounts.{first_by-cons_here}
+use Rattle.xp_board.proofs.WorkFacts.{work_word, works_facts}
 use Rattle.step_maker.specs.Holds.{Holds, still}
 use Rattle.table_words.specs.Entries.{entry_shed, ShedsLast}
 use Rattle.table_words.proofs.EntryHands.{shed_left}
@@ -27,7 +27,7 @@ use Rattle.table_releases.specs.Between.{SeesLast}
 use Rattle.table_releases.specs.Tops.{IsSettledTop}
 use Rattle.xp_board.specs.declared.step.Act.TheVariants.{Load}
 use Rattle.xp_board.specs.declared.step.Mark.TheVariants.{Shed}
-use Rattle.board_lemmas.proofs.Numbers.{refs_there}
+use Rattle.xp_board.proofs.Numbers.{refs_there}
 use Rattle.step_maker.specs.Moves.{May}
 use Rattle.xp_board.specs.declared.step.StepKind.TheVariants as kinds
 

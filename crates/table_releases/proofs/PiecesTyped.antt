@@ -15,11 +15,11 @@ use Rattle.xp_board.specs.Hands.{lock_on, work_on}
 use Rattle.xp_board.specs.Told.{PortValue, Post}
 use Rattle.step_maker.specs.Moves.{Came, Met, Moves}
 use Rattle.step_maker.proofs.Coming.{met_after, met_before, moment_of, moves_met, came_trans, moves_came}
-use Rattle.answer_fits.specs.Answers.{Deed, Serves, Misses, Stops, deeds_by, exchanged, missed_at, pin_deed}
-use Rattle.answer_fits.specs.Asked.{Asked, IsDemandOf, Passed, demand_by, demand_held, demanded, entry_owner, stands, of_back}
-use Rattle.answer_fits.specs.Finding.{Finding, FoundWith}
-use Rattle.answer_fits.specs.Pauses.{Progress, entry}
-use Rattle.answer_fits.proofs.Piecing.{moves_serves, serves_step, serves_came, serves_then}
+use Rattle.step_maker.specs.Answers.{Deed, Serves, Misses, Stops, deeds_by, exchanged, missed_at, pin_deed}
+use Rattle.step_maker.specs.Asked.{Asked, IsDemandOf, Passed, demand_by, demand_held, demanded, entry_owner, stands, of_back}
+use Rattle.step_maker.specs.Finding.{Finding, FoundWith}
+use Rattle.step_maker.specs.Pauses.{Progress, entry}
+use Rattle.step_maker.proofs.Piecing.{moves_serves, serves_step, serves_came, serves_then}
 use Rattle.table_entries.specs.Asking.{of_entries, AsksBelow}
 use Rattle.table_entries.proofs.PiecesTaking.{Goes, goes_came, looks_step, looks_then, asks_still, goes_back, goes_kind}
 use Rattle.table_entries.proofs.LastEntry.{SeenLast}
@@ -34,9 +34,9 @@ use Rattle.xp_board.specs.Acts.{left_by}
 use Rattle.xp_board.specs.KindSteps.{resumed_kind}
 use Rattle.xp_board.specs.Readings.{is_partial}
 use Rattle.xp_board.specs.Steps.{last_since}
-use Rattle.board_lemmas.proofs.KindForms.{fields_of}
-use Rattle.board_lemmas.proofs.Sums.{when_eq, when_ne}
-use Rattle.answer_fits.specs.Reasons.{MayType}
+use Rattle.xp_board.proofs.KindForms.{fields_of}
+use Rattle.xp_board.proofs.Sums.{when_eq, when_ne}
+use Rattle.step_maker.specs.Reasons.{MayType}
 use Rattle.kind_words.proofs.KindFacts.{read_is}
 use Rattle.kind_words.proofs.KindWriting.{fields_write, resumed_is}
 use Rattle.flush_words.proofs.Lasting.{last_left}

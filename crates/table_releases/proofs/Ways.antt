@@ -16,17 +16,17 @@ use Rattle.xp_board.specs.Hands.{brought, changed_work, refs_to, work_on}
 use Rattle.xp_board.specs.Readings.{is_closing, is_partial, is_work, is_live_word}
 use Rattle.xp_board.specs.RefSteps.{is_closing_on, one_down}
 use Rattle.xp_board.specs.Told.{PortValue, Post, is_telling, told_word}
-use Rattle.board_lemmas.proofs.ListCounts.{newest_held, times_by-cons_here}
-use Rattle.board_lemmas.proofs.WorkFacts.{works_facts}
+use Rattle.xp_board.proofs.ListCounts.{newest_held, times_by-cons_here}
+use Rattle.xp_board.proofs.WorkFacts.{works_facts}
 use Rattle.step_maker.specs.Holds.{Holds, still}
 use Rattle.step_maker.specs.Moves.{Came, Met, Moves}
 use Rattle.step_maker.proofs.Coming.{came_self, moves_came, came_trans}
-use Rattle.answer_fits.specs.Answers.{Serves}
-use Rattle.answer_fits.specs.Asked.{of_back, Asked, of}
-use Rattle.answer_fits.specs.Pauses.{Progress}
-use Rattle.answer_fits.proofs.Piecing.{serves_came, serves_step}
-use Rattle.answer_fits.specs.Visits.{Then, Only, Visit, Does, visit}
-use Rattle.answer_fits.proofs.Visiting.{does_as, does_then, does_one}
+use Rattle.step_maker.specs.Answers.{Serves}
+use Rattle.step_maker.specs.Asked.{of_back, Asked, of}
+use Rattle.step_maker.specs.Pauses.{Progress}
+use Rattle.step_maker.proofs.Piecing.{serves_came, serves_step}
+use Rattle.step_maker.specs.Visits.{Then, Only, Visit, Does, visit}
+use Rattle.step_maker.proofs.Visiting.{does_as, does_then, does_one}
 use Rattle.frame_words.specs.Freeing.{PutBy, Puts, gave}
 use Rattle.frame_words.specs.Refs.{MayPut}
 use Rattle.frame_words.proofs.Putting.{without_newest}
@@ -51,15 +51,15 @@ use Rattle.frame_types.specs.Found.{swaps_kind, StoresKind, DropsPlain}
 use Rattle.kind_words.proofs.KindFacts.{read_is, work_word}
 use Rattle.kind_words.specs.Kinds.{looked_at, resumed_work, dead_kind, left}
 use Rattle.table_releases.proofs.HandLive.{looks_none, stays_recorded, closed_opens, counted_given, dead_given, dead_may, new, new_in_work, new_kind, plain_given, resumed_opens, shed_here}
-use Rattle.board_lemmas.proofs.KindForms.{fields_of}
-use Rattle.answer_fits.proofs.Keeping.{kept_type}
+use Rattle.xp_board.proofs.KindForms.{fields_of}
+use Rattle.step_maker.proofs.Keeping.{kept_type}
 use Rattle.kind_words.proofs.KindWriting.{fields_write}
 use Rattle.table_entries.specs.Asking.{of_entries}
 use Rattle.table_releases.proofs.Recording.{recorded_some, recorded_table}
 use Rattle.frame_types.proofs.Serving.{work_alive}
 use Rattle.xp_words.specs.PageTypes.{is_table}
 use Rattle.xp_board.specs.After.{learned_cell}
-use Rattle.board_lemmas.proofs.KindReadings.{partial_parts}
+use Rattle.xp_board.proofs.KindReadings.{partial_parts}
 use Rattle.step_maker.specs.Plain.{Leaves, change}
 use Rattle.frame_words.specs.Plain.{put}
 use Rattle.frame_types.specs.Lowering.{DropsType}

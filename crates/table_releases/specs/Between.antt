@@ -15,7 +15,7 @@ use Rattle.xp_board.specs.KindSteps.{resumed_kind}
 use Rattle.xp_board.specs.Told.{PortValue}
 use Rattle.step_maker.specs.Holds.{Holds, Same}
 use Rattle.step_maker.specs.Moves.{Moves}
-use Rattle.answer_fits.specs.Answers.{Serves, Stops, misses}
+use Rattle.step_maker.specs.Answers.{Serves, Stops, misses}
 use Rattle.frame_types.specs.Taking.{IsOfOther}
 use Rattle.kind_words.specs.Kinds.{resumed_work}
 use Rattle.table_entries.specs.Asking.{LooksOnly, of_entries}

@@ -17,7 +17,7 @@ use Rattle.xp_board.specs.declared.step.Act.TheVariants.{Add}
 use Rattle.xp_board.specs.KindSteps.{Form, InWork, Live, Partial, Dead, form_of, resumed_kind}
 use Rattle.xp_board.specs.RefSteps.{one_down}
 use Rattle.xp_board.specs.Told.{PortValue}
-use Rattle.answer_fits.specs.Visits.{Visit, visit, Does, Nothing, Only, Then}
+use Rattle.step_maker.specs.Visits.{Visit, visit, Does, Nothing, Only, Then}
 use Rattle.frame_words.specs.Freeing.{PutBy}
 use Rattle.kind_words.specs.Kinds.{dead_kind}
 use Rattle.frame_types.specs.Found.{DropsBy, StoresKind, saw_kind, swaps_kind}

@@ -21,7 +21,7 @@ use Rattle.xp_board.specs.Readings.{is_closing, is_work}
 use Rattle.xp_board.specs.Told.{PortValue}
 use Rattle.step_maker.specs.Holds.{Holds}
 use Rattle.step_maker.specs.Moves.{Met}
-use Rattle.answer_fits.specs.Pauses.{Progress}
+use Rattle.step_maker.specs.Pauses.{Progress}
 use Rattle.table_entries.specs.Asking.{AsksBelow}
 use Rattle.table_entries.specs.Tops.{with_recorded}
 use Rattle.table_releases.specs.declared.entries.Released.{Released}

@@ -14,7 +14,7 @@ use Rattle.xp_words.specs.declared.reply.Stop.{Stop}
 use Rattle.xp_words.specs.declared.reply.Stop.TheVariants.{Refused, Paused}
 use Rattle.xp_board.specs.Told.{PortValue, is_telling, told_word}
 use Rattle.step_maker.specs.Plain.{Leaves, Words}
-use Rattle.answer_fits.proofs.Alikes.{same_alike}
+use Rattle.step_maker.proofs.Alikes.{same_alike}
 use Rattle.frame_words.specs.Plain.{got, put, refer}
 use Rattle.frame_types.specs.Plain.{type_stop}
 use Rattle.frame_types.specs.declared.taking.Taken.TheVariants as types

@@ -10,7 +10,7 @@ use Rattle.xp_words.specs.declared.place.Place.TheVariants.{Cell, Kind, Refs}
 use Rattle.xp_board.specs.Acts.{left_by}
 use Rattle.xp_board.specs.Readings.{is_free, is_free_in}
 use Rattle.step_maker.specs.Plain.{Words}
-use Rattle.answer_fits.specs.Twins.{Alike, IsAlikeKind, IsAlikeRef}
+use Rattle.step_maker.specs.Twins.{Alike, IsAlikeKind, IsAlikeRef}
 use Rattle.frame_types.specs.Plain.{set_kind}
 use Rattle.table_law.specs.Plain.{Describes, Plain, share_in, share_of, sober, with_kind}
 use Rattle.table_twins.proofs.Sharing.{either}

@@ -14,7 +14,7 @@ use Rattle.xp_words.specs.declared.reply.Stop.TheVariants.{Refused}
 use Rattle.xp_board.specs.KindSteps.{begun_kind, is_stale, raised_kind}
 use Rattle.xp_board.specs.Readings.{is_dead, is_type}
 use Rattle.step_maker.specs.Plain.{Words}
-use Rattle.answer_fits.specs.Twins.{Alike}
+use Rattle.step_maker.specs.Twins.{Alike}
 use Rattle.kind_words.specs.Kinds.{dead_kind, live_kind, partial_kind, work_kind}
 use Rattle.kind_words.proofs.KindWriting.{begun_is, dead_is, fields_write, live_is, marked_is, raised_is}
 use Rattle.frame_types.specs.Plain.{IsTakenBy, is_read_first, set_kind, stop_by, taken, taken_by, type_stop, work_unmarked}

@@ -6,7 +6,7 @@ ghost use Rattle.xp_words.specs.declared.place.Place.TheVariants.{Kind};
 ghost use Rattle.xp_words.specs.declared.reply.Refusal.{Refusal};
 ghost use Rattle.xp_words.specs.declared.reply.Stop.TheVariants.{Refused};
 ghost use Rattle.step_maker.specs.Plain.{Words};
-ghost use Rattle.answer_fits.specs.Twins.{Alike};
+ghost use Rattle.step_maker.specs.Twins.{Alike};
 ghost use Rattle.frame_types.specs.Plain.{IsTakenBy, taken, type_stop};
 ghost use Rattle.frame_types.specs.Standing.{standing_of};
 ghost use Rattle.frame_types.specs.declared.taking.Taken.{Taken};

@@ -12,7 +12,7 @@ use Rattle.xp_board.specs.declared.holdings.Work.{Work}
 use Rattle.xp_board.specs.Hands.{changed_work, work_on}
 use Rattle.xp_board.specs.Marks.{demand_seen, leaves_unsettled, recorded, seen_word, shed, unsettled_by}
 use Rattle.xp_board.specs.Settling.{demand_in, demand_out, is_settled}
-use Rattle.board_lemmas.proofs.ListChanges.{first_by-changed_here}
+use Rattle.xp_board.proofs.ListChanges.{first_by-changed_here}
 use Rattle.table_words.specs.Entries.{RecordsNext, ShedsLast, entry_recorded, entry_shed}
 
 -- the works change beside the references

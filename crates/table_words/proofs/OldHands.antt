@@ -16,7 +16,7 @@ use Rattle.xp_board.specs.Hands.{without_typed}
 use Rattle.xp_board.specs.Readings.{is_context}
 use Rattle.xp_board.specs.Spelling.{IsSpelling, is_vcpu_word}
 use Rattle.xp_board.specs.Told.{Finds, PortValue}
-use Rattle.board_lemmas.proofs.Sums.{when_found}
+use Rattle.xp_board.proofs.Sums.{when_found}
 use Rattle.step_maker.specs.Holds.{Holds, still}
 use Rattle.step_maker.specs.Moves.{Moves}
 use Rattle.table_words.specs.OldWords.{kept_in_old, known_old, learned_old, old_number, old_place, taken_from_old}

@@ -13,7 +13,7 @@ use Rattle.xp_board.specs.Hands.{typed_to}
 use Rattle.xp_board.specs.Readings.{is_context}
 use Rattle.xp_board.specs.Spelling.{IsSpelling, is_vcpu_word}
 use Rattle.xp_board.specs.Told.{PortValue}
-use Rattle.board_lemmas.proofs.Numbers.{vcpu_there}
+use Rattle.xp_board.proofs.Numbers.{vcpu_there}
 use Rattle.step_maker.specs.Holds.{MayWork}
 use Rattle.step_maker.specs.Moves.{May}
 use Rattle.table_words.specs.Entries.{RecordsNext, ShedsLast}

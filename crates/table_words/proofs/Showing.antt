@@ -7,11 +7,11 @@ use Rattle.xp_board.specs.declared.holdings.Holdings.{Holdings}
 use Rattle.xp_board.specs.declared.step.Act.TheVariants.{Cas, Store}
 use Rattle.xp_board.specs.declared.step.StepKind.TheVariants as kinds
 use Rattle.xp_board.specs.Told.{PortValue}
-use Rattle.board_lemmas.proofs.Sums.{when_found}
+use Rattle.xp_board.proofs.Sums.{when_found}
 use Rattle.step_maker.specs.Moves.{Moves}
-use Rattle.answer_fits.specs.Answers.{Serves, deeds_by, exchanged, missed_at, pin_deed}
-use Rattle.answer_fits.specs.Asked.{Request}
-use Rattle.answer_fits.proofs.Piecing.{moves_serves}
+use Rattle.step_maker.specs.Answers.{Serves, deeds_by, exchanged, missed_at, pin_deed}
+use Rattle.step_maker.specs.Asked.{Request}
+use Rattle.step_maker.proofs.Piecing.{moves_serves}
 use Rattle.kind_words.proofs.KindWriting.{fields_write}
 use Rattle.table_words.specs.OldWords.{old_number, old_place}
 use Rattle.table_words.specs.declared.old_words.OldWord.{OldWord}

@@ -10,7 +10,7 @@ use Rattle.xp_board.specs.declared.holdings.Holdings.{Holdings}
 use Rattle.xp_board.specs.declared.holdings.Work.{Work}
 use Rattle.xp_board.specs.Hands.{work_on}
 use Rattle.xp_board.specs.Marks.{MayRecord, MayShed, recorded, shed}
-use Rattle.answer_fits.specs.Visits.{Visit, Only}
+use Rattle.step_maker.specs.Visits.{Visit, Only}
 
 -- the next entry of table f, the one that was loaded last, may be recorded
 pub record RecordsNext (m : Machine) (f upto : ℕ) (h : Holdings) : Type 0 where

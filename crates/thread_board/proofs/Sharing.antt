@@ -15,7 +15,7 @@ use Rattle.xp_board.specs.After.{after}
 use Rattle.xp_board.specs.Legal.{Legal}
 use Rattle.xp_board.specs.Runs as runs
 use Rattle.xp_board.specs.Sound.{SoundState, SoundWords, hand_of}
-use Rattle.board_lemmas.proofs.Numbers.{place_inside, word_there}
+use Rattle.xp_board.proofs.Numbers.{place_inside, word_there}
 use Rattle.shared_board.proofs.Opened.{start_sound}
 use Rattle.sound_rule.proofs.OwnRun.{steps_after}
 use Rattle.shared_board.proofs.Stepping.{RunsSound, RunWordStays, own_word}

@@ -10,8 +10,8 @@ use Rattle.xp_words.specs.declared.reply.Stop.{Stop}
 use Rattle.xp_board.specs.declared.step.Item.{Item}
 use Rattle.xp_board.specs.FillSteps.{cached_with, with_bit}
 use Rattle.xp_board.specs.Told.{Post, PortValue}
-use Rattle.board_lemmas.proofs.Bits.{with_bit-other}
-use Rattle.answer_fits.specs.Licences.{is_unmapped}
+use Rattle.xp_board.proofs.Bits.{with_bit-other}
+use Rattle.step_maker.specs.Licences.{is_unmapped}
 use Rattle.own_cache.specs.declared.flight.Flight.{Flight}
 use Rattle.own_cache.specs.Translating.{Translating, item_in, landed, touched_in, translating, walk_below, with_entry}
 use Rattle.tlb_walks.specs.Addresses.{index_of, page_of, slot_refusal}

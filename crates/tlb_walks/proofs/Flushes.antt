@@ -15,12 +15,12 @@ use Rattle.xp_board.specs.Told.{PortValue}
 use Rattle.step_maker.specs.Holds.{FlushedSame, Holds, Same, still}
 use Rattle.step_maker.specs.Moves.{Came, May, Moves}
 use Rattle.step_maker.proofs.Coming.{came_self, came_trans, moves_came}
-use Rattle.answer_fits.specs.Answers.{BeginsTurn, Forgets, Serves, Stops, only_if}
-use Rattle.answer_fits.specs.Asked.{Request}
-use Rattle.answer_fits.specs.Reasons.{needed, own}
-use Rattle.answer_fits.specs.Visits.{Does, Where}
-use Rattle.answer_fits.proofs.Piecing.{moves_serves, serves_nothing, serves_step}
-use Rattle.answer_fits.proofs.Visiting.{does_as, does_nothing, does_one}
+use Rattle.step_maker.specs.Answers.{BeginsTurn, Forgets, Serves, Stops, only_if}
+use Rattle.step_maker.specs.Asked.{Request}
+use Rattle.step_maker.specs.Reasons.{needed, own}
+use Rattle.step_maker.specs.Visits.{Does, Where}
+use Rattle.step_maker.proofs.Piecing.{moves_serves, serves_nothing, serves_step}
+use Rattle.step_maker.proofs.Visiting.{does_as, does_nothing, does_one}
 use Rattle.flush_words.specs.Flushing.{FlushesOwn}
 use Rattle.flush_words.proofs.Flushed.{own_came, own_flushed}
 use Rattle.flush_words.proofs.RowSteps.{clock_there}

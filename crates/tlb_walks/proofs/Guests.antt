@@ -10,7 +10,7 @@ use Rattle.xp_board.specs.FillSteps.{cached_with}
 use Rattle.xp_board.specs.GuestSteps.{MayRead, MayStore}
 use Rattle.xp_board.specs.Lists.{first_of, some_of}
 use Rattle.xp_board.specs.Told.{PortValue, cached_item, is_item}
-use Rattle.board_lemmas.proofs.Sums.{when_eq}
+use Rattle.xp_board.proofs.Sums.{when_eq}
 use Rattle.own_cache.specs.Translating.{Translating}
 use Rattle.tlb_walks.specs.Accesses.{may_serve, server, serving}
 use Rattle.tlb_walks.specs.Addresses.{page_of}

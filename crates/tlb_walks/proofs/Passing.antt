@@ -14,7 +14,7 @@ use Rattle.xp_board.specs.FillSteps as fill
 use Rattle.xp_board.specs.FillSteps.{MayWalkOn, cached_with, is_walked, level_of, touched, walked_by, walked_on, with_bit}
 use Rattle.xp_board.specs.Told.{Post, PortValue}
 use Rattle.xp_board.specs.TouchSteps.{MayTouch}
-use Rattle.answer_fits.specs.Licences.{is_unmapped}
+use Rattle.step_maker.specs.Licences.{is_unmapped}
 use Rattle.own_cache.specs.declared.flight.Flight.{Flight}
 use Rattle.own_cache.specs.Translating.{Translating, flight_of, flown, gone_on, item_in, landed, seen, set_bits, table_in, touched_in, translating, walk_below, with_entry}
 use Rattle.step_maker.specs.Moves.{Moves, found_by}

@@ -18,19 +18,19 @@ use Rattle.xp_board.specs.declared.step.StepKind.TheVariants as kinds
 use Rattle.xp_board.specs.Acts.{left_by}
 use Rattle.xp_board.specs.Steps.{is_at, is_same, last_since}
 use Rattle.xp_board.specs.Told.{Post, PortValue}
-use Rattle.board_lemmas.proofs.PlaceTests.{is_same-refl}
-use Rattle.board_lemmas.proofs.Sums.{when_eq, when_ne}
+use Rattle.xp_board.proofs.PlaceTests.{is_same-refl}
+use Rattle.xp_board.proofs.Sums.{when_eq, when_ne}
 use Rattle.step_maker.specs.Moves.{Came, Met, Moves, step_at}
 use Rattle.step_maker.proofs.Coming.{came_post, came_trans, met_after, met_before, moment_of, moves_came, moves_met}
-use Rattle.answer_fits.specs.Answers.{Deed, Misses, Serves, Stops, missed, misses}
-use Rattle.answer_fits.specs.Asked.{Request, IsAsked, of, walked}
-use Rattle.answer_fits.specs.Finding.{FoundAt}
-use Rattle.answer_fits.specs.Licences.{is_unmapped, IsReached, below}
-use Rattle.answer_fits.specs.Visits.{Does, Only, Then, Where}
-use Rattle.answer_fits.proofs.Changing.{found_after, found_before, moves_found}
-use Rattle.answer_fits.proofs.Growing.{asks, reached}
-use Rattle.answer_fits.proofs.Piecing.{same_request, serves_came, serves_step}
-use Rattle.answer_fits.proofs.Visiting.{does_as, does_one, does_then, then_none}
+use Rattle.step_maker.specs.Answers.{Deed, Misses, Serves, Stops, missed, misses}
+use Rattle.step_maker.specs.Asked.{Request, IsAsked, of, walked}
+use Rattle.step_maker.specs.Finding.{FoundAt}
+use Rattle.step_maker.specs.Licences.{is_unmapped, IsReached, below}
+use Rattle.step_maker.specs.Visits.{Does, Only, Then, Where}
+use Rattle.step_maker.proofs.Changing.{found_after, found_before, moves_found}
+use Rattle.step_maker.proofs.Growing.{asks, reached}
+use Rattle.step_maker.proofs.Piecing.{same_request, serves_came, serves_step}
+use Rattle.step_maker.proofs.Visiting.{does_as, does_one, does_then, then_none}
 use Rattle.step_maker.proofs.Noting.{made_now, moves_steps}
 use Rattle.tlb_walks.specs.Addresses.{index_of}
 use Rattle.tlb_walks.specs.Asking.{IsWalkStop}

@@ -11,11 +11,11 @@ use Rattle.xp_board.specs.Told.{PortValue}
 use Rattle.step_maker.specs.Holds.{Same}
 use Rattle.step_maker.specs.Moves.{Came}
 use Rattle.step_maker.proofs.Coming.{came_self, came_trans, moves_came}
-use Rattle.answer_fits.specs.Answers.{Serves, Stops, misses}
-use Rattle.answer_fits.specs.Asked.{Request}
-use Rattle.answer_fits.specs.Visits.{Does, Nothing}
-use Rattle.answer_fits.proofs.Piecing.{moves_serves, serves_nothing, serves_step}
-use Rattle.answer_fits.proofs.Visiting.{does_nothing, does_one, does_then}
+use Rattle.step_maker.specs.Answers.{Serves, Stops, misses}
+use Rattle.step_maker.specs.Asked.{Request}
+use Rattle.step_maker.specs.Visits.{Does, Nothing}
+use Rattle.step_maker.proofs.Piecing.{moves_serves, serves_nothing, serves_step}
+use Rattle.step_maker.proofs.Visiting.{does_nothing, does_one, does_then}
 use Rattle.tlb_walks.specs.Accesses as acc
 use Rattle.tlb_walks.specs.Accesses.{OneRead, GuestReads, server}
 use Rattle.tlb_walks.specs.Addresses.{access_refusal, index_of, is_canonical, slot_refusal, walk_refusal, cell_index}

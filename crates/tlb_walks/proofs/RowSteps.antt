@@ -21,8 +21,8 @@ use Rattle.xp_board.specs.Lists.{changed_by}
 use Rattle.xp_board.specs.Spelling.{IsSpelling}
 use Rattle.xp_board.specs.Told.{PortValue}
 use Rattle.xp_board.specs.TouchSteps.{MayTouch, touched_by}
-use Rattle.board_lemmas.proofs.Numbers.{cell_there, vcpu_there}
-use Rattle.board_lemmas.proofs.Sums.{when_eq, when_ne}
+use Rattle.xp_board.proofs.Numbers.{cell_there, vcpu_there}
+use Rattle.xp_board.proofs.Sums.{when_eq, when_ne}
 use Rattle.own_cache.proofs.Projecting.{on_is, set_is}
 use Rattle.own_cache.specs.Translating.{Translating, flown, gone_on, landed, set_bits, translating, walk_begun}
 use Rattle.step_maker.specs.Holds.{Same, still}

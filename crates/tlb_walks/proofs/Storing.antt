@@ -7,14 +7,14 @@ use Rattle.xp_board.specs.declared.step.Item.{Item}
 use Rattle.xp_board.specs.FillSteps.{cached_with}
 use Rattle.xp_board.specs.Lists.{first_of}
 use Rattle.xp_board.specs.Told.{PortValue, cached_item, is_item}
-use Rattle.board_lemmas.proofs.Sums.{when_eq}
+use Rattle.xp_board.proofs.Sums.{when_eq}
 use Rattle.step_maker.specs.Moves.{Came, Met}
 use Rattle.step_maker.proofs.Coming.{came_self, came_trans, moves_came}
-use Rattle.answer_fits.specs.Answers.{Serves, Stops}
-use Rattle.answer_fits.specs.Asked.{IsAsked, Request, named, of, walked as walked_to_it}
-use Rattle.answer_fits.proofs.Changing.{found_before}
-use Rattle.answer_fits.proofs.Piecing.{moves_serves, serves_nothing, serves_step}
-use Rattle.answer_fits.proofs.Visiting.{does_one, does_then}
+use Rattle.step_maker.specs.Answers.{Serves, Stops}
+use Rattle.step_maker.specs.Asked.{IsAsked, Request, named, of, walked as walked_to_it}
+use Rattle.step_maker.proofs.Changing.{found_before}
+use Rattle.step_maker.proofs.Piecing.{moves_serves, serves_nothing, serves_step}
+use Rattle.step_maker.proofs.Visiting.{does_one, does_then}
 use Rattle.tlb_walks.specs.Accesses as acc
 use Rattle.tlb_walks.specs.Accesses.{OneWrite, ServesWrite, GuestWrites, server}
 use Rattle.tlb_walks.specs.Addresses.{access_refusal, page_of, cell_index}

@@ -18,19 +18,19 @@ use Rattle.xp_board.specs.FillSteps.{cached_with}
 use Rattle.xp_board.specs.Readings.{domain_of, is_context, is_frame_word}
 use Rattle.xp_board.specs.Spelling.{IsSpelling}
 use Rattle.xp_board.specs.Told.{Finds, Post, PortValue}
-use Rattle.board_lemmas.proofs.Numbers.{vcpu_there}
-use Rattle.board_lemmas.proofs.Sums.{when_eq}
+use Rattle.xp_board.proofs.Numbers.{vcpu_there}
+use Rattle.xp_board.proofs.Sums.{when_eq}
 use Rattle.step_maker.specs.Holds.{Same}
 use Rattle.step_maker.specs.Moves.{Came, Met, Moves}
 use Rattle.step_maker.proofs.Coming.{came_self, came_trans, moves_came}
-use Rattle.answer_fits.specs.Answers.{Serves, Stops, misses}
-use Rattle.answer_fits.specs.Asked.{Request, IsAsked, of, context}
-use Rattle.answer_fits.specs.Finding.{FoundAt}
-use Rattle.answer_fits.specs.Licences.{IsReached, top}
-use Rattle.answer_fits.specs.Visits.{Does}
-use Rattle.answer_fits.proofs.Changing.{moves_found}
-use Rattle.answer_fits.proofs.Piecing.{moves_serves, serves_nothing}
-use Rattle.answer_fits.proofs.Visiting.{does_as, does_nothing, does_one, does_then}
+use Rattle.step_maker.specs.Answers.{Serves, Stops, misses}
+use Rattle.step_maker.specs.Asked.{Request, IsAsked, of, context}
+use Rattle.step_maker.specs.Finding.{FoundAt}
+use Rattle.step_maker.specs.Licences.{IsReached, top}
+use Rattle.step_maker.specs.Visits.{Does}
+use Rattle.step_maker.proofs.Changing.{moves_found}
+use Rattle.step_maker.proofs.Piecing.{moves_serves, serves_nothing}
+use Rattle.step_maker.proofs.Visiting.{does_as, does_nothing, does_one, does_then}
 use Rattle.own_cache.specs.declared.flight.Flight.{Flight}
 use Rattle.own_cache.specs.Translating.{Translating, flown, landed, translating, walk_begun}
 use Rattle.tlb_walks.specs.Addresses.{index_of, is_canonical, slot_refusal, walk_refusal}

@@ -12,8 +12,8 @@ use Rattle.xp_board.specs.declared.step.StepKind.TheVariants as kinds
 use Rattle.xp_board.specs.Told.{PortValue, cached_item}
 use Rattle.step_maker.specs.Holds.{Same}
 use Rattle.step_maker.specs.Moves.{Moves}
-use Rattle.answer_fits.specs.Answers.{Serves, Writes, missed}
-use Rattle.answer_fits.specs.Visits.{Does, Nothing, Only, Then, visit_as}
+use Rattle.step_maker.specs.Answers.{Serves, Writes, missed}
+use Rattle.step_maker.specs.Visits.{Does, Nothing, Only, Then, visit_as}
 use Rattle.tlb_walks.specs.Addresses.{access_refusal, page_of, cell_index}
 use Rattle.tlb_walks.specs.Asking.{of_write}
 use Rattle.tlb_walks.specs.Translating.{WalkedTo}

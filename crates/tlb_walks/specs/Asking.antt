@@ -7,7 +7,7 @@ use Rattle.xp_words.specs.declared.reply.Stop.{Stop}
 use Rattle.xp_words.specs.declared.reply.Stop.TheVariants.{Refused, Paused}
 use Rattle.xp_board.specs.declared.step.Item.{Item}
 use Rattle.xp_board.specs.Told.{PortValue, cached_item}
-use Rattle.answer_fits.specs.Asked.{Request, of_frame}
+use Rattle.step_maker.specs.Asked.{Request, of_frame}
 use Rattle.tlb_walks.specs.Addresses.{access_refusal, page_of, walk_refusal}
 
 -- a call that walks the own tables, from the context word that names the top one; the address alone may call for that refusal

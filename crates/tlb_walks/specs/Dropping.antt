@@ -11,8 +11,8 @@ use Rattle.xp_board.specs.Lists.{kept_of}
 use Rattle.xp_board.specs.Told.{PortValue}
 use Rattle.step_maker.specs.Holds.{FlushedSame}
 use Rattle.step_maker.specs.Moves.{Moves}
-use Rattle.answer_fits.specs.Asked.{Request, of_frame}
-use Rattle.answer_fits.specs.Visits.{Visit, Only, Where}
+use Rattle.step_maker.specs.Asked.{Request, of_frame}
+use Rattle.step_maker.specs.Visits.{Visit, Only, Where}
 use Rattle.flush_words.specs.Flushing.{FlushesOwn}
 use Rattle.tlb_walks.specs.Addresses.{is_canonical, page_of}
 

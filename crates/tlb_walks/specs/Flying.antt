@@ -17,7 +17,7 @@ use Rattle.xp_board.specs.TouchSteps.{MayTouch}
 use Rattle.xp_board.specs.Told.{PortValue}
 use Rattle.step_maker.specs.Holds.{Holds}
 use Rattle.step_maker.specs.Moves.{Moves}
-use Rattle.answer_fits.specs.Licences.{is_unmapped}
+use Rattle.step_maker.specs.Licences.{is_unmapped}
 use Rattle.own_cache.specs.declared.flight.Flight.{Flight}
 use Rattle.own_cache.specs.Translating.{Translating, flown, landed, walk_below, seen, with_entry, touched_in, translating}
 use Rattle.tlb_walks.specs.Addresses.{index_of, walk_refusal}

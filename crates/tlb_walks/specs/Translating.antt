@@ -6,7 +6,7 @@ use Rattle.xp_board.specs.declared.step.Item.{Item}
 use Rattle.xp_board.specs.FillSteps.{cached_with}
 use Rattle.xp_board.specs.Told.{PortValue}
 use Rattle.step_maker.specs.Holds.{Holds, Same}
-use Rattle.answer_fits.specs.Visits.{Does}
+use Rattle.step_maker.specs.Visits.{Does}
 use Rattle.tlb_walks.specs.Addresses.{page_of}
 use Rattle.tlb_walks.specs.Walks.{WalkBy}
 use Rattle.tlb_walks.specs.declared.walks.Walked.{Walked}

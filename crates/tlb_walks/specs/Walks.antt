@@ -13,8 +13,8 @@ use Rattle.xp_board.specs.declared.step.Act.TheVariants.{Load, Cas}
 use Rattle.xp_board.specs.declared.step.Mark.TheVariants as marks
 use Rattle.xp_board.specs.declared.step.StepKind.TheVariants as steps
 use Rattle.xp_board.specs.FillSteps.{with_bit}
-use Rattle.answer_fits.specs.Licences.{is_unmapped}
-use Rattle.answer_fits.specs.Visits.{Visit, visit_as, Only, Then, Where}
+use Rattle.step_maker.specs.Licences.{is_unmapped}
+use Rattle.step_maker.specs.Visits.{Visit, visit_as, Only, Then, Where}
 use Rattle.tlb_walks.specs.Addresses.{index_of, walk_refusal}
 use Rattle.tlb_walks.specs.declared.walks.Walked.{Walked}
 

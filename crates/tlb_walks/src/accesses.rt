@@ -9,7 +9,7 @@ ghost use Rattle.xp_board.specs.declared.step.Item.{Item};
 ghost use Rattle.xp_board.specs.declared.step.StepKind.TheVariants as kinds;
 ghost use Rattle.step_maker.specs.Holds.{Rests, Same};
 ghost use Rattle.step_maker.specs.Moves.{Came, Moves};
-ghost use Rattle.answer_fits.specs.Answers.{Serves, Stops, misses};
+ghost use Rattle.step_maker.specs.Answers.{Serves, Stops, misses};
 ghost use Rattle.tlb_walks.specs.Accesses.{OneRead, OneWrite, GuestReads, ServesWrite, GuestWrites, may_serve, server};
 ghost use Rattle.tlb_walks.specs.Addresses.{access_refusal, cell_index};
 ghost use Rattle.tlb_walks.specs.Asking.{IsGuestReadStop, IsGuestWriteStop, of_read, of_write};

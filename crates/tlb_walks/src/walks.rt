@@ -1,6 +1,6 @@
 //! Page walks.
 ghost use Rattle.std.specs.Prelude.{◌≡◌, ◌≢◌, ◌≤◌, ◌<◌, ◌-◌, ◌^◌, true, false, None, Some, IfErr};
-ghost use Rattle.answer_fits.specs.Answers.{Serves, Stops, misses};
+ghost use Rattle.step_maker.specs.Answers.{Serves, Stops, misses};
 ghost use Rattle.step_maker.specs.Holds.{Rests};
 ghost use Rattle.step_maker.specs.Moves.{Came};
 ghost use Rattle.tlb_walks.specs.Asking.{IsWalkStop, of_walk};

@@ -13,9 +13,9 @@ use Rattle.xp_words.specs.declared.reply.Stop.{Stop}
 use Rattle.xp_words.specs.declared.reply.Stop.TheVariants.{Refused, Paused}
 use Rattle.xp_board.specs.Told.{PortValue}
 use Rattle.tlb_walks.specs.Asking.{IsGuestReadStop, IsGuestWriteStop}
-use Rattle.turn_laws.specs.Unhindered.{IsUnhindered}
-use Rattle.turn_laws.proofs.Bringing.{begins_later}
-use Rattle.turn_laws.proofs.Mapping.{behind_one}
+use Rattle.vcpu_turn.specs.Unhindered.{IsUnhindered}
+use Rattle.vcpu_turn.proofs.Bringing.{begins_later}
+use Rattle.vcpu_turn.proofs.Mapping.{behind_one}
 use Rattle.vcpu_turn.specs.Accesses.{done_by}
 use Rattle.vcpu_turn.specs.Cpus.{OfDescriptors, OfExt, OfMapping, OfMem, OfPairs, OfRead, OfWrite, Processing, Task, after_turn, elements_in, elements_of, end_of, next_of, nothing_left, task_next, task_of}
 use Rattle.vcpu_turn.specs.Extents as extents

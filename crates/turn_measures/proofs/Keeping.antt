@@ -13,14 +13,14 @@ use Rattle.xp_board.specs.declared.step.StepKind.{StepKind}
 use Rattle.step_maker.specs.Moves.{Came, Moment, Moves, Ran}
 use Rattle.step_maker.proofs.Coming.{came_self, came_trans, moves_came}
 use Rattle.step_maker.proofs.Telling.{told_elsewhere}
-use Rattle.answer_fits.specs.Visits.{Visit, visits, Does}
-use Rattle.answer_fits.proofs.Visiting.{does_came}
+use Rattle.step_maker.specs.Visits.{Visit, visits, Does}
+use Rattle.step_maker.proofs.Visiting.{does_came}
 use Rattle.level_release.specs.Course as course
 use Rattle.level_release.specs.Course.{GaveEntry, Lowered, MadeDead, RanDown}
 use Rattle.partial_state.specs.Levels.{level_type}
 use Rattle.partial_state.specs.declared.stack.TableWork.{TableWork}
 use Rattle.table_releases.specs.declared.entries.Released.{Released}
-use Rattle.turn_laws.proofs.Clearing.{Apart, Aparts, elsewhere, ends_dead, released}
+use Rattle.vcpu_turn.proofs.Clearing.{Apart, Aparts, elsewhere, ends_dead, released}
 use Rattle.turn_measures.proofs.Weighing.{lowered_due}
 
 -- the own steps came there, and left the words of all vCPUs

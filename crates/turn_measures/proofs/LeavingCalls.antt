@@ -18,10 +18,10 @@ use Rattle.xp_board.specs.declared.step.StepKind.TheVariants as kinds
 use Rattle.step_maker.specs.Moves.{Moment, Moves, Ran}
 use Rattle.step_maker.proofs.Coming.{ran_post}
 use Rattle.step_maker.proofs.Telling.{ran_telling}
-use Rattle.answer_fits.specs.Answers.{Deed, Serves}
-use Rattle.answer_fits.specs.Asked.{Request}
-use Rattle.answer_fits.specs.Finding.{Finding}
-use Rattle.answer_fits.specs.Reasons.{HasReason, Reason}
+use Rattle.step_maker.specs.Answers.{Deed, Serves}
+use Rattle.step_maker.specs.Asked.{Request}
+use Rattle.step_maker.specs.Finding.{Finding}
+use Rattle.step_maker.specs.Reasons.{HasReason, Reason}
 use Rattle.turn_measures.proofs.Leaving.{Spared, Spares, spared_trans, same_spared, step_leaves}
 
 -- ---- steps that leave them

@@ -17,9 +17,9 @@ use Rattle.xp_board.specs.declared.step.StepKind.{StepKind}
 use Rattle.step_maker.specs.Moves.{Came, Moves}
 use Rattle.step_maker.proofs.Coming.{came_self, came_trans, came_post, moves_came}
 use Rattle.step_maker.proofs.Telling.{came_telling}
-use Rattle.answer_fits.specs.Answers.{Deed, Serves, missed, misses}
-use Rattle.answer_fits.specs.Asked.{Request}
-use Rattle.answer_fits.proofs.Piecing.{serves_came}
+use Rattle.step_maker.specs.Answers.{Deed, Serves, missed, misses}
+use Rattle.step_maker.specs.Asked.{Request}
+use Rattle.step_maker.proofs.Piecing.{serves_came}
 use Rattle.answer_laws.specs.Alone.{IsAlone}
 use Rattle.flush_words.specs.Flushing.{FlushesOwn}
 use Rattle.flush_words.specs.Flushing as flushing
@@ -58,7 +58,7 @@ use Rattle.vcpu_turn.specs.Turning.{Begins, DoesNext, DoesTurn, EndsTurn, IsStop
 use Rattle.vcpu_turn.specs.Working.{Works}
 use Rattle.vcpu_turn.specs.declared.cpu.TurnEnd.{TurnEnd}
 use Rattle.vcpu_turn.specs.declared.cpu.TurnEnd.TheVariants as ends
-use Rattle.turn_laws.proofs.Hindering.{element_destroys, extent_destroys, pair_destroys}
+use Rattle.vcpu_turn.proofs.Hindering.{element_destroys, extent_destroys, pair_destroys}
 use Rattle.turn_measures.proofs.Leaving.{Spared, Spares, same_spared, spared_trans, step_leaves}
 use Rattle.turn_measures.proofs.LeavingCalls.{clock_spares, load_spares, moves_up, own_spares, serves_spares}
 

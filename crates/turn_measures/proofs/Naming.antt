@@ -17,7 +17,7 @@ use Rattle.partial_state.specs.Weights.{weight}
 use Rattle.partial_state.specs.declared.stack.TableWork.{TableWork}
 use Rattle.table_courses.specs.Acquiring.{GaveRef, GaveType, Named}
 use Rattle.frame_types.specs.Lowering.{DropsType}
-use Rattle.turn_laws.proofs.Clearing.{drops, ends_dead, puts}
+use Rattle.vcpu_turn.proofs.Clearing.{drops, ends_dead, puts}
 use Rattle.turn_measures.specs.Measures.{left_rank, most_left}
 use Rattle.turn_measures.proofs.Keeping.{Away, EndsWell, away_trans, away_moves, away_does, ran_away}
 use Rattle.turn_measures.proofs.Weighing.{AreSome, one_most, ran_due}

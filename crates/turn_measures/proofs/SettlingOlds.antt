@@ -18,7 +18,7 @@ use Rattle.level_release.specs.Asking.{IsReleaseEnd}
 use Rattle.level_release.specs.Course as course
 use Rattle.level_release.specs.Course.{Settled, left_settled}
 use Rattle.table_words.specs.declared.old_words.OldWord.TheVariants.{First, Second}
-use Rattle.turn_laws.specs.Unhindered.{IsUnhindered}
+use Rattle.vcpu_turn.specs.Unhindered.{IsUnhindered}
 use Rattle.vcpu_turn.specs.Settling.{Settles}
 use Rattle.vcpu_turn.specs.declared.cpu.TurnEnd.TheVariants as ends
 use Rattle.turn_measures.specs.Measures.{KeepsLeft, bit_named, left_rank, most_left, olds_named}

@@ -14,7 +14,7 @@ use Rattle.xp_words.specs.declared.reply.Stop.{Stop}
 use Rattle.xp_words.specs.declared.reply.Stop.TheVariants.{Paused}
 use Rattle.xp_board.specs.KindSteps.{Form, Live, Partial, InWork, Dead, form_of}
 use Rattle.xp_board.specs.Told.{PortValue}
-use Rattle.answer_fits.specs.Visits.{Visit, Does}
+use Rattle.step_maker.specs.Visits.{Visit, Does}
 use Rattle.level_release.specs.Course as course
 use Rattle.level_release.specs.Course.{GaveEntry, Lowered, RanDown, is_asked_down, is_asked_within, is_less, table_under, one_more_done}
 use Rattle.partial_state.specs.Levels.{level_type}

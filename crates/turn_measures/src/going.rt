@@ -1,7 +1,7 @@
 //! How far a turn brings its operation.
 ghost use Rattle.std.specs.Prelude.{◌≡◌, ◌⊎◌, ◌<◌, ℕ, Bool, false, List};
 ghost use Rattle.xp_board.specs.Told.{PortValue};
-ghost use Rattle.turn_laws.specs.Unhindered.{IsUnhindered};
+ghost use Rattle.vcpu_turn.specs.Unhindered.{IsUnhindered};
 ghost use Rattle.vcpu_turn.specs.Cpus.{Processing};
 ghost use Rattle.vcpu_turn.specs.Turning.{IsTurn};
 ghost use Rattle.vcpu_turn.specs.declared.cpu.TurnEnd.{TurnEnd};

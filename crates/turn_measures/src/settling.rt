@@ -6,7 +6,7 @@ ghost use Rattle.xp_words.specs.declared.reply.Stop.TheVariants.{Paused};
 ghost use Rattle.xp_board.specs.Told.{PortValue, told_word};
 ghost use Rattle.answer_laws.specs.Alone.{IsAlone};
 ghost use Rattle.level_release.specs.Course.{left_settled};
-ghost use Rattle.turn_laws.specs.Unhindered.{IsUnhindered};
+ghost use Rattle.vcpu_turn.specs.Unhindered.{IsUnhindered};
 ghost use Rattle.vcpu_turn.specs.Settling.{Settles};
 ghost use Rattle.vcpu_turn.specs.declared.cpu.TurnEnd.TheVariants as ends;
 ghost use Rattle.turn_measures.specs.Measures.{KeepsLeft, left_rank, olds_named};

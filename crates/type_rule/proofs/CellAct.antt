@@ -16,7 +16,7 @@ use Rattle.xp_board.specs.Recorded.{held, entry_demand}
 use Rattle.xp_board.specs.Runs.{place_of}
 use Rattle.xp_board.specs.Valid.{Valid, Permitted}
 use Rattle.xp_board.specs.Sound.{Sound}
-use Rattle.board_lemmas.proofs.PlaceTests.{same_or_other}
+use Rattle.xp_board.proofs.PlaceTests.{same_or_other}
 use Rattle.type_rule.proofs.HandParts.{SameThree}
 use Rattle.type_rule.proofs.Works.{WorkKeptIn, cell_kept}
 use Rattle.type_rule.proofs.EntryChange.{OneStep, quiet_entry, quiet_leads, quiet_held}

@@ -22,17 +22,17 @@ use Rattle.xp_board.specs.After.{is_fixed}
 use Rattle.xp_board.specs.Recorded.{held}
 use Rattle.xp_board.specs.Valid.{Valid, Permitted}
 use Rattle.xp_board.specs.Sound.{Sound}
-use Rattle.board_lemmas.proofs.KindForms.{live_unmarked}
+use Rattle.xp_board.proofs.KindForms.{live_unmarked}
 use Rattle.step_effects.proofs.ActEffects.{Rewrote, Filled}
-use Rattle.board_lemmas.proofs.HandLists.{first-some}
-use Rattle.board_lemmas.proofs.Counted.{type_below}
-use Rattle.board_lemmas.proofs.WorkFacts.{works_facts}
-use Rattle.board_lemmas.proofs.Recordless.{idle_held, closing_counted, closing_busy}
-use Rattle.board_lemmas.proofs.HeldByForm.{held_table}
+use Rattle.xp_board.proofs.HandLists.{first-some}
+use Rattle.xp_board.proofs.Counted.{type_below}
+use Rattle.xp_board.proofs.WorkFacts.{works_facts}
+use Rattle.xp_board.proofs.Recordless.{idle_held, closing_counted, closing_busy}
+use Rattle.xp_board.proofs.HeldByForm.{held_table}
 use Rattle.type_rule.proofs.CellAct.{CellAct, cell_valid, cell_permitted}
-use Rattle.board_lemmas.proofs.LockFacts.{lock_facts, rewritten_same}
-use Rattle.board_lemmas.proofs.Works.{dying_in_hand}
-use Rattle.board_lemmas.proofs.EntryWords.{fixed_by}
+use Rattle.xp_board.proofs.LockFacts.{lock_facts, rewritten_same}
+use Rattle.xp_board.proofs.Works.{dying_in_hand}
+use Rattle.xp_board.proofs.EntryWords.{fixed_by}
 
 -- ---- types
 pub desc_no_table : (t : PageType) → t ≡ kinds.Desc → is_table t ≡ true → ⊥

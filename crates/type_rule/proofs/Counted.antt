@@ -11,8 +11,8 @@ use Rattle.xp_board.specs.Readings.{kind_at, type_count, is_context}
 use Rattle.xp_board.specs.Hands.{typed_hand}
 use Rattle.xp_board.specs.Recorded.{CountsAgree, held, entry_demand, names_typed}
 use Rattle.xp_board.specs.Sound.{Sound}
-use Rattle.board_lemmas.proofs.Sums.{hands-part}
-use Rattle.board_lemmas.proofs.Counted.{entries-part, contexts-part, names_typed-typed, held_inside}
+use Rattle.xp_board.proofs.Sums.{hands-part}
+use Rattle.xp_board.proofs.Counted.{entries-part, contexts-part, names_typed-typed, held_inside}
 
 -- a recorded typed entry is one beside those in hand
 pub entry_counted : (n : Machine) (m : Place → ℕ) (h : ℕ → Holdings) (s f i g : ℕ) (t : PageType) → Sound n m h → s < (sizes_of n).vcpus → i < held (sizes_of n) m h f →

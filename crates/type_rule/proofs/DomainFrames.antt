@@ -13,12 +13,12 @@ use Rattle.xp_board.specs.Readings.{owner_of, domain_of, allocated_mark}
 use Rattle.xp_board.specs.LifeSteps.{is_unallocated}
 use Rattle.xp_board.specs.Sound.{Sound}
 use Rattle.xp_board.specs.Found.{ClaimFound}
-use Rattle.board_lemmas.proofs.ListCounts.{EachOf-found}
+use Rattle.xp_board.proofs.ListCounts.{EachOf-found}
 use Rattle.xp_words.proofs.RefLaws.{ref_read-write}
 use Rattle.std.proofs.lemmas.List.Elements.{All-get_or}
 use Rattle.step_effects.proofs.ActEffects.{Raised, Cleared, Took, Lowered, Freed, Gave}
 use Rattle.type_rule.proofs.RefWordLaws.{SameOwner, one_more_keeps, one_less_keeps}
-use Rattle.board_lemmas.proofs.Counted.{in_hand_counted}
+use Rattle.xp_board.proofs.Counted.{in_hand_counted}
 use Rattle.type_rule.proofs.DomainLaw.{AllStopped, DomainWords, DomainChange}
 use Rattle.type_rule.proofs.DomainWords.{kept_after, change_by, not_stopped}
 use Rattle.xp_board.proofs.RefWords.{owned_says, dying_says, free_says}

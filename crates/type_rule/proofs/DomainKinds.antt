@@ -16,12 +16,12 @@ use Rattle.xp_board.specs.Readings.{kind_at, is_partial, owner_of, domain_of}
 use Rattle.xp_board.specs.KindSteps.{KindRow, Count, Locks, Pin, Unpin, Resume, TakeBack, Begin, AllowsKindRow, still_looking}
 use Rattle.xp_board.specs.WellFormed.{IsLookingFormed}
 use Rattle.xp_board.specs.Sound.{Sound, KeptForNobody}
-use Rattle.board_lemmas.proofs.KindForms.{live_form}
+use Rattle.xp_board.proofs.KindForms.{live_form}
 use Rattle.step_effects.proofs.ActEffects.{Turned, Missed, Dropped, Unlocked}
 use Rattle.type_rule.proofs.HandParts.{two_row}
 use Rattle.type_rule.proofs.DomainLaw.{AllStopped, DomainWords, DomainChange}
 use Rattle.type_rule.proofs.DomainWords.{LooksOn, kept_after, kept_member, change_by, not_stopped, same_words}
-use Rattle.board_lemmas.proofs.CountsDown.{drop_live, drop_word, lock_live, unlock_word}
+use Rattle.xp_board.proofs.CountsDown.{drop_live, drop_word, lock_live, unlock_word}
 
 -- ---- looking
 member_each : (P : Looking → Type 0) (e : Looking) (xs : List Looking) → EachOf P xs → Member e xs → P e

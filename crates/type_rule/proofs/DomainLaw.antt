@@ -16,7 +16,7 @@ use Rattle.xp_board.specs.LifeSteps.{HasStopped, is_unallocated, is_unpinned, is
 use Rattle.xp_board.specs.Found.{StoppedFound}
 use Rattle.xp_board.specs.Runs.{place_of}
 use Rattle.xp_board.specs.Sound.{Sound, KeptForNobody, DeadDomain, DyingDomain, Domains}
-use Rattle.board_lemmas.proofs.StepLists.{Hit, since_more, before_more, between_more, since_within, found_between, hit_left}
+use Rattle.xp_board.proofs.StepLists.{Hit, since_more, before_more, between_more, since_within, found_between, hit_left}
 
 -- all vCPUs of the domain are stopped
 abbrev pub AllStopped : Machine → (Place → ℕ) → ℕ → Type 0

@@ -14,7 +14,7 @@ use Rattle.xp_board.specs.Readings.{is_owned_by, owner_of}
 use Rattle.xp_board.specs.LifeSteps.{HasStopped, HasCleared, MayBury, is_unallocated, is_unpinned, is_unkept}
 use Rattle.xp_board.specs.Sound.{Sound, DeadDomain, DyingDomain, Domains}
 use Rattle.step_effects.proofs.ActEffects.{Doomed, Buried}
-use Rattle.board_lemmas.proofs.StepLists.{before_more, since_within, found_before, found_between, between_since, between_wider}
+use Rattle.xp_board.proofs.StepLists.{before_more, since_within, found_before, found_between, between_since, between_wider}
 use Rattle.type_rule.proofs.DomainLaw.{DomainChange, dead_law, dying_law, by_owner, is_one}
 use Rattle.type_rule.proofs.DomainWords.{change_by, same_words, learned_alive}
 use Rattle.xp_board.proofs.RefWords.{zero_unowned}

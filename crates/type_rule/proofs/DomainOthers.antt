@@ -19,7 +19,7 @@ use Rattle.step_effects.proofs.ActEffects.{Looked, Exchanged, Rewrote, Filled, G
 use Rattle.type_rule.proofs.HandParts.{SameTwo, two_of, three_in, three_out, three_own, three_started, three_loaded, three_descended}
 use Rattle.type_rule.proofs.DomainLaw.{DomainChange}
 use Rattle.type_rule.proofs.DomainWords.{change_by, same_words, learned_alive}
-use Rattle.board_lemmas.proofs.Sums.{if_itself}
+use Rattle.xp_board.proofs.Sums.{if_itself}
 
 module _ (n : Machine) (s : ℕ) (x : Step) (m m2 : Place → ℕ) (b c : ℕ → Holdings) (real : s < (sizes_of n).vcpus) (sound : Sound n m b)
     (others : (t : ℕ) → t ≢ s → c t ≡ b t) where

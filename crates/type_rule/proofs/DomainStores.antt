@@ -20,14 +20,14 @@ use Rattle.xp_board.specs.Hands.{ref_to, typed_on, ref_owner, typed_owner}
 use Rattle.xp_board.specs.Knowledge.{knows_owner}
 use Rattle.xp_board.specs.KindSteps.{Form, Live, Partial, InWork, Dead, form_of, AllowsForm, after_form, kept_owner, looking_at, as_typed}
 use Rattle.xp_board.specs.Sound.{Sound, KeptForNobody}
-use Rattle.board_lemmas.proofs.KindForms.{live_form, partial_form, work_form, dead_form}
+use Rattle.xp_board.proofs.KindForms.{live_form, partial_form, work_form, dead_form}
 use Rattle.step_effects.proofs.ActEffects.{Stored}
 use Rattle.type_rule.proofs.HandParts.{SameTwo, two_live, two_dead, three_as_typed}
 use Rattle.type_rule.proofs.DomainLaw.{AllStopped, DomainChange}
 use Rattle.type_rule.proofs.DomainWords.{change_by, not_stopped}
 use Rattle.type_rule.proofs.DomainKinds.{kind_words, by_kept, or_true}
-use Rattle.board_lemmas.proofs.FormsLeft.{is_live_left, is_partial_left, is_work_left, is_dead_left}
-use Rattle.board_lemmas.proofs.Owners.{ref_knows, typed_knows}
+use Rattle.xp_board.proofs.FormsLeft.{is_live_left, is_partial_left, is_work_left, is_dead_left}
+use Rattle.xp_board.proofs.Owners.{ref_knows, typed_knows}
 
 left_pinned : (form : Form) (n : Machine) (f w : ℕ) (e : Work) (l : KindWord) (h : Holdings) → kind_read w ≡ Some l → form_of l ≡ form → AllowsForm form n f e l h → l.pinned ≡ false
 left_pinned Live n f w e l h is at may = may.unpinned

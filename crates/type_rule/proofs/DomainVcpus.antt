@@ -10,13 +10,13 @@ use Rattle.xp_board.specs.Readings.{is_context, owner_of}
 use Rattle.xp_board.specs.ContextSteps.{named_in, named_out}
 use Rattle.xp_board.specs.RunSteps.{AllowsRun, ran_now}
 use Rattle.xp_board.specs.Sound.{Sound}
-use Rattle.board_lemmas.proofs.PlaceTests.{same_or_other}
+use Rattle.xp_board.proofs.PlaceTests.{same_or_other}
 use Rattle.step_effects.proofs.ActEffects.{Named, Based, Ran}
 use Rattle.type_rule.proofs.HandParts.{three_name_in, three_name_out, three_own, three_ran}
 use Rattle.type_rule.proofs.DomainLaw.{DomainWords, DomainChange}
 use Rattle.type_rule.proofs.DomainWords.{kept_after, change_by, runs}
 use Rattle.type_rule.proofs.DomainOthers.{own_two}
-use Rattle.board_lemmas.proofs.Counted.{not_context}
+use Rattle.xp_board.proofs.Counted.{not_context}
 
 module _ (n : Machine) (s : ℕ) (x : Step) (m m2 : Place → ℕ) (b c : ℕ → Holdings) (real : s < (sizes_of n).vcpus) (sound : Sound n m b)
     (others : (t : ℕ) → t ≢ s → c t ≡ b t) where

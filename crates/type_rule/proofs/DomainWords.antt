@@ -16,7 +16,7 @@ use Rattle.xp_board.specs.After.{noted, learned_life}
 use Rattle.xp_board.specs.Runs.{place_of}
 use Rattle.xp_board.specs.Sound.{Sound, KeptForNobody}
 use Rattle.type_rule.proofs.DomainLaw.{AllStopped, DomainWords, DomainChange}
-use Rattle.board_lemmas.proofs.Counted.{not_context}
+use Rattle.xp_board.proofs.Counted.{not_context}
 
 -- ---- looking
 pub kept_member : (test : Looking → Bool) (e : Looking) (xs : List Looking) → Member e xs → test e ≡ true → Member e (kept_of test xs)

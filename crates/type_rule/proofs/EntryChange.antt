@@ -17,9 +17,9 @@ use Rattle.xp_board.specs.Readings.{kind_at, is_live, is_work, is_partial, is_li
 use Rattle.xp_board.specs.Recorded.{held, held_of, entry_demand, recorded_in, recorded_number, work_of}
 use Rattle.xp_board.specs.Valid.{LeadsWell, IsUnsettled, IsLastOfPartial}
 use Rattle.xp_board.specs.Runs.{place_of}
-use Rattle.board_lemmas.proofs.StepLists.{Hit, since_false, hit_left}
+use Rattle.xp_board.proofs.StepLists.{Hit, since_false, hit_left}
 use Rattle.type_rule.proofs.Works.{WorkKeptIn, kept_work, kept_since, recorded_same}
-use Rattle.board_lemmas.proofs.Works.{work_of-same, work_of-mine}
+use Rattle.xp_board.proofs.Works.{work_of-same, work_of-mine}
 
 -- an entry that is recorded after the act was recorded before, and asks the same
 pub record OldEntry (n : Machine) (m m2 : Place → ℕ) (b : ℕ → Holdings) (f i : ℕ) : Type 0 where

@@ -24,18 +24,18 @@ use Rattle.xp_board.specs.Recorded.{held, held_of, entry_demand, recorded_in, re
 use Rattle.xp_board.specs.Valid.{Valid, Permitted, LeadsWell}
 use Rattle.xp_board.specs.Sound.{Sound}
 use Rattle.step_effects.proofs.MarkEffects.{Recorded, Shed}
-use Rattle.board_lemmas.proofs.Counted.{typed_counted}
-use Rattle.board_lemmas.proofs.Works.{work_of-mine, nobody_else}
+use Rattle.xp_board.proofs.Counted.{typed_counted}
+use Rattle.xp_board.proofs.Works.{work_of-mine, nobody_else}
 use Rattle.type_rule.proofs.HandParts.{three_in, three_out}
-use Rattle.board_lemmas.proofs.ListChanges.{first_by-changed_other, first_by-changed_here}
-use Rattle.board_lemmas.proofs.WorkFacts.{Works, works_facts, loaded_asks}
-use Rattle.board_lemmas.proofs.Settled.{nothing_unsettled, unsettled_mine}
+use Rattle.xp_board.proofs.ListChanges.{first_by-changed_other, first_by-changed_here}
+use Rattle.xp_board.proofs.WorkFacts.{Works, works_facts, loaded_asks}
+use Rattle.xp_board.proofs.Settled.{nothing_unsettled, unsettled_mine}
 use Rattle.type_rule.proofs.ValidLaw.{NewEntry}
 use Rattle.type_rule.proofs.NewEntries.{owners_permit, demand_new}
 use Rattle.type_rule.proofs.MarkRows.{MarkOn, mark_valid, mark_permitted}
-use Rattle.board_lemmas.proofs.KindReadings.{busy_partial}
-use Rattle.board_lemmas.proofs.MoreSteps.{none_since}
-use Rattle.board_lemmas.proofs.HeldByForm.{held_table_work}
+use Rattle.xp_board.proofs.KindReadings.{busy_partial}
+use Rattle.xp_board.proofs.MoreSteps.{none_since}
+use Rattle.xp_board.proofs.HeldByForm.{held_table_work}
 
 counted_form : (k : KindWord) → 0 < type_count k → is_live k ≡ false → IsTrue (is_partial k || is_work k)
 unfolding type_count

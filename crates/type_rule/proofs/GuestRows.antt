@@ -20,15 +20,15 @@ use Rattle.xp_board.specs.Reach.{Table, Writes, Reach, walked, reached_by}
 use Rattle.xp_board.specs.Recorded.{held}
 use Rattle.xp_board.specs.Valid.{Valid, Permitted}
 use Rattle.xp_board.specs.Sound.{Sound}
-use Rattle.board_lemmas.proofs.EntryWords.{entry_asks_same, touched_same}
+use Rattle.xp_board.proofs.EntryWords.{entry_asks_same, touched_same}
 use Rattle.step_effects.proofs.ActEffects.{GuestStored, Touched}
 use Rattle.type_rule.proofs.HandParts.{three_descended}
-use Rattle.board_lemmas.proofs.HeldByForm.{held_table}
+use Rattle.xp_board.proofs.HeldByForm.{held_table}
 use Rattle.type_rule.proofs.CellAct.{cell_valid, cell_permitted}
 use Rattle.type_rule.proofs.CellRows.{live_flushed, seven_no_table, seven_no_desc, level_no_desc}
-use Rattle.board_lemmas.proofs.Recordless.{marked_none}
-use Rattle.board_lemmas.proofs.ReachAll.{written_reach}
-use Rattle.board_lemmas.proofs.CellAlike.{not_reads}
+use Rattle.xp_board.proofs.Recordless.{marked_none}
+use Rattle.xp_board.proofs.ReachAll.{written_reach}
+use Rattle.xp_board.proofs.CellAlike.{not_reads}
 
 -- ---- uses
 

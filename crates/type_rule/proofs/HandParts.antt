@@ -15,8 +15,8 @@ use Rattle.xp_board.specs.KindSteps.{KindRow, Count, Locks, Pin, Unpin, Resume, 
 use Rattle.xp_board.specs.After.{learned}
 use Rattle.xp_words.specs.KindWords.{kind_fields}
 use Rattle.xp_board.specs.Readings.{is_work, is_closing}
-use Rattle.board_lemmas.proofs.HandParts.{Beside, beside_in, beside_out, beside_named_in, beside_named_out, beside_learned, beside_ran, beside_started, beside_descended, beside_loaded}
-use Rattle.board_lemmas.proofs.Sums.{either}
+use Rattle.xp_board.proofs.HandParts.{Beside, beside_in, beside_out, beside_named_in, beside_named_out, beside_learned, beside_ran, beside_started, beside_descended, beside_loaded}
+use Rattle.xp_board.proofs.Sums.{either}
 
 -- the steps and what the vCPU looks at
 pub record SameTwo (a b : Holdings) : Type 0 where

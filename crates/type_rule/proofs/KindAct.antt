@@ -16,11 +16,11 @@ use Rattle.xp_board.specs.Recorded.{held_of, recorded_number}
 use Rattle.xp_board.specs.Valid.{Valid, Permitted, IsUnsettled, is_live_context}
 use Rattle.xp_board.specs.Sound.{Sound, is_busy}
 use Rattle.type_rule.proofs.Works.{WorkKeptIn}
-use Rattle.board_lemmas.proofs.Works.{nobody_has}
+use Rattle.xp_board.proofs.Works.{nobody_has}
 use Rattle.type_rule.proofs.EntryChange.{OneStep, SameTable, LeadsStill, kind_entry, kind_leads}
 use Rattle.type_rule.proofs.ValidLaw.{valid_law, permitted_law, contexts_permitted}
 use Rattle.type_rule.proofs.QuietLaw.{same_owners}
-use Rattle.board_lemmas.proofs.HeldByForm.{live_partial}
+use Rattle.xp_board.proofs.HeldByForm.{live_partial}
 
 not_both : (k : KindWord) → IsTrue (is_live k) → IsTrue (is_partial k || is_work k) → ⊥
 not_both k live form = let t : (is_partial k || is_work k) ≡ false = rw live refl in cc

@@ -18,19 +18,19 @@ use Rattle.xp_board.specs.KindSteps.{KindRow, Count, Locks, Pin, Unpin, Resume, 
 use Rattle.xp_board.specs.Recorded.{held_of, recorded_number}
 use Rattle.xp_board.specs.Valid.{Valid, Permitted}
 use Rattle.xp_board.specs.Sound.{Sound, is_busy}
-use Rattle.board_lemmas.proofs.KindForms.{live_form}
+use Rattle.xp_board.proofs.KindForms.{live_form}
 use Rattle.step_effects.proofs.ActEffects.{Turned}
 use Rattle.type_rule.proofs.HandParts.{two_row}
 use Rattle.type_rule.proofs.Works.{WorkKeptIn, works_kept}
-use Rattle.board_lemmas.proofs.ListCounts.{first_by-cons_here, first_by-cons_other}
+use Rattle.xp_board.proofs.ListCounts.{first_by-cons_here, first_by-cons_other}
 use Rattle.type_rule.proofs.EntryChange.{OneStep}
 use Rattle.type_rule.proofs.QuietActs.{one_by}
 use Rattle.type_rule.proofs.KindAct.{KindAct, nobody, not_unsettled, live_stays, kind_valid, kind_permitted}
-use Rattle.board_lemmas.proofs.HeldByForm.{held_dead, held_same, live_partial, live_idle}
+use Rattle.xp_board.proofs.HeldByForm.{held_dead, held_same, live_partial, live_idle}
 use Rattle.type_rule.proofs.KindHeld.{live_held, resumed_held, begun_held, closed_held, work_live, dead_live, dead_unformed, either_part}
-use Rattle.board_lemmas.proofs.KindReadings.{partial_idle, dead_idle}
-use Rattle.board_lemmas.proofs.MoreSteps.{none_since}
-use Rattle.board_lemmas.proofs.Sums.{either}
+use Rattle.xp_board.proofs.KindReadings.{partial_idle, dead_idle}
+use Rattle.xp_board.proofs.MoreSteps.{none_since}
+use Rattle.xp_board.proofs.Sums.{either}
 
 resumed_work : (k l : KindWord) → MayResume k l → IsTrue (is_partial l || is_work l)
 resumed_work k l may = let v : k.validated ≡ false = (let p = may.partial in grind arith) in rw may.left (rw v refl)

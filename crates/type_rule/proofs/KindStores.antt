@@ -23,23 +23,23 @@ use Rattle.xp_board.specs.Recorded.{held, held_of, entry_demand, recorded_number
 use Rattle.xp_board.specs.Valid.{Valid, Permitted, IsLastOfPartial, is_live_context}
 use Rattle.xp_board.specs.Sound.{Sound}
 use Rattle.step_effects.proofs.ActEffects.{Stored}
-use Rattle.board_lemmas.proofs.Works.{nobody_else, one_works}
+use Rattle.xp_board.proofs.Works.{nobody_else, one_works}
 use Rattle.type_rule.proofs.HandParts.{two_live, two_dead, three_as_typed}
 use Rattle.type_rule.proofs.Works.{WorkKeptIn, works_kept}
-use Rattle.board_lemmas.proofs.ListCounts.{first_by-without_other, first_by-none, times_by-without_one}
-use Rattle.board_lemmas.proofs.ListChanges.{first_by-changed_other, first_by-changed_here}
+use Rattle.xp_board.proofs.ListCounts.{first_by-without_other, first_by-none, times_by-without_one}
+use Rattle.xp_board.proofs.ListChanges.{first_by-changed_other, first_by-changed_here}
 use Rattle.type_rule.proofs.Counted.{entry_counted, context_counted}
-use Rattle.board_lemmas.proofs.WorkFacts.{Works, works_facts}
-use Rattle.board_lemmas.proofs.Settled.{settled_found, unsettled_mine}
-use Rattle.board_lemmas.proofs.FormsLeft.{is_live_left, is_partial_left, is_work_left, is_dead_left}
+use Rattle.xp_board.proofs.WorkFacts.{Works, works_facts}
+use Rattle.xp_board.proofs.Settled.{settled_found, unsettled_mine}
+use Rattle.xp_board.proofs.FormsLeft.{is_live_left, is_partial_left, is_work_left, is_dead_left}
 use Rattle.type_rule.proofs.EntryChange.{OneStep}
 use Rattle.type_rule.proofs.QuietActs.{one_by}
 use Rattle.type_rule.proofs.ValidLaw.{live_is_context}
 use Rattle.type_rule.proofs.KindAct.{KindAct, kind_valid, kind_permitted}
-use Rattle.board_lemmas.proofs.HeldByForm.{held_table}
+use Rattle.xp_board.proofs.HeldByForm.{held_table}
 use Rattle.type_rule.proofs.KindHeld.{live_all, partial_all, work_all, dead_all}
-use Rattle.board_lemmas.proofs.KindReadings.{busy_closed, busy_working, busy_partial, work_count}
-use Rattle.board_lemmas.proofs.Sums.{either}
+use Rattle.xp_board.proofs.KindReadings.{busy_closed, busy_working, busy_partial, work_count}
+use Rattle.xp_board.proofs.Sums.{either}
 
 live_works : (f : ℕ) (l : KindWord) (h : Holdings) → (made_live f l h).works ≡ without_work f h.works
 live_works f l h = either (λ (u : Holdings). u.works ≡ without_work f h.works) (l.number == 1) _ _ refl refl

@@ -19,7 +19,7 @@ use Rattle.xp_board.specs.After.{learned}
 use Rattle.xp_board.specs.Valid.{Valid, Permitted, is_live_context}
 use Rattle.xp_board.specs.Recorded.{entry_demand}
 use Rattle.xp_board.specs.Sound.{Sound}
-use Rattle.board_lemmas.proofs.PlaceTests.{same_or_other}
+use Rattle.xp_board.proofs.PlaceTests.{same_or_other}
 use Rattle.step_effects.proofs.ActEffects.{Exchanged, Named}
 use Rattle.type_rule.proofs.HandParts.{SameThree, three_in, three_out, three_then, three_name_in, three_name_out, three_own}
 use Rattle.type_rule.proofs.Works.{WorkKeptIn, works_kept}

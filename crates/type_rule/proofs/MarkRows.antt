@@ -13,7 +13,7 @@ use Rattle.xp_board.specs.Readings.{kind_at, is_live}
 use Rattle.xp_board.specs.Recorded.{held, held_of, entry_demand, recorded_in, recorded_number}
 use Rattle.xp_board.specs.Valid.{Valid, Permitted, LeadsWell, IsUnsettled, is_live_context}
 use Rattle.xp_board.specs.Sound.{Sound}
-use Rattle.board_lemmas.proofs.Works.{work_of-same}
+use Rattle.xp_board.proofs.Works.{work_of-same}
 use Rattle.type_rule.proofs.ValidLaw.{OwnersStay, NewEntry, EntriesAfter, valid_law, permitted_law}
 
 -- ---- marks that change no work

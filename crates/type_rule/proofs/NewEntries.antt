@@ -15,7 +15,7 @@ use Rattle.xp_board.specs.Settling.{OwnersMeet, HasDemand}
 use Rattle.xp_board.specs.Recorded.{entry_demand}
 use Rattle.xp_board.specs.Valid.{EntryPermitted}
 use Rattle.xp_board.specs.Sound.{Sound}
-use Rattle.board_lemmas.proofs.StepLists.{found_since}
+use Rattle.xp_board.proofs.StepLists.{found_since}
 use Rattle.type_rule.proofs.ValidLaw.{NewEntry}
 use Rattle.xp_board.proofs.RefWords.{owner_few}
 

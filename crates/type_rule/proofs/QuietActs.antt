@@ -19,18 +19,18 @@ use Rattle.xp_board.specs.RunSteps.{ran_now}
 use Rattle.xp_board.specs.After.{noted, learned_own, learned_work}
 use Rattle.xp_board.specs.Runs.{place_of}
 use Rattle.xp_board.specs.Sound.{Sound}
-use Rattle.board_lemmas.proofs.Bits.{granted-ever, revoked-ever}
+use Rattle.xp_board.proofs.Bits.{granted-ever, revoked-ever}
 use Rattle.step_effects.proofs.ActEffects.{Looked, Raised, Cleared, Took, Lowered, Freed, Gave, Missed, Started, WentOn, Stumbled, Mapped, Charged, Refunded, Based, Asked, Flushed, Ran, Ticked, Doomed, Buried, Hinted, Privileged}
-use Rattle.board_lemmas.proofs.HandLists.{first-some}
+use Rattle.xp_board.proofs.HandLists.{first-some}
 use Rattle.type_rule.proofs.HandParts.{SameThree, three_own, three_ran, three_started, three_loaded}
 use Rattle.type_rule.proofs.RefWordLaws.{one_less_keeps}
-use Rattle.board_lemmas.proofs.Counted.{in_hand_counted, not_context}
-use Rattle.board_lemmas.proofs.Sums.{if_itself}
+use Rattle.xp_board.proofs.Counted.{in_hand_counted, not_context}
+use Rattle.xp_board.proofs.Sums.{if_itself}
 use Rattle.type_rule.proofs.Works.{WorkKeptIn, works_kept, cell_kept}
 use Rattle.type_rule.proofs.EntryChange.{OneStep}
 use Rattle.type_rule.proofs.ValidLaw.{OwnersStay}
 use Rattle.type_rule.proofs.QuietLaw.{QuietAct, same_owners, one_owner}
-use Rattle.board_lemmas.proofs.Works.{dying_in_hand}
+use Rattle.xp_board.proofs.Works.{dying_in_hand}
 use Rattle.xp_board.proofs.RefWords.{owned_says, free_says}
 
 clock_held : (n : Machine) (stamp f : ℕ) (h : Holdings) (e : Option Ending) (c : Option Claimed) → ending_of f h.ending ≡ e → claim_of f h.claimed ≡ c → IsFreeStamp n stamp h e c →

@@ -15,8 +15,8 @@ use Rattle.xp_board.specs.After.{is_fixed}
 use Rattle.xp_board.specs.Sound.{Sound}
 use Rattle.type_rule.proofs.EntryChange.{OldEntry}
 use Rattle.type_rule.proofs.Counted.{entry_counted, context_counted}
-use Rattle.board_lemmas.proofs.Counted.{type_below, plain_counted}
-use Rattle.board_lemmas.proofs.Recordless.{table_counted}
+use Rattle.xp_board.proofs.Counted.{type_below, plain_counted}
+use Rattle.xp_board.proofs.Recordless.{table_counted}
 
 -- an entry that is new, or asks something else than before
 pub record NewEntry (n : Machine) (m2 : Place → ℕ) (c : ℕ → Holdings) (f i : ℕ) : Type 0 where

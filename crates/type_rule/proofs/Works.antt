@@ -8,7 +8,7 @@ use Rattle.xp_board.specs.Lists.{first_by, changed_by}
 use Rattle.xp_board.specs.Hands.{work_on, changed_work}
 use Rattle.xp_board.specs.After.{learned_last, learned_work}
 use Rattle.xp_board.specs.Recorded.{recorded_in, recorded_number}
-use Rattle.board_lemmas.proofs.Learned.{learned_frame}
+use Rattle.xp_board.proofs.Learned.{learned_frame}
 
 -- ---- as many entries recorded, and unsettled since the same step or settled
 abbrev pub SinceKept : Option Unsettled → Option Unsettled → Type 0

@@ -7,8 +7,8 @@ use Rattle.xp_words.specs.declared.reply.Stop.{Stop}
 use Rattle.xp_words.specs.declared.reply.Stop.TheVariants.{Refused, Paused}
 use Rattle.xp_board.specs.Told.{PortValue}
 use Rattle.step_maker.specs.Holds.{FlushedSame, Rests}
-use Rattle.answer_fits.specs.Answers.{Stops}
-use Rattle.answer_fits.proofs.Piecing.{serves_came}
+use Rattle.step_maker.specs.Answers.{Stops}
+use Rattle.step_maker.proofs.Piecing.{serves_came}
 use Rattle.mmuext_ops.specs.Course.{FlushedLocal, Invalidated, WaitedForVcpus}
 use Rattle.mmuext_ops.specs.Elements.{IsElementStop, KnowsAwaited, ServesElement, awaited_by, every_vcpu, ext_request}
 use Rattle.mmuext_ops.specs.declared.element.Element.{Element}

@@ -5,7 +5,7 @@ use Rattle.std.proofs.lemmas.Option.{slice_get-get_or}
 use Rattle.xp_words.specs.declared.reply.Stop.{Stop}
 use Rattle.xp_board.specs.Told.{PortValue}
 use Rattle.step_maker.specs.Holds.{Rests}
-use Rattle.answer_fits.specs.Answers.{Serves, Stops, misses}
+use Rattle.step_maker.specs.Answers.{Serves, Stops, misses}
 use Rattle.level_release.specs.Asking as releases
 use Rattle.level_release.specs.Asking.{is_due_stop}
 use Rattle.level_release.specs.Course.{SettlesBy, WithGate}

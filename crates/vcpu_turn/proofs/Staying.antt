@@ -12,9 +12,9 @@ use Rattle.step_maker.specs.Holds.{FlushedSame}
 use Rattle.step_maker.specs.Moves.{Came, Moves}
 use Rattle.step_maker.proofs.Coming.{came_post, moves_came}
 use Rattle.step_maker.proofs.Warming.{came_warm}
-use Rattle.answer_fits.specs.Answers.{Serves, misses}
-use Rattle.answer_fits.specs.Reasons.{HadClock}
-use Rattle.answer_fits.proofs.Piecing.{serves_came}
+use Rattle.step_maker.specs.Answers.{Serves, misses}
+use Rattle.step_maker.specs.Reasons.{HadClock}
+use Rattle.step_maker.proofs.Piecing.{serves_came}
 use Rattle.flush_words.proofs.Lasting.{came_keeps}
 use Rattle.foreign_map.specs.declared.owners.Owners.{Owners}
 use Rattle.level_release.specs.Asking.{of_settle}

@@ -8,7 +8,7 @@ use Rattle.xp_words.specs.declared.reply.Pause.TheVariants.{Due, Lost, Busy, Flu
 use Rattle.xp_board.specs.Told.{PortValue}
 use Rattle.step_maker.specs.Moves.{Came}
 use Rattle.step_maker.proofs.Coming.{came_trans, came_post, moves_came}
-use Rattle.answer_fits.specs.Answers.{Serves, misses}
+use Rattle.step_maker.specs.Answers.{Serves, misses}
 use Rattle.level_release.specs.Asking.{is_due_stop, of_settle}
 use Rattle.tlb_walks.proofs.Flushes.{acks_came}
 use Rattle.vcpu_turn.specs.Cpus.{Processing, after_turn, end_of, next_of, nothing_left}

@@ -4,7 +4,7 @@ use Rattle.xp_words.specs.declared.reply.Stop.{Stop}
 use Rattle.xp_board.specs.Told.{PortValue}
 use Rattle.xp_board.specs.declared.step.Item.{Item}
 use Rattle.step_maker.specs.Holds.{Rests}
-use Rattle.answer_fits.specs.Answers.{Serves, Stops, misses}
+use Rattle.step_maker.specs.Answers.{Serves, Stops, misses}
 use Rattle.tlb_walks.specs.Accesses.{GuestReads, GuestWrites, OneRead, OneWrite, ServesWrite, server}
 use Rattle.tlb_walks.specs.Addresses.{access_refusal, cell_index}
 use Rattle.tlb_walks.specs.Asking.{IsGuestReadStop, IsGuestWriteStop, of_read, of_write}

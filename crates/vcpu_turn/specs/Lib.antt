@@ -9,3 +9,7 @@ pub mod Pairs
 pub mod Settling
 pub mod Turning
 pub mod Working
+pub mod Asking
+pub mod Leaving
+pub mod Logging
+pub mod Unhindered

@@ -6,7 +6,7 @@ use Rattle.xp_words.specs.declared.reply.Refusal.TheVariants as refusals
 use Rattle.xp_words.specs.declared.reply.Stop.{Stop}
 use Rattle.xp_words.specs.declared.reply.Stop.TheVariants.{Refused, Paused}
 use Rattle.xp_board.specs.Told.{PortValue}
-use Rattle.answer_fits.specs.Answers.{Serves, Stops}
+use Rattle.step_maker.specs.Answers.{Serves, Stops}
 use Rattle.foreign_map.specs.Owning.{MayMapFor, FoundOwners, of_owners}
 use Rattle.foreign_map.specs.declared.owners.Owners.{Owners}
 use Rattle.mmu_update.specs.Elements as pairs

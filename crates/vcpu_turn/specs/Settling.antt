@@ -3,7 +3,7 @@ use Rattle.std.specs.Prelude.{◌≡◌, ℕ, Bool, false, List, ◌++◌, Optio
 use Rattle.xp_words.specs.declared.reply.Stop.{Stop}
 use Rattle.xp_board.specs.Told.{PortValue}
 use Rattle.step_maker.specs.Holds.{Rests}
-use Rattle.answer_fits.specs.Answers.{Serves, Stops, misses}
+use Rattle.step_maker.specs.Answers.{Serves, Stops, misses}
 use Rattle.level_release.specs.Asking.{IsReleaseEnd, of_settle}
 use Rattle.level_release.specs.Course.{Settled, left_settled}
 

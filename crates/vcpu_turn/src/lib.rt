@@ -1,4 +1,4 @@
-//! The turns of virtual processors: how an operation that is a list goes on from turn to turn.
+//! The turns of virtual processors: how an operation that is a list goes on from turn to turn; and laws of all turns, whatever operation stands next (`laws`).
 #![tactic(auto)]
 
 mod accesses;
@@ -7,6 +7,7 @@ mod cpu;
 mod descriptors;
 mod ext;
 mod extents;
+pub mod laws;
 mod lists;
 mod mappings;
 mod pairs;

@@ -7,12 +7,12 @@ use Rattle.xp_words.specs.declared.reply.Stop.TheVariants.{Refused, Paused}
 use Rattle.xp_words.specs.Machine.{Machine}
 use Rattle.xp_board.specs.Readings.{domain_of}
 use Rattle.xp_board.specs.Told.{PortValue}
-use Rattle.board_lemmas.proofs.Sums.{when_eq}
+use Rattle.xp_board.proofs.Sums.{when_eq}
 use Rattle.step_maker.specs.Holds.{FlushedSame}
-use Rattle.answer_fits.specs.Answers.{Deed, Misses, Serves, Stops, misses}
-use Rattle.answer_fits.specs.Asked.{Asked, IsAsked, Within, named, of, of_frame}
-use Rattle.answer_fits.specs.Finding.{Finding}
-use Rattle.answer_fits.proofs.Piecing.{within_frame}
+use Rattle.step_maker.specs.Answers.{Deed, Misses, Serves, Stops, misses}
+use Rattle.step_maker.specs.Asked.{Asked, IsAsked, Within, named, of, of_frame}
+use Rattle.step_maker.specs.Finding.{Finding}
+use Rattle.step_maker.proofs.Piecing.{within_frame}
 use Rattle.writable_pages.specs.Pages.{HidesMark, LeavesGot, ServesPage, of_page}
 use Rattle.whole_pages.specs.Whole.{of_copy}
 

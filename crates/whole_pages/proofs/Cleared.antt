@@ -4,11 +4,11 @@ use Rattle.xp_words.specs.declared.kind.PageType.TheVariants.{Writable}
 use Rattle.xp_words.specs.declared.reply.Stop.{Stop}
 use Rattle.xp_board.specs.Readings.{domain_of}
 use Rattle.xp_board.specs.Told.{PortValue}
-use Rattle.board_lemmas.proofs.Sums.{when_eq}
+use Rattle.xp_board.proofs.Sums.{when_eq}
 use Rattle.step_maker.specs.Holds.{Holds, Rests}
-use Rattle.answer_fits.specs.Answers.{Deed, Serves, Stops}
-use Rattle.answer_fits.specs.Asked.{named, of, of_back}
-use Rattle.answer_fits.proofs.Piecing.{serves_back, serves_then}
+use Rattle.step_maker.specs.Answers.{Deed, Serves, Stops}
+use Rattle.step_maker.specs.Asked.{named, of, of_back}
+use Rattle.step_maker.proofs.Piecing.{serves_back, serves_then}
 use Rattle.frame_types.specs.Taking.{gave_type}
 use Rattle.table_courses.specs.Acquiring.{GaveType}
 use Rattle.writable_pages.specs.Pages.{GotPage, LeavesGot, ServesPage, of_page}

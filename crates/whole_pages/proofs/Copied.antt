@@ -7,9 +7,9 @@ use Rattle.xp_board.specs.Told.{Post, PortValue}
 use Rattle.step_maker.specs.Holds.{Holds, Rests, Same}
 use Rattle.step_maker.specs.Moves.{Met}
 use Rattle.step_maker.proofs.Coming.{came_post}
-use Rattle.answer_fits.specs.Answers.{Serves, Stops, missed}
-use Rattle.answer_fits.specs.Asked.{of_back, of_frame}
-use Rattle.answer_fits.proofs.Piecing.{serves_back, serves_call, serves_came, serves_then, serves_within, stops_before, stops_call, stops_within}
+use Rattle.step_maker.specs.Answers.{Serves, Stops, missed}
+use Rattle.step_maker.specs.Asked.{of_back, of_frame}
+use Rattle.step_maker.proofs.Piecing.{serves_back, serves_call, serves_came, serves_then, serves_within, stops_before, stops_call, stops_within}
 use Rattle.frame_words.specs.Freeing.{gave}
 use Rattle.frame_words.specs.Refs.{IsRefStop, took}
 use Rattle.frame_types.specs.Taking.{gave_type}

@@ -9,12 +9,12 @@ use Rattle.xp_board.specs.Hands.{claim_of, lock_on, work_on}
 use Rattle.xp_board.specs.Told.{PortValue}
 use Rattle.step_maker.specs.Holds.{Same}
 use Rattle.step_maker.specs.Moves.{Moves}
-use Rattle.answer_fits.specs.Answers.{Deed, Serves, Writes, deeds_by}
-use Rattle.answer_fits.specs.Asked.{IsAsked, Request, named, of}
-use Rattle.answer_fits.specs.Finding.{Finding}
-use Rattle.answer_fits.specs.Visits.{Does, Nothing, Only, Then, Visit, visit}
-use Rattle.answer_fits.proofs.Piecing.{serves_nothing, serves_step}
-use Rattle.answer_fits.proofs.Visiting.{does_as, does_nothing, does_one, does_then}
+use Rattle.step_maker.specs.Answers.{Deed, Serves, Writes, deeds_by}
+use Rattle.step_maker.specs.Asked.{IsAsked, Request, named, of}
+use Rattle.step_maker.specs.Finding.{Finding}
+use Rattle.step_maker.specs.Visits.{Does, Nothing, Only, Then, Visit, visit}
+use Rattle.step_maker.proofs.Piecing.{serves_nothing, serves_step}
+use Rattle.step_maker.proofs.Visiting.{does_as, does_nothing, does_one, does_then}
 use Rattle.frame_words.specs.Cells.{IsApart, MayStoreCell}
 use Rattle.frame_words.proofs.CellSteps.{writes_live}
 use Rattle.whole_pages.specs.Whole as whole

@@ -14,7 +14,7 @@ use Rattle.xp_board.specs.KindSteps.{live_typed}
 use Rattle.xp_board.specs.Lists.{first_by}
 use Rattle.xp_board.specs.Told.{Post, PortValue}
 use Rattle.step_maker.specs.Holds.{FlushedHolds, FlushedSame, Holds, Rests, Same, quiet}
-use Rattle.answer_fits.specs.Asked.{NoMore, Request}
+use Rattle.step_maker.specs.Asked.{NoMore, Request}
 use Rattle.frame_words.specs.Cells.{IsApart}
 use Rattle.frame_words.specs.Freeing.{gave}
 use Rattle.frame_words.specs.Refs.{took}

@@ -13,7 +13,7 @@ use Rattle.xp_words.specs.declared.reply.Refusal.TheVariants as refusals
 use Rattle.xp_words.specs.declared.reply.Stop.{Stop}
 use Rattle.xp_words.specs.declared.reply.Stop.TheVariants.{Paused, Refused}
 use Rattle.xp_board.specs.Told.{Post, PortValue}
-use Rattle.answer_fits.specs.Visits.{Does, Visit}
+use Rattle.step_maker.specs.Visits.{Does, Visit}
 use Rattle.flush_waits.specs.Waiting.{IsWait}
 use Rattle.frame_words.specs.Plain.{refer_by}
 use Rattle.frame_words.specs.Refs.{GetsBy, IsRefStop, outside, refused}

@@ -13,9 +13,9 @@ use Rattle.xp_board.specs.declared.step.Act.TheVariants.{Load, Store}
 use Rattle.xp_board.specs.KindSteps.{live_typed}
 use Rattle.xp_board.specs.Told.{PortValue}
 use Rattle.step_maker.specs.Holds.{FlushedSame, Rests, Same}
-use Rattle.answer_fits.specs.Answers.{Deed, Serves, Stops, Writes, missed}
-use Rattle.answer_fits.specs.Asked.{Request, of_frame, of_table}
-use Rattle.answer_fits.specs.Visits.{Does, Visit, visit}
+use Rattle.step_maker.specs.Answers.{Deed, Serves, Stops, Writes, missed}
+use Rattle.step_maker.specs.Asked.{Request, of_frame, of_table}
+use Rattle.step_maker.specs.Visits.{Does, Visit, visit}
 use Rattle.frame_words.specs.Cells.{IsApart}
 use Rattle.table_courses.specs.Acquiring.{GaveRef, GaveType, GotRef}
 use Rattle.writable_pages.specs.Pages.{GotPage}

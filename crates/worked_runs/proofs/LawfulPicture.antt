@@ -19,7 +19,7 @@ use Rattle.xp_board.specs.Lists.{one_at}
 use Rattle.xp_board.specs.Readings.{owner_of, ref_count, is_dead, kind_at}
 use Rattle.xp_board.specs.Recorded.{names}
 use Rattle.xp_board.specs.Sums.{sum_below}
-use Rattle.board_lemmas.proofs.Sums.{sum_below-none}
+use Rattle.xp_board.proofs.Sums.{sum_below-none}
 
 abbrev machine : ℕ → Machine
 machine limit = record { frames = 16; limit = limit; page_limit = 16 ∷ []; privilege = 0 ∷ []; vcpu_domain = 0 ∷ [] }

@@ -7,7 +7,7 @@ use Rattle.xp_words.specs.declared.place.Place.TheVariants.{Clock, Vcpu, Cell}
 use Rattle.xp_words.specs.Places.{Sizes, number, place_at, is_place}
 use Rattle.xp_words.proofs.PlaceLaws.{place_back}
 use Rattle.xp_board.specs.Spelling.{IsSpelling}
-use Rattle.board_lemmas.proofs.Numbers.{cell_there, vcpu_there}
+use Rattle.xp_board.proofs.Numbers.{cell_there, vcpu_there}
 
 pub record Stands (z : Sizes) (n : ℕ) (p : Place) : Type 0 where
   pub at : place_at z n ≡ p

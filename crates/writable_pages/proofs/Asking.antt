@@ -8,12 +8,12 @@ use Rattle.xp_words.specs.declared.reply.Stop.{Stop}
 use Rattle.xp_words.specs.declared.reply.Stop.TheVariants.{Paused}
 use Rattle.xp_board.specs.Readings.{domain_of}
 use Rattle.xp_board.specs.Told.{Post, PortValue}
-use Rattle.board_lemmas.proofs.Sums.{when_eq, when_ne}
+use Rattle.xp_board.proofs.Sums.{when_eq, when_ne}
 use Rattle.step_maker.specs.Moves.{Came, Met}
 use Rattle.step_maker.proofs.Coming.{came_post}
-use Rattle.answer_fits.specs.Answers.{Deed, Misses, Serves, Stops}
-use Rattle.answer_fits.specs.Asked.{IsAsked, IsFor, Within, named, of, of_frame}
-use Rattle.answer_fits.proofs.Piecing.{serves_came, serves_within, stops_within, within_frame}
+use Rattle.step_maker.specs.Answers.{Deed, Misses, Serves, Stops}
+use Rattle.step_maker.specs.Asked.{IsAsked, IsFor, Within, named, of, of_frame}
+use Rattle.step_maker.proofs.Piecing.{serves_came, serves_within, stops_within, within_frame}
 use Rattle.flush_waits.specs.Waiting.{IsWait}
 use Rattle.frame_types.proofs.Waiting.{none_missed}
 use Rattle.kept_marks.specs.Marks.{IsForeign, ServesKept, ServesMark}

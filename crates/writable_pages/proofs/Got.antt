@@ -14,10 +14,10 @@ use Rattle.xp_board.specs.Told.{Post, PortValue}
 use Rattle.step_maker.specs.Holds.{FlushedHolds, FlushedSame, Holds, Same, quiet}
 use Rattle.step_maker.specs.Moves.{Came}
 use Rattle.step_maker.proofs.Coming.{came_post, came_trans}
-use Rattle.answer_fits.specs.Answers.{Deed, Misses, Serves, Stops, missed}
-use Rattle.answer_fits.specs.Asked.{of_frame}
-use Rattle.answer_fits.proofs.Later.{stops_then}
-use Rattle.answer_fits.proofs.Piecing.{serves_came, serves_then}
+use Rattle.step_maker.specs.Answers.{Deed, Misses, Serves, Stops, missed}
+use Rattle.step_maker.specs.Asked.{of_frame}
+use Rattle.step_maker.proofs.Later.{stops_then}
+use Rattle.step_maker.proofs.Piecing.{serves_came, serves_then}
 use Rattle.frame_words.specs.Freeing.{gave}
 use Rattle.frame_words.specs.Plain.{TwinGet}
 use Rattle.frame_words.specs.Refs.{Gets, took}

@@ -16,7 +16,7 @@ use Rattle.xp_board.specs.Readings.{domain_of}
 use Rattle.xp_board.specs.Told.{Post, PortValue}
 use Rattle.step_maker.specs.Holds.{FlushedHolds, quiet}
 use Rattle.frame_words.specs.Freeing.{gave}
-use Rattle.board_lemmas.proofs.KindReadings.{work_alone}
+use Rattle.xp_board.proofs.KindReadings.{work_alone}
 use Rattle.kind_words.specs.Kinds.{MayLeave, partial_kind}
 use Rattle.kind_words.proofs.Leaving as leaving
 use Rattle.frame_types.specs.Leaving.{WaitsFrom}

@@ -9,7 +9,7 @@ use Rattle.xp_words.specs.declared.reply.Stop.TheVariants.{Refused, Paused}
 use Rattle.xp_board.specs.Readings.{domain_of, is_free}
 use Rattle.xp_board.specs.Told.{PortValue, is_telling, told_word}
 use Rattle.step_maker.specs.Plain.{Leaves}
-use Rattle.answer_fits.specs.Visits.{Does}
+use Rattle.step_maker.specs.Visits.{Does}
 use Rattle.frame_words.specs.Plain.{put, stamp_now}
 use Rattle.kind_words.specs.Kinds.{dead_kind, partial_kind}
 use Rattle.frame_types.specs.Found.{DeadBy, SharedBy}

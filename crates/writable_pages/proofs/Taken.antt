@@ -6,9 +6,9 @@ use Rattle.xp_board.specs.Told.{PortValue, is_telling, told_word}
 use Rattle.step_maker.specs.Moves.{Came}
 use Rattle.step_maker.specs.Plain.{Leaves}
 use Rattle.step_maker.proofs.Coming.{came_trans}
-use Rattle.answer_fits.specs.Answers.{Serves, Stops, missed}
-use Rattle.answer_fits.specs.Asked.{of_back, of_frame}
-use Rattle.answer_fits.proofs.Piecing.{serves_came, stops_before}
+use Rattle.step_maker.specs.Answers.{Serves, Stops, missed}
+use Rattle.step_maker.specs.Asked.{of_back, of_frame}
+use Rattle.step_maker.proofs.Piecing.{serves_came, stops_before}
 use Rattle.frame_words.specs.Freeing.{Puts}
 use Rattle.frame_words.specs.Plain.{put}
 use Rattle.frame_types.specs.Found.{TakesFound}

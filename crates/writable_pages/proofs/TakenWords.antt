@@ -8,8 +8,8 @@ use Rattle.xp_board.specs.Told.{Post, PortValue}
 use Rattle.step_maker.specs.Moves.{Came}
 use Rattle.step_maker.proofs.Coming.{came_post}
 use Rattle.step_maker.proofs.Telling.{came_telling}
-use Rattle.answer_fits.specs.Visits.{Visit, Does}
-use Rattle.answer_fits.proofs.Visiting.{does_came}
+use Rattle.step_maker.specs.Visits.{Visit, Does}
+use Rattle.step_maker.proofs.Visiting.{does_came}
 use Rattle.frame_types.specs.Found.{GoesBy, TakesBy, TakesFound, WaitsOf}
 use Rattle.frame_types.specs.Plain.{IsTakenBy, TwinMemory, is_own, waits_by}
 use Rattle.frame_types.specs.Standing.{standing_of}

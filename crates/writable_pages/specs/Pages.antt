@@ -9,9 +9,9 @@ use Rattle.xp_board.specs.KindSteps.{live_typed}
 use Rattle.xp_board.specs.Readings.{domain_of, is_free}
 use Rattle.xp_board.specs.Told.{PortValue, is_telling, told_word}
 use Rattle.step_maker.specs.Holds.{FlushedHolds, FlushedSame}
-use Rattle.answer_fits.specs.Answers.{Deed, Misses, Serves, misses}
-use Rattle.answer_fits.specs.Asked.{Request, of_frame}
-use Rattle.answer_fits.specs.Visits.{Does}
+use Rattle.step_maker.specs.Answers.{Deed, Misses, Serves, misses}
+use Rattle.step_maker.specs.Asked.{Request, of_frame}
+use Rattle.step_maker.specs.Visits.{Does}
 use Rattle.frame_words.specs.Freeing.{gave}
 use Rattle.kind_words.specs.Kinds.{partial_kind}
 use Rattle.frame_types.specs.Found.{DeadBy, SharedBy}

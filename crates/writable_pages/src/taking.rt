@@ -4,7 +4,7 @@ ghost use Rattle.xp_board.specs.Hands.{typed_to, work_on};
 ghost use Rattle.xp_board.specs.Readings.{domain_of};
 ghost use Rattle.step_maker.specs.Holds.{MayWork};
 ghost use Rattle.step_maker.specs.Moves.{Came};
-ghost use Rattle.answer_fits.specs.Answers.{Stops};
+ghost use Rattle.step_maker.specs.Answers.{Stops};
 ghost use Rattle.frame_types.specs.Taking.{LentBy};
 ghost use Rattle.kept_marks.specs.Marks.{IsForeign};
 ghost use Rattle.table_words.specs.OldWords.{known_old};

@@ -1,4 +1,5 @@
-//! The machine: the atomic steps of its vCPUs, what a vCPU holds, when a step is legal and what it leaves.
+//! The machine: the atomic steps of its vCPUs, what a vCPU holds, when a step is legal and what it leaves. Lemmas on what the definitions are made of stand in
+//! `proofs/`: lists and searches in them, sums and counts, words and their bits, forms of frames, and which hand holds a frame.
 #![tactic(auto)]
 
 mod holdings;

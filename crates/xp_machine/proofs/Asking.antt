@@ -3,12 +3,12 @@ use Rattle.std.proofs.Common.{◌≡◌, ℕ, ◌+◌, ◌-◌, ◌<◌, true, s
 use Rattle.xp_words.specs.Machine.{Machine}
 use Rattle.xp_words.specs.declared.ops.Op.{Op}
 use Rattle.xp_preempt.specs.Gates.{Heard, last_ask}
-use Rattle.turn_laws.specs.Asking.{HearsNoWithin, asks_within, elements_tried}
+use Rattle.vcpu_turn.specs.Asking.{HearsNoWithin, asks_within, elements_tried}
 use Rattle.vcpu_runners.specs.Turns.{Processing, begins_at, is_due, next_of, task_of}
 use Rattle.vcpu_runners.specs.Gates.{Gate}
 use Rattle.xp_machine.specs.Turns.{MakesStagedTurn, Stage, StaysWithin}
-use Rattle.turn_laws.proofs.Asking.{turn_within}
-use Rattle.turn_laws.proofs.Stopping.{turn_heard}
+use Rattle.vcpu_turn.proofs.Asking.{turn_within}
+use Rattle.vcpu_turn.proofs.Stopping.{turn_heard}
 
 gate_same : (o : Option Gate) (g k : Gate) → o ≡ Some g → o ≡ Some k → g ≡ k
 gate_same o g k a b = cc

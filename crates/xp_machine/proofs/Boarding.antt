@@ -17,8 +17,8 @@ use Rattle.xp_machine.specs.Ready.{Ready}
 use Rattle.vcpu_runners.specs.Runners.{TakesTurnBy}
 use Rattle.vcpu_runners.proofs.Scripts.{turn_script}
 use Rattle.xp_machine.specs.Turns.{Stage, stage, IsPortOf, MakesStagedTurn, MakesStagedStop, UnlessRetired, ByCpu}
-use Rattle.turn_laws.proofs.Hindering.{AloneStays, NeitherLostNorBusy, NobodyWaitedFor}
-use Rattle.turn_laws.proofs.TurnSteps.{turn_came, stop_came, turn_unhindered}
+use Rattle.vcpu_turn.proofs.Hindering.{AloneStays, NeitherLostNorBusy, NobodyWaitedFor}
+use Rattle.vcpu_turn.proofs.TurnSteps.{turn_came, stop_came, turn_unhindered}
 use Rattle.xp_machine.proofs.Moving.{Stepping, moved_none, stepping, same_story, ready_after, short_at, alone_at, sound_alone}
 
 -- ---- one turn or one stop

@@ -14,7 +14,7 @@ use Rattle.xp_board.specs.Readings.{domain_of}
 use Rattle.xp_board.specs.Hands.{IsEmptyHand}
 use Rattle.xp_board.specs.Sound.{SoundState, hand_of}
 use Rattle.xp_board.specs.Told.{PortValue, Story, Goes, run_or}
-use Rattle.answer_fits.specs.Reasons.{HadClock}
+use Rattle.step_maker.specs.Reasons.{HadClock}
 use Rattle.answer_laws.specs.Alone.{IsAlone}
 use Rattle.vcpu_runners.specs.Turns.{IsOf, KnowsAwaited, Processing, Runs}
 use Rattle.shared_board.specs.Board.{Board, port_value}

@@ -30,7 +30,7 @@ use Rattle.xp_machine.specs.Ready.{Ready, TakesFresh}
 use Rattle.xp_machine.specs.Turns.{Stage, WorksOff, stage}
 use Rattle.xp_machine.proofs.Moving.{empty_at}
 use Rattle.xp_machine.proofs.Starting.{length_first, short_first}
-use Rattle.board_lemmas.proofs.Numbers.{vcpu_there}
+use Rattle.xp_board.proofs.Numbers.{vcpu_there}
 
 -- what follows of each value follows of the value of a call
 pub if_ok : {A E : Type 0} (r : Result A E) (P Q : A → Type 0) → ((x : A) → P x → Q x) → IfOk r P → IfOk r Q

@@ -9,7 +9,7 @@ use Rattle.xp_words.specs.declared.ops.Op.{Op}
 use Rattle.xp_board.specs.Hands.{empty}
 use Rattle.xp_board.specs.Readings.{domain_of}
 use Rattle.xp_board.specs.Sound.{SoundWords}
-use Rattle.board_lemmas.proofs.Numbers.{vcpu_there}
+use Rattle.xp_board.proofs.Numbers.{vcpu_there}
 use Rattle.trace_text.specs.declared.trace.Trace.{Trace}
 use Rattle.machine_build.specs.Opening.{IsOpening}
 use Rattle.thread_board.specs.Values.{BoardValue}

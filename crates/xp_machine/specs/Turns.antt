@@ -6,7 +6,7 @@ use Rattle.xp_words.specs.Places.{sizes_of}
 use Rattle.xp_board.specs.declared.holdings.Made.{Made}
 use Rattle.xp_board.specs.Sound.{hand_of}
 use Rattle.xp_board.specs.Told.{PortValue, Story}
-use Rattle.turn_laws.specs.Unhindered.{IsUnhindered}
+use Rattle.vcpu_turn.specs.Unhindered.{IsUnhindered}
 use Rattle.vcpu_runners.specs.Turns.{Processing, TurnEnd, is_due}
 use Rattle.vcpu_runners.specs.Turns as turning
 use Rattle.vcpu_runners.specs.Gates.{Gate, IsConsulted}

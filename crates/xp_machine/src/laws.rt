@@ -3,7 +3,7 @@ ghost use Rattle.std.specs.Prelude.{ℕ, ◌≡◌, ◌+◌, ◌-◌, ◌<◌, A
 ghost use Rattle.xp_words.specs.Machine.{Machine};
 ghost use Rattle.xp_words.specs.declared.ops.Op.{Op};
 ghost use Rattle.xp_preempt.specs.Gates.{Heard, last_ask};
-ghost use Rattle.turn_laws.specs.Asking.{AsksNothingWithin, HearsNoWithin, asks_within, elements_tried};
+ghost use Rattle.vcpu_turn.specs.Asking.{AsksNothingWithin, HearsNoWithin, asks_within, elements_tried};
 ghost use Rattle.vcpu_runners.specs.Turns.{PassesYes, Processing, ReleasesNothing, Task, Tried, begins_at, is_due, next_of, task_next, task_of};
 ghost use Rattle.vcpu_runners.specs.Gates.{Gate};
 ghost use Rattle.xp_machine.specs.Turns.{MakesStagedTurn, Stage, StaysWithin};

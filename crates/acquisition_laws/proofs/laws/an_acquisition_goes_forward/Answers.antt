@@ -1,4 +1,4 @@
-use Rattle.board_lemmas.proofs.HandLists.{EachOf-map}
+use Rattle.xp_board.proofs.HandLists.{EachOf-map}
 use Rattle.acquisition_laws.specs.Forward.{Forward}
 use Rattle.acquisition_laws.specs.Leaving.{LeftWell}
 use Rattle.acquisition_laws.proofs.Walking.{acquired_goes}

@@ -1,7 +1,7 @@
 use Rattle.std.proofs.Common.{◌≡◌, ℕ, ◌+◌, ◌*◌, ◌&&◌, nat_le, Option, None, ap, ◌∙◌, subst}
 use Rattle.xp_words.specs.Machine.{Machine}
 use Rattle.xp_board.specs.Told.{PortValue}
-use Rattle.answer_fits.specs.Visits.{Does}
+use Rattle.step_maker.specs.Visits.{Does}
 use Rattle.frame_claims.specs.Found.{BlockBy, FreeBlock, TriedWhere, are_set, block_of}
 use Rattle.frame_claims.proofs.Trying.{bits_off, bits_set, both_hold, first_fails, fits_in, fits_not, not_tried, second_fails, tried}
 use Rattle.frame_claims.proofs.Finding.{bits_aligned, looks_nothing}

@@ -3,8 +3,8 @@ use Rattle.xp_words.specs.declared.place.Place.TheVariants.{Refs}
 use Rattle.xp_board.specs.Told.{Post}
 use Rattle.step_maker.proofs.Coming.{came_post, moves_came}
 use Rattle.flush_waits.specs.Waiting.{HadFree}
-use Rattle.answer_fits.specs.Visits.{Does}
-use Rattle.answer_fits.proofs.Visiting.{does_as}
+use Rattle.step_maker.specs.Visits.{Does}
+use Rattle.step_maker.proofs.Visiting.{does_as}
 use Rattle.frame_claims.specs.Found.{AllFree, TriedBy}
 use Rattle.frame_claims.proofs.Trying.{all_more, all_none, tried_none}
 use Rattle.frame_claims.specs.Choosing.{IsLatest, StillFree, greatest}

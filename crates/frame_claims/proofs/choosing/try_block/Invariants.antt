@@ -1,6 +1,6 @@
 use Rattle.std.proofs.Common.{◌+◌, ◌<◌, ◌≤◌, ◌^◌, ◌≡◌, ℕ, length, slice_index_or}
 use Rattle.flush_waits.specs.Waiting.{HadFree}
-use Rattle.answer_fits.specs.Visits.{Does}
+use Rattle.step_maker.specs.Visits.{Does}
 use Rattle.frame_claims.specs.Found.{AllFree}
 use Rattle.frame_claims.specs.Choosing.{IsLatest, Looks, StillFree, greatest}
 use Rattle.frame_claims.proofs.choosing.try_block.Given as goal

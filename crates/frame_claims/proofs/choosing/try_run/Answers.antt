@@ -1,5 +1,5 @@
 use Rattle.std.proofs.Common.{◌*◌, None, arith, false, refl, subst, true}
-use Rattle.answer_fits.specs.Visits.{Does}
+use Rattle.step_maker.specs.Visits.{Does}
 use Rattle.frame_claims.specs.Found.{FullBy, block_of}
 use Rattle.frame_claims.proofs.Trying.{not_tried, run_by}
 use Rattle.frame_claims.proofs.Finding.{block_aligned, found_some, looks_then}

@@ -3,14 +3,14 @@ use Rattle.std.proofs.lemmas.Result.{err_from_is_err_and}
 use Rattle.xp_board.specs.Readings.{domain_of}
 use Rattle.xp_board.specs.Told.{Post, PortValue}
 use Rattle.step_maker.proofs.Coming.{moves_came}
-use Rattle.answer_fits.specs.Answers.{missed}
+use Rattle.step_maker.specs.Answers.{missed}
 use Rattle.frame_claims.specs.Claiming.{ServesWhole, StopsClaim}
 use Rattle.frame_claims.specs.Blocks.{given_deeds}
 use Rattle.frame_claims.proofs.Closing.{back_for, charged_row, credit_for, gave_all, gave_back, given_all, pages_first, pages_last, post_there, same_missed}
 use Rattle.frame_claims.proofs.Composing.{pages_back}
 use Rattle.frame_claims.proofs.Losing.{pages_came}
 use Rattle.frame_claims.proofs.Stopping.{claim_stops, no_credit, pages_stop, when_err}
-use Rattle.answer_fits.specs.Visits.{Does}
+use Rattle.step_maker.specs.Visits.{Does}
 use Rattle.frame_claims.specs.Found.{ClaimsBy}
 use Rattle.frame_claims.proofs.Chaining.{answers, claim_had, claim_stopped, claim_uncounted}
 use Rattle.frame_claims.proofs.Lone.{lone_answer, lone_bound, lone_had, lone_stops}

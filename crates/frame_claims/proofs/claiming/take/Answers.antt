@@ -1,7 +1,7 @@
 use Rattle.std.proofs.Common.{◌+◌, [], length, Err, ap, sym, ◌∙◌, subst}
 use Rattle.std.proofs.lemmas.Result.{err_from_is_err_and}
 use Rattle.xp_board.specs.Told.{PortValue}
-use Rattle.answer_fits.specs.Answers.{missed}
+use Rattle.step_maker.specs.Answers.{missed}
 use Rattle.frame_claims.specs.Blocks.{HasRow, ServesBlock}
 use Rattle.frame_claims.proofs.Composing.{block_past, flushed_behind, none_taken, row_flushed, taken_stopped, then_block, wait_stopped, waited_block}
 use Rattle.frame_claims.specs.Claiming.{StopsClaim}

@@ -1,6 +1,6 @@
 use Rattle.std.proofs.Common.{false, [], refl}
-use Rattle.answer_fits.specs.Asked.{of_back}
-use Rattle.answer_fits.proofs.Piecing.{serves_came}
+use Rattle.step_maker.specs.Asked.{of_back}
+use Rattle.step_maker.proofs.Piecing.{serves_came}
 use Rattle.step_maker.proofs.Coming.{came_trans, moves_came}
 use Rattle.frame_types.proofs.LeavingSteps.{shared_steps}
 use Rattle.frame_types.proofs.Left.{alone, here, partial_may, shared_back, shared_gives, shared_gone}

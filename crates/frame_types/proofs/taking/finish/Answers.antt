@@ -3,7 +3,7 @@ use Rattle.xp_words.specs.KindWords.{is_kind, kind_write}
 use Rattle.xp_words.specs.declared.kind.KindWord.{KindWord}
 use Rattle.xp_words.specs.declared.place.Place.TheVariants.{Kind}
 use Rattle.xp_board.specs.Told.{told_word}
-use Rattle.answer_fits.proofs.Alikes.{same_alike}
+use Rattle.step_maker.proofs.Alikes.{same_alike}
 use Rattle.kind_words.specs.Kinds.{live_kind, work_kind}
 use Rattle.frame_types.specs.Taking.{Enters, stamp_by, progress_of}
 use Rattle.frame_types.proofs.Entering.{work_spelled}

@@ -1,5 +1,5 @@
 use Rattle.frame_words.proofs.CellSteps.{look_hand, look_apart}
-use Rattle.board_lemmas.proofs.Numbers.{cell_there}
+use Rattle.xp_board.proofs.Numbers.{cell_there}
 use Rattle.frame_words.proofs.cells.look_cell.Goals as goal
 
 pub look-requires : goal.look-requires

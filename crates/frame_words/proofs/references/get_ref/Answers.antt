@@ -3,9 +3,9 @@ use Rattle.xp_words.specs.Machine.{Machine}
 use Rattle.xp_words.specs.declared.place.Place.TheVariants.{Refs}
 use Rattle.xp_words.specs.Places.{number, sizes_of}
 use Rattle.xp_words.specs.declared.reply.Stop.{Stop}
-use Rattle.answer_fits.specs.Answers.{Serves, Stops, misses}
-use Rattle.answer_fits.specs.Asked.{of_frame}
-use Rattle.answer_fits.proofs.Piecing.{serves_nothing}
+use Rattle.step_maker.specs.Answers.{Serves, Stops, misses}
+use Rattle.step_maker.specs.Asked.{of_frame}
+use Rattle.step_maker.proofs.Piecing.{serves_nothing}
 use Rattle.frame_words.specs.Plain.{TwinGet}
 use Rattle.frame_words.specs.Refs.{Gets, RefusesWord}
 use Rattle.frame_words.proofs.Taking.{no_frame, refused, looked, opened, taken, missed_there, lost, taken_gives, word_law}

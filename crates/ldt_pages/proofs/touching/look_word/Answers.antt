@@ -1,5 +1,5 @@
 use Rattle.xp_words.specs.Places.{sizes_of}
-use Rattle.board_lemmas.proofs.Numbers.{vcpu_there}
+use Rattle.xp_board.proofs.Numbers.{vcpu_there}
 use Rattle.ldt_pages.proofs.touching.look_word.Goals as goal
 
 pub look-requires : goal.look-requires

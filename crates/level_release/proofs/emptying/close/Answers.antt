@@ -1,12 +1,12 @@
 use Rattle.std.proofs.Common.{false, None, ap, ◌∙◌, subst}
-use Rattle.answer_fits.proofs.Piecing.{serves_came}
+use Rattle.step_maker.proofs.Piecing.{serves_came}
 use Rattle.level_release.proofs.HandsDead.{close_came, close_gives, close_leaves, close_settled, close_stands}
 use Rattle.xp_words.specs.KindWords.{kind_write}
 use Rattle.xp_words.specs.declared.kind.KindWord.{KindWord}
 use Rattle.xp_words.specs.declared.place.Place.TheVariants.{Kind}
 use Rattle.xp_board.specs.declared.step.Act.TheVariants.{Store}
 use Rattle.step_maker.specs.Moves.{Moves}
-use Rattle.answer_fits.proofs.Visiting.{does_then}
+use Rattle.step_maker.proofs.Visiting.{does_then}
 use Rattle.frame_words.specs.Freeing.{PutBy}
 use Rattle.frame_types.specs.Found.{Dies}
 use Rattle.frame_types.proofs.LeavingSteps.{dies}

@@ -1,7 +1,7 @@
 use Rattle.std.proofs.Common.{◌∷◌, ap, ◌∙◌, [], subst}
 use Rattle.step_maker.proofs.Coming.{came_trans}
 use Rattle.level_release.proofs.HandsRunning.{emptied_dead, emptied_may, emptied_named, emptied_room, from_one}
-use Rattle.answer_fits.specs.Answers.{missed}
+use Rattle.step_maker.specs.Answers.{missed}
 use Rattle.level_release.specs.Asking.{Continues, StopsRelease}
 use Rattle.level_release.proofs.CoursesRun.{empties_finished, empties_paused}
 use Rattle.level_release.proofs.ServingRisen.{goes_then, risen_on}

@@ -3,7 +3,7 @@ use Rattle.xp_words.specs.declared.reply.Stop.{Stop}
 use Rattle.partial_state.specs.declared.stack.TableWork.{TableWork}
 use Rattle.level_release.proofs.HandsLowered.{given_clear, lower_above, lower_came, lower_given, lower_opened, lower_stays, opened_clear}
 use Rattle.std.proofs.lemmas.Result.{err_from_is_err_and}
-use Rattle.answer_fits.specs.Answers.{missed}
+use Rattle.step_maker.specs.Answers.{missed}
 use Rattle.table_releases.specs.Tops.{IsShedLive, ShowsReleased}
 use Rattle.table_releases.specs.declared.entries.Released.TheVariants.{Opened}
 use Rattle.level_release.specs.Asking.{Continues}

@@ -3,9 +3,9 @@ use Rattle.xp_words.specs.declared.kind.KindWord.{KindWord}
 use Rattle.xp_words.specs.declared.reply.Pause.TheVariants.{Busy}
 use Rattle.xp_words.specs.declared.reply.Stop.TheVariants.{Paused}
 use Rattle.std.proofs.lemmas.Result.{IfErr-weaker}
-use Rattle.board_lemmas.proofs.KindForms.{fields_of}
+use Rattle.xp_board.proofs.KindForms.{fields_of}
 use Rattle.step_maker.proofs.Coming.{moves_came}
-use Rattle.answer_fits.proofs.Piecing.{serves_came, stops_before}
+use Rattle.step_maker.proofs.Piecing.{serves_came, stops_before}
 use Rattle.level_release.specs.Asking.{of_release, of_settle}
 use Rattle.level_release.proofs.Answered.{busy_course, busy_stops, due_ends, live_course, released_serves, released_stops}
 use Rattle.level_release.proofs.Consulting.{by_as, by_none}

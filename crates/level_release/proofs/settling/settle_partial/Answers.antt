@@ -9,8 +9,8 @@ use Rattle.xp_board.specs.declared.step.StepKind.TheVariants as kinds
 use Rattle.step_maker.specs.Holds.{Holds}
 use Rattle.step_maker.specs.Moves.{Moves}
 use Rattle.step_maker.proofs.Coming.{moves_came}
-use Rattle.answer_fits.specs.Answers.{missed}
-use Rattle.answer_fits.proofs.Piecing.{stops_before}
+use Rattle.step_maker.specs.Answers.{missed}
+use Rattle.step_maker.proofs.Piecing.{stops_before}
 use Rattle.kind_words.specs.Kinds.{dead_kind, left}
 use Rattle.kind_words.proofs.KindFacts.{read_is}
 use Rattle.level_release.specs.Asking.{is_due_answer, is_due_stop}

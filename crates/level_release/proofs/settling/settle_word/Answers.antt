@@ -3,7 +3,7 @@ use Rattle.xp_board.specs.declared.step.Act.TheVariants.{Load}
 use Rattle.xp_board.specs.declared.step.StepKind.TheVariants as kinds
 use Rattle.step_maker.specs.Holds.{Holds}
 use Rattle.step_maker.specs.Moves.{Moves}
-use Rattle.answer_fits.proofs.Piecing.{moves_serves}
+use Rattle.step_maker.proofs.Piecing.{moves_serves}
 use Rattle.table_words.specs.OldWords.{learned_old, old_place}
 use Rattle.level_release.specs.Asking.{of_settle}
 use Rattle.level_release.specs.Course as courses

@@ -1,7 +1,7 @@
 use Rattle.frame_types.specs.Plain.{is_refused}
 use Rattle.std.proofs.Common.{◌∙◌, false, [], Ok, Err, ap, subst, not, refl, inl, rules}
 use Rattle.std.proofs.lemmas.Result.{err_from_is_err_and}
-use Rattle.answer_fits.specs.Answers.{missed}
+use Rattle.step_maker.specs.Answers.{missed}
 use Rattle.frame_types.specs.Found.{TakesFound}
 use Rattle.frame_types.specs.Taking.{ShowsWait, TakesAs}
 use Rattle.frame_types.specs.declared.taking.Taken.TheVariants.{Counted, InWork, Waiting}

@@ -2,7 +2,7 @@ use Rattle.std.proofs.Common.{◌≡◌, ◌<◌, ◌∷◌, ◌∙◌, [], List
 use Rattle.xp_board.specs.Told.{Post}
 use Rattle.step_maker.proofs.Coming.{came_post, came_trans}
 use Rattle.partial_state.specs.declared.stack.TableWork.{TableWork}
-use Rattle.answer_fits.specs.Answers.{missed}
+use Rattle.step_maker.specs.Answers.{missed}
 use Rattle.level_validate.specs.Acquiring.{StopsRisen, outermost_work}
 use Rattle.level_validate.specs.Serving.{CarriesOn, ServesLeft}
 use Rattle.level_validate.specs.Tables.{IsStanding, StandsOn}

@@ -4,7 +4,7 @@ use Rattle.step_maker.proofs.Coming.{came_post, came_trans, moves_came}
 use Rattle.level_validate.specs.Serving.{CarriesOn}
 use Rattle.level_validate.proofs.Completed.{live_hand, live_leaves, completed_so, live_gives, live_records, new_ready, new_stands, old_ready, old_stands, progress_records, progress_settles}
 use Rattle.level_validate.proofs.Standing.{top_inside}
-use Rattle.answer_fits.proofs.Progressing.{progress_after, progress_before}
+use Rattle.step_maker.proofs.Progressing.{progress_after, progress_before}
 use Rattle.level_validate.proofs.Serving.{piece_back, piece_left, piece_records, piece_rest}
 use Rattle.level_validate.proofs.completing.complete_in.Goals as goal
 

@@ -3,8 +3,8 @@ use Rattle.std.proofs.lemmas.Result.{err_from_is_err_and}
 use Rattle.xp_words.specs.Entries.{below}
 use Rattle.xp_words.specs.declared.kind.PageType.{PageType}
 use Rattle.step_maker.proofs.Coming.{came_self}
-use Rattle.answer_fits.specs.Answers.{missed}
-use Rattle.answer_fits.proofs.Piecing.{serves_came}
+use Rattle.step_maker.specs.Answers.{missed}
+use Rattle.step_maker.proofs.Piecing.{serves_came}
 use Rattle.frame_types.specs.Taking.{IsOfOther}
 use Rattle.table_entries.specs.Asking.{of_entries}
 use Rattle.table_entries.specs.Tops.{WorksAtTop}

@@ -1,7 +1,7 @@
 use Rattle.std.proofs.Common.{false, [], refl, rules}
 use Rattle.step_maker.proofs.Coming.{came_trans, moves_came}
-use Rattle.answer_fits.specs.Asked.{of_back}
-use Rattle.answer_fits.proofs.Piecing.{serves_came}
+use Rattle.step_maker.specs.Asked.{of_back}
+use Rattle.step_maker.proofs.Piecing.{serves_came}
 use Rattle.level_validate.specs.Serving.{CarriesOn}
 use Rattle.level_validate.proofs.Standing.{top_spelled}
 use Rattle.level_validate.proofs.Serving.{piece_around, piece_back, piece_left, piece_rest}

@@ -1,7 +1,7 @@
 use Rattle.std.proofs.Common.{true, false, [], ◌+◌, refl, ap, sym, ◌∙◌, subst, rules}
 use Rattle.xp_words.specs.declared.kind.KindWord.{KindWord}
 use Rattle.step_maker.proofs.Coming.{came_trans, moves_came}
-use Rattle.answer_fits.specs.Asked.{of}
+use Rattle.step_maker.specs.Asked.{of}
 use Rattle.kind_words.specs.Kinds.{MayLeave, partial_kind}
 use Rattle.kept_marks.specs.Marks.{IsUnpaged, KeptFor, LeavesKept}
 use Rattle.level_validate.specs.Serving.{ServesLeft}

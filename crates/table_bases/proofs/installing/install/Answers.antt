@@ -1,5 +1,5 @@
 use Rattle.std.proofs.Common.{true}
-use Rattle.answer_fits.proofs.Piecing.{serves_came}
+use Rattle.step_maker.proofs.Piecing.{serves_came}
 use Rattle.level_validate.specs.Unwinding.{own_domain}
 use Rattle.table_bases.specs.Asking.{of_base}
 use Rattle.table_bases.proofs.Installed.{holds_old, none_course, old_course, released_serves, set_serves, warm_behind, word_after}

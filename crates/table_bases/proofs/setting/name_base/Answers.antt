@@ -1,7 +1,7 @@
 use Rattle.std.proofs.Common.{Err, ap, ◌∙◌}
 use Rattle.std.proofs.lemmas.Result.{err_from_is_err_and}
 use Rattle.xp_board.specs.Told.{PortValue}
-use Rattle.answer_fits.proofs.Piecing.{serves_came}
+use Rattle.step_maker.proofs.Piecing.{serves_came}
 use Rattle.table_bases.proofs.Acquired.{named, refused}
 use Rattle.table_bases.proofs.Behind.{stays_warm}
 use Rattle.table_bases.proofs.Clocked.{looked_warm, spent}

@@ -4,8 +4,8 @@ use Rattle.xp_words.specs.declared.entry.Demand.TheVariants.{Read}
 use Rattle.xp_words.specs.declared.reply.Stop.{Stop}
 use Rattle.step_maker.specs.Holds.{Holds}
 use Rattle.step_maker.proofs.Telling.{came_telling}
-use Rattle.answer_fits.specs.Asked.{of_frame}
-use Rattle.answer_fits.proofs.Piecing.{serves_came}
+use Rattle.step_maker.specs.Asked.{of_frame}
+use Rattle.step_maker.proofs.Piecing.{serves_came}
 use Rattle.frame_words.specs.Refs.{MayPut, took}
 use Rattle.table_entries.specs.Between.{TakesNext}
 use Rattle.table_entries.specs.declared.entries.Entered.{Entered}

@@ -1,5 +1,5 @@
 use Rattle.std.proofs.Common.{ap, ◌∙◌}
-use Rattle.board_lemmas.proofs.KindForms.{fields_of}
+use Rattle.xp_board.proofs.KindForms.{fields_of}
 use Rattle.kind_words.proofs.KindFacts.{kind_is_some}
 use Rattle.table_releases.proofs.FrameSeen.{typed_frame}
 use Rattle.table_releases.proofs.HandLive.{sees_kind}

@@ -1,5 +1,5 @@
 use Rattle.flush_words.proofs.Flushed.{own_came, own_does}
-use Rattle.answer_fits.proofs.Visiting.{does_as}
+use Rattle.step_maker.proofs.Visiting.{does_as}
 use Rattle.tlb_walks.proofs.Flushes.{local_hand, local_serves, local_stops}
 use Rattle.tlb_walks.proofs.drops.flush_local.Goals as goal
 

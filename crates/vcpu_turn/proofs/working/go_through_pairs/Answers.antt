@@ -1,5 +1,5 @@
 use Rattle.std.proofs.Common.{arith, sym, ◌∙◌}
-use Rattle.board_lemmas.proofs.PlaceTests.{equal_by}
+use Rattle.xp_board.proofs.PlaceTests.{equal_by}
 use Rattle.vcpu_turn.proofs.Operations.{above_none, no_more, owned_long, owned_none, owned_on, owned_refused}
 use Rattle.vcpu_turn.proofs.working.go_through_pairs.Goals as goal
 

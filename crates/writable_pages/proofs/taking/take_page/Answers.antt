@@ -1,7 +1,7 @@
 use Rattle.std.proofs.Common.{[], subst, inl, rules}
 use Rattle.xp_words.specs.declared.kind.PageType.TheVariants.{Writable}
 use Rattle.step_maker.proofs.Coming.{came_trans}
-use Rattle.answer_fits.proofs.Piecing.{serves_came}
+use Rattle.step_maker.proofs.Piecing.{serves_came}
 use Rattle.frame_types.specs.Taking.{ShowsWait}
 use Rattle.frame_types.specs.declared.taking.Taken.TheVariants.{Counted, Waiting}
 use Rattle.frame_types.proofs.Waiting.{err_gives}

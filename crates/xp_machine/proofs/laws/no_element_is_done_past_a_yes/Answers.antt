@@ -1,6 +1,6 @@
-use Rattle.turn_laws.specs.Asking.{elements_tried}
-use Rattle.turn_laws.proofs.Stopping.{releasing_nothing_hears, task_hears}
-use Rattle.turn_laws.proofs.Trying.{hears_nothing}
+use Rattle.vcpu_turn.specs.Asking.{elements_tried}
+use Rattle.vcpu_turn.proofs.Stopping.{releasing_nothing_hears, task_hears}
+use Rattle.vcpu_turn.proofs.Trying.{hears_nothing}
 use Rattle.xp_machine.proofs.laws.no_element_is_done_past_a_yes.Goals as goal
 
 pub returns-clause-lists : goal.returns-clause-lists

@@ -1,5 +1,0 @@
-use Rattle.turn_laws.proofs.Logging.{turn_counts}
-use Rattle.turn_laws.proofs.laws.a_log_has_the_answers_it_counts.Goals as goal
-
-pub returns : goal.returns
-returns c = turn_counts

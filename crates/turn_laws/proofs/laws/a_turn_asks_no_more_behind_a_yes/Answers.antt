@@ -1,5 +1,0 @@
-use Rattle.turn_laws.proofs.Asking as asking
-use Rattle.turn_laws.proofs.laws.a_turn_asks_no_more_behind_a_yes.Goals as goal
-
-pub returns : goal.returns
-returns c = asking.turn_stops

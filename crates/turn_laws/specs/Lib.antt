@@ -1,4 +1,0 @@
-pub mod Asking
-pub mod Leaving
-pub mod Logging
-pub mod Unhindered

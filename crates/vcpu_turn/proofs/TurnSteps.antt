@@ -1,0 +1,67 @@
+-- A turn as steps of its port, and what pauses it where no other vCPU holds anything.
+use Rattle.std.proofs.Common.{ℕ, ◌<◌, Bool, List, length, Option, Some, None, Result, Ok, Err, sym, subst}
+use Rattle.xp_words.specs.declared.ops.Op.{Op}
+use Rattle.xp_words.specs.declared.reply.Stop.{Stop}
+use Rattle.xp_words.specs.declared.reply.Stop.TheVariants.{Refused, Paused}
+use Rattle.xp_board.specs.Told.{Post, PortValue}
+use Rattle.step_maker.specs.Moves.{Came}
+use Rattle.step_maker.proofs.Coming.{came_trans, came_post, moves_came}
+use Rattle.answer_laws.specs.Alone.{IsAlone}
+use Rattle.vcpu_turn.specs.declared.cpu.TurnEnd.{TurnEnd}
+use Rattle.vcpu_turn.specs.declared.cpu.TurnEnd.TheVariants as ends
+use Rattle.vcpu_turn.specs.Cpus.{Processing, next_of, nothing_left, task_of, end_of}
+use Rattle.vcpu_turn.specs.Turning.{DoesNext, EndsTurn, DoesTurn, IsStop, IsTurn}
+use Rattle.vcpu_turn.specs.Turning as turning
+use Rattle.vcpu_turn.specs.Unhindered.{IsUnhindered}
+use Rattle.vcpu_turn.proofs.Turns.{begins_came}
+use Rattle.vcpu_turn.proofs.Hindering.{AloneStays, NeitherLostNorBusy, NobodyWaitedFor, IsSpared, Spared, same_came, settles_came, settles_spared, spared_on}
+use Rattle.vcpu_turn.proofs.Bringing.{brings}
+
+-- ---- steps
+pub stop_came : (v w : PortValue) → IsStop v w → Came v w
+stop_came v w s = moves_came v w _ _ _ _ _ s.1
+
+ends_came : (end : TurnEnd) (v w : PortValue) → EndsTurn end v w → Came v w
+ends_came (ends.Answered reply) v w e = moves_came v w _ _ _ _ _ e.1
+ends_came (ends.Paused p) v w e = same_came v w e
+ends_came ends.Retired v w e = stop_came v w e
+
+does_came : (c : Processing) (o : Option Op) (c2 : Processing) (v w : PortValue) (answers : List Bool) (end : TurnEnd) → DoesNext c o c2 v w answers end → Came v w
+does_came c (Some op) c2 v w answers end d = (brings c.domain (task_of op) c.at.awaited v c.at.done d.to.done w answers d.answer d.went.works).came
+does_came c None c2 v w answers end d = same_came v w d.no_step
+
+goes_came : (c : Processing) (o : Option Op) (v : PortValue) (c2 : Processing) (w : PortValue) (answers : List Bool) (end : TurnEnd) → DoesTurn c o v c2 w answers end → Came v w
+goes_came c o v _ _ _ _ (turning.unsettled w answers p s) = settles_came v w answers (Err (Paused p)) s
+goes_came c o v _ _ _ _ (turning.settled u w c2 early answers end s d) = came_trans v u w (settles_came v u early (Ok tt) s) (does_came (nothing_left c) o c2 u w answers end d)
+
+pub begun_came : (c c2 : Processing) (end : TurnEnd) (v w : PortValue) (answers : List Bool) (t : IsTurn c c2 end v w answers) → Came t.begun w
+begun_came c c2 end v w answers t = came_trans t.begun t.worked w (goes_came c (next_of c) t.begun c2 t.worked answers end t.does) (ends_came end t.worked w t.ends)
+
+pub turn_came : (c c2 : Processing) (end : TurnEnd) (v w : PortValue) (answers : List Bool) → IsTurn c c2 end v w answers → Came v w
+turn_came c c2 end v w answers t = came_trans v t.begun w (begins_came v t.begun t.begins) (begun_came c c2 end v w answers t)
+
+-- ---- pauses
+spared_end : (v : PortValue) (to : ℕ) (answer : Result ℕ Stop) → Spared v answer → IsUnhindered v.post.machine (end_of to answer)
+spared_end v to (Ok value) s = tt
+spared_end v to (Err (Refused x)) s = tt
+spared_end v to (Err (Paused x)) s = s
+
+module _ (stays : AloneStays) (neither : NeitherLostNorBusy) (nobody : NobodyWaitedFor) where
+  does_spared : (c : Processing) (o : Option Op) (c2 : Processing) (v w : PortValue) (answers : List Bool) (end : TurnEnd) → IsSpared v → DoesNext c o c2 v w answers end → IsUnhindered v.post.machine end
+  does_spared c (Some op) c2 v w answers end s d =
+      subst (IsUnhindered v.post.machine) (sym d.end_is)
+      (spared_end v d.to.done d.answer ((brings c.domain (task_of op) c.at.awaited v c.at.done d.to.done w answers d.answer d.went.works).spared stays neither nobody s))
+  does_spared c None c2 v w answers end s d = subst (IsUnhindered v.post.machine) (sym d.end_is) tt
+
+  goes_spared : (c : Processing) (o : Option Op) (v : PortValue) (c2 : Processing) (w : PortValue) (answers : List Bool) (end : TurnEnd) → IsSpared v → DoesTurn c o v c2 w answers end → IsUnhindered v.post.machine end
+  goes_spared c o v _ _ _ _ s (turning.unsettled w answers p settles) = settles_spared stays neither nobody v w answers (Err (Paused p)) s settles
+  goes_spared c o v _ _ _ _ s (turning.settled u w c2 early answers end settles d) =
+      let came = settles_came v u early (Ok tt) settles in
+      subst (λ (q : Post). IsUnhindered q.machine end) (came_post v u came) (does_spared (nothing_left c) o c2 u w answers end (spared_on stays neither nobody v u came s) d)
+
+  pub turn_unhindered : (v : PortValue) → v.post.vcpu < length v.post.machine.vcpu_domain → (c c2 : Processing) (end : TurnEnd) (w : PortValue) (answers : List Bool) → IsAlone v → IsTurn c c2 end v w answers →
+      IsUnhindered v.post.machine end
+  turn_unhindered v real c c2 end w answers alone t =
+      let came = begins_came v t.begun t.begins in
+      subst (λ (q : Post). IsUnhindered q.machine end) (came_post v t.begun came)
+      (goes_spared c (next_of c) t.begun c2 t.worked answers end (spared_on stays neither nobody v t.begun came (record { alone = alone; real = real })) t.does)
