@@ -5,7 +5,7 @@ use Rattle.xp_words.specs.Machine.{Machine}
 use Rattle.xp_words.specs.declared.place.Place.TheVariants.{Life, Vcpu}
 use Rattle.xp_words.specs.Places.{is_place, sizes_of}
 use Rattle.xp_board.specs.Acts.{left_by}
-use Rattle.xp_board.specs.After.{learned_life, learned_own}
+use Rattle.xp_board.specs.After.{learned_own}
 use Rattle.xp_board.specs.ContextSteps.{named_in}
 use Rattle.xp_board.specs.Legal.{WritesSpelling}
 use Rattle.xp_board.specs.LifeSteps.{LegalLife, MayBury}
@@ -45,16 +45,13 @@ unfolding IsSpelling
 may_bury v d domain may buries = may_live v d (Store 255) domain may refl buries
 
 -- a hand that looks at nothing learns nothing of a life word
-looks_no_more : (d found : ℕ) (h : Holdings) → h.looking ≡ [] → learned_life d found h ≡ h
-unfolding kept_of
-looks_no_more d found h none = by (found == 0)
-  where
-    by : (b : Bool) → (if b then record h { looking = kept_of (λ e. not (e.owner == d)) h.looking } else h) ≡ h
-    by true = ap (λ xs. record h { looking = kept_of (λ e. not (e.owner == d)) xs }) none ∙ ap (λ xs. record h { looking = xs }) (sym none)
-    by false = refl
-
 pub life_hand : (v w : PortValue) (d found : ℕ) (a : Act) → v.holdings.looking ≡ [] → Moves v w (Life d) a kinds.Life None found → Same v w
-life_hand v w d found a none m = ap still m.to ∙ ap (λ (h : Holdings). still (record v { holdings = h })) (looks_no_more d found v.holdings none)
+unfolding kept_of
+life_hand v w d found a none m = ap still m.to ∙ ap (λ (h : Holdings). still (record v { holdings = h })) (by (found == 0))
+  where
+    by : (b : Bool) → (if b then record v.holdings { looking = kept_of (λ e. not (e.owner == d)) v.holdings.looking } else v.holdings) ≡ v.holdings
+    by true = ap (λ xs. record v.holdings { looking = kept_of (λ e. not (e.owner == d)) xs }) none ∙ ap (λ xs. record v.holdings { looking = xs }) (sym none)
+    by false = refl
 
 -- ---- words of vCPUs
 pub others_hand : (v w : PortValue) (s k found : ℕ) → s ≢ v.post.vcpu → Moves v w (Vcpu s k) Load kinds.Look None found → Same v w
