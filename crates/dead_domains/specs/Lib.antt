@@ -1,0 +1,4 @@
+pub mod Holders
+pub mod Listing
+pub mod Moments
+pub mod Stopped
