@@ -1,5 +1,6 @@
 -- The calls of a multicall that go on, with a gate and a log.
 use Rattle.std.proofs.Common.{◌≡◌, ℕ, ◌+◌, ◌<◌, ◌≤◌, Bool, true, false, List, [], ◌∷◌, ◌++◌, length, slice_get, Option, Some, None, Result, Ok, Err, refl, sym, ap, ◌∙◌, arith, subst}
+use Rattle.std.specs.Result.{IsErrAnd}
 use Rattle.xp_words.specs.declared.ops.Call.{Call}
 use Rattle.xp_words.specs.declared.reply.LogLine.{LogLine}
 use Rattle.xp_words.specs.declared.reply.LogLine.TheVariants as lines
@@ -19,14 +20,15 @@ use Rattle.vcpu_turn.specs.Lists.{Answering, is_due_answer}
 use Rattle.vcpu_turn.specs.Settling.{SettlesTo}
 use Rattle.vcpu_turn.specs.Working.{WentOn}
 use Rattle.vcpu_turn.specs.declared.cpu.Progress.{Progress}
-use Rattle.vcpu_turn.proofs.Gating.{answers_behind, answers_nothing, ends_behind}
+use Rattle.vcpu_turn.proofs.Gating.{answers_behind, answers_nothing, ends_behind, is_err}
 
 -- ---- one call
 module _ {d op : ℕ} {call : Call} {v : PortValue} {from : Progress} {log : List LogLine} {says : ℕ → Bool} {before after yes_before yes_after : ℕ} {left : Option ℕ} {u : PortValue} where
-  pub call_unsettled : (stop : Stop) → Answering (λ answers. SettlesTo None left v u answers (Err stop)) says before after yes_before yes_after (is_due_stop stop) →
-      Answering (λ answers. AnswersCall d call op v from log from u log answers (Err stop)) says before after yes_before yes_after (is_due_stop stop)
-  call_unsettled stop settles =
-      record { answers = settles.answers; goes = calling.AnswersCall.unsettled u settles.answers stop settles.goes.0; gate = settles.gate; due_is = settles.due_is }
+  pub call_unsettled : (stop : Stop) (answer : Result (Unit {0}) Stop) → IsErrAnd answer (λ x. x ≡ stop) → Answering (λ answers. SettlesTo None left v u answers (Err stop)) says before after yes_before yes_after (is_due_stop stop) →
+      Answering (λ answers. AnswersCall d call op v from log from u log answers answer) says before after yes_before yes_after (is_due_answer answer)
+  call_unsettled stop answer is settles =
+      subst (λ (a : Result (Unit {0}) Stop). Answering (λ answers. AnswersCall d call op v from log from u log answers a) says before after yes_before yes_after (is_due_answer a)) (sym (is_err answer stop is))
+      (record { answers = settles.answers; goes = calling.AnswersCall.unsettled u settles.answers stop settles.goes.0; gate = settles.gate; due_is = settles.due_is })
 
   module _ (settles : Answering (λ answers. SettlesTo None left v u answers (Ok tt)) says before after yes_before yes_after false) {now : ℕ → Bool} (same : (n : ℕ) → now n ≡ says n) {last yes_last : ℕ} {to : Progress} {x : PortValue} {log' : List LogLine} where
     pub call_paused : (p : Pause) → Answering (λ answers. WentOn d (task_in call) (call_behind op from.call) u from to x log log' answers (Err (Paused p))) now after last yes_after yes_last (is_due_stop (Paused p)) →
@@ -72,15 +74,17 @@ module _ {d : ℕ} {calls : List Call} {op : ℕ} {v : PortValue} {from : Progre
             gate = consulted_then now says before after last yes_before yes_after yes_last went.answers next.answers same went.gate next.gate;
           }
 
-      pub went_stopped : length calls ≤ 64 → (stop : Stop) → Answering (λ answers. AnswersCall d call op u at behind to w log' answers (Err stop)) now after last yes_after yes_last (is_due_stop stop) →
-          Answering (λ answers. WorksCalls d calls op v from log to w log' answers (Err stop)) says before last yes_before yes_last (is_due_stop stop)
-      went_stopped few stop next =
-          record {
+      pub went_stopped : length calls ≤ 64 → (stop : Stop) (answer : Result (Unit {0}) Stop) → IsErrAnd answer (λ x. x ≡ stop) →
+          Answering (λ answers. AnswersCall d call op u at behind to w log' answers (Err stop)) now after last yes_after yes_last (is_due_stop stop) →
+          Answering (λ answers. WorksCalls d calls op v from log to w log' answers answer) says before last yes_before yes_last (is_due_answer answer)
+      went_stopped few stop answer err next =
+          subst (λ (a : Result (Unit {0}) Stop). Answering (λ answers. WorksCalls d calls op v from log to w log' answers a) says before last yes_before yes_last (is_due_answer a)) (sym (is_err answer stop err))
+          (record {
             answers = next.answers ++ went.answers;
             goes = calling.WorksCalls.stopped at to u w call behind log' went.answers next.answers stop few went.did is next.goes;
             gate = consulted_then now says before after last yes_before yes_after yes_last went.answers next.answers same went.gate next.gate;
             due_is = λ due. ends_behind went.answers next.answers (next.due_is due);
-          }
+          })
 
 -- a long one
 pub went_long : (d : ℕ) (calls : List Call) (op : ℕ) (v : PortValue) (from : Progress) (log : List LogLine) (says : ℕ → Bool) (asks risen : ℕ) → 64 < length calls →
