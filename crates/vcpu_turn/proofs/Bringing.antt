@@ -124,7 +124,7 @@ one_between from to (Err e) is = omega (arith, is)
 valued_asks : (from to within : ℕ) (answers : List Bool) (ended : Result (Unit {0}) Stop) (answer : Result ℕ Stop) → answer ≡ valued ended → length answers ≡ asks_between from to ended + within → length answers ≡ asks_between from to answer + within
 valued_asks from to within answers ended answer is number = let same = between_valued from to ended answer is in omega (arith, number, same)
 
-valued_hears : (answers : List Bool) (ended : Result (Unit {0}) Stop) (answer : Result ℕ Stop) → answer ≡ valued ended → NoUntilDue answers (is_due_answer ended) → NoUntilDue answers (is_due_answer answer)
+pub valued_hears : (answers : List Bool) (ended : Result (Unit {0}) Stop) (answer : Result ℕ Stop) → answer ≡ valued ended → NoUntilDue answers (is_due_answer ended) → NoUntilDue answers (is_due_answer answer)
 valued_hears answers ended answer is noes = subst (λ (b : Bool). NoUntilDue answers b) (sym (ap is_due_answer is ∙ due_valued ended)) noes
 
 module _ {F G : Tried → Type 0} {v : PortValue} {from to : ℕ} {w : PortValue} {answers : List Bool} {answer : Result ℕ Stop} where

@@ -2,7 +2,7 @@
 use Rattle.std.proofs.Common.{◌≡◌, ℕ, ◌+◌, Bool, List, [], ◌∷◌, ◌++◌, All, length, slice_get, sum_by, flat_map, Option, Some, None, Result, Ok, Err, refl, sym, subst, ap, ◌∙◌, inl, inr, arith, ◌⊎◌, append-nil, length-append}
 use Rattle.std.proofs.lemmas.List.Concat.{flat_map-append}
 use Rattle.std.proofs.lemmas.List.Elements.{All-append, All-cons, All-nil}
-use Rattle.std.proofs.lemmas.List.Sums.{sum_by-append, sum_by-cons}
+use Rattle.std.proofs.lemmas.List.Sums.{sum_by-append}
 use Rattle.xp_words.specs.declared.ops.Call.{Call}
 use Rattle.xp_words.specs.declared.ops.Op.{Op}
 use Rattle.xp_words.specs.declared.reply.LogLine.{LogLine}
@@ -58,12 +58,8 @@ calls_stand {calls = calls} (calling.WorksCalls.stopped at to u w call before be
     All-append (Stands calls) (gone_call stops) (gone_answered did) (call_stands calls is stops) (answered_stand did)
 
 -- ---- how often
--- one more
-one_asks : {d : ℕ} (g : CallGone d) → length (g.asked ++ g.early) ≡ asks_of (g ∷ [])
-one_asks {d} g =
-    let all : asks_of (g ∷ []) ≡ length g.early + length g.asked = sum_by-cons (λ (x : CallGone d). length x.early + length x.asked) g [] in
-    let sum = length-append g.asked g.early in
-    omega (arith, all, sum)
+one_asks : (early asked : List Bool) → length (asked ++ early) ≡ 0 + (length early + length asked)
+one_asks early asked = let sum = length-append asked early in omega (arith, sum)
 
 -- what is in front of the next one was not settled
 record CutOff (answers : List Bool) (count : ℕ) (ended : Result (Unit {0}) Stop) : Type 0 where
@@ -82,8 +78,8 @@ unsettled_off v w early (Paused p) settles = record { from = v; to = w; last = e
 call_asks : {d : ℕ} {call : Call} {op : ℕ} {v : PortValue} {from : Progress} {log : List LogLine} {to : Progress} {w : PortValue} {log' : List LogLine} {asked : List Bool} {ended : Result (Unit {0}) Stop} → (a : AnswersCall d call op v from log to w log' asked ended) →
     (length asked ≡ asks_of (gone_call a)) ⊎ CutOff asked (asks_of (gone_call a)) ended
 call_asks {v = v} (calling.AnswersCall.unsettled w early stop settles) = inr (unsettled_off v w early stop settles)
-call_asks (calling.AnswersCall.paused to u w log' early asked p settles went) = inl (one_asks _)
-call_asks (calling.AnswersCall.answered to u x w log' early asked answer reply settles went replies ends) = inl (one_asks _)
+call_asks (calling.AnswersCall.paused to u w log' early asked p settles went) = inl (one_asks early asked)
+call_asks (calling.AnswersCall.answered to u x w log' early asked answer reply settles went replies ends) = inl (one_asks early asked)
 
 more_asks : {d : ℕ} (now before : List (CallGone d)) (asked answers : List Bool) → length asked ≡ asks_of now → length answers ≡ asks_of before → length (asked ++ answers) ≡ asks_of (now ++ before)
 more_asks {d} now before asked answers one rest =
