@@ -1,5 +1,6 @@
 pub mod Leaving
 pub mod LeavingCalls
+pub mod OverCalls
 pub mod LeavingTurns
 pub mod Ahead
 pub mod Weighing
