@@ -2,6 +2,7 @@ pub mod Leaving
 pub mod LeavingCalls
 pub mod OverCalls
 pub mod LeavingTurns
+pub mod Sizes
 pub mod Ahead
 pub mod Weighing
 pub mod Keeping
