@@ -12,10 +12,10 @@ ghost use Rattle.vcpu_turn.specs.Cpus.{Processing};
 ghost use Rattle.vcpu_turn.specs.Turning.{GoesOnWith};
 ghost use Rattle.vcpu_turn.specs.declared.cpu.TurnEnd.TheVariants as ends;
 
+use crate::a_settling_that_ends_names_none;
 use answer_laws::alone_stays;
 use desc_ranks::a_paused_taking_of_pages_goes_forward;
 use frame_ranks::a_paused_acquisition_goes_forward;
-use crate::a_settling_that_ends_names_none;
 
 /// Behind a settling that came to its end, while no domain is dying, an operation that is paused before it does another element lets no frame fall back and names none in an
 /// old word. Where its gate pauses it, a frame is further than before.
