@@ -1,10 +1,13 @@
 -- The calls of a multicall that go on, with a gate and a log.
-use Rattle.std.proofs.Common.{◌≡◌, ℕ, ◌+◌, ◌<◌, ◌≤◌, Bool, true, false, List, [], ◌∷◌, ◌++◌, length, slice_get, Option, Some, None, Result, Ok, Err, refl, sym, ap, ◌∙◌, arith, subst}
+use Rattle.std.proofs.Common.{◌≡◌, ℕ, ◌+◌, ◌<◌, ◌≤◌, min, if◌then◌else◌, Bool, true, false, List, [], ◌∷◌, ◌++◌, drop, sum_by, length, slice_get, Option, Some, None, Result, Ok, Err, refl, sym, ap, ◌∙◌, arith, subst}
 use Rattle.std.specs.Result.{IsErrAnd}
+use Rattle.std.proofs.lemmas.Bool.Decides.{nat_tests}
+use Rattle.std.proofs.lemmas.Option.{slice_get_past}
 use Rattle.xp_words.specs.declared.ops.Call.{Call}
 use Rattle.xp_words.specs.declared.reply.LogLine.{LogLine}
 use Rattle.xp_words.specs.declared.reply.LogLine.TheVariants as lines
 use Rattle.xp_words.specs.declared.reply.Pause.{Pause}
+use Rattle.xp_words.specs.declared.reply.Refusal.{Refusal}
 use Rattle.xp_words.specs.declared.reply.Refusal.TheVariants as refusals
 use Rattle.xp_words.specs.declared.reply.Reply.{Reply}
 use Rattle.xp_words.specs.declared.reply.Stop.{Stop}
@@ -15,11 +18,12 @@ use Rattle.xp_preempt.proofs.Consulting.{consulted_none, consulted_then}
 use Rattle.level_release.specs.Asking.{is_due_stop}
 use Rattle.vcpu_turn.specs.Calls as calling
 use Rattle.vcpu_turn.specs.Calls.{AnsweredCalls, AnswersCall, EndsCall, WorksCalls, replied}
-use Rattle.vcpu_turn.specs.Cpus.{begun_at, call_behind, task_in}
+use Rattle.vcpu_turn.specs.Cpus.{IsFewIn, IsFewOf, OfCalls, begun_at, call_behind, elements_in, is_long, lines_made, lines_of_call, made_within, reply_of, room_from, task_called, task_in}
 use Rattle.vcpu_turn.specs.Lists.{Answering, is_due_answer}
 use Rattle.vcpu_turn.specs.Settling.{SettlesTo}
 use Rattle.vcpu_turn.specs.Working.{WentOn}
 use Rattle.vcpu_turn.specs.declared.cpu.Progress.{Progress}
+use Rattle.vcpu_turn.proofs.NextOps.{calls_more}
 use Rattle.vcpu_turn.proofs.Gating.{answers_behind, answers_nothing, ends_behind, is_err}
 
 -- ---- one call
@@ -31,11 +35,12 @@ module _ {d op : ℕ} {call : Call} {v : PortValue} {from : Progress} {log : Lis
       (record { answers = settles.answers; goes = calling.AnswersCall.unsettled u settles.answers stop settles.goes.0; gate = settles.gate; due_is = settles.due_is })
 
   module _ (settles : Answering (λ answers. SettlesTo None left v u answers (Ok tt)) says before after yes_before yes_after false) {now : ℕ → Bool} (same : (n : ℕ) → now n ≡ says n) {last yes_last : ℕ} {to : Progress} {x : PortValue} {log' : List LogLine} where
-    pub call_paused : (p : Pause) → Answering (λ answers. WentOn d (task_in call) (call_behind op from.call) u from to x log log' answers (Err (Paused p))) now after last yes_after yes_last (is_due_stop (Paused p)) →
+    pub call_paused : (stop : Stop) (p : Pause) → stop ≡ Paused p → Answering (λ answers. WentOn d (task_in call) (call_behind op from.call) u from to x log log' answers (Err stop)) now after last yes_after yes_last (is_due_stop stop) →
         Answering (λ answers. AnswersCall d call op v from log to x log' answers (Err (Paused p))) says before last yes_before yes_last (is_due_stop (Paused p))
-    call_paused p went =
+    call_paused stop p is went =
         answers_behind says now before after last yes_before yes_after yes_last settles.answers same settles.gate (is_due_stop (Paused p)) (λ answers. WentOn d (task_in call) (call_behind op from.call) u from to x log log' answers (Err (Paused p)))
-        (λ answers. AnswersCall d call op v from log to x log' answers (Err (Paused p))) went
+        (λ answers. AnswersCall d call op v from log to x log' answers (Err (Paused p)))
+        (subst (λ (e : Stop). Answering (λ answers. WentOn d (task_in call) (call_behind op from.call) u from to x log log' answers (Err e)) now after last yes_after yes_last (is_due_stop e)) is went)
         (λ answers goes. calling.AnswersCall.paused to u x log' settles.answers answers p settles.goes.0 goes)
 
     pub call_answered : (answer : Result ℕ Stop) (reply : Reply) → is_due_answer answer ≡ false → replied to.done answer ≡ Some reply →
@@ -50,6 +55,13 @@ module _ {d op : ℕ} {call : Call} {v : PortValue} {from : Progress} {log : Lis
         subst (λ (p : Progress). AnswersCall d call op v from log p w log'' (answers ++ settles.answers) (Ok tt)) (sym begins)
         (subst (λ (ls : List LogLine). AnswersCall d call op v from log (begun_at (from.call + 1)) w ls (answers ++ settles.answers) (Ok tt)) (sym logged)
         (calling.AnswersCall.answered to u x w log' settles.answers answers answer reply settles.goes.0 goes is ends)))
+
+    pub call_refused : (stop : Stop) (r : Refusal) → stop ≡ Refused r → Answering (λ answers. WentOn d (task_in call) (call_behind op from.call) u from to x log log' answers (Err stop)) now after last yes_after yes_last (is_due_stop stop) →
+        (w : PortValue) → EndsCall (from.call + 1) x w → (log'' : List LogLine) → log'' ≡ log' ++ lines.Answer op (from.call + 1) (reply_of to.done 0 (Some r)) ∷ [] → (at : Progress) → at ≡ begun_at (from.call + 1) →
+        Answering (λ answers. AnswersCall d call op v from log at w log'' answers (Ok tt)) says before last yes_before yes_last false
+    call_refused stop r is went w ends log'' logged at begins =
+        call_answered (Err (Refused r)) (reply_of to.done 0 (Some r)) refl refl
+        (subst (λ (e : Stop). Answering (λ answers. WentOn d (task_in call) (call_behind op from.call) u from to x log log' answers (Err e)) now after last yes_after yes_last (is_due_stop e)) is went) w ends log'' logged at begins
 
 -- ---- calls, one behind the other
 pub record WentThrough (d : ℕ) (calls : List Call) (op : ℕ) (v : PortValue) (from : Progress) (log : List LogLine) (at : Progress) (w : PortValue) (log' : List LogLine) (says : ℕ → Bool) (before after yes_before yes_after : ℕ) : Type 0 where
@@ -91,3 +103,96 @@ pub went_long : (d : ℕ) (calls : List Call) (op : ℕ) (v : PortValue) (from :
     Answering (λ answers. WorksCalls d calls op v from log (record from { done = 0; awaited = None }) v log answers (Err (Refused refusals.BatchLong))) says asks asks risen risen false
 went_long d calls op v from log says asks risen above =
     answers_nothing says asks risen false (λ answers. WorksCalls d calls op v from log (record from { done = 0; awaited = None }) v log answers (Err (Refused refusals.BatchLong))) refl (calling.WorksCalls.long above)
+
+-- ---- how far the call in progress is, and the room of the log
+min_none : (n : ℕ) → min n 0 ≡ 0
+min_none n = grind arith
+
+pub few_at : (calls : List Call) (k : ℕ) → IsFewOf (slice_get calls k) 0
+few_at calls k = by (slice_get calls k)
+  where
+    by : (o : Option Call) → IsFewOf o 0
+    by None = tt
+    by (Some call) = omega arith
+
+pub call_at : (calls : List Call) (at : Progress) (call : Call) → slice_get calls at.call ≡ Some call → IsFewIn (OfCalls calls) at → at.done ≤ elements_in (task_in call)
+call_at calls at call is few = subst (λ (o : Option Call). IsFewOf o at.done) is few
+
+pub few_past : (calls : List Call) (at to : Progress) (call : Call) → slice_get calls at.call ≡ Some call → to.call ≡ at.call → to.done ≤ elements_in (task_in call) → IsFewIn (OfCalls calls) to
+few_past calls at to call is same few = subst (λ (o : Option Call). IsFewOf o to.done) (sym (ap (slice_get calls) same ∙ is)) few
+
+pub none_past : (calls : List Call) (k done : ℕ) → length calls ≤ k → IsFewOf (slice_get calls k) done
+none_past calls k done past = subst (λ (o : Option Call). IsFewOf o done) (sym (slice_get_past calls k past)) tt
+
+pub is_err_calm : (stop : Stop) (answer : Result (Unit {0}) Stop) → IsErrAnd answer (λ x. x ≡ stop) → is_due_answer {A = Unit {0}} (Err stop) ≡ false → is_due_answer answer ≡ false
+is_err_calm stop answer is off = ap is_due_answer (is_err answer stop is) ∙ off
+
+long_is : (calls : List Call) → 64 < length calls → is_long calls ≡ true
+long_is calls above = grind (arith, nat_tests)
+
+short_is : (calls : List Call) → length calls ≤ 64 → is_long calls ≡ false
+short_is calls few = grind (arith, nat_tests)
+
+pub room_long : (calls : List Call) (at to : Progress) (len : ℕ) → 64 < length calls → len + room_from (OfCalls calls) to.call + made_within (OfCalls calls) at ≤ len + room_from (OfCalls calls) at.call + made_within (OfCalls calls) to
+room_long calls at to len above =
+    by (is_long calls) (long_is calls above)
+  where
+    by : (b : Bool) → b ≡ true → len + (if b then 0 else sum_by lines_of_call (drop to.call calls)) + (if b then 0 else lines_made (task_called (slice_get calls at.call)) at.done) ≤
+        len + (if b then 0 else sum_by lines_of_call (drop at.call calls)) + (if b then 0 else lines_made (task_called (slice_get calls to.call)) to.done)
+    by true is = omega arith
+    by false is = absurd cc
+
+-- of one that is not long
+module _ (calls : List Call) where
+  room_is : length calls ≤ 64 → (k : ℕ) → room_from (OfCalls calls) k ≡ sum_by lines_of_call (drop k calls)
+  room_is few k = ap (λ (b : Bool). if b then 0 else sum_by lines_of_call (drop k calls)) (short_is calls few)
+
+  made_is : length calls ≤ 64 → (at : Progress) (call : Call) → slice_get calls at.call ≡ Some call → made_within (OfCalls calls) at ≡ lines_made (task_in call) at.done
+  made_is few at call is =
+      ap (λ (b : Bool). if b then 0 else lines_made (task_called (slice_get calls at.call)) at.done) (short_is calls few) ∙ ap (λ (o : Option Call). lines_made (task_called o) at.done) is
+
+  pub room_at : (from at : Progress) (call : Call) (len0 cap0 : ℕ) → length calls ≤ 64 → slice_get calls at.call ≡ Some call → (len cap : ℕ) → len0 + room_from (OfCalls calls) from.call ≤ cap0 + made_within (OfCalls calls) from →
+      len + room_from (OfCalls calls) at.call + made_within (OfCalls calls) from ≤ len0 + room_from (OfCalls calls) from.call + made_within (OfCalls calls) at → cap ≡ cap0 → len + lines_of_call call ≤ cap + lines_made (task_in call) at.done
+  room_at from at call len0 cap0 few is len cap first room same =
+      let here = room_is few at.call in
+      let made = made_is few at call is in
+      let all = calls_more calls at.call call is in
+      omega (arith, first, room, same, here, made, all)
+
+  -- it was answered
+  pub room_more : (from at to : Progress) (call : Call) (len0 len len' : ℕ) → length calls ≤ 64 → slice_get calls at.call ≡ Some call → to ≡ begun_at (at.call + 1) →
+      len + room_from (OfCalls calls) at.call + made_within (OfCalls calls) from ≤ len0 + room_from (OfCalls calls) from.call + made_within (OfCalls calls) at → len' + lines_made (task_in call) at.done ≤ len + lines_of_call call →
+      len' + room_from (OfCalls calls) to.call + made_within (OfCalls calls) from ≤ len0 + room_from (OfCalls calls) from.call + made_within (OfCalls calls) to
+  room_more from at to call len0 len len' few is next room more =
+      let here = room_is few at.call in
+      let there = room_is few to.call in
+      let at_next = ap (λ (p : Progress). sum_by lines_of_call (drop p.call calls)) next in
+      let made = made_is few at call is in
+      let all = calls_more calls at.call call is in
+      omega (arith, room, more, here, there, at_next, made, all)
+
+  -- it is paused
+  pub room_stopped : (from at to : Progress) (call : Call) (len0 len len' : ℕ) → length calls ≤ 64 → slice_get calls at.call ≡ Some call → to.call ≡ at.call →
+      len + room_from (OfCalls calls) at.call + made_within (OfCalls calls) from ≤ len0 + room_from (OfCalls calls) from.call + made_within (OfCalls calls) at → len' + lines_made (task_in call) at.done ≤ len + lines_made (task_in call) to.done →
+      len' + room_from (OfCalls calls) to.call + made_within (OfCalls calls) from ≤ len0 + room_from (OfCalls calls) from.call + made_within (OfCalls calls) to
+  room_stopped from at to call len0 len len' few is same room more =
+      let here = ap (room_from (OfCalls calls)) same in
+      let made = made_is few at call is in
+      let made' = made_is few to call (ap (slice_get calls) same ∙ is) in
+      omega (arith, room, more, here, made, made')
+
+  -- none is left
+  pub room_past : (from at : Progress) (len0 len : ℕ) → length calls ≤ at.call → len + room_from (OfCalls calls) at.call + made_within (OfCalls calls) from ≤ len0 + room_from (OfCalls calls) from.call + made_within (OfCalls calls) at →
+      len + room_from (OfCalls calls) at.call + made_within (OfCalls calls) from ≤ len0 + room_from (OfCalls calls) from.call + made_within (OfCalls calls) (record at { done = at.call })
+  room_past from at len0 len past room =
+      let few = made_past at past in omega (arith, room, few)
+    where
+      made_past : (p : Progress) → length calls ≤ p.call → made_within (OfCalls calls) p ≡ 0
+      made_past p past = by (is_long calls)
+        where
+          none : lines_made (task_called (slice_get calls p.call)) p.done ≡ 0
+          none = ap (λ (o : Option Call). lines_made (task_called o) p.done) (slice_get_past calls p.call past) ∙ min_none p.done
+
+          by : (b : Bool) → (if b then 0 else lines_made (task_called (slice_get calls p.call)) p.done) ≡ 0
+          by true = refl
+          by false = none

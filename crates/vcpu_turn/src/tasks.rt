@@ -105,8 +105,8 @@ fn task_in(call: &Call) -> Option<Viewed<'_>>
 }
 
 fn task_of(piece: Piece<'_>) -> Option<Viewed<'_>>
-    ensures some { IfSome result (λ task. task_for piece ≡ Some (viewed task)) }
-    ensures none { IfNone result (task_for piece ≡ None) }
+    ensures some { IfSome result (λ task. task_for piece.entry ≡ Some (viewed task)) }
+    ensures none { IfNone result (task_for piece.entry ≡ None) }
 {
     match piece {
         Piece::Called(call) | Piece::Whole(Op::One { call }) => task_in(call),
@@ -128,7 +128,7 @@ fn task_of(piece: Piece<'_>) -> Option<Viewed<'_>>
 
 // It was paused with so many elements done: past which clock value the next of them goes on to wait.
 fn awaited_in(piece: Piece<'_>, done: u32, pause: Pause) -> Option<u64>
-    ensures { result ≡ awaited_in (task_for piece) done pause }
+    ensures { result ≡ awaited_in (task_for piece.entry) done pause }
 {
     match task_of(piece) {
         Some(Viewed::Ext(elements)) => match elements.get(done as usize) {
@@ -142,7 +142,7 @@ fn awaited_in(piece: Piece<'_>, done: u32, pause: Pause) -> Option<u64>
 
 // The same where it ended so; what is answered waits no more.
 fn awaited_left(piece: Piece<'_>, done: u32, answer: Result<u64, Stop>) -> Option<u64>
-    ensures { result ≡ awaited_left (task_for piece) done answer }
+    ensures { result ≡ awaited_left (task_for piece.entry) done answer }
 {
     match answer {
         Err(Stop::Paused(pause)) => awaited_in(piece, done, pause),
@@ -152,7 +152,7 @@ fn awaited_left(piece: Piece<'_>, done: u32, answer: Result<u64, Stop>) -> Optio
 
 // How many lines it logs at most before its answer.
 pub(crate) fn room_of(piece: Piece<'_>) -> usize
-    ensures lines { result ≡ room_of (task_for piece) }
+    ensures lines { result ≡ room_of (task_for piece.entry) }
     ensures few { result ≤ 512 }
 {
     match task_of(piece) {
@@ -193,11 +193,11 @@ fn go_from<P: Port>(
     requires warm { IsWarm (P.value port.old) }
     requires room { vec_len log.old + room_of (task_for piece) ≤ vec_capacity log.old + lines_made (task_for piece) at.old.done }
     ensures post { (P.value port.new).post ≡ (P.value port.old).post }
-    ensures within { at.new.done ≤ elements_in (task_for piece) }
-    ensures awaits { KnowsAwaited (P.value port.new) (awaited_left (task_for piece) at.new.done result) }
-    ensures went { Answering (λ answers. WentOn domain (task_for piece) number (P.value port.old) at.old (left_waiting (task_for piece) at.new result) (P.value port.new) log.old.items log.new.items answers result) (says gate.old) (count_asks gate.old) (count_asks gate.new) (count_yes gate.old) (count_yes gate.new) (is_due_answer result) }
+    ensures within { at.new.done ≤ elements_in (task_for piece.entry) }
+    ensures awaits { KnowsAwaited (P.value port.new) (awaited_left (task_for piece.entry) at.new.done result) }
+    ensures went { Answering (λ answers. WentOn domain (task_for piece.entry) number (P.value port.old) at.old (left_waiting (task_for piece.entry) at.new result) (P.value port.new) log.old.items log.new.items answers result) (says gate.old) (count_asks gate.old) (count_asks gate.new) (count_yes gate.old) (count_yes gate.new) (is_due_answer result) }
     ensures capacity { vec_capacity log.new ≡ vec_capacity log.old }
-    ensures room { vec_len log.new + lines_made (task_for piece) at.old.done ≤ vec_len log.old + lines_made (task_for piece) at.new.done }
+    ensures room { vec_len log.new + lines_made (task_for piece.entry) at.old.done ≤ vec_len log.old + lines_made (task_for piece.entry) at.new.done }
     ensures rests { Rests (P.value port.new) }
     ensures warm { IsWarm (P.value port.new) }
     ensures says { (n : ℕ) → says gate.new n ≡ says gate.old n }
@@ -269,11 +269,11 @@ pub(crate) fn work_on<P: Port>(
     requires warm { IsWarm (P.value port.old) }
     requires room { vec_len log.old + room_of (task_for piece) ≤ vec_capacity log.old + lines_made (task_for piece) at.old.done }
     ensures post { (P.value port.new).post ≡ (P.value port.old).post }
-    ensures within { at.new.done ≤ elements_in (task_for piece) }
+    ensures within { at.new.done ≤ elements_in (task_for piece.entry) }
     ensures awaits { KnowsAwaited (P.value port.new) at.new.awaited }
-    ensures went { Answering (λ answers. WentOn domain (task_for piece) number (P.value port.old) at.old at.new (P.value port.new) log.old.items log.new.items answers result) (says gate.old) (count_asks gate.old) (count_asks gate.new) (count_yes gate.old) (count_yes gate.new) (is_due_answer result) }
+    ensures went { Answering (λ answers. WentOn domain (task_for piece.entry) number (P.value port.old) at.old at.new (P.value port.new) log.old.items log.new.items answers result) (says gate.old) (count_asks gate.old) (count_asks gate.new) (count_yes gate.old) (count_yes gate.new) (is_due_answer result) }
     ensures capacity { vec_capacity log.new ≡ vec_capacity log.old }
-    ensures room { vec_len log.new + lines_made (task_for piece) at.old.done ≤ vec_len log.old + lines_made (task_for piece) at.new.done }
+    ensures room { vec_len log.new + lines_made (task_for piece.entry) at.old.done ≤ vec_len log.old + lines_made (task_for piece.entry) at.new.done }
     ensures rests { Rests (P.value port.new) }
     ensures warm { IsWarm (P.value port.new) }
     ensures says { (n : ℕ) → says gate.new n ≡ says gate.old n }
