@@ -20,12 +20,11 @@ use crate::turns::a_turn_leaves_less_to_do;
 use answer_laws::alone_stays;
 use course_laws::who_is_alone_has_orderly_words;
 use opening_rule::opening_words_are_sound;
-use turn_measures::{a_turn_answers_its_ask, who_is_waited_for_is_asked};
 use turn_measures::{
-    a_paused_settling_names_less, a_settling_that_ends_names_none, a_turn_gets_ahead_or_stays,
-    a_turn_leaves_the_others,
+    a_paused_settling_names_less, a_settling_that_ends_names_none, a_turn_answers_its_ask,
+    a_turn_gets_ahead_or_stays, a_turn_leaves_the_others,
+    a_turn_paused_within_an_element_goes_forward, who_is_waited_for_is_asked,
 };
-use turn_measures::a_turn_paused_within_an_element_goes_forward;
 
 /// Where each vCPU has a turn in each round, all are retired behind so many rounds, whatever their gates say, unless the clock comes to its last value.
 pub fn all_retire_in_rounds()

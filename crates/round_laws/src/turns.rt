@@ -11,9 +11,8 @@ use answer_laws::alone_stays;
 use course_laws::who_is_alone_has_orderly_words;
 use turn_measures::{
     a_paused_settling_names_less, a_settling_that_ends_names_none, a_turn_gets_ahead_or_stays,
-    a_turn_leaves_the_others,
+    a_turn_leaves_the_others, a_turn_paused_within_an_element_goes_forward,
 };
-use turn_measures::a_turn_paused_within_an_element_goes_forward;
 
 /// A turn leaves no more to do than there was, and less where it was not paused for the flush of another vCPU. The clock does not go back.
 pub fn a_turn_leaves_less_to_do()
