@@ -70,7 +70,7 @@ tried_call {d} {call} {from = from} (AnswersCall.answered to u x w log' early as
 abbrev pub tried_answered : {d : ℕ} {calls : List Call} {op : ℕ} {v : PortValue} {from : Progress} {log : List LogLine} {at : Progress} {w : PortValue} {behind : List LogLine} {answers : List Bool} →
     AnsweredCalls d calls op v from log at w behind answers → List Tried
 tried_answered AnsweredCalls.none = []
-tried_answered (AnsweredCalls.more at to u w call before behind answers asked did is answered) = tried_call answered ++ tried_answered did
+tried_answered (AnsweredCalls.more at to u w call before behind answers asked did is next) = tried_call next ++ tried_answered did
 
 abbrev pub tried_calls : {d : ℕ} {calls : List Call} {op : ℕ} {v : PortValue} {from : Progress} {log : List LogLine} {to : Progress} {w : PortValue} {log' : List LogLine} {answers : List Bool} {answer : Result (Unit {0}) Stop} →
     WorksCalls d calls op v from log to w log' answers answer → List Tried

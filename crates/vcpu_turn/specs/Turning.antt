@@ -18,7 +18,7 @@ use Rattle.step_maker.specs.Moves.{Moves}
 pub use Rattle.mmuext_ops.specs.Elements.{KnowsAwaited}
 use Rattle.level_release.specs.Course.{left_settled}
 use Rattle.tlb_walks.specs.Dropping.{Acks}
-use Rattle.vcpu_turn.specs.Cpus.{OfMapping, Processing, Task, after_turn, begins_at, end_of, job_of, next_of, nothing_left}
+use Rattle.vcpu_turn.specs.Cpus.{OfMapping, Processing, Task, after_turn, begins_at, by_itself, end_of, job_of, next_of, nothing_left}
 use Rattle.xp_words.specs.declared.reply.LogLine.{LogLine}
 use Rattle.vcpu_turn.specs.Extents.{Block, given_lines}
 use Rattle.vcpu_turn.specs.Lists.{asks_between, is_due_answer}
@@ -96,7 +96,7 @@ pub data CountsAsks (below : Option ℕ) (task : Option Task) (from : ℕ) (end 
 -- the vCPU behind a turn in which the next operation came so far, and was given blocks; or settling was all that it did, and left the vCPU as it was, but for how
 -- much is left
 abbrev pub IsLeftAt : Processing → Processing → Progress → TurnEnd → Type 0
-IsLeftAt c c' to end = ((gave : List Block) × (c' ≡ after_turn (nothing_left c) to (c.log ++ given_lines (c.answered + 1) gave) end)) ⊎ ((p : Pause) × (end ≡ ends.Paused p) × (to ≡ c.at) × (c' ≡ record c { left = c'.left }))
+IsLeftAt c c' to end = ((gave : List Block) × (c' ≡ after_turn (nothing_left c) to (c.log ++ given_lines (by_itself (c.answered + 1)) gave) end)) ⊎ ((p : Pause) × (end ≡ ends.Paused p) × (to ≡ c.at) × (c' ≡ record c { left = c'.left }))
 
 -- the turn went on with an operation, of which no more than `most` elements are done then
 pub record GoesNoFurther (c c' : Processing) (end : TurnEnd) (most : ℕ) : Type 0 where
