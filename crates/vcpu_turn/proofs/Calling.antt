@@ -2,7 +2,7 @@
 use Rattle.std.proofs.Common.{◌≡◌, ℕ, ◌+◌, ◌<◌, ◌≤◌, min, if◌then◌else◌, Bool, true, false, List, [], ◌∷◌, ◌++◌, drop, sum_by, length, slice_get, Option, Some, None, Result, Ok, Err, refl, sym, ap, ◌∙◌, arith, subst}
 use Rattle.std.specs.Result.{IsErrAnd}
 use Rattle.std.proofs.lemmas.Bool.Decides.{nat_tests}
-use Rattle.std.proofs.lemmas.Option.{slice_get_past}
+use Rattle.std.proofs.lemmas.Option.{slice_get_past, slice_get_within}
 use Rattle.xp_words.specs.declared.ops.Call.{Call}
 use Rattle.xp_words.specs.declared.reply.LogLine.{LogLine}
 use Rattle.xp_words.specs.declared.reply.LogLine.TheVariants as lines
@@ -116,10 +116,11 @@ few_at calls k = by (slice_get calls k)
     by (Some call) = omega arith
 
 pub call_at : (calls : List Call) (at : Progress) (call : Call) → slice_get calls at.call ≡ Some call → IsFewIn (OfCalls calls) at → at.done ≤ elements_in (task_in call)
-call_at calls at call is few = subst (λ (o : Option Call). IsFewOf o at.done) is few
+call_at calls at call is few = subst (λ (o : Option Call). IsFewOf o at.done) is few.1
 
 pub few_past : (calls : List Call) (at to : Progress) (call : Call) → slice_get calls at.call ≡ Some call → to.call ≡ at.call → to.done ≤ elements_in (task_in call) → IsFewIn (OfCalls calls) to
-few_past calls at to call is same few = subst (λ (o : Option Call). IsFewOf o to.done) (sym (ap (slice_get calls) same ∙ is)) few
+few_past calls at to call is same few =
+    let within = slice_get_within calls at.call call is in (omega (arith, within, same), subst (λ (o : Option Call). IsFewOf o to.done) (sym (ap (slice_get calls) same ∙ is)) few)
 
 pub none_past : (calls : List Call) (k done : ℕ) → length calls ≤ k → IsFewOf (slice_get calls k) done
 none_past calls k done past = subst (λ (o : Option Call). IsFewOf o done) (sym (slice_get_past calls k past)) tt

@@ -157,4 +157,4 @@ few_begun (Some op) = by (job_of op)
 
     by : (job : Job) → IsFewIn job begun
     by (OfOne task) = omega arith
-    by (OfCalls calls) = called (slice_get calls 0)
+    by (OfCalls calls) = (omega arith, called (slice_get calls 0))

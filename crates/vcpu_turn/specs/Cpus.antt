@@ -166,14 +166,14 @@ abbrev pub elements_in : Option Task → ℕ
 elements_in (Some task) = size_of task
 elements_in None = 0
 
--- so many of its elements are done at the most: of the call in progress, where there is one
+-- so many of its elements are done at the most: of the call in progress, where there is one; and no more calls are answered than there are
 abbrev pub IsFewOf : Option Call → ℕ → Type 0
 IsFewOf (Some call) done = done ≤ elements_in (task_in call)
 IsFewOf None done = Unit {0}
 
 abbrev pub IsFewIn : Job → Progress → Type 0
 IsFewIn (OfOne task) at = at.done ≤ elements_in task
-IsFewIn (OfCalls calls) at = IsFewOf (slice_get calls at.call) at.done
+IsFewIn (OfCalls calls) at = (at.call ≤ length calls) × IsFewOf (slice_get calls at.call) at.done
 
 abbrev pub IsFew : Option Op → Progress → Type 0
 IsFew (Some op) at = IsFewIn (job_of op) at

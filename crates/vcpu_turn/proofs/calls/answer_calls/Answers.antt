@@ -8,7 +8,7 @@ use Rattle.vcpu_turn.proofs.Calling.{call_at, few_at, few_past, room_at, room_lo
 use Rattle.vcpu_turn.proofs.calls.answer_calls.Goals as goal
 
 pub returns-then-calls-gt-MOST-clause-few : goal.returns-then-calls-gt-MOST-clause-few
-returns-then-calls-gt-MOST-clause-few g c = few_at c.args.calls.now c.args.at.now.call
+returns-then-calls-gt-MOST-clause-few g c = (c.requires.few.0, few_at c.args.calls.now c.args.at.now.call)
 
 pub returns-then-calls-gt-MOST-clause-works : goal.returns-then-calls-gt-MOST-clause-works
 returns-then-calls-gt-MOST-clause-works g c = went_long _ _ _ _ _ _ _ _ _ c.if-calls-gt-MOST.true
@@ -21,7 +21,6 @@ loop-at-init g c =
     let r = c.requires in
     record {
       went = went_none;
-      small = (let z : Call = c.fits-at.1 in ?);
       few = r.few;
       awaits = r.awaits;
       capacity = refl;
@@ -35,7 +34,10 @@ loop-at-init g c =
     }
 
 pub overflow_cast-at : goal.overflow_cast-at
-overflow_cast-at g c = let small = c.loop-at.invariant.small in omega (arith, small)
+overflow_cast-at g c =
+    let few = c.loop-at.invariant.few.0 in
+    let most = c.if-calls-gt-MOST.false in
+    omega (arith, few, most)
 
 pub answer_call-requires-clause-number : goal.answer_call-requires-clause-number
 answer_call-requires-clause-number g c =
@@ -67,8 +69,7 @@ loop-at-preserved g c =
     let is = slice_get-get_or c.args.calls.now c.loop-at.at.call c.index-calls-at.result c.loop-at-test.true ∙ ap (λ (x : Call). Some x) (sym c.index-calls-at.is) in
     record {
       went = went_more inv.went inv.says _ is e.answers;
-      small = (let below = c.loop-at-test.true in let most = c.if-calls-gt-MOST.false in let next = ap (λ (p : Progress). p.call) e.next in omega (arith, below, most, next));
-      few = rw e.next (few_at c.args.calls.now (c.loop-at.at.call + 1));
+      few = (let below = c.loop-at-test.true in rw e.next (omega (arith, below), few_at c.args.calls.now (c.loop-at.at.call + 1)));
       awaits = e.awaits;
       capacity = e.capacity ∙ inv.capacity;
       room = room_more c.args.calls.now c.args.at.now c.loop-at.at c.answer_call.new.at _ _ _ _ c.if-calls-gt-MOST.false is e.next inv.room e.answered;
@@ -114,7 +115,7 @@ returns-in_err-answer_call-clause-calm g c =
     λ calm. (is_err_calm _ _ c.from_residual.ensures.1 (c.in_err-answer_call.ensures.calm (c.loop-at.invariant.calm calm)).0, (c.in_err-answer_call.ensures.calm (c.loop-at.invariant.calm calm)).1)
 
 pub returns-clause-few : goal.returns-clause-few
-returns-clause-few g c = none_past c.args.calls.now _ _ c.loop-at-test.false
+returns-clause-few g c = (c.loop-at.invariant.few.0, none_past c.args.calls.now _ _ c.loop-at-test.false)
 
 pub returns-clause-works : goal.returns-clause-works
 returns-clause-works g c = went_all c.loop-at.invariant.went c.if-calls-gt-MOST.false c.loop-at-test.false

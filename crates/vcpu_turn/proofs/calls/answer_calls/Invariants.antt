@@ -1,4 +1,4 @@
-use Rattle.std.proofs.Common.{◌≡◌, ◌<◌, ◌≤◌, ◌+◌, ◌-◌, ◌^◌, ℕ, length, true, vec_len, vec_capacity}
+use Rattle.std.proofs.Common.{◌≡◌, ◌≤◌, ◌+◌, ◌-◌, ℕ, length, true, vec_len, vec_capacity}
 use Rattle.step_maker.specs.Holds.{Rests}
 use Rattle.mmuext_ops.specs.Elements.{KnowsAwaited}
 use Rattle.vcpu_turn.specs.Cpus.{IsFewIn, OfCalls, made_within, room_from}
@@ -10,7 +10,6 @@ abbrev pub invariant-loop-at : goal.invariant-loop-at
 invariant-loop-at g l = record {
   went : WentThrough l.fn.domain l.fn.calls l.fn.op (g.P.Port.value l.fn.port) l.fn.at l.fn.log.items l.at (g.P.Port.value l.port) l.log.items ((goal.Preempt-dyn g l.fn.gate.now).says l.fn.gate.now.1)
       ((goal.Preempt-dyn g l.fn.gate.now).count_asks l.fn.gate.now.1) ((goal.Preempt-dyn g l.gate.now).count_asks l.gate.now.1) ((goal.Preempt-dyn g l.fn.gate.now).count_yes l.fn.gate.now.1) ((goal.Preempt-dyn g l.gate.now).count_yes l.gate.now.1);
-  small : l.at.call < 2 ^ 16;
   few : IsFewIn (OfCalls l.fn.calls) l.at;
   awaits : KnowsAwaited (g.P.Port.value l.port) l.at.awaited;
   capacity : vec_capacity l.log ≡ vec_capacity l.fn.log;
