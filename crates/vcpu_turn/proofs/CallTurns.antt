@@ -110,7 +110,7 @@ calls_ask {d} (calling.WorksCalls.stopped at to u w call before behind answers a
     ended_is = off.ended_is;
     all =
         (let all : asks_of (gone_call stops ++ gone_answered did) ≡ asks_of (gone_call stops) + asks_of (gone_answered did) =
-            sum_by-append (λ (x : CallGone d). length x.early + length x.asked) (gone_call stops) (gone_answered did) in
+        sum_by-append (λ (x : CallGone d). length x.early + length x.asked) (gone_call stops) (gone_answered did) in
         let sum = length-append asked answers in
         let one = off.all in
         let rest = answered_asks did in
