@@ -1,5 +1,5 @@
 -- The calls of a multicall in a turn: each goes as an operation does, and the gate is asked for them alone, and for what is settled.
-use Rattle.std.proofs.Common.{◌≡◌, ℕ, ◌+◌, Bool, List, [], ◌∷◌, ◌++◌, All, length, slice_get, sum_by, flat_map, Option, Some, None, Result, Ok, Err, refl, sym, subst, ap, ◌∙◌, inl, inr, arith, ◌⊎◌, append-nil, length-append}
+use Rattle.std.proofs.Common.{◌≡◌, ℕ, ◌+◌, Bool, List, [], ◌++◌, All, length, slice_get, flat_map, Option, Some, None, Result, Ok, Err, refl, sym, subst, ap, ◌∙◌, inl, inr, arith, ◌⊎◌, append-nil, length-append}
 use Rattle.std.proofs.lemmas.List.Concat.{flat_map-append}
 use Rattle.std.proofs.lemmas.List.Elements.{All-append, All-cons, All-nil}
 use Rattle.std.proofs.lemmas.List.Sums.{sum_by-append}
@@ -110,7 +110,7 @@ calls_ask {d} (calling.WorksCalls.stopped at to u w call before behind answers a
     ended_is = off.ended_is;
     all =
         (let all : asks_of (gone_call stops ++ gone_answered did) ≡ asks_of (gone_call stops) + asks_of (gone_answered did) =
-            sum_by-append (λ (x : CallGone d). length x.early + length x.asked) (gone_call stops) (gone_answered did) in
+        sum_by-append (λ (x : CallGone d). length x.early + length x.asked) (gone_call stops) (gone_answered did) in
         let sum = length-append asked answers in
         let one = off.all in
         let rest = answered_asks did in

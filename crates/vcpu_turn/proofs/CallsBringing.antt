@@ -1,5 +1,5 @@
 -- What the work of a turn on an operation brings: of one task, what that brings; of a multicall, by its calls, each of which is settled for first.
-use Rattle.std.proofs.Common.{◌≡◌, ℕ, ◌+◌, ◌<◌, Bool, true, false, List, [], ◌∷◌, ◌++◌, All, Any, length, slice_get, Option, Some, None, Result, Ok, Err, refl, sym, subst, ap, ◌∙◌, inl, inr, arith, ◌⊎◌}
+use Rattle.std.proofs.Common.{◌≡◌, ℕ, Bool, false, List, [], ◌∷◌, ◌++◌, All, slice_get, Option, Some, Result, Ok, Err, refl, subst, ap, inl, inr, ◌⊎◌}
 use Rattle.std.proofs.lemmas.List.Elements.{All-append, All-cons, All-head, All-nil, All-tail, All-weaker}
 use Rattle.std.proofs.lemmas.Option.{get_or_from_slice_get, slice_get_within}
 use Rattle.xp_words.specs.declared.ops.Call.{Call}
@@ -19,7 +19,7 @@ use Rattle.vcpu_turn.specs.declared.cpu.CallNumber.{CallNumber}
 use Rattle.vcpu_turn.specs.declared.cpu.Progress.{Progress}
 use Rattle.vcpu_turn.specs.Calls as calling
 use Rattle.vcpu_turn.specs.Calls.{AnsweredCalls, AnswersCall, WentBy, WorksCalls, replied, tried_answered, tried_by, tried_call, tried_calls}
-use Rattle.vcpu_turn.specs.Cpus.{Job, OfCalls, OfOne, Task, begins_at, by_itself, job_next, job_of, next_of, task_in, task_of}
+use Rattle.vcpu_turn.specs.Cpus.{Job, OfCalls, OfOne, Task, begins_at, by_itself, job_of, task_in, task_of}
 use Rattle.vcpu_turn.specs.Extents.{Block, given_lines}
 use Rattle.vcpu_turn.specs.Lists.{Tried, is_due_answer}
 use Rattle.vcpu_turn.specs.Turning.{asks_for}

@@ -1,5 +1,5 @@
 -- What holds of each element that an operation tries holds of those of a turn.
-use Rattle.std.proofs.Common.{◌≡◌, ℕ, ◌+◌, Bool, List, Option, Some, None, subst, ◌⊎◌, ap, ◌∙◌, All}
+use Rattle.std.proofs.Common.{◌≡◌, ◌+◌, Bool, List, Option, Some, None, subst, ◌⊎◌, ap, ◌∙◌, All}
 use Rattle.std.proofs.lemmas.List.Elements.{All-nil}
 use Rattle.xp_words.specs.declared.ops.Op.{Op}
 use Rattle.xp_board.specs.Told.{PortValue}
