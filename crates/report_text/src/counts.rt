@@ -26,6 +26,18 @@ fn is_refused(line: &LogLine) -> bool
     }
 }
 
+fn done_in(lines: &[LogLine]) -> usize
+    ensures { result ≡ count_by is_done_lem lines.now }
+{
+    lines.iter().filter(|line| is_done(line)).count()
+}
+
+fn refused_in(lines: &[LogLine]) -> usize
+    ensures { result ≡ count_by is_refused_lem lines.now }
+{
+    lines.iter().filter(|line| is_refused(line)).count()
+}
+
 /// How many of the operations were done, and how many were refused. No number of lines is too many for them.
 #[derive(Clone, Copy)]
 struct Answered {
@@ -33,7 +45,7 @@ struct Answered {
     refused: u128,
 }
 
-fn answered(logs: &[Log]) -> Answered
+fn answers(logs: &[Log]) -> Answered
     ensures done { result.done ≡ lines_with is_done_lem logs.now }
     ensures refused { result.refused ≡ lines_with is_refused_lem logs.now }
 {
@@ -43,17 +55,19 @@ fn answered(logs: &[Log]) -> Answered
     };
     for log in logs {
         let lines = log.as_slice();
-        all.done += lines.iter().filter(|line| is_done(line)).count() as u128;
-        all.refused += lines.iter().filter(|line| is_refused(line)).count() as u128;
+        all.done += done_in(lines) as u128;
+        all.refused += refused_in(lines) as u128;
     }
     all
 }
 
+#[tactic(auto, unfolding(crate::specs::SummaryOf::generated_line), using(crate::proofs::Pending::pending_left))]
 fn put_answered(out: &mut String, operations: u32, answered: Answered) -> Result<(), AllocError>
     ensures { OnOk result (string_bytes out.new ≡ string_bytes out.old ++ generated_line operations answered.done answered.refused) }
 {
     let Answered { done, refused } = answered;
-    let pending = u128::from(operations).saturating_sub(done + refused);
+    let unrefused = u128::from(operations).saturating_sub(refused);
+    let pending = unrefused.saturating_sub(done);
     writeln!(
         out,
         "generated {operations} ok {done} refused {refused} pending {pending}"
@@ -76,7 +90,7 @@ pub fn summary(
 {
     let machine = Memory::new(layout, words);
     let mut out = String::new(alloc);
-    put_answered(&mut out, n, answered(logs))?;
+    put_answered(&mut out, n, answers(logs))?;
     put_free(&mut out, &machine)?;
     Ok(out.into_bytes())
 }
