@@ -39,13 +39,17 @@ mapping round = update_with (entry_address round) ((64 + round % 64) * 4096 + 3)
 abbrev pub unmapping : ℕ → Op
 unmapping round = update_with (entry_address round) 0
 
+-- a memory_op of one extent of one frame
+abbrev pub memory_with : ℕ → ℕ → Op
+memory_with command item = One (Mem command 0 (item ∷ []))
+
 -- one of frames 128 to 191 is given back
 abbrev pub giving_back : ℕ → Op
-giving_back round = One (Mem 1 0 (128 + round % 64 ∷ []))
+giving_back round = memory_with 1 (128 + round % 64)
 
 -- a frame is asked for, to stand under that number
 abbrev pub asking : ℕ → Op
-asking round = One (Mem 6 0 (round ∷ []))
+asking round = memory_with 6 round
 
 -- the six operations of a round, by their place in it
 abbrev pub op_at : ℕ → ℕ → Op

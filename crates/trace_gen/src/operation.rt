@@ -1,12 +1,11 @@
 //! One operation, by its number.
 
-ghost use Rattle.std.specs.Prelude.{◌≡◌, ◌^◌, ◌<◌, IfOk};
-ghost use Rattle.trace_gen.specs.Generated.{update_with, renumbering as renumbering_lem, pinning as pinning_lem, table_of, entry_address, mapping as mapping_lem, unmapping as unmapping_lem, giving_back as giving_back_lem, asking as asking_lem, generated_op};
+ghost use Rattle.std.specs.Prelude.{◌≡◌, IfOk};
+ghost use Rattle.trace_gen.specs.Generated.{update_with, renumbering as renumbering_lem, pinning as pinning_lem, table_of, entry_address, mapping as mapping_lem, unmapping as unmapping_lem, memory_with, generated_op};
 
 use std::alloc::{AllocError, Global};
 use xp_words::{Call, ExtList, ExtOp, Numbers, Op, Pair, Pairs};
 
-// One element of `mmu_update`.
 fn update(ptr: u64, val: u64) -> Op
     ensures { result ≡ update_with ptr val }
 {
@@ -45,7 +44,7 @@ fn pinning(alloc: Global, round: u32) -> Result<Op, AllocError>
 }
 
 fn entry(round: u32) -> u64
-    ensures address { result ≡ entry_address round }
+    ensures { result ≡ entry_address round }
 {
     table(round) * 4096 + 8 * u64::from(round % 512)
 }
@@ -62,7 +61,9 @@ fn unmapping(round: u32) -> Op
     update(entry(round), 0)
 }
 
-fn memory(alloc: Global, command: u64, item: u64) -> Result<Op, AllocError> {
+fn memory(alloc: Global, command: u64, item: u64) -> Result<Op, AllocError>
+    ensures { IfOk result (λ op. op ≡ memory_with command item) }
+{
     let items = Numbers::new(Vec::from_array(alloc, [item])?);
     Ok(Op::One {
         call: Call::Mem {

@@ -29,6 +29,7 @@ fn machine() -> Layout
     }
 }
 
+#[tactic(auto, using(crate::proofs::Made::script_more))]
 fn script(alloc: Global, n: u32) -> Result<Script, AllocError>
     ensures { IfOk result (λ s. s ≡ generated_script n) }
 {
