@@ -3,7 +3,6 @@ use Rattle.std.specs.Prelude.{ℕ, ◌+◌, ◌-◌, ◌==◌, ◌&&◌, Bool, f
 use Rattle.xp_words.specs.Machine.{Machine}
 use Rattle.xp_words.specs.declared.reply.LogLine.{LogLine}
 use Rattle.xp_words.specs.declared.reply.LogLine.TheVariants.{Answer}
-use Rattle.report_text.specs.Memories.{Memory}
 use Rattle.report_text.specs.ReportOf.{free_line}
 
 -- the answer of an operation, and not of a call of it, that is no refusal

@@ -1,4 +1,4 @@
-ghost use Rattle.std.specs.Prelude.{◌≡◌, ◌++◌, length, OnOk, IfOk, string_bytes, sum_by, count_by};
+ghost use Rattle.std.specs.Prelude.{◌≡◌, ◌++◌, length, OnOk, IfOk, string_bytes, count_by};
 ghost use Rattle.xp_words.specs.Places.{sizes_of, size};
 ghost use Rattle.report_text.specs.SummaryOf.{is_done as is_done_lem, is_refused as is_refused_lem, lines_with, generated_line, summary_of};
 

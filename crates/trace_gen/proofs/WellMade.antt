@@ -1,18 +1,16 @@
 -- The trace that is made by rule is one that a text can spell.
-use Rattle.std.proofs.Common.{◌≡◌, ℕ, zero, suc, ◌+◌, ◌*◌, ◌/◌, ◌%◌, ◌^◌, ◌<◌, ◌≤◌, ◌==◌, List, [], ◌∷◌, map, length, refl, arith, Bool, true, false, if◌then◌else◌}
+use Rattle.std.proofs.Common.{◌≡◌, ℕ, zero, suc, ◌+◌, ◌/◌, ◌%◌, ◌^◌, ◌<◌, ◌≤◌, ◌==◌, [], ◌∷◌, length, refl, arith, Bool, true, false, if◌then◌else◌}
 use Rattle.std.specs.List.{All, AllPairs, slice_index}
 use Rattle.std.proofs.lemmas.List.Elements.{All-nil, All-cons}
 use Rattle.std.proofs.lemmas.List.FromFn.{length-map-range_with_len}
 use Rattle.xp_words.specs.Machine.{IsMachine, IsMask}
 use Rattle.xp_words.specs.declared.ops.Op.{Op}
-use Rattle.xp_words.specs.declared.ops.Pair.{Pair}
-use Rattle.xp_words.specs.declared.ops.ExtOp.{ExtOp}
 use Rattle.std.specs.Bool.{IsTrue}
 use Rattle.trace_text.specs.declared.trace.Own.{Own}
 use Rattle.trace_text.specs.declared.trace.TurnRun.{TurnRun}
 use Rattle.trace_text.specs.Counted.{is_apart, pages_of, numbers_in_call, numbers_in, extents_in_call, extents_in, destroys_in}
 use Rattle.trace_text.specs.WellFormed.{IsOwn, IsCellRun, IsOp, IsWellFormed}
-use Rattle.trace_gen.specs.Generated.{update_with, renumbering, table_of, pinning, entry_address, mapping, unmapping, memory_with, giving_back, asking, op_at, generated_op, generated_machine, generated_script, generated}
+use Rattle.trace_gen.specs.Generated.{update_with, renumbering, table_of, pinning, mapping, unmapping, giving_back, asking, op_at, generated_op, generated_machine, generated_script, generated}
 use Rattle.trace_gen.proofs.Made.{all_made, few_made, none_made}
 
 alone : {X : Type 0} (P : X → Type 0) (x : X) → P x → All P (x ∷ [])
@@ -56,7 +54,6 @@ asking_is_op round few =
 generated_is_op : (number : ℕ) → number < 60000 → IsOp 1 (generated_op number)
 unfolding generated_op
 generated_is_op number few =
-    let round = number / 6 in
     let early : number / 6 < 60000 = omega arith in
     at_each (IsOp 1) (number % 6) (number / 6)
     (update_is_op _ _ (omega arith) (omega arith))

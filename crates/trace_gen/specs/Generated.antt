@@ -71,10 +71,11 @@ generated_script n = map generated_op (range_with_len 0 n)
 -- n operations of one vCPU, whose domain owns frames 0 to 191, and a turn more than there are operations
 abbrev pub generated : ℕ → Trace
 generated n = record {
-    version = 1;
-    layout = generated_machine;
-    clock = 1;
-    owned = record { domain = 0; first = 0; count = 192 } ∷ [];
-    cells = [];
-    scripts = generated_script n ∷ [];
-    turns = record { vcpu = 0; count = n + 1 } ∷ [] }
+  version = 1;
+  layout = generated_machine;
+  clock = 1;
+  owned = record { domain = 0; first = 0; count = 192 } ∷ [];
+  cells = [];
+  scripts = generated_script n ∷ [];
+  turns = record { vcpu = 0; count = n + 1 } ∷ [];
+}
