@@ -9,8 +9,8 @@ ghost use Rattle.vcpu_turn.specs.Turning.{EndsTurn, Idles, TurnBy, IsOf, MakesSt
 ghost use Rattle.vcpu_turn.specs.declared.cpu.TurnEnd.TheVariants.{Answered};
 
 use crate::beginning::begin;
-use crate::cpu::{Cpu, Progress, TurnEnd};
 use crate::calls::go_on_with;
+use crate::cpu::{Cpu, Progress, TurnEnd};
 use flush_words::{end_answer, stop_vcpu};
 use level_release::settle;
 use xp_board::Port;
