@@ -377,6 +377,39 @@ const BY_ADDRESS: [Example; 9] = [
     },
 ];
 
+const MULTICALLS: [Example; 5] = [
+    Example {
+        shows: "Each call is answered in order, the refused one too, and then the multicall itself.",
+        pace: "256",
+        trace: "xen-pv-trace 1\nframes 16\ndomain 16\nvcpu 0\nown 0 0 8\ncell 5 0 512 0x6001\nop 0 multi mmu 0x7ff0 0x1 7 ; ext 0 5 0 ; ext 0 5 0\nturn 0 4\nend\n",
+        lines: "op 1 call 1 ok done 1 value 0x0\nop 1 call 2 ok done 1 value 0x0\nop 1 call 3 refused 6 done 0 AlreadyPinned found=L1,1,pv\nop 1 ok done 3 value 0x0\n",
+    },
+    Example {
+        shows: "A call that pauses is gone on with, and the line of the call before it stands; the next turn does not answer that one again.",
+        pace: "1",
+        trace: "xen-pv-trace 1\nframes 16\ndomain 16\nvcpu 0\nown 0 0 8\ncell 5 0 512 0x6001\nop 0 multi mmu 0x7ff0 0x1 7 ; ext 0 5 0 ; ext 0 5 0\nturn 0 3\nend\n",
+        lines: "op 1 call 1 ok done 1 value 0x0\npending 1\nframe 5 owner 0 refs 2 alloc type L1 count 1 flags hk at 3 m2p -\nframe 6 owner 0 refs 4 alloc type none count 0 flags - at 0 m2p -\n",
+    },
+    Example {
+        shows: "Blocks that a call is given stand in front of its answer; an unknown command, an empty list and bad flags are answers of their calls alone.",
+        pace: "",
+        trace: "xen-pv-trace 1\nframes 16\ndomain 16\nvcpu 0\nown 0 0 8\nop 0 multi mem 0x1 0 7 ; mem 0x6 0 9 ; ext 99 0 0 ; mmu 0x7ff0 ; va 0x1000 0x0 3\nturn 0 1\nend\n",
+        lines: "op 1 call 1 ok done 1 value 0x0\nop 1 call 2 given 0 7\nop 1 call 2 ok done 1 value 0x0\nop 1 call 3 refused 19 done 0 BadCommand\nop 1 call 4 ok done 0 value 0x0\nop 1 call 5 refused 17 done 0 BadRange\nop 1 ok done 5 value 0x0\nframe 7 owner 0 refs 1 alloc type none count 0 flags - at 0 m2p 0x9\n",
+    },
+    Example {
+        shows: "What a refused call leaves unfinished is settled in front of the next one, in the same turn.",
+        pace: "",
+        trace: "xen-pv-trace 1\nframes 16\ndomain 16\nvcpu 0\nown 0 0 8\ncell 5 0 1 0x5003\nop 0 multi ext 0 5 0 ; ext 0 6 0\nturn 0 1\nend\n",
+        lines: "op 1 call 1 refused 3 done 0 OtherType frame=5 want=wr found=L1,1,l\nop 1 call 2 ok done 1 value 0x0\nop 1 ok done 2 value 0x0\nvcpu 0 domain 0 base - user - old - -\nframe 5 owner 0 refs 1 alloc type L1 count 0 flags - at 0 m2p -\nframe 6 owner 0 refs 2 alloc type L1 count 1 flags pv at 0 m2p -\n",
+    },
+    Example {
+        shows: "Settled in several turns, the call behind it waits.",
+        pace: "1",
+        trace: "xen-pv-trace 1\nframes 16\ndomain 16\nvcpu 0\nown 0 0 8\ncell 5 0 512 0x6001\ncell 5 3 1 0x81\nop 0 multi ext 0 5 0 ; mmu 0x7ff0 0x1 7 0x1001 8 ; ext 0 5 0\nturn 0 4\nend\n",
+        lines: "op 1 call 1 refused 4 done 0 Reserved frame=5 index=3 entry=0x81\npending 1\nframe 0 owner 0 refs 1 alloc type none count 0 flags - at 0 m2p -\n",
+    },
+];
+
 // The report of that example.
 fn report(rt: &(impl Abort + AllocGlobal), example: &Example) -> Vec<u8> {
     let words = if example.pace.is_empty() {
@@ -395,11 +428,11 @@ fn report(rt: &(impl Abort + AllocGlobal), example: &Example) -> Vec<u8> {
     text
 }
 
-#[test]
-fn each_example_is_reported_with_what_it_leaves(rt: HostRuntime) {
-    for example in EXAMPLES.iter() {
-        let text = report(&rt, example);
-        let text = str::from_utf8(&text).expect(&rt, "a text");
+// Each of them is reported with what it leaves.
+fn check(rt: &(impl Abort + AllocGlobal), examples: &[Example]) {
+    for example in examples {
+        let text = report(rt, example);
+        let text = str::from_utf8(&text).expect(rt, "a text");
         for wanted in example.lines.lines() {
             assert!(rt;
                 text.lines().any(|line| line == wanted),
@@ -408,49 +441,29 @@ fn each_example_is_reported_with_what_it_leaves(rt: HostRuntime) {
             );
         }
     }
+}
+
+#[test]
+fn each_example_is_reported_with_what_it_leaves(rt: HostRuntime) {
+    check(&rt, &EXAMPLES);
 }
 
 #[test]
 fn each_example_of_extents_is_reported_with_what_it_leaves(rt: HostRuntime) {
-    for example in EXTENTS.iter() {
-        let text = report(&rt, example);
-        let text = str::from_utf8(&text).expect(&rt, "a text");
-        for wanted in example.lines.lines() {
-            assert!(rt;
-                text.lines().any(|line| line == wanted),
-                "{}",
-                example.shows
-            );
-        }
-    }
+    check(&rt, &EXTENTS);
 }
 
 #[test]
 fn each_example_at_a_limit_is_reported_with_what_it_leaves(rt: HostRuntime) {
-    for example in AT_LIMITS.iter() {
-        let text = report(&rt, example);
-        let text = str::from_utf8(&text).expect(&rt, "a text");
-        for wanted in example.lines.lines() {
-            assert!(rt;
-                text.lines().any(|line| line == wanted),
-                "{}",
-                example.shows
-            );
-        }
-    }
+    check(&rt, &AT_LIMITS);
 }
 
 #[test]
 fn each_example_by_address_is_reported_with_what_it_leaves(rt: HostRuntime) {
-    for example in BY_ADDRESS.iter() {
-        let text = report(&rt, example);
-        let text = str::from_utf8(&text).expect(&rt, "a text");
-        for wanted in example.lines.lines() {
-            assert!(rt;
-                text.lines().any(|line| line == wanted),
-                "{}",
-                example.shows
-            );
-        }
-    }
+    check(&rt, &BY_ADDRESS);
+}
+
+#[test]
+fn each_multicall_is_reported_with_what_it_leaves(rt: HostRuntime) {
+    check(&rt, &MULTICALLS);
 }

@@ -39,9 +39,9 @@ pub record TurnLaws : Type 0 where
   pub none : (below : Option ℕ) (v w : PortValue) (answers : List Bool) → IsAlone v → Settles below v w answers (Ok tt) → olds_named (told_word w) v.post.vcpu ≡ 0
   pub same : (below : Option ℕ) (v w : PortValue) (answers : List Bool) → IsAlone v → Settles below v w answers (Ok tt) → olds_named (told_word v) v.post.vcpu ≡ 0 → (q : Place) → told_word w q ≡ told_word v q
   pub forward : (c d : Processing) (op : Op) (v w : PortValue) (answers : List Bool) (p : Pause) → IsAlone v → AreAllAlive v.post.machine (told_word v) → olds_named (told_word v) v.post.vcpu ≡ 0 →
-      IsUnhindered v.post.machine (ends.Paused p) → GoesOnWith c op d v w answers (ends.Paused p) → d.at.done ≡ c.at.done → GoesForward v.post.machine (told_word v) (told_word w)
+      IsUnhindered v.post.machine (ends.Paused p) → GoesOnWith c op d v w answers (ends.Paused p) → d.at.call ≡ c.at.call → d.at.done ≡ c.at.done → GoesForward v.post.machine (told_word v) (told_word w)
   pub further : (c d : Processing) (op : Op) (v w : PortValue) (answers : List Bool) → IsAlone v → AreAllAlive v.post.machine (told_word v) → olds_named (told_word v) v.post.vcpu ≡ 0 →
-      GoesOnWith c op d v w answers (ends.Paused Due) → d.at.done ≡ c.at.done → GetsFurther v.post.machine (told_word v) (told_word w)
+      GoesOnWith c op d v w answers (ends.Paused Due) → d.at.call ≡ c.at.call → d.at.done ≡ c.at.done → GetsFurther v.post.machine (told_word v) (told_word w)
 
 -- of waits for flushes
 pub record ClockLaws : Type 0 where

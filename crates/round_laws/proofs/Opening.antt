@@ -1,5 +1,5 @@
 -- A machine at its opening, and behind so many rounds.
-use Rattle.std.proofs.Common.{◌≡◌, ℕ, ◌<◌, ◌≤◌, inl, inr, All, List, length, map, None, refl, sym, ◌∙◌, subst, slice_index_or, arith}
+use Rattle.std.proofs.Common.{◌≡◌, ℕ, ◌<◌, ◌≤◌, inl, inr, All, List, length, map, None, refl, sym, ◌∙◌, subst, slice_get, slice_index_or, arith}
 use Rattle.std.specs.List.{enumerate_from}
 use Rattle.std.proofs.lemmas.List.{get_or-replicate, length-map, length-replicate}
 use Rattle.std.proofs.lemmas.List.Elements.{All-map}
@@ -19,11 +19,12 @@ use Rattle.trace_text.specs.declared.trace.Trace.{Trace}
 use Rattle.machine_build.specs.Opening.{IsOpening, opening_at}
 use Rattle.shared_board.specs.Board.{opened_story}
 use Rattle.shared_board.proofs.Opened.{start_sound}
-use Rattle.vcpu_turn.specs.Cpus.{Processing, fresh, next_of, pending_of}
+use Rattle.vcpu_turn.specs.Cpus.{Processing, fresh, job_next, next_of, pending_of}
 use Rattle.vcpu_runners.specs.Cpus.{first_cpu, first_cpus}
 use Rattle.vcpu_runners.specs.Gates.{Gate}
 use Rattle.xp_machine.specs.Turns.{IsStagedTurn, Stage, Turns, more, none, stage}
 use Rattle.xp_machine.proofs.Reaching.{empty_idles, first_at}
+use Rattle.turn_measures.proofs.Sizes.{begun_within}
 use Rattle.round_laws.specs.Rounds.{AreAllRetired, IsRound, rounds_to_go, turns_in_rounds}
 use Rattle.round_laws.specs.Stages.{IsSteady, IsSteadyCpu, words_of}
 use Rattle.round_laws.proofs.Waiting.{retired_at}
@@ -46,7 +47,7 @@ unfolding first_cpus
 length_first n scripts = length-map (enumerate_from 0 scripts) (first_cpu n) ∙ length-enumerate_from 0 scripts
 
 fresh_steady : (m : Words) (v domain : ℕ) (script : List Op) → IsSteadyCpu m v (fresh v domain script)
-fresh_steady m v domain script = record { within = omega arith; left = tt; stopped = λ is. absurd cc; ended = λ is. absurd cc }
+fresh_steady m v domain script = record { within = begun_within (job_next (slice_get script 0)); left = tt; stopped = λ is. absurd cc; ended = λ is. absurd cc }
 
 pub steady_opening : (t : Trace) (opened : List ℕ) (gates : List Gate) → IsWellFormed t → SoundWords t.layout opened → IsOpening t opened →
     IsSteady t.layout (stage (opened_story t.layout opened) (first_cpus t.layout t.scripts) gates)

@@ -67,7 +67,7 @@ module _ (laws : TurnLaws) (c : Processing) (b : PortValue) (alone : IsAlone b) 
   module _ (alive : AreAllAlive b.post.machine (told_word b)) where
     -- one that was paused within an element, behind a settling that came to its end
     module _ (u w : PortValue) (early later : List Bool) (settles : Settles c.left b u early (Ok tt)) (d : Processing) (op : Op) (p : Pause) (free : IsUnhindered b.post.machine (ends.Paused p))
-        (does : GoesOnWith (nothing_left c) op d u w later (ends.Paused p)) (same : ahead d ≡ ahead c) (done : d.at.done ≡ c.at.done) where
+        (does : GoesOnWith (nothing_left c) op d u w later (ends.Paused p)) (same : ahead d ≡ ahead c) (call : d.at.call ≡ c.at.call) (done : d.at.done ≡ c.at.done) where
       came : Came b u
       came = settles_came b u early (Ok tt) settles
 
@@ -89,7 +89,7 @@ module _ (laws : TurnLaws) (c : Processing) (b : PortValue) (alone : IsAlone b) 
           (λ k real. serves_leaves b u (of_settle {A = Unit {0}} 0 0 (Ok tt)) _ k refl telling (settles.serves 0 0) ∙ alive k real)
 
       forward : GoesForward u.post.machine (told_word u) (told_word w)
-      forward = laws.forward (nothing_left c) d op u w later p alone_then alive_then none_own (subst (λ (q : Post). IsUnhindered q.machine (ends.Paused p)) (sym post) free) does done
+      forward = laws.forward (nothing_left c) d op u w later p alone_then alive_then none_own (subst (λ (q : Post). IsUnhindered q.machine (ends.Paused p)) (sym post) free) does call done
 
       none_behind : olds_named (told_word w) b.post.vcpu ≡ 0
       none_behind = (λ i. bit_named (forward.olds b.post.vcpu First i) + bit_named (forward.olds b.post.vcpu Second i)) ∙ none_then
@@ -104,7 +104,7 @@ module _ (laws : TurnLaws) (c : Processing) (b : PortValue) (alone : IsAlone b) 
         further : p ≡ Due → GetsFurther b.post.machine (told_word b) (told_word w)
         further due =
             let more : GetsFurther u.post.machine (told_word u) (told_word w) =
-            laws.further (nothing_left c) d op u w later alone_then alive_then none_own (subst (λ y. GoesOnWith (nothing_left c) op d u w later (ends.Paused y)) due does) done in
+            laws.further (nothing_left c) d op u w later alone_then alive_then none_own (subst (λ y. GoesOnWith (nothing_left c) op d u w later (ends.Paused y)) due does) call done in
             record {
               frame = more.frame;
               real = subst (λ (q : Post). more.frame < q.machine.frames) post more.real;
@@ -133,7 +133,7 @@ module _ (laws : TurnLaws) (c : Processing) (b : PortValue) (alone : IsAlone b) 
         let same : w ≡ x = subst (λ e. EndsTurn e x w) is finish in
         subst (λ e. Less b.post.machine b.post.vcpu c d e (told_word b) (told_word w)) (sym is)
         (paused_less u w early later settles d op p (subst (IsUnhindered b.post.machine) is free)
-        (subst (λ y. GoesOnWith (nothing_left c) op d u y later (ends.Paused p)) (sym same) (subst (λ e. GoesOnWith (nothing_left c) op d u x later e) is does)) stays.ahead stays.done)
+        (subst (λ y. GoesOnWith (nothing_left c) op d u y later (ends.Paused p)) (sym same) (subst (λ e. GoesOnWith (nothing_left c) op d u x later e) is does)) stays.ahead stays.call stays.done)
 
     stays_less : (o : Option Op) (d : Processing) (x : PortValue) (answers : List Bool) (end : TurnEnd) → DoesTurn c o b d x answers end → IsUnhindered b.post.machine end → (w : PortValue) → EndsTurn end x w → StaysAt c d end →
         Less b.post.machine b.post.vcpu c d end (told_word b) (told_word w)

@@ -17,7 +17,7 @@ abbrev pub words_of : Machine → Stage → Words
 words_of n s = memory (sizes_of n) s.board.words
 
 -- ---- between turns
--- No more elements of its operation are done than there are; what is left is of a frame that its first old word names; and a vCPU that is retired does not run, and has answered all.
+-- No more elements and calls of its operation are done than there are; what is left is of a frame that its first old word names; and a vCPU that is retired does not run, and has answered all.
 pub record IsSteadyCpu (m : Words) (t : ℕ) (c : Processing) : Type 0 where
   pub within : IsWithin c
   pub left : KeepsLeft m t c.left

@@ -1,9 +1,7 @@
 -- A turn gets ahead, or is paused and stays where it is.
 use Rattle.std.proofs.Common.{◌≡◌, ◌⊎◌, ℕ, ◌+◌, ◌-◌, ◌<◌, ◌≤◌, Bool, true, false, List, length, drop, sum_by, slice_get, Option, Some, None, Result, Ok, Err, IfErr, refl, sym, ap, ◌∙◌, subst, inl, inr, arith}
-use Rattle.std.proofs.lemmas.List.Sums.{sum_by-drop_more}
-use Rattle.std.proofs.lemmas.Option.{get_or_from_slice_get, slice_get_within}
-use Rattle.std.proofs.lemmas.Bool.{cases_eq}
 use Rattle.xp_words.specs.Machine.{Machine}
+use Rattle.xp_words.specs.declared.ops.Call.{Call}
 use Rattle.xp_words.specs.declared.ops.Op.{Op}
 use Rattle.xp_words.specs.declared.reply.LogLine.{LogLine}
 use Rattle.xp_words.specs.declared.reply.Pause.{Pause}
@@ -17,7 +15,9 @@ use Rattle.vcpu_turn.specs.Unhindered.{IsUnhindered}
 use Rattle.vcpu_turn.proofs.Bringing.{begins_later}
 use Rattle.vcpu_turn.proofs.Mapping.{behind_one}
 use Rattle.vcpu_turn.specs.Accesses.{done_by}
-use Rattle.vcpu_turn.specs.Cpus.{OfDescriptors, OfExt, OfMapping, OfMem, OfPairs, OfRead, OfWrite, Processing, Task, after_turn, elements_in, elements_of, end_of, next_of, nothing_left, task_next, task_of}
+use Rattle.vcpu_turn.specs.Calls as calling
+use Rattle.vcpu_turn.specs.Calls.{AnsweredCalls, AnswersCall, WentBy, WorksCalls}
+use Rattle.vcpu_turn.specs.Cpus.{Job, OfCalls, OfDescriptors, OfExt, OfMapping, OfMem, OfOne, OfPairs, OfRead, OfWrite, Processing, Task, after_turn, begun, begun_at, end_of, job_next, job_of, next_of, nothing_left, task_called, task_in}
 use Rattle.vcpu_turn.specs.Extents as extents
 use Rattle.vcpu_turn.specs.Extents.{WorksExtents, extents_in}
 use Rattle.vcpu_turn.specs.Lists as lists
@@ -32,15 +32,13 @@ use Rattle.vcpu_turn.specs.Working.{Works, valued}
 use Rattle.vcpu_turn.specs.declared.cpu.Progress.{Progress}
 use Rattle.vcpu_turn.specs.declared.cpu.TurnEnd.{TurnEnd}
 use Rattle.vcpu_turn.specs.declared.cpu.TurnEnd.TheVariants as ends
-use Rattle.turn_measures.specs.Measures.{IsWithin, StaysAt, ahead, most_done, op_size, to_retire}
+use Rattle.turn_measures.specs.Measures.{IsWithin, IsWithinJob, StaysAt, ahead, most_done, op_size, size_done, to_retire}
+use Rattle.turn_measures.proofs.Sizes.{Between, GetsOn, answered_on, begun_within, done_most, on_self, on_then, paused_on, size_same, sum_next, task_on}
 
 -- ---- how far an operation comes
 did_forth : {fits : Fitting} {count from : ℕ} {v : PortValue} (k : ℕ) (w : PortValue) (answers : List Bool) → DidItems fits count from v k w answers → from ≤ k
 did_forth _ _ _ lists.DidItems.none = omega arith
 did_forth _ _ _ (lists.DidItems.more k u w answers asked before f less) = let at = did_forth k u answers before in omega (arith, at)
-
-abbrev Between : ℕ → ℕ → ℕ → Type 0
-Between from to size = (from ≤ to) × (to ≤ size)
 
 list_forth : {fits : Fitting} {count from : ℕ} {v : PortValue} (to : ℕ) (w : PortValue) (answers : List Bool) (answer : Result (Unit {0}) Stop) → WorksOn fits count from v to w answers answer → Between from to count
 list_forth _ _ _ _ (lists.WorksOn.all_done same) = (omega arith, omega (arith, same))
@@ -49,9 +47,22 @@ list_forth _ _ _ _ (lists.WorksOn.due k u w answers asked before f less) = let o
 list_forth _ _ _ _ (lists.WorksOn.stopped k u w answers asked e before f less) = let on = did_forth k u answers before in (on, omega (arith, less))
 
 -- where it is paused
+abbrev WherePaused : {A : Type 0} → Type 0 → Result A Stop → Type 0
+WherePaused P (Err (Paused p)) = P
+WherePaused P _ = Unit {0}
+
+paused_so : {A P Q : Type 0} (answer : Result A Stop) → (P → Q) → WherePaused P answer → WherePaused Q answer
+paused_so (Ok a) so on = tt
+paused_so (Err (Refused r)) so on = tt
+paused_so (Err (Paused p)) so on = so on
+
+valued_paused : (P : Type 0) (ended : Result (Unit {0}) Stop) (answer : Result ℕ Stop) → answer ≡ valued ended → WherePaused P ended → WherePaused P answer
+valued_paused P (Ok done) answer is on = subst (WherePaused P) (sym is) on
+valued_paused P (Err (Refused r)) answer is on = subst (WherePaused P) (sym is) on
+valued_paused P (Err (Paused p)) answer is on = subst (WherePaused P) (sym is) on
+
 abbrev GoesForth : {A : Type 0} → ℕ → ℕ → ℕ → Result A Stop → Type 0
-GoesForth from to size (Err (Paused p)) = Between from to size
-GoesForth from to size _ = Unit {0}
+GoesForth from to size answer = WherePaused (Between from to size) answer
 
 between_forth : {A : Type 0} (from to size : ℕ) (answer : Result A Stop) → Between from to size → GoesForth from to size answer
 between_forth from to size (Ok a) on = tt
@@ -64,9 +75,7 @@ refused_forth x from to size (Err (Refused r)) is = tt
 refused_forth x from to size (Err (Paused p)) is = absurd (cc)
 
 valued_forth : (from to size : ℕ) (ended : Result (Unit {0}) Stop) (answer : Result ℕ Stop) → answer ≡ valued ended → GoesForth from to size ended → GoesForth from to size answer
-valued_forth from to size (Ok done) answer is on = subst (GoesForth from to size) (sym is) on
-valued_forth from to size (Err (Refused r)) answer is on = subst (GoesForth from to size) (sym is) on
-valued_forth from to size (Err (Paused p)) answer is on = subst (GoesForth from to size) (sym is) on
+valued_forth from to size ended answer is on = valued_paused (Between from to size) ended answer is on
 
 owned_forth : (d foreign : ℕ) (list : List _) (v : PortValue) (from to : ℕ) (w : PortValue) (answers : List Bool) (ended : Result (Unit {0}) Stop) → WorksOwned d foreign list v from to w answers ended → GoesForth from to (length list) ended
 owned_forth d foreign list v from _ _ _ _ (owning.WorksOwned.long to w answers answer above whole) = refused_forth _ from to (length list) answer whole.refused
@@ -142,65 +151,98 @@ works_forth n d (Some (OfWrite user va val)) awaited v from to w answers answer 
     valued_forth from to 1 works.ended answer works.answer_is
     (writes_forth n from to 1 works.ended works.works.kinds (subst (λ (a : Result ℕ Stop). IsUnhindered n (end_of to a)) works.answer_is free))
 
+-- ---- the calls of a multicall
+module _ (n : Machine) (d : ℕ) (calls : List Call) (op : ℕ) where
+  answered_forth : {v : PortValue} {from : Progress} {log : List LogLine} (at : Progress) (w : PortValue) (behind : List LogLine) (answers : List Bool) → IsWithinJob (OfCalls calls) from →
+      AnsweredCalls d calls op v from log at w behind answers → GetsOn (OfCalls calls) from at
+  answered_forth {from = from} _ _ _ _ within calling.AnsweredCalls.none = on_self (OfCalls calls) from within
+  answered_forth {from = from} _ _ _ _ within (calling.AnsweredCalls.more at to u w call before behind answers asked did is next) =
+      let on = answered_forth at u before answers within did in
+      on_then (OfCalls calls) from at to on (call_answered at to u w before behind asked next (answered_on calls call at is on.0))
+    where
+      call_answered : (at to : Progress) (u w : PortValue) (before behind : List LogLine) (asked : List Bool) → AnswersCall d call op u at before to w behind asked (Ok tt) → GetsOn (OfCalls calls) at (begun_at (at.call + 1)) →
+          GetsOn (OfCalls calls) at to
+      call_answered at _ u w before _ _ (calling.AnswersCall.answered to u' x w' log' early asked answer reply s went replies ends) on = on
+
+  -- one that is paused
+  stopped_forth : (call : Call) (v : PortValue) (from to : Progress) (w : PortValue) (log log' : List LogLine) (asked : List Bool) (stop : Stop) → slice_get calls from.call ≡ Some call → IsWithinJob (OfCalls calls) from →
+      AnswersCall d call op v from log to w log' asked (Err stop) → IsUnhindered n (end_of to.done (Err stop)) → WherePaused {A = Unit {0}} (GetsOn (OfCalls calls) from to) (Err stop)
+  stopped_forth call v from _ _ log _ _ _ at within (calling.AnswersCall.unsettled w early (Refused r) s) free = tt
+  stopped_forth call v from _ _ log _ _ _ at within (calling.AnswersCall.unsettled w early (Paused p) s) free = on_self (OfCalls calls) from within
+  stopped_forth call v from _ _ log _ _ _ at within (calling.AnswersCall.paused to u w log' early asked p s went) free =
+      let few = subst (λ o. from.done ≤ most_done (task_called o)) at within.1 in
+      paused_on calls call from at to went.calls within (works_forth n d (task_in call) from.awaited u from.done to.done w asked (Err (Paused p)) went.works few free)
+
+  calls_forth : (v : PortValue) (from to : Progress) (w : PortValue) (log log' : List LogLine) (answers : List Bool) (ended : Result (Unit {0}) Stop) → IsWithinJob (OfCalls calls) from →
+      WorksCalls d calls op v from log to w log' answers ended → IsUnhindered n (end_of to.done (valued ended)) → WherePaused (GetsOn (OfCalls calls) from to) ended
+  calls_forth v from _ _ log _ _ _ within (calling.WorksCalls.long above) free = tt
+  calls_forth v from _ _ log _ _ _ within (calling.WorksCalls.all_answered at w behind answers few did all) free = tt
+  calls_forth v from _ _ log _ _ _ within (calling.WorksCalls.stopped at to u w call before behind answers asked stop few did is stops) free =
+      let on = answered_forth at u before answers within did in
+      paused_so {A = Unit {0}} (Err stop) (on_then (OfCalls calls) from at to on) (stopped_forth call u at to w before behind asked stop is on.0 stops free)
+
+job_forth : (n : Machine) (d : ℕ) (job : Job) (op : ℕ) (v : PortValue) (from to : Progress) (w : PortValue) (log log' : List LogLine) (answers : List Bool) (answer : Result ℕ Stop) → WentBy d job op v from to w log log' answers answer →
+    IsWithinJob job from → IsUnhindered n (end_of to.done answer) → WherePaused (GetsOn job from to) answer
+job_forth n d (OfOne task) op v from to w log log' answers answer went within free =
+    paused_so answer (task_on task from to went.calls) (works_forth n d task from.awaited v from.done to.done w answers answer went.works within free)
+job_forth n d (OfCalls calls) op v from to w log log' answers answer went within free =
+    valued_paused (GetsOn (OfCalls calls) from to) went.ended answer went.answer_is
+    (calls_forth n d calls op v from to w log log' answers went.ended within went.works (subst (λ (a : Result ℕ Stop). IsUnhindered n (end_of to.done a)) went.answer_is free))
+
 -- ---- what is ahead then
-most_few : (o : Option Task) → most_done o ≤ elements_in o
-most_few None = omega arith
-most_few (Some (OfPairs foreign list)) = omega arith
-most_few (Some (OfExt list)) = omega arith
-most_few (Some (OfMem command order items)) = omega arith
-most_few (Some (OfMapping foreign va word flags)) = omega arith
-most_few (Some (OfDescriptors tables)) = omega arith
-most_few (Some (OfRead user va)) = omega arith
-most_few (Some (OfWrite user va val)) = omega arith
-
-next_ahead : (script : List Op) (k : ℕ) (op : Op) → slice_get script k ≡ Some op → sum_by op_size (drop k script) ≡ op_size op + sum_by op_size (drop (k + 1) script)
-next_ahead script k op at =
-    let all = sum_by-drop_more op_size script k op (slice_get_within script k op at) in
-    let one = get_or_from_slice_get script k op op at in
-    all ∙ ap (λ (x : Op). op_size x + sum_by op_size (drop (k + 1) script)) one
-
 abbrev pub Gets : Processing → Processing → TurnEnd → Type 0
 Gets c d end = IsWithin d × ((ahead d < ahead c) ⊎ StaysAt c d end)
 
 module _ (c : Processing) (within : IsWithin c) (runs : c.retired ≡ false) where
   module _ (op : Op) (next : next_of c ≡ Some op) where
-    rest : ℕ
-    rest = sum_by op_size (drop (c.answered + 1) c.script)
+    all : sum_by op_size (drop c.answered c.script) ≡ op_size op + sum_by op_size (drop (c.answered + 1) c.script)
+    all = sum_next op_size c.script c.answered op next
 
-    within_task : c.at.done ≤ most_done (task_of op)
-    within_task = subst (λ (o : Option Op). c.at.done ≤ most_done (task_next o)) next within
+    within_job : IsWithinJob (job_of op) c.at
+    within_job = subst (λ (o : Option Op). IsWithinJob (job_next o) c.at) next within
 
-    within_op : c.at.done ≤ elements_of (Some op)
-    within_op = let most = most_few (task_of op) in let few = within_task in omega (arith, most, few)
+    -- what is done, as it is measured
+    done_is : (at : Progress) → size_done (job_next (next_of c)) at ≡ size_done (job_of op) at
+    done_is at = ap (λ (o : Option Op). size_done (job_next o) at) next
 
-    answered_gets : (ahead (record c { answered = c.answered + 1; at = record c.at { done = 0 } }) < ahead c)
-    answered_gets = let all = next_ahead c.script c.answered op next in let few = within_op in omega (arith, all, few)
+    answered_gets : (ahead (record c { answered = c.answered + 1; at = begun }) < ahead c)
+    answered_gets = let sum = all in let few = done_most (job_of op) c.at within_job in let is = done_is c.at in omega (arith, sum, few, is)
 
-    paused_gets : (to : Progress) (log : List LogLine) (p : Pause) → Between c.at.done to.done (most_done (task_of op)) → Gets c (after_turn (nothing_left c) to log (ends.Paused p)) (ends.Paused p)
-    paused_gets to log p on = (
-      subst (λ (o : Option Op). to.done ≤ most_done (task_next o)) (sym next) on.1,
-      elim (cases_eq to.done c.at.done) [
-        | inl same ↦ inr (record { pause = p; end_is = refl; ahead = ap (λ k. to_retire c.retired + (sum_by op_size (drop c.answered c.script) - k)) same; done = same; answered = refl; goes_on = runs })
-        | inr other ↦ inl (let all = next_ahead c.script c.answered op next in let up = on.0 in let most = on.1 in let few = most_few (task_of op) in omega (arith, all, up, most, few, other))
+    paused_gets : (to : Progress) (log : List LogLine) (p : Pause) → GetsOn (job_of op) c.at to → Gets c (after_turn (nothing_left c) to log (ends.Paused p)) (ends.Paused p)
+    paused_gets to log p (inside, on) = (
+      subst (λ (o : Option Op). IsWithinJob (job_next o) to) (sym next) inside,
+      elim on [
+        | inl up ↦ inl (let sum = all in let few = done_most (job_of op) to inside in let is = done_is c.at in let there = done_is to in omega (arith, sum, few, is, there, up))
+        | inr same ↦
+            inr (record {
+              pause = p;
+              end_is = refl;
+              ahead = ap (λ k. to_retire c.retired + (sum_by op_size (drop c.answered c.script) - k)) (size_same (job_next (next_of c)) c.at to same.0 same.1);
+              done = same.1;
+              call = same.0;
+              answered = refl;
+              goes_on = runs;
+            })
       ],
     )
 
-    after_gets : (to : Progress) (log : List LogLine) (answer : Result ℕ Stop) → GoesForth c.at.done to.done (most_done (task_of op)) answer → Gets c (after_turn (nothing_left c) to log (end_of to.done answer)) (end_of to.done answer)
-    after_gets to log (Ok value) forth = (omega arith, inl answered_gets)
-    after_gets to log (Err (Refused r)) forth = (omega arith, inl answered_gets)
+    after_gets : (to : Progress) (log : List LogLine) (answer : Result ℕ Stop) → WherePaused (GetsOn (job_of op) c.at to) answer → Gets c (after_turn (nothing_left c) to log (end_of to.done answer)) (end_of to.done answer)
+    after_gets to log (Ok value) forth = (begun_within (job_next (slice_get c.script (c.answered + 1))), inl answered_gets)
+    after_gets to log (Err (Refused r)) forth = (begun_within (job_next (slice_get c.script (c.answered + 1))), inl answered_gets)
     after_gets to log (Err (Paused p)) forth = paused_gets to log p forth
 
   retires_gets : (end : TurnEnd) → Gets c (record (nothing_left c) { retired = true }) end
-  retires_gets end = (within, inl (subst (λ r. 0 + (sum_by op_size (drop c.answered c.script) - c.at.done) < to_retire r + (sum_by op_size (drop c.answered c.script) - c.at.done)) (sym runs) (omega arith)))
+  retires_gets end =
+      (within, inl (subst (λ r. 0 + (sum_by op_size (drop c.answered c.script) - size_done (job_next (next_of c)) c.at) < to_retire r + (sum_by op_size (drop c.answered c.script) - size_done (job_next (next_of c)) c.at)) (sym runs) (omega arith)))
 
   unsettled_gets : (left : Option ℕ) (p : Pause) → Gets c (record c { left = left }) (ends.Paused p)
-  unsettled_gets left p = (within, inr (record { pause = p; end_is = refl; ahead = refl; done = refl; answered = refl; goes_on = runs }))
+  unsettled_gets left p = (within, inr (record { pause = p; end_is = refl; ahead = refl; done = refl; call = refl; answered = refl; goes_on = runs }))
 
   going_gets : (n : Machine) (o : Option Op) → next_of c ≡ o → (v : PortValue) (d : Processing) (w : PortValue) (answers : List Bool) (end : TurnEnd) → IsUnhindered n end → DoesTurn c o v d w answers end → Gets c d end
   going_gets n o next v _ _ _ _ free (turning.DoesTurn.unsettled w answers p settles) = unsettled_gets _ p
   going_gets n None next v _ _ _ _ free (turning.DoesTurn.settled u w d early answers end settles retires) = subst (λ (x : Processing). Gets c x end) (sym retires.cpu) (retires_gets end)
   going_gets n (Some op) next v _ _ _ _ free (turning.DoesTurn.settled u w d early answers end settles on) =
-      let forth = works_forth n c.domain (task_of op) c.at.awaited u c.at.done on.to.done w answers on.answer on.went.works (within_task op next) (subst (IsUnhindered n) on.end_is free) in
+      let forth = job_forth n c.domain (job_of op) (c.answered + 1) u c.at on.to w c.log on.log answers on.answer on.went (within_job op next) (subst (IsUnhindered n) on.end_is free) in
       let gets = after_gets op next on.to on.log on.answer forth in
       subst (λ (x : Processing). Gets c x end) (sym (on.cpu ∙ ap (after_turn (nothing_left c) on.to on.log) on.end_is)) (subst (Gets c (after_turn (nothing_left c) on.to on.log (end_of on.to.done on.answer))) (sym on.end_is) gets)
 

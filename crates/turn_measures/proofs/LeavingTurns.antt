@@ -1,5 +1,5 @@
 -- What a turn leaves of the others.
-use Rattle.std.proofs.Common.{◌≡◌, ◌^◌, ℕ, length, Bool, true, false, List, [], Option, Some, None, Result, Ok, Err, is_some, refl, sym, ap, ◌∙◌, subst, inl, inr}
+use Rattle.std.proofs.Common.{◌≡◌, ◌+◌, ◌^◌, ℕ, length, Bool, true, false, List, [], Option, Some, None, Result, Ok, Err, is_some, refl, sym, ap, ◌∙◌, subst, inl, inr}
 use Rattle.std.specs.Prelude.{slice_get}
 use Rattle.xp_words.specs.declared.ops.ExtOp.{ExtOp}
 use Rattle.xp_words.specs.declared.ops.Op.{Op}
@@ -41,7 +41,7 @@ use Rattle.reservations.specs.Extents.{of_extent}
 use Rattle.tlb_walks.specs.Accesses.{ServesWrite}
 use Rattle.tlb_walks.specs.Asking.{of_read, of_write}
 use Rattle.tlb_walks.specs.Dropping.{Acks, Heeds}
-use Rattle.vcpu_turn.specs.Cpus.{OfDescriptors, OfExt, OfMapping, OfMem, OfPairs, OfRead, OfWrite, Processing, Task, next_of, nothing_left, task_of}
+use Rattle.vcpu_turn.specs.Cpus.{OfDescriptors, OfExt, OfMapping, OfMem, OfPairs, OfRead, OfWrite, Processing, Task, job_of, next_of, nothing_left}
 use Rattle.vcpu_turn.specs.Descriptors.{DescriptorFits, DescriptorTask, SetDescriptor, SetGdt, TouchLdt}
 use Rattle.vcpu_turn.specs.Extents as extents
 use Rattle.vcpu_turn.specs.Extents.{ExtentFits, WorksExtents, begins_in, extents_in}
@@ -61,6 +61,7 @@ use Rattle.vcpu_turn.specs.declared.cpu.TurnEnd.TheVariants as ends
 use Rattle.vcpu_turn.proofs.Hindering.{element_destroys, extent_destroys, pair_destroys}
 use Rattle.turn_measures.proofs.Leaving.{Spared, Spares, same_spared, spared_trans, step_leaves}
 use Rattle.turn_measures.proofs.LeavingCalls.{clock_spares, load_spares, moves_up, own_spares, serves_spares}
+use Rattle.turn_measures.proofs.OverCalls.{Pieces, job_over}
 
 -- ---- steps of the own
 pub record Kept (v w : PortValue) : Type 0 where
@@ -232,9 +233,12 @@ works_kept d (Some (OfDescriptors tables)) awaited v from to w answers answer x 
 works_kept d (Some (OfRead user va)) awaited v from to w answers answer x = kept_serves v w (of_read va) (misses v.post.machine answer) refl x.serves
 works_kept d (Some (OfWrite user va val)) awaited v from to w answers answer x = write_kept user va val v w x.ended x.works.serves
 
+pub kept_pieces : Pieces Kept
+kept_pieces = record { self = kept_self; trans = kept_trans; settles = settles_kept; clock = λ v w mark found look. kept_look v w Clock _ mark found look; works = works_kept }
+
 -- ---- the whole turn
 does_kept : (c : Processing) (o : Option Op) (c2 : Processing) (v w : PortValue) (answers : List Bool) (end : TurnEnd) → DoesNext c o c2 v w answers end → Kept v w
-does_kept c (Some op) c2 v w answers end d = works_kept c.domain (task_of op) c.at.awaited v c.at.done d.to.done w answers d.answer d.went.works
+does_kept c (Some op) c2 v w answers end d = job_over kept_pieces c.domain (job_of op) (c.answered + 1) v c.at d.to w c.log d.log answers d.answer d.went
 does_kept c None c2 v w answers end d = kept_same v w d.no_step
 
 goes_kept : (c : Processing) (o : Option Op) (v : PortValue) (c2 : Processing) (w : PortValue) (answers : List Bool) (end : TurnEnd) → DoesTurn c o v c2 w answers end → Kept v w

@@ -1,6 +1,8 @@
 pub mod Leaving
 pub mod LeavingCalls
+pub mod OverCalls
 pub mod LeavingTurns
+pub mod Sizes
 pub mod Ahead
 pub mod Weighing
 pub mod Keeping

@@ -1,9 +1,11 @@
 -- A turn that is paused for a flush ends with a call that stopped for that.
-use Rattle.std.proofs.Common.{◌≡◌, ◌^◌, ℕ, Bool, true, false, List, [], length, Option, Some, None, Result, Ok, Err, IfErr, refl, sym, subst, inl, inr}
+use Rattle.std.proofs.Common.{◌≡◌, ◌+◌, ◌^◌, ℕ, Bool, true, false, List, [], length, Option, Some, None, Result, Ok, Err, IfErr, refl, sym, subst, inl, inr}
 use Rattle.std.specs.Prelude.{slice_get}
+use Rattle.xp_words.specs.declared.ops.Call.{Call}
 use Rattle.xp_words.specs.declared.ops.ExtOp.{ExtOp}
 use Rattle.xp_words.specs.declared.ops.Op.{Op}
 use Rattle.xp_words.specs.declared.ops.Pair.{Pair}
+use Rattle.xp_words.specs.declared.reply.LogLine.{LogLine}
 use Rattle.xp_words.specs.declared.reply.Pause.TheVariants.{Flush}
 use Rattle.xp_words.specs.declared.reply.Refusal.{Refusal}
 use Rattle.xp_words.specs.declared.reply.Stop.{Stop}
@@ -32,7 +34,9 @@ use Rattle.tlb_walks.specs.Asking.{of_read, of_write}
 use Rattle.vcpu_turn.specs.declared.cpu.TurnEnd.{TurnEnd}
 use Rattle.vcpu_turn.specs.declared.cpu.TurnEnd.TheVariants as ends
 use Rattle.vcpu_turn.specs.Lists.{Fitting, IsRefusedWhole, WorksOn, WorksThrough, all_done, last_done, due, stopped}
-use Rattle.vcpu_turn.specs.Cpus.{OfDescriptors, OfExt, OfMapping, OfMem, OfPairs, OfRead, OfWrite, Processing, Task, end_of, next_of, nothing_left, task_of}
+use Rattle.vcpu_turn.specs.Calls as calling
+use Rattle.vcpu_turn.specs.Calls.{AnswersCall, WentBy, WorksCalls}
+use Rattle.vcpu_turn.specs.Cpus.{Job, OfCalls, OfDescriptors, OfExt, OfMapping, OfMem, OfOne, OfPairs, OfRead, OfWrite, Processing, Task, end_of, job_of, next_of, nothing_left, task_in}
 use Rattle.vcpu_turn.specs.Descriptors.{DescriptorFits, DescriptorTask, SetDescriptor, SetGdt, TouchLdt}
 use Rattle.vcpu_turn.specs.Ext.{ExtFits, FitsExt, Performs, awaited_for}
 use Rattle.vcpu_turn.specs.Extents as extending
@@ -45,9 +49,12 @@ use Rattle.vcpu_turn.specs.Settling.{Settles, SettlesFirst, unsettled, performed
 use Rattle.vcpu_turn.specs.Turning as turning
 use Rattle.vcpu_turn.specs.Turning.{DoesNext, DoesTurn, IsTurn}
 use Rattle.vcpu_turn.specs.Working.{Works, valued}
+use Rattle.vcpu_turn.specs.declared.cpu.Progress.{Progress}
 use Rattle.vcpu_turn.proofs.Turns.{begins_came}
 use Rattle.vcpu_turn.proofs.Hindering.{behind_came, did_came, drop_came, word_came, extent_came, exts_came, owners_came, pairs_came, settles_came}
 use Rattle.vcpu_turn.proofs.TurnSteps.{begun_came}
+use Rattle.turn_measures.proofs.LeavingTurns.{kept_pieces}
+use Rattle.turn_measures.proofs.OverCalls.{answered_over}
 
 -- some of the steps from v to w are a call that stopped for that
 pub record StopsWithin (v w : PortValue) (e : Stop) : Type 0 where
@@ -187,6 +194,31 @@ works_paused d (Some (OfDescriptors tables)) awaited v from to w answers answer 
 works_paused d (Some (OfRead user va)) awaited v from to w answers answer works = paused_here v w (of_read va) answer works.stops
 works_paused d (Some (OfWrite user va val)) awaited v from to w answers answer works = valued_paused v w works.ended answer works.answer_is (paused_here v w (of_write v user va) works.ended works.works.stops)
 
+-- ---- the calls of a multicall
+-- a call that is paused has no value
+paused_unvalued : (v w : PortValue) (e : Stop) → PausesWithin {A = ℕ} v w (Err e) → PausesWithin {A = Unit {0}} v w (Err e)
+paused_unvalued v w (Paused (Flush vcpu stamp found)) s = s
+paused_unvalued v w _ s = tt
+
+call_paused : (d : ℕ) (call : Call) (op : ℕ) (v : PortValue) (from to : Progress) (w : PortValue) (log log' : List LogLine) (asked : List Bool) (stop : Stop) → AnswersCall d call op v from log to w log' asked (Err stop) →
+    PausesWithin {A = Unit {0}} v w (Err stop)
+call_paused d call op v from _ _ log _ _ _ (calling.AnswersCall.unsettled w early stop s) = settles_paused v w early (Err stop) s
+call_paused d call op v from _ _ log _ _ _ (calling.AnswersCall.paused to u w log' early asked p s went) =
+    behind {A = Unit {0}} v u w (Err (Paused p)) (settles_came v u early (Ok tt) s)
+    (paused_unvalued u w (Paused p) (works_paused d (task_in call) from.awaited u from.done to.done w asked (Err (Paused p)) went.works))
+
+calls_paused : (d : ℕ) (calls : List Call) (op : ℕ) (v : PortValue) (from to : Progress) (w : PortValue) (log log' : List LogLine) (answers : List Bool) (ended : Result (Unit {0}) Stop) → WorksCalls d calls op v from log to w log' answers ended →
+    PausesWithin v w ended
+calls_paused d calls op v from _ _ log _ _ _ (calling.WorksCalls.long above) = tt
+calls_paused d calls op v from _ _ log _ _ _ (calling.WorksCalls.all_answered at w behind answers few did all) = tt
+calls_paused d calls op v from _ _ log _ _ _ (calling.WorksCalls.stopped at to u w call before after answers asked stop few did is stops) =
+    behind {A = Unit {0}} v u w (Err stop) (answered_over kept_pieces at u before answers did).came (call_paused d call op u at to w before after asked stop stops)
+
+job_paused : (d : ℕ) (job : Job) (op : ℕ) (v : PortValue) (from to : Progress) (w : PortValue) (log log' : List LogLine) (answers : List Bool) (answer : Result ℕ Stop) → WentBy d job op v from to w log log' answers answer →
+    PausesWithin v w answer
+job_paused d (OfOne task) op v from to w log log' answers answer went = works_paused d task from.awaited v from.done to.done w answers answer went.works
+job_paused d (OfCalls calls) op v from to w log log' answers answer went = valued_paused v w went.ended answer went.answer_is (calls_paused d calls op v from to w log log' answers went.ended went.works)
+
 -- ---- a turn
 ended_paused : (v w : PortValue) (to vcpu stamp found : ℕ) (answer : Result ℕ Stop) → ends.Paused (Flush vcpu stamp found) ≡ end_of to answer → PausesWithin v w answer → StopsWithin v w (Paused (Flush vcpu stamp found))
 ended_paused v w to vcpu stamp found (Err (Paused (Flush t s f))) is p = let same : Flush t s f ≡ Flush vcpu stamp found = cc in subst (λ x. StopsWithin v w (Paused x)) same p
@@ -194,7 +226,7 @@ ended_paused v w to vcpu stamp found _ is p = absurd (cc)
 
 next_paused : (c : Processing) (o : Option Op) (c2 : Processing) (v w : PortValue) (answers : List Bool) (vcpu stamp found : ℕ) → DoesNext c o c2 v w answers (ends.Paused (Flush vcpu stamp found)) → StopsWithin v w (Paused (Flush vcpu stamp found))
 next_paused c (Some op) c2 v w answers vcpu stamp found d =
-    ended_paused v w d.to.done vcpu stamp found d.answer d.end_is (works_paused c.domain (task_of op) c.at.awaited v c.at.done d.to.done w answers d.answer d.went.works)
+    ended_paused v w d.to.done vcpu stamp found d.answer d.end_is (job_paused c.domain (job_of op) (c.answered + 1) v c.at d.to w c.log d.log answers d.answer d.went)
 next_paused c None c2 v w answers vcpu stamp found d = let is = d.end_is in absurd (cc)
 
 does_paused : (c : Processing) (o : Option Op) (v : PortValue) (c2 : Processing) (w : PortValue) (answers : List Bool) (end : TurnEnd) (vcpu stamp found : ℕ) → end ≡ ends.Paused (Flush vcpu stamp found) → DoesTurn c o v c2 w answers end →

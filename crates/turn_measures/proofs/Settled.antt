@@ -86,11 +86,18 @@ settled_on stays v w s p =
       none = subst (λ (q : Post). olds_named (told_word w) q.vcpu ≡ 0) (sym (came_post v w p.came)) (olds_still (told_word v) (told_word w) v.post.vcpu p.still s.none);
     }
 
+pub never_unsettled : (v w : PortValue) (answers : List Bool) (stop : Stop) → IsSettled v → Settles None v w answers (Err stop) → ⊥
+never_unsettled v w answers stop s settles = let e = settled_none None v w answers (Err stop) (alone_telling v s.alone) s.none settles.course in cc
+
+pub settles_pass : SettledSame → (v u : PortValue) (answers : List Bool) → IsSettled v → Settles None v u answers (Ok tt) → Passes v u
+settles_pass same v u answers s settles =
+    record { came = settles_came v u answers (Ok tt) settles; still = still_all (told_word v) (told_word u) (same None v u answers s.alone settles s.none) }
+
 module _ (n : Machine) where
   module _ (stays : AloneStays) (same : SettledSame) (P : PortValue → PortValue → List Bool → Result (Unit {0}) Stop → Type 0) (goes : (u w : PortValue) (answers : List Bool) (r : Result (Unit {0}) Stop) → IsCalm u → P u w answers r → ComesBy n r u w) where
     pub first_for : (v w : PortValue) (answers : List Bool) (r : Result (Unit {0}) Stop) → IsSettled v → SettlesFirst P v w answers r → ComesBy n r v w
-    first_for v _ _ _ s (settling.SettlesFirst.unsettled w answers stop settles) = absurd (let e = settled_none None v w answers (Err stop) (alone_telling v s.alone) s.none settles.course in cc)
+    first_for v _ _ _ s (settling.SettlesFirst.unsettled w answers stop settles) = absurd (never_unsettled v w answers stop s settles)
     first_for v _ _ _ s (settling.SettlesFirst.performed u w early answers r settles does) =
-        let p : Passes v u = record { came = settles_came v u early (Ok tt) settles; still = still_all (told_word v) (told_word u) (same None v u early s.alone settles s.none) } in
+        let p = settles_pass same v u early s settles in
         let alone = stays v u s.alone p.came in
         by_passes n r v u w p (goes u w answers r (record { alone = alone; alive = alive_on v u p s.alive }) does)

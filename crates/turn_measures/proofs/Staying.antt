@@ -1,10 +1,12 @@
 -- An operation that is paused before another element of it is done lets no frame fall back; and where its gate pauses it, one is further.
-use Rattle.std.proofs.Common.{◌≡◌, ℕ, ◌≤◌, Bool, true, List, [], length, Option, Some, None, Result, Ok, Err, IfErr, refl, sym, ap, ◌∙◌, subst, inl, inr, arith}
+use Rattle.std.proofs.Common.{◌≡◌, ℕ, ◌+◌, ◌≤◌, Bool, true, List, [], length, Option, Some, None, Result, Ok, Err, IfErr, refl, sym, ap, ◌∙◌, subst, inl, inr, arith}
 use Rattle.std.specs.Prelude.{slice_get}
 use Rattle.xp_words.specs.Machine.{Machine}
+use Rattle.xp_words.specs.declared.ops.Call.{Call}
 use Rattle.xp_words.specs.declared.ops.ExtOp.{ExtOp}
 use Rattle.xp_words.specs.declared.ops.Op.{Op}
 use Rattle.xp_words.specs.declared.ops.Pair.{Pair}
+use Rattle.xp_words.specs.declared.reply.LogLine.{LogLine}
 use Rattle.xp_words.specs.declared.reply.Pause.{Pause}
 use Rattle.xp_words.specs.declared.reply.Pause.TheVariants.{Due, Lost, Busy, Flush, Alive}
 use Rattle.xp_words.specs.declared.reply.Refusal.{Refusal}
@@ -20,7 +22,9 @@ use Rattle.tlb_walks.specs.Asking.{IsGuestReadStop, IsGuestWriteStop}
 use Rattle.course_laws.proofs.Awaiting.{AloneStays, alone_telling}
 use Rattle.vcpu_turn.specs.Unhindered.{IsUnhindered}
 use Rattle.vcpu_turn.proofs.Bringing.{begins_later}
-use Rattle.vcpu_turn.specs.Cpus.{OfDescriptors, OfExt, OfMapping, OfMem, OfPairs, OfRead, OfWrite, Processing, Task, end_of, task_of}
+use Rattle.vcpu_turn.specs.Calls as calling
+use Rattle.vcpu_turn.specs.Calls.{AnswersCall, WentBy, WorksCalls}
+use Rattle.vcpu_turn.specs.Cpus.{Job, OfCalls, OfDescriptors, OfExt, OfMapping, OfMem, OfOne, OfPairs, OfRead, OfWrite, Processing, Task, end_of, job_of, task_in}
 use Rattle.vcpu_turn.specs.Descriptors.{DescriptorFits, DescriptorTask, SetDescriptor, SetGdt, TouchLdt}
 use Rattle.vcpu_turn.specs.Mappings as mappings
 use Rattle.vcpu_turn.specs.Mappings.{MapsWord, UpdatesWord}
@@ -39,10 +43,11 @@ use Rattle.turn_measures.proofs.Calm.{AcquiredForward, AcquiredFurther, ComesTo}
 use Rattle.turn_measures.proofs.Addressing.{word_for}
 use Rattle.turn_measures.proofs.Describing.{DescLaws, descriptor_for, gdt_for, ldt_for}
 use Rattle.turn_measures.proofs.Owners.{owners_pass}
-use Rattle.turn_measures.proofs.Pages.{ComesBy, by_passes}
+use Rattle.turn_measures.proofs.OverCalls.{stopped_first}
+use Rattle.turn_measures.proofs.Pages.{ComesBy, by_passes, for_from}
 use Rattle.turn_measures.proofs.Performing.{performed_for}
 use Rattle.turn_measures.proofs.Reserving.{extent_for}
-use Rattle.turn_measures.proofs.Settled.{IsSettled, SettledSame, first_for, settled_on}
+use Rattle.turn_measures.proofs.Settled.{IsSettled, SettledSame, first_for, never_unsettled, settled_on, settles_pass}
 use Rattle.turn_measures.proofs.Updating.{updated_for}
 
 -- ---- lists of which no item is done
@@ -161,14 +166,37 @@ module _ (n : Machine) where
     works_for d (Some (OfWrite user va val)) awaited v from to w answers r s works is =
         subst (λ x. ComesBy n x v w) (sym works.answer_is) (valued_for v w works.ended (write_for v w works.ended works.works.kinds))
 
+    -- ---- calls: where none was answered, the one that is in progress is paused behind a settling that changed nothing
+    call_for : (d : ℕ) (call : Call) (op : ℕ) (v : PortValue) (from to : Progress) (w : PortValue) (log log' : List LogLine) (answers : List Bool) (stop : Stop) → IsSettled v →
+        AnswersCall d call op v from log to w log' answers (Err stop) → to.done ≡ from.done → ComesBy {A = Unit {0}} n (Err stop) v w
+    call_for d call op v from _ _ log _ _ _ s (calling.AnswersCall.unsettled w early stop settles) is = absurd (never_unsettled v w early stop s settles)
+    call_for d call op v from _ _ log _ _ _ s (calling.AnswersCall.paused to u w log' early asked p settles went) is =
+        let same = settles_pass same v u early s settles in
+        for_from n (Paused p) v u w same
+        (works_for d (task_in call) from.awaited u from.done to.done w asked (Err (Paused p)) (settled_on stays v u s same) went.works is)
+
+    calls_for : (d : ℕ) (calls : List Call) (op : ℕ) (v : PortValue) (from to : Progress) (w : PortValue) (log log' : List LogLine) (answers : List Bool) (r : Result (Unit {0}) Stop) → IsSettled v →
+        WorksCalls d calls op v from log to w log' answers r → to.call ≡ from.call → to.done ≡ from.done → ComesBy n r v w
+    calls_for d calls op v from _ _ log _ _ _ s (calling.WorksCalls.long above) same_call is = tt
+    calls_for d calls op v from _ _ log _ _ _ s (calling.WorksCalls.all_answered at w behind answers few did all) same_call is = tt
+    calls_for d calls op v from _ _ log _ _ _ s (calling.WorksCalls.stopped at to u w call before behind answers asked stop few did at_is stops) same_call is =
+        call_for d call op v from to w log behind asked stop s (stopped_first did stops same_call) is
+
+    job_for : (d : ℕ) (job : Job) (op : ℕ) (v : PortValue) (from to : Progress) (w : PortValue) (log log' : List LogLine) (answers : List Bool) (r : Result ℕ Stop) → IsSettled v →
+        WentBy d job op v from to w log log' answers r → to.call ≡ from.call → to.done ≡ from.done → ComesBy n r v w
+    job_for d (OfOne task) op v from to w log log' answers r s went same_call is = works_for d task from.awaited v from.done to.done w answers r s went.works is
+    job_for d (OfCalls calls) op v from to w log log' answers r s went same_call is =
+        subst (λ x. ComesBy n x v w) (sym went.answer_is) (valued_for v w went.ended (calls_for d calls op v from to w log log' answers went.ended s went.works same_call is))
+
     -- ---- the turn
     ended_for : (v w : PortValue) (p : Pause) (done : ℕ) (r : Result ℕ Stop) → ends.Paused p ≡ end_of done r → IsUnhindered n (ends.Paused p) → ComesBy n r v w → ComesTo p v w
     ended_for v w p done (Ok x) is un c = absurd cc
     ended_for v w p done (Err (Refused x)) is un c = absurd cc
     ended_for v w p done (Err (Paused q)) is un c = let same : q ≡ p = cc in subst (λ y. ComesTo y v w) same (c (subst (λ y. IsUnhindered n (ends.Paused y)) (sym same) un))
 
-    pub turn_comes : (c d : Processing) (op : Op) (v w : PortValue) (answers : List Bool) (p : Pause) → IsSettled v → IsUnhindered n (ends.Paused p) → GoesOnWith c op d v w answers (ends.Paused p) → d.at.done ≡ c.at.done → ComesTo p v w
-    turn_comes c d op v w answers p s un g stays_there =
+    pub turn_comes : (c d : Processing) (op : Op) (v w : PortValue) (answers : List Bool) (p : Pause) → IsSettled v → IsUnhindered n (ends.Paused p) → GoesOnWith c op d v w answers (ends.Paused p) → d.at.call ≡ c.at.call → d.at.done ≡ c.at.done → ComesTo p v w
+    turn_comes c d op v w answers p s un g same_call stays_there =
         let at : d.at ≡ g.to = ap (λ (x : Processing). x.at) g.cpu in
-        let is : g.to.done ≡ c.at.done = sym (ap (λ (x : Progress). x.done) at) ∙ stays_there in
-        ended_for v w p g.to.done g.answer g.end_is un (works_for c.domain (task_of op) c.at.awaited v c.at.done g.to.done w answers g.answer s g.went.works is)
+        ended_for v w p g.to.done g.answer g.end_is un
+        (job_for c.domain (job_of op) (c.answered + 1) v c.at g.to w c.log g.log answers g.answer s g.went
+        (sym (ap (λ (x : Progress). x.call) at) ∙ same_call) (sym (ap (λ (x : Progress). x.done) at) ∙ stays_there))

@@ -1,5 +1,5 @@
 -- What is ahead of a vCPU, what its old words name and what is left of that, and what a turn leaves of the others.
-use Rattle.std.specs.Prelude.{◌≡◌, ◌≢◌, ℕ, ◌+◌, ◌-◌, ◌<◌, ◌≤◌, ◌==◌, if◌then◌else◌, Bool, false, drop, sum_by, Option, Some, None}
+use Rattle.std.specs.Prelude.{◌≡◌, ◌≢◌, ℕ, ◌+◌, ◌-◌, ◌<◌, ◌≤◌, ◌==◌, if◌then◌else◌, Bool, false, drop, length, slice_get, sum_by, Option, Some, None}
 use Rattle.xp_words.specs.Machine.{Machine}
 use Rattle.xp_words.specs.Places.{asked_of}
 use Rattle.xp_words.specs.declared.ops.Op.{Op}
@@ -8,30 +8,48 @@ use Rattle.xp_words.specs.declared.place.Place.TheVariants.{Clock, Life, Vcpu}
 use Rattle.step_maker.specs.Plain.{Words}
 use Rattle.table_words.specs.OldWords.{old_place}
 use Rattle.table_words.specs.declared.old_words.OldWord.TheVariants.{First, Second}
-use Rattle.vcpu_turn.specs.Cpus.{OfDescriptors, Processing, Task, elements_in, elements_of, next_of, task_next}
+use Rattle.xp_words.specs.declared.ops.Call.{Call}
+use Rattle.vcpu_turn.specs.Cpus.{Job, OfCalls, OfDescriptors, OfOne, Processing, Task, elements_in, job_next, job_of, next_of, task_called, task_in}
+use Rattle.vcpu_turn.specs.declared.cpu.Progress.{Progress}
 use Rattle.vcpu_turn.specs.declared.cpu.TurnEnd.{TurnEnd}
 use Rattle.vcpu_turn.specs.declared.cpu.TurnEnd.TheVariants as ends
 
 -- ---- what is ahead
--- an operation that is not answered counts as one, and so does each of its elements
+-- an operation or call that is not answered counts as one, and so does each of its elements
+abbrev pub call_size : Call → ℕ
+call_size call = 1 + elements_in (task_in call)
+
+abbrev pub job_size : Job → ℕ
+job_size (OfOne task) = elements_in task
+job_size (OfCalls calls) = sum_by call_size calls
+
 abbrev pub op_size : Op → ℕ
-op_size op = 1 + elements_of (Some op)
+op_size op = 1 + job_size (job_of op)
+
+-- what of that is done: of a multicall the calls that are answered, and the elements of the one in progress
+abbrev pub size_done : Job → Progress → ℕ
+size_done (OfOne task) at = at.done
+size_done (OfCalls calls) at = sum_by call_size calls - sum_by call_size (drop at.call calls) + at.done
 
 abbrev pub to_retire : Bool → ℕ
 to_retire retired = if retired then 0 else 1
 
--- of those that are not answered, without the elements that are done; and one for a vCPU that is not retired
+-- of those that are not answered, without what is done of the next one; and one for a vCPU that is not retired
 abbrev pub ahead : Processing → ℕ
-ahead c = to_retire c.retired + (sum_by op_size (drop c.answered c.script) - c.at.done)
+ahead c = to_retire c.retired + (sum_by op_size (drop c.answered c.script) - size_done (job_next (next_of c)) c.at)
 
--- how many elements of an operation may be done that is not answered: an operation on descriptor tables is paused before its only one
+-- how many elements of an operation or call may be done that is not answered: an operation on descriptor tables is paused before its only one
 abbrev pub most_done : Option Task → ℕ
 most_done (Some (OfDescriptors tables)) = 0
 most_done o = elements_in o
 
--- no more elements are done than that
+-- no more elements of the call in progress are done than that, and no more calls answered than there are
+abbrev pub IsWithinJob : Job → Progress → Type 0
+IsWithinJob (OfOne task) at = at.done ≤ most_done task
+IsWithinJob (OfCalls calls) at = (at.call ≤ length calls) × (at.done ≤ most_done (task_called (slice_get calls at.call)))
+
 abbrev pub IsWithin : Processing → Type 0
-IsWithin c = c.at.done ≤ most_done (task_next (next_of c))
+IsWithin c = IsWithinJob (job_next (next_of c)) c.at
 
 -- the turn was paused, and no more is done than before
 pub record StaysAt (c d : Processing) (end : TurnEnd) : Type 0 where
@@ -39,6 +57,7 @@ pub record StaysAt (c d : Processing) (end : TurnEnd) : Type 0 where
   pub end_is : end ≡ ends.Paused pause
   pub ahead : ahead d ≡ ahead c
   pub done : d.at.done ≡ c.at.done
+  pub call : d.at.call ≡ c.at.call
   pub answered : d.answered ≡ c.answered
   pub goes_on : d.retired ≡ false
 

@@ -17,13 +17,13 @@ use answer_laws::alone_stays;
 use desc_ranks::a_paused_taking_of_pages_goes_forward;
 use frame_ranks::a_paused_acquisition_goes_forward;
 
-/// Behind a settling that came to its end, while no domain is dying, an operation that is paused before it does another element lets no frame fall back and names none in an
-/// old word. Where its gate pauses it, a frame is further than before.
+/// Behind a settling that came to its end, while no domain is dying, an operation that is paused before another element or call of it is done lets no frame fall back and names none
+/// in an old word. Where its gate pauses it, a frame is further than before.
 pub fn a_turn_paused_within_an_element_goes_forward()
     ensures forward { (c d : Processing) (op : Op) (v w : PortValue) (answers : List Bool) (p : Pause) → IsAlone v → AreAllAlive v.post.machine (told_word v) → olds_named (told_word v) v.post.vcpu ≡ 0 →
-        IsUnhindered v.post.machine (ends.Paused p) → GoesOnWith c op d v w answers (ends.Paused p) → d.at.done ≡ c.at.done → GoesForward v.post.machine (told_word v) (told_word w) }
+        IsUnhindered v.post.machine (ends.Paused p) → GoesOnWith c op d v w answers (ends.Paused p) → d.at.call ≡ c.at.call → d.at.done ≡ c.at.done → GoesForward v.post.machine (told_word v) (told_word w) }
     ensures further { (c d : Processing) (op : Op) (v w : PortValue) (answers : List Bool) → IsAlone v → AreAllAlive v.post.machine (told_word v) → olds_named (told_word v) v.post.vcpu ≡ 0 →
-        GoesOnWith c op d v w answers (ends.Paused Due) → d.at.done ≡ c.at.done → GetsFurther v.post.machine (told_word v) (told_word w) }
+        GoesOnWith c op d v w answers (ends.Paused Due) → d.at.call ≡ c.at.call → d.at.done ≡ c.at.done → GetsFurther v.post.machine (told_word v) (told_word w) }
 {
     alone_stays();
     a_paused_acquisition_goes_forward();

@@ -1,4 +1,4 @@
--- What the work of a turn on an operation brings, whatever it is; of a list, by the laws of its items. A new operation has its case in `brings` and in `releases_none`.
+-- What the work of a turn on an operation of one task brings, whatever it is; of a list, by the laws of its items. A new task has its case in `brings` and in `releases_none`.
 use Rattle.std.proofs.Common.{◌≡◌, ℕ, Bool, true, List, [], ◌∷◌, length, Option, Some, None, Result, Ok, Err, refl, sym, subst, inl, inr, arith, ◌⊎◌, ◌+◌, ◌≤◌, ap, ◌∙◌, All, slice_get}
 use Rattle.std.proofs.lemmas.List.Elements.{All-cons, All-head, All-nil, All-get_or}
 use Rattle.std.proofs.lemmas.Option.{get_or_from_slice_get, slice_get_within}
@@ -25,7 +25,7 @@ use Rattle.vcpu_turn.specs.Ext.{ExtFits, awaited_for, PausesOldBase, PausesUnpin
 use Rattle.vcpu_turn.specs.Pairs.{PairFits, WorksOwned, tried_owned, ExchangesEntry, IsNoWrite}
 use Rattle.vcpu_turn.specs.Turning.{asks_for}
 use Rattle.vcpu_turn.specs.Working.{Works, valued, tried_of, ReleasesNothing, ElementFits, PassesYes}
-use Rattle.vcpu_turn.specs.Asking.{HearsNoWithin, NoUntilDue, asks_within, HearsNo}
+use Rattle.vcpu_turn.specs.Asking.{HearsNoWithin, NoUntilDue, asks_within, HearsNo, OfTask}
 use Rattle.vcpu_turn.specs.Accesses.{done_by}
 use Rattle.vcpu_turn.proofs.Noes.{noes_none, noes_same}
 use Rattle.vcpu_turn.proofs.Operations.{due_valued}
@@ -124,7 +124,7 @@ one_between from to (Err e) is = omega (arith, is)
 valued_asks : (from to within : ℕ) (answers : List Bool) (ended : Result (Unit {0}) Stop) (answer : Result ℕ Stop) → answer ≡ valued ended → length answers ≡ asks_between from to ended + within → length answers ≡ asks_between from to answer + within
 valued_asks from to within answers ended answer is number = let same = between_valued from to ended answer is in omega (arith, number, same)
 
-valued_hears : (answers : List Bool) (ended : Result (Unit {0}) Stop) (answer : Result ℕ Stop) → answer ≡ valued ended → NoUntilDue answers (is_due_answer ended) → NoUntilDue answers (is_due_answer answer)
+pub valued_hears : (answers : List Bool) (ended : Result (Unit {0}) Stop) (answer : Result ℕ Stop) → answer ≡ valued ended → NoUntilDue answers (is_due_answer ended) → NoUntilDue answers (is_due_answer answer)
 valued_hears answers ended answer is noes = subst (λ (b : Bool). NoUntilDue answers b) (sym (ap is_due_answer is ∙ due_valued ended)) noes
 
 module _ {F G : Tried → Type 0} {v : PortValue} {from to : ℕ} {w : PortValue} {answers : List Bool} {answer : Result ℕ Stop} where
@@ -209,10 +209,6 @@ maps_bring d foreign va word flags from awaited {v} {to} {w} {answers} {ended} a
     t = tried 0 v w answers ended
 
 -- ---- of each operation that is built, and of one that is not
-abbrev pub OfTask : (Task → Tried → Type 0) → Option Task → Tried → Type 0
-OfTask P (Some task) = P task
-OfTask P None = λ t. ⊥
-
 pub brings : (d : ℕ) (o : Option Task) (awaited : Option ℕ) (v : PortValue) (from to : ℕ) (w : PortValue) (answers : List Bool) (answer : Result ℕ Stop) → (works : Works d o awaited v from to w answers answer) →
     Brings (OfTask (λ task. ElementFits d task from awaited) o) (OfTask PassesYes o) v (begins_at o from) to w answers answer (asks_for o from to answer) (tried_of d o awaited v from to w answers answer works)
 brings d None awaited v from to w answers answer works = refused answer works (λ spared. spared) (λ none. none)

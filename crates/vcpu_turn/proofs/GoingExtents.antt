@@ -17,13 +17,14 @@ use Rattle.reservations.specs.declared.extents.Extent.TheVariants.{Increase, Dec
 use Rattle.vcpu_turn.specs.Extents.{Block, ExtentFits, ListsExtents, block_at, extent_at, extents_in, gave_did, given_by, given_lines, place_for}
 use Rattle.vcpu_turn.specs.Lists as lists
 use Rattle.vcpu_turn.specs.Lists.{Answering, DidItems, is_due_answer}
+use Rattle.vcpu_turn.specs.declared.cpu.CallNumber.{CallNumber}
 use Rattle.vcpu_turn.proofs.Gating.{is_err}
 use Rattle.vcpu_turn.proofs.Listing.{did_on}
 
 -- ---- lines
-pub lines_both : (op : ℕ) (bs cs : List Block) → given_lines op (bs ++ cs) ≡ given_lines op bs ++ given_lines op cs
-lines_both op [] cs = refl
-lines_both op (b ∷ bs) cs = ap (λ (ls : List LogLine). logged.Given op 0 b.extent b.first ∷ ls) (lines_both op bs cs)
+pub lines_both : (number : CallNumber) (bs cs : List Block) → given_lines number (bs ++ cs) ≡ given_lines number bs ++ given_lines number cs
+lines_both number [] cs = refl
+lines_both number (b ∷ bs) cs = ap (λ (ls : List LogLine). logged.Given number.op number.call b.extent b.first ∷ ls) (lines_both number bs cs)
 
 -- ---- an extent does not pause for the gate
 pub extent_not_due : (x : Extent) (e : Stop) → IsExtentStop x e → is_due_stop e ≡ false
@@ -37,16 +38,16 @@ extent_not_due x (Paused (Flush u stamp found)) kinds = refl
 extent_not_due x (Paused (Alive u found)) kinds = refl
 
 -- ---- those from number `from` to below that one are done: how far the next one is, and what the log got
-pub record Went (d command order : ℕ) (items : List ℕ) (number from within : ℕ) (v : PortValue) (log : List LogLine) (to : ℕ) (u : PortValue) (left : ℕ) (log' : List LogLine) (answers : List Bool) : Type 0 where
+pub record Went (d command order : ℕ) (items : List ℕ) (number : CallNumber) (from within : ℕ) (v : PortValue) (log : List LogLine) (to : ℕ) (u : PortValue) (left : ℕ) (log' : List LogLine) (answers : List Bool) : Type 0 where
   pub did : DidItems (ExtentFits d command order items from within) (extents_in command items) from v to u answers
   pub place : left ≡ place_for from within to
   pub lines : log' ≡ log ++ given_lines number (gave_did did)
 
-pub went_none : (d command order : ℕ) (items : List ℕ) (number from within : ℕ) (v : PortValue) (log : List LogLine) → Went d command order items number from within v log from v within log []
+pub went_none : (d command order : ℕ) (items : List ℕ) (number : CallNumber) (from within : ℕ) (v : PortValue) (log : List LogLine) → Went d command order items number from within v log from v within log []
 went_none d command order items number from within v log = record { did = lists.DidItems.none; place = grind (arith, nat_tests); lines = sym (append-nil log) }
 
 -- none is left as the turn begins
-all_of : {d command order : ℕ} {items : List ℕ} {number from within : ℕ} {v : PortValue} {log : List LogLine} {k : ℕ} {u : PortValue} {left : ℕ} {log' : List LogLine} {early : List Bool} →
+all_of : {d command order : ℕ} {items : List ℕ} {number : CallNumber} {from within : ℕ} {v : PortValue} {log : List LogLine} {k : ℕ} {u : PortValue} {left : ℕ} {log' : List LogLine} {early : List Bool} →
     (did : DidItems (ExtentFits d command order items from within) (extents_in command items) from v k u early) → k ≡ extents_in command items → left ≡ place_for from within k → log' ≡ log ++ given_lines number (gave_did did) →
     ListsExtents d command order items number from within v k left u log log' early (Ok tt)
 all_of {from = from} {within = within} lists.DidItems.none at place lines = record { works = lists.WorksOn.all_done at; place = place ∙ first from within; lines = lines }
@@ -55,7 +56,7 @@ all_of {from = from} {within = within} lists.DidItems.none at place lines = reco
     first n m = grind (arith, nat_tests)
 all_of (lists.DidItems.more k u w answers asked did f less) at place lines = absurd (omega (arith, less, at))
 
-module _ {d command order : ℕ} {items : List ℕ} {number from within : ℕ} {v : PortValue} {log : List LogLine} {k : ℕ} {u : PortValue} {left : ℕ} {log' : List LogLine} {early : List Bool}
+module _ {d command order : ℕ} {items : List ℕ} {number : CallNumber} {from within : ℕ} {v : PortValue} {log : List LogLine} {k : ℕ} {u : PortValue} {left : ℕ} {log' : List LogLine} {early : List Bool}
     (went : Went d command order items number from within v log k u left log' early) where
   -- the next one
   abbrev fit : (x : Extent) → extent_at command items k ≡ Some x → (given : Option ℕ) (to : ℕ) (w : PortValue) (answer : Result (Unit {0}) Stop) → Reserves d (2 ^ order) x left u to w (given_by given answer) →
@@ -96,7 +97,7 @@ module _ {d command order : ℕ} {items : List ℕ} {number from within : ℕ} {
         record { did = lists.DidItems.more k u w early [] went.did (fit x is given to w (Ok tt) reserves) less; place = grind (arith, nat_tests); lines = lines_on }
 
 -- ---- and what the gate was asked
-module _ {d command order : ℕ} {items : List ℕ} {number from within : ℕ} {v : PortValue} {log : List LogLine} {k : ℕ} {u : PortValue} {left : ℕ} {log' : List LogLine} {early : List Bool}
+module _ {d command order : ℕ} {items : List ℕ} {number : CallNumber} {from within : ℕ} {v : PortValue} {log : List LogLine} {k : ℕ} {u : PortValue} {left : ℕ} {log' : List LogLine} {early : List Bool}
     (went : Went d command order items number from within v log k u left log' early) (says : ℕ → Bool) (before after yes_before yes_after : ℕ) (first : Consulted says before after yes_before yes_after early) where
   -- there was none left
   pub answers_all : k ≡ extents_in command items → Answering (λ answers. ListsExtents d command order items number from within v k left u log log' answers (Ok tt)) says before after yes_before yes_after false

@@ -1,15 +1,16 @@
 -- The next operation of a vCPU.
-use Rattle.std.proofs.Common.{◌≡◌, ℕ, ◌+◌, ◌<◌, ◌≤◌, Bool, false, List, [], length, get_or, slice_get, Option, Some, None, Result, refl, sym, ap, ◌∙◌, arith, inl, inr, subst}
-use Rattle.std.proofs.lemmas.List.Sums.{sum_by-drop_more}
+use Rattle.std.proofs.Common.{◌≡◌, ℕ, ◌+◌, ◌<◌, ◌≤◌, min, if◌then◌else◌, Bool, true, false, List, [], drop, length, sum_by, get_or, slice_get, Option, Some, None, Result, refl, sym, ap, ◌∙◌, arith, inl, inr, subst}
+use Rattle.std.proofs.lemmas.List.Sums.{sum_by-drop_more, sum_by-take-drop}
 use Rattle.std.proofs.lemmas.Option.{get_or_from_slice_get, slice_get-get_or, slice_get_cases, slice_get_past, slice_get_within}
+use Rattle.xp_words.specs.declared.ops.Call.{Call}
 use Rattle.xp_words.specs.declared.ops.Op.{Op}
 use Rattle.xp_words.specs.declared.reply.LogLine.{LogLine}
 use Rattle.xp_words.specs.declared.reply.Stop.{Stop}
 use Rattle.xp_board.specs.Told.{PortValue}
-use Rattle.vcpu_turn.specs.Cpus.{Processing, lines_ahead, lines_made, lines_of, next_of, room_of, task_next, task_of}
+use Rattle.vcpu_turn.specs.Calls.{WentBy}
+use Rattle.vcpu_turn.specs.Cpus.{IsFew, IsFewIn, IsFewOf, Job, OfCalls, OfOne, Processing, begun, is_long, job_next, job_of, lines_ahead, lines_made, lines_of, lines_of_call, made_by, made_next, made_within, next_of, room_from, room_of, task_called, task_in}
 use Rattle.vcpu_turn.specs.Lists.{Answering, is_due_answer}
 use Rattle.vcpu_turn.specs.Turning.{OperationWentOn, NextWentOn}
-use Rattle.vcpu_turn.specs.Working.{WentOn}
 use Rattle.vcpu_turn.specs.declared.cpu.Progress.{Progress}
 use Rattle.vcpu_turn.proofs.Gating.{answers_as, answers_nothing}
 
@@ -41,12 +42,12 @@ module _ (c seen : Processing) (is : seen ≡ c) (v : PortValue) (says : ℕ →
       (answers_nothing says before yes_before false (λ answers. NextWentOn None c c v v answers None) refl (refl, refl, refl))
 
   pub goes_on : (op : Op) → next_of seen ≡ Some op → (to : Progress) (log : List LogLine) (w : PortValue) (after yes_after : ℕ) (answer : Result ℕ Stop) →
-      Answering (λ answers. WentOn seen.domain (task_of op) (seen.answered + 1) v seen.at to w seen.log log answers answer) says before after yes_before yes_after (is_due_answer answer) →
+      Answering (λ answers. WentBy seen.domain (job_of op) (seen.answered + 1) v seen.at to w seen.log log answers answer) says before after yes_before yes_after (is_due_answer answer) →
       Answering (λ answers. NextWentOn (next_of c) c (record seen { at = to; log = log }) v w answers (Some answer)) says before after yes_before yes_after (is_due_answer answer)
   goes_on op next to log w after yes_after answer went =
       subst (λ (x : Processing). Answering (λ answers. NextWentOn (next_of x) x (record seen { at = to; log = log }) v w answers (Some answer)) says before after yes_before yes_after (is_due_answer answer)) is
       (subst (λ p. Answering (λ answers. NextWentOn p seen (record seen { at = to; log = log }) v w answers (Some answer)) says before after yes_before yes_after (is_due_answer answer)) (sym next)
-      (answers_as (λ answers. WentOn seen.domain (task_of op) (seen.answered + 1) v seen.at to w seen.log log answers answer) (λ answers. NextWentOn (Some op) seen (record seen { at = to; log = log }) v w answers (Some answer)) says before after yes_before yes_after (is_due_answer answer)
+      (answers_as (λ answers. WentBy seen.domain (job_of op) (seen.answered + 1) v seen.at to w seen.log log answers answer) (λ answers. NextWentOn (Some op) seen (record seen { at = to; log = log }) v w answers (Some answer)) says before after yes_before yes_after (is_due_answer answer)
       (λ answers on. record { went = on; cpu = refl }) went))
 
 -- it is not answered yet
@@ -60,28 +61,66 @@ pub more_seen : (seen c : Processing) → seen ≡ c → (left : Option ℕ) (v 
 more_seen seen c is left v w c' answers answer worked = more_left v w (record seen { left = left }) c' answers answer worked
 
 -- ---- the room of the log
+made_few : (done most : ℕ) → min done most ≤ most
+made_few done most = grind arith
+
 pub ahead_more : (script : List Op) (answered : ℕ) (op : Op) → slice_get script answered ≡ Some op → lines_ahead script answered ≡ lines_of op + lines_ahead script (answered + 1)
 ahead_more script answered op at =
     let all = sum_by-drop_more lines_of script answered op (slice_get_within script answered op at) in
     all ∙ ap (λ (x : Op). lines_of x + lines_ahead script (answered + 1)) (get_or_from_slice_get script answered op op at)
 
-module _ (script : List Op) (answered len capacity done : ℕ) (room : len + lines_ahead script answered ≤ capacity + lines_made (task_next (slice_get script answered)) done) where
-  module _ (op : Op) (next : slice_get script answered ≡ Some op) where
-    room_of_op : len + lines_ahead script answered ≤ capacity + lines_made (task_of op) done
-    room_of_op = subst (λ (o : Option Op). len + lines_ahead script answered ≤ capacity + lines_made (task_next o) done) next room
+pub calls_more : (calls : List Call) (answered : ℕ) (call : Call) → slice_get calls answered ≡ Some call → sum_by lines_of_call (drop answered calls) ≡ lines_of_call call + sum_by lines_of_call (drop (answered + 1) calls)
+calls_more calls answered call at =
+    let all = sum_by-drop_more lines_of_call calls answered call (slice_get_within calls answered call at) in
+    all ∙ ap (λ (x : Call). lines_of_call x + sum_by lines_of_call (drop (answered + 1) calls)) (get_or_from_slice_get calls answered call call at)
 
-    pub room_next : len + room_of (task_of op) ≤ capacity + lines_made (task_of op) done
-    room_next = let lines = ahead_more script answered op next in let at = room_of_op in omega (arith, lines, at)
+-- what an operation may still log grows less with each call that is answered
+room_less : (job : Job) (answered : ℕ) → room_from job answered ≤ room_from job 0
+room_less (OfOne task) answered = omega arith
+room_less (OfCalls calls) answered = by (is_long calls)
+  where
+    by : (long : Bool) → (if long then 0 else sum_by lines_of_call (drop answered calls)) ≤ (if long then 0 else sum_by lines_of_call (drop 0 calls))
+    by true = omega arith
+    by false = let all = sum_by-take-drop lines_of_call calls answered in omega (arith, all)
+
+-- and the call in progress has made no more lines than it may
+made_less : (job : Job) (at : Progress) → made_within job at ≤ room_from job at.call
+made_less (OfOne task) at = made_few at.done (room_of task)
+made_less (OfCalls calls) at = by (is_long calls)
+  where
+    called : (o : Option Call) → slice_get calls at.call ≡ o → lines_made (task_called o) at.done ≤ sum_by lines_of_call (drop at.call calls)
+    called None is = omega arith
+    called (Some call) is = let all = calls_more calls at.call call is in let few = made_few at.done (room_of (task_in call)) in omega (arith, all, few)
+
+    by : (long : Bool) → (if long then 0 else lines_made (task_called (slice_get calls at.call)) at.done) ≤ (if long then 0 else sum_by lines_of_call (drop at.call calls))
+    by true = omega arith
+    by false = called (slice_get calls at.call) refl
+
+module _ (script : List Op) (answered len capacity : ℕ) (at : Progress) (room : len + lines_ahead script answered ≤ capacity + made_next (slice_get script answered) at) where
+  module _ (op : Op) (next : slice_get script answered ≡ Some op) where
+    room_of_op : len + lines_ahead script answered ≤ capacity + made_by (job_of op) at
+    room_of_op = subst (λ (o : Option Op). len + lines_ahead script answered ≤ capacity + made_next o at) next room
+
+    pub room_next : len + room_from (job_of op) at.call ≤ capacity + made_within (job_of op) at
+    room_next = let lines = ahead_more script answered op next in let from = room_of_op in let less = room_less (job_of op) at.call in omega (arith, lines, from, less)
 
     -- it went on
-    pub room_kept : (len' capacity' done' : ℕ) → capacity' ≡ capacity → len' + lines_made (task_of op) done ≤ len + lines_made (task_of op) done' →
-        len' + lines_ahead script answered ≤ capacity' + lines_made (task_next (slice_get script answered)) done'
-    room_kept len' capacity' done' same more =
-        let at = room_of_op in
-        subst (λ (o : Option Op). len' + lines_ahead script answered ≤ capacity' + lines_made (task_next o) done') (sym next) (omega (arith, at, same, more))
+    pub room_kept : (len' capacity' : ℕ) (to : Progress) → capacity' ≡ capacity → len' + room_from (job_of op) to.call + made_within (job_of op) at ≤ len + room_from (job_of op) at.call + made_within (job_of op) to →
+        len' + lines_ahead script answered ≤ capacity' + made_next (slice_get script answered) to
+    room_kept len' capacity' to same more =
+        let lines = ahead_more script answered op next in
+        let from = room_of_op in
+        let less = room_less (job_of op) at.call in
+        let less' = room_less (job_of op) to.call in
+        subst (λ (o : Option Op). len' + lines_ahead script answered ≤ capacity' + made_next o to) (sym next) (omega (arith, lines, from, less, less', same, more))
 
     room_op_answered : len + 1 + lines_ahead script (answered + 1) ≤ capacity
-    room_op_answered = let lines = ahead_more script answered op next in let at = room_of_op in omega (arith, lines, at)
+    room_op_answered =
+        let lines = ahead_more script answered op next in
+        let from = room_of_op in
+        let less = room_less (job_of op) at.call in
+        let few = made_less (job_of op) at in
+        omega (arith, lines, from, less, few)
 
   -- there is room for the line of its answer
   pub room_answered : answered < length script → len + 1 + lines_ahead script (answered + 1) ≤ capacity
@@ -89,3 +128,33 @@ module _ (script : List Op) (answered len capacity done : ℕ) (room : len + lin
     | inl (op, less, next, at) ↦ room_op_answered op next
     | inr (past, next) ↦ absurd (omega (arith, more, past))
   ]
+
+-- an operation that begins has made none
+made_none : (n : ℕ) → min 0 n ≡ 0
+made_none n = grind arith
+
+pub made_begun : (o : Option Op) → made_next o begun ≡ 0
+made_begun o = by (job_next o)
+  where
+    within : (job : Job) → made_within job begun ≡ 0
+    within (OfOne task) = made_none (room_of task)
+    within (OfCalls calls) = long (is_long calls)
+      where
+        long : (b : Bool) → (if b then 0 else lines_made (task_called (slice_get calls 0)) 0) ≡ 0
+        long true = refl
+        long false = made_none (room_of (task_called (slice_get calls 0)))
+
+    by : (job : Job) → made_by job begun ≡ 0
+    by job = let w = within job in omega (arith, w)
+
+pub few_begun : (o : Option Op) → IsFew o begun
+few_begun None = omega arith
+few_begun (Some op) = by (job_of op)
+  where
+    called : (o : Option Call) → IsFewOf o 0
+    called None = tt
+    called (Some call) = omega arith
+
+    by : (job : Job) → IsFewIn job begun
+    by (OfOne task) = omega arith
+    by (OfCalls calls) = (omega arith, called (slice_get calls 0))

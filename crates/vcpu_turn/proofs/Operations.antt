@@ -17,6 +17,7 @@ use Rattle.vcpu_turn.specs.Extents.{Block, given_lines}
 use Rattle.vcpu_turn.specs.Pairs.{FindsOwners, PairFits, WorksOwned, long, none, unowned, owned}
 use Rattle.vcpu_turn.specs.Working.{GoesExtents, IsPlaced, Valued, WentOn, Works, gave_of, valued}
 use Rattle.vcpu_turn.specs.declared.cpu.Progress.{Progress}
+use Rattle.vcpu_turn.specs.declared.cpu.CallNumber.{CallNumber}
 use Rattle.vcpu_turn.proofs.Gating.{answers_as, answers_nothing}
 use Rattle.vcpu_turn.proofs.Listing.{works_within}
 
@@ -121,7 +122,7 @@ module _ (d : ℕ) (awaited : Option ℕ) (v : PortValue) (from to : ℕ) (w : P
   gave_plain (Some (OfRead user va)) plain works = refl
   gave_plain (Some (OfWrite user va val)) plain works = refl
 
-module _ (d number : ℕ) (v : PortValue) (from : Progress) (log : List LogLine) (o : Option Task) (says : ℕ → Bool) where
+module _ (d : ℕ) (number : CallNumber) (v : PortValue) (from : Progress) (log : List LogLine) (o : Option Task) (says : ℕ → Bool) where
   went_plain : (p : Option Task) → IsPlain p → (to : ℕ) (w : PortValue) (answers : List Bool) (answer : Result ℕ Stop) → Works d p from.awaited v from.done to w answers answer →
       WentOn d p number v from (left_waiting p (record from { done = to }) answer) w log log answers answer
   went_plain p plain to w answers answer works =

@@ -11,6 +11,7 @@ use Rattle.xp_words.specs.declared.ops.Op.{Op}
 use Rattle.xp_words.specs.declared.ops.Pair.{Pair}
 use Rattle.xp_words.specs.declared.place.Place.{Place}
 use Rattle.xp_words.specs.declared.place.Place.TheVariants.{Clock, Pages, Life, Vcpu, Refs, Kind, M2p, Cell, Map, Priv}
+use Rattle.xp_words.specs.declared.reply.LogLine.{LogLine}
 use Rattle.xp_words.specs.declared.reply.Stop.{Stop}
 use Rattle.xp_board.specs.declared.step.Act.TheVariants.{Load}
 use Rattle.xp_board.specs.declared.step.StepKind.TheVariants as kinds
@@ -40,18 +41,21 @@ use Rattle.mmu_update.specs.declared.element.Element.{Element}
 use Rattle.mmu_update.specs.declared.element.Element.TheVariants.{SetM2p, Write, Misaligned, Unknown}
 use Rattle.vcpu_turn.proofs.Between.{not_both}
 use Rattle.vcpu_turn.specs.Asking.{AsksNothingWithin, asks_within, elements_tried, tried_going}
+use Rattle.vcpu_turn.specs.Calls.{WentBy, tried_by}
 use Rattle.vcpu_turn.specs.Lists.{Tried, did_in, tried, tried_in, DidItems, WorksOn}
 use Rattle.vcpu_turn.specs.Pairs.{ExchangesEntry, IsLast, MovesATable, MovesNoTable, MovesTable, tried_owned, FindsOwners, FitsPair, PairFits, WorksOwned}
 use Rattle.vcpu_turn.specs.Working.{tried_of, Works}
-use Rattle.vcpu_turn.specs.Cpus.{OfPairs, Task, Processing, begins_at, next_of, task_next, task_of}
+use Rattle.vcpu_turn.specs.Cpus.{Job, OfCalls, OfOne, OfPairs, Processing, Task, job_next, job_of, next_of, task_of}
 use Rattle.vcpu_turn.specs.Lists as lists
 use Rattle.vcpu_turn.specs.Turning as turning
 use Rattle.vcpu_turn.specs.Turning.{Begins, CountsAsks, DoesTurn, GoesNoFurther, IsTurn}
 use Rattle.vcpu_turn.specs.Settling as settling
 use Rattle.vcpu_turn.specs.Pairs as owning
 use Rattle.vcpu_turn.specs.Settling.{Settles}
+use Rattle.vcpu_turn.specs.declared.cpu.Progress.{Progress}
 use Rattle.vcpu_turn.specs.declared.cpu.TurnEnd.{TurnEnd}
 use Rattle.vcpu_turn.proofs.Asking.{turn_asks, turn_within}
+use Rattle.vcpu_turn.proofs.CallsBringing.{one_of, one_same}
 use Rattle.vcpu_turn.proofs.Clearing.{Apart, Known, drops, elsewhere, gets, keeps_does, keeps_moves, known_left, maps, puts}
 use Rattle.vcpu_turn.proofs.Silent.{IsClear, clear_on, settled_clear, settled_silent}
 use Rattle.vcpu_turn.proofs.Sparing.{clear_does, counts_type, one, two}
@@ -279,8 +283,8 @@ begun_runs v w b =
     let post : b.acked.post ≡ v.post = sym (ap (λ (y : PortValue). y.post) b.running.to) ∙ came_post v w (begins_came v w b) in
     known_left b.acked w _ Load kinds.Look None 0 b.running 6 (ap (λ (q : Post). Vcpu q.vcpu 6) (sym post)) refl
 
-task_same : (task : Task) (other op : Op) → Some other ≡ Some op → task_of op ≡ Some task → task_of other ≡ Some task
-task_same task other op is built = ap task_next is ∙ built
+job_same : (task : Task) (other op : Op) → Some other ≡ Some op → task_of op ≡ Some task → job_of other ≡ OfOne (Some task)
+job_same task other op is built = ap job_next is ∙ one_of op task built
 
 module _ (foreign : ℕ) (pairs : List Pair) where
   owned_silent : {d named : ℕ} (list : List Pair) {from : ℕ} (v : PortValue) → IsClear v → {to : ℕ} {w : PortValue} {answers : List Bool} {answer : Result (Unit {0}) Stop} → (works : WorksOwned d named list v from to w answers answer) →
@@ -295,12 +299,17 @@ module _ (foreign : ℕ) (pairs : List Pair) where
   operation_silent d l awaited is v clear from to w answers answer =
       subst (λ (o : Option Task). (works : Works d o awaited v from to w answers answer) → SilentAll pairs (tried_of d o awaited v from to w answers answer works)) (sym is) (λ works. owned_silent pairs v clear works.works)
 
+  job_silent : (d op : ℕ) (job : Job) → job ≡ OfOne (Some (OfPairs foreign pairs)) → (v : PortValue) → IsClear v → (from to : Progress) (w : PortValue) (log log' : List LogLine) (answers : List Bool) (answer : Result ℕ Stop) →
+      (went : WentBy d job op v from to w log log' answers answer) → SilentAll pairs (tried_by d job op v from to w log log' answers answer went)
+  job_silent d op (OfOne o) is v clear from to w log log' answers answer went = operation_silent d o from.awaited (one_same o (Some (OfPairs foreign pairs)) is) v clear from.done to.done w answers answer went.works
+  job_silent d op (OfCalls calls) is v clear from to w log log' answers answer went = absurd (cc)
+
   going_silent : (c : Processing) (o : Option Op) (op : Op) → o ≡ Some op → task_of op ≡ Some (OfPairs foreign pairs) → (v : PortValue) → Known 6 v → (c2 : Processing) (w : PortValue) (answers : List Bool) (end : TurnEnd) → (does : DoesTurn c o v c2 w answers end) →
       SilentAll pairs (tried_going does)
   going_silent c None op is built v runs c2 w answers end does = absurd (cc)
   going_silent c (Some other) op is built v runs _ _ _ _ (turning.DoesTurn.unsettled w answers p settles) = inl (All-nil (λ (t : Tried). t.asked ≡ []))
   going_silent c (Some other) op is built v runs _ _ _ _ (turning.DoesTurn.settled u w c2 early answers end settles on) =
-      operation_silent c.domain (task_of other) c.at.awaited (task_same (OfPairs foreign pairs) other op is built) u (settled_clear v u early (Ok tt) refl runs settles.course) c.at.done on.to.done w answers on.answer on.went.works
+      job_silent c.domain (c.answered + 1) (job_of other) (job_same (OfPairs foreign pairs) other op is built) u (settled_clear v u early (Ok tt) refl runs settles.course) c.at on.to w c.log on.log answers on.answer on.went
 
   pub turn_silent : (c d : Processing) (op : Op) (end : TurnEnd) (v w : PortValue) (answers : List Bool) → next_of c ≡ Some op → task_of op ≡ Some (OfPairs foreign pairs) → (turn : IsTurn c d end v w answers) →
       SilentAll pairs (elements_tried turn)
@@ -339,12 +348,11 @@ module _ (c d : Processing) (op : Op) (foreign : ℕ) (pairs : List Pair) (end :
   pub silent_counts : CountsAsks c.left (Some (OfPairs foreign pairs)) c.at.done end answers 0
   silent_counts =
       subst (λ (n : ℕ). CountsAsks c.left (Some (OfPairs foreign pairs)) c.at.done end answers n) asks_none
-      (subst (λ (o : Option Task). CountsAsks c.left o c.at.done end answers (asks_within (elements_tried turn))) built (turn_asks c d op end v w answers next turn))
+      (turn_asks c d op (Some (OfPairs foreign pairs)) end v w answers next (one_of op (OfPairs foreign pairs) built) turn)
 
   pub silent_within : (before : ℕ) (says : ℕ → Bool) → GivesAnswers says before answers → (j : ℕ) → 0 < j → before + j < last_ask → says (before + j) ≡ true → GoesNoFurther c d end (c.at.done + j)
   silent_within before says gives j some less is_yes =
       let none = asks_none in
       let same : c.at.done + (j - asks_within (elements_tried turn)) ≡ c.at.done + j = omega (arith, none) in
       subst (λ (n : ℕ). GoesNoFurther c d end n) same
-      (subst (λ (o : Option Task). GoesNoFurther c d end (begins_at o c.at.done + (j - asks_within (elements_tried turn)))) built
-      (turn_within c d op end v w before answers says next turn (hears_nothing (elements_tried turn) quiet) gives j some less is_yes))
+      (turn_within c d op (Some (OfPairs foreign pairs)) end v w before answers says next (one_of op (OfPairs foreign pairs) built) turn (hears_nothing (elements_tried turn) quiet) gives j some less is_yes)

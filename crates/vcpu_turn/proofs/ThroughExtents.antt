@@ -10,9 +10,10 @@ use Rattle.vcpu_turn.specs.Extents.{ListsExtents, begins_in, extents_in, mem_ref
 use Rattle.vcpu_turn.specs.Lists.{Answering, is_due_answer}
 use Rattle.vcpu_turn.specs.Working.{GoesExtents}
 use Rattle.vcpu_turn.specs.declared.cpu.Progress.{Progress}
+use Rattle.vcpu_turn.specs.declared.cpu.CallNumber.{CallNumber}
 use Rattle.vcpu_turn.proofs.Gating.{answers_as, answers_nothing}
 
-module _ (d command order : ℕ) (items : List ℕ) (number : ℕ) (v : PortValue) (from : Progress) (log : List LogLine) (says : ℕ → Bool) (before yes_before : ℕ) where
+module _ (d command order : ℕ) (items : List ℕ) (number : CallNumber) (v : PortValue) (from : Progress) (log : List LogLine) (says : ℕ → Bool) (before yes_before : ℕ) where
   pub goes_refused : (x : Refusal) → mem_refusal command order items ≡ Some x →
       Answering (λ answers. GoesExtents d command order items number v from (record from { done = 0 }) v log log answers (Err (Refused x))) says before before yes_before yes_before false
   goes_refused x why =

@@ -1,5 +1,5 @@
 -- A turn as steps of its port, and what pauses it where no other vCPU holds anything.
-use Rattle.std.proofs.Common.{ℕ, ◌<◌, Bool, List, length, Option, Some, None, Result, Ok, Err, sym, subst}
+use Rattle.std.proofs.Common.{ℕ, ◌+◌, ◌<◌, Bool, List, length, Option, Some, None, Result, Ok, Err, sym, subst}
 use Rattle.xp_words.specs.declared.ops.Op.{Op}
 use Rattle.xp_words.specs.declared.reply.Stop.{Stop}
 use Rattle.xp_words.specs.declared.reply.Stop.TheVariants.{Refused, Paused}
@@ -9,13 +9,13 @@ use Rattle.step_maker.proofs.Coming.{came_trans, came_post, moves_came}
 use Rattle.answer_laws.specs.Alone.{IsAlone}
 use Rattle.vcpu_turn.specs.declared.cpu.TurnEnd.{TurnEnd}
 use Rattle.vcpu_turn.specs.declared.cpu.TurnEnd.TheVariants as ends
-use Rattle.vcpu_turn.specs.Cpus.{Processing, next_of, nothing_left, task_of, end_of}
+use Rattle.vcpu_turn.specs.Cpus.{Processing, end_of, job_of, next_of, nothing_left}
 use Rattle.vcpu_turn.specs.Turning.{DoesNext, EndsTurn, DoesTurn, IsStop, IsTurn}
 use Rattle.vcpu_turn.specs.Turning as turning
 use Rattle.vcpu_turn.specs.Unhindered.{IsUnhindered}
 use Rattle.vcpu_turn.proofs.Turns.{begins_came}
 use Rattle.vcpu_turn.proofs.Hindering.{AloneStays, NeitherLostNorBusy, NobodyWaitedFor, IsSpared, Spared, same_came, settles_came, settles_spared, spared_on}
-use Rattle.vcpu_turn.proofs.Bringing.{brings}
+use Rattle.vcpu_turn.proofs.CallsBringing.{by_came, by_spared}
 
 -- ---- steps
 pub stop_came : (v w : PortValue) → IsStop v w → Came v w
@@ -27,7 +27,7 @@ ends_came (ends.Paused p) v w e = same_came v w e
 ends_came ends.Retired v w e = stop_came v w e
 
 does_came : (c : Processing) (o : Option Op) (c2 : Processing) (v w : PortValue) (answers : List Bool) (end : TurnEnd) → DoesNext c o c2 v w answers end → Came v w
-does_came c (Some op) c2 v w answers end d = (brings c.domain (task_of op) c.at.awaited v c.at.done d.to.done w answers d.answer d.went.works).came
+does_came c (Some op) c2 v w answers end d = by_came c.domain (c.answered + 1) v c.at d.to w c.log d.log answers d.answer (job_of op) d.went
 does_came c None c2 v w answers end d = same_came v w d.no_step
 
 goes_came : (c : Processing) (o : Option Op) (v : PortValue) (c2 : Processing) (w : PortValue) (answers : List Bool) (end : TurnEnd) → DoesTurn c o v c2 w answers end → Came v w
@@ -50,7 +50,7 @@ module _ (stays : AloneStays) (neither : NeitherLostNorBusy) (nobody : NobodyWai
   does_spared : (c : Processing) (o : Option Op) (c2 : Processing) (v w : PortValue) (answers : List Bool) (end : TurnEnd) → IsSpared v → DoesNext c o c2 v w answers end → IsUnhindered v.post.machine end
   does_spared c (Some op) c2 v w answers end s d =
       subst (IsUnhindered v.post.machine) (sym d.end_is)
-      (spared_end v d.to.done d.answer ((brings c.domain (task_of op) c.at.awaited v c.at.done d.to.done w answers d.answer d.went.works).spared stays neither nobody s))
+      (spared_end v d.to.done d.answer (by_spared c.domain (c.answered + 1) v c.at d.to w c.log d.log answers d.answer stays neither nobody (job_of op) s d.went))
   does_spared c None c2 v w answers end s d = subst (IsUnhindered v.post.machine) (sym d.end_is) tt
 
   goes_spared : (c : Processing) (o : Option Op) (v : PortValue) (c2 : Processing) (w : PortValue) (answers : List Bool) (end : TurnEnd) → IsSpared v → DoesTurn c o v c2 w answers end → IsUnhindered v.post.machine end

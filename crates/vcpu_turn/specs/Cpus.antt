@@ -1,5 +1,5 @@
 -- The vCPUs between their turns: their operations, and what they answered.
-use Rattle.std.specs.Prelude.{ℕ, zero, suc, ◌+◌, ◌-◌, min, Bool, true, false, List, [], ◌∷◌, ◌++◌, drop, length, slice_get, sum_by, Option, Some, None, Result, Ok, Err}
+use Rattle.std.specs.Prelude.{ℕ, zero, suc, ◌+◌, ◌-◌, ◌≤◌, min, nat_lt, if◌then◌else◌, Bool, true, false, List, [], ◌∷◌, ◌++◌, drop, length, slice_get, sum_by, Option, Some, None, Result, Ok, Err}
 use Rattle.xp_words.specs.declared.ops.ExtOp.{ExtOp}
 use Rattle.xp_words.specs.declared.ops.Pair.{Pair}
 use Rattle.xp_words.specs.declared.ops.Call.{Call}
@@ -19,8 +19,11 @@ use Rattle.vcpu_turn.specs.Descriptors.{DescriptorTask, SetDescriptor, SetGdt, T
 use Rattle.vcpu_turn.specs.Extents.{begins_in, extents_in, gives_blocks, mem_refusal}
 use Rattle.vcpu_turn.specs.declared.descriptors.Descriptors.{Descriptors}
 use Rattle.vcpu_turn.specs.declared.descriptors.Descriptors.TheVariants as tables
+use Rattle.vcpu_turn.specs.declared.tasks.Piece.{Piece}
+use Rattle.vcpu_turn.specs.declared.tasks.Piece.TheVariants as pieces
 use Rattle.vcpu_turn.specs.declared.tasks.Viewed.{Viewed}
 use Rattle.vcpu_turn.specs.declared.tasks.Viewed.TheVariants as viewing
+use Rattle.vcpu_turn.specs.declared.cpu.CallNumber.{CallNumber}
 use Rattle.vcpu_turn.specs.declared.cpu.Progress.{Progress}
 use Rattle.vcpu_turn.specs.declared.cpu.TurnEnd.{TurnEnd}
 use Rattle.vcpu_turn.specs.declared.cpu.TurnEnd.TheVariants as ends
@@ -37,9 +40,21 @@ pub record Processing : Type 0 where
   pub left : Option ℕ
   pub retired : Bool
 
+-- of a multicall of which so many calls are answered
+abbrev pub begun_at : ℕ → Progress
+begun_at answered = record { call = answered; done = 0; within = 0; awaited = None }
+
 -- of an operation that begins
 abbrev pub begun : Progress
-begun = record { call = 0; done = 0; within = 0; awaited = None }
+begun = begun_at 0
+
+-- the number of an operation, which is no call of one
+abbrev pub by_itself : ℕ → CallNumber
+by_itself op = record { op = op; call = 0 }
+
+-- of the call behind so many others
+abbrev pub call_behind : ℕ → ℕ → CallNumber
+call_behind op answered = record { op = op; call = answered + 1 }
 
 -- before its first turn
 abbrev pub fresh : ℕ → ℕ → List Op → Processing
@@ -90,6 +105,33 @@ abbrev pub task_next : Option Op → Option Task
 task_next (Some op) = task_of op
 task_next None = None
 
+-- ---- one task, which there is where the operation is built; or the calls of a multicall, each with its own
+pub data Job : Type 0 where
+  OfOne : Option Task → Job
+  OfCalls : List Call → Job
+
+abbrev pub job_of : Op → Job
+job_of (ops.Multi calls) = OfCalls calls
+job_of op = OfOne (task_of op)
+
+abbrev pub job_next : Option Op → Job
+job_next (Some op) = job_of op
+job_next None = OfOne None
+
+abbrev pub task_called : Option Call → Option Task
+task_called (Some call) = task_in call
+task_called None = None
+
+-- that of the call in progress, where so many are answered
+abbrev pub task_at : Job → ℕ → Option Task
+task_at (OfOne task) answered = task
+task_at (OfCalls calls) answered = task_called (slice_get calls answered)
+
+-- what a turn works on, as the code sees it
+abbrev pub task_for : Piece → Option Task
+task_for (pieces.Whole op) = task_of op.now
+task_for (pieces.Called call) = task_in call.now
+
 -- as the code sees them
 abbrev pub viewed_descriptors : Descriptors → DescriptorTask
 viewed_descriptors (tables.Gdt entries frames) = SetGdt entries frames.now
@@ -124,9 +166,18 @@ abbrev pub elements_in : Option Task → ℕ
 elements_in (Some task) = size_of task
 elements_in None = 0
 
-abbrev pub elements_of : Option Op → ℕ
-elements_of (Some op) = elements_in (task_of op)
-elements_of None = 0
+-- so many of its elements are done at the most: of the call in progress, where there is one; and no more calls are answered than there are
+abbrev pub IsFewOf : Option Call → ℕ → Type 0
+IsFewOf (Some call) done = done ≤ elements_in (task_in call)
+IsFewOf None done = Unit {0}
+
+abbrev pub IsFewIn : Job → Progress → Type 0
+IsFewIn (OfOne task) at = at.done ≤ elements_in task
+IsFewIn (OfCalls calls) at = (at.call ≤ length calls) × IsFewOf (slice_get calls at.call) at.done
+
+abbrev pub IsFew : Option Op → Progress → Type 0
+IsFew (Some op) at = IsFewIn (job_of op) at
+IsFew None at = at.done ≤ 0
 
 -- ---- waits that go on from turn to turn
 abbrev pub awaited_at : Option ExtOp → Pause → Option ℕ
@@ -163,12 +214,36 @@ abbrev pub room_of : Option Task → ℕ
 room_of (Some (OfMem command order items)) = room_by (gives_blocks command) (mem_refusal command order items) (extents_in command items)
 room_of _ = 0
 
+-- A multicall logs the answer of each of its calls, too. One of more than 64 calls is refused.
+abbrev pub is_long : List Call → Bool
+is_long calls = nat_lt 64 (length calls)
+
+abbrev pub lines_of_call : Call → ℕ
+lines_of_call call = room_of (task_in call) + 1
+
+-- what it may log before its answer, where so many of its calls are answered
+abbrev pub room_from : Job → ℕ → ℕ
+room_from (OfOne task) answered = room_of task
+room_from (OfCalls calls) answered = if is_long calls then 0 else sum_by lines_of_call (drop answered calls)
+
 abbrev pub lines_of : Op → ℕ
-lines_of op = room_of (task_of op) + 1
+lines_of op = room_from (job_of op) 0 + 1
 
 -- how many lines it may have made before its answer, where so many elements are done
 abbrev pub lines_made : Option Task → ℕ → ℕ
 lines_made task done = min done (room_of task)
+
+-- by the call in progress
+abbrev pub made_within : Job → Progress → ℕ
+made_within (OfOne task) at = lines_made task at.done
+made_within (OfCalls calls) at = if is_long calls then 0 else lines_made (task_called (slice_get calls at.call)) at.done
+
+-- and by those that are answered
+abbrev pub made_by : Job → Progress → ℕ
+made_by job at = room_from job 0 - room_from job at.call + made_within job at
+
+abbrev pub made_next : Option Op → Progress → ℕ
+made_next o at = made_by (job_next o) at
 
 -- of the operations that are not answered
 abbrev pub lines_ahead : List Op → ℕ → ℕ

@@ -11,6 +11,7 @@ use Rattle.reservations.specs.Extents.{Reserves}
 use Rattle.reservations.specs.declared.extents.Extent.{Extent}
 use Rattle.reservations.specs.declared.extents.Extent.TheVariants.{Increase, Decrease, Populate}
 use Rattle.vcpu_turn.specs.Lists.{DidItems, IsRefusedWhole, Tried, WorksOn, tried_in}
+use Rattle.vcpu_turn.specs.declared.cpu.CallNumber.{CallNumber}
 
 -- ---- which extents
 -- The low six bits of a command say what is done, the bits above are the first extent that is still to be done.
@@ -152,20 +153,20 @@ gave_extents (WorksExtents.refused to w answers answer x why whole) = []
 gave_extents (WorksExtents.none why empty) = []
 gave_extents (WorksExtents.on to within w answers answer why some works) = gave_on works
 
--- their lines, of operation number `op`
-abbrev pub given_lines : ℕ → List Block → List LogLine
-given_lines op [] = []
-given_lines op (b ∷ bs) = lines.Given op 0 b.extent b.first ∷ given_lines op bs
+-- their lines, of that call
+abbrev pub given_lines : CallNumber → List Block → List LogLine
+given_lines number [] = []
+given_lines number (b ∷ bs) = lines.Given number.op number.call b.extent b.first ∷ given_lines number bs
 
 -- so many of its elements are done: how many lines they may have made
 abbrev pub lines_by : ℕ → ℕ → ℕ
 lines_by command done = if gives_blocks command then done else 0
 
 -- From v to w the extents went on, the next one from `within` to `left`, and the log got the lines of the blocks that were given.
-pub record ListsExtents (d command order : ℕ) (items : List ℕ) (op : ℕ) (from within : ℕ) (v : PortValue) (to left : ℕ) (w : PortValue) (log log' : List LogLine) (answers : List Bool) (answer : Result (Unit {0}) Stop) : Type 0 where
+pub record ListsExtents (d command order : ℕ) (items : List ℕ) (number : CallNumber) (from within : ℕ) (v : PortValue) (to left : ℕ) (w : PortValue) (log log' : List LogLine) (answers : List Bool) (answer : Result (Unit {0}) Stop) : Type 0 where
   pub works : WorksOn (ExtentFits d command order items from within) (extents_in command items) from v to w answers answer
   pub place : left ≡ left_in works within
-  pub lines : log' ≡ log ++ given_lines op (gave_on works)
+  pub lines : log' ≡ log ++ given_lines number (gave_on works)
 
 -- such extents may go on from that port
 pub record SuitsExtents (d command order : ℕ) (items : List ℕ) (v : PortValue) : Type 0 where

@@ -1,4 +1,5 @@
 pub mod Accesses
+pub mod Calls
 pub mod Cpus
 pub mod Descriptors
 pub mod Ext

@@ -18,12 +18,12 @@ use Rattle.step_maker.specs.Moves.{Moves}
 pub use Rattle.mmuext_ops.specs.Elements.{KnowsAwaited}
 use Rattle.level_release.specs.Course.{left_settled}
 use Rattle.tlb_walks.specs.Dropping.{Acks}
-use Rattle.vcpu_turn.specs.Cpus.{OfMapping, Processing, Task, after_turn, begins_at, end_of, next_of, nothing_left, task_of}
+use Rattle.vcpu_turn.specs.Cpus.{OfMapping, Processing, Task, after_turn, begins_at, by_itself, end_of, job_of, next_of, nothing_left}
 use Rattle.xp_words.specs.declared.reply.LogLine.{LogLine}
 use Rattle.vcpu_turn.specs.Extents.{Block, given_lines}
 use Rattle.vcpu_turn.specs.Lists.{asks_between, is_due_answer}
 use Rattle.vcpu_turn.specs.Settling.{IsWarm, Settles}
-use Rattle.vcpu_turn.specs.Working.{WentOn}
+use Rattle.vcpu_turn.specs.Calls.{WentBy}
 use Rattle.vcpu_turn.specs.declared.cpu.Progress.{Progress}
 use Rattle.vcpu_turn.specs.declared.cpu.TurnEnd.{TurnEnd}
 use Rattle.vcpu_turn.specs.declared.cpu.TurnEnd.TheVariants as ends
@@ -52,7 +52,7 @@ pub record GoesOnWith (c : Processing) (op : Op) (c' : Processing) (v w : PortVa
   pub to : Progress
   pub log : List LogLine
   pub answer : Result ℕ Stop
-  pub went : WentOn c.domain (task_of op) (c.answered + 1) v c.at to w c.log log answers answer
+  pub went : WentBy c.domain (job_of op) (c.answered + 1) v c.at to w c.log log answers answer
   pub end_is : end ≡ end_of to.done answer
   pub cpu : c' ≡ after_turn c to log end
 
@@ -96,7 +96,7 @@ pub data CountsAsks (below : Option ℕ) (task : Option Task) (from : ℕ) (end 
 -- the vCPU behind a turn in which the next operation came so far, and was given blocks; or settling was all that it did, and left the vCPU as it was, but for how
 -- much is left
 abbrev pub IsLeftAt : Processing → Processing → Progress → TurnEnd → Type 0
-IsLeftAt c c' to end = ((gave : List Block) × (c' ≡ after_turn (nothing_left c) to (c.log ++ given_lines (c.answered + 1) gave) end)) ⊎ ((p : Pause) × (end ≡ ends.Paused p) × (to ≡ c.at) × (c' ≡ record c { left = c'.left }))
+IsLeftAt c c' to end = ((gave : List Block) × (c' ≡ after_turn (nothing_left c) to (c.log ++ given_lines (by_itself (c.answered + 1)) gave) end)) ⊎ ((p : Pause) × (end ≡ ends.Paused p) × (to ≡ c.at) × (c' ≡ record c { left = c'.left }))
 
 -- the turn went on with an operation, of which no more than `most` elements are done then
 pub record GoesNoFurther (c c' : Processing) (end : TurnEnd) (most : ℕ) : Type 0 where
@@ -154,7 +154,7 @@ StopsWhere false c c' v w = MakesStop c c' v w
 
 -- ---- a vCPU whose next operation goes on
 pub record OperationWentOn (op : Op) (c c' : Processing) (v w : PortValue) (answers : List Bool) (answer : Result ℕ Stop) : Type 0 where
-  pub went : WentOn c.domain (task_of op) (c.answered + 1) v c.at c'.at w c.log c'.log answers answer
+  pub went : WentBy c.domain (job_of op) (c.answered + 1) v c.at c'.at w c.log c'.log answers answer
   pub cpu : c' ≡ record c { at = c'.at; log = c'.log }
 
 -- the next operation went on, where there is one

@@ -13,6 +13,7 @@ use Rattle.vcpu_turn.specs.Pairs.{IsNoWrite, PairFits, PausesRelease, WorksOwned
 use Rattle.vcpu_turn.specs.Extents.{Block, ExtentFits, PlacesExtents, WorksExtents, begins_in, gave_extents, given_lines, tried_extents}
 use Rattle.vcpu_turn.specs.Ext.{ExtFits, IsNoRelease, PausesOldBase, PausesUnpin}
 use Rattle.vcpu_turn.specs.Accesses.{MakesRead, MakesWrite}
+use Rattle.vcpu_turn.specs.declared.cpu.CallNumber.{CallNumber}
 use Rattle.vcpu_turn.specs.declared.cpu.Progress.{Progress}
 
 -- the value of what answers none is 0
@@ -92,17 +93,17 @@ abbrev pub gave_of : (d : ℕ) (o : Option Task) (awaited : Option ℕ) (v : Por
 gave_of d (Some (OfMem command order items)) awaited v from to w answers answer listed = gave_extents listed.works
 gave_of d _ awaited v from to w answers answer works = []
 
--- The work of a turn on operation number `number` where the vCPU keeps how far it is: the call stays the one in progress, the place within an element and the wait
+-- The work of a turn on the call, or operation, of that number where the vCPU keeps how far it is: the call stays the one in progress, the place within an element and the wait
 -- of one that is paused in it are kept, and each block that is given has its line in the log.
-pub record WentOn (d : ℕ) (task : Option Task) (number : ℕ) (v : PortValue) (from to : Progress) (w : PortValue) (log log' : List LogLine) (answers : List Bool) (answer : Result ℕ Stop) : Type 0 where
+pub record WentOn (d : ℕ) (task : Option Task) (number : CallNumber) (v : PortValue) (from to : Progress) (w : PortValue) (log log' : List LogLine) (answers : List Bool) (answer : Result ℕ Stop) : Type 0 where
   pub works : Works d task from.awaited v from.done to.done w answers answer
   pub calls : to.call ≡ from.call
   pub within : IsPlaced d task from.awaited v from.done to.done w answers answer works from.within to.within
   pub waits : to.awaited ≡ awaited_left task to.done answer
   pub lines : log' ≡ log ++ given_lines number (gave_of d task from.awaited v from.done to.done w answers answer works)
 
--- the extents of operation number `number` went on so, which wait for nothing from turn to turn
-pub record GoesExtents (d command order : ℕ) (items : List ℕ) (number : ℕ) (v : PortValue) (from to : Progress) (w : PortValue) (log log' : List LogLine) (answers : List Bool) (answer : Result (Unit {0}) Stop) : Type 0 where
+-- the extents of the call of that number went on so, which wait for nothing from turn to turn
+pub record GoesExtents (d command order : ℕ) (items : List ℕ) (number : CallNumber) (v : PortValue) (from to : Progress) (w : PortValue) (log log' : List LogLine) (answers : List Bool) (answer : Result (Unit {0}) Stop) : Type 0 where
   pub works : WorksExtents d command order items v from.done to.done w answers answer
   pub calls : to.call ≡ from.call
   pub within : PlacesExtents works from.within to.within

@@ -1,9 +1,9 @@
 ghost use Rattle.std.specs.Prelude.{◌≡◌, ◌<◌, ◌^◌, length, IfOk};
 ghost use Rattle.xp_words.specs.Places.{sizes_of};
 ghost use Rattle.xp_board.specs.Readings.{domain_of};
-ghost use Rattle.vcpu_turn.specs.Cpus.{begun, fresh, lines_ahead, pending_of};
+ghost use Rattle.vcpu_turn.specs.Cpus.{begun, begun_at, fresh, lines_ahead, pending_of};
 
-use crate::tasks::lines_of;
+use crate::calls::lines_of;
 use std::alloc::{AllocError, Global};
 use std::marker::Model;
 use xp_words::{Layout, Log, LogLine, Op, Pause, Reply, Script};
@@ -19,12 +19,19 @@ pub enum TurnEnd {
     Retired,
 }
 
+/// The number of an operation in its script, and of a call within it; both count from 1, and call 0 is the operation itself.
+#[derive(Clone, Copy, Debug, PartialEq, Eq, Drop)]
+pub struct CallNumber {
+    pub op: u32,
+    pub call: u32,
+}
+
 /// How far the operation that stands next is done.
 #[derive(Clone, Copy, Debug, PartialEq, Eq, Drop)]
 pub struct Progress {
     /// How many calls of a multicall are answered.
     pub call: u16,
-    /// How many elements of the call in progress are done.
+    /// How many elements of the call in progress are done; of a multicall whose calls are all answered, how many these are.
     pub done: u32,
     /// How far the next element is that goes on from turn to turn: how many frames of an extent are given back, or the place of a destruction.
     pub within: u32,
@@ -37,8 +44,15 @@ impl Progress {
     pub(crate) fn begun() -> Progress
         ensures { result ≡ begun }
     {
+        Progress::begun_at(0)
+    }
+
+    // Of a multicall of which so many calls are answered.
+    pub(crate) fn begun_at(answered: u16) -> Progress
+        ensures { result ≡ begun_at answered }
+    {
         Progress {
-            call: 0,
+            call: answered,
             done: 0,
             within: 0,
             awaited: None,
@@ -75,13 +89,13 @@ fn lines_in(script: &[Op]) -> usize
 
 impl Model for Cpu {
     ghost use Rattle.std.specs.Prelude.{◌≡◌, ◌+◌, ◌≤◌, length, slice_get, vec_len, vec_capacity};
-    ghost use Rattle.vcpu_turn.specs.Cpus.{Processing, elements_of, lines_ahead, lines_made, task_next};
+    ghost use Rattle.vcpu_turn.specs.Cpus.{IsFew, Processing, lines_ahead, made_next};
 
     ghost Value = { Processing };
 
     ghost view = { λ c. record { vcpu = c.vcpu; domain = c.domain; script = c.script; log = c.log.items; answered = c.answered; at = c.at; left = c.left; retired = c.retired } };
 
-    ghost invariant = { λ c. (c.answered ≤ length c.script) × (vec_capacity c.log ≡ lines_ahead c.script 0) × (vec_len c.log + lines_ahead c.script c.answered ≤ vec_capacity c.log + lines_made (task_next (slice_get c.script c.answered)) c.at.done) × (c.at.done ≤ elements_of (slice_get c.script c.answered)) };
+    ghost invariant = { λ c. (c.answered ≤ length c.script) × (vec_capacity c.log ≡ lines_ahead c.script 0) × (vec_len c.log + lines_ahead c.script c.answered ≤ vec_capacity c.log + made_next (slice_get c.script c.answered) c.at) × IsFew (slice_get c.script c.answered) c.at };
 }
 
 impl Cpu {

@@ -8,7 +8,7 @@ ghost use Rattle.vcpu_turn.specs.Lists.{Answering, is_due_answer};
 ghost use Rattle.vcpu_turn.specs.Settling.{IsWarm};
 ghost use Rattle.vcpu_turn.specs.Working.{GoesExtents};
 
-use crate::cpu::Progress;
+use crate::cpu::{CallNumber, Progress};
 use reservations::{Extent, reserve};
 use xp_board::Port;
 use xp_preempt::Preempt;
@@ -28,11 +28,11 @@ const LONGEST: u64 = 512;
 
 const LARGEST: u64 = 9;
 
-/// A list of operation number `number`, for the domain that makes it.
+/// The list of the call of that number, for the domain that makes it.
 #[derive(Clone, Copy, Drop)]
 pub(crate) struct Extents<'a> {
     pub domain: u16,
-    pub number: u32,
+    pub number: CallNumber,
     pub command: u64,
     pub order: u64,
     pub items: &'a [u64],
@@ -118,16 +118,16 @@ impl<'a> Extents<'a> {
 }
 
 // A block that extent number `extent` was given has its line. The log has room for it.
-fn log_block(log: &mut Vec<LogLine>, op: u32, extent: u32, given: Option<u32>)
+fn log_block(log: &mut Vec<LogLine>, number: CallNumber, extent: u32, given: Option<u32>)
     requires room { IfSome given (λ first. vec_len log.old < vec_capacity log.old) }
-    ensures lines { log.new.items ≡ log.old.items ++ given_lines op (block_at extent given) }
+    ensures lines { log.new.items ≡ log.old.items ++ given_lines number (block_at extent given) }
     ensures len { vec_len log.new ≡ vec_len log.old + length (block_at extent given) }
     ensures capacity { vec_capacity log.new ≡ vec_capacity log.old }
 {
     if let Some(frame) = given {
         log.push_reserved(LogLine::Given {
-            op,
-            call: 0,
+            op: number.op,
+            call: number.call,
             extent,
             frame,
         });

@@ -3,6 +3,7 @@
 
 mod accesses;
 mod beginning;
+mod calls;
 mod cpu;
 mod descriptors;
 mod ext;
@@ -15,6 +16,6 @@ mod tasks;
 mod turning;
 mod working;
 
-pub use cpu::{Cpu, Progress, TurnEnd};
+pub use cpu::{CallNumber, Cpu, Progress, TurnEnd};
 pub use lists::{Items, go_on};
 pub use turning::{stop, turn};

@@ -3,13 +3,13 @@ ghost use Rattle.std.specs.Prelude.{ℕ, ◌≡◌, ◌+◌, ◌≤◌, true, fa
 ghost use Rattle.xp_board.specs.Readings.{domain_of};
 ghost use Rattle.step_maker.specs.Holds.{Rests};
 ghost use Rattle.mmuext_ops.specs.Elements.{KnowsAwaited};
-ghost use Rattle.vcpu_turn.specs.Cpus.{awaited_in, awaited_left, elements_in, left_waiting, lines_made, lines_of, room_of, task_of, viewed};
+ghost use Rattle.vcpu_turn.specs.Cpus.{awaited_in, awaited_left, elements_in, left_waiting, lines_made, room_of, task_for, task_in, viewed};
 ghost use Rattle.vcpu_turn.specs.Lists.{Answering, is_due_answer};
 ghost use Rattle.vcpu_turn.specs.Settling.{IsWarm};
 ghost use Rattle.vcpu_turn.specs.Working.{WentOn};
 
 use crate::accesses::{read, write};
-use crate::cpu::Progress;
+use crate::cpu::{CallNumber, Progress};
 use crate::descriptors::{Descriptors, work_on_descriptors};
 use crate::ext::OwnElements;
 use crate::extents::{Extents, go_through_extents};
@@ -49,83 +49,88 @@ enum Viewed<'a> {
     },
 }
 
-fn task_of(op: &Op) -> Option<Viewed<'_>>
-    ensures some { IfSome result (λ task. task_of op.now ≡ Some (viewed task)) }
-    ensures none { IfNone result (task_of op.now ≡ None) }
+// What a turn works on: an operation that is no multicall, or a call of one.
+#[derive(Clone, Copy, Drop)]
+pub(crate) enum Piece<'a> {
+    Whole(&'a Op),
+    Called(&'a Call),
+}
+
+fn task_in(call: &Call) -> Option<Viewed<'_>>
+    ensures some { IfSome result (λ task. task_in call.now ≡ Some (viewed task)) }
+    ensures none { IfNone result (task_in call.now ≡ None) }
 {
-    match op {
-        Op::One {
-            call: Call::Mmu { foreign, pairs },
-        } => Some(Viewed::Pairs {
+    let task = match call {
+        Call::Mmu { foreign, pairs } => Viewed::Pairs {
             foreign: *foreign,
             pairs: pairs.as_slice(),
-        }),
-        Op::One {
-            call: Call::Ext { list },
-        } => Some(Viewed::Ext(list.as_slice())),
-        Op::One {
-            call: Call::Mem {
-                command,
-                order,
-                items,
-            },
-        } => Some(Viewed::Mem {
+        },
+        Call::Ext { list } => Viewed::Ext(list.as_slice()),
+        Call::Mem {
+            command,
+            order,
+            items,
+        } => Viewed::Mem {
             command: *command,
             order: *order,
             items: items.as_slice(),
-        }),
-        Op::One {
-            call: Call::Va { va, val, flags },
-        } => Some(Viewed::Mapping(Mapping {
+        },
+        Call::Va { va, val, flags } => Viewed::Mapping(Mapping {
             foreign: OWN_FRAMES,
             va: *va,
             word: *val,
             flags: *flags,
-        })),
-        Op::One {
-            call: Call::VaOther {
-                va,
-                val,
-                flags,
-                domain,
-            },
-        } => Some(Viewed::Mapping(Mapping {
+        }),
+        Call::VaOther {
+            va,
+            val,
+            flags,
+            domain,
+        } => Viewed::Mapping(Mapping {
             foreign: *domain,
             va: *va,
             word: *val,
             flags: *flags,
-        })),
-        Op::One {
-            call: Call::Gdt { entries, frames },
-        } => Some(Viewed::Descriptors(Descriptors::Gdt {
+        }),
+        Call::Gdt { entries, frames } => Viewed::Descriptors(Descriptors::Gdt {
             entries: *entries,
             frames: frames.as_slice(),
-        })),
-        Op::One {
-            call: Call::Desc { address, word },
-        } => Some(Viewed::Descriptors(Descriptors::Descriptor {
+        }),
+        Call::Desc { address, word } => Viewed::Descriptors(Descriptors::Descriptor {
             address: *address,
             word: *word,
-        })),
-        Op::TouchLdt { page } => Some(Viewed::Descriptors(Descriptors::Ldt { page: *page })),
-        Op::Read { user, va } => Some(Viewed::Read {
+        }),
+    };
+    Some(task)
+}
+
+fn task_of(piece: Piece<'_>) -> Option<Viewed<'_>>
+    ensures some { IfSome result (λ task. task_for piece.entry ≡ Some (viewed task)) }
+    ensures none { IfNone result (task_for piece.entry ≡ None) }
+{
+    match piece {
+        Piece::Called(call) | Piece::Whole(Op::One { call }) => task_in(call),
+        Piece::Whole(Op::TouchLdt { page }) => {
+            Some(Viewed::Descriptors(Descriptors::Ldt { page: *page }))
+        }
+        Piece::Whole(Op::Read { user, va }) => Some(Viewed::Read {
             user: *user,
             va: *va,
         }),
-        Op::Write { user, va, val } => Some(Viewed::Write {
+        Piece::Whole(Op::Write { user, va, val }) => Some(Viewed::Write {
             user: *user,
             va: *va,
             val: *val,
         }),
-        _ => None,
+        Piece::Whole(_) => None,
     }
 }
 
-// An operation was paused with so many elements done: past which clock value the next of them goes on to wait.
-fn awaited_in(op: &Op, done: u32, pause: Pause) -> Option<u64>
-    ensures { result ≡ awaited_in (task_of op.now) done pause }
+// It was paused with so many elements done: past which clock value the next of them goes on to wait.
+fn awaited_in(piece: Piece<'_>, done: u32, pause: Pause) -> Option<u64>
+    ensures { result ≡ awaited_in (task_for piece.entry) done pause }
 {
-    match task_of(op) {
+    match task_of(piece) {
         Some(Viewed::Ext(elements)) => match elements.get(done as usize) {
             Some(element) => awaited_of(*element, &Err(Stop::Paused(pause))),
             None => None,
@@ -136,21 +141,21 @@ fn awaited_in(op: &Op, done: u32, pause: Pause) -> Option<u64>
 }
 
 // The same where it ended so; what is answered waits no more.
-fn awaited_left(op: &Op, done: u32, answer: Result<u64, Stop>) -> Option<u64>
-    ensures { result ≡ awaited_left (task_of op.now) done answer }
+fn awaited_left(piece: Piece<'_>, done: u32, answer: Result<u64, Stop>) -> Option<u64>
+    ensures { result ≡ awaited_left (task_for piece.entry) done answer }
 {
     match answer {
-        Err(Stop::Paused(pause)) => awaited_in(op, done, pause),
+        Err(Stop::Paused(pause)) => awaited_in(piece, done, pause),
         Ok(_) | Err(Stop::Refused(_)) => None,
     }
 }
 
-// How many lines an operation logs at most.
-pub(crate) fn lines_of(op: &Op) -> usize
-    ensures lines { result ≡ lines_of op.now }
-    ensures few { result ≤ 513 }
+// How many lines it logs at most before its answer.
+pub(crate) fn room_of(piece: Piece<'_>) -> usize
+    ensures lines { result ≡ room_of (task_for piece.entry) }
+    ensures few { result ≤ 512 }
 {
-    match task_of(op) {
+    match task_of(piece) {
         Some(
             Viewed::Mem {
                 command,
@@ -160,46 +165,46 @@ pub(crate) fn lines_of(op: &Op) -> usize
         ) => {
             let list = Extents {
                 domain: 0,
-                number: 0,
+                number: CallNumber { op: 0, call: 0 },
                 command,
                 order,
                 items,
             };
-            list.room() + 1
+            list.room()
         }
-        _ => 1,
+        _ => 0,
     }
 }
 
-// An operation goes on from where it is, and its next element with a wait, where it was paused in one.
+// It goes on from where it is, and its next element with a wait, where it was paused in one.
 fn go_from<P: Port>(
     port: &mut P,
     gate: &mut dyn Preempt,
     domain: u16,
-    op: &Op,
-    number: u32,
+    piece: Piece<'_>,
+    number: CallNumber,
     at: &mut Progress,
     log: &mut Vec<LogLine>,
 ) -> Result<u64, Stop>
-    requires within { at.old.done ≤ elements_in (task_of op.now) }
+    requires within { at.old.done ≤ elements_in (task_for piece) }
     requires own { domain ≡ domain_of (P.value port.old).post.machine (P.value port.old).post.vcpu }
     requires awaits { KnowsAwaited (P.value port.old) at.old.awaited }
     requires rests { Rests (P.value port.old) }
     requires warm { IsWarm (P.value port.old) }
-    requires room { vec_len log.old + room_of (task_of op.now) ≤ vec_capacity log.old + lines_made (task_of op.now) at.old.done }
+    requires room { vec_len log.old + room_of (task_for piece) ≤ vec_capacity log.old + lines_made (task_for piece) at.old.done }
     ensures post { (P.value port.new).post ≡ (P.value port.old).post }
-    ensures within { at.new.done ≤ elements_in (task_of op.now) }
-    ensures awaits { KnowsAwaited (P.value port.new) (awaited_left (task_of op.now) at.new.done result) }
-    ensures went { Answering (λ answers. WentOn domain (task_of op.now) number (P.value port.old) at.old (left_waiting (task_of op.now) at.new result) (P.value port.new) log.old.items log.new.items answers result) (says gate.old) (count_asks gate.old) (count_asks gate.new) (count_yes gate.old) (count_yes gate.new) (is_due_answer result) }
+    ensures within { at.new.done ≤ elements_in (task_for piece.entry) }
+    ensures awaits { KnowsAwaited (P.value port.new) (awaited_left (task_for piece.entry) at.new.done result) }
+    ensures went { Answering (λ answers. WentOn domain (task_for piece.entry) number (P.value port.old) at.old (left_waiting (task_for piece.entry) at.new result) (P.value port.new) log.old.items log.new.items answers result) (says gate.old) (count_asks gate.old) (count_asks gate.new) (count_yes gate.old) (count_yes gate.new) (is_due_answer result) }
     ensures capacity { vec_capacity log.new ≡ vec_capacity log.old }
-    ensures room { vec_len log.new + lines_made (task_of op.now) at.old.done ≤ vec_len log.old + lines_made (task_of op.now) at.new.done }
+    ensures room { vec_len log.new + lines_made (task_for piece.entry) at.old.done ≤ vec_len log.old + lines_made (task_for piece.entry) at.new.done }
     ensures rests { Rests (P.value port.new) }
     ensures warm { IsWarm (P.value port.new) }
     ensures says { (n : ℕ) → says gate.new n ≡ says gate.old n }
     ensures paces { paces gate.new ≡ paces gate.old }
     ensures calm { calm gate.old ≡ true → (is_due_answer result ≡ false) × (calm gate.new ≡ true) }
 {
-    match task_of(op) {
+    match task_of(piece) {
         None => {
             at.done = 0;
             Err(Stop::Refused(Refusal::BadCommand))
@@ -247,35 +252,35 @@ fn go_from<P: Port>(
     }
 }
 
-/// Operation number `number` goes on from where it is, which says in the end how far it came. The log has room for its lines.
+/// The operation, or call, of that number goes on from where it is, which says in the end how far it came. The log has room for its lines.
 pub(crate) fn work_on<P: Port>(
     port: &mut P,
     gate: &mut dyn Preempt,
     domain: u16,
-    op: &Op,
-    number: u32,
+    piece: Piece<'_>,
+    number: CallNumber,
     at: &mut Progress,
     log: &mut Vec<LogLine>,
 ) -> Result<u64, Stop>
-    requires within { at.old.done ≤ elements_in (task_of op.now) }
+    requires within { at.old.done ≤ elements_in (task_for piece) }
     requires own { domain ≡ domain_of (P.value port.old).post.machine (P.value port.old).post.vcpu }
     requires awaits { KnowsAwaited (P.value port.old) at.old.awaited }
     requires rests { Rests (P.value port.old) }
     requires warm { IsWarm (P.value port.old) }
-    requires room { vec_len log.old + room_of (task_of op.now) ≤ vec_capacity log.old + lines_made (task_of op.now) at.old.done }
+    requires room { vec_len log.old + room_of (task_for piece) ≤ vec_capacity log.old + lines_made (task_for piece) at.old.done }
     ensures post { (P.value port.new).post ≡ (P.value port.old).post }
-    ensures within { at.new.done ≤ elements_in (task_of op.now) }
+    ensures within { at.new.done ≤ elements_in (task_for piece.entry) }
     ensures awaits { KnowsAwaited (P.value port.new) at.new.awaited }
-    ensures went { Answering (λ answers. WentOn domain (task_of op.now) number (P.value port.old) at.old at.new (P.value port.new) log.old.items log.new.items answers result) (says gate.old) (count_asks gate.old) (count_asks gate.new) (count_yes gate.old) (count_yes gate.new) (is_due_answer result) }
+    ensures went { Answering (λ answers. WentOn domain (task_for piece.entry) number (P.value port.old) at.old at.new (P.value port.new) log.old.items log.new.items answers result) (says gate.old) (count_asks gate.old) (count_asks gate.new) (count_yes gate.old) (count_yes gate.new) (is_due_answer result) }
     ensures capacity { vec_capacity log.new ≡ vec_capacity log.old }
-    ensures room { vec_len log.new + lines_made (task_of op.now) at.old.done ≤ vec_len log.old + lines_made (task_of op.now) at.new.done }
+    ensures room { vec_len log.new + lines_made (task_for piece.entry) at.old.done ≤ vec_len log.old + lines_made (task_for piece.entry) at.new.done }
     ensures rests { Rests (P.value port.new) }
     ensures warm { IsWarm (P.value port.new) }
     ensures says { (n : ℕ) → says gate.new n ≡ says gate.old n }
     ensures paces { paces gate.new ≡ paces gate.old }
     ensures calm { calm gate.old ≡ true → (is_due_answer result ≡ false) × (calm gate.new ≡ true) }
 {
-    let answer = go_from(port, gate, domain, op, number, at, log);
-    at.awaited = awaited_left(op, at.done, answer);
+    let answer = go_from(port, gate, domain, piece, number, at, log);
+    at.awaited = awaited_left(piece, at.done, answer);
     answer
 }

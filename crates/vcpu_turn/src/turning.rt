@@ -9,8 +9,8 @@ ghost use Rattle.vcpu_turn.specs.Turning.{EndsTurn, Idles, TurnBy, IsOf, MakesSt
 ghost use Rattle.vcpu_turn.specs.declared.cpu.TurnEnd.TheVariants.{Answered};
 
 use crate::beginning::begin;
+use crate::calls::go_on_with;
 use crate::cpu::{Cpu, Progress, TurnEnd};
-use crate::tasks::work_on;
 use flush_words::{end_answer, stop_vcpu};
 use level_release::settle;
 use xp_board::Port;
@@ -38,7 +38,8 @@ fn go_on<P: Port>(port: &mut P, cpu: &mut Cpu, gate: &mut dyn Preempt) -> Option
         Some(op) => {
             let number = cpu.answered as u32 + 1;
             let at = &mut cpu.at;
-            Some(work_on(port, gate, cpu.domain, op, number, at, &mut cpu.log))
+            let log = &mut cpu.log;
+            Some(go_on_with(port, gate, cpu.domain, op, number, at, log))
         }
     }
 }

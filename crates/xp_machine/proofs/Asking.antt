@@ -4,7 +4,8 @@ use Rattle.xp_words.specs.Machine.{Machine}
 use Rattle.xp_words.specs.declared.ops.Op.{Op}
 use Rattle.xp_preempt.specs.Gates.{Heard, last_ask}
 use Rattle.vcpu_turn.specs.Asking.{HearsNoWithin, asks_within, elements_tried}
-use Rattle.vcpu_runners.specs.Turns.{Processing, begins_at, is_due, next_of, task_of}
+use Rattle.vcpu_turn.specs.Cpus.{OfOne, job_of}
+use Rattle.vcpu_runners.specs.Turns.{Processing, Task, begins_at, is_due, next_of}
 use Rattle.vcpu_runners.specs.Gates.{Gate}
 use Rattle.xp_machine.specs.Turns.{MakesStagedTurn, Stage, StaysWithin}
 use Rattle.vcpu_turn.proofs.Asking.{turn_within}
@@ -13,15 +14,15 @@ use Rattle.vcpu_turn.proofs.Stopping.{turn_heard}
 gate_same : (o : Option Gate) (g k : Gate) → o ≡ Some g → o ≡ Some k → g ≡ k
 gate_same o g k a b = cc
 
-pub own_turn_stops : (n : Machine) (v : ℕ) (c : Processing) (s t : Stage) (g : Gate) (op : Op) (j : ℕ) → (m : MakesStagedTurn n v c s t) → slice_get s.gates v ≡ Some g → next_of c ≡ Some op →
-    HearsNoWithin (elements_tried m.turn) → 0 < j → g.asks + j < last_ask → g.says (g.asks + j) ≡ true → StaysWithin v c s t (begins_at (task_of op) c.at.done + (j - asks_within (elements_tried m.turn)))
-own_turn_stops n v c s t g op j m has next hears some less is_yes =
+pub own_turn_stops : (n : Machine) (v : ℕ) (c : Processing) (s t : Stage) (g : Gate) (op : Op) (task : Option Task) (j : ℕ) → (m : MakesStagedTurn n v c s t) → slice_get s.gates v ≡ Some g → next_of c ≡ Some op → job_of op ≡ OfOne task →
+    HearsNoWithin (elements_tried m.turn) → 0 < j → g.asks + j < last_ask → g.says (g.asks + j) ≡ true → StaysWithin v c s t (begins_at task c.at.done + (j - asks_within (elements_tried m.turn)))
+own_turn_stops n v c s t g op task j m has next one hears some less is_yes =
     let same = gate_same (slice_get s.gates v) g m.gate has m.own in
     record {
       after = m.after;
       end = m.end;
       cpus = m.cpus;
-      within = turn_within c m.after op m.end m.from m.to m.gate.asks m.answers m.gate.says next m.turn hears m.consulted.gives j some
+      within = turn_within c m.after op task m.end m.from m.to m.gate.asks m.answers m.gate.says next one m.turn hears m.consulted.gives j some
           (subst (λ (k : Gate). k.asks + j < last_ask) same less) (subst (λ (k : Gate). k.says (k.asks + j) ≡ true) same is_yes);
     }
 

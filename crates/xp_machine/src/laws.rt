@@ -1,10 +1,12 @@
 //! What holds of the turns of a run, as contracts of functions that do nothing.
-ghost use Rattle.std.specs.Prelude.{ℕ, ◌≡◌, ◌+◌, ◌-◌, ◌<◌, All, true, slice_get, Some};
+ghost use Rattle.std.specs.Prelude.{ℕ, ◌≡◌, ◌+◌, ◌-◌, ◌<◌, All, List, true, slice_get, Option, Some};
 ghost use Rattle.xp_words.specs.Machine.{Machine};
+ghost use Rattle.xp_words.specs.declared.ops.Call.{Call};
 ghost use Rattle.xp_words.specs.declared.ops.Op.{Op};
 ghost use Rattle.xp_preempt.specs.Gates.{Heard, last_ask};
-ghost use Rattle.vcpu_turn.specs.Asking.{AsksNothingWithin, HearsNoWithin, asks_within, elements_tried};
-ghost use Rattle.vcpu_runners.specs.Turns.{PassesYes, Processing, ReleasesNothing, Task, Tried, begins_at, is_due, next_of, task_next, task_of};
+ghost use Rattle.vcpu_turn.specs.Asking.{AsksNothingWithin, HearsNoWithin, OfJob, ReleasesNothingBy, asks_within, elements_tried};
+ghost use Rattle.vcpu_turn.specs.Cpus.{OfCalls, OfOne, job_next, job_of};
+ghost use Rattle.vcpu_runners.specs.Turns.{PassesYes, Processing, Task, Tried, begins_at, is_due, next_of, task_of};
 ghost use Rattle.vcpu_runners.specs.Gates.{Gate};
 ghost use Rattle.xp_machine.specs.Turns.{MakesStagedTurn, Stage, StaysWithin};
 
@@ -13,15 +15,18 @@ pub fn a_turn_hears_no_until_it_pauses()
     ensures { (n : Machine) (v : ℕ) (c : Processing) (s t : Stage) (m : MakesStagedTurn n v c s t) → HearsNoWithin (elements_tried m.turn) → Heard m.gate.says m.gate.asks m.asked.asks (is_due m.end) }
 {}
 
-/// So its operation, which asks it behind each element but the last, does no more elements than asks up to one at which it says yes, those within elements taken off.
+/// So its operation, which asks it behind each element but the last where it is no multicall, does no more elements than asks up to one at which it says yes, those within elements taken
+/// off.
 pub fn a_turn_stops_for_its_own_gate()
-    ensures { (n : Machine) (v : ℕ) (c : Processing) (s t : Stage) (g : Gate) (op : Op) (j : ℕ) → (m : MakesStagedTurn n v c s t) → slice_get s.gates v ≡ Some g → next_of c ≡ Some op → HearsNoWithin (elements_tried m.turn) → 0 < j → g.asks + j < last_ask → g.says (g.asks + j) ≡ true → StaysWithin v c s t (begins_at (task_of op) c.at.done + (j - asks_within (elements_tried m.turn))) }
+    ensures { (n : Machine) (v : ℕ) (c : Processing) (s t : Stage) (g : Gate) (op : Op) (task : Option Task) (j : ℕ) → (m : MakesStagedTurn n v c s t) → slice_get s.gates v ≡ Some g → next_of c ≡ Some op → job_of op ≡ OfOne task → HearsNoWithin (elements_tried m.turn) → 0 < j → g.asks + j < last_ask → g.says (g.asks + j) ≡ true → StaysWithin v c s t (begins_at task c.at.done + (j - asks_within (elements_tried m.turn))) }
 {}
 
-/// No element is done past a yes in a turn with an operation that releases nothing, nor in one whose elements ask nothing; nor with any operation, unless the gate pauses the release
-/// of what the old word of an exchanged entry asked, of an unpinned frame, or of the table that a new base replaces (`PassesYes`).
+/// No element is done past a yes in a turn with an operation that releases nothing, or with a multicall whose calls release nothing; nor in one whose elements ask nothing; nor with any
+/// operation, or any call, unless the gate pauses the release of what the old word of an exchanged entry asked, of an unpinned frame, or of the table that a new base replaces
+/// (`PassesYes`).
 pub fn no_element_is_done_past_a_yes()
-    ensures lists { (n : Machine) (v : ℕ) (c : Processing) (s t : Stage) (m : MakesStagedTurn n v c s t) → ReleasesNothing (task_next (next_of c)) → HearsNoWithin (elements_tried m.turn) }
+    ensures lists { (n : Machine) (v : ℕ) (c : Processing) (s t : Stage) (m : MakesStagedTurn n v c s t) → ReleasesNothingBy (job_next (next_of c)) → HearsNoWithin (elements_tried m.turn) }
     ensures silent { (n : Machine) (v : ℕ) (c : Processing) (s t : Stage) (m : MakesStagedTurn n v c s t) → AsksNothingWithin (elements_tried m.turn) → HearsNoWithin (elements_tried m.turn) }
     ensures passes { (n : Machine) (v : ℕ) (c : Processing) (s t : Stage) (op : Op) (task : Task) (m : MakesStagedTurn n v c s t) → next_of c ≡ Some op → task_of op ≡ Some task → All (λ (x : Tried). PassesYes task x → ⊥) (elements_tried m.turn) → HearsNoWithin (elements_tried m.turn) }
+    ensures calls { (n : Machine) (v : ℕ) (c : Processing) (s t : Stage) (op : Op) (calls : List Call) (m : MakesStagedTurn n v c s t) → next_of c ≡ Some op → job_of op ≡ OfCalls calls → All (λ (x : Tried). OfJob PassesYes (OfCalls calls) x → ⊥) (elements_tried m.turn) → HearsNoWithin (elements_tried m.turn) }
 {}

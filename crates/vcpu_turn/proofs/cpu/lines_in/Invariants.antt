@@ -5,5 +5,5 @@ use Rattle.vcpu_turn.proofs.cpu.lines_in.Given as goal
 abbrev pub invariant-loop-op : goal.invariant-loop-op
 invariant-loop-op l = record {
   rest : l.lines + lines_ahead l.script l.op-index ≡ lines_ahead l.script 0;
-  few : l.lines ≤ 513 * l.op-index;
+  few : l.lines ≤ 32833 * l.op-index;
 }

@@ -1,4 +1,3 @@
-use Rattle.std.proofs.Common.{Ok}
 use Rattle.mmuext_ops.specs.declared.element.Element.TheVariants.{FlushLocal, Invalidate}
 use Rattle.vcpu_turn.proofs.ByAddress.{drops_as, local_performs, own_local, own_page, page_performs}
 use Rattle.vcpu_turn.proofs.mappings.drop_own.Goals as goal

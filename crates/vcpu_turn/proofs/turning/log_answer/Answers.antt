@@ -1,7 +1,7 @@
-use Rattle.std.proofs.Common.{◌<◌, length, sym, ap, ◌∙◌, arith, subst}
-use Rattle.vcpu_turn.specs.Cpus.{Processing}
+use Rattle.std.proofs.Common.{◌<◌, length, slice_get, ◌+◌, sym, ◌∙◌, arith, subst}
+use Rattle.vcpu_turn.specs.Cpus.{IsFew, Processing}
 use Rattle.vcpu_turn.specs.declared.cpu.Progress.{Progress}
-use Rattle.vcpu_turn.proofs.NextOps.{room_answered}
+use Rattle.vcpu_turn.proofs.NextOps.{few_begun, room_answered}
 use Rattle.vcpu_turn.proofs.turning.log_answer.Goals as goal
 
 pub push_reserved-requires : goal.push_reserved-requires
@@ -16,5 +16,5 @@ invariant_of-cpu g c =
     let room = room_answered _ _ _ _ _ c.cpu.invariant.2 more in
     let len = c.push_reserved.ensures.len in
     let capacity = c.push_reserved.ensures.capacity in
-    let begins = ap (λ (p : Progress). p.done) c.begun-cpu-inside.ensures in
-    (omega (arith, more), capacity ∙ c.cpu.invariant.1, omega (arith, room, len, capacity), omega (arith, begins))
+    let o = slice_get c.cpu.inside.script (c.cpu.inside.answered + 1) in
+    (omega (arith, more), capacity ∙ c.cpu.invariant.1, omega (arith, room, len, capacity), subst (λ (p : Progress). IsFew o p) (sym c.begun-cpu-inside.ensures) (few_begun o))
