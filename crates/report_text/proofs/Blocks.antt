@@ -1,5 +1,5 @@
 -- The text of one more vCPU, domain or frame.
-use Rattle.std.proofs.Common.{◌≡◌, ℕ, ◌+◌, List, [], ◌++◌, refl, ap, ◌∙◌, append-nil, append_assoc, add-zero, true, false}
+use Rattle.std.proofs.Common.{◌≡◌, ℕ, ◌+◌, List, [], ◌++◌, refl, ◌∙◌, append-nil, add-zero, true, false}
 use Rattle.std.specs.Prelude.{slice_index, slice_index_or}
 use Rattle.xp_words.specs.declared.reply.LogLine.{LogLine}
 use Rattle.xp_words.specs.declared.place.Place.TheVariants.{Refs, Kind, M2p}

@@ -1,4 +1,5 @@
 pub mod LogTexts
 pub mod Memories
 pub mod ReportOf
+pub mod SummaryOf
 pub mod WordTexts

@@ -96,12 +96,16 @@ frame_texts m frames = flat_map (frame_text m) (range_with_len 0 frames)
 unfoldable pub free_frames : Memory → ℕ → ℕ
 free_frames m frames = count_by (λ f. is_free_word (word m (Refs f))) (range_with_len 0 frames)
 
+-- how many of all frames are free
+unfoldable pub free_line : Memory → List ℕ
+free_line m = codes "free " ++ (decimal (free_frames m m.machine.frames) ++ codes "\n")
+
 -- the vCPUs with their logs, the domains, the frames that are not free, and how many are free
 unfoldable pub text_of : Memory → List (List LogLine) → List ℕ → List ℕ
 text_of m logs pending =
     vcpu_texts m logs pending (length m.machine.vcpu_domain)
     ++ (domain_lines m (length m.machine.page_limit)
-    ++ (frame_texts m m.machine.frames ++ (codes "free " ++ (decimal (free_frames m m.machine.frames) ++ codes "\nend\n"))))
+    ++ (frame_texts m m.machine.frames ++ (free_line m ++ codes "end\n")))
 
 -- the report of a machine with these words, whose vCPUs have these logs and so many unanswered operations
 abbrev pub report_of : Machine → List ℕ → List (List LogLine) → List ℕ → List ℕ

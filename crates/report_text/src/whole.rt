@@ -1,6 +1,6 @@
 ghost use Rattle.std.specs.Prelude.{◌≡◌, ◌<◌, ◌++◌, Some, [], slice_index_or, length, OnOk, IfOk, string_bytes};
 ghost use Rattle.xp_words.specs.Places.{sizes_of, size};
-ghost use Rattle.report_text.specs.ReportOf.{vcpu_line, vcpu_text, vcpu_texts, pending_line, domain_line, domain_lines, is_free_word, holder_text, form_text, frame_by, frame_texts, free_frames, report_of};
+ghost use Rattle.report_text.specs.ReportOf.{vcpu_line, vcpu_text, vcpu_texts, pending_line, domain_line, domain_lines, is_free_word, holder_text, form_text, frame_by, frame_texts, free_frames, free_line, report_of};
 
 use crate::log::put_lines;
 use crate::memory::Memory;
@@ -180,22 +180,39 @@ fn put_domains(out: &mut String, machine: &Memory<'_>) -> Result<(), AllocError>
     Ok(())
 }
 
-/// Appends the lines of the frames that are not free, and returns how many are.
-fn put_frames(out: &mut String, machine: &Memory<'_>) -> Result<u32, AllocError>
-    ensures text { OnOk result (string_bytes out.new ≡ string_bytes out.old ++ frame_texts machine.now machine.now.machine.frames) }
-    ensures free { IfOk result (λ n. n ≡ free_frames machine.now machine.now.machine.frames) }
+fn put_frames(out: &mut String, machine: &Memory<'_>) -> Result<(), AllocError>
+    ensures { OnOk result (string_bytes out.new ≡ string_bytes out.old ++ frame_texts machine.now machine.now.machine.frames) }
+{
+    let layout = machine.layout();
+    for frame in 0..layout.frames {
+        let refs = machine.refs(frame);
+        if !is_free(refs) {
+            put_frame(out, frame, refs, machine.kind(frame), machine.m2p(frame))?;
+        }
+    }
+    Ok(())
+}
+
+fn free_count(machine: &Memory<'_>) -> u32
+    ensures { result ≡ free_frames machine.now machine.now.machine.frames }
 {
     let layout = machine.layout();
     let mut free = 0;
     for frame in 0..layout.frames {
-        let refs = machine.refs(frame);
-        if is_free(refs) {
+        if is_free(machine.refs(frame)) {
             free += 1;
-        } else {
-            put_frame(out, frame, refs, machine.kind(frame), machine.m2p(frame))?;
         }
     }
-    Ok(free)
+    free
+}
+
+/// Appends the line that says how many frames are free.
+#[tactic(auto, unfolding(crate::specs::ReportOf::free_line))]
+pub(crate) fn put_free(out: &mut String, machine: &Memory<'_>) -> Result<(), AllocError>
+    ensures { OnOk result (string_bytes out.new ≡ string_bytes out.old ++ free_line machine.now) }
+{
+    let free = free_count(machine);
+    writeln!(out, "free {free}")
 }
 
 /// The text of the report: each vCPU with its log and the number of its unanswered operations, each
@@ -217,7 +234,8 @@ pub fn report(
     let mut out = String::new(alloc);
     put_vcpus(&mut out, &machine, logs, pending)?;
     put_domains(&mut out, &machine)?;
-    let free = put_frames(&mut out, &machine)?;
-    write!(out, "free {free}\nend\n")?;
+    put_frames(&mut out, &machine)?;
+    put_free(&mut out, &machine)?;
+    out.push_str("end\n")?;
     Ok(out.into_bytes())
 }

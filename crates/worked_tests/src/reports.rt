@@ -1,10 +1,11 @@
-//! Reports (report_text).
+//! Reports and summaries (report_text).
 ghost use Rattle.std.specs.Prelude.{◌≡◌, ◌≤◌, length};
 ghost use Rattle.xp_words.specs.Places.{sizes_of, size};
 
 use arrayvec::ArrayVec;
-use report_text::report;
+use report_text::{report, summary};
 use sparse_words::SparseWords;
+use std::alloc::{AllocError, Global};
 use std::test::Fail;
 use xp_words::{Domains, Layout, Limits, Log, LogLine, Masks, PageType, Refusal, Reply};
 
@@ -382,5 +383,68 @@ end
 "
             .as_slice()
     );
+    Ok(())
+}
+
+// Answers in the logs of two vCPUs: operation, call, and whether it is refused.
+const FIRST: [(u32, u32, bool); 6] = [
+    (1, 0, false),
+    (2, 0, true),
+    (3, 1, false),
+    (3, 2, true),
+    (3, 0, true),
+    (4, 0, false),
+];
+
+const SECOND: [(u32, u32, bool); 1] = [(1, 0, false)];
+
+fn log_of(alloc: Global, answers: &[(u32, u32, bool)]) -> Result<Log, AllocError> {
+    let mut log = Log::new(Vec::new(alloc));
+    for (op, call, refused) in answers {
+        let reply = Reply {
+            done: 1,
+            value: 0,
+            refusal: if *refused {
+                Some(Refusal::NoFree)
+            } else {
+                None
+            },
+        };
+        log.push(LogLine::Given {
+            op: *op,
+            call: *call,
+            extent: 0,
+            frame: 1,
+        })?;
+        log.push(LogLine::Answer {
+            op: *op,
+            call: *call,
+            reply,
+        })?;
+    }
+    Ok(log)
+}
+
+// The operations of a run with these answers, and its summary.
+const SUMMARIES: [(u32, &str); 3] = [
+    (5, "generated 5 ok 3 refused 2 pending 0\nfree 2\n"),
+    (6, "generated 6 ok 3 refused 2 pending 1\nfree 2\n"),
+    (
+        4294967295,
+        "generated 4294967295 ok 3 refused 2 pending 4294967290\nfree 2\n",
+    ),
+];
+
+#[test]
+fn sums_up_two_logs(rt: HostRuntime) -> Result<(), Fail> {
+    let alloc = rt.alloc();
+    let layout = machine(12);
+    let mut words = SparseWords::new(alloc, &layout)?;
+    put_frame_words(&layout, &mut words);
+    let logs = [log_of(alloc, &FIRST)?, log_of(alloc, &SECOND)?];
+    for (operations, want) in SUMMARIES.iter() {
+        let text = summary(alloc, *operations, &layout, &words, &logs)?;
+        assert_eq!(rt; text.as_slice(), want.as_bytes());
+    }
     Ok(())
 }
