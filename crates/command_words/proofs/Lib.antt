@@ -2,3 +2,4 @@ pub mod Found
 pub mod Knowing
 pub mod Lists
 pub mod Spellings
+pub mod Within

@@ -1,7 +1,7 @@
 ghost use Rattle.std.specs.Prelude.{◌≡◌, is_some, map, codes, string_bytes};
 ghost use Rattle.std.specs.Str.{bytes_eq};
-ghost use Rattle.trace_lines.specs.Numbers.{is_proper as is_proper_lem};
-ghost use Rattle.command_words.specs.Words.{words_ask, has_digits as has_digits_lem, pace_behind, pace_in, pace_after};
+ghost use Rattle.trace_lines.specs.Numbers.{is_proper as is_proper_lem, numeral};
+ghost use Rattle.command_words.specs.Words.{words_ask, has_digits as has_digits_lem, number_within, operations_after, pace_behind, pace_in, pace_after};
 
 use crate::asked::Manner;
 
@@ -23,38 +23,63 @@ fn has_digits(word: &[u8]) -> bool
     word.iter().all(|c| c.is_ascii_digit())
 }
 
-// The word spells a pace: a number up to a million has six digits or fewer, or is a million.
-fn is_pace(word: &[u8]) -> bool
-    ensures { result ≡ is_some (pace_in word.now) }
+// The number that a word spells in decimal, without a leading zero.
+fn number_in(word: &str) -> Option<u64>
+    ensures { result ≡ numeral 10 word.now }
 {
-    let is_within = word.len() < 7 || word == b"1000000".as_slice();
-    is_proper(word) && has_digits(word) && is_within
+    let is_plain = is_proper(word.as_bytes()) && has_digits(word.as_bytes());
+    if is_plain { word.parse().ok() } else { None }
 }
 
-fn is_preempt(word: &String) -> bool
-    ensures { result ≡ bytes_eq (string_bytes word.now) (codes "--preempt") }
+fn is_number_within(word: &str, least: u64, most: u64) -> bool
+    ensures { result ≡ is_some (number_within least most word.now) }
 {
-    word.as_bytes() == b"--preempt".as_slice()
+    match number_in(word) {
+        Some(number) => least <= number && number <= most,
+        None => false,
+    }
+}
+
+fn is_pace(word: &str) -> bool
+    ensures { result ≡ is_some (pace_in word.now) }
+{
+    is_number_within(word, 0, 1_000_000)
+}
+
+fn is_preempt(word: &str) -> bool
+    ensures { result ≡ bytes_eq word.now (codes "--preempt") }
+{
+    word == "--preempt"
 }
 
 // The option and its pace in one word.
-fn is_preempt_with_pace(word: &String) -> bool
-    ensures { result ≡ is_some (pace_behind (string_bytes word.now)) }
+fn is_preempt_with_pace(word: &str) -> bool
+    ensures { result ≡ is_some (pace_behind word.now) }
 {
-    match word.as_bytes().strip_prefix(b"--preempt=".as_slice()) {
+    match word.strip_prefix("--preempt=") {
         Some(pace) => is_pace(pace),
         None => false,
     }
 }
 
-// The words behind a command give it a pace. None of them stand for 0.
+// The words behind `turns` or `replay` give a pace. None of them stand for 0.
 fn has_pace(words: &[String]) -> bool
     ensures { result ≡ is_some (pace_after (map string_bytes words.now)) }
 {
     match words {
         [] => true,
-        [option] => is_preempt_with_pace(option),
-        [option, pace] => is_preempt(option) && is_pace(pace.as_bytes()),
+        [option] => is_preempt_with_pace(option.as_str()),
+        [option, pace] => is_preempt(option.as_str()) && is_pace(pace.as_str()),
+        _ => false,
+    }
+}
+
+// The words behind `generate` are one number of operations.
+fn has_operations(words: &[String]) -> bool
+    ensures { result ≡ is_some (operations_after (map string_bytes words.now)) }
+{
+    match words {
+        [operations] => is_number_within(operations.as_str(), 1, 60_000),
         _ => false,
     }
 }
@@ -65,6 +90,7 @@ pub fn is_known(words: &[String]) -> bool
 {
     match words {
         [] => false,
+        [command, rest @ ..] if command.as_str() == "generate" => has_operations(rest),
         [command, rest @ ..] => Manner::named(command.as_str()).is_some() && has_pace(rest),
     }
 }

@@ -1,7 +1,7 @@
 ghost use Rattle.std.specs.Prelude.{◌≡◌, ◌<◌, ◌^◌, ℕ, List, IfOk, IfErr, Some, is_some, true, false, map, string_bytes};
 ghost use Rattle.std.specs.Str.Parse.{IsNumeral, digits_value};
 ghost use Rattle.command_words.specs.Words.{words_ask};
-ghost use Rattle.command_words.specs.Table.{found_with, pace_found, paced as paced_app, table};
+ghost use Rattle.command_words.specs.Table.{argument_of, found_with, generator as generator_app, number_of, paced as paced_app, table, text_found};
 ghost use Rattle.clap.specs.Words.{app_of, subcommand_rows_of};
 ghost use Rattle.clap.specs.declared.builder.command.Command.TheViews.{out-Command};
 
@@ -23,33 +23,53 @@ fn paced<'a>(alloc: Global, name: &'a str) -> Result<Command<'a>, AllocError>
     Command::new(alloc, name).arg(pace)
 }
 
+// `generate`, with its number of operations.
+fn generator<'a>(alloc: Global) -> Result<Command<'a>, AllocError>
+    ensures app { IfOk result (λ c. app_of c ≡ generator_app) }
+    ensures local { IfOk result (λ c. (out-Command c).has_globals ≡ false) }
+{
+    let operations = Arg::new(alloc, "operations")
+        .required(true)
+        .value_parser(value_parser!(u32).range(1..=60_000));
+    Command::new(alloc, "generate").arg(operations)
+}
+
 // The commands, as `clap` is told of them. What the program says of words that are wrong is its own text.
 fn commands<'a>(alloc: Global) -> Result<Command<'a>, AllocError>
     ensures { IfOk result (λ c. app_of c ≡ table) }
 {
     let turns = paced(alloc, "turns")?;
     let replay = paced(alloc, "replay")?;
+    let generate = generator(alloc)?;
     Command::new(alloc, "ptmac")
         .no_binary_name(true)
         .disable_help_flag(true)
         .disable_help_subcommand(true)
         .subcommand_required(true)
         .subcommand(turns)?
-        .subcommand(replay)
+        .subcommand(replay)?
+        .subcommand(generate)
 }
 
-// The command that was found, and its pace.
+// The command that was found, and its number.
 fn asked_in(matches: &ArgMatches<'_>) -> Option<Asked>
-    ensures { (manner : Manner) (text : List ℕ) → pace_found (subcommand_rows_of matches.now) ≡ found_with manner text → IsNumeral 10 text → digits_value 10 text < 2 ^ 32 → result ≡ Some (record { manner = manner; pace = digits_value 10 text }) }
+    ensures { (asked : Asked) (text : List ℕ) → text_found (argument_of asked) (subcommand_rows_of matches.now) ≡ found_with asked text → IsNumeral 10 text → digits_value 10 text ≡ number_of asked → number_of asked < 2 ^ 32 → result ≡ Some asked }
 {
     let (name, found) = matches.subcommand()?;
-    let manner = Manner::named(name)?;
-    let pace = found.get_one::<u32>("preempt")?;
-    Some(Asked { manner, pace })
+    match Manner::named(name) {
+        Some(manner) => {
+            let pace = found.get_one::<u32>("preempt")?;
+            Some(Asked::Run { manner, pace })
+        }
+        None => {
+            let operations = found.get_one::<u32>("operations")?;
+            Some(Asked::Generate { operations })
+        }
+    }
 }
 
 /// What the words of the command line ask for, without the program's name. It is `None` exactly where they ask for no
-/// run; lists that `clap` takes and that are not known, as `turns --` or `replay --preempt 01`, are among those.
+/// run; lists that `clap` takes and that are not known, as `turns --` or `generate 060`, are among those.
 /// Memory is wanted for words that are known alone.
 pub fn asked_of(alloc: Global, words: &[String]) -> Result<Option<Asked>, AllocError>
     ensures reads { IfOk result (λ a. a ≡ words_ask (map string_bytes words.now)) }

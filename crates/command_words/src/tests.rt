@@ -11,17 +11,21 @@ fn asked_of_line(rt: &HostRuntime, line: &str) -> Result<Option<Asked>, Fail> {
 }
 
 fn turns(pace: u32) -> Option<Asked> {
-    Some(Asked {
+    Some(Asked::Run {
         manner: Manner::Turns,
         pace,
     })
 }
 
 fn replay(pace: u32) -> Option<Asked> {
-    Some(Asked {
+    Some(Asked::Run {
         manner: Manner::Replay,
         pace,
     })
+}
+
+fn generate(operations: u32) -> Option<Asked> {
+    Some(Asked::Generate { operations })
 }
 
 #[test]
@@ -46,8 +50,18 @@ fn reads_each_form_of_replay(rt: HostRuntime) -> Result<(), Fail> {
     Ok(())
 }
 
+#[test]
+fn reads_each_number_of_operations(rt: HostRuntime) -> Result<(), Fail> {
+    assert!(rt; asked_of_line(&rt, "generate 1")? == generate(1));
+    assert!(rt; asked_of_line(&rt, "generate 9")? == generate(9));
+    assert!(rt; asked_of_line(&rt, "generate 600")? == generate(600));
+    assert!(rt; asked_of_line(&rt, "generate 59999")? == generate(59_999));
+    assert!(rt; asked_of_line(&rt, "generate 60000")? == generate(60_000));
+    Ok(())
+}
+
 // Lists that a program with these commands would take, were it for `clap` alone.
-static TAKEN_BY_CLAP: [&str; 15] = [
+static TAKEN_BY_CLAP: [&str; 20] = [
     "--help",
     "-h",
     "help",
@@ -63,10 +77,15 @@ static TAKEN_BY_CLAP: [&str; 15] = [
     "replay --preempt 01",
     "replay --preempt=+1",
     "replay --preempt=-0",
+    "generate --help",
+    "generate 060",
+    "generate +5",
+    "generate -- 5",
+    "generate 5 --",
 ];
 
 // And others.
-static UNKNOWN: [&str; 30] = [
+static UNKNOWN: [&str; 49] = [
     "",
     "run",
     "turn",
@@ -97,6 +116,25 @@ static UNKNOWN: [&str; 30] = [
     "--preempt 1 replay",
     "replay --preempt 1 --preempt 2",
     "replay --preempt=1 --preempt=1",
+    "Generate 5",
+    "generates 5",
+    "generate",
+    "generate ",
+    "generate 0",
+    "generate 00",
+    "generate -5",
+    "generate 60001",
+    "generate 600000",
+    "generate 18446744073709551617",
+    "generate 0x5",
+    "generate five",
+    "generate 5 6",
+    "generate=5",
+    "generate 5 --preempt 1",
+    "generate --preempt 1 5",
+    "generate --preempt=1 5",
+    "--preempt 1 generate 5",
+    "turns generate 5",
 ];
 
 #[test]

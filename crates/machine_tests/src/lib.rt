@@ -7,6 +7,8 @@ mod boards;
 #[cfg(test)]
 mod examples;
 #[cfg(test)]
+mod generated;
+#[cfg(test)]
 mod lists;
 #[cfg(test)]
 mod rivals;

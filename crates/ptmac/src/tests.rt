@@ -5,10 +5,13 @@ const USAGE: &str = "\
 ptmac: this is no command line that it knows. It knows these:
 
 usage: ptmac COMMAND < TRACE
+       ptmac generate COUNT
 
   turns [--preempt N]   Runs the trace on standard input: the vCPUs take the turns that its
                         `turn` lines give them. Writes the report to standard output.
   replay [--preempt N]  The same, but each vCPU runs its whole script in a thread of its own.
+  generate COUNT        Reads nothing: makes a trace of COUNT operations, from 1 to 60000, runs it,
+                        and writes how many were done, refused and left pending.
 
   With --preempt N operations pause: each vCPU's gate says yes at each N-th time that it is
   asked. N is a decimal number up to 1000000 without leading zeros; with 0, as without the
@@ -17,7 +20,7 @@ usage: ptmac COMMAND < TRACE
 example: ptmac turns --preempt 300 < examples/pinned-in-several-turns.trace
 
 exit status:
-  0  the report was written
+  0  the report, or the summary of a generated trace, was written
   2  the words are no command, and nothing was read
   3  the input is no trace: the line on standard output says where and why
   4  the trace passes a limit: the line on standard output says which

@@ -25,7 +25,7 @@ use Rattle.vcpu_runners.specs.Turns.{IsOf, Processing, fresh}
 use Rattle.vcpu_runners.specs.Cpus.{AreShort, IsShort, first_cpu, first_cpus}
 use Rattle.xp_machine.specs.Cpus.{order}
 use Rattle.vcpu_runners.specs.Gates.{Gate}
-use Rattle.xp_machine.specs.Ran.{RanTrace, Closes, first_gates, report_at}
+use Rattle.xp_machine.specs.Ran.{RanTo, first_gates}
 use Rattle.xp_machine.specs.Ready.{Ready, TakesFresh}
 use Rattle.xp_machine.specs.Turns.{Stage, WorksOff, stage}
 use Rattle.xp_machine.proofs.Moving.{empty_at}
@@ -106,32 +106,29 @@ RestsSound =
     (n : Machine) (words : List ℕ) (hands : List Holdings) → SoundState n words hands → ((s : ℕ) → s < (sizes_of n).vcpus → IsEmptyHand (hand_of hands s)) → SoundWords n words
 
 -- ---- at the end
--- the report of a board that was closed, and the run that led to it
-pub ran : RunsSafe → RestsSound → (t : Trace) (b b2 : Board) (opened : List ℕ) (cpus cpus2 : List Processing) (all : List Gate) (gates gates2 : List Gate) (vs text : List ℕ) → SoundWords t.layout opened → IsOpening t opened →
+-- the run that led to a board
+pub ran : RunsSafe → RestsSound → (t : Trace) (b b2 : Board) (opened : List ℕ) (cpus cpus2 : List Processing) (all : List Gate) (gates gates2 : List Gate) (vs : List ℕ) → SoundWords t.layout opened → IsOpening t opened →
     b.machine ≡ t.layout → b.story ≡ opened_story t.layout opened → b2.machine ≡ b.machine → b2.story.opening ≡ b.story.opening → Ready b2 cpus2 → cpus ≡ first_cpus t.layout t.scripts → gates ≡ first_gates t.layout all →
-    vs ≡ order t.turns → WorksOff b.machine vs (stage b.story cpus gates) (stage b2.story cpus2 gates2) → Closes b2.machine b2.story.opening (stage b2.story cpus2 gates2) text → RanTrace t all text
-ran guards rests t b b2 opened cpus cpus2 all gates gates2 vs text words opening machine story kept opens ready first own those works closes =
+    vs ≡ order t.turns → WorksOff b.machine vs (stage b.story cpus gates) (stage b2.story cpus2 gates2) → runs.Run b2.machine (runs.start b2.machine b2.story.opening) b2.story.log (state_of b2.story) →
+    RanTo t all (stage b2.story cpus2 gates2)
+ran guards rests t b b2 opened cpus cpus2 all gates gates2 vs words opening machine story kept opens ready first own those works run =
     let z = t.layout in
     let closed : Stage = stage b2.story cpus2 gates2 in
     let begins = start_sound z opened words in
     let machine2 : b2.machine ≡ z = kept ∙ machine in
     let from2 : b2.story.opening ≡ opened = opens ∙ ap (λ (x : Story). x.opening) story in
-    let run : runs.Run z (runs.start z opened) closed.board.log (state_of closed.board) =
-    subst (λ ws. runs.Run z (runs.start z ws) closed.board.log (state_of closed.board)) from2
-    (subst (λ k. runs.Run k (runs.start k b2.story.opening) closed.board.log (state_of closed.board)) machine2 closes.run) in
-    let sound : SoundState z closed.board.words closed.board.hands = subst (λ k. SoundState k closed.board.words closed.board.hands) machine2 closes.sound in
+    let sound : SoundState z closed.board.words closed.board.hands = subst (λ k. SoundState k closed.board.words closed.board.hands) machine2 ready.sound in
     record {
       opened = opened;
       opening = opening;
-      closed = closed;
       works = subst (λ k. WorksOff k (order t.turns) (stage (opened_story z opened) (first_cpus z t.scripts) (first_gates z all)) closed) machine
           (subst (λ us. WorksOff b.machine us (stage (opened_story z opened) (first_cpus z t.scripts) (first_gates z all)) closed) those
           (subst (λ gs. WorksOff b.machine vs (stage (opened_story z opened) (first_cpus z t.scripts) gs) closed) own
           (subst (λ cs. WorksOff b.machine vs (stage (opened_story z opened) cs gates) closed) first (subst (λ st. WorksOff b.machine vs (stage st cpus gates) closed) story works))));
-      run = run;
+      run = subst (λ ws. runs.Run z (runs.start z ws) closed.board.log (state_of closed.board)) from2
+          (subst (λ k. runs.Run k (runs.start k b2.story.opening) closed.board.log (state_of closed.board)) machine2 run);
       safe = λ newer older a parts run2. guards z (runs.start z opened) a older run2 begins;
       sound = rests z closed.board.words closed.board.hands sound (λ s real. empty_at b2 cpus2 s ready (subst (λ (k : Machine). s < (sizes_of k).vcpus) (sym machine2) real));
-      report = closes.report ∙ ap (λ k. report_at k closed) machine2;
     }
 
 pub short_runner : {A : Type 0} (cpu : A → Processing) (hands : List A) (i : ℕ) (d : A) → i < length hands → AreShort (map cpu hands) → IsShort (cpu (slice_index_or hands i d))

@@ -1,5 +1,5 @@
 -- The statuses that come with a text.
-use Rattle.std.proofs.Common.{◌≢◌, ℕ, if◌then◌else◌, List, [], ◌∷◌, map, Result, Ok, Err, Option, Some, None, ◌≡◌, refl, sym, subst}
+use Rattle.std.proofs.Common.{◌≢◌, ℕ, if◌then◌else◌, List, [], ◌∷◌, map, Result, Ok, Err, Option, Some, None, option_map, ◌≡◌, refl, sym, subst}
 use Rattle.trace_lines.specs.declared.fault.LineFault.{LineFault}
 use Rattle.trace_lines.specs.declared.fault.LineFault.TheVariants.{Passed, Bad}
 use Rattle.trace_text.specs.declared.trace.Trace.{Trace}
@@ -10,10 +10,10 @@ use Rattle.vcpu_runners.specs.Gates.{Gate, ArePaced, IsPaced, SetBy}
 use Rattle.xp_preempt.specs.Gates.{is_in_step}
 use Rattle.xp_machine.specs.Texts.{fault_status}
 use Rattle.command_words.specs.declared.asked.Asked.{Asked}
+use Rattle.command_words.specs.declared.asked.Asked.TheVariants.{Run, Generate}
 use Rattle.command_words.specs.declared.asked.Manner.{Manner}
-use Rattle.command_words.specs.declared.asked.Manner.TheVariants as manners
 use Rattle.std.specs.Io.KnownBytes.{Keeps}
-use Rattle.xp_machine.specs.Outcome.{WroteText, Outcome, OutcomeBy, IsDue, IsAnswer, pace_asked, serial_of}
+use Rattle.xp_machine.specs.Outcome.{WroteText, Outcome, OutcomeBy, OutcomeOf, IsDue, IsAnswer, pace_of}
 
 -- a status that says of source and sink that its text was written, and that is none of the others
 pub record HasText (s : Status) : Type 0 where
@@ -38,15 +38,14 @@ pub due_has_text : (manner : Manner) (gates : List Gate) (from from' : Option (L
 due_has_text manner gates from from' s text due = of_answer manner gates (trace_of due.0) s text due.2
 
 -- ---- what the words ask for
--- the gates are told the pace, and the run is of the manner
-pub outcome_by : (asked : Option Asked) (a : Asked) (manner : Manner) (gates set : List Gate) (from from' to to' : Option (List ℕ)) (s : Status) → asked ≡ Some a → a.manner ≡ manner → ArePaced a.pace gates set →
-    Outcome manner set from from' to to' s → OutcomeBy asked gates from from' to to' s
-outcome_by asked a manner gates set from from' to to' s is by paced out =
-    subst (λ o. OutcomeBy o gates from from' to to' s) (sym is) (set, paced, subst (λ m. Outcome m set from from' to to' s) (sym by) out)
+-- the gates are told the pace, and what is asked is done
+pub outcome_by : (asked : Option Asked) (a : Asked) (gates set : List Gate) (from from' to to' : Option (List ℕ)) (s : Status) → asked ≡ Some a → ArePaced (pace_of a) gates set → OutcomeOf (Some a) set from from' to to' s →
+    OutcomeBy asked gates from from' to to' s
+outcome_by asked a gates set from from' to to' s is paced out = subst (λ o. OutcomeBy o gates from from' to to' s) (sym is) (set, paced, out)
 
 -- they ask for no run
-pub no_outcome : (asked : Option Asked) (gates : List Gate) (from to : Option (List ℕ)) → asked ≡ None → Keeps from from → Keeps to to → OutcomeBy asked gates from from to to status.BadWords
-no_outcome asked gates from to is kept kept_too = subst (λ o. OutcomeBy o gates from from to to status.BadWords) (sym is) (gates, refl, (kept, kept_too))
+pub no_outcome : (asked : Option Asked) (gates : List Gate) (from to : Option (List ℕ)) (s : Status) → asked ≡ None → Keeps from from → Keeps to to → OutcomeBy asked gates from from to to s
+no_outcome asked gates from to s is kept kept_too = subst (λ o. OutcomeBy o gates from from to to s) (sym is) (gates, refl, (kept, kept_too))
 
 -- a gate that was told a pace
 abbrev told : ℕ → Gate → Gate
@@ -60,20 +59,15 @@ are_told every [] = tt
 are_told every (g ∷ gs) = (is_told every g, are_told every gs)
 
 -- there are gates that are told the pace
-could_be_set : (asked : Option Asked) (gates : List Gate) → (set : List Gate) × SetBy (pace_asked asked) gates set
+could_be_set : (pace : Option ℕ) (gates : List Gate) → (set : List Gate) × SetBy pace gates set
 could_be_set None gates = (gates, refl)
-could_be_set (Some a) gates = (map (told a.pace) gates, are_told a.pace gates)
+could_be_set (Some every) gates = (map (told every) gates, are_told every gates)
 
--- want of memory says nothing but that nothing was written
-pub memory_outcome : (asked : Option Asked) (gates : List Gate) (from from' to to' : Option (List ℕ)) → Keeps to to' → OutcomeBy asked gates from from' to to' status.Memory
-memory_outcome asked gates from from' to to' kept = let set = could_be_set asked gates in (set.0, set.1, kept)
-
--- ---- without threads
-pub serial_turns : (asked : Option Asked) (a : Asked) → asked ≡ Some a → a.manner ≡ manners.Turns → serial_of asked ≡ Some a
-serial_turns asked a is turns = rw (is, turns) refl
-
-pub serial_replay : (asked : Option Asked) (a : Asked) → asked ≡ Some a → a.manner ≡ manners.Replay → serial_of asked ≡ None
-serial_replay asked a is turns = rw (is, turns) refl
-
-pub serial_none : (asked : Option Asked) → asked ≡ None → serial_of asked ≡ None
-serial_none asked is = rw is refl
+-- want of memory before anything is read
+pub memory_outcome : (asked : Option Asked) (gates : List Gate) (from to : Option (List ℕ)) → Keeps from from → Keeps to to → OutcomeBy asked gates from from to to status.Memory
+memory_outcome asked gates from to kept kept_too = let set = could_be_set (option_map pace_of asked) gates in (set.0, set.1, of asked)
+  where
+    of : (o : Option Asked) → OutcomeOf o (could_be_set (option_map pace_of asked) gates).0 from from to to status.Memory
+    of (Some (Run manner pace)) = kept_too
+    of (Some (Generate n)) = (kept, kept_too)
+    of None = (kept, kept_too)

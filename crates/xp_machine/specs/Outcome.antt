@@ -1,5 +1,5 @@
 -- What each status of a run says of the source and of the sink.
-use Rattle.std.specs.Prelude.{◌≡◌, ℕ, ◌⊎◌, List, length, Option, Some, None, Result, Ok, Err}
+use Rattle.std.specs.Prelude.{◌≡◌, ℕ, ◌⊎◌, Bool, true, false, List, length, Option, Some, None, option_map, Result, Ok, Err}
 use Rattle.std.specs.Io.KnownBytes.{Consumes, IsAtEnd, Appends, Keeps}
 use Rattle.xp_io.specs.Causes.{AppendsFront}
 use Rattle.trace_text.specs.declared.trace.Trace.{Trace}
@@ -9,9 +9,10 @@ use Rattle.xp_machine.specs.declared.status.Status.TheVariants as status
 use Rattle.xp_machine.specs.Texts.{fault_text, fault_status}
 use Rattle.vcpu_runners.specs.Gates.{Gate, SetBy}
 use Rattle.command_words.specs.declared.asked.Asked.{Asked}
+use Rattle.command_words.specs.declared.asked.Asked.TheVariants.{Run, Generate}
 use Rattle.command_words.specs.declared.asked.Manner.{Manner}
 use Rattle.command_words.specs.declared.asked.Manner.TheVariants as manners
-use Rattle.xp_machine.specs.Ran.{RanTrace}
+use Rattle.xp_machine.specs.Ran.{RanGenerated, RanTrace}
 use Rattle.xp_machine.specs.Replay.{ReplayedTrace}
 
 -- these bytes were taken: all that were left, or one more than a trace may have, and no further one
@@ -50,23 +51,42 @@ Outcome manner gates from from' to to' status.ReadFault = Keeps to to'
 Outcome manner gates from from' to to' status.Memory = Keeps to to'
 Outcome manner gates from from' to to' status.BadWords = Keeps from from' × Keeps to to'
 
--- the same where the gates are first told the pace that the words ask for, and the run is of the manner that they ask for
-abbrev pub pace_asked : Option Asked → Option ℕ
-pace_asked (Some asked) = Some asked.pace
-pace_asked None = None
+-- The summary of a run of the generated trace of so many operations was written, or a front of it, or nothing. There is no other outcome.
+abbrev pub GeneratedOutcome : ℕ → List Gate → Option (List ℕ) → Option (List ℕ) → Status → Type 0
+GeneratedOutcome n gates to to' status.Done = (text : List ℕ) × RanGenerated n gates text × Appends to to' text
+GeneratedOutcome n gates to to' status.WriteFault = (text : List ℕ) × RanGenerated n gates text × AppendsFront to to' text
+GeneratedOutcome n gates to to' status.Memory = Keeps to to'
+GeneratedOutcome n gates to to' status.BadTrace = ⊥
+GeneratedOutcome n gates to to' status.TooLarge = ⊥
+GeneratedOutcome n gates to to' status.ReadFault = ⊥
+GeneratedOutcome n gates to to' status.BadWords = ⊥
 
-abbrev pub manner_in : Option Asked → Manner
-manner_in (Some asked) = asked.manner
-manner_in None = manners.Turns
+-- by what the words ask for: a run of what is read, or of a generated trace, where nothing is read; or nothing at all
+abbrev pub OutcomeOf : Option Asked → List Gate → Option (List ℕ) → Option (List ℕ) → Option (List ℕ) → Option (List ℕ) → Status → Type 0
+OutcomeOf (Some (Run manner pace)) gates from from' to to' answer = Outcome manner gates from from' to to' answer
+OutcomeOf (Some (Generate n)) gates from from' to to' answer = Keeps from from' × GeneratedOutcome n gates to to' answer
+OutcomeOf None gates from from' to to' answer = Keeps from from' × Keeps to to'
+
+-- the pace that the gates are told; a generated run is not to be interrupted
+abbrev pub pace_of : Asked → ℕ
+pace_of (Run manner pace) = pace
+pace_of (Generate n) = 0
 
 abbrev pub OutcomeBy : Option Asked → List Gate → Option (List ℕ) → Option (List ℕ) → Option (List ℕ) → Option (List ℕ) → Status → Type 0
-OutcomeBy asked gates from from' to to' answer = (set : List Gate) × SetBy (pace_asked asked) gates set × Outcome (manner_in asked) set from from' to to' answer
+OutcomeBy asked gates from from' to to' answer = (set : List Gate) × SetBy (option_map pace_of asked) gates set × OutcomeOf asked set from from' to to' answer
+
+-- whether a trace is to be read
+abbrev pub reads_trace : Option Asked → Bool
+reads_trace (Some (Run manner pace)) = true
+reads_trace (Some (Generate n)) = false
+reads_trace None = false
 
 -- what words ask for that are to be run without threads
-abbrev pub serial_by : Asked → Manner → Option Asked
-serial_by asked manners.Turns = Some asked
-serial_by asked manners.Replay = None
+abbrev pub serial_by : Manner → ℕ → Option Asked
+serial_by manners.Turns pace = Some (Run manners.Turns pace)
+serial_by manners.Replay pace = None
 
 abbrev pub serial_of : Option Asked → Option Asked
-serial_of (Some asked) = serial_by asked asked.manner
+serial_of (Some (Run manner pace)) = serial_by manner pace
+serial_of (Some (Generate n)) = Some (Generate n)
 serial_of None = None

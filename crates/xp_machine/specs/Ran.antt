@@ -3,12 +3,14 @@ use Rattle.std.specs.Prelude.{◌++◌, ◌≡◌, ℕ, List, map, take}
 use Rattle.xp_words.specs.declared.reply.LogLine.{LogLine}
 use Rattle.trace_text.specs.declared.trace.Trace.{Trace}
 use Rattle.machine_build.specs.Opening.{IsOpening}
+use Rattle.trace_gen.specs.Generated.{generated, generated_machine}
 use Rattle.report_text.specs.ReportOf.{report_of}
+use Rattle.report_text.specs.SummaryOf.{summary_of}
 use Rattle.xp_board.specs.declared.step.Step.{Step}
 use Rattle.xp_words.specs.Machine.{Machine}
 use Rattle.xp_words.specs.Places.{sizes_of, memory}
 use Rattle.xp_board.specs.Safe.{Safe}
-use Rattle.xp_board.specs.Sound.{hand_of, SoundState, SoundWords}
+use Rattle.xp_board.specs.Sound.{hand_of, SoundWords}
 use Rattle.xp_board.specs.Runs as runs
 use Rattle.shared_board.specs.Board.{opened_story, state_of}
 use Rattle.vcpu_runners.specs.Turns.{Processing, pending_of}
@@ -28,24 +30,39 @@ log_of c = c.log
 abbrev pub report_at : Machine → Stage → List ℕ
 report_at n s = report_of n s.board.words (map log_of s.cpus) (map pending_of s.cpus)
 
--- The text is the report of words that legal steps lead to. From the opening words, with empty hands, the vCPUs make the
--- turns that the trace asks for, in its order, each with the own gate; then each stops that is not retired.
-pub record RanTrace (t : Trace) (gates : List Gate) (text : List ℕ) : Type 0 where
+-- the summary of the same, for so many operations
+abbrev pub summary_at : ℕ → Machine → Stage → List ℕ
+summary_at operations n s = summary_of operations n s.board.words (map log_of s.cpus)
+
+-- Legal steps lead to this stage. From the opening words, with empty hands, the vCPUs make the turns that the trace asks for, in
+-- its order, each with the own gate; then each stops that is not retired.
+pub record RanTo (t : Trace) (gates : List Gate) (closed : Stage) : Type 0 where
   pub opened : List ℕ
   pub opening : IsOpening t opened
-  pub closed : Stage
   pub works : WorksOff t.layout (order t.turns) (stage (opened_story t.layout opened) (first_cpus t.layout t.scripts) (first_gates t.layout gates)) closed
   -- the list of all steps that were made on the board
   pub run : runs.Run t.layout (runs.start t.layout opened) closed.board.log (state_of closed.board)
   -- between any two of these steps, and behind the last, the machine is safe
   pub safe : (newer older : List (ℕ × Step)) (a : runs.State) → closed.board.log ≡ newer ++ older → runs.Run t.layout (runs.start t.layout opened) older a →
       Safe t.layout (memory (sizes_of t.layout) a.words) (hand_of a.hands)
-  -- the words that are printed are sound with empty hands
+  -- the closing words are sound with empty hands
   pub sound : SoundWords t.layout closed.board.words
+
+-- The text is the report of the words and the logs at the end of such a run of the trace.
+pub record RanTrace (t : Trace) (gates : List Gate) (text : List ℕ) : Type 0 where
+  pub closed : Stage
+  pub ran : RanTo t gates closed
   pub report : text ≡ report_at t.layout closed
 
--- what a board with these words at its opening, and its vCPUs, are at the end
-pub record Closes (n : Machine) (opened : List ℕ) (closed : Stage) (text : List ℕ) : Type 0 where
-  pub run : runs.Run n (runs.start n opened) closed.board.log (state_of closed.board)
-  pub sound : SoundState n closed.board.words closed.board.hands
-  pub report : text ≡ report_at n closed
+-- The text is the summary of the words and the logs at the end of such a run of the generated trace of so many operations.
+pub record RanGenerated (operations : ℕ) (gates : List Gate) (text : List ℕ) : Type 0 where
+  pub closed : Stage
+  pub ran : RanTo (generated operations) gates closed
+  pub summary : text ≡ summary_at operations generated_machine closed
+
+-- such a run leaves these words and vCPUs
+pub record RanToWords (t : Trace) (gates : List Gate) (words : List ℕ) (cpus : List Processing) : Type 0 where
+  pub closed : Stage
+  pub ran : RanTo t gates closed
+  pub words_are : words ≡ closed.board.words
+  pub cpus_are : cpus ≡ closed.cpus

@@ -1,27 +1,28 @@
 ghost use Rattle.std.specs.Prelude.{◌≡◌, ◌≤◌, length, map, vec_len, IfOk};
 ghost use Rattle.xp_words.specs.Places.{size, sizes_of};
 ghost use Rattle.report_text.specs.ReportOf.{report_of};
+ghost use Rattle.report_text.specs.SummaryOf.{summary_of};
 ghost use Rattle.trace_text.specs.Counted.{ops_of};
 ghost use Rattle.trace_text.specs.WellFormed.{IsWellFormed};
 ghost use Rattle.vcpu_runners.specs.Turns.{pending_of};
 ghost use Rattle.vcpu_runners.specs.Cpus.{AreShort, first_cpus};
-ghost use Rattle.vcpu_runners.specs.Gates.{gate_of, in_box};
-ghost use Rattle.xp_machine.specs.Ran.{Closes, RanTrace, first_gates, log_of};
+ghost use Rattle.vcpu_runners.specs.Gates.{gate_of};
+ghost use Rattle.xp_machine.specs.Ran.{RanGenerated, RanToWords, RanTrace, first_gates, log_of};
 ghost use Rattle.vcpu_runners.specs.Rows.{cpus_of, gates_of};
-ghost use Rattle.xp_machine.specs.Rows.{stage_of};
 
 use crate::turns::run_all;
 use machine_build::opening;
 use opening_rule::opening_words_are_sound;
-use report_text::report;
+use report_text::{report, summary};
 use shared_board::PlainBoard;
 use sound_rule::{a_run_leaves_it_safe, rested_words_are_sound};
 use sparse_words::SparseWords;
 use std::alloc::{AllocError, Global};
+use trace_gen::generate;
 use trace_text::{ScriptList, Trace};
 use vcpu_runners::{Cpu, Runner};
 use xp_preempt::Preempt;
-use xp_words::Layout;
+use xp_words::{Layout, Log};
 
 // The vCPUs before their first turn, each with its gate. Gates that are left over are let go.
 pub(crate) fn first_runners(
@@ -46,6 +47,21 @@ pub(crate) fn first_runners(
     Ok(runners)
 }
 
+// What the vCPUs logged, and how many operations each of them has not answered.
+fn logs_and_pending(alloc: Global, runners: Vec<Runner>) -> Result<(Vec<Log>, Vec<u32>), AllocError>
+    requires short { AreShort (cpus_of runners.items) }
+    ensures { IfOk result (λ r. (r.0.items ≡ map log_of (cpus_of runners.items)) × (r.1.items ≡ map pending_of (cpus_of runners.items))) }
+{
+    let mut logs = Vec::new(alloc);
+    let mut pending = Vec::new(alloc);
+    'runners: for runner in runners {
+        let (cpu, _) = runner.into_parts();
+        pending.push(cpu.pending())?;
+        logs.push(cpu.into_log())?;
+    }
+    Ok((logs, pending))
+}
+
 // The report of these words and of the vCPUs' logs.
 pub(crate) fn report_with(
     alloc: Global,
@@ -58,37 +74,22 @@ pub(crate) fn report_with(
     requires short { AreShort (cpus_of runners.items) }
     ensures { IfOk result (λ v. v.items ≡ report_of layout.now words.now (map log_of (cpus_of runners.items)) (map pending_of (cpus_of runners.items))) }
 {
-    let mut logs = Vec::new(alloc);
-    let mut pending = Vec::new(alloc);
-    'runners: for runner in runners {
-        let (cpu, _) = runner.into_parts();
-        pending.push(cpu.pending())?;
-        logs.push(cpu.into_log())?;
-    }
+    let (logs, pending) = logs_and_pending(alloc, runners)?;
     report(alloc, layout, words, &logs, &pending)
 }
 
-// The report of the board and of the vCPUs' logs.
-fn closing(alloc: Global, board: PlainBoard, runners: Vec<Runner>) -> Result<Vec<u8>, AllocError>
-    requires each { length runners.items ≡ (sizes_of board.machine).vcpus }
-    requires short { AreShort (cpus_of runners.items) }
-    ensures { IfOk result (λ v. Closes board.machine board.story.opening (stage_of (in_box (gate_of calm paces count_asks says)) board runners.items) v.items) }
-{
-    let layout = board.layout().copy();
-    let words = board.into_words();
-    report_with(alloc, &layout, &words, runners)
-}
-
-/// Runs a trace: the machine is made, the turns are taken, the vCPUs stop, and the report is written out. The text is
-/// the report of words that legal steps lead to. The gates are let go at the end.
-pub fn execute(
+// Runs a trace: the machine is made, the turns are taken, and the vCPUs stop. Gives the closing words and the vCPUs. Gate v belongs to vCPU
+// v and comes back with it; the further ones are let go at once.
+fn run_words(
     alloc: Global,
     trace: Trace,
     gates: Vec<Box<dyn Preempt + Send>>,
-) -> Result<Vec<u8>, AllocError>
+) -> Result<(SparseWords, Vec<Runner>), AllocError>
     requires well { IsWellFormed trace }
     requires gates { 16 ≤ vec_len gates }
-    ensures { IfOk result (λ v. RanTrace trace (map (gate_of calm paces count_asks says) gates.items) v.items) }
+    ensures ran { IfOk result (λ r. RanToWords trace (map (gate_of calm paces count_asks says) gates.items) r.0 (cpus_of r.1.items)) }
+    ensures words { IfOk result (λ r. length r.0 ≡ size (sizes_of trace.layout)) }
+    ensures cpus { IfOk result (λ r. (length r.1.items ≡ (sizes_of trace.layout).vcpus) × AreShort (cpus_of r.1.items)) }
 {
     // What the steps keep is law: these calls do nothing.
     opening_words_are_sound();
@@ -107,5 +108,39 @@ pub fn execute(
     let runners = first_runners(alloc, &layout, scripts, gates)?;
     let board = PlainBoard::make(alloc, layout, words)?;
     let (board, runners) = run_all(board, runners, turns.as_slice());
-    closing(alloc, board, runners)
+    Ok((board.into_words(), runners))
+}
+
+/// Runs a trace by the turns that it asks for, and writes the report out: it is that of words that legal steps lead to. The
+/// gates are let go at the end.
+pub fn execute(
+    alloc: Global,
+    trace: Trace,
+    gates: Vec<Box<dyn Preempt + Send>>,
+) -> Result<Vec<u8>, AllocError>
+    requires well { IsWellFormed trace }
+    requires gates { 16 ≤ vec_len gates }
+    ensures { IfOk result (λ v. RanTrace trace (map (gate_of calm paces count_asks says) gates.items) v.items) }
+{
+    let layout = trace.layout.copy();
+    let (words, runners) = run_words(alloc, trace, gates)?;
+    report_with(alloc, &layout, &words, runners)
+}
+
+/// Runs the generated trace of so many operations in the same way, and sums up how they were answered.
+pub fn execute_generated(
+    alloc: Global,
+    operations: u32,
+    gates: Vec<Box<dyn Preempt + Send>>,
+) -> Result<Vec<u8>, AllocError>
+    requires least { 1 ≤ operations }
+    requires most { operations ≤ 60000 }
+    requires gates { 16 ≤ vec_len gates }
+    ensures { IfOk result (λ v. RanGenerated operations (map (gate_of calm paces count_asks says) gates.items) v.items) }
+{
+    let trace = generate(alloc, operations)?;
+    let layout = trace.layout.copy();
+    let (words, runners) = run_words(alloc, trace, gates)?;
+    let (logs, _) = logs_and_pending(alloc, runners)?;
+    summary(alloc, operations, &layout, &words, &logs)
 }

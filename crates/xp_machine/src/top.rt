@@ -1,15 +1,16 @@
-ghost use Rattle.std.specs.Prelude.{◌≡◌, ◌≢◌, ◌≤◌, ◌↔◌, ◌⊎◌, None, map, string_bytes, List, ℕ, length, vec_len, IfOk, IsErrOf};
+ghost use Rattle.std.specs.Prelude.{◌≡◌, ◌≢◌, ◌≤◌, ◌↔◌, ◌⊎◌, None, false, map, string_bytes, List, ℕ, length, vec_len, IfOk, IsErrOf};
 ghost use Rattle.xp_io.specs.Causes.{Rose};
 ghost use Rattle.trace_text.specs.TraceOf.{trace_of};
 ghost use Rattle.vcpu_runners.specs.Gates.{ArePaced, Gate, IsPaced, gate_of};
-ghost use Rattle.xp_machine.specs.Outcome.{IsAnswer, IsDue, Outcome, OutcomeBy, serial_of};
+ghost use Rattle.xp_machine.specs.Outcome.{GeneratedOutcome, IsAnswer, IsDue, Outcome, OutcomeBy, reads_trace, serial_of};
 ghost use Rattle.command_words.specs.Words.{words_ask};
 ghost use Rattle.command_words.specs.declared.asked.Manner.{Manner};
 
+use crate::execute::execute_generated;
 use crate::running::{InThreads, InTurns, Running};
 use crate::status::Status;
 use crate::texts::{bad_text, large_text};
-use command_words::{Manner, asked_of};
+use command_words::{Asked, Manner, asked_of};
 use std::alloc::{AllocError, Global};
 use std::sync::Wait;
 use std::thread::Threads;
@@ -160,10 +161,34 @@ fn run_with<M: Running, S: Source, K: Sink>(
     }
 }
 
+// Runs the generated trace of so many operations, in which no gate with a pace says yes, and writes its summary. Nothing is read.
+fn run_generated<K: Sink>(
+    alloc: Global,
+    operations: u32,
+    sink: &mut K,
+    gates: Vec<Box<dyn Preempt + Send>>,
+) -> Status
+    requires least { 1 ≤ operations }
+    requires most { operations ≤ 60000 }
+    requires gates { 16 ≤ vec_len gates }
+    ensures outcome { (set : List Gate) × ArePaced 0 (map (gate_of calm paces count_asks says) gates.items) set × GeneratedOutcome operations set (K.taken sink.old) (K.taken sink.new) result }
+    ensures write { result ≡ Status.WriteFault → Rose (K.faults sink.old) (K.faults sink.new) }
+    ensures write_kept { result ≢ Status.WriteFault → K.faults sink.new ≡ K.faults sink.old }
+{
+    match execute_generated(alloc, operations, paced(gates, 0)) {
+        Ok(text) => match write_whole(sink, &text) {
+            Ok(()) => Status::Done,
+            Err(_) => Status::WriteFault,
+        },
+        Err(_) => Status::Memory,
+    }
+}
+
 /// Runs a trace: reads it to its end, runs it, and writes what is due. `words` are the words of the command line
 /// without the program's name: `turns` or `replay`, each perhaps with `--preempt N` or `--preempt=N`, which sets the pace of the gates.
 /// With `turns` one thread takes the turns that the trace asks for; with `replay` each vCPU has a thread of its own and takes turns until it is
-/// retired, so that call returns only where all are. Where the words are others, nothing is read. Gate v belongs to vCPU v, and is let go when
+/// retired, so that call returns only where all are. With `generate N` the trace is the generated one of N operations: it is run as by `turns`
+/// at pace 0, and its summary is written. Then, and where the words are others, nothing is read. Gate v belongs to vCPU v, and is let go when
 /// the call returns; the further ones are let go at once.
 pub fn run<R: Threads + Wait + Sync, S: Source, K: Sink>(
     rt: &R,
@@ -178,6 +203,9 @@ pub fn run<R: Threads + Wait + Sync, S: Source, K: Sink>(
     // Which bytes were taken, what they spell, and what was written of the text that is due for it.
     ensures outcome { OutcomeBy (words_ask (map string_bytes words.now)) (map (gate_of calm paces count_asks says) gates.items) (S.left source.old) (S.left source.new) (K.taken sink.old) (K.taken sink.new) result }
 
+    // Where no trace is to be read, the source stays as it was.
+    ensures unread { reads_trace (words_ask (map string_bytes words.now)) ≡ false → (S.left source.new ≡ S.left source.old) × (S.faults source.new ≡ S.faults source.old) }
+
     // The words are refused exactly where they ask for no run.
     ensures words { (result ≡ Status.BadWords) ↔ (words_ask (map string_bytes words.now) ≡ None) }
 
@@ -188,13 +216,14 @@ pub fn run<R: Threads + Wait + Sync, S: Source, K: Sink>(
     ensures write_kept { result ≢ Status.WriteFault → K.faults sink.new ≡ K.faults sink.old }
 {
     match asked_of(alloc, words) {
-        Ok(Some(asked)) => {
-            let gates = paced(gates, asked.pace);
-            match asked.manner {
+        Ok(Some(Asked::Run { manner, pace })) => {
+            let gates = paced(gates, pace);
+            match manner {
                 Manner::Turns => run_with(&InTurns, alloc, source, sink, gates),
                 Manner::Replay => run_with(&InThreads { rt }, alloc, source, sink, gates),
             }
         }
+        Ok(Some(Asked::Generate { operations })) => run_generated(alloc, operations, sink, gates),
         Ok(None) => Status::BadWords,
         Err(_) => Status::Memory,
     }
@@ -213,16 +242,23 @@ pub fn run_serial<S: Source, K: Sink>(
     ensures words { result ≡ Status.BadWords → serial_of (words_ask (map string_bytes words.now)) ≡ None }
     ensures known { serial_of (words_ask (map string_bytes words.now)) ≡ None → (result ≡ Status.BadWords) ⊎ (result ≡ Status.Memory) }
     ensures unknown { words_ask (map string_bytes words.now) ≡ None → result ≡ Status.BadWords }
-    ensures unread { serial_of (words_ask (map string_bytes words.now)) ≡ None → S.left source.new ≡ S.left source.old }
+    ensures unread { reads_trace (serial_of (words_ask (map string_bytes words.now))) ≡ false → (S.left source.new ≡ S.left source.old) × (S.faults source.new ≡ S.faults source.old) }
     ensures read { result ≡ Status.ReadFault → Rose (S.faults source.old) (S.faults source.new) }
     ensures write { result ≡ Status.WriteFault → Rose (K.faults sink.old) (K.faults sink.new) }
     ensures read_kept { result ≢ Status.ReadFault → S.faults source.new ≡ S.faults source.old }
     ensures write_kept { result ≢ Status.WriteFault → K.faults sink.new ≡ K.faults sink.old }
 {
     match asked_of(alloc, words) {
-        Ok(Some(asked)) => match asked.manner {
-            Manner::Turns => run_with(&InTurns, alloc, source, sink, paced(gates, asked.pace)),
-            Manner::Replay => Status::BadWords,
+        Ok(Some(asked)) => match asked {
+            Asked::Run {
+                manner: Manner::Turns,
+                pace,
+            } => run_with(&InTurns, alloc, source, sink, paced(gates, pace)),
+            Asked::Run {
+                manner: Manner::Replay,
+                ..
+            } => Status::BadWords,
+            Asked::Generate { operations } => run_generated(alloc, operations, sink, gates),
         },
         Ok(None) => Status::BadWords,
         Err(_) => Status::Memory,

@@ -1,39 +1,21 @@
-use Rattle.std.proofs.Common.{◌≡◌, ◌∙◌, sym, ap, subst, map, length, rules}
-use Rattle.std.proofs.lemmas.Iterator.Adapters.{YieldsList-from_vec}
-use Rattle.std.proofs.lemmas.Iterator.Consumers.{YieldsList-turn, YieldsList-end}
-use Rattle.std.proofs.lemmas.List.{map-id, length-map}
-use Rattle.std.proofs.lemmas.Simd.{map-map}
+use Rattle.std.proofs.Common.{◌≡◌, ◌∙◌, map}
+use Rattle.std.proofs.lemmas.List.{length-map}
 use Rattle.report_text.specs.ReportOf.{report_of}
 use Rattle.vcpu_runners.specs.Turns.{pending_of}
-use Rattle.vcpu_runners.specs.Cpus.{IsShort}
 use Rattle.xp_machine.specs.Ran.{log_of}
-use Rattle.xp_machine.proofs.Reaching.{if_ok, short_runner}
+use Rattle.xp_machine.proofs.Reaching.{if_ok}
 use Rattle.xp_machine.proofs.execute.report_with.Goals as goal
 
-pub pending-requires : goal.pending-requires
-pending-requires g c =
-    let turn = YieldsList-turn (YieldsList-from_vec {s = c.into_iter-runner-iterator.result} c.args.runners.items (search rules) (search rules)) c.runners.yielded c.runners.runner-iterator c.runners.yielded_by c.next.result c.next.new.self c.in-Some.runner c.in-Some.is c.next.ensures.steps in
-    let short = short_runner (λ s. s.cpu) c.args.runners.items (length c.runners.yielded) c.in-Some.runner turn.0 c.requires.short in
-    subst IsShort (ap (λ s. s.cpu) (sym turn.1) ∙ sym c.into_parts-cpu.ensures.cpu) short
-
 pub report-requires-clause-logs : goal.report-requires-clause-logs
-report-requires-clause-logs g c =
-    let end = YieldsList-end (YieldsList-from_vec {s = c.into_iter-runner-iterator.result} c.args.runners.items (search rules) (search rules)) c.runners.yielded c.runners.runner-iterator c.runners.yielded_by c.next.result c.next.new.self c.in-None.is c.next.ensures.steps in
-    rw (c.deref.ensures.value, c.runners.invariant.logs, length-map) (end.1 ∙ c.requires.each)
+report-requires-clause-logs g c = rw (c.deref.ensures.value, c.in_ok-logs.ensures.0, length-map, length-map) c.requires.each
 
 pub report-requires-clause-pending : goal.report-requires-clause-pending
-report-requires-clause-pending g c =
-    let end = YieldsList-end (YieldsList-from_vec {s = c.into_iter-runner-iterator.result} c.args.runners.items (search rules) (search rules)) c.runners.yielded c.runners.runner-iterator c.runners.yielded_by c.next.result c.next.new.self c.in-None.is c.next.ensures.steps in
-    rw (c.deref-2.ensures.value, c.runners.invariant.pending, length-map) (end.1 ∙ c.requires.each)
+report-requires-clause-pending g c = rw (c.deref-2.ensures.value, c.in_ok-logs.ensures.1, length-map, length-map) c.requires.each
 
 pub returns : goal.returns
 returns g c =
-    let end = YieldsList-end (YieldsList-from_vec {s = c.into_iter-runner-iterator.result} c.args.runners.items (search rules) (search rules)) c.runners.yielded c.runners.runner-iterator c.runners.yielded_by c.next.result c.next.new.self c.in-None.is c.next.ensures.steps in
-    let all = sym (map-id c.runners.yielded) ∙ end.0 in
-    let logs : c.deref.result.now ≡ map log_of (map (λ s. s.cpu) c.args.runners.items) =
-    c.deref.ensures.value ∙ c.runners.invariant.logs ∙ ap (map (λ s. log_of s.cpu)) all ∙ sym (map-map log_of (λ s. s.cpu) c.args.runners.items) in
-    let pending : c.deref-2.result.now ≡ map pending_of (map (λ s. s.cpu) c.args.runners.items) =
-    c.deref-2.ensures.value ∙ c.runners.invariant.pending ∙ ap (map (λ s. pending_of s.cpu)) all ∙ sym (map-map pending_of (λ s. s.cpu) c.args.runners.items) in
+    let logs = c.deref.ensures.value ∙ c.in_ok-logs.ensures.0 in
+    let pending = c.deref-2.ensures.value ∙ c.in_ok-logs.ensures.1 in
     if_ok c.report.result (λ v. v.items ≡ report_of c.args.layout.now c.args.words.now c.deref.result.now c.deref-2.result.now)
     (λ v. v.items ≡ report_of c.args.layout.now c.args.words.now (map log_of (map (λ s. s.cpu) c.args.runners.items)) (map pending_of (map (λ s. s.cpu) c.args.runners.items)))
     (λ v is. is ∙ (λ i. report_of c.args.layout.now c.args.words.now (logs i) (pending i)))

@@ -1,17 +1,29 @@
-use Rattle.std.proofs.Common.{rules, sym, ◌∙◌}
+use Rattle.std.proofs.Common.{rules, Some, map, string_bytes, sym, ap, ◌∙◌}
+use Rattle.command_words.specs.declared.asked.Asked.TheVariants.{Run}
+use Rattle.command_words.proofs.Within.{generated_within}
 use Rattle.xp_machine.proofs.Statuses.{memory_outcome, no_outcome, outcome_by}
 use Rattle.xp_machine.proofs.top.run.Goals as goal
 
 pub returns-in-Turns-clause-outcome : goal.returns-in-Turns-clause-outcome
 returns-in-Turns-clause-outcome g c =
-    outcome_by _ c.in-Ok-Some.asked _ _ _ _ _ _ _ _ (sym c.in-Ok-Some.ensures.reads ∙ c.in-Ok-Some.field-0-is) c.in-Turns.is c.paced-gates.ensures.paced c.run_with.ensures.outcome
+    let asked = sym c.in-Ok-Some-Run.ensures.reads ∙ c.in-Ok-Some-Run.field-0-is ∙ ap Some c.in-Ok-Some-Run.field-0-0-is ∙ ap (λ m. Some (Run m c.in-Ok-Some-Run.pace)) c.in-Turns.is in
+    outcome_by _ _ _ _ _ _ _ _ _ asked c.paced-gates.ensures.paced c.run_with.ensures.outcome
 
 pub returns-in-Replay-clause-outcome : goal.returns-in-Replay-clause-outcome
 returns-in-Replay-clause-outcome g c =
-    outcome_by _ c.in-Ok-Some.asked _ _ _ _ _ _ _ _ (sym c.in-Ok-Some.ensures.reads ∙ c.in-Ok-Some.field-0-is) c.in-Replay.is c.paced-gates.ensures.paced c.run_with-in-Replay.ensures.outcome
+    let asked = sym c.in-Ok-Some-Run.ensures.reads ∙ c.in-Ok-Some-Run.field-0-is ∙ ap Some c.in-Ok-Some-Run.field-0-0-is ∙ ap (λ m. Some (Run m c.in-Ok-Some-Run.pace)) c.in-Replay.is in
+    outcome_by _ _ _ _ _ _ _ _ _ asked c.paced-gates.ensures.paced c.run_with-in-Replay.ensures.outcome
+
+pub run_generated-requires-clause-least : goal.run_generated-requires-clause-least
+run_generated-requires-clause-least g c =
+    (generated_within (map string_bytes c.args.words.now) _ (sym c.in-Ok-Some-Generate.ensures.reads ∙ c.in-Ok-Some-Generate.field-0-is ∙ ap Some c.in-Ok-Some-Generate.field-0-0-is)).0
+
+pub run_generated-requires-clause-most : goal.run_generated-requires-clause-most
+run_generated-requires-clause-most g c =
+    (generated_within (map string_bytes c.args.words.now) _ (sym c.in-Ok-Some-Generate.ensures.reads ∙ c.in-Ok-Some-Generate.field-0-is ∙ ap Some c.in-Ok-Some-Generate.field-0-0-is)).1
 
 pub returns-in-Ok-None-clause-outcome : goal.returns-in-Ok-None-clause-outcome
-returns-in-Ok-None-clause-outcome g c = no_outcome _ _ _ _ (sym c.in-Ok-None.ensures.reads ∙ c.in-Ok-None.field-0-is) (search rules) (search rules)
+returns-in-Ok-None-clause-outcome g c = no_outcome _ _ _ _ _ (sym c.in-Ok-None.ensures.reads ∙ c.in-Ok-None.field-0-is) (search rules) (search rules)
 
 pub returns-in-Err-clause-outcome : goal.returns-in-Err-clause-outcome
-returns-in-Err-clause-outcome g c = memory_outcome _ _ (g.S.Source.left c.args.source.now) (g.S.Source.left c.args.source.now) _ _ (search rules)
+returns-in-Err-clause-outcome g c = memory_outcome _ _ (g.S.Source.left c.args.source.now) _ (search rules) (search rules)

@@ -1,16 +1,31 @@
-use Rattle.std.proofs.Common.{rules, sym, ◌∙◌}
-use Rattle.xp_machine.proofs.Statuses.{memory_outcome, no_outcome, outcome_by, serial_none, serial_replay, serial_turns}
+use Rattle.std.proofs.Common.{rules, ◌≡◌, Some, map, string_bytes, sym, ap, ◌∙◌}
+use Rattle.command_words.specs.declared.asked.Asked.TheVariants.{Run}
+use Rattle.command_words.specs.declared.asked.Manner.TheVariants.{Turns, Replay}
+use Rattle.command_words.proofs.Within.{generated_within}
+use Rattle.xp_machine.specs.Outcome.{serial_of}
+use Rattle.xp_machine.proofs.Statuses.{memory_outcome, no_outcome, outcome_by}
 use Rattle.xp_machine.proofs.top.run_serial.Goals as goal
 
-pub returns-in-Turns-clause-outcome : goal.returns-in-Turns-clause-outcome
-returns-in-Turns-clause-outcome g c =
-    outcome_by _ c.in-Ok-Some.asked _ _ _ _ _ _ _ _ (serial_turns _ _ (sym c.in-Ok-Some.ensures.reads ∙ c.in-Ok-Some.field-0-is) c.in-Turns.is) c.in-Turns.is c.paced.ensures.paced c.run_with.ensures.outcome
+pub returns-in-Run-Turns-default-clause-outcome : goal.returns-in-Run-Turns-default-clause-outcome
+returns-in-Run-Turns-default-clause-outcome g c =
+    let manner : c.in-Run-Turns-default.manner ≡ Turns = search rules in
+    let asked = sym c.in-Ok-Some.ensures.reads ∙ c.in-Ok-Some.field-0-is ∙ ap Some c.in-Run-Turns-default.is ∙ ap (λ m. Some (Run m c.in-Run-Turns-default.pace)) manner in
+    outcome_by _ _ _ _ _ _ _ _ _ (ap serial_of asked) c.paced.ensures.paced c.run_with.ensures.outcome
 
-pub returns-in-Replay-clause-outcome : goal.returns-in-Replay-clause-outcome
-returns-in-Replay-clause-outcome g c = no_outcome _ _ _ _ (serial_replay _ _ (sym c.in-Ok-Some.ensures.reads ∙ c.in-Ok-Some.field-0-is) c.in-Replay.is) (search rules) (search rules)
+pub returns-in-Run-Replay-default-clause-outcome : goal.returns-in-Run-Replay-default-clause-outcome
+returns-in-Run-Replay-default-clause-outcome g c =
+    let manner : c.in-Run-Replay-default.manner ≡ Replay = search rules in
+    let asked = sym c.in-Ok-Some.ensures.reads ∙ c.in-Ok-Some.field-0-is ∙ ap Some c.in-Run-Replay-default.is ∙ ap (λ m. Some (Run m c.in-Run-Replay-default.pace)) manner in
+    no_outcome _ _ _ _ _ (ap serial_of asked) (search rules) (search rules)
+
+pub run_generated-requires-clause-least : goal.run_generated-requires-clause-least
+run_generated-requires-clause-least g c = (generated_within (map string_bytes c.args.words.now) _ (sym c.in-Ok-Some.ensures.reads ∙ c.in-Ok-Some.field-0-is ∙ ap Some c.in-Generate.is)).0
+
+pub run_generated-requires-clause-most : goal.run_generated-requires-clause-most
+run_generated-requires-clause-most g c = (generated_within (map string_bytes c.args.words.now) _ (sym c.in-Ok-Some.ensures.reads ∙ c.in-Ok-Some.field-0-is ∙ ap Some c.in-Generate.is)).1
 
 pub returns-in-Ok-None-clause-outcome : goal.returns-in-Ok-None-clause-outcome
-returns-in-Ok-None-clause-outcome g c = no_outcome _ _ _ _ (serial_none _ (sym c.in-Ok-None.ensures.reads ∙ c.in-Ok-None.field-0-is)) (search rules) (search rules)
+returns-in-Ok-None-clause-outcome g c = no_outcome _ _ _ _ _ (ap serial_of (sym c.in-Ok-None.ensures.reads ∙ c.in-Ok-None.field-0-is)) (search rules) (search rules)
 
 pub returns-in-Err-clause-outcome : goal.returns-in-Err-clause-outcome
-returns-in-Err-clause-outcome g c = memory_outcome _ _ (g.S.Source.left c.args.source.now) (g.S.Source.left c.args.source.now) _ _ (search rules)
+returns-in-Err-clause-outcome g c = memory_outcome _ _ (g.S.Source.left c.args.source.now) _ (search rules) (search rules)

@@ -1,7 +1,7 @@
 use Rattle.std.proofs.Common.{◌≡◌, map}
 use Rattle.vcpu_runners.specs.Turns.{pending_of}
 use Rattle.xp_machine.specs.Ran.{log_of}
-use Rattle.xp_machine.proofs.execute.report_with.Given as goal
+use Rattle.xp_machine.proofs.execute.logs_and_pending.Given as goal
 
 abbrev pub invariant-runners : goal.invariant-runners
 invariant-runners g l = record {
