@@ -14,7 +14,8 @@ usage: ptmac COMMAND < TRACE
                         `turn` lines give them. Writes the report to standard output.
   replay [--preempt N]  The same, but each vCPU runs its whole script in a thread of its own.
   generate COUNT        Reads nothing: makes a trace of COUNT operations, from 1 to 60000, runs it,
-                        and writes how many were done, refused and left pending.
+                        and writes how many were done, refused and left pending, and how many
+                        frames are free.
 
   With --preempt N operations pause: each vCPU's gate says yes at each N-th time that it is
   asked. N is a decimal number up to 1000000 without leading zeros; with 0, as without the
