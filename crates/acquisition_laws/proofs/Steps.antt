@@ -21,7 +21,7 @@ use Rattle.step_maker.proofs.Piecing.{each_append}
 use Rattle.kind_words.proofs.KindFacts.{clock_is_small}
 use Rattle.kept_marks.specs.Marks.{KeptFor, alive, dying, own, taken}
 use Rattle.table_entries.specs.Found.{saw_cell}
-use Rattle.table_courses.proofs.Listing.{each_next}
+use Rattle.table_entries.proofs.Listing.{each_next}
 use Rattle.acquisition_laws.specs.Forward.{GoesForward, IsAtEnd, is_shed}
 use Rattle.acquisition_laws.specs.Leaving.{LeavesWell}
 use Rattle.acquisition_laws.proofs.Spelled.{dead_back, parts_back}

@@ -40,7 +40,7 @@ use Rattle.table_entries.specs.declared.entries.Entered.{Entered}
 use Rattle.table_entries.specs.declared.entries.Entered.TheVariants as entered
 use Rattle.table_entries.specs.declared.resuming.Resumed.{Resumed}
 use Rattle.table_entries.specs.declared.resuming.Resumed.TheVariants as again
-use Rattle.table_courses.proofs.Listing.{each_after, each_before, first_is}
+use Rattle.table_entries.proofs.Listing.{each_after, each_before, first_is}
 use Rattle.acquisition_laws.proofs.Lows.{taken_low}
 use Rattle.acquisition_laws.proofs.Steps.{ArePlain, IsPlain, IsSmall, Plain, store_plain}
 

@@ -17,8 +17,8 @@ use Rattle.table_entries.specs.Tops.{WorksAtTop}
 use Rattle.table_entries.specs.declared.entries.Entered.{Entered}
 use Rattle.table_entries.specs.declared.resuming.Resumed.{Resumed}
 use Rattle.table_entries.proofs.PiecesAsking.{top_here}
-use Rattle.table_courses.specs.Acquiring.{Acquired, Advanced, Filled, GaveBack, GaveRef, GotRef, InnerLeft, Joined, LeftPartial, LeftWaiting, MadeLive, OutermostLeft, ResumedEntry, TookEntry, TookOn, TookType, Unwound, WaitingLeft, Worked, around_left, asked, begun, completed, cut_off, due, filled, finished, fresh, counted, keeps_it, one_entry_more, opened, recorded, settled, stopped, taken, type_counts, unasked, unfinished, unreferred, unsettled, untyped, waiting}
-use Rattle.table_courses.specs.Ending.{is_paused_answer}
+use Rattle.table_entries.specs.Acquiring.{Acquired, Advanced, Filled, GaveBack, GaveRef, GotRef, InnerLeft, Joined, LeftPartial, LeftWaiting, MadeLive, OutermostLeft, ResumedEntry, TookEntry, TookOn, TookType, Unwound, WaitingLeft, Worked, around_left, asked, begun, completed, cut_off, due, filled, finished, fresh, counted, keeps_it, one_entry_more, opened, recorded, settled, stopped, taken, type_counts, unasked, unfinished, unreferred, unsettled, untyped, waiting}
+use Rattle.table_entries.specs.Ending.{is_paused_answer}
 use Rattle.acquisition_laws.specs.Forward.{IsAtEnd}
 use Rattle.acquisition_laws.proofs.Lows.{entered_low, resumed_low, type_low}
 use Rattle.acquisition_laws.proofs.Steps.{Goes, goes_behind, goes_by, goes_nothing, goes_step, goes_then, kept_goes, store_plain}

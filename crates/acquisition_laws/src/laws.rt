@@ -2,8 +2,8 @@
 ghost use Rattle.std.specs.Prelude.{ℕ, Bool, List, Result};
 ghost use Rattle.xp_words.specs.declared.reply.Stop.{Stop};
 ghost use Rattle.xp_board.specs.Told.{PortValue};
-ghost use Rattle.table_courses.specs.Acquiring.{Acquired};
-ghost use Rattle.table_courses.specs.Ending.{is_paused_answer};
+ghost use Rattle.table_entries.specs.Acquiring.{Acquired};
+ghost use Rattle.table_entries.specs.Ending.{is_paused_answer};
 ghost use Rattle.acquisition_laws.specs.Forward.{Forward};
 ghost use Rattle.acquisition_laws.specs.Leaving.{LeftWell};
 

@@ -33,7 +33,7 @@ use Rattle.table_law.proofs.Describing.{sober_dead}
 use Rattle.table_law.proofs.Steps.{alone_opened}
 use Rattle.table_twins.proofs.Typing.{live_sober}
 use Rattle.table_twins.proofs.Waiting.{only_busy}
-use Rattle.table_courses.specs.Acquiring.{Acquired, GotRef, TookType, counted, finished, outermost_table, unfinished, unreferred, untyped, waiting}
+use Rattle.table_entries.specs.Acquiring.{Acquired, GotRef, TookType, counted, finished, outermost_table, unfinished, unreferred, untyped, waiting}
 use Rattle.course_laws.specs.Courses.{IsFinal, IsOrderly}
 use Rattle.course_laws.proofs.Frames.{AllFrames, IsFrame, IsLiveWithin, count_at}
 use Rattle.course_laws.proofs.Stacking.{lefts}

@@ -32,7 +32,7 @@ use Rattle.table_law.proofs.Counting.{at_here, at_there}
 use Rattle.table_twins.specs.Answers.{IsSameAnswer}
 use Rattle.table_twins.proofs.Referring.{same_answer}
 use Rattle.table_twins.proofs.Sharing.{same_back}
-use Rattle.table_courses.specs.Acquiring.{Acquired, GotRef, MadeLive, keeps_it, TookType, Unwound, Worked, counted, cut_off, due, filled, finished, outermost_table, unfinished, unreferred, untyped, waiting}
+use Rattle.table_entries.specs.Acquiring.{Acquired, GotRef, MadeLive, keeps_it, TookType, Unwound, Worked, counted, cut_off, due, filled, finished, outermost_table, unfinished, unreferred, untyped, waiting}
 use Rattle.course_laws.specs.Courses.{FindsAlive}
 use Rattle.course_laws.proofs.Outermost.{IsOutermost, worked_outermost}
 use Rattle.course_laws.proofs.Stacking.{Refuses}

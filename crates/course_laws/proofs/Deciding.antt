@@ -13,7 +13,7 @@ use Rattle.table_law.specs.Lawful.{IsAtRest}
 use Rattle.table_law.specs.Plain.{plain_of}
 use Rattle.table_law.proofs.Lawfully.{fine_by_rest}
 use Rattle.table_law.proofs.OnWords.{lawful_plain, lawful_words, rested_plain}
-use Rattle.table_courses.specs.Acquiring.{Acquired}
+use Rattle.table_entries.specs.Acquiring.{Acquired}
 use Rattle.course_laws.specs.Courses.{IsDecided, IsFinal, IsHad, IsOrderly}
 use Rattle.course_laws.proofs.Beginning.{first_call}
 use Rattle.course_laws.proofs.Calling.{CallOutcome, IsDone}

@@ -3,7 +3,7 @@ use Rattle.std.proofs.Common.{◌≡◌, ℕ, Bool, List, [], ◌∷◌, Result}
 use Rattle.xp_words.specs.declared.reply.Stop.{Stop}
 use Rattle.xp_board.specs.Told.{PortValue}
 use Rattle.partial_state.specs.declared.stack.TableWork.{TableWork}
-use Rattle.table_courses.specs.Acquiring.{Advanced, Filled, TookOn, Worked, asked, begun, completed, cut_off, due, filled, fresh, one_entry_more, opened, recorded, settled, stopped, taken, unasked, unsettled, waiting}
+use Rattle.table_entries.specs.Acquiring.{Advanced, Filled, TookOn, Worked, asked, begun, completed, cut_off, due, filled, fresh, one_entry_more, opened, recorded, settled, stopped, taken, unasked, unsettled, waiting}
 
 -- frame f, of that level, is the last of these tables
 abbrev pub IsOutermost : ℕ → ℕ → List TableWork → Type 0

@@ -24,7 +24,7 @@ use Rattle.table_law.specs.Levels.{entry_of}
 use Rattle.table_law.specs.Plain.{Describes, Plain, with_kind}
 use Rattle.table_law.specs.Stack.{rest, table_left}
 use Rattle.table_law.proofs.Counting.{asks_at}
-use Rattle.table_courses.specs.Acquiring.{one_entry_more, table_opened}
+use Rattle.table_entries.specs.Acquiring.{one_entry_more, table_opened}
 use Rattle.course_laws.proofs.Frames.{IsAbove}
 use Rattle.course_laws.proofs.Entering.{Opens, opened_table, opens}
 use Rattle.course_laws.proofs.Stacking.{Refuses, lefts, lower_above, met_on, opened_from, stopped_there}

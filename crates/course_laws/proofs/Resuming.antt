@@ -34,7 +34,7 @@ use Rattle.table_law.proofs.Counting.{at_here, at_there}
 use Rattle.table_law.proofs.Describing.{sober_live}
 use Rattle.table_twins.specs.Answers.{IsSameAnswer}
 use Rattle.table_twins.proofs.Referring.{same_answer}
-use Rattle.table_courses.specs.Acquiring.{ResumedEntry, TookOn, fresh, opened, settled, stopped, table_opened, taken, waiting}
+use Rattle.table_entries.specs.Acquiring.{ResumedEntry, TookOn, fresh, opened, settled, stopped, table_opened, taken, waiting}
 use Rattle.course_laws.proofs.Walking.{again_came}
 use Rattle.course_laws.proofs.Halfway.{Half, all_like, chained_onto, off_below, onto, onto_like, over, over_off, overlay, settled_like, tables_onto, under_like}
 use Rattle.course_laws.proofs.Extras.{Both, IsSame, both_there, described_same, extra, got_both, lent, more_of}

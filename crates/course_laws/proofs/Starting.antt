@@ -16,7 +16,7 @@ use Rattle.table_law.specs.Lawful.{IsAtRest, share_count}
 use Rattle.table_law.specs.Plain.{Describes, Plain, plain_of, share_in, share_of}
 use Rattle.table_twins.specs.Answers.{IsSameAnswer}
 use Rattle.table_twins.proofs.Referring.{same_answer}
-use Rattle.table_courses.specs.Acquiring.{GotRef}
+use Rattle.table_entries.specs.Acquiring.{GotRef}
 use Rattle.course_laws.specs.Courses.{IsFinal, IsOrderly}
 use Rattle.course_laws.proofs.Frames.{AllFrames, IsAside, count_at}
 use Rattle.course_laws.proofs.Stacking.{Refuses}

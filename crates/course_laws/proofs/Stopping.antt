@@ -13,7 +13,7 @@ use Rattle.step_maker.proofs.Visiting.{does_came}
 use Rattle.partial_state.specs.Levels.{level_type}
 use Rattle.partial_state.specs.declared.stack.TableWork.{TableWork}
 use Rattle.table_entries.specs.Asking.{of_entries}
-use Rattle.table_courses.specs.Acquiring.{Acquired, Advanced, Filled, GotRef, TookOn, Worked, asked, begun, completed, counted, cut_off, due, filled, finished, fresh, keeps_it, opened, outermost_table, recorded, settled, stopped, taken, unasked, unfinished, unreferred, unsettled, untyped, waiting}
+use Rattle.table_entries.specs.Acquiring.{Acquired, Advanced, Filled, GotRef, TookOn, Worked, asked, begun, completed, counted, cut_off, due, filled, finished, fresh, keeps_it, opened, outermost_table, recorded, settled, stopped, taken, unasked, unfinished, unreferred, unsettled, untyped, waiting}
 use Rattle.course_laws.proofs.Walking.{again_came, entry_came, filled_came, gave_came, left_came, live_came, on_came, unwound_came, waiting_came, worked_came}
 
 -- one of the steps from v to w is a call that stopped for that: it destroys nothing, and no gate was asked in it

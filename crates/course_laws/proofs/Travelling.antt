@@ -28,7 +28,7 @@ use Rattle.table_entries.specs.declared.entries.Entered.TheVariants.{Opened, Rec
 use Rattle.table_twins.proofs.Kinding.{described_alike}
 use Rattle.course_laws.proofs.Extras.{extra, lent}
 use Rattle.course_laws.proofs.Under.{spelled_same}
-use Rattle.table_courses.specs.Acquiring.{Advanced, Filled, GaveBack, Joined, MadeLive, TookEntry, TookOn, asked, begun, completed, cut_off, due, fresh, one_entry_more, opened, recorded, settled, stopped, table_opened, taken, type_counts, unasked, unsettled, waiting}
+use Rattle.table_entries.specs.Acquiring.{Advanced, Filled, GaveBack, Joined, MadeLive, TookEntry, TookOn, asked, begun, completed, cut_off, due, fresh, one_entry_more, opened, recorded, settled, stopped, table_opened, taken, type_counts, unasked, unsettled, waiting}
 use Rattle.course_laws.proofs.Stacking.{Refuses}
 use Rattle.course_laws.proofs.Walking.{back_came}
 use Rattle.course_laws.proofs.Completing.{IsKinded, lowered_kinded, own_paces, same_kinded, shared_paces, stored_kinded}

@@ -29,7 +29,7 @@ use Rattle.table_law.specs.Plain.{Describes, Plain, Share, at, reference_back, s
 use Rattle.table_law.proofs.Counting.{at_here, at_there}
 use Rattle.table_twins.proofs.Kinding.{described_alike}
 use Rattle.table_twins.proofs.Sharing.{same_back}
-use Rattle.table_courses.specs.Acquiring.{InnerLeft, OutermostLeft, Unwound, around_left}
+use Rattle.table_entries.specs.Acquiring.{InnerLeft, OutermostLeft, Unwound, around_left}
 use Rattle.course_laws.specs.Courses.{FindsAlive}
 use Rattle.course_laws.proofs.Outermost.{IsOutermost}
 use Rattle.course_laws.proofs.Walking.{gave_came, inner_came}

@@ -7,7 +7,7 @@ ghost use Rattle.xp_preempt.specs.Gates.{yeses};
 ghost use Rattle.answer_laws.specs.Alone.{IsAlone};
 ghost use Rattle.partial_state.specs.Levels.{level_type};
 ghost use Rattle.table_law.specs.Lawful.{IsAtRest};
-ghost use Rattle.table_courses.specs.Acquiring.{Acquired};
+ghost use Rattle.table_entries.specs.Acquiring.{Acquired};
 ghost use Rattle.course_laws.specs.Courses.{ClockGoesOn, IsAwaiting, IsDecided, IsHad, IsOrderly};
 
 use crate::lawful::a_decided_acquisition_is_had_exactly_where_lawful;

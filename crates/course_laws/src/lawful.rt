@@ -6,7 +6,7 @@ ghost use Rattle.xp_board.specs.Lawful.{Lawful};
 ghost use Rattle.xp_board.specs.Told.{PortValue, is_telling, told_word};
 ghost use Rattle.partial_state.specs.Levels.{level_type};
 ghost use Rattle.table_law.specs.Lawful.{IsAtRest};
-ghost use Rattle.table_courses.specs.Acquiring.{Acquired};
+ghost use Rattle.table_entries.specs.Acquiring.{Acquired};
 ghost use Rattle.course_laws.specs.Courses.{IsDecided, IsHad, IsOrderly};
 
 /// On a board that tells all words, which are at rest, a frame is had as a table exactly where its tree is lawful, unless the

@@ -1,4 +1,4 @@
-//! What whole acquisitions come to. These functions do nothing: their contracts are laws about the courses of table_courses.
+//! What whole acquisitions come to. These functions do nothing: their contracts are laws about their courses (table_entries).
 #![tactic(auto)]
 
 mod alone;

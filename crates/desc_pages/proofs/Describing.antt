@@ -24,7 +24,7 @@ use Rattle.frame_words.specs.Freeing.{Puts, gave}
 use Rattle.frame_words.specs.Plain.{TwinGet, put}
 use Rattle.frame_words.specs.Refs.{Gets, IsRefStop, took}
 use Rattle.frame_words.proofs.Putting.{without_newest}
-use Rattle.table_courses.specs.Acquiring.{GaveRef, GotRef}
+use Rattle.table_entries.specs.Acquiring.{GaveRef, GotRef}
 use Rattle.desc_pages.specs.Descriptors.{DescriptorUpdated, HoldsLent, IsDescriptorStop, PutsUnder, StoredUnder, barred, cell_deeds, descriptor_deeds, descriptor_refusal, frame_at, index_at, of_cell, of_descriptor, referred, unfixed, unreferred, writes_fixed}
 use Rattle.desc_pages.specs.Names.{own_domain}
 use Rattle.desc_pages.specs.Pages.{IsDescStop, IsTakenStop}

@@ -33,7 +33,7 @@ use Rattle.frame_words.specs.Plain.{TwinGet}
 use Rattle.frame_words.specs.Refs.{Gets, IsRefStop, took}
 use Rattle.frame_words.proofs.Putting.{without_newest}
 use Rattle.frame_types.specs.Taking.{typed_as}
-use Rattle.table_courses.specs.Acquiring.{GotRef}
+use Rattle.table_entries.specs.Acquiring.{GotRef}
 use Rattle.desc_pages.proofs.Short.{referred_short, unreferred_short}
 use Rattle.desc_pages.specs.Pages.{GetsDesc, GotDesc, IsDescAside, IsDescStop, IsTakenStop, TakesDesc, TookDesc, had, of_desc, unreferred, untaken}
 

@@ -33,7 +33,7 @@ use Rattle.frame_types.specs.declared.taking.Taken.{Taken}
 use Rattle.frame_types.specs.declared.taking.Taken.TheVariants.{Counted, InWork, Waiting}
 use Rattle.kept_marks.specs.Marks.{KeptFor}
 use Rattle.kept_marks.specs.Marks as marks
-use Rattle.table_courses.specs.Acquiring.{GaveRef, GotRef}
+use Rattle.table_entries.specs.Acquiring.{GaveRef, GotRef}
 use Rattle.desc_pages.specs.Fixing.{Fixes, FixesBy, changes, none, stands}
 use Rattle.desc_pages.specs.Pages.{DescLeft, GotDesc, IsShort, PageValidated, TookDesc, counted, fixed, had, read, unfixed, unreferred, untaken, untyped, waiting}
 use Rattle.desc_pages.proofs.Counting.{IsAtMost, does_most, gets_most, looks_most, nothing_most, only_most, put_most, then_most, where_most}

@@ -33,7 +33,7 @@ use Rattle.frame_words.specs.Freeing.{gave}
 use Rattle.frame_words.proofs.CellSteps.{newest_held, newest_live, writes_live}
 use Rattle.frame_words.proofs.Putting.{without_newest}
 use Rattle.frame_types.specs.Taking.{MayDropPlain, gave_type, typed_as}
-use Rattle.table_courses.specs.Acquiring.{GaveType}
+use Rattle.table_entries.specs.Acquiring.{GaveType}
 use Rattle.desc_pages.specs.Descriptors.{HoldsLent, IsDescriptorType, PutsUnder, TakesAs, descriptor_type, of_cell, stored, untaken}
 use Rattle.desc_pages.proofs.Getting.{taken_uncounted}
 use Rattle.desc_pages.specs.Pages.{IsShort}

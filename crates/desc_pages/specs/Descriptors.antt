@@ -18,7 +18,7 @@ use Rattle.step_maker.specs.Answers.{Deed, Serves, Stops, Writes, missed, misses
 use Rattle.step_maker.specs.Asked.{Request, of_table}
 use Rattle.frame_words.specs.Freeing.{gave}
 use Rattle.frame_types.specs.Taking.{LentBy, typed_as}
-use Rattle.table_courses.specs.Acquiring.{GaveRef, GaveType, GotRef}
+use Rattle.table_entries.specs.Acquiring.{GaveRef, GaveType, GotRef}
 use Rattle.writable_pages.specs.Pages.{TookPage}
 use Rattle.desc_pages.specs.Names.{own_domain}
 use Rattle.desc_pages.specs.Pages.{IsDescStop, IsShort, IsTakenStop, TookDesc}

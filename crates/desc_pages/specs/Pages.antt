@@ -30,7 +30,7 @@ use Rattle.frame_types.specs.Taking.{WorksFrom, typed_as}
 use Rattle.frame_words.specs.Freeing.{gave}
 use Rattle.frame_types.specs.declared.taking.Taken.{Taken}
 use Rattle.frame_types.specs.declared.taking.Taken.TheVariants.{Counted, InWork, Waiting}
-use Rattle.table_courses.specs.Acquiring.{GaveRef, GotRef}
+use Rattle.table_entries.specs.Acquiring.{GaveRef, GotRef}
 use Rattle.desc_pages.specs.Fixing.{Fixes, Unfixes}
 
 -- The frame for that type; and its words are read. (No table comes into the own works, so no entry asks anything.)

@@ -23,7 +23,7 @@ use Rattle.kept_marks.specs.Marks.{KeptFor}
 use Rattle.kind_words.specs.Kinds.{live_kind, partial_kind}
 use Rattle.frame_types.specs.declared.taking.Taken as taking
 use Rattle.frame_types.specs.declared.taking.Taken.TheVariants as types
-use Rattle.table_courses.specs.Acquiring.{GaveRef, GotRef}
+use Rattle.table_entries.specs.Acquiring.{GaveRef, GotRef}
 use Rattle.course_laws.proofs.Awaiting.{AloneStays}
 use Rattle.course_laws.proofs.Stopping.{ref_came}
 use Rattle.course_laws.proofs.Walking.{gave_came}

@@ -27,7 +27,7 @@ use Rattle.level_release.specs.Asking.{of_release}
 use Rattle.level_release.specs.Course.{ReleasesFrameBy}
 use Rattle.level_release.specs.Holding.{HoldsLive, LeavesUnheld}
 use Rattle.partial_state.specs.Levels.{level_type}
-use Rattle.table_courses.specs.Acquiring.{GaveRef, GaveType}
+use Rattle.table_entries.specs.Acquiring.{GaveRef, GaveType}
 use Rattle.entry_exchange.specs.Course.{GaveDemand, ReleasedDemand}
 use Rattle.entry_exchange.specs.Course as courses
 use Rattle.entry_exchange.specs.Parts.{DemandGiven, DemandReleased, GaveTable, HoldsRef, HoldsTyped, IsOfLevel, LeavesGone, ReleasesDemand, TableGiven}

@@ -35,7 +35,7 @@ use Rattle.step_maker.proofs.Coming.{came_trans}
 use Rattle.step_maker.specs.Answers.{Serves}
 use Rattle.step_maker.specs.Asked.{of_back}
 use Rattle.step_maker.proofs.Piecing.{serves_came, serves_then}
-use Rattle.table_courses.specs.Acquiring.{GaveRef}
+use Rattle.table_entries.specs.Acquiring.{GaveRef}
 
 -- ---- the reference
 module _ {v : PortValue} {f : ℕ} {t : PageType} {owner : ℕ} (holds : HoldsTyped v f t owner) where

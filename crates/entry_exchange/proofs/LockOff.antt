@@ -39,7 +39,7 @@ use Rattle.entry_exchange.proofs.ServesGiving.{named_serves}
 use Rattle.step_maker.specs.Answers.{Serves}
 use Rattle.step_maker.specs.Asked.{of_back}
 use Rattle.step_maker.proofs.Piecing.{serves_came, serves_then}
-use Rattle.table_courses.specs.Acquiring.{GaveRef}
+use Rattle.table_entries.specs.Acquiring.{GaveRef}
 
 -- without its last type count a live table is closing
 closes : (k : KindWord) → IsTrue (is_live k) → (k.number == 1) ≡ true → IsTrue (is_closing (record k { number = k.number - 1; locked = false }))

@@ -24,7 +24,7 @@ use Rattle.frame_types.specs.declared.standing.Standing.TheVariants as stands
 use Rattle.level_release.specs.Asking.{is_due_stop}
 use Rattle.partial_state.specs.Levels.{level_type}
 use Rattle.level_validate.specs.Acquiring.{IsAcquireStop}
-use Rattle.table_courses.specs.Acquiring.{GotRef, TookType}
+use Rattle.table_entries.specs.Acquiring.{GotRef, TookType}
 use Rattle.writable_pages.specs.Pages as pages
 use Rattle.writable_pages.specs.Pages.{GotPage, TookPage}
 

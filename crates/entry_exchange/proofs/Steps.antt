@@ -30,7 +30,7 @@ use Rattle.kind_words.specs.Kinds.{partial_kind}
 use Rattle.level_release.specs.Course.{WasReleased}
 use Rattle.level_release.specs.Course as releases
 use Rattle.partial_state.specs.Levels.{level_type}
-use Rattle.table_courses.specs.Acquiring.{GaveRef, GaveType, GotRef, TookType}
+use Rattle.table_entries.specs.Acquiring.{GaveRef, GaveType, GotRef, TookType}
 use Rattle.writable_pages.specs.Pages.{GotPage, PageLeft, TookPage}
 use Rattle.writable_pages.specs.Pages as pages
 use Rattle.entry_exchange.specs.declared.exchanging.EntryUpdate.{EntryUpdate}

@@ -31,7 +31,7 @@ use Rattle.level_validate.specs.Acquiring.{AcquiresBy, IsAcquireStop, LeavesAcqu
 use Rattle.level_validate.specs.Unwinding.{own_domain}
 use Rattle.partial_state.specs.Levels.{level_type}
 use Rattle.partial_state.proofs.LevelFacts.{level_type-table, level_type-under}
-use Rattle.table_courses.specs.Acquiring.{Acquired, GotRef}
+use Rattle.table_entries.specs.Acquiring.{Acquired, GotRef}
 use Rattle.writable_pages.specs.Pages.{GotPage, HidesMark, LeavesGot, ServesPage, of_page}
 use Rattle.entry_exchange.specs.Asking.{IsHidden}
 use Rattle.entry_exchange.specs.Course.{TookDemand}

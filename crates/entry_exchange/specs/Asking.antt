@@ -8,7 +8,7 @@ use Rattle.xp_board.specs.Told.{PortValue}
 use Rattle.step_maker.specs.Answers.{Deed, Misses, Serves, SetsEntry, missed}
 use Rattle.step_maker.specs.Asked.{Request, of_frame}
 use Rattle.foreign_map.specs.declared.owners.Owners.{Owners}
-pub use Rattle.table_courses.specs.Ending.{may_rise}
+pub use Rattle.table_entries.specs.Ending.{may_rise}
 pub use Rattle.level_validate.specs.Acquiring.{IsAcquireStop}
 use Rattle.entry_exchange.specs.declared.exchanging.EntryUpdate.{EntryUpdate}
 use Rattle.entry_exchange.specs.Words.{word_kept}

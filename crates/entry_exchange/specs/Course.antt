@@ -22,7 +22,7 @@ use Rattle.entry_locks.specs.Locks.{Unlocks}
 use Rattle.foreign_map.specs.declared.owners.Owners.{Owners}
 use Rattle.frame_types.specs.Lowering.{DropsType}
 use Rattle.partial_state.specs.Levels.{level_type}
-use Rattle.table_courses.specs.Acquiring.{Acquired, GaveRef, GaveType, GotRef}
+use Rattle.table_entries.specs.Acquiring.{Acquired, GaveRef, GaveType, GotRef}
 use Rattle.table_words.specs.OldWords.{old_place}
 use Rattle.table_words.specs.declared.old_words.OldWord.TheVariants.{Second}
 use Rattle.writable_pages.specs.Pages.{GotPage}

@@ -25,7 +25,7 @@ use Rattle.level_release.specs.Asking.{is_due_answer}
 use Rattle.level_release.specs.Course.{WithGate}
 use Rattle.level_release.specs.Holding.{HoldsLive}
 use Rattle.partial_state.specs.Levels.{level_type}
-use Rattle.table_courses.specs.Acquiring.{GaveRef}
+use Rattle.table_entries.specs.Acquiring.{GaveRef}
 use Rattle.entry_exchange.specs.declared.exchanging.EntryUpdate.{EntryUpdate}
 use Rattle.foreign_map.specs.declared.owners.Owners.{Owners}
 use Rattle.entry_exchange.specs.Asking.{ServesExchange, of_exchange}

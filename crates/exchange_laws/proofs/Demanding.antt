@@ -11,7 +11,7 @@ use Rattle.step_maker.specs.Plain.{Words}
 use Rattle.table_law.specs.Alone.{PlainOutcome, alone, go_on, meet, refused, take_at, take_reference}
 use Rattle.table_law.specs.Lawful.{IsAtRest}
 use Rattle.table_law.specs.Plain.{Describes, Plain, plain_of}
-use Rattle.table_courses.specs.Acquiring.{GaveRef, GotRef, TookType}
+use Rattle.table_entries.specs.Acquiring.{GaveRef, GotRef, TookType}
 use Rattle.course_laws.specs.Courses.{IsOrderly}
 use Rattle.course_laws.proofs.Calling.{IsDone}
 use Rattle.course_laws.proofs.Deciding.{one_call}

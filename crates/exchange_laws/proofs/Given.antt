@@ -5,7 +5,7 @@ use Rattle.xp_board.specs.Told.{PortValue, is_telling, told_word}
 use Rattle.table_twins.proofs.Entering.{described_leaves}
 use Rattle.frame_words.specs.Plain.{put}
 use Rattle.table_law.specs.Plain.{Describes, Plain, reference_back}
-use Rattle.table_courses.specs.Acquiring.{GaveRef}
+use Rattle.table_entries.specs.Acquiring.{GaveRef}
 use Rattle.release_laws.proofs.Seen.{put_seen}
 use Rattle.release_laws.proofs.Words.{put_words}
 

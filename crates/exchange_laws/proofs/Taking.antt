@@ -26,7 +26,7 @@ use Rattle.table_twins.specs.Types.{IsReady}
 use Rattle.table_twins.proofs.Kinding.{described_alike}
 use Rattle.table_twins.proofs.Referring.{same_answer, same_taken}
 use Rattle.table_twins.proofs.Typing.{refused_plain, taken_plain}
-use Rattle.table_courses.specs.Acquiring.{GaveRef, GotRef, TookType}
+use Rattle.table_entries.specs.Acquiring.{GaveRef, GotRef, TookType}
 use Rattle.course_laws.specs.Courses.{IsFinal, IsOrderly}
 use Rattle.course_laws.proofs.Calling.{IsDone}
 use Rattle.course_laws.proofs.Frames.{count_at, frame_ready}

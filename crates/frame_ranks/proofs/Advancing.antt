@@ -6,7 +6,7 @@ use Rattle.xp_words.specs.declared.reply.Stop.{Stop}
 use Rattle.xp_words.specs.declared.reply.Stop.TheVariants.{Paused}
 use Rattle.xp_board.specs.Told.{PortValue, told_word}
 use Rattle.partial_state.specs.declared.stack.TableWork.{TableWork}
-use Rattle.table_courses.specs.Acquiring.{Advanced, Filled, TookOn, Worked, asked, begun, completed, cut_off, due, filled, fresh, is_asked, one_entry_more, opened, recorded, settled, stopped, table_opened, taken, unasked, unsettled, waiting}
+use Rattle.table_entries.specs.Acquiring.{Advanced, Filled, TookOn, Worked, asked, begun, completed, cut_off, due, filled, fresh, is_asked, one_entry_more, opened, recorded, settled, stopped, table_opened, taken, unasked, unsettled, waiting}
 use Rattle.course_laws.proofs.Awaiting.{AloneStays}
 use Rattle.course_laws.proofs.Walking.{again_came, entry_came, filled_came, on_came}
 use Rattle.frame_ranks.proofs.Going.{At, IsGoing, Led, advanced_never, at_later, completed_led, led_then, moved_self, on_never, opened_again, opened_moved, recorded_led, settled_moved, stopped_again, stopped_moved, taken_again, unsettled_moved, waiting_again}

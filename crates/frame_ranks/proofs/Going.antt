@@ -20,7 +20,7 @@ use Rattle.table_entries.specs.declared.entries.Entered.{Entered}
 use Rattle.table_entries.specs.declared.entries.Entered.TheVariants as entered
 use Rattle.table_entries.specs.declared.resuming.Resumed.{Resumed}
 use Rattle.table_entries.specs.declared.resuming.Resumed.TheVariants as again
-use Rattle.table_courses.specs.Acquiring.{Advanced, Joined, GaveBack, LeftWaiting, MadeLive, ResumedEntry, TookEntry, TookOn, one_entry_more, table_opened}
+use Rattle.table_entries.specs.Acquiring.{Advanced, Joined, GaveBack, LeftWaiting, MadeLive, ResumedEntry, TookEntry, TookOn, one_entry_more, table_opened}
 use Rattle.course_laws.proofs.Awaiting.{AloneStays, alone_orderly, alone_telling, rose_by}
 use Rattle.course_laws.proofs.Stopping.{StopsAs, advanced_stops, on_stops}
 use Rattle.frame_ranks.specs.Ranks.{rank_at, rank_of}

@@ -18,7 +18,7 @@ use Rattle.kept_marks.specs.Marks as marks
 use Rattle.kept_marks.specs.Marks.{KeptFor, LeftSo}
 use Rattle.partial_state.specs.Levels.{level_type}
 use Rattle.partial_state.specs.declared.stack.TableWork.{TableWork}
-use Rattle.table_courses.specs.Acquiring.{InnerLeft, OutermostLeft, Unwound, WaitingLeft, around_left}
+use Rattle.table_entries.specs.Acquiring.{InnerLeft, OutermostLeft, Unwound, WaitingLeft, around_left}
 use Rattle.course_laws.proofs.Awaiting.{AloneStays}
 use Rattle.course_laws.proofs.Under.{IsOff}
 use Rattle.course_laws.proofs.Walking.{inner_came}

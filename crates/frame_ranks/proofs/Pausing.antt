@@ -20,7 +20,7 @@ use Rattle.frame_types.specs.declared.taking.Taken.TheVariants as types
 use Rattle.flush_waits.specs.Waiting.{IsWait}
 use Rattle.partial_state.specs.Levels.{level_type}
 use Rattle.partial_state.specs.declared.stack.TableWork.{TableWork}
-use Rattle.table_courses.specs.Acquiring.{Acquired, GaveRef, GotRef, TookType, Unwound, WaitingLeft, Worked, counted, finished, keeps_it, outermost_table, unfinished, unreferred, untyped, waiting}
+use Rattle.table_entries.specs.Acquiring.{Acquired, GaveRef, GotRef, TookType, Unwound, WaitingLeft, Worked, counted, finished, keeps_it, outermost_table, unfinished, unreferred, untyped, waiting}
 use Rattle.course_laws.proofs.Awaiting.{AloneStays, rose_by}
 use Rattle.course_laws.proofs.Walking.{worked_came}
 use Rattle.frame_ranks.specs.Ranks.{AreAllAlive, GetsFurther, GoesForward}

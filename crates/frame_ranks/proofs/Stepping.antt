@@ -20,7 +20,7 @@ use Rattle.kind_words.specs.Kinds.{live_kind, partial_kind}
 use Rattle.frame_types.specs.Found.{SharedBy, StoresKind}
 use Rattle.partial_state.specs.Levels.{level_type}
 use Rattle.partial_state.specs.declared.stack.TableWork.{TableWork}
-use Rattle.table_courses.specs.Acquiring.{GaveBack, GaveRef, Joined, LeftPartial, MadeLive, type_counts}
+use Rattle.table_entries.specs.Acquiring.{GaveBack, GaveRef, Joined, LeftPartial, MadeLive, type_counts}
 use Rattle.release_laws.proofs.Parts.{does_only, does_parts, does_with}
 use Rattle.frame_ranks.proofs.Facing.{Calm, Turned, at_kind, calm_then, is_quiet, load_calm, quiet_calm, same_calm, store_turned, turned_calm, turned_twice}
 use Rattle.frame_ranks.proofs.Reading.{written}

@@ -6,7 +6,7 @@ use Rattle.xp_words.specs.declared.kind.KindWord.{KindWord}
 use Rattle.xp_board.specs.Readings.{is_work, kind_at}
 use Rattle.step_maker.specs.Plain.{Words}
 use Rattle.partial_state.specs.declared.stack.TableWork.{TableWork}
-use Rattle.table_courses.specs.Acquiring.{one_entry_more}
+use Rattle.table_entries.specs.Acquiring.{one_entry_more}
 use Rattle.course_laws.proofs.Under.{IsOff}
 use Rattle.frame_ranks.specs.Ranks.{rank_at, rank_of}
 use Rattle.frame_ranks.proofs.Facing.{Calm, Turned, same_live, same_number, same_rank, same_work}

@@ -6,7 +6,7 @@ use Rattle.xp_words.specs.declared.place.Place.TheVariants.{Life}
 use Rattle.xp_board.specs.Readings.{is_work, kind_at}
 use Rattle.step_maker.specs.Plain.{Words}
 use Rattle.partial_state.specs.declared.stack.TableWork.{TableWork}
-use Rattle.table_courses.specs.Acquiring.{around_left, one_entry_more}
+use Rattle.table_entries.specs.Acquiring.{around_left, one_entry_more}
 use Rattle.table_words.specs.OldWords.{old_place}
 use Rattle.table_words.specs.declared.old_words.OldWord.{OldWord}
 use Rattle.course_laws.proofs.Under.{IsOff}

@@ -5,7 +5,7 @@ ghost use Rattle.xp_words.specs.declared.reply.Pause.TheVariants.{Due};
 ghost use Rattle.xp_words.specs.declared.reply.Stop.TheVariants.{Paused};
 ghost use Rattle.xp_board.specs.Told.{PortValue, told_word};
 ghost use Rattle.answer_laws.specs.Alone.{IsAlone};
-ghost use Rattle.table_courses.specs.Acquiring.{Acquired};
+ghost use Rattle.table_entries.specs.Acquiring.{Acquired};
 ghost use Rattle.frame_ranks.specs.Ranks.{AreAllAlive, GetsFurther, GoesForward};
 
 use answer_laws::alone_stays;

@@ -22,7 +22,7 @@ use Rattle.step_maker.proofs.Later.{IsUncounted, stops_later}
 use Rattle.step_maker.proofs.Piecing.{serves_inner}
 use Rattle.table_words.specs.declared.old_words.OldWord.{OldWord}
 use Rattle.level_release.specs.Asking.{IsReleaseEnd, is_due_answer, of_release, of_settle}
-use Rattle.table_courses.specs.Acquiring.{Named}
+use Rattle.table_entries.specs.Acquiring.{Named}
 use Rattle.level_release.specs.Course.{ReleasedTo, SettledOneTo}
 use Rattle.level_release.specs.Course as courses
 use Rattle.level_release.specs.Settling.{TookOld}

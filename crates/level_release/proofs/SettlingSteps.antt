@@ -27,7 +27,7 @@ use Rattle.table_releases.specs.Found.{has_recorded}
 use Rattle.table_words.specs.declared.old_words.OldWord.{OldWord}
 use Rattle.kept_marks.proofs.MarkWords.{partial_form}
 use Rattle.level_release.specs.Asking.{is_due_stop}
-use Rattle.table_courses.specs.Acquiring.{Named}
+use Rattle.table_entries.specs.Acquiring.{Named}
 use Rattle.level_release.specs.Course.{EmptiedTo, SettledOneTo, SettledPartial, left_partial, resumed_table}
 use Rattle.level_release.specs.Course as courses
 use Rattle.level_release.specs.Settling.{TookOld}

@@ -11,7 +11,7 @@ use Rattle.step_maker.specs.Asked.{IsAsked, Request}
 use Rattle.step_maker.specs.Finding.{Finding}
 use Rattle.partial_state.specs.declared.stack.TableWork.{TableWork}
 use Rattle.table_entries.specs.Asking.{of_entries}
-pub use Rattle.table_courses.specs.Ending.{is_due_answer, is_due_stop}
+pub use Rattle.table_entries.specs.Ending.{is_due_answer, is_due_stop}
 
 -- ---- answers
 

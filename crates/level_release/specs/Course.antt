@@ -30,7 +30,7 @@ use Rattle.table_entries.specs.Asking.{of_entries}
 use Rattle.table_words.specs.OldWords.{old_place}
 use Rattle.table_words.specs.declared.old_words.OldWord.{OldWord}
 use Rattle.table_words.specs.declared.old_words.OldWord.TheVariants.{First, Second}
-use Rattle.table_courses.specs.Acquiring.{GaveRef, GaveType, Named}
+use Rattle.table_entries.specs.Acquiring.{GaveRef, GaveType, Named}
 use Rattle.table_releases.specs.Found.{ReleasesFound, has_recorded}
 use Rattle.table_releases.specs.Plain.{TwinRelease}
 use Rattle.table_releases.specs.declared.entries.Released.{Released}

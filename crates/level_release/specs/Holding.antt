@@ -22,7 +22,7 @@ use Rattle.partial_state.specs.Levels.{level_type}
 use Rattle.partial_state.specs.Stacks.{IsStack}
 use Rattle.partial_state.specs.declared.stack.TableWork.{TableWork}
 use Rattle.table_releases.specs.Tops.{IsSettledTop, IsSince}
-pub use Rattle.table_courses.specs.Acquiring.{outermost_frame}
+pub use Rattle.table_entries.specs.Acquiring.{outermost_frame}
 
 -- ---- works
 pub record IsReleasedWork (z : Sizes) (made : ℕ) (t : TableWork) (e : Work) : Type 0 where

@@ -37,7 +37,7 @@ use Rattle.frame_words.specs.Plain.{TwinGet, put}
 use Rattle.frame_types.specs.declared.taking.Taken.{Taken}
 use Rattle.table_entries.proofs.PiecesTaking.{ref_kinds, type_kinds, wait_kinds}
 use Rattle.xp_preempt.proofs.Consulting.{consulted_none}
-use Rattle.table_courses.specs.Acquiring.{Acquired, GotRef, TookType, WaitingLeft, keeps_it, outermost_table}
+use Rattle.table_entries.specs.Acquiring.{Acquired, GotRef, TookType, WaitingLeft, keeps_it, outermost_table}
 use Rattle.level_validate.specs.Courses.{Consults, ValidatesBy}
 use Rattle.level_validate.proofs.Filling.{entry_undue}
 use Rattle.std.proofs.lemmas.Bool.Decides.{nat_tests}

@@ -16,7 +16,7 @@ use Rattle.kind_words.proofs.Leaving.{left_live, left_shared, may_leave_live, ma
 use Rattle.partial_state.proofs.LevelFacts.{level_type-plain, level_type-typed, level_type-table}
 use Rattle.partial_state.specs.declared.stack.TableWork.{TableWork}
 use Rattle.partial_state.specs.Levels.{level_type}
-use Rattle.table_courses.specs.Acquiring.{type_counts, Advanced, Joined, MadeLive}
+use Rattle.table_entries.specs.Acquiring.{type_counts, Advanced, Joined, MadeLive}
 use Rattle.level_validate.specs.Tables.{IsTopReady, Carries, refs_for, IsLastWord, Reaches, innermost, taken_on, under_way}
 use Rattle.level_validate.proofs.Leaving.{refs_are, typed_gone, TopGone, gone_held, gone_records, gone_stands, gone_typed, gone_works, outer, recorded_ready, recorded_stands_on}
 use Rattle.level_validate.proofs.Standing.{top, top_done, top_gone, top_held, top_here, top_owned, top_typed, ref_owned, refs_lent, tables_none, typed_lent, TopTable, inner_is}

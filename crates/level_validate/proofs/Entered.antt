@@ -54,7 +54,7 @@ use Rattle.table_entries.specs.Asking.{ShowsEntered, of_entries}
 use Rattle.table_entries.specs.Found.{EntersFound}
 use Rattle.table_entries.specs.Plain.{TwinEntry}
 use Rattle.table_entries.specs.declared.entries.Entered.{Entered}
-use Rattle.table_courses.specs.Acquiring.{Advanced, TookEntry, TookOn, one_entry_more, table_opened}
+use Rattle.table_entries.specs.Acquiring.{Advanced, TookEntry, TookOn, one_entry_more, table_opened}
 use Rattle.std.proofs.lemmas.Result.{IfOk-weaker}
 use Rattle.partial_state.specs.Weights.{entry_weight, weight}
 use Rattle.partial_state.proofs.WeightFacts.{advanced_gives, inner_fills}

@@ -17,7 +17,7 @@ use Rattle.xp_preempt.specs.Gates.{answer_at, ends_yes, next_ask}
 use Rattle.xp_preempt.proofs.Consulting.{consulted_ask, consulted_none, consulted_then}
 use Rattle.level_validate.specs.Courses.{Consults, asked_once, GoesOnFilling, ValidatesBy}
 use Rattle.table_entries.specs.Asking.{IsEntryStop}
-use Rattle.table_courses.specs.Acquiring.{Filled, TookOn, Worked, is_asked, Advanced, MadeLive, Unwound, keeps_it}
+use Rattle.table_entries.specs.Acquiring.{Filled, TookOn, Worked, is_asked, Advanced, MadeLive, Unwound, keeps_it}
 use Rattle.step_maker.specs.Holds.{MayWork}
 use Rattle.step_maker.proofs.Coming.{came_trans}
 use Rattle.level_validate.specs.Tables.{IsStanding, IsTopReady, StandsOn}

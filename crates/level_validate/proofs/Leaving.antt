@@ -52,7 +52,7 @@ use Rattle.xp_words.specs.declared.kind.PageType.{PageType}
 use Rattle.step_maker.specs.Visits.{Does}
 use Rattle.kept_marks.specs.Marks.{KeptFor}
 use Rattle.frame_types.specs.Found.{SharedBy, StoresKind}
-use Rattle.table_courses.specs.Acquiring.{GaveRef, InnerLeft, LeftPartial, Named, OutermostLeft, Unwound, WaitingLeft, around_left}
+use Rattle.table_entries.specs.Acquiring.{GaveRef, InnerLeft, LeftPartial, Named, OutermostLeft, Unwound, WaitingLeft, around_left}
 use Rattle.level_validate.specs.Courses.{UnwindsOn}
 use Rattle.xp_board.specs.declared.holdings.OwnerFound.TheVariants as owners
 use Rattle.xp_board.specs.declared.step.StepKind.TheVariants as kinds

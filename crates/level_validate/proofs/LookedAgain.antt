@@ -12,7 +12,7 @@ use Rattle.table_entries.specs.Asking.{ShowsEntered, ShowsResumed, of_entries, I
 use Rattle.table_entries.specs.Found.{EntersFound, ResumesFound}
 use Rattle.table_entries.specs.Plain.{TwinEntry, TwinResume}
 use Rattle.table_entries.specs.declared.resuming.Resumed.{Resumed}
-use Rattle.table_courses.specs.Acquiring.{GaveBack, LeftWaiting, ResumedEntry, TookEntry, TookOn, table_opened}
+use Rattle.table_entries.specs.Acquiring.{GaveBack, LeftWaiting, ResumedEntry, TookEntry, TookOn, table_opened}
 use Rattle.step_maker.specs.Moves.{Came, Met}
 use Rattle.step_maker.proofs.Coming.{came_trans, came_post}
 use Rattle.step_maker.proofs.Piecing.{serves_came}

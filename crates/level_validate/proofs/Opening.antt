@@ -24,7 +24,7 @@ use Rattle.xp_board.proofs.Works.{counted_alive, nobody_locks}
 use Rattle.step_maker.specs.Moves.{Came, Met, Moment, MovesBy, Ran}
 use Rattle.step_maker.proofs.Coming.{came_post, came_self, came_trans}
 use Rattle.frame_words.proofs.CellSteps.{learned_apart}
-use Rattle.table_courses.proofs.Listing.{each_next, first_is}
+use Rattle.table_entries.proofs.Listing.{each_next, first_is}
 use Rattle.level_validate.specs.Tables.{IsLastWord}
 use Rattle.xp_words.specs.declared.kind.PageType.{PageType}
 use Rattle.xp_words.specs.declared.reply.Stop.{Stop}

@@ -20,7 +20,7 @@ use Rattle.step_maker.proofs.Coming.{came_self, came_trans}
 use Rattle.kept_marks.specs.Marks.{LeavesKept}
 use Rattle.kind_words.specs.Kinds.{partial_kind}
 use Rattle.partial_state.specs.Levels.{level_type}
-use Rattle.table_courses.specs.Acquiring.{Unwound}
+use Rattle.table_entries.specs.Acquiring.{Unwound}
 use Rattle.level_validate.specs.Courses.{UnwindsOn}
 use Rattle.level_validate.specs.Serving.{CarriesOn, ServesLeft, ServesTo}
 use Rattle.level_validate.proofs.Leaving.{typed_gone, unwinds_then}

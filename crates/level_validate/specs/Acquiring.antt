@@ -18,8 +18,8 @@ use Rattle.frame_words.specs.Refs.{took}
 use Rattle.kept_marks.specs.Marks.{IsForeign}
 use Rattle.partial_state.specs.Levels.{level_type}
 use Rattle.partial_state.specs.declared.stack.TableWork.{TableWork}
-use Rattle.table_courses.specs.Acquiring.{Acquired}
-pub use Rattle.table_courses.specs.Ending.{is_due_answer, is_due_stop, is_paused_answer}
+use Rattle.table_entries.specs.Acquiring.{Acquired}
+pub use Rattle.table_entries.specs.Ending.{is_due_answer, is_due_stop, is_paused_answer}
 use Rattle.xp_preempt.specs.Gates.{Consulted, ends_yes}
 use Rattle.level_validate.specs.Completing.{Completes}
 use Rattle.level_validate.specs.Serving.{IsPiece}

@@ -3,7 +3,7 @@ use Rattle.std.specs.Prelude.{◌≡◌, ℕ, if◌then◌else◌, Bool, List, [
 use Rattle.xp_words.specs.declared.reply.Stop.{Stop}
 use Rattle.xp_board.specs.Told.{PortValue}
 use Rattle.partial_state.specs.declared.stack.TableWork.{TableWork}
-use Rattle.table_courses.specs.Acquiring.{Filled, MadeLive, Unwound, Worked, keeps_it}
+use Rattle.table_entries.specs.Acquiring.{Filled, MadeLive, Unwound, Worked, keeps_it}
 use Rattle.xp_preempt.specs.Gates.{Consulted, ends_yes}
 
 -- ---- with the gate's answers

@@ -8,7 +8,7 @@ use Rattle.step_maker.specs.Holds.{FlushedHolds}
 use Rattle.kept_marks.specs.Marks.{IsForeign}
 use Rattle.partial_state.specs.declared.stack.TableWork.{TableWork}
 use Rattle.partial_state.specs.Stacks.{retreated}
-pub use Rattle.table_courses.specs.Acquiring.{outermost_frame}
+pub use Rattle.table_entries.specs.Acquiring.{outermost_frame}
 use Rattle.level_validate.specs.Tables.{Carries}
 
 abbrev pub own_domain : PortValue → ℕ

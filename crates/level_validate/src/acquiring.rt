@@ -9,7 +9,7 @@ ghost use Rattle.partial_state.specs.Levels.{level_type};
 ghost use Rattle.table_words.specs.OldWords.{known_old};
 ghost use Rattle.table_words.specs.declared.old_words.OldWord.TheVariants.{First};
 ghost use Rattle.partial_state.specs.Weights.{weight};
-ghost use Rattle.table_courses.specs.Acquiring.{Advanced, WaitingLeft, Worked, is_asked};
+ghost use Rattle.table_entries.specs.Acquiring.{Advanced, WaitingLeft, Worked, is_asked};
 ghost use Rattle.level_validate.specs.Acquiring.{AcquiresBy, IsAcquireStop, IsTableWaiting, LeavesAcquired, LeavesWaiting, ServesAcquired, StopsRisen, Validated, is_due_answer, is_filled, is_paused_answer, of_acquire, outermost_work};
 ghost use Rattle.level_validate.specs.Courses.{Consults, GoesOnFilling, ValidatesBy, asked_once};
 ghost use Rattle.level_validate.specs.Serving.{CarriesOn, ServesLeft, ServesWaiting};

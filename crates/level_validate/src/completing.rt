@@ -13,7 +13,7 @@ ghost use Rattle.kind_words.specs.Kinds.{MayLeave, left, live_kind};
 ghost use Rattle.frame_types.specs.Taking.{gave_type};
 ghost use Rattle.partial_state.specs.Levels.{level_type};
 ghost use Rattle.partial_state.specs.declared.stack.TableWork.{TableWork};
-ghost use Rattle.table_courses.specs.Acquiring.{Advanced, GaveBack, MadeLive, type_counts};
+ghost use Rattle.table_entries.specs.Acquiring.{Advanced, GaveBack, MadeLive, type_counts};
 ghost use Rattle.level_validate.specs.Completing.{Completes, IsInnerFull};
 ghost use Rattle.level_validate.specs.Giving.{MayGiveBack};
 ghost use Rattle.level_validate.specs.Serving.{CarriesOn};

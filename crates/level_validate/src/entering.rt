@@ -7,7 +7,7 @@ ghost use Rattle.step_maker.specs.Answers.{misses};
 ghost use Rattle.step_maker.specs.Pauses.{Progress};
 ghost use Rattle.partial_state.specs.Stacks.{left_on_top};
 ghost use Rattle.partial_state.specs.Weights.{entry_weight, weight};
-ghost use Rattle.table_courses.specs.Acquiring.{Advanced, TookOn};
+ghost use Rattle.table_entries.specs.Acquiring.{Advanced, TookOn};
 ghost use Rattle.level_validate.specs.Acquiring.{outermost_work};
 ghost use Rattle.level_validate.specs.Serving.{CarriesOn, StopsIn};
 ghost use Rattle.level_validate.specs.Tables.{IsTopReady, IsStanding, StandsOn};

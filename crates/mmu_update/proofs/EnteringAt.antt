@@ -28,7 +28,7 @@ use Rattle.foreign_map.specs.declared.owners.Owners.{Owners}
 use Rattle.frame_words.specs.Freeing.{gave}
 use Rattle.frame_words.specs.Refs.{IsRefStop}
 use Rattle.partial_state.specs.Levels.{level_type}
-use Rattle.table_courses.specs.Acquiring.{GaveRef, GotRef}
+use Rattle.table_entries.specs.Acquiring.{GaveRef, GotRef}
 use Rattle.tlb_walks.specs.Addresses.{index_of}
 use Rattle.mmu_update.specs.Addresses as ways
 use Rattle.mmu_update.specs.Addresses.{IsAtStop, of_at}

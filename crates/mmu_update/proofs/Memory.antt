@@ -15,7 +15,7 @@ use Rattle.foreign_map.specs.declared.owners.Owners.{Owners}
 use Rattle.frame_words.specs.Refs.{took}
 use Rattle.frame_types.specs.Taking.{IsTypeStop, gave_type, typed_as}
 use Rattle.frame_types.proofs.Serving.{type_uncounted}
-use Rattle.table_courses.specs.Acquiring.{GaveType}
+use Rattle.table_entries.specs.Acquiring.{GaveType}
 use Rattle.writable_pages.specs.Pages.{LeavesPage, ServesPage, TookPage, of_page}
 use Rattle.mmu_update.specs.Course as courses
 use Rattle.mmu_update.specs.Elements.{LeavesUpdate}

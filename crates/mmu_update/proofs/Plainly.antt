@@ -24,7 +24,7 @@ use Rattle.frame_types.specs.Plain.{TakesMemory, taken}
 use Rattle.frame_types.specs.declared.taking.Taken.TheVariants.{Counted}
 use Rattle.frame_types.proofs.Alike.{dropped_alike}
 use Rattle.m2p_map.proofs.Mapping.{same_words}
-use Rattle.table_courses.specs.Acquiring.{GaveType, GotRef}
+use Rattle.table_entries.specs.Acquiring.{GaveType, GotRef}
 use Rattle.entry_locks.specs.Locks.{is_lockable, is_worked_on}
 use Rattle.entry_locks.specs.declared.locking.Locked.TheVariants.{Table, Other}
 use Rattle.foreign_map.specs.declared.owners.Owners.{Owners}

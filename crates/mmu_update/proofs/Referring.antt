@@ -13,7 +13,7 @@ use Rattle.foreign_map.specs.declared.owners.Owners.{Owners}
 use Rattle.frame_words.specs.Freeing.{gave}
 use Rattle.frame_words.specs.Refs.{IsRefStop, MayPut, took}
 use Rattle.frame_types.proofs.Waiting.{err_gives}
-use Rattle.table_courses.specs.Acquiring.{GaveRef, GotRef}
+use Rattle.table_entries.specs.Acquiring.{GaveRef, GotRef}
 use Rattle.mmu_update.specs.Course as courses
 use Rattle.mmu_update.specs.Course.{TriedLock}
 use Rattle.mmu_update.specs.Elements.{stopped}

@@ -18,7 +18,7 @@ use Rattle.entry_exchange.specs.Asking.{HasExchangeDeeds, of_exchange}
 use Rattle.entry_exchange.specs.Course.{Exchanged, LeftLock, SawEntry}
 use Rattle.entry_locks.specs.declared.locking.Locked.TheVariants.{Table, Other}
 use Rattle.foreign_map.specs.declared.owners.Owners.{Owners}
-use Rattle.table_courses.specs.Acquiring.{GaveRef, GotRef}
+use Rattle.table_entries.specs.Acquiring.{GaveRef, GotRef}
 use Rattle.tlb_walks.specs.Addresses.{index_of, walk_refusal}
 use Rattle.mmu_update.specs.Course.{TriedLock, entry_update}
 use Rattle.mmu_update.specs.Elements.{IsWriteStop}

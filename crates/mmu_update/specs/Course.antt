@@ -23,7 +23,7 @@ use Rattle.level_release.specs.Course.{WithGate}
 use Rattle.m2p_map.specs.Found.{SetFound}
 use Rattle.m2p_map.specs.Maps.{TwinSet}
 use Rattle.partial_state.specs.Levels.{level_type}
-use Rattle.table_courses.specs.Acquiring.{GaveRef, GaveType, GotRef}
+use Rattle.table_entries.specs.Acquiring.{GaveRef, GaveType, GotRef}
 use Rattle.writable_pages.specs.Pages.{TookPage}
 use Rattle.mmu_update.specs.declared.element.Element.{Element}
 use Rattle.mmu_update.specs.declared.element.Element.TheVariants.{SetM2p, Write, Misaligned, Unknown}

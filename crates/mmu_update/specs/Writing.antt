@@ -11,7 +11,7 @@ use Rattle.foreign_map.specs.Owning.{MayMapFor}
 use Rattle.foreign_map.specs.declared.owners.Owners.{Owners}
 use Rattle.frame_words.specs.Refs.{took}
 use Rattle.level_release.specs.Course.{WithGate}
-use Rattle.table_courses.specs.Acquiring.{GotRef}
+use Rattle.table_entries.specs.Acquiring.{GotRef}
 use Rattle.table_words.specs.OldWords.{known_old}
 use Rattle.table_words.specs.declared.old_words.OldWord.TheVariants.{First, Second}
 use Rattle.mmu_update.specs.Course.{TriedLock}

@@ -24,7 +24,7 @@ use Rattle.frame_words.specs.Freeing.{Puts, gave}
 use Rattle.frame_words.specs.Refs.{Gets, took}
 use Rattle.frame_words.specs.Plain.{TwinGet, put}
 use Rattle.step_maker.specs.Plain.{Leaves}
-use Rattle.table_courses.specs.Acquiring.{GaveRef, GotRef}
+use Rattle.table_entries.specs.Acquiring.{GaveRef, GotRef}
 use Rattle.kind_words.proofs.KindFacts.{kind_found, kind_is_some, read_is}
 use Rattle.kind_words.proofs.Leaving.{without_newest}
 use Rattle.table_entries.proofs.HandOwners.{ref_knows_its}

@@ -11,10 +11,10 @@ use Rattle.step_maker.specs.Answers.{Serves, Stops, missed}
 use Rattle.step_maker.specs.Asked.{of_frame}
 use Rattle.frame_words.specs.Refs.{IsRefStop}
 use Rattle.partial_state.specs.Levels.{level_type}
-use Rattle.table_courses.specs.Acquiring.{Acquired, GotRef}
+use Rattle.table_entries.specs.Acquiring.{Acquired, GotRef}
 use Rattle.level_validate.specs.Acquiring.{AcquiresBy, IsAcquireStop, LeavesAcquired, ServesAcquired, of_acquire}
 use Rattle.level_validate.specs.Unwinding.{own_domain}
-use Rattle.table_courses.proofs.Ending.{reference_undue}
+use Rattle.table_entries.proofs.Ending.{reference_undue}
 use Rattle.mmuext_ops.specs.Course.{IsPinnedAs, PinEnds}
 use Rattle.mmuext_ops.specs.Course as course
 use Rattle.mmuext_ops.specs.declared.element.Element.TheVariants.{Pin}

@@ -21,11 +21,11 @@ use Rattle.step_maker.proofs.Piecing.{serves_came}
 use Rattle.frame_words.specs.Refs.{IsRefStop}
 use Rattle.kind_words.specs.Kinds.{looked_at}
 use Rattle.table_words.specs.Pins.{took_pin, unpinned_kind}
-use Rattle.table_courses.specs.Acquiring.{GaveRef, GotRef}
+use Rattle.table_entries.specs.Acquiring.{GaveRef, GotRef}
 use Rattle.level_release.specs.Asking.{is_due_stop, of_release}
 use Rattle.level_release.specs.Course.{ReleasesFrameBy, WasReleased}
 use Rattle.level_release.specs.Holding.{HoldsLive, LeavesUnheld}
-use Rattle.table_courses.proofs.Ending.{reference_undue}
+use Rattle.table_entries.proofs.Ending.{reference_undue}
 use Rattle.mmuext_ops.specs.Course.{TakesPinOff, Unpinned, UnpinsBy, is_pinned}
 use Rattle.mmuext_ops.specs.Course as course
 use Rattle.mmuext_ops.specs.declared.element.Element.TheVariants.{Unpin}

@@ -26,7 +26,7 @@ use Rattle.frame_types.specs.Lowering.{DropsType}
 use Rattle.kind_words.specs.Kinds.{partial_kind}
 use Rattle.partial_state.specs.Levels.{level_type}
 use Rattle.table_words.specs.Pins.{pinned_kind, unpinned_kind}
-use Rattle.table_courses.specs.Acquiring.{Acquired, GaveRef, GotRef, Named}
+use Rattle.table_entries.specs.Acquiring.{Acquired, GaveRef, GotRef, Named}
 use Rattle.level_release.specs.Course.{WasReleased, WithGate}
 use Rattle.desc_pages.specs.Ldt.{SetsLdt}
 use Rattle.whole_pages.specs.Whole.{ClearsPage, CopiesPage}

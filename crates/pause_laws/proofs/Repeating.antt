@@ -20,7 +20,7 @@ use Rattle.table_law.specs.Alone.{PlainOutcome, alone}
 use Rattle.table_law.specs.Lawful.{IsAtRest}
 use Rattle.table_law.specs.Plain.{plain_of}
 use Rattle.table_twins.proofs.Kinding.{described_alike}
-use Rattle.table_courses.specs.Acquiring.{Acquired}
+use Rattle.table_entries.specs.Acquiring.{Acquired}
 use Rattle.course_laws.specs.Courses.{FindsAlive, IsDecided, IsHad, IsOrderly}
 use Rattle.course_laws.proofs.Deciding.{LastOutcome, had_where_lawful, last_lawful, one_call}
 use Rattle.course_laws.proofs.Stopping.{StopsIn, acquired_stops}

@@ -8,7 +8,7 @@ use Rattle.xp_board.specs.Readings.{ref_count}
 use Rattle.xp_board.specs.Told.{PortValue, is_telling, told_word}
 use Rattle.step_maker.specs.Moves.{Met, Moment}
 use Rattle.step_maker.specs.Plain.{Leaves}
-use Rattle.table_courses.specs.Acquiring.{Acquired}
+use Rattle.table_entries.specs.Acquiring.{Acquired}
 use Rattle.course_laws.specs.Courses.{FindsAlive}
 
 -- no step from v to w found a reference word with its count at the limit

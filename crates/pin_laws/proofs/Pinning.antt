@@ -13,7 +13,7 @@ use Rattle.step_maker.proofs.Telling.{came_telling}
 use Rattle.answer_laws.specs.Alone.{IsAlone}
 use Rattle.partial_state.specs.Levels.{level_type}
 use Rattle.table_law.specs.Lawful.{IsAtRest}
-use Rattle.table_courses.specs.Acquiring.{Acquired, GaveRef, GotRef, unreferred}
+use Rattle.table_entries.specs.Acquiring.{Acquired, GaveRef, GotRef, unreferred}
 use Rattle.mmuext_ops.specs.Course.{IsPinnedAs, PinEnds, Pinned, SawKind, acquired, pinned_before, refused, unreferred as unreferred_pin}
 use Rattle.course_laws.specs.Courses.{ClockGoesOn, IsDecided, IsFinal, IsHad}
 use Rattle.course_laws.proofs.Awaiting.{AloneStays, alone_orderly, alone_telling}

@@ -32,7 +32,7 @@ use Rattle.partial_state.specs.declared.stack.TableWork.{TableWork}
 use Rattle.partial_state.proofs.LevelFacts.{level_type-table, level_type-typed}
 use Rattle.table_law.specs.Lawful.{IsAtRest}
 use Rattle.table_law.specs.Plain.{plain_of}
-use Rattle.table_courses.specs.Acquiring.{Acquired, GotRef, MadeLive, TookType, counted, finished, outermost_table, type_counts, unfinished, unreferred, untyped, waiting}
+use Rattle.table_entries.specs.Acquiring.{Acquired, GotRef, MadeLive, TookType, counted, finished, outermost_table, type_counts, unfinished, unreferred, untyped, waiting}
 use Rattle.mmuext_ops.specs.Course.{IsPinnedAs, is_pinned}
 use Rattle.course_laws.specs.Courses.{IsOrderly}
 use Rattle.course_laws.proofs.Frames.{IsFrame, count_at}

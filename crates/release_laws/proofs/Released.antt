@@ -17,7 +17,7 @@ use Rattle.frame_words.specs.Plain.{put}
 use Rattle.frame_types.specs.Lowering.{DropsType}
 use Rattle.partial_state.specs.Levels.{level_type}
 use Rattle.partial_state.proofs.LevelFacts.{level_type-apart}
-use Rattle.table_courses.specs.Acquiring.{GaveRef, GaveType}
+use Rattle.table_entries.specs.Acquiring.{GaveRef, GaveType}
 use Rattle.table_releases.specs.Plain.{lowered_type}
 use Rattle.table_law.specs.Levels.{closed}
 use Rattle.table_law.specs.Plain.{Describes, Plain, with_kind}

@@ -18,7 +18,7 @@ use Rattle.level_validate.specs.Acquiring.{AcquiresBy, ServesAcquired, of_acquir
 use Rattle.level_validate.specs.Acquiring as acquires
 use Rattle.level_validate.specs.Unwinding.{own_domain}
 use Rattle.level_release.specs.Asking.{is_due_stop}
-use Rattle.table_courses.specs.Acquiring.{Acquired}
+use Rattle.table_entries.specs.Acquiring.{Acquired}
 use Rattle.table_bases.specs.declared.words.Base.{Base}
 use Rattle.table_bases.specs.Asking.{base_deeds, of_base}
 use Rattle.table_bases.specs.Course.{InstallsBy, MeetsBase, SawClock}

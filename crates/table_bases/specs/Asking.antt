@@ -10,7 +10,7 @@ use Rattle.step_maker.specs.Answers.{Deed, Serves, SetsWord, Stops, missed}
 use Rattle.step_maker.specs.Asked.{Request, of_table}
 use Rattle.level_validate.specs.Acquiring.{IsAcquireStop}
 use Rattle.level_validate.specs.Unwinding.{own_domain}
-pub use Rattle.table_courses.specs.Ending.{may_rise}
+pub use Rattle.table_entries.specs.Ending.{may_rise}
 use Rattle.table_bases.specs.declared.words.Base.{Base}
 use Rattle.table_bases.specs.Holding.{base_number, naming}
 

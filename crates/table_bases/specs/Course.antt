@@ -13,7 +13,7 @@ use Rattle.xp_board.specs.Readings.{last_clock}
 use Rattle.xp_board.specs.Told.{PortValue}
 use Rattle.step_maker.specs.Moves.{Came, Moves}
 use Rattle.flush_words.specs.Flushing.{FlushesOwn}
-use Rattle.table_courses.specs.Acquiring.{Acquired}
+use Rattle.table_entries.specs.Acquiring.{Acquired}
 use Rattle.level_validate.specs.Unwinding.{own_domain}
 use Rattle.level_release.specs.Course.{WasReleased, WithGate}
 use Rattle.table_bases.specs.declared.words.Base.{Base}

@@ -12,3 +12,6 @@ pub mod HandAgain
 pub mod NextWays
 pub mod NextLeft
 pub mod LastWays
+pub mod Ending
+pub mod Listing
+pub mod Pictures

@@ -3,3 +3,5 @@ pub mod Tops
 pub mod Plain
 pub mod Found
 pub mod Between
+pub mod Acquiring
+pub mod Ending

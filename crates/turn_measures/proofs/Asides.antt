@@ -28,7 +28,7 @@ use Rattle.frame_words.specs.Plain.{got, lowered, put, set_free, stamp_now}
 use Rattle.flush_waits.specs.Listing.{WaitedFor}
 use Rattle.frame_claims.proofs.Telling.{Alls, load_leaves, told_ran, words_after}
 use Rattle.frame_claims.proofs.Waiting.{IsAside, waited_all}
-use Rattle.table_courses.specs.Acquiring.{GaveRef, GotRef}
+use Rattle.table_entries.specs.Acquiring.{GaveRef, GotRef}
 use Rattle.course_laws.proofs.Stopping.{ref_came}
 use Rattle.course_laws.proofs.Walking.{gave_came}
 use Rattle.turn_measures.proofs.Forward.{Still, is_ranked, still_self, still_then}

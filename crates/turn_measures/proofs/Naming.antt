@@ -15,7 +15,7 @@ use Rattle.level_release.specs.Course as course
 use Rattle.level_release.specs.Course.{Emptied, LeftInside, Rerecorded, ReleasedWithin, SettledPartial, StoredPartial, UnwoundDown, left_emptied, left_partial, left_released, one_less}
 use Rattle.partial_state.specs.Weights.{weight}
 use Rattle.partial_state.specs.declared.stack.TableWork.{TableWork}
-use Rattle.table_courses.specs.Acquiring.{GaveRef, GaveType, Named}
+use Rattle.table_entries.specs.Acquiring.{GaveRef, GaveType, Named}
 use Rattle.frame_types.specs.Lowering.{DropsType}
 use Rattle.vcpu_turn.proofs.Clearing.{drops, ends_dead, puts}
 use Rattle.turn_measures.specs.Measures.{left_rank, most_left}

@@ -13,7 +13,7 @@ use Rattle.step_maker.proofs.Visiting.{does_came}
 use Rattle.flush_waits.specs.Waiting.{IsWait}
 use Rattle.frame_types.specs.declared.taking.Taken.TheVariants as types
 use Rattle.kind_words.specs.Kinds.{partial_kind}
-use Rattle.table_courses.specs.Acquiring.{Acquired, GotRef, TookType}
+use Rattle.table_entries.specs.Acquiring.{Acquired, GotRef, TookType}
 use Rattle.writable_pages.specs.Pages as pages
 use Rattle.writable_pages.specs.Pages.{GotPage, LeftPage, PageLeft, TookPage}
 use Rattle.vcpu_turn.specs.Unhindered.{IsUnhindered}

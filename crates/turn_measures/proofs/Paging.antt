@@ -24,7 +24,7 @@ use Rattle.frame_types.specs.declared.standing.Standing.TheVariants as stands
 use Rattle.frame_types.specs.declared.taking.Taken.TheVariants as types
 use Rattle.kind_words.specs.Kinds.{partial_kind}
 use Rattle.kind_words.proofs.KindWriting.{fields_write, marked_is}
-use Rattle.table_courses.specs.Acquiring.{TookType}
+use Rattle.table_entries.specs.Acquiring.{TookType}
 use Rattle.table_words.specs.OldWords.{old_place}
 use Rattle.table_words.specs.declared.old_words.OldWord.{OldWord}
 use Rattle.vcpu_turn.specs.Unhindered.{IsUnhindered}

@@ -20,7 +20,7 @@ use Rattle.table_bases.specs.Course as bases
 use Rattle.table_bases.specs.Course.{SetsBase}
 use Rattle.table_bases.specs.declared.words.Base.{Base}
 use Rattle.table_bases.specs.declared.words.Base.TheVariants.{Kernel, User}
-use Rattle.table_courses.specs.Acquiring.{GaveRef, GotRef}
+use Rattle.table_entries.specs.Acquiring.{GaveRef, GotRef}
 use Rattle.desc_pages.specs.Ldt as ldt
 use Rattle.desc_pages.specs.Ldt.{SetsLdt}
 use Rattle.whole_pages.specs.Whole as whole

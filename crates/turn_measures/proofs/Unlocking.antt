@@ -23,7 +23,7 @@ use Rattle.entry_locks.specs.Locks.{Unlocks, is_lockable}
 use Rattle.entry_locks.specs.declared.locking.Locked.TheVariants.{Table}
 use Rattle.kind_words.proofs.KindFacts.{kind_found}
 use Rattle.mmu_update.specs.Course.{TriedLock}
-use Rattle.table_courses.specs.Acquiring.{GotRef}
+use Rattle.table_entries.specs.Acquiring.{GotRef}
 use Rattle.course_laws.specs.Courses.{IsOrderly}
 use Rattle.course_laws.proofs.Awaiting.{AloneStays, alone_orderly, alone_telling}
 use Rattle.frame_ranks.specs.Ranks.{AreAllAlive}

@@ -28,7 +28,7 @@ use Rattle.exchange_laws.proofs.Going.{demand_came}
 use Rattle.vcpu_turn.specs.Unhindered.{IsUnhindered}
 use Rattle.vcpu_turn.specs.declared.cpu.TurnEnd.TheVariants as ends
 use Rattle.course_laws.proofs.Awaiting.{AloneStays}
-use Rattle.table_courses.specs.Acquiring.{GotRef}
+use Rattle.table_entries.specs.Acquiring.{GotRef}
 use Rattle.turn_measures.proofs.Forward.{still_all}
 use Rattle.turn_measures.proofs.Asides.{Passes, moves_passes, passes_then, ref_passes}
 use Rattle.turn_measures.proofs.Calm.{AcquiredForward, AcquiredFurther, IsCalm, alive_on, calm_on, calm_telling, same_machine}

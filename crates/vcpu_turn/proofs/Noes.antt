@@ -8,8 +8,8 @@ use Rattle.xp_board.specs.Told.{PortValue}
 use Rattle.xp_preempt.specs.Gates.{yeses}
 use Rattle.xp_preempt.proofs.Consulting.{yeses_then}
 use Rattle.partial_state.specs.declared.stack.TableWork.{TableWork}
-use Rattle.table_courses.specs.Acquiring as acquiring
-use Rattle.table_courses.specs.Acquiring.{Acquired, Filled, Worked}
+use Rattle.table_entries.specs.Acquiring as acquiring
+use Rattle.table_entries.specs.Acquiring.{Acquired, Filled, Worked}
 use Rattle.table_releases.specs.Found.{has_recorded}
 use Rattle.table_words.specs.declared.old_words.OldWord.{OldWord}
 use Rattle.level_release.specs.Asking.{is_due_answer}

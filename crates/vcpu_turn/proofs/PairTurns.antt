@@ -22,8 +22,8 @@ use Rattle.xp_preempt.specs.Gates.{GivesAnswers, last_ask}
 use Rattle.step_maker.proofs.Coming.{came_post}
 use Rattle.partial_state.specs.Levels.{level_type}
 use Rattle.partial_state.proofs.LevelFacts.{level_type-table}
-use Rattle.table_courses.specs.Acquiring as acquiring
-use Rattle.table_courses.specs.Acquiring.{GaveRef, GotRef}
+use Rattle.table_entries.specs.Acquiring as acquiring
+use Rattle.table_entries.specs.Acquiring.{GaveRef, GotRef}
 use Rattle.level_release.specs.Course as releasing
 use Rattle.level_release.specs.Course.{WasReleased}
 use Rattle.writable_pages.specs.Pages as pages

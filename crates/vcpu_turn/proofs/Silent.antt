@@ -12,7 +12,7 @@ use Rattle.xp_board.specs.Told.{Post, PortValue}
 use Rattle.step_maker.specs.Moves.{Moves}
 use Rattle.partial_state.specs.Levels.{level_type}
 use Rattle.partial_state.specs.declared.stack.TableWork.{TableWork}
-use Rattle.table_courses.specs.Acquiring.{GaveRef}
+use Rattle.table_entries.specs.Acquiring.{GaveRef}
 use Rattle.table_releases.specs.Found.{has_recorded}
 use Rattle.table_releases.specs.declared.entries.Released.TheVariants.{Given, Opened}
 use Rattle.table_words.specs.OldWords.{old_number, old_place}

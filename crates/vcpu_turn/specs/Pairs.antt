@@ -16,7 +16,7 @@ use Rattle.xp_words.specs.declared.kind.PageType.{PageType}
 use Rattle.xp_words.specs.declared.reply.Pause.TheVariants.{Due}
 use Rattle.xp_preempt.specs.Gates.{ends_yes, yeses}
 use Rattle.partial_state.specs.Levels.{level_type}
-use Rattle.table_courses.specs.Acquiring.{GotRef}
+use Rattle.table_entries.specs.Acquiring.{GotRef}
 use Rattle.level_release.specs.Course.{WasReleased}
 use Rattle.mmu_update.specs.Exchanges as exchanging
 use Rattle.mmu_update.specs.Exchanges.{EntryUpdate, Exchanged, LeftLock, new_demand, old_demand, asks_table}

@@ -10,7 +10,7 @@ use Rattle.step_maker.specs.Answers.{Deed, Serves, Stops}
 use Rattle.step_maker.specs.Asked.{named, of, of_back}
 use Rattle.step_maker.proofs.Piecing.{serves_back, serves_then}
 use Rattle.frame_types.specs.Taking.{gave_type}
-use Rattle.table_courses.specs.Acquiring.{GaveType}
+use Rattle.table_entries.specs.Acquiring.{GaveType}
 use Rattle.writable_pages.specs.Pages.{GotPage, LeavesGot, ServesPage, of_page}
 use Rattle.whole_pages.specs.Whole as whole
 use Rattle.whole_pages.specs.Whole.{Clears, PageCleared, clears, of_clear}

@@ -13,7 +13,7 @@ use Rattle.step_maker.proofs.Piecing.{serves_back, serves_call, serves_came, ser
 use Rattle.frame_words.specs.Freeing.{gave}
 use Rattle.frame_words.specs.Refs.{IsRefStop, took}
 use Rattle.frame_types.specs.Taking.{gave_type}
-use Rattle.table_courses.specs.Acquiring.{GaveRef, GaveType, GotRef}
+use Rattle.table_entries.specs.Acquiring.{GaveRef, GaveType, GotRef}
 use Rattle.writable_pages.specs.Pages.{GotPage, LeavesGot, ServesPage, of_page}
 use Rattle.whole_pages.specs.Whole as whole
 use Rattle.whole_pages.specs.Whole.{Copies, PageCopied, copies, of_copy}

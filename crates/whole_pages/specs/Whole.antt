@@ -17,7 +17,7 @@ use Rattle.step_maker.specs.Answers.{Deed, Serves, Stops, Writes, missed}
 use Rattle.step_maker.specs.Asked.{Request, of_frame, of_table}
 use Rattle.step_maker.specs.Visits.{Does, Visit, visit}
 use Rattle.frame_words.specs.Cells.{IsApart}
-use Rattle.table_courses.specs.Acquiring.{GaveRef, GaveType, GotRef}
+use Rattle.table_entries.specs.Acquiring.{GaveRef, GaveType, GotRef}
 use Rattle.writable_pages.specs.Pages.{GotPage}
 
 -- ---- what is asked

@@ -24,7 +24,7 @@ use Rattle.frame_words.specs.Refs.{Gets, took}
 use Rattle.frame_words.proofs.Putting.{without_newest}
 use Rattle.frame_types.specs.Taking.{IsTypeStop, typed_as}
 use Rattle.frame_types.proofs.Serving.{type_uncounted}
-use Rattle.table_courses.specs.Acquiring.{GotRef}
+use Rattle.table_entries.specs.Acquiring.{GotRef}
 use Rattle.writable_pages.specs.Pages.{GotPage, HidesMark, LeavesGot, LeavesPage, ServesPage, TookPage, had, of_page, refused, unreferred}
 use Rattle.writable_pages.proofs.Asking.{page_serves, page_stops, same_page}
 

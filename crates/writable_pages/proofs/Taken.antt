@@ -17,7 +17,7 @@ use Rattle.frame_types.specs.Taking.{ShowsWait}
 use Rattle.frame_types.specs.declared.taking.Taken.{Taken}
 use Rattle.frame_types.specs.declared.taking.Taken.TheVariants.{Counted, Waiting}
 use Rattle.frame_types.proofs.Serving.{back_serves}
-use Rattle.table_courses.specs.Acquiring.{TookType}
+use Rattle.table_entries.specs.Acquiring.{TookType}
 use Rattle.writable_pages.specs.Pages.{LeftPage, ServesPage, TookPage, of_page, counted, untyped, waiting}
 use Rattle.writable_pages.proofs.Asking.{page_serves, page_stops}
 

@@ -20,7 +20,7 @@ use Rattle.frame_types.specs.Leaving.{WaitsFrom}
 use Rattle.frame_types.specs.Taking.{IsTypeStop, typed_as}
 use Rattle.frame_types.specs.declared.taking.Taken.TheVariants.{Counted, Waiting}
 use Rattle.kept_marks.specs.Marks.{IsForeign, KeptFor}
-use Rattle.table_courses.specs.Acquiring.{GaveRef, GotRef, TookType}
+use Rattle.table_entries.specs.Acquiring.{GaveRef, GotRef, TookType}
 
 -- what it asks: the frame as ordinary memory; of another domain's frame its own mark may be taken back
 abbrev pub of_page : PortValue → ℕ → ℕ → Request

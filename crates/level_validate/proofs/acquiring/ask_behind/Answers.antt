@@ -1,5 +1,5 @@
 use Rattle.std.proofs.Common.{◌&&◌, Bool, sym, ap, ◌∙◌}
-use Rattle.table_courses.specs.Acquiring.{is_asked}
+use Rattle.table_entries.specs.Acquiring.{is_asked}
 use Rattle.level_validate.proofs.Filling.{not_asked, was_asked}
 use Rattle.level_validate.proofs.acquiring.ask_behind.Goals as goal
 

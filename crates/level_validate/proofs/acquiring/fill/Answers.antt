@@ -1,7 +1,7 @@
 use Rattle.std.proofs.Common.{Ok, Err, ap, ◌∙◌, false, rules}
 use Rattle.std.proofs.lemmas.Result.{err_from_is_err_and}
 use Rattle.xp_preempt.proofs.Hearing.{heard_as, heard_then}
-use Rattle.table_courses.specs.Acquiring.{is_asked}
+use Rattle.table_entries.specs.Acquiring.{is_asked}
 use Rattle.level_validate.proofs.Filling.{asked_stops, filling_came, filling_may, filling_on, filling_serves, filling_standing, filling_stops, risen_answer, risen_in, begun_working, cut_off_working, due_working, working_on, working_stops}
 use Rattle.level_validate.proofs.Serving.{goes_answer}
 use Rattle.level_validate.proofs.acquiring.fill.Goals as goal

@@ -1,7 +1,7 @@
 use Rattle.std.proofs.Common.{◌≡◌, ℕ, Ok, true, false}
 use Rattle.partial_state.specs.Weights.{weight}
 use Rattle.xp_preempt.specs.Gates.{Heard}
-use Rattle.table_courses.specs.Acquiring.{Worked}
+use Rattle.table_entries.specs.Acquiring.{Worked}
 use Rattle.level_validate.specs.Courses.{Consults}
 use Rattle.level_validate.proofs.Filling.{Filling}
 use Rattle.level_validate.proofs.acquiring.fill.Given as goal

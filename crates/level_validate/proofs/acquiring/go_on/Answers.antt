@@ -1,6 +1,6 @@
 use Rattle.std.proofs.Common.{Err, ap, ◌∙◌}
 use Rattle.std.proofs.lemmas.Result.{err_from_is_err_and}
-use Rattle.table_courses.specs.Acquiring.{is_asked}
+use Rattle.table_entries.specs.Acquiring.{is_asked}
 use Rattle.level_validate.proofs.Filling.{asked_stops, asked_going, stopped_going}
 use Rattle.level_validate.proofs.acquiring.go_on.Goals as goal
 

@@ -1,5 +1,5 @@
 use Rattle.std.proofs.lemmas.Result.{err_from_is_err_and}
-use Rattle.table_courses.proofs.Ending.{reference_undue}
+use Rattle.table_entries.proofs.Ending.{reference_undue}
 use Rattle.mmu_update.proofs.Gating.{ungated}
 use Rattle.mmu_update.proofs.Referring.{referred_by, unreferred}
 use Rattle.mmu_update.proofs.elements.write_word.Goals as goal

@@ -1,6 +1,6 @@
 use Rattle.std.proofs.Common.{sym}
 use Rattle.std.proofs.lemmas.Result.{err_from_is_err_and}
-use Rattle.table_courses.proofs.Ending.{reference_undue}
+use Rattle.table_entries.proofs.Ending.{reference_undue}
 use Rattle.mmu_update.proofs.EnteringAt.{at_unreferred}
 use Rattle.mmu_update.proofs.Reaching.{at_ungated}
 use Rattle.mmu_update.proofs.Referring.{referred_by}

@@ -1,7 +1,7 @@
 -- Worked pictures of the definitions: behind which entries the gate is asked, and what is left of tables that are given up.
 use Rattle.std.proofs.Common.{◌≡◌, true, false, [], refl}
 use Rattle.partial_state.specs.declared.stack.TableWork.{TableWork}
-use Rattle.table_courses.specs.Acquiring.{around_left, is_asked, is_asked_at, table_opened, type_counts}
+use Rattle.table_entries.specs.Acquiring.{around_left, is_asked, is_asked_at, table_opened, type_counts}
 
 -- in a top table not in Xen's slots, 256 to 271: so not where 257 to 272 entries are done with
 pub asked_before_slots : is_asked_at 4 256 ≡ true
