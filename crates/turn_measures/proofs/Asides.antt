@@ -1,5 +1,6 @@
 -- Steps that change no word of which ranks, old words and lives are read: loads, and steps at other words.
 use Rattle.std.proofs.Common.{◌≡◌, ℕ, ◌/◌, if◌then◌else◌, not, Bool, true, false, List, [], ◌∷◌, Option, Result, Ok, refl, sym, ap, ◌∙◌, arith}
+use Rattle.std.proofs.lemmas.Bool.{not-true}
 use Rattle.std.proofs.lemmas.Bool.Decides.{nat_tests}
 use Rattle.xp_words.specs.declared.place.Place.{Place}
 use Rattle.xp_words.specs.declared.place.Place.TheVariants.{Clock, Map, Pages, Priv, Refs, Vcpu}
@@ -41,13 +42,9 @@ is_aside p _ = not (is_ranked p)
 elsewhere : (a : Act) (p : Place) (m : Words) → is_ranked p ≡ false → Still m (change a p m)
 elsewhere a p m off q ranked = ap (λ b. if b then left_by a (m p) else m q) (is_same-other q p (λ e. let both = sym ranked ∙ ap is_ranked e ∙ off in cc))
 
-not_ranked : (b : Bool) → not b ≡ true → b ≡ false
-not_ranked false is = refl
-not_ranked true is = cc
-
 pub change_aside : (a : Act) (p : Place) (m : Words) → is_aside p a ≡ true → Still m (change a p m)
 change_aside Load p m is = λ q ranked. load_leaves p m q
-change_aside a p m is = elsewhere a p m (not_ranked (is_ranked p) is)
+change_aside a p m is = elsewhere a p m (not-true (is_ranked p) is)
 
 -- ---- references
 still_if : (b : Bool) (m x y : Words) → Still m x → Still m y → Still m (if b then x else y)

@@ -1,6 +1,5 @@
 -- What the element before left unfinished is settled first: where no old word names a frame, that leaves all words as they were, and pauses for nothing.
 use Rattle.std.proofs.Common.{◌≡◌, ℕ, ◌+◌, Bool, true, List, Option, None, Result, Ok, Err, refl, sym, ap, ◌∙◌, subst, arith}
-use Rattle.std.proofs.lemmas.Bool.Decides.{nat_tests}
 use Rattle.xp_words.specs.Machine.{Machine}
 use Rattle.xp_words.specs.declared.place.Place.{Place}
 use Rattle.xp_words.specs.declared.reply.Stop.{Stop}
@@ -23,15 +22,13 @@ use Rattle.vcpu_turn.specs.Settling as settling
 use Rattle.vcpu_turn.specs.Settling.{Settles, SettlesFirst}
 use Rattle.frame_ranks.specs.Ranks.{AreAllAlive}
 use Rattle.turn_measures.specs.Measures.{bit_named, olds_named}
+use Rattle.turn_measures.proofs.SettlingOlds.{unnamed}
 use Rattle.turn_measures.proofs.Forward.{Still, still_all}
 use Rattle.turn_measures.proofs.Asides.{Passes, moves_passes}
 use Rattle.turn_measures.proofs.Calm.{IsCalm, alive_on}
 use Rattle.turn_measures.proofs.Pages.{ComesBy, by_passes}
 
 -- ---- no frame is named
-unnamed : (w : ℕ) → bit_named w ≡ 0 → w ≡ 0
-unnamed w is = grind (arith, nat_tests)
-
 neither : (a b : ℕ) → a + b ≡ 0 → (a ≡ 0) × (b ≡ 0)
 neither a b is = (omega (arith, is), omega (arith, is))
 

@@ -32,7 +32,7 @@ none_named x is = grind (arith, nat_tests)
 one_named : (x : ℕ) → x ≢ 0 → bit_named x ≡ 1
 one_named x some = grind (arith, nat_tests)
 
-unnamed : (x : ℕ) → bit_named x ≡ 0 → x ≡ 0
+pub unnamed : (x : ℕ) → bit_named x ≡ 0 → x ≡ 0
 unnamed x is = grind (arith, nat_tests)
 
 same_named : (x y : ℕ) → x ≡ y → bit_named x ≡ bit_named y

@@ -1,6 +1,6 @@
 -- No vCPU is asked to flush past a value that the clock has not come to.
-use Rattle.std.proofs.Common.{◌≡◌, ◌⊎◌, ℕ, ◌<◌, ◌≤◌, ◌==◌, ◌&&◌, not, nat_lt, if◌then◌else◌, Bool, true, false, List, [], ◌∷◌, Option, Some, None, IsTrue, refl, sym, ap, ◌∙◌, subst, inl, inr, arith}
-use Rattle.std.proofs.lemmas.Bool.{and_parts, eqb-true}
+use Rattle.std.proofs.Common.{◌≡◌, ◌⊎◌, ℕ, ◌<◌, ◌≤◌, ◌==◌, ◌&&◌, nat_lt, if◌then◌else◌, Bool, true, false, List, [], ◌∷◌, Option, Some, None, IsTrue, refl, sym, ap, ◌∙◌, subst, inl, inr, arith}
+use Rattle.std.proofs.lemmas.Bool.{and_parts, eqb-true, not-true}
 use Rattle.xp_words.specs.KindWords.{kind_fields}
 use Rattle.xp_words.specs.Machine.{Machine}
 use Rattle.xp_words.specs.Places.{Sizes, asked_of, memory, place_at, sizes_of}
@@ -94,10 +94,6 @@ module _ (z : Sizes) (clock : ℕ) where
         | inr there ↦ found_most n p test xs each.1 there
       ]
 
-not_set : (b : Bool) → not b ≡ true → b ≡ false
-not_set true is = absurd cc
-not_set false is = refl
-
 free_itself : (w : ℕ) (o : Option RefWord) → ref_read w ≡ o → is_free_in o ≡ true → free_stamp w ≡ w
 free_itself w (Some (Free stamp)) read free = (free_says w stamp read).stamp ∙ sym (free_number w stamp read)
 free_itself w (Some (Owned owner allocated count)) read free = absurd cc
@@ -116,7 +112,7 @@ module _ (n : Machine) (m : Place → ℕ) (h : ℕ → Holdings) (s : ℕ) (g :
     where
       by : (k : KindWord) → kind_at m a.work.frame ≡ k → kind_stamp (m (Kind a.work.frame)) ≤ m Clock → k.number ≡ stamp → is_busy k ≡ true → stamp ≤ m Clock
       by k is most number busy = elim (busy_cases k busy) [
-        | inl work ↦ (let stamped = stamp_of (m (Kind a.work.frame)) k is (not_set k.validated (and_parts _ _ work.0).0) in omega (arith, stamped, most, number))
+        | inl work ↦ (let stamped = stamp_of (m (Kind a.work.frame)) k is (not-true k.validated (and_parts _ _ work.0).0) in omega (arith, stamped, most, number))
         | inr closing ↦ (let none : k.number ≡ 0 = eqb-true k.number 0 (and_parts k.validated (k.number == 0) closing.0).1 in omega (arith, none, number))
       ]
 

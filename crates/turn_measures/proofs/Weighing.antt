@@ -1,6 +1,7 @@
 -- A release that the gate pauses leaves less than a whole table of level 4, and a table in work.
-use Rattle.std.proofs.Common.{◌≡◌, ℕ, zero, suc, ◌+◌, ◌-◌, ◌*◌, ◌<◌, ◌≤◌, ◌&&◌, Bool, true, false, List, [], ◌∷◌, Option, Some, None, Result, Ok, Err, refl, ap, ◌∙◌, subst, arith}
+use Rattle.std.proofs.Common.{◌≡◌, ℕ, zero, suc, ◌+◌, ◌-◌, ◌*◌, ◌<◌, ◌≤◌, Bool, true, false, List, [], ◌∷◌, Option, Some, None, Result, Ok, Err, refl, ap, ◌∙◌, subst, arith}
 use Rattle.std.proofs.Math.Nat.{mul-le-mul_right}
+use Rattle.std.proofs.lemmas.Bool.{and_parts}
 use Rattle.std.proofs.lemmas.Bool.Decides.{nat_tests}
 use Rattle.xp_words.specs.Entries.{below, demand_at}
 use Rattle.xp_words.specs.KindWords.{kind_fields}
@@ -119,11 +120,6 @@ one_most t =
     omega (arith, e, m)
 
 -- ---- the whole course: paused for the gate it leaves tables, which weigh no more than those before it, and less than the bound
-is_within : (a b : Bool) → (a && b) ≡ true → (a ≡ true) × (b ≡ true)
-is_within true true is = (refl, refl)
-is_within true false is = absurd (cc)
-is_within false b is = absurd (cc)
-
 bound_falls : (below : Option ℕ) (k : ℕ) → k < most_left → is_less below k ≡ true → k < left_rank below
 bound_falls None k few is = few
 bound_falls (Some bound) k few is = grind (arith, nat_tests)
@@ -196,7 +192,7 @@ pub record PausedBelow (below : Option ℕ) (us : List TableWork) : Type 0 where
 
 asked_falls : (below : Option ℕ) (xs : List TableWork) → weight xs < most_left → is_asked_within below xs ≡ true → PausedBelow below xs
 asked_falls below xs few on =
-    let both = is_within (is_asked_down xs) (is_less below (weight xs)) on in
+    let both = and_parts (is_asked_down xs) (is_less below (weight xs)) on in
     record { few = few; less = bound_falls below (weight xs) few both.1; some = asked_some xs both.0 }
 
 pub ran_due : (below : Option ℕ) (v : PortValue) (ts : List TableWork) (w : PortValue) (us : List TableWork) (answers : List Bool) (answer : Result (Unit {0}) Stop) → answer ≡ Err (Paused Due) → RanDown below v ts w us answers answer →
