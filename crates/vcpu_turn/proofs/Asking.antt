@@ -5,7 +5,7 @@ use Rattle.xp_words.specs.declared.ops.Op.{Op}
 use Rattle.xp_words.specs.declared.reply.LogLine.{LogLine}
 use Rattle.xp_words.specs.declared.reply.Stop.TheVariants.{Paused}
 use Rattle.xp_board.specs.Told.{PortValue}
-use Rattle.xp_preempt.specs.Gates.{GivesAnswers, last_ask}
+use Rattle.xp_preempt.specs.Gates.{GivesAnswers, ends_yes, last_ask}
 use Rattle.xp_preempt.proofs.Numbering.{says_last, says_no}
 use Rattle.level_release.proofs.Noes.{settled_no}
 use Rattle.vcpu_turn.specs.declared.cpu.TurnEnd.{TurnEnd}
@@ -46,12 +46,19 @@ pub turn_asks : (c d : Processing) (op : Op) (task : Option Task) (end : TurnEnd
 turn_asks c d op task end v w answers next one turn = going_asks c (next_of c) op next task (ap job_next next ∙ one) turn.begun d turn.worked answers end turn.does
 
 -- ---- no ask follows one at which the gate says yes
-past : (says : ℕ → Bool) (before : ℕ) (answers : List Bool) (due : Bool) → GivesAnswers says before answers → NoUntilDue answers due → (j : ℕ) → 0 < j → before + j < last_ask → says (before + j) ≡ true →
+-- where that is the last one, the newest answer is yes
+pub ends_at : (says : ℕ → Bool) (before : ℕ) (answers : List Bool) → GivesAnswers says before answers → (j : ℕ) → 0 < j → before + j < last_ask → says (before + j) ≡ true → j ≡ length answers → ends_yes answers ≡ true
+ends_at says before [] gives j some less is_yes at = absurd (omega (arith, some, at))
+ends_at says before (a ∷ rest) gives j some less is_yes at =
+    let there : before + length rest + 1 ≡ before + j = omega (arith, at) in
+    sym (says_last says before a rest gives (omega (arith, less, at))) ∙ ap says there ∙ is_yes
+
+pub past : (says : ℕ → Bool) (before : ℕ) (answers : List Bool) (due : Bool) → GivesAnswers says before answers → NoUntilDue answers due → (j : ℕ) → 0 < j → before + j < last_ask → says (before + j) ≡ true →
     (length answers < j) ⊎ ((length answers ≡ j) × (due ≡ true))
 unfolding GivesAnswers
 past says before [] due gives noes j some less is_yes = inl some
 past says before (a ∷ rest) due gives noes j some less is_yes = elim (cases_order j (length rest + 1)) [
-  | inl at ↦ inr (omega (arith, at), noes.last (newest at))
+  | inl at ↦ inr (omega (arith, at), noes.last (ends_at says before (a ∷ rest) gives j some less is_yes (omega (arith, at))))
   | inr (inl below) ↦ absurd (both (says (before + j)) is_yes (says_no says before rest gives.1 noes.early j some (omega (arith, below)) (omega (arith, less))))
   | inr (inr above) ↦ inl (omega (arith, above))
 ]
@@ -59,17 +66,12 @@ past says before (a ∷ rest) due gives noes j some less is_yes = elim (cases_or
     both : (b : Bool) → b ≡ true → b ≡ false → ⊥
     both b on off = cc
 
-    newest : j ≡ length rest + 1 → a ≡ true
-    newest at =
-        let there : before + length rest + 1 ≡ before + j = omega (arith, at) in
-        sym (says_last says before a rest gives (omega (arith, less, at))) ∙ ap says there ∙ is_yes
-
 pub turn_stops : (c c2 : Processing) (end : TurnEnd) (v w : PortValue) (before : ℕ) (answers : List Bool) (says : ℕ → Bool) → (turn : IsTurn c c2 end v w answers) → HearsNoWithin (elements_tried turn) → GivesAnswers says before answers →
     (j : ℕ) → 0 < j → before + j < last_ask → says (before + j) ≡ true → (length answers < j) ⊎ ((length answers ≡ j) × (is_due end ≡ true))
 turn_stops c c2 end v w before answers says turn hears gives j some less is_yes = past says before answers (is_due end) gives (turn_hears c c2 end v w answers turn hears) j some less is_yes
 
 -- so no more elements are done than up to there
-within_by : (from to between within asks all j : ℕ) (due : Bool) → asks ≡ between + within → to ≤ from + between + 1 → (due ≡ true → to ≤ from + between) → asks ≤ all → (all < j) ⊎ ((all ≡ j) × (due ≡ true)) → to ≤ from + (j - within)
+pub within_by : (from to between within asks all j : ℕ) (due : Bool) → asks ≡ between + within → to ≤ from + between + 1 → (due ≡ true → to ≤ from + between) → asks ≤ all → (all < j) ⊎ ((all ≡ j) × (due ≡ true)) → to ≤ from + (j - within)
 within_by from to between within asks all j due number most paused few (inl before) = omega (arith, number, most, few, before)
 within_by from to between within asks all j due number most paused few (inr last) = let at = last.0 in let less = paused last.1 in omega (arith, number, less, few, at)
 

@@ -134,7 +134,7 @@ answered_elements calling.AnsweredCalls.none = refl
 answered_elements (calling.AnsweredCalls.more at to u w call before behind answers asked did is next) =
     more_elements (gone_call next) (gone_answered did) (tried_call next) (tried_answered did) (call_elements next) (answered_elements did)
 
-calls_elements : {d : ℕ} {calls : List Call} {op : ℕ} {v : PortValue} {from : Progress} {log : List LogLine} {to : Progress} {w : PortValue} {log' : List LogLine} {answers : List Bool} {ended : Result (Unit {0}) Stop} →
+pub calls_elements : {d : ℕ} {calls : List Call} {op : ℕ} {v : PortValue} {from : Progress} {log : List LogLine} {to : Progress} {w : PortValue} {log' : List LogLine} {answers : List Bool} {ended : Result (Unit {0}) Stop} →
     (works : WorksCalls d calls op v from log to w log' answers ended) → tried_calls works ≡ flat_map elements_of (gone_calls works)
 calls_elements (calling.WorksCalls.long above) = refl
 calls_elements (calling.WorksCalls.all_answered at w behind answers few did all) = answered_elements did

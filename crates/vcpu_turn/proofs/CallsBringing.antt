@@ -45,7 +45,7 @@ one_same o task is = cc
 
 -- ---- a call, behind what was settled for it
 -- what is answered is not paused for the gate
-undue : (done : ℕ) (answer : Result ℕ Stop) (reply : Reply) → replied done answer ≡ Some reply → is_due_answer answer ≡ false
+pub undue : (done : ℕ) (answer : Result ℕ Stop) (reply : Reply) → replied done answer ≡ Some reply → is_due_answer answer ≡ false
 undue done (Ok value) reply is = refl
 undue done (Err (Refused r)) reply is = refl
 undue done (Err (Paused p)) reply is = absurd (cc)
@@ -71,7 +71,7 @@ call_passes (calling.AnswersCall.paused to u w log' early asked p settles went) 
 call_passes (calling.AnswersCall.answered to u x w log' early asked answer reply settles went replies ends) = (went_brings went).passes
 
 -- ---- calls
-all_both : {A : Type 0} (P : A → Type 0) (xs ys : List A) → All P (xs ++ ys) → All P xs × All P ys
+pub all_both : {A : Type 0} (P : A → Type 0) (xs ys : List A) → All P (xs ++ ys) → All P xs × All P ys
 all_both P [] ys all = (All-nil P, all)
 all_both P (x ∷ xs) ys all =
     let rest = all_both P xs ys (All-tail P x (xs ++ ys) all) in

@@ -225,7 +225,7 @@ module _ (pairs : List Pair) (o : Owners) (k : ℕ) where
 abbrev Asked : Tried → Type 0
 Asked t = t.asked ≡ []
 
-abbrev SilentAll : List Pair → List Tried → Type 0
+abbrev pub SilentAll : List Pair → List Tried → Type 0
 SilentAll pairs items = AsksNothingWithin items ⊎ Any (λ t. MovesATable pairs t) items
 
 module _ (pairs : List Pair) (o : Owners) where
@@ -294,7 +294,7 @@ module _ (foreign : ℕ) (pairs : List Pair) where
   owned_silent list v clear (owning.WorksOwned.unowned w x some few finds) = inl (All-nil (λ (t : Tried). t.asked ≡ []))
   owned_silent {d} {named} list v clear (owning.WorksOwned.owned to u w o answers answer some few finds on) = works_silent list o (owners_clear v u d named o finds clear) on
 
-  operation_silent : (d : ℕ) (l : Option Task) (awaited : Option ℕ) → l ≡ Some (OfPairs foreign pairs) → (v : PortValue) → IsClear v → (from to : ℕ) (w : PortValue) (answers : List Bool) (answer : Result ℕ Stop) →
+  pub operation_silent : (d : ℕ) (l : Option Task) (awaited : Option ℕ) → l ≡ Some (OfPairs foreign pairs) → (v : PortValue) → IsClear v → (from to : ℕ) (w : PortValue) (answers : List Bool) (answer : Result ℕ Stop) →
       (works : Works d l awaited v from to w answers answer) → SilentAll pairs (tried_of d l awaited v from to w answers answer works)
   operation_silent d l awaited is v clear from to w answers answer =
       subst (λ (o : Option Task). (works : Works d o awaited v from to w answers answer) → SilentAll pairs (tried_of d o awaited v from to w answers answer works)) (sym is) (λ works. owned_silent pairs v clear works.works)
@@ -331,16 +331,14 @@ module _ (pairs : List Pair) (sets : All (λ (p : Pair). p.ptr % 4 ≡ 1) pairs)
       two_kinds is = cc
 
 -- ---- so they ask between the elements alone, and stop at a yes
+pub moves_none : (pairs : List Pair) (items : List Tried) → MovesNoTable pairs items → SilentAll pairs items → AsksNothingWithin items
+moves_none pairs items off (inl silent) = silent
+moves_none pairs items off (inr moved) = absurd (off moved.0 moved.1 moved.2 (subst (λ (t : Tried). MovesATable pairs t) (sym moved.3) moved.4))
+
 module _ (c d : Processing) (op : Op) (foreign : ℕ) (pairs : List Pair) (end : TurnEnd) (v w : PortValue) (answers : List Bool) (next : next_of c ≡ Some op) (built : task_of op ≡ Some (OfPairs foreign pairs))
     (turn : IsTurn c d end v w answers) (off : MovesNoTable pairs (elements_tried turn)) where
   quiet : AsksNothingWithin (elements_tried turn)
-  quiet = elim (turn_silent foreign pairs c d op end v w answers next built turn) [
-    | inl silent ↦ silent
-    | inr moved ↦ absurd (no_such (elements_tried turn) off moved)
-  ]
-    where
-      no_such : (items : List Tried) → MovesNoTable pairs items → Any (λ t. MovesATable pairs t) items → ⊥
-      no_such items none a = none a.0 a.1 a.2 (subst (λ (t : Tried). MovesATable pairs t) (sym a.3) a.4)
+  quiet = moves_none pairs (elements_tried turn) off (turn_silent foreign pairs c d op end v w answers next built turn)
 
   asks_none : asks_within (elements_tried turn) ≡ 0
   asks_none = within_none (elements_tried turn) quiet

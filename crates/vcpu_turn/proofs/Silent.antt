@@ -63,9 +63,9 @@ number_apart : (s j k : ℕ) → j ≢ k → Vcpu s j ≢ Vcpu s k
 number_apart s j k off is = off (cc)
 
 -- the word names none then, and what is known of the others stays
-record Cleared (v w : PortValue) (which : OldWord) : Type 0 where
-  clear : Known (old_number which) w
-  others : (k : ℕ) → old_number which ≢ k → Known k v → Known k w
+pub record Cleared (v w : PortValue) (which : OldWord) : Type 0 where
+  pub clear : Known (old_number which) w
+  pub others : (k : ℕ) → old_number which ≢ k → Known k v → Known k w
 
 -- behind the two steps that take the frame out of the word
 took_out : (v a b w : PortValue) (which : OldWord) (f : ℕ) → Moves v a (old_place v.post.vcpu which) Load kinds.Look None (f + 1) → Moves a b (old_place v.post.vcpu which) (Store 0) kinds.Context None (f + 1) → Keeps b w →
@@ -80,7 +80,7 @@ took_out v a b w which f looks takes keeps =
           (known_on v a _ _ _ _ _ looks k (number_apart v.post.vcpu (old_number which) k off) known));
     }
 
-settled_one : {below : Option ℕ} → (v w : PortValue) (which : OldWord) (answers : List Bool) (answer : Result (Unit {0}) Stop) → answer ≡ Ok tt → SettledOne below v which w answers answer → Cleared v w which
+pub settled_one : {below : Option ℕ} → (v w : PortValue) (which : OldWord) (answers : List Bool) (answer : Result (Unit {0}) Stop) → answer ≡ Ok tt → SettledOne below v which w answers answer → Cleared v w which
 unfolding left_by
 settled_one v _ which _ _ ok (course.SettledOne.none w looks) =
     record { clear = known_left v w _ _ _ _ _ looks (old_number which) refl refl; others = λ k off known. known_on v w _ _ _ _ _ looks k (number_apart v.post.vcpu (old_number which) k off) known }

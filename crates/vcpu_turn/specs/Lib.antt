@@ -11,6 +11,7 @@ pub mod Settling
 pub mod Turning
 pub mod Working
 pub mod Asking
+pub mod CallAsks
 pub mod Leaving
 pub mod Logging
 pub mod Unhindered

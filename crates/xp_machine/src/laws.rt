@@ -1,10 +1,11 @@
 //! What holds of the turns of a run, as contracts of functions that do nothing.
-ghost use Rattle.std.specs.Prelude.{ℕ, ◌≡◌, ◌+◌, ◌-◌, ◌<◌, All, List, true, slice_get, Option, Some};
+ghost use Rattle.std.specs.Prelude.{ℕ, ◌≡◌, ◌+◌, ◌-◌, ◌<◌, ◌∷◌, ◌++◌, All, List, true, slice_get, Option, Some};
 ghost use Rattle.xp_words.specs.Machine.{Machine};
 ghost use Rattle.xp_words.specs.declared.ops.Call.{Call};
 ghost use Rattle.xp_words.specs.declared.ops.Op.{Op};
 ghost use Rattle.xp_preempt.specs.Gates.{Heard, last_ask};
-ghost use Rattle.vcpu_turn.specs.Asking.{AsksNothingWithin, HearsNoWithin, OfJob, ReleasesNothingBy, asks_within, elements_tried};
+ghost use Rattle.vcpu_turn.specs.Asking.{AsksNothingWithin, CallGone, HearsNoWithin, OfJob, ReleasesNothingBy, asks_within, calls_of, elements_of, elements_tried};
+ghost use Rattle.vcpu_turn.specs.CallAsks.{CallStops, LastCallStops, asks_before, asks_first};
 ghost use Rattle.vcpu_turn.specs.Cpus.{OfCalls, OfOne, job_next, job_of};
 ghost use Rattle.vcpu_runners.specs.Turns.{PassesYes, Processing, Task, Tried, begins_at, is_due, next_of, task_of};
 ghost use Rattle.vcpu_runners.specs.Gates.{Gate};
@@ -19,6 +20,13 @@ pub fn a_turn_hears_no_until_it_pauses()
 /// off.
 pub fn a_turn_stops_for_its_own_gate()
     ensures { (n : Machine) (v : ℕ) (c : Processing) (s t : Stage) (g : Gate) (op : Op) (task : Option Task) (j : ℕ) → (m : MakesStagedTurn n v c s t) → slice_get s.gates v ≡ Some g → next_of c ≡ Some op → job_of op ≡ OfOne task → HearsNoWithin (elements_tried m.turn) → 0 < j → g.asks + j < last_ask → g.says (g.asks + j) ≡ true → StaysWithin v c s t (begins_at task c.at.done + (j - asks_within (elements_tried m.turn))) }
+{}
+
+/// So does each call of a multicall: where none of its elements is done past a yes, it does no more of them than asks of its own up to one at which the gate says yes, those within elements
+/// taken off, and asks no more behind that. Where none of the turn is, the gate says no at each ask in front of the last call of the turn, and within the calls before that one.
+pub fn a_multicall_stops_for_its_own_gate()
+    ensures calls { (n : Machine) (v : ℕ) (c : Processing) (s t : Stage) (g : Gate) (j : ℕ) → (m : MakesStagedTurn n v c s t) → slice_get s.gates v ≡ Some g → (later earlier : List (CallGone c.domain)) (x : CallGone c.domain) → calls_of m.turn ≡ later ++ (x ∷ earlier) → HearsNoWithin (elements_of x) → 0 < j → g.asks + asks_before (asks_first m.turn) earlier x + j < last_ask → g.says (g.asks + asks_before (asks_first m.turn) earlier x + j) ≡ true → CallStops x j }
+    ensures last { (n : Machine) (v : ℕ) (c : Processing) (s t : Stage) (g : Gate) (j : ℕ) → (m : MakesStagedTurn n v c s t) → slice_get s.gates v ≡ Some g → HearsNoWithin (elements_tried m.turn) → 0 < j → g.asks + j < last_ask → g.says (g.asks + j) ≡ true → LastCallStops (asks_first m.turn) (calls_of m.turn) j }
 {}
 
 /// No element is done past a yes in a turn with an operation that releases nothing, or with a multicall whose calls release nothing; nor in one whose elements ask nothing; nor with any
