@@ -139,14 +139,13 @@ module _ (says : ℕ → Bool) (before : ℕ) {d : ℕ} (j : ℕ) (less : before
         let parts = all_both HearsNo (elements_of g) (flat_map elements_of earlier) within in
         let front = g.early ++ (answers_of earlier ++ first) in
         let split : told.last ++ (answers_of (g ∷ earlier) ++ first) ≡ (told.last ++ g.asked) ++ front =
-            ap (λ (xs : List Bool). told.last ++ xs) (append_assoc (g.asked ++ g.early) (answers_of earlier) first ∙ append_assoc g.asked g.early (answers_of earlier ++ first)) ∙ sym (append_assoc told.last g.asked front) in
+        ap (λ (xs : List Bool). told.last ++ xs) (append_assoc (g.asked ++ g.early) (answers_of earlier) first ∙ append_assoc g.asked g.early (answers_of earlier ++ first)) ∙ sym (append_assoc told.last g.asked front) in
         let count = front_count first earlier g in
         let behind = behind_front g.asked front told.last answers due j (told.all ∙ split) (front_no first earlier g on.0 told.undue parts.1) ends said in
-        let there : before + asks_before (length first) earlier g + (j - asks_before (length first) earlier g) ≡ before + j = omega (arith, count, behind) in
-        (
+        let there : before + asks_before (length first) earlier g + (j - asks_before (length first) earlier g) ≡ before + j = omega (arith, count, behind) in (
           omega (arith, count, behind),
           stops_at says before first [] earlier g (gives_early says before told.last (answers_of (g ∷ earlier) ++ first) (subst (λ (xs : List Bool). GivesAnswers says before xs) told.all gives)) parts.0
-          (j - asks_before (length first) earlier g) (omega (arith, count, behind)) (omega (arith, less, there)) (ap says there ∙ is_yes),
+              (j - asks_before (length first) earlier g) (omega (arith, count, behind)) (omega (arith, less, there)) (ap says there ∙ is_yes),
         )
   ]
 
