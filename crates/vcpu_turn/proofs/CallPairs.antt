@@ -1,5 +1,5 @@
 -- The calls of `mmu_update` in a multicall: behind what is settled in front of one, its elements ask nothing, but for those that take or give back a table.
-use Rattle.std.proofs.Common.{◌≡◌, ℕ, ◌+◌, ◌-◌, ◌<◌, ◌≤◌, ◌++◌, ◌∷◌, ◌⊎◌, Bool, true, List, [], All, Any, length, slice_get, Option, Some, None, Result, Ok, Err, refl, sym, ap, ◌∙◌, inl, inr, arith, subst}
+use Rattle.std.proofs.Common.{◌≡◌, ℕ, ◌+◌, ◌<◌, ◌≤◌, ◌++◌, ◌∷◌, ◌⊎◌, Bool, true, List, [], Any, length, slice_get, Option, Some, None, Result, Ok, Err, refl, sym, ap, ◌∙◌, inl, inr, arith, subst}
 use Rattle.std.proofs.lemmas.List.Elements.{All-nil}
 use Rattle.xp_words.specs.Places.{sizes_of}
 use Rattle.xp_words.specs.declared.ops.Pair.{Pair}
@@ -20,7 +20,7 @@ use Rattle.level_release.specs.Course as course
 use Rattle.level_release.specs.Course.{Settled, SettledOne}
 use Rattle.foreign_map.specs.declared.owners.Owners.{Owners}
 use Rattle.vcpu_turn.specs.declared.cpu.TurnEnd.{TurnEnd}
-use Rattle.vcpu_turn.specs.Asking.{AsksNothingWithin, CallGone, asks_within, calls_of, elements_of}
+use Rattle.vcpu_turn.specs.Asking.{AsksNothingWithin, CallGone, calls_of, elements_of}
 use Rattle.vcpu_turn.specs.CallAsks.{asks_before, asks_first}
 use Rattle.vcpu_turn.specs.Cpus.{OfPairs, Processing, Task, begins_at, task_in}
 use Rattle.vcpu_turn.specs.Lists as lists
@@ -34,7 +34,7 @@ use Rattle.vcpu_turn.proofs.Bringing.{brings}
 use Rattle.vcpu_turn.proofs.CallYeses.{call_stops}
 use Rattle.vcpu_turn.proofs.Clearing.{Known}
 use Rattle.vcpu_turn.proofs.Hindering.{owners_came}
-use Rattle.vcpu_turn.proofs.PairTurns.{SilentAll, moves_none, operation_silent}
+use Rattle.vcpu_turn.proofs.PairTurns.{moves_none, operation_silent}
 use Rattle.vcpu_turn.proofs.Silent.{IsClear, settled_one}
 use Rattle.vcpu_turn.proofs.Trying.{hears_nothing, within_none}
 

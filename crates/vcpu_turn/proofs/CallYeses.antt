@@ -1,5 +1,5 @@
 -- No call of a multicall goes past a yes of the gate.
-use Rattle.std.proofs.Common.{◌≡◌, ℕ, ◌+◌, ◌-◌, ◌<◌, ◌≤◌, Bool, true, false, List, [], ◌∷◌, ◌++◌, All, length, flat_map, Result, Ok, Err, refl, sym, subst, ap, ◌∙◌, inl, inr, arith, ◌⊎◌, append_assoc, length-append}
+use Rattle.std.proofs.Common.{◌≡◌, ℕ, ◌+◌, ◌-◌, ◌<◌, Bool, true, false, List, [], ◌∷◌, ◌++◌, All, length, flat_map, Ok, refl, sym, subst, ap, ◌∙◌, inl, inr, arith, ◌⊎◌, append_assoc, length-append}
 use Rattle.std.proofs.lemmas.List.Elements.{All-head, All-tail}
 use Rattle.xp_board.specs.Told.{PortValue}
 use Rattle.xp_preempt.specs.Gates.{GivesAnswers, answer_at, asks_on, ends_yes, last_ask, next_ask, yeses}
@@ -7,7 +7,7 @@ use Rattle.xp_preempt.proofs.Consulting.{yeses_then}
 use Rattle.xp_preempt.proofs.Numbering.{asks_sum}
 use Rattle.level_release.proofs.Noes.{settled_no}
 use Rattle.vcpu_turn.specs.declared.cpu.TurnEnd.{TurnEnd}
-use Rattle.vcpu_turn.specs.Asking.{CallGone, HearsNo, HearsNoWithin, NoUntilDue, asks_of, asks_within, calls_of, elements_of, elements_tried}
+use Rattle.vcpu_turn.specs.Asking.{CallGone, HearsNo, HearsNoWithin, NoUntilDue, asks_within, calls_of, elements_of, elements_tried}
 use Rattle.vcpu_turn.specs.CallAsks.{CallStops, LastCallStops, asks_before, asks_first, first_going}
 use Rattle.vcpu_turn.specs.Cpus.{Processing, begins_at, task_in}
 use Rattle.vcpu_turn.specs.Lists.{Tried, is_due_answer}
