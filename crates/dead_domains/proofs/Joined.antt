@@ -23,7 +23,7 @@ use Rattle.dead_domains.proofs.Lists.{listed_after}
 use Rattle.dead_domains.proofs.StoppedRuns.{RunsBringNothing}
 
 -- ---- by the steps alone
-stopped_as : (n : Machine) (s d a : ℕ) (u h : Holdings) → h.steps ≡ u.steps → HasStopped n s d a u → HasStopped n s d a h
+pub stopped_as : (n : Machine) (s d a : ℕ) (u h : Holdings) → h.steps ≡ u.steps → HasStopped n s d a u → HasStopped n s d a h
 stopped_as n s d a u h e y =
     record { since = y.since; stored = rw e y.stored; stopped = λ v real own. rw e (y.stopped v real own); order = y.order }
 

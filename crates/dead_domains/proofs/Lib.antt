@@ -1,4 +1,5 @@
 mod Acts
+mod Burials
 mod Counting
 mod Halves
 mod Holding

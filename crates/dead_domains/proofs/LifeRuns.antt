@@ -29,10 +29,10 @@ module _ (n : Machine) (c b : State) (t : ℕ) (x : Step) (sound : SoundState n 
   go = stepped n c b t x sound move
 
   -- the vCPU that makes it has made one step more
-  own_steps : (hand_of b.hands t).steps ≡ record { step = x; found = word_at n c (place_of n x) } ∷ (hand_of c.hands t).steps
+  pub own_steps : (hand_of b.hands t).steps ≡ record { step = x; found = word_at n c (place_of n x) } ∷ (hand_of c.hands t).steps
   own_steps = ap (λ (u : Holdings). u.steps) go.mine ∙ steps_after n t (hand_of c.hands t) x (word_at n c (place_of n x))
 
-  same_steps : (s : ℕ) → s ≢ t → (hand_of b.hands s).steps ≡ (hand_of c.hands s).steps
+  pub same_steps : (s : ℕ) → s ≢ t → (hand_of b.hands s).steps ≡ (hand_of c.hands s).steps
   same_steps s off = ap (λ (u : Holdings). u.steps) (go.others s off)
 
 -- ---- life words

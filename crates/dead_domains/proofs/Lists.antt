@@ -24,7 +24,7 @@ pub all_stopped : (n : Machine) (m : Place → ℕ) (d s a : ℕ) (u : Holdings)
 all_stopped n m d s a u found y v real own =
     found_between (sizes_of n) y.since a (run_of v) (λ w. w == 1) (λ w. w ≡ 1 → m (run_of v) ≡ 1) u.steps (found v) (y.stopped v real own) (λ w passes is. is (eqb-true w 1 passes))
 
-owned_inside : (n : Machine) (m : Place → ℕ) (h : ℕ → Holdings) (d f : ℕ) → Sound n m h → owner_of (m (Refs f)) ≡ Some d → f < n.frames
+pub owned_inside : (n : Machine) (m : Place → ℕ) (h : ℕ → Holdings) (d f : ℕ) → Sound n m h → owner_of (m (Refs f)) ≡ Some d → f < n.frames
 unfolding is_place
 owned_inside n m h d f sound o =
     elim (cases_Bool (nat_lt f n.frames)) [

@@ -1,3 +1,4 @@
+pub mod Buried
 pub mod Holders
 pub mod Listing
 pub mod Moments

@@ -16,6 +16,7 @@ ghost use Rattle.xp_board.specs.Steps.{last_since};
 ghost use Rattle.xp_board.specs.Readings.{owner_of};
 ghost use Rattle.xp_board.specs.Runs.{Run, State, place_of, word_at};
 ghost use Rattle.xp_board.specs.Sound.{Sound, SoundState, hand_of};
+ghost use Rattle.dead_domains.specs.Buried.{HasBuried, LeavesOnlyListed};
 ghost use Rattle.dead_domains.specs.Holders.{LeftToOthers};
 ghost use Rattle.dead_domains.specs.Listing.{HasListed, IsListed};
 
@@ -84,4 +85,16 @@ pub fn a_destroyer_leaves_only_what_it_lists()
     each_step_has_its_state();
     every_run_stays_sound();
     a_run_brings_the_stopped_nothing();
+}
+
+/// The same where a vCPU's own steps of a run destroyed and buried a domain: what is then the domain's stands in that log, and others alone hold it.
+pub fn a_burial_leaves_only_what_is_listed()
+    ensures { (n : Machine) (a b : State) (log : List (ℕ × Step)) (s d op : ℕ) (lines : List LogLine) → SoundState n a.words a.hands → Run n a log b → s < (sizes_of n).vcpus →
+        HasBuried n s d op (length (hand_of a.hands s).steps) (hand_of b.hands s) lines → LeavesOnlyListed n d op lines (word_at n b) (hand_of b.hands) }
+{
+    a_life_word_is_as_its_destroyer_left_it();
+    each_step_has_its_state();
+    every_run_stays_sound();
+    a_run_brings_the_stopped_nothing();
+    others_hold_what_the_dead_leave();
 }

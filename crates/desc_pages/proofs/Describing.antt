@@ -20,6 +20,7 @@ use Rattle.step_maker.specs.Answers.{Deed, Serves, Stops, missed}
 use Rattle.step_maker.specs.Asked.{Request, Within, named, of, of_back, of_frame}
 use Rattle.step_maker.proofs.Later.{stops_then}
 use Rattle.step_maker.proofs.Piecing.{serves_back, serves_came, serves_nothing, serves_then, serves_within, stops_within, within_frame}
+use Rattle.step_maker.proofs.Resting.{still_rests}
 use Rattle.frame_words.specs.Freeing.{Puts, gave}
 use Rattle.frame_words.specs.Plain.{TwinGet, put}
 use Rattle.frame_words.specs.Refs.{Gets, IsRefStop, took}
@@ -29,7 +30,6 @@ use Rattle.desc_pages.specs.Descriptors.{DescriptorUpdated, HoldsLent, IsDescrip
 use Rattle.desc_pages.specs.Names.{own_domain}
 use Rattle.desc_pages.specs.Pages.{IsDescStop, IsTakenStop}
 use Rattle.desc_pages.proofs.Getting.{ref_kind, taken_kind, taken_uncounted}
-use Rattle.desc_pages.proofs.Setting.{still_rests}
 use Rattle.desc_pages.proofs.Short.{gave_short, got_most, vcpus}
 
 -- ---- by its numbers
@@ -100,7 +100,7 @@ module _ (v : PortValue) (address word : ℕ) (right : descriptor_refusal addres
         kinds = descriptor_kind e (ref_kind e kind);
         numbers = no_number (Err e);
         hand = ap quiet same;
-        rests = still_rests v w (ap quiet same) rests;
+        rests = still_rests v w rests (ap quiet same);
         course = unreferred w e right mine;
         short = (let few = got_most v w f d (Err e) mine in omega (arith, few));
       })
@@ -154,7 +154,7 @@ module _ (v : PortValue) (address word : ℕ) (right : descriptor_refusal addres
             kinds = tt;
             numbers = no_number (Err (Refused (refusals.BadDescriptor f i word)));
             hand = bad_hand;
-            rests = still_rests v w bad_hand rests;
+            rests = still_rests v w rests bad_hand;
             course = unfixed u w right (got_ref found twin) none gave_there;
             short = (let first = got_most v u f d (Ok f) (got_ref found twin) in let last = gave_short u w f gave_there in omega (arith, first, last));
           }
@@ -196,7 +196,7 @@ module _ (v : PortValue) (address word : ℕ) (right : descriptor_refusal addres
             kinds = kinds_are answer p.kinds;
             numbers = no_number answer;
             hand = put_hand;
-            rests = still_rests v w put_hand rests;
+            rests = still_rests v w rests put_hand;
             course = referred u w new p.want answer right (got_ref found twin) some
                 (subst (λ o. StoredUnder u f o i new p.want w answer) own (subst (λ k. StoredUnder u k owner i new p.want w answer) at p.course));
             short = (let first = got_most v u f d (Ok f) (got_ref found twin) in let last = p.short in let alike = ap vcpus (came_post v u came_u) in omega (arith, first, last, alike));

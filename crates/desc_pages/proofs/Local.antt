@@ -16,9 +16,9 @@ use Rattle.step_maker.proofs.Coming.{came_self, came_trans, moves_came}
 use Rattle.step_maker.specs.Answers.{Serves, Stops}
 use Rattle.step_maker.specs.Asked.{Request}
 use Rattle.step_maker.proofs.Piecing.{serves_nothing, serves_step}
+use Rattle.step_maker.proofs.Resting.{still_rests}
 use Rattle.desc_pages.specs.Ldt.{IsLdtStop, LdtSet, UnnamesAll, barred, is_bad_ldt, is_canonical, ldt_base, ldt_refusal, of_ldt, set, unnamed_from}
 use Rattle.desc_pages.specs.Names.{own_domain}
-use Rattle.desc_pages.proofs.Setting.{still_rests}
 use Rattle.desc_pages.proofs.ShortLists.{sets_short_ldt}
 
 -- ---- by its numbers
@@ -94,7 +94,7 @@ module _ (v u w : PortValue) (address entries old : ℕ) (right : ldt_refusal ad
         kinds = tt;
         numbers = λ x on. absurd (let off = right in cc);
         hand = hand_w;
-        rests = still_rests v w hand_w rests;
+        rests = still_rests v w rests hand_w;
         course = set u w old right n.course step;
         short = sets_short_ldt v w address entries (Ok tt) (set u w old right n.course step);
       }

@@ -13,6 +13,7 @@ use Rattle.step_maker.specs.Moves.{Came}
 use Rattle.step_maker.proofs.Coming.{came_self, came_trans}
 use Rattle.step_maker.proofs.Piecing.{serves_nothing}
 use Rattle.step_maker.specs.Answers.{Serves, Stops}
+use Rattle.step_maker.proofs.Resting.{still_rests}
 use Rattle.desc_pages.specs.Gdt.{GdtSet, HoldsPages, IsGdtStop, NamesAll, SetsGdt, Takes, Untakes, barred, gdt_deeds, gdt_refusal, held, is_bad_gdt, least, of_gdt, own_domain, set, words_from}
 use Rattle.desc_pages.specs.Pages.{IsDescStop}
 use Rattle.desc_pages.proofs.Listing.{holds_pages}
@@ -31,27 +32,6 @@ few_pages entries n good = grind (arith, nat_tests)
 pub bad_stops : (v : PortValue) (d entries : ℕ) (fs : List ℕ) → gdt_refusal entries fs ≡ Some refusals.BadRange → Stops v v (of_gdt d entries fs) (Refused refusals.BadRange)
 unfolding Stops
 bad_stops v d entries fs is = inl is
-
-pub still_rests : (v w : PortValue) → FlushedSame v w → Rests v → Rests w
-still_rests v w same r =
-    record {
-      may = record {
-        running = ap (λ (q : PortValue). q.holdings.run) same ∙ r.may.running;
-        no_walk = ap (λ (q : PortValue). q.holdings.walk) same ∙ r.may.no_walk;
-        machine = subst (λ (q : PortValue). IsMachine q.post.machine) (sym same) r.may.machine;
-      };
-      empty = record {
-        refs = ap (λ (q : PortValue). q.holdings.refs) same ∙ r.empty.refs;
-        typed = ap (λ (q : PortValue). q.holdings.typed) same ∙ r.empty.typed;
-        works = ap (λ (q : PortValue). q.holdings.works) same ∙ r.empty.works;
-        locks = ap (λ (q : PortValue). q.holdings.locks) same ∙ r.empty.locks;
-        ending = ap (λ (q : PortValue). q.holdings.ending) same ∙ r.empty.ending;
-        claimed = ap (λ (q : PortValue). q.holdings.claimed) same ∙ r.empty.claimed;
-        raised = ap (λ (q : PortValue). q.holdings.raised) same ∙ r.empty.raised;
-        credits = ap (λ (q : PortValue). q.holdings.credits) same ∙ r.empty.credits;
-        looking = ap (λ (q : PortValue). q.holdings.looking) same ∙ r.empty.looking;
-      };
-    }
 
 -- ---- all of them were taken, and named
 least_none : (n : ℕ) → least 0 n ≡ 0
@@ -91,7 +71,7 @@ module _ (v a : PortValue) (entries : ℕ) (fs : List ℕ) (rests : Rests v) (t 
           kinds = tt;
           numbers = λ x is. absurd (let off = right_by entries fs good in cc);
           hand = gdt_hand;
-          rests = still_rests v w gdt_hand rests;
+          rests = still_rests v w rests gdt_hand;
           course = gdt_course (right_by entries fs good);
           short = sets_short v w entries fs (Ok tt) (gdt_course (right_by entries fs good));
         }
@@ -131,7 +111,7 @@ untaken_sets v w entries fs e is good rests n =
       kinds = gdt_kind e n.kinds;
       numbers = λ x on. absurd (let off = right in cc);
       hand = n.hand;
-      rests = still_rests v w n.hand rests;
+      rests = still_rests v w rests n.hand;
       course = n.course entries right;
       short = sets_short v w entries fs (Err e) (n.course entries right);
     })

@@ -28,6 +28,7 @@ use Rattle.step_maker.specs.Answers.{Deed, Serves, Writes, deeds_by, missed}
 use Rattle.step_maker.specs.Asked.{IsAsked, Request, Within, named, of, of_back, of_table}
 use Rattle.step_maker.proofs.Later.{stops_later}
 use Rattle.step_maker.proofs.Piecing.{serves_back, serves_came, serves_inner, serves_nothing, serves_step}
+use Rattle.step_maker.proofs.Resting.{none_on}
 use Rattle.frame_words.specs.Cells.{IsApart, MayStoreCell}
 use Rattle.frame_words.specs.Freeing.{gave}
 use Rattle.frame_words.proofs.CellSteps.{newest_held, newest_live, writes_live}
@@ -56,10 +57,6 @@ pub type_is : (w : ℕ) (k : KindWord) (b : Bool) → kind_read w ≡ Some k →
 type_is w k b read is = ap (λ c. if c then Desc else Writable) (sym is ∙ ap (λ j. is_live j && is_type j.kind Desc) (fields_are w k read))
 
 -- ---- the frame is in none of the own lists
-none_on : {A : Type 0} (key : A → ℕ) (f : ℕ) (xs : List A) → xs ≡ [] → first_by key f xs ≡ None
-unfolding first_by
-none_on key f xs e = ap (λ ys. first_by key f ys) e
-
 store_deed : (f i word found : ℕ) (h : Holdings) → IsApart f h → deeds_by (Cell f i) (Store word) kinds.Cell found h ≡ Writes f i word ∷ []
 store_deed f i word found h apart = rw (apart.locks, apart.works, apart.claimed) refl
 

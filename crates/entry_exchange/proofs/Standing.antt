@@ -18,6 +18,7 @@ use Rattle.xp_board.specs.Told.{PortValue}
 use Rattle.xp_board.proofs.ListCounts.{first_by-cons_here}
 use Rattle.xp_board.proofs.Sums.{when_eq}
 use Rattle.step_maker.specs.Holds.{Holds, MayWork, Rests, quiet}
+use Rattle.step_maker.proofs.Resting.{rests_by}
 use Rattle.entry_locks.specs.Entries.{MaySwapEntry}
 use Rattle.foreign_map.specs.Owning.{MayMapFor}
 use Rattle.foreign_map.specs.declared.owners.Owners.{Owners}
@@ -26,7 +27,6 @@ use Rattle.partial_state.specs.Levels.{level_type}
 use Rattle.entry_exchange.specs.Holding.{HoldsLockOf, HoldsTableLock, LeavesExchange, owner_at}
 use Rattle.entry_exchange.specs.Parts.{HoldsFreed, HoldsSeen, HoldsTaken, IsOfLevel}
 use Rattle.entry_exchange.proofs.Hands.{Stands, locks_are, refs_from, refs_of, stands_self, typed_from, typed_of, unset_stands}
-use Rattle.entry_exchange.proofs.Staying.{rests_by}
 use Rattle.entry_exchange.proofs.Putting.{has_read, has_typed}
 
 -- ---- whether the new word asks the same as the one seen

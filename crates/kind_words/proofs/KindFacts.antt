@@ -1,5 +1,6 @@
 -- What a vCPU learns of a frame by the words that it finds: facts of every sound state.
 use Rattle.std.proofs.Common.{◌≡◌, ℕ, ◌+◌, ◌^◌, ◌<◌, ◌≤◌, is_some, true, false, length, Option, Some, None, IsTrue, refl, sym, ap, ◌∙◌, subst, arith}
+use Rattle.std.proofs.lemmas.Bool.Decides.{nat_tests}
 use Rattle.xp_words.specs.Machine.{Machine}
 use Rattle.xp_words.specs.declared.kind.KindWord.{KindWord}
 use Rattle.xp_words.specs.declared.kind.PageType.{PageType}
@@ -41,6 +42,10 @@ clock_is_small n s h w finds =
     let spelled = subst (λ y. IsSpelling n Clock y) finds.word (finds.sound.spelled.spelled Clock refl) in
     let most = spelled.1 in
     omega arith
+
+-- ---- what lives is not dead
+pub live_undead : (k : KindWord) → IsTrue (is_live k) → is_dead k ≡ false
+live_undead k live = grind (arith, nat_tests)
 
 -- ---- a kind word is a spelling
 pub record IsKindFound (n : Machine) (w : ℕ) : Type 0 where

@@ -21,6 +21,7 @@ use Rattle.step_maker.specs.Asked.{IsNaming, NoMore, Within, walked}
 use Rattle.step_maker.specs.Finding.{Finding, FoundAt}
 use Rattle.step_maker.proofs.Grown.{grown_by}
 use Rattle.step_maker.proofs.Later.{IsUncounted}
+use Rattle.step_maker.proofs.Resting.{none_on}
 use Rattle.desc_pages.specs.Pages.{IsDescAside, IsDescStop, of_desc}
 use Rattle.tlb_walks.specs.Addresses.{walk_refusal}
 use Rattle.tlb_walks.specs.Asking.{IsWalkStop}
@@ -49,10 +50,6 @@ module _ (n : Machine) (s d page base t i entry : ℕ) (F G : Finding) (more : (
       (λ g is k less. walked t i entry refl found (same_frame g (frame_of entry) is) refl less) (λ any g is. absurd (no_naming (frame_of entry) d any)) (λ g none. absurd cc)
 
 -- ---- what is in hand counts no more than before
-none_on : {A : Type 0} (key : A → ℕ) (f : ℕ) (xs : List A) → xs ≡ [] → first_by key f xs ≡ None
-unfolding first_by
-none_on key f xs e = ap (λ ys. first_by key f ys) e
-
 pub none_more : (v x : PortValue) (d page base : ℕ) → Rests v → FlushedSame v x → NoMore (of_touch d page base) x.holdings v.holdings
 none_more v x d page base rests same g =
     record {

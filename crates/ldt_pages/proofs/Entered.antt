@@ -20,9 +20,9 @@ use Rattle.step_maker.specs.Asked.{Request, Within}
 use Rattle.step_maker.proofs.Changing.{found_after, found_before}
 use Rattle.step_maker.proofs.Later.{stops_then}
 use Rattle.step_maker.proofs.Piecing.{serves_inner, serves_then, stops_inner}
+use Rattle.step_maker.proofs.Resting.{still_rests}
 use Rattle.desc_pages.specs.Names.{HoldsForPage, PutsPage, own_domain}
 use Rattle.desc_pages.specs.Pages.{GetsDesc, of_desc}
-use Rattle.desc_pages.proofs.Setting.{still_rests}
 use Rattle.tlb_walks.specs.Asking.{IsWalkStop}
 use Rattle.tlb_walks.specs.Flying.{WalkMoves}
 use Rattle.tlb_walks.specs.Translating.{Walks}
@@ -119,7 +119,7 @@ module _ {v u : PortValue} {page base : ℕ} {b : LdtBase} (a : Past v u page ba
           stops = stops_inner v x w asks (of_desc (frame_of entry) (own_domain v)) e (page_within w gets.came) (none_more v x (own_domain v) page base rests there_same) came_there gets.stops;
           kinds = desc_kind e gets.kinds;
           hand = hand;
-          rests = still_rests v w hand rests;
+          rests = still_rests v w rests hand;
           warm = came_warm v w (came_here gets) (ap (λ (q : PortValue). q.holdings.ran) hand) warm;
           course = touching.TouchesLdt.untaken u x w b entry e a.at walks gets.course;
         })
@@ -147,7 +147,7 @@ module _ {v u : PortValue} {page base : ℕ} {b : LdtBase} (a : Past v u page ba
           stops = tt;
           kinds = tt;
           hand = hand;
-          rests = still_rests v w hand rests;
+          rests = still_rests v w rests hand;
           warm = came_warm v w (came_trans v y w (came_here gets) puts.came) (ap (λ (q : PortValue). q.holdings.ran) hand) warm;
           course = touching.TouchesLdt.touched u x y w b entry a.at walks gets.course puts.course;
         }

@@ -14,8 +14,8 @@ use Rattle.step_maker.specs.Answers.{Serves, Stops}
 use Rattle.step_maker.specs.Finding.{FoundAt}
 use Rattle.step_maker.proofs.Changing.{found_before, moves_found}
 use Rattle.step_maker.proofs.Piecing.{moves_serves, serves_step}
+use Rattle.step_maker.proofs.Resting.{still_rests}
 use Rattle.desc_pages.specs.Names.{own_domain}
-use Rattle.desc_pages.proofs.Setting.{still_rests}
 use Rattle.ldt_pages.specs.Touching as touching
 use Rattle.ldt_pages.specs.Touching.{FoundBase, FoundPage, LdtTouched, is_beyond, of_touch, touch_address}
 use Rattle.ldt_pages.proofs.Asking.{beyond_numbers}
@@ -34,7 +34,7 @@ module _ {v : PortValue} {page : ℕ} (rests : Rests v) (warm : v.holdings.cold 
         stops = inl (beyond_numbers page base b found.reads past);
         kinds = tt;
         hand = same;
-        rests = still_rests v w same rests;
+        rests = still_rests v w rests same;
         warm = ap (λ (q : PortValue). q.holdings.cold) found.hand ∙ warm;
         course = touching.TouchesLdt.beyond w b found past;
       }
@@ -80,7 +80,7 @@ module _ {v u : PortValue} {page base : ℕ} {b : LdtBase} {word : ℕ} (a : Pas
         stops = tt;
         kinds = tt;
         hand = same;
-        rests = still_rests v u same rests;
+        rests = still_rests v u rests same;
         warm = ap (λ (q : PortValue). q.holdings.cold) a.hand ∙ warm;
         course = touching.TouchesLdt.held u b word a.at some;
       }

@@ -15,7 +15,7 @@ module _ {says : ℕ → Bool} where
   by_as so b = record { answers = b.answers; course = so b.answers b.course; gate = b.gate; due = b.due }
 
 -- ---- one part behind another
-ends_more : {due : Bool} (answers more : List Bool) → ends_yes answers ≡ false → due ≡ ends_yes more → due ≡ ends_yes (more ++ answers)
+pub ends_more : {due : Bool} (answers more : List Bool) → ends_yes answers ≡ false → due ≡ ends_yes more → due ≡ ends_yes (more ++ answers)
 ends_more answers [] none ends = ends ∙ sym none
 ends_more answers (a ∷ more) none ends = ends
 

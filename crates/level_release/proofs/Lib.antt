@@ -24,16 +24,16 @@ pub mod Falling
 mod Handing
 mod Dropped
 mod Requested
-mod Consulting
+pub mod Consulting
 mod Counted
 mod Taken
 mod Resumed
 mod Asking
 pub mod Named
 mod Exchanged
-mod SettlingSteps
+pub mod SettlingSteps
 mod Looked
 mod Lived
-mod Answered
+pub mod Answered
 mod Settled
 pub mod Noes

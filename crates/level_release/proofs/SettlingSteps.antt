@@ -34,7 +34,7 @@ use Rattle.level_release.specs.Settling.{TookOld}
 use Rattle.level_release.proofs.Taken.{took_post}
 
 -- ---- a frame is left dead with a clock value that was found, and its reference given back
-dies : {d a e : PortValue} {f x clock : ℕ} (want : PageType) (marked : Bool) → Moves d a Clock Load kinds.Look None clock → Moves a e (Kind f) (Store (kind_write (dead_kind want marked clock))) kinds.Kind None x → Does d e (Dies f want marked)
+pub dies : {d a e : PortValue} {f x clock : ℕ} (want : PageType) (marked : Bool) → Moves d a Clock Load kinds.Look None clock → Moves a e (Kind f) (Store (kind_write (dead_kind want marked clock))) kinds.Kind None x → Does d e (Dies f want marked)
 dies {d} {a} {e} {f} {x} {clock} want marked look store =
     let k = dead_kind want marked clock in
     does_as d e (Then (Only (visit Clock Load clock)) (StoresKind f k)) (Dies f want marked) (λ vs steps. (clock, steps))

@@ -23,6 +23,7 @@ use Rattle.step_maker.proofs.Noting.{moves_before, moves_keeps, moves_since, mov
 use Rattle.step_maker.proofs.Wending.{came_goes}
 use Rattle.shared_board.specs.Board.{Board, port_value}
 use Rattle.xp_machine.specs.Ready.{Idles, IsOf, TakesFresh, fresh}
+use Rattle.xp_machine.proofs.Fresh.{of_fresh}
 use Rattle.xp_machine.proofs.Moving.{of_other, stepping}
 
 -- ---- a look at the own run word
@@ -97,16 +98,11 @@ takes_next b b2 s lender machine real hands came hand takes t other script there
     elim (cases_eq t s) [
       | inl own ↦
           rw own
-          (record {
-            vcpu = refl;
-            domain = refl;
-            idles = record { empty = idles.empty; no_walk = idles.no_walk; machine = idles.machine; warm = idles.warm };
-            awaits = tt;
-            runs = λ works. ap (λ (y : PortValue). run_or (memory (sizes_of b2.machine) b2.story.opening (run_of s)) y.holdings.run) hand;
-          })
+          (of_fresh (port_value b2 s other) script (record { empty = idles.empty; no_walk = idles.no_walk; machine = idles.machine; warm = idles.warm })
+          (ap (λ (y : PortValue). run_or (memory (sizes_of b2.machine) b2.story.opening (run_of s)) y.holdings.run) hand))
       | inr off ↦
-          subst (λ (n : Machine). IsOf (port_value b2 t other) (fresh t (domain_of n t) script)) (sym machine)
-          (of_other b b2 t other (fresh t (domain_of b.machine t) script) machine moved.opening (moved.others t off)
+          subst (λ (n : Machine). IsOf (port_value b2 t other) (fresh n.frames t (domain_of n t) script)) (sym machine)
+          (of_other b b2 t other (fresh b.machine.frames t (domain_of b.machine t) script) machine moved.opening (moved.others t off)
           (takes t other script (subst (λ (n : Machine). t < (sizes_of n).vcpus) machine there)))
     ]
 

@@ -410,6 +410,64 @@ const MULTICALLS: [Example; 5] = [
     },
 ];
 
+// Destructions of domains.
+const DESTRUCTIONS: [Example; 9] = [
+    Example {
+        shows: "A destruction waits for each vCPU of the domain to stop.",
+        pace: "",
+        trace: "xen-pv-trace 1\nframes 16\ndomain 16\ndomain 16\npriv 0 1\nvcpu 0\nvcpu 1\nvcpu 1\nown 0 0 4\nown 1 4 8\nop 0 destroy 1\nop 1 read k 0x0\nturn 0 1\nend\n",
+        lines: "pending 1\npending 1\ndomain 1 dying pages 8\nframe 11 owner 1 refs 1 alloc type none count 0 flags - at 0 m2p -\n",
+    },
+    Example {
+        shows: "A stopped vCPU refuses its operations; all frames of the domain are free, and it is dead.",
+        pace: "",
+        trace: "xen-pv-trace 1\nframes 16\ndomain 16\ndomain 16\npriv 0 1\nvcpu 0\nvcpu 1\nvcpu 1\nown 0 0 4\nown 1 4 8\nop 0 destroy 1\nop 1 read k 0x0\nturn 0 1\nturn 1 1\nturn 2 1\nturn 0 1\nend\n",
+        lines: "op 1 ok done 1 value 0x0\nop 1 refused 14 done 0 Dying domain=1 found=1\ndomain 1 dead pages 0\nfree 12\n",
+    },
+    Example {
+        shows: "A frame that another domain maps is listed with its one reference, and stays.",
+        pace: "",
+        trace: "xen-pv-trace 1\nframes 16\ndomain 6\ndomain 6\npriv 0 1\nvcpu 0\nvcpu 1\nown 0 0 2\nown 1 8 5\ncell 8 0 1 0x9003\ncell 9 0 1 0xa003\ncell 10 0 1 0xb003\ncell 11 0 1 0xc003\nop 1 ext 3 8 0 5 8 0\nop 0 ext 0 1 0\nop 0 mmu 0x1 0x1000 0xc001\nop 0 destroy 1\nop 0 mmu 0x7ff0 0x1000 0x0\nturn 1 1\nturn 0 3\nturn 1 1\nturn 0 1\nend\n",
+        lines: "op 3 left 12 refs d1,1\nop 3 ok done 1 value 0x1\ndomain 1 dead pages 1\nframe 12 owner 1 refs 1 - type wr count 0 flags - at 0 m2p -\n",
+    },
+    Example {
+        shows: "As the last reference to it is given back it is free, too.",
+        pace: "",
+        trace: "xen-pv-trace 1\nframes 16\ndomain 6\ndomain 6\npriv 0 1\nvcpu 0\nvcpu 1\nown 0 0 2\nown 1 8 5\ncell 8 0 1 0x9003\ncell 9 0 1 0xa003\ncell 10 0 1 0xb003\ncell 11 0 1 0xc003\nop 1 ext 3 8 0 5 8 0\nop 0 ext 0 1 0\nop 0 mmu 0x1 0x1000 0xc001\nop 0 destroy 1\nop 0 mmu 0x7ff0 0x1000 0x0\nturn 1 1\nturn 0 3\nturn 1 1\nturn 0 2\nend\n",
+        lines: "op 3 left 12 refs d1,1\nop 3 ok done 1 value 0x1\nop 4 ok done 1 value 0x0\ndomain 1 dead pages 0\nfree 14\n",
+    },
+    Example {
+        shows: "A multicall that its dying domain cuts off tells how many of its calls were answered, and not how many elements of the next.",
+        pace: "1",
+        trace: "xen-pv-trace 1\nframes 8\ndomain 4\ndomain 4\npriv 0 1\nvcpu 0\nvcpu 1\nown 0 0 1\nown 1 4 3\nop 0 destroy 1\nop 1 multi mmu 0x7ff0 0x4001 7 ; mmu 0x7ff0 0x4001 7 0x5001 8 0x6001 9\nturn 1 2\nturn 0 1\nturn 1 1\nturn 0 1\nend\n",
+        lines: "pending 1\nop 1 call 1 ok done 1 value 0x0\nop 1 refused 14 done 1 Dying domain=1 found=1\ndomain 1 dying pages 3\n",
+    },
+    Example {
+        shows: "A pinned table loses its pin, and is released entry by entry, as the gate lets it.",
+        pace: "2",
+        trace: "xen-pv-trace 1\nframes 8\ndomain 4\ndomain 4\npriv 0 1\nvcpu 0\nvcpu 1\nown 0 0 1\nown 1 4 3\ncell 4 0 4 0x5001\nop 1 ext 0 4 0\nop 0 destroy 1\nturn 1 1\nturn 0 1\nturn 1 1\nturn 0 3\nend\n",
+        lines: "vcpu 0 domain 0 base - user - old - -\nop 1 ok done 1 value 0x0\nop 1 refused 14 done 0 Dying domain=1 found=1\ndomain 1 dead pages 0\n",
+    },
+    Example {
+        shows: "A table that its vCPU left partial, with its kept mark, is released from where it stands.",
+        pace: "1",
+        trace: "xen-pv-trace 1\nframes 16\ndomain 8\ndomain 8\npriv 0 1\nvcpu 0\nvcpu 1\nown 0 0 1\nown 1 4 3\ncell 4 0 512 0x5001\nop 1 ext 0 4 0\nop 0 destroy 1\nturn 1 3\nturn 0 1\nturn 1 1\nturn 0 9\nend\n",
+        lines: "vcpu 0 domain 0 base - user - old - -\nop 1 ok done 1 value 0x0\nop 1 refused 14 done 0 Dying domain=1 found=1\ndomain 1 dead pages 0\n",
+    },
+    Example {
+        shows: "Two vCPUs destroy the domains of each other: the one that comes second finds its own dying.",
+        pace: "",
+        trace: "xen-pv-trace 1\nframes 16\ndomain 8\ndomain 8\npriv 0 1\npriv 1 0\nvcpu 0\nvcpu 1\nown 0 0 2\nown 1 4 2\nop 0 destroy 1\nop 1 destroy 0\nturn 0 1\nturn 1 2\nturn 0 2\nend\n",
+        lines: "op 1 ok done 1 value 0x0\nop 1 refused 14 done 0 Dying domain=1 found=1\ndomain 0 live pages 2\ndomain 1 dead pages 0\n",
+    },
+    Example {
+        shows: "The own domain, one without privilege, one that there is not, and one that is dead are refused.",
+        pace: "",
+        trace: "xen-pv-trace 1\nframes 8\ndomain 4\ndomain 4\ndomain 4\npriv 0 1\nvcpu 0\nvcpu 1\nown 0 0 1\nop 0 destroy 0\nop 0 destroy 2\nop 0 destroy 3\nop 0 destroy 1\nop 0 destroy 1\nturn 0 4\nturn 1 1\nturn 0 2\nend\n",
+        lines: "op 1 refused 12 done 0 NoPrivilege caller=0 domain=0\nop 2 refused 12 done 0 NoPrivilege caller=0 domain=2\nop 3 refused 13 done 0 NoDomain\nop 4 ok done 1 value 0x0\nop 5 refused 14 done 0 Dying domain=1 found=255\ndomain 1 dead pages 0\n",
+    },
+];
+
 // The report of that example.
 fn report(rt: &(impl Abort + AllocGlobal), example: &Example) -> Vec<u8> {
     let words = if example.pace.is_empty() {
@@ -466,4 +524,9 @@ fn each_example_by_address_is_reported_with_what_it_leaves(rt: HostRuntime) {
 #[test]
 fn each_multicall_is_reported_with_what_it_leaves(rt: HostRuntime) {
     check(&rt, &MULTICALLS);
+}
+
+#[test]
+fn each_destruction_is_reported_with_what_it_leaves(rt: HostRuntime) {
+    check(&rt, &DESTRUCTIONS);
 }

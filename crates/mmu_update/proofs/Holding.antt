@@ -15,13 +15,13 @@ use Rattle.xp_board.specs.Knowledge.{knows_live}
 use Rattle.xp_board.specs.Lists.{first_by, times_by}
 use Rattle.xp_board.specs.Told.{PortValue}
 use Rattle.step_maker.specs.Holds.{FlushedHolds, FlushedSame, Holds, Rests, Same, quiet}
+use Rattle.step_maker.proofs.Resting.{none_on, rests_by}
 use Rattle.frame_words.specs.Cells.{IsApart, MayStoreCell}
 use Rattle.frame_words.specs.Freeing.{gave}
 use Rattle.frame_words.specs.Refs.{took}
 use Rattle.frame_words.proofs.CellSteps.{newest_held, newest_live, writes_live}
 use Rattle.frame_words.proofs.Putting.{without_newest}
 use Rattle.frame_types.specs.Taking.{LentBy, MayDropPlain, gave_type, typed_as}
-use Rattle.entry_exchange.proofs.Staying.{rests_by}
 use Rattle.mmu_update.specs.Elements.{LeavesUpdate}
 
 pub leaves_same : (v w : PortValue) → FlushedSame v w → LeavesUpdate v w
@@ -31,10 +31,6 @@ pub leaves_rests : (v w : PortValue) → Rests v → LeavesUpdate v w → Rests 
 leaves_rests v w rests leaves = rests_by v w leaves.0 leaves.1 rests leaves.2
 
 -- ---- the frame is in none of the own lists
-pub none_on : {A : Type 0} (key : A → ℕ) (f : ℕ) (xs : List A) → xs ≡ [] → first_by key f xs ≡ None
-unfolding first_by
-none_on key f xs e = ap (λ ys. first_by key f ys) e
-
 none_to : {A : Type 0} (key : A → ℕ) (f : ℕ) (xs : List A) → xs ≡ [] → times_by key f xs ≡ 0
 unfolding times_by
 none_to key f xs e = ap (λ ys. times_by key f ys) e

@@ -28,6 +28,7 @@ use Rattle.step_maker.specs.Licences.{IsReached, below, is_unmapped, top}
 use Rattle.step_maker.proofs.Changing.{found_after, moves_found}
 use Rattle.step_maker.proofs.Growing.{reached}
 use Rattle.step_maker.proofs.Piecing.{moves_serves, same_request, serves_nothing, serves_step}
+use Rattle.step_maker.proofs.Resting.{none_on, same_rests}
 use Rattle.entry_exchange.specs.Course.{SawEntry}
 use Rattle.frame_words.specs.Cells.{IsApart}
 use Rattle.frame_words.proofs.CellSteps.{look_apart}
@@ -37,7 +38,6 @@ use Rattle.tlb_walks.proofs.Descending.{mapped_inside}
 use Rattle.tlb_walks.proofs.Walking.{base_inside}
 use Rattle.mmu_update.specs.Addresses as ways
 use Rattle.mmu_update.specs.Addresses.{Descends, IsAtStop, Leads, SawBase, next_table}
-use Rattle.mmu_update.proofs.Holding.{leaves_rests, leaves_same, none_on}
 
 -- ---- one load
 pub own_base_there : (n : Machine) (s : ℕ) → s < length n.vcpu_domain → IsTrue (is_place (sizes_of n) (Vcpu s 0))
@@ -61,11 +61,8 @@ apart v f rests =
 entry_same : (v w : PortValue) (f i x : ℕ) → Rests v → SawEntry v w f i x → Same v w
 entry_same v w f i x rests m = look_apart v w f i x m (apart v f rests)
 
-pub rests_same : (v w : PortValue) → Rests v → Same v w → Rests w
-rests_same v w rests same = leaves_rests v w rests (leaves_same v w (ap quiet same))
-
 pub entry_rests : (v w : PortValue) (f i x : ℕ) → Rests v → SawEntry v w f i x → Rests w
-entry_rests v w f i x rests m = rests_same v w rests (entry_same v w f i x rests m)
+entry_rests v w f i x rests m = same_rests v w rests (entry_same v w f i x rests m)
 
 entry_came : (v w : PortValue) (f i x : ℕ) → SawEntry v w f i x → Came v w
 entry_came v w f i x m = moves_came v w _ _ _ _ _ m
@@ -198,7 +195,7 @@ module _ (v w : PortValue) (va : ℕ) where
   leads_same answer rests (ways.barred x why stay is) = ap still stay
   leads_same answer rests (ways.unbased go m is) = base_same v w v.post.vcpu 0 refl m
   leads_same answer rests (ways.based u base go some m path) =
-      let first = base_same v u v.post.vcpu base refl m in descends_same va w answer u 4 (base - 1) (rests_same v u rests first) path ∙ first
+      let first = base_same v u v.post.vcpu base refl m in descends_same va w answer u 4 (base - 1) (same_rests v u rests first) path ∙ first
 
   pub leads_inside : (t : ℕ) → Leads v va w (Ok t) → t < v.post.machine.frames
   leads_inside t (ways.barred x why stay is) = absurd cc

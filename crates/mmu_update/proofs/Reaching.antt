@@ -9,6 +9,7 @@ use Rattle.step_maker.proofs.Coming.{came_post, came_trans, met_after}
 use Rattle.step_maker.specs.Answers.{Serves, Stops, missed}
 use Rattle.step_maker.specs.Asked.{NoMore, Request}
 use Rattle.step_maker.proofs.Piecing.{same_request, serves_came, serves_then, stops_inner}
+use Rattle.step_maker.proofs.Resting.{same_rests}
 use Rattle.entry_exchange.specs.Asking as exchanges
 use Rattle.entry_exchange.specs.Asking.{HasExchangeDeeds}
 use Rattle.entry_exchange.proofs.Staying.{may_map}
@@ -28,7 +29,7 @@ use Rattle.mmu_update.specs.UpdatesAt.{EntersAt, EntersAtBy, UpdatesAtBy}
 use Rattle.mmu_update.specs.Writing.{MayBeginElement}
 use Rattle.mmu_update.proofs.FewSteps.{updated_few}
 use Rattle.mmu_update.proofs.Holding.{leaves_same}
-use Rattle.mmu_update.proofs.Leading.{leads_came, leads_free, leads_kind, leads_numbers, leads_same, leads_serves, leads_stops, rests_same}
+use Rattle.mmu_update.proofs.Leading.{leads_came, leads_free, leads_kind, leads_numbers, leads_same, leads_serves, leads_stops}
 use Rattle.mmu_update.proofs.Locking.{each_stop}
 
 -- ---- gates that were asked nothing
@@ -56,7 +57,7 @@ unled {v} {w} {o} {va} {word} {e} rests leads =
         kinds = kind.0;
         numbers = λ x on. ap Err (leads_numbers v w va e x leads on);
         hand = leaves_same v w (ap quiet same);
-        rests = rests_same v w rests same;
+        rests = same_rests v w rests same;
         course = course;
         short = updated_few v o va word n.frames w [] (Err e) rests.may.machine course;
       };
@@ -82,7 +83,7 @@ module _ {v u : PortValue} {va table : ℕ} (rests : Rests v) (leads : Leads v v
   pub begins_there : {o : Owners} → MayMapFor v o → known_old First v.holdings ≡ Some 0 → known_old Second v.holdings ≡ Some 0 → MayBeginElement u o
   begins_there {o} maps room room_too =
       record {
-        rests = rests_same v u rests same_there;
+        rests = same_rests v u rests same_there;
         maps = may_map v u o came_there (ap (λ (q : PortValue). q.holdings.turn) same_there) maps;
         room = ap (λ (q : PortValue). known_old First q.holdings) same_there ∙ room;
         room_too = ap (λ (q : PortValue). known_old Second q.holdings) same_there ∙ room_too;

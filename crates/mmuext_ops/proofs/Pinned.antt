@@ -20,6 +20,7 @@ use Rattle.step_maker.specs.Asked.{Asked, Within, checked, named, of_table}
 use Rattle.step_maker.specs.Finding.{Finding}
 use Rattle.step_maker.proofs.Later.{IsUncounted, stops_then}
 use Rattle.step_maker.proofs.Piecing.{serves_came, serves_inner, serves_then, stops_inner}
+use Rattle.step_maker.proofs.Resting.{bare, empty_as}
 use Rattle.partial_state.specs.Levels.{level_type}
 use Rattle.kept_marks.specs.Marks.{IsForeign}
 use Rattle.level_validate.specs.Acquiring.{LeavesAcquired, ServesAcquired, of_acquire}
@@ -30,7 +31,6 @@ use Rattle.mmuext_ops.specs.Elements.{HasDeeds, LeavesElement, ServesElement, of
 use Rattle.mmuext_ops.specs.Holding.{HoldsTable, IsPinEnd, LeavesTable, ServesLive, named_old, untyped_hand}
 use Rattle.mmuext_ops.specs.declared.element.Element.TheVariants.{Pin}
 use Rattle.mmuext_ops.proofs.Looked.{Looked, fields, found_with, owner_known}
-use Rattle.mmuext_ops.proofs.Rests.{bare, empty_as}
 use Rattle.mmuext_ops.proofs.Within.{same_no_more, within_table}
 
 module _ (v : PortValue) (f d level : ℕ) (rose : Bool) where

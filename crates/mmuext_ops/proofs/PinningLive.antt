@@ -33,6 +33,8 @@ use Rattle.step_maker.specs.Asked.{Asked, IsAsked, Request, checked, named, of, 
 use Rattle.step_maker.specs.Finding.{Finding, FoundWith}
 use Rattle.step_maker.specs.Reasons.{keeps_type}
 use Rattle.step_maker.proofs.Piecing.{moves_serves, serves_back, serves_came}
+use Rattle.step_maker.proofs.Resting.{bare, empty_as}
+use Rattle.kind_words.proofs.KindFacts.{live_undead}
 use Rattle.kind_words.specs.Kinds.{looked_at}
 use Rattle.kind_words.proofs.KindFacts.{found_live, kind_found, kind_is_some, known_live, read_is}
 use Rattle.kind_words.proofs.KindWriting.{fields_write}
@@ -47,8 +49,7 @@ use Rattle.mmuext_ops.specs.Course as ends
 use Rattle.mmuext_ops.specs.Holding.{GivesTableUp, GivesUp, HoldsTable, PinsLive, named_old, untyped_hand}
 use Rattle.level_validate.specs.Unwinding.{own_domain}
 use Rattle.mmuext_ops.proofs.GivingUp.{held, live, may_drop, none_left}
-use Rattle.mmuext_ops.proofs.Rests.{bare, empty_as}
-use Rattle.mmuext_ops.proofs.Marking.{live_undead, lost_deeds, lost_misses, lost_stops, mark_keeps, pins_deed, tried}
+use Rattle.mmuext_ops.proofs.Marking.{lost_deeds, lost_misses, lost_stops, mark_keeps, pins_deed, tried}
 
 -- ---- the hand
 -- a port that holds the same holds the table too

@@ -1,14 +1,13 @@
 -- Nothing is in hand behind an element, whatever the first old word names; and an element that asks its gate nothing.
 use Rattle.std.proofs.Common.{◌≡◌, ℕ, Bool, false, [], Option, None, Result, Ok, Err, IfErr, refl, sym, ap, ◌∙◌, subst, inl, inr}
-use Rattle.xp_words.specs.Machine.{IsMachine}
 use Rattle.xp_words.specs.declared.reply.Pause.TheVariants as pauses
 use Rattle.xp_words.specs.declared.reply.Stop.{Stop}
 use Rattle.xp_words.specs.declared.reply.Stop.TheVariants.{Paused, Refused}
-use Rattle.xp_board.specs.declared.holdings.Holdings.{Holdings}
-use Rattle.xp_board.specs.Hands.{IsEmptyHand}
-use Rattle.xp_board.specs.Told.{Post, PortValue}
+use Rattle.xp_board.specs.Told.{PortValue}
 use Rattle.xp_preempt.proofs.Consulting.{consulted_none}
-use Rattle.step_maker.specs.Holds.{FlushedHolds, FlushedSame, Rests}
+use Rattle.step_maker.specs.Holds.{FlushedHolds, Rests}
+use Rattle.step_maker.proofs.Resting as resting
+use Rattle.step_maker.proofs.Resting.{still_rests}
 use Rattle.level_release.specs.Asking.{is_due_answer}
 use Rattle.flush_waits.specs.Waiting.{IsWait}
 use Rattle.table_bases.specs.Asking.{IsSpentStop}
@@ -18,48 +17,19 @@ use Rattle.mmuext_ops.specs.declared.element.Element.{Element}
 use Rattle.mmuext_ops.specs.declared.element.Element.TheVariants.{Pin, Unpin}
 
 -- ---- the hand
--- what emptiness does not see
-abbrev pub bare : Holdings → Holdings
-bare h = record h { steps = []; cache = []; acked = 0; cold = false; old0 = None }
-
-pub empty_as : (h k : Holdings) → bare h ≡ bare k → IsEmptyHand k → IsEmptyHand h
-empty_as h k same none =
-    record {
-      refs = ap (λ (q : Holdings). q.refs) same ∙ none.refs;
-      typed = ap (λ (q : Holdings). q.typed) same ∙ none.typed;
-      works = ap (λ (q : Holdings). q.works) same ∙ none.works;
-      locks = ap (λ (q : Holdings). q.locks) same ∙ none.locks;
-      ending = ap (λ (q : Holdings). q.ending) same ∙ none.ending;
-      claimed = ap (λ (q : Holdings). q.claimed) same ∙ none.claimed;
-      raised = ap (λ (q : Holdings). q.raised) same ∙ none.raised;
-      credits = ap (λ (q : Holdings). q.credits) same ∙ none.credits;
-      looking = ap (λ (q : Holdings). q.looking) same ∙ none.looking;
-    }
-
 rests_by : (v w : PortValue) (o : Option ℕ) → Rests v → FlushedHolds v w (record v.holdings { old0 = o }) → Rests w
-rests_by v w o rests holds =
-    record {
-      may = record {
-        running = ap (λ (q : PortValue). q.holdings.run) holds ∙ rests.may.running;
-        no_walk = ap (λ (q : PortValue). q.holdings.walk) holds ∙ rests.may.no_walk;
-        machine = subst (λ (p : Post). IsMachine p.machine) (sym (ap (λ (q : PortValue). q.post) holds)) rests.may.machine;
-      };
-      empty = empty_as w.holdings v.holdings (ap (λ (q : PortValue). bare q.holdings) holds) rests.empty;
-    }
-
-pub rests_same : (v w : PortValue) → Rests v → FlushedSame v w → Rests w
-rests_same v w rests same = rests_by v w v.holdings.old0 rests same
+rests_by v w o rests holds = resting.rests_by v w o v.holdings.old1 rests holds
 
 pub rests_pinned : (v w : PortValue) (f level : ℕ) (answer : Result (Unit {0}) Stop) → Rests v → LeavesElement v w (Pin f level) answer → Rests w
-rests_pinned v w f level (Ok done) rests leaves = rests_same v w rests leaves
-rests_pinned v w f level (Err (Refused x)) rests (inl leaves) = rests_same v w rests leaves
+rests_pinned v w f level (Ok done) rests leaves = still_rests v w rests leaves
+rests_pinned v w f level (Err (Refused x)) rests (inl leaves) = still_rests v w rests leaves
 rests_pinned v w f level (Err (Refused x)) rests (inr leaves) = rests_by v w _ rests leaves
-rests_pinned v w f level (Err (Paused x)) rests leaves = rests_same v w rests leaves
+rests_pinned v w f level (Err (Paused x)) rests leaves = still_rests v w rests leaves
 
 pub rests_unpinned : (v w : PortValue) (f : ℕ) (answer : Result (Unit {0}) Stop) → Rests v → LeavesElement v w (Unpin f) answer → Rests w
-rests_unpinned v w f (Ok done) rests (inl leaves) = rests_same v w rests leaves
+rests_unpinned v w f (Ok done) rests (inl leaves) = still_rests v w rests leaves
 rests_unpinned v w f (Ok done) rests (inr leaves) = rests_by v w _ rests leaves
-rests_unpinned v w f (Err e) rests leaves = rests_same v w rests leaves
+rests_unpinned v w f (Err e) rests leaves = still_rests v w rests leaves
 
 -- ---- the gate
 pub ungated : (v w : PortValue) (d : ℕ) (e : Element) (awaited : Option ℕ) (answer : Result (Unit {0}) Stop) (says : ℕ → Bool) (asks agreed : ℕ) → Performed v w d e awaited [] answer → is_due_answer answer ≡ false →

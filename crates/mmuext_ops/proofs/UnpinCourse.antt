@@ -18,6 +18,7 @@ use Rattle.step_maker.proofs.Coming.{came_trans, moves_came}
 use Rattle.step_maker.specs.Answers.{Serves, missed, misses}
 use Rattle.step_maker.specs.Asked.{of_back, of_frame}
 use Rattle.step_maker.proofs.Piecing.{serves_came}
+use Rattle.step_maker.proofs.Resting.{still_rests}
 use Rattle.frame_words.specs.Refs.{IsRefStop}
 use Rattle.kind_words.specs.Kinds.{looked_at}
 use Rattle.table_words.specs.Pins.{took_pin, unpinned_kind}
@@ -34,7 +35,7 @@ use Rattle.mmuext_ops.specs.Holding.{MeetsElement}
 use Rattle.mmuext_ops.proofs.Looked.{GivenBack, Looked, came_back, fields, given_back, look_there, not_referred, put_back, referred, written}
 use Rattle.mmuext_ops.proofs.Looked as look
 use Rattle.mmuext_ops.proofs.Released.{holds_live, lost_hand, released_hand, released_serves}
-use Rattle.mmuext_ops.proofs.Rests.{rests_same, rests_unpinned}
+use Rattle.mmuext_ops.proofs.Rests.{rests_unpinned}
 use Rattle.mmuext_ops.proofs.Within.{of_unpin}
 use Rattle.mmuext_ops.proofs.Unpinned.{asks, before_stops, lost_serves, lost_why, raced_serves, raced_stops, stop_is, takes_off, unpinned_serves}
 use Rattle.xp_preempt.proofs.Consulting.{consulted_none, not_due}
@@ -57,7 +58,7 @@ module _ {v w : PortValue} {d f : ℕ} {says : ℕ → Bool} {asked agreed : ℕ
         stops = not_referred v f d (of_unpin d f) (asks v f d) w stop got.stops;
         kinds = ref_stop stop kind;
         hand = ap quiet same;
-        rests = rests_same v w rests (ap quiet same);
+        rests = still_rests v w rests (ap quiet same);
         course = unasked v w d f says asked agreed stop (reference_undue stop kind) (course.unreferred stop got);
       })
 
@@ -70,7 +71,7 @@ module _ {v w : PortValue} {d f : ℕ} {says : ℕ → Bool} {asked agreed : ℕ
         stops = before_stops saw w (came_back saw back) off;
         kinds = tt;
         hand = left;
-        rests = rests_same v w rests left;
+        rests = still_rests v w rests left;
         course = unasked v w d f says asked agreed (Refused (NotPinned x)) refl (course.unpinned_before a b x saw.got (look_there saw) (ap (λ (y : KindWord). y.pinned) (fields saw) ∙ off) (look.gave_ref saw back));
       }
 
@@ -122,7 +123,7 @@ module _ {v a b : PortValue} {d f g x : ℕ} {k : KindWord} (rests : Rests v) (s
           stops = raced_stops saw try on other r back.serves j read_now off;
           kinds = tt;
           hand = left;
-          rests = rests_same v r rests left;
+          rests = still_rests v r rests left;
           course = unasked v r d f says asked agreed (Refused (NotPinned found)) refl
               (course.raced a b q x found saw.got (look_there saw) on_x (takes_off saw try) other (ap (λ (y : KindWord). y.pinned) (fields_of found j read_now) ∙ off) (gave_ref r back));
         }
@@ -136,7 +137,7 @@ module _ {v a b : PortValue} {d f g x : ℕ} {k : KindWord} (rests : Rests v) (s
           stops = lost_why saw try on other r back.serves stop is;
           kinds = rw why tt;
           hand = left;
-          rests = rests_same v r rests left;
+          rests = still_rests v r rests left;
           course = rw why
               (unasked v r d f says asked agreed (Paused (Lost (number (sizes_of v.post.machine) (Kind f)) x found)) refl
               (course.lost a b q x found saw.got (look_there saw) on_x (takes_off saw try) other (ap (λ (y : KindWord). y.pinned) (fields_of found j read_now) ∙ still) (gave_ref r back)));

@@ -24,28 +24,16 @@ use Rattle.step_maker.specs.Asked.{Asked, IsAsked, Request, checked, named, of, 
 use Rattle.step_maker.specs.Finding.{Finding, FoundWith}
 use Rattle.step_maker.specs.Reasons.{keeps_type}
 use Rattle.step_maker.proofs.Piecing.{serves_back, serves_came}
-use Rattle.kind_words.proofs.KindFacts.{kind_is_some}
+use Rattle.kind_words.proofs.KindFacts.{kind_is_some, live_undead}
 use Rattle.kind_words.proofs.KindWriting.{fields_write}
 use Rattle.table_words.specs.Pins.{unpinned_kind}
-use Rattle.table_words.proofs.PinWords.{unpinned_is}
+use Rattle.table_words.proofs.PinWords.{pinned_lives, unpinned_is}
 use Rattle.mmuext_ops.specs.Course.{TakesPinOff}
 use Rattle.mmuext_ops.specs.Elements.{ServesElement, raced_unpin, told}
 use Rattle.mmuext_ops.specs.declared.element.Element.TheVariants.{Unpin}
 use Rattle.mmuext_ops.proofs.Looked.{Looked, came_a, fields, found_with, inside_b, look_there, looked, owner_known, owner_still, spelled, written}
 use Rattle.mmuext_ops.proofs.Within.{of_unpin}
-use Rattle.mmuext_ops.proofs.Marking.{live_undead, lost_deeds, lost_misses, lost_stops, mark_keeps, tried, unpins_deed}
-
--- ---- the word
-pinned_form : (k : KindWord) → has_form k ≡ true → k.pinned ≡ true → IsTrue (is_live k)
-unfolding has_form
-pinned_form k form on = grind (arith, nat_tests)
-
--- only a live frame is pinned
-pub pinned_lives : (k : KindWord) → IsTrue (is_kind k) → k.pinned ≡ true → IsTrue (is_live k)
-pinned_lives k is on = pinned_form k (and_parts (nat_lt k.progress (2 ^ 10)) (has_form k) (and_parts (nat_lt k.number (2 ^ 36)) _ is).1).1 on
-
-pub may_unpin : (k : KindWord) → IsTrue (is_kind k) → k.pinned ≡ true → MayUnpin k (unpinned_kind k)
-may_unpin k is on = record { live = pinned_lives k is on; pinned = on; left = refl }
+use Rattle.mmuext_ops.proofs.Marking.{lost_deeds, lost_misses, lost_stops, mark_keeps, tried, unpins_deed}
 
 -- ---- the request
 module _ (v : PortValue) (f d : ℕ) where

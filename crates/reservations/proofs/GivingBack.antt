@@ -13,15 +13,13 @@ use Rattle.xp_words.specs.declared.reply.Stop.TheVariants.{Refused, Paused}
 use Rattle.xp_words.proofs.PlaceLaws.{place_back}
 use Rattle.xp_words.proofs.RefLaws.{ref_read-write, ref_write-read}
 use Rattle.xp_board.specs.Acts.{left_by}
-use Rattle.xp_board.specs.Spelling.{IsSpelling}
 use Rattle.xp_board.specs.Steps.{is_same}
 use Rattle.xp_board.specs.Told.{PortValue, is_telling, told_word}
 use Rattle.xp_board.specs.declared.holdings.OwnerFound.TheVariants as owners
 use Rattle.xp_board.specs.declared.holdings.Reference.{Reference}
 use Rattle.xp_board.specs.declared.step.Act.TheVariants.{Cas, Load, Store}
 use Rattle.xp_board.specs.declared.step.StepKind.TheVariants as kinds
-use Rattle.xp_board.proofs.RefWords.{owned_fits, owned_says, read_small}
-use Rattle.xp_board.proofs.Numbers.{refs_there}
+use Rattle.xp_board.proofs.RefWords.{owned_says, read_small}
 use Rattle.xp_board.proofs.Sums.{when_eq, when_ne}
 use Rattle.step_maker.specs.Holds.{Holds, Same, still}
 use Rattle.step_maker.specs.Moves.{Moves}
@@ -79,18 +77,6 @@ unreturned owner (Some (Owned o true count)) off = inl (λ is. let k = subst (λ
 refusal_is : (n : Machine) (owner f w : ℕ) (b : Bool) → f < n.frames → is_own_allocated owner (ref_read w) ≡ b → return_refusal n owner f w ≡ (if b then None else Some (WrongOwner f w))
 refusal_is n owner f w b real is =
     ap (λ c. if c then (if is_own_allocated owner (ref_read w) then None else Some (WrongOwner f w)) else Some (NoFrame f)) (inside f n.frames real) ∙ ap (λ c. if c then None else Some (WrongOwner f w)) is
-
--- ---- an allocated word
-pub some_count : (w owner count : ℕ) (allocated : Bool) → ref_read w ≡ Some (Owned owner allocated count) → 1 ≤ count
-unfolding IsRef
-some_count w owner count allocated read = (ref_write-read w (Owned owner allocated count) (read_small w _ read) read).0.1
-
-pub within_limit : {v u : PortValue} {f word owner count : ℕ} {allocated : Bool} → Moves v u (Refs f) Load kinds.Look None word → f < v.post.machine.frames → ref_read word ≡ Some (Owned owner allocated count) →
-    count ≤ v.post.machine.limit
-unfolding IsSpelling
-within_limit {v} {u} {f} {word} {owner} {count} {allocated} look real read =
-    let spelled = subst (IsSpelling v.post.machine (Refs f)) look.finds.word (look.finds.sound.spelled.spelled (Refs f) (refs_there (sizes_of v.post.machine) f real)) in
-    (owned_fits v.post.machine owner count allocated (rw read at spelled)).1
 
 -- ---- the hand
 pub cleared_same : (v u w x : PortValue) (f owner : ℕ) → Same v u → Holds u w (took f owner u.holdings) → Holds w x (gave f w.holdings) → Same v x

@@ -14,6 +14,7 @@ use Rattle.step_maker.specs.Asked.{Request, of_block}
 use Rattle.step_maker.specs.Visits.{Does, Nothing}
 use Rattle.step_maker.proofs.Piecing.{serves_nothing}
 use Rattle.step_maker.proofs.Visiting.{does_as, does_nothing}
+use Rattle.step_maker.proofs.Resting.{still_rests}
 use Rattle.answer_laws.specs.Alone.{IsAlone}
 use Rattle.frame_claims.specs.Blocks.{given_deeds}
 use Rattle.frame_claims.specs.Claiming.{IsClaimStop, ServesClaim, ServesWhole, StopsClaim, TakesBlock}
@@ -21,10 +22,6 @@ use Rattle.frame_claims.specs.Found.{ClaimsBy}
 use Rattle.frame_claims.specs.Plain.{ClaimsPlainly}
 use Rattle.reservations.specs.declared.extents.Extent.TheVariants.{Increase, Populate}
 use Rattle.reservations.specs.Extents.{GivesBlock, IsPopulateStop, PopulatesBy, PopulatesPlainly, Reserves, high_refusal, too_high}
-
--- ---- the hand
-still_rests : (v w : PortValue) → Rests v → FlushedSame v w → Rests w
-still_rests v w rests same = search rules
 
 -- ---- the block, by its number
 first_of : (size first : ℕ) → first % size ≡ 0 → first ≡ first / size * size

@@ -1,7 +1,8 @@
 -- What the beginning of a turn leaves of the words, and a call that destroys no domain of their lives.
-use Rattle.std.proofs.Common.{◌≡◌, ◌≢◌, ℕ, Bool, true, false, List, [], ◌∷◌, None, Result, refl, sym, ap, ◌∙◌, subst, nat_lt}
+use Rattle.std.proofs.Common.{◌≡◌, ◌≢◌, ℕ, ◌<◌, IsTrue, Bool, true, false, List, [], ◌∷◌, None, Result, refl, sym, ap, ◌∙◌, subst, nat_lt, arith}
+use Rattle.std.proofs.lemmas.Bool.Decides.{nat_tests}
 use Rattle.xp_words.specs.Machine.{Machine}
-use Rattle.xp_words.specs.Places.{flushed_of}
+use Rattle.xp_words.specs.Places.{flushed_of, is_place, sizes_of}
 use Rattle.xp_words.specs.declared.place.Place.{Place}
 use Rattle.xp_words.specs.declared.place.Place.TheVariants.{Clock, Life}
 use Rattle.xp_words.specs.declared.reply.Refusal.{Refusal}
@@ -14,8 +15,8 @@ use Rattle.xp_board.specs.Steps.{is_same}
 use Rattle.xp_board.specs.Told.{Post, PortValue, is_telling, told_word}
 use Rattle.xp_board.proofs.PlaceTests.{same_place}
 use Rattle.step_maker.specs.Moves.{Met, Moment, MovesBy, Ran}
-use Rattle.step_maker.proofs.Coming.{came_post, moves_came}
-use Rattle.step_maker.proofs.Telling.{came_telling, leaves, load_tells, moves_telling, ran_telling, told_elsewhere}
+use Rattle.step_maker.proofs.Coming.{came_post, came_trans, moves_came}
+use Rattle.step_maker.proofs.Telling.{came_telling, leaves, load_tells, moves_telling, ran_telling, told_elsewhere, told_here}
 use Rattle.step_maker.specs.Answers.{Deed, Serves}
 use Rattle.step_maker.specs.Asked.{Request}
 use Rattle.step_maker.specs.Finding.{Finding}
@@ -24,6 +25,7 @@ use Rattle.flush_words.specs.Flushing.{FlushesOwn}
 use Rattle.flush_words.specs.Flushing as flushes
 use Rattle.tlb_walks.specs.Dropping.{Acks, Heeds}
 use Rattle.tlb_walks.proofs.Flushes.{acks_came}
+use Rattle.frame_ranks.specs.Ranks.{AreAllAlive}
 use Rattle.vcpu_turn.specs.Turning.{Begins}
 
 -- ---- a turn that begins changes the clock and the own flushed word, and no more
@@ -46,9 +48,21 @@ ack_leaves v w k telling q off away =
     heed_leaves (nat_lt k.asked k.flushed) k.b w k.heeds second q off (λ e. away (e ∙ ap (λ (p : Post). flushed_of p.vcpu) post))
     ∙ load_tells k.a k.b _ _ _ _ k.looked first q ∙ load_tells v k.a _ _ _ _ k.marked telling q
 
-pub begins_leaves : (v w : PortValue) → Begins v w → is_telling v ≡ true → (q : Place) → q ≢ Clock → q ≢ flushed_of v.post.vcpu → told_word w q ≡ told_word v q
-begins_leaves v w b telling q off away =
-    load_tells b.acked w _ _ _ _ b.running (came_telling v b.acked (acks_came v b.acked b.acks) ∙ telling) q ∙ ack_leaves v b.acked b.acks telling q off away
+pub begins_leaves : (v w : PortValue) (d run life : ℕ) → Begins v w d run life → is_telling v ≡ true → (q : Place) → q ≢ Clock → q ≢ flushed_of v.post.vcpu → told_word w q ≡ told_word v q
+begins_leaves v w d run life b telling q off away =
+    let first = came_telling v b.acked (acks_came v b.acked b.acks) ∙ telling in
+    load_tells b.looked w _ _ _ _ b.lives (moves_telling b.acked b.looked _ _ _ _ _ b.running ∙ first) q ∙ load_tells b.acked b.looked _ _ _ _ b.running first q ∙ ack_leaves v b.acked b.acks telling q off away
+
+-- where no domain is dying, the life word is found 0
+pub begins_alive : (v w : PortValue) (d run life : ℕ) → Begins v w d run life → is_telling v ≡ true → AreAllAlive v.post.machine (told_word v) → life ≡ 0
+unfolding left_by is_place
+begins_alive v w d run life b telling alive =
+    let acked = acks_came v b.acked b.acks in
+    let looked = came_trans v b.acked b.looked acked (moves_came b.acked b.looked _ _ _ _ _ b.running) in
+    let here : told_word w (Life d) ≡ life = told_here b.looked w _ _ _ _ _ b.lives (came_telling v b.looked looked ∙ telling) in
+    let there : IsTrue (is_place (sizes_of v.post.machine) (Life d)) = subst (λ (q : Post). IsTrue (is_place (sizes_of q.machine) (Life d))) (came_post v b.looked looked) b.lives.may.place in
+    let real : d < (sizes_of v.post.machine).domains = grind (arith, nat_tests) in
+    sym here ∙ begins_leaves v w d run life b telling (Life d) (λ same. absurd cc) (λ same. absurd cc) ∙ alive d real
 
 -- ---- a call that destroys no domain
 by_bool : {A : Type 0} (b : Bool) → (b ≡ true → A) → (b ≡ false → A) → A

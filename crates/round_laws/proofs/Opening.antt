@@ -1,10 +1,10 @@
 -- A machine at its opening, and behind so many rounds.
-use Rattle.std.proofs.Common.{◌≡◌, ℕ, ◌<◌, ◌≤◌, inl, inr, All, List, length, map, None, refl, sym, ◌∙◌, subst, slice_get, slice_index_or, arith}
+use Rattle.std.proofs.Common.{◌≡◌, ℕ, ◌<◌, ◌≤◌, inl, inr, All, List, [], ap, length, map, Some, None, refl, sym, ◌∙◌, subst, slice_get, slice_index_or, arith}
 use Rattle.std.specs.List.{enumerate_from}
-use Rattle.std.proofs.lemmas.List.{get_or-replicate, length-map, length-replicate}
+use Rattle.std.proofs.lemmas.List.{get_or-map, get_or-replicate, length-map, length-replicate}
 use Rattle.std.proofs.lemmas.List.Elements.{All-map}
-use Rattle.std.proofs.lemmas.List.FromFn.{length-enumerate_from}
-use Rattle.std.proofs.lemmas.Option.{slice_get-get_or, slice_get_cases}
+use Rattle.std.proofs.lemmas.List.FromFn.{get_or-enumerate_from, length-enumerate_from}
+use Rattle.std.proofs.lemmas.Option.{get_or_from_slice_get, slice_get-get_or, slice_get_cases, slice_get_within}
 use Rattle.xp_words.specs.Machine.{Machine}
 use Rattle.xp_words.specs.Places.{memory, sizes_of}
 use Rattle.xp_words.specs.declared.ops.Op.{Op}
@@ -24,9 +24,10 @@ use Rattle.vcpu_runners.specs.Cpus.{first_cpu, first_cpus}
 use Rattle.vcpu_runners.specs.Gates.{Gate}
 use Rattle.xp_machine.specs.Turns.{IsStagedTurn, Stage, Turns, more, none, stage}
 use Rattle.xp_machine.proofs.Reaching.{empty_idles, first_at}
+use Rattle.xp_machine.proofs.Starting.{length_first}
 use Rattle.turn_measures.proofs.Sizes.{begun_within}
 use Rattle.round_laws.specs.Rounds.{AreAllRetired, IsRound, rounds_to_go, turns_in_rounds}
-use Rattle.round_laws.specs.Stages.{IsSteady, IsSteadyCpu, words_of}
+use Rattle.round_laws.specs.Stages.{AreSparing, IsSteady, IsSteadyCpu, words_of}
 use Rattle.round_laws.proofs.Waiting.{retired_at}
 
 -- ---- laws of this crate
@@ -42,16 +43,23 @@ life_opens : (t : Trace) (d : ℕ) → opening_at t (Life d) ≡ 0
 unfolding opening_at
 life_opens t d = refl
 
-length_first : (n : Machine) (scripts : List (List Op)) → length (first_cpus n scripts) ≡ length scripts
+fresh_steady : (m : Words) (frames v domain : ℕ) (script : List Op) → AreSparing script → IsSteadyCpu m v (fresh frames v domain script)
+fresh_steady m frames v domain script sparing = record { within = begun_within (job_next (slice_get script 0)); left = tt; stopped = λ is. absurd cc; ended = λ is. absurd cc; spares = sparing }
+
+-- the scripts of a trace are those of its vCPUs
+script_sparing : (n : Machine) (scripts : List (List Op)) (v : ℕ) (c : Processing) → All AreSparing scripts → slice_get (first_cpus n scripts) v ≡ Some c → AreSparing c.script
 unfolding first_cpus
-length_first n scripts = length-map (enumerate_from 0 scripts) (first_cpu n) ∙ length-enumerate_from 0 scripts
+script_sparing n scripts v c sparing at =
+    let numbered = enumerate_from 0 scripts in
+    let none : ℕ × List Op = (0, []) in
+    let within : v < length numbered = subst (λ k. v < k) (length-map numbered (first_cpu n)) (slice_get_within (map (first_cpu n) numbered) v c at) in
+    let there : v < length scripts = subst (λ k. v < k) (length-enumerate_from 0 scripts) within in
+    let is = sym (get_or_from_slice_get (map (first_cpu n) numbered) v c (first_cpu n none) at) ∙ get_or-map (first_cpu n) numbered v none (first_cpu n none) within ∙ ap (first_cpu n) (get_or-enumerate_from 0 scripts v none there) in
+    subst (λ (x : Processing). AreSparing x.script) (sym is) (sparing v [] there)
 
-fresh_steady : (m : Words) (v domain : ℕ) (script : List Op) → IsSteadyCpu m v (fresh v domain script)
-fresh_steady m v domain script = record { within = begun_within (job_next (slice_get script 0)); left = tt; stopped = λ is. absurd cc; ended = λ is. absurd cc }
-
-pub steady_opening : (t : Trace) (opened : List ℕ) (gates : List Gate) → IsWellFormed t → SoundWords t.layout opened → IsOpening t opened →
+pub steady_opening : (t : Trace) (opened : List ℕ) (gates : List Gate) → IsWellFormed t → All AreSparing t.scripts → SoundWords t.layout opened → IsOpening t opened →
     IsSteady t.layout (stage (opened_story t.layout opened) (first_cpus t.layout t.scripts) gates)
-steady_opening t opened gates well sound opening =
+steady_opening t opened gates well sparing sound opening =
     record {
       machine = well.machine;
       state = start_sound t.layout opened sound;
@@ -60,7 +68,7 @@ steady_opening t opened gates well sound opening =
       all = length_first t.layout t.scripts ∙ well.scripts;
       each = λ v c at.
           (let first = first_at t.layout t.scripts v c at in
-          subst (IsSteadyCpu (memory (sizes_of t.layout) opened) v) (sym first.1) (fresh_steady (memory (sizes_of t.layout) opened) v (domain_of t.layout v) first.0));
+          subst (IsSteadyCpu (memory (sizes_of t.layout) opened) v) (sym first.1) (fresh_steady (memory (sizes_of t.layout) opened) t.layout.frames v (domain_of t.layout v) first.0 (subst (λ (x : Processing). AreSparing x.script) first.1 (script_sparing t.layout t.scripts v c sparing at))));
       alive = λ d real. opening.places (Life d) (life_there (sizes_of t.layout) d real) ∙ life_opens t d;
     }
 

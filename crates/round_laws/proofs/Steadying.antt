@@ -6,6 +6,7 @@ use Rattle.std.proofs.lemmas.List.{get_or-set_other}
 use Rattle.std.proofs.lemmas.Option.{get_or_from_slice_get, same_Some, slice_get-get_or, slice_get_within}
 use Rattle.xp_words.specs.Machine.{Machine}
 use Rattle.xp_words.specs.Places.{sizes_of}
+use Rattle.xp_words.specs.declared.ops.Op.{Op}
 use Rattle.xp_words.specs.declared.place.Place.TheVariants.{Clock}
 use Rattle.xp_board.specs.Hands.{IsEmptyHand}
 use Rattle.xp_board.specs.Readings.{kind_at}
@@ -15,18 +16,19 @@ use Rattle.step_maker.specs.Moves.{Came}
 use Rattle.step_maker.specs.Plain.{Words}
 use Rattle.answer_laws.specs.Alone.{IsAlone}
 use Rattle.course_laws.specs.Courses.{IsOrderly}
-use Rattle.vcpu_turn.specs.Cpus.{Processing}
+use Rattle.vcpu_turn.specs.Cpus.{Processing, job_next, next_of}
 use Rattle.vcpu_turn.specs.Unhindered.{IsUnhindered}
 use Rattle.vcpu_turn.proofs.TurnSteps.{turn_came}
+use Rattle.turn_measures.proofs.Ahead.{turn_script}
 use Rattle.frame_ranks.specs.Ranks.{AreAllAlive, rank_at}
-use Rattle.turn_measures.specs.Measures.{KeepsLeft}
+use Rattle.turn_measures.specs.Measures.{DestroysNothing, KeepsLeft}
 use Rattle.xp_machine.specs.Turns.{ByCpu, IsStagedTurn, MakesStagedTurn, Stage, UnlessRetired}
 use Rattle.round_laws.specs.Rounds.{AwaitsFlush}
-use Rattle.round_laws.specs.Stages.{IsSteady, IsSteadyCpu, to_go, words_of}
+use Rattle.round_laws.specs.Stages.{AreSparing, IsSparing, IsSteady, IsSteadyCpu, to_go, words_of}
 use Rattle.round_laws.proofs.Cited.{TurnLaws}
 use Rattle.round_laws.proofs.Counting.{number_falls, rank_most}
 use Rattle.round_laws.proofs.Lessening.{TurnLeaves, kept_as}
-use Rattle.round_laws.proofs.Turned.{leaves}
+use Rattle.round_laws.proofs.Turned.{leaves, unhindered_by}
 
 -- ---- whose turn it is
 pub record HasTurn (DoesNext : Processing → Stage → Stage → Type 0) (v : ℕ) (s s' : Stage) : Type 0 where
@@ -66,6 +68,14 @@ set_at cpus v t d x within at =
       | inr off ↦ inr (off, slice_get-get_or cpus t x there ∙ ap (λ y. Some y) (sym (get_or-set_other cpus v t d x off) ∙ is))
     ]
 
+-- ---- no operation of a script destroys a domain
+next_sparing : (c : Processing) → AreSparing c.script → DestroysNothing (next_of c)
+next_sparing c spares = by_next (next_of c) refl
+  where
+    by_next : (o : Option Op) → next_of c ≡ o → DestroysNothing (next_of c)
+    by_next None at = subst DestroysNothing (sym at) tt
+    by_next (Some op) at = subst DestroysNothing (sym at) (subst IsSparing (get_or_from_slice_get c.script c.answered op op at) (spares c.answered op (slice_get_within c.script c.answered op at)))
+
 -- ---- a turn from a steady stage
 module _ (laws : TurnLaws) (n : Machine) (v : ℕ) (c : Processing) (s s' : Stage) (steady : IsSteady n s) (here : slice_get s.cpus v ≡ Some c) (works : c.retired ≡ false) (m : MakesStagedTurn n v c s s') where
   pub from_words : told_word m.from ≡ words_of n s
@@ -100,6 +110,9 @@ module _ (laws : TurnLaws) (n : Machine) (v : ℕ) (c : Processing) (s s' : Stag
       let orderly : IsOrderly n (words_of n s') = subst (λ (x : Machine × Words). IsOrderly x.0 x.1) (λ i. (m.to_is.machine i, to_words i)) (laws.orderly m.to alone_to) in
       rank_most (kind_at (words_of n s') f) (orderly.spelled f real)
 
+  sparing : DestroysNothing (next_of c)
+  sparing = next_sparing c (steady.each v c here).spares
+
   pub plain : TurnLeaves n v c m.after m.end (words_of n s) (words_of n s')
   plain =
       let at : IsSteadyCpu (words_of n s) v c = steady.each v c here in
@@ -107,7 +120,7 @@ module _ (laws : TurnLaws) (n : Machine) (v : ℕ) (c : Processing) (s s' : Stag
       (leaves laws c m.after m.end m.from m.to m.answers alone_from works at.within
       (subst (λ (x : ℕ × Words). KeepsLeft x.1 x.0 c.left) (λ i. (sym m.from_is.vcpu_is i, sym from_words i)) at.left)
       (subst (λ (x : Machine × Words). AreAllAlive x.0 x.1) (λ i. (sym m.from_is.machine i, sym from_words i)) steady.alive)
-      (subst (λ k. IsUnhindered k m.end) (sym m.from_is.machine) m.unhindered) m.turn)
+      sparing (subst (λ k. IsUnhindered k m.end) (sym m.from_is.machine) (unhindered_by n (job_next (next_of c)) m.end sparing m.unhindered)) m.turn)
 
   within : v < length s.cpus
   within = slice_get_within s.cpus v c here
@@ -117,7 +130,7 @@ module _ (laws : TurnLaws) (n : Machine) (v : ℕ) (c : Processing) (s s' : Stag
       elim (set_at s.cpus v t m.after x within (subst (λ xs. slice_get xs t ≡ Some x) m.cpus at)) [
         | inl own ↦
             subst (λ (y : ℕ × Processing). IsSteadyCpu (words_of n s') y.0 y.1) (λ i. (sym own.0 i, sym own.1 i))
-            (record { within = plain.within; left = plain.left; stopped = plain.stopped; ended = plain.ended })
+            (record { within = plain.within; left = plain.left; stopped = plain.stopped; ended = plain.ended; spares = subst AreSparing (sym (turn_script c m.after m.end m.from m.to m.answers m.turn)) (steady.each v c here).spares })
         | inr other ↦
             (let old : IsSteadyCpu (words_of n s) t x = steady.each t x other.1 in
             record {
@@ -125,6 +138,7 @@ module _ (laws : TurnLaws) (n : Machine) (v : ℕ) (c : Processing) (s s' : Stag
               left = kept_as (words_of n s) (words_of n s') t x.left (plain.others.words t 2 other.0 (λ same. absurd (omega arith))) old.left;
               stopped = λ is none. old.stopped is (sym (plain.others.words t 6 other.0 (λ same. absurd (omega arith))) ∙ none);
               ended = old.ended;
+              spares = old.spares;
             })
       ]
 

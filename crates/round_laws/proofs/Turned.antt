@@ -1,6 +1,7 @@
 -- What a turn of a vCPU that is alone leaves of its own, and how much less is to be done then.
 use Rattle.std.proofs.Common.{◌≡◌, ◌≢◌, ℕ, ◌+◌, ◌<◌, ◌≤◌, inl, inr, Bool, true, false, List, is_some, Option, Some, None, Ok, refl, sym, ap, ◌∙◌, subst, arith}
 use Rattle.std.proofs.lemmas.Bool.{cases_eq}
+use Rattle.xp_words.specs.Machine.{Machine}
 use Rattle.xp_words.specs.Places.{flushed_of, run_of}
 use Rattle.xp_words.specs.declared.ops.Op.{Op}
 use Rattle.xp_words.specs.declared.place.Place.{Place}
@@ -16,20 +17,41 @@ use Rattle.answer_laws.specs.Alone.{IsAlone}
 use Rattle.level_release.specs.Asking.{of_settle}
 use Rattle.level_release.specs.Course.{left_settled}
 use Rattle.table_words.specs.declared.old_words.OldWord.TheVariants.{First, Second}
-use Rattle.vcpu_turn.specs.Cpus.{Processing, next_of, nothing_left}
+use Rattle.vcpu_turn.specs.Cpus.{Job, OfCalls, OfDestroy, OfOne, Processing, job_next, next_of, nothing_left}
 use Rattle.vcpu_turn.specs.Settling.{Settles}
 use Rattle.vcpu_turn.specs.Turning as turning
-use Rattle.vcpu_turn.specs.Turning.{DoesNext, DoesTurn, EndsTurn, GoesOnWith, IsStop, IsTurn}
+use Rattle.vcpu_turn.specs.Turning.{DoesNext, DoesTurn, EndsTurn, GoesBy, GoesOnWith, IsStop, IsTurn}
 use Rattle.vcpu_turn.specs.declared.cpu.TurnEnd.{TurnEnd}
 use Rattle.vcpu_turn.specs.declared.cpu.TurnEnd.TheVariants as ends
 use Rattle.vcpu_turn.proofs.Turns.{begins_came}
-use Rattle.vcpu_turn.specs.Unhindered.{IsUnhindered}
+use Rattle.vcpu_turn.specs.Unhindered.{IsSparedBy, IsSparedIn, IsUnhindered}
 use Rattle.vcpu_turn.proofs.Hindering.{settles_came}
 use Rattle.frame_ranks.specs.Ranks.{AreAllAlive, GetsFurther, GoesForward, rank_at}
-use Rattle.turn_measures.specs.Measures.{IsWithin, KeepsLeft, StaysAt, ahead, bit_named, olds_named}
-use Rattle.round_laws.proofs.Beginning.{begins_leaves, serves_leaves}
+use Rattle.turn_measures.specs.Measures.{DestroysNothing, IsSparingJob, IsWithin, KeepsLeft, StaysAt, ahead, bit_named, olds_named}
+use Rattle.round_laws.proofs.Beginning.{begins_alive, begins_leaves, serves_leaves}
 use Rattle.round_laws.proofs.Cited.{TurnLaws}
 use Rattle.round_laws.proofs.Lessening.{Less, by_ahead, by_left, by_olds, by_ranks, TurnLeaves, after_retired, next_left, none_kept, kept_as, apart, less_as, goes_or_waits}
+
+-- ---- the domain lives
+-- the turn works on the next operation, or on what was left
+abbrev IsAtWork : {c : Processing} {o : Option Op} {v : PortValue} {d : Processing} {w : PortValue} {answers : List Bool} {end : TurnEnd} → DoesTurn c o v d w answers end → Type 0
+IsAtWork (turning.dying life w d end dead dies) = ⊥
+IsAtWork does = Unit {0}
+
+at_work : {c : Processing} {o : Option Op} {v : PortValue} {d : Processing} {w : PortValue} {answers : List Bool} {end : TurnEnd} (run : ℕ) (does : DoesTurn c o v d w answers end) → GoesBy does run 0 → IsAtWork does
+at_work run (turning.unsettled w answers p settles) goes = tt
+at_work run (turning.settled u w d early answers end settles does) goes = tt
+at_work run (turning.dying life w d end dead dies) goes = dead goes
+
+spared_by : (n : Machine) (job : Job) (end : TurnEnd) → IsSparingJob job → IsUnhindered n end → IsSparedBy n job end
+spared_by n (OfOne task) end sparing free = free
+spared_by n (OfCalls calls) end sparing free = free
+spared_by n (OfDestroy domain) end sparing free = absurd sparing
+
+pub unhindered_by : (n : Machine) (job : Job) (end : TurnEnd) → IsSparingJob job → IsSparedBy n job end → IsUnhindered n end
+unhindered_by n (OfOne task) end sparing free = free
+unhindered_by n (OfCalls calls) end sparing free = free
+unhindered_by n (OfDestroy domain) end sparing free = absurd sparing
 
 -- ---- behind the beginning of the turn
 module _ (laws : TurnLaws) (c : Processing) (b : PortValue) (alone : IsAlone b) (works : c.retired ≡ false) (keeps : KeepsLeft (told_word b) b.post.vcpu c.left) where
@@ -50,23 +72,25 @@ module _ (laws : TurnLaws) (c : Processing) (b : PortValue) (alone : IsAlone b) 
       let here : told_word w (run_of b.post.vcpu) ≡ 1 = subst (λ (q : Post). told_word w (run_of q.vcpu) ≡ 1) (came_post b x came') one in
       (λ zero. absurd (omega arith), ap next_of does.cpu ∙ sym is)
 
-  retires : (o : Option Op) (d : Processing) (x : PortValue) (answers : List Bool) (end : TurnEnd) → o ≡ next_of c → DoesTurn c o b d x answers end → (w : PortValue) → EndsTurn end x w →
+  retires : (o : Option Op) (d : Processing) (x : PortValue) (answers : List Bool) (end : TurnEnd) → o ≡ next_of c → (does : DoesTurn c o b d x answers end) → IsAtWork does → (w : PortValue) → EndsTurn end x w →
       d.retired ≡ true → (told_word w (run_of b.post.vcpu) ≢ 0) × (next_of d ≡ None)
-  retires o _ _ _ _ is (turning.unsettled x answers p settles) w finish retired = absurd cc
-  retires o _ _ _ _ is (turning.settled u x d early answers end settles does) w finish retired =
+  retires o _ _ _ _ is (turning.unsettled x answers p settles) goes w finish retired = absurd cc
+  retires o _ _ _ _ is (turning.settled u x d early answers end settles does) goes w finish retired =
       next_retires o d u x answers end is (settles_came b u early (Ok tt) settles) does w finish retired
+  retires o _ _ _ _ is (turning.dying life x d end dead dies) goes w finish retired = absurd goes
 
   -- what is left is named
-  keeps_behind : (o : Option Op) (d : Processing) (x : PortValue) (answers : List Bool) (end : TurnEnd) → IsUnhindered b.post.machine end → DoesTurn c o b d x answers end → (w : PortValue) → EndsTurn end x w →
+  keeps_behind : (o : Option Op) (d : Processing) (x : PortValue) (answers : List Bool) (end : TurnEnd) → IsUnhindered b.post.machine end → (does : DoesTurn c o b d x answers end) → IsAtWork does → (w : PortValue) → EndsTurn end x w →
       KeepsLeft (told_word w) b.post.vcpu d.left
-  keeps_behind o _ _ _ _ free (turning.unsettled x answers p settles) w finish =
+  keeps_behind o _ _ _ _ free (turning.unsettled x answers p settles) goes w finish =
       subst (λ y. KeepsLeft (told_word y) b.post.vcpu (left_settled settles.course)) (sym finish) (laws.keeps c.left b x answers p alone free keeps settles)
-  keeps_behind o _ _ _ _ free (turning.settled u x d early answers end settles does) w finish =
+  keeps_behind o _ _ _ _ free (turning.settled u x d early answers end settles does) goes w finish =
       subst (λ k. KeepsLeft (told_word w) b.post.vcpu k) (sym (next_left c o d u x answers end does)) tt
+  keeps_behind o _ _ _ _ free (turning.dying life x d end dead dies) goes w finish = absurd goes
 
   module _ (alive : AreAllAlive b.post.machine (told_word b)) where
     -- one that was paused within an element, behind a settling that came to its end
-    module _ (u w : PortValue) (early later : List Bool) (settles : Settles c.left b u early (Ok tt)) (d : Processing) (op : Op) (p : Pause) (free : IsUnhindered b.post.machine (ends.Paused p))
+    module _ (u w : PortValue) (early later : List Bool) (settles : Settles c.left b u early (Ok tt)) (d : Processing) (op : Op) (p : Pause) (sparing : DestroysNothing (Some op)) (free : IsUnhindered b.post.machine (ends.Paused p))
         (does : GoesOnWith (nothing_left c) op d u w later (ends.Paused p)) (same : ahead d ≡ ahead c) (call : d.at.call ≡ c.at.call) (done : d.at.done ≡ c.at.done) where
       came : Came b u
       came = settles_came b u early (Ok tt) settles
@@ -89,7 +113,7 @@ module _ (laws : TurnLaws) (c : Processing) (b : PortValue) (alone : IsAlone b) 
           (λ k real. serves_leaves b u (of_settle {A = Unit {0}} 0 0 (Ok tt)) _ k refl telling (settles.serves 0 0) ∙ alive k real)
 
       forward : GoesForward u.post.machine (told_word u) (told_word w)
-      forward = laws.forward (nothing_left c) d op u w later p alone_then alive_then none_own (subst (λ (q : Post). IsUnhindered q.machine (ends.Paused p)) (sym post) free) does call done
+      forward = laws.forward (nothing_left c) d op u w later p alone_then sparing alive_then none_own (subst (λ (q : Post). IsUnhindered q.machine (ends.Paused p)) (sym post) free) does call done
 
       none_behind : olds_named (told_word w) b.post.vcpu ≡ 0
       none_behind = (λ i. bit_named (forward.olds b.post.vcpu First i) + bit_named (forward.olds b.post.vcpu Second i)) ∙ none_then
@@ -104,7 +128,7 @@ module _ (laws : TurnLaws) (c : Processing) (b : PortValue) (alone : IsAlone b) 
         further : p ≡ Due → GetsFurther b.post.machine (told_word b) (told_word w)
         further due =
             let more : GetsFurther u.post.machine (told_word u) (told_word w) =
-            laws.further (nothing_left c) d op u w later alone_then alive_then none_own (subst (λ y. GoesOnWith (nothing_left c) op d u w later (ends.Paused y)) due does) call done in
+            laws.further (nothing_left c) d op u w later alone_then sparing alive_then none_own (subst (λ y. GoesOnWith (nothing_left c) op d u w later (ends.Paused y)) due does) call done in
             record {
               frame = more.frame;
               real = subst (λ (q : Post). more.frame < q.machine.frames) post more.real;
@@ -121,33 +145,34 @@ module _ (laws : TurnLaws) (c : Processing) (b : PortValue) (alone : IsAlone b) 
             | inr some ↦ by_olds same (let none = none_behind in omega arith)
           ]
 
-    next_stays : (o : Option Op) (d : Processing) (u x : PortValue) (early later : List Bool) (end : TurnEnd) → Settles c.left b u early (Ok tt) → DoesNext (nothing_left c) o d u x later end → IsUnhindered b.post.machine end →
+    next_stays : (o : Option Op) (d : Processing) (u x : PortValue) (early later : List Bool) (end : TurnEnd) → Settles c.left b u early (Ok tt) → DoesNext (nothing_left c) o d u x later end → DestroysNothing o → IsUnhindered b.post.machine end →
         (w : PortValue) → EndsTurn end x w → StaysAt c d end → Less b.post.machine b.post.vcpu c d end (told_word b) (told_word w)
-    next_stays None d u x early later end settles does free w finish stays =
+    next_stays None d u x early later end settles does sparing free w finish stays =
         let is = does.end_is in
         let paused = stays.end_is in
         absurd cc
-    next_stays (Some op) d u x early later end settles does free w finish stays =
+    next_stays (Some op) d u x early later end settles does sparing free w finish stays =
         let p = stays.pause in
         let is = stays.end_is in
         let same : w ≡ x = subst (λ e. EndsTurn e x w) is finish in
         subst (λ e. Less b.post.machine b.post.vcpu c d e (told_word b) (told_word w)) (sym is)
-        (paused_less u w early later settles d op p (subst (IsUnhindered b.post.machine) is free)
+        (paused_less u w early later settles d op p sparing (subst (IsUnhindered b.post.machine) is free)
         (subst (λ y. GoesOnWith (nothing_left c) op d u y later (ends.Paused p)) (sym same) (subst (λ e. GoesOnWith (nothing_left c) op d u x later e) is does)) stays.ahead stays.call stays.done)
 
-    stays_less : (o : Option Op) (d : Processing) (x : PortValue) (answers : List Bool) (end : TurnEnd) → DoesTurn c o b d x answers end → IsUnhindered b.post.machine end → (w : PortValue) → EndsTurn end x w → StaysAt c d end →
+    stays_less : (o : Option Op) (d : Processing) (x : PortValue) (answers : List Bool) (end : TurnEnd) → (does : DoesTurn c o b d x answers end) → IsAtWork does → DestroysNothing o → IsUnhindered b.post.machine end → (w : PortValue) → EndsTurn end x w → StaysAt c d end →
         Less b.post.machine b.post.vcpu c d end (told_word b) (told_word w)
-    stays_less o _ _ _ _ (turning.unsettled x answers p settles) free w finish stays =
+    stays_less o _ _ _ _ (turning.unsettled x answers p settles) goes sparing free w finish stays =
         subst (λ y. Less b.post.machine b.post.vcpu c (record c { left = left_settled settles.course }) (ends.Paused p) (told_word b) (told_word y)) (sym finish)
         (elim (laws.less c.left b x answers p alone free keeps settles) [
           | inl falls ↦ by_olds stays.ahead falls
           | inr same ↦ by_left stays.ahead same.0 same.1
         ])
-    stays_less o _ _ _ _ (turning.settled u x d early answers end settles does) free w finish stays = next_stays o d u x early answers end settles does free w finish stays
+    stays_less o _ _ _ _ (turning.settled u x d early answers end settles does) goes sparing free w finish stays = next_stays o d u x early answers end settles does sparing free w finish stays
+    stays_less o _ _ _ _ (turning.dying life x d end dead dies) goes sparing free w finish stays = absurd goes
 
 -- ---- all of it
 module _ (laws : TurnLaws) (c d : Processing) (end : TurnEnd) (v w : PortValue) (answers : List Bool) (alone : IsAlone v) (works : c.retired ≡ false) (within : IsWithin c) (keeps : KeepsLeft (told_word v) v.post.vcpu c.left)
-    (alive : AreAllAlive v.post.machine (told_word v)) (free : IsUnhindered v.post.machine end) (turn : IsTurn c d end v w answers) where
+    (alive : AreAllAlive v.post.machine (told_word v)) (sparing : DestroysNothing (next_of c)) (free : IsUnhindered v.post.machine end) (turn : IsTurn c d end v w answers) where
   begun : Came v turn.begun
   begun = begins_came v turn.begun turn.begins
 
@@ -158,7 +183,13 @@ module _ (laws : TurnLaws) (c d : Processing) (end : TurnEnd) (v w : PortValue) 
   alone_begun = laws.stays v turn.begun alone begun
 
   kept : (q : Place) → q ≢ Clock → q ≢ flushed_of v.post.vcpu → told_word turn.begun q ≡ told_word v q
-  kept = begins_leaves v turn.begun turn.begins (ap is_some alone.telling)
+  kept = begins_leaves v turn.begun c.domain turn.run turn.life turn.begins (ap is_some alone.telling)
+
+  goes : IsAtWork turn.does
+  goes = at_work turn.run turn.does (subst (GoesBy turn.does turn.run) (begins_alive v turn.begun c.domain turn.run turn.life turn.begins (ap is_some alone.telling) alive) turn.goes)
+
+  spared : IsSparedIn v.post.machine (next_of c) end
+  spared = spared_by v.post.machine (job_next (next_of c)) end sparing free
 
   kept_old : (k : ℕ) → k < 5 → told_word turn.begun (Vcpu v.post.vcpu k) ≡ told_word v (Vcpu v.post.vcpu k)
   kept_old k low = kept (Vcpu v.post.vcpu k) (apart (Vcpu v.post.vcpu k) Clock (λ same. absurd (omega arith))) (apart (Vcpu v.post.vcpu k) (flushed_of v.post.vcpu) (λ same. absurd (omega arith)))
@@ -184,25 +215,25 @@ module _ (laws : TurnLaws) (c d : Processing) (end : TurnEnd) (v w : PortValue) 
 
   less : Less v.post.machine v.post.vcpu c d end (told_word v) (told_word w)
   less =
-      elim (laws.gets c d end v w answers within works free turn) [
+      elim (laws.gets c d end v w answers within works spared turn) [
         | inl falls ↦ by_ahead falls
         | inr stays ↦
             less_as v.post.machine v.post.vcpu c d end (told_word v) (told_word turn.begun) (told_word w) olds_begun ranks_begun
             (subst (λ (q : Post). Less q.machine q.vcpu c d end (told_word turn.begun) (told_word w)) at_begun
-            (stays_less laws c turn.begun alone_begun works keeps_begun alive_begun (next_of c) d turn.worked answers end turn.does free_begun w turn.ends stays))
+            (stays_less laws c turn.begun alone_begun works keeps_begun alive_begun (next_of c) d turn.worked answers end turn.does goes sparing free_begun w turn.ends stays))
       ]
 
   retired : d.retired ≡ true → (told_word w (run_of v.post.vcpu) ≢ 0) × (next_of d ≡ None)
   retired is =
       subst (λ (q : Post). (told_word w (run_of q.vcpu) ≢ 0) × (next_of d ≡ None)) at_begun
-      (retires laws c turn.begun alone_begun works keeps_begun (next_of c) d turn.worked answers end refl turn.does w turn.ends is)
+      (retires laws c turn.begun alone_begun works keeps_begun (next_of c) d turn.worked answers end refl turn.does goes w turn.ends is)
 
   pub leaves : TurnLeaves v.post.machine v.post.vcpu c d end (told_word v) (told_word w)
   leaves =
       record {
-        others = laws.others c d end v w answers alone turn;
-        within = laws.within c d end v w answers within works free turn;
-        left = subst (λ (q : Post). KeepsLeft (told_word w) q.vcpu d.left) at_begun (keeps_behind laws c turn.begun alone_begun works keeps_begun (next_of c) d turn.worked answers end free_begun turn.does w turn.ends);
+        others = laws.others c d end v w answers alone sparing turn;
+        within = laws.within c d end v w answers within works spared turn;
+        left = subst (λ (q : Post). KeepsLeft (told_word w) q.vcpu d.left) at_begun (keeps_behind laws c turn.begun alone_begun works keeps_begun (next_of c) d turn.worked answers end free_begun turn.does goes w turn.ends);
         stopped = λ is. (retired is).0;
         ended = λ is. (retired is).1;
         less = less;

@@ -1,15 +1,16 @@
 -- Boards and their vCPUs between turns, and how much is to be done there.
-use Rattle.std.specs.Prelude.{◌≡◌, ◌≢◌, ℕ, ◌+◌, ◌-◌, ◌*◌, ◌<◌, true, length, slice_get, sum_by, None, Some}
+use Rattle.std.specs.Prelude.{◌≡◌, ◌≢◌, ℕ, ◌+◌, ◌-◌, ◌*◌, ◌<◌, All, List, true, length, slice_get, sum_by, None, Some}
 use Rattle.std.specs.List.{range_with_len}
 use Rattle.xp_words.specs.Machine.{IsMachine, Machine}
 use Rattle.xp_words.specs.Places.{memory, run_of, sizes_of}
+use Rattle.xp_words.specs.declared.ops.Op.{Op}
 use Rattle.xp_words.specs.declared.place.Place.TheVariants.{Clock}
 use Rattle.xp_board.specs.Hands.{IsEmptyHand}
 use Rattle.xp_board.specs.Readings.{last_clock}
 use Rattle.xp_board.specs.Sound.{SoundState, hand_of}
 use Rattle.step_maker.specs.Plain.{Words}
 use Rattle.frame_ranks.specs.Ranks.{AreAllAlive, rank_at}
-use Rattle.turn_measures.specs.Measures.{IsWithin, KeepsLeft, ahead, left_rank, most_left, olds_named}
+use Rattle.turn_measures.specs.Measures.{DestroysNothing, IsWithin, KeepsLeft, ahead, left_rank, most_left, olds_named}
 use Rattle.vcpu_turn.specs.Cpus.{Processing, next_of}
 use Rattle.xp_machine.specs.Turns.{Stage}
 
@@ -17,12 +18,21 @@ abbrev pub words_of : Machine → Stage → Words
 words_of n s = memory (sizes_of n) s.board.words
 
 -- ---- between turns
+abbrev pub IsSparing : Op → Type 0
+IsSparing op = DestroysNothing (Some op)
+
+-- a script without destructions
+abbrev pub AreSparing : List Op → Type 0
+AreSparing script = All IsSparing script
+
 -- No more elements and calls of its operation are done than there are; what is left is of a frame that its first old word names; and a vCPU that is retired does not run, and has answered all.
 pub record IsSteadyCpu (m : Words) (t : ℕ) (c : Processing) : Type 0 where
   pub within : IsWithin c
   pub left : KeepsLeft m t c.left
   pub stopped : c.retired ≡ true → m (run_of t) ≢ 0
   pub ended : c.retired ≡ true → next_of c ≡ None
+  -- no operation of its script destroys a domain
+  pub spares : AreSparing c.script
 
 -- The words are sound, nobody has anything in hand, and no domain is dying.
 pub record IsSteady (n : Machine) (s : Stage) : Type 0 where

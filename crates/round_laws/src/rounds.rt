@@ -14,7 +14,7 @@ ghost use Rattle.xp_machine.specs.Ran.{RanTrace, first_gates};
 ghost use Rattle.xp_machine.specs.Turns.{Stage, Turns, stage};
 ghost use Rattle.vcpu_runners.specs.Gates.{Gate};
 ghost use Rattle.round_laws.specs.Rounds.{AreAllRetired, IsRound, rounds_to_go, turns_in_rounds};
-ghost use Rattle.round_laws.specs.Stages.{IsSteady, words_of};
+ghost use Rattle.round_laws.specs.Stages.{AreSparing, IsSteady, words_of};
 
 use crate::turns::a_turn_leaves_less_to_do;
 use answer_laws::alone_stays;
@@ -41,9 +41,9 @@ pub fn all_retire_in_rounds()
     a_turn_answers_its_ask();
 }
 
-/// A machine opens so.
+/// A machine opens so, where no script destroys a domain.
 pub fn an_opening_is_steady()
-    ensures { (t : Trace) (opened : List ℕ) (gates : List Gate) → IsWellFormed t → IsOpening t opened → IsSteady t.layout (stage (opened_story t.layout opened) (first_cpus t.layout t.scripts) gates) }
+    ensures { (t : Trace) (opened : List ℕ) (gates : List Gate) → IsWellFormed t → All AreSparing t.scripts → IsOpening t opened → IsSteady t.layout (stage (opened_story t.layout opened) (first_cpus t.layout t.scripts) gates) }
 {
     opening_words_are_sound();
 }

@@ -105,6 +105,33 @@ fn put_operation(text: &mut String, random: &mut Pcg32) -> Result<(), AllocError
     }
 }
 
+// What the tables hold as the machine opens.
+fn put_tables(text: &mut String, random: &mut Pcg32) -> Result<(), AllocError> {
+    for level in 1..5 {
+        for table in 0..10 {
+            for index in 0..4 {
+                let word = entry(random, level);
+                if is_meant(level, table) {
+                    write!(text, "cell {} {} 1 {}\n", table, index, word)?;
+                }
+            }
+        }
+    }
+    Ok(())
+}
+
+// The scripts of all four, the first of which has that number.
+fn put_scripts(text: &mut String, random: &mut Pcg32, first: u32) -> Result<(), AllocError> {
+    for _ in 0..OPERATIONS {
+        for vcpu in 0..VCPUS {
+            write!(text, "op {} ", vcpu.saturating_add(first))?;
+            put_operation(text, random)?;
+            text.push_str("\n")?;
+        }
+    }
+    Ok(())
+}
+
 /// The trace of that number.
 pub fn random_trace(alloc: Global, number: u64) -> Result<String, AllocError> {
     let mut random = Pcg32::new(number, 0);
@@ -114,24 +141,34 @@ pub fn random_trace(alloc: Global, number: u64) -> Result<String, AllocError> {
         text.push_str("vcpu 0\n")?;
     }
     text.push_str("own 0 0 16\n")?;
-    for level in 1..5 {
-        for table in 0..10 {
-            for index in 0..4 {
-                let word = entry(&mut random, level);
-                if is_meant(level, table) {
-                    write!(text, "cell {} {} 1 {}\n", table, index, word)?;
-                }
-            }
-        }
-    }
-    for _ in 0..OPERATIONS {
-        for vcpu in 0..VCPUS {
-            write!(text, "op {} ", vcpu)?;
-            put_operation(&mut text, &mut random)?;
-            text.push_str("\n")?;
-        }
-    }
+    put_tables(&mut text, &mut random)?;
+    put_scripts(&mut text, &mut random, 0)?;
     text.push_str("end\n")?;
+    Ok(text)
+}
+
+/// The same with another domain, 0, of which one vCPU maps some of their frames in its own table, frame 16, and then destroys their domain, 1.
+pub fn random_destruction(alloc: Global, number: u64) -> Result<String, AllocError> {
+    let mut random = Pcg32::new(number, 1);
+    let mut text = String::new(alloc);
+    text.push_str("xen-pv-trace 1\nframes 20\ndomain 4\ndomain 16\npriv 0 1\nvcpu 0\n")?;
+    for _ in 0..VCPUS {
+        text.push_str("vcpu 1\n")?;
+    }
+    text.push_str("own 0 16 2\nown 1 0 16\n")?;
+    put_tables(&mut text, &mut random)?;
+    put_scripts(&mut text, &mut random, 1)?;
+    text.push_str("op 0 ext 0 16 0\n")?;
+    for index in 0..4_u8 {
+        let frame = u64::from(random.next_u32() % 16);
+        write!(
+            text,
+            "op 0 mmu 1 {} {}\n",
+            65536 + 8 * u64::from(index),
+            frame * 4096 + 1
+        )?;
+    }
+    text.push_str("op 0 destroy 1\nop 0 mmu 0x7ff0 65536 0\nend\n")?;
     Ok(text)
 }
 

@@ -1,6 +1,6 @@
 //! Whole traces in threads, from the text to the report.
 use crate::audit::{counts_agree, live_tables};
-use crate::random::random_trace;
+use crate::random::{random_destruction, random_trace};
 use sparse_words::SparseWords;
 use std::process::Abort;
 use std::sync::Wait;
@@ -65,20 +65,29 @@ fn a_vcpu_that_waits_for_another_comes_to_its_end(rt: HostRuntime) {
     replays_to(&rt, WAITS, WAITS_REPORT);
 }
 
-// The machine and the closing words of a random trace, run in threads. Their paces differ.
+// The machine and the closing words of a trace, run in threads, with gates of that pace.
+fn words_behind<R: Threads + Wait + Sync + Abort + AllocGlobal>(
+    rt: &R,
+    text: &str,
+    every: u32,
+) -> (Layout, SparseWords) {
+    let trace = read_trace(rt.alloc(), text.as_bytes())
+        .ok()
+        .expect(rt, "a trace");
+    let layout = trace.layout.copy();
+    let gates = gates(rt, every);
+    assert!(rt; gates.len() >= 16);
+    let (words, _) = replay_words(rt, rt.alloc(), trace, gates).expect(rt, "memory");
+    (layout, words)
+}
+
+// Those of a random trace. Their paces differ.
 fn random_words<R: Threads + Wait + Sync + Abort + AllocGlobal>(
     rt: &R,
     number: u32,
 ) -> (Layout, SparseWords) {
     let text = random_trace(rt.alloc(), u64::from(number)).expect(rt, "memory");
-    let trace = read_trace(rt.alloc(), text.as_bytes())
-        .ok()
-        .expect(rt, "a trace");
-    let layout = trace.layout.copy();
-    let gates = gates(rt, number % 4);
-    assert!(rt; gates.len() >= 16);
-    let (words, _) = replay_words(rt, rt.alloc(), trace, gates).expect(rt, "memory");
-    (layout, words)
+    words_behind(rt, &text, number % 4)
 }
 
 #[test]
@@ -106,4 +115,23 @@ fn one_reference_too_many_is_seen(rt: HostRuntime) {
     words.set(place, word + 1);
     let agree = counts_agree(rt.alloc(), &layout, &words).expect(&rt, "memory");
     assert!(rt; !agree);
+}
+
+// Whether domain 1 is dead.
+fn is_dead(layout: &Layout, words: &SparseWords) -> bool {
+    if layout.domains() < 2 {
+        return false;
+    }
+    let place = layout.life_place(1);
+    place < words.len() && words.get(place) == 255
+}
+
+#[test]
+fn random_replays_leave_the_destroyed_domain_dead_with_right_counts(rt: HostRuntime) {
+    for number in 0..40 {
+        let text = random_destruction(rt.alloc(), u64::from(number)).expect(&rt, "memory");
+        let (layout, words) = words_behind(&rt, &text, number % 4);
+        let agree = counts_agree(rt.alloc(), &layout, &words).expect(&rt, "memory");
+        assert!(rt; agree && is_dead(&layout, &words));
+    }
 }

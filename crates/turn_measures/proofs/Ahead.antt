@@ -7,17 +7,20 @@ use Rattle.xp_words.specs.declared.reply.LogLine.{LogLine}
 use Rattle.xp_words.specs.declared.reply.Pause.{Pause}
 use Rattle.xp_words.specs.declared.reply.Pause.TheVariants.{Due, Lost, Busy, Flush, Alive}
 use Rattle.xp_words.specs.declared.reply.Refusal.{Refusal}
+use Rattle.xp_words.specs.declared.reply.Refusal.TheVariants.{Dying}
 use Rattle.xp_words.specs.declared.reply.Stop.{Stop}
 use Rattle.xp_words.specs.declared.reply.Stop.TheVariants.{Refused, Paused}
 use Rattle.xp_board.specs.Told.{PortValue}
 use Rattle.tlb_walks.specs.Asking.{IsGuestReadStop, IsGuestWriteStop}
-use Rattle.vcpu_turn.specs.Unhindered.{IsUnhindered}
+use Rattle.vcpu_turn.specs.Destroying.{WentOnDestroying}
+use Rattle.vcpu_turn.specs.Unhindered.{IsSparedBy, IsSparedIn, IsUnhindered}
+use Rattle.vcpu_turn.proofs.Scripts as scripts
 use Rattle.vcpu_turn.proofs.Bringing.{begins_later}
 use Rattle.vcpu_turn.proofs.Mapping.{behind_one}
 use Rattle.vcpu_turn.specs.Accesses.{done_by}
 use Rattle.vcpu_turn.specs.Calls as calling
 use Rattle.vcpu_turn.specs.Calls.{AnsweredCalls, AnswersCall, WentBy, WorksCalls}
-use Rattle.vcpu_turn.specs.Cpus.{Job, OfCalls, OfDescriptors, OfExt, OfMapping, OfMem, OfOne, OfPairs, OfRead, OfWrite, Processing, Task, after_turn, begun, begun_at, end_of, job_next, job_of, next_of, nothing_left, task_called, task_in}
+use Rattle.vcpu_turn.specs.Cpus.{Job, OfCalls, OfDescriptors, OfDestroy, OfExt, OfMapping, OfMem, OfOne, OfPairs, OfRead, OfWrite, Processing, Task, after_turn, begun, begun_at, done_at, end_of, job_next, job_of, next_of, nothing_left, reply_of, task_called, task_in}
 use Rattle.vcpu_turn.specs.Extents as extents
 use Rattle.vcpu_turn.specs.Extents.{WorksExtents, extents_in}
 use Rattle.vcpu_turn.specs.Lists as lists
@@ -27,7 +30,7 @@ use Rattle.vcpu_turn.specs.Mappings.{MapsWord, done_behind}
 use Rattle.vcpu_turn.specs.Pairs as owning
 use Rattle.vcpu_turn.specs.Pairs.{WorksOwned}
 use Rattle.vcpu_turn.specs.Turning as turning
-use Rattle.vcpu_turn.specs.Turning.{DoesTurn, IsTurn}
+use Rattle.vcpu_turn.specs.Turning.{DiesNext, DoesTurn, IsTurn}
 use Rattle.vcpu_turn.specs.Working.{Works, valued}
 use Rattle.vcpu_turn.specs.declared.cpu.Progress.{Progress}
 use Rattle.vcpu_turn.specs.declared.cpu.TurnEnd.{TurnEnd}
@@ -181,13 +184,23 @@ module _ (n : Machine) (d : ℕ) (calls : List Call) (op : ℕ) where
       let on = answered_forth at u before answers within did in
       paused_so {A = Unit {0}} (Err stop) (on_then (OfCalls calls) from at to on) (stopped_forth call u at to w before behind asked stop is on.0 stops free)
 
+-- a destruction that is paused has nothing done
+destroy_forth : (x op : ℕ) (v : PortValue) (from to : Progress) (w : PortValue) (log log' : List LogLine) (answers : List Bool) (answer : Result ℕ Stop) → WentOnDestroying x op v from to w log log' answers answer → from.done ≡ 0 →
+    WherePaused (GetsOn (OfDestroy x) from to) answer
+destroy_forth x op v from to w log log' answers (Ok left) went none = tt
+destroy_forth x op v from to w log log' answers (Err (Refused r)) went none = tt
+destroy_forth x op v from to w log log' answers (Err (Paused p)) went none =
+    let done = ap (λ (y : Progress). y.done) went.to_is in
+    (done ∙ none, inr (ap (λ (y : Progress). y.call) went.to_is, done))
+
 job_forth : (n : Machine) (d : ℕ) (job : Job) (op : ℕ) (v : PortValue) (from to : Progress) (w : PortValue) (log log' : List LogLine) (answers : List Bool) (answer : Result ℕ Stop) → WentBy d job op v from to w log log' answers answer →
-    IsWithinJob job from → IsUnhindered n (end_of to.done answer) → WherePaused (GetsOn job from to) answer
+    IsWithinJob job from → IsSparedBy n job (end_of to.done answer) → WherePaused (GetsOn job from to) answer
 job_forth n d (OfOne task) op v from to w log log' answers answer went within free =
     paused_so answer (task_on task from to went.calls) (works_forth n d task from.awaited v from.done to.done w answers answer went.works within free)
 job_forth n d (OfCalls calls) op v from to w log log' answers answer went within free =
     valued_paused (GetsOn (OfCalls calls) from to) went.ended answer went.answer_is
     (calls_forth n d calls op v from to w log log' answers went.ended within went.works (subst (λ (a : Result ℕ Stop). IsUnhindered n (end_of to.done a)) went.answer_is free))
+job_forth n d (OfDestroy x) op v from to w log log' answers answer went within free = destroy_forth x op v from to w log log' answers answer went within
 
 -- ---- what is ahead then
 abbrev pub Gets : Processing → Processing → TurnEnd → Type 0
@@ -231,34 +244,33 @@ module _ (c : Processing) (within : IsWithin c) (runs : c.retired ≡ false) whe
     after_gets to log (Err (Refused r)) forth = (begun_within (job_next (slice_get c.script (c.answered + 1))), inl answered_gets)
     after_gets to log (Err (Paused p)) forth = paused_gets to log p forth
 
-  retires_gets : (end : TurnEnd) → Gets c (record (nothing_left c) { retired = true }) end
-  retires_gets end =
+  retires_gets : (left : Option ℕ) (end : TurnEnd) → Gets c (record c { left = left; retired = true }) end
+  retires_gets left end =
       (within, inl (subst (λ r. 0 + (sum_by op_size (drop c.answered c.script) - size_done (job_next (next_of c)) c.at) < to_retire r + (sum_by op_size (drop c.answered c.script) - size_done (job_next (next_of c)) c.at)) (sym runs) (omega arith)))
 
   unsettled_gets : (left : Option ℕ) (p : Pause) → Gets c (record c { left = left }) (ends.Paused p)
   unsettled_gets left p = (within, inr (record { pause = p; end_is = refl; ahead = refl; done = refl; call = refl; answered = refl; goes_on = runs }))
 
-  going_gets : (n : Machine) (o : Option Op) → next_of c ≡ o → (v : PortValue) (d : Processing) (w : PortValue) (answers : List Bool) (end : TurnEnd) → IsUnhindered n end → DoesTurn c o v d w answers end → Gets c d end
+  -- its domain does not live: the next operation is refused, or the vCPU retires
+  dies_gets : (life : ℕ) (o : Option Op) → next_of c ≡ o → (v w : PortValue) (d : Processing) (end : TurnEnd) → DiesNext life c o d v w end → Gets c d end
+  dies_gets life None next v w d end dies = subst (λ (x : Processing). Gets c x end) (sym dies.2) (retires_gets c.left end)
+  dies_gets life (Some op) next v w d end dies =
+      let reply = reply_of (done_at (job_of op) c.at) 0 (Some (Dying c.domain life)) in
+      subst (λ (x : Processing). Gets c x end) (sym (dies.2 ∙ ap (after_turn c c.at c.log) dies.1))
+      (subst (Gets c (after_turn c c.at c.log (ends.Answered reply))) (sym dies.1) (begun_within (job_next (slice_get c.script (c.answered + 1))), inl (answered_gets op next)))
+
+  going_gets : (n : Machine) (o : Option Op) → next_of c ≡ o → (v : PortValue) (d : Processing) (w : PortValue) (answers : List Bool) (end : TurnEnd) → IsSparedIn n o end → DoesTurn c o v d w answers end → Gets c d end
   going_gets n o next v _ _ _ _ free (turning.DoesTurn.unsettled w answers p settles) = unsettled_gets _ p
-  going_gets n None next v _ _ _ _ free (turning.DoesTurn.settled u w d early answers end settles retires) = subst (λ (x : Processing). Gets c x end) (sym retires.cpu) (retires_gets end)
+  going_gets n None next v _ _ _ _ free (turning.DoesTurn.settled u w d early answers end settles retires) = subst (λ (x : Processing). Gets c x end) (sym retires.cpu) (retires_gets None end)
   going_gets n (Some op) next v _ _ _ _ free (turning.DoesTurn.settled u w d early answers end settles on) =
-      let forth = job_forth n c.domain (job_of op) (c.answered + 1) u c.at on.to w c.log on.log answers on.answer on.went (within_job op next) (subst (IsUnhindered n) on.end_is free) in
+      let forth = job_forth n c.domain (job_of op) (c.answered + 1) u c.at on.to w c.log on.log answers on.answer on.went (within_job op next) (subst (IsSparedBy n (job_of op)) on.end_is free) in
       let gets = after_gets op next on.to on.log on.answer forth in
       subst (λ (x : Processing). Gets c x end) (sym (on.cpu ∙ ap (after_turn (nothing_left c) on.to on.log) on.end_is)) (subst (Gets c (after_turn (nothing_left c) on.to on.log (end_of on.to.done on.answer))) (sym on.end_is) gets)
+  going_gets n o next v _ _ _ _ free (turning.DoesTurn.dying life w d end dead dies) = dies_gets life o next v w d end dies
 
-pub turn_gets : (c d : Processing) (end : TurnEnd) (v w : PortValue) (answers : List Bool) → IsWithin c → c.retired ≡ false → IsUnhindered v.post.machine end → IsTurn c d end v w answers → Gets c d end
+pub turn_gets : (c d : Processing) (end : TurnEnd) (v w : PortValue) (answers : List Bool) → IsWithin c → c.retired ≡ false → IsSparedIn v.post.machine (next_of c) end → IsTurn c d end v w answers → Gets c d end
 turn_gets c d end v w answers within runs free turn = going_gets c within runs v.post.machine (next_of c) refl turn.begun d turn.worked answers end free turn.does
 
 -- ---- the operations stay
-after_script : (c : Processing) (to : Progress) (log : List LogLine) (end : TurnEnd) → (after_turn c to log end).script ≡ c.script
-after_script c to log (ends.Answered reply) = refl
-after_script c to log (ends.Paused p) = refl
-after_script c to log ends.Retired = refl
-
-going_script : (c : Processing) (o : Option Op) (v : PortValue) (d : Processing) (w : PortValue) (answers : List Bool) (end : TurnEnd) → DoesTurn c o v d w answers end → d.script ≡ c.script
-going_script c o v _ _ _ _ (turning.DoesTurn.unsettled w answers p settles) = refl
-going_script c None v _ _ _ _ (turning.DoesTurn.settled u w d early answers end settles retires) = ap (λ (x : Processing). x.script) retires.cpu
-going_script c (Some op) v _ _ _ _ (turning.DoesTurn.settled u w d early answers end settles on) = ap (λ (x : Processing). x.script) on.cpu ∙ after_script (nothing_left c) on.to on.log end
-
 pub turn_script : (c d : Processing) (end : TurnEnd) (v w : PortValue) (answers : List Bool) → IsTurn c d end v w answers → d.script ≡ c.script
-turn_script c d end v w answers turn = going_script c (next_of c) turn.begun d turn.worked answers end turn.does
+turn_script c d end v w answers turn = scripts.turn_script c (next_of c) turn.begun d turn.worked answers end turn.does

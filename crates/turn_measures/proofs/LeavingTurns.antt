@@ -54,11 +54,12 @@ use Rattle.vcpu_turn.specs.Pairs as owning
 use Rattle.vcpu_turn.specs.Pairs.{FindsOwners, FitsPair, PairFits, WorksOwned}
 use Rattle.vcpu_turn.specs.Settling.{SettlesFirst, Settles, unsettled, performed}
 use Rattle.vcpu_turn.specs.Turning as turning
-use Rattle.vcpu_turn.specs.Turning.{Begins, DoesNext, DoesTurn, EndsTurn, IsStop, IsTurn}
+use Rattle.vcpu_turn.specs.Turning.{Begins, DiesNext, DoesNext, DoesTurn, EndsTurn, IsStop, IsTurn}
 use Rattle.vcpu_turn.specs.Working.{Works}
 use Rattle.vcpu_turn.specs.declared.cpu.TurnEnd.{TurnEnd}
 use Rattle.vcpu_turn.specs.declared.cpu.TurnEnd.TheVariants as ends
 use Rattle.vcpu_turn.proofs.Hindering.{element_destroys, extent_destroys, pair_destroys}
+use Rattle.turn_measures.specs.Measures.{DestroysNothing}
 use Rattle.turn_measures.proofs.Leaving.{Spared, Spares, same_spared, spared_trans, step_leaves}
 use Rattle.turn_measures.proofs.LeavingCalls.{clock_spares, load_spares, moves_up, own_spares, serves_spares}
 use Rattle.turn_measures.proofs.OverCalls.{Pieces, job_over}
@@ -111,13 +112,16 @@ heeds_kept false v w f = own_kept v w f.0 f.1
 acks_kept : (v w : PortValue) → Acks v w → Kept v w
 acks_kept v w a = kept_trans v a.b w (kept_trans v a.a a.b (kept_look v a.a _ _ _ _ a.marked) (kept_look a.a a.b _ _ _ _ a.looked)) (heeds_kept _ a.b w a.heeds)
 
-begins_kept : (v w : PortValue) → Begins v w → Kept v w
-begins_kept v w b = kept_trans v b.acked w (acks_kept v b.acked b.acks) (kept_look b.acked w _ _ _ _ b.running)
+begins_kept : (v w : PortValue) (d run life : ℕ) → Begins v w d run life → Kept v w
+begins_kept v w d run life b = kept_trans v b.acked w (acks_kept v b.acked b.acks) (kept_trans b.acked b.looked w (kept_look b.acked b.looked _ _ _ _ b.running) (kept_look b.looked w _ _ _ _ b.lives))
+
+stop_kept : (v w : PortValue) → IsStop v w → Kept v w
+stop_kept v w s = kept_moves v w _ _ _ _ _ s.1 (own_spares v.post.vcpu 6 (Store 1) s.0)
 
 ends_kept : (end : TurnEnd) (v w : PortValue) → EndsTurn end v w → Kept v w
 ends_kept (ends.Answered reply) v w e = kept_look v w _ _ _ _ e.1
 ends_kept (ends.Paused p) v w e = kept_same v w e
-ends_kept ends.Retired v w e = kept_moves v w _ _ _ _ _ e.1 (own_spares v.post.vcpu 6 (Store 1) e.0)
+ends_kept ends.Retired v w e = stop_kept v w e
 
 -- ---- what is done between
 settles_kept : {below : Option ℕ} → (v w : PortValue) (answers : List Bool) (answer : Result (Unit {0}) Stop) → Settles below v w answers answer → Kept v w
@@ -237,18 +241,23 @@ pub kept_pieces : Pieces Kept
 kept_pieces = record { self = kept_self; trans = kept_trans; settles = settles_kept; clock = λ v w mark found look. kept_look v w Clock _ mark found look; works = works_kept }
 
 -- ---- the whole turn
-does_kept : (c : Processing) (o : Option Op) (c2 : Processing) (v w : PortValue) (answers : List Bool) (end : TurnEnd) → DoesNext c o c2 v w answers end → Kept v w
-does_kept c (Some op) c2 v w answers end d = job_over kept_pieces c.domain (job_of op) (c.answered + 1) v c.at d.to w c.log d.log answers d.answer d.went
-does_kept c None c2 v w answers end d = kept_same v w d.no_step
+does_kept : (c : Processing) (o : Option Op) (c2 : Processing) (v w : PortValue) (answers : List Bool) (end : TurnEnd) → DestroysNothing o → DoesNext c o c2 v w answers end → Kept v w
+does_kept c (Some op) c2 v w answers end sparing d = job_over kept_pieces c.domain (job_of op) (c.answered + 1) v c.at d.to w c.log d.log answers d.answer sparing d.went
+does_kept c None c2 v w answers end sparing d = kept_same v w d.no_step
 
-goes_kept : (c : Processing) (o : Option Op) (v : PortValue) (c2 : Processing) (w : PortValue) (answers : List Bool) (end : TurnEnd) → DoesTurn c o v c2 w answers end → Kept v w
-goes_kept c o v _ _ _ _ (turning.DoesTurn.unsettled w answers p s) = settles_kept v w answers (Err (Paused p)) s
-goes_kept c o v _ _ _ _ (turning.DoesTurn.settled u w c2 early answers end s d) = kept_trans v u w (settles_kept v u early (Ok tt) s) (does_kept (nothing_left c) o c2 u w answers end d)
+dies_kept : (life : ℕ) (c : Processing) (o : Option Op) (c2 : Processing) (v w : PortValue) (end : TurnEnd) → DiesNext life c o c2 v w end → Kept v w
+dies_kept life c (Some op) c2 v w end d = stop_kept v w d.0
+dies_kept life c None c2 v w end d = kept_same v w d.0
 
-pub turn_kept : (c d : Processing) (end : TurnEnd) (v w : PortValue) (answers : List Bool) → IsTurn c d end v w answers → Kept v w
-turn_kept c d end v w answers t =
-    kept_trans v t.begun w (begins_kept v t.begun t.begins)
-    (kept_trans t.begun t.worked w (goes_kept c (next_of c) t.begun d t.worked answers end t.does) (ends_kept end t.worked w t.ends))
+goes_kept : (c : Processing) (o : Option Op) (v : PortValue) (c2 : Processing) (w : PortValue) (answers : List Bool) (end : TurnEnd) → DestroysNothing o → DoesTurn c o v c2 w answers end → Kept v w
+goes_kept c o v _ _ _ _ sparing (turning.DoesTurn.unsettled w answers p s) = settles_kept v w answers (Err (Paused p)) s
+goes_kept c o v _ _ _ _ sparing (turning.DoesTurn.settled u w c2 early answers end s d) = kept_trans v u w (settles_kept v u early (Ok tt) s) (does_kept (nothing_left c) o c2 u w answers end sparing d)
+goes_kept c o v _ _ _ _ sparing (turning.DoesTurn.dying life w c2 end dead d) = dies_kept life c o c2 v w end d
 
-pub turn_spares : (c d : Processing) (end : TurnEnd) (v w : PortValue) (answers : List Bool) → IsAlone v → IsTurn c d end v w answers → Spared v w
-turn_spares c d end v w answers alone t = (turn_kept c d end v w answers t).spared (ap is_some alone.telling)
+pub turn_kept : (c d : Processing) (end : TurnEnd) (v w : PortValue) (answers : List Bool) → DestroysNothing (next_of c) → IsTurn c d end v w answers → Kept v w
+turn_kept c d end v w answers sparing t =
+    kept_trans v t.begun w (begins_kept v t.begun c.domain t.run t.life t.begins)
+    (kept_trans t.begun t.worked w (goes_kept c (next_of c) t.begun d t.worked answers end sparing t.does) (ends_kept end t.worked w t.ends))
+
+pub turn_spares : (c d : Processing) (end : TurnEnd) (v w : PortValue) (answers : List Bool) → IsAlone v → DestroysNothing (next_of c) → IsTurn c d end v w answers → Spared v w
+turn_spares c d end v w answers alone sparing t = (turn_kept c d end v w answers sparing t).spared (ap is_some alone.telling)

@@ -12,10 +12,11 @@ use Rattle.xp_board.specs.declared.step.StepKind.TheVariants as kinds
 use Rattle.step_maker.specs.Moves.{Moves}
 use Rattle.vcpu_turn.specs.Calls as calling
 use Rattle.vcpu_turn.specs.Calls.{AnsweredCalls, AnswersCall, WentBy, WorksCalls}
-use Rattle.vcpu_turn.specs.Cpus.{Job, OfCalls, OfOne, Task, task_in}
+use Rattle.vcpu_turn.specs.Cpus.{Job, OfCalls, OfDestroy, OfOne, Task, task_in}
 use Rattle.vcpu_turn.specs.Settling.{Settles}
 use Rattle.vcpu_turn.specs.Working.{Works}
 use Rattle.vcpu_turn.specs.declared.cpu.Progress.{Progress}
+use Rattle.turn_measures.specs.Measures.{IsSparingJob}
 
 -- ---- a relation on ports that holds of settlings, of loads of the clock and of the work on each task
 pub record Pieces (R : PortValue → PortValue → Type 0) : Type 0 where
@@ -48,9 +49,10 @@ module _ {R : PortValue → PortValue → Type 0} (pieces : Pieces R) where
   calls_over {v = v} _ _ _ _ _ (calling.WorksCalls.stopped at to u w call before behind answers asked stop few did is stops) =
       pieces.trans v u w (answered_over at u before answers did) (call_over to w behind asked (Err stop) stops)
 
-  pub job_over : (d : ℕ) (job : Job) (op : ℕ) (v : PortValue) (from to : Progress) (w : PortValue) (log log' : List LogLine) (answers : List Bool) (answer : Result ℕ Stop) → WentBy d job op v from to w log log' answers answer → R v w
-  job_over d (OfOne task) op v from to w log log' answers answer went = pieces.works d task from.awaited v from.done to.done w answers answer went.works
-  job_over d (OfCalls calls) op v from to w log log' answers answer went = calls_over to w log' answers went.ended went.works
+  pub job_over : (d : ℕ) (job : Job) (op : ℕ) (v : PortValue) (from to : Progress) (w : PortValue) (log log' : List LogLine) (answers : List Bool) (answer : Result ℕ Stop) → IsSparingJob job → WentBy d job op v from to w log log' answers answer → R v w
+  job_over d (OfOne task) op v from to w log log' answers answer sparing went = pieces.works d task from.awaited v from.done to.done w answers answer went.works
+  job_over d (OfCalls calls) op v from to w log log' answers answer sparing went = calls_over to w log' answers went.ended went.works
+  job_over d (OfDestroy domain) op v from to w log log' answers answer sparing went = absurd sparing
 
 -- ---- how far they come
 module _ {d : ℕ} {call : Call} {op : ℕ} {v : PortValue} {from : Progress} {log : List LogLine} where

@@ -36,7 +36,8 @@ use Rattle.vcpu_turn.specs.declared.cpu.TurnEnd.TheVariants as ends
 use Rattle.vcpu_turn.specs.Lists.{Fitting, IsRefusedWhole, WorksOn, WorksThrough, all_done, last_done, due, stopped}
 use Rattle.vcpu_turn.specs.Calls as calling
 use Rattle.vcpu_turn.specs.Calls.{AnswersCall, WentBy, WorksCalls}
-use Rattle.vcpu_turn.specs.Cpus.{Job, OfCalls, OfDescriptors, OfExt, OfMapping, OfMem, OfOne, OfPairs, OfRead, OfWrite, Processing, Task, end_of, job_of, next_of, nothing_left, task_in}
+use Rattle.domain_destroy.specs.Asking.{IsDestroyStop}
+use Rattle.vcpu_turn.specs.Cpus.{Job, OfCalls, OfDescriptors, OfDestroy, OfExt, OfMapping, OfMem, OfOne, OfPairs, OfRead, OfWrite, Processing, Task, end_of, job_of, next_of, nothing_left, task_in}
 use Rattle.vcpu_turn.specs.Descriptors.{DescriptorFits, DescriptorTask, SetDescriptor, SetGdt, TouchLdt}
 use Rattle.vcpu_turn.specs.Ext.{ExtFits, FitsExt, Performs, awaited_for}
 use Rattle.vcpu_turn.specs.Extents as extending
@@ -214,10 +215,16 @@ calls_paused d calls op v from _ _ log _ _ _ (calling.WorksCalls.all_answered at
 calls_paused d calls op v from _ _ log _ _ _ (calling.WorksCalls.stopped at to u w call before after answers asked stop few did is stops) =
     behind {A = Unit {0}} v u w (Err stop) (answered_over kept_pieces at u before answers did).came (call_paused d call op u at to w before after asked stop stops)
 
+-- a destruction waits for no flush
+destroy_paused : (v w : PortValue) (answer : Result ℕ Stop) → IfErr answer IsDestroyStop → PausesWithin v w answer
+destroy_paused v w (Err (Paused (Flush vcpu stamp found))) is = absurd is
+destroy_paused v w _ is = tt
+
 job_paused : (d : ℕ) (job : Job) (op : ℕ) (v : PortValue) (from to : Progress) (w : PortValue) (log log' : List LogLine) (answers : List Bool) (answer : Result ℕ Stop) → WentBy d job op v from to w log log' answers answer →
     PausesWithin v w answer
 job_paused d (OfOne task) op v from to w log log' answers answer went = works_paused d task from.awaited v from.done to.done w answers answer went.works
 job_paused d (OfCalls calls) op v from to w log log' answers answer went = valued_paused v w went.ended answer went.answer_is (calls_paused d calls op v from to w log log' answers went.ended went.works)
+job_paused d (OfDestroy domain) op v from to w log log' answers answer went = destroy_paused v w answer went.destroyed.kinds
 
 -- ---- a turn
 ended_paused : (v w : PortValue) (to vcpu stamp found : ℕ) (answer : Result ℕ Stop) → ends.Paused (Flush vcpu stamp found) ≡ end_of to answer → PausesWithin v w answer → StopsWithin v w (Paused (Flush vcpu stamp found))
@@ -236,6 +243,8 @@ does_paused c o v _ _ _ _ vcpu stamp found is (turning.unsettled w answers p s) 
     settles_paused v w answers (Err (Paused (Flush vcpu stamp found))) (subst (λ x. Settles c.left v w answers (Err (Paused x))) same s)
 does_paused c o v _ _ _ _ vcpu stamp found is (turning.settled u w c2 early answers end s d) =
     behind {A = ℕ} v u w (Err (Paused (Flush vcpu stamp found))) (settles_came v u early (Ok tt) s) (next_paused (nothing_left c) o c2 u w answers vcpu stamp found (subst (DoesNext (nothing_left c) o c2 u w answers) is d))
+does_paused c None v _ _ _ _ vcpu stamp found is (turning.dying life w c2 end dead d) = absurd (let retired = d.1 in cc)
+does_paused c (Some op) v _ _ _ _ vcpu stamp found is (turning.dying life w c2 end dead d) = absurd (let answered = d.1 in cc)
 
 pub turn_paused : (c c2 : Processing) (v w : PortValue) (answers : List Bool) (vcpu stamp found : ℕ) → IsTurn c c2 (ends.Paused (Flush vcpu stamp found)) v w answers → StopsWithin v w (Paused (Flush vcpu stamp found))
 turn_paused c c2 v w answers vcpu stamp found t =
@@ -245,4 +254,6 @@ turn_paused c c2 v w answers vcpu stamp found t =
 
 -- ---- the steps behind the beginning of a turn
 pub acked_came : (c c2 : Processing) (end : TurnEnd) (v w : PortValue) (answers : List Bool) (t : IsTurn c c2 end v w answers) → Came t.begins.acked w
-acked_came c c2 end v w answers t = came_trans t.begins.acked t.begun w (moves_came t.begins.acked t.begun _ _ _ _ _ t.begins.running) (begun_came c c2 end v w answers t)
+acked_came c c2 end v w answers t =
+    let b = t.begins in
+    came_trans b.acked t.begun w (came_trans b.acked b.looked t.begun (moves_came b.acked b.looked _ _ _ _ _ b.running) (moves_came b.looked t.begun _ _ _ _ _ b.lives)) (begun_came c c2 end v w answers t)

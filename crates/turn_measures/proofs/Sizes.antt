@@ -4,7 +4,7 @@ use Rattle.std.proofs.lemmas.List.Sums.{sum_by-drop_more, sum_by-take-drop}
 use Rattle.std.proofs.lemmas.Option.{get_or_from_slice_get, slice_get_within}
 use Rattle.std.proofs.lemmas.Bool.{cases_eq}
 use Rattle.xp_words.specs.declared.ops.Call.{Call}
-use Rattle.vcpu_turn.specs.Cpus.{Job, OfCalls, OfDescriptors, OfExt, OfMapping, OfMem, OfOne, OfPairs, OfRead, OfWrite, Task, begun, begun_at, elements_in, task_called, task_in}
+use Rattle.vcpu_turn.specs.Cpus.{Job, OfCalls, OfDescriptors, OfDestroy, OfExt, OfMapping, OfMem, OfOne, OfPairs, OfRead, OfWrite, Task, begun, begun_at, elements_in, task_called, task_in}
 use Rattle.vcpu_turn.specs.declared.cpu.Progress.{Progress}
 use Rattle.turn_measures.specs.Measures.{IsWithinJob, call_size, job_size, most_done, size_done}
 
@@ -29,6 +29,7 @@ sum_next f xs k x at =
 pub begun_within : (job : Job) → IsWithinJob job begun
 begun_within (OfOne task) = omega arith
 begun_within (OfCalls calls) = (omega arith, omega arith)
+begun_within (OfDestroy domain) = refl
 
 -- of the calls that are not answered
 ahead_most : (calls : List Call) (k done : ℕ) (o : Option Call) → slice_get calls k ≡ o → done ≤ most_done (task_called o) → done ≤ sum_by call_size (drop k calls)
@@ -44,10 +45,12 @@ done_most (OfCalls calls) at within =
     let few = ahead_most calls at.call at.done (slice_get calls at.call) refl within.1 in
     let all = all_calls calls at.call in
     omega (arith, few, all)
+done_most (OfDestroy domain) at within = omega arith
 
 pub size_same : (job : Job) (a b : Progress) → b.call ≡ a.call → b.done ≡ a.done → size_done job b ≡ size_done job a
 size_same (OfOne task) a b call done = done
 size_same (OfCalls calls) a b call done = λ i. sum_by call_size calls - sum_by call_size (drop (call i) calls) + done i
+size_same (OfDestroy domain) a b call done = refl
 
 -- ---- what goes up
 abbrev pub Between : ℕ → ℕ → ℕ → Type 0

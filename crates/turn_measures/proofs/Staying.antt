@@ -24,7 +24,7 @@ use Rattle.vcpu_turn.specs.Unhindered.{IsUnhindered}
 use Rattle.vcpu_turn.proofs.Bringing.{begins_later}
 use Rattle.vcpu_turn.specs.Calls as calling
 use Rattle.vcpu_turn.specs.Calls.{AnswersCall, WentBy, WorksCalls}
-use Rattle.vcpu_turn.specs.Cpus.{Job, OfCalls, OfDescriptors, OfExt, OfMapping, OfMem, OfOne, OfPairs, OfRead, OfWrite, Processing, Task, end_of, job_of, task_in}
+use Rattle.vcpu_turn.specs.Cpus.{Job, OfCalls, OfDescriptors, OfDestroy, OfExt, OfMapping, OfMem, OfOne, OfPairs, OfRead, OfWrite, Processing, Task, end_of, job_of, task_in}
 use Rattle.vcpu_turn.specs.Descriptors.{DescriptorFits, DescriptorTask, SetDescriptor, SetGdt, TouchLdt}
 use Rattle.vcpu_turn.specs.Mappings as mappings
 use Rattle.vcpu_turn.specs.Mappings.{MapsWord, UpdatesWord}
@@ -39,6 +39,7 @@ use Rattle.vcpu_turn.specs.Turning.{GoesOnWith}
 use Rattle.vcpu_turn.specs.Working.{Works, valued}
 use Rattle.vcpu_turn.specs.declared.cpu.Progress.{Progress}
 use Rattle.vcpu_turn.specs.declared.cpu.TurnEnd.TheVariants as ends
+use Rattle.turn_measures.specs.Measures.{IsSparingJob}
 use Rattle.turn_measures.proofs.Calm.{AcquiredForward, AcquiredFurther, ComesTo}
 use Rattle.turn_measures.proofs.Addressing.{word_for}
 use Rattle.turn_measures.proofs.Describing.{DescLaws, descriptor_for, gdt_for, ldt_for}
@@ -182,11 +183,12 @@ module _ (n : Machine) where
     calls_for d calls op v from _ _ log _ _ _ s (calling.WorksCalls.stopped at to u w call before behind answers asked stop few did at_is stops) same_call is =
         call_for d call op v from to w log behind asked stop s (stopped_first did stops same_call) is
 
-    job_for : (d : ℕ) (job : Job) (op : ℕ) (v : PortValue) (from to : Progress) (w : PortValue) (log log' : List LogLine) (answers : List Bool) (r : Result ℕ Stop) → IsSettled v →
+    job_for : (d : ℕ) (job : Job) (op : ℕ) (v : PortValue) (from to : Progress) (w : PortValue) (log log' : List LogLine) (answers : List Bool) (r : Result ℕ Stop) → IsSettled v → IsSparingJob job →
         WentBy d job op v from to w log log' answers r → to.call ≡ from.call → to.done ≡ from.done → ComesBy n r v w
-    job_for d (OfOne task) op v from to w log log' answers r s went same_call is = works_for d task from.awaited v from.done to.done w answers r s went.works is
-    job_for d (OfCalls calls) op v from to w log log' answers r s went same_call is =
+    job_for d (OfOne task) op v from to w log log' answers r s sparing went same_call is = works_for d task from.awaited v from.done to.done w answers r s went.works is
+    job_for d (OfCalls calls) op v from to w log log' answers r s sparing went same_call is =
         subst (λ x. ComesBy n x v w) (sym went.answer_is) (valued_for v w went.ended (calls_for d calls op v from to w log log' answers went.ended s went.works same_call is))
+    job_for d (OfDestroy domain) op v from to w log log' answers r s sparing went same_call is = absurd sparing
 
     -- ---- the turn
     ended_for : (v w : PortValue) (p : Pause) (done : ℕ) (r : Result ℕ Stop) → ends.Paused p ≡ end_of done r → IsUnhindered n (ends.Paused p) → ComesBy n r v w → ComesTo p v w
@@ -194,9 +196,9 @@ module _ (n : Machine) where
     ended_for v w p done (Err (Refused x)) is un c = absurd cc
     ended_for v w p done (Err (Paused q)) is un c = let same : q ≡ p = cc in subst (λ y. ComesTo y v w) same (c (subst (λ y. IsUnhindered n (ends.Paused y)) (sym same) un))
 
-    pub turn_comes : (c d : Processing) (op : Op) (v w : PortValue) (answers : List Bool) (p : Pause) → IsSettled v → IsUnhindered n (ends.Paused p) → GoesOnWith c op d v w answers (ends.Paused p) → d.at.call ≡ c.at.call → d.at.done ≡ c.at.done → ComesTo p v w
-    turn_comes c d op v w answers p s un g same_call stays_there =
+    pub turn_comes : (c d : Processing) (op : Op) (v w : PortValue) (answers : List Bool) (p : Pause) → IsSettled v → IsSparingJob (job_of op) → IsUnhindered n (ends.Paused p) → GoesOnWith c op d v w answers (ends.Paused p) → d.at.call ≡ c.at.call → d.at.done ≡ c.at.done → ComesTo p v w
+    turn_comes c d op v w answers p s sparing un g same_call stays_there =
         let at : d.at ≡ g.to = ap (λ (x : Processing). x.at) g.cpu in
         ended_for v w p g.to.done g.answer g.end_is un
-        (job_for c.domain (job_of op) (c.answered + 1) v c.at g.to w c.log g.log answers g.answer s g.went
+        (job_for c.domain (job_of op) (c.answered + 1) v c.at g.to w c.log g.log answers g.answer s sparing g.went
         (sym (ap (λ (x : Progress). x.call) at) ∙ same_call) (sym (ap (λ (x : Progress). x.done) at) ∙ stays_there))

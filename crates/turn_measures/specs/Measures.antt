@@ -9,7 +9,7 @@ use Rattle.step_maker.specs.Plain.{Words}
 use Rattle.table_words.specs.OldWords.{old_place}
 use Rattle.table_words.specs.declared.old_words.OldWord.TheVariants.{First, Second}
 use Rattle.xp_words.specs.declared.ops.Call.{Call}
-use Rattle.vcpu_turn.specs.Cpus.{Job, OfCalls, OfDescriptors, OfOne, Processing, Task, elements_in, job_next, job_of, next_of, task_called, task_in}
+use Rattle.vcpu_turn.specs.Cpus.{Job, OfCalls, OfDescriptors, OfDestroy, OfOne, Processing, Task, elements_in, job_next, job_of, next_of, task_called, task_in}
 use Rattle.vcpu_turn.specs.declared.cpu.Progress.{Progress}
 use Rattle.vcpu_turn.specs.declared.cpu.TurnEnd.{TurnEnd}
 use Rattle.vcpu_turn.specs.declared.cpu.TurnEnd.TheVariants as ends
@@ -22,6 +22,7 @@ call_size call = 1 + elements_in (task_in call)
 abbrev pub job_size : Job → ℕ
 job_size (OfOne task) = elements_in task
 job_size (OfCalls calls) = sum_by call_size calls
+job_size (OfDestroy domain) = 0
 
 abbrev pub op_size : Op → ℕ
 op_size op = 1 + job_size (job_of op)
@@ -30,6 +31,7 @@ op_size op = 1 + job_size (job_of op)
 abbrev pub size_done : Job → Progress → ℕ
 size_done (OfOne task) at = at.done
 size_done (OfCalls calls) at = sum_by call_size calls - sum_by call_size (drop at.call calls) + at.done
+size_done (OfDestroy domain) at = 0
 
 abbrev pub to_retire : Bool → ℕ
 to_retire retired = if retired then 0 else 1
@@ -47,9 +49,19 @@ most_done o = elements_in o
 abbrev pub IsWithinJob : Job → Progress → Type 0
 IsWithinJob (OfOne task) at = at.done ≤ most_done task
 IsWithinJob (OfCalls calls) at = (at.call ≤ length calls) × (at.done ≤ most_done (task_called (slice_get calls at.call)))
+IsWithinJob (OfDestroy domain) at = at.done ≡ 0
 
 abbrev pub IsWithin : Processing → Type 0
 IsWithin c = IsWithinJob (job_next (next_of c)) c.at
+
+-- the operation destroys no domain
+abbrev pub IsSparingJob : Job → Type 0
+IsSparingJob (OfDestroy domain) = ⊥
+IsSparingJob (OfOne task) = Unit {0}
+IsSparingJob (OfCalls calls) = Unit {0}
+
+abbrev pub DestroysNothing : Option Op → Type 0
+DestroysNothing o = IsSparingJob (job_next o)
 
 -- the turn was paused, and no more is done than before
 pub record StaysAt (c d : Processing) (end : TurnEnd) : Type 0 where

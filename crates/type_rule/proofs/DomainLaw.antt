@@ -46,7 +46,7 @@ is_zero w e = grind (arith, nat_tests)
 pub is_one : (w : ℕ) → (w == 1) ≡ true → w ≡ 1
 is_one w e = grind (arith, nat_tests)
 
-owned_by : (d w : ℕ) → is_owned_by d w ≡ true → owner_of w ≡ Some d
+pub owned_by : (d w : ℕ) → is_owned_by d w ≡ true → owner_of w ≡ Some d
 owned_by d w e = grind (arith, nat_tests)
 
 pub by_owner : (d w : ℕ) → owner_of w ≡ Some d → is_owned_by d w ≡ true

@@ -1,4 +1,4 @@
-mod DomainLaw
+pub mod DomainLaw
 mod DomainWords
 mod Counted
 mod RefWordLaws

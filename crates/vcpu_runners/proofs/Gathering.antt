@@ -1,25 +1,31 @@
 -- What the vCPUs of all threads come to.
-use Rattle.std.proofs.Common.{◌≡◌, ℕ, zero, suc, ◌<◌, All, Option, Some, List, [], ◌∷◌, ◌++◌, length, map, take, drop, refl, sym, ap, ◌∙◌, subst, arith, slice_index_or}
+use Rattle.std.proofs.Common.{◌≡◌, ℕ, zero, suc, ◌<◌, All, Option, Some, List, [], ◌∷◌, ◌++◌, length, map, take, drop, ◌+◌, append-nil, refl, sym, ap, ◌∙◌, subst, arith, slice_index_or}
 use Rattle.std.specs.Prelude.{slice_get}
 use Rattle.std.specs.Option.{option_map}
-use Rattle.std.proofs.lemmas.List.{get_or-map, length-map}
+use Rattle.std.proofs.lemmas.List.{get_or-map, get_or-replicate, length-map}
 use Rattle.std.proofs.lemmas.List.Elements.{All-get_or}
 use Rattle.std.proofs.lemmas.Option.{slice_get-get_or, slice_get-map, slice_get_within}
 use Rattle.std.proofs.lemmas.Simd.{map-map}
 use mathlib.Core.Option.{some, some-injective, some-ne-none}
 use lib.ListN.{get_elem?}
 use Rattle.xp_words.specs.Machine.{Machine}
-use Rattle.xp_words.specs.Places.{sizes_of}
+use Rattle.xp_words.specs.Places.{memory, sizes_of}
+use Rattle.xp_words.specs.declared.reply.LogLine.{LogLine}
 use Rattle.xp_board.specs.declared.holdings.Holdings.{Holdings}
 use Rattle.xp_board.specs.Hands.{empty, IsEmptyHand}
+use Rattle.xp_board.specs.declared.step.Step.{Step}
+use Rattle.xp_board.specs.Runs.{Run, State, start, word_at}
 use Rattle.xp_board.specs.Sound.{SoundState, SoundWords, hand_of}
+use Rattle.dead_domains.specs.Buried.{HasBuried, LeavesOnlyListed}
 use Rattle.thread_board.specs.OneRun.{OneRun}
 use Rattle.thread_board.specs.Ports.{pass_port}
 use Rattle.thread_board.specs.Values.{BoardValue, PassValue, AreOf, AreOpened, held_by, opened_pass}
 use Rattle.thread_board.proofs.Dealing.{opened_is}
 use Rattle.vcpu_turn.specs.Cpus.{Processing}
+use Rattle.vcpu_turn.specs.Destroying.{KeepsBuried}
 use Rattle.vcpu_turn.specs.Turning.{IsOf}
 use Rattle.vcpu_runners.specs.Cpus.{IsShort}
+use Rattle.vcpu_runners.specs.Destroyed.{AreDestroyed}
 use Rattle.vcpu_runners.specs.Gates.{Gate}
 use Rattle.vcpu_runners.specs.Replayed.{AreFirst, RanInThreads, RanToItsEnd, TookTurns, port_with}
 use Rattle.vcpu_runners.specs.Working.{MayRun, RanOut}
@@ -85,6 +91,11 @@ abbrev pub RestsSound : Type 0
 RestsSound =
     (n : Machine) (words : List ℕ) (hands : List Holdings) → SoundState n words hands → ((s : ℕ) → s < (sizes_of n).vcpus → IsEmptyHand (hand_of hands s)) → SoundWords n words
 
+abbrev pub BuriesListed : Type 0
+BuriesListed =
+    (n : Machine) (a b : State) (log : List (ℕ × Step)) (s d op : ℕ) (lines : List LogLine) → SoundState n a.words a.hands → Run n a log b → s < (sizes_of n).vcpus →
+    HasBuried n s d op (length (hand_of a.hands s).steps) (hand_of b.hands s) lines → LeavesOnlyListed n d op lines (word_at n b) (hand_of b.hands)
+
 -- what each worker did
 abbrev pub RanEach : {A : Type 0} (pass : A → PassValue) (gate : A → Gate) (cpu : A → Processing) → BoardValue → List A → List A → Type 0
 RanEach {A} pass gate cpu b xs ys =
@@ -108,6 +119,10 @@ module _ {A : Type 0} (pass : A → PassValue) (gate : A → Gate) (cpu : A → 
       ap (λ (l : List Holdings). slice_index_or l k empty) (map-map (λ (p : PassValue). p.holdings) pass ys)
       ∙ get_or-map (λ (w : A). (pass w).holdings) ys k d empty (subst (λ n. k < n) (sym count) within)
 
+  -- its port in the end
+  last_port : (k : ℕ) (d : A) (within : k < length xs) → pass_port b (pass (slice_index_or ys k d)) (ran k d within).lender ≡ port_with b k (ran k d within).lender (hand_of (held_by (map pass ys)) k)
+  last_port k d within = ap (λ p. pass_port b p (ran k d within).lender) (ended_at k d within) ∙ ap (port_with b k (ran k d within).lender) (sym (hand_at k d within))
+
   end_at : (k : ℕ) (d : A) → k < length xs →
       RanToItsEnd b k (slice_get (map gate xs) k) (slice_get (map gate ys) k) (cpu (slice_index_or xs k d)) (cpu (slice_index_or ys k d)) (hand_of (held_by (map pass ys)) k)
   end_at k d within =
@@ -115,8 +130,7 @@ module _ {A : Type 0} (pass : A → PassValue) (gate : A → Gate) (cpu : A → 
       let x = slice_index_or xs k d in
       let y = slice_index_or ys k d in
       let start = opened_at pass cpu b xs opened passes first k d within in
-      let end : pass_port b (pass y) r.lender ≡ port_with b k r.lender (hand_of (held_by (map pass ys)) k) =
-      ap (λ p. pass_port b p r.lender) (ended_at k d within) ∙ ap (port_with b k r.lender) (sym (hand_at k d within)) in
+      let end = last_port k d within in
       record {
         gate = gate x;
         asked = gate y;
@@ -150,8 +164,27 @@ module _ {A : Type 0} (pass : A → PassValue) (gate : A → Gate) (cpu : A → 
       let is2 = some_same (slice_get (map cpu ys) s) (cpu (slice_index_or ys s d)) c2 (at_place cpu ys s d (subst (λ n. s < n) (sym count) within)) at2 in
       subst (λ (x : Processing × Processing). RanToItsEnd b s (slice_get (map gate xs) s) (slice_get (map gate ys) s) x.0 x.1 (hand_of (held_by (map pass ys)) s)) (λ i. (is i, is2 i)) (end_at s d within)
 
-  ran_all : RestsSound → (words : List ℕ) → OneRun b.machine b.opening words (held_by (map pass ys)) → RanInThreads b (map gate xs) (map cpu xs) words (map gate ys) (map cpu ys)
-  ran_all rests words run =
+  -- what it destroyed is buried, by its own steps of the run
+  buried_at : (k : ℕ) (d : A) (within : k < length xs) → KeepsBuried (port_with b k (ran k d within).lender (hand_of (held_by (map pass ys)) k)) (cpu (slice_index_or ys k d))
+  buried_at k d within = subst (λ v. KeepsBuried v (cpu (slice_index_or ys k d))) (last_port k d within) (ran k d within).of.buried
+
+  destroyed : BuriesListed → (words : List ℕ) → OneRun b.machine b.opening words (held_by (map pass ys)) → AreDestroyed b.machine (memory (sizes_of b.machine) words) (hand_of (held_by (map pass ys))) (map cpu ys)
+  destroyed lists words run s i x c reply at op line none =
+      let hands = held_by (map pass ys) in
+      let last : State = record { words = words; hands = hands } in
+      let opening = start b.machine b.opening in
+      let within : s < length ys = subst (λ n. s < n) (length-map ys cpu) (slice_get_within (map cpu ys) s c at) in
+      let there : s < length xs = subst (λ n. s < n) count within in
+      let real : s < (sizes_of b.machine).vcpus = subst (λ n. s < n) vcpus_is there in
+      let d = from_head xs s there in
+      let is = some_same (slice_get (map cpu ys) s) (cpu (slice_index_or ys s d)) c (at_place cpu ys s d within) at in
+      let keeps = subst (KeepsBuried (port_with b s (ran s d there).lender (hand_of hands s))) is (buried_at s d there) in
+      let first_state = (run.always run.one.log [] opening (sym (append-nil run.one.log)) refl).0 in
+      let none_made : 0 ≡ length (hand_of opening.hands s).steps = sym (ap (λ (h : Holdings). length h.steps) (get_or-replicate (sizes_of b.machine).vcpus s empty empty real)) in
+      lists b.machine opening last run.one.log s x (i + 1) c.log first_state run.one.run real (subst (λ k. HasBuried b.machine s x (i + 1) k (hand_of hands s) c.log) none_made (keeps i x reply op line none))
+
+  ran_all : RestsSound → BuriesListed → (words : List ℕ) → OneRun b.machine b.opening words (held_by (map pass ys)) → RanInThreads b (map gate xs) (map cpu xs) words (map gate ys) (map cpu ys)
+  ran_all rests lists words run =
       let hands = held_by (map pass ys) in
       record {
         hands = hands;
@@ -160,6 +193,7 @@ module _ {A : Type 0} (pass : A → PassValue) (gate : A → Gate) (cpu : A → 
         all = length-map ys cpu ∙ count ∙ sym (length-map xs cpu);
         each = each_at;
         sound = rests b.machine words hands run.sound (λ s real. let within : s < length xs = subst (λ n. s < n) (sym vcpus_is) real in empty_at s (from_head xs s within) within);
+        destroyed = destroyed lists words run;
       }
 
 -- as the code has it: of the workers, xs before and ys behind their turns
@@ -184,13 +218,13 @@ module _ {A B : Type 0} (pass : A → PassValue) (runner : A → B) (gate : B �
   pub passes_own : (ended : List PassValue) → ended ≡ map pass ys → AreOf b.table ended
   passes_own ended is = subst (AreOf b.table) (sym is) (are_of pass (λ w. gate (runner w)) (λ w. cpu (runner w)) b xs ys opened_all own_all first_all count ran)
 
-  pub ran_in_threads : RestsSound → (words : List ℕ) (ended : List PassValue) (retired : List B) → ended ≡ map pass ys → retired ≡ map runner ys → OneRun b.machine b.opening words (held_by ended) →
+  pub ran_in_threads : RestsSound → BuriesListed → (words : List ℕ) (ended : List PassValue) (retired : List B) → ended ≡ map pass ys → retired ≡ map runner ys → OneRun b.machine b.opening words (held_by ended) →
       RanInThreads b (map gate runners) (map cpu runners) words (map gate retired) (map cpu retired)
-  ran_in_threads rests words ended retired is those run =
+  ran_in_threads rests lists words ended retired is those run =
       let last : map (λ w. cpu (runner w)) ys ≡ map cpu retired = sym (map-map cpu runner ys) ∙ ap (map cpu) (sym those) in
       let left : map (λ w. gate (runner w)) ys ≡ map gate retired = sym (map-map gate runner ys) ∙ ap (map gate) (sym those) in
       subst (λ (l : List Processing). RanInThreads b (map gate runners) (map cpu runners) words (map gate retired) l) last
       (subst (λ (l : List Gate). RanInThreads b (map gate runners) (map cpu runners) words l (map (λ w. cpu (runner w)) ys)) left
       (subst (λ (l : List Processing). RanInThreads b (map gate runners) l words (map (λ w. gate (runner w)) ys) (map (λ w. cpu (runner w)) ys)) cpus_is
       (subst (λ (l : List Gate). RanInThreads b l (map (λ w. cpu (runner w)) xs) words (map (λ w. gate (runner w)) ys) (map (λ w. cpu (runner w)) ys)) gates_is
-      (ran_all pass (λ w. gate (runner w)) (λ w. cpu (runner w)) b xs ys opened_all own_all first_all count ran rests words (subst (λ (l : List PassValue). OneRun b.machine b.opening words (held_by l)) is run)))))
+      (ran_all pass (λ w. gate (runner w)) (λ w. cpu (runner w)) b xs ys opened_all own_all first_all count ran rests lists words (subst (λ (l : List PassValue). OneRun b.machine b.opening words (held_by l)) is run)))))

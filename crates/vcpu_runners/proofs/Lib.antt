@@ -1,4 +1,3 @@
 pub mod Asking
-mod Gathering
-pub mod Scripts
+pub mod Gathering
 pub mod Turning

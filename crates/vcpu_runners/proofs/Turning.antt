@@ -12,7 +12,7 @@ use Rattle.vcpu_turn.specs.Turning.{IsOf}
 use Rattle.vcpu_runners.specs.Cpus.{IsShort}
 use Rattle.vcpu_runners.specs.Gates.{Gate}
 use Rattle.vcpu_runners.specs.Runners.{TakesTurn, TakesTurnBy}
-use Rattle.vcpu_runners.proofs.Scripts.{turn_script}
+use Rattle.vcpu_turn.proofs.Scripts.{turn_script}
 use Rattle.vcpu_runners.specs.Replayed.{TookTurns, more, none}
 use Rattle.vcpu_runners.specs.Working.{RanOut}
 

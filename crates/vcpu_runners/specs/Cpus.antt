@@ -7,7 +7,7 @@ use Rattle.xp_board.specs.Readings.{domain_of}
 use Rattle.vcpu_turn.specs.Cpus.{Processing, fresh}
 
 abbrev pub first_cpu : Machine → ℕ × List Op → Processing
-first_cpu n p = fresh p.0 (domain_of n p.0) p.1
+first_cpu n p = fresh n.frames p.0 (domain_of n p.0) p.1
 
 -- the vCPUs of a machine with these scripts before their first turn
 unfoldable pub first_cpus : Machine → List (List Op) → List Processing

@@ -1,4 +1,5 @@
 pub mod Cpus
+pub mod Destroyed
 pub mod Gates
 pub mod Replayed
 pub mod Rows

@@ -1,6 +1,6 @@
 -- A whole run in threads: which turns each vCPU made, and that the steps of all of them are one run.
 use Rattle.std.specs.Prelude.{◌≡◌, ℕ, true, false, List, length, slice_get, Option, Some}
-use Rattle.xp_words.specs.Places.{sizes_of}
+use Rattle.xp_words.specs.Places.{memory, sizes_of}
 use Rattle.xp_board.specs.declared.holdings.Holdings.{Holdings}
 use Rattle.xp_board.specs.Hands.{empty}
 use Rattle.xp_board.specs.Sound.{SoundWords, hand_of}
@@ -11,6 +11,7 @@ use Rattle.thread_board.specs.Values.{BoardValue}
 use Rattle.vcpu_turn.specs.Cpus.{Processing}
 use Rattle.vcpu_turn.specs.Turning.{IsOf}
 use Rattle.vcpu_runners.specs.Cpus.{AreShort}
+use Rattle.vcpu_runners.specs.Destroyed.{AreDestroyed}
 use Rattle.vcpu_runners.specs.Gates.{Gate}
 use Rattle.vcpu_runners.specs.Runners.{TakesTurn}
 
@@ -45,6 +46,8 @@ pub record RanInThreads (b : BoardValue) (gates : List Gate) (first : List Proce
   pub each : (s : ℕ) (c c' : Processing) → slice_get first s ≡ Some c → slice_get last s ≡ Some c' → RanToItsEnd b s (slice_get gates s) (slice_get left s) c c' (hand_of hands s)
   -- the closing words are sound with empty hands
   pub sound : SoundWords b.machine words
+  -- what was destroyed left there what it listed, and nothing else
+  pub destroyed : AreDestroyed b.machine (memory (sizes_of b.machine) words) (hand_of hands) last
 
 -- the vCPUs of a board before their first turn, one for each of its passes
 pub record AreFirst (b : BoardValue) (cpus : List Processing) : Type 0 where

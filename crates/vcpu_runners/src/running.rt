@@ -7,6 +7,7 @@ ghost use Rattle.vcpu_runners.specs.Replayed.{AreFirst, RanInThreads};
 
 use crate::runner::Runner;
 use crate::worker::{Worker, work_all};
+use dead_domains::a_burial_leaves_only_what_is_listed;
 use sound_rule::rested_words_are_sound;
 use sparse_words::SparseWords;
 use std::alloc::{AllocError, Global};
@@ -46,8 +47,9 @@ pub fn run_in_threads<R: Threads + Wait + Sync>(
     requires first { AreFirst board (cpus_of runners.items) }
     ensures { IfOk result (λ r. RanInThreads board (gates_of (gate_of calm paces count_asks says) runners.items) (cpus_of runners.items) r.0 (gates_of (gate_of calm paces count_asks says) r.1.items) (cpus_of r.1.items)) }
 {
-    // What a run leaves where all hands are empty is law: this call does nothing.
+    // What a run leaves where all hands are empty, and what a dead domain leaves, are laws: these calls do nothing.
     rested_words_are_sound();
+    a_burial_leaves_only_what_is_listed();
     let mut ended = Vec::with_capacity(alloc, passes.len())?;
     let mut retired = Vec::with_capacity(alloc, passes.len())?;
     let mut workers = pair_up(alloc, passes, runners)?;

@@ -3,12 +3,14 @@ use Rattle.std.proofs.Common.{◌≡◌, ℕ, ◌<◌, Bool, List, [], length, O
 use Rattle.std.proofs.lemmas.Bool.{cases_order}
 use Rattle.xp_words.specs.declared.ops.Op.{Op}
 use Rattle.xp_words.specs.declared.reply.LogLine.{LogLine}
-use Rattle.xp_words.specs.declared.reply.Stop.TheVariants.{Paused}
+use Rattle.xp_words.specs.declared.reply.Refusal.TheVariants.{Dying}
+use Rattle.xp_words.specs.declared.reply.Stop.TheVariants.{Paused, Refused}
 use Rattle.xp_board.specs.Told.{PortValue}
 use Rattle.xp_preempt.specs.Gates.{GivesAnswers, ends_yes, last_ask}
 use Rattle.xp_preempt.proofs.Numbering.{says_last, says_no}
 use Rattle.level_release.proofs.Noes.{settled_no}
 use Rattle.vcpu_turn.specs.declared.cpu.TurnEnd.{TurnEnd}
+use Rattle.vcpu_turn.proofs.Dying.{one_dies}
 use Rattle.vcpu_turn.specs.Cpus.{OfOne, Processing, Task, after_turn, begins_at, job_next, job_of, next_of, nothing_left}
 use Rattle.vcpu_turn.specs.Lists.{is_due_answer}
 use Rattle.vcpu_turn.specs.Turning.{DoesNext, DoesTurn, IsTurn, CountsAsks, GoesNoFurther, asks_for, is_due}
@@ -28,6 +30,7 @@ next_hears c None c2 v w answers end retires hears = noes_same answers [] (is_du
 
 going_hears : (c : Processing) (o : Option Op) (v : PortValue) (c2 : Processing) (w : PortValue) (answers : List Bool) (end : TurnEnd) → (does : DoesTurn c o v c2 w answers end) → HearsNoWithin (tried_going does) → NoUntilDue answers (is_due end)
 going_hears c o v _ _ _ _ (turning.DoesTurn.unsettled w answers p settles) hears = subst (λ (b : Bool). NoUntilDue answers b) (sym (due_paused p)) (settles_hears v w answers (Err (Paused p)) settles)
+going_hears c o v _ _ _ _ (turning.DoesTurn.dying life w c2 end dead dies) hears = noes_none (is_due end)
 going_hears c o v _ _ _ _ (turning.DoesTurn.settled u w c2 early answers end settles does) hears =
     noes_then early answers (is_due end) (settled_no v u early (Ok tt) refl settles.course) (next_hears (nothing_left c) o c2 u w answers end does hears)
 
@@ -38,6 +41,7 @@ going_asks : (c : Processing) (o : Option Op) (op : Op) → o ≡ Some op → (t
     CountsAsks c.left task c.at.done end answers (asks_within (tried_going does))
 going_asks c None op is task one v c2 w answers end does = absurd (cc)
 going_asks c (Some other) op is task one v _ _ _ _ (turning.DoesTurn.unsettled w answers p settles) = turning.CountsAsks.settling v w p settles refl refl
+going_asks c (Some other) op is task one v _ _ _ _ (turning.DoesTurn.dying life w c2 end dead dies) = turning.CountsAsks.refused c.domain life (one_dies c other task one life end dies.1) refl refl
 going_asks c (Some other) op is task one v _ _ _ _ (turning.DoesTurn.settled u w c2 early answers end settles on) =
     turning.CountsAsks.counted on.to.done on.answer v u early answers settles on.end_is refl (by_one c.domain (c.answered + 1) u c.at on.to w c.log on.log answers on.answer (job_of other) task one on.went).asks
 
@@ -79,7 +83,15 @@ module _ (c : Processing) (task : Option Task) (before : ℕ) (says : ℕ → Bo
   going_within : (o : Option Op) (op : Op) → o ≡ Some op → job_next o ≡ OfOne task → (v : PortValue) (c2 : Processing) (w : PortValue) (answers : List Bool) (end : TurnEnd) → (does : DoesTurn c o v c2 w answers end) → HearsNoWithin (tried_going does) → GivesAnswers says before answers →
       GoesNoFurther c c2 end (begins_at task c.at.done + (j - asks_within (tried_going does)))
   going_within None op is one v c2 w answers end does hears gives = absurd (cc)
-  going_within (Some other) op is one v _ _ _ _ (turning.DoesTurn.unsettled w answers p settles) hears gives = record { to = c.at; answer = Err (Paused p); end_is = refl; cpu = inr (p, refl, refl, refl); within = (let later = begins_later task c.at.done in omega (arith, later)) }
+  going_within (Some other) op is one v _ _ _ _ (turning.DoesTurn.unsettled w answers p settles) hears gives = record { to = c.at; answer = Err (Paused p); end_is = refl; cpu = inr (inl (p, refl, refl, refl)); within = (let later = begins_later task c.at.done in omega (arith, later)) }
+  going_within (Some other) op is one v _ _ _ _ (turning.DoesTurn.dying life w c2 end dead dies) hears gives =
+      record {
+        to = c.at;
+        answer = Err (Refused (Dying c.domain life));
+        end_is = one_dies c other task one life end dies.1;
+        cpu = inr (inr (life, refl, one_dies c other task one life end dies.1, dies.2));
+        within = (let later = begins_later task c.at.done in omega (arith, later));
+      }
   going_within (Some other) op is one v _ _ _ _ (turning.DoesTurn.settled u w c2 early answers end settles on) hears gives =
       let all = length-append answers early in
       let brought = by_one c.domain (c.answered + 1) u c.at on.to w c.log on.log answers on.answer (job_of other) task one on.went in

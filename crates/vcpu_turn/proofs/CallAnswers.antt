@@ -16,7 +16,7 @@ use Rattle.vcpu_turn.specs.Asking.{CallGone, asks_of, calls_of, elements_of, ele
 use Rattle.vcpu_turn.specs.CallAsks.{first_going}
 use Rattle.vcpu_turn.specs.Calls as calling
 use Rattle.vcpu_turn.specs.Calls.{AnsweredCalls, AnswersCall, WentBy, WorksCalls, tried_by}
-use Rattle.vcpu_turn.specs.Cpus.{Job, OfCalls, OfOne, Processing, job_of, next_of, nothing_left}
+use Rattle.vcpu_turn.specs.Cpus.{Job, OfCalls, OfDestroy, OfOne, Processing, job_of, next_of, nothing_left}
 use Rattle.vcpu_turn.specs.Lists.{Tried, is_due_answer}
 use Rattle.vcpu_turn.specs.Turning as turning
 use Rattle.vcpu_turn.specs.Turning.{DoesNext, DoesTurn, IsTurn}
@@ -98,6 +98,7 @@ pub record TellsAll {d : ℕ} (gone : List (CallGone d)) (items : List Tried) (f
 by_elements : (d op : ℕ) (job : Job) (v : PortValue) (from to : Progress) (w : PortValue) (log log' : List LogLine) (answers : List Bool) (answer : Result ℕ Stop) (went : WentBy d job op v from to w log log' answers answer) →
     (gone_by d job op v from to w log log' answers answer went ≡ []) ⊎ (tried_by d job op v from to w log log' answers answer went ≡ flat_map elements_of (gone_by d job op v from to w log log' answers answer went))
 by_elements d op (OfOne task) v from to w log log' answers answer went = inl refl
+by_elements d op (OfDestroy x) v from to w log log' answers answer went = inl refl
 by_elements d op (OfCalls calls) v from to w log log' answers answer went = inr (calls_elements went.works)
 
 next_elements : (c : Processing) (o : Option Op) (c2 : Processing) (v w : PortValue) (answers : List Bool) (end : TurnEnd) → (does : DoesNext c o c2 v w answers end) →
@@ -108,6 +109,7 @@ next_elements c None c2 v w answers end retires = inl refl
 by_tells : (d op : ℕ) (job : Job) (v : PortValue) (from to : Progress) (w : PortValue) (log log' : List LogLine) (answers : List Bool) (answer : Result ℕ Stop) (went : WentBy d job op v from to w log log' answers answer) →
     Tells (gone_by d job op v from to w log log' answers answer went) answers
 by_tells d op (OfOne task) v from to w log log' answers answer went = record { last = answers; all = sym (append-nil answers); undue = tt }
+by_tells d op (OfDestroy x) v from to w log log' answers answer went = record { last = answers; all = sym (append-nil answers); undue = tt }
 by_tells d op (OfCalls calls) v from to w log log' answers answer went = calls_tell went.works
 
 next_tells : (c : Processing) (o : Option Op) (c2 : Processing) (v w : PortValue) (answers : List Bool) (end : TurnEnd) → (does : DoesNext c o c2 v w answers end) → Tells (gone_next c o c2 v w answers end does) answers
@@ -116,6 +118,7 @@ next_tells c None c2 v w answers end retires = record { last = answers; all = sy
 
 going_tells : (c : Processing) (o : Option Op) (v : PortValue) (d : Processing) (w : PortValue) (answers : List Bool) (end : TurnEnd) → (does : DoesTurn c o v d w answers end) → TellsAll (gone_going does) (tried_going does) (first_going does) answers
 going_tells c o v _ _ _ _ (turning.DoesTurn.unsettled w answers p settles) = record { last = []; all = refl; undue = tt; behind = inl refl }
+going_tells c o v _ _ _ _ (turning.DoesTurn.dying life w d end dead dies) = record { last = []; all = refl; undue = tt; behind = inl refl }
 going_tells c o v _ _ _ _ (turning.DoesTurn.settled u w d early answers end settles does) =
     let told = next_tells (nothing_left c) o d u w answers end does in
     record {

@@ -17,7 +17,7 @@ use Rattle.vcpu_turn.specs.Asking.{CallGone, CountsCalls, GoesAsOne, asks_of, ca
 use Rattle.vcpu_turn.specs.Asking as asking
 use Rattle.vcpu_turn.specs.Calls as calling
 use Rattle.vcpu_turn.specs.Calls.{AnsweredCalls, AnswersCall, WentBy, WorksCalls, tried_answered, tried_by, tried_call, tried_calls}
-use Rattle.vcpu_turn.specs.Cpus.{Job, OfCalls, OfOne, Processing, end_of, job_next, job_of, next_of, task_in}
+use Rattle.vcpu_turn.specs.Cpus.{Job, OfCalls, OfDestroy, OfOne, Processing, done_at, end_of, job_next, job_of, next_of, task_in}
 use Rattle.vcpu_turn.specs.Lists.{Tried}
 use Rattle.vcpu_turn.specs.Settling.{Settles}
 use Rattle.vcpu_turn.specs.Turning.{DoesTurn, IsTurn}
@@ -158,6 +158,7 @@ module _ (c : Processing) (calls : List Call) where
       (u : PortValue) (early : List Bool) → Settles c.left u v early (Ok tt) → (went : WentBy c.domain job op v from to w log log' answers answer) →
       OfMulticall (gone_by c.domain job op v from to w log log' answers answer went) (tried_by c.domain job op v from to w log log' answers answer went) end (answers ++ early)
   job_calls op (OfOne task) is v from to w log log' answers answer end end_is u early settles went = absurd (cc)
+  job_calls op (OfDestroy x) is v from to w log log' answers answer end end_is u early settles went = absurd (cc)
   job_calls op (OfCalls these) is v from to w log log' answers answer end end_is u early settles went =
       let sum = length-append answers early in
       record {
@@ -172,6 +173,9 @@ module _ (c : Processing) (calls : List Call) where
 
   going_calls : (o : Option Op) → job_next o ≡ OfCalls calls → (v : PortValue) (d : Processing) (w : PortValue) (answers : List Bool) (end : TurnEnd) → (does : DoesTurn c o v d w answers end) → OfMulticall (gone_going does) (tried_going does) end answers
   going_calls o is v _ _ _ _ (turning.DoesTurn.unsettled w answers p settles) = record { stands = All-nil (Stands calls); counts = asking.CountsCalls.settling v w p settles refl refl; elements = refl }
+  going_calls None is v _ _ _ _ (turning.DoesTurn.dying life w d end dead dies) = absurd (cc)
+  going_calls (Some op) is v _ _ _ _ (turning.DoesTurn.dying life w d end dead dies) =
+      record { stands = All-nil (Stands calls); counts = asking.CountsCalls.refused (done_at (job_of op) c.at) c.domain life dies.1 refl refl; elements = refl }
   going_calls None is v _ _ _ _ (turning.DoesTurn.settled u w d early answers end settles retires) = absurd (cc)
   going_calls (Some op) is v _ _ _ _ (turning.DoesTurn.settled u w d early answers end settles on) =
       job_calls (c.answered + 1) (job_of op) is u c.at on.to w c.log on.log answers on.answer end on.end_is v early settles on.went

@@ -134,7 +134,7 @@ long_is calls above = grind (arith, nat_tests)
 short_is : (calls : List Call) → length calls ≤ 64 → is_long calls ≡ false
 short_is calls few = grind (arith, nat_tests)
 
-pub room_long : (calls : List Call) (at to : Progress) (len : ℕ) → 64 < length calls → len + room_from (OfCalls calls) to.call + made_within (OfCalls calls) at ≤ len + room_from (OfCalls calls) at.call + made_within (OfCalls calls) to
+pub room_long : (calls : List Call) (at to : Progress) (len : ℕ) → 64 < length calls → len + room_from 0 (OfCalls calls) to.call + made_within (OfCalls calls) at ≤ len + room_from 0 (OfCalls calls) at.call + made_within (OfCalls calls) to
 room_long calls at to len above =
     by (is_long calls) (long_is calls above)
   where
@@ -145,15 +145,15 @@ room_long calls at to len above =
 
 -- of one that is not long
 module _ (calls : List Call) where
-  room_is : length calls ≤ 64 → (k : ℕ) → room_from (OfCalls calls) k ≡ sum_by lines_of_call (drop k calls)
+  room_is : length calls ≤ 64 → (k : ℕ) → room_from 0 (OfCalls calls) k ≡ sum_by lines_of_call (drop k calls)
   room_is few k = ap (λ (b : Bool). if b then 0 else sum_by lines_of_call (drop k calls)) (short_is calls few)
 
   made_is : length calls ≤ 64 → (at : Progress) (call : Call) → slice_get calls at.call ≡ Some call → made_within (OfCalls calls) at ≡ lines_made (task_in call) at.done
   made_is few at call is =
       ap (λ (b : Bool). if b then 0 else lines_made (task_called (slice_get calls at.call)) at.done) (short_is calls few) ∙ ap (λ (o : Option Call). lines_made (task_called o) at.done) is
 
-  pub room_at : (from at : Progress) (call : Call) (len0 cap0 : ℕ) → length calls ≤ 64 → slice_get calls at.call ≡ Some call → (len cap : ℕ) → len0 + room_from (OfCalls calls) from.call ≤ cap0 + made_within (OfCalls calls) from →
-      len + room_from (OfCalls calls) at.call + made_within (OfCalls calls) from ≤ len0 + room_from (OfCalls calls) from.call + made_within (OfCalls calls) at → cap ≡ cap0 → len + lines_of_call call ≤ cap + lines_made (task_in call) at.done
+  pub room_at : (from at : Progress) (call : Call) (len0 cap0 : ℕ) → length calls ≤ 64 → slice_get calls at.call ≡ Some call → (len cap : ℕ) → len0 + room_from 0 (OfCalls calls) from.call ≤ cap0 + made_within (OfCalls calls) from →
+      len + room_from 0 (OfCalls calls) at.call + made_within (OfCalls calls) from ≤ len0 + room_from 0 (OfCalls calls) from.call + made_within (OfCalls calls) at → cap ≡ cap0 → len + lines_of_call call ≤ cap + lines_made (task_in call) at.done
   room_at from at call len0 cap0 few is len cap first room same =
       let here = room_is few at.call in
       let made = made_is few at call is in
@@ -162,8 +162,8 @@ module _ (calls : List Call) where
 
   -- it was answered
   pub room_more : (from at to : Progress) (call : Call) (len0 len len' : ℕ) → length calls ≤ 64 → slice_get calls at.call ≡ Some call → to ≡ begun_at (at.call + 1) →
-      len + room_from (OfCalls calls) at.call + made_within (OfCalls calls) from ≤ len0 + room_from (OfCalls calls) from.call + made_within (OfCalls calls) at → len' + lines_made (task_in call) at.done ≤ len + lines_of_call call →
-      len' + room_from (OfCalls calls) to.call + made_within (OfCalls calls) from ≤ len0 + room_from (OfCalls calls) from.call + made_within (OfCalls calls) to
+      len + room_from 0 (OfCalls calls) at.call + made_within (OfCalls calls) from ≤ len0 + room_from 0 (OfCalls calls) from.call + made_within (OfCalls calls) at → len' + lines_made (task_in call) at.done ≤ len + lines_of_call call →
+      len' + room_from 0 (OfCalls calls) to.call + made_within (OfCalls calls) from ≤ len0 + room_from 0 (OfCalls calls) from.call + made_within (OfCalls calls) to
   room_more from at to call len0 len len' few is next room more =
       let here = room_is few at.call in
       let there = room_is few to.call in
@@ -174,17 +174,17 @@ module _ (calls : List Call) where
 
   -- it is paused
   pub room_stopped : (from at to : Progress) (call : Call) (len0 len len' : ℕ) → length calls ≤ 64 → slice_get calls at.call ≡ Some call → to.call ≡ at.call →
-      len + room_from (OfCalls calls) at.call + made_within (OfCalls calls) from ≤ len0 + room_from (OfCalls calls) from.call + made_within (OfCalls calls) at → len' + lines_made (task_in call) at.done ≤ len + lines_made (task_in call) to.done →
-      len' + room_from (OfCalls calls) to.call + made_within (OfCalls calls) from ≤ len0 + room_from (OfCalls calls) from.call + made_within (OfCalls calls) to
+      len + room_from 0 (OfCalls calls) at.call + made_within (OfCalls calls) from ≤ len0 + room_from 0 (OfCalls calls) from.call + made_within (OfCalls calls) at → len' + lines_made (task_in call) at.done ≤ len + lines_made (task_in call) to.done →
+      len' + room_from 0 (OfCalls calls) to.call + made_within (OfCalls calls) from ≤ len0 + room_from 0 (OfCalls calls) from.call + made_within (OfCalls calls) to
   room_stopped from at to call len0 len len' few is same room more =
-      let here = ap (room_from (OfCalls calls)) same in
+      let here = ap (room_from 0 (OfCalls calls)) same in
       let made = made_is few at call is in
       let made' = made_is few to call (ap (slice_get calls) same ∙ is) in
       omega (arith, room, more, here, made, made')
 
   -- none is left
-  pub room_past : (from at : Progress) (len0 len : ℕ) → length calls ≤ at.call → len + room_from (OfCalls calls) at.call + made_within (OfCalls calls) from ≤ len0 + room_from (OfCalls calls) from.call + made_within (OfCalls calls) at →
-      len + room_from (OfCalls calls) at.call + made_within (OfCalls calls) from ≤ len0 + room_from (OfCalls calls) from.call + made_within (OfCalls calls) (record at { done = at.call })
+  pub room_past : (from at : Progress) (len0 len : ℕ) → length calls ≤ at.call → len + room_from 0 (OfCalls calls) at.call + made_within (OfCalls calls) from ≤ len0 + room_from 0 (OfCalls calls) from.call + made_within (OfCalls calls) at →
+      len + room_from 0 (OfCalls calls) at.call + made_within (OfCalls calls) from ≤ len0 + room_from 0 (OfCalls calls) from.call + made_within (OfCalls calls) (record at { done = at.call })
   room_past from at len0 len past room =
       let few = made_past at past in omega (arith, room, few)
     where

@@ -19,15 +19,17 @@ use Rattle.vcpu_turn.specs.declared.cpu.CallNumber.{CallNumber}
 use Rattle.vcpu_turn.specs.declared.cpu.Progress.{Progress}
 use Rattle.vcpu_turn.specs.Calls as calling
 use Rattle.vcpu_turn.specs.Calls.{AnsweredCalls, AnswersCall, WentBy, WorksCalls, replied, tried_answered, tried_by, tried_call, tried_calls}
-use Rattle.vcpu_turn.specs.Cpus.{Job, OfCalls, OfOne, Task, begins_at, by_itself, job_of, task_in, task_of}
+use Rattle.vcpu_turn.specs.Cpus.{Job, OfCalls, OfDestroy, OfOne, Task, begins_at, by_itself, job_of, task_in, task_of}
 use Rattle.vcpu_turn.specs.Extents.{Block, given_lines}
 use Rattle.vcpu_turn.specs.Lists.{Tried, is_due_answer}
 use Rattle.vcpu_turn.specs.Turning.{asks_for}
 use Rattle.vcpu_turn.specs.Working.{ElementFits, PassesYes, ReleasesNothing, WentOn, gave_of, tried_of}
 use Rattle.vcpu_turn.specs.Asking.{HearsNo, HearsNoWithin, NoUntilDue, OfJob, OfTask, ReleasesNothingBy}
 use Rattle.vcpu_turn.proofs.Bringing.{Brings, brings, releases_none, valued_hears}
+use Rattle.vcpu_turn.proofs.Destroyed.{destroyed_came, destroyed_hears}
 use Rattle.vcpu_turn.proofs.Hearing.{settles_hears}
 use Rattle.vcpu_turn.proofs.Hindering.{AloneStays, IsSpared, NeitherLostNorBusy, NobodyWaitedFor, Spared, settles_came, settles_spared, spared_back, spared_on, valued_spared}
+use Rattle.vcpu_turn.proofs.NextOps.{DestroysNone}
 use Rattle.vcpu_turn.proofs.Noes.{noes_all, noes_no, noes_none, noes_then}
 
 -- ---- one task
@@ -38,6 +40,7 @@ went_brings {d} {task} {v = v} {from = from} {to = to} {w = w} {answers = answer
 -- an operation of a task that is built is no multicall
 pub one_of : (op : Op) (task : Task) → task_of op ≡ Some task → job_of op ≡ OfOne (Some task)
 one_of (ops.Multi calls) task is = absurd (cc)
+one_of (ops.Destroy x) task is = absurd (cc)
 one_of op task is = ap (λ (o : Option Task). OfOne o) is
 
 pub one_same : (o task : Option Task) → OfOne o ≡ OfOne task → o ≡ task
@@ -148,18 +151,22 @@ module _ (stays : AloneStays) (neither : NeitherLostNorBusy) (nobody : NobodyWai
 module _ (d op : ℕ) (v : PortValue) (from to : Progress) (w : PortValue) (log log' : List LogLine) (answers : List Bool) (answer : Result ℕ Stop) where
   pub by_came : (job : Job) → WentBy d job op v from to w log log' answers answer → Came v w
   by_came (OfOne task) went = (went_brings went).came
+  by_came (OfDestroy x) went = destroyed_came went
   by_came (OfCalls calls) went = calls_came went.works
 
-  pub by_spared : AloneStays → NeitherLostNorBusy → NobodyWaitedFor → (job : Job) → IsSpared v → WentBy d job op v from to w log log' answers answer → Spared v answer
-  by_spared stays neither nobody (OfOne task) s went = (went_brings went).spared stays neither nobody s
-  by_spared stays neither nobody (OfCalls calls) s went = valued_spared v went.ended answer went.answer_is (calls_spare stays neither nobody s went.works)
+  pub by_spared : AloneStays → NeitherLostNorBusy → NobodyWaitedFor → (job : Job) → DestroysNone job → IsSpared v → WentBy d job op v from to w log log' answers answer → Spared v answer
+  by_spared stays neither nobody (OfDestroy x) none s went = absurd none
+  by_spared stays neither nobody (OfOne task) none s went = (went_brings went).spared stays neither nobody s
+  by_spared stays neither nobody (OfCalls calls) none s went = valued_spared v went.ended answer went.answer_is (calls_spare stays neither nobody s went.works)
 
   pub by_hears : (job : Job) → (went : WentBy d job op v from to w log log' answers answer) → HearsNoWithin (tried_by d job op v from to w log log' answers answer went) → NoUntilDue answers (is_due_answer answer)
   by_hears (OfOne task) went hears = (went_brings went).hears hears
+  by_hears (OfDestroy x) went hears = destroyed_hears went
   by_hears (OfCalls calls) went hears = valued_hears answers went.ended answer went.answer_is (calls_hear went.works hears)
 
   pub by_passes : (job : Job) → (went : WentBy d job op v from to w log log' answers answer) → All (λ (t : Tried). HearsNo t ⊎ OfJob PassesYes job t) (tried_by d job op v from to w log log' answers answer went)
   by_passes (OfOne task) went = (went_brings went).passes
+  by_passes (OfDestroy x) went = All-nil (λ (t : Tried). HearsNo t ⊎ OfJob PassesYes (OfDestroy x) t)
   by_passes (OfCalls calls) went = calls_pass went.works
 
   -- one list
@@ -168,14 +175,17 @@ module _ (d op : ℕ) (v : PortValue) (from to : Progress) (w : PortValue) (log 
   by_one (OfOne o) task is went =
       subst (λ (l : Option Task). Brings (OfTask (λ x. ElementFits d x from.done from.awaited) l) (OfTask PassesYes l) v (begins_at l from.done) to.done w answers answer (asks_for l from.done to.done answer) (tried_by d (OfOne o) op v from to w log log' answers answer went))
       (one_same o task is) (went_brings went)
+  by_one (OfDestroy x) task is went = absurd (cc)
   by_one (OfCalls calls) task is went = absurd (cc)
 
   -- which is given blocks, and logs no more
   pub one_gave : (job : Job) (task : Option Task) → job ≡ OfOne task → WentBy d job op v from to w log log' answers answer → (gave : List Block) × (log' ≡ log ++ given_lines (by_itself op) gave)
   one_gave (OfOne o) task is went = (gave_of d o from.awaited v from.done to.done w answers answer went.works, went.lines)
+  one_gave (OfDestroy x) task is went = absurd (cc)
   one_gave (OfCalls calls) task is went = absurd (cc)
 
 -- ---- operations that release nothing
 pub job_releases_none : (job : Job) → ReleasesNothingBy job → (t : Tried) → OfJob PassesYes job t → ⊥
 job_releases_none (OfOne task) off t passes = releases_none task off t passes
+job_releases_none (OfDestroy x) off t passes = absurd passes
 job_releases_none (OfCalls calls) off t passes = releases_none (task_in passes.1) (subst (λ (call : Call). ReleasesNothing (task_in call)) passes.3 (off passes.0 passes.1 passes.2)) t passes.4

@@ -20,6 +20,7 @@ settles_leaves k (Some j) is v w answers p said s = subst (λ (i : ℕ). LeavesL
 going_leaves : (k : ℕ) (c : Processing) (o : Option Op) → c.left ≡ Some k → (v : PortValue) (d : Processing) (w : PortValue) (answers : List Bool) (end : TurnEnd) → ends_yes answers ≡ true → (does : DoesTurn c o v d w answers end) → is_settling does ≡ true →
     LeavesLess k d.left ⊎ (ends_first does ≡ true)
 going_leaves k c o is v _ _ _ _ said (turning.DoesTurn.unsettled w answers p settles) settling = settles_leaves k c.left is v w answers p said settles
+going_leaves k c o is v _ _ _ _ said (turning.DoesTurn.dying life w d end dead dies) settling = absurd cc
 going_leaves k c o is v _ _ _ _ said (turning.DoesTurn.settled u w d early answers end settles does) settling = absurd cc
 
 pub turn_leaves : (c d : Processing) (end : TurnEnd) (v w : PortValue) (answers : List Bool) (k : ℕ) → c.left ≡ Some k → (turn : IsTurn c d end v w answers) → is_settling turn.does ≡ true → ends_yes answers ≡ true →

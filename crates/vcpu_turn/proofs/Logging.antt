@@ -9,9 +9,10 @@ use Rattle.xp_words.specs.declared.reply.LogLine.TheVariants as lines
 use Rattle.xp_words.specs.declared.reply.Reply.{Reply}
 use Rattle.xp_words.specs.declared.reply.Stop.{Stop}
 use Rattle.xp_board.specs.Told.{PortValue}
+use Rattle.domain_destroy.specs.Course.{LeftFrame, left_lines}
 use Rattle.vcpu_turn.specs.Calls as calling
 use Rattle.vcpu_turn.specs.Calls.{AnsweredCalls, AnswersCall, WentBy, WorksCalls}
-use Rattle.vcpu_turn.specs.Cpus.{Job, OfCalls, OfOne, Processing, Task, after_turn, job_of, next_of, nothing_left}
+use Rattle.vcpu_turn.specs.Cpus.{Job, OfCalls, OfDestroy, OfOne, Processing, Task, after_turn, job_of, next_of, nothing_left}
 use Rattle.vcpu_turn.specs.Extents.{Block, given_lines}
 use Rattle.vcpu_turn.specs.Turning as turning
 use Rattle.vcpu_turn.specs.Turning.{DoesTurn, IsTurn}
@@ -76,8 +77,23 @@ calls_count (calling.WorksCalls.long above) = refl
 calls_count (calling.WorksCalls.all_answered at w behind answers few did all) = answered_counts did
 calls_count (calling.WorksCalls.stopped at to u w call before behind answers asked stop few did is stops) = call_counts stops ∙ answered_counts did
 
+-- nor are lines of frames that are left
+none_left : (op : ℕ) (xs : List LeftFrame) → sum_by answers_by (left_lines op xs) ≡ 0
+none_left op [] = refl
+none_left op (x ∷ xs) =
+    let all = sum_by-cons answers_by (lines.Left op x.frame x.word) (left_lines op xs) in
+    let rest = none_left op xs in
+    omega (arith, all, rest)
+
+left_counts : (log log' : List LogLine) (op : ℕ) (more : List LeftFrame) → log' ≡ log ++ left_lines op more → answers_in log' ≡ answers_in log
+left_counts log log' op more is =
+    let all = sum_by-append answers_by log (left_lines op more) in
+    let none = none_left op more in
+    ap answers_in is ∙ omega (arith, all, none)
+
 by_counts : (d op : ℕ) (v : PortValue) (from to : Progress) (w : PortValue) (log log' : List LogLine) (answers : List Bool) (answer : Result ℕ Stop) (job : Job) → WentBy d job op v from to w log log' answers answer → answers_in log' ≡ answers_in log
 by_counts d op v from to w log log' answers answer (OfOne task) went = went_counts went
+by_counts d op v from to w log log' answers answer (OfDestroy x) went = left_counts log log' op went.destroyed.more went.destroyed.lines
 by_counts d op v from to w log log' answers answer (OfCalls calls) went = calls_count went.works
 
 after_counts : (c : Processing) (to : Progress) (log : List LogLine) (end : TurnEnd) → answers_in log ≡ answers_in c.log → Counts c → Counts (after_turn c to log end)
@@ -87,6 +103,8 @@ after_counts c to log ends.Retired same counts = counts
 
 going_counts : (c : Processing) (o : Option Op) (v : PortValue) (d : Processing) (w : PortValue) (answers : List Bool) (end : TurnEnd) → DoesTurn c o v d w answers end → Counts c → Counts d
 going_counts c o v _ _ _ _ (turning.DoesTurn.unsettled w answers p settles) counts = counts
+going_counts c None v _ _ _ _ (turning.DoesTurn.dying life w d end dead dies) counts = subst Counts (sym dies.2) counts
+going_counts c (Some op) v _ _ _ _ (turning.DoesTurn.dying life w d end dead dies) counts = subst Counts (sym dies.2) (after_counts c c.at c.log end refl counts)
 going_counts c None v _ _ _ _ (turning.DoesTurn.settled u w d early answers end settles retires) counts = subst Counts (sym retires.cpu) counts
 going_counts c (Some op) v _ _ _ _ (turning.DoesTurn.settled u w d early answers end settles on) counts =
     subst Counts (sym on.cpu) (after_counts (nothing_left c) on.to on.log end (by_counts c.domain (c.answered + 1) u c.at on.to w c.log on.log answers on.answer (job_of op) on.went) counts)

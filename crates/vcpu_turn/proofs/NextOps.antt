@@ -8,11 +8,17 @@ use Rattle.xp_words.specs.declared.reply.LogLine.{LogLine}
 use Rattle.xp_words.specs.declared.reply.Stop.{Stop}
 use Rattle.xp_board.specs.Told.{PortValue}
 use Rattle.vcpu_turn.specs.Calls.{WentBy}
-use Rattle.vcpu_turn.specs.Cpus.{IsFew, IsFewIn, IsFewOf, Job, OfCalls, OfOne, Processing, begun, is_long, job_next, job_of, lines_ahead, lines_made, lines_of, lines_of_call, made_by, made_next, made_within, next_of, room_from, room_of, task_called, task_in}
+use Rattle.domain_destroy.specs.Coming.{seen_to}
+use Rattle.vcpu_turn.specs.Cpus.{IsFew, IsFewIn, IsFewOf, IsMade, Job, OfCalls, OfDestroy, OfOne, Processing, begun, is_long, job_next, job_of, lines_ahead, lines_made, lines_of, lines_of_call, made_by, made_next, made_within, next_of, room_from, room_of, task_called, task_in}
 use Rattle.vcpu_turn.specs.Lists.{Answering, is_due_answer}
 use Rattle.vcpu_turn.specs.Turning.{OperationWentOn, NextWentOn}
 use Rattle.vcpu_turn.specs.declared.cpu.Progress.{Progress}
 use Rattle.vcpu_turn.proofs.Gating.{answers_as, answers_nothing}
+
+-- it is no destruction
+abbrev pub DestroysNone : Job → Type 0
+DestroysNone (OfDestroy x) = ⊥
+DestroysNone job = Unit {0}
 
 pub worked_none : (o : Option Op) (c c' : Processing) (v w : PortValue) (answers : List Bool) → NextWentOn o c c' v w answers None → (o ≡ None) × (c' ≡ c) × (w ≡ v) × (answers ≡ [])
 worked_none (Some op) c c' v w answers h = absurd h
@@ -64,29 +70,35 @@ more_seen seen c is left v w c' answers answer worked = more_left v w (record se
 made_few : (done most : ℕ) → min done most ≤ most
 made_few done most = grind arith
 
-pub ahead_more : (script : List Op) (answered : ℕ) (op : Op) → slice_get script answered ≡ Some op → lines_ahead script answered ≡ lines_of op + lines_ahead script (answered + 1)
-ahead_more script answered op at =
-    let all = sum_by-drop_more lines_of script answered op (slice_get_within script answered op at) in
-    all ∙ ap (λ (x : Op). lines_of x + lines_ahead script (answered + 1)) (get_or_from_slice_get script answered op op at)
+pub ahead_more : (frames : ℕ) (script : List Op) (answered : ℕ) (op : Op) → slice_get script answered ≡ Some op → lines_ahead frames script answered ≡ lines_of frames op + lines_ahead frames script (answered + 1)
+ahead_more frames script answered op at =
+    let all = sum_by-drop_more (lines_of frames) script answered op (slice_get_within script answered op at) in
+    all ∙ ap (λ (x : Op). lines_of frames x + lines_ahead frames script (answered + 1)) (get_or_from_slice_get script answered op op at)
 
 pub calls_more : (calls : List Call) (answered : ℕ) (call : Call) → slice_get calls answered ≡ Some call → sum_by lines_of_call (drop answered calls) ≡ lines_of_call call + sum_by lines_of_call (drop (answered + 1) calls)
 calls_more calls answered call at =
     let all = sum_by-drop_more lines_of_call calls answered call (slice_get_within calls answered call at) in
     all ∙ ap (λ (x : Call). lines_of_call x + sum_by lines_of_call (drop (answered + 1) calls)) (get_or_from_slice_get calls answered call call at)
 
+abbrev pub SeenNoMore : ℕ → Job → Progress → Type 0
+SeenNoMore frames (OfDestroy x) at = seen_to at.place ≤ frames
+SeenNoMore frames job at = Unit {0}
+
 -- what an operation may still log grows less with each call that is answered
-room_less : (job : Job) (answered : ℕ) → room_from job answered ≤ room_from job 0
-room_less (OfOne task) answered = omega arith
-room_less (OfCalls calls) answered = by (is_long calls)
+room_less : (frames : ℕ) (job : Job) (answered : ℕ) → room_from frames job answered ≤ room_from frames job 0
+room_less frames (OfOne task) answered = omega arith
+room_less frames (OfDestroy x) answered = omega arith
+room_less frames (OfCalls calls) answered = by (is_long calls)
   where
     by : (long : Bool) → (if long then 0 else sum_by lines_of_call (drop answered calls)) ≤ (if long then 0 else sum_by lines_of_call (drop 0 calls))
     by true = omega arith
     by false = let all = sum_by-take-drop lines_of_call calls answered in omega (arith, all)
 
--- and the call in progress has made no more lines than it may
-made_less : (job : Job) (at : Progress) → made_within job at ≤ room_from job at.call
-made_less (OfOne task) at = made_few at.done (room_of task)
-made_less (OfCalls calls) at = by (is_long calls)
+-- and the call in progress has made no more lines than it may; so has a destruction that has looked at no more frames than there are
+pub made_less : (frames : ℕ) (job : Job) (at : Progress) → SeenNoMore frames job at → made_within job at ≤ room_from frames job at.call
+made_less frames (OfOne task) at seen = made_few at.done (room_of task)
+made_less frames (OfDestroy x) at seen = seen
+made_less frames (OfCalls calls) at seen = by (is_long calls)
   where
     called : (o : Option Call) → slice_get calls at.call ≡ o → lines_made (task_called o) at.done ≤ sum_by lines_of_call (drop at.call calls)
     called None is = omega arith
@@ -96,36 +108,35 @@ made_less (OfCalls calls) at = by (is_long calls)
     by true = omega arith
     by false = called (slice_get calls at.call) refl
 
-module _ (script : List Op) (answered len capacity : ℕ) (at : Progress) (room : len + lines_ahead script answered ≤ capacity + made_next (slice_get script answered) at) where
+module _ (frames : ℕ) (script : List Op) (answered len capacity : ℕ) (at : Progress) (room : len + lines_ahead frames script answered ≤ capacity + made_next frames (slice_get script answered) at) where
   module _ (op : Op) (next : slice_get script answered ≡ Some op) where
-    room_of_op : len + lines_ahead script answered ≤ capacity + made_by (job_of op) at
-    room_of_op = subst (λ (o : Option Op). len + lines_ahead script answered ≤ capacity + made_next o at) next room
+    room_of_op : len + lines_ahead frames script answered ≤ capacity + made_by frames (job_of op) at
+    room_of_op = subst (λ (o : Option Op). len + lines_ahead frames script answered ≤ capacity + made_next frames o at) next room
 
-    pub room_next : len + room_from (job_of op) at.call ≤ capacity + made_within (job_of op) at
-    room_next = let lines = ahead_more script answered op next in let from = room_of_op in let less = room_less (job_of op) at.call in omega (arith, lines, from, less)
+    pub room_next : len + room_from frames (job_of op) at.call ≤ capacity + made_within (job_of op) at
+    room_next = let lines = ahead_more frames script answered op next in let from = room_of_op in let less = room_less frames (job_of op) at.call in omega (arith, lines, from, less)
 
     -- it went on
-    pub room_kept : (len' capacity' : ℕ) (to : Progress) → capacity' ≡ capacity → len' + room_from (job_of op) to.call + made_within (job_of op) at ≤ len + room_from (job_of op) at.call + made_within (job_of op) to →
-        len' + lines_ahead script answered ≤ capacity' + made_next (slice_get script answered) to
+    pub room_kept : (len' capacity' : ℕ) (to : Progress) → capacity' ≡ capacity → len' + room_from frames (job_of op) to.call + made_within (job_of op) at ≤ len + room_from frames (job_of op) at.call + made_within (job_of op) to →
+        len' + lines_ahead frames script answered ≤ capacity' + made_next frames (slice_get script answered) to
     room_kept len' capacity' to same more =
-        let lines = ahead_more script answered op next in
+        let lines = ahead_more frames script answered op next in
         let from = room_of_op in
-        let less = room_less (job_of op) at.call in
-        let less' = room_less (job_of op) to.call in
-        subst (λ (o : Option Op). len' + lines_ahead script answered ≤ capacity' + made_next o to) (sym next) (omega (arith, lines, from, less, less', same, more))
+        let less = room_less frames (job_of op) at.call in
+        let less' = room_less frames (job_of op) to.call in
+        subst (λ (o : Option Op). len' + lines_ahead frames script answered ≤ capacity' + made_next frames o to) (sym next) (omega (arith, lines, from, less, less', same, more))
 
-    room_op_answered : len + 1 + lines_ahead script (answered + 1) ≤ capacity
-    room_op_answered =
-        let lines = ahead_more script answered op next in
+    room_op_answered : made_within (job_of op) at ≤ room_from frames (job_of op) at.call → len + 1 + lines_ahead frames script (answered + 1) ≤ capacity
+    room_op_answered few =
+        let lines = ahead_more frames script answered op next in
         let from = room_of_op in
-        let less = room_less (job_of op) at.call in
-        let few = made_less (job_of op) at in
+        let less = room_less frames (job_of op) at.call in
         omega (arith, lines, from, less, few)
 
   -- there is room for the line of its answer
-  pub room_answered : answered < length script → len + 1 + lines_ahead script (answered + 1) ≤ capacity
-  room_answered more = elim (slice_get_cases script answered).1 [
-    | inl (op, less, next, at) ↦ room_op_answered op next
+  pub room_answered : answered < length script → IsMade frames (slice_get script answered) at → len + 1 + lines_ahead frames script (answered + 1) ≤ capacity
+  room_answered more made = elim (slice_get_cases script answered).1 [
+    | inl (op, less, next, is) ↦ room_op_answered op next (subst (λ (o : Option Op). IsMade frames o at) next made)
     | inr (past, next) ↦ absurd (omega (arith, more, past))
   ]
 
@@ -133,18 +144,19 @@ module _ (script : List Op) (answered len capacity : ℕ) (at : Progress) (room 
 made_none : (n : ℕ) → min 0 n ≡ 0
 made_none n = grind arith
 
-pub made_begun : (o : Option Op) → made_next o begun ≡ 0
-made_begun o = by (job_next o)
+pub made_begun : (frames : ℕ) (o : Option Op) → made_next frames o begun ≡ 0
+made_begun frames o = by (job_next o)
   where
     within : (job : Job) → made_within job begun ≡ 0
     within (OfOne task) = made_none (room_of task)
+    within (OfDestroy x) = refl
     within (OfCalls calls) = long (is_long calls)
       where
         long : (b : Bool) → (if b then 0 else lines_made (task_called (slice_get calls 0)) 0) ≡ 0
         long true = refl
         long false = made_none (room_of (task_called (slice_get calls 0)))
 
-    by : (job : Job) → made_by job begun ≡ 0
+    by : (job : Job) → made_by frames job begun ≡ 0
     by job = let w = within job in omega (arith, w)
 
 pub few_begun : (o : Option Op) → IsFew o begun
@@ -157,4 +169,10 @@ few_begun (Some op) = by (job_of op)
 
     by : (job : Job) → IsFewIn job begun
     by (OfOne task) = omega arith
+    by (OfDestroy x) = (refl, omega arith)
     by (OfCalls calls) = (omega arith, called (slice_get calls 0))
+
+pub seen_begun : (frames : ℕ) (job : Job) → SeenNoMore frames job begun
+seen_begun frames (OfOne task) = tt
+seen_begun frames (OfCalls calls) = tt
+seen_begun frames (OfDestroy x) = omega arith

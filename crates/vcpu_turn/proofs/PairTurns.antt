@@ -45,10 +45,10 @@ use Rattle.vcpu_turn.specs.Calls.{WentBy, tried_by}
 use Rattle.vcpu_turn.specs.Lists.{Tried, did_in, tried, tried_in, DidItems, WorksOn}
 use Rattle.vcpu_turn.specs.Pairs.{ExchangesEntry, IsLast, MovesATable, MovesNoTable, MovesTable, tried_owned, FindsOwners, FitsPair, PairFits, WorksOwned}
 use Rattle.vcpu_turn.specs.Working.{tried_of, Works}
-use Rattle.vcpu_turn.specs.Cpus.{Job, OfCalls, OfOne, OfPairs, Processing, Task, job_next, job_of, next_of, task_of}
+use Rattle.vcpu_turn.specs.Cpus.{Job, OfCalls, OfDestroy, OfOne, OfPairs, Processing, Task, job_next, job_of, next_of, task_of}
 use Rattle.vcpu_turn.specs.Lists as lists
 use Rattle.vcpu_turn.specs.Turning as turning
-use Rattle.vcpu_turn.specs.Turning.{Begins, CountsAsks, DoesTurn, GoesNoFurther, IsTurn}
+use Rattle.vcpu_turn.specs.Turning.{Begins, CountsAsks, DoesTurn, GoesBy, GoesNoFurther, IsTurn}
 use Rattle.vcpu_turn.specs.Settling as settling
 use Rattle.vcpu_turn.specs.Pairs as owning
 use Rattle.vcpu_turn.specs.Settling.{Settles}
@@ -60,7 +60,7 @@ use Rattle.vcpu_turn.proofs.Clearing.{Apart, Known, drops, elsewhere, gets, keep
 use Rattle.vcpu_turn.proofs.Silent.{IsClear, clear_on, settled_clear, settled_silent}
 use Rattle.vcpu_turn.proofs.Sparing.{clear_does, counts_type, one, two}
 use Rattle.vcpu_turn.proofs.Trying.{any_later, any_now, hears_nothing, within_none}
-use Rattle.vcpu_turn.proofs.Turns.{begins_came}
+use Rattle.tlb_walks.proofs.Flushes.{acks_came}
 
 -- ---- a write
 took_clear : (v w : PortValue) (f owner : ℕ) (answer : Result (Unit {0}) Stop) → answer ≡ Ok tt → TookPage v f owner w answer → IsClear v → IsClear w
@@ -277,11 +277,11 @@ owners_clear v w d foreign o finds clear =
     clear_on v w (keeps_does v w _ (λ vs by. EachOf-map IsLook Apart vs (λ x look. word_elsewhere x.place look.word) (owners_look v.post.machine d foreign (Ok o) vs by)) finds.found) clear
 
 -- ---- a turn
-begun_runs : (v w : PortValue) → Begins v w → Known 6 w
+begun_runs : (v w : PortValue) (d run life : ℕ) → Begins v w d run life → run ≡ 0 → Known 6 w
 unfolding left_by
-begun_runs v w b =
-    let post : b.acked.post ≡ v.post = sym (ap (λ (y : PortValue). y.post) b.running.to) ∙ came_post v w (begins_came v w b) in
-    known_left b.acked w _ Load kinds.Look None 0 b.running 6 (ap (λ (q : Post). Vcpu q.vcpu 6) (sym post)) refl
+begun_runs v w d run life b is =
+    let post : b.acked.post ≡ v.post = came_post v b.acked (acks_came v b.acked b.acks) in
+    keeps_moves b.looked w _ _ _ _ _ refl b.lives 6 (known_left b.acked b.looked _ Load kinds.Look None run b.running 6 (ap (λ (q : Post). Vcpu q.vcpu 6) (sym post)) is)
 
 job_same : (task : Task) (other op : Op) → Some other ≡ Some op → task_of op ≡ Some task → job_of other ≡ OfOne (Some task)
 job_same task other op is built = ap job_next is ∙ one_of op task built
@@ -302,18 +302,20 @@ module _ (foreign : ℕ) (pairs : List Pair) where
   job_silent : (d op : ℕ) (job : Job) → job ≡ OfOne (Some (OfPairs foreign pairs)) → (v : PortValue) → IsClear v → (from to : Progress) (w : PortValue) (log log' : List LogLine) (answers : List Bool) (answer : Result ℕ Stop) →
       (went : WentBy d job op v from to w log log' answers answer) → SilentAll pairs (tried_by d job op v from to w log log' answers answer went)
   job_silent d op (OfOne o) is v clear from to w log log' answers answer went = operation_silent d o from.awaited (one_same o (Some (OfPairs foreign pairs)) is) v clear from.done to.done w answers answer went.works
+  job_silent d op (OfDestroy x) is v clear from to w log log' answers answer went = absurd (cc)
   job_silent d op (OfCalls calls) is v clear from to w log log' answers answer went = absurd (cc)
 
-  going_silent : (c : Processing) (o : Option Op) (op : Op) → o ≡ Some op → task_of op ≡ Some (OfPairs foreign pairs) → (v : PortValue) → Known 6 v → (c2 : Processing) (w : PortValue) (answers : List Bool) (end : TurnEnd) → (does : DoesTurn c o v c2 w answers end) →
+  going_silent : (c : Processing) (o : Option Op) (op : Op) → o ≡ Some op → task_of op ≡ Some (OfPairs foreign pairs) → (v : PortValue) (run life : ℕ) → (run ≡ 0 → Known 6 v) → (c2 : Processing) (w : PortValue) (answers : List Bool) (end : TurnEnd) → (does : DoesTurn c o v c2 w answers end) → GoesBy does run life →
       SilentAll pairs (tried_going does)
-  going_silent c None op is built v runs c2 w answers end does = absurd (cc)
-  going_silent c (Some other) op is built v runs _ _ _ _ (turning.DoesTurn.unsettled w answers p settles) = inl (All-nil (λ (t : Tried). t.asked ≡ []))
-  going_silent c (Some other) op is built v runs _ _ _ _ (turning.DoesTurn.settled u w c2 early answers end settles on) =
-      job_silent c.domain (c.answered + 1) (job_of other) (job_same (OfPairs foreign pairs) other op is built) u (settled_clear v u early (Ok tt) refl runs settles.course) c.at on.to w c.log on.log answers on.answer on.went
+  going_silent c None op is built v run life runs c2 w answers end does goes = absurd (cc)
+  going_silent c (Some other) op is built v run life runs _ _ _ _ (turning.DoesTurn.unsettled w answers p settles) goes = inl (All-nil (λ (t : Tried). t.asked ≡ []))
+  going_silent c (Some other) op is built v run life runs _ _ _ _ (turning.DoesTurn.dying found w c2 end dead dies) goes = inl (All-nil (λ (t : Tried). t.asked ≡ []))
+  going_silent c (Some other) op is built v run life runs _ _ _ _ (turning.DoesTurn.settled u w c2 early answers end settles on) goes =
+      job_silent c.domain (c.answered + 1) (job_of other) (job_same (OfPairs foreign pairs) other op is built) u (settled_clear v u early (Ok tt) refl (runs goes.0) settles.course) c.at on.to w c.log on.log answers on.answer on.went
 
   pub turn_silent : (c d : Processing) (op : Op) (end : TurnEnd) (v w : PortValue) (answers : List Bool) → next_of c ≡ Some op → task_of op ≡ Some (OfPairs foreign pairs) → (turn : IsTurn c d end v w answers) →
       SilentAll pairs (elements_tried turn)
-  turn_silent c d op end v w answers next built turn = going_silent c (next_of c) op next built turn.begun (begun_runs v turn.begun turn.begins) d turn.worked answers end turn.does
+  turn_silent c d op end v w answers next built turn = going_silent c (next_of c) op next built turn.begun turn.run turn.life (begun_runs v turn.begun c.domain turn.run turn.life turn.begins) d turn.worked answers end turn.does turn.goes
 
 -- ---- lists that set machine-to-physical words alone
 sets_m2p : (p : Pair) → p.ptr % 4 ≡ 1 → element_of p ≡ SetM2p (p.ptr / 4096) p.val

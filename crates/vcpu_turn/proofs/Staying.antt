@@ -31,6 +31,9 @@ use Rattle.vcpu_turn.specs.Pairs.{SuitsPairs}
 use Rattle.vcpu_turn.specs.Settling.{IsWarm}
 use Rattle.vcpu_turn.proofs.Owning.{may_map_settled, may_map_updated}
 
+pub own_domain : (p q : Post) (domain : ℕ) → q ≡ p → domain ≡ domain_of p.machine p.vcpu → domain ≡ domain_of q.machine q.vcpu
+own_domain p q domain same is = subst (λ (x : Post). domain ≡ domain_of x.machine x.vcpu) (sym same) is
+
 pub knows_on : (v w : PortValue) (awaited : Option ℕ) → Came v w → KnowsAwaited v awaited → KnowsAwaited w awaited
 knows_on v w None came knows = tt
 knows_on v w (Some stamp) came knows = subst (λ (q : Post). HadClock q.machine stamp w.holdings) (sym (came_post v w came)) (came_keeps v w _ came knows)

@@ -19,6 +19,7 @@ next_job c op task next built = ap job_next next ∙ one_of op task built
 module _ (c : Processing) where
   going_passes : (o : Option Op) (v : PortValue) (d : Processing) (w : PortValue) (answers : List Bool) (end : TurnEnd) → (does : DoesTurn c o v d w answers end) → All (λ (t : Tried). HearsNo t ⊎ OfJob PassesYes (job_next o) t) (tried_going does)
   going_passes o v _ _ _ _ (turning.DoesTurn.unsettled w answers p settles) = All-nil (λ (t : Tried). HearsNo t ⊎ OfJob PassesYes (job_next o) t)
+  going_passes o v _ _ _ _ (turning.DoesTurn.dying life w d end dead dies) = All-nil (λ (t : Tried). HearsNo t ⊎ OfJob PassesYes (job_next o) t)
   going_passes None v _ _ _ _ (turning.DoesTurn.settled u w d early answers end settles retires) = All-nil (λ (t : Tried). HearsNo t ⊎ OfJob PassesYes (OfOne None) t)
   going_passes (Some op) v _ _ _ _ (turning.DoesTurn.settled u w d early answers end settles on) = by_passes c.domain (c.answered + 1) u c.at on.to w c.log on.log answers on.answer (job_of op) on.went
 
@@ -26,6 +27,7 @@ module _ (c : Processing) where
   module _ (task : Task) where
     going_fits : (o : Option Op) → job_next o ≡ OfOne (Some task) → (v : PortValue) (d : Processing) (w : PortValue) (answers : List Bool) (end : TurnEnd) → (does : DoesTurn c o v d w answers end) → All (ElementFits c.domain task c.at.done c.at.awaited) (tried_going does)
     going_fits o is v _ _ _ _ (turning.DoesTurn.unsettled w answers p settles) = All-nil (ElementFits c.domain task c.at.done c.at.awaited)
+    going_fits o is v _ _ _ _ (turning.DoesTurn.dying life w d end dead dies) = All-nil (ElementFits c.domain task c.at.done c.at.awaited)
     going_fits None is v _ _ _ _ (turning.DoesTurn.settled u w d early answers end settles retires) = All-nil (ElementFits c.domain task c.at.done c.at.awaited)
     going_fits (Some op) is v _ _ _ _ (turning.DoesTurn.settled u w d early answers end settles on) = (by_one c.domain (c.answered + 1) u c.at on.to w c.log on.log answers on.answer (job_of op) (Some task) is on.went).fits
 

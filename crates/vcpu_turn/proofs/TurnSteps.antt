@@ -9,19 +9,20 @@ use Rattle.step_maker.proofs.Coming.{came_trans, came_post, moves_came}
 use Rattle.answer_laws.specs.Alone.{IsAlone}
 use Rattle.vcpu_turn.specs.declared.cpu.TurnEnd.{TurnEnd}
 use Rattle.vcpu_turn.specs.declared.cpu.TurnEnd.TheVariants as ends
-use Rattle.vcpu_turn.specs.Cpus.{Processing, end_of, job_of, next_of, nothing_left}
-use Rattle.vcpu_turn.specs.Turning.{DoesNext, EndsTurn, DoesTurn, IsStop, IsTurn}
+use Rattle.vcpu_turn.specs.Cpus.{Processing, end_of, job_next, job_of, next_of, nothing_left}
+use Rattle.vcpu_turn.specs.Turning.{DiesNext, DoesNext, EndsTurn, DoesTurn, IsStop, IsTurn}
 use Rattle.vcpu_turn.specs.Turning as turning
 use Rattle.vcpu_turn.specs.Unhindered.{IsUnhindered}
 use Rattle.vcpu_turn.proofs.Turns.{begins_came}
 use Rattle.vcpu_turn.proofs.Hindering.{AloneStays, NeitherLostNorBusy, NobodyWaitedFor, IsSpared, Spared, same_came, settles_came, settles_spared, spared_on}
+use Rattle.vcpu_turn.proofs.NextOps.{DestroysNone}
 use Rattle.vcpu_turn.proofs.CallsBringing.{by_came, by_spared}
 
 -- ---- steps
 pub stop_came : (v w : PortValue) → IsStop v w → Came v w
 stop_came v w s = moves_came v w _ _ _ _ _ s.1
 
-ends_came : (end : TurnEnd) (v w : PortValue) → EndsTurn end v w → Came v w
+pub ends_came : (end : TurnEnd) (v w : PortValue) → EndsTurn end v w → Came v w
 ends_came (ends.Answered reply) v w e = moves_came v w _ _ _ _ _ e.1
 ends_came (ends.Paused p) v w e = same_came v w e
 ends_came ends.Retired v w e = stop_came v w e
@@ -30,8 +31,13 @@ does_came : (c : Processing) (o : Option Op) (c2 : Processing) (v w : PortValue)
 does_came c (Some op) c2 v w answers end d = by_came c.domain (c.answered + 1) v c.at d.to w c.log d.log answers d.answer (job_of op) d.went
 does_came c None c2 v w answers end d = same_came v w d.no_step
 
+dies_came : (life : ℕ) (c : Processing) (o : Option Op) (c2 : Processing) (v w : PortValue) (end : TurnEnd) → DiesNext life c o c2 v w end → Came v w
+dies_came life c (Some op) c2 v w end dies = stop_came v w dies.0
+dies_came life c None c2 v w end dies = same_came v w dies.0
+
 goes_came : (c : Processing) (o : Option Op) (v : PortValue) (c2 : Processing) (w : PortValue) (answers : List Bool) (end : TurnEnd) → DoesTurn c o v c2 w answers end → Came v w
 goes_came c o v _ _ _ _ (turning.unsettled w answers p s) = settles_came v w answers (Err (Paused p)) s
+goes_came c o v _ _ _ _ (turning.dying life w c2 end dead dies) = dies_came life c o c2 v w end dies
 goes_came c o v _ _ _ _ (turning.settled u w c2 early answers end s d) = came_trans v u w (settles_came v u early (Ok tt) s) (does_came (nothing_left c) o c2 u w answers end d)
 
 pub begun_came : (c c2 : Processing) (end : TurnEnd) (v w : PortValue) (answers : List Bool) (t : IsTurn c c2 end v w answers) → Came t.begun w
@@ -47,21 +53,26 @@ spared_end v to (Err (Refused x)) s = tt
 spared_end v to (Err (Paused x)) s = s
 
 module _ (stays : AloneStays) (neither : NeitherLostNorBusy) (nobody : NobodyWaitedFor) where
-  does_spared : (c : Processing) (o : Option Op) (c2 : Processing) (v w : PortValue) (answers : List Bool) (end : TurnEnd) → IsSpared v → DoesNext c o c2 v w answers end → IsUnhindered v.post.machine end
-  does_spared c (Some op) c2 v w answers end s d =
+  does_spared : (c : Processing) (o : Option Op) → DestroysNone (job_next o) → (c2 : Processing) (v w : PortValue) (answers : List Bool) (end : TurnEnd) → IsSpared v → DoesNext c o c2 v w answers end → IsUnhindered v.post.machine end
+  does_spared c (Some op) none c2 v w answers end s d =
       subst (IsUnhindered v.post.machine) (sym d.end_is)
-      (spared_end v d.to.done d.answer (by_spared c.domain (c.answered + 1) v c.at d.to w c.log d.log answers d.answer stays neither nobody (job_of op) s d.went))
-  does_spared c None c2 v w answers end s d = subst (IsUnhindered v.post.machine) (sym d.end_is) tt
+      (spared_end v d.to.done d.answer (by_spared c.domain (c.answered + 1) v c.at d.to w c.log d.log answers d.answer stays neither nobody (job_of op) none s d.went))
+  does_spared c None none c2 v w answers end s d = subst (IsUnhindered v.post.machine) (sym d.end_is) tt
 
-  goes_spared : (c : Processing) (o : Option Op) (v : PortValue) (c2 : Processing) (w : PortValue) (answers : List Bool) (end : TurnEnd) → IsSpared v → DoesTurn c o v c2 w answers end → IsUnhindered v.post.machine end
-  goes_spared c o v _ _ _ _ s (turning.unsettled w answers p settles) = settles_spared stays neither nobody v w answers (Err (Paused p)) s settles
-  goes_spared c o v _ _ _ _ s (turning.settled u w c2 early answers end settles d) =
+  dies_spared : (life : ℕ) (c : Processing) (o : Option Op) (c2 : Processing) (v w : PortValue) (end : TurnEnd) → DiesNext life c o c2 v w end → IsUnhindered v.post.machine end
+  dies_spared life c (Some op) c2 v w end dies = subst (IsUnhindered v.post.machine) (sym dies.1) tt
+  dies_spared life c None c2 v w end dies = subst (IsUnhindered v.post.machine) (sym dies.1) tt
+
+  goes_spared : (c : Processing) (o : Option Op) → DestroysNone (job_next o) → (v : PortValue) (c2 : Processing) (w : PortValue) (answers : List Bool) (end : TurnEnd) → IsSpared v → DoesTurn c o v c2 w answers end → IsUnhindered v.post.machine end
+  goes_spared c o none v _ _ _ _ s (turning.dying life w c2 end dead dies) = dies_spared life c o c2 v w end dies
+  goes_spared c o none v _ _ _ _ s (turning.unsettled w answers p settles) = settles_spared stays neither nobody v w answers (Err (Paused p)) s settles
+  goes_spared c o none v _ _ _ _ s (turning.settled u w c2 early answers end settles d) =
       let came = settles_came v u early (Ok tt) settles in
-      subst (λ (q : Post). IsUnhindered q.machine end) (came_post v u came) (does_spared (nothing_left c) o c2 u w answers end (spared_on stays neither nobody v u came s) d)
+      subst (λ (q : Post). IsUnhindered q.machine end) (came_post v u came) (does_spared (nothing_left c) o none c2 u w answers end (spared_on stays neither nobody v u came s) d)
 
-  pub turn_unhindered : (v : PortValue) → v.post.vcpu < length v.post.machine.vcpu_domain → (c c2 : Processing) (end : TurnEnd) (w : PortValue) (answers : List Bool) → IsAlone v → IsTurn c c2 end v w answers →
+  pub turn_unhindered : (v : PortValue) → v.post.vcpu < length v.post.machine.vcpu_domain → (c c2 : Processing) → DestroysNone (job_next (next_of c)) → (end : TurnEnd) (w : PortValue) (answers : List Bool) → IsAlone v → IsTurn c c2 end v w answers →
       IsUnhindered v.post.machine end
-  turn_unhindered v real c c2 end w answers alone t =
+  turn_unhindered v real c c2 none end w answers alone t =
       let came = begins_came v t.begun t.begins in
       subst (λ (q : Post). IsUnhindered q.machine end) (came_post v t.begun came)
-      (goes_spared c (next_of c) t.begun c2 t.worked answers end (spared_on stays neither nobody v t.begun came (record { alone = alone; real = real })) t.does)
+      (goes_spared c (next_of c) none t.begun c2 t.worked answers end (spared_on stays neither nobody v t.begun came (record { alone = alone; real = real })) t.does)

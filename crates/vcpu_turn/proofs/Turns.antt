@@ -24,15 +24,15 @@ use Rattle.vcpu_turn.proofs.NextOps.{worked_none, worked_some}
 use Rattle.vcpu_turn.proofs.Staying.{settled_came}
 
 -- ---- a turn that begins
-pub begins_came : (v w : PortValue) → Begins v w → Came v w
-begins_came v w b = came_trans v b.acked w (acks_came v b.acked b.acks) (moves_came b.acked w _ _ _ _ _ b.running)
+pub begins_came : {d run life : ℕ} (v w : PortValue) → Begins v w d run life → Came v w
+begins_came v w b = came_trans v b.acked w (acks_came v b.acked b.acks) (came_trans b.acked b.looked w (moves_came b.acked b.looked _ _ _ _ _ b.running) (moves_came b.looked w _ _ _ _ _ b.lives))
 
 -- and what is settled
-pub settled_behind : (v a b : PortValue) → Begins v a → (answer : Result (Unit {0}) Stop) → ((owner pages : ℕ) → Serves a b (of_settle owner pages answer) (misses a.post.machine answer)) → Came v b
-settled_behind v a b begins answer serves = came_trans v a b (begins_came v a begins) (settled_came a b answer serves)
+pub settled_behind : (v a b : PortValue) → Came v a → (answer : Result (Unit {0}) Stop) → ((owner pages : ℕ) → Serves a b (of_settle owner pages answer) (misses a.post.machine answer)) → Came v b
+settled_behind v a b came answer serves = came_trans v a b came (settled_came a b answer serves)
 
-pub settled_post : (v a b : PortValue) → Begins v a → (answer : Result (Unit {0}) Stop) → ((owner pages : ℕ) → Serves a b (of_settle owner pages answer) (misses a.post.machine answer)) → b.post ≡ v.post
-settled_post v a b begins answer serves = came_post v b (settled_behind v a b begins answer serves)
+pub settled_post : (v a b : PortValue) → Came v a → (answer : Result (Unit {0}) Stop) → ((owner pages : ℕ) → Serves a b (of_settle owner pages answer) (misses a.post.machine answer)) → b.post ≡ v.post
+settled_post v a b came answer serves = came_post v b (settled_behind v a b came answer serves)
 
 after_same : (c : Processing) (at to : Progress) (l log : List LogLine) (answer : Result ℕ Stop) → after_turn (record c { at = at; log = l }) to log (end_of to.done answer) ≡ after_turn c to log (end_of to.done answer)
 after_same c at to l log (Ok ok) = refl
@@ -58,11 +58,11 @@ turn_retired c v retired says asks risen =
     subst (λ b. Answering (λ answers. TurnBy b c c ends.Retired v v answers) says asks asks risen risen false) (sym retired)
     (answers_nothing says asks risen false (λ answers. TurnBy true c c ends.Retired v v answers) refl (record { end_is = refl; cpu = refl; port = refl; no_ask = refl }))
 
-module _ (v a b : PortValue) (c : Processing) (runs : c.retired ≡ false) (begins : Begins v a) (says : ℕ → Bool) (before after yes_before yes_after : ℕ) where
+module _ (v a b : PortValue) (c : Processing) (on : c.retired ≡ false) (life run : ℕ) (lives : life ≡ 0) (runs : run ≡ 0) (begins : Begins v a c.domain run life) (says : ℕ → Bool) (before after yes_before yes_after : ℕ) where
   turn_by : (c' : Processing) (w : PortValue) (end : TurnEnd) (last yes_last : ℕ) (due : Bool) → is_due end ≡ due → Answering (λ answers. IsTurn c c' end v w answers) says before last yes_before yes_last due →
       Answering (λ answers. TurnBy c.retired c c' end v w answers) says before last yes_before yes_last (is_due end)
   turn_by c' w end last yes_last due is turn =
-      subst (λ r. Answering (λ answers. TurnBy r c c' end v w answers) says before last yes_before yes_last (is_due end)) (sym runs)
+      subst (λ r. Answering (λ answers. TurnBy r c c' end v w answers) says before last yes_before yes_last (is_due end)) (sym on)
       (subst (λ d. Answering (λ answers. IsTurn c c' end v w answers) says before last yes_before yes_last d) (sym is) turn)
 
   -- settling was all that it did
@@ -71,10 +71,12 @@ module _ (v a b : PortValue) (c : Processing) (runs : c.retired ≡ false) (begi
   turn_unsettled p stop left at settles =
       turn_by (record c { left = left }) b (ends.Paused p) after yes_after (is_due_stop stop) (due_paused p ∙ ap is_due_stop (sym at))
       (answers_as (λ answers. SettlesTo c.left left a b answers (Err stop)) (λ answers. IsTurn c (record c { left = left }) (ends.Paused p) v b answers) says before after yes_before yes_after (is_due_stop stop)
-      (λ answers goes. record { begun = a; worked = b; begins = begins; does = unsettled_to answers (subst (λ (e : Stop). SettlesTo c.left left a b answers (Err e)) at goes); ends = refl }) settles)
+      (λ answers goes. unsettled_to answers (subst (λ (e : Stop). SettlesTo c.left left a b answers (Err e)) at goes)) settles)
     where
-      unsettled_to : (answers : List Bool) → SettlesTo c.left left a b answers (Err (Paused p)) → DoesTurn c (next_of c) a (record c { left = left }) b answers (ends.Paused p)
-      unsettled_to answers settles = subst (λ (k : Option ℕ). DoesTurn c (next_of c) a (record c { left = k }) b answers (ends.Paused p)) (sym settles.1) (turning.DoesTurn.unsettled b answers p settles.0)
+      unsettled_to : (answers : List Bool) → SettlesTo c.left left a b answers (Err (Paused p)) → IsTurn c (record c { left = left }) (ends.Paused p) v b answers
+      unsettled_to answers settles =
+          subst (λ (k : Option ℕ). IsTurn c (record c { left = k }) (ends.Paused p) v b answers) (sym settles.1)
+          (record { begun = a; worked = b; run = run; life = life; begins = begins; does = turning.DoesTurn.unsettled b answers p settles.0; goes = (runs, lives); ends = refl })
 
   module _ (left : Option ℕ) (settles : Answering (λ answers. SettlesTo c.left left a b answers (Ok tt)) says before after yes_before yes_after false) (now : ℕ → Bool) (same : (n : ℕ) → now n ≡ says n) (last yes_last : ℕ) (x w : PortValue) (c1 c2 : Processing) where
     -- behind what was settled
@@ -83,7 +85,7 @@ module _ (v a b : PortValue) (c : Processing) (runs : c.retired ≡ false) (begi
     behind end due P next does finishes is =
         turn_by c2 w end last yes_last due is
         (answers_behind says now before after last yes_before yes_after yes_last settles.answers same settles.gate due P (λ answers. IsTurn c c2 end v w answers) next
-        (λ answers goes. record { begun = a; worked = x; begins = begins; does = turning.DoesTurn.settled b x c2 settles.answers answers end settles.goes.0 (does answers goes); ends = finishes }))
+        (λ answers goes. record { begun = a; worked = x; run = run; life = life; begins = begins; does = turning.DoesTurn.settled b x c2 settles.answers answers end settles.goes.0 (does answers goes); goes = (runs, lives); ends = finishes }))
 
     -- at the script's end
     pub turn_retires : Answering (λ answers. NextWentOn (next_of c) (nothing_left c) c1 b x answers None) now after last yes_after yes_last false → MakesStop c1 c2 x w →
@@ -116,25 +118,25 @@ module _ (v a b : PortValue) (c : Processing) (runs : c.retired ≡ false) (begi
             })
 
 -- ---- the same, of a vCPU as the code sees it, with what is left behind the settling
-module _ (seen c : Processing) (is : seen ≡ c) (v a b : PortValue) (runs : seen.retired ≡ false) (begins : Begins v a) (says : ℕ → Bool) (before after yes_before yes_after : ℕ) (left : Option ℕ) where
+module _ (seen c : Processing) (is : seen ≡ c) (v a b : PortValue) (on : seen.retired ≡ false) (life run : ℕ) (lives : life ≡ 0) (runs : run ≡ 0) (begins : Begins v a seen.domain run life) (says : ℕ → Bool) (before after yes_before yes_after : ℕ) (left : Option ℕ) where
   abbrev By : Processing → TurnEnd → PortValue → ℕ → ℕ → Processing → Type 0
   By c2 end w last yes_last x = Answering (λ answers. TurnBy x.retired x c2 end v w answers) says before last yes_before yes_last (is_due end)
 
   pub seen_unsettled : (p : Pause) (stop : Stop) → stop ≡ Paused p → Answering (λ answers. SettlesTo seen.left left a b answers (Err stop)) says before after yes_before yes_after (is_due_stop stop) →
       By (record seen { left = left }) (ends.Paused p) b after yes_after c
   seen_unsettled p stop at settles =
-      subst (By (record seen { left = left }) (ends.Paused p) b after yes_after) is (turn_unsettled v a b seen runs begins says before after yes_before yes_after p stop left at settles)
+      subst (By (record seen { left = left }) (ends.Paused p) b after yes_after) is (turn_unsettled v a b seen on life run lives runs begins says before after yes_before yes_after p stop left at settles)
 
   module _ (none : left ≡ None) (settles : Answering (λ answers. SettlesTo seen.left left a b answers (Ok tt)) says before after yes_before yes_after false) (now : ℕ → Bool) (same : (n : ℕ) → now n ≡ says n) (last yes_last : ℕ) (x w : PortValue) (c1 c2 : Processing) where
     pub seen_retires : Answering (λ answers. NextWentOn (next_of seen) (record seen { left = left }) c1 b x answers None) now after last yes_after yes_last false → MakesStop c1 c2 x w → By c2 ends.Retired w last yes_last c
     seen_retires worked stop =
         subst (By c2 ends.Retired w last yes_last) is
-        (turn_retires v a b seen runs begins says before after yes_before yes_after left settles now same last yes_last x w c1 c2
+        (turn_retires v a b seen on life run lives runs begins says before after yes_before yes_after left settles now same last yes_last x w c1 c2
         (subst (λ (k : Option ℕ). Answering (λ answers. NextWentOn (next_of seen) (record seen { left = k }) c1 b x answers None) now after last yes_after yes_last false) none worked) stop)
 
     pub seen_goes_on : (answer : Result ℕ Stop) → Answering (λ answers. NextWentOn (next_of seen) (record seen { left = left }) c1 b x answers (Some answer)) now after last yes_after yes_last (is_due_answer answer) →
         c2 ≡ after_turn c1 c1.at c1.log (end_of c1.at.done answer) → EndsTurn (end_of c1.at.done answer) x w → By c2 (end_of c1.at.done answer) w last yes_last c
     seen_goes_on answer worked cpu finishes =
         subst (By c2 (end_of c1.at.done answer) w last yes_last) is
-        (turn_goes_on v a b seen runs begins says before after yes_before yes_after left settles now same last yes_last x w c1 c2 answer
+        (turn_goes_on v a b seen on life run lives runs begins says before after yes_before yes_after left settles now same last yes_last x w c1 c2 answer
         (subst (λ (k : Option ℕ). Answering (λ answers. NextWentOn (next_of seen) (record seen { left = k }) c1 b x answers (Some answer)) now after last yes_after yes_last (is_due_answer answer)) none worked) cpu finishes)

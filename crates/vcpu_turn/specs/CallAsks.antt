@@ -12,6 +12,7 @@ use Rattle.vcpu_turn.specs.declared.cpu.TurnEnd.{TurnEnd}
 -- what the gate answered as that was settled which an earlier turn left
 abbrev pub first_going : {c : Processing} {o : Option Op} {v : PortValue} {c' : Processing} {w : PortValue} {answers : List Bool} {end : TurnEnd} → DoesTurn c o v c' w answers end → List Bool
 first_going (turning.DoesTurn.unsettled w answers p settles) = answers
+first_going (turning.DoesTurn.dying life w c' end dead dies) = []
 first_going (turning.DoesTurn.settled u w c' early answers end settles does) = early
 
 -- how often it was asked for that

@@ -14,7 +14,8 @@ use Rattle.xp_board.specs.declared.step.Mark.TheVariants.{Cut}
 use Rattle.xp_board.specs.declared.step.StepKind.TheVariants as kinds
 use Rattle.xp_board.specs.Told.{PortValue}
 use Rattle.step_maker.specs.Moves.{Moves}
-use Rattle.vcpu_turn.specs.Cpus.{Job, OfCalls, OfOne, begun_at, by_itself, call_behind, reply_of, task_in}
+use Rattle.vcpu_turn.specs.Cpus.{Job, OfCalls, OfDestroy, OfOne, begun_at, by_itself, call_behind, reply_of, task_in}
+use Rattle.vcpu_turn.specs.Destroying.{WentOnDestroying}
 use Rattle.vcpu_turn.specs.Lists.{Tried}
 use Rattle.vcpu_turn.specs.Settling.{Settles}
 use Rattle.vcpu_turn.specs.Working.{Valued, WentOn, tried_of}
@@ -59,6 +60,7 @@ pub data WorksCalls (d : ℕ) (calls : List Call) (op : ℕ) (v : PortValue) (fr
 abbrev pub WentBy : ℕ → Job → ℕ → PortValue → Progress → Progress → PortValue → List LogLine → List LogLine → List Bool → Result ℕ Stop → Type 0
 WentBy d (OfOne task) op v from to w log log' answers answer = WentOn d task (by_itself op) v from to w log log' answers answer
 WentBy d (OfCalls calls) op v from to w log log' answers answer = Valued (λ ended. WorksCalls d calls op v from log to w log' answers ended) answer
+WentBy d (OfDestroy x) op v from to w log log' answers answer = WentOnDestroying x op v from to w log log' answers answer
 
 -- ---- the elements that a turn tried
 abbrev pub tried_call : {d : ℕ} {call : Call} {op : ℕ} {v : PortValue} {from : Progress} {log : List LogLine} {to : Progress} {w : PortValue} {log' : List LogLine} {asked : List Bool} {answer : Result (Unit {0}) Stop} →
@@ -81,3 +83,4 @@ tried_calls (WorksCalls.stopped at to u w call before behind answers asked stop 
 abbrev pub tried_by : (d : ℕ) (job : Job) (op : ℕ) (v : PortValue) (from to : Progress) (w : PortValue) (log log' : List LogLine) (answers : List Bool) (answer : Result ℕ Stop) → WentBy d job op v from to w log log' answers answer → List Tried
 tried_by d (OfOne task) op v from to w log log' answers answer went = tried_of d task from.awaited v from.done to.done w answers answer went.works
 tried_by d (OfCalls calls) op v from to w log log' answers answer went = tried_calls went.works
+tried_by d (OfDestroy x) op v from to w log log' answers answer went = []

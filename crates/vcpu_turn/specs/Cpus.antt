@@ -1,5 +1,5 @@
 -- The vCPUs between their turns: their operations, and what they answered.
-use Rattle.std.specs.Prelude.{ℕ, zero, suc, ◌+◌, ◌-◌, ◌≤◌, min, nat_lt, if◌then◌else◌, Bool, true, false, List, [], ◌∷◌, ◌++◌, drop, length, slice_get, sum_by, Option, Some, None, Result, Ok, Err}
+use Rattle.std.specs.Prelude.{◌≡◌, ℕ, zero, suc, ◌+◌, ◌-◌, ◌≤◌, min, nat_lt, if◌then◌else◌, Bool, true, false, List, [], ◌∷◌, ◌++◌, drop, length, slice_get, sum_by, Option, Some, None, Result, Ok, Err}
 use Rattle.xp_words.specs.declared.ops.ExtOp.{ExtOp}
 use Rattle.xp_words.specs.declared.ops.Pair.{Pair}
 use Rattle.xp_words.specs.declared.ops.Call.{Call}
@@ -15,6 +15,8 @@ use Rattle.xp_words.specs.declared.reply.LogLine.{LogLine}
 use Rattle.xp_words.specs.declared.reply.LogLine.TheVariants as lines
 use Rattle.mmuext_ops.specs.Elements.{awaited_by, every_vcpu, ext_element}
 use Rattle.mmuext_ops.specs.declared.element.Element.TheVariants.{FlushVcpus}
+use Rattle.domain_destroy.specs.Coming.{seen_to}
+use Rattle.domain_destroy.specs.declared.place.DestroyAt.TheVariants.{Begins}
 use Rattle.vcpu_turn.specs.Descriptors.{DescriptorTask, SetDescriptor, SetGdt, TouchLdt}
 use Rattle.vcpu_turn.specs.Extents.{begins_in, extents_in, gives_blocks, mem_refusal}
 use Rattle.vcpu_turn.specs.declared.descriptors.Descriptors.{Descriptors}
@@ -29,7 +31,7 @@ use Rattle.vcpu_turn.specs.declared.cpu.TurnEnd.{TurnEnd}
 use Rattle.vcpu_turn.specs.declared.cpu.TurnEnd.TheVariants as ends
 
 -- A vCPU: its number and domain, its operations, what it logged, how many operations are answered, how far the next one is done, how much
--- was left where the gate paused what its last turn settled first, and whether the vCPU makes no turn any more.
+-- was left where the gate paused what its last turn settled first, how many frames the machine has, and whether the vCPU makes no turn any more.
 pub record Processing : Type 0 where
   pub vcpu : ℕ
   pub domain : ℕ
@@ -38,11 +40,12 @@ pub record Processing : Type 0 where
   pub answered : ℕ
   pub at : Progress
   pub left : Option ℕ
+  pub frames : ℕ
   pub retired : Bool
 
 -- of a multicall of which so many calls are answered
 abbrev pub begun_at : ℕ → Progress
-begun_at answered = record { call = answered; done = 0; within = 0; awaited = None }
+begun_at answered = record { call = answered; done = 0; within = 0; awaited = None; place = Begins }
 
 -- of an operation that begins
 abbrev pub begun : Progress
@@ -57,8 +60,8 @@ abbrev pub call_behind : ℕ → ℕ → CallNumber
 call_behind op answered = record { op = op; call = answered + 1 }
 
 -- before its first turn
-abbrev pub fresh : ℕ → ℕ → List Op → Processing
-fresh vcpu domain script = record { vcpu = vcpu; domain = domain; script = script; log = []; answered = 0; at = begun; left = None; retired = false }
+abbrev pub fresh : ℕ → ℕ → ℕ → List Op → Processing
+fresh frames vcpu domain script = record { vcpu = vcpu; domain = domain; script = script; log = []; answered = 0; at = begun; left = None; frames = frames; retired = false }
 
 -- where nothing is left to be settled
 abbrev pub nothing_left : Processing → Processing
@@ -105,18 +108,26 @@ abbrev pub task_next : Option Op → Option Task
 task_next (Some op) = task_of op
 task_next None = None
 
--- ---- one task, which there is where the operation is built; or the calls of a multicall, each with its own
+-- ---- one task, which there is where the operation is built; or the calls of a multicall, each with its own; or the destruction of a domain
 pub data Job : Type 0 where
   OfOne : Option Task → Job
   OfCalls : List Call → Job
+  OfDestroy : (domain : ℕ) → Job
 
 abbrev pub job_of : Op → Job
 job_of (ops.Multi calls) = OfCalls calls
+job_of (ops.Destroy domain) = OfDestroy domain
 job_of op = OfOne (task_of op)
 
 abbrev pub job_next : Option Op → Job
 job_next (Some op) = job_of op
 job_next None = OfOne None
+
+-- how much of an operation is done, as a reply to it tells: of a multicall so many calls, of any other so many elements
+abbrev pub done_at : Job → Progress → ℕ
+done_at (OfOne task) at = at.done
+done_at (OfCalls calls) at = at.call
+done_at (OfDestroy domain) at = at.done
 
 abbrev pub task_called : Option Call → Option Task
 task_called (Some call) = task_in call
@@ -126,6 +137,7 @@ task_called None = None
 abbrev pub task_at : Job → ℕ → Option Task
 task_at (OfOne task) answered = task
 task_at (OfCalls calls) answered = task_called (slice_get calls answered)
+task_at (OfDestroy domain) answered = None
 
 -- what a turn works on, as the code sees it
 abbrev pub task_for : Piece → Option Task
@@ -174,6 +186,7 @@ IsFewOf None done = Unit {0}
 abbrev pub IsFewIn : Job → Progress → Type 0
 IsFewIn (OfOne task) at = at.done ≤ elements_in task
 IsFewIn (OfCalls calls) at = (at.call ≤ length calls) × IsFewOf (slice_get calls at.call) at.done
+IsFewIn (OfDestroy domain) at = (at.call ≡ 0) × (at.done ≤ 1)
 
 abbrev pub IsFew : Option Op → Progress → Type 0
 IsFew (Some op) at = IsFewIn (job_of op) at
@@ -221,13 +234,14 @@ is_long calls = nat_lt 64 (length calls)
 abbrev pub lines_of_call : Call → ℕ
 lines_of_call call = room_of (task_in call) + 1
 
--- what it may log before its answer, where so many of its calls are answered
-abbrev pub room_from : Job → ℕ → ℕ
-room_from (OfOne task) answered = room_of task
-room_from (OfCalls calls) answered = if is_long calls then 0 else sum_by lines_of_call (drop answered calls)
+-- What it may log before its answer, where so many of its calls are answered, on a machine of so many frames: a destruction has a line for each frame that is left.
+abbrev pub room_from : ℕ → Job → ℕ → ℕ
+room_from frames (OfOne task) answered = room_of task
+room_from frames (OfCalls calls) answered = if is_long calls then 0 else sum_by lines_of_call (drop answered calls)
+room_from frames (OfDestroy domain) answered = frames
 
-abbrev pub lines_of : Op → ℕ
-lines_of op = room_from (job_of op) 0 + 1
+abbrev pub lines_of : ℕ → Op → ℕ
+lines_of frames op = room_from frames (job_of op) 0 + 1
 
 -- how many lines it may have made before its answer, where so many elements are done
 abbrev pub lines_made : Option Task → ℕ → ℕ
@@ -237,17 +251,22 @@ lines_made task done = min done (room_of task)
 abbrev pub made_within : Job → Progress → ℕ
 made_within (OfOne task) at = lines_made task at.done
 made_within (OfCalls calls) at = if is_long calls then 0 else lines_made (task_called (slice_get calls at.call)) at.done
+made_within (OfDestroy domain) at = seen_to at.place
 
 -- and by those that are answered
-abbrev pub made_by : Job → Progress → ℕ
-made_by job at = room_from job 0 - room_from job at.call + made_within job at
+abbrev pub made_by : ℕ → Job → Progress → ℕ
+made_by frames job at = room_from frames job 0 - room_from frames job at.call + made_within job at
 
-abbrev pub made_next : Option Op → Progress → ℕ
-made_next o at = made_by (job_next o) at
+abbrev pub made_next : ℕ → Option Op → Progress → ℕ
+made_next frames o at = made_by frames (job_next o) at
+
+-- the call in progress has made no more lines than it may, and a destruction has looked at no more frames than there are
+abbrev pub IsMade : ℕ → Option Op → Progress → Type 0
+IsMade frames o at = made_within (job_next o) at ≤ room_from frames (job_next o) at.call
 
 -- of the operations that are not answered
-abbrev pub lines_ahead : List Op → ℕ → ℕ
-lines_ahead script answered = sum_by lines_of (drop answered script)
+abbrev pub lines_ahead : ℕ → List Op → ℕ → ℕ
+lines_ahead frames script answered = sum_by (lines_of frames) (drop answered script)
 
 -- ---- answers
 abbrev pub reply_of : ℕ → ℕ → Option Refusal → Reply

@@ -13,11 +13,13 @@ use Rattle.vcpu_turn.specs.declared.cpu.TurnEnd.{TurnEnd}
 -- settling was all that the turn did
 abbrev pub is_settling : {c : Processing} {o : Option Op} {v : PortValue} {d : Processing} {w : PortValue} {answers : List Bool} {end : TurnEnd} → DoesTurn c o v d w answers end → Bool
 is_settling (turning.DoesTurn.unsettled w answers p settles) = true
+is_settling (turning.DoesTurn.dying life w d end dead dies) = false
 is_settling (turning.DoesTurn.settled u w d early answers end settles does) = false
 
 -- and what the first old word named came to its end in it
 abbrev pub ends_first : {c : Processing} {o : Option Op} {v : PortValue} {d : Processing} {w : PortValue} {answers : List Bool} {end : TurnEnd} → DoesTurn c o v d w answers end → Bool
 ends_first (turning.DoesTurn.unsettled w answers p settles) = is_first_done settles.course
+ends_first (turning.DoesTurn.dying life w d end dead dies) = false
 ends_first (turning.DoesTurn.settled u w d early answers end settles does) = false
 
 -- The gate paused the turn as it settled what the first old word named.

@@ -1,17 +1,22 @@
-//! Multicalls: one call after the other.
+//! The work of a turn on a whole operation: a multicall, one call after the other, a destruction, or any other.
 ghost use Rattle.std.specs.Prelude.{ℕ, ◌≡◌, ◌+◌, ◌<◌, ◌≤◌, [], ◌∷◌, ◌++◌, true, false, IfOk, IfErr, IfSome, IfNone, vec_len, vec_capacity};
 ghost use Rattle.xp_words.specs.declared.reply.LogLine.TheVariants as lines;
 ghost use Rattle.xp_board.specs.Readings.{domain_of};
 ghost use Rattle.step_maker.specs.Holds.{Rests};
 ghost use Rattle.mmuext_ops.specs.Elements.{KnowsAwaited};
 ghost use Rattle.vcpu_turn.specs.Calls.{AnswersCall, EndsCall, WentBy, WorksCalls};
-ghost use Rattle.vcpu_turn.specs.Cpus.{IsFewIn, OfCalls, OfOne, begun_at, elements_in, job_of, lines_made, lines_of, lines_of_call, made_within, reply_of, room_from, task_in, task_of};
+ghost use Rattle.domain_destroy.specs.Coming.{seen_to};
+ghost use Rattle.domain_destroy.specs.Emptying.{NamesNone};
+ghost use Rattle.vcpu_turn.specs.Destroying.{KnowsPlace, WentOnDestroying};
+ghost use Rattle.vcpu_turn.specs.Kinds.{IsKindOf};
+ghost use Rattle.vcpu_turn.specs.Cpus.{IsFewIn, OfCalls, OfDestroy, begun_at, done_at, elements_in, job_of, lines_made, lines_of, lines_of_call, made_within, reply_of, room_from, task_in, task_of};
 ghost use Rattle.vcpu_turn.specs.Lists.{Answering, is_due_answer};
 ghost use Rattle.vcpu_turn.specs.Settling.{IsWarm};
 
 use crate::cpu::{CallNumber, Progress};
 use crate::tasks::{Piece, room_of, work_on};
 use crate::working::valued;
+use domain_destroy::destroy;
 use flush_words::end_answer;
 use level_release::settle;
 use xp_board::Port;
@@ -21,28 +26,34 @@ use xp_words::{Call, LogLine, Op, Refusal, Reply, Stop};
 // The most calls that a multicall may have.
 const MOST: usize = 64;
 
-// The calls of a multicall. Any other operation is one by itself.
-fn calls_of(op: &Op) -> Option<&[Call]>
-    ensures some { IfSome result (λ calls. job_of op.now ≡ OfCalls calls.now) }
-    ensures none { IfNone result (job_of op.now ≡ OfOne (task_of op.now)) }
+// What an operation is: the calls of a multicall, the destruction of a domain, or one by itself.
+#[derive(Clone, Copy, Drop)]
+enum Kind<'a> {
+    Calls(&'a [Call]),
+    Destroy { domain: u64 },
+    One,
+}
+
+fn kind_of(op: &Op) -> Kind<'_>
+    ensures { IsKindOf result (job_of op.now) (task_of op.now) }
 {
     match op {
-        Op::Multi { calls } => Some(calls.as_slice()),
+        Op::Multi { calls } => Kind::Calls(calls.as_slice()),
+        Op::Destroy { domain } => Kind::Destroy { domain: *domain },
         Op::One { .. }
         | Op::Read { .. }
         | Op::Write { .. }
         | Op::TouchLdt { .. }
-        | Op::Destroy { .. }
         | Op::Grant { .. }
         | Op::Revoke { .. }
         | Op::Ptwr { .. }
-        | Op::Xchg { .. } => None,
+        | Op::Xchg { .. } => Kind::One,
     }
 }
 
 // How many lines these calls log at most.
 fn lines_in(calls: &[Call]) -> usize
-    ensures lines { result ≡ room_from (OfCalls calls.now) 0 }
+    ensures lines { (frames : ℕ) → result ≡ room_from frames (OfCalls calls.now) 0 }
     ensures few { result ≤ 32832 }
 {
     if calls.len() > MOST {
@@ -55,14 +66,26 @@ fn lines_in(calls: &[Call]) -> usize
     lines
 }
 
-// How many lines an operation logs at most.
-pub(crate) fn lines_of(op: &Op) -> usize
-    ensures lines { result ≡ lines_of op.now }
-    ensures few { result ≤ 32833 }
+// How many lines an operation logs at most, on a machine of so many frames.
+pub(crate) fn lines_of(op: &Op, frames: u32) -> usize
+    requires few { frames ≤ 65536 }
+    ensures lines { result ≡ lines_of frames op.now }
+    ensures few { result ≤ 65537 }
 {
-    match calls_of(op) {
-        Some(calls) => lines_in(calls) + 1,
-        None => room_of(Piece::Whole(op)) + 1,
+    match kind_of(op) {
+        Kind::Calls(calls) => lines_in(calls) + 1,
+        Kind::Destroy { .. } => frames as usize + 1,
+        Kind::One => room_of(Piece::Whole(op)) + 1,
+    }
+}
+
+// How much of an operation is done, as a reply to it tells.
+pub(crate) fn done_at(op: &Op, at: &Progress) -> u32
+    ensures { result ≡ done_at (job_of op.now) at.now }
+{
+    match kind_of(op) {
+        Kind::Calls(_) => u32::from(at.call),
+        Kind::Destroy { .. } | Kind::One => at.done,
     }
 }
 
@@ -166,13 +189,13 @@ fn answer_calls<P: Port>(
     requires awaits { KnowsAwaited (P.value port.old) at.old.awaited }
     requires rests { Rests (P.value port.old) }
     requires warm { IsWarm (P.value port.old) }
-    requires room { vec_len log.old + room_from (OfCalls calls.now) at.old.call ≤ vec_capacity log.old + made_within (OfCalls calls.now) at.old }
+    requires room { vec_len log.old + room_from 0 (OfCalls calls.now) at.old.call ≤ vec_capacity log.old + made_within (OfCalls calls.now) at.old }
     ensures post { (P.value port.new).post ≡ (P.value port.old).post }
     ensures few { IsFewIn (OfCalls calls.now) at.new }
     ensures awaits { KnowsAwaited (P.value port.new) at.new.awaited }
     ensures works { Answering (λ answers. WorksCalls domain calls.now op (P.value port.old) at.old log.old.items at.new (P.value port.new) log.new.items answers result) (says gate.old) (count_asks gate.old) (count_asks gate.new) (count_yes gate.old) (count_yes gate.new) (is_due_answer result) }
     ensures capacity { vec_capacity log.new ≡ vec_capacity log.old }
-    ensures room { vec_len log.new + room_from (OfCalls calls.now) at.new.call + made_within (OfCalls calls.now) at.old ≤ vec_len log.old + room_from (OfCalls calls.now) at.old.call + made_within (OfCalls calls.now) at.new }
+    ensures room { vec_len log.new + room_from 0 (OfCalls calls.now) at.new.call + made_within (OfCalls calls.now) at.old ≤ vec_len log.old + room_from 0 (OfCalls calls.now) at.old.call + made_within (OfCalls calls.now) at.new }
     ensures rests { Rests (P.value port.new) }
     ensures warm { IsWarm (P.value port.new) }
     ensures says { (n : ℕ) → says gate.new n ≡ says gate.old n }
@@ -191,6 +214,40 @@ fn answer_calls<P: Port>(
     Ok(())
 }
 
+// The destruction of a domain, operation number `op`, goes on from its place. It is one element, which is done once the domain is dead.
+fn go_on_destroying<P: Port>(
+    port: &mut P,
+    gate: &mut dyn Preempt,
+    domain: u64,
+    op: u32,
+    at: &mut Progress,
+    log: &mut Vec<LogLine>,
+) -> Result<u64, Stop>
+    requires few { IsFewIn (OfDestroy domain) at.old }
+    requires awaits { KnowsAwaited (P.value port.old) at.old.awaited }
+    requires place { KnowsPlace (P.value port.old) (OfDestroy domain) op at.old log.old.items }
+    requires rests { Rests (P.value port.old) }
+    requires clear { NamesNone (P.value port.old) }
+    requires warm { IsWarm (P.value port.old) }
+    requires room { vec_len log.old + (P.value port.old).post.machine.frames ≤ vec_capacity log.old + seen_to at.old.place }
+    ensures post { (P.value port.new).post ≡ (P.value port.old).post }
+    ensures few { IsFewIn (OfDestroy domain) at.new }
+    ensures awaits { KnowsAwaited (P.value port.new) at.new.awaited }
+    ensures went { Answering (λ answers. WentOnDestroying domain op (P.value port.old) at.old at.new (P.value port.new) log.old.items log.new.items answers result) (says gate.old) (count_asks gate.old) (count_asks gate.new) (count_yes gate.old) (count_yes gate.new) (is_due_answer result) }
+    ensures place { IfErr result (λ e. KnowsPlace (P.value port.new) (OfDestroy domain) op at.new log.new.items) }
+    ensures capacity { vec_capacity log.new ≡ vec_capacity log.old }
+    ensures room { vec_len log.new + (P.value port.old).post.machine.frames ≤ vec_capacity log.new + seen_to at.new.place }
+    ensures rests { Rests (P.value port.new) }
+    ensures warm { IsWarm (P.value port.new) }
+    ensures says { (n : ℕ) → says gate.new n ≡ says gate.old n }
+    ensures paces { paces gate.new ≡ paces gate.old }
+    ensures calm { calm gate.old ≡ true → (is_due_answer result ≡ false) × (calm gate.new ≡ true) }
+{
+    let left = destroy(port, gate, domain, &mut at.place, log, op)?;
+    at.done = 1;
+    Ok(u64::from(left))
+}
+
 /// The operation of that number goes on from where it is, which says in the end how far it came. The log has room for its lines.
 pub(crate) fn go_on_with<P: Port>(
     port: &mut P,
@@ -204,24 +261,28 @@ pub(crate) fn go_on_with<P: Port>(
     requires few { IsFewIn (job_of op.now) at.old }
     requires own { domain ≡ domain_of (P.value port.old).post.machine (P.value port.old).post.vcpu }
     requires awaits { KnowsAwaited (P.value port.old) at.old.awaited }
+    requires place { KnowsPlace (P.value port.old) (job_of op.now) number at.old log.old.items }
     requires rests { Rests (P.value port.old) }
+    requires clear { NamesNone (P.value port.old) }
     requires warm { IsWarm (P.value port.old) }
-    requires room { vec_len log.old + room_from (job_of op.now) at.old.call ≤ vec_capacity log.old + made_within (job_of op.now) at.old }
+    requires room { vec_len log.old + room_from (P.value port.old).post.machine.frames (job_of op.now) at.old.call ≤ vec_capacity log.old + made_within (job_of op.now) at.old }
     ensures post { (P.value port.new).post ≡ (P.value port.old).post }
     ensures few { IsFewIn (job_of op.now) at.new }
     ensures awaits { KnowsAwaited (P.value port.new) at.new.awaited }
     ensures went { Answering (λ answers. WentBy domain (job_of op.now) number (P.value port.old) at.old at.new (P.value port.new) log.old.items log.new.items answers result) (says gate.old) (count_asks gate.old) (count_asks gate.new) (count_yes gate.old) (count_yes gate.new) (is_due_answer result) }
+    ensures place { IfErr result (λ e. KnowsPlace (P.value port.new) (job_of op.now) number at.new log.new.items) }
     ensures capacity { vec_capacity log.new ≡ vec_capacity log.old }
-    ensures room { vec_len log.new + room_from (job_of op.now) at.new.call + made_within (job_of op.now) at.old ≤ vec_len log.old + room_from (job_of op.now) at.old.call + made_within (job_of op.now) at.new }
+    ensures room { vec_len log.new + room_from (P.value port.old).post.machine.frames (job_of op.now) at.new.call + made_within (job_of op.now) at.old ≤ vec_len log.old + room_from (P.value port.old).post.machine.frames (job_of op.now) at.old.call + made_within (job_of op.now) at.new }
     ensures rests { Rests (P.value port.new) }
     ensures warm { IsWarm (P.value port.new) }
     ensures says { (n : ℕ) → says gate.new n ≡ says gate.old n }
     ensures paces { paces gate.new ≡ paces gate.old }
     ensures calm { calm gate.old ≡ true → (is_due_answer result ≡ false) × (calm gate.new ≡ true) }
 {
-    match calls_of(op) {
-        Some(calls) => valued(answer_calls(port, gate, domain, number, calls, at, log)),
-        None => {
+    match kind_of(op) {
+        Kind::Calls(calls) => valued(answer_calls(port, gate, domain, number, calls, at, log)),
+        Kind::Destroy { domain } => go_on_destroying(port, gate, domain, number, at, log),
+        Kind::One => {
             let number = CallNumber {
                 op: number,
                 call: 0,

@@ -1,15 +1,18 @@
-ghost use Rattle.std.specs.Prelude.{ℕ, ◌≡◌, ◌<◌, ◌^◌, true, false, length};
+ghost use Rattle.std.specs.Prelude.{ℕ, ◌≡◌, ◌+◌, ◌<◌, ◌^◌, true, false, length, IfErr, IfSome};
 ghost use Rattle.xp_board.specs.Readings.{domain_of};
+ghost use Rattle.xp_board.specs.Told.{own_run};
 ghost use Rattle.step_maker.specs.Holds.{Rests};
 ghost use Rattle.mmuext_ops.specs.Elements.{KnowsAwaited};
-ghost use Rattle.vcpu_turn.specs.Cpus.{after_turn, end_of, next_of, reply_of};
+ghost use Rattle.domain_destroy.specs.Emptying.{NamesNone};
+ghost use Rattle.vcpu_turn.specs.Cpus.{after_turn, end_of, job_next, next_of, reply_of};
+ghost use Rattle.vcpu_turn.specs.Destroying.{KnowsPlace};
 ghost use Rattle.vcpu_turn.specs.Lists.{Answering};
 ghost use Rattle.vcpu_turn.specs.Settling.{IsWarm};
-ghost use Rattle.vcpu_turn.specs.Turning.{EndsTurn, Idles, TurnBy, IsOf, MakesStop, StopsWhere, NextWentOn, asks_due, is_due};
+ghost use Rattle.vcpu_turn.specs.Turning.{DiesBy, EndsTurn, Idles, TurnBy, IsOf, MakesStop, StopsWhere, NextWentOn, asks_due, is_due};
 ghost use Rattle.vcpu_turn.specs.declared.cpu.TurnEnd.TheVariants.{Answered};
 
 use crate::beginning::begin;
-use crate::calls::go_on_with;
+use crate::calls::{done_at, go_on_with};
 use crate::cpu::{Cpu, Progress, TurnEnd};
 use flush_words::{end_answer, stop_vcpu};
 use level_release::settle;
@@ -22,11 +25,15 @@ fn go_on<P: Port>(port: &mut P, cpu: &mut Cpu, gate: &mut dyn Preempt) -> Option
     requires short { length cpu.old.script < 2 ^ 32 }
     requires own { cpu.old.domain ≡ domain_of (P.value port.old).post.machine (P.value port.old).post.vcpu }
     requires awaits { KnowsAwaited (P.value port.old) cpu.old.at.awaited }
+    requires frames { cpu.old.frames ≡ (P.value port.old).post.machine.frames }
+    requires place { KnowsPlace (P.value port.old) (job_next (next_of cpu.old)) (cpu.old.answered + 1) cpu.old.at cpu.old.log }
     requires rests { Rests (P.value port.old) }
+    requires clear { NamesNone (P.value port.old) }
     requires warm { IsWarm (P.value port.old) }
     ensures warm { IsWarm (P.value port.new) }
     ensures post { (P.value port.new).post ≡ (P.value port.old).post }
     ensures awaits { KnowsAwaited (P.value port.new) cpu.new.at.awaited }
+    ensures place { IfSome result (λ answer. IfErr answer (λ e. KnowsPlace (P.value port.new) (job_next (next_of cpu.old)) (cpu.old.answered + 1) cpu.new.at cpu.new.log)) }
     ensures worked { Answering (λ answers. NextWentOn (next_of cpu.old) cpu.old cpu.new (P.value port.old) (P.value port.new) answers result) (says gate.old) (count_asks gate.old) (count_asks gate.new) (count_yes gate.old) (count_yes gate.new) (asks_due result) }
     ensures rests { Rests (P.value port.new) }
     ensures says { (n : ℕ) → says gate.new n ≡ says gate.old n }
@@ -45,21 +52,26 @@ fn go_on<P: Port>(port: &mut P, cpu: &mut Cpu, gate: &mut dyn Preempt) -> Option
 }
 
 // The next operation is answered: its reply is logged, and the answer ends. The log has the room.
-fn log_answer<P: Port>(port: &mut P, cpu: &mut Cpu, value: u64, refusal: Option<Refusal>) -> Reply
+fn log_answer<P: Port>(
+    port: &mut P,
+    cpu: &mut Cpu,
+    done: u32,
+    value: u64,
+    refusal: Option<Refusal>,
+) -> Reply
     requires short { length cpu.old.script < 2 ^ 32 }
     requires more { cpu.old.answered < length cpu.old.script }
-    requires rests { Rests (P.value port.old) }
-    requires warm { IsWarm (P.value port.old) }
-    ensures warm { IsWarm (P.value port.new) }
+    requires idles { Idles (P.value port.old) }
     ensures post { (P.value port.new).post ≡ (P.value port.old).post }
-    ensures reply { result ≡ reply_of cpu.old.at.done value refusal }
+    ensures reply { result ≡ reply_of done value refusal }
     ensures cpu { cpu.new ≡ after_turn cpu.old cpu.old.at cpu.old.log (Answered result) }
     ensures ends { EndsTurn (Answered result) (P.value port.old) (P.value port.new) }
-    ensures rests { Rests (P.value port.new) }
+    ensures idles { Idles (P.value port.new) }
+    ensures run { own_run (P.value port.new) ≡ own_run (P.value port.old) }
 {
     end_answer(port, 0);
     let reply = Reply {
-        done: cpu.at.done,
+        done,
         value,
         refusal,
     };
@@ -78,18 +90,24 @@ fn log_answer<P: Port>(port: &mut P, cpu: &mut Cpu, value: u64, refusal: Option<
 fn finish<P: Port>(port: &mut P, cpu: &mut Cpu, answer: Result<u64, Stop>) -> TurnEnd
     requires short { length cpu.old.script < 2 ^ 32 }
     requires more { cpu.old.answered < length cpu.old.script }
-    requires rests { Rests (P.value port.old) }
-    requires warm { IsWarm (P.value port.old) }
-    ensures warm { IsWarm (P.value port.new) }
+    requires idles { Idles (P.value port.old) }
     ensures post { (P.value port.new).post ≡ (P.value port.old).post }
     ensures end { result ≡ end_of cpu.old.at.done answer }
     ensures cpu { cpu.new ≡ after_turn cpu.old cpu.old.at cpu.old.log (end_of cpu.old.at.done answer) }
     ensures ends { EndsTurn (end_of cpu.old.at.done answer) (P.value port.old) (P.value port.new) }
-    ensures rests { Rests (P.value port.new) }
+    ensures idles { Idles (P.value port.new) }
+    ensures run { own_run (P.value port.new) ≡ own_run (P.value port.old) }
 {
+    let done = cpu.at.done;
     match answer {
-        Ok(value) => TurnEnd::Answered(log_answer(port, cpu, value, None)),
-        Err(Stop::Refused(refusal)) => TurnEnd::Answered(log_answer(port, cpu, 0, Some(refusal))),
+        Ok(value) => TurnEnd::Answered(log_answer(port, cpu, done, value, None)),
+        Err(Stop::Refused(refusal)) => TurnEnd::Answered(log_answer(
+            port,
+            cpu,
+            done,
+            0,
+            Some(refusal),
+        )),
         Err(Stop::Paused(pause)) => TurnEnd::Paused(pause),
     }
 }
@@ -105,9 +123,27 @@ fn retire<P: Port>(port: &mut P, cpu: &mut Cpu)
     cpu.retired = true;
 }
 
-/// One turn of a vCPU. It answers the asks of other vCPUs to flush, what an earlier turn left unfinished is settled, and then the next
-/// operation goes on until it answers or pauses; at the script's end the vCPU stops and is retired. A turn answers at most one operation, leaves nothing in
-/// hand, and takes no memory.
+// The domain was found dying, or dead: the vCPU stops, and its next operation is refused; at the script's end it is retired.
+fn die<P: Port>(port: &mut P, cpu: &mut Cpu, found: u64) -> TurnEnd
+    requires short { length cpu.old.script < 2 ^ 32 }
+    requires idles { Idles (P.value port.old) }
+    ensures post { (P.value port.new).post ≡ (P.value port.old).post }
+    ensures dies { DiesBy found cpu.old (next_of cpu.old) cpu.new (P.value port.old) (P.value port.new) result }
+    ensures idles { Idles (P.value port.new) }
+{
+    if cpu.answered == cpu.script.len() {
+        retire(port, cpu);
+        return TurnEnd::Retired;
+    }
+    let done = done_at(&cpu.script.as_slice()[cpu.answered], &cpu.at);
+    stop_vcpu(port);
+    let domain = cpu.domain;
+    TurnEnd::Answered(log_answer(port, cpu, done, 0, Some(Refusal::Dying { domain, found })))
+}
+
+/// One turn of a vCPU. It answers the asks of other vCPUs to flush; what an earlier turn left unfinished is settled, and then the next
+/// operation goes on until it answers or pauses; at the script's end the vCPU stops and is retired. Where its domain was found dying it stops, and one operation a
+/// turn is refused. A turn answers at most one operation, leaves nothing in hand, and takes no memory.
 pub fn turn<P: Port>(port: &mut P, cpu: &mut Cpu, gate: &mut dyn Preempt) -> TurnEnd
     requires short { length cpu.old.script < 2 ^ 32 }
     requires of { IsOf (P.value port.old) cpu.old }
@@ -122,7 +158,10 @@ pub fn turn<P: Port>(port: &mut P, cpu: &mut Cpu, gate: &mut dyn Preempt) -> Tur
     if cpu.retired {
         return TurnEnd::Retired;
     }
-    begin(port);
+    let life = begin(port, cpu.domain);
+    if life != 0 {
+        return die(port, cpu, life);
+    }
     match settle(port, gate, &mut cpu.left) {
         Ok(()) => {}
         Err(Stop::Paused(pause)) => return TurnEnd::Paused(pause),

@@ -9,13 +9,14 @@ use Rattle.step_maker.specs.Holds.{Holds, Rests}
 use Rattle.step_maker.specs.Answers.{Deed, Serves, Stops}
 use Rattle.step_maker.specs.Asked.{named, of, of_back}
 use Rattle.step_maker.proofs.Piecing.{serves_back, serves_then}
+use Rattle.step_maker.proofs.Resting.{still_rests}
 use Rattle.frame_types.specs.Taking.{gave_type}
 use Rattle.table_entries.specs.Acquiring.{GaveType}
 use Rattle.writable_pages.specs.Pages.{GotPage, LeavesGot, ServesPage, of_page}
 use Rattle.whole_pages.specs.Whole as whole
 use Rattle.whole_pages.specs.Whole.{Clears, PageCleared, clears, of_clear}
 use Rattle.whole_pages.proofs.Asking.{own_leaves, own_serves, own_stops}
-use Rattle.whole_pages.proofs.Held.{HoldsPage, dropped, held_still, rests_same}
+use Rattle.whole_pages.proofs.Held.{HoldsPage, dropped, held_still}
 use Rattle.whole_pages.proofs.StopKinds.{page_kind}
 
 -- its cells were cleared and it was given back, under the number that was answered
@@ -38,7 +39,7 @@ module _ {v : PortValue} {d f : ℕ} (rests : Rests v) (own : d ≡ domain_of v.
         stops = own_stops v f d own w e stops;
         kinds = page_kind v w f d e got;
         hand = hand;
-        rests = rests_same v w rests hand;
+        rests = still_rests v w rests hand;
         course = whole.ClearsPage.unhad w e got;
       })
 
@@ -55,7 +56,7 @@ module _ {v : PortValue} {d f : ℕ} (rests : Rests v) (own : d ≡ domain_of v.
         stops = tt;
         kinds = tt;
         hand = hand;
-        rests = rests_same v w rests hand;
+        rests = still_rests v w rests hand;
         course = whole.ClearsPage.cleared a b w got t.cells.steps t.drops;
       }
 

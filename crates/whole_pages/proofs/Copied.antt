@@ -10,6 +10,7 @@ use Rattle.step_maker.proofs.Coming.{came_post}
 use Rattle.step_maker.specs.Answers.{Serves, Stops, missed}
 use Rattle.step_maker.specs.Asked.{of_back, of_frame}
 use Rattle.step_maker.proofs.Piecing.{serves_back, serves_call, serves_came, serves_then, serves_within, stops_before, stops_call, stops_within}
+use Rattle.step_maker.proofs.Resting.{still_rests}
 use Rattle.frame_words.specs.Freeing.{gave}
 use Rattle.frame_words.specs.Refs.{IsRefStop, took}
 use Rattle.frame_types.specs.Taking.{gave_type}
@@ -18,7 +19,7 @@ use Rattle.writable_pages.specs.Pages.{GotPage, LeavesGot, ServesPage, of_page}
 use Rattle.whole_pages.specs.Whole as whole
 use Rattle.whole_pages.specs.Whole.{Copies, PageCopied, copies, of_copy}
 use Rattle.whole_pages.proofs.Asking.{asked_source, asked_target, asks_source, names_target, own_leaves, own_serves, own_stops, within_copy}
-use Rattle.whole_pages.proofs.Held.{HoldsPage, dropped, held_still, no_more_refs, ref_gone, rests_same}
+use Rattle.whole_pages.proofs.Held.{HoldsPage, dropped, held_still, no_more_refs, ref_gone}
 use Rattle.whole_pages.proofs.StopKinds.{page_kind, ref_kind}
 
 -- the target is given back, under the number that was answered
@@ -55,7 +56,7 @@ module _ {v : PortValue} {d to from : ℕ} (rests : Rests v) (own : d ≡ domain
         stops = stops_within v w (of_frame to d (Some Writable)) (of_copy d to from) e within (own_stops v to d own w e stops);
         kinds = page_kind v w to d e got;
         hand = hand;
-        rests = rests_same v w rests hand;
+        rests = still_rests v w rests hand;
         course = whole.CopiesPage.unhad w e got;
       })
 
@@ -78,7 +79,7 @@ module _ {v : PortValue} {d to from : ℕ} (rests : Rests v) (own : d ≡ domain
         stops = stops_before v b w r e (stops_call v a b r [] [] had from d None asks came e (no_more_refs v a to d rests t.typed r refl) missing.stops) (serves_came b w (of_back to) [] t.back);
         kinds = ref_kind e kind;
         hand = hand;
-        rests = rests_same v w rests hand;
+        rests = still_rests v w rests hand;
         course = whole.CopiesPage.unreferred a b w e got missing t.drops;
       }
 
@@ -106,7 +107,7 @@ module _ {v : PortValue} {d to from : ℕ} (rests : Rests v) (own : d ≡ domain
         stops = tt;
         kinds = tt;
         hand = hand;
-        rests = rests_same v w rests hand;
+        rests = still_rests v w rests hand;
         course = whole.CopiesPage.copied a b c e w m.cells.whole got m.got m.cells.steps m.gone t.drops;
       }
 

@@ -15,6 +15,7 @@ use Rattle.xp_board.specs.Lists.{first_by}
 use Rattle.xp_board.specs.Told.{Post, PortValue}
 use Rattle.step_maker.specs.Holds.{FlushedHolds, FlushedSame, Holds, Rests, Same, quiet}
 use Rattle.step_maker.specs.Asked.{NoMore, Request}
+use Rattle.step_maker.proofs.Resting.{none_on}
 use Rattle.frame_words.specs.Cells.{IsApart}
 use Rattle.frame_words.specs.Freeing.{gave}
 use Rattle.frame_words.specs.Refs.{took}
@@ -26,31 +27,6 @@ use Rattle.whole_pages.specs.Whole.{MayFill}
 -- from v on, a typed reference to the frame came into the hand
 abbrev pub HoldsPage : PortValue → PortValue → ℕ → ℕ → Type 0
 HoldsPage v x f d = FlushedHolds v x (record v.holdings { typed = live_typed f Writable (owners.Of d) ∷ v.holdings.typed })
-
-none_on : {A : Type 0} (key : A → ℕ) (f : ℕ) (xs : List A) → xs ≡ [] → first_by key f xs ≡ None
-unfolding first_by
-none_on key f xs e = ap (λ ys. first_by key f ys) e
-
-pub rests_same : (v w : PortValue) → Rests v → FlushedSame v w → Rests w
-rests_same v w rests same =
-    record {
-      may = record {
-        running = ap (λ (q : PortValue). q.holdings.run) same ∙ rests.may.running;
-        no_walk = ap (λ (q : PortValue). q.holdings.walk) same ∙ rests.may.no_walk;
-        machine = subst (λ (p : Post). IsMachine p.machine) (sym (ap (λ (q : PortValue). q.post) same)) rests.may.machine;
-      };
-      empty = record {
-        refs = ap (λ (q : PortValue). q.holdings.refs) same ∙ rests.empty.refs;
-        typed = ap (λ (q : PortValue). q.holdings.typed) same ∙ rests.empty.typed;
-        works = ap (λ (q : PortValue). q.holdings.works) same ∙ rests.empty.works;
-        locks = ap (λ (q : PortValue). q.holdings.locks) same ∙ rests.empty.locks;
-        ending = ap (λ (q : PortValue). q.holdings.ending) same ∙ rests.empty.ending;
-        claimed = ap (λ (q : PortValue). q.holdings.claimed) same ∙ rests.empty.claimed;
-        raised = ap (λ (q : PortValue). q.holdings.raised) same ∙ rests.empty.raised;
-        credits = ap (λ (q : PortValue). q.holdings.credits) same ∙ rests.empty.credits;
-        looking = ap (λ (q : PortValue). q.holdings.looking) same ∙ rests.empty.looking;
-      };
-    }
 
 module _ (v x : PortValue) (f d : ℕ) (rests : Rests v) (typed : HoldsPage v x f d) where
   newest : x.holdings.typed ≡ live_typed f Writable (owners.Of d) ∷ v.holdings.typed

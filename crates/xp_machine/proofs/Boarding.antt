@@ -15,10 +15,11 @@ use Rattle.vcpu_runners.specs.Cpus.{IsShort}
 use Rattle.vcpu_runners.specs.Gates.{Gate}
 use Rattle.xp_machine.specs.Ready.{Ready}
 use Rattle.vcpu_runners.specs.Runners.{TakesTurnBy}
-use Rattle.vcpu_runners.proofs.Scripts.{turn_script}
+use Rattle.vcpu_turn.proofs.Scripts.{turn_script}
 use Rattle.xp_machine.specs.Turns.{Stage, stage, IsPortOf, MakesStagedTurn, MakesStagedStop, UnlessRetired, ByCpu}
 use Rattle.vcpu_turn.proofs.Hindering.{AloneStays, NeitherLostNorBusy, NobodyWaitedFor}
-use Rattle.vcpu_turn.proofs.TurnSteps.{turn_came, stop_came, turn_unhindered}
+use Rattle.vcpu_turn.proofs.TurnSteps.{turn_came, stop_came}
+use Rattle.vcpu_turn.proofs.Unlosing.{NothingLost, turn_spared}
 use Rattle.xp_machine.proofs.Moving.{Stepping, moved_none, stepping, same_story, ready_after, short_at, alone_at, sound_alone}
 
 -- ---- one turn or one stop
@@ -64,13 +65,13 @@ module _ (stays : AloneStays) where
         opening = moved.opening;
       }
 
-  turn_by : NeitherLostNorBusy → NobodyWaitedFor → (b b2 : Board) (s lender : ℕ) (cpus : List Processing) (gates : List Gate) (c c2 : Processing) (has left : Gate) (retired : Bool) →
+  turn_by : NeitherLostNorBusy → NobodyWaitedFor → NothingLost → (b b2 : Board) (s lender : ℕ) (cpus : List Processing) (gates : List Gate) (c c2 : Processing) (has left : Gate) (retired : Bool) →
       s < (sizes_of b.machine).vcpus → Ready b cpus → b2.machine ≡ b.machine → slice_get cpus s ≡ Some c → slice_get gates s ≡ Some has →
       TakesTurnBy retired has left c c2 (port_value b s lender) (port_value b2 s lender) → IsOf (port_value b2 s lender) c2 →
       Done (UnlessRetired (MakesStagedTurn b.machine s) c retired) b b2 cpus (slice_set cpus s c2) gates (slice_set gates s left)
-  turn_by neither nobody b b2 s lender cpus gates c c2 has left true real ready machine here gate t own =
+  turn_by neither nobody lost b b2 s lender cpus gates c c2 has left true real ready machine here gate t own =
       rested_on (MakesStagedTurn b.machine s) b b2 s lender cpus gates c c2 has left ready machine here gate t.cpu t.port t.gate own
-  turn_by neither nobody b b2 s lender cpus gates c c2 has left false real ready machine here gate t own =
+  turn_by neither nobody lost b b2 s lender cpus gates c c2 has left false real ready machine here gate t own =
       let v = port_value b s lender in
       let w = port_value b2 s lender in
       let came = turn_came c c2 t.end v w t.answers t.turn in
@@ -92,7 +93,7 @@ module _ (stays : AloneStays) where
           answers = t.answers;
           turn = t.turn;
           consulted = t.consulted;
-          unhindered = turn_unhindered stays neither nobody v real c c2 t.end w t.answers (alone_at b cpus s lender ready) t.turn;
+          unhindered = turn_spared stays neither nobody lost v real c c2 t.end w t.answers (alone_at b cpus s lender ready) t.turn;
           cpus = refl;
           gates = refl;
         };
@@ -181,16 +182,16 @@ module _ {A : Type 0} (cpu : A → Processing) (gate : A → Gate) (b b1 b2 : Bo
         opening = done.opening;
       }
 
-  pub turned : NeitherLostNorBusy → NobodyWaitedFor →
+  pub turned : NeitherLostNorBusy → NobodyWaitedFor → NothingLost →
       TakesTurnBy (cpu (slice_index_or runners s d)).retired (gate (slice_index_or runners s d)) (gate y) (cpu (slice_index_or runners s d)) (cpu y) (port_value b1 s1 l1) (port_value b2 s2 l2) →
       Done (λ x x'. ByCpu (MakesStagedTurn b.machine s) (slice_get (map cpu runners) s) x x') b b2 (map cpu runners) (map cpu (slice_set runners s y)) (map gate runners) (map gate (slice_set runners s y))
-  turned neither nobody t =
+  turned neither nobody lost t =
       let c = cpu (slice_index_or runners s d) in
       let has = gate (slice_index_or runners s d) in
       let by = subst (λ v. TakesTurnBy c.retired has (gate y) c (cpu y) v (port_value b2 s l1)) before_is
       (subst (λ w. TakesTurnBy c.retired has (gate y) c (cpu y) (port_value b1 s1 l1) w) after_is t) in
       as_done (MakesStagedTurn b.machine s)
-      (turn_by stays neither nobody b b2 s l1 (map cpu runners) (map gate runners) c (cpu y) has (gate y) c.retired (real cpu b b1 s s1 l1 runners d same runner within ready) ready same_machine
+      (turn_by stays neither nobody lost b b2 s l1 (map cpu runners) (map gate runners) c (cpu y) has (gate y) c.retired (real cpu b b1 s s1 l1 runners d same runner within ready) ready same_machine
       (at_place cpu runners s d within) (at_place gate runners s d within) by is_of_now)
 
   pub stopped : gate y ≡ gate (slice_index_or runners s d) →

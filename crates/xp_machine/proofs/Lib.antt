@@ -1,9 +1,10 @@
 pub mod Moving
+pub mod Fresh
 mod Walking
 pub mod Boarding
 mod Turning
 mod Asking
-mod Starting
+pub mod Starting
 pub mod Reaching
 mod Replaying
 mod Statuses

@@ -1,5 +1,5 @@
 -- What a board and its vCPUs are after steps of one of them.
-use Rattle.std.proofs.Common.{◌≡◌, ◌≢◌, ℕ, ◌^◌, ◌<◌, ◌⊎◌, List, length, Option, Some, None, refl, sym, ap, ◌∙◌, subst, inl, inr, slice_set, slice_index_or, length-set, get_or-set_same, arith}
+use Rattle.std.proofs.Common.{◌≡◌, ◌≢◌, ℕ, ◌+◌, ◌^◌, ◌<◌, ◌==◌, ◌⊎◌, not, false, IsTrue, List, length, Option, Some, None, refl, sym, ap, ◌∙◌, subst, inl, inr, slice_set, slice_index_or, length-set, get_or-set_same, arith}
 use Rattle.std.specs.Prelude.{slice_get}
 use Rattle.std.proofs.lemmas.Bool.{cases_eq}
 use Rattle.std.proofs.lemmas.List.{get_or-set_other}
@@ -8,15 +8,23 @@ use Rattle.std.proofs.lemmas.Option.{slice_get-get_or, slice_get_cases, slice_ge
 use Rattle.xp_words.specs.Machine.{IsMachine, Machine}
 use Rattle.xp_words.specs.Places.{sizes_of, memory, run_of}
 use Rattle.xp_words.specs.declared.ops.Op.{Op}
+use Rattle.xp_words.specs.declared.place.Place.TheVariants.{Life}
+use Rattle.xp_words.specs.declared.reply.LogLine.{LogLine}
 use Rattle.xp_board.specs.declared.holdings.Holdings.{Holdings}
 use Rattle.xp_board.specs.declared.holdings.Made.{Made}
 use Rattle.xp_board.specs.Readings.{domain_of}
 use Rattle.xp_board.specs.Hands.{IsEmptyHand}
 use Rattle.xp_board.specs.Sound.{SoundState, hand_of}
+use Rattle.xp_board.specs.Steps.{some_since}
 use Rattle.xp_board.specs.Told.{PortValue, Story, Goes, run_or}
 use Rattle.step_maker.specs.Reasons.{HadClock}
 use Rattle.answer_laws.specs.Alone.{IsAlone}
-use Rattle.vcpu_runners.specs.Turns.{IsOf, KnowsAwaited, Processing, Runs}
+use Rattle.dead_domains.specs.Buried.{HasBuried}
+use Rattle.domain_destroy.specs.Coming.{HasCome}
+use Rattle.vcpu_turn.specs.Cpus.{Job, OfCalls, OfDestroy, OfOne, job_next, next_of}
+use Rattle.vcpu_turn.specs.Destroying.{KnowsPlace}
+use Rattle.vcpu_turn.specs.declared.cpu.Progress.{Progress}
+use Rattle.vcpu_runners.specs.Turns.{IsOf, KnowsAwaited, Processing}
 use Rattle.shared_board.specs.Board.{Board, port_value}
 use Rattle.vcpu_runners.specs.Cpus.{AreShort, IsShort}
 use Rattle.xp_machine.specs.Pieces.{Leads}
@@ -64,35 +72,49 @@ pub same_story : (b b2 : Board) (s lender : ℕ) → port_value b2 s lender ≡ 
 same_story b b2 s lender same = ap (λ (x : PortValue). story_in b.story x.told) same
 
 -- ---- each port is still that of its vCPU
--- what a wait goes on with is known by the machine and the hand
-awaited_known : (v w : PortValue) (awaited : Option ℕ) → w.post.machine ≡ v.post.machine → w.holdings ≡ v.holdings → KnowsAwaited v awaited → KnowsAwaited w awaited
-awaited_known v w None machine hand known = tt
-awaited_known v w (Some stamp) machine hand known =
-    subst (λ (y : Machine × Holdings). HadClock y.0 stamp y.1) (λ i. (sym machine i, sym hand i)) known
+-- A port of the same vCPU of the same machine, with the same hand.
+module _ (v w : PortValue) (machine : w.post.machine ≡ v.post.machine) (vcpu : w.post.vcpu ≡ v.post.vcpu) (hand : w.holdings ≡ v.holdings) where
+  as_seen : (P : Machine → ℕ → Holdings → Type 0) → P v.post.machine v.post.vcpu v.holdings → P w.post.machine w.post.vcpu w.holdings
+  as_seen P is = subst (λ (y : Machine × ℕ × Holdings). P y.0 y.1 y.2) (λ i. (sym machine i, sym vcpu i, sym hand i)) is
+
+  awaited_seen : (awaited : Option ℕ) → KnowsAwaited v awaited → KnowsAwaited w awaited
+  awaited_seen None known = tt
+  awaited_seen (Some stamp) known = as_seen (λ n s h. HadClock n stamp h) known
+
+  place_seen : (job : Job) (op : ℕ) (at : Progress) (log : List LogLine) → KnowsPlace v job op at log → KnowsPlace w job op at log
+  place_seen (OfOne task) op at log known = known
+  place_seen (OfCalls calls) op at log known = known
+  place_seen (OfDestroy x) op at log known = as_seen (λ n s h. HasCome n s x at.place op log h) known
+
+  pub is_of_seen : (c : Processing) → w.post.run ≡ v.post.run → IsOf v c → IsOf w c
+  is_of_seen c run o =
+      record {
+        vcpu = o.vcpu ∙ sym vcpu;
+        domain = as_seen (λ n s h. c.domain ≡ domain_of n s) o.domain;
+        idles = record {
+          empty = as_seen (λ n s h. IsEmptyHand h) o.idles.empty;
+          no_walk = as_seen (λ n s h. h.walk ≡ None) o.idles.no_walk;
+          machine = as_seen (λ n s h. IsMachine n) o.idles.machine;
+          warm = as_seen (λ n s h. h.cold ≡ false) o.idles.warm;
+        };
+        awaits = awaited_seen c.at.awaited o.awaits;
+        runs = λ works. elim (o.runs works) [
+          | inl runs ↦ inl ((λ i. run_or (run i) (hand i).run) ∙ runs)
+          | inr dying ↦ inr (as_seen (λ n s h. IsTrue (some_since (sizes_of n) 0 (Life c.domain) (λ x. not (x == 0)) h.steps)) dying)
+        ];
+        frames = as_seen (λ n s h. c.frames ≡ n.frames) o.frames;
+        place = place_seen (job_next (next_of c)) (c.answered + 1) c.at c.log o.place;
+        ahead = o.ahead;
+        buried = λ i x reply at in_it unrefused. as_seen (λ n s h. HasBuried n s x (i + 1) 0 h c.log) (o.buried i x reply at in_it unrefused);
+      }
 
 of_lender : (b : Board) (s lender other : ℕ) (c : Processing) → IsOf (port_value b s lender) c → IsOf (port_value b s other) c
-of_lender b s lender other c o =
-    record { vcpu = o.vcpu; domain = o.domain; idles = record { empty = o.idles.empty; no_walk = o.idles.no_walk; machine = o.idles.machine; warm = o.idles.warm }; awaits = awaited_known (port_value b s lender) (port_value b s other) c.at.awaited refl refl o.awaits; runs = o.runs }
-
-still_runs : (b b2 : Board) (t lender : ℕ) → b2.machine ≡ b.machine → b2.story.opening ≡ b.story.opening → hand_of b2.story.hands t ≡ hand_of b.story.hands t → Runs (port_value b t lender) →
-    Runs (port_value b2 t lender)
-still_runs b b2 t lender machine opening hand runs = (λ i. run_or (memory (sizes_of (machine i)) (opening i) (run_of t)) (hand i).run) ∙ runs
+of_lender b s lender other c o = is_of_seen (port_value b s lender) (port_value b s other) refl refl refl c refl o
 
 pub of_other : (b b2 : Board) (t lender : ℕ) (c : Processing) → b2.machine ≡ b.machine → b2.story.opening ≡ b.story.opening → hand_of b2.story.hands t ≡ hand_of b.story.hands t →
     IsOf (port_value b t lender) c → IsOf (port_value b2 t lender) c
 of_other b b2 t lender c machine opening hand o =
-    record {
-      vcpu = o.vcpu;
-      domain = o.domain ∙ sym (λ i. domain_of (machine i) t);
-      idles = record {
-        empty = subst IsEmptyHand (sym hand) o.idles.empty;
-        no_walk = ap (λ (h : Holdings). h.walk) hand ∙ o.idles.no_walk;
-        machine = subst IsMachine (sym machine) o.idles.machine;
-        warm = ap (λ (h : Holdings). h.cold) hand ∙ o.idles.warm;
-      };
-      awaits = awaited_known (port_value b t lender) (port_value b2 t lender) c.at.awaited machine hand o.awaits;
-      runs = λ works. still_runs b b2 t lender machine opening hand (o.runs works);
-    }
+    is_of_seen (port_value b t lender) (port_value b2 t lender) machine refl hand c (λ i. memory (sizes_of (machine i)) (opening i) (run_of t)) o
 
 -- ---- the list of vCPUs
 set_at : (cpus : List Processing) (s t : ℕ) (c2 c : Processing) → s < length cpus → slice_get (slice_set cpus s c2) t ≡ Some c → ((t ≡ s) × (c ≡ c2)) ⊎ ((t ≢ s) × (slice_get cpus t ≡ Some c))

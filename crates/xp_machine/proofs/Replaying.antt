@@ -20,6 +20,7 @@ use Rattle.vcpu_runners.specs.Cpus.{AreShort, IsShort, first_cpus}
 use Rattle.vcpu_runners.specs.Gates.{Gate}
 use Rattle.xp_machine.specs.Ran.{first_gates}
 use Rattle.xp_machine.specs.Replay.{ReplayedTo}
+use Rattle.xp_machine.proofs.Fresh.{of_fresh}
 use Rattle.xp_machine.proofs.Reaching.{empty_idles, first_at, runs_at_first}
 use Rattle.xp_machine.proofs.Starting.{length_first, short_first}
 
@@ -29,16 +30,11 @@ board_is t b opened machine words = λ i. record { table = b.table; machine = ma
 
 -- a vCPU with any script may begin on a board of threads
 fresh_idles : (t : Trace) (b : BoardValue) (opened : List ℕ) → SoundWords t.layout opened → IsOpening t opened → b.machine ≡ t.layout → b.opening ≡ opened →
-    (s lender : ℕ) (script : List Op) → s < (sizes_of t.layout).vcpus → IsOf (port_with b s lender empty) (fresh s (domain_of t.layout s) script)
+    (s lender : ℕ) (script : List Op) → s < (sizes_of t.layout).vcpus → IsOf (port_with b s lender empty) (fresh t.layout.frames s (domain_of t.layout s) script)
 fresh_idles t b opened words opening machine is s lender script real =
-    subst (λ (k : BoardValue). IsOf (port_with k s lender empty) (fresh s (domain_of t.layout s) script)) (sym (board_is t b opened machine is))
-    (record {
-      vcpu = refl;
-      domain = refl;
-      idles = record { empty = empty_idles; no_walk = refl; machine = words.sound.machine; warm = refl };
-      awaits = tt;
-      runs = λ works. opening.places (run_of s) (vcpu_there (sizes_of t.layout) s 6 real (lit< tt)) ∙ runs_at_first t s;
-    })
+    subst (λ (k : BoardValue). IsOf (port_with k s lender empty) (fresh t.layout.frames s (domain_of t.layout s) script)) (sym (board_is t b opened machine is))
+    (of_fresh (port_with (record { table = b.table; machine = t.layout; opening = opened }) s lender empty) script
+    (record { empty = empty_idles; no_walk = refl; machine = words.sound.machine; warm = refl }) (opening.places (run_of s) (vcpu_there (sizes_of t.layout) s 6 real (lit< tt)) ∙ runs_at_first t s))
 
 pub are_first : (t : Trace) (b : BoardValue) (opened : List ℕ) (cpus : List Processing) → SoundWords t.layout opened → IsOpening t opened → b.machine ≡ t.layout → b.opening ≡ opened →
     length t.scripts ≡ length t.layout.vcpu_domain → sum_by length t.scripts ≤ 65536 → cpus ≡ first_cpus t.layout t.scripts → AreFirst b cpus

@@ -15,6 +15,7 @@ use Rattle.xp_board.specs.Runs as runs
 use Rattle.shared_board.specs.Board.{opened_story, state_of}
 use Rattle.vcpu_runners.specs.Turns.{Processing, pending_of}
 use Rattle.vcpu_runners.specs.Cpus.{first_cpus}
+use Rattle.vcpu_runners.specs.Destroyed.{AreDestroyed}
 use Rattle.xp_machine.specs.Cpus.{order}
 use Rattle.vcpu_runners.specs.Gates.{Gate}
 use Rattle.xp_machine.specs.Turns.{Stage, stage, WorksOff}
@@ -47,6 +48,8 @@ pub record RanTo (t : Trace) (gates : List Gate) (closed : Stage) : Type 0 where
       Safe t.layout (memory (sizes_of t.layout) a.words) (hand_of a.hands)
   -- the closing words are sound with empty hands
   pub sound : SoundWords t.layout closed.board.words
+  -- what was destroyed left there what it listed, and nothing else
+  pub destroyed : AreDestroyed t.layout (memory (sizes_of t.layout) closed.board.words) (hand_of closed.board.hands) closed.cpus
 
 -- The text is the report of the words and the logs at the end of such a run of the trace.
 pub record RanTrace (t : Trace) (gates : List Gate) (text : List ℕ) : Type 0 where

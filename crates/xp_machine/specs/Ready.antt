@@ -19,4 +19,4 @@ pub record Ready (b : Board) (cpus : List Processing) : Type 0 where
 
 -- a vCPU with any script may begin on this board
 unfoldable pub TakesFresh : Board → Type 0
-TakesFresh b = (v lender : ℕ) (script : List Op) → v < (sizes_of b.machine).vcpus → IsOf (port_value b v lender) (fresh v (domain_of b.machine v) script)
+TakesFresh b = (v lender : ℕ) (script : List Op) → v < (sizes_of b.machine).vcpus → IsOf (port_value b v lender) (fresh b.machine.frames v (domain_of b.machine v) script)

@@ -6,7 +6,7 @@ use Rattle.xp_words.specs.Places.{sizes_of}
 use Rattle.xp_board.specs.declared.holdings.Made.{Made}
 use Rattle.xp_board.specs.Sound.{hand_of}
 use Rattle.xp_board.specs.Told.{PortValue, Story}
-use Rattle.vcpu_turn.specs.Unhindered.{IsUnhindered}
+use Rattle.vcpu_turn.specs.Unhindered.{IsSparedIn}
 use Rattle.vcpu_runners.specs.Turns.{Processing, TurnEnd, is_due}
 use Rattle.vcpu_runners.specs.Turns as turning
 use Rattle.vcpu_runners.specs.Gates.{Gate, IsConsulted}
@@ -44,7 +44,7 @@ pub record MakesStagedTurn (n : Machine) (v : ℕ) (c : Processing) (s s' : Stag
   pub answers : List Bool
   pub turn : turning.IsTurn c after end from to answers
   pub consulted : IsConsulted gate asked answers (is_due end)
-  pub unhindered : IsUnhindered n end
+  pub unhindered : IsSparedIn n (turning.next_of c) end
   pub cpus : s'.cpus ≡ slice_set s.cpus v after
   pub gates : s'.gates ≡ slice_set s.gates v asked
 

@@ -11,6 +11,7 @@ ghost use Rattle.xp_machine.specs.Ran.{RanGenerated, RanToWords, RanTrace, first
 ghost use Rattle.vcpu_runners.specs.Rows.{cpus_of, gates_of};
 
 use crate::turns::run_all;
+use dead_domains::a_burial_leaves_only_what_is_listed;
 use machine_build::opening;
 use opening_rule::opening_words_are_sound;
 use report_text::{report, summary};
@@ -95,6 +96,7 @@ fn run_words(
     opening_words_are_sound();
     a_run_leaves_it_safe();
     rested_words_are_sound();
+    a_burial_leaves_only_what_is_listed();
     let words = opening(alloc, &trace)?;
     let Trace {
         version: _,

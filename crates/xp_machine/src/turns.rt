@@ -7,7 +7,9 @@ ghost use Rattle.xp_machine.specs.Rows.{stage_of};
 ghost use Rattle.xp_machine.specs.Turns.{IsStagedTurn, Turns, WorksOff};
 
 use crate::stops::stop_all;
-use answer_laws::{a_call_alone_is_neither_lost_nor_busy, alone_stays, nobody_is_waited_for};
+use answer_laws::{
+    a_call_alone_is_neither_lost_nor_busy, alone_stays, nobody_is_waited_for, nothing_is_lost,
+};
 use shared_board::PlainBoard;
 use trace_text::TurnRun;
 use vcpu_runners::Runner;
@@ -25,6 +27,7 @@ fn turn_of(board: &mut PlainBoard, runners: &mut [Runner], vcpu: u32)
     alone_stays();
     a_call_alone_is_neither_lost_nor_busy();
     nobody_is_waited_for();
+    nothing_is_lost();
     let runner = &mut runners[vcpu as usize];
     let mut port = board.port(vcpu);
     runner.turn(&mut port);

@@ -10,6 +10,6 @@ pub turn-requires-clause-of : goal.turn-requires-clause-of
 unfolding TakesFresh
 turn-requires-clause-of c =
     let lender = c.port.result.board.ghost_name in
-    let is = c.new-runner.ensures.cpu ∙ c.in_ok-cpu.ensures ∙ ap (λ (n : Machine). fresh c.args.vcpu (domain_of n c.args.vcpu) c.args.script) c.layout.ensures.layout in
+    let is = c.new-runner.ensures.cpu ∙ c.in_ok-cpu.ensures ∙ ap (λ (n : Machine). fresh n.frames c.args.vcpu (domain_of n c.args.vcpu) c.args.script) c.layout.ensures.layout in
     of_port c.args.board.now c.port.result.board.now c.args.vcpu c.port.result.vcpu lender c.new-runner.result.cpu c.port.ensures.board c.port.ensures.vcpu
     (subst (IsOf (port_value c.args.board.now c.args.vcpu lender)) (sym is) (c.requires.fresh c.args.vcpu lender c.args.script c.requires.vcpu))

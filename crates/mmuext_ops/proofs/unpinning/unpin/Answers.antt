@@ -4,7 +4,8 @@ use Rattle.std.proofs.lemmas.Bool.{not-false, not-true}
 use Rattle.mmuext_ops.proofs.Looked as look
 use Rattle.mmuext_ops.proofs.Looked.{Looked, fits, gave_back, read_some, spelled}
 use Rattle.mmuext_ops.proofs.UnpinCourse.{holds, lost, raced, released, seen, unreferred}
-use Rattle.mmuext_ops.proofs.Unpinned.{found_some, may_unpin}
+use Rattle.table_words.proofs.PinWords.{may_unpin}
+use Rattle.mmuext_ops.proofs.Unpinned.{found_some}
 use Rattle.mmuext_ops.proofs.unpinning.unpin.Goals.{After-read_kind-kind}
 use Rattle.mmuext_ops.proofs.unpinning.unpin.Given.{Over}
 use Rattle.mmuext_ops.proofs.unpinning.unpin.Goals as goal

@@ -2,8 +2,8 @@ use Rattle.std.proofs.Common.{◌+◌, None, arith, ap, sym, ◌∙◌, refl, So
 use Rattle.std.proofs.lemmas.Option.{slice_get-get_or}
 use Rattle.xp_words.specs.declared.ops.Call.{Call}
 use Rattle.vcpu_turn.specs.declared.cpu.Progress.{Progress}
-use Rattle.vcpu_turn.proofs.Between.{own_domain}
 use Rattle.vcpu_turn.proofs.Calling.{call_at, few_at, few_past, room_at, room_long, room_more, room_past, room_stopped, went_all, went_long, went_more, went_none, went_stopped, is_err_calm, none_past}
+use Rattle.vcpu_turn.proofs.Staying.{own_domain}
 use Rattle.vcpu_turn.proofs.calls.answer_calls.Goals as goal
 
 pub returns-then-calls-gt-MOST-clause-few : goal.returns-then-calls-gt-MOST-clause-few

@@ -13,7 +13,7 @@ invariant-loop-at g l = record {
   few : IsFewIn (OfCalls l.fn.calls) l.at;
   awaits : KnowsAwaited (g.P.Port.value l.port) l.at.awaited;
   capacity : vec_capacity l.log ≡ vec_capacity l.fn.log;
-  room : vec_len l.log + room_from (OfCalls l.fn.calls) l.at.call + made_within (OfCalls l.fn.calls) l.fn.at ≤ vec_len l.fn.log + room_from (OfCalls l.fn.calls) l.fn.at.call + made_within (OfCalls l.fn.calls) l.at;
+  room : vec_len l.log + room_from 0 (OfCalls l.fn.calls) l.at.call + made_within (OfCalls l.fn.calls) l.fn.at ≤ vec_len l.fn.log + room_from 0 (OfCalls l.fn.calls) l.fn.at.call + made_within (OfCalls l.fn.calls) l.at;
   post : (g.P.Port.value l.port).post ≡ (g.P.Port.value l.fn.port).post;
   rests : Rests (g.P.Port.value l.port);
   warm : IsWarm (g.P.Port.value l.port);

@@ -4,6 +4,6 @@ use Rattle.vcpu_turn.proofs.cpu.lines_in.Given as goal
 
 abbrev pub invariant-loop-op : goal.invariant-loop-op
 invariant-loop-op l = record {
-  rest : l.lines + lines_ahead l.script l.op-index ≡ lines_ahead l.script 0;
-  few : l.lines ≤ 32833 * l.op-index;
+  rest : l.lines + lines_ahead l.frames l.script l.op-index ≡ lines_ahead l.frames l.script 0;
+  few : l.lines ≤ 65537 * l.op-index;
 }

@@ -1,0 +1,22 @@
+mod AllWords
+mod Burying
+mod Cleared
+mod ClearingOn
+mod Dooming
+mod Ending
+mod Gating
+mod Giving
+mod LettingGo
+mod Lines
+mod Marked
+mod NoUse
+pub mod Noes
+mod OneVcpu
+mod OneWord
+mod Opening
+mod Paging
+pub mod Parts
+mod Phasing
+pub mod Staying
+mod StoppedVcpus
+mod Unmarking

@@ -1,0 +1,8 @@
+pub mod Asking
+pub mod Coming
+pub mod Course
+pub mod Destroying
+pub mod Emptying
+pub mod Clearing
+pub mod Gates
+pub mod Releasing
