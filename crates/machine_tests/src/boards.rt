@@ -213,15 +213,15 @@ pub(crate) fn steps_of(
     Ok((port.loads, port.exchanges, port.stores, port.sums))
 }
 
-// The turn begins with looks at the own ask, flushed and run word, and then at both old words, as each element does; the frame's word is
-// looked at, exchanged and lowered around the store; and the answer ends with a look at the clock.
+// The turn begins with looks at the own domain's life, the own ask, flushed and run word, and then at both old words, as each element does;
+// the frame's word is looked at, exchanged and lowered around the store; and the answer ends with a look at the clock.
 #[test]
-fn a_turn_of_an_update_makes_twelve_steps(rt: HostRuntime) -> Result<(), Fail> {
+fn a_turn_of_an_update_makes_thirteen_steps(rt: HostRuntime) -> Result<(), Fail> {
     let (mut board, script) = opened(rt.alloc(), TWO_DOMAINS).expect(&rt, "a board");
     assert!(rt; script.len() == 1);
     if script.len() == 1 && board.layout().vcpus() == 2 {
         let steps = steps_of(rt.alloc(), &mut board, 1, script)?;
-        assert!(rt; steps == (9, 1, 1, 1));
+        assert!(rt; steps == (10, 1, 1, 1));
         assert!(rt; refs_at(&mut board, 1) == Some(0x8000_0001_8000_0001));
     }
     Ok(())
