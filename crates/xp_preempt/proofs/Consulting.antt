@@ -1,24 +1,20 @@
 -- The answers of a gate in a row.
-use Rattle.std.proofs.Common.{◌≡◌, ℕ, ◌+◌, ◌++◌, ◌==◌, if◌then◌else◌, Bool, true, false, List, [], ◌∷◌, length, refl, ap, ◌∙◌, subst, arith}
-use Rattle.xp_preempt.specs.Gates.{Consulted, GivesAnswers, answer_at, asks_on, ends_yes, last_ask, next_ask, one_more_if, yeses}
+use Rattle.std.proofs.Common.{◌≡◌, ℕ, ◌+◌, ◌++◌, ◌==◌, if◌then◌else◌, Bool, true, false, List, [], ◌∷◌, length, refl, sym, ap, ◌∙◌, subst, arith}
+use Rattle.xp_preempt.specs.Gates.{Asked, AskedPast, Consulted, Gate, GivesAnswers, IsCalm, answer_at, asks_on, ends_yes, last_ask, next_ask, one_more_if, yeses}
 
 -- nothing was asked
-pub consulted_none : (says : ℕ → Bool) (asks risen : ℕ) → Consulted says asks asks risen risen []
+pub consulted_none : (g : Gate) → Consulted g g []
 unfolding GivesAnswers asks_on yeses
-consulted_none says asks risen = record { gives = tt; asks = refl; yes = omega arith }
-
--- an answer that says nothing of a gate
-pub not_due : (b : Bool) (answers : List Bool) → b ≡ false → b ≡ true → ends_yes answers ≡ true
-not_due b answers off on = absurd cc
+consulted_none g = record { gives = tt; asks = refl; yes = omega arith; says = λ n. refl; paces = refl }
 
 -- one ask
-pub consulted_ask : (says : ℕ → Bool) (before after yes_before yes_after : ℕ) (due : Bool) → due ≡ answer_at says before → after ≡ next_ask before → yes_after ≡ (if due then yes_before + 1 else yes_before) → Consulted says before after yes_before yes_after (due ∷ [])
+pub consulted_ask : (g h : Gate) (due : Bool) → due ≡ answer_at g.says g.asks → h.asks ≡ next_ask g.asks → h.yes ≡ one_more_if due g.yes → ((n : ℕ) → h.says n ≡ g.says n) → h.paces ≡ g.paces → Consulted g h (due ∷ [])
 unfolding GivesAnswers asks_on yeses
-consulted_ask says before after yes_before yes_after due is on rose = record { gives = (is, tt); asks = on; yes = rose ∙ one_yes due }
+consulted_ask g h due is on rose same paces = record { gives = (is, tt); asks = on; yes = rose ∙ one_yes due g.yes; says = same; paces = paces }
   where
-    one_yes : (d : Bool) → (if d then yes_before + 1 else yes_before) ≡ one_more_if d 0 + yes_before
-    one_yes true = omega arith
-    one_yes false = omega arith
+    one_yes : (d : Bool) (n : ℕ) → one_more_if d n ≡ one_more_if d 0 + n
+    one_yes true n = omega arith
+    one_yes false n = omega arith
 
 -- ---- one piece behind another
 -- the counts
@@ -43,13 +39,77 @@ gives_then new old asks same xs (y ∷ ys) first next =
     same_answer : (n : ℕ) → answer_at new n ≡ answer_at old n
     same_answer n = ap (λ (b : Bool). if n == last_ask then false else b) (same (n + 1))
 
-pub consulted_then : (new old : ℕ → Bool) (a b c yes_a yes_b yes_c : ℕ) (xs ys : List Bool) → ((n : ℕ) → new n ≡ old n) → Consulted old a b yes_a yes_b xs → Consulted new b c yes_b yes_c ys → Consulted old a c yes_a yes_c (ys ++ xs)
-consulted_then new old a b c yes_a yes_b yes_c xs ys same first next =
+pub consulted_then : {g h k : Gate} {xs ys : List Bool} → Consulted g h xs → Consulted h k ys → Consulted g k (ys ++ xs)
+consulted_then {g} {h} {k} {xs} {ys} first next =
     let few = first.yes in
     let more = next.yes in
     let both = yeses_then xs ys in
     record {
-      gives = gives_then new old a same xs ys first.gives (subst (λ (n : ℕ). GivesAnswers new n ys) first.asks next.gives);
-      asks = next.asks ∙ ap (λ (n : ℕ). asks_on (length ys) n) first.asks ∙ asks_then xs ys a;
+      gives = gives_then h.says g.says g.asks first.says xs ys first.gives (subst (λ (n : ℕ). GivesAnswers h.says n ys) first.asks next.gives);
+      asks = next.asks ∙ ap (λ (n : ℕ). asks_on (length ys) n) first.asks ∙ asks_then xs ys g.asks;
       yes = omega (arith, few, more, both);
+      says = λ n. next.says n ∙ first.says n;
+      paces = next.paces ∙ first.paces;
     }
+
+-- ---- a call that is paused for its gate exactly where that said yes last
+-- it asked nothing
+pub asked_none : {g : Gate} {paused : Bool} {P : List Bool → Type 0} → paused ≡ false → P [] → Asked g g paused P
+asked_none {g} off goes = record { answers = []; course = goes; gate = consulted_none g; due = off }
+
+module _ {g h : Gate} {P : List Bool → Type 0} where
+  -- its answer is made of that of another call
+  pub asked_as : {early paused : Bool} {Q : List Bool → Type 0} → paused ≡ early → ((xs : List Bool) → P xs → Q xs) → Asked g h early P → Asked g h paused Q
+  asked_as same on a = record { answers = a.answers; course = on a.answers a.course; gate = a.gate; due = same ∙ a.due }
+
+  -- so it may be said of one that may go on
+  pub asked_past : {paused : Bool} → Asked g h paused P → AskedPast g h paused P
+  asked_past a = record { answers = a.answers; course = a.course; gate = a.gate; due = λ on. sym a.due ∙ on }
+
+-- one call behind another, which is not paused
+ends_same : (early paused : Bool) (xs ys : List Bool) → early ≡ false → early ≡ ends_yes xs → paused ≡ ends_yes ys → paused ≡ ends_yes (ys ++ xs)
+ends_same early paused xs [] off first next = next ∙ sym off ∙ first
+ends_same early paused xs (y ∷ ys) off first next = next
+
+pub asked_then : {g h k : Gate} {early paused : Bool} {P Q R : List Bool → Type 0} → early ≡ false → ((xs ys : List Bool) → P xs → Q ys → R (ys ++ xs)) → Asked g h early P → Asked h k paused Q → Asked g k paused R
+asked_then {early = early} {paused} off both a b =
+    record { answers = b.answers ++ a.answers; course = both a.answers b.answers a.course b.course; gate = consulted_then a.gate b.gate; due = ends_same early paused a.answers b.answers off a.due b.due }
+
+-- ---- a call that may go on where the gate said yes
+pub past_none : {g : Gate} {paused : Bool} {P : List Bool → Type 0} → paused ≡ false → P [] → AskedPast g g paused P
+past_none {g} off goes = record { answers = []; course = goes; gate = consulted_none g; due = λ on. absurd cc }
+
+pub past_as : {g h : Gate} {early paused : Bool} {P Q : List Bool → Type 0} → (paused ≡ true → early ≡ true) → ((xs : List Bool) → P xs → Q xs) → AskedPast g h early P → AskedPast g h paused Q
+past_as same on a = record { answers = a.answers; course = on a.answers a.course; gate = a.gate; due = λ is. a.due (same is) }
+
+ends_then : (xs ys : List Bool) → ends_yes ys ≡ true → ends_yes (ys ++ xs) ≡ true
+ends_then xs [] on = absurd cc
+ends_then xs (y ∷ ys) on = on
+
+pub past_then : {g h k : Gate} {early paused : Bool} {P Q R : List Bool → Type 0} → ((xs ys : List Bool) → P xs → Q ys → R (ys ++ xs)) → AskedPast g h early P → AskedPast h k paused Q → AskedPast g k paused R
+past_then both a b =
+    record { answers = b.answers ++ a.answers; course = both a.answers b.answers a.course b.course; gate = consulted_then a.gate b.gate; due = λ on. ends_then a.answers b.answers (b.due on) }
+
+-- ---- a calm gate
+pub says_either : (t b : Bool) → b ≡ false → (if t then false else b) ≡ false
+says_either true b off = refl
+says_either false b off = off
+
+-- it answers no
+pub calm_answers_no : (g : Gate) → IsCalm g → (answers : List Bool) → GivesAnswers g.says g.asks answers → yeses answers ≡ 0
+unfolding GivesAnswers yeses
+calm_answers_no g calm [] gives = refl
+calm_answers_no g calm (a ∷ rest) gives =
+    let off : a ≡ false = gives.0 ∙ says_either (asks_on (length rest) g.asks == last_ask) (g.says (asks_on (length rest) g.asks + 1)) (calm (asks_on (length rest) g.asks + 1)) in
+    ap (λ b. one_more_if b (yeses rest)) off ∙ calm_answers_no g calm rest gives.1
+
+ends_some : (answers : List Bool) → yeses answers ≡ 0 → ends_yes answers ≡ false
+unfolding yeses
+ends_some [] none = refl
+ends_some (true ∷ rest) none = absurd (let more : yeses rest + 1 ≡ 0 = none in omega (arith, more))
+ends_some (false ∷ rest) none = refl
+
+-- so no call is paused for it
+pub calm_pauses_nothing : {g h : Gate} {paused : Bool} {P : List Bool → Type 0} → IsCalm g → AskedPast g h paused P → paused ≡ false
+calm_pauses_nothing {g} {paused = true} calm a = let last = a.due refl in let none = ends_some a.answers (calm_answers_no g calm a.answers a.gate.gives) in absurd cc
+calm_pauses_nothing {paused = false} calm a = refl

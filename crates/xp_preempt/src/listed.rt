@@ -1,6 +1,6 @@
 ghost use Rattle.std.specs.Prelude.{◌≡◌, ◌+◌, true, false, nat_eq, if◌then◌else◌};
 ghost use Rattle.std.specs.List.{list_any};
-ghost use Rattle.xp_preempt.specs.Gates.{listed_due, listed_on, names_none};
+ghost use Rattle.xp_preempt.specs.Gates.{listed_due, listed_on};
 
 use crate::gate::Preempt;
 use std::marker::Model;
@@ -38,15 +38,7 @@ impl Listed {
 }
 
 impl Preempt for Listed {
-    ghost count_yes = { λ g. g.yes };
-
-    ghost count_asks = { λ g. g.asks };
-
-    ghost says = { λ g n. list_any (λ k. nat_eq k n) g.yes_at };
-
-    ghost paces = { λ _. false };
-
-    ghost calm = { λ g. names_none g.yes_at };
+    ghost value = { λ g. record { paces = false; asks = g.asks; yes = g.yes; says = λ n. list_any (λ k. nat_eq k n) g.yes_at } };
 
     fn pace(&mut self, every: u32)
         ensures { self.new ≡ self.old }
