@@ -1,3 +1,4 @@
+ghost use Rattle.xp_preempt.specs.Gates.{Asked};
 use crate::{Asked, Manner, asked_of};
 use std::test::Fail;
 

@@ -10,7 +10,7 @@ use Rattle.domain_destroy.specs.Course as course
 use Rattle.domain_destroy.specs.Course.{Advances, Destroys, GoesOn, LeftFrame}
 use Rattle.domain_destroy.specs.Emptying as emptying
 use Rattle.domain_destroy.specs.Emptying.{EmptiesOne, EmptiesWord, EmptiesWords, LetsGo}
-use Rattle.domain_destroy.specs.Gates.{heard_no}
+use Rattle.domain_destroy.specs.Hearing.{heard_no}
 use Rattle.domain_destroy.specs.declared.place.DestroyAt.{DestroyAt}
 use Rattle.domain_destroy.specs.declared.place.DestroyAt.TheVariants.{Lists}
 

@@ -19,7 +19,7 @@ use Rattle.frame_claims.specs.Found.{Upwards}
 use Rattle.frame_words.specs.Refs.{saw_refs}
 use Rattle.domain_destroy.specs.Clearing.{ClearsFrame}
 use Rattle.domain_destroy.specs.Emptying.{EmptiesOne}
-use Rattle.domain_destroy.specs.Gates.{heard_no}
+use Rattle.domain_destroy.specs.Hearing.{heard_no}
 use Rattle.domain_destroy.specs.declared.place.DestroyAt.{DestroyAt}
 use Rattle.domain_destroy.specs.declared.place.DestroyAt.TheVariants.{Begins, Stops, Empties, Clears, Checks, Lists}
 

@@ -4,5 +4,5 @@ pub mod Course
 pub mod Destroying
 pub mod Emptying
 pub mod Clearing
-pub mod Gates
+pub mod Hearing
 pub mod Releasing

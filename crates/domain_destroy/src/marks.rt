@@ -17,7 +17,7 @@ ghost use Rattle.domain_destroy.specs.Clearing.{SawOwn};
 ghost use Rattle.domain_destroy.specs.Coming.{IsForeign};
 ghost use Rattle.domain_destroy.specs.Destroying.{GaveMark, TookMarks};
 ghost use Rattle.domain_destroy.specs.Emptying.{NamesNone};
-ghost use Rattle.domain_destroy.specs.Gates.{Gated};
+ghost use Rattle.xp_preempt.specs.Gates.{Asked};
 
 use crate::releasing::let_go;
 use claim_words::clear_allocated;
@@ -51,10 +51,7 @@ pub(crate) fn take_marks<P: Port>(
     requires saw { (u : PortValue) × (d : ℕ) × SawOwn u (P.value port.old) d frame found }
     requires rests { Rests (P.value port.old) }
     requires clear { NamesNone (P.value port.old) }
-    ensures went { Gated (λ answers. TookMarks (P.value port.old) (P.value port.new) frame found answers result) (says gate.old) (count_asks gate.old) (count_asks gate.new) (count_yes gate.old) (count_yes gate.new) (is_due_answer result) }
-    ensures says { (n : ℕ) → says gate.new n ≡ says gate.old n }
-    ensures paces { paces gate.new ≡ paces gate.old }
-    ensures calm { calm gate.old ≡ true → (is_due_answer result ≡ false) × (calm gate.new ≡ true) }
+    ensures went { Asked (value gate.old) (value gate.new) (is_due_answer result) (λ answers. TookMarks (P.value port.old) (P.value port.new) frame found answers result) }
 {
     let kind = read_kind(found);
     if kind.pinned {
@@ -83,10 +80,7 @@ fn unkeep<P: Port>(
     requires kept { kind.kept ≡ true }
     requires rests { Rests (P.value port.old) }
     requires clear { NamesNone (P.value port.old) }
-    ensures went { Gated (λ answers. TookMarks (P.value port.old) (P.value port.new) frame found answers result) (says gate.old) (count_asks gate.old) (count_asks gate.new) (count_yes gate.old) (count_yes gate.new) (is_due_answer result) }
-    ensures says { (n : ℕ) → says gate.new n ≡ says gate.old n }
-    ensures paces { paces gate.new ≡ paces gate.old }
-    ensures calm { calm gate.old ≡ true → (is_due_answer result ≡ false) × (calm gate.new ≡ true) }
+    ensures went { Asked (value gate.old) (value gate.new) (is_due_answer result) (λ answers. TookMarks (P.value port.old) (P.value port.new) frame found answers result) }
 {
     if kind.kind == PageType::Desc {
         return end_page(port, frame, kind, found);

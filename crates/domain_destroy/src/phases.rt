@@ -5,7 +5,7 @@ ghost use Rattle.level_release.specs.Asking.{is_due_answer};
 ghost use Rattle.domain_destroy.specs.Coming.{HasComeTo, seen_to};
 ghost use Rattle.domain_destroy.specs.Destroying.{HasComeSomehow, KeepsComing, ListsAll, PhaseWent, phase_of};
 ghost use Rattle.domain_destroy.specs.Emptying.{NamesNone};
-ghost use Rattle.domain_destroy.specs.Gates.{Gated};
+ghost use Rattle.xp_preempt.specs.Gates.{Asked};
 
 use crate::beginning::begin;
 use crate::clearing::clear_frames;
@@ -66,12 +66,9 @@ pub(crate) fn empty_all<P: Port>(
     requires clear { NamesNone (P.value port.old) }
     requires phase { 2 ≤ phase_of at.old }
     requires come { HasComeSomehow (P.value port.old) domain at.old }
-    ensures went { Gated (λ answers. PhaseWent (P.value port.old) (P.value port.new) domain at.old at.new [] answers result) (says gate.old) (count_asks gate.old) (count_asks gate.new) (count_yes gate.old) (count_yes gate.new) (is_due_answer result) }
+    ensures went { Asked (value gate.old) (value gate.new) (is_due_answer result) (λ answers. PhaseWent (P.value port.old) (P.value port.new) domain at.old at.new [] answers result) }
     ensures come { KeepsComing (P.value port.old) (P.value port.new) domain at.old at.new }
     ensures past { IfOk result (λ _. 3 ≤ phase_of at.new) }
-    ensures says { (n : ℕ) → says gate.new n ≡ says gate.old n }
-    ensures paces { paces gate.new ≡ paces gate.old }
-    ensures calm { calm gate.old ≡ true → (is_due_answer result ≡ false) × (calm gate.new ≡ true) }
 {
     if let DestroyAt::Empties { mut vcpu } = *at {
         let answer = empty_vcpus(port, gate, domain, &mut vcpu);
@@ -93,12 +90,9 @@ pub(crate) fn clear_all<P: Port>(
     requires clear { NamesNone (P.value port.old) }
     requires phase { 3 ≤ phase_of at.old }
     requires come { HasComeSomehow (P.value port.old) domain at.old }
-    ensures went { Gated (λ answers. PhaseWent (P.value port.old) (P.value port.new) domain at.old at.new [] answers result) (says gate.old) (count_asks gate.old) (count_asks gate.new) (count_yes gate.old) (count_yes gate.new) (is_due_answer result) }
+    ensures went { Asked (value gate.old) (value gate.new) (is_due_answer result) (λ answers. PhaseWent (P.value port.old) (P.value port.new) domain at.old at.new [] answers result) }
     ensures come { KeepsComing (P.value port.old) (P.value port.new) domain at.old at.new }
     ensures past { IfOk result (λ _. 4 ≤ phase_of at.new) }
-    ensures says { (n : ℕ) → says gate.new n ≡ says gate.old n }
-    ensures paces { paces gate.new ≡ paces gate.old }
-    ensures calm { calm gate.old ≡ true → (is_due_answer result ≡ false) × (calm gate.new ≡ true) }
 {
     if let DestroyAt::Clears { mut frame } = *at {
         let answer = clear_frames(port, gate, domain, &mut frame);

@@ -4,8 +4,8 @@ ghost use Rattle.step_maker.specs.Holds.{Rests};
 ghost use Rattle.level_release.specs.Asking.{is_due_answer};
 ghost use Rattle.domain_destroy.specs.Asking.{IsDestroyStop};
 ghost use Rattle.domain_destroy.specs.Emptying.{HoldsOne, LetsGo, LetsGoHand, NamesNone};
-ghost use Rattle.domain_destroy.specs.Gates.{Gated};
 ghost use Rattle.domain_destroy.specs.Releasing.{GoesOnDestroying, StopsOnDestroying};
+ghost use Rattle.xp_preempt.specs.Gates.{Asked};
 
 use level_release::settle;
 use table_words::{OldWord, put_old};
@@ -24,10 +24,7 @@ pub(crate) fn let_go<P: Port>(port: &mut P, gate: &mut dyn Preempt, frame: u32) 
     ensures serves { GoesOnDestroying (P.value port.old) (P.value port.new) result }
     ensures stops { IfErr result (λ e. StopsOnDestroying (P.value port.old) (P.value port.new) e) }
     ensures kinds { IfErr result IsDestroyStop }
-    ensures course { Gated (λ answers. LetsGo frame (P.value port.old) (P.value port.new) answers result) (says gate.old) (count_asks gate.old) (count_asks gate.new) (count_yes gate.old) (count_yes gate.new) (is_due_answer result) }
-    ensures says { (n : ℕ) → says gate.new n ≡ says gate.old n }
-    ensures paces { paces gate.new ≡ paces gate.old }
-    ensures calm { calm gate.old ≡ true → (is_due_answer result ≡ false) × (calm gate.new ≡ true) }
+    ensures course { Asked (value gate.old) (value gate.new) (is_due_answer result) (λ answers. LetsGo frame (P.value port.old) (P.value port.new) answers result) }
 {
     put_old(port, OldWord::First, frame);
     settle(port, gate, &mut None)

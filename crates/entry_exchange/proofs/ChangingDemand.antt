@@ -71,7 +71,7 @@ module _ {v : PortValue} (x : EntryUpdate) (o : Owners) {seen : ℕ} (locked : H
   off_hand u w e a at stands off = let out = off_stands v u w x.table [] [] e a v.holdings.old1 at stands off in leaves v x.table x.level o.tables locked.holds w a out.0 out.1
 
   -- ---- what the new word asks is not to be had
-  module _ {u : PortValue} {says : ℕ → Bool} {before after yes_before yes_after : ℕ} {stop : Stop} (took : DemandTaken v u owner x.level wanted says before after yes_before yes_after (Err stop)) where
+  module _ {u : PortValue} {says : ℕ → Bool} {before after yes_before yes_after : ℕ} {stop : Stop} (took : DemandTaken v u owner x.level wanted g h (Err stop)) where
     untaken : (a : Option ℕ) × Stands v u [] [] (the_lock ∷ []) a v.holdings.old1
     untaken = untaken_stands v u wanted owner the_lock stop begun took.hand
 
@@ -79,7 +79,7 @@ module _ {v : PortValue} (x : EntryUpdate) (o : Owners) {seen : ℕ} (locked : H
     untaken_lock = lock_of v u [] [] the_lock untaken.0 v.holdings.old1 untaken.1 x.table x.level locked.holds.frame locked.holds.kind
 
     pub untaken_changed : {w : PortValue} → wanted ≢ Bad → same_demand wanted (old_demand x seen) ≡ false → LockLeft u w x.table x.level →
-        DemandChanged v w x o seen says before after yes_before yes_after (Err stop)
+        DemandChanged v w x o seen g h (Err stop)
     untaken_changed {w} fits other left =
         let by = took.course in
         record {
@@ -92,7 +92,7 @@ module _ {v : PortValue} (x : EntryUpdate) (o : Owners) {seen : ℕ} (locked : H
         }
 
   -- ---- it is in hand
-  module _ {u : PortValue} {says : ℕ → Bool} {before after yes_before yes_after : ℕ} (took : DemandTaken v u owner x.level wanted says before after yes_before yes_after (Ok tt)) where
+  module _ {u : PortValue} {says : ℕ → Bool} {before after yes_before yes_after : ℕ} (took : DemandTaken v u owner x.level wanted g h (Ok tt)) where
     taken : Stands v u (refs_of wanted owner) (typed_of wanted owner) (the_lock ∷ []) v.holdings.old0 v.holdings.old1
     taken = took_stands v u wanted owner the_lock begun took.hand
 
@@ -125,7 +125,7 @@ module _ {v : PortValue} (x : EntryUpdate) (o : Owners) {seen : ℕ} (locked : H
         given_works = works_are v p [] [] (found_lock ∷ []) given.0 v.holdings.old1 given.1 locked.holds.others.works
 
         pub lost_changed : {w : PortValue} → wanted ≢ Bad → same_demand wanted (old_demand x seen) ≡ false → LockLeft p w x.table x.level →
-            DemandChanged v w x o seen says before after yes_before yes_after (Err stop)
+            DemandChanged v w x o seen g h (Err stop)
         lost_changed {w} fits other left =
             let by = took.course in
             record {

@@ -84,7 +84,7 @@ module _ {v b : PortValue} (x : EntryUpdate) (o : Owners) {seen : ℕ} (holds : 
   -- ---- the end
   ended : {w : PortValue} {says : ℕ → Bool} {before after yes_before yes_after : ℕ} {answer : Result (Unit {0}) Stop} → MayWork v → Came v w → ServesExchange v w x o answer →
       IfErr answer (λ e. Stops v w (of_exchange x o answer) e) → IfErr answer IsAcquireStop →
-      LeavesExchange v w → ExchangesBy v w x o says before after yes_before yes_after answer → EntryExchanged v w x o says before after yes_before yes_after answer
+      LeavesExchange v w → ExchangesBy v w x o g h answer → EntryExchanged v w x o g h answer
   ended {w} {answer = answer} may came serves stops kinds hand by =
       record {
         came = came;
@@ -104,8 +104,8 @@ module _ {v b : PortValue} (x : EntryUpdate) (o : Owners) {seen : ℕ} (holds : 
 
   -- ---- it asks something else
   pub ended_changed : {w : PortValue} {says : ℕ → Bool} {before after yes_before yes_after : ℕ} {answer : Result (Unit {0}) Stop} → MayWork v →
-      DemandChanged b w x o seen says before after yes_before yes_after answer →
-      EntryExchanged v w x o says before after yes_before yes_after answer
+      DemandChanged b w x o seen g h answer →
+      EntryExchanged v w x o g h answer
   ended_changed {w} may did =
       let hand = leaves_behind v x.table x.level o.tables holds w b (seen_lock ∷ []) v.holdings.old0 v.holdings.old1 behind did.hand in
       ended may (came_trans v b w came_look did.came) (did.serves v holds saw) (did.stops v holds saw) did.kinds hand (did.course v holds saw)

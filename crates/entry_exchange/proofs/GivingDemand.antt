@@ -98,8 +98,8 @@ module _ {v w : PortValue} {g : ℕ} {says : ℕ → Bool} where
   }
 
   pub typed_released : {t : PageType} {before after yes_before yes_after : ℕ} {answer : Result (Unit {0}) Stop} → HoldsLive v g t → IfErr answer (λ e. e ≡ Paused Due) →
-      ((owner pages : ℕ) → Serves v w (of_release g owner pages answer) (misses v.post.machine answer)) → LeavesUnheld v w g answer → ReleasesFrameBy v w g t says before after yes_before yes_after answer →
-      DemandReleased v w (Typed g t) says before after yes_before yes_after
+      ((owner pages : ℕ) → Serves v w (of_release g owner pages answer) (misses v.post.machine answer)) → LeavesUnheld v w g answer → ReleasesFrameBy v w g t g h answer →
+      DemandReleased v w (Typed g t) g h
   typed_released {t} {answer = answer} holds due serves hand by =
       record {
         came = serves_came v w (of_release g 0 0 answer) (misses v.post.machine answer) (serves 0 0);

@@ -205,7 +205,7 @@ module _ (v w : PortValue) (owner level g : ℕ) where
 
 module _ {v w : PortValue} {owner level g : ℕ} {says : ℕ → Bool} {before after yes_before yes_after : ℕ} (above : 2 ≤ level) where
   pub acquired : {h : ℕ} → (h ≡ g) × (h < v.post.machine.frames) → ((pages : ℕ) → ServesAcquired v w g owner (level - 1) pages (Ok h)) → LeavesAcquired v w g owner (level - 1) (Ok h) →
-      AcquiresBy v w g owner (level - 1) says before after yes_before yes_after (Ok h) → DemandTaken v w owner level (Typed g (level_type (level - 1))) says before after yes_before yes_after (Ok tt)
+      AcquiresBy v w g owner (level - 1) g h (Ok h) → DemandTaken v w owner level (Typed g (level_type (level - 1))) g h (Ok tt)
   acquired {h} at serves hand by =
       record {
         came = serves_came v w (of_acquire {A = ℕ} v g owner (level - 1) 0 (Ok h)) ((serves 0).hidden ++ []) (serves 0).serves;
@@ -233,8 +233,8 @@ module _ {v w : PortValue} {owner level g : ℕ} {says : ℕ → Bool} {before a
 
   pub refused : {stop : Stop} → IsAcquireStop stop → ((pages : ℕ) → ServesAcquired v w g owner (level - 1) pages (Err stop)) →
       ((pages : ℕ) → Stops v w (of_acquire {A = ℕ} v g owner (level - 1) pages (Err stop)) stop) →
-      LeavesAcquired v w g owner (level - 1) (Err stop) → AcquiresBy v w g owner (level - 1) says before after yes_before yes_after (Err stop) →
-      DemandTaken v w owner level (Typed g (level_type (level - 1))) says before after yes_before yes_after (Err stop)
+      LeavesAcquired v w g owner (level - 1) (Err stop) → AcquiresBy v w g owner (level - 1) g h (Err stop) →
+      DemandTaken v w owner level (Typed g (level_type (level - 1))) g h (Err stop)
   refused {stop} kinds serves stops hand by =
       let within = λ (pages : ℕ). acquiring v w owner level g (Err stop) pages (is_due_stop stop) above (λ on. on) in
       record {

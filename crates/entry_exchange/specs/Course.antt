@@ -26,10 +26,11 @@ use Rattle.table_entries.specs.Acquiring.{Acquired, GaveRef, GaveType, GotRef}
 use Rattle.table_words.specs.OldWords.{old_place}
 use Rattle.table_words.specs.declared.old_words.OldWord.TheVariants.{Second}
 use Rattle.writable_pages.specs.Pages.{GotPage}
-use Rattle.level_release.specs.Course.{WasReleased, WithGate}
+use Rattle.level_release.specs.Course.{WasReleased}
 use Rattle.entry_exchange.specs.declared.exchanging.EntryUpdate.{EntryUpdate}
 use Rattle.entry_exchange.specs.Holding.{owner_at}
 use Rattle.entry_exchange.specs.Words.{same_demand, word_kept}
+use Rattle.xp_preempt.specs.Gates.{AskedPast, Gate}
 
 -- ---- the lock goes off
 -- with the reference; or with the table's last type count, and then the second old word names it, partial with all its entries recorded
@@ -112,5 +113,5 @@ pub data Exchanged (v : PortValue) (x : EntryUpdate) (o : Owners) : PortValue �
       TookNew u y x o seen answers (Ok tt) → PutsNew y z x seen (Ok old) → LeftLock z x.table x.level a → ReleasedDemand a (old_demand x old) w more →
       Exchanged v x o w (more ++ answers) (Ok tt)
 
-abbrev pub ExchangesBy : PortValue → PortValue → EntryUpdate → Owners → (ℕ → Bool) → ℕ → ℕ → ℕ → ℕ → Result (Unit {0}) Stop → Type 0
-ExchangesBy v w x o says before after yes_before yes_after answer = WithGate (λ answers. Exchanged v x o w answers answer) says before after yes_before yes_after answer
+abbrev pub ExchangesBy : PortValue → PortValue → EntryUpdate → Owners → Gate → Gate → Result (Unit {0}) Stop → Type 0
+ExchangesBy v w x o g h answer = AskedPast g h (is_due_answer answer) (λ answers. Exchanged v x o w answers answer)

@@ -22,7 +22,6 @@ use Rattle.frame_types.specs.Lowering.{DropsType}
 use Rattle.kept_marks.specs.Marks.{KeptFor}
 use Rattle.kind_words.specs.Kinds.{partial_kind}
 use Rattle.level_release.specs.Asking.{is_due_answer}
-use Rattle.level_release.specs.Course.{WithGate}
 use Rattle.level_release.specs.Holding.{HoldsLive}
 use Rattle.partial_state.specs.Levels.{level_type}
 use Rattle.table_entries.specs.Acquiring.{GaveRef}
@@ -33,6 +32,7 @@ use Rattle.entry_exchange.specs.Course.{ExchangesBy, GaveDemand, LeftLock, PutEn
 use Rattle.entry_exchange.specs.Holding.{HoldsTableLock, LeavesDemand, LeavesExchange, LeavesUnlocked}
 use Rattle.entry_exchange.specs.Serving.{ServesGiven, ServesPut, ServesTable, ServesTaken, StopsPut, of_demand, of_given}
 use Rattle.level_validate.specs.Acquiring.{IsAcquireStop}
+use Rattle.xp_preempt.specs.Gates.{AskedPast, Gate}
 
 -- ---- demands
 -- the machine has the frame that it names
@@ -105,27 +105,27 @@ pub data GaveTable (v : PortValue) (f level owner : ℕ) : PortValue → Type 0 
   shared : (u w : PortValue) → DropsType v u f false → GaveRef u w f → GaveTable v f level owner w
   last : (u w : PortValue) → DropsType v u f true → KeptFor u w f (partial_kind (level_type level) true false 512 0) owner → GaveTable v f level owner w
 
-abbrev pub TakesDemand : PortValue → PortValue → ℕ → ℕ → Demand → (ℕ → Bool) → ℕ → ℕ → ℕ → ℕ → Result (Unit {0}) Stop → Type 0
-TakesDemand v w owner level d says before after yes_before yes_after answer = WithGate (λ answers. TookDemand owner level v d w answers answer) says before after yes_before yes_after answer
+abbrev pub TakesDemand : PortValue → PortValue → ℕ → ℕ → Demand → Gate → Gate → Result (Unit {0}) Stop → Type 0
+TakesDemand v w owner level d g h answer = AskedPast g h (is_due_answer answer) (λ answers. TookDemand owner level v d w answers answer)
 
 -- all that is said of it
-pub record DemandTaken (v w : PortValue) (owner level : ℕ) (d : Demand) (says : ℕ → Bool) (before after yes_before yes_after : ℕ) (answer : Result (Unit {0}) Stop) : Type 0 where
+pub record DemandTaken (v w : PortValue) (owner level : ℕ) (d : Demand) (g h : Gate) (answer : Result (Unit {0}) Stop) : Type 0 where
   pub came : Came v w
   pub inside : IfOk answer (λ _. IsInside v.post.machine d)
   pub serves : (pages : ℕ) → ServesTaken v w d owner pages answer
   pub stops : (pages : ℕ) → IfErr answer (λ e. Stops v w (of_demand d owner pages (is_due_answer answer)) e)
   pub kinds : IfErr answer IsAcquireStop
   pub hand : LeavesDemand v w d owner answer
-  pub course : TakesDemand v w owner level d says before after yes_before yes_after answer
+  pub course : TakesDemand v w owner level d g h answer
 
-abbrev pub ReleasesDemand : PortValue → PortValue → Demand → (ℕ → Bool) → ℕ → ℕ → ℕ → ℕ → Type 0
-ReleasesDemand v w d says before after yes_before yes_after = WithGate (λ answers. ReleasedDemand v d w answers) says before after yes_before yes_after (Ok tt)
+abbrev pub ReleasesDemand : PortValue → PortValue → Demand → Gate → Gate → Type 0
+ReleasesDemand v w d g h = AskedPast g h false (λ answers. ReleasedDemand v d w answers)
 
-pub record DemandReleased (v w : PortValue) (d : Demand) (says : ℕ → Bool) (before after yes_before yes_after : ℕ) : Type 0 where
+pub record DemandReleased (v w : PortValue) (d : Demand) (g h : Gate) : Type 0 where
   pub came : Came v w
   pub serves : (owner pages : ℕ) → Serves v w (of_given d owner pages) []
   pub hand : LeavesGone v w d
-  pub course : ReleasesDemand v w d says before after yes_before yes_after
+  pub course : ReleasesDemand v w d g h
 
 pub record DemandGiven (v w : PortValue) (owner level : ℕ) (d : Demand) : Type 0 where
   pub came : Came v w
@@ -156,22 +156,22 @@ pub record LockLeft (v w : PortValue) (f level : ℕ) : Type 0 where
   pub course : LeftLock v f level w
 
 -- the exchange behind its look, for a word that asks something else
-pub record DemandChanged (v w : PortValue) (x : EntryUpdate) (o : Owners) (seen : ℕ) (says : ℕ → Bool) (before after yes_before yes_after : ℕ) (answer : Result (Unit {0}) Stop) : Type 0 where
+pub record DemandChanged (v w : PortValue) (x : EntryUpdate) (o : Owners) (seen : ℕ) (g h : Gate) (answer : Result (Unit {0}) Stop) : Type 0 where
   pub came : Came v w
   pub serves : BehindLook v x o seen (λ a. ServesExchange a w x o answer)
   pub stops : BehindLook v x o seen (λ a. IfErr answer (λ e. Stops a w (of_exchange x o answer) e))
   pub kinds : IfErr answer IsAcquireStop
   pub hand : LeavesExchange v w
-  pub course : BehindLook v x o seen (λ a. ExchangesBy a w x o says before after yes_before yes_after answer)
+  pub course : BehindLook v x o seen (λ a. ExchangesBy a w x o g h answer)
 
 -- the exchange as a whole
-pub record EntryExchanged (v w : PortValue) (x : EntryUpdate) (o : Owners) (says : ℕ → Bool) (before after yes_before yes_after : ℕ) (answer : Result (Unit {0}) Stop) : Type 0 where
+pub record EntryExchanged (v w : PortValue) (x : EntryUpdate) (o : Owners) (g h : Gate) (answer : Result (Unit {0}) Stop) : Type 0 where
   pub came : Came v w
   pub serves : ServesExchange v w x o answer
   pub stops : IfErr answer (λ e. Stops v w (of_exchange x o answer) e)
   pub kinds : IfErr answer IsAcquireStop
   pub hand : LeavesExchange v w
   pub rests : Rests w
-  pub course : ExchangesBy v w x o says before after yes_before yes_after answer
+  pub course : ExchangesBy v w x o g h answer
   -- A table of level 1 is not walked: the steps are few, and how many depends on the number of vCPUs alone.
   pub short : x.level ≡ 1 → length w.holdings.steps ≤ length v.holdings.steps + (64 + 3 * length v.post.machine.vcpu_domain)

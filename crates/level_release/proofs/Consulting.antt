@@ -4,14 +4,13 @@ use Rattle.xp_words.specs.declared.reply.Stop.{Stop}
 use Rattle.xp_preempt.specs.Gates.{ends_yes}
 use Rattle.xp_preempt.proofs.Consulting.{consulted_none, consulted_then}
 use Rattle.level_release.specs.Asking.{is_due_answer}
-use Rattle.level_release.specs.Course.{By}
 
 module _ {says : ℕ → Bool} where
   pub by_none : {P : List Bool → Type 0} {asks positive : ℕ} {answer : Result (Unit {0}) Stop} → is_due_answer answer ≡ false → P [] → By P says asks asks positive positive answer
   by_none {asks} {positive} undue course = record { answers = []; course = course; gate = consulted_none says asks positive; due = undue }
 
-  pub by_as : {P Q : List Bool → Type 0} {before after yes_before yes_after : ℕ} {answer : Result (Unit {0}) Stop} → ((answers : List Bool) → P answers → Q answers) → By P says before after yes_before yes_after answer →
-      By Q says before after yes_before yes_after answer
+  pub by_as : {P Q : List Bool → Type 0} {before after yes_before yes_after : ℕ} {answer : Result (Unit {0}) Stop} → ((answers : List Bool) → P answers → Q answers) → By P g h answer →
+      By Q g h answer
   by_as so b = record { answers = b.answers; course = so b.answers b.course; gate = b.gate; due = b.due }
 
 -- ---- one part behind another

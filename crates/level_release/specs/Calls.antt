@@ -12,6 +12,7 @@ use Rattle.partial_state.specs.declared.stack.TableWork.{TableWork}
 use Rattle.level_release.specs.Asking.{Continues, StopsRelease, of_release}
 use Rattle.level_release.specs.Course.{Lowered, ReleasesWithinBy}
 use Rattle.level_release.specs.Holding.{LeavesUnheld, StaysEmptying, StaysSettled}
+use Rattle.xp_preempt.specs.Gates.{Gate}
 
 -- One entry of the innermost table is done with, or that table is.
 pub record Lowers (v w : PortValue) (ts us : List TableWork) (answer : Result Bool Stop) : Type 0 where
@@ -25,10 +26,10 @@ pub record Lowers (v w : PortValue) (ts us : List TableWork) (answer : Result Bo
   pub course : Lowered v ts w us answer
 
 -- A typed reference to a live frame is given back, with all that the frame holds.
-pub record Releases (v w : PortValue) (f : ℕ) (kind : PageType) (below left : Option ℕ) (says : ℕ → Bool) (before after yes_before yes_after : ℕ) (answer : Result (Unit {0}) Stop) : Type 0 where
+pub record Releases (v w : PortValue) (f : ℕ) (kind : PageType) (below left : Option ℕ) (g h : Gate) (answer : Result (Unit {0}) Stop) : Type 0 where
   pub serves : (owner pages : ℕ) → Serves v w (of_release f owner pages answer) (misses v.post.machine answer)
   pub stops : (owner pages : ℕ) → IfErr answer (λ e. Stops v w (of_release f owner pages answer) e)
   -- What the entries of a live tree ask is live: it is paused for the gate alone.
   pub kinds : IfErr answer (λ e. e ≡ Paused Due)
   pub hand : LeavesUnheld v w f answer
-  pub course : ReleasesWithinBy below left v w f kind says before after yes_before yes_after answer
+  pub course : ReleasesWithinBy below left v w f kind g h answer

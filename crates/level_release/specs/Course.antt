@@ -10,7 +10,7 @@ use Rattle.xp_words.specs.declared.place.Place.TheVariants.{Clock, Kind, Refs}
 use Rattle.xp_words.specs.declared.reply.Pause.TheVariants.{Busy, Due, Lost}
 use Rattle.xp_words.specs.declared.reply.Stop.{Stop}
 use Rattle.xp_words.specs.declared.reply.Stop.TheVariants.{Paused}
-use Rattle.xp_preempt.specs.Gates.{Consulted, ends_yes}
+use Rattle.xp_preempt.specs.Gates.{Asked, Gate}
 use Rattle.xp_board.specs.KindSteps.{Live, Partial, form_of, resumed_kind}
 use Rattle.xp_board.specs.declared.step.Act.TheVariants.{Cas, Load, Store}
 use Rattle.xp_board.specs.declared.step.Mark.TheVariants.{Record}
@@ -154,31 +154,17 @@ abbrev pub ReleasedTo : Option ℕ → Option ℕ → PortValue → ℕ → Page
 ReleasedTo below left v f kind w answers answer = (course : ReleasedWithin below v f kind w answers answer) × (left ≡ left_released course)
 
 -- ---- with a gate
--- There is such a course with the gate's answers, of which the last one is yes exactly where it is paused for that.
-pub record By (P : List Bool → Type 0) (says : ℕ → Bool) (before after yes_before yes_after : ℕ) (answer : Result (Unit {0}) Stop) : Type 0 where
-  pub answers : List Bool
-  pub course : P answers
-  pub gate : Consulted says before after yes_before yes_after answers
-  pub due : is_due_answer answer ≡ ends_yes answers
+abbrev pub RunsDownBy : Option ℕ → PortValue → List TableWork → PortValue → List TableWork → Gate → Gate → Result (Unit {0}) Stop → Type 0
+RunsDownBy below v ts w us g h answer = Asked g h (is_due_answer answer) (λ answers. RanDown below v ts w us answers answer)
 
--- The same of what may go on where the gate said yes: it says yes last where that is why it is paused.
-pub record WithGate (P : List Bool → Type 0) (says : ℕ → Bool) (before after yes_before yes_after : ℕ) (answer : Result (Unit {0}) Stop) : Type 0 where
-  pub answers : List Bool
-  pub course : P answers
-  pub gate : Consulted says before after yes_before yes_after answers
-  pub due : is_due_answer answer ≡ true → ends_yes answers ≡ true
+abbrev pub EmptiesBy : Option ℕ → Option ℕ → PortValue → PortValue → TableWork → Gate → Gate → Result (Unit {0}) Stop → Type 0
+EmptiesBy below left v w t g h answer = Asked g h (is_due_answer answer) (λ answers. EmptiedTo below left v t w answers answer)
 
-abbrev pub RunsDownBy : Option ℕ → PortValue → List TableWork → PortValue → List TableWork → (ℕ → Bool) → ℕ → ℕ → ℕ → ℕ → Result (Unit {0}) Stop → Type 0
-RunsDownBy below v ts w us says before after yes_before yes_after answer = By (λ answers. RanDown below v ts w us answers answer) says before after yes_before yes_after answer
+abbrev pub ReleasesWithinBy : Option ℕ → Option ℕ → PortValue → PortValue → ℕ → PageType → Gate → Gate → Result (Unit {0}) Stop → Type 0
+ReleasesWithinBy below left v w f kind g h answer = Asked g h (is_due_answer answer) (λ answers. ReleasedTo below left v f kind w answers answer)
 
-abbrev pub EmptiesBy : Option ℕ → Option ℕ → PortValue → PortValue → TableWork → (ℕ → Bool) → ℕ → ℕ → ℕ → ℕ → Result (Unit {0}) Stop → Type 0
-EmptiesBy below left v w t says before after yes_before yes_after answer = By (λ answers. EmptiedTo below left v t w answers answer) says before after yes_before yes_after answer
-
-abbrev pub ReleasesWithinBy : Option ℕ → Option ℕ → PortValue → PortValue → ℕ → PageType → (ℕ → Bool) → ℕ → ℕ → ℕ → ℕ → Result (Unit {0}) Stop → Type 0
-ReleasesWithinBy below left v w f kind says before after yes_before yes_after answer = By (λ answers. ReleasedTo below left v f kind w answers answer) says before after yes_before yes_after answer
-
-abbrev pub ReleasesFrameBy : PortValue → PortValue → ℕ → PageType → (ℕ → Bool) → ℕ → ℕ → ℕ → ℕ → Result (Unit {0}) Stop → Type 0
-ReleasesFrameBy v w f kind says before after yes_before yes_after answer = By (λ answers. WasReleased v f kind w answers answer) says before after yes_before yes_after answer
+abbrev pub ReleasesFrameBy : PortValue → PortValue → ℕ → PageType → Gate → Gate → Result (Unit {0}) Stop → Type 0
+ReleasesFrameBy v w f kind g h answer = Asked g h (is_due_answer answer) (λ answers. WasReleased v f kind w answers answer)
 
 -- ---- what an old word names
 -- the frame was taken out of the word: it was found live, partial, or busy
@@ -222,8 +208,8 @@ left_one {below} (busy a b c w f word look take see unlive whole again) = below
 abbrev pub SettledOneTo : Option ℕ → Option ℕ → PortValue → OldWord → PortValue → List Bool → Result (Unit {0}) Stop → Type 0
 SettledOneTo below left v which w answers answer = (course : SettledOne below v which w answers answer) × (left ≡ left_one course)
 
-abbrev pub SettlesOneBy : Option ℕ → Option ℕ → PortValue → PortValue → OldWord → (ℕ → Bool) → ℕ → ℕ → ℕ → ℕ → Result (Unit {0}) Stop → Type 0
-SettlesOneBy below left v w which says before after yes_before yes_after answer = By (λ answers. SettledOneTo below left v which w answers answer) says before after yes_before yes_after answer
+abbrev pub SettlesOneBy : Option ℕ → Option ℕ → PortValue → PortValue → OldWord → Gate → Gate → Result (Unit {0}) Stop → Type 0
+SettlesOneBy below left v w which g h answer = Asked g h (is_due_answer answer) (λ answers. SettledOneTo below left v which w answers answer)
 
 -- the first word, and then the second
 pub data Settled (below : Option ℕ) (v : PortValue) : PortValue → List Bool → Result (Unit {0}) Stop → Type 0 where
@@ -248,5 +234,5 @@ LeavesLess k None = ⊥
 abbrev pub SettledTo : Option ℕ → Option ℕ → PortValue → PortValue → List Bool → Result (Unit {0}) Stop → Type 0
 SettledTo below left v w answers answer = (course : Settled below v w answers answer) × (left ≡ left_settled course)
 
-abbrev pub SettlesBy : Option ℕ → Option ℕ → PortValue → PortValue → (ℕ → Bool) → ℕ → ℕ → ℕ → ℕ → Result (Unit {0}) Stop → Type 0
-SettlesBy below left v w says before after yes_before yes_after answer = By (λ answers. SettledTo below left v w answers answer) says before after yes_before yes_after answer
+abbrev pub SettlesBy : Option ℕ → Option ℕ → PortValue → PortValue → Gate → Gate → Result (Unit {0}) Stop → Type 0
+SettlesBy below left v w g h answer = Asked g h (is_due_answer answer) (λ answers. SettledTo below left v w answers answer)

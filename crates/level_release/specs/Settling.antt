@@ -13,6 +13,7 @@ use Rattle.table_words.specs.declared.old_words.OldWord.{OldWord}
 use Rattle.table_words.specs.declared.old_words.OldWord.TheVariants.{First, Second}
 use Rattle.level_release.specs.Asking.{IsReleaseEnd, of_settle}
 use Rattle.level_release.specs.Course.{SettlesOneBy}
+use Rattle.xp_preempt.specs.Gates.{Gate}
 
 -- From u, with nothing in hand, to v the word was looked at, and named that frame; it was emptied; and the frame's kind word was found so.
 -- For the second one the first is known to name none.
@@ -42,10 +43,10 @@ SettledWord v w which (Ok done) = Holds v w (learned_old which 0 v.holdings)
 SettledWord v w which (Err e) = (f : ℕ) × Holds v w (record (learned_old which 0 v.holdings) { old0 = Some (f + 1) })
 
 -- From u to w what the word names was settled, with a gate: all that is said of it.
-pub record SettlesWord (u w : PortValue) (which : OldWord) (below left : Option ℕ) (says : ℕ → Bool) (before after yes_before yes_after : ℕ) (answer : Result (Unit {0}) Stop) : Type 0 where
+pub record SettlesWord (u w : PortValue) (which : OldWord) (below left : Option ℕ) (g h : Gate) (answer : Result (Unit {0}) Stop) : Type 0 where
   pub rests : Rests w
   pub serves : (owner pages : ℕ) → Serves u w (of_settle owner pages answer) (misses u.post.machine answer)
   pub stops : (owner pages : ℕ) → IfErr answer (λ e. Stops u w (of_settle owner pages answer) e)
   pub kinds : IfErr answer IsReleaseEnd
   pub hand : SettledWord u w which answer
-  pub course : SettlesOneBy below left u w which says before after yes_before yes_after answer
+  pub course : SettlesOneBy below left u w which g h answer

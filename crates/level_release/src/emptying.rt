@@ -42,10 +42,7 @@ pub(crate) fn empty<P: Port>(
     ensures settled { IsSettledTop (P.value port.old).holdings → IfErr result (λ e. e ≡ Paused Due) }
     ensures serves { Continues (P.value port.old) (P.value port.new) (table ∷ []) [] (misses (P.value port.old).post.machine result) }
     ensures stops { IfErr result (λ e. StopsRelease (P.value port.old) (P.value port.new) (table ∷ []) e) }
-    ensures course { EmptiesBy left.old left.new (P.value port.old) (P.value port.new) table (says gate.old) (count_asks gate.old) (count_asks gate.new) (count_yes gate.old) (count_yes gate.new) result }
-    ensures says { (n : ℕ) → says gate.new n ≡ says gate.old n }
-    ensures paces { paces gate.new ≡ paces gate.old }
-    ensures calm { calm gate.old ≡ true → (is_due_answer result ≡ false) × (calm gate.new ≡ true) }
+    ensures course { EmptiesBy left.old left.new (P.value port.old) (P.value port.new) table (value gate.old) (value gate.new) result }
 {
     let mut stack = Stack::new();
     stack.push(table);
@@ -88,10 +85,7 @@ fn run_down<P: Port>(
     ensures settled { IsSettledTop (P.value port.old).holdings → IfErr result (λ e. e ≡ Paused Due) }
     ensures serves { Continues (P.value port.old) (P.value port.new) stack.old stack.new (misses (P.value port.old).post.machine result) }
     ensures stops { IfErr result (λ e. StopsRelease (P.value port.old) (P.value port.new) stack.old e) }
-    ensures course { RunsDownBy below (P.value port.old) stack.old (P.value port.new) stack.new (says gate.old) (count_asks gate.old) (count_asks gate.new) (count_yes gate.old) (count_yes gate.new) result }
-    ensures says { (n : ℕ) → says gate.new n ≡ says gate.old n }
-    ensures paces { paces gate.new ≡ paces gate.old }
-    ensures calm { calm gate.old ≡ true → (is_due_answer result ≡ false) × (calm gate.new ≡ true) }
+    ensures course { RunsDownBy below (P.value port.old) stack.old (P.value port.new) stack.new (value gate.old) (value gate.new) result }
 {
     while !stack.is_empty() {
         if lower(port, stack)? {

@@ -39,10 +39,7 @@ pub fn release<P: Port>(
     // What the entries of a live tree ask is live: it is paused for the gate alone.
     ensures kinds { IfErr result (λ e. e ≡ Paused Due) }
     ensures hand { LeavesUnheld (P.value port.old) (P.value port.new) frame result }
-    ensures course { ReleasesFrameBy (P.value port.old) (P.value port.new) frame kind (says gate.old) (count_asks gate.old) (count_asks gate.new) (count_yes gate.old) (count_yes gate.new) result }
-    ensures says { (n : ℕ) → says gate.new n ≡ says gate.old n }
-    ensures paces { paces gate.new ≡ paces gate.old }
-    ensures calm { calm gate.old ≡ true → (is_due_answer result ≡ false) × (calm gate.new ≡ true) }
+    ensures course { ReleasesFrameBy (P.value port.old) (P.value port.new) frame kind (value gate.old) (value gate.new) result }
 {
     release_within(port, gate, frame, kind, &mut None)
 }
@@ -59,10 +56,7 @@ pub(crate) fn release_within<P: Port>(
     requires may { MayWork (P.value port.old) }
     requires holds { HoldsLive (P.value port.old) frame kind }
     requires room { known_old First (P.value port.old).holdings ≡ Some 0 }
-    ensures met { Releases (P.value port.old) (P.value port.new) frame kind left.old left.new (says gate.old) (count_asks gate.old) (count_asks gate.new) (count_yes gate.old) (count_yes gate.new) result }
-    ensures says { (n : ℕ) → says gate.new n ≡ says gate.old n }
-    ensures paces { paces gate.new ≡ paces gate.old }
-    ensures calm { calm gate.old ≡ true → (is_due_answer result ≡ false) × (calm gate.new ≡ true) }
+    ensures met { Releases (P.value port.old) (P.value port.new) frame kind left.old left.new (value gate.old) (value gate.new) result }
 {
     if !kind.is_table() {
         drop_plain(port, frame, kind);

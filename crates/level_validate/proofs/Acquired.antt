@@ -38,7 +38,7 @@ use Rattle.frame_types.specs.declared.taking.Taken.{Taken}
 use Rattle.table_entries.proofs.PiecesTaking.{ref_kinds, type_kinds, wait_kinds}
 use Rattle.xp_preempt.proofs.Consulting.{consulted_none}
 use Rattle.table_entries.specs.Acquiring.{Acquired, GotRef, TookType, WaitingLeft, keeps_it, outermost_table}
-use Rattle.level_validate.specs.Courses.{Consults, ValidatesBy}
+use Rattle.level_validate.specs.Courses.{ValidatesBy}
 use Rattle.level_validate.proofs.Filling.{entry_undue}
 use Rattle.std.proofs.lemmas.Bool.Decides.{nat_tests}
 use Rattle.xp_words.specs.declared.place.Place.TheVariants.{Kind}
@@ -56,6 +56,7 @@ use Rattle.level_validate.proofs.Serving.{foreign_still}
 use Rattle.frame_types.proofs.Waiting.{none_missed}
 use Rattle.xp_board.specs.declared.holdings.OwnerFound.TheVariants as owners
 use Rattle.frame_types.specs.declared.taking.Taken.TheVariants as types
+use Rattle.xp_preempt.specs.Gates.{Asked}
 
 -- the only table in work
 abbrev pub taken_table : ℕ → ℕ → ℕ → Bool → TableWork
@@ -252,7 +253,7 @@ module _ (v : PortValue) (f owner level : ℕ) (says : ℕ → Bool) (before ris
 
       -- ---- it is in work
       module _ {progress : ℕ} {own : Bool} (so : b ≡ types.InWork progress own) (w : PortValue) (after more : ℕ) where
-        pub finished_by : Consults says before after risen more false (λ answers. ValidatesBy owner x (outermost_table g level progress own) w answers (Ok tt)) → AcquiresBy v w f owner level says before after risen more (Ok g)
+        pub finished_by : Asked says before after risen more false (λ answers. ValidatesBy owner x (outermost_table g level progress own) w answers (Ok tt)) → AcquiresBy v w f owner level says before after risen more (Ok g)
         finished_by c =
             let p : ValidatesBy owner x (outermost_table f level progress own) w c.answers (Ok tt) = subst (λ (n : ℕ). ValidatesBy owner x (outermost_table n level progress own) w c.answers (Ok tt)) same c.course in
             of_frame_asked w after more
@@ -263,7 +264,7 @@ module _ (v : PortValue) (f owner level : ℕ) (says : ℕ → Bool) (before ris
               due = c.due;
             })
 
-        pub unfinished_by : (answer : Result ℕ Stop) (e : Stop) → answer ≡ Err e → Consults says before after risen more (is_due_stop e) (λ answers. ValidatesBy owner x (outermost_table g level progress own) w answers (Err e)) →
+        pub unfinished_by : (answer : Result ℕ Stop) (e : Stop) → answer ≡ Err e → Asked says before after risen more (is_due_stop e) (λ answers. ValidatesBy owner x (outermost_table g level progress own) w answers (Err e)) →
             AcquiresBy v w f owner level says before after risen more answer
         unfinished_by answer e gave c =
             let p : ValidatesBy owner x (outermost_table f level progress own) w c.answers (Err e) = subst (λ (n : ℕ). ValidatesBy owner x (outermost_table n level progress own) w c.answers (Err e)) same c.course in

@@ -20,7 +20,7 @@ use Rattle.partial_state.specs.Levels.{level_type}
 use Rattle.partial_state.specs.declared.stack.TableWork.{TableWork}
 use Rattle.table_entries.specs.Acquiring.{Acquired}
 pub use Rattle.table_entries.specs.Ending.{is_due_answer, is_due_stop, is_paused_answer}
-use Rattle.xp_preempt.specs.Gates.{Consulted, ends_yes}
+use Rattle.xp_preempt.specs.Gates.{Asked, Gate}
 use Rattle.level_validate.specs.Completing.{Completes}
 use Rattle.level_validate.specs.Serving.{IsPiece}
 use Rattle.level_validate.specs.Tables.{Carries, IsIdle}
@@ -112,10 +112,6 @@ abbrev pub LeavesWaiting : PortValue → PortValue → ℕ → ℕ → ℕ → B
 LeavesWaiting u w f level owner own stamp kept = (v : PortValue) → TableWaits v u f level owner own stamp → WaitedHand v w f owner own kept
 
 -- ---- the course
--- The frame was taken by these calls, and with these answers of a gate that says this at each ask: its count of asks was `before` and is
--- `after`, that of answers yes was `yes_before` and is `yes_after`. The last answer is yes where that is why the call is paused.
-pub record AcquiresBy (v w : PortValue) (f owner level : ℕ) (says : ℕ → Bool) (before after yes_before yes_after : ℕ) (answer : Result ℕ Stop) : Type 0 where
-  pub answers : List Bool
-  pub course : Acquired v f owner level w answers answer
-  pub gate : Consulted says before after yes_before yes_after answers
-  pub due : is_due_answer answer ≡ ends_yes answers
+-- the frame was taken by these calls, and with the gate's answers
+abbrev pub AcquiresBy : PortValue → PortValue → ℕ → ℕ → ℕ → Gate → Gate → Result ℕ Stop → Type 0
+AcquiresBy v w f owner level g h answer = Asked g h (is_due_answer answer) (λ answers. Acquired v f owner level w answers answer)

@@ -4,16 +4,8 @@ use Rattle.xp_words.specs.declared.reply.Stop.{Stop}
 use Rattle.xp_board.specs.Told.{PortValue}
 use Rattle.partial_state.specs.declared.stack.TableWork.{TableWork}
 use Rattle.table_entries.specs.Acquiring.{Filled, MadeLive, Unwound, Worked, keeps_it}
-use Rattle.xp_preempt.specs.Gates.{Consulted, ends_yes}
 
 -- ---- with the gate's answers
--- The gate was asked, and there are answers that are so; it ends with a yes where `rose` says so.
-pub record Consults (says : ℕ → Bool) (before after yes_before yes_after : ℕ) (rose : Bool) (P : List Bool → Type 0) : Type 0 where
-  pub answers : List Bool
-  pub course : P answers
-  pub gate : Consulted says before after yes_before yes_after answers
-  pub due : rose ≡ ends_yes answers
-
 -- it is asked once, or not
 abbrev pub asked_once : Bool → Bool → List Bool
 asked_once asked rose = if asked then rose ∷ [] else []

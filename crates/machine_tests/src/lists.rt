@@ -92,15 +92,7 @@ impl Drop for Counted {
 }
 
 impl Preempt for Counted {
-    ghost count_yes = { λ _. 0 };
-
-    ghost count_asks = { λ g. g.asks };
-
-    ghost says = { λ _ _. false };
-
-    ghost paces = { λ _. false };
-
-    ghost calm = { λ _. true };
+    ghost value = { λ g. record { paces = false; asks = g.asks; yes = 0; says = λ _. false } };
 
     fn pace(&mut self, every: u32) {}
 

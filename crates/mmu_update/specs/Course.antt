@@ -19,7 +19,6 @@ use Rattle.entry_locks.specs.Plain.{TwinLock}
 use Rattle.entry_locks.specs.declared.locking.Locked.{Locked}
 use Rattle.entry_locks.specs.declared.locking.Locked.TheVariants.{Table, Other}
 use Rattle.foreign_map.specs.declared.owners.Owners.{Owners}
-use Rattle.level_release.specs.Course.{WithGate}
 use Rattle.m2p_map.specs.Found.{SetFound}
 use Rattle.m2p_map.specs.Maps.{TwinSet}
 use Rattle.partial_state.specs.Levels.{level_type}
@@ -27,6 +26,7 @@ use Rattle.table_entries.specs.Acquiring.{GaveRef, GaveType, GotRef}
 use Rattle.writable_pages.specs.Pages.{TookPage}
 use Rattle.mmu_update.specs.declared.element.Element.{Element}
 use Rattle.mmu_update.specs.declared.element.Element.TheVariants.{SetM2p, Write, Misaligned, Unknown}
+use Rattle.xp_preempt.specs.Gates.{AskedPast, Gate}
 
 -- a lock is tried: by the words that its steps found; on a board that tells all words; and what the steps show of its pause
 pub record TriedLock (v w : PortValue) (f owner : ℕ) (answer : Result Locked Stop) : Type 0 where
@@ -58,5 +58,5 @@ Updated v o (Write f i word keep) w answers answer = Wrote v o f i word keep w a
 Updated v o Misaligned w answers answer = (w ≡ v) × (answers ≡ []) × (answer ≡ Err (Refused refusals.BadRange))
 Updated v o Unknown w answers answer = (w ≡ v) × (answers ≡ []) × (answer ≡ Err (Refused refusals.BadCommand))
 
-abbrev pub UpdatesBy : PortValue → PortValue → Owners → Element → (ℕ → Bool) → ℕ → ℕ → ℕ → ℕ → Result (Unit {0}) Stop → Type 0
-UpdatesBy v w o e says before after yes_before yes_after answer = WithGate (λ answers. Updated v o e w answers answer) says before after yes_before yes_after answer
+abbrev pub UpdatesBy : PortValue → PortValue → Owners → Element → Gate → Gate → Result (Unit {0}) Stop → Type 0
+UpdatesBy v w o e g h answer = AskedPast g h (is_due_answer answer) (λ answers. Updated v o e w answers answer)

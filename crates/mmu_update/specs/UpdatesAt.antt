@@ -7,10 +7,10 @@ use Rattle.xp_board.specs.Told.{PortValue}
 use Rattle.step_maker.specs.Holds.{Rests}
 use Rattle.step_maker.specs.Answers.{Stops}
 use Rattle.foreign_map.specs.declared.owners.Owners.{Owners}
-use Rattle.level_release.specs.Course.{WithGate}
 use Rattle.tlb_walks.specs.Addresses.{index_of, walk_refusal}
 use Rattle.mmu_update.specs.Addresses.{EnteredAt, IsAtStop, ServesAt, UpdatedAt, of_at}
 use Rattle.mmu_update.specs.Elements.{LeavesUpdate}
+use Rattle.xp_preempt.specs.Gates.{AskedPast, Gate}
 
 -- From v to w the entry of level 1 that maps the address was set for those owners, or why not: its steps serve that, show the cause of a refusal or
 -- pause, and leave nothing in hand. `table`: where its loads led.
@@ -27,8 +27,8 @@ pub record UpdatesAt (o : Owners) (va word : ℕ) (v w : PortValue) (answers : L
   -- No table above level 1 is touched: the steps are few, and how many depends on the number of vCPUs alone.
   pub short : length w.holdings.steps ≤ length v.holdings.steps + (72 + 3 * length v.post.machine.vcpu_domain)
 
-abbrev pub UpdatesAtBy : PortValue → PortValue → Owners → ℕ → ℕ → (ℕ → Bool) → ℕ → ℕ → ℕ → ℕ → Result (Unit {0}) Stop → Type 0
-UpdatesAtBy v w o va word says before after yes_before yes_after answer = WithGate (λ answers. UpdatesAt o va word v w answers answer) says before after yes_before yes_after answer
+abbrev pub UpdatesAtBy : PortValue → PortValue → Owners → ℕ → ℕ → Gate → Gate → Result (Unit {0}) Stop → Type 0
+UpdatesAtBy v w o va word g h answer = AskedPast g h (is_due_answer answer) (λ answers. UpdatesAt o va word v w answers answer)
 
 -- ---- behind the loads
 -- from a port at rest the entry of that table was exchanged, or why not
@@ -40,5 +40,5 @@ pub record EntersAt (o : Owners) (va table word : ℕ) (v w : PortValue) (answer
   pub rests : Rests w
   pub course : EnteredAt v o table (index_of va 1) word w answers answer
 
-abbrev pub EntersAtBy : PortValue → PortValue → Owners → ℕ → ℕ → ℕ → (ℕ → Bool) → ℕ → ℕ → ℕ → ℕ → Result (Unit {0}) Stop → Type 0
-EntersAtBy v w o va table word says before after yes_before yes_after answer = WithGate (λ answers. EntersAt o va table word v w answers answer) says before after yes_before yes_after answer
+abbrev pub EntersAtBy : PortValue → PortValue → Owners → ℕ → ℕ → ℕ → Gate → Gate → Result (Unit {0}) Stop → Type 0
+EntersAtBy v w o va table word g h answer = AskedPast g h (is_due_answer answer) (λ answers. EntersAt o va table word v w answers answer)

@@ -10,13 +10,13 @@ use Rattle.entry_locks.specs.declared.locking.Locked.TheVariants.{Table, Other}
 use Rattle.foreign_map.specs.Owning.{MayMapFor}
 use Rattle.foreign_map.specs.declared.owners.Owners.{Owners}
 use Rattle.frame_words.specs.Refs.{took}
-use Rattle.level_release.specs.Course.{WithGate}
 use Rattle.table_entries.specs.Acquiring.{GotRef}
 use Rattle.table_words.specs.OldWords.{known_old}
 use Rattle.table_words.specs.declared.old_words.OldWord.TheVariants.{First, Second}
 use Rattle.mmu_update.specs.Course.{TriedLock}
 use Rattle.mmu_update.specs.Fits.{Updates}
 use Rattle.mmu_update.specs.declared.element.Element.TheVariants.{Write}
+use Rattle.xp_preempt.specs.Gates.{AskedPast, Gate}
 
 -- before it
 pub record MayBeginElement (b : PortValue) (o : Owners) : Type 0 where
@@ -61,5 +61,5 @@ abbrev pub IsUnderLock : PortValue → Owners → ℕ → ℕ → Type 0
 IsUnderLock v o f level = (b : PortValue) × UnderLock b v o f level
 
 -- the write is done, or why not, with the answers of its gate
-abbrev pub WritesBy : PortValue → PortValue → Owners → ℕ → ℕ → ℕ → Bool → (ℕ → Bool) → ℕ → ℕ → ℕ → ℕ → Result (Unit {0}) Stop → Type 0
-WritesBy b w o f i word keep says before after yes_before yes_after answer = WithGate (λ answers. Updates o (Write f i word keep) b w answers answer) says before after yes_before yes_after answer
+abbrev pub WritesBy : PortValue → PortValue → Owners → ℕ → ℕ → ℕ → Bool → Gate → Gate → Result (Unit {0}) Stop → Type 0
+WritesBy b w o f i word keep g h answer = AskedPast g h (is_due_answer answer) (λ answers. Updates o (Write f i word keep) b w answers answer)

@@ -54,13 +54,10 @@ pub fn update<P: Port>(
     ensures hand { LeavesUpdate (P.value port.old) (P.value port.new) }
     ensures rests { Rests (P.value port.new) }
     // It makes these calls, and its gate gave these answers.
-    ensures course { UpdatesBy (P.value port.old) (P.value port.new) owners (element_of pair) (says gate.old) (count_asks gate.old) (count_asks gate.new) (count_yes gate.old) (count_yes gate.new) result }
+    ensures course { UpdatesBy (P.value port.old) (P.value port.new) owners (element_of pair) (value gate.old) (value gate.new) result }
     // On a board that tells all words it answers, and leaves them, as its plain meaning says; of a word of a frame that is said of an own
     // frame which is no live table.
     ensures plain { TwinUpdate (P.value port.old) (P.value port.new) owners (element_of pair) result }
-    ensures says { (n : ℕ) → says gate.new n ≡ says gate.old n }
-    ensures paces { paces gate.new ≡ paces gate.old }
-    ensures calm { calm gate.old ≡ true → (is_due_answer result ≡ false) × (calm gate.new ≡ true) }
 {
     match element_of(pair) {
         Element::SetM2p { frame, gpfn } => set_m2p(port, frame, owners.frames, gpfn),
@@ -87,10 +84,7 @@ fn write_word<P: Port>(
 ) -> Result<(), Stop>
     requires index { index < 512 }
     requires begins { MayBeginElement (P.value port.old) owners }
-    ensures writes { WritesBy (P.value port.old) (P.value port.new) owners f index word keep (says gate.old) (count_asks gate.old) (count_asks gate.new) (count_yes gate.old) (count_yes gate.new) result }
-    ensures says { (n : ℕ) → says gate.new n ≡ says gate.old n }
-    ensures paces { paces gate.new ≡ paces gate.old }
-    ensures calm { calm gate.old ≡ true → (is_due_answer result ≡ false) × (calm gate.new ≡ true) }
+    ensures writes { WritesBy (P.value port.old) (P.value port.new) owners f index word keep (value gate.old) (value gate.new) result }
 {
     let frame = get_ref(port, f, owners.tables)?;
     write_referred(port, gate, owners, frame, index, word, keep)
@@ -109,10 +103,7 @@ fn write_referred<P: Port>(
     requires index { index < 512 }
     requires referred { IsReferred (P.value port.old) owners frame }
     ensures writes { (b : PortValue) → Referred b (P.value port.old) owners frame →
-        WritesBy b (P.value port.new) owners frame index word keep (says gate.old) (count_asks gate.old) (count_asks gate.new) (count_yes gate.old) (count_yes gate.new) result }
-    ensures says { (n : ℕ) → says gate.new n ≡ says gate.old n }
-    ensures paces { paces gate.new ≡ paces gate.old }
-    ensures calm { calm gate.old ≡ true → (is_due_answer result ≡ false) × (calm gate.new ≡ true) }
+        WritesBy b (P.value port.new) owners frame index word keep (value gate.old) (value gate.new) result }
 {
     match lock_entry(port, frame, owners.tables) {
         Ok(Locked::Table { level, .. }) => {
@@ -143,10 +134,7 @@ fn write_entry<P: Port>(
     requires index { update.index < 512 }
     requires locked { IsUnderLock (P.value port.old) owners update.table update.level }
     ensures writes { (b : PortValue) → UnderLock b (P.value port.old) owners update.table update.level →
-        WritesBy b (P.value port.new) owners update.table update.index update.word update.keep (says gate.old) (count_asks gate.old) (count_asks gate.new) (count_yes gate.old) (count_yes gate.new) result }
-    ensures says { (n : ℕ) → says gate.new n ≡ says gate.old n }
-    ensures paces { paces gate.new ≡ paces gate.old }
-    ensures calm { calm gate.old ≡ true → (is_due_answer result ≡ false) × (calm gate.new ≡ true) }
+        WritesBy b (P.value port.new) owners update.table update.index update.word update.keep (value gate.old) (value gate.new) result }
 {
     if is_slot(update.level, update.index) {
         leave_lock(port, update.table, update.level);

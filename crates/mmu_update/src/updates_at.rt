@@ -47,10 +47,7 @@ pub fn update_at<P: Port>(
     requires room_too { known_old Second (P.value port.old).holdings ≡ Some 0 }
     ensures came { Came (P.value port.old) (P.value port.new) }
     // What it promises are the fields of that record, in specs/UpdatesAt.antt.
-    ensures updates { UpdatesAtBy (P.value port.old) (P.value port.new) owners va word (says gate.old) (count_asks gate.old) (count_asks gate.new) (count_yes gate.old) (count_yes gate.new) result }
-    ensures says { (n : ℕ) → says gate.new n ≡ says gate.old n }
-    ensures paces { paces gate.new ≡ paces gate.old }
-    ensures calm { calm gate.old ≡ true → (is_due_answer result ≡ false) × (calm gate.new ≡ true) }
+    ensures updates { UpdatesAtBy (P.value port.old) (P.value port.new) owners va word (value gate.old) (value gate.new) result }
 {
     match table_at(port, va) {
         Ok(table) => enter_table(port, gate, owners, table, va, word),
@@ -68,10 +65,7 @@ fn enter_table<P: Port>(
     word: u64,
 ) -> Result<(), Stop>
     requires begins { MayBeginElement (P.value port.old) owners }
-    ensures enters { EntersAtBy (P.value port.old) (P.value port.new) owners va table word (says gate.old) (count_asks gate.old) (count_asks gate.new) (count_yes gate.old) (count_yes gate.new) result }
-    ensures says { (n : ℕ) → says gate.new n ≡ says gate.old n }
-    ensures paces { paces gate.new ≡ paces gate.old }
-    ensures calm { calm gate.old ≡ true → (is_due_answer result ≡ false) × (calm gate.new ≡ true) }
+    ensures enters { EntersAtBy (P.value port.old) (P.value port.new) owners va table word (value gate.old) (value gate.new) result }
 {
     let frame = get_ref(port, u64::from(table), owners.tables)?;
     enter_referred(port, gate, owners, frame, va, word)
@@ -88,10 +82,7 @@ fn enter_referred<P: Port>(
 ) -> Result<(), Stop>
     requires referred { IsReferred (P.value port.old) owners table }
     ensures enters { (b : PortValue) → Referred b (P.value port.old) owners table →
-        EntersAtBy b (P.value port.new) owners va table word (says gate.old) (count_asks gate.old) (count_asks gate.new) (count_yes gate.old) (count_yes gate.new) result }
-    ensures says { (n : ℕ) → says gate.new n ≡ says gate.old n }
-    ensures paces { paces gate.new ≡ paces gate.old }
-    ensures calm { calm gate.old ≡ true → (is_due_answer result ≡ false) × (calm gate.new ≡ true) }
+        EntersAtBy b (P.value port.new) owners va table word (value gate.old) (value gate.new) result }
 {
     match lock_entry(port, table, owners.tables) {
         Ok(Locked::Table { level, found }) if level != LAST => {
@@ -121,10 +112,7 @@ fn enter_locked<P: Port>(
 ) -> Result<(), Stop>
     requires locked { IsUnderLock (P.value port.old) owners table 1 }
     ensures enters { (b : PortValue) → UnderLock b (P.value port.old) owners table 1 →
-        EntersAtBy b (P.value port.new) owners va table word (says gate.old) (count_asks gate.old) (count_asks gate.new) (count_yes gate.old) (count_yes gate.new) result }
-    ensures says { (n : ℕ) → says gate.new n ≡ says gate.old n }
-    ensures paces { paces gate.new ≡ paces gate.old }
-    ensures calm { calm gate.old ≡ true → (is_due_answer result ≡ false) × (calm gate.new ≡ true) }
+        EntersAtBy b (P.value port.new) owners va table word (value gate.old) (value gate.new) result }
 {
     let update = EntryUpdate {
         table,

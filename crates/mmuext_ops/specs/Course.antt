@@ -27,11 +27,12 @@ use Rattle.kind_words.specs.Kinds.{partial_kind}
 use Rattle.partial_state.specs.Levels.{level_type}
 use Rattle.table_words.specs.Pins.{pinned_kind, unpinned_kind}
 use Rattle.table_entries.specs.Acquiring.{Acquired, GaveRef, GotRef, Named}
-use Rattle.level_release.specs.Course.{WasReleased, WithGate}
+use Rattle.level_release.specs.Course.{WasReleased}
 use Rattle.desc_pages.specs.Ldt.{SetsLdt}
 use Rattle.whole_pages.specs.Whole.{ClearsPage, CopiesPage}
 use Rattle.mmuext_ops.specs.declared.element.Element.{Element}
 use Rattle.mmuext_ops.specs.declared.element.Element.TheVariants.{Pin, Unpin, NewBase, NewUserBase, FlushLocal, Invalidate, FlushVcpus, SetLdt, ClearPage, CopyPage, Unknown}
+use Rattle.xp_preempt.specs.Gates.{AskedPast, Gate}
 
 -- the kind word of frame f was looked at
 abbrev pub SawKind : PortValue → PortValue → ℕ → ℕ → Type 0
@@ -118,11 +119,11 @@ pub record WaitedForVcpus (v w : PortValue) (mask : ℕ) (awaited : Option ℕ) 
   pub clear : IfOk answer (λ done. AreClear looked w (meant v.post.machine v.post.vcpu mask) (stamp_for awaited clock))
 
 -- ---- with a gate
-abbrev pub PinsBy : PortValue → PortValue → ℕ → ℕ → ℕ → (ℕ → Bool) → ℕ → ℕ → ℕ → ℕ → Result (Unit {0}) Stop → Type 0
-PinsBy v w d f level says before after yes_before yes_after answer = WithGate (λ answers. Pinned v w d f level answers answer) says before after yes_before yes_after answer
+abbrev pub PinsBy : PortValue → PortValue → ℕ → ℕ → ℕ → Gate → Gate → Result (Unit {0}) Stop → Type 0
+PinsBy v w d f level g h answer = AskedPast g h (is_due_answer answer) (λ answers. Pinned v w d f level answers answer)
 
-abbrev pub UnpinsBy : PortValue → PortValue → ℕ → ℕ → (ℕ → Bool) → ℕ → ℕ → ℕ → ℕ → Result (Unit {0}) Stop → Type 0
-UnpinsBy v w d f says before after yes_before yes_after answer = WithGate (λ answers. Unpinned v w d f answers answer) says before after yes_before yes_after answer
+abbrev pub UnpinsBy : PortValue → PortValue → ℕ → ℕ → Gate → Gate → Result (Unit {0}) Stop → Type 0
+UnpinsBy v w d f g h answer = AskedPast g h (is_due_answer answer) (λ answers. Unpinned v w d f answers answer)
 
 -- one that its numbers refuse makes no step and asks nothing
 abbrev pub Performed : PortValue → PortValue → ℕ → Element → Option ℕ → List Bool → Result (Unit {0}) Stop → Type 0
@@ -138,5 +139,5 @@ Performed v w d (ClearPage f) awaited answers answer = (answers ≡ []) × Clear
 Performed v w d (CopyPage to from) awaited answers answer = (answers ≡ []) × ((words : List ℕ) × CopiesPage v d to from words w answer)
 Performed v w d Unknown awaited answers answer = (w ≡ v) × (answers ≡ []) × (answer ≡ Err (Refused refusals.BadCommand))
 
-abbrev pub PerformsBy : PortValue → PortValue → ℕ → Element → Option ℕ → (ℕ → Bool) → ℕ → ℕ → ℕ → ℕ → Result (Unit {0}) Stop → Type 0
-PerformsBy v w d e awaited says before after yes_before yes_after answer = WithGate (λ answers. Performed v w d e awaited answers answer) says before after yes_before yes_after answer
+abbrev pub PerformsBy : PortValue → PortValue → ℕ → Element → Option ℕ → Gate → Gate → Result (Unit {0}) Stop → Type 0
+PerformsBy v w d e awaited g h answer = AskedPast g h (is_due_answer answer) (λ answers. Performed v w d e awaited answers answer)

@@ -18,6 +18,7 @@ use Rattle.mmuext_ops.specs.Course.{GivenUp, PerformsBy, PinEnds}
 use Rattle.mmuext_ops.specs.Elements.{HasDeeds, IsElementStop, LeavesElement, ServesElement, StopsElement, of_pin}
 use Rattle.mmuext_ops.specs.declared.element.Element.{Element}
 use Rattle.mmuext_ops.specs.declared.element.Element.TheVariants.{Pin}
+use Rattle.xp_preempt.specs.Gates.{Gate}
 
 -- no typed reference is in hand
 abbrev pub untyped_hand : Holdings → Holdings
@@ -69,10 +70,10 @@ pub record PinsLive (v w : PortValue) (f level : ℕ) (answer : Result (Unit {0}
 
 -- ---- a whole element
 -- Its steps serve what it asks, and show why it stops; they leave that in hand, and are these calls, whose gate gave these answers.
-pub record MeetsElement (v w : PortValue) (d : ℕ) (e : Element) (awaited : Option ℕ) (says : ℕ → Bool) (before after yes_before yes_after : ℕ) (answer : Result (Unit {0}) Stop) : Type 0 where
+pub record MeetsElement (v w : PortValue) (d : ℕ) (e : Element) (awaited : Option ℕ) (g h : Gate) (answer : Result (Unit {0}) Stop) : Type 0 where
   pub serves : ServesElement v w d e awaited answer
   pub stops : StopsElement v w d e awaited answer
   pub kinds : IfErr answer (IsElementStop e)
   pub hand : LeavesElement v w e answer
   pub rests : Rests w
-  pub course : PerformsBy v w d e awaited says before after yes_before yes_after answer
+  pub course : PerformsBy v w d e awaited g h answer

@@ -47,10 +47,7 @@ pub fn perform<P: Port>(
     // A wait for vCPUs that is paused goes on past a clock value that the vCPU has found.
     ensures awaits { KnowsAwaited (P.value port.new) (awaited_by (ext_element op) result) }
     // It makes these calls, and its gate gave these answers.
-    ensures course { PerformsBy (P.value port.old) (P.value port.new) domain (ext_element op) awaited (says gate.old) (count_asks gate.old) (count_asks gate.new) (count_yes gate.old) (count_yes gate.new) result }
-    ensures says { (n : ℕ) → says gate.new n ≡ says gate.old n }
-    ensures paces { paces gate.new ≡ paces gate.old }
-    ensures calm { calm gate.old ≡ true → (is_due_answer result ≡ false) × (calm gate.new ≡ true) }
+    ensures course { PerformsBy (P.value port.old) (P.value port.new) domain (ext_element op) awaited (value gate.old) (value gate.new) result }
 {
     match element_of(op) {
         Element::Pin { frame, level } => pin(port, gate, domain, frame, level),

@@ -32,10 +32,7 @@ pub fn pin<P: Port>(
     requires low { 1 ≤ level }
     requires high { level ≤ 4 }
     requires room { known_old First (P.value port.old).holdings ≡ Some 0 }
-    ensures met { MeetsElement (P.value port.old) (P.value port.new) domain (Pin f level) None (says gate.old) (count_asks gate.old) (count_asks gate.new) (count_yes gate.old) (count_yes gate.new) result }
-    ensures says { (n : ℕ) → says gate.new n ≡ says gate.old n }
-    ensures paces { paces gate.new ≡ paces gate.old }
-    ensures calm { calm gate.old ≡ true → (is_due_answer result ≡ false) × (calm gate.new ≡ true) }
+    ensures met { MeetsElement (P.value port.old) (P.value port.new) domain (Pin f level) None (value gate.old) (value gate.new) result }
 {
     let frame = get_ref(port, f, domain)?;
     let found = look_kind(port, frame);

@@ -24,15 +24,7 @@ impl Apart {
 }
 
 impl Preempt for Apart {
-    ghost count_yes = { λ g. g.gate.yes };
-
-    ghost count_asks = { λ g. g.gate.asks };
-
-    ghost says = { λ g n. is_in_step g.gate.every n };
-
-    ghost paces = { λ _. true };
-
-    ghost calm = { λ g. g.gate.every == 0 };
+    ghost value = { λ g. record { paces = true; asks = g.gate.asks; yes = g.gate.yes; says = λ n. is_in_step g.gate.every n } };
 
     fn pace(&mut self, every: u32) {
         self.gate.pace(every);

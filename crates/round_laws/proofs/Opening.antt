@@ -21,7 +21,6 @@ use Rattle.shared_board.specs.Board.{opened_story}
 use Rattle.shared_board.proofs.Opened.{start_sound}
 use Rattle.vcpu_turn.specs.Cpus.{Processing, fresh, job_next, next_of, pending_of}
 use Rattle.vcpu_runners.specs.Cpus.{first_cpu, first_cpus}
-use Rattle.vcpu_runners.specs.Gates.{Gate}
 use Rattle.xp_machine.specs.Turns.{IsStagedTurn, Stage, Turns, more, none, stage}
 use Rattle.xp_machine.proofs.Reaching.{empty_idles, first_at}
 use Rattle.xp_machine.proofs.Starting.{length_first}
@@ -29,6 +28,7 @@ use Rattle.turn_measures.proofs.Sizes.{begun_within}
 use Rattle.round_laws.specs.Rounds.{AreAllRetired, IsRound, rounds_to_go, turns_in_rounds}
 use Rattle.round_laws.specs.Stages.{AreSparing, IsSteady, IsSteadyCpu, words_of}
 use Rattle.round_laws.proofs.Waiting.{retired_at}
+use Rattle.xp_preempt.specs.Gates.{Gate}
 
 -- ---- laws of this crate
 abbrev pub SteadyBehind : Type 0

@@ -12,9 +12,9 @@ ghost use Rattle.xp_board.specs.Readings.{last_clock};
 ghost use Rattle.xp_machine.specs.Cpus.{order};
 ghost use Rattle.xp_machine.specs.Ran.{RanTrace, first_gates};
 ghost use Rattle.xp_machine.specs.Turns.{Stage, Turns, stage};
-ghost use Rattle.vcpu_runners.specs.Gates.{Gate};
 ghost use Rattle.round_laws.specs.Rounds.{AreAllRetired, IsRound, rounds_to_go, turns_in_rounds};
 ghost use Rattle.round_laws.specs.Stages.{AreSparing, IsSteady, words_of};
+ghost use Rattle.xp_preempt.specs.Gates.{Gate};
 
 use crate::turns::a_turn_leaves_less_to_do;
 use answer_laws::alone_stays;

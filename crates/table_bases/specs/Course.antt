@@ -15,10 +15,11 @@ use Rattle.step_maker.specs.Moves.{Came, Moves}
 use Rattle.flush_words.specs.Flushing.{FlushesOwn}
 use Rattle.table_entries.specs.Acquiring.{Acquired}
 use Rattle.level_validate.specs.Unwinding.{own_domain}
-use Rattle.level_release.specs.Course.{WasReleased, WithGate}
+use Rattle.level_release.specs.Course.{WasReleased}
 use Rattle.table_bases.specs.declared.words.Base.{Base}
 use Rattle.table_bases.specs.Asking.{ServesBase, StopsBase}
 use Rattle.table_bases.specs.Holding.{base_place, naming}
+use Rattle.xp_preempt.specs.Gates.{AskedPast, Gate}
 
 -- ---- the flush behind the store: where the clock is at its last value, the own cache is emptied and that value stored
 pub data FlushesBehind (v w : PortValue) : Type 0 where
@@ -57,16 +58,16 @@ pub data SetsBase (v w : PortValue) (base : Base) : Option ℕ → List Bool →
       SetsBase v w base new (more ++ answers) (Ok tt)
 
 -- ---- with a gate
-abbrev pub InstallsBy : PortValue → PortValue → Base → Option ℕ → (ℕ → Bool) → ℕ → ℕ → ℕ → ℕ → Type 0
-InstallsBy v w base new says before after yes_before yes_after = WithGate (λ answers. Installed v w base new answers) says before after yes_before yes_after (Ok tt)
+abbrev pub InstallsBy : PortValue → PortValue → Base → Option ℕ → Gate → Gate → Type 0
+InstallsBy v w base new g h = AskedPast g h false (λ answers. Installed v w base new answers)
 
-abbrev pub SetsBaseBy : PortValue → PortValue → Base → Option ℕ → (ℕ → Bool) → ℕ → ℕ → ℕ → ℕ → Result (Unit {0}) Stop → Type 0
-SetsBaseBy v w base new says before after yes_before yes_after answer = WithGate (λ answers. SetsBase v w base new answers answer) says before after yes_before yes_after answer
+abbrev pub SetsBaseBy : PortValue → PortValue → Base → Option ℕ → Gate → Gate → Result (Unit {0}) Stop → Type 0
+SetsBaseBy v w base new g h answer = AskedPast g h (is_due_answer answer) (λ answers. SetsBase v w base new answers answer)
 
 -- ---- the whole call
 -- It came to where it ends, its steps serve what the base asks, show why it is not set, and are these calls, whose gate gave these answers.
-pub record MeetsBase (v w : PortValue) (base : Base) (new : Option ℕ) (says : ℕ → Bool) (before after yes_before yes_after : ℕ) (answer : Result (Unit {0}) Stop) : Type 0 where
+pub record MeetsBase (v w : PortValue) (base : Base) (new : Option ℕ) (g h : Gate) (answer : Result (Unit {0}) Stop) : Type 0 where
   pub came : Came v w
   pub serves : ServesBase v w base new answer
   pub stops : StopsBase v w new answer
-  pub course : SetsBaseBy v w base new says before after yes_before yes_after answer
+  pub course : SetsBaseBy v w base new g h answer

@@ -29,10 +29,7 @@ pub(crate) fn install<P: Port>(port: &mut P, gate: &mut dyn Preempt, base: Base,
     requires room { known_old First (P.value port.old).holdings ≡ Some 0 }
     ensures serves { Serves (P.value port.old) (P.value port.new) (of_base (own_domain (P.value port.old)) new true) (base_deeds (P.value port.old) base new (Ok tt)) }
     ensures hand { LeavesInstalled (P.value port.old) (P.value port.new) }
-    ensures course { InstallsBy (P.value port.old) (P.value port.new) base new (says gate.old) (count_asks gate.old) (count_asks gate.new) (count_yes gate.old) (count_yes gate.new) }
-    ensures says { (n : ℕ) → says gate.new n ≡ says gate.old n }
-    ensures paces { paces gate.new ≡ paces gate.old }
-    ensures calm { calm gate.old ≡ true → calm gate.new ≡ true }
+    ensures course { InstallsBy (P.value port.old) (P.value port.new) base new (value gate.old) (value gate.new) }
 {
     let old = put_base(port, base, new);
     flush_behind(port);

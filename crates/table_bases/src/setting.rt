@@ -32,10 +32,7 @@ pub fn new_base<P: Port>(port: &mut P, gate: &mut dyn Preempt, f: u64) -> Result
     ensures hand { LeavesBase (P.value port.old) (P.value port.new) (Some f) result }
     ensures rests { Rests (P.value port.new) }
     // It makes these calls, and its gate gave these answers.
-    ensures course { SetsBaseBy (P.value port.old) (P.value port.new) Kernel (Some f) (says gate.old) (count_asks gate.old) (count_asks gate.new) (count_yes gate.old) (count_yes gate.new) result }
-    ensures says { (n : ℕ) → says gate.new n ≡ says gate.old n }
-    ensures paces { paces gate.new ≡ paces gate.old }
-    ensures calm { calm gate.old ≡ true → (is_due_answer result ≡ false) × (calm gate.new ≡ true) }
+    ensures course { SetsBaseBy (P.value port.old) (P.value port.new) Kernel (Some f) (value gate.old) (value gate.new) result }
 {
     name_base(port, gate, Base::Kernel, f)
 }
@@ -51,10 +48,7 @@ pub fn new_user_base<P: Port>(port: &mut P, gate: &mut dyn Preempt, f: u64) -> R
     ensures kinds { IfErr result (IsBaseStop (user_frame f)) }
     ensures hand { LeavesBase (P.value port.old) (P.value port.new) (user_frame f) result }
     ensures rests { Rests (P.value port.new) }
-    ensures course { SetsBaseBy (P.value port.old) (P.value port.new) User (user_frame f) (says gate.old) (count_asks gate.old) (count_asks gate.new) (count_yes gate.old) (count_yes gate.new) result }
-    ensures says { (n : ℕ) → says gate.new n ≡ says gate.old n }
-    ensures paces { paces gate.new ≡ paces gate.old }
-    ensures calm { calm gate.old ≡ true → (is_due_answer result ≡ false) × (calm gate.new ≡ true) }
+    ensures course { SetsBaseBy (P.value port.old) (P.value port.new) User (user_frame f) (value gate.old) (value gate.new) result }
 {
     if f == 0 {
         empty_base(port, gate, Base::User)
@@ -67,13 +61,10 @@ pub fn new_user_base<P: Port>(port: &mut P, gate: &mut dyn Preempt, f: u64) -> R
 fn name_base<P: Port>(port: &mut P, gate: &mut dyn Preempt, base: Base, f: u64) -> Result<(), Stop>
     requires rests { Rests (P.value port.old) }
     requires room { known_old First (P.value port.old).holdings ≡ Some 0 }
-    ensures met { MeetsBase (P.value port.old) (P.value port.new) base (Some f) (says gate.old) (count_asks gate.old) (count_asks gate.new) (count_yes gate.old) (count_yes gate.new) result }
+    ensures met { MeetsBase (P.value port.old) (P.value port.new) base (Some f) (value gate.old) (value gate.new) result }
     ensures kinds { IfErr result (IsBaseStop (Some f)) }
     ensures hand { LeavesBase (P.value port.old) (P.value port.new) (Some f) result }
     ensures rests { Rests (P.value port.new) }
-    ensures says { (n : ℕ) → says gate.new n ≡ says gate.old n }
-    ensures paces { paces gate.new ≡ paces gate.old }
-    ensures calm { calm gate.old ≡ true → (is_due_answer result ≡ false) × (calm gate.new ≡ true) }
 {
     let clock = look_clock(port);
     if clock == LAST_CLOCK {
@@ -89,13 +80,10 @@ fn name_base<P: Port>(port: &mut P, gate: &mut dyn Preempt, base: Base, f: u64) 
 fn empty_base<P: Port>(port: &mut P, gate: &mut dyn Preempt, base: Base) -> Result<(), Stop>
     requires rests { Rests (P.value port.old) }
     requires room { known_old First (P.value port.old).holdings ≡ Some 0 }
-    ensures met { MeetsBase (P.value port.old) (P.value port.new) base None (says gate.old) (count_asks gate.old) (count_asks gate.new) (count_yes gate.old) (count_yes gate.new) result }
+    ensures met { MeetsBase (P.value port.old) (P.value port.new) base None (value gate.old) (value gate.new) result }
     ensures kinds { IfErr result (IsBaseStop None) }
     ensures hand { LeavesBase (P.value port.old) (P.value port.new) None result }
     ensures rests { Rests (P.value port.new) }
-    ensures says { (n : ℕ) → says gate.new n ≡ says gate.old n }
-    ensures paces { paces gate.new ≡ paces gate.old }
-    ensures calm { calm gate.old ≡ true → (is_due_answer result ≡ false) × (calm gate.new ≡ true) }
 {
     let clock = look_clock(port);
     if clock == LAST_CLOCK {

@@ -26,9 +26,9 @@ use Rattle.vcpu_turn.specs.Destroying.{KeepsBuried}
 use Rattle.vcpu_turn.specs.Turning.{IsOf}
 use Rattle.vcpu_runners.specs.Cpus.{IsShort}
 use Rattle.vcpu_runners.specs.Destroyed.{AreDestroyed}
-use Rattle.vcpu_runners.specs.Gates.{Gate}
 use Rattle.vcpu_runners.specs.Replayed.{AreFirst, RanInThreads, RanToItsEnd, TookTurns, port_with}
 use Rattle.vcpu_runners.specs.Working.{MayRun, RanOut}
+use Rattle.xp_preempt.specs.Gates.{Gate}
 
 -- ---- an element by its place
 at_elem : {A : Type 0} (l : List A) (k : ℕ) (x d : A) → get_elem? l k ≡ some x → slice_index_or l k d ≡ x

@@ -10,11 +10,11 @@ use Rattle.thread_board.specs.Values.{BoardValue, PassValue, IsPassOf}
 use Rattle.vcpu_turn.specs.Cpus.{Processing, next_of}
 use Rattle.vcpu_turn.specs.Turning.{IsOf}
 use Rattle.vcpu_runners.specs.Cpus.{IsShort}
-use Rattle.vcpu_runners.specs.Gates.{Gate}
 use Rattle.vcpu_runners.specs.Runners.{TakesTurn, TakesTurnBy}
 use Rattle.vcpu_turn.proofs.Scripts.{turn_script}
 use Rattle.vcpu_runners.specs.Replayed.{TookTurns, more, none}
 use Rattle.vcpu_runners.specs.Working.{RanOut}
+use Rattle.xp_preempt.specs.Gates.{Gate}
 
 -- ---- one turn more
 pub turns_more : (has mid left : Gate) (c d c2 : Processing) (v u w : PortValue) → TookTurns has c v mid d u → d.retired ≡ false → TakesTurnBy d.retired mid left d c2 u w → TookTurns has c v left c2 w

@@ -12,8 +12,8 @@ use Rattle.vcpu_turn.specs.Cpus.{Processing}
 use Rattle.vcpu_turn.specs.Turning.{IsOf}
 use Rattle.vcpu_runners.specs.Cpus.{AreShort}
 use Rattle.vcpu_runners.specs.Destroyed.{AreDestroyed}
-use Rattle.vcpu_runners.specs.Gates.{Gate}
 use Rattle.vcpu_runners.specs.Runners.{TakesTurn}
+use Rattle.xp_preempt.specs.Gates.{Gate}
 
 -- Turns of one vCPU, one behind the other, each by its own gate. A vCPU that is retired makes none.
 pub data TookTurns (has : Gate) (c : Processing) (v : PortValue) : Gate → Processing → PortValue → Type 0 where

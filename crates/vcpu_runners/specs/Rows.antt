@@ -4,7 +4,7 @@ use Rattle.std.specs.declared.alloc.Global.{Global}
 use Rattle.std.specs.declared.dyn_box.DynBox.{DynBox}
 use Rattle.vcpu_turn.specs.Cpus.{Processing}
 use Rattle.vcpu_runners.specs.declared.runner.Runner.{Runner}
-use Rattle.vcpu_runners.specs.Gates.{Gate}
+use Rattle.xp_preempt.specs.Gates.{Gate}
 
 -- V and G say what the box of a gate holds: its vtable, and the values that this vtable serves.
 

@@ -4,14 +4,15 @@ use Rattle.xp_board.specs.Told.{PortValue}
 use Rattle.vcpu_turn.specs.declared.cpu.TurnEnd.{TurnEnd}
 use Rattle.vcpu_turn.specs.Cpus.{Processing}
 use Rattle.vcpu_turn.specs.Turning.{IsTurn, is_due}
-use Rattle.vcpu_runners.specs.Gates.{Gate, IsConsulted}
+use Rattle.xp_preempt.specs.Gates.{Consulted, Gate}
 
 -- a vCPU that is not retired makes a turn in which it asks its gate, and has that gate behind it as the turn left it, also where it retires
 pub record TakesTurn (has left : Gate) (c c' : Processing) (v w : PortValue) : Type 0 where
   pub end : TurnEnd
   pub answers : List Bool
   pub turn : IsTurn c c' end v w answers
-  pub consulted : IsConsulted has left answers (is_due end)
+  pub consulted : Consulted has left answers
+  pub due : is_due end ≡ true → ends_yes answers ≡ true
 
 pub record Rested (has left : Gate) (c c' : Processing) (v w : PortValue) : Type 0 where
   pub cpu : c' ≡ c

@@ -5,8 +5,8 @@ use Rattle.thread_board.specs.Values.{BoardValue, PassValue, IsPassOf}
 use Rattle.vcpu_turn.specs.Cpus.{Processing}
 use Rattle.vcpu_turn.specs.Turning.{IsOf}
 use Rattle.vcpu_runners.specs.Cpus.{IsShort}
-use Rattle.vcpu_runners.specs.Gates.{Gate}
 use Rattle.vcpu_runners.specs.Replayed.{TookTurns}
+use Rattle.xp_preempt.specs.Gates.{Gate}
 
 -- the pass is one of that board and of that vCPU, which makes turns yet
 pub record MayRun (b : BoardValue) (p : PassValue) (c : Processing) : Type 0 where

@@ -1,6 +1,5 @@
 ghost use Rattle.std.specs.Prelude.{◌≡◌, ◌<◌, ◌^◌, length};
 ghost use Rattle.vcpu_turn.specs.Turning.{IsOf, StopsWhere};
-ghost use Rattle.vcpu_runners.specs.Gates.{gate_of};
 ghost use Rattle.vcpu_runners.specs.Runners.{TakesTurnBy};
 
 use vcpu_turn::{Cpu, stop, turn};
@@ -18,7 +17,7 @@ impl Runner {
     /// A vCPU, with the gate that is its own from now on.
     pub fn new(cpu: Cpu, gate: Box<dyn Preempt + Send>) -> Runner
         ensures cpu { result.cpu ≡ cpu }
-        ensures gate { gate_of calm paces count_asks says result.gate ≡ gate_of calm paces count_asks says gate }
+        ensures gate { value result.gate ≡ value gate }
     {
         Runner { cpu, gate }
     }
@@ -28,7 +27,7 @@ impl Runner {
         requires short { length self.old.cpu.script < 2 ^ 32 }
         requires of { IsOf (P.value port.old) self.old.cpu }
         ensures post { (P.value port.new).post ≡ (P.value port.old).post }
-        ensures turn { TakesTurnBy self.old.cpu.retired (gate_of calm paces count_asks says self.old.gate) (gate_of calm paces count_asks says self.new.gate) self.old.cpu self.new.cpu (P.value port.old) (P.value port.new) }
+        ensures turn { TakesTurnBy self.old.cpu.retired (value self.old.gate) (value self.new.gate) self.old.cpu self.new.cpu (P.value port.old) (P.value port.new) }
         ensures of { IsOf (P.value port.new) self.new.cpu }
     {
         if self.cpu.is_retired() {
@@ -42,7 +41,7 @@ impl Runner {
         requires of { IsOf (P.value port.old) self.old.cpu }
         ensures post { (P.value port.new).post ≡ (P.value port.old).post }
         ensures stop { StopsWhere self.old.cpu.retired self.old.cpu self.new.cpu (P.value port.old) (P.value port.new) }
-        ensures gate { gate_of calm paces count_asks says self.new.gate ≡ gate_of calm paces count_asks says self.old.gate }
+        ensures gate { value self.new.gate ≡ value self.old.gate }
         ensures of { IsOf (P.value port.new) self.new.cpu }
     {
         stop(port, &mut self.cpu);
@@ -51,7 +50,7 @@ impl Runner {
     /// The vCPU and its gate, apart.
     pub fn into_parts(self) -> (Cpu, Box<dyn Preempt + Send>)
         ensures cpu { result.0 ≡ self.cpu }
-        ensures gate { gate_of calm paces count_asks says result.1 ≡ gate_of calm paces count_asks says self.gate }
+        ensures gate { value result.1 ≡ value self.gate }
     {
         (self.cpu, self.gate)
     }

@@ -12,12 +12,13 @@ use Rattle.mmuext_ops.specs.Elements.{KnowsAwaited, awaited_by, ext_element}
 use Rattle.mmuext_ops.specs.declared.element.Element.{Element}
 use Rattle.mmuext_ops.specs.declared.element.Element.TheVariants as elements
 use Rattle.vcpu_turn.specs.Cpus.{OfExt, OfMapping, Task, awaited_at, awaited_behind, awaited_in, awaited_left}
-use Rattle.vcpu_turn.specs.Lists.{Answering, WorksOn, all_done, last_done, due, stopped, is_due_answer, WorksThrough}
+use Rattle.vcpu_turn.specs.Lists.{WorksOn, all_done, last_done, due, stopped, is_due_answer, WorksThrough}
 use Rattle.vcpu_turn.specs.Settling as settling
 use Rattle.vcpu_turn.specs.Ext.{ExtFits, FitsExt, Performs, awaited_for}
 use Rattle.vcpu_turn.specs.Mappings.{AwaitsWhere}
 use Rattle.vcpu_turn.specs.Settling.{SettlesFirst}
 use Rattle.vcpu_turn.specs.Working.{valued}
+use Rattle.xp_preempt.specs.Gates.{AskedPast, Gate}
 
 -- ---- the first element of a turn alone goes on
 pub knows_for : (v : PortValue) (from : ℕ) (awaited : Option ℕ) (k : ℕ) (waits : Option ℕ) → waits ≡ awaited_for from awaited k → KnowsAwaited v awaited → KnowsAwaited v waits
@@ -28,10 +29,10 @@ knows_for v from awaited k waits is knows = subst (KnowsAwaited v) (sym is) (by 
     by false = tt
 
 -- by the clock value that its call was passed
-pub fits_waits : (d : ℕ) (waits awaited : Option ℕ) → waits ≡ awaited → (o : Option ExtOp) (says : ℕ → Bool) (before after yes_before yes_after : ℕ) (v w : PortValue) (answer : Result (Unit {0}) Stop) →
-    Answering (λ answers. FitsExt d waits o v w answers answer) says before after yes_before yes_after (is_due_answer answer) → Answering (λ answers. FitsExt d awaited o v w answers answer) says before after yes_before yes_after (is_due_answer answer)
-fits_waits d waits awaited is o says before after yes_before yes_after v w answer fits =
-    subst (λ (a : Option ℕ). Answering (λ answers. FitsExt d a o v w answers answer) says before after yes_before yes_after (is_due_answer answer)) is fits
+pub fits_waits : (d : ℕ) (waits awaited : Option ℕ) → waits ≡ awaited → (o : Option ExtOp) (g h : Gate) (v w : PortValue) (answer : Result (Unit {0}) Stop) →
+    AskedPast g h (is_due_answer answer) (λ answers. FitsExt d waits o v w answers answer) → AskedPast g h (is_due_answer answer) (λ answers. FitsExt d awaited o v w answers answer)
+fits_waits d waits awaited is o g h v w answer fits =
+    subst (λ (a : Option ℕ). AskedPast g h (is_due_answer answer) (λ answers. FitsExt d a o v w answers answer)) is fits
 
 -- ---- what is paused for another reason begins its wait anew
 release_waits_for_none : (e : Element) (stop : Stop) → IsReleaseEnd stop → awaited_by e (Err stop) ≡ None

@@ -12,7 +12,6 @@ use Rattle.domain_destroy.specs.Coming.{HasComeTo, seen_to}
 use Rattle.domain_destroy.specs.Course as course
 use Rattle.domain_destroy.specs.Course.{Advances, Destroys, GoesOn, LeftFrame, ListsFrame, left_lines}
 use Rattle.domain_destroy.specs.Destroying.{DomainDestroyed}
-use Rattle.domain_destroy.specs.Gates.{Gated}
 use Rattle.domain_destroy.specs.declared.place.DestroyAt.{DestroyAt}
 use Rattle.domain_destroy.proofs.Noes.{destroys_noes}
 use Rattle.domain_destroy.proofs.Parts.{destroy_came}
@@ -20,12 +19,12 @@ use Rattle.vcpu_turn.specs.Asking.{NoUntilDue}
 use Rattle.vcpu_turn.specs.Calls.{WentBy}
 use Rattle.vcpu_turn.specs.Cpus.{Job, OfCalls, OfDestroy, OfOne, made_within, room_from}
 use Rattle.vcpu_turn.specs.Destroying.{KnowsPlace, WentOnDestroying, done_behind}
-use Rattle.vcpu_turn.specs.Lists.{Answering}
 use Rattle.vcpu_turn.specs.Settling.{IsWarm}
 use Rattle.vcpu_turn.specs.declared.cpu.Progress.{Progress}
 use Rattle.vcpu_turn.proofs.Gating.{is_err}
 use Rattle.vcpu_turn.proofs.NextOps.{SeenNoMore}
 use Rattle.vcpu_turn.proofs.Noes.{noes_asked, noes_due, noes_no, noes_none, noes_then, settled_noes}
+use Rattle.xp_preempt.specs.Gates.{Asked, AskedPast, Gate}
 
 module _ {x op : ℕ} {v : PortValue} {from to : Progress} {w : PortValue} {log log' : List LogLine} {answers : List Bool} {answer : Result ℕ Stop} (went : WentOnDestroying x op v from to w log log' answers answer) where
   pub destroyed_came : Came v w
@@ -117,30 +116,30 @@ module _ (x op : ℕ) (v : PortValue) (at to : DestroyAt) (w : PortValue) (log l
       let all = ap (λ (xs : List LogLine). length xs) did.lines in
       omega (arith, more, sum, many, all)
 
-pub went_destroying : (x op : ℕ) (v : PortValue) (from to : Progress) (w : PortValue) (log log' : List LogLine) (answer : Result ℕ Stop) (says : ℕ → Bool) (before after yes_before yes_after : ℕ) →
-    Gated (λ answers. DomainDestroyed v w x op from.place to.place log log' answers answer) says before after yes_before yes_after (is_due_answer answer) → to ≡ record from { done = done_behind from.done answer; place = to.place } →
-    Answering (λ answers. WentOnDestroying x op v from to w log log' answers answer) says before after yes_before yes_after (is_due_answer answer)
-went_destroying x op v from to w log log' answer says before after yes_before yes_after gated is =
-    record { answers = gated.answers; goes = record { destroyed = gated.went; to_is = is }; gate = gated.gate; due_is = λ due. sym gated.due_is ∙ due }
+pub went_destroying : (x op : ℕ) (v : PortValue) (from to : Progress) (w : PortValue) (log log' : List LogLine) (answer : Result ℕ Stop) (g h : Gate) →
+    Asked g h (is_due_answer answer) (λ answers. DomainDestroyed v w x op from.place to.place log log' answers answer) → to ≡ record from { done = done_behind from.done answer; place = to.place } →
+    AskedPast g h (is_due_answer answer) (λ answers. WentOnDestroying x op v from to w log log' answers answer)
+went_destroying x op v from to w log log' answer g h gated is =
+    record { answers = gated.answers; course = record { destroyed = gated.went; to_is = is }; gate = gated.gate; due = λ due. sym gated.due ∙ due }
 
 -- it stopped, and the answer is passed on
-module _ (x op : ℕ) (v : PortValue) (from : Progress) (to : DestroyAt) (w : PortValue) (log log' : List LogLine) (stop : Stop) (answer : Result ℕ Stop) (is : IsErrAnd answer (λ e. e ≡ stop)) (says : ℕ → Bool) (before after yes_before yes_after : ℕ)
-    (gated : Gated (λ answers. DomainDestroyed v w x op from.place to log log' answers (Err stop)) says before after yes_before yes_after (is_due_stop stop)) where
-  pub went_stopped : Answering (λ answers. WentOnDestroying x op v from (record from { place = to }) w log log' answers answer) says before after yes_before yes_after (is_due_answer answer)
+module _ (x op : ℕ) (v : PortValue) (from : Progress) (to : DestroyAt) (w : PortValue) (log log' : List LogLine) (stop : Stop) (answer : Result ℕ Stop) (is : IsErrAnd answer (λ e. e ≡ stop)) (g h : Gate)
+    (gated : Asked g h (is_due_stop stop) (λ answers. DomainDestroyed v w x op from.place to log log' answers (Err stop))) where
+  pub went_stopped : AskedPast g h (is_due_answer answer) (λ answers. WentOnDestroying x op v from (record from { place = to }) w log log' answers answer)
   went_stopped =
-      subst (λ (a : Result ℕ Stop). Answering (λ answers. WentOnDestroying x op v from (record from { place = to }) w log log' answers a) says before after yes_before yes_after (is_due_answer a)) (sym (is_err answer stop is))
-      (went_destroying x op v from (record from { place = to }) w log log' (Err stop) says before after yes_before yes_after gated refl)
+      subst (λ (a : Result ℕ Stop). AskedPast g h (is_due_answer a) (λ answers. WentOnDestroying x op v from (record from { place = to }) w log log' answers a)) (sym (is_err answer stop is))
+      (went_destroying x op v from (record from { place = to }) w log log' (Err stop) g h gated refl)
 
   pub place_stopped : IfErr answer (λ e. HasComeTo w x to op log')
   place_stopped = subst (λ (a : Result ℕ Stop). IfErr a (λ e. HasComeTo w x to op log')) (sym (is_err answer stop is)) gated.went.come
 
 -- it ended
-pub went_ended : (x op : ℕ) (v : PortValue) (from : Progress) (to : DestroyAt) (w : PortValue) (log log' : List LogLine) (left value : ℕ) → value ≡ left → (says : ℕ → Bool) (before after yes_before yes_after : ℕ) →
-    Gated (λ answers. DomainDestroyed v w x op from.place to log log' answers (Ok left)) says before after yes_before yes_after false →
-    Answering (λ answers. WentOnDestroying x op v from (record from { done = 1; place = to }) w log log' answers (Ok value)) says before after yes_before yes_after false
-went_ended x op v from to w log log' left value is says before after yes_before yes_after gated =
-    subst (λ n. Answering (λ answers. WentOnDestroying x op v from (record from { done = 1; place = to }) w log log' answers (Ok n)) says before after yes_before yes_after false) (sym is)
-    (went_destroying x op v from (record from { done = 1; place = to }) w log log' (Ok left) says before after yes_before yes_after gated refl)
+pub went_ended : (x op : ℕ) (v : PortValue) (from : Progress) (to : DestroyAt) (w : PortValue) (log log' : List LogLine) (left value : ℕ) → value ≡ left → (g h : Gate) →
+    Asked g h false (λ answers. DomainDestroyed v w x op from.place to log log' answers (Ok left)) →
+    AskedPast g h false (λ answers. WentOnDestroying x op v from (record from { done = 1; place = to }) w log log' answers (Ok value))
+went_ended x op v from to w log log' left value is g h gated =
+    subst (λ n. AskedPast g h false (λ answers. WentOnDestroying x op v from (record from { done = 1; place = to }) w log log' answers (Ok n))) (sym is)
+    (went_destroying x op v from (record from { done = 1; place = to }) w log log' (Ok left) g h gated refl)
 
 -- the room of the log, as the operation that destroys has it
 pub destroying_room : (job : Job) (x : ℕ) → job ≡ OfDestroy x → (frames len len' : ℕ) (from to : Progress) → len' + seen_to from.place ≤ len + seen_to to.place →

@@ -2,13 +2,12 @@
 use Rattle.std.proofs.Common.{◌≡◌, ℕ, Bool, true, false, List, [], ◌∷◌, ◌++◌, Result, Ok, Err, ap}
 use Rattle.std.specs.Result.{IsErrAnd}
 use Rattle.xp_words.specs.declared.reply.Stop.{Stop}
-use Rattle.xp_preempt.specs.Gates.{Consulted, ends_yes}
+use Rattle.xp_preempt.specs.Gates.{AskedPast, Consulted, Gate, ends_yes}
 use Rattle.xp_preempt.proofs.Consulting.{consulted_none, consulted_then}
-use Rattle.vcpu_turn.specs.Lists.{Answering}
 
 -- nothing is asked, and nothing is paused for it
-pub answers_nothing : (says : ℕ → Bool) (asks risen : ℕ) (due : Bool) (P : List Bool → Type 0) → due ≡ false → P [] → Answering P says asks asks risen risen due
-answers_nothing says asks risen due P calm goes = record { answers = []; goes = goes; gate = consulted_none says asks risen; due_is = λ is. absurd (both due is calm) }
+pub answers_nothing : (says : ℕ → Bool) (asks risen : ℕ) (due : Bool) (P : List Bool → Type 0) → due ≡ false → P [] → AskedPast P says asks asks risen risen due
+answers_nothing says asks risen due P calm goes = record { answers = []; course = goes; gate = consulted_none says asks risen; due = λ is. absurd (both due is calm) }
   where
     both : (b : Bool) → b ≡ true → b ≡ false → ⊥
     both b on off = cc
@@ -18,14 +17,14 @@ ends_behind early [] is = absurd (cc)
 ends_behind early (a ∷ answers) is = is
 
 -- behind what a gate was asked before: one piece, of a gate that says the same
-module _ (says now : ℕ → Bool) (before after last yes_before yes_after yes_last : ℕ) (early : List Bool) (same : (n : ℕ) → now n ≡ says n) (first : Consulted says before after yes_before yes_after early) where
-  pub answers_behind : (due : Bool) (P Q : List Bool → Type 0) → Answering P now after last yes_after yes_last due → ((answers : List Bool) → P answers → Q (answers ++ early)) → Answering Q says before last yes_before yes_last due
+module _ (says now : ℕ → Bool) (before after last yes_before yes_after yes_last : ℕ) (early : List Bool) (same : (n : ℕ) → now n ≡ says n) (first : Consulted g h early) where
+  pub answers_behind : (due : Bool) (P Q : List Bool → Type 0) → AskedPast P now after last yes_after yes_last due → ((answers : List Bool) → P answers → Q (answers ++ early)) → AskedPast Q says before last yes_before yes_last due
   answers_behind due P Q next on =
       record {
         answers = next.answers ++ early;
         goes = on next.answers next.goes;
         gate = consulted_then now says before after last yes_before yes_after yes_last early next.answers same first next.gate;
-        due_is = λ is. ends_behind early next.answers (next.due_is is);
+        due = λ is. ends_behind early next.answers (next.due is);
       }
 
 -- an answer that was passed on
@@ -34,5 +33,5 @@ is_err (Ok done) e is = absurd is
 is_err (Err x) e is = ap (λ (y : Stop). Err y) is
 
 -- what it is said of
-pub answers_as : (P Q : List Bool → Type 0) (says : ℕ → Bool) (before after yes_before yes_after : ℕ) (due : Bool) → ((answers : List Bool) → P answers → Q answers) → Answering P says before after yes_before yes_after due → Answering Q says before after yes_before yes_after due
-answers_as P Q says before after yes_before yes_after due on a = record { answers = a.answers; goes = on a.answers a.goes; gate = a.gate; due_is = a.due_is }
+pub answers_as : (P Q : List Bool → Type 0) (g h : Gate) (due : Bool) → ((answers : List Bool) → P answers → Q answers) → AskedPast P g h due → AskedPast Q g h due
+answers_as P Q g h due on a = record { answers = a.answers; course = on a.answers a.goes; gate = a.gate; due = a.due }

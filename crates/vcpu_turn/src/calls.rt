@@ -10,8 +10,9 @@ ghost use Rattle.domain_destroy.specs.Emptying.{NamesNone};
 ghost use Rattle.vcpu_turn.specs.Destroying.{KnowsPlace, WentOnDestroying};
 ghost use Rattle.vcpu_turn.specs.Kinds.{IsKindOf};
 ghost use Rattle.vcpu_turn.specs.Cpus.{IsFewIn, OfCalls, OfDestroy, begun_at, done_at, elements_in, job_of, lines_made, lines_of, lines_of_call, made_within, reply_of, room_from, task_in, task_of};
-ghost use Rattle.vcpu_turn.specs.Lists.{Answering, is_due_answer};
+ghost use Rattle.vcpu_turn.specs.Lists.{is_due_answer};
 ghost use Rattle.vcpu_turn.specs.Settling.{IsWarm};
+ghost use Rattle.xp_preempt.specs.Gates.{AskedPast};
 
 use crate::cpu::{CallNumber, Progress};
 use crate::tasks::{Piece, room_of, work_on};
@@ -146,15 +147,12 @@ fn answer_call<P: Port>(
     ensures next { IfOk result (λ _. at.new ≡ begun_at (at.old.call + 1)) }
     ensures same { IfErr result (λ _. (at.new.call ≡ at.old.call) × (at.new.done ≤ elements_in (task_in call.now))) }
     ensures awaits { KnowsAwaited (P.value port.new) at.new.awaited }
-    ensures answers { Answering (λ answers. AnswersCall domain call.now op (P.value port.old) at.old log.old.items at.new (P.value port.new) log.new.items answers result) (says gate.old) (count_asks gate.old) (count_asks gate.new) (count_yes gate.old) (count_yes gate.new) (is_due_answer result) }
+    ensures answers { AskedPast (value gate.old) (value gate.new) (is_due_answer result) (λ answers. AnswersCall domain call.now op (P.value port.old) at.old log.old.items at.new (P.value port.new) log.new.items answers result) }
     ensures capacity { vec_capacity log.new ≡ vec_capacity log.old }
     ensures answered { IfOk result (λ _. vec_len log.new + lines_made (task_in call.now) at.old.done ≤ vec_len log.old + lines_of_call call.now) }
     ensures room { IfErr result (λ _. vec_len log.new + lines_made (task_in call.now) at.old.done ≤ vec_len log.old + lines_made (task_in call.now) at.new.done) }
     ensures rests { Rests (P.value port.new) }
     ensures warm { IsWarm (P.value port.new) }
-    ensures says { (n : ℕ) → says gate.new n ≡ says gate.old n }
-    ensures paces { paces gate.new ≡ paces gate.old }
-    ensures calm { calm gate.old ≡ true → (is_due_answer result ≡ false) × (calm gate.new ≡ true) }
 {
     settle(port, gate, &mut None)?;
     let number = CallNumber {
@@ -193,14 +191,11 @@ fn answer_calls<P: Port>(
     ensures post { (P.value port.new).post ≡ (P.value port.old).post }
     ensures few { IsFewIn (OfCalls calls.now) at.new }
     ensures awaits { KnowsAwaited (P.value port.new) at.new.awaited }
-    ensures works { Answering (λ answers. WorksCalls domain calls.now op (P.value port.old) at.old log.old.items at.new (P.value port.new) log.new.items answers result) (says gate.old) (count_asks gate.old) (count_asks gate.new) (count_yes gate.old) (count_yes gate.new) (is_due_answer result) }
+    ensures works { AskedPast (value gate.old) (value gate.new) (is_due_answer result) (λ answers. WorksCalls domain calls.now op (P.value port.old) at.old log.old.items at.new (P.value port.new) log.new.items answers result) }
     ensures capacity { vec_capacity log.new ≡ vec_capacity log.old }
     ensures room { vec_len log.new + room_from 0 (OfCalls calls.now) at.new.call + made_within (OfCalls calls.now) at.old ≤ vec_len log.old + room_from 0 (OfCalls calls.now) at.old.call + made_within (OfCalls calls.now) at.new }
     ensures rests { Rests (P.value port.new) }
     ensures warm { IsWarm (P.value port.new) }
-    ensures says { (n : ℕ) → says gate.new n ≡ says gate.old n }
-    ensures paces { paces gate.new ≡ paces gate.old }
-    ensures calm { calm gate.old ≡ true → (is_due_answer result ≡ false) × (calm gate.new ≡ true) }
 {
     if calls.len() > MOST {
         at.done = 0;
@@ -233,15 +228,12 @@ fn go_on_destroying<P: Port>(
     ensures post { (P.value port.new).post ≡ (P.value port.old).post }
     ensures few { IsFewIn (OfDestroy domain) at.new }
     ensures awaits { KnowsAwaited (P.value port.new) at.new.awaited }
-    ensures went { Answering (λ answers. WentOnDestroying domain op (P.value port.old) at.old at.new (P.value port.new) log.old.items log.new.items answers result) (says gate.old) (count_asks gate.old) (count_asks gate.new) (count_yes gate.old) (count_yes gate.new) (is_due_answer result) }
+    ensures went { AskedPast (value gate.old) (value gate.new) (is_due_answer result) (λ answers. WentOnDestroying domain op (P.value port.old) at.old at.new (P.value port.new) log.old.items log.new.items answers result) }
     ensures place { IfErr result (λ e. KnowsPlace (P.value port.new) (OfDestroy domain) op at.new log.new.items) }
     ensures capacity { vec_capacity log.new ≡ vec_capacity log.old }
     ensures room { vec_len log.new + (P.value port.old).post.machine.frames ≤ vec_capacity log.new + seen_to at.new.place }
     ensures rests { Rests (P.value port.new) }
     ensures warm { IsWarm (P.value port.new) }
-    ensures says { (n : ℕ) → says gate.new n ≡ says gate.old n }
-    ensures paces { paces gate.new ≡ paces gate.old }
-    ensures calm { calm gate.old ≡ true → (is_due_answer result ≡ false) × (calm gate.new ≡ true) }
 {
     let left = destroy(port, gate, domain, &mut at.place, log, op)?;
     at.done = 1;
@@ -269,15 +261,12 @@ pub(crate) fn go_on_with<P: Port>(
     ensures post { (P.value port.new).post ≡ (P.value port.old).post }
     ensures few { IsFewIn (job_of op.now) at.new }
     ensures awaits { KnowsAwaited (P.value port.new) at.new.awaited }
-    ensures went { Answering (λ answers. WentBy domain (job_of op.now) number (P.value port.old) at.old at.new (P.value port.new) log.old.items log.new.items answers result) (says gate.old) (count_asks gate.old) (count_asks gate.new) (count_yes gate.old) (count_yes gate.new) (is_due_answer result) }
+    ensures went { AskedPast (value gate.old) (value gate.new) (is_due_answer result) (λ answers. WentBy domain (job_of op.now) number (P.value port.old) at.old at.new (P.value port.new) log.old.items log.new.items answers result) }
     ensures place { IfErr result (λ e. KnowsPlace (P.value port.new) (job_of op.now) number at.new log.new.items) }
     ensures capacity { vec_capacity log.new ≡ vec_capacity log.old }
     ensures room { vec_len log.new + room_from (P.value port.old).post.machine.frames (job_of op.now) at.new.call + made_within (job_of op.now) at.old ≤ vec_len log.old + room_from (P.value port.old).post.machine.frames (job_of op.now) at.old.call + made_within (job_of op.now) at.new }
     ensures rests { Rests (P.value port.new) }
     ensures warm { IsWarm (P.value port.new) }
-    ensures says { (n : ℕ) → says gate.new n ≡ says gate.old n }
-    ensures paces { paces gate.new ≡ paces gate.old }
-    ensures calm { calm gate.old ≡ true → (is_due_answer result ≡ false) × (calm gate.new ≡ true) }
 {
     match kind_of(op) {
         Kind::Calls(calls) => valued(answer_calls(port, gate, domain, number, calls, at, log)),

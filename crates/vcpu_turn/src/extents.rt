@@ -4,9 +4,10 @@ ghost use Rattle.xp_board.specs.Readings.{domain_of};
 ghost use Rattle.step_maker.specs.Holds.{Rests};
 ghost use Rattle.vcpu_turn.specs.Extents.{ListsExtents, SuitsExtents, block_at, extent_at, extents_in, given_lines, gives_blocks, is_memory_command, lines_by, mem_refusal};
 ghost use Rattle.vcpu_turn.specs.Cpus.{OfMem, lines_made, room_by, room_of};
-ghost use Rattle.vcpu_turn.specs.Lists.{Answering, is_due_answer};
+ghost use Rattle.vcpu_turn.specs.Lists.{is_due_answer};
 ghost use Rattle.vcpu_turn.specs.Settling.{IsWarm};
 ghost use Rattle.vcpu_turn.specs.Working.{GoesExtents};
+ghost use Rattle.xp_preempt.specs.Gates.{AskedPast};
 
 use crate::cpu::{CallNumber, Progress};
 use reservations::{Extent, reserve};
@@ -150,14 +151,11 @@ fn go_on<P: Port>(
     requires room { vec_len log.old + lines_by list.now.command (extents_in list.now.command list.now.items.now) ≤ vec_capacity log.old + lines_by list.now.command done.old }
     ensures post { (P.value port.new).post ≡ (P.value port.old).post }
     ensures within { done.new ≤ extents_in list.now.command list.now.items.now }
-    ensures works { Answering (λ answers. ListsExtents list.now.domain list.now.command list.now.order list.now.items.now list.now.number done.old within.old (P.value port.old) done.new within.new (P.value port.new) log.old.items log.new.items answers result) (says gate.old) (count_asks gate.old) (count_asks gate.new) (count_yes gate.old) (count_yes gate.new) (is_due_answer result) }
+    ensures works { AskedPast (value gate.old) (value gate.new) (is_due_answer result) (λ answers. ListsExtents list.now.domain list.now.command list.now.order list.now.items.now list.now.number done.old within.old (P.value port.old) done.new within.new (P.value port.new) log.old.items log.new.items answers result) }
     ensures capacity { vec_capacity log.new ≡ vec_capacity log.old }
     ensures room { vec_len log.new + lines_by list.now.command done.old ≤ vec_len log.old + lines_by list.now.command done.new }
     ensures rests { Rests (P.value port.new) }
     ensures warm { IsWarm (P.value port.new) }
-    ensures says { (n : ℕ) → says gate.new n ≡ says gate.old n }
-    ensures paces { paces gate.new ≡ paces gate.old }
-    ensures calm { calm gate.old ≡ true → (is_due_answer result ≡ false) × (calm gate.new ≡ true) }
 {
     let count = list.count() as u32;
     while *done < count {
@@ -191,14 +189,11 @@ pub(crate) fn go_through_extents<P: Port>(
     requires room { vec_len log.old + room_of (Some (OfMem list.now.command list.now.order list.now.items.now)) ≤ vec_capacity log.old + lines_made (Some (OfMem list.now.command list.now.order list.now.items.now)) at.old.done }
     ensures post { (P.value port.new).post ≡ (P.value port.old).post }
     ensures within { at.new.done ≤ extents_in list.now.command list.now.items.now }
-    ensures works { Answering (λ answers. GoesExtents list.now.domain list.now.command list.now.order list.now.items.now list.now.number (P.value port.old) at.old at.new (P.value port.new) log.old.items log.new.items answers result) (says gate.old) (count_asks gate.old) (count_asks gate.new) (count_yes gate.old) (count_yes gate.new) (is_due_answer result) }
+    ensures works { AskedPast (value gate.old) (value gate.new) (is_due_answer result) (λ answers. GoesExtents list.now.domain list.now.command list.now.order list.now.items.now list.now.number (P.value port.old) at.old at.new (P.value port.new) log.old.items log.new.items answers result) }
     ensures capacity { vec_capacity log.new ≡ vec_capacity log.old }
     ensures room { vec_len log.new + lines_made (Some (OfMem list.now.command list.now.order list.now.items.now)) at.old.done ≤ vec_len log.old + lines_made (Some (OfMem list.now.command list.now.order list.now.items.now)) at.new.done }
     ensures rests { Rests (P.value port.new) }
     ensures warm { IsWarm (P.value port.new) }
-    ensures says { (n : ℕ) → says gate.new n ≡ says gate.old n }
-    ensures paces { paces gate.new ≡ paces gate.old }
-    ensures calm { calm gate.old ≡ true → (is_due_answer result ≡ false) × (calm gate.new ≡ true) }
 {
     if let Some(refusal) = list.refusal() {
         at.done = 0;

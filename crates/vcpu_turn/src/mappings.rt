@@ -4,9 +4,10 @@ ghost use Rattle.xp_board.specs.Readings.{domain_of};
 ghost use Rattle.step_maker.specs.Holds.{Rests};
 ghost use Rattle.mmuext_ops.specs.Elements.{KnowsAwaited};
 ghost use Rattle.vcpu_turn.specs.Cpus.{awaited_behind};
-ghost use Rattle.vcpu_turn.specs.Lists.{Answering, is_due_answer};
+ghost use Rattle.vcpu_turn.specs.Lists.{is_due_answer};
 ghost use Rattle.vcpu_turn.specs.Mappings.{AwaitsBehind, AwaitsWhere, DropsBehind, DropsOwn, IsUnpaused, MapsWord, UpdatesWord, done_behind, is_bad_flags, own_drop, waits_for_all};
 ghost use Rattle.vcpu_turn.specs.Settling.{IsWarm, SettlesFirst};
+ghost use Rattle.xp_preempt.specs.Gates.{AskedPast};
 
 use foreign_map::owner_for;
 use level_release::settle;
@@ -78,12 +79,9 @@ fn update_entry<P: Port>(
     requires rests { Rests (P.value port.old) }
     requires warm { IsWarm (P.value port.old) }
     ensures post { (P.value port.new).post ≡ (P.value port.old).post }
-    ensures updates { Answering (λ answers. SettlesFirst (UpdatesWord domain mapping.now.foreign mapping.now.va mapping.now.word mapping.now.flags) (P.value port.old) (P.value port.new) answers result) (says gate.old) (count_asks gate.old) (count_asks gate.new) (count_yes gate.old) (count_yes gate.new) (is_due_answer result) }
+    ensures updates { AskedPast (value gate.old) (value gate.new) (is_due_answer result) (λ answers. SettlesFirst (UpdatesWord domain mapping.now.foreign mapping.now.va mapping.now.word mapping.now.flags) (P.value port.old) (P.value port.new) answers result) }
     ensures rests { Rests (P.value port.new) }
     ensures warm { IsWarm (P.value port.new) }
-    ensures says { (n : ℕ) → says gate.new n ≡ says gate.old n }
-    ensures paces { paces gate.new ≡ paces gate.old }
-    ensures calm { calm gate.old ≡ true → (is_due_answer result ≡ false) × (calm gate.new ≡ true) }
 {
     settle(port, gate, &mut None)?;
     if mapping.foreign >= DOMAINS {
@@ -166,13 +164,10 @@ pub(crate) fn map_word<P: Port>(
     requires warm { IsWarm (P.value port.old) }
     ensures post { (P.value port.new).post ≡ (P.value port.old).post }
     ensures within { done.new ≤ 1 }
-    ensures works { Answering (λ answers. MapsWord domain mapping.now.foreign mapping.now.va mapping.now.word mapping.now.flags awaited (P.value port.old) done.old done.new (P.value port.new) answers result) (says gate.old) (count_asks gate.old) (count_asks gate.new) (count_yes gate.old) (count_yes gate.new) (is_due_answer result) }
+    ensures works { AskedPast (value gate.old) (value gate.new) (is_due_answer result) (λ answers. MapsWord domain mapping.now.foreign mapping.now.va mapping.now.word mapping.now.flags awaited (P.value port.old) done.old done.new (P.value port.new) answers result) }
     ensures awaits { AwaitsWhere (P.value port.new) done.new result }
     ensures rests { Rests (P.value port.new) }
     ensures warm { IsWarm (P.value port.new) }
-    ensures says { (n : ℕ) → says gate.new n ≡ says gate.old n }
-    ensures paces { paces gate.new ≡ paces gate.old }
-    ensures calm { calm gate.old ≡ true → (is_due_answer result ≡ false) × (calm gate.new ≡ true) }
 {
     if *done == 0 {
         update_entry(port, gate, domain, mapping)?;

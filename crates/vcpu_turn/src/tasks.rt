@@ -4,9 +4,10 @@ ghost use Rattle.xp_board.specs.Readings.{domain_of};
 ghost use Rattle.step_maker.specs.Holds.{Rests};
 ghost use Rattle.mmuext_ops.specs.Elements.{KnowsAwaited};
 ghost use Rattle.vcpu_turn.specs.Cpus.{awaited_in, awaited_left, elements_in, left_waiting, lines_made, room_of, task_for, task_in, viewed};
-ghost use Rattle.vcpu_turn.specs.Lists.{Answering, is_due_answer};
+ghost use Rattle.vcpu_turn.specs.Lists.{is_due_answer};
 ghost use Rattle.vcpu_turn.specs.Settling.{IsWarm};
 ghost use Rattle.vcpu_turn.specs.Working.{WentOn};
+ghost use Rattle.xp_preempt.specs.Gates.{AskedPast};
 
 use crate::accesses::{read, write};
 use crate::cpu::{CallNumber, Progress};
@@ -195,14 +196,11 @@ fn go_from<P: Port>(
     ensures post { (P.value port.new).post ≡ (P.value port.old).post }
     ensures within { at.new.done ≤ elements_in (task_for piece.entry) }
     ensures awaits { KnowsAwaited (P.value port.new) (awaited_left (task_for piece.entry) at.new.done result) }
-    ensures went { Answering (λ answers. WentOn domain (task_for piece.entry) number (P.value port.old) at.old (left_waiting (task_for piece.entry) at.new result) (P.value port.new) log.old.items log.new.items answers result) (says gate.old) (count_asks gate.old) (count_asks gate.new) (count_yes gate.old) (count_yes gate.new) (is_due_answer result) }
+    ensures went { AskedPast (value gate.old) (value gate.new) (is_due_answer result) (λ answers. WentOn domain (task_for piece.entry) number (P.value port.old) at.old (left_waiting (task_for piece.entry) at.new result) (P.value port.new) log.old.items log.new.items answers result) }
     ensures capacity { vec_capacity log.new ≡ vec_capacity log.old }
     ensures room { vec_len log.new + lines_made (task_for piece.entry) at.old.done ≤ vec_len log.old + lines_made (task_for piece.entry) at.new.done }
     ensures rests { Rests (P.value port.new) }
     ensures warm { IsWarm (P.value port.new) }
-    ensures says { (n : ℕ) → says gate.new n ≡ says gate.old n }
-    ensures paces { paces gate.new ≡ paces gate.old }
-    ensures calm { calm gate.old ≡ true → (is_due_answer result ≡ false) × (calm gate.new ≡ true) }
 {
     match task_of(piece) {
         None => {
@@ -271,14 +269,11 @@ pub(crate) fn work_on<P: Port>(
     ensures post { (P.value port.new).post ≡ (P.value port.old).post }
     ensures within { at.new.done ≤ elements_in (task_for piece.entry) }
     ensures awaits { KnowsAwaited (P.value port.new) at.new.awaited }
-    ensures went { Answering (λ answers. WentOn domain (task_for piece.entry) number (P.value port.old) at.old at.new (P.value port.new) log.old.items log.new.items answers result) (says gate.old) (count_asks gate.old) (count_asks gate.new) (count_yes gate.old) (count_yes gate.new) (is_due_answer result) }
+    ensures went { AskedPast (value gate.old) (value gate.new) (is_due_answer result) (λ answers. WentOn domain (task_for piece.entry) number (P.value port.old) at.old at.new (P.value port.new) log.old.items log.new.items answers result) }
     ensures capacity { vec_capacity log.new ≡ vec_capacity log.old }
     ensures room { vec_len log.new + lines_made (task_for piece.entry) at.old.done ≤ vec_len log.old + lines_made (task_for piece.entry) at.new.done }
     ensures rests { Rests (P.value port.new) }
     ensures warm { IsWarm (P.value port.new) }
-    ensures says { (n : ℕ) → says gate.new n ≡ says gate.old n }
-    ensures paces { paces gate.new ≡ paces gate.old }
-    ensures calm { calm gate.old ≡ true → (is_due_answer result ≡ false) × (calm gate.new ≡ true) }
 {
     let answer = go_from(port, gate, domain, piece, number, at, log);
     at.awaited = awaited_left(piece, at.done, answer);

@@ -6,10 +6,10 @@ ghost use Rattle.mmuext_ops.specs.Elements.{KnowsAwaited};
 ghost use Rattle.domain_destroy.specs.Emptying.{NamesNone};
 ghost use Rattle.vcpu_turn.specs.Cpus.{after_turn, end_of, job_next, next_of, reply_of};
 ghost use Rattle.vcpu_turn.specs.Destroying.{KnowsPlace};
-ghost use Rattle.vcpu_turn.specs.Lists.{Answering};
 ghost use Rattle.vcpu_turn.specs.Settling.{IsWarm};
 ghost use Rattle.vcpu_turn.specs.Turning.{DiesBy, EndsTurn, Idles, TurnBy, IsOf, MakesStop, StopsWhere, NextWentOn, asks_due, is_due};
 ghost use Rattle.vcpu_turn.specs.declared.cpu.TurnEnd.TheVariants.{Answered};
+ghost use Rattle.xp_preempt.specs.Gates.{AskedPast};
 
 use crate::beginning::begin;
 use crate::calls::{done_at, go_on_with};
@@ -34,11 +34,8 @@ fn go_on<P: Port>(port: &mut P, cpu: &mut Cpu, gate: &mut dyn Preempt) -> Option
     ensures post { (P.value port.new).post ≡ (P.value port.old).post }
     ensures awaits { KnowsAwaited (P.value port.new) cpu.new.at.awaited }
     ensures place { IfSome result (λ answer. IfErr answer (λ e. KnowsPlace (P.value port.new) (job_next (next_of cpu.old)) (cpu.old.answered + 1) cpu.new.at cpu.new.log)) }
-    ensures worked { Answering (λ answers. NextWentOn (next_of cpu.old) cpu.old cpu.new (P.value port.old) (P.value port.new) answers result) (says gate.old) (count_asks gate.old) (count_asks gate.new) (count_yes gate.old) (count_yes gate.new) (asks_due result) }
+    ensures worked { AskedPast (value gate.old) (value gate.new) (asks_due result) (λ answers. NextWentOn (next_of cpu.old) cpu.old cpu.new (P.value port.old) (P.value port.new) answers result) }
     ensures rests { Rests (P.value port.new) }
-    ensures says { (n : ℕ) → says gate.new n ≡ says gate.old n }
-    ensures paces { paces gate.new ≡ paces gate.old }
-    ensures calm { calm gate.old ≡ true → (asks_due result ≡ false) × (calm gate.new ≡ true) }
 {
     match cpu.script.as_slice().get(cpu.answered) {
         None => None,
@@ -149,11 +146,8 @@ pub fn turn<P: Port>(port: &mut P, cpu: &mut Cpu, gate: &mut dyn Preempt) -> Tur
     requires of { IsOf (P.value port.old) cpu.old }
     ensures post { (P.value port.new).post ≡ (P.value port.old).post }
     // The turn and the answers of its gate; it is paused for the gate only where that said yes last.
-    ensures turn { Answering (λ answers. TurnBy cpu.old.retired cpu.old cpu.new result (P.value port.old) (P.value port.new) answers) (says gate.old) (count_asks gate.old) (count_asks gate.new) (count_yes gate.old) (count_yes gate.new) (is_due result) }
+    ensures turn { AskedPast (value gate.old) (value gate.new) (is_due result) (λ answers. TurnBy cpu.old.retired cpu.old cpu.new result (P.value port.old) (P.value port.new) answers) }
     ensures of { IsOf (P.value port.new) cpu.new }
-    ensures says { (n : ℕ) → says gate.new n ≡ says gate.old n }
-    ensures paces { paces gate.new ≡ paces gate.old }
-    ensures calm { calm gate.old ≡ true → (is_due result ≡ false) × (calm gate.new ≡ true) }
 {
     if cpu.retired {
         return TurnEnd::Retired;

@@ -2,10 +2,11 @@
 ghost use Rattle.std.specs.Prelude.{ℕ, ◌≡◌, ◌≤◌, true, false, length};
 ghost use Rattle.xp_board.specs.Readings.{domain_of};
 ghost use Rattle.step_maker.specs.Holds.{Rests};
-ghost use Rattle.vcpu_turn.specs.Lists.{Answering, is_due_answer, WorksThrough};
+ghost use Rattle.vcpu_turn.specs.Lists.{is_due_answer, WorksThrough};
 ghost use Rattle.vcpu_turn.specs.Pairs.{WorksOwned};
 ghost use Rattle.vcpu_turn.specs.Settling.{IsWarm};
 ghost use Rattle.vcpu_turn.specs.Working.{valued};
+ghost use Rattle.xp_preempt.specs.Gates.{AskedPast};
 
 use crate::lists::{Items, go_on};
 use crate::pairs::OwnedPairs;
@@ -30,11 +31,8 @@ pub(crate) fn go_through<P: Port, L: Items>(
     ensures suits { L.suits items.now (P.value port.new) }
     ensures post { (P.value port.new).post ≡ (P.value port.old).post }
     ensures within { done.new ≤ L.count items.now }
-    ensures works { Answering (λ answers. WorksThrough (L.fits items.now) (L.count items.now) (P.value port.old) done.old done.new (P.value port.new) answers result) (says gate.old) (count_asks gate.old) (count_asks gate.new) (count_yes gate.old) (count_yes gate.new) (is_due_answer result) }
+    ensures works { AskedPast (value gate.old) (value gate.new) (is_due_answer result) (λ answers. WorksThrough (L.fits items.now) (L.count items.now) (P.value port.old) done.old done.new (P.value port.new) answers result) }
     ensures rests { Rests (P.value port.new) }
-    ensures says { (n : ℕ) → says gate.new n ≡ says gate.old n }
-    ensures paces { paces gate.new ≡ paces gate.old }
-    ensures calm { calm gate.old ≡ true → (is_due_answer result ≡ false) × (calm gate.new ≡ true) }
 {
     if items.len() > LONGEST {
         *done = 0;
@@ -62,11 +60,8 @@ pub(crate) fn go_through_pairs<P: Port>(
     ensures warm { IsWarm (P.value port.new) }
     ensures post { (P.value port.new).post ≡ (P.value port.old).post }
     ensures within { done.new ≤ length pairs.now }
-    ensures works { Answering (λ answers. WorksOwned domain foreign pairs.now (P.value port.old) done.old done.new (P.value port.new) answers result) (says gate.old) (count_asks gate.old) (count_asks gate.new) (count_yes gate.old) (count_yes gate.new) (is_due_answer result) }
+    ensures works { AskedPast (value gate.old) (value gate.new) (is_due_answer result) (λ answers. WorksOwned domain foreign pairs.now (P.value port.old) done.old done.new (P.value port.new) answers result) }
     ensures rests { Rests (P.value port.new) }
-    ensures says { (n : ℕ) → says gate.new n ≡ says gate.old n }
-    ensures paces { paces gate.new ≡ paces gate.old }
-    ensures calm { calm gate.old ≡ true → (is_due_answer result ≡ false) × (calm gate.new ≡ true) }
 {
     if pairs.len() > LONGEST {
         *done = 0;

@@ -2,12 +2,11 @@
 use Rattle.std.proofs.Common.{◌≡◌, ℕ, ◌+◌, ◌-◌, ◌<◌, true, List, ◌∷◌, ◌++◌, slice_get, Option, Some, sym, subst}
 use Rattle.xp_words.specs.Machine.{Machine}
 use Rattle.xp_words.specs.declared.ops.Op.{Op}
-use Rattle.xp_preempt.specs.Gates.{Heard, last_ask}
+use Rattle.xp_preempt.specs.Gates.{Gate, Heard, last_ask}
 use Rattle.vcpu_turn.specs.Asking.{CallGone, HearsNoWithin, asks_within, calls_of, elements_of, elements_tried}
 use Rattle.vcpu_turn.specs.CallAsks.{CallStops, LastCallStops, asks_before, asks_first}
 use Rattle.vcpu_turn.specs.Cpus.{OfOne, job_of}
 use Rattle.vcpu_runners.specs.Turns.{Processing, Task, begins_at, is_due, next_of}
-use Rattle.vcpu_runners.specs.Gates.{Gate}
 use Rattle.xp_machine.specs.Turns.{MakesStagedTurn, Stage, StaysWithin}
 use Rattle.vcpu_turn.proofs.Asking.{turn_within}
 use Rattle.vcpu_turn.proofs.CallYeses.{call_stops, last_stops}
@@ -47,4 +46,4 @@ own_last_stops n v c s t g j m has hears some less is_yes =
 pub own_turn_hears : (n : Machine) (v : ℕ) (c : Processing) (s t : Stage) (m : MakesStagedTurn n v c s t) → HearsNoWithin (elements_tried m.turn) → Heard m.gate.says m.gate.asks m.asked.asks (is_due m.end)
 own_turn_hears n v c s t m hears =
     subst (λ k. Heard m.gate.says m.gate.asks k (is_due m.end)) (sym m.consulted.asks)
-    (turn_heard c m.after m.end m.from m.to m.gate.asks m.answers m.gate.says m.turn hears m.consulted.gives m.consulted.due_is)
+    (turn_heard c m.after m.end m.from m.to m.gate.asks m.answers m.gate.says m.turn hears m.consulted.gives m.consulted.due)

@@ -12,7 +12,6 @@ use Rattle.answer_laws.specs.Alone.{IsAlone}
 use Rattle.shared_board.specs.Board.{Board, port_value}
 use Rattle.vcpu_runners.specs.Turns.{IsOf, Processing, StopsWhere, next_of}
 use Rattle.vcpu_runners.specs.Cpus.{IsShort}
-use Rattle.vcpu_runners.specs.Gates.{Gate}
 use Rattle.xp_machine.specs.Ready.{Ready}
 use Rattle.vcpu_runners.specs.Runners.{TakesTurnBy}
 use Rattle.vcpu_turn.proofs.Scripts.{turn_script}
@@ -21,6 +20,7 @@ use Rattle.vcpu_turn.proofs.Hindering.{AloneStays, NeitherLostNorBusy, NobodyWai
 use Rattle.vcpu_turn.proofs.TurnSteps.{turn_came, stop_came}
 use Rattle.vcpu_turn.proofs.Unlosing.{NothingLost, turn_spared}
 use Rattle.xp_machine.proofs.Moving.{Stepping, moved_none, stepping, same_story, ready_after, short_at, alone_at, sound_alone}
+use Rattle.xp_preempt.specs.Gates.{Gate}
 
 -- ---- one turn or one stop
 pub record Done (DoesNext : Stage → Stage → Type 0) (b b2 : Board) (cpus cpus2 : List Processing) (gates gates2 : List Gate) : Type 0 where

@@ -1,7 +1,8 @@
 -- Gates are told the pace one after the other.
 use Rattle.std.proofs.Common.{◌≡◌, ℕ, zero, suc, ◌+◌, ◌<◌, List, [], ◌∷◌, length, map, sym, ap, ◌∙◌, subst, add-one, slice_set, slice_index_or, arith}
 use Rattle.std.proofs.lemmas.List.{length-map}
-use Rattle.vcpu_runners.specs.Gates.{Gate, IsPaced, ArePaced}
+use Rattle.vcpu_runners.specs.Gates.{ArePaced}
+use Rattle.xp_preempt.specs.Gates.{Gate, IsPaced}
 
 -- the first i of them were told it
 abbrev pub PacedTo : ℕ → ℕ → List Gate → List Gate → Type 0

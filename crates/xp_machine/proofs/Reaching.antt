@@ -27,7 +27,6 @@ use Rattle.vcpu_runners.specs.Cpus.{AreShort, IsShort, first_cpu, first_cpus}
 use Rattle.vcpu_runners.specs.Destroyed.{AreDestroyed}
 use Rattle.vcpu_runners.proofs.Gathering.{BuriesListed}
 use Rattle.xp_machine.specs.Cpus.{order}
-use Rattle.vcpu_runners.specs.Gates.{Gate}
 use Rattle.xp_machine.specs.Ran.{RanTo, first_gates}
 use Rattle.xp_machine.specs.Ready.{Ready, TakesFresh}
 use Rattle.xp_machine.specs.Turns.{Stage, WorksOff, stage}
@@ -35,6 +34,7 @@ use Rattle.xp_machine.proofs.Fresh.{of_fresh}
 use Rattle.xp_machine.proofs.Moving.{empty_at}
 use Rattle.xp_machine.proofs.Starting.{length_first, short_first}
 use Rattle.xp_board.proofs.Numbers.{vcpu_there}
+use Rattle.xp_preempt.specs.Gates.{Gate}
 
 -- what follows of each value follows of the value of a call
 pub if_ok : {A E : Type 0} (r : Result A E) (P Q : A → Type 0) → ((x : A) → P x → Q x) → IfOk r P → IfOk r Q

@@ -17,12 +17,12 @@ use Rattle.vcpu_runners.specs.Replayed.{AreFirst, RanInThreads, port_with}
 use Rattle.vcpu_runners.proofs.Turning.{short_behind}
 use Rattle.vcpu_runners.specs.Turns.{IsOf, Processing, fresh}
 use Rattle.vcpu_runners.specs.Cpus.{AreShort, IsShort, first_cpus}
-use Rattle.vcpu_runners.specs.Gates.{Gate}
 use Rattle.xp_machine.specs.Ran.{first_gates}
 use Rattle.xp_machine.specs.Replay.{ReplayedTo}
 use Rattle.xp_machine.proofs.Fresh.{of_fresh}
 use Rattle.xp_machine.proofs.Reaching.{empty_idles, first_at, runs_at_first}
 use Rattle.xp_machine.proofs.Starting.{length_first, short_first}
+use Rattle.xp_preempt.specs.Gates.{Gate}
 
 -- the board as the trace has it
 board_is : (t : Trace) (b : BoardValue) (opened : List ℕ) → b.machine ≡ t.layout → b.opening ≡ opened → b ≡ record { table = b.table; machine = t.layout; opening = opened }

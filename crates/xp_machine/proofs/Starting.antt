@@ -9,7 +9,7 @@ use Rattle.std.proofs.lemmas.List.Sums.{get_or-le-sum_by, sum_by-cons}
 use Rattle.xp_words.specs.declared.ops.Op.{Op}
 use Rattle.xp_words.specs.Machine.{Machine}
 use Rattle.vcpu_runners.specs.Cpus.{IsShort, AreShort, first_cpu, first_cpus}
-use Rattle.vcpu_runners.specs.Gates.{Gate}
+use Rattle.xp_preempt.specs.Gates.{Gate}
 
 -- ---- numbers, scripts and gates side by side
 numbered : (a : ℕ) (scripts : List (List Op)) → zip (range_with_len a (length scripts)) scripts ≡ enumerate_from a scripts

@@ -7,13 +7,14 @@ use Rattle.trace_text.specs.TraceOf.{Fault, trace_of}
 use Rattle.xp_machine.specs.declared.status.Status.{Status}
 use Rattle.xp_machine.specs.declared.status.Status.TheVariants as status
 use Rattle.xp_machine.specs.Texts.{fault_text, fault_status}
-use Rattle.vcpu_runners.specs.Gates.{Gate, SetBy}
+use Rattle.vcpu_runners.specs.Gates.{SetBy}
 use Rattle.command_words.specs.declared.asked.Asked.{Asked}
 use Rattle.command_words.specs.declared.asked.Asked.TheVariants.{Run, Generate}
 use Rattle.command_words.specs.declared.asked.Manner.{Manner}
 use Rattle.command_words.specs.declared.asked.Manner.TheVariants as manners
 use Rattle.xp_machine.specs.Ran.{RanGenerated, RanTrace}
 use Rattle.xp_machine.specs.Replay.{ReplayedTrace}
+use Rattle.xp_preempt.specs.Gates.{Asked, Gate}
 
 -- these bytes were taken: all that were left, or one more than a trace may have, and no further one
 pub record Took (old new : Option (List ℕ)) (bytes : List ℕ) : Type 0 where

@@ -17,8 +17,8 @@ use Rattle.vcpu_runners.specs.Turns.{Processing, pending_of}
 use Rattle.vcpu_runners.specs.Cpus.{first_cpus}
 use Rattle.vcpu_runners.specs.Destroyed.{AreDestroyed}
 use Rattle.xp_machine.specs.Cpus.{order}
-use Rattle.vcpu_runners.specs.Gates.{Gate}
 use Rattle.xp_machine.specs.Turns.{Stage, stage, WorksOff}
+use Rattle.xp_preempt.specs.Gates.{Gate}
 
 -- gate v is that of vCPU v, and the further ones are let go
 abbrev pub first_gates : Machine → List Gate → List Gate

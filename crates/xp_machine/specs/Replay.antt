@@ -7,8 +7,8 @@ use Rattle.report_text.specs.ReportOf.{report_of}
 use Rattle.vcpu_runners.specs.Replayed.{RanInThreads}
 use Rattle.vcpu_runners.specs.Turns.{Processing, pending_of}
 use Rattle.vcpu_runners.specs.Cpus.{first_cpus}
-use Rattle.vcpu_runners.specs.Gates.{Gate}
 use Rattle.xp_machine.specs.Ran.{first_gates, log_of}
+use Rattle.xp_preempt.specs.Gates.{Gate}
 
 -- Words, gates and vCPUs that a run in threads leaves. From the opening words, with empty hands, each vCPU makes turns in a thread of its own, with the own
 -- gate, until it is retired. The order of the turns of different vCPUs, and so the turns that the trace asks for, play no part.

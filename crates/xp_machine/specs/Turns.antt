@@ -9,8 +9,8 @@ use Rattle.xp_board.specs.Told.{PortValue, Story}
 use Rattle.vcpu_turn.specs.Unhindered.{IsSparedIn}
 use Rattle.vcpu_runners.specs.Turns.{Processing, TurnEnd, is_due}
 use Rattle.vcpu_runners.specs.Turns as turning
-use Rattle.vcpu_runners.specs.Gates.{Gate, IsConsulted}
 use Rattle.xp_machine.specs.Pieces.{Leads}
+use Rattle.xp_preempt.specs.Gates.{Consulted, Gate}
 
 -- the list of steps, the words and the hands of the board; how far the vCPUs have come; and the gate of each
 pub record Stage : Type 0 where
@@ -43,7 +43,8 @@ pub record MakesStagedTurn (n : Machine) (v : ℕ) (c : Processing) (s s' : Stag
   pub to_is : IsPortOf n v s'.board to
   pub answers : List Bool
   pub turn : turning.IsTurn c after end from to answers
-  pub consulted : IsConsulted gate asked answers (is_due end)
+  pub consulted : Consulted gate asked answers
+  pub due : is_due end ≡ true → ends_yes answers ≡ true
   pub unhindered : IsSparedIn n (turning.next_of c) end
   pub cpus : s'.cpus ≡ slice_set s.cpus v after
   pub gates : s'.gates ≡ slice_set s.gates v asked

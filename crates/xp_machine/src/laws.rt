@@ -3,12 +3,11 @@ ghost use Rattle.std.specs.Prelude.{ℕ, ◌≡◌, ◌+◌, ◌-◌, ◌<◌, �
 ghost use Rattle.xp_words.specs.Machine.{Machine};
 ghost use Rattle.xp_words.specs.declared.ops.Call.{Call};
 ghost use Rattle.xp_words.specs.declared.ops.Op.{Op};
-ghost use Rattle.xp_preempt.specs.Gates.{Heard, last_ask};
+ghost use Rattle.xp_preempt.specs.Gates.{Gate, Heard, last_ask};
 ghost use Rattle.vcpu_turn.specs.Asking.{AsksNothingWithin, CallGone, HearsNoWithin, OfJob, ReleasesNothingBy, asks_within, calls_of, elements_of, elements_tried};
 ghost use Rattle.vcpu_turn.specs.CallAsks.{CallStops, LastCallStops, asks_before, asks_first};
 ghost use Rattle.vcpu_turn.specs.Cpus.{OfCalls, OfOne, job_next, job_of};
 ghost use Rattle.vcpu_runners.specs.Turns.{PassesYes, Processing, Task, Tried, begins_at, is_due, next_of, task_of};
-ghost use Rattle.vcpu_runners.specs.Gates.{Gate};
 ghost use Rattle.xp_machine.specs.Turns.{MakesStagedTurn, Stage, StaysWithin};
 
 /// In a turn in which no element is done past a yes the gate of that vCPU says no at each ask, but for the last one where the turn is paused for it.

@@ -1,7 +1,6 @@
 //! The two manners in which a trace is run.
 ghost use Rattle.std.specs.Prelude.{◌≤◌, map, vec_len, IfOk};
 ghost use Rattle.trace_text.specs.WellFormed.{IsWellFormed};
-ghost use Rattle.vcpu_runners.specs.Gates.{gate_of};
 ghost use Rattle.xp_machine.specs.Outcome.{RanBy};
 
 use crate::execute::execute;
@@ -17,7 +16,6 @@ pub(crate) trait Running {
     ghost use Rattle.std.specs.Prelude.{◌≤◌, map, vec_len, IfOk};
     ghost use Rattle.command_words.specs.declared.asked.Manner.{Manner};
     ghost use Rattle.trace_text.specs.WellFormed.{IsWellFormed};
-    ghost use Rattle.vcpu_runners.specs.Gates.{gate_of};
     ghost use Rattle.xp_machine.specs.Outcome.{RanBy};
 
     ghost manner: { Manner };
@@ -34,7 +32,7 @@ pub(crate) trait Running {
         requires well { IsWellFormed trace }
         requires gates { 16 ≤ vec_len gates }
         requires crosses { crosses }
-        ensures { IfOk result (λ v. RanBy manner trace (map (gate_of calm paces count_asks says) gates.items) v.items) };
+        ensures { IfOk result (λ v. RanBy manner trace (map value gates.items) v.items) };
 }
 
 /// In one thread, by the turns that the trace asks for.

@@ -2,7 +2,6 @@ ghost use Rattle.std.specs.Prelude.{◌≡◌, ◌≤◌, length, map, vec_len, 
 ghost use Rattle.xp_words.specs.Places.{size, sizes_of};
 ghost use Rattle.trace_text.specs.WellFormed.{IsWellFormed};
 ghost use Rattle.vcpu_runners.specs.Cpus.{AreShort};
-ghost use Rattle.vcpu_runners.specs.Gates.{gate_of};
 ghost use Rattle.vcpu_runners.specs.Rows.{cpus_of, gates_of};
 ghost use Rattle.xp_machine.specs.Replay.{ReplayedTo, ReplayedTrace};
 
@@ -29,7 +28,7 @@ pub fn replay_words<R: Threads + Wait + Sync>(
 ) -> Result<(SparseWords, Vec<Runner>), AllocError>
     requires well { IsWellFormed trace }
     requires gates { 16 ≤ vec_len gates }
-    ensures ran { IfOk result (λ r. ReplayedTo trace (map (gate_of calm paces count_asks says) gates.items) r.0 (gates_of (gate_of calm paces count_asks says) r.1.items) (cpus_of r.1.items)) }
+    ensures ran { IfOk result (λ r. ReplayedTo trace (map value gates.items) r.0 (gates_of value r.1.items) (cpus_of r.1.items)) }
     ensures words { IfOk result (λ r. length r.0 ≡ size (sizes_of trace.layout)) }
     ensures cpus { IfOk result (λ r. (length r.1.items ≡ (sizes_of trace.layout).vcpus) × AreShort (cpus_of r.1.items)) }
 {
@@ -59,7 +58,7 @@ pub fn replay<R: Threads + Wait + Sync>(
 ) -> Result<Vec<u8>, AllocError>
     requires well { IsWellFormed trace }
     requires gates { 16 ≤ vec_len gates }
-    ensures { IfOk result (λ v. ReplayedTrace trace (map (gate_of calm paces count_asks says) gates.items) v.items) }
+    ensures { IfOk result (λ v. ReplayedTrace trace (map value gates.items) v.items) }
 {
     let layout = trace.layout.copy();
     let (words, runners) = replay_words(rt, alloc, trace, gates)?;

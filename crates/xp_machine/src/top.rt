@@ -1,10 +1,11 @@
 ghost use Rattle.std.specs.Prelude.{◌≡◌, ◌≢◌, ◌≤◌, ◌↔◌, ◌⊎◌, None, false, map, string_bytes, List, ℕ, length, vec_len, IfOk, IsErrOf};
 ghost use Rattle.xp_io.specs.Causes.{Rose};
 ghost use Rattle.trace_text.specs.TraceOf.{trace_of};
-ghost use Rattle.vcpu_runners.specs.Gates.{ArePaced, Gate, IsPaced, gate_of};
+ghost use Rattle.vcpu_runners.specs.Gates.{ArePaced};
 ghost use Rattle.xp_machine.specs.Outcome.{GeneratedOutcome, IsAnswer, IsDue, Outcome, OutcomeBy, reads_trace, serial_of};
 ghost use Rattle.command_words.specs.Words.{words_ask};
 ghost use Rattle.command_words.specs.declared.asked.Manner.{Manner};
+ghost use Rattle.xp_preempt.specs.Gates.{Asked, Gate, IsPaced};
 
 use crate::execute::execute_generated;
 use crate::running::{InThreads, InTurns, Running};
@@ -36,7 +37,7 @@ fn answer<M: Running>(
 ) -> Result<Due, AllocError>
     requires gates { 16 ≤ vec_len gates }
     requires crosses { M.crosses }
-    ensures { IfOk result (λ d. IsAnswer M.manner (map (gate_of calm paces count_asks says) gates.items) (trace_of bytes.now) d.status d.text.items) }
+    ensures { IfOk result (λ d. IsAnswer M.manner (map value gates.items) (trace_of bytes.now) d.status d.text.items) }
 {
     match read_trace(alloc, bytes) {
         Ok(trace) => {
@@ -91,7 +92,7 @@ fn gather<M: Running, S: Source>(
 ) -> Result<Due, Early>
     requires gates { 16 ≤ vec_len gates }
     requires crosses { M.crosses }
-    ensures due { IfOk result (λ d. IsDue M.manner (map (gate_of calm paces count_asks says) gates.items) (S.left source.old) (S.left source.new) d.status d.text.items) }
+    ensures due { IfOk result (λ d. IsDue M.manner (map value gates.items) (S.left source.old) (S.left source.new) d.status d.text.items) }
     ensures failed { IsErrOf result Early.Failed → Rose (S.faults source.old) (S.faults source.new) }
     ensures later { S.faults source.old ≤ S.faults source.new }
     ensures kept { IfOk result (λ _. S.faults source.new ≡ S.faults source.old) }
@@ -112,13 +113,13 @@ fn gather<M: Running, S: Source>(
 }
 
 fn set_pace(gate: &mut Box<dyn Preempt + Send>, every: u32)
-    ensures { IsPaced every (gate_of calm paces count_asks says gate.old) (gate_of calm paces count_asks says gate.new) }
+    ensures { IsPaced every (value gate.old) (value gate.new) }
 {
     gate.pace(every);
 }
 
 fn set_paces(gates: &mut [Box<dyn Preempt + Send>], every: u32)
-    ensures { ArePaced every (map (gate_of calm paces count_asks says) gates.old) (map (gate_of calm paces count_asks says) gates.new) }
+    ensures { ArePaced every (map value gates.old) (map value gates.new) }
 {
     'gates: for gate in gates.iter_mut() {
         set_pace(gate, every);
@@ -128,7 +129,7 @@ fn set_paces(gates: &mut [Box<dyn Preempt + Send>], every: u32)
 // The gates, each told the pace.
 fn paced(mut gates: Vec<Box<dyn Preempt + Send>>, every: u32) -> Vec<Box<dyn Preempt + Send>>
     ensures len { vec_len result ≡ vec_len gates }
-    ensures paced { ArePaced every (map (gate_of calm paces count_asks says) gates.items) (map (gate_of calm paces count_asks says) result.items) }
+    ensures paced { ArePaced every (map value gates.items) (map value result.items) }
 {
     set_paces(&mut gates, every);
     gates
@@ -144,7 +145,7 @@ fn run_with<M: Running, S: Source, K: Sink>(
 ) -> Status
     requires gates { 16 ≤ vec_len gates }
     requires crosses { M.crosses }
-    ensures outcome { Outcome M.manner (map (gate_of calm paces count_asks says) gates.items) (S.left source.old) (S.left source.new) (K.taken sink.old) (K.taken sink.new) result }
+    ensures outcome { Outcome M.manner (map value gates.items) (S.left source.old) (S.left source.new) (K.taken sink.old) (K.taken sink.new) result }
     ensures words { result ≢ Status.BadWords }
     ensures read { result ≡ Status.ReadFault → Rose (S.faults source.old) (S.faults source.new) }
     ensures write { result ≡ Status.WriteFault → Rose (K.faults sink.old) (K.faults sink.new) }
@@ -171,7 +172,7 @@ fn run_generated<K: Sink>(
     requires least { 1 ≤ operations }
     requires most { operations ≤ 60000 }
     requires gates { 16 ≤ vec_len gates }
-    ensures outcome { (set : List Gate) × ArePaced 0 (map (gate_of calm paces count_asks says) gates.items) set × GeneratedOutcome operations set (K.taken sink.old) (K.taken sink.new) result }
+    ensures outcome { (set : List Gate) × ArePaced 0 (map value gates.items) set × GeneratedOutcome operations set (K.taken sink.old) (K.taken sink.new) result }
     ensures write { result ≡ Status.WriteFault → Rose (K.faults sink.old) (K.faults sink.new) }
     ensures write_kept { result ≢ Status.WriteFault → K.faults sink.new ≡ K.faults sink.old }
 {
@@ -201,7 +202,7 @@ pub fn run<R: Threads + Wait + Sync, S: Source, K: Sink>(
     requires gates { 16 ≤ vec_len gates }
 
     // Which bytes were taken, what they spell, and what was written of the text that is due for it.
-    ensures outcome { OutcomeBy (words_ask (map string_bytes words.now)) (map (gate_of calm paces count_asks says) gates.items) (S.left source.old) (S.left source.new) (K.taken sink.old) (K.taken sink.new) result }
+    ensures outcome { OutcomeBy (words_ask (map string_bytes words.now)) (map value gates.items) (S.left source.old) (S.left source.new) (K.taken sink.old) (K.taken sink.new) result }
 
     // Where no trace is to be read, the source stays as it was.
     ensures unread { reads_trace (words_ask (map string_bytes words.now)) ≡ false → (S.left source.new ≡ S.left source.old) × (S.faults source.new ≡ S.faults source.old) }
@@ -238,7 +239,7 @@ pub fn run_serial<S: Source, K: Sink>(
     gates: Vec<Box<dyn Preempt + Send>>,
 ) -> Status
     requires gates { 16 ≤ vec_len gates }
-    ensures outcome { OutcomeBy (serial_of (words_ask (map string_bytes words.now))) (map (gate_of calm paces count_asks says) gates.items) (S.left source.old) (S.left source.new) (K.taken sink.old) (K.taken sink.new) result }
+    ensures outcome { OutcomeBy (serial_of (words_ask (map string_bytes words.now))) (map value gates.items) (S.left source.old) (S.left source.new) (K.taken sink.old) (K.taken sink.new) result }
     ensures words { result ≡ Status.BadWords → serial_of (words_ask (map string_bytes words.now)) ≡ None }
     ensures known { serial_of (words_ask (map string_bytes words.now)) ≡ None → (result ≡ Status.BadWords) ⊎ (result ≡ Status.Memory) }
     ensures unknown { words_ask (map string_bytes words.now) ≡ None → result ≡ Status.BadWords }

@@ -1,14 +1,8 @@
 -- The answers of a gate by the numbers of its asks.
 use Rattle.std.proofs.Common.{◌≡◌, ℕ, zero, suc, ◌+◌, ◌<◌, ◌≤◌, ◌==◌, if◌then◌else◌, Bool, true, false, List, [], ◌∷◌, length, sym, ap, ◌∙◌, arith, inl, inr}
 use Rattle.std.proofs.lemmas.Bool.{cases_order}
-use Rattle.std.proofs.lemmas.Bool.Decides.{nat_tests}
 use Rattle.xp_preempt.specs.Gates.{GivesAnswers, answer_at, asks_on, last_ask, next_ask, yeses}
-
-pub no : (a b : ℕ) → a ≤ b → b < a → ⊥
-no a b x y = omega (arith, x, y)
-
-not_there : (k c : ℕ) → k < c → (k == c) ≡ false
-not_there k c l = grind (arith, nat_tests)
+use Rattle.xp_preempt.proofs.Hearing.{no, not_there}
 
 -- below the end of the numbers each ask counts
 one_ask : (a : ℕ) → a < last_ask → next_ask a ≡ a + 1

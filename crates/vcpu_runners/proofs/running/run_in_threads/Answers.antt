@@ -2,7 +2,7 @@ use Rattle.std.proofs.Common.{◌≡◌, ◌∙◌, sym, ap, map, length, arith,
 use Rattle.std.proofs.lemmas.Iterator.Adapters.{YieldsList-from_vec}
 use Rattle.std.proofs.lemmas.Iterator.Consumers.{YieldsList-end, YieldsList-turn}
 use Rattle.std.proofs.lemmas.List.{length-map, map-id}
-use Rattle.vcpu_runners.specs.Gates.{gate_of, in_box}
+use Rattle.vcpu_runners.specs.Gates.{in_box}
 use Rattle.vcpu_runners.proofs.Gathering.{may_run, passes_own, ran_in_threads, written_back}
 use Rattle.vcpu_runners.proofs.running.run_in_threads.Goals as goal
 

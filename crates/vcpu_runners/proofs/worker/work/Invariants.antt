@@ -2,7 +2,6 @@ use Rattle.std.proofs.Common.{◌≡◌, false}
 use Rattle.thread_board.specs.Ports.{pass_port}
 use Rattle.vcpu_turn.specs.Turning.{IsOf}
 use Rattle.vcpu_runners.specs.Cpus.{IsShort}
-use Rattle.vcpu_runners.specs.Gates.{gate_of}
 use Rattle.vcpu_runners.specs.Replayed.{TookTurns}
 use Rattle.vcpu_runners.proofs.worker.work.Given as goal
 

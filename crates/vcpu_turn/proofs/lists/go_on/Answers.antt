@@ -42,7 +42,7 @@ returns-clause-works g c =
       answers = inv.answers;
       goes = works_none _ _ _ _ _ _ _ inv.did (omega (arith, past, len, most));
       gate = inv.gate;
-      due_is = λ due. absurd (cc);
+      due = λ due. absurd (cc);
     }
 
 pub loop-done-preserved : goal.loop-done-preserved

@@ -7,7 +7,6 @@ use Rattle.std.proofs.lemmas.Iterator.Adapters.{YieldsList-from_vec}
 use Rattle.std.proofs.lemmas.Iterator.Consumers.{YieldsList-at, YieldsList-turn, YieldsList-end}
 use Rattle.std.proofs.lemmas.List.{map-id}
 use Rattle.vcpu_runners.specs.Cpus.{first_cpu}
-use Rattle.vcpu_runners.specs.Gates.{gate_of}
 use Rattle.xp_machine.proofs.Starting.{cpus_first, gates_first, number_below, script_short}
 use Rattle.xp_machine.proofs.execute.first_runners.Goals as goal
 

@@ -1,6 +1,5 @@
 use Rattle.std.proofs.Common.{◌≡◌, map}
 use Rattle.vcpu_runners.specs.Cpus.{first_cpu}
-use Rattle.vcpu_runners.specs.Gates.{gate_of}
 use Rattle.vcpu_runners.specs.Rows.{gates_of, cpus_of}
 use Rattle.xp_machine.proofs.execute.first_runners.Given as goal
 

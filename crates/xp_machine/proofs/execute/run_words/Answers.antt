@@ -3,7 +3,6 @@ use Rattle.std.proofs.lemmas.List.{length-map}
 use Rattle.trace_text.specs.declared.trace.TurnRun.{TurnRun}
 use Rattle.xp_words.specs.Machine.{Machine}
 use Rattle.xp_words.specs.Places.{size, sizes_of}
-use Rattle.vcpu_runners.specs.Gates.{gate_of}
 use Rattle.xp_machine.specs.Cpus.{order}
 use Rattle.xp_machine.specs.Rows.{stage_of}
 use Rattle.xp_machine.proofs.Reaching.{ran, ready_board}

@@ -1,6 +1,5 @@
 use Rattle.std.proofs.Common.{◌≡◌}
 use Rattle.std.specs.List.{range_with_len}
-use Rattle.vcpu_runners.specs.Gates.{gate_of}
 use Rattle.xp_machine.specs.Turns.{Stops}
 use Rattle.xp_machine.specs.Ready.{Ready}
 use Rattle.vcpu_runners.specs.Rows.{cpus_of}

@@ -1,5 +1,4 @@
 use Rattle.std.proofs.Common.{map}
-use Rattle.vcpu_runners.specs.Gates.{gate_of}
 use Rattle.xp_machine.proofs.Pacing.{PacedTo}
 use Rattle.xp_machine.proofs.top.set_paces.Given as goal
 

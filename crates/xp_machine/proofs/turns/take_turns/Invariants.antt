@@ -1,6 +1,5 @@
 use Rattle.std.proofs.Common.{◌≡◌, take}
 use Rattle.xp_machine.specs.Cpus.{order}
-use Rattle.vcpu_runners.specs.Gates.{gate_of}
 use Rattle.xp_machine.specs.Turns.{Turns}
 use Rattle.xp_machine.specs.Ready.{Ready}
 use Rattle.vcpu_runners.specs.Rows.{cpus_of}

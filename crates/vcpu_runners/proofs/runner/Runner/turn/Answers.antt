@@ -1,5 +1,4 @@
 use Rattle.std.proofs.Common.{refl, rules, sym, ◌∙◌}
-use Rattle.vcpu_runners.specs.Gates.{gate_of}
 use Rattle.vcpu_runners.proofs.Asking.{rests, takes}
 use Rattle.vcpu_runners.proofs.runner.Runner.turn.Goals as goal
 
