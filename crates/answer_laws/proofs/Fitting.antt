@@ -29,7 +29,6 @@ use Rattle.xp_board.proofs.EntryWords.{type_same}
 use Rattle.xp_board.proofs.Sums.{when_eq}
 use Rattle.xp_board.proofs.PlaceTests.{equal_by}
 use Rattle.answer_laws.proofs.Meeting.{none_some, member_may}
-use Rattle.xp_preempt.specs.Gates.{Asked}
 
 each_at : {A : Type 0} (P : A → Type 0) (xs : List A) (x : A) → EachOf P xs → Member x xs → P x
 unfolding EachOf Member

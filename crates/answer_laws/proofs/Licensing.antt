@@ -21,7 +21,6 @@ use Rattle.step_maker.specs.Pauses.{LeftAs, vcpu}
 use Rattle.step_maker.specs.Reasons.{AwaitsStamp, FoundFreeBy, Whose, begun, free, goes_on, marked, other}
 use Rattle.answer_laws.specs.Walked.{SeenBelow}
 use Rattle.answer_laws.proofs.Meeting.{none_some}
-use Rattle.xp_preempt.specs.Gates.{Asked}
 
 -- ---- blocks
 module _ (n : Machine) (s owner size block : ℕ) (F : Finding) where

@@ -15,7 +15,6 @@ use Rattle.step_maker.specs.Answers.{Stops}
 use Rattle.step_maker.specs.Asked.{Request, of_frame, Asked, named, demanded, entered, walked, context, of_old, doomed, Passed, checked, given, old, stands}
 use Rattle.step_maker.specs.Pauses.{AskedTo, IsElsewhere}
 use Rattle.answer_laws.proofs.Meeting.{nobody_in_the_way}
-use Rattle.xp_preempt.specs.Gates.{Asked}
 
 never : (a b : ℕ) → a < b → b ≤ a → ⊥
 never a b x y = omega (arith, x, y)

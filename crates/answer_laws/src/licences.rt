@@ -18,7 +18,6 @@ ghost use Rattle.step_maker.specs.Licences.{HasTakenAll, is_allocated};
 ghost use Rattle.step_maker.specs.Pauses.{LeftAs};
 ghost use Rattle.step_maker.specs.Reasons.{AwaitsStamp, FoundFreeBy, Whose};
 ghost use Rattle.answer_laws.specs.Walked.{SeenBelow};
-ghost use Rattle.xp_preempt.specs.Gates.{Asked};
 
 /// A call that takes a block of frames waits past no clock value but the greatest that it found in that block, all of which it found free: not
 /// past that of another block, nor past that of one frame where another has a later one.

@@ -15,7 +15,6 @@ use Rattle.command_words.specs.declared.asked.Asked.TheVariants.{Run, Generate}
 use Rattle.command_words.specs.declared.asked.Manner.{Manner}
 use Rattle.command_words.proofs.Knowing.{names_itself}
 use Rattle.command_words.proofs.Spellings.{unsigned}
-use Rattle.xp_preempt.specs.Gates.{Asked}
 
 -- the name of the subcommand that has the number
 is_named : (m : ArgMatches) (asked : Asked) (text : Text) → text_found (argument_of asked) (subcommand_rows_of m) ≡ found_with asked text

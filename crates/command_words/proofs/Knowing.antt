@@ -10,7 +10,6 @@ use Rattle.command_words.specs.declared.asked.Manner.{Manner}
 use Rattle.command_words.specs.declared.asked.Manner.TheVariants.{Turns, Replay}
 use Rattle.command_words.proofs.Lists.{Reads, alone, apart, counted, joined}
 use Rattle.command_words.proofs.Spellings.{no_word, spelled}
-use Rattle.xp_preempt.specs.Gates.{Asked}
 
 pub record Known (words : List (List ℕ)) : Type 0 where
   pub asked : Asked

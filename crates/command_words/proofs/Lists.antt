@@ -9,7 +9,6 @@ use Rattle.command_words.specs.declared.asked.Asked.TheVariants.{Run, Generate}
 use Rattle.command_words.specs.declared.asked.Manner.{Manner}
 use Rattle.command_words.specs.declared.asked.Manner.TheVariants.{Turns, Replay}
 use Rattle.command_words.proofs.Spellings.{Spelled}
-use Rattle.xp_preempt.specs.Gates.{Asked}
 
 -- clap takes the words, and finds the command of what is asked, with the text of its number
 pub record Reads (words : List Text) (asked : Asked) (text : Text) : Type 0 where

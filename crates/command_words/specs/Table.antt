@@ -7,7 +7,6 @@ use Rattle.command_words.specs.Words.{name_of}
 use Rattle.command_words.specs.declared.asked.Asked.{Asked}
 use Rattle.command_words.specs.declared.asked.Asked.TheVariants.{Run, Generate}
 use Rattle.command_words.specs.declared.asked.Manner.TheVariants.{Turns, Replay}
-use Rattle.xp_preempt.specs.Gates.{Asked}
 
 -- `--preempt N`, with N up to a million
 abbrev pub preempt : Rule

@@ -7,7 +7,6 @@ use Rattle.command_words.specs.declared.asked.Asked.{Asked}
 use Rattle.command_words.specs.declared.asked.Asked.TheVariants.{Run, Generate}
 use Rattle.command_words.specs.declared.asked.Manner.{Manner}
 use Rattle.command_words.specs.declared.asked.Manner.TheVariants.{Turns, Replay}
-use Rattle.xp_preempt.specs.Gates.{Asked}
 
 abbrev pub within : ℕ → ℕ → Option ℕ → Option ℕ
 within least most None = None

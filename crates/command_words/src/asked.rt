@@ -1,6 +1,5 @@
 ghost use Rattle.std.specs.Prelude.{◌≡◌};
 ghost use Rattle.command_words.specs.Words.{manner_named};
-ghost use Rattle.xp_preempt.specs.Gates.{Asked};
 
 /// How the vCPUs of a trace are run.
 #[derive(Clone, Copy, Debug, PartialEq, Eq)]

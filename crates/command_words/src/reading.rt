@@ -4,7 +4,6 @@ ghost use Rattle.command_words.specs.Words.{words_ask};
 ghost use Rattle.command_words.specs.Table.{argument_of, found_with, generator as generator_app, number_of, paced as paced_app, table, text_found};
 ghost use Rattle.clap.specs.Words.{app_of, subcommand_rows_of};
 ghost use Rattle.clap.specs.declared.builder.command.Command.TheViews.{out-Command};
-ghost use Rattle.xp_preempt.specs.Gates.{Asked};
 
 use crate::asked::{Asked, Manner};
 use crate::known::is_known;

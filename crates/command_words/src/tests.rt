@@ -1,4 +1,3 @@
-ghost use Rattle.xp_preempt.specs.Gates.{Asked};
 use crate::{Asked, Manner, asked_of};
 use std::test::Fail;
 

@@ -21,7 +21,6 @@ use Rattle.count_rule.proofs.Told.{clock_found}
 use Rattle.xp_board.proofs.Sums.{when_eq, when_ne}
 use Rattle.count_rule.proofs.Outcome.{apart, Outcome, is_counted, calm_away, quiet_outcome}
 use Rattle.count_rule.proofs.WalkHands.{same_ran, same_twice}
-use Rattle.xp_preempt.specs.Gates.{Asked}
 
 module _ (n : Machine) (s : ℕ) (x : Step) (m m2 : Place → ℕ) (b c : ℕ → Holdings) (vcpu : s < (sizes_of n).vcpus) (others : (t : ℕ) → t ≢ s → c t ≡ b t) (may : MayAct n s x (b s)) (sound : Sound n m b) where
   -- ---- a word that no part counts

@@ -25,7 +25,7 @@ use Rattle.domain_destroy.specs.Emptying.{NamesNone}
 use Rattle.domain_destroy.proofs.Giving.{other_tests}
 use Rattle.domain_destroy.proofs.Parts.{LooksOnly, destroy_came, found_after, found_before, found_there, left_after, left_before, left_since, looks_serve, looks_then, moved_left, one_look, same_settled, settled_then, went_err, went_same, went_then}
 use Rattle.domain_destroy.proofs.Staying.{found_cleared_stays}
-use Rattle.xp_preempt.specs.Gates.{Asked}
+use Rattle.xp_preempt.specs.Gates.{Gated}
 
 -- ---- what is known of the frames
 abbrev pub ClearedAt : PortValue → ℕ → ℕ → ℕ → Type 0
@@ -162,5 +162,5 @@ module _ {v a b : PortValue} {f x y : ℕ} (d : ℕ) (kind : Moves v a (Kind f) 
       unmarked_past = passed_by answer refl
 
 -- ---- the gate was not asked again
-pub gated_undue : {P : List Bool → Type 0} {says : ℕ → Bool} {a b x y : ℕ} {due : Bool} → due ≡ false → Asked P says a b x y false → Asked P says a b x y due
+pub gated_undue : {P : List Bool → Type 0} {says : ℕ → Bool} {a b x y : ℕ} {due : Bool} → due ≡ false → Gated P says a b x y false → Gated P says a b x y due
 gated_undue undue g = record { answers = g.answers; course = g.went; gate = g.gate; due = undue ∙ g.due }

@@ -17,7 +17,7 @@ use Rattle.domain_destroy.specs.declared.place.DestroyAt.{DestroyAt}
 use Rattle.domain_destroy.proofs.Burying.{IsPastAll, destroy_ends, destroy_stops, lists_stops}
 use Rattle.domain_destroy.proofs.Parts.{destroy_came, gated_as, gated_then}
 use Rattle.domain_destroy.proofs.Phasing.{goes_on_seen, phase_then}
-use Rattle.xp_preempt.specs.Gates.{Asked}
+use Rattle.xp_preempt.specs.Gates.{Gated}
 
 -- the log has no less room
 pub seen_on : (v w : PortValue) (d : ℕ) (at to : DestroyAt) (answers : List Bool) (answer : Result (Unit {0}) Stop) → PhaseWent v w d at to [] answers answer → seen_to at ≤ seen_to to
@@ -34,38 +34,38 @@ module _ (v : PortValue) (d : ℕ) (at : DestroyAt) where
 
     module _ {says : ℕ → Bool} {a b x y : ℕ} {due : Bool} (answer : Result (Unit {0}) Stop) where
       -- and then with the gate
-      pub gated_behind : PhaseWent v u d at by [] [] (Ok tt) → Asked says a b (λ answers. PhaseWent u w d by to [] answers answer) x y due → Asked says a b (λ answers. PhaseWent v w d at to [] answers answer) x y due
+      pub gated_behind : PhaseWent v u d at by [] [] (Ok tt) → Gated says a b (λ answers. PhaseWent u w d by to [] answers answer) x y due → Gated says a b (λ answers. PhaseWent v w d at to [] answers answer) x y due
       gated_behind first second =
           gated_as (λ answers part. subst (λ (xs : List Bool). PhaseWent v w d at to [] xs answer) (append-nil answers) (phase_then v u w d at by to [] answers answer first part)) second
 
       -- or without it
-      pub gated_before : Asked says a b (λ answers. PhaseWent v u d at by [] answers (Ok tt)) x y due → PhaseWent u w d by to [] [] answer → Asked says a b (λ answers. PhaseWent v w d at to [] answers answer) x y due
+      pub gated_before : Gated says a b (λ answers. PhaseWent v u d at by [] answers (Ok tt)) x y due → PhaseWent u w d by to [] [] answer → Gated says a b (λ answers. PhaseWent v w d at to [] answers answer) x y due
       gated_before first second = gated_as (λ answers part. phase_then v u w d at by to answers [] answer part second) first
 
-    pub gated_both : {says later : ℕ → Bool} {a b c x y z : ℕ} {due : Bool} (answer : Result (Unit {0}) Stop) → ((n : ℕ) → later n ≡ says n) → Asked says a b (λ answers. PhaseWent v u d at by [] answers (Ok tt)) x y false →
-        Asked later b c (λ answers. PhaseWent u w d by to [] answers answer) y z due → Asked says a c (λ answers. PhaseWent v w d at to [] answers answer) x z due
+    pub gated_both : {says later : ℕ → Bool} {a b c x y z : ℕ} {due : Bool} (answer : Result (Unit {0}) Stop) → ((n : ℕ) → later n ≡ says n) → Gated says a b (λ answers. PhaseWent v u d at by [] answers (Ok tt)) x y false →
+        Gated later b c (λ answers. PhaseWent u w d by to [] answers answer) y z due → Gated says a c (λ answers. PhaseWent v w d at to [] answers answer) x z due
     gated_both answer same first second = gated_then same (λ answers more one two. phase_then v u w d at by to answers more answer one two) first second
 
   -- it stopped
   module _ {says : ℕ → Bool} {a b x y : ℕ} {due : Bool} (w : PortValue) (to : DestroyAt) (op : ℕ) (log : List LogLine) where
-    pub gated_stops : (e : Stop) (answer : Result ℕ Stop) → answer ≡ Err e → due ≡ is_due_stop e → HasComeTo w d to op log → Asked says a b (λ answers. PhaseWent v w d at to [] answers (Err e)) x y due →
-        Asked says a b (λ answers. DomainDestroyed v w d op at to log log answers answer) x y (is_due_answer answer)
+    pub gated_stops : (e : Stop) (answer : Result ℕ Stop) → answer ≡ Err e → due ≡ is_due_stop e → HasComeTo w d to op log → Gated says a b (λ answers. PhaseWent v w d at to [] answers (Err e)) x y due →
+        Gated says a b (λ answers. DomainDestroyed v w d op at to log log answers answer) x y (is_due_answer answer)
     gated_stops e answer was same come went =
-        subst (λ (r : Result ℕ Stop). Asked says a b (λ answers. DomainDestroyed v w d op at to log log answers r) x y (is_due_answer r)) (sym was)
-        (subst (λ (t : Bool). Asked says a b (λ answers. DomainDestroyed v w d op at to log log answers (Err e)) x y t) same
+        subst (λ (r : Result ℕ Stop). Gated says a b (λ answers. DomainDestroyed v w d op at to log log answers r) x y (is_due_answer r)) (sym was)
+        (subst (λ (t : Bool). Gated says a b (λ answers. DomainDestroyed v w d op at to log log answers (Err e)) x y t) same
         (gated_as (λ answers part. destroy_stops v w d op at to log log answers e [] part (sym (append-nil log)) come) went))
 
     -- as the frames are listed
     pub gated_lists : (u : PortValue) (by : DestroyAt) (log' : List LogLine) (e : Stop) (answer : Result ℕ Stop) → answer ≡ Err e → due ≡ is_due_stop e → HasComeTo w d to op log' → ListsAll d op u by log w to log' (Err e) →
-        Asked says a b (λ answers. PhaseWent v u d at by [] answers (Ok tt)) x y due → Asked says a b (λ answers. DomainDestroyed v w d op at to log log' answers answer) x y (is_due_answer answer)
+        Gated says a b (λ answers. PhaseWent v u d at by [] answers (Ok tt)) x y due → Gated says a b (λ answers. DomainDestroyed v w d op at to log log' answers answer) x y (is_due_answer answer)
     gated_lists u by log' e answer was same come lists went =
-        subst (λ (r : Result ℕ Stop). Asked says a b (λ answers. DomainDestroyed v w d op at to log log' answers r) x y (is_due_answer r)) (sym was)
-        (subst (λ (t : Bool). Asked says a b (λ answers. DomainDestroyed v w d op at to log log' answers (Err e)) x y t) same
+        subst (λ (r : Result ℕ Stop). Gated says a b (λ answers. DomainDestroyed v w d op at to log log' answers r) x y (is_due_answer r)) (sym was)
+        (subst (λ (t : Bool). Gated says a b (λ answers. DomainDestroyed v w d op at to log log' answers (Err e)) x y t) same
         (gated_as (λ answers part. lists_stops v u w d op at by to log log' answers e part lists come) went))
 
     -- or it came to its end
     pub gated_ends : (u z : PortValue) (by : DestroyAt) (log' : List LogLine) (left found : ℕ) → HasComeTo w d to op log' → ListsAll d op u by log w to log' (Ok left) → IsPastAll w to left → Moves w z (Life d) (Store 255) kinds.Life None found → Same w z →
-        Asked says a b (λ answers. PhaseWent v u d at by [] answers (Ok tt)) x y due → Asked says a b (λ answers. DomainDestroyed v z d op at to log log' answers (Ok left)) x y due
+        Gated says a b (λ answers. PhaseWent v u d at by [] answers (Ok tt)) x y due → Gated says a b (λ answers. DomainDestroyed v z d op at to log log' answers (Ok left)) x y due
     gated_ends u z by log' left found come lists past m same went =
         gated_as (λ answers part. destroy_ends v u w z d op at by to log log' answers left found part lists past come m same) went
 

@@ -6,7 +6,7 @@ use Rattle.xp_words.specs.declared.place.Place.TheVariants.{Vcpu}
 use Rattle.xp_words.specs.declared.reply.Pause.TheVariants.{Due}
 use Rattle.xp_words.specs.declared.reply.Stop.{Stop}
 use Rattle.xp_words.specs.declared.reply.Stop.TheVariants.{Paused}
-use Rattle.xp_preempt.specs.Gates.{Asked, answer_at, next_ask}
+use Rattle.xp_preempt.specs.Gates.{Gated, answer_at, next_ask}
 use Rattle.xp_board.specs.Readings.{domain_of, is_context}
 use Rattle.xp_board.specs.Steps.{some_since}
 use Rattle.xp_board.specs.Told.{Post, PortValue}
@@ -71,27 +71,27 @@ module _ (v u w : PortValue) (d from k : ℕ) (real : k < length u.post.machine.
   abbrev pub One : Result Bool Stop → List Bool → Type 0
   One answer more = PartWent u w d (EmptiesOne d k u w more answer) answer
 
-  module _ {says now : ℕ → Bool} {a b c x y z : ℕ} (same : (n : ℕ) → now n ≡ says n) (before : Asked Before says a b x y false) where
-    pub phase_stopped : (e : Stop) → Asked (One (Err e)) now b c y z (is_due_stop e) → Asked says a c (λ answers. PhaseWent v w d (Empties from) (Empties k) [] answers (Err e)) x z (is_due_stop e)
+  module _ {says now : ℕ → Bool} {a b c x y z : ℕ} (same : (n : ℕ) → now n ≡ says n) (before : Gated Before says a b x y false) where
+    pub phase_stopped : (e : Stop) → Gated (One (Err e)) now b c y z (is_due_stop e) → Gated says a c (λ answers. PhaseWent v w d (Empties from) (Empties k) [] answers (Err e)) x z (is_due_stop e)
     phase_stopped e one =
         phase_then v u w d (Empties from) (Empties k) (Empties k) (Err e) same before (gated_as (λ more p. went_err u w d e p (course.Advances.unemptied k w more e real p.course)) one)
 
     -- another domain's: the gate is not asked
-    pub phase_over : (passed : Bool) → passed ≡ false → Asked (One (Ok passed)) now b c y z false → Asked says a c (λ answers. PhaseWent v w d (Empties from) (Empties (k + 1)) [] answers (Ok tt)) x z false
+    pub phase_over : (passed : Bool) → passed ≡ false → Gated (One (Ok passed)) now b c y z false → Gated says a c (λ answers. PhaseWent v w d (Empties from) (Empties (k + 1)) [] answers (Ok tt)) x z false
     phase_over true is one = absurd cc
     phase_over false is one =
         phase_then v u w d (Empties from) (Empties k) (Empties (k + 1)) (Ok tt) same before (gated_as (λ more p. went_ok u w d false tt p (course.Advances.emptied k w more false real p.course)) one)
 
     module _ {later : ℕ → Bool} {e f : ℕ} (still : (n : ℕ) → later n ≡ now n) (asked : e ≡ next_ask c) where
-      pub phase_on : (passed : Bool) → passed ≡ true → false ≡ answer_at later c → f ≡ z → Asked (One (Ok passed)) now b c y z false →
-          Asked says a e (λ answers. PhaseWent v w d (Empties from) (Empties (k + 1)) [] answers (Ok tt)) x f false
+      pub phase_on : (passed : Bool) → passed ≡ true → false ≡ answer_at later c → f ≡ z → Gated (One (Ok passed)) now b c y z false →
+          Gated says a e (λ answers. PhaseWent v w d (Empties from) (Empties (k + 1)) [] answers (Ok tt)) x f false
       phase_on false is told rose one = absurd cc
       phase_on true is told rose one =
           phase_then v u w d (Empties from) (Empties k) (Empties (k + 1)) (Ok tt) same before
           (gated_ask still told asked rose (λ more p. went_ok u w d true tt p (course.Advances.emptied k w more true real p.course)) one)
 
-      pub phase_due : (passed : Bool) → passed ≡ true → true ≡ answer_at later c → f ≡ z + 1 → (passed ≡ true → HasPassed u.post.machine (of_domain u.post.machine d true) (Met u w)) → Asked (One (Ok passed)) now b c y z false →
-          Asked says a e (λ answers. PhaseWent v w d (Empties from) (Empties (k + 1)) [] answers (Err (Paused Due))) x f true
+      pub phase_due : (passed : Bool) → passed ≡ true → true ≡ answer_at later c → f ≡ z + 1 → (passed ≡ true → HasPassed u.post.machine (of_domain u.post.machine d true) (Met u w)) → Gated (One (Ok passed)) now b c y z false →
+          Gated says a e (λ answers. PhaseWent v w d (Empties from) (Empties (k + 1)) [] answers (Err (Paused Due))) x f true
       phase_due false is told rose has one = absurd cc
       phase_due true is told rose has one =
           phase_then v u w d (Empties from) (Empties k) (Empties (k + 1)) (Err (Paused Due)) same before

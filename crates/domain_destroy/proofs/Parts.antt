@@ -41,7 +41,7 @@ use Rattle.domain_destroy.specs.Course.{Advances, GoesOn, LeftFrame}
 use Rattle.domain_destroy.specs.Destroying.{PartWent}
 use Rattle.domain_destroy.specs.Emptying.{NamesNone}
 use Rattle.domain_destroy.specs.declared.place.DestroyAt.{DestroyAt}
-use Rattle.xp_preempt.specs.Gates.{Asked}
+use Rattle.xp_preempt.specs.Gates.{Gated}
 
 -- ---- what is in hand
 pub settled_self : (v : PortValue) → SettledHand v v
@@ -259,14 +259,14 @@ goes_on_then d v at u by some answers first _ _ _ _ _ (course.GoesOn.advances x 
     (course.GoesOn.advances x w from to (some ++ s) m (a ++ answers) q answer (goes_on_then d v at u by some answers first x from s a (Ok tt) before) one))
 
 -- ---- gates
-pub gated_none : {P : List Bool → Type 0} {says : ℕ → Bool} {asks positive : ℕ} {due : Bool} → due ≡ false → P [] → Asked P says asks asks positive positive due
+pub gated_none : {P : List Bool → Type 0} {says : ℕ → Bool} {asks positive : ℕ} {due : Bool} → due ≡ false → P [] → Gated P says asks asks positive positive due
 gated_none {says = says} {asks = asks} {positive = positive} undue went = record { answers = []; course = went; gate = consulted_none says asks positive; due = undue }
 
-pub gated_as : {P Q : List Bool → Type 0} {says : ℕ → Bool} {a b x y : ℕ} {due : Bool} → ((answers : List Bool) → P answers → Q answers) → Asked P says a b x y due → Asked Q says a b x y due
+pub gated_as : {P Q : List Bool → Type 0} {says : ℕ → Bool} {a b x y : ℕ} {due : Bool} → ((answers : List Bool) → P answers → Q answers) → Gated P says a b x y due → Gated Q says a b x y due
 gated_as so g = record { answers = g.answers; course = so g.answers g.went; gate = g.gate; due = g.due }
 
 -- behind a part that was not paused, with a gate that says the same
-pub gated_then : {says later : ℕ → Bool} {P Q R : List Bool → Type 0} {a b c x y z : ℕ} {due : Bool} → ((n : ℕ) → later n ≡ says n) → ((answers more : List Bool) → P answers → Q more → R (more ++ answers)) → Asked P says a b x y false → Asked Q later b c y z due → Asked R says a c x z due
+pub gated_then : {says later : ℕ → Bool} {P Q R : List Bool → Type 0} {a b c x y z : ℕ} {due : Bool} → ((n : ℕ) → later n ≡ says n) → ((answers more : List Bool) → P answers → Q more → R (more ++ answers)) → Gated P says a b x y false → Gated Q later b c y z due → Gated R says a c x z due
 gated_then {says} {later} {a = a} {b = b} {c = c} {x = x} {y = y} {z = z} same so first second =
     record {
       answers = second.answers ++ first.answers;

@@ -5,7 +5,7 @@ ghost use Rattle.level_release.specs.Asking.{is_due_answer};
 ghost use Rattle.domain_destroy.specs.Coming.{HasComeTo, seen_to};
 ghost use Rattle.domain_destroy.specs.Destroying.{HasComeSomehow, KeepsComing, ListsAll, PhaseWent, phase_of};
 ghost use Rattle.domain_destroy.specs.Emptying.{NamesNone};
-ghost use Rattle.xp_preempt.specs.Gates.{Asked};
+ghost use Rattle.xp_preempt.specs.Gates.{Gated};
 
 use crate::beginning::begin;
 use crate::clearing::clear_frames;
@@ -66,7 +66,7 @@ pub(crate) fn empty_all<P: Port>(
     requires clear { NamesNone (P.value port.old) }
     requires phase { 2 ≤ phase_of at.old }
     requires come { HasComeSomehow (P.value port.old) domain at.old }
-    ensures went { Asked (value gate.old) (value gate.new) (is_due_answer result) (λ answers. PhaseWent (P.value port.old) (P.value port.new) domain at.old at.new [] answers result) }
+    ensures went { Gated (value gate.old) (value gate.new) (is_due_answer result) (λ answers. PhaseWent (P.value port.old) (P.value port.new) domain at.old at.new [] answers result) }
     ensures come { KeepsComing (P.value port.old) (P.value port.new) domain at.old at.new }
     ensures past { IfOk result (λ _. 3 ≤ phase_of at.new) }
 {
@@ -90,7 +90,7 @@ pub(crate) fn clear_all<P: Port>(
     requires clear { NamesNone (P.value port.old) }
     requires phase { 3 ≤ phase_of at.old }
     requires come { HasComeSomehow (P.value port.old) domain at.old }
-    ensures went { Asked (value gate.old) (value gate.new) (is_due_answer result) (λ answers. PhaseWent (P.value port.old) (P.value port.new) domain at.old at.new [] answers result) }
+    ensures went { Gated (value gate.old) (value gate.new) (is_due_answer result) (λ answers. PhaseWent (P.value port.old) (P.value port.new) domain at.old at.new [] answers result) }
     ensures come { KeepsComing (P.value port.old) (P.value port.new) domain at.old at.new }
     ensures past { IfOk result (λ _. 4 ≤ phase_of at.new) }
 {

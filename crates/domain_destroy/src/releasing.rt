@@ -5,7 +5,7 @@ ghost use Rattle.level_release.specs.Asking.{is_due_answer};
 ghost use Rattle.domain_destroy.specs.Asking.{IsDestroyStop};
 ghost use Rattle.domain_destroy.specs.Emptying.{HoldsOne, LetsGo, LetsGoHand, NamesNone};
 ghost use Rattle.domain_destroy.specs.Releasing.{GoesOnDestroying, StopsOnDestroying};
-ghost use Rattle.xp_preempt.specs.Gates.{Asked};
+ghost use Rattle.xp_preempt.specs.Gates.{Gated};
 
 use level_release::settle;
 use table_words::{OldWord, put_old};
@@ -24,7 +24,7 @@ pub(crate) fn let_go<P: Port>(port: &mut P, gate: &mut dyn Preempt, frame: u32) 
     ensures serves { GoesOnDestroying (P.value port.old) (P.value port.new) result }
     ensures stops { IfErr result (λ e. StopsOnDestroying (P.value port.old) (P.value port.new) e) }
     ensures kinds { IfErr result IsDestroyStop }
-    ensures course { Asked (value gate.old) (value gate.new) (is_due_answer result) (λ answers. LetsGo frame (P.value port.old) (P.value port.new) answers result) }
+    ensures course { Gated (value gate.old) (value gate.new) (is_due_answer result) (λ answers. LetsGo frame (P.value port.old) (P.value port.new) answers result) }
 {
     put_old(port, OldWord::First, frame);
     settle(port, gate, &mut None)

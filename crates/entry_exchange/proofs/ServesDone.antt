@@ -42,7 +42,6 @@ use Rattle.xp_words.specs.declared.reply.Refusal.TheVariants.{Reserved}
 use Rattle.xp_words.specs.declared.reply.Stop.TheVariants.{Refused}
 use Rattle.xp_board.proofs.Sums.{when_eq}
 use Rattle.step_maker.specs.Licences.{IsBadUnder, IsNewWord}
-use Rattle.xp_preempt.specs.Gates.{Asked}
 
 -- ---- an exchange that was lost is a pause
 put_hides : (v w : PortValue) (f i seen new : ℕ) (keep : Bool) (e : Stop) → PutEntry v w f i seen new keep (Err e) → (ds : List Deed) → (ds ≡ []) ⊎ ((g : ℕ) × (ds ≡ Misses (Kind g) ∷ [])) → IsHidden e ds

@@ -25,7 +25,6 @@ use Rattle.entry_exchange.specs.Holding.{owner_at}
 use Rattle.entry_exchange.specs.Parts.{IsOfLevel}
 use Rattle.entry_exchange.specs.Serving.{AsksDemand, asks_table, is_named, of_demand, of_given, wanted_type}
 use Rattle.entry_exchange.proofs.Putting.{at_level}
-use Rattle.xp_preempt.specs.Gates.{Asked}
 
 -- ---- whose the frame is
 pub owner_lower : (r : Request) (level : ℕ) → owner_below r (Some (level_type level)) ≡ owner_at level r.owner r.pages_of

@@ -30,7 +30,7 @@ use Rattle.level_release.specs.Course.{WasReleased}
 use Rattle.entry_exchange.specs.declared.exchanging.EntryUpdate.{EntryUpdate}
 use Rattle.entry_exchange.specs.Holding.{owner_at}
 use Rattle.entry_exchange.specs.Words.{same_demand, word_kept}
-use Rattle.xp_preempt.specs.Gates.{AskedPast, Gate}
+use Rattle.xp_preempt.specs.Gates.{Gate, GatedPast}
 
 -- ---- the lock goes off
 -- with the reference; or with the table's last type count, and then the second old word names it, partial with all its entries recorded
@@ -114,4 +114,4 @@ pub data Exchanged (v : PortValue) (x : EntryUpdate) (o : Owners) : PortValue �
       Exchanged v x o w (more ++ answers) (Ok tt)
 
 abbrev pub ExchangesBy : PortValue → PortValue → EntryUpdate → Owners → Gate → Gate → Result (Unit {0}) Stop → Type 0
-ExchangesBy v w x o g h answer = AskedPast g h (is_due_answer answer) (λ answers. Exchanged v x o w answers answer)
+ExchangesBy v w x o g h answer = GatedPast g h (is_due_answer answer) (λ answers. Exchanged v x o w answers answer)

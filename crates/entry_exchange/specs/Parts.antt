@@ -32,7 +32,7 @@ use Rattle.entry_exchange.specs.Course.{ExchangesBy, GaveDemand, LeftLock, PutEn
 use Rattle.entry_exchange.specs.Holding.{HoldsTableLock, LeavesDemand, LeavesExchange, LeavesUnlocked}
 use Rattle.entry_exchange.specs.Serving.{ServesGiven, ServesPut, ServesTable, ServesTaken, StopsPut, of_demand, of_given}
 use Rattle.level_validate.specs.Acquiring.{IsAcquireStop}
-use Rattle.xp_preempt.specs.Gates.{AskedPast, Gate}
+use Rattle.xp_preempt.specs.Gates.{Gate, GatedPast}
 
 -- ---- demands
 -- the machine has the frame that it names
@@ -106,7 +106,7 @@ pub data GaveTable (v : PortValue) (f level owner : ℕ) : PortValue → Type 0 
   last : (u w : PortValue) → DropsType v u f true → KeptFor u w f (partial_kind (level_type level) true false 512 0) owner → GaveTable v f level owner w
 
 abbrev pub TakesDemand : PortValue → PortValue → ℕ → ℕ → Demand → Gate → Gate → Result (Unit {0}) Stop → Type 0
-TakesDemand v w owner level d g h answer = AskedPast g h (is_due_answer answer) (λ answers. TookDemand owner level v d w answers answer)
+TakesDemand v w owner level d g h answer = GatedPast g h (is_due_answer answer) (λ answers. TookDemand owner level v d w answers answer)
 
 -- all that is said of it
 pub record DemandTaken (v w : PortValue) (owner level : ℕ) (d : Demand) (g h : Gate) (answer : Result (Unit {0}) Stop) : Type 0 where
@@ -119,7 +119,7 @@ pub record DemandTaken (v w : PortValue) (owner level : ℕ) (d : Demand) (g h :
   pub course : TakesDemand v w owner level d g h answer
 
 abbrev pub ReleasesDemand : PortValue → PortValue → Demand → Gate → Gate → Type 0
-ReleasesDemand v w d g h = AskedPast g h false (λ answers. ReleasedDemand v d w answers)
+ReleasesDemand v w d g h = GatedPast g h false (λ answers. ReleasedDemand v d w answers)
 
 pub record DemandReleased (v w : PortValue) (d : Demand) (g h : Gate) : Type 0 where
   pub came : Came v w

@@ -28,7 +28,6 @@ use Rattle.kind_words.proofs.KindFacts.{type_is_below}
 use Rattle.entry_locks.specs.Locks.{is_worked_on, of_lock}
 use Rattle.entry_locks.specs.Looked.{SeenToLock}
 use Rattle.entry_locks.proofs.Standings.{IsFree, worked_busy}
-use Rattle.xp_preempt.specs.Gates.{Asked}
 
 module _ (b v : PortValue) (f owner word : ℕ) (l : SeenToLock b v f owner word) where
   pub asked : (n : Machine) (s : ℕ) (F : Finding) → Asked n s (of_lock f owner) F f owner None

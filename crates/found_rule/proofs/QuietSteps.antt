@@ -18,7 +18,6 @@ use Rattle.found_rule.proofs.WordsAt.{is_read, words_quiet}
 use Rattle.found_rule.proofs.Quiet.{Done, SameHand, same_hand, done_same, found_same, formed_same}
 use Rattle.xp_board.proofs.HandLists.{EachOf-kept}
 use Rattle.xp_board.proofs.Sums.{either}
-use Rattle.xp_preempt.specs.Gates.{Asked}
 
 same_looking : (a : Holdings) (xs : List Looking) → SameHand a (record a { looking = xs })
 same_looking a xs =

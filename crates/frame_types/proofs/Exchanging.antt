@@ -39,7 +39,6 @@ use Rattle.flush_words.proofs.Lasting.{last_left}
 use Rattle.frame_types.specs.Taking.{Looked, LentBy, IsOfOther}
 use Rattle.frame_types.proofs.Classing.{IsInHand, IsOther, busy_unlocked}
 use Rattle.frame_types.proofs.Entering.{lent_held, lent_known}
-use Rattle.xp_preempt.specs.Gates.{Asked}
 
 -- ---- a frame that is in another vCPU's hand
 module _ (n : Machine) (s f w : ℕ) (h : Holdings) (k : KindWord) (finds : Finds n s h (Kind f) w) (read : kind_read w ≡ Some k) where

@@ -23,7 +23,6 @@ use Rattle.level_release.specs.Settling.{TookOld}
 use Rattle.level_release.proofs.Asking.{settling}
 use Rattle.level_release.proofs.Counted.{undead}
 use Rattle.level_release.proofs.Taken.{taken_held}
-use Rattle.xp_preempt.specs.Gates.{Asked}
 
 -- ---- the two words
 is_old : (which : OldWord) → (old_number which ≡ 2) ⊎ (old_number which ≡ 3)

@@ -19,7 +19,6 @@ use Rattle.partial_state.specs.declared.stack.TableWork.{TableWork}
 use Rattle.partial_state.specs.Stacks.{advanced}
 use Rattle.level_release.specs.Asking.{Continues, IsReleasePiece, StopsRelease}
 use Rattle.level_release.proofs.Serving.{asked_advanced, piece_later, piece_of}
-use Rattle.xp_preempt.specs.Gates.{Asked}
 
 -- ---- behind a piece, a call on the entries of the tables in the own works
 module _ {u v : PortValue} (w : PortValue) {r : Request} {ts : List TableWork} {ds : List Deed} (a : IsReleasePiece u v r ts ds) where

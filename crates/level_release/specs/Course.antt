@@ -10,7 +10,7 @@ use Rattle.xp_words.specs.declared.place.Place.TheVariants.{Clock, Kind, Refs}
 use Rattle.xp_words.specs.declared.reply.Pause.TheVariants.{Busy, Due, Lost}
 use Rattle.xp_words.specs.declared.reply.Stop.{Stop}
 use Rattle.xp_words.specs.declared.reply.Stop.TheVariants.{Paused}
-use Rattle.xp_preempt.specs.Gates.{Asked, Gate}
+use Rattle.xp_preempt.specs.Gates.{Gate, Gated}
 use Rattle.xp_board.specs.KindSteps.{Live, Partial, form_of, resumed_kind}
 use Rattle.xp_board.specs.declared.step.Act.TheVariants.{Cas, Load, Store}
 use Rattle.xp_board.specs.declared.step.Mark.TheVariants.{Record}
@@ -155,16 +155,16 @@ ReleasedTo below left v f kind w answers answer = (course : ReleasedWithin below
 
 -- ---- with a gate
 abbrev pub RunsDownBy : Option ℕ → PortValue → List TableWork → PortValue → List TableWork → Gate → Gate → Result (Unit {0}) Stop → Type 0
-RunsDownBy below v ts w us g h answer = Asked g h (is_due_answer answer) (λ answers. RanDown below v ts w us answers answer)
+RunsDownBy below v ts w us g h answer = Gated g h (is_due_answer answer) (λ answers. RanDown below v ts w us answers answer)
 
 abbrev pub EmptiesBy : Option ℕ → Option ℕ → PortValue → PortValue → TableWork → Gate → Gate → Result (Unit {0}) Stop → Type 0
-EmptiesBy below left v w t g h answer = Asked g h (is_due_answer answer) (λ answers. EmptiedTo below left v t w answers answer)
+EmptiesBy below left v w t g h answer = Gated g h (is_due_answer answer) (λ answers. EmptiedTo below left v t w answers answer)
 
 abbrev pub ReleasesWithinBy : Option ℕ → Option ℕ → PortValue → PortValue → ℕ → PageType → Gate → Gate → Result (Unit {0}) Stop → Type 0
-ReleasesWithinBy below left v w f kind g h answer = Asked g h (is_due_answer answer) (λ answers. ReleasedTo below left v f kind w answers answer)
+ReleasesWithinBy below left v w f kind g h answer = Gated g h (is_due_answer answer) (λ answers. ReleasedTo below left v f kind w answers answer)
 
 abbrev pub ReleasesFrameBy : PortValue → PortValue → ℕ → PageType → Gate → Gate → Result (Unit {0}) Stop → Type 0
-ReleasesFrameBy v w f kind g h answer = Asked g h (is_due_answer answer) (λ answers. WasReleased v f kind w answers answer)
+ReleasesFrameBy v w f kind g h answer = Gated g h (is_due_answer answer) (λ answers. WasReleased v f kind w answers answer)
 
 -- ---- what an old word names
 -- the frame was taken out of the word: it was found live, partial, or busy
@@ -209,7 +209,7 @@ abbrev pub SettledOneTo : Option ℕ → Option ℕ → PortValue → OldWord �
 SettledOneTo below left v which w answers answer = (course : SettledOne below v which w answers answer) × (left ≡ left_one course)
 
 abbrev pub SettlesOneBy : Option ℕ → Option ℕ → PortValue → PortValue → OldWord → Gate → Gate → Result (Unit {0}) Stop → Type 0
-SettlesOneBy below left v w which g h answer = Asked g h (is_due_answer answer) (λ answers. SettledOneTo below left v which w answers answer)
+SettlesOneBy below left v w which g h answer = Gated g h (is_due_answer answer) (λ answers. SettledOneTo below left v which w answers answer)
 
 -- the first word, and then the second
 pub data Settled (below : Option ℕ) (v : PortValue) : PortValue → List Bool → Result (Unit {0}) Stop → Type 0 where
@@ -235,4 +235,4 @@ abbrev pub SettledTo : Option ℕ → Option ℕ → PortValue → PortValue →
 SettledTo below left v w answers answer = (course : Settled below v w answers answer) × (left ≡ left_settled course)
 
 abbrev pub SettlesBy : Option ℕ → Option ℕ → PortValue → PortValue → Gate → Gate → Result (Unit {0}) Stop → Type 0
-SettlesBy below left v w g h answer = Asked g h (is_due_answer answer) (λ answers. SettledTo below left v w answers answer)
+SettlesBy below left v w g h answer = Gated g h (is_due_answer answer) (λ answers. SettledTo below left v w answers answer)

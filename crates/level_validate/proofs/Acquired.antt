@@ -56,7 +56,7 @@ use Rattle.level_validate.proofs.Serving.{foreign_still}
 use Rattle.frame_types.proofs.Waiting.{none_missed}
 use Rattle.xp_board.specs.declared.holdings.OwnerFound.TheVariants as owners
 use Rattle.frame_types.specs.declared.taking.Taken.TheVariants as types
-use Rattle.xp_preempt.specs.Gates.{Asked}
+use Rattle.xp_preempt.specs.Gates.{Gated}
 
 -- the only table in work
 abbrev pub taken_table : ℕ → ℕ → ℕ → Bool → TableWork
@@ -253,7 +253,7 @@ module _ (v : PortValue) (f owner level : ℕ) (says : ℕ → Bool) (before ris
 
       -- ---- it is in work
       module _ {progress : ℕ} {own : Bool} (so : b ≡ types.InWork progress own) (w : PortValue) (after more : ℕ) where
-        pub finished_by : Asked says before after risen more false (λ answers. ValidatesBy owner x (outermost_table g level progress own) w answers (Ok tt)) → AcquiresBy v w f owner level says before after risen more (Ok g)
+        pub finished_by : Gated says before after risen more false (λ answers. ValidatesBy owner x (outermost_table g level progress own) w answers (Ok tt)) → AcquiresBy v w f owner level says before after risen more (Ok g)
         finished_by c =
             let p : ValidatesBy owner x (outermost_table f level progress own) w c.answers (Ok tt) = subst (λ (n : ℕ). ValidatesBy owner x (outermost_table n level progress own) w c.answers (Ok tt)) same c.course in
             of_frame_asked w after more
@@ -264,7 +264,7 @@ module _ (v : PortValue) (f owner level : ℕ) (says : ℕ → Bool) (before ris
               due = c.due;
             })
 
-        pub unfinished_by : (answer : Result ℕ Stop) (e : Stop) → answer ≡ Err e → Asked says before after risen more (is_due_stop e) (λ answers. ValidatesBy owner x (outermost_table g level progress own) w answers (Err e)) →
+        pub unfinished_by : (answer : Result ℕ Stop) (e : Stop) → answer ≡ Err e → Gated says before after risen more (is_due_stop e) (λ answers. ValidatesBy owner x (outermost_table g level progress own) w answers (Err e)) →
             AcquiresBy v w f owner level says before after risen more answer
         unfinished_by answer e gave c =
             let p : ValidatesBy owner x (outermost_table f level progress own) w c.answers (Err e) = subst (λ (n : ℕ). ValidatesBy owner x (outermost_table n level progress own) w c.answers (Err e)) same c.course in

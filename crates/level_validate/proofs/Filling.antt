@@ -13,7 +13,7 @@ use Rattle.partial_state.specs.declared.stack.TableWork.{TableWork}
 use Rattle.level_validate.specs.Acquiring.{StopsRisen, is_due_answer, is_due_stop, outermost_work}
 use Rattle.level_validate.specs.Serving.{StopsIn, CarriesOn}
 use Rattle.step_maker.proofs.Progressing.{progress_after}
-use Rattle.xp_preempt.specs.Gates.{Asked, answer_at, ends_yes, next_ask}
+use Rattle.xp_preempt.specs.Gates.{Gated, answer_at, ends_yes, next_ask}
 use Rattle.xp_preempt.proofs.Consulting.{consulted_ask, consulted_none, consulted_then}
 use Rattle.level_validate.specs.Courses.{asked_once, GoesOnFilling, ValidatesBy}
 use Rattle.table_entries.specs.Asking.{IsEntryStop}
@@ -50,10 +50,10 @@ progress_answer v u w r came gets_on = IfOk-weaker r (λ done. done ≡ true →
 
 -- The gate is asked behind an entry, or not: what it answers, and what the answer of the call then says.
 module _ (says : ℕ → Bool) (before risen : ℕ) (asked : Bool) where
-  pub not_asked : asked ≡ false → Asked says before before risen risen false (λ answers. answers ≡ asked_once asked false)
+  pub not_asked : asked ≡ false → Gated says before before risen risen false (λ answers. answers ≡ asked_once asked false)
   not_asked none = record { answers = []; course = sym (ap (λ (b : Bool). asked_once b false) none); gate = consulted_none says before risen; due = refl }
 
-  pub was_asked : asked ≡ true → (after more : ℕ) (due rose : Bool) → due ≡ rose → due ≡ answer_at says before → after ≡ next_ask before → more ≡ (if due then risen + 1 else risen) → Asked says before after risen more rose (λ answers. answers ≡ asked_once asked rose)
+  pub was_asked : asked ≡ true → (after more : ℕ) (due rose : Bool) → due ≡ rose → due ≡ answer_at says before → after ≡ next_ask before → more ≡ (if due then risen + 1 else risen) → Gated says before after risen more rose (λ answers. answers ≡ asked_once asked rose)
   was_asked once after more due rose same is on counted =
       record {
         answers = due ∷ [];
@@ -86,7 +86,7 @@ entry_undue _ is = absurd is
 module _ (owner : ℕ) (v : PortValue) (t : TableWork) (says : ℕ → Bool) (before risen : ℕ) where
   -- ---- down to where the table was left
   module _ {stack : List TableWork} (only : stack ≡ t ∷ []) (w : PortValue) (us : List TableWork) where
-    pub cut_off_working : (answer : Result (Unit {0}) Stop) (e : Stop) → answer ≡ Err e → IsEntryStop e → TookOn owner v stack w us (Err e) → Asked says before before risen risen (is_due_answer answer) (λ answers. Worked owner v t w us answers answer)
+    pub cut_off_working : (answer : Result (Unit {0}) Stop) (e : Stop) → answer ≡ Err e → IsEntryStop e → TookOn owner v stack w us (Err e) → Gated says before before risen risen (is_due_answer answer) (λ answers. Worked owner v t w us answers answer)
     cut_off_working answer e is kind took =
         record {
           answers = [];
@@ -97,7 +97,7 @@ module _ (owner : ℕ) (v : PortValue) (t : TableWork) (says : ℕ → Bool) (be
 
     -- the gate is asked behind that, or not
     module _ {done : Bool} (took : TookOn owner v stack w us (Ok done)) (after more : ℕ) where
-      pub begun_working : Asked says before after risen more false (λ answers. answers ≡ asked_once (done && is_asked us) false) → Asked says before after risen more false (λ answers. Worked owner v t w us answers (Ok tt))
+      pub begun_working : Gated says before after risen more false (λ answers. answers ≡ asked_once (done && is_asked us) false) → Gated says before after risen more false (λ answers. Worked owner v t w us answers (Ok tt))
       begun_working c =
           record {
             answers = c.answers;
@@ -107,8 +107,8 @@ module _ (owner : ℕ) (v : PortValue) (t : TableWork) (says : ℕ → Bool) (be
             due = c.due;
           }
 
-      pub due_working : (answer : Result (Unit {0}) Stop) (e : Stop) → answer ≡ Err e → e ≡ Paused Due → Asked says before after risen more (is_due_stop e) (λ answers. answers ≡ asked_once (done && is_asked us) (is_due_stop e)) →
-          Asked says before after risen more (is_due_answer answer) (λ answers. Worked owner v t w us answers answer)
+      pub due_working : (answer : Result (Unit {0}) Stop) (e : Stop) → answer ≡ Err e → e ≡ Paused Due → Gated says before after risen more (is_due_stop e) (λ answers. answers ≡ asked_once (done && is_asked us) (is_due_stop e)) →
+          Gated says before after risen more (is_due_answer answer) (λ answers. Worked owner v t w us answers answer)
       due_working answer e is due c =
           let rose : is_due_stop e ≡ true = ap (λ s. is_due_stop s) due in
           let once : c.answers ≡ asked_once (done && is_asked us) true = c.course ∙ ap (λ (b : Bool). asked_once (done && is_asked us) b) rose in
@@ -133,8 +133,8 @@ module _ (owner : ℕ) (v : PortValue) (t : TableWork) (says : ℕ → Bool) (be
     ends_on earlier (a ∷ answers) rose before_no is = is
 
     pub working_on : (new : ℕ → Bool) (asked after risen_asked risen_after : ℕ) (rose : Bool) (answer : Result (Unit {0}) Stop) → ((n : ℕ) → new n ≡ says n) →
-        Asked says before asked risen risen_asked false (λ answers. Worked owner v t x us answers (Ok tt)) → Asked new asked after risen_asked risen_after rose (λ answers. GoesOnFilling owner x us w xs answers answer) →
-        Asked says before after risen risen_after rose (λ answers. Worked owner v t w xs answers answer)
+        Gated says before asked risen risen_asked false (λ answers. Worked owner v t x us answers (Ok tt)) → Gated new asked after risen_asked risen_after rose (λ answers. GoesOnFilling owner x us w xs answers answer) →
+        Gated says before after risen risen_after rose (λ answers. Worked owner v t w xs answers answer)
     working_on new asked after risen_asked risen_after rose answer same first next =
         record {
           answers = next.answers ++ first.answers;
@@ -144,15 +144,15 @@ module _ (owner : ℕ) (v : PortValue) (t : TableWork) (says : ℕ → Bool) (be
         }
 
     pub working_stops : (new : ℕ → Bool) (asked after risen_asked risen_after : ℕ) (answer : Result (Unit {0}) Stop) (e : Stop) → answer ≡ Err e → ((n : ℕ) → new n ≡ says n) →
-        Asked says before asked risen risen_asked false (λ answers. Worked owner v t x us answers (Ok tt)) → Asked new asked after risen_asked risen_after (is_due_stop e) (λ answers. GoesOnFilling owner x us w xs answers (Err e)) →
-        Asked says before after risen risen_after (is_due_answer answer) (λ answers. Worked owner v t w xs answers answer)
+        Gated says before asked risen risen_asked false (λ answers. Worked owner v t x us answers (Ok tt)) → Gated new asked after risen_asked risen_after (is_due_stop e) (λ answers. GoesOnFilling owner x us w xs answers (Err e)) →
+        Gated says before after risen risen_after (is_due_answer answer) (λ answers. Worked owner v t w xs answers answer)
     working_stops new asked after risen_asked risen_after answer e is same first next =
-        subst (λ (r : Result (Unit {0}) Stop). Asked says before after risen risen_after (is_due_answer r) (λ answers. Worked owner v t w xs answers r)) (sym is)
+        subst (λ (r : Result (Unit {0}) Stop). Gated says before after risen risen_after (is_due_answer r) (λ answers. Worked owner v t w xs answers r)) (sym is)
         (working_on new asked after risen_asked risen_after (is_due_stop e) (Err e) same first next)
 
 -- One entry more, or one table, and what the gate answered behind it: that part of the course.
 module _ (owner : ℕ) (v w : PortValue) (ts us : List TableWork) where
-  pub stopped_going : (says : ℕ → Bool) (before risen : ℕ) (answer : Result (Unit {0}) Stop) (e : Stop) → answer ≡ Err e → is_due_stop e ≡ false → Advanced owner v ts w us (Err e) → Asked says before before risen risen (is_due_answer answer) (λ answers. GoesOnFilling owner v ts w us answers answer)
+  pub stopped_going : (says : ℕ → Bool) (before risen : ℕ) (answer : Result (Unit {0}) Stop) (e : Stop) → answer ≡ Err e → is_due_stop e ≡ false → Advanced owner v ts w us (Err e) → Gated says before before risen risen (is_due_answer answer) (λ answers. GoesOnFilling owner v ts w us answers answer)
   unfolding GoesOnFilling
   stopped_going says before risen answer e is undue step =
       record {
@@ -173,7 +173,7 @@ module _ (owner : ℕ) (v w : PortValue) (ts us : List TableWork) where
   by_answer _ step _ so (Err _) kinds answers due is u xs first earlier filled = absurd cc
 
   pub asked_going : (says : ℕ → Bool) (before after risen more : ℕ) (done : Bool) → Advanced owner v ts w us (Ok done) → (answer : Result (Unit {0}) Stop) → IfErr answer (λ e. e ≡ Paused Due) →
-      Asked says before after risen more (is_due_answer answer) (λ answers. answers ≡ asked_once (done && is_asked us) (is_due_answer answer)) → Asked says before after risen more (is_due_answer answer) (λ answers. GoesOnFilling owner v ts w us answers answer)
+      Gated says before after risen more (is_due_answer answer) (λ answers. answers ≡ asked_once (done && is_asked us) (is_due_answer answer)) → Gated says before after risen more (is_due_answer answer) (λ answers. GoesOnFilling owner v ts w us answers answer)
   asked_going says before after risen more done step answer kinds c =
       record { answers = c.answers; course = by_answer done step (is_asked us) refl answer kinds c.answers c.due c.course; gate = c.gate; due = c.due }
 
@@ -221,18 +221,18 @@ filling_on u x w owner ts us rs f came stands outer ready serves =
 -- A frame is taken as a page table: the course, of its parts.
 module _ (says : ℕ → Bool) (before after risen more : ℕ) where
   -- of the same answers
-  pub consults_as : (rose : Bool) (P Q : List Bool → Type 0) → ((answers : List Bool) → P answers → Q answers) → Asked says before after risen more rose P → Asked says before after risen more rose Q
+  pub consults_as : (rose : Bool) (P Q : List Bool → Type 0) → ((answers : List Bool) → P answers → Q answers) → Gated says before after risen more rose P → Gated says before after risen more rose Q
   consults_as rose P Q so c = record { answers = c.answers; course = so c.answers c.course; gate = c.gate; due = c.due }
 
   module _ (owner : ℕ) (v y w : PortValue) (t : TableWork) (us : List TableWork) where
-    pub validated_live : (u : TableWork) → us ≡ u ∷ [] → u.done ≡ 512 → MadeLive y w u → Asked says before after risen more false (λ answers. Worked owner v t y us answers (Ok tt)) →
-        Asked says before after risen more false (λ answers. ValidatesBy owner v t w answers (Ok tt))
+    pub validated_live : (u : TableWork) → us ≡ u ∷ [] → u.done ≡ 512 → MadeLive y w u → Gated says before after risen more false (λ answers. Worked owner v t y us answers (Ok tt)) →
+        Gated says before after risen more false (λ answers. ValidatesBy owner v t w answers (Ok tt))
     validated_live u only full live c =
         consults_as false (λ answers. Worked owner v t y us answers (Ok tt)) (λ answers. ValidatesBy owner v t w answers (Ok tt))
         (λ answers worked. (y, u, subst (λ (xs : List TableWork). Worked owner v t y xs answers (Ok tt)) only worked, full, live)) c
 
-    pub validated_left : (rose : Bool) (e : Stop) (kept : Bool) → kept ≡ keeps_it e → Unwound y owner us kept w → Asked says before after risen more rose (λ answers. Worked owner v t y us answers (Err e)) →
-        Asked says before after risen more rose (λ answers. ValidatesBy owner v t w answers (Err e))
+    pub validated_left : (rose : Bool) (e : Stop) (kept : Bool) → kept ≡ keeps_it e → Unwound y owner us kept w → Gated says before after risen more rose (λ answers. Worked owner v t y us answers (Err e)) →
+        Gated says before after risen more rose (λ answers. ValidatesBy owner v t w answers (Err e))
     validated_left rose e kept is unwound c =
         consults_as rose (λ answers. Worked owner v t y us answers (Err e)) (λ answers. ValidatesBy owner v t w answers (Err e))
         (λ answers worked. (y, us, worked, subst (λ (b : Bool). Unwound y owner us b w) is unwound)) c

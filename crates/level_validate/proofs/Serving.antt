@@ -47,7 +47,6 @@ use Rattle.table_entries.proofs.PiecesWithin.{within_entries}
 use Rattle.frame_types.proofs.Waiting.{none_missed}
 use Rattle.xp_board.specs.declared.step.StepKind.TheVariants as kinds
 use Rattle.xp_board.specs.declared.holdings.OwnerFound.TheVariants as owners
-use Rattle.xp_preempt.specs.Gates.{Asked}
 
 -- ---- asked tables
 -- what is asked stays asked where more is found

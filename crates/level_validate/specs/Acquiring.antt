@@ -20,7 +20,7 @@ use Rattle.partial_state.specs.Levels.{level_type}
 use Rattle.partial_state.specs.declared.stack.TableWork.{TableWork}
 use Rattle.table_entries.specs.Acquiring.{Acquired}
 pub use Rattle.table_entries.specs.Ending.{is_due_answer, is_due_stop, is_paused_answer}
-use Rattle.xp_preempt.specs.Gates.{Asked, Gate}
+use Rattle.xp_preempt.specs.Gates.{Gate, Gated}
 use Rattle.level_validate.specs.Completing.{Completes}
 use Rattle.level_validate.specs.Serving.{IsPiece}
 use Rattle.level_validate.specs.Tables.{Carries, IsIdle}
@@ -114,4 +114,4 @@ LeavesWaiting u w f level owner own stamp kept = (v : PortValue) → TableWaits 
 -- ---- the course
 -- the frame was taken by these calls, and with the gate's answers
 abbrev pub AcquiresBy : PortValue → PortValue → ℕ → ℕ → ℕ → Gate → Gate → Result ℕ Stop → Type 0
-AcquiresBy v w f owner level g h answer = Asked g h (is_due_answer answer) (λ answers. Acquired v f owner level w answers answer)
+AcquiresBy v w f owner level g h answer = Gated g h (is_due_answer answer) (λ answers. Acquired v f owner level w answers answer)

@@ -13,7 +13,6 @@ use Rattle.partial_state.specs.Levels.{level_type}
 use Rattle.partial_state.specs.declared.stack.TableWork.{TableWork}
 use Rattle.level_validate.specs.Tables.{Carries}
 use Rattle.level_validate.specs.Unwinding.{outermost_frame}
-use Rattle.xp_preempt.specs.Gates.{Asked}
 
 -- each of the tables is asked, for its type
 abbrev pub AreAsked : Machine → ℕ → Request → Finding → List TableWork → Type 0

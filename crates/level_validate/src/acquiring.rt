@@ -14,7 +14,7 @@ ghost use Rattle.level_validate.specs.Acquiring.{AcquiresBy, IsAcquireStop, IsTa
 ghost use Rattle.level_validate.specs.Courses.{GoesOnFilling, ValidatesBy, asked_once};
 ghost use Rattle.level_validate.specs.Serving.{CarriesOn, ServesLeft, ServesWaiting};
 ghost use Rattle.level_validate.specs.Tables.{IsIdle, IsStanding, IsTopReady, StandsOn};
-ghost use Rattle.xp_preempt.specs.Gates.{Asked, Heard};
+ghost use Rattle.xp_preempt.specs.Gates.{Gated, Heard};
 ghost use Rattle.xp_words.specs.declared.reply.Pause.TheVariants.{Due};
 ghost use Rattle.xp_words.specs.declared.reply.Stop.TheVariants.{Paused};
 
@@ -139,7 +139,7 @@ fn validate<P: Port>(
     ensures kinds { IfErr result IsAcquireStop }
     ensures serves { ServesLeft (P.value port.old) (P.value port.new) owner (is_paused_answer result) table.frame (table ∷ []) (misses (P.value port.old).post.machine result) }
     ensures stops { IfErr result (λ e. StopsRisen (P.value port.old) (P.value port.new) owner (table ∷ []) e) }
-    ensures course { Asked (value gate.old) (value gate.new) (is_due_answer result) (λ answers. ValidatesBy owner (P.value port.old) table (P.value port.new) answers result) }
+    ensures course { Gated (value gate.old) (value gate.new) (is_due_answer result) (λ answers. ValidatesBy owner (P.value port.old) table (P.value port.new) answers result) }
 {
     let mut stack = Stack::new();
     stack.push(table);
@@ -175,7 +175,7 @@ fn fill<P: Port>(
     ensures kinds { IfErr result IsAcquireStop }
     ensures serves { CarriesOn (P.value port.old) (P.value port.new) owner stack.old stack.new (misses (P.value port.old).post.machine result) }
     ensures stops { IfErr result (λ e. StopsRisen (P.value port.old) (P.value port.new) owner stack.old e) }
-    ensures course { Asked (value gate.old) (value gate.new) (is_due_answer result) (λ answers. Worked owner (P.value port.old) table (P.value port.new) stack.new answers result) }
+    ensures course { Gated (value gate.old) (value gate.new) (is_due_answer result) (λ answers. Worked owner (P.value port.old) table (P.value port.new) stack.new answers result) }
 {
     let done = take_on(port, owner, stack, table)?;
     ask_behind(gate, stack, done)?;
@@ -204,7 +204,7 @@ fn go_on<P: Port>(
     ensures kinds { IfErr result IsAcquireStop }
     ensures serves { CarriesOn (P.value port.old) (P.value port.new) owner stack.old stack.new (misses (P.value port.old).post.machine result) }
     ensures stops { IfErr result (λ e. StopsRisen (P.value port.old) (P.value port.new) owner stack.old e) }
-    ensures course { Asked (value gate.old) (value gate.new) (is_due_answer result) (λ answers. GoesOnFilling owner (P.value port.old) stack.old (P.value port.new) stack.new answers result) }
+    ensures course { Gated (value gate.old) (value gate.new) (is_due_answer result) (λ answers. GoesOnFilling owner (P.value port.old) stack.old (P.value port.new) stack.new answers result) }
 {
     let done = advance(port, owner, stack)?;
     ask_behind(gate, stack, done)
@@ -213,7 +213,7 @@ fn go_on<P: Port>(
 // Asks the gate, where an entry is done with behind which it is asked.
 fn ask_behind(gate: &mut dyn Preempt, stack: &Stack, done: bool) -> Result<(), Stop>
     ensures kinds { IfErr result (λ e. e ≡ Paused Due) }
-    ensures course { Asked (value gate.old) (value gate.new) (is_due_answer result) (λ answers. answers ≡ asked_once (done && is_asked stack.now) (is_due_answer result)) }
+    ensures course { Gated (value gate.old) (value gate.new) (is_due_answer result) (λ answers. answers ≡ asked_once (done && is_asked stack.now) (is_due_answer result)) }
 {
     if done {
         if is_asked(stack) {

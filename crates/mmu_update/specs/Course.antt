@@ -26,7 +26,7 @@ use Rattle.table_entries.specs.Acquiring.{GaveRef, GaveType, GotRef}
 use Rattle.writable_pages.specs.Pages.{TookPage}
 use Rattle.mmu_update.specs.declared.element.Element.{Element}
 use Rattle.mmu_update.specs.declared.element.Element.TheVariants.{SetM2p, Write, Misaligned, Unknown}
-use Rattle.xp_preempt.specs.Gates.{AskedPast, Gate}
+use Rattle.xp_preempt.specs.Gates.{Gate, GatedPast}
 
 -- a lock is tried: by the words that its steps found; on a board that tells all words; and what the steps show of its pause
 pub record TriedLock (v w : PortValue) (f owner : ℕ) (answer : Result Locked Stop) : Type 0 where
@@ -59,4 +59,4 @@ Updated v o Misaligned w answers answer = (w ≡ v) × (answers ≡ []) × (answ
 Updated v o Unknown w answers answer = (w ≡ v) × (answers ≡ []) × (answer ≡ Err (Refused refusals.BadCommand))
 
 abbrev pub UpdatesBy : PortValue → PortValue → Owners → Element → Gate → Gate → Result (Unit {0}) Stop → Type 0
-UpdatesBy v w o e g h answer = AskedPast g h (is_due_answer answer) (λ answers. Updated v o e w answers answer)
+UpdatesBy v w o e g h answer = GatedPast g h (is_due_answer answer) (λ answers. Updated v o e w answers answer)

@@ -10,7 +10,7 @@ use Rattle.foreign_map.specs.declared.owners.Owners.{Owners}
 use Rattle.tlb_walks.specs.Addresses.{index_of, walk_refusal}
 use Rattle.mmu_update.specs.Addresses.{EnteredAt, IsAtStop, ServesAt, UpdatedAt, of_at}
 use Rattle.mmu_update.specs.Elements.{LeavesUpdate}
-use Rattle.xp_preempt.specs.Gates.{AskedPast, Gate}
+use Rattle.xp_preempt.specs.Gates.{Gate, GatedPast}
 
 -- From v to w the entry of level 1 that maps the address was set for those owners, or why not: its steps serve that, show the cause of a refusal or
 -- pause, and leave nothing in hand. `table`: where its loads led.
@@ -28,7 +28,7 @@ pub record UpdatesAt (o : Owners) (va word : ℕ) (v w : PortValue) (answers : L
   pub short : length w.holdings.steps ≤ length v.holdings.steps + (72 + 3 * length v.post.machine.vcpu_domain)
 
 abbrev pub UpdatesAtBy : PortValue → PortValue → Owners → ℕ → ℕ → Gate → Gate → Result (Unit {0}) Stop → Type 0
-UpdatesAtBy v w o va word g h answer = AskedPast g h (is_due_answer answer) (λ answers. UpdatesAt o va word v w answers answer)
+UpdatesAtBy v w o va word g h answer = GatedPast g h (is_due_answer answer) (λ answers. UpdatesAt o va word v w answers answer)
 
 -- ---- behind the loads
 -- from a port at rest the entry of that table was exchanged, or why not
@@ -41,4 +41,4 @@ pub record EntersAt (o : Owners) (va table word : ℕ) (v w : PortValue) (answer
   pub course : EnteredAt v o table (index_of va 1) word w answers answer
 
 abbrev pub EntersAtBy : PortValue → PortValue → Owners → ℕ → ℕ → ℕ → Gate → Gate → Result (Unit {0}) Stop → Type 0
-EntersAtBy v w o va table word g h answer = AskedPast g h (is_due_answer answer) (λ answers. EntersAt o va table word v w answers answer)
+EntersAtBy v w o va table word g h answer = GatedPast g h (is_due_answer answer) (λ answers. EntersAt o va table word v w answers answer)

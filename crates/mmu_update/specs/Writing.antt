@@ -16,7 +16,7 @@ use Rattle.table_words.specs.declared.old_words.OldWord.TheVariants.{First, Seco
 use Rattle.mmu_update.specs.Course.{TriedLock}
 use Rattle.mmu_update.specs.Fits.{Updates}
 use Rattle.mmu_update.specs.declared.element.Element.TheVariants.{Write}
-use Rattle.xp_preempt.specs.Gates.{AskedPast, Gate}
+use Rattle.xp_preempt.specs.Gates.{Gate, GatedPast}
 
 -- before it
 pub record MayBeginElement (b : PortValue) (o : Owners) : Type 0 where
@@ -62,4 +62,4 @@ IsUnderLock v o f level = (b : PortValue) × UnderLock b v o f level
 
 -- the write is done, or why not, with the answers of its gate
 abbrev pub WritesBy : PortValue → PortValue → Owners → ℕ → ℕ → ℕ → Bool → Gate → Gate → Result (Unit {0}) Stop → Type 0
-WritesBy b w o f i word keep g h answer = AskedPast g h (is_due_answer answer) (λ answers. Updates o (Write f i word keep) b w answers answer)
+WritesBy b w o f i word keep g h answer = GatedPast g h (is_due_answer answer) (λ answers. Updates o (Write f i word keep) b w answers answer)

@@ -28,7 +28,6 @@ use Rattle.table_entries.specs.Acquiring.{GaveRef, GotRef}
 use Rattle.kind_words.proofs.KindFacts.{kind_found, kind_is_some, read_is}
 use Rattle.kind_words.proofs.Leaving.{without_newest}
 use Rattle.table_entries.proofs.HandOwners.{ref_knows_its}
-use Rattle.xp_preempt.specs.Gates.{Asked}
 
 -- ---- the reference, for a call that asks the frame
 module _ (v : PortValue) (f d : ℕ) (r : Request) (asks : (F : Finding) → Asked v.post.machine v.post.vcpu r F f d None) (w : PortValue) where

@@ -32,7 +32,6 @@ use Rattle.mmuext_ops.specs.Holding.{HoldsTable, IsPinEnd, LeavesTable, ServesLi
 use Rattle.mmuext_ops.specs.declared.element.Element.TheVariants.{Pin}
 use Rattle.mmuext_ops.proofs.Looked.{Looked, fields, found_with, owner_known}
 use Rattle.mmuext_ops.proofs.Within.{same_no_more, within_table}
-use Rattle.xp_preempt.specs.Gates.{Asked}
 
 module _ (v : PortValue) (f d level : ℕ) (rose : Bool) where
   pub asks : (F : Finding) → Asked v.post.machine v.post.vcpu (of_pin d f level rose) F f d None

@@ -50,7 +50,6 @@ use Rattle.mmuext_ops.specs.Holding.{GivesTableUp, GivesUp, HoldsTable, PinsLive
 use Rattle.level_validate.specs.Unwinding.{own_domain}
 use Rattle.mmuext_ops.proofs.GivingUp.{held, live, may_drop, none_left}
 use Rattle.mmuext_ops.proofs.Marking.{lost_deeds, lost_misses, lost_stops, mark_keeps, pins_deed, tried}
-use Rattle.xp_preempt.specs.Gates.{Asked}
 
 -- ---- the hand
 -- a port that holds the same holds the table too

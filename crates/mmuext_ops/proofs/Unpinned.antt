@@ -34,7 +34,6 @@ use Rattle.mmuext_ops.specs.declared.element.Element.TheVariants.{Unpin}
 use Rattle.mmuext_ops.proofs.Looked.{Looked, came_a, fields, found_with, inside_b, look_there, looked, owner_known, owner_still, spelled, written}
 use Rattle.mmuext_ops.proofs.Within.{of_unpin}
 use Rattle.mmuext_ops.proofs.Marking.{lost_deeds, lost_misses, lost_stops, mark_keeps, tried, unpins_deed}
-use Rattle.xp_preempt.specs.Gates.{Asked}
 
 -- ---- the request
 module _ (v : PortValue) (f d : ℕ) where

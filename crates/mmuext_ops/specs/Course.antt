@@ -32,7 +32,7 @@ use Rattle.desc_pages.specs.Ldt.{SetsLdt}
 use Rattle.whole_pages.specs.Whole.{ClearsPage, CopiesPage}
 use Rattle.mmuext_ops.specs.declared.element.Element.{Element}
 use Rattle.mmuext_ops.specs.declared.element.Element.TheVariants.{Pin, Unpin, NewBase, NewUserBase, FlushLocal, Invalidate, FlushVcpus, SetLdt, ClearPage, CopyPage, Unknown}
-use Rattle.xp_preempt.specs.Gates.{AskedPast, Gate}
+use Rattle.xp_preempt.specs.Gates.{Gate, GatedPast}
 
 -- the kind word of frame f was looked at
 abbrev pub SawKind : PortValue → PortValue → ℕ → ℕ → Type 0
@@ -120,10 +120,10 @@ pub record WaitedForVcpus (v w : PortValue) (mask : ℕ) (awaited : Option ℕ) 
 
 -- ---- with a gate
 abbrev pub PinsBy : PortValue → PortValue → ℕ → ℕ → ℕ → Gate → Gate → Result (Unit {0}) Stop → Type 0
-PinsBy v w d f level g h answer = AskedPast g h (is_due_answer answer) (λ answers. Pinned v w d f level answers answer)
+PinsBy v w d f level g h answer = GatedPast g h (is_due_answer answer) (λ answers. Pinned v w d f level answers answer)
 
 abbrev pub UnpinsBy : PortValue → PortValue → ℕ → ℕ → Gate → Gate → Result (Unit {0}) Stop → Type 0
-UnpinsBy v w d f g h answer = AskedPast g h (is_due_answer answer) (λ answers. Unpinned v w d f answers answer)
+UnpinsBy v w d f g h answer = GatedPast g h (is_due_answer answer) (λ answers. Unpinned v w d f answers answer)
 
 -- one that its numbers refuse makes no step and asks nothing
 abbrev pub Performed : PortValue → PortValue → ℕ → Element → Option ℕ → List Bool → Result (Unit {0}) Stop → Type 0
@@ -140,4 +140,4 @@ Performed v w d (CopyPage to from) awaited answers answer = (answers ≡ []) × 
 Performed v w d Unknown awaited answers answer = (w ≡ v) × (answers ≡ []) × (answer ≡ Err (Refused refusals.BadCommand))
 
 abbrev pub PerformsBy : PortValue → PortValue → ℕ → Element → Option ℕ → Gate → Gate → Result (Unit {0}) Stop → Type 0
-PerformsBy v w d e awaited g h answer = AskedPast g h (is_due_answer answer) (λ answers. Performed v w d e awaited answers answer)
+PerformsBy v w d e awaited g h answer = GatedPast g h (is_due_answer answer) (λ answers. Performed v w d e awaited answers answer)

@@ -1,4 +1,3 @@
-ghost use Rattle.xp_preempt.specs.Gates.{Asked};
 //! Whether a whole tree of page tables may be validated: its entries are followed from the top, level by level.
 use plain_words::{FRAMES, State, demand_at, is_dead};
 use xp_words::{Demand, KindWord, PageType, RefWord};

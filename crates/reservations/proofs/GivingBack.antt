@@ -44,7 +44,6 @@ use Rattle.frame_words.proofs.Putting.{without_newest}
 use Rattle.frame_words.proofs.Taking.{just_looked}
 use Rattle.frame_words.proofs.Twinning.{inside, outside as beyond}
 use Rattle.reservations.specs.Returning.{Clears, ReturnsBy, UnreturnedBy, cleared, cleared_in, clears_mark, is_own_allocated, outside, refused, return_refusal, returned}
-use Rattle.xp_preempt.specs.Gates.{Asked}
 
 -- ---- what is asked
 asks_itself : (n : Machine) (s f owner : ℕ) (F : Finding) → Asked n s (of_return f owner) F f owner None

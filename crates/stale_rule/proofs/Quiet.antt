@@ -20,7 +20,6 @@ use Rattle.stale_rule.proofs.Like.{HandStays, same_stays, parts_like, parts_stay
 use Rattle.stale_rule.proofs.Moves.{mark_law, still_law, aside_law, not_clock}
 use Rattle.xp_board.proofs.Counted.{not_context}
 use Rattle.xp_board.proofs.Sums.{either}
-use Rattle.xp_preempt.specs.Gates.{Asked}
 
 -- ---- marks
 recorded_stays : (n : Machine) (f upto : ℕ) (h b : Holdings) → Recorded n f upto h b → HandStays h b

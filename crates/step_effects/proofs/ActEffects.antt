@@ -41,7 +41,6 @@ use Rattle.xp_board.specs.PrivSteps.{MaySetPrivilege}
 use Rattle.xp_board.specs.After.{noted, learned, learned_cell, learned_own, learned_life}
 use Rattle.xp_board.specs.Legal.{WritesSpelling, needs_running}
 use Rattle.xp_board.specs.Runs.{place_of}
-use Rattle.xp_preempt.specs.Gates.{Asked}
 
 -- ---- loads, and exchanges that found another word
 -- A load of the word at p, or an exchange there that found another word: no word changes.

@@ -13,7 +13,6 @@ use Rattle.step_maker.specs.Moves.{Moment}
 use Rattle.step_maker.specs.Asked.{Asked, Implies, IsAsked, IsFor, IsNaming, Keeps, Request, Within, context, demanded, doomed, entered, entry_owner, named, of_old, owner_below, walked}
 use Rattle.step_maker.specs.Finding.{Finding, FoundAt, FoundWith}
 use Rattle.step_maker.specs.Rising.{Grows, IsOfSame, NeedsOwners, OnlyWhere, Rises, Stays}
-use Rattle.xp_preempt.specs.Gates.{Asked}
 
 rises : (a b : Bool) → Rises a b → Implies a b
 rises true b more is = more

@@ -25,7 +25,6 @@ use Rattle.step_maker.specs.Rising.{Grows, NeedsOwners}
 use Rattle.step_maker.proofs.Growing.{has_reason, causes}
 use Rattle.step_maker.proofs.Grown.{grown_by, grown_where, grows_self}
 use Rattle.xp_board.proofs.HandLists.{EachOf-map}
-use Rattle.xp_preempt.specs.Gates.{Asked}
 
 -- ---- the same request, more found
 pub same_request : (n : Machine) (s : ℕ) (r : Request) (F G : Finding) → ((m : Moment) → F m → G m) → Within n s r F r G

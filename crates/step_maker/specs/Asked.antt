@@ -21,7 +21,6 @@ use Rattle.xp_board.specs.Hands.{work_on, lock_on, refs_to, typed_to, typed_hand
 use Rattle.xp_board.specs.Readings.{is_context, is_dead, is_frame_word, owner_of, domain_of}
 use Rattle.step_maker.specs.Moves.{Moment}
 use Rattle.step_maker.specs.Finding.{Finding, FoundAt, FoundWith}
-use Rattle.xp_preempt.specs.Gates.{Asked}
 
 -- A wait for flushes of the call's own: of which vCPUs, and past which clock value. It is one that the call finds itself, or one that the vCPU found
 -- when the wait began in an earlier turn.

@@ -26,7 +26,6 @@ use Rattle.xp_board.specs.Readings.{is_dead, is_frame_word, is_type, is_live_as,
 use Rattle.step_maker.specs.Asked.{Request, Asked, IsAsked, HasNoMore, Passed, demand_held}
 use Rattle.step_maker.specs.Finding.{Finding, FoundAt, FoundWith}
 use Rattle.step_maker.specs.Reasons.{NeedsFlush}
-use Rattle.xp_preempt.specs.Gates.{Asked}
 
 -- ---- reference words
 abbrev pub IsOwnedBy : ℕ → Option RefWord → Type 0

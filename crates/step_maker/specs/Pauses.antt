@@ -27,7 +27,6 @@ use Rattle.step_maker.specs.Asked.{Request, Asked, IsDemandOf, Passed, demand_he
 use Rattle.step_maker.specs.Moves.{Moment}
 use Rattle.step_maker.specs.Finding.{Finding, FoundAt, FoundWith, Did}
 use Rattle.step_maker.specs.Reasons.{AwaitsStamp, Reason, MayReach, OfOwner, Those, Whose}
-use Rattle.xp_preempt.specs.Gates.{Asked}
 
 -- ---- progress
 abbrev pub is_entry_mark : Option Mark → Bool

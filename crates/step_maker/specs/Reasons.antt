@@ -16,7 +16,6 @@ use Rattle.xp_board.specs.Steps.{last_since, some_since}
 use Rattle.step_maker.specs.Moves.{Moment}
 use Rattle.step_maker.specs.Asked.{Request, Asked, IsAsked, Passed, Wait}
 use Rattle.step_maker.specs.Finding.{Finding, FoundAt, FoundWith}
-use Rattle.xp_preempt.specs.Gates.{Asked}
 
 -- ---- flushes
 -- whose flushes a wait is for: those that may have a translation of a frame of that owner, or these vCPUs

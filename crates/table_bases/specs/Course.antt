@@ -19,7 +19,7 @@ use Rattle.level_release.specs.Course.{WasReleased}
 use Rattle.table_bases.specs.declared.words.Base.{Base}
 use Rattle.table_bases.specs.Asking.{ServesBase, StopsBase}
 use Rattle.table_bases.specs.Holding.{base_place, naming}
-use Rattle.xp_preempt.specs.Gates.{AskedPast, Gate}
+use Rattle.xp_preempt.specs.Gates.{Gate, GatedPast}
 
 -- ---- the flush behind the store: where the clock is at its last value, the own cache is emptied and that value stored
 pub data FlushesBehind (v w : PortValue) : Type 0 where
@@ -59,10 +59,10 @@ pub data SetsBase (v w : PortValue) (base : Base) : Option ℕ → List Bool →
 
 -- ---- with a gate
 abbrev pub InstallsBy : PortValue → PortValue → Base → Option ℕ → Gate → Gate → Type 0
-InstallsBy v w base new g h = AskedPast g h false (λ answers. Installed v w base new answers)
+InstallsBy v w base new g h = GatedPast g h false (λ answers. Installed v w base new answers)
 
 abbrev pub SetsBaseBy : PortValue → PortValue → Base → Option ℕ → Gate → Gate → Result (Unit {0}) Stop → Type 0
-SetsBaseBy v w base new g h answer = AskedPast g h (is_due_answer answer) (λ answers. SetsBase v w base new answers answer)
+SetsBaseBy v w base new g h answer = GatedPast g h (is_due_answer answer) (λ answers. SetsBase v w base new answers answer)
 
 -- ---- the whole call
 -- It came to where it ends, its steps serve what the base asks, show why it is not set, and are these calls, whose gate gave these answers.

@@ -53,7 +53,6 @@ use Rattle.table_entries.proofs.PiecesEntering.{again_asks, again_goes, again_mo
 use Rattle.table_entries.proofs.PiecesTaking.{Goes}
 use Rattle.xp_board.specs.declared.step.StepKind.TheVariants as kinds
 use Rattle.table_entries.specs.declared.resuming.Resumed.TheVariants as again
-use Rattle.xp_preempt.specs.Gates.{Asked}
 
 -- ---- on a board that tells all words
 no_type_plain : (d : Demand) (n : Machine) (w : PortValue) (m : Words) (owner : ℕ) → AsksNoType d → Leaves w m → ResumesPlainly n w m owner (Ok Settled) d

@@ -57,7 +57,6 @@ use Rattle.table_entries.proofs.Twins.{load_keeps, twin_entry, typed_behind, typ
 use Rattle.xp_board.specs.declared.holdings.OwnerFound.TheVariants as owners
 use Rattle.xp_board.specs.declared.step.StepKind.TheVariants as kinds
 use Rattle.frame_types.specs.declared.taking.Counting.TheVariants as countings
-use Rattle.xp_preempt.specs.Gates.{Asked}
 
 -- ---- behind the rest of the call, by any way
 -- both ports are the one from which the looks went on

@@ -28,7 +28,6 @@ use Rattle.table_entries.specs.Between.{SeesEntry}
 use Rattle.table_entries.specs.Tops.{WorksAtTop}
 use Rattle.table_entries.proofs.HandLists.{none_before}
 use Rattle.table_entries.proofs.PiecesTaking.{Goes, looks_step}
-use Rattle.xp_preempt.specs.Gates.{Asked}
 
 -- the newest of the own works is the one on that frame
 module _ (f n : ℕ) (t : PageType) (h : Holdings) (on : WorksAtTop f t n h) where

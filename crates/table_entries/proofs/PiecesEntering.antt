@@ -25,7 +25,6 @@ use Rattle.xp_board.specs.Hands.{work_on}
 use Rattle.table_entries.proofs.HandAgain.{live_came}
 use Rattle.table_entries.proofs.PiecesAsking.{asks_typed, look_more, looked_goes}
 use Rattle.xp_board.specs.declared.step.StepKind.TheVariants as kinds
-use Rattle.xp_preempt.specs.Gates.{Asked}
 
 -- the entry is met; or the call stops
 pub met : {A : Type 0} {S : A → Type 0} {a : A} {b w : PortValue} {f i owner pages : ℕ} → Goes b w f i owner pages [] → S a → Meets b w f i owner pages S (Ok a)

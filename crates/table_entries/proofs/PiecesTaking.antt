@@ -32,7 +32,6 @@ use Rattle.frame_words.specs.Refs.{IsRefStop}
 use Rattle.flush_waits.specs.Waiting.{IsWait}
 use Rattle.xp_words.specs.declared.reply.Refusal.TheVariants as refusals
 use Rattle.xp_board.specs.declared.step.StepKind.TheVariants as kinds
-use Rattle.xp_preempt.specs.Gates.{Asked}
 
 -- a call that reads no entries, does not walk and writes no cell
 pub record LooksAside (r : Request) : Type 0 where

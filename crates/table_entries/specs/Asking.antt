@@ -19,7 +19,6 @@ use Rattle.table_entries.specs.declared.entries.Entered.{Entered}
 use Rattle.table_entries.specs.declared.entries.Entered.TheVariants.{Recorded, Opened, Unsettled}
 use Rattle.table_entries.specs.declared.resuming.Resumed.{Resumed}
 use Rattle.table_entries.specs.declared.resuming.Resumed.TheVariants as again
-use Rattle.xp_preempt.specs.Gates.{Asked}
 
 -- The entries of the tables in the own works are asked of that owner, and nothing else is. (Pages are asked by entries of level 1
 -- under an entry lock alone.)

@@ -47,7 +47,6 @@ use Rattle.table_releases.specs.declared.entries.Released.TheVariants.{Given, Op
 use Rattle.table_releases.proofs.FrameSeen.{found_elsewhere, found_kind, found_work, from_seen, kind_post, now_seen}
 use Rattle.xp_words.specs.declared.entry.Demand.TheVariants as demands
 use Rattle.xp_board.specs.declared.step.StepKind.TheVariants as kinds
-use Rattle.xp_preempt.specs.Gates.{Asked}
 
 -- ---- any step but at a cell
 pub goes_step : (b v w : PortValue) (f i owner pages : ℕ) (ds : List Deed) (p : Place) (a : Act) (kind : _) (mark : _) (found : ℕ) (es : List Deed) → Goes b v f i owner pages ds → Moves v w p a kind mark found →

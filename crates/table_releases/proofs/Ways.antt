@@ -69,7 +69,6 @@ use Rattle.table_releases.specs.Plain.{TwinRelease}
 use Rattle.table_releases.proofs.Owning.{live_owned, resumed_owned}
 use Rattle.table_releases.proofs.Twins.{busy_twin, closed_twin, counted_twin, dead_twin, dropped_twin, never_lost, nothing_twin, plain_twin, table_twin}
 use Rattle.xp_board.specs.declared.step.StepKind.TheVariants as kinds
-use Rattle.xp_preempt.specs.Gates.{Asked}
 
 -- ---- numbers of frames are small
 pub frame_fits : (n : Machine) (g : ℕ) → IsMachine n → g < n.frames → Fits w32 g

@@ -20,7 +20,6 @@ use Rattle.type_rule.proofs.HandParts.{SameTwo, two_of, three_in, three_out, thr
 use Rattle.type_rule.proofs.DomainLaw.{DomainChange}
 use Rattle.type_rule.proofs.DomainWords.{change_by, same_words, learned_alive}
 use Rattle.xp_board.proofs.Sums.{if_itself}
-use Rattle.xp_preempt.specs.Gates.{Asked}
 
 module _ (n : Machine) (s : ℕ) (x : Step) (m m2 : Place → ℕ) (b c : ℕ → Holdings) (real : s < (sizes_of n).vcpus) (sound : Sound n m b)
     (others : (t : ℕ) → t ≢ s → c t ≡ b t) where

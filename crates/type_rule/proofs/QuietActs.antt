@@ -32,7 +32,6 @@ use Rattle.type_rule.proofs.ValidLaw.{OwnersStay}
 use Rattle.type_rule.proofs.QuietLaw.{QuietAct, same_owners, one_owner}
 use Rattle.xp_board.proofs.Works.{dying_in_hand}
 use Rattle.xp_board.proofs.RefWords.{owned_says, free_says}
-use Rattle.xp_preempt.specs.Gates.{Asked}
 
 clock_held : (n : Machine) (stamp f : ℕ) (h : Holdings) (e : Option Ending) (c : Option Claimed) → ending_of f h.ending ≡ e → claim_of f h.claimed ≡ c → IsFreeStamp n stamp h e c →
     0 < endings_of f h.ending + claims_of f h.claimed

@@ -5,7 +5,7 @@ use Rattle.vcpu_turn.specs.declared.cpu.TurnEnd.{TurnEnd}
 use Rattle.vcpu_turn.specs.Cpus.{Processing}
 use Rattle.vcpu_turn.specs.Turning.{TurnBy, is_due}
 use Rattle.vcpu_runners.specs.Runners.{TakesTurnBy}
-use Rattle.xp_preempt.specs.Gates.{AskedPast, Gate}
+use Rattle.xp_preempt.specs.Gates.{Gate, GatedPast}
 
 takes_by : (retired : Bool) (has left : Gate) (c c2 : Processing) (end : TurnEnd) (v w : PortValue) (answers : List Bool) → retired ≡ false → TurnBy retired c c2 end v w answers →
     IsConsulted has left answers (is_due end) → TakesTurnBy retired has left c c2 v w
@@ -19,7 +19,7 @@ rests false gate c v is = absurd cc
 
 -- the gate of the box, as what it holds tells it, was asked
 pub takes : {A X : Type 0} (gate : A → Gate) (told : X → Gate) (box : A) (x y z : X) (yes_before yes_after : ℕ) (left : Gate) (c c2 : Processing) (end : TurnEnd) (v w : PortValue) → c.retired ≡ false →
-    gate box ≡ told z → x ≡ z → AskedPast (λ answers. TurnBy c.retired c c2 end v w answers) (told x).says (told x).asks (told y).asks yes_before yes_after (is_due end) →
+    gate box ≡ told z → x ≡ z → GatedPast (λ answers. TurnBy c.retired c c2 end v w answers) (told x).says (told x).asks (told y).asks yes_before yes_after (is_due end) →
     ((n : ℕ) → (told y).says n ≡ (told x).says n) → (told y).paces ≡ (told x).paces → ((told x).calm ≡ true → (is_due end ≡ false) × ((told y).calm ≡ true)) → left ≡ told y →
     TakesTurnBy c.retired (gate box) left c c2 v w
 takes gate told box x y z yes_before yes_after left c c2 end v w runs is at turn same keeps quiet left_is =

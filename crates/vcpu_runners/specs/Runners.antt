@@ -4,7 +4,7 @@ use Rattle.xp_board.specs.Told.{PortValue}
 use Rattle.vcpu_turn.specs.declared.cpu.TurnEnd.{TurnEnd}
 use Rattle.vcpu_turn.specs.Cpus.{Processing}
 use Rattle.vcpu_turn.specs.Turning.{IsTurn, is_due}
-use Rattle.xp_preempt.specs.Gates.{Consulted, Gate}
+use Rattle.xp_preempt.specs.Gates.{Consulted, Gate, ends_yes}
 
 -- a vCPU that is not retired makes a turn in which it asks its gate, and has that gate behind it as the turn left it, also where it retires
 pub record TakesTurn (has left : Gate) (c c' : Processing) (v w : PortValue) : Type 0 where

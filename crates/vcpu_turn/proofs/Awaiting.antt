@@ -18,7 +18,7 @@ use Rattle.vcpu_turn.specs.Ext.{ExtFits, FitsExt, Performs, awaited_for}
 use Rattle.vcpu_turn.specs.Mappings.{AwaitsWhere}
 use Rattle.vcpu_turn.specs.Settling.{SettlesFirst}
 use Rattle.vcpu_turn.specs.Working.{valued}
-use Rattle.xp_preempt.specs.Gates.{AskedPast, Gate}
+use Rattle.xp_preempt.specs.Gates.{Gate, GatedPast}
 
 -- ---- the first element of a turn alone goes on
 pub knows_for : (v : PortValue) (from : ℕ) (awaited : Option ℕ) (k : ℕ) (waits : Option ℕ) → waits ≡ awaited_for from awaited k → KnowsAwaited v awaited → KnowsAwaited v waits
@@ -30,9 +30,9 @@ knows_for v from awaited k waits is knows = subst (KnowsAwaited v) (sym is) (by 
 
 -- by the clock value that its call was passed
 pub fits_waits : (d : ℕ) (waits awaited : Option ℕ) → waits ≡ awaited → (o : Option ExtOp) (g h : Gate) (v w : PortValue) (answer : Result (Unit {0}) Stop) →
-    AskedPast g h (is_due_answer answer) (λ answers. FitsExt d waits o v w answers answer) → AskedPast g h (is_due_answer answer) (λ answers. FitsExt d awaited o v w answers answer)
+    GatedPast g h (is_due_answer answer) (λ answers. FitsExt d waits o v w answers answer) → GatedPast g h (is_due_answer answer) (λ answers. FitsExt d awaited o v w answers answer)
 fits_waits d waits awaited is o g h v w answer fits =
-    subst (λ (a : Option ℕ). AskedPast g h (is_due_answer answer) (λ answers. FitsExt d a o v w answers answer)) is fits
+    subst (λ (a : Option ℕ). GatedPast g h (is_due_answer answer) (λ answers. FitsExt d a o v w answers answer)) is fits
 
 -- ---- what is paused for another reason begins its wait anew
 release_waits_for_none : (e : Element) (stop : Stop) → IsReleaseEnd stop → awaited_by e (Err stop) ≡ None

@@ -20,7 +20,7 @@ use Rattle.vcpu_turn.specs.Mappings.{AwaitsBehind, DropsBehind, DropsOwn, IsUnpa
 use Rattle.vcpu_turn.specs.Settling.{IsWarm, SettlesFirst}
 use Rattle.vcpu_turn.proofs.Gating.{answers_as, answers_nothing, is_err}
 use Rattle.vcpu_turn.proofs.Staying.{kept_warm}
-use Rattle.xp_preempt.specs.Gates.{AskedPast}
+use Rattle.xp_preempt.specs.Gates.{GatedPast}
 
 -- ---- what each element is
 pub own_local : (flags va : ℕ) → flags % 4 ≡ 1 → own_drop flags va ≡ Some FlushLocal
@@ -71,7 +71,7 @@ unpaused_awaits w e (Err (Paused x)) is same = absurd is
 
 -- ---- the entry
 module _ {d foreign va word flags : ℕ} {v : PortValue} where
-  pub far_answers : (says : ℕ → Bool) (asks risen : ℕ) → 65536 ≤ foreign → AskedPast says asks asks (λ answers. UpdatesWord d foreign va word flags v v answers (Err (Refused refusals.BadRange))) risen risen false
+  pub far_answers : (says : ℕ → Bool) (asks risen : ℕ) → 65536 ≤ foreign → GatedPast says asks asks (λ answers. UpdatesWord d foreign va word flags v v answers (Err (Refused refusals.BadRange))) risen risen false
   far_answers says asks risen many = answers_nothing says asks risen false _ refl (mapping.UpdatesWord.far many)
 
 -- ---- behind the entry
@@ -88,23 +88,23 @@ element_warm v w d e awaited answer serves hand warm = kept_warm v w (serves_cam
 -- ---- the operation
 module _ {d foreign va word flags : ℕ} (awaited : Option ℕ) {v : PortValue} {says : ℕ → Bool} {before after yes_before yes_after : ℕ} where
   pub maps_unset : {w : PortValue} (k : ℕ) → k ≡ 0 → (e : Stop) (answer : Result (Unit {0}) Stop) → IsErrAnd answer (λ x. x ≡ e) →
-      AskedPast g h (is_due_answer {A = Unit {0}} (Err e)) (λ answers. SettlesFirst (UpdatesWord d foreign va word flags) v w answers (Err e)) →
-      AskedPast g h (is_due_answer answer) (λ answers. MapsWord d foreign va word flags awaited v k k w answers answer)
+      GatedPast g h (is_due_answer {A = Unit {0}} (Err e)) (λ answers. SettlesFirst (UpdatesWord d foreign va word flags) v w answers (Err e)) →
+      GatedPast g h (is_due_answer answer) (λ answers. MapsWord d foreign va word flags awaited v k k w answers answer)
   maps_unset {w} k zero e answer is updates =
       rw (is_err answer e is, zero)
       (answers_as (λ answers. SettlesFirst (UpdatesWord d foreign va word flags) v w answers (Err e)) (λ answers. MapsWord d foreign va word flags awaited v 0 0 w answers (Err e)) g h (is_due_answer {A = Unit {0}} (Err e))
       (λ answers on. mapping.MapsWord.unset w answers e on) updates)
 
   pub maps_set : {u w : PortValue} (k to : ℕ) → k ≡ 0 → (answer : Result (Unit {0}) Stop) → to ≡ done_behind answer → is_due_answer answer ≡ false →
-      AskedPast g h false (λ answers. SettlesFirst (UpdatesWord d foreign va word flags) v u answers (Ok tt)) →
-      DropsBehind d flags va u w answer → AskedPast g h (is_due_answer answer) (λ answers. MapsWord d foreign va word flags awaited v k to w answers answer)
+      GatedPast g h false (λ answers. SettlesFirst (UpdatesWord d foreign va word flags) v u answers (Ok tt)) →
+      DropsBehind d flags va u w answer → GatedPast g h (is_due_answer answer) (λ answers. MapsWord d foreign va word flags awaited v k to w answers answer)
   maps_set {u} {w} k to zero answer done undue updates drops =
       rw (zero, done)
-      (subst (λ (b : Bool). AskedPast g h b (λ answers. MapsWord d foreign va word flags awaited v 0 (done_behind answer) w answers answer)) (sym undue)
+      (subst (λ (b : Bool). GatedPast g h b (λ answers. MapsWord d foreign va word flags awaited v 0 (done_behind answer) w answers answer)) (sym undue)
       (answers_as (λ answers. SettlesFirst (UpdatesWord d foreign va word flags) v u answers (Ok tt)) (λ answers. MapsWord d foreign va word flags awaited v 0 (done_behind answer) w answers answer) g h false
       (λ answers on. mapping.MapsWord.set u w answers answer on drops) updates))
 
 pub maps_waited : {d foreign va word flags : ℕ} (awaited : Option ℕ) {v w : PortValue} (says : ℕ → Bool) (asks risen k to : ℕ) → k ≡ 1 → (answer : Result (Unit {0}) Stop) → to ≡ done_behind answer → is_due_answer answer ≡ false → WaitsForAll d true awaited v w answer →
-    AskedPast says asks asks (λ answers. MapsWord d foreign va word flags awaited v k to w answers answer) risen risen (is_due_answer answer)
+    GatedPast says asks asks (λ answers. MapsWord d foreign va word flags awaited v k to w answers answer) risen risen (is_due_answer answer)
 maps_waited {d} {foreign} {va} {word} {flags} awaited {v} {w} says asks risen k to one answer done undue waits =
     rw (one, done) (answers_nothing says asks risen (is_due_answer answer) (λ answers. MapsWord d foreign va word flags awaited v 1 (done_behind answer) w answers answer) undue (mapping.MapsWord.waited w answer waits))

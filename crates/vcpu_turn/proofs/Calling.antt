@@ -13,7 +13,7 @@ use Rattle.xp_words.specs.declared.reply.Reply.{Reply}
 use Rattle.xp_words.specs.declared.reply.Stop.{Stop}
 use Rattle.xp_words.specs.declared.reply.Stop.TheVariants.{Refused, Paused}
 use Rattle.xp_board.specs.Told.{PortValue}
-use Rattle.xp_preempt.specs.Gates.{AskedPast, Consulted, Gate}
+use Rattle.xp_preempt.specs.Gates.{Consulted, Gate, GatedPast}
 use Rattle.xp_preempt.proofs.Consulting.{consulted_none, consulted_then}
 use Rattle.level_release.specs.Asking.{is_due_stop}
 use Rattle.vcpu_turn.specs.Calls as calling
@@ -28,40 +28,40 @@ use Rattle.vcpu_turn.proofs.Gating.{answers_behind, answers_nothing, ends_behind
 
 -- ---- one call
 module _ {d op : ℕ} {call : Call} {v : PortValue} {from : Progress} {log : List LogLine} {says : ℕ → Bool} {before after yes_before yes_after : ℕ} {left : Option ℕ} {u : PortValue} where
-  pub call_unsettled : (stop : Stop) (answer : Result (Unit {0}) Stop) → IsErrAnd answer (λ x. x ≡ stop) → AskedPast g h (is_due_stop stop) (λ answers. SettlesTo None left v u answers (Err stop)) →
-      AskedPast g h (is_due_answer answer) (λ answers. AnswersCall d call op v from log from u log answers answer)
+  pub call_unsettled : (stop : Stop) (answer : Result (Unit {0}) Stop) → IsErrAnd answer (λ x. x ≡ stop) → GatedPast g h (is_due_stop stop) (λ answers. SettlesTo None left v u answers (Err stop)) →
+      GatedPast g h (is_due_answer answer) (λ answers. AnswersCall d call op v from log from u log answers answer)
   call_unsettled stop answer is settles =
-      subst (λ (a : Result (Unit {0}) Stop). AskedPast g h (is_due_answer a) (λ answers. AnswersCall d call op v from log from u log answers a)) (sym (is_err answer stop is))
+      subst (λ (a : Result (Unit {0}) Stop). GatedPast g h (is_due_answer a) (λ answers. AnswersCall d call op v from log from u log answers a)) (sym (is_err answer stop is))
       (record { answers = settles.answers; course = calling.AnswersCall.unsettled u settles.answers stop settles.goes.0; gate = settles.gate; due = settles.due })
 
-  module _ (settles : AskedPast g h false (λ answers. SettlesTo None left v u answers (Ok tt))) {now : ℕ → Bool} (same : (n : ℕ) → now n ≡ says n) {last yes_last : ℕ} {to : Progress} {x : PortValue} {log' : List LogLine} where
-    pub call_paused : (stop : Stop) (p : Pause) → stop ≡ Paused p → AskedPast now after last (λ answers. WentOn d (task_in call) (call_behind op from.call) u from to x log log' answers (Err stop)) yes_after yes_last (is_due_stop stop) →
-        AskedPast says before last (λ answers. AnswersCall d call op v from log to x log' answers (Err (Paused p))) yes_before yes_last (is_due_stop (Paused p))
+  module _ (settles : GatedPast g h false (λ answers. SettlesTo None left v u answers (Ok tt))) {now : ℕ → Bool} (same : (n : ℕ) → now n ≡ says n) {last yes_last : ℕ} {to : Progress} {x : PortValue} {log' : List LogLine} where
+    pub call_paused : (stop : Stop) (p : Pause) → stop ≡ Paused p → GatedPast now after last (λ answers. WentOn d (task_in call) (call_behind op from.call) u from to x log log' answers (Err stop)) yes_after yes_last (is_due_stop stop) →
+        GatedPast says before last (λ answers. AnswersCall d call op v from log to x log' answers (Err (Paused p))) yes_before yes_last (is_due_stop (Paused p))
     call_paused stop p is went =
         answers_behind says now before after last yes_before yes_after yes_last settles.answers same settles.gate (is_due_stop (Paused p)) (λ answers. WentOn d (task_in call) (call_behind op from.call) u from to x log log' answers (Err (Paused p)))
         (λ answers. AnswersCall d call op v from log to x log' answers (Err (Paused p)))
-        (subst (λ (e : Stop). AskedPast now after last (λ answers. WentOn d (task_in call) (call_behind op from.call) u from to x log log' answers (Err e)) yes_after yes_last (is_due_stop e)) is went)
+        (subst (λ (e : Stop). GatedPast now after last (λ answers. WentOn d (task_in call) (call_behind op from.call) u from to x log log' answers (Err e)) yes_after yes_last (is_due_stop e)) is went)
         (λ answers goes. calling.AnswersCall.paused to u x log' settles.answers answers p settles.goes.0 goes)
 
     pub call_answered : (answer : Result ℕ Stop) (reply : Reply) → is_due_answer answer ≡ false → replied to.done answer ≡ Some reply →
-        AskedPast now after last (λ answers. WentOn d (task_in call) (call_behind op from.call) u from to x log log' answers answer) yes_after yes_last (is_due_answer answer) → (w : PortValue) → EndsCall (from.call + 1) x w →
+        GatedPast now after last (λ answers. WentOn d (task_in call) (call_behind op from.call) u from to x log log' answers answer) yes_after yes_last (is_due_answer answer) → (w : PortValue) → EndsCall (from.call + 1) x w →
         (log'' : List LogLine) → log'' ≡ log' ++ lines.Answer op (from.call + 1) reply ∷ [] → (at : Progress) → at ≡ begun_at (from.call + 1) →
-        AskedPast says before last (λ answers. AnswersCall d call op v from log at w log'' answers (Ok tt)) yes_before yes_last false
+        GatedPast says before last (λ answers. AnswersCall d call op v from log at w log'' answers (Ok tt)) yes_before yes_last false
     call_answered answer reply off is went w ends log'' logged at begins =
         answers_behind says now before after last yes_before yes_after yes_last settles.answers same settles.gate false (λ answers. WentOn d (task_in call) (call_behind op from.call) u from to x log log' answers answer)
         (λ answers. AnswersCall d call op v from log at w log'' answers (Ok tt))
-        (subst (λ (b : Bool). AskedPast now after last (λ answers. WentOn d (task_in call) (call_behind op from.call) u from to x log log' answers answer) yes_after yes_last b) off went)
+        (subst (λ (b : Bool). GatedPast now after last (λ answers. WentOn d (task_in call) (call_behind op from.call) u from to x log log' answers answer) yes_after yes_last b) off went)
         (λ answers goes.
         subst (λ (p : Progress). AnswersCall d call op v from log p w log'' (answers ++ settles.answers) (Ok tt)) (sym begins)
         (subst (λ (ls : List LogLine). AnswersCall d call op v from log (begun_at (from.call + 1)) w ls (answers ++ settles.answers) (Ok tt)) (sym logged)
         (calling.AnswersCall.answered to u x w log' settles.answers answers answer reply settles.goes.0 goes is ends)))
 
-    pub call_refused : (stop : Stop) (r : Refusal) → stop ≡ Refused r → AskedPast now after last (λ answers. WentOn d (task_in call) (call_behind op from.call) u from to x log log' answers (Err stop)) yes_after yes_last (is_due_stop stop) →
+    pub call_refused : (stop : Stop) (r : Refusal) → stop ≡ Refused r → GatedPast now after last (λ answers. WentOn d (task_in call) (call_behind op from.call) u from to x log log' answers (Err stop)) yes_after yes_last (is_due_stop stop) →
         (w : PortValue) → EndsCall (from.call + 1) x w → (log'' : List LogLine) → log'' ≡ log' ++ lines.Answer op (from.call + 1) (reply_of to.done 0 (Some r)) ∷ [] → (at : Progress) → at ≡ begun_at (from.call + 1) →
-        AskedPast says before last (λ answers. AnswersCall d call op v from log at w log'' answers (Ok tt)) yes_before yes_last false
+        GatedPast says before last (λ answers. AnswersCall d call op v from log at w log'' answers (Ok tt)) yes_before yes_last false
     call_refused stop r is went w ends log'' logged at begins =
         call_answered (Err (Refused r)) (reply_of to.done 0 (Some r)) refl refl
-        (subst (λ (e : Stop). AskedPast now after last (λ answers. WentOn d (task_in call) (call_behind op from.call) u from to x log log' answers (Err e)) yes_after yes_last (is_due_stop e)) is went) w ends log'' logged at begins
+        (subst (λ (e : Stop). GatedPast now after last (λ answers. WentOn d (task_in call) (call_behind op from.call) u from to x log log' answers (Err e)) yes_after yes_last (is_due_stop e)) is went) w ends log'' logged at begins
 
 -- ---- calls, one behind the other
 pub record WentThrough (d : ℕ) (calls : List Call) (op : ℕ) (v : PortValue) (from : Progress) (log : List LogLine) (at : Progress) (w : PortValue) (log' : List LogLine) (g h : Gate) : Type 0 where
@@ -74,11 +74,11 @@ module _ {d : ℕ} {calls : List Call} {op : ℕ} {v : PortValue} {from : Progre
   went_none = record { answers = []; did = calling.AnsweredCalls.none; gate = consulted_none says before yes_before }
 
   module _ {at : Progress} {u : PortValue} {behind : List LogLine} {after yes_after : ℕ} (went : WentThrough d calls op v from log at u behind g h) where
-    pub went_all : length calls ≤ 64 → length calls ≤ at.call → AskedPast g h false (λ answers. WorksCalls d calls op v from log (record at { done = at.call }) u behind answers (Ok tt))
+    pub went_all : length calls ≤ 64 → length calls ≤ at.call → GatedPast g h false (λ answers. WorksCalls d calls op v from log (record at { done = at.call }) u behind answers (Ok tt))
     went_all few all = record { answers = went.answers; course = calling.WorksCalls.all_answered at u behind went.answers few went.did all; gate = went.gate; due = λ due. absurd cc }
 
     module _ {now : ℕ → Bool} (same : (n : ℕ) → now n ≡ says n) {last yes_last : ℕ} (call : Call) (is : slice_get calls at.call ≡ Some call) {to : Progress} {w : PortValue} {log' : List LogLine} where
-      pub went_more : AskedPast now after last (λ answers. AnswersCall d call op u at behind to w log' answers (Ok tt)) yes_after yes_last false → WentThrough d calls op v from log to w log' says before last yes_before yes_last
+      pub went_more : GatedPast now after last (λ answers. AnswersCall d call op u at behind to w log' answers (Ok tt)) yes_after yes_last false → WentThrough d calls op v from log to w log' says before last yes_before yes_last
       went_more next =
           record {
             answers = next.answers ++ went.answers;
@@ -87,10 +87,10 @@ module _ {d : ℕ} {calls : List Call} {op : ℕ} {v : PortValue} {from : Progre
           }
 
       pub went_stopped : length calls ≤ 64 → (stop : Stop) (answer : Result (Unit {0}) Stop) → IsErrAnd answer (λ x. x ≡ stop) →
-          AskedPast now after last (λ answers. AnswersCall d call op u at behind to w log' answers (Err stop)) yes_after yes_last (is_due_stop stop) →
-          AskedPast says before last (λ answers. WorksCalls d calls op v from log to w log' answers answer) yes_before yes_last (is_due_answer answer)
+          GatedPast now after last (λ answers. AnswersCall d call op u at behind to w log' answers (Err stop)) yes_after yes_last (is_due_stop stop) →
+          GatedPast says before last (λ answers. WorksCalls d calls op v from log to w log' answers answer) yes_before yes_last (is_due_answer answer)
       went_stopped few stop answer err next =
-          subst (λ (a : Result (Unit {0}) Stop). AskedPast says before last (λ answers. WorksCalls d calls op v from log to w log' answers a) yes_before yes_last (is_due_answer a)) (sym (is_err answer stop err))
+          subst (λ (a : Result (Unit {0}) Stop). GatedPast says before last (λ answers. WorksCalls d calls op v from log to w log' answers a) yes_before yes_last (is_due_answer a)) (sym (is_err answer stop err))
           (record {
             answers = next.answers ++ went.answers;
             goes = calling.WorksCalls.stopped at to u w call behind log' went.answers next.answers stop few went.did is next.goes;
@@ -100,7 +100,7 @@ module _ {d : ℕ} {calls : List Call} {op : ℕ} {v : PortValue} {from : Progre
 
 -- a long one
 pub went_long : (d : ℕ) (calls : List Call) (op : ℕ) (v : PortValue) (from : Progress) (log : List LogLine) (says : ℕ → Bool) (asks risen : ℕ) → 64 < length calls →
-    AskedPast says asks asks (λ answers. WorksCalls d calls op v from log (record from { done = 0; awaited = None }) v log answers (Err (Refused refusals.BatchLong))) risen risen false
+    GatedPast says asks asks (λ answers. WorksCalls d calls op v from log (record from { done = 0; awaited = None }) v log answers (Err (Refused refusals.BatchLong))) risen risen false
 went_long d calls op v from log says asks risen above =
     answers_nothing says asks risen false (λ answers. WorksCalls d calls op v from log (record from { done = 0; awaited = None }) v log answers (Err (Refused refusals.BatchLong))) refl (calling.WorksCalls.long above)
 

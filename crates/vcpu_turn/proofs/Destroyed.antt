@@ -24,7 +24,7 @@ use Rattle.vcpu_turn.specs.declared.cpu.Progress.{Progress}
 use Rattle.vcpu_turn.proofs.Gating.{is_err}
 use Rattle.vcpu_turn.proofs.NextOps.{SeenNoMore}
 use Rattle.vcpu_turn.proofs.Noes.{noes_asked, noes_due, noes_no, noes_none, noes_then, settled_noes}
-use Rattle.xp_preempt.specs.Gates.{Asked, AskedPast, Gate}
+use Rattle.xp_preempt.specs.Gates.{Gate, Gated, GatedPast}
 
 module _ {x op : ℕ} {v : PortValue} {from to : Progress} {w : PortValue} {log log' : List LogLine} {answers : List Bool} {answer : Result ℕ Stop} (went : WentOnDestroying x op v from to w log log' answers answer) where
   pub destroyed_came : Came v w
@@ -117,17 +117,17 @@ module _ (x op : ℕ) (v : PortValue) (at to : DestroyAt) (w : PortValue) (log l
       omega (arith, more, sum, many, all)
 
 pub went_destroying : (x op : ℕ) (v : PortValue) (from to : Progress) (w : PortValue) (log log' : List LogLine) (answer : Result ℕ Stop) (g h : Gate) →
-    Asked g h (is_due_answer answer) (λ answers. DomainDestroyed v w x op from.place to.place log log' answers answer) → to ≡ record from { done = done_behind from.done answer; place = to.place } →
-    AskedPast g h (is_due_answer answer) (λ answers. WentOnDestroying x op v from to w log log' answers answer)
+    Gated g h (is_due_answer answer) (λ answers. DomainDestroyed v w x op from.place to.place log log' answers answer) → to ≡ record from { done = done_behind from.done answer; place = to.place } →
+    GatedPast g h (is_due_answer answer) (λ answers. WentOnDestroying x op v from to w log log' answers answer)
 went_destroying x op v from to w log log' answer g h gated is =
     record { answers = gated.answers; course = record { destroyed = gated.went; to_is = is }; gate = gated.gate; due = λ due. sym gated.due ∙ due }
 
 -- it stopped, and the answer is passed on
 module _ (x op : ℕ) (v : PortValue) (from : Progress) (to : DestroyAt) (w : PortValue) (log log' : List LogLine) (stop : Stop) (answer : Result ℕ Stop) (is : IsErrAnd answer (λ e. e ≡ stop)) (g h : Gate)
-    (gated : Asked g h (is_due_stop stop) (λ answers. DomainDestroyed v w x op from.place to log log' answers (Err stop))) where
-  pub went_stopped : AskedPast g h (is_due_answer answer) (λ answers. WentOnDestroying x op v from (record from { place = to }) w log log' answers answer)
+    (gated : Gated g h (is_due_stop stop) (λ answers. DomainDestroyed v w x op from.place to log log' answers (Err stop))) where
+  pub went_stopped : GatedPast g h (is_due_answer answer) (λ answers. WentOnDestroying x op v from (record from { place = to }) w log log' answers answer)
   went_stopped =
-      subst (λ (a : Result ℕ Stop). AskedPast g h (is_due_answer a) (λ answers. WentOnDestroying x op v from (record from { place = to }) w log log' answers a)) (sym (is_err answer stop is))
+      subst (λ (a : Result ℕ Stop). GatedPast g h (is_due_answer a) (λ answers. WentOnDestroying x op v from (record from { place = to }) w log log' answers a)) (sym (is_err answer stop is))
       (went_destroying x op v from (record from { place = to }) w log log' (Err stop) g h gated refl)
 
   pub place_stopped : IfErr answer (λ e. HasComeTo w x to op log')
@@ -135,10 +135,10 @@ module _ (x op : ℕ) (v : PortValue) (from : Progress) (to : DestroyAt) (w : Po
 
 -- it ended
 pub went_ended : (x op : ℕ) (v : PortValue) (from : Progress) (to : DestroyAt) (w : PortValue) (log log' : List LogLine) (left value : ℕ) → value ≡ left → (g h : Gate) →
-    Asked g h false (λ answers. DomainDestroyed v w x op from.place to log log' answers (Ok left)) →
-    AskedPast g h false (λ answers. WentOnDestroying x op v from (record from { done = 1; place = to }) w log log' answers (Ok value))
+    Gated g h false (λ answers. DomainDestroyed v w x op from.place to log log' answers (Ok left)) →
+    GatedPast g h false (λ answers. WentOnDestroying x op v from (record from { done = 1; place = to }) w log log' answers (Ok value))
 went_ended x op v from to w log log' left value is g h gated =
-    subst (λ n. AskedPast g h false (λ answers. WentOnDestroying x op v from (record from { done = 1; place = to }) w log log' answers (Ok n))) (sym is)
+    subst (λ n. GatedPast g h false (λ answers. WentOnDestroying x op v from (record from { done = 1; place = to }) w log log' answers (Ok n))) (sym is)
     (went_destroying x op v from (record from { done = 1; place = to }) w log log' (Ok left) g h gated refl)
 
 -- the room of the log, as the operation that destroys has it

@@ -11,7 +11,7 @@ use Rattle.vcpu_turn.specs.Turning.{Begins, DiesBy, EndsTurn, IsStop, IsTurn, Ma
 use Rattle.vcpu_turn.specs.declared.cpu.TurnEnd.{TurnEnd}
 use Rattle.vcpu_turn.specs.declared.cpu.TurnEnd.TheVariants as ends
 use Rattle.vcpu_turn.proofs.Gating.{answers_nothing}
-use Rattle.xp_preempt.specs.Gates.{AskedPast}
+use Rattle.xp_preempt.specs.Gates.{GatedPast}
 
 -- ---- by its calls
 module _ (life : ℕ) (seen c : Processing) (is : seen ≡ c) (v w : PortValue) (c2 : Processing) where
@@ -43,10 +43,10 @@ dies_undue life c None c2 v w end dies = ap is_due dies.1.1
 
 -- ---- the whole turn
 pub seen_dies : (seen c : Processing) → seen ≡ c → (v a w : PortValue) → seen.retired ≡ false → (run life : ℕ) → Begins v a seen.domain run life → life ≢ 0 → (says : ℕ → Bool) (asks risen : ℕ) (c2 : Processing) (end : TurnEnd) →
-    DiesBy life seen (next_of seen) c2 a w end → AskedPast says asks asks (λ answers. TurnBy c.retired c c2 end v w answers) risen risen (is_due end)
+    DiesBy life seen (next_of seen) c2 a w end → GatedPast says asks asks (λ answers. TurnBy c.retired c c2 end v w answers) risen risen (is_due end)
 seen_dies seen c is v a w on run life begins dead says asks risen c2 end dies =
-    subst (λ (x : Processing). AskedPast says asks asks (λ answers. TurnBy x.retired x c2 end v w answers) risen risen (is_due end)) is
-    (subst (λ (b : Bool). AskedPast says asks asks (λ answers. TurnBy b seen c2 end v w answers) risen risen (is_due end)) (sym on)
+    subst (λ (x : Processing). GatedPast says asks asks (λ answers. TurnBy x.retired x c2 end v w answers) risen risen (is_due end)) is
+    (subst (λ (b : Bool). GatedPast says asks asks (λ answers. TurnBy b seen c2 end v w answers) risen risen (is_due end)) (sym on)
     (answers_nothing says asks risen (is_due end) (λ answers. IsTurn seen c2 end v w answers) (dies_undue life seen (next_of seen) c2 a w end dies)
     (record { begun = a; worked = dies.0; run = run; life = life; begins = begins; does = turning.DoesTurn.dying life dies.0 c2 end dead dies.1; goes = refl; ends = dies.2 })))
 

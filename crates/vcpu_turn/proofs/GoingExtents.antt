@@ -8,7 +8,7 @@ use Rattle.xp_words.specs.declared.reply.Stop.{Stop}
 use Rattle.xp_words.specs.declared.reply.Stop.TheVariants.{Refused, Paused}
 use Rattle.xp_words.specs.declared.reply.Pause.TheVariants.{Due, Lost, Busy, Flush, Alive}
 use Rattle.xp_board.specs.Told.{PortValue}
-use Rattle.xp_preempt.specs.Gates.{AskedPast, Consulted, Gate, answer_at, next_ask}
+use Rattle.xp_preempt.specs.Gates.{Consulted, Gate, GatedPast, answer_at, next_ask}
 use Rattle.xp_preempt.proofs.Consulting.{consulted_ask, consulted_then}
 use Rattle.level_release.specs.Asking.{is_due_stop}
 use Rattle.reservations.specs.Extents.{IsExtentStop, Reserves}
@@ -100,15 +100,15 @@ module _ {d command order : ℕ} {items : List ℕ} {number : CallNumber} {from 
 module _ {d command order : ℕ} {items : List ℕ} {number : CallNumber} {from within : ℕ} {v : PortValue} {log : List LogLine} {k : ℕ} {u : PortValue} {left : ℕ} {log' : List LogLine} {early : List Bool}
     (went : Went d command order items number from within v log k u left log' early) (g h : Gate) (first : Consulted g h early) where
   -- there was none left
-  pub answers_all : k ≡ extents_in command items → AskedPast g h false (λ answers. ListsExtents d command order items number from within v k left u log log' answers (Ok tt))
+  pub answers_all : k ≡ extents_in command items → GatedPast g h false (λ answers. ListsExtents d command order items number from within v k left u log log' answers (Ok tt))
   answers_all at = record { answers = early; course = went_all went at; gate = first; due = λ due. absurd cc }
 
   module _ (x : Extent) (is : extent_at command items k ≡ Some x) (to : ℕ) (w : PortValue) where
     -- one was refused or paused
     pub answers_stopped : (e : Stop) → Reserves d (2 ^ order) x left u to w (Err e) → k < extents_in command items → (answer : Result (Unit {0}) Stop) → IsErrAnd answer (λ y. y ≡ e) →
-        AskedPast g h (is_due_answer answer) (λ answers. ListsExtents d command order items number from within v k to w log log' answers answer)
+        GatedPast g h (is_due_answer answer) (λ answers. ListsExtents d command order items number from within v k to w log log' answers answer)
     answers_stopped e reserves less answer stops =
-        subst (λ (a : Result (Unit {0}) Stop). AskedPast g h (is_due_answer a) (λ answers. ListsExtents d command order items number from within v k to w log log' answers a)) (sym (is_err answer e stops))
+        subst (λ (a : Result (Unit {0}) Stop). GatedPast g h (is_due_answer a) (λ answers. ListsExtents d command order items number from within v k to w log log' answers a)) (sym (is_err answer e stops))
         (record { answers = early; course = stopped went x is to w e reserves less; gate = first; due = λ due. absurd (not_both (extent_not_due x e reserves.kinds) due) })
       where
         not_both : {b : Bool} → b ≡ false → b ≡ true → ⊥
@@ -116,7 +116,7 @@ module _ {d command order : ℕ} {items : List ℕ} {number : CallNumber} {from 
 
     module _ (given : Option ℕ) (reserves : Reserves d (2 ^ order) x left u to w (Ok given)) (log'' : List LogLine) (more : log'' ≡ log' ++ given_lines number (block_at k given)) where
       -- the last one was done
-      pub answers_done : k + 1 ≡ extents_in command items → AskedPast g h false (λ answers. ListsExtents d command order items number from within v (k + 1) 0 w log log'' answers (Ok tt))
+      pub answers_done : k + 1 ≡ extents_in command items → GatedPast g h false (λ answers. ListsExtents d command order items number from within v (k + 1) 0 w log log'' answers (Ok tt))
       answers_done at = record { answers = early; course = last_done went x is given to w reserves log'' more at; gate = first; due = λ due. absurd cc }
 
       -- the gate was asked behind one
@@ -125,7 +125,7 @@ module _ {d command order : ℕ} {items : List ℕ} {number : CallNumber} {from 
         asked due said on rose = consulted_then now says before after final yes_before yes_after yes_final early (due ∷ []) same first (consulted_ask now after final yes_after yes_final due said on rose)
 
         pub answers_due : true ≡ answer_at now after → final ≡ next_ask after → yes_final ≡ yes_after + 1 →
-            AskedPast says before final (λ answers. ListsExtents d command order items number from within v (k + 1) 0 w log log'' answers (Err (Paused Due))) yes_before yes_final true
+            GatedPast says before final (λ answers. ListsExtents d command order items number from within v (k + 1) 0 w log log'' answers (Err (Paused Due))) yes_before yes_final true
         answers_due said on rose =
             record { answers = true ∷ early; course = due_behind went x is given to w reserves log'' more less; gate = asked true said on rose; due = λ due. refl }
 

@@ -14,7 +14,7 @@ use Rattle.vcpu_turn.specs.Lists.{is_due_answer}
 use Rattle.vcpu_turn.specs.Turning.{OperationWentOn, NextWentOn}
 use Rattle.vcpu_turn.specs.declared.cpu.Progress.{Progress}
 use Rattle.vcpu_turn.proofs.Gating.{answers_as, answers_nothing}
-use Rattle.xp_preempt.specs.Gates.{AskedPast}
+use Rattle.xp_preempt.specs.Gates.{GatedPast}
 
 -- it is no destruction
 abbrev pub DestroysNone : Job → Type 0
@@ -43,17 +43,17 @@ pub no_op_found : (script seen : List Op) (k i : ℕ) → seen ≡ script → i 
 no_op_found script seen k i same at past = ap (λ (xs : List Op). slice_get xs k) (sym same) ∙ ap (λ (j : ℕ). slice_get seen j) (sym at) ∙ slice_get_past seen i past
 
 module _ (c seen : Processing) (is : seen ≡ c) (v : PortValue) (says : ℕ → Bool) (before yes_before : ℕ) where
-  pub goes_nowhere : next_of seen ≡ None → AskedPast says before before (λ answers. NextWentOn (next_of c) c c v v answers None) yes_before yes_before false
+  pub goes_nowhere : next_of seen ≡ None → GatedPast says before before (λ answers. NextWentOn (next_of c) c c v v answers None) yes_before yes_before false
   goes_nowhere next =
-      subst (λ p. AskedPast says before before (λ answers. NextWentOn p c c v v answers None) yes_before yes_before false) (sym (ap next_of (sym is) ∙ next))
+      subst (λ p. GatedPast says before before (λ answers. NextWentOn p c c v v answers None) yes_before yes_before false) (sym (ap next_of (sym is) ∙ next))
       (answers_nothing says before yes_before false (λ answers. NextWentOn None c c v v answers None) refl (refl, refl, refl))
 
   pub goes_on : (op : Op) → next_of seen ≡ Some op → (to : Progress) (log : List LogLine) (w : PortValue) (after yes_after : ℕ) (answer : Result ℕ Stop) →
-      AskedPast g h (is_due_answer answer) (λ answers. WentBy seen.domain (job_of op) (seen.answered + 1) v seen.at to w seen.log log answers answer) →
-      AskedPast g h (is_due_answer answer) (λ answers. NextWentOn (next_of c) c (record seen { at = to; log = log }) v w answers (Some answer))
+      GatedPast g h (is_due_answer answer) (λ answers. WentBy seen.domain (job_of op) (seen.answered + 1) v seen.at to w seen.log log answers answer) →
+      GatedPast g h (is_due_answer answer) (λ answers. NextWentOn (next_of c) c (record seen { at = to; log = log }) v w answers (Some answer))
   goes_on op next to log w after yes_after answer went =
-      subst (λ (x : Processing). AskedPast g h (is_due_answer answer) (λ answers. NextWentOn (next_of x) x (record seen { at = to; log = log }) v w answers (Some answer))) is
-      (subst (λ p. AskedPast g h (is_due_answer answer) (λ answers. NextWentOn p seen (record seen { at = to; log = log }) v w answers (Some answer))) (sym next)
+      subst (λ (x : Processing). GatedPast g h (is_due_answer answer) (λ answers. NextWentOn (next_of x) x (record seen { at = to; log = log }) v w answers (Some answer))) is
+      (subst (λ p. GatedPast g h (is_due_answer answer) (λ answers. NextWentOn p seen (record seen { at = to; log = log }) v w answers (Some answer))) (sym next)
       (answers_as (λ answers. WentBy seen.domain (job_of op) (seen.answered + 1) v seen.at to w seen.log log answers answer) (λ answers. NextWentOn (Some op) seen (record seen { at = to; log = log }) v w answers (Some answer)) g h (is_due_answer answer)
       (λ answers on. record { went = on; cpu = refl }) went))
 

@@ -20,16 +20,16 @@ use Rattle.vcpu_turn.specs.declared.cpu.Progress.{Progress}
 use Rattle.vcpu_turn.specs.declared.cpu.CallNumber.{CallNumber}
 use Rattle.vcpu_turn.proofs.Gating.{answers_as, answers_nothing}
 use Rattle.vcpu_turn.proofs.Listing.{works_within}
-use Rattle.xp_preempt.specs.Gates.{AskedPast, Gate}
+use Rattle.xp_preempt.specs.Gates.{Gate, GatedPast}
 
 module _ (fits : Fitting) (count from : ℕ) (v : PortValue) (says : ℕ → Bool) where
-  pub too_long : (asks risen : ℕ) → 512 < count → AskedPast says asks asks (λ answers. WorksThrough fits count v from 0 v answers (Err (Refused refusals.BatchLong))) risen risen false
+  pub too_long : (asks risen : ℕ) → 512 < count → GatedPast says asks asks (λ answers. WorksThrough fits count v from 0 v answers (Err (Refused refusals.BatchLong))) risen risen false
   too_long asks risen above =
       answers_nothing says asks risen false (λ answers. WorksThrough fits count v from 0 v answers (Err (Refused refusals.BatchLong))) refl
       (inl (above, record { none = refl; no_step = refl; no_ask = refl; refused = refl }))
 
-  module _ (before after yes_before yes_after to : ℕ) (w : PortValue) (answer : Result (Unit {0}) Stop) (works : AskedPast g h (is_due_answer answer) (λ answers. WorksOn fits count from v to w answers answer)) where
-    pub not_long : count ≤ 512 → AskedPast g h (is_due_answer answer) (λ answers. WorksThrough fits count v from to w answers answer)
+  module _ (before after yes_before yes_after to : ℕ) (w : PortValue) (answer : Result (Unit {0}) Stop) (works : GatedPast g h (is_due_answer answer) (λ answers. WorksOn fits count from v to w answers answer)) where
+    pub not_long : count ≤ 512 → GatedPast g h (is_due_answer answer) (λ answers. WorksThrough fits count v from to w answers answer)
     not_long most =
         answers_as (λ answers. WorksOn fits count from v to w answers answer) (λ answers. WorksThrough fits count v from to w answers answer) g h (is_due_answer answer) (λ answers on. inr (most, on)) works
 
@@ -41,21 +41,21 @@ pub above_none : (n : ℕ) → (n == 0) ≡ false → 0 < n
 above_none n off = grind (arith, nat_tests)
 
 module _ (d foreign : ℕ) (list : List Pair) (from : ℕ) (v : PortValue) (says : ℕ → Bool) where
-  pub owned_long : (asks risen : ℕ) → 512 < length list → AskedPast says asks asks (λ answers. WorksOwned d foreign list v from 0 v answers (Err (Refused refusals.BatchLong))) risen risen false
+  pub owned_long : (asks risen : ℕ) → 512 < length list → GatedPast says asks asks (λ answers. WorksOwned d foreign list v from 0 v answers (Err (Refused refusals.BatchLong))) risen risen false
   owned_long asks risen above =
       answers_nothing says asks risen false (λ answers. WorksOwned d foreign list v from 0 v answers (Err (Refused refusals.BatchLong))) refl
       (long 0 v [] (Err (Refused refusals.BatchLong)) above (record { none = refl; no_step = refl; no_ask = refl; refused = refl }))
 
-  pub owned_none : (asks risen : ℕ) → length list ≡ 0 → AskedPast says asks asks (λ answers. WorksOwned d foreign list v from from v answers (Ok tt)) risen risen false
+  pub owned_none : (asks risen : ℕ) → length list ≡ 0 → GatedPast says asks asks (λ answers. WorksOwned d foreign list v from from v answers (Ok tt)) risen risen false
   owned_none asks risen empty = answers_nothing says asks risen false (λ answers. WorksOwned d foreign list v from from v answers (Ok tt)) refl (none empty)
 
   module _ (some : 0 < length list) (most : length list ≤ 512) where
-    pub owned_refused : (asks risen : ℕ) (w : PortValue) (x : Refusal) → FindsOwners v w d foreign (Err x) → AskedPast says asks asks (λ answers. WorksOwned d foreign list v from from w answers (Err (Refused x))) risen risen false
+    pub owned_refused : (asks risen : ℕ) (w : PortValue) (x : Refusal) → FindsOwners v w d foreign (Err x) → GatedPast says asks asks (λ answers. WorksOwned d foreign list v from from w answers (Err (Refused x))) risen risen false
     owned_refused asks risen w x finds = answers_nothing says asks risen false (λ answers. WorksOwned d foreign list v from from w answers (Err (Refused x))) refl (unowned w x some most finds)
 
     pub owned_on : (u : PortValue) (o : Owners) → FindsOwners v u d foreign (Ok o) → (before after yes_before yes_after to : ℕ) (w : PortValue) (answer : Result (Unit {0}) Stop) →
-        AskedPast g h (is_due_answer answer) (λ answers. WorksOn (PairFits o list) (length list) from u to w answers answer) →
-        AskedPast g h (is_due_answer answer) (λ answers. WorksOwned d foreign list v from to w answers answer)
+        GatedPast g h (is_due_answer answer) (λ answers. WorksOn (PairFits o list) (length list) from u to w answers answer) →
+        GatedPast g h (is_due_answer answer) (λ answers. WorksOwned d foreign list v from to w answers answer)
     owned_on u o finds before after yes_before yes_after to w answer works =
         answers_as (λ answers. WorksOn (PairFits o list) (length list) from u to w answers answer) (λ answers. WorksOwned d foreign list v from to w answers answer) g h (is_due_answer answer)
         (λ answers on. owned to u w o answers answer some most finds on) works
@@ -67,8 +67,8 @@ due_valued (Err e) = refl
 
 -- what answers no value
 module _ (P : List Bool → Result (Unit {0}) Stop → Type 0) (g h : Gate) (ended : Result (Unit {0}) Stop) (answer : Result ℕ Stop) (is : answer ≡ valued ended) where
-  pub without_value : AskedPast g h (is_due_answer ended) (λ answers. P answers ended) →
-      AskedPast g h (is_due_answer answer) (λ answers. Valued (λ e. P answers e) answer)
+  pub without_value : GatedPast g h (is_due_answer ended) (λ answers. P answers ended) →
+      GatedPast g h (is_due_answer answer) (λ answers. Valued (λ e. P answers e) answer)
   without_value works =
       record {
         answers = works.answers;
@@ -136,28 +136,28 @@ module _ (d : ℕ) (number : CallNumber) (v : PortValue) (from : Progress) (log 
       }
 
   pub not_built : o ≡ None → (asks risen : ℕ) →
-      AskedPast says asks asks (λ answers. WentOn d o number v from (left_waiting o (record from { done = 0 }) (Err (Refused refusals.BadCommand))) v log log answers (Err (Refused refusals.BadCommand))) risen risen false
+      GatedPast says asks asks (λ answers. WentOn d o number v from (left_waiting o (record from { done = 0 }) (Err (Refused refusals.BadCommand))) v log log answers (Err (Refused refusals.BadCommand))) risen risen false
   not_built is asks risen =
-      subst (λ (p : Option Task). AskedPast says asks asks (λ answers. WentOn d p number v from (left_waiting p (record from { done = 0 }) (Err (Refused refusals.BadCommand))) v log log answers (Err (Refused refusals.BadCommand))) risen risen false) (sym is)
+      subst (λ (p : Option Task). GatedPast says asks asks (λ answers. WentOn d p number v from (left_waiting p (record from { done = 0 }) (Err (Refused refusals.BadCommand))) v log log answers (Err (Refused refusals.BadCommand))) risen risen false) (sym is)
       (answers_nothing says asks risen false (λ answers. WentOn d None number v from (left_waiting None (record from { done = 0 }) (Err (Refused refusals.BadCommand))) v log log answers (Err (Refused refusals.BadCommand))) refl
       (went_plain None tt 0 v [] (Err (Refused refusals.BadCommand)) (record { none = refl; no_step = refl; no_ask = refl; refused = refl })))
 
   module _ (task : Task) (is : o ≡ Some task) (before after yes_before yes_after : ℕ) (w : PortValue) (answer : Result ℕ Stop) where
-    went_as : (to : Progress) (log' : List LogLine) → AskedPast g h (is_due_answer answer) (λ answers. WentOn d (Some task) number v from (left_waiting (Some task) to answer) w log log' answers answer) →
-        AskedPast g h (is_due_answer answer) (λ answers. WentOn d o number v from (left_waiting o to answer) w log log' answers answer)
+    went_as : (to : Progress) (log' : List LogLine) → GatedPast g h (is_due_answer answer) (λ answers. WentOn d (Some task) number v from (left_waiting (Some task) to answer) w log log' answers answer) →
+        GatedPast g h (is_due_answer answer) (λ answers. WentOn d o number v from (left_waiting o to answer) w log log' answers answer)
     went_as to log' went =
-        subst (λ (p : Option Task). AskedPast g h (is_due_answer answer) (λ answers. WentOn d p number v from (left_waiting p to answer) w log log' answers answer)) (sym is) went
+        subst (λ (p : Option Task). GatedPast g h (is_due_answer answer) (λ answers. WentOn d p number v from (left_waiting p to answer) w log log' answers answer)) (sym is) went
 
-    pub built : IsPlain (Some task) → (to : ℕ) → AskedPast g h (is_due_answer answer) (λ answers. Works d (Some task) from.awaited v from.done to w answers answer) →
-        AskedPast g h (is_due_answer answer) (λ answers. WentOn d o number v from (left_waiting o (record from { done = to }) answer) w log log answers answer)
+    pub built : IsPlain (Some task) → (to : ℕ) → GatedPast g h (is_due_answer answer) (λ answers. Works d (Some task) from.awaited v from.done to w answers answer) →
+        GatedPast g h (is_due_answer answer) (λ answers. WentOn d o number v from (left_waiting o (record from { done = to }) answer) w log log answers answer)
     built plain to works =
         went_as (record from { done = to }) log
         (answers_as (λ answers. Works d (Some task) from.awaited v from.done to w answers answer) (λ answers. WentOn d (Some task) number v from (left_waiting (Some task) (record from { done = to }) answer) w log log answers answer)
         g h (is_due_answer answer) (λ answers on. went_plain (Some task) plain to w answers answer on) works)
 
   pub built_extents : (command order : ℕ) (items : List ℕ) → o ≡ Some (OfMem command order items) → (before after yes_before yes_after : ℕ) (to : Progress) (w : PortValue) (log' : List LogLine) (ended : Result (Unit {0}) Stop) (answer : Result ℕ Stop) → answer ≡ valued ended →
-      AskedPast g h (is_due_answer ended) (λ answers. GoesExtents d command order items number v from to w log log' answers ended) →
-      AskedPast g h (is_due_answer answer) (λ answers. WentOn d o number v from (left_waiting o to answer) w log log' answers answer)
+      GatedPast g h (is_due_answer ended) (λ answers. GoesExtents d command order items number v from to w log log' answers ended) →
+      GatedPast g h (is_due_answer answer) (λ answers. WentOn d o number v from (left_waiting o to answer) w log log' answers answer)
   built_extents command order items is before after yes_before yes_after to w log' ended answer valued_is goes =
       went_as (OfMem command order items) is before after yes_before yes_after w answer to log'
       (record {

@@ -18,7 +18,7 @@ use Rattle.xp_board.specs.declared.step.StepKind.TheVariants as kinds
 use Rattle.xp_board.specs.Acts.{left_by}
 use Rattle.xp_board.specs.Told.{Post, PortValue}
 use Rattle.xp_board.proofs.HandLists.{EachOf-map}
-use Rattle.xp_preempt.specs.Gates.{Asked, GivesAnswers, last_ask}
+use Rattle.xp_preempt.specs.Gates.{GivesAnswers, last_ask}
 use Rattle.step_maker.proofs.Coming.{came_post}
 use Rattle.partial_state.specs.Levels.{level_type}
 use Rattle.partial_state.proofs.LevelFacts.{level_type-table}

@@ -12,11 +12,11 @@ use Rattle.vcpu_turn.specs.Working.{GoesExtents}
 use Rattle.vcpu_turn.specs.declared.cpu.Progress.{Progress}
 use Rattle.vcpu_turn.specs.declared.cpu.CallNumber.{CallNumber}
 use Rattle.vcpu_turn.proofs.Gating.{answers_as, answers_nothing}
-use Rattle.xp_preempt.specs.Gates.{AskedPast}
+use Rattle.xp_preempt.specs.Gates.{GatedPast}
 
 module _ (d command order : ℕ) (items : List ℕ) (number : CallNumber) (v : PortValue) (from : Progress) (log : List LogLine) (says : ℕ → Bool) (before yes_before : ℕ) where
   pub goes_refused : (x : Refusal) → mem_refusal command order items ≡ Some x →
-      AskedPast says before before (λ answers. GoesExtents d command order items number v from (record from { done = 0 }) v log log answers (Err (Refused x))) yes_before yes_before false
+      GatedPast says before before (λ answers. GoesExtents d command order items number v from (record from { done = 0 }) v log log answers (Err (Refused x))) yes_before yes_before false
   goes_refused x why =
       answers_nothing says before yes_before false (λ answers. GoesExtents d command order items number v from (record from { done = 0 }) v log log answers (Err (Refused x))) refl
       (record {
@@ -28,15 +28,15 @@ module _ (d command order : ℕ) (items : List ℕ) (number : CallNumber) (v : P
       })
 
   module _ (checked : mem_refusal command order items ≡ None) where
-    pub goes_none : extents_in command items ≡ 0 → AskedPast says before before (λ answers. GoesExtents d command order items number v from from v log log answers (Ok tt)) yes_before yes_before false
+    pub goes_none : extents_in command items ≡ 0 → GatedPast says before before (λ answers. GoesExtents d command order items number v from from v log log answers (Ok tt)) yes_before yes_before false
     goes_none empty =
         answers_nothing says before yes_before false (λ answers. GoesExtents d command order items number v from from v log log answers (Ok tt)) refl
         (record { works = extents.WorksExtents.none checked empty; calls = refl; within = refl; awaited = refl; lines = sym (append-nil log) })
 
     -- they go on from the first that is still to be done
     pub goes_listed : 0 < extents_in command items → (begun to left after yes_after : ℕ) (w : PortValue) (log' : List LogLine) (answer : Result (Unit {0}) Stop) → begun ≡ begins_in command from.done →
-        AskedPast g h (is_due_answer answer) (λ answers. ListsExtents d command order items number begun from.within v to left w log log' answers answer) →
-        AskedPast g h (is_due_answer answer) (λ answers. GoesExtents d command order items number v from (record from { done = to; within = left }) w log log' answers answer)
+        GatedPast g h (is_due_answer answer) (λ answers. ListsExtents d command order items number begun from.within v to left w log log' answers answer) →
+        GatedPast g h (is_due_answer answer) (λ answers. GoesExtents d command order items number v from (record from { done = to; within = left }) w log log' answers answer)
     goes_listed some begun to left after yes_after w log' answer first listed =
         answers_as (λ answers. ListsExtents d command order items number begun from.within v to left w log log' answers answer)
         (λ answers. GoesExtents d command order items number v from (record from { done = to; within = left }) w log log' answers answer) g h (is_due_answer answer)

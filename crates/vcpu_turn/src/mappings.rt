@@ -7,7 +7,7 @@ ghost use Rattle.vcpu_turn.specs.Cpus.{awaited_behind};
 ghost use Rattle.vcpu_turn.specs.Lists.{is_due_answer};
 ghost use Rattle.vcpu_turn.specs.Mappings.{AwaitsBehind, AwaitsWhere, DropsBehind, DropsOwn, IsUnpaused, MapsWord, UpdatesWord, done_behind, is_bad_flags, own_drop, waits_for_all};
 ghost use Rattle.vcpu_turn.specs.Settling.{IsWarm, SettlesFirst};
-ghost use Rattle.xp_preempt.specs.Gates.{AskedPast};
+ghost use Rattle.xp_preempt.specs.Gates.{GatedPast};
 
 use foreign_map::owner_for;
 use level_release::settle;
@@ -79,7 +79,7 @@ fn update_entry<P: Port>(
     requires rests { Rests (P.value port.old) }
     requires warm { IsWarm (P.value port.old) }
     ensures post { (P.value port.new).post ≡ (P.value port.old).post }
-    ensures updates { AskedPast (value gate.old) (value gate.new) (is_due_answer result) (λ answers. SettlesFirst (UpdatesWord domain mapping.now.foreign mapping.now.va mapping.now.word mapping.now.flags) (P.value port.old) (P.value port.new) answers result) }
+    ensures updates { GatedPast (value gate.old) (value gate.new) (is_due_answer result) (λ answers. SettlesFirst (UpdatesWord domain mapping.now.foreign mapping.now.va mapping.now.word mapping.now.flags) (P.value port.old) (P.value port.new) answers result) }
     ensures rests { Rests (P.value port.new) }
     ensures warm { IsWarm (P.value port.new) }
 {
@@ -164,7 +164,7 @@ pub(crate) fn map_word<P: Port>(
     requires warm { IsWarm (P.value port.old) }
     ensures post { (P.value port.new).post ≡ (P.value port.old).post }
     ensures within { done.new ≤ 1 }
-    ensures works { AskedPast (value gate.old) (value gate.new) (is_due_answer result) (λ answers. MapsWord domain mapping.now.foreign mapping.now.va mapping.now.word mapping.now.flags awaited (P.value port.old) done.old done.new (P.value port.new) answers result) }
+    ensures works { GatedPast (value gate.old) (value gate.new) (is_due_answer result) (λ answers. MapsWord domain mapping.now.foreign mapping.now.va mapping.now.word mapping.now.flags awaited (P.value port.old) done.old done.new (P.value port.new) answers result) }
     ensures awaits { AwaitsWhere (P.value port.new) done.new result }
     ensures rests { Rests (P.value port.new) }
     ensures warm { IsWarm (P.value port.new) }

@@ -15,7 +15,6 @@ use Rattle.step_maker.specs.Finding.{Finding}
 use Rattle.step_maker.proofs.Piecing.{within_frame}
 use Rattle.writable_pages.specs.Pages.{HidesMark, LeavesGot, ServesPage, of_page}
 use Rattle.whole_pages.specs.Whole.{of_copy}
-use Rattle.xp_preempt.specs.Gates.{Asked}
 
 module _ (v : PortValue) (f d : ℕ) (own : d ≡ domain_of v.post.machine v.post.vcpu) where
   own_page : of_page v f d ≡ of_frame f d (Some Writable)

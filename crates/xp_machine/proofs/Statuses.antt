@@ -7,7 +7,7 @@ use Rattle.trace_text.specs.TraceOf.{Fault, trace_of}
 use Rattle.xp_machine.specs.declared.status.Status.{Status}
 use Rattle.xp_machine.specs.declared.status.Status.TheVariants as status
 use Rattle.vcpu_runners.specs.Gates.{ArePaced, SetBy}
-use Rattle.xp_preempt.specs.Gates.{Asked, Gate, IsPaced, is_in_step}
+use Rattle.xp_preempt.specs.Gates.{Gate, IsPaced, is_in_step}
 use Rattle.xp_machine.specs.Texts.{fault_status}
 use Rattle.command_words.specs.declared.asked.Asked.{Asked}
 use Rattle.command_words.specs.declared.asked.Asked.TheVariants.{Run, Generate}

@@ -14,7 +14,7 @@ use Rattle.command_words.specs.declared.asked.Manner.{Manner}
 use Rattle.command_words.specs.declared.asked.Manner.TheVariants as manners
 use Rattle.xp_machine.specs.Ran.{RanGenerated, RanTrace}
 use Rattle.xp_machine.specs.Replay.{ReplayedTrace}
-use Rattle.xp_preempt.specs.Gates.{Asked, Gate}
+use Rattle.xp_preempt.specs.Gates.{Gate}
 
 -- these bytes were taken: all that were left, or one more than a trace may have, and no further one
 pub record Took (old new : Option (List ℕ)) (bytes : List ℕ) : Type 0 where

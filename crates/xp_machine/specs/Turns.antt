@@ -10,7 +10,7 @@ use Rattle.vcpu_turn.specs.Unhindered.{IsSparedIn}
 use Rattle.vcpu_runners.specs.Turns.{Processing, TurnEnd, is_due}
 use Rattle.vcpu_runners.specs.Turns as turning
 use Rattle.xp_machine.specs.Pieces.{Leads}
-use Rattle.xp_preempt.specs.Gates.{Consulted, Gate}
+use Rattle.xp_preempt.specs.Gates.{Consulted, Gate, ends_yes}
 
 -- the list of steps, the words and the hands of the board; how far the vCPUs have come; and the gate of each
 pub record Stage : Type 0 where

@@ -5,7 +5,7 @@ ghost use Rattle.vcpu_runners.specs.Gates.{ArePaced};
 ghost use Rattle.xp_machine.specs.Outcome.{GeneratedOutcome, IsAnswer, IsDue, Outcome, OutcomeBy, reads_trace, serial_of};
 ghost use Rattle.command_words.specs.Words.{words_ask};
 ghost use Rattle.command_words.specs.declared.asked.Manner.{Manner};
-ghost use Rattle.xp_preempt.specs.Gates.{Asked, Gate, IsPaced};
+ghost use Rattle.xp_preempt.specs.Gates.{Gate, IsPaced};
 
 use crate::execute::execute_generated;
 use crate::running::{InThreads, InTurns, Running};

@@ -1,6 +1,6 @@
 -- The answers of a gate in a row.
 use Rattle.std.proofs.Common.{◌≡◌, ℕ, ◌+◌, ◌++◌, ◌==◌, if◌then◌else◌, Bool, true, false, List, [], ◌∷◌, length, refl, sym, ap, ◌∙◌, subst, arith}
-use Rattle.xp_preempt.specs.Gates.{Asked, AskedPast, Consulted, Gate, GivesAnswers, IsCalm, answer_at, asks_on, ends_yes, last_ask, next_ask, one_more_if, yeses}
+use Rattle.xp_preempt.specs.Gates.{Gated, GatedPast, Consulted, Gate, GivesAnswers, IsCalm, answer_at, asks_on, ends_yes, last_ask, next_ask, one_more_if, yeses}
 
 -- nothing was asked
 pub consulted_none : (g : Gate) → Consulted g g []
@@ -54,39 +54,39 @@ consulted_then {g} {h} {k} {xs} {ys} first next =
 
 -- ---- a call that is paused for its gate exactly where that said yes last
 -- it asked nothing
-pub asked_none : {g : Gate} {paused : Bool} {P : List Bool → Type 0} → paused ≡ false → P [] → Asked g g paused P
-asked_none {g} off goes = record { answers = []; course = goes; gate = consulted_none g; due = off }
+pub gated_none : {g : Gate} {paused : Bool} {P : List Bool → Type 0} → paused ≡ false → P [] → Gated g g paused P
+gated_none {g} off goes = record { answers = []; course = goes; gate = consulted_none g; due = off }
 
 module _ {g h : Gate} {P : List Bool → Type 0} where
   -- its answer is made of that of another call
-  pub asked_as : {early paused : Bool} {Q : List Bool → Type 0} → paused ≡ early → ((xs : List Bool) → P xs → Q xs) → Asked g h early P → Asked g h paused Q
-  asked_as same on a = record { answers = a.answers; course = on a.answers a.course; gate = a.gate; due = same ∙ a.due }
+  pub gated_as : {early paused : Bool} {Q : List Bool → Type 0} → paused ≡ early → ((xs : List Bool) → P xs → Q xs) → Gated g h early P → Gated g h paused Q
+  gated_as same on a = record { answers = a.answers; course = on a.answers a.course; gate = a.gate; due = same ∙ a.due }
 
   -- so it may be said of one that may go on
-  pub asked_past : {paused : Bool} → Asked g h paused P → AskedPast g h paused P
-  asked_past a = record { answers = a.answers; course = a.course; gate = a.gate; due = λ on. sym a.due ∙ on }
+  pub gated_past : {paused : Bool} → Gated g h paused P → GatedPast g h paused P
+  gated_past a = record { answers = a.answers; course = a.course; gate = a.gate; due = λ on. sym a.due ∙ on }
 
 -- one call behind another, which is not paused
 ends_same : (early paused : Bool) (xs ys : List Bool) → early ≡ false → early ≡ ends_yes xs → paused ≡ ends_yes ys → paused ≡ ends_yes (ys ++ xs)
 ends_same early paused xs [] off first next = next ∙ sym off ∙ first
 ends_same early paused xs (y ∷ ys) off first next = next
 
-pub asked_then : {g h k : Gate} {early paused : Bool} {P Q R : List Bool → Type 0} → early ≡ false → ((xs ys : List Bool) → P xs → Q ys → R (ys ++ xs)) → Asked g h early P → Asked h k paused Q → Asked g k paused R
-asked_then {early = early} {paused} off both a b =
+pub gated_then : {g h k : Gate} {early paused : Bool} {P Q R : List Bool → Type 0} → early ≡ false → ((xs ys : List Bool) → P xs → Q ys → R (ys ++ xs)) → Gated g h early P → Gated h k paused Q → Gated g k paused R
+gated_then {early = early} {paused} off both a b =
     record { answers = b.answers ++ a.answers; course = both a.answers b.answers a.course b.course; gate = consulted_then a.gate b.gate; due = ends_same early paused a.answers b.answers off a.due b.due }
 
 -- ---- a call that may go on where the gate said yes
-pub past_none : {g : Gate} {paused : Bool} {P : List Bool → Type 0} → paused ≡ false → P [] → AskedPast g g paused P
+pub past_none : {g : Gate} {paused : Bool} {P : List Bool → Type 0} → paused ≡ false → P [] → GatedPast g g paused P
 past_none {g} off goes = record { answers = []; course = goes; gate = consulted_none g; due = λ on. absurd cc }
 
-pub past_as : {g h : Gate} {early paused : Bool} {P Q : List Bool → Type 0} → (paused ≡ true → early ≡ true) → ((xs : List Bool) → P xs → Q xs) → AskedPast g h early P → AskedPast g h paused Q
+pub past_as : {g h : Gate} {early paused : Bool} {P Q : List Bool → Type 0} → (paused ≡ true → early ≡ true) → ((xs : List Bool) → P xs → Q xs) → GatedPast g h early P → GatedPast g h paused Q
 past_as same on a = record { answers = a.answers; course = on a.answers a.course; gate = a.gate; due = λ is. a.due (same is) }
 
 ends_then : (xs ys : List Bool) → ends_yes ys ≡ true → ends_yes (ys ++ xs) ≡ true
 ends_then xs [] on = absurd cc
 ends_then xs (y ∷ ys) on = on
 
-pub past_then : {g h k : Gate} {early paused : Bool} {P Q R : List Bool → Type 0} → ((xs ys : List Bool) → P xs → Q ys → R (ys ++ xs)) → AskedPast g h early P → AskedPast h k paused Q → AskedPast g k paused R
+pub past_then : {g h k : Gate} {early paused : Bool} {P Q R : List Bool → Type 0} → ((xs ys : List Bool) → P xs → Q ys → R (ys ++ xs)) → GatedPast g h early P → GatedPast h k paused Q → GatedPast g k paused R
 past_then both a b =
     record { answers = b.answers ++ a.answers; course = both a.answers b.answers a.course b.course; gate = consulted_then a.gate b.gate; due = λ on. ends_then a.answers b.answers (b.due on) }
 
@@ -110,6 +110,6 @@ ends_some (true ∷ rest) none = absurd (let more : yeses rest + 1 ≡ 0 = none 
 ends_some (false ∷ rest) none = refl
 
 -- so no call is paused for it
-pub calm_pauses_nothing : {g h : Gate} {paused : Bool} {P : List Bool → Type 0} → IsCalm g → AskedPast g h paused P → paused ≡ false
+pub calm_pauses_nothing : {g h : Gate} {paused : Bool} {P : List Bool → Type 0} → IsCalm g → GatedPast g h paused P → paused ≡ false
 calm_pauses_nothing {g} {paused = true} calm a = let last = a.due refl in let none = ends_some a.answers (calm_answers_no g calm a.answers a.gate.gives) in absurd cc
 calm_pauses_nothing {paused = false} calm a = refl

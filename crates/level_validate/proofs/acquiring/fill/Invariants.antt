@@ -1,6 +1,6 @@
 use Rattle.std.proofs.Common.{◌≡◌, ℕ, Ok, true, false}
 use Rattle.partial_state.specs.Weights.{weight}
-use Rattle.xp_preempt.specs.Gates.{Asked, Heard}
+use Rattle.xp_preempt.specs.Gates.{Gated, Heard}
 use Rattle.table_entries.specs.Acquiring.{Worked}
 use Rattle.level_validate.proofs.Filling.{Filling}
 use Rattle.level_validate.proofs.acquiring.fill.Given as goal
@@ -13,7 +13,7 @@ invariant-loop-port g l = record {
   says : (n : ℕ) → (goal.Preempt-dyn g l.gate.now).says l.gate.now.1 n ≡ (goal.Preempt-dyn g l.fn.gate.now).says l.fn.gate.now.1 n;
   paces : (goal.Preempt-dyn g l.gate.now).paces l.gate.now.1 ≡ (goal.Preempt-dyn g l.fn.gate.now).paces l.fn.gate.now.1;
   calm : (goal.Preempt-dyn g l.fn.gate.now).calm l.fn.gate.now.1 ≡ true → (goal.Preempt-dyn g l.gate.now).calm l.gate.now.1 ≡ true;
-  course : Asked ((goal.Preempt-dyn g l.fn.gate.now).says l.fn.gate.now.1) ((goal.Preempt-dyn g l.fn.gate.now).count_asks l.fn.gate.now.1) ((goal.Preempt-dyn g l.gate.now).count_asks l.gate.now.1) ((goal.Preempt-dyn g l.fn.gate.now).count_yes l.fn.gate.now.1) ((goal.Preempt-dyn g l.gate.now).count_yes l.gate.now.1) false (λ answers. Worked l.owner (g.P.Port.value l.fn.port) l.fn.table (g.P.Port.value l.port) l.stack answers (Ok tt));
+  course : Gated ((goal.Preempt-dyn g l.fn.gate.now).says l.fn.gate.now.1) ((goal.Preempt-dyn g l.fn.gate.now).count_asks l.fn.gate.now.1) ((goal.Preempt-dyn g l.gate.now).count_asks l.gate.now.1) ((goal.Preempt-dyn g l.fn.gate.now).count_yes l.fn.gate.now.1) ((goal.Preempt-dyn g l.gate.now).count_yes l.gate.now.1) false (λ answers. Worked l.owner (g.P.Port.value l.fn.port) l.fn.table (g.P.Port.value l.port) l.stack answers (Ok tt));
 }
 
 abbrev pub decreases-loop-port : goal.decreases-loop-port
