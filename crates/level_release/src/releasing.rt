@@ -56,7 +56,7 @@ pub(crate) fn release_within<P: Port>(
     requires may { MayWork (P.value port.old) }
     requires holds { HoldsLive (P.value port.old) frame kind }
     requires room { known_old First (P.value port.old).holdings ≡ Some 0 }
-    ensures met { Releases (P.value port.old) (P.value port.new) frame kind left.old left.new (value gate.old) (value gate.new) result }
+    ensures { Releases (P.value port.old) (P.value port.new) frame kind left.old left.new (value gate.old) (value gate.new) result }
 {
     if !kind.is_table() {
         drop_plain(port, frame, kind);

@@ -84,7 +84,7 @@ fn write_word<P: Port>(
 ) -> Result<(), Stop>
     requires index { index < 512 }
     requires begins { MayBeginElement (P.value port.old) owners }
-    ensures writes { WritesBy (P.value port.old) (P.value port.new) owners f index word keep (value gate.old) (value gate.new) result }
+    ensures { WritesBy (P.value port.old) (P.value port.new) owners f index word keep (value gate.old) (value gate.new) result }
 {
     let frame = get_ref(port, f, owners.tables)?;
     write_referred(port, gate, owners, frame, index, word, keep)

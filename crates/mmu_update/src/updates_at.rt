@@ -65,7 +65,7 @@ fn enter_table<P: Port>(
     word: u64,
 ) -> Result<(), Stop>
     requires begins { MayBeginElement (P.value port.old) owners }
-    ensures enters { EntersAtBy (P.value port.old) (P.value port.new) owners va table word (value gate.old) (value gate.new) result }
+    ensures { EntersAtBy (P.value port.old) (P.value port.new) owners va table word (value gate.old) (value gate.new) result }
 {
     let frame = get_ref(port, u64::from(table), owners.tables)?;
     enter_referred(port, gate, owners, frame, va, word)

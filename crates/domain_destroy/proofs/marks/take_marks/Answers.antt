@@ -30,20 +30,20 @@ let_go-requires-clause-holds g c =
     let k = c.read_kind-kind.result in
     one_held v a c.args.frame (live_typed c.args.frame k.kind (owner_from v.holdings)) c.requires.rests (pin_came v a c.args.frame k c.requires.rests c.in-Ok.ensures.hand) (saw_inside c.requires.saw.2) refl
 
-pub returns-in-Ok-clause-went : goal.returns-in-Ok-clause-went
-returns-in-Ok-clause-went g c =
+pub returns-in-Ok : goal.returns-in-Ok
+returns-in-Ok g c =
     let v = g.P.Port.value c.args.port.now in
     let a = g.P.Port.value c.clear_pin.new.port in
     let w = g.P.Port.value c.let_go.new.port in
     let e = c.let_go.ensures in
     gated_as (pin_took v a w c.args.frame c.args.found c.read_kind-kind.result c.let_go.result c.read_kind-kind.ensures c.requires.rests e.serves e.stops e.kinds e.rests e.hand e.clear c.if-kind.true c.in-Ok.ensures.moves c.in-Ok.ensures.hand) e.course
 
-pub returns-in-Err-clause-went : goal.returns-in-Err-clause-went
-returns-in-Err-clause-went g c =
+pub returns-in-Err : goal.returns-in-Err
+returns-in-Err g c =
     let e = c.in-Err.ensures in
     gated_none (lost_undue _ _ _ c.lost.ensures) (lost_code (takes_pin c.args.found c.read_kind-kind.ensures c.if-kind.true) c.requires.rests e.moves e.lost e.hand c.lost.ensures)
 
 -- ---- none
-pub returns-else-kind-2-clause-went : goal.returns-else-kind-2-clause-went
-returns-else-kind-2-clause-went g c =
+pub returns-else-kind-2 : goal.returns-else-kind-2
+returns-else-kind-2 g c =
     gated_none refl (none_took (fields_of c.args.found c.read_kind-kind.result c.read_kind-kind.ensures) c.requires.rests c.requires.clear c.if-kind.false c.if-kind-2.false)

@@ -9,8 +9,8 @@ use Rattle.domain_destroy.proofs.Unmarking.{kept_came, kept_took, one_held}
 use Rattle.domain_destroy.proofs.marks.unkeep.Goals as goal
 
 -- ---- a descriptor page
-pub returns-then-eq-clause-went : goal.returns-then-eq-clause-went
-returns-then-eq-clause-went g c = gated_none c.end_page.ensures.undue c.end_page.ensures.went
+pub returns-then-eq : goal.returns-then-eq
+returns-then-eq g c = gated_none c.end_page.ensures.undue c.end_page.ensures.went
 
 pub returns-then-eq-clause-calm : goal.returns-then-eq-clause-calm
 returns-then-eq-clause-calm g c calm = (c.end_page.ensures.undue, calm)
@@ -28,8 +28,8 @@ let_go-requires-clause-holds g c =
     let a = g.P.Port.value c.take_back.new.port in
     one_held v a c.args.frame (brought_typed c.args.frame (Some c.args.kind.kind) v.holdings) c.requires.rests (kept_came v a c.args.frame c.args.kind c.requires.rests c.in-Ok.ensures.hand) (saw_inside c.requires.saw.2) refl
 
-pub returns-in-Ok-clause-went : goal.returns-in-Ok-clause-went
-returns-in-Ok-clause-went g c =
+pub returns-in-Ok : goal.returns-in-Ok
+returns-in-Ok g c =
     let v = g.P.Port.value c.args.port.now in
     let a = g.P.Port.value c.take_back.new.port in
     let w = g.P.Port.value c.let_go.new.port in
@@ -38,8 +38,8 @@ returns-in-Ok-clause-went g c =
     let other : c.args.kind.kind ≢ Desc = search rules in
     gated_as (kept_took v a w c.args.frame c.args.found c.args.kind c.let_go.result r.read r.rests e.serves e.stops e.kinds e.rests e.hand e.clear r.unpinned r.kept other c.in-Ok.ensures.moves c.in-Ok.ensures.hand) e.course
 
-pub returns-in-Err-clause-went : goal.returns-in-Err-clause-went
-returns-in-Err-clause-went g c =
+pub returns-in-Err : goal.returns-in-Err
+returns-in-Err g c =
     let r = c.requires in
     let e = c.in-Err.ensures in
     let other : c.args.kind.kind ≢ Desc = search rules in

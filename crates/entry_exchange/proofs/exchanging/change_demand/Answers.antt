@@ -9,8 +9,8 @@ take_demand-requires-clause-asks g c = of_level c.args.update.level c.args.updat
 pub leave_lock-requires-clause-locked : goal.leave_lock-requires-clause-locked
 leave_lock-requires-clause-locked g c = untaken_lock c.args.update c.args.owners c.requires.locked (rw (c.owner_at-owner.ensures, c.requires.wanted) at c.in-Err.ensures.did)
 
-pub returns-in-Err-clause-did : goal.returns-in-Err-clause-did
-returns-in-Err-clause-did g c =
+pub returns-in-Err : goal.returns-in-Err
+returns-in-Err g c =
     let took = rw (c.owner_at-owner.ensures, c.requires.wanted) at c.in-Err.ensures.did in
     untaken_changed c.args.update c.args.owners c.requires.locked took (rw c.requires.wanted at c.requires.fits) (rw c.requires.wanted at c.requires.other) c.leave_lock.ensures
 
@@ -45,12 +45,12 @@ release_demand-requires g c =
       room = off_old0 x o c.requires.locked took other put left ∙ c.requires.room;
     })
 
-pub returns-in-Ok-put_entry-clause-did : goal.returns-in-Ok-put_entry-clause-did
-returns-in-Ok-put_entry-clause-did g c =
+pub returns-in-Ok-put_entry : goal.returns-in-Ok-put_entry
+returns-in-Ok-put_entry g c =
     let took = rw (c.owner_at-owner.ensures, c.requires.wanted) at c.in-Ok.ensures.did in
     let other = rw c.requires.wanted at c.requires.other in
     let put = rw c.word_kept-new.ensures at c.in-Ok-put_entry.ensures in
-    let freeing = rw (c.demand.ensures, c.level_type.ensures) at c.release_demand.ensures.did in
+    let freeing = rw (c.demand.ensures, c.level_type.ensures) at c.release_demand.ensures in
     done_changed c.args.update c.args.owners c.requires.locked took other put c.leave_lock-in-Ok-put_entry.ensures (rw c.requires.wanted at c.requires.fits) c.take_demand.ensures.says freeing
 
 -- ---- it is not put there
@@ -73,8 +73,8 @@ leave_lock-requires-in-Err-put_entry-clause-works g c =
     given_works c.args.update c.args.owners c.requires.locked took (rw c.word_kept-new.ensures at c.in-Err-put_entry.ensures)
     (rw (c.owner_at-owner.ensures, c.requires.wanted) at c.give_demand.ensures)
 
-pub returns-in-Err-put_entry-clause-did : goal.returns-in-Err-put_entry-clause-did
-returns-in-Err-put_entry-clause-did g c =
+pub returns-in-Err-put_entry : goal.returns-in-Err-put_entry
+returns-in-Err-put_entry g c =
     let took = rw (c.owner_at-owner.ensures, c.requires.wanted) at c.in-Ok.ensures.did in
     let put = rw c.word_kept-new.ensures at c.in-Err-put_entry.ensures in
     let gave = rw (c.owner_at-owner.ensures, c.requires.wanted) at c.give_demand.ensures in

@@ -11,8 +11,8 @@ leave_lock-requires-clause-locked g c = look_lock c.args.update c.args.owners c.
 pub leave_lock-requires-clause-works : goal.leave_lock-requires-clause-works
 leave_lock-requires-clause-works g c = look_works c.args.update c.args.owners c.requires.locked c.look_cell-seen.ensures.moves c.look_cell-seen.ensures.hand
 
-pub returns-in-Bad-clause-did : goal.returns-in-Bad-clause-did
-returns-in-Bad-clause-did g c =
+pub returns-in-Bad : goal.returns-in-Bad
+returns-in-Bad g c =
     let look = c.look_cell-seen.ensures in
     let bad = sym (rw (c.level_type-kind.ensures, c.word_kept-new.ensures) at c.demand-wanted.ensures) ∙ c.in-Bad.is in
     rw c.word_kept-new.ensures (ended_bad c.args.update c.args.owners c.requires.locked look.moves look.hand c.requires.may bad c.leave_lock.ensures)
@@ -46,8 +46,8 @@ leave_lock-requires-then-is_same g c =
       room = keep_old1 x c.args.owners c.requires.locked look.moves look.hand same put ∙ c.requires.room_too;
     }
 
-pub returns-in_err-put-clause-did : goal.returns-in_err-put-clause-did
-returns-in_err-put-clause-did g c =
+pub returns-in_err-put : goal.returns-in_err-put
+returns-in_err-put g c =
     let p = err_from_is_err_and c.from_residual.result c.from_residual.ensures.1 in
     let look = c.look_cell-seen.ensures in
     let same = sym (rw (c.demand-wanted.ensures, c.demand.ensures, c.level_type-kind.ensures, c.word_kept-new.ensures) at c.is_same.ensures) ∙ c.if-is_same.true in
@@ -57,8 +57,8 @@ returns-in_err-put-clause-did g c =
 pub returns-in_err-put-clause-calm : goal.returns-in_err-put-clause-calm
 returns-in_err-put-clause-calm g c = let p = err_from_is_err_and c.from_residual.result c.from_residual.ensures.1 in λ calm. (rw (p.1, p.2) (undue c.in_err-put.ensures.course), calm)
 
-pub returns-then-is_same-clause-did : goal.returns-then-is_same-clause-did
-returns-then-is_same-clause-did g c =
+pub returns-then-is_same : goal.returns-then-is_same
+returns-then-is_same g c =
     let look = c.look_cell-seen.ensures in
     let same = sym (rw (c.demand-wanted.ensures, c.demand.ensures, c.level_type-kind.ensures, c.word_kept-new.ensures) at c.is_same.ensures) ∙ c.if-is_same.true in
     let put = rw c.word_kept-new.ensures at c.in_ok-put.ensures in
@@ -86,5 +86,5 @@ change_demand-requires g c =
       other = sym (rw (c.demand.ensures, c.level_type-kind.ensures) at c.is_same.ensures) ∙ c.if-is_same.false;
     }
 
-pub returns-clause-did : goal.returns-clause-did
-returns-clause-did g c = let look = c.look_cell-seen.ensures in ended_changed c.args.update c.args.owners c.requires.locked look.moves look.hand c.requires.may c.change_demand.ensures.did
+pub returns : goal.returns
+returns g c = let look = c.look_cell-seen.ensures in ended_changed c.args.update c.args.owners c.requires.locked look.moves look.hand c.requires.may c.change_demand.ensures

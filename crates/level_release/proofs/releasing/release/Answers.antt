@@ -3,4 +3,4 @@ use Rattle.level_release.proofs.releasing.release.Goals as goal
 
 -- what it leaves is not kept
 pub returns-clause-course : goal.returns-clause-course
-returns-clause-course g c = by_as (λ answers released. released.0) c.release_within.ensures.met.course
+returns-clause-course g c = by_as (λ answers released. released.0) c.release_within.ensures.course

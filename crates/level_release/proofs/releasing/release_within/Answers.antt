@@ -12,8 +12,8 @@ use Rattle.level_release.proofs.releasing.release_within.Goals as goal
 pub drop_plain-requires-clause-drops : goal.drop_plain-requires-clause-drops
 drop_plain-requires-clause-drops g c = may_drop_plain c.requires.holds (sym c.is_table.ensures ∙ c.if-not-is_table.true)
 
-pub returns-then-not-is_table-clause-met : goal.returns-then-not-is_table-clause-met
-returns-then-not-is_table-clause-met g c =
+pub returns-then-not-is_table : goal.returns-then-not-is_table
+returns-then-not-is_table g c =
     let v = g.P.Port.value c.args.port.now in
     let w = g.P.Port.value c.drop_plain.new.port in
     let e = c.drop_plain.ensures in
@@ -36,8 +36,8 @@ pub put_ref-requires-clause-gives : goal.put_ref-requires-clause-gives
 put_ref-requires-clause-gives g c =
     counted_gives c.requires.holds (subst (λ b. DropsType (g.P.Port.value c.args.port.now) (g.P.Port.value c.drop_type.new.port) c.args.frame b) c.if-drop_type.false c.drop_type.ensures.drops)
 
-pub returns-else-drop_type-clause-met : goal.returns-else-drop_type-clause-met
-returns-else-drop_type-clause-met g c =
+pub returns-else-drop_type : goal.returns-else-drop_type
+returns-else-drop_type g c =
     let v = g.P.Port.value c.args.port.now in
     let a = g.P.Port.value c.drop_type.new.port in
     let w = g.P.Port.value c.put_ref.new.port in
@@ -63,8 +63,8 @@ empty-requires-clause-stands g c =
           (sym c.is_table.ensures ∙ c.if-not-is_table.false) c.requires.frame,
     )
 
-pub returns-then-drop_type-clause-met : goal.returns-then-drop_type-clause-met
-returns-then-drop_type-clause-met g c =
+pub returns-then-drop_type : goal.returns-then-drop_type
+returns-then-drop_type g c =
     let v = g.P.Port.value c.args.port.now in
     let a = g.P.Port.value c.drop_type.new.port in
     let x = g.P.Port.value c.look_refs.new.port in

@@ -19,11 +19,11 @@ use Rattle.level_release.proofs.settling.settle_found.Goals as goal
 pub release_within-requires-clause-holds : goal.release_within-requires-clause-holds
 release_within-requires-clause-holds g c = named_live c.requires.took.2 c.read_kind-kind.ensures c.if-kind.true
 
-pub returns-then-kind-clause-met : goal.returns-then-kind-clause-met
-returns-then-kind-clause-met g c u which t =
+pub returns-then-kind : goal.returns-then-kind
+returns-then-kind g c u which t =
     let w = g.P.Port.value c.release_within.new.port in
     let answer = c.release_within.result in
-    let e = c.release_within.ensures.met in
+    let e = c.release_within.ensures in
     let hand = took_settled w t answer e.hand in
     let came = serves_came (g.P.Port.value c.args.port.now) w (of_release c.args.frame 0 0 answer) _ (e.serves 0 0) in
     record {
@@ -40,8 +40,8 @@ returns-then-kind-clause-met g c u which t =
 pub put_old-requires-clause-held : goal.put_old-requires-clause-held
 put_old-requires-clause-held g c = took_held c.requires.took.2
 
-pub returns-else-kind-2-clause-met : goal.returns-else-kind-2-clause-met
-returns-else-kind-2-clause-met g c u which t =
+pub returns-else-kind-2 : goal.returns-else-kind-2
+returns-else-kind-2 g c u which t =
     let v = g.P.Port.value c.args.port.now in
     let w = g.P.Port.value c.put_old.new.port in
     let e = Paused (Busy c.args.frame c.args.found) in

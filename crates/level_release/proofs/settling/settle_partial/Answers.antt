@@ -70,8 +70,8 @@ put_ref-requires-clause-may g c =
 
 -- ---- the ways out
 
-pub returns-in-Err-clause-met : goal.returns-in-Err-clause-met
-returns-in-Err-clause-met g c u which t =
+pub returns-in-Err : goal.returns-in-Err
+returns-in-Err g c u which t =
     let d = g.P.Port.value c.resume_work.new.port in
     let w = g.P.Port.value c.put_old.new.port in
     let e = c.lost-stop.result in
@@ -88,8 +88,8 @@ returns-in-Err-clause-met g c u which t =
       course = by_none (lost_undue _ _ _ c.lost-stop.ensures) (lost_course t c.requires.read c.requires.partial a.moves c.args.left.now w a.lost c.lost-stop.ensures c.put_old.ensures.moves);
     }
 
-pub returns-in-Ok-clause-met : goal.returns-in-Ok-clause-met
-returns-in-Ok-clause-met g c u which t =
+pub returns-in-Ok : goal.returns-in-Ok
+returns-in-Ok g c u which t =
     let w = g.P.Port.value c.empty.new.port in
     let a = c.in-Ok.ensures in
     let look = c.look_refs.ensures in
@@ -108,8 +108,8 @@ returns-in-Ok-clause-met g c u which t =
           c.empty.ensures.course;
     }
 
-pub returns-in-Ok-2-clause-met : goal.returns-in-Ok-2-clause-met
-returns-in-Ok-2-clause-met g c u which t =
+pub returns-in-Ok-2 : goal.returns-in-Ok-2
+returns-in-Ok-2 g c u which t =
     let a = g.P.Port.value c.look_clock-clock.new.port in
     let e = g.P.Port.value c.leave.new.port in
     let w = g.P.Port.value c.put_ref.new.port in

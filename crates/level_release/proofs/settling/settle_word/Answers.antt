@@ -43,15 +43,15 @@ settle_found-requires-clause-took g c = (
       c.requires.first,
 )
 
-pub returns-clause-met : goal.returns-clause-met
-returns-clause-met g c =
-    c.settle_found.ensures.met (g.P.Port.value c.args.port.now) c.args.which (took_old c.args.which c.requires.rests c.look_old.ensures.moves c.look_old.ensures.hand c.if-look_old-eq0.false
+pub returns : goal.returns
+returns g c =
+    c.settle_found.ensures (g.P.Port.value c.args.port.now) c.args.which (took_old c.args.which c.requires.rests c.look_old.ensures.moves c.look_old.ensures.hand c.if-look_old-eq0.false
     c.take_old.ensures.moves c.take_old.ensures.hand c.take_old.ensures.own c.look_kind-found.ensures.moves c.look_kind-found.ensures.hand c.requires.first)
 
 -- ---- the word names none
 
-pub returns-then-look_old-eq0-clause-met : goal.returns-then-look_old-eq0-clause-met
-returns-then-look_old-eq0-clause-met g c =
+pub returns-then-look_old-eq0 : goal.returns-then-look_old-eq0
+returns-then-look_old-eq0 g c =
     let v = g.P.Port.value c.args.port.now in
     let w = g.P.Port.value c.look_old.new.port in
     let look = subst (λ x. Moves v w (old_place v.post.vcpu c.args.which) Load kinds.Look None x) c.if-look_old-eq0.true c.look_old.ensures.moves in

@@ -36,4 +36,4 @@ pub returns-in-Write-clause-plain : goal.returns-in-Write-clause-plain
 returns-in-Write-clause-plain g c =
     let v = g.P.Port.value c.args.port.now in
     let w = g.P.Port.value c.write_word.new.port in
-    subst (λ e. TwinUpdate v w c.args.owners e c.write_word.result) (sym (sym c.element_of.ensures ∙ c.in-Write.is)) (updated_plain v w c.args.owners (Write c.in-Write.frame c.in-Write.index c.in-Write.word c.in-Write.keep) _ _ c.write_word.ensures.writes.course.course)
+    subst (λ e. TwinUpdate v w c.args.owners e c.write_word.result) (sym (sym c.element_of.ensures ∙ c.in-Write.is)) (updated_plain v w c.args.owners (Write c.in-Write.frame c.in-Write.index c.in-Write.word c.in-Write.keep) _ _ c.write_word.ensures.course.course)

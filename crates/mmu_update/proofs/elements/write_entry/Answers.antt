@@ -16,4 +16,4 @@ pub exchange_entry-requires-clause-maps : goal.exchange_entry-requires-clause-ma
 exchange_entry-requires-clause-maps g c = maps_still c.requires.locked.1
 
 pub returns-clause-writes : goal.returns-clause-writes
-returns-clause-writes g c = λ b a. exchanged_writes a (sym c.is_slot.ensures ∙ c.if-is_slot.false) c.exchange_entry.ensures.did
+returns-clause-writes g c = λ b a. exchanged_writes a (sym c.is_slot.ensures ∙ c.if-is_slot.false) c.exchange_entry.ensures

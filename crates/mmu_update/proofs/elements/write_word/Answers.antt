@@ -4,8 +4,8 @@ use Rattle.mmu_update.proofs.Gating.{ungated}
 use Rattle.mmu_update.proofs.Referring.{referred_by, unreferred}
 use Rattle.mmu_update.proofs.elements.write_word.Goals as goal
 
-pub returns-in_err-frame-clause-writes : goal.returns-in_err-frame-clause-writes
-returns-in_err-frame-clause-writes g c =
+pub returns-in_err-frame : goal.returns-in_err-frame
+returns-in_err-frame g c =
     let p = err_from_is_err_and c.from_residual.result c.from_residual.ensures.1 in
     let t = c.in_err-frame.ensures in
     rw (p.1, p.2) (ungated (reference_undue c.in_err-frame.field-0.0 t.kinds) (unreferred c.requires.begins t.serves t.kinds t.hand (record { found = t.gets; plain = t.plain; stops = t.stops })))
@@ -15,7 +15,7 @@ write_referred-requires-clause-referred g c =
     let t = c.in_ok-frame.ensures in
     (g.P.Port.value c.args.port.now, referred_by t.frame c.requires.begins (record { found = t.gets; plain = t.plain; stops = tt }) t.serves t.hand)
 
-pub returns-clause-writes : goal.returns-clause-writes
-returns-clause-writes g c =
+pub returns : goal.returns
+returns g c =
     let t = c.in_ok-frame.ensures in
     rw t.frame.0 at (c.write_referred.ensures.writes (g.P.Port.value c.args.port.now) (referred_by t.frame c.requires.begins (record { found = t.gets; plain = t.plain; stops = tt }) t.serves t.hand))

@@ -9,4 +9,4 @@ pub exchange_entry-requires-clause-maps : goal.exchange_entry-requires-clause-ma
 exchange_entry-requires-clause-maps g c = maps_still c.requires.locked.1
 
 pub returns-clause-enters : goal.returns-clause-enters
-returns-clause-enters g c = λ b a. at_exchanged a c.index_at.ensures.index c.exchange_entry.ensures.did
+returns-clause-enters g c = λ b a. at_exchanged a c.index_at.ensures.index c.exchange_entry.ensures

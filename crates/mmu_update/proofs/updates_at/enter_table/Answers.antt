@@ -6,8 +6,8 @@ use Rattle.mmu_update.proofs.Reaching.{at_ungated}
 use Rattle.mmu_update.proofs.Referring.{referred_by}
 use Rattle.mmu_update.proofs.updates_at.enter_table.Goals as goal
 
-pub returns-in_err-frame-clause-enters : goal.returns-in_err-frame-clause-enters
-returns-in_err-frame-clause-enters g c =
+pub returns-in_err-frame : goal.returns-in_err-frame
+returns-in_err-frame g c =
     let p = err_from_is_err_and c.from_residual.result c.from_residual.ensures.1 in
     let t = c.in_err-frame.ensures in
     rw (p.1, p.2, sym c.from.ensures) (at_ungated (reference_undue c.in_err-frame.field-0.0 t.kinds) (at_unreferred c.requires.begins t.serves t.kinds t.hand (record { found = t.gets; plain = t.plain; stops = t.stops })))
@@ -17,7 +17,7 @@ enter_referred-requires g c =
     let t = c.in_ok-frame.ensures in
     record { referred = (g.P.Port.value c.args.port.now, referred_by t.frame c.requires.begins (record { found = t.gets; plain = t.plain; stops = tt }) t.serves t.hand) }
 
-pub returns-clause-enters : goal.returns-clause-enters
-returns-clause-enters g c =
+pub returns : goal.returns
+returns g c =
     let t = c.in_ok-frame.ensures in
     rw (t.frame.0, c.from.ensures) at (c.enter_referred.ensures.enters (g.P.Port.value c.args.port.now) (referred_by t.frame c.requires.begins (record { found = t.gets; plain = t.plain; stops = tt }) t.serves t.hand))

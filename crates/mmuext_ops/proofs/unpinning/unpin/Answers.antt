@@ -14,8 +14,8 @@ saw : (g : Over) (c : After-read_kind-kind g) →
     Looked (g.P.Port.value c.args.port.now) (g.P.Port.value c.get_ref.new.port) (g.P.Port.value c.look_kind-found.new.port) c.args.f c.args.domain c.in_ok-frame.frame c.look_kind-found.result c.read_kind-kind.result
 saw g c = let e = c.in_ok-frame.ensures in look.seen (g.P.Port.value c.args.port.now) c.args.domain e.frame e.serves e.hand e.gets e.plain c.look_kind-found.ensures.moves c.look_kind-found.ensures.hand c.read_kind-kind.ensures
 
-pub returns-in_err-frame-clause-met : goal.returns-in_err-frame-clause-met
-returns-in_err-frame-clause-met g c =
+pub returns-in_err-frame : goal.returns-in_err-frame
+returns-in_err-frame g c =
     let answer = err_from_is_err_and c.from_residual.result c.from_residual.ensures.1 in
     unreferred c.requires.rests (answer.1 ∙ ap Err answer.2) c.in_err-frame.ensures.serves c.in_err-frame.ensures.kinds c.in_err-frame.ensures.hand
     (record { found = c.in_err-frame.ensures.gets; plain = c.in_err-frame.ensures.plain; stops = c.in_err-frame.ensures.stops })
@@ -23,10 +23,10 @@ returns-in_err-frame-clause-met g c =
 pub read_kind-kind-requires : goal.read_kind-kind-requires
 read_kind-kind-requires g c = read_some (g.P.Port.value c.args.port.now) c.args.domain c.in_ok-frame.ensures.frame.1 c.in_ok-frame.ensures.hand c.look_kind-found.ensures.moves
 
-pub returns-then-not-kind-clause-met : goal.returns-then-not-kind-clause-met
-returns-then-not-kind-clause-met g c =
+pub returns-then-not-kind : goal.returns-then-not-kind
+returns-then-not-kind g c =
     let back = gave_back c.put_ref.ensures.serves c.put_ref.ensures.hand c.put_ref.ensures.puts c.put_ref.ensures.plain in
-    seen c.requires.rests (saw g (goal.at.returns-then-not-kind-clause-met g c).After-read_kind-kind) back (not-true c.read_kind-kind.result.pinned c.if-not-kind.true)
+    seen c.requires.rests (saw g (goal.at.returns-then-not-kind g c).After-read_kind-kind) back (not-true c.read_kind-kind.result.pinned c.if-not-kind.true)
 
 pub clear_pin-requires-clause-is : goal.clear_pin-requires-clause-is
 clear_pin-requires-clause-is g c = spelled (saw g (goal.at.clear_pin-requires-clause-is g c).After-read_kind-kind)
@@ -42,27 +42,27 @@ release-requires-clause-holds g c =
     let back = gave_back c.put_ref-in-Ok.ensures.serves c.put_ref-in-Ok.ensures.hand c.put_ref-in-Ok.ensures.puts c.put_ref-in-Ok.ensures.plain in
     holds c.requires.rests (saw g (goal.at.release-requires-clause-holds g c).After-read_kind-kind) (not-false c.read_kind-kind.result.pinned c.if-not-kind.false) c.in-Ok.ensures.moves refl c.in-Ok.ensures.hand (g.P.Port.value c.put_ref-in-Ok.new.port) back
 
-pub returns-in-Ok-release-clause-met : goal.returns-in-Ok-release-clause-met
-returns-in-Ok-release-clause-met g c =
+pub returns-in-Ok-release : goal.returns-in-Ok-release
+returns-in-Ok-release g c =
     let r = c.release.ensures in
     let back = gave_back c.put_ref-in-Ok.ensures.serves c.put_ref-in-Ok.ensures.hand c.put_ref-in-Ok.ensures.puts c.put_ref-in-Ok.ensures.plain in
-    released c.requires.rests (saw g (goal.at.returns-in-Ok-release-clause-met g c).After-read_kind-kind) (not-false c.read_kind-kind.result.pinned c.if-not-kind.false) c.in-Ok.ensures.moves refl c.in-Ok.ensures.hand (g.P.Port.value c.put_ref-in-Ok.new.port) back (r.serves c.args.domain c.args.domain) r.kinds r.hand r.course
+    released c.requires.rests (saw g (goal.at.returns-in-Ok-release g c).After-read_kind-kind) (not-false c.read_kind-kind.result.pinned c.if-not-kind.false) c.in-Ok.ensures.moves refl c.in-Ok.ensures.hand (g.P.Port.value c.put_ref-in-Ok.new.port) back (r.serves c.args.domain c.args.domain) r.kinds r.hand r.course
 
-pub returns-in-Ok-release-2-clause-met : goal.returns-in-Ok-release-2-clause-met
-returns-in-Ok-release-2-clause-met g c =
+pub returns-in-Ok-release-2 : goal.returns-in-Ok-release-2
+returns-in-Ok-release-2 g c =
     let r = c.release.ensures in
     let back = gave_back c.put_ref-in-Ok.ensures.serves c.put_ref-in-Ok.ensures.hand c.put_ref-in-Ok.ensures.puts c.put_ref-in-Ok.ensures.plain in
-    released c.requires.rests (saw g (goal.at.returns-in-Ok-release-2-clause-met g c).After-read_kind-kind) (not-false c.read_kind-kind.result.pinned c.if-not-kind.false) c.in-Ok.ensures.moves refl c.in-Ok.ensures.hand (g.P.Port.value c.put_ref-in-Ok.new.port) back (r.serves c.args.domain c.args.domain) r.kinds r.hand r.course
+    released c.requires.rests (saw g (goal.at.returns-in-Ok-release-2 g c).After-read_kind-kind) (not-false c.read_kind-kind.result.pinned c.if-not-kind.false) c.in-Ok.ensures.moves refl c.in-Ok.ensures.hand (g.P.Port.value c.put_ref-in-Ok.new.port) back (r.serves c.args.domain c.args.domain) r.kinds r.hand r.course
 
 pub read_kind-requires : goal.read_kind-requires
 read_kind-requires g c = found_some (saw g (goal.at.read_kind-requires g c).After-read_kind-kind) c.in-Err.ensures.moves
 
-pub returns-then-read_kind-clause-met : goal.returns-then-read_kind-clause-met
-returns-then-read_kind-clause-met g c =
+pub returns-then-read_kind : goal.returns-then-read_kind
+returns-then-read_kind g c =
     let back = gave_back c.put_ref-in-Err.ensures.serves c.put_ref-in-Err.ensures.hand c.put_ref-in-Err.ensures.puts c.put_ref-in-Err.ensures.plain in
-    lost c.requires.rests (saw g (goal.at.returns-then-read_kind-clause-met g c).After-read_kind-kind) (not-false c.read_kind-kind.result.pinned c.if-not-kind.false) c.in-Err.ensures.moves c.in-Err.ensures.lost c.in-Err.ensures.hand back c.read_kind.ensures c.lost.ensures c.if-read_kind.true
+    lost c.requires.rests (saw g (goal.at.returns-then-read_kind g c).After-read_kind-kind) (not-false c.read_kind-kind.result.pinned c.if-not-kind.false) c.in-Err.ensures.moves c.in-Err.ensures.lost c.in-Err.ensures.hand back c.read_kind.ensures c.lost.ensures c.if-read_kind.true
 
-pub returns-else-read_kind-clause-met : goal.returns-else-read_kind-clause-met
-returns-else-read_kind-clause-met g c =
+pub returns-else-read_kind : goal.returns-else-read_kind
+returns-else-read_kind g c =
     let back = gave_back c.put_ref-in-Err.ensures.serves c.put_ref-in-Err.ensures.hand c.put_ref-in-Err.ensures.puts c.put_ref-in-Err.ensures.plain in
-    raced c.requires.rests (saw g (goal.at.returns-else-read_kind-clause-met g c).After-read_kind-kind) (not-false c.read_kind-kind.result.pinned c.if-not-kind.false) c.in-Err.ensures.moves c.in-Err.ensures.lost c.in-Err.ensures.hand back c.read_kind.ensures c.if-read_kind.false
+    raced c.requires.rests (saw g (goal.at.returns-else-read_kind g c).After-read_kind-kind) (not-false c.read_kind-kind.result.pinned c.if-not-kind.false) c.in-Err.ensures.moves c.in-Err.ensures.lost c.in-Err.ensures.hand back c.read_kind.ensures c.if-read_kind.false
