@@ -75,6 +75,13 @@ pub gated_then : {g h k : Gate} {early paused : Bool} {P Q R : List Bool → Typ
 gated_then {early = early} {paused} off both a b =
     record { answers = b.answers ++ a.answers; course = both a.answers b.answers a.course b.course; gate = consulted_then a.gate b.gate; due = ends_same early paused a.answers b.answers off a.due b.due }
 
+-- one ask, alone; and behind what was asked before, which is not paused
+pub gated_one : {g h : Gate} {due : Bool} {P : List Bool → Type 0} → Consulted g h (due ∷ []) → P (due ∷ []) → Gated g h due P
+gated_one {due} asked goes = record { answers = due ∷ []; course = goes; gate = asked; due = refl }
+
+pub gated_ask : {g h k : Gate} {early due : Bool} {P Q : List Bool → Type 0} → ((xs : List Bool) → P xs → Q (due ∷ xs)) → Gated g h early P → Consulted h k (due ∷ []) → Gated g k due Q
+gated_ask {due = due} on a asked = record { answers = due ∷ a.answers; course = on a.answers a.course; gate = consulted_then a.gate asked; due = refl }
+
 -- ---- a call that may go on where the gate said yes
 pub past_none : {g : Gate} {paused : Bool} {P : List Bool → Type 0} → paused ≡ false → P [] → GatedPast g g paused P
 past_none {g} off goes = record { answers = []; course = goes; gate = consulted_none g; due = λ on. absurd cc }
@@ -82,13 +89,16 @@ past_none {g} off goes = record { answers = []; course = goes; gate = consulted_
 pub past_as : {g h : Gate} {early paused : Bool} {P Q : List Bool → Type 0} → (paused ≡ true → early ≡ true) → ((xs : List Bool) → P xs → Q xs) → GatedPast g h early P → GatedPast g h paused Q
 past_as same on a = record { answers = a.answers; course = on a.answers a.course; gate = a.gate; due = λ is. a.due (same is) }
 
-ends_then : (xs ys : List Bool) → ends_yes ys ≡ true → ends_yes (ys ++ xs) ≡ true
+pub ends_then : (xs ys : List Bool) → ends_yes ys ≡ true → ends_yes (ys ++ xs) ≡ true
 ends_then xs [] on = absurd cc
 ends_then xs (y ∷ ys) on = on
 
 pub past_then : {g h k : Gate} {early paused : Bool} {P Q R : List Bool → Type 0} → ((xs ys : List Bool) → P xs → Q ys → R (ys ++ xs)) → GatedPast g h early P → GatedPast h k paused Q → GatedPast g k paused R
 past_then both a b =
     record { answers = b.answers ++ a.answers; course = both a.answers b.answers a.course b.course; gate = consulted_then a.gate b.gate; due = λ on. ends_then a.answers b.answers (b.due on) }
+
+pub past_ask : {g h k : Gate} {early due : Bool} {P Q : List Bool → Type 0} → ((xs : List Bool) → P xs → Q (due ∷ xs)) → GatedPast g h early P → Consulted h k (due ∷ []) → GatedPast g k due Q
+past_ask {due = due} on a asked = record { answers = due ∷ a.answers; course = on a.answers a.course; gate = consulted_then a.gate asked; due = λ is. is }
 
 -- ---- a calm gate
 pub says_either : (t b : Bool) → b ≡ false → (if t then false else b) ≡ false
