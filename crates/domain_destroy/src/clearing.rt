@@ -31,7 +31,7 @@ pub(crate) fn clear_frames<P: Port>(
     requires come { (since : ℕ) × FoundCleared (P.value port.old).post.machine (P.value port.old).post.vcpu domain at.old since (P.value port.old).holdings }
     ensures come { (since : ℕ) → FoundCleared (P.value port.old).post.machine (P.value port.old).post.vcpu domain at.old since (P.value port.old).holdings → FoundCleared (P.value port.new).post.machine (P.value port.new).post.vcpu domain at.new since (P.value port.new).holdings }
     ensures all { IfOk result (λ _. (P.value port.new).post.machine.frames ≤ at.new) }
-    ensures went { Gated (value gate.old) (value gate.new) (is_due_answer result) (λ answers. PhaseWent (P.value port.old) (P.value port.new) domain (Clears at.old) (Clears at.new) [] answers result) }
+    ensures went { Gated (policy gate.old) (policy gate.new) (is_due_answer result) (λ answers. PhaseWent (P.value port.old) (P.value port.new) domain (Clears at.old) (Clears at.new) [] answers result) }
 {
     while *at < port.layout().frames {
         let passed = clear_frame(port, gate, domain, *at)?;
@@ -59,7 +59,7 @@ fn clear_frame<P: Port>(
     requires come { (since : ℕ) × FoundCleared (P.value port.old).post.machine (P.value port.old).post.vcpu domain frame since (P.value port.old).holdings }
     ensures stays { (since : ℕ) → FoundCleared (P.value port.old).post.machine (P.value port.old).post.vcpu domain frame since (P.value port.old).holdings → FoundCleared (P.value port.new).post.machine (P.value port.new).post.vcpu domain frame since (P.value port.new).holdings }
     ensures come { IfOk result (λ _. (since : ℕ) → FoundCleared (P.value port.old).post.machine (P.value port.old).post.vcpu domain frame since (P.value port.old).holdings → FoundCleared (P.value port.new).post.machine (P.value port.new).post.vcpu domain (frame + 1) since (P.value port.new).holdings) }
-    ensures went { Gated (value gate.old) (value gate.new) (is_due_answer result) (λ answers. PartWent (P.value port.old) (P.value port.new) domain (ClearsFrame domain frame (P.value port.old) (P.value port.new) answers result) result) }
+    ensures went { Gated (policy gate.old) (policy gate.new) (is_due_answer result) (λ answers. PartWent (P.value port.old) (P.value port.new) domain (ClearsFrame domain frame (P.value port.old) (P.value port.new) answers result) result) }
     // Behind it the gate may pause the destruction.
     ensures passed { IfOk result (λ passed. passed ≡ true → HasPassed (P.value port.old).post.machine (of_domain (P.value port.old).post.machine domain true) (Met (P.value port.old) (P.value port.new))) }
 {

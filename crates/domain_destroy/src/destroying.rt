@@ -31,7 +31,7 @@ pub fn destroy<P: Port>(
     requires clear { NamesNone (P.value port.old) }
     requires come { HasComeTo (P.value port.old) domain at.old op log.old.items }
     requires room { vec_len log.old + (P.value port.old).post.machine.frames ≤ vec_capacity log.old + seen_to at.old }
-    ensures destroyed { Gated (value gate.old) (value gate.new) (is_due_answer result) (λ answers. DomainDestroyed (P.value port.old) (P.value port.new) domain op at.old at.new log.old.items log.new.items answers result) }
+    ensures destroyed { Gated (policy gate.old) (policy gate.new) (is_due_answer result) (λ answers. DomainDestroyed (P.value port.old) (P.value port.new) domain op at.old at.new log.old.items log.new.items answers result) }
     ensures room { vec_len log.new + (P.value port.old).post.machine.frames ≤ vec_capacity log.new + seen_to at.new }
     ensures capacity { vec_capacity log.new ≡ vec_capacity log.old }
 {

@@ -36,7 +36,7 @@ pub(crate) fn empty_vcpus<P: Port>(
     requires come { FoundEmpty (P.value port.old).post.machine (P.value port.old).post.vcpu domain at.old (P.value port.old).holdings }
     ensures come { FoundEmpty (P.value port.new).post.machine (P.value port.new).post.vcpu domain at.new (P.value port.new).holdings }
     ensures all { IfOk result (λ _. length (P.value port.new).post.machine.vcpu_domain ≤ at.new) }
-    ensures went { Gated (value gate.old) (value gate.new) (is_due_answer result) (λ answers. PhaseWent (P.value port.old) (P.value port.new) domain (Empties at.old) (Empties at.new) [] answers result) }
+    ensures went { Gated (policy gate.old) (policy gate.new) (is_due_answer result) (λ answers. PhaseWent (P.value port.old) (P.value port.new) domain (Empties at.old) (Empties at.new) [] answers result) }
 {
     while *at < port.layout().vcpus() {
         let passed = empty_one(port, gate, domain, *at)?;
@@ -63,7 +63,7 @@ fn empty_one<P: Port>(
     requires come { FoundEmpty (P.value port.old).post.machine (P.value port.old).post.vcpu domain vcpu (P.value port.old).holdings }
     ensures stays { FoundEmpty (P.value port.new).post.machine (P.value port.new).post.vcpu domain vcpu (P.value port.new).holdings }
     ensures come { IfOk result (λ _. FoundEmpty (P.value port.new).post.machine (P.value port.new).post.vcpu domain (vcpu + 1) (P.value port.new).holdings) }
-    ensures went { Gated (value gate.old) (value gate.new) (is_due_answer result) (λ answers. PartWent (P.value port.old) (P.value port.new) domain (EmptiesOne domain vcpu (P.value port.old) (P.value port.new) answers result) result) }
+    ensures went { Gated (policy gate.old) (policy gate.new) (is_due_answer result) (λ answers. PartWent (P.value port.old) (P.value port.new) domain (EmptiesOne domain vcpu (P.value port.old) (P.value port.new) answers result) result) }
     // Behind it the gate may pause the destruction.
     ensures passed { IfOk result (λ passed. passed ≡ true → HasPassed (P.value port.old).post.machine (of_domain (P.value port.old).post.machine domain true) (Met (P.value port.old) (P.value port.new))) }
 {
@@ -87,7 +87,7 @@ fn empty_words<P: Port>(
     requires clear { NamesNone (P.value port.old) }
     requires come { FoundEmpty (P.value port.old).post.machine (P.value port.old).post.vcpu domain vcpu (P.value port.old).holdings }
     ensures empty { IfOk result (λ _. (k : ℕ) → k < 38 → IsTrue (is_context k) → LeftAs (Met (P.value port.old) (P.value port.new)) (Vcpu vcpu k) (λ w. w == 0)) }
-    ensures went { Gated (value gate.old) (value gate.new) (is_due_answer result) (λ answers. PartWent (P.value port.old) (P.value port.new) domain (EmptiesTo vcpu (P.value port.old) (P.value port.new) answers result) result) }
+    ensures went { Gated (policy gate.old) (policy gate.new) (is_due_answer result) (λ answers. PartWent (P.value port.old) (P.value port.new) domain (EmptiesTo vcpu (P.value port.old) (P.value port.new) answers result) result) }
 {
     for i in 0..NAMES {
         empty(port, gate, domain, vcpu, word_at(i))?;
@@ -111,7 +111,7 @@ fn empty<P: Port>(
     requires clear { NamesNone (P.value port.old) }
     requires empties { MayEmptyWord (P.value port.old) vcpu }
     ensures empty { IfOk result (λ _. LeftAs (Met (P.value port.old) (P.value port.new)) (Vcpu vcpu word) (λ w. w == 0)) }
-    ensures went { Gated (value gate.old) (value gate.new) (is_due_answer result) (λ answers. PartWent (P.value port.old) (P.value port.new) domain (EmptiesWord vcpu word (P.value port.old) (P.value port.new) answers result) result) }
+    ensures went { Gated (policy gate.old) (policy gate.new) (is_due_answer result) (λ answers. PartWent (P.value port.old) (P.value port.new) domain (EmptiesWord vcpu word (P.value port.old) (P.value port.new) answers result) result) }
 {
     if look_word(port, vcpu, word) == 0 {
         return Ok(());

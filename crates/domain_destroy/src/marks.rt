@@ -51,7 +51,7 @@ pub(crate) fn take_marks<P: Port>(
     requires saw { (u : PortValue) × (d : ℕ) × SawOwn u (P.value port.old) d frame found }
     requires rests { Rests (P.value port.old) }
     requires clear { NamesNone (P.value port.old) }
-    ensures { Gated (value gate.old) (value gate.new) (is_due_answer result) (λ answers. TookMarks (P.value port.old) (P.value port.new) frame found answers result) }
+    ensures { Gated (policy gate.old) (policy gate.new) (is_due_answer result) (λ answers. TookMarks (P.value port.old) (P.value port.new) frame found answers result) }
 {
     let kind = read_kind(found);
     if kind.pinned {
@@ -80,7 +80,7 @@ fn unkeep<P: Port>(
     requires kept { kind.kept ≡ true }
     requires rests { Rests (P.value port.old) }
     requires clear { NamesNone (P.value port.old) }
-    ensures { Gated (value gate.old) (value gate.new) (is_due_answer result) (λ answers. TookMarks (P.value port.old) (P.value port.new) frame found answers result) }
+    ensures { Gated (policy gate.old) (policy gate.new) (is_due_answer result) (λ answers. TookMarks (P.value port.old) (P.value port.new) frame found answers result) }
 {
     if kind.kind == PageType::Desc {
         return end_page(port, frame, kind, found);

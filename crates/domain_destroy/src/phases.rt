@@ -66,7 +66,7 @@ pub(crate) fn empty_all<P: Port>(
     requires clear { NamesNone (P.value port.old) }
     requires phase { 2 ≤ phase_of at.old }
     requires come { HasComeSomehow (P.value port.old) domain at.old }
-    ensures went { Gated (value gate.old) (value gate.new) (is_due_answer result) (λ answers. PhaseWent (P.value port.old) (P.value port.new) domain at.old at.new [] answers result) }
+    ensures went { Gated (policy gate.old) (policy gate.new) (is_due_answer result) (λ answers. PhaseWent (P.value port.old) (P.value port.new) domain at.old at.new [] answers result) }
     ensures come { KeepsComing (P.value port.old) (P.value port.new) domain at.old at.new }
     ensures past { IfOk result (λ _. 3 ≤ phase_of at.new) }
 {
@@ -90,7 +90,7 @@ pub(crate) fn clear_all<P: Port>(
     requires clear { NamesNone (P.value port.old) }
     requires phase { 3 ≤ phase_of at.old }
     requires come { HasComeSomehow (P.value port.old) domain at.old }
-    ensures went { Gated (value gate.old) (value gate.new) (is_due_answer result) (λ answers. PhaseWent (P.value port.old) (P.value port.new) domain at.old at.new [] answers result) }
+    ensures went { Gated (policy gate.old) (policy gate.new) (is_due_answer result) (λ answers. PhaseWent (P.value port.old) (P.value port.new) domain at.old at.new [] answers result) }
     ensures come { KeepsComing (P.value port.old) (P.value port.new) domain at.old at.new }
     ensures past { IfOk result (λ _. 4 ≤ phase_of at.new) }
 {

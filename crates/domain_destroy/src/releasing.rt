@@ -24,7 +24,7 @@ pub(crate) fn let_go<P: Port>(port: &mut P, gate: &mut dyn Preempt, frame: u32) 
     ensures serves { GoesOnDestroying (P.value port.old) (P.value port.new) result }
     ensures stops { IfErr result (λ e. StopsOnDestroying (P.value port.old) (P.value port.new) e) }
     ensures kinds { IfErr result IsDestroyStop }
-    ensures course { Gated (value gate.old) (value gate.new) (is_due_answer result) (λ answers. LetsGo frame (P.value port.old) (P.value port.new) answers result) }
+    ensures course { Gated (policy gate.old) (policy gate.new) (is_due_answer result) (λ answers. LetsGo frame (P.value port.old) (P.value port.new) answers result) }
 {
     put_old(port, OldWord::First, frame);
     settle(port, gate, &mut None)

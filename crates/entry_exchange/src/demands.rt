@@ -42,7 +42,7 @@ pub(crate) fn take_demand<P: Port>(
     requires idle { IsIdle (P.value port.old) }
     requires asks { IsOfLevel level wanted }
     requires room { known_old First (P.value port.old).holdings ≡ Some 0 }
-    ensures { DemandTaken (P.value port.old) (P.value port.new) owner level wanted (value gate.old) (value gate.new) result }
+    ensures { DemandTaken (P.value port.old) (P.value port.new) owner level wanted (policy gate.old) (policy gate.new) result }
 {
     match wanted {
         Demand::Nothing | Demand::Bad => {}
@@ -111,7 +111,7 @@ pub(crate) fn release_demand<P: Port>(port: &mut P, gate: &mut dyn Preempt, old:
     requires inside { IsInside (P.value port.old).post.machine old }
     requires freed { HoldsFreed (P.value port.old) old }
     requires room { known_old First (P.value port.old).holdings ≡ Some 0 }
-    ensures { DemandReleased (P.value port.old) (P.value port.new) old (value gate.old) (value gate.new) }
+    ensures { DemandReleased (P.value port.old) (P.value port.new) old (policy gate.old) (policy gate.new) }
 {
     match old {
         Demand::Nothing | Demand::Bad => {}

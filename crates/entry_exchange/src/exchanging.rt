@@ -64,7 +64,7 @@ pub fn exchange_entry<P: Port>(
     requires room { known_old First (P.value port.old).holdings ≡ Some 0 }
     requires room_too { known_old Second (P.value port.old).holdings ≡ Some 0 }
     // What it promises are the fields of that record, in specs/Parts.antt.
-    ensures { EntryExchanged (P.value port.old) (P.value port.new) update owners (value gate.old) (value gate.new) result }
+    ensures { EntryExchanged (P.value port.old) (P.value port.new) update owners (policy gate.old) (policy gate.new) result }
 {
     let kind = level_type(update.level);
     let seen = look_cell(port, update.table, update.index);
@@ -109,7 +109,7 @@ fn change_demand<P: Port>(
     requires wanted { wanted ≡ new_demand update seen }
     requires fits { wanted ≢ Bad }
     requires other { same_demand wanted (old_demand update seen) ≡ false }
-    ensures { DemandChanged (P.value port.old) (P.value port.new) update owners seen (value gate.old) (value gate.new) result }
+    ensures { DemandChanged (P.value port.old) (P.value port.new) update owners seen (policy gate.old) (policy gate.new) result }
 {
     let owner = owner_at(update.level, owners);
     match take_demand(port, gate, update.level, owner, wanted) {

@@ -42,7 +42,7 @@ pub(crate) fn empty<P: Port>(
     ensures settled { IsSettledTop (P.value port.old).holdings → IfErr result (λ e. e ≡ Paused Due) }
     ensures serves { Continues (P.value port.old) (P.value port.new) (table ∷ []) [] (misses (P.value port.old).post.machine result) }
     ensures stops { IfErr result (λ e. StopsRelease (P.value port.old) (P.value port.new) (table ∷ []) e) }
-    ensures course { EmptiesBy left.old left.new (P.value port.old) (P.value port.new) table (value gate.old) (value gate.new) result }
+    ensures course { EmptiesBy left.old left.new (P.value port.old) (P.value port.new) table (policy gate.old) (policy gate.new) result }
 {
     let mut stack = Stack::new();
     stack.push(table);
@@ -85,7 +85,7 @@ fn run_down<P: Port>(
     ensures settled { IsSettledTop (P.value port.old).holdings → IfErr result (λ e. e ≡ Paused Due) }
     ensures serves { Continues (P.value port.old) (P.value port.new) stack.old stack.new (misses (P.value port.old).post.machine result) }
     ensures stops { IfErr result (λ e. StopsRelease (P.value port.old) (P.value port.new) stack.old e) }
-    ensures course { RunsDownBy below (P.value port.old) stack.old (P.value port.new) stack.new (value gate.old) (value gate.new) result }
+    ensures course { RunsDownBy below (P.value port.old) stack.old (P.value port.new) stack.new (policy gate.old) (policy gate.new) result }
 {
     while !stack.is_empty() {
         if lower(port, stack)? {

@@ -39,7 +39,7 @@ pub fn release<P: Port>(
     // What the entries of a live tree ask is live: it is paused for the gate alone.
     ensures kinds { IfErr result (λ e. e ≡ Paused Due) }
     ensures hand { LeavesUnheld (P.value port.old) (P.value port.new) frame result }
-    ensures course { ReleasesFrameBy (P.value port.old) (P.value port.new) frame kind (value gate.old) (value gate.new) result }
+    ensures course { ReleasesFrameBy (P.value port.old) (P.value port.new) frame kind (policy gate.old) (policy gate.new) result }
 {
     release_within(port, gate, frame, kind, &mut None)
 }
@@ -56,7 +56,7 @@ pub(crate) fn release_within<P: Port>(
     requires may { MayWork (P.value port.old) }
     requires holds { HoldsLive (P.value port.old) frame kind }
     requires room { known_old First (P.value port.old).holdings ≡ Some 0 }
-    ensures { Releases (P.value port.old) (P.value port.new) frame kind left.old left.new (value gate.old) (value gate.new) result }
+    ensures { Releases (P.value port.old) (P.value port.new) frame kind left.old left.new (policy gate.old) (policy gate.new) result }
 {
     if !kind.is_table() {
         drop_plain(port, frame, kind);

@@ -43,7 +43,7 @@ pub fn settle<P: Port>(
     ensures clear { IfOk result (λ _. known_old First (P.value port.new).holdings ≡ Some 0) }
     ensures clear_too { IfOk result (λ _. known_old Second (P.value port.new).holdings ≡ Some 0) }
     ensures none { IfOk result (λ _. left.new ≡ None) }
-    ensures course { SettlesBy left.old left.new (P.value port.old) (P.value port.new) (value gate.old) (value gate.new) result }
+    ensures course { SettlesBy left.old left.new (P.value port.old) (P.value port.new) (policy gate.old) (policy gate.new) result }
 {
     settle_word(port, gate, OldWord::First, left)?;
     *left = None;
@@ -59,7 +59,7 @@ fn settle_word<P: Port>(
 ) -> Result<(), Stop>
     requires rests { Rests (P.value port.old) }
     requires first { which ≡ Second → known_old First (P.value port.old).holdings ≡ Some 0 }
-    ensures { SettlesWord (P.value port.old) (P.value port.new) which left.old left.new (value gate.old) (value gate.new) result }
+    ensures { SettlesWord (P.value port.old) (P.value port.new) which left.old left.new (policy gate.old) (policy gate.new) result }
 {
     if look_old(port, which) == 0 {
         return Ok(());
@@ -82,7 +82,7 @@ fn settle_found<P: Port>(
     requires took { HasTakenOld (P.value port.old) frame found }
     requires read { IsTrue (is_some (kind_read found)) }
     requires room { known_old First (P.value port.old).holdings ≡ Some 0 }
-    ensures { (u : PortValue) (which : OldWord) → TookOld u (P.value port.old) which frame found → SettlesWord u (P.value port.new) which left.old left.new (value gate.old) (value gate.new) result }
+    ensures { (u : PortValue) (which : OldWord) → TookOld u (P.value port.old) which frame found → SettlesWord u (P.value port.new) which left.old left.new (policy gate.old) (policy gate.new) result }
 {
     let kind = read_kind(found);
     if kind.validated {
@@ -110,7 +110,7 @@ fn settle_partial<P: Port>(
     requires read { kind_read found ≡ Some kind }
     requires partial { IsTrue (is_partial kind) }
     requires room { known_old First (P.value port.old).holdings ≡ Some 0 }
-    ensures { (u : PortValue) (which : OldWord) → TookOld u (P.value port.old) which frame found → SettlesWord u (P.value port.new) which left.old left.new (value gate.old) (value gate.new) result }
+    ensures { (u : PortValue) (which : OldWord) → TookOld u (P.value port.old) which frame found → SettlesWord u (P.value port.new) which left.old left.new (policy gate.old) (policy gate.new) result }
 {
     match resume_work(port, frame, kind) {
         Err(other) => {

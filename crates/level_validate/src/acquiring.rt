@@ -55,7 +55,7 @@ pub fn acquire<P: Port>(
     ensures kinds { IfErr result IsAcquireStop }
     ensures hand { LeavesAcquired (P.value port.old) (P.value port.new) f owner level result }
     // By which calls on frames and entries, one behind the other, and by which answers of the gate.
-    ensures course { AcquiresBy (P.value port.old) (P.value port.new) f owner level (value gate.old) (value gate.new) result }
+    ensures course { AcquiresBy (P.value port.old) (P.value port.new) f owner level (policy gate.old) (policy gate.new) result }
 {
     let frame = get_ref(port, f, owner)?;
     match take_type(port, frame, owner, level_type(level)) {
@@ -139,7 +139,7 @@ fn validate<P: Port>(
     ensures kinds { IfErr result IsAcquireStop }
     ensures serves { ServesLeft (P.value port.old) (P.value port.new) owner (is_paused_answer result) table.frame (table ∷ []) (misses (P.value port.old).post.machine result) }
     ensures stops { IfErr result (λ e. StopsRisen (P.value port.old) (P.value port.new) owner (table ∷ []) e) }
-    ensures course { Gated (value gate.old) (value gate.new) (is_due_answer result) (λ answers. ValidatesBy owner (P.value port.old) table (P.value port.new) answers result) }
+    ensures course { Gated (policy gate.old) (policy gate.new) (is_due_answer result) (λ answers. ValidatesBy owner (P.value port.old) table (P.value port.new) answers result) }
 {
     let mut stack = Stack::new();
     stack.push(table);
@@ -175,7 +175,7 @@ fn fill<P: Port>(
     ensures kinds { IfErr result IsAcquireStop }
     ensures serves { CarriesOn (P.value port.old) (P.value port.new) owner stack.old stack.new (misses (P.value port.old).post.machine result) }
     ensures stops { IfErr result (λ e. StopsRisen (P.value port.old) (P.value port.new) owner stack.old e) }
-    ensures course { Gated (value gate.old) (value gate.new) (is_due_answer result) (λ answers. Worked owner (P.value port.old) table (P.value port.new) stack.new answers result) }
+    ensures course { Gated (policy gate.old) (policy gate.new) (is_due_answer result) (λ answers. Worked owner (P.value port.old) table (P.value port.new) stack.new answers result) }
 {
     let done = take_on(port, owner, stack, table)?;
     ask_behind(gate, stack, done)?;
@@ -204,7 +204,7 @@ fn go_on<P: Port>(
     ensures kinds { IfErr result IsAcquireStop }
     ensures serves { CarriesOn (P.value port.old) (P.value port.new) owner stack.old stack.new (misses (P.value port.old).post.machine result) }
     ensures stops { IfErr result (λ e. StopsRisen (P.value port.old) (P.value port.new) owner stack.old e) }
-    ensures course { Gated (value gate.old) (value gate.new) (is_due_answer result) (λ answers. GoesOnFilling owner (P.value port.old) stack.old (P.value port.new) stack.new answers result) }
+    ensures course { Gated (policy gate.old) (policy gate.new) (is_due_answer result) (λ answers. GoesOnFilling owner (P.value port.old) stack.old (P.value port.new) stack.new answers result) }
 {
     let done = advance(port, owner, stack)?;
     ask_behind(gate, stack, done)
@@ -213,7 +213,7 @@ fn go_on<P: Port>(
 // Asks the gate, where an entry is done with behind which it is asked.
 fn ask_behind(gate: &mut dyn Preempt, stack: &Stack, done: bool) -> Result<(), Stop>
     ensures kinds { IfErr result (λ e. e ≡ Paused Due) }
-    ensures course { Gated (value gate.old) (value gate.new) (is_due_answer result) (λ answers. answers ≡ asked_once (done && is_asked stack.now) (is_due_answer result)) }
+    ensures course { Gated (policy gate.old) (policy gate.new) (is_due_answer result) (λ answers. answers ≡ asked_once (done && is_asked stack.now) (is_due_answer result)) }
 {
     if done {
         if is_asked(stack) {

@@ -92,7 +92,7 @@ impl Drop for Counted {
 }
 
 impl Preempt for Counted {
-    ghost value = { λ g. record { paces = false; asks = g.asks; yes = 0; says = λ _. false } };
+    ghost policy = { λ g. record { paces = false; asks = g.asks; yes = 0; says = λ _. false } };
 
     fn pace(&mut self, every: u32) {}
 

@@ -54,7 +54,7 @@ pub fn update<P: Port>(
     ensures hand { LeavesUpdate (P.value port.old) (P.value port.new) }
     ensures rests { Rests (P.value port.new) }
     // It makes these calls, and its gate gave these answers.
-    ensures course { UpdatesBy (P.value port.old) (P.value port.new) owners (element_of pair) (value gate.old) (value gate.new) result }
+    ensures course { UpdatesBy (P.value port.old) (P.value port.new) owners (element_of pair) (policy gate.old) (policy gate.new) result }
     // On a board that tells all words it answers, and leaves them, as its plain meaning says; of a word of a frame that is said of an own
     // frame which is no live table.
     ensures plain { TwinUpdate (P.value port.old) (P.value port.new) owners (element_of pair) result }
@@ -84,7 +84,7 @@ fn write_word<P: Port>(
 ) -> Result<(), Stop>
     requires index { index < 512 }
     requires begins { MayBeginElement (P.value port.old) owners }
-    ensures { WritesBy (P.value port.old) (P.value port.new) owners f index word keep (value gate.old) (value gate.new) result }
+    ensures { WritesBy (P.value port.old) (P.value port.new) owners f index word keep (policy gate.old) (policy gate.new) result }
 {
     let frame = get_ref(port, f, owners.tables)?;
     write_referred(port, gate, owners, frame, index, word, keep)
@@ -103,7 +103,7 @@ fn write_referred<P: Port>(
     requires index { index < 512 }
     requires referred { IsReferred (P.value port.old) owners frame }
     ensures writes { (b : PortValue) → Referred b (P.value port.old) owners frame →
-        WritesBy b (P.value port.new) owners frame index word keep (value gate.old) (value gate.new) result }
+        WritesBy b (P.value port.new) owners frame index word keep (policy gate.old) (policy gate.new) result }
 {
     match lock_entry(port, frame, owners.tables) {
         Ok(Locked::Table { level, .. }) => {
@@ -134,7 +134,7 @@ fn write_entry<P: Port>(
     requires index { update.index < 512 }
     requires locked { IsUnderLock (P.value port.old) owners update.table update.level }
     ensures writes { (b : PortValue) → UnderLock b (P.value port.old) owners update.table update.level →
-        WritesBy b (P.value port.new) owners update.table update.index update.word update.keep (value gate.old) (value gate.new) result }
+        WritesBy b (P.value port.new) owners update.table update.index update.word update.keep (policy gate.old) (policy gate.new) result }
 {
     if is_slot(update.level, update.index) {
         leave_lock(port, update.table, update.level);

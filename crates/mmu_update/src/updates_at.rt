@@ -47,7 +47,7 @@ pub fn update_at<P: Port>(
     requires room_too { known_old Second (P.value port.old).holdings ≡ Some 0 }
     ensures came { Came (P.value port.old) (P.value port.new) }
     // What it promises are the fields of that record, in specs/UpdatesAt.antt.
-    ensures updates { UpdatesAtBy (P.value port.old) (P.value port.new) owners va word (value gate.old) (value gate.new) result }
+    ensures updates { UpdatesAtBy (P.value port.old) (P.value port.new) owners va word (policy gate.old) (policy gate.new) result }
 {
     match table_at(port, va) {
         Ok(table) => enter_table(port, gate, owners, table, va, word),
@@ -65,7 +65,7 @@ fn enter_table<P: Port>(
     word: u64,
 ) -> Result<(), Stop>
     requires begins { MayBeginElement (P.value port.old) owners }
-    ensures { EntersAtBy (P.value port.old) (P.value port.new) owners va table word (value gate.old) (value gate.new) result }
+    ensures { EntersAtBy (P.value port.old) (P.value port.new) owners va table word (policy gate.old) (policy gate.new) result }
 {
     let frame = get_ref(port, u64::from(table), owners.tables)?;
     enter_referred(port, gate, owners, frame, va, word)
@@ -82,7 +82,7 @@ fn enter_referred<P: Port>(
 ) -> Result<(), Stop>
     requires referred { IsReferred (P.value port.old) owners table }
     ensures enters { (b : PortValue) → Referred b (P.value port.old) owners table →
-        EntersAtBy b (P.value port.new) owners va table word (value gate.old) (value gate.new) result }
+        EntersAtBy b (P.value port.new) owners va table word (policy gate.old) (policy gate.new) result }
 {
     match lock_entry(port, table, owners.tables) {
         Ok(Locked::Table { level, found }) if level != LAST => {
@@ -112,7 +112,7 @@ fn enter_locked<P: Port>(
 ) -> Result<(), Stop>
     requires locked { IsUnderLock (P.value port.old) owners table 1 }
     ensures enters { (b : PortValue) → UnderLock b (P.value port.old) owners table 1 →
-        EntersAtBy b (P.value port.new) owners va table word (value gate.old) (value gate.new) result }
+        EntersAtBy b (P.value port.new) owners va table word (policy gate.old) (policy gate.new) result }
 {
     let update = EntryUpdate {
         table,

@@ -47,7 +47,7 @@ pub fn perform<P: Port>(
     // A wait for vCPUs that is paused goes on past a clock value that the vCPU has found.
     ensures awaits { KnowsAwaited (P.value port.new) (awaited_by (ext_element op) result) }
     // It makes these calls, and its gate gave these answers.
-    ensures course { PerformsBy (P.value port.old) (P.value port.new) domain (ext_element op) awaited (value gate.old) (value gate.new) result }
+    ensures course { PerformsBy (P.value port.old) (P.value port.new) domain (ext_element op) awaited (policy gate.old) (policy gate.new) result }
 {
     match element_of(op) {
         Element::Pin { frame, level } => pin(port, gate, domain, frame, level),

@@ -32,7 +32,7 @@ pub fn pin<P: Port>(
     requires low { 1 ≤ level }
     requires high { level ≤ 4 }
     requires room { known_old First (P.value port.old).holdings ≡ Some 0 }
-    ensures { MeetsElement (P.value port.old) (P.value port.new) domain (Pin f level) None (value gate.old) (value gate.new) result }
+    ensures { MeetsElement (P.value port.old) (P.value port.new) domain (Pin f level) None (policy gate.old) (policy gate.new) result }
 {
     let frame = get_ref(port, f, domain)?;
     let found = look_kind(port, frame);

@@ -22,7 +22,7 @@ pub fn unpin<P: Port>(port: &mut P, gate: &mut dyn Preempt, domain: u16, f: u64)
     requires rests { Rests (P.value port.old) }
     requires own { domain ≡ domain_of (P.value port.old).post.machine (P.value port.old).post.vcpu }
     requires room { known_old First (P.value port.old).holdings ≡ Some 0 }
-    ensures { MeetsElement (P.value port.old) (P.value port.new) domain (Unpin f) None (value gate.old) (value gate.new) result }
+    ensures { MeetsElement (P.value port.old) (P.value port.new) domain (Unpin f) None (policy gate.old) (policy gate.new) result }
 {
     let frame = get_ref(port, f, domain)?;
     let found = look_kind(port, frame);

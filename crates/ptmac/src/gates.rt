@@ -24,7 +24,7 @@ impl Apart {
 }
 
 impl Preempt for Apart {
-    ghost value = { λ g. record { paces = true; asks = g.gate.asks; yes = g.gate.yes; says = λ n. is_in_step g.gate.every n } };
+    ghost policy = { λ g. record { paces = true; asks = g.gate.asks; yes = g.gate.yes; says = λ n. is_in_step g.gate.every n } };
 
     fn pace(&mut self, every: u32) {
         self.gate.pace(every);

@@ -29,7 +29,7 @@ pub(crate) fn install<P: Port>(port: &mut P, gate: &mut dyn Preempt, base: Base,
     requires room { known_old First (P.value port.old).holdings ≡ Some 0 }
     ensures serves { Serves (P.value port.old) (P.value port.new) (of_base (own_domain (P.value port.old)) new true) (base_deeds (P.value port.old) base new (Ok tt)) }
     ensures hand { LeavesInstalled (P.value port.old) (P.value port.new) }
-    ensures course { InstallsBy (P.value port.old) (P.value port.new) base new (value gate.old) (value gate.new) }
+    ensures course { InstallsBy (P.value port.old) (P.value port.new) base new (policy gate.old) (policy gate.new) }
 {
     let old = put_base(port, base, new);
     flush_behind(port);

@@ -32,7 +32,7 @@ pub fn new_base<P: Port>(port: &mut P, gate: &mut dyn Preempt, f: u64) -> Result
     ensures hand { LeavesBase (P.value port.old) (P.value port.new) (Some f) result }
     ensures rests { Rests (P.value port.new) }
     // It makes these calls, and its gate gave these answers.
-    ensures course { SetsBaseBy (P.value port.old) (P.value port.new) Kernel (Some f) (value gate.old) (value gate.new) result }
+    ensures course { SetsBaseBy (P.value port.old) (P.value port.new) Kernel (Some f) (policy gate.old) (policy gate.new) result }
 {
     name_base(port, gate, Base::Kernel, f)
 }
@@ -48,7 +48,7 @@ pub fn new_user_base<P: Port>(port: &mut P, gate: &mut dyn Preempt, f: u64) -> R
     ensures kinds { IfErr result (IsBaseStop (user_frame f)) }
     ensures hand { LeavesBase (P.value port.old) (P.value port.new) (user_frame f) result }
     ensures rests { Rests (P.value port.new) }
-    ensures course { SetsBaseBy (P.value port.old) (P.value port.new) User (user_frame f) (value gate.old) (value gate.new) result }
+    ensures course { SetsBaseBy (P.value port.old) (P.value port.new) User (user_frame f) (policy gate.old) (policy gate.new) result }
 {
     if f == 0 {
         empty_base(port, gate, Base::User)
@@ -61,7 +61,7 @@ pub fn new_user_base<P: Port>(port: &mut P, gate: &mut dyn Preempt, f: u64) -> R
 fn name_base<P: Port>(port: &mut P, gate: &mut dyn Preempt, base: Base, f: u64) -> Result<(), Stop>
     requires rests { Rests (P.value port.old) }
     requires room { known_old First (P.value port.old).holdings ≡ Some 0 }
-    ensures met { MeetsBase (P.value port.old) (P.value port.new) base (Some f) (value gate.old) (value gate.new) result }
+    ensures met { MeetsBase (P.value port.old) (P.value port.new) base (Some f) (policy gate.old) (policy gate.new) result }
     ensures kinds { IfErr result (IsBaseStop (Some f)) }
     ensures hand { LeavesBase (P.value port.old) (P.value port.new) (Some f) result }
     ensures rests { Rests (P.value port.new) }
@@ -80,7 +80,7 @@ fn name_base<P: Port>(port: &mut P, gate: &mut dyn Preempt, base: Base, f: u64) 
 fn empty_base<P: Port>(port: &mut P, gate: &mut dyn Preempt, base: Base) -> Result<(), Stop>
     requires rests { Rests (P.value port.old) }
     requires room { known_old First (P.value port.old).holdings ≡ Some 0 }
-    ensures met { MeetsBase (P.value port.old) (P.value port.new) base None (value gate.old) (value gate.new) result }
+    ensures met { MeetsBase (P.value port.old) (P.value port.new) base None (policy gate.old) (policy gate.new) result }
     ensures kinds { IfErr result (IsBaseStop None) }
     ensures hand { LeavesBase (P.value port.old) (P.value port.new) None result }
     ensures rests { Rests (P.value port.new) }

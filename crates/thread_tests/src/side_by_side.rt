@@ -23,7 +23,7 @@ struct Meeting {
 }
 
 impl Preempt for Meeting {
-    ghost value = { λ g. record { paces = false; asks = g.asks; yes = 0; says = λ _. false } };
+    ghost policy = { λ g. record { paces = false; asks = g.asks; yes = 0; says = λ _. false } };
 
     fn pace(&mut self, every: u32) {}
 

@@ -17,7 +17,7 @@ impl Runner {
     /// A vCPU, with the gate that is its own from now on.
     pub fn new(cpu: Cpu, gate: Box<dyn Preempt + Send>) -> Runner
         ensures cpu { result.cpu ≡ cpu }
-        ensures gate { value result.gate ≡ value gate }
+        ensures gate { policy result.gate ≡ policy gate }
     {
         Runner { cpu, gate }
     }
@@ -27,7 +27,7 @@ impl Runner {
         requires short { length self.old.cpu.script < 2 ^ 32 }
         requires of { IsOf (P.value port.old) self.old.cpu }
         ensures post { (P.value port.new).post ≡ (P.value port.old).post }
-        ensures turn { TakesTurnBy self.old.cpu.retired (value self.old.gate) (value self.new.gate) self.old.cpu self.new.cpu (P.value port.old) (P.value port.new) }
+        ensures turn { TakesTurnBy self.old.cpu.retired (policy self.old.gate) (policy self.new.gate) self.old.cpu self.new.cpu (P.value port.old) (P.value port.new) }
         ensures of { IsOf (P.value port.new) self.new.cpu }
     {
         if self.cpu.is_retired() {
@@ -41,7 +41,7 @@ impl Runner {
         requires of { IsOf (P.value port.old) self.old.cpu }
         ensures post { (P.value port.new).post ≡ (P.value port.old).post }
         ensures stop { StopsWhere self.old.cpu.retired self.old.cpu self.new.cpu (P.value port.old) (P.value port.new) }
-        ensures gate { value self.new.gate ≡ value self.old.gate }
+        ensures gate { policy self.new.gate ≡ policy self.old.gate }
         ensures of { IsOf (P.value port.new) self.new.cpu }
     {
         stop(port, &mut self.cpu);
@@ -50,7 +50,7 @@ impl Runner {
     /// The vCPU and its gate, apart.
     pub fn into_parts(self) -> (Cpu, Box<dyn Preempt + Send>)
         ensures cpu { result.0 ≡ self.cpu }
-        ensures gate { value result.1 ≡ value self.gate }
+        ensures gate { policy result.1 ≡ policy self.gate }
     {
         (self.cpu, self.gate)
     }

@@ -44,7 +44,7 @@ pub fn run_in_threads<R: Threads + Wait + Sync>(
     requires count { length passes.items ≡ (sizes_of board.machine).vcpus }
     requires opened { AreOpened board.table passes.items }
     requires first { AreFirst board (cpus_of runners.items) }
-    ensures { IfOk result (λ r. RanInThreads board (gates_of value runners.items) (cpus_of runners.items) r.0 (gates_of value r.1.items) (cpus_of r.1.items)) }
+    ensures { IfOk result (λ r. RanInThreads board (gates_of policy runners.items) (cpus_of runners.items) r.0 (gates_of policy r.1.items) (cpus_of r.1.items)) }
 {
     // What a run leaves where all hands are empty, and what a dead domain leaves, are laws: these calls do nothing.
     rested_words_are_sound();

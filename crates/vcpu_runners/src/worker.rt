@@ -16,7 +16,7 @@ pub struct Worker {
 // Makes turns until the vCPU is retired. They may be paused for what other vCPUs have yet to do.
 fn work<R: Wait>(rt: &R, board: &SharedBoard, worker: &mut Worker)
     requires { MayRun board.now worker.old.pass worker.old.runner.cpu }
-    ensures { RanOut board.now worker.old.pass worker.new.pass (value worker.old.runner.gate) (value worker.new.runner.gate) worker.old.runner.cpu worker.new.runner.cpu }
+    ensures { RanOut board.now worker.old.pass worker.new.pass (policy worker.old.runner.gate) (policy worker.new.runner.gate) worker.old.runner.cpu worker.new.runner.cpu }
 {
     let runner = &mut worker.runner;
     let mut port = worker.pass.port(board);
@@ -33,7 +33,7 @@ fn work<R: Wait>(rt: &R, board: &SharedBoard, worker: &mut Worker)
 pub fn work_all<R: Threads + Wait + Sync>(rt: &R, board: &SharedBoard, workers: &mut [Worker])
     requires { All (λ w. MayRun board.now w.pass w.runner.cpu) workers.old }
     ensures count { length workers.new ≡ length workers.old }
-    ensures each { (k : ℕ) (d : _) → k < length workers.old → RanOut board.now (slice_index_or workers.old k d).pass (slice_index_or workers.new k d).pass (value (slice_index_or workers.old k d).runner.gate) (value (slice_index_or workers.new k d).runner.gate) (slice_index_or workers.old k d).runner.cpu (slice_index_or workers.new k d).runner.cpu }
+    ensures each { (k : ℕ) (d : _) → k < length workers.old → RanOut board.now (slice_index_or workers.old k d).pass (slice_index_or workers.new k d).pass (policy (slice_index_or workers.old k d).runner.gate) (policy (slice_index_or workers.new k d).runner.gate) (slice_index_or workers.old k d).runner.cpu (slice_index_or workers.new k d).runner.cpu }
 {
     let count = workers.len();
     if count == 0 {
@@ -41,7 +41,7 @@ pub fn work_all<R: Threads + Wait + Sync>(rt: &R, board: &SharedBoard, workers: 
     }
     let call = |_: usize, worker: &mut Worker|
         requires { MayRun board.now worker.old.pass worker.old.runner.cpu }
-        ensures { RanOut board.entry.now worker.old.pass worker.new.pass (value worker.old.runner.gate) (value worker.new.runner.gate) worker.old.runner.cpu worker.new.runner.cpu }
+        ensures { RanOut board.entry.now worker.old.pass worker.new.pass (policy worker.old.runner.gate) (policy worker.new.runner.gate) worker.old.runner.cpu worker.new.runner.cpu }
     { work(rt, board, worker) };
     for_each_mut(rt, workers, count, &call);
 }

@@ -147,7 +147,7 @@ fn answer_call<P: Port>(
     ensures next { IfOk result (λ _. at.new ≡ begun_at (at.old.call + 1)) }
     ensures same { IfErr result (λ _. (at.new.call ≡ at.old.call) × (at.new.done ≤ elements_in (task_in call.now))) }
     ensures awaits { KnowsAwaited (P.value port.new) at.new.awaited }
-    ensures answers { GatedPast (value gate.old) (value gate.new) (is_due_answer result) (λ answers. AnswersCall domain call.now op (P.value port.old) at.old log.old.items at.new (P.value port.new) log.new.items answers result) }
+    ensures answers { GatedPast (policy gate.old) (policy gate.new) (is_due_answer result) (λ answers. AnswersCall domain call.now op (P.value port.old) at.old log.old.items at.new (P.value port.new) log.new.items answers result) }
     ensures capacity { vec_capacity log.new ≡ vec_capacity log.old }
     ensures answered { IfOk result (λ _. vec_len log.new + lines_made (task_in call.now) at.old.done ≤ vec_len log.old + lines_of_call call.now) }
     ensures room { IfErr result (λ _. vec_len log.new + lines_made (task_in call.now) at.old.done ≤ vec_len log.old + lines_made (task_in call.now) at.new.done) }
@@ -191,7 +191,7 @@ fn answer_calls<P: Port>(
     ensures post { (P.value port.new).post ≡ (P.value port.old).post }
     ensures few { IsFewIn (OfCalls calls.now) at.new }
     ensures awaits { KnowsAwaited (P.value port.new) at.new.awaited }
-    ensures works { GatedPast (value gate.old) (value gate.new) (is_due_answer result) (λ answers. WorksCalls domain calls.now op (P.value port.old) at.old log.old.items at.new (P.value port.new) log.new.items answers result) }
+    ensures works { GatedPast (policy gate.old) (policy gate.new) (is_due_answer result) (λ answers. WorksCalls domain calls.now op (P.value port.old) at.old log.old.items at.new (P.value port.new) log.new.items answers result) }
     ensures capacity { vec_capacity log.new ≡ vec_capacity log.old }
     ensures room { vec_len log.new + room_from 0 (OfCalls calls.now) at.new.call + made_within (OfCalls calls.now) at.old ≤ vec_len log.old + room_from 0 (OfCalls calls.now) at.old.call + made_within (OfCalls calls.now) at.new }
     ensures rests { Rests (P.value port.new) }
@@ -228,7 +228,7 @@ fn go_on_destroying<P: Port>(
     ensures post { (P.value port.new).post ≡ (P.value port.old).post }
     ensures few { IsFewIn (OfDestroy domain) at.new }
     ensures awaits { KnowsAwaited (P.value port.new) at.new.awaited }
-    ensures went { GatedPast (value gate.old) (value gate.new) (is_due_answer result) (λ answers. WentOnDestroying domain op (P.value port.old) at.old at.new (P.value port.new) log.old.items log.new.items answers result) }
+    ensures went { GatedPast (policy gate.old) (policy gate.new) (is_due_answer result) (λ answers. WentOnDestroying domain op (P.value port.old) at.old at.new (P.value port.new) log.old.items log.new.items answers result) }
     ensures place { IfErr result (λ e. KnowsPlace (P.value port.new) (OfDestroy domain) op at.new log.new.items) }
     ensures capacity { vec_capacity log.new ≡ vec_capacity log.old }
     ensures room { vec_len log.new + (P.value port.old).post.machine.frames ≤ vec_capacity log.new + seen_to at.new.place }
@@ -261,7 +261,7 @@ pub(crate) fn go_on_with<P: Port>(
     ensures post { (P.value port.new).post ≡ (P.value port.old).post }
     ensures few { IsFewIn (job_of op.now) at.new }
     ensures awaits { KnowsAwaited (P.value port.new) at.new.awaited }
-    ensures went { GatedPast (value gate.old) (value gate.new) (is_due_answer result) (λ answers. WentBy domain (job_of op.now) number (P.value port.old) at.old at.new (P.value port.new) log.old.items log.new.items answers result) }
+    ensures went { GatedPast (policy gate.old) (policy gate.new) (is_due_answer result) (λ answers. WentBy domain (job_of op.now) number (P.value port.old) at.old at.new (P.value port.new) log.old.items log.new.items answers result) }
     ensures place { IfErr result (λ e. KnowsPlace (P.value port.new) (job_of op.now) number at.new log.new.items) }
     ensures capacity { vec_capacity log.new ≡ vec_capacity log.old }
     ensures room { vec_len log.new + room_from (P.value port.old).post.machine.frames (job_of op.now) at.new.call + made_within (job_of op.now) at.old ≤ vec_len log.old + room_from (P.value port.old).post.machine.frames (job_of op.now) at.old.call + made_within (job_of op.now) at.new }

@@ -151,7 +151,7 @@ fn go_on<P: Port>(
     requires room { vec_len log.old + lines_by list.now.command (extents_in list.now.command list.now.items.now) ≤ vec_capacity log.old + lines_by list.now.command done.old }
     ensures post { (P.value port.new).post ≡ (P.value port.old).post }
     ensures within { done.new ≤ extents_in list.now.command list.now.items.now }
-    ensures works { GatedPast (value gate.old) (value gate.new) (is_due_answer result) (λ answers. ListsExtents list.now.domain list.now.command list.now.order list.now.items.now list.now.number done.old within.old (P.value port.old) done.new within.new (P.value port.new) log.old.items log.new.items answers result) }
+    ensures works { GatedPast (policy gate.old) (policy gate.new) (is_due_answer result) (λ answers. ListsExtents list.now.domain list.now.command list.now.order list.now.items.now list.now.number done.old within.old (P.value port.old) done.new within.new (P.value port.new) log.old.items log.new.items answers result) }
     ensures capacity { vec_capacity log.new ≡ vec_capacity log.old }
     ensures room { vec_len log.new + lines_by list.now.command done.old ≤ vec_len log.old + lines_by list.now.command done.new }
     ensures rests { Rests (P.value port.new) }
@@ -189,7 +189,7 @@ pub(crate) fn go_through_extents<P: Port>(
     requires room { vec_len log.old + room_of (Some (OfMem list.now.command list.now.order list.now.items.now)) ≤ vec_capacity log.old + lines_made (Some (OfMem list.now.command list.now.order list.now.items.now)) at.old.done }
     ensures post { (P.value port.new).post ≡ (P.value port.old).post }
     ensures within { at.new.done ≤ extents_in list.now.command list.now.items.now }
-    ensures works { GatedPast (value gate.old) (value gate.new) (is_due_answer result) (λ answers. GoesExtents list.now.domain list.now.command list.now.order list.now.items.now list.now.number (P.value port.old) at.old at.new (P.value port.new) log.old.items log.new.items answers result) }
+    ensures works { GatedPast (policy gate.old) (policy gate.new) (is_due_answer result) (λ answers. GoesExtents list.now.domain list.now.command list.now.order list.now.items.now list.now.number (P.value port.old) at.old at.new (P.value port.new) log.old.items log.new.items answers result) }
     ensures capacity { vec_capacity log.new ≡ vec_capacity log.old }
     ensures room { vec_len log.new + lines_made (Some (OfMem list.now.command list.now.order list.now.items.now)) at.old.done ≤ vec_len log.old + lines_made (Some (OfMem list.now.command list.now.order list.now.items.now)) at.new.done }
     ensures rests { Rests (P.value port.new) }

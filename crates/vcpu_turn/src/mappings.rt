@@ -79,7 +79,7 @@ fn update_entry<P: Port>(
     requires rests { Rests (P.value port.old) }
     requires warm { IsWarm (P.value port.old) }
     ensures post { (P.value port.new).post ≡ (P.value port.old).post }
-    ensures updates { GatedPast (value gate.old) (value gate.new) (is_due_answer result) (λ answers. SettlesFirst (UpdatesWord domain mapping.now.foreign mapping.now.va mapping.now.word mapping.now.flags) (P.value port.old) (P.value port.new) answers result) }
+    ensures updates { GatedPast (policy gate.old) (policy gate.new) (is_due_answer result) (λ answers. SettlesFirst (UpdatesWord domain mapping.now.foreign mapping.now.va mapping.now.word mapping.now.flags) (P.value port.old) (P.value port.new) answers result) }
     ensures rests { Rests (P.value port.new) }
     ensures warm { IsWarm (P.value port.new) }
 {
@@ -164,7 +164,7 @@ pub(crate) fn map_word<P: Port>(
     requires warm { IsWarm (P.value port.old) }
     ensures post { (P.value port.new).post ≡ (P.value port.old).post }
     ensures within { done.new ≤ 1 }
-    ensures works { GatedPast (value gate.old) (value gate.new) (is_due_answer result) (λ answers. MapsWord domain mapping.now.foreign mapping.now.va mapping.now.word mapping.now.flags awaited (P.value port.old) done.old done.new (P.value port.new) answers result) }
+    ensures works { GatedPast (policy gate.old) (policy gate.new) (is_due_answer result) (λ answers. MapsWord domain mapping.now.foreign mapping.now.va mapping.now.word mapping.now.flags awaited (P.value port.old) done.old done.new (P.value port.new) answers result) }
     ensures awaits { AwaitsWhere (P.value port.new) done.new result }
     ensures rests { Rests (P.value port.new) }
     ensures warm { IsWarm (P.value port.new) }

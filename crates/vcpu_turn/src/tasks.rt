@@ -196,7 +196,7 @@ fn go_from<P: Port>(
     ensures post { (P.value port.new).post ≡ (P.value port.old).post }
     ensures within { at.new.done ≤ elements_in (task_for piece.entry) }
     ensures awaits { KnowsAwaited (P.value port.new) (awaited_left (task_for piece.entry) at.new.done result) }
-    ensures went { GatedPast (value gate.old) (value gate.new) (is_due_answer result) (λ answers. WentOn domain (task_for piece.entry) number (P.value port.old) at.old (left_waiting (task_for piece.entry) at.new result) (P.value port.new) log.old.items log.new.items answers result) }
+    ensures went { GatedPast (policy gate.old) (policy gate.new) (is_due_answer result) (λ answers. WentOn domain (task_for piece.entry) number (P.value port.old) at.old (left_waiting (task_for piece.entry) at.new result) (P.value port.new) log.old.items log.new.items answers result) }
     ensures capacity { vec_capacity log.new ≡ vec_capacity log.old }
     ensures room { vec_len log.new + lines_made (task_for piece.entry) at.old.done ≤ vec_len log.old + lines_made (task_for piece.entry) at.new.done }
     ensures rests { Rests (P.value port.new) }
@@ -269,7 +269,7 @@ pub(crate) fn work_on<P: Port>(
     ensures post { (P.value port.new).post ≡ (P.value port.old).post }
     ensures within { at.new.done ≤ elements_in (task_for piece.entry) }
     ensures awaits { KnowsAwaited (P.value port.new) at.new.awaited }
-    ensures went { GatedPast (value gate.old) (value gate.new) (is_due_answer result) (λ answers. WentOn domain (task_for piece.entry) number (P.value port.old) at.old at.new (P.value port.new) log.old.items log.new.items answers result) }
+    ensures went { GatedPast (policy gate.old) (policy gate.new) (is_due_answer result) (λ answers. WentOn domain (task_for piece.entry) number (P.value port.old) at.old at.new (P.value port.new) log.old.items log.new.items answers result) }
     ensures capacity { vec_capacity log.new ≡ vec_capacity log.old }
     ensures room { vec_len log.new + lines_made (task_for piece.entry) at.old.done ≤ vec_len log.old + lines_made (task_for piece.entry) at.new.done }
     ensures rests { Rests (P.value port.new) }

@@ -34,7 +34,7 @@ fn go_on<P: Port>(port: &mut P, cpu: &mut Cpu, gate: &mut dyn Preempt) -> Option
     ensures post { (P.value port.new).post ≡ (P.value port.old).post }
     ensures awaits { KnowsAwaited (P.value port.new) cpu.new.at.awaited }
     ensures place { IfSome result (λ answer. IfErr answer (λ e. KnowsPlace (P.value port.new) (job_next (next_of cpu.old)) (cpu.old.answered + 1) cpu.new.at cpu.new.log)) }
-    ensures worked { GatedPast (value gate.old) (value gate.new) (asks_due result) (λ answers. NextWentOn (next_of cpu.old) cpu.old cpu.new (P.value port.old) (P.value port.new) answers result) }
+    ensures worked { GatedPast (policy gate.old) (policy gate.new) (asks_due result) (λ answers. NextWentOn (next_of cpu.old) cpu.old cpu.new (P.value port.old) (P.value port.new) answers result) }
     ensures rests { Rests (P.value port.new) }
 {
     match cpu.script.as_slice().get(cpu.answered) {
@@ -146,7 +146,7 @@ pub fn turn<P: Port>(port: &mut P, cpu: &mut Cpu, gate: &mut dyn Preempt) -> Tur
     requires of { IsOf (P.value port.old) cpu.old }
     ensures post { (P.value port.new).post ≡ (P.value port.old).post }
     // The turn and the answers of its gate; it is paused for the gate only where that said yes last.
-    ensures turn { GatedPast (value gate.old) (value gate.new) (is_due result) (λ answers. TurnBy cpu.old.retired cpu.old cpu.new result (P.value port.old) (P.value port.new) answers) }
+    ensures turn { GatedPast (policy gate.old) (policy gate.new) (is_due result) (λ answers. TurnBy cpu.old.retired cpu.old cpu.new result (P.value port.old) (P.value port.new) answers) }
     ensures of { IsOf (P.value port.new) cpu.new }
 {
     if cpu.retired {

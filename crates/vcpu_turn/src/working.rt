@@ -31,7 +31,7 @@ pub(crate) fn go_through<P: Port, L: Items>(
     ensures suits { L.suits items.now (P.value port.new) }
     ensures post { (P.value port.new).post ≡ (P.value port.old).post }
     ensures within { done.new ≤ L.count items.now }
-    ensures works { GatedPast (value gate.old) (value gate.new) (is_due_answer result) (λ answers. WorksThrough (L.fits items.now) (L.count items.now) (P.value port.old) done.old done.new (P.value port.new) answers result) }
+    ensures works { GatedPast (policy gate.old) (policy gate.new) (is_due_answer result) (λ answers. WorksThrough (L.fits items.now) (L.count items.now) (P.value port.old) done.old done.new (P.value port.new) answers result) }
     ensures rests { Rests (P.value port.new) }
 {
     if items.len() > LONGEST {
@@ -60,7 +60,7 @@ pub(crate) fn go_through_pairs<P: Port>(
     ensures warm { IsWarm (P.value port.new) }
     ensures post { (P.value port.new).post ≡ (P.value port.old).post }
     ensures within { done.new ≤ length pairs.now }
-    ensures works { GatedPast (value gate.old) (value gate.new) (is_due_answer result) (λ answers. WorksOwned domain foreign pairs.now (P.value port.old) done.old done.new (P.value port.new) answers result) }
+    ensures works { GatedPast (policy gate.old) (policy gate.new) (is_due_answer result) (λ answers. WorksOwned domain foreign pairs.now (P.value port.old) done.old done.new (P.value port.new) answers result) }
     ensures rests { Rests (P.value port.new) }
 {
     if pairs.len() > LONGEST {

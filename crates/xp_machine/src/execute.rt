@@ -34,7 +34,7 @@ pub(crate) fn first_runners(
     requires scripts { length scripts ≡ (sizes_of layout.now).vcpus }
     requires few { ops_of scripts ≤ 65536 }
     requires gates { length scripts ≤ vec_len gates }
-    ensures { IfOk result (λ v. (cpus_of v.items ≡ first_cpus layout.now scripts) × (gates_of value v.items ≡ first_gates layout.now (map value gates.items))) }
+    ensures { IfOk result (λ v. (cpus_of v.items ≡ first_cpus layout.now scripts) × (gates_of policy v.items ≡ first_gates layout.now (map policy gates.items))) }
 {
     let mut runners = Vec::new(alloc);
     'runners: for ((vcpu, script), gate) in (0..layout.vcpus())
@@ -87,7 +87,7 @@ fn run_words(
 ) -> Result<(SparseWords, Vec<Runner>), AllocError>
     requires well { IsWellFormed trace }
     requires gates { 16 ≤ vec_len gates }
-    ensures ran { IfOk result (λ r. RanToWords trace (map value gates.items) r.0 (cpus_of r.1.items)) }
+    ensures ran { IfOk result (λ r. RanToWords trace (map policy gates.items) r.0 (cpus_of r.1.items)) }
     ensures words { IfOk result (λ r. length r.0 ≡ size (sizes_of trace.layout)) }
     ensures cpus { IfOk result (λ r. (length r.1.items ≡ (sizes_of trace.layout).vcpus) × AreShort (cpus_of r.1.items)) }
 {
@@ -121,7 +121,7 @@ pub fn execute(
 ) -> Result<Vec<u8>, AllocError>
     requires well { IsWellFormed trace }
     requires gates { 16 ≤ vec_len gates }
-    ensures { IfOk result (λ v. RanTrace trace (map value gates.items) v.items) }
+    ensures { IfOk result (λ v. RanTrace trace (map policy gates.items) v.items) }
 {
     let layout = trace.layout.copy();
     let (words, runners) = run_words(alloc, trace, gates)?;
@@ -137,7 +137,7 @@ pub fn execute_generated(
     requires least { 1 ≤ operations }
     requires most { operations ≤ 60000 }
     requires gates { 16 ≤ vec_len gates }
-    ensures { IfOk result (λ v. RanGenerated operations (map value gates.items) v.items) }
+    ensures { IfOk result (λ v. RanGenerated operations (map policy gates.items) v.items) }
 {
     let trace = generate(alloc, operations)?;
     let layout = trace.layout.copy();

@@ -32,7 +32,7 @@ pub(crate) trait Running {
         requires well { IsWellFormed trace }
         requires gates { 16 ≤ vec_len gates }
         requires crosses { crosses }
-        ensures { IfOk result (λ v. RanBy manner trace (map value gates.items) v.items) };
+        ensures { IfOk result (λ v. RanBy manner trace (map policy gates.items) v.items) };
 }
 
 /// In one thread, by the turns that the trace asks for.

@@ -17,7 +17,7 @@ fn stop_of(board: &mut PlainBoard, runners: &mut [Runner], vcpu: u32)
     requires ready { Ready board.old (cpus_of runners.old) }
     ensures machine { board.new.machine ≡ board.old.machine }
     ensures opening { board.new.story.opening ≡ board.old.story.opening }
-    ensures stop { IsStagedStop board.old.machine vcpu (stage_of (in_box value) board.old runners.old) (stage_of (in_box value) board.new runners.new) }
+    ensures stop { IsStagedStop board.old.machine vcpu (stage_of (in_box policy) board.old runners.old) (stage_of (in_box policy) board.new runners.new) }
     ensures ready { Ready board.new (cpus_of runners.new) }
 {
     // That the board stays sound is law: this call does nothing.
@@ -32,7 +32,7 @@ pub fn stop_all(board: &mut PlainBoard, runners: &mut [Runner])
     requires ready { Ready board.old (cpus_of runners.old) }
     ensures machine { board.new.machine ≡ board.old.machine }
     ensures opening { board.new.story.opening ≡ board.old.story.opening }
-    ensures stops { Stops board.old.machine (range_with_len 0 (sizes_of board.old.machine).vcpus) (stage_of (in_box value) board.old runners.old) (stage_of (in_box value) board.new runners.new) }
+    ensures stops { Stops board.old.machine (range_with_len 0 (sizes_of board.old.machine).vcpus) (stage_of (in_box policy) board.old runners.old) (stage_of (in_box policy) board.new runners.new) }
     ensures ready { Ready board.new (cpus_of runners.new) }
 {
     let vcpus = board.layout().vcpus();

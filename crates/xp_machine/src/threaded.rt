@@ -28,7 +28,7 @@ pub fn replay_words<R: Threads + Wait + Sync>(
 ) -> Result<(SparseWords, Vec<Runner>), AllocError>
     requires well { IsWellFormed trace }
     requires gates { 16 ≤ vec_len gates }
-    ensures ran { IfOk result (λ r. ReplayedTo trace (map value gates.items) r.0 (gates_of value r.1.items) (cpus_of r.1.items)) }
+    ensures ran { IfOk result (λ r. ReplayedTo trace (map policy gates.items) r.0 (gates_of policy r.1.items) (cpus_of r.1.items)) }
     ensures words { IfOk result (λ r. length r.0 ≡ size (sizes_of trace.layout)) }
     ensures cpus { IfOk result (λ r. (length r.1.items ≡ (sizes_of trace.layout).vcpus) × AreShort (cpus_of r.1.items)) }
 {
@@ -58,7 +58,7 @@ pub fn replay<R: Threads + Wait + Sync>(
 ) -> Result<Vec<u8>, AllocError>
     requires well { IsWellFormed trace }
     requires gates { 16 ≤ vec_len gates }
-    ensures { IfOk result (λ v. ReplayedTrace trace (map value gates.items) v.items) }
+    ensures { IfOk result (λ v. ReplayedTrace trace (map policy gates.items) v.items) }
 {
     let layout = trace.layout.copy();
     let (words, runners) = replay_words(rt, alloc, trace, gates)?;

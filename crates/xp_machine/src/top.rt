@@ -37,7 +37,7 @@ fn answer<M: Running>(
 ) -> Result<Due, AllocError>
     requires gates { 16 ≤ vec_len gates }
     requires crosses { M.crosses }
-    ensures { IfOk result (λ d. IsAnswer M.manner (map value gates.items) (trace_of bytes.now) d.status d.text.items) }
+    ensures { IfOk result (λ d. IsAnswer M.manner (map policy gates.items) (trace_of bytes.now) d.status d.text.items) }
 {
     match read_trace(alloc, bytes) {
         Ok(trace) => {
@@ -92,7 +92,7 @@ fn gather<M: Running, S: Source>(
 ) -> Result<Due, Early>
     requires gates { 16 ≤ vec_len gates }
     requires crosses { M.crosses }
-    ensures due { IfOk result (λ d. IsDue M.manner (map value gates.items) (S.left source.old) (S.left source.new) d.status d.text.items) }
+    ensures due { IfOk result (λ d. IsDue M.manner (map policy gates.items) (S.left source.old) (S.left source.new) d.status d.text.items) }
     ensures failed { IsErrOf result Early.Failed → Rose (S.faults source.old) (S.faults source.new) }
     ensures later { S.faults source.old ≤ S.faults source.new }
     ensures kept { IfOk result (λ _. S.faults source.new ≡ S.faults source.old) }
@@ -113,13 +113,13 @@ fn gather<M: Running, S: Source>(
 }
 
 fn set_pace(gate: &mut Box<dyn Preempt + Send>, every: u32)
-    ensures { IsPaced every (value gate.old) (value gate.new) }
+    ensures { IsPaced every (policy gate.old) (policy gate.new) }
 {
     gate.pace(every);
 }
 
 fn set_paces(gates: &mut [Box<dyn Preempt + Send>], every: u32)
-    ensures { ArePaced every (map value gates.old) (map value gates.new) }
+    ensures { ArePaced every (map policy gates.old) (map policy gates.new) }
 {
     'gates: for gate in gates.iter_mut() {
         set_pace(gate, every);
@@ -129,7 +129,7 @@ fn set_paces(gates: &mut [Box<dyn Preempt + Send>], every: u32)
 // The gates, each told the pace.
 fn paced(mut gates: Vec<Box<dyn Preempt + Send>>, every: u32) -> Vec<Box<dyn Preempt + Send>>
     ensures len { vec_len result ≡ vec_len gates }
-    ensures paced { ArePaced every (map value gates.items) (map value result.items) }
+    ensures paced { ArePaced every (map policy gates.items) (map policy result.items) }
 {
     set_paces(&mut gates, every);
     gates
@@ -145,7 +145,7 @@ fn run_with<M: Running, S: Source, K: Sink>(
 ) -> Status
     requires gates { 16 ≤ vec_len gates }
     requires crosses { M.crosses }
-    ensures outcome { Outcome M.manner (map value gates.items) (S.left source.old) (S.left source.new) (K.taken sink.old) (K.taken sink.new) result }
+    ensures outcome { Outcome M.manner (map policy gates.items) (S.left source.old) (S.left source.new) (K.taken sink.old) (K.taken sink.new) result }
     ensures words { result ≢ Status.BadWords }
     ensures read { result ≡ Status.ReadFault → Rose (S.faults source.old) (S.faults source.new) }
     ensures write { result ≡ Status.WriteFault → Rose (K.faults sink.old) (K.faults sink.new) }
@@ -172,7 +172,7 @@ fn run_generated<K: Sink>(
     requires least { 1 ≤ operations }
     requires most { operations ≤ 60000 }
     requires gates { 16 ≤ vec_len gates }
-    ensures outcome { (set : List Gate) × ArePaced 0 (map value gates.items) set × GeneratedOutcome operations set (K.taken sink.old) (K.taken sink.new) result }
+    ensures outcome { (set : List Gate) × ArePaced 0 (map policy gates.items) set × GeneratedOutcome operations set (K.taken sink.old) (K.taken sink.new) result }
     ensures write { result ≡ Status.WriteFault → Rose (K.faults sink.old) (K.faults sink.new) }
     ensures write_kept { result ≢ Status.WriteFault → K.faults sink.new ≡ K.faults sink.old }
 {
@@ -202,7 +202,7 @@ pub fn run<R: Threads + Wait + Sync, S: Source, K: Sink>(
     requires gates { 16 ≤ vec_len gates }
 
     // Which bytes were taken, what they spell, and what was written of the text that is due for it.
-    ensures outcome { OutcomeBy (words_ask (map string_bytes words.now)) (map value gates.items) (S.left source.old) (S.left source.new) (K.taken sink.old) (K.taken sink.new) result }
+    ensures outcome { OutcomeBy (words_ask (map string_bytes words.now)) (map policy gates.items) (S.left source.old) (S.left source.new) (K.taken sink.old) (K.taken sink.new) result }
 
     // Where no trace is to be read, the source stays as it was.
     ensures unread { reads_trace (words_ask (map string_bytes words.now)) ≡ false → (S.left source.new ≡ S.left source.old) × (S.faults source.new ≡ S.faults source.old) }
@@ -239,7 +239,7 @@ pub fn run_serial<S: Source, K: Sink>(
     gates: Vec<Box<dyn Preempt + Send>>,
 ) -> Status
     requires gates { 16 ≤ vec_len gates }
-    ensures outcome { OutcomeBy (serial_of (words_ask (map string_bytes words.now))) (map value gates.items) (S.left source.old) (S.left source.new) (K.taken sink.old) (K.taken sink.new) result }
+    ensures outcome { OutcomeBy (serial_of (words_ask (map string_bytes words.now))) (map policy gates.items) (S.left source.old) (S.left source.new) (K.taken sink.old) (K.taken sink.new) result }
     ensures words { result ≡ Status.BadWords → serial_of (words_ask (map string_bytes words.now)) ≡ None }
     ensures known { serial_of (words_ask (map string_bytes words.now)) ≡ None → (result ≡ Status.BadWords) ⊎ (result ≡ Status.Memory) }
     ensures unknown { words_ask (map string_bytes words.now) ≡ None → result ≡ Status.BadWords }

@@ -20,7 +20,7 @@ fn turn_of(board: &mut PlainBoard, runners: &mut [Runner], vcpu: u32)
     requires ready { Ready board.old (cpus_of runners.old) }
     ensures machine { board.new.machine ≡ board.old.machine }
     ensures opening { board.new.story.opening ≡ board.old.story.opening }
-    ensures turn { IsStagedTurn board.old.machine vcpu (stage_of (in_box value) board.old runners.old) (stage_of (in_box value) board.new runners.new) }
+    ensures turn { IsStagedTurn board.old.machine vcpu (stage_of (in_box policy) board.old runners.old) (stage_of (in_box policy) board.new runners.new) }
     ensures ready { Ready board.new (cpus_of runners.new) }
 {
     // What a vCPU is spared while no other one holds anything is law: these calls do nothing.
@@ -39,7 +39,7 @@ fn turns_of(board: &mut PlainBoard, runners: &mut [Runner], vcpu: u32, count: u3
     requires ready { Ready board.old (cpus_of runners.old) }
     ensures machine { board.new.machine ≡ board.old.machine }
     ensures opening { board.new.story.opening ≡ board.old.story.opening }
-    ensures turns { Turns board.old.machine (replicate count vcpu) (stage_of (in_box value) board.old runners.old) (stage_of (in_box value) board.new runners.new) }
+    ensures turns { Turns board.old.machine (replicate count vcpu) (stage_of (in_box policy) board.old runners.old) (stage_of (in_box policy) board.new runners.new) }
     ensures ready { Ready board.new (cpus_of runners.new) }
 {
     'turns: for _turn in 0..count {
@@ -53,7 +53,7 @@ fn take_turns(board: &mut PlainBoard, runners: &mut [Runner], runs: &[TurnRun])
     requires ready { Ready board.old (cpus_of runners.old) }
     ensures machine { board.new.machine ≡ board.old.machine }
     ensures opening { board.new.story.opening ≡ board.old.story.opening }
-    ensures turns { Turns board.old.machine (order runs.now) (stage_of (in_box value) board.old runners.old) (stage_of (in_box value) board.new runners.new) }
+    ensures turns { Turns board.old.machine (order runs.now) (stage_of (in_box policy) board.old runners.old) (stage_of (in_box policy) board.new runners.new) }
     ensures ready { Ready board.new (cpus_of runners.new) }
 {
     'runs: for run in runs {
@@ -71,7 +71,7 @@ pub fn run_all(
     requires ready { Ready board (cpus_of runners.items) }
     ensures machine { result.0.machine ≡ board.machine }
     ensures opening { result.0.story.opening ≡ board.story.opening }
-    ensures works { WorksOff board.machine (order runs.now) (stage_of (in_box value) board runners.items) (stage_of (in_box value) result.0 result.1.items) }
+    ensures works { WorksOff board.machine (order runs.now) (stage_of (in_box policy) board runners.items) (stage_of (in_box policy) result.0 result.1.items) }
     ensures ready { Ready result.0 (cpus_of result.1.items) }
 {
     take_turns(&mut board, &mut runners, runs);

@@ -38,7 +38,7 @@ impl Listed {
 }
 
 impl Preempt for Listed {
-    ghost value = { λ g. record { paces = false; asks = g.asks; yes = g.yes; says = λ n. list_any (λ k. nat_eq k n) g.yes_at } };
+    ghost policy = { λ g. record { paces = false; asks = g.asks; yes = g.yes; says = λ n. list_any (λ k. nat_eq k n) g.yes_at } };
 
     fn pace(&mut self, every: u32)
         ensures { self.new ≡ self.old }

@@ -19,7 +19,7 @@ impl Never {
 }
 
 impl Preempt for Never {
-    ghost value = { λ g. record { paces = false; asks = g.asks; yes = 0; says = λ _. false } };
+    ghost policy = { λ g. record { paces = false; asks = g.asks; yes = 0; says = λ _. false } };
 
     fn pace(&mut self, every: u32) {}
 

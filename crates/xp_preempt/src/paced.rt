@@ -44,7 +44,7 @@ fn is_in_step(every: u32, ask: u64) -> bool
 }
 
 impl Preempt for Paced {
-    ghost value = { λ g. record { paces = true; asks = g.asks; yes = g.yes; says = λ n. is_in_step g.every n } };
+    ghost policy = { λ g. record { paces = true; asks = g.asks; yes = g.yes; says = λ n. is_in_step g.every n } };
 
     fn pace(&mut self, every: u32)
         ensures { self.new ≡ record self.old { every = every } }
