@@ -34,7 +34,7 @@ use Rattle.flush_words.proofs.Lasting.{came_keeps, came_longer}
 use Rattle.table_words.specs.OldWords.{known_old}
 use Rattle.table_words.specs.declared.old_words.OldWord.TheVariants.{First, Second}
 use Rattle.level_release.specs.Settling.{SettledHand}
-use Rattle.level_release.proofs.Consulting.{ends_more}
+use Rattle.xp_preempt.proofs.Consulting.{ends_more}
 use Rattle.domain_destroy.specs.Asking.{IsDestroyDeed, IsDestroyStop, ServesDestroy, StopsDestroyer, of_domain}
 use Rattle.domain_destroy.specs.Course as course
 use Rattle.domain_destroy.specs.Course.{Advances, GoesOn, LeftFrame}

@@ -24,7 +24,6 @@ pub mod Falling
 mod Handing
 mod Dropped
 mod Requested
-pub mod Consulting
 mod Counted
 mod Taken
 mod Resumed

@@ -12,7 +12,7 @@ use Rattle.level_release.specs.Asking.{IsReleaseEnd, is_due_answer, of_settle}
 use Rattle.level_release.specs.Course.{SettledOneTo, SettledTo, first}
 use Rattle.level_release.proofs.Answered.{end_uncounted}
 use Rattle.level_release.proofs.Asking.{settle_within}
-use Rattle.level_release.proofs.Consulting.{by_as}
+use Rattle.xp_preempt.proofs.Consulting.{gated_as}
 use Rattle.xp_preempt.specs.Gates.{Gated}
 
 module _ (v u w : PortValue) (owner pages : ℕ) (before : Serves v u (of_settle {A = Unit {0}} owner pages (Ok tt)) []) where
@@ -39,4 +39,4 @@ module _ (v u w : PortValue) (owner pages : ℕ) (before : Serves v u (of_settle
 pub first_by : (below left : Option ℕ) (v w : PortValue) {says : ℕ → Bool} {a b x y : ℕ} {answer : Result (Unit {0}) Stop} {e : Stop} → answer ≡ Err e → Gated says a (is_due_answer b) (λ answers. SettledOneTo below left v First w answers (Err e)) x y (Err e) →
     Gated says a (is_due_answer b) (λ answers. SettledTo below left v w answers answer) x y answer
 first_by below left v w {says} {a} {b} {x} {y} {e} is paused =
-    subst (λ (r : Result (Unit {0}) Stop). Gated says a (is_due_answer b) (λ answers. SettledTo below left v w answers r) x y r) (sym is) (by_as (λ answers one. (first w answers e one.0, one.1)) paused)
+    subst (λ (r : Result (Unit {0}) Stop). Gated says a (is_due_answer b) (λ answers. SettledTo below left v w answers r) x y r) (sym is) (gated_as (λ answers one. (first w answers e one.0, one.1)) paused)

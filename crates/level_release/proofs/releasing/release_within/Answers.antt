@@ -3,7 +3,7 @@ use Rattle.frame_types.specs.Lowering.{DropsType}
 use Rattle.level_release.proofs.Dropped.{closed_empties, closed_settled, counted_gives, counted_left, emptied_released, may_drop, may_drop_plain, plain_left}
 use Rattle.level_release.specs.Asking.{is_due_answer}
 use Rattle.level_release.specs.Course.{last, plain, shared}
-use Rattle.level_release.proofs.Consulting.{by_as, by_none}
+use Rattle.xp_preempt.proofs.Consulting.{gated_as, gated_none}
 use Rattle.level_release.proofs.Requested.{answer_stops, back_serves, both_serve, closed_piece, emptied_serves}
 use Rattle.level_release.proofs.releasing.release_within.Goals as goal
 
@@ -22,7 +22,7 @@ returns-then-not-is_table g c =
       stops = λ owner pages. tt;
       kinds = tt;
       hand = plain_left c.requires.holds w e.hand;
-      course = by_none refl (plain w (sym c.is_table.ensures ∙ c.if-not-is_table.true) (record { found = e.found; plain = e.plain; stands = e.stands }), refl);
+      course = gated_none refl (plain w (sym c.is_table.ensures ∙ c.if-not-is_table.true) (record { found = e.found; plain = e.plain; stands = e.stands }), refl);
     }
 
 -- ---- a table
@@ -48,7 +48,7 @@ returns-else-drop_type g c =
       stops = λ owner pages. tt;
       kinds = tt;
       hand = counted_left c.requires.holds d w e.hand;
-      course = by_none refl (shared a w (sym c.is_table.ensures ∙ c.if-not-is_table.false) d (record { found = e.puts; plain = e.plain }), refl);
+      course = gated_none refl (shared a w (sym c.is_table.ensures ∙ c.if-not-is_table.false) d (record { found = e.puts; plain = e.plain }), refl);
     }
 
 -- ---- none is left
@@ -80,5 +80,5 @@ returns-then-drop_type g c =
       stops = λ owner pages. answer_stops w answer refl (closed_piece v c.args.frame owner pages (is_due_answer answer) refl c.drop_type.ensures.serves look.moves) e.stops;
       kinds = e.settled (closed_settled c.requires.holds d look.moves look.hand c.level_of.result level.kind);
       hand = emptied_released c.requires.holds d look.moves look.hand c.level_of.result level.kind level.low level.high table c.requires.frame w answer e.came e.hand;
-      course = by_as (λ answers emptied. (last a x w c.look_refs.result c.level_of.result answers answer table level.kind level.high d look.moves emptied.0, emptied.1)) e.course;
+      course = gated_as (λ answers emptied. (last a x w c.look_refs.result c.level_of.result answers answer table level.kind level.high d look.moves emptied.0, emptied.1)) e.course;
     }

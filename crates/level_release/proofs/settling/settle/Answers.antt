@@ -2,7 +2,7 @@ use Rattle.std.proofs.Common.{Err, ap, ◌∙◌}
 use Rattle.std.proofs.lemmas.Result.{err_from_is_err_and}
 use Rattle.table_words.specs.declared.old_words.OldWord.TheVariants.{Second}
 use Rattle.level_release.specs.Course.{both}
-use Rattle.level_release.proofs.Consulting.{by_then}
+use Rattle.xp_preempt.proofs.Consulting.{gated_then}
 use Rattle.level_release.proofs.Falling.{none_left}
 use Rattle.level_release.proofs.Settled.{both_serve, both_stop, first_by}
 use Rattle.level_release.proofs.settling.settle.Goals as goal
@@ -25,7 +25,7 @@ returns-clause-stops g c owner pages =
 pub returns-clause-course : goal.returns-clause-course
 returns-clause-course g c =
     let u = g.P.Port.value c.settle_word.new.port in
-    by_then c.in_ok-settle_word.ensures.says (λ answers more one two. (both u (g.P.Port.value c.settle_word-2.new.port) answers more c.settle_word-2.result one.0 two.0, two.1))
+    gated_then c.in_ok-settle_word.ensures.says (λ answers more one two. (both u (g.P.Port.value c.settle_word-2.new.port) answers more c.settle_word-2.result one.0 two.0, two.1))
     c.in_ok-settle_word.ensures.course c.settle_word-2.ensures.course
 
 pub returns-clause-none : goal.returns-clause-none

@@ -8,7 +8,7 @@ use Rattle.step_maker.proofs.Coming.{moves_came}
 use Rattle.step_maker.proofs.Piecing.{serves_came, stops_before}
 use Rattle.level_release.specs.Asking.{of_release, of_settle}
 use Rattle.level_release.proofs.Answered.{busy_course, busy_stops, due_ends, live_course, released_serves, released_stops}
-use Rattle.level_release.proofs.Consulting.{by_as, by_none}
+use Rattle.xp_preempt.proofs.Consulting.{gated_as, gated_none}
 use Rattle.level_release.proofs.Lived.{named_live}
 use Rattle.level_release.proofs.Named.{again_serves, took_came, took_serves}
 use Rattle.level_release.proofs.Taken.{named_again, settled_rests, took_held, took_settled, took_typed}
@@ -32,7 +32,7 @@ returns-then-kind g c u which t =
       stops = λ owner pages. released_stops t owner pages w answer came e.kinds (e.stops owner pages);
       kinds = IfErr-weaker answer _ _ due_ends e.kinds;
       hand = hand;
-      course = by_as (λ answers released. live_course t c.read_kind-kind.ensures c.args.left.now c.release_within.new.left w answers answer c.if-kind.true released) e.course;
+      course = gated_as (λ answers released. live_course t c.read_kind-kind.ensures c.args.left.now c.release_within.new.left w answers answer c.if-kind.true released) e.course;
     }
 
 -- ---- it was found in another vCPU's hand: the first word names it again
@@ -55,5 +55,5 @@ returns-else-kind-2 g c u which t =
           (ap (λ (k : KindWord). k.partial) fields ∙ c.if-kind-2.false)) (moves_came v w _ _ _ _ _ put.moves);
       kinds = tt;
       hand = hand;
-      course = by_none refl (busy_course t c.read_kind-kind.ensures c.args.left.now w c.if-kind.false c.if-kind-2.false put.moves);
+      course = gated_none refl (busy_course t c.read_kind-kind.ensures c.args.left.now w c.if-kind.false c.if-kind-2.false put.moves);
     }

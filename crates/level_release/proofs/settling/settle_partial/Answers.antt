@@ -15,7 +15,7 @@ use Rattle.kind_words.specs.Kinds.{dead_kind, left}
 use Rattle.kind_words.proofs.KindFacts.{read_is}
 use Rattle.level_release.specs.Asking.{is_due_answer, is_due_stop}
 use Rattle.level_release.proofs.Asking.{settling}
-use Rattle.level_release.proofs.Consulting.{by_as, by_none}
+use Rattle.xp_preempt.proofs.Consulting.{gated_as, gated_none}
 use Rattle.level_release.proofs.Exchanged.{change_came, dead_serves, lost_serves, lost_stops, resumed_piece}
 use Rattle.level_release.proofs.Named.{again_serves}
 use Rattle.level_release.proofs.Requested.{answer_stops, emptied_serves}
@@ -85,7 +85,7 @@ returns-in-Err g c u which t =
           (moves_came d w _ _ _ _ _ c.put_old.ensures.moves);
       kinds = rw c.lost-stop.ensures tt;
       hand = hand;
-      course = by_none (lost_undue _ _ _ c.lost-stop.ensures) (lost_course t c.requires.read c.requires.partial a.moves c.args.left.now w a.lost c.lost-stop.ensures c.put_old.ensures.moves);
+      course = gated_none (lost_undue _ _ _ c.lost-stop.ensures) (lost_course t c.requires.read c.requires.partial a.moves c.args.left.now w a.lost c.lost-stop.ensures c.put_old.ensures.moves);
     }
 
 pub returns-in-Ok : goal.returns-in-Ok
@@ -104,7 +104,7 @@ returns-in-Ok g c u which t =
       stops = λ owner pages. answer_stops w answer refl (resumed_piece t owner pages (is_due_answer answer) c.requires.read c.requires.partial a.moves refl refl look.moves) c.empty.ensures.stops;
       kinds = c.empty.ensures.kinds;
       hand = hand;
-      course = by_as (λ answers emptied. emptied_course t c.requires.read c.requires.partial a.moves refl c.args.left.now c.empty.new.left w c.level_of.result answers answer table level.kind level.high look.moves emptied)
+      course = gated_as (λ answers emptied. emptied_course t c.requires.read c.requires.partial a.moves refl c.args.left.now c.empty.new.left w c.level_of.result answers answer table level.kind level.high look.moves emptied)
           c.empty.ensures.course;
     }
 
@@ -128,5 +128,5 @@ returns-in-Ok-2 g c u which t =
       stops = λ owner pages. tt;
       kinds = tt;
       hand = hand;
-      course = by_none refl (dead_course t c.requires.read c.requires.partial back.moves refl c.args.left.now w none (dead_steps w k.kind k.unflushed clock.moves store c.put_ref.ensures.puts));
+      course = gated_none refl (dead_course t c.requires.read c.requires.partial back.moves refl c.args.left.now w none (dead_steps w k.kind k.unflushed clock.moves store c.put_ref.ensures.puts));
     }

@@ -8,7 +8,7 @@ use Rattle.table_words.specs.OldWords.{learned_old, old_place}
 use Rattle.level_release.specs.Asking.{of_settle}
 use Rattle.level_release.specs.Course as courses
 use Rattle.level_release.specs.Settling.{SettledWord}
-use Rattle.level_release.proofs.Consulting.{by_none}
+use Rattle.xp_preempt.proofs.Consulting.{gated_none}
 use Rattle.level_release.proofs.Looked.{kind_reads, named_small, named_still, named_there, took_old}
 use Rattle.level_release.proofs.Taken.{settled_rests}
 use Rattle.level_release.proofs.settling.settle_word.Goals as goal
@@ -62,5 +62,5 @@ returns-then-look_old-eq0 g c =
       stops = λ owner pages. tt;
       kinds = tt;
       hand = hand;
-      course = by_none refl (courses.none w look, refl);
+      course = gated_none refl (courses.none w look, refl);
     }
