@@ -31,6 +31,7 @@ use Rattle.entry_exchange.specs.declared.exchanging.EntryUpdate.{EntryUpdate}
 use Rattle.entry_exchange.specs.Holding.{owner_at}
 use Rattle.entry_exchange.specs.Words.{same_demand, word_kept}
 use Rattle.xp_preempt.specs.Gates.{Gate, GatedPast}
+use Rattle.table_entries.specs.Ending.{is_due_answer}
 
 -- ---- the lock goes off
 -- with the reference; or with the table's last type count, and then the second old word names it, partial with all its entries recorded

@@ -27,6 +27,7 @@ use Rattle.writable_pages.specs.Pages.{TookPage}
 use Rattle.mmu_update.specs.declared.element.Element.{Element}
 use Rattle.mmu_update.specs.declared.element.Element.TheVariants.{SetM2p, Write, Misaligned, Unknown}
 use Rattle.xp_preempt.specs.Gates.{Gate, GatedPast}
+use Rattle.table_entries.specs.Ending.{is_due_answer}
 
 -- a lock is tried: by the words that its steps found; on a board that tells all words; and what the steps show of its pause
 pub record TriedLock (v w : PortValue) (f owner : ℕ) (answer : Result Locked Stop) : Type 0 where

@@ -11,6 +11,7 @@ use Rattle.tlb_walks.specs.Addresses.{index_of, walk_refusal}
 use Rattle.mmu_update.specs.Addresses.{EnteredAt, IsAtStop, ServesAt, UpdatedAt, of_at}
 use Rattle.mmu_update.specs.Elements.{LeavesUpdate}
 use Rattle.xp_preempt.specs.Gates.{Gate, GatedPast}
+use Rattle.table_entries.specs.Ending.{is_due_answer}
 
 -- From v to w the entry of level 1 that maps the address was set for those owners, or why not: its steps serve that, show the cause of a refusal or
 -- pause, and leave nothing in hand. `table`: where its loads led.

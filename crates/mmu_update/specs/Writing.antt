@@ -17,6 +17,7 @@ use Rattle.mmu_update.specs.Course.{TriedLock}
 use Rattle.mmu_update.specs.Fits.{Updates}
 use Rattle.mmu_update.specs.declared.element.Element.TheVariants.{Write}
 use Rattle.xp_preempt.specs.Gates.{Gate, GatedPast}
+use Rattle.table_entries.specs.Ending.{is_due_answer}
 
 -- before it
 pub record MayBeginElement (b : PortValue) (o : Owners) : Type 0 where

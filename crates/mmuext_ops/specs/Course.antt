@@ -33,6 +33,7 @@ use Rattle.whole_pages.specs.Whole.{ClearsPage, CopiesPage}
 use Rattle.mmuext_ops.specs.declared.element.Element.{Element}
 use Rattle.mmuext_ops.specs.declared.element.Element.TheVariants.{Pin, Unpin, NewBase, NewUserBase, FlushLocal, Invalidate, FlushVcpus, SetLdt, ClearPage, CopyPage, Unknown}
 use Rattle.xp_preempt.specs.Gates.{Gate, GatedPast}
+use Rattle.table_entries.specs.Ending.{is_due_answer}
 
 -- the kind word of frame f was looked at
 abbrev pub SawKind : PortValue → PortValue → ℕ → ℕ → Type 0

@@ -1,5 +1,5 @@
 -- The course of a new base: the calls that it makes, from port to port, and the answers of the gate.
-use Rattle.std.specs.Prelude.{◌≡◌, ◌≢◌, ℕ, zero, suc, Bool, List, [], ◌++◌, Option, Some, None, Result, Ok, Err, IfErr}
+use Rattle.std.specs.Prelude.{◌≡◌, ◌≢◌, ℕ, zero, suc, Bool, List, [], ◌++◌, Option, Some, None, Result, Ok, Err, IfErr, false}
 use Rattle.xp_words.specs.Places.{flushed_of}
 use Rattle.xp_words.specs.declared.kind.PageType.TheVariants.{L4}
 use Rattle.xp_words.specs.declared.place.Place.TheVariants.{Clock}
@@ -20,6 +20,7 @@ use Rattle.table_bases.specs.declared.words.Base.{Base}
 use Rattle.table_bases.specs.Asking.{ServesBase, StopsBase}
 use Rattle.table_bases.specs.Holding.{base_place, naming}
 use Rattle.xp_preempt.specs.Gates.{Gate, GatedPast}
+use Rattle.table_entries.specs.Ending.{is_due_answer}
 
 -- ---- the flush behind the store: where the clock is at its last value, the own cache is emptied and that value stored
 pub data FlushesBehind (v w : PortValue) : Type 0 where
