@@ -23,7 +23,7 @@ const FLUSHED: u32 = 5;
 
 pub(crate) const RUN: u32 = 6;
 
-// The clock goes no further.
+/// The last value of the clock: it goes no further.
 pub const LAST_CLOCK: u64 = 68_719_476_734;
 
 /// Loads the word of a vCPU that says to which clock value it is flushed.

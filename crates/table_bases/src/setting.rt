@@ -10,8 +10,9 @@ ghost use Rattle.table_bases.specs.Asking.{IsBaseStop, LeavesBase, ServesBase, S
 ghost use Rattle.table_bases.specs.Course.{MeetsBase, SetsBaseBy};
 ghost use Rattle.table_bases.specs.declared.words.Base.TheVariants.{Kernel, User};
 
-use crate::installing::{LAST_CLOCK, install};
+use crate::installing::install;
 use crate::words::Base;
+use flush_words::LAST_CLOCK;
 use level_validate::acquire;
 use step_maker::{look_clock, own_domain};
 use xp_board::Port;
