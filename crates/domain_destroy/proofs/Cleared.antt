@@ -1,9 +1,11 @@
 -- One frame is found another domain's, or loses its marks: what is said of all its steps.
-use Rattle.std.proofs.Common.{◌≡◌, ◌≢◌, ℕ, ◌+◌, ◌<◌, ◌≤◌, ◌⊎◌, not, Bool, true, false, List, [], length, Some, None, Result, Ok, Err, IfOk, IsTrue, refl, sym, ap, ◌∙◌, subst, inl, inr, arith}
+use Rattle.std.proofs.Common.{◌≡◌, ◌≢◌, ℕ, ◌+◌, ◌<◌, ◌≤◌, ◌⊎◌, not, Bool, true, false, List, [], ◌∷◌, length, Some, None, Result, Ok, Err, IfOk, IsTrue, refl, sym, ap, ◌∙◌, subst, inl, inr, arith}
 use Rattle.std.proofs.lemmas.Bool.{cases_eq}
 use Rattle.xp_words.specs.Places.{sizes_of}
 use Rattle.xp_words.specs.declared.place.Place.TheVariants.{Kind, Refs}
+use Rattle.xp_words.specs.declared.reply.Pause.TheVariants.{Due}
 use Rattle.xp_words.specs.declared.reply.Stop.{Stop}
+use Rattle.xp_words.specs.declared.reply.Stop.TheVariants.{Paused}
 use Rattle.xp_board.specs.Acts.{left_by}
 use Rattle.xp_board.specs.LifeSteps.{HasCleared, is_unallocated, is_unkept, is_unpinned}
 use Rattle.xp_board.specs.Readings.{is_owned_by, owner_of}
@@ -20,12 +22,14 @@ use Rattle.domain_destroy.specs.Asking.{of_domain}
 use Rattle.domain_destroy.specs.Clearing.{ClearsFrame, GivesMark, SawOwn, TakesMarks}
 use Rattle.domain_destroy.specs.Clearing as clearing
 use Rattle.domain_destroy.specs.Coming.{FoundCleared, IsForeign}
+use Rattle.domain_destroy.specs.Course as course
+use Rattle.domain_destroy.specs.Course.{Advances}
 use Rattle.domain_destroy.specs.Destroying.{GaveMark, LeavesAs, PartWent, TookMarks}
 use Rattle.domain_destroy.specs.Emptying.{NamesNone}
+use Rattle.domain_destroy.specs.declared.place.DestroyAt.TheVariants.{Clears}
 use Rattle.domain_destroy.proofs.Giving.{other_tests}
 use Rattle.domain_destroy.proofs.Parts.{LooksOnly, destroy_came, found_after, found_before, found_there, left_after, left_before, left_since, looks_serve, looks_then, moved_left, one_look, same_settled, settled_then, went_err, went_same, went_then}
 use Rattle.domain_destroy.proofs.Staying.{found_cleared_stays}
-use Rattle.xp_preempt.specs.Gates.{Gated}
 
 -- ---- what is known of the frames
 abbrev pub ClearedAt : PortValue → ℕ → ℕ → ℕ → Type 0
@@ -161,6 +165,7 @@ module _ {v a b : PortValue} {f x y : ℕ} (d : ℕ) (kind : Moves v a (Kind f) 
       pub unmarked_past : IfOk answer (λ given. given ≡ true → HasPassed v.post.machine (of_domain v.post.machine d true) (Met v w))
       unmarked_past = passed_by answer refl
 
--- ---- the gate was not asked again
-pub gated_undue : {P : List Bool → Type 0} {says : ℕ → Bool} {a b x y : ℕ} {due : Bool} → due ≡ false → Gated P says a b x y false → Gated P says a b x y due
-gated_undue undue g = record { answers = g.answers; course = g.went; gate = g.gate; due = undue ∙ g.due }
+-- ---- the gate pauses it behind one of the domain's
+pub cleared_due : {u w : PortValue} {d f : ℕ} {passed : Bool} → f < u.post.machine.frames → passed ≡ true → (more : List Bool) → ClearsFrame d f u w more (Ok passed) → Advances d u (Clears f) w (Clears (f + 1)) [] (true ∷ more) (Err (Paused Due))
+cleared_due {w = w} {f = f} {passed = true} real is more one = course.Advances.cleared_due f w more real one
+cleared_due {passed = false} real is more one = absurd cc

@@ -1,7 +1,6 @@
 mod AllWords
 mod Burying
 mod Cleared
-mod ClearingOn
 mod Dooming
 mod Ending
 mod Gating

@@ -1,5 +1,5 @@
 -- Parts of a destruction one behind the other: what they serve, why they stop, what is in hand behind them, and what they found or left.
-use Rattle.std.proofs.Common.{◌≡◌, ℕ, ◌≤◌, Bool, true, false, List, [], ◌++◌, length, Option, None, Result, Ok, Err, IfOk, IfErr, IsTrue, All, refl, sym, ap, ◌∙◌, subst, inr, append_assoc, append-nil, arith}
+use Rattle.std.proofs.Common.{◌≡◌, ℕ, ◌≤◌, Bool, true, List, [], ◌++◌, length, Option, None, Result, Ok, Err, IfOk, IfErr, IsTrue, All, refl, sym, ap, ◌∙◌, subst, inr, append_assoc, append-nil, arith}
 use Rattle.std.proofs.lemmas.List.Elements.{All-nil, All-append}
 use Rattle.xp_words.specs.Machine.{Machine}
 use Rattle.xp_words.specs.Places.{sizes_of}
@@ -8,7 +8,6 @@ use Rattle.xp_words.specs.declared.reply.Pause.TheVariants.{Due}
 use Rattle.xp_words.specs.declared.reply.Refusal.TheVariants as refusals
 use Rattle.xp_words.specs.declared.reply.Stop.{Stop}
 use Rattle.xp_words.specs.declared.reply.Stop.TheVariants.{Paused, Refused}
-use Rattle.xp_preempt.proofs.Consulting.{consulted_none, consulted_then}
 use Rattle.xp_board.specs.Acts.{left_by}
 use Rattle.xp_board.specs.Steps.{some_since}
 use Rattle.xp_board.specs.Told.{Post, PortValue}
@@ -34,14 +33,12 @@ use Rattle.flush_words.proofs.Lasting.{came_keeps, came_longer}
 use Rattle.table_words.specs.OldWords.{known_old}
 use Rattle.table_words.specs.declared.old_words.OldWord.TheVariants.{First, Second}
 use Rattle.level_release.specs.Settling.{SettledHand}
-use Rattle.xp_preempt.proofs.Consulting.{ends_more}
 use Rattle.domain_destroy.specs.Asking.{IsDestroyDeed, IsDestroyStop, ServesDestroy, StopsDestroyer, of_domain}
 use Rattle.domain_destroy.specs.Course as course
 use Rattle.domain_destroy.specs.Course.{Advances, GoesOn, LeftFrame}
 use Rattle.domain_destroy.specs.Destroying.{PartWent}
 use Rattle.domain_destroy.specs.Emptying.{NamesNone}
 use Rattle.domain_destroy.specs.declared.place.DestroyAt.{DestroyAt}
-use Rattle.xp_preempt.specs.Gates.{Gated}
 
 -- ---- what is in hand
 pub settled_self : (v : PortValue) → SettledHand v v
@@ -257,20 +254,3 @@ goes_on_then d v at u by some answers first _ _ _ _ _ (course.GoesOn.advances x 
     subst (λ (xs : List LeftFrame). GoesOn d v at w to xs ((q ++ a) ++ answers) answer) (append_assoc some s m)
     (subst (λ (xs : List Bool). GoesOn d v at w to ((some ++ s) ++ m) xs answer) (sym (append_assoc q a answers))
     (course.GoesOn.advances x w from to (some ++ s) m (a ++ answers) q answer (goes_on_then d v at u by some answers first x from s a (Ok tt) before) one))
-
--- ---- gates
-pub gated_none : {P : List Bool → Type 0} {says : ℕ → Bool} {asks positive : ℕ} {due : Bool} → due ≡ false → P [] → Gated P says asks asks positive positive due
-gated_none {says = says} {asks = asks} {positive = positive} undue went = record { answers = []; course = went; gate = consulted_none says asks positive; due = undue }
-
-pub gated_as : {P Q : List Bool → Type 0} {says : ℕ → Bool} {a b x y : ℕ} {due : Bool} → ((answers : List Bool) → P answers → Q answers) → Gated P says a b x y due → Gated Q says a b x y due
-gated_as so g = record { answers = g.answers; course = so g.answers g.went; gate = g.gate; due = g.due }
-
--- behind a part that was not paused, with a gate that says the same
-pub gated_then : {says later : ℕ → Bool} {P Q R : List Bool → Type 0} {a b c x y z : ℕ} {due : Bool} → ((n : ℕ) → later n ≡ says n) → ((answers more : List Bool) → P answers → Q more → R (more ++ answers)) → Gated P says a b x y false → Gated Q later b c y z due → Gated R says a c x z due
-gated_then {says} {later} {a = a} {b = b} {c = c} {x = x} {y = y} {z = z} same so first second =
-    record {
-      answers = second.answers ++ first.answers;
-      went = so first.answers second.answers first.went second.went;
-      gate = consulted_then later says a b c x y z first.answers second.answers same first.gate second.gate;
-      due = ends_more first.answers second.answers (sym first.due) second.due;
-    }

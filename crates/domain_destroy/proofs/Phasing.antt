@@ -20,8 +20,9 @@ use Rattle.domain_destroy.specs.declared.place.DestroyAt.{DestroyAt}
 use Rattle.domain_destroy.specs.declared.place.DestroyAt.TheVariants.{Begins, Stops, Empties, Clears, Checks, Lists}
 use Rattle.domain_destroy.proofs.Opening.{opens_cleared, opens_empty, opens_listed}
 use Rattle.domain_destroy.proofs.Staying.{found_cleared_stays}
-use Rattle.domain_destroy.proofs.Parts.{destroy_came, gated_as, goes_on_one, goes_on_then, nothing_serves, settled_self, went_err, went_ok, went_same, went_then}
-use Rattle.xp_preempt.specs.Gates.{Gated}
+use Rattle.domain_destroy.proofs.Parts.{destroy_came, goes_on_one, goes_on_then, nothing_serves, settled_self, went_err, went_ok, went_same, went_then}
+use Rattle.xp_preempt.specs.Gates.{Gate, Gated}
+use Rattle.xp_preempt.proofs.Consulting.{gated_as}
 
 -- ---- what is known
 -- the log is not looked at before frames are listed
@@ -212,19 +213,17 @@ module _ (v w : PortValue) (d : ℕ) (at : DestroyAt) where
       subst (λ (t : DestroyAt). KeepsComing v w d t (Empties 0)) (sym is)
       (keeps_by v w d (Stops k) (Empties 0) refl refl refl (λ op log knows. opens_empty w.post.machine w.post.vcpu d new w.holdings found all))
 
-  module _ {says : ℕ → Bool} {a b x y : ℕ} {due : Bool} where
-    pub emptied_ends : (k new : ℕ) → at ≡ Empties k → length w.post.machine.vcpu_domain ≤ new → Gated says a b (λ answers. PhaseWent v w d (Empties k) (Empties new) [] answers (Ok tt)) x y due →
-        Gated says a b (λ answers. PhaseWent v w d at (Clears 0) [] answers (Ok tt)) x y due
-    emptied_ends k new is all went =
-        gated_as (λ answers part.
-        subst (λ (t : DestroyAt). PhaseWent v w d t (Clears 0) [] answers (Ok tt)) (sym is)
-        (phase_ends v w d (Empties k) (Empties new) (Clears 0) answers part (course.Advances.all_emptied new all))) went
+  module _ {g h : Gate} {paused : Bool} where
+    pub emptied_ends : (k new : ℕ) → at ≡ Empties k → length w.post.machine.vcpu_domain ≤ new → Gated g h paused (λ answers. PhaseWent v w d (Empties k) (Empties new) [] answers (Ok tt)) →
+        Gated g h paused (λ answers. PhaseWent v w d at (Clears 0) [] answers (Ok tt))
+    emptied_ends k new is all =
+        gated_as refl
+        (λ answers part. subst (λ (t : DestroyAt). PhaseWent v w d t (Clears 0) [] answers (Ok tt)) (sym is) (phase_ends v w d (Empties k) (Empties new) (Clears 0) answers part (course.Advances.all_emptied new all)))
 
-    pub cleared_ends : (k new : ℕ) → at ≡ Clears k → w.post.machine.frames ≤ new → Gated says a b (λ answers. PhaseWent v w d (Clears k) (Clears new) [] answers (Ok tt)) x y due →
-        Gated says a b (λ answers. PhaseWent v w d at Checks [] answers (Ok tt)) x y due
-    cleared_ends k new is all went =
-        gated_as (λ answers part.
-        subst (λ (t : DestroyAt). PhaseWent v w d t Checks [] answers (Ok tt)) (sym is) (phase_ends v w d (Clears k) (Clears new) Checks answers part (course.Advances.all_cleared new all))) went
+    pub cleared_ends : (k new : ℕ) → at ≡ Clears k → w.post.machine.frames ≤ new → Gated g h paused (λ answers. PhaseWent v w d (Clears k) (Clears new) [] answers (Ok tt)) →
+        Gated g h paused (λ answers. PhaseWent v w d at Checks [] answers (Ok tt))
+    cleared_ends k new is all =
+        gated_as refl (λ answers part. subst (λ (t : DestroyAt). PhaseWent v w d t Checks [] answers (Ok tt)) (sym is) (phase_ends v w d (Clears k) (Clears new) Checks answers part (course.Advances.all_cleared new all)))
 
   pub emptied_opens : (k new : ℕ) → at ≡ Empties k → FoundEmpty w.post.machine w.post.vcpu d new w.holdings → length w.post.machine.vcpu_domain ≤ new → KeepsComing v w d at (Clears 0)
   emptied_opens k new is found all =

@@ -1,4 +1,4 @@
-use Rattle.std.proofs.Common.{◌≡◌, ◌-◌, ℕ, [], true, false, Ok}
+use Rattle.std.proofs.Common.{◌-◌, ℕ, [], false, Ok}
 use Rattle.domain_destroy.specs.Destroying.{PhaseWent}
 use Rattle.domain_destroy.specs.declared.place.DestroyAt.TheVariants.{Clears}
 use Rattle.domain_destroy.proofs.Cleared.{ClearedAt}
@@ -8,10 +8,7 @@ use Rattle.xp_preempt.specs.Gates.{Gated}
 abbrev pub invariant-loop-at : goal.invariant-loop-at
 invariant-loop-at g l = record {
   come : (since : ℕ) → ClearedAt (g.P.Port.value l.fn.port) l.domain l.fn.at since → ClearedAt (g.P.Port.value l.port) l.domain l.at since;
-  went : Gated ((goal.Preempt-dyn g l.fn.gate.now).says l.fn.gate.now.1) ((goal.Preempt-dyn g l.fn.gate.now).count_asks l.fn.gate.now.1) ((goal.Preempt-dyn g l.gate.now).count_asks l.gate.now.1) (λ answers. PhaseWent (g.P.Port.value l.fn.port) (g.P.Port.value l.port) l.domain (Clears l.fn.at) (Clears l.at) [] answers (Ok tt)) ((goal.Preempt-dyn g l.fn.gate.now).count_yes l.fn.gate.now.1) ((goal.Preempt-dyn g l.gate.now).count_yes l.gate.now.1) false;
-  says : (n : ℕ) → (goal.Preempt-dyn g l.gate.now).says l.gate.now.1 n ≡ (goal.Preempt-dyn g l.fn.gate.now).says l.fn.gate.now.1 n;
-  paces : (goal.Preempt-dyn g l.gate.now).paces l.gate.now.1 ≡ (goal.Preempt-dyn g l.fn.gate.now).paces l.fn.gate.now.1;
-  calm : (goal.Preempt-dyn g l.fn.gate.now).calm l.fn.gate.now.1 ≡ true → (goal.Preempt-dyn g l.gate.now).calm l.gate.now.1 ≡ true;
+  went : Gated ((goal.Preempt-dyn g l.fn.gate.now).policy l.fn.gate.now.1) ((goal.Preempt-dyn g l.gate.now).policy l.gate.now.1) false (λ answers. PhaseWent (g.P.Port.value l.fn.port) (g.P.Port.value l.port) l.domain (Clears l.fn.at) (Clears l.at) [] answers (Ok tt));
 }
 
 abbrev pub decreases-loop-at : goal.decreases-loop-at

@@ -1,7 +1,7 @@
 use Rattle.std.proofs.Common.{refl}
+use Rattle.xp_preempt.proofs.Consulting.{gated_as, gated_none}
 use Rattle.step_maker.proofs.Coming.{came_self, moves_came}
 use Rattle.domain_destroy.proofs.OneWord.{look_left, look_went, may_empty_still, meanwhile_went, named_left, named_one, named_went, take_left}
-use Rattle.domain_destroy.proofs.Parts.{gated_as, gated_none}
 use Rattle.domain_destroy.proofs.emptying.empty.Goals as goal
 
 -- ---- found empty
@@ -49,7 +49,7 @@ returns-clause-empty g c =
 
 pub returns-clause-went : goal.returns-clause-went
 returns-clause-went g c =
-    gated_as
+    gated_as refl
     (named_went (g.P.Port.value c.args.port.now) c.args.domain c.args.vcpu c.args.word c.requires.of (g.P.Port.value c.look_word.new.port) c.look_word.result c.look_word.ensures.moves
     (g.P.Port.value c.empty_word-old.new.port) c.empty_word-old.result c.if-look_word-eq0.false c.empty_word-old.ensures.moves c.requires.rests c.requires.clear c.look_word.ensures.hand c.empty_word-old.ensures.hand
     c.if-old-eq0.false c.empty_word-old.ensures.inside (g.P.Port.value c.let_go.new.port) c.let_go.result c.let_go.ensures.rests c.let_go.ensures.hand c.let_go.ensures.serves c.let_go.ensures.clear

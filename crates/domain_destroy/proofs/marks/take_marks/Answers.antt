@@ -1,4 +1,5 @@
 use Rattle.std.proofs.Common.{refl}
+use Rattle.xp_preempt.proofs.Consulting.{gated_as, gated_none}
 use Rattle.xp_board.specs.Hands.{owner_from}
 use Rattle.xp_board.specs.KindSteps.{live_typed}
 use Rattle.xp_board.proofs.KindForms.{fields_of}
@@ -6,7 +7,6 @@ use Rattle.kind_words.proofs.KindFacts.{read_is}
 use Rattle.table_words.proofs.PinWords.{may_unpin}
 use Rattle.level_release.proofs.SettlingSteps.{lost_undue}
 use Rattle.domain_destroy.proofs.Marked.{lost_code, saw_fits, saw_inside, saw_some, takes_pin}
-use Rattle.domain_destroy.proofs.Parts.{gated_as, gated_none}
 use Rattle.domain_destroy.proofs.Unmarking.{none_took, one_held, pin_came, pin_took}
 use Rattle.domain_destroy.proofs.marks.take_marks.Goals as goal
 
@@ -36,7 +36,7 @@ returns-in-Ok g c =
     let a = g.P.Port.value c.clear_pin.new.port in
     let w = g.P.Port.value c.let_go.new.port in
     let e = c.let_go.ensures in
-    gated_as (pin_took v a w c.args.frame c.args.found c.read_kind-kind.result c.let_go.result c.read_kind-kind.ensures c.requires.rests e.serves e.stops e.kinds e.rests e.hand e.clear c.if-kind.true c.in-Ok.ensures.moves c.in-Ok.ensures.hand) e.course
+    gated_as refl (pin_took v a w c.args.frame c.args.found c.read_kind-kind.result c.let_go.result c.read_kind-kind.ensures c.requires.rests e.serves e.stops e.kinds e.rests e.hand e.clear c.if-kind.true c.in-Ok.ensures.moves c.in-Ok.ensures.hand) e.course
 
 pub returns-in-Err : goal.returns-in-Err
 returns-in-Err g c =

@@ -1,19 +1,16 @@
 use Rattle.std.proofs.Common.{◌≢◌, Some, rules, refl}
 use Rattle.xp_words.specs.declared.kind.PageType.TheVariants.{Desc}
+use Rattle.xp_preempt.proofs.Consulting.{gated_as, gated_none}
 use Rattle.xp_board.specs.Hands.{brought_typed}
 use Rattle.kind_words.proofs.KindFacts.{read_is}
 use Rattle.level_release.proofs.SettlingSteps.{lost_undue}
 use Rattle.domain_destroy.proofs.Marked.{kept_partial, lost_code, saw_inside, takes_kept}
-use Rattle.domain_destroy.proofs.Parts.{gated_as, gated_none}
 use Rattle.domain_destroy.proofs.Unmarking.{kept_came, kept_took, one_held}
 use Rattle.domain_destroy.proofs.marks.unkeep.Goals as goal
 
 -- ---- a descriptor page
 pub returns-then-eq : goal.returns-then-eq
 returns-then-eq g c = gated_none c.end_page.ensures.undue c.end_page.ensures.went
-
-pub returns-then-eq-clause-calm : goal.returns-then-eq-clause-calm
-returns-then-eq-clause-calm g c calm = (c.end_page.ensures.undue, calm)
 
 -- ---- another frame
 pub take_back-requires-clause-is : goal.take_back-requires-clause-is
@@ -36,7 +33,7 @@ returns-in-Ok g c =
     let r = c.requires in
     let e = c.let_go.ensures in
     let other : c.args.kind.kind ≢ Desc = search rules in
-    gated_as (kept_took v a w c.args.frame c.args.found c.args.kind c.let_go.result r.read r.rests e.serves e.stops e.kinds e.rests e.hand e.clear r.unpinned r.kept other c.in-Ok.ensures.moves c.in-Ok.ensures.hand) e.course
+    gated_as refl (kept_took v a w c.args.frame c.args.found c.args.kind c.let_go.result r.read r.rests e.serves e.stops e.kinds e.rests e.hand e.clear r.unpinned r.kept other c.in-Ok.ensures.moves c.in-Ok.ensures.hand) e.course
 
 pub returns-in-Err : goal.returns-in-Err
 returns-in-Err g c =

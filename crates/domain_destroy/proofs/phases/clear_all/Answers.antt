@@ -1,5 +1,5 @@
 use Rattle.std.proofs.Common.{refl}
-use Rattle.domain_destroy.proofs.Parts.{gated_none}
+use Rattle.xp_preempt.proofs.Consulting.{gated_none}
 use Rattle.domain_destroy.proofs.Phasing.{cleared_ends, cleared_keeps, cleared_opens, keeps_self, past_clears, phase_past}
 use Rattle.domain_destroy.proofs.phases.clear_all.Goals as goal
 
@@ -24,7 +24,4 @@ returns-in_default g c =
       went = gated_none refl (phase_past v c.args.domain c.args.at.now c.requires.rests c.requires.clear);
       come = keeps_self v c.args.domain c.args.at.now;
       past = past_clears c.args.at.now c.requires.phase c.in_default.not-Clears;
-      says = λ n. refl;
-      paces = refl;
-      calm = λ calm. (refl, calm);
     }
