@@ -3,3 +3,4 @@ pub mod Steps
 pub mod Lows
 pub mod Visits
 pub mod Walking
+mod Answered

@@ -15,9 +15,7 @@ use Rattle.step_maker.specs.Answers.{Deed, Serves, SetsWord}
 use Rattle.step_maker.specs.Asked.{Request}
 use Rattle.context_words.specs.Names.{naming}
 use Rattle.frame_types.specs.Found.{DropsPlain}
-
-abbrev pub own_domain : PortValue → ℕ
-own_domain v = domain_of v.post.machine v.post.vcpu
+pub use Rattle.step_maker.specs.Holds.{own_domain}
 
 -- the newest typed reference is to that page, live and the own domain's; or none is for it
 abbrev pub with_page : ℕ → Option ℕ → List TypedReference → List TypedReference

@@ -8,11 +8,11 @@ ghost use Rattle.step_maker.specs.Holds.{MayWork, Rests};
 ghost use Rattle.desc_pages.specs.Descriptors.{DescriptorUpdated, HoldsLent, IsDescriptorType, PutsUnder, TakesAs, descriptor_type};
 ghost use Rattle.desc_pages.specs.Names.{own_domain};
 
-use crate::gdt::own_domain;
 use crate::pages::take_desc;
 use frame_types::drop_plain;
 use frame_words::{get_ref, put_ref, store_cell};
 use kind_words::{look_kind, read_kind};
+use step_maker::own_domain;
 use writable_pages::take_page;
 use xp_board::Port;
 use xp_words::{KindWord, PageType, Refusal, Stop, fix};

@@ -6,6 +6,7 @@ ghost use Rattle.desc_pages.specs.Gdt.{GaveAll, GdtSet, HoldsPages, NamesAll, Ta
 use crate::pages::get_desc;
 use crate::words::put_page;
 use frame_types::drop_plain;
+use step_maker::own_domain;
 use xp_board::Port;
 use xp_words::{PageType, Refusal, Stop};
 
@@ -38,14 +39,6 @@ fn is_bad_gdt(entries: u64, frames: &[u64]) -> bool
     ensures { result ≡ is_bad_gdt entries (length frames.now) }
 {
     MOST_ENTRIES < entries || frames.len() as u64 != (entries + 511) / 512
-}
-
-// The domain of the own vCPU.
-pub(crate) fn own_domain<P: Port>(port: &P) -> u16
-    ensures own { result ≡ own_domain (P.value port.now) }
-    ensures real { result < length (P.value port.now).post.machine.page_limit }
-{
-    port.layout().vcpu_domain.as_slice()[port.vcpu() as usize]
 }
 
 // Takes all frames of a list as descriptor pages, or none of them.

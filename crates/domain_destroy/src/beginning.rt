@@ -9,6 +9,7 @@ ghost use Rattle.domain_destroy.specs.Course.{BeginsBy};
 
 use flush_words::look_privileges;
 use life_words::doom;
+use step_maker::own_domain;
 use xp_board::Port;
 use xp_words::{Refusal, Stop};
 
@@ -28,7 +29,7 @@ pub(crate) fn begin<P: Port>(port: &mut P, domain: u64) -> Result<(), Stop>
         return Err(Stop::Refused(Refusal::NoDomain));
     }
     let domain = domain as u16;
-    let caller = port.layout().vcpu_domain.as_slice()[port.vcpu() as usize];
+    let caller = own_domain(port);
     if domain == caller || !has_privilege(look_privileges(port, caller), domain) {
         return Err(Stop::Refused(Refusal::NoPrivilege { caller, domain }));
     }

@@ -1,5 +1,5 @@
 -- An exchange for a word that asks something else, call by call: what is in hand on the way, and its course.
-use Rattle.std.proofs.Common.{◌≡◌, ◌≢◌, ℕ, Bool, false, List, [], ◌∷◌, ◌++◌, length, Option, Ok, Err, refl, sym, ap, ◌∙◌, subst}
+use Rattle.std.proofs.Common.{◌≡◌, ◌≢◌, ℕ, Bool, false, List, [], ◌∷◌, length, Option, Ok, Err, refl, sym, ap, ◌∙◌, subst}
 use Rattle.xp_words.specs.Entries.{demand_at}
 use Rattle.xp_words.specs.Machine.{IsMachine}
 use Rattle.xp_words.specs.declared.entry.Demand.{Demand}
@@ -24,7 +24,8 @@ use Rattle.entry_exchange.specs.Holding.{HoldsLockOf, LeavesExchange, LeavesUnlo
 use Rattle.entry_exchange.specs.Parts.{DemandChanged, DemandGiven, DemandReleased, DemandTaken, EntryPut, HoldsFreed, HoldsSeen, HoldsTaken, IsInside, IsOfLevel, LeavesGone, LockLeft}
 use Rattle.entry_exchange.specs.Words.{same_demand, word_kept}
 use Rattle.entry_exchange.proofs.ServesDone.{done_serves, lost_serves, lost_stops, untaken_serves, untaken_stops}
-use Rattle.xp_preempt.proofs.Consulting.{consulted_then, not_due}
+use Rattle.xp_preempt.specs.Gates.{Gate}
+use Rattle.xp_preempt.proofs.Consulting.{past_as, past_then}
 use Rattle.step_maker.proofs.Coming.{came_trans}
 use Rattle.entry_exchange.proofs.Hands.{Stands, changed_stands, gone, is_from, is_taken, lock_here, off_stands, refs_from, refs_of, took_stands, typed_from, typed_of, unset_stands, untaken_stands, works_are}
 use Rattle.entry_exchange.proofs.Standing.{begins, holds_freed, holds_taken, leaves, lock_of, may_change, seen_keeps}
@@ -71,7 +72,7 @@ module _ {v : PortValue} (x : EntryUpdate) (o : Owners) {seen : ℕ} (locked : H
   off_hand u w e a at stands off = let out = off_stands v u w x.table [] [] e a v.holdings.old1 at stands off in leaves v x.table x.level o.tables locked.holds w a out.0 out.1
 
   -- ---- what the new word asks is not to be had
-  module _ {u : PortValue} {says : ℕ → Bool} {before after yes_before yes_after : ℕ} {stop : Stop} (took : DemandTaken v u owner x.level wanted g h (Err stop)) where
+  module _ {u : PortValue} {g h : Gate} {stop : Stop} (took : DemandTaken v u owner x.level wanted g h (Err stop)) where
     untaken : (a : Option ℕ) × Stands v u [] [] (the_lock ∷ []) a v.holdings.old1
     untaken = untaken_stands v u wanted owner the_lock stop begun took.hand
 
@@ -81,18 +82,17 @@ module _ {v : PortValue} (x : EntryUpdate) (o : Owners) {seen : ℕ} (locked : H
     pub untaken_changed : {w : PortValue} → wanted ≢ Bad → same_demand wanted (old_demand x seen) ≡ false → LockLeft u w x.table x.level →
         DemandChanged v w x o seen g h (Err stop)
     untaken_changed {w} fits other left =
-        let by = took.course in
         record {
           came = came_trans v u w took.came left.came;
           serves = λ a holds saw. untaken_serves a v x o seen holds saw locked stop wanted refl (fits_it fits) u w left.serves (took.serves o.frames);
           stops = λ a holds saw. untaken_stops a v x o seen holds saw locked stop wanted refl (fits_it fits) u w left.serves took.came (took.stops o.frames);
           kinds = took.kinds;
           hand = off_hand u w the_lock untaken.0 locked.holds.frame untaken.1 left.hand;
-          course = λ a holds saw. record { answers = by.answers; course = courses.untaken v u w seen by.answers stop saw other by.course left.course; gate = by.gate; due = by.due };
+          course = λ a holds saw. past_as (λ on. on) (λ xs by. courses.untaken v u w seen xs stop saw other by left.course) took.course;
         }
 
   -- ---- it is in hand
-  module _ {u : PortValue} {says : ℕ → Bool} {before after yes_before yes_after : ℕ} (took : DemandTaken v u owner x.level wanted g h (Ok tt)) where
+  module _ {u : PortValue} {g h : Gate} (took : DemandTaken v u owner x.level wanted g h (Ok tt)) where
     taken : Stands v u (refs_of wanted owner) (typed_of wanted owner) (the_lock ∷ []) v.holdings.old0 v.holdings.old1
     taken = took_stands v u wanted owner the_lock begun took.hand
 
@@ -127,7 +127,6 @@ module _ {v : PortValue} (x : EntryUpdate) (o : Owners) {seen : ℕ} (locked : H
         pub lost_changed : {w : PortValue} → wanted ≢ Bad → same_demand wanted (old_demand x seen) ≡ false → LockLeft p w x.table x.level →
             DemandChanged v w x o seen g h (Err stop)
         lost_changed {w} fits other left =
-            let by = took.course in
             record {
               came = came_trans v u w took.came (came_trans u z w put.came (came_trans z p w gave.came left.came));
               serves = λ a holds saw. lost_serves a v x o seen holds saw locked wanted refl (fits_it fits) u z took.came
@@ -136,12 +135,7 @@ module _ {v : PortValue} (x : EntryUpdate) (o : Owners) {seen : ℕ} (locked : H
                   (took.serves o.frames) put.came stop p w put.course left.serves put.stops gave.came;
               kinds = put.kinds;
               hand = off_hand p w found_lock given.0 locked.holds.frame given.1 left.hand;
-              course = λ a holds saw. record {
-                answers = by.answers;
-                course = courses.lost v u z p w seen by.answers stop saw other by.course put.course gave.course left.course;
-                gate = by.gate;
-                due = not_due (is_due_answer {A = Unit {0}} (Err stop)) by.answers (undue put.course);
-              };
+              course = λ a holds saw. past_as (λ on. sym (undue put.course) ∙ on) (λ xs by. courses.lost v u z p w seen xs stop saw other by put.course gave.course left.course) took.course;
             }
 
     -- or goes into the entry
@@ -189,12 +183,8 @@ module _ {v : PortValue} (x : EntryUpdate) (o : Owners) {seen : ℕ} (locked : H
             subst (λ y. HoldsFreed p y) was
             (holds_freed v p freed since [] v.holdings.old0 unlocked.0 locked.holds.others.works locked.holds.others.looking (came_longer u p (came_trans u z p put.came left.came)) unlocked.1)
 
-        pub done_changed : {w : PortValue} {later : ℕ → Bool} {last yes_last : ℕ} → wanted ≢ Bad → ((n : ℕ) → later n ≡ says n) →
-            DemandReleased p w (old_demand x old) later after last yes_after yes_last →
-            DemandChanged v w x o seen says before last yes_before yes_last (Ok tt)
-        done_changed {w} {later} {last} {yes_last} fits same freeing =
-            let by = took.course in
-            let more = freeing.course in
+        pub done_changed : {w : PortValue} {k : Gate} → wanted ≢ Bad → DemandReleased p w (old_demand x old) h k → DemandChanged v w x o seen g k (Ok tt)
+        done_changed {w} fits freeing =
             let end = gone v p (refs_from freed since) (typed_from freed since) [] v.holdings.old0 unlocked.0 unlocked.1 w freed (is_from freed since)
             (subst (λ y. LeavesGone p w y) (sym was) freeing.hand) in
             record {
@@ -206,10 +196,5 @@ module _ {v : PortValue} (x : EntryUpdate) (o : Owners) {seen : ℕ} (locked : H
               stops = λ a holds saw. tt;
               kinds = tt;
               hand = leaves v x.table x.level o.tables locked.holds w end.0 unlocked.0 end.1;
-              course = λ a holds saw. record {
-                answers = more.answers ++ by.answers;
-                course = courses.done v u z p w seen old by.answers more.answers saw other by.course put.course left.course more.course;
-                gate = consulted_then later says before after last yes_before yes_after yes_last by.answers more.answers same by.gate more.gate;
-                due = not_due false (more.answers ++ by.answers) refl;
-              };
+              course = λ a holds saw. past_then (λ xs ys by more. courses.done v u z p w seen old xs ys saw other by put.course left.course more) took.course freeing.course;
             }

@@ -1,5 +1,5 @@
 -- An exchange behind its look: what is in hand then, and where both words ask the same.
-use Rattle.std.proofs.Common.{◌≡◌, ℕ, ◌<◌, Bool, true, false, [], ◌∷◌, None, Result, Ok, Err, IfErr, refl, sym, ap, ◌∙◌, subst}
+use Rattle.std.proofs.Common.{◌≡◌, ℕ, ◌<◌, true, [], ◌∷◌, None, Result, Ok, Err, IfErr, refl, sym, ap, ◌∙◌, subst}
 use Rattle.xp_words.specs.declared.entry.Demand.TheVariants.{Bad}
 use Rattle.xp_words.specs.declared.reply.Refusal.TheVariants.{Reserved}
 use Rattle.xp_words.specs.declared.reply.Stop.{Stop}
@@ -23,9 +23,9 @@ use Rattle.entry_exchange.specs.Words.{same_demand, word_kept}
 use Rattle.entry_exchange.proofs.ChangingDemand.{may_standing, undue}
 use Rattle.entry_exchange.proofs.ServesDone.{bad_serves, bad_stops, same_serves, unput_serves, unput_stops}
 use Rattle.entry_exchange.proofs.Steps.{exchange_short}
-use Rattle.xp_preempt.proofs.Consulting.{consulted_none, not_due}
+use Rattle.xp_preempt.specs.Gates.{Gate}
+use Rattle.xp_preempt.proofs.Consulting.{past_none}
 use Rattle.step_maker.specs.Answers.{Stops}
-use Rattle.level_release.specs.Asking.{is_due_answer}
 use Rattle.level_validate.specs.Acquiring.{IsAcquireStop}
 use Rattle.entry_exchange.specs.Asking.{ServesExchange, of_exchange}
 use Rattle.xp_words.specs.declared.place.Place.TheVariants.{Cell}
@@ -82,7 +82,7 @@ module _ {v b : PortValue} (x : EntryUpdate) (o : Owners) {seen : ℕ} (holds : 
   off_hand u w e at stands off = let out = off_stands v u w x.table [] [] e v.holdings.old0 v.holdings.old1 at stands off in leaves v x.table x.level o.tables holds w v.holdings.old0 out.0 out.1
 
   -- ---- the end
-  ended : {w : PortValue} {says : ℕ → Bool} {before after yes_before yes_after : ℕ} {answer : Result (Unit {0}) Stop} → MayWork v → Came v w → ServesExchange v w x o answer →
+  ended : {w : PortValue} {g h : Gate} {answer : Result (Unit {0}) Stop} → MayWork v → Came v w → ServesExchange v w x o answer →
       IfErr answer (λ e. Stops v w (of_exchange x o answer) e) → IfErr answer IsAcquireStop →
       LeavesExchange v w → ExchangesBy v w x o g h answer → EntryExchanged v w x o g h answer
   ended {w} {answer = answer} may came serves stops kinds hand by =
@@ -97,27 +97,22 @@ module _ {v b : PortValue} (x : EntryUpdate) (o : Owners) {seen : ℕ} (holds : 
         short = exchange_short v w x o by.answers answer may.machine by.course;
       }
 
-  -- the gate is not asked
-  unasked : {w : PortValue} {says : ℕ → Bool} {before agreed : ℕ} (answer : Result (Unit {0}) Stop) → is_due_answer answer ≡ false → Exchanged v x o w [] answer →
-      ExchangesBy v w x o says before before agreed agreed answer
-  unasked answer undue course = record { answers = []; course = course; gate = consulted_none _ _ _; due = not_due (is_due_answer answer) [] undue }
-
   -- ---- it asks something else
-  pub ended_changed : {w : PortValue} {says : ℕ → Bool} {before after yes_before yes_after : ℕ} {answer : Result (Unit {0}) Stop} → MayWork v →
+  pub ended_changed : {w : PortValue} {g h : Gate} {answer : Result (Unit {0}) Stop} → MayWork v →
       DemandChanged b w x o seen g h answer →
       EntryExchanged v w x o g h answer
   ended_changed {w} may did =
       let hand = leaves_behind v x.table x.level o.tables holds w b (seen_lock ∷ []) v.holdings.old0 v.holdings.old1 behind did.hand in
       ended may (came_trans v b w came_look did.came) (did.serves v holds saw) (did.stops v holds saw) did.kinds hand (did.course v holds saw)
 
-  module _ {says : ℕ → Bool} {before agreed : ℕ} where
+  module _ {g : Gate} where
     -- ---- the new word asks what it may not
     pub ended_bad : {w : PortValue} → MayWork v → new_demand x seen ≡ Bad → LockLeft b w x.table x.level →
-        EntryExchanged v w x o says before before agreed agreed (Err (Refused (Reserved x.table x.index new)))
+        EntryExchanged v w x o g g (Err (Refused (Reserved x.table x.index new)))
     ended_bad {w} may bad left =
         ended may (came_trans v b w came_look left.came) (bad_serves v b x o seen holds saw w left.serves) (bad_stops v b x o seen holds saw w left.serves bad) tt
         (off_hand b w seen_lock holds.frame behind left.hand)
-        (unasked (Err (Refused (Reserved x.table x.index new))) refl (courses.bad b w seen saw bad left.course))
+        (past_none refl (courses.bad b w seen saw bad left.course))
 
   -- ---- it asks the same
   module _ (same : same_demand (new_demand x seen) (old_demand x seen) ≡ true) where
@@ -156,15 +151,15 @@ module _ {v b : PortValue} (x : EntryUpdate) (o : Owners) {seen : ℕ} (holds : 
       keep_came : (w : PortValue) → LockLeft z w x.table x.level → Came v w
       keep_came w left = came_trans v b w came_look (came_trans b z w put.came left.came)
 
-    module _ {z w : PortValue} {says : ℕ → Bool} {before agreed : ℕ} where
+    module _ {z w : PortValue} {g : Gate} where
       pub ended_same : {old : ℕ} (put : EntryPut b z x.table x.index seen new x.keep (Ok old)) → MayWork v → LockLeft z w x.table x.level →
-          EntryExchanged v w x o says before before agreed agreed (Ok tt)
+          EntryExchanged v w x o g g (Ok tt)
       ended_same {old} put may left =
           ended may (keep_came put w left) (same_serves v b x o seen holds saw z w left.serves old put.serves) tt tt (off_hand z w (kept_lock put) holds.frame (kept put).1 left.hand)
-          (unasked (Ok tt) refl (courses.same b z w seen old saw same put.course left.course))
+          (past_none refl (courses.same b z w seen old saw same put.course left.course))
 
       pub ended_unput : {stop : Stop} (put : EntryPut b z x.table x.index seen new x.keep (Err stop)) → MayWork v → LockLeft z w x.table x.level →
-          EntryExchanged v w x o says before before agreed agreed (Err stop)
+          EntryExchanged v w x o g g (Err stop)
       ended_unput {stop} put may left =
           ended may (keep_came put w left) (unput_serves v b x o seen holds saw z w left.serves stop put.serves) (unput_stops v b x o seen holds saw z w left.serves stop put.stops) put.kinds
-          (off_hand z w (kept_lock put) holds.frame (kept put).1 left.hand) (unasked (Err stop) (undue put.course) (courses.unput b z w seen stop saw same put.course left.course))
+          (off_hand z w (kept_lock put) holds.frame (kept put).1 left.hand) (past_none (undue put.course) (courses.unput b z w seen stop saw same put.course left.course))

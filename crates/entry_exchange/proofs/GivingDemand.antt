@@ -1,5 +1,5 @@
 -- What an entry asks is given back, or released: what that needs, and by the call, all that is said of it.
-use Rattle.std.proofs.Common.{◌≡◌, ◌⊎◌, ℕ, ◌+◌, ◌-◌, ◌<◌, ◌≤◌, Bool, false, List, [], Some, Result, Ok, Err, IfErr, refl, sym, ap, ◌∙◌, subst, inl, inr}
+use Rattle.std.proofs.Common.{◌≡◌, ◌⊎◌, ℕ, ◌+◌, ◌-◌, ◌<◌, ◌≤◌, List, [], Some, Result, Ok, Err, IfErr, refl, sym, ap, ◌∙◌, subst, inl, inr}
 use Rattle.xp_words.specs.declared.entry.Demand.{Demand}
 use Rattle.xp_words.specs.declared.entry.Demand.TheVariants.{Bad, Nothing, Read, Typed}
 use Rattle.xp_words.specs.declared.kind.PageType.{PageType}
@@ -11,7 +11,8 @@ use Rattle.xp_board.specs.declared.holdings.Reference.{Reference}
 use Rattle.xp_board.specs.declared.holdings.TypedReference.{TypedReference}
 use Rattle.xp_board.specs.Hands.{refs_to, without_typed}
 use Rattle.xp_board.specs.Told.{PortValue}
-use Rattle.xp_preempt.proofs.Consulting.{consulted_none, not_due}
+use Rattle.xp_preempt.specs.Gates.{Gate}
+use Rattle.xp_preempt.proofs.Consulting.{gated_past, past_as, past_none}
 use Rattle.xp_board.proofs.ListCounts.{newest_held}
 use Rattle.step_maker.specs.Holds.{Holds, still}
 use Rattle.step_maker.proofs.Coming.{came_self}
@@ -78,34 +79,31 @@ module _ {v w : PortValue} {owner level g : ℕ} where
       by_course (parts.last u x drops kept) = courses.last u x g above drops kept
 
 -- ---- released
-unasked : {v w : PortValue} {d : Demand} {says : ℕ → Bool} {before agreed : ℕ} → ReleasedDemand v d w [] → ReleasesDemand v w d says before before agreed agreed
-unasked course = record { answers = []; course = course; gate = consulted_none _ _ _; due = not_due false [] refl }
+still_released : {v : PortValue} {d : Demand} {k : Gate} → LeavesGone v v d → ReleasedDemand v d v [] → DemandReleased v v d k k
+still_released {v} {d} hand course = record { came = came_self v; serves = λ owner pages. serves_nothing v (of_given d owner pages); hand = hand; course = past_none refl course }
 
-still_released : {v : PortValue} {d : Demand} {says : ℕ → Bool} {before agreed : ℕ} → LeavesGone v v d → ReleasedDemand v d v [] → DemandReleased v v d says before before agreed agreed
-still_released {v} {d} hand course = record { came = came_self v; serves = λ owner pages. serves_nothing v (of_given d owner pages); hand = hand; course = unasked course }
-
-pub nothing_released : {v : PortValue} {d : Demand} {says : ℕ → Bool} {before agreed : ℕ} → (d ≡ Nothing) ⊎ (d ≡ Bad) → DemandReleased v v d says before before agreed agreed
+pub nothing_released : {v : PortValue} {d : Demand} {k : Gate} → (d ≡ Nothing) ⊎ (d ≡ Bad) → DemandReleased v v d k k
 nothing_released {v} (inl is) = rw is (still_released (v.holdings.old0, refl) courses.nothing)
 nothing_released {v} (inr is) = rw is (still_released (v.holdings.old0, refl) courses.bad)
 
-module _ {v w : PortValue} {g : ℕ} {says : ℕ → Bool} where
-  pub ref_released : {before agreed : ℕ} → Serves v w (of_back g) [] → Holds v w (gave g v.holdings) → GaveRef v w g → DemandReleased v w (Read g) says before before agreed agreed
+module _ {v w : PortValue} {g : ℕ} where
+  pub ref_released : {k : Gate} → Serves v w (of_back g) [] → Holds v w (gave g v.holdings) → GaveRef v w g → DemandReleased v w (Read g) k k
   ref_released gives hand gave = record {
     came = serves_came v w (of_back g) [] gives;
     serves = λ owner pages. released_ref v w g owner pages gives;
     hand = (v.holdings.old0, hand);
-    course = unasked (courses.referred w g gave);
+    course = past_none refl (courses.referred w g gave);
   }
 
-  pub typed_released : {t : PageType} {before after yes_before yes_after : ℕ} {answer : Result (Unit {0}) Stop} → HoldsLive v g t → IfErr answer (λ e. e ≡ Paused Due) →
-      ((owner pages : ℕ) → Serves v w (of_release g owner pages answer) (misses v.post.machine answer)) → LeavesUnheld v w g answer → ReleasesFrameBy v w g t g h answer →
-      DemandReleased v w (Typed g t) g h
+  pub typed_released : {t : PageType} {j k : Gate} {answer : Result (Unit {0}) Stop} → HoldsLive v g t → IfErr answer (λ e. e ≡ Paused Due) →
+      ((owner pages : ℕ) → Serves v w (of_release g owner pages answer) (misses v.post.machine answer)) → LeavesUnheld v w g answer → ReleasesFrameBy v w g t j k answer →
+      DemandReleased v w (Typed g t) j k
   typed_released {t} {answer = answer} holds due serves hand by =
       record {
         came = serves_came v w (of_release g 0 0 answer) (misses v.post.machine answer) (serves 0 0);
         serves = λ owner pages. released_typed v w g owner pages t answer due (serves owner pages);
         hand = by_answer answer hand;
-        course = record { answers = by.answers; course = courses.released w g t by.answers answer by.course due; gate = by.gate; due = not_due false by.answers refl };
+        course = past_as (λ on. absurd cc) (λ xs was. courses.released w g t xs answer was due) (gated_past by);
       }
     where
       none : without_typed g v.holdings.typed ≡ []

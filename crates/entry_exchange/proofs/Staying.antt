@@ -1,5 +1,5 @@
 -- Who may map whose frames stays known behind steps of the same turn.
-use Rattle.std.proofs.Common.{◌≡◌, ◌⊎◌, ℕ, ◌<◌, length, Option, IsTrue, sym, ap, ◌∙◌, subst, inl, inr}
+use Rattle.std.proofs.Common.{◌≡◌, ◌⊎◌, ◌<◌, length, IsTrue, sym, subst, inl, inr}
 use Rattle.xp_words.specs.Places.{sizes_of}
 use Rattle.xp_words.specs.declared.place.Place.TheVariants.{Priv}
 use Rattle.xp_board.specs.Readings.{has_now}

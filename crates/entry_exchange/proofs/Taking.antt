@@ -12,7 +12,8 @@ use Rattle.xp_words.specs.declared.reply.Stop.{Stop}
 use Rattle.xp_words.specs.declared.reply.Stop.TheVariants.{Paused, Refused}
 use Rattle.xp_board.specs.Readings.{domain_of}
 use Rattle.xp_board.specs.Told.{PortValue}
-use Rattle.xp_preempt.proofs.Consulting.{consulted_none, not_due}
+use Rattle.xp_preempt.specs.Gates.{Gate}
+use Rattle.xp_preempt.proofs.Consulting.{gated_past, past_as, past_none}
 use Rattle.xp_board.proofs.Sums.{when_eq}
 use Rattle.step_maker.specs.Holds.{FlushedHolds, Holds, Same, quiet}
 use Rattle.step_maker.specs.Moves.{Came, Met}
@@ -37,7 +38,7 @@ use Rattle.entry_exchange.specs.Asking.{IsHidden}
 use Rattle.entry_exchange.specs.Course.{TookDemand}
 use Rattle.entry_exchange.specs.Course as courses
 use Rattle.entry_exchange.specs.Holding.{LeavesDemand}
-use Rattle.entry_exchange.specs.Parts.{DemandTaken, IsOfLevel, TakesDemand}
+use Rattle.entry_exchange.specs.Parts.{DemandTaken, IsOfLevel}
 use Rattle.entry_exchange.specs.Serving.{of_demand}
 use Rattle.entry_exchange.proofs.PageKinds.{page_why, ref_why}
 
@@ -63,15 +64,9 @@ module _ (n : Machine) (s f owner pages within_pages : ℕ) (t : PageType) (want
         let marking = risen marks in
         grown_where n s inner outer F F (λ m a. a) (search (rules, gate, tables, marking)) same_owners (λ g here k less. named here refl (subst (λ w. IsFor k w) is less)) (λ any g here. here) (λ g none. absurd cc)
 
--- ---- the gate was not asked
-unasked : {v w : PortValue} {owner level : ℕ} {says : ℕ → Bool} {d : Demand} {answer : Result (Unit {0}) Stop} {before agreed : ℕ} → is_due_answer answer ≡ false →
-    TookDemand owner level v d w [] answer →
-    TakesDemand v w owner level d says before before agreed agreed answer
-unasked undue course = record { answers = []; course = course; gate = consulted_none _ _ _; due = not_due _ [] undue }
-
 -- ---- it asks nothing, and no step is made
-pub nothing_taken : {v : PortValue} {owner level : ℕ} {d : Demand} {says : ℕ → Bool} {before agreed : ℕ} → IsOfLevel level d → (d ≡ Nothing) ⊎ (d ≡ Bad) →
-    DemandTaken v v owner level d says before before agreed agreed (Ok tt)
+pub nothing_taken : {v : PortValue} {owner level : ℕ} {d : Demand} {k : Gate} → IsOfLevel level d → (d ≡ Nothing) ⊎ (d ≡ Bad) →
+    DemandTaken v v owner level d k k (Ok tt)
 nothing_taken {v} {level = level} fits (inr is) = absurd (subst (λ k. IsOfLevel level k) is fits)
 nothing_taken {v} {owner} fits (inl is) =
     rw is (record {
@@ -81,7 +76,7 @@ nothing_taken {v} {owner} fits (inl is) =
       stops = λ pages. tt;
       kinds = tt;
       hand = refl;
-      course = unasked refl courses.nothing;
+      course = past_none refl courses.nothing;
     })
 
 -- ---- a reference
@@ -92,9 +87,9 @@ pub hides_none : (e : Stop) → IsHidden e []
 hides_none (Refused x) = refl
 hides_none (Paused x) = inl refl
 
-module _ {v w : PortValue} {owner level g : ℕ} {says : ℕ → Bool} {before agreed : ℕ} where
+module _ {v w : PortValue} {owner level g : ℕ} {k : Gate} where
   pub referred : {h : ℕ} → (h ≡ g) × (h < v.post.machine.frames) → GotRef v w g owner (Ok h) → Serves v w (of_frame g owner None) [] → Holds v w (took h owner v.holdings) →
-      DemandTaken v w owner level (Read g) says before before agreed agreed (Ok tt)
+      DemandTaken v w owner level (Read g) k k (Ok tt)
   referred at got serves hand =
       record {
         came = serves_came v w (of_frame g owner None) [] serves;
@@ -103,11 +98,11 @@ module _ {v w : PortValue} {owner level g : ℕ} {says : ℕ → Bool} {before a
         stops = λ pages. tt;
         kinds = tt;
         hand = subst (λ k. FlushedHolds v w (took k owner v.holdings)) at.0 (ap quiet hand);
-        course = unasked refl (courses.referred w g (subst (λ k. GotRef v w g owner (Ok k)) at.0 got));
+        course = past_none refl (courses.referred w g (subst (λ k. GotRef v w g owner (Ok k)) at.0 got));
       }
 
   pub unreferred : {stop : Stop} → GotRef v w g owner (Err stop) → Serves v w (of_frame g owner None) (missed v.post.machine stop) → Same v w →
-      DemandTaken v w owner level (Read g) says before before agreed agreed (Err stop)
+      DemandTaken v w owner level (Read g) k k (Err stop)
   unreferred {stop} got serves same =
       let why = ref_why v w g owner stop got in
       let within = λ (pages : ℕ). referring v w g owner pages (is_due_stop stop) in
@@ -122,7 +117,7 @@ module _ {v w : PortValue} {owner level g : ℕ} {says : ℕ → Bool} {before a
         stops = λ pages. stops_within v w (of_frame g owner None) (of_demand (Read g) owner pages (is_due_stop stop)) stop (within pages) got.stops;
         kinds = why.0;
         hand = (v.holdings.old0, ap quiet same);
-        course = unasked why.1 (courses.unreferred w g stop got);
+        course = past_none why.1 (courses.unreferred w g stop got);
       }
 
 -- ---- a page
@@ -142,9 +137,9 @@ module _ (v w : PortValue) (owner g : ℕ) where
   unpaged_hand d (Paused x) (inl leaves) = (v.holdings.old0, leaves)
   unpaged_hand d (Paused x) (inr leaves) = (Some (g + 1), leaves.1)
 
-module _ {v w : PortValue} {owner g level : ℕ} {says : ℕ → Bool} {before agreed : ℕ} (one : level ≡ 1) where
+module _ {v w : PortValue} {owner g level : ℕ} {k : Gate} (one : level ≡ 1) where
   pub paged : {h : ℕ} → Came v w → (h ≡ g) × (h < v.post.machine.frames) → ServesPage v w g owner (Ok h) → LeavesGot v w g owner (Ok h) → GotPage v g owner w (Ok h) →
-      DemandTaken v w owner level (Typed g Writable) says before before agreed agreed (Ok tt)
+      DemandTaken v w owner level (Typed g Writable) k k (Ok tt)
   paged {h} came at serves hand got =
       record {
         came = came;
@@ -157,7 +152,7 @@ module _ {v w : PortValue} {owner g level : ℕ} {says : ℕ → Bool} {before a
         stops = λ pages. tt;
         kinds = tt;
         hand = subst (λ k. LeavesGot v w g owner (Ok k)) at.0 hand;
-        course = unasked refl (courses.paged w g one (subst (λ k. GotPage v g owner w (Ok k)) at.0 got));
+        course = past_none refl (courses.paged w g one (subst (λ k. GotPage v g owner w (Ok k)) at.0 got));
       }
     where
       paged_hides : (ds : List Deed) → (ds ≡ []) ⊎ (HidesMark {A = ℕ} v owner (Ok h) × (ds ≡ Misses (Kind g) ∷ [])) → ds ≡ []
@@ -165,7 +160,7 @@ module _ {v w : PortValue} {owner g level : ℕ} {says : ℕ → Bool} {before a
       paged_hides ds (inr one) = absurd one.0
 
   pub unpaged : {stop : Stop} → Came v w → ServesPage {A = ℕ} v w g owner (Err stop) → Stops v w (of_page v g owner) stop → LeavesGot v w g owner (Err stop) → GotPage v g owner w (Err stop) →
-      DemandTaken v w owner level (Typed g Writable) says before before agreed agreed (Err stop)
+      DemandTaken v w owner level (Typed g Writable) k k (Err stop)
   unpaged {stop} came serves stops hand got =
       let why = page_why v w g owner stop got in
       record {
@@ -180,7 +175,7 @@ module _ {v w : PortValue} {owner g level : ℕ} {says : ℕ → Bool} {before a
         stops = λ pages. stops_within v w (of_page v g owner) (of_demand (Typed g Writable) owner pages (is_due_stop stop)) stop (paging v w owner g pages (is_due_stop stop)) stops;
         kinds = why.0;
         hand = unpaged_hand v w owner g (Typed g Writable) stop hand;
-        course = unasked why.1 (courses.unpaged w g stop one got);
+        course = past_none why.1 (courses.unpaged w g stop one got);
       }
 
 -- ---- a table
@@ -203,9 +198,9 @@ module _ (v w : PortValue) (owner level g : ℕ) where
   refused_hand d (Paused x) (inl leaves) = (v.holdings.old0, leaves)
   refused_hand d (Paused x) (inr leaves) = (Some (g + 1), leaves.1)
 
-module _ {v w : PortValue} {owner level g : ℕ} {says : ℕ → Bool} {before after yes_before yes_after : ℕ} (above : 2 ≤ level) where
+module _ {v w : PortValue} {owner level g : ℕ} {j k : Gate} (above : 2 ≤ level) where
   pub acquired : {h : ℕ} → (h ≡ g) × (h < v.post.machine.frames) → ((pages : ℕ) → ServesAcquired v w g owner (level - 1) pages (Ok h)) → LeavesAcquired v w g owner (level - 1) (Ok h) →
-      AcquiresBy v w g owner (level - 1) g h (Ok h) → DemandTaken v w owner level (Typed g (level_type (level - 1))) g h (Ok tt)
+      AcquiresBy v w g owner (level - 1) j k (Ok h) → DemandTaken v w owner level (Typed g (level_type (level - 1))) j k (Ok tt)
   acquired {h} at serves hand by =
       record {
         came = serves_came v w (of_acquire {A = ℕ} v g owner (level - 1) 0 (Ok h)) ((serves 0).hidden ++ []) (serves 0).serves;
@@ -219,12 +214,7 @@ module _ {v w : PortValue} {owner level g : ℕ} {says : ℕ → Bool} {before a
         stops = λ pages. tt;
         kinds = tt;
         hand = subst (λ k. LeavesAcquired v w g owner (level - 1) (Ok k)) at.0 hand;
-        course = record {
-          answers = by.answers;
-          course = courses.acquired w g by.answers above (subst (λ k. Acquired v g owner (level - 1) w by.answers (Ok k)) at.0 by.course);
-          gate = by.gate;
-          due = not_due false by.answers refl;
-        };
+        course = past_as (λ on. absurd cc) (λ xs got. courses.acquired w g xs above (subst (λ k. Acquired v g owner (level - 1) w xs (Ok k)) at.0 got)) (gated_past by);
       }
     where
       acquired_hides : (ds : List Deed) → (ds ≡ []) ⊎ (IsForeign v owner × (is_paused_answer {A = ℕ} (Ok h) ≡ true) × (ds ≡ Misses (Kind g) ∷ [])) → ds ≡ []
@@ -233,8 +223,8 @@ module _ {v w : PortValue} {owner level g : ℕ} {says : ℕ → Bool} {before a
 
   pub refused : {stop : Stop} → IsAcquireStop stop → ((pages : ℕ) → ServesAcquired v w g owner (level - 1) pages (Err stop)) →
       ((pages : ℕ) → Stops v w (of_acquire {A = ℕ} v g owner (level - 1) pages (Err stop)) stop) →
-      LeavesAcquired v w g owner (level - 1) (Err stop) → AcquiresBy v w g owner (level - 1) g h (Err stop) →
-      DemandTaken v w owner level (Typed g (level_type (level - 1))) g h (Err stop)
+      LeavesAcquired v w g owner (level - 1) (Err stop) → AcquiresBy v w g owner (level - 1) j k (Err stop) →
+      DemandTaken v w owner level (Typed g (level_type (level - 1))) j k (Err stop)
   refused {stop} kinds serves stops hand by =
       let within = λ (pages : ℕ). acquiring v w owner level g (Err stop) pages (is_due_stop stop) above (λ on. on) in
       record {
@@ -250,7 +240,7 @@ module _ {v w : PortValue} {owner level g : ℕ} {says : ℕ → Bool} {before a
             (stops pages);
         kinds = kinds;
         hand = refused_hand v w owner level g (Typed g (level_type (level - 1))) stop hand;
-        course = record { answers = by.answers; course = courses.refused w g by.answers stop above by.course; gate = by.gate; due = λ on. sym by.due ∙ on };
+        course = past_as (λ on. on) (λ xs got. courses.refused w g xs stop above got) (gated_past by);
       }
 
 -- ---- which of both a type is, by the level of the table

@@ -1,19 +1,12 @@
 //! What an entry asks, taken and given back.
 
-ghost use Rattle.std.specs.Prelude.{◌≡◌, ◌-◌, ◌<◌, ◌≤◌, ℕ, Some, true, false, [], length, IfOk, IfErr};
+ghost use Rattle.std.specs.Prelude.{◌≡◌, ◌-◌, ◌<◌, ◌≤◌, Some, true, length};
 ghost use Rattle.step_maker.specs.Holds.{MayWork};
-ghost use Rattle.step_maker.specs.Moves.{Came};
-ghost use Rattle.step_maker.specs.Answers.{Serves, Stops};
 ghost use Rattle.partial_state.specs.Levels.{level_type};
-ghost use Rattle.level_release.specs.Asking.{is_due_answer};
-ghost use Rattle.level_validate.specs.Acquiring.{IsAcquireStop};
 ghost use Rattle.level_validate.specs.Tables.{IsIdle};
 ghost use Rattle.table_words.specs.OldWords.{known_old};
 ghost use Rattle.table_words.specs.declared.old_words.OldWord.TheVariants.{First};
-ghost use Rattle.entry_exchange.specs.Course.{GaveDemand};
-ghost use Rattle.entry_exchange.specs.Holding.{LeavesDemand};
 ghost use Rattle.entry_exchange.specs.Parts.{DemandGiven, DemandReleased, DemandTaken, HoldsFreed, HoldsTaken, HoldsTyped, IsInside, IsOfLevel, TableGiven};
-ghost use Rattle.entry_exchange.specs.Serving.{ServesGiven, ServesTable, ServesTaken, of_demand, of_given};
 
 use frame_types::{drop_plain, drop_type};
 use frame_words::{get_ref, put_ref};

@@ -1,20 +1,15 @@
 //! One entry of a live table under its entry lock, exchanged.
-ghost use Rattle.std.specs.Prelude.{◌≡◌, ◌≢◌, ◌+◌, ◌*◌, ◌<◌, ◌≤◌, ℕ, Some, true, false, length, IfOk, IfErr};
+ghost use Rattle.std.specs.Prelude.{◌≡◌, ◌≢◌, ◌<◌, ◌≤◌, Some, false};
 ghost use Rattle.xp_words.specs.Entries.{is_slot};
 ghost use Rattle.xp_words.specs.declared.entry.Demand.TheVariants.{Bad};
 ghost use Rattle.partial_state.specs.Levels.{level_type};
-ghost use Rattle.step_maker.specs.Holds.{MayWork, Rests};
-ghost use Rattle.step_maker.specs.Moves.{Came};
-ghost use Rattle.step_maker.specs.Answers.{Stops};
+ghost use Rattle.step_maker.specs.Holds.{MayWork};
 ghost use Rattle.entry_locks.specs.Entries.{MaySwapEntry};
 ghost use Rattle.foreign_map.specs.Owning.{MayMapFor};
-ghost use Rattle.level_release.specs.Asking.{is_due_answer};
-ghost use Rattle.level_validate.specs.Acquiring.{IsAcquireStop};
 ghost use Rattle.table_words.specs.OldWords.{known_old};
 ghost use Rattle.table_words.specs.declared.old_words.OldWord.TheVariants.{First, Second};
-ghost use Rattle.entry_exchange.specs.Asking.{ServesExchange, of_exchange};
-ghost use Rattle.entry_exchange.specs.Course.{ExchangesBy, new_demand, old_demand};
-ghost use Rattle.entry_exchange.specs.Holding.{HoldsTableLock, LeavesExchange, owner_at};
+ghost use Rattle.entry_exchange.specs.Course.{new_demand, old_demand};
+ghost use Rattle.entry_exchange.specs.Holding.{HoldsTableLock, owner_at};
 ghost use Rattle.entry_exchange.specs.Parts.{DemandChanged, EntryExchanged, EntryPut, HoldsSeen};
 ghost use Rattle.entry_exchange.specs.Words.{same_demand};
 

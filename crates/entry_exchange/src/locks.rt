@@ -1,9 +1,6 @@
 //! Entry locks that go off a table.
 ghost use Rattle.std.specs.Prelude.{◌≡◌, ◌<◌, ◌≤◌, [], Some};
-ghost use Rattle.step_maker.specs.Holds.{MayWork, Rests};
-ghost use Rattle.step_maker.specs.Moves.{Came};
-ghost use Rattle.step_maker.specs.Answers.{Serves};
-ghost use Rattle.step_maker.specs.Asked.{of_back};
+ghost use Rattle.step_maker.specs.Holds.{MayWork};
 ghost use Rattle.table_words.specs.OldWords.{known_old};
 ghost use Rattle.table_words.specs.declared.old_words.OldWord.TheVariants.{Second};
 ghost use Rattle.entry_exchange.specs.Holding.{HoldsLockOf};

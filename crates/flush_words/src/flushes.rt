@@ -23,8 +23,8 @@ const FLUSHED: u32 = 5;
 
 pub(crate) const RUN: u32 = 6;
 
-// The clock goes no further.
-const LAST_CLOCK: u64 = 68_719_476_734;
+/// The last value of the clock: it goes no further.
+pub const LAST_CLOCK: u64 = 68_719_476_734;
 
 /// Loads the word of a vCPU that says to which clock value it is flushed.
 pub fn look_flushed<P: Port>(port: &mut P, vcpu: u32) -> u64

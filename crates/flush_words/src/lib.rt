@@ -5,6 +5,6 @@ mod flushes;
 mod turns;
 
 pub use flushes::{
-    ask, flush, flush_own, look_flushed, look_life, look_privileges, look_run_of, tick,
+    LAST_CLOCK, ask, flush, flush_own, look_flushed, look_life, look_privileges, look_run_of, tick,
 };
 pub use turns::{begin_turn, end_answer, look_run, stop_vcpu};

@@ -7,6 +7,7 @@ ghost use Rattle.step_maker.specs.Answers.{Serves, Stops};
 ghost use Rattle.foreign_map.specs.Owning.{AdmitsFound, AllowsFound, MayMapFor, FoundOwners, TwinOwners, frames_of, of_owners, tables_of};
 
 use flush_words::{look_life, look_privileges};
+use step_maker::own_domain;
 use xp_board::Port;
 use xp_words::Refusal;
 
@@ -86,15 +87,6 @@ fn allow<P: Port>(port: &mut P, caller: u16, tables: u16, frames: u16) -> Result
         caller: tables,
         domain: frames,
     })
-}
-
-// The domain of the own vCPU, which is one of the machine's.
-fn own_domain<P: Port>(port: &P) -> u16
-    ensures own { result ≡ domain_of (P.value port.now).post.machine (P.value port.now).post.vcpu }
-    ensures real { result < length (P.value port.now).post.machine.page_limit }
-    ensures few { length (P.value port.now).post.machine.page_limit ≤ 16 }
-{
-    port.layout().vcpu_domain.as_slice()[port.vcpu() as usize]
 }
 
 // Whether a domain with that word has privilege over the other one.

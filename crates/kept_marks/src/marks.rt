@@ -16,7 +16,7 @@ ghost use Rattle.kept_marks.specs.Marks.{IsKeptOf, IsUnpaged, KeptFor, LeavesKep
 use crate::words::unkept;
 use flush_words::look_life;
 use kind_words::leave;
-use step_maker::exchange;
+use step_maker::{exchange, own_domain};
 use table_words::{OldWord, put_old};
 use xp_board::{Port, StepKind};
 use xp_words::{KindWord, Place};
@@ -69,13 +69,6 @@ pub fn leave_kept<P: Port>(port: &mut P, frame: u32, kind: KindWord, owner: u16)
         Ok(()) => put_old(port, OldWord::First, frame),
         Err(_) => {}
     }
-}
-
-// The domain of the own vCPU.
-fn own_domain<P: Port>(port: &P) -> u16
-    ensures { result ≡ domain_of (P.value port.now).post.machine (P.value port.now).post.vcpu }
-{
-    port.layout().vcpu_domain.as_slice()[port.vcpu() as usize]
 }
 
 // Whether a domain with that life word is not dying.

@@ -10,7 +10,7 @@ ghost use Rattle.desc_pages.specs.Names.{own_domain};
 ghost use Rattle.ldt_pages.specs.Touching.{FoundBase, LdtTouched, is_beyond, touch_address};
 
 use desc_pages::{get_desc, put_page};
-use step_maker::look;
+use step_maker::{look, own_domain};
 use tlb_walks::walk;
 use xp_board::Port;
 use xp_words::{Entry, LdtBase, Place, Refusal, Stop};
@@ -93,11 +93,4 @@ fn address_of(base: LdtBase, page: u64) -> u64
         low + HIGH_BITS
     };
     first.wrapping_add(page << 12)
-}
-
-// The domain of the own vCPU.
-fn own_domain<P: Port>(port: &P) -> u16
-    ensures { result ≡ own_domain (P.value port.now) }
-{
-    port.layout().vcpu_domain.as_slice()[port.vcpu() as usize]
 }

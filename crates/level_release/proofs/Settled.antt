@@ -1,5 +1,5 @@
 -- The first old word and then the second: what the steps show of the whole.
-use Rattle.std.proofs.Common.{◌≡◌, ℕ, Option, Bool, true, false, [], Result, Ok, Err, IfErr, sym, subst, append-nil}
+use Rattle.std.proofs.Common.{◌≡◌, ℕ, Option, Bool, true, false, [], Result, Ok, Err, IfErr, refl, sym, subst, append-nil}
 use Rattle.xp_words.specs.declared.reply.Stop.{Stop}
 use Rattle.xp_board.specs.Told.{Post, PortValue}
 use Rattle.step_maker.specs.Moves.{Came, Met}
@@ -9,11 +9,11 @@ use Rattle.step_maker.proofs.Later.{stops_then}
 use Rattle.step_maker.proofs.Piecing.{serves_came, serves_then, serves_within}
 use Rattle.table_words.specs.declared.old_words.OldWord.TheVariants.{First}
 use Rattle.level_release.specs.Asking.{IsReleaseEnd, is_due_answer, of_settle}
-use Rattle.level_release.specs.Course.{SettledOneTo, SettledTo, first}
+use Rattle.level_release.specs.Course.{SettlesBy, SettlesOneBy, first}
 use Rattle.level_release.proofs.Answered.{end_uncounted}
 use Rattle.level_release.proofs.Asking.{settle_within}
 use Rattle.xp_preempt.proofs.Consulting.{gated_as}
-use Rattle.xp_preempt.specs.Gates.{Gated}
+use Rattle.xp_preempt.specs.Gates.{Gate}
 
 module _ (v u w : PortValue) (owner pages : ℕ) (before : Serves v u (of_settle {A = Unit {0}} owner pages (Ok tt)) []) where
   -- whatever the gate says later
@@ -36,7 +36,5 @@ module _ (v u w : PortValue) (owner pages : ℕ) (before : Serves v u (of_settle
   both_stop (Err e) ends stops = stops_then v u w (of_settle {A = Unit {0}} owner pages (Err e)) e (end_uncounted e ends) came stops
 
 -- paused at the first
-pub first_by : (below left : Option ℕ) (v w : PortValue) {says : ℕ → Bool} {a b x y : ℕ} {answer : Result (Unit {0}) Stop} {e : Stop} → answer ≡ Err e → Gated says a (is_due_answer b) (λ answers. SettledOneTo below left v First w answers (Err e)) x y (Err e) →
-    Gated says a (is_due_answer b) (λ answers. SettledTo below left v w answers answer) x y answer
-first_by below left v w {says} {a} {b} {x} {y} {e} is paused =
-    subst (λ (r : Result (Unit {0}) Stop). Gated says a (is_due_answer b) (λ answers. SettledTo below left v w answers r) x y r) (sym is) (gated_as (λ answers one. (first w answers e one.0, one.1)) paused)
+pub first_by : (below left : Option ℕ) (v w : PortValue) {g h : Gate} {answer : Result (Unit {0}) Stop} {e : Stop} → answer ≡ Err e → SettlesOneBy below left v w First g h (Err e) → SettlesBy below left v w g h answer
+first_by below left v w {g} {h} {e} is paused = subst (λ r. SettlesBy below left v w g h r) (sym is) (gated_as refl (λ answers one. (first w answers e one.0, one.1)) paused)

@@ -10,7 +10,6 @@ ghost use Rattle.level_release.specs.Asking.{is_due_answer, of_release};
 ghost use Rattle.level_release.specs.Calls.{Releases};
 ghost use Rattle.level_release.specs.Course.{ReleasesFrameBy};
 ghost use Rattle.level_release.specs.Holding.{HoldsLive, LeavesUnheld};
-ghost use Rattle.xp_preempt.specs.Gates.{Heard};
 
 use crate::emptying::empty;
 use frame_types::{drop_plain, drop_type};

@@ -36,7 +36,7 @@ use Rattle.step_maker.specs.Asked.{of_frame, Asked, IsFor, Request, named, of, o
 use Rattle.frame_words.specs.Plain.{TwinGet, put}
 use Rattle.frame_types.specs.declared.taking.Taken.{Taken}
 use Rattle.table_entries.proofs.PiecesTaking.{ref_kinds, type_kinds, wait_kinds}
-use Rattle.xp_preempt.proofs.Consulting.{consulted_none}
+use Rattle.xp_preempt.proofs.Consulting.{gated_as, gated_none}
 use Rattle.table_entries.specs.Acquiring.{Acquired, GotRef, TookType, WaitingLeft, keeps_it, outermost_table}
 use Rattle.level_validate.specs.Courses.{ValidatesBy}
 use Rattle.level_validate.proofs.Filling.{entry_undue}
@@ -56,7 +56,7 @@ use Rattle.level_validate.proofs.Serving.{foreign_still}
 use Rattle.frame_types.proofs.Waiting.{none_missed}
 use Rattle.xp_board.specs.declared.holdings.OwnerFound.TheVariants as owners
 use Rattle.frame_types.specs.declared.taking.Taken.TheVariants as types
-use Rattle.xp_preempt.specs.Gates.{Gated}
+use Rattle.xp_preempt.specs.Gates.{Gate, Gated}
 
 -- the only table in work
 abbrev pub taken_table : ℕ → ℕ → ℕ → Bool → TableWork
@@ -198,29 +198,26 @@ module _ (v w : PortValue) (f owner level : ℕ) where
   leaves_as answer e is left = subst (λ y. LeavesAcquired v w f owner level y) (sym is) left
 
 -- A frame is taken as a page table: the whole course, by what its reference and its type came to.
-module _ (v : PortValue) (f owner level : ℕ) (says : ℕ → Bool) (before risen : ℕ) where
-  unasked : (w : PortValue) (answer : Result ℕ Stop) → is_due_answer answer ≡ false → Acquired v f owner level w [] answer → AcquiresBy v w f owner level says before before risen risen answer
-  unasked w answer undue course = record { answers = []; course = course; gate = consulted_none says before risen; due = undue }
-
+module _ (v : PortValue) (f owner level : ℕ) where
   -- ---- its reference is not to be had
-  pub unreferred_by : (w : PortValue) (answer : Result ℕ Stop) (e : Stop) → answer ≡ Err e → IsRefStop e → Gets {A = ℕ} v w f owner (Err e) → TwinGet {A = ℕ} v w f owner (Err e) → Stops v w (of_frame f owner None) e → AcquiresBy v w f owner level says before before risen risen answer
-  unreferred_by w answer e is kind gets plain stops =
-      subst (λ (r : Result ℕ Stop). AcquiresBy v w f owner level says before before risen risen r) (sym is)
-      (unasked w (Err e) (entry_undue e (ref_kinds e kind)) (Acquired.unreferred w e (record { found = gets; plain = plain; stops = stops })))
+  pub unreferred_by : {now : Gate} (w : PortValue) (answer : Result ℕ Stop) (e : Stop) → answer ≡ Err e → IsRefStop e → Gets {A = ℕ} v w f owner (Err e) → TwinGet {A = ℕ} v w f owner (Err e) → Stops v w (of_frame f owner None) e → AcquiresBy v w f owner level now now answer
+  unreferred_by {now} w answer e is kind gets plain stops =
+      subst (λ (r : Result ℕ Stop). AcquiresBy v w f owner level now now r) (sym is)
+      (gated_none (entry_undue e (ref_kinds e kind)) (Acquired.unreferred w e (record { found = gets; plain = plain; stops = stops })))
 
   module _ (u : PortValue) {g : ℕ} (same : g ≡ f) (gets : Gets v u f owner (Ok g)) (get : TwinGet v u f owner (Ok g)) (x : PortValue) {k : PageType} (is : k ≡ level_type level) where
     got : GotRef v u f owner (Ok f)
     got = record { found = subst (λ (n : ℕ). Gets v u f owner (Ok n)) same gets; plain = subst (λ (n : ℕ). TwinGet v u f owner (Ok n)) same get; stops = tt }
 
     -- the frame that came of it is the one that was asked
-    of_frame_asked : (w : PortValue) (after more : ℕ) → AcquiresBy v w f owner level says before after risen more (Ok f) → AcquiresBy v w f owner level says before after risen more (Ok g)
-    of_frame_asked w after more a = subst (λ (n : ℕ). AcquiresBy v w f owner level says before after risen more (Ok n)) (sym same) a
+    of_frame_asked : (w : PortValue) {now then : Gate} → AcquiresBy v w f owner level now then (Ok f) → AcquiresBy v w f owner level now then (Ok g)
+    of_frame_asked w {now} {then} a = subst (λ (n : ℕ). AcquiresBy v w f owner level now then (Ok n)) (sym same) a
 
     -- ---- its type is not to be had
-    pub untyped_by : (w : PortValue) (e : Stop) → IsTypeStop e → TakesFound u x g owner k (Err e) → TwinTake u x g k (Err e) → Stops u x (of_frame g owner (Some k)) e → Puts x w g → (is_telling x ≡ true → Leaves w (put g (told_word x))) →
-        AcquiresBy v w f owner level says before before risen risen (Err e)
+    pub untyped_by : {now : Gate} (w : PortValue) (e : Stop) → IsTypeStop e → TakesFound u x g owner k (Err e) → TwinTake u x g k (Err e) → Stops u x (of_frame g owner (Some k)) e → Puts x w g → (is_telling x ≡ true → Leaves w (put g (told_word x))) →
+        AcquiresBy v w f owner level now now (Err e)
     untyped_by w e kind found take stops puts leaves =
-        unasked w (Err e) (entry_undue e (type_kinds e kind))
+        gated_none (entry_undue e (type_kinds e kind))
         (Acquired.untyped u x w e got
         (record {
           found = subst (λ (j : PageType). TakesFound u x f owner j (Err e)) is (subst (λ (n : ℕ). TakesFound u x n owner k (Err e)) same found);
@@ -241,40 +238,31 @@ module _ (v : PortValue) (f owner level : ℕ) (says : ℕ → Bool) (before ris
           }
 
       -- ---- it was live
-      pub counted_by : b ≡ types.Counted → AcquiresBy v x f owner level says before before risen risen (Ok g)
-      counted_by so = of_frame_asked x before risen (unasked x (Ok f) refl (Acquired.counted u x got (typed_so types.Counted so)))
+      pub counted_by : {now : Gate} → b ≡ types.Counted → AcquiresBy v x f owner level now now (Ok g)
+      counted_by so = of_frame_asked x (gated_none refl (Acquired.counted u x got (typed_so types.Counted so)))
 
       -- ---- it waits for a flush
-      pub waiting_by : (own : Bool) (stamp : ℕ) (e : Stop) → b ≡ types.Waiting own stamp e → (w : PortValue) (kept : Bool) → kept ≡ keeps_it e → WaitingLeft x w g level owner stamp own kept → AcquiresBy v w f owner level says before before risen risen (Err e)
+      pub waiting_by : {now : Gate} (own : Bool) (stamp : ℕ) (e : Stop) → b ≡ types.Waiting own stamp e → (w : PortValue) (kept : Bool) → kept ≡ keeps_it e → WaitingLeft x w g level owner stamp own kept → AcquiresBy v w f owner level now now (Err e)
       waiting_by own stamp e so w kept keeps left =
           let shows : ShowsWait u x g owner k (types.Waiting own stamp e) = subst (λ (t : Taken). ShowsWait u x g owner k t) so waits in
-          unasked w (Err e) (entry_undue e (wait_stops e shows.0))
+          gated_none (entry_undue e (wait_stops e shows.0))
           (Acquired.waiting u x w own stamp e got (typed_so (types.Waiting own stamp e) so) (subst (λ (c : Bool). WaitingLeft x w f level owner stamp own c) keeps (subst (λ (n : ℕ). WaitingLeft x w n level owner stamp own kept) same left)))
 
       -- ---- it is in work
-      module _ {progress : ℕ} {own : Bool} (so : b ≡ types.InWork progress own) (w : PortValue) (after more : ℕ) where
-        pub finished_by : Gated says before after risen more false (λ answers. ValidatesBy owner x (outermost_table g level progress own) w answers (Ok tt)) → AcquiresBy v w f owner level says before after risen more (Ok g)
+      module _ {progress : ℕ} {own : Bool} (so : b ≡ types.InWork progress own) (w : PortValue) {now then : Gate} where
+        pub finished_by : Gated now then false (λ answers. ValidatesBy owner x (outermost_table g level progress own) w answers (Ok tt)) → AcquiresBy v w f owner level now then (Ok g)
         finished_by c =
-            let p : ValidatesBy owner x (outermost_table f level progress own) w c.answers (Ok tt) = subst (λ (n : ℕ). ValidatesBy owner x (outermost_table n level progress own) w c.answers (Ok tt)) same c.course in
-            of_frame_asked w after more
-            (record {
-              answers = c.answers;
-              course = Acquired.finished u x p.0 w progress own p.1 c.answers got (typed_so (types.InWork progress own) so) p.2 p.3 p.4;
-              gate = c.gate;
-              due = c.due;
-            })
+            of_frame_asked w (gated_as refl (λ answers gave.
+            let p : ValidatesBy owner x (outermost_table f level progress own) w answers (Ok tt) = subst (λ (n : ℕ). ValidatesBy owner x (outermost_table n level progress own) w answers (Ok tt)) same gave in
+            Acquired.finished u x p.0 w progress own p.1 answers got (typed_so (types.InWork progress own) so) p.2 p.3 p.4) c)
 
-        pub unfinished_by : (answer : Result ℕ Stop) (e : Stop) → answer ≡ Err e → Gated says before after risen more (is_due_stop e) (λ answers. ValidatesBy owner x (outermost_table g level progress own) w answers (Err e)) →
-            AcquiresBy v w f owner level says before after risen more answer
-        unfinished_by answer e gave c =
-            let p : ValidatesBy owner x (outermost_table f level progress own) w c.answers (Err e) = subst (λ (n : ℕ). ValidatesBy owner x (outermost_table n level progress own) w c.answers (Err e)) same c.course in
-            subst (λ (r : Result ℕ Stop). AcquiresBy v w f owner level says before after risen more r) (sym gave)
-            (record {
-              answers = c.answers;
-              course = Acquired.unfinished u x p.0 w progress own p.1 c.answers e got (typed_so (types.InWork progress own) so) p.2 p.3;
-              gate = c.gate;
-              due = c.due;
-            })
+        pub unfinished_by : (answer : Result ℕ Stop) (e : Stop) → answer ≡ Err e → Gated now then (is_due_stop e) (λ answers. ValidatesBy owner x (outermost_table g level progress own) w answers (Err e)) →
+            AcquiresBy v w f owner level now then answer
+        unfinished_by answer e is c =
+            subst (λ (r : Result ℕ Stop). AcquiresBy v w f owner level now then r) (sym is)
+            (gated_as refl (λ answers gave.
+            let p : ValidatesBy owner x (outermost_table f level progress own) w answers (Err e) = subst (λ (n : ℕ). ValidatesBy owner x (outermost_table n level progress own) w answers (Err e)) same gave in
+            Acquired.unfinished u x p.0 w progress own p.1 answers e got (typed_so (types.InWork progress own) so) p.2 p.3) c)
 
 -- A call that takes a frame as a page table: its steps go on with its request, and show why it stops.
 not_same : (m n : ℕ) → m ≢ n → not (m == n) ≡ true

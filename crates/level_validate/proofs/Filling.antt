@@ -1,5 +1,5 @@
 -- Why a call stops that asked the tables in work, where the gate is one of the reasons.
-use Rattle.std.proofs.Common.{◌≡◌, ℕ, Bool, true, List, Result, Err, IfOk, IfErr, inl, refl, sym, subst, ◌+◌, ◌&&◌, if◌then◌else◌, false, [], ◌∷◌, Ok, ap, ◌∙◌, ◌++◌}
+use Rattle.std.proofs.Common.{◌≡◌, ℕ, Bool, true, List, Result, Err, IfOk, IfErr, inl, refl, sym, subst, ◌&&◌, false, [], ◌∷◌, Ok, ap, ◌∙◌, ◌++◌}
 use Rattle.std.proofs.lemmas.Result.{IfOk-weaker}
 use Rattle.xp_words.specs.declared.reply.Stop.{Stop}
 use Rattle.xp_words.specs.declared.reply.Pause.TheVariants.{Due, Busy, Flush, Lost}
@@ -13,8 +13,8 @@ use Rattle.partial_state.specs.declared.stack.TableWork.{TableWork}
 use Rattle.level_validate.specs.Acquiring.{StopsRisen, is_due_answer, is_due_stop, outermost_work}
 use Rattle.level_validate.specs.Serving.{StopsIn, CarriesOn}
 use Rattle.step_maker.proofs.Progressing.{progress_after}
-use Rattle.xp_preempt.specs.Gates.{Gated, answer_at, ends_yes, next_ask}
-use Rattle.xp_preempt.proofs.Consulting.{consulted_ask, consulted_none, consulted_then}
+use Rattle.xp_preempt.specs.Gates.{Consulted, Gate, Gated, ends_yes}
+use Rattle.xp_preempt.proofs.Consulting.{gated_as, gated_none, gated_one, gated_then}
 use Rattle.level_validate.specs.Courses.{asked_once, GoesOnFilling, ValidatesBy}
 use Rattle.table_entries.specs.Asking.{IsEntryStop}
 use Rattle.table_entries.specs.Acquiring.{Filled, TookOn, Worked, is_asked, Advanced, MadeLive, Unwound, keeps_it}
@@ -49,18 +49,11 @@ pub progress_answer : {E : Type 0} (v u w : PortValue) (r : Result Bool E) → C
 progress_answer v u w r came gets_on = IfOk-weaker r (λ done. done ≡ true → Progress (Met u w)) (λ done. done ≡ true → Progress (Met v w)) (λ done on is. progress_after v u w came (on is)) gets_on
 
 -- The gate is asked behind an entry, or not: what it answers, and what the answer of the call then says.
-module _ (says : ℕ → Bool) (before risen : ℕ) (asked : Bool) where
-  pub not_asked : asked ≡ false → Gated says before before risen risen false (λ answers. answers ≡ asked_once asked false)
-  not_asked none = record { answers = []; course = sym (ap (λ (b : Bool). asked_once b false) none); gate = consulted_none says before risen; due = refl }
+pub not_asked : {g : Gate} {asked : Bool} → asked ≡ false → Gated g g false (λ answers. answers ≡ asked_once asked false)
+not_asked none = gated_none refl (sym (ap (λ (b : Bool). asked_once b false) none))
 
-  pub was_asked : asked ≡ true → (after more : ℕ) (due rose : Bool) → due ≡ rose → due ≡ answer_at says before → after ≡ next_ask before → more ≡ (if due then risen + 1 else risen) → Gated says before after risen more rose (λ answers. answers ≡ asked_once asked rose)
-  was_asked once after more due rose same is on counted =
-      record {
-        answers = due ∷ [];
-        course = ap (λ (b : Bool). b ∷ []) same ∙ sym (ap (λ (b : Bool). asked_once b rose) once);
-        gate = consulted_ask says before after risen more due is on counted;
-        due = sym same;
-      }
+pub was_asked : {g h : Gate} {asked due rose : Bool} → asked ≡ true → due ≡ rose → Consulted g h (due ∷ []) → Gated g h rose (λ answers. answers ≡ asked_once asked rose)
+was_asked {g} {h} {rose = rose} once same said = gated_one (subst (λ (b : Bool). Consulted g h (b ∷ [])) same said) (sym (ap (λ (b : Bool). asked_once b rose) once))
 
 -- a pause: the gate was asked, behind an entry that is done with
 pub due_asked : (done asked : Bool) (answers : List Bool) → true ≡ ends_yes answers → answers ≡ asked_once (done && asked) true → (done ≡ true) × (asked ≡ true)
@@ -83,32 +76,23 @@ entry_undue (Paused (Busy f found)) is = refl
 entry_undue (Paused (Flush vcpu stamp found)) is = refl
 entry_undue _ is = absurd is
 
-module _ (owner : ℕ) (v : PortValue) (t : TableWork) (says : ℕ → Bool) (before risen : ℕ) where
+module _ (owner : ℕ) (v : PortValue) (t : TableWork) {g : Gate} where
   -- ---- down to where the table was left
   module _ {stack : List TableWork} (only : stack ≡ t ∷ []) (w : PortValue) (us : List TableWork) where
-    pub cut_off_working : (answer : Result (Unit {0}) Stop) (e : Stop) → answer ≡ Err e → IsEntryStop e → TookOn owner v stack w us (Err e) → Gated says before before risen risen (is_due_answer answer) (λ answers. Worked owner v t w us answers answer)
+    pub cut_off_working : (answer : Result (Unit {0}) Stop) (e : Stop) → answer ≡ Err e → IsEntryStop e → TookOn owner v stack w us (Err e) → Gated g g (is_due_answer answer) (λ answers. Worked owner v t w us answers answer)
     cut_off_working answer e is kind took =
-        record {
-          answers = [];
-          course = subst (λ (r : Result (Unit {0}) Stop). Worked owner v t w us [] r) (sym is) (Worked.cut_off w us e (subst (λ (xs : List TableWork). TookOn owner v xs w us (Err e)) only took));
-          gate = consulted_none says before risen;
-          due = ap (λ (r : Result (Unit {0}) Stop). is_due_answer r) is ∙ entry_undue e kind;
-        }
+        gated_none (ap (λ (r : Result (Unit {0}) Stop). is_due_answer r) is ∙ entry_undue e kind)
+        (subst (λ (r : Result (Unit {0}) Stop). Worked owner v t w us [] r) (sym is) (Worked.cut_off w us e (subst (λ (xs : List TableWork). TookOn owner v xs w us (Err e)) only took)))
 
     -- the gate is asked behind that, or not
-    module _ {done : Bool} (took : TookOn owner v stack w us (Ok done)) (after more : ℕ) where
-      pub begun_working : Gated says before after risen more false (λ answers. answers ≡ asked_once (done && is_asked us) false) → Gated says before after risen more false (λ answers. Worked owner v t w us answers (Ok tt))
+    module _ {done : Bool} (took : TookOn owner v stack w us (Ok done)) {h : Gate} where
+      pub begun_working : Gated g h false (λ answers. answers ≡ asked_once (done && is_asked us) false) → Gated g h false (λ answers. Worked owner v t w us answers (Ok tt))
       begun_working c =
-          record {
-            answers = c.answers;
-            course = subst (λ given. Worked owner v t w us given (Ok tt)) (sym c.course)
-                (Worked.filled w w us us done (asked_once (done && is_asked us) false) (Ok tt) (subst (λ (xs : List TableWork). TookOn owner v xs w us (Ok done)) only took) Filled.begun);
-            gate = c.gate;
-            due = c.due;
-          }
+          gated_as refl (λ answers once. subst (λ given. Worked owner v t w us given (Ok tt)) (sym once)
+          (Worked.filled w w us us done (asked_once (done && is_asked us) false) (Ok tt) (subst (λ (xs : List TableWork). TookOn owner v xs w us (Ok done)) only took) Filled.begun)) c
 
-      pub due_working : (answer : Result (Unit {0}) Stop) (e : Stop) → answer ≡ Err e → e ≡ Paused Due → Gated says before after risen more (is_due_stop e) (λ answers. answers ≡ asked_once (done && is_asked us) (is_due_stop e)) →
-          Gated says before after risen more (is_due_answer answer) (λ answers. Worked owner v t w us answers answer)
+      pub due_working : (answer : Result (Unit {0}) Stop) (e : Stop) → answer ≡ Err e → e ≡ Paused Due → Gated g h (is_due_stop e) (λ answers. answers ≡ asked_once (done && is_asked us) (is_due_stop e)) →
+          Gated g h (is_due_answer answer) (λ answers. Worked owner v t w us answers answer)
       due_working answer e is due c =
           let rose : is_due_stop e ≡ true = ap (λ s. is_due_stop s) due in
           let once : c.answers ≡ asked_once (done && is_asked us) true = c.course ∙ ap (λ (b : Bool). asked_once (done && is_asked us) b) rose in
@@ -122,45 +106,28 @@ module _ (owner : ℕ) (v : PortValue) (t : TableWork) (says : ℕ → Bool) (be
             due = ap (λ (r : Result (Unit {0}) Stop). is_due_answer r) is ∙ c.due;
           }
 
-  -- ---- a step more
-  module _ (x w : PortValue) (us xs : List TableWork) where
-    worked_on : (earlier answers : List Bool) (answer : Result (Unit {0}) Stop) → Worked owner v t x us earlier (Ok tt) → GoesOnFilling owner x us w xs answers answer → Worked owner v t w xs (answers ++ earlier) answer
-    unfolding GoesOnFilling
-    worked_on earlier answers answer (Worked.filled u y ys zs done asked a took filled) on = Worked.filled u w ys xs done (answers ++ earlier) answer took (on u ys (asked_once (done && is_asked ys) false) earlier filled)
+-- ---- a step more
+module _ (owner : ℕ) (v : PortValue) (t : TableWork) (x w : PortValue) (us xs : List TableWork) where
+  worked_on : (answer : Result (Unit {0}) Stop) (earlier answers : List Bool) → Worked owner v t x us earlier (Ok tt) → GoesOnFilling owner x us w xs answers answer → Worked owner v t w xs (answers ++ earlier) answer
+  unfolding GoesOnFilling
+  worked_on answer earlier answers (Worked.filled u y ys zs done asked a took filled) on = Worked.filled u w ys xs done (answers ++ earlier) answer took (on u ys (asked_once (done && is_asked ys) false) earlier filled)
 
-    ends_on : (earlier answers : List Bool) (rose : Bool) → false ≡ ends_yes earlier → rose ≡ ends_yes answers → rose ≡ ends_yes (answers ++ earlier)
-    ends_on earlier [] rose before_no is = is ∙ before_no
-    ends_on earlier (a ∷ answers) rose before_no is = is
+  module _ {g h k : Gate} where
+    pub working_on : {rose : Bool} (answer : Result (Unit {0}) Stop) → Gated g h false (λ answers. Worked owner v t x us answers (Ok tt)) → Gated h k rose (λ answers. GoesOnFilling owner x us w xs answers answer) → Gated g k rose (λ answers. Worked owner v t w xs answers answer)
+    working_on answer first next = gated_then refl (worked_on answer) first next
 
-    pub working_on : (new : ℕ → Bool) (asked after risen_asked risen_after : ℕ) (rose : Bool) (answer : Result (Unit {0}) Stop) → ((n : ℕ) → new n ≡ says n) →
-        Gated says before asked risen risen_asked false (λ answers. Worked owner v t x us answers (Ok tt)) → Gated new asked after risen_asked risen_after rose (λ answers. GoesOnFilling owner x us w xs answers answer) →
-        Gated says before after risen risen_after rose (λ answers. Worked owner v t w xs answers answer)
-    working_on new asked after risen_asked risen_after rose answer same first next =
-        record {
-          answers = next.answers ++ first.answers;
-          course = worked_on first.answers next.answers answer first.course next.course;
-          gate = consulted_then new says before asked after risen risen_asked risen_after first.answers next.answers same first.gate next.gate;
-          due = ends_on first.answers next.answers rose first.due next.due;
-        }
-
-    pub working_stops : (new : ℕ → Bool) (asked after risen_asked risen_after : ℕ) (answer : Result (Unit {0}) Stop) (e : Stop) → answer ≡ Err e → ((n : ℕ) → new n ≡ says n) →
-        Gated says before asked risen risen_asked false (λ answers. Worked owner v t x us answers (Ok tt)) → Gated new asked after risen_asked risen_after (is_due_stop e) (λ answers. GoesOnFilling owner x us w xs answers (Err e)) →
-        Gated says before after risen risen_after (is_due_answer answer) (λ answers. Worked owner v t w xs answers answer)
-    working_stops new asked after risen_asked risen_after answer e is same first next =
-        subst (λ (r : Result (Unit {0}) Stop). Gated says before after risen risen_after (is_due_answer r) (λ answers. Worked owner v t w xs answers r)) (sym is)
-        (working_on new asked after risen_asked risen_after (is_due_stop e) (Err e) same first next)
+    pub working_stops : (answer : Result (Unit {0}) Stop) (e : Stop) → answer ≡ Err e → Gated g h false (λ answers. Worked owner v t x us answers (Ok tt)) → Gated h k (is_due_stop e) (λ answers. GoesOnFilling owner x us w xs answers (Err e)) →
+        Gated g k (is_due_answer answer) (λ answers. Worked owner v t w xs answers answer)
+    working_stops answer e is first next =
+        subst (λ (r : Result (Unit {0}) Stop). Gated g k (is_due_answer r) (λ answers. Worked owner v t w xs answers r)) (sym is) (working_on (Err e) first next)
 
 -- One entry more, or one table, and what the gate answered behind it: that part of the course.
 module _ (owner : ℕ) (v w : PortValue) (ts us : List TableWork) where
-  pub stopped_going : (says : ℕ → Bool) (before risen : ℕ) (answer : Result (Unit {0}) Stop) (e : Stop) → answer ≡ Err e → is_due_stop e ≡ false → Advanced owner v ts w us (Err e) → Gated says before before risen risen (is_due_answer answer) (λ answers. GoesOnFilling owner v ts w us answers answer)
+  pub stopped_going : {g : Gate} (answer : Result (Unit {0}) Stop) (e : Stop) → answer ≡ Err e → is_due_stop e ≡ false → Advanced owner v ts w us (Err e) → Gated g g (is_due_answer answer) (λ answers. GoesOnFilling owner v ts w us answers answer)
   unfolding GoesOnFilling
-  stopped_going says before risen answer e is undue step =
-      record {
-        answers = [];
-        course = λ u xs first earlier filled. subst (λ (r : Result (Unit {0}) Stop). Filled owner u xs first w us earlier r) (sym is) (Filled.stopped v w ts us earlier e filled step);
-        gate = consulted_none says before risen;
-        due = ap (λ (r : Result (Unit {0}) Stop). is_due_answer r) is ∙ undue;
-      }
+  stopped_going answer e is undue step =
+      gated_none (ap (λ (r : Result (Unit {0}) Stop). is_due_answer r) is ∙ undue)
+      (λ u xs first earlier filled. subst (λ (r : Result (Unit {0}) Stop). Filled owner u xs first w us earlier r) (sym is) (Filled.stopped v w ts us earlier e filled step))
 
   -- the gate is asked behind it, or not
   by_answer : (done : Bool) → Advanced owner v ts w us (Ok done) → (asks : Bool) → is_asked us ≡ asks → (answer : Result (Unit {0}) Stop) → IfErr answer (λ e. e ≡ Paused Due) →
@@ -172,9 +139,9 @@ module _ (owner : ℕ) (v w : PortValue) (ts us : List TableWork) where
   by_answer false step asks so (Ok x) kinds answers due is u xs first earlier filled = subst (λ given. Filled owner u xs first w us (given ++ earlier) (Ok tt)) (sym is) (Filled.unasked v w ts us false earlier filled step refl)
   by_answer _ step _ so (Err _) kinds answers due is u xs first earlier filled = absurd cc
 
-  pub asked_going : (says : ℕ → Bool) (before after risen more : ℕ) (done : Bool) → Advanced owner v ts w us (Ok done) → (answer : Result (Unit {0}) Stop) → IfErr answer (λ e. e ≡ Paused Due) →
-      Gated says before after risen more (is_due_answer answer) (λ answers. answers ≡ asked_once (done && is_asked us) (is_due_answer answer)) → Gated says before after risen more (is_due_answer answer) (λ answers. GoesOnFilling owner v ts w us answers answer)
-  asked_going says before after risen more done step answer kinds c =
+  pub asked_going : {g h : Gate} (done : Bool) → Advanced owner v ts w us (Ok done) → (answer : Result (Unit {0}) Stop) → IfErr answer (λ e. e ≡ Paused Due) →
+      Gated g h (is_due_answer answer) (λ answers. answers ≡ asked_once (done && is_asked us) (is_due_answer answer)) → Gated g h (is_due_answer answer) (λ answers. GoesOnFilling owner v ts w us answers answer)
+  asked_going done step answer kinds c =
       record { answers = c.answers; course = by_answer done step (is_asked us) refl answer kinds c.answers c.due c.course; gate = c.gate; due = c.due }
 
 -- The loop that takes one entry after the other: what it keeps, and what it gives where it ends.
@@ -219,20 +186,9 @@ filling_on u x w owner ts us rs f came stands outer ready serves =
     }
 
 -- A frame is taken as a page table: the course, of its parts.
-module _ (says : ℕ → Bool) (before after risen more : ℕ) where
-  -- of the same answers
-  pub consults_as : (rose : Bool) (P Q : List Bool → Type 0) → ((answers : List Bool) → P answers → Q answers) → Gated says before after risen more rose P → Gated says before after risen more rose Q
-  consults_as rose P Q so c = record { answers = c.answers; course = so c.answers c.course; gate = c.gate; due = c.due }
+module _ (owner : ℕ) (v y w : PortValue) (t : TableWork) (us : List TableWork) {g h : Gate} where
+  pub validated_live : (u : TableWork) → us ≡ u ∷ [] → u.done ≡ 512 → MadeLive y w u → Gated g h false (λ answers. Worked owner v t y us answers (Ok tt)) → Gated g h false (λ answers. ValidatesBy owner v t w answers (Ok tt))
+  validated_live u only full live c = gated_as refl (λ answers worked. (y, u, subst (λ (xs : List TableWork). Worked owner v t y xs answers (Ok tt)) only worked, full, live)) c
 
-  module _ (owner : ℕ) (v y w : PortValue) (t : TableWork) (us : List TableWork) where
-    pub validated_live : (u : TableWork) → us ≡ u ∷ [] → u.done ≡ 512 → MadeLive y w u → Gated says before after risen more false (λ answers. Worked owner v t y us answers (Ok tt)) →
-        Gated says before after risen more false (λ answers. ValidatesBy owner v t w answers (Ok tt))
-    validated_live u only full live c =
-        consults_as false (λ answers. Worked owner v t y us answers (Ok tt)) (λ answers. ValidatesBy owner v t w answers (Ok tt))
-        (λ answers worked. (y, u, subst (λ (xs : List TableWork). Worked owner v t y xs answers (Ok tt)) only worked, full, live)) c
-
-    pub validated_left : (rose : Bool) (e : Stop) (kept : Bool) → kept ≡ keeps_it e → Unwound y owner us kept w → Gated says before after risen more rose (λ answers. Worked owner v t y us answers (Err e)) →
-        Gated says before after risen more rose (λ answers. ValidatesBy owner v t w answers (Err e))
-    validated_left rose e kept is unwound c =
-        consults_as rose (λ answers. Worked owner v t y us answers (Err e)) (λ answers. ValidatesBy owner v t w answers (Err e))
-        (λ answers worked. (y, us, worked, subst (λ (b : Bool). Unwound y owner us b w) is unwound)) c
+  pub validated_left : {rose : Bool} (e : Stop) (kept : Bool) → kept ≡ keeps_it e → Unwound y owner us kept w → Gated g h rose (λ answers. Worked owner v t y us answers (Err e)) → Gated g h rose (λ answers. ValidatesBy owner v t w answers (Err e))
+  validated_left e kept is unwound c = gated_as refl (λ answers worked. (y, us, worked, subst (λ (b : Bool). Unwound y owner us b w) is unwound)) c

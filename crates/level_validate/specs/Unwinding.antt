@@ -10,9 +10,7 @@ use Rattle.partial_state.specs.declared.stack.TableWork.{TableWork}
 use Rattle.partial_state.specs.Stacks.{retreated}
 pub use Rattle.table_entries.specs.Acquiring.{outermost_frame}
 use Rattle.level_validate.specs.Tables.{Carries}
-
-abbrev pub own_domain : PortValue → ℕ
-own_domain w = domain_of w.post.machine w.post.vcpu
+pub use Rattle.step_maker.specs.Holds.{own_domain}
 
 -- The outermost of the tables is named in the first old word, where its type count is in hand and its `kept` mark is not to have that.
 abbrev pub named_unless : Bool → TableWork → Holdings → Holdings

@@ -1,5 +1,5 @@
 //! Frames that are taken as page tables: validated entry by entry, until the outermost table is full, or an entry stops it.
-ghost use Rattle.std.specs.Prelude.{◌≡◌, ◌+◌, ◌<◌, ◌≤◌, ◌∷◌, ℕ, [], Some, Bool, true, false, not, ◌&&◌, if◌then◌else◌, length, IfOk, IfErr};
+ghost use Rattle.std.specs.Prelude.{◌≡◌, ◌<◌, ◌≤◌, ◌∷◌, ℕ, [], Some, true, false, not, ◌&&◌, length, IfOk, IfErr};
 ghost use Rattle.step_maker.specs.Holds.{MayWork};
 ghost use Rattle.step_maker.specs.Moves.{Came, Met};
 ghost use Rattle.step_maker.specs.Answers.{Stops, misses};
@@ -14,7 +14,7 @@ ghost use Rattle.level_validate.specs.Acquiring.{AcquiresBy, IsAcquireStop, IsTa
 ghost use Rattle.level_validate.specs.Courses.{GoesOnFilling, ValidatesBy, asked_once};
 ghost use Rattle.level_validate.specs.Serving.{CarriesOn, ServesLeft, ServesWaiting};
 ghost use Rattle.level_validate.specs.Tables.{IsIdle, IsStanding, IsTopReady, StandsOn};
-ghost use Rattle.xp_preempt.specs.Gates.{Gated, Heard};
+ghost use Rattle.xp_preempt.specs.Gates.{Gated};
 ghost use Rattle.xp_words.specs.declared.reply.Pause.TheVariants.{Due};
 ghost use Rattle.xp_words.specs.declared.reply.Stop.TheVariants.{Paused};
 

@@ -468,19 +468,24 @@ const DESTRUCTIONS: [Example; 9] = [
     },
 ];
 
-// The report of that example.
-fn report(rt: &(impl Abort + AllocGlobal), example: &Example) -> Vec<u8> {
-    let words = if example.pace.is_empty() {
+// The report of that trace: `shows` says of what, and an empty pace stands for none.
+pub(crate) fn report_of(
+    rt: &(impl Abort + AllocGlobal),
+    shows: &str,
+    pace: &str,
+    trace: &str,
+) -> Vec<u8> {
+    let words = if pace.is_empty() {
         turns(rt)
     } else {
-        with_pace(rt, example.pace)
+        with_pace(rt, pace)
     };
-    let mut source = MemorySource::new(bytes(rt, example.trace), Vec::new(rt.alloc()));
+    let mut source = MemorySource::new(bytes(rt, trace), Vec::new(rt.alloc()));
     let mut sink = MemorySink::new(rt.alloc(), 8192, 8192, Vec::new(rt.alloc())).expect(
         rt, "memory",
     );
     let answer = run_paced(rt, &words, &mut source, &mut sink);
-    assert!(rt; answer == Status::Done, "{}", example.shows);
+    assert!(rt; answer == Status::Done, "{}", shows);
     let mut text = Vec::new(rt.alloc());
     text.extend_from_slice(sink.bytes()).expect(rt, "memory");
     text
@@ -489,7 +494,7 @@ fn report(rt: &(impl Abort + AllocGlobal), example: &Example) -> Vec<u8> {
 // Each of them is reported with what it leaves.
 fn check(rt: &(impl Abort + AllocGlobal), examples: &[Example]) {
     for example in examples {
-        let text = report(rt, example);
+        let text = report_of(rt, example.shows, example.pace, example.trace);
         let text = str::from_utf8(&text).expect(rt, "a text");
         for wanted in example.lines.lines() {
             assert!(rt;

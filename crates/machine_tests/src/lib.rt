@@ -9,6 +9,8 @@ mod examples;
 #[cfg(test)]
 mod generated;
 #[cfg(test)]
+mod history;
+#[cfg(test)]
 mod lists;
 #[cfg(test)]
 mod rivals;

@@ -1,8 +1,9 @@
 -- What a port holds, but for its steps and for what its board tells: one equation.
-use Rattle.std.specs.Prelude.{◌≡◌, [], false, None, Some}
+use Rattle.std.specs.Prelude.{◌≡◌, ℕ, [], false, None, Some}
 use Rattle.xp_words.specs.Machine.{IsMachine}
 use Rattle.xp_board.specs.declared.holdings.Holdings.{Holdings}
 use Rattle.xp_board.specs.Hands.{IsEmptyHand}
+use Rattle.xp_board.specs.Readings.{domain_of}
 use Rattle.xp_board.specs.Told.{PortValue}
 
 abbrev pub still : PortValue → PortValue
@@ -15,6 +16,10 @@ Holds v w h = still w ≡ record { post = v.post; holdings = record h { steps = 
 -- the same port, with the same in hand
 abbrev pub Same : PortValue → PortValue → Type 0
 Same v w = still w ≡ still v
+
+-- the domain of the own vCPU
+abbrev pub own_domain : PortValue → ℕ
+own_domain v = domain_of v.post.machine v.post.vcpu
 
 -- the vCPU runs, no walk is in flight, and the machine is one
 pub record MayWork (v : PortValue) : Type 0 where

@@ -2,12 +2,12 @@
 //! step may change a word; these are definitions and lemmas alone, which the operations cite.
 #![tactic(auto)]
 
-ghost use Rattle.std.specs.Prelude.{◌≡◌, ◌≢◌, IsTrue, IfErr, None};
+ghost use Rattle.std.specs.Prelude.{◌≡◌, ◌≢◌, ◌<◌, ◌≤◌, length, IsTrue, IfErr, None};
 ghost use Rattle.xp_board.specs.declared.step.Act.TheVariants.{Load, Cas};
 ghost use Rattle.xp_board.specs.declared.step.StepKind.TheVariants as kinds;
 ghost use Rattle.xp_words.specs.Places.{is_place, sizes_of};
 ghost use Rattle.xp_words.specs.declared.place.Place.TheVariants.{Clock};
-ghost use Rattle.step_maker.specs.Holds.{Same};
+ghost use Rattle.step_maker.specs.Holds.{Same, own_domain};
 ghost use Rattle.step_maker.specs.Moves.{Moves, May, found_by};
 
 use xp_board::{Act, Mark, Port, Step, StepKind};
@@ -73,4 +73,13 @@ pub fn look_clock<P: Port>(port: &mut P) -> u64
     ensures hand { Same (P.value port.old) (P.value port.new) }
 {
     look(port, Place::Clock)
+}
+
+/// The domain of the own vCPU, which is one of the machine's.
+pub fn own_domain<P: Port>(port: &P) -> u16
+    ensures own { result ≡ own_domain (P.value port.now) }
+    ensures real { result < length (P.value port.now).post.machine.page_limit }
+    ensures few { length (P.value port.now).post.machine.page_limit ≤ 16 }
+{
+    port.layout().vcpu_domain.as_slice()[port.vcpu() as usize]
 }

@@ -1,5 +1,5 @@
 -- The table is acquired behind the look at the clock: the steps, why it is not had, and the course.
-use Rattle.std.proofs.Common.{◌≡◌, ◌≢◌, ◌⊎◌, ℕ, ◌++◌, Bool, true, not, [], ◌∷◌, Some, Result, Ok, Err, sym, ap, ◌∙◌, subst, append-nil, arith, inl, inr}
+use Rattle.std.proofs.Common.{◌≡◌, ◌≢◌, ◌⊎◌, ℕ, ◌++◌, Bool, true, not, [], ◌∷◌, Some, Result, Ok, Err, refl, sym, ap, ◌∙◌, subst, append-nil, arith, inl, inr}
 use Rattle.xp_words.specs.declared.kind.PageType.TheVariants.{L4}
 use Rattle.xp_words.specs.declared.place.Place.TheVariants.{Kind}
 use Rattle.xp_words.specs.declared.reply.Stop.{Stop}
@@ -13,6 +13,8 @@ use Rattle.step_maker.proofs.Coming.{came_post, met_after}
 use Rattle.step_maker.specs.Answers.{Misses, Serves, Stops, misses}
 use Rattle.step_maker.specs.Asked.{NoMore, Request, Within, of_table}
 use Rattle.step_maker.proofs.Piecing.{serves_came, serves_inner, stops_inner}
+use Rattle.xp_preempt.specs.Gates.{Gate}
+use Rattle.xp_preempt.proofs.Consulting.{gated_as, gated_past}
 use Rattle.kept_marks.specs.Marks.{IsForeign}
 use Rattle.level_validate.specs.Acquiring.{AcquiresBy, ServesAcquired, of_acquire}
 use Rattle.level_validate.specs.Acquiring as acquires
@@ -72,8 +74,8 @@ module _ (v a e : PortValue) (clock f d : ℕ) (look : SawClock v a clock) (home
 -- ---- the ways out
 module _ {v a e : PortValue} {clock f d : ℕ} (look : SawClock v a clock) (home : d ≡ own_domain a) (some : clock ≢ last_clock) where
   -- it is not had
-  pub refused : {answer : Result (Unit {0}) Stop} {stop : Stop} {base : Base} {says : ℕ → Bool} {before after agreed agrees : ℕ} → answer ≡ Err stop → Same v a → ServesAcquired a e f d 4 d (Err stop) → Stops a e (of_acquire {A = ℕ} a f d 4 d (Err stop)) stop →
-      AcquiresBy a e f d 4 says before after agreed agrees (Err stop) → MeetsBase v e base (Some f) says before after agreed agrees answer
+  pub refused : {answer : Result (Unit {0}) Stop} {stop : Stop} {base : Base} {g h : Gate} → answer ≡ Err stop → Same v a → ServesAcquired a e f d 4 d (Err stop) → Stops a e (of_acquire {A = ℕ} a f d 4 d (Err stop)) stop →
+      AcquiresBy a e f d 4 g h (Err stop) → MeetsBase v e base (Some f) g h answer
   refused {stop} is same serves stops by =
       let served = acquired_serves v a e clock f d look home (Err stop) (is_due_stop stop) (λ due. due) serves in
       rw is
@@ -81,18 +83,13 @@ module _ {v a e : PortValue} {clock f d : ℕ} (look : SawClock v a clock) (home
         came = serves_came v e _ _ served;
         serves = served;
         stops = unacquired_stops v a e clock f d look home (Err stop) (is_due_stop stop) (λ due. due) same stop stops;
-        course = record {
-          answers = by.answers;
-          course = course.unacquired a f clock by.answers stop look some (subst (λ o. Acquired a f o 4 e by.answers (Err stop)) (there v a e clock f d look home) by.course);
-          gate = by.gate;
-          due = λ on. sym by.due ∙ on;
-        };
+        course = gated_past (gated_as refl (λ answers taken. course.unacquired a f clock answers stop look some (subst (λ o. Acquired a f o 4 e answers (Err stop)) (there v a e clock f d look home) taken)) by);
       })
 
   -- it is
-  pub named : {g : ℕ} {w : PortValue} {base : Base} {says later : ℕ → Bool} {x y z i j k : ℕ} → g ≡ f → ServesAcquired a e f d 4 d (Ok g) → AcquiresBy a e f d 4 says x y i j (Ok g) →
-      Serves e w (of_base (own_domain e) (Some g) true) (base_deeds e base (Some g) (Ok tt)) → ((n : ℕ) → later n ≡ says n) → InstallsBy e w base (Some g) later y z j k → MeetsBase v w base (Some f) says x z i k (Ok tt)
-  named {g} {w} {base} {says} {later} {x} {y} {z} {i} {j} {k} at serves by sets same installs =
-      installed look e (acquired_serves v a e clock f d look home (Ok g) true (λ due. cc) serves) some
-      (subst (λ o. Acquired a f o 4 e by.answers (Ok f)) home (subst (λ q. Acquired a f d 4 e by.answers (Ok q)) at by.course)) by.gate
-      (subst (λ q. Serves e w (of_base (own_domain e) (Some q) true) (base_deeds e base (Some q) (Ok tt))) at sets) same (subst (λ q. InstallsBy e w base (Some q) later y z j k) at installs)
+  pub named : {g h k : Gate} {at : ℕ} {w : PortValue} {base : Base} → at ≡ f → ServesAcquired a e f d 4 d (Ok at) → AcquiresBy a e f d 4 g h (Ok at) →
+      Serves e w (of_base (own_domain e) (Some at) true) (base_deeds e base (Some at) (Ok tt)) → InstallsBy e w base (Some at) h k → MeetsBase v w base (Some f) g k (Ok tt)
+  named {h} {k} {at} {w} {base} is serves by sets installs =
+      installed look e (acquired_serves v a e clock f d look home (Ok at) true (λ due. cc) serves) some
+      (gated_past (gated_as refl (λ answers taken. subst (λ o. Acquired a f o 4 e answers (Ok f)) home (subst (λ q. Acquired a f d 4 e answers (Ok q)) is taken)) by))
+      (subst (λ q. Serves e w (of_base (own_domain e) (Some q) true) (base_deeds e base (Some q) (Ok tt))) is sets) (subst (λ q. InstallsBy e w base (Some q) h k) is installs)

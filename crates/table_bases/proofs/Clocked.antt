@@ -1,5 +1,5 @@
 -- The clock is looked at first: it is at its last value, or below it; and what is installed behind that look.
-use Rattle.std.proofs.Common.{◌≡◌, ◌≢◌, ℕ, ◌≤◌, nat_lt, Bool, true, false, List, [], ◌∷◌, ◌++◌, length, Option, None, Ok, Err, IsTrue, refl, sym, ap, subst}
+use Rattle.std.proofs.Common.{◌≡◌, ◌≢◌, ℕ, ◌≤◌, nat_lt, Bool, true, false, [], ◌∷◌, length, Option, None, Ok, Err, IsTrue, refl, sym, ap, subst}
 use Rattle.xp_words.specs.Machine.{Machine}
 use Rattle.xp_words.specs.Places.{sizes_of}
 use Rattle.xp_words.specs.declared.place.Place.{Place}
@@ -14,8 +14,8 @@ use Rattle.xp_board.specs.Readings.{domain_of, last_clock}
 use Rattle.xp_board.specs.Steps.{some_since}
 use Rattle.xp_board.specs.Told.{Finds, Post, PortValue}
 use Rattle.xp_board.specs.WellFormed.{WellFormed}
-use Rattle.xp_preempt.specs.Gates.{Consulted}
-use Rattle.xp_preempt.proofs.Consulting.{consulted_none, consulted_then, not_due}
+use Rattle.xp_preempt.specs.Gates.{Gate, GatedPast}
+use Rattle.xp_preempt.proofs.Consulting.{past_none, past_then}
 use Rattle.step_maker.specs.Moves.{Came}
 use Rattle.step_maker.proofs.Coming.{came_post, came_self, moves_came}
 use Rattle.step_maker.proofs.Noting.{moves_since}
@@ -42,18 +42,13 @@ module _ {v a : PortValue} {clock : ℕ} (look : SawClock v a clock) where
   looked_came = moves_came v a Clock Load kinds.Look None clock look
 
   -- ---- the clock goes no further
-  pub spent : {base : Base} {new : Option ℕ} {says : ℕ → Bool} {asks agreed : ℕ} → clock ≡ last_clock → MeetsBase v a base new says asks asks agreed agreed (Err (Refused (refusals.Clock clock)))
-  spent {base} {new} {says} {asks} {agreed} is =
+  pub spent : {base : Base} {new : Option ℕ} {g : Gate} → clock ≡ last_clock → MeetsBase v a base new g g (Err (Refused (refusals.Clock clock)))
+  spent {base} {new} is =
       record {
         came = looked_came;
         serves = looked (of_base (own_domain v) new false);
         stops = own_stops v v a (of_base (own_domain v) new false) (refusals.Clock clock) (came_self v) (own (base_flushes (own_domain v) new false)) (spent_own v a clock look is);
-        course = record {
-          answers = [];
-          course = subst (λ y. SetsBase v a base new [] (Err (Refused (refusals.Clock y)))) (sym is) (course.spent new (subst (λ y. SawClock v a y) is look));
-          gate = consulted_none says asks agreed;
-          due = not_due false [] refl;
-        };
+        course = past_none refl (subst (λ y. SetsBase v a base new [] (Err (Refused (refusals.Clock y)))) (sym is) (course.spent new (subst (λ y. SawClock v a y) is look)));
       }
 
   -- ---- it was found below its last value
@@ -69,9 +64,9 @@ module _ {v a : PortValue} {clock : ℕ} (look : SawClock v a clock) where
       (moves_since v a Clock Load kinds.Look None clock look a.holdings.ran (λ w. nat_lt w last_clock) late (less_is clock last_clock (clock_below v a clock look some)))
 
   -- ---- installed behind it, and behind what acquired the table
-  pub installed : (b : PortValue) {w : PortValue} {new : Option ℕ} {base : Base} {answers : List Bool} {says later : ℕ → Bool} {x y z i j k : ℕ} → Serves v b (of_base (own_domain v) new true) [] → clock ≢ last_clock → AcquiresTop a b new answers →
-      Consulted says x y i j answers → Serves b w (of_base (own_domain b) new true) (base_deeds b base new (Ok tt)) → ((n : ℕ) → later n ≡ says n) → InstallsBy b w base new later y z j k → MeetsBase v w base new says x z i k (Ok tt)
-  installed b {w} {new} {base} {answers} {says} {later} {x} {y} {z} {i} {j} {k} before some takes gate sets same by =
+  pub installed : (b : PortValue) {w : PortValue} {new : Option ℕ} {base : Base} {early : Bool} {g h k : Gate} → Serves v b (of_base (own_domain v) new true) [] → clock ≢ last_clock → GatedPast g h early (λ answers. AcquiresTop a b new answers) →
+      Serves b w (of_base (own_domain b) new true) (base_deeds b base new (Ok tt)) → InstallsBy b w base new h k → MeetsBase v w base new g k (Ok tt)
+  installed b {w} {new} {base} before some takes sets by =
       let served : ServesBase v w base new (Ok tt) =
       serves_then v b w (of_base (own_domain v) new true) [] (base_deeds v base new (Ok tt)) before
       (subst (λ (p : Post). Serves b w (of_base (domain_of p.machine p.vcpu) new true) (SetsWord p.vcpu (base_number base) (naming new) ∷ [])) (came_post v b (serves_came v b (of_base (own_domain v) new true) [] before)) sets) in
@@ -79,10 +74,5 @@ module _ {v a : PortValue} {clock : ℕ} (look : SawClock v a clock) where
         came = serves_came v w (of_base (own_domain v) new true) (base_deeds v base new (Ok tt)) served;
         serves = served;
         stops = tt;
-        course = record {
-          answers = by.answers ++ answers;
-          course = course.installed a b clock new answers by.answers look some takes by.course;
-          gate = consulted_then later says x y z i j k answers by.answers same gate by.gate;
-          due = not_due false (by.answers ++ answers) refl;
-        };
+        course = past_then (λ answers more took put. course.installed a b clock new answers more look some took put) takes by;
       }

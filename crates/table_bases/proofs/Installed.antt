@@ -1,5 +1,5 @@
 -- A base is installed: what is in hand behind the store and the flush, the steps, and the course.
-use Rattle.std.proofs.Common.{◌≡◌, ◌≢◌, ℕ, ◌+◌, ◌-◌, if◌then◌else◌, Bool, true, false, List, [], ◌∷◌, ◌++◌, Option, Some, None, Result, Ok, Err, IfErr, add-one, refl, sym, ap, ◌∙◌, subst, arith, inl}
+use Rattle.std.proofs.Common.{◌≡◌, ◌≢◌, ℕ, ◌+◌, ◌-◌, if◌then◌else◌, true, List, [], ◌∷◌, ◌++◌, Option, Some, None, Result, Ok, Err, IfErr, add-one, refl, sym, ap, ◌∙◌, subst, arith, inl}
 use Rattle.xp_words.specs.Machine.{Machine}
 use Rattle.xp_words.specs.Places.{sizes_of}
 use Rattle.xp_words.specs.declared.kind.PageType.TheVariants.{L4}
@@ -11,8 +11,8 @@ use Rattle.xp_board.specs.declared.step.StepKind.TheVariants as kinds
 use Rattle.xp_board.specs.Hands.{owner_from}
 use Rattle.xp_board.specs.KindSteps.{live_typed}
 use Rattle.xp_board.specs.Told.{PortValue}
-use Rattle.xp_preempt.specs.Gates.{ends_yes}
-use Rattle.xp_preempt.proofs.Consulting.{consulted_none}
+use Rattle.xp_preempt.specs.Gates.{Gate}
+use Rattle.xp_preempt.proofs.Consulting.{gated_past, past_as, past_none}
 use Rattle.xp_board.proofs.Sums.{when_eq}
 use Rattle.step_maker.specs.Holds.{FlushedSame, Holds}
 use Rattle.step_maker.specs.Moves.{Came, Met, Moves}
@@ -52,9 +52,6 @@ names_top User = refl
 
 pub word_after : (old : ℕ) → old ≢ 0 → old ≡ old - 1 + 1
 word_after old some = omega (arith, some)
-
-done_due : (answers : List Bool) → false ≡ true → ends_yes answers ≡ true
-done_due answers on = absurd cc
 
 pub warm_behind : (base : Base) (new : Option ℕ) {v x : PortValue} {old : ℕ} → Moves v x (base_place v.post.vcpu base) (Store (naming new)) kinds.Context None old → Holds v x (with_typed (came_out old v.holdings) v.holdings) → FoundClockLow v → FoundClockLow x
 warm_behind base new {v} {x} {old} store put warm = stays_warm v x (moves_came v x (base_place v.post.vcpu base) (Store (naming new)) kinds.Context None old store) (ap (λ (q : PortValue). q.holdings.ran) put) warm
@@ -126,28 +123,12 @@ module _ (base : Base) (new : Option ℕ) {v x c : PortValue} {old : ℕ} (store
         }
 
   -- ---- the course
-  pub none_course : {says : ℕ → Bool} {asks agreed : ℕ} → old ≡ 0 → InstallsBy v c base new says asks asks agreed agreed
-  none_course {says} {asks} {agreed} none =
-      record {
-        answers = [];
-        course = record { stored = x; flushed = c; old = old; stores = store; flushes = behind; releases = subst (λ y. ReleasesOld c c y []) (sym none) (refl, refl) };
-        gate = consulted_none says asks agreed;
-        due = done_due [];
-      }
+  pub none_course : {g : Gate} → old ≡ 0 → InstallsBy v c base new g g
+  none_course none = past_none refl (record { stored = x; flushed = c; old = old; stores = store; flushes = behind; releases = subst (λ y. ReleasesOld c c y []) (sym none) (refl, refl) })
 
-  pub old_course : {w : PortValue} {answer : Result (Unit {0}) Stop} {says : ℕ → Bool} {before after agreed agrees : ℕ} → old ≢ 0 → IfErr answer (λ e. e ≡ Paused Due) →
-      ReleasesFrameBy c w (old - 1) L4 says before after agreed agrees answer → InstallsBy v w base new says before after agreed agrees
+  pub old_course : {w : PortValue} {answer : Result (Unit {0}) Stop} {g h : Gate} → old ≢ 0 → IfErr answer (λ e. e ≡ Paused Due) → ReleasesFrameBy c w (old - 1) L4 g h answer → InstallsBy v w base new g h
   old_course {w} {answer} some due by =
-      record {
-        answers = by.answers;
-        course = record {
-          stored = x;
-          flushed = c;
-          old = old;
-          stores = store;
-          flushes = behind;
-          releases = subst (λ y. ReleasesOld c w y by.answers) (sym (word_after old some ∙ add-one (old - 1))) (answer, by.course, due);
-        };
-        gate = by.gate;
-        due = done_due by.answers;
-      }
+      let is = sym (word_after old some ∙ add-one (old - 1)) in
+      past_as (λ on. absurd cc)
+      (λ answers released. record { stored = x; flushed = c; old = old; stores = store; flushes = behind; releases = subst (λ y. ReleasesOld c w y answers) is (answer, released, due) })
+      (gated_past by)

@@ -10,14 +10,11 @@ ghost use Rattle.table_bases.specs.Course.{FlushesBehind, InstallsBy};
 ghost use Rattle.table_bases.specs.Holding.{HoldsNoMore, HoldsTop, FoundClockLow, LeavesInstalled};
 
 use crate::words::{Base, put_base};
-use flush_words::{flush, flush_own};
+use flush_words::{LAST_CLOCK, flush, flush_own};
 use level_release::release;
 use xp_board::Port;
 use xp_preempt::Preempt;
 use xp_words::PageType;
-
-// The clock goes no further.
-pub(crate) const LAST_CLOCK: u64 = 68_719_476_734;
 
 /// Stores the base with the typed reference in hand, flushes the own cache, and releases what the word named before. Where the gate
 /// pauses the release, the first old word names what is left.

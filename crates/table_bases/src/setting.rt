@@ -10,10 +10,11 @@ ghost use Rattle.table_bases.specs.Asking.{IsBaseStop, LeavesBase, ServesBase, S
 ghost use Rattle.table_bases.specs.Course.{MeetsBase, SetsBaseBy};
 ghost use Rattle.table_bases.specs.declared.words.Base.TheVariants.{Kernel, User};
 
-use crate::installing::{LAST_CLOCK, install};
+use crate::installing::install;
 use crate::words::Base;
+use flush_words::LAST_CLOCK;
 use level_validate::acquire;
-use step_maker::look_clock;
+use step_maker::{look_clock, own_domain};
 use xp_board::Port;
 use xp_preempt::Preempt;
 use xp_words::{Refusal, Stop};
@@ -91,12 +92,4 @@ fn empty_base<P: Port>(port: &mut P, gate: &mut dyn Preempt, base: Base) -> Resu
     }
     install(port, gate, base, None);
     Ok(())
-}
-
-// The domain of the own vCPU, which is one of the machine's.
-fn own_domain<P: Port>(port: &P) -> u16
-    ensures own { result ≡ domain_of (P.value port.now).post.machine (P.value port.now).post.vcpu }
-    ensures real { result < length (P.value port.now).post.machine.page_limit }
-{
-    port.layout().vcpu_domain.as_slice()[port.vcpu() as usize]
 }

@@ -46,4 +46,4 @@ own_last_stops n v c s t g j m has hears some less is_yes =
 pub own_turn_hears : (n : Machine) (v : ℕ) (c : Processing) (s t : Stage) (m : MakesStagedTurn n v c s t) → HearsNoWithin (elements_tried m.turn) → Heard m.gate.says m.gate.asks m.asked.asks (is_due m.end)
 own_turn_hears n v c s t m hears =
     subst (λ k. Heard m.gate.says m.gate.asks k (is_due m.end)) (sym m.consulted.asks)
-    (turn_heard c m.after m.end m.from m.to m.gate.asks m.answers m.gate.says m.turn hears m.consulted.gives m.consulted.due)
+    (turn_heard c m.after m.end m.from m.to m.gate.asks m.answers m.gate.says m.turn hears m.consulted.gives m.due)

@@ -93,6 +93,7 @@ module _ (stays : AloneStays) where
           answers = t.answers;
           turn = t.turn;
           consulted = t.consulted;
+          due = t.due;
           unhindered = turn_spared stays neither nobody lost v real c c2 t.end w t.answers (alone_at b cpus s lender ready) t.turn;
           cpus = refl;
           gates = refl;

@@ -49,10 +49,10 @@ no_outcome asked gates from to s is kept kept_too = subst (λ o. OutcomeBy o gat
 
 -- a gate that was told a pace
 abbrev told : ℕ → Gate → Gate
-told every g = record { calm = g.calm; paces = g.paces; asks = g.asks; says = λ n. if g.paces then is_in_step every n else g.says n }
+told every g = record { paces = g.paces; asks = g.asks; yes = g.yes; says = λ n. if g.paces then is_in_step every n else g.says n }
 
 is_told : (every : ℕ) (g : Gate) → IsPaced every g (told every g)
-is_told every g = record { asks = refl; paces = refl; says = λ e n. rw e refl; unpaced = λ e n. rw e refl; calm = λ h. h.0 }
+is_told every g = record { asks = refl; yes = refl; paces = refl; says = λ e n. rw e refl; unpaced = λ e n. rw e refl }
 
 are_told : (every : ℕ) (gates : List Gate) → ArePaced every gates (map (told every) gates)
 are_told every [] = tt

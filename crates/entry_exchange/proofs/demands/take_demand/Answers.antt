@@ -1,5 +1,4 @@
 use Rattle.std.proofs.lemmas.Result.{err_from_is_err_and}
-use Rattle.entry_exchange.proofs.PageKinds.{page_why}
 use Rattle.entry_exchange.proofs.Taking.{above_one, acquired, nothing_taken, page_named, paged, referred, refused, table_named, unpaged, unreferred}
 use Rattle.entry_exchange.proofs.demands.take_demand.Goals as goal
 
@@ -26,11 +25,6 @@ returns-in_err-get_page-in-Typed g c =
     let p = err_from_is_err_and c.from_residual-in_err-get_page-in-Typed.result c.from_residual-in_err-get_page-in-Typed.ensures.1 in
     let got = c.in_err-get_page-in-Typed.ensures in
     rw (p.1, p.2, page_named c.in-Typed.is c.requires.asks c.if-level-eq1.true) (unpaged c.if-level-eq1.true got.came got.serves got.stops got.hand got.course)
-
-pub returns-in_err-get_page-in-Typed-clause-calm : goal.returns-in_err-get_page-in-Typed-clause-calm
-returns-in_err-get_page-in-Typed-clause-calm g c =
-    let p = err_from_is_err_and c.from_residual-in_err-get_page-in-Typed.result c.from_residual-in_err-get_page-in-Typed.ensures.1 in
-    λ calm. (rw (p.1, p.2) (page_why _ _ _ _ _ c.in_err-get_page-in-Typed.ensures.course).1, calm)
 
 pub returns-in_ok-get_page-in-Typed : goal.returns-in_ok-get_page-in-Typed
 returns-in_ok-get_page-in-Typed g c =

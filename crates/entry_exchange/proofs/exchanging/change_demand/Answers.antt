@@ -1,5 +1,5 @@
 use Rattle.std.proofs.Common.{◌∙◌}
-use Rattle.entry_exchange.proofs.ChangingDemand.{done_changed, given_lock, given_works, lost_changed, may_put, of_level, off_freed, off_inside, off_may, off_old0, put_lock, put_works, undue, unput_taken, untaken_changed, untaken_lock}
+use Rattle.entry_exchange.proofs.ChangingDemand.{done_changed, given_lock, given_works, lost_changed, may_put, of_level, off_freed, off_inside, off_may, off_old0, put_lock, put_works, unput_taken, untaken_changed, untaken_lock}
 use Rattle.entry_exchange.proofs.exchanging.change_demand.Goals as goal
 
 pub take_demand-requires-clause-asks : goal.take_demand-requires-clause-asks
@@ -7,34 +7,34 @@ take_demand-requires-clause-asks g c = of_level c.args.update.level c.args.updat
 
 -- ---- it is not to be had
 pub leave_lock-requires-clause-locked : goal.leave_lock-requires-clause-locked
-leave_lock-requires-clause-locked g c = untaken_lock c.args.update c.args.owners c.requires.locked (rw (c.owner_at-owner.ensures, c.requires.wanted) at c.in-Err.ensures.did)
+leave_lock-requires-clause-locked g c = untaken_lock c.args.update c.args.owners c.requires.locked (rw (c.owner_at-owner.ensures, c.requires.wanted) at c.in-Err.ensures)
 
 pub returns-in-Err : goal.returns-in-Err
 returns-in-Err g c =
-    let took = rw (c.owner_at-owner.ensures, c.requires.wanted) at c.in-Err.ensures.did in
+    let took = rw (c.owner_at-owner.ensures, c.requires.wanted) at c.in-Err.ensures in
     untaken_changed c.args.update c.args.owners c.requires.locked took (rw c.requires.wanted at c.requires.fits) (rw c.requires.wanted at c.requires.other) c.leave_lock.ensures
 
 -- ---- it is put there
 pub put_entry-requires-clause-exchanges : goal.put_entry-requires-clause-exchanges
 put_entry-requires-clause-exchanges g c =
-    let took = rw (c.owner_at-owner.ensures, c.requires.wanted) at c.in-Ok.ensures.did in
+    let took = rw (c.owner_at-owner.ensures, c.requires.wanted) at c.in-Ok.ensures in
     rw c.word_kept-new.ensures (may_put c.args.update c.args.owners c.requires.locked took c.requires.maps (rw c.requires.wanted at c.requires.fits))
 
 pub leave_lock-requires-in-Ok-put_entry-clause-locked : goal.leave_lock-requires-in-Ok-put_entry-clause-locked
 leave_lock-requires-in-Ok-put_entry-clause-locked g c =
-    let took = rw (c.owner_at-owner.ensures, c.requires.wanted) at c.in-Ok.ensures.did in
+    let took = rw (c.owner_at-owner.ensures, c.requires.wanted) at c.in-Ok.ensures in
     put_lock c.args.update c.args.owners c.requires.locked took (rw c.requires.wanted at c.requires.other) (rw c.word_kept-new.ensures at c.in-Ok-put_entry.ensures)
 
 pub leave_lock-requires-in-Ok-put_entry-clause-works : goal.leave_lock-requires-in-Ok-put_entry-clause-works
 leave_lock-requires-in-Ok-put_entry-clause-works g c =
-    let took = rw (c.owner_at-owner.ensures, c.requires.wanted) at c.in-Ok.ensures.did in
+    let took = rw (c.owner_at-owner.ensures, c.requires.wanted) at c.in-Ok.ensures in
     put_works c.args.update c.args.owners c.requires.locked took (rw c.requires.wanted at c.requires.other) (rw c.word_kept-new.ensures at c.in-Ok-put_entry.ensures)
 
 pub release_demand-requires : goal.release_demand-requires
 release_demand-requires g c =
     let x = c.args.update in
     let o = c.args.owners in
-    let took = rw (c.owner_at-owner.ensures, c.requires.wanted) at c.in-Ok.ensures.did in
+    let took = rw (c.owner_at-owner.ensures, c.requires.wanted) at c.in-Ok.ensures in
     let other = rw c.requires.wanted at c.requires.other in
     let put = rw c.word_kept-new.ensures at c.in-Ok-put_entry.ensures in
     let left = c.leave_lock-in-Ok-put_entry.ensures in
@@ -47,11 +47,11 @@ release_demand-requires g c =
 
 pub returns-in-Ok-put_entry : goal.returns-in-Ok-put_entry
 returns-in-Ok-put_entry g c =
-    let took = rw (c.owner_at-owner.ensures, c.requires.wanted) at c.in-Ok.ensures.did in
+    let took = rw (c.owner_at-owner.ensures, c.requires.wanted) at c.in-Ok.ensures in
     let other = rw c.requires.wanted at c.requires.other in
     let put = rw c.word_kept-new.ensures at c.in-Ok-put_entry.ensures in
     let freeing = rw (c.demand.ensures, c.level_type.ensures) at c.release_demand.ensures in
-    done_changed c.args.update c.args.owners c.requires.locked took other put c.leave_lock-in-Ok-put_entry.ensures (rw c.requires.wanted at c.requires.fits) c.take_demand.ensures.says freeing
+    done_changed c.args.update c.args.owners c.requires.locked took other put c.leave_lock-in-Ok-put_entry.ensures (rw c.requires.wanted at c.requires.fits) freeing
 
 -- ---- it is not put there
 pub give_demand-requires-clause-asks : goal.give_demand-requires-clause-asks
@@ -59,26 +59,23 @@ give_demand-requires-clause-asks g c = of_level c.args.update.level c.args.updat
 
 pub give_demand-requires-clause-taken : goal.give_demand-requires-clause-taken
 give_demand-requires-clause-taken g c =
-    let took = rw (c.owner_at-owner.ensures, c.requires.wanted) at c.in-Ok.ensures.did in
+    let took = rw (c.owner_at-owner.ensures, c.requires.wanted) at c.in-Ok.ensures in
     rw (c.requires.wanted, c.owner_at-owner.ensures) (unput_taken c.args.update c.args.owners c.requires.locked took (rw c.word_kept-new.ensures at c.in-Err-put_entry.ensures))
 
 pub leave_lock-requires-in-Err-put_entry-clause-locked : goal.leave_lock-requires-in-Err-put_entry-clause-locked
 leave_lock-requires-in-Err-put_entry-clause-locked g c =
-    let took = rw (c.owner_at-owner.ensures, c.requires.wanted) at c.in-Ok.ensures.did in
+    let took = rw (c.owner_at-owner.ensures, c.requires.wanted) at c.in-Ok.ensures in
     given_lock c.args.update c.args.owners c.requires.locked took (rw c.word_kept-new.ensures at c.in-Err-put_entry.ensures) (rw (c.owner_at-owner.ensures, c.requires.wanted) at c.give_demand.ensures)
 
 pub leave_lock-requires-in-Err-put_entry-clause-works : goal.leave_lock-requires-in-Err-put_entry-clause-works
 leave_lock-requires-in-Err-put_entry-clause-works g c =
-    let took = rw (c.owner_at-owner.ensures, c.requires.wanted) at c.in-Ok.ensures.did in
+    let took = rw (c.owner_at-owner.ensures, c.requires.wanted) at c.in-Ok.ensures in
     given_works c.args.update c.args.owners c.requires.locked took (rw c.word_kept-new.ensures at c.in-Err-put_entry.ensures)
     (rw (c.owner_at-owner.ensures, c.requires.wanted) at c.give_demand.ensures)
 
 pub returns-in-Err-put_entry : goal.returns-in-Err-put_entry
 returns-in-Err-put_entry g c =
-    let took = rw (c.owner_at-owner.ensures, c.requires.wanted) at c.in-Ok.ensures.did in
+    let took = rw (c.owner_at-owner.ensures, c.requires.wanted) at c.in-Ok.ensures in
     let put = rw c.word_kept-new.ensures at c.in-Err-put_entry.ensures in
     let gave = rw (c.owner_at-owner.ensures, c.requires.wanted) at c.give_demand.ensures in
     lost_changed c.args.update c.args.owners c.requires.locked took put gave (rw c.requires.wanted at c.requires.fits) (rw c.requires.wanted at c.requires.other) c.leave_lock-in-Err-put_entry.ensures
-
-pub returns-in-Err-put_entry-clause-calm : goal.returns-in-Err-put_entry-clause-calm
-returns-in-Err-put_entry-clause-calm g c = λ calm. (undue c.in-Err-put_entry.ensures.course, (c.take_demand.ensures.calm calm).1)

@@ -1,6 +1,5 @@
 use Rattle.std.proofs.Common.{◌∙◌, sym}
 use Rattle.std.proofs.lemmas.Result.{err_from_is_err_and}
-use Rattle.entry_exchange.proofs.ChangingDemand.{undue}
 use Rattle.entry_exchange.proofs.ExchangingEntry.{ended_bad, ended_changed, ended_same, ended_unput, keep_frame, keep_lock, keep_may, keep_old1, keep_works, look_frame, look_lock, look_maps, look_may, look_old0, look_old1, look_seen, look_works, may_keep}
 use Rattle.entry_exchange.proofs.exchanging.exchange_entry.Goals as goal
 
@@ -53,9 +52,6 @@ returns-in_err-put g c =
     let same = sym (rw (c.demand-wanted.ensures, c.demand.ensures, c.level_type-kind.ensures, c.word_kept-new.ensures) at c.is_same.ensures) ∙ c.if-is_same.true in
     let put = rw c.word_kept-new.ensures at c.in_err-put.ensures in
     rw (p.1, p.2) (ended_unput c.args.update c.args.owners c.requires.locked look.moves look.hand same put c.requires.may c.leave_lock-then-is_same.ensures)
-
-pub returns-in_err-put-clause-calm : goal.returns-in_err-put-clause-calm
-returns-in_err-put-clause-calm g c = let p = err_from_is_err_and c.from_residual.result c.from_residual.ensures.1 in λ calm. (rw (p.1, p.2) (undue c.in_err-put.ensures.course), calm)
 
 pub returns-then-is_same : goal.returns-then-is_same
 returns-then-is_same g c =

@@ -35,7 +35,7 @@ returns-in_err-frame g c =
     let t = c.in_ok-entry.ensures in
     untaken at c.requires.rests t.came
     (subst (λ k. Walks (g.P.Port.value c.look_word.new.port) (g.P.Port.value c.walk.new.port) false k false (Ok c.in_ok-entry.entry)) c.address_of.ensures t.course) (p.1 ∙ ap Err p.2) c.requires.warm c.frame.ensures
-    c.own_domain-owner.ensures c.in_err-frame.ensures
+    c.own_domain-owner.ensures.own c.in_err-frame.ensures
 
 pub returns : goal.returns
 returns g c =
@@ -43,5 +43,5 @@ returns g c =
     let at = past_none c.look_base-base.ensures.1 within c.if-look_word-ne0.false c.look_word.ensures.moves c.look_word.ensures.hand in
     let t = c.in_ok-entry.ensures in
     touched at c.requires.rests t.came
-    (subst (λ k. Walks (g.P.Port.value c.look_word.new.port) (g.P.Port.value c.walk.new.port) false k false (Ok c.in_ok-entry.entry)) c.address_of.ensures t.course) c.requires.warm c.frame.ensures c.own_domain-owner.ensures
+    (subst (λ k. Walks (g.P.Port.value c.look_word.new.port) (g.P.Port.value c.walk.new.port) false k false (Ok c.in_ok-entry.entry)) c.address_of.ensures t.course) c.requires.warm c.frame.ensures c.own_domain-owner.ensures.own
     c.in_ok-frame.ensures c.put_page.ensures

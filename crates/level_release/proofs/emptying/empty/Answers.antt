@@ -41,7 +41,7 @@ returns-in-Err-clause-hand g c =
 pub returns-in-Ok-clause-course : goal.returns-in-Ok-clause-course
 returns-in-Ok-clause-course g c =
     empties_finished c.args.left.now (g.P.Port.value c.args.port.now) (g.P.Port.value c.run_down.new.port) c.run_down.new.stack
-    (c.push.ensures.pushed ∙ ap (λ ts. c.args.table ∷ ts) c.new-stack.ensures) _ _ _ _ _ c.in-Ok.ensures.emptied c.in-Ok.ensures.course
+    (c.push.ensures.pushed ∙ ap (λ ts. c.args.table ∷ ts) c.new-stack.ensures) c.in-Ok.ensures.emptied c.in-Ok.ensures.course
 
 -- ---- the rest is left partial
 pub returns-in-Err-clause-serves : goal.returns-in-Err-clause-serves
@@ -65,4 +65,4 @@ returns-in-Err-clause-stops g c =
 pub returns-in-Err-clause-course : goal.returns-in-Err-clause-course
 returns-in-Err-clause-course g c =
     empties_paused c.args.left.now (g.P.Port.value c.args.port.now) (g.P.Port.value c.run_down.new.port) c.run_down.new.stack
-    (c.push.ensures.pushed ∙ ap (λ ts. c.args.table ∷ ts) c.new-stack.ensures) _ _ _ _ _ c.left_by.ensures c.unwind.ensures.course c.in-Err.ensures.course
+    (c.push.ensures.pushed ∙ ap (λ ts. c.args.table ∷ ts) c.new-stack.ensures) c.left_by.ensures c.unwind.ensures.course c.in-Err.ensures.course

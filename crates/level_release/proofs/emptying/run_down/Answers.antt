@@ -1,4 +1,4 @@
-use Rattle.std.proofs.Common.{refl, ◌∙◌, ◌&&◌, Bool, Result, Err, Ok, IfErr, sym, ap, subst}
+use Rattle.std.proofs.Common.{◌∙◌, ◌&&◌, Bool, Result, Err, Ok, IfErr, sym, ap, subst}
 use Rattle.xp_words.specs.declared.reply.Stop.{Stop}
 use Rattle.step_maker.proofs.Coming.{came_trans}
 use Rattle.level_release.proofs.HandsRunning.{running_begins, running_may, running_on, tested_some}
@@ -21,7 +21,7 @@ returns-then-due-clause-came g c =
     came_trans (g.P.Port.value c.args.port.now) (g.P.Port.value c.loop-below.port) (g.P.Port.value c.lower.new.port) c.loop-below.invariant.hands.came c.lower.ensures.met.came
 
 pub loop-below-init : goal.loop-below-init
-loop-below-init g c = record { hands = running_begins; goes = serving_begins c.requires.one; course = runs_nothing; settled = λ s. s; says = λ n. refl; paces = refl; calm = λ calm. calm }
+loop-below-init g c = record { hands = running_begins; goes = serving_begins c.requires.one; course = runs_nothing; settled = λ s. s }
 
 -- ---- an entry, or a table, stops it
 pub returns-in_err-lower-clause-serves : goal.returns-in_err-lower-clause-serves
@@ -56,7 +56,7 @@ pub returns-then-due-clause-course : goal.returns-then-due-clause-course
 returns-then-due-clause-course g c =
     let w = g.P.Port.value c.lower.new.port in
     runs_due c.loop-below.invariant.course w c.lower.new.stack (subst (λ b. Lowered (g.P.Port.value c.loop-below.port) c.loop-below.stack w c.lower.new.stack (Ok b)) c.if-branch.true
-    c.in_ok-lower.ensures.met.course) (sym c.if-is_asked.ensures) _ c.loop-below.invariant.says _ c.if-due.ensures.1.0 c.if-due.ensures.1.1.0 c.if-due.ensures.0
+    c.in_ok-lower.ensures.met.course) (sym c.if-is_asked.ensures) c.if-due.ensures
 
 pub returns-then-due-clause-stands : goal.returns-then-due-clause-stands
 returns-then-due-clause-stands g c h s = c.lower.ensures.met.stands h (c.loop-below.invariant.hands.stands h s)
@@ -73,11 +73,8 @@ loop-below-preserved-else-due g c =
     record {
       hands = running_on i.hands (tested_some _ c.loop-below-test.true c.is_empty.ensures.1) w xs c.in_ok-lower.ensures.met.came c.in_ok-lower.ensures.met.stands c.in_ok-lower.ensures.outer;
       goes = serving_on i.goes w xs a.came a.serves a.progress;
-      course = runs_on i.course w xs (subst (λ b. Lowered v us w xs (Ok b)) c.if-branch.true a.course) (sym c.if-is_asked.ensures) _ i.says _ c.if-due.ensures.1.0 c.if-due.ensures.1.1.0 c.if-due.ensures.0;
-      says = λ n. c.if-due.ensures.1.1.1.0 n ∙ i.says n;
+      course = runs_on i.course w xs (subst (λ b. Lowered v us w xs (Ok b)) c.if-branch.true a.course) (sym c.if-is_asked.ensures) c.if-due.ensures;
       settled = λ s. (c.lower.ensures.met.settled (i.settled s)).1;
-      paces = c.due.ensures.1.1.1.1.0 ∙ i.paces;
-      calm = λ calm. (c.due.ensures.1.1.1.1.1 (i.calm calm)).1;
     }
 
 -- ---- it is not asked
@@ -92,10 +89,7 @@ loop-below-preserved-else-is_asked g c =
       hands = running_on i.hands (tested_some _ c.loop-below-test.true c.is_empty.ensures.1) w xs c.in_ok-lower.ensures.met.came c.in_ok-lower.ensures.met.stands c.in_ok-lower.ensures.outer;
       goes = serving_on i.goes w xs c.in_ok-lower.ensures.met.came c.in_ok-lower.ensures.met.serves c.in_ok-lower.ensures.met.progress;
       course = runs_unasked i.course w xs (subst (λ b. Lowered v us w xs (Ok b)) c.if-branch.true c.in_ok-lower.ensures.met.course) (sym c.if-is_asked.ensures);
-      says = i.says;
       settled = λ s. (c.lower.ensures.met.settled (i.settled s)).1;
-      paces = i.paces;
-      calm = i.calm;
     }
 
 pub loop-below-preserved : goal.loop-below-preserved
@@ -107,10 +101,7 @@ loop-below-preserved g c =
       hands = running_on i.hands (tested_some _ c.loop-below-test.true c.is_empty.ensures.1) w xs c.in_ok-lower.ensures.met.came c.in_ok-lower.ensures.met.stands c.in_ok-lower.ensures.outer;
       goes = serving_on i.goes w xs c.in_ok-lower.ensures.met.came c.in_ok-lower.ensures.met.serves c.in_ok-lower.ensures.met.progress;
       course = runs_unasked i.course w xs c.in_ok-lower.ensures.met.course (ap (λ b. b && is_asked_within c.args.below xs) c.if-branch.false);
-      says = i.says;
       settled = λ s. (c.lower.ensures.met.settled (i.settled s)).1;
-      paces = i.paces;
-      calm = i.calm;
     }
 
 -- ---- where nothing was noted as unsettled

@@ -1,4 +1,4 @@
-use Rattle.std.proofs.Common.{◌≡◌, ℕ, true, Ok}
+use Rattle.std.proofs.Common.{Ok}
 use Rattle.partial_state.specs.Weights.{weight}
 use Rattle.table_releases.specs.Tops.{IsSettledTop}
 use Rattle.level_release.proofs.HandsRunning.{RunningDown}
@@ -10,11 +10,8 @@ abbrev pub invariant-loop-below : goal.invariant-loop-below
 invariant-loop-below g l = record {
   hands : RunningDown (g.P.Port.value l.fn.port) (g.P.Port.value l.port) l.fn.stack l.stack;
   goes : Serving (g.P.Port.value l.fn.port) (g.P.Port.value l.port) l.fn.stack l.stack;
-  course : RunsDownBy l.below (g.P.Port.value l.fn.port) l.fn.stack (g.P.Port.value l.port) l.stack ((goal.Preempt-dyn g l.fn.gate.now).says l.fn.gate.now.1) ((goal.Preempt-dyn g l.fn.gate.now).count_asks l.fn.gate.now.1) ((goal.Preempt-dyn g l.gate.now).count_asks l.gate.now.1) ((goal.Preempt-dyn g l.fn.gate.now).count_yes l.fn.gate.now.1) ((goal.Preempt-dyn g l.gate.now).count_yes l.gate.now.1) (Ok tt);
+  course : RunsDownBy l.below (g.P.Port.value l.fn.port) l.fn.stack (g.P.Port.value l.port) l.stack ((goal.Preempt-dyn g l.fn.gate.now).policy l.fn.gate.now.1) ((goal.Preempt-dyn g l.gate.now).policy l.gate.now.1) (Ok tt);
   settled : IsSettledTop (g.P.Port.value l.fn.port).holdings → IsSettledTop (g.P.Port.value l.port).holdings;
-  says : (n : ℕ) → (goal.Preempt-dyn g l.gate.now).says l.gate.now.1 n ≡ (goal.Preempt-dyn g l.fn.gate.now).says l.fn.gate.now.1 n;
-  paces : (goal.Preempt-dyn g l.gate.now).paces l.gate.now.1 ≡ (goal.Preempt-dyn g l.fn.gate.now).paces l.fn.gate.now.1;
-  calm : (goal.Preempt-dyn g l.fn.gate.now).calm l.fn.gate.now.1 ≡ true → (goal.Preempt-dyn g l.gate.now).calm l.gate.now.1 ≡ true;
 }
 
 abbrev pub decreases-loop-below : goal.decreases-loop-below

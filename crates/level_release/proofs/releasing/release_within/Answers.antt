@@ -80,5 +80,5 @@ returns-then-drop_type g c =
       stops = λ owner pages. answer_stops w answer refl (closed_piece v c.args.frame owner pages (is_due_answer answer) refl c.drop_type.ensures.serves look.moves) e.stops;
       kinds = e.settled (closed_settled c.requires.holds d look.moves look.hand c.level_of.result level.kind);
       hand = emptied_released c.requires.holds d look.moves look.hand c.level_of.result level.kind level.low level.high table c.requires.frame w answer e.came e.hand;
-      course = gated_as (λ answers emptied. (last a x w c.look_refs.result c.level_of.result answers answer table level.kind level.high d look.moves emptied.0, emptied.1)) e.course;
+      course = gated_as refl (λ answers emptied. (last a x w c.look_refs.result c.level_of.result answers answer table level.kind level.high d look.moves emptied.0, emptied.1)) e.course;
     }

@@ -1,4 +1,4 @@
-use Rattle.std.proofs.Common.{Err, ap, ◌∙◌}
+use Rattle.std.proofs.Common.{Err, refl, ap, ◌∙◌}
 use Rattle.std.proofs.lemmas.Result.{err_from_is_err_and}
 use Rattle.table_words.specs.declared.old_words.OldWord.TheVariants.{Second}
 use Rattle.level_release.specs.Course.{both}
@@ -25,7 +25,7 @@ returns-clause-stops g c owner pages =
 pub returns-clause-course : goal.returns-clause-course
 returns-clause-course g c =
     let u = g.P.Port.value c.settle_word.new.port in
-    gated_then c.in_ok-settle_word.ensures.says (λ answers more one two. (both u (g.P.Port.value c.settle_word-2.new.port) answers more c.settle_word-2.result one.0 two.0, two.1))
+    gated_then refl (λ answers more one two. (both u (g.P.Port.value c.settle_word-2.new.port) answers more c.settle_word-2.result one.0 two.0, two.1))
     c.in_ok-settle_word.ensures.course c.settle_word-2.ensures.course
 
 pub returns-clause-none : goal.returns-clause-none

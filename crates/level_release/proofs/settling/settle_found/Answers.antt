@@ -32,7 +32,7 @@ returns-then-kind g c u which t =
       stops = λ owner pages. released_stops t owner pages w answer came e.kinds (e.stops owner pages);
       kinds = IfErr-weaker answer _ _ due_ends e.kinds;
       hand = hand;
-      course = gated_as (λ answers released. live_course t c.read_kind-kind.ensures c.args.left.now c.release_within.new.left w answers answer c.if-kind.true released) e.course;
+      course = gated_as refl (λ answers released. live_course t c.read_kind-kind.ensures c.args.left.now c.release_within.new.left w answers answer c.if-kind.true released) e.course;
     }
 
 -- ---- it was found in another vCPU's hand: the first word names it again

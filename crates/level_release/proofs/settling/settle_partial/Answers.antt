@@ -104,7 +104,7 @@ returns-in-Ok g c u which t =
       stops = λ owner pages. answer_stops w answer refl (resumed_piece t owner pages (is_due_answer answer) c.requires.read c.requires.partial a.moves refl refl look.moves) c.empty.ensures.stops;
       kinds = c.empty.ensures.kinds;
       hand = hand;
-      course = gated_as (λ answers emptied. emptied_course t c.requires.read c.requires.partial a.moves refl c.args.left.now c.empty.new.left w c.level_of.result answers answer table level.kind level.high look.moves emptied)
+      course = gated_as refl (λ answers emptied. emptied_course t c.requires.read c.requires.partial a.moves refl c.args.left.now c.empty.new.left w c.level_of.result answers answer table level.kind level.high look.moves emptied)
           c.empty.ensures.course;
     }
 

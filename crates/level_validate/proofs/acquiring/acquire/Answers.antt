@@ -25,12 +25,7 @@ returns-in_err-frame g c =
           (reference_stops _ _ _ _ pages (is_due_stop e) _ _ c.in_err-frame.ensures.stops);
       kinds = search rules;
       hand = search rules;
-      gate = search rules;
-      heard = search rules;
-      says = search rules;
-      paces = search rules;
-      calm = search rules;
-      course = unreferred_by _ _ _ _ _ _ _ _ _ _ (answer.1 ∙ ap Err answer.2) c.in_err-frame.ensures.kinds c.in_err-frame.ensures.gets c.in_err-frame.ensures.plain c.in_err-frame.ensures.stops;
+      course = unreferred_by _ _ _ _ _ _ _ (answer.1 ∙ ap Err answer.2) c.in_err-frame.ensures.kinds c.in_err-frame.ensures.gets c.in_err-frame.ensures.plain c.in_err-frame.ensures.stops;
     }
 
 -- ---- its type
@@ -62,12 +57,7 @@ returns-in-Ok-Counted g c =
       stops = search rules;
       kinds = search rules;
       hand = counted_hand b h c.args.owner c.requires.idle c.in_ok-frame.ensures.hand x (level_type c.args.level) (subst (λ k. TakesAs b x h c.args.owner k Counted) c.level_type.ensures taken);
-      gate = search rules;
-      heard = search rules;
-      says = search rules;
-      paces = search rules;
-      calm = search rules;
-      course = counted_by _ _ _ _ _ _ _ _ c.in_ok-frame.ensures.frame.0 c.in_ok-frame.ensures.gets c.in_ok-frame.ensures.plain _ c.level_type.ensures
+      course = counted_by _ _ _ _ _ c.in_ok-frame.ensures.frame.0 c.in_ok-frame.ensures.gets c.in_ok-frame.ensures.plain _ c.level_type.ensures
           c.in-Ok-Counted.field-0 c.in-Ok-Counted.ensures.found c.in-Ok-Counted.ensures.plain c.in-Ok-Counted.ensures.waits c.in-Ok-Counted.field-0-is;
     }
 
@@ -86,12 +76,7 @@ returns-in-Err g c =
       kinds = search rules;
       hand = same_leaves (g.P.Port.value c.args.port.now) w c.args.f c.args.owner c.args.level c.in-Err.stop
           (given_hand (g.P.Port.value c.get_ref.new.port) c.in_ok-frame.frame c.args.owner c.requires.idle c.in_ok-frame.ensures.hand (g.P.Port.value c.take_type.new.port) w c.in-Err.ensures.hand c.put_ref.ensures.hand);
-      gate = search rules;
-      heard = search rules;
-      says = search rules;
-      paces = search rules;
-      calm = search rules;
-      course = untyped_by _ _ _ _ _ _ _ _ c.in_ok-frame.ensures.frame.0 c.in_ok-frame.ensures.gets c.in_ok-frame.ensures.plain _ c.level_type.ensures
+      course = untyped_by _ _ _ _ _ c.in_ok-frame.ensures.frame.0 c.in_ok-frame.ensures.gets c.in_ok-frame.ensures.plain _ c.level_type.ensures
           (g.P.Port.value c.put_ref.new.port) c.in-Err.stop c.in-Err.ensures.kinds c.in-Err.ensures.found c.in-Err.ensures.plain c.in-Err.ensures.stops c.put_ref.ensures.puts c.put_ref.ensures.plain;
     }
 
@@ -121,12 +106,7 @@ returns-in-Ok-Waiting g c =
       kinds = search rules;
       hand = answer_leaves v (g.P.Port.value c.leave_waiting.new.port) c.args.f c.args.owner c.args.level h own c.is_paused.result c.in-Ok-Waiting.stop c.in_ok-frame.ensures.frame.0 c.is_paused.ensures
           (c.leave_waiting.ensures.hand v (waits_on _ _ _ _ _ _ _ _ _ c.level_type.ensures c.requires.idle c.in_ok-frame.ensures.hand waits));
-      gate = search rules;
-      heard = search rules;
-      says = search rules;
-      paces = search rules;
-      calm = search rules;
-      course = waiting_by _ _ _ _ _ _ _ _ c.in_ok-frame.ensures.frame.0 c.in_ok-frame.ensures.gets c.in_ok-frame.ensures.plain _ c.level_type.ensures
+      course = waiting_by _ _ _ _ _ c.in_ok-frame.ensures.frame.0 c.in_ok-frame.ensures.gets c.in_ok-frame.ensures.plain _ c.level_type.ensures
           took.field-0 took.ensures.found took.ensures.plain took.ensures.waits took.own took.stamp took.stop took.field-0-is (g.P.Port.value c.leave_waiting.new.port) c.is_paused.result c.is_paused.ensures c.leave_waiting.ensures.course;
     }
 
@@ -169,13 +149,8 @@ returns-in_ok-validate-in-Ok-InWork g c =
       stops = search rules;
       kinds = search rules;
       hand = c.in_ok-validate-in-Ok-InWork.ensures.hand (g.P.Port.value c.args.port.now) c.args.owner carries;
-      gate = search rules;
-      heard = search rules;
-      says = search rules;
-      paces = search rules;
-      calm = search rules;
-      course = finished_by _ _ _ _ _ _ _ _ c.in_ok-frame.ensures.frame.0 c.in_ok-frame.ensures.gets c.in_ok-frame.ensures.plain _ c.level_type.ensures
-          took.field-0 took.ensures.found took.ensures.plain took.ensures.waits took.field-0-is (g.P.Port.value c.validate.new.port) _ _ c.in_ok-validate-in-Ok-InWork.ensures.course;
+      course = finished_by _ _ _ _ _ c.in_ok-frame.ensures.frame.0 c.in_ok-frame.ensures.gets c.in_ok-frame.ensures.plain _ c.level_type.ensures
+          took.field-0 took.ensures.found took.ensures.plain took.ensures.waits took.field-0-is (g.P.Port.value c.validate.new.port) c.in_ok-validate-in-Ok-InWork.ensures.course;
     }
 
 pub returns-in_err-validate-in-Ok-InWork : goal.returns-in_err-validate-in-Ok-InWork
@@ -207,11 +182,6 @@ returns-in_err-validate-in-Ok-InWork g c =
       kinds = search rules;
       hand = leaves_as v w c.args.f c.args.owner c.args.level result e (answer.1 ∙ ap Err answer.2)
           (unwound_leaves v w c.args.f c.args.owner c.args.level x h progress own e c.in_ok-frame.ensures.frame.0 carries c.in_err-validate-in-Ok-InWork.ensures.hand);
-      gate = search rules;
-      heard = search rules;
-      says = search rules;
-      paces = search rules;
-      calm = search rules;
-      course = unfinished_by v c.args.f c.args.owner c.args.level _ _ _ b c.in_ok-frame.ensures.frame.0 c.in_ok-frame.ensures.gets c.in_ok-frame.ensures.plain x c.level_type.ensures
-          took.field-0 took.ensures.found took.ensures.plain took.ensures.waits took.field-0-is (g.P.Port.value c.validate.new.port) _ _ result e (answer.1 ∙ ap Err answer.2) c.in_err-validate-in-Ok-InWork.ensures.course;
+      course = unfinished_by v c.args.f c.args.owner c.args.level b c.in_ok-frame.ensures.frame.0 c.in_ok-frame.ensures.gets c.in_ok-frame.ensures.plain x c.level_type.ensures
+          took.field-0 took.ensures.found took.ensures.plain took.ensures.waits took.field-0-is (g.P.Port.value c.validate.new.port) result e (answer.1 ∙ ap Err answer.2) c.in_err-validate-in-Ok-InWork.ensures.course;
     }

@@ -1,6 +1,5 @@
-use Rattle.std.proofs.Common.{Ok, Err, ap, ◌∙◌, false, rules}
+use Rattle.std.proofs.Common.{Ok, Err, ap, ◌∙◌, rules}
 use Rattle.std.proofs.lemmas.Result.{err_from_is_err_and}
-use Rattle.xp_preempt.proofs.Hearing.{heard_as, heard_then}
 use Rattle.table_entries.specs.Acquiring.{is_asked}
 use Rattle.level_validate.proofs.Filling.{asked_stops, filling_came, filling_may, filling_on, filling_serves, filling_standing, filling_stops, risen_answer, risen_in, begun_working, cut_off_working, due_working, working_on, working_stops}
 use Rattle.level_validate.proofs.Serving.{goes_answer}
@@ -26,12 +25,7 @@ loop-port-init g c =
     let a = c.in_ok-ask_behind.ensures in
     record {
       tables = record { came = t.came; stands = t.stands; outer = t.outer; ready = t.ready; serves = t.serves };
-      gate = a.gate;
-      heard = a.heard;
-      says = a.says;
-      paces = a.paces;
-      calm = λ calm. (a.calm calm).1;
-      course = begun_working _ _ _ _ _ _ c.requires.only _ _ t.course _ _ a.course;
+      course = begun_working _ _ _ c.requires.only _ _ t.course a.course;
     }
 
 pub go_on-requires : goal.go_on-requires
@@ -49,12 +43,7 @@ loop-port-preserved g c =
     let t = c.in_ok-go_on.ensures in
     record {
       tables = filling_on _ _ _ _ _ c.loop-port.stack _ i.tables t.came t.stands t.outer t.ready t.serves;
-      gate = t.gate ∙ i.gate;
-      heard = heard_then _ _ _ _ _ i.heard (heard_as _ _ _ _ _ i.says t.heard);
-      says = λ n. t.says n ∙ i.says n;
-      paces = t.paces ∙ i.paces;
-      calm = λ calm. (t.calm (i.calm calm)).1;
-      course = working_on _ _ _ _ _ _ _ _ c.loop-port.stack _ _ _ _ _ _ false (Ok tt) i.says i.course t.course;
+      course = working_on _ _ _ _ _ c.loop-port.stack _ (Ok tt) i.course t.course;
     }
 
 pub returns-in_err-go_on : goal.returns-in_err-go_on
@@ -72,13 +61,8 @@ returns-in_err-go_on g c =
           (goes_answer _ _ _ c.loop-port.stack _ r c.in_err-go_on.field-0.0 (answer.1 ∙ ap Err answer.2) c.in_err-go_on.ensures.serves);
       stops = risen_answer _ _ _ _ r _ (answer.1 ∙ ap Err answer.2)
           (filling_stops c.loop-port.invariant.tables (g.P.Port.value c.go_on.new.port) c.go_on.new.stack c.in_err-go_on.field-0.0 c.in_err-go_on.ensures.stops);
-      gate = search rules;
-      heard = search rules;
-      says = search rules;
-      paces = search rules;
-      calm = search rules;
-      course = working_stops _ _ _ _ _ _ _ _ c.loop-port.stack _ _ _ _ _ _ r _ (answer.1 ∙ ap Err answer.2)
-          c.loop-port.invariant.says c.loop-port.invariant.course c.in_err-go_on.ensures.course;
+      course = working_stops _ _ _ _ _ c.loop-port.stack _ r _ (answer.1 ∙ ap Err answer.2)
+          c.loop-port.invariant.course c.in_err-go_on.ensures.course;
     }
 
 -- ---- its part of the course
@@ -86,12 +70,12 @@ returns-in_err-go_on g c =
 pub returns-in_err-done-clause-course : goal.returns-in_err-done-clause-course
 returns-in_err-done-clause-course g c =
     let answer = err_from_is_err_and c.from_residual.result c.from_residual.ensures.1 in
-    cut_off_working _ _ _ _ _ _ c.requires.only _ _ _ _ (answer.1 ∙ ap Err answer.2)
+    cut_off_working _ _ _ c.requires.only _ _ _ _ (answer.1 ∙ ap Err answer.2)
     c.in_err-done.ensures.kinds c.in_err-done.ensures.course
 
 pub returns-in_err-ask_behind-clause-course : goal.returns-in_err-ask_behind-clause-course
 returns-in_err-ask_behind-clause-course g c =
     let r = c.from_residual-in_err-ask_behind.result in
     let answer = err_from_is_err_and r c.from_residual-in_err-ask_behind.ensures.1 in
-    due_working _ _ _ _ _ _ c.requires.only _ _ c.in_ok-done.ensures.course _ _
+    due_working _ _ _ c.requires.only _ _ c.in_ok-done.ensures.course
     r c.in_err-ask_behind.field-0.0 (answer.1 ∙ ap Err answer.2) c.in_err-ask_behind.ensures.kinds c.in_err-ask_behind.ensures.course

@@ -48,12 +48,7 @@ returns-in-Ok g c =
           (goes_then _ _ _ _ (t ∷ []) (record t { done = 512 } ∷ []) [] [] []
           (subst (λ ts. CarriesOn u x c.args.owner ts (record t { done = 512 } ∷ []) []) one (subst (λ us. CarriesOn u x c.args.owner c.push.new.self us []) full c.in-Ok.ensures.serves)) (c.complete_outer.ensures.serves c.args.owner));
       stops = search rules;
-      gate = search rules;
-      heard = search rules;
-      says = search rules;
-      paces = search rules;
-      calm = search rules;
-      course = validated_live _ _ _ _ _ _ _ _ _ _ _ (record t { done = 512 }) full refl c.complete_outer.ensures.course c.in-Ok.ensures.course;
+      course = validated_live _ _ _ _ _ _ (record t { done = 512 }) full refl c.complete_outer.ensures.course c.in-Ok.ensures.course;
     }
 
 -- ---- a refusal or a pause
@@ -89,10 +84,5 @@ returns-in-Err g c =
           (subst (λ ts. ServesLeft u w owner c.is_paused.result t.frame ts e) one (left_behind _ _ _ _ _ _ _ _ _ [] c.fill.ensures.came c.in-Err.ensures.serves left));
       stops = subst (λ ts. StopsRisen (g.P.Port.value c.args.port.now) (g.P.Port.value c.unwind.new.port) c.args.owner ts c.in-Err.stop) one
           (risen_on _ _ _ _ _ _ c.unwind.ensures.came c.in-Err.ensures.stops);
-      gate = search rules;
-      heard = search rules;
-      says = search rules;
-      paces = search rules;
-      calm = search rules;
-      course = validated_left _ _ _ _ _ _ _ _ _ _ _ _ _ _ c.is_paused.ensures c.unwind.ensures.course c.in-Err.ensures.course;
+      course = validated_left _ _ _ _ _ _ _ _ c.is_paused.ensures c.unwind.ensures.course c.in-Err.ensures.course;
     }

@@ -27,4 +27,4 @@ install-requires-clause-warm g c =
 pub returns-clause-met : goal.returns-clause-met
 returns-clause-met g c =
     let a = c.in_ok-frame.ensures in
-    named c.look_clock-clock.ensures.moves c.own_domain-domain.ensures.own c.if-clock-eq-LAST_CLOCK.false a.frame.0 (a.serves c.own_domain-domain.result) a.course c.install.ensures.serves a.says c.install.ensures.course
+    named c.look_clock-clock.ensures.moves c.own_domain-domain.ensures.own c.if-clock-eq-LAST_CLOCK.false a.frame.0 (a.serves c.own_domain-domain.result) a.course c.install.ensures.serves c.install.ensures.course

@@ -37,7 +37,7 @@ close-requires-clause-own g c =
     let with_runners = ap (map (λ w. w.runner)) c.deref_mut.ensures.value ∙ c.in_ok-workers.ensures.runners in
     let end = YieldsList-end (YieldsList-from_vec {s = c.into_iter-worker-iterator.result} behind (written_back _ c.in_ok-workers.workers.items _ _ c.into_iter-worker-iterator.ensures.into_iter_gives.0 (omega (arith, c.in_ok-workers.workers.ok.0, ap length c.deref_mut.ensures.value, c.work_all.ensures.count))) (search rules)) c.ended.yielded c.ended.worker-iterator c.ended.yielded_by c.next.result c.next.new.self c.in-None.is c.next.ensures.steps in
     let all = sym (map-id c.ended.yielded) ∙ end.0 in
-    passes_own (λ w. w.pass) (λ w. w.runner) (λ s. in_box (gate_of (λ z. (goal.Preempt-dyn g z).calm z.1) (λ z. (goal.Preempt-dyn g z).paces z.1) (λ z. (goal.Preempt-dyn g z).count_asks z.1) (λ z. (goal.Preempt-dyn g z).says z.1)) s.gate) (λ s. s.cpu) c.args.board c.args.passes.items c.args.runners.items before behind with_passes with_runners c.requires.count c.requires.opened c.requires.first
+    passes_own (λ w. w.pass) (λ w. w.runner) (λ s. in_box (λ z. (goal.Preempt-dyn g z).policy z.1) s.gate) (λ s. s.cpu) c.args.board c.args.passes.items c.args.runners.items before behind with_passes with_runners c.requires.count c.requires.opened c.requires.first
     c.work_all.ensures.count c.work_all.ensures.each c.ended.ended.items (c.ended.invariant.passes ∙ ap (map (λ w. w.pass)) all)
 
 pub returns : goal.returns
@@ -48,6 +48,6 @@ returns g c =
     let with_runners = ap (map (λ w. w.runner)) c.deref_mut.ensures.value ∙ c.in_ok-workers.ensures.runners in
     let end = YieldsList-end (YieldsList-from_vec {s = c.into_iter-worker-iterator.result} behind (written_back _ c.in_ok-workers.workers.items _ _ c.into_iter-worker-iterator.ensures.into_iter_gives.0 (omega (arith, c.in_ok-workers.workers.ok.0, ap length c.deref_mut.ensures.value, c.work_all.ensures.count))) (search rules)) c.ended.yielded c.ended.worker-iterator c.ended.yielded_by c.next.result c.next.new.self c.in-None.is c.next.ensures.steps in
     let all = sym (map-id c.ended.yielded) ∙ end.0 in
-    ran_in_threads (λ w. w.pass) (λ w. w.runner) (λ s. in_box (gate_of (λ z. (goal.Preempt-dyn g z).calm z.1) (λ z. (goal.Preempt-dyn g z).paces z.1) (λ z. (goal.Preempt-dyn g z).count_asks z.1) (λ z. (goal.Preempt-dyn g z).says z.1)) s.gate) (λ s. s.cpu) c.args.board c.args.passes.items c.args.runners.items before behind with_passes with_runners c.requires.count c.requires.opened c.requires.first
+    ran_in_threads (λ w. w.pass) (λ w. w.runner) (λ s. in_box (λ z. (goal.Preempt-dyn g z).policy z.1) s.gate) (λ s. s.cpu) c.args.board c.args.passes.items c.args.runners.items before behind with_passes with_runners c.requires.count c.requires.opened c.requires.first
     c.work_all.ensures.count c.work_all.ensures.each c.rested_words_are_sound.ensures c.a_burial_leaves_only_what_is_listed.ensures c.close.result c.ended.ended.items c.ended.retired.items (c.ended.invariant.passes ∙ ap (map (λ w. w.pass)) all)
     (c.ended.invariant.runners ∙ ap (map (λ w. w.runner)) all) c.close.ensures

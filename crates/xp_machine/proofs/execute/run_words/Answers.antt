@@ -21,7 +21,7 @@ run_all-board-requires-clause-ready g c =
 
 pub returns-clause-ran : goal.returns-clause-ran
 returns-clause-ran g c =
-    let closed = stage_of (gate_of (λ x. (goal.Preempt-dyn g (x.vtable, x.value)).calm x.value) (λ x. (goal.Preempt-dyn g (x.vtable, x.value)).paces x.value) (λ x. (goal.Preempt-dyn g (x.vtable, x.value)).count_asks x.value) (λ x. (goal.Preempt-dyn g (x.vtable, x.value)).says x.value)) c.run_all-board.result.0 c.run_all-board.result.1.items in
+    let closed = stage_of (λ x. (goal.Preempt-dyn g (x.vtable, x.value)).policy x.value) c.run_all-board.result.0 c.run_all-board.result.1.items in
     let sound = c.opening_words_are_sound.ensures c.args.trace c.in_ok-words.words c.requires.well c.in_ok-words.ensures in record {
       closed = closed;
       ran = ran c.a_run_leaves_it_safe.ensures c.rested_words_are_sound.ensures c.a_burial_leaves_only_what_is_listed.ensures c.args.trace c.in_ok-board.board c.run_all-board.result.0 c.in_ok-words.words _ closed.cpus _ _ closed.gates (order c.as_slice.result.now)

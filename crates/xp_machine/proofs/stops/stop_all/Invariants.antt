@@ -10,6 +10,6 @@ abbrev pub invariant-stops : goal.invariant-stops
 invariant-stops g l = record {
   machine : l.board.machine ≡ l.initial.board.machine;
   opening : l.board.story.opening ≡ l.initial.board.story.opening;
-  stops : Stops l.initial.board.machine (range_with_len 0 l.vcpu) (stage_of (gate_of (λ x. (goal.Preempt-dyn g (x.vtable, x.value)).calm x.value) (λ x. (goal.Preempt-dyn g (x.vtable, x.value)).paces x.value) (λ x. (goal.Preempt-dyn g (x.vtable, x.value)).count_asks x.value) (λ x. (goal.Preempt-dyn g (x.vtable, x.value)).says x.value)) l.initial.board l.initial.runners) (stage_of (gate_of (λ x. (goal.Preempt-dyn g (x.vtable, x.value)).calm x.value) (λ x. (goal.Preempt-dyn g (x.vtable, x.value)).paces x.value) (λ x. (goal.Preempt-dyn g (x.vtable, x.value)).count_asks x.value) (λ x. (goal.Preempt-dyn g (x.vtable, x.value)).says x.value)) l.board l.runners);
+  stops : Stops l.initial.board.machine (range_with_len 0 l.vcpu) (stage_of (λ x. (goal.Preempt-dyn g (x.vtable, x.value)).policy x.value) l.initial.board l.initial.runners) (stage_of (λ x. (goal.Preempt-dyn g (x.vtable, x.value)).policy x.value) l.board l.runners);
   ready : Ready l.board (cpus_of l.runners);
 }

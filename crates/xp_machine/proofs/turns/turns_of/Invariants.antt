@@ -10,6 +10,6 @@ abbrev pub invariant-turns : goal.invariant-turns
 invariant-turns g l = record {
   machine : l.board.machine ≡ l.initial.board.machine;
   opening : l.board.story.opening ≡ l.initial.board.story.opening;
-  turns : Turns l.initial.board.machine (replicate l._turn l.vcpu) (stage_of (gate_of (λ x. (goal.Preempt-dyn g (x.vtable, x.value)).calm x.value) (λ x. (goal.Preempt-dyn g (x.vtable, x.value)).paces x.value) (λ x. (goal.Preempt-dyn g (x.vtable, x.value)).count_asks x.value) (λ x. (goal.Preempt-dyn g (x.vtable, x.value)).says x.value)) l.initial.board l.initial.runners) (stage_of (gate_of (λ x. (goal.Preempt-dyn g (x.vtable, x.value)).calm x.value) (λ x. (goal.Preempt-dyn g (x.vtable, x.value)).paces x.value) (λ x. (goal.Preempt-dyn g (x.vtable, x.value)).count_asks x.value) (λ x. (goal.Preempt-dyn g (x.vtable, x.value)).says x.value)) l.board l.runners);
+  turns : Turns l.initial.board.machine (replicate l._turn l.vcpu) (stage_of (λ x. (goal.Preempt-dyn g (x.vtable, x.value)).policy x.value) l.initial.board l.initial.runners) (stage_of (λ x. (goal.Preempt-dyn g (x.vtable, x.value)).policy x.value) l.board l.runners);
   ready : Ready l.board (cpus_of l.runners);
 }

@@ -7,5 +7,5 @@ returns-then-is_retired-clause-turn g c = rests _ _ _ _ (sym c.is_retired.ensure
 
 pub returns-clause-turn : goal.returns-clause-turn
 returns-clause-turn g c =
-    takes (gate_of (λ x. (goal.Preempt-dyn g (x.vtable, x.value)).calm x.value) (λ x. (goal.Preempt-dyn g (x.vtable, x.value)).paces x.value) (λ x. (goal.Preempt-dyn g (x.vtable, x.value)).count_asks x.value) (λ x. (goal.Preempt-dyn g (x.vtable, x.value)).says x.value)) (λ x. record { calm = (goal.Preempt-dyn g x).calm x.1; paces = (goal.Preempt-dyn g x).paces x.1; asks = (goal.Preempt-dyn g x).count_asks x.1; says = (goal.Preempt-dyn g x).says x.1 }) c.args.self.now.gate _ _ (c.args.self.now.gate.vtable, c.args.self.now.gate.value) _ _ _ c.args.self.now.cpu c.turn.new.cpu c.turn.result _ _
-    (sym c.is_retired.ensures ∙ c.if-is_retired.false) refl (search rules) c.turn.ensures.turn c.turn.ensures.says c.turn.ensures.paces c.turn.ensures.calm refl
+    takes (λ x. (goal.Preempt-dyn g (x.vtable, x.value)).policy x.value) (λ x. (goal.Preempt-dyn g x).policy x.1) c.args.self.now.gate _ _ (c.args.self.now.gate.vtable, c.args.self.now.gate.value) _ c.args.self.now.cpu c.turn.new.cpu c.turn.result _ _
+    (sym c.is_retired.ensures ∙ c.if-is_retired.false) refl (search rules) c.turn.ensures.turn refl
