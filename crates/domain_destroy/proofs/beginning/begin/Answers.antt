@@ -27,8 +27,8 @@ returns-then-domain-from-clause-by g c =
 pub returns-then-domain-caller-clause-serves : goal.returns-then-domain-caller-clause-serves
 returns-then-domain-caller-clause-serves g c =
     let v = g.P.Port.value c.args.port.now in
-    let caller = slice_index_or c.as_slice.result.now c.vcpu.result 0 in
-    let mine : caller ≡ own_of v.post = search rules in
+    let caller = c.own_domain-caller.result in
+    let mine = c.own_domain-caller.ensures.own in
     let real : c.args.domain < length v.post.machine.page_limit = subst (λ k. c.args.domain < k) (c.from.ensures ∙ c.domains.ensures.domains ∙ ap (λ (n : Machine). length n.page_limit) c.layout.ensures.layout) c.if-domain-from.false in
     elim c.then-domain-caller.branch [
       | then-domain-caller-via-then-domain-caller w ↦ subst (λ p. ServesDestroy {A = Unit {0}} v (g.P.Port.value p) c.args.domain (Err (Refused (NoPrivilege caller c.args.domain)))) (sym w.port-is) (nothing_serves v c.args.domain _ refl)
@@ -38,8 +38,8 @@ returns-then-domain-caller-clause-serves g c =
 pub returns-then-domain-caller-clause-stops : goal.returns-then-domain-caller-clause-stops
 returns-then-domain-caller-clause-stops g c =
     let v = g.P.Port.value c.args.port.now in
-    let caller = slice_index_or c.as_slice.result.now c.vcpu.result 0 in
-    let mine : caller ≡ own_of v.post = search rules in
+    let caller = c.own_domain-caller.result in
+    let mine = c.own_domain-caller.ensures.own in
     let real : c.args.domain < length v.post.machine.page_limit = subst (λ k. c.args.domain < k) (c.from.ensures ∙ c.domains.ensures.domains ∙ ap (λ (n : Machine). length n.page_limit) c.layout.ensures.layout) c.if-domain-from.false in
     elim c.then-domain-caller.branch [
       | then-domain-caller-via-then-domain-caller w ↦ subst (λ p. StopsDestroyer v (g.P.Port.value p) c.args.domain (Refused (NoPrivilege caller c.args.domain))) (sym w.port-is) (own_stops v c.args.domain caller mine w.if-domain-caller.true)
@@ -49,8 +49,8 @@ returns-then-domain-caller-clause-stops g c =
 pub returns-then-domain-caller-clause-by : goal.returns-then-domain-caller-clause-by
 returns-then-domain-caller-clause-by g c =
     let v = g.P.Port.value c.args.port.now in
-    let caller = slice_index_or c.as_slice.result.now c.vcpu.result 0 in
-    let mine : caller ≡ own_of v.post = search rules in
+    let caller = c.own_domain-caller.result in
+    let mine = c.own_domain-caller.ensures.own in
     let real : c.args.domain < length v.post.machine.page_limit = subst (λ k. c.args.domain < k) (c.from.ensures ∙ c.domains.ensures.domains ∙ ap (λ (n : Machine). length n.page_limit) c.layout.ensures.layout) c.if-domain-from.false in
     elim c.then-domain-caller.branch [
       | then-domain-caller-via-then-domain-caller w ↦ subst (λ p. Begins v (g.P.Port.value p) c.args.domain (Err (Refused (NoPrivilege caller c.args.domain)))) (sym w.port-is) (own_by v c.args.domain caller mine w.if-domain-caller.true)
@@ -61,24 +61,24 @@ returns-then-domain-caller-clause-by g c =
 pub returns-in-Ok-clause-serves : goal.returns-in-Ok-clause-serves
 returns-in-Ok-clause-serves g c =
     let v = g.P.Port.value c.args.port.now in
-    let caller = slice_index_or c.as_slice.result.now c.vcpu.result 0 in
-    let mine : caller ≡ own_of v.post = search rules in
+    let caller = c.own_domain-caller.result in
+    let mine = c.own_domain-caller.ensures.own in
     let real : c.args.domain < length v.post.machine.page_limit = subst (λ k. c.args.domain < k) (c.from.ensures ∙ c.domains.ensures.domains ∙ ap (λ (n : Machine). length n.page_limit) c.layout.ensures.layout) c.if-domain-from.false in
     begun_serves v (g.P.Port.value c.look_privileges.new.port) c.args.domain c.look_privileges.result caller mine real c.if-domain-caller.false c.look_privileges.ensures.moves (g.P.Port.value c.doom.new.port) 0 c.in-Ok.ensures.moves (sym c.has_privilege.ensures ∙ c.if-not-has_privilege.false) refl
 
 pub returns-in-Ok-clause-by : goal.returns-in-Ok-clause-by
 returns-in-Ok-clause-by g c =
     let v = g.P.Port.value c.args.port.now in
-    let caller = slice_index_or c.as_slice.result.now c.vcpu.result 0 in
-    let mine : caller ≡ own_of v.post = search rules in
+    let caller = c.own_domain-caller.result in
+    let mine = c.own_domain-caller.ensures.own in
     let real : c.args.domain < length v.post.machine.page_limit = subst (λ k. c.args.domain < k) (c.from.ensures ∙ c.domains.ensures.domains ∙ ap (λ (n : Machine). length n.page_limit) c.layout.ensures.layout) c.if-domain-from.false in
     begun_by v (g.P.Port.value c.look_privileges.new.port) c.args.domain c.look_privileges.result caller mine real c.if-domain-caller.false c.look_privileges.ensures.moves (g.P.Port.value c.doom.new.port) 0 c.in-Ok.ensures.moves (sym c.has_privilege.ensures ∙ c.if-not-has_privilege.false) refl
 
 pub returns-in-Ok-clause-come : goal.returns-in-Ok-clause-come
 returns-in-Ok-clause-come g c =
     let v = g.P.Port.value c.args.port.now in
-    let caller = slice_index_or c.as_slice.result.now c.vcpu.result 0 in
-    let mine : caller ≡ own_of v.post = search rules in
+    let caller = c.own_domain-caller.result in
+    let mine = c.own_domain-caller.ensures.own in
     let real : c.args.domain < length v.post.machine.page_limit = subst (λ k. c.args.domain < k) (c.from.ensures ∙ c.domains.ensures.domains ∙ ap (λ (n : Machine). length n.page_limit) c.layout.ensures.layout) c.if-domain-from.false in
     begun_come v (g.P.Port.value c.look_privileges.new.port) c.args.domain c.look_privileges.result caller mine real c.if-domain-caller.false c.look_privileges.ensures.moves (g.P.Port.value c.doom.new.port) 0 c.in-Ok.ensures.moves (sym c.has_privilege.ensures ∙ c.if-not-has_privilege.false) refl
 
@@ -86,23 +86,23 @@ returns-in-Ok-clause-come g c =
 pub returns-in-Err-clause-serves : goal.returns-in-Err-clause-serves
 returns-in-Err-clause-serves g c =
     let v = g.P.Port.value c.args.port.now in
-    let caller = slice_index_or c.as_slice.result.now c.vcpu.result 0 in
-    let mine : caller ≡ own_of v.post = search rules in
+    let caller = c.own_domain-caller.result in
+    let mine = c.own_domain-caller.ensures.own in
     let real : c.args.domain < length v.post.machine.page_limit = subst (λ k. c.args.domain < k) (c.from.ensures ∙ c.domains.ensures.domains ∙ ap (λ (n : Machine). length n.page_limit) c.layout.ensures.layout) c.if-domain-from.false in
     dying_serves v (g.P.Port.value c.look_privileges.new.port) c.args.domain c.look_privileges.result caller mine real c.if-domain-caller.false c.look_privileges.ensures.moves (g.P.Port.value c.doom.new.port) c.in-Err.found c.in-Err.ensures.moves (sym c.has_privilege.ensures ∙ c.if-not-has_privilege.false) c.in-Err.ensures.lost
 
 pub returns-in-Err-clause-stops : goal.returns-in-Err-clause-stops
 returns-in-Err-clause-stops g c =
     let v = g.P.Port.value c.args.port.now in
-    let caller = slice_index_or c.as_slice.result.now c.vcpu.result 0 in
-    let mine : caller ≡ own_of v.post = search rules in
+    let caller = c.own_domain-caller.result in
+    let mine = c.own_domain-caller.ensures.own in
     let real : c.args.domain < length v.post.machine.page_limit = subst (λ k. c.args.domain < k) (c.from.ensures ∙ c.domains.ensures.domains ∙ ap (λ (n : Machine). length n.page_limit) c.layout.ensures.layout) c.if-domain-from.false in
     dying_stops v (g.P.Port.value c.look_privileges.new.port) c.args.domain c.look_privileges.result caller mine real c.if-domain-caller.false c.look_privileges.ensures.moves (g.P.Port.value c.doom.new.port) c.in-Err.found c.in-Err.ensures.moves (sym c.has_privilege.ensures ∙ c.if-not-has_privilege.false) c.in-Err.ensures.lost
 
 pub returns-in-Err-clause-by : goal.returns-in-Err-clause-by
 returns-in-Err-clause-by g c =
     let v = g.P.Port.value c.args.port.now in
-    let caller = slice_index_or c.as_slice.result.now c.vcpu.result 0 in
-    let mine : caller ≡ own_of v.post = search rules in
+    let caller = c.own_domain-caller.result in
+    let mine = c.own_domain-caller.ensures.own in
     let real : c.args.domain < length v.post.machine.page_limit = subst (λ k. c.args.domain < k) (c.from.ensures ∙ c.domains.ensures.domains ∙ ap (λ (n : Machine). length n.page_limit) c.layout.ensures.layout) c.if-domain-from.false in
     dying_by v (g.P.Port.value c.look_privileges.new.port) c.args.domain c.look_privileges.result caller mine real c.if-domain-caller.false c.look_privileges.ensures.moves (g.P.Port.value c.doom.new.port) c.in-Err.found c.in-Err.ensures.moves (sym c.has_privilege.ensures ∙ c.if-not-has_privilege.false) c.in-Err.ensures.lost

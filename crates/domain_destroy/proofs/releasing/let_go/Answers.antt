@@ -6,8 +6,8 @@ use Rattle.domain_destroy.proofs.releasing.let_go.Goals as goal
 pub put_old-requires-clause-held : goal.put_old-requires-clause-held
 put_old-requires-clause-held g c = one_held c.requires.holds
 
-pub settle-requires-clause-rests : goal.settle-requires-clause-rests
-settle-requires-clause-rests g c = put_rests c.requires.holds (g.P.Port.value c.put_old.new.port) c.put_old.ensures.hand
+pub settle-requires : goal.settle-requires
+settle-requires g c = record { rests = put_rests c.requires.holds (g.P.Port.value c.put_old.new.port) c.put_old.ensures.hand }
 
 pub returns-clause-serves : goal.returns-clause-serves
 returns-clause-serves g c =
