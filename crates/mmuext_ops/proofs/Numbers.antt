@@ -1,14 +1,12 @@
 -- An element that its numbers alone refuse.
-use Rattle.std.proofs.Common.{ℕ, Bool, [], Option, Err, refl}
+use Rattle.std.proofs.Common.{ℕ, [], Option, Err, refl}
 use Rattle.xp_words.specs.declared.reply.Refusal.TheVariants.{BadCommand}
 use Rattle.xp_words.specs.declared.reply.Stop.TheVariants.{Refused}
 use Rattle.xp_board.specs.Told.{PortValue}
 use Rattle.step_maker.specs.Answers.{Stops}
 use Rattle.step_maker.proofs.Piecing.{serves_nothing}
-use Rattle.mmuext_ops.specs.Course.{PerformsBy}
 use Rattle.mmuext_ops.specs.Elements.{ServesElement, ext_request, told}
 use Rattle.mmuext_ops.specs.declared.element.Element.TheVariants.{Unknown}
-use Rattle.mmuext_ops.proofs.Rests.{ungated}
 
 module _ (v : PortValue) (d : ℕ) (awaited : Option ℕ) where
   pub unknown_serves : ServesElement v v d Unknown awaited (Err (Refused BadCommand))
@@ -17,6 +15,3 @@ module _ (v : PortValue) (d : ℕ) (awaited : Option ℕ) where
   pub unknown_stops : Stops v v (ext_request v.post.machine v.post.vcpu d Unknown awaited (Err (Refused BadCommand))) (Refused BadCommand)
   unfolding Stops
   unknown_stops = refl
-
-  pub unknown_course : (says : ℕ → Bool) (asks agreed : ℕ) → PerformsBy v v d Unknown awaited says asks asks agreed agreed (Err (Refused BadCommand))
-  unknown_course says asks agreed = ungated v v d Unknown awaited (Err (Refused BadCommand)) says asks agreed (refl, refl, refl) refl

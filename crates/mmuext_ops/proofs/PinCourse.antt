@@ -1,10 +1,11 @@
 -- A pin: its ways out, one lemma each.
-use Rattle.std.proofs.Common.{◌≡◌, ℕ, Bool, true, false, [], None, Result, Ok, Err, IfErr, refl, sym, ap, ◌∙◌, subst, inl, rules}
+use Rattle.std.proofs.Common.{◌≡◌, ℕ, true, false, [], None, Result, Ok, Err, IfErr, refl, ap, ◌∙◌, subst, inl, rules}
 use Rattle.xp_words.specs.declared.kind.KindWord.{KindWord}
 use Rattle.xp_words.specs.declared.reply.Refusal.TheVariants.{AlreadyPinned}
 use Rattle.xp_words.specs.declared.reply.Stop.{Stop}
 use Rattle.xp_words.specs.declared.reply.Stop.TheVariants.{Paused, Refused}
-use Rattle.xp_preempt.proofs.Consulting.{consulted_none, not_due}
+use Rattle.xp_preempt.specs.Gates.{Gate}
+use Rattle.xp_preempt.proofs.Consulting.{gated_as, gated_past, past_none}
 use Rattle.xp_board.specs.Told.{PortValue}
 use Rattle.step_maker.specs.Holds.{Rests, Same, quiet}
 use Rattle.step_maker.specs.Answers.{Serves, Stops, missed}
@@ -18,7 +19,7 @@ use Rattle.table_entries.proofs.Ending.{reference_undue}
 use Rattle.mmuext_ops.specs.Course.{IsPinnedAs, PinEnds}
 use Rattle.mmuext_ops.specs.Course as course
 use Rattle.mmuext_ops.specs.declared.element.Element.TheVariants.{Pin}
-use Rattle.level_release.specs.Asking.{is_due_answer, is_due_stop}
+use Rattle.level_release.specs.Asking.{is_due_stop}
 use Rattle.mmuext_ops.specs.Elements.{IsPinStop, LeavesElement, of_pin, told}
 use Rattle.mmuext_ops.specs.Holding.{HoldsTable, IsPinEnd, MeetsElement, PinsLive}
 use Rattle.mmuext_ops.proofs.Looked.{GivenBack, Looked, came_back, fields, gave_ref, given_back, look_there, not_referred, put_back, referred}
@@ -40,10 +41,10 @@ none_left : (v w : PortValue) (f level : ℕ) (e : Stop) → Same v w → Leaves
 none_left v w f level (Refused x) same = inl (ap quiet same)
 none_left v w f level (Paused x) same = ap quiet same
 
-module _ {v w : PortValue} {d f level : ℕ} {says : ℕ → Bool} {asked agreed : ℕ} (rests : Rests v) where
+module _ {v w : PortValue} {d f level : ℕ} {gate : Gate} (rests : Rests v) where
   -- its reference is not to be had
   pub unreferred : {answer : Result (Unit {0}) Stop} {stop : Stop} → answer ≡ Err stop → Serves v w (of_frame f d None) (missed v.post.machine stop) → IsRefStop stop → Same v w → GotRef v w f d (Err stop) →
-      MeetsElement v w d (Pin f level) None says asked asked agreed agreed answer
+      MeetsElement v w d (Pin f level) None gate gate answer
   unreferred {stop} is serves kind same got =
       let left = none_left v w f level stop same in
       rw is
@@ -53,11 +54,11 @@ module _ {v w : PortValue} {d f level : ℕ} {says : ℕ → Bool} {asked agreed
         kinds = ref_stop stop kind;
         hand = left;
         rests = rests_pinned v w f level (Err stop) rests left;
-        course = record { answers = []; course = course.unreferred stop got; gate = consulted_none says asked agreed; due = not_due (is_due_stop stop) [] (reference_undue stop kind) };
+        course = past_none (reference_undue stop kind) (course.unreferred stop got);
       })
 
   -- it is pinned already
-  pub seen : {a b : PortValue} {g x : ℕ} {k : KindWord} → Looked v a b f d g x k → GivenBack b w g → k.pinned ≡ true → k.kind ≡ level_type level → MeetsElement v w d (Pin f level) None says asked asked agreed agreed (Err (Refused (AlreadyPinned x)))
+  pub seen : {a b : PortValue} {g x : ℕ} {k : KindWord} → Looked v a b f d g x k → GivenBack b w g → k.pinned ≡ true → k.kind ≡ level_type level → MeetsElement v w d (Pin f level) None gate gate (Err (Refused (AlreadyPinned x)))
   seen {a} {b} {x} saw back on kind =
       let left = none_left v w f level (Refused (AlreadyPinned x)) (given_back saw back) in
       let typed : IsPinnedAs level x = (ap (λ (y : KindWord). y.pinned) (fields saw) ∙ on, ap (λ (y : KindWord). y.kind) (fields saw) ∙ kind) in
@@ -67,14 +68,14 @@ module _ {v w : PortValue} {d f level : ℕ} {says : ℕ → Bool} {asked agreed
         kinds = tt;
         hand = left;
         rests = rests_pinned v w f level (Err (Refused (AlreadyPinned x))) rests left;
-        course = record { answers = []; course = course.pinned_before a b x saw.got (look_there saw) (gave_ref saw back) typed; gate = consulted_none says asked agreed; due = not_due false [] refl };
+        course = past_none refl (course.pinned_before a b x saw.got (look_there saw) (gave_ref saw back) typed);
       }
 
 module _ {v a b : PortValue} {d f g x : ℕ} {k : KindWord} (rests : Rests v) (saw : Looked v a b f d g x k) (p : PortValue) (back : GivenBack b p g) (own : d ≡ own_domain v) where
-  module _ {level : ℕ} {says : ℕ → Bool} {before after agreed agrees : ℕ} (other : IsPinnedAs level x → ⊥) where
+  module _ {level : ℕ} {before after : Gate} (other : IsPinnedAs level x → ⊥) where
     -- it is not acquired
     pub refused : {e : PortValue} {answer : Result (Unit {0}) Stop} {stop : Stop} → answer ≡ Err stop → ServesAcquired p e f d level d (Err stop) → Stops p e (of_acquire {A = ℕ} p f d level d (Err stop)) stop → IsAcquireStop stop →
-        LeavesAcquired p e f d level (Err stop) → AcquiresBy p e f d level says before after agreed agrees (Err stop) → MeetsElement v e d (Pin f level) None says before after agreed agrees answer
+        LeavesAcquired p e f d level (Err stop) → AcquiresBy p e f d level before after (Err stop) → MeetsElement v e d (Pin f level) None before after answer
     refused {e} {stop} is serves stops kind hand by =
         let same = given_back saw back in
         let left = unacquired_hand v p e f d level same own stop hand in
@@ -86,12 +87,12 @@ module _ {v a b : PortValue} {d f g x : ℕ} {k : KindWord} (rests : Rests v) (s
           kinds = acquire_stop stop kind;
           hand = left;
           rests = rests_pinned v e f level (Err stop) rests left;
-          course = record { answers = by.answers; course = course.refused a b p x by.answers stop saw.got (look_there saw) (gave_ref saw back) other by.course; gate = by.gate; due = λ on. sym by.due ∙ on };
+          course = gated_past (gated_as refl (λ answers. course.refused a b p x answers stop saw.got (look_there saw) (gave_ref saw back) other) by);
         })
 
     -- it is live
-    pub live : {e w : PortValue} {h : ℕ} {answer : Result (Unit {0}) Stop} → h ≡ f → ServesAcquired p e f d level d (Ok h) → LeavesAcquired p e f d level (Ok h) → AcquiresBy p e f d level says before after agreed agrees (Ok h) →
-        PinsLive e w h level answer → MeetsElement v w d (Pin f level) None says before after agreed agrees answer
+    pub live : {e w : PortValue} {h : ℕ} {answer : Result (Unit {0}) Stop} → h ≡ f → ServesAcquired p e f d level d (Ok h) → LeavesAcquired p e f d level (Ok h) → AcquiresBy p e f d level before after (Ok h) →
+        PinsLive e w h level answer → MeetsElement v w d (Pin f level) None before after answer
     live {e} {w} {h} {answer} at serves hand by ends =
         let served = acquired_serves v f d level false p (put_back saw (of_pin d f level false) (asks v f d level false) back) e (Ok h) (λ due. due) own serves in
         let left = live_hand v p e f d level (given_back saw back) h at rests hand w answer ends.hand in
@@ -101,12 +102,10 @@ module _ {v a b : PortValue} {d f g x : ℕ} {k : KindWord} (rests : Rests v) (s
           kinds = pin_stop answer ends.kinds;
           hand = left;
           rests = rests_pinned v w f level answer rests left;
-          course = record {
-            answers = by.answers;
-            course = course.acquired a b p e x by.answers answer saw.got (look_there saw) (gave_ref saw back) other (subst (λ j. Acquired p f d level e by.answers (Ok j)) at by.course) (subst (λ j. PinEnds e w j level answer) at ends.course);
-            gate = by.gate;
-            due = not_due (is_due_answer answer) by.answers (pin_undue answer ends.kinds);
-          };
+          course = gated_past
+              (gated_as (pin_undue answer ends.kinds)
+              (λ answers taken.
+              course.acquired a b p e x answers answer saw.got (look_there saw) (gave_ref saw back) other (subst (λ j. Acquired p f d level e answers (Ok j)) at taken) (subst (λ j. PinEnds e w j level answer) at ends.course)) by);
         }
 
   pub holds : {e : PortValue} {level h : ℕ} → LeavesAcquired p e f d level (Ok h) → HoldsTable e h level

@@ -1,19 +1,16 @@
--- Nothing is in hand behind an element, whatever the first old word names; and an element that asks its gate nothing.
-use Rattle.std.proofs.Common.{◌≡◌, ℕ, Bool, false, [], Option, None, Result, Ok, Err, IfErr, refl, sym, ap, ◌∙◌, subst, inl, inr}
+-- Nothing is in hand behind an element, whatever the first old word names; and answers that are no pause for the gate.
+use Rattle.std.proofs.Common.{◌≡◌, ℕ, false, Option, Result, Ok, Err, IfErr, refl, inl, inr}
 use Rattle.xp_words.specs.declared.reply.Pause.TheVariants as pauses
 use Rattle.xp_words.specs.declared.reply.Stop.{Stop}
 use Rattle.xp_words.specs.declared.reply.Stop.TheVariants.{Paused, Refused}
 use Rattle.xp_board.specs.Told.{PortValue}
-use Rattle.xp_preempt.proofs.Consulting.{consulted_none}
 use Rattle.step_maker.specs.Holds.{FlushedHolds, Rests}
 use Rattle.step_maker.proofs.Resting as resting
 use Rattle.step_maker.proofs.Resting.{still_rests}
 use Rattle.level_release.specs.Asking.{is_due_answer}
 use Rattle.flush_waits.specs.Waiting.{IsWait}
 use Rattle.table_bases.specs.Asking.{IsSpentStop}
-use Rattle.mmuext_ops.specs.Course.{Performed, PerformsBy}
 use Rattle.mmuext_ops.specs.Elements.{LeavesElement}
-use Rattle.mmuext_ops.specs.declared.element.Element.{Element}
 use Rattle.mmuext_ops.specs.declared.element.Element.TheVariants.{Pin, Unpin}
 
 -- ---- the hand
@@ -32,10 +29,6 @@ rests_unpinned v w f (Ok done) rests (inr leaves) = rests_by v w _ rests leaves
 rests_unpinned v w f (Err e) rests leaves = still_rests v w rests leaves
 
 -- ---- the gate
-pub ungated : (v w : PortValue) (d : ℕ) (e : Element) (awaited : Option ℕ) (answer : Result (Unit {0}) Stop) (says : ℕ → Bool) (asks agreed : ℕ) → Performed v w d e awaited [] answer → is_due_answer answer ≡ false →
-    PerformsBy v w d e awaited says asks asks agreed agreed answer
-ungated v w d e awaited answer says asks agreed course undue = record { answers = []; course = course; gate = consulted_none says asks agreed; due = λ due. absurd cc }
-
 pub spent_undue : (answer : Result (Unit {0}) Stop) → IfErr answer IsSpentStop → is_due_answer answer ≡ false
 spent_undue (Ok done) is = refl
 spent_undue (Err (Refused x)) is = refl

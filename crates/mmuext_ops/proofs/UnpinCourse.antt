@@ -1,5 +1,5 @@
 -- An unpin: its ways out, one lemma each.
-use Rattle.std.proofs.Common.{◌≡◌, ◌≢◌, ℕ, Bool, true, false, [], Some, None, Result, Ok, Err, IfErr, refl, sym, ap, ◌∙◌, subst, rules}
+use Rattle.std.proofs.Common.{◌≡◌, ◌≢◌, ℕ, true, false, [], Some, None, Result, Ok, Err, IfErr, refl, sym, ap, ◌∙◌, subst, rules}
 use Rattle.xp_words.specs.KindWords.{kind_read, kind_write}
 use Rattle.xp_words.specs.Places.{number, sizes_of}
 use Rattle.xp_words.specs.declared.kind.KindWord.{KindWord}
@@ -23,11 +23,11 @@ use Rattle.frame_words.specs.Refs.{IsRefStop}
 use Rattle.kind_words.specs.Kinds.{looked_at}
 use Rattle.table_words.specs.Pins.{took_pin, unpinned_kind}
 use Rattle.table_entries.specs.Acquiring.{GaveRef, GotRef}
-use Rattle.level_release.specs.Asking.{is_due_stop, of_release}
+use Rattle.level_release.specs.Asking.{of_release}
 use Rattle.level_release.specs.Course.{ReleasesFrameBy, WasReleased}
 use Rattle.level_release.specs.Holding.{HoldsLive, LeavesUnheld}
 use Rattle.table_entries.proofs.Ending.{reference_undue}
-use Rattle.mmuext_ops.specs.Course.{TakesPinOff, Unpinned, UnpinsBy, is_pinned}
+use Rattle.mmuext_ops.specs.Course.{TakesPinOff, is_pinned}
 use Rattle.mmuext_ops.specs.Course as course
 use Rattle.mmuext_ops.specs.declared.element.Element.TheVariants.{Unpin}
 use Rattle.mmuext_ops.specs.Elements.{IsUnpinStop, told}
@@ -38,19 +38,16 @@ use Rattle.mmuext_ops.proofs.Released.{holds_live, lost_hand, released_hand, rel
 use Rattle.mmuext_ops.proofs.Rests.{rests_unpinned}
 use Rattle.mmuext_ops.proofs.Within.{of_unpin}
 use Rattle.mmuext_ops.proofs.Unpinned.{asks, before_stops, lost_serves, lost_why, raced_serves, raced_stops, stop_is, takes_off, unpinned_serves}
-use Rattle.xp_preempt.proofs.Consulting.{consulted_none, not_due}
+use Rattle.xp_preempt.specs.Gates.{Gate}
+use Rattle.xp_preempt.proofs.Consulting.{gated_past, past_as, past_none}
 
 ref_stop : (e : Stop) → IsRefStop e → IsUnpinStop e
 ref_stop e is = search rules
 
--- the gate is asked nothing
-unasked : (v w : PortValue) (d f : ℕ) (says : ℕ → Bool) (asked agreed : ℕ) (stop : Stop) → is_due_stop stop ≡ false → Unpinned v w d f [] (Err stop) → UnpinsBy v w d f says asked asked agreed agreed (Err stop)
-unasked v w d f says asked agreed stop undue by = record { answers = []; course = by; gate = consulted_none says asked agreed; due = not_due (is_due_stop stop) [] undue }
-
-module _ {v w : PortValue} {d f : ℕ} {says : ℕ → Bool} {asked agreed : ℕ} (rests : Rests v) where
+module _ {v w : PortValue} {d f : ℕ} {gate : Gate} (rests : Rests v) where
   -- its reference is not to be had
   pub unreferred : {answer : Result (Unit {0}) Stop} {stop : Stop} → answer ≡ Err stop → Serves v w (of_frame f d None) (missed v.post.machine stop) → IsRefStop stop → Same v w → GotRef v w f d (Err stop) →
-      MeetsElement v w d (Unpin f) None says asked asked agreed agreed answer
+      MeetsElement v w d (Unpin f) None gate gate answer
   unreferred {stop} is serves kind same got =
       rw is
       (record {
@@ -59,11 +56,11 @@ module _ {v w : PortValue} {d f : ℕ} {says : ℕ → Bool} {asked agreed : ℕ
         kinds = ref_stop stop kind;
         hand = ap quiet same;
         rests = still_rests v w rests (ap quiet same);
-        course = unasked v w d f says asked agreed stop (reference_undue stop kind) (course.unreferred stop got);
+        course = past_none (reference_undue stop kind) (course.unreferred stop got);
       })
 
   -- it is not pinned
-  pub seen : {a b : PortValue} {g x : ℕ} {k : KindWord} → Looked v a b f d g x k → GivenBack b w g → k.pinned ≡ false → MeetsElement v w d (Unpin f) None says asked asked agreed agreed (Err (Refused (NotPinned x)))
+  pub seen : {a b : PortValue} {g x : ℕ} {k : KindWord} → Looked v a b f d g x k → GivenBack b w g → k.pinned ≡ false → MeetsElement v w d (Unpin f) None gate gate (Err (Refused (NotPinned x)))
   seen {a} {b} {x} saw back off =
       let left : FlushedSame v w = ap quiet (given_back saw back) in
       record {
@@ -72,7 +69,7 @@ module _ {v w : PortValue} {d f : ℕ} {says : ℕ → Bool} {asked agreed : ℕ
         kinds = tt;
         hand = left;
         rests = still_rests v w rests left;
-        course = unasked v w d f says asked agreed (Refused (NotPinned x)) refl (course.unpinned_before a b x saw.got (look_there saw) (ap (λ (y : KindWord). y.pinned) (fields saw) ∙ off) (look.gave_ref saw back));
+        course = past_none refl (course.unpinned_before a b x saw.got (look_there saw) (ap (λ (y : KindWord). y.pinned) (fields saw) ∙ off) (look.gave_ref saw back));
       }
 
 -- ---- it is: the exchange
@@ -88,8 +85,8 @@ module _ {v a b : PortValue} {d f g x : ℕ} {k : KindWord} (rests : Rests v) (s
     pub holds : HoldsLive r g k.kind
     holds = holds_live v a b q r d g rests saw.taken saw.same k pins back.hand (came_trans b q r (moves_came b q _ _ _ _ _ try) (serves_came q r (of_back g) [] back.serves))
 
-    pub released : {w : PortValue} {answer : Result (Unit {0}) Stop} {says : ℕ → Bool} {before after agreed agrees : ℕ} → Serves r w (of_release g d d answer) (misses r.post.machine answer) → IfErr answer (λ e. e ≡ Paused Due) → LeavesUnheld r w g answer →
-        ReleasesFrameBy r w g k.kind says before after agreed agrees answer → MeetsElement v w d (Unpin f) None says before after agreed agrees (Ok tt)
+    pub released : {w : PortValue} {answer : Result (Unit {0}) Stop} {before after : Gate} → Serves r w (of_release g d d answer) (misses r.post.machine answer) → IfErr answer (λ e. e ≡ Paused Due) → LeavesUnheld r w g answer →
+        ReleasesFrameBy r w g k.kind before after answer → MeetsElement v w d (Unpin f) None before after (Ok tt)
     released {w} {answer} serves due leaves by =
         let left = released_hand v a b q r d g rests saw.taken saw.same k pins back.hand w f saw.at answer leaves in
         record {
@@ -98,13 +95,10 @@ module _ {v a b : PortValue} {d f g x : ℕ} {k : KindWord} (rests : Rests v) (s
           kinds = tt;
           hand = left;
           rests = rests_unpinned v w f (Ok tt) rests left;
-          course = record {
-            answers = by.answers;
-            course = course.released a b q r x by.answers answer saw.got (look_there saw) on_x (subst (λ y. TakesPinOff b q f x y) (same_word ∙ written saw) (takes_off saw try)) (gave_ref r back)
-                (subst (λ t. WasReleased r f t w by.answers answer) (sym (ap (λ (y : KindWord). y.kind) (fields saw))) (subst (λ j. WasReleased r j k.kind w by.answers answer) saw.at by.course)) due;
-            gate = by.gate;
-            due = not_due false by.answers refl;
-          };
+          course = past_as (λ on. absurd cc)
+              (λ answers was.
+              course.released a b q r x answers answer saw.got (look_there saw) on_x (subst (λ y. TakesPinOff b q f x y) (same_word ∙ written saw) (takes_off saw try)) (gave_ref r back)
+              (subst (λ t. WasReleased r f t w answers answer) (sym (ap (λ (y : KindWord). y.kind) (fields saw))) (subst (λ j. WasReleased r j k.kind w answers answer) saw.at was)) due) (gated_past by);
         }
 
   -- it found another word
@@ -116,21 +110,21 @@ module _ {v a b : PortValue} {d f g x : ℕ} {k : KindWord} (rests : Rests v) (s
     left = ap quiet (lost_hand v a b q r d g rests saw.taken saw.same found looks back.hand)
 
     -- which is not pinned
-    pub raced : {says : ℕ → Bool} {asked agreed : ℕ} → j.pinned ≡ false → MeetsElement v r d (Unpin f) None says asked asked agreed agreed (Err (Refused (NotPinned found)))
-    raced {says} {asked} {agreed} off =
+    pub raced : {gate : Gate} → j.pinned ≡ false → MeetsElement v r d (Unpin f) None gate gate (Err (Refused (NotPinned found)))
+    raced off =
         record {
           serves = raced_serves saw try on other r back.serves;
           stops = raced_stops saw try on other r back.serves j read_now off;
           kinds = tt;
           hand = left;
           rests = still_rests v r rests left;
-          course = unasked v r d f says asked agreed (Refused (NotPinned found)) refl
+          course = past_none refl
               (course.raced a b q x found saw.got (look_there saw) on_x (takes_off saw try) other (ap (λ (y : KindWord). y.pinned) (fields_of found j read_now) ∙ off) (gave_ref r back));
         }
 
     -- which is
-    pub lost : {stop : Stop} {says : ℕ → Bool} {asked agreed : ℕ} → stop ≡ Paused (Lost (number (sizes_of r.post.machine) (Kind g)) x found) → j.pinned ≡ true → MeetsElement v r d (Unpin f) None says asked asked agreed agreed (Err stop)
-    lost {stop} {says} {asked} {agreed} is still =
+    pub lost : {stop : Stop} {gate : Gate} → stop ≡ Paused (Lost (number (sizes_of r.post.machine) (Kind g)) x found) → j.pinned ≡ true → MeetsElement v r d (Unpin f) None gate gate (Err stop)
+    lost {stop} is still =
         let why = stop_is saw try on other r back.serves stop is in
         record {
           serves = lost_serves saw try on other r back.serves stop is;
@@ -139,6 +133,6 @@ module _ {v a b : PortValue} {d f g x : ℕ} {k : KindWord} (rests : Rests v) (s
           hand = left;
           rests = still_rests v r rests left;
           course = rw why
-              (unasked v r d f says asked agreed (Paused (Lost (number (sizes_of v.post.machine) (Kind f)) x found)) refl
+              (past_none refl
               (course.lost a b q x found saw.got (look_there saw) on_x (takes_off saw try) other (ap (λ (y : KindWord). y.pinned) (fields_of found j read_now) ∙ still) (gave_ref r back)));
         }

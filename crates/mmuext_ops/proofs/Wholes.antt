@@ -1,5 +1,5 @@
 -- The LDT set, and pages cleared and copied, as elements.
-use Rattle.std.proofs.Common.{◌≡◌, ℕ, Bool, false, List, length, Option, Result, Ok, Err, IfErr, refl}
+use Rattle.std.proofs.Common.{◌≡◌, ℕ, false, List, length, Option, Result, Ok, Err, IfErr, refl}
 use Rattle.xp_words.specs.declared.reply.Pause.TheVariants as pauses
 use Rattle.xp_words.specs.declared.reply.Stop.{Stop}
 use Rattle.xp_words.specs.declared.reply.Stop.TheVariants.{Refused, Paused}
@@ -9,18 +9,16 @@ use Rattle.level_validate.specs.Unwinding.{own_domain}
 use Rattle.desc_pages.specs.Ldt.{IsLdtStop, LdtSet}
 use Rattle.whole_pages.specs.Whole as whole
 use Rattle.whole_pages.specs.Whole.{IsWholeStop, PageCleared, PageCopied}
-use Rattle.mmuext_ops.specs.Course.{PerformsBy}
 use Rattle.mmuext_ops.specs.Elements.{ServesElement, StopsElement, copied, told}
 use Rattle.mmuext_ops.specs.declared.element.Element.TheVariants.{ClearPage, CopyPage, SetLdt}
-use Rattle.mmuext_ops.proofs.Rests.{ungated}
 
 -- ---- none asks the gate
-ldt_undue : (answer : Result (Unit {0}) Stop) → IfErr answer IsLdtStop → is_due_answer answer ≡ false
+pub ldt_undue : (answer : Result (Unit {0}) Stop) → IfErr answer IsLdtStop → is_due_answer answer ≡ false
 ldt_undue (Ok done) is = refl
 ldt_undue (Err (Refused x)) is = refl
 ldt_undue (Err (Paused x)) is = absurd is
 
-whole_undue : (answer : Result (Unit {0}) Stop) → IfErr answer IsWholeStop → is_due_answer answer ≡ false
+pub whole_undue : (answer : Result (Unit {0}) Stop) → IfErr answer IsWholeStop → is_due_answer answer ≡ false
 whole_undue (Ok done) is = refl
 whole_undue (Err (Refused x)) is = refl
 whole_undue (Err (Paused pauses.Due)) is = absurd is
@@ -39,16 +37,10 @@ module _ {v w : PortValue} {d : ℕ} (awaited : Option ℕ) where
     ldt_stops (Ok done) own set = tt
     ldt_stops (Err e) own set = rw own set.stops
 
-    pub ldt_course : (answer : Result (Unit {0}) Stop) → d ≡ own_domain v → LdtSet v w address entries answer → (says : ℕ → Bool) (asks agreed : ℕ) → PerformsBy v w d (SetLdt address entries) awaited says asks asks agreed agreed answer
-    ldt_course answer own set says asks agreed = ungated v w d (SetLdt address entries) awaited answer says asks agreed (refl, set.course) (ldt_undue answer set.kinds)
-
   module _ {f : ℕ} where
     pub clear_serves : (answer : Result (Unit {0}) Stop) → PageCleared v w d f answer → ServesElement v w d (ClearPage f) awaited answer
     clear_serves (Ok done) a = (_, told _ _ tt, a.serves)
     clear_serves (Err e) a = (_, told _ _ tt, a.serves)
-
-    pub clear_course : (answer : Result (Unit {0}) Stop) → PageCleared v w d f answer → (says : ℕ → Bool) (asks agreed : ℕ) → PerformsBy v w d (ClearPage f) awaited says asks asks agreed agreed answer
-    clear_course answer a says asks agreed = ungated v w d (ClearPage f) awaited answer says asks agreed (refl, a.course) (whole_undue answer a.kinds)
 
   module _ {to from : ℕ} where
     whole_words : {words : List ℕ} → whole.CopiesPage v d to from words w (Ok tt) → length words ≡ 512
@@ -57,6 +49,3 @@ module _ {v w : PortValue} {d : ℕ} (awaited : Option ℕ) where
     pub copy_serves : (answer : Result (Unit {0}) Stop) → PageCopied v w d to from answer → ServesElement v w d (CopyPage to from) awaited answer
     copy_serves (Ok done) a = (_, copied to from a.words (whole_words a.course), a.serves)
     copy_serves (Err e) a = (_, told _ _ tt, a.serves)
-
-    pub copy_course : (answer : Result (Unit {0}) Stop) → PageCopied v w d to from answer → (says : ℕ → Bool) (asks agreed : ℕ) → PerformsBy v w d (CopyPage to from) awaited says asks asks agreed agreed answer
-    copy_course answer a says asks agreed = ungated v w d (CopyPage to from) awaited answer says asks agreed (refl, (a.words, a.course)) (whole_undue answer a.kinds)

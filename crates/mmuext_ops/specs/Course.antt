@@ -120,12 +120,6 @@ pub record WaitedForVcpus (v w : PortValue) (mask : ℕ) (awaited : Option ℕ) 
   pub clear : IfOk answer (λ done. AreClear looked w (meant v.post.machine v.post.vcpu mask) (stamp_for awaited clock))
 
 -- ---- with a gate
-abbrev pub PinsBy : PortValue → PortValue → ℕ → ℕ → ℕ → Gate → Gate → Result (Unit {0}) Stop → Type 0
-PinsBy v w d f level g h answer = GatedPast g h (is_due_answer answer) (λ answers. Pinned v w d f level answers answer)
-
-abbrev pub UnpinsBy : PortValue → PortValue → ℕ → ℕ → Gate → Gate → Result (Unit {0}) Stop → Type 0
-UnpinsBy v w d f g h answer = GatedPast g h (is_due_answer answer) (λ answers. Unpinned v w d f answers answer)
-
 -- one that its numbers refuse makes no step and asks nothing
 abbrev pub Performed : PortValue → PortValue → ℕ → Element → Option ℕ → List Bool → Result (Unit {0}) Stop → Type 0
 Performed v w d (Pin f level) awaited answers answer = Pinned v w d f level answers answer

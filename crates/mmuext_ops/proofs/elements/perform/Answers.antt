@@ -1,10 +1,10 @@
-use Rattle.std.proofs.Common.{Some, Ok, refl, sym, ◌∙◌}
+use Rattle.std.proofs.Common.{Some, refl, sym, ◌∙◌}
+use Rattle.xp_preempt.proofs.Consulting.{past_none}
 use Rattle.table_bases.specs.Asking.{user_frame}
-use Rattle.mmuext_ops.specs.declared.element.Element.TheVariants.{FlushLocal, FlushVcpus, Invalidate}
-use Rattle.mmuext_ops.proofs.Numbers.{unknown_course, unknown_serves, unknown_stops}
-use Rattle.mmuext_ops.proofs.Rests.{spent_undue, ungated, wait_undue}
+use Rattle.mmuext_ops.proofs.Numbers.{unknown_serves, unknown_stops}
+use Rattle.mmuext_ops.proofs.Rests.{spent_undue, wait_undue}
 use Rattle.mmuext_ops.proofs.Setting.{base_stops, kernel_serves, user_serves}
-use Rattle.mmuext_ops.proofs.Wholes.{clear_course, clear_serves, copy_course, copy_serves, ldt_course, ldt_serves, ldt_stops}
+use Rattle.mmuext_ops.proofs.Wholes.{clear_serves, copy_serves, ldt_serves, ldt_stops, ldt_undue, whole_undue}
 use Rattle.mmuext_ops.proofs.elements.perform.Goals as goal
 
 -- ---- a new base
@@ -36,17 +36,13 @@ pub returns-in-FlushLocal-clause-stops : goal.returns-in-FlushLocal-clause-stops
 returns-in-FlushLocal-clause-stops g c = rw (sym c.element_of.ensures ∙ c.in-FlushLocal.is) (c.flush_local.ensures.stops c.args.domain)
 
 pub returns-in-FlushLocal-clause-course : goal.returns-in-FlushLocal-clause-course
-returns-in-FlushLocal-clause-course g c =
-    rw (sym c.element_of.ensures ∙ c.in-FlushLocal.is)
-    (ungated (g.P.Port.value c.args.port.now) (g.P.Port.value c.flush_local.new.port) c.args.domain FlushLocal c.args.awaited c.flush_local.result _ _ _ c.flush_local.ensures.course (spent_undue c.flush_local.result c.flush_local.ensures.kinds))
+returns-in-FlushLocal-clause-course g c = rw (sym c.element_of.ensures ∙ c.in-FlushLocal.is) (past_none (spent_undue c.flush_local.result c.flush_local.ensures.kinds) c.flush_local.ensures.course)
 
 pub returns-in-Invalidate-clause-serves : goal.returns-in-Invalidate-clause-serves
 returns-in-Invalidate-clause-serves g c = rw (sym c.element_of.ensures ∙ c.in-Invalidate.is) (c.invalidate.ensures.serves c.args.domain)
 
 pub returns-in-Invalidate-clause-course : goal.returns-in-Invalidate-clause-course
-returns-in-Invalidate-clause-course g c =
-    rw (sym c.element_of.ensures ∙ c.in-Invalidate.is)
-    (ungated (g.P.Port.value c.args.port.now) (g.P.Port.value c.invalidate.new.port) c.args.domain (Invalidate c.in-Invalidate.va) c.args.awaited (Ok tt) _ _ _ c.invalidate.ensures.course refl)
+returns-in-Invalidate-clause-course g c = rw (sym c.element_of.ensures ∙ c.in-Invalidate.is) (past_none refl c.invalidate.ensures.course)
 
 -- ---- a wait
 pub returns-in-FlushVcpus-clause-serves : goal.returns-in-FlushVcpus-clause-serves
@@ -56,9 +52,7 @@ pub returns-in-FlushVcpus-clause-stops : goal.returns-in-FlushVcpus-clause-stops
 returns-in-FlushVcpus-clause-stops g c = rw (sym c.element_of.ensures ∙ c.in-FlushVcpus.is) (c.flush_vcpus.ensures.stops c.args.domain)
 
 pub returns-in-FlushVcpus-clause-course : goal.returns-in-FlushVcpus-clause-course
-returns-in-FlushVcpus-clause-course g c =
-    rw (sym c.element_of.ensures ∙ c.in-FlushVcpus.is)
-    (ungated (g.P.Port.value c.args.port.now) (g.P.Port.value c.flush_vcpus.new.port) c.args.domain (FlushVcpus c.in-FlushVcpus.mask) c.args.awaited c.flush_vcpus.result _ _ _ c.flush_vcpus.ensures.course (wait_undue c.flush_vcpus.result c.flush_vcpus.ensures.kinds))
+returns-in-FlushVcpus-clause-course g c = rw (sym c.element_of.ensures ∙ c.in-FlushVcpus.is) (past_none (wait_undue c.flush_vcpus.result c.flush_vcpus.ensures.kinds) c.flush_vcpus.ensures.course)
 
 -- ---- the LDT
 pub returns-in-SetLdt-clause-serves : goal.returns-in-SetLdt-clause-serves
@@ -68,7 +62,7 @@ pub returns-in-SetLdt-clause-stops : goal.returns-in-SetLdt-clause-stops
 returns-in-SetLdt-clause-stops g c = rw (sym c.element_of.ensures ∙ c.in-SetLdt.is) (ldt_stops c.args.awaited {address = c.in-SetLdt.address} {entries = c.in-SetLdt.entries} c.set_ldt.result c.requires.own c.set_ldt.ensures)
 
 pub returns-in-SetLdt-clause-course : goal.returns-in-SetLdt-clause-course
-returns-in-SetLdt-clause-course g c = rw (sym c.element_of.ensures ∙ c.in-SetLdt.is) (ldt_course c.args.awaited {address = c.in-SetLdt.address} {entries = c.in-SetLdt.entries} c.set_ldt.result c.requires.own c.set_ldt.ensures _ _ _)
+returns-in-SetLdt-clause-course g c = rw (sym c.element_of.ensures ∙ c.in-SetLdt.is) (past_none (ldt_undue c.set_ldt.result c.set_ldt.ensures.kinds) (refl, c.set_ldt.ensures.course))
 
 -- ---- a page cleared
 pub returns-in-ClearPage-clause-serves : goal.returns-in-ClearPage-clause-serves
@@ -78,7 +72,7 @@ pub returns-in-ClearPage-clause-stops : goal.returns-in-ClearPage-clause-stops
 returns-in-ClearPage-clause-stops g c = rw (sym c.element_of.ensures ∙ c.in-ClearPage.is) (c.clear_page.ensures.stops)
 
 pub returns-in-ClearPage-clause-course : goal.returns-in-ClearPage-clause-course
-returns-in-ClearPage-clause-course g c = rw (sym c.element_of.ensures ∙ c.in-ClearPage.is) (clear_course c.args.awaited {f = c.in-ClearPage.frame} c.clear_page.result c.clear_page.ensures _ _ _)
+returns-in-ClearPage-clause-course g c = rw (sym c.element_of.ensures ∙ c.in-ClearPage.is) (past_none (whole_undue c.clear_page.result c.clear_page.ensures.kinds) (refl, c.clear_page.ensures.course))
 
 -- ---- a page copied
 pub returns-in-CopyPage-clause-serves : goal.returns-in-CopyPage-clause-serves
@@ -88,7 +82,7 @@ pub returns-in-CopyPage-clause-stops : goal.returns-in-CopyPage-clause-stops
 returns-in-CopyPage-clause-stops g c = rw (sym c.element_of.ensures ∙ c.in-CopyPage.is) (c.copy_page.ensures.stops)
 
 pub returns-in-CopyPage-clause-course : goal.returns-in-CopyPage-clause-course
-returns-in-CopyPage-clause-course g c = rw (sym c.element_of.ensures ∙ c.in-CopyPage.is) (copy_course c.args.awaited {to = c.in-CopyPage.to} {from = c.in-CopyPage.from} c.copy_page.result c.copy_page.ensures _ _ _)
+returns-in-CopyPage-clause-course g c = rw (sym c.element_of.ensures ∙ c.in-CopyPage.is) (past_none (whole_undue c.copy_page.result c.copy_page.ensures.kinds) (refl, (c.copy_page.ensures.words, c.copy_page.ensures.course)))
 
 -- ---- no element
 pub returns-in-Unknown-clause-serves : goal.returns-in-Unknown-clause-serves
@@ -98,4 +92,4 @@ pub returns-in-Unknown-clause-stops : goal.returns-in-Unknown-clause-stops
 returns-in-Unknown-clause-stops g c = rw (sym c.element_of.ensures ∙ c.in-Unknown.is) (unknown_stops (g.P.Port.value c.args.port.now) c.args.domain c.args.awaited)
 
 pub returns-in-Unknown-clause-course : goal.returns-in-Unknown-clause-course
-returns-in-Unknown-clause-course g c = rw (sym c.element_of.ensures ∙ c.in-Unknown.is) (unknown_course (g.P.Port.value c.args.port.now) c.args.domain c.args.awaited _ _ _)
+returns-in-Unknown-clause-course g c = rw (sym c.element_of.ensures ∙ c.in-Unknown.is) (past_none refl (refl, refl, refl))
