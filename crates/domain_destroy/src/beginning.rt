@@ -1,5 +1,5 @@
 //! A destruction begins.
-ghost use Rattle.std.specs.Prelude.{◌≡◌, ◌<◌, [], length, IfOk, IfErr};
+ghost use Rattle.std.specs.Prelude.{◌≡◌, ◌<◌, IfOk, IfErr};
 ghost use Rattle.xp_board.specs.Readings.{has_now};
 ghost use Rattle.step_maker.specs.Holds.{Rests, Same};
 ghost use Rattle.step_maker.specs.Visits.{Does};

@@ -1,5 +1,5 @@
 //! How one phase of a destruction opens the next, and the last what a dead domain leaves. These functions do nothing: their contracts are laws.
-ghost use Rattle.std.specs.Prelude.{◌≡◌, ℕ, ◌≤◌, List, length};
+ghost use Rattle.std.specs.Prelude.{ℕ, ◌≤◌, List, length};
 ghost use Rattle.xp_words.specs.Machine.{Machine};
 ghost use Rattle.xp_words.specs.declared.reply.LogLine.{LogLine};
 ghost use Rattle.xp_board.specs.LifeSteps.{MayBury};

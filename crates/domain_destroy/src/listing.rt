@@ -1,5 +1,5 @@
 //! The frames that a domain leaves, each listed.
-ghost use Rattle.std.specs.Prelude.{ℕ, ◌≡◌, ◌+◌, ◌<◌, ◌≤◌, ◌++◌, [], length, IfOk, IfErr, MatchResult, vec_len, vec_capacity};
+ghost use Rattle.std.specs.Prelude.{◌≡◌, ◌+◌, ◌<◌, ◌≤◌, IfOk, IfErr, vec_len, vec_capacity};
 ghost use Rattle.step_maker.specs.Holds.{Same};
 ghost use Rattle.domain_destroy.specs.Asking.{IsDestroyStop, ServesDestroy, StopsDestroyer};
 ghost use Rattle.domain_destroy.specs.Coming.{HasComeTo};

@@ -1,5 +1,5 @@
 //! The phases of a destruction, each from the place where it stands.
-ghost use Rattle.std.specs.Prelude.{ℕ, ◌≡◌, ◌≤◌, ◌+◌, [], true, false, IfOk, IfErr, vec_len, vec_capacity};
+ghost use Rattle.std.specs.Prelude.{◌≡◌, ◌≤◌, ◌+◌, [], false, IfOk, vec_len, vec_capacity};
 ghost use Rattle.step_maker.specs.Holds.{Rests};
 ghost use Rattle.level_release.specs.Asking.{is_due_answer};
 ghost use Rattle.domain_destroy.specs.Coming.{HasComeTo, seen_to};

@@ -1,5 +1,5 @@
 //! What a mark or a word of the domain held is released.
-ghost use Rattle.std.specs.Prelude.{ℕ, ◌≡◌, true, false, IfOk, IfErr};
+ghost use Rattle.std.specs.Prelude.{IfOk, IfErr};
 ghost use Rattle.step_maker.specs.Holds.{Rests};
 ghost use Rattle.level_release.specs.Asking.{is_due_answer};
 ghost use Rattle.domain_destroy.specs.Asking.{IsDestroyStop};

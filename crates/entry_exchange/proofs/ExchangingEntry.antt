@@ -98,9 +98,7 @@ module _ {v b : PortValue} (x : EntryUpdate) (o : Owners) {seen : ℕ} (holds : 
       }
 
   -- ---- it asks something else
-  pub ended_changed : {w : PortValue} {g h : Gate} {answer : Result (Unit {0}) Stop} → MayWork v →
-      DemandChanged b w x o seen g h answer →
-      EntryExchanged v w x o g h answer
+  pub ended_changed : {w : PortValue} {g h : Gate} {answer : Result (Unit {0}) Stop} → MayWork v → DemandChanged b w x o seen g h answer → EntryExchanged v w x o g h answer
   ended_changed {w} may did =
       let hand = leaves_behind v x.table x.level o.tables holds w b (seen_lock ∷ []) v.holdings.old0 v.holdings.old1 behind did.hand in
       ended may (came_trans v b w came_look did.came) (did.serves v holds saw) (did.stops v holds saw) did.kinds hand (did.course v holds saw)

@@ -10,6 +10,7 @@ use Rattle.xp_words.specs.declared.reply.Refusal.TheVariants as refusals
 use Rattle.xp_words.specs.declared.reply.Stop.{Stop}
 use Rattle.xp_words.specs.declared.reply.Stop.TheVariants.{Refused, Paused}
 use Rattle.xp_preempt.specs.Gates.{yeses}
+use Rattle.xp_preempt.proofs.Consulting.{yeses_then}
 use Rattle.xp_board.specs.CellSteps.{is_same_demand}
 use Rattle.xp_board.specs.Told.{Post, PortValue, is_telling, told_word}
 use Rattle.step_maker.specs.Moves.{Came}
@@ -34,7 +35,7 @@ use Rattle.exchange_laws.proofs.Cells.{meet_keeps}
 use Rattle.exchange_laws.proofs.Demanding.{demand_took}
 use Rattle.exchange_laws.proofs.Going.{demand_came}
 use Rattle.exchange_laws.proofs.Putting.{entry_put, put_came}
-use Rattle.exchange_laws.proofs.Releasing.{ReleasesAsPlain, demand_released, fewer_yeses}
+use Rattle.exchange_laws.proofs.Releasing.{ReleasesAsPlain, demand_released}
 use Rattle.exchange_laws.proofs.Unlocking.{lock_came, lock_off}
 
 -- ---- what is refused, and then given back
@@ -174,7 +175,8 @@ module _ (releases : ReleasesAsPlain) (v : PortValue) (x : EntryUpdate) (o : Own
         let off = lock_off n z a x.table x.level (with_cell x.table x.index new taking.left) on_z.same on_z.tells low put.1 lock in
         let on_a = goes_on z a on_z (lock_came z a x.table x.level lock) in
         let free = unlocked_plain x.level x.table (with_cell x.table x.index new taking.left) in
-        let gave = demand_released releases n a machine on_a.same on_a.tells (x.level - 1) (omega (arith, high)) free off (old_demand x old) w more (asks old) gone (fewer_yeses more answers none) in
+        let sum = yeses_then answers more in
+        let gave = demand_released releases n a machine on_a.same on_a.tells (x.level - 1) (omega (arith, high)) free off (old_demand x old) w more (asks old) gone (omega (arith, sum, none)) in
         subst (λ b. ExchangesAsPlain n w x.level b (Ok tt))
         (sym (whole_by false (took_good owner x.level u (new_demand x seen) y answers (Ok tt) taken) differ ∙ or_done taking.refusal taking.left (unlocked_plain x.level x.table) (λ q. fine (put_on x new (old_demand x seen) q)) t.0))
         (refl, subst (λ c. Describes n (told_word w) (drop_demand (let_go (x.level - 1)) free (old_demand x c))) was gave)

@@ -1,5 +1,5 @@
 -- What the old word asked is released as on the plain value, where the gate says no.
-use Rattle.std.proofs.Common.{◌≡◌, ℕ, ◌<◌, ◌≤◌, ◌++◌, Option, Bool, true, false, List, [], ◌∷◌, Result, Ok, Err, IfErr, refl, sym, ap, subst, arith}
+use Rattle.std.proofs.Common.{◌≡◌, ℕ, ◌<◌, ◌≤◌, Option, Bool, true, false, List, [], ◌∷◌, Result, Ok, Err, IfErr, refl, sym, ap, subst}
 use Rattle.xp_words.specs.Machine.{IsMachine, Machine}
 use Rattle.xp_words.specs.declared.entry.Demand.{Demand}
 use Rattle.xp_words.specs.declared.entry.Demand.TheVariants.{Typed}
@@ -33,12 +33,6 @@ ReleasesAsPlain =
     Describes v.post.machine (told_word v) p → WasReleased v f (level_type level) w answers (Ok tt) → Describes v.post.machine (told_word w) (let_go level f p)
 
 -- ---- it pauses for the gate only where that said yes
-pub fewer_yeses : (more answers : List Bool) → yeses (more ++ answers) ≡ 0 → yeses more ≡ 0
-unfolding yeses
-fewer_yeses [] answers none = refl
-fewer_yeses (true ∷ more) answers none = absurd (omega arith)
-fewer_yeses (false ∷ more) answers none = fewer_yeses more answers none
-
 -- no call in it is paused for the gate
 lowered_calm : (v : PortValue) (ts : List TableWork) (w : PortValue) (us : List TableWork) (r : Result Bool Stop) → Lowered v ts w us r → r ≡ Err (Paused Due) → ⊥
 lowered_calm _ _ _ _ _ (release.given v w t ts few gave) is = absurd cc

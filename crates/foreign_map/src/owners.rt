@@ -1,5 +1,5 @@
 //! The `foreigndom` argument of `mmu_update`, read.
-ghost use Rattle.std.specs.Prelude.{◌≡◌, ◌<◌, ◌≤◌, length, [], IfOk, IfErr};
+ghost use Rattle.std.specs.Prelude.{◌≡◌, ◌<◌, length, [], IfOk, IfErr};
 ghost use Rattle.xp_words.specs.declared.reply.Stop.TheVariants.{Refused};
 ghost use Rattle.xp_board.specs.Readings.{domain_of, has_now};
 ghost use Rattle.step_maker.specs.Holds.{Rests, Same};

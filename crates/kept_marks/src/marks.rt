@@ -3,7 +3,6 @@ ghost use Rattle.std.specs.Prelude.{◌≡◌, ◌≢◌, ◌<◌, ◌==◌, [],
 ghost use Rattle.xp_words.specs.declared.place.Place.TheVariants.{Kind};
 ghost use Rattle.xp_words.specs.KindWords.{is_kind, kind_write};
 ghost use Rattle.xp_board.specs.Readings.{domain_of, is_partial};
-ghost use Rattle.xp_board.specs.Spelling.{is_kind_in};
 ghost use Rattle.xp_board.specs.declared.step.Act.TheVariants.{Cas};
 ghost use Rattle.xp_board.specs.declared.step.StepKind.TheVariants as kinds;
 ghost use Rattle.step_maker.specs.Holds.{Holds, MayWork};

@@ -1,6 +1,6 @@
 //! A page of the own LDT is touched.
-ghost use Rattle.std.specs.Prelude.{◌≡◌, ◌<◌, ◌≤◌, ℕ, None, Some, true, false};
-ghost use Rattle.xp_words.specs.ContextWords.{IsLdtBase, ldt_read};
+ghost use Rattle.std.specs.Prelude.{◌≡◌, ◌<◌, ◌≤◌, ℕ, None, Some, false};
+ghost use Rattle.xp_words.specs.ContextWords.{IsLdtBase};
 ghost use Rattle.xp_words.specs.declared.place.Place.TheVariants.{Vcpu};
 ghost use Rattle.xp_board.specs.declared.step.Act.TheVariants.{Load};
 ghost use Rattle.xp_board.specs.declared.step.StepKind.TheVariants as kinds;

@@ -1,5 +1,5 @@
 //! Tables that are emptied, one in the other: the innermost first, and of each the highest recorded entry first.
-ghost use Rattle.std.specs.Prelude.{◌≡◌, ◌≢◌, ◌<◌, ◌≤◌, ◌∷◌, ℕ, [], Some, true, false, List, length, IfOk, IfErr};
+ghost use Rattle.std.specs.Prelude.{◌≡◌, ◌≢◌, ◌<◌, ◌∷◌, [], Some, true, false, List, length, IfOk, IfErr};
 ghost use Rattle.step_maker.specs.Holds.{MayWork};
 ghost use Rattle.step_maker.specs.Moves.{Came};
 ghost use Rattle.step_maker.specs.Answers.{misses};
@@ -13,7 +13,7 @@ ghost use Rattle.xp_words.specs.declared.reply.Stop.TheVariants.{Paused};
 ghost use Rattle.level_release.specs.Asking.{Continues, IsReleaseEnd, StopsRelease, is_due_answer};
 ghost use Rattle.level_release.specs.Calls.{Lowers};
 ghost use Rattle.level_release.specs.Course.{EmptiesBy, MadeDead, RunsDownBy, is_asked_down, is_asked_within, is_less, left_by};
-ghost use Rattle.level_release.specs.Holding.{Empties, HoldsNow, IsReleasing, LeavesEmptied, StaysEmptying, outermost_frame};
+ghost use Rattle.level_release.specs.Holding.{IsReleasing, LeavesEmptied, StaysEmptying, outermost_frame};
 
 use crate::leaving::unwind;
 use frame_words::put_ref;

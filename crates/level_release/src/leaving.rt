@@ -1,8 +1,7 @@
 //! Tables whose release is unfinished.
-ghost use Rattle.std.specs.Prelude.{◌≡◌, ◌≢◌, ◌-◌, ◌∷◌, ℕ, [], Some, None, false, List};
+ghost use Rattle.std.specs.Prelude.{◌≡◌, ◌≢◌, ◌-◌, ◌∷◌, [], Some, None, false, List};
 ghost use Rattle.xp_words.specs.KindWords.{kind_write};
 ghost use Rattle.xp_words.specs.declared.place.Place.TheVariants.{Kind};
-ghost use Rattle.xp_words.specs.declared.reply.Stop.{Stop};
 ghost use Rattle.xp_board.specs.declared.step.Act.TheVariants.{Store};
 ghost use Rattle.xp_board.specs.declared.step.StepKind.TheVariants as kinds;
 ghost use Rattle.step_maker.specs.Holds.{Holds, MayWork};

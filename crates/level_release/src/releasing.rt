@@ -1,12 +1,12 @@
 //! A typed reference to a live frame, given back with all that the frame holds.
-ghost use Rattle.std.specs.Prelude.{◌≡◌, ◌+◌, ◌<◌, ℕ, Some, true, false, if◌then◌else◌, IfErr};
+ghost use Rattle.std.specs.Prelude.{◌≡◌, ◌<◌, ℕ, Some, false, if◌then◌else◌, IfErr};
 ghost use Rattle.xp_words.specs.declared.reply.Pause.TheVariants.{Due};
 ghost use Rattle.xp_words.specs.declared.reply.Stop.TheVariants.{Paused};
 ghost use Rattle.step_maker.specs.Holds.{MayWork};
 ghost use Rattle.step_maker.specs.Answers.{Serves, Stops, misses};
 ghost use Rattle.table_words.specs.OldWords.{known_old};
 ghost use Rattle.table_words.specs.declared.old_words.OldWord.TheVariants.{First};
-ghost use Rattle.level_release.specs.Asking.{is_due_answer, of_release};
+ghost use Rattle.level_release.specs.Asking.{of_release};
 ghost use Rattle.level_release.specs.Calls.{Releases};
 ghost use Rattle.level_release.specs.Course.{ReleasesFrameBy};
 ghost use Rattle.level_release.specs.Holding.{HoldsLive, LeavesUnheld};

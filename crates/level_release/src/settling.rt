@@ -9,7 +9,7 @@ ghost use Rattle.table_releases.specs.Found.{has_recorded};
 ghost use Rattle.table_words.specs.OldWords.{known_old};
 ghost use Rattle.table_words.specs.declared.old_words.OldWord.{OldWord};
 ghost use Rattle.table_words.specs.declared.old_words.OldWord.TheVariants.{First, Second};
-ghost use Rattle.level_release.specs.Asking.{IsReleaseEnd, is_due_answer, of_settle};
+ghost use Rattle.level_release.specs.Asking.{IsReleaseEnd, of_settle};
 ghost use Rattle.level_release.specs.Course.{SettlesBy};
 ghost use Rattle.level_release.specs.Settling.{HasTakenOld, SettledHand, SettlesWord, TookOld};
 

@@ -13,7 +13,6 @@ ghost use Rattle.table_words.specs.declared.old_words.OldWord.TheVariants.{First
 ghost use Rattle.partial_state.specs.Levels.{level_type};
 ghost use Rattle.partial_state.specs.declared.stack.TableWork.{TableWork};
 ghost use Rattle.table_entries.specs.Acquiring.{GaveRef, InnerLeft, LeftPartial, OutermostLeft, Unwound};
-ghost use Rattle.level_validate.specs.Acquiring.{outermost_work};
 ghost use Rattle.level_validate.specs.Courses.{UnwindsOn};
 ghost use Rattle.level_validate.specs.Serving.{CarriesOn, ServesLeft, ServesTo};
 ghost use Rattle.level_validate.specs.Tables.{IsStanding, StandsOn};

@@ -1,5 +1,5 @@
 //! Operations that are lists, and the gates that pause them.
-ghost use Rattle.std.specs.Prelude.{false, true};
+ghost use Rattle.std.specs.Prelude.{false};
 
 use crate::runs::{bytes, runs_by, runs_to, turns, with_option, with_pace};
 use std::alloc::Global;

@@ -43,6 +43,8 @@ use Rattle.mmu_update.proofs.Locking as locks
 use Rattle.mmu_update.proofs.Locking.{before, each_stop, exchanged_hand, unlocked_hand}
 use Rattle.mmu_update.proofs.Serving.{back_behind, referred_serves, referred_stops, unlocked_by, unlocked_stops}
 use Rattle.mmu_update.proofs.WriteKinds.{lock_kinds, ref_kinds, write_kinds}
+use Rattle.xp_preempt.specs.Gates.{Gate}
+use Rattle.xp_preempt.proofs.Consulting.{past_as}
 
 at_kind : (e : Stop) → IsWriteStop e → IsAtStop e
 at_kind (Refused refusals.NonCanonical) is = absurd is
@@ -170,22 +172,17 @@ module _ {b y : PortValue} {o : Owners} {table level : ℕ} (a : UnderLock b y o
       }
 
 -- of level 1: its entry is exchanged
-pub at_exchanged : {b y w : PortValue} {o : Owners} {table va i word : ℕ} (a : UnderLock b y o table 1) {says : ℕ → Bool} {asked after yes_before yes_after : ℕ} {answer : Result (Unit {0}) Stop} → i ≡ index_of va 1 →
-    EntryExchanged y w (entry_update table 1 i word false) o says asked after yes_before yes_after answer → EntersAtBy b w o va table word says asked after yes_before yes_after answer
-at_exchanged {b} {y} {w} {o} {table} {va} {i} {word} a {says} {asked} {after} {yes_before} {yes_after} {answer} here exchange =
-    let did = subst (λ k. EntryExchanged y w (entry_update table 1 k word false) o says asked after yes_before yes_after answer) here exchange in
+pub at_exchanged : {b y w : PortValue} {o : Owners} {table va i word : ℕ} (a : UnderLock b y o table 1) {g h : Gate} {answer : Result (Unit {0}) Stop} → i ≡ index_of va 1 →
+    EntryExchanged y w (entry_update table 1 i word false) o g h answer → EntersAtBy b w o va table word g h answer
+at_exchanged {b} {y} {w} {o} {table} {va} {i} {word} a {g} {h} {answer} here exchange =
+    let did = subst (λ k. EntryExchanged y w (entry_update table 1 k word false) o g h answer) here exchange in
     let covers = at_covers o va table word answer in
     let shows = exchanged_shows covers 1 false b y w (before a covers) did.serves in
-    record {
-      answers = did.course.answers;
-      course = record {
-        serves = (did.serves.0, shows.0, shows.1);
-        stops = each_stop _ _ (λ e z. exchanged_stops covers 1 false b y w (before a covers) e (locks.rests_b a) (locks.no_refs a) z) answer did.stops;
-        kinds = each_stop _ _ at_kind answer (write_kinds answer did.kinds);
-        hand = exchanged_hand a w did.hand;
-        rests = did.rests;
-        course = ways.exchanged a.at y w a.found did.course.answers answer a.referred.got a.tried did.course.course;
-      };
-      gate = did.course.gate;
-      due = did.course.due;
-    }
+    past_as (λ on. on) (λ xs by. record {
+      serves = (did.serves.0, shows.0, shows.1);
+      stops = each_stop _ _ (λ e z. exchanged_stops covers 1 false b y w (before a covers) e (locks.rests_b a) (locks.no_refs a) z) answer did.stops;
+      kinds = each_stop _ _ at_kind answer (write_kinds answer did.kinds);
+      hand = exchanged_hand a w did.hand;
+      rests = did.rests;
+      course = ways.exchanged a.at y w a.found xs answer a.referred.got a.tried by;
+    }) did.course

@@ -12,7 +12,7 @@ use Rattle.xp_board.specs.declared.holdings.Work.{Work}
 use Rattle.xp_board.specs.Hands.{ending_of, lock_on, typed_to, without_ref, work_on}
 use Rattle.xp_board.specs.KindSteps.{live_typed}
 use Rattle.xp_board.specs.Knowledge.{knows_live}
-use Rattle.xp_board.specs.Lists.{first_by, times_by}
+use Rattle.xp_board.specs.Lists.{times_by}
 use Rattle.xp_board.specs.Told.{PortValue}
 use Rattle.step_maker.specs.Holds.{FlushedHolds, FlushedSame, Holds, Rests, Same, quiet}
 use Rattle.step_maker.proofs.Resting.{none_on, rests_by}

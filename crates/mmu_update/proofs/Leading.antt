@@ -19,7 +19,7 @@ use Rattle.xp_board.specs.declared.step.StepKind.TheVariants as kinds
 use Rattle.xp_board.specs.Told.{Post, PortValue}
 use Rattle.xp_board.proofs.Numbers.{vcpu_there}
 use Rattle.xp_board.proofs.Sums.{when_eq, when_found}
-use Rattle.step_maker.specs.Holds.{Rests, Same, quiet, still}
+use Rattle.step_maker.specs.Holds.{Rests, Same, still}
 use Rattle.step_maker.specs.Moves.{Came, Met, Moves}
 use Rattle.step_maker.proofs.Coming.{came_post, came_self, came_trans, met_before, moves_came}
 use Rattle.step_maker.specs.Answers.{Serves, Stops, missed}

@@ -35,6 +35,8 @@ use Rattle.mmu_update.proofs.Holding.{leaves_rests, ref_gone}
 use Rattle.mmu_update.proofs.WriteKinds.{write_kinds}
 use Rattle.mmu_update.proofs.Asking.{Covers, write_covers}
 use Rattle.mmu_update.proofs.Serving.{back_behind, locked_serves}
+use Rattle.xp_preempt.specs.Gates.{Gate}
+use Rattle.xp_preempt.proofs.Consulting.{past_as}
 
 -- what holds of each stop holds of the one that is answered
 pub each_stop : (P Q : Stop → Type 0) → ((e : Stop) → P e → Q e) → (answer : Result (Unit {0}) Stop) → IfErr answer P → IfErr answer Q
@@ -135,20 +137,15 @@ module _ {b y : PortValue} {o : Owners} {f level : ℕ} (a : UnderLock b y o f l
         ∙ ap (λ (ls : List Lock). quiet (record b { holdings = record b.holdings { locks = ls; old0 = c; old1 = d } })) (sym rests_b.empty.locks),
   )
 
-  pub exchanged_writes : {w : PortValue} {i word : ℕ} {keep : Bool} {says : ℕ → Bool} {asked after yes_before yes_after : ℕ} {answer : Result (Unit {0}) Stop} → is_slot (level_type level) i ≡ false →
-      EntryExchanged y w (entry_update f level i word keep) o says asked after yes_before yes_after answer → WritesBy b w o f i word keep says asked after yes_before yes_after answer
+  pub exchanged_writes : {w : PortValue} {i word : ℕ} {keep : Bool} {g h : Gate} {answer : Result (Unit {0}) Stop} → is_slot (level_type level) i ≡ false →
+      EntryExchanged y w (entry_update f level i word keep) o g h answer → WritesBy b w o f i word keep g h answer
   exchanged_writes {w} {i} {word} {keep} {answer = answer} off did =
-      record {
-        answers = did.course.answers;
-        course = record {
-          serves = exchanged_serves o f level i word keep answer b y w (before (write_covers o f i word keep answer)) did.serves;
-          stops = each_stop _ _ (λ e z. exchanged_stops (write_covers o f i word keep answer) level keep b y w (before (write_covers o f i word keep answer)) e rests_b no_refs z) answer did.stops;
-          kinds = write_kinds answer did.kinds;
-          numbers = λ x is. absurd cc;
-          hand = exchanged_hand w did.hand;
-          rests = did.rests;
-          course = courses.exchanged a.at y w level a.found did.course.answers answer a.referred.got a.tried off did.course.course;
-        };
-        gate = did.course.gate;
-        due = did.course.due;
-      }
+      past_as (λ on. on) (λ xs by. record {
+        serves = exchanged_serves o f level i word keep answer b y w (before (write_covers o f i word keep answer)) did.serves;
+        stops = each_stop _ _ (λ e z. exchanged_stops (write_covers o f i word keep answer) level keep b y w (before (write_covers o f i word keep answer)) e rests_b no_refs z) answer did.stops;
+        kinds = write_kinds answer did.kinds;
+        numbers = λ x is. absurd cc;
+        hand = exchanged_hand w did.hand;
+        rests = did.rests;
+        course = courses.exchanged a.at y w level a.found xs answer a.referred.got a.tried off by;
+      }) did.course

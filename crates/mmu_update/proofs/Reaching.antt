@@ -1,5 +1,5 @@
 -- An update by address as a whole: it led to no table; or to one, whose entry was exchanged or not.
-use Rattle.std.proofs.Common.{◌≡◌, ℕ, Bool, false, [], Some, Result, Ok, Err, refl, sym, ap, ◌∙◌, subst, append-nil, arith}
+use Rattle.std.proofs.Common.{◌≡◌, ℕ, false, [], Some, Result, Ok, Err, refl, sym, ap, ◌∙◌, subst, append-nil, arith}
 use Rattle.xp_words.specs.declared.reply.Stop.{Stop}
 use Rattle.xp_board.specs.Hands.{refs_to, typed_hand, work_on}
 use Rattle.xp_board.specs.Told.{Post, PortValue}
@@ -16,54 +16,41 @@ use Rattle.entry_exchange.proofs.Staying.{may_map}
 use Rattle.entry_exchange.proofs.Taking.{hides_none}
 use Rattle.foreign_map.specs.Owning.{MayMapFor}
 use Rattle.foreign_map.specs.declared.owners.Owners.{Owners}
-use Rattle.level_release.specs.Asking.{is_due_answer}
 use Rattle.table_words.specs.OldWords.{known_old}
 use Rattle.table_words.specs.declared.old_words.OldWord.TheVariants.{First, Second}
 use Rattle.tlb_walks.specs.Addresses.{index_of}
-use Rattle.xp_preempt.proofs.Consulting.{consulted_none, not_due}
+use Rattle.xp_preempt.specs.Gates.{Gate}
+use Rattle.xp_preempt.proofs.Consulting.{past_as, past_none}
 use Rattle.mmu_update.specs.Addresses as ways
 use Rattle.mmu_update.specs.Addresses.{Leads, ServesAt, of_at}
 use Rattle.mmu_update.specs.Course.{entry_update}
 use Rattle.mmu_update.specs.Elements.{LeavesUpdate}
-use Rattle.mmu_update.specs.UpdatesAt.{EntersAt, EntersAtBy, UpdatesAtBy}
+use Rattle.mmu_update.specs.UpdatesAt.{EntersAtBy, UpdatesAtBy}
 use Rattle.mmu_update.specs.Writing.{MayBeginElement}
 use Rattle.mmu_update.proofs.FewSteps.{updated_few}
 use Rattle.mmu_update.proofs.Holding.{leaves_same}
 use Rattle.mmu_update.proofs.Leading.{leads_came, leads_free, leads_kind, leads_numbers, leads_same, leads_serves, leads_stops}
 use Rattle.mmu_update.proofs.Locking.{each_stop}
 
--- ---- gates that were asked nothing
-pub at_ungated : {b w : PortValue} {o : Owners} {va table word : ℕ} {answer : Result (Unit {0}) Stop} {says : ℕ → Bool} {asks agreed : ℕ} → is_due_answer answer ≡ false → EntersAt o va table word b w [] answer →
-    EntersAtBy b w o va table word says asks asks agreed agreed answer
-at_ungated undue enters = record { answers = []; course = enters; gate = consulted_none _ _ _; due = not_due _ [] undue }
-
 -- ---- it led to no table
-pub unled_undue : {v w : PortValue} {va : ℕ} {e : Stop} → Leads v va w (Err e) → is_due_answer {A = Unit {0}} (Err e) ≡ false
-unled_undue {v} {w} {va} {e} leads = (leads_kind v w va e leads).1
-
-pub unled : {v w : PortValue} {o : Owners} {va word : ℕ} {e : Stop} {says : ℕ → Bool} {asks agreed : ℕ} → Rests v → Leads v va w (Err e) → UpdatesAtBy v w o va word says asks asks agreed agreed (Err e)
+pub unled : {v w : PortValue} {o : Owners} {va word : ℕ} {e : Stop} {g : Gate} → Rests v → Leads v va w (Err e) → UpdatesAtBy v w o va word g g (Err e)
 unled {v} {w} {o} {va} {word} {e} rests leads =
     let n = v.post.machine in
     let kind = leads_kind v w va e leads in
     let r = of_at o va n.frames word (Err e) in
     let same = leads_same v w va (Err e) rests leads in
     let course = ways.unled w e (omega arith) leads in
-    record {
-      answers = [];
-      course = record {
-        table = n.frames;
-        serves = (missed n e, exchanges.stopped e [] (hides_none e), subst (λ ds. Serves v w r ds) (sym (kind.2 n)) (leads_serves v w va r refl (Err e) leads));
-        stops = leads_stops v w va r refl e refl leads;
-        kinds = kind.0;
-        numbers = λ x on. ap Err (leads_numbers v w va e x leads on);
-        hand = leaves_same v w (ap quiet same);
-        rests = same_rests v w rests same;
-        course = course;
-        short = updated_few v o va word n.frames w [] (Err e) rests.may.machine course;
-      };
-      gate = consulted_none _ _ _;
-      due = not_due _ [] kind.1;
-    }
+    past_none kind.1 (record {
+      table = n.frames;
+      serves = (missed n e, exchanges.stopped e [] (hides_none e), subst (λ ds. Serves v w r ds) (sym (kind.2 n)) (leads_serves v w va r refl (Err e) leads));
+      stops = leads_stops v w va r refl e refl leads;
+      kinds = kind.0;
+      numbers = λ x on. ap Err (leads_numbers v w va e x leads on);
+      hand = leaves_same v w (ap quiet same);
+      rests = same_rests v w rests same;
+      course = course;
+      short = updated_few v o va word n.frames w [] (Err e) rests.may.machine course;
+    })
 
 -- ---- it led to one
 no_more_same : (r : Request) (v u : PortValue) → Same v u → NoMore r u.holdings v.holdings
@@ -107,27 +94,21 @@ module _ {v u : PortValue} {va table : ℕ} (rests : Rests v) (leads : Leads v v
         stops_inner v u w r r e (same_request v.post.machine v.post.vcpu r (Met u w) (Met v w) (λ m x. met_after v u w m came_there x)) (no_more_same r v u same_there) came_there a
 
   module _ {w : PortValue} {o : Owners} {word : ℕ} where
-    pub led_came : {says : ℕ → Bool} {asked after yes_before yes_after : ℕ} {answer : Result (Unit {0}) Stop} → EntersAtBy u w o va table word says asked after yes_before yes_after answer → Came v w
+    pub led_came : {g h : Gate} {answer : Result (Unit {0}) Stop} → EntersAtBy u w o va table word g h answer → Came v w
     led_came {answer = answer} by = came_trans v u w came_there (serves_came u w (of_at o va table word answer) by.course.serves.0 by.course.serves.2)
 
-    pub led : {says : ℕ → Bool} {asked after yes_before yes_after : ℕ} {answer : Result (Unit {0}) Stop} → EntersAtBy u w o va table word says asked after yes_before yes_after answer →
-        UpdatesAtBy v w o va word says asked after yes_before yes_after answer
+    pub led : {g h : Gate} {answer : Result (Unit {0}) Stop} → EntersAtBy u w o va table word g h answer → UpdatesAtBy v w o va word g h answer
     led {answer = answer} by =
-        let enters = by.course in
-        let course = ways.led u w by.answers answer leads enters.course in
+        past_as (λ on. on) (λ xs enters.
+        let course = ways.led u w xs answer leads enters.course in
         record {
-          answers = by.answers;
-          course = record {
-            table = table;
-            serves = serves_from w o word answer enters.serves;
-            stops = each_stop _ _ (λ e z. stops_from w o word answer e z) answer enters.stops;
-            kinds = enters.kinds;
-            numbers = λ x on. absurd (let free = leads_free v u va table leads in cc);
-            hand = leaves_from w enters.hand;
-            rests = enters.rests;
-            course = course;
-            short = updated_few v o va word table w by.answers answer rests.may.machine course;
-          };
-          gate = by.gate;
-          due = by.due;
-        }
+          table = table;
+          serves = serves_from w o word answer enters.serves;
+          stops = each_stop _ _ (λ e z. stops_from w o word answer e z) answer enters.stops;
+          kinds = enters.kinds;
+          numbers = λ x on. absurd (let free = leads_free v u va table leads in cc);
+          hand = leaves_from w enters.hand;
+          rests = enters.rests;
+          course = course;
+          short = updated_few v o va word table w xs answer rests.may.machine course;
+        }) by

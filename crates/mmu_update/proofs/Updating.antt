@@ -1,5 +1,5 @@
 -- Elements that write no word of a frame: a machine-to-physical word, and those that their numbers alone refuse.
-use Rattle.std.proofs.Common.{◌≡◌, ℕ, Bool, false, [], None, Result, Ok, Err, IfErr, refl, sym, ap, subst}
+use Rattle.std.proofs.Common.{◌≡◌, ℕ, false, [], None, Result, Ok, Err, IfErr, refl, sym, ap, subst}
 use Rattle.xp_words.specs.declared.reply.Pause.TheVariants as pauses
 use Rattle.xp_words.specs.declared.reply.Refusal.TheVariants.{BadCommand, BadRange, CountFull, NoFrame, WrongOwner}
 use Rattle.xp_words.specs.declared.reply.Stop.{Stop}
@@ -22,7 +22,8 @@ use Rattle.mmu_update.specs.Elements as elements
 use Rattle.mmu_update.specs.Elements.{IsMapStop, IsUpdateStop, LeavesUpdate, ServesUpdate, update_request}
 use Rattle.mmu_update.specs.declared.element.Element.{Element}
 use Rattle.mmu_update.specs.declared.element.Element.TheVariants.{Misaligned, SetM2p, Unknown}
-use Rattle.xp_preempt.proofs.Consulting.{consulted_none, not_due}
+use Rattle.xp_preempt.specs.Gates.{Gate}
+use Rattle.xp_preempt.proofs.Consulting.{past_none}
 use Rattle.mmu_update.proofs.Holding.{leaves_same}
 use Rattle.mmu_update.proofs.Numbers.{no_step}
 use Rattle.mmu_update.proofs.Numbers as numbers
@@ -47,13 +48,8 @@ module _ (v w : PortValue) (o : Owners) (e : Element) (f gpfn : ℕ) (is : e ≡
   pub map_kinds : (answer : Result (Unit {0}) Stop) → SetFound v w f o.frames gpfn answer → IfErr answer (IsUpdateStop e)
   map_kinds answer a = subst (λ k. IfErr answer (IsUpdateStop k)) (sym is) (map_kind answer a).0
 
-  pub map_undue : (answer : Result (Unit {0}) Stop) → SetFound v w f o.frames gpfn answer → is_due_answer answer ≡ false
-  map_undue answer a = (map_kind answer a).1
-
-  pub map_course : (answer : Result (Unit {0}) Stop) (says : ℕ → Bool) (asks agreed : ℕ) → SetFound v w f o.frames gpfn answer → TwinSet v w f o.frames gpfn answer → UpdatesBy v w o e says asks asks agreed agreed answer
-  map_course answer says asks agreed found plain =
-      subst (λ k. UpdatesBy v w o k says asks asks agreed agreed answer) (sym is)
-      (record { answers = []; course = (refl, found, plain); gate = consulted_none says asks agreed; due = not_due (is_due_answer answer) [] (map_undue answer found) })
+  pub map_course : {g : Gate} (answer : Result (Unit {0}) Stop) → SetFound v w f o.frames gpfn answer → TwinSet v w f o.frames gpfn answer → UpdatesBy v w o e g g answer
+  map_course {g} answer found plain = subst (λ k. UpdatesBy v w o k g g answer) (sym is) (past_none (map_kind answer found).1 (refl, found, plain))
 
 pub map_hand : (v w : PortValue) → Same v w → LeavesUpdate v w
 map_hand v w same = leaves_same v w (ap quiet same)
@@ -70,9 +66,8 @@ module _ (v : PortValue) (o : Owners) (e : Element) where
     pub misaligned_stops : Stops v v (update_request o e (Err (Refused BadRange))) (Refused BadRange)
     misaligned_stops = subst (λ k. Stops v v (update_request o k (Err (Refused BadRange))) (Refused BadRange)) (sym is) (numbers.misaligned v)
 
-    pub misaligned_course : (says : ℕ → Bool) (asks agreed : ℕ) → UpdatesBy v v o e says asks asks agreed agreed (Err (Refused BadRange))
-    misaligned_course says asks agreed =
-        subst (λ k. UpdatesBy v v o k says asks asks agreed agreed (Err (Refused BadRange))) (sym is) (record { answers = []; course = (refl, refl, refl); gate = consulted_none says asks agreed; due = not_due false [] refl })
+    pub misaligned_course : {g : Gate} → UpdatesBy v v o e g g (Err (Refused BadRange))
+    misaligned_course {g} = subst (λ k. UpdatesBy v v o k g g (Err (Refused BadRange))) (sym is) (past_none refl (refl, refl, refl))
 
   module _ (is : e ≡ Unknown) where
     pub unknown_serves : ServesUpdate v v o e (Err (Refused BadCommand))
@@ -81,9 +76,8 @@ module _ (v : PortValue) (o : Owners) (e : Element) where
     pub unknown_stops : Stops v v (update_request o e (Err (Refused BadCommand))) (Refused BadCommand)
     unknown_stops = subst (λ k. Stops v v (update_request o k (Err (Refused BadCommand))) (Refused BadCommand)) (sym is) (numbers.unknown v)
 
-    pub unknown_course : (says : ℕ → Bool) (asks agreed : ℕ) → UpdatesBy v v o e says asks asks agreed agreed (Err (Refused BadCommand))
-    unknown_course says asks agreed =
-        subst (λ k. UpdatesBy v v o k says asks asks agreed agreed (Err (Refused BadCommand))) (sym is) (record { answers = []; course = (refl, refl, refl); gate = consulted_none says asks agreed; due = not_due false [] refl })
+    pub unknown_course : {g : Gate} → UpdatesBy v v o e g g (Err (Refused BadCommand))
+    unknown_course {g} = subst (λ k. UpdatesBy v v o k g g (Err (Refused BadCommand))) (sym is) (past_none refl (refl, refl, refl))
 
 -- what the search needs at the elements that write no word of a frame
 pub ruleset plain_ways = (came_self, serves_came, same_hand, map_hand, misaligned_serves, unknown_serves, misaligned_stops, unknown_stops)

@@ -1,5 +1,5 @@
 //! The way by which an address leads to a table of level 1, in the own kernel's tables.
-ghost use Rattle.std.specs.Prelude.{◌≡◌, ◌<◌, ◌≤◌, false, IfOk};
+ghost use Rattle.std.specs.Prelude.{◌≡◌, ◌<◌, ◌≤◌};
 ghost use Rattle.xp_words.specs.declared.reply.Refusal.TheVariants.{NotMapped};
 ghost use Rattle.xp_words.specs.declared.reply.Stop.TheVariants.{Refused};
 ghost use Rattle.step_maker.specs.Holds.{Rests, Same};

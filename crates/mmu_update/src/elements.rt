@@ -1,4 +1,4 @@
-ghost use Rattle.std.specs.Prelude.{◌≡◌, ◌<◌, ◌≤◌, ℕ, Bool, [], Some, true, false, Err, IfErr};
+ghost use Rattle.std.specs.Prelude.{◌≡◌, ◌<◌, ◌≤◌, Bool, [], Some, false, Err, IfErr};
 ghost use Rattle.xp_words.specs.Entries.{is_slot};
 ghost use Rattle.xp_words.specs.declared.reply.Refusal.{Refusal};
 ghost use Rattle.xp_words.specs.declared.reply.Stop.TheVariants.{Refused};
@@ -102,7 +102,7 @@ fn write_referred<P: Port>(
 ) -> Result<(), Stop>
     requires index { index < 512 }
     requires referred { IsReferred (P.value port.old) owners frame }
-    ensures writes { (b : PortValue) → Referred b (P.value port.old) owners frame →
+    ensures { (b : PortValue) → Referred b (P.value port.old) owners frame →
         WritesBy b (P.value port.new) owners frame index word keep (policy gate.old) (policy gate.new) result }
 {
     match lock_entry(port, frame, owners.tables) {
@@ -133,7 +133,7 @@ fn write_entry<P: Port>(
 ) -> Result<(), Stop>
     requires index { update.index < 512 }
     requires locked { IsUnderLock (P.value port.old) owners update.table update.level }
-    ensures writes { (b : PortValue) → UnderLock b (P.value port.old) owners update.table update.level →
+    ensures { (b : PortValue) → UnderLock b (P.value port.old) owners update.table update.level →
         WritesBy b (P.value port.new) owners update.table update.index update.word update.keep (policy gate.old) (policy gate.new) result }
 {
     if is_slot(update.level, update.index) {

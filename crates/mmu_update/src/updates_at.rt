@@ -1,5 +1,5 @@
 //! The entry of level 1 that maps an address, set.
-ghost use Rattle.std.specs.Prelude.{◌≡◌, ◌<◌, ℕ, Some, false, true};
+ghost use Rattle.std.specs.Prelude.{◌≡◌, ◌<◌, Some, false};
 ghost use Rattle.xp_words.specs.declared.kind.PageType.TheVariants.{L1};
 ghost use Rattle.xp_words.specs.declared.reply.Refusal.TheVariants.{OtherType};
 ghost use Rattle.xp_words.specs.declared.reply.Stop.TheVariants.{Refused};
@@ -7,7 +7,6 @@ ghost use Rattle.xp_board.specs.Told.{PortValue};
 ghost use Rattle.step_maker.specs.Holds.{Rests};
 ghost use Rattle.step_maker.specs.Moves.{Came};
 ghost use Rattle.foreign_map.specs.Owning.{MayMapFor};
-ghost use Rattle.level_release.specs.Asking.{is_due_answer};
 ghost use Rattle.table_words.specs.OldWords.{known_old};
 ghost use Rattle.table_words.specs.declared.old_words.OldWord.TheVariants.{First, Second};
 ghost use Rattle.mmu_update.specs.UpdatesAt.{EntersAtBy, UpdatesAtBy};
@@ -81,7 +80,7 @@ fn enter_referred<P: Port>(
     word: u64,
 ) -> Result<(), Stop>
     requires referred { IsReferred (P.value port.old) owners table }
-    ensures enters { (b : PortValue) → Referred b (P.value port.old) owners table →
+    ensures { (b : PortValue) → Referred b (P.value port.old) owners table →
         EntersAtBy b (P.value port.new) owners va table word (policy gate.old) (policy gate.new) result }
 {
     match lock_entry(port, table, owners.tables) {
@@ -111,7 +110,7 @@ fn enter_locked<P: Port>(
     word: u64,
 ) -> Result<(), Stop>
     requires locked { IsUnderLock (P.value port.old) owners table 1 }
-    ensures enters { (b : PortValue) → UnderLock b (P.value port.old) owners table 1 →
+    ensures { (b : PortValue) → UnderLock b (P.value port.old) owners table 1 →
         EntersAtBy b (P.value port.new) owners va table word (policy gate.old) (policy gate.new) result }
 {
     let update = EntryUpdate {

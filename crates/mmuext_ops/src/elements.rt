@@ -1,4 +1,4 @@
-ghost use Rattle.std.specs.Prelude.{◌≡◌, ℕ, Some, Err, true, false, IfErr};
+ghost use Rattle.std.specs.Prelude.{◌≡◌, Some, Err, IfErr};
 ghost use Rattle.xp_words.specs.declared.reply.Refusal.{Refusal};
 ghost use Rattle.xp_words.specs.declared.reply.Stop.TheVariants.{Refused};
 ghost use Rattle.xp_board.specs.Readings.{domain_of};
@@ -7,7 +7,6 @@ ghost use Rattle.step_maker.specs.Answers.{Stops};
 ghost use Rattle.table_words.specs.OldWords.{known_old};
 ghost use Rattle.table_words.specs.declared.old_words.OldWord.TheVariants.{First};
 ghost use Rattle.mmuext_ops.specs.Course.{PerformsBy};
-ghost use Rattle.level_release.specs.Asking.{is_due_answer};
 ghost use Rattle.mmuext_ops.specs.Elements.{IsElementStop, KnowsAwaited, LeavesElement, ServesElement, awaited_by, ext_element, ext_request};
 
 use crate::element::{Element, element_of};

@@ -1,10 +1,9 @@
 //! Pins.
-ghost use Rattle.std.specs.Prelude.{◌≡◌, ◌<◌, ◌≤◌, ℕ, [], Some, true, false};
+ghost use Rattle.std.specs.Prelude.{◌≡◌, ◌<◌, ◌≤◌, Some, true, false};
 ghost use Rattle.xp_board.specs.Readings.{domain_of};
 ghost use Rattle.step_maker.specs.Holds.{MayWork, Rests};
 ghost use Rattle.table_words.specs.OldWords.{known_old};
 ghost use Rattle.table_words.specs.declared.old_words.OldWord.TheVariants.{First};
-ghost use Rattle.level_release.specs.Asking.{is_due_answer};
 ghost use Rattle.mmuext_ops.specs.Holding.{GivesUp, HoldsTable, MeetsElement, PinsLive};
 ghost use Rattle.mmuext_ops.specs.declared.element.Element.TheVariants.{Pin};
 

@@ -1,5 +1,5 @@
 //! Translations of the own vCPU that are dropped.
-ghost use Rattle.std.specs.Prelude.{◌≡◌, ℕ, [], None, Ok, IfErr};
+ghost use Rattle.std.specs.Prelude.{ℕ, [], None, Ok, IfErr};
 ghost use Rattle.step_maker.specs.Holds.{FlushedSame, Rests};
 ghost use Rattle.step_maker.specs.Answers.{Stops};
 ghost use Rattle.mmuext_ops.specs.Course.{FlushedLocal, Invalidated};

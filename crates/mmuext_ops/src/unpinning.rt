@@ -1,10 +1,9 @@
 //! Unpins.
-ghost use Rattle.std.specs.Prelude.{◌≡◌, ℕ, Some, true, false};
+ghost use Rattle.std.specs.Prelude.{◌≡◌, Some};
 ghost use Rattle.xp_board.specs.Readings.{domain_of};
 ghost use Rattle.step_maker.specs.Holds.{Rests};
 ghost use Rattle.table_words.specs.OldWords.{known_old};
 ghost use Rattle.table_words.specs.declared.old_words.OldWord.TheVariants.{First};
-ghost use Rattle.level_release.specs.Asking.{is_due_answer};
 ghost use Rattle.mmuext_ops.specs.Holding.{MeetsElement};
 ghost use Rattle.mmuext_ops.specs.declared.element.Element.TheVariants.{Unpin};
 

@@ -1,6 +1,5 @@
 //! Flushes of other vCPUs.
-ghost use Rattle.std.specs.Prelude.{◌≡◌, ℕ, [], IfErr};
-ghost use Rattle.xp_board.specs.Readings.{domain_of};
+ghost use Rattle.std.specs.Prelude.{ℕ, [], IfErr};
 ghost use Rattle.step_maker.specs.Holds.{FlushedSame, Rests};
 ghost use Rattle.step_maker.specs.Answers.{Stops};
 ghost use Rattle.mmuext_ops.specs.Course.{WaitedForVcpus};

@@ -1,5 +1,5 @@
 //! The gates of the vCPUs.
-ghost use Rattle.std.specs.Prelude.{true, ◌==◌};
+ghost use Rattle.std.specs.Prelude.{true};
 ghost use Rattle.xp_preempt.specs.Gates.{is_in_step};
 
 use xp_preempt::{Paced, Preempt};

@@ -1,6 +1,6 @@
 //! A base is set: its word is stored, the own cache flushed, and what the word named before is released.
-ghost use Rattle.std.specs.Prelude.{◌≡◌, ◌∷◌, ℕ, [], Some, None, Ok, true};
-ghost use Rattle.step_maker.specs.Answers.{Serves, SetsWord};
+ghost use Rattle.std.specs.Prelude.{◌≡◌, Some, None, Ok, true};
+ghost use Rattle.step_maker.specs.Answers.{Serves};
 ghost use Rattle.level_validate.specs.Unwinding.{own_domain};
 ghost use Rattle.step_maker.specs.Holds.{FlushedSame, MayWork};
 ghost use Rattle.table_words.specs.OldWords.{known_old};

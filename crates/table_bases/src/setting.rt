@@ -1,11 +1,9 @@
 //! New bases.
-ghost use Rattle.std.specs.Prelude.{◌≡◌, ◌<◌, ◌≤◌, ℕ, Some, None, true, false, length, IfErr};
-ghost use Rattle.xp_board.specs.Readings.{domain_of};
+ghost use Rattle.std.specs.Prelude.{◌≡◌, ◌<◌, Some, None, IfErr};
 ghost use Rattle.step_maker.specs.Holds.{Rests};
 ghost use Rattle.step_maker.specs.Moves.{Came};
 ghost use Rattle.table_words.specs.OldWords.{known_old};
 ghost use Rattle.table_words.specs.declared.old_words.OldWord.TheVariants.{First};
-ghost use Rattle.level_release.specs.Asking.{is_due_answer};
 ghost use Rattle.table_bases.specs.Asking.{IsBaseStop, LeavesBase, ServesBase, StopsBase, user_frame};
 ghost use Rattle.table_bases.specs.Course.{MeetsBase, SetsBaseBy};
 ghost use Rattle.table_bases.specs.declared.words.Base.TheVariants.{Kernel, User};

@@ -1,5 +1,5 @@
 //! The words of a vCPU that name its top tables.
-ghost use Rattle.std.specs.Prelude.{◌≡◌, ◌≤◌, ℕ, Option, Some, None};
+ghost use Rattle.std.specs.Prelude.{◌≡◌, ◌≤◌, Option, Some, None};
 ghost use Rattle.xp_board.specs.declared.step.Act.TheVariants.{Store};
 ghost use Rattle.xp_board.specs.declared.step.StepKind.TheVariants as kinds;
 ghost use Rattle.step_maker.specs.Holds.{Holds, MayWork};

@@ -1,5 +1,4 @@
 //! One thread with the passes of two vCPUs.
-ghost use Rattle.std.specs.Prelude.{◌≡◌};
 ghost use Rattle.thread_tests.specs.Two.{IsIdlePass};
 
 use flush_words::look_run;

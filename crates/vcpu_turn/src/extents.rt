@@ -1,5 +1,5 @@
 //! Lists of `memory_op`: extents that go on from turn to turn.
-ghost use Rattle.std.specs.Prelude.{ℕ, ◌≡◌, ◌+◌, ◌<◌, ◌≤◌, true, false, Some, None, IfSome, ◌++◌, length, vec_len, vec_capacity};
+ghost use Rattle.std.specs.Prelude.{◌≡◌, ◌+◌, ◌<◌, ◌≤◌, Some, None, IfSome, ◌++◌, length, vec_len, vec_capacity};
 ghost use Rattle.xp_board.specs.Readings.{domain_of};
 ghost use Rattle.step_maker.specs.Holds.{Rests};
 ghost use Rattle.vcpu_turn.specs.Extents.{ListsExtents, SuitsExtents, block_at, extent_at, extents_in, given_lines, gives_blocks, is_memory_command, lines_by, mem_refusal};

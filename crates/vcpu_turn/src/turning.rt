@@ -1,4 +1,4 @@
-ghost use Rattle.std.specs.Prelude.{ℕ, ◌≡◌, ◌+◌, ◌<◌, ◌^◌, true, false, length, IfErr, IfSome};
+ghost use Rattle.std.specs.Prelude.{◌≡◌, ◌+◌, ◌<◌, ◌^◌, true, length, IfErr, IfSome};
 ghost use Rattle.xp_board.specs.Readings.{domain_of};
 ghost use Rattle.xp_board.specs.Told.{own_run};
 ghost use Rattle.step_maker.specs.Holds.{Rests};

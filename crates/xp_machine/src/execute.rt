@@ -1,7 +1,6 @@
 ghost use Rattle.std.specs.Prelude.{◌≡◌, ◌≤◌, length, map, vec_len, IfOk};
 ghost use Rattle.xp_words.specs.Places.{size, sizes_of};
 ghost use Rattle.report_text.specs.ReportOf.{report_of};
-ghost use Rattle.report_text.specs.SummaryOf.{summary_of};
 ghost use Rattle.trace_text.specs.Counted.{ops_of};
 ghost use Rattle.trace_text.specs.WellFormed.{IsWellFormed};
 ghost use Rattle.vcpu_runners.specs.Turns.{pending_of};

@@ -2,7 +2,7 @@ use Rattle.std.proofs.Common.{sym, ◌∙◌, subst}
 use Rattle.mmu_update.specs.Plain.{TwinUpdate}
 use Rattle.mmu_update.specs.declared.element.Element.TheVariants.{Write}
 use Rattle.mmu_update.proofs.Plainly.{updated_plain}
-use Rattle.mmu_update.proofs.Updating.{map_course, map_kinds, map_serves, map_undue, misaligned_course, unknown_course}
+use Rattle.mmu_update.proofs.Updating.{map_course, map_kinds, map_serves, misaligned_course, unknown_course}
 use Rattle.mmu_update.proofs.elements.update.Goals as goal
 
 pub returns-in-SetM2p-clause-serves : goal.returns-in-SetM2p-clause-serves
@@ -12,16 +12,13 @@ pub returns-in-SetM2p-clause-kinds : goal.returns-in-SetM2p-clause-kinds
 returns-in-SetM2p-clause-kinds g c = map_kinds (g.P.Port.value c.args.port.now) (g.P.Port.value c.set_m2p.new.port) c.args.owners _ c.in-SetM2p.frame c.in-SetM2p.gpfn (sym c.element_of.ensures ∙ c.in-SetM2p.is) c.set_m2p.result c.set_m2p.ensures.found
 
 pub returns-in-SetM2p-clause-course : goal.returns-in-SetM2p-clause-course
-returns-in-SetM2p-clause-course g c = map_course (g.P.Port.value c.args.port.now) (g.P.Port.value c.set_m2p.new.port) c.args.owners _ c.in-SetM2p.frame c.in-SetM2p.gpfn (sym c.element_of.ensures ∙ c.in-SetM2p.is) c.set_m2p.result _ _ _ c.set_m2p.ensures.found c.set_m2p.ensures.plain
-
-pub returns-in-SetM2p-clause-calm : goal.returns-in-SetM2p-clause-calm
-returns-in-SetM2p-clause-calm g c = λ calm. (map_undue (g.P.Port.value c.args.port.now) (g.P.Port.value c.set_m2p.new.port) c.args.owners _ c.in-SetM2p.frame c.in-SetM2p.gpfn (sym c.element_of.ensures ∙ c.in-SetM2p.is) c.set_m2p.result c.set_m2p.ensures.found, calm)
+returns-in-SetM2p-clause-course g c = map_course (g.P.Port.value c.args.port.now) (g.P.Port.value c.set_m2p.new.port) c.args.owners _ c.in-SetM2p.frame c.in-SetM2p.gpfn (sym c.element_of.ensures ∙ c.in-SetM2p.is) c.set_m2p.result c.set_m2p.ensures.found c.set_m2p.ensures.plain
 
 pub returns-in-Misaligned-clause-course : goal.returns-in-Misaligned-clause-course
-returns-in-Misaligned-clause-course g c = misaligned_course (g.P.Port.value c.args.port.now) c.args.owners _ (sym c.element_of.ensures ∙ c.in-Misaligned.is) _ _ _
+returns-in-Misaligned-clause-course g c = misaligned_course (g.P.Port.value c.args.port.now) c.args.owners _ (sym c.element_of.ensures ∙ c.in-Misaligned.is)
 
 pub returns-in-Unknown-clause-course : goal.returns-in-Unknown-clause-course
-returns-in-Unknown-clause-course g c = unknown_course (g.P.Port.value c.args.port.now) c.args.owners _ (sym c.element_of.ensures ∙ c.in-Unknown.is) _ _ _
+returns-in-Unknown-clause-course g c = unknown_course (g.P.Port.value c.args.port.now) c.args.owners _ (sym c.element_of.ensures ∙ c.in-Unknown.is)
 
 pub returns-in-SetM2p-clause-plain : goal.returns-in-SetM2p-clause-plain
 returns-in-SetM2p-clause-plain g c = updated_plain (g.P.Port.value c.args.port.now) (g.P.Port.value c.set_m2p.new.port) c.args.owners _ _ _ (returns-in-SetM2p-clause-course g c).course

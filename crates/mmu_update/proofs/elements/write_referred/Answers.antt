@@ -1,4 +1,4 @@
-use Rattle.mmu_update.proofs.Gating.{ungated}
+use Rattle.xp_preempt.proofs.Consulting.{past_none}
 use Rattle.mmu_update.proofs.Holding.{no_ending, no_lock, no_work}
 use Rattle.mmu_update.proofs.Referring.{may_put, ordinary, under_lock, unlocked}
 use Rattle.mmu_update.proofs.WriteKinds.{lock_kinds}
@@ -16,21 +16,21 @@ lock_entry-requires-clause-lasting g c = let r = c.requires.referred.1 in no_end
 pub put_ref-requires-clause-gives : goal.put_ref-requires-clause-gives
 put_ref-requires-clause-gives g c = may_put (g.P.Port.value c.lock_entry.new.port) c.requires.referred.1 c.in-Err.ensures.hand
 
-pub returns-in-Ok-Table-clause-writes : goal.returns-in-Ok-Table-clause-writes
-returns-in-Ok-Table-clause-writes g c = λ b r.
+pub returns-in-Ok-Table : goal.returns-in-Ok-Table
+returns-in-Ok-Table g c = λ b r.
     let t = c.in-Ok-Table.ensures in
-    c.write_entry.ensures.writes b (under_lock r t.serves (record { found = t.found; plain = t.plain; stops = tt }) t.hand c.in-Ok-Table.field-0-is)
+    c.write_entry.ensures b (under_lock r t.serves (record { found = t.found; plain = t.plain; stops = tt }) t.hand c.in-Ok-Table.field-0-is)
 
-pub returns-in-Ok-Other-clause-writes : goal.returns-in-Ok-Other-clause-writes
-returns-in-Ok-Other-clause-writes g c = λ b r.
+pub returns-in-Ok-Other : goal.returns-in-Ok-Other
+returns-in-Ok-Other g c = λ b r.
     let t = c.in-Ok-Other.ensures in
-    ungated c.write_memory.ensures.undue (c.write_memory.ensures.writes b c.args.keep (ordinary r t.serves (record { found = t.found; plain = t.plain; stops = tt }) t.hand c.in-Ok-Other.field-0-is))
+    past_none c.write_memory.ensures.undue (c.write_memory.ensures.writes b c.args.keep (ordinary r t.serves (record { found = t.found; plain = t.plain; stops = tt }) t.hand c.in-Ok-Other.field-0-is))
 
-pub returns-in-Err-clause-writes : goal.returns-in-Err-clause-writes
-returns-in-Err-clause-writes g c = λ b r.
+pub returns-in-Err : goal.returns-in-Err
+returns-in-Err g c = λ b r.
     let t = c.in-Err.ensures in
     let p = c.put_ref.ensures in
-    ungated (lock_kinds c.in-Err.stop t.kinds).1 (unlocked _ r t.hand p.hand t.serves t.kinds (record {
+    past_none (lock_kinds c.in-Err.stop t.kinds).1 (unlocked _ r t.hand p.hand t.serves t.kinds (record {
       found = t.found;
       plain = t.plain;
       stops = t.stops;

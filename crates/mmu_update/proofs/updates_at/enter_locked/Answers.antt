@@ -8,5 +8,5 @@ exchange_entry-requires-clause-locked g c = holds_table c.requires.locked.1
 pub exchange_entry-requires-clause-maps : goal.exchange_entry-requires-clause-maps
 exchange_entry-requires-clause-maps g c = maps_still c.requires.locked.1
 
-pub returns-clause-enters : goal.returns-clause-enters
-returns-clause-enters g c = λ b a. at_exchanged a c.index_at.ensures.index c.exchange_entry.ensures
+pub returns : goal.returns
+returns g c = λ b a. at_exchanged a c.index_at.ensures.index c.exchange_entry.ensures

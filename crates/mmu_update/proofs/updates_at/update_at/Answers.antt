@@ -1,6 +1,6 @@
 use Rattle.std.proofs.Common.{Err}
 use Rattle.mmu_update.proofs.Leading.{leads_came}
-use Rattle.mmu_update.proofs.Reaching.{begins_there, led, led_came, unled, unled_undue}
+use Rattle.mmu_update.proofs.Reaching.{begins_there, led, led_came, unled}
 use Rattle.mmu_update.proofs.updates_at.update_at.Goals as goal
 
 pub enter_table-requires : goal.enter_table-requires
@@ -17,6 +17,3 @@ returns-in-Err-clause-came g c = leads_came (g.P.Port.value c.args.port.now) (g.
 
 pub returns-in-Err-clause-updates : goal.returns-in-Err-clause-updates
 returns-in-Err-clause-updates g c = unled c.requires.rests c.in-Err.ensures.leads
-
-pub returns-in-Err-clause-calm : goal.returns-in-Err-clause-calm
-returns-in-Err-clause-calm g c = λ calm. (unled_undue c.in-Err.ensures.leads, calm)
