@@ -1,9 +1,8 @@
-use Rattle.std.proofs.Common.{◌≡◌, ◌∙◌, ◌<◌, ◌≤◌, Err, ap, length, refl, rules, slice_index_or, subst, sym}
+use Rattle.std.proofs.Common.{◌∙◌, ◌<◌, ◌≤◌, Err, ap, length, refl, subst, sym}
 use Rattle.xp_words.specs.Machine.{Machine}
 use Rattle.xp_words.specs.declared.reply.Refusal.TheVariants.{NoPrivilege}
 use Rattle.xp_words.specs.declared.reply.Stop.TheVariants.{Refused}
 use Rattle.domain_destroy.specs.Asking.{ServesDestroy, StopsDestroyer}
-use Rattle.domain_destroy.specs.Course.{own_of}
 use Rattle.domain_destroy.proofs.Dooming.{Begins, barred_by, barred_stops, begun_by, begun_come, begun_serves, dying_by, dying_serves, dying_stops, looked_serves, missing_by, missing_stops, own_by, own_stops}
 use Rattle.domain_destroy.proofs.Parts.{nothing_serves}
 use Rattle.domain_destroy.proofs.beginning.begin.Goals.{then-domain-caller-via-else-domain-caller+then-not-has_privilege, then-domain-caller-via-then-domain-caller}
