@@ -1,0 +1,74 @@
+-- What bytes hold as numbers of eight bytes, and which bytes numbers make.
+use Rattle.std.proofs.Common.{◌≡◌, ℕ, zero, suc, ◌+◌, ◌-◌, ◌*◌, ◌^◌, ◌≤◌, ◌<◌, List, [], ◌∷◌, ◌++◌, length, take, drop, map, get_or, codes, refl, sym, ap, subst, ◌∙◌, append_assoc, arith, inl, inr}
+use Rattle.std.specs.List.{flat_map, range_with_len, AllByRecursion}
+use Rattle.std.specs.Int.{w64, from_le_bytes}
+use Rattle.std.proofs.Math.Seq.{take-add}
+use Rattle.std.proofs.lemmas.Bool.{cases_lt}
+use Rattle.std.proofs.lemmas.Grind.{flat_map-append}
+use Rattle.std.proofs.lemmas.List.{append-nil, drop_at, drop-drop, get_or-drop, get_or-take, get_or_past, length-append, length-drop, length-take, take_all}
+use Rattle.std.proofs.lemmas.List.Concat.{flat_map-cons}
+use Rattle.std.proofs.lemmas.Nat.{le_bytes_8}
+use Rattle.byteorder.specs.Endian.{little_number, little_bytes}
+use Rattle.byteorder.specs.Numbers.{little_from-take, little_number-reads_back, length-bytes_low_first}
+use Rattle.xp_words.specs.Machine.{Machine}
+use Rattle.machine_image.specs.Image.{number_bytes, numbers_bytes, fixed_numbers, image_of}
+use Rattle.machine_image.specs.Reading.{number_at}
+
+-- the bytes of two lists of numbers
+pub numbers-append : (ms ns : List ℕ) → numbers_bytes (ms ++ ns) ≡ numbers_bytes ms ++ numbers_bytes ns
+numbers-append ms ns = flat_map-append number_bytes ms ns
+
+pub numbers-cons : (n : ℕ) (ns : List ℕ) → numbers_bytes (n ∷ ns) ≡ number_bytes n ++ numbers_bytes ns
+numbers-cons n ns = flat_map-cons number_bytes n ns
+
+-- an image as it is put together
+put_together : (m : Machine) (words : List ℕ) → ((codes "XPVIMG01" ++ numbers_bytes (fixed_numbers m)) ++ number_bytes (length words)) ++ numbers_bytes words ≡ image_of m words
+unfolding image_of
+put_together m words =
+    append_assoc (codes "XPVIMG01" ++ numbers_bytes (fixed_numbers m)) (number_bytes (length words)) (numbers_bytes words)
+    ∙ append_assoc (codes "XPVIMG01") (numbers_bytes (fixed_numbers m)) (number_bytes (length words) ++ numbers_bytes words)
+    ∙ ap (λ (xs : List ℕ). codes "XPVIMG01" ++ (numbers_bytes (fixed_numbers m) ++ xs)) (sym (numbers-cons (length words) words))
+    ∙ ap (λ (xs : List ℕ). codes "XPVIMG01" ++ xs) (sym (numbers-append (fixed_numbers m) (length words ∷ words)))
+
+pub put_in_order : (m : Machine) (words a b c d : List ℕ) (n : ℕ) → n ≡ length words → a ≡ codes "XPVIMG01" → b ≡ a ++ numbers_bytes (fixed_numbers m) → c ≡ b ++ number_bytes n → d ≡ c ++ numbers_bytes words → d ≡ image_of m words
+put_in_order m words a b c d n count first second third fourth =
+    let whole = put_together m words in
+    cc
+
+-- ---- one number
+-- each is a byte
+pub record AreBytes (bytes : List ℕ) : Type 0 where
+  pub small : (i : ℕ) → get_or bytes i 0 < 256
+
+AreBytes-take : (n : ℕ) (bytes : List ℕ) → AreBytes bytes → AreBytes (take n bytes)
+AreBytes-take n bytes h = record {
+  small = λ i. elim (cases_lt i n) [
+    | inl lt ↦ rw (get_or-take n bytes i 0 lt) (h.small i)
+    | inr le ↦ rw (get_or_past (take n bytes) i 0 (omega (arith, length-take n bytes))) (omega arith)
+  ];
+}
+
+AreBytes-drop : (n : ℕ) (bytes : List ℕ) → AreBytes bytes → AreBytes (drop n bytes)
+AreBytes-drop n bytes h = record { small = λ i. rw get_or-drop (h.small (n + i)) }
+
+-- eight bytes are those of their number
+pub bytes_back : (bytes : List ℕ) → length bytes ≡ 8 → AreBytes bytes → number_bytes (little_number 8 bytes) ≡ bytes
+unfolding number_bytes
+bytes_back bytes len are = le_bytes_8 bytes (little_number 8 bytes) len are.small (omega arith)
+
+pub length-number : (n : ℕ) → length (number_bytes n) ≡ 8
+unfolding number_bytes
+length-number n = length-bytes_low_first 0 8 n
+
+-- a number of 64 bits is read again from the bytes that it stands in first
+pub number_back : (n : ℕ) (rest : List ℕ) → n < 2 ^ 64 → number_at (number_bytes n ++ rest) 0 ≡ n
+unfolding number_at number_bytes
+number_back n rest fits = little_number-reads_back 8 n rest fits
+
+-- ---- many numbers
+pub length-numbers : (ns : List ℕ) → length (numbers_bytes ns) ≡ 8 * length ns
+length-numbers [] = refl
+length-numbers (n ∷ ns) =
+    let tail = length-numbers ns in
+    let head = length-number n in
+    ap length (numbers-cons n ns) ∙ length-append (number_bytes n) (numbers_bytes ns) ∙ omega arith
