@@ -72,3 +72,53 @@ length-numbers (n ∷ ns) =
     let tail = length-numbers ns in
     let head = length-number n in
     ap length (numbers-cons n ns) ∙ length-append (number_bytes n) (numbers_bytes ns) ∙ omega arith
+
+number_at-next : (n k : ℕ) (rest : List ℕ) → number_at (number_bytes n ++ rest) (suc k) ≡ number_at rest k
+unfolding number_at
+number_at-next n k rest =
+    let far : 8 * suc k ≡ 8 + 8 * k = omega arith in
+    let gone : drop (8 * suc k) (number_bytes n ++ rest) ≡ drop (8 * k) rest = rw far (sym (drop-drop (8 * k) 8 (number_bytes n ++ rest)) ∙ ap (drop (8 * k)) (drop_at (number_bytes n) rest 8 (length-number n))) in
+    ap (little_number 8) gone
+
+-- each number of 64 bits is read again
+pub numbers_back : (ns : List ℕ) (k : ℕ) → AllByRecursion (λ n. n < 2 ^ 64) ns → k < length ns → number_at (numbers_bytes ns) k ≡ get_or ns k 0
+numbers_back [] k fits inside = absurd (omega arith)
+numbers_back (n ∷ ns) zero fits inside =
+    ap (λ (xs : List ℕ). number_at xs 0) (numbers-cons n ns) ∙ number_back n (numbers_bytes ns) fits.0
+numbers_back (n ∷ ns) (suc k) fits inside =
+    ap (λ (xs : List ℕ). number_at xs (suc k)) (numbers-cons n ns) ∙ number_at-next n k (numbers_bytes ns) ∙ numbers_back ns k fits.1 (omega arith)
+
+-- ---- bytes that begin with the bytes of numbers
+pub record Front (bytes : List ℕ) (k : ℕ) (ns : List ℕ) : Type 0 where
+  pub count : length ns ≡ k
+  pub long : 8 * k ≤ length bytes
+  pub same : take (8 * k) bytes ≡ numbers_bytes ns
+
+eight_bytes : (bytes : List ℕ) (k : ℕ) → AreBytes bytes → 8 * k + 8 ≤ length bytes → take 8 (drop (8 * k) bytes) ≡ number_bytes (number_at bytes k)
+unfolding number_at
+eight_bytes bytes k are whole =
+    let rest = drop (8 * k) bytes in
+    let len : length (take 8 rest) ≡ 8 = omega (arith, length-take 8 rest, length-drop (8 * k) bytes) in
+    sym (bytes_back (take 8 rest) len (AreBytes-take 8 rest (AreBytes-drop (8 * k) bytes are)))
+    ∙ ap number_bytes (little_from-take 0 8 8 rest (omega arith))
+
+-- one number more
+pub front_more : (bytes : List ℕ) (k : ℕ) (ns : List ℕ) (x : ℕ) → AreBytes bytes → Front bytes k ns → 8 * k + 8 ≤ length bytes → number_at bytes k ≡ x → Front bytes (k + 1) (ns ++ x ∷ [])
+front_more bytes k ns x are front whole is =
+    let far : 8 * (k + 1) ≡ 8 * k + 8 = omega arith in
+    let one : numbers_bytes (x ∷ []) ≡ number_bytes x = numbers-cons x [] ∙ append-nil (number_bytes x) in
+    record {
+      count = omega (arith, length-append ns (x ∷ []), front.count);
+      long = omega arith;
+      same = ap (λ (i : ℕ). take i bytes) far ∙ take-add (8 * k) 8 bytes
+      ∙ ap (λ (xs : List ℕ). xs ++ take 8 (drop (8 * k) bytes)) front.same
+      ∙ ap (λ (xs : List ℕ). numbers_bytes ns ++ xs) (eight_bytes bytes k are whole ∙ ap number_bytes is ∙ sym one)
+      ∙ sym (numbers-append ns (x ∷ []));
+    }
+
+-- all of the bytes
+pub front_all : (bytes : List ℕ) (k : ℕ) (ns : List ℕ) → Front bytes k ns → length bytes ≤ 8 * k → bytes ≡ numbers_bytes ns
+front_all bytes k ns front short = sym (take_all (8 * k) bytes short) ∙ front.same
+
+pub front_none : (bytes : List ℕ) → Front bytes 0 []
+front_none bytes = record { count = refl; long = omega arith; same = refl }
