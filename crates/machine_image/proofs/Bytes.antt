@@ -48,7 +48,7 @@ AreBytes-take n bytes h = record {
   ];
 }
 
-AreBytes-drop : (n : ℕ) (bytes : List ℕ) → AreBytes bytes → AreBytes (drop n bytes)
+pub AreBytes-drop : (n : ℕ) (bytes : List ℕ) → AreBytes bytes → AreBytes (drop n bytes)
 AreBytes-drop n bytes h = record { small = λ i. rw get_or-drop (h.small (n + i)) }
 
 -- eight bytes are those of their number

@@ -1,4 +1,6 @@
 pub mod Bytes
 pub mod Fields
+pub mod Images
 pub mod Loop
 pub mod Machines
+pub mod Stands
