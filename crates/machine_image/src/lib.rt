@@ -7,9 +7,13 @@
 #![tactic(auto)]
 
 mod fault;
+mod laws;
 mod read;
 mod write;
 
 pub use fault::ImageFault;
+pub use laws::{
+    an_image_has_one_spelling, an_image_reads_back, bytes_without_fault_are_an_image,
+};
 pub use read::read_image;
 pub use write::write_image;
