@@ -1,14 +1,13 @@
 -- What bytes hold as numbers of eight bytes, and which bytes numbers make.
-use Rattle.std.proofs.Common.{◌≡◌, ℕ, zero, suc, ◌+◌, ◌-◌, ◌*◌, ◌^◌, ◌≤◌, ◌<◌, List, [], ◌∷◌, ◌++◌, length, take, drop, map, get_or, codes, refl, sym, ap, subst, ◌∙◌, append_assoc, arith, inl, inr}
-use Rattle.std.specs.List.{flat_map, range_with_len, AllByRecursion}
-use Rattle.std.specs.Int.{w64, from_le_bytes}
+use Rattle.std.proofs.Common.{◌≡◌, ℕ, zero, suc, ◌+◌, ◌*◌, ◌^◌, ◌≤◌, ◌<◌, List, [], ◌∷◌, ◌++◌, length, take, drop, get_or, codes, refl, sym, ap, ◌∙◌, append_assoc, arith, inl, inr}
+use Rattle.std.specs.List.{AllByRecursion}
 use Rattle.std.proofs.Math.Seq.{take-add}
 use Rattle.std.proofs.lemmas.Bool.{cases_lt}
 use Rattle.std.proofs.lemmas.Grind.{flat_map-append}
 use Rattle.std.proofs.lemmas.List.{append-nil, drop_at, drop-drop, get_or-drop, get_or-take, get_or_past, length-append, length-drop, length-take, take_all}
 use Rattle.std.proofs.lemmas.List.Concat.{flat_map-cons}
 use Rattle.std.proofs.lemmas.Nat.{le_bytes_8}
-use Rattle.byteorder.specs.Endian.{little_number, little_bytes}
+use Rattle.byteorder.specs.Endian.{little_number}
 use Rattle.byteorder.specs.Numbers.{little_from-take, little_number-reads_back, length-bytes_low_first}
 use Rattle.xp_words.specs.Machine.{Machine}
 use Rattle.machine_image.specs.Image.{number_bytes, numbers_bytes, fixed_numbers, image_of}
@@ -111,9 +110,9 @@ front_more bytes k ns x are front whole is =
       count = omega (arith, length-append ns (x ∷ []), front.count);
       long = omega arith;
       same = ap (λ (i : ℕ). take i bytes) far ∙ take-add (8 * k) 8 bytes
-      ∙ ap (λ (xs : List ℕ). xs ++ take 8 (drop (8 * k) bytes)) front.same
-      ∙ ap (λ (xs : List ℕ). numbers_bytes ns ++ xs) (eight_bytes bytes k are whole ∙ ap number_bytes is ∙ sym one)
-      ∙ sym (numbers-append ns (x ∷ []));
+          ∙ ap (λ (xs : List ℕ). xs ++ take 8 (drop (8 * k) bytes)) front.same
+          ∙ ap (λ (xs : List ℕ). numbers_bytes ns ++ xs) (eight_bytes bytes k are whole ∙ ap number_bytes is ∙ sym one)
+          ∙ sym (numbers-append ns (x ∷ []));
     }
 
 -- all of the bytes

@@ -1,10 +1,8 @@
 -- What a number or a row of numbers that was read says of the bytes, and when they are read.
-use Rattle.std.proofs.Common.{◌≡◌, ℕ, zero, suc, ◌+◌, ◌-◌, ◌*◌, ◌^◌, ◌≤◌, ◌<◌, Bool, true, false, cond, ltb, List, [], ◌∷◌, ◌++◌, length, map, get_or, Result, Ok, Err, refl, sym, ap, subst, ◌∙◌, append_assoc, arith}
-use Rattle.std.specs.List.{range_with_len}
+use Rattle.std.proofs.Common.{◌≡◌, ℕ, zero, suc, ◌+◌, ◌*◌, ◌≤◌, ◌<◌, Bool, true, false, cond, ltb, List, [], ◌∷◌, ◌++◌, length, get_or, Result, Ok, Err, refl, sym, ap, subst, ◌∙◌, append_assoc, arith}
 use Rattle.std.proofs.lemmas.Bool.{ltb-false, le-ltb}
-use Rattle.std.proofs.lemmas.List.{append-nil, length-append}
-use Rattle.std.proofs.lemmas.List.FromFn.{map-range_with_len_more, length-map-range_with_len}
-use Rattle.machine_image.specs.Reading.{◌>>=◌, number_at, tested_at, each_at, words_at, ended_at}
+use Rattle.std.proofs.lemmas.List.{append-nil}
+use Rattle.machine_image.specs.Reading.{◌>>=◌, number_at, tested_at, each_at}
 use Rattle.machine_image.proofs.Bytes.{AreBytes, Front, front_more}
 
 -- the value of a step that did not fail
@@ -62,9 +60,9 @@ holds_at test bytes i k x xs first others (suc j) inside =
 holds_later : (test : ℕ → ℕ → Bool) (bytes : List ℕ) (i k x : ℕ) (xs : List ℕ) → HoldsEach test bytes i k (x ∷ xs) → HoldsEach test bytes (suc i) (suc k) xs
 holds_later test bytes i k x xs h = record {
   each = λ j inside.
-    let a : i + suc j ≡ suc i + j = omega arith in
-    let b : k + suc j ≡ suc k + j = omega arith in
-    rw (a, b) at (h.each (suc j) (omega arith));
+      let a : i + suc j ≡ suc i + j = omega arith in
+      let b : k + suc j ≡ suc k + j = omega arith in
+      rw (a, b) at (h.each (suc j) (omega arith));
 }
 
 holds_first : (test : ℕ → ℕ → Bool) (bytes : List ℕ) (i k x : ℕ) (xs : List ℕ) → HoldsEach test bytes i k (x ∷ xs) → Holds (test i) bytes k x

@@ -1,5 +1,5 @@
 -- Bytes that are read are the image of what is read.
-use Rattle.std.proofs.Common.{◌≡◌, ℕ, zero, suc, ◌+◌, ◌-◌, ◌*◌, ◌^◌, ◌≤◌, ◌<◌, Bool, true, false, cond, ltb, List, [], ◌∷◌, ◌++◌, length, map, drop, get_or, All, codes, Result, Ok, Err, refl, sym, ap, subst, ◌∙◌, append_assoc, arith}
+use Rattle.std.proofs.Common.{◌≡◌, ℕ, ◌+◌, ◌*◌, ◌^◌, ◌≤◌, ◌<◌, Bool, true, ltb, List, [], ◌∷◌, ◌++◌, length, map, drop, All, codes, Result, Ok, refl, sym, ap, subst, ◌∙◌, append_assoc, arith}
 use Rattle.std.specs.List.{range_with_len}
 use Rattle.std.proofs.lemmas.Bool.{ltb-false, le-ltb}
 use Rattle.std.proofs.lemmas.List.{get_or_default, same_lists}
@@ -8,10 +8,10 @@ use Rattle.byteorder.specs.Numbers.{little_from-lt}
 use Rattle.xp_words.specs.Machine.{Machine}
 use Rattle.xp_words.specs.Places.{size, sizes_of}
 use Rattle.machine_image.specs.Image.{number_bytes, numbers_bytes, fixed_numbers, image_of, IsImaged}
-use Rattle.machine_image.specs.Reading.{◌>>=◌, letters, number_at, ranged_at, words_at, ended_at, machine_at, count_place, image_at}
-use Rattle.machine_image.proofs.Bytes.{AreBytes, AreBytes-drop, Front, front_more, front_all, numbers-cons}
-use Rattle.machine_image.proofs.Fields.{bind_ok, guard_ok, done_ok, Holds, tested_holds, holds_tested, HoldsEach, front_each}
-use Rattle.machine_image.proofs.Machines.{in_range, only_one, in_range_from, MachineHolds, machine_holds, machine_read, machine_front, is_machine}
+use Rattle.machine_image.specs.Reading.{letters, number_at, ranged_at, words_at, ended_at, machine_at, count_place, image_at}
+use Rattle.machine_image.proofs.Bytes.{AreBytes, AreBytes-drop, front_more, front_all, numbers-cons}
+use Rattle.machine_image.proofs.Fields.{bind_ok, done_ok, Holds, tested_holds, holds_tested, HoldsEach, front_each}
+use Rattle.machine_image.proofs.Machines.{in_range, only_one, MachineHolds, machine_holds, machine_read, machine_front, is_machine}
 
 -- any number is a word
 abbrev pub any_word : ℕ → ℕ → Bool
@@ -27,14 +27,17 @@ words_hold bytes k n xs e =
     let g = done_ok (ltb (length bytes) (8 * (k + n))) (length bytes) (map f (range_with_len k n)) xs e in
     let long : 8 * (k + n) ≤ length bytes = ltb-false _ _ g.0 in
     let count = length-map-range_with_len f k n in
-    subst (λ (ys : List ℕ). (length ys ≡ n) × (8 * (k + n) ≤ length bytes) × HoldsEach any_word bytes 0 k ys) g.1
-    (count, long, record {
-      each = λ j inside. (let below : j < n = omega arith in record {
-        whole = omega arith;
-        is = sym (get_or-map-range_with_len f k n j (k + j) 0 below refl);
-        right = refl;
-      });
-    })
+    subst (λ (ys : List ℕ). (length ys ≡ n) × (8 * (k + n) ≤ length bytes) × HoldsEach any_word bytes 0 k ys) g.1 (
+      count,
+      long,
+      record {
+        each = λ j inside. (let below : j < n = omega arith in record {
+          whole = omega arith;
+          is = sym (get_or-map-range_with_len f k n j (k + j) 0 below refl);
+          right = refl;
+        });
+      },
+    )
 
 words_read : (bytes : List ℕ) (k : ℕ) (xs : List ℕ) → 8 * (k + length xs) ≤ length bytes → HoldsEach any_word bytes 0 k xs → words_at bytes k (length xs) ≡ Ok xs
 unfolding words_at
@@ -44,8 +47,8 @@ words_read bytes k xs long h =
     let test = le-ltb (length bytes) (8 * (k + n)) long in
     let count = length-map-range_with_len f k n in
     let same : map f (range_with_len k n) ≡ xs = same_lists (map f (range_with_len k n)) xs count (λ j d inside.
-      (let below : j < n = omega arith in
-      get_or-map-range_with_len f k n j (k + j) d below refl ∙ (h.each j below).is ∙ get_or_default xs j 0 d below)) in
+    (let below : j < n = omega arith in
+    get_or-map-range_with_len f k n j (k + j) d below refl ∙ (h.each j below).is ∙ get_or_default xs j 0 d below)) in
     rw test (ap (λ (ys : List ℕ). Ok ys) same)
 
 -- each part of an image stands at its place
@@ -121,9 +124,11 @@ image_is bytes m ws are h =
     all
     ∙ ap numbers_bytes (append_assoc numbers (length ws ∷ []) ws)
     ∙ numbers-cons letters (fixed_numbers m ++ (length ws ∷ ws))
-    ∙ ap (λ (xs : List ℕ). xs ++ numbers_bytes (fixed_numbers m ++ (length ws ∷ ws))) letters_bytes in
-    (record {
-      machine = is_machine bytes m h.machine;
-      whole = only_one s (length ws) h.count.right;
-      narrow = words_narrow bytes (k + 1) ws are h.words;
-    }, text)
+    ∙ ap (λ (xs : List ℕ). xs ++ numbers_bytes (fixed_numbers m ++ (length ws ∷ ws))) letters_bytes in (
+      record {
+        machine = is_machine bytes m h.machine;
+        whole = only_one s (length ws) h.count.right;
+        narrow = words_narrow bytes (k + 1) ws are h.words;
+      },
+      text,
+    )

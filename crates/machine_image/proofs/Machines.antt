@@ -1,11 +1,11 @@
 -- The fixed numbers of a machine, as they stand in bytes.
-use Rattle.std.proofs.Common.{◌≡◌, ℕ, zero, suc, ◌+◌, ◌-◌, ◌*◌, ◌^◌, ◌≤◌, ◌<◌, Bool, true, false, ◌&&◌, not, cond, ltb, leb, List, [], ◌∷◌, ◌++◌, length, get_or, All, IsTrue, Result, Ok, Err, refl, sym, ap, subst, ◌∙◌, append_assoc, arith}
-use Rattle.std.proofs.lemmas.Bool.{ltb-true, lt-ltb, leb-true, le-leb, and_parts, and_from}
+use Rattle.std.proofs.Common.{◌≡◌, ℕ, ◌+◌, ◌-◌, ◌*◌, ◌^◌, ◌≤◌, ◌<◌, Bool, true, ◌&&◌, not, ltb, leb, List, [], ◌∷◌, ◌++◌, length, get_or, Result, Ok, refl, sym, ap, subst, ◌∙◌, append_assoc, arith}
+use Rattle.std.proofs.lemmas.Bool.{ltb-true, leb-true, le-leb, and_parts, and_from}
 use Rattle.std.proofs.lemmas.List.{get_or_default}
 use Rattle.xp_words.specs.Entries.{is_bit}
 use Rattle.xp_words.specs.Machine.{Machine, IsMachine, IsMask}
 use Rattle.machine_image.specs.Image.{fixed_numbers}
-use Rattle.machine_image.specs.Reading.{◌>>=◌, letters, ranged_at, mask_at, each_at, machine_at, count_place}
+use Rattle.machine_image.specs.Reading.{letters, ranged_at, mask_at, each_at, machine_at, count_place}
 use Rattle.machine_image.proofs.Bytes.{AreBytes, Front, front_none, front_more}
 use Rattle.machine_image.proofs.Fields.{bind_ok, Holds, tested_holds, holds_tested, HoldsEach, each_holds, holds_each, front_each}
 

@@ -1,5 +1,5 @@
 -- An image is read as what it was made of.
-use Rattle.std.proofs.Common.{◌≡◌, ℕ, zero, suc, ◌+◌, ◌-◌, ◌*◌, ◌^◌, ◌≤◌, ◌<◌, Bool, true, not, ltb, List, [], ◌∷◌, ◌++◌, length, get_or, All, codes, Result, Ok, Err, refl, sym, ap, subst, ◌∙◌, append_assoc, arith}
+use Rattle.std.proofs.Common.{◌≡◌, ℕ, ◌+◌, ◌-◌, ◌*◌, ◌^◌, ◌≤◌, ◌<◌, Bool, true, not, ltb, List, [], ◌∷◌, ◌++◌, length, get_or, All, refl, sym, ap, ◌∙◌, append_assoc, arith}
 use Rattle.std.specs.List.{AllByRecursion}
 use Rattle.std.proofs.Math.Nat.{pow-le-pow_right}
 use Rattle.std.proofs.lemmas.Bool.{lt-ltb, and_from}
@@ -8,8 +8,8 @@ use Rattle.std.proofs.lemmas.List.Elements.{All-append, All-from_get_or, All-fro
 use Rattle.xp_words.specs.Entries.{is_bit}
 use Rattle.xp_words.specs.Machine.{Machine, IsMachine, IsMask}
 use Rattle.xp_words.specs.Places.{size, sizes_of}
-use Rattle.machine_image.specs.Image.{number_bytes, numbers_bytes, sizes_numbers, fixed_numbers, image_of, IsImaged}
-use Rattle.machine_image.specs.Reading.{letters, number_at, count_place, image_at}
+use Rattle.machine_image.specs.Image.{numbers_bytes, sizes_numbers, fixed_numbers, image_of, IsImaged}
+use Rattle.machine_image.specs.Reading.{letters, number_at, count_place}
 use Rattle.machine_image.proofs.Bytes.{numbers_back, length-numbers, numbers-cons}
 use Rattle.machine_image.proofs.Fields.{Holds, HoldsEach}
 use Rattle.machine_image.proofs.Machines.{in_range, in_range_from, is_mask, MachineHolds}
@@ -39,15 +39,15 @@ one_stands test bytes all k x are inside is right =
 row_stands : (test : ℕ → ℕ → Bool) (bytes all front xs rest : List ℕ) (k : ℕ) → AreNumbers bytes all → all ≡ front ++ (xs ++ rest) → length front ≡ k → ((j : ℕ) → j < length xs → test j (get_or xs j 0) ≡ true) → HoldsEach test bytes 0 k xs
 row_stands test bytes all front xs rest k are parts count right = record {
   each = λ j inside.
-    let none : 0 + j ≡ j = omega arith in
-    let place : k + j ≡ length front + j = omega arith in
-    let long : length all ≡ length front + (length xs + length rest) = ap length parts ∙ length-append front (xs ++ rest) ∙ ap (λ (n : ℕ). length front + n) (length-append xs rest) in
-    let here : get_or all (k + j) 0 ≡ get_or xs j 0 =
-    ap (λ (l : List ℕ). get_or l (k + j) 0) parts
-    ∙ ap (λ (i : ℕ). get_or (front ++ (xs ++ rest)) i 0) place
-    ∙ get_or-append-add front (xs ++ rest) j 0
-    ∙ get_or_append_left xs rest 0 j inside in
-    one_stands (test (0 + j)) bytes all (k + j) (get_or xs j 0) are (omega arith) here (rw none (right j inside));
+      let none : 0 + j ≡ j = omega arith in
+      let place : k + j ≡ length front + j = omega arith in
+      let long : length all ≡ length front + (length xs + length rest) = ap length parts ∙ length-append front (xs ++ rest) ∙ ap (λ (n : ℕ). length front + n) (length-append xs rest) in
+      let here : get_or all (k + j) 0 ≡ get_or xs j 0 =
+      ap (λ (l : List ℕ). get_or l (k + j) 0) parts
+      ∙ ap (λ (i : ℕ). get_or (front ++ (xs ++ rest)) i 0) place
+      ∙ get_or-append-add front (xs ++ rest) j 0
+      ∙ get_or_append_left xs rest 0 j inside in
+      one_stands (test (0 + j)) bytes all (k + j) (get_or xs j 0) are (omega arith) here (rw none (right j inside));
 }
 
 -- ---- the numbers of an image are of 64 bits
@@ -100,9 +100,9 @@ machine_stands bytes m ws are is =
       page_limit = row_stands (λ _. in_range 0 65536) bytes all sizes m.page_limit ((m.privilege ++ m.vcpu_domain) ++ behind) 5 are (simp append_assoc) refl (λ j inside. in_range_from 0 65536 (get_or m.page_limit j 0) (omega arith) (is.few_pages j 0 inside));
       masks = is.masks;
       privilege = row_stands (is_mask n) bytes all (sizes ++ m.page_limit) m.privilege (m.vcpu_domain ++ behind) (5 + n) are (simp append_assoc) (omega (arith, length-append sizes m.page_limit))
-      (λ j inside. (let mask = is.no_own j inside in and_from (ltb (get_or m.privilege j 0) (2 ^ n)) (not (is_bit j (get_or m.privilege j 0))) (lt-ltb _ _ mask.within) mask.no_own));
+          (λ j inside. (let mask = is.no_own j inside in and_from (ltb (get_or m.privilege j 0) (2 ^ n)) (not (is_bit j (get_or m.privilege j 0))) (lt-ltb _ _ mask.within) mask.no_own));
       vcpu_domain = row_stands (λ _. in_range 0 (n - 1)) bytes all ((sizes ++ m.page_limit) ++ m.privilege) m.vcpu_domain behind (5 + 2 * n) are (simp append_assoc) (omega (arith, length-append (sizes ++ m.page_limit) m.privilege, length-append sizes m.page_limit, is.masks))
-      (λ j inside. in_range_from 0 (n - 1) (get_or m.vcpu_domain j 0) (omega arith) (let h = is.of_domains j 0 inside in omega arith));
+          (λ j inside. in_range_from 0 (n - 1) (get_or m.vcpu_domain j 0) (omega arith) (let h = is.of_domains j 0 inside in omega arith));
     }
 
 pub image_stands : (bytes : List ℕ) (m : Machine) (ws : List ℕ) → IsImaged m ws → bytes ≡ image_of m ws → ImageHolds bytes m ws

@@ -1,9 +1,7 @@
 -- Images and what is read, both ways.
-use Rattle.std.proofs.Common.{◌≡◌, ℕ, ◌<◌, List, get_or, Option, Some, None, Result, Ok, Err, refl, sym, ap, subst, ◌∙◌, arith}
+use Rattle.std.proofs.Common.{◌≡◌, ℕ, List, None, Result, Ok, Err, refl, sym, ap, ◌∙◌}
 use Rattle.std.specs.Prelude.{IfOk, IfErr}
-use Rattle.std.specs.Global.{Vec}
 use Rattle.xp_words.specs.Machine.{Machine}
-use Rattle.xp_words.specs.declared.layout.Layout.{Layout}
 use Rattle.machine_image.specs.declared.fault.ImageFault.{ImageFault}
 use Rattle.machine_image.specs.declared.fault.ImageFault.TheVariants.{Bad, Memory}
 use Rattle.machine_image.specs.Image.{image_of, IsImaged}

@@ -12,8 +12,9 @@ mod read;
 mod write;
 
 pub use fault::ImageFault;
-pub use laws::{
-    an_image_has_one_spelling, an_image_reads_back, bytes_without_fault_are_an_image,
-};
+pub use laws::{an_image_has_one_spelling, an_image_reads_back, bytes_without_fault_are_an_image};
 pub use read::read_image;
 pub use write::write_image;
+
+#[cfg(test)]
+mod tests;

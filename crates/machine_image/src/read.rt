@@ -1,5 +1,6 @@
 ghost use Rattle.std.specs.Prelude.{◌≡◌, ◌<◌, ◌≤◌, ◌+◌, ◌*◌, ◌-◌, ◌^◌, ℕ, List, length, Ok, IfOk, IfErr};
 ghost use Rattle.xp_words.specs.Machine.{Machine, IsMachine};
+ghost use Rattle.machine_image.specs.declared.fault.ImageFault.TheVariants.{Bad};
 ghost use Rattle.machine_image.specs.Image.{image_of, IsImaged};
 ghost use Rattle.machine_image.specs.Reading.{Gives, Tells, number_at, whole_at, ranged_at, mask_at, each_at, words_at, machine_at, ended_at, image_at, image_fault};
 
@@ -9,11 +10,28 @@ use byteorder::{ByteOrder, LittleEndian};
 use std::alloc::Global;
 use xp_words::{Layout, ShortList};
 
+// Number `index` is none that may stand there.
+fn refused(index: usize) -> ImageFault
+    requires { index < 2 ^ 32 }
+    ensures { result ≡ Bad (8 * index) }
+{
+    let at = 8 * index as u64;
+    ImageFault::Bad { at }
+}
+
+// The bytes end within a number.
+fn cut_off(bytes: &[u8]) -> ImageFault
+    ensures { result ≡ Bad (length bytes.now) }
+{
+    let at = bytes.len() as u64;
+    ImageFault::Bad { at }
+}
+
 // Number `index` of the bytes.
 #[inline(always)]
 #[tactic(auto, unfolding(crate::specs::Reading::number_at))]
 fn number(bytes: &[u8], index: usize) -> u64
-    requires whole { 8 * index + 8 ≤ length bytes.now }
+    requires { 8 * index + 8 ≤ length bytes.now }
     ensures { result ≡ number_at bytes.now index }
 {
     LittleEndian::read_u64(&bytes[8 * index..])
@@ -26,9 +44,7 @@ fn whole(bytes: &[u8], index: usize) -> Result<u64, ImageFault>
     ensures { Gives (λ n. n) result (whole_at bytes.now index) }
 {
     if bytes.len() < 8 * index + 8 {
-        return Err(ImageFault::Bad {
-            at: bytes.len() as u64,
-        });
+        return Err(cut_off(bytes));
     }
     Ok(number(bytes, index))
 }
@@ -41,9 +57,7 @@ fn ranged(bytes: &[u8], index: usize, least: u64, most: u64) -> Result<u64, Imag
 {
     let number = whole(bytes, index)?;
     if number < least || most < number {
-        return Err(ImageFault::Bad {
-            at: 8 * index as u64,
-        });
+        return Err(refused(index));
     }
     Ok(number)
 }
@@ -58,9 +72,7 @@ fn mask(bytes: &[u8], index: usize, domains: u32, domain: u32) -> Result<u16, Im
 {
     let mask = whole(bytes, index)?;
     if mask >= 1 << domains || (mask >> domain) % 2 == 1 {
-        return Err(ImageFault::Bad {
-            at: 8 * index as u64,
-        });
+        return Err(refused(index));
     }
     Ok(mask as u16)
 }
@@ -135,9 +147,7 @@ fn words(alloc: Global, bytes: &[u8], first: usize, count: usize) -> Result<Vec<
     ensures { Gives (λ v. v.items) result (words_at bytes.now first count) }
 {
     if bytes.len() < 8 * (first + count) {
-        return Err(ImageFault::Bad {
-            at: bytes.len() as u64,
-        });
+        return Err(cut_off(bytes));
     }
     let mut words = Vec::with_capacity(alloc, count)?;
     for index in first..first + count {

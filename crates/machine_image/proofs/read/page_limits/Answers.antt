@@ -1,4 +1,4 @@
-use Rattle.std.proofs.Common.{rules, ℕ, ◌+◌, ◌*◌, ◌-◌}
+use Rattle.std.proofs.Common.{rules, ℕ}
 use Rattle.std.proofs.lemmas.Result.{err_from_is_err_and}
 use Rattle.machine_image.specs.Reading.{ranged_at, each_at}
 use Rattle.machine_image.proofs.Loop.{goes_on, ends, is_done}

@@ -1,4 +1,4 @@
-use Rattle.std.proofs.Common.{◌≡◌, ◌-◌, ◌+◌, ◌*◌, length}
+use Rattle.std.proofs.Common.{◌≡◌, ◌-◌, ◌+◌, length}
 use Rattle.machine_image.specs.Reading.{each_at, ranged_at}
 use Rattle.machine_image.proofs.Loop.{with_front}
 use Rattle.machine_image.proofs.read.page_limits.Given as goal

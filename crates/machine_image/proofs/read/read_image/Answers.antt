@@ -1,6 +1,6 @@
-use Rattle.std.proofs.Common.{◌≡◌, ℕ, List, Result, subst, arith}
+use Rattle.std.proofs.Common.{ℕ, List, Result, subst, arith}
 use Rattle.xp_words.specs.Machine.{Machine}
-use Rattle.machine_image.specs.Reading.{Gives, image_at}
+use Rattle.machine_image.specs.Reading.{Gives}
 use Rattle.machine_image.proofs.Whole.{reads_back, found_by, fault_by}
 use Rattle.machine_image.proofs.read.read_image.Goals as goal
 
