@@ -2,7 +2,7 @@ ghost use Rattle.std.specs.Prelude.{◌≡◌, ◌<◌, ◌≤◌, ◌+◌, ◌*
 ghost use Rattle.xp_words.specs.Machine.{Machine, IsMachine};
 ghost use Rattle.machine_image.specs.declared.fault.ImageFault.TheVariants.{Bad};
 ghost use Rattle.machine_image.specs.Image.{image_of, IsImaged};
-ghost use Rattle.machine_image.specs.Reading.{Gives, Tells, number_at, whole_at, ranged_at, mask_at, each_at, words_at, machine_at, ended_at, image_at, image_fault};
+ghost use Rattle.machine_image.specs.Reading.{Gives, Tells, number_at, whole_at, letters as letters_number, ranged_at, mask_at, each_at, words_at, machine_at, ended_at, image_at, image_fault};
 
 use crate::fault::ImageFault;
 use arrayvec::ArrayVec;
@@ -60,6 +60,14 @@ fn ranged(bytes: &[u8], index: usize, least: u64, most: u64) -> Result<u64, Imag
         return Err(refused(index));
     }
     Ok(number)
+}
+
+// The letters before all numbers, as one number.
+fn letters(bytes: &[u8]) -> Result<u64, ImageFault>
+    ensures { Gives (λ n. n) result (ranged_at letters_number letters_number bytes.now 0) }
+{
+    let letters = LittleEndian::read_u64(b"XPVIMG01");
+    ranged(bytes, 0, letters, letters)
 }
 
 // The privilege mask of a domain.
@@ -121,8 +129,7 @@ fn vcpu_domains(bytes: &[u8], domains: u32, vcpus: u32) -> Result<ArrayVec<u16, 
 fn layout(bytes: &[u8]) -> Result<Layout, ImageFault>
     ensures { Gives (λ l. l) result (machine_at bytes.now) }
 {
-    let letters = LittleEndian::read_u64(b"XPVIMG01");
-    let _mark = ranged(bytes, 0, letters, letters)?;
+    let _letters = letters(bytes)?;
     let frames = ranged(bytes, 1, 1, 65536)?;
     let limit = ranged(bytes, 2, 2, 67_108_863)?;
     let domains = ranged(bytes, 3, 1, 16)? as u32;
