@@ -33,7 +33,7 @@ fn layout() -> Layout {
     }
 }
 
-// The image with the bytes of a word on its place, and behind it zeros.
+// The image of that machine with one word that is not 0, the second.
 fn image(rt: &HostRuntime) -> Result<Vec<u8>, Fail> {
     let layout = layout();
     let mut words = SparseWords::new(rt.alloc(), &layout)?;
