@@ -1,0 +1,193 @@
+ghost use Rattle.std.specs.Prelude.{◌≡◌, ◌<◌, ◌≤◌, ◌+◌, ◌*◌, ◌-◌, ◌^◌, ℕ, List, length, Ok, IfOk, IfErr};
+ghost use Rattle.xp_words.specs.Machine.{Machine, IsMachine};
+ghost use Rattle.machine_image.specs.declared.fault.ImageFault.TheVariants.{Bad};
+ghost use Rattle.machine_image.specs.Image.{image_of, IsImaged};
+ghost use Rattle.machine_image.specs.Reading.{Gives, Tells, number_at, whole_at, letters as letters_number, ranged_at, mask_at, each_at, words_at, machine_at, ended_at, image_at, image_fault};
+
+use crate::fault::ImageFault;
+use arrayvec::ArrayVec;
+use byteorder::{ByteOrder, LittleEndian};
+use std::alloc::Global;
+use xp_words::{Layout, ShortList};
+
+// Number `index` is none that may stand there.
+fn refused(index: usize) -> ImageFault
+    requires { index < 2 ^ 32 }
+    ensures { result ≡ Bad (8 * index) }
+{
+    let at = 8 * index as u64;
+    ImageFault::Bad { at }
+}
+
+// The bytes end within a number.
+fn cut_off(bytes: &[u8]) -> ImageFault
+    ensures { result ≡ Bad (length bytes.now) }
+{
+    let at = bytes.len() as u64;
+    ImageFault::Bad { at }
+}
+
+// Number `index` of the bytes.
+#[inline(always)]
+#[tactic(auto, unfolding(crate::specs::Reading::number_at))]
+fn number(bytes: &[u8], index: usize) -> u64
+    requires { 8 * index + 8 ≤ length bytes.now }
+    ensures { result ≡ number_at bytes.now index }
+{
+    LittleEndian::read_u64(&bytes[8 * index..])
+}
+
+// The same, where it is whole.
+#[tactic(auto, unfolding(crate::specs::Reading::tested_at))]
+fn whole(bytes: &[u8], index: usize) -> Result<u64, ImageFault>
+    requires { index < 2 ^ 32 }
+    ensures { Gives (λ n. n) result (whole_at bytes.now index) }
+{
+    if bytes.len() < 8 * index + 8 {
+        return Err(cut_off(bytes));
+    }
+    Ok(number(bytes, index))
+}
+
+#[tactic(auto, unfolding(crate::specs::Reading::tested_at))]
+fn ranged(bytes: &[u8], index: usize, least: u64, most: u64) -> Result<u64, ImageFault>
+    requires { index < 2 ^ 32 }
+    ensures gives { Gives (λ n. n) result (ranged_at least most bytes.now index) }
+    ensures range { IfOk result (λ n. (least ≤ n) × (n ≤ most)) }
+{
+    let number = whole(bytes, index)?;
+    if number < least || most < number {
+        return Err(refused(index));
+    }
+    Ok(number)
+}
+
+// The letters before all numbers, as one number.
+fn letters(bytes: &[u8]) -> Result<u64, ImageFault>
+    ensures { Gives (λ n. n) result (ranged_at letters_number letters_number bytes.now 0) }
+{
+    let letters = LittleEndian::read_u64(b"XPVIMG01");
+    ranged(bytes, 0, letters, letters)
+}
+
+// The privilege mask of a domain.
+#[tactic(auto, unfolding(crate::specs::Reading::tested_at))]
+fn mask(bytes: &[u8], index: usize, domains: u32, domain: u32) -> Result<u16, ImageFault>
+    requires index { index < 2 ^ 32 }
+    requires few { domains ≤ 16 }
+    requires domain { domain < domains }
+    ensures { Gives (λ n. n) result (mask_at domains domain bytes.now index) }
+{
+    let mask = whole(bytes, index)?;
+    if mask >= 1 << domains || (mask >> domain) % 2 == 1 {
+        return Err(refused(index));
+    }
+    Ok(mask as u16)
+}
+
+fn page_limits(bytes: &[u8], domains: u32) -> Result<ArrayVec<u32, 16>, ImageFault>
+    requires { domains ≤ 16 }
+    ensures { Gives (λ v. v.items) result (each_at (λ _. ranged_at 0 65536 bytes.now) 0 5 domains) }
+{
+    let mut limits = ArrayVec::new();
+    for domain in 0..domains {
+        let limit = ranged(bytes, 5 + domain as usize, 0, 65536)?;
+        limits.push(limit as u32);
+    }
+    Ok(limits)
+}
+
+fn masks(bytes: &[u8], domains: u32) -> Result<ArrayVec<u16, 16>, ImageFault>
+    requires { domains ≤ 16 }
+    ensures { Gives (λ v. v.items) result (each_at (λ d. mask_at domains d bytes.now) 0 (5 + domains) domains) }
+{
+    let mut masks = ArrayVec::new();
+    let first = 5 + domains as usize;
+    for domain in 0..domains {
+        masks.push(mask(bytes, first + domain as usize, domains, domain)?);
+    }
+    Ok(masks)
+}
+
+fn vcpu_domains(bytes: &[u8], domains: u32, vcpus: u32) -> Result<ArrayVec<u16, 16>, ImageFault>
+    requires some { 1 ≤ domains }
+    requires domains { domains ≤ 16 }
+    requires vcpus { vcpus ≤ 16 }
+    ensures { Gives (λ v. v.items) result (each_at (λ _. ranged_at 0 (domains - 1) bytes.now) 0 (5 + 2 * domains) vcpus) }
+{
+    let mut found = ArrayVec::new();
+    let first = 5 + 2 * domains as usize;
+    let most = domains as u64 - 1;
+    for vcpu in 0..vcpus {
+        let domain = ranged(bytes, first + vcpu as usize, 0, most)?;
+        found.push(domain as u16);
+    }
+    Ok(found)
+}
+
+#[tactic(auto, unfolding(crate::specs::Reading::machine_at))]
+fn layout(bytes: &[u8]) -> Result<Layout, ImageFault>
+    ensures { Gives (λ l. l) result (machine_at bytes.now) }
+{
+    let _letters = letters(bytes)?;
+    let frames = ranged(bytes, 1, 1, 65536)?;
+    let limit = ranged(bytes, 2, 2, 67_108_863)?;
+    let domains = ranged(bytes, 3, 1, 16)? as u32;
+    let vcpus = ranged(bytes, 4, 1, 16)? as u32;
+    let page_limit = page_limits(bytes, domains)?;
+    let privilege = masks(bytes, domains)?;
+    let vcpu_domain = vcpu_domains(bytes, domains, vcpus)?;
+    Ok(Layout {
+        frames: frames as u32,
+        limit: limit as u32,
+        page_limit: ShortList::new(page_limit),
+        privilege: ShortList::new(privilege),
+        vcpu_domain: ShortList::new(vcpu_domain),
+    })
+}
+
+// So many words, from number `first` on. No memory is taken for words that are not there.
+#[tactic(auto, unfolding(crate::specs::Reading::words_at))]
+fn words(alloc: Global, bytes: &[u8], first: usize, count: usize) -> Result<Vec<u64>, ImageFault>
+    requires first { first < 2 ^ 32 }
+    requires count { count < 2 ^ 32 }
+    ensures { Gives (λ v. v.items) result (words_at bytes.now first count) }
+{
+    if bytes.len() < 8 * (first + count) {
+        return Err(cut_off(bytes));
+    }
+    let mut words = Vec::with_capacity(alloc, count)?;
+    for index in first..first + count {
+        words.push(number(bytes, index))?;
+    }
+    Ok(words)
+}
+
+#[tactic(auto, unfolding(crate::specs::Reading::image_at, crate::specs::Reading::ended_at))]
+fn image(alloc: Global, bytes: &[u8]) -> Result<(Layout, Vec<u64>), ImageFault>
+    ensures { Gives (λ x. (x.0, x.1.items)) result (image_at bytes.now) }
+{
+    let layout = layout(bytes)?;
+    let count = layout.words();
+    let place = 5 + 2 * layout.domains() as usize + layout.vcpus() as usize;
+    let _count = ranged(bytes, place, u64::from(count), u64::from(count))?;
+    let words = words(alloc, bytes, place + 1, count as usize)?;
+    let end = 8 * (place + 1 + count as usize);
+    if end < bytes.len() {
+        return Err(ImageFault::Bad { at: end as u64 });
+    }
+    Ok((layout, words))
+}
+
+/// The machine and the words whose image the bytes are, all of the bytes. Otherwise it says where they first differ from an image, or that
+/// memory ran out.
+pub fn read_image(alloc: Global, bytes: &[u8]) -> Result<(Layout, Vec<u64>), ImageFault>
+    // The bytes are the image of what is read.
+    ensures found { IfOk result (λ x. IsImaged x.0 x.1.items × (bytes.now ≡ image_of x.0 x.1.items)) }
+    // An image is read, unless memory runs out.
+    ensures only { (m : Machine) (words : List ℕ) → IsImaged m words → bytes.now ≡ image_of m words → Gives {Y = Machine × List ℕ} (λ x. (x.0, x.1.items)) result (Ok (m, words)) }
+    // A fault is the first one.
+    ensures fault { IfErr result (λ e. Tells e (image_fault bytes.now)) }
+{
+    image(alloc, bytes)
+}
