@@ -12,13 +12,12 @@ use Rattle.mmuext_ops.specs.Elements.{KnowsAwaited, awaited_by, ext_element}
 use Rattle.mmuext_ops.specs.declared.element.Element.{Element}
 use Rattle.mmuext_ops.specs.declared.element.Element.TheVariants as elements
 use Rattle.vcpu_turn.specs.Cpus.{OfExt, OfMapping, Task, awaited_at, awaited_behind, awaited_in, awaited_left}
-use Rattle.vcpu_turn.specs.Lists.{WorksOn, all_done, last_done, due, stopped, is_due_answer, WorksThrough}
+use Rattle.vcpu_turn.specs.Lists.{WorksOn, all_done, last_done, due, stopped, WorksThrough}
 use Rattle.vcpu_turn.specs.Settling as settling
 use Rattle.vcpu_turn.specs.Ext.{ExtFits, FitsExt, Performs, awaited_for}
 use Rattle.vcpu_turn.specs.Mappings.{AwaitsWhere}
 use Rattle.vcpu_turn.specs.Settling.{SettlesFirst}
 use Rattle.vcpu_turn.specs.Working.{valued}
-use Rattle.xp_preempt.specs.Gates.{Gate, GatedPast}
 
 -- ---- the first element of a turn alone goes on
 pub knows_for : (v : PortValue) (from : ℕ) (awaited : Option ℕ) (k : ℕ) (waits : Option ℕ) → waits ≡ awaited_for from awaited k → KnowsAwaited v awaited → KnowsAwaited v waits
@@ -27,12 +26,6 @@ knows_for v from awaited k waits is knows = subst (KnowsAwaited v) (sym is) (by 
     by : (b : Bool) → KnowsAwaited v (if b then awaited else None)
     by true = knows
     by false = tt
-
--- by the clock value that its call was passed
-pub fits_waits : (d : ℕ) (waits awaited : Option ℕ) → waits ≡ awaited → (o : Option ExtOp) (g h : Gate) (v w : PortValue) (answer : Result (Unit {0}) Stop) →
-    GatedPast g h (is_due_answer answer) (λ answers. FitsExt d waits o v w answers answer) → GatedPast g h (is_due_answer answer) (λ answers. FitsExt d awaited o v w answers answer)
-fits_waits d waits awaited is o g h v w answer fits =
-    subst (λ (a : Option ℕ). GatedPast g h (is_due_answer answer) (λ answers. FitsExt d a o v w answers answer)) is fits
 
 -- ---- what is paused for another reason begins its wait anew
 release_waits_for_none : (e : Element) (stop : Stop) → IsReleaseEnd stop → awaited_by e (Err stop) ≡ None

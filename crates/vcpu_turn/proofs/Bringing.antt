@@ -125,7 +125,7 @@ valued_asks : (from to within : ℕ) (answers : List Bool) (ended : Result (Unit
 valued_asks from to within answers ended answer is number = let same = between_valued from to ended answer is in omega (arith, number, same)
 
 pub valued_hears : (answers : List Bool) (ended : Result (Unit {0}) Stop) (answer : Result ℕ Stop) → answer ≡ valued ended → NoUntilDue answers (is_due_answer ended) → NoUntilDue answers (is_due_answer answer)
-valued_hears answers ended answer is noes = subst (λ (b : Bool). NoUntilDue answers b) (sym (ap is_due_answer is ∙ due_valued ended)) noes
+valued_hears answers ended answer is noes = subst (λ (b : Bool). NoUntilDue answers b) (sym (due_valued ended answer is)) noes
 
 module _ {F G : Tried → Type 0} {v : PortValue} {from to : ℕ} {w : PortValue} {answers : List Bool} {answer : Result ℕ Stop} where
   -- with no list, and with no ask
@@ -199,7 +199,7 @@ maps_bring d foreign va word flags from awaited {v} {to} {w} {answers} {ended} a
       spared = λ stays neither nobody s. valued_spared v ended answer is (maps_spared stays neither nobody d foreign va word flags awaited v from to w answers ended s works);
       asks = (let all = within_more t [] in omega (arith, all));
       most = (let one = maps_most works in omega (arith, one));
-      due = λ due. (let stays = maps_due d foreign va word flags awaited v from to w answers ended works (sym (ap is_due_answer is ∙ due_valued ended) ∙ due) in omega (arith, stays));
+      due = λ due. (let stays = maps_due d foreign va word flags awaited v from to w answers ended works (sym (due_valued ended answer is) ∙ due) in omega (arith, stays));
       hears = λ hears. valued_hears answers ended answer is (All-head HearsNo t [] hears);
       fits = All-cons (ElementFits d (OfMapping foreign va word flags) from awaited) t [] (to, works) (All-nil (ElementFits d (OfMapping foreign va word flags) from awaited));
       passes = All-cons (λ (x : Tried). HearsNo x ⊎ PassesYes (OfMapping foreign va word flags) x) t [] (maps_hear d foreign va word flags awaited v from to w answers ended works) (All-nil (λ (x : Tried). HearsNo x ⊎ PassesYes (OfMapping foreign va word flags) x));

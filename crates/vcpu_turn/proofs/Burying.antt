@@ -23,8 +23,8 @@ use Rattle.vcpu_turn.specs.Cpus.{Job, OfCalls, OfDestroy, OfOne, Processing, aft
 use Rattle.vcpu_turn.specs.Destroying.{KeepsBuried, KnowsPlace, ListsNoneAhead}
 use Rattle.vcpu_turn.specs.declared.cpu.Progress.{Progress}
 use Rattle.vcpu_turn.specs.declared.cpu.TurnEnd.TheVariants as ends
+use Rattle.vcpu_turn.specs.Unhindered.{IsSparingJob}
 use Rattle.vcpu_turn.proofs.Adding.{Adds, PlainLine, answer_lefts, plain_lefts}
-use Rattle.vcpu_turn.proofs.NextOps.{DestroysNone}
 
 -- ---- the place
 module _ (v w : PortValue) (came : Came v w) (d op : ℕ) (log : List LogLine) where
@@ -54,14 +54,14 @@ place_begun w (OfDestroy x) op log none = record { knows = tt; counts = none; fe
 
 -- an operation that destroys none lists none
 module _ (v w : PortValue) (op : ℕ) (at to : Progress) (log log' : List LogLine) (adds : Adds PlainLine log log') where
-  none_listed : (job : Job) → DestroysNone job → KnowsPlace v job op at log → KnowsPlace w job op to log'
+  none_listed : (job : Job) → IsSparingJob job → KnowsPlace v job op at log → KnowsPlace w job op to log'
   none_listed (OfOne task) plain knows = plain_lefts op log log' adds ∙ knows
   none_listed (OfCalls calls) plain knows = plain_lefts op log log' adds ∙ knows
   none_listed (OfDestroy x) plain knows = absurd plain
 
-  pub plain_place : (answer : Result ℕ Stop) (job other : Job) → job ≡ other → DestroysNone other → KnowsPlace v job op at log → IfErr answer (λ e. KnowsPlace w job op to log')
+  pub plain_place : (answer : Result ℕ Stop) (job other : Job) → job ≡ other → IsSparingJob other → KnowsPlace v job op at log → IfErr answer (λ e. KnowsPlace w job op to log')
   plain_place (Ok value) job other is plain knows = tt
-  plain_place (Err e) job other is plain knows = none_listed job (subst DestroysNone (sym is) plain) knows
+  plain_place (Err e) job other is plain knows = none_listed job (subst IsSparingJob (sym is) plain) knows
 
 -- ---- a domain that is buried
 abbrev StepsMore : Holdings → Holdings → Type 0

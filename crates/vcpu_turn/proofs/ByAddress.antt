@@ -1,11 +1,12 @@
 -- Updates by address: the entry, the translations that are dropped behind it, and the wait.
 use Rattle.std.specs.Result.{IsErrAnd}
-use Rattle.std.proofs.Common.{◌≡◌, ℕ, ◌%◌, ◌≤◌, Bool, true, false, [], Option, Some, None, Result, Ok, Err, IfErr, refl, sym, subst}
+use Rattle.std.proofs.Common.{◌≡◌, ℕ, ◌%◌, Bool, true, false, [], Option, Some, None, Result, Ok, Err, IfErr, refl, sym, ◌∙◌, subst}
 use Rattle.xp_words.specs.declared.reply.Pause.TheVariants as pauses
-use Rattle.xp_words.specs.declared.reply.Refusal.TheVariants as refusals
 use Rattle.xp_words.specs.declared.reply.Stop.{Stop}
 use Rattle.xp_words.specs.declared.reply.Stop.TheVariants.{Refused, Paused}
 use Rattle.xp_board.specs.Told.{PortValue}
+use Rattle.xp_preempt.specs.Gates.{Gate, GatedPast}
+use Rattle.xp_preempt.proofs.Consulting.{past_as, past_none}
 use Rattle.step_maker.specs.Holds.{FlushedSame, Rests}
 use Rattle.step_maker.specs.Answers.{Stops}
 use Rattle.step_maker.proofs.Piecing.{serves_came}
@@ -18,9 +19,9 @@ use Rattle.vcpu_turn.specs.Lists.{is_due_answer}
 use Rattle.vcpu_turn.specs.Mappings as mapping
 use Rattle.vcpu_turn.specs.Mappings.{AwaitsBehind, DropsBehind, DropsOwn, IsUnpaused, MapsWord, UpdatesWord, WaitsForAll, done_behind, own_drop, waits_for_all}
 use Rattle.vcpu_turn.specs.Settling.{IsWarm, SettlesFirst}
-use Rattle.vcpu_turn.proofs.Gating.{answers_as, answers_nothing, is_err}
+use Rattle.vcpu_turn.proofs.PassedOn.{is_err}
 use Rattle.vcpu_turn.proofs.Staying.{kept_warm}
-use Rattle.xp_preempt.specs.Gates.{GatedPast}
+use Rattle.level_release.specs.Asking.{is_due_stop}
 
 -- ---- what each element is
 pub own_local : (flags va : ℕ) → flags % 4 ≡ 1 → own_drop flags va ≡ Some FlushLocal
@@ -69,11 +70,6 @@ unpaused_awaits w e (Ok done) is same = absurd (cc)
 unpaused_awaits w e (Err (Refused x)) is same = let at : Refused x ≡ e = cc in subst (λ y. AwaitsBehind w (Err y)) at tt
 unpaused_awaits w e (Err (Paused x)) is same = absurd is
 
--- ---- the entry
-module _ {d foreign va word flags : ℕ} {v : PortValue} where
-  pub far_answers : (says : ℕ → Bool) (asks risen : ℕ) → 65536 ≤ foreign → GatedPast says asks asks (λ answers. UpdatesWord d foreign va word flags v v answers (Err (Refused refusals.BadRange))) risen risen false
-  far_answers says asks risen many = answers_nothing says asks risen false _ refl (mapping.UpdatesWord.far many)
-
 -- ---- behind the entry
 module _ {d flags va : ℕ} {v : PortValue} where
   pub drops_err : {w : PortValue} (e : Stop) (answer : Result (Unit {0}) Stop) → IsErrAnd answer (λ x. x ≡ e) → DropsOwn d (own_drop flags va) v w (Err e) → DropsBehind d flags va v w answer
@@ -86,25 +82,15 @@ pub element_warm : (v w : PortValue) (d : ℕ) (e : Element) (awaited : Option �
 element_warm v w d e awaited answer serves hand warm = kept_warm v w (serves_came v w _ _ serves.2) hand warm
 
 -- ---- the operation
-module _ {d foreign va word flags : ℕ} (awaited : Option ℕ) {v : PortValue} {says : ℕ → Bool} {before after yes_before yes_after : ℕ} where
-  pub maps_unset : {w : PortValue} (k : ℕ) → k ≡ 0 → (e : Stop) (answer : Result (Unit {0}) Stop) → IsErrAnd answer (λ x. x ≡ e) →
-      GatedPast g h (is_due_answer {A = Unit {0}} (Err e)) (λ answers. SettlesFirst (UpdatesWord d foreign va word flags) v w answers (Err e)) →
+module _ {d foreign va word flags : ℕ} {awaited : Option ℕ} {v : PortValue} {g : Gate} where
+  pub maps_unset : {h : Gate} {w : PortValue} (k : ℕ) → k ≡ 0 → (e : Stop) (answer : Result (Unit {0}) Stop) → IsErrAnd answer (λ x. x ≡ e) → GatedPast g h (is_due_stop e) (λ answers. SettlesFirst (UpdatesWord d foreign va word flags) v w answers (Err e)) →
       GatedPast g h (is_due_answer answer) (λ answers. MapsWord d foreign va word flags awaited v k k w answers answer)
-  maps_unset {w} k zero e answer is updates =
-      rw (is_err answer e is, zero)
-      (answers_as (λ answers. SettlesFirst (UpdatesWord d foreign va word flags) v w answers (Err e)) (λ answers. MapsWord d foreign va word flags awaited v 0 0 w answers (Err e)) g h (is_due_answer {A = Unit {0}} (Err e))
-      (λ answers on. mapping.MapsWord.unset w answers e on) updates)
+  maps_unset {w = w} k zero e answer is updates = rw (is_err answer e is, zero) (past_as (λ due. due) (λ answers on. mapping.MapsWord.unset w answers e on) updates)
 
-  pub maps_set : {u w : PortValue} (k to : ℕ) → k ≡ 0 → (answer : Result (Unit {0}) Stop) → to ≡ done_behind answer → is_due_answer answer ≡ false →
-      GatedPast g h false (λ answers. SettlesFirst (UpdatesWord d foreign va word flags) v u answers (Ok tt)) →
+  pub maps_set : {h : Gate} {u w : PortValue} (k to : ℕ) → k ≡ 0 → (answer : Result (Unit {0}) Stop) → to ≡ done_behind answer → is_due_answer answer ≡ false → GatedPast g h false (λ answers. SettlesFirst (UpdatesWord d foreign va word flags) v u answers (Ok tt)) →
       DropsBehind d flags va u w answer → GatedPast g h (is_due_answer answer) (λ answers. MapsWord d foreign va word flags awaited v k to w answers answer)
-  maps_set {u} {w} k to zero answer done undue updates drops =
-      rw (zero, done)
-      (subst (λ (b : Bool). GatedPast g h b (λ answers. MapsWord d foreign va word flags awaited v 0 (done_behind answer) w answers answer)) (sym undue)
-      (answers_as (λ answers. SettlesFirst (UpdatesWord d foreign va word flags) v u answers (Ok tt)) (λ answers. MapsWord d foreign va word flags awaited v 0 (done_behind answer) w answers answer) g h false
-      (λ answers on. mapping.MapsWord.set u w answers answer on drops) updates))
+  maps_set {u = u} {w} k to zero answer done undue updates drops = rw (zero, done) (past_as (λ due. sym undue ∙ due) (λ answers on. mapping.MapsWord.set u w answers answer on drops) updates)
 
-pub maps_waited : {d foreign va word flags : ℕ} (awaited : Option ℕ) {v w : PortValue} (says : ℕ → Bool) (asks risen k to : ℕ) → k ≡ 1 → (answer : Result (Unit {0}) Stop) → to ≡ done_behind answer → is_due_answer answer ≡ false → WaitsForAll d true awaited v w answer →
-    GatedPast says asks asks (λ answers. MapsWord d foreign va word flags awaited v k to w answers answer) risen risen (is_due_answer answer)
-maps_waited {d} {foreign} {va} {word} {flags} awaited {v} {w} says asks risen k to one answer done undue waits =
-    rw (one, done) (answers_nothing says asks risen (is_due_answer answer) (λ answers. MapsWord d foreign va word flags awaited v 1 (done_behind answer) w answers answer) undue (mapping.MapsWord.waited w answer waits))
+  pub maps_waited : {w : PortValue} (k to : ℕ) → k ≡ 1 → (answer : Result (Unit {0}) Stop) → to ≡ done_behind answer → is_due_answer answer ≡ false → WaitsForAll d true awaited v w answer →
+      GatedPast g g (is_due_answer answer) (λ answers. MapsWord d foreign va word flags awaited v k to w answers answer)
+  maps_waited {w} k to one answer done undue waits = rw (one, done) (past_none undue (mapping.MapsWord.waited w answer waits))

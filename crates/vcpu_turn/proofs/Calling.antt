@@ -13,8 +13,8 @@ use Rattle.xp_words.specs.declared.reply.Reply.{Reply}
 use Rattle.xp_words.specs.declared.reply.Stop.{Stop}
 use Rattle.xp_words.specs.declared.reply.Stop.TheVariants.{Refused, Paused}
 use Rattle.xp_board.specs.Told.{PortValue}
-use Rattle.xp_preempt.specs.Gates.{Consulted, Gate, GatedPast}
-use Rattle.xp_preempt.proofs.Consulting.{consulted_none, consulted_then}
+use Rattle.xp_preempt.specs.Gates.{Gate, GatedPast}
+use Rattle.xp_preempt.proofs.Consulting.{past_as, past_none, past_then}
 use Rattle.level_release.specs.Asking.{is_due_stop}
 use Rattle.vcpu_turn.specs.Calls as calling
 use Rattle.vcpu_turn.specs.Calls.{AnsweredCalls, AnswersCall, EndsCall, WorksCalls, replied}
@@ -24,85 +24,54 @@ use Rattle.vcpu_turn.specs.Settling.{SettlesTo}
 use Rattle.vcpu_turn.specs.Working.{WentOn}
 use Rattle.vcpu_turn.specs.declared.cpu.Progress.{Progress}
 use Rattle.vcpu_turn.proofs.NextOps.{calls_more}
-use Rattle.vcpu_turn.proofs.Gating.{answers_behind, answers_nothing, ends_behind, is_err}
+use Rattle.vcpu_turn.proofs.PassedOn.{is_err}
 
 -- ---- one call
-module _ {d op : ℕ} {call : Call} {v : PortValue} {from : Progress} {log : List LogLine} {says : ℕ → Bool} {before after yes_before yes_after : ℕ} {left : Option ℕ} {u : PortValue} where
+module _ {d op : ℕ} {call : Call} {v : PortValue} {from : Progress} {log : List LogLine} {g h : Gate} {left : Option ℕ} {u : PortValue} where
   pub call_unsettled : (stop : Stop) (answer : Result (Unit {0}) Stop) → IsErrAnd answer (λ x. x ≡ stop) → GatedPast g h (is_due_stop stop) (λ answers. SettlesTo None left v u answers (Err stop)) →
       GatedPast g h (is_due_answer answer) (λ answers. AnswersCall d call op v from log from u log answers answer)
-  call_unsettled stop answer is settles =
-      subst (λ (a : Result (Unit {0}) Stop). GatedPast g h (is_due_answer a) (λ answers. AnswersCall d call op v from log from u log answers a)) (sym (is_err answer stop is))
-      (record { answers = settles.answers; course = calling.AnswersCall.unsettled u settles.answers stop settles.goes.0; gate = settles.gate; due = settles.due })
+  call_unsettled stop answer is settles = rw (is_err answer stop is) (past_as (λ due. due) (λ answers s. calling.AnswersCall.unsettled u answers stop s.0) settles)
 
-  module _ (settles : GatedPast g h false (λ answers. SettlesTo None left v u answers (Ok tt))) {now : ℕ → Bool} (same : (n : ℕ) → now n ≡ says n) {last yes_last : ℕ} {to : Progress} {x : PortValue} {log' : List LogLine} where
-    pub call_paused : (stop : Stop) (p : Pause) → stop ≡ Paused p → GatedPast now after last (λ answers. WentOn d (task_in call) (call_behind op from.call) u from to x log log' answers (Err stop)) yes_after yes_last (is_due_stop stop) →
-        GatedPast says before last (λ answers. AnswersCall d call op v from log to x log' answers (Err (Paused p))) yes_before yes_last (is_due_stop (Paused p))
+  module _ (settles : GatedPast g h false (λ answers. SettlesTo None left v u answers (Ok tt))) {k : Gate} {to : Progress} {x : PortValue} {log' : List LogLine} where
+    pub call_paused : (stop : Stop) (p : Pause) → stop ≡ Paused p → GatedPast h k (is_due_stop stop) (λ answers. WentOn d (task_in call) (call_behind op from.call) u from to x log log' answers (Err stop)) →
+        GatedPast g k (is_due_stop (Paused p)) (λ answers. AnswersCall d call op v from log to x log' answers (Err (Paused p)))
     call_paused stop p is went =
-        answers_behind says now before after last yes_before yes_after yes_last settles.answers same settles.gate (is_due_stop (Paused p)) (λ answers. WentOn d (task_in call) (call_behind op from.call) u from to x log log' answers (Err (Paused p)))
-        (λ answers. AnswersCall d call op v from log to x log' answers (Err (Paused p)))
-        (subst (λ (e : Stop). GatedPast now after last (λ answers. WentOn d (task_in call) (call_behind op from.call) u from to x log log' answers (Err e)) yes_after yes_last (is_due_stop e)) is went)
-        (λ answers goes. calling.AnswersCall.paused to u x log' settles.answers answers p settles.goes.0 goes)
+        past_then (λ early answers s goes. calling.AnswersCall.paused to u x log' early answers p s.0 goes) settles
+        (subst (λ (e : Stop). GatedPast h k (is_due_stop e) (λ answers. WentOn d (task_in call) (call_behind op from.call) u from to x log log' answers (Err e))) is went)
 
-    pub call_answered : (answer : Result ℕ Stop) (reply : Reply) → is_due_answer answer ≡ false → replied to.done answer ≡ Some reply →
-        GatedPast now after last (λ answers. WentOn d (task_in call) (call_behind op from.call) u from to x log log' answers answer) yes_after yes_last (is_due_answer answer) → (w : PortValue) → EndsCall (from.call + 1) x w →
-        (log'' : List LogLine) → log'' ≡ log' ++ lines.Answer op (from.call + 1) reply ∷ [] → (at : Progress) → at ≡ begun_at (from.call + 1) →
-        GatedPast says before last (λ answers. AnswersCall d call op v from log at w log'' answers (Ok tt)) yes_before yes_last false
+    pub call_answered : (answer : Result ℕ Stop) (reply : Reply) → is_due_answer answer ≡ false → replied to.done answer ≡ Some reply → GatedPast h k (is_due_answer answer) (λ answers. WentOn d (task_in call) (call_behind op from.call) u from to x log log' answers answer) →
+        (w : PortValue) → EndsCall (from.call + 1) x w → (log'' : List LogLine) → log'' ≡ log' ++ lines.Answer op (from.call + 1) reply ∷ [] → (at : Progress) → at ≡ begun_at (from.call + 1) →
+        GatedPast g k false (λ answers. AnswersCall d call op v from log at w log'' answers (Ok tt))
     call_answered answer reply off is went w ends log'' logged at begins =
-        answers_behind says now before after last yes_before yes_after yes_last settles.answers same settles.gate false (λ answers. WentOn d (task_in call) (call_behind op from.call) u from to x log log' answers answer)
-        (λ answers. AnswersCall d call op v from log at w log'' answers (Ok tt))
-        (subst (λ (b : Bool). GatedPast now after last (λ answers. WentOn d (task_in call) (call_behind op from.call) u from to x log log' answers answer) yes_after yes_last b) off went)
-        (λ answers goes.
-        subst (λ (p : Progress). AnswersCall d call op v from log p w log'' (answers ++ settles.answers) (Ok tt)) (sym begins)
-        (subst (λ (ls : List LogLine). AnswersCall d call op v from log (begun_at (from.call + 1)) w ls (answers ++ settles.answers) (Ok tt)) (sym logged)
-        (calling.AnswersCall.answered to u x w log' settles.answers answers answer reply settles.goes.0 goes is ends)))
+        rw (begins, logged)
+        (past_as (λ due. off ∙ due) (λ answers goes. goes) (past_then (λ early answers s goes. calling.AnswersCall.answered to u x w log' early answers answer reply s.0 goes is ends) settles went))
 
-    pub call_refused : (stop : Stop) (r : Refusal) → stop ≡ Refused r → GatedPast now after last (λ answers. WentOn d (task_in call) (call_behind op from.call) u from to x log log' answers (Err stop)) yes_after yes_last (is_due_stop stop) →
+    pub call_refused : (stop : Stop) (r : Refusal) → stop ≡ Refused r → GatedPast h k (is_due_stop stop) (λ answers. WentOn d (task_in call) (call_behind op from.call) u from to x log log' answers (Err stop)) →
         (w : PortValue) → EndsCall (from.call + 1) x w → (log'' : List LogLine) → log'' ≡ log' ++ lines.Answer op (from.call + 1) (reply_of to.done 0 (Some r)) ∷ [] → (at : Progress) → at ≡ begun_at (from.call + 1) →
-        GatedPast says before last (λ answers. AnswersCall d call op v from log at w log'' answers (Ok tt)) yes_before yes_last false
-    call_refused stop r is went w ends log'' logged at begins =
+        GatedPast g k false (λ answers. AnswersCall d call op v from log at w log'' answers (Ok tt))
+    call_refused stop r is went =
         call_answered (Err (Refused r)) (reply_of to.done 0 (Some r)) refl refl
-        (subst (λ (e : Stop). GatedPast now after last (λ answers. WentOn d (task_in call) (call_behind op from.call) u from to x log log' answers (Err e)) yes_after yes_last (is_due_stop e)) is went) w ends log'' logged at begins
+        (subst (λ (e : Stop). GatedPast h k (is_due_stop e) (λ answers. WentOn d (task_in call) (call_behind op from.call) u from to x log log' answers (Err e))) is went)
 
 -- ---- calls, one behind the other
-pub record WentThrough (d : ℕ) (calls : List Call) (op : ℕ) (v : PortValue) (from : Progress) (log : List LogLine) (at : Progress) (w : PortValue) (log' : List LogLine) (g h : Gate) : Type 0 where
-  pub answers : List Bool
-  pub did : AnsweredCalls d calls op v from log at w log' answers
-  pub gate : Consulted g h answers
+module _ {d : ℕ} {calls : List Call} {op : ℕ} {v : PortValue} {from : Progress} {log : List LogLine} {at : Progress} {u : PortValue} {behind : List LogLine} {g h : Gate}
+    (went : GatedPast g h false (λ answers. AnsweredCalls d calls op v from log at u behind answers)) where
+  pub went_all : length calls ≤ 64 → length calls ≤ at.call → GatedPast g h false (λ answers. WorksCalls d calls op v from log (record at { done = at.call }) u behind answers (Ok tt))
+  went_all few all = past_as (λ due. due) (λ answers did. calling.WorksCalls.all_answered at u behind answers few did all) went
 
-module _ {d : ℕ} {calls : List Call} {op : ℕ} {v : PortValue} {from : Progress} {log : List LogLine} {says : ℕ → Bool} {before yes_before : ℕ} where
-  pub went_none : WentThrough d calls op v from log from v log says before before yes_before yes_before
-  went_none = record { answers = []; did = calling.AnsweredCalls.none; gate = consulted_none says before yes_before }
+  module _ (call : Call) (is : slice_get calls at.call ≡ Some call) {k : Gate} {to : Progress} {w : PortValue} {log' : List LogLine} where
+    pub went_more : GatedPast h k false (λ answers. AnswersCall d call op u at behind to w log' answers (Ok tt)) → GatedPast g k false (λ answers. AnsweredCalls d calls op v from log to w log' answers)
+    went_more next = past_then (λ early answers did goes. calling.AnsweredCalls.more at to u w call behind log' early answers did is goes) went next
 
-  module _ {at : Progress} {u : PortValue} {behind : List LogLine} {after yes_after : ℕ} (went : WentThrough d calls op v from log at u behind g h) where
-    pub went_all : length calls ≤ 64 → length calls ≤ at.call → GatedPast g h false (λ answers. WorksCalls d calls op v from log (record at { done = at.call }) u behind answers (Ok tt))
-    went_all few all = record { answers = went.answers; course = calling.WorksCalls.all_answered at u behind went.answers few went.did all; gate = went.gate; due = λ due. absurd cc }
-
-    module _ {now : ℕ → Bool} (same : (n : ℕ) → now n ≡ says n) {last yes_last : ℕ} (call : Call) (is : slice_get calls at.call ≡ Some call) {to : Progress} {w : PortValue} {log' : List LogLine} where
-      pub went_more : GatedPast now after last (λ answers. AnswersCall d call op u at behind to w log' answers (Ok tt)) yes_after yes_last false → WentThrough d calls op v from log to w log' says before last yes_before yes_last
-      went_more next =
-          record {
-            answers = next.answers ++ went.answers;
-            did = calling.AnsweredCalls.more at to u w call behind log' went.answers next.answers went.did is next.goes;
-            gate = consulted_then now says before after last yes_before yes_after yes_last went.answers next.answers same went.gate next.gate;
-          }
-
-      pub went_stopped : length calls ≤ 64 → (stop : Stop) (answer : Result (Unit {0}) Stop) → IsErrAnd answer (λ x. x ≡ stop) →
-          GatedPast now after last (λ answers. AnswersCall d call op u at behind to w log' answers (Err stop)) yes_after yes_last (is_due_stop stop) →
-          GatedPast says before last (λ answers. WorksCalls d calls op v from log to w log' answers answer) yes_before yes_last (is_due_answer answer)
-      went_stopped few stop answer err next =
-          subst (λ (a : Result (Unit {0}) Stop). GatedPast says before last (λ answers. WorksCalls d calls op v from log to w log' answers a) yes_before yes_last (is_due_answer a)) (sym (is_err answer stop err))
-          (record {
-            answers = next.answers ++ went.answers;
-            goes = calling.WorksCalls.stopped at to u w call behind log' went.answers next.answers stop few went.did is next.goes;
-            gate = consulted_then now says before after last yes_before yes_after yes_last went.answers next.answers same went.gate next.gate;
-            due = λ due. ends_behind went.answers next.answers (next.due due);
-          })
+    pub went_stopped : length calls ≤ 64 → (stop : Stop) (answer : Result (Unit {0}) Stop) → IsErrAnd answer (λ x. x ≡ stop) → GatedPast h k (is_due_stop stop) (λ answers. AnswersCall d call op u at behind to w log' answers (Err stop)) →
+        GatedPast g k (is_due_answer answer) (λ answers. WorksCalls d calls op v from log to w log' answers answer)
+    went_stopped few stop answer err next =
+        rw (is_err answer stop err) (past_then (λ early answers did goes. calling.WorksCalls.stopped at to u w call behind log' early answers stop few did is goes) went next)
 
 -- a long one
-pub went_long : (d : ℕ) (calls : List Call) (op : ℕ) (v : PortValue) (from : Progress) (log : List LogLine) (says : ℕ → Bool) (asks risen : ℕ) → 64 < length calls →
-    GatedPast says asks asks (λ answers. WorksCalls d calls op v from log (record from { done = 0; awaited = None }) v log answers (Err (Refused refusals.BatchLong))) risen risen false
-went_long d calls op v from log says asks risen above =
-    answers_nothing says asks risen false (λ answers. WorksCalls d calls op v from log (record from { done = 0; awaited = None }) v log answers (Err (Refused refusals.BatchLong))) refl (calling.WorksCalls.long above)
+pub went_long : {d : ℕ} {calls : List Call} {op : ℕ} {v : PortValue} {from : Progress} {log : List LogLine} {g : Gate} → 64 < length calls →
+    GatedPast g g false (λ answers. WorksCalls d calls op v from log (record from { done = 0; awaited = None }) v log answers (Err (Refused refusals.BatchLong)))
+went_long above = past_none refl (calling.WorksCalls.long above)
 
 -- ---- how far the call in progress is, and the room of the log
 min_none : (n : ℕ) → min n 0 ≡ 0
@@ -124,9 +93,6 @@ few_past calls at to call is same few =
 
 pub none_past : (calls : List Call) (k done : ℕ) → length calls ≤ k → IsFewOf (slice_get calls k) done
 none_past calls k done past = subst (λ (o : Option Call). IsFewOf o done) (sym (slice_get_past calls k past)) tt
-
-pub is_err_calm : (stop : Stop) (answer : Result (Unit {0}) Stop) → IsErrAnd answer (λ x. x ≡ stop) → is_due_answer {A = Unit {0}} (Err stop) ≡ false → is_due_answer answer ≡ false
-is_err_calm stop answer is off = ap is_due_answer (is_err answer stop is) ∙ off
 
 long_is : (calls : List Call) → 64 < length calls → is_long calls ≡ true
 long_is calls above = grind (arith, nat_tests)

@@ -25,11 +25,11 @@ use Rattle.vcpu_turn.specs.Lists.{Tried, is_due_answer}
 use Rattle.vcpu_turn.specs.Turning.{asks_for}
 use Rattle.vcpu_turn.specs.Working.{ElementFits, PassesYes, ReleasesNothing, WentOn, gave_of, tried_of}
 use Rattle.vcpu_turn.specs.Asking.{HearsNo, HearsNoWithin, NoUntilDue, OfJob, OfTask, ReleasesNothingBy}
+use Rattle.vcpu_turn.specs.Unhindered.{IsSparingJob}
 use Rattle.vcpu_turn.proofs.Bringing.{Brings, brings, releases_none, valued_hears}
 use Rattle.vcpu_turn.proofs.Destroyed.{destroyed_came, destroyed_hears}
 use Rattle.vcpu_turn.proofs.Hearing.{settles_hears}
 use Rattle.vcpu_turn.proofs.Hindering.{AloneStays, IsSpared, NeitherLostNorBusy, NobodyWaitedFor, Spared, settles_came, settles_spared, spared_back, spared_on, valued_spared}
-use Rattle.vcpu_turn.proofs.NextOps.{DestroysNone}
 use Rattle.vcpu_turn.proofs.Noes.{noes_all, noes_no, noes_none, noes_then}
 
 -- ---- one task
@@ -154,7 +154,7 @@ module _ (d op : ℕ) (v : PortValue) (from to : Progress) (w : PortValue) (log 
   by_came (OfDestroy x) went = destroyed_came went
   by_came (OfCalls calls) went = calls_came went.works
 
-  pub by_spared : AloneStays → NeitherLostNorBusy → NobodyWaitedFor → (job : Job) → DestroysNone job → IsSpared v → WentBy d job op v from to w log log' answers answer → Spared v answer
+  pub by_spared : AloneStays → NeitherLostNorBusy → NobodyWaitedFor → (job : Job) → IsSparingJob job → IsSpared v → WentBy d job op v from to w log log' answers answer → Spared v answer
   by_spared stays neither nobody (OfDestroy x) none s went = absurd none
   by_spared stays neither nobody (OfOne task) none s went = (went_brings went).spared stays neither nobody s
   by_spared stays neither nobody (OfCalls calls) none s went = valued_spared v went.ended answer went.answer_is (calls_spare stays neither nobody s went.works)

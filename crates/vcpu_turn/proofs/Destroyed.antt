@@ -1,14 +1,16 @@
 -- A destruction that went on: its steps, the answers of its gate, and how many frames it has looked at and listed.
-use Rattle.std.proofs.Common.{◌≡◌, ℕ, ◌+◌, ◌≤◌, Bool, false, List, [], ◌∷◌, length, Result, Ok, Err, IfErr, refl, sym, ap, ◌∙◌, subst, arith, length-append}
+use Rattle.std.proofs.Common.{◌≡◌, ℕ, ◌+◌, ◌≤◌, Bool, false, List, [], ◌∷◌, length, Result, Ok, Err, refl, sym, ap, subst, arith, length-append}
 use Rattle.std.specs.Result.{IsErrAnd}
 use Rattle.xp_words.specs.declared.reply.LogLine.{LogLine}
 use Rattle.xp_words.specs.declared.reply.Stop.{Stop}
 use Rattle.xp_board.specs.Told.{Post, PortValue}
+use Rattle.xp_preempt.specs.Gates.{Gate, Gated, GatedPast}
+use Rattle.xp_preempt.proofs.Consulting.{gated_past, past_as}
 use Rattle.step_maker.specs.Moves.{Came}
 use Rattle.step_maker.proofs.Coming.{came_post}
 use Rattle.step_maker.proofs.Warming.{came_warm}
 use Rattle.level_release.specs.Asking.{is_due_answer, is_due_stop}
-use Rattle.domain_destroy.specs.Coming.{HasComeTo, seen_to}
+use Rattle.domain_destroy.specs.Coming.{seen_to}
 use Rattle.domain_destroy.specs.Course as course
 use Rattle.domain_destroy.specs.Course.{Advances, Destroys, GoesOn, LeftFrame, ListsFrame, left_lines}
 use Rattle.domain_destroy.specs.Destroying.{DomainDestroyed}
@@ -18,13 +20,12 @@ use Rattle.domain_destroy.proofs.Parts.{destroy_came}
 use Rattle.vcpu_turn.specs.Asking.{NoUntilDue}
 use Rattle.vcpu_turn.specs.Calls.{WentBy}
 use Rattle.vcpu_turn.specs.Cpus.{Job, OfCalls, OfDestroy, OfOne, made_within, room_from}
-use Rattle.vcpu_turn.specs.Destroying.{KnowsPlace, WentOnDestroying, done_behind}
+use Rattle.vcpu_turn.specs.Destroying.{KnowsPlace, WentOnDestroying}
 use Rattle.vcpu_turn.specs.Settling.{IsWarm}
 use Rattle.vcpu_turn.specs.declared.cpu.Progress.{Progress}
-use Rattle.vcpu_turn.proofs.Gating.{is_err}
+use Rattle.vcpu_turn.proofs.PassedOn.{is_err}
 use Rattle.vcpu_turn.proofs.NextOps.{SeenNoMore}
 use Rattle.vcpu_turn.proofs.Noes.{noes_asked, noes_due, noes_no, noes_none, noes_then, settled_noes}
-use Rattle.xp_preempt.specs.Gates.{Gate, Gated, GatedPast}
 
 module _ {x op : ℕ} {v : PortValue} {from to : Progress} {w : PortValue} {log log' : List LogLine} {answers : List Bool} {answer : Result ℕ Stop} (went : WentOnDestroying x op v from to w log log' answers answer) where
   pub destroyed_came : Came v w
@@ -98,7 +99,7 @@ seen_on d op v from to w log log' answers answer (OfCalls calls) frames same kno
 seen_on d op v from to w log log' answers answer (OfDestroy x) frames same knows went = let seen = destroyed_seen went knows.inside in omega (arith, same, seen)
 
 -- ---- by the call
-module _ (x op : ℕ) (v : PortValue) (at to : DestroyAt) (w : PortValue) (log log' : List LogLine) (answers : List Bool) (answer : Result ℕ Stop) (did : DomainDestroyed v w x op at to log log' answers answer) where
+module _ {x op : ℕ} {v : PortValue} {at to : DestroyAt} {w : PortValue} {log log' : List LogLine} {answers : List Bool} {answer : Result ℕ Stop} (did : DomainDestroyed v w x op at to log log' answers answer) where
   pub did_came : Came v w
   did_came = destroy_came v w x answer did.serves
 
@@ -116,30 +117,16 @@ module _ (x op : ℕ) (v : PortValue) (at to : DestroyAt) (w : PortValue) (log l
       let all = ap (λ (xs : List LogLine). length xs) did.lines in
       omega (arith, more, sum, many, all)
 
-pub went_destroying : (x op : ℕ) (v : PortValue) (from to : Progress) (w : PortValue) (log log' : List LogLine) (answer : Result ℕ Stop) (g h : Gate) →
-    Gated g h (is_due_answer answer) (λ answers. DomainDestroyed v w x op from.place to.place log log' answers answer) → to ≡ record from { done = done_behind from.done answer; place = to.place } →
-    GatedPast g h (is_due_answer answer) (λ answers. WentOnDestroying x op v from to w log log' answers answer)
-went_destroying x op v from to w log log' answer g h gated is =
-    record { answers = gated.answers; course = record { destroyed = gated.went; to_is = is }; gate = gated.gate; due = λ due. sym gated.due ∙ due }
+module _ {x op : ℕ} {v : PortValue} {from : Progress} {to : DestroyAt} {w : PortValue} {log log' : List LogLine} {g h : Gate} where
+  -- it stopped, and the answer is passed on
+  pub went_stopped : (stop : Stop) (answer : Result ℕ Stop) → IsErrAnd answer (λ e. e ≡ stop) → Gated g h (is_due_stop stop) (λ answers. DomainDestroyed v w x op from.place to log log' answers (Err stop)) →
+      GatedPast g h (is_due_answer answer) (λ answers. WentOnDestroying x op v from (record from { place = to }) w log log' answers answer)
+  went_stopped stop answer is gated = rw (is_err answer stop is) (past_as (λ due. due) (λ answers did. record { destroyed = did; to_is = refl }) (gated_past gated))
 
--- it stopped, and the answer is passed on
-module _ (x op : ℕ) (v : PortValue) (from : Progress) (to : DestroyAt) (w : PortValue) (log log' : List LogLine) (stop : Stop) (answer : Result ℕ Stop) (is : IsErrAnd answer (λ e. e ≡ stop)) (g h : Gate)
-    (gated : Gated g h (is_due_stop stop) (λ answers. DomainDestroyed v w x op from.place to log log' answers (Err stop))) where
-  pub went_stopped : GatedPast g h (is_due_answer answer) (λ answers. WentOnDestroying x op v from (record from { place = to }) w log log' answers answer)
-  went_stopped =
-      subst (λ (a : Result ℕ Stop). GatedPast g h (is_due_answer a) (λ answers. WentOnDestroying x op v from (record from { place = to }) w log log' answers a)) (sym (is_err answer stop is))
-      (went_destroying x op v from (record from { place = to }) w log log' (Err stop) g h gated refl)
-
-  pub place_stopped : IfErr answer (λ e. HasComeTo w x to op log')
-  place_stopped = subst (λ (a : Result ℕ Stop). IfErr a (λ e. HasComeTo w x to op log')) (sym (is_err answer stop is)) gated.went.come
-
--- it ended
-pub went_ended : (x op : ℕ) (v : PortValue) (from : Progress) (to : DestroyAt) (w : PortValue) (log log' : List LogLine) (left value : ℕ) → value ≡ left → (g h : Gate) →
-    Gated g h false (λ answers. DomainDestroyed v w x op from.place to log log' answers (Ok left)) →
-    GatedPast g h false (λ answers. WentOnDestroying x op v from (record from { done = 1; place = to }) w log log' answers (Ok value))
-went_ended x op v from to w log log' left value is g h gated =
-    subst (λ n. GatedPast g h false (λ answers. WentOnDestroying x op v from (record from { done = 1; place = to }) w log log' answers (Ok n))) (sym is)
-    (went_destroying x op v from (record from { done = 1; place = to }) w log log' (Ok left) g h gated refl)
+  -- it ended
+  pub went_ended : (left value : ℕ) → value ≡ left → Gated g h false (λ answers. DomainDestroyed v w x op from.place to log log' answers (Ok left)) →
+      GatedPast g h false (λ answers. WentOnDestroying x op v from (record from { done = 1; place = to }) w log log' answers (Ok value))
+  went_ended left value is gated = rw is (past_as (λ due. due) (λ answers did. record { destroyed = did; to_is = refl }) (gated_past gated))
 
 -- the room of the log, as the operation that destroys has it
 pub destroying_room : (job : Job) (x : ℕ) → job ≡ OfDestroy x → (frames len len' : ℕ) (from to : Progress) → len' + seen_to from.place ≤ len + seen_to to.place →

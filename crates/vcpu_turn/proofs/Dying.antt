@@ -5,13 +5,14 @@ use Rattle.xp_words.specs.declared.ops.Op.{Op}
 use Rattle.xp_words.specs.declared.reply.Refusal.TheVariants.{Dying}
 use Rattle.xp_words.specs.declared.reply.Reply.{Reply}
 use Rattle.xp_board.specs.Told.{PortValue}
+use Rattle.xp_preempt.specs.Gates.{Gate, GatedPast}
+use Rattle.xp_preempt.proofs.Consulting.{past_none}
 use Rattle.vcpu_turn.specs.Cpus.{Job, OfOne, Processing, Task, after_turn, done_at, job_next, job_of, next_of, reply_of}
 use Rattle.vcpu_turn.specs.Turning as turning
 use Rattle.vcpu_turn.specs.Turning.{Begins, DiesBy, EndsTurn, IsStop, IsTurn, MakesStop, TurnBy, is_due}
 use Rattle.vcpu_turn.specs.declared.cpu.TurnEnd.{TurnEnd}
 use Rattle.vcpu_turn.specs.declared.cpu.TurnEnd.TheVariants as ends
-use Rattle.vcpu_turn.proofs.Gating.{answers_nothing}
-use Rattle.xp_preempt.specs.Gates.{GatedPast}
+use Rattle.vcpu_turn.proofs.Turns.{turn_by}
 
 -- ---- by its calls
 module _ (life : ℕ) (seen c : Processing) (is : seen ≡ c) (v w : PortValue) (c2 : Processing) where
@@ -42,13 +43,12 @@ dies_undue life c (Some op) c2 v w end dies = ap is_due dies.1.1
 dies_undue life c None c2 v w end dies = ap is_due dies.1.1
 
 -- ---- the whole turn
-pub seen_dies : (seen c : Processing) → seen ≡ c → (v a w : PortValue) → seen.retired ≡ false → (run life : ℕ) → Begins v a seen.domain run life → life ≢ 0 → (says : ℕ → Bool) (asks risen : ℕ) (c2 : Processing) (end : TurnEnd) →
-    DiesBy life seen (next_of seen) c2 a w end → GatedPast says asks asks (λ answers. TurnBy c.retired c c2 end v w answers) risen risen (is_due end)
-seen_dies seen c is v a w on run life begins dead says asks risen c2 end dies =
-    subst (λ (x : Processing). GatedPast says asks asks (λ answers. TurnBy x.retired x c2 end v w answers) risen risen (is_due end)) is
-    (subst (λ (b : Bool). GatedPast says asks asks (λ answers. TurnBy b seen c2 end v w answers) risen risen (is_due end)) (sym on)
-    (answers_nothing says asks risen (is_due end) (λ answers. IsTurn seen c2 end v w answers) (dies_undue life seen (next_of seen) c2 a w end dies)
-    (record { begun = a; worked = dies.0; run = run; life = life; begins = begins; does = turning.DoesTurn.dying life dies.0 c2 end dead dies.1; goes = refl; ends = dies.2 })))
+pub seen_dies : {seen c : Processing} → seen ≡ c → {v a : PortValue} → seen.retired ≡ false → {run life : ℕ} → Begins v a seen.domain run life → life ≢ 0 → {g : Gate} (w : PortValue) (c2 : Processing) (end : TurnEnd) → DiesBy life seen (next_of seen) c2 a w end →
+    GatedPast g g (is_due end) (λ answers. TurnBy c.retired c c2 end v w answers)
+seen_dies {seen} is {a = a} on {run} {life} begins dead w c2 end dies =
+    turn_by is on refl
+    (past_none (dies_undue life seen (next_of seen) c2 a w end dies)
+    (record { begun = a; worked = dies.0; run = run; life = life; begins = begins; does = turning.DoesTurn.dying life dies.0 c2 end dead dies.1; goes = refl; ends = dies.2 }))
 
 -- and so is each turn that finds a life word other than 0
 pub dying_refuses : (c d : Processing) (op : Op) (end : TurnEnd) (v w : PortValue) (answers : List Bool) → next_of c ≡ Some op → (turn : IsTurn c d end v w answers) → turn.life ≢ 0 →

@@ -1,5 +1,5 @@
 -- A list of extents that goes on by one, with a gate and a log.
-use Rattle.std.proofs.Common.{◌≡◌, ℕ, ◌+◌, ◌^◌, ◌<◌, if◌then◌else◌, Bool, true, false, List, [], ◌∷◌, ◌++◌, append_assoc, append-nil, Option, Some, None, Result, Ok, Err, refl, sym, ap, ◌∙◌, arith, subst}
+use Rattle.std.proofs.Common.{◌≡◌, ℕ, ◌+◌, ◌^◌, ◌<◌, Bool, true, false, List, [], ◌∷◌, ◌++◌, append_assoc, append-nil, Option, Some, None, Result, Ok, Err, refl, sym, ap, ◌∙◌, arith, subst}
 use Rattle.std.specs.Result.{IsErrAnd}
 use Rattle.std.proofs.lemmas.Bool.Decides.{nat_tests}
 use Rattle.xp_words.specs.declared.reply.LogLine.{LogLine}
@@ -8,8 +8,8 @@ use Rattle.xp_words.specs.declared.reply.Stop.{Stop}
 use Rattle.xp_words.specs.declared.reply.Stop.TheVariants.{Refused, Paused}
 use Rattle.xp_words.specs.declared.reply.Pause.TheVariants.{Due, Lost, Busy, Flush, Alive}
 use Rattle.xp_board.specs.Told.{PortValue}
-use Rattle.xp_preempt.specs.Gates.{Consulted, Gate, GatedPast, answer_at, next_ask}
-use Rattle.xp_preempt.proofs.Consulting.{consulted_ask, consulted_then}
+use Rattle.xp_preempt.specs.Gates.{Consulted, Gate, GatedPast}
+use Rattle.xp_preempt.proofs.Consulting.{past_as, past_ask}
 use Rattle.level_release.specs.Asking.{is_due_stop}
 use Rattle.reservations.specs.Extents.{IsExtentStop, Reserves}
 use Rattle.reservations.specs.declared.extents.Extent.{Extent}
@@ -18,7 +18,7 @@ use Rattle.vcpu_turn.specs.Extents.{Block, ExtentFits, ListsExtents, block_at, e
 use Rattle.vcpu_turn.specs.Lists as lists
 use Rattle.vcpu_turn.specs.Lists.{DidItems, is_due_answer}
 use Rattle.vcpu_turn.specs.declared.cpu.CallNumber.{CallNumber}
-use Rattle.vcpu_turn.proofs.Gating.{is_err}
+use Rattle.vcpu_turn.proofs.PassedOn.{is_err}
 use Rattle.vcpu_turn.proofs.Listing.{did_on}
 
 -- ---- lines
@@ -97,38 +97,27 @@ module _ {d command order : ℕ} {items : List ℕ} {number : CallNumber} {from 
         record { did = lists.DidItems.more k u w early [] went.did (fit x is given to w (Ok tt) reserves) less; place = grind (arith, nat_tests); lines = lines_on }
 
 -- ---- and what the gate was asked
-module _ {d command order : ℕ} {items : List ℕ} {number : CallNumber} {from within : ℕ} {v : PortValue} {log : List LogLine} {k : ℕ} {u : PortValue} {left : ℕ} {log' : List LogLine} {early : List Bool}
-    (went : Went d command order items number from within v log k u left log' early) (g h : Gate) (first : Consulted g h early) where
+module _ {d command order : ℕ} {items : List ℕ} {number : CallNumber} {from within : ℕ} {v : PortValue} {log : List LogLine} {k : ℕ} {u : PortValue} {left : ℕ} {log' : List LogLine} {g h : Gate}
+    (went : GatedPast g h false (λ answers. Went d command order items number from within v log k u left log' answers)) where
   -- there was none left
   pub answers_all : k ≡ extents_in command items → GatedPast g h false (λ answers. ListsExtents d command order items number from within v k left u log log' answers (Ok tt))
-  answers_all at = record { answers = early; course = went_all went at; gate = first; due = λ due. absurd cc }
+  answers_all at = past_as (λ due. due) (λ answers so. went_all so at) went
 
   module _ (x : Extent) (is : extent_at command items k ≡ Some x) (to : ℕ) (w : PortValue) where
     -- one was refused or paused
     pub answers_stopped : (e : Stop) → Reserves d (2 ^ order) x left u to w (Err e) → k < extents_in command items → (answer : Result (Unit {0}) Stop) → IsErrAnd answer (λ y. y ≡ e) →
         GatedPast g h (is_due_answer answer) (λ answers. ListsExtents d command order items number from within v k to w log log' answers answer)
-    answers_stopped e reserves less answer stops =
-        subst (λ (a : Result (Unit {0}) Stop). GatedPast g h (is_due_answer a) (λ answers. ListsExtents d command order items number from within v k to w log log' answers a)) (sym (is_err answer e stops))
-        (record { answers = early; course = stopped went x is to w e reserves less; gate = first; due = λ due. absurd (not_both (extent_not_due x e reserves.kinds) due) })
-      where
-        not_both : {b : Bool} → b ≡ false → b ≡ true → ⊥
-        not_both off on = cc
+    answers_stopped e reserves less answer stops = rw (is_err answer e stops) (past_as (λ due. sym (extent_not_due x e reserves.kinds) ∙ due) (λ answers so. stopped so x is to w e reserves less) went)
 
     module _ (given : Option ℕ) (reserves : Reserves d (2 ^ order) x left u to w (Ok given)) (log'' : List LogLine) (more : log'' ≡ log' ++ given_lines number (block_at k given)) where
       -- the last one was done
       pub answers_done : k + 1 ≡ extents_in command items → GatedPast g h false (λ answers. ListsExtents d command order items number from within v (k + 1) 0 w log log'' answers (Ok tt))
-      answers_done at = record { answers = early; course = last_done went x is given to w reserves log'' more at; gate = first; due = λ due. absurd cc }
+      answers_done at = past_as (λ due. due) (λ answers so. last_done so x is given to w reserves log'' more at) went
 
       -- the gate was asked behind one
-      module _ (less : k + 1 < extents_in command items) (now : ℕ → Bool) (same : (n : ℕ) → now n ≡ says n) (final yes_final : ℕ) where
-        asked : (due : Bool) → due ≡ answer_at now after → final ≡ next_ask after → yes_final ≡ (if due then yes_after + 1 else yes_after) → Consulted says before final yes_before yes_final (due ∷ early)
-        asked due said on rose = consulted_then now says before after final yes_before yes_after yes_final early (due ∷ []) same first (consulted_ask now after final yes_after yes_final due said on rose)
+      module _ (less : k + 1 < extents_in command items) {last : Gate} where
+        pub answers_due : Consulted h last (true ∷ []) → GatedPast g last true (λ answers. ListsExtents d command order items number from within v (k + 1) 0 w log log'' answers (Err (Paused Due)))
+        answers_due said = past_ask (λ answers so. due_behind so x is given to w reserves log'' more less) went said
 
-        pub answers_due : true ≡ answer_at now after → final ≡ next_ask after → yes_final ≡ yes_after + 1 →
-            GatedPast says before final (λ answers. ListsExtents d command order items number from within v (k + 1) 0 w log log'' answers (Err (Paused Due))) yes_before yes_final true
-        answers_due said on rose =
-            record { answers = true ∷ early; course = due_behind went x is given to w reserves log'' more less; gate = asked true said on rose; due = λ due. refl }
-
-        pub answers_more : false ≡ answer_at now after → final ≡ next_ask after → yes_final ≡ yes_after →
-            Went d command order items number from within v log (k + 1) w 0 log'' (false ∷ early) × Consulted says before final yes_before yes_final (false ∷ early)
-        answers_more said on rose = (went_more went x is given to w reserves log'' more less, asked false said on rose)
+        pub answers_more : Consulted h last (false ∷ []) → GatedPast g last false (λ answers. Went d command order items number from within v log (k + 1) w 0 log'' answers)
+        answers_more said = past_ask (λ answers so. went_more so x is given to w reserves log'' more less) went said

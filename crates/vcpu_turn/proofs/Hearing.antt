@@ -1,5 +1,5 @@
 -- What the gate says within an element: no, until the element is paused for it; but a release may be paused that goes with an element that is done.
-use Rattle.std.proofs.Common.{◌≡◌, ◌⊎◌, ℕ, zero, suc, ◌+◌, ◌-◌, ◌==◌, ◌%◌, ◌||◌, ◌^◌, nat_lt, if◌then◌else◌, Bool, true, false, List, [], ◌∷◌, ◌++◌, slice_get, Option, Some, None, Result, Ok, Err, IfErr, refl, sym, ap, ◌∙◌, inl, inr, arith, subst, append_assoc}
+use Rattle.std.proofs.Common.{◌≡◌, ◌⊎◌, ℕ, zero, suc, ◌+◌, ◌-◌, ◌==◌, ◌%◌, ◌||◌, ◌^◌, nat_lt, if◌then◌else◌, Bool, true, false, List, [], ◌∷◌, ◌++◌, slice_get, Option, Some, None, Result, Ok, Err, IfErr, refl, ap, ◌∙◌, inl, inr, arith, subst, append_assoc}
 use Rattle.std.proofs.lemmas.Bool.{eqb-true}
 use Rattle.xp_words.specs.KindWords.{kind_fields}
 use Rattle.xp_words.specs.declared.entry.Demand.{Demand}
@@ -13,7 +13,7 @@ use Rattle.xp_words.specs.declared.reply.Stop.{Stop}
 use Rattle.xp_words.specs.declared.reply.Stop.TheVariants.{Paused, Refused}
 use Rattle.xp_board.specs.Told.{PortValue}
 use Rattle.xp_preempt.specs.Gates.{ends_yes, yeses}
-use Rattle.xp_preempt.proofs.Consulting.{yeses_then}
+use Rattle.xp_preempt.proofs.Consulting.{ends_then, yeses_then}
 use Rattle.foreign_map.specs.declared.owners.Owners.{Owners}
 use Rattle.level_release.specs.Course.{WasReleased}
 use Rattle.level_release.proofs.Noes.{settled_no}
@@ -42,8 +42,6 @@ use Rattle.vcpu_turn.specs.Mappings.{MapsWord, PausesOldEntry, UpdatesWord}
 use Rattle.vcpu_turn.specs.Pairs.{ExchangesEntry, PausesRelease, FitsPair, PairFits}
 use Rattle.vcpu_turn.specs.Settling as settling
 use Rattle.vcpu_turn.specs.Settling.{Settles, SettlesFirst}
-use Rattle.vcpu_turn.proofs.Extending.{due_released}
-use Rattle.vcpu_turn.proofs.Gating.{ends_behind}
 use Rattle.vcpu_turn.proofs.Noes.{acquired_noes, noes_all, noes_no, noes_none, noes_same, noes_then, released_noes, settled_noes}
 
 -- ---- an exchange
@@ -109,16 +107,13 @@ exchanged_hears v x o _ _ _ (exchanging.Exchanged.done u y z a w seen old answer
     ]
 
 -- ---- an element of `mmu_update`
-due_same : (answers : List Bool) (answer : Result (Unit {0}) Stop) → NoUntilDue answers (is_due_answer answer) → NoUntilDue answers (is_due_answer answer)
-due_same answers answer noes = subst (λ (b : Bool). NoUntilDue answers b) (sym (due_released answer)) noes
-
 -- what was settled first
 pub settles_hears : {below : Option ℕ} → (v w : PortValue) (answers : List Bool) (answer : Result (Unit {0}) Stop) → Settles below v w answers answer → NoUntilDue answers (is_due_answer answer)
-settles_hears v w answers answer s = subst (λ (b : Bool). NoUntilDue answers b) (sym (due_released answer)) (settled_noes v w answers answer s.course)
+settles_hears v w answers answer s = settled_noes v w answers answer s.course
 
 -- behind it
 settled_then : (v u : PortValue) (early answers : List Bool) (answer : Result (Unit {0}) Stop) → Settles None v u early (Ok tt) → NoUntilDue answers (is_due_answer answer) → NoUntilDue (answers ++ early) (is_due_answer answer)
-settled_then v u early answers answer settles noes = noes_then early answers (is_due_answer answer) (settled_no v u early (Ok tt) refl settles.course) (due_same answers answer noes)
+settled_then v u early answers answer settles noes = noes_then early answers (is_due_answer answer) (settled_no v u early (Ok tt) refl settles.course) noes
 
 module _ (pairs : List Pair) (o : Owners) (k : ℕ) (v z : PortValue) (early : List Bool) (settles : Settles None v z early (Ok tt)) (p : Pair) (at : slice_get pairs k ≡ Some p) where
   paused_release : (t : PageType) (w : PortValue) (answers : List Bool) (answer : Result (Unit {0}) Stop) → ExchangesEntry pairs (tried k v w (answers ++ early) answer) → PausesBehind t w answers answer →
@@ -140,7 +135,7 @@ module _ (pairs : List Pair) (o : Owners) (k : ℕ) (v z : PortValue) (early : L
         released = pause.pausing.released;
         asked = ap (λ (xs : List Bool). xs ++ early) pause.asked ∙ append_assoc pause.more pause.first early;
         early = omega (arith, none, unsaid, one, inner, all);
-        last = ends_behind early answers (ap ends_yes pause.asked ∙ ends_behind pause.first pause.more pause.pausing.last);
+        last = ends_then early answers (ap ends_yes pause.asked ∙ ends_then pause.first pause.more pause.pausing.last);
       }
 
   wrote_hears : (f i word : ℕ) (keep : Bool) → element_of p ≡ Write f i word keep → (w : PortValue) (answers : List Bool) (answer : Result (Unit {0}) Stop) → Wrote z o f i word keep w answers answer →
@@ -281,7 +276,7 @@ old_entry word v u w asked answer set =
       released = pause.pausing.released;
       asked = set.all ∙ ap (λ (xs : List Bool). xs ++ set.before) pause.asked ∙ append_assoc pause.more pause.first set.before;
       early = omega (arith, none, unsaid, one, inner, all);
-      last = ap ends_yes set.all ∙ ends_behind set.before set.answers (ap ends_yes pause.asked ∙ ends_behind pause.first pause.more pause.pausing.last);
+      last = ap ends_yes set.all ∙ ends_then set.before set.answers (ap ends_yes pause.asked ∙ ends_then pause.first pause.more pause.pausing.last);
     }
 
 pub maps_hear : (d foreign va word flags : ℕ) (awaited : Option ℕ) (v : PortValue) (from to : ℕ) (w : PortValue) (asked : List Bool) (answer : Result (Unit {0}) Stop) →
@@ -447,7 +442,7 @@ module _ (list : List ExtOp) (d k : ℕ) (v z : PortValue) (early : List Bool) (
         released = pausing.released;
         asked = refl;
         early = omega (arith, none, one, all);
-        last = ends_behind early answers pausing.last;
+        last = ends_then early answers pausing.last;
       }
 
   paused_base : (op.command ≡ 5) ⊎ (op.command ≡ 15) → (w : PortValue) (answers : List Bool) (answer : Result (Unit {0}) Stop) → PausesBehind L4 w answers answer → PausesOldBase list (tried k v w (answers ++ early) answer)
@@ -469,7 +464,7 @@ module _ (list : List ExtOp) (d k : ℕ) (v z : PortValue) (early : List Bool) (
         released = pause.pausing.released;
         asked = ap (λ (xs : List Bool). xs ++ early) pause.asked ∙ append_assoc pause.more pause.first early;
         early = omega (arith, none, unsaid, one, inner, all);
-        last = ends_behind early answers (ap ends_yes pause.asked ∙ ends_behind pause.first pause.more pause.pausing.last);
+        last = ends_then early answers (ap ends_yes pause.asked ∙ ends_then pause.first pause.more pause.pausing.last);
       }
 
   set_hears : (op.command ≡ 5) ⊎ (op.command ≡ 15) → (base : Base) (new : Option ℕ) (w : PortValue) (answers : List Bool) (answer : Result (Unit {0}) Stop) → SetsBase z w base new answers answer →

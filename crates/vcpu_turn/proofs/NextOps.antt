@@ -7,19 +7,14 @@ use Rattle.xp_words.specs.declared.ops.Op.{Op}
 use Rattle.xp_words.specs.declared.reply.LogLine.{LogLine}
 use Rattle.xp_words.specs.declared.reply.Stop.{Stop}
 use Rattle.xp_board.specs.Told.{PortValue}
+use Rattle.xp_preempt.specs.Gates.{Gate, GatedPast}
+use Rattle.xp_preempt.proofs.Consulting.{past_as, past_none}
 use Rattle.vcpu_turn.specs.Calls.{WentBy}
 use Rattle.domain_destroy.specs.Coming.{seen_to}
 use Rattle.vcpu_turn.specs.Cpus.{IsFew, IsFewIn, IsFewOf, IsMade, Job, OfCalls, OfDestroy, OfOne, Processing, begun, is_long, job_next, job_of, lines_ahead, lines_made, lines_of, lines_of_call, made_by, made_next, made_within, next_of, room_from, room_of, task_called, task_in}
 use Rattle.vcpu_turn.specs.Lists.{is_due_answer}
 use Rattle.vcpu_turn.specs.Turning.{OperationWentOn, NextWentOn}
 use Rattle.vcpu_turn.specs.declared.cpu.Progress.{Progress}
-use Rattle.vcpu_turn.proofs.Gating.{answers_as, answers_nothing}
-use Rattle.xp_preempt.specs.Gates.{GatedPast}
-
--- it is no destruction
-abbrev pub DestroysNone : Job → Type 0
-DestroysNone (OfDestroy x) = ⊥
-DestroysNone job = Unit {0}
 
 pub worked_none : (o : Option Op) (c c' : Processing) (v w : PortValue) (answers : List Bool) → NextWentOn o c c' v w answers None → (o ≡ None) × (c' ≡ c) × (w ≡ v) × (answers ≡ [])
 worked_none (Some op) c c' v w answers h = absurd h
@@ -42,20 +37,14 @@ op_found script seen k i op same at less is =
 pub no_op_found : (script seen : List Op) (k i : ℕ) → seen ≡ script → i ≡ k → length seen ≤ i → slice_get script k ≡ None
 no_op_found script seen k i same at past = ap (λ (xs : List Op). slice_get xs k) (sym same) ∙ ap (λ (j : ℕ). slice_get seen j) (sym at) ∙ slice_get_past seen i past
 
-module _ (c seen : Processing) (is : seen ≡ c) (v : PortValue) (says : ℕ → Bool) (before yes_before : ℕ) where
-  pub goes_nowhere : next_of seen ≡ None → GatedPast says before before (λ answers. NextWentOn (next_of c) c c v v answers None) yes_before yes_before false
-  goes_nowhere next =
-      subst (λ p. GatedPast says before before (λ answers. NextWentOn p c c v v answers None) yes_before yes_before false) (sym (ap next_of (sym is) ∙ next))
-      (answers_nothing says before yes_before false (λ answers. NextWentOn None c c v v answers None) refl (refl, refl, refl))
+module _ {c seen : Processing} (is : seen ≡ c) (v : PortValue) where
+  pub goes_nowhere : {g : Gate} → next_of seen ≡ None → GatedPast g g false (λ answers. NextWentOn (next_of c) c c v v answers None)
+  goes_nowhere next = rw (sym is, next) (past_none refl (refl, refl, refl))
 
-  pub goes_on : (op : Op) → next_of seen ≡ Some op → (to : Progress) (log : List LogLine) (w : PortValue) (after yes_after : ℕ) (answer : Result ℕ Stop) →
+  pub goes_on : {g h : Gate} (op : Op) → next_of seen ≡ Some op → (to : Progress) (log : List LogLine) (w : PortValue) (answer : Result ℕ Stop) →
       GatedPast g h (is_due_answer answer) (λ answers. WentBy seen.domain (job_of op) (seen.answered + 1) v seen.at to w seen.log log answers answer) →
       GatedPast g h (is_due_answer answer) (λ answers. NextWentOn (next_of c) c (record seen { at = to; log = log }) v w answers (Some answer))
-  goes_on op next to log w after yes_after answer went =
-      subst (λ (x : Processing). GatedPast g h (is_due_answer answer) (λ answers. NextWentOn (next_of x) x (record seen { at = to; log = log }) v w answers (Some answer))) is
-      (subst (λ p. GatedPast g h (is_due_answer answer) (λ answers. NextWentOn p seen (record seen { at = to; log = log }) v w answers (Some answer))) (sym next)
-      (answers_as (λ answers. WentBy seen.domain (job_of op) (seen.answered + 1) v seen.at to w seen.log log answers answer) (λ answers. NextWentOn (Some op) seen (record seen { at = to; log = log }) v w answers (Some answer)) g h (is_due_answer answer)
-      (λ answers on. record { went = on; cpu = refl }) went))
+  goes_on op next to log w answer went = rw (sym is, next) (past_as (λ due. due) (λ answers on. record { went = on; cpu = refl }) went)
 
 -- it is not answered yet
 pub more_left : (v w : PortValue) (c c' : Processing) (answers : List Bool) (answer : Result ℕ Stop) → NextWentOn (next_of c) c c' v w answers (Some answer) → c'.answered < length c'.script

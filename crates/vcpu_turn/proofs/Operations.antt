@@ -1,5 +1,5 @@
 -- The work of a turn on lists of any length, and on operations.
-use Rattle.std.proofs.Common.{◌≡◌, ℕ, ◌<◌, ◌≤◌, ◌==◌, Bool, false, List, [], ◌++◌, append-nil, length, Option, Some, None, Result, Ok, Err, IfErr, refl, sym, ap, ◌∙◌, arith, inl, inr, subst}
+use Rattle.std.proofs.Common.{◌≡◌, ℕ, ◌<◌, ◌≤◌, ◌==◌, Bool, false, List, [], ◌++◌, append-nil, length, Option, Some, None, Result, Ok, Err, IfErr, refl, sym, ap, ◌∙◌, arith, inl, inr}
 use Rattle.std.proofs.lemmas.Bool.Decides.{nat_tests}
 use Rattle.xp_words.specs.declared.ops.Pair.{Pair}
 use Rattle.xp_words.specs.declared.reply.LogLine.{LogLine}
@@ -9,6 +9,8 @@ use Rattle.xp_words.specs.declared.reply.Stop.{Stop}
 use Rattle.xp_words.specs.declared.reply.Pause.TheVariants.{Due, Lost, Busy, Flush, Alive}
 use Rattle.xp_words.specs.declared.reply.Stop.TheVariants.{Refused, Paused}
 use Rattle.xp_board.specs.Told.{PortValue}
+use Rattle.xp_preempt.specs.Gates.{Gate, GatedPast}
+use Rattle.xp_preempt.proofs.Consulting.{past_as, past_none}
 use Rattle.foreign_map.specs.declared.owners.Owners.{Owners}
 use Rattle.tlb_walks.specs.Asking.{IsGuestReadStop, IsGuestWriteStop}
 use Rattle.vcpu_turn.specs.Lists.{Fitting, WorksOn, is_due_answer, WorksThrough}
@@ -18,64 +20,47 @@ use Rattle.vcpu_turn.specs.Pairs.{FindsOwners, PairFits, WorksOwned, long, none,
 use Rattle.vcpu_turn.specs.Working.{GoesExtents, IsPlaced, Valued, WentOn, Works, gave_of, valued}
 use Rattle.vcpu_turn.specs.declared.cpu.Progress.{Progress}
 use Rattle.vcpu_turn.specs.declared.cpu.CallNumber.{CallNumber}
-use Rattle.vcpu_turn.proofs.Gating.{answers_as, answers_nothing}
 use Rattle.vcpu_turn.proofs.Listing.{works_within}
-use Rattle.xp_preempt.specs.Gates.{Gate, GatedPast}
 
-module _ (fits : Fitting) (count from : ℕ) (v : PortValue) (says : ℕ → Bool) where
-  pub too_long : (asks risen : ℕ) → 512 < count → GatedPast says asks asks (λ answers. WorksThrough fits count v from 0 v answers (Err (Refused refusals.BatchLong))) risen risen false
-  too_long asks risen above =
-      answers_nothing says asks risen false (λ answers. WorksThrough fits count v from 0 v answers (Err (Refused refusals.BatchLong))) refl
-      (inl (above, record { none = refl; no_step = refl; no_ask = refl; refused = refl }))
+module _ {fits : Fitting} {count from : ℕ} {v : PortValue} {g : Gate} where
+  pub too_long : 512 < count → GatedPast g g false (λ answers. WorksThrough fits count v from 0 v answers (Err (Refused refusals.BatchLong)))
+  too_long above = past_none refl (inl (above, record { none = refl; no_step = refl; no_ask = refl; refused = refl }))
 
-  module _ (before after yes_before yes_after to : ℕ) (w : PortValue) (answer : Result (Unit {0}) Stop) (works : GatedPast g h (is_due_answer answer) (λ answers. WorksOn fits count from v to w answers answer)) where
+  module _ {h : Gate} {to : ℕ} {w : PortValue} {answer : Result (Unit {0}) Stop} (works : GatedPast g h (is_due_answer answer) (λ answers. WorksOn fits count from v to w answers answer)) where
     pub not_long : count ≤ 512 → GatedPast g h (is_due_answer answer) (λ answers. WorksThrough fits count v from to w answers answer)
-    not_long most =
-        answers_as (λ answers. WorksOn fits count from v to w answers answer) (λ answers. WorksThrough fits count v from to w answers answer) g h (is_due_answer answer) (λ answers on. inr (most, on)) works
+    not_long most = past_as (λ due. due) (λ answers on. inr (most, on)) works
 
     pub no_more : from ≤ count → to ≤ count
-    no_more within = works_within fits count from v within to w works.answers answer works.goes
+    no_more within = works_within fits count from v within to w works.answers answer works.course
 
 -- ---- pairs, for the owners that a number names
 pub above_none : (n : ℕ) → (n == 0) ≡ false → 0 < n
 above_none n off = grind (arith, nat_tests)
 
-module _ (d foreign : ℕ) (list : List Pair) (from : ℕ) (v : PortValue) (says : ℕ → Bool) where
-  pub owned_long : (asks risen : ℕ) → 512 < length list → GatedPast says asks asks (λ answers. WorksOwned d foreign list v from 0 v answers (Err (Refused refusals.BatchLong))) risen risen false
-  owned_long asks risen above =
-      answers_nothing says asks risen false (λ answers. WorksOwned d foreign list v from 0 v answers (Err (Refused refusals.BatchLong))) refl
-      (long 0 v [] (Err (Refused refusals.BatchLong)) above (record { none = refl; no_step = refl; no_ask = refl; refused = refl }))
+module _ {d foreign : ℕ} {list : List Pair} {from : ℕ} {v : PortValue} {g : Gate} where
+  pub owned_long : 512 < length list → GatedPast g g false (λ answers. WorksOwned d foreign list v from 0 v answers (Err (Refused refusals.BatchLong)))
+  owned_long above = past_none refl (long 0 v [] (Err (Refused refusals.BatchLong)) above (record { none = refl; no_step = refl; no_ask = refl; refused = refl }))
 
-  pub owned_none : (asks risen : ℕ) → length list ≡ 0 → GatedPast says asks asks (λ answers. WorksOwned d foreign list v from from v answers (Ok tt)) risen risen false
-  owned_none asks risen empty = answers_nothing says asks risen false (λ answers. WorksOwned d foreign list v from from v answers (Ok tt)) refl (none empty)
+  pub owned_none : length list ≡ 0 → GatedPast g g false (λ answers. WorksOwned d foreign list v from from v answers (Ok tt))
+  owned_none empty = past_none refl (none empty)
 
   module _ (some : 0 < length list) (most : length list ≤ 512) where
-    pub owned_refused : (asks risen : ℕ) (w : PortValue) (x : Refusal) → FindsOwners v w d foreign (Err x) → GatedPast says asks asks (λ answers. WorksOwned d foreign list v from from w answers (Err (Refused x))) risen risen false
-    owned_refused asks risen w x finds = answers_nothing says asks risen false (λ answers. WorksOwned d foreign list v from from w answers (Err (Refused x))) refl (unowned w x some most finds)
+    pub owned_refused : (w : PortValue) (x : Refusal) → FindsOwners v w d foreign (Err x) → GatedPast g g false (λ answers. WorksOwned d foreign list v from from w answers (Err (Refused x)))
+    owned_refused w x finds = past_none refl (unowned w x some most finds)
 
-    pub owned_on : (u : PortValue) (o : Owners) → FindsOwners v u d foreign (Ok o) → (before after yes_before yes_after to : ℕ) (w : PortValue) (answer : Result (Unit {0}) Stop) →
-        GatedPast g h (is_due_answer answer) (λ answers. WorksOn (PairFits o list) (length list) from u to w answers answer) →
-        GatedPast g h (is_due_answer answer) (λ answers. WorksOwned d foreign list v from to w answers answer)
-    owned_on u o finds before after yes_before yes_after to w answer works =
-        answers_as (λ answers. WorksOn (PairFits o list) (length list) from u to w answers answer) (λ answers. WorksOwned d foreign list v from to w answers answer) g h (is_due_answer answer)
-        (λ answers on. owned to u w o answers answer some most finds on) works
+    pub owned_on : (u : PortValue) (o : Owners) → FindsOwners v u d foreign (Ok o) → {h : Gate} {to : ℕ} {w : PortValue} (answer : Result (Unit {0}) Stop) →
+        GatedPast g h (is_due_answer answer) (λ answers. WorksOn (PairFits o list) (length list) from u to w answers answer) → GatedPast g h (is_due_answer answer) (λ answers. WorksOwned d foreign list v from to w answers answer)
+    owned_on u o finds {to = to} {w} answer works = past_as (λ due. due) (λ answers on. owned to u w o answers answer some most finds on) works
 
 -- ---- operations
-pub due_valued : (ended : Result (Unit {0}) Stop) → is_due_answer (valued ended) ≡ is_due_answer ended
-due_valued (Ok done) = refl
-due_valued (Err e) = refl
+pub due_valued : (ended : Result (Unit {0}) Stop) (answer : Result ℕ Stop) → answer ≡ valued ended → is_due_answer answer ≡ is_due_answer ended
+due_valued (Ok done) answer is = ap is_due_answer is
+due_valued (Err e) answer is = ap is_due_answer is
 
 -- what answers no value
-module _ (P : List Bool → Result (Unit {0}) Stop → Type 0) (g h : Gate) (ended : Result (Unit {0}) Stop) (answer : Result ℕ Stop) (is : answer ≡ valued ended) where
-  pub without_value : GatedPast g h (is_due_answer ended) (λ answers. P answers ended) →
-      GatedPast g h (is_due_answer answer) (λ answers. Valued (λ e. P answers e) answer)
-  without_value works =
-      record {
-        answers = works.answers;
-        goes = record { ended = ended; works = works.goes; answer_is = is };
-        gate = works.gate;
-        due = λ due. works.due (sym (due_valued ended) ∙ sym (ap is_due_answer is) ∙ due);
-      }
+pub without_value : {P : List Bool → Result (Unit {0}) Stop → Type 0} {g h : Gate} (ended : Result (Unit {0}) Stop) {answer : Result ℕ Stop} → answer ≡ valued ended → GatedPast g h (is_due_answer ended) (λ answers. P answers ended) →
+    GatedPast g h (is_due_answer answer) (λ answers. Valued (λ e. P answers e) answer)
+without_value ended {answer} is works = past_as (λ due. sym (due_valued ended answer is) ∙ due) (λ answers works. record { ended = ended; works = works; answer_is = is }) works
 
 -- an access asks no gate
 pub read_not_due : (answer : Result ℕ Stop) → IfErr answer IsGuestReadStop → is_due_answer answer ≡ false
@@ -123,7 +108,7 @@ module _ (d : ℕ) (awaited : Option ℕ) (v : PortValue) (from to : ℕ) (w : P
   gave_plain (Some (OfRead user va)) plain works = refl
   gave_plain (Some (OfWrite user va val)) plain works = refl
 
-module _ (d : ℕ) (number : CallNumber) (v : PortValue) (from : Progress) (log : List LogLine) (o : Option Task) (says : ℕ → Bool) where
+module _ {d : ℕ} {number : CallNumber} {v : PortValue} {from : Progress} {log : List LogLine} where
   went_plain : (p : Option Task) → IsPlain p → (to : ℕ) (w : PortValue) (answers : List Bool) (answer : Result ℕ Stop) → Works d p from.awaited v from.done to w answers answer →
       WentOn d p number v from (left_waiting p (record from { done = to }) answer) w log log answers answer
   went_plain p plain to w answers answer works =
@@ -135,40 +120,18 @@ module _ (d : ℕ) (number : CallNumber) (v : PortValue) (from : Progress) (log 
         lines = sym (append-nil log) ∙ ap (λ (bs : List Block). log ++ given_lines number bs) (sym (gave_plain d from.awaited v from.done to w answers answer p plain works));
       }
 
-  pub not_built : o ≡ None → (asks risen : ℕ) →
-      GatedPast says asks asks (λ answers. WentOn d o number v from (left_waiting o (record from { done = 0 }) (Err (Refused refusals.BadCommand))) v log log answers (Err (Refused refusals.BadCommand))) risen risen false
-  not_built is asks risen =
-      subst (λ (p : Option Task). GatedPast says asks asks (λ answers. WentOn d p number v from (left_waiting p (record from { done = 0 }) (Err (Refused refusals.BadCommand))) v log log answers (Err (Refused refusals.BadCommand))) risen risen false) (sym is)
-      (answers_nothing says asks risen false (λ answers. WentOn d None number v from (left_waiting None (record from { done = 0 }) (Err (Refused refusals.BadCommand))) v log log answers (Err (Refused refusals.BadCommand))) refl
-      (went_plain None tt 0 v [] (Err (Refused refusals.BadCommand)) (record { none = refl; no_step = refl; no_ask = refl; refused = refl })))
+  module _ {o : Option Task} {g : Gate} where
+    pub not_built : o ≡ None → GatedPast g g false (λ answers. WentOn d o number v from (left_waiting o (record from { done = 0 }) (Err (Refused refusals.BadCommand))) v log log answers (Err (Refused refusals.BadCommand)))
+    not_built is = rw is (past_none refl (went_plain None tt 0 v [] (Err (Refused refusals.BadCommand)) (record { none = refl; no_step = refl; no_ask = refl; refused = refl })))
 
-  module _ (task : Task) (is : o ≡ Some task) (before after yes_before yes_after : ℕ) (w : PortValue) (answer : Result ℕ Stop) where
-    went_as : (to : Progress) (log' : List LogLine) → GatedPast g h (is_due_answer answer) (λ answers. WentOn d (Some task) number v from (left_waiting (Some task) to answer) w log log' answers answer) →
-        GatedPast g h (is_due_answer answer) (λ answers. WentOn d o number v from (left_waiting o to answer) w log log' answers answer)
-    went_as to log' went =
-        subst (λ (p : Option Task). GatedPast g h (is_due_answer answer) (λ answers. WentOn d p number v from (left_waiting p to answer) w log log' answers answer)) (sym is) went
-
-    pub built : IsPlain (Some task) → (to : ℕ) → GatedPast g h (is_due_answer answer) (λ answers. Works d (Some task) from.awaited v from.done to w answers answer) →
+    pub built : (task : Task) → o ≡ Some task → IsPlain (Some task) → {h : Gate} {to : ℕ} {w : PortValue} {answer : Result ℕ Stop} → GatedPast g h (is_due_answer answer) (λ answers. Works d (Some task) from.awaited v from.done to w answers answer) →
         GatedPast g h (is_due_answer answer) (λ answers. WentOn d o number v from (left_waiting o (record from { done = to }) answer) w log log answers answer)
-    built plain to works =
-        went_as (record from { done = to }) log
-        (answers_as (λ answers. Works d (Some task) from.awaited v from.done to w answers answer) (λ answers. WentOn d (Some task) number v from (left_waiting (Some task) (record from { done = to }) answer) w log log answers answer)
-        g h (is_due_answer answer) (λ answers on. went_plain (Some task) plain to w answers answer on) works)
+    built task is plain {to = to} {w} {answer} works = rw is (past_as (λ due. due) (λ answers on. went_plain (Some task) plain to w answers answer on) works)
 
-  pub built_extents : (command order : ℕ) (items : List ℕ) → o ≡ Some (OfMem command order items) → (before after yes_before yes_after : ℕ) (to : Progress) (w : PortValue) (log' : List LogLine) (ended : Result (Unit {0}) Stop) (answer : Result ℕ Stop) → answer ≡ valued ended →
-      GatedPast g h (is_due_answer ended) (λ answers. GoesExtents d command order items number v from to w log log' answers ended) →
-      GatedPast g h (is_due_answer answer) (λ answers. WentOn d o number v from (left_waiting o to answer) w log log' answers answer)
-  built_extents command order items is before after yes_before yes_after to w log' ended answer valued_is goes =
-      went_as (OfMem command order items) is before after yes_before yes_after w answer to log'
-      (record {
-        answers = goes.answers;
-        goes = record {
-          works = record { ended = ended; works = goes.goes.works; answer_is = valued_is };
-          calls = goes.goes.calls;
-          within = goes.goes.within;
-          waits = refl;
-          lines = goes.goes.lines;
-        };
-        gate = goes.gate;
-        due = λ due. goes.due (sym (due_valued ended) ∙ sym (ap is_due_answer valued_is) ∙ due);
-      })
+    pub built_extents : (command order : ℕ) (items : List ℕ) → o ≡ Some (OfMem command order items) → {h : Gate} {to : Progress} {w : PortValue} {log' : List LogLine} (ended : Result (Unit {0}) Stop) {answer : Result ℕ Stop} → answer ≡ valued ended →
+        GatedPast g h (is_due_answer ended) (λ answers. GoesExtents d command order items number v from to w log log' answers ended) →
+        GatedPast g h (is_due_answer answer) (λ answers. WentOn d o number v from (left_waiting o to answer) w log log' answers answer)
+    built_extents command order items is ended {answer} valued_is goes =
+        rw is
+        (past_as (λ due. sym (due_valued ended answer valued_is) ∙ due)
+        (λ answers on. record { works = record { ended = ended; works = on.works; answer_is = valued_is }; calls = on.calls; within = on.within; waits = refl; lines = on.lines }) goes)

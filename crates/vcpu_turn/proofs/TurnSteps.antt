@@ -12,10 +12,9 @@ use Rattle.vcpu_turn.specs.declared.cpu.TurnEnd.TheVariants as ends
 use Rattle.vcpu_turn.specs.Cpus.{Processing, end_of, job_next, job_of, next_of, nothing_left}
 use Rattle.vcpu_turn.specs.Turning.{DiesNext, DoesNext, EndsTurn, DoesTurn, IsStop, IsTurn}
 use Rattle.vcpu_turn.specs.Turning as turning
-use Rattle.vcpu_turn.specs.Unhindered.{IsUnhindered}
+use Rattle.vcpu_turn.specs.Unhindered.{IsSparingJob, IsUnhindered}
 use Rattle.vcpu_turn.proofs.Turns.{begins_came}
 use Rattle.vcpu_turn.proofs.Hindering.{AloneStays, NeitherLostNorBusy, NobodyWaitedFor, IsSpared, Spared, same_came, settles_came, settles_spared, spared_on}
-use Rattle.vcpu_turn.proofs.NextOps.{DestroysNone}
 use Rattle.vcpu_turn.proofs.CallsBringing.{by_came, by_spared}
 
 -- ---- steps
@@ -53,7 +52,7 @@ spared_end v to (Err (Refused x)) s = tt
 spared_end v to (Err (Paused x)) s = s
 
 module _ (stays : AloneStays) (neither : NeitherLostNorBusy) (nobody : NobodyWaitedFor) where
-  does_spared : (c : Processing) (o : Option Op) → DestroysNone (job_next o) → (c2 : Processing) (v w : PortValue) (answers : List Bool) (end : TurnEnd) → IsSpared v → DoesNext c o c2 v w answers end → IsUnhindered v.post.machine end
+  does_spared : (c : Processing) (o : Option Op) → IsSparingJob (job_next o) → (c2 : Processing) (v w : PortValue) (answers : List Bool) (end : TurnEnd) → IsSpared v → DoesNext c o c2 v w answers end → IsUnhindered v.post.machine end
   does_spared c (Some op) none c2 v w answers end s d =
       subst (IsUnhindered v.post.machine) (sym d.end_is)
       (spared_end v d.to.done d.answer (by_spared c.domain (c.answered + 1) v c.at d.to w c.log d.log answers d.answer stays neither nobody (job_of op) none s d.went))
@@ -63,14 +62,14 @@ module _ (stays : AloneStays) (neither : NeitherLostNorBusy) (nobody : NobodyWai
   dies_spared life c (Some op) c2 v w end dies = subst (IsUnhindered v.post.machine) (sym dies.1) tt
   dies_spared life c None c2 v w end dies = subst (IsUnhindered v.post.machine) (sym dies.1) tt
 
-  goes_spared : (c : Processing) (o : Option Op) → DestroysNone (job_next o) → (v : PortValue) (c2 : Processing) (w : PortValue) (answers : List Bool) (end : TurnEnd) → IsSpared v → DoesTurn c o v c2 w answers end → IsUnhindered v.post.machine end
+  goes_spared : (c : Processing) (o : Option Op) → IsSparingJob (job_next o) → (v : PortValue) (c2 : Processing) (w : PortValue) (answers : List Bool) (end : TurnEnd) → IsSpared v → DoesTurn c o v c2 w answers end → IsUnhindered v.post.machine end
   goes_spared c o none v _ _ _ _ s (turning.dying life w c2 end dead dies) = dies_spared life c o c2 v w end dies
   goes_spared c o none v _ _ _ _ s (turning.unsettled w answers p settles) = settles_spared stays neither nobody v w answers (Err (Paused p)) s settles
   goes_spared c o none v _ _ _ _ s (turning.settled u w c2 early answers end settles d) =
       let came = settles_came v u early (Ok tt) settles in
       subst (λ (q : Post). IsUnhindered q.machine end) (came_post v u came) (does_spared (nothing_left c) o none c2 u w answers end (spared_on stays neither nobody v u came s) d)
 
-  pub turn_unhindered : (v : PortValue) → v.post.vcpu < length v.post.machine.vcpu_domain → (c c2 : Processing) → DestroysNone (job_next (next_of c)) → (end : TurnEnd) (w : PortValue) (answers : List Bool) → IsAlone v → IsTurn c c2 end v w answers →
+  pub turn_unhindered : (v : PortValue) → v.post.vcpu < length v.post.machine.vcpu_domain → (c c2 : Processing) → IsSparingJob (job_next (next_of c)) → (end : TurnEnd) (w : PortValue) (answers : List Bool) → IsAlone v → IsTurn c c2 end v w answers →
       IsUnhindered v.post.machine end
   turn_unhindered v real c c2 none end w answers alone t =
       let came = begins_came v t.begun t.begins in

@@ -17,11 +17,10 @@ use Rattle.vcpu_turn.specs.Cpus.{Job, OfCalls, OfDestroy, OfOne, Processing, end
 use Rattle.vcpu_turn.specs.Destroying.{WentOnDestroying}
 use Rattle.vcpu_turn.specs.Turning.{DiesNext, DoesNext, DoesTurn, IsTurn}
 use Rattle.vcpu_turn.specs.Turning as turning
-use Rattle.vcpu_turn.specs.Unhindered.{IsSparedBy, IsSparedIn, IsUnlost}
+use Rattle.vcpu_turn.specs.Unhindered.{IsSparedBy, IsSparedIn, IsSparingJob, IsUnlost}
 use Rattle.vcpu_turn.specs.declared.cpu.TurnEnd.{TurnEnd}
 use Rattle.vcpu_turn.specs.declared.cpu.TurnEnd.TheVariants as ends
 use Rattle.vcpu_turn.proofs.Hindering.{AloneStays, NeitherLostNorBusy, NobodyWaitedFor, settles_came}
-use Rattle.vcpu_turn.proofs.NextOps.{DestroysNone}
 use Rattle.vcpu_turn.proofs.TurnSteps.{turn_unhindered}
 use Rattle.vcpu_turn.proofs.Turns.{begins_came}
 
@@ -76,8 +75,8 @@ module _ (stays : AloneStays) (lost : NothingLost) where
 module _ (stays : AloneStays) (neither : NeitherLostNorBusy) (nobody : NobodyWaitedFor) (lost : NothingLost) where
   by_next : (v : PortValue) → v.post.vcpu < length v.post.machine.vcpu_domain → (c c2 : Processing) (o : Option Op) (job : Job) → next_of c ≡ o → job_next o ≡ job → (end : TurnEnd) (w : PortValue) (answers : List Bool) → IsAlone v →
       IsTurn c c2 end v w answers → IsSparedBy v.post.machine job end
-  by_next v real c c2 o (OfOne task) next is end w answers alone t = turn_unhindered stays neither nobody v real c c2 (subst DestroysNone (sym is ∙ ap job_next (sym next)) tt) end w answers alone t
-  by_next v real c c2 o (OfCalls calls) next is end w answers alone t = turn_unhindered stays neither nobody v real c c2 (subst DestroysNone (sym is ∙ ap job_next (sym next)) tt) end w answers alone t
+  by_next v real c c2 o (OfOne task) next is end w answers alone t = turn_unhindered stays neither nobody v real c c2 (subst IsSparingJob (sym is ∙ ap job_next (sym next)) tt) end w answers alone t
+  by_next v real c c2 o (OfCalls calls) next is end w answers alone t = turn_unhindered stays neither nobody v real c c2 (subst IsSparingJob (sym is ∙ ap job_next (sym next)) tt) end w answers alone t
   by_next v real c c2 (Some op) (OfDestroy x) next is end w answers alone t =
       goes_unlost stays lost c op x is t.begun c2 t.worked answers end (stays v t.begun alone (begins_came v t.begun t.begins))
       (subst (λ (o : Option Op). DoesTurn c o t.begun c2 t.worked answers end) next t.does)

@@ -1,8 +1,10 @@
 use Rattle.std.proofs.Common.{◌+◌, None, arith, ap, sym, ◌∙◌, refl, Some}
 use Rattle.std.proofs.lemmas.Option.{slice_get-get_or}
 use Rattle.xp_words.specs.declared.ops.Call.{Call}
+use Rattle.xp_preempt.proofs.Consulting.{past_none}
+use Rattle.vcpu_turn.specs.Calls.{none}
 use Rattle.vcpu_turn.specs.declared.cpu.Progress.{Progress}
-use Rattle.vcpu_turn.proofs.Calling.{call_at, few_at, few_past, room_at, room_long, room_more, room_past, room_stopped, went_all, went_long, went_more, went_none, went_stopped, is_err_calm, none_past}
+use Rattle.vcpu_turn.proofs.Calling.{call_at, few_at, few_past, room_at, room_long, room_more, room_past, room_stopped, went_all, went_long, went_more, went_stopped, none_past}
 use Rattle.vcpu_turn.proofs.Staying.{own_domain}
 use Rattle.vcpu_turn.proofs.calls.answer_calls.Goals as goal
 
@@ -10,7 +12,7 @@ pub returns-then-calls-gt-MOST-clause-few : goal.returns-then-calls-gt-MOST-clau
 returns-then-calls-gt-MOST-clause-few g c = (c.requires.few.0, few_at c.args.calls.now c.args.at.now.call)
 
 pub returns-then-calls-gt-MOST-clause-works : goal.returns-then-calls-gt-MOST-clause-works
-returns-then-calls-gt-MOST-clause-works g c = went_long _ _ _ _ _ _ _ _ _ c.if-calls-gt-MOST.true
+returns-then-calls-gt-MOST-clause-works g c = went_long c.if-calls-gt-MOST.true
 
 pub returns-then-calls-gt-MOST-clause-room : goal.returns-then-calls-gt-MOST-clause-room
 returns-then-calls-gt-MOST-clause-room g c = room_long c.args.calls.now c.args.at.now (record c.args.at.now { done = 0; awaited = None }) _ c.if-calls-gt-MOST.true
@@ -19,7 +21,7 @@ pub loop-at-init : goal.loop-at-init
 loop-at-init g c =
     let r = c.requires in
     record {
-      went = went_none;
+      went = past_none refl none;
       few = r.few;
       awaits = r.awaits;
       capacity = refl;
@@ -27,9 +29,6 @@ loop-at-init g c =
       post = refl;
       rests = r.rests;
       warm = r.warm;
-      says = λ n. refl;
-      paces = refl;
-      calm = λ a. a;
     }
 
 pub overflow_cast-at : goal.overflow_cast-at
@@ -67,7 +66,7 @@ loop-at-preserved g c =
     let e = c.in_ok-answer_call.ensures in
     let is = slice_get-get_or c.args.calls.now c.loop-at.at.call c.index-calls-at.result c.loop-at-test.true ∙ ap (λ (x : Call). Some x) (sym c.index-calls-at.is) in
     record {
-      went = went_more inv.went inv.says _ is e.answers;
+      went = went_more inv.went _ is e.answers;
       few = (let below = c.loop-at-test.true in rw e.next (omega (arith, below), few_at c.args.calls.now (c.loop-at.at.call + 1)));
       awaits = e.awaits;
       capacity = e.capacity ∙ inv.capacity;
@@ -75,9 +74,6 @@ loop-at-preserved g c =
       post = e.post ∙ inv.post;
       rests = e.rests;
       warm = e.warm;
-      says = λ n. e.says n ∙ inv.says n;
-      paces = e.paces ∙ inv.paces;
-      calm = λ calm. (e.calm (inv.calm calm)).1;
     }
 
 pub returns-in_err-answer_call-clause-post : goal.returns-in_err-answer_call-clause-post
@@ -93,7 +89,7 @@ pub returns-in_err-answer_call-clause-works : goal.returns-in_err-answer_call-cl
 returns-in_err-answer_call-clause-works g c =
     let inv = c.loop-at.invariant in
     let is = slice_get-get_or c.args.calls.now c.loop-at.at.call c.index-calls-at.result c.loop-at-test.true ∙ ap (λ (x : Call). Some x) (sym c.index-calls-at.is) in
-    went_stopped inv.went inv.says _ is c.if-calls-gt-MOST.false _ _ c.from_residual.ensures.1 c.in_err-answer_call.ensures.answers
+    went_stopped inv.went _ is c.if-calls-gt-MOST.false _ _ c.from_residual.ensures.1 c.in_err-answer_call.ensures.answers
 
 pub returns-in_err-answer_call-clause-capacity : goal.returns-in_err-answer_call-clause-capacity
 returns-in_err-answer_call-clause-capacity g c = c.answer_call.ensures.capacity ∙ c.loop-at.invariant.capacity
@@ -102,16 +98,6 @@ pub returns-in_err-answer_call-clause-room : goal.returns-in_err-answer_call-cla
 returns-in_err-answer_call-clause-room g c =
     let is = slice_get-get_or c.args.calls.now c.loop-at.at.call c.index-calls-at.result c.loop-at-test.true ∙ ap (λ (x : Call). Some x) (sym c.index-calls-at.is) in
     room_stopped c.args.calls.now c.args.at.now c.loop-at.at c.answer_call.new.at _ _ _ _ c.if-calls-gt-MOST.false is c.in_err-answer_call.ensures.same.0 c.loop-at.invariant.room c.in_err-answer_call.ensures.room
-
-pub returns-in_err-answer_call-clause-says : goal.returns-in_err-answer_call-clause-says
-returns-in_err-answer_call-clause-says g c = λ n. c.answer_call.ensures.says n ∙ c.loop-at.invariant.says n
-
-pub returns-in_err-answer_call-clause-paces : goal.returns-in_err-answer_call-clause-paces
-returns-in_err-answer_call-clause-paces g c = c.answer_call.ensures.paces ∙ c.loop-at.invariant.paces
-
-pub returns-in_err-answer_call-clause-calm : goal.returns-in_err-answer_call-clause-calm
-returns-in_err-answer_call-clause-calm g c =
-    λ calm. (is_err_calm _ _ c.from_residual.ensures.1 (c.in_err-answer_call.ensures.calm (c.loop-at.invariant.calm calm)).0, (c.in_err-answer_call.ensures.calm (c.loop-at.invariant.calm calm)).1)
 
 pub returns-clause-few : goal.returns-clause-few
 returns-clause-few g c = (c.loop-at.invariant.few.0, none_past c.args.calls.now _ _ c.loop-at-test.false)

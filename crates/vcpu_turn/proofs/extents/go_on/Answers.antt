@@ -1,5 +1,5 @@
 use Rattle.std.proofs.Common.{arith, refl, ap, ◌∙◌}
-use Rattle.xp_preempt.proofs.Consulting.{consulted_none}
+use Rattle.xp_preempt.proofs.Consulting.{past_none}
 use Rattle.xp_board.specs.Told.{PortValue}
 use Rattle.vcpu_turn.proofs.GoingExtents.{answers_all, answers_done, answers_due, answers_more, answers_stopped, went_none}
 use Rattle.vcpu_turn.proofs.OnExtents.{room_behind}
@@ -12,9 +12,7 @@ loop-done-init g c =
     let within = r.within in
     let count = c.count-count.ensures in
     record {
-      answers = _;
-      went = went_none _ _ _ _ _ _ _ _ _;
-      gate = consulted_none _ _ _;
+      went = past_none refl (went_none _ _ _ _ _ _ _ _ _);
       count = count;
       most = omega (arith, within, count);
       capacity = refl;
@@ -22,9 +20,6 @@ loop-done-init g c =
       post = refl;
       rests = r.rests;
       warm = r.warm;
-      says = λ n. refl;
-      paces = refl;
-      calm = λ a. a;
     }
 
 pub returns-in_err-given-clause-works : goal.returns-in_err-given-clause-works
@@ -32,7 +27,7 @@ returns-in_err-given-clause-works g c =
     let below = c.loop-done-test.true in
     let inv = c.loop-done.invariant in
     let count = inv.count in
-    answers_stopped inv.went _ _ _ _ _ inv.gate _ c.extent-extent.ensures _ _ _ c.in_err-given.ensures (omega (arith, below, count)) _ c.from_residual.ensures.1
+    answers_stopped inv.went _ c.extent-extent.ensures _ _ _ c.in_err-given.ensures (omega (arith, below, count)) _ c.from_residual.ensures.1
 
 pub returns-in_err-given-clause-warm : goal.returns-in_err-given-clause-warm
 returns-in_err-given-clause-warm g c = reserved_warm c.reserve.ensures c.loop-done.invariant.warm
@@ -40,7 +35,7 @@ returns-in_err-given-clause-warm g c = reserved_warm c.reserve.ensures c.loop-do
 pub returns-then-done-count-clause-works : goal.returns-then-done-count-clause-works
 returns-then-done-count-clause-works g c =
     let inv = c.loop-done.invariant in
-    answers_done inv.went _ _ _ _ _ inv.gate _ c.extent-extent.ensures _ _ _ c.in_ok-given.ensures _ c.log_block.ensures.lines (c.if-done-count.true ∙ inv.count)
+    answers_done inv.went _ c.extent-extent.ensures _ _ _ c.in_ok-given.ensures _ c.log_block.ensures.lines (c.if-done-count.true ∙ inv.count)
 
 pub returns-then-done-count-clause-room : goal.returns-then-done-count-clause-room
 returns-then-done-count-clause-room g c =
@@ -56,8 +51,7 @@ returns-then-due-clause-works g c =
     let off = c.if-done-count.false in
     let inv = c.loop-done.invariant in
     let count = inv.count in
-    let due = c.if-due.ensures in
-    answers_due inv.went _ _ _ _ _ inv.gate _ c.extent-extent.ensures _ _ _ c.in_ok-given.ensures _ c.log_block.ensures.lines (omega (arith, below, off, count)) _ inv.says _ _ due.1.1.0 due.1.0 due.0
+    answers_due inv.went _ c.extent-extent.ensures _ _ _ c.in_ok-given.ensures _ c.log_block.ensures.lines (omega (arith, below, off, count)) c.if-due.ensures
 
 pub returns-then-due-clause-room : goal.returns-then-due-clause-room
 returns-then-due-clause-room g c =
@@ -73,7 +67,7 @@ returns-clause-works g c =
     let inv = c.loop-done.invariant in
     let most = inv.most in
     let count = inv.count in
-    answers_all inv.went _ _ _ _ _ inv.gate (omega (arith, past, most, count))
+    answers_all inv.went (omega (arith, past, most, count))
 
 pub loop-done-preserved : goal.loop-done-preserved
 loop-done-preserved g c =
@@ -82,14 +76,10 @@ loop-done-preserved g c =
     let off = c.if-done-count.false in
     let inv = c.loop-done.invariant in
     let count = inv.count in
-    let due = c.if-due.ensures in
     let r = c.in_ok-given.ensures in
     let logged = c.log_block.ensures in
-    let on = answers_more inv.went _ _ _ _ _ inv.gate _ c.extent-extent.ensures _ _ _ r _ logged.lines (omega (arith, below, off, count)) _ inv.says _ _ due.1.1.0 due.1.0 due.0 in
     record {
-      answers = _;
-      went = on.0;
-      gate = on.1;
+      went = answers_more inv.went _ c.extent-extent.ensures _ _ _ r _ logged.lines (omega (arith, below, off, count)) c.if-due.ensures;
       count = count;
       most = omega (arith, below);
       capacity = logged.capacity ∙ inv.capacity;
@@ -97,7 +87,4 @@ loop-done-preserved g c =
       post = ap (λ (v : PortValue). v.post) r.hand ∙ inv.post;
       rests = r.rests;
       warm = reserved_warm r inv.warm;
-      says = λ n. due.1.1.1.0 n ∙ inv.says n;
-      paces = due.1.1.1.1.0 ∙ inv.paces;
-      calm = λ calm. (due.1.1.1.1.1 (inv.calm calm)).1;
     }

@@ -1,6 +1,6 @@
-use Rattle.std.proofs.Common.{◌≡◌, ◌≤◌, ◌+◌, ◌-◌, ℕ, Bool, List, true, vec_len, vec_capacity}
+use Rattle.std.proofs.Common.{◌≡◌, ◌≤◌, ◌+◌, ◌-◌, false, vec_len, vec_capacity}
 use Rattle.step_maker.specs.Holds.{Rests}
-use Rattle.xp_preempt.specs.Gates.{Consulted}
+use Rattle.xp_preempt.specs.Gates.{GatedPast}
 use Rattle.vcpu_turn.specs.Extents.{extents_in, lines_by}
 use Rattle.vcpu_turn.specs.Settling.{IsWarm}
 use Rattle.vcpu_turn.proofs.GoingExtents.{Went}
@@ -8,9 +8,8 @@ use Rattle.vcpu_turn.proofs.extents.go_on.Given as goal
 
 abbrev pub invariant-loop-done : goal.invariant-loop-done
 invariant-loop-done g l = record {
-  answers : List Bool;
-  went : Went l.list.domain l.list.command l.list.order l.list.items.now l.list.number l.fn.done l.fn.within (g.P.Port.value l.fn.port) l.fn.log.items l.done (g.P.Port.value l.port) l.within l.log.items answers;
-  gate : Consulted ((goal.Preempt-dyn g l.fn.gate.now).says l.fn.gate.now.1) ((goal.Preempt-dyn g l.fn.gate.now).count_asks l.fn.gate.now.1) ((goal.Preempt-dyn g l.gate.now).count_asks l.gate.now.1) ((goal.Preempt-dyn g l.fn.gate.now).count_yes l.fn.gate.now.1) ((goal.Preempt-dyn g l.gate.now).count_yes l.gate.now.1) answers;
+  went : GatedPast ((goal.Preempt-dyn g l.fn.gate.now).policy l.fn.gate.now.1) ((goal.Preempt-dyn g l.gate.now).policy l.gate.now.1) false
+      (λ answers. Went l.list.domain l.list.command l.list.order l.list.items.now l.list.number l.fn.done l.fn.within (g.P.Port.value l.fn.port) l.fn.log.items l.done (g.P.Port.value l.port) l.within l.log.items answers);
   count : l.count ≡ extents_in l.list.command l.list.items.now;
   most : l.done ≤ l.count;
   capacity : vec_capacity l.log ≡ vec_capacity l.fn.log;
@@ -18,9 +17,6 @@ invariant-loop-done g l = record {
   post : (g.P.Port.value l.port).post ≡ (g.P.Port.value l.fn.port).post;
   rests : Rests (g.P.Port.value l.port);
   warm : IsWarm (g.P.Port.value l.port);
-  says : (n : ℕ) → (goal.Preempt-dyn g l.gate.now).says l.gate.now.1 n ≡ (goal.Preempt-dyn g l.fn.gate.now).says l.fn.gate.now.1 n;
-  paces : (goal.Preempt-dyn g l.gate.now).paces l.gate.now.1 ≡ (goal.Preempt-dyn g l.fn.gate.now).paces l.fn.gate.now.1;
-  calm : (goal.Preempt-dyn g l.fn.gate.now).calm l.fn.gate.now.1 ≡ true → (goal.Preempt-dyn g l.gate.now).calm l.gate.now.1 ≡ true;
 }
 
 abbrev pub decreases-loop-done : goal.decreases-loop-done

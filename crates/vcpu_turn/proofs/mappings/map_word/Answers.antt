@@ -5,12 +5,12 @@ use Rattle.vcpu_turn.proofs.ByAddress.{element_warm, maps_set, maps_unset, maps_
 use Rattle.vcpu_turn.proofs.mappings.map_word.Goals as goal
 
 pub returns-in_err-update_entry-clause-works : goal.returns-in_err-update_entry-clause-works
-returns-in_err-update_entry-clause-works g c = maps_unset c.args.awaited c.args.done.now c.if-done-eq0.true _ c.from_residual.result c.from_residual.ensures.1 c.in_err-update_entry.ensures.updates
+returns-in_err-update_entry-clause-works g c = maps_unset c.args.done.now c.if-done-eq0.true _ c.from_residual.result c.from_residual.ensures.1 c.in_err-update_entry.ensures.updates
 
 pub returns-then-done-eq0-clause-works : goal.returns-then-done-eq0-clause-works
 returns-then-done-eq0-clause-works g c =
     let d = c.drop_behind-answer in
-    maps_set c.args.awaited c.args.done.now c.done_behind.result c.if-done-eq0.true d.result c.done_behind.ensures d.ensures.undue c.in_ok-update_entry.ensures.updates d.ensures.drops
+    maps_set c.args.done.now c.done_behind.result c.if-done-eq0.true d.result c.done_behind.ensures d.ensures.undue c.in_ok-update_entry.ensures.updates d.ensures.drops
 
 pub returns-clause-works : goal.returns-clause-works
 returns-clause-works g c =
@@ -18,7 +18,7 @@ returns-clause-works g c =
     let answer = c.flush_vcpus-answer.result in
     let within = c.requires.within in
     let off = c.if-done-eq0.false in
-    maps_waited c.args.awaited _ _ _ c.args.done.now c.done_behind-2.result (omega (arith, within, off)) answer c.done_behind-2.ensures (waits_undue answer e.kinds)
+    maps_waited c.args.done.now c.done_behind-2.result (omega (arith, within, off)) answer c.done_behind-2.ensures (waits_undue answer e.kinds)
     (vcpus_perform c.args.domain c.args.awaited answer e.serves e.stops e.kinds e.hand e.rests e.awaits e.course)
 
 pub returns-clause-warm : goal.returns-clause-warm

@@ -1,43 +1,42 @@
 use Rattle.std.proofs.Common.{ap, refl, sym, ◌∙◌}
 use Rattle.xp_board.specs.Told.{PortValue}
+use Rattle.xp_preempt.proofs.Consulting.{past_as, past_none}
 use Rattle.step_maker.proofs.Warming.{came_warm}
 use Rattle.vcpu_turn.specs.Mappings as mapping
-use Rattle.vcpu_turn.proofs.ByAddress.{far_answers}
-use Rattle.vcpu_turn.proofs.Extending.{behind_performed, behind_unsettled, course_answers, settle_answers}
-use Rattle.vcpu_turn.proofs.Gating.{answers_nothing}
+use Rattle.vcpu_turn.proofs.Extending.{behind_performed, behind_unsettled, settle_answers}
 use Rattle.vcpu_turn.proofs.Staying.{settled_warm}
 use Rattle.vcpu_turn.proofs.mappings.update_entry.Goals as goal
 
 pub returns-in_err-settle-clause-updates : goal.returns-in_err-settle-clause-updates
 returns-in_err-settle-clause-updates g c =
     let s = c.in_err-settle.ensures in
-    behind_unsettled _ _ _ _ _ _ _ _ _ _ _ c.from_residual.ensures.1 (settle_answers _ _ _ _ _ _ _ _ _ _ s.serves s.stops s.kinds s.rests s.course)
+    behind_unsettled _ _ c.from_residual.ensures.1 (settle_answers s.serves s.stops s.kinds s.rests s.course)
 
 pub returns-then-mapping-ge-DOMAINS-clause-updates : goal.returns-then-mapping-ge-DOMAINS-clause-updates
 returns-then-mapping-ge-DOMAINS-clause-updates g c =
     let s = c.in_ok-settle.ensures in
-    behind_performed _ _ _ _ _ _ _ _ _ _ _ _ _ _ s.says (settle_answers _ _ _ _ _ _ _ _ _ _ s.serves s.stops s.kinds s.rests s.course) (far_answers _ _ _ c.if-mapping-ge-DOMAINS.true)
+    behind_performed (settle_answers s.serves s.stops s.kinds s.rests s.course) (past_none refl (mapping.UpdatesWord.far c.if-mapping-ge-DOMAINS.true))
 
 pub returns-in-Err-clause-updates : goal.returns-in-Err-clause-updates
 returns-in-Err-clause-updates g c =
     let s = c.in_ok-settle.ensures in
     let e = c.in-Err.ensures in
-    behind_performed _ _ _ _ _ _ _ _ _ _ _ _ _ _ s.says (settle_answers _ _ _ _ _ _ _ _ _ _ s.serves s.stops s.kinds s.rests s.course)
-    (answers_nothing _ _ _ _ _ refl (mapping.UpdatesWord.unowned _ _ c.if-mapping-ge-DOMAINS.false (record { serves = e.serves; stops = e.stops; found = e.found })))
+    behind_performed (settle_answers s.serves s.stops s.kinds s.rests s.course)
+    (past_none refl (mapping.UpdatesWord.unowned _ _ c.if-mapping-ge-DOMAINS.false (record { serves = e.serves; stops = e.stops; found = e.found })))
 
 pub returns-then-is_bad-clause-updates : goal.returns-then-is_bad-clause-updates
 returns-then-is_bad-clause-updates g c =
     let s = c.in_ok-settle.ensures in
     let o = c.in-Ok.ensures in
-    behind_performed _ _ _ _ _ _ _ _ _ _ _ _ _ _ s.says (settle_answers _ _ _ _ _ _ _ _ _ _ s.serves s.stops s.kinds s.rests s.course)
-    (answers_nothing _ _ _ _ _ refl (mapping.UpdatesWord.flagged _ c.in-Ok.owners c.if-mapping-ge-DOMAINS.false (record { serves = o.serves; stops = o.stops; found = o.found }) (sym c.is_bad.ensures ∙ c.if-is_bad.true)))
+    behind_performed (settle_answers s.serves s.stops s.kinds s.rests s.course)
+    (past_none refl (mapping.UpdatesWord.flagged _ c.in-Ok.owners c.if-mapping-ge-DOMAINS.false (record { serves = o.serves; stops = o.stops; found = o.found }) (sym c.is_bad.ensures ∙ c.if-is_bad.true)))
 
 pub returns-clause-updates : goal.returns-clause-updates
 returns-clause-updates g c =
     let s = c.in_ok-settle.ensures in
     let o = c.in-Ok.ensures in
-    behind_performed _ _ _ _ _ _ _ _ _ _ _ _ _ c.update_at.result s.says (settle_answers _ _ _ _ _ _ _ _ _ _ s.serves s.stops s.kinds s.rests s.course)
-    (course_answers _ _ _ _ _ c.update_at.result _ _
+    behind_performed (settle_answers s.serves s.stops s.kinds s.rests s.course)
+    (past_as (λ due. due)
     (λ answers updates. mapping.UpdatesWord.owned _ _ c.in-Ok.owners answers c.update_at.result c.if-mapping-ge-DOMAINS.false (record { serves = o.serves; stops = o.stops; found = o.found }) (sym c.is_bad.ensures ∙ c.if-is_bad.false) updates)
     c.update_at.ensures.updates)
 

@@ -31,13 +31,13 @@ invariant_of-cpu g c =
       worked.capacity ∙ c.cpu.invariant.1,
       room_kept c.cpu.inside.frames c.cpu.inside.script c.cpu.inside.answered _ _ _ c.cpu.invariant.2 _ next _ _ _ worked.capacity room,
       subst (λ o. IsFew o c.go_on_with.new.at) (sym next) worked.few,
-      made_kept _ _ c.cpu.view_is (g.P.Port.value c.args.port.now) c.in-Some.op.now next c.requires.frames c.requires.place _ _ _ _ _ worked.went.goes,
+      made_kept _ _ c.cpu.view_is (g.P.Port.value c.args.port.now) c.in-Some.op.now next c.requires.frames c.requires.place _ _ _ _ _ worked.went.course,
     )
 
 pub returns-in-None-clause-worked : goal.returns-in-None-clause-worked
 returns-in-None-clause-worked g c =
     let look = c.in-None.ensures.lookup in
-    goes_nowhere _ _ c.cpu.view_is _ _ _ _ (no_op_found _ _ _ _ c.as_slice.ensures refl look.3)
+    goes_nowhere c.cpu.view_is _ (no_op_found _ _ _ _ c.as_slice.ensures refl look.3)
 
 pub returns-in-Some-clause-place : goal.returns-in-Some-clause-place
 returns-in-Some-clause-place g c =
@@ -47,4 +47,4 @@ returns-in-Some-clause-place g c =
 pub returns-in-Some-clause-worked : goal.returns-in-Some-clause-worked
 returns-in-Some-clause-worked g c =
     let look = c.in-Some.ensures.lookup in
-    goes_on _ _ c.cpu.view_is _ _ _ _ c.in-Some.op.now (op_found _ _ _ _ _ c.as_slice.ensures refl look.3.0 look.1) _ _ _ _ _ c.go_on_with.result c.go_on_with.ensures.went
+    goes_on c.cpu.view_is _ c.in-Some.op.now (op_found _ _ _ _ _ c.as_slice.ensures refl look.3.0 look.1) _ _ _ c.go_on_with.result c.go_on_with.ensures.went

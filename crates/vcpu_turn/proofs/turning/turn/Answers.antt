@@ -8,11 +8,11 @@ use Rattle.vcpu_turn.proofs.Dying.{dies_seen, seen_dies}
 use Rattle.vcpu_turn.proofs.Extending.{settle_answers}
 use Rattle.vcpu_turn.proofs.NextOps.{more_seen}
 use Rattle.vcpu_turn.proofs.Staying.{knows_on, own_domain, settled_warm}
-use Rattle.vcpu_turn.proofs.Turns.{begins_came, seen_goes_on, seen_retires, seen_unsettled, settled_behind, settled_post, turn_retired}
+use Rattle.vcpu_turn.proofs.Turns.{begins_came, settled_behind, settled_post, turn_goes_on, turn_retired, turn_retires, turn_unsettled}
 use Rattle.vcpu_turn.proofs.turning.turn.Goals as goal
 
 pub returns-then-cpu-clause-turn : goal.returns-then-cpu-clause-turn
-returns-then-cpu-clause-turn g c = turn_retired c.args.cpu.now _ (sym (ap (λ (x : Processing). x.retired) c.cpu.view_is) ∙ c.if-cpu.true) _ _ _
+returns-then-cpu-clause-turn g c = turn_retired c.args.cpu.now _ (sym (ap (λ (x : Processing). x.retired) c.cpu.view_is) ∙ c.if-cpu.true)
 
 pub returns-in-Err-Paused-clause-post : goal.returns-in-Err-Paused-clause-post
 returns-in-Err-Paused-clause-post g c = settled_post _ _ _ (begins_came _ _ c.begin-life.ensures.begins) c.settle.result c.settle.ensures.serves
@@ -20,8 +20,8 @@ returns-in-Err-Paused-clause-post g c = settled_post _ _ _ (begins_came _ _ c.be
 pub returns-in-Err-Paused-clause-turn : goal.returns-in-Err-Paused-clause-turn
 returns-in-Err-Paused-clause-turn g c =
     let s = c.in-Err-Paused.ensures in
-    seen_unsettled _ _ c.cpu.view_is _ _ _ c.if-cpu.false _ _ c.if-life-ne0.false (c.begin-life.ensures.runs c.if-life-ne0.false) c.begin-life.ensures.begins _ _ _ _ _ _ c.in-Err-Paused.pause _ c.in-Err-Paused.field-0-is
-    (settle_answers _ _ _ _ _ _ _ _ _ _ s.serves s.stops s.kinds s.rests s.course)
+    turn_unsettled c.cpu.view_is c.if-cpu.false c.if-life-ne0.false (c.begin-life.ensures.runs c.if-life-ne0.false) c.begin-life.ensures.begins c.in-Err-Paused.pause _ c.in-Err-Paused.field-0-is
+    (settle_answers s.serves s.stops s.kinds s.rests s.course)
 
 pub returns-in-Err-Paused-clause-of : goal.returns-in-Err-Paused-clause-of
 returns-in-Err-Paused-clause-of g c =
@@ -41,7 +41,7 @@ pub go_on-requires-clause-warm : goal.go_on-requires-clause-warm
 go_on-requires-clause-warm g c = let s = c.settle.ensures in settled_warm _ _ c.settle.result s.serves s.hand c.begin-life.ensures.warm
 
 pub finish-requires-clause-more : goal.finish-requires-clause-more
-finish-requires-clause-more g c = more_seen _ _ c.cpu.view_is c.settle.new.left _ _ c.go_on.new.cpu _ c.in-Some.answer c.in-Some.ensures.worked.goes
+finish-requires-clause-more g c = more_seen _ _ c.cpu.view_is c.settle.new.left _ _ c.go_on.new.cpu _ c.in-Some.answer c.in-Some.ensures.worked.course
 
 pub returns-in-None-clause-post : goal.returns-in-None-clause-post
 returns-in-None-clause-post g c = c.retire.ensures.post ∙ c.in-None.ensures.post ∙ settled_post _ _ _ (begins_came _ _ c.begin-life.ensures.begins) c.settle.result c.settle.ensures.serves
@@ -49,15 +49,15 @@ returns-in-None-clause-post g c = c.retire.ensures.post ∙ c.in-None.ensures.po
 pub returns-in-None-clause-turn : goal.returns-in-None-clause-turn
 returns-in-None-clause-turn g c =
     let s = c.in-Ok.ensures in
-    seen_retires _ _ c.cpu.view_is _ _ _ c.if-cpu.false _ _ c.if-life-ne0.false (c.begin-life.ensures.runs c.if-life-ne0.false) c.begin-life.ensures.begins _ _ _ _ _ _ s.none
-    (settle_answers _ _ _ _ _ _ _ _ _ _ s.serves s.stops s.kinds s.rests s.course)
-    _ s.says _ _ _ _ _ _ c.in-None.ensures.worked c.retire.ensures.stop
+    turn_retires c.cpu.view_is c.if-cpu.false c.if-life-ne0.false (c.begin-life.ensures.runs c.if-life-ne0.false) c.begin-life.ensures.begins
+    (settle_answers s.serves s.stops s.kinds s.rests s.course)
+    s.none _ _ _ _ c.in-None.ensures.worked c.retire.ensures.stop
 
 pub returns-in-None-clause-of : goal.returns-in-None-clause-of
 returns-in-None-clause-of g c =
     let post = c.retire.ensures.post ∙ c.in-None.ensures.post ∙ settled_post _ _ _ (begins_came _ _ c.begin-life.ensures.begins) c.settle.result c.settle.ensures.serves in
     let came = settled_behind _ _ _ (begins_came _ _ c.begin-life.ensures.begins) c.settle.result c.settle.ensures.serves in
-    of_retired _ _ _ _ _ (of_left _ _ c.settle.new.left (of_seen _ _ _ c.cpu.view_is c.requires.of)) post _ _ _ came c.in-None.ensures.worked.goes c.retire.ensures.stop c.retire.ensures.idles
+    of_retired _ _ _ _ _ (of_left _ _ c.settle.new.left (of_seen _ _ _ c.cpu.view_is c.requires.of)) post _ _ _ came c.in-None.ensures.worked.course c.retire.ensures.stop c.retire.ensures.idles
 
 pub returns-in-Some-clause-post : goal.returns-in-Some-clause-post
 returns-in-Some-clause-post g c = c.finish.ensures.post ∙ c.in-Some.ensures.post ∙ settled_post _ _ _ (begins_came _ _ c.begin-life.ensures.begins) c.settle.result c.settle.ensures.serves
@@ -66,15 +66,15 @@ pub returns-in-Some-clause-turn : goal.returns-in-Some-clause-turn
 returns-in-Some-clause-turn g c =
     let s = c.in-Ok.ensures in
     rw c.finish.ensures.end
-    (seen_goes_on _ _ c.cpu.view_is _ _ _ c.if-cpu.false _ _ c.if-life-ne0.false (c.begin-life.ensures.runs c.if-life-ne0.false) c.begin-life.ensures.begins _ _ _ _ _ _ s.none
-    (settle_answers _ _ _ _ _ _ _ _ _ _ s.serves s.stops s.kinds s.rests s.course)
-    _ s.says _ _ _ _ _ _ c.in-Some.answer c.in-Some.ensures.worked c.finish.ensures.cpu c.finish.ensures.ends)
+    (turn_goes_on c.cpu.view_is c.if-cpu.false c.if-life-ne0.false (c.begin-life.ensures.runs c.if-life-ne0.false) c.begin-life.ensures.begins
+    (settle_answers s.serves s.stops s.kinds s.rests s.course)
+    s.none _ _ _ _ c.in-Some.answer c.in-Some.ensures.worked c.finish.ensures.cpu c.finish.ensures.ends)
 
 pub returns-in-Some-clause-of : goal.returns-in-Some-clause-of
 returns-in-Some-clause-of g c =
     let post = c.finish.ensures.post ∙ c.in-Some.ensures.post ∙ settled_post _ _ _ (begins_came _ _ c.begin-life.ensures.begins) c.settle.result c.settle.ensures.serves in
     let came = settled_behind _ _ _ (begins_came _ _ c.begin-life.ensures.begins) c.settle.result c.settle.ensures.serves in
-    of_gone_on _ _ _ _ _ (of_left _ _ c.settle.new.left (of_seen _ _ _ c.cpu.view_is c.requires.of)) post _ _ _ c.in-Some.answer came c.in-Some.ensures.worked.goes c.finish.ensures.cpu c.in-Some.ensures.place c.in-Some.ensures.awaits
+    of_gone_on _ _ _ _ _ (of_left _ _ c.settle.new.left (of_seen _ _ _ c.cpu.view_is c.requires.of)) post _ _ _ c.in-Some.answer came c.in-Some.ensures.worked.course c.finish.ensures.cpu c.in-Some.ensures.place c.in-Some.ensures.awaits
     c.finish.ensures.ends c.in-Some.ensures.rests c.finish.ensures.run c.finish.ensures.idles
 
 -- ---- a domain that is found dying
@@ -82,7 +82,7 @@ pub returns-then-life-ne0-clause-post : goal.returns-then-life-ne0-clause-post
 returns-then-life-ne0-clause-post g c = c.die.ensures.post ∙ came_post _ _ (begins_came _ _ c.begin-life.ensures.begins)
 
 pub returns-then-life-ne0-clause-turn : goal.returns-then-life-ne0-clause-turn
-returns-then-life-ne0-clause-turn g c = seen_dies _ _ c.cpu.view_is _ _ _ c.if-cpu.false _ _ c.begin-life.ensures.begins c.if-life-ne0.true _ _ _ _ _ (dies_seen _ _ _ c.cpu.view_is _ _ _ _ c.die.ensures.dies)
+returns-then-life-ne0-clause-turn g c = seen_dies c.cpu.view_is c.if-cpu.false c.begin-life.ensures.begins c.if-life-ne0.true _ _ _ (dies_seen _ _ _ c.cpu.view_is _ _ _ _ c.die.ensures.dies)
 
 pub returns-then-life-ne0-clause-of : goal.returns-then-life-ne0-clause-of
 returns-then-life-ne0-clause-of g c = of_died _ _ _ _ _ (of_seen _ _ _ c.cpu.view_is c.requires.of) _ _ c.begin-life.ensures.begins c.if-life-ne0.true _ (dies_seen _ _ _ c.cpu.view_is _ _ _ _ c.die.ensures.dies) c.die.ensures.idles

@@ -4,27 +4,26 @@ use Rattle.vcpu_turn.proofs.Operations.{above_none, no_more, owned_long, owned_n
 use Rattle.vcpu_turn.proofs.working.go_through_pairs.Goals as goal
 
 pub returns-then-pairs-gt-LONGEST-clause-works : goal.returns-then-pairs-gt-LONGEST-clause-works
-returns-then-pairs-gt-LONGEST-clause-works g c = owned_long _ _ _ _ _ _ _ _ c.if-pairs-gt-LONGEST.true
+returns-then-pairs-gt-LONGEST-clause-works g c = owned_long c.if-pairs-gt-LONGEST.true
 
 pub returns-then-is_empty-clause-works : goal.returns-then-is_empty-clause-works
-returns-then-is_empty-clause-works g c = owned_none _ _ _ _ _ _ _ _ (equal_by _ 0 (sym c.is_empty.ensures ∙ c.if-is_empty.true))
+returns-then-is_empty-clause-works g c = owned_none (equal_by _ 0 (sym c.is_empty.ensures ∙ c.if-is_empty.true))
 
 pub returns-in-Err-clause-works : goal.returns-in-Err-clause-works
 returns-in-Err-clause-works g c =
     let e = c.in-Err.ensures in
-    owned_refused _ _ _ _ _ _ (above_none _ (sym c.is_empty.ensures ∙ c.if-is_empty.false)) c.if-pairs-gt-LONGEST.false _ _ _ _ (record { serves = e.serves; stops = e.stops; found = e.found })
+    owned_refused (above_none _ (sym c.is_empty.ensures ∙ c.if-is_empty.false)) c.if-pairs-gt-LONGEST.false _ _ (record { serves = e.serves; stops = e.stops; found = e.found })
 
 pub overflow_cast-done : goal.overflow_cast-done
 overflow_cast-done g c =
     let most = c.if-pairs-gt-LONGEST.false in
-    let within = no_more _ _ _ _ _ _ _ _ _ _ _ _ c.go_on-answer.ensures.works c.requires.within in
+    let within = no_more c.go_on-answer.ensures.works c.requires.within in
     omega (arith, most, within)
 
 pub returns-clause-works : goal.returns-clause-works
 returns-clause-works g c =
     let o = c.in-Ok.ensures in
-    owned_on _ _ _ _ _ _ (above_none _ (sym c.is_empty.ensures ∙ c.if-is_empty.false)) c.if-pairs-gt-LONGEST.false _ c.in-Ok.owners (record { serves = o.serves; stops = o.stops; found = o.found }) _ _ _ _ _ _
-    c.go_on-answer.result c.go_on-answer.ensures.works
+    owned_on (above_none _ (sym c.is_empty.ensures ∙ c.if-is_empty.false)) c.if-pairs-gt-LONGEST.false _ c.in-Ok.owners (record { serves = o.serves; stops = o.stops; found = o.found }) c.go_on-answer.result c.go_on-answer.ensures.works
 
 pub returns-clause-within : goal.returns-clause-within
-returns-clause-within g c = no_more _ _ _ _ _ _ _ _ _ _ _ _ c.go_on-answer.ensures.works c.requires.within
+returns-clause-within g c = no_more c.go_on-answer.ensures.works c.requires.within

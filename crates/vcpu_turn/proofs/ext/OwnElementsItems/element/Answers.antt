@@ -1,6 +1,8 @@
+use Rattle.std.proofs.Common.{sym}
+use Rattle.xp_preempt.proofs.Consulting.{past_as}
 use Rattle.vcpu_turn.specs.Ext.{FitsExt, awaited_for}
-use Rattle.vcpu_turn.proofs.Awaiting.{fits_waits, knows_for}
-use Rattle.vcpu_turn.proofs.Extending.{behind_performed, behind_unsettled, course_answers, of_number, settle_answers}
+use Rattle.vcpu_turn.proofs.Awaiting.{knows_for}
+use Rattle.vcpu_turn.proofs.Extending.{behind_performed, behind_unsettled, of_number, settle_answers}
 use Rattle.vcpu_turn.proofs.Staying.{suits_ext_performed, suits_ext_settled}
 use Rattle.vcpu_turn.proofs.ext.OwnElementsItems.element.Goals as goal
 
@@ -13,8 +15,8 @@ pub returns-in_err-settle-clause-fits : goal.returns-in_err-settle-clause-fits
 returns-in_err-settle-clause-fits g c =
     let s = c.in_err-settle.ensures in
     let x = c.args.self.now in
-    of_number (FitsExt x.domain (awaited_for x.from x.awaited c.args.index)) x.elements.now c.args.index (record { command = 0; first = 0; second = 0 }) c.requires.index _ _ _ _ _ _ _ _
-    (behind_unsettled _ _ _ _ _ _ _ _ _ _ _ c.from_residual.ensures.1 (settle_answers _ _ _ _ _ _ _ _ _ _ s.serves s.stops s.kinds s.rests s.course))
+    of_number (FitsExt x.domain (awaited_for x.from x.awaited c.args.index)) x.elements.now c.args.index (record { command = 0; first = 0; second = 0 }) c.requires.index
+    (behind_unsettled _ _ c.from_residual.ensures.1 (settle_answers s.serves s.stops s.kinds s.rests s.course))
 
 pub perform-requires-clause-own : goal.perform-requires-clause-own
 perform-requires-clause-own g c =
@@ -38,8 +40,8 @@ returns-clause-fits g c =
     let s = c.in_ok-settle.ensures in
     let p = c.perform.ensures in
     let x = c.args.self.now in
-    fits_waits x.domain _ _ c.awaited_for-awaited.ensures _ _ _ _ _ _ _ _ c.perform.result
-    (of_number (FitsExt x.domain c.awaited_for-awaited.result) x.elements.now c.args.index (record { command = 0; first = 0; second = 0 }) c.requires.index _ _ _ _ _ _ _ c.perform.result
-    (behind_performed _ _ _ _ _ _ _ _ _ _ _ _ _ c.perform.result s.says (settle_answers _ _ _ _ _ _ _ _ _ _ s.serves s.stops s.kinds s.rests s.course)
-    (course_answers _ _ _ _ _ c.perform.result _ _
+    rw (sym c.awaited_for-awaited.ensures)
+    (of_number (FitsExt x.domain c.awaited_for-awaited.result) x.elements.now c.args.index (record { command = 0; first = 0; second = 0 }) c.requires.index
+    (behind_performed (settle_answers s.serves s.stops s.kinds s.rests s.course)
+    (past_as (λ due. due)
     (λ answers course. record { serves = p.serves; stops = p.stops; kinds = p.kinds; numbers = p.numbers; hand = p.hand; rests = p.rests; awaits = p.awaits; course = course }) p.course)))

@@ -1,5 +1,6 @@
+use Rattle.xp_preempt.proofs.Consulting.{past_as}
 use Rattle.vcpu_turn.specs.Pairs.{FitsPair}
-use Rattle.vcpu_turn.proofs.Extending.{behind_performed, behind_unsettled, course_answers, of_number, settle_answers}
+use Rattle.vcpu_turn.proofs.Extending.{behind_performed, behind_unsettled, of_number, settle_answers}
 use Rattle.vcpu_turn.proofs.Staying.{suits_pairs_settled, suits_pairs_updated}
 use Rattle.vcpu_turn.proofs.pairs.OwnedPairsItems.element.Goals as goal
 
@@ -11,8 +12,8 @@ returns-in_err-settle-clause-suits g c =
 pub returns-in_err-settle-clause-fits : goal.returns-in_err-settle-clause-fits
 returns-in_err-settle-clause-fits g c =
     let s = c.in_err-settle.ensures in
-    of_number (FitsPair c.args.self.now.owners) c.args.self.now.pairs.now c.args.index (record { ptr = 0; val = 0 }) c.requires.index _ _ _ _ _ _ _ _
-    (behind_unsettled _ _ _ _ _ _ _ _ _ _ _ c.from_residual.ensures.1 (settle_answers _ _ _ _ _ _ _ _ _ _ s.serves s.stops s.kinds s.rests s.course))
+    of_number (FitsPair c.args.self.now.owners) c.args.self.now.pairs.now c.args.index (record { ptr = 0; val = 0 }) c.requires.index
+    (behind_unsettled _ _ c.from_residual.ensures.1 (settle_answers s.serves s.stops s.kinds s.rests s.course))
 
 pub update-requires-clause-maps : goal.update-requires-clause-maps
 update-requires-clause-maps g c =
@@ -29,6 +30,6 @@ pub returns-clause-fits : goal.returns-clause-fits
 returns-clause-fits g c =
     let s = c.in_ok-settle.ensures in
     let u = c.update.ensures in
-    of_number (FitsPair c.args.self.now.owners) c.args.self.now.pairs.now c.args.index (record { ptr = 0; val = 0 }) c.requires.index _ _ _ _ _ _ _ c.update.result
-    (behind_performed _ _ _ _ _ _ _ _ _ _ _ _ _ c.update.result s.says (settle_answers _ _ _ _ _ _ _ _ _ _ s.serves s.stops s.kinds s.rests s.course)
-    (course_answers _ _ _ _ _ c.update.result _ _ (λ answers course. record { serves = u.serves; stops = u.stops; kinds = u.kinds; numbers = u.numbers; hand = u.hand; rests = u.rests; course = course }) u.course))
+    of_number (FitsPair c.args.self.now.owners) c.args.self.now.pairs.now c.args.index (record { ptr = 0; val = 0 }) c.requires.index
+    (behind_performed (settle_answers s.serves s.stops s.kinds s.rests s.course)
+    (past_as (λ due. due) (λ answers course. record { serves = u.serves; stops = u.stops; kinds = u.kinds; numbers = u.numbers; hand = u.hand; rests = u.rests; course = course }) u.course))
