@@ -11,7 +11,7 @@ use Rattle.byteorder.specs.Endian.{little_number}
 use Rattle.byteorder.specs.Numbers.{little_from-take, little_number-reads_back, length-bytes_low_first}
 use Rattle.xp_words.specs.Machine.{Machine}
 use Rattle.machine_image.specs.Image.{number_bytes, numbers_bytes, fixed_numbers, image_of}
-use Rattle.machine_image.specs.Reading.{number_at}
+use Rattle.machine_image.specs.Reading.{field_at}
 
 -- the bytes of two lists of numbers
 pub numbers-append : (ms ns : List ℕ) → numbers_bytes (ms ++ ns) ≡ numbers_bytes ms ++ numbers_bytes ns
@@ -60,8 +60,8 @@ unfolding number_bytes
 length-number n = length-bytes_low_first 0 8 n
 
 -- a number of 64 bits is read again from the bytes that it stands in first
-pub number_back : (n : ℕ) (rest : List ℕ) → n < 2 ^ 64 → number_at (number_bytes n ++ rest) 0 ≡ n
-unfolding number_at number_bytes
+pub number_back : (n : ℕ) (rest : List ℕ) → n < 2 ^ 64 → field_at (number_bytes n ++ rest) 0 ≡ n
+unfolding field_at number_bytes
 number_back n rest fits = little_number-reads_back 8 n rest fits
 
 -- ---- many numbers
@@ -72,20 +72,20 @@ length-numbers (n ∷ ns) =
     let head = length-number n in
     ap length (numbers-cons n ns) ∙ length-append (number_bytes n) (numbers_bytes ns) ∙ omega arith
 
-number_at-next : (n k : ℕ) (rest : List ℕ) → number_at (number_bytes n ++ rest) (suc k) ≡ number_at rest k
-unfolding number_at
-number_at-next n k rest =
+field_at-next : (n k : ℕ) (rest : List ℕ) → field_at (number_bytes n ++ rest) (suc k) ≡ field_at rest k
+unfolding field_at
+field_at-next n k rest =
     let far : 8 * suc k ≡ 8 + 8 * k = omega arith in
     let gone : drop (8 * suc k) (number_bytes n ++ rest) ≡ drop (8 * k) rest = rw far (sym (drop-drop (8 * k) 8 (number_bytes n ++ rest)) ∙ ap (drop (8 * k)) (drop_at (number_bytes n) rest 8 (length-number n))) in
     ap (little_number 8) gone
 
 -- each number of 64 bits is read again
-pub numbers_back : (ns : List ℕ) (k : ℕ) → AllByRecursion (λ n. n < 2 ^ 64) ns → k < length ns → number_at (numbers_bytes ns) k ≡ get_or ns k 0
+pub numbers_back : (ns : List ℕ) (k : ℕ) → AllByRecursion (λ n. n < 2 ^ 64) ns → k < length ns → field_at (numbers_bytes ns) k ≡ get_or ns k 0
 numbers_back [] k fits inside = absurd (omega arith)
 numbers_back (n ∷ ns) zero fits inside =
-    ap (λ (xs : List ℕ). number_at xs 0) (numbers-cons n ns) ∙ number_back n (numbers_bytes ns) fits.0
+    ap (λ (xs : List ℕ). field_at xs 0) (numbers-cons n ns) ∙ number_back n (numbers_bytes ns) fits.0
 numbers_back (n ∷ ns) (suc k) fits inside =
-    ap (λ (xs : List ℕ). number_at xs (suc k)) (numbers-cons n ns) ∙ number_at-next n k (numbers_bytes ns) ∙ numbers_back ns k fits.1 (omega arith)
+    ap (λ (xs : List ℕ). field_at xs (suc k)) (numbers-cons n ns) ∙ field_at-next n k (numbers_bytes ns) ∙ numbers_back ns k fits.1 (omega arith)
 
 -- ---- bytes that begin with the bytes of numbers
 pub record Front (bytes : List ℕ) (k : ℕ) (ns : List ℕ) : Type 0 where
@@ -93,8 +93,8 @@ pub record Front (bytes : List ℕ) (k : ℕ) (ns : List ℕ) : Type 0 where
   pub long : 8 * k ≤ length bytes
   pub same : take (8 * k) bytes ≡ numbers_bytes ns
 
-eight_bytes : (bytes : List ℕ) (k : ℕ) → AreBytes bytes → 8 * k + 8 ≤ length bytes → take 8 (drop (8 * k) bytes) ≡ number_bytes (number_at bytes k)
-unfolding number_at
+eight_bytes : (bytes : List ℕ) (k : ℕ) → AreBytes bytes → 8 * k + 8 ≤ length bytes → take 8 (drop (8 * k) bytes) ≡ number_bytes (field_at bytes k)
+unfolding field_at
 eight_bytes bytes k are whole =
     let rest = drop (8 * k) bytes in
     let len : length (take 8 rest) ≡ 8 = omega (arith, length-take 8 rest, length-drop (8 * k) bytes) in
@@ -102,7 +102,7 @@ eight_bytes bytes k are whole =
     ∙ ap number_bytes (little_from-take 0 8 8 rest (omega arith))
 
 -- one number more
-pub front_more : (bytes : List ℕ) (k : ℕ) (ns : List ℕ) (x : ℕ) → AreBytes bytes → Front bytes k ns → 8 * k + 8 ≤ length bytes → number_at bytes k ≡ x → Front bytes (k + 1) (ns ++ x ∷ [])
+pub front_more : (bytes : List ℕ) (k : ℕ) (ns : List ℕ) (x : ℕ) → AreBytes bytes → Front bytes k ns → 8 * k + 8 ≤ length bytes → field_at bytes k ≡ x → Front bytes (k + 1) (ns ++ x ∷ [])
 front_more bytes k ns x are front whole is =
     let far : 8 * (k + 1) ≡ 8 * k + 8 = omega arith in
     let one : numbers_bytes (x ∷ []) ≡ number_bytes x = numbers-cons x [] ∙ append-nil (number_bytes x) in

@@ -2,7 +2,7 @@
 use Rattle.std.proofs.Common.{◌≡◌, ℕ, zero, suc, ◌+◌, ◌*◌, ◌≤◌, ◌<◌, Bool, true, false, cond, ltb, List, [], ◌∷◌, ◌++◌, length, get_or, Result, Ok, Err, refl, sym, ap, subst, ◌∙◌, append_assoc, arith}
 use Rattle.std.proofs.lemmas.Bool.{ltb-false, le-ltb}
 use Rattle.std.proofs.lemmas.List.{append-nil}
-use Rattle.machine_image.specs.Reading.{◌>>=◌, number_at, tested_at, each_at}
+use Rattle.machine_image.specs.Reading.{◌>>=◌, field_at, tested_at, each_at}
 use Rattle.machine_image.proofs.Bytes.{AreBytes, Front, front_more}
 
 -- the value of a step that did not fail
@@ -26,21 +26,21 @@ done_ok false d x y e = (refl, cc)
 -- ---- one number
 pub record Holds (test : ℕ → Bool) (bytes : List ℕ) (k x : ℕ) : Type 0 where
   pub whole : 8 * k + 8 ≤ length bytes
-  pub is : number_at bytes k ≡ x
+  pub is : field_at bytes k ≡ x
   pub right : test x ≡ true
 
 pub tested_holds : (test : ℕ → Bool) (bytes : List ℕ) (k x : ℕ) → tested_at test bytes k ≡ Ok x → Holds test bytes k x
 unfolding tested_at
 tested_holds test bytes k x e =
-    let g = guard_ok (ltb (length bytes) (8 * k + 8)) (length bytes) (cond (test (number_at bytes k)) (Ok (number_at bytes k)) (Err (8 * k))) x e in
-    let h = held_ok (test (number_at bytes k)) (8 * k) (number_at bytes k) x g.1 in
+    let g = guard_ok (ltb (length bytes) (8 * k + 8)) (length bytes) (cond (test (field_at bytes k)) (Ok (field_at bytes k)) (Err (8 * k))) x e in
+    let h = held_ok (test (field_at bytes k)) (8 * k) (field_at bytes k) x g.1 in
     record { whole = ltb-false _ _ g.0; is = h.1; right = sym (ap test h.1) ∙ h.0 }
 
 pub holds_tested : (test : ℕ → Bool) (bytes : List ℕ) (k x : ℕ) → Holds test bytes k x → tested_at test bytes k ≡ Ok x
 unfolding tested_at
 holds_tested test bytes k x h =
     let long = le-ltb (length bytes) (8 * k + 8) h.whole in
-    let right : test (number_at bytes k) ≡ true = ap test h.is ∙ h.right in
+    let right : test (field_at bytes k) ≡ true = ap test h.is ∙ h.right in
     rw (long, right) (ap (λ (n : ℕ). Ok n) h.is)
 
 -- ---- a row of numbers

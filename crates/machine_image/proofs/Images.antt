@@ -8,7 +8,7 @@ use Rattle.byteorder.specs.Numbers.{little_from-lt}
 use Rattle.xp_words.specs.Machine.{Machine}
 use Rattle.xp_words.specs.Places.{size, sizes_of}
 use Rattle.machine_image.specs.Image.{number_bytes, numbers_bytes, fixed_numbers, image_of, IsImaged}
-use Rattle.machine_image.specs.Reading.{letters, number_at, ranged_at, words_at, ended_at, machine_at, count_place, image_at}
+use Rattle.machine_image.specs.Reading.{letters, field_at, ranged_at, words_at, ended_at, machine_at, count_place, image_at}
 use Rattle.machine_image.proofs.Bytes.{AreBytes, AreBytes-drop, front_more, front_all, numbers-cons}
 use Rattle.machine_image.proofs.Fields.{bind_ok, done_ok, Holds, tested_holds, holds_tested, HoldsEach, front_each}
 use Rattle.machine_image.proofs.Machines.{in_range, only_one, MachineHolds, machine_holds, machine_read, machine_front, is_machine}
@@ -23,7 +23,7 @@ words_is x y e = cc
 words_hold : (bytes : List ℕ) (k n : ℕ) (xs : List ℕ) → words_at bytes k n ≡ Ok xs → (length xs ≡ n) × (8 * (k + n) ≤ length bytes) × HoldsEach any_word bytes 0 k xs
 unfolding words_at
 words_hold bytes k n xs e =
-    let f : ℕ → ℕ = λ j. number_at bytes j in
+    let f : ℕ → ℕ = λ j. field_at bytes j in
     let g = done_ok (ltb (length bytes) (8 * (k + n))) (length bytes) (map f (range_with_len k n)) xs e in
     let long : 8 * (k + n) ≤ length bytes = ltb-false _ _ g.0 in
     let count = length-map-range_with_len f k n in
@@ -42,7 +42,7 @@ words_hold bytes k n xs e =
 words_read : (bytes : List ℕ) (k : ℕ) (xs : List ℕ) → 8 * (k + length xs) ≤ length bytes → HoldsEach any_word bytes 0 k xs → words_at bytes k (length xs) ≡ Ok xs
 unfolding words_at
 words_read bytes k xs long h =
-    let f : ℕ → ℕ = λ j. number_at bytes j in
+    let f : ℕ → ℕ = λ j. field_at bytes j in
     let n = length xs in
     let test = le-ltb (length bytes) (8 * (k + n)) long in
     let count = length-map-range_with_len f k n in
@@ -100,8 +100,8 @@ pub letters_bytes : number_bytes letters ≡ codes "XPVIMG01"
 unfolding number_bytes
 letters_bytes = refl
 
-word_narrow : (bytes : List ℕ) (k : ℕ) → AreBytes bytes → number_at bytes k < 2 ^ 64
-unfolding number_at
+word_narrow : (bytes : List ℕ) (k : ℕ) → AreBytes bytes → field_at bytes k < 2 ^ 64
+unfolding field_at
 word_narrow bytes k are = little_from-lt 0 8 (drop (8 * k) bytes) (AreBytes-drop (8 * k) bytes are).small
 
 words_narrow : (bytes : List ℕ) (k : ℕ) (ws : List ℕ) → AreBytes bytes → HoldsEach any_word bytes 0 k ws → All (λ w. w < 2 ^ 64) ws

@@ -3,7 +3,7 @@ use Rattle.std.proofs.Common.{◌≡◌, ℕ, suc, ◌-◌, ◌+◌, ◌≤◌, 
 use Rattle.std.proofs.lemmas.List.{append-nil}
 use Rattle.machine_image.specs.declared.fault.ImageFault.{ImageFault}
 use Rattle.machine_image.specs.declared.fault.ImageFault.TheVariants.{Bad, Memory}
-use Rattle.machine_image.specs.Reading.{◌>>=◌, Fails, each_at}
+use Rattle.machine_image.specs.Reading.{◌>>=◌, FailsThere, each_at}
 
 -- what was read before, and what is still read
 abbrev pub with_front : List ℕ → Result (List ℕ) ℕ → Result (List ℕ) ℕ
@@ -24,7 +24,7 @@ module _ (read : ℕ → ℕ → Result ℕ ℕ) (front : List ℕ) (n i k : ℕ
       let two : with_front (front ++ x ∷ []) (each_at read (suc i) (suc (k + i)) (n - (i + 1))) ≡ with_front (front ++ x ∷ []) (each_at read (i + 1) (k + (i + 1)) (n - (i + 1))) = rw (j, p) refl in
       sym two ∙ sym one ∙ so_far
 
-  pub ends : (e : ImageFault) → i < n → Fails e (read i (k + i)) → with_front front (each_at read i (k + i) (n - i)) ≡ total → Fails e total
+  pub ends : (e : ImageFault) → i < n → FailsThere e (read i (k + i)) → with_front front (each_at read i (k + i) (n - i)) ≡ total → FailsThere e total
   unfolding each_at
   ends Memory lt h so_far = tt
   ends (Bad at) lt h so_far =

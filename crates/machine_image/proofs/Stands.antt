@@ -9,7 +9,7 @@ use Rattle.xp_words.specs.Entries.{is_bit}
 use Rattle.xp_words.specs.Machine.{Machine, IsMachine, IsMask}
 use Rattle.xp_words.specs.Places.{size, sizes_of}
 use Rattle.machine_image.specs.Image.{numbers_bytes, sizes_numbers, fixed_numbers, image_of, IsImaged}
-use Rattle.machine_image.specs.Reading.{letters, number_at, count_place}
+use Rattle.machine_image.specs.Reading.{letters, field_at, count_place}
 use Rattle.machine_image.proofs.Bytes.{numbers_back, length-numbers, numbers-cons}
 use Rattle.machine_image.proofs.Fields.{Holds, HoldsEach}
 use Rattle.machine_image.proofs.Machines.{in_range, in_range_from, is_mask, MachineHolds}
@@ -32,7 +32,7 @@ one_stands test bytes all k x are inside is right =
     let long : length bytes ≡ 8 * length all = ap length are.text ∙ length-numbers all in
     record {
       whole = omega arith;
-      is = ap (λ (b : List ℕ). number_at b k) are.text ∙ numbers_back all k are.narrow inside ∙ is;
+      is = ap (λ (b : List ℕ). field_at b k) are.text ∙ numbers_back all k are.narrow inside ∙ is;
       right = right;
     }
 

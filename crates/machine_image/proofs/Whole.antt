@@ -5,7 +5,7 @@ use Rattle.xp_words.specs.Machine.{Machine}
 use Rattle.machine_image.specs.declared.fault.ImageFault.{ImageFault}
 use Rattle.machine_image.specs.declared.fault.ImageFault.TheVariants.{Bad, Memory}
 use Rattle.machine_image.specs.Image.{image_of, IsImaged}
-use Rattle.machine_image.specs.Reading.{Fails, Gives, Tells, fault_of, image_at, image_fault}
+use Rattle.machine_image.specs.Reading.{FailsThere, ReadsAs, Tells, fault_there, image_at, image_fault}
 use Rattle.machine_image.proofs.Bytes.{AreBytes}
 use Rattle.machine_image.proofs.Images.{image_holds, image_read, image_is}
 use Rattle.machine_image.proofs.Stands.{image_stands}
@@ -30,7 +30,7 @@ pub one_spelling : (m n : Machine) (ws vs : List ℕ) → IsImaged m ws → IsIm
 one_spelling m n ws vs first second same =
     same_pair m n ws vs (sym (reads_back (image_of m ws) m ws first refl) ∙ reads_back (image_of m ws) n vs second same)
 
-without_fault : (bytes : List ℕ) (r : Result (Machine × List ℕ) ℕ) → AreBytes bytes → image_at bytes ≡ r → fault_of r ≡ None → (m : Machine) × (ws : List ℕ) × IsImaged m ws × (bytes ≡ image_of m ws)
+without_fault : (bytes : List ℕ) (r : Result (Machine × List ℕ) ℕ) → AreBytes bytes → image_at bytes ≡ r → fault_there r ≡ None → (m : Machine) × (ws : List ℕ) × IsImaged m ws × (bytes ≡ image_of m ws)
 without_fault bytes (Ok x) are e none =
     let f = found_is bytes x.0 x.1 are e in
     (x.0, x.1, f.0, f.1)
@@ -41,17 +41,17 @@ unfolding image_fault
 no_fault bytes are none = without_fault bytes (image_at bytes) are refl none
 
 -- what an error tells
-tells : (e : ImageFault) (bytes : List ℕ) → Fails e (image_at bytes) → Tells e (image_fault bytes)
+tells : (e : ImageFault) (bytes : List ℕ) → FailsThere e (image_at bytes) → Tells e (image_fault bytes)
 unfolding image_fault
 tells Memory bytes gives = tt
-tells (Bad at) bytes gives = ap fault_of gives
+tells (Bad at) bytes gives = ap fault_there gives
 
 -- what a function that reads returned, seen as a machine and its words
 module _ {X : Type 0} (bytes : List ℕ) (machine : X → Machine) (words : X → List ℕ) where
-  pub found_by : (r : Result X ImageFault) → AreBytes bytes → Gives {Y = Machine × List ℕ} (λ x. (machine x, words x)) r (image_at bytes) → IfOk r (λ x. IsImaged (machine x) (words x) × (bytes ≡ image_of (machine x) (words x)))
+  pub found_by : (r : Result X ImageFault) → AreBytes bytes → ReadsAs {Y = Machine × List ℕ} (λ x. (machine x, words x)) r (image_at bytes) → IfOk r (λ x. IsImaged (machine x) (words x) × (bytes ≡ image_of (machine x) (words x)))
   found_by (Ok x) are gives = found_is bytes (machine x) (words x) are gives
   found_by (Err e) are gives = tt
 
-  pub fault_by : (r : Result X ImageFault) → Gives {Y = Machine × List ℕ} (λ x. (machine x, words x)) r (image_at bytes) → IfErr r (λ e. Tells e (image_fault bytes))
+  pub fault_by : (r : Result X ImageFault) → ReadsAs {Y = Machine × List ℕ} (λ x. (machine x, words x)) r (image_at bytes) → IfErr r (λ e. Tells e (image_fault bytes))
   fault_by (Ok x) gives = tt
   fault_by (Err e) gives = tells e bytes gives

@@ -15,14 +15,14 @@ abbrev pub ◌>>=◌ : {A B : Type 0} → Result A ℕ → (A → Result B ℕ) 
 (Err at) >>= f = Err at
 
 -- number k of the bytes
-unfoldable pub number_at : List ℕ → ℕ → ℕ
-number_at bytes k = little_number 8 (drop (8 * k) bytes)
+unfoldable pub field_at : List ℕ → ℕ → ℕ
+field_at bytes k = little_number 8 (drop (8 * k) bytes)
 
 -- the same, where it is whole and the test holds
 unfoldable pub tested_at : (ℕ → Bool) → List ℕ → ℕ → Result ℕ ℕ
 tested_at test bytes k =
     if nat_lt (length bytes) (8 * k + 8) then Err (length bytes)
-    else if test (number_at bytes k) then Ok (number_at bytes k)
+    else if test (field_at bytes k) then Ok (field_at bytes k)
     else Err (8 * k)
 
 -- any number, where it is whole
@@ -49,7 +49,7 @@ each_at read i k (suc n) = do
 unfoldable pub words_at : List ℕ → ℕ → ℕ → Result (List ℕ) ℕ
 words_at bytes k n =
     if nat_lt (length bytes) (8 * (k + n)) then Err (length bytes)
-    else Ok (map (λ j. number_at bytes j) (range_with_len k n))
+    else Ok (map (λ j. field_at bytes j) (range_with_len k n))
 
 -- the eight letters, as one number
 abbrev pub letters : ℕ
@@ -85,12 +85,12 @@ image_at bytes = do
   ended_at (m, words) bytes (count_place m + 1 + count)
 
 -- the first fault of bytes, where they have one
-abbrev pub fault_of : {A : Type 0} → Result A ℕ → Option ℕ
-fault_of (Ok x) = None
-fault_of (Err at) = Some at
+abbrev pub fault_there : {A : Type 0} → Result A ℕ → Option ℕ
+fault_there (Ok x) = None
+fault_there (Err at) = Some at
 
 unfoldable pub image_fault : List ℕ → Option ℕ
-image_fault bytes = fault_of (image_at bytes)
+image_fault bytes = fault_there (image_at bytes)
 
 -- an error says where that fault is, unless memory ran out
 abbrev pub Tells : ImageFault → Option ℕ → Type 0
@@ -98,10 +98,10 @@ Tells Memory fault = Unit {0}
 Tells (Bad at) fault = fault ≡ Some at
 
 -- what a function returned, seen by view, is what reading gives, unless memory ran out
-abbrev pub Fails : {Y : Type 0} → ImageFault → Result Y ℕ → Type 0
-Fails Memory read = Unit {0}
-Fails (Bad at) read = read ≡ Err at
+abbrev pub FailsThere : {Y : Type 0} → ImageFault → Result Y ℕ → Type 0
+FailsThere Memory read = Unit {0}
+FailsThere (Bad at) read = read ≡ Err at
 
-abbrev pub Gives : {X Y : Type 0} → (X → Y) → Result X ImageFault → Result Y ℕ → Type 0
-Gives view (Ok x) read = read ≡ Ok (view x)
-Gives view (Err e) read = Fails e read
+abbrev pub ReadsAs : {X Y : Type 0} → (X → Y) → Result X ImageFault → Result Y ℕ → Type 0
+ReadsAs view (Ok x) read = read ≡ Ok (view x)
+ReadsAs view (Err e) read = FailsThere e read

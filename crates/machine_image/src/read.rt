@@ -2,7 +2,7 @@ ghost use Rattle.std.specs.Prelude.{◌≡◌, ◌<◌, ◌≤◌, ◌+◌, ◌*
 ghost use Rattle.xp_words.specs.Machine.{Machine, IsMachine};
 ghost use Rattle.machine_image.specs.declared.fault.ImageFault.TheVariants.{Bad};
 ghost use Rattle.machine_image.specs.Image.{image_of, IsImaged};
-ghost use Rattle.machine_image.specs.Reading.{Gives, Tells, number_at, whole_at, letters as letters_number, ranged_at, mask_at, each_at, words_at, machine_at, ended_at, image_at, image_fault};
+ghost use Rattle.machine_image.specs.Reading.{ReadsAs, Tells, field_at, whole_at, letters as letters_number, ranged_at, mask_at, each_at, words_at, machine_at, ended_at, image_at, image_fault};
 
 use crate::fault::ImageFault;
 use arrayvec::ArrayVec;
@@ -29,10 +29,10 @@ fn cut_off(bytes: &[u8]) -> ImageFault
 
 // Number `index` of the bytes.
 #[inline(always)]
-#[tactic(auto, unfolding(crate::specs::Reading::number_at))]
+#[tactic(auto, unfolding(crate::specs::Reading::field_at))]
 fn number(bytes: &[u8], index: usize) -> u64
     requires { 8 * index + 8 ≤ length bytes.now }
-    ensures { result ≡ number_at bytes.now index }
+    ensures { result ≡ field_at bytes.now index }
 {
     LittleEndian::read_u64(&bytes[8 * index..])
 }
@@ -41,7 +41,7 @@ fn number(bytes: &[u8], index: usize) -> u64
 #[tactic(auto, unfolding(crate::specs::Reading::tested_at))]
 fn whole(bytes: &[u8], index: usize) -> Result<u64, ImageFault>
     requires { index < 2 ^ 32 }
-    ensures { Gives (λ n. n) result (whole_at bytes.now index) }
+    ensures { ReadsAs (λ n. n) result (whole_at bytes.now index) }
 {
     if bytes.len() < 8 * index + 8 {
         return Err(cut_off(bytes));
@@ -52,7 +52,7 @@ fn whole(bytes: &[u8], index: usize) -> Result<u64, ImageFault>
 #[tactic(auto, unfolding(crate::specs::Reading::tested_at))]
 fn ranged(bytes: &[u8], index: usize, least: u64, most: u64) -> Result<u64, ImageFault>
     requires { index < 2 ^ 32 }
-    ensures gives { Gives (λ n. n) result (ranged_at least most bytes.now index) }
+    ensures gives { ReadsAs (λ n. n) result (ranged_at least most bytes.now index) }
     ensures range { IfOk result (λ n. (least ≤ n) × (n ≤ most)) }
 {
     let number = whole(bytes, index)?;
@@ -64,7 +64,7 @@ fn ranged(bytes: &[u8], index: usize, least: u64, most: u64) -> Result<u64, Imag
 
 // The letters before all numbers, as one number.
 fn letters(bytes: &[u8]) -> Result<u64, ImageFault>
-    ensures { Gives (λ n. n) result (ranged_at letters_number letters_number bytes.now 0) }
+    ensures { ReadsAs (λ n. n) result (ranged_at letters_number letters_number bytes.now 0) }
 {
     let letters = LittleEndian::read_u64(b"XPVIMG01");
     ranged(bytes, 0, letters, letters)
@@ -76,7 +76,7 @@ fn mask(bytes: &[u8], index: usize, domains: u32, domain: u32) -> Result<u16, Im
     requires index { index < 2 ^ 32 }
     requires few { domains ≤ 16 }
     requires domain { domain < domains }
-    ensures { Gives (λ n. n) result (mask_at domains domain bytes.now index) }
+    ensures { ReadsAs (λ n. n) result (mask_at domains domain bytes.now index) }
 {
     let mask = whole(bytes, index)?;
     if mask >= 1 << domains || (mask >> domain) % 2 == 1 {
@@ -87,7 +87,7 @@ fn mask(bytes: &[u8], index: usize, domains: u32, domain: u32) -> Result<u16, Im
 
 fn page_limits(bytes: &[u8], domains: u32) -> Result<ArrayVec<u32, 16>, ImageFault>
     requires { domains ≤ 16 }
-    ensures { Gives (λ v. v.items) result (each_at (λ _. ranged_at 0 65536 bytes.now) 0 5 domains) }
+    ensures { ReadsAs (λ v. v.items) result (each_at (λ _. ranged_at 0 65536 bytes.now) 0 5 domains) }
 {
     let mut limits = ArrayVec::new();
     for domain in 0..domains {
@@ -99,7 +99,7 @@ fn page_limits(bytes: &[u8], domains: u32) -> Result<ArrayVec<u32, 16>, ImageFau
 
 fn masks(bytes: &[u8], domains: u32) -> Result<ArrayVec<u16, 16>, ImageFault>
     requires { domains ≤ 16 }
-    ensures { Gives (λ v. v.items) result (each_at (λ d. mask_at domains d bytes.now) 0 (5 + domains) domains) }
+    ensures { ReadsAs (λ v. v.items) result (each_at (λ d. mask_at domains d bytes.now) 0 (5 + domains) domains) }
 {
     let mut masks = ArrayVec::new();
     let first = 5 + domains as usize;
@@ -113,7 +113,7 @@ fn vcpu_domains(bytes: &[u8], domains: u32, vcpus: u32) -> Result<ArrayVec<u16, 
     requires some { 1 ≤ domains }
     requires domains { domains ≤ 16 }
     requires vcpus { vcpus ≤ 16 }
-    ensures { Gives (λ v. v.items) result (each_at (λ _. ranged_at 0 (domains - 1) bytes.now) 0 (5 + 2 * domains) vcpus) }
+    ensures { ReadsAs (λ v. v.items) result (each_at (λ _. ranged_at 0 (domains - 1) bytes.now) 0 (5 + 2 * domains) vcpus) }
 {
     let mut found = ArrayVec::new();
     let first = 5 + 2 * domains as usize;
@@ -127,7 +127,7 @@ fn vcpu_domains(bytes: &[u8], domains: u32, vcpus: u32) -> Result<ArrayVec<u16, 
 
 #[tactic(auto, unfolding(crate::specs::Reading::machine_at))]
 fn layout(bytes: &[u8]) -> Result<Layout, ImageFault>
-    ensures { Gives (λ l. l) result (machine_at bytes.now) }
+    ensures { ReadsAs (λ l. l) result (machine_at bytes.now) }
 {
     let _letters = letters(bytes)?;
     let frames = ranged(bytes, 1, 1, 65536)?;
@@ -151,7 +151,7 @@ fn layout(bytes: &[u8]) -> Result<Layout, ImageFault>
 fn words(alloc: Global, bytes: &[u8], first: usize, count: usize) -> Result<Vec<u64>, ImageFault>
     requires first { first < 2 ^ 32 }
     requires count { count < 2 ^ 32 }
-    ensures { Gives (λ v. v.items) result (words_at bytes.now first count) }
+    ensures { ReadsAs (λ v. v.items) result (words_at bytes.now first count) }
 {
     if bytes.len() < 8 * (first + count) {
         return Err(cut_off(bytes));
@@ -165,7 +165,7 @@ fn words(alloc: Global, bytes: &[u8], first: usize, count: usize) -> Result<Vec<
 
 #[tactic(auto, unfolding(crate::specs::Reading::image_at, crate::specs::Reading::ended_at))]
 fn image(alloc: Global, bytes: &[u8]) -> Result<(Layout, Vec<u64>), ImageFault>
-    ensures { Gives (λ x. (x.0, x.1.items)) result (image_at bytes.now) }
+    ensures { ReadsAs (λ x. (x.0, x.1.items)) result (image_at bytes.now) }
 {
     let layout = layout(bytes)?;
     let count = layout.words();
@@ -185,7 +185,7 @@ pub fn read_image(alloc: Global, bytes: &[u8]) -> Result<(Layout, Vec<u64>), Ima
     // The bytes are the image of what is read.
     ensures found { IfOk result (λ x. IsImaged x.0 x.1.items × (bytes.now ≡ image_of x.0 x.1.items)) }
     // An image is read, unless memory runs out.
-    ensures only { (m : Machine) (words : List ℕ) → IsImaged m words → bytes.now ≡ image_of m words → Gives {Y = Machine × List ℕ} (λ x. (x.0, x.1.items)) result (Ok (m, words)) }
+    ensures only { (m : Machine) (words : List ℕ) → IsImaged m words → bytes.now ≡ image_of m words → ReadsAs {Y = Machine × List ℕ} (λ x. (x.0, x.1.items)) result (Ok (m, words)) }
     // A fault is the first one.
     ensures fault { IfErr result (λ e. Tells e (image_fault bytes.now)) }
 {
