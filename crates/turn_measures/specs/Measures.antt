@@ -10,6 +10,7 @@ use Rattle.table_words.specs.OldWords.{old_place}
 use Rattle.table_words.specs.declared.old_words.OldWord.TheVariants.{First, Second}
 use Rattle.xp_words.specs.declared.ops.Call.{Call}
 use Rattle.vcpu_turn.specs.Cpus.{Job, OfCalls, OfDescriptors, OfDestroy, OfOne, Processing, Task, elements_in, job_next, job_of, next_of, task_called, task_in}
+pub use Rattle.vcpu_turn.specs.Unhindered.{IsSparingJob}
 use Rattle.vcpu_turn.specs.declared.cpu.Progress.{Progress}
 use Rattle.vcpu_turn.specs.declared.cpu.TurnEnd.{TurnEnd}
 use Rattle.vcpu_turn.specs.declared.cpu.TurnEnd.TheVariants as ends
@@ -55,11 +56,6 @@ abbrev pub IsWithin : Processing → Type 0
 IsWithin c = IsWithinJob (job_next (next_of c)) c.at
 
 -- the operation destroys no domain
-abbrev pub IsSparingJob : Job → Type 0
-IsSparingJob (OfDestroy domain) = ⊥
-IsSparingJob (OfOne task) = Unit {0}
-IsSparingJob (OfCalls calls) = Unit {0}
-
 abbrev pub DestroysNothing : Option Op → Type 0
 DestroysNothing o = IsSparingJob (job_next o)
 
