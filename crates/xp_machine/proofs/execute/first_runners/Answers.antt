@@ -31,7 +31,7 @@ returns g c =
       c.runners.invariant.cpus ∙ ap (map (λ p. first_cpu c.args.layout.now p.0)) all
           ∙ ap (λ (scripts : List (List Op)). map (λ p. first_cpu c.args.layout.now p.0) (zip (zip (range_with_len 0 c.vcpus.result) scripts) c.args.gates.items)) c.into_items.ensures
           ∙ cpus_first c.args.layout.now c.vcpus.result c.args.scripts c.args.gates.items (c.vcpus.ensures.vcpus ∙ sym c.requires.scripts) few,
-      c.runners.invariant.gates ∙ ap (map (λ p. (λ x. (goal.Preempt-dyn g (x.vtable, x.value)).policy x.value) p.1)) all
-          ∙ ap (λ (scripts : List (List Op)). map (λ p. (λ x. (goal.Preempt-dyn g (x.vtable, x.value)).policy x.value) p.1) (zip (zip (range_with_len 0 c.vcpus.result) scripts) c.args.gates.items)) c.into_items.ensures
+      c.runners.invariant.gates ∙ ap (map (λ p. (goal.Preempt-dyn g (p.1.vtable, p.1.value)).policy p.1.value)) all
+          ∙ ap (λ (scripts : List (List Op)). map (λ p. (goal.Preempt-dyn g (p.1.vtable, p.1.value)).policy p.1.value) (zip (zip (range_with_len 0 c.vcpus.result) scripts) c.args.gates.items)) c.into_items.ensures
           ∙ gates_first (λ x. (goal.Preempt-dyn g (x.vtable, x.value)).policy x.value) _ c.vcpus.result c.args.scripts c.args.gates.items (sym c.requires.scripts) (c.vcpus.ensures.vcpus ∙ sym c.requires.scripts),
     )

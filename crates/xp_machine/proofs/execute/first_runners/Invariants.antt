@@ -6,5 +6,5 @@ use Rattle.xp_machine.proofs.execute.first_runners.Given as goal
 abbrev pub invariant-runners : goal.invariant-runners
 invariant-runners g l = record {
   cpus : cpus_of l.runners.items ≡ map (λ p. first_cpu l.layout p.0) l.yielded;
-  gates : gates_of (λ x. (goal.Preempt-dyn g (x.vtable, x.value)).policy x.value) l.runners.items ≡ map (λ p. (λ x. (goal.Preempt-dyn g (x.vtable, x.value)).policy x.value) p.1) l.yielded;
+  gates : gates_of (λ x. (goal.Preempt-dyn g (x.vtable, x.value)).policy x.value) l.runners.items ≡ map (λ p. (goal.Preempt-dyn g (p.1.vtable, p.1.value)).policy p.1.value) l.yielded;
 }
