@@ -1,5 +1,6 @@
 //! Operations that are lists, and the gates that pause them.
-ghost use Rattle.std.specs.Prelude.{false};
+ghost use Rattle.std.specs.Prelude.{◌≡◌, false};
+ghost use Rattle.xp_preempt.specs.Gates.{next_ask};
 
 use crate::runs::{bytes, runs_by, runs_to, turns, with_option, with_pace};
 use std::alloc::Global;
@@ -96,7 +97,10 @@ impl Preempt for Counted {
 
     fn pace(&mut self, every: u32) {}
 
-    fn due(&mut self) -> bool {
+    fn due(&mut self) -> bool
+        ensures never { result ≡ false }
+        ensures asked { self.new.asks ≡ next_ask self.old.asks }
+    {
         if self.asks != u64::MAX {
             self.asks += 1;
         }

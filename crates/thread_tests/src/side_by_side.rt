@@ -1,5 +1,6 @@
 //! A run whose vCPUs come to their ends only side by side.
-ghost use Rattle.std.specs.Prelude.{true, false};
+ghost use Rattle.std.specs.Prelude.{◌≡◌, true, false};
+ghost use Rattle.xp_preempt.specs.Gates.{next_ask};
 
 use std::alloc::Global;
 use std::process::Abort;
@@ -27,7 +28,10 @@ impl Preempt for Meeting {
 
     fn pace(&mut self, every: u32) {}
 
-    fn due(&mut self) -> bool {
+    fn due(&mut self) -> bool
+        ensures never { result ≡ false }
+        ensures asked { self.new.asks ≡ next_ask self.old.asks }
+    {
         if self.asks != u64::MAX {
             self.asks += 1;
         }
