@@ -1,4 +1,3 @@
-mod Parts
 mod Walked
 mod Looks
 mod Asking

@@ -22,7 +22,7 @@ use Rattle.tlb_walks.specs.Flying.{EntryMoves, PathMoves, WalkMoves}
 use Rattle.tlb_walks.specs.Walks as by
 use Rattle.tlb_walks.specs.Walks.{EndsAt, EntryBy, PathBy, WalkBy, barrier_with, base_visit, saw_entry, sets_bits, with_needed}
 use Rattle.tlb_walks.specs.declared.walks.Walked.{Walked}
-use Rattle.ldt_pages.proofs.Parts.{cut, parts, single, stayed}
+use Rattle.step_maker.proofs.Parts.{cut, parts, single, stayed}
 
 -- ---- one entry
 -- where no bit is set, the entry stands

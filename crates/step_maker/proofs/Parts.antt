@@ -14,10 +14,10 @@ pub record Cut (v w : PortValue) (before after : List Visit) : Type 0 where
   pub goes : Ran port ns w
   pub more : visits ns ≡ after
 
-first_of : {A : Type 0} (x y : A) (xs ys : List A) → x ∷ xs ≡ y ∷ ys → x ≡ y
+pub first_of : {A : Type 0} (x y : A) (xs ys : List A) → x ∷ xs ≡ y ∷ ys → x ≡ y
 first_of x y xs ys e = cc
 
-rest_of : {A : Type 0} (x y : A) (xs ys : List A) → x ∷ xs ≡ y ∷ ys → xs ≡ ys
+pub rest_of : {A : Type 0} (x y : A) (xs ys : List A) → x ∷ xs ≡ y ∷ ys → xs ≡ ys
 rest_of x y xs ys e = cc
 
 pub cut : (v w : PortValue) (before after : List Visit) (ms : List Moment) → Ran v ms w → visits ms ≡ after ++ before → Cut v w before after
