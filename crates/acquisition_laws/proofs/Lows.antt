@@ -29,7 +29,7 @@ IsLow types.Counted = Unit {0}
 IsLow (types.InWork progress own) = progress < 2 ^ 10
 IsLow (types.Waiting own stamp stop) = stamp < 2 ^ 36
 
-field_low : (x : ℕ) → (kind_fields x).progress < 2 ^ 10
+pub field_low : (x : ℕ) → (kind_fields x).progress < 2 ^ 10
 unfolding kind_fields
 field_low x = omega arith
 

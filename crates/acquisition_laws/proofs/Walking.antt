@@ -46,7 +46,7 @@ module _ (f : ℕ) where
   around_by true u us s = s
   around_by false u us s = with_done u us (u.done - 1) (let low = low_on_top u us s in omega (arith, low)) s
 
-counts_low : (own : Bool) → type_counts own < 2 ^ 36
+pub counts_low : (own : Bool) → type_counts own < 2 ^ 36
 counts_low true = omega arith
 counts_low false = omega arith
 

@@ -6,7 +6,7 @@ use Rattle.std.specs.Result.{result_ok}
 use Rattle.std.specs.Str.Parse.{AllDigits, IsNumeral, ParsesUnsigned, digits_value, without_leading_plus}
 use Rattle.std.proofs.lemmas.Str.Parse.{digit_at, digit_from_value, without_leading_plus_none}
 use Rattle.trace_lines.specs.Numbers.{is_digit, is_proper, numeral}
-use Rattle.trace_lines.proofs.WordsAgain.{both}
+use Rattle.trace_lines.proofs.DigitTable.{both_of as both}
 use Rattle.command_words.specs.Words.{has_digits, number_within, within}
 
 pub all_digits : (w : List ℕ) → has_digits w ≡ true → AllDigits 10 w

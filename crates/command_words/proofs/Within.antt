@@ -1,7 +1,7 @@
 -- How many operations words may ask for.
 use Rattle.std.proofs.Common.{◌≡◌, ℕ, ◌≤◌, Bool, true, false, ◌&&◌, List, [], ◌∷◌, Option, Some, None, option_map, cond, bytes_eq, codes, leb, refl, leb-true, subst}
 use Rattle.trace_lines.specs.Numbers.{numeral}
-use Rattle.trace_lines.proofs.WordsAgain.{both}
+use Rattle.trace_lines.proofs.DigitTable.{both_of as both}
 use Rattle.command_words.specs.Words.{manner_named, operations_after, pace_after, run_of, within, words_ask}
 use Rattle.command_words.specs.declared.asked.Asked.TheVariants.{Generate}
 use Rattle.command_words.specs.declared.asked.Manner.{Manner}

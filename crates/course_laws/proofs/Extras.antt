@@ -9,8 +9,9 @@ use Rattle.partial_state.specs.declared.stack.TableWork.{TableWork}
 use Rattle.table_law.specs.Alone.{CountFull, NoFrame, PlainOutcome, WrongOwner, fine, refused, take_reference, take_reference_of}
 use Rattle.table_law.specs.Lawful.{share_count}
 use Rattle.table_law.specs.Plain.{Describes, Plain, Share, raised_share, with_share}
-use Rattle.table_twins.proofs.Referring.{is_inside, not_full, same_taken}
+use Rattle.table_twins.proofs.Referring.{not_full, same_taken}
 use Rattle.course_laws.proofs.Lending.{fine_there}
+use Rattle.xp_board.proofs.StepLists.{from_lt as is_inside}
 
 -- ---- the same plain value, frame by frame
 pub record IsSame (p q : Plain) : Type 0 where

@@ -107,9 +107,6 @@ module _ (g l w count : ℕ) (ts : List TableWork) (above : IsAbove l ts) (free 
   frame_ready n room frame = let aside = asked_aside frame in (aside.spelled, stands_ready n room aside.stands)
 
 -- ---- words that are alike
-pub small_number : (x : ℕ) → (kind_fields x).number < 2 ^ 36
-unfolding kind_fields
-small_number x = omega arith
 
 pub renumbered : (k : KindWord) (j : ℕ) → k.number < 2 ^ 36 → is_dead k ≡ true → IsTrue (is_kind (record k { number = j })) → IsTrue (is_kind k)
 unfolding has_form

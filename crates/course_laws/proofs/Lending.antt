@@ -9,8 +9,9 @@ use Rattle.table_law.specs.Alone.{CountFull, NoFrame, PlainOutcome, WrongOwner, 
 use Rattle.table_law.specs.Lawful.{share_count}
 use Rattle.table_law.specs.Plain.{Describes, Plain, Share, raised_share, with_share}
 use Rattle.table_twins.specs.Answers.{IsSameAnswer}
-use Rattle.table_twins.proofs.Referring.{is_inside, not_full, same_answer}
+use Rattle.table_twins.proofs.Referring.{not_full, same_answer}
 use Rattle.course_laws.proofs.Frames.{count_at}
+use Rattle.xp_board.proofs.StepLists.{from_lt as is_inside}
 
 -- ---- a plain reference that is fine
 pub record Lent (n : Machine) (g : ℕ) (q : Plain) (o : PlainOutcome) : Type 0 where

@@ -14,19 +14,19 @@ use Rattle.step_maker.specs.Twins.{Alike}
 use Rattle.frame_words.specs.Plain.{put}
 use Rattle.kind_words.specs.Kinds.{partial_kind, work_kind}
 use Rattle.kind_words.proofs.KindWriting.{fields_write}
+use Rattle.kind_words.proofs.Leaving.{number_small as small_number}
 use Rattle.frame_types.specs.Plain.{IsTakenBy, is_read_first, set_kind, stop_by, taken, taken_by, type_stop, work_unmarked}
 use Rattle.frame_types.specs.Standing.{standing_of}
 use Rattle.frame_types.specs.Taking.{progress_of}
 use Rattle.frame_types.specs.declared.standing.Standing.TheVariants as stands
 use Rattle.frame_types.specs.declared.taking.Taken.TheVariants as types
+use Rattle.frame_types.proofs.Entering.{work_spelled as work_is}
 use Rattle.partial_state.specs.Levels.{level_type}
 use Rattle.partial_state.proofs.LevelFacts.{level_type-table, level_type-typed}
 use Rattle.table_law.specs.Plain.{Describes, Plain, sober, with_kind}
 use Rattle.table_law.proofs.Describing.{sober_live}
 use Rattle.table_twins.proofs.Kinding.{described_alike, kinded, unlive}
-use Rattle.table_twins.proofs.Typing.{work_is}
 use Rattle.course_laws.proofs.Completing.{itself}
-use Rattle.course_laws.proofs.Frames.{small_number}
 
 -- ---- a word in work, with another stamp
 fields_plus : (w c : ℕ) → w % 2 ^ 36 ≡ 0 → c < 2 ^ 36 → kind_fields (w + c) ≡ record (kind_fields w) { number = c }

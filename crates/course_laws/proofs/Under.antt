@@ -14,6 +14,7 @@ use Rattle.xp_words.specs.declared.kind.KindWord.{KindWord}
 use Rattle.xp_board.specs.Readings.{is_dead, kind_at}
 use Rattle.step_maker.specs.Plain.{Words}
 use Rattle.kind_words.specs.Kinds.{work_kind}
+use Rattle.kind_words.proofs.Leaving.{number_small as small_number}
 use Rattle.partial_state.specs.Levels.{level_type}
 use Rattle.partial_state.proofs.LevelFacts.{level_type-apart}
 use Rattle.partial_state.specs.declared.stack.TableWork.{TableWork}
@@ -24,7 +25,7 @@ use Rattle.table_law.specs.Plain.{Describes, Plain, Share, sober}
 use Rattle.table_law.specs.Stack.{rest}
 use Rattle.table_law.proofs.Describing.{sober_dead, sober_live}
 use Rattle.table_twins.proofs.Typing.{live_sober}
-use Rattle.course_laws.proofs.Frames.{IsAbove, IsAside, IsFrame, IsLiveWithin, IsWork, count_at, renumbered, small_number}
+use Rattle.course_laws.proofs.Frames.{IsAbove, IsAside, IsFrame, IsLiveWithin, IsWork, count_at, renumbered}
 use Rattle.course_laws.proofs.Stacking.{lefts}
 use Rattle.course_laws.proofs.Extras.{lent, more_count}
 

@@ -69,7 +69,7 @@ partial_came : (v w : PortValue) (t : TableWork) → LeftPartial v w t → Came 
 partial_came v w t a = moves_came v w _ _ _ _ _ a.1
 
 -- its mark is left, or taken back
-kept_came : (v w : PortValue) (f : ℕ) (k : KindWord) (owner : ℕ) → KeptFor v w f k owner → Came v w
+pub kept_came : (v w : PortValue) (f : ℕ) (k : KindWord) (owner : ℕ) → KeptFor v w f k owner → Came v w
 kept_came v w f k owner (marks.own home a) = moves_came v w _ _ _ _ _ a.1
 kept_came v w f k owner (marks.alive u foreign a look) = came_trans v u w (moves_came v u _ _ _ _ _ a.1) (moves_came u w _ _ _ _ _ look)
 kept_came v w f k owner (marks.dying u x y life foreign a look off back names) =

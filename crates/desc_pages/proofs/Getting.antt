@@ -1,6 +1,6 @@
 -- A frame is taken as a descriptor page with a reference of its own: the same, behind the steps that take it.
-use Rattle.std.proofs.Common.{◌≡◌, ◌==◌, ◌&&◌, ◌||◌, ℕ, ◌<◌, Bool, List, [], ◌∷◌, Option, None, Result, Ok, Err, IsTrue, refl, sym, ap, ◌∙◌, subst, inl, inr, append-nil}
-use Rattle.std.proofs.lemmas.Bool.{and_from, and_parts, or_cases, or_left, or_right}
+use Rattle.std.proofs.Common.{◌≡◌, ◌==◌, ◌&&◌, ◌||◌, ℕ, ◌<◌, List, [], ◌∷◌, Option, None, Result, Ok, Err, IsTrue, refl, sym, ap, ◌∙◌, subst, inl, inr, append-nil}
+use Rattle.std.proofs.lemmas.Bool.{and_from, and_parts, or_cases, or_left}
 use Rattle.xp_words.specs.Places.{Sizes, sizes_of}
 use Rattle.xp_words.specs.declared.kind.PageType.{PageType}
 use Rattle.xp_words.specs.declared.kind.PageType.TheVariants.{Desc}
@@ -36,14 +36,9 @@ use Rattle.frame_types.specs.Taking.{typed_as}
 use Rattle.table_entries.specs.Acquiring.{GotRef}
 use Rattle.desc_pages.proofs.Short.{referred_short, unreferred_short}
 use Rattle.desc_pages.specs.Pages.{GetsDesc, GotDesc, IsDescAside, IsDescStop, IsTakenStop, TakesDesc, TookDesc, had, of_desc, unreferred, untaken}
+use Rattle.flush_waits.proofs.Growing.{some_weaker as some_more}
 
 -- ---- a page that is known live stays so
-some_more : {A : Type 0} (P Q : A → Bool) (xs : List A) → ((x : A) → IsTrue (P x) → IsTrue (Q x)) → IsTrue (some_of P xs) → IsTrue (some_of Q xs)
-unfolding some_of
-some_more P Q [] more is = absurd cc
-some_more P Q (x ∷ xs) more is = elim (or_cases (P x) (some_of P xs) is) [
-  | inl here ↦ or_left (Q x) (some_of Q xs) (more x here)
-  | inr below ↦ or_right (Q x) (some_of Q xs) (some_more P Q xs more below)
 ]
 
 module _ (v u : PortValue) (f : ℕ) (came : Came v u) where

@@ -7,6 +7,7 @@ use Rattle.xp_board.specs.declared.holdings.OwnerFound.TheVariants as owners
 use Rattle.xp_board.specs.declared.holdings.TypedReference.{TypedReference}
 use Rattle.xp_board.specs.KindSteps.{live_typed}
 use Rattle.xp_board.specs.Told.{PortValue}
+use Rattle.xp_board.proofs.StepLists.{from_lt as lower}
 use Rattle.step_maker.specs.Holds.{MayWork, still}
 use Rattle.step_maker.proofs.Coming.{came_self, came_trans}
 use Rattle.step_maker.specs.Answers.{Serves, SetsWord}
@@ -23,9 +24,6 @@ least_more k n low = grind (arith, nat_tests)
 
 least_here : (k n : ℕ) → k < n → least k n ≡ k
 least_here k n low = grind (arith, nat_tests)
-
-lower : (k n : ℕ) → nat_lt k n ≡ true → k < n
-lower k n is = grind (arith, nat_tests)
 
 not_lower : (k n : ℕ) → nat_lt k n ≡ false → n ≤ k
 not_lower k n is = grind (arith, nat_tests)

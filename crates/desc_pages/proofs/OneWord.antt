@@ -14,7 +14,7 @@ use Rattle.xp_board.specs.declared.step.StepKind.TheVariants as kinds
 use Rattle.xp_board.specs.Acts.{left_by}
 use Rattle.xp_board.specs.After.{counts_fixed, is_fixed, is_fixed_in, learned_cell, learned_claim, learned_last, learned_lock, learned_work}
 use Rattle.xp_board.specs.CellSteps.{exchanged}
-use Rattle.xp_board.specs.Hands.{changed_claim, changed_lock, changed_work, claim_of, lock_on, work_on}
+use Rattle.xp_board.specs.Hands.{changed_claim, changed_lock, claim_of, lock_on, work_on}
 use Rattle.xp_board.specs.Lists.{changed_by, first_by}
 use Rattle.xp_board.specs.Readings.{is_work}
 use Rattle.xp_board.specs.Spelling.{IsSpelling}
@@ -30,11 +30,10 @@ use Rattle.step_maker.specs.Visits.{Visit, visit, Only, Then}
 use Rattle.step_maker.proofs.Piecing.{serves_step}
 use Rattle.step_maker.proofs.Visiting.{does_as, does_one, does_then}
 use Rattle.desc_pages.specs.Fixing.{FixesWord, IsPage, IsPageWork, MayStoreFixed, UnfixesWord, WordBy, changed, stood}
+use Rattle.frame_types.proofs.Finishing.{changed_newest}
+use Rattle.table_entries.proofs.HandReady.{learned_word}
 
 -- ---- what is learned of the page
-changed_newest : (f : ℕ) (change : Work → Work) (e : Work) (xs ys : List Work) → e.frame ≡ f → ys ≡ e ∷ xs → changed_work f change ys ≡ change e ∷ xs
-unfolding changed_by
-changed_newest f change e xs ys frame is = ap (λ zs. changed_work f change zs) is ∙ rw (when_eq e.frame f frame) refl
 
 no_locks : (f : ℕ) (change : Lock → Lock) (xs : List Lock) → xs ≡ [] → changed_lock f change xs ≡ xs
 unfolding changed_by
@@ -61,10 +60,6 @@ word_if : (b : Bool) (x y : Work) → x.word ≡ y.word → (if b then y else x)
 word_if true x y is = refl
 word_if false x y is = is
 
-learned_word : (i x : ℕ) (e : Work) → (learned_work i x e).word ≡ e.word
-learned_word i x e = elim (kind_fields e.word).unflushed as (λ b. (if b then e else record e { seen = Some (record { index = i; word = x }); unsettled = learned_last i e.recorded x e.unsettled; fixed = if counts_fixed i x e then e.fixed + 1 else e.fixed }).word ≡ e.word) [
-  | true ↦ refl
-  | false ↦ refl
 ]
 
 word_kept : (i x : ℕ) (e : Work) → ((learned_work i x e).frame ≡ e.frame) × ((learned_work i x e).recorded ≡ e.recorded) × ((learned_work i x e).since ≡ e.since)

@@ -1,7 +1,6 @@
 -- A GDT is set by few steps: those of 14 descriptor pages, and some more.
 use Rattle.std.proofs.Common.{◌≡◌, ℕ, zero, suc, ◌+◌, ◌*◌, ◌≤◌, ◌==◌, if◌then◌else◌, Bool, true, false, List, length, get_or, Option, Some, None, Result, Ok, Err, refl, ap, ◌∙◌, arith}
 use Rattle.std.proofs.Math.Nat.{mul-le-mul_right}
-use Rattle.std.proofs.lemmas.Bool.Decides.{nat_tests}
 use Rattle.xp_words.specs.KindWords.{kind_fields}
 use Rattle.xp_words.specs.declared.kind.PageType.{PageType}
 use Rattle.xp_words.specs.declared.kind.PageType.TheVariants.{Desc}
@@ -19,6 +18,7 @@ use Rattle.desc_pages.specs.Ldt as ldt
 use Rattle.desc_pages.specs.Names.{GaveOld, NamesPage}
 use Rattle.desc_pages.proofs.Counting.{IsAtMost, does_most, only_most, put_most, then_most, where_most}
 use Rattle.desc_pages.proofs.Short.{dies_most, got_came, got_short, moved_once, vcpus}
+use Rattle.desc_pages.proofs.Setting.{few_pages as few_by}
 
 -- ---- a page given back
 drops_most : (f : ℕ) (want : PageType) → IsAtMost (DropsBy f want) 8
@@ -77,9 +77,6 @@ named_short v fs _ _ (gdt.more k u w rest names) =
 good_by : (b : Bool) → (if b then Some refusals.BadRange else None) ≡ None → b ≡ false
 good_by true is = absurd cc
 good_by false is = refl
-
-few_by : (entries n : ℕ) → is_bad_gdt entries n ≡ false → n ≤ 14
-few_by entries n good = grind (arith, nat_tests)
 
 few_right : (entries : ℕ) (fs : List ℕ) → gdt_refusal entries fs ≡ None → length fs ≤ 14
 few_right entries fs right = few_by entries (length fs) (good_by (is_bad_gdt entries (length fs)) right)

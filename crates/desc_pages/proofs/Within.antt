@@ -1,7 +1,6 @@
 -- What a page asks that is taken is within what the call asks that takes it.
-use Rattle.std.proofs.Common.{◌≡◌, ℕ, ◌==◌, ◌<◌, false, List, [], ◌∷◌, length, get_or, zero, suc, Option, Some, IsTrue, refl, sym, subst, arith, rules}
+use Rattle.std.proofs.Common.{ℕ, ◌==◌, ◌<◌, false, List, [], ◌∷◌, length, get_or, zero, suc, Option, Some, IsTrue, refl, sym, subst, arith, rules}
 use Rattle.std.proofs.lemmas.Bool.{or_left, or_right}
-use Rattle.std.proofs.lemmas.Bool.Decides.{nat_tests}
 use Rattle.xp_words.specs.Machine.{Machine}
 use Rattle.xp_words.specs.declared.kind.PageType.{PageType}
 use Rattle.xp_words.specs.declared.reply.Refusal.{Refusal}
@@ -11,6 +10,7 @@ use Rattle.step_maker.specs.Moves.{Moment}
 use Rattle.step_maker.specs.Asked.{Within, named, of_table}
 use Rattle.step_maker.specs.Finding.{Finding}
 use Rattle.step_maker.proofs.Grown.{grown_by}
+use Rattle.step_maker.proofs.Piecing.{same_frame}
 use Rattle.desc_pages.specs.Descriptors.{of_cell}
 use Rattle.desc_pages.specs.Gdt.{is_listed, of_gdt}
 use Rattle.desc_pages.specs.Pages.{of_desc}
@@ -23,9 +23,6 @@ listed (x ∷ xs) k low = elim k as (λ j. j < length (x ∷ xs) → IsTrue (som
   | zero ↦ λ small. or_left (x == x) _ (when_eq x x refl)
   | suc j ↦ λ small. or_right (get_or xs j 0 == x) _ (listed xs j (omega arith))
 ] low
-
-same_frame : (g f : ℕ) → IsTrue (g == f) → g ≡ f
-same_frame g f is = grind (arith, nat_tests)
 
 -- ---- one page of a GDT
 module _ (n : Machine) (s f d entries : ℕ) (fs : List ℕ) (names : IsTrue (is_listed fs f)) (F G : Finding) (more : (m : Moment) → F m → G m) where

@@ -5,6 +5,7 @@ use Rattle.xp_words.specs.KindWords.{kind_fields}
 use Rattle.xp_words.specs.declared.kind.KindWord.{KindWord}
 use Rattle.xp_words.specs.declared.kind.PageType.TheVariants.{Desc}
 use Rattle.xp_words.specs.declared.place.Place.TheVariants.{Clock, Kind}
+use Rattle.xp_words.proofs.KindLaws.{fields_back as written}
 use Rattle.xp_board.specs.Acts.{left_by}
 use Rattle.xp_board.specs.Readings.{kind_at}
 use Rattle.xp_board.specs.RefSteps.{one_down}
@@ -18,13 +19,13 @@ use Rattle.step_maker.proofs.Coming.{moves_came}
 use Rattle.step_maker.proofs.Telling.{came_telling, told_there}
 use Rattle.step_maker.specs.Visits.{Does, Only, Then, Where, visit}
 use Rattle.step_maker.proofs.Visiting.{does_came}
+use Rattle.step_maker.proofs.Parts.{stayed as does_none, parts as does_parts}
 use Rattle.frame_words.specs.Freeing.{PutBy}
 use Rattle.kind_words.specs.Kinds.{dead_kind}
 use Rattle.kind_words.proofs.KindFacts.{clock_is_small}
 use Rattle.frame_types.specs.Found.{Dies, DropsPlain, StoresKind}
-use Rattle.release_laws.proofs.Parts.{does_none, does_only, does_parts, does_with}
+use Rattle.release_laws.proofs.Parts.{does_only, does_with}
 use Rattle.frame_ranks.proofs.Facing.{Turned, at_kind, calm_turned, load_calm, turned_calm, turned_twice}
-use Rattle.frame_ranks.proofs.Reading.{written}
 use Rattle.frame_ranks.proofs.Standings.{rank_desc}
 use Rattle.frame_ranks.proofs.Stepping.{puts_calm, stores_turned}
 use Rattle.desc_ranks.proofs.Counts.{GivenBack}

@@ -8,6 +8,7 @@ use Rattle.xp_words.specs.declared.place.Place.{Place}
 use Rattle.xp_words.specs.declared.place.Place.TheVariants.{Kind, Refs}
 use Rattle.xp_words.specs.declared.reply.Stop.{Stop}
 use Rattle.xp_words.specs.declared.reply.Stop.TheVariants.{Refused, Paused}
+use Rattle.xp_words.proofs.KindLaws.{fields_back as written}
 use Rattle.xp_board.specs.Lists.{EachOf}
 use Rattle.xp_board.specs.Readings.{kind_at}
 use Rattle.xp_board.specs.Told.{PortValue, told_word}
@@ -19,17 +20,16 @@ use Rattle.step_maker.specs.Visits.{Does, Visit, visits}
 use Rattle.step_maker.proofs.Visiting.{does_came}
 use Rattle.frame_words.specs.Plain.{got, refer}
 use Rattle.kept_marks.specs.Marks as marks
-use Rattle.kept_marks.specs.Marks.{KeptFor}
 use Rattle.kind_words.specs.Kinds.{live_kind, partial_kind}
 use Rattle.frame_types.specs.declared.taking.Taken as taking
 use Rattle.frame_types.specs.declared.taking.Taken.TheVariants as types
 use Rattle.table_entries.specs.Acquiring.{GaveRef, GotRef}
 use Rattle.course_laws.proofs.Awaiting.{AloneStays}
 use Rattle.course_laws.proofs.Stopping.{ref_came}
-use Rattle.course_laws.proofs.Walking.{gave_came}
+use Rattle.course_laws.proofs.Walking.{gave_came, kept_came}
 use Rattle.acquisition_laws.proofs.Lows.{type_low}
 use Rattle.desc_pages.specs.Fixing as fixing
-use Rattle.desc_pages.specs.Fixing.{Fixes, FixesBy}
+use Rattle.desc_pages.specs.Fixing.{FixesBy}
 use Rattle.desc_pages.specs.Pages as pages
 use Rattle.desc_pages.specs.Pages.{DescLeft, GotDesc, PageValidated, TookDesc, TookDescType}
 use Rattle.frame_ranks.specs.Ranks.{AreAllAlive, rank_at, rank_of}
@@ -37,7 +37,6 @@ use Rattle.frame_ranks.proofs.Entering.{refer_inside}
 use Rattle.frame_ranks.proofs.Facing.{Calm, Turned, calm_then, calm_turned, got_calm, same_calm, store_turned, turned_twice}
 use Rattle.frame_ranks.proofs.Going.{At, IsGoing, at_later, at_spelled, at_telling}
 use Rattle.frame_ranks.proofs.Leaving.{kept_turned}
-use Rattle.frame_ranks.proofs.Reading.{written}
 use Rattle.frame_ranks.proofs.Stepping.{IsQuiet, gave_calm, ran_calm}
 use Rattle.frame_ranks.proofs.Taking.{takes_wait, takes_work}
 use Rattle.desc_ranks.proofs.Counts.{Taken, begun, counted}
@@ -87,14 +86,6 @@ fixes_quiet f _ _ (fixing.FixesBy.changes i x y old vs is off more) = (refl, (re
 fixes_calm : (y z : PortValue) (f : ℕ) → Does y z (λ vs. FixesBy f 512 vs) → Calm (told_word y) (told_word z)
 unfolding Does
 fixes_calm y z f d = ran_calm y z d.0 d.1 (fixes_quiet f 512 (visits d.0) d.2)
-
-kept_came : (v w : PortValue) (f : ℕ) (k : KindWord) (owner : ℕ) → KeptFor v w f k owner → Came v w
-kept_came v w f k owner (marks.own home a) = moves_came v w _ _ _ _ _ a.1
-kept_came v w f k owner (marks.alive u foreign a look) = came_trans v u w (moves_came v u _ _ _ _ _ a.1) (moves_came u w _ _ _ _ _ look)
-kept_came v w f k owner (marks.dying u x y life foreign a look off back names) =
-    came_trans v u w (moves_came v u _ _ _ _ _ a.1) (came_trans u x w (moves_came u x _ _ _ _ _ look) (came_trans x y w (moves_came x y _ _ _ _ _ back) (moves_came y w _ _ _ _ _ names)))
-kept_came v w f k owner (marks.taken u x life found foreign a look off back other) =
-    came_trans v u w (moves_came v u _ _ _ _ _ a.1) (came_trans u x w (moves_came u x _ _ _ _ _ look) (moves_came x w _ _ _ _ _ back))
 
 -- from one port to another: by how it was answered
 pub record Gets {A : Type 0} (v w : PortValue) (f : ℕ) (r : Result A Stop) : Type 0 where

@@ -6,6 +6,7 @@ use Rattle.xp_words.specs.PageTypes.{type_number}
 use Rattle.xp_words.specs.declared.kind.KindWord.{KindWord}
 use Rattle.xp_words.specs.declared.kind.PageType.TheVariants.{Desc}
 use Rattle.xp_words.specs.declared.place.Place.TheVariants.{Kind}
+use Rattle.xp_words.proofs.KindLaws.{fields_back as written}
 use Rattle.xp_board.specs.KindSteps.{raised_kind}
 use Rattle.xp_board.specs.Readings.{kind_at}
 use Rattle.step_maker.specs.Plain.{Words}
@@ -17,7 +18,6 @@ use Rattle.frame_types.specs.declared.standing.Standing.TheVariants as stands
 use Rattle.frame_types.specs.declared.taking.Taken.TheVariants as types
 use Rattle.frame_ranks.specs.Ranks.{rank_at, rank_of}
 use Rattle.frame_ranks.proofs.Facing.{Turned, alike_calm, set_turned, turned_calm}
-use Rattle.frame_ranks.proofs.Reading.{written}
 use Rattle.frame_ranks.proofs.Standings.{live_small, rank_dead, rank_waits}
 
 -- ---- how it stands to that type

@@ -66,7 +66,7 @@ or_first : (a b : Bool) → IsTrue a → IsTrue (a || b)
 or_first a b x = rw x refl
 
 -- a step below a number is one of all
-before_since : (z : Sizes) (n : ℕ) (p : Place) (test : ℕ → Bool) (xs : List Made) → IsTrue (some_before z n p test xs) → IsTrue (some_since z 0 p test xs)
+pub before_since : (z : Sizes) (n : ℕ) (p : Place) (test : ℕ → Bool) (xs : List Made) → IsTrue (some_before z n p test xs) → IsTrue (some_since z 0 p test xs)
 unfolding some_step
 before_since z n p test [] h = absurd (cc)
 before_since z n p test (x ∷ xs) h =

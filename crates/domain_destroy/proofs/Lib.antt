@@ -1,12 +1,12 @@
 mod AllWords
-mod Burying
+pub mod Burying
 mod Cleared
 mod Dooming
 mod Ending
 mod Gating
 mod Giving
 mod LettingGo
-mod Lines
+pub mod Lines
 mod Marked
 mod NoUse
 pub mod Noes

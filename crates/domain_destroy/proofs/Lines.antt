@@ -181,7 +181,7 @@ stopped_serves v w d e a = record { deeds = a.deeds; are = a.are; serves = a.ser
 pub went_serves : {A B : Type 0} (v w : PortValue) (d : ℕ) (a : A) (b : B) → ServesDestroy v w d (Ok a) → ServesDestroy v w d (Ok b)
 went_serves v w d a b s = record { deeds = s.deeds; are = s.are; serves = s.serves }
 
-lines_long : (op : ℕ) (xs : List LeftFrame) → length (left_lines op xs) ≡ length xs
+pub lines_long : (op : ℕ) (xs : List LeftFrame) → length (left_lines op xs) ≡ length xs
 lines_long op [] = refl
 lines_long op (x ∷ xs) = let rest = lines_long op xs in omega (arith, rest)
 

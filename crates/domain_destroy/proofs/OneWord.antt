@@ -1,5 +1,5 @@
 -- One word of a stopped vCPU is looked at and emptied.
-use Rattle.std.proofs.Common.{◌≡◌, ◌≢◌, ℕ, add-one, ◌+◌, ◌-◌, ◌<◌, ◌≤◌, ◌==◌, nat_le, nat_lt, ◌&&◌, Bool, true, false, List, [], ◌∷◌, length, All, None, Some, Result, Ok, Err, IfOk, IfErr, IsTrue, refl, sym, ap, ◌∙◌, subst, append-nil, inl, inr, arith}
+use Rattle.std.proofs.Common.{◌≡◌, ◌≢◌, ℕ, add-one, ◌+◌, ◌-◌, ◌<◌, ◌≤◌, ◌==◌, nat_le, ◌&&◌, Bool, true, false, List, [], ◌∷◌, length, All, None, Some, Result, Ok, Err, IfOk, IfErr, IsTrue, refl, sym, ap, ◌∙◌, subst, append-nil, inl, inr, arith}
 use Rattle.std.proofs.lemmas.List.Elements.{All-cons, All-nil}
 use Rattle.std.proofs.lemmas.Bool.{and_parts}
 use Rattle.std.proofs.lemmas.Bool.Decides.{nat_tests}
@@ -12,7 +12,7 @@ use Rattle.xp_board.specs.Acts.{left_by}
 use Rattle.xp_board.specs.ContextSteps.{context_type, named_in}
 use Rattle.xp_board.specs.Hands.{brought_name}
 use Rattle.xp_board.specs.Readings.{domain_of}
-use Rattle.xp_board.specs.Steps.{is_at, left_of, some_before, some_since, some_step}
+use Rattle.xp_board.specs.Steps.{is_at, left_of, some_since, some_step}
 use Rattle.xp_board.specs.Told.{Post, PortValue}
 use Rattle.xp_board.specs.declared.holdings.Made.{Made}
 use Rattle.xp_board.specs.declared.holdings.TypedReference.{TypedReference}
@@ -36,6 +36,7 @@ use Rattle.domain_destroy.specs.Emptying as words
 use Rattle.domain_destroy.specs.Releasing.{GoesOnDestroying, StopsOnDestroying}
 use Rattle.domain_destroy.proofs.Parts.{same_names_none, same_settled}
 use Rattle.domain_destroy.proofs.LettingGo.{behind_serves, behind_stops, let_go_settled}
+use Rattle.domain_destroy.proofs.Burying.{before_since}
 
 -- ---- when a word may be emptied
 zero_since : (z : Sizes) (n : ℕ) (p : Place) (test : ℕ → Bool) (xs : List Made) → IsTrue (some_since z n p test xs) → IsTrue (some_since z 0 p test xs)
@@ -48,18 +49,6 @@ zero_since z n p test (x ∷ xs) h =
           let l : nat_le 0 (length xs) ≡ true = grind (arith, nat_tests) in
           rw (l, a.1) refl)
       | inr there ↦ one_more (λ k y. nat_le 0 k && (is_at z p y && test (left_of y))) x xs (zero_since z n p test xs there)
-    ]
-
-before_since : (z : Sizes) (n : ℕ) (p : Place) (test : ℕ → Bool) (xs : List Made) → IsTrue (some_before z n p test xs) → IsTrue (some_since z 0 p test xs)
-unfolding some_step
-before_since z n p test [] h = absurd (cc)
-before_since z n p test (x ∷ xs) h =
-    elim (head_or_tail (λ k y. nat_lt k n && (is_at z p y && test (left_of y))) x xs h) [
-      | inl here ↦
-          (let a = and_parts (nat_lt (length xs) n) (is_at z p x && test (left_of x)) here in
-          let l : nat_le 0 (length xs) ≡ true = grind (arith, nat_tests) in
-          rw (l, a.1) refl)
-      | inr there ↦ one_more (λ k y. nat_le 0 k && (is_at z p y && test (left_of y))) x xs (before_since z n p test xs there)
     ]
 
 pub may_empty : (v : PortValue) (d k vcpu : ℕ) → FoundEmpty v.post.machine v.post.vcpu d k v.holdings → vcpu < length v.post.machine.vcpu_domain → domain_of v.post.machine vcpu ≡ d → MayEmptyWord v vcpu

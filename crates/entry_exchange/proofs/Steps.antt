@@ -52,10 +52,10 @@ record Adds (v w : PortValue) (k : ℕ) : Type 0 where
 adds_none : {v : PortValue} → Adds v v 0
 adds_none = record { post = refl; few = omega arith }
 
-adds_more : {v w : PortValue} {j k : ℕ} → Adds v w j → j ≤ k → Adds v w k
+pub adds_more : {v w : PortValue} {j k : ℕ} → Adds v w j → j ≤ k → Adds v w k
 adds_more a low = record { post = a.post; few = (let few = a.few in omega arith) }
 
-adds_then : {v u w : PortValue} {j k : ℕ} → Adds v u j → Adds u w k → Adds v w (j + k)
+pub adds_then : {v u w : PortValue} {j k : ℕ} → Adds v u j → Adds u w k → Adds v w (j + k)
 adds_then a b = record { post = b.post ∙ a.post; few = (let before = a.few in let after = b.few in omega arith) }
 
 -- the vCPUs are the same before and behind steps
@@ -63,10 +63,10 @@ adds_at : {v u w : PortValue} {j : ℕ} (k n : ℕ) → Adds v u j → Adds u w 
 adds_at {v} {u} {w} k n a b = adds_more (adds_then a (subst (λ (p : Post). Adds u w (k + n * length p.machine.vcpu_domain)) a.post b)) (omega arith)
 
 -- one step is one more
-moves_length : {v w : PortValue} {p : Place} {a : Act} {kind : StepKind} {mark : Option Mark} {found : ℕ} → Moves v w p a kind mark found → length w.holdings.steps ≡ length v.holdings.steps + 1
+pub moves_length : {v w : PortValue} {p : Place} {a : Act} {kind : StepKind} {mark : Option Mark} {found : ℕ} → Moves v w p a kind mark found → length w.holdings.steps ≡ length v.holdings.steps + 1
 moves_length m = ap (λ xs. length xs) (moves_steps _ _ _ _ _ _ _ m) ∙ omega arith
 
-moves_adds : {v w : PortValue} {p : Place} {a : Act} {kind : StepKind} {mark : Option Mark} {found : ℕ} → Moves v w p a kind mark found → Adds v w 1
+pub moves_adds : {v w : PortValue} {p : Place} {a : Act} {kind : StepKind} {mark : Option Mark} {found : ℕ} → Moves v w p a kind mark found → Adds v w 1
 moves_adds m = record { post = ap (λ (x : PortValue). x.post) m.to; few = (let one = moves_length m in omega arith) }
 
 -- all steps of a list, and each is at a word of the machine
@@ -74,13 +74,13 @@ ran_length : (v w : PortValue) (ms : List Moment) → Ran v ms w → length w.ho
 ran_length v w [] ran = ap (λ (x : PortValue). length x.holdings.steps) ran ∙ omega arith
 ran_length v w (m ∷ ms) ran = let before = ran_length v ran.0 ms ran.1 in let one = moves_length ran.2.moves in omega arith
 
-ran_there : (v w : PortValue) (ms : List Moment) → Ran v ms w → are_there (sizes_of v.post.machine) (visits ms) ≡ true
+pub ran_there : (v w : PortValue) (ms : List Moment) → Ran v ms w → are_there (sizes_of v.post.machine) (visits ms) ≡ true
 ran_there v w [] ran = refl
 ran_there v w (m ∷ ms) ran =
     and_from (is_place (sizes_of v.post.machine) m.place) (are_there (sizes_of v.post.machine) (visits ms))
     (subst (λ (p : Post). is_place (sizes_of p.machine) m.place ≡ true) (ran_post v ran.0 ms ran.1) ran.2.moves.may.place) (ran_there v ran.0 ms ran.1)
 
-does_adds : (v w : PortValue) (P : List Visit → Type 0) (k : ℕ) → Short (sizes_of v.post.machine) P k → Does v w P → Adds v w k
+pub does_adds : (v w : PortValue) (P : List Visit → Type 0) (k : ℕ) → Short (sizes_of v.post.machine) P k → Does v w P → Adds v w k
 unfolding Does
 does_adds v w P k short does =
     let less = short (visits does.0) (ran_there v w does.0 does.1) does.2 in
@@ -88,10 +88,10 @@ does_adds v w P k short does =
     record { post = ran_post v w does.0 does.1; few = omega arith }
 
 -- ---- single calls
-got_ref : {v w : PortValue} {f owner : ℕ} {answer : Result ℕ Stop} → GotRef v w f owner answer → Adds v w 2
+pub got_ref : {v w : PortValue} {f owner : ℕ} {answer : Result ℕ Stop} → GotRef v w f owner answer → Adds v w 2
 got_ref {v} {w} {f} {owner} {answer} a = does_adds v w (λ vs. GetsBy v.post.machine f owner answer vs) 2 (gets_short (sizes_of v.post.machine) v.post.machine f owner answer) a.found
 
-gave_ref : {v w : PortValue} {f : ℕ} → GaveRef v w f → Adds v w 5
+pub gave_ref : {v w : PortValue} {f : ℕ} → GaveRef v w f → Adds v w 5
 gave_ref {v} {w} {f} a = does_adds v w (PutBy f) 5 (puts_short (sizes_of v.post.machine) f) a.found
 
 gave_type : {v w : PortValue} {f : ℕ} {kind : PageType} → GaveType v w f kind → Adds v w 8
@@ -164,7 +164,7 @@ put_adds (courses.lost found other m) = moves_adds m
 unlocks_adds : {v w : PortValue} {f : ℕ} {last : Bool} → Unlocks v w f last → Adds v w 1
 unlocks_adds a = moves_adds a.unlocks.step
 
-left_lock : {v w : PortValue} {f level : ℕ} → LeftLock v f level w → Adds v w 6
+pub left_lock : {v w : PortValue} {f level : ℕ} → LeftLock v f level w → Adds v w 6
 left_lock (courses.shared u _ off gave) = adds_then (unlocks_adds off) (gave_ref gave)
 left_lock (courses.last u y _ found off left named) = adds_more (adds_then (unlocks_adds off) (adds_then (moves_adds left) (moves_adds named))) (omega arith)
 

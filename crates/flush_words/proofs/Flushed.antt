@@ -90,7 +90,7 @@ own_does v w (Err r) (spent m) =
     does_as v w _ (λ vs. FlushedBy v.post.vcpu (Err (refusals.Clock last_clock)) vs) (λ vs one. subst (λ ws. FlushedBy v.post.vcpu (Err (refusals.Clock last_clock)) ws) (sym one) none) (does_one v w Clock Load kinds.Look None last_clock m)
 
 -- a step of a list that passes a test
-EachOf-some : (P : Made → Type 0) (test : ℕ → Made → Bool) (xs : List Made) → EachOf P xs → IsTrue (some_step test xs) → (Q : Type 0) → ((k : ℕ) (x : Made) → IsTrue (test k x) → P x → Q) → Q
+pub EachOf-some : (P : Made → Type 0) (test : ℕ → Made → Bool) (xs : List Made) → EachOf P xs → IsTrue (some_step test xs) → (Q : Type 0) → ((k : ℕ) (x : Made) → IsTrue (test k x) → P x → Q) → Q
 unfolding EachOf some_step
 EachOf-some P test [] e h Q use_it = absurd cc
 EachOf-some P test (x ∷ xs) e h Q use_it =

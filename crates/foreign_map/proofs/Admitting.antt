@@ -75,7 +75,7 @@ module _ (v : PortValue) (caller tables frames : ℕ) where
 
 -- ---- the hand
 -- nothing is learned where no life is to be looked at
-nothing_learned : (d x : ℕ) (h : Holdings) → h.looking ≡ [] → learned_life d x h ≡ h
+pub nothing_learned : (d x : ℕ) (h : Holdings) → h.looking ≡ [] → learned_life d x h ≡ h
 unfolding kept_of
 nothing_learned d x h none = either_way (x == 0)
   where

@@ -1,5 +1,5 @@
 -- A block that is tried: each look finds a frame free, and its stamp.
-use Rattle.std.proofs.Common.{◌≡◌, ℕ, suc, zero, ◌+◌, ◌*◌, ◌/◌, ◌%◌, ◌<◌, ◌≤◌, ◌==◌, ◌&&◌, ◌++◌, true, List, [], ◌∷◌, length, Option, Some, None, IfSome, refl, sym, ap, ◌∙◌, subst, inl, inr, ◌⊎◌, arith, slice_index_or, max}
+use Rattle.std.proofs.Common.{◌≡◌, ℕ, suc, zero, ◌+◌, ◌*◌, ◌/◌, ◌%◌, ◌<◌, ◌≤◌, ◌==◌, ◌&&◌, ◌++◌, true, List, [], ◌∷◌, length, Option, Some, None, IfSome, refl, sym, ap, ◌∙◌, subst, inl, inr, arith, slice_index_or, max}
 use Rattle.std.proofs.Math.Nat.{add-mul-mod_self_left, le-div_iff_mul-le, mul-mod_left, zero-mod}
 use Rattle.std.proofs.lemmas.Nat.{mul-mod_first}
 use Rattle.xp_words.specs.Machine.{Machine, IsMachine}
@@ -26,6 +26,7 @@ use Rattle.step_maker.proofs.Piecing.{serves_came, serves_nothing, serves_step, 
 use Rattle.flush_words.proofs.Lasting.{last_left}
 use Rattle.flush_waits.specs.Waiting.{HadFree}
 use Rattle.flush_waits.proofs.Growing.{came_grows}
+use Rattle.flush_waits.proofs.Waits.{below_or}
 use Rattle.frame_claims.specs.declared.choosing.Chosen.{Chosen}
 use Rattle.frame_claims.specs.Choosing.{FreeWord, IsFound, IsLatest, KeepsLast, Looks, SeenFree, StillFree, greatest}
 use Rattle.frame_claims.proofs.Lasting.{met_within}
@@ -71,9 +72,6 @@ at_new (x ∷ xs) s = at_new xs s
 pub one_longer : (xs : List ℕ) (s : ℕ) → length (xs ++ s ∷ []) ≡ length xs + 1
 one_longer [] s = refl
 one_longer (x ∷ xs) s = let rest = one_longer xs s in omega (arith, rest)
-
-below_or : (j k : ℕ) → j < k + 1 → (j < k) ⊎ (j ≡ k)
-below_or j k l = grind arith
 
 -- P holds of each stamp and its number
 pub each_more : (P : ℕ → ℕ → Type 0) (xs : List ℕ) (s : ℕ) → ((j : ℕ) → j < length xs → P j (slice_index_or xs j 0)) → P (length xs) s → (j : ℕ) → j < length (xs ++ s ∷ []) → P j (slice_index_or (xs ++ s ∷ []) j 0)

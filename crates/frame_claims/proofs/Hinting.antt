@@ -12,11 +12,12 @@ use Rattle.xp_board.specs.Sound.{is_hinted}
 use Rattle.step_maker.specs.Plain.{Words}
 use Rattle.step_maker.specs.Visits.{Visit, Nothing, Only, Then}
 use Rattle.frame_claims.specs.Found as founds
-use Rattle.frame_claims.specs.Found.{BlockBy, FirstOf, FreeAt, FreeBlock, FullBy, InWordBy, PassBy, RunBy, SawFree, SawFull, SawTaken, TriedBy, TriedWhere, Upwards, WordBy, are_set, saw_map, saw_refs}
+use Rattle.frame_claims.specs.Found.{BlockBy, FreeAt, FreeBlock, TriedBy, TriedWhere, Upwards, are_set, saw_refs}
 use Rattle.frame_claims.specs.Plain.{IsWhollyFree, MapAgrees, ref_looks}
 use Rattle.frame_claims.proofs.Setting.{bits_of, set_of}
 use Rattle.frame_claims.proofs.Telling.{Saw, each_parts, looks_append}
-use Rattle.frame_claims.proofs.Trying.{both_hold, fits_in}
+use Rattle.frame_claims.proofs.Trying.{both_hold}
+use Rattle.frame_words.proofs.Twinning.{full as fits_in}
 
 -- a block that is free, and is the one that is answered
 pub record IsHere (n : Machine) (m : Words) (k f : ℕ) (c : FreeBlock) : Type 0 where

@@ -2,14 +2,12 @@
 use Rattle.std.proofs.Common.{◌≡◌, ◌≢◌, ℕ, ◌+◌, ◌⊎◌, true, List, [], ◌∷◌, ◌++◌, Option, Some, None, refl, sym, ap, ◌∙◌, subst, inl, inr, arith}
 use Rattle.xp_words.specs.declared.place.Place.{Place}
 use Rattle.xp_board.specs.declared.step.Act.TheVariants.{Load}
-use Rattle.xp_board.specs.Acts.{left_by}
 use Rattle.xp_board.specs.Lists.{EachOf}
-use Rattle.xp_board.specs.Steps.{is_same}
 use Rattle.xp_board.specs.Told.{PortValue, is_telling, told_word}
-use Rattle.xp_board.proofs.PlaceTests.{is_same-other, same_place}
+use Rattle.xp_board.proofs.PlaceTests.{is_same-other}
 use Rattle.step_maker.specs.Moves.{Moment, Ran}
 use Rattle.step_maker.specs.Plain.{Leaves, Words, change}
-use Rattle.step_maker.proofs.Telling.{by_test, changed, leaves, ran_telling, told_there}
+use Rattle.step_maker.proofs.Telling.{changed, leaves, ran_telling, told_there, load_leaves}
 use Rattle.step_maker.specs.Visits.{Visit, Does, Nothing, Only, Then, visits}
 use Rattle.step_maker.proofs.Piecing.{each_append}
 use Rattle.frame_claims.specs.Found as founds
@@ -95,10 +93,6 @@ does_holds v w P C telling so does = so (visits does.0) (told_ran v w does.0 doe
 -- ---- words that no step changes
 abbrev pub IsAway : Place → Visit → Type 0
 IsAway p s = (s.act ≡ Load) ⊎ (s.place ≢ p)
-
-pub load_leaves : (p : Place) (m : Words) (q : Place) → change Load p m q ≡ m q
-unfolding left_by
-load_leaves p m q = sym (by_test (is_same q p) (m p) (m q) (m q) (λ on. ap m (same_place q p on)) (λ off. refl))
 
 by_away : (s : Visit) (p : Place) (m : Words) → IsAway p s → change s.act s.place m p ≡ m p
 by_away s p m (inl load) = rw load (load_leaves s.place m p)

@@ -1,7 +1,6 @@
 -- Blocks that are tried, in order, as lists of looks.
-use Rattle.std.proofs.Common.{◌≡◌, ◌≢◌, ℕ, zero, suc, ◌+◌, ◌-◌, ◌*◌, ◌/◌, ◌%◌, ◌^◌, ◌<◌, ◌≤◌, ◌==◌, ◌&&◌, ◌++◌, nat_le, Bool, true, false, List, [], ◌∷◌, length, slice_index, Option, Some, None, is_some, inl, inr, refl, sym, ap, ◌∙◌, subst, arith}
+use Rattle.std.proofs.Common.{◌≡◌, ◌≢◌, ℕ, zero, suc, ◌+◌, ◌-◌, ◌*◌, ◌/◌, ◌%◌, ◌^◌, ◌<◌, ◌≤◌, ◌==◌, ◌&&◌, ◌++◌, Bool, true, false, List, [], ◌∷◌, length, slice_index, Option, Some, None, is_some, inl, inr, refl, sym, ap, ◌∙◌, subst, arith}
 use Rattle.std.proofs.Math.Nat.{one-le-pow, zero-div, zero-mod}
-use Rattle.std.proofs.lemmas.Bool.Decides.{nat_tests}
 use Rattle.std.proofs.lemmas.Nat.{and_mask}
 use Rattle.std.proofs.lemmas.Nat.Bits.{ones_shr}
 use Rattle.std.specs.Int.RustNames.{bit_and}
@@ -73,12 +72,6 @@ pub bits_off : (k at x : ℕ) → k ≤ 64 → bit_and (x / 2 ^ at) ((2 ^ 64 - 1
 bits_off k at x few off =
     let masked = subst (λ m. bit_and (x / 2 ^ at) m ≢ m) (mask_is k few) off in
     when_ne (x / 2 ^ at % 2 ^ k) (2 ^ k - 1) (λ e. masked (and_mask (x / 2 ^ at) k ∙ e))
-
-pub fits_in : (a n : ℕ) → a ≤ n → nat_le a n ≡ true
-fits_in a n low = grind (arith, nat_tests)
-
-pub fits_not : (a n : ℕ) → n < a → nat_le a n ≡ false
-fits_not a n high = grind (arith, nat_tests)
 
 pub both_hold : (a b : Bool) → a ≡ true → b ≡ true → (a && b) ≡ true
 both_hold a b x y = rw (x, y) refl

@@ -6,6 +6,7 @@ use Rattle.xp_words.specs.Machine.{Machine}
 use Rattle.xp_words.specs.Places.{is_place, sizes_of}
 use Rattle.xp_words.specs.declared.kind.KindWord.{KindWord}
 use Rattle.xp_words.specs.declared.place.Place.TheVariants.{Clock, Life}
+use Rattle.xp_words.proofs.KindLaws.{fields_back as written}
 use Rattle.xp_board.specs.declared.step.Act.TheVariants.{Load}
 use Rattle.xp_board.specs.declared.step.StepKind.TheVariants as kinds
 use Rattle.xp_board.specs.Told.{PortValue, is_telling, told_word}
@@ -25,7 +26,6 @@ use Rattle.course_laws.proofs.Walking.{inner_came}
 use Rattle.frame_ranks.specs.Ranks.{AreAllAlive}
 use Rattle.frame_ranks.proofs.Facing.{Turned, load_calm, store_turned, turned_calm}
 use Rattle.frame_ranks.proofs.Going.{At, at_later, at_telling, moved_self}
-use Rattle.frame_ranks.proofs.Reading.{written}
 use Rattle.frame_ranks.proofs.Stepping.{gave_calm, partial_turned, shared_turned}
 use Rattle.frame_ranks.proofs.Turning.{out}
 use Rattle.frame_ranks.proofs.Valuing.{Goes, Moved, Works, moved_then, worth_alone, worth_past}

@@ -1,4 +1,3 @@
-pub mod Reading
 pub mod Facing
 pub mod Valuing
 pub mod Turning

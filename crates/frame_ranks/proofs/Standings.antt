@@ -1,7 +1,7 @@
 -- How a frame stands to a type, what rank its word has, and what a spelling bounds.
-use Rattle.std.proofs.Common.{◌≡◌, ℕ, ◌+◌, ◌<◌, ◌≤◌, ◌^◌, ◌==◌, ◌&&◌, not, if◌then◌else◌, Bool, true, false, IsTrue, refl, ap, ◌∙◌, arith}
+use Rattle.std.proofs.Common.{◌≡◌, ◌+◌, ◌<◌, ◌≤◌, ◌^◌, ◌==◌, ◌&&◌, not, if◌then◌else◌, Bool, true, false, IsTrue, refl, ap, ◌∙◌, arith}
 use Rattle.std.proofs.lemmas.Bool.Decides.{nat_tests}
-use Rattle.xp_words.specs.KindWords.{has_form, is_kind, kind_fields}
+use Rattle.xp_words.specs.KindWords.{has_form, is_kind}
 use Rattle.xp_words.specs.PageTypes.{type_number}
 use Rattle.xp_words.specs.declared.kind.KindWord.{KindWord}
 use Rattle.xp_words.specs.declared.kind.PageType.{PageType}
@@ -85,7 +85,3 @@ live_small k is live = grind (arith, nat_tests)
 pub partial_few : (k : KindWord) → IsTrue (is_kind k) → k.validated ≡ false → k.partial ≡ true → k.progress ≤ 512
 unfolding has_form
 partial_few k is off some = grind (arith, nat_tests)
-
-small_progress : (x : ℕ) → (kind_fields x).progress < 2 ^ 10
-unfolding kind_fields
-small_progress x = omega arith

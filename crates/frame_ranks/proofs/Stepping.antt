@@ -4,6 +4,7 @@ use Rattle.xp_words.specs.KindWords.{kind_fields, kind_write}
 use Rattle.xp_words.specs.declared.kind.KindWord.{KindWord}
 use Rattle.xp_words.specs.declared.kind.PageType.{PageType}
 use Rattle.xp_words.specs.declared.place.Place.TheVariants.{Clock, Kind}
+use Rattle.xp_words.proofs.KindLaws.{fields_back as written}
 use Rattle.xp_board.specs.declared.step.Act.TheVariants.{Add, Store}
 use Rattle.xp_board.specs.Acts.{left_by}
 use Rattle.xp_board.specs.Lists.{EachOf}
@@ -15,15 +16,16 @@ use Rattle.step_maker.proofs.Coming.{moves_came}
 use Rattle.step_maker.proofs.Telling.{came_telling}
 use Rattle.step_maker.specs.Visits.{Does, Only, Visit, visit, visits}
 use Rattle.step_maker.proofs.Piecing.{each_append}
+use Rattle.step_maker.proofs.Parts.{parts as does_parts}
 use Rattle.frame_words.specs.Freeing.{FreesBy, PutBy, lowers_refs}
 use Rattle.kind_words.specs.Kinds.{live_kind, partial_kind}
 use Rattle.frame_types.specs.Found.{SharedBy, StoresKind}
 use Rattle.partial_state.specs.Levels.{level_type}
 use Rattle.partial_state.specs.declared.stack.TableWork.{TableWork}
 use Rattle.table_entries.specs.Acquiring.{GaveBack, GaveRef, Joined, LeftPartial, MadeLive, type_counts}
-use Rattle.release_laws.proofs.Parts.{does_only, does_parts, does_with}
+use Rattle.release_laws.proofs.Parts.{does_only, does_with}
 use Rattle.frame_ranks.proofs.Facing.{Calm, Turned, at_kind, calm_then, is_quiet, load_calm, quiet_calm, same_calm, store_turned, turned_calm, turned_twice}
-use Rattle.frame_ranks.proofs.Reading.{written}
+use Rattle.acquisition_laws.proofs.Walking.{counts_low as count_small}
 
 -- ---- lists of steps that are at no kind word, old word or life word
 abbrev pub IsQuiet : Visit → Type 0
@@ -92,9 +94,6 @@ back_from v w f telling a =
     }
 
 -- ---- a table is made live, or left partial
-count_small : (b : Bool) → type_counts b < 2 ^ 36
-count_small true = omega arith
-count_small false = omega arith
 
 pub live_turned : (v w : PortValue) (t : TableWork) → is_telling v ≡ true → MadeLive v w t → Turned (told_word v) (told_word w) t.frame (live_kind (level_type t.level) (type_counts t.own))
 live_turned v w t telling a =

@@ -5,11 +5,13 @@ use Rattle.xp_words.specs.declared.kind.KindWord.{KindWord}
 use Rattle.xp_words.specs.declared.kind.PageType.{PageType}
 use Rattle.xp_words.specs.declared.place.Place.TheVariants.{Kind}
 use Rattle.xp_words.specs.declared.reply.Stop.{Stop}
+use Rattle.xp_words.proofs.KindLaws.{fields_back as written}
 use Rattle.xp_board.specs.KindSteps.{begun_kind, is_stale, raised_kind, resumed_kind}
 use Rattle.xp_board.specs.Readings.{is_work, kind_at}
 use Rattle.step_maker.specs.Plain.{Words}
 use Rattle.step_maker.specs.Twins.{Alike}
 use Rattle.kind_words.specs.Kinds.{live_kind, partial_kind}
+use Rattle.kind_words.proofs.Leaving.{number_small as small_number}
 use Rattle.frame_words.specs.Plain.{put}
 use Rattle.frame_types.specs.Plain.{IsTakenBy, less_kept, set_kind, stop_by, taken_by, type_stop, type_waits, waits_by, work_unmarked}
 use Rattle.frame_types.specs.Standing.{standing_of}
@@ -18,10 +20,8 @@ use Rattle.frame_types.specs.declared.standing.Standing.{Standing}
 use Rattle.frame_types.specs.declared.standing.Standing.TheVariants as stands
 use Rattle.frame_types.specs.declared.taking.Taken.TheVariants as types
 use Rattle.table_entries.specs.Plain.{left_partial, left_shared}
-use Rattle.course_laws.proofs.Frames.{small_number}
 use Rattle.frame_ranks.specs.Ranks.{rank_at, rank_of}
 use Rattle.frame_ranks.proofs.Facing.{Turned, alike_calm, calm_turned, less_calm, put_calm, set_turned, turned_calm}
-use Rattle.frame_ranks.proofs.Reading.{written}
 use Rattle.frame_ranks.proofs.Turning.{Lasts, dead_lasts}
 use Rattle.frame_ranks.proofs.Standings.{StandsSo, idle_dead, idle_live, idle_partial, live_small, partial_few, rank_dead, rank_live, rank_waits, rank_within, stands_so}
 

@@ -1,5 +1,5 @@
 -- What the standing of a frame says of its kind word.
-use Rattle.std.proofs.Common.{◌≡◌, ℕ, ◌<◌, ◌==◌, ◌||◌, not, Bool, true, false, Some, IsTrue, refl, sym, ap, ◌∙◌, arith}
+use Rattle.std.proofs.Common.{◌≡◌, ℕ, ◌<◌, ◌||◌, not, Bool, true, false, Some, IsTrue, refl, sym, ap, ◌∙◌, arith}
 use Rattle.std.proofs.lemmas.Bool.Decides.{nat_tests}
 use Rattle.xp_words.specs.declared.kind.KindWord.{KindWord}
 use Rattle.xp_words.specs.declared.kind.PageType.{PageType}
@@ -8,11 +8,9 @@ use Rattle.xp_words.specs.PageTypes.{type_number, type_of}
 use Rattle.xp_words.proofs.KindLaws.{type_back}
 use Rattle.xp_board.specs.Readings.{is_dead, is_live, is_partial, is_type, is_work, is_closing, is_locked}
 use Rattle.xp_board.proofs.KindForms.{live_form, dead_form}
+use Rattle.xp_board.proofs.PlaceTests.{equal_by as same_number}
 use Rattle.frame_types.specs.Standing.{is_same_type, standing_of}
 use Rattle.frame_types.specs.declared.standing.Standing.TheVariants.{Counted, Dead, Partial, Busy, Other}
-
-same_number : (a b : ℕ) → (a == b) ≡ true → a ≡ b
-same_number a b is = grind (arith, nat_tests)
 
 same_kind : (t u : PageType) → is_same_type t u ≡ true → t ≡ u
 same_kind t u is = sym (type_back t) ∙ ap type_of (same_number (type_number t) (type_number u) is) ∙ type_back u

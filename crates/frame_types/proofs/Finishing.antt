@@ -116,7 +116,7 @@ module _ (b v : PortValue) (f owner : ℕ) (want : PageType) (marked : Bool) (st
       shared_live b v f owner want marked stamp progress false e refl wanted w (subst (λ k. Holds v w (left v f k)) (is ∙ ap (live_kind want) count) holds)
 
 -- ---- in work without its mark
-changed_newest : (f : ℕ) (change : Work → Work) (e : Work) (xs ys : List Work) → e.frame ≡ f → ys ≡ e ∷ xs → changed_work f change ys ≡ change e ∷ xs
+pub changed_newest : (f : ℕ) (change : Work → Work) (e : Work) (xs ys : List Work) → e.frame ≡ f → ys ≡ e ∷ xs → changed_work f change ys ≡ change e ∷ xs
 unfolding changed_by
 changed_newest f change e xs ys frame is = ap (λ zs. changed_work f change zs) is ∙ rw (when_eq e.frame f frame) refl
 

@@ -43,7 +43,7 @@ stored_over f l j m = λ i q. over (is_same q (Kind f)) (kind_write l) (kind_wri
     over true x y z = refl
     over false x y z = refl
 
-stored_there : (f : ℕ) (l : KindWord) (m : Words) → set_kind f l m (Kind f) ≡ kind_write l
+pub stored_there : (f : ℕ) (l : KindWord) (m : Words) → set_kind f l m (Kind f) ≡ kind_write l
 unfolding left_by
 stored_there f l m = ap (λ b. if b then kind_write l else m (Kind f)) (when_eq f f refl)
 

@@ -34,10 +34,10 @@ inside f k h = grind (arith, nat_tests)
 pub outside : (f k : ℕ) → k ≤ f → nat_lt f k ≡ false
 outside f k h = grind (arith, nat_tests)
 
-full : (a b : ℕ) → a ≤ b → nat_le a b ≡ true
+pub full : (a b : ℕ) → a ≤ b → nat_le a b ≡ true
 full a b h = grind (arith, nat_tests)
 
-room : (a b : ℕ) → b < a → nat_le a b ≡ false
+pub room : (a b : ℕ) → b < a → nat_le a b ≡ false
 room a b h = grind (arith, nat_tests)
 
 wrong_owner : (limit owner f w : ℕ) (o : Option RefWord) → (IsOwnedBy owner o → ⊥) → refer_by limit owner f w o ≡ Some (WrongOwner f w)

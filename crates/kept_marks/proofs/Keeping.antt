@@ -26,7 +26,7 @@ pub is_dying : (b : Bool) (life : ℕ) → b ≡ false → b ≡ (life == 0) →
 is_dying b life off is = grind (arith, nat_tests)
 
 -- ---- whose the frame is
-foreign_on : (u v : PortValue) (owner : ℕ) → Came u v → IsForeign v owner → IsForeign u owner
+pub foreign_on : (u v : PortValue) (owner : ℕ) → Came u v → IsForeign v owner → IsForeign u owner
 foreign_on u v owner came foreign = subst (λ (p : Post). owner ≢ domain_of p.machine p.vcpu) (came_post u v came) foreign
 
 -- the domain of a vCPU stays

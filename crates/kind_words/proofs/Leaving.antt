@@ -116,7 +116,7 @@ module _ (v : PortValue) (f : ℕ) (want : PageType) (e : Work) (here : work_on 
       left_is v f e (dead_kind want unflushed stamp) Dead here (dead_is want typed unflushed stamp small) refl ∙ rw idle refl
 
 -- ---- partial
-number_small : (w : ℕ) → (kind_fields w).number < 2 ^ 36
+pub number_small : (w : ℕ) → (kind_fields w).number < 2 ^ 36
 unfolding kind_fields
 number_small w = omega arith
 

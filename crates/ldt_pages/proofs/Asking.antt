@@ -1,7 +1,6 @@
 -- What the touch of a page asks: of the frame to which the walk leads, and by the numbers that were found.
-use Rattle.std.proofs.Common.{◌≡◌, ℕ, ◌≤◌, ◌==◌, List, [], true, false, None, Some, IsTrue, rules, refl, sym, ap, subst, arith, inl, inr}
+use Rattle.std.proofs.Common.{◌≡◌, ℕ, ◌≤◌, true, false, Some, rules, refl, sym, ap, subst, inl, inr}
 use Rattle.std.proofs.Math.Nat.{le_refl}
-use Rattle.std.proofs.lemmas.Bool.Decides.{nat_tests}
 use Rattle.xp_words.specs.ContextWords.{ldt_read}
 use Rattle.xp_words.specs.Entries.{frame_of}
 use Rattle.xp_words.specs.Machine.{Machine}
@@ -13,7 +12,7 @@ use Rattle.xp_words.specs.declared.reply.Stop.{Stop}
 use Rattle.xp_words.specs.declared.reply.Stop.TheVariants.{Paused, Refused}
 use Rattle.xp_board.specs.declared.holdings.Work.{Work}
 use Rattle.xp_board.specs.Hands.{refs_to, typed_to}
-use Rattle.xp_board.specs.Lists.{first_by, times_by}
+use Rattle.xp_board.specs.Lists.{times_by}
 use Rattle.xp_board.specs.Told.{PortValue}
 use Rattle.step_maker.specs.Holds.{FlushedSame, Rests}
 use Rattle.step_maker.specs.Moves.{Moment}
@@ -22,6 +21,7 @@ use Rattle.step_maker.specs.Finding.{Finding, FoundAt}
 use Rattle.step_maker.proofs.Grown.{grown_by}
 use Rattle.step_maker.proofs.Later.{IsUncounted}
 use Rattle.step_maker.proofs.Resting.{none_on}
+use Rattle.step_maker.proofs.Piecing.{same_frame}
 use Rattle.desc_pages.specs.Pages.{IsDescAside, IsDescStop, of_desc}
 use Rattle.tlb_walks.specs.Addresses.{walk_refusal}
 use Rattle.tlb_walks.specs.Asking.{IsWalkStop}
@@ -35,8 +35,6 @@ pub walk_numbers : (page base : ℕ) (b : LdtBase) → ldt_read base ≡ Some b 
 walk_numbers page base b reads within = rw (reads, within) refl
 
 -- ---- the frame to which the walk leads
-same_frame : (g f : ℕ) → IsTrue (g == f) → g ≡ f
-same_frame g f is = grind (arith, nat_tests)
 
 no_naming : (f d : ℕ) → IsNaming (of_desc f d) → ⊥
 no_naming f d (inl a) = absurd cc

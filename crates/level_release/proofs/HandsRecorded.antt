@@ -9,7 +9,7 @@ use Rattle.xp_words.specs.declared.place.Place.TheVariants.{Kind}
 use Rattle.xp_board.specs.Hands.{changed_work, work_on}
 use Rattle.xp_board.specs.Knowledge.{knows_owner}
 use Rattle.xp_board.specs.Marks.{leaves_unsettled}
-use Rattle.xp_board.specs.Settling.{HasLastDemand, demand_out, is_settled, settles_last}
+use Rattle.xp_board.specs.Settling.{HasLastDemand, demand_out}
 use Rattle.xp_board.specs.Told.{Post, PortValue}
 use Rattle.xp_board.specs.declared.holdings.Holdings.{Holdings}
 use Rattle.xp_board.specs.declared.holdings.Reference.{Reference}
@@ -32,6 +32,7 @@ use Rattle.partial_state.specs.Stacks.{retreated}
 use Rattle.partial_state.specs.declared.stack.TableWork.{TableWork}
 use Rattle.table_words.specs.Entries.{RecordsNext, entry_recorded}
 use Rattle.table_words.proofs.EntryHands.{next_asks, record_left, unsettled_for}
+use Rattle.table_words.proofs.Shedding.{none_unsettled as settled_none}
 use Rattle.level_release.specs.Course.{one_less}
 use Rattle.level_release.specs.Holding.{AreOwned, Empties, IsReleasedWork}
 use Rattle.level_release.proofs.Hands.{TopTable, hands_by, tables_done, tables_later, tables_top, typed_later}
@@ -40,10 +41,6 @@ use Rattle.kind_words.proofs.KindHands.{changed_first}
 use Rattle.level_release.proofs.HandsKnown.{AreApart, known_still, owned_apart, still_less, still_same}
 use Rattle.level_release.proofs.HandsLeft.{LeftHand, left_held, left_kind, left_partial_known, left_typed, partial_hand}
 use Rattle.level_release.proofs.HandsTop.{top}
-
-settled_none : (z : Sizes) (k : Holdings) (e : Work) → e.unsettled ≡ None → IsTrue (is_settled z k e)
-unfolding is_settled
-settled_none z k e none = subst (λ o. IsTrue (settles_last z e k.steps o)) (sym none) refl
 
 recorded_work : ℕ → Option Unsettled → Work → Work
 recorded_work upto u e = record e { recorded = upto; unsettled = u }

@@ -51,8 +51,8 @@ use Rattle.step_maker.proofs.Piecing.{serves_back, serves_call, serves_came, ser
 use Rattle.flush_waits.specs.Waiting.{IsWait}
 use Rattle.frame_types.proofs.Serving.{type_uncounted}
 use Rattle.kept_marks.specs.Marks.{IsForeign}
+use Rattle.kept_marks.proofs.Keeping.{foreign_on as foreign_still}
 use Rattle.level_validate.specs.Serving.{IsPiece, ServesLeft, ServesMarked, ServesWaiting}
-use Rattle.level_validate.proofs.Serving.{foreign_still}
 use Rattle.frame_types.proofs.Waiting.{none_missed}
 use Rattle.xp_board.specs.declared.holdings.OwnerFound.TheVariants as owners
 use Rattle.frame_types.specs.declared.taking.Taken.TheVariants as types

@@ -1,12 +1,11 @@
 -- What the steps on tables in work are to a call that asked these tables.
-use Rattle.std.proofs.Common.{◌≡◌, ◌≢◌, ◌⊎◌, ℕ, Bool, true, false, List, [], ◌∷◌, ◌++◌, Some, None, IsTrue, refl, sym, ap, ◌∙◌, subst, append_assoc, inl, inr, if◌then◌else◌, Option, Result, Err, IfErr, append-nil, arith}
+use Rattle.std.proofs.Common.{◌≡◌, ◌⊎◌, ℕ, Bool, true, false, List, [], ◌∷◌, ◌++◌, Some, None, IsTrue, refl, sym, ap, ◌∙◌, subst, append_assoc, inl, inr, if◌then◌else◌, Option, Result, Err, IfErr, append-nil, arith}
 use Rattle.xp_words.specs.Machine.{Machine}
 use Rattle.xp_words.specs.KindWords.{is_kind, kind_fields, kind_write}
 use Rattle.xp_words.specs.declared.kind.KindWord.{KindWord}
 use Rattle.xp_words.specs.declared.place.Place.TheVariants.{Clock, Kind}
 use Rattle.xp_board.specs.declared.step.Act.TheVariants.{Load, Store}
 use Rattle.xp_board.specs.declared.step.Mark.TheVariants.{Record}
-use Rattle.xp_board.specs.Readings.{domain_of}
 use Rattle.xp_board.specs.Told.{Post, PortValue}
 use Rattle.step_maker.specs.Moves.{Came, Met, Moment, Moves}
 use Rattle.step_maker.proofs.Coming.{came_post, met_before, moves_came, met_after}
@@ -27,6 +26,7 @@ use Rattle.partial_state.specs.declared.stack.TableWork.{TableWork}
 use Rattle.partial_state.specs.Levels.{level_type}
 use Rattle.partial_state.specs.Stacks.{advanced, retreated}
 use Rattle.kept_marks.specs.Marks.{IsForeign, ServesMark}
+use Rattle.kept_marks.proofs.Keeping.{foreign_on as foreign_still}
 use Rattle.level_validate.specs.Serving.{AreAsked, CarriesOn, IsPiece, ServesLeft, ServesMarked, StopsIn}
 use Rattle.level_validate.specs.Tables.{Carries, AreTables, StandsOn, refs_for}
 use Rattle.level_validate.specs.Unwinding.{around_lent}
@@ -158,10 +158,6 @@ pub type_left : (u x w : PortValue) (r : Request) (ds : List Deed) (f owner leve
 type_left u x w r ds f owner level before asks types =
     let left = left_serves x w f owner (level_type level) types in
     serves_call u x w r ds [] before f owner (Some (level_type level)) asks (serves_came x w (of_frame f owner (Some (level_type level))) [] left) left
-
--- tables that are left behind steps that go on
-pub foreign_still : (v w : PortValue) (owner : ℕ) → Came v w → IsForeign w owner → IsForeign v owner
-foreign_still v w owner came off = subst (λ (p : Post). owner ≢ domain_of p.machine p.vcpu) (came_post v w came) off
 
 pub left_behind : (v x w : PortValue) (owner : ℕ) (kept : Bool) (f : ℕ) (ts us : List TableWork) (ds es : List Deed) → Came v x → CarriesOn v x owner ts us ds → ServesLeft x w owner kept f us es → ServesLeft v w owner kept f ts (es ++ ds)
 unfolding CarriesOn ServesLeft

@@ -1,6 +1,5 @@
 -- The outermost table stays the same while the tables in it are validated: what that says when it is full, and when all are left.
-use Rattle.std.proofs.Common.{◌≡◌, ℕ, ◌==◌, Bool, true, false, List, [], ◌∷◌, Option, Some, None, refl, sym, ap, ◌∙◌, subst, arith, inl, inr, ◌≢◌, ◌+◌, ◌-◌, ◌<◌}
-use Rattle.std.proofs.lemmas.Bool.Decides.{nat_tests}
+use Rattle.std.proofs.Common.{◌≡◌, ℕ, Bool, true, false, List, [], ◌∷◌, Option, Some, None, refl, sym, ap, ◌∙◌, subst, inl, inr, ◌≢◌, ◌+◌, ◌-◌, ◌<◌}
 use Rattle.xp_board.specs.declared.holdings.Holdings.{Holdings}
 use Rattle.xp_board.specs.Told.{PortValue, Post}
 use Rattle.step_maker.specs.Holds.{FlushedHolds, MayWork, Holds, quiet}
@@ -26,10 +25,9 @@ use Rattle.level_validate.specs.Serving.{CarriesOn, ServesLeft, ServesTo}
 use Rattle.level_validate.proofs.Leaving.{typed_gone, unwinds_then}
 use Rattle.level_validate.proofs.Serving.{goes_nothing, goes_then, left_behind, left_on}
 use Rattle.xp_board.specs.declared.holdings.OwnerFound.TheVariants as owners
+use Rattle.xp_board.proofs.PlaceTests.{equal_by as is_at}
 
 -- ---- full
-is_at : (m n : ℕ) → (m == n) ≡ true → m ≡ n
-is_at m n on = grind (arith, nat_tests)
 
 pub filled_is : (t : TableWork) (us : List TableWork) → is_filled us ≡ true → outermost_work us ≡ outermost_work (t ∷ []) → us ≡ record t { done = 512 } ∷ []
 filled_is t [] full same = absurd cc

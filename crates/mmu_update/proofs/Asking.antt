@@ -1,6 +1,5 @@
 -- What the calls on the frame of an entry ask is within what is asked of the whole, for any request that covers an exchange of that entry.
-use Rattle.std.proofs.Common.{◌≡◌, ℕ, ◌==◌, Bool, true, Option, Some, None, Result, IsTrue, arith, inl, inr, refl, rules, subst, sym}
-use Rattle.std.proofs.lemmas.Bool.Decides.{nat_tests}
+use Rattle.std.proofs.Common.{◌≡◌, ℕ, ◌==◌, Bool, true, Option, Some, None, Result, IsTrue, inl, inr, refl, rules, subst, sym}
 use Rattle.xp_words.specs.Machine.{Machine}
 use Rattle.xp_words.specs.declared.kind.PageType.{PageType}
 use Rattle.xp_words.specs.declared.reply.Stop.{Stop}
@@ -10,6 +9,7 @@ use Rattle.step_maker.specs.Asked.{IsAsked, IsFor, Request, Within, named, of, o
 use Rattle.step_maker.specs.Finding.{Finding}
 use Rattle.step_maker.specs.Rising.{Grows, IsOfSame, NeedsOwners, Rises}
 use Rattle.step_maker.proofs.Grown.{grown_by, grown_where, rises_self, risen}
+use Rattle.step_maker.proofs.Piecing.{same_frame as frame_is}
 use Rattle.entry_exchange.specs.Asking.{may_rise, of_exchange}
 use Rattle.foreign_map.specs.declared.owners.Owners.{Owners}
 use Rattle.mmu_update.specs.Course.{entry_update}
@@ -42,9 +42,6 @@ write_covers o f i word keep answer = record { names = when_eq f f refl; owner =
 
 pub at_covers : (o : Owners) (va table word : ℕ) (answer : Result (Unit {0}) Stop) → Covers (of_at o va table word answer) o table (index_of va 1) word answer
 at_covers o va table word answer = record { names = when_eq table table refl; owner = refl; pages_of = refl; entries = refl; index = refl; new_word = refl; locks = refl; rose = refl }
-
-frame_is : (g f : ℕ) → IsTrue (g == f) → g ≡ f
-frame_is g f here = grind (arith, nat_tests)
 
 module _ (n : Machine) (s : ℕ) {r : Request} {o : Owners} {f i word : ℕ} {answer : Result (Unit {0}) Stop} (covers : Covers r o f i word answer) where
   pub names_frame : (G : Finding) → IsAsked n s r G f

@@ -1,32 +1,21 @@
 -- An update by address makes few steps: four loads, what finds the table out, and an exchange at level 1.
-use Rattle.std.proofs.Common.{◌≡◌, ℕ, ◌+◌, ◌*◌, ◌-◌, ◌<◌, ◌≤◌, Bool, true, false, List, [], ◌∷◌, ◌++◌, length, Option, Result, Ok, Err, refl, ap, ◌∙◌, subst, sym, arith}
-use Rattle.std.proofs.lemmas.Bool.{and_from}
+use Rattle.std.proofs.Common.{◌≡◌, ℕ, ◌+◌, ◌*◌, ◌-◌, ◌<◌, ◌≤◌, Bool, false, List, [], ◌∷◌, ◌++◌, length, Result, Ok, Err, refl, ap, ◌∙◌, subst, sym, arith}
 use Rattle.xp_words.specs.Entries.{frame_of}
 use Rattle.xp_words.specs.Machine.{IsMachine, Machine}
-use Rattle.xp_words.specs.Places.{Sizes, is_place, sizes_of}
-use Rattle.xp_words.specs.declared.place.Place.{Place}
+use Rattle.xp_words.specs.Places.{Sizes, sizes_of}
 use Rattle.xp_words.specs.declared.reply.Pause.TheVariants as pauses
 use Rattle.xp_words.specs.declared.reply.Stop.{Stop}
 use Rattle.xp_words.specs.declared.reply.Stop.TheVariants.{Paused}
-use Rattle.xp_board.specs.declared.step.Act.{Act}
-use Rattle.xp_board.specs.declared.step.Mark.{Mark}
-use Rattle.xp_board.specs.declared.step.StepKind.{StepKind}
 use Rattle.xp_board.specs.Told.{Post, PortValue}
-use Rattle.step_maker.specs.Moves.{Moment, Moves, Ran}
-use Rattle.step_maker.proofs.Coming.{ran_post}
-use Rattle.step_maker.proofs.Noting.{moves_steps}
-use Rattle.step_maker.specs.Visits.{Does, Only, Then, Visit, visits}
+use Rattle.step_maker.specs.Moves.{Moment, Ran}
+use Rattle.step_maker.specs.Visits.{Only, Then, Visit, visits}
 use Rattle.entry_exchange.specs.Course as exchanges
-use Rattle.entry_exchange.specs.Course.{LeftLock}
-use Rattle.entry_exchange.proofs.Lengths.{Short, are_there, gets_short, puts_short}
-use Rattle.entry_exchange.proofs.Steps.{exchange_short}
+use Rattle.entry_exchange.proofs.Lengths.{Short}
+use Rattle.entry_exchange.proofs.Steps.{exchange_short, adds_more, adds_then, does_adds, gave_ref, got_ref, left_lock, moves_adds, moves_length}
 use Rattle.entry_locks.specs.Found.{LocksBy}
 use Rattle.entry_locks.specs.declared.locking.Locked.{Locked}
 use Rattle.entry_locks.specs.declared.locking.Locked.TheVariants.{Table, Other}
 use Rattle.foreign_map.specs.declared.owners.Owners.{Owners}
-use Rattle.frame_words.specs.Freeing.{PutBy}
-use Rattle.frame_words.specs.Refs.{GetsBy}
-use Rattle.table_entries.specs.Acquiring.{GaveRef, GotRef}
 use Rattle.mmu_update.specs.Addresses as ways
 use Rattle.mmu_update.specs.Addresses.{Descends, EnteredAt, Leads, UpdatedAt}
 use Rattle.mmu_update.specs.Course.{TriedLock, entry_update}
@@ -37,42 +26,11 @@ record Adds (v w : PortValue) (k : ℕ) : Type 0 where
   post : w.post ≡ v.post
   few : length w.holdings.steps ≤ length v.holdings.steps + k
 
-adds_then : {v u w : PortValue} {j k : ℕ} → Adds v u j → Adds u w k → Adds v w (j + k)
-adds_then a b = record { post = b.post ∙ a.post; few = (let before = a.few in let after = b.few in omega arith) }
-
-adds_more : {v w : PortValue} {j k : ℕ} → Adds v w j → j ≤ k → Adds v w k
-adds_more a low = record { post = a.post; few = (let few = a.few in omega arith) }
-
-moves_length : {v w : PortValue} {p : Place} {a : Act} {kind : StepKind} {mark : Option Mark} {found : ℕ} → Moves v w p a kind mark found → length w.holdings.steps ≡ length v.holdings.steps + 1
-moves_length m = ap (λ xs. length xs) (moves_steps _ _ _ _ _ _ _ m) ∙ omega arith
-
-moves_adds : {v w : PortValue} {p : Place} {a : Act} {kind : StepKind} {mark : Option Mark} {found : ℕ} → Moves v w p a kind mark found → Adds v w 1
-moves_adds m = record { post = ap (λ (x : PortValue). x.post) m.to; few = (let one = moves_length m in omega arith) }
-
 ran_length : (v w : PortValue) (ms : List Moment) → Ran v ms w → length w.holdings.steps ≡ length v.holdings.steps + length (visits ms)
 ran_length v w [] ran = ap (λ (x : PortValue). length x.holdings.steps) ran ∙ omega arith
 ran_length v w (m ∷ ms) ran = let before = ran_length v ran.0 ms ran.1 in let one = moves_length ran.2.moves in omega arith
 
--- each of them is at a word of the machine
-ran_there : (v w : PortValue) (ms : List Moment) → Ran v ms w → are_there (sizes_of v.post.machine) (visits ms) ≡ true
-ran_there v w [] ran = refl
-ran_there v w (m ∷ ms) ran =
-    and_from (is_place (sizes_of v.post.machine) m.place) (are_there (sizes_of v.post.machine) (visits ms))
-    (subst (λ (p : Post). is_place (sizes_of p.machine) m.place ≡ true) (ran_post v ran.0 ms ran.1) ran.2.moves.may.place) (ran_there v ran.0 ms ran.1)
-
-does_adds : (v w : PortValue) (P : List Visit → Type 0) (k : ℕ) → Short (sizes_of v.post.machine) P k → Does v w P → Adds v w k
-unfolding Does
-does_adds v w P k short does =
-    let less = short (visits does.0) (ran_there v w does.0 does.1) does.2 in
-    let all = ran_length v w does.0 does.1 in
-    record { post = ran_post v w does.0 does.1; few = omega arith }
-
 -- ---- single calls
-got_ref : {v w : PortValue} {f owner : ℕ} {answer : Result ℕ Stop} → GotRef v w f owner answer → Adds v w 2
-got_ref {v} {w} {f} {owner} {answer} a = does_adds v w (λ vs. GetsBy v.post.machine f owner answer vs) 2 (gets_short (sizes_of v.post.machine) v.post.machine f owner answer) a.found
-
-gave_ref : {v w : PortValue} {f : ℕ} → GaveRef v w f → Adds v w 5
-gave_ref {v} {w} {f} a = does_adds v w (PutBy f) 5 (puts_short (sizes_of v.post.machine) f) a.found
 
 one_length : (a : Visit) (vs : List Visit) → Only a vs → length vs ≤ 2
 one_length a vs only = let one : length vs ≡ 1 = ap (λ xs. length xs) only in omega (arith, one)
@@ -90,10 +48,6 @@ lock_short z n f (Err e) vs there by = absurd by
 
 tried_lock : {v w : PortValue} {f owner : ℕ} {answer : Result Locked Stop} → TriedLock v w f owner answer → Adds v w 2
 tried_lock {v} {w} {f} {owner} {answer} a = does_adds v w (λ vs. LocksBy v.post.machine f answer vs) 2 (lock_short (sizes_of v.post.machine) v.post.machine f answer) a.found
-
-left_lock : {v w : PortValue} {f level : ℕ} → LeftLock v f level w → Adds v w 6
-left_lock (exchanges.shared u _ off gave) = adds_then (moves_adds off.unlocks.step) (gave_ref gave)
-left_lock (exchanges.last u y _ found off left named) = adds_more (adds_then (moves_adds off.unlocks.step) (adds_then (moves_adds left) (moves_adds named))) (omega arith)
 
 -- ---- the way
 descends_adds : (va : ℕ) (w : PortValue) (answer : Result ℕ Stop) (v : PortValue) (level table : ℕ) → 1 < level → Descends va w answer v level table → Adds v w (level - 1)

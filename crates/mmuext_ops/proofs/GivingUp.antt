@@ -2,7 +2,7 @@
 use Rattle.std.proofs.Common.{◌≡◌, ℕ, ◌+◌, ◌<◌, ◌≤◌, Bool, true, false, List, [], ◌∷◌, length, Some, None, IsTrue, refl, sym, ap, ◌∙◌, subst, arith, inl, inr}
 use Rattle.xp_words.specs.KindWords.{is_kind, kind_fields, kind_write}
 use Rattle.xp_words.specs.Places.{sizes_of}
-use Rattle.xp_words.specs.declared.place.Place.TheVariants.{Kind, Vcpu}
+use Rattle.xp_words.specs.declared.place.Place.TheVariants.{Kind}
 use Rattle.xp_board.specs.declared.holdings.Holdings.{Holdings}
 use Rattle.xp_board.specs.declared.holdings.Liveness.TheVariants as lives
 use Rattle.xp_board.specs.declared.holdings.OwnerFound.{OwnerFound}
@@ -16,15 +16,15 @@ use Rattle.xp_board.specs.Hands.{owner_by, owner_by_typed, owner_from, ref_owner
 use Rattle.xp_board.specs.Knowledge.{knows_live}
 use Rattle.xp_board.specs.KindSteps.{MayDrop, live_typed}
 use Rattle.xp_board.specs.Readings.{domain_of, is_closing}
-use Rattle.xp_board.specs.Told.{Post, PortValue}
+use Rattle.xp_board.specs.Told.{PortValue}
 use Rattle.xp_board.proofs.ListCounts.{first_by-cons_here, newest_held}
 use Rattle.step_maker.specs.Holds.{Holds, still}
 use Rattle.step_maker.specs.Moves.{Moves}
-use Rattle.step_maker.proofs.Coming.{came_post}
-use Rattle.step_maker.specs.Answers.{Deed, Serves}
-use Rattle.step_maker.specs.Asked.{Request, of_back}
+use Rattle.step_maker.specs.Answers.{Serves}
+use Rattle.step_maker.specs.Asked.{of_back}
 use Rattle.step_maker.specs.Reasons.{keeps_type}
-use Rattle.step_maker.proofs.Piecing.{serves_came, serves_step, serves_then}
+use Rattle.step_maker.proofs.Piecing.{serves_step, serves_then}
+use Rattle.step_maker.proofs.Keeping.{kept_type as mark_keeps}
 use Rattle.frame_words.specs.Freeing.{gave}
 use Rattle.frame_words.specs.Refs.{MayPut}
 use Rattle.frame_words.proofs.Taking.{backs_itself}
@@ -40,12 +40,12 @@ use Rattle.partial_state.proofs.LevelFacts.{level_type-table, level_type-typed}
 use Rattle.table_words.specs.OldWords.{kept_in_old, old_place}
 use Rattle.table_words.specs.declared.old_words.OldWord.TheVariants.{First}
 use Rattle.level_release.proofs.ServingTables.{closing_alive}
-use Rattle.mmuext_ops.proofs.Marking.{mark_keeps}
 use Rattle.mmuext_ops.specs.Course as ends
 use Rattle.mmuext_ops.specs.Holding.{GivesTableUp, GivesUp, HoldsTable, named_old, untyped_hand}
 use Rattle.mmuext_ops.proofs.Looked.{GivenBack}
 use Rattle.xp_words.specs.declared.kind.KindWord.{KindWord}
 use Rattle.xp_words.specs.declared.kind.PageType.{PageType}
+use Rattle.kept_marks.proofs.Serving.{named_serves}
 
 -- ---- the reference
 module _ {v : PortValue} {f level : ℕ} (holds : HoldsTable v f level) where
@@ -181,11 +181,6 @@ module _ {v : PortValue} {f level : ℕ} (holds : HoldsTable v f level) where
                 ∙ ap (λ (ys : List TypedReference). still (record v { holdings = record v.holdings { typed = ys; old0 = Some (f + 1) } })) (without_newest (λ (y : TypedReference). y.frame) f new_count [] (new_count ∷ []) refl refl)
 
 -- ---- its steps
--- the first old word is stored
-pub named_serves : (v u w : PortValue) (r : Request) (ds : List Deed) (word : ℕ) → Serves v u r ds → Moves u w (old_place u.post.vcpu First) (Store word) kinds.Context None 0 → Serves v w r ds
-named_serves v u w r ds word before store =
-    let here : Moves u w (Vcpu v.post.vcpu 2) (Store word) kinds.Context None 0 = subst (λ (p : Post). Moves u w (Vcpu p.vcpu 2) (Store word) kinds.Context None 0) (came_post v u (serves_came v u r ds before)) store in
-    serves_step v u w r ds _ _ _ _ _ before here (inl (refl, inl (λ e. cc)))
 
 -- ---- its ways out
 -- it was not the last

@@ -1,8 +1,7 @@
 -- A live table whose typed reference is in hand is pinned: what the words found tell, the steps, and why it is not.
 use Rattle.std.proofs.Common.{◌≡◌, ◌≢◌, ℕ, ◌<◌, ◌≤◌, Bool, true, false, List, [], ◌∷◌, ◌++◌, Some, None, Ok, Err, is_some, IsTrue, refl, sym, ap, ◌∙◌, subst, inl, inr}
-use Rattle.std.proofs.lemmas.Bool.{or_left, or_right}
 use Rattle.xp_words.specs.KindWords.{is_kind, kind_fields, kind_read, kind_write}
-use Rattle.xp_words.specs.Places.{Sizes, number, sizes_of}
+use Rattle.xp_words.specs.Places.{number, sizes_of}
 use Rattle.xp_words.specs.declared.kind.KindWord.{KindWord}
 use Rattle.xp_words.specs.declared.place.Place.TheVariants.{Kind}
 use Rattle.xp_words.specs.declared.reply.Pause.TheVariants.{Lost}
@@ -23,7 +22,6 @@ use Rattle.xp_board.specs.Spelling.{is_kind_in}
 use Rattle.xp_board.specs.Told.{Post, PortValue}
 use Rattle.xp_board.proofs.KindForms.{fields_of}
 use Rattle.xp_board.proofs.ListCounts.{first_by-cons_here}
-use Rattle.xp_board.proofs.Owners.{typed_knows}
 use Rattle.xp_board.proofs.Sums.{when_eq}
 use Rattle.step_maker.specs.Holds.{Holds, Same, still}
 use Rattle.step_maker.specs.Moves.{Came, Met, Moves}
@@ -34,6 +32,7 @@ use Rattle.step_maker.specs.Finding.{Finding, FoundWith}
 use Rattle.step_maker.specs.Reasons.{keeps_type}
 use Rattle.step_maker.proofs.Piecing.{moves_serves, serves_back, serves_came}
 use Rattle.step_maker.proofs.Resting.{bare, empty_as}
+use Rattle.step_maker.proofs.Keeping.{kept_type as mark_keeps}
 use Rattle.kind_words.proofs.KindFacts.{live_undead}
 use Rattle.kind_words.specs.Kinds.{looked_at}
 use Rattle.kind_words.proofs.KindFacts.{found_live, kind_found, kind_is_some, known_live, read_is}
@@ -44,12 +43,13 @@ use Rattle.table_words.specs.Pins.{gave_pin, pinned_kind}
 use Rattle.table_words.proofs.PinWords.{pinned_is}
 use Rattle.table_releases.proofs.HandLive.{looks_none}
 use Rattle.mmuext_ops.specs.Elements.{of_pin, raced_pin, told}
-use Rattle.mmuext_ops.specs.Course.{GivenUp, PinEnds, SetsPin}
+use Rattle.mmuext_ops.specs.Course.{SetsPin}
 use Rattle.mmuext_ops.specs.Course as ends
 use Rattle.mmuext_ops.specs.Holding.{GivesTableUp, GivesUp, HoldsTable, PinsLive, named_old, untyped_hand}
 use Rattle.level_validate.specs.Unwinding.{own_domain}
 use Rattle.mmuext_ops.proofs.GivingUp.{held, live, may_drop, none_left}
-use Rattle.mmuext_ops.proofs.Marking.{lost_deeds, lost_misses, lost_stops, mark_keeps, pins_deed, tried}
+use Rattle.mmuext_ops.proofs.Marking.{lost_deeds, lost_misses, lost_stops, pins_deed, tried}
+use Rattle.table_entries.proofs.HandOwners.{known_by_typed}
 
 -- ---- the hand
 -- a port that holds the same holds the table too
@@ -63,10 +63,6 @@ holds_still v w f level same holds =
 -- where the vCPU looks at no frame, an exchange ends no looking
 pub looks_same : (f w : ℕ) (h : Holdings) → h.looking ≡ [] → looked_at f w h ≡ h
 looks_same f w h none = ap (λ (xs : List Looking). record h { looking = xs }) (looks_none f w h.looking none)
-
-known_by_typed : (z : Sizes) (f o : ℕ) (h : Holdings) (e : TypedReference) → typed_on f h.typed ≡ Some e → e.owner ≡ owners.Of o → IsTrue (knows_owner z f o h)
-unfolding knows_owner
-known_by_typed z f o h e at whose = or_right _ _ (or_left _ _ (typed_knows z f o h (Some e) at whose))
 
 pub owner_known : (v : PortValue) (f level : ℕ) → HoldsTable v f level → IsTrue (knows_owner (sizes_of v.post.machine) f (own_domain v) v.holdings)
 owner_known v f level holds =

@@ -20,6 +20,7 @@ use Rattle.step_maker.specs.Asked.{Asked, IsAsked, Request, checked, named, of, 
 use Rattle.step_maker.specs.Finding.{Finding, FoundWith}
 use Rattle.step_maker.specs.Reasons.{keeps_type}
 use Rattle.step_maker.proofs.Piecing.{serves_back, serves_came}
+use Rattle.step_maker.proofs.Keeping.{kept_type as mark_keeps}
 use Rattle.kind_words.proofs.KindFacts.{kind_is_some, live_undead}
 use Rattle.kind_words.proofs.KindWriting.{fields_write}
 use Rattle.table_words.specs.Pins.{unpinned_kind}
@@ -29,7 +30,7 @@ use Rattle.mmuext_ops.specs.Elements.{ServesElement, raced_unpin, told}
 use Rattle.mmuext_ops.specs.declared.element.Element.TheVariants.{Unpin}
 use Rattle.mmuext_ops.proofs.Looked.{Looked, came_a, fields, found_with, inside_b, look_there, looked, owner_known, owner_still, spelled, written}
 use Rattle.mmuext_ops.proofs.Within.{of_unpin}
-use Rattle.mmuext_ops.proofs.Marking.{lost_deeds, lost_misses, lost_stops, mark_keeps, tried, unpins_deed}
+use Rattle.mmuext_ops.proofs.Marking.{lost_deeds, lost_misses, lost_stops, tried, unpins_deed}
 
 -- ---- the request
 module _ (v : PortValue) (f d : ℕ) where

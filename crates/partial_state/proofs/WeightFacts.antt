@@ -35,7 +35,7 @@ one_less d w b =
     let r : (k + 1) * w ≡ k * w + w = omega arith in
     ap (λ n. n * w) s ∙ r
 
-most : (d w : ℕ) → (512 - d) * w ≤ 512 * w
+pub most : (d w : ℕ) → (512 - d) * w ≤ 512 * w
 most d w = let h : 512 - d ≤ 512 = omega arith in mul-le-mul_right w h
 
 -- an entry is done with that opens no table

@@ -1,5 +1,5 @@
 -- A frame that is had as a table is not pinned, unless it was pinned with that type before.
-use Rattle.std.proofs.Common.{◌≡◌, ◌⊎◌, ℕ, ◌+◌, ◌<◌, ◌≤◌, ◌^◌, ◌||◌, ◌==◌, if◌then◌else◌, Bool, true, false, List, [], ◌∷◌, None, Result, Ok, IfOk, IsTrue, refl, sym, ap, ◌∙◌, subst, inl, inr, arith}
+use Rattle.std.proofs.Common.{◌≡◌, ◌⊎◌, ℕ, ◌+◌, ◌<◌, ◌≤◌, ◌^◌, ◌||◌, ◌==◌, Bool, true, false, List, [], ◌∷◌, None, Result, Ok, IfOk, IsTrue, refl, sym, ap, ◌∙◌, subst, inl, inr, arith}
 use Rattle.std.proofs.lemmas.Bool.Decides.{nat_tests}
 use Rattle.xp_words.specs.KindWords.{is_kind, kind_fields, kind_write}
 use Rattle.xp_words.specs.Machine.{IsMachine}
@@ -13,7 +13,6 @@ use Rattle.xp_board.specs.KindSteps.{raised_kind}
 use Rattle.xp_board.specs.Readings.{kind_at}
 use Rattle.xp_board.specs.Told.{PortValue, is_telling, told_word}
 use Rattle.xp_board.proofs.EntryWords.{type_same}
-use Rattle.xp_board.proofs.PlaceTests.{is_same-refl}
 use Rattle.step_maker.specs.Plain.{Words}
 use Rattle.step_maker.proofs.Coming.{came_trans}
 use Rattle.step_maker.proofs.Telling.{came_telling, told_here}
@@ -27,6 +26,7 @@ use Rattle.frame_types.specs.Standing.{standing_of}
 use Rattle.frame_types.specs.declared.standing.Standing.{Standing}
 use Rattle.frame_types.specs.declared.standing.Standing.TheVariants as stands
 use Rattle.frame_types.specs.declared.taking.Taken.TheVariants as types
+use Rattle.frame_types.proofs.Plainly.{stored_there as set_here}
 use Rattle.partial_state.specs.Levels.{level_type}
 use Rattle.partial_state.specs.declared.stack.TableWork.{TableWork}
 use Rattle.partial_state.proofs.LevelFacts.{level_type-table, level_type-typed}
@@ -59,9 +59,6 @@ made_unpinned y w t f telling made same =
     (ap is_pinned (told_here y w (Kind t.frame) _ _ _ made.0 made.1 telling) ∙ live_unpinned t.level t.own)
 
 -- ---- one type count more
-set_here : (f : ℕ) (k : KindWord) (m : Words) → set_kind f k m (Kind f) ≡ kind_write k
-unfolding left_by
-set_here f k m = ap (λ b. if b then kind_write k else m (Kind f)) (is_same-refl (Kind f))
 
 alike_pinned : (x y : ℕ) → (x ≡ y) ⊎ IsAlikeKind (kind_fields x) (kind_fields y) → is_pinned x ≡ is_pinned y
 alike_pinned x y (inl same) = ap is_pinned same

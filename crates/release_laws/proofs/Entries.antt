@@ -22,6 +22,7 @@ use Rattle.step_maker.specs.Moves.{Moves}
 use Rattle.step_maker.proofs.Telling.{load_tells, moves_telling, told_there}
 use Rattle.step_maker.specs.Visits.{Visit, Does, Only, Then}
 use Rattle.step_maker.proofs.Visiting.{does_as}
+use Rattle.step_maker.proofs.Parts.{parts as does_parts}
 use Rattle.frame_words.specs.Freeing.{PutBy}
 use Rattle.frame_words.specs.Plain.{put}
 use Rattle.frame_types.specs.Found.{DropsBy, StoresKind, saw_kind, swaps_kind}
@@ -39,11 +40,12 @@ use Rattle.table_releases.specs.declared.entries.Released.TheVariants.{Given, Op
 use Rattle.table_law.specs.Plain.{Describes, Plain, with_kind}
 use Rattle.table_law.specs.Release.{drop_demand, emptying, entries_held, is_counted_on, let_go}
 use Rattle.release_laws.proofs.Dropping.{again_given, again_held, again_in_work, again_last, live_all, live_closing, live_last, more_given, plain_given}
-use Rattle.release_laws.proofs.Parts.{does_only, does_parts, does_with}
+use Rattle.release_laws.proofs.Parts.{does_only, does_with}
 use Rattle.kind_words.proofs.KindFacts.{kind_found}
 use Rattle.xp_board.specs.declared.step.StepKind.{StepKind}
 use Rattle.table_twins.proofs.Entering.{described_leaves}
 use Rattle.xp_board.proofs.KindForms.{frame_inside}
+use Rattle.xp_board.proofs.FormsLeft.{is_live_left as live_form, form_partial as partial_form}
 use Rattle.release_laws.proofs.Seen.{IsCounted, IsLowered, drops_seen, kinded_counted, looked_counted, looked_lowered, lowers_seen, put_seen, stores_counted}
 use Rattle.release_laws.proofs.Words.{put_words}
 
@@ -77,12 +79,6 @@ form_by true b c f is = (λ e. refl, λ e. absurd (let k = is ∙ e in cc))
 form_by false true c f is = (λ e. absurd (let k = is ∙ e in cc), λ e. refl)
 form_by false false true f is = (λ e. absurd (let k = is ∙ e in cc), λ e. absurd (let k = is ∙ e in cc))
 form_by false false false f is = (λ e. absurd (let k = is ∙ e in cc), λ e. absurd (let k = is ∙ e in cc))
-
-live_form : (k : KindWord) → form_of k ≡ Live → k.validated ≡ true
-live_form k is = (form_by k.validated k.partial k.locked Live is).0 refl
-
-partial_form : (k : KindWord) → form_of k ≡ Partial → IsTrue (is_partial k)
-partial_form k is = (form_by k.validated k.partial k.locked Partial is).1 refl
 
 few_recorded : (k : KindWord) → IsTrue (is_kind k) → IsTrue (is_partial k) → k.progress ≤ 512
 unfolding has_form

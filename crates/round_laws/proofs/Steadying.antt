@@ -1,9 +1,8 @@
 -- A stage that is steady is so behind a turn, and less is to be done then.
-use Rattle.std.proofs.Common.{◌≡◌, ◌≢◌, ℕ, ◌<◌, ◌≤◌, ◌⊎◌, inl, inr, Bool, true, false, List, length, Option, Some, None, refl, sym, ap, ◌∙◌, subst, slice_set, slice_index_or, length-set, get_or-set_same, arith}
+use Rattle.std.proofs.Common.{◌≡◌, ℕ, ◌<◌, ◌≤◌, ◌⊎◌, inl, inr, Bool, true, false, length, Option, Some, None, refl, sym, ap, ◌∙◌, subst, length-set, arith}
 use Rattle.std.specs.Prelude.{slice_get}
 use Rattle.std.proofs.lemmas.Bool.{cases_eq}
-use Rattle.std.proofs.lemmas.List.{get_or-set_other}
-use Rattle.std.proofs.lemmas.Option.{get_or_from_slice_get, same_Some, slice_get-get_or, slice_get_within}
+use Rattle.std.proofs.lemmas.Option.{get_or_from_slice_get, same_Some, slice_get_within}
 use Rattle.xp_words.specs.Machine.{Machine}
 use Rattle.xp_words.specs.Places.{sizes_of}
 use Rattle.xp_words.specs.declared.ops.Op.{Op}
@@ -23,6 +22,7 @@ use Rattle.turn_measures.proofs.Ahead.{turn_script}
 use Rattle.frame_ranks.specs.Ranks.{AreAllAlive, rank_at}
 use Rattle.turn_measures.specs.Measures.{DestroysNothing, KeepsLeft}
 use Rattle.xp_machine.specs.Turns.{ByCpu, IsStagedTurn, MakesStagedTurn, Stage, UnlessRetired}
+use Rattle.xp_machine.proofs.Moving.{set_at}
 use Rattle.round_laws.specs.Rounds.{AwaitsFlush}
 use Rattle.round_laws.specs.Stages.{AreSparing, IsSparing, IsSteady, IsSteadyCpu, to_go, words_of}
 use Rattle.round_laws.proofs.Cited.{TurnLaws}
@@ -59,14 +59,6 @@ pub by_cpu : (DoesNext : Processing → Stage → Stage → Type 0) (v : ℕ) (s
 by_cpu DoesNext v s s' does = by_option DoesNext v s s' (slice_get s.cpus v) refl does
 
 -- ---- the list of vCPUs
-pub set_at : (cpus : List Processing) (v t : ℕ) (d x : Processing) → v < length cpus → slice_get (slice_set cpus v d) t ≡ Some x → ((t ≡ v) × (x ≡ d)) ⊎ ((t ≢ v) × (slice_get cpus t ≡ Some x))
-set_at cpus v t d x within at =
-    let there : t < length cpus = subst (λ k. t < k) (length-set cpus v d) (slice_get_within (slice_set cpus v d) t x at) in
-    let is = get_or_from_slice_get (slice_set cpus v d) t x x at in
-    elim (cases_eq t v) [
-      | inl same ↦ inl (same, sym is ∙ ap (λ k. slice_index_or (slice_set cpus v d) k x) same ∙ get_or-set_same cpus v d x within)
-      | inr off ↦ inr (off, slice_get-get_or cpus t x there ∙ ap (λ y. Some y) (sym (get_or-set_other cpus v t d x off) ∙ is))
-    ]
 
 -- ---- no operation of a script destroys a domain
 next_sparing : (c : Processing) → AreSparing c.script → DestroysNothing (next_of c)

@@ -126,7 +126,7 @@ serves_two v u x w r ds p q a b j k y z before one two why and =
     )
 
 -- ---- a call on one frame, within another
-same_frame : (g f : ℕ) → IsTrue (g == f) → g ≡ f
+pub same_frame : (g f : ℕ) → IsTrue (g == f) → g ≡ f
 same_frame g f e = grind (arith, nat_tests)
 
 for_less : (a b c : Option PageType) → IsFor a b → IsFor b c → IsFor a c

@@ -98,7 +98,7 @@ pub leaves_then : (u w : PortValue) (a : Act) (p : Place) (m : Words) → Leaves
 leaves_then u w a p m before after q = after q ∙ changed a p (told_word u) m before q
 
 -- a load leaves all as it is
-load_leaves : (p : Place) (m : Words) (q : Place) → change Load p m q ≡ m q
+pub load_leaves : (p : Place) (m : Words) (q : Place) → change Load p m q ≡ m q
 unfolding left_by
 load_leaves p m q = sym (by_test (is_same q p) (m p) (m q) (m q) (λ on. ap m (same_place q p on)) (λ off. refl))
 

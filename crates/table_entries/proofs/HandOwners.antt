@@ -16,7 +16,7 @@ known_by_ref : (z : Sizes) (f o : ℕ) (k : Holdings) (e : Reference) → ref_to
 unfolding knows_owner
 known_by_ref z f o k e at of = or_left _ _ (ref_knows z f o k (Some e) at of)
 
-known_by_typed : (z : Sizes) (f o : ℕ) (k : Holdings) (e : TypedReference) → typed_on f k.typed ≡ Some e → e.owner ≡ owners.Of o → IsTrue (knows_owner z f o k)
+pub known_by_typed : (z : Sizes) (f o : ℕ) (k : Holdings) (e : TypedReference) → typed_on f k.typed ≡ Some e → e.owner ≡ owners.Of o → IsTrue (knows_owner z f o k)
 unfolding knows_owner
 known_by_typed z f o k e at of = or_right _ _ (or_left _ _ (typed_knows z f o k (Some e) at of))
 

@@ -1,5 +1,5 @@
 -- Releases on a board that tells all words: what is left by each of their ways.
-use Rattle.std.proofs.Common.{◌≡◌, ◌⊎◌, ℕ, ◌==◌, if◌then◌else◌, Bool, true, false, Option, None, Result, Ok, Err, refl, sym, ap, ◌∙◌, subst, inl, inr, ◌≢◌, ◌<◌, ◌^◌, ◌%◌, Some, arith}
+use Rattle.std.proofs.Common.{◌≡◌, ◌⊎◌, ℕ, ◌==◌, if◌then◌else◌, Bool, true, false, Option, None, Result, Ok, Err, refl, sym, ap, ◌∙◌, subst, inl, inr, ◌≢◌, ◌<◌, ◌^◌, ◌%◌, Some}
 use Rattle.xp_words.specs.Entries.{demand_at}
 use Rattle.xp_words.specs.KindWords.{kind_fields, kind_read, kind_write}
 use Rattle.xp_words.specs.PageTypes.{is_table}
@@ -20,6 +20,7 @@ use Rattle.step_maker.specs.Moves.{Moves}
 use Rattle.step_maker.specs.Plain.{Leaves, Words, change}
 use Rattle.step_maker.proofs.Telling.{load_tells, moves_telling, told_there, leaves}
 use Rattle.frame_words.specs.Plain.{put, stamp_now}
+use Rattle.frame_words.proofs.Twinning.{low_rest}
 use Rattle.frame_types.specs.Lowering.{DropsType}
 use Rattle.frame_types.specs.Plain.{dropped_plain, set_kind}
 use Rattle.table_releases.specs.Between.{SeesKind, SeesLast, Resumed}
@@ -126,8 +127,6 @@ module _ {b v : PortValue} {f i : ℕ} {t : PageType} {word g : ℕ} {want : Pag
           rw (number_is telling ∙ is) (refl, given))
 
 -- ---- A partial frame on a board that tells all words: its exchange is never lost, and what is left then.
-low_rest : (n : ℕ) → n < 2 ^ 36 → n % 2 ^ 36 ≡ n
-low_rest n low = omega (arith, low)
 
 left_same : (e n x : ℕ) → x ≡ e → left_by (Cas e n) x ≡ n
 unfolding left_by

@@ -13,6 +13,7 @@ use Rattle.xp_words.specs.declared.reply.Refusal.TheVariants as refusals
 use Rattle.xp_words.specs.declared.reply.Stop.{Stop}
 use Rattle.xp_words.specs.declared.reply.Stop.TheVariants.{Refused, Paused}
 use Rattle.xp_board.specs.Told.{PortValue, is_telling, told_word}
+use Rattle.xp_board.proofs.StepLists.{from_lt as is_inside}
 use Rattle.step_maker.specs.Plain.{Leaves, Words}
 use Rattle.step_maker.proofs.Alikes.{same_alike}
 use Rattle.frame_words.specs.Plain.{got, put, refer}
@@ -29,7 +30,7 @@ use Rattle.table_law.proofs.Counting.{asks_at}
 use Rattle.table_twins.specs.Answers.{IsSameAnswer}
 use Rattle.table_twins.specs.Entries.{EntersAsPlain}
 use Rattle.table_twins.proofs.Kinding.{described_alike}
-use Rattle.table_twins.proofs.Referring.{is_inside, same_answer, same_taken}
+use Rattle.table_twins.proofs.Referring.{same_answer, same_taken}
 use Rattle.table_twins.proofs.Sharing.{same_back}
 use Rattle.table_twins.proofs.Typing.{refused_plain, taken_plain}
 use Rattle.table_twins.proofs.Waiting.{busy_says, given_back, only_busy, partial_again, shared_again}

@@ -11,6 +11,7 @@ use Rattle.xp_words.proofs.RefLaws.{ref_read-write, ref_write-read}
 use Rattle.xp_board.proofs.RefWords.{read_small}
 use Rattle.xp_board.specs.Acts.{left_by}
 use Rattle.xp_board.specs.declared.step.Act.TheVariants.{Store}
+use Rattle.xp_board.proofs.StepLists.{from_lt as is_inside}
 use Rattle.step_maker.specs.Plain.{Words, change}
 use Rattle.frame_words.specs.Plain.{got, one_more, refer, refer_by}
 use Rattle.table_law.specs.Alone.{CountFull, NoFrame, WrongOwner, fine, refused, take_reference, take_reference_of}
@@ -32,9 +33,6 @@ module _ (n : Machine) (owner g w : ℕ) (p : Plain) where
   word_by (Some (Free stamp)) e = (refl, ap share_in e)
   word_by (Some (Dying o)) e = (refl, ap share_in e)
   word_by None e = (refl, ap share_in e)
-
-pub is_inside : (g n : ℕ) → nat_lt g n ≡ true → g < n
-is_inside g n is = grind (arith, nat_tests)
 
 module _ (n : Machine) (m : Words) (p : Plain) (owner g : ℕ) (d : Describes n m p) where
   by_frame : (b : Bool) → (b ≡ true → g < n.frames) →

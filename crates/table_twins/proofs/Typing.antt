@@ -1,7 +1,7 @@
 -- Types on words and on the plain value that describes them.
 use Rattle.std.proofs.Common.{◌≡◌, ℕ, zero, suc, ◌+◌, ◌<◌, ◌^◌, ◌==◌, ◌&&◌, ◌||◌, not, nat_lt, if◌then◌else◌, Bool, true, false, Some, None, IsTrue, refl, sym, ap, ◌∙◌, subst, arith}
 use Rattle.std.proofs.lemmas.Bool.Decides.{nat_tests}
-use Rattle.xp_words.specs.KindWords.{has_form, is_kind, kind_fields, kind_write}
+use Rattle.xp_words.specs.KindWords.{is_kind, kind_fields, kind_write}
 use Rattle.xp_words.specs.Machine.{IsMachine, Machine}
 use Rattle.xp_words.specs.PageTypes.{is_none, type_number}
 use Rattle.xp_words.specs.declared.kind.KindWord.{KindWord}
@@ -24,6 +24,7 @@ use Rattle.frame_types.specs.declared.standing.Standing.{Standing}
 use Rattle.frame_types.specs.declared.standing.Standing.TheVariants as stands
 use Rattle.frame_types.specs.declared.taking.Taken.{Taken}
 use Rattle.frame_types.specs.declared.taking.Taken.TheVariants.{Counted, InWork, Waiting}
+use Rattle.frame_types.proofs.Entering.{work_spelled as work_is}
 use Rattle.partial_state.specs.Levels.{level_type}
 use Rattle.partial_state.proofs.LevelFacts.{level_type-typed}
 use Rattle.table_law.specs.Alone.{OtherType, PlainOutcome, fine, is_counted, meet_last, refused, take_at, take_kind}
@@ -126,9 +127,6 @@ at_level n owner g zero q P holds = holds fine
 at_level n owner g (suc l) q P holds = holds (meet_last n owner (take_at l n owner) (let_go l) (level_type (suc l)) g 512)
 
 -- ---- the words
-pub work_is : (t : PageType) → IsTrue (not (is_none t)) → IsTrue (is_kind (work_kind t false 0))
-unfolding has_form
-work_is t typed = grind (arith, nat_tests)
 
 begun_unmarked : (k : KindWord) (t : PageType) → work_unmarked (begun_kind k t) ≡ work_kind t false 0
 begun_unmarked k t = by (is_stale k t)

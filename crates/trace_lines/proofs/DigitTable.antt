@@ -13,7 +13,7 @@ unfoldable pub right_below : List ℕ → ℕ → Bool
 right_below table zero = true
 right_below table (suc n) = right table n && right_below table n
 
-both_of : (x rest : Bool) → (x && rest) ≡ true → (x ≡ true) × (rest ≡ true)
+pub both_of : (x rest : Bool) → (x && rest) ≡ true → (x ≡ true) × (rest ≡ true)
 both_of true rest h = (refl, h)
 both_of false rest h = absurd cc
 

@@ -16,9 +16,10 @@ use Rattle.trace_lines.specs.Grammar.{hypercall_of, call_of, multi_of, next_base
 use Rattle.trace_lines.specs.Grammar.{header_line_of, frames_line_of, limit_line_of, clock_line_of, domain_line_of, priv_line_of, vcpu_line_of, own_line_of, cell_line_of, op_line_of, turn_line_of, end_line_of, opening_by, line_by, line_of}
 use Rattle.trace_lines.specs.Spelling.{words_text, base_word, call_words, op_words, line_words, line_text, IsSpellableCall, IsSpellableOp, IsSpellable}
 use Rattle.trace_lines.proofs.Decimals.{is_word, decimal_is_word}
-use Rattle.trace_lines.proofs.WordsAgain.{both, words_again, no_feed}
+use Rattle.trace_lines.proofs.WordsAgain.{words_again, no_feed}
 use Rattle.trace_lines.proofs.CallsAgain.{number_first, numbers_again, call_again}
 use Rattle.trace_lines.proofs.MultiAgain.{words_of_call, words_of_numbers, words_of_calls, calls_again}
+use Rattle.trace_lines.proofs.DigitTable.{both_of as both}
 
 -- ---- operations
 

@@ -15,8 +15,8 @@ use Rattle.trace_lines.specs.Words.{is_separator, each}
 use Rattle.trace_lines.specs.Grammar.{call_of, calls_of}
 use Rattle.trace_lines.specs.Spelling.{number_words, pair_words, triple_words, call_words, calls_words, IsSpellablePair, IsSpellableExt, IsSpellableCall, AreWords}
 use Rattle.trace_lines.proofs.Decimals.{is_word, decimal_is_word, decimal_no_separator}
-use Rattle.trace_lines.proofs.WordsAgain.{both}
 use Rattle.trace_lines.proofs.CallsAgain.{call_again}
+use Rattle.trace_lines.proofs.DigitTable.{both_of as both}
 
 -- a word of a call: it separates no calls
 abbrev pub is_call_word : List ℕ → Bool

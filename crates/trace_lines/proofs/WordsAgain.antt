@@ -1,6 +1,5 @@
 -- The words of a text of words are those words.
-use Rattle.std.proofs.Common.{◌≡◌, ◌≢◌, ℕ, List, [], ◌∷◌, ◌++◌, Bool, true, false, ltb, leb, refl, ap, ◌∙◌, arith, append-nil}
-use Rattle.std.specs.Prelude.{◌&&◌}
+use Rattle.std.proofs.Common.{◌≡◌, ◌≢◌, ℕ, List, [], ◌∷◌, ◌++◌, Bool, true, ltb, leb, refl, ap, ◌∙◌, arith, append-nil}
 use Rattle.std.specs.List.{list_all, All}
 use Rattle.std.proofs.lemmas.Bool.{ltb-true, leb-true, le-leb, ne_eqb}
 use Rattle.std.proofs.lemmas.List.Folds.{list_all-append}
@@ -9,10 +8,7 @@ use Rattle.trace_lines.specs.Words.{words_of}
 use Rattle.trace_lines.specs.Spelling.{spaced}
 use Rattle.trace_lines.proofs.Decimals.{is_word}
 use Rattle.trace_lines.proofs.Separators.{words_before}
-
-pub both : (a b : Bool) → (a && b) ≡ true → (a ≡ true) × (b ≡ true)
-both true b e = (refl, e)
-both false b e = absurd cc
+use Rattle.trace_lines.proofs.DigitTable.{both_of as both}
 
 alone : (w : List ℕ) → is_word w ≡ true → words_of w ≡ w ∷ []
 alone [] h = refl

@@ -21,13 +21,13 @@ use Rattle.xp_board.proofs.PlaceTests.{is_same-other}
 use Rattle.step_maker.specs.Moves.{Came, Moves}
 use Rattle.step_maker.specs.Plain.{Leaves, Words, change}
 use Rattle.step_maker.proofs.Coming.{came_trans, moves_came}
-use Rattle.step_maker.proofs.Telling.{leaves}
+use Rattle.step_maker.proofs.Telling.{leaves, load_leaves}
 use Rattle.step_maker.specs.Reasons.{Whose}
 use Rattle.step_maker.specs.Visits.{Does, Visit, visits}
 use Rattle.step_maker.proofs.Visiting.{does_came}
 use Rattle.frame_words.specs.Plain.{got, lowered, put, set_free, stamp_now}
 use Rattle.flush_waits.specs.Listing.{WaitedFor}
-use Rattle.frame_claims.proofs.Telling.{Alls, load_leaves, told_ran, words_after}
+use Rattle.frame_claims.proofs.Telling.{Alls, told_ran, words_after}
 use Rattle.frame_claims.proofs.Waiting.{IsAside, waited_all}
 use Rattle.table_entries.specs.Acquiring.{GaveRef, GotRef}
 use Rattle.course_laws.proofs.Stopping.{ref_came}

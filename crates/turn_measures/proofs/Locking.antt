@@ -15,13 +15,14 @@ use Rattle.xp_words.specs.declared.reply.Pause.{Pause}
 use Rattle.xp_words.specs.declared.reply.Refusal.TheVariants as refusals
 use Rattle.xp_board.specs.KindSteps.{locked_kind}
 use Rattle.xp_board.specs.Readings.{count_in, kind_at, ref_count}
+use Rattle.xp_board.proofs.StepLists.{from_lt as is_inside}
 use Rattle.step_maker.specs.Plain.{Words}
 use Rattle.frame_words.specs.Plain.{refer, refer_by}
 use Rattle.entry_locks.specs.Locks.{is_lockable}
 use Rattle.entry_locks.specs.Plain.{with_lock}
 use Rattle.entry_locks.proofs.LockWriting.{locked_is}
 use Rattle.kind_words.proofs.KindWriting.{fields_write}
-use Rattle.table_twins.proofs.Referring.{is_inside, not_full}
+use Rattle.table_twins.proofs.Referring.{not_full}
 use Rattle.table_words.specs.OldWords.{old_place}
 use Rattle.course_laws.specs.Courses.{IsOrderly}
 use Rattle.frame_ranks.specs.Ranks.{AreAllAlive, GetsFurther, GoesForward, rank_at, rank_of}

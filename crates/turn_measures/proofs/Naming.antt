@@ -12,12 +12,13 @@ use Rattle.step_maker.specs.Moves.{Came}
 use Rattle.step_maker.proofs.Coming.{came_trans, came_post, moves_came}
 use Rattle.step_maker.proofs.Telling.{came_telling, told_elsewhere, told_here}
 use Rattle.level_release.specs.Course as course
-use Rattle.level_release.specs.Course.{Emptied, LeftInside, Rerecorded, ReleasedWithin, SettledPartial, StoredPartial, UnwoundDown, left_emptied, left_partial, left_released, one_less}
+use Rattle.level_release.specs.Course.{Emptied, LeftInside, ReleasedWithin, SettledPartial, StoredPartial, UnwoundDown, left_emptied, left_partial, left_released, one_less}
 use Rattle.partial_state.specs.Weights.{weight}
 use Rattle.partial_state.specs.declared.stack.TableWork.{TableWork}
 use Rattle.table_entries.specs.Acquiring.{GaveRef, GaveType, Named}
 use Rattle.frame_types.specs.Lowering.{DropsType}
 use Rattle.vcpu_turn.proofs.Clearing.{drops, ends_dead, puts}
+use Rattle.vcpu_turn.proofs.Silent.{number_apart as other_word}
 use Rattle.turn_measures.specs.Measures.{left_rank, most_left}
 use Rattle.turn_measures.proofs.Keeping.{Away, EndsWell, away_trans, away_moves, away_does, ran_away}
 use Rattle.turn_measures.proofs.Weighing.{AreSome, one_most, ran_due}
@@ -39,9 +40,6 @@ renames_behind v u w a r =
       names = subst (λ s. told_word w (Vcpu s 2) ≢ 0) s r.names;
       others = λ k off. subst (λ s. told_word w (Vcpu s k) ≡ told_word u (Vcpu s k)) s (r.others k off) ∙ a.same v.post.vcpu k;
     }
-
-pub other_word : (s k j : ℕ) → k ≢ j → Vcpu s k ≢ Vcpu s j
-other_word s k j off is = off (let e : k ≡ j = cc in e)
 
 named_names : (v w : PortValue) (f : ℕ) → is_telling v ≡ true → Named v w f → Renames v w
 unfolding left_by

@@ -14,12 +14,13 @@ use Rattle.step_maker.specs.Moves.{Came, Moves}
 use Rattle.step_maker.proofs.Coming.{came_trans, moves_came}
 use Rattle.step_maker.proofs.Telling.{came_telling, load_tells, told_elsewhere, told_here, told_there}
 use Rattle.level_release.specs.Course as course
-use Rattle.level_release.specs.Course.{Settled, SettledOne, left_one, left_settled}
+use Rattle.level_release.specs.Course.{SettledOne, left_one}
 use Rattle.table_releases.specs.Found.{has_recorded}
 use Rattle.table_words.specs.OldWords.{old_number, old_place}
 use Rattle.table_words.specs.declared.old_words.OldWord.{OldWord}
 use Rattle.turn_measures.proofs.Keeping.{Away, away_moves, away_trans}
-use Rattle.turn_measures.proofs.Naming.{Cut, LeavesFew, other_word, post_vcpu, partial_away, partial_cut, released_away, released_cut}
+use Rattle.turn_measures.proofs.Naming.{Cut, LeavesFew, post_vcpu, partial_away, partial_cut, released_away, released_cut}
+use Rattle.vcpu_turn.proofs.Silent.{number_apart as other_word}
 
 -- ---- a frame is taken out of the word
 -- that word named a frame and is empty then, and the other own words are as they were

@@ -17,10 +17,11 @@ use Rattle.xp_board.specs.KindSteps.{Form, Live, Partial, InWork, Dead, form_of}
 use Rattle.xp_board.specs.Told.{PortValue}
 use Rattle.step_maker.specs.Visits.{Visit, Does}
 use Rattle.level_release.specs.Course as course
-use Rattle.level_release.specs.Course.{GaveEntry, Lowered, RanDown, is_asked_down, is_asked_within, is_less, table_under, one_more_done}
+use Rattle.level_release.specs.Course.{GaveEntry, Lowered, RanDown, is_asked_down, is_asked_within, is_less}
 use Rattle.partial_state.specs.Levels.{level_type}
 use Rattle.partial_state.specs.Weights.{entry_weight, weight}
 use Rattle.partial_state.specs.declared.stack.TableWork.{TableWork}
+use Rattle.partial_state.proofs.WeightFacts.{most}
 use Rattle.table_entries.proofs.HandLists.{asks_below}
 use Rattle.table_releases.proofs.Recording.{recorded_table}
 use Rattle.table_releases.specs.Found.{ComesBy, FormBy, LiveBy, LowersTable, ReleasedBy, ReleasesBy, has_recorded}
@@ -90,9 +91,6 @@ one_less d w b =
     let s : 512 - d ≡ k + 1 = omega arith in
     let r : (k + 1) * w ≡ k * w + w = omega arith in
     ap (λ n. n * w) s ∙ r
-
-most : (d w : ℕ) → (512 - d) * w ≤ 512 * w
-most d w = let h : 512 - d ≤ 512 = omega arith in mul-le-mul_right w h
 
 lowered_falls : (v : PortValue) (ts : List TableWork) (w : PortValue) (us : List TableWork) (answer : Result Bool Stop) (done : Bool) → answer ≡ Ok done → Lowered v ts w us answer → AreLow ts → (weight us ≤ weight ts) × AreLow us
 lowered_falls _ _ _ _ _ done is (course.Lowered.given v w t ts some gave) low = (let e = one_less t.done (entry_weight t.level) some in omega (arith, e), low)

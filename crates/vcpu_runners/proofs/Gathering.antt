@@ -21,6 +21,7 @@ use Rattle.thread_board.specs.OneRun.{OneRun}
 use Rattle.thread_board.specs.Ports.{pass_port}
 use Rattle.thread_board.specs.Values.{BoardValue, PassValue, AreOf, AreOpened, held_by, opened_pass}
 use Rattle.thread_board.proofs.Dealing.{opened_is}
+use Rattle.thread_board.proofs.Sharing.{at_inside as within_elem}
 use Rattle.vcpu_turn.specs.Cpus.{Processing}
 use Rattle.vcpu_turn.specs.Destroying.{KeepsBuried}
 use Rattle.vcpu_turn.specs.Turning.{IsOf}
@@ -36,12 +37,7 @@ at_elem [] k x d e = absurd (some-ne-none x (sym e))
 at_elem (y ∷ ys) zero x d e = some-injective y x e
 at_elem (y ∷ ys) (suc k) x d e = at_elem ys k x d e
 
-within_elem : {A : Type 0} (l : List A) (k : ℕ) (x : A) → get_elem? l k ≡ some x → k < length l
-within_elem [] k x e = absurd (some-ne-none x (sym e))
-within_elem (y ∷ ys) zero x e = omega arith
-within_elem (y ∷ ys) (suc k) x e = let r = within_elem ys k x e in omega arith
-
-at_place : {A B : Type 0} (f : A → B) (xs : List A) (k : ℕ) (d : A) → k < length xs → slice_get (map f xs) k ≡ Some (f (slice_index_or xs k d))
+pub at_place : {A B : Type 0} (f : A → B) (xs : List A) (k : ℕ) (d : A) → k < length xs → slice_get (map f xs) k ≡ Some (f (slice_index_or xs k d))
 at_place f xs k d within = slice_get-map f xs k ∙ ap (option_map f) (slice_get-get_or xs k d within)
 
 some_same : {A : Type 0} (o : Option A) (x y : A) → o ≡ Some x → o ≡ Some y → x ≡ y

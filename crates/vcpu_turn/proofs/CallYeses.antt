@@ -2,8 +2,8 @@
 use Rattle.std.proofs.Common.{◌≡◌, ℕ, ◌+◌, ◌-◌, ◌<◌, Bool, true, false, List, [], ◌∷◌, ◌++◌, All, length, flat_map, Ok, refl, sym, subst, ap, ◌∙◌, inl, inr, arith, ◌⊎◌, append_assoc, length-append}
 use Rattle.std.proofs.lemmas.List.Elements.{All-head, All-tail}
 use Rattle.xp_board.specs.Told.{PortValue}
-use Rattle.xp_preempt.specs.Gates.{GivesAnswers, answer_at, asks_on, ends_yes, last_ask, next_ask, yeses}
-use Rattle.xp_preempt.proofs.Consulting.{yeses_then}
+use Rattle.xp_preempt.specs.Gates.{GivesAnswers, answer_at, asks_on, ends_yes, last_ask, yeses}
+use Rattle.xp_preempt.proofs.Consulting.{yeses_then, asks_then as asks_behind}
 use Rattle.xp_preempt.proofs.Numbering.{asks_sum}
 use Rattle.level_release.proofs.Noes.{settled_no}
 use Rattle.vcpu_turn.specs.declared.cpu.TurnEnd.{TurnEnd}
@@ -19,10 +19,6 @@ use Rattle.vcpu_turn.proofs.CallsBringing.{all_both}
 use Rattle.vcpu_turn.proofs.Noes.{noes_no}
 
 -- ---- a part of the answers
-asks_behind : (early late : List Bool) (asks : ℕ) → asks_on (length late) (asks_on (length early) asks) ≡ asks_on (length (late ++ early)) asks
-unfolding asks_on
-asks_behind early [] asks = refl
-asks_behind early (a ∷ late) asks = ap next_ask (asks_behind early late asks)
 
 module _ (says : ℕ → Bool) (before : ℕ) where
   gives_early : (late early : List Bool) → GivesAnswers says before (late ++ early) → GivesAnswers says before early

@@ -1,5 +1,5 @@
 -- A destruction that went on: its steps, the answers of its gate, and how many frames it has looked at and listed.
-use Rattle.std.proofs.Common.{◌≡◌, ℕ, ◌+◌, ◌≤◌, Bool, false, List, [], ◌∷◌, length, Result, Ok, Err, refl, sym, ap, subst, arith, length-append}
+use Rattle.std.proofs.Common.{◌≡◌, ℕ, ◌+◌, ◌≤◌, Bool, false, List, length, Result, Ok, Err, refl, sym, ap, subst, arith, length-append}
 use Rattle.std.specs.Result.{IsErrAnd}
 use Rattle.xp_words.specs.declared.reply.LogLine.{LogLine}
 use Rattle.xp_words.specs.declared.reply.Stop.{Stop}
@@ -17,6 +17,7 @@ use Rattle.domain_destroy.specs.Destroying.{DomainDestroyed}
 use Rattle.domain_destroy.specs.declared.place.DestroyAt.{DestroyAt}
 use Rattle.domain_destroy.proofs.Noes.{destroys_noes}
 use Rattle.domain_destroy.proofs.Parts.{destroy_came}
+use Rattle.domain_destroy.proofs.Lines.{lines_long as lines_many}
 use Rattle.vcpu_turn.specs.Asking.{NoUntilDue}
 use Rattle.vcpu_turn.specs.Calls.{WentBy}
 use Rattle.vcpu_turn.specs.Cpus.{Job, OfCalls, OfDestroy, OfOne, made_within, room_from}
@@ -80,10 +81,6 @@ module _ {d : ℕ} where
       length more + seen_to at ≤ seen_to to
   destroys_more v at _ _ _ _ _ (course.Destroys.stops w to more answers e goes) = goes_more v at w to more answers (Err e) goes
   destroys_more v at _ _ _ _ _ (course.Destroys.buries u w frame left found more answers goes past m) = goes_more v at u _ more answers (Ok tt) goes
-
-lines_many : (op : ℕ) (xs : List LeftFrame) → length (left_lines op xs) ≡ length xs
-lines_many op [] = refl
-lines_many op (x ∷ xs) = let rest = lines_many op xs in omega (arith, rest)
 
 module _ {x op : ℕ} {v : PortValue} {from to : Progress} {w : PortValue} {log log' : List LogLine} {answers : List Bool} {answer : Result ℕ Stop} (went : WentOnDestroying x op v from to w log log' answers answer) where
   pub destroyed_seen : seen_to from.place ≤ v.post.machine.frames → seen_to to.place ≤ v.post.machine.frames

@@ -29,6 +29,7 @@ use Rattle.flush_words.proofs.Lasting.{came_keeps}
 use Rattle.vcpu_turn.specs.Destroying.{KnowsDying}
 use Rattle.vcpu_turn.specs.Settling.{IsWarm}
 use Rattle.vcpu_turn.specs.Turning.{Idles, Runs}
+use Rattle.foreign_map.proofs.Admitting.{nothing_learned as learned_nothing}
 
 own_real : (n : Machine) (s : ℕ) → IsMachine n → s < (sizes_of n).vcpus → domain_of n s < length n.page_limit
 own_real n s k real = All-get_or (λ d. d < length n.page_limit) n.vcpu_domain s 0 real k.of_domains
@@ -66,13 +67,6 @@ learned_ran d found h = by (found == 0)
     by : (b : Bool) → (if b then record h { looking = kept_of (λ (e : Looking). not (e.owner == d)) h.looking } else h).ran ≡ h.ran
     by true = refl
     by false = refl
-
-learned_nothing : (d found : ℕ) (h : Holdings) → h.looking ≡ [] → learned_life d found h ≡ h
-unfolding kept_of
-learned_nothing d found h none = by (found == 0)
-  where
-    kept : kept_of (λ (e : Looking). not (e.owner == d)) h.looking ≡ h.looking
-    kept = ap (kept_of (λ (e : Looking). not (e.owner == d))) none ∙ sym none
 
     by : (b : Bool) → (if b then record h { looking = kept_of (λ (e : Looking). not (e.owner == d)) h.looking } else h) ≡ h
     by true = ap (λ (xs : List Looking). record h { looking = xs }) kept

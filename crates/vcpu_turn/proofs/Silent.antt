@@ -59,7 +59,7 @@ partial_keeps below v w f k answers answer ok true h = keeps_then v h.0 w (keeps
 partial_keeps below v w f k answers answer ok false h = keeps_does v w _ (ends_dead f k.kind k.unflushed) h.2
 
 -- ---- what is settled
-number_apart : (s j k : ℕ) → j ≢ k → Vcpu s j ≢ Vcpu s k
+pub number_apart : (s j k : ℕ) → j ≢ k → Vcpu s j ≢ Vcpu s k
 number_apart s j k off is = off (cc)
 
 -- the word names none then, and what is known of the others stays

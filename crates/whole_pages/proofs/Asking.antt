@@ -1,5 +1,5 @@
 -- A frame of the own domain is taken as ordinary memory: what is asked of it, and what a guest sees of a call that stops.
-use Rattle.std.proofs.Common.{◌≡◌, ◌⊎◌, ℕ, ◌==◌, ◌||◌, not, true, false, List, [], ◌∷◌, ◌++◌, Bool, Some, None, Result, Ok, Err, IsTrue, refl, ap, subst, inl, inr}
+use Rattle.std.proofs.Common.{◌≡◌, ◌⊎◌, ℕ, ◌==◌, not, List, [], ◌∷◌, ◌++◌, Some, None, Result, Ok, Err, IsTrue, refl, ap, subst, inl, inr}
 use Rattle.xp_words.specs.declared.kind.PageType.TheVariants.{Writable}
 use Rattle.xp_words.specs.declared.place.Place.TheVariants.{Kind}
 use Rattle.xp_words.specs.declared.reply.Stop.{Stop}
@@ -15,6 +15,7 @@ use Rattle.step_maker.specs.Finding.{Finding}
 use Rattle.step_maker.proofs.Piecing.{within_frame}
 use Rattle.writable_pages.specs.Pages.{HidesMark, LeavesGot, ServesPage, of_page}
 use Rattle.whole_pages.specs.Whole.{of_copy}
+use Rattle.frame_types.proofs.Left.{or_true}
 
 module _ (v : PortValue) (f d : ℕ) (own : d ≡ domain_of v.post.machine v.post.vcpu) where
   own_page : of_page v f d ≡ of_frame f d (Some Writable)
@@ -43,9 +44,6 @@ module _ (v : PortValue) (f d : ℕ) (own : d ≡ domain_of v.post.machine v.pos
   own_leaves w (Paused x) (inr a) = absurd (a.0 own)
 
 -- ---- a copy names both frames
-or_true : (b : Bool) → IsTrue (b || true)
-or_true true = refl
-or_true false = refl
 
 module _ (d to from : ℕ) where
   pub names_target : IsTrue ((of_copy d to from).names to)

@@ -35,7 +35,7 @@ hit_left z m p test x left a = subst (λ q. test (m q) ≡ true) a.place (ap tes
 from_le : (a b : ℕ) → nat_le a b ≡ true → a ≤ b
 from_le a b h = grind (arith, nat_tests)
 
-from_lt : (a b : ℕ) → nat_lt a b ≡ true → a < b
+pub from_lt : (a b : ℕ) → nat_lt a b ≡ true → a < b
 from_lt a b h = grind (arith, nat_tests)
 
 -- ---- one more step at the head

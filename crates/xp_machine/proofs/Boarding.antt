@@ -1,9 +1,8 @@
 -- A turn by a port of the plain board is a turn of the machine, and so is a stop.
 use Rattle.std.proofs.Common.{◌≡◌, ℕ, ◌<◌, Bool, true, false, List, length, map, Some, refl, sym, ap, ◌∙◌, subst, slice_set, slice_index_or}
 use Rattle.std.specs.Prelude.{slice_get}
-use Rattle.std.specs.Option.{option_map}
 use Rattle.std.proofs.lemmas.List.{set-get_or, map-set, length-map}
-use Rattle.std.proofs.lemmas.Option.{slice_get-get_or, slice_get-map, get_or_from_slice_get}
+use Rattle.std.proofs.lemmas.Option.{get_or_from_slice_get}
 use Rattle.xp_words.specs.Places.{sizes_of}
 use Rattle.xp_board.specs.Told.{Post, Story}
 use Rattle.step_maker.specs.Moves.{Came}
@@ -14,6 +13,7 @@ use Rattle.vcpu_runners.specs.Turns.{IsOf, Processing, StopsWhere, next_of}
 use Rattle.vcpu_runners.specs.Cpus.{IsShort}
 use Rattle.xp_machine.specs.Ready.{Ready}
 use Rattle.vcpu_runners.specs.Runners.{TakesTurnBy}
+use Rattle.vcpu_runners.proofs.Gathering.{at_place}
 use Rattle.vcpu_turn.proofs.Scripts.{turn_script}
 use Rattle.xp_machine.specs.Turns.{Stage, stage, IsPortOf, MakesStagedTurn, MakesStagedStop, UnlessRetired, ByCpu}
 use Rattle.vcpu_turn.proofs.Hindering.{AloneStays, NeitherLostNorBusy, NobodyWaitedFor}
@@ -131,10 +131,6 @@ module _ (stays : AloneStays) where
 -- ---- as the code has it
 pub of_port : (b b1 : Board) (s s1 lender : ℕ) (c : Processing) → b1 ≡ b → s1 ≡ s → IsOf (port_value b s lender) c → IsOf (port_value b1 s1 lender) c
 of_port b b1 s s1 lender c same runner of = subst (λ v. IsOf v c) (λ i. port_value (sym same i) (sym runner i) lender) of
-
--- what stands at a place, as the code reads it
-at_place : {A B : Type 0} (f : A → B) (runners : List A) (s : ℕ) (d : A) → s < length runners → slice_get (map f runners) s ≡ Some (f (slice_index_or runners s d))
-at_place f runners s d within = slice_get-map f runners s ∙ ap (option_map f) (slice_get-get_or runners s d within)
 
 -- the port is that of board b for vCPU s
 module _ {A : Type 0} (cpu : A → Processing) (b b1 : Board) (s s1 l1 : ℕ) (runners : List A) (d : A) (same : b1 ≡ b) (runner : s1 ≡ s) (within : s < length runners) (ready : Ready b (map cpu runners)) where

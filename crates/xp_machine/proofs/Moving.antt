@@ -117,7 +117,7 @@ of_other b b2 t lender c machine opening hand o =
     is_of_seen (port_value b t lender) (port_value b2 t lender) machine refl hand c (λ i. memory (sizes_of (machine i)) (opening i) (run_of t)) o
 
 -- ---- the list of vCPUs
-set_at : (cpus : List Processing) (s t : ℕ) (c2 c : Processing) → s < length cpus → slice_get (slice_set cpus s c2) t ≡ Some c → ((t ≡ s) × (c ≡ c2)) ⊎ ((t ≢ s) × (slice_get cpus t ≡ Some c))
+pub set_at : (cpus : List Processing) (s t : ℕ) (c2 c : Processing) → s < length cpus → slice_get (slice_set cpus s c2) t ≡ Some c → ((t ≡ s) × (c ≡ c2)) ⊎ ((t ≢ s) × (slice_get cpus t ≡ Some c))
 set_at cpus s t c2 c within at =
     let there : t < length cpus = subst (λ k. t < k) (length-set cpus s c2) (slice_get_within (slice_set cpus s c2) t c at) in
     let is = get_or_from_slice_get (slice_set cpus s c2) t c c at in

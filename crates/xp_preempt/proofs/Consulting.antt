@@ -18,7 +18,7 @@ consulted_ask g h due is on rose same paces = record { gives = (is, tt); asks = 
 
 -- ---- one piece behind another
 -- the counts
-asks_then : (xs ys : List Bool) (asks : ℕ) → asks_on (length ys) (asks_on (length xs) asks) ≡ asks_on (length (ys ++ xs)) asks
+pub asks_then : (xs ys : List Bool) (asks : ℕ) → asks_on (length ys) (asks_on (length xs) asks) ≡ asks_on (length (ys ++ xs)) asks
 unfolding asks_on
 asks_then xs [] asks = refl
 asks_then xs (y ∷ ys) asks = ap (λ (n : ℕ). next_ask n) (asks_then xs ys asks)

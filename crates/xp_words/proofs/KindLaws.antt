@@ -89,7 +89,7 @@ kind_packed : (k : KindWord) → kind_write k ≡ packed k.number k.progress (bi
 unfolding kind_write packed
 kind_packed k = refl
 
-fields_back : (k : KindWord) → k.number < 2 ^ 36 → k.progress < 2 ^ 10 → kind_fields (kind_write k) ≡ k
+pub fields_back : (k : KindWord) → k.number < 2 ^ 36 → k.progress < 2 ^ 10 → kind_fields (kind_write k) ≡ k
 unfolding kind_fields
 fields_back k hn hp =
     let u = bit_lt k.unflushed in

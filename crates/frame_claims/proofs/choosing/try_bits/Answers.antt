@@ -3,10 +3,11 @@ use Rattle.xp_words.specs.Machine.{Machine}
 use Rattle.xp_board.specs.Told.{PortValue}
 use Rattle.step_maker.specs.Visits.{Does}
 use Rattle.frame_claims.specs.Found.{BlockBy, FreeBlock, TriedWhere, are_set, block_of}
-use Rattle.frame_claims.proofs.Trying.{bits_off, bits_set, both_hold, first_fails, fits_in, fits_not, not_tried, second_fails, tried}
+use Rattle.frame_claims.proofs.Trying.{bits_off, bits_set, both_hold, first_fails, not_tried, second_fails, tried}
 use Rattle.frame_claims.proofs.Finding.{bits_aligned, looks_nothing}
 use Rattle.frame_claims.proofs.choosing.try_bits.Goals.{then-bits-size-via-then-bits-size, then-bits-size-via-else-bits-size+then-first-size}
 use Rattle.frame_claims.proofs.choosing.try_bits.Goals as goal
+use Rattle.frame_words.proofs.Twinning.{full as fits_in, room as fits_not}
 
 pub returns-then-bits-size-clause-looks : goal.returns-then-bits-size-clause-looks
 returns-then-bits-size-clause-looks g c = looks_nothing (g.P.Port.value c.args.port.now)
