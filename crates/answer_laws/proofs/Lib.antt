@@ -6,3 +6,4 @@ pub mod Meeting
 pub mod NothingLost
 pub mod OneVcpu
 pub mod Refusing
+pub mod Shared

@@ -17,6 +17,7 @@ use Rattle.step_maker.proofs.Noting.{made_now, moves_steps}
 use Rattle.step_maker.proofs.Telling.{ran_telling, told_there, told_here, told_elsewhere}
 use Rattle.step_maker.specs.Answers.{Stops}
 use Rattle.step_maker.specs.Asked.{Request}
+use Rattle.step_maker.proofs.Shared.{ran_longer}
 
 -- ---- the last step at a place
 or_less : (k l : ℕ) → (k ≤ l) ⊎ (l < k)
@@ -39,12 +40,6 @@ last_sooner z k n p e (x ∷ xs) l is =
     ]
 
 -- ---- all steps of a piece
-ran_longer : (v u : PortValue) (ms : List Moment) → Ran v ms u → length v.holdings.steps ≤ length u.holdings.steps
-ran_longer v u [] a = rw a (omega arith)
-ran_longer v u (m ∷ ms) a =
-    let before = ran_longer v a.0 ms a.1 in
-    let more = ap (λ (xs : List Made). length xs) (moves_steps a.0 u m.place m.act m.kind m.mark m.found a.2.moves) in
-    omega (arith, before, more)
 
 -- what the last step there left is what the board tells
 told_last : (v u : PortValue) (ms : List Moment) (p : Place) (e : ℕ) → Ran v ms u → is_telling v ≡ true → last_since (sizes_of v.post.machine) (length v.holdings.steps) p u.holdings.steps ≡ Some e →

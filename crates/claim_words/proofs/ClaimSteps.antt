@@ -6,6 +6,7 @@ use Rattle.xp_words.specs.declared.refs.RefWord.TheVariants.{Free, Owned, Dying}
 use Rattle.xp_words.specs.declared.place.Place.TheVariants.{Refs, M2p, Cell, Map, Pages}
 use Rattle.xp_words.specs.Places.{Sizes, is_place, map_words, sizes_of}
 use Rattle.xp_words.proofs.RefLaws.{ref_read-write}
+use Rattle.xp_words.proofs.Shared.{lt_true as inside, eq_false as when_ne}
 use Rattle.xp_board.specs.Acts.{left_by}
 use Rattle.xp_board.specs.After.{learned_cell, learned_work, learned_lock, learned_claim}
 use Rattle.xp_board.specs.CellSteps.{exchanged}
@@ -23,12 +24,11 @@ use Rattle.xp_board.specs.Spelling.{IsSpelling}
 use Rattle.xp_board.specs.Told.{PortValue}
 use Rattle.xp_board.proofs.ListCounts.{first_by-cons_here, times_by-cons_here}
 use Rattle.xp_board.proofs.Numbers.{refs_there, cell_there}
-use Rattle.xp_board.proofs.Sums.{when_eq, when_ne, if_itself}
+use Rattle.xp_board.proofs.Sums.{when_eq, if_itself}
 use Rattle.step_maker.specs.Holds.{Holds, Same, MayWork, still}
 use Rattle.step_maker.specs.Moves.{May, Moves, found_by}
 use Rattle.frame_words.proofs.FreeSteps.{map_there, pages_there, free_read}
 use Rattle.frame_words.proofs.Putting.{without_newest}
-use Rattle.frame_words.proofs.Twinning.{inside}
 use Rattle.claim_words.specs.Claims.{IsNewest, IsRaised, MayScrub, charged, uncharged, freed_again, given_newest, lowered_newest, scrubbed_newest, scrubbed_to, behind_newest, taken_at}
 
 -- ---- places and words

@@ -8,6 +8,7 @@ use Rattle.xp_words.specs.declared.entry.Demand.{Demand}
 use Rattle.xp_words.specs.declared.entry.Demand.TheVariants.{Nothing, Bad, Read, Typed}
 use Rattle.xp_words.specs.declared.place.Place.{Place}
 use Rattle.xp_words.specs.declared.place.Place.TheVariants.{Refs, Cell}
+use Rattle.xp_words.proofs.Shared.{eq_false as when_ne}
 use Rattle.xp_board.specs.declared.holdings.Claimed.{Claimed}
 use Rattle.xp_board.specs.declared.holdings.Holdings.{Holdings}
 use Rattle.xp_board.specs.declared.holdings.Work.{Work}
@@ -27,7 +28,7 @@ use Rattle.xp_board.specs.Readings.{domain_of, ref_count}
 use Rattle.xp_board.specs.RefSteps.{AllowsRefStore, MayGive}
 use Rattle.xp_board.specs.Settling.{demand_in, demand_out}
 use Rattle.xp_board.specs.Sound.{Sound}
-use Rattle.xp_board.proofs.Sums.{when_eq, when_ne}
+use Rattle.xp_board.proofs.Sums.{when_eq}
 use Rattle.xp_board.proofs.Works.{dying_in_hand}
 use Rattle.clean_rule.specs.Clean.{GivesFrame, IsClean}
 use Rattle.clean_rule.proofs.Paths.{path_counted}

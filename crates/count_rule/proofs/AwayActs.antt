@@ -5,6 +5,7 @@ use Rattle.xp_words.specs.Machine.{Machine}
 use Rattle.xp_words.specs.declared.place.Place.{Place}
 use Rattle.xp_words.specs.declared.place.Place.TheVariants.{Clock, Life, M2p, Priv, Pages, Map}
 use Rattle.xp_words.specs.Places.{sizes_of, flushed_of, run_of, ldt_base_of, asked_of}
+use Rattle.xp_words.proofs.Shared.{eq_false as when_ne}
 use Rattle.xp_board.specs.declared.holdings.Holdings.{Holdings}
 use Rattle.xp_board.specs.declared.step.Step.{Step}
 use Rattle.xp_board.specs.Hands.{IsEmptyHand}
@@ -18,7 +19,7 @@ use Rattle.count_rule.proofs.Learning.{Kept, same_refl, same_hand, same_own, sam
 use Rattle.count_rule.proofs.PartLaws.{stamped_by, idle_still, idle_other}
 use Rattle.count_rule.proofs.SpelledLaw.{wrote_spelled}
 use Rattle.count_rule.proofs.Told.{clock_found}
-use Rattle.xp_board.proofs.Sums.{when_eq, when_ne}
+use Rattle.xp_board.proofs.Sums.{when_eq}
 use Rattle.count_rule.proofs.Outcome.{apart, Outcome, is_counted, calm_away, quiet_outcome}
 use Rattle.count_rule.proofs.WalkHands.{same_ran, same_twice}
 

@@ -7,6 +7,7 @@ use Rattle.xp_words.specs.Machine.{Machine}
 use Rattle.xp_words.specs.declared.place.Place.{Place}
 use Rattle.xp_words.specs.declared.place.Place.TheVariants.{Clock, Refs}
 use Rattle.xp_words.specs.Places.{sizes_of}
+use Rattle.xp_words.proofs.Shared.{eq_false as when_ne}
 use Rattle.xp_board.specs.declared.holdings.Holdings.{Holdings}
 use Rattle.xp_board.specs.declared.holdings.Ending.{Ending}
 use Rattle.xp_board.specs.declared.holdings.Claimed.{Claimed}
@@ -20,7 +21,7 @@ use Rattle.xp_board.specs.Found.{ClaimFound, EndingFound}
 use Rattle.xp_board.specs.Keeping.{MayAct}
 use Rattle.xp_board.specs.Sound.{Sound}
 use Rattle.step_effects.proofs.ActEffects.{Took, Freed, Gave}
-use Rattle.xp_board.proofs.Sums.{when_eq, when_ne, one_at-same, hands-part, bit_most, some_bit}
+use Rattle.xp_board.proofs.Sums.{when_eq, one_at-same, hands-part, bit_most, some_bit}
 use Rattle.xp_board.proofs.ListCounts.{first_by-absent, EachOf-found, first_by-some, times_by-without_one, times_by-cons, times_by-without, times_by-cons_here, times_by-cons_other, times_by-without_other}
 use Rattle.xp_board.proofs.HandLists.{first-some}
 use Rattle.xp_board.proofs.RefWords.{owned_says, free_says, dying_says, is_dying-read, dying_owner}

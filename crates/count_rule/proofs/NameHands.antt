@@ -5,8 +5,9 @@ use Rattle.xp_board.specs.declared.holdings.Holdings.{Holdings}
 use Rattle.xp_board.specs.Lists.{one_at}
 use Rattle.xp_board.specs.Hands.{typed_to, brought_name}
 use Rattle.xp_board.specs.ContextSteps.{context_type, named_in, named_out}
-use Rattle.xp_board.proofs.Sums.{when_eq, when_ne}
+use Rattle.xp_board.proofs.Sums.{when_eq}
 use Rattle.xp_board.proofs.ListCounts.{times_by-cons, times_by-without}
+use Rattle.xp_words.proofs.Shared.{eq_false as when_ne}
 
 pub one_named : (g f : ℕ) → one_at (g + 1) (suc f) ≡ one_at g f
 one_named g f =

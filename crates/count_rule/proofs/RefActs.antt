@@ -7,6 +7,7 @@ use Rattle.xp_words.specs.Machine.{Machine}
 use Rattle.xp_words.specs.declared.place.Place.{Place}
 use Rattle.xp_words.specs.declared.place.Place.TheVariants.{Refs}
 use Rattle.xp_words.specs.Places.{sizes_of, is_place}
+use Rattle.xp_words.proofs.Shared.{eq_false as when_ne}
 use Rattle.xp_board.specs.declared.holdings.Holdings.{Holdings}
 use Rattle.xp_board.specs.declared.holdings.Reference.{Reference}
 use Rattle.xp_board.specs.declared.holdings.Ending.{Ending}
@@ -21,7 +22,7 @@ use Rattle.xp_board.specs.After.{noted}
 use Rattle.xp_board.specs.Keeping.{MayAct}
 use Rattle.xp_board.specs.Sound.{Spelled, Sound}
 use Rattle.step_effects.proofs.ActEffects.{Wrote, Raised, Cleared, Lowered}
-use Rattle.xp_board.proofs.Sums.{when_eq, when_ne, one_at-same, hands-part}
+use Rattle.xp_board.proofs.Sums.{when_eq, one_at-same, hands-part}
 use Rattle.xp_board.proofs.ListCounts.{times_by-without, times_by-cons_here, times_by-cons_other, times_by-without_other}
 use Rattle.xp_board.proofs.RefWords.{owned_says, dying_says, OneLess, more, last, one_down_leaves, owned_fits, fits_owned, fits_dying}
 use Rattle.count_rule.proofs.SpelledLaw.{wrote_spelled}

@@ -8,6 +8,7 @@ use Rattle.xp_words.specs.Machine.{Machine}
 use Rattle.xp_words.specs.declared.place.Place.{Place}
 use Rattle.xp_words.specs.declared.place.Place.TheVariants.{Clock, Kind}
 use Rattle.xp_words.specs.Places.{sizes_of}
+use Rattle.xp_words.proofs.Shared.{eq_false as when_ne}
 use Rattle.xp_board.specs.declared.holdings.Holdings.{Holdings}
 use Rattle.xp_board.specs.declared.holdings.Work.{Work}
 use Rattle.xp_board.specs.declared.step.Step.{Step}
@@ -21,7 +22,7 @@ use Rattle.xp_board.specs.After.{noted}
 use Rattle.xp_board.specs.Keeping.{MayAct}
 use Rattle.xp_board.specs.Sound.{is_busy, WorkAgrees, Sound}
 use Rattle.step_effects.proofs.ActEffects.{Wrote, Stored}
-use Rattle.xp_board.proofs.Sums.{when_eq, when_ne, no_bit}
+use Rattle.xp_board.proofs.Sums.{when_eq, no_bit}
 use Rattle.xp_board.proofs.HandLists.{first-some, times-changed, EachOf-without}
 use Rattle.xp_board.proofs.ListChanges.{first_by-changed_here, EachOf-changed_into}
 use Rattle.xp_board.proofs.Works.{one_works, is_busy-mine, held_free, held_mine}

@@ -9,6 +9,7 @@ use Rattle.xp_words.specs.Machine.{Machine}
 use Rattle.xp_words.specs.declared.place.Place.{Place}
 use Rattle.xp_words.specs.declared.place.Place.TheVariants.{Clock, Kind}
 use Rattle.xp_words.specs.Places.{sizes_of}
+use Rattle.xp_words.proofs.Shared.{if_or_zero as if_fewer}
 use Rattle.xp_board.specs.declared.holdings.Holdings.{Holdings}
 use Rattle.xp_board.specs.declared.holdings.Work.{Work}
 use Rattle.xp_board.specs.declared.step.Step.{Step}
@@ -30,7 +31,7 @@ use Rattle.count_rule.proofs.KindWorks.{works_in}
 use Rattle.count_rule.proofs.TurnActs.{turned_hand, left_says, stamp_kept}
 use Rattle.count_rule.proofs.Outcome.{Outcome}
 use Rattle.xp_board.proofs.KindForms.{form_read}
-use Rattle.xp_board.proofs.Sums.{no_bit, if_fewer}
+use Rattle.xp_board.proofs.Sums.{no_bit}
 use Rattle.xp_board.proofs.KindReadings.{dead_unlive, stamp_number, stamp_of, resumed_in_work}
 use Rattle.xp_board.proofs.HandLists.{EachOf-maybe}
 

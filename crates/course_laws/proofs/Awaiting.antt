@@ -1,5 +1,5 @@
 -- Where the vCPU is alone: its words are orderly, and its acquisitions pause only for the gate, and for flushes of other vCPUs.
-use Rattle.std.proofs.Common.{◌≡◌, ◌⊎◌, ℕ, true, false, is_some, length, Option, Some, None, Result, Ok, Err, IsTrue, refl, sym, ap, ◌∙◌, subst, inl, inr, arith}
+use Rattle.std.proofs.Common.{◌≡◌, ◌⊎◌, ℕ, false, length, Option, Some, None, Result, Ok, Err, IsTrue, refl, sym, ◌∙◌, subst, inl, inr, arith}
 use Rattle.xp_words.specs.KindWords.{is_kind, kind_fields, kind_read}
 use Rattle.xp_words.specs.Machine.{Machine}
 use Rattle.xp_words.specs.Places.{sizes_of}
@@ -16,7 +16,7 @@ use Rattle.xp_board.specs.declared.holdings.Holdings.{Holdings}
 use Rattle.xp_board.specs.Readings.{kind_at}
 use Rattle.xp_board.specs.Sound.{Sound}
 use Rattle.xp_board.specs.Spelling.{IsSpelling, is_kind_in}
-use Rattle.xp_board.specs.Told.{Post, PortValue, Story, is_telling, told_word, word_in}
+use Rattle.xp_board.specs.Told.{Post, PortValue, Story, told_word, word_in}
 use Rattle.xp_board.proofs.Counted.{type_below}
 use Rattle.xp_board.proofs.KindForms.{fields_of}
 use Rattle.xp_board.proofs.KindReadings.{live_count}
@@ -45,9 +45,6 @@ orderly_sound n m h sound =
 
 pub alone_orderly : (v : PortValue) → IsAlone v → IsOrderly v.post.machine (told_word v)
 alone_orderly v alone = subst (λ (o : Option Story). IsOrderly v.post.machine (word_in v.post.machine o)) (sym alone.telling) (orderly_sound v.post.machine _ _ alone.state.sound)
-
-pub alone_telling : (v : PortValue) → IsAlone v → is_telling v ≡ true
-alone_telling v alone = ap is_some alone.telling
 
 -- ---- pauses
 abbrev pub AloneStays : Type 0

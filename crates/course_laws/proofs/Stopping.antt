@@ -13,8 +13,9 @@ use Rattle.step_maker.proofs.Visiting.{does_came}
 use Rattle.partial_state.specs.Levels.{level_type}
 use Rattle.partial_state.specs.declared.stack.TableWork.{TableWork}
 use Rattle.table_entries.specs.Asking.{of_entries}
-use Rattle.table_entries.specs.Acquiring.{Acquired, Advanced, Filled, GotRef, TookOn, Worked, asked, begun, completed, counted, cut_off, due, filled, finished, fresh, keeps_it, opened, outermost_table, recorded, settled, stopped, taken, unasked, unfinished, unreferred, unsettled, untyped, waiting}
-use Rattle.course_laws.proofs.Walking.{again_came, entry_came, filled_came, gave_came, left_came, live_came, on_came, unwound_came, waiting_came, worked_came}
+use Rattle.table_entries.specs.Acquiring.{Acquired, Advanced, Filled, TookOn, Worked, asked, begun, completed, counted, cut_off, due, filled, finished, fresh, keeps_it, opened, outermost_table, recorded, settled, stopped, taken, unasked, unfinished, unreferred, unsettled, untyped, waiting}
+use Rattle.table_entries.proofs.Shared.{ref_came, gave_came}
+use Rattle.course_laws.proofs.Walking.{again_came, entry_came, filled_came, left_came, live_came, on_came, unwound_came, waiting_came, worked_came}
 
 -- one of the steps from v to w is a call that stopped for that: it destroys nothing, and no gate was asked in it
 pub record StopsIn (v w : PortValue) (e : Stop) : Type 0 where
@@ -82,8 +83,6 @@ worked_stops owner v t _ _ _ _ (due w us a on) none = absurd (no_yes [] (none re
 worked_stops owner v t _ _ _ _ (filled u w us xs done answers answer a b) none = behind_as v u w answer (on_came owner v (t ∷ []) u us _ a) (filled_stops owner u us _ w xs answers answer b none)
 
 -- ---- the whole
-pub ref_came : (v u : PortValue) (f owner : ℕ) (r : Result ℕ Stop) → GotRef v u f owner r → Came v u
-ref_came v u f owner r a = does_came v u _ a.found
 
 pub acquired_came : (v : PortValue) (f owner level : ℕ) (w : PortValue) (answers : List Bool) (r : Result ℕ Stop) → Acquired v f owner level w answers r → Came v w
 acquired_came v f owner level _ _ _ (unreferred w stop ref) = ref_came v w f owner _ ref

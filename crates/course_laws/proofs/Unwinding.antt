@@ -30,9 +30,10 @@ use Rattle.table_law.proofs.Counting.{at_here, at_there}
 use Rattle.table_twins.proofs.Kinding.{described_alike}
 use Rattle.table_twins.proofs.Sharing.{same_back}
 use Rattle.table_entries.specs.Acquiring.{InnerLeft, OutermostLeft, Unwound, around_left}
+use Rattle.table_entries.proofs.Shared.{gave_came}
 use Rattle.course_laws.specs.Courses.{FindsAlive}
 use Rattle.course_laws.proofs.Outermost.{IsOutermost}
-use Rattle.course_laws.proofs.Walking.{gave_came, inner_came}
+use Rattle.course_laws.proofs.Walking.{inner_came}
 use Rattle.course_laws.proofs.Completing.{IsKinded, back_lent, described_kind, put_kind, same_kinded, spelled_kind, stored_kinded}
 use Rattle.course_laws.proofs.Halfway.{Half, onto, over, overlay, tables_onto}
 use Rattle.course_laws.proofs.Extras.{described_same, extra, lent, more_of}

@@ -11,10 +11,8 @@ use Rattle.kept_marks.specs.Marks.{KeptFor}
 use Rattle.partial_state.specs.declared.stack.TableWork.{TableWork}
 use Rattle.table_entries.specs.declared.entries.Entered.{Entered}
 use Rattle.table_entries.specs.declared.resuming.Resumed.{Resumed}
-use Rattle.table_entries.specs.Acquiring.{Advanced, Filled, GaveBack, GaveRef, InnerLeft, Joined, LeftPartial, LeftWaiting, MadeLive, OutermostLeft, ResumedEntry, TookEntry, TookOn, Unwound, WaitingLeft, Worked, around_left, asked, begun, completed, cut_off, due, filled, fresh, opened, recorded, settled, stopped, taken, unasked, unsettled, waiting}
-
-pub gave_came : (v w : PortValue) (f : ℕ) → GaveRef v w f → Came v w
-gave_came v w f a = does_came v w _ a.found
+use Rattle.table_entries.specs.Acquiring.{Advanced, Filled, GaveBack, InnerLeft, Joined, LeftPartial, LeftWaiting, MadeLive, OutermostLeft, ResumedEntry, TookEntry, TookOn, Unwound, WaitingLeft, Worked, around_left, asked, begun, completed, cut_off, due, filled, fresh, opened, recorded, settled, stopped, taken, unasked, unsettled, waiting}
+use Rattle.table_entries.proofs.Shared.{gave_came}
 
 pub back_came : (v w : PortValue) (f : ℕ) → GaveBack v w f → Came v w
 back_came v w f a = came_trans v a.between w (moves_came v a.between _ _ _ _ _ a.lowers.lowers.step) (gave_came a.between w f a.puts)

@@ -1,6 +1,6 @@
 -- What a burial leaves. A frame that the destroying vCPU found not the domain's, once it had found all vCPUs of it stopped, never comes to it, where the
 -- domain was not dead as the run began: also if that vCPU buries it twice. It was not, where the vCPU found or left in the run that it destroys the domain.
-use Rattle.std.proofs.Common.{◌≡◌, ◌≢◌, ◌⊎◌, ℕ, ◌+◌, ◌<◌, ◌≤◌, ◌==◌, not, Bool, true, false, List, [], ◌∷◌, length, Some, IsTrue, refl, sym, ap, ◌∙◌, subst, inl, inr, arith}
+use Rattle.std.proofs.Common.{◌≡◌, ◌≢◌, ◌⊎◌, ℕ, ◌+◌, ◌<◌, ◌≤◌, ◌==◌, not, false, List, [], ◌∷◌, length, Some, IsTrue, refl, sym, ap, ◌∙◌, subst, inl, inr, arith}
 use Rattle.std.proofs.lemmas.Bool.{cases_Bool, cases_eq, eqb-true}
 use Rattle.std.proofs.lemmas.Bool.Decides.{nat_tests}
 use Rattle.xp_words.specs.Machine.{Machine}
@@ -8,6 +8,7 @@ use Rattle.xp_words.specs.declared.place.Place.{Place}
 use Rattle.xp_words.specs.declared.place.Place.TheVariants.{Life, Refs}
 use Rattle.xp_words.specs.Places.{is_place, memory, run_of, sizes_of}
 use Rattle.xp_words.specs.declared.reply.LogLine.{LogLine}
+use Rattle.xp_words.proofs.Shared.{not_true as not-true}
 use Rattle.xp_board.specs.declared.step.Step.{Step}
 use Rattle.xp_board.specs.declared.holdings.Holdings.{Holdings}
 use Rattle.xp_board.specs.declared.holdings.Made.{Made}
@@ -28,10 +29,6 @@ use Rattle.dead_domains.proofs.Joined.{LifeWordsLeft, StepsHaveStates, is_dead, 
 use Rattle.dead_domains.proofs.LifeRuns.{own_steps, same_steps}
 use Rattle.dead_domains.proofs.Lists.{all_stopped, owned_inside}
 use Rattle.dead_domains.proofs.StoppedRuns.{RunsBringNothing}
-
-not-true : (b : Bool) → not b ≡ true → b ≡ false
-not-true true e = absurd (cc)
-not-true false e = refl
 
 -- the newest step was made later than all those that showed the vCPUs stopped
 stopped_without : (n : Machine) (s d since : ℕ) (u h : Holdings) (x : Made) → u.steps ≡ x ∷ h.steps → since ≤ length h.steps → HasStopped n s d since u → HasStopped n s d since h

@@ -1,5 +1,5 @@
 -- How many steps the calls make: lists of visits, and how long they are at most.
-use Rattle.std.proofs.Common.{◌≡◌, ℕ, ◌+◌, ◌≤◌, Bool, true, false, List, [], ◌∷◌, length, Option, Some, None, Result, Ok, Err, ap, ◌∙◌, arith, inl, inr}
+use Rattle.std.proofs.Common.{ℕ, ◌+◌, ◌≤◌, Bool, true, false, List, length, Option, Some, None, Result, Ok, Err, ap, ◌∙◌, arith, inl, inr}
 use Rattle.std.proofs.lemmas.List.{length-append}
 use Rattle.xp_words.specs.Machine.{Machine}
 use Rattle.xp_words.specs.declared.reply.Pause.TheVariants as pauses
@@ -7,25 +7,18 @@ use Rattle.xp_words.specs.declared.reply.Refusal.{Refusal}
 use Rattle.xp_words.specs.declared.reply.Stop.{Stop}
 use Rattle.xp_words.specs.declared.reply.Stop.TheVariants.{Refused, Paused}
 use Rattle.xp_board.specs.Told.{Post, PortValue}
-use Rattle.step_maker.specs.Moves.{Moment, Ran}
 use Rattle.step_maker.specs.Reasons.{OfOwner, Those, Whose}
 use Rattle.step_maker.specs.Visits.{Visit, Does, Nothing, Only, Then, Where, visits}
-use Rattle.flush_words.proofs.Lasting.{moves_longer}
 use Rattle.flush_words.specs.Flushing.{FlushedBy}
 use Rattle.flush_words.specs.Flushing as flushing
-use Rattle.flush_waits.specs.Listing.{LooksAt, Slow, WaitedFor, WaitsInOrder, WeighsBy}
+use Rattle.flush_waits.specs.Listing.{LooksAt, WeighsBy}
 use Rattle.flush_waits.specs.Listing as listing
 use Rattle.frame_words.specs.Freeing.{FreesBy, PutBy}
 use Rattle.frame_words.specs.Refs.{GetsBy, UnreferredBy}
 use Rattle.frame_words.specs.Refs as refs
+use Rattle.frame_types.proofs.Shared.{ran_length}
 
 -- ---- by their lists
-ran_length : (v w : PortValue) (ms : List Moment) → Ran v ms w → length w.holdings.steps ≡ length v.holdings.steps + length (visits ms)
-ran_length v w [] r = ap (λ (y : PortValue). length y.holdings.steps) r ∙ omega arith
-ran_length v w (m ∷ ms) r =
-    let before = ran_length v r.0 ms r.1 in
-    let more = moves_longer r.0 w m.place m.act m.kind m.mark m.found r.2.moves in
-    omega (arith, before, more)
 
 abbrev pub IsAtMost : (List Visit → Type 0) → ℕ → Type 0
 IsAtMost P n = (vs : List Visit) → P vs → length vs ≤ n

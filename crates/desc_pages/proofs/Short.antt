@@ -34,6 +34,7 @@ use Rattle.frame_types.specs.declared.taking.Taken.TheVariants.{Counted, InWork,
 use Rattle.kept_marks.specs.Marks.{KeptFor}
 use Rattle.kept_marks.specs.Marks as marks
 use Rattle.table_entries.specs.Acquiring.{GaveRef, GotRef}
+use Rattle.table_entries.proofs.Shared.{ref_came, gave_came}
 use Rattle.desc_pages.specs.Fixing.{Fixes, FixesBy, changes, none, stands}
 use Rattle.desc_pages.specs.Pages.{DescLeft, GotDesc, IsShort, PageValidated, TookDesc, counted, fixed, had, read, unfixed, unreferred, untaken, untyped, waiting}
 use Rattle.desc_pages.proofs.Counting.{IsAtMost, does_most, gets_most, looks_most, nothing_most, only_most, put_most, then_most, where_most}
@@ -209,8 +210,6 @@ referred_short v u w f owner same got more =
     omega (arith, few, more, alike)
 
 -- ---- by its calls it came to where it ends
-gave_came : (v w : PortValue) (f : ℕ) → GaveRef v w f → Came v w
-gave_came v w f gave = does_came v w (PutBy f) gave.found
 
 validated_came : (v w : PortValue) (f : ℕ) (answer : Result (Unit {0}) Stop) → PageValidated v w f answer → Came v w
 validated_came v w f _ (unfixed z e i word low so died) =
@@ -236,9 +235,6 @@ took_came v _ f owner _ (untyped y w stop took gave) = came_trans v y w (does_ca
 took_came v _ f owner _ (counted w took) = does_came v w (λ vs. TypeBy v.post f owner Desc (Ok Counted) vs) took.found
 took_came v _ f owner _ (waiting y w stamp stop took left) = came_trans v y w (does_came v y (λ vs. TypeBy v.post f owner Desc (Ok (Waiting true stamp stop)) vs) took.found) (left_came y w f owner stamp stop left)
 took_came v _ f owner _ (read y w answer took validated) = came_trans v y w (does_came v y (λ vs. TypeBy v.post f owner Desc (Ok (InWork 0 true)) vs) took.found) (validated_came y w f answer validated)
-
-ref_came : (v w : PortValue) (f owner : ℕ) (answer : Result ℕ Stop) → GotRef v w f owner answer → Came v w
-ref_came v w f owner answer got = does_came v w (λ vs. GetsBy v.post.machine f owner answer vs) got.found
 
 pub got_came : (v w : PortValue) (f owner : ℕ) (answer : Result ℕ Stop) → GotDesc v f owner w answer → Came v w
 got_came v _ f owner _ (unreferred w e got) = ref_came v w f owner (Err e) got

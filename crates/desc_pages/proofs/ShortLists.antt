@@ -6,6 +6,7 @@ use Rattle.xp_words.specs.declared.kind.PageType.{PageType}
 use Rattle.xp_words.specs.declared.kind.PageType.TheVariants.{Desc}
 use Rattle.xp_words.specs.declared.reply.Refusal.TheVariants as refusals
 use Rattle.xp_words.specs.declared.reply.Stop.{Stop}
+use Rattle.xp_words.proofs.Shared.{one_more_times as one_page_more}
 use Rattle.xp_board.specs.Told.{PortValue}
 use Rattle.step_maker.proofs.Coming.{came_post}
 use Rattle.step_maker.specs.Visits.{Only, Then, Where}
@@ -36,9 +37,6 @@ each_page v = 1050 + 4 * vcpus v.post
 pages_came : (v : PortValue) (d : ℕ) (fs : List ℕ) (k : ℕ) (w : PortValue) → TookPages v d fs k w → w.post ≡ v.post
 pages_came v d fs _ _ gdt.none = refl
 pages_came v d fs _ _ (gdt.more k u w rest got) = came_post u w (got_came u w (get_or fs k 0) d (Ok (get_or fs k 0)) got) ∙ pages_came v d fs k u rest
-
-one_page_more : (k n : ℕ) → (k + 1) * n ≡ k * n + n
-one_page_more k n = grind arith
 
 pages_short : (v : PortValue) (d : ℕ) (fs : List ℕ) (k : ℕ) (w : PortValue) → TookPages v d fs k w → length w.holdings.steps ≤ length v.holdings.steps + k * each_page v
 pages_short v d fs _ _ gdt.none = omega arith

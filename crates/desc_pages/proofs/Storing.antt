@@ -9,7 +9,6 @@ use Rattle.xp_words.specs.declared.place.Place.TheVariants.{Cell, Kind}
 use Rattle.xp_words.specs.declared.reply.Refusal.{Refusal}
 use Rattle.xp_words.specs.declared.reply.Stop.{Stop}
 use Rattle.xp_board.specs.declared.holdings.Claimed.{Claimed}
-use Rattle.xp_board.specs.declared.holdings.Holdings.{Holdings}
 use Rattle.xp_board.specs.declared.holdings.Lock.{Lock}
 use Rattle.xp_board.specs.declared.holdings.OwnerFound.TheVariants as owners
 use Rattle.xp_board.specs.declared.holdings.TypedReference.{TypedReference}
@@ -17,14 +16,13 @@ use Rattle.xp_board.specs.declared.holdings.Work.{Work}
 use Rattle.xp_board.specs.declared.step.Act.TheVariants.{Load, Store}
 use Rattle.xp_board.specs.declared.step.StepKind.TheVariants as kinds
 use Rattle.xp_board.specs.KindSteps.{live_typed}
-use Rattle.xp_board.specs.Lists.{first_by}
 use Rattle.xp_board.specs.Readings.{is_live, is_type}
 use Rattle.xp_board.specs.Told.{Post, PortValue}
 use Rattle.xp_board.proofs.Sums.{when_eq}
 use Rattle.step_maker.specs.Holds.{FlushedHolds, Holds, Same, quiet}
 use Rattle.step_maker.specs.Moves.{Came, Met, Moves}
 use Rattle.step_maker.proofs.Coming.{came_post, came_trans, met_after, moves_came}
-use Rattle.step_maker.specs.Answers.{Deed, Serves, Writes, deeds_by, missed}
+use Rattle.step_maker.specs.Answers.{Deed, Serves, Writes, missed}
 use Rattle.step_maker.specs.Asked.{IsAsked, Request, Within, named, of, of_back, of_table}
 use Rattle.step_maker.proofs.Later.{stops_later}
 use Rattle.step_maker.proofs.Piecing.{serves_back, serves_came, serves_inner, serves_nothing, serves_step}
@@ -43,6 +41,7 @@ use Rattle.desc_pages.proofs.ShortCells.{as_short}
 use Rattle.desc_pages.proofs.ShortLists.{dropped_short}
 use Rattle.desc_pages.proofs.Typing.{no_table, one_type}
 use Rattle.desc_pages.proofs.Within.{within_cell}
+use Rattle.writable_pages.proofs.Shared.{store_deed}
 
 -- ---- the word that was found
 fields_by : (b : Bool) (k l : KindWord) → (if b then Some k else None) ≡ Some l → l ≡ k
@@ -57,8 +56,6 @@ pub type_is : (w : ℕ) (k : KindWord) (b : Bool) → kind_read w ≡ Some k →
 type_is w k b read is = ap (λ c. if c then Desc else Writable) (sym is ∙ ap (λ j. is_live j && is_type j.kind Desc) (fields_are w k read))
 
 -- ---- the frame is in none of the own lists
-store_deed : (f i word found : ℕ) (h : Holdings) → IsApart f h → deeds_by (Cell f i) (Store word) kinds.Cell found h ≡ Writes f i word ∷ []
-store_deed f i word found h apart = rw (apart.locks, apart.works, apart.claimed) refl
 
 -- ---- a fixed word may stand in both
 ordinary_by : (new : ℕ) (want : PageType) → IsDescriptorType want → fixed new ≡ Some new → (want ≡ Writable) ⊎ ((want ≡ Desc) × (fixed new ≡ Some new))

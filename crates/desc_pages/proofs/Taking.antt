@@ -18,6 +18,7 @@ use Rattle.step_maker.specs.Answers.{Deed, Serves, Stops, missed, misses}
 use Rattle.step_maker.specs.Asked.{Within, named, of_back, of_frame}
 use Rattle.step_maker.proofs.Piecing.{serves_came, serves_within, stops_before, stops_within, within_frame}
 use Rattle.flush_waits.specs.Waiting.{IsWait}
+use Rattle.flush_waits.proofs.Shared.{wait_missed as none_missed}
 use Rattle.frame_words.specs.Freeing.{Puts, gave}
 use Rattle.frame_words.specs.Plain.{put}
 use Rattle.frame_types.specs.Found.{TakesFound}
@@ -27,7 +28,6 @@ use Rattle.frame_types.specs.Taking.{IsTypeStop, LentBy, ShowsWait, WaitsWith, W
 use Rattle.frame_types.specs.declared.taking.Taken.{Taken}
 use Rattle.frame_types.specs.declared.taking.Taken.TheVariants.{Counted, InWork, Waiting}
 use Rattle.frame_types.proofs.Serving.{back_serves}
-use Rattle.frame_types.proofs.Waiting.{none_missed}
 use Rattle.desc_pages.proofs.Short.{took_short}
 use Rattle.desc_pages.specs.Pages.{IsTakenStop, LeavesWaiting, PageValidated, TakenFrom, TakesDesc, TookDescType, Validates, counted, fixed, of_desc, read, unfixed, untyped, waiting}
 

@@ -24,9 +24,9 @@ use Rattle.kind_words.specs.Kinds.{live_kind, partial_kind}
 use Rattle.frame_types.specs.declared.taking.Taken as taking
 use Rattle.frame_types.specs.declared.taking.Taken.TheVariants as types
 use Rattle.table_entries.specs.Acquiring.{GaveRef, GotRef}
+use Rattle.table_entries.proofs.Shared.{ref_came, gave_came}
 use Rattle.course_laws.proofs.Awaiting.{AloneStays}
-use Rattle.course_laws.proofs.Stopping.{ref_came}
-use Rattle.course_laws.proofs.Walking.{gave_came, kept_came}
+use Rattle.course_laws.proofs.Walking.{kept_came}
 use Rattle.acquisition_laws.proofs.Lows.{type_low}
 use Rattle.desc_pages.specs.Fixing as fixing
 use Rattle.desc_pages.specs.Fixing.{FixesBy}

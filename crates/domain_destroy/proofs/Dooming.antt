@@ -7,13 +7,14 @@ use Rattle.xp_words.specs.declared.place.Place.TheVariants.{Life, Priv}
 use Rattle.xp_words.specs.declared.reply.Refusal.TheVariants.{Dying, NoDomain, NoPrivilege}
 use Rattle.xp_words.specs.declared.reply.Stop.{Stop}
 use Rattle.xp_words.specs.declared.reply.Stop.TheVariants.{Refused}
+use Rattle.xp_words.proofs.Shared.{eq_false as when_ne}
 use Rattle.xp_board.specs.Acts.{left_by}
 use Rattle.xp_board.specs.Readings.{has_now}
 use Rattle.xp_board.specs.Steps.{some_before}
 use Rattle.xp_board.specs.Told.{Post, PortValue}
 use Rattle.xp_board.specs.declared.step.Act.TheVariants.{Cas, Load}
 use Rattle.xp_board.specs.declared.step.StepKind.TheVariants as kinds
-use Rattle.xp_board.proofs.Sums.{when_eq, when_ne}
+use Rattle.xp_board.proofs.Sums.{when_eq}
 use Rattle.step_maker.specs.Answers.{Deed, Serves, SetsLife, Stops, deeds_by, misses}
 use Rattle.step_maker.specs.Licences.{over_itself, over_others}
 use Rattle.step_maker.specs.Moves.{Moves}

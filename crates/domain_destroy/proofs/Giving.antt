@@ -11,20 +11,20 @@ use Rattle.xp_words.specs.declared.reply.Stop.{Stop}
 use Rattle.xp_words.specs.declared.reply.Stop.TheVariants.{Paused}
 use Rattle.xp_words.proofs.PlaceLaws.{place_back}
 use Rattle.xp_words.proofs.RefLaws.{ref_read-write, ref_write-read}
+use Rattle.xp_words.proofs.Shared.{eq_false as when_ne}
 use Rattle.xp_board.specs.Acts.{left_by}
 use Rattle.xp_board.specs.LifeSteps.{is_unallocated}
 use Rattle.xp_board.specs.Readings.{is_owned_by, owner_of}
 use Rattle.xp_board.specs.Told.{PortValue}
 use Rattle.xp_board.specs.declared.holdings.OwnerFound.TheVariants as owners
-use Rattle.xp_board.specs.declared.holdings.Reference.{Reference}
 use Rattle.xp_board.specs.declared.step.Act.TheVariants.{Cas, Load}
 use Rattle.xp_board.specs.declared.step.StepKind.TheVariants as kinds
 use Rattle.xp_board.proofs.RefWords.{owned_says, read_small}
-use Rattle.xp_board.proofs.Sums.{when_eq, when_ne}
+use Rattle.xp_board.proofs.Sums.{when_eq}
 use Rattle.step_maker.specs.Answers.{Misses, Returns, Serves, Stops, deeds_by, exchanged, missed_at}
 use Rattle.step_maker.specs.Asked.{IsAsked, Request, doomed, of, of_back}
 use Rattle.step_maker.specs.Finding.{FoundAt}
-use Rattle.step_maker.specs.Holds.{Holds, Rests, Same, still}
+use Rattle.step_maker.specs.Holds.{Holds, Rests, Same}
 use Rattle.step_maker.specs.Moves.{Came, Met, Moves}
 use Rattle.step_maker.specs.Reasons.{Reason}
 use Rattle.step_maker.proofs.Changing.{found_before, moves_found}
@@ -34,18 +34,12 @@ use Rattle.type_rule.proofs.DomainLaw.{owned_by}
 use Rattle.flush_words.proofs.Lasting.{last_left}
 use Rattle.frame_words.specs.Freeing.{Puts, gave}
 use Rattle.frame_words.specs.Refs.{took}
-use Rattle.frame_words.proofs.Putting.{without_newest}
 use Rattle.domain_destroy.specs.Asking.{IsDestroyDeed, of_domain}
 use Rattle.domain_destroy.specs.Clearing as clearing
 use Rattle.domain_destroy.specs.Destroying.{GaveMark, LeavesAs}
 use Rattle.domain_destroy.specs.Emptying.{NamesNone}
 use Rattle.domain_destroy.proofs.Parts.{look_serves, moved_left, one_look, went_same}
-
--- the mark's reference came into the hand, and went out
-pub mark_same : (v u w x : PortValue) (f owner : ℕ) → Same v u → Holds u w (took f owner u.holdings) → Holds w x (gave f w.holdings) → Same v x
-mark_same v u w x f owner look clear back =
-    back ∙ ap (λ (q : PortValue). still (record q { holdings = gave f q.holdings })) clear ∙ ap (λ (q : PortValue). still (record q { holdings = gave f (took f owner q.holdings) })) look
-    ∙ ap (λ rs. still (record v { holdings = record v.holdings { refs = rs } })) (without_newest (λ (e : Reference). e.frame) f (record { frame = f; owner = owners.Of owner }) v.holdings.refs refl)
+use Rattle.frame_claims.proofs.Shared.{mark_same}
 
 -- ---- a frame that was found to be the domain's is asked
 pub doomed_asked : (v w : PortValue) (f d word : ℕ) (rose : Bool) → owner_of word ≡ Some d → FoundAt (Met v w) (Refs f) word → IsAsked v.post.machine v.post.vcpu (of_domain v.post.machine d rose) (Met v w) f

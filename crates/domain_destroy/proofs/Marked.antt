@@ -12,10 +12,10 @@ use Rattle.xp_words.specs.declared.reply.Pause.TheVariants.{Lost}
 use Rattle.xp_words.specs.declared.reply.Stop.{Stop}
 use Rattle.xp_words.specs.declared.reply.Stop.TheVariants.{Paused}
 use Rattle.xp_words.proofs.PlaceLaws.{place_back}
+use Rattle.xp_words.proofs.Shared.{eq_false as when_ne}
 use Rattle.xp_board.specs.Acts.{left_by}
-use Rattle.xp_board.specs.KindSteps.{resumed_kind, still_looking}
+use Rattle.xp_board.specs.KindSteps.{resumed_kind}
 use Rattle.xp_board.specs.LifeSteps.{is_unkept, is_unpinned}
-use Rattle.xp_board.specs.Lists.{kept_of}
 use Rattle.xp_board.specs.Readings.{is_partial}
 use Rattle.xp_board.specs.Spelling.{is_kind_in}
 use Rattle.xp_board.specs.Steps.{last_since}
@@ -24,7 +24,7 @@ use Rattle.xp_board.specs.declared.holdings.Looking.{Looking}
 use Rattle.xp_board.specs.declared.step.Act.TheVariants.{Cas, Load}
 use Rattle.xp_board.specs.declared.step.StepKind.TheVariants as kinds
 use Rattle.xp_board.proofs.KindForms.{fields_of, form_read, live_form}
-use Rattle.xp_board.proofs.Sums.{when_eq, when_ne}
+use Rattle.xp_board.proofs.Sums.{when_eq}
 use Rattle.step_maker.specs.Answers.{Deed, Misses, Serves, Stops, Unpins, deeds_by, exchanged, missed_at, only_if, pin_deed}
 use Rattle.step_maker.specs.Asked.{IsAsked}
 use Rattle.step_maker.specs.Holds.{Holds, Rests, Same, still}
@@ -49,6 +49,7 @@ use Rattle.domain_destroy.specs.Clearing as clearing
 use Rattle.domain_destroy.specs.Destroying.{LeavesAs, TookMarks}
 use Rattle.domain_destroy.proofs.Giving.{doomed_asked}
 use Rattle.domain_destroy.proofs.Parts.{LooksOnly, found_after, found_before, found_there, left_after, left_before, looks_then, moved_left, one_look, same_settled}
+use Rattle.table_entries.proofs.Shared.{no_looks}
 
 -- ---- the words
 -- only a partial frame has a `kept` mark
@@ -114,9 +115,6 @@ module _ (x : ℕ) {k : KindWord} (read : kind_read x ≡ Some k) where
         }
 
 -- ---- the hand where an exchange was lost
-pub no_looks : (f w : ℕ) (xs : List Looking) → xs ≡ [] → still_looking f w xs ≡ xs
-unfolding kept_of
-no_looks f w xs none = ap (λ ys. still_looking f w ys) none ∙ sym none
 
 pub lost_same : (v a : PortValue) (f found : ℕ) → Rests v → Holds v a (looked_at f found v.holdings) → Same v a
 lost_same v a f found rests hand = hand ∙ ap (λ (xs : List Looking). still (record v { holdings = record v.holdings { looking = xs } })) (no_looks f found v.holdings.looking rests.empty.looking)

@@ -48,8 +48,9 @@ use Rattle.domain_destroy.specs.Clearing.{SawOwn}
 use Rattle.domain_destroy.specs.Clearing as clearing
 use Rattle.domain_destroy.specs.Destroying.{TookMarks}
 use Rattle.domain_destroy.specs.Emptying.{NamesNone}
-use Rattle.domain_destroy.proofs.Marked.{TakesOff, done_steps, done_unkept, done_unpinned, kept_partial, no_looks, saw_asked, takes_page}
+use Rattle.domain_destroy.proofs.Marked.{TakesOff, done_steps, done_unkept, done_unpinned, kept_partial, saw_asked, takes_page}
 use Rattle.domain_destroy.proofs.Parts.{same_names_none, same_settled}
+use Rattle.table_entries.proofs.Shared.{no_looks}
 
 module _ {v a : PortValue} {f : ℕ} (x : ℕ) {k : KindWord} (read : kind_read x ≡ Some k) (plain : k.pinned ≡ false) (on : k.kept ≡ true) (page : k.kind ≡ Desc) (rests : Rests v)
     (change : Moves v a (Kind f) (Cas (kind_write k) (kind_write (resumed_kind k))) kinds.Kind None (kind_write k)) (hand : Holds v a (resumed_work f k v.holdings)) where

@@ -24,14 +24,15 @@ use Rattle.kind_words.proofs.KindFacts.{read_is}
 use Rattle.table_words.specs.Pins.{took_pin, unpinned_kind}
 use Rattle.kept_marks.specs.Marks.{took_back, unkept_kind}
 use Rattle.domain_destroy.specs.Asking.{IsDestroyStop, StopsDestroyer, of_domain}
-use Rattle.domain_destroy.specs.Clearing.{SawOwn, TakesMarks}
+use Rattle.domain_destroy.specs.Clearing.{TakesMarks}
 use Rattle.domain_destroy.specs.Clearing as clearing
 use Rattle.domain_destroy.specs.Destroying.{TookMarks}
 use Rattle.domain_destroy.specs.Emptying.{HoldsOne, LetsGo, LetsGoHand, NamesNone}
 use Rattle.domain_destroy.specs.Releasing.{GoesOnDestroying, StopsOnDestroying}
 use Rattle.domain_destroy.proofs.LettingGo.{behind_serves, behind_stops, let_go_settled}
-use Rattle.domain_destroy.proofs.Marked.{TakesOff, done_steps, done_unkept, done_unpinned, no_looks, pin_deeds, saw_as, saw_came, saw_looks, takes_kept, takes_pin}
+use Rattle.domain_destroy.proofs.Marked.{TakesOff, done_steps, done_unkept, done_unpinned, pin_deeds, saw_as, saw_came, saw_looks, takes_kept, takes_pin}
 use Rattle.domain_destroy.proofs.Parts.{looks_serve, settled_self}
+use Rattle.table_entries.proofs.Shared.{no_looks}
 
 -- ---- the only reference in hand
 module _ (v a : PortValue) (f : ℕ) (t : TypedReference) (rests : Rests v) (one : Holds v a (record v.holdings { typed = t ∷ [] })) where

@@ -6,6 +6,7 @@ use Rattle.xp_words.specs.Places.{Sizes, sizes_of}
 use Rattle.xp_words.specs.declared.entry.Demand.TheVariants.{Read, Typed}
 use Rattle.xp_words.specs.declared.kind.PageType.{PageType}
 use Rattle.xp_words.specs.declared.place.Place.TheVariants.{Priv}
+use Rattle.xp_words.proofs.Shared.{eq_false as when_ne}
 use Rattle.xp_board.specs.declared.holdings.Holdings.{Holdings}
 use Rattle.xp_board.specs.declared.holdings.Lock.{Lock}
 use Rattle.xp_board.specs.declared.holdings.Made.{Made}
@@ -21,7 +22,7 @@ use Rattle.xp_board.specs.Settling.{HasDemand, OwnersMeet}
 use Rattle.xp_board.specs.Steps.{some_since}
 use Rattle.xp_board.specs.Told.{PortValue}
 use Rattle.xp_board.proofs.ListCounts.{newest_held}
-use Rattle.xp_board.proofs.Sums.{when_eq, when_ne}
+use Rattle.xp_board.proofs.Sums.{when_eq}
 use Rattle.foreign_map.specs.Owning.{MayMapFor}
 use Rattle.foreign_map.specs.declared.owners.Owners.{Owners}
 use Rattle.kind_words.proofs.KindHands.{apart_spares, known_first, no_work, typed_held}

@@ -29,8 +29,9 @@ use Rattle.entry_exchange.specs.Course.{SawEntry, exchanged, lost, stored}
 use Rattle.std.proofs.lemmas.Grind.{common_steps}
 use Rattle.xp_words.specs.declared.reply.Stop.{Stop}
 use Rattle.xp_words.proofs.PlaceLaws.{place_back}
+use Rattle.xp_words.proofs.Shared.{eq_false as when_ne}
 use Rattle.xp_board.specs.declared.step.Act.{Act}
-use Rattle.xp_board.proofs.Sums.{when_eq, when_ne}
+use Rattle.xp_board.proofs.Sums.{when_eq}
 use Rattle.step_maker.specs.Holds.{Holds}
 use Rattle.step_maker.specs.Reasons.{HasReason}
 use Rattle.step_maker.proofs.Piecing.{serves_step}

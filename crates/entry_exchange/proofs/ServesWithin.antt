@@ -9,9 +9,10 @@ use Rattle.xp_words.specs.declared.entry.Demand.TheVariants.{Bad, Nothing, Read,
 use Rattle.xp_words.specs.declared.kind.PageType.{PageType}
 use Rattle.xp_words.specs.declared.kind.PageType.TheVariants as kinds
 use Rattle.xp_words.specs.declared.reply.Stop.{Stop}
+use Rattle.xp_words.proofs.Shared.{eq_false as when_ne}
 use Rattle.xp_board.specs.declared.holdings.Lock.{Lock}
 use Rattle.xp_board.specs.Hands.{lock_on}
-use Rattle.xp_board.proofs.Sums.{when_eq, when_ne}
+use Rattle.xp_board.proofs.Sums.{when_eq}
 use Rattle.step_maker.specs.Moves.{Moment}
 use Rattle.step_maker.specs.Asked.{Asked, Implies, IsAsked, IsDemandOf, IsFor, IsNaming, Request, Within, entered, named, of, owner_below}
 use Rattle.step_maker.specs.Finding.{Finding}

@@ -22,6 +22,7 @@ use Rattle.entry_locks.specs.Locks.{Unlocks}
 use Rattle.foreign_map.specs.declared.owners.Owners.{Owners}
 use Rattle.frame_types.specs.Found.{DeadBy, DropsBy, SharedBy, TypeBy}
 use Rattle.frame_types.specs.declared.taking.Taken.{Taken}
+use Rattle.frame_types.proofs.Shared.{ran_length}
 use Rattle.frame_words.specs.Freeing.{PutBy}
 use Rattle.frame_words.specs.Refs.{GetsBy}
 use Rattle.kept_marks.specs.Marks.{KeptFor}
@@ -68,11 +69,6 @@ moves_length m = ap (λ xs. length xs) (moves_steps _ _ _ _ _ _ _ m) ∙ omega a
 
 pub moves_adds : {v w : PortValue} {p : Place} {a : Act} {kind : StepKind} {mark : Option Mark} {found : ℕ} → Moves v w p a kind mark found → Adds v w 1
 moves_adds m = record { post = ap (λ (x : PortValue). x.post) m.to; few = (let one = moves_length m in omega arith) }
-
--- all steps of a list, and each is at a word of the machine
-ran_length : (v w : PortValue) (ms : List Moment) → Ran v ms w → length w.holdings.steps ≡ length v.holdings.steps + length (visits ms)
-ran_length v w [] ran = ap (λ (x : PortValue). length x.holdings.steps) ran ∙ omega arith
-ran_length v w (m ∷ ms) ran = let before = ran_length v ran.0 ms ran.1 in let one = moves_length ran.2.moves in omega arith
 
 pub ran_there : (v w : PortValue) (ms : List Moment) → Ran v ms w → are_there (sizes_of v.post.machine) (visits ms) ≡ true
 ran_there v w [] ran = refl

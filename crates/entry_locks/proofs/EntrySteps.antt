@@ -2,6 +2,7 @@
 use Rattle.std.proofs.Common.{◌≢◌, ℕ, ◌^◌, ◌<◌, ◌==◌, if◌then◌else◌, None, Result, Ok, Err, IfErr, MatchResult, ap, ◌∙◌}
 use Rattle.xp_words.specs.declared.place.Place.TheVariants.{Cell}
 use Rattle.xp_words.specs.Places.{sizes_of}
+use Rattle.xp_words.proofs.Shared.{eq_false as when_ne}
 use Rattle.xp_board.specs.declared.step.Act.TheVariants.{Cas, Store}
 use Rattle.xp_board.specs.declared.step.StepKind.TheVariants as kinds
 use Rattle.xp_board.specs.Acts.{left_by}
@@ -11,7 +12,7 @@ use Rattle.xp_board.specs.Hands.{lock_on}
 use Rattle.xp_board.specs.Spelling.{IsSpelling}
 use Rattle.xp_board.specs.Told.{PortValue}
 use Rattle.xp_board.proofs.Numbers.{cell_there}
-use Rattle.xp_board.proofs.Sums.{if_itself, when_ne}
+use Rattle.xp_board.proofs.Sums.{if_itself}
 use Rattle.step_maker.specs.Holds.{Holds, MayWork, still}
 use Rattle.step_maker.specs.Moves.{May, Moves, found_by}
 use Rattle.entry_locks.specs.Entries.{MayStoreEntry, MaySwapEntry, entry_set, entry_unset}

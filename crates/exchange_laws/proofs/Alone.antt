@@ -11,14 +11,14 @@ use Rattle.step_maker.proofs.Coming.{moves_came}
 use Rattle.step_maker.specs.Answers.{Stops}
 use Rattle.step_maker.specs.Asked.{of_frame}
 use Rattle.answer_laws.specs.Alone.{IsAlone}
+use Rattle.answer_laws.proofs.Shared.{alone_telling}
 use Rattle.partial_state.specs.Levels.{level_type}
 use Rattle.table_law.specs.Alone.{PlainOutcome}
 use Rattle.table_law.specs.Lawful.{IsAtRest}
 use Rattle.table_law.specs.Plain.{plain_of}
 use Rattle.course_laws.specs.Courses.{ClockGoesOn, IsFinal, IsOrderly}
-use Rattle.course_laws.proofs.Awaiting.{AloneStays, NeitherLostNorBusy, NobodyWaitedFor, alone_orderly, alone_telling, decided}
-use Rattle.course_laws.proofs.Stopping.{StopsAs, acquired_stops, ahead_of, behind, ref_came, stops_here}
-use Rattle.course_laws.proofs.Walking.{gave_came}
+use Rattle.course_laws.proofs.Awaiting.{AloneStays, NeitherLostNorBusy, NobodyWaitedFor, alone_orderly, decided}
+use Rattle.course_laws.proofs.Stopping.{StopsAs, acquired_stops, ahead_of, behind, stops_here}
 use Rattle.foreign_map.specs.declared.owners.Owners.{Owners}
 use Rattle.writable_pages.specs.Pages as pages
 use Rattle.writable_pages.specs.Pages.{GotPage, TookPage}
@@ -30,6 +30,7 @@ use Rattle.entry_exchange.specs.declared.exchanging.EntryUpdate.{EntryUpdate}
 use Rattle.exchange_laws.specs.Plain.{EndsAsPlain, ExchangesAsPlain, exchanged_plain}
 use Rattle.exchange_laws.proofs.Going.{page_left_came}
 use Rattle.exchange_laws.proofs.Unlocking.{lock_came}
+use Rattle.table_entries.proofs.Shared.{ref_came, gave_came}
 
 -- ---- what the new word asks is not to be had for what one of its calls stopped for
 took_page_stops : (v : PortValue) (f owner : ℕ) (w : PortValue) (r : Result (Unit {0}) Stop) → TookPage v f owner w r → StopsAs v w r

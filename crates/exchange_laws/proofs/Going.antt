@@ -6,12 +6,13 @@ use Rattle.xp_board.specs.Told.{PortValue}
 use Rattle.step_maker.specs.Moves.{Came}
 use Rattle.step_maker.proofs.Coming.{came_self, came_trans}
 use Rattle.step_maker.proofs.Visiting.{does_came}
-use Rattle.course_laws.proofs.Stopping.{acquired_came, ref_came}
-use Rattle.course_laws.proofs.Walking.{gave_came, left_came}
+use Rattle.course_laws.proofs.Stopping.{acquired_came}
+use Rattle.course_laws.proofs.Walking.{left_came}
 use Rattle.writable_pages.specs.Pages as pages
 use Rattle.writable_pages.specs.Pages.{GotPage, PageLeft, TookPage}
 use Rattle.entry_exchange.specs.Course as course
 use Rattle.entry_exchange.specs.Course.{TookDemand}
+use Rattle.table_entries.proofs.Shared.{ref_came, gave_came}
 
 -- ---- ordinary memory
 pub page_left_came : (v w : PortValue) (f owner stamp : ℕ) (own refused : Bool) → PageLeft v w f owner stamp own refused → Came v w

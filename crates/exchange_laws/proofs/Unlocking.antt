@@ -25,8 +25,8 @@ use Rattle.table_words.specs.declared.old_words.OldWord.TheVariants.{Second}
 use Rattle.table_law.specs.Plain.{Describes, Plain, reference_back, sober, with_kind}
 use Rattle.table_twins.proofs.Typing.{live_sober}
 use Rattle.table_entries.specs.Acquiring.{GaveRef}
+use Rattle.table_entries.proofs.Shared.{gave_came}
 use Rattle.course_laws.proofs.Completing.{IsKinded, described_kind, same_kinded, stored_kinded}
-use Rattle.course_laws.proofs.Walking.{gave_came}
 use Rattle.entry_locks.specs.Locks.{Unlocks}
 use Rattle.entry_locks.proofs.Unlocking.{unlock_words}
 use Rattle.entry_exchange.specs.Course as course

@@ -31,9 +31,10 @@ use Rattle.step_maker.specs.Finding.{Did}
 use Rattle.step_maker.specs.Reasons.{HadClock, Whose}
 use Rattle.step_maker.specs.Pauses.{Clear, own}
 use Rattle.xp_words.specs.declared.reply.Refusal.TheVariants as refusals
+use Rattle.xp_words.proofs.Shared.{lt_true as less_is}
 use Rattle.flush_words.specs.Flushing.{FlushedBy, FlushesOwn, none, once, spent, ticked, overtaken}
 use Rattle.flush_words.proofs.Lasting.{came_longer}
-use Rattle.flush_words.proofs.OwnFlush.{all_below, clock_less, less_is, to_next, to_found}
+use Rattle.flush_words.proofs.OwnFlush.{all_below, clock_less, to_next, to_found}
 
 -- v loads the clock, `loaded` exchanges it, and `exchanged` stores what the clock was then
 pub record Flushed (v w : PortValue) : Type 0 where

@@ -15,6 +15,7 @@ use Rattle.xp_board.proofs.MoreSteps.{last_since-here, last_since-elsewhere}
 use Rattle.step_maker.specs.Moves.{Moves, Moment, Ran, Came, step_at}
 use Rattle.step_maker.proofs.Noting.{made_now, moves_steps, moves_keeps}
 use Rattle.step_maker.specs.Reasons.{LastAtMost}
+use Rattle.step_maker.proofs.Shared.{ran_longer}
 
 module _ (v w : PortValue) (p : Place) (a : Act) (k : StepKind) (mark : Option Mark) (found : ℕ) (m : Moves v w p a k mark found) where
   at_place : place_at (sizes_of v.post.machine) (step_at v.post.machine p a k mark).place ≡ p
@@ -47,13 +48,6 @@ last_at_most v w p k mark x stamp m low = record { last = x; was = last_looked v
 ran_keeps : (v w : PortValue) (ms : List Moment) (test : ℕ → Made → Bool) → Ran v ms w → IsTrue (some_step test v.holdings.steps) → IsTrue (some_step test w.holdings.steps)
 ran_keeps v w [] test r h = subst (λ (y : PortValue). IsTrue (some_step test y.holdings.steps)) (sym r) h
 ran_keeps v w (m ∷ ms) test r h = moves_keeps r.0 w m.place m.act m.kind m.mark m.found r.2.moves test (ran_keeps v r.0 ms test r.1 h)
-
-ran_longer : (v w : PortValue) (ms : List Moment) → Ran v ms w → length v.holdings.steps ≤ length w.holdings.steps
-ran_longer v w [] r = subst (λ (y : PortValue). length v.holdings.steps ≤ length y.holdings.steps) (sym r) (omega arith)
-ran_longer v w (m ∷ ms) r =
-    let before = ran_longer v r.0 ms r.1 in
-    let more = moves_longer r.0 w m.place m.act m.kind m.mark m.found r.2.moves in
-    omega (arith, before, more)
 
 -- what some step found or left, it still did
 pub came_keeps : (v w : PortValue) (test : ℕ → Made → Bool) → Came v w → IsTrue (some_step test v.holdings.steps) → IsTrue (some_step test w.holdings.steps)

@@ -1,5 +1,5 @@
 -- The own flush: when it may be made.
-use Rattle.std.proofs.Common.{◌≡◌, ◌≢◌, ℕ, ◌+◌, ◌<◌, ◌≤◌, ◌==◌, nat_lt, true, ◌∷◌, List, length, None, Ok, Err, IsTrue, refl, sym, ap, ◌∙◌, subst, arith}
+use Rattle.std.proofs.Common.{◌≡◌, ◌≢◌, ℕ, ◌+◌, ◌<◌, ◌≤◌, ◌==◌, nat_lt, ◌∷◌, List, length, None, Ok, Err, IsTrue, refl, sym, ap, ◌∙◌, subst, arith}
 use Rattle.std.proofs.lemmas.Bool.Decides.{nat_tests}
 use Rattle.xp_words.specs.Machine.{Machine}
 use Rattle.xp_words.specs.declared.place.Place.{Place}
@@ -7,6 +7,7 @@ use Rattle.xp_words.specs.declared.place.Place.TheVariants.{Clock}
 use Rattle.xp_words.specs.Places.{Sizes, sizes_of, place_at, flushed_of}
 use Rattle.xp_words.specs.declared.reply.Refusal.TheVariants as refusals
 use Rattle.xp_words.proofs.PlaceLaws.{place_back}
+use Rattle.xp_words.proofs.Shared.{lt_true as less_is, eq_false as when_ne}
 use Rattle.xp_board.specs.declared.step.Act.TheVariants.{Load, Cas, Store}
 use Rattle.xp_board.specs.declared.step.StepKind.TheVariants as kinds
 use Rattle.xp_board.specs.declared.holdings.Made.{Made}
@@ -19,7 +20,7 @@ use Rattle.xp_board.specs.Spelling.{IsSpelling}
 use Rattle.xp_board.specs.Steps.{left_of, some_since}
 use Rattle.xp_board.specs.Told.{Post, PortValue, Finds}
 use Rattle.xp_board.specs.WellFormed.{WellFormed}
-use Rattle.xp_board.proofs.Sums.{when_eq, when_ne}
+use Rattle.xp_board.proofs.Sums.{when_eq}
 use Rattle.step_maker.specs.Moves.{Moves, step_at}
 use Rattle.step_maker.proofs.Noting.{made_now, moves_steps, moves_since, moves_keeps}
 use Rattle.flush_words.specs.Flushing.{MayFlushTo, FlushesOwn, spent, ticked, overtaken}
@@ -56,9 +57,6 @@ clock_head z words x xs at each = subst (λ p. clock_value p x.found ≤ words C
 greater_by : (c f : ℕ) → c ≤ f → c < left_by (Cas c (c + 1)) f
 unfolding left_by
 greater_by c f l = grind (arith, nat_tests)
-
-pub less_is : (c x : ℕ) → c < x → nat_lt c x ≡ true
-less_is c x l = grind (arith, nat_tests)
 
 pub to_next : (c : ℕ) → left_by (Cas c (c + 1)) c ≡ c + 1
 unfolding left_by

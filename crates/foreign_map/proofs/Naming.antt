@@ -1,25 +1,19 @@
 -- What the steps show that read whose tables and frames a call names.
-use Rattle.std.proofs.Common.{◌≡◌, ℕ, ◌<◌, ◌≤◌, ◌==◌, ◌||◌, ◌^◌, nat_lt, if◌then◌else◌, Bool, true, false, List, ◌++◌, length, Option, None, Result, refl, inl, inr, arith}
-use Rattle.std.proofs.lemmas.Bool.Decides.{nat_tests}
-use Rattle.xp_board.proofs.Sums.{when_eq, when_ne}
+use Rattle.std.proofs.Common.{◌≡◌, ℕ, ◌==◌, ◌||◌, ◌^◌, if◌then◌else◌, Bool, true, false, List, ◌++◌, length, Option, None, Result, refl, inl, inr}
+use Rattle.xp_board.proofs.Sums.{when_eq}
 use Rattle.xp_words.specs.Machine.{Machine}
 use Rattle.xp_words.specs.declared.place.Place.{Place}
 use Rattle.xp_words.specs.declared.place.Place.TheVariants.{Life, Priv}
 use Rattle.xp_words.specs.declared.reply.Refusal.{Refusal}
+use Rattle.xp_words.proofs.Shared.{lt_true as within, lt_false as beyond, eq_false as when_ne}
 use Rattle.xp_board.specs.Lists.{EachOf}
 use Rattle.step_maker.specs.Plain.{Words}
 use Rattle.step_maker.specs.Visits.{Visit}
 use Rattle.step_maker.proofs.Piecing.{each_append}
 use Rattle.foreign_map.specs.declared.owners.Owners.{Owners}
-use Rattle.foreign_map.specs.Owning.{Admits, OverOf, OwnersBy, admit, allow, frames_of, refuse_owners, owners_answer, saw_life, saw_privileges, tables_of}
+use Rattle.foreign_map.specs.Owning.{Admits, OverOf, OwnersBy, admit, allow, refuse_owners, owners_answer, saw_life, saw_privileges}
 use Rattle.foreign_map.specs.Owning as by
 use Rattle.foreign_map.proofs.Looking.{IsLook, Saw, saw_after, saw_before}
-
-pub within : (k c : ℕ) → k < c → nat_lt k c ≡ true
-within k c low = grind (arith, nat_tests)
-
-pub beyond : (k c : ℕ) → c ≤ k → nat_lt k c ≡ false
-beyond k c high = grind (arith, nat_tests)
 
 privileges_look : (d x : ℕ) → IsLook (saw_privileges d x)
 privileges_look d x = record { word = refl; act = refl; mark = refl }

@@ -8,6 +8,7 @@ use Rattle.xp_words.specs.declared.place.Place.{Place}
 use Rattle.xp_words.specs.declared.place.Place.TheVariants.{Priv}
 use Rattle.xp_words.specs.declared.reply.Refusal.{Refusal}
 use Rattle.xp_words.specs.declared.reply.Refusal.TheVariants.{NoDomain}
+use Rattle.xp_words.proofs.Shared.{lt_true as within, lt_false as beyond}
 use Rattle.xp_board.specs.declared.holdings.Holdings.{Holdings}
 use Rattle.xp_board.specs.Readings.{domain_of, has_now}
 use Rattle.xp_board.specs.Steps.{some_since}
@@ -19,7 +20,6 @@ use Rattle.foreign_map.specs.declared.owners.Owners.{Owners}
 use Rattle.foreign_map.specs.Owning.{Admits, OverOf, OwnersBy, by_number, frames_of, of_owners, tables_of}
 use Rattle.foreign_map.specs.Owning as by
 use Rattle.foreign_map.proofs.Looking.{Saw, Shows, saw_after, saw_before}
-use Rattle.foreign_map.proofs.Naming.{beyond, within}
 
 is_none : (b : Bool) → b ≡ false → IsTrue (not b)
 is_none b e = rw e refl

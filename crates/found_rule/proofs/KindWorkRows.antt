@@ -7,6 +7,7 @@ use Rattle.xp_words.specs.Machine.{Machine}
 use Rattle.xp_words.specs.declared.place.Place.{Place}
 use Rattle.xp_words.specs.declared.place.Place.TheVariants.{Kind}
 use Rattle.xp_words.specs.Places.{sizes_of}
+use Rattle.xp_words.proofs.Shared.{if_or_zero as if_fewer}
 use Rattle.xp_board.specs.declared.step.Step.{Step}
 use Rattle.xp_board.specs.declared.holdings.Unsettled.{Unsettled}
 use Rattle.xp_board.specs.declared.holdings.TypedReference.{TypedReference}
@@ -33,7 +34,6 @@ use Rattle.found_rule.proofs.Quiet.{Done}
 use Rattle.found_rule.proofs.KindRows.{free_words, row_done, refs_are, typed_are, owner_is, new_reference, owner_none, none, looked, turned_act, count_done, lock_done, pin_done, unpin_done}
 use Rattle.xp_board.proofs.KindReadings.{stamp_of}
 use Rattle.xp_board.proofs.HandLists.{EachOf-more, EachOf-without}
-use Rattle.xp_board.proofs.Sums.{if_fewer}
 
 module _ (n : Machine) (s : ℕ) (x : Step) (m m2 : Place → ℕ) (b c : ℕ → Holdings) (l : s < (sizes_of n).vcpus) (sound : Sound n m b) (others : (t : ℕ) → t ≢ s → c t ≡ b t) (f : ℕ) where
   abbrev base : Holdings

@@ -10,6 +10,7 @@ use Rattle.xp_words.specs.declared.reply.Refusal.TheVariants as refusals
 use Rattle.xp_words.specs.declared.reply.Stop.{Stop}
 use Rattle.xp_words.specs.declared.reply.Stop.TheVariants.{Refused, Paused}
 use Rattle.xp_words.proofs.PlaceLaws.{place_back}
+use Rattle.xp_words.proofs.Shared.{eq_false as when_ne}
 use Rattle.xp_board.specs.declared.step.Act.TheVariants.{Load, Cas, Add}
 use Rattle.xp_board.specs.declared.step.StepKind.TheVariants as kinds
 use Rattle.xp_board.specs.Hands.{IsEmptyHand, empty}
@@ -18,7 +19,7 @@ use Rattle.xp_board.specs.Readings.{domain_of, free_stamp}
 use Rattle.xp_board.specs.RefSteps.{IsUnreachable}
 use Rattle.xp_board.specs.Told.{Post, PortValue}
 use Rattle.xp_board.proofs.ListChanges.{times-with_more_here}
-use Rattle.xp_board.proofs.Sums.{when_eq, when_ne}
+use Rattle.xp_board.proofs.Sums.{when_eq}
 use Rattle.step_maker.specs.Holds.{FlushedSame, Holds, quiet, still}
 use Rattle.step_maker.specs.Moves.{Came, Met, Moves}
 use Rattle.step_maker.proofs.Coming.{came_post}
@@ -30,6 +31,7 @@ use Rattle.frame_words.proofs.FreeSteps.{pages_there}
 use Rattle.claim_words.specs.Claims.{charged, uncharged}
 use Rattle.flush_waits.specs.Waiting.{ArePast, IsWait, ServesBehind, everyone}
 use Rattle.flush_waits.proofs.Flushing.{free_stamp_is}
+use Rattle.flush_waits.proofs.Shared.{wait_missed}
 use Rattle.frame_claims.specs.Blocks.{HasRow, IsBlockOf, IsPlain, IsRow, ServesBlock, holding, rising}
 use Rattle.frame_claims.specs.declared.choosing.Chosen.{Chosen}
 use Rattle.frame_claims.specs.Choosing.{IsFound, Looks, SeenFree}
@@ -113,12 +115,6 @@ wait_stop (Refused (refusals.Clock found)) is = tt
 wait_stop (Refused _) is = absurd is
 wait_stop (Paused (pauses.Flush u s x)) is = tt
 wait_stop (Paused _) is = absurd is
-
-pub wait_missed : (n : Machine) (e : Stop) → IsWait e → missed n e ≡ []
-wait_missed n (Refused (refusals.Clock found)) is = refl
-wait_missed n (Refused _) is = refl
-wait_missed n (Paused (pauses.Flush u s x)) is = refl
-wait_missed n (Paused _) is = absurd is
 
 -- ---- what is in hand
 no_row : (at : ℕ) → IsRow at [] []

@@ -1,21 +1,12 @@
 -- The newest of the claimed frames: it is scrubbed, and given.
-use Rattle.std.proofs.Common.{◌≡◌, ℕ, List, [], ◌∷◌, refl, sym, ap, ◌∙◌, subst}
-use Rattle.xp_words.specs.Machine.{Machine, IsMachine}
+use Rattle.std.proofs.Common.{◌≡◌, ℕ, List, [], ◌∷◌, refl, sym, ap, ◌∙◌}
 use Rattle.xp_board.specs.declared.holdings.Claimed.{Claimed}
 use Rattle.xp_board.specs.declared.holdings.Holdings.{Holdings}
 use Rattle.xp_board.specs.Lists.{times}
 use Rattle.xp_board.specs.Told.{PortValue}
-use Rattle.step_maker.specs.Holds.{Holds, Same, MayWork, still}
+use Rattle.step_maker.specs.Holds.{Holds, Same, still}
 use Rattle.claim_words.specs.Claims.{IsNewest, IsRaised, MayScrub, given_newest, lowered_newest, behind_newest, scrubbed_newest, scrubbed_to}
 use Rattle.frame_claims.specs.Blocks.{IsHead, IsPlain, without_head}
-
-pub may_held : (v w : PortValue) (h : Holdings) → Holds v w h → h.run ≡ v.holdings.run → h.walk ≡ v.holdings.walk → MayWork v → MayWork w
-may_held v w h holds run walk m =
-    record {
-      running = ap (λ (y : PortValue). y.holdings.run) holds ∙ run ∙ m.running;
-      no_walk = ap (λ (y : PortValue). y.holdings.walk) holds ∙ walk ∙ m.no_walk;
-      machine = subst (λ (n : Machine). IsMachine n) (sym (ap (λ (y : PortValue). y.post.machine) holds)) m.machine;
-    }
 
 pub post_held : (v w : PortValue) (h : Holdings) → Holds v w h → w.post ≡ v.post
 post_held v w h holds = ap (λ (y : PortValue). y.post) holds

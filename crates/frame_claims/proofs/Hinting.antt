@@ -6,6 +6,7 @@ use Rattle.std.proofs.lemmas.Nat.{div-mul-add}
 use Rattle.xp_words.specs.Entries.{is_bit}
 use Rattle.xp_words.specs.Machine.{Machine}
 use Rattle.xp_words.specs.declared.place.Place.TheVariants.{Map, Refs}
+use Rattle.xp_words.proofs.Shared.{and_true as both_hold}
 use Rattle.xp_board.specs.Lists.{EachOf}
 use Rattle.xp_board.specs.Readings.{is_free}
 use Rattle.xp_board.specs.Sound.{is_hinted}
@@ -16,7 +17,6 @@ use Rattle.frame_claims.specs.Found.{BlockBy, FreeAt, FreeBlock, TriedBy, TriedW
 use Rattle.frame_claims.specs.Plain.{IsWhollyFree, MapAgrees, ref_looks}
 use Rattle.frame_claims.proofs.Setting.{bits_of, set_of}
 use Rattle.frame_claims.proofs.Telling.{Saw, each_parts, looks_append}
-use Rattle.frame_claims.proofs.Trying.{both_hold}
 use Rattle.frame_words.proofs.Twinning.{full as fits_in}
 
 -- a block that is free, and is the one that is answered

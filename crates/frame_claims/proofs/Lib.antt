@@ -19,6 +19,7 @@ mod Running
 mod Scrubbing
 pub mod Serving
 mod Setting
+pub mod Shared
 mod Sizes
 mod Stopping
 pub mod Telling

@@ -3,10 +3,11 @@ use Rattle.std.proofs.Common.{◌≡◌, ℕ, suc, zero, ◌+◌, ◌<◌, List,
 use Rattle.xp_board.specs.declared.holdings.Claimed.{Claimed}
 use Rattle.xp_board.specs.Lists.{one_at, times, times_by, with_more, without_by}
 use Rattle.xp_board.specs.Told.{PortValue}
-use Rattle.xp_board.proofs.Sums.{when_eq, when_ne}
+use Rattle.xp_board.proofs.Sums.{when_eq}
 use Rattle.step_maker.specs.Holds.{Holds, still}
 use Rattle.claim_words.specs.Claims.{IsNewest, IsRaised, freed_again, behind_newest, taken_at}
 use Rattle.frame_claims.specs.Blocks.{HasRow, IsHead, IsPlain, IsRow, holding, rising, without_head}
+use Rattle.xp_words.proofs.Shared.{eq_false as when_ne}
 
 -- ---- the parts of a row
 record Parts (at s : ℕ) (ss : List ℕ) (cs : List Claimed) : Type 0 where

@@ -4,6 +4,7 @@ use Rattle.xp_words.specs.Machine.{Machine}
 use Rattle.xp_words.specs.RefWords.{ref_write}
 use Rattle.xp_words.specs.declared.place.Place.TheVariants.{Refs, M2p, Cell, Map}
 use Rattle.xp_words.specs.declared.refs.RefWord.TheVariants.{Free, Owned, Dying}
+use Rattle.xp_words.proofs.Shared.{eq_false as when_ne}
 use Rattle.xp_board.specs.declared.holdings.Holdings.{Holdings}
 use Rattle.xp_board.specs.declared.step.Act.TheVariants.{Cas, Store, Add}
 use Rattle.xp_board.specs.declared.step.StepKind.TheVariants as kinds
@@ -12,7 +13,7 @@ use Rattle.xp_board.specs.HintSteps.{map_bit}
 use Rattle.xp_board.specs.Lists.{first_by, times_by}
 use Rattle.xp_board.specs.Readings.{allocated_mark}
 use Rattle.xp_board.specs.Told.{PortValue}
-use Rattle.xp_board.proofs.Sums.{when_eq, when_ne}
+use Rattle.xp_board.proofs.Sums.{when_eq}
 use Rattle.step_maker.specs.Moves.{Moves, Met}
 use Rattle.step_maker.specs.Answers.{Deed, Gives, Misses, SetsM2p, Serves, deeds_by, only_if, stored_cell}
 use Rattle.step_maker.specs.Asked.{Request, IsAsked, named, of}

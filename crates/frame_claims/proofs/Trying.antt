@@ -7,11 +7,12 @@ use Rattle.std.specs.Int.RustNames.{bit_and}
 use Rattle.xp_words.specs.Machine.{Machine}
 use Rattle.xp_words.specs.Places.{map_words, sizes_of}
 use Rattle.xp_words.specs.declared.place.Place.TheVariants.{Map, Refs}
+use Rattle.xp_words.proofs.Shared.{eq_false as when_ne}
 use Rattle.xp_board.specs.Readings.{is_free}
 use Rattle.xp_board.specs.declared.step.Act.TheVariants.{Load}
 use Rattle.xp_board.specs.declared.step.StepKind.TheVariants as kinds
 use Rattle.xp_board.specs.Told.{Post, PortValue}
-use Rattle.xp_board.proofs.Sums.{when_eq, when_ne}
+use Rattle.xp_board.proofs.Sums.{when_eq}
 use Rattle.step_maker.specs.Moves.{Moves}
 use Rattle.step_maker.proofs.Coming.{came_post}
 use Rattle.step_maker.specs.Visits.{Visit, Does, Nothing, Only, Then}
@@ -72,16 +73,6 @@ pub bits_off : (k at x : ℕ) → k ≤ 64 → bit_and (x / 2 ^ at) ((2 ^ 64 - 1
 bits_off k at x few off =
     let masked = subst (λ m. bit_and (x / 2 ^ at) m ≢ m) (mask_is k few) off in
     when_ne (x / 2 ^ at % 2 ^ k) (2 ^ k - 1) (λ e. masked (and_mask (x / 2 ^ at) k ∙ e))
-
-pub both_hold : (a b : Bool) → a ≡ true → b ≡ true → (a && b) ≡ true
-both_hold a b x y = rw (x, y) refl
-
-pub first_fails : (a b : Bool) → a ≡ false → (a && b) ≡ false
-first_fails a b x = rw x refl
-
-pub second_fails : (a b : Bool) → b ≡ false → (a && b) ≡ false
-second_fails true b x = x
-second_fails false b x = refl
 
 -- no step at all, for each number
 pub none_each : (P : ℕ → List Visit → Type 0) (n : ℕ) → ((i : ℕ) → P i []) → Upwards P 0 n []

@@ -18,6 +18,7 @@ use Rattle.flush_words.specs.Flushing as flushing
 use Rattle.flush_words.specs.Flushing.{FlushedBy}
 use Rattle.flush_waits.specs.Listing as waits
 use Rattle.flush_waits.specs.Listing.{LooksAt, Slow, WaitedFor, WaitsInOrder, WeighsBy}
+use Rattle.flush_waits.proofs.Shared.{clock_by}
 use Rattle.frame_claims.proofs.Telling.{Alls, alls_nothing, alls_one, alls_then}
 
 abbrev pub IsAside : Place → Type 0
@@ -71,8 +72,6 @@ module _ (Q : Visit → Type 0) (aside : (x : Visit) → IsAside x.place → Q x
     waited_all (Err (Paused _)) vs a = absurd a
 
 -- ---- why it is refused
-clock_by : (s : ℕ) (r : Refusal) (vs : List Visit) → FlushedBy s (Err r) vs → r ≡ refusals.Clock last_clock
-clock_by s _ _ flushing.FlushedBy.none = refl
 
 module _ (q : Post) (whose : Whose) (stamp : ℕ) where
   spent_by : (u : ℕ) (r : Refusal) (vs : List Visit) → LooksAt q whose stamp u vs (Err r) → r ≡ refusals.Clock last_clock

@@ -12,6 +12,7 @@ use Rattle.step_maker.specs.Moves.{Came}
 use Rattle.step_maker.specs.Plain.{Words}
 use Rattle.step_maker.proofs.Coming.{came_post}
 use Rattle.answer_laws.specs.Alone.{IsAlone}
+use Rattle.answer_laws.proofs.Shared.{alone_telling}
 use Rattle.kind_words.specs.Kinds.{partial_kind}
 use Rattle.partial_state.specs.Levels.{level_type}
 use Rattle.partial_state.specs.declared.stack.TableWork.{TableWork}
@@ -21,7 +22,7 @@ use Rattle.table_entries.specs.declared.entries.Entered.TheVariants as entered
 use Rattle.table_entries.specs.declared.resuming.Resumed.{Resumed}
 use Rattle.table_entries.specs.declared.resuming.Resumed.TheVariants as again
 use Rattle.table_entries.specs.Acquiring.{Advanced, Joined, GaveBack, LeftWaiting, MadeLive, ResumedEntry, TookEntry, TookOn, one_entry_more, table_opened}
-use Rattle.course_laws.proofs.Awaiting.{AloneStays, alone_orderly, alone_telling, rose_by}
+use Rattle.course_laws.proofs.Awaiting.{AloneStays, alone_orderly, rose_by}
 use Rattle.course_laws.proofs.Stopping.{StopsAs, advanced_stops, on_stops}
 use Rattle.frame_ranks.specs.Ranks.{rank_at, rank_of}
 use Rattle.frame_ranks.proofs.Entering.{IsSpelled, enter_opened, enter_paused, enter_recorded, enter_unsettled}

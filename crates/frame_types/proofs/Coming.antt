@@ -20,6 +20,7 @@ use Rattle.xp_board.specs.Readings.{is_dead, is_live, is_partial, is_work}
 use Rattle.xp_board.specs.Told.{PortValue}
 use Rattle.xp_board.proofs.KindForms.{fields_of, PartialForm, partial_form}
 use Rattle.xp_board.proofs.KindReadings.{partial_parts, resumed_in_work}
+use Rattle.xp_board.proofs.Shared.{dead_unlive}
 use Rattle.step_maker.specs.Holds.{FlushedHolds, Holds, MayWork, Same, quiet, still}
 use Rattle.step_maker.specs.Moves.{Moves}
 use Rattle.frame_words.specs.Freeing.{gave}
@@ -38,9 +39,6 @@ use Rattle.frame_types.proofs.Entering.{lent_held, lent_owner}
 untyped_by : (count : ℕ) (K : Type 0) → (count ≡ 0) ⊎ K → (K → ⊥) → count ≡ 0
 untyped_by count K (inl none) off = none
 untyped_by count K (inr known) off = absurd (off known)
-
-dead_unlive : (k : KindWord) → IsTrue (is_dead k) → IsTrue (is_live k) → ⊥
-dead_unlive k dead live = grind (arith, nat_tests)
 
 partial_unlive : (k : KindWord) → IsTrue (is_partial k) → IsTrue (is_live k) → ⊥
 partial_unlive k partial live = grind (arith, nat_tests)

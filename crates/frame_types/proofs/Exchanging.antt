@@ -10,6 +10,7 @@ use Rattle.xp_words.specs.declared.reply.Stop.TheVariants.{Refused, Paused}
 use Rattle.xp_words.specs.KindWords.{is_kind, kind_read, kind_fields, kind_write}
 use Rattle.xp_words.specs.Places.{number, sizes_of, place_at}
 use Rattle.xp_words.proofs.PlaceLaws.{place_back}
+use Rattle.xp_words.proofs.Shared.{eq_false as when_ne}
 use Rattle.xp_board.specs.declared.step.Act.TheVariants.{Load, Cas}
 use Rattle.xp_board.specs.declared.step.StepKind.TheVariants as kinds
 use Rattle.xp_board.specs.declared.holdings.Ending.{Ending}
@@ -23,7 +24,7 @@ use Rattle.xp_board.specs.Steps.{last_since}
 use Rattle.xp_board.specs.Told.{PortValue, Finds}
 use Rattle.xp_board.proofs.KindForms.{fields_of}
 use Rattle.xp_board.proofs.ListCounts.{first_by-none}
-use Rattle.xp_board.proofs.Sums.{when_eq, when_ne}
+use Rattle.xp_board.proofs.Sums.{when_eq}
 use Rattle.xp_board.proofs.Works.{nobody_locks, counted_alive}
 use Rattle.step_maker.specs.Moves.{Moves, Met}
 use Rattle.step_maker.proofs.Coming.{moment_of, moves_met, moves_came, met_before, met_after}

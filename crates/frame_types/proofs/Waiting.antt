@@ -1,12 +1,9 @@
 -- Ordinary memory in the own works that waits for a flush which is not to be had.
-use Rattle.std.proofs.Common.{◌≡◌, ℕ, ◌<◌, true, false, [], None, refl, sym, ap, ◌∙◌, subst}
+use Rattle.std.proofs.Common.{◌≡◌, ℕ, ◌<◌, true, false, None, sym, ap, ◌∙◌, subst}
 use Rattle.xp_words.specs.KindWords.{kind_write}
-use Rattle.xp_words.specs.Machine.{Machine}
 use Rattle.xp_words.specs.declared.kind.PageType.TheVariants.{Writable}
 use Rattle.xp_words.specs.declared.place.Place.TheVariants.{Kind}
 use Rattle.xp_words.specs.declared.reply.Pause.TheVariants as pauses
-use Rattle.xp_words.specs.declared.reply.Stop.{Stop}
-use Rattle.xp_words.specs.declared.reply.Stop.TheVariants.{Refused, Paused}
 use Rattle.xp_board.specs.declared.step.Act.TheVariants.{Store}
 use Rattle.xp_board.specs.declared.step.StepKind.TheVariants as kinds
 use Rattle.xp_board.specs.Hands.{refs_to, work_on}
@@ -14,8 +11,6 @@ use Rattle.xp_board.specs.Told.{PortValue, is_telling, told_word}
 use Rattle.step_maker.specs.Holds.{Same}
 use Rattle.step_maker.specs.Moves.{Moves}
 use Rattle.step_maker.specs.Plain.{Leaves, Words}
-use Rattle.step_maker.specs.Answers.{missed}
-use Rattle.flush_waits.specs.Waiting.{IsWait}
 use Rattle.frame_words.specs.Refs.{MayPut}
 use Rattle.kind_words.specs.Kinds.{partial_kind}
 use Rattle.kind_words.proofs.KindHands.{apart_spares}
@@ -35,9 +30,3 @@ err_gives v u f owner lent apart same =
       held = subst (λ rs. 0 < refs_to f rs) (sym (ap (λ (q : PortValue). q.holdings.refs) same)) (lent_held f owner v.holdings lent);
       spares = apart_spares f u.holdings (ap (λ (q : PortValue). work_on f q.holdings.works) same ∙ apart);
     }
-
--- a wait is no lost exchange
-pub none_missed : (n : Machine) (e : Stop) → IsWait e → missed n e ≡ []
-none_missed n (Refused x) a = refl
-none_missed n (Paused (pauses.Flush vcpu stamp found)) a = refl
-none_missed n (Paused _) a = absurd a

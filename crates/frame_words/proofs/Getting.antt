@@ -9,6 +9,7 @@ use Rattle.xp_words.specs.declared.reply.Refusal.{Refusal}
 use Rattle.xp_words.specs.declared.reply.Refusal.TheVariants.{NoFrame}
 use Rattle.xp_words.specs.declared.reply.Stop.{Stop}
 use Rattle.xp_words.specs.declared.reply.Stop.TheVariants.{Refused, Paused}
+use Rattle.xp_words.proofs.Shared.{lt_true as inside}
 use Rattle.xp_board.specs.declared.step.Act.TheVariants.{Load, Cas}
 use Rattle.xp_board.specs.declared.step.StepKind.TheVariants as kinds
 use Rattle.xp_board.specs.Told.{PortValue}
@@ -18,7 +19,7 @@ use Rattle.step_maker.proofs.Visiting.{does_as, does_nothing, does_one, does_the
 use Rattle.frame_words.specs.declared.rows.Open.{Open}
 use Rattle.frame_words.specs.Plain.{one_more, refer, refer_by}
 use Rattle.frame_words.specs.Refs.{open_word, raised_word, RefusesWord, Gets, GetsBy, Raises, raises_refs, saw_refs, TakesFirst, UnreferredBy, outside as unreal, refused, stopped, had}
-use Rattle.frame_words.proofs.Twinning.{inside, refused_by, refer_none}
+use Rattle.frame_words.proofs.Twinning.{refused_by, refer_none}
 
 pub gets_no_frame : (v : PortValue) (f owner : ℕ) → v.post.machine.frames ≤ f → Gets {A = ℕ} v v f owner (Err (Refused (NoFrame f)))
 gets_no_frame v f owner past = does_as v v _ (λ vs. UnreferredBy v.post.machine f owner (NoFrame f) vs) (λ vs none. unreal past refl none) (does_nothing v)

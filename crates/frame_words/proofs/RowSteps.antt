@@ -5,6 +5,7 @@ use Rattle.xp_words.specs.Places.{sizes_of}
 use Rattle.xp_words.specs.RefWords.{ref_read, IsRef}
 use Rattle.xp_words.specs.declared.refs.RefWord.TheVariants.{Owned}
 use Rattle.xp_words.proofs.RefLaws.{ref_read-write}
+use Rattle.xp_words.proofs.Shared.{eq_false as when_ne}
 use Rattle.xp_board.specs.declared.step.Act.TheVariants.{Cas, Store, Add}
 use Rattle.xp_board.specs.declared.step.StepKind.TheVariants as kinds
 use Rattle.xp_board.specs.Hands.{hand}
@@ -12,7 +13,7 @@ use Rattle.xp_board.specs.Readings.{owner_of, owner_in}
 use Rattle.xp_board.specs.RefSteps.{Raise, one_down, after_ref_row, ref_row, owner_number}
 use Rattle.xp_board.specs.Told.{PortValue}
 use Rattle.xp_board.proofs.Rows.{raise_legal, map_legal}
-use Rattle.xp_board.proofs.Sums.{when_ne, if_itself}
+use Rattle.xp_board.proofs.Sums.{if_itself}
 use Rattle.xp_board.proofs.Numbers.{refs_there}
 use Rattle.step_maker.specs.Holds.{Holds, Same, MayWork, still}
 use Rattle.step_maker.specs.Moves.{May, Moves, found_by}

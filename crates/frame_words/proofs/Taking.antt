@@ -13,6 +13,7 @@ use Rattle.xp_words.specs.declared.reply.Pause.TheVariants.{Lost}
 use Rattle.xp_words.specs.declared.reply.Stop.TheVariants.{Refused, Paused}
 use Rattle.xp_words.proofs.PlaceLaws.{place_back}
 use Rattle.xp_words.proofs.RefLaws.{ref_read-write, ref_write-read}
+use Rattle.xp_words.proofs.Shared.{eq_false as when_ne}
 use Rattle.xp_board.specs.declared.step.Act.TheVariants.{Load, Cas}
 use Rattle.xp_board.specs.declared.step.StepKind.TheVariants as kinds
 use Rattle.xp_board.specs.declared.holdings.Holdings.{Holdings}
@@ -29,7 +30,7 @@ use Rattle.xp_board.specs.RefSteps.{is_closing_on}
 use Rattle.xp_board.specs.Sound.{WorkAgrees}
 use Rattle.xp_board.specs.Spelling.{IsSpelling}
 use Rattle.xp_board.specs.Told.{PortValue, Finds}
-use Rattle.xp_board.proofs.Sums.{one_at-same, when_eq, when_ne}
+use Rattle.xp_board.proofs.Sums.{one_at-same, when_eq}
 use Rattle.xp_board.proofs.Numbers.{refs_there}
 use Rattle.xp_board.proofs.PlaceTests.{equal_by}
 use Rattle.step_maker.specs.Holds.{Holds, Same, still}

@@ -1,5 +1,5 @@
 -- Steps on a board that tells all words, and what they leave.
-use Rattle.std.proofs.Common.{◌≡◌, ◌≢◌, ℕ, ◌/◌, ◌%◌, ◌^◌, ◌<◌, ◌≤◌, ◌==◌, nat_lt, nat_le, if◌then◌else◌, Bool, true, false, Option, Some, None, Ok, Err, refl, sym, ap, ◌∙◌, arith}
+use Rattle.std.proofs.Common.{◌≡◌, ◌≢◌, ℕ, ◌/◌, ◌%◌, ◌^◌, ◌<◌, ◌≤◌, ◌==◌, nat_le, if◌then◌else◌, Bool, true, false, Option, Some, None, Ok, Err, refl, sym, ap, ◌∙◌, arith}
 use Rattle.std.proofs.lemmas.Bool.Decides.{nat_tests}
 use Rattle.xp_words.specs.declared.place.Place.TheVariants.{Clock, Pages, Refs, Map}
 use Rattle.xp_words.specs.RefWords.{ref_read, ref_write}
@@ -8,6 +8,7 @@ use Rattle.xp_words.specs.declared.refs.RefWord.TheVariants.{Free, Owned, Dying}
 use Rattle.xp_words.specs.declared.reply.Refusal.{Refusal}
 use Rattle.xp_words.specs.declared.reply.Refusal.TheVariants.{NoFrame, WrongOwner, CountFull}
 use Rattle.xp_words.specs.declared.reply.Stop.TheVariants.{Refused}
+use Rattle.xp_words.proofs.Shared.{lt_true as inside, eq_false as when_ne}
 use Rattle.xp_board.specs.declared.step.Act.TheVariants.{Load, Cas, Store, Add}
 use Rattle.xp_board.specs.declared.step.StepKind.TheVariants as kinds
 use Rattle.xp_board.specs.Acts.{left_by}
@@ -16,7 +17,7 @@ use Rattle.xp_board.specs.Readings.{ref_count, owner_of}
 use Rattle.xp_board.specs.RefSteps.{one_down, owner_number}
 use Rattle.xp_board.specs.Steps.{is_same}
 use Rattle.xp_board.specs.Told.{PortValue, is_telling, told_word}
-use Rattle.xp_board.proofs.Sums.{when_eq, when_ne}
+use Rattle.xp_board.proofs.Sums.{when_eq}
 use Rattle.step_maker.specs.Moves.{Moves}
 use Rattle.step_maker.specs.Plain.{Words, change, Leaves}
 use Rattle.step_maker.proofs.Telling.{moves_telling, told_there, leaves, leaves_then, load_tells}
@@ -28,11 +29,6 @@ use Rattle.frame_words.specs.Refs.{open_word, raised_word, RefusesWord}
 use Rattle.frame_words.proofs.Putting.{clock_low}
 
 -- ---- a reference is taken
-pub inside : (f k : ℕ) → f < k → nat_lt f k ≡ true
-inside f k h = grind (arith, nat_tests)
-
-pub outside : (f k : ℕ) → k ≤ f → nat_lt f k ≡ false
-outside f k h = grind (arith, nat_tests)
 
 pub full : (a b : ℕ) → a ≤ b → nat_le a b ≡ true
 full a b h = grind (arith, nat_tests)

@@ -1,8 +1,8 @@
 -- What is in hand where a frame was left with its mark, and behind each step after that.
 use Rattle.std.proofs.Common.{◌≡◌, ◌≢◌, ℕ, ◌+◌, ◌<◌, ◌==◌, not, if◌then◌else◌, Bool, true, false, [], ◌∷◌, Some, IsTrue, refl, sym, ap, ◌∙◌, subst}
 use Rattle.xp_words.specs.KindWords.{kind_fields, kind_write}
-use Rattle.xp_words.specs.Machine.{IsMachine}
 use Rattle.xp_words.specs.declared.kind.KindWord.{KindWord}
+use Rattle.xp_words.proofs.Shared.{eq_false as when_ne}
 use Rattle.xp_board.specs.declared.holdings.Holdings.{Holdings}
 use Rattle.xp_board.specs.declared.holdings.Looking.{Looking}
 use Rattle.xp_board.specs.declared.holdings.TypedReference.{TypedReference}
@@ -12,8 +12,8 @@ use Rattle.xp_board.specs.Hands.{brought_typed, typed_to}
 use Rattle.xp_board.specs.KindSteps.{Partial, as_typed, kept_owner, looking_at, put_partial, still_looking}
 use Rattle.xp_board.specs.Lists.{kept_of}
 use Rattle.xp_board.specs.Readings.{domain_of, is_closing, is_partial}
-use Rattle.xp_board.specs.Told.{Post, PortValue}
-use Rattle.xp_board.proofs.Sums.{either, when_eq, when_lost, when_ne}
+use Rattle.xp_board.specs.Told.{PortValue}
+use Rattle.xp_board.proofs.Sums.{either, when_eq, when_lost}
 use Rattle.step_maker.specs.Holds.{Holds, MayWork, still}
 use Rattle.kind_words.specs.Kinds.{MayLeave, left, looked_at}
 use Rattle.kind_words.proofs.KindHands.{typed_held}
@@ -22,6 +22,7 @@ use Rattle.table_words.specs.OldWords.{kept_in_old, known_old}
 use Rattle.table_words.specs.declared.old_words.OldWord.TheVariants.{First}
 use Rattle.kept_marks.specs.Marks.{IsForeign, IsKeptOf, left_kept, took_back, unkept_kind}
 use Rattle.kept_marks.proofs.MarkWords.{partial_form, unkept_differs}
+use Rattle.flush_words.proofs.Shared.{may_held as may_by}
 
 -- a part in which two hands agree
 part_of : {A : Type 0} (part : Holdings → A) (b : Bool) (x y : Holdings) → part x ≡ part y → part (if b then x else y) ≡ part y
@@ -39,15 +40,6 @@ typed_run f e h = part_of (λ (u : Holdings). u.run) (is_closing (kind_fields e.
 
 typed_walk : (f : ℕ) (e : Work) (h : Holdings) → (as_typed f e h).walk ≡ h.walk
 typed_walk f e h = part_of (λ (u : Holdings). u.walk) (is_closing (kind_fields e.word)) _ h refl
-
--- a hand that runs and walks as before
-may_by : (v w : PortValue) (h : Holdings) → Holds v w h → h.run ≡ v.holdings.run → h.walk ≡ v.holdings.walk → MayWork v → MayWork w
-may_by v w h holds run walk may =
-    record {
-      running = ap (λ (q : PortValue). q.holdings.run) holds ∙ run ∙ may.running;
-      no_walk = ap (λ (q : PortValue). q.holdings.walk) holds ∙ walk ∙ may.no_walk;
-      machine = subst (λ (p : Post). IsMachine p.machine) (sym (ap (λ (q : PortValue). q.post) holds)) may.machine;
-    }
 
 -- the look that the mark asks
 abbrev look_at : ℕ → ℕ → ℕ → Looking

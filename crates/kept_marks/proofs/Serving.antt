@@ -1,9 +1,10 @@
 -- What the steps are to a piece in which the frame is asked, and which may take marks off where it is another domain's.
-use Rattle.std.proofs.Common.{◌≡◌, ◌≢◌, ℕ, Bool, true, false, List, [], ◌∷◌, ◌++◌, Some, None, IsTrue, refl, sym, ap, ◌∙◌, subst, arith, inl, inr}
+use Rattle.std.proofs.Common.{◌≡◌, ◌≢◌, ℕ, true, false, List, [], ◌∷◌, ◌++◌, Some, None, IsTrue, refl, sym, ap, ◌∙◌, subst, arith, inl, inr}
 use Rattle.std.proofs.lemmas.Bool.Decides.{nat_tests}
 use Rattle.xp_words.specs.KindWords.{is_kind, kind_fields, kind_write}
 use Rattle.xp_words.specs.declared.kind.KindWord.{KindWord}
 use Rattle.xp_words.specs.declared.place.Place.TheVariants.{Kind, Life}
+use Rattle.xp_words.proofs.Shared.{eq_false as when_ne}
 use Rattle.xp_board.specs.declared.holdings.Holdings.{Holdings}
 use Rattle.xp_board.specs.declared.step.Act.TheVariants.{Cas, Load, Store}
 use Rattle.xp_board.specs.declared.step.StepKind.TheVariants as kinds
@@ -12,11 +13,11 @@ use Rattle.xp_board.specs.KindSteps.{AllowsForm, MayMakePartial}
 use Rattle.xp_board.specs.Readings.{is_dead, is_partial}
 use Rattle.xp_board.specs.Sound.{is_busy}
 use Rattle.xp_board.specs.Told.{Post, PortValue}
-use Rattle.xp_board.proofs.Sums.{when_eq, when_ne}
+use Rattle.xp_board.proofs.Sums.{when_eq}
 use Rattle.xp_board.proofs.WorkFacts.{works_facts}
 use Rattle.step_maker.specs.Moves.{Came, Met, Moves}
 use Rattle.step_maker.proofs.Coming.{came_post, met_before, moves_came}
-use Rattle.step_maker.specs.Answers.{Deed, Misses, Serves, deeds_by, pin_deed}
+use Rattle.step_maker.specs.Answers.{Deed, Misses, Serves, deeds_by}
 use Rattle.step_maker.specs.Asked.{IsAsked, Request}
 use Rattle.step_maker.specs.Reasons.{keeps_type}
 use Rattle.step_maker.proofs.Growing.{asks}
@@ -27,17 +28,13 @@ use Rattle.kind_words.proofs.KindFacts.{work_word}
 use Rattle.kind_words.proofs.KindWriting.{fields_write}
 use Rattle.table_words.specs.OldWords.{old_place}
 use Rattle.table_words.specs.declared.old_words.OldWord.TheVariants.{First}
+use Rattle.table_words.proofs.Shared.{pin_none}
 use Rattle.kept_marks.specs.Marks.{IsUnpaged, unkept_kind}
 use Rattle.kept_marks.proofs.MarkWords.{partial_form, partial_undead, unkept_is}
 
 -- ---- words that keep their type
 busy_undead : (k : KindWord) → is_busy k ≡ true → is_dead k ≡ false
 busy_undead k busy = grind (arith, nat_tests)
-
--- a mark that goes off is no pin
-pin_none : (f : ℕ) (b : Bool) → pin_deed f b b ≡ []
-pin_none f true = refl
-pin_none f false = refl
 
 -- ---- the frame is asked also by what was found later
 pub asked_later : (u v w : PortValue) (r : Request) (f : ℕ) → Came v w → IsAsked u.post.machine u.post.vcpu r (Met u v) f → IsAsked u.post.machine u.post.vcpu r (Met u w) f

@@ -9,6 +9,7 @@ use Rattle.xp_words.specs.declared.place.Place.TheVariants.{Clock}
 use Rattle.xp_words.specs.KindWords.{is_kind, kind_fields, kind_write}
 use Rattle.xp_words.specs.PageTypes.{is_none, is_table, type_number}
 use Rattle.xp_words.specs.Places.{sizes_of}
+use Rattle.xp_words.proofs.Shared.{eq_false as when_ne}
 use Rattle.xp_board.specs.declared.holdings.Work.{Work}
 use Rattle.xp_board.specs.declared.holdings.Holdings.{Holdings}
 use Rattle.xp_board.specs.declared.holdings.TypedReference.{TypedReference}
@@ -23,7 +24,7 @@ use Rattle.xp_board.specs.Readings.{is_work, is_closing, domain_of}
 use Rattle.xp_board.specs.Steps.{some_since}
 use Rattle.xp_board.specs.Told.{PortValue}
 use Rattle.xp_board.proofs.KindReadings.{work_alone, closing_alone, work_unlive}
-use Rattle.xp_board.proofs.Sums.{when_eq, when_ne}
+use Rattle.xp_board.proofs.Sums.{when_eq}
 use Rattle.step_maker.specs.Holds.{MayWork}
 use Rattle.kind_words.specs.Kinds.{MayLeave, left, IsWholeWork, live_kind, partial_kind, unmarked_kind, dead_kind}
 use Rattle.kind_words.proofs.KindWriting.{fields_write, live_is, marked_is, partial_is, unmarked_is, dead_is, live_fits, unlive_fits}

@@ -9,6 +9,7 @@ use Rattle.xp_words.specs.declared.kind.PageType.{PageType}
 use Rattle.xp_words.specs.KindWords.{is_kind, kind_fields, kind_write}
 use Rattle.xp_words.specs.PageTypes.{is_none}
 use Rattle.xp_words.proofs.KindLaws.{kind_read-write}
+use Rattle.xp_words.proofs.Shared.{eq_false as when_ne}
 use Rattle.xp_board.specs.declared.step.Act.TheVariants.{Cas, Store, Add}
 use Rattle.xp_board.specs.declared.step.StepKind.TheVariants as kinds
 use Rattle.xp_board.specs.declared.holdings.Holdings.{Holdings}
@@ -19,7 +20,7 @@ use Rattle.xp_board.specs.Readings.{is_live, is_dead, is_partial}
 use Rattle.xp_board.specs.RefSteps.{one_down}
 use Rattle.xp_board.specs.Spelling.{IsSpelling, is_kind_in}
 use Rattle.xp_board.specs.Told.{PortValue}
-use Rattle.xp_board.proofs.Sums.{when_ne, if_itself}
+use Rattle.xp_board.proofs.Sums.{if_itself}
 use Rattle.step_maker.specs.Holds.{Holds, MayWork, still}
 use Rattle.step_maker.specs.Moves.{May, Moves, found_by}
 use Rattle.kind_words.specs.Kinds.{looked_at, counted_type, begun_work, resumed_work, MayLeave}

@@ -8,6 +8,7 @@ use Rattle.xp_words.specs.declared.reply.Pause.TheVariants.{Lost}
 use Rattle.xp_words.specs.declared.reply.Stop.{Stop}
 use Rattle.xp_words.specs.declared.reply.Stop.TheVariants.{Paused}
 use Rattle.xp_words.proofs.PlaceLaws.{place_back}
+use Rattle.xp_words.proofs.Shared.{eq_false as when_ne}
 use Rattle.xp_board.specs.Acts.{left_by}
 use Rattle.xp_board.specs.Hands.{work_on}
 use Rattle.xp_board.specs.KindSteps.{resumed_kind}
@@ -18,7 +19,7 @@ use Rattle.xp_board.specs.declared.holdings.Work.{Work}
 use Rattle.xp_board.specs.declared.step.Act.TheVariants.{Cas, Load, Store}
 use Rattle.xp_board.specs.declared.step.StepKind.TheVariants as kinds
 use Rattle.xp_board.proofs.KindForms.{fields_of}
-use Rattle.xp_board.proofs.Sums.{when_eq, when_ne}
+use Rattle.xp_board.proofs.Sums.{when_eq}
 use Rattle.step_maker.specs.Moves.{Came, Met, Moves}
 use Rattle.step_maker.proofs.Coming.{came_post, came_trans, met_after, met_before, moment_of, moves_came, moves_met}
 use Rattle.flush_words.proofs.Lasting.{last_left}
@@ -32,7 +33,7 @@ use Rattle.kind_words.proofs.KindFacts.{read_is, work_word}
 use Rattle.kind_words.proofs.KindWriting.{fields_write, resumed_is}
 use Rattle.partial_state.specs.declared.stack.TableWork.{TableWork}
 use Rattle.table_words.specs.declared.old_words.OldWord.{OldWord}
-use Rattle.table_releases.proofs.PiecesTyped.{no_pin}
+use Rattle.table_words.proofs.Shared.{pin_none as no_pin}
 use Rattle.level_release.specs.Asking.{IsReleasePiece}
 use Rattle.level_release.specs.Settling.{TookOld}
 use Rattle.level_release.proofs.Asking.{settling}

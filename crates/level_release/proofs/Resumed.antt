@@ -38,7 +38,6 @@ use Rattle.table_releases.specs.Found.{has_recorded}
 use Rattle.table_words.specs.OldWords.{kept_in_old}
 use Rattle.table_words.specs.declared.old_words.OldWord.{OldWord}
 use Rattle.table_words.specs.declared.old_words.OldWord.TheVariants.{First}
-use Rattle.table_releases.proofs.HandLive.{looks_none}
 use Rattle.level_release.specs.Course.{resumed_table}
 use Rattle.level_release.specs.Holding.{AreInRelease, Empties, IsReleasedWork, LeavesEmptied, LeavesUnheld}
 use Rattle.level_release.specs.Settling.{TookOld}
@@ -47,6 +46,7 @@ use Rattle.kind_words.proofs.KindHands.{no_work}
 use Rattle.level_release.proofs.Handing.{emptied_leaves, now_beside}
 use Rattle.level_release.proofs.Owning.{known_by_typed, look_tells}
 use Rattle.level_release.proofs.Taken.{named_again, named_later, named_ref, named_since, taken_held, took_looking, took_typed, took_works}
+use Rattle.table_entries.proofs.Shared.{no_looks as looks_none}
 
 -- no mark where something is recorded
 unmarked_by : (u : Bool) (n : ℕ) → (u ≡ true → n ≡ 0) → 0 < n → u ≡ false

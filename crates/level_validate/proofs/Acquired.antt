@@ -49,11 +49,11 @@ use Rattle.step_maker.specs.Finding.{Finding}
 use Rattle.step_maker.proofs.Later.{stops_later}
 use Rattle.step_maker.proofs.Piecing.{serves_back, serves_call, serves_came, serves_within, stops_before, stops_within, within_frame}
 use Rattle.flush_waits.specs.Waiting.{IsWait}
+use Rattle.flush_waits.proofs.Shared.{wait_missed as none_missed}
 use Rattle.frame_types.proofs.Serving.{type_uncounted}
 use Rattle.kept_marks.specs.Marks.{IsForeign}
 use Rattle.kept_marks.proofs.Keeping.{foreign_on as foreign_still}
 use Rattle.level_validate.specs.Serving.{IsPiece, ServesLeft, ServesMarked, ServesWaiting}
-use Rattle.frame_types.proofs.Waiting.{none_missed}
 use Rattle.xp_board.specs.declared.holdings.OwnerFound.TheVariants as owners
 use Rattle.frame_types.specs.declared.taking.Taken.TheVariants as types
 use Rattle.xp_preempt.specs.Gates.{Gate, Gated}

@@ -1,6 +1,5 @@
 -- A typed reference in hand to a frame whose type an entry of a table in work has too: it is not the last one.
-use Rattle.std.proofs.Common.{◌≡◌, ℕ, ◌==◌, ◌<◌, ◌≤◌, Bool, true, false, Some, refl, sym, ap, ◌∙◌, subst, arith, ◌+◌, ◌-◌, List, ◌∷◌, Option, None, IsTrue, Result, Ok, Err, IfOk}
-use Rattle.std.proofs.lemmas.Bool.Decides.{nat_tests}
+use Rattle.std.proofs.Common.{◌≡◌, ℕ, ◌<◌, ◌≤◌, Bool, true, false, Some, refl, sym, ap, ◌∙◌, subst, arith, ◌+◌, ◌-◌, List, ◌∷◌, Option, None, IsTrue, Result, Ok, Err, IfOk}
 use Rattle.xp_words.specs.Entries.{demand_at, below}
 use Rattle.xp_words.specs.KindWords.{kind_fields}
 use Rattle.xp_words.specs.Machine.{Machine}
@@ -48,6 +47,7 @@ use Rattle.level_validate.proofs.Opening.{FirstFound, CameOpen}
 use Rattle.level_validate.proofs.Pushing.{e, es, looked_hand, looked_only, looked_stands, next, pushed, pushed_lent, pushed_own, reach_again, reach_next, ready_by, recorded_hand, recorded_stands, seen, seen_recorded, seen_table, seen_word}
 use Rattle.table_words.proofs.Shedding.{none_unsettled}
 use Rattle.xp_words.specs.declared.reply.Stop.{Stop}
+use Rattle.xp_words.proofs.Shared.{eq_one as number_one}
 use Rattle.step_maker.specs.Answers.{Stops}
 use Rattle.partial_state.specs.Stacks.{advanced, left_on_top, IsStack}
 use Rattle.table_entries.specs.Asking.{ShowsEntered, of_entries}
@@ -76,9 +76,6 @@ module _ (n : Machine) (s : ℕ) (h : Holdings) (f : ℕ) {e : Work} (here : wor
       let typed = typed_hand_is g (hands s) in
       let held : 0 < typed_to g (hands s).typed = subst (λ (u : Holdings). 0 < typed_to g u.typed) (sym mine) in_hand in
       omega (arith, one, entry, part, typed, held)
-
-number_one : (n : ℕ) → (n == 1) ≡ true → n ≡ 1
-number_one n is = grind (arith, nat_tests)
 
 module _ {v a : PortValue} {f : ℕ} {last : Bool} (d : DropsType v a f last) where
   pub never_last : MayGiveBack v.post.machine v.post.vcpu f v.holdings → last ≡ true → ⊥

@@ -42,9 +42,9 @@ use Rattle.xp_board.specs.Hands.{refs_to, work_on}
 use Rattle.xp_board.specs.Lists.{first_by}
 use Rattle.xp_board.proofs.ListCounts.{times_by-cons_other}
 use Rattle.flush_waits.specs.Waiting.{IsWait}
+use Rattle.flush_waits.proofs.Shared.{wait_missed as none_missed}
 use Rattle.table_entries.specs.Asking.{AsksBelow, of_entries}
 use Rattle.table_entries.proofs.PiecesWithin.{within_entries}
-use Rattle.frame_types.proofs.Waiting.{none_missed}
 use Rattle.xp_board.specs.declared.step.StepKind.TheVariants as kinds
 use Rattle.xp_board.specs.declared.holdings.OwnerFound.TheVariants as owners
 

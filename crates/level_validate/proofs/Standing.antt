@@ -313,9 +313,6 @@ module _ {v w : PortValue} {owner : ℕ} {t : TableWork} {ts : List TableWork} (
     top_kept = left_gone ∙ ap (λ xs. record w.holdings { typed = without_typed t.frame w.holdings.typed; works = without_work t.frame w.holdings.works; looking = xs }) (sym top_looking)
 
 -- ---- what a test says
-pub not_so : (b : Bool) → not b ≡ true → b ≡ false
-not_so true e = absurd cc
-not_so false e = refl
 
 pub is_so : (b : Bool) → not b ≡ false → b ≡ true
 is_so true e = refl

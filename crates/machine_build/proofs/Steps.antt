@@ -11,6 +11,7 @@ use Rattle.xp_words.specs.Places.{Sizes, is_place, number, memory, size, map_wor
 use Rattle.xp_words.proofs.PlaceLaws.{memory_same, memory_other, number-lt}
 use Rattle.xp_words.specs.RefWords.{ref_write}
 use Rattle.xp_words.specs.declared.refs.RefWord.TheVariants.{Owned}
+use Rattle.xp_words.proofs.Shared.{if_or_zero as when_lt}
 use Rattle.trace_text.specs.declared.trace.Trace.{Trace}
 use Rattle.trace_text.specs.declared.trace.Own.{Own}
 use Rattle.trace_text.specs.declared.trace.CellRun.{CellRun}
@@ -224,9 +225,6 @@ pub reverse_take_more : {A : Type 0} (xs : List A) (i : ℕ) (d : A) → i < len
 reverse_take_more xs i d h = rw (take_more xs i d h) (simp reverse-append)
 
 -- ---- the map
-when_lt : (b : Bool) (n : ℕ) → (if b then n else 0) ≤ n
-when_lt true n = omega arith
-when_lt false n = omega arith
 
 pub bits_below-lt : (n : ℕ) (p : ℕ → Bool) → bits_below n p < 2 ^ n
 unfolding bits_below

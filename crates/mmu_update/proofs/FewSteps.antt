@@ -1,5 +1,5 @@
 -- An update by address makes few steps: four loads, what finds the table out, and an exchange at level 1.
-use Rattle.std.proofs.Common.{◌≡◌, ℕ, ◌+◌, ◌*◌, ◌-◌, ◌<◌, ◌≤◌, Bool, false, List, [], ◌∷◌, ◌++◌, length, Result, Ok, Err, refl, ap, ◌∙◌, subst, sym, arith}
+use Rattle.std.proofs.Common.{◌≡◌, ℕ, ◌+◌, ◌*◌, ◌-◌, ◌<◌, ◌≤◌, Bool, false, List, ◌∷◌, ◌++◌, length, Result, Ok, Err, refl, ap, ◌∙◌, subst, sym, arith}
 use Rattle.xp_words.specs.Entries.{frame_of}
 use Rattle.xp_words.specs.Machine.{IsMachine, Machine}
 use Rattle.xp_words.specs.Places.{Sizes, sizes_of}
@@ -7,11 +7,10 @@ use Rattle.xp_words.specs.declared.reply.Pause.TheVariants as pauses
 use Rattle.xp_words.specs.declared.reply.Stop.{Stop}
 use Rattle.xp_words.specs.declared.reply.Stop.TheVariants.{Paused}
 use Rattle.xp_board.specs.Told.{Post, PortValue}
-use Rattle.step_maker.specs.Moves.{Moment, Ran}
-use Rattle.step_maker.specs.Visits.{Only, Then, Visit, visits}
+use Rattle.step_maker.specs.Visits.{Only, Then, Visit}
 use Rattle.entry_exchange.specs.Course as exchanges
 use Rattle.entry_exchange.proofs.Lengths.{Short}
-use Rattle.entry_exchange.proofs.Steps.{exchange_short, adds_more, adds_then, does_adds, gave_ref, got_ref, left_lock, moves_adds, moves_length}
+use Rattle.entry_exchange.proofs.Steps.{exchange_short, adds_more, adds_then, does_adds, gave_ref, got_ref, left_lock, moves_adds}
 use Rattle.entry_locks.specs.Found.{LocksBy}
 use Rattle.entry_locks.specs.declared.locking.Locked.{Locked}
 use Rattle.entry_locks.specs.declared.locking.Locked.TheVariants.{Table, Other}
@@ -25,10 +24,6 @@ use Rattle.tlb_walks.specs.Addresses.{index_of}
 record Adds (v w : PortValue) (k : ℕ) : Type 0 where
   post : w.post ≡ v.post
   few : length w.holdings.steps ≤ length v.holdings.steps + k
-
-ran_length : (v w : PortValue) (ms : List Moment) → Ran v ms w → length w.holdings.steps ≡ length v.holdings.steps + length (visits ms)
-ran_length v w [] ran = ap (λ (x : PortValue). length x.holdings.steps) ran ∙ omega arith
-ran_length v w (m ∷ ms) ran = let before = ran_length v ran.0 ms ran.1 in let one = moves_length ran.2.moves in omega arith
 
 -- ---- single calls
 

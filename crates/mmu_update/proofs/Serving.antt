@@ -1,16 +1,15 @@
 -- The steps of a write, one call behind the other: what a guest sees of them, and why it stops.
-use Rattle.std.proofs.Common.{◌≡◌, ℕ, Bool, true, false, List, [], ◌∷◌, ◌++◌, Option, None, Some, Result, Ok, Err, refl, ◌∙◌, subst, append-nil, inl, inr, ◌⊎◌}
+use Rattle.std.proofs.Common.{◌≡◌, ℕ, Bool, true, false, List, [], ◌∷◌, ◌++◌, Option, None, Some, Result, Ok, Err, ◌∙◌, subst, append-nil, inl, inr, ◌⊎◌}
 use Rattle.xp_words.specs.declared.kind.PageType.{PageType}
 use Rattle.xp_words.specs.declared.kind.PageType.TheVariants.{Writable}
 use Rattle.xp_words.specs.declared.place.Place.TheVariants.{Cell, Kind}
 use Rattle.xp_words.specs.declared.reply.Stop.{Stop}
-use Rattle.xp_board.specs.declared.holdings.Holdings.{Holdings}
 use Rattle.xp_board.specs.declared.step.Act.TheVariants.{Store}
 use Rattle.xp_board.specs.declared.step.StepKind.TheVariants as kinds
 use Rattle.xp_board.specs.Told.{Post, PortValue}
 use Rattle.step_maker.specs.Moves.{Came, Met, Moves}
 use Rattle.step_maker.proofs.Coming.{came_post, met_after}
-use Rattle.step_maker.specs.Answers.{Deed, Misses, Serves, Stops, Writes, deeds_by, missed}
+use Rattle.step_maker.specs.Answers.{Deed, Misses, Serves, Stops, Writes, missed}
 use Rattle.step_maker.specs.Asked.{IsFor, Request, of_back, of_frame}
 use Rattle.step_maker.proofs.Later.{IsUncounted, stops_later}
 use Rattle.step_maker.proofs.Piecing.{serves_back, serves_came, serves_inner, serves_step, serves_within, stops_before, stops_within}
@@ -18,6 +17,7 @@ use Rattle.entry_locks.specs.Locks.{of_lock}
 use Rattle.foreign_map.specs.declared.owners.Owners.{Owners}
 use Rattle.frame_words.specs.Cells.{IsApart}
 use Rattle.writable_pages.specs.Pages.{HidesMark, ServesPage, of_page}
+use Rattle.writable_pages.proofs.Shared.{store_deed}
 use Rattle.mmu_update.specs.Elements.{ServesUpdate, stopped, stored, update_request}
 use Rattle.mmu_update.specs.declared.element.Element.TheVariants.{Write}
 use Rattle.entry_exchange.proofs.Taking.{hides_mark, hides_none}
@@ -27,10 +27,6 @@ use Rattle.mmu_update.proofs.Asking.{Covers, for_none, names_frame, of_call, wit
 shows_nothing : (v : PortValue) (f d : ℕ) (hidden : List Deed) → (hidden ≡ []) ⊎ (HidesMark {A = Unit {0}} v d (Ok tt) × (hidden ≡ Misses (Kind f) ∷ [])) → hidden ++ [] ≡ []
 shows_nothing v f d hidden (inl none) = append-nil hidden ∙ none
 shows_nothing v f d hidden (inr mark) = absurd mark.0
-
--- a store in a frame that the vCPU does not work on is a deed
-store_deed : (f i word found : ℕ) (h : Holdings) → IsApart f h → deeds_by (Cell f i) (Store word) kinds.Cell found h ≡ Writes f i word ∷ []
-store_deed f i word found h apart = rw (apart.locks, apart.works, apart.claimed) refl
 
 abbrev pub asks : Owners → ℕ → ℕ → ℕ → Bool → Result (Unit {0}) Stop → Request
 asks o f i word keep answer = update_request o (Write f i word keep) answer

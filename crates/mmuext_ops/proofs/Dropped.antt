@@ -1,5 +1,5 @@
 -- Own translations that are dropped, as elements.
-use Rattle.std.proofs.Common.{◌≡◌, ℕ, List, [], Ok, Err, None, refl, subst}
+use Rattle.std.proofs.Common.{◌≡◌, ℕ, [], Ok, Err, None, subst}
 use Rattle.xp_words.specs.declared.reply.Refusal.{Refusal}
 use Rattle.xp_words.specs.declared.reply.Refusal.TheVariants as refusals
 use Rattle.xp_words.specs.declared.reply.Stop.TheVariants.{Refused}
@@ -8,17 +8,16 @@ use Rattle.xp_board.specs.Told.{PortValue}
 use Rattle.step_maker.specs.Holds.{Same}
 use Rattle.step_maker.specs.Answers.{Forgets, Serves, only_if}
 use Rattle.step_maker.specs.Asked.{Request}
-use Rattle.step_maker.specs.Visits.{Does, Visit}
-use Rattle.flush_words.specs.Flushing.{FlushedBy, none}
+use Rattle.step_maker.specs.Visits.{Does}
+use Rattle.flush_words.specs.Flushing.{FlushedBy}
 use Rattle.tlb_walks.specs.Addresses.{is_canonical, page_of}
 use Rattle.tlb_walks.specs.Dropping.{of_flush}
 use Rattle.mmuext_ops.specs.Course.{FlushedLocal, spent}
 use Rattle.mmuext_ops.specs.Elements.{IsElementStop, ServesElement, ext_request, told}
 use Rattle.mmuext_ops.specs.declared.element.Element.TheVariants.{FlushLocal, Invalidate}
+use Rattle.flush_waits.proofs.Shared.{clock_by as last_value}
 
 -- ---- all of them
-last_value : (s : ℕ) (e : Refusal) (vs : List Visit) → FlushedBy s (Err e) vs → e ≡ refusals.Clock last_clock
-last_value s e vs none = refl
 
 module _ (v w : PortValue) where
   pub flushed_serves : (d : ℕ) → Serves v w of_flush [] → ServesElement v w d FlushLocal None (Ok tt)

@@ -41,7 +41,6 @@ use Rattle.partial_state.specs.Levels.{level_type}
 use Rattle.partial_state.proofs.LevelFacts.{level_type-table}
 use Rattle.table_words.specs.Pins.{gave_pin, pinned_kind}
 use Rattle.table_words.proofs.PinWords.{pinned_is}
-use Rattle.table_releases.proofs.HandLive.{looks_none}
 use Rattle.mmuext_ops.specs.Elements.{of_pin, raced_pin, told}
 use Rattle.mmuext_ops.specs.Course.{SetsPin}
 use Rattle.mmuext_ops.specs.Course as ends
@@ -50,6 +49,7 @@ use Rattle.level_validate.specs.Unwinding.{own_domain}
 use Rattle.mmuext_ops.proofs.GivingUp.{held, live, may_drop, none_left}
 use Rattle.mmuext_ops.proofs.Marking.{lost_deeds, lost_misses, lost_stops, pins_deed, tried}
 use Rattle.table_entries.proofs.HandOwners.{known_by_typed}
+use Rattle.table_entries.proofs.Shared.{no_looks as looks_none}
 
 -- ---- the hand
 -- a port that holds the same holds the table too

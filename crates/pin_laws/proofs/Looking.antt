@@ -13,8 +13,8 @@ use Rattle.step_maker.proofs.Telling.{came_telling, load_tells, told_there}
 use Rattle.step_maker.proofs.Visiting.{does_came}
 use Rattle.frame_words.specs.Plain.{got, put, refer}
 use Rattle.table_entries.specs.Acquiring.{GaveRef, GotRef}
+use Rattle.table_entries.proofs.Shared.{gave_came}
 use Rattle.mmuext_ops.specs.Course.{SawKind}
-use Rattle.course_laws.proofs.Walking.{gave_came}
 use Rattle.pin_laws.proofs.Lending.{back_again, got_there}
 
 -- two places

@@ -11,12 +11,13 @@ use Rattle.step_maker.specs.Plain.{Words}
 use Rattle.step_maker.proofs.Coming.{came_post, came_self, came_trans, met_after, met_before}
 use Rattle.step_maker.proofs.Telling.{came_telling}
 use Rattle.answer_laws.specs.Alone.{IsAlone}
+use Rattle.answer_laws.proofs.Shared.{alone_telling}
 use Rattle.partial_state.specs.Levels.{level_type}
 use Rattle.table_law.specs.Lawful.{IsAtRest}
 use Rattle.table_entries.specs.Acquiring.{Acquired, GaveRef, GotRef, unreferred}
 use Rattle.mmuext_ops.specs.Course.{IsPinnedAs, PinEnds, Pinned, SawKind, acquired, pinned_before, refused, unreferred as unreferred_pin}
 use Rattle.course_laws.specs.Courses.{ClockGoesOn, IsDecided, IsFinal, IsHad}
-use Rattle.course_laws.proofs.Awaiting.{AloneStays, alone_orderly, alone_telling}
+use Rattle.course_laws.proofs.Awaiting.{AloneStays, alone_orderly}
 use Rattle.course_laws.proofs.Stopping.{acquired_came}
 use Rattle.pin_laws.proofs.Ending.{ends_done, ends_final}
 use Rattle.pin_laws.proofs.Looking.{back_came, seen_word, words_back}

@@ -12,16 +12,15 @@ use Rattle.xp_words.specs.declared.reply.Stop.{Stop}
 use Rattle.xp_words.specs.declared.reply.Stop.TheVariants.{Refused, Paused}
 use Rattle.xp_words.proofs.PlaceLaws.{place_back}
 use Rattle.xp_words.proofs.RefLaws.{ref_read-write, ref_write-read}
+use Rattle.xp_words.proofs.Shared.{lt_true as inside, lt_false as beyond, eq_false as when_ne}
 use Rattle.xp_board.specs.Acts.{left_by}
 use Rattle.xp_board.specs.Steps.{is_same}
 use Rattle.xp_board.specs.Told.{PortValue, is_telling, told_word}
 use Rattle.xp_board.specs.declared.holdings.OwnerFound.TheVariants as owners
-use Rattle.xp_board.specs.declared.holdings.Reference.{Reference}
 use Rattle.xp_board.specs.declared.step.Act.TheVariants.{Cas, Load, Store}
 use Rattle.xp_board.specs.declared.step.StepKind.TheVariants as kinds
 use Rattle.xp_board.proofs.RefWords.{owned_says, read_small}
-use Rattle.xp_board.proofs.Sums.{when_eq, when_ne}
-use Rattle.step_maker.specs.Holds.{Holds, Same, still}
+use Rattle.xp_board.proofs.Sums.{when_eq}
 use Rattle.step_maker.specs.Moves.{Moves}
 use Rattle.step_maker.specs.Plain.{Leaves, Words, change}
 use Rattle.step_maker.proofs.Coming.{moment_of, met_after, met_before, moves_came, moves_met}
@@ -37,12 +36,9 @@ use Rattle.step_maker.proofs.Changing.{moves_found}
 use Rattle.step_maker.proofs.Piecing.{moves_serves, serves_back, serves_step}
 use Rattle.step_maker.proofs.Visiting.{does_as, does_nothing, does_one, does_then}
 use Rattle.frame_claims.specs.Found.{saw_refs}
-use Rattle.frame_words.specs.Freeing.{PutBy, Puts, gave}
+use Rattle.frame_words.specs.Freeing.{PutBy, Puts}
 use Rattle.frame_words.specs.Plain.{put}
-use Rattle.frame_words.specs.Refs.{took}
-use Rattle.frame_words.proofs.Putting.{without_newest}
 use Rattle.frame_words.proofs.Taking.{just_looked}
-use Rattle.frame_words.proofs.Twinning.{inside, outside as beyond}
 use Rattle.reservations.specs.Returning.{Clears, ReturnsBy, UnreturnedBy, cleared, cleared_in, clears_mark, is_own_allocated, outside, refused, return_refusal, returned}
 
 -- ---- what is asked
@@ -79,10 +75,6 @@ refusal_is n owner f w b real is =
     ap (λ c. if c then (if is_own_allocated owner (ref_read w) then None else Some (WrongOwner f w)) else Some (NoFrame f)) (inside f n.frames real) ∙ ap (λ c. if c then None else Some (WrongOwner f w)) is
 
 -- ---- the hand
-pub cleared_same : (v u w x : PortValue) (f owner : ℕ) → Same v u → Holds u w (took f owner u.holdings) → Holds w x (gave f w.holdings) → Same v x
-cleared_same v u w x f owner look clear back =
-    back ∙ ap (λ (q : PortValue). still (record q { holdings = gave f q.holdings })) clear ∙ ap (λ (q : PortValue). still (record q { holdings = gave f (took f owner q.holdings) })) look
-    ∙ ap (λ rs. still (record v { holdings = record v.holdings { refs = rs } })) (without_newest (λ (e : Reference). e.frame) f (record { frame = f; owner = owners.Of owner }) v.holdings.refs refl)
 
 module _ {v u : PortValue} {f word : ℕ} (owner : ℕ) (look : Moves v u (Refs f) Load kinds.Look None word) (real : f < v.post.machine.frames) where
   pub looked : Serves v u (of_return f owner) []

@@ -1,9 +1,8 @@
 -- Numbers that are put together so that the first that differs decides.
 use Rattle.std.proofs.Common.{◌≡◌, ℕ, zero, suc, ◌+◌, ◌*◌, ◌<◌, ◌≤◌, subst, arith}
+use Rattle.xp_words.proofs.Shared.{one_more_times as mul_more}
 
 -- ---- two of them: the second is at most m
-mul_more : (k m : ℕ) → (k + 1) * m ≡ k * m + m
-mul_more k m = omega arith
 
 pub mul_le : (x y m : ℕ) → x ≤ y → x * m ≤ y * m
 mul_le zero y m h = omega arith

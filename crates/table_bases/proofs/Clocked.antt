@@ -6,6 +6,7 @@ use Rattle.xp_words.specs.declared.place.Place.{Place}
 use Rattle.xp_words.specs.declared.place.Place.TheVariants.{Clock}
 use Rattle.xp_words.specs.declared.reply.Refusal.TheVariants as refusals
 use Rattle.xp_words.specs.declared.reply.Stop.TheVariants.{Refused}
+use Rattle.xp_words.proofs.Shared.{lt_true as less_is}
 use Rattle.xp_board.specs.declared.holdings.Holdings.{Holdings}
 use Rattle.xp_board.specs.declared.step.Act.TheVariants.{Load}
 use Rattle.xp_board.specs.declared.step.StepKind.TheVariants as kinds
@@ -24,11 +25,11 @@ use Rattle.step_maker.specs.Asked.{Request}
 use Rattle.step_maker.specs.Reasons.{own}
 use Rattle.step_maker.proofs.Piecing.{serves_came, serves_nothing, serves_step, serves_then}
 use Rattle.flush_words.proofs.FlushServes.{own_stops}
-use Rattle.flush_words.proofs.OwnFlush.{clock_below, less_is, spent_own}
+use Rattle.flush_words.proofs.OwnFlush.{clock_below, spent_own}
 use Rattle.level_validate.specs.Unwinding.{own_domain}
 use Rattle.table_bases.specs.declared.words.Base.{Base}
 use Rattle.table_bases.specs.Asking.{ServesBase, base_deeds, of_base}
-use Rattle.table_bases.specs.Course.{AcquiresTop, InstallsBy, MeetsBase, SawClock, SetsBase, SetsBaseBy}
+use Rattle.table_bases.specs.Course.{AcquiresTop, InstallsBy, MeetsBase, SawClock, SetsBase}
 use Rattle.table_bases.specs.Course as course
 use Rattle.table_bases.specs.Holding.{FoundClockLow, base_number, naming}
 use Rattle.table_bases.proofs.Requests.{base_flushes}

@@ -26,7 +26,7 @@ use Rattle.kind_words.proofs.KindFacts.{kind_is_some}
 use Rattle.xp_board.proofs.HandLists.{EachOf-first}
 use Rattle.xp_board.proofs.ListChanges.{first_by-changed_here}
 use Rattle.xp_board.proofs.ListCounts.{first_by-cons_here, first_by-none, first_by-without_other, times_by-without_one}
-use Rattle.xp_board.proofs.Sums.{when_eq, when_ne}
+use Rattle.xp_board.proofs.Sums.{when_eq}
 use Rattle.step_maker.specs.Holds.{FlushedHolds, Holds, MayWork, Same, quiet, still}
 use Rattle.step_maker.specs.Moves.{Came, Moves, Moment, Ran, Met, MovesBy}
 use Rattle.step_maker.proofs.Coming.{came_self, came_trans, moves_came, met_after, met_before, moment_of, moves_met}
@@ -52,6 +52,7 @@ use Rattle.frame_types.proofs.Classing.{when_dead, when_partial, when_counted}
 use Rattle.table_entries.proofs.LastEntry.{SeenLast, finds_counts, finds_unkept, learned_seen, seen_asks}
 use Rattle.std.proofs.lemmas.Bool.{cases_eq}
 use Rattle.xp_words.specs.PageTypes.{is_none, is_table}
+use Rattle.xp_words.proofs.Shared.{eq_false as when_ne}
 use Rattle.xp_board.specs.declared.step.Act.{Act}
 use Rattle.xp_board.specs.declared.step.StepKind.{StepKind}
 use Rattle.xp_board.specs.KindSteps.{AllowsKind, AllowsKindRow, Live, after_form, after_kind_cas, after_kind_row, after_kind_store, form_of, made_live, still_looking, Count, Locks, Pin, Unpin, Resume, TakeBack, Begin}

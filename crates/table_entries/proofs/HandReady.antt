@@ -9,6 +9,7 @@ use Rattle.xp_words.specs.declared.entry.Demand.{Demand}
 use Rattle.xp_words.specs.declared.entry.Demand.TheVariants.{Nothing, Bad, Read, Typed}
 use Rattle.xp_words.specs.declared.kind.PageType.{PageType}
 use Rattle.xp_words.specs.declared.place.Place.TheVariants.{Cell}
+use Rattle.xp_words.proofs.Shared.{eq_false as when_ne}
 use Rattle.xp_board.specs.declared.holdings.Holdings.{Holdings}
 use Rattle.xp_board.specs.declared.holdings.Unsettled.{Unsettled}
 use Rattle.xp_board.specs.declared.holdings.Work.{Work}
@@ -20,7 +21,6 @@ use Rattle.xp_board.specs.Told.{PortValue, Post}
 use Rattle.xp_board.proofs.Learned.{learned_frame}
 use Rattle.xp_board.proofs.ListChanges.{first_by-changed_here}
 use Rattle.xp_board.proofs.ListCounts.{first_by-cons_here}
-use Rattle.xp_board.proofs.Sums.{when_ne}
 use Rattle.flush_waits.proofs.Growing.{Grows, came_grows}
 use Rattle.step_maker.proofs.Coming.{moves_came, came_self}
 use Rattle.table_entries.specs.Between.{LooksNext, SeesEntry}

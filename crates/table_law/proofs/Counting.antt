@@ -5,10 +5,11 @@ use Rattle.xp_words.specs.declared.kind.PageType.{PageType}
 use Rattle.xp_words.specs.declared.entry.Demand.{Demand}
 use Rattle.xp_words.specs.declared.entry.Demand.TheVariants.{Nothing, Bad, Read, Typed}
 use Rattle.xp_words.specs.Entries.{demand_of, demand_at, below, is_slot, frame_of}
+use Rattle.xp_words.proofs.Shared.{eq_false as when_ne}
 use Rattle.xp_board.specs.Lists.{one_at}
 use Rattle.xp_board.specs.Recorded.{names}
 use Rattle.xp_board.specs.Sums.{sum_below}
-use Rattle.xp_board.proofs.Sums.{when_eq, when_ne, sum_below-one, sum_below-same, sum_below-fewer}
+use Rattle.xp_board.proofs.Sums.{when_eq, sum_below-one, sum_below-same, sum_below-fewer}
 use Rattle.partial_state.specs.Levels.{level_type}
 use Rattle.partial_state.proofs.LevelFacts.{level_type-below, level_type-table}
 use Rattle.table_law.specs.Plain.{Plain, Share, at}

@@ -2,7 +2,8 @@
 use Rattle.std.proofs.Common.{◌≡◌, ◌≢◌, ℕ, suc, ◌==◌, if◌then◌else◌, Bool, false, List, [], ◌∷◌, refl, sym, ap, ◌∙◌, inl, inr}
 use Rattle.std.proofs.lemmas.Bool.{cases_eq}
 use Rattle.xp_words.specs.declared.kind.KindWord.{KindWord}
-use Rattle.xp_board.proofs.Sums.{when_eq, when_ne}
+use Rattle.xp_words.proofs.Shared.{eq_false as when_ne}
+use Rattle.xp_board.proofs.Sums.{when_eq}
 use Rattle.partial_state.specs.Levels.{level_type}
 use Rattle.table_law.specs.Plain.{Plain}
 use Rattle.kind_words.specs.Kinds.{work_kind}

@@ -6,10 +6,11 @@ use Rattle.xp_words.specs.declared.kind.PageType.{PageType}
 use Rattle.xp_words.specs.declared.entry.Demand.{Demand}
 use Rattle.xp_words.specs.declared.entry.Demand.TheVariants.{Nothing, Bad, Read, Typed}
 use Rattle.xp_words.specs.Entries.{demand_at}
+use Rattle.xp_words.proofs.Shared.{eq_false as when_ne}
 use Rattle.xp_board.proofs.Returned.{same_type}
 use Rattle.xp_board.specs.Readings.{is_partial, is_type}
 use Rattle.xp_board.proofs.EntryWords.{type_same}
-use Rattle.xp_board.proofs.Sums.{when_eq, when_ne}
+use Rattle.xp_board.proofs.Sums.{when_eq}
 use Rattle.kind_words.specs.Kinds.{work_kind}
 use Rattle.partial_state.specs.Levels.{level_type}
 use Rattle.partial_state.proofs.LevelFacts.{level_type-apart}

@@ -9,7 +9,6 @@ use Rattle.xp_words.specs.declared.entry.Demand.TheVariants.{Typed}
 use Rattle.xp_words.specs.declared.kind.PageType.{PageType}
 use Rattle.xp_words.specs.declared.place.Place.TheVariants.{Kind, Clock}
 use Rattle.xp_board.specs.declared.holdings.Holdings.{Holdings}
-use Rattle.xp_board.specs.declared.holdings.Looking.{Looking}
 use Rattle.xp_board.specs.declared.holdings.Reference.{Reference}
 use Rattle.xp_board.specs.declared.holdings.TypedReference.{TypedReference}
 use Rattle.xp_board.specs.declared.holdings.Unsettled.{Unsettled}
@@ -18,9 +17,9 @@ use Rattle.xp_board.specs.declared.step.Act.TheVariants.{Load}
 use Rattle.xp_board.specs.Acts.{left_by}
 use Rattle.xp_board.specs.After.{learned_cell}
 use Rattle.xp_board.specs.Hands.{brought_as, changed_work, refs_to, typed_owner, typed_to, without_typed, work_on, surely, without_work}
-use Rattle.xp_board.specs.KindSteps.{MayDrop, still_looking, new_work, resumed_kind, unsettled_from}
+use Rattle.xp_board.specs.KindSteps.{MayDrop, new_work, resumed_kind, unsettled_from}
 use Rattle.xp_board.specs.Knowledge.{knows_live}
-use Rattle.xp_board.specs.Lists.{changed_by, first_by, kept_of}
+use Rattle.xp_board.specs.Lists.{changed_by, first_by}
 use Rattle.xp_board.specs.Readings.{is_live, is_live_word, kind_at, is_partial, is_work}
 use Rattle.xp_board.specs.Recorded.{entry_demand}
 use Rattle.xp_board.specs.Settling.{is_settled, settles, settles_last}
@@ -43,6 +42,7 @@ use Rattle.frame_types.proofs.Lowered.{closed_is, closed_kind, closed_unmarked, 
 use Rattle.table_entries.specs.Tops.{with_recorded}
 use Rattle.table_entries.proofs.HandLists.{asks_below, asks_some}
 use Rattle.table_entries.proofs.LastEntry.{SeenLast, finds_counts, seen_asks, seen_sheds, finds_leads}
+use Rattle.table_entries.proofs.Shared.{no_looks as looks_none}
 use Rattle.table_words.specs.Entries.{entry_shed}
 use Rattle.table_words.proofs.Shedding.{none_unsettled, settled_by_step, shed_settled_known}
 use Rattle.table_releases.specs.Between.{SeesKind, SeesTyped, Resumed}
@@ -53,7 +53,7 @@ use Rattle.xp_words.specs.declared.kind.KindWord.{KindWord}
 use Rattle.xp_board.specs.declared.step.Mark.TheVariants.{Shed}
 use Rattle.xp_board.specs.Steps.{some_since}
 use Rattle.xp_board.proofs.KindForms.{PartialForm, fields_of, partial_form}
-use Rattle.xp_board.proofs.Sums.{when_eq, when_ne}
+use Rattle.xp_board.proofs.Sums.{when_eq}
 use Rattle.step_maker.proofs.Noting.{moves_since}
 use Rattle.kind_words.specs.Kinds.{MayLeave, dead_kind, left}
 use Rattle.kind_words.proofs.Leaving.{left_dead, may_leave_dead}
@@ -61,13 +61,9 @@ use Rattle.table_releases.specs.Found.{has_recorded}
 use Rattle.table_releases.proofs.Recording.{recorded_some, recorded_table, recorded_none}
 use Rattle.xp_board.specs.declared.step.StepKind.TheVariants as kinds
 use Rattle.xp_words.specs.PageTypes as types
+use Rattle.xp_words.proofs.Shared.{eq_false as when_ne}
 
 -- ---- lists
--- a vCPU that looks at nothing goes on so
-pub looks_none : (g w : ℕ) (xs : List Looking) → xs ≡ [] → still_looking g w xs ≡ xs
-unfolding kept_of
-looks_none g w [] none = refl
-looks_none g w (x ∷ xs) none = absurd cc
 
 pub none_after : {A : Type 0} (key : A → ℕ) (g f : ℕ) (change : A → A) (xs : List A) → ((x : A) → key (change x) ≡ key x) → first_by key g xs ≡ None → first_by key g (changed_by key f change xs) ≡ None
 none_after key g f change xs kept none = first_by-none key g (changed_by key f change xs) (times-changed key g f change xs kept ∙ first_by-absent key g xs none)

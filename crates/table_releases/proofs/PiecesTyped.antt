@@ -1,5 +1,5 @@
 -- The steps of a release, each as one more of the piece of the whole.
-use Rattle.std.proofs.Common.{◌≡◌, ℕ, ◌&&◌, not, if◌then◌else◌, true, false, List, [], Option, Some, None, IsTrue, refl, sym, ap, ◌∙◌, subst, arith, inl, ◌≢◌, Bool, ◌∷◌, ◌++◌, length, Ok, Err}
+use Rattle.std.proofs.Common.{◌≡◌, ℕ, ◌&&◌, not, if◌then◌else◌, true, false, List, [], Option, Some, None, IsTrue, refl, sym, ap, ◌∙◌, subst, arith, inl, ◌≢◌, ◌∷◌, ◌++◌, length, Ok, Err}
 use Rattle.xp_words.specs.Entries.{demand_at}
 use Rattle.xp_words.specs.KindWords.{kind_fields, is_kind, kind_read, kind_write}
 use Rattle.xp_words.specs.PageTypes.{is_table}
@@ -35,7 +35,7 @@ use Rattle.xp_board.specs.KindSteps.{resumed_kind}
 use Rattle.xp_board.specs.Readings.{is_partial}
 use Rattle.xp_board.specs.Steps.{last_since}
 use Rattle.xp_board.proofs.KindForms.{fields_of}
-use Rattle.xp_board.proofs.Sums.{when_eq, when_ne}
+use Rattle.xp_board.proofs.Sums.{when_eq}
 use Rattle.step_maker.specs.Reasons.{MayType}
 use Rattle.kind_words.proofs.KindFacts.{read_is}
 use Rattle.kind_words.proofs.KindWriting.{fields_write, resumed_is}
@@ -46,7 +46,9 @@ use Rattle.table_releases.specs.declared.entries.Released.{Released}
 use Rattle.table_releases.specs.declared.entries.Released.TheVariants.{Given, Opened}
 use Rattle.table_releases.proofs.FrameSeen.{found_elsewhere, found_kind, found_work, from_seen, kind_post, now_seen}
 use Rattle.xp_words.specs.declared.entry.Demand.TheVariants as demands
+use Rattle.xp_words.proofs.Shared.{eq_false as when_ne}
 use Rattle.xp_board.specs.declared.step.StepKind.TheVariants as kinds
+use Rattle.table_words.proofs.Shared.{pin_none as no_pin}
 
 -- ---- any step but at a cell
 pub goes_step : (b v w : PortValue) (f i owner pages : ℕ) (ds : List Deed) (p : Place) (a : Act) (kind : _) (mark : _) (found : ℕ) (es : List Deed) → Goes b v f i owner pages ds → Moves v w p a kind mark found →
@@ -121,10 +123,6 @@ IsOf g (Opened h recorded closing) = h ≡ g
 -- the entry is shed
 pub gone : {b z : PortValue} {f i owner pages : ℕ} {t : PageType} {a : Released} → Goes b z f i owner pages [] → ShowsReleased b z owner pages t a → Releases b z f i t owner pages (Ok a)
 gone goes shows = record { serves = goes.serves; stops = tt; kinds = tt; shows = shows; looks = goes.looks }
-
-pub no_pin : (f : ℕ) (p : Bool) → pin_deed f p p ≡ []
-no_pin f true = refl
-no_pin f false = refl
 
 module _ {b v : PortValue} {f i : ℕ} {t : PageType} {word g : ℕ} {want : PageType} {x : ℕ} (l : SeesKind b v f i t word g want x) (owner pages : ℕ) where
   from_goes : Goes b l.from f i owner pages []

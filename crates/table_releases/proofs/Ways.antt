@@ -50,11 +50,12 @@ use Rattle.xp_board.specs.KindSteps.{Partial, resumed_kind}
 use Rattle.frame_types.specs.Found.{swaps_kind, StoresKind, DropsPlain}
 use Rattle.kind_words.proofs.KindFacts.{read_is, work_word}
 use Rattle.kind_words.specs.Kinds.{looked_at, resumed_work, dead_kind, left}
-use Rattle.table_releases.proofs.HandLive.{looks_none, stays_recorded, closed_opens, counted_given, dead_given, dead_may, new, new_in_work, new_kind, plain_given, resumed_opens, shed_here}
+use Rattle.table_releases.proofs.HandLive.{stays_recorded, closed_opens, counted_given, dead_given, dead_may, new, new_in_work, new_kind, plain_given, resumed_opens, shed_here}
 use Rattle.xp_board.proofs.KindForms.{fields_of}
 use Rattle.step_maker.proofs.Keeping.{kept_type}
 use Rattle.kind_words.proofs.KindWriting.{fields_write}
 use Rattle.table_entries.specs.Asking.{of_entries}
+use Rattle.table_entries.proofs.Shared.{no_looks as looks_none}
 use Rattle.table_releases.proofs.Recording.{recorded_some, recorded_table}
 use Rattle.frame_types.proofs.Serving.{work_alive}
 use Rattle.xp_words.specs.PageTypes.{is_table}

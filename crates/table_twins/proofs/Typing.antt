@@ -11,6 +11,7 @@ use Rattle.xp_words.specs.declared.place.Place.TheVariants.{Kind}
 use Rattle.xp_words.specs.declared.reply.Refusal.{Refusal}
 use Rattle.xp_words.specs.declared.reply.Refusal.TheVariants as refusals
 use Rattle.xp_words.specs.declared.reply.Stop.TheVariants.{Refused}
+use Rattle.xp_words.proofs.Shared.{and_true as and_both, and_second_false as and_not, above_zero as some_number}
 use Rattle.xp_board.specs.KindSteps.{begun_kind, is_stale, raised_kind}
 use Rattle.xp_board.specs.Readings.{is_dead, is_type}
 use Rattle.step_maker.specs.Plain.{Words}
@@ -79,12 +80,6 @@ module _ (k : KindWord) (t : PageType) where
   other_says is = other_by (is_dead k) (is_same_type k.kind t) k.validated (k.number == 0) k.partial is
 
 -- ---- the plain value by its kind word
-and_not : (b c : Bool) → c ≡ false → (b && c) ≡ false
-and_not true c off = off
-and_not false c off = refl
-
-and_both : (b c : Bool) → b ≡ true → c ≡ true → (b && c) ≡ true
-and_both b c x y = ap (λ k. k && c) x ∙ y
 
 pick : {A : Type 0} (a b : Bool) (x y z : A) → a ≡ false → b ≡ true → (if a then x else if b then y else z) ≡ y
 pick a b x y z off on = ap (λ k. if k then x else if b then y else z) off ∙ ap (λ k. if k then y else z) on
@@ -134,9 +129,6 @@ begun_unmarked k t = by (is_stale k t)
     by : (u : Bool) → work_unmarked (work_kind t u (if u then k.number else 0)) ≡ work_kind t false 0
     by true = refl
     by false = refl
-
-some_number : (c : ℕ) → (c == 0) ≡ false → 0 < c
-some_number c off = grind (arith, nat_tests)
 
 raised_sober : (k : KindWord) (t : PageType) (limit : ℕ) → IsTrue (is_kind k) → IsCounted k t → k.number < limit → limit < 2 ^ 26 → raised_kind k ≡ sober (kind_fields (kind_write (raised_kind k)))
 raised_sober k t limit is c low few =

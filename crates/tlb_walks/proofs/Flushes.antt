@@ -1,10 +1,10 @@
 -- Flushes and dropped translations: what their steps show, and what they leave.
-use Rattle.std.proofs.Common.{◌≡◌, ℕ, ◌<◌, ◌≤◌, ◌==◌, not, if◌then◌else◌, Bool, true, false, [], ◌∷◌, Some, None, Result, Ok, Err, IfErr, MatchResult, refl, sym, ap, ◌∙◌, subst, arith, nat_lt}
-use Rattle.std.proofs.lemmas.Bool.Decides.{nat_tests}
+use Rattle.std.proofs.Common.{◌≡◌, ℕ, ◌<◌, ◌≤◌, ◌==◌, not, if◌then◌else◌, Bool, true, false, [], ◌∷◌, Some, None, Result, Ok, Err, IfErr, MatchResult, refl, sym, ap, ◌∙◌, subst, nat_lt}
 use Rattle.xp_words.specs.Places.{asked_of, flushed_of, sizes_of}
 use Rattle.xp_words.specs.declared.place.Place.TheVariants.{Clock}
 use Rattle.xp_words.specs.declared.reply.Refusal.{Refusal}
 use Rattle.xp_words.specs.declared.reply.Stop.TheVariants.{Refused}
+use Rattle.xp_words.proofs.Shared.{lt_true as less_is, lt_false as no_later}
 use Rattle.xp_board.specs.AckSteps.{after_ack}
 use Rattle.xp_board.specs.declared.holdings.Holdings.{Holdings}
 use Rattle.xp_board.specs.declared.step.Act.TheVariants.{Load}
@@ -25,12 +25,8 @@ use Rattle.flush_words.specs.Flushing.{FlushesOwn}
 use Rattle.flush_words.proofs.Flushed.{own_came, own_flushed}
 use Rattle.flush_words.proofs.RowSteps.{clock_there}
 use Rattle.flush_words.proofs.FlushServes.{asked_flush, own_serves, own_stops}
-use Rattle.flush_words.proofs.OwnFlush.{less_is}
 use Rattle.tlb_walks.specs.Addresses.{is_canonical, page_of}
 use Rattle.tlb_walks.specs.Dropping.{Acks, Heeds, Uncached, ForgetsBy, Invalidates, left_cached, of_flush}
-
-no_later : (x y : ℕ) → y ≤ x → nat_lt x y ≡ false
-no_later x y low = grind (arith, nat_tests)
 
 -- ---- the own flush
 pub emptied : (v w : PortValue) → FlushesOwn v w (Ok tt) → FlushedSame v w → Uncached v w

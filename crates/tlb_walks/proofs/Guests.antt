@@ -2,6 +2,7 @@
 use Rattle.std.proofs.Common.{◌≡◌, ℕ, ◌==◌, ◌&&◌, ◌||◌, not, is_some, if◌then◌else◌, Bool, true, false, List, [], ◌∷◌, Option, Some, None, Ok, IsTrue, refl, sym, ap, ◌∙◌, subst}
 use Rattle.xp_words.specs.Entries.{frame_of}
 use Rattle.xp_words.specs.declared.place.Place.TheVariants.{Cell}
+use Rattle.xp_words.proofs.Shared.{and_true as both_true}
 use Rattle.xp_board.specs.declared.step.Act.{Act}
 use Rattle.xp_board.specs.declared.step.StepKind.TheVariants as kinds
 use Rattle.step_maker.specs.Moves.{Moves}
@@ -59,9 +60,6 @@ and_head false b e = absurd cc
 pub may_read_cached : (v : PortValue) (user : Bool) (va : ℕ) (write : Bool) (x : Item) → WalkReady v → server v user va write ≡ Some x → MayRead x.frame v.holdings
 may_read_cached v user va write x r e =
     record { item = first_passes (is_item user (page_of va)) (λ z. z.frame == x.frame) v.holdings.cache x (server_cached v user va write x e) (when_eq x.frame x.frame refl); warm = r.warm }
-
-both_true : (a b : Bool) → a ≡ true → b ≡ true → (a && b) ≡ true
-both_true a b e f = rw (e, f) refl
 
 pub may_store_cached : (v : PortValue) (user : Bool) (va : ℕ) (x : Item) → WalkReady v → server v user va true ≡ Some x → MayStore x.frame v.holdings
 may_store_cached v user va x r e =

@@ -4,6 +4,7 @@ use Rattle.std.proofs.lemmas.Bool.Decides.{nat_tests}
 use Rattle.xp_words.specs.Entries.{is_bit, frame_of}
 use Rattle.xp_words.specs.Machine.{Machine}
 use Rattle.xp_words.specs.declared.place.Place.TheVariants.{Cell}
+use Rattle.xp_words.proofs.Shared.{eq_false as not_equal}
 use Rattle.xp_board.specs.declared.holdings.Holdings.{Holdings}
 use Rattle.xp_board.specs.declared.holdings.Reached.{Reached}
 use Rattle.xp_board.specs.declared.holdings.Touching.{Touching}
@@ -11,7 +12,7 @@ use Rattle.xp_board.specs.declared.holdings.Walk.{Walk}
 use Rattle.xp_board.specs.declared.step.Act.TheVariants.{Load, Cas}
 use Rattle.xp_board.specs.declared.step.StepKind.TheVariants as kinds
 use Rattle.xp_board.specs.FillSteps as fill
-use Rattle.xp_board.specs.FillSteps.{MayWalkOn, cached_with, is_walked, level_of, touched, walked_by, walked_on, with_bit}
+use Rattle.xp_board.specs.FillSteps.{MayWalkOn, cached_with, is_walked, touched, walked_by, walked_on, with_bit}
 use Rattle.xp_board.specs.Told.{Post, PortValue}
 use Rattle.xp_board.specs.TouchSteps.{MayTouch}
 use Rattle.step_maker.specs.Licences.{is_unmapped}
@@ -57,9 +58,6 @@ may_load v f i r e free low walked =
         warm = r.warm;
       },
     )
-
-not_equal : (x w : ℕ) → x ≢ w → (x == w) ≡ false
-not_equal x w e = grind (arith, nat_tests)
 
 equal : (x w : ℕ) → x ≡ w → (x == w) ≡ true
 equal x w e = grind (arith, nat_tests)
@@ -147,9 +145,6 @@ module _ (v w : PortValue) (f : Flight) (i x y : ℕ) (is : y ≡ touched_in (wi
 unneeded : (b : Bool) (x y : ℕ) → y ≡ x → (b && not (y == x)) ≡ false
 unneeded true x y e = rw (equal y x e) refl
 unneeded false x y e = refl
-
-off_bit : (b c : Bool) → b ≡ false → (b && c) ≡ false
-off_bit b c e = rw e refl
 
 both_bits : (b c : Bool) → b ≡ true → c ≡ false → (b && not c) ≡ true
 both_bits b c e f = rw (e, f) refl

@@ -11,6 +11,7 @@ use Rattle.xp_words.specs.declared.reply.Refusal.TheVariants.{NotMapped}
 use Rattle.xp_words.specs.declared.reply.Stop.{Stop}
 use Rattle.xp_words.specs.declared.reply.Stop.TheVariants.{Refused, Paused}
 use Rattle.xp_words.proofs.PlaceLaws.{place_back}
+use Rattle.xp_words.proofs.Shared.{eq_false as when_ne}
 use Rattle.xp_board.specs.declared.holdings.Made.{Made}
 use Rattle.xp_board.specs.declared.step.Act.TheVariants.{Load, Cas}
 use Rattle.xp_board.specs.declared.step.StepKind.{StepKind}
@@ -19,7 +20,7 @@ use Rattle.xp_board.specs.Acts.{left_by}
 use Rattle.xp_board.specs.Steps.{is_at, is_same, last_since}
 use Rattle.xp_board.specs.Told.{Post, PortValue}
 use Rattle.xp_board.proofs.PlaceTests.{is_same-refl}
-use Rattle.xp_board.proofs.Sums.{when_eq, when_ne}
+use Rattle.xp_board.proofs.Sums.{when_eq}
 use Rattle.step_maker.specs.Moves.{Came, Met, Moves, step_at}
 use Rattle.step_maker.proofs.Coming.{came_post, came_trans, met_after, met_before, moment_of, moves_came, moves_met}
 use Rattle.step_maker.specs.Answers.{Deed, Misses, Serves, Stops, missed, misses}
@@ -36,7 +37,7 @@ use Rattle.tlb_walks.specs.Addresses.{index_of}
 use Rattle.tlb_walks.specs.Asking.{IsWalkStop}
 use Rattle.tlb_walks.specs.Flying.{EntryMoves, PathMoves, alone, both, ends, goes}
 use Rattle.tlb_walks.specs.Walks as by
-use Rattle.tlb_walks.specs.Walks.{EndsAt, EntryBy, PathBy, barrier_with, saw_entry, sets_bits, with_needed}
+use Rattle.tlb_walks.specs.Walks.{EndsAt, EntryBy, PathBy, barrier_with, saw_entry, sets_bits}
 use Rattle.tlb_walks.specs.declared.walks.Walked.{Walked}
 
 -- ---- one entry

@@ -4,6 +4,7 @@ use Rattle.xp_words.specs.Entries.{is_bit, frame_of}
 use Rattle.xp_words.specs.Machine.{Machine}
 use Rattle.xp_words.specs.Places.{sizes_of}
 use Rattle.xp_words.specs.declared.place.Place.TheVariants.{Vcpu, Cell}
+use Rattle.xp_words.proofs.Shared.{eq_false as when_ne}
 use Rattle.xp_board.specs.declared.holdings.Holdings.{Holdings}
 use Rattle.xp_board.specs.declared.holdings.Claimed.{Claimed}
 use Rattle.xp_board.specs.declared.holdings.Lock.{Lock}
@@ -22,7 +23,7 @@ use Rattle.xp_board.specs.Spelling.{IsSpelling}
 use Rattle.xp_board.specs.Told.{PortValue}
 use Rattle.xp_board.specs.TouchSteps.{MayTouch, touched_by}
 use Rattle.xp_board.proofs.Numbers.{cell_there, vcpu_there}
-use Rattle.xp_board.proofs.Sums.{when_eq, when_ne}
+use Rattle.xp_board.proofs.Sums.{when_eq}
 use Rattle.own_cache.proofs.Projecting.{on_is, set_is}
 use Rattle.own_cache.specs.Translating.{Translating, flown, gone_on, landed, set_bits, translating, walk_begun}
 use Rattle.step_maker.specs.Holds.{Same, still}

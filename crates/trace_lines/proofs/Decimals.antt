@@ -1,6 +1,6 @@
 -- Decimal text is a word, and is read as its number.
 use Rattle.std.proofs.Common.{◌≡◌, ℕ, suc, zero, ◌^◌, ◌<◌, List, [], ◌∷◌, length, get_or, Some, Bool, true, false, eqb, ltb, refl, ap, subst, arith, inl, inr}
-use Rattle.std.specs.Prelude.{decimal, codes, ◌&&◌}
+use Rattle.std.specs.Prelude.{decimal, codes}
 use Rattle.std.specs.Char.{digit_value}
 use Rattle.std.specs.List.{list_all}
 use Rattle.std.specs.Str.{bytes_eq}
@@ -13,6 +13,7 @@ use Rattle.std.proofs.lemmas.Fmt.{decimal_is_IsNumeral, decimal_digit, first_dec
 use Rattle.std.proofs.lemmas.Str.Parse.{digit_from_value, digit_at}
 use Rattle.trace_lines.specs.Numbers.{is_digit, numeral_after, is_proper, numeral, number_of}
 use Rattle.trace_lines.specs.Words.{is_separator}
+use Rattle.xp_words.proofs.Shared.{and_second_false as not_both}
 
 abbrev pub is_word : List ℕ → Bool
 is_word w = list_all (λ b. ltb 32 b) w
@@ -58,10 +59,6 @@ no_x n i small e =
       | inl lt ↦ omega (arith, e, (digit_at (decimal n) i (decimal_is_IsNumeral n small).0.1 lt).1)
       | inr le ↦ omega (arith, e, get_or_past (decimal n) i 0 le)
     ]
-
-not_both : (a b : Bool) → b ≡ false → (a && b) ≡ false
-not_both true b e = e
-not_both false b e = refl
 
 numeral_again : (ds : List ℕ) (n : ℕ) → n < 2 ^ 64 → AllDigits 10 ds → digits_value 10 ds ≡ n → numeral_after 10 0 ds ≡ Some n
 numeral_again ds n small digits e = rw (e, digits_again ds digits, lt-ltb n (2 ^ 64) small) refl

@@ -9,6 +9,7 @@ use Rattle.trace_text.specs.Fronts.{Front, front_after}
 use Rattle.trace_text.specs.Lines.{spelling}
 use Rattle.trace_text.specs.TraceOf.{step, is_comment, is_ended, lines_of, trace_from, front_trace}
 use Rattle.trace_text.proofs.LineLoop.{by_line}
+use Rattle.xp_words.proofs.Shared.{eq_false as differ}
 
 -- one line that can be spelled, behind a front that is not ended
 pub record Step (f : Front) (l : Line) (h : Front) : Type 0 where
@@ -23,9 +24,6 @@ Leads f (l ∷ ls) g = (h : Front) × Step f l h × Leads h ls g
 pub leads_both : (f h g : Front) (a b : List Line) → Leads f a h → Leads h b g → Leads f (a ++ b) g
 leads_both f h g [] b first second = subst (λ (k : Front). Leads k b g) (sym first) second
 leads_both f h g (l ∷ a) b first second = (first.0, first.1, leads_both first.0 h g a b first.2 second)
-
-differ : (a b : ℕ) → a ≢ b → (a == b) ≡ false
-differ a b other = grind (arith, common_steps)
 
 plain : (line : List ℕ) → slice_index line 0 ≢ 35 → is_comment line ≡ false
 plain [] other = refl

@@ -1,5 +1,5 @@
 -- Frames that are taken, and runs of frames that are apart.
-use Rattle.std.proofs.Common.{◌≡◌, ℕ, ◌+◌, ◌-◌, ◌<◌, ◌≤◌, ◌||◌, ◌&&◌, not, nat_le, nat_lt, max, List, [], ◌∷◌, ◌++◌, length, drop, get_or, slice_index_or, slice_range, Bool, true, false, IsTrue, refl, sym, ap, ◌∙◌, arith}
+use Rattle.std.proofs.Common.{◌≡◌, ℕ, ◌+◌, ◌-◌, ◌<◌, ◌≤◌, ◌||◌, ◌&&◌, not, nat_le, nat_lt, max, List, [], ◌∷◌, ◌++◌, length, drop, get_or, slice_index_or, slice_range, Bool, true, false, IsTrue, refl, ap, ◌∙◌, arith}
 use Rattle.std.specs.List.{list_all, list_any, All, AllPairs, AllPass}
 use Rattle.std.proofs.lemmas.List.Sums.{list_all-from_AllPass, AllPass-from_list_all}
 use Rattle.std.proofs.lemmas.List.Folds.{list_any_none, list_any_at}
@@ -8,6 +8,7 @@ use Rattle.std.proofs.lemmas.List.{get_or-drop, get_or-take, get_or_default}
 use Rattle.std.proofs.lemmas.Grind.{common_steps}
 use Rattle.trace_text.specs.declared.trace.Own.{Own}
 use Rattle.trace_text.specs.Counted.{is_apart, has_frame}
+use Rattle.xp_words.proofs.Shared.{same_truth as both_ways}
 
 -- a frame that two runs that are not apart both have
 shared : (a b : Own) → 1 ≤ a.count → 1 ≤ b.count → is_apart a b ≡ false → (k : ℕ) × (has_frame k a ≡ true) × (has_frame k b ≡ true)
@@ -15,11 +16,6 @@ shared a b some_a some_b together = (max a.first b.first, grind (arith, common_s
 
 not_both : (a b : Own) (k : ℕ) → is_apart a b ≡ true → has_frame k a ≡ true → has_frame k b ≡ false
 not_both a b k apart has = grind (arith, common_steps)
-
-both_ways : (a b : Bool) → (a ≡ true → b ≡ true) → (b ≡ true → a ≡ true) → a ≡ b
-both_ways true b there back = sym (there refl)
-both_ways false true there back = back refl
-both_ways false false there back = refl
 
 at_range : (taken : List Bool) (first count k : ℕ) (d : Bool) → k < count → get_or (slice_range taken first (first + count)) k d ≡ get_or taken (first + k) d
 at_range taken first count k d within =

@@ -30,8 +30,7 @@ use Rattle.flush_waits.specs.Listing.{WaitedFor}
 use Rattle.frame_claims.proofs.Telling.{Alls, told_ran, words_after}
 use Rattle.frame_claims.proofs.Waiting.{IsAside, waited_all}
 use Rattle.table_entries.specs.Acquiring.{GaveRef, GotRef}
-use Rattle.course_laws.proofs.Stopping.{ref_came}
-use Rattle.course_laws.proofs.Walking.{gave_came}
+use Rattle.table_entries.proofs.Shared.{ref_came, gave_came}
 use Rattle.turn_measures.proofs.Forward.{Still, is_ranked, still_self, still_then}
 
 -- ---- one act

@@ -10,8 +10,9 @@ use Rattle.step_maker.specs.Moves.{Came}
 use Rattle.step_maker.specs.Plain.{Words}
 use Rattle.step_maker.proofs.Coming.{came_post}
 use Rattle.answer_laws.specs.Alone.{IsAlone}
+use Rattle.answer_laws.proofs.Shared.{alone_telling}
 use Rattle.table_entries.specs.Acquiring.{Acquired}
-use Rattle.course_laws.proofs.Awaiting.{AloneStays, alone_telling}
+use Rattle.course_laws.proofs.Awaiting.{AloneStays}
 use Rattle.frame_ranks.specs.Ranks.{AreAllAlive, GetsFurther, GoesForward}
 use Rattle.turn_measures.proofs.Forward.{Comes, Still, comes_behind, still_forward}
 use Rattle.turn_measures.proofs.Asides.{Passes}

@@ -22,12 +22,12 @@ use Rattle.step_maker.proofs.Coming.{came_post, came_trans, moves_came}
 use Rattle.step_maker.proofs.Noting.{moves_since}
 use Rattle.step_maker.proofs.Telling.{moves_telling, told_elsewhere, told_here, told_there}
 use Rattle.answer_laws.specs.Alone.{IsAlone}
+use Rattle.answer_laws.proofs.Shared.{alone_telling}
 use Rattle.flush_words.specs.Flushing.{FlushesOwn}
 use Rattle.flush_words.proofs.Flushed.{own_flushed}
 use Rattle.flush_words.proofs.FlushTwin.{own_refused, own_ticked}
 use Rattle.flush_words.proofs.Lasting.{came_keeps}
 use Rattle.tlb_walks.specs.Dropping.{Acks, Heeds}
-use Rattle.course_laws.proofs.Awaiting.{alone_telling}
 
 -- ---- what is sound of the own flush
 module _ (n : Machine) (s t : ℕ) (o : Option Story) (h : Holdings) (story : Story) (is : o ≡ Some story) (state : SoundState n story.words story.hands) where

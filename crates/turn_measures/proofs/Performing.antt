@@ -21,6 +21,7 @@ use Rattle.table_bases.specs.Course.{SetsBase}
 use Rattle.table_bases.specs.declared.words.Base.{Base}
 use Rattle.table_bases.specs.declared.words.Base.TheVariants.{Kernel, User}
 use Rattle.table_entries.specs.Acquiring.{GaveRef, GotRef}
+use Rattle.table_entries.proofs.Shared.{ref_came}
 use Rattle.desc_pages.specs.Ldt as ldt
 use Rattle.desc_pages.specs.Ldt.{SetsLdt}
 use Rattle.whole_pages.specs.Whole as whole
@@ -29,7 +30,6 @@ use Rattle.writable_pages.specs.Pages as pages
 use Rattle.writable_pages.specs.Pages.{GotPage}
 use Rattle.writable_pages.proofs.TakenWords.{page_came}
 use Rattle.course_laws.proofs.Awaiting.{AloneStays}
-use Rattle.course_laws.proofs.Stopping.{ref_came}
 use Rattle.turn_measures.proofs.Forward.{comes_so, still_forward}
 use Rattle.turn_measures.proofs.Asides.{Passes, does_passes, does_tells, gave_passes, moves_passes, passes_then, ref_passes, waited_aside}
 use Rattle.turn_measures.proofs.Calm.{AcquiredForward, AcquiredFurther, IsCalm, calm_on, calm_telling}

@@ -11,12 +11,13 @@ use Rattle.step_maker.specs.Plain.{Words}
 use Rattle.step_maker.proofs.Coming.{came_post}
 use Rattle.step_maker.proofs.Telling.{came_telling, told_there}
 use Rattle.answer_laws.specs.Alone.{IsAlone}
+use Rattle.answer_laws.proofs.Shared.{alone_telling}
 use Rattle.level_release.specs.Course as course
 use Rattle.level_release.specs.Course.{Settled, SettledOne}
 use Rattle.table_words.specs.OldWords.{old_place}
 use Rattle.table_words.specs.declared.old_words.OldWord.{OldWord}
 use Rattle.table_words.specs.declared.old_words.OldWord.TheVariants.{First, Second}
-use Rattle.course_laws.proofs.Awaiting.{AloneStays, alone_telling}
+use Rattle.course_laws.proofs.Awaiting.{AloneStays}
 use Rattle.vcpu_turn.proofs.Hindering.{settles_came}
 use Rattle.vcpu_turn.specs.Settling as settling
 use Rattle.vcpu_turn.specs.Settling.{Settles, SettlesFirst}

@@ -12,8 +12,8 @@ use Rattle.xp_words.specs.declared.reply.Stop.TheVariants.{Paused}
 use Rattle.xp_board.specs.Told.{PortValue, is_telling, told_word}
 use Rattle.step_maker.specs.Plain.{Words}
 use Rattle.step_maker.proofs.Telling.{came_telling}
-use Rattle.course_laws.proofs.Awaiting.{alone_telling}
 use Rattle.answer_laws.specs.Alone.{IsAlone}
+use Rattle.answer_laws.proofs.Shared.{alone_telling}
 use Rattle.level_release.specs.Asking.{IsReleaseEnd}
 use Rattle.level_release.specs.Course as course
 use Rattle.level_release.specs.Course.{Settled, left_settled}

@@ -39,8 +39,8 @@ use Rattle.step_maker.specs.Moves.{Came, Moment, Moves, Ran, hand_at}
 use Rattle.step_maker.proofs.Noting.{moves_keeps}
 use Rattle.step_maker.proofs.Telling.{told_elsewhere}
 use Rattle.answer_laws.specs.Alone.{IsAlone}
+use Rattle.answer_laws.proofs.Shared.{alone_telling}
 use Rattle.vcpu_turn.proofs.Hindering.{AloneStays}
-use Rattle.course_laws.proofs.Awaiting.{alone_telling}
 use Rattle.turn_measures.proofs.AskedOthers.{is_there, word_here}
 
 -- ---- by kind

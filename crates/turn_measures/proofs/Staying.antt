@@ -19,7 +19,7 @@ use Rattle.mmu_update.specs.Fits.{Updates}
 use Rattle.mmuext_ops.specs.Elements.{every_vcpu, ext_element}
 use Rattle.mmuext_ops.specs.declared.element.Element.TheVariants.{FlushVcpus}
 use Rattle.tlb_walks.specs.Asking.{IsGuestReadStop, IsGuestWriteStop}
-use Rattle.course_laws.proofs.Awaiting.{AloneStays, alone_telling}
+use Rattle.course_laws.proofs.Awaiting.{AloneStays}
 use Rattle.vcpu_turn.specs.Unhindered.{IsUnhindered}
 use Rattle.vcpu_turn.proofs.Bringing.{begins_later}
 use Rattle.vcpu_turn.specs.Calls as calling
@@ -50,6 +50,7 @@ use Rattle.turn_measures.proofs.Performing.{performed_for}
 use Rattle.turn_measures.proofs.Reserving.{extent_for}
 use Rattle.turn_measures.proofs.Settled.{IsSettled, SettledSame, first_for, never_unsettled, settled_on, settles_pass}
 use Rattle.turn_measures.proofs.Updating.{updated_for}
+use Rattle.answer_laws.proofs.Shared.{alone_telling}
 
 -- ---- lists of which no item is done
 did_least : (fits : Fitting) (count from : ℕ) (v : PortValue) (k : ℕ) (u : PortValue) (answers : List Bool) → DidItems fits count from v k u answers → from ≤ k

@@ -25,13 +25,14 @@ use Rattle.kind_words.proofs.KindFacts.{kind_found}
 use Rattle.mmu_update.specs.Course.{TriedLock}
 use Rattle.table_entries.specs.Acquiring.{GotRef}
 use Rattle.course_laws.specs.Courses.{IsOrderly}
-use Rattle.course_laws.proofs.Awaiting.{AloneStays, alone_orderly, alone_telling}
+use Rattle.course_laws.proofs.Awaiting.{AloneStays, alone_orderly}
 use Rattle.frame_ranks.specs.Ranks.{AreAllAlive}
 use Rattle.turn_measures.proofs.Forward.{Comes}
 use Rattle.turn_measures.proofs.Asides.{Passes, gave_passes, ref_passes}
 use Rattle.turn_measures.proofs.Calm.{ComesTo, IsCalm, same_machine}
 use Rattle.turn_measures.proofs.Locking.{HasRoom, IsLocked, IsUnlocked, comes_locked, locked_alive, locks_on, refers_room, several}
 use Rattle.turn_measures.proofs.Pages.{ComesFor}
+use Rattle.answer_laws.proofs.Shared.{alone_telling}
 
 -- ---- the lock goes on
 module _ (stays : AloneStays) (v u y : PortValue) (f owner level found : ℕ) (calm : IsCalm v) (ref : GotRef v u f owner (Ok f)) (lock : TriedLock u y f owner (Ok (Table level found))) where

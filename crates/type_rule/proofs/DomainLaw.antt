@@ -6,6 +6,7 @@ use Rattle.xp_words.specs.Machine.{Machine}
 use Rattle.xp_words.specs.declared.place.Place.{Place}
 use Rattle.xp_words.specs.declared.place.Place.TheVariants.{Life, Vcpu, Refs, Kind}
 use Rattle.xp_words.specs.Places.{sizes_of, run_of}
+use Rattle.xp_words.proofs.Shared.{eq_one as is_one}
 use Rattle.xp_board.specs.declared.step.Step.{Step}
 use Rattle.xp_board.specs.declared.holdings.Made.{Made}
 use Rattle.xp_board.specs.declared.holdings.Holdings.{Holdings}
@@ -42,9 +43,6 @@ pub record DomainChange (n : Machine) (s : ℕ) (x : Step) (m m2 : Place → ℕ
 
 is_zero : (w : ℕ) → (w == 0) ≡ true → w ≡ 0
 is_zero w e = grind (arith, nat_tests)
-
-pub is_one : (w : ℕ) → (w == 1) ≡ true → w ≡ 1
-is_one w e = grind (arith, nat_tests)
 
 pub owned_by : (d w : ℕ) → is_owned_by d w ≡ true → owner_of w ≡ Some d
 owned_by d w e = grind (arith, nat_tests)

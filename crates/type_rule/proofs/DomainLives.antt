@@ -6,6 +6,7 @@ use Rattle.xp_words.specs.Machine.{Machine}
 use Rattle.xp_words.specs.declared.place.Place.{Place}
 use Rattle.xp_words.specs.declared.place.Place.TheVariants.{Life, Vcpu, Refs, Kind}
 use Rattle.xp_words.specs.Places.{sizes_of, is_place, run_of}
+use Rattle.xp_words.proofs.Shared.{eq_one as is_one}
 use Rattle.xp_board.specs.declared.step.Step.{Step}
 use Rattle.xp_board.specs.declared.holdings.Holdings.{Holdings}
 use Rattle.xp_board.specs.Lists.{kept_of}
@@ -15,7 +16,7 @@ use Rattle.xp_board.specs.LifeSteps.{HasStopped, HasCleared, MayBury, is_unalloc
 use Rattle.xp_board.specs.Sound.{Sound, DeadDomain, DyingDomain, Domains}
 use Rattle.step_effects.proofs.ActEffects.{Doomed, Buried}
 use Rattle.xp_board.proofs.StepLists.{before_more, since_within, found_before, found_between, between_since, between_wider}
-use Rattle.type_rule.proofs.DomainLaw.{DomainChange, dead_law, dying_law, by_owner, is_one}
+use Rattle.type_rule.proofs.DomainLaw.{DomainChange, dead_law, dying_law, by_owner}
 use Rattle.type_rule.proofs.DomainWords.{change_by, same_words, learned_alive}
 use Rattle.xp_board.proofs.RefWords.{zero_unowned}
 

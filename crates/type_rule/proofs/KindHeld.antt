@@ -51,9 +51,6 @@ dead_all l k v p =
 pub work_live : (k : KindWord) → k.validated ≡ false → IsTrue (is_live k) → ⊥
 work_live k e live = cc
 
-pub dead_live : (k : KindWord) → IsTrue (is_dead k) → IsTrue (is_live k) → ⊥
-dead_live k d live = let v : k.validated ≡ false = grind arith in cc
-
 pub dead_unformed : (k : KindWord) → IsTrue (is_dead k) → IsTrue (is_partial k || is_work k) → ⊥
 dead_unformed k d form =
     let v : k.validated ≡ false = grind arith in

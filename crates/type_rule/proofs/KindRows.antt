@@ -27,10 +27,11 @@ use Rattle.type_rule.proofs.EntryChange.{OneStep}
 use Rattle.type_rule.proofs.QuietActs.{one_by}
 use Rattle.type_rule.proofs.KindAct.{KindAct, nobody, not_unsettled, live_stays, kind_valid, kind_permitted}
 use Rattle.xp_board.proofs.HeldByForm.{held_dead, held_same, live_partial, live_idle}
-use Rattle.type_rule.proofs.KindHeld.{live_held, resumed_held, begun_held, closed_held, work_live, dead_live, dead_unformed, either_part}
+use Rattle.type_rule.proofs.KindHeld.{live_held, resumed_held, begun_held, closed_held, work_live, dead_unformed, either_part}
 use Rattle.xp_board.proofs.KindReadings.{partial_idle, dead_idle}
 use Rattle.xp_board.proofs.MoreSteps.{none_since}
 use Rattle.xp_board.proofs.Sums.{either}
+use Rattle.xp_board.proofs.Shared.{dead_unlive as dead_live}
 
 resumed_work : (k l : KindWord) → MayResume k l → IsTrue (is_partial l || is_work l)
 resumed_work k l may = let v : k.validated ≡ false = (let p = may.partial in grind arith) in rw may.left (rw v refl)

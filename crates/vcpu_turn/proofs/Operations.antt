@@ -1,6 +1,5 @@
 -- The work of a turn on lists of any length, and on operations.
-use Rattle.std.proofs.Common.{◌≡◌, ℕ, ◌<◌, ◌≤◌, ◌==◌, Bool, false, List, [], ◌++◌, append-nil, length, Option, Some, None, Result, Ok, Err, IfErr, refl, sym, ap, ◌∙◌, arith, inl, inr}
-use Rattle.std.proofs.lemmas.Bool.Decides.{nat_tests}
+use Rattle.std.proofs.Common.{◌≡◌, ℕ, ◌<◌, ◌≤◌, Bool, false, List, [], ◌++◌, append-nil, length, Option, Some, None, Result, Ok, Err, IfErr, refl, sym, ap, ◌∙◌, inl, inr}
 use Rattle.xp_words.specs.declared.ops.Pair.{Pair}
 use Rattle.xp_words.specs.declared.reply.LogLine.{LogLine}
 use Rattle.xp_words.specs.declared.reply.Refusal.{Refusal}
@@ -34,8 +33,6 @@ module _ {fits : Fitting} {count from : ℕ} {v : PortValue} {g : Gate} where
     no_more within = works_within fits count from v within to w works.answers answer works.course
 
 -- ---- pairs, for the owners that a number names
-pub above_none : (n : ℕ) → (n == 0) ≡ false → 0 < n
-above_none n off = grind (arith, nat_tests)
 
 module _ {d foreign : ℕ} {list : List Pair} {from : ℕ} {v : PortValue} {g : Gate} where
   pub owned_long : 512 < length list → GatedPast g g false (λ answers. WorksOwned d foreign list v from 0 v answers (Err (Refused refusals.BatchLong)))

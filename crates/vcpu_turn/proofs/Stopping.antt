@@ -1,6 +1,7 @@
 -- Turns in which no element is done past a yes: the gate says no until the turn is paused for it. Operations that release nothing make such turns.
 use Rattle.std.proofs.Common.{◌≡◌, ℕ, Bool, List, [], length, Some, refl, sym, ap, ◌∙◌, subst, inl, inr, arith, ◌+◌, true, false, ◌∷◌, All}
 use Rattle.xp_words.specs.declared.ops.Op.{Op}
+use Rattle.xp_words.proofs.Shared.{same_truth as same_end}
 use Rattle.xp_board.specs.Told.{PortValue}
 use Rattle.xp_preempt.specs.Gates.{GivesAnswers, Heard, asks_on, ends_yes, yeses}
 use Rattle.xp_preempt.proofs.Hearing.{heard_ask, heard_none, heard_then}
@@ -38,11 +39,6 @@ unfolding GivesAnswers asks_on yeses
 heard_all says before [] gives is = heard_none says before
 heard_all says before (true ∷ rest) gives is = absurd (let more : yeses rest + 1 ≡ 0 = is in omega (arith, more))
 heard_all says before (false ∷ rest) gives is = heard_then says before _ _ false (heard_all says before rest gives.1 is) (heard_ask says _ _ false gives.0 refl)
-
-same_end : (a due : Bool) → (a ≡ true → due ≡ true) → (due ≡ true → a ≡ true) → a ≡ due
-same_end true due on back = sym (on refl)
-same_end false false on back = refl
-same_end false true on back = absurd (let is = back refl in cc)
 
 heard_at : (says : ℕ → Bool) (before : ℕ) (answers : List Bool) (due : Bool) → GivesAnswers says before answers → NoUntilDue answers due → (due ≡ true → ends_yes answers ≡ true) → Heard says before (asks_on (length answers) before) due
 unfolding GivesAnswers asks_on

@@ -1,6 +1,5 @@
 -- What pauses a turn with a destruction, where one thread makes all steps; and any turn.
 use Rattle.std.proofs.Common.{◌≡◌, ◌∙◌, ℕ, ◌+◌, ◌<◌, Bool, true, List, length, Option, Some, None, Result, Ok, Err, IfErr, ap, refl, sym, subst}
-use Rattle.std.specs.Prelude.{is_some}
 use Rattle.xp_words.specs.declared.ops.Op.{Op}
 use Rattle.xp_words.specs.declared.reply.Pause.{Pause}
 use Rattle.xp_words.specs.declared.reply.Pause.TheVariants.{Due, Lost, Busy, Flush, Alive}
@@ -10,6 +9,7 @@ use Rattle.xp_board.specs.Told.{PortValue, is_telling}
 use Rattle.step_maker.specs.Answers.{Stops}
 use Rattle.step_maker.specs.Asked.{Request}
 use Rattle.answer_laws.specs.Alone.{IsAlone}
+use Rattle.answer_laws.proofs.Shared.{alone_telling as telling}
 use Rattle.level_release.specs.Asking.{IsReleaseEnd, of_settle}
 use Rattle.domain_destroy.specs.Asking.{IsDestroyStop, StopsDestroyer, of_domain}
 use Rattle.vcpu_turn.specs.Calls.{WentBy}
@@ -26,9 +26,6 @@ use Rattle.vcpu_turn.proofs.Turns.{begins_came}
 
 abbrev pub NothingLost : Type 0
 NothingLost = (v w : PortValue) (r : Request) (place e x : ℕ) → is_telling v ≡ true → Stops v w r (Paused (Lost place e x)) → ⊥
-
-telling : (v : PortValue) → IsAlone v → is_telling v ≡ true
-telling v alone = ap is_some alone.telling
 
 module _ (lost : NothingLost) (v w : PortValue) (r : Request) (told : is_telling v ≡ true) where
   stop_unlost : (to : ℕ) (e : Stop) → IsDestroyStop e → Stops v w r e → IsUnlost (end_of to (Err e))

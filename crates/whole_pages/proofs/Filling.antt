@@ -2,14 +2,13 @@
 use Rattle.std.proofs.Common.{◌≡◌, ℕ, ◌+◌, List, [], ◌∷◌, length, ◌++◌, suc, None, IsTrue, refl, sym, ap, ◌∙◌, subst, inl, arith}
 use Rattle.xp_words.specs.Machine.{Machine}
 use Rattle.xp_words.specs.declared.place.Place.TheVariants.{Cell}
-use Rattle.xp_board.specs.declared.holdings.Holdings.{Holdings}
 use Rattle.xp_board.specs.declared.step.Act.TheVariants.{Load, Store}
 use Rattle.xp_board.specs.declared.step.StepKind.TheVariants as kinds
 use Rattle.xp_board.specs.Hands.{claim_of, lock_on, work_on}
 use Rattle.xp_board.specs.Told.{PortValue}
 use Rattle.step_maker.specs.Holds.{Same}
 use Rattle.step_maker.specs.Moves.{Moves}
-use Rattle.step_maker.specs.Answers.{Deed, Serves, Writes, deeds_by}
+use Rattle.step_maker.specs.Answers.{Deed, Serves, Writes}
 use Rattle.step_maker.specs.Asked.{IsAsked, Request, named, of}
 use Rattle.step_maker.specs.Finding.{Finding}
 use Rattle.step_maker.specs.Visits.{Does, Nothing, Only, Then, Visit, visit}
@@ -19,10 +18,7 @@ use Rattle.frame_words.specs.Cells.{IsApart, MayStoreCell}
 use Rattle.frame_words.proofs.CellSteps.{writes_live}
 use Rattle.whole_pages.specs.Whole as whole
 use Rattle.whole_pages.specs.Whole.{ClearedBy, Clears, CopiedBy, Copies, MayFill, clears, copies}
-
--- a store in a frame that the vCPU does not work on is a deed
-store_deed : (f i word found : ℕ) (h : Holdings) → IsApart f h → deeds_by (Cell f i) (Store word) kinds.Cell found h ≡ Writes f i word ∷ []
-store_deed f i word found h apart = rw (apart.locks, apart.works, apart.claimed) refl
+use Rattle.writable_pages.proofs.Shared.{store_deed}
 
 names_it : (n : Machine) (s : ℕ) (r : Request) (F : Finding) (f : ℕ) → IsTrue (r.names f) → IsAsked n s r F f
 names_it n s r F f is = of r.owner None (named is refl tt)

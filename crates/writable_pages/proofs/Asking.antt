@@ -6,16 +6,17 @@ use Rattle.xp_words.specs.declared.place.Place.TheVariants.{Kind}
 use Rattle.xp_words.specs.declared.reply.Pause.{Pause}
 use Rattle.xp_words.specs.declared.reply.Stop.{Stop}
 use Rattle.xp_words.specs.declared.reply.Stop.TheVariants.{Paused}
+use Rattle.xp_words.proofs.Shared.{eq_false as when_ne}
 use Rattle.xp_board.specs.Readings.{domain_of}
 use Rattle.xp_board.specs.Told.{Post, PortValue}
-use Rattle.xp_board.proofs.Sums.{when_eq, when_ne}
+use Rattle.xp_board.proofs.Sums.{when_eq}
 use Rattle.step_maker.specs.Moves.{Came, Met}
 use Rattle.step_maker.proofs.Coming.{came_post}
 use Rattle.step_maker.specs.Answers.{Deed, Misses, Serves, Stops}
 use Rattle.step_maker.specs.Asked.{IsAsked, IsFor, Within, named, of, of_frame}
 use Rattle.step_maker.proofs.Piecing.{serves_came, serves_within, stops_within, within_frame}
 use Rattle.flush_waits.specs.Waiting.{IsWait}
-use Rattle.frame_types.proofs.Waiting.{none_missed}
+use Rattle.flush_waits.proofs.Shared.{wait_missed as none_missed}
 use Rattle.kept_marks.specs.Marks.{IsForeign, ServesKept, ServesMark}
 use Rattle.writable_pages.specs.Pages.{HidesMark, ServesPage, of_page}
 

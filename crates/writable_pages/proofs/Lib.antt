@@ -1,6 +1,7 @@
 mod Asking
+mod Got
 mod Left
 pub mod LeftWords
-pub mod TakenWords
+pub mod Shared
 mod Taken
-mod Got
+pub mod TakenWords

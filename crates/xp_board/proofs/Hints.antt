@@ -5,8 +5,9 @@ use Rattle.xp_board.specs.declared.holdings.Holdings.{Holdings}
 use Rattle.xp_board.specs.Lists.{one_at, times, times_by, first_of, without_by}
 use Rattle.xp_board.specs.Hands.{endings_of, claims_of}
 use Rattle.xp_board.specs.HintSteps.{MayHint, MayUnhint, is_raise, is_lower, lowered_frame, raised_frame, raised_by, held_frames}
-use Rattle.xp_board.proofs.Sums.{when_eq, when_ne}
+use Rattle.xp_board.proofs.Sums.{when_eq}
 use Rattle.xp_board.proofs.Bits.{pow_same}
+use Rattle.xp_words.proofs.Shared.{eq_false as when_ne}
 
 -- ---- searches
 pub found_of : (test : ℕ → Bool) (xs : List ℕ) (g : ℕ) → first_of test xs ≡ Some g → (test g ≡ true) × (0 < times g xs)

@@ -2,10 +2,11 @@
 use Rattle.std.proofs.Common.{◌≡◌, ◌≢◌, ℕ, ◌+◌, ◌<◌, ◌≤◌, List, [], ◌∷◌, Option, Some, None, refl, sym, ◌∙◌, ap, arith, inl, inr}
 use Rattle.std.proofs.lemmas.Bool.{cases_eq}
 use Rattle.xp_board.specs.Lists.{one_at, times_by, first_by, without_by, EachOf}
-use Rattle.xp_board.proofs.Sums.{when_eq, when_ne}
+use Rattle.xp_board.proofs.Sums.{when_eq}
 use Rattle.xp_board.proofs.HandLists.{EachOf-map, EachOf-first, first-key, first-some, EachOf-without}
 use Rattle.xp_board.specs.declared.holdings.Reference.{Reference}
 use Rattle.xp_board.specs.Hands.{refs_to}
+use Rattle.xp_words.proofs.Shared.{eq_false as when_ne}
 
 pub times_by-cons : {A : Type 0} (key : A → ℕ) (g : ℕ) (x : A) (xs : List A) → times_by key g (x ∷ xs) ≡ one_at g (key x) + times_by key g xs
 unfolding times_by

@@ -3,6 +3,7 @@ use Rattle.std.proofs.Common.{Bool, ◌≡◌, ◌≢◌, ℕ, zero, suc, ◌+�
 use Rattle.std.proofs.lemmas.Bool.{cases_eq}
 use Rattle.xp_words.specs.RefWords.{bit}
 use Rattle.xp_words.specs.Places.{Sizes}
+use Rattle.xp_words.proofs.Shared.{eq_false as when_ne}
 use Rattle.xp_board.specs.declared.holdings.Holdings.{Holdings}
 use Rattle.xp_board.specs.Sums.{sum_below}
 use Rattle.xp_board.specs.Recorded.{hands}
@@ -101,18 +102,11 @@ either P false x y a b = b
 pub when_eq : (x y : ℕ) → x ≡ y → (x == y) ≡ true
 when_eq x y e = grind (arith, nat_tests)
 
-pub when_ne : (x y : ℕ) → x ≢ y → (x == y) ≡ false
-when_ne x y n = grind (arith, nat_tests)
-
 pub when_found : {A : Type 0} (w e : ℕ) (y z : A) → w ≡ e → (if w == e then y else z) ≡ y
 when_found w e y z at = grind (arith, nat_tests)
 
 pub when_lost : {A : Type 0} (w e : ℕ) (y z : A) → w ≢ e → (if w == e then y else z) ≡ z
 when_lost w e y z off = grind (arith, nat_tests)
-
-pub if_fewer : (t : Bool) (x : ℕ) → (if t then x else 0) ≤ x
-if_fewer true x = omega arith
-if_fewer false x = omega arith
 
 -- where a number is tested against itself
 pub if_itself : {A : Type 0} (s : ℕ) (y z : A) → (if s == s then y else z) ≡ y

@@ -4,3 +4,4 @@ pub mod Joining
 pub mod KindLaws
 pub mod PlaceLaws
 pub mod RefLaws
+pub mod Shared

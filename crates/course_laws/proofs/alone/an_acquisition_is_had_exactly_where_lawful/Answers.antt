@@ -1,6 +1,6 @@
 use Rattle.std.proofs.Common.{inl, inr}
-use Rattle.course_laws.proofs.Awaiting.{alone_telling}
 use Rattle.course_laws.proofs.alone.an_acquisition_is_had_exactly_where_lawful.Goals as goal
+use Rattle.answer_laws.proofs.Shared.{alone_telling}
 
 pub returns-clause-one : goal.returns-clause-one
 returns-clause-one c v w f owner level answers answer alone one calm low high acquired none goes =

@@ -1,9 +1,10 @@
 use Rattle.std.proofs.Common.{◌≡◌, ℕ, ◌+◌, ◌*◌, ◌&&◌, nat_le, Option, None, ap, ◌∙◌, subst}
 use Rattle.xp_words.specs.Machine.{Machine}
+use Rattle.xp_words.proofs.Shared.{and_true as both_hold, and_first_false as first_fails, and_second_false as second_fails}
 use Rattle.xp_board.specs.Told.{PortValue}
 use Rattle.step_maker.specs.Visits.{Does}
 use Rattle.frame_claims.specs.Found.{BlockBy, FreeBlock, TriedWhere, are_set, block_of}
-use Rattle.frame_claims.proofs.Trying.{bits_off, bits_set, both_hold, first_fails, not_tried, second_fails, tried}
+use Rattle.frame_claims.proofs.Trying.{bits_off, bits_set, not_tried, tried}
 use Rattle.frame_claims.proofs.Finding.{bits_aligned, looks_nothing}
 use Rattle.frame_claims.proofs.choosing.try_bits.Goals.{then-bits-size-via-then-bits-size, then-bits-size-via-else-bits-size+then-first-size}
 use Rattle.frame_claims.proofs.choosing.try_bits.Goals as goal

@@ -1,7 +1,8 @@
 use Rattle.std.proofs.Common.{true, false, refl}
 use Rattle.level_validate.proofs.Leaving.{retreat_some, lent_unwinds, own_unwinds}
-use Rattle.level_validate.proofs.Standing.{is_so, not_so}
+use Rattle.level_validate.proofs.Standing.{is_so}
 use Rattle.level_validate.proofs.unwinding.leave_inner.Goals as goal
+use Rattle.xp_words.proofs.Shared.{not_true as not_so}
 
 pub retreat-requires : goal.retreat-requires
 retreat-requires g c =

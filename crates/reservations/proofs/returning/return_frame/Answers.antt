@@ -6,8 +6,9 @@ use Rattle.xp_board.specs.Told.{PortValue}
 use Rattle.step_maker.specs.Holds.{Same}
 use Rattle.step_maker.proofs.Piecing.{serves_nothing}
 use Rattle.frame_words.proofs.Counted.{some_count, within_limit}
-use Rattle.reservations.proofs.GivingBack.{cleared_same, given_does, given_plain, given_serves, looked, lost_does, lost_stops, missed_there, never_lost, outside_does, outside_plain, outside_stops, refused_does, refused_plain, refused_stops}
+use Rattle.reservations.proofs.GivingBack.{given_does, given_plain, given_serves, looked, lost_does, lost_stops, missed_there, never_lost, outside_does, outside_plain, outside_stops, refused_does, refused_plain, refused_stops}
 use Rattle.reservations.proofs.returning.return_frame.Goals as goal
+use Rattle.frame_claims.proofs.Shared.{mark_same as cleared_same}
 
 pub returns-then-frame-frames : goal.returns-then-frame-frames
 returns-then-frame-frames g c =

@@ -1,7 +1,8 @@
 use Rattle.std.proofs.Common.{arith, sym, ◌∙◌}
 use Rattle.xp_board.proofs.PlaceTests.{equal_by}
-use Rattle.vcpu_turn.proofs.Operations.{above_none, no_more, owned_long, owned_none, owned_on, owned_refused}
+use Rattle.vcpu_turn.proofs.Operations.{no_more, owned_long, owned_none, owned_on, owned_refused}
 use Rattle.vcpu_turn.proofs.working.go_through_pairs.Goals as goal
+use Rattle.xp_words.proofs.Shared.{above_zero as above_none}
 
 pub returns-then-pairs-gt-LONGEST-clause-works : goal.returns-then-pairs-gt-LONGEST-clause-works
 returns-then-pairs-gt-LONGEST-clause-works g c = owned_long c.if-pairs-gt-LONGEST.true
