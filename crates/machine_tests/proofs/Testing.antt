@@ -1,7 +1,6 @@
 -- A vCPU of a fresh board at work, and what it may ask another one.
-use Rattle.std.proofs.Common.{◌≡◌, ℕ, ◌<◌, ◌≤◌, ◌==◌, nat_le, true, [], length, Some, None, IsTrue, refl, sym, ap, ◌∙◌, subst, inl, inr, arith}
+use Rattle.std.proofs.Common.{◌≡◌, ℕ, ◌<◌, ◌≤◌, ◌==◌, nat_le, [], length, Some, None, IsTrue, refl, sym, ap, ◌∙◌, subst, inl, inr, arith}
 use Rattle.std.proofs.lemmas.Bool.{cases_eq, le-leb}
-use Rattle.std.proofs.lemmas.Bool.Decides.{nat_tests}
 use Rattle.xp_words.specs.Machine.{IsMachine, Machine}
 use Rattle.xp_words.specs.declared.place.Place.TheVariants.{Clock}
 use Rattle.xp_words.specs.Places.{memory, sizes_of, run_of, flushed_of}
@@ -16,6 +15,7 @@ use Rattle.xp_board.specs.Readings.{domain_of}
 use Rattle.xp_board.specs.Sound.{hand_of}
 use Rattle.xp_board.specs.Steps.{some_since}
 use Rattle.xp_board.specs.Told.{Post, PortValue, run_or}
+use Rattle.xp_board.proofs.Sums.{when_eq as is_test}
 use Rattle.step_maker.specs.Holds.{Holds, Rests}
 use Rattle.step_maker.specs.Moves.{Came, Moves}
 use Rattle.step_maker.proofs.Coming.{came_post, moves_came}
@@ -59,8 +59,6 @@ unfolding TakesFresh
 fresh_idles b b1 s s1 lender same vcpu real takes = subst Idles (λ i. port_value (sym same i) (sym vcpu i) lender) (takes s lender [] real).idles
 
 -- ---- the ask
-is_test : (x n : ℕ) → x ≡ n → (x == n) ≡ true
-is_test x n is = grind (arith, nat_tests)
 
 -- The clock was found, then the other vCPU running and flushed no later.
 pub may_ask : (u v w x : PortValue) (k clock run flushed : ℕ) → Moves u v Clock Load kinds.Look None clock → Moves v w (run_of k) Load kinds.Look None run → Moves w x (flushed_of k) Load kinds.Look None flushed →

@@ -15,6 +15,7 @@ use Rattle.xp_board.specs.FillSteps as fill
 use Rattle.xp_board.specs.FillSteps.{MayWalkOn, cached_with, is_walked, touched, walked_by, walked_on, with_bit}
 use Rattle.xp_board.specs.Told.{Post, PortValue}
 use Rattle.xp_board.specs.TouchSteps.{MayTouch}
+use Rattle.xp_board.proofs.Sums.{when_eq as equal}
 use Rattle.step_maker.specs.Licences.{is_unmapped}
 use Rattle.own_cache.specs.declared.flight.Flight.{Flight}
 use Rattle.own_cache.specs.Translating.{Translating, flight_of, flown, gone_on, item_in, landed, seen, set_bits, table_in, touched_in, translating, walk_below, with_entry}
@@ -58,9 +59,6 @@ may_load v f i r e free low walked =
         warm = r.warm;
       },
     )
-
-equal : (x w : ℕ) → x ≡ w → (x == w) ≡ true
-equal x w e = grind (arith, nat_tests)
 
 third : (n : Machine) (f i w : ℕ) (walk : Walk) (h : Holdings) → is_bit 0 w ≡ true → (touched walk w == w) ≡ false →
     (fill.loaded n f i w walk h).walk ≡ Some (record walk { touching = Some (record { frame = f; index = i; word = w }) })
