@@ -23,6 +23,7 @@ use Rattle.frame_words.specs.Freeing.{PutBy}
 use Rattle.kind_words.specs.Kinds.{partial_kind}
 use Rattle.frame_types.specs.Found.{Dies}
 use Rattle.frame_types.specs.Lowering.{DropsType}
+use Rattle.xp_words.specs.Entries.{is_slot}
 use Rattle.partial_state.specs.Levels.{level_type}
 use Rattle.partial_state.specs.Weights.{weight}
 use Rattle.partial_state.specs.declared.stack.TableWork.{TableWork}
@@ -66,7 +67,7 @@ pub data Lowered : PortValue → List TableWork → PortValue → List TableWork
 
 -- whether the gate is asked behind the last entry that is done with: not in a slot that is Xen's, nor behind a table's last
 abbrev pub is_asked_below : ℕ → ℕ → Bool
-is_asked_below level done = not (done == 512) && not ((level == 4) && (nat_le 241 done && nat_le done 256))
+is_asked_below level done = not (done == 512) && not (is_slot (level_type level) (512 - done))
 
 abbrev pub is_asked_down : List TableWork → Bool
 is_asked_down [] = false

@@ -18,7 +18,7 @@ ghost use Rattle.level_release.specs.Holding.{IsReleasing, LeavesEmptied, StaysE
 use crate::leaving::unwind;
 use frame_words::put_ref;
 use kind_words::{dead_kind, leave};
-use partial_state::{Stack, TableWork, level_type};
+use partial_state::{Stack, TableWork, is_xen_slot, level_type};
 use step_maker::look_clock;
 use table_releases::{Released, release_entry};
 use xp_board::Port;
@@ -183,7 +183,7 @@ fn is_asked_down(stack: &Stack) -> bool
     ensures { result ≡ is_asked_down stack.now }
 {
     match stack.top() {
-        Some(top) => { top.done != 512 && !(top.level == 4 && top.done >= 241 && top.done <= 256) }
+        Some(top) => { top.done != 512 && !is_xen_slot(top.level, 512u16.saturating_sub(top.done)) }
         None => false,
     }
 }

@@ -25,7 +25,7 @@ use frame_types::{Taken, leave_shared, leave_unsettled, take_type};
 use frame_words::{get_ref, put_ref};
 use kept_marks::leave_kept;
 use kind_words::waiting_kind;
-use partial_state::{Stack, TableWork, level_type};
+use partial_state::{Stack, TableWork, is_xen_slot, level_type};
 use table_words::{OldWord, put_old};
 use xp_board::Port;
 use xp_preempt::Preempt;
@@ -270,7 +270,7 @@ fn is_asked(stack: &Stack) -> bool
     ensures { result ≡ is_asked stack.now }
 {
     match stack.top() {
-        Some(top) => top.done != 512 && !(top.level == 4 && top.done >= 257 && top.done <= 272),
+        Some(top) => top.done != 512 && !is_xen_slot(top.level, top.done.saturating_sub(1)),
         None => false,
     }
 }

@@ -3,12 +3,11 @@ ghost use Rattle.std.specs.Prelude.{◌≡◌, ◌<◌, ◌≤◌};
 ghost use Rattle.xp_words.specs.declared.reply.Refusal.TheVariants.{NotMapped};
 ghost use Rattle.xp_words.specs.declared.reply.Stop.TheVariants.{Refused};
 ghost use Rattle.step_maker.specs.Holds.{Rests, Same};
-ghost use Rattle.tlb_walks.specs.Addresses.{index_of, is_canonical, slot_refusal, walk_refusal};
 ghost use Rattle.mmu_update.specs.Addresses.{Descends, Leads, SawBase, next_table};
 
-use crate::elements::is_slot;
 use frame_words::look_cell;
 use step_maker::look;
+use tlb_walks::{index_at, refused_walk};
 use xp_board::Port;
 use xp_words::{Entry, Place, Refusal, Stop};
 
@@ -20,45 +19,6 @@ const TOP: u8 = 4;
 
 // In a refusal: there is no top table.
 const NO_BASE: u8 = 5;
-
-// Whether bits 48 to 63 all equal bit 47.
-fn canonical(va: u64) -> bool
-    ensures { result ≡ is_canonical va }
-{
-    let high = va >> 47;
-    high == 0 || high == 131_071
-}
-
-/// The entry by which an address leads through a table of that level, 4 at the top.
-pub(crate) fn index_at(va: u64, level: u8) -> u16
-    requires { level ≤ 4 }
-    ensures index { result ≡ index_of va level }
-    ensures few { result < 512 }
-{
-    let index = (va >> (3 + 9 * u32::from(level))) & 511;
-    index as u16
-}
-
-fn slot_of(index: u16) -> Option<Refusal>
-    ensures { result ≡ slot_refusal index }
-{
-    if is_slot(TOP, index) {
-        Some(Refusal::Slot { index })
-    } else {
-        None
-    }
-}
-
-// Why an address leads nowhere, by its numbers alone.
-fn refused_address(va: u64) -> Option<Refusal>
-    ensures { result ≡ walk_refusal va }
-{
-    if canonical(va) {
-        slot_of(index_at(va, TOP))
-    } else {
-        Some(Refusal::NonCanonical)
-    }
-}
 
 fn frames_of<P: Port>(port: &P) -> u32
     ensures { result ≡ (P.value port.now).post.machine.frames }
@@ -125,7 +85,7 @@ pub(crate) fn table_at<P: Port>(port: &mut P, va: u64) -> Result<u32, Stop>
     requires rests { Rests (P.value port.old) }
     ensures leads { Leads (P.value port.old) va (P.value port.new) result }
 {
-    if let Some(refusal) = refused_address(va) {
+    if let Some(refusal) = refused_walk(va) {
         return Err(Stop::Refused(refusal));
     }
     let base = look_base(port);

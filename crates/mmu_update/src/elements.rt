@@ -25,6 +25,7 @@ use foreign_map::Owners;
 use frame_types::drop_plain;
 use frame_words::{get_ref, put_ref, store_cell};
 use m2p_map::set_m2p;
+use partial_state::is_xen_slot;
 use writable_pages::take_page;
 use xp_board::Port;
 use xp_preempt::Preempt;
@@ -136,22 +137,13 @@ fn write_entry<P: Port>(
     ensures { (b : PortValue) → UnderLock b (P.value port.old) owners update.table update.level →
         WritesBy b (P.value port.new) owners update.table update.index update.word update.keep (policy gate.old) (policy gate.new) result }
 {
-    if is_slot(update.level, update.index) {
+    if is_xen_slot(update.level, update.index) {
         leave_lock(port, update.table, update.level);
         return Err(Stop::Refused(Refusal::Slot {
             index: update.index,
         }));
     }
     exchange_entry(port, gate, update, owners)
-}
-
-// One of Xen's slots, of a table of level 4.
-pub(crate) fn is_slot(level: u8, index: u16) -> bool
-    requires low { 1 ≤ level }
-    requires high { level ≤ 4 }
-    ensures { result ≡ is_slot (level_type level) index }
-{
-    level == 4 && 256 <= index && index < 272
 }
 
 // A word of ordinary memory, under a reference to its frame.

@@ -4,5 +4,5 @@
 mod levels;
 mod stack;
 
-pub use levels::{level_of, level_type};
+pub use levels::{is_xen_slot, level_of, level_type};
 pub use stack::{Stack, TableWork};

@@ -28,8 +28,9 @@ pub fn demand(table: PageType, index: u16, word: u64) -> Demand
     }
 }
 
-// `ROOT_PAGETABLE_FIRST_XEN_SLOT` to `ROOT_PAGETABLE_LAST_XEN_SLOT`: entries 256 to 271 of a table of level 4.
-fn is_slot(table: PageType, index: u16) -> bool
+/// Whether that entry is one of the hypervisor's own: `ROOT_PAGETABLE_FIRST_XEN_SLOT` to `ROOT_PAGETABLE_LAST_XEN_SLOT`, which are the entries
+/// 256 to 271 of a table of level 4.
+pub fn is_slot(table: PageType, index: u16) -> bool
     ensures { result ≡ is_slot table index }
 {
     matches!(table, PageType::L4) && 256 <= index && index < 272

@@ -4,7 +4,7 @@
 mod asking;
 mod bits;
 
-pub use asking::demand;
+pub use asking::{demand, is_slot};
 pub use bits::EntryBits;
 
 #[cfg(test)]

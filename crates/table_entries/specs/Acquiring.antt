@@ -28,6 +28,7 @@ use Rattle.frame_types.specs.Taking.{ShowsWait}
 use Rattle.frame_types.specs.declared.taking.Taken.{Taken}
 use Rattle.frame_types.specs.declared.taking.Taken.TheVariants as types
 use Rattle.kept_marks.specs.Marks.{KeptFor}
+use Rattle.xp_words.specs.Entries.{is_slot}
 use Rattle.partial_state.specs.Levels.{level_type}
 use Rattle.partial_state.specs.declared.stack.TableWork.{TableWork}
 use Rattle.table_words.specs.OldWords.{old_place}
@@ -146,7 +147,7 @@ pub data Advanced (owner : ℕ) : PortValue → List TableWork → PortValue →
 
 -- whether the gate is asked behind the last entry that is done with: not in a slot that is Xen's, nor where the table is then full
 abbrev pub is_asked_at : ℕ → ℕ → Bool
-is_asked_at level done = not (done == 512) && not ((level == 4) && (nat_le 257 done && nat_le done 272))
+is_asked_at level done = not (done == 512) && not (is_slot (level_type level) (done - 1))
 
 abbrev pub is_asked : List TableWork → Bool
 is_asked [] = false

@@ -2,12 +2,8 @@
 ghost use Rattle.std.specs.Prelude.{◌≡◌, ◌<◌, ◌≤◌};
 ghost use Rattle.tlb_walks.specs.Addresses.{is_canonical, page_of, index_of, cell_index, walk_refusal, access_refusal, slot_refusal};
 
-use xp_words::Refusal;
-
-// Slots of a top table that are the hypervisor's.
-const FIRST_SLOT: u16 = 256;
-
-const SLOTS_END: u16 = 272;
+use pte_check::is_slot;
+use xp_words::{PageType, Refusal};
 
 // Whether bits 48 to 63 all equal bit 47.
 pub(crate) fn canonical(va: u64) -> bool
@@ -24,8 +20,8 @@ pub(crate) fn page_at(va: u64) -> u64
     (va >> 12) & 0xf_ffff_ffff
 }
 
-// The entry that it leads through at a level, 4 at the top.
-pub(crate) fn index_at(va: u64, level: u8) -> u16
+/// The entry by which an address leads through a table of that level, 4 at the top.
+pub fn index_at(va: u64, level: u8) -> u16
     requires { level ≤ 4 }
     ensures index { result ≡ index_of va level }
     ensures few { result < 512 }
@@ -46,15 +42,15 @@ pub(crate) fn word_at(va: u64) -> u16
 fn slot_of(index: u16) -> Option<Refusal>
     ensures { result ≡ slot_refusal index }
 {
-    if FIRST_SLOT <= index && index < SLOTS_END {
+    if is_slot(PageType::L4, index) {
         Some(Refusal::Slot { index })
     } else {
         None
     }
 }
 
-// Why a walk is refused by the address alone.
-pub(crate) fn refused_walk(va: u64) -> Option<Refusal>
+/// Why an address leads nowhere, by its numbers alone.
+pub fn refused_walk(va: u64) -> Option<Refusal>
     ensures { result ≡ walk_refusal va }
 {
     if canonical(va) {

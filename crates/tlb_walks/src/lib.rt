@@ -9,5 +9,6 @@ mod levels;
 mod walks;
 
 pub use accesses::{guest_read, guest_write};
+pub use addresses::{index_at, refused_walk};
 pub use drops::{ack, flush_local, invlpg};
 pub use walks::{Walked, walk};

@@ -6,8 +6,8 @@ use Rattle.mmu_update.proofs.elements.write_entry.Goals as goal
 pub leave_lock-requires-clause-locked : goal.leave_lock-requires-clause-locked
 leave_lock-requires-clause-locked g c = holds_lock c.requires.locked.1
 
-pub returns-then-is_slot : goal.returns-then-is_slot
-returns-then-is_slot g c = λ b a. past_none refl (slot_updates a (sym c.is_slot.ensures ∙ c.if-is_slot.true) c.leave_lock.ensures)
+pub returns-then-is_xen_slot : goal.returns-then-is_xen_slot
+returns-then-is_xen_slot g c = λ b a. past_none refl (slot_updates a (sym c.is_xen_slot.ensures ∙ c.if-is_xen_slot.true) c.leave_lock.ensures)
 
 pub exchange_entry-requires-clause-locked : goal.exchange_entry-requires-clause-locked
 exchange_entry-requires-clause-locked g c = holds_table c.requires.locked.1
@@ -16,4 +16,4 @@ pub exchange_entry-requires-clause-maps : goal.exchange_entry-requires-clause-ma
 exchange_entry-requires-clause-maps g c = maps_still c.requires.locked.1
 
 pub returns : goal.returns
-returns g c = λ b a. exchanged_writes a (sym c.is_slot.ensures ∙ c.if-is_slot.false) c.exchange_entry.ensures
+returns g c = λ b a. exchanged_writes a (sym c.is_xen_slot.ensures ∙ c.if-is_xen_slot.false) c.exchange_entry.ensures
