@@ -31,31 +31,31 @@ admits_tie n c d _ _ _ _ (missing off far) (dying x y off' near aye dead) = absu
 admits_tie n c d _ _ _ _ (missing off far) (alive x off' near aye) = absurd (omega (arith, far, near))
 admits_tie n c d _ _ _ _ (barred x off near nay) (own f) = absurd (off f)
 admits_tie n c d _ _ _ _ (barred x off near nay) (missing off' far) = absurd (omega (arith, far, near))
-admits_tie n c d _ _ _ _ (barred x off near nay) (barred y off' near' nay') = by (tie_one (Priv c) Load None x y)
+admits_tie n c d _ _ _ _ (barred x off near nay) (barred y off' near' nay') = by (tie_one _ (Priv c) Load None x y)
   where
     by : Tie (saw_privileges c x ∷ []) (saw_privileges c y ∷ []) (x ≡ y) → Tie (saw_privileges c x ∷ []) (saw_privileges c y ∷ []) (Some (NoPrivilege c d) ≡ Some (NoPrivilege c d))
     by (inl f) = inl f
     by (inr s) = inr (s.0, refl)
-admits_tie n c d _ _ _ _ (barred x off near nay) (dying y z off' near' aye dead) = inl (fork_here (Priv c) Load None x y [] (saw_life d z ∷ []) (differ d x y nay aye))
-admits_tie n c d _ _ _ _ (barred x off near nay) (alive y off' near' aye) = inl (fork_here (Priv c) Load None x y [] (saw_life d 0 ∷ []) (differ d x y nay aye))
+admits_tie n c d _ _ _ _ (barred x off near nay) (dying y z off' near' aye dead) = inl (fork_here _ (Priv c) Load None x y [] (saw_life d z ∷ []) (differ d x y nay aye))
+admits_tie n c d _ _ _ _ (barred x off near nay) (alive y off' near' aye) = inl (fork_here _ (Priv c) Load None x y [] (saw_life d 0 ∷ []) (differ d x y nay aye))
 admits_tie n c d _ _ _ _ (dying x y off near aye dead) (own f) = absurd (off f)
 admits_tie n c d _ _ _ _ (dying x y off near aye dead) (missing off' far) = absurd (omega (arith, far, near))
-admits_tie n c d _ _ _ _ (dying x y off near aye dead) (barred z off' near' nay) = inl (fork_here (Priv c) Load None x z (saw_life d y ∷ []) [] (differ_too d x z aye nay))
+admits_tie n c d _ _ _ _ (dying x y off near aye dead) (barred z off' near' nay) = inl (fork_here _ (Priv c) Load None x z (saw_life d y ∷ []) [] (differ_too d x z aye nay))
 admits_tie n c d _ _ _ _ (dying x y off near aye dead) (dying x' y' off' near' aye' dead') =
-    tie_then (saw_privileges c x ∷ []) (saw_privileges c x' ∷ []) (saw_life d y ∷ []) (saw_life d y' ∷ []) _ _ (tie_one (Priv c) Load None x x') (λ s e. by (tie_one (Life d) Load None y y'))
+    tie_then (saw_privileges c x ∷ []) (saw_privileges c x' ∷ []) (saw_life d y ∷ []) (saw_life d y' ∷ []) _ _ (tie_one _ (Priv c) Load None x x') (λ s e. by (tie_one _ (Life d) Load None y y'))
   where
     by : Tie (saw_life d y ∷ []) (saw_life d y' ∷ []) (y ≡ y') → Tie (saw_life d y ∷ []) (saw_life d y' ∷ []) (Some (Dying d y) ≡ Some (Dying d y'))
     by (inl f) = inl f
     by (inr s) = inr (s.0, ap (λ z. Some (Dying d z)) s.1)
 admits_tie n c d _ _ _ _ (dying x y off near aye dead) (alive x' off' near' aye') =
-    tie_then (saw_privileges c x ∷ []) (saw_privileges c x' ∷ []) (saw_life d y ∷ []) (saw_life d 0 ∷ []) _ _ (tie_one (Priv c) Load None x x') (λ s e. inl (fork_here (Life d) Load None y 0 [] [] dead))
+    tie_then (saw_privileges c x ∷ []) (saw_privileges c x' ∷ []) (saw_life d y ∷ []) (saw_life d 0 ∷ []) _ _ (tie_one _ (Priv c) Load None x x') (λ s e. inl (fork_here _ (Life d) Load None y 0 [] [] dead))
 admits_tie n c d _ _ _ _ (alive x off near aye) (own f) = absurd (off f)
 admits_tie n c d _ _ _ _ (alive x off near aye) (missing off' far) = absurd (omega (arith, far, near))
-admits_tie n c d _ _ _ _ (alive x off near aye) (barred z off' near' nay) = inl (fork_here (Priv c) Load None x z (saw_life d 0 ∷ []) [] (differ_too d x z aye nay))
+admits_tie n c d _ _ _ _ (alive x off near aye) (barred z off' near' nay) = inl (fork_here _ (Priv c) Load None x z (saw_life d 0 ∷ []) [] (differ_too d x z aye nay))
 admits_tie n c d _ _ _ _ (alive x off near aye) (dying x' y' off' near' aye' dead') =
-    tie_then (saw_privileges c x ∷ []) (saw_privileges c x' ∷ []) (saw_life d 0 ∷ []) (saw_life d y' ∷ []) _ _ (tie_one (Priv c) Load None x x') (λ s e. inl (fork_here (Life d) Load None 0 y' [] [] (λ q. dead' (sym q))))
+    tie_then (saw_privileges c x ∷ []) (saw_privileges c x' ∷ []) (saw_life d 0 ∷ []) (saw_life d y' ∷ []) _ _ (tie_one _ (Priv c) Load None x x') (λ s e. inl (fork_here _ (Life d) Load None 0 y' [] [] (λ q. dead' (sym q))))
 admits_tie n c d _ _ _ _ (alive x off near aye) (alive x' off' near' aye') =
-    tie_then (saw_privileges c x ∷ []) (saw_privileges c x' ∷ []) (saw_life d 0 ∷ []) (saw_life d 0 ∷ []) _ _ (tie_one (Priv c) Load None x x') (λ s e. inr (refl, refl))
+    tie_then (saw_privileges c x ∷ []) (saw_privileges c x' ∷ []) (saw_life d 0 ∷ []) (saw_life d 0 ∷ []) _ _ (tie_one _ (Priv c) Load None x x') (λ s e. inr (refl, refl))
 
 pub over_tie : (caller tables frames : ℕ) (a b : Option Refusal) (us vs : List Visit) → OverOf caller tables frames a us → OverOf caller tables frames b vs → Tie us vs (a ≡ b)
 over_tie c t f _ _ _ _ (same e) (same g) = inr (refl, refl)
@@ -68,16 +68,16 @@ over_tie c t f _ _ _ _ (of_caller e) (forbidden x off two nay) = absurd (off e)
 over_tie c t f _ _ _ _ (of_caller e) (allowed x off two aye) = absurd (off e)
 over_tie c t f _ _ _ _ (forbidden x off two nay) (same g) = absurd (two g)
 over_tie c t f _ _ _ _ (forbidden x off two nay) (of_caller g) = absurd (off g)
-over_tie c t f _ _ _ _ (forbidden x off two nay) (forbidden y off' two' nay') = by (tie_one (Priv t) Load None x y)
+over_tie c t f _ _ _ _ (forbidden x off two nay) (forbidden y off' two' nay') = by (tie_one _ (Priv t) Load None x y)
   where
     by : Tie (saw_privileges t x ∷ []) (saw_privileges t y ∷ []) (x ≡ y) → Tie (saw_privileges t x ∷ []) (saw_privileges t y ∷ []) (Some (NoPrivilege t f) ≡ Some (NoPrivilege t f))
     by (inl q) = inl q
     by (inr s) = inr (s.0, refl)
-over_tie c t f _ _ _ _ (forbidden x off two nay) (allowed y off' two' aye) = inl (fork_here (Priv t) Load None x y [] [] (differ f x y nay aye))
+over_tie c t f _ _ _ _ (forbidden x off two nay) (allowed y off' two' aye) = inl (fork_here _ (Priv t) Load None x y [] [] (differ f x y nay aye))
 over_tie c t f _ _ _ _ (allowed x off two aye) (same g) = absurd (two g)
 over_tie c t f _ _ _ _ (allowed x off two aye) (of_caller g) = absurd (off g)
-over_tie c t f _ _ _ _ (allowed x off two aye) (forbidden y off' two' nay) = inl (fork_here (Priv t) Load None x y [] [] (differ_too f x y aye nay))
-over_tie c t f _ _ _ _ (allowed x off two aye) (allowed y off' two' aye') = by (tie_one (Priv t) Load None x y)
+over_tie c t f _ _ _ _ (allowed x off two aye) (forbidden y off' two' nay) = inl (fork_here _ (Priv t) Load None x y [] [] (differ_too f x y aye nay))
+over_tie c t f _ _ _ _ (allowed x off two aye) (allowed y off' two' aye') = by (tie_one _ (Priv t) Load None x y)
   where
     by : Tie (saw_privileges t x ∷ []) (saw_privileges t y ∷ []) (x ≡ y) → Tie (saw_privileges t x ∷ []) (saw_privileges t y ∷ []) (◌≡◌ {A = Option Refusal} None None)
     by (inl q) = inl q

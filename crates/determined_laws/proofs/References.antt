@@ -31,7 +31,7 @@ use Rattle.entry_locks.specs.declared.locking.Locked.{Locked}
 use Rattle.entry_locks.specs.declared.locking.Locked.TheVariants.{Other, Table}
 use Rattle.m2p_map.specs.Found.{MapsBy}
 use Rattle.determined_laws.specs.Forks.{Agree, AgreeLock, Forks, Tie}
-use Rattle.determined_laws.proofs.Ties.{tie_map, tie_lists, swapped, forks_newer, tie_one, tie_then}
+use Rattle.determined_laws.proofs.Ties.{tie_map, tie_lists, forks_newer, tie_one, tie_then}
 
 agree_err : {A : Type 0} (a b : Result A Stop) (e f : Stop) → a ≡ Err e → b ≡ Err f → e ≡ f → Agree a b
 agree_err a b e f x y z = subst (λ k. Agree k b) (sym x) (subst (λ k. Agree (Err e) k) (sym y) z)
@@ -99,7 +99,7 @@ module _ {A : Type 0} (n : Machine) (f owner : ℕ) where
       some_same r s e = cc
   rest_tie x a b _ _ (barred r near is e) (raised y free h) = absurd (let t = sym is ∙ free in cc)
   rest_tie x a b _ _ (raised y free h) (barred r near is e) = absurd (let t = sym is ∙ free in cc)
-  rest_tie x a b _ _ (raised y free h) (raised z also g) = tie_map _ _ _ _ (tie_one (Refs f) (Cas x (one_more x (ref_read x))) None y z) (λ s. raised_agree x y z a b s h g)
+  rest_tie x a b _ _ (raised y free h) (raised z also g) = tie_map _ _ _ _ (tie_one _ (Refs f) (Cas x (one_more x (ref_read x))) None y z) (λ s. raised_agree x y z a b s h g)
 
   got_tie : (a b : Result A Stop) (us vs : List Visit) → Got a us → Got b vs → Tie us vs (Agree a b)
   got_tie a b _ _ (out far e) (out far' g) = inr (refl, agree_err a b _ _ e g refl)
@@ -108,7 +108,7 @@ module _ {A : Type 0} (n : Machine) (f owner : ℕ) where
   got_tie a b _ _ (seen x _ (barred r near is g)) (out far e) = absurd (omega (arith, far, near))
   got_tie a b _ _ (seen x _ (raised y free h)) (out far e) = absurd (far_refused n f owner x far free)
   got_tie a b _ _ (seen x rest g) (seen y more h) =
-      tie_then (saw_refs f x ∷ []) (saw_refs f y ∷ []) rest more (x ≡ y) (Agree a b) (tie_one (Refs f) Load None x y) (λ e s. rest_tie y a b rest more (subst (λ z. GotRest z a rest) s g) h)
+      tie_then (saw_refs f x ∷ []) (saw_refs f y ∷ []) rest more (x ≡ y) (Agree a b) (tie_one _ (Refs f) Load None x y) (λ e s. rest_tie y a b rest more (subst (λ z. GotRest z a rest) s g) h)
 
   pub gets_tie : (a b : Result A Stop) (us vs : List Visit) → GetsBy n f owner a us → GetsBy n f owner b vs → Tie us vs (Agree a b)
   gets_tie a b us vs p q = got_tie a b us vs (got a us p) (got b vs q)
@@ -126,23 +126,23 @@ last_same w None None x y = refl
 
 module _ (f owner : ℕ) where
   pages_tie : (z k : ℕ) → Tie (visit (Pages owner) (Add one_down) z ∷ []) (visit (Pages owner) (Add one_down) k ∷ []) (Unit {0})
-  pages_tie z k = tie_map _ _ _ _ (tie_one (Pages owner) (Add one_down) None z k) (λ e. tt)
+  pages_tie z k = tie_map _ _ _ _ (tie_one _ (Pages owner) (Add one_down) None z k) (λ e. tt)
 
   store_tie : (clock y z l k : ℕ) →
       Tie (visit (Pages owner) (Add one_down) z ∷ (visit (Refs f) (Store (ref_write (Free clock))) y ∷ [])) (visit (Pages owner) (Add one_down) k ∷ (visit (Refs f) (Store (ref_write (Free clock))) l ∷ [])) (Unit {0})
   store_tie clock y z l k =
       tie_then (visit (Refs f) (Store (ref_write (Free clock))) y ∷ []) (visit (Refs f) (Store (ref_write (Free clock))) l ∷ []) (visit (Pages owner) (Add one_down) z ∷ []) (visit (Pages owner) (Add one_down) k ∷ []) (y ≡ l) _
-      (tie_one (Refs f) (Store (ref_write (Free clock))) None y l) (λ e s. pages_tie z k)
+      (tie_one _ (Refs f) (Store (ref_write (Free clock))) None y l) (λ e s. pages_tie z k)
 
   bit_tie : (clock b y z d l k : ℕ) → Tie (freeing f owner clock b y z) (freeing f owner clock d l k) (Unit {0})
   bit_tie clock b y z d l k =
       tie_then (visit (Map (f / 64)) (Add (map_bit f)) b ∷ (visit Clock Load clock ∷ [])) (visit (Map (f / 64)) (Add (map_bit f)) d ∷ (visit Clock Load clock ∷ []))
       (visit (Pages owner) (Add one_down) z ∷ (visit (Refs f) (Store (ref_write (Free clock))) y ∷ [])) (visit (Pages owner) (Add one_down) k ∷ (visit (Refs f) (Store (ref_write (Free clock))) l ∷ [])) (b ≡ d) _
-      (tie_then (visit Clock Load clock ∷ []) (visit Clock Load clock ∷ []) (visit (Map (f / 64)) (Add (map_bit f)) b ∷ []) (visit (Map (f / 64)) (Add (map_bit f)) d ∷ []) (Unit {0}) (b ≡ d) (inr (refl, tt)) (λ e s. tie_one (Map (f / 64)) (Add (map_bit f)) None b d))
+      (tie_then (visit Clock Load clock ∷ []) (visit Clock Load clock ∷ []) (visit (Map (f / 64)) (Add (map_bit f)) b ∷ []) (visit (Map (f / 64)) (Add (map_bit f)) d ∷ []) (Unit {0}) (b ≡ d) (inr (refl, tt)) (λ e s. tie_one _ (Map (f / 64)) (Add (map_bit f)) None b d))
       (λ e s. store_tie clock y z l k)
 
   free_tie : (c b y z e d l k : ℕ) → Tie (freeing f owner c b y z) (freeing f owner e d l k) (Unit {0})
-  free_tie c b y z e d l k = by (tie_one Clock Load None c e)
+  free_tie c b y z e d l k = by (tie_one _ Clock Load None c e)
     where
       by : Tie (visit Clock Load c ∷ []) (visit Clock Load e ∷ []) (c ≡ e) → Tie (freeing f owner c b y z) (freeing f owner e d l k) (Unit {0})
       by (inl t) =
@@ -159,7 +159,7 @@ put_tie f us vs p q =
     let s = p.steps in
     let t = q.steps in
     tie_lists us vs _ _ _ (s.list ∙ ap (λ z. s.after ++ z) s.first) (t.list ∙ ap (λ z. t.after ++ z) t.first)
-    (tie_then (lowers_refs f p.word ∷ []) (lowers_refs f q.word ∷ []) s.after t.after (p.word ≡ q.word) (Unit {0}) (tie_one (Refs f) (Add one_down) None p.word q.word)
+    (tie_then (lowers_refs f p.word ∷ []) (lowers_refs f q.word ∷ []) s.after t.after (p.word ≡ q.word) (Unit {0}) (tie_one _ (Refs f) (Add one_down) None p.word q.word)
     (λ e same. let one = last_same q.word p.last q.last (subst (λ z. LastOf z p.last) same p.of) q.of in frees_tie f q.last s.after t.after (subst (λ z. FreesBy f z s.after) one s.next) t.next))
 
 -- ---- a machine-to-physical word
@@ -185,8 +185,8 @@ module _ (n : Machine) (f owner gpfn : ℕ) where
       tie_lists us vs _ _ _ p.list q.list
       (tie_then p.before q.before p.after q.after (Agree {A = ℕ} (Ok f) (Ok f)) (Unit {0}) (gets_tie {A = ℕ} n f owner (Ok f) (Ok f) p.before q.before p.first q.first)
       (λ e g. tie_lists p.after q.after _ _ _ s.list t.list
-          (tie_then s.before t.before s.after t.after (Unit {0}) (Unit {0})
-          (tie_lists s.before t.before _ _ _ s.first.1 t.first.1 (tie_map _ _ _ _ (tie_one (M2p f) (Store gpfn) None s.first.0 t.first.0) (λ z. tt))) (λ z k. put_tie f s.after t.after s.next t.next))))
+      (tie_then s.before t.before s.after t.after (Unit {0}) (Unit {0})
+      (tie_lists s.before t.before _ _ _ s.first.1 t.first.1 (tie_map _ _ _ _ (tie_one _ (M2p f) (Store gpfn) None s.first.0 t.first.0) (λ z. tt))) (λ z k. put_tie f s.after t.after s.next t.next))))
   maps_tie (Ok a) (Err e) us vs p q = inl (subst (λ z. Forks z vs) (sym p.list) (got_first (Ok a) e p.before vs p.first q p.after))
   maps_tie (Err e) (Ok b) us vs p q = inl (subst (λ z. Forks us z) (sym q.list) (got_second (Err e) e us q.before p q.first q.after))
   maps_tie (Err e) (Err g) us vs p q = tie_map us vs _ _ (gets_tie {A = ℕ} n f owner (Err e) (Err g) us vs p q) (λ s. s)
@@ -246,11 +246,11 @@ module _ (n : Machine) (f : ℕ) where
   lock_rest_tie x _ _ _ _ (busy h) (swapped y b i s) = absurd (never_both (kind_fields x) i h)
   lock_rest_tie x _ _ _ _ (swapped y a h s) (other e g) = absurd (let t = sym e ∙ h in cc)
   lock_rest_tie x _ _ _ _ (swapped y a h s) (busy i) = absurd (never_both (kind_fields x) h i)
-  lock_rest_tie x _ _ _ _ (swapped y a h s) (swapped z b i t) = tie_map _ _ _ _ (tie_one (Kind f) (Cas x (kind_write (locked_kind (kind_fields x)))) None y z) (λ e. swapped_agree x y z a b e s t)
+  lock_rest_tie x _ _ _ _ (swapped y a h s) (swapped z b i t) = tie_map _ _ _ _ (tie_one _ (Kind f) (Cas x (kind_write (locked_kind (kind_fields x)))) None y z) (λ e. swapped_agree x y z a b e s t)
 
   locks_are : (a b : Result Locked Stop) (us vs : List Visit) → Locks a us → Locks b vs → Tie us vs (AgreeLock a b)
   locks_are _ _ _ _ (locks x a rest l) (locks y b more k) =
-      tie_then (visit (Kind f) Load x ∷ []) (visit (Kind f) Load y ∷ []) rest more (x ≡ y) (AgreeLock a b) (tie_one (Kind f) Load None x y) (λ e s. lock_rest_tie y a b rest more (subst (λ z. LockRest z a rest) s l) k)
+      tie_then (visit (Kind f) Load x ∷ []) (visit (Kind f) Load y ∷ []) rest more (x ≡ y) (AgreeLock a b) (tie_one _ (Kind f) Load None x y) (λ e s. lock_rest_tie y a b rest more (subst (λ z. LockRest z a rest) s l) k)
 
   pub locks_tie : (a b : Result Locked Stop) (us vs : List Visit) → LocksBy n f a us → LocksBy n f b vs → Tie us vs (AgreeLock a b)
   locks_tie a b us vs p q = locks_are a b us vs (locked a us p) (locked b vs q)

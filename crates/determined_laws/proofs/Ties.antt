@@ -19,7 +19,16 @@ same_or x y = same_by x y (x == y) refl
 pub forks_newer : (us vs ps qs : List Visit) → Forks us vs → Forks (ps ++ us) (qs ++ vs)
 forks_newer us vs ps qs f =
     record {
-      place = f.place; act = f.act; kind = f.kind; mark = f.mark; x = f.x; y = f.y; other = f.other; newer = ps ++ f.newer; later = qs ++ f.later; older = f.older;
+      place = f.place;
+      act = f.act;
+      kind = f.kind;
+      mark = f.mark;
+      x = f.x;
+      y = f.y;
+      other = f.other;
+      newer = ps ++ f.newer;
+      later = qs ++ f.later;
+      older = f.older;
       left = ap (λ zs. ps ++ zs) f.left ∙ sym (append_assoc ps f.newer _);
       right = ap (λ zs. qs ++ zs) f.right ∙ sym (append_assoc qs f.later _);
     }
@@ -27,14 +36,23 @@ forks_newer us vs ps qs f =
 pub forks_older : (us vs ss : List Visit) → Forks us vs → Forks (us ++ ss) (vs ++ ss)
 forks_older us vs ss f =
     record {
-      place = f.place; act = f.act; kind = f.kind; mark = f.mark; x = f.x; y = f.y; other = f.other; newer = f.newer; later = f.later; older = f.older ++ ss;
+      place = f.place;
+      act = f.act;
+      kind = f.kind;
+      mark = f.mark;
+      x = f.x;
+      y = f.y;
+      other = f.other;
+      newer = f.newer;
+      later = f.later;
+      older = f.older ++ ss;
       left = ap (λ zs. zs ++ ss) f.left ∙ append_assoc f.newer _ ss;
       right = ap (λ zs. zs ++ ss) f.right ∙ append_assoc f.later _ ss;
     }
 
 -- two visits of one kind, and behind them whatever
-pub fork_here : {t : StepKind} (p : Place) (a : Act) (k : Option Mark) (x y : ℕ) (ps qs : List Visit) → x ≢ y → Forks (ps ++ (at t p a k x ∷ [])) (qs ++ (at t p a k y ∷ []))
-fork_here {t} p a k x y ps qs n = record { place = p; act = a; kind = t; mark = k; x = x; y = y; other = n; newer = ps; later = qs; older = []; left = refl; right = refl }
+pub fork_here : (t : StepKind) (p : Place) (a : Act) (k : Option Mark) (x y : ℕ) (ps qs : List Visit) → x ≢ y → Forks (ps ++ (at t p a k x ∷ [])) (qs ++ (at t p a k y ∷ []))
+fork_here t p a k x y ps qs n = record { place = p; act = a; kind = t; mark = k; x = x; y = y; other = n; newer = ps; later = qs; older = []; left = refl; right = refl }
 
 -- one part behind another
 pub tie_then : (us vs ps qs : List Visit) (E F : Type 0) → Tie us vs E → (us ≡ vs → E → Tie ps qs F) → Tie (ps ++ us) (qs ++ vs) F
@@ -45,12 +63,12 @@ tie_then us vs ps qs E F (inr s) rest = by (rest s.0 s.1)
     by (inl f) = inl (subst (λ zs. Forks (ps ++ us) (qs ++ zs)) s.0 (forks_older ps qs us f))
     by (inr t) = inr (ap (λ zs. zs ++ us) t.0 ∙ ap (λ zs. qs ++ zs) s.0, t.1)
 
-pub tie_one : {t : StepKind} (p : Place) (a : Act) (k : Option Mark) (x y : ℕ) → Tie (at t p a k x ∷ []) (at t p a k y ∷ []) (x ≡ y)
-tie_one {t} p a k x y = by (same_or x y)
+pub tie_one : (t : StepKind) (p : Place) (a : Act) (k : Option Mark) (x y : ℕ) → Tie (at t p a k x ∷ []) (at t p a k y ∷ []) (x ≡ y)
+tie_one t p a k x y = by (same_or x y)
   where
     by : (x ≡ y) ⊎ (x ≢ y) → Tie (at t p a k x ∷ []) (at t p a k y ∷ []) (x ≡ y)
     by (inl e) = inr (ap (λ z. at t p a k z ∷ []) e, e)
-    by (inr n) = inl (fork_here p a k x y [] [] n)
+    by (inr n) = inl (fork_here t p a k x y [] [] n)
 
 -- ---- what follows from a tie, and the same lists otherwise said
 pub tie_map : (us vs : List Visit) (E F : Type 0) → Tie us vs E → (E → F) → Tie us vs F

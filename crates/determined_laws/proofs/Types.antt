@@ -32,7 +32,7 @@ use Rattle.determined_laws.proofs.Ties.{tie_map, tie_lists, swapped, forks_newer
 
 -- ---- a store of a kind word
 pub store_tie : (f : ℕ) (k : KindWord) (us vs : List Visit) → StoresKind f k us → StoresKind f k vs → Tie us vs (Unit {0})
-store_tie f k us vs p q = tie_lists us vs _ _ _ p.1 q.1 (tie_map _ _ _ _ (tie_one (Kind f) (Store (kind_write k)) None p.0 q.0) (λ e. tt))
+store_tie f k us vs p q = tie_lists us vs _ _ _ p.1 q.1 (tie_map _ _ _ _ (tie_one _ (Kind f) (Store (kind_write k)) None p.0 q.0) (λ e. tt))
 
 where_tie : (b : Bool) (P : List Visit → Type 0) (us vs : List Visit) → ((us vs : List Visit) → P us → P vs → Tie us vs (Unit {0})) → Where b P us → Where b P vs → Tie us vs (Unit {0})
 where_tie true P us vs t p q = t us vs p q
@@ -43,7 +43,7 @@ then_tie P Q P' Q' us vs E F s t first next = tie_lists us vs _ _ _ s.list t.lis
 
 pub dies_tie : (f : ℕ) (want : PageType) (marked : Bool) (us vs : List Visit) → Dies f want marked us → Dies f want marked vs → Tie us vs (Unit {0})
 dies_tie f want marked us vs p q =
-    then_tie _ _ _ _ us vs (p.0 ≡ q.0) _ p.1 q.1 (tie_lists _ _ _ _ _ p.1.first q.1.first (tie_one Clock Load None p.0 q.0))
+    then_tie _ _ _ _ us vs (p.0 ≡ q.0) _ p.1 q.1 (tie_lists _ _ _ _ _ p.1.first q.1.first (tie_one _ Clock Load None p.0 q.0))
     (λ e. store_tie f (dead_kind want marked q.0) p.1.after q.1.after (subst (λ z. StoresKind f (dead_kind want marked z) p.1.after) e p.1.next) q.1.next)
 
 pub dead_tie : (f : ℕ) (want : PageType) (us vs : List Visit) → DeadBy f want us → DeadBy f want vs → Tie us vs (Unit {0})
@@ -54,11 +54,11 @@ shared_tie f want stamp us vs p q = then_tie _ _ _ _ us vs (Unit {0}) _ p q (sto
 
 pub drops_tie : (f : ℕ) (kind : PageType) (us vs : List Visit) → DropsBy f kind us → DropsBy f kind vs → Tie us vs (Unit {0})
 drops_tie f kind us vs p q =
-    then_tie _ _ _ _ us vs (p.0 ≡ q.0) _ p.1 q.1 (tie_lists _ _ _ _ _ p.1.first q.1.first (tie_one (Kind f) (Add one_down) None p.0 q.0))
+    then_tie _ _ _ _ us vs (p.0 ≡ q.0) _ p.1 q.1 (tie_lists _ _ _ _ _ p.1.first q.1.first (tie_one _ (Kind f) (Add one_down) None p.0 q.0))
     (λ e. let a = p.1.next in let b = q.1.next in
-        then_tie _ _ _ _ p.1.after q.1.after (Unit {0}) _ a b
-        (where_tie ((kind_fields q.0).number == 1) (Dies f kind false) a.before b.before (dies_tie f kind false) (subst (λ z. Where ((kind_fields z).number == 1) (Dies f kind false) a.before) e a.first) b.first)
-        (λ g. put_tie f a.after b.after a.next b.next))
+    then_tie _ _ _ _ p.1.after q.1.after (Unit {0}) _ a b
+    (where_tie ((kind_fields q.0).number == 1) (Dies f kind false) a.before b.before (dies_tie f kind false) (subst (λ z. Where ((kind_fields z).number == 1) (Dies f kind false) a.before) e a.first) b.first)
+    (λ g. put_tie f a.after b.after a.next b.next))
 
 -- ---- a frame that came into work goes on
 module _ (q : Post) (real : q.vcpu < length q.machine.vcpu_domain) (f owner : ℕ) (want : PageType) where

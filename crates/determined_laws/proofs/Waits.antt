@@ -23,25 +23,25 @@ abbrev FlushAnswer : Type 0
 FlushAnswer = Result (Unit {0}) Refusal
 
 store_tie : (s x y before after : ℕ) → x ≡ y → Tie (visit (flushed_of s) (Store x) before ∷ []) (visit (flushed_of s) (Store y) after ∷ []) (◌≡◌ {A = FlushAnswer} (Ok tt) (Ok tt))
-store_tie s x y before after e = subst (λ z. Tie (visit (flushed_of s) (Store x) before ∷ []) (visit (flushed_of s) (Store z) after ∷ []) (◌≡◌ {A = FlushAnswer} (Ok tt) (Ok tt))) e (tie_map _ _ _ _ (tie_one (flushed_of s) (Store x) None before after) (λ q. refl))
+store_tie s x y before after e = subst (λ z. Tie (visit (flushed_of s) (Store x) before ∷ []) (visit (flushed_of s) (Store z) after ∷ []) (◌≡◌ {A = FlushAnswer} (Ok tt) (Ok tt))) e (tie_map _ _ _ _ (tie_one _ (flushed_of s) (Store x) None before after) (λ q. refl))
 
 tick_tie : (s c found to before found' to' before' : ℕ) → left_by (Cas c (c + 1)) found ≡ to → left_by (Cas c (c + 1)) found' ≡ to' →
     Tie (visit (flushed_of s) (Store to) before ∷ (visit Clock (Cas c (c + 1)) found ∷ [])) (visit (flushed_of s) (Store to') before' ∷ (visit Clock (Cas c (c + 1)) found' ∷ [])) (◌≡◌ {A = FlushAnswer} (Ok tt) (Ok tt))
 tick_tie s c found to before found' to' before' left left' =
     tie_then (visit Clock (Cas c (c + 1)) found ∷ []) (visit Clock (Cas c (c + 1)) found' ∷ []) (visit (flushed_of s) (Store to) before ∷ []) (visit (flushed_of s) (Store to') before' ∷ []) (found ≡ found') _
-    (tie_one Clock (Cas c (c + 1)) None found found') (λ e same. store_tie s to to' before before' (sym left ∙ (ap (λ z. left_by (Cas c (c + 1)) z) same ∙ left')))
+    (tie_one _ Clock (Cas c (c + 1)) None found found') (λ e same. store_tie s to to' before before' (sym left ∙ (ap (λ z. left_by (Cas c (c + 1)) z) same ∙ left')))
 
 pub flushed_tie : (s : ℕ) (a b : FlushAnswer) (us vs : List Visit) → FlushedBy s a us → FlushedBy s b vs → Tie us vs (a ≡ b)
 flushed_tie s _ _ _ _ none none = inr (refl, refl)
 flushed_tie s _ _ _ _ none (once c found to before some left) =
-    inl (fork_here Clock Load None last_clock c [] (visit (flushed_of s) (Store to) before ∷ (visit Clock (Cas c (c + 1)) found ∷ [])) (λ e. some (sym e)))
+    inl (fork_here _ Clock Load None last_clock c [] (visit (flushed_of s) (Store to) before ∷ (visit Clock (Cas c (c + 1)) found ∷ [])) (λ e. some (sym e)))
 flushed_tie s _ _ _ _ (once c found to before some left) none =
-    inl (fork_here Clock Load None c last_clock (visit (flushed_of s) (Store to) before ∷ (visit Clock (Cas c (c + 1)) found ∷ [])) [] some)
+    inl (fork_here _ Clock Load None c last_clock (visit (flushed_of s) (Store to) before ∷ (visit Clock (Cas c (c + 1)) found ∷ [])) [] some)
 flushed_tie s _ _ _ _ (once c found to before some left) (once c' found' to' before' some' left') =
     tie_then (visit Clock Load c ∷ []) (visit Clock Load c' ∷ []) (visit (flushed_of s) (Store to) before ∷ (visit Clock (Cas c (c + 1)) found ∷ []))
-    (visit (flushed_of s) (Store to') before' ∷ (visit Clock (Cas c' (c' + 1)) found' ∷ [])) (c ≡ c') _ (tie_one Clock Load None c c')
+    (visit (flushed_of s) (Store to') before' ∷ (visit Clock (Cas c' (c' + 1)) found' ∷ [])) (c ≡ c') _ (tie_one _ Clock Load None c c')
     (λ e same. subst (λ d. left_by (Cas d (d + 1)) found' ≡ to' → Tie (visit (flushed_of s) (Store to) before ∷ (visit Clock (Cas c (c + 1)) found ∷ [])) (visit (flushed_of s) (Store to') before' ∷ (visit Clock (Cas d (d + 1)) found' ∷ [])) (◌≡◌ {A = FlushAnswer} (Ok tt) (Ok tt))) same
-        (λ l. tick_tie s c found to before found' to' before' left l) left')
+    (λ l. tick_tie s c found to before found' to' before' left l) left')
 
 -- ---- one vCPU, by explicit lists
 abbrev Standing : Type 0
@@ -91,7 +91,7 @@ module _ (q : Post) (whose : Whose) (stamp u : ℕ) where
       moved _ vs ((((visit (asked_of u) (Max stamp) z ∷ []) ++ k.before) ++ (saw_flushed u y ∷ [])) ++ (saw_run u 0 ∷ []))
       (t.list ∙ (ap (λ g. t.after ++ g) t.first ∙ ap (λ g. g ++ (saw_run u 0 ∷ [])) (n.list ∙ (ap (λ g. n.after ++ g) n.first ∙ ap (λ g. g ++ (saw_flushed u y ∷ [])) (k.list ∙ ap (λ g. g ++ k.before) k.next)))))
       (other 0 (Ok (Some y)) (((visit (asked_of u) (Max stamp) z ∷ []) ++ k.before) ++ (saw_flushed u y ∷ [])) meant
-          (runs y (Ok (Some y)) ((visit (asked_of u) (Max stamp) z ∷ []) ++ k.before) (weighs true (Ok (Some y)) k.before (visit (asked_of u) (Max stamp) z ∷ []) low k.first (behind z))))
+      (runs y (Ok (Some y)) ((visit (asked_of u) (Max stamp) z ∷ []) ++ k.before) (weighs true (Ok (Some y)) k.before (visit (asked_of u) (Max stamp) z ∷ []) low k.first (behind z))))
   looked _ vs (waits.own_late y meant above seen) = moved _ vs (saw_flushed u y ∷ []) seen (own y (Ok None) [] meant (own_late above))
   looked _ vs (waits.own_flushed y meant low t) = moved _ vs (t.after ++ (saw_flushed u y ∷ [])) (t.list ∙ ap (λ z. t.after ++ z) t.first) (own y (Ok None) t.after meant (own_flushed t.after low t.next))
   looked _ vs (waits.own_spent y r meant low t) = moved _ vs (t.after ++ (saw_flushed u y ∷ [])) (t.list ∙ ap (λ z. t.after ++ z) t.first) (own y (Err r) t.after meant (own_spent r t.after low t.next))
@@ -99,7 +99,7 @@ module _ (q : Post) (whose : Whose) (stamp u : ℕ) where
   -- ---- ties
   reach_tie : (y : ℕ) (reach : Bool) (a b : Standing) (us vs : List Visit) → ReachRest y reach a us → ReachRest y reach b vs → Tie us vs (a ≡ b)
   reach_tie y _ _ _ _ _ barred barred = inr (refl, refl)
-  reach_tie y _ _ _ _ _ (behind z) (behind x) = tie_map _ _ _ _ (tie_one (asked_of u) (Max stamp) None z x) (λ e. refl)
+  reach_tie y _ _ _ _ _ (behind z) (behind x) = tie_map _ _ _ _ (tie_one _ (asked_of u) (Max stamp) None z x) (λ e. refl)
 
   own_tie : (y : ℕ) (a b : Standing) (us vs : List Visit) → OwnRest y a us → OwnRest y b vs → Tie us vs (a ≡ b)
   own_tie y _ _ _ _ (own_late h) (own_late k) = inr (refl, refl)
@@ -121,7 +121,7 @@ weigh_tie n (OfOwner o) u a b us vs (inr p) (inr r) =
     let x = p.1 in
     let y = r.1 in
     subst (λ z. Tie z vs (a ≡ b)) (sym x.2) (subst (λ z. Tie (visit (Priv (domain_of n u)) Load x.0 ∷ []) z (a ≡ b)) (sym y.2)
-    (tie_map _ _ _ _ (tie_one (Priv (domain_of n u)) Load None x.0 y.0) (λ e. sym x.1 ∙ (ap (has_ever o) e ∙ y.1))))
+    (tie_map _ _ _ _ (tie_one _ (Priv (domain_of n u)) Load None x.0 y.0) (λ e. sym x.1 ∙ (ap (has_ever o) e ∙ y.1))))
 
 module _ (q : Post) (whose : Whose) (stamp u : ℕ) where
   flushed_rest_tie : (y : ℕ) (a b : Standing) (us vs : List Visit) → FlushedRest q whose stamp u y a us → FlushedRest q whose stamp u y b vs → Tie us vs (a ≡ b)
@@ -137,7 +137,7 @@ module _ (q : Post) (whose : Whose) (stamp u : ℕ) where
   run_tie _ _ _ _ _ (idle x off) (runs y b rest t) = absurd (off refl)
   run_tie _ _ _ _ _ (runs y a rest t) (idle x off) = absurd (off refl)
   run_tie _ _ _ _ _ (runs y a rest t) (runs z b more s) =
-      tie_then (saw_flushed u y ∷ []) (saw_flushed u z ∷ []) rest more (y ≡ z) (a ≡ b) (tie_one (flushed_of u) Load None y z)
+      tie_then (saw_flushed u y ∷ []) (saw_flushed u z ∷ []) rest more (y ≡ z) (a ≡ b) (tie_one _ (flushed_of u) Load None y z)
       (λ e same. flushed_rest_tie z a b rest more (subst (λ k. FlushedRest q whose stamp u k a rest) same t) s)
 
   unmeant_not : (means : ℕ → Bool) → whose ≡ Those means → means u ≡ false → IsMeant whose u → {A : Type 0} → A
@@ -149,13 +149,13 @@ module _ (q : Post) (whose : Whose) (stamp u : ℕ) where
   looked_tie _ _ _ _ (skipped means is off) (own y b rest meant t) = unmeant_not means is off meant.1
   looked_tie _ _ _ _ (other x a rest meant t) (skipped means is off) = unmeant_not means is off meant.1
   looked_tie _ _ _ _ (other x a rest meant t) (other y b more also s) =
-      tie_then (saw_run u x ∷ []) (saw_run u y ∷ []) rest more (x ≡ y) (a ≡ b) (tie_one (run_of u) Load None x y)
+      tie_then (saw_run u x ∷ []) (saw_run u y ∷ []) rest more (x ≡ y) (a ≡ b) (tie_one _ (run_of u) Load None x y)
       (λ e same. run_tie y a b rest more (subst (λ k. RunRest q whose stamp u k a rest) same t) s)
   looked_tie _ _ _ _ (other x a rest meant t) (own y b more also s) = absurd (meant.0 also.0)
   looked_tie _ _ _ _ (own y a rest meant t) (skipped means is off) = unmeant_not means is off meant.1
   looked_tie _ _ _ _ (own y a rest meant t) (other x b more also s) = absurd (also.0 meant.0)
   looked_tie _ _ _ _ (own y a rest meant t) (own z b more also s) =
-      tie_then (saw_flushed u y ∷ []) (saw_flushed u z ∷ []) rest more (y ≡ z) (a ≡ b) (tie_one (flushed_of u) Load None y z)
+      tie_then (saw_flushed u y ∷ []) (saw_flushed u z ∷ []) rest more (y ≡ z) (a ≡ b) (tie_one _ (flushed_of u) Load None y z)
       (λ e same. own_tie q whose stamp u z a b rest more (subst (λ k. OwnRest q whose stamp u k a rest) same t) s)
 
   pub looks_tie : (a b : Standing) (us vs : List Visit) → LooksAt q whose stamp u us a → LooksAt q whose stamp u vs b → Tie us vs (a ≡ b)

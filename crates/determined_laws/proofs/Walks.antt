@@ -11,7 +11,7 @@ use Rattle.xp_words.specs.declared.reply.Stop.{Stop}
 use Rattle.xp_words.specs.declared.reply.Stop.TheVariants.{Refused, Paused}
 use Rattle.xp_board.specs.declared.step.Act.TheVariants.{Cas, Load}
 use Rattle.xp_board.specs.declared.step.Mark.TheVariants as marks
-use Rattle.xp_board.proofs.Sums.{when_ne}
+use Rattle.xp_words.proofs.Shared.{eq_false}
 use Rattle.step_maker.specs.Licences.{is_unmapped}
 use Rattle.step_maker.specs.Visits.{Visit, Only, Where, visit}
 use Rattle.tlb_walks.specs.Addresses.{index_of, walk_refusal}
@@ -29,19 +29,19 @@ abbrev pub SameEntry : (ℕ → ℕ) → ℕ → ℕ → ℕ → ℕ → Type 0
 SameEntry N w x found other = (w ≡ x) × (needs N x ≡ true → found ≡ other)
 
 where_tie : (b : Bool) (t i w new found other : ℕ) (us vs : List Visit) → Where b (Only (sets_bits t i w new found)) us → Where b (Only (sets_bits t i w new other)) vs → Tie us vs (b ≡ true → found ≡ other)
-where_tie true t i w new found other us vs e f = tie_lists us vs _ _ _ e f (tie_map _ _ _ _ (tie_one (Cell t i) (Cas w new) None found other) (λ s h. s))
+where_tie true t i w new found other us vs e f = tie_lists us vs _ _ _ e f (tie_map _ _ _ _ (tie_one _ (Cell t i) (Cas w new) None found other) (λ s h. s))
 where_tie false t i w new found other us vs e f = inr (e ∙ sym f, λ h. absurd cc)
 
 entry_tie : (N : ℕ → ℕ) (t i w x found other : ℕ) (us vs : List Visit) → EntryBy t i w (N w) found us → EntryBy t i x (N x) other vs → Tie us vs (SameEntry N w x found other)
 entry_tie N t i w x found other us vs a b =
     tie_lists us vs _ _ _ (a.list ∙ ap (λ z. a.after ++ z) a.first) (b.list ∙ ap (λ z. b.after ++ z) b.first)
-    (tie_then (saw_entry t i w ∷ []) (saw_entry t i x ∷ []) a.after b.after (w ≡ x) (SameEntry N w x found other) (tie_one (Cell t i) Load None w x)
+    (tie_then (saw_entry t i w ∷ []) (saw_entry t i x ∷ []) a.after b.after (w ≡ x) (SameEntry N w x found other) (tie_one _ (Cell t i) Load None w x)
     (λ e same. tie_map a.after b.after _ _
-        (where_tie (needs N x) t i x (N x) found other a.after b.after (subst (λ z. Where (needs N z) (Only (visit (Cell t i) (Cas z (N z)) found)) a.after) same a.next) b.next) (λ h. (same, h))))
+    (where_tie (needs N x) t i x (N x) found other a.after b.after (subst (λ z. Where (needs N z) (Only (sets_bits t i z (N z) found)) a.after) same a.next) b.next) (λ h. (same, h))))
 
 -- ---- how it ends
 lost_needs : (N : ℕ → ℕ) (w : ℕ) → is_bit 0 w ≡ true → N w ≢ w → needs N w ≡ true
-lost_needs N w there other = let b = when_ne (N w) w other in rw (there, b) refl
+lost_needs N w there other = let b = eq_false (N w) w other in rw (there, b) refl
 
 module _ (n : Machine) (t i level : ℕ) (barrier : Option ℕ) (N : ℕ → ℕ) (w : ℕ) where
   Ends : ℕ → Result Walked Stop → Type 0
@@ -84,7 +84,7 @@ module _ (n : Machine) (va : ℕ) (write : Bool) (a b : Result Walked Stop) wher
   path_tie _ _ _ _ _ (walks.ends level table barrier us w found e f) (walks.ends _ _ _ vs x other g h) =
       tie_map us vs _ _ (entry_tie (new level barrier) table (index_of va level) w x found other us vs e g)
       (λ s. ends_same n table (index_of va level) level (barrier_with barrier x) (λ z. with_needed write level (barrier_with barrier x) x) x found other s.1 a b
-          (subst (λ z. EndsAt n table (index_of va level) level (barrier_with barrier z) z (new level barrier z) found a) s.0 f) h)
+      (subst (λ z. EndsAt n table (index_of va level) level (barrier_with barrier z) z (new level barrier z) found a) s.0 f) h)
   path_tie _ _ _ _ _ (walks.ends level table barrier us w found e f) (walks.goes _ _ _ vs first rest x deep mapped g more list) =
       subst (λ z. Tie us z (a ≡ b)) (sym list) (by (entry_tie (new level barrier) table (index_of va level) w x found x us first e g))
     where
@@ -115,11 +115,11 @@ module _ (n : Machine) (va : ℕ) (write : Bool) (a b : Result Walked Stop) wher
   walk_tie s user us vs (walks.baseless e f g) (walks.barred y h i j) = absurd (let t = sym e ∙ h in cc)
   walk_tie s user us vs (walks.baseless e f g) (walks.baseless h i j) = inr (g ∙ sym j, f ∙ sym i)
   walk_tie s user us vs (walks.baseless e f g) (walks.walks base h some t) =
-      tie_lists us vs _ _ _ g (t.list ∙ ap (λ z. t.after ++ z) t.first) (inl (fork_here (Vcpu s (top_word user)) Load (Some (marks.Walk write)) 0 base [] t.after (λ z. some (sym z))))
+      tie_lists us vs _ _ _ g (t.list ∙ ap (λ z. t.after ++ z) t.first) (inl (fork_here _ (Vcpu s (top_word user)) Load (Some (marks.Walk write)) 0 base [] t.after (λ z. some (sym z))))
   walk_tie s user us vs (walks.walks base h some t) (walks.barred x e f g) = absurd (let q = sym e ∙ h in cc)
   walk_tie s user us vs (walks.walks base h some t) (walks.baseless e f g) =
-      tie_lists us vs _ _ _ (t.list ∙ ap (λ z. t.after ++ z) t.first) g (inl (fork_here (Vcpu s (top_word user)) Load (Some (marks.Walk write)) base 0 t.after [] some))
+      tie_lists us vs _ _ _ (t.list ∙ ap (λ z. t.after ++ z) t.first) g (inl (fork_here _ (Vcpu s (top_word user)) Load (Some (marks.Walk write)) base 0 t.after [] some))
   walk_tie s user us vs (walks.walks base e some t) (walks.walks other h also q) =
       tie_lists us vs _ _ _ (t.list ∙ ap (λ z. t.after ++ z) t.first) (q.list ∙ ap (λ z. q.after ++ z) q.first)
-      (tie_then (base_visit s user write base ∷ []) (base_visit s user write other ∷ []) t.after q.after (base ≡ other) (a ≡ b) (tie_one (Vcpu s (top_word user)) Load (Some (marks.Walk write)) base other)
+      (tie_then (base_visit s user write base ∷ []) (base_visit s user write other ∷ []) t.after q.after (base ≡ other) (a ≡ b) (tie_one _ (Vcpu s (top_word user)) Load (Some (marks.Walk write)) base other)
       (λ z same. path_tie 4 (other - 1) None t.after q.after (subst (λ k. PathBy n va write a 4 (k - 1) None t.after) same t.next) q.next))

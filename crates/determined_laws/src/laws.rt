@@ -39,7 +39,6 @@ pub fn a_wait_is_determined()
 {}
 
 /// A page walk of the guest (tlb_walks `walk`, and so `guest_read` and `guest_write` up to their own load or store).
-#[tactic(auto, using(crate::proofs::Walks::walk_tie))]
 pub fn a_walk_is_determined()
     ensures { (n : Machine) (vcpu : ℕ) (user : Bool) (va : ℕ) (write : Bool) (a b : Result Walked Stop) (us vs : List Visit) → WalkBy n vcpu user va write a us → WalkBy n vcpu user va write b vs → Tie us vs (a ≡ b) }
 {}
@@ -51,7 +50,6 @@ pub fn a_reference_is_determined()
 {}
 
 /// A reference that is given back, and with the last one the frame (frame_words `put_ref`).
-#[tactic(auto, using(crate::proofs::References::put_tie))]
 pub fn a_reference_given_back_is_determined()
     ensures { (frame : ℕ) (us vs : List Visit) → PutBy frame us → PutBy frame vs → Tie us vs (Unit {0}) }
 {}
@@ -69,7 +67,6 @@ pub fn a_lock_is_determined()
 {}
 
 /// A type count that is given back, and the reference with it (frame_types `drop_plain`).
-#[tactic(auto, using(crate::proofs::Types::drops_tie))]
 pub fn a_type_given_back_is_determined()
     ensures { (frame : ℕ) (kind : PageType) (us vs : List Visit) → DropsBy frame kind us → DropsBy frame kind vs → Tie us vs (Unit {0}) }
 {}
