@@ -28,7 +28,7 @@ use Rattle.frame_types.specs.declared.taking.Taken.TheVariants.{Counted, InWork,
 use Rattle.determined_laws.proofs.References.{put_tie}
 use Rattle.determined_laws.proofs.Waited.{waited_tie}
 use Rattle.determined_laws.specs.Forks.{Forks, Tie}
-use Rattle.determined_laws.proofs.Ties.{tie_map, tie_lists, swapped, forks_newer, tie_one, tie_then}
+use Rattle.determined_laws.proofs.Ties.{fork_here, tie_map, tie_lists, swapped, forks_newer, tie_one, tie_then}
 
 -- ---- a store of a kind word
 pub store_tie : (f : ℕ) (k : KindWord) (us vs : List Visit) → StoresKind f k us → StoresKind f k vs → Tie us vs (Unit {0})
@@ -139,3 +139,103 @@ module _ (q : Post) (real : q.vcpu < length q.machine.vcpu_domain) (f owner : �
   went_by k stands.Other Counted off p = counted p
   went_by k stands.Other (InWork g o) off p = rw (p.1, p.2) (in_work p.0)
   went_by k stands.Other (Waiting o g e) off p = rw p.1 (waiting g e p.0)
+
+  -- ---- the whole: one look, and what follows from the word that it found
+  abbrev stands_as : ℕ → Standing
+  stands_as x = standing_of (kind_fields x) want
+
+  abbrev swap : ℕ → ℕ → Visit
+  swap x y = swaps_kind f x (next_kind (kind_fields x) want (stands_as x)) y
+
+  data TypeRest (x : ℕ) : Result Taken Stop → List Visit → Type 0 where
+    had : (t : Taken) (vs : List Visit) → type_stop f want x ≡ None → IsTakenBy want (kind_fields x) (stands_as x) t → TakesBy q f owner want x (stands_as x) t vs → TypeRest x (Ok t) vs
+    overtaken : (y : ℕ) → type_stop f want x ≡ None → y ≢ x → TypeRest x (Err (Paused (Lost (number (sizes_of q.machine) (Kind f)) x y))) (swap x y ∷ [])
+    barred : (e : Stop) → type_stop f want x ≡ Some e → TypeRest x (Err e) []
+
+  data Typed (a : Result Taken Stop) : List Visit → Type 0 where
+    looked : (x : ℕ) (rest : List Visit) → TypeRest x a rest → Typed a (rest ++ (saw_kind f x ∷ []))
+
+  typed_as : (a : Result Taken Stop) (us vs : List Visit) → us ≡ vs → Typed a vs → Typed a us
+  typed_as a us vs e t = subst (λ z. Typed a z) (sym e) t
+
+  stopped_typed : (e : Stop) (vs : List Visit) → StopsBy f want e vs → Typed (Err e) vs
+  stopped_typed e vs p = typed_as (Err e) vs ([] ++ (saw_kind f p.0 ∷ [])) p.2 (looked p.0 [] (barred e p.1))
+
+  typed : (a : Result Taken Stop) (vs : List Visit) → TypeBy q f owner want a vs → Typed a vs
+  typed (Ok t) vs p =
+      let s = p.steps in
+      typed_as (Ok t) vs (s.after ++ (saw_kind f p.word ∷ [])) (s.list ∙ ap (λ z. s.after ++ z) s.first) (looked p.word s.after (had t s.after p.free p.way s.next))
+  typed (Err (Paused (Lost place x y))) vs p =
+      let s = p.3 in
+      typed_as (Err (Paused (Lost place x y))) vs ((swap x y ∷ []) ++ (saw_kind f x ∷ [])) (s.list ∙ (ap (λ z. s.after ++ z) s.first ∙ ap (λ z. z ++ (saw_kind f x ∷ [])) s.next))
+      (looked x (swap x y ∷ []) (subst (λ z. TypeRest x (Err (Paused (Lost z x y))) (swap x y ∷ [])) (sym p.0) (overtaken y p.1 p.2)))
+  typed (Err e) vs p = stopped_typed e vs p
+
+  -- ---- by how the frame stood
+  data Stands : Standing → Type 0 where
+    as_counted : Stands stands.Counted
+    as_other : (s : Standing) → ((s ≡ stands.Counted) → ⊥) → Stands s
+
+  stands_by : (s : Standing) → Stands s
+  stands_by stands.Counted = as_counted
+  stands_by stands.Dead = as_other stands.Dead (λ e. cc)
+  stands_by stands.Partial = as_other stands.Partial (λ e. cc)
+  stands_by stands.Busy = as_other stands.Busy (λ e. cc)
+  stands_by stands.Other = as_other stands.Other (λ e. cc)
+
+  abbrev swap_as : ℕ → Standing → ℕ → Visit
+  swap_as x s y = swaps_kind f x (next_kind (kind_fields x) want s) y
+
+  abbrev InWorkBy : ℕ → Standing → Taken → List Visit → Type 0
+  InWorkBy x s t vs = Then (Only (swap_as x s x)) (λ ts. On x s t ts) vs
+
+  otherwise : (x : ℕ) (s : Standing) (t : Taken) (vs : List Visit) → ((s ≡ stands.Counted) → ⊥) → TakesBy q f owner want x s t vs → InWorkBy x s t vs
+  otherwise x stands.Counted t vs off p = absurd (off refl)
+  otherwise x stands.Dead t vs off p = p
+  otherwise x stands.Partial t vs off p = p
+  otherwise x stands.Busy t vs off p = p
+  otherwise x stands.Other t vs off p = p
+
+  swap_fork : (x y : ℕ) (s : Standing) (newer : List Visit) → y ≢ x → Forks (newer ++ (swap_as x s x ∷ [])) (swap_as x s y ∷ [])
+  swap_fork x y s newer off = fork_here _ (Kind f) (Cas x (kind_write (next_kind (kind_fields x) want s))) None x y newer [] (λ e. off (sym e))
+
+  -- an exchange that was done, beside one that found another word
+  done_lost : (x y : ℕ) (s : Standing) (t : Taken) (us : List Visit) → Stands s → y ≢ x → TakesBy q f owner want x s t us → Forks us (swap_as x s y ∷ [])
+  done_lost x y _ t us as_counted off p = subst (λ z. Forks z (swap_as x stands.Counted y ∷ [])) (sym p) (swap_fork x y stands.Counted [] off)
+  done_lost x y _ t us (as_other s other) off p =
+      let w = otherwise x s t us other p in
+      subst (λ z. Forks z (swap_as x s y ∷ [])) (sym (w.list ∙ ap (λ z. w.after ++ z) w.first)) (swap_fork x y s w.after off)
+
+  done_both : (x : ℕ) (s : Standing) (t r : Taken) (us vs : List Visit) → Stands s → IsTakenBy want (kind_fields x) s t → IsTakenBy want (kind_fields x) s r →
+      TakesBy q f owner want x s t us → TakesBy q f owner want x s r vs → Tie us vs (t ≡ r)
+  done_both x _ t r us vs as_counted d e p k = inr (p ∙ sym k, d ∙ sym e)
+  done_both x _ t r us vs (as_other s other) d e p k =
+      then_tie _ _ _ _ us vs (Unit {0}) _ (otherwise x s t us other p) (otherwise x s r vs other k) (inr ((otherwise x s t us other p).first ∙ sym (otherwise x s r vs other k).first, tt))
+      (λ z. on_tie x s t r (otherwise x s t us other p).after (otherwise x s r vs other k).after (went_by (kind_fields x) s t other d) (went_by (kind_fields x) s r other e) (otherwise x s t us other p).next (otherwise x s r vs other k).next)
+
+  lost_both : (x y z : ℕ) → Tie (swap x y ∷ []) (swap x z ∷ []) (◌≡◌ {A = Result Taken Stop} (Err (Paused (Lost (number (sizes_of q.machine) (Kind f)) x y))) (Err (Paused (Lost (number (sizes_of q.machine) (Kind f)) x z))))
+  lost_both x y z = tie_map _ _ _ _ (tie_one _ (Kind f) (Cas x (kind_write (next_kind (kind_fields x) want (stands_as x)))) None y z) (λ e. ap (λ k. Err (Paused (Lost (number (sizes_of q.machine) (Kind f)) x k))) e)
+
+  free_barred : {A : Type 0} (x : ℕ) (e : Stop) → type_stop f want x ≡ None → type_stop f want x ≡ Some e → A
+  free_barred x e free is = absurd (let t = sym free ∙ is in cc)
+
+  some_stop : (e g : Stop) → ◌≡◌ {A = Option Stop} (Some e) (Some g) → e ≡ g
+  some_stop e g s = cc
+
+  type_rest_tie : (x : ℕ) (a b : Result Taken Stop) (us vs : List Visit) → TypeRest x a us → TypeRest x b vs → Tie us vs (a ≡ b)
+  type_rest_tie x _ _ us vs (had t _ free d p) (had r _ also e k) = tie_map us vs _ _ (done_both x (stands_as x) t r us vs (stands_by (stands_as x)) d e p k) (λ z. ap (λ o. Ok o) z)
+  type_rest_tie x _ _ us _ (had t _ free d p) (overtaken y also off) = inl (done_lost x y (stands_as x) t us (stands_by (stands_as x)) off p)
+  type_rest_tie x _ _ us _ (had t _ free d p) (barred e is) = free_barred x e free is
+  type_rest_tie x _ _ _ vs (overtaken y also off) (had t _ free d p) = inl (swapped vs (swap x y ∷ []) (done_lost x y (stands_as x) t vs (stands_by (stands_as x)) off p))
+  type_rest_tie x _ _ _ _ (overtaken y free off) (overtaken z also out) = lost_both x y z
+  type_rest_tie x _ _ _ _ (overtaken y free off) (barred e is) = free_barred x e free is
+  type_rest_tie x _ _ _ _ (barred e is) (had t _ free d p) = free_barred x e free is
+  type_rest_tie x _ _ _ _ (barred e is) (overtaken y free off) = free_barred x e free is
+  type_rest_tie x _ _ _ _ (barred e is) (barred g also) = inr (refl, ap (λ z. Err z) (some_stop e g (sym is ∙ also)))
+
+  typed_tie : (a b : Result Taken Stop) (us vs : List Visit) → Typed a us → Typed b vs → Tie us vs (a ≡ b)
+  typed_tie a b _ _ (looked x rest l) (looked y more k) =
+      tie_then (saw_kind f x ∷ []) (saw_kind f y ∷ []) rest more (x ≡ y) (a ≡ b) (tie_one _ (Kind f) Load None x y) (λ e s. type_rest_tie y a b rest more (subst (λ z. TypeRest z a rest) s l) k)
+
+  pub types_tie : (a b : Result Taken Stop) (us vs : List Visit) → TypeBy q f owner want a us → TypeBy q f owner want b vs → Tie us vs (a ≡ b)
+  types_tie a b us vs p k = typed_tie a b us vs (typed a us p) (typed b vs k)

@@ -12,7 +12,8 @@ ghost use Rattle.flush_waits.specs.Listing.{WaitedFor};
 ghost use Rattle.flush_words.specs.Flushing.{FlushedBy};
 ghost use Rattle.foreign_map.specs.Owning.{OwnersBy};
 ghost use Rattle.foreign_map.specs.declared.owners.Owners.{Owners};
-ghost use Rattle.frame_types.specs.Found.{DropsBy};
+ghost use Rattle.frame_types.specs.Found.{DropsBy, TypeBy};
+ghost use Rattle.frame_types.specs.declared.taking.Taken.{Taken};
 ghost use Rattle.frame_words.specs.Freeing.{PutBy};
 ghost use Rattle.frame_words.specs.Refs.{GetsBy};
 ghost use Rattle.m2p_map.specs.Found.{MapsBy};
@@ -69,4 +70,9 @@ pub fn a_lock_is_determined()
 /// A type count that is given back, and the reference with it (frame_types `drop_plain`).
 pub fn a_type_given_back_is_determined()
     ensures { (frame : ℕ) (kind : PageType) (us vs : List Visit) → DropsBy frame kind us → DropsBy frame kind vs → Tie us vs (Unit {0}) }
+{}
+
+/// A type that is taken, with the wait that it may need (frame_types `take_type`).
+pub fn a_type_is_determined()
+    ensures { (q : Post) (frame owner : ℕ) (want : PageType) (a b : Result Taken Stop) (us vs : List Visit) → q.vcpu < length q.machine.vcpu_domain → TypeBy q frame owner want a us → TypeBy q frame owner want b vs → Tie us vs (a ≡ b) }
 {}
