@@ -6,7 +6,8 @@ use Rattle.xp_words.specs.declared.reply.Stop.{Stop}
 use Rattle.xp_board.specs.declared.step.Act.{Act}
 use Rattle.xp_board.specs.declared.step.Mark.{Mark}
 use Rattle.xp_board.specs.declared.step.StepKind.{StepKind}
-use Rattle.step_maker.specs.Visits.{Visit}
+use Rattle.xp_board.specs.Told.{PortValue}
+use Rattle.step_maker.specs.Visits.{Does, Visit}
 use Rattle.partial_state.specs.Levels.{level_type}
 use Rattle.entry_locks.specs.declared.locking.Locked.{Locked}
 use Rattle.entry_locks.specs.declared.locking.Locked.TheVariants.{Other, Table}
@@ -47,3 +48,16 @@ AgreeLock (Ok (Table l x)) (Ok (Table k y)) = (x ≡ y) × (level_type l ≡ lev
 AgreeLock (Ok (Other x)) (Ok (Other y)) = x ≡ y
 AgreeLock (Err e) (Err f) = e ≡ f
 AgreeLock _ _ = ⊥
+
+-- ---- from port to port
+-- from v to w by exactly these steps, the newest first
+abbrev pub MadeBy : PortValue → PortValue → List Visit → Type 0
+MadeBy v w us = Does v w (λ vs. vs ≡ us)
+
+-- from v to w, and from v to x: by lists that are the same with E, or fork
+pub record Determined (v w x : PortValue) (E : Type 0) : Type 0 where
+  pub us : List Visit
+  pub vs : List Visit
+  pub left : MadeBy v w us
+  pub right : MadeBy v x vs
+  pub tie : Tie us vs E

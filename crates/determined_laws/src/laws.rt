@@ -3,7 +3,7 @@ ghost use Rattle.xp_words.specs.Machine.{Machine};
 ghost use Rattle.xp_words.specs.declared.kind.PageType.{PageType};
 ghost use Rattle.xp_words.specs.declared.reply.Refusal.{Refusal};
 ghost use Rattle.xp_words.specs.declared.reply.Stop.{Stop};
-ghost use Rattle.xp_board.specs.Told.{Post};
+ghost use Rattle.xp_board.specs.Told.{PortValue, Post};
 ghost use Rattle.step_maker.specs.Reasons.{Whose};
 ghost use Rattle.step_maker.specs.Visits.{Visit};
 ghost use Rattle.entry_locks.specs.Found.{LocksBy};
@@ -17,9 +17,10 @@ ghost use Rattle.frame_types.specs.declared.taking.Taken.{Taken};
 ghost use Rattle.frame_words.specs.Freeing.{PutBy};
 ghost use Rattle.frame_words.specs.Refs.{GetsBy};
 ghost use Rattle.m2p_map.specs.Found.{MapsBy};
+ghost use Rattle.tlb_walks.specs.Accesses.{GuestReads, GuestWrites};
 ghost use Rattle.tlb_walks.specs.Walks.{WalkBy};
 ghost use Rattle.tlb_walks.specs.declared.walks.Walked.{Walked};
-ghost use Rattle.determined_laws.specs.Forks.{Agree, AgreeLock, Tie};
+ghost use Rattle.determined_laws.specs.Forks.{Agree, AgreeLock, Determined, Tie};
 
 /// The owners that an operation names, and whether the caller may do so (foreign_map `owners_for`).
 #[tactic(auto, using(crate::proofs::Owners::owners_tie))]
@@ -75,4 +76,14 @@ pub fn a_type_given_back_is_determined()
 /// A type that is taken, with the wait that it may need (frame_types `take_type`).
 pub fn a_type_is_determined()
     ensures { (q : Post) (frame owner : ℕ) (want : PageType) (a b : Result Taken Stop) (us vs : List Visit) → q.vcpu < length q.machine.vcpu_domain → TypeBy q frame owner want a us → TypeBy q frame owner want b vs → Tie us vs (a ≡ b) }
+{}
+
+/// A guest's load: by the own translations, and by the words that it finds (tlb_walks `guest_read`).
+pub fn a_guests_load_is_determined()
+    ensures { (v w x : PortValue) (user : Bool) (va : ℕ) (a b : Result ℕ Stop) → GuestReads v w user va a → GuestReads v x user va b → Determined v w x (a ≡ b) }
+{}
+
+/// A guest's store, in the same way (tlb_walks `guest_write`).
+pub fn a_guests_store_is_determined()
+    ensures { (v w x : PortValue) (user : Bool) (va val : ℕ) (a b : Result (Unit {0}) Stop) → GuestWrites v w user va val a → GuestWrites v x user va val b → Determined v w x (a ≡ b) }
 {}

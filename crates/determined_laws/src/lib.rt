@@ -6,8 +6,8 @@
 mod laws;
 
 pub use laws::{
-    a_flush_is_determined, a_lock_is_determined, a_m2p_update_is_determined,
-    a_reference_given_back_is_determined, a_reference_is_determined,
-    a_type_given_back_is_determined, a_type_is_determined, a_wait_is_determined,
-    a_walk_is_determined, owners_are_determined,
+    a_flush_is_determined, a_guests_load_is_determined, a_guests_store_is_determined,
+    a_lock_is_determined, a_m2p_update_is_determined, a_reference_given_back_is_determined,
+    a_reference_is_determined, a_type_given_back_is_determined, a_type_is_determined,
+    a_wait_is_determined, a_walk_is_determined, owners_are_determined,
 };
