@@ -2,7 +2,10 @@ ghost use Rattle.std.specs.Prelude.{◌≡◌, ◌<◌, ℕ, length, IfOk};
 ghost use Rattle.xp_words.specs.Machine.{IsMachine};
 ghost use Rattle.xp_words.specs.Places.{size, sizes_of, memory};
 ghost use Rattle.reference_recount.specs.Recounted.{IsReadable, IsTally, tally_at};
+ghost use Rattle.reference_recount.specs.Growth.{IsOwn};
 
+use crate::adding::{add_tables, add_vcpus};
+use crate::reading::own_tally;
 use std::alloc::{AllocError, Global};
 use xp_words::Layout;
 
@@ -18,14 +21,29 @@ pub struct Tally {
 }
 
 /// The references of each frame.
-pub fn recount(_alloc: Global, layout: &Layout, words: &[u64]) -> Result<Vec<Tally>, AllocError>
+pub fn recount(alloc: Global, layout: &Layout, words: &[u64]) -> Result<Vec<Tally>, AllocError>
     requires machine { IsMachine layout.now }
     requires words { length words.now ≡ size (sizes_of layout.now) }
     requires readable { IsReadable layout.now (memory (sizes_of layout.now) words.now) }
     ensures len { IfOk result (λ v. length v.items ≡ layout.now.frames) }
     ensures each { IfOk result (λ v. (g : ℕ) → g < layout.now.frames → IsTally layout.now (memory (sizes_of layout.now) words.now) g (tally_at v.items g)) }
 {
-    let _layout = layout;
-    let _words = words;
-    Err(AllocError)
+    let mut tallies = own_tallies(alloc, layout, words)?;
+    add_tables(layout, words, &mut tallies);
+    add_vcpus(layout, words, &mut tallies);
+    Ok(tallies)
+}
+
+// The marks of each frame.
+fn own_tallies(alloc: Global, layout: &Layout, words: &[u64]) -> Result<Vec<Tally>, AllocError>
+    requires words { length words.now ≡ size (sizes_of layout.now) }
+    requires readable { IsReadable layout.now (memory (sizes_of layout.now) words.now) }
+    ensures len { IfOk result (λ v. length v.items ≡ layout.now.frames) }
+    ensures each { IfOk result (λ v. (g : ℕ) → g < layout.now.frames → IsOwn (memory (sizes_of layout.now) words.now) g (tally_at v.items g)) }
+{
+    let mut tallies = Vec::with_capacity(alloc, layout.frames as usize)?;
+    for frame in 0..layout.frames {
+        tallies.push(own_tally(layout, words, frame))?;
+    }
+    Ok(tallies)
 }
