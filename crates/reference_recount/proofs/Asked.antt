@@ -18,33 +18,33 @@ use Rattle.reference_recount.specs.Growth.{AreMore, AreSums, is_other, names_oth
 use Rattle.reference_recount.proofs.More.{all-same, all-none, sum_most}
 
 -- ---- one demand
-other_at : (m : Place → ℕ) (want : Option PageType) (g f : ℕ) (other : Bool) → (f ≡ g → other ≡ is_other m g want) → (if other then one_at g f else 0) ≡ (if is_other m g want then one_at g f else 0)
-other_at m want g f other h =
+other_at : (kinds : List PageType) (want : Option PageType) (g f : ℕ) (other : Bool) → (f ≡ g → other ≡ is_other kinds g want) → (if other then one_at g f else 0) ≡ (if is_other kinds g want then one_at g f else 0)
+other_at kinds want g f other h =
     elim (cases_eq f g) [
       | inl at ↦ rw (h at) refl
-      | inr off ↦ let none = one_at-other g f (λ e. off (sym e)) in rw (none, same_zero other) (sym (same_zero (is_other m g want)))
+      | inr off ↦ let none = one_at-other g f (λ e. off (sym e)) in rw (none, same_zero other) (sym (same_zero (is_other kinds g want)))
     ]
 
-pub asks_nothing : (m : Place → ℕ) (a : List Tally) (d : Demand) → d ≡ Nothing → AreMore a a (λ g. names g d) (λ g. names_typed g d) (λ g. names_other m g d)
+pub asks_nothing : (kinds : List PageType) (a : List Tally) (d : Demand) → d ≡ Nothing → AreMore a a (λ g. names g d) (λ g. names_typed g d) (λ g. names_other kinds g d)
 unfolding names names_typed names_other
-asks_nothing m a d e = rw e (all-none a _ _ _ (λ g l. refl) (λ g l. refl) (λ g l. refl))
+asks_nothing kinds a d e = rw e (all-none a _ _ _ (λ g l. refl) (λ g l. refl) (λ g l. refl))
 
-pub asks_badly : (m : Place → ℕ) (a : List Tally) (d : Demand) → d ≡ Bad → AreMore a a (λ g. names g d) (λ g. names_typed g d) (λ g. names_other m g d)
+pub asks_badly : (kinds : List PageType) (a : List Tally) (d : Demand) → d ≡ Bad → AreMore a a (λ g. names g d) (λ g. names_typed g d) (λ g. names_other kinds g d)
 unfolding names names_typed names_other
-asks_badly m a d e = rw e (all-none a _ _ _ (λ g l. refl) (λ g l. refl) (λ g l. refl))
+asks_badly kinds a d e = rw e (all-none a _ _ _ (λ g l. refl) (λ g l. refl) (λ g l. refl))
 
-pub asks_read : (m : Place → ℕ) (a b : List Tally) (f : ℕ) (d : Demand) → d ≡ Read f →
-    AreMore a b (λ g. one_at g f) (λ g. if false then one_at g f else 0) (λ g. if false then one_at g f else 0) → AreMore a b (λ g. names g d) (λ g. names_typed g d) (λ g. names_other m g d)
+pub asks_read : (kinds : List PageType) (a b : List Tally) (f : ℕ) (d : Demand) → d ≡ Read f →
+    AreMore a b (λ g. one_at g f) (λ g. if false then one_at g f else 0) (λ g. if false then one_at g f else 0) → AreMore a b (λ g. names g d) (λ g. names_typed g d) (λ g. names_other kinds g d)
 unfolding names names_typed names_other
-asks_read m a b f d e x = rw e x
+asks_read kinds a b f d e x = rw e x
 
-pub asks_typed : (m : Place → ℕ) (a b : List Tally) (f : ℕ) (t : PageType) (other : Bool) (d : Demand) → d ≡ Typed f t → (f < length a → other ≡ is_other m f (Some t)) →
-    AreMore a b (λ g. one_at g f) (λ g. if true then one_at g f else 0) (λ g. if other then one_at g f else 0) → AreMore a b (λ g. names g d) (λ g. names_typed g d) (λ g. names_other m g d)
+pub asks_typed : (kinds : List PageType) (a b : List Tally) (f : ℕ) (t : PageType) (other : Bool) (d : Demand) → d ≡ Typed f t → (f < length a → other ≡ is_other kinds f (Some t)) →
+    AreMore a b (λ g. one_at g f) (λ g. if true then one_at g f else 0) (λ g. if other then one_at g f else 0) → AreMore a b (λ g. names g d) (λ g. names_typed g d) (λ g. names_other kinds g d)
 unfolding names names_typed names_other
-asks_typed m a b f t other d e h x =
+asks_typed kinds a b f t other d e h x =
     rw e (
     all-same a b _ _ _ _ _ _ (λ g l. refl) (λ g l. refl)
-    (λ g l. other_at m (Some t) g f other (λ at. subst (λ v. other ≡ is_other m v (Some t)) at (h (subst (λ v. v < length a) (sym at) l)))) x
+    (λ g l. other_at kinds (Some t) g f other (λ at. subst (λ v. other ≡ is_other kinds v (Some t)) at (h (subst (λ v. v < length a) (sym at) l)))) x
     )
 
 -- ---- each names a frame once
@@ -90,13 +90,13 @@ table_most c m f h =
     let few = held_few (m (Kind f)) in
     omega arith
 
-pub whole_table : (m : Place → ℕ) (a b : List Tally) (f n : ℕ) → n ≡ held_of (kind_at m f) None →
-    AreSums a b n (λ g i. names g (entry_demand m f i)) (λ g i. names_typed g (entry_demand m f i)) (λ g i. names_other m g (entry_demand m f i)) →
-    AreMore a b (λ g. table_entries (names g) m None f) (λ g. table_entries (names_typed g) m None f) (λ g. table_entries (names_other m g) m None f)
+pub whole_table : (kinds : List PageType) (m : Place → ℕ) (a b : List Tally) (f n : ℕ) → n ≡ held_of (kind_at m f) None →
+    AreSums a b n (λ g i. names g (entry_demand m f i)) (λ g i. names_typed g (entry_demand m f i)) (λ g i. names_other kinds g (entry_demand m f i)) →
+    AreMore a b (λ g. table_entries (names g) m None f) (λ g. table_entries (names_typed g) m None f) (λ g. table_entries (names_other kinds g) m None f)
 unfolding table_entries
-whole_table m a b f n e x =
-    subst (λ k. AreSums a b k (λ g i. names g (entry_demand m f i)) (λ g i. names_typed g (entry_demand m f i)) (λ g i. names_other m g (entry_demand m f i))) e x
+whole_table kinds m a b f n e x =
+    subst (λ k. AreSums a b k (λ g i. names g (entry_demand m f i)) (λ g i. names_typed g (entry_demand m f i)) (λ g i. names_other kinds g (entry_demand m f i))) e x
 
-pub same_demand : (m : Place → ℕ) (a b : List Tally) (d e : Demand) → d ≡ e → AreMore a b (λ g. names g d) (λ g. names_typed g d) (λ g. names_other m g d) →
-    AreMore a b (λ g. names g e) (λ g. names_typed g e) (λ g. names_other m g e)
-same_demand m a b d e h x = subst (λ v. AreMore a b (λ g. names g v) (λ g. names_typed g v) (λ g. names_other m g v)) h x
+pub same_demand : (kinds : List PageType) (a b : List Tally) (d e : Demand) → d ≡ e → AreMore a b (λ g. names g d) (λ g. names_typed g d) (λ g. names_other kinds g d) →
+    AreMore a b (λ g. names g e) (λ g. names_typed g e) (λ g. names_other kinds g e)
+same_demand kinds a b d e h x = subst (λ v. AreMore a b (λ g. names g v) (λ g. names_typed g v) (λ g. names_other kinds g v)) h x

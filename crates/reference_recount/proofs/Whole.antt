@@ -1,11 +1,12 @@
 -- The tallies, after all parts, are the counts of the recorded references.
-use Rattle.std.proofs.Common.{◌≡◌, ◌≢◌, ◌⊎◌, ◌||◌, not, nat_lt, ℕ, ◌+◌, ◌<◌, ◌≤◌, if◌then◌else◌, Bool, true, false, IsTrue, List, length, Option, Some, None, refl, sym, ◌∙◌, ap, subst, inl, inr, arith}
+use Rattle.std.proofs.Common.{◌≡◌, ◌≢◌, ◌⊎◌, ◌||◌, not, nat_lt, ℕ, ◌+◌, ◌<◌, ◌≤◌, if◌then◌else◌, Bool, true, false, IsTrue, List, length, slice_index_or, Option, Some, None, refl, sym, ◌∙◌, ap, subst, inl, inr, arith}
 use Rattle.std.proofs.lemmas.Bool.{cases_Bool, cases_eq, cases_lt}
 use Rattle.std.proofs.lemmas.Bool.Decides.{nat_tests}
 use Rattle.xp_words.specs.Machine.{Machine}
 use Rattle.xp_words.specs.declared.entry.Demand.{Demand}
 use Rattle.xp_words.specs.declared.entry.Demand.TheVariants.{Nothing, Bad, Read, Typed}
 use Rattle.xp_words.specs.declared.kind.PageType.{PageType}
+use Rattle.xp_words.specs.declared.kind.PageType.TheVariants as types
 use Rattle.xp_words.specs.KindWords.{kind_fields}
 use Rattle.xp_words.specs.PageTypes.{type_number, type_of}
 use Rattle.xp_words.specs.declared.place.Place.{Place}
@@ -60,17 +61,17 @@ same_type t u h =
     let e : type_number u ≡ type_number t = grind (arith, nat_tests) in
     sym (type_back u) ∙ ap type_of e ∙ type_back t
 
-other_than : (m : Place → ℕ) (g : ℕ) (want : PageType) → is_other m g (Some want) ≡ true → (kind_at m g).kind ≢ want
-other_than m g want h e =
+other_than : (kinds : List PageType) (g : ℕ) (want : PageType) → is_other kinds g (Some want) ≡ true → slice_index_or kinds g types.None ≢ want
+other_than kinds g want h e =
     let self : is_type want want ≡ true = grind (arith, nat_tests) in
-    let same : is_type want (kind_at m g).kind ≡ true = subst (λ t. is_type want t ≡ true) (sym e) self in
-    let off : is_other m g (Some want) ≡ false = ap not same in
+    let same : is_type want (slice_index_or kinds g types.None) ≡ true = subst (λ t. is_type want t ≡ true) (sym e) self in
+    let off : is_other kinds g (Some want) ≡ false = ap not same in
     cc
 
-is_other_than : (m : Place → ℕ) (g : ℕ) (want : PageType) → (kind_at m g).kind ≢ want → is_other m g (Some want) ≡ true
-is_other_than m g want h =
-    elim (cases_Bool (is_type want (kind_at m g).kind)) [
-      | inl e ↦ absurd (h (same_type want (kind_at m g).kind e))
+is_other_than : (kinds : List PageType) (g : ℕ) (want : PageType) → slice_index_or kinds g types.None ≢ want → is_other kinds g (Some want) ≡ true
+is_other_than kinds g want h =
+    elim (cases_Bool (is_type want (slice_index_or kinds g types.None))) [
+      | inl e ↦ absurd (h (same_type want (slice_index_or kinds g types.None) e))
       | inr e ↦ ap not e
     ]
 
@@ -86,18 +87,18 @@ named_by g f h =
       | inr off ↦ let none = one_at-other g f (λ e. off (sym e)) in absurd (omega arith)
     ]
 
-asked_other : (m : Place → ℕ) (g : ℕ) (d : Demand) → 0 < names_other m g d → (t : PageType) × (d ≡ Typed g t) × ((kind_at m g).kind ≢ t)
+asked_other : (kinds : List PageType) (g : ℕ) (d : Demand) → 0 < names_other kinds g d → (t : PageType) × (d ≡ Typed g t) × (slice_index_or kinds g types.None ≢ t)
 unfolding names_other
-asked_other m g Nothing h = absurd (omega arith)
-asked_other m g Bad h = absurd (omega arith)
-asked_other m g (Read f) h = absurd (omega arith)
-asked_other m g (Typed f t) h =
-    let parts = some_of (is_other m g (Some t)) (one_at g f) h in
-    (t, ap (λ v. Typed v t) (named_by g f parts.1), other_than m g t parts.0)
+asked_other kinds g Nothing h = absurd (omega arith)
+asked_other kinds g Bad h = absurd (omega arith)
+asked_other kinds g (Read f) h = absurd (omega arith)
+asked_other kinds g (Typed f t) h =
+    let parts = some_of (is_other kinds g (Some t)) (one_at g f) h in
+    (t, ap (λ v. Typed v t) (named_by g f parts.1), other_than kinds g t parts.0)
 
-one_asked : (m : Place → ℕ) (g : ℕ) (d : Demand) (t : PageType) → d ≡ Typed g t → (kind_at m g).kind ≢ t → names_other m g d ≡ 1
+one_asked : (kinds : List PageType) (g : ℕ) (d : Demand) (t : PageType) → d ≡ Typed g t → slice_index_or kinds g types.None ≢ t → names_other kinds g d ≡ 1
 unfolding names_other
-one_asked m g d t e off = rw e (rw (is_other_than m g t off) (one_at-same g))
+one_asked kinds g d t e off = rw e (rw (is_other_than kinds g t off) (one_at-same g))
 
 held_nobody : (z : Sizes) (m : Place → ℕ) (f : ℕ) → held z m nobody f ≡ held_of (kind_at m f) None
 held_nobody z m f = ap (held_of (kind_at m f)) (nobody_works z.vcpus f)
@@ -111,7 +112,7 @@ pub untyped_outside : (z : Sizes) (words : List ℕ) (f : ℕ) → z.frames ≤ 
 unfolding memory is_place
 untyped_outside z words f b = let off : nat_lt f z.frames ≡ false = grind (arith, nat_tests) in rw off refl
 
-module _ (n : Machine) (m : Place → ℕ) (outside : (f : ℕ) → n.frames ≤ f → m (Kind f) ≡ 0) (g : ℕ) where
+module _ (n : Machine) (m : Place → ℕ) (outside : (f : ℕ) → n.frames ≤ f → m (Kind f) ≡ 0) (kinds : List PageType) (g : ℕ) (here : slice_index_or kinds g types.None ≡ (kind_at m g).kind) where
   table_inside : (f i : ℕ) → i < held_of (kind_at m f) None → f < n.frames
   table_inside f i h =
       elim (cases_lt f n.frames) [
@@ -119,45 +120,45 @@ module _ (n : Machine) (m : Place → ℕ) (outside : (f : ℕ) → n.frames ≤
         | inr b ↦ let none = untyped_holds (m (Kind f)) (outside f b) in absurd (omega arith)
       ]
 
-  entry_found : 0 < sum_below n.frames (λ f. table_entries (names_other m g) m None f) → IsMistypedEntry n m g
+  entry_found : 0 < sum_below n.frames (λ f. table_entries (names_other kinds g) m None f) → IsMistypedEntry n m g
   unfolding table_entries
   entry_found h =
-      let in_table = sum_below-some n.frames (λ f. table_entries (names_other m g) m None f) h in
-      let at = sum_below-some (held_of (kind_at m in_table.0) None) (λ i. names_other m g (entry_demand m in_table.0 i)) in_table.2 in
-      let asked = asked_other m g (entry_demand m in_table.0 at.0) at.2 in
+      let in_table = sum_below-some n.frames (λ f. table_entries (names_other kinds g) m None f) h in
+      let at = sum_below-some (held_of (kind_at m in_table.0) None) (λ i. names_other kinds g (entry_demand m in_table.0 i)) in_table.2 in
+      let asked = asked_other kinds g (entry_demand m in_table.0 at.0) at.2 in
       record {
         table = in_table.0;
         index = at.0;
         want = asked.0;
         recorded = subst (λ k. at.0 < k) (sym (held_nobody (sizes_of n) m in_table.0)) at.1;
         asks = asked.1;
-        other = asked.2;
+        other = λ e. asked.2 (here ∙ e);
       }
 
-  entry_counted : IsMistypedEntry n m g → 0 < sum_below n.frames (λ f. table_entries (names_other m g) m None f)
+  entry_counted : IsMistypedEntry n m g → 0 < sum_below n.frames (λ f. table_entries (names_other kinds g) m None f)
   unfolding table_entries
   entry_counted e =
       let held_there = held_nobody (sizes_of n) m e.table in
       let there : e.index < held_of (kind_at m e.table) None = subst (λ k. e.index < k) held_there e.recorded in
-      let one = one_asked m g (entry_demand m e.table e.index) e.want e.asks e.other in
-      let in_table = sum_below-part (held_of (kind_at m e.table) None) (λ i. names_other m g (entry_demand m e.table i)) e.index there in
-      let in_all = sum_below-part n.frames (λ f. table_entries (names_other m g) m None f) e.table (table_inside e.table e.index there) in
+      let one = one_asked kinds g (entry_demand m e.table e.index) e.want e.asks (λ x. e.other (sym here ∙ x)) in
+      let in_table = sum_below-part (held_of (kind_at m e.table) None) (λ i. names_other kinds g (entry_demand m e.table i)) e.index there in
+      let in_all = sum_below-part n.frames (λ f. table_entries (names_other kinds g) m None f) e.table (table_inside e.table e.index there) in
       omega arith
 
   -- ---- a word of a vCPU that does
-  wants_other : (o : Option PageType) → is_other m g o ≡ true → (t : PageType) × (o ≡ Some t) × ((kind_at m g).kind ≢ t)
-  wants_other (Some t) e = (t, refl, other_than m g t e)
+  wants_other : (o : Option PageType) → is_other kinds g o ≡ true → (t : PageType) × (o ≡ Some t) × (slice_index_or kinds g types.None ≢ t)
+  wants_other (Some t) e = (t, refl, other_than kinds g t e)
   wants_other None e = absurd (cc)
 
-  one_context : (o : Option PageType) (t : PageType) (c : Bool) (w : ℕ) → o ≡ Some t → (kind_at m g).kind ≢ t → IsTrue c → w ≡ g + 1 →
-      (if is_other m g o then (if c then one_at (g + 1) w else 0) else 0) ≡ 1
-  one_context o t c w e off k names = rw e (rw (is_other_than m g t off) (rw k (rw names (one_at-same (g + 1)))))
+  one_context : (o : Option PageType) (t : PageType) (c : Bool) (w : ℕ) → o ≡ Some t → slice_index_or kinds g types.None ≢ t → IsTrue c → w ≡ g + 1 →
+      (if is_other kinds g o then (if c then one_at (g + 1) w else 0) else 0) ≡ 1
+  one_context o t c w e off k names = rw e (rw (is_other_than kinds g t off) (rw k (rw names (one_at-same (g + 1)))))
 
-  context_found : 0 < sum_below (sizes_of n).vcpus (λ v. sum_below 38 (λ k. context_other m v g k)) → IsMistypedContext n m g
+  context_found : 0 < sum_below (sizes_of n).vcpus (λ v. sum_below 38 (λ k. context_other kinds m v g k)) → IsMistypedContext n m g
   context_found h =
-      let in_vcpu = sum_below-some (sizes_of n).vcpus (λ v. sum_below 38 (λ k. context_other m v g k)) h in
-      let at = sum_below-some 38 (λ k. context_other m in_vcpu.0 g k) in_vcpu.2 in
-      let typed = some_of (is_other m g (context_type at.0)) (context_names m in_vcpu.0 g at.0) at.2 in
+      let in_vcpu = sum_below-some (sizes_of n).vcpus (λ v. sum_below 38 (λ k. context_other kinds m v g k)) h in
+      let at = sum_below-some 38 (λ k. context_other kinds m in_vcpu.0 g k) in_vcpu.2 in
+      let typed = some_of (is_other kinds g (context_type at.0)) (context_names m in_vcpu.0 g at.0) at.2 in
       let named = some_of (is_context at.0) (one_at (g + 1) (m (Vcpu in_vcpu.0 at.0))) typed.1 in
       let wanted = wants_other (context_type at.0) typed.0 in
       record {
@@ -169,14 +170,14 @@ module _ (n : Machine) (m : Place → ℕ) (outside : (f : ℕ) → n.frames ≤
         context = named.0;
         names = named_by (g + 1) (m (Vcpu in_vcpu.0 at.0)) named.1;
         wants = wanted.1;
-        other = wanted.2;
+        other = λ e. wanted.2 (here ∙ e);
       }
 
-  context_counted : IsMistypedContext n m g → 0 < sum_below (sizes_of n).vcpus (λ v. sum_below 38 (λ k. context_other m v g k))
+  context_counted : IsMistypedContext n m g → 0 < sum_below (sizes_of n).vcpus (λ v. sum_below 38 (λ k. context_other kinds m v g k))
   context_counted e =
-      let one : context_other m e.vcpu g e.number ≡ 1 = one_context (context_type e.number) e.want (is_context e.number) (m (Vcpu e.vcpu e.number)) e.wants e.other e.context e.names in
-      let in_vcpu = sum_below-part 38 (λ k. context_other m e.vcpu g k) e.number e.known in
-      let in_all = sum_below-part (sizes_of n).vcpus (λ v. sum_below 38 (λ k. context_other m v g k)) e.vcpu e.real in
+      let one : context_other kinds m e.vcpu g e.number ≡ 1 = one_context (context_type e.number) e.want (is_context e.number) (m (Vcpu e.vcpu e.number)) e.wants (λ x. e.other (sym here ∙ x)) e.context e.names in
+      let in_vcpu = sum_below-part 38 (λ k. context_other kinds m e.vcpu g k) e.number e.known in
+      let in_all = sum_below-part (sizes_of n).vcpus (λ v. sum_below 38 (λ k. context_other kinds m v g k)) e.vcpu e.real in
       omega arith
 
   -- ---- all together
@@ -187,20 +188,20 @@ module _ (n : Machine) (m : Place → ℕ) (outside : (f : ℕ) → n.frames ≤
   some_or r a b e h = grind (arith, nat_tests)
 
   module _ (a b c : List Tally) (counted : length a ≡ n.frames) (inside : g < n.frames) (own : IsOwn m g (tally_at a g))
-      (tables : AreSums a b n.frames (λ v f. table_entries (names v) m None f) (λ v f. table_entries (names_typed v) m None f) (λ v f. table_entries (names_other m v) m None f))
-      (words : AreSums b c (sizes_of n).vcpus (λ u v. sum_below 38 (λ k. context_names m v u k)) (λ u v. sum_below 38 (λ k. context_names m v u k)) (λ u v. sum_below 38 (λ k. context_other m v u k))) where
+      (tables : AreSums a b n.frames (λ v f. table_entries (names v) m None f) (λ v f. table_entries (names_typed v) m None f) (λ v f. table_entries (names_other kinds v) m None f))
+      (words : AreSums b c (sizes_of n).vcpus (λ u v. sum_below 38 (λ k. context_names m v u k)) (λ u v. sum_below 38 (λ k. context_names m v u k)) (λ u v. sum_below 38 (λ k. context_other kinds m v u k))) where
     from_tables : IsMore (tally_at a g) (tally_at b g) (sum_below n.frames (λ f. table_entries (names g) m None f)) (sum_below n.frames (λ f. table_entries (names_typed g) m None f))
-        (sum_below n.frames (λ f. table_entries (names_other m g) m None f))
+        (sum_below n.frames (λ f. table_entries (names_other kinds g) m None f))
     from_tables = tables.each g (omega arith)
 
     from_words : IsMore (tally_at b g) (tally_at c g) (sum_below (sizes_of n).vcpus (λ v. sum_below 38 (λ k. context_names m v g k)))
-        (sum_below (sizes_of n).vcpus (λ v. sum_below 38 (λ k. context_names m v g k))) (sum_below (sizes_of n).vcpus (λ v. sum_below 38 (λ k. context_other m v g k)))
+        (sum_below (sizes_of n).vcpus (λ v. sum_below 38 (λ k. context_names m v g k))) (sum_below (sizes_of n).vcpus (λ v. sum_below 38 (λ k. context_other kinds m v g k)))
     from_words = words.each g (let e = tables.len in omega arith)
 
     marked : (tally_at c g).mistyped ≡
-        ((false || nat_lt 0 (sum_below n.frames (λ f. table_entries (names_other m g) m None f))) || nat_lt 0 (sum_below (sizes_of n).vcpus (λ v. sum_below 38 (λ k. context_other m v g k))))
-    marked = from_words.mistyped ∙ ap (λ e. e || nat_lt 0 (sum_below (sizes_of n).vcpus (λ v. sum_below 38 (λ k. context_other m v g k))))
-        (from_tables.mistyped ∙ ap (λ e. e || nat_lt 0 (sum_below n.frames (λ f. table_entries (names_other m g) m None f))) own.mistyped)
+        ((false || nat_lt 0 (sum_below n.frames (λ f. table_entries (names_other kinds g) m None f))) || nat_lt 0 (sum_below (sizes_of n).vcpus (λ v. sum_below 38 (λ k. context_other kinds m v g k))))
+    marked = from_words.mistyped ∙ ap (λ e. e || nat_lt 0 (sum_below (sizes_of n).vcpus (λ v. sum_below 38 (λ k. context_other kinds m v g k))))
+        (from_tables.mistyped ∙ ap (λ e. e || nat_lt 0 (sum_below n.frames (λ f. table_entries (names_other kinds g) m None f))) own.mistyped)
 
     mistyped_if : (tally_at c g).mistyped ≡ true → IsMistyped n m g
     mistyped_if h =

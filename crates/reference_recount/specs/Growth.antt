@@ -1,6 +1,7 @@
 -- What a part of the words adds to the tallies of frames.
-use Rattle.std.specs.Prelude.{◌≡◌, ℕ, ◌+◌, ◌<◌, ◌≤◌, ◌||◌, not, nat_lt, if◌then◌else◌, Bool, false, List, length, Option, Some, None}
+use Rattle.std.specs.Prelude.{◌≡◌, ℕ, ◌+◌, ◌<◌, ◌≤◌, ◌||◌, not, nat_lt, if◌then◌else◌, Bool, false, List, length, slice_index_or, Option, Some, None}
 use Rattle.xp_words.specs.declared.kind.PageType.{PageType}
+use Rattle.xp_words.specs.declared.kind.PageType.TheVariants as types
 use Rattle.xp_words.specs.declared.entry.Demand.{Demand}
 use Rattle.xp_words.specs.declared.entry.Demand.TheVariants.{Nothing, Bad, Read, Typed}
 use Rattle.xp_words.specs.declared.place.Place.{Place}
@@ -40,18 +41,28 @@ pub record IsWithin (most : ℕ) (tallies : List Tally) : Type 0 where
   pub refs : (g : ℕ) → g < length tallies → (tally_at tallies g).refs ≤ most
   pub types : (g : ℕ) → g < length tallies → (tally_at tallies g).types ≤ most
 
+-- the types of all frames
+pub record AreKinds (m : Place → ℕ) (frames : ℕ) (kinds : List PageType) : Type 0 where
+  pub len : length kinds ≡ frames
+  pub each : (g : ℕ) → g < frames → slice_index_or kinds g types.None ≡ (kind_at m g).kind
+
+-- whether a type is another than the one that is wanted
+abbrev pub differs : PageType → Option PageType → Bool
+differs kind (Some want) = not (is_type want kind)
+differs kind None = false
+
+-- the same of frame g, in a list of the types of all frames
+abbrev pub is_other : List PageType → ℕ → Option PageType → Bool
+is_other kinds g want = differs (slice_index_or kinds g types.None) want
+
 -- ---- entries
--- whether the frame has another type than the one that is wanted
-abbrev pub is_other : (Place → ℕ) → ℕ → Option PageType → Bool
-is_other m g (Some want) = not (is_type want (kind_at m g).kind)
-is_other m g None = false
 
 -- 1 where the demand wants another type of the frame than it has
-unfoldable pub names_other : (Place → ℕ) → ℕ → Demand → ℕ
-names_other m g Nothing = 0
-names_other m g Bad = 0
-names_other m g (Read f) = 0
-names_other m g (Typed f want) = if is_other m g (Some want) then one_at g f else 0
+unfoldable pub names_other : List PageType → ℕ → Demand → ℕ
+names_other kinds g Nothing = 0
+names_other kinds g Bad = 0
+names_other kinds g (Read f) = 0
+names_other kinds g (Typed f want) = if is_other kinds g (Some want) then one_at g f else 0
 
 -- ---- words of vCPUs
 -- 1 where word k names the frame
@@ -59,5 +70,5 @@ abbrev pub context_names : (Place → ℕ) → ℕ → ℕ → ℕ → ℕ
 context_names m v g k = if is_context k then one_at (g + 1) (m (Vcpu v k)) else 0
 
 -- and wants another type of it than it has
-abbrev pub context_other : (Place → ℕ) → ℕ → ℕ → ℕ → ℕ
-context_other m v g k = if is_other m g (context_type k) then context_names m v g k else 0
+abbrev pub context_other : List PageType → (Place → ℕ) → ℕ → ℕ → ℕ → ℕ
+context_other kinds m v g k = if is_other kinds g (context_type k) then context_names m v g k else 0

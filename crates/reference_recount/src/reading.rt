@@ -11,6 +11,9 @@ ghost use Rattle.reference_recount.specs.Growth.{IsOwn};
 use crate::tallies::Tally;
 use xp_words::{KindWord, Layout, Place, RefWord};
 
+// How many entries a table has.
+const ENTRIES: u16 = 512;
+
 /// The word at that place.
 #[inline(always)]
 #[tactic(auto, unfolding(xp_words::specs::Places::memory))]
@@ -42,12 +45,12 @@ pub fn kind_of(layout: &Layout, words: &[u64], frame: u32) -> KindWord
 pub fn recorded(kind: &KindWord) -> u16
     requires { IsTrue (has_form kind.now) }
     ensures held { result ≡ held_of kind.now None }
-    ensures few { result ≤ 512 }
+    ensures few { result ≤ ENTRIES }
 {
     if !kind.kind.is_table() {
         0
     } else if kind.validated {
-        512
+        ENTRIES
     } else if kind.partial {
         kind.progress
     } else {

@@ -17,11 +17,11 @@ pub loop-index-preserved : goal.loop-index-preserved
 loop-index-preserved c =
     let m = memory (sizes_of c.args.layout.now) c.args.words.now in
     let same : c.demand.result ≡ entry_demand m c.args.frame c.loop-index.index = cc in
-    sums-more c.args.tallies.now.items c.loop-index.tallies.items _ c.loop-index.index _ _ _ c.loop-index.invariant (same_demand m c.loop-index.tallies.items _ c.demand.result _ same c.add_demand.ensures)
+    sums-more c.args.tallies.now.items c.loop-index.tallies.items _ c.loop-index.index _ _ _ c.loop-index.invariant (same_demand c.args.kinds.now c.loop-index.tallies.items _ c.demand.result _ same c.add_demand.ensures)
 
 pub returns : goal.returns
 returns c =
     let m = memory (sizes_of c.args.layout.now) c.args.words.now in
     let last : c.loop-index.index ≡ c.recorded-index-end.result = omega (arith, c.loop-index.auto.index-end) in
     let held : c.loop-index.index ≡ held_of (kind_at m c.args.frame) None = last ∙ c.recorded-index-end.ensures.held ∙ ap (λ k. held_of k None) c.kind_of-kind.ensures.kind in
-    whole_table m c.args.tallies.now.items c.loop-index.tallies.items c.args.frame c.loop-index.index held c.loop-index.invariant
+    whole_table c.args.kinds.now m c.args.tallies.now.items c.loop-index.tallies.items c.args.frame c.loop-index.index held c.loop-index.invariant

@@ -7,4 +7,4 @@ use Rattle.reference_recount.proofs.adding.add_tables.Given as goal
 abbrev pub invariant-loop-frame : goal.invariant-loop-frame
 invariant-loop-frame l =
     let m = memory (sizes_of l.fn.layout) l.fn.words in
-    AreSums l.initial.tallies.items l.tallies.items l.frame (λ g f. table_entries (names g) m None f) (λ g f. table_entries (names_typed g) m None f) (λ g f. table_entries (names_other m g) m None f)
+    AreSums l.initial.tallies.items l.tallies.items l.frame (λ g f. table_entries (names g) m None f) (λ g f. table_entries (names_typed g) m None f) (λ g f. table_entries (names_other l.kinds g) m None f)

@@ -1,4 +1,6 @@
-use Rattle.std.proofs.Common.{◌^◌, arith}
+use Rattle.std.proofs.Common.{◌≡◌, slice_index_or, subst, sym, ◌^◌, arith}
+use Rattle.xp_words.specs.declared.kind.PageType.TheVariants as types
+use Rattle.xp_board.specs.Readings.{kind_at}
 use Rattle.xp_words.specs.Places.{sizes_of, memory}
 use Rattle.xp_board.specs.Recorded.{names, names_typed}
 use Rattle.reference_recount.proofs.Asked.{names_most, typed_most, table_most}
@@ -21,5 +23,6 @@ add_vcpus-requires-clause-few c =
 pub returns-clause-each : goal.returns-clause-each
 returns-clause-each c = λ g l.
     let own = c.in_ok-tallies.ensures in
-    tally_is c.args.layout.now (memory (sizes_of c.args.layout.now) c.args.words.now) (untyped_outside (sizes_of c.args.layout.now) c.args.words.now) g
+    tally_is c.args.layout.now (memory (sizes_of c.args.layout.now) c.args.words.now) (untyped_outside (sizes_of c.args.layout.now) c.args.words.now) c.as_slice-kinds.result.now g
+    (subst (λ xs. slice_index_or xs g types.None ≡ (kind_at (memory (sizes_of c.args.layout.now) c.args.words.now) g).kind) (sym c.as_slice-kinds.ensures.value) (c.in_ok-kinds.ensures.each g l))
     c.in_ok-tallies.tallies.items c.add_tables.new.tallies.items c.add_vcpus.new.tallies.items own.len l (own.each g l) c.add_tables.ensures c.add_vcpus.ensures
