@@ -1,0 +1,4 @@
+pub mod Asked
+pub mod KindForms
+pub mod More
+pub mod Whole

@@ -1,0 +1,2 @@
+pub mod Recounted
+pub mod Growth
