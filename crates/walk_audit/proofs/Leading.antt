@@ -39,7 +39,7 @@ no_work (suc k) f = no_work k f
 pub held_is : (n : Machine) (m : Place → ℕ) (f : ℕ) → held (sizes_of n) m nobody f ≡ held_of (kind_at m f) None
 held_is n m f = ap (held_of (kind_at m f)) (no_work (sizes_of n).vcpus f)
 
-settled : (z : Sizes) (f i g : ℕ) → IsUnsettled z nobody f i g → ⊥
+pub settled : (z : Sizes) (f i g : ℕ) → IsUnsettled z nobody f i g → ⊥
 unfolding first_by
 settled z f i g h = let x = h.here in cc
 
@@ -159,7 +159,7 @@ module _ (n : Machine) (m : Place → ℕ) where
   looked_few f r l = looked_by (kind_at m f) (held_read n (m (Kind f)) (kind_read (m (Kind f))) refl (r.kinds f l))
 
   -- a bad entry is one that is looked at
-  bad_looked : (f i : ℕ) → IsBadEntry n m f i → i < looked_at (kind_at m f)
+  pub bad_looked : (f i : ℕ) → IsBadEntry n m f i → i < looked_at (kind_at m f)
   bad_looked f i x = elim x.1 [
     | inl y ↦ (let l = y.recorded in let same = held_is n m f in recorded_looked (kind_at m f) i (omega arith))
     | inr y ↦ unfixed_looked (kind_at m f) i y.live y.descriptors y.few

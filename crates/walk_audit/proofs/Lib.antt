@@ -6,3 +6,9 @@ pub mod Stamps
 pub mod Burial
 pub mod Words
 pub mod Leading
+pub mod Stable
+pub mod Checks
+pub mod Empty
+pub mod Bits
+pub mod Sounding
+pub mod Judging

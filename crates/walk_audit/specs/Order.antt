@@ -62,3 +62,18 @@ pub record IsFirst (n : Machine) (m : Place → ℕ) (c low high : ℕ) (v : Ver
 abbrev pub FirstOf : Machine → (Place → ℕ) → ℕ → ℕ → ℕ → Option Verdict → Type 0
 FirstOf n m c low high None = NoneBreaks n m c low high
 FirstOf n m c low high (Some v) = IsFirst n m c low high v
+
+-- ---- what all checks find
+-- no verdict of a check below c breaks the words
+pub record Passed (n : Machine) (m : Place → ℕ) (c : ℕ) : Type 0 where
+  pub none : (u : Verdict) → check_of u < c → Breaks n m u → ⊥
+
+-- v breaks the words, and what breaks them does not come before it
+pub record ComesFirst (n : Machine) (m : Place → ℕ) (v : Verdict) : Type 0 where
+  pub breaks : Breaks n m v
+  pub first : (u : Verdict) → Breaks n m u → IsNoLater v u
+
+-- the first of all, if there is one
+abbrev pub FirstFrom : Machine → (Place → ℕ) → Option Verdict → Type 0
+FirstFrom n m None = Passed n m 9
+FirstFrom n m (Some v) = ComesFirst n m v
