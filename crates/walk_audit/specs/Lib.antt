@@ -1,1 +1,5 @@
+pub mod Breaks
+pub mod Order
 pub mod Judged
+pub mod Burials
+pub mod Leads

@@ -1,7 +1,17 @@
 //! The audit: whether the words of a machine are sound by themselves, and where they are not, what breaks it.
 #![tactic(auto)]
 
+mod contexts;
+mod counted;
+mod dead;
 mod deciding;
+mod entries;
+mod held;
+mod mapped;
+mod pages;
+mod readers;
+mod spelled;
+mod stamped;
 mod verdict;
 
 pub use deciding::audit;

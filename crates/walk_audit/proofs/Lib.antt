@@ -1,0 +1,14 @@
+pub mod First
+pub mod Reading
+pub mod Sums
+pub mod Rows
+pub mod Stamps
+pub mod Burial
+pub mod Words
+pub mod Leading
+pub mod Stable
+pub mod Checks
+pub mod Empty
+pub mod Bits
+pub mod Sounding
+pub mod Judging

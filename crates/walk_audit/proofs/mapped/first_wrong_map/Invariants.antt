@@ -1,0 +1,6 @@
+use Rattle.xp_words.specs.Places.{sizes_of, memory}
+use Rattle.walk_audit.specs.Order.{NoneBreaks}
+use Rattle.walk_audit.proofs.mapped.first_wrong_map.Given as goal
+
+abbrev pub invariant-loop-word : goal.invariant-loop-word
+invariant-loop-word l = NoneBreaks l.layout (memory (sizes_of l.layout) l.words) 8 0 l.word

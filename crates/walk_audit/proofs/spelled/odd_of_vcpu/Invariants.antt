@@ -1,0 +1,7 @@
+use Rattle.std.proofs.Common.{◌+◌, ◌*◌}
+use Rattle.xp_words.specs.Places.{sizes_of, memory, first_vcpu}
+use Rattle.walk_audit.specs.Order.{NoneBreaks}
+use Rattle.walk_audit.proofs.spelled.odd_of_vcpu.Given as goal
+
+abbrev pub invariant-loop-word : goal.invariant-loop-word
+invariant-loop-word l = NoneBreaks l.layout (memory (sizes_of l.layout) l.words) 0 (first_vcpu (sizes_of l.layout) + 38 * l.vcpu) (first_vcpu (sizes_of l.layout) + 38 * l.vcpu + l.word)
