@@ -1,24 +1,21 @@
--- Words that ask for a run are read by `clap`, as that command with its number.
-use Rattle.std.proofs.Common.{◌≡◌, ◌∙◌, ℕ, ◌<◌, ◌^◌, Bool, true, false, List, [], ◌∷◌, ◌++◌, Some, None, Option, is_some, option_map, cond, take, drop, codes, bytes_eq, refl, sym, ap, subst, arith, lit<, leb-true, take-append-drop}
+-- Words that ask for something are read by `clap`, as that command with its number.
+use Rattle.std.proofs.Common.{◌≡◌, ◌∙◌, ℕ, ◌<◌, ◌^◌, Bool, true, false, not, List, [], ◌∷◌, ◌++◌, Some, None, Option, is_some, option_and_then, option_map, cond, take, drop, codes, bytes_eq, eqb, refl, sym, ap, subst, arith, lit<, leb-true, take-append-drop}
 use Rattle.std.specs.Str.Parse.{IsNumeral, digits_value}
 use Rattle.std.proofs.lemmas.Slice.Eq.{bytes_eq-Decides}
-use Rattle.command_words.specs.Words.{words_ask, run_of, manner_named, name_of, operations_after, operations_in, pace_in, pace_after}
-use Rattle.command_words.specs.Table.{number_of}
-use Rattle.command_words.specs.declared.asked.Asked.{Asked}
-use Rattle.command_words.specs.declared.asked.Asked.TheVariants.{Run, Generate}
-use Rattle.command_words.specs.declared.asked.Manner.{Manner}
-use Rattle.command_words.specs.declared.asked.Manner.TheVariants.{Turns, Replay}
-use Rattle.command_words.proofs.Lists.{Reads, alone, apart, counted, joined}
+use Rattle.command_words.specs.Words.{argument_of, asked_by, command_named, number_after, operations_after, operations_in, pace_in, pace_after, word_of, words_ask}
+use Rattle.command_words.specs.Table.{SpellsNumber}
+use Rattle.command_words.specs.declared.asked.CommandName.{CommandName}
+use Rattle.command_words.specs.declared.asked.CommandName.TheVariants as names
+use Rattle.command_words.proofs.Lists.{Reads, alone, apart, audits, audits_file, counted, is_paced, joined}
 use Rattle.command_words.proofs.Spellings.{no_word, spelled}
 
 pub record Known (words : List (List ℕ)) : Type 0 where
-  pub asked : Asked
+  pub name : CommandName
   pub text : List ℕ
-  pub reads : Reads words asked text
-  pub digits : IsNumeral 10 text
-  pub spells : digits_value 10 text ≡ number_of asked
-  pub small : number_of asked < 2 ^ 32
-  pub is : words_ask words ≡ Some asked
+  pub number : ℕ
+  pub reads : Reads words name text
+  pub spells : SpellsNumber (argument_of name) text number
+  pub is : words_ask words ≡ Some (asked_by name number)
 
 same : (w : List ℕ) (v : List ℕ) → bytes_eq w v ≡ true → w ≡ v
 same w v e = (bytes_eq-Decides w v).0 e
@@ -27,117 +24,132 @@ some_if : (b : Bool) (o : Option ℕ) → is_some (cond b o None) ≡ true → (
 some_if true o e = (refl, e)
 some_if false o e = cc
 
--- where both are there
-some_both : (m : Option Manner) (n : Option ℕ) → is_some (run_of m n) ≡ true → (is_some m ≡ true) × (is_some n ≡ true)
-some_both (Some m) (Some n) e = (refl, refl)
-some_both (Some m) None e = cc
-some_both None n e = cc
+some_mapped : {T : Type 0} (f : ℕ → T) (o : Option ℕ) → is_some (option_map f o) ≡ true → is_some o ≡ true
+some_mapped f (Some n) e = refl
+some_mapped f None e = cc
 
--- a word that names a manner is its name
-named : (w : List ℕ) → is_some (manner_named w) ≡ true → (m : Manner) × (w ≡ name_of m)
-named w e = by (bytes_eq w (codes "turns")) (bytes_eq w (codes "replay")) refl refl e
+-- a word that names a command is its name
+named : (w : List ℕ) (name : CommandName) → command_named w ≡ Some name → w ≡ word_of name
+named w name e = by (bytes_eq w (codes "turns")) (bytes_eq w (codes "replay")) (bytes_eq w (codes "image")) (bytes_eq w (codes "generate")) (bytes_eq w (codes "audit")) refl refl refl refl refl e
   where
-    by : (t r : Bool) → bytes_eq w (codes "turns") ≡ t → bytes_eq w (codes "replay") ≡ r → is_some (cond t (Some Turns) (cond r (Some Replay) None)) ≡ true
-        → (m : Manner) × (w ≡ name_of m)
-    by true r turns replay h = (Turns, same w (codes "turns") turns)
-    by false true turns replay h = (Replay, same w (codes "replay") replay)
-    by false false turns replay h = cc
+    is : (m : CommandName) → bytes_eq w (word_of m) ≡ true → Some m ≡ Some name → w ≡ word_of name
+    is m h e = let found : m ≡ name = cc in subst (λ k. w ≡ word_of k) found (same w (word_of m) h)
 
-pub names_itself : (m : Manner) → manner_named (name_of m) ≡ Some m
-names_itself Turns = refl
-names_itself Replay = refl
+    by : (t r i g a : Bool) → bytes_eq w (codes "turns") ≡ t → bytes_eq w (codes "replay") ≡ r → bytes_eq w (codes "image") ≡ i → bytes_eq w (codes "generate") ≡ g → bytes_eq w (codes "audit") ≡ a
+        → cond t (Some names.Turns) (cond r (Some names.Replay) (cond i (Some names.Image) (cond g (Some names.Generate) (cond a (Some names.Audit) None)))) ≡ Some name → w ≡ word_of name
+    by true r i g a h0 h1 h2 h3 h4 e = is names.Turns h0 e
+    by false true i g a h0 h1 h2 h3 h4 e = is names.Replay h1 e
+    by false false true g a h0 h1 h2 h3 h4 e = is names.Image h2 e
+    by false false false true a h0 h1 h2 h3 h4 e = is names.Generate h3 e
+    by false false false false true h0 h1 h2 h3 h4 e = is names.Audit h4 e
+    by false false false false false h0 h1 h2 h3 h4 e = cc
+
+pub names_itself : (name : CommandName) → command_named (word_of name) ≡ Some name
+names_itself names.Turns = refl
+names_itself names.Replay = refl
+names_itself names.Image = refl
+names_itself names.Generate = refl
+names_itself names.Audit = refl
+
+-- what words behind the command give is asked for with it
+asks : (name : CommandName) (rest : List (List ℕ)) (n : ℕ) → number_after name rest ≡ Some n → words_ask (word_of name ∷ rest) ≡ Some (asked_by name n)
+asks name rest n e = ap (option_and_then (λ name. option_map (asked_by name) (number_after name rest))) (names_itself name) ∙ ap (option_map (asked_by name)) e
+
+paces : (name : CommandName) (rest : List (List ℕ)) → is_paced name ≡ true → number_after name rest ≡ pace_after rest
+unfolding is_paced
+paces names.Turns rest e = refl
+paces names.Replay rest e = refl
+paces names.Image rest e = refl
+paces names.Generate rest e = cc
+paces names.Audit rest e = cc
+
+preempts : (name : CommandName) → is_paced name ≡ true → argument_of name ≡ Some (codes "preempt")
+unfolding is_paced
+preempts names.Turns e = refl
+preempts names.Replay e = refl
+preempts names.Image e = refl
+preempts names.Generate e = cc
+preempts names.Audit e = cc
 
 -- a pace behind the command, written in these words
-asks : (m : Manner) (rest : List (List ℕ)) (n : ℕ) → pace_after rest ≡ Some n → words_ask (name_of m ∷ rest) ≡ Some (Run m n)
-asks Turns rest n e = rw e refl
-asks Replay rest n e = rw e refl
-
-known_apart : (m : Manner) (p : List ℕ) → is_some (pace_in p) ≡ true → Known (name_of m ∷ codes "--preempt" ∷ p ∷ [])
-known_apart m [] e = absurd (no_word 0 1000000 e)
-known_apart m (c ∷ cs) e =
-    let s = spelled 0 1000000 (lit< tt) c cs e in
-    let pace = digits_value 10 (c ∷ cs) in
-    record {
-      asked = Run m pace;
-      text = c ∷ cs;
-      reads = apart c cs pace s m;
-      digits = s.all;
-      spells = refl;
-      small = omega (arith, leb-true _ _ s.most);
-      is = asks m (codes "--preempt" ∷ (c ∷ cs) ∷ []) _ s.is;
-    }
-
-known_joined : (m : Manner) (p : List ℕ) → is_some (pace_in p) ≡ true → Known (name_of m ∷ (codes "--preempt=" ++ p) ∷ [])
-known_joined m [] e = absurd (no_word 0 1000000 e)
-known_joined m (c ∷ cs) e =
-    let s = spelled 0 1000000 (lit< tt) c cs e in
-    let pace = digits_value 10 (c ∷ cs) in
-    record {
-      asked = Run m pace;
-      text = c ∷ cs;
-      reads = joined c cs pace s m;
-      digits = s.all;
-      spells = refl;
-      small = omega (arith, leb-true _ _ s.most);
-      is = asks m ((codes "--preempt=" ++ (c ∷ cs)) ∷ []) _ s.is;
-    }
-
-known_alone : (m : Manner) → Known (name_of m ∷ [])
-known_alone m = record {
-  asked = Run m 0;
-  text = codes "0";
-  reads = alone m;
-  digits = (lit< tt, (lit< tt, tt));
-  spells = refl;
-  small = lit< tt;
-  is = asks m [] 0 refl;
+with_pace : (name : CommandName) (rest : List (List ℕ)) (text : List ℕ) → is_paced name ≡ true → Reads (word_of name ∷ rest) name text → IsNumeral 10 text → digits_value 10 text < 2 ^ 32
+    → pace_after rest ≡ Some (digits_value 10 text) → Known (word_of name ∷ rest)
+with_pace name rest text paced reads digits small is = record {
+  name = name;
+  text = text;
+  number = digits_value 10 text;
+  reads = reads;
+  spells = subst (λ o. SpellsNumber o text (digits_value 10 text)) (sym (preempts name paced)) (digits, refl, small);
+  is = asks name rest _ (paces name rest paced ∙ is);
 }
 
-known_behind : (m : Manner) (rest : List (List ℕ)) → is_some (pace_after rest) ≡ true → Known (name_of m ∷ rest)
-known_behind m [] e = known_alone m
-known_behind m (o ∷ []) e =
+known_apart : (name : CommandName) → is_paced name ≡ true → (p : List ℕ) → is_some (pace_in p) ≡ true → Known (word_of name ∷ codes "--preempt" ∷ p ∷ [])
+known_apart name paced [] e = absurd (no_word 0 1000000 e)
+known_apart name paced (c ∷ cs) e =
+    let s = spelled 0 1000000 (lit< tt) c cs e in
+    with_pace name (codes "--preempt" ∷ (c ∷ cs) ∷ []) (c ∷ cs) paced (apart c cs s name paced) s.all (omega (arith, leb-true _ _ s.most)) s.is
+
+known_joined : (name : CommandName) → is_paced name ≡ true → (p : List ℕ) → is_some (pace_in p) ≡ true → Known (word_of name ∷ (codes "--preempt=" ++ p) ∷ [])
+known_joined name paced [] e = absurd (no_word 0 1000000 e)
+known_joined name paced (c ∷ cs) e =
+    let s = spelled 0 1000000 (lit< tt) c cs e in
+    with_pace name ((codes "--preempt=" ++ (c ∷ cs)) ∷ []) (c ∷ cs) paced (joined c cs s name paced) s.all (omega (arith, leb-true _ _ s.most)) s.is
+
+known_behind : (name : CommandName) → is_paced name ≡ true → (rest : List (List ℕ)) → is_some (pace_after rest) ≡ true → Known (word_of name ∷ rest)
+known_behind name paced [] e = with_pace name [] (codes "0") paced (alone name paced) (lit< tt, (lit< tt, tt)) (lit< tt) refl
+known_behind name paced (o ∷ []) e =
     let parts = some_if (bytes_eq (take 10 o) (codes "--preempt=")) (pace_in (drop 10 o)) e in
     let front = same (take 10 o) (codes "--preempt=") parts.0 in
     let whole : codes "--preempt=" ++ drop 10 o ≡ o = ap (λ x. x ++ drop 10 o) (sym front) ∙ take-append-drop 10 o in
-    subst (λ x. Known (name_of m ∷ x ∷ [])) whole (known_joined m (drop 10 o) parts.1)
-known_behind m (o ∷ p ∷ []) e =
+    subst (λ x. Known (word_of name ∷ x ∷ [])) whole (known_joined name paced (drop 10 o) parts.1)
+known_behind name paced (o ∷ p ∷ []) e =
     let parts = some_if (bytes_eq o (codes "--preempt")) (pace_in p) e in
-    subst (λ x. Known (name_of m ∷ x ∷ p ∷ [])) (sym (same o (codes "--preempt") parts.0)) (known_apart m p parts.1)
-known_behind m (o ∷ p ∷ x ∷ xs) e = cc
+    subst (λ x. Known (word_of name ∷ x ∷ p ∷ [])) (sym (same o (codes "--preempt") parts.0)) (known_apart name paced p parts.1)
+known_behind name paced (o ∷ p ∷ x ∷ xs) e = cc
 
 -- `generate` with the one word behind it
-known_counted : (n : List ℕ) → is_some (operations_in n) ≡ true → Known (codes "generate" ∷ n ∷ [])
+known_counted : (n : List ℕ) → is_some (operations_in n) ≡ true → Known (word_of names.Generate ∷ n ∷ [])
 known_counted [] e = absurd (no_word 1 60000 e)
 known_counted (c ∷ cs) e =
     let s = spelled 1 60000 (lit< tt) c cs e in
     let operations = digits_value 10 (c ∷ cs) in
     record {
-      asked = Generate operations;
+      name = names.Generate;
       text = c ∷ cs;
-      reads = counted c cs operations s;
-      digits = s.all;
-      spells = refl;
-      small = omega (arith, leb-true _ _ s.most);
-      is = ap (option_map Generate) s.is;
+      number = operations;
+      reads = counted c cs s;
+      spells = (s.all, refl, omega (arith, leb-true _ _ s.most));
+      is = asks names.Generate ((c ∷ cs) ∷ []) operations s.is;
     }
 
-known_generate : (rest : List (List ℕ)) → is_some (option_map Generate (operations_after rest)) ≡ true → Known (codes "generate" ∷ rest)
+known_generate : (rest : List (List ℕ)) → is_some (operations_after rest) ≡ true → Known (word_of names.Generate ∷ rest)
 known_generate [] e = cc
-known_generate (n ∷ []) e = known_counted n (some (operations_in n) e)
-  where
-    some : (o : Option ℕ) → is_some (option_map Generate o) ≡ true → is_some o ≡ true
-    some (Some n) e = refl
-    some None e = cc
+known_generate (n ∷ []) e = known_counted n e
 known_generate (n ∷ x ∷ xs) e = cc
+
+-- `audit`, alone or with the path of a file
+known_audit : (rest : List (List ℕ)) → is_some (number_after names.Audit rest) ≡ true → Known (word_of names.Audit ∷ rest)
+known_audit [] e = record { name = names.Audit; text = []; number = 0; reads = audits; spells = refl; is = refl }
+known_audit ([] ∷ []) e = cc
+known_audit ((c ∷ cs) ∷ []) e = by (eqb c 45) refl e
+  where
+    by : (b : Bool) → eqb c 45 ≡ b → is_some {T = ℕ} (cond (not b) (Some 0) None) ≡ true → Known (word_of names.Audit ∷ (c ∷ cs) ∷ [])
+    by true is h = cc
+    by false is h = record { name = names.Audit; text = []; number = 0; reads = audits_file c cs is; spells = refl; is = asks names.Audit ((c ∷ cs) ∷ []) 0 (rw is refl) }
+known_audit (p ∷ x ∷ xs) e = cc
+
+known_by : (name : CommandName) (rest : List (List ℕ)) → is_some (number_after name rest) ≡ true → Known (word_of name ∷ rest)
+unfolding is_paced
+known_by names.Turns rest e = known_behind names.Turns refl rest e
+known_by names.Replay rest e = known_behind names.Replay refl rest e
+known_by names.Image rest e = known_behind names.Image refl rest e
+known_by names.Generate rest e = known_generate rest e
+known_by names.Audit rest e = known_audit rest e
 
 pub known : (words : List (List ℕ)) → is_some (words_ask words) ≡ true → Known words
 known [] e = cc
-known (w ∷ rest) e = by (bytes_eq w (codes "generate")) refl e
+known (w ∷ rest) e = by (command_named w) refl e
   where
-    by : (b : Bool) → bytes_eq w (codes "generate") ≡ b → is_some (cond b (option_map Generate (operations_after rest)) (run_of (manner_named w) (pace_after rest))) ≡ true
-        → Known (w ∷ rest)
-    by true is h = subst (λ x. Known (x ∷ rest)) (sym (same w (codes "generate") is)) (known_generate rest h)
-    by false is h =
-        let parts = some_both (manner_named w) (pace_after rest) h in
-        let first = named w parts.0 in
-        subst (λ x. Known (x ∷ rest)) (sym first.1) (known_behind first.0 rest parts.1)
+    by : (o : Option CommandName) → command_named w ≡ o → is_some (option_and_then (λ name. option_map (asked_by name) (number_after name rest)) o) ≡ true → Known (w ∷ rest)
+    by None is h = cc
+    by (Some name) is h = subst (λ x. Known (x ∷ rest)) (sym (named w name is)) (known_by name rest (some_mapped (asked_by name) (number_after name rest) h))

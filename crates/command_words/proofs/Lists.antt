@@ -1,47 +1,77 @@
 -- What `clap` makes of the lists of words that are known.
-use Rattle.std.proofs.Common.{◌≡◌, ℕ, true, List, [], ◌∷◌, ◌++◌, codes, refl}
+use Rattle.std.proofs.Common.{◌≡◌, ℕ, Bool, true, false, List, [], ◌∷◌, ◌++◌, codes, eqb, refl}
 use Rattle.clap.specs.Words.{Text, is_simple, subcommand_of, takes}
 use Rattle.clap.proofs.OnLiterals.{clap_on_literals}
-use Rattle.command_words.specs.Words.{name_of}
-use Rattle.command_words.specs.Table.{argument_of, found_with, table, text_found}
-use Rattle.command_words.specs.declared.asked.Asked.{Asked}
-use Rattle.command_words.specs.declared.asked.Asked.TheVariants.{Run, Generate}
-use Rattle.command_words.specs.declared.asked.Manner.{Manner}
-use Rattle.command_words.specs.declared.asked.Manner.TheVariants.{Turns, Replay}
+use Rattle.command_words.specs.Words.{word_of}
+use Rattle.command_words.specs.Table.{found_with, table, text_found}
+use Rattle.command_words.specs.declared.asked.CommandName.{CommandName}
+use Rattle.command_words.specs.declared.asked.CommandName.TheVariants as names
 use Rattle.command_words.proofs.Spellings.{Spelled}
 
--- clap takes the words, and finds the command of what is asked, with the text of its number
-pub record Reads (words : List Text) (asked : Asked) (text : Text) : Type 0 where
+-- clap takes the words, and finds this command, with the text of its number
+pub record Reads (words : List Text) (name : CommandName) (text : Text) : Type 0 where
   pub taken : takes table words ≡ true
-  pub found : text_found (argument_of asked) (subcommand_of table words) ≡ found_with asked text
+  pub found : text_found name (subcommand_of table words) ≡ found_with name text
 
-pub alone : (manner : Manner) → Reads (name_of manner ∷ []) (Run manner 0) (codes "0")
-unfolding clap_on_literals
-alone Turns = record { taken = refl; found = refl }
-alone Replay = record { taken = refl; found = refl }
+-- the commands that may have a pace
+unfoldable pub is_paced : CommandName → Bool
+is_paced names.Turns = true
+is_paced names.Replay = true
+is_paced names.Image = true
+is_paced names.Generate = false
+is_paced names.Audit = false
 
-module _ (c : ℕ) (cs : List ℕ) (pace : ℕ) (s : Spelled 0 1000000 c cs) where
-  pub apart : (manner : Manner) → Reads (name_of manner ∷ codes "--preempt" ∷ (c ∷ cs) ∷ []) (Run manner pace) (c ∷ cs)
-  unfolding clap_on_literals
-  apart Turns = record {
+pub alone : (name : CommandName) → is_paced name ≡ true → Reads (word_of name ∷ []) name (codes "0")
+unfolding clap_on_literals is_paced
+alone names.Turns e = record { taken = refl; found = refl }
+alone names.Replay e = record { taken = refl; found = refl }
+alone names.Image e = record { taken = refl; found = refl }
+alone names.Generate e = cc
+alone names.Audit e = cc
+
+module _ (c : ℕ) (cs : List ℕ) (s : Spelled 0 1000000 c cs) where
+  pub apart : (name : CommandName) → is_paced name ≡ true → Reads (word_of name ∷ codes "--preempt" ∷ (c ∷ cs) ∷ []) name (c ∷ cs)
+  unfolding clap_on_literals is_paced
+  apart names.Turns e = record {
     taken = rw (s.no_minus, s.no_minus, s.no_minus, s.no_plus, s.some, s.digits, s.least, s.most, s.fits) refl;
     found = rw (s.no_minus, s.no_minus, s.no_minus) refl;
   }
-  apart Replay = record {
+  apart names.Replay e = record {
     taken = rw (s.no_minus, s.no_minus, s.no_minus, s.no_plus, s.some, s.digits, s.least, s.most, s.fits) refl;
     found = rw (s.no_minus, s.no_minus, s.no_minus) refl;
   }
+  apart names.Image e = record {
+    taken = rw (s.no_minus, s.no_minus, s.no_minus, s.no_plus, s.some, s.digits, s.least, s.most, s.fits) refl;
+    found = rw (s.no_minus, s.no_minus, s.no_minus) refl;
+  }
+  apart names.Generate e = cc
+  apart names.Audit e = cc
 
-  pub joined : (manner : Manner) → Reads (name_of manner ∷ (codes "--preempt=" ++ (c ∷ cs)) ∷ []) (Run manner pace) (c ∷ cs)
-  unfolding clap_on_literals
-  joined Turns = record { taken = rw (s.no_minus, s.no_plus, s.some, s.digits, s.least, s.most, s.fits) refl; found = rw s.no_minus refl }
-  joined Replay = record { taken = rw (s.no_minus, s.no_plus, s.some, s.digits, s.least, s.most, s.fits) refl; found = rw s.no_minus refl }
+  pub joined : (name : CommandName) → is_paced name ≡ true → Reads (word_of name ∷ (codes "--preempt=" ++ (c ∷ cs)) ∷ []) name (c ∷ cs)
+  unfolding clap_on_literals is_paced
+  joined names.Turns e = record { taken = rw (s.no_minus, s.no_plus, s.some, s.digits, s.least, s.most, s.fits) refl; found = rw s.no_minus refl }
+  joined names.Replay e = record { taken = rw (s.no_minus, s.no_plus, s.some, s.digits, s.least, s.most, s.fits) refl; found = rw s.no_minus refl }
+  joined names.Image e = record { taken = rw (s.no_minus, s.no_plus, s.some, s.digits, s.least, s.most, s.fits) refl; found = rw s.no_minus refl }
+  joined names.Generate e = cc
+  joined names.Audit e = cc
 
-pub counted : (c : ℕ) (cs : List ℕ) (operations : ℕ) → Spelled 1 60000 c cs → Reads (codes "generate" ∷ (c ∷ cs) ∷ []) (Generate operations) (c ∷ cs)
+pub counted : (c : ℕ) (cs : List ℕ) → Spelled 1 60000 c cs → Reads (word_of names.Generate ∷ (c ∷ cs) ∷ []) names.Generate (c ∷ cs)
 unfolding clap_on_literals
-counted c cs operations s = record {
+counted c cs s = record {
   taken = rw (s.no_minus, s.no_minus, s.no_minus, s.no_plus, s.some, s.digits, s.least, s.most, s.fits) refl;
   found = rw (s.no_minus, s.no_minus, s.no_minus) refl;
+}
+
+-- `audit`, alone or with a path
+pub audits : Reads (word_of names.Audit ∷ []) names.Audit []
+unfolding clap_on_literals
+audits = record { taken = refl; found = refl }
+
+pub audits_file : (c : ℕ) (cs : List ℕ) → eqb c 45 ≡ false → Reads (word_of names.Audit ∷ (c ∷ cs) ∷ []) names.Audit []
+unfolding clap_on_literals
+audits_file c cs no_minus = record {
+  taken = rw (no_minus, no_minus) refl;
+  found = refl;
 }
 
 pub is_plain : is_simple table ≡ true

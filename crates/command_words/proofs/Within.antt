@@ -1,36 +1,42 @@
 -- How many operations words may ask for.
-use Rattle.std.proofs.Common.{◌≡◌, ℕ, ◌≤◌, Bool, true, false, ◌&&◌, List, [], ◌∷◌, Option, Some, None, option_map, cond, bytes_eq, codes, leb, refl, leb-true, subst}
+use Rattle.std.proofs.Common.{◌≡◌, ℕ, ◌≤◌, Bool, true, false, ◌&&◌, List, [], ◌∷◌, Option, Some, None, option_and_then, option_map, cond, leb, refl, leb-true, subst}
 use Rattle.trace_lines.specs.Numbers.{numeral}
 use Rattle.trace_lines.proofs.DigitTable.{both_of as both}
-use Rattle.command_words.specs.Words.{manner_named, operations_after, pace_after, run_of, within, words_ask}
-use Rattle.command_words.specs.declared.asked.Asked.TheVariants.{Generate}
-use Rattle.command_words.specs.declared.asked.Manner.{Manner}
+use Rattle.command_words.specs.Words.{asked_by, command_named, number_after, operations_after, pace_after, within, words_ask}
+use Rattle.command_words.specs.declared.asked.Asked.{Asked}
+use Rattle.command_words.specs.declared.asked.Asked.TheVariants as asks
+use Rattle.command_words.specs.declared.asked.CommandName.{CommandName}
+use Rattle.command_words.specs.declared.asked.CommandName.TheVariants as names
 
-no_run : (m : Option Manner) (pace : Option ℕ) (n : ℕ) → run_of m pace ≡ Some (Generate n) → ⊥
-no_run (Some m) (Some pace) n e = cc
-no_run (Some m) None n e = cc
-no_run None pace n e = cc
+-- only `generate` generates
+no_number : (f : ℕ → Asked) (o : Option ℕ) (n : ℕ) → ((k : ℕ) → f k ≡ asks.Generate n → ⊥) → option_map f o ≡ Some (asks.Generate n) → ⊥
+no_number f (Some k) n never e = never k (cc)
+no_number f None n never e = cc
 
-bounded : (least most : ℕ) (o : Option ℕ) (n : ℕ) → option_map Generate (within least most o) ≡ Some (Generate n) → (least ≤ n) × (n ≤ most)
+bounded : (least most : ℕ) (o : Option ℕ) (n : ℕ) → option_map asks.Generate (within least most o) ≡ Some (asks.Generate n) → (least ≤ n) × (n ≤ most)
 bounded least most None n e = cc
 bounded least most (Some v) n e = by (leb least v && leb v most) refl e
   where
-    by : (b : Bool) → (leb least v && leb v most) ≡ b → option_map Generate (cond b (Some v) None) ≡ Some (Generate n) → (least ≤ n) × (n ≤ most)
+    by : (b : Bool) → (leb least v && leb v most) ≡ b → option_map asks.Generate (cond b (Some v) None) ≡ Some (asks.Generate n) → (least ≤ n) × (n ≤ most)
     by true is h =
         let same : v ≡ n = cc in
         let parts = both (leb least v) (leb v most) is in
         subst (λ k. (least ≤ k) × (k ≤ most)) same (leb-true least v parts.0, leb-true v most parts.1)
     by false is h = cc
 
-pub generated_within : (words : List (List ℕ)) (n : ℕ) → words_ask words ≡ Some (Generate n) → (1 ≤ n) × (n ≤ 60000)
-generated_within [] n e = cc
-generated_within (w ∷ rest) n e = by (bytes_eq w (codes "generate")) e
-  where
-    counted : (behind : List (List ℕ)) → option_map Generate (operations_after behind) ≡ Some (Generate n) → (1 ≤ n) × (n ≤ 60000)
-    counted [] h = cc
-    counted (x ∷ []) h = bounded 1 60000 (numeral 10 x) n h
-    counted (x ∷ y ∷ ys) h = cc
+counted : (behind : List (List ℕ)) (n : ℕ) → option_map asks.Generate (operations_after behind) ≡ Some (asks.Generate n) → (1 ≤ n) × (n ≤ 60000)
+counted [] n h = cc
+counted (x ∷ []) n h = bounded 1 60000 (numeral 10 x) n h
+counted (x ∷ y ∷ ys) n h = cc
 
-    by : (b : Bool) → cond b (option_map Generate (operations_after rest)) (run_of (manner_named w) (pace_after rest)) ≡ Some (Generate n) → (1 ≤ n) × (n ≤ 60000)
-    by true h = counted rest h
-    by false h = absurd (no_run (manner_named w) (pace_after rest) n h)
+of_command : (o : Option CommandName) (rest : List (List ℕ)) (n : ℕ) → option_and_then (λ name. option_map (asked_by name) (number_after name rest)) o ≡ Some (asks.Generate n) → (1 ≤ n) × (n ≤ 60000)
+of_command None rest n e = cc
+of_command (Some names.Turns) rest n e = absurd (no_number (asked_by names.Turns) (pace_after rest) n (λ k h. cc) e)
+of_command (Some names.Replay) rest n e = absurd (no_number (asked_by names.Replay) (pace_after rest) n (λ k h. cc) e)
+of_command (Some names.Image) rest n e = absurd (no_number (asked_by names.Image) (pace_after rest) n (λ k h. cc) e)
+of_command (Some names.Generate) rest n e = counted rest n e
+of_command (Some names.Audit) rest n e = absurd (no_number (asked_by names.Audit) (number_after names.Audit rest) n (λ k h. cc) e)
+
+pub generated_within : (words : List (List ℕ)) (n : ℕ) → words_ask words ≡ Some (asks.Generate n) → (1 ≤ n) × (n ≤ 60000)
+generated_within [] n e = cc
+generated_within (w ∷ rest) n e = of_command (command_named w) rest n e

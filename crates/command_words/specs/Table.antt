@@ -1,12 +1,12 @@
 -- The commands as `clap` is told of them.
-use Rattle.std.specs.Prelude.{ℕ, true, List, [], ◌∷◌, Option, Some, codes, option_map, pos}
+use Rattle.std.specs.Prelude.{◌≡◌, ℕ, ◌<◌, ◌^◌, true, List, [], ◌∷◌, Option, Some, None, codes, option_and_then, option_map, pos}
+use Rattle.std.specs.Str.Parse.{IsNumeral, digits_value}
 use Rattle.clap.specs.Words.{App, Row, Rule, Text, new_app, new_rule, one_of, with_rule, with_subcommand}
 use Rattle.clap.specs.Simple.{on_top}
 use Rattle.clap.specs.declared.builder.value_parser.ValueParser.TheVariants.{Signed}
-use Rattle.command_words.specs.Words.{name_of}
-use Rattle.command_words.specs.declared.asked.Asked.{Asked}
-use Rattle.command_words.specs.declared.asked.Asked.TheVariants.{Run, Generate}
-use Rattle.command_words.specs.declared.asked.Manner.TheVariants.{Turns, Replay}
+use Rattle.command_words.specs.Words.{argument_of, word_of}
+use Rattle.command_words.specs.declared.asked.CommandName.{CommandName}
+use Rattle.command_words.specs.declared.asked.CommandName.TheVariants as names
 
 -- `--preempt N`, with N up to a million
 abbrev pub preempt : Rule
@@ -31,6 +31,10 @@ operations = record (new_rule (codes "operations")) {
 abbrev pub generator : App
 generator = with_rule (new_app (codes "generate")) operations
 
+-- a command that may have a path by its place
+abbrev pub reader : Text → App
+reader name = with_rule (new_app name) (new_rule (codes "path"))
+
 -- the program, with no word of its name before the command
 abbrev pub program : App
 program = on_top (λ s. record s {
@@ -41,28 +45,22 @@ program = on_top (λ s. record s {
 }) (new_app (codes "ptmac"))
 
 abbrev pub table : App
-table = with_subcommand (with_subcommand (with_subcommand program (paced (name_of Turns)).top) (paced (name_of Replay)).top) generator.top
+table = with_subcommand (with_subcommand (with_subcommand (with_subcommand (with_subcommand program
+    (paced (word_of names.Turns)).top) (paced (word_of names.Replay)).top) (paced (word_of names.Image)).top)
+    generator.top) (reader (word_of names.Audit)).top
 
--- for what is asked, the name of its command, the one argument of that, and the number
-abbrev pub command_of : Asked → Text
-command_of (Run manner pace) = name_of manner
-command_of (Generate n) = codes "generate"
-
-abbrev pub argument_of : Asked → Text
-argument_of (Run manner pace) = codes "preempt"
-argument_of (Generate n) = codes "operations"
-
-abbrev pub number_of : Asked → ℕ
-number_of (Run manner pace) = pace
-number_of (Generate n) = n
-
--- a command that was found, with the text of an argument of it
+-- a command that was found, with the text of its number, where it has one
 abbrev pub FoundText : Type 0
 FoundText = Text × Option Text
 
-abbrev pub text_found : Text → Option (Text × List Row) → Option FoundText
-text_found argument = option_map {U = FoundText} (λ p. (p.0, one_of argument p.1))
+abbrev pub text_found : CommandName → Option (Text × List Row) → Option FoundText
+text_found name = option_map {U = FoundText} (λ p. (p.0, option_and_then (λ argument. one_of argument p.1) (argument_of name)))
 
--- the command of what is asked was found, with this text of its argument
-abbrev pub found_with : Asked → Text → Option FoundText
-found_with asked text = Some (command_of asked, Some text)
+-- this command was found, with this text of its number
+abbrev pub found_with : CommandName → Text → Option FoundText
+found_with name text = Some (word_of name, option_map (λ _. text) (argument_of name))
+
+-- a command with this argument is asked with this number: the text spells it, and 0 where there is no argument
+abbrev pub SpellsNumber : Option Text → Text → ℕ → Type 0
+SpellsNumber None text n = n ≡ 0
+SpellsNumber (Some argument) text n = IsNumeral 10 text × (digits_value 10 text ≡ n) × (n < 2 ^ 32)

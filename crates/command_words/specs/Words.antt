@@ -1,12 +1,13 @@
 -- What the words of the command line ask for.
-use Rattle.std.specs.Prelude.{ℕ, nat_le, ◌&&◌, Bool, if◌then◌else◌, List, [], ◌∷◌, take, drop, Option, Some, None, option_map, codes}
+use Rattle.std.specs.Prelude.{ℕ, nat_le, ◌==◌, ◌&&◌, not, Bool, true, false, if◌then◌else◌, List, [], ◌∷◌, take, drop, Option, Some, None, option_and_then, option_map, codes}
 use Rattle.std.specs.List.{list_all}
 use Rattle.std.specs.Str.{bytes_eq}
 use Rattle.trace_lines.specs.Numbers.{is_digit, numeral}
 use Rattle.command_words.specs.declared.asked.Asked.{Asked}
-use Rattle.command_words.specs.declared.asked.Asked.TheVariants.{Run, Generate}
-use Rattle.command_words.specs.declared.asked.Manner.{Manner}
-use Rattle.command_words.specs.declared.asked.Manner.TheVariants.{Turns, Replay}
+use Rattle.command_words.specs.declared.asked.Asked.TheVariants as asks
+use Rattle.command_words.specs.declared.asked.CommandName.{CommandName}
+use Rattle.command_words.specs.declared.asked.CommandName.TheVariants as names
+use Rattle.command_words.specs.declared.asked.Manner.TheVariants as manners
 
 abbrev pub within : ℕ → ℕ → Option ℕ → Option ℕ
 within least most None = None
@@ -28,7 +29,7 @@ operations_in = number_within 1 60000
 abbrev pub pace_behind : List ℕ → Option ℕ
 pace_behind word = if bytes_eq (take 10 word) (codes "--preempt=") then pace_in (drop 10 word) else None
 
--- the words behind `turns` or `replay`: 0 where there are none, N where they are `--preempt N` or `--preempt=N`, and no pace where they are others
+-- the words behind `turns`, `replay` or `image`: 0 where there are none, N where they are `--preempt N` or `--preempt=N`, and no pace where they are others
 abbrev pub pace_after : List (List ℕ) → Option ℕ
 pace_after [] = Some 0
 pace_after (o ∷ []) = pace_behind o
@@ -41,26 +42,65 @@ operations_after [] = None
 operations_after (n ∷ []) = operations_in n
 operations_after (n ∷ x ∷ xs) = None
 
--- the name of a command that runs a trace in this manner
-abbrev pub name_of : Manner → List ℕ
-name_of Turns = codes "turns"
-name_of Replay = codes "replay"
+-- the path of a file: at least one byte, and the first is no `-`
+abbrev pub is_path : List ℕ → Bool
+is_path [] = false
+is_path (c ∷ cs) = not (c == 45)
 
-abbrev pub manner_named : List ℕ → Option Manner
-manner_named word = if bytes_eq word (name_of Turns) then Some Turns
-    else if bytes_eq word (name_of Replay) then Some Replay else None
+-- the words behind `audit`: none, or the path of a file
+abbrev pub names_source : List (List ℕ) → Bool
+names_source [] = true
+names_source (path ∷ []) = is_path path
+names_source (path ∷ x ∷ xs) = false
 
--- a manner with its pace
-abbrev pub run_of : Option Manner → Option ℕ → Option Asked
-run_of (Some manner) (Some pace) = Some (Run manner pace)
-run_of (Some manner) None = None
-run_of None pace = None
+-- the word of a command
+abbrev pub word_of : CommandName → List ℕ
+word_of names.Turns = codes "turns"
+word_of names.Replay = codes "replay"
+word_of names.Image = codes "image"
+word_of names.Generate = codes "generate"
+word_of names.Audit = codes "audit"
+
+abbrev pub command_named : List ℕ → Option CommandName
+command_named word = if bytes_eq word (word_of names.Turns) then Some names.Turns
+    else if bytes_eq word (word_of names.Replay) then Some names.Replay
+    else if bytes_eq word (word_of names.Image) then Some names.Image
+    else if bytes_eq word (word_of names.Generate) then Some names.Generate
+    else if bytes_eq word (word_of names.Audit) then Some names.Audit else None
+
+-- the argument of a command that is its number
+abbrev pub argument_of : CommandName → Option (List ℕ)
+argument_of names.Turns = Some (codes "preempt")
+argument_of names.Replay = Some (codes "preempt")
+argument_of names.Image = Some (codes "preempt")
+argument_of names.Generate = Some (codes "operations")
+argument_of names.Audit = None
+
+-- what a command with its number asks for
+abbrev pub asked_by : CommandName → ℕ → Asked
+asked_by names.Turns pace = asks.Run manners.Turns pace
+asked_by names.Replay pace = asks.Run manners.Replay pace
+asked_by names.Image pace = asks.Image pace
+asked_by names.Generate n = asks.Generate n
+asked_by names.Audit n = asks.Audit
+
+-- the number that the words behind a command give, where they may stand there: 0 where it has no number
+abbrev pub number_after : CommandName → List (List ℕ) → Option ℕ
+number_after names.Turns rest = pace_after rest
+number_after names.Replay rest = pace_after rest
+number_after names.Image rest = pace_after rest
+number_after names.Generate rest = operations_after rest
+number_after names.Audit rest = if names_source rest then Some 0 else None
 
 -- What the words ask for: the first names the command, and those behind it give its number.
 abbrev pub words_ask : List (List ℕ) → Option Asked
 words_ask [] = None
-words_ask (word ∷ rest) = if bytes_eq word (codes "generate") then option_map Generate (operations_after rest)
-    else run_of (manner_named word) (pace_after rest)
+words_ask (word ∷ rest) = option_and_then (λ name. option_map (asked_by name) (number_after name rest)) (command_named word)
+
+-- the path in words that ask for an audit of a file
+abbrev pub path_in : List (List ℕ) → Option (List ℕ)
+path_in (word ∷ path ∷ []) = if bytes_eq word (word_of names.Audit) && is_path path then Some path else None
+path_in _ = None
 
 -- digits alone
 abbrev pub has_digits : List ℕ → Bool

@@ -1,9 +1,9 @@
-ghost use Rattle.std.specs.Prelude.{◌≡◌, is_some, map, codes, string_bytes};
+ghost use Rattle.std.specs.Prelude.{◌≡◌, is_some, map, option_map, codes, string_bytes};
 ghost use Rattle.std.specs.Str.{bytes_eq};
 ghost use Rattle.trace_lines.specs.Numbers.{is_proper as is_proper_lem, numeral};
-ghost use Rattle.command_words.specs.Words.{words_ask, has_digits as has_digits_lem, number_within, operations_after, pace_behind, pace_in, pace_after};
+ghost use Rattle.command_words.specs.Words.{words_ask, has_digits as has_digits_lem, is_path as is_path_lem, names_source, number_after, number_within, operations_after, pace_behind, pace_in, pace_after, path_in};
 
-use crate::asked::Manner;
+use crate::asked::CommandName;
 
 // One digit, or more without a leading zero.
 fn is_proper(word: &[u8]) -> bool
@@ -62,7 +62,7 @@ fn is_preempt_with_pace(word: &str) -> bool
     }
 }
 
-// The words behind `turns` or `replay` give a pace. None of them stand for 0.
+// The words behind `turns`, `replay` or `image` give a pace. None of them stand for 0.
 fn has_pace(words: &[String]) -> bool
     ensures { result ≡ is_some (pace_after (map string_bytes words.now)) }
 {
@@ -84,13 +84,59 @@ fn has_operations(words: &[String]) -> bool
     }
 }
 
-/// Whether the words ask for a run. It needs no memory.
+// At least one byte, and the first is no `-`.
+fn is_path(word: &str) -> bool
+    ensures { result ≡ is_path_lem word.now }
+{
+    match word.as_bytes() {
+        [] => false,
+        [first, ..] => *first != b'-',
+    }
+}
+
+// The words behind `audit` are the path of a file, or none.
+fn has_source(words: &[String]) -> bool
+    ensures { result ≡ names_source (map string_bytes words.now) }
+{
+    match words {
+        [] => true,
+        [path] => is_path(path.as_str()),
+        _ => false,
+    }
+}
+
+// The words behind a command are such as may stand there.
+fn has_number(name: CommandName, words: &[String]) -> bool
+    ensures { result ≡ is_some (number_after name (map string_bytes words.now)) }
+{
+    match name {
+        CommandName::Turns | CommandName::Replay | CommandName::Image => has_pace(words),
+        CommandName::Generate => has_operations(words),
+        CommandName::Audit => has_source(words),
+    }
+}
+
+/// Whether the words ask for something. It needs no memory.
 pub fn is_known(words: &[String]) -> bool
     ensures { result ≡ is_some (words_ask (map string_bytes words.now)) }
 {
     match words {
         [] => false,
-        [command, rest @ ..] if command.as_str() == "generate" => has_operations(rest),
-        [command, rest @ ..] => Manner::named(command.as_str()).is_some() && has_pace(rest),
+        [command, rest @ ..] => match CommandName::named(command.as_str()) {
+            Some(name) => has_number(name, rest),
+            None => false,
+        },
+    }
+}
+
+/// The path of the file that is to be audited, where the words name one.
+pub fn path_of(words: &[String]) -> Option<&str>
+    ensures { option_map (λ s. s.now) result ≡ path_in (map string_bytes words.now) }
+{
+    match words {
+        [command, path] if command.as_str() == "audit" && is_path(path.as_str()) => {
+            Some(path.as_str())
+        }
+        _ => None,
     }
 }

@@ -1,4 +1,4 @@
-//! The words of the command line, read with `clap`: which run they ask for.
+//! The words of the command line, read with `clap`: what they ask for.
 #![tactic(auto)]
 
 mod asked;
@@ -8,4 +8,5 @@ mod reading;
 mod tests;
 
 pub use asked::{Asked, Manner};
+pub use known::path_of;
 pub use reading::asked_of;

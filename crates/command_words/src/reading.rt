@@ -1,11 +1,11 @@
-ghost use Rattle.std.specs.Prelude.{◌≡◌, ◌<◌, ◌^◌, ℕ, List, IfOk, IfErr, Some, is_some, true, false, map, string_bytes};
-ghost use Rattle.std.specs.Str.Parse.{IsNumeral, digits_value};
-ghost use Rattle.command_words.specs.Words.{words_ask};
-ghost use Rattle.command_words.specs.Table.{argument_of, found_with, generator as generator_app, number_of, paced as paced_app, table, text_found};
+ghost use Rattle.std.specs.Prelude.{◌≡◌, ℕ, List, IfOk, IfErr, Some, is_some, true, false, map, string_bytes};
+ghost use Rattle.command_words.specs.Words.{argument_of, asked_by, words_ask};
+ghost use Rattle.command_words.specs.Table.{SpellsNumber, found_with, generator as generator_app, paced as paced_app, reader as reader_app, table, text_found};
 ghost use Rattle.clap.specs.Words.{app_of, subcommand_rows_of};
+ghost use Rattle.command_words.specs.declared.asked.CommandName.{CommandName};
 ghost use Rattle.clap.specs.declared.builder.command.Command.TheViews.{out-Command};
 
-use crate::asked::{Asked, Manner};
+use crate::asked::{Asked, CommandName};
 use crate::known::is_known;
 use clap::error::ErrorKind;
 use clap::{Arg, ArgMatches, Command, value_parser};
@@ -34,13 +34,24 @@ fn generator<'a>(alloc: Global) -> Result<Command<'a>, AllocError>
     Command::new(alloc, "generate").arg(operations)
 }
 
+// A command that reads an image, from the file that may be named.
+fn reader<'a>(alloc: Global, name: &'a str) -> Result<Command<'a>, AllocError>
+    ensures app { IfOk result (λ c. app_of c ≡ reader_app name.entry.now) }
+    ensures local { IfOk result (λ c. (out-Command c).has_globals ≡ false) }
+{
+    let path = Arg::new(alloc, "path");
+    Command::new(alloc, name).arg(path)
+}
+
 // The commands, as `clap` is told of them. What the program says of words that are wrong is its own text.
 fn commands<'a>(alloc: Global) -> Result<Command<'a>, AllocError>
     ensures { IfOk result (λ c. app_of c ≡ table) }
 {
     let turns = paced(alloc, "turns")?;
     let replay = paced(alloc, "replay")?;
+    let image = paced(alloc, "image")?;
     let generate = generator(alloc)?;
+    let audit = reader(alloc, "audit")?;
     Command::new(alloc, "ptmac")
         .no_binary_name(true)
         .disable_help_flag(true)
@@ -48,28 +59,28 @@ fn commands<'a>(alloc: Global) -> Result<Command<'a>, AllocError>
         .subcommand_required(true)
         .subcommand(turns)?
         .subcommand(replay)?
-        .subcommand(generate)
+        .subcommand(image)?
+        .subcommand(generate)?
+        .subcommand(audit)
 }
 
-// The command that was found, and its number.
+// The command that was found, with its number. One that has none is asked with 0.
 fn asked_in(matches: &ArgMatches<'_>) -> Option<Asked>
-    ensures { (asked : Asked) (text : List ℕ) → text_found (argument_of asked) (subcommand_rows_of matches.now) ≡ found_with asked text → IsNumeral 10 text → digits_value 10 text ≡ number_of asked → number_of asked < 2 ^ 32 → result ≡ Some asked }
+    ensures { (name : CommandName) (text : List ℕ) (number : ℕ) → text_found name (subcommand_rows_of matches.now) ≡ found_with name text → SpellsNumber (argument_of name) text number → result ≡ Some (asked_by name number) }
 {
-    let (name, found) = matches.subcommand()?;
-    match Manner::named(name) {
-        Some(manner) => {
-            let pace = found.get_one::<u32>("preempt")?;
-            Some(Asked::Run { manner, pace })
+    let (word, found) = matches.subcommand()?;
+    let name = CommandName::named(word)?;
+    match name.argument() {
+        Some(argument) => {
+            let number = found.get_one::<u32>(argument)?;
+            Some(name.asked(number))
         }
-        None => {
-            let operations = found.get_one::<u32>("operations")?;
-            Some(Asked::Generate { operations })
-        }
+        None => Some(name.asked(0)),
     }
 }
 
-/// What the words of the command line ask for, without the program's name. It is `None` exactly where they ask for no
-/// run; lists that `clap` takes and that are not known, as `turns --` or `generate 060`, are among those.
+/// What the words of the command line ask for, without the program's name. It is `None` exactly where they ask for
+/// nothing; lists that `clap` takes and that are not known, as `turns --` or `generate 060`, are among those.
 /// Memory is wanted for words that are known alone.
 pub fn asked_of(alloc: Global, words: &[String]) -> Result<Option<Asked>, AllocError>
     ensures reads { IfOk result (λ a. a ≡ words_ask (map string_bytes words.now)) }

@@ -1,13 +1,18 @@
-use crate::{Asked, Manner, asked_of};
+use crate::{Asked, Manner, asked_of, path_of};
 use std::test::Fail;
 
-// What the words of a line ask for, cut at its spaces.
-fn asked_of_line(rt: &HostRuntime, line: &str) -> Result<Option<Asked>, Fail> {
+// The words of a line, cut at its spaces.
+fn words_of(rt: &HostRuntime, line: &str) -> Result<Vec<String>, Fail> {
     let mut words = Vec::new(rt.alloc());
     for word in line.split(' ') {
         words.push(String::from_str(rt.alloc(), word)?)?;
     }
-    Ok(asked_of(rt.alloc(), &words)?)
+    Ok(words)
+}
+
+// What the words of a line ask for.
+fn asked_of_line(rt: &HostRuntime, line: &str) -> Result<Option<Asked>, Fail> {
+    Ok(asked_of(rt.alloc(), &words_of(rt, line)?)?)
 }
 
 fn turns(pace: u32) -> Option<Asked> {
@@ -22,6 +27,10 @@ fn replay(pace: u32) -> Option<Asked> {
         manner: Manner::Replay,
         pace,
     })
+}
+
+fn image(pace: u32) -> Option<Asked> {
+    Some(Asked::Image { pace })
 }
 
 fn generate(operations: u32) -> Option<Asked> {
@@ -51,6 +60,33 @@ fn reads_each_form_of_replay(rt: HostRuntime) -> Result<(), Fail> {
 }
 
 #[test]
+fn reads_each_form_of_image(rt: HostRuntime) -> Result<(), Fail> {
+    assert!(rt; asked_of_line(&rt, "image")? == image(0));
+    assert!(rt; asked_of_line(&rt, "image --preempt 17")? == image(17));
+    assert!(rt; asked_of_line(&rt, "image --preempt=1000000")? == image(1_000_000));
+    Ok(())
+}
+
+#[test]
+fn reads_each_form_of_audit(rt: HostRuntime) -> Result<(), Fail> {
+    for (line, path) in [
+        ("audit", None),
+        ("audit saved.image", Some("saved.image")),
+        ("audit audit", Some("audit")),
+        ("audit a-b=-", Some("a-b=-")),
+        ("audit help", Some("help")),
+        ("audit ./-", Some("./-")),
+    ] {
+        assert!(rt; asked_of_line(&rt, line)? == Some(Asked::Audit), "{line}");
+        assert!(rt; path_of(&words_of(&rt, line)?) == path, "{line}");
+    }
+    for line in ["turns", "turns 1", "image a", "audit -a", "audit a b"] {
+        assert!(rt; path_of(&words_of(&rt, line)?).is_none(), "{line}");
+    }
+    Ok(())
+}
+
+#[test]
 fn reads_each_number_of_operations(rt: HostRuntime) -> Result<(), Fail> {
     assert!(rt; asked_of_line(&rt, "generate 1")? == generate(1));
     assert!(rt; asked_of_line(&rt, "generate 9")? == generate(9));
@@ -61,7 +97,7 @@ fn reads_each_number_of_operations(rt: HostRuntime) -> Result<(), Fail> {
 }
 
 // Lists that a program with these commands would take, were it for `clap` alone.
-static TAKEN_BY_CLAP: [&str; 20] = [
+static TAKEN_BY_CLAP: [&str; 26] = [
     "--help",
     "-h",
     "help",
@@ -82,10 +118,16 @@ static TAKEN_BY_CLAP: [&str; 20] = [
     "generate +5",
     "generate -- 5",
     "generate 5 --",
+    "image --",
+    "image --preempt 01",
+    "audit ",
+    "audit --",
+    "audit -- a",
+    "audit a --",
 ];
 
 // And others.
-static UNKNOWN: [&str; 49] = [
+static UNKNOWN: [&str; 59] = [
     "",
     "run",
     "turn",
@@ -135,6 +177,16 @@ static UNKNOWN: [&str; 49] = [
     "generate --preempt=1 5",
     "--preempt 1 generate 5",
     "turns generate 5",
+    "Image",
+    "images",
+    "image image",
+    "image --preempt 1000001",
+    "--preempt 1 image",
+    "Audit",
+    "audit -",
+    "audit --a",
+    "audit a b",
+    "audit --preempt 1",
 ];
 
 #[test]

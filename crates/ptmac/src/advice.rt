@@ -9,13 +9,17 @@ ptmac: this is no command line that it knows. It knows these:
 
 usage: ptmac COMMAND < TRACE
        ptmac generate COUNT
+       ptmac audit [PATH]
 
   turns [--preempt N]   Runs the trace on standard input: the vCPUs take the turns that its
                         `turn` lines give them. Writes the report to standard output.
   replay [--preempt N]  The same, but each vCPU runs its whole script in a thread of its own.
+  image [--preempt N]   As turns, but writes the closing machine as an image, in binary.
   generate COUNT        Reads nothing: makes a trace of COUNT operations, from 1 to 60000, runs it,
                         and writes how many were done, refused and left pending, and how many
                         frames are free.
+  audit [PATH]          Reads an image, from the file PATH or else from standard input, and writes
+                        whether it is of a sound machine, or what breaks it first.
 
   With --preempt N operations pause: each vCPU's gate says yes at each N-th time that it is
   asked. N is a decimal number up to 1000000 without leading zeros; with 0, as without the
@@ -24,28 +28,36 @@ usage: ptmac COMMAND < TRACE
 example: ptmac turns --preempt 300 < examples/pinned-in-several-turns.trace
 
 exit status:
-  0  the report, or the summary of a generated trace, was written
+  0  what was asked for was written; of an audit: the machine is sound
   2  the words are no command, and nothing was read
   3  the input is no trace: the line on standard output says where and why
-  4  the trace passes a limit: the line on standard output says which
-  5  reading standard input failed
+  4  the input passes a limit: the line on standard output says which
+  5  reading the input failed
   6  writing standard output failed
-  7  there was too little memory";
+  7  there was too little memory
+  8  the input is no image: the line on standard output says where
+  9  the machine of the image is not sound: the line on standard output says why";
 
 const BAD_TRACE: &str = "\
 ptmac: the input is no trace. The line on standard output says which of its lines is wrong, and how; docs/TRACE.md explains the causes.";
 
 const TOO_LARGE: &str = "\
-ptmac: the trace passes a limit. The line on standard output says which; docs/TRACE.md lists the limits.";
+ptmac: the input passes a limit. The line on standard output says which; docs/TRACE.md and docs/IMAGES.md list the limits.";
 
 const READ_FAULT: &str = "\
-ptmac: reading standard input failed. Give it a trace that can be read, as in `ptmac turns < FILE`; a folder is none.";
+ptmac: reading the input failed. Give it a file that can be read, as in `ptmac turns < FILE` or `ptmac audit FILE`; a folder is none.";
 
 const WRITE_FAULT: &str = "\
 ptmac: writing standard output failed, so the output is cut short. See that its place has room and that nothing closes it, and run again.";
 
 const MEMORY: &str = "\
 ptmac: there was too little memory. Give it more, or a trace with fewer frames and operations.";
+
+const BAD_IMAGE: &str = "\
+ptmac: the input is no image. The line on standard output says where it first differs from one; docs/IMAGES.md says what stands there.";
+
+const UNSOUND: &str = "\
+ptmac: the machine of the image is not sound. The line on standard output says what breaks it first; docs/IMAGES.md explains it.";
 
 /// What was wrong, and what to do about it. Where the run was done there is nothing to say, and only there.
 pub fn advice_for(status: &Status) -> Option<&'static str>
@@ -59,5 +71,7 @@ pub fn advice_for(status: &Status) -> Option<&'static str>
         Status::ReadFault => Some(READ_FAULT),
         Status::WriteFault => Some(WRITE_FAULT),
         Status::Memory => Some(MEMORY),
+        Status::BadImage => Some(BAD_IMAGE),
+        Status::Unsound => Some(UNSOUND),
     }
 }

@@ -3,3 +3,4 @@ pub mod Order
 pub mod Judged
 pub mod Burials
 pub mod Leads
+pub mod Lines

@@ -7,6 +7,7 @@ mod dead;
 mod deciding;
 mod entries;
 mod held;
+mod lines;
 mod mapped;
 mod pages;
 mod readers;

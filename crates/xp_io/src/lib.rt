@@ -8,6 +8,6 @@ mod streams;
 mod whole;
 
 pub use memory::{HonestSink, HonestSource, MemorySink, MemorySource};
-pub use outside::{StdSink, StdSource};
+pub use outside::{FileSource, StdSink, StdSource};
 pub use streams::{Failed, Sink, Source};
 pub use whole::{ReadAllError, read_all, write_whole};

@@ -1,7 +1,9 @@
 ghost use Rattle.std.specs.Prelude.{◌≡◌, None};
 
 use crate::streams::{Failed, Sink, Source};
+use std::fs;
 use std::io::{Read, Write};
+use std::rt::Files;
 
 /// A reader of std, such as standard input, as a source. It tells what the reader tells, and counts its errors.
 #[derive(Drop)]
@@ -29,6 +31,46 @@ impl<R: Read + Drop> Source for StdSource<R> {
         match self.from.read(into) {
             Ok(count) => Ok(count),
             Err(_) => {
+                self.faults = self.faults.saturating_add(1);
+                Err(Failed)
+            }
+        }
+    }
+}
+
+/// A file as a source. It tells nothing of what the file holds, and counts the errors of its reads.
+#[derive(Drop)]
+pub struct FileSource<F: Read + Drop> {
+    // None where it could not be opened: then every read fails.
+    from: Option<F>,
+    faults: u64,
+}
+
+impl<F: Read + Drop> FileSource<F> {
+    /// The file at this path. Where it cannot be opened that is told at each read. No fault is counted yet.
+    pub fn open<R: Files<File = F>>(rt: &R, path: &str) -> FileSource<F>
+        ensures { result.faults ≡ 0 }
+    {
+        FileSource {
+            from: fs::open(rt, path).ok(),
+            faults: 0,
+        }
+    }
+}
+
+impl<F: Read + Drop> Source for FileSource<F> {
+    ghost left = { λ _. None };
+
+    ghost faults = { λ s. s.faults };
+
+    fn read(&mut self, into: &mut [u8]) -> Result<usize, Failed> {
+        let read = match &mut self.from {
+            Some(from) => from.read(into).ok(),
+            None => None,
+        };
+        match read {
+            Some(count) => Ok(count),
+            None => {
                 self.faults = self.faults.saturating_add(1);
                 Err(Failed)
             }

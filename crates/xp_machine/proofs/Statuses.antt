@@ -1,5 +1,5 @@
 -- The statuses that come with a text.
-use Rattle.std.proofs.Common.{◌≢◌, ℕ, if◌then◌else◌, List, [], ◌∷◌, map, Result, Ok, Err, Option, Some, None, option_map, ◌≡◌, refl, sym, subst}
+use Rattle.std.proofs.Common.{◌≢◌, ℕ, if◌then◌else◌, List, [], ◌∷◌, map, Result, Ok, Err, Option, Some, None, option_and_then, ◌≡◌, refl, sym, subst, inl, inr}
 use Rattle.trace_lines.specs.declared.fault.LineFault.{LineFault}
 use Rattle.trace_lines.specs.declared.fault.LineFault.TheVariants.{Passed, Bad}
 use Rattle.trace_text.specs.declared.trace.Trace.{Trace}
@@ -8,40 +8,70 @@ use Rattle.xp_machine.specs.declared.status.Status.{Status}
 use Rattle.xp_machine.specs.declared.status.Status.TheVariants as status
 use Rattle.vcpu_runners.specs.Gates.{ArePaced, SetBy}
 use Rattle.xp_preempt.specs.Gates.{Gate, IsPaced, is_in_step}
-use Rattle.xp_machine.specs.Texts.{fault_status}
+use Rattle.xp_machine.specs.Audited.{IsAuditDue}
+use Rattle.xp_machine.specs.Texts.{fault_status, verdict_status}
 use Rattle.command_words.specs.declared.asked.Asked.{Asked}
-use Rattle.command_words.specs.declared.asked.Asked.TheVariants.{Run, Generate}
-use Rattle.command_words.specs.declared.asked.Manner.{Manner}
+use Rattle.command_words.specs.declared.asked.Asked.TheVariants.{Run, Image, Generate, Audit}
+use Rattle.walk_audit.specs.declared.verdict.Verdict.{Verdict}
+use Rattle.walk_audit.specs.declared.verdict.Verdict.TheVariants.{Sound}
 use Rattle.std.specs.Io.KnownBytes.{Keeps}
-use Rattle.xp_machine.specs.Outcome.{WroteText, Outcome, OutcomeBy, OutcomeOf, IsDue, IsAnswer, pace_of}
+use Rattle.xp_machine.specs.Outcome.{Shown, WroteText, Outcome, OutcomeBy, OutcomeOf, IsDue, IsAnswer, pace_of}
 
 -- a status that says of source and sink that its text was written, and that is none of the others
-pub record HasText (s : Status) : Type 0 where
-  pub wrote : (manner : Manner) (gates : List Gate) (from from' to to' : Option (List ℕ)) → WroteText manner gates from from' to to' s → Outcome manner gates from from' to to' s
+pub record HasText (s : Status) : Type 1 where
+  pub wrote : (Due : Option (List ℕ) → Option (List ℕ) → Status → List ℕ → Type 0) (from from' to to' : Option (List ℕ)) → WroteText Due from from' to to' s → Outcome Due from from' to to' s
   pub no_words : s ≢ status.BadWords
   pub no_read : s ≢ status.ReadFault
   pub no_write : s ≢ status.WriteFault
 
+of_done : HasText status.Done
+of_done = record { wrote = λ Due from from' to to' h. h; no_words = λ e. cc; no_read = λ e. cc; no_write = λ e. cc }
+
+of_trace : HasText status.BadTrace
+of_trace = record { wrote = λ Due from from' to to' h. h; no_words = λ e. cc; no_read = λ e. cc; no_write = λ e. cc }
+
+of_length : HasText status.TooLarge
+of_length = record { wrote = λ Due from from' to to' h. h; no_words = λ e. cc; no_read = λ e. cc; no_write = λ e. cc }
+
+of_image : HasText status.BadImage
+of_image = record { wrote = λ Due from from' to to' h. h; no_words = λ e. cc; no_read = λ e. cc; no_write = λ e. cc }
+
+of_unsound : HasText status.Unsound
+of_unsound = record { wrote = λ Due from from' to to' h. h; no_words = λ e. cc; no_read = λ e. cc; no_write = λ e. cc }
+
 of_fault : (f : LineFault) → HasText (fault_status f)
 unfolding fault_status
-of_fault (Bad cause) = record { wrote = λ manner gates from from' to to' h. h; no_words = λ e. cc; no_read = λ e. cc; no_write = λ e. cc }
-of_fault (Passed what number) = record { wrote = λ manner gates from from' to to' h. h; no_words = λ e. cc; no_read = λ e. cc; no_write = λ e. cc }
+of_fault (Bad cause) = of_trace
+of_fault (Passed what number) = of_length
 
-of_done : HasText status.Done
-of_done = record { wrote = λ manner gates from from' to to' h. h; no_words = λ e. cc; no_read = λ e. cc; no_write = λ e. cc }
+of_answer : (shown : Shown) (gates : List Gate) (r : Result Trace Fault) (s : Status) (text : List ℕ) → IsAnswer shown gates r s text → HasText s
+of_answer shown gates (Ok t) s text h = subst HasText (sym h.0) of_done
+of_answer shown gates (Err e) s text h = subst HasText (sym h.0) (of_fault e.cause)
 
-of_answer : (manner : Manner) (gates : List Gate) (r : Result Trace Fault) (s : Status) (text : List ℕ) → IsAnswer manner gates r s text → HasText s
-of_answer manner gates (Ok t) s text h = subst HasText (sym h.0) of_done
-of_answer manner gates (Err e) s text h = subst HasText (sym h.0) (of_fault e.cause)
+pub due_has_text : (shown : Shown) (gates : List Gate) (from from' : Option (List ℕ)) (s : Status) (text : List ℕ) → IsDue shown gates from from' s text → HasText s
+due_has_text shown gates from from' s text due = of_answer shown gates (trace_of due.0) s text due.2
 
-pub due_has_text : (manner : Manner) (gates : List Gate) (from from' : Option (List ℕ)) (s : Status) (text : List ℕ) → IsDue manner gates from from' s text → HasText s
-due_has_text manner gates from from' s text due = of_answer manner gates (trace_of due.0) s text due.2
+of_verdict : (v : Verdict) → HasText (verdict_status v)
+of_verdict Sound = of_done
+of_verdict _ = of_unsound
+
+pub audit_has_text : (from from' : Option (List ℕ)) (s : Status) (text : List ℕ) → IsAuditDue from from' s text → HasText s
+audit_has_text from from' s text (inl (bytes, read, inl h)) = subst HasText (sym h.answer_is) (of_verdict h.verdict)
+audit_has_text from from' s text (inl (bytes, read, inr h)) = subst HasText (sym h.answer_is) of_image
+audit_has_text from from' s text (inr h) = subst HasText (sym h.answer_is) of_length
 
 -- ---- what the words ask for
 -- the gates are told the pace, and what is asked is done
-pub outcome_by : (asked : Option Asked) (a : Asked) (gates set : List Gate) (from from' to to' : Option (List ℕ)) (s : Status) → asked ≡ Some a → ArePaced (pace_of a) gates set → OutcomeOf (Some a) set from from' to to' s →
-    OutcomeBy asked gates from from' to to' s
-outcome_by asked a gates set from from' to to' s is paced out = subst (λ o. OutcomeBy o gates from from' to to' s) (sym is) (set, paced, out)
+pub outcome_by : (asked : Option Asked) (a : Asked) (pace : ℕ) (gates set : List Gate) (from from' to to' : Option (List ℕ)) (s : Status) → asked ≡ Some a → pace_of a ≡ Some pace → ArePaced pace gates set
+    → OutcomeOf (Some a) set from from' to to' s → OutcomeBy asked gates from from' to to' s
+outcome_by asked a pace gates set from from' to to' s is at paced out =
+    subst (λ o. OutcomeBy o gates from from' to to' s) (sym is) (set, subst (λ p. SetBy p gates set) (sym at) paced, out)
+
+-- or they are told nothing
+pub outcome_untold : (asked : Option Asked) (a : Asked) (gates : List Gate) (from from' to to' : Option (List ℕ)) (s : Status) → asked ≡ Some a → pace_of a ≡ None
+    → OutcomeOf (Some a) gates from from' to to' s → OutcomeBy asked gates from from' to to' s
+outcome_untold asked a gates from from' to to' s is at out =
+    subst (λ o. OutcomeBy o gates from from' to to' s) (sym is) (gates, subst (λ p. SetBy p gates gates) (sym at) refl, out)
 
 -- they ask for no run
 pub no_outcome : (asked : Option Asked) (gates : List Gate) (from to : Option (List ℕ)) (s : Status) → asked ≡ None → Keeps from from → Keeps to to → OutcomeBy asked gates from from to to s
@@ -65,9 +95,11 @@ could_be_set (Some every) gates = (map (told every) gates, are_told every gates)
 
 -- want of memory before anything is read
 pub memory_outcome : (asked : Option Asked) (gates : List Gate) (from to : Option (List ℕ)) → Keeps from from → Keeps to to → OutcomeBy asked gates from from to to status.Memory
-memory_outcome asked gates from to kept kept_too = let set = could_be_set (option_map pace_of asked) gates in (set.0, set.1, of asked)
+memory_outcome asked gates from to kept kept_too = let set = could_be_set (option_and_then pace_of asked) gates in (set.0, set.1, of asked)
   where
-    of : (o : Option Asked) → OutcomeOf o (could_be_set (option_map pace_of asked) gates).0 from from to to status.Memory
+    of : (o : Option Asked) → OutcomeOf o (could_be_set (option_and_then pace_of asked) gates).0 from from to to status.Memory
     of (Some (Run manner pace)) = kept_too
+    of (Some (Image pace)) = kept_too
     of (Some (Generate n)) = (kept, kept_too)
+    of (Some Audit) = kept_too
     of None = (kept, kept_too)

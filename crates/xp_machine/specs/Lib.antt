@@ -1,3 +1,4 @@
+pub mod Audited
 pub mod Cpus
 pub mod Outcome
 pub mod Pieces

@@ -3,6 +3,7 @@ use Rattle.std.specs.Prelude.{◌++◌, ◌≡◌, ℕ, List, map, take}
 use Rattle.xp_words.specs.declared.reply.LogLine.{LogLine}
 use Rattle.trace_text.specs.declared.trace.Trace.{Trace}
 use Rattle.machine_build.specs.Opening.{IsOpening}
+use Rattle.machine_image.specs.Image.{image_of}
 use Rattle.trace_gen.specs.Generated.{generated, generated_machine}
 use Rattle.report_text.specs.ReportOf.{report_of}
 use Rattle.report_text.specs.SummaryOf.{summary_of}
@@ -56,6 +57,12 @@ pub record RanTrace (t : Trace) (gates : List Gate) (text : List ℕ) : Type 0 w
   pub closed : Stage
   pub ran : RanTo t gates closed
   pub report : text ≡ report_at t.layout closed
+
+-- The bytes are the image of the words at the end of such a run of the trace.
+pub record ImagedTrace (t : Trace) (gates : List Gate) (bytes : List ℕ) : Type 0 where
+  pub closed : Stage
+  pub ran : RanTo t gates closed
+  pub image : bytes ≡ image_of t.layout closed.board.words
 
 -- The text is the summary of the words and the logs at the end of such a run of the generated trace of so many operations.
 pub record RanGenerated (operations : ℕ) (gates : List Gate) (text : List ℕ) : Type 0 where

@@ -1,4 +1,4 @@
--- The exit numbers, and the texts that are written where there is no trace.
+-- The exit numbers, and the texts that are written where there is no trace or no image.
 use Rattle.std.specs.Prelude.{ℕ, List, ◌++◌, codes, decimal}
 use Rattle.trace_lines.specs.declared.fault.LineFault.{LineFault}
 use Rattle.trace_lines.specs.declared.fault.LineFault.TheVariants.{Passed, Bad}
@@ -6,6 +6,8 @@ use Rattle.trace_lines.specs.declared.fault.Cause.{Cause}
 use Rattle.trace_lines.specs.declared.fault.Cause.TheVariants as causes
 use Rattle.trace_lines.specs.declared.fault.What.{What}
 use Rattle.trace_lines.specs.declared.fault.What.TheVariants as whats
+use Rattle.walk_audit.specs.declared.verdict.Verdict.{Verdict}
+use Rattle.walk_audit.specs.declared.verdict.Verdict.TheVariants.{Sound}
 use Rattle.xp_machine.specs.declared.status.Status.{Status}
 use Rattle.xp_machine.specs.declared.status.Status.TheVariants as status
 
@@ -17,6 +19,8 @@ exit_of status.TooLarge = 4
 exit_of status.ReadFault = 5
 exit_of status.WriteFault = 6
 exit_of status.Memory = 7
+exit_of status.BadImage = 8
+exit_of status.Unsound = 9
 
 abbrev pub cause_text : Cause → List ℕ
 cause_text causes.End = codes "end"
@@ -43,3 +47,12 @@ fault_text line (Passed what number) = codes "too large line " ++ (decimal line 
 unfoldable pub fault_status : LineFault → Status
 fault_status (Bad cause) = status.BadTrace
 fault_status (Passed what number) = status.TooLarge
+
+-- what is written where the first fault of bytes that are no image is at this place
+unfoldable pub bad_image_text : ℕ → List ℕ
+bad_image_text at = codes "bad image at " ++ (decimal at ++ codes "\n")
+
+-- sound words, or others
+abbrev pub verdict_status : Verdict → Status
+verdict_status Sound = status.Done
+verdict_status _ = status.Unsound

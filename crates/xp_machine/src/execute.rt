@@ -5,12 +5,13 @@ ghost use Rattle.trace_text.specs.Counted.{ops_of};
 ghost use Rattle.trace_text.specs.WellFormed.{IsWellFormed};
 ghost use Rattle.vcpu_runners.specs.Turns.{pending_of};
 ghost use Rattle.vcpu_runners.specs.Cpus.{AreShort, first_cpus};
-ghost use Rattle.xp_machine.specs.Ran.{RanGenerated, RanToWords, RanTrace, first_gates, log_of};
+ghost use Rattle.xp_machine.specs.Ran.{ImagedTrace, RanGenerated, RanToWords, RanTrace, first_gates, log_of};
 ghost use Rattle.vcpu_runners.specs.Rows.{cpus_of, gates_of};
 
 use crate::turns::run_all;
 use dead_domains::a_burial_leaves_only_what_is_listed;
 use machine_build::opening;
+use machine_image::write_image;
 use opening_rule::opening_words_are_sound;
 use report_text::{report, summary};
 use shared_board::PlainBoard;
@@ -125,6 +126,21 @@ pub fn execute(
     let layout = trace.layout.copy();
     let (words, runners) = run_words(alloc, trace, gates)?;
     report_with(alloc, &layout, &words, runners)
+}
+
+/// Runs a trace in the same way, and writes the closing machine out as an image.
+pub fn execute_imaged(
+    alloc: Global,
+    trace: Trace,
+    gates: Vec<Box<dyn Preempt + Send>>,
+) -> Result<Vec<u8>, AllocError>
+    requires well { IsWellFormed trace }
+    requires gates { 16 ≤ vec_len gates }
+    ensures { IfOk result (λ v. ImagedTrace trace (map policy gates.items) v.items) }
+{
+    let layout = trace.layout.copy();
+    let (words, _) = run_words(alloc, trace, gates)?;
+    write_image(alloc, &layout, &words)
 }
 
 /// Runs the generated trace of so many operations in the same way, and sums up how they were answered.

@@ -1,6 +1,10 @@
-//! What holds of the turns of a run, as contracts of functions that do nothing.
+//! What holds of the turns of a run, and of the image that it leaves, as contracts of functions that do nothing.
 ghost use Rattle.std.specs.Prelude.{ℕ, ◌≡◌, ◌+◌, ◌-◌, ◌<◌, ◌∷◌, ◌++◌, All, List, true, slice_get, Option, Some};
 ghost use Rattle.xp_words.specs.Machine.{Machine};
+ghost use Rattle.xp_board.specs.Sound.{SoundWords};
+ghost use Rattle.machine_image.specs.Image.{image_of};
+ghost use Rattle.trace_text.specs.declared.trace.Trace.{Trace};
+ghost use Rattle.xp_machine.specs.Ran.{ImagedTrace};
 ghost use Rattle.xp_words.specs.declared.ops.Call.{Call};
 ghost use Rattle.xp_words.specs.declared.ops.Op.{Op};
 ghost use Rattle.xp_preempt.specs.Gates.{Gate, Heard, last_ask};
@@ -36,4 +40,9 @@ pub fn no_element_is_done_past_a_yes()
     ensures silent { (n : Machine) (v : ℕ) (c : Processing) (s t : Stage) (m : MakesStagedTurn n v c s t) → AsksNothingWithin (elements_tried m.turn) → HearsNoWithin (elements_tried m.turn) }
     ensures passes { (n : Machine) (v : ℕ) (c : Processing) (s t : Stage) (op : Op) (task : Task) (m : MakesStagedTurn n v c s t) → next_of c ≡ Some op → task_of op ≡ Some task → All (λ (x : Tried). PassesYes task x → ⊥) (elements_tried m.turn) → HearsNoWithin (elements_tried m.turn) }
     ensures calls { (n : Machine) (v : ℕ) (c : Processing) (s t : Stage) (op : Op) (calls : List Call) (m : MakesStagedTurn n v c s t) → next_of c ≡ Some op → job_of op ≡ OfCalls calls → All (λ (x : Tried). OfJob PassesYes (OfCalls calls) x → ⊥) (elements_tried m.turn) → HearsNoWithin (elements_tried m.turn) }
+{}
+
+/// An image that a run leaves is that of sound words.
+pub fn an_image_that_a_run_leaves_is_sound()
+    ensures { (t : Trace) (gates : List Gate) (bytes : List ℕ) → ImagedTrace t gates bytes → (words : List ℕ) × SoundWords t.layout words × (bytes ≡ image_of t.layout words) }
 {}

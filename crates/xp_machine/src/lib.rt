@@ -1,6 +1,8 @@
-//! A whole run of the machine: from the bytes of a trace to the bytes of a report.
+//! A whole run of the machine: from the bytes of a trace to the bytes of a report or of an image; and the audit of an image.
 #![tactic(auto)]
 
+mod audits;
+mod due;
 mod execute;
 pub mod laws;
 mod running;

@@ -1,9 +1,9 @@
-//! The two manners in which a trace is run.
+//! The manners in which a trace is run, and what is shown of it.
 ghost use Rattle.std.specs.Prelude.{◌≤◌, map, vec_len, IfOk};
 ghost use Rattle.trace_text.specs.WellFormed.{IsWellFormed};
 ghost use Rattle.xp_machine.specs.Outcome.{RanBy};
 
-use crate::execute::execute;
+use crate::execute::{execute, execute_imaged};
 use crate::threaded::replay;
 use std::alloc::{AllocError, Global};
 use std::sync::Wait;
@@ -11,14 +11,13 @@ use std::thread::Threads;
 use trace_text::Trace;
 use xp_preempt::Preempt;
 
-/// What runs a trace, and gives the text of its report.
+/// What runs a trace, and gives the bytes that show it.
 pub(crate) trait Running {
     ghost use Rattle.std.specs.Prelude.{◌≤◌, map, vec_len, IfOk};
-    ghost use Rattle.command_words.specs.declared.asked.Manner.{Manner};
     ghost use Rattle.trace_text.specs.WellFormed.{IsWellFormed};
-    ghost use Rattle.xp_machine.specs.Outcome.{RanBy};
+    ghost use Rattle.xp_machine.specs.Outcome.{RanBy, Shown};
 
-    ghost manner: { Manner };
+    ghost shown: { Shown };
 
     // What it asks of the types that it runs with.
     ghost crosses: { Type 0 };
@@ -32,7 +31,7 @@ pub(crate) trait Running {
         requires well { IsWellFormed trace }
         requires gates { 16 ≤ vec_len gates }
         requires crosses { crosses }
-        ensures { IfOk result (λ v. RanBy manner trace (map policy gates.items) v.items) };
+        ensures { IfOk result (λ v. RanBy shown trace (map policy gates.items) v.items) };
 }
 
 /// In one thread, by the turns that the trace asks for.
@@ -42,8 +41,9 @@ pub(crate) struct InTurns;
 impl Running for InTurns {
     ghost use Rattle.std.specs.Prelude.{⊤};
     ghost use Rattle.command_words.specs.declared.asked.Manner.TheVariants.{Turns};
+    ghost use Rattle.xp_machine.specs.Outcome.{reported};
 
-    ghost manner = { Turns };
+    ghost shown = { reported Turns };
 
     ghost crosses = { ⊤ };
 
@@ -57,6 +57,28 @@ impl Running for InTurns {
     }
 }
 
+/// The same, but for the image of the closing machine in place of the report.
+#[derive(Drop)]
+pub(crate) struct Imaging;
+
+impl Running for Imaging {
+    ghost use Rattle.std.specs.Prelude.{⊤};
+    ghost use Rattle.xp_machine.specs.Outcome.{imaged};
+
+    ghost shown = { imaged };
+
+    ghost crosses = { ⊤ };
+
+    fn run_trace(
+        &self,
+        alloc: Global,
+        trace: Trace,
+        gates: Vec<Box<dyn Preempt + Send>>,
+    ) -> Result<Vec<u8>, AllocError> {
+        execute_imaged(alloc, trace, gates)
+    }
+}
+
 /// Each vCPU in a thread of its own, to the end of its script.
 #[derive(Drop)]
 pub(crate) struct InThreads<'a, R> {
@@ -66,8 +88,9 @@ pub(crate) struct InThreads<'a, R> {
 impl<'a, R: Threads + Wait + Sync> Running for InThreads<'a, R> {
     ghost use Rattle.std.specs.Thread.{IsSync};
     ghost use Rattle.command_words.specs.declared.asked.Manner.TheVariants.{Replay};
+    ghost use Rattle.xp_machine.specs.Outcome.{reported};
 
-    ghost manner = { Replay };
+    ghost shown = { reported Replay };
 
     ghost crosses = { IsSync R.row };
 

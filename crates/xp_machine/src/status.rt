@@ -4,13 +4,13 @@ ghost use Rattle.xp_machine.specs.Texts.{exit_of};
 /// How a run ended.
 #[derive(Clone, Copy, Debug, PartialEq, Eq)]
 pub enum Status {
-    /// The report was written.
+    /// What was asked for was written: a report, a summary, an image, or that an image is sound.
     Done,
     /// The words of the command line are none of those that are known; nothing was read or written.
     BadWords,
     /// The bytes are no trace; a line with the place and the cause was written.
     BadTrace,
-    /// A quantity of the trace passes its limit; a line with the place and the number was written.
+    /// A quantity of the trace, or the number of an image's bytes, passes its limit; a line with the place and the number was written.
     TooLarge,
     /// The source failed; nothing was written.
     ReadFault,
@@ -18,6 +18,10 @@ pub enum Status {
     WriteFault,
     /// Memory ran out; nothing was written.
     Memory,
+    /// The bytes are no image; a line with the place of the first fault was written.
+    BadImage,
+    /// The words of the image are not sound; a line with what breaks them first was written.
+    Unsound,
 }
 
 impl Status {
@@ -33,6 +37,8 @@ impl Status {
             Status::ReadFault => 5,
             Status::WriteFault => 6,
             Status::Memory => 7,
+            Status::BadImage => 8,
+            Status::Unsound => 9,
         }
     }
 }

@@ -1,10 +1,12 @@
-ghost use Rattle.std.specs.Prelude.{◌≡◌, Some, IfOk};
-ghost use Rattle.xp_machine.specs.Texts.{cause_text, what_text, fault_text};
+ghost use Rattle.std.specs.Prelude.{◌≡◌, ◌++◌, Some, IfOk, codes};
+ghost use Rattle.walk_audit.specs.Lines.{verdict_text};
+ghost use Rattle.xp_machine.specs.Texts.{bad_image_text, cause_text, what_text, fault_text};
 ghost use Rattle.trace_lines.specs.declared.fault.LineFault.TheVariants.{Passed, Bad};
 
 use std::alloc::{AllocError, Global};
 use std::fmt;
 use trace_lines::{Cause, What};
+use walk_audit::Verdict;
 
 #[derive(Drop)]
 struct CauseText(Cause);
@@ -60,5 +62,22 @@ pub fn large_text(alloc: Global, line: u32, what: What, number: u64) -> Result<V
 {
     let what = WhatText(what);
     let text = format!(in alloc; "too large line {line}: {what} {number}\n")?;
+    Ok(text.into_bytes())
+}
+
+/// What is written for bytes whose first fault as an image is there.
+#[tactic(auto, unfolding(crate::specs::Texts::bad_image_text))]
+pub fn bad_image(alloc: Global, at: u64) -> Result<Vec<u8>, AllocError>
+    ensures { IfOk result (λ v. v.items ≡ bad_image_text at) }
+{
+    let text = format!(in alloc; "bad image at {at}\n")?;
+    Ok(text.into_bytes())
+}
+
+/// What is written for the words of an image.
+pub fn verdict_line(alloc: Global, verdict: Verdict) -> Result<Vec<u8>, AllocError>
+    ensures { IfOk result (λ v. v.items ≡ verdict_text verdict ++ codes "\n") }
+{
+    let text = format!(in alloc; "{verdict}\n")?;
     Ok(text.into_bytes())
 }

@@ -2,13 +2,14 @@ ghost use Rattle.std.specs.Prelude.{◌≡◌, ◌≢◌, ◌≤◌, ◌↔◌, 
 ghost use Rattle.xp_io.specs.Causes.{Rose};
 ghost use Rattle.trace_text.specs.TraceOf.{trace_of};
 ghost use Rattle.vcpu_runners.specs.Gates.{ArePaced};
-ghost use Rattle.xp_machine.specs.Outcome.{GeneratedOutcome, IsAnswer, IsDue, Outcome, OutcomeBy, reads_trace, serial_of};
+ghost use Rattle.xp_machine.specs.Outcome.{GeneratedOutcome, IsAnswer, IsDue, Outcome, OutcomeBy, Shown, reads, serial_of};
 ghost use Rattle.command_words.specs.Words.{words_ask};
-ghost use Rattle.command_words.specs.declared.asked.Manner.{Manner};
 ghost use Rattle.xp_preempt.specs.Gates.{Gate, IsPaced};
 
+use crate::audits::audit_what_is_read;
+use crate::due::{Due, Early};
 use crate::execute::execute_generated;
-use crate::running::{InThreads, InTurns, Running};
+use crate::running::{Imaging, InThreads, InTurns, Running};
 use crate::status::Status;
 use crate::texts::{bad_text, large_text};
 use command_words::{Asked, Manner, asked_of};
@@ -20,13 +21,6 @@ use trace_text::{MAX_BYTES, TraceFault, read_trace};
 use xp_io::{ReadAllError, Sink, Source, read_all, write_whole};
 use xp_preempt::Preempt;
 
-// A status, and the text that is due with it.
-#[derive(Drop)]
-struct Due {
-    status: Status,
-    text: Vec<u8>,
-}
-
 // What is due for the bytes of a trace, which is run with these gates.
 #[tactic(auto, unfolding(crate::specs::Texts::fault_status))]
 fn answer<M: Running>(
@@ -37,7 +31,7 @@ fn answer<M: Running>(
 ) -> Result<Due, AllocError>
     requires gates { 16 ≤ vec_len gates }
     requires crosses { M.crosses }
-    ensures { IfOk result (λ d. IsAnswer M.manner (map policy gates.items) (trace_of bytes.now) d.status d.text.items) }
+    ensures { IfOk result (λ d. IsAnswer M.shown (map policy gates.items) (trace_of bytes.now) d.status d.text.items) }
 {
     match read_trace(alloc, bytes) {
         Ok(trace) => {
@@ -68,19 +62,13 @@ fn answer<M: Running>(
 // What is due for more bytes than a trace may have.
 #[tactic(auto, unfolding(crate::specs::Texts::fault_status, trace_text::specs::TraceOf::trace_of))]
 fn too_long(alloc: Global) -> Result<Due, AllocError>
-    ensures { IfOk result (λ d. (manner : Manner) (set : List Gate) (bytes : List ℕ) → length bytes ≡ 67108865 → IsAnswer manner set (trace_of bytes) d.status d.text.items) }
+    ensures { IfOk result (λ d. (shown : Shown) (set : List Gate) (bytes : List ℕ) → length bytes ≡ 67108865 → IsAnswer shown set (trace_of bytes) d.status d.text.items) }
 {
     let text = large_text(alloc, 0, What::Bytes, 67_108_865)?;
     Ok(Due {
         status: Status::TooLarge,
         text,
     })
-}
-
-// Why nothing is to be written.
-enum Early {
-    Failed,
-    Memory,
 }
 
 // What is due for what the source gives.
@@ -92,7 +80,7 @@ fn gather<M: Running, S: Source>(
 ) -> Result<Due, Early>
     requires gates { 16 ≤ vec_len gates }
     requires crosses { M.crosses }
-    ensures due { IfOk result (λ d. IsDue M.manner (map policy gates.items) (S.left source.old) (S.left source.new) d.status d.text.items) }
+    ensures due { IfOk result (λ d. IsDue M.shown (map policy gates.items) (S.left source.old) (S.left source.new) d.status d.text.items) }
     ensures failed { IsErrOf result Early.Failed → Rose (S.faults source.old) (S.faults source.new) }
     ensures later { S.faults source.old ≤ S.faults source.new }
     ensures kept { IfOk result (λ _. S.faults source.new ≡ S.faults source.old) }
@@ -145,7 +133,7 @@ fn run_with<M: Running, S: Source, K: Sink>(
 ) -> Status
     requires gates { 16 ≤ vec_len gates }
     requires crosses { M.crosses }
-    ensures outcome { Outcome M.manner (map policy gates.items) (S.left source.old) (S.left source.new) (K.taken sink.old) (K.taken sink.new) result }
+    ensures outcome { Outcome (IsDue M.shown (map policy gates.items)) (S.left source.old) (S.left source.new) (K.taken sink.old) (K.taken sink.new) result }
     ensures words { result ≢ Status.BadWords }
     ensures read { result ≡ Status.ReadFault → Rose (S.faults source.old) (S.faults source.new) }
     ensures write { result ≡ Status.WriteFault → Rose (K.faults sink.old) (K.faults sink.new) }
@@ -186,11 +174,13 @@ fn run_generated<K: Sink>(
 }
 
 /// Runs a trace: reads it to its end, runs it, and writes what is due. `words` are the words of the command line
-/// without the program's name: `turns` or `replay`, each perhaps with `--preempt N` or `--preempt=N`, which sets the pace of the gates.
-/// With `turns` one thread takes the turns that the trace asks for; with `replay` each vCPU has a thread of its own and takes turns until it is
-/// retired, so that call returns only where all are. With `generate N` the trace is the generated one of N operations: it is run as by `turns`
-/// at pace 0, and its summary is written. Then, and where the words are others, nothing is read. Gate v belongs to vCPU v, and is let go when
-/// the call returns; the further ones are let go at once.
+/// without the program's name: `turns`, `replay` or `image`, each perhaps with `--preempt N` or `--preempt=N`, which sets the pace of the gates.
+/// With `turns` one thread takes the turns that the trace asks for, and with `image` too, but what is written is the image of the closing machine;
+/// with `replay` each vCPU has a thread of its own and takes turns until it is retired, so that call returns only where all are. With
+/// `generate N` the trace is the generated one of N operations: it is run as by `turns` at pace 0, and its summary is written. Then, and where
+/// the words are others, nothing is read. With `audit`, alone or with a path, an image is read, and whether its words are sound is written; that
+/// the source is the file of the path is the caller's business. Gate v belongs to vCPU v, and is let go when the call returns; the further ones
+/// are let go at once.
 pub fn run<R: Threads + Wait + Sync, S: Source, K: Sink>(
     rt: &R,
     alloc: Global,
@@ -204,10 +194,10 @@ pub fn run<R: Threads + Wait + Sync, S: Source, K: Sink>(
     // Which bytes were taken, what they spell, and what was written of the text that is due for it.
     ensures outcome { OutcomeBy (words_ask (map string_bytes words.now)) (map policy gates.items) (S.left source.old) (S.left source.new) (K.taken sink.old) (K.taken sink.new) result }
 
-    // Where no trace is to be read, the source stays as it was.
-    ensures unread { reads_trace (words_ask (map string_bytes words.now)) ≡ false → (S.left source.new ≡ S.left source.old) × (S.faults source.new ≡ S.faults source.old) }
+    // Where nothing is to be read, the source stays as it was.
+    ensures unread { reads (words_ask (map string_bytes words.now)) ≡ false → (S.left source.new ≡ S.left source.old) × (S.faults source.new ≡ S.faults source.old) }
 
-    // The words are refused exactly where they ask for no run.
+    // The words are refused exactly where they ask for nothing.
     ensures words { (result ≡ Status.BadWords) ↔ (words_ask (map string_bytes words.now) ≡ None) }
 
     // A fault is answered only where its object counted one in this call, and no other answer hides one.
@@ -224,7 +214,11 @@ pub fn run<R: Threads + Wait + Sync, S: Source, K: Sink>(
                 Manner::Replay => run_with(&InThreads { rt }, alloc, source, sink, gates),
             }
         }
+        Ok(Some(Asked::Image { pace })) => {
+            run_with(&Imaging, alloc, source, sink, paced(gates, pace))
+        }
         Ok(Some(Asked::Generate { operations })) => run_generated(alloc, operations, sink, gates),
+        Ok(Some(Asked::Audit)) => audit_what_is_read(alloc, source, sink),
         Ok(None) => Status::BadWords,
         Err(_) => Status::Memory,
     }
@@ -243,7 +237,7 @@ pub fn run_serial<S: Source, K: Sink>(
     ensures words { result ≡ Status.BadWords → serial_of (words_ask (map string_bytes words.now)) ≡ None }
     ensures known { serial_of (words_ask (map string_bytes words.now)) ≡ None → (result ≡ Status.BadWords) ⊎ (result ≡ Status.Memory) }
     ensures unknown { words_ask (map string_bytes words.now) ≡ None → result ≡ Status.BadWords }
-    ensures unread { reads_trace (serial_of (words_ask (map string_bytes words.now))) ≡ false → (S.left source.new ≡ S.left source.old) × (S.faults source.new ≡ S.faults source.old) }
+    ensures unread { reads (serial_of (words_ask (map string_bytes words.now))) ≡ false → (S.left source.new ≡ S.left source.old) × (S.faults source.new ≡ S.faults source.old) }
     ensures read { result ≡ Status.ReadFault → Rose (S.faults source.old) (S.faults source.new) }
     ensures write { result ≡ Status.WriteFault → Rose (K.faults sink.old) (K.faults sink.new) }
     ensures read_kept { result ≢ Status.ReadFault → S.faults source.new ≡ S.faults source.old }
@@ -259,7 +253,9 @@ pub fn run_serial<S: Source, K: Sink>(
                 manner: Manner::Replay,
                 ..
             } => Status::BadWords,
+            Asked::Image { pace } => run_with(&Imaging, alloc, source, sink, paced(gates, pace)),
             Asked::Generate { operations } => run_generated(alloc, operations, sink, gates),
+            Asked::Audit => audit_what_is_read(alloc, source, sink),
         },
         Ok(None) => Status::BadWords,
         Err(_) => Status::Memory,

@@ -1,16 +1,28 @@
 use Rattle.std.proofs.Common.{rules, ap, ap₂, ◌≡◌, ◌∙◌}
 use Rattle.std.proofs.lemmas.Result.{IfOk-weaker}
 use Rattle.clap.specs.Words.{App, app_of, with_subcommand}
-use Rattle.command_words.specs.Words.{name_of}
-use Rattle.command_words.specs.Table.{paced, program}
-use Rattle.command_words.specs.declared.asked.Manner.TheVariants.{Turns, Replay}
+use Rattle.command_words.specs.Words.{word_of}
+use Rattle.command_words.specs.Table.{generator, paced, program}
+use Rattle.command_words.specs.declared.asked.CommandName.TheVariants as names
 use Rattle.command_words.proofs.reading.commands.Goals as goal
+
+abbrev one : App
+one = with_subcommand program (paced (word_of names.Turns)).top
+
+abbrev two : App
+two = with_subcommand one (paced (word_of names.Replay)).top
+
+abbrev three : App
+three = with_subcommand two (paced (word_of names.Image)).top
+
+abbrev four : App
+four = with_subcommand three generator.top
 
 pub returns : goal.returns
 returns c =
     let top_is : app_of c.subcommand_required.result ≡ program = search rules in
-    let first_is : app_of c.in_ok-subcommand.field-0 ≡ with_subcommand program (paced (name_of Turns)).top =
-    c.in_ok-subcommand.ensures.shape (search rules) ∙ ap₂ with_subcommand top_is (ap (λ (a : App). a.top) c.in_ok-turns.ensures.app) in
-    let second_is : app_of c.in_ok-subcommand-2.field-0 ≡ with_subcommand (with_subcommand program (paced (name_of Turns)).top) (paced (name_of Replay)).top =
-    c.in_ok-subcommand-2.ensures.shape (search rules) ∙ ap₂ with_subcommand first_is (ap (λ (a : App). a.top) c.in_ok-replay.ensures.app) in
-    IfOk-weaker c.subcommand-3.result _ _ (λ r h. h.shape (search rules) ∙ ap₂ with_subcommand second_is (ap (λ (a : App). a.top) c.in_ok-generate.ensures.app)) c.subcommand-3.ensures
+    let one_is : app_of c.in_ok-subcommand.field-0 ≡ one = c.in_ok-subcommand.ensures.shape c.in_ok-turns.ensures.local ∙ ap₂ with_subcommand top_is (ap (λ (a : App). a.top) c.in_ok-turns.ensures.app) in
+    let two_is : app_of c.in_ok-subcommand-2.field-0 ≡ two = c.in_ok-subcommand-2.ensures.shape c.in_ok-replay.ensures.local ∙ ap₂ with_subcommand one_is (ap (λ (a : App). a.top) c.in_ok-replay.ensures.app) in
+    let three_is : app_of c.in_ok-subcommand-3.field-0 ≡ three = c.in_ok-subcommand-3.ensures.shape c.in_ok-image.ensures.local ∙ ap₂ with_subcommand two_is (ap (λ (a : App). a.top) c.in_ok-image.ensures.app) in
+    let four_is : app_of c.in_ok-subcommand-4.field-0 ≡ four = c.in_ok-subcommand-4.ensures.shape c.in_ok-generate.ensures.local ∙ ap₂ with_subcommand three_is (ap (λ (a : App). a.top) c.in_ok-generate.ensures.app) in
+    IfOk-weaker c.subcommand-5.result _ _ (λ r h. h.shape c.in_ok-audit.ensures.local ∙ ap₂ with_subcommand four_is (ap (λ (a : App). a.top) c.in_ok-audit.ensures.app)) c.subcommand-5.ensures

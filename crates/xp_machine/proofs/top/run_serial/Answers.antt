@@ -1,22 +1,32 @@
-use Rattle.std.proofs.Common.{rules, ◌≡◌, Some, map, string_bytes, sym, ap, ◌∙◌}
+use Rattle.std.proofs.Common.{rules, ◌≡◌, Some, map, refl, string_bytes, sym, ap, ◌∙◌}
 use Rattle.command_words.specs.declared.asked.Asked.TheVariants.{Run}
 use Rattle.command_words.specs.declared.asked.Manner.TheVariants.{Turns, Replay}
 use Rattle.command_words.proofs.Within.{generated_within}
 use Rattle.xp_machine.specs.Outcome.{serial_of}
-use Rattle.xp_machine.proofs.Statuses.{memory_outcome, no_outcome, outcome_by}
+use Rattle.xp_machine.proofs.Statuses.{memory_outcome, no_outcome, outcome_by, outcome_untold}
 use Rattle.xp_machine.proofs.top.run_serial.Goals as goal
 
 pub returns-in-Run-Turns-default-clause-outcome : goal.returns-in-Run-Turns-default-clause-outcome
 returns-in-Run-Turns-default-clause-outcome g c =
     let manner : c.in-Run-Turns-default.manner ≡ Turns = search rules in
     let asked = sym c.in-Ok-Some.ensures.reads ∙ c.in-Ok-Some.field-0-is ∙ ap Some c.in-Run-Turns-default.is ∙ ap (λ m. Some (Run m c.in-Run-Turns-default.pace)) manner in
-    outcome_by _ _ _ _ _ _ _ _ _ (ap serial_of asked) c.paced.ensures.paced c.run_with.ensures.outcome
+    outcome_by _ _ _ _ _ _ _ _ _ _ (ap serial_of asked) refl c.paced.ensures.paced c.run_with.ensures.outcome
 
 pub returns-in-Run-Replay-default-clause-outcome : goal.returns-in-Run-Replay-default-clause-outcome
 returns-in-Run-Replay-default-clause-outcome g c =
     let manner : c.in-Run-Replay-default.manner ≡ Replay = search rules in
     let asked = sym c.in-Ok-Some.ensures.reads ∙ c.in-Ok-Some.field-0-is ∙ ap Some c.in-Run-Replay-default.is ∙ ap (λ m. Some (Run m c.in-Run-Replay-default.pace)) manner in
     no_outcome _ _ _ _ _ (ap serial_of asked) (search rules) (search rules)
+
+pub returns-in-Image-clause-outcome : goal.returns-in-Image-clause-outcome
+returns-in-Image-clause-outcome g c =
+    let asked = sym c.in-Ok-Some.ensures.reads ∙ c.in-Ok-Some.field-0-is ∙ ap Some c.in-Image.is in
+    outcome_by _ _ _ _ _ _ _ _ _ _ (ap serial_of asked) refl c.paced-in-Image.ensures.paced c.run_with-in-Image.ensures.outcome
+
+pub returns-in-Audit-clause-outcome : goal.returns-in-Audit-clause-outcome
+returns-in-Audit-clause-outcome g c =
+    let asked = sym c.in-Ok-Some.ensures.reads ∙ c.in-Ok-Some.field-0-is ∙ ap Some c.in-Audit.is in
+    outcome_untold _ _ _ _ _ _ _ _ (ap serial_of asked) refl c.audit_what_is_read.ensures.outcome
 
 pub run_generated-requires-clause-least : goal.run_generated-requires-clause-least
 run_generated-requires-clause-least g c = (generated_within (map string_bytes c.args.words.now) _ (sym c.in-Ok-Some.ensures.reads ∙ c.in-Ok-Some.field-0-is ∙ ap Some c.in-Generate.is)).0

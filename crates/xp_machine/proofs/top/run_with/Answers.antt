@@ -1,9 +1,10 @@
+use Rattle.xp_machine.specs.Outcome.{IsDue}
 use Rattle.xp_machine.proofs.Statuses.{due_has_text}
 use Rattle.xp_machine.proofs.top.run_with.Goals as goal
 
 pub returns-in-Ok-write_whole-clause-outcome : goal.returns-in-Ok-write_whole-clause-outcome
 returns-in-Ok-write_whole-clause-outcome g c =
-    (due_has_text _ _ _ _ _ _ c.in-Ok.ensures.due).wrote _ _ _ _ _ _ (c.in-Ok.due.text.items, c.in-Ok.ensures.due, rw (← c.deref.ensures.value) c.in-Ok-write_whole.ensures.whole)
+    (due_has_text _ _ _ _ _ _ c.in-Ok.ensures.due).wrote (IsDue _ _) _ _ _ _ (c.in-Ok.due.text.items, c.in-Ok.ensures.due, rw c.deref.ensures.value at c.in-Ok-write_whole.ensures.whole)
 
 pub returns-in-Ok-write_whole-clause-words : goal.returns-in-Ok-write_whole-clause-words
 returns-in-Ok-write_whole-clause-words g c e = (due_has_text _ _ _ _ _ _ c.in-Ok.ensures.due).no_words e

@@ -1,0 +1,107 @@
+//! The audit of what is read.
+ghost use Rattle.std.specs.Prelude.{◌≡◌, ◌≢◌, ◌≤◌, ℕ, List, Option, IfOk, IsErrOf};
+ghost use Rattle.xp_io.specs.Causes.{Rose, TookOneMore};
+ghost use Rattle.xp_machine.specs.Audited.{IsAuditDue, IsJudgement, TellsLength};
+ghost use Rattle.xp_machine.specs.Outcome.{Outcome};
+ghost use Rattle.xp_machine.specs.Texts.{verdict_status};
+
+use crate::due::{Due, Early};
+use crate::status::Status;
+use crate::texts::{bad_image, large_text, verdict_line};
+use machine_image::{ImageFault, read_image};
+use std::alloc::{AllocError, Global};
+use trace_lines::What;
+use walk_audit::{Verdict, audit};
+use xp_io::{ReadAllError, Sink, Source, read_all, write_whole};
+
+// As many bytes as an image may have: more than any has.
+const MAX_BYTES: usize = 536_870_912;
+
+fn status_of(verdict: Verdict) -> Status
+    ensures { result ≡ verdict_status verdict }
+{
+    match verdict {
+        Verdict::Sound => Status::Done,
+        _ => Status::Unsound,
+    }
+}
+
+// What is due for bytes that were read to their end.
+fn judge(alloc: Global, bytes: &[u8]) -> Result<Due, AllocError>
+    ensures { IfOk result (λ d. IsJudgement bytes.now d.status d.text.items) }
+{
+    match read_image(alloc, bytes) {
+        Ok((layout, words)) => {
+            let verdict = audit(alloc, &layout, &words)?;
+            let text = verdict_line(alloc, verdict)?;
+            Ok(Due {
+                status: status_of(verdict),
+                text,
+            })
+        }
+        Err(ImageFault::Bad { at }) => {
+            let text = bad_image(alloc, at)?;
+            Ok(Due {
+                status: Status::BadImage,
+                text,
+            })
+        }
+        Err(ImageFault::Memory) => Err(AllocError),
+    }
+}
+
+// What is due for more bytes than an image may have.
+fn too_long(alloc: Global) -> Result<Due, AllocError>
+    ensures { IfOk result (λ d. (from from' : Option (List ℕ)) → TookOneMore from from' 536870912 → TellsLength from from' d.status d.text.items) }
+{
+    let text = large_text(alloc, 0, What::Bytes, 536_870_913)?;
+    Ok(Due {
+        status: Status::TooLarge,
+        text,
+    })
+}
+
+// What is due for what the source gives.
+fn gather<S: Source>(alloc: Global, source: &mut S) -> Result<Due, Early>
+    ensures due { IfOk result (λ d. IsAuditDue (S.left source.old) (S.left source.new) d.status d.text.items) }
+    ensures failed { IsErrOf result Early.Failed → Rose (S.faults source.old) (S.faults source.new) }
+    ensures later { S.faults source.old ≤ S.faults source.new }
+    ensures kept { IfOk result (λ _. S.faults source.new ≡ S.faults source.old) }
+    ensures unfailed { IsErrOf result Early.Memory → S.faults source.new ≡ S.faults source.old }
+{
+    match read_all(alloc, source, MAX_BYTES) {
+        Ok(bytes) => match judge(alloc, &bytes) {
+            Ok(due) => Ok(due),
+            Err(_) => Err(Early::Memory),
+        },
+        Err(ReadAllError::Large) => match too_long(alloc) {
+            Ok(due) => Ok(due),
+            Err(_) => Err(Early::Memory),
+        },
+        Err(ReadAllError::Failed) => Err(Early::Failed),
+        Err(ReadAllError::Memory) => Err(Early::Memory),
+    }
+}
+
+/// Reads an image to its end, and writes whether its words are sound, or what breaks them first.
+pub(crate) fn audit_what_is_read<S: Source, K: Sink>(
+    alloc: Global,
+    source: &mut S,
+    sink: &mut K,
+) -> Status
+    ensures outcome { Outcome IsAuditDue (S.left source.old) (S.left source.new) (K.taken sink.old) (K.taken sink.new) result }
+    ensures words { result ≢ Status.BadWords }
+    ensures read { result ≡ Status.ReadFault → Rose (S.faults source.old) (S.faults source.new) }
+    ensures write { result ≡ Status.WriteFault → Rose (K.faults sink.old) (K.faults sink.new) }
+    ensures read_kept { result ≢ Status.ReadFault → S.faults source.new ≡ S.faults source.old }
+    ensures write_kept { result ≢ Status.WriteFault → K.faults sink.new ≡ K.faults sink.old }
+{
+    match gather(alloc, source) {
+        Err(Early::Failed) => Status::ReadFault,
+        Err(Early::Memory) => Status::Memory,
+        Ok(due) => match write_whole(sink, &due.text) {
+            Ok(()) => due.status,
+            Err(_) => Status::WriteFault,
+        },
+    }
+}
