@@ -2,6 +2,7 @@
 #![tactic(auto)]
 
 mod deciding;
+mod lines;
 mod verdict;
 
 pub use deciding::audit;
