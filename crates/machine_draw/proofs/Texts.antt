@@ -1,21 +1,42 @@
 -- The text of one more entry, frame, word, vCPU or domain.
-use Rattle.std.proofs.Common.{◌≡◌, ℕ, ◌+◌, List, [], ◌++◌, refl}
+use Rattle.std.proofs.Common.{◌≡◌, ℕ, ◌+◌, List, [], ◌∷◌, ◌++◌, refl, sym, ap, ◌∙◌, append-nil, Option, Some, None, option_to_list}
+use Rattle.std.specs.List.{flat_map, range_with_len}
+use Rattle.std.proofs.lemmas.Grind.{flat_map-append}
 use Rattle.report_text.specs.Memories.{Memory}
-use Rattle.report_text.proofs.Ranges.{texts_more}
+use Rattle.report_text.proofs.Ranges.{range_more, texts_more}
+use Rattle.machine_draw.specs.declared.tables.Run.{Run}
 use Rattle.machine_draw.specs.declared.tables.Table.{Table}
 use Rattle.machine_draw.specs.Pictures.{Picture}
 use Rattle.machine_draw.specs.Drawing.{cluster_text, cluster_texts}
 use Rattle.machine_draw.specs.Frames.{frame_part, frame_parts}
-use Rattle.machine_draw.specs.Tables.{entry_edge, entry_edges, table_edges, all_edges}
+use Rattle.machine_draw.specs.Tables.{run_at, entry_runs, target_edge, target_edges, table_edges, all_edges}
 use Rattle.machine_draw.specs.Vcpus.{vcpu_part, vcpu_parts, word_edge, word_edges, vcpu_edges}
 
-pub no_entries : (m : Memory) (t : Table) → entry_edges m t 0 ≡ []
-unfolding entry_edges
-no_entries m t = refl
+pub no_runs : (m : Memory) (t : Table) → entry_runs m t 0 ≡ []
+unfolding entry_runs
+no_runs m t = refl
 
-pub entries_more : (m : Memory) (t : Table) (n : ℕ) → entry_edges m t (n + 1) ≡ entry_edges m t n ++ entry_edge m t n
-unfolding entry_edges
-entries_more m t n = texts_more (entry_edge m t) n
+pub runs_more : (m : Memory) (t : Table) (n : ℕ) → entry_runs m t (n + 1) ≡ entry_runs m t n ++ option_to_list (run_at m t n)
+unfolding entry_runs
+runs_more m t n =
+    let f : ℕ → List Run = (λ i. option_to_list (run_at m t i)) in
+    ap (flat_map f) (range_more n) ∙ flat_map-append f (range_with_len 0 n) (n ∷ []) ∙ ap (λ l. flat_map f (range_with_len 0 n) ++ l) (append-nil (f n))
+
+pub one_more : (a b runs more : List Run) (here : Option Run) (r : Run) → b ≡ a ++ r ∷ [] → a ≡ runs → Some r ≡ here → more ≡ runs ++ option_to_list here → b ≡ more
+one_more a b runs more here r pushed before found all =
+    pushed ∙ ap (λ l. l ++ r ∷ []) before ∙ ap (λ o. runs ++ option_to_list o) found ∙ sym all
+
+pub none_more : (a runs more : List Run) (here : Option Run) → a ≡ runs → None ≡ here → more ≡ runs ++ option_to_list here → a ≡ more
+none_more a runs more here before found all =
+    before ∙ sym (append-nil runs) ∙ ap (λ o. runs ++ option_to_list o) found ∙ sym all
+
+pub no_targets : (table : ℕ) (runs : List Run) → target_edges table runs 0 ≡ []
+unfolding target_edges
+no_targets table runs = refl
+
+pub targets_more : (table : ℕ) (runs : List Run) (n : ℕ) → target_edges table runs (n + 1) ≡ target_edges table runs n ++ target_edge table runs n
+unfolding target_edges
+targets_more table runs n = texts_more (target_edge table runs) n
 
 pub no_tables : (m : Memory) → all_edges m 0 ≡ []
 unfolding all_edges

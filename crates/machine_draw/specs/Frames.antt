@@ -72,10 +72,10 @@ node_text f refs kind red =
 abbrev pub run_title : Bool → List ℕ
 run_title free = if free then codes "free" else codes "frames"
 
--- a run of frames, from first to the one before end
+-- a run of frames
 unfoldable pub run_text : ℕ → ℕ → Bool → List ℕ
-run_text first end free =
-    codes "frames" ++ (decimal first ++ (codes "to" ++ (decimal (end - 1) ++ (codes " [label=\"" ++ (run_title free ++ (codes " " ++ (range_text first end ++ codes "\"];\n")))))))
+run_text first last free =
+    codes "frames" ++ (decimal first ++ (codes "to" ++ (decimal last ++ (codes " [label=\"" ++ (run_title free ++ (codes " " ++ (range_text first last ++ codes "\"];\n")))))))
 
 abbrev pub own_node : Picture → ℕ → List ℕ
 own_node p f = node_text f (word p.memory (Refs f)) (word p.memory (Kind f)) (blames_frame p.verdict f)
@@ -83,7 +83,7 @@ own_node p f = node_text f (word p.memory (Refs f)) (word p.memory (Kind f)) (bl
 -- the run that begins at frame f
 unfoldable pub run_node : Picture → ℕ → ℕ → List ℕ
 run_node p c f =
-    if is_first (in_run p c) f then run_text f (run_end (in_run p c) f p.memory.machine.frames) (c == domains_of p) else []
+    if is_first (in_run p c) f then run_text f (run_end (in_run p c) f p.memory.machine.frames - 1) (c == domains_of p) else []
 
 -- what is drawn at frame f of that cluster
 unfoldable pub frame_part : Picture → ℕ → ℕ → List ℕ

@@ -10,7 +10,6 @@ is_first passes i = (i == 0) || not (passes (i - 1))
 unfoldable pub run_end : (ℕ → Bool) → ℕ → ℕ → ℕ
 run_end passes i n = i + prefix_len passes (range_with_len i (n - i))
 
--- a run by its first number and the one behind it
+-- a run by its first number and its last
 unfoldable pub range_text : ℕ → ℕ → List ℕ
-range_text first end =
-    if first + 1 == end then decimal first else decimal first ++ (codes "-" ++ decimal (end - 1))
+range_text first last = if first == last then decimal first else decimal first ++ (codes "-" ++ decimal last)

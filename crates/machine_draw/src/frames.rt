@@ -52,10 +52,10 @@ fn run_title(free: bool) -> &'static str
 
 #[tactic(auto, unfolding(crate::specs::Frames::run_text))]
 fn put_range(out: &mut String, range: RangeText, free: bool) -> Result<(), AllocError>
-    ensures { OnOk result (string_bytes out.new ≡ string_bytes out.old ++ run_text range.first range.end free) }
+    ensures { OnOk result (string_bytes out.new ≡ string_bytes out.old ++ run_text range.first range.last free) }
 {
     let first = range.first;
-    let last = range.end - 1;
+    let last = range.last;
     let title = run_title(free);
     writeln!(out, "frames{first}to{last} [label=\"{title} {range}\"];")
 }
@@ -93,7 +93,7 @@ fn put_run(
     }
     let range = RangeText {
         first: frame,
-        end: run_end(picture, cluster, frame),
+        last: run_end(picture, cluster, frame) - 1,
     };
     let free = cluster == picture.image().layout().domains();
     put_range(out, range, free)

@@ -24,7 +24,7 @@ fn layout() -> Layout {
 }
 
 // Places and words that are not 0. The words of frame f begin at 43 + 515 f: references, kind, m2p and cells.
-const WORDS: [(usize, u64); 28] = [
+const WORDS: [(usize, u64); 29] = [
     // Pages of domains 0 and 1, and the base of the vCPU: frame 0.
     (1, 8),
     (3, 1),
@@ -58,7 +58,9 @@ const WORDS: [(usize, u64); 28] = [
     (4678, 5),
     // Frame 10 of domain 1.
     (5193, 0x8000_0001_8000_0001),
+    // The clock, and the map of free frames.
     (0, 6),
+    (5708, 0x300),
 ];
 
 const DRAWN: &str = r#"digraph machine {
@@ -83,9 +85,8 @@ frames8to9 [label="free 8-9"];
 frame0 -> frame1 [label="0 W"];
 frame1 -> frame2 [label="0 W"];
 frame2 -> frame3 [label="0 W"];
-frame3 -> frame4 [label="0-1 W"];
+frame3 -> frame4 [label="0-1 W, 511 W"];
 frame3 -> frame5 [label="2 R"];
-frame3 -> frame4 [label="511 W"];
 vcpu0 -> frame0 [label="base"];
 }
 "#;

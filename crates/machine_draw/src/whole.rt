@@ -80,20 +80,22 @@ fn put_head(out: &mut String, verdict: Verdict) -> Result<(), AllocError>
 }
 
 #[tactic(auto, unfolding(crate::specs::Drawing::drawing))]
-fn put_drawing(out: &mut String, picture: &Picture<'_>) -> Result<(), AllocError>
+fn put_drawing(alloc: Global, out: &mut String, picture: &Picture<'_>) -> Result<(), AllocError>
     ensures { OnOk result (string_bytes out.new ≡ string_bytes out.old ++ drawing picture.now) }
 {
     let image = picture.image();
     put_head(out, picture.verdict())?;
     put_clusters(out, picture)?;
     put_frames(out, picture, image.layout().domains())?;
-    put_tables(out, image)?;
+    put_tables(alloc, out, image)?;
     put_edges(out, image)?;
     out.push_str("}\n")
 }
 
-/// The machine as a text for Graphviz. Each domain is a cluster of the frames that it owns and of its vCPUs. An edge goes from a page table to each frame that a recorded entry names, and
-/// from a vCPU to each frame that one of its words names. What the verdict names is red. `words` are all words of the machine, by their places, and may be any.
+/// The machine as a text for Graphviz. Each domain is a cluster of the frames that it owns and of its vCPUs. An edge goes from a page table to each
+/// frame that a recorded entry names, and from a vCPU to each frame that one of its words names. What the verdict names is red. `words` are all words
+/// of the machine by their places, and may be any: what is no spelling of a word is printed as a number. It takes memory for a mark for each frame,
+/// for the runs of one table, and for the text.
 pub fn draw(
     alloc: Global,
     layout: &Layout,
@@ -107,6 +109,6 @@ pub fn draw(
     let named = named_frames(alloc, &image)?;
     let picture = Picture::new(&image, &named, verdict);
     let mut out = String::new(alloc);
-    put_drawing(&mut out, &picture)?;
+    put_drawing(alloc, &mut out, &picture)?;
     Ok(out.into_bytes())
 }
