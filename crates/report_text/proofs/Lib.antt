@@ -1,4 +1,4 @@
-mod Ranges
 pub mod Blocks
 pub mod HexDigits
 pub mod Pending
+pub mod Ranges

@@ -8,7 +8,7 @@ last : (a n j : ℕ) → a + n ≡ j → range_with_len a (suc n) ≡ range_with
 last a zero j e = let same : a ≡ j = omega arith in ap (λ k. k ∷ []) same
 last a (suc n) j e = ap (λ l. a ∷ l) (last (a + 1) n j (omega arith))
 
-range_more : (n : ℕ) → range_with_len 0 (n + 1) ≡ range_with_len 0 n ++ n ∷ []
+pub range_more : (n : ℕ) → range_with_len 0 (n + 1) ≡ range_with_len 0 n ++ n ∷ []
 range_more n = let on : n + 1 ≡ suc n = omega arith in ap (range_with_len 0) on ∙ last 0 n n (omega arith)
 
 pub texts_more : (f : ℕ → List ℕ) (n : ℕ) → flat_map f (range_with_len 0 (n + 1)) ≡ flat_map f (range_with_len 0 n) ++ f n

@@ -9,4 +9,5 @@ mod whole;
 mod words;
 
 pub use counts::summary;
-pub use whole::report;
+pub use whole::{FormText, HolderText, report};
+pub use words::LifeText;

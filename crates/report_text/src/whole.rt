@@ -66,7 +66,7 @@ fn put_domain(out: &mut String, machine: &Memory<'_>, domain: u16) -> Result<(),
 
 /// The owner and the references of a frame.
 #[derive(Clone, Copy)]
-struct HolderText(u64);
+pub struct HolderText(pub u64);
 
 #[tactic(auto, unfolding(crate::specs::ReportOf::holder_text))]
 impl fmt::Display for HolderText {
@@ -98,7 +98,7 @@ impl fmt::Display for HolderText {
 
 /// The type of a frame, its count, flags and progress.
 #[derive(Clone, Copy)]
-struct FormText(u64);
+pub struct FormText(pub u64);
 
 #[tactic(auto, unfolding(crate::specs::ReportOf::form_text))]
 impl fmt::Display for FormText {
