@@ -1,6 +1,6 @@
 -- A worked picture of a mistake: the clock is looked at before the last type count of a frame is given back, and not behind it. vCPU 1 was
 -- flushed in between, and has a translation since. Both vCPUs are of domain 0.
-use Rattle.std.proofs.Common.{◌≡◌, ◌<◌, ◌+◌, ◌*◌, ◌⊎◌, ℕ, Bool, true, false, refl, Option, None, Some, List, [], ◌∷◌, IsTrue, arith, inl, inr, zero, suc}
+use Rattle.std.proofs.Common.{◌≡◌, ◌+◌, ◌*◌, ℕ, true, false, refl, None, Some, List, [], ◌∷◌, arith, inl, inr, zero, suc}
 use Rattle.xp_words.specs.Entries.{demand_at, demand_of}
 use Rattle.xp_words.specs.KindWords.{has_form, kind_fields, kind_read, kind_write}
 use Rattle.xp_words.specs.Machine.{Machine}
@@ -8,10 +8,9 @@ use Rattle.xp_words.specs.RefWords.{ref_read, ref_write}
 use Rattle.xp_words.specs.declared.kind.KindWord.{KindWord}
 use Rattle.xp_words.specs.declared.kind.PageType.{PageType}
 use Rattle.xp_words.specs.declared.kind.PageType.TheVariants as types
-use Rattle.xp_words.specs.declared.place.Place.TheVariants.{Cell, Clock, Kind, Refs}
+use Rattle.xp_words.specs.declared.place.Place.TheVariants.{Cell, Clock, Kind, Map, Pages, Refs}
 use Rattle.xp_words.specs.declared.refs.RefWord.TheVariants.{Owned}
-use Rattle.xp_words.specs.Places.{base_of, flushed_of, is_place, number, place_at, run_of, sizes_of}
-use Rattle.xp_board.specs.declared.holdings.Work.{Work}
+use Rattle.xp_words.specs.Places.{base_of, flushed_of, is_place, number, place_at, run_of}
 use Rattle.xp_board.specs.declared.step.Act.TheVariants.{Add, Cas, Load, Store}
 use Rattle.xp_board.specs.declared.step.Item.{Item}
 use Rattle.xp_board.specs.declared.step.Mark.TheVariants as marks
@@ -21,6 +20,7 @@ use Rattle.xp_board.specs.Acts.{left_by}
 use Rattle.xp_board.specs.Flushes.{IsPastFlush}
 use Rattle.xp_board.specs.Hands.{empty}
 use Rattle.xp_board.specs.KindSteps.{begun_kind, locked_kind, unlocked_down}
+use Rattle.xp_board.specs.Knowledge.{knows_live, knows_owner}
 use Rattle.xp_board.specs.Legal.{Legal}
 use Rattle.xp_board.specs.Lists.{Member, changed_by, first_by, kept_of, some_of, times_by, without_by}
 use Rattle.xp_board.specs.Readings.{owner_of, ref_count}
@@ -28,7 +28,7 @@ use Rattle.xp_board.specs.RefSteps.{one_down}
 use Rattle.xp_board.specs.Safe.{Safe}
 use Rattle.xp_board.specs.Spelling.{IsSpelling}
 use Rattle.xp_board.specs.Steps.{last_since, some_step}
-use Rattle.worked_runs.proofs.Replay.{Moment, Written, hands, played, step, words}
+use Rattle.worked_runs.proofs.Replay.{AreLegal, Moment, hands, look_is_legal, played, step, words}
 
 abbrev machine : Machine
 machine = record { frames = 7; limit = 1000; page_limit = 16 ∷ []; privilege = 0 ∷ []; vcpu_domain = 0 ∷ (0 ∷ []) }
@@ -61,13 +61,13 @@ entry frame = frame * 4096 + 103
 abbrev opening : Moment
 opening =
     record {
-      written = record { place = Clock; word = 20 } ∷ (record { place = flushed_of 0; word = 19 } ∷ (record { place = flushed_of 1; word = 5 }
+      written = record { place = Clock; word = 20 } ∷ (record { place = Pages 0; word = 5 } ∷ (record { place = Map 0; word = 48 } ∷ (record { place = flushed_of 0; word = 19 } ∷ (record { place = flushed_of 1; word = 5 }
           ∷ (record { place = Refs 0; word = owned 2 } ∷ (record { place = Refs 1; word = owned 2 } ∷ (record { place = Refs 2; word = owned 2 }
           ∷ (record { place = Refs 3; word = owned 2 } ∷ (record { place = Refs 6; word = owned 3 } ∷ (record { place = Kind 0; word = kind_write (live types.L4 1) }
           ∷ (record { place = Kind 1; word = kind_write (live types.L3 1) } ∷ (record { place = Kind 2; word = kind_write (live types.L2 1) }
           ∷ (record { place = Kind 3; word = kind_write (live types.L1 1) } ∷ (record { place = Kind 6; word = kind_write (live types.Writable 2) }
           ∷ (record { place = base_of 1; word = 1 } ∷ (record { place = Cell 0 0; word = entry 1 } ∷ (record { place = Cell 1 0; word = entry 2 }
-          ∷ (record { place = Cell 2 0; word = entry 3 } ∷ (record { place = Cell 3 0; word = entry 6 } ∷ (record { place = Cell 3 1; word = entry 6 } ∷ []))))))))))))))))));
+          ∷ (record { place = Cell 2 0; word = entry 3 } ∷ (record { place = Cell 3 0; word = entry 6 } ∷ (record { place = Cell 3 1; word = entry 6 } ∷ []))))))))))))))))))));
       first = empty;
       second = empty;
     }
@@ -106,48 +106,153 @@ closing = (0, step machine (Kind 6) (Add one_down) kinds.Kind None) ∷ dropped
 abbrev dies : Step
 dies = step machine (Kind 6) (Store (kind_write (dead 20))) kinds.Kind None
 
+abbrev dead_early : Moment
+dead_early = played machine opening ((0, dies) ∷ closing)
+
 -- It wants the frame as a table of level 1. vCPU 1 runs, and was flushed at 21; its own flush is at 22.
 abbrev waited : List (ℕ × Step)
 waited =
     (0, step machine (flushed_of 0) (Store 22) kinds.Ack None) ∷ ((0, step machine Clock (Cas 21 22) kinds.Tick None) ∷ ((0, step machine (flushed_of 1) Load kinds.Look None)
-    ∷ ((0, step machine (run_of 1) Load kinds.Look None) ∷ ((0, step machine (Kind 6) (Cas (kind_write (dead 20)) (kind_write (begun_kind (dead 20) types.L1))) kinds.Kind None)
-    ∷ ((0, dies) ∷ closing)))))
+    ∷ ((0, step machine (run_of 1) Load kinds.Look None) ∷ ((0, step machine (Kind 6) (Cas (kind_write (dead 20)) (kind_write (begun_kind (dead 20) types.L1))) kinds.Kind None) ∷ []))))
 
--- the mark goes off
-abbrev unmarks : Step
-unmarks = step machine (Kind 6) (Store (kind_write work)) kinds.Kind None
-
-abbrev unmarked : List (ℕ × Step)
-unmarked = (0, unmarks) ∷ waited
-
--- and the guest of vCPU 1 writes the table
-abbrev writes : Step
-writes = step machine (Cell 6 0) (Store 99) kinds.Guest None
+-- so the mark goes off, and the guest of vCPU 1 writes the table
+abbrev written : List (ℕ × Step)
+written = (1, step machine (Cell 6 0) (Store 99) kinds.Guest None) ∷ ((0, step machine (Kind 6) (Store (kind_write work)) kinds.Kind None) ∷ waited)
 
 abbrev item : Item
 item = record { user = false; page = 1; frame = 6; writable = true; dirty = true }
 
 -- ---- the steps
+looked_legal : AreLegal machine opening looked
+unfolding some_step some_of last_since left_by place_at number first_by times_by without_by changed_by kept_of is_place ref_read ref_write kind_read kind_fields kind_write has_form owner_of ref_count demand_of demand_at IsSpelling knows_live knows_owner
+looked_legal = (
+  (
+    (
+      (
+        (
+          (
+            (
+              tt,
+              look_is_legal machine 0 _ _ refl,
+            ),
+            record { place = refl; marked = tt; running = λ needs. refl; spelling = refl; act = inl (record { below = omega arith; left = refl }) },
+          ),
+          record { place = refl; marked = tt; running = λ needs. refl; spelling = refl; act = record { live = refl; table = refl; unlocked = refl; counted = omega arith; below = omega arith; left = refl; in_hand = omega arith } },
+        ),
+        look_is_legal machine 0 _ _ refl,
+      ),
+      record { place = refl; marked = tt; running = λ needs. refl; spelling = omega arith; act = record { seen = refl; may = inr tt } },
+    ),
+    record { place = refl; marked = tt; running = λ needs. refl; spelling = omega arith; act = inr (refl, omega arith) },
+  ),
+  look_is_legal machine 0 _ _ refl,
+)
+
+flushed_legal : AreLegal machine opening flushed
+unfolding some_step some_of last_since left_by place_at number first_by times_by without_by changed_by kept_of is_place ref_read ref_write kind_read kind_fields kind_write has_form owner_of ref_count demand_of demand_at IsSpelling knows_live knows_owner
+flushed_legal = (
+  (
+    (
+      looked_legal,
+      look_is_legal machine 1 _ _ refl,
+    ),
+    record { place = refl; marked = tt; running = λ needs. refl; spelling = (omega arith, omega arith); act = record { below = omega arith; left = refl } },
+  ),
+  record { place = refl; marked = tt; running = λ needs. refl; spelling = (omega arith, refl); act = record { own = refl; word = refl; was_found = refl; warmed = λ cold. absurd cc; landed = refl } },
+)
+
+cached_legal : AreLegal machine opening cached
+unfolding some_step some_of last_since left_by place_at number first_by times_by without_by changed_by kept_of is_place ref_read ref_write kind_read kind_fields kind_write has_form owner_of ref_count demand_of demand_at IsSpelling knows_live knows_owner
+cached_legal = (
+  (
+    (
+      (
+        (
+          (
+            flushed_legal,
+            record { place = refl; marked = tt; running = λ needs. refl; spelling = tt; act = (record { own = refl; word = refl; none = refl; warm = refl }, tt) },
+          ),
+          record { place = refl; marked = tt; running = λ needs. refl; spelling = tt; act = ((_, record { flying = refl; touched = refl; level = 4; above = []; reached = refl; walked = refl; warm = refl }), tt) },
+        ),
+        record { place = refl; marked = tt; running = λ needs. refl; spelling = tt; act = ((_, record { flying = refl; touched = refl; level = 3; above = record { table = 0; level = 4 } ∷ []; reached = refl; walked = refl; warm = refl }), tt) },
+      ),
+      record { place = refl; marked = tt; running = λ needs. refl; spelling = tt; act = ((_, record { flying = refl; touched = refl; level = 2; above = record { table = 1; level = 3 } ∷ (record { table = 0; level = 4 } ∷ []); reached = refl; walked = refl; warm = refl }), tt) },
+    ),
+    record { place = refl; marked = tt; running = λ needs. refl; spelling = tt; act = ((_, record { flying = refl; touched = refl; level = 1; above = record { table = 2; level = 2 } ∷ (record { table = 1; level = 3 } ∷ (record { table = 0; level = 4 } ∷ [])); reached = refl; walked = refl; warm = refl }), tt) },
+  ),
+  record { place = refl; marked = tt; running = λ needs. refl; spelling = omega arith; act = record { item = refl; warm = refl } },
+)
+
+dropped_legal : AreLegal machine opening dropped
+unfolding some_step some_of last_since left_by place_at number first_by times_by without_by changed_by kept_of is_place ref_read ref_write kind_read kind_fields kind_write has_form owner_of ref_count demand_of demand_at IsSpelling knows_live knows_owner
+dropped_legal = (
+  (
+    (
+      (
+        (
+          (
+            cached_legal,
+            record { place = refl; marked = tt; running = λ needs. refl; spelling = refl; act = inl (record { below = omega arith; left = refl }) },
+          ),
+          record { place = refl; marked = tt; running = λ needs. refl; spelling = refl; act = record { live = refl; table = refl; unlocked = refl; counted = omega arith; below = omega arith; left = refl; in_hand = omega arith } },
+        ),
+        look_is_legal machine 1 _ _ refl,
+      ),
+      record { place = refl; marked = tt; running = λ needs. refl; spelling = omega arith; act = record { seen = refl; may = inr tt } },
+    ),
+    record { place = refl; marked = tt; running = λ needs. refl; spelling = omega arith; act = inr (refl, omega arith) },
+  ),
+  record { place = refl; marked = tt; running = λ needs. refl; spelling = omega arith; act = inl (refl, record { in_hand = omega arith; kind = types.Writable; live = refl }) },
+)
+
+closing_legal : AreLegal machine opening closing
+unfolding some_step some_of last_since left_by place_at number first_by times_by without_by changed_by kept_of is_place ref_read ref_write kind_read kind_fields kind_write has_form owner_of ref_count demand_of demand_at IsSpelling knows_live knows_owner
+closing_legal = (
+  dropped_legal,
+  record { place = refl; marked = tt; running = λ needs. refl; spelling = omega arith; act = inl (refl, record { in_hand = omega arith; kind = types.Writable; live = refl }) },
+)
+
 the_early_stamp_may_not_be_left : Legal machine 0 (hands (played machine opening closing) 0) dies → ⊥
 unfolding some_step some_of last_since left_by place_at number first_by times_by without_by changed_by kept_of is_place ref_read ref_write kind_read kind_fields kind_write has_form owner_of ref_count demand_of demand_at IsSpelling
 the_early_stamp_may_not_be_left legal = let never : false ≡ true = legal.act.stamp in cc
 
 -- with that stamp nobody is waited for
-past : IsPastFlush machine (hands (played machine opening waited) 0) (record { frame = 6; word = kind_write (begun_kind (dead 20) types.L1); recorded = 0; fixed = 0; seen = None; unsettled = None; since = 10; unmarked = 10 })
-unfolding some_step some_of last_since left_by place_at number first_by times_by without_by changed_by kept_of is_place ref_read ref_write kind_read kind_fields kind_write has_form owner_of ref_count demand_of demand_at IsSpelling
+past : IsPastFlush machine (hands (played machine dead_early waited) 0) (record { frame = 6; word = kind_write (begun_kind (dead 20) types.L1); recorded = 0; fixed = 0; seen = None; unsettled = None; since = 10; unmarked = 10 })
+unfolding some_step some_of last_since left_by place_at number first_by times_by without_by changed_by kept_of is_place ref_read ref_write kind_read kind_fields kind_write has_form owner_of ref_count demand_of demand_at IsSpelling knows_live knows_owner
 past zero b = inl refl
 past (suc zero) b = inl refl
 past (suc (suc v)) b = absurd (omega arith)
 
-the_mark_may_go_off : Legal machine 0 (hands (played machine opening waited) 0) unmarks
-unfolding some_step some_of last_since left_by place_at number first_by times_by without_by changed_by kept_of is_place ref_read ref_write kind_read kind_fields kind_write has_form owner_of ref_count demand_of demand_at IsSpelling
-the_mark_may_go_off = record { place = refl; marked = tt; running = λ needs. refl; spelling = refl; act = record { work = refl; marked = refl; past = past; left = refl } }
+waited_legal : AreLegal machine dead_early waited
+unfolding some_step some_of last_since left_by place_at number first_by times_by without_by changed_by kept_of is_place ref_read ref_write kind_read kind_fields kind_write has_form owner_of ref_count demand_of demand_at IsSpelling knows_live knows_owner
+waited_legal = (
+  (
+    (
+      (
+        (
+          tt,
+          record { place = refl; marked = tt; running = λ needs. refl; spelling = refl; act = record { dead = refl; wanted = refl; left = refl; in_hand = omega arith } },
+        ),
+        look_is_legal machine 0 _ _ refl,
+      ),
+      look_is_legal machine 0 _ _ refl,
+    ),
+    record { place = refl; marked = tt; running = λ needs. refl; spelling = (omega arith, omega arith); act = record { below = omega arith; left = refl } },
+  ),
+  record { place = refl; marked = tt; running = λ needs. refl; spelling = (omega arith, refl); act = record { own = refl; word = refl; was_found = refl; warmed = λ cold. absurd cc; landed = refl } },
+)
 
-the_guest_may_write : Legal machine 1 (hands (played machine opening unmarked) 1) writes
-unfolding some_step some_of last_since left_by place_at number first_by times_by without_by changed_by kept_of is_place ref_read ref_write kind_read kind_fields kind_write has_form owner_of ref_count demand_of demand_at IsSpelling
-the_guest_may_write = record { place = refl; marked = tt; running = λ needs. refl; spelling = omega arith; act = record { item = refl; warm = refl } }
+written_legal : AreLegal machine dead_early written
+unfolding some_step some_of last_since left_by place_at number first_by times_by without_by changed_by kept_of is_place ref_read ref_write kind_read kind_fields kind_write has_form owner_of ref_count demand_of demand_at IsSpelling knows_live knows_owner
+written_legal = (
+  (
+    waited_legal,
+    record { place = refl; marked = tt; running = λ needs. refl; spelling = refl; act = record { work = refl; marked = refl; past = past; left = refl } },
+  ),
+  record { place = refl; marked = tt; running = λ needs. refl; spelling = omega arith; act = record { item = refl; warm = refl } },
+)
 
 -- ---- the machine behind them
-the_machine_is_not_safe : Safe machine (words (played machine opening unmarked)) (hands (played machine opening unmarked)) → ⊥
-unfolding some_step some_of last_since left_by place_at number first_by times_by without_by changed_by kept_of is_place ref_read ref_write kind_read kind_fields kind_write has_form owner_of ref_count demand_of demand_at IsSpelling Member
+the_machine_is_not_safe : Safe machine (words (played machine dead_early written)) (hands (played machine dead_early written)) → ⊥
+unfolding some_step some_of last_since left_by place_at number first_by times_by without_by changed_by kept_of is_place ref_read ref_write kind_read kind_fields kind_write has_form owner_of ref_count demand_of demand_at IsSpelling knows_live knows_owner Member
 the_machine_is_not_safe safe = let at = safe.items 1 item (omega arith) (inl refl) in let unused : true ≡ false = at.unused refl in cc
