@@ -6,6 +6,7 @@ ghost use Rattle.step_maker.specs.Holds.{MayWork, Rests};
 ghost use Rattle.shared_board.specs.Board.{port_value};
 ghost use Rattle.xp_machine.specs.Ready.{TakesFresh};
 
+use crate::counting::Counts;
 use flush_words::{begin_turn, end_answer, look_run};
 use frame_words::{Open, get_ref, look_refs, put_ref, raise_refs};
 use kind_words::look_kind;
@@ -18,7 +19,7 @@ use std::process::Abort;
 use std::test::Fail;
 use step_maker::look_clock;
 use trace_text::{ScriptList, Trace, read_trace};
-use xp_board::{Act, Item, Port, Step};
+use xp_board::{Item, Port, Step};
 use xp_machine::{Cpu, Runner};
 use xp_preempt::Never;
 use xp_words::{Layout, RefWord, Refusal, Script, Stop};
@@ -157,10 +158,7 @@ fn refs_at(board: &mut PlainBoard, frame: u32) -> Option<u64> {
 #[derive(Drop)]
 struct Counting<P> {
     port: P,
-    loads: u32,
-    exchanges: u32,
-    stores: u32,
-    sums: u32,
+    counts: Counts,
 }
 
 impl<P: Port> Port for Counting<P> {
@@ -179,23 +177,18 @@ impl<P: Port> Port for Counting<P> {
     }
 
     fn step(&mut self, step: Step) -> u64 {
-        match step.act {
-            Act::Load => self.loads = self.loads.wrapping_add(1),
-            Act::Cas { .. } => self.exchanges = self.exchanges.wrapping_add(1),
-            Act::Store { .. } => self.stores = self.stores.wrapping_add(1),
-            Act::Add { .. } | Act::Max { .. } => self.sums = self.sums.wrapping_add(1),
-        }
+        self.counts.count(&step.act);
         self.port.step(step)
     }
 }
 
-// How many loads, exchanges, stores and sums the first turn of a vCPU makes.
+// The steps that the first turn of a vCPU makes.
 pub(crate) fn steps_of(
     alloc: Global,
     board: &mut PlainBoard,
     vcpu: u32,
     script: Script,
-) -> Result<(u32, u32, u32, u32), AllocError>
+) -> Result<Counts, AllocError>
     requires vcpu { vcpu < (sizes_of board.old.machine).vcpus }
     requires fresh { TakesFresh board.old }
     requires short { length script < 2 ^ 32 }
@@ -204,13 +197,10 @@ pub(crate) fn steps_of(
     let mut runner = Runner::new(cpu, Box::new(alloc, Never::new())?);
     let mut port = Counting {
         port: board.port(vcpu),
-        loads: 0,
-        exchanges: 0,
-        stores: 0,
-        sums: 0,
+        counts: Counts::none(),
     };
     runner.turn(&mut port);
-    Ok((port.loads, port.exchanges, port.stores, port.sums))
+    Ok(port.counts)
 }
 
 // The turn begins with looks at the own domain's life, the own ask, flushed and run word, and then at both old words, as each element does;
@@ -221,7 +211,8 @@ fn a_turn_of_an_update_makes_thirteen_steps(rt: HostRuntime) -> Result<(), Fail>
     assert!(rt; script.len() == 1);
     if script.len() == 1 && board.layout().vcpus() == 2 {
         let steps = steps_of(rt.alloc(), &mut board, 1, script)?;
-        assert!(rt; steps == (10, 1, 1, 1));
+        assert!(rt; steps.loads == 10);
+        assert!(rt; (steps.exchanges, steps.stores, steps.sums) == (1, 1, 1));
         assert!(rt; refs_at(&mut board, 1) == Some(0x8000_0001_8000_0001));
     }
     Ok(())

@@ -1,6 +1,10 @@
 //! Tests of the machine as a whole: runs from a trace to its report, and single calls on the plain board. There is nothing to
-//! call.
+//! call but the counts of steps that the tests compare.
 #![tactic(auto)]
+
+mod counting;
+
+pub use counting::Counts;
 
 #[cfg(test)]
 mod boards;

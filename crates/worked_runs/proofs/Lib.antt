@@ -1,3 +1,4 @@
+mod Replay
 mod ClaimPicture
 mod EntryPicture
 mod FlushPicture
@@ -7,3 +8,6 @@ mod ProcessorPicture
 mod ReleasePicture
 mod WalkPicture
 mod LawfulPicture
+mod EarlyStampPicture
+mod NewOwnerPicture
+mod UnvalidatedPicture

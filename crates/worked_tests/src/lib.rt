@@ -1,6 +1,10 @@
 //! Tests of the crates of words, gates, streams, translations, stacks and texts, with values that were worked out by hand.
-//! There is nothing to call.
+//! There is nothing to call but the machines that the tests are about.
 #![tactic(auto)]
+
+mod machines;
+
+pub use machines::{hundred_frames, least_machine, small_layout, three_domains};
 
 #[cfg(test)]
 mod gates;

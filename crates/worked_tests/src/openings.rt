@@ -2,7 +2,7 @@
 ghost use Rattle.std.specs.Prelude.{IfOk};
 ghost use Rattle.trace_text.specs.WellFormed.{IsWellFormed};
 
-use crate::words::small_layout;
+use crate::machines::small_layout;
 use machine_build::opening;
 use std::alloc::{AllocError, Global};
 use std::test::Fail;

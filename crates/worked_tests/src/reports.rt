@@ -1,13 +1,12 @@
 //! Reports and summaries (report_text).
-ghost use Rattle.std.specs.Prelude.{◌≡◌, ◌≤◌, length};
-ghost use Rattle.xp_words.specs.Places.{sizes_of, size};
+ghost use Rattle.std.specs.Prelude.{◌≡◌, length};
 
-use arrayvec::ArrayVec;
+use crate::machines::{least_machine, three_domains};
 use report_text::{report, summary};
 use sparse_words::SparseWords;
 use std::alloc::{AllocError, Global};
 use std::test::Fail;
-use xp_words::{Domains, Layout, Limits, Log, LogLine, Masks, PageType, Refusal, Reply};
+use xp_words::{Layout, Log, LogLine, PageType, Refusal, Reply};
 
 // Each refusal, and each form of a reference word and of a kind word.
 const REFUSED: [(Refusal, &str); 24] = [
@@ -196,33 +195,6 @@ const FRAMES: [(u64, u64, u64, &str); 12] = [
     (0, 0, u64::MAX, ""),
 ];
 
-// Three domains, and a vCPU of each of the first two.
-fn machine(frames: u32) -> Layout
-    requires { (1 ≤ frames) × (frames ≤ 65536) }
-    ensures vcpus { length result.vcpu_domain ≡ 2 }
-    ensures domains { length result.page_limit ≡ 3 }
-    ensures frames { result.frames ≡ frames }
-{
-    let mut page_limit = ArrayVec::new();
-    let mut privilege = ArrayVec::new();
-    let mut vcpu_domain = ArrayVec::new();
-    page_limit.push(4);
-    page_limit.push(3);
-    page_limit.push(0);
-    privilege.push(0);
-    privilege.push(0);
-    privilege.push(0);
-    vcpu_domain.push(0);
-    vcpu_domain.push(1);
-    Layout {
-        frames,
-        limit: 67_108_863,
-        page_limit: Limits::new(page_limit),
-        privilege: Masks::new(privilege),
-        vcpu_domain: Domains::new(vcpu_domain),
-    }
-}
-
 fn put(words: &mut SparseWords, place: u32, word: u64)
     ensures { length words.new ≡ length words.old }
 {
@@ -245,7 +217,7 @@ fn put_frame_words(layout: &Layout, words: &mut SparseWords)
 #[test]
 fn prints_each_refusal_and_each_form_of_a_frame(rt: HostRuntime) -> Result<(), Fail> {
     let alloc = rt.alloc();
-    let layout = machine(12);
+    let layout = three_domains(12);
     let mut words = SparseWords::new(alloc, &layout)?;
     put(&mut words, layout.vcpu_place(0, 1), 6);
     put(&mut words, layout.vcpu_place(0, 2), 1);
@@ -329,27 +301,6 @@ fn prints_each_refusal_and_each_form_of_a_frame(rt: HostRuntime) -> Result<(), F
     let text = report(alloc, &layout, &words, &[refused, answered], &[0, 3])?;
     assert_eq!(rt; text.as_slice(), expected.as_bytes());
     Ok(())
-}
-
-// One domain of at most one page, with one vCPU and one frame.
-fn least_machine() -> Layout
-    ensures vcpus { length result.vcpu_domain ≡ 1 }
-    ensures domains { length result.page_limit ≡ 1 }
-    ensures frames { result.frames ≡ 1 }
-{
-    let mut page_limit = ArrayVec::new();
-    let mut privilege = ArrayVec::new();
-    let mut vcpu_domain = ArrayVec::new();
-    page_limit.push(1);
-    privilege.push(0);
-    vcpu_domain.push(0);
-    Layout {
-        frames: 1,
-        limit: 67_108_863,
-        page_limit: Limits::new(page_limit),
-        privilege: Masks::new(privilege),
-        vcpu_domain: Domains::new(vcpu_domain),
-    }
 }
 
 // One vCPU sets the machine-to-physical word of its one frame.
@@ -438,7 +389,7 @@ const SUMMARIES: [(u32, &str); 3] = [
 #[test]
 fn sums_up_two_logs(rt: HostRuntime) -> Result<(), Fail> {
     let alloc = rt.alloc();
-    let layout = machine(12);
+    let layout = three_domains(12);
     let mut words = SparseWords::new(alloc, &layout)?;
     put_frame_words(&layout, &mut words);
     let logs = [log_of(alloc, &FIRST)?, log_of(alloc, &SECOND)?];

@@ -1,5 +1,5 @@
 //! The words of a machine, in little memory (sparse_words).
-use crate::words::small_layout;
+use crate::machines::small_layout;
 use sparse_words::SparseWords;
 use std::test::Fail;
 

@@ -1,12 +1,11 @@
 //! Translations (own_cache): walks of one vCPU on a machine of 100 frames, told step by step. A helper answers false where the walk awaits another step.
-ghost use Rattle.std.specs.Prelude.{◌≡◌, ◌∷◌, []};
 ghost use Rattle.xp_words.specs.Machine.{IsMachine};
 
-use arrayvec::ArrayVec;
+use crate::machines::hundred_frames;
 use own_cache::{Translations, touched};
 use std::test::Fail;
 use xp_board::{Act, Item, Mark, Step, StepKind};
-use xp_words::{Domains, Layout, Limits, Masks};
+use xp_words::Layout;
 
 // The bits of entries: present, writable and for the user; accessed too; accessed and not writable; accessed and dirty.
 const FRESH: u64 = 7;
@@ -16,26 +15,6 @@ const ACCESSED: u64 = 7 + 32;
 const FIXED: u64 = 5 + 32;
 
 const DIRTY: u64 = 7 + 32 + 64;
-
-fn machine() -> Layout
-    ensures frames { result.frames ≡ 100 }
-    ensures vcpus { result.vcpu_domain ≡ 0 ∷ [] }
-    ensures machine { IsMachine result }
-{
-    let mut limits = ArrayVec::new();
-    limits.push(100);
-    let mut masks = ArrayVec::new();
-    masks.push(0);
-    let mut domains = ArrayVec::new();
-    domains.push(0);
-    Layout {
-        frames: 100,
-        limit: 2,
-        page_limit: Limits::new(limits),
-        privilege: Masks::new(masks),
-        vcpu_domain: Domains::new(domains),
-    }
-}
 
 // The kernel's base, word 0, or the user's, word 1, is loaded.
 fn begin(t: &mut Translations, layout: &Layout, base: u32, write: bool, word: u32) -> bool {
@@ -136,7 +115,7 @@ fn frame_of(t: &Translations, page: u64) -> Option<u32> {
 // Entries 1, 2, 3 and 4 of the four tables are those of the address 0x80_8060_4000.
 #[test]
 fn a_walk_for_a_write_sets_its_bits_and_makes_an_item(rt: HostRuntime) -> Result<(), Fail> {
-    let layout = machine();
+    let layout = hundred_frames();
     let mut t = Translations::new(rt.alloc())?;
     let first = entry(FRESH, 20);
     let last = entry(ACCESSED, 50);
@@ -165,7 +144,7 @@ fn a_walk_for_a_write_sets_its_bits_and_makes_an_item(rt: HostRuntime) -> Result
 // The third page's frame is not one of the machine's, and the fourth has no entry.
 #[test]
 fn an_item_says_what_its_entries_allow(rt: HostRuntime) -> Result<(), Fail> {
-    let layout = machine();
+    let layout = hundred_frames();
     let mut t = Translations::new(rt.alloc())?;
     assert!(rt; walk(&mut t, &layout, true, 0, entry(FIXED, 50)));
     assert!(rt; walk(&mut t, &layout, false, 1, entry(DIRTY, 51)));
@@ -181,7 +160,7 @@ fn an_item_says_what_its_entries_allow(rt: HostRuntime) -> Result<(), Fail> {
 
 #[test]
 fn a_lost_exchange_ends_the_walk(rt: HostRuntime) -> Result<(), Fail> {
-    let layout = machine();
+    let layout = hundred_frames();
     let mut t = Translations::new(rt.alloc())?;
     let first = entry(FRESH, 20);
     assert!(rt; begin(&mut t, &layout, 0, false, 11));
@@ -193,7 +172,7 @@ fn a_lost_exchange_ends_the_walk(rt: HostRuntime) -> Result<(), Fail> {
 
 #[test]
 fn a_forgotten_page_goes_and_at_a_flush_all_do(rt: HostRuntime) -> Result<(), Fail> {
-    let layout = machine();
+    let layout = hundred_frames();
     let mut t = Translations::new(rt.alloc())?;
     assert!(rt; walk(&mut t, &layout, false, 0, entry(ACCESSED, 50)));
     assert!(rt; walk(&mut t, &layout, false, 1, entry(ACCESSED, 51)));
@@ -207,7 +186,7 @@ fn a_forgotten_page_goes_and_at_a_flush_all_do(rt: HostRuntime) -> Result<(), Fa
 
 #[test]
 fn the_newest_64_items_are_kept(rt: HostRuntime) -> Result<(), Fail> {
-    let layout = machine();
+    let layout = hundred_frames();
     let mut t = Translations::new(rt.alloc())?;
     for index in 0..65 {
         assert!(rt; walk(&mut t, &layout, false, index, entry(ACCESSED, 60)));

@@ -1,11 +1,9 @@
 //! Words, places and lists (xp_words): examples from the format's description.
-ghost use Rattle.std.specs.Prelude.{◌≡◌, ◌∷◌, []};
-
-use arrayvec::ArrayVec;
+use crate::machines::small_layout;
 use std::test::Fail;
 use xp_words::{
-    Call, CallList, ContextWord, Domains, Entry, ExtList, ExtOp, KindWord, Layout, LdtBase, Limits,
-    Log, LogLine, Masks, Numbers, Op, PageType, Pair, Pairs, RefWord, Reply, Script, fix,
+    Call, CallList, ContextWord, Entry, ExtList, ExtOp, KindWord, LdtBase, Log, LogLine, Numbers,
+    Op, PageType, Pair, Pairs, RefWord, Reply, Script, fix,
 };
 
 #[test]
@@ -81,29 +79,6 @@ fn entries_say_what_they_name(rt: HostRuntime) {
 fn a_code_segment_gets_level_3_and_a_task_segment_is_refused(rt: HostRuntime) {
     assert_eq!(rt; fix(0x00af9a000000ffff), Some(0x00affa000000ffff));
     assert_eq!(rt; fix(0x0000890000000000), None);
-}
-
-// A small machine: 2 domains, 1 vCPU and 65 frames, which have 2 words of free map.
-pub(crate) fn small_layout() -> Layout
-    ensures frames { result.frames ≡ 65 }
-    ensures domains { result.page_limit ≡ 65 ∷ 5 ∷ [] }
-    ensures vcpus { result.vcpu_domain ≡ 1 ∷ [] }
-{
-    let mut limits = ArrayVec::new();
-    limits.push(65);
-    limits.push(5);
-    let mut masks = ArrayVec::new();
-    masks.push(2);
-    masks.push(0);
-    let mut domains = ArrayVec::new();
-    domains.push(1);
-    Layout {
-        frames: 65,
-        limit: 2,
-        page_limit: Limits::new(limits),
-        privilege: Masks::new(masks),
-        vcpu_domain: Domains::new(domains),
-    }
 }
 
 #[test]
