@@ -1,12 +1,12 @@
 -- Words that ask for something are read by `clap`, as that command with its number.
-use Rattle.std.proofs.Common.{◌≡◌, ◌∙◌, ℕ, ◌<◌, ◌^◌, Bool, true, false, not, List, [], ◌∷◌, ◌++◌, Some, None, Option, is_some, option_and_then, option_map, cond, take, drop, codes, bytes_eq, eqb, refl, sym, ap, subst, arith, lit<, leb-true, take-append-drop}
+use Rattle.std.proofs.Common.{◌≡◌, ◌∙◌, ℕ, ◌<◌, ◌^◌, Bool, true, false, not, List, [], ◌∷◌, ◌++◌, Some, None, Option, is_some, option_and_then, option_map, cond, take, drop, codes, if◌then◌else◌, bytes_eq, eqb, refl, sym, ap, subst, arith, lit<, leb-true, take-append-drop}
 use Rattle.std.specs.Str.Parse.{IsNumeral, digits_value}
 use Rattle.std.proofs.lemmas.Slice.Eq.{bytes_eq-Decides}
-use Rattle.command_words.specs.Words.{argument_of, asked_by, command_named, number_after, operations_after, operations_in, pace_in, pace_after, word_of, words_ask}
+use Rattle.command_words.specs.Words.{argument_of, asked_by, command_named, names_source, number_after, operations_after, operations_in, pace_in, pace_after, word_of, words_ask}
 use Rattle.command_words.specs.Table.{SpellsNumber}
 use Rattle.command_words.specs.declared.asked.CommandName.{CommandName}
 use Rattle.command_words.specs.declared.asked.CommandName.TheVariants as names
-use Rattle.command_words.proofs.Lists.{Reads, alone, apart, audits, audits_file, counted, is_paced, joined}
+use Rattle.command_words.proofs.Lists.{Reads, alone, apart, counted, is_paced, is_reading, joined, reads_alone, reads_file}
 use Rattle.command_words.proofs.Spellings.{no_word, spelled}
 
 pub record Known (words : List (List ℕ)) : Type 0 where
@@ -30,19 +30,20 @@ some_mapped f None e = cc
 
 -- a word that names a command is its name
 named : (w : List ℕ) (name : CommandName) → command_named w ≡ Some name → w ≡ word_of name
-named w name e = by (bytes_eq w (codes "turns")) (bytes_eq w (codes "replay")) (bytes_eq w (codes "image")) (bytes_eq w (codes "generate")) (bytes_eq w (codes "audit")) refl refl refl refl refl e
+named w name e = by (bytes_eq w (codes "turns")) (bytes_eq w (codes "replay")) (bytes_eq w (codes "image")) (bytes_eq w (codes "generate")) (bytes_eq w (codes "audit")) (bytes_eq w (codes "draw")) refl refl refl refl refl refl e
   where
     is : (m : CommandName) → bytes_eq w (word_of m) ≡ true → Some m ≡ Some name → w ≡ word_of name
     is m h e = let found : m ≡ name = cc in subst (λ k. w ≡ word_of k) found (same w (word_of m) h)
 
-    by : (t r i g a : Bool) → bytes_eq w (codes "turns") ≡ t → bytes_eq w (codes "replay") ≡ r → bytes_eq w (codes "image") ≡ i → bytes_eq w (codes "generate") ≡ g → bytes_eq w (codes "audit") ≡ a
-        → cond t (Some names.Turns) (cond r (Some names.Replay) (cond i (Some names.Image) (cond g (Some names.Generate) (cond a (Some names.Audit) None)))) ≡ Some name → w ≡ word_of name
-    by true r i g a h0 h1 h2 h3 h4 e = is names.Turns h0 e
-    by false true i g a h0 h1 h2 h3 h4 e = is names.Replay h1 e
-    by false false true g a h0 h1 h2 h3 h4 e = is names.Image h2 e
-    by false false false true a h0 h1 h2 h3 h4 e = is names.Generate h3 e
-    by false false false false true h0 h1 h2 h3 h4 e = is names.Audit h4 e
-    by false false false false false h0 h1 h2 h3 h4 e = cc
+    by : (t r i g a d : Bool) → bytes_eq w (codes "turns") ≡ t → bytes_eq w (codes "replay") ≡ r → bytes_eq w (codes "image") ≡ i → bytes_eq w (codes "generate") ≡ g → bytes_eq w (codes "audit") ≡ a → bytes_eq w (codes "draw") ≡ d
+        → cond t (Some names.Turns) (cond r (Some names.Replay) (cond i (Some names.Image) (cond g (Some names.Generate) (cond a (Some names.Audit) (cond d (Some names.Draw) None))))) ≡ Some name → w ≡ word_of name
+    by true r i g a d h0 h1 h2 h3 h4 h5 e = is names.Turns h0 e
+    by false true i g a d h0 h1 h2 h3 h4 h5 e = is names.Replay h1 e
+    by false false true g a d h0 h1 h2 h3 h4 h5 e = is names.Image h2 e
+    by false false false true a d h0 h1 h2 h3 h4 h5 e = is names.Generate h3 e
+    by false false false false true d h0 h1 h2 h3 h4 h5 e = is names.Audit h4 e
+    by false false false false false true h0 h1 h2 h3 h4 h5 e = is names.Draw h5 e
+    by false false false false false false h0 h1 h2 h3 h4 h5 e = cc
 
 pub names_itself : (name : CommandName) → command_named (word_of name) ≡ Some name
 names_itself names.Turns = refl
@@ -50,6 +51,7 @@ names_itself names.Replay = refl
 names_itself names.Image = refl
 names_itself names.Generate = refl
 names_itself names.Audit = refl
+names_itself names.Draw = refl
 
 -- what words behind the command give is asked for with it
 asks : (name : CommandName) (rest : List (List ℕ)) (n : ℕ) → number_after name rest ≡ Some n → words_ask (word_of name ∷ rest) ≡ Some (asked_by name n)
@@ -62,6 +64,7 @@ paces names.Replay rest e = refl
 paces names.Image rest e = refl
 paces names.Generate rest e = cc
 paces names.Audit rest e = cc
+paces names.Draw rest e = cc
 
 preempts : (name : CommandName) → is_paced name ≡ true → argument_of name ≡ Some (codes "preempt")
 unfolding is_paced
@@ -70,6 +73,7 @@ preempts names.Replay e = refl
 preempts names.Image e = refl
 preempts names.Generate e = cc
 preempts names.Audit e = cc
+preempts names.Draw e = cc
 
 -- a pace behind the command, written in these words
 with_pace : (name : CommandName) (rest : List (List ℕ)) (text : List ℕ) → is_paced name ≡ true → Reads (word_of name ∷ rest) name text → IsNumeral 10 text → digits_value 10 text < 2 ^ 32
@@ -127,24 +131,48 @@ known_generate [] e = cc
 known_generate (n ∷ []) e = known_counted n e
 known_generate (n ∷ x ∷ xs) e = cc
 
--- `audit`, alone or with the path of a file
-known_audit : (rest : List (List ℕ)) → is_some (number_after names.Audit rest) ≡ true → Known (word_of names.Audit ∷ rest)
-known_audit [] e = record { name = names.Audit; text = []; number = 0; reads = audits; spells = refl; is = refl }
-known_audit ([] ∷ []) e = cc
-known_audit ((c ∷ cs) ∷ []) e = by (eqb c 45) refl e
+-- a command that reads an image asks with 0, where the words behind it may stand there
+reads_as : (name : CommandName) (rest : List (List ℕ)) → is_reading name ≡ true → number_after name rest ≡ (if names_source rest then Some 0 else None)
+unfolding is_reading
+reads_as names.Audit rest e = refl
+reads_as names.Draw rest e = refl
+reads_as names.Turns rest e = cc
+reads_as names.Replay rest e = cc
+reads_as names.Image rest e = cc
+reads_as names.Generate rest e = cc
+
+numberless : (name : CommandName) → is_reading name ≡ true → argument_of name ≡ None
+unfolding is_reading
+numberless names.Audit e = refl
+numberless names.Draw e = refl
+numberless names.Turns e = cc
+numberless names.Replay e = cc
+numberless names.Image e = cc
+numberless names.Generate e = cc
+
+without_number : (name : CommandName) (rest : List (List ℕ)) → is_reading name ≡ true → Reads (word_of name ∷ rest) name [] → names_source rest ≡ true → Known (word_of name ∷ rest)
+without_number name rest reading reads there =
+    record { name = name; text = []; number = 0; reads = reads; spells = subst (λ a. SpellsNumber a [] 0) (sym (numberless name reading)) refl; is = asks name rest 0 (reads_as name rest reading ∙ rw there refl) }
+
+-- alone or with the path of a file
+known_reading : (name : CommandName) → is_reading name ≡ true → (rest : List (List ℕ)) → is_some {T = ℕ} (if names_source rest then Some 0 else None) ≡ true → Known (word_of name ∷ rest)
+known_reading name reading [] e = without_number name [] reading (reads_alone name reading) refl
+known_reading name reading ([] ∷ []) e = cc
+known_reading name reading ((c ∷ cs) ∷ []) e = by (eqb c 45) refl e
   where
-    by : (b : Bool) → eqb c 45 ≡ b → is_some {T = ℕ} (cond (not b) (Some 0) None) ≡ true → Known (word_of names.Audit ∷ (c ∷ cs) ∷ [])
+    by : (b : Bool) → eqb c 45 ≡ b → is_some {T = ℕ} (cond (not b) (Some 0) None) ≡ true → Known (word_of name ∷ (c ∷ cs) ∷ [])
     by true is h = cc
-    by false is h = record { name = names.Audit; text = []; number = 0; reads = audits_file c cs is; spells = refl; is = asks names.Audit ((c ∷ cs) ∷ []) 0 (rw is refl) }
-known_audit (p ∷ x ∷ xs) e = cc
+    by false is h = without_number name ((c ∷ cs) ∷ []) reading (reads_file c cs is name reading) (rw is refl)
+known_reading name reading (p ∷ x ∷ xs) e = cc
 
 known_by : (name : CommandName) (rest : List (List ℕ)) → is_some (number_after name rest) ≡ true → Known (word_of name ∷ rest)
-unfolding is_paced
+unfolding is_paced is_reading
 known_by names.Turns rest e = known_behind names.Turns refl rest e
 known_by names.Replay rest e = known_behind names.Replay refl rest e
 known_by names.Image rest e = known_behind names.Image refl rest e
 known_by names.Generate rest e = known_generate rest e
-known_by names.Audit rest e = known_audit rest e
+known_by names.Audit rest e = known_reading names.Audit refl rest e
+known_by names.Draw rest e = known_reading names.Draw refl rest e
 
 pub known : (words : List (List ℕ)) → is_some (words_ask words) ≡ true → Known words
 known [] e = cc

@@ -20,6 +20,16 @@ is_paced names.Replay = true
 is_paced names.Image = true
 is_paced names.Generate = false
 is_paced names.Audit = false
+is_paced names.Draw = false
+
+-- those that may have a path
+unfoldable pub is_reading : CommandName → Bool
+is_reading names.Turns = false
+is_reading names.Replay = false
+is_reading names.Image = false
+is_reading names.Generate = false
+is_reading names.Audit = true
+is_reading names.Draw = true
 
 pub alone : (name : CommandName) → is_paced name ≡ true → Reads (word_of name ∷ []) name (codes "0")
 unfolding clap_on_literals is_paced
@@ -28,6 +38,7 @@ alone names.Replay e = record { taken = refl; found = refl }
 alone names.Image e = record { taken = refl; found = refl }
 alone names.Generate e = cc
 alone names.Audit e = cc
+alone names.Draw e = cc
 
 module _ (c : ℕ) (cs : List ℕ) (s : Spelled 0 1000000 c cs) where
   pub apart : (name : CommandName) → is_paced name ≡ true → Reads (word_of name ∷ codes "--preempt" ∷ (c ∷ cs) ∷ []) name (c ∷ cs)
@@ -46,6 +57,7 @@ module _ (c : ℕ) (cs : List ℕ) (s : Spelled 0 1000000 c cs) where
   }
   apart names.Generate e = cc
   apart names.Audit e = cc
+  apart names.Draw e = cc
 
   pub joined : (name : CommandName) → is_paced name ≡ true → Reads (word_of name ∷ (codes "--preempt=" ++ (c ∷ cs)) ∷ []) name (c ∷ cs)
   unfolding clap_on_literals is_paced
@@ -54,6 +66,7 @@ module _ (c : ℕ) (cs : List ℕ) (s : Spelled 0 1000000 c cs) where
   joined names.Image e = record { taken = rw (s.no_minus, s.no_plus, s.some, s.digits, s.least, s.most, s.fits) refl; found = rw s.no_minus refl }
   joined names.Generate e = cc
   joined names.Audit e = cc
+  joined names.Draw e = cc
 
 pub counted : (c : ℕ) (cs : List ℕ) → Spelled 1 60000 c cs → Reads (word_of names.Generate ∷ (c ∷ cs) ∷ []) names.Generate (c ∷ cs)
 unfolding clap_on_literals
@@ -62,17 +75,30 @@ counted c cs s = record {
   found = rw (s.no_minus, s.no_minus, s.no_minus) refl;
 }
 
--- `audit`, alone or with a path
-pub audits : Reads (word_of names.Audit ∷ []) names.Audit []
-unfolding clap_on_literals
-audits = record { taken = refl; found = refl }
+-- `audit` or `draw`, alone or with a path
+pub reads_alone : (name : CommandName) → is_reading name ≡ true → Reads (word_of name ∷ []) name []
+unfolding clap_on_literals is_reading
+reads_alone names.Audit e = record { taken = refl; found = refl }
+reads_alone names.Draw e = record { taken = refl; found = refl }
+reads_alone names.Turns e = cc
+reads_alone names.Replay e = cc
+reads_alone names.Image e = cc
+reads_alone names.Generate e = cc
 
-pub audits_file : (c : ℕ) (cs : List ℕ) → eqb c 45 ≡ false → Reads (word_of names.Audit ∷ (c ∷ cs) ∷ []) names.Audit []
-unfolding clap_on_literals
-audits_file c cs no_minus = record {
+pub reads_file : (c : ℕ) (cs : List ℕ) → eqb c 45 ≡ false → (name : CommandName) → is_reading name ≡ true → Reads (word_of name ∷ (c ∷ cs) ∷ []) name []
+unfolding clap_on_literals is_reading
+reads_file c cs no_minus names.Audit e = record {
   taken = rw (no_minus, no_minus) refl;
   found = refl;
 }
+reads_file c cs no_minus names.Draw e = record {
+  taken = rw (no_minus, no_minus) refl;
+  found = refl;
+}
+reads_file c cs no_minus names.Turns e = cc
+reads_file c cs no_minus names.Replay e = cc
+reads_file c cs no_minus names.Image e = cc
+reads_file c cs no_minus names.Generate e = cc
 
 pub is_plain : is_simple table ≡ true
 unfolding clap_on_literals

@@ -36,6 +36,7 @@ of_command (Some names.Replay) rest n e = absurd (no_number (asked_by names.Repl
 of_command (Some names.Image) rest n e = absurd (no_number (asked_by names.Image) (pace_after rest) n (λ k h. cc) e)
 of_command (Some names.Generate) rest n e = counted rest n e
 of_command (Some names.Audit) rest n e = absurd (no_number (asked_by names.Audit) (number_after names.Audit rest) n (λ k h. cc) e)
+of_command (Some names.Draw) rest n e = absurd (no_number (asked_by names.Draw) (number_after names.Draw rest) n (λ k h. cc) e)
 
 pub generated_within : (words : List (List ℕ)) (n : ℕ) → words_ask words ≡ Some (asks.Generate n) → (1 ≤ n) × (n ≤ 60000)
 generated_within [] n e = cc

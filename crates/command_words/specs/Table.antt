@@ -45,9 +45,9 @@ program = on_top (λ s. record s {
 }) (new_app (codes "ptmac"))
 
 abbrev pub table : App
-table = with_subcommand (with_subcommand (with_subcommand (with_subcommand (with_subcommand program
+table = with_subcommand (with_subcommand (with_subcommand (with_subcommand (with_subcommand (with_subcommand program
     (paced (word_of names.Turns)).top) (paced (word_of names.Replay)).top) (paced (word_of names.Image)).top)
-    generator.top) (reader (word_of names.Audit)).top
+    generator.top) (reader (word_of names.Audit)).top) (reader (word_of names.Draw)).top
 
 -- a command that was found, with the text of its number, where it has one
 abbrev pub FoundText : Type 0

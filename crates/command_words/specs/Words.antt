@@ -1,5 +1,5 @@
 -- What the words of the command line ask for.
-use Rattle.std.specs.Prelude.{ℕ, nat_le, ◌==◌, ◌&&◌, not, Bool, true, false, if◌then◌else◌, List, [], ◌∷◌, take, drop, Option, Some, None, option_and_then, option_map, codes}
+use Rattle.std.specs.Prelude.{ℕ, nat_le, ◌==◌, ◌&&◌, ◌||◌, not, Bool, true, false, if◌then◌else◌, List, [], ◌∷◌, take, drop, Option, Some, None, option_and_then, option_map, codes}
 use Rattle.std.specs.List.{list_all}
 use Rattle.std.specs.Str.{bytes_eq}
 use Rattle.trace_lines.specs.Numbers.{is_digit, numeral}
@@ -47,7 +47,7 @@ abbrev pub is_path : List ℕ → Bool
 is_path [] = false
 is_path (c ∷ cs) = not (c == 45)
 
--- the words behind `audit`: none, or the path of a file
+-- the words behind `audit` or `draw`: none, or the path of a file
 abbrev pub names_source : List (List ℕ) → Bool
 names_source [] = true
 names_source (path ∷ []) = is_path path
@@ -60,13 +60,15 @@ word_of names.Replay = codes "replay"
 word_of names.Image = codes "image"
 word_of names.Generate = codes "generate"
 word_of names.Audit = codes "audit"
+word_of names.Draw = codes "draw"
 
 abbrev pub command_named : List ℕ → Option CommandName
 command_named word = if bytes_eq word (word_of names.Turns) then Some names.Turns
     else if bytes_eq word (word_of names.Replay) then Some names.Replay
     else if bytes_eq word (word_of names.Image) then Some names.Image
     else if bytes_eq word (word_of names.Generate) then Some names.Generate
-    else if bytes_eq word (word_of names.Audit) then Some names.Audit else None
+    else if bytes_eq word (word_of names.Audit) then Some names.Audit
+    else if bytes_eq word (word_of names.Draw) then Some names.Draw else None
 
 -- the argument of a command that is its number
 abbrev pub argument_of : CommandName → Option (List ℕ)
@@ -75,6 +77,7 @@ argument_of names.Replay = Some (codes "preempt")
 argument_of names.Image = Some (codes "preempt")
 argument_of names.Generate = Some (codes "operations")
 argument_of names.Audit = None
+argument_of names.Draw = None
 
 -- what a command with its number asks for
 abbrev pub asked_by : CommandName → ℕ → Asked
@@ -83,6 +86,7 @@ asked_by names.Replay pace = asks.Run manners.Replay pace
 asked_by names.Image pace = asks.Image pace
 asked_by names.Generate n = asks.Generate n
 asked_by names.Audit n = asks.Audit
+asked_by names.Draw n = asks.Draw
 
 -- the number that the words behind a command give, where they may stand there: 0 where it has no number
 abbrev pub number_after : CommandName → List (List ℕ) → Option ℕ
@@ -91,15 +95,20 @@ number_after names.Replay rest = pace_after rest
 number_after names.Image rest = pace_after rest
 number_after names.Generate rest = operations_after rest
 number_after names.Audit rest = if names_source rest then Some 0 else None
+number_after names.Draw rest = if names_source rest then Some 0 else None
 
 -- What the words ask for: the first names the command, and those behind it give its number.
 abbrev pub words_ask : List (List ℕ) → Option Asked
 words_ask [] = None
 words_ask (word ∷ rest) = option_and_then (λ name. option_map (asked_by name) (number_after name rest)) (command_named word)
 
--- the path in words that ask for an audit of a file
+-- a command that reads an image
+abbrev pub reads_image : List ℕ → Bool
+reads_image word = bytes_eq word (word_of names.Audit) || bytes_eq word (word_of names.Draw)
+
+-- the path in words that ask for an audit or a picture of a file
 abbrev pub path_in : List (List ℕ) → Option (List ℕ)
-path_in (word ∷ path ∷ []) = if bytes_eq word (word_of names.Audit) && is_path path then Some path else None
+path_in (word ∷ path ∷ []) = if reads_image word && is_path path then Some path else None
 path_in _ = None
 
 -- digits alone

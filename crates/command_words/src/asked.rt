@@ -30,6 +30,8 @@ pub enum Asked {
     },
     /// Whether the words of the image that is read are sound. `path_of` says from which file, if the words name one.
     Audit,
+    /// A picture of the machine whose image is read. `path_of` says from which file, if the words name one.
+    Draw,
 }
 
 /// The first word of those that ask for something.
@@ -40,6 +42,7 @@ pub(crate) enum CommandName {
     Image,
     Generate,
     Audit,
+    Draw,
 }
 
 impl CommandName {
@@ -52,6 +55,7 @@ impl CommandName {
             "image" => Some(CommandName::Image),
             "generate" => Some(CommandName::Generate),
             "audit" => Some(CommandName::Audit),
+            "draw" => Some(CommandName::Draw),
             _ => None,
         }
     }
@@ -63,7 +67,7 @@ impl CommandName {
         match self {
             CommandName::Turns | CommandName::Replay | CommandName::Image => Some("preempt"),
             CommandName::Generate => Some("operations"),
-            CommandName::Audit => None,
+            CommandName::Audit | CommandName::Draw => None,
         }
     }
 
@@ -83,6 +87,7 @@ impl CommandName {
             CommandName::Image => Asked::Image { pace: number },
             CommandName::Generate => Asked::Generate { operations: number },
             CommandName::Audit => Asked::Audit,
+            CommandName::Draw => Asked::Draw,
         }
     }
 }

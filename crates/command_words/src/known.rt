@@ -1,7 +1,7 @@
 ghost use Rattle.std.specs.Prelude.{◌≡◌, is_some, map, option_map, codes, string_bytes};
 ghost use Rattle.std.specs.Str.{bytes_eq};
 ghost use Rattle.trace_lines.specs.Numbers.{is_proper as is_proper_lem, numeral};
-ghost use Rattle.command_words.specs.Words.{words_ask, has_digits as has_digits_lem, is_path as is_path_lem, names_source, number_after, number_within, operations_after, pace_behind, pace_in, pace_after, path_in};
+ghost use Rattle.command_words.specs.Words.{words_ask, has_digits as has_digits_lem, is_path as is_path_lem, names_source, reads_image as reads_image_lem, number_after, number_within, operations_after, pace_behind, pace_in, pace_after, path_in};
 
 use crate::asked::CommandName;
 
@@ -94,7 +94,7 @@ fn is_path(word: &str) -> bool
     }
 }
 
-// The words behind `audit` are the path of a file, or none.
+// The words behind `audit` or `draw` are the path of a file, or none.
 fn has_source(words: &[String]) -> bool
     ensures { result ≡ names_source (map string_bytes words.now) }
 {
@@ -112,7 +112,7 @@ fn has_number(name: CommandName, words: &[String]) -> bool
     match name {
         CommandName::Turns | CommandName::Replay | CommandName::Image => has_pace(words),
         CommandName::Generate => has_operations(words),
-        CommandName::Audit => has_source(words),
+        CommandName::Audit | CommandName::Draw => has_source(words),
     }
 }
 
@@ -129,12 +129,19 @@ pub fn is_known(words: &[String]) -> bool
     }
 }
 
-/// The path of the file that is to be audited, where the words name one.
+// A command that reads an image.
+fn reads_image(word: &str) -> bool
+    ensures { result ≡ reads_image_lem word.now }
+{
+    word == "audit" || word == "draw"
+}
+
+/// The path of the file that is to be audited or drawn, where the words name one.
 pub fn path_of(words: &[String]) -> Option<&str>
     ensures { option_map (λ s. s.now) result ≡ path_in (map string_bytes words.now) }
 {
     match words {
-        [command, path] if command.as_str() == "audit" && is_path(path.as_str()) => {
+        [command, path] if reads_image(command.as_str()) && is_path(path.as_str()) => {
             Some(path.as_str())
         }
         _ => None,

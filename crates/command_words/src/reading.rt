@@ -52,6 +52,7 @@ fn commands<'a>(alloc: Global) -> Result<Command<'a>, AllocError>
     let image = paced(alloc, "image")?;
     let generate = generator(alloc)?;
     let audit = reader(alloc, "audit")?;
+    let draw = reader(alloc, "draw")?;
     Command::new(alloc, "ptmac")
         .no_binary_name(true)
         .disable_help_flag(true)
@@ -61,7 +62,8 @@ fn commands<'a>(alloc: Global) -> Result<Command<'a>, AllocError>
         .subcommand(replay)?
         .subcommand(image)?
         .subcommand(generate)?
-        .subcommand(audit)
+        .subcommand(audit)?
+        .subcommand(draw)
 }
 
 // The command that was found, with its number. One that has none is asked with 0.

@@ -80,7 +80,18 @@ fn reads_each_form_of_audit(rt: HostRuntime) -> Result<(), Fail> {
         assert!(rt; asked_of_line(&rt, line)? == Some(Asked::Audit), "{line}");
         assert!(rt; path_of(&words_of(&rt, line)?) == path, "{line}");
     }
-    for line in ["turns", "turns 1", "image a", "audit -a", "audit a b"] {
+    assert!(rt; asked_of_line(&rt, "draw")? == Some(Asked::Draw));
+    assert!(rt; asked_of_line(&rt, "draw saved.image")? == Some(Asked::Draw));
+    assert!(rt; path_of(&words_of(&rt, "draw saved.image")?) == Some("saved.image"));
+    for line in [
+        "turns",
+        "turns 1",
+        "image a",
+        "audit -a",
+        "audit a b",
+        "draw",
+        "draw -",
+    ] {
         assert!(rt; path_of(&words_of(&rt, line)?).is_none(), "{line}");
     }
     Ok(())
@@ -127,7 +138,7 @@ static TAKEN_BY_CLAP: [&str; 26] = [
 ];
 
 // And others.
-static UNKNOWN: [&str; 59] = [
+static UNKNOWN: [&str; 62] = [
     "",
     "run",
     "turn",
@@ -187,6 +198,9 @@ static UNKNOWN: [&str; 59] = [
     "audit --a",
     "audit a b",
     "audit --preempt 1",
+    "draws",
+    "draw -",
+    "draw a b",
 ];
 
 #[test]

@@ -8,10 +8,12 @@ use Rattle.xp_machine.specs.declared.status.Status.{Status}
 use Rattle.xp_machine.specs.declared.status.Status.TheVariants as status
 use Rattle.vcpu_runners.specs.Gates.{ArePaced, SetBy}
 use Rattle.xp_preempt.specs.Gates.{Gate, IsPaced, is_in_step}
-use Rattle.xp_machine.specs.Audited.{IsAuditDue}
+use Rattle.xp_machine.specs.Audited.{IsImageDue}
+use Rattle.xp_machine.specs.declared.audits.Showing.{Showing}
+use Rattle.xp_machine.specs.declared.audits.Showing.TheVariants.{Line, Drawn}
 use Rattle.xp_machine.specs.Texts.{fault_status, verdict_status}
 use Rattle.command_words.specs.declared.asked.Asked.{Asked}
-use Rattle.command_words.specs.declared.asked.Asked.TheVariants.{Run, Image, Generate, Audit}
+use Rattle.command_words.specs.declared.asked.Asked.TheVariants.{Run, Image, Generate, Audit, Draw}
 use Rattle.walk_audit.specs.declared.verdict.Verdict.{Verdict}
 use Rattle.walk_audit.specs.declared.verdict.Verdict.TheVariants.{Sound}
 use Rattle.std.specs.Io.KnownBytes.{Keeps}
@@ -55,10 +57,11 @@ of_verdict : (v : Verdict) → HasText (verdict_status v)
 of_verdict Sound = of_done
 of_verdict _ = of_unsound
 
-pub audit_has_text : (from from' : Option (List ℕ)) (s : Status) (text : List ℕ) → IsAuditDue from from' s text → HasText s
-audit_has_text from from' s text (inl (bytes, read, inl h)) = subst HasText (sym h.answer_is) (of_verdict h.verdict)
-audit_has_text from from' s text (inl (bytes, read, inr h)) = subst HasText (sym h.answer_is) of_image
-audit_has_text from from' s text (inr h) = subst HasText (sym h.answer_is) of_length
+pub image_has_text : (showing : Showing) (from from' : Option (List ℕ)) (s : Status) (text : List ℕ) → IsImageDue showing from from' s text → HasText s
+image_has_text Line from from' s text (inl (bytes, read, inl h)) = subst HasText (sym h.shown.0) (of_verdict h.verdict)
+image_has_text Drawn from from' s text (inl (bytes, read, inl h)) = subst HasText (sym h.shown.0) of_done
+image_has_text showing from from' s text (inl (bytes, read, inr h)) = subst HasText (sym h.answer_is) of_image
+image_has_text showing from from' s text (inr h) = subst HasText (sym h.answer_is) of_length
 
 -- ---- what the words ask for
 -- the gates are told the pace, and what is asked is done
@@ -102,4 +105,5 @@ memory_outcome asked gates from to kept kept_too = let set = could_be_set (optio
     of (Some (Image pace)) = kept_too
     of (Some (Generate n)) = (kept, kept_too)
     of (Some Audit) = kept_too
+    of (Some Draw) = kept_too
     of None = (kept, kept_too)

@@ -6,11 +6,12 @@ use Rattle.trace_text.specs.declared.trace.Trace.{Trace}
 use Rattle.trace_text.specs.TraceOf.{Fault, trace_of}
 use Rattle.xp_machine.specs.declared.status.Status.{Status}
 use Rattle.xp_machine.specs.declared.status.Status.TheVariants as status
-use Rattle.xp_machine.specs.Audited.{IsAuditDue}
+use Rattle.xp_machine.specs.Audited.{IsImageDue}
+use Rattle.xp_machine.specs.declared.audits.Showing.TheVariants as showings
 use Rattle.xp_machine.specs.Texts.{fault_text, fault_status}
 use Rattle.vcpu_runners.specs.Gates.{SetBy}
 use Rattle.command_words.specs.declared.asked.Asked.{Asked}
-use Rattle.command_words.specs.declared.asked.Asked.TheVariants.{Run, Image, Generate, Audit}
+use Rattle.command_words.specs.declared.asked.Asked.TheVariants.{Run, Image, Generate, Audit, Draw}
 use Rattle.command_words.specs.declared.asked.Manner.{Manner}
 use Rattle.command_words.specs.declared.asked.Manner.TheVariants as manners
 use Rattle.xp_machine.specs.Ran.{ImagedTrace, RanGenerated, RanTrace}
@@ -75,20 +76,22 @@ GeneratedOutcome n gates to to' status.BadWords = ⊥
 GeneratedOutcome n gates to to' status.BadImage = ⊥
 GeneratedOutcome n gates to to' status.Unsound = ⊥
 
--- by what the words ask for: a run of what is read, or of a generated trace, where nothing is read; an audit of what is read; or nothing at all
+-- by what the words ask for: a run of what is read, or of a generated trace, where nothing is read; an audit or a picture of what is read; or nothing at all
 abbrev pub OutcomeOf : Option Asked → List Gate → Option (List ℕ) → Option (List ℕ) → Option (List ℕ) → Option (List ℕ) → Status → Type 0
 OutcomeOf (Some (Run manner pace)) gates from from' to to' answer = Outcome (IsDue (reported manner) gates) from from' to to' answer
 OutcomeOf (Some (Image pace)) gates from from' to to' answer = Outcome (IsDue imaged gates) from from' to to' answer
 OutcomeOf (Some (Generate n)) gates from from' to to' answer = Keeps from from' × GeneratedOutcome n gates to to' answer
-OutcomeOf (Some Audit) gates from from' to to' answer = Outcome IsAuditDue from from' to to' answer
+OutcomeOf (Some Audit) gates from from' to to' answer = Outcome (IsImageDue showings.Line) from from' to to' answer
+OutcomeOf (Some Draw) gates from from' to to' answer = Outcome (IsImageDue showings.Drawn) from from' to to' answer
 OutcomeOf None gates from from' to to' answer = Keeps from from' × Keeps to to'
 
--- the pace that the gates are told; a generated run is not to be interrupted, and for an audit they are told nothing
+-- the pace that the gates are told; a generated run is not to be interrupted, and for an audit or a picture they are told nothing
 abbrev pub pace_of : Asked → Option ℕ
 pace_of (Run manner pace) = Some pace
 pace_of (Image pace) = Some pace
 pace_of (Generate n) = Some 0
 pace_of Audit = None
+pace_of Draw = None
 
 abbrev pub OutcomeBy : Option Asked → List Gate → Option (List ℕ) → Option (List ℕ) → Option (List ℕ) → Option (List ℕ) → Status → Type 0
 OutcomeBy asked gates from from' to to' answer = (set : List Gate) × SetBy (option_and_then pace_of asked) gates set × OutcomeOf asked set from from' to to' answer
@@ -99,6 +102,7 @@ reads (Some (Run manner pace)) = true
 reads (Some (Image pace)) = true
 reads (Some (Generate n)) = false
 reads (Some Audit) = true
+reads (Some Draw) = true
 reads None = false
 
 -- what words ask for that are to be run without threads
@@ -111,4 +115,5 @@ serial_of (Some (Run manner pace)) = serial_by manner pace
 serial_of (Some (Image pace)) = Some (Image pace)
 serial_of (Some (Generate n)) = Some (Generate n)
 serial_of (Some Audit) = Some Audit
+serial_of (Some Draw) = Some Draw
 serial_of None = None

@@ -1,21 +1,35 @@
-//! The audit of what is read.
-ghost use Rattle.std.specs.Prelude.{◌≡◌, ◌≢◌, ◌≤◌, ℕ, List, Option, IfOk, IsErrOf};
+//! The audit of what is read, and its picture.
+ghost use Rattle.std.specs.Prelude.{◌≡◌, ◌≢◌, ◌≤◌, ℕ, List, length, Option, IfOk, IsErrOf};
 ghost use Rattle.xp_io.specs.Causes.{Rose, TookOneMore};
-ghost use Rattle.xp_machine.specs.Audited.{IsAuditDue, IsJudgement, TellsLength};
+ghost use Rattle.walk_audit.specs.Judged.{Judged};
+ghost use Rattle.xp_words.specs.Machine.{IsMachine};
+ghost use Rattle.xp_words.specs.Places.{size, sizes_of};
+ghost use Rattle.xp_machine.specs.Audited.{IsImageDue, IsJudgement, Shows, TellsLength};
 ghost use Rattle.xp_machine.specs.Outcome.{Outcome};
 ghost use Rattle.xp_machine.specs.Texts.{verdict_status};
 
 use crate::due::{Due, Early};
 use crate::status::Status;
 use crate::texts::{bad_image, large_text, verdict_line};
+use machine_draw::draw;
 use machine_image::{ImageFault, read_image};
 use std::alloc::{AllocError, Global};
 use trace_lines::What;
 use walk_audit::{Verdict, audit};
 use xp_io::{ReadAllError, Sink, Source, read_all, write_whole};
+use xp_words::Layout;
 
 // As many bytes as an image may have: more than any has.
 const MAX_BYTES: usize = 536_870_912;
+
+/// What is written of an image.
+#[derive(Clone, Copy)]
+pub(crate) enum Showing {
+    /// Whether its words are sound, or what breaks them first, in one line.
+    Line,
+    /// A picture of its machine.
+    Drawn,
+}
 
 fn status_of(verdict: Verdict) -> Status
     ensures { result ≡ verdict_status verdict }
@@ -26,18 +40,44 @@ fn status_of(verdict: Verdict) -> Status
     }
 }
 
-// What is due for bytes that were read to their end.
-fn judge(alloc: Global, bytes: &[u8]) -> Result<Due, AllocError>
-    ensures { IfOk result (λ d. IsJudgement bytes.now d.status d.text.items) }
+// What is due for words on which this is the verdict.
+fn show(
+    showing: Showing,
+    alloc: Global,
+    layout: &Layout,
+    words: &[u64],
+    verdict: Verdict,
+) -> Result<Due, AllocError>
+    requires machine { IsMachine layout.now }
+    requires words { length words.now ≡ size (sizes_of layout.now) }
+    ensures { IfOk result (λ d. Shows showing layout.now words.now verdict d.status d.text.items) }
 {
-    match read_image(alloc, bytes) {
-        Ok((layout, words)) => {
-            let verdict = audit(alloc, &layout, &words)?;
+    match showing {
+        Showing::Line => {
             let text = verdict_line(alloc, verdict)?;
             Ok(Due {
                 status: status_of(verdict),
                 text,
             })
+        }
+        Showing::Drawn => {
+            let text = draw(alloc, layout, words, verdict)?;
+            Ok(Due {
+                status: Status::Done,
+                text,
+            })
+        }
+    }
+}
+
+// What is due for bytes that were read to their end.
+fn judge(showing: Showing, alloc: Global, bytes: &[u8]) -> Result<Due, AllocError>
+    ensures { IfOk result (λ d. IsJudgement showing bytes.now d.status d.text.items) }
+{
+    match read_image(alloc, bytes) {
+        Ok((layout, words)) => {
+            let verdict = audit(alloc, &layout, &words)?;
+            show(showing, alloc, &layout, &words, verdict)
         }
         Err(ImageFault::Bad { at }) => {
             let text = bad_image(alloc, at)?;
@@ -62,15 +102,15 @@ fn too_long(alloc: Global) -> Result<Due, AllocError>
 }
 
 // What is due for what the source gives.
-fn gather<S: Source>(alloc: Global, source: &mut S) -> Result<Due, Early>
-    ensures due { IfOk result (λ d. IsAuditDue (S.left source.old) (S.left source.new) d.status d.text.items) }
+fn gather<S: Source>(showing: Showing, alloc: Global, source: &mut S) -> Result<Due, Early>
+    ensures due { IfOk result (λ d. IsImageDue showing (S.left source.old) (S.left source.new) d.status d.text.items) }
     ensures failed { IsErrOf result Early.Failed → Rose (S.faults source.old) (S.faults source.new) }
     ensures later { S.faults source.old ≤ S.faults source.new }
     ensures kept { IfOk result (λ _. S.faults source.new ≡ S.faults source.old) }
     ensures unfailed { IsErrOf result Early.Memory → S.faults source.new ≡ S.faults source.old }
 {
     match read_all(alloc, source, MAX_BYTES) {
-        Ok(bytes) => match judge(alloc, &bytes) {
+        Ok(bytes) => match judge(showing, alloc, &bytes) {
             Ok(due) => Ok(due),
             Err(_) => Err(Early::Memory),
         },
@@ -83,20 +123,21 @@ fn gather<S: Source>(alloc: Global, source: &mut S) -> Result<Due, Early>
     }
 }
 
-/// Reads an image to its end, and writes whether its words are sound, or what breaks them first.
-pub(crate) fn audit_what_is_read<S: Source, K: Sink>(
+/// Reads an image to its end, judges its words, and writes what is to be shown of it.
+pub(crate) fn show_what_is_read<S: Source, K: Sink>(
+    showing: Showing,
     alloc: Global,
     source: &mut S,
     sink: &mut K,
 ) -> Status
-    ensures outcome { Outcome IsAuditDue (S.left source.old) (S.left source.new) (K.taken sink.old) (K.taken sink.new) result }
+    ensures outcome { Outcome IsImageDue showing (S.left source.old) (S.left source.new) (K.taken sink.old) (K.taken sink.new) result }
     ensures words { result ≢ Status.BadWords }
     ensures read { result ≡ Status.ReadFault → Rose (S.faults source.old) (S.faults source.new) }
     ensures write { result ≡ Status.WriteFault → Rose (K.faults sink.old) (K.faults sink.new) }
     ensures read_kept { result ≢ Status.ReadFault → S.faults source.new ≡ S.faults source.old }
     ensures write_kept { result ≢ Status.WriteFault → K.faults sink.new ≡ K.faults sink.old }
 {
-    match gather(alloc, source) {
+    match gather(showing, alloc, source) {
         Err(Early::Failed) => Status::ReadFault,
         Err(Early::Memory) => Status::Memory,
         Ok(due) => match write_whole(sink, &due.text) {

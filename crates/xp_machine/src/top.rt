@@ -6,7 +6,7 @@ ghost use Rattle.xp_machine.specs.Outcome.{GeneratedOutcome, IsAnswer, IsDue, Ou
 ghost use Rattle.command_words.specs.Words.{words_ask};
 ghost use Rattle.xp_preempt.specs.Gates.{Gate, IsPaced};
 
-use crate::audits::audit_what_is_read;
+use crate::audits::{Showing, show_what_is_read};
 use crate::due::{Due, Early};
 use crate::execute::execute_generated;
 use crate::running::{Imaging, InThreads, InTurns, Running};
@@ -178,8 +178,8 @@ fn run_generated<K: Sink>(
 /// With `turns` one thread takes the turns that the trace asks for, and with `image` too, but what is written is the image of the closing machine;
 /// with `replay` each vCPU has a thread of its own and takes turns until it is retired, so that call returns only where all are. With
 /// `generate N` the trace is the generated one of N operations: it is run as by `turns` at pace 0, and its summary is written. Then, and where
-/// the words are others, nothing is read. With `audit`, alone or with a path, an image is read, and whether its words are sound is written; that
-/// the source is the file of the path is the caller's business. Gate v belongs to vCPU v, and is let go when the call returns; the further ones
+/// the words are others, nothing is read. With `audit`, alone or with a path, an image is read, and whether its words are sound is written; with
+/// `draw` a picture of its machine, as a text for Graphviz. That the source is the file of the path is the caller's business. Gate v belongs to vCPU v, and is let go when the call returns; the further ones
 /// are let go at once.
 pub fn run<R: Threads + Wait + Sync, S: Source, K: Sink>(
     rt: &R,
@@ -218,7 +218,8 @@ pub fn run<R: Threads + Wait + Sync, S: Source, K: Sink>(
             run_with(&Imaging, alloc, source, sink, paced(gates, pace))
         }
         Ok(Some(Asked::Generate { operations })) => run_generated(alloc, operations, sink, gates),
-        Ok(Some(Asked::Audit)) => audit_what_is_read(alloc, source, sink),
+        Ok(Some(Asked::Audit)) => show_what_is_read(Showing::Line, alloc, source, sink),
+        Ok(Some(Asked::Draw)) => show_what_is_read(Showing::Drawn, alloc, source, sink),
         Ok(None) => Status::BadWords,
         Err(_) => Status::Memory,
     }
@@ -255,7 +256,8 @@ pub fn run_serial<S: Source, K: Sink>(
             } => Status::BadWords,
             Asked::Image { pace } => run_with(&Imaging, alloc, source, sink, paced(gates, pace)),
             Asked::Generate { operations } => run_generated(alloc, operations, sink, gates),
-            Asked::Audit => audit_what_is_read(alloc, source, sink),
+            Asked::Audit => show_what_is_read(Showing::Line, alloc, source, sink),
+            Asked::Draw => show_what_is_read(Showing::Drawn, alloc, source, sink),
         },
         Ok(None) => Status::BadWords,
         Err(_) => Status::Memory,

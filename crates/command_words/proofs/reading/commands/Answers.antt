@@ -2,7 +2,7 @@ use Rattle.std.proofs.Common.{rules, ap, ap₂, ◌≡◌, ◌∙◌}
 use Rattle.std.proofs.lemmas.Result.{IfOk-weaker}
 use Rattle.clap.specs.Words.{App, app_of, with_subcommand}
 use Rattle.command_words.specs.Words.{word_of}
-use Rattle.command_words.specs.Table.{generator, paced, program}
+use Rattle.command_words.specs.Table.{generator, paced, program, reader}
 use Rattle.command_words.specs.declared.asked.CommandName.TheVariants as names
 use Rattle.command_words.proofs.reading.commands.Goals as goal
 
@@ -18,6 +18,9 @@ three = with_subcommand two (paced (word_of names.Image)).top
 abbrev four : App
 four = with_subcommand three generator.top
 
+abbrev five : App
+five = with_subcommand four (reader (word_of names.Audit)).top
+
 pub returns : goal.returns
 returns c =
     let top_is : app_of c.subcommand_required.result ≡ program = search rules in
@@ -25,4 +28,5 @@ returns c =
     let two_is : app_of c.in_ok-subcommand-2.field-0 ≡ two = c.in_ok-subcommand-2.ensures.shape c.in_ok-replay.ensures.local ∙ ap₂ with_subcommand one_is (ap (λ (a : App). a.top) c.in_ok-replay.ensures.app) in
     let three_is : app_of c.in_ok-subcommand-3.field-0 ≡ three = c.in_ok-subcommand-3.ensures.shape c.in_ok-image.ensures.local ∙ ap₂ with_subcommand two_is (ap (λ (a : App). a.top) c.in_ok-image.ensures.app) in
     let four_is : app_of c.in_ok-subcommand-4.field-0 ≡ four = c.in_ok-subcommand-4.ensures.shape c.in_ok-generate.ensures.local ∙ ap₂ with_subcommand three_is (ap (λ (a : App). a.top) c.in_ok-generate.ensures.app) in
-    IfOk-weaker c.subcommand-5.result _ _ (λ r h. h.shape c.in_ok-audit.ensures.local ∙ ap₂ with_subcommand four_is (ap (λ (a : App). a.top) c.in_ok-audit.ensures.app)) c.subcommand-5.ensures
+    let five_is : app_of c.in_ok-subcommand-5.field-0 ≡ five = c.in_ok-subcommand-5.ensures.shape c.in_ok-audit.ensures.local ∙ ap₂ with_subcommand four_is (ap (λ (a : App). a.top) c.in_ok-audit.ensures.app) in
+    IfOk-weaker c.subcommand-6.result _ _ (λ r h. h.shape c.in_ok-draw.ensures.local ∙ ap₂ with_subcommand five_is (ap (λ (a : App). a.top) c.in_ok-draw.ensures.app)) c.subcommand-6.ensures

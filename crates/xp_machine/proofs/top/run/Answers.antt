@@ -22,7 +22,12 @@ returns-in-Ok-Some-Image-clause-outcome g c =
 pub returns-in-Ok-Some-Audit-clause-outcome : goal.returns-in-Ok-Some-Audit-clause-outcome
 returns-in-Ok-Some-Audit-clause-outcome g c =
     let asked = sym c.in-Ok-Some-Audit.ensures.reads ∙ c.in-Ok-Some-Audit.field-0-is ∙ ap Some c.in-Ok-Some-Audit.field-0-0-is in
-    outcome_untold _ _ _ _ _ _ _ _ asked refl c.audit_what_is_read.ensures.outcome
+    outcome_untold _ _ _ _ _ _ _ _ asked refl c.show_what_is_read.ensures.outcome
+
+pub returns-in-Ok-Some-Draw-clause-outcome : goal.returns-in-Ok-Some-Draw-clause-outcome
+returns-in-Ok-Some-Draw-clause-outcome g c =
+    let asked = sym c.in-Ok-Some-Draw.ensures.reads ∙ c.in-Ok-Some-Draw.field-0-is ∙ ap Some c.in-Ok-Some-Draw.field-0-0-is in
+    outcome_untold _ _ _ _ _ _ _ _ asked refl c.show_what_is_read-in-Ok-Some-Draw.ensures.outcome
 
 pub run_generated-requires-clause-least : goal.run_generated-requires-clause-least
 run_generated-requires-clause-least g c =

@@ -26,7 +26,12 @@ returns-in-Image-clause-outcome g c =
 pub returns-in-Audit-clause-outcome : goal.returns-in-Audit-clause-outcome
 returns-in-Audit-clause-outcome g c =
     let asked = sym c.in-Ok-Some.ensures.reads ∙ c.in-Ok-Some.field-0-is ∙ ap Some c.in-Audit.is in
-    outcome_untold _ _ _ _ _ _ _ _ (ap serial_of asked) refl c.audit_what_is_read.ensures.outcome
+    outcome_untold _ _ _ _ _ _ _ _ (ap serial_of asked) refl c.show_what_is_read.ensures.outcome
+
+pub returns-in-Draw-clause-outcome : goal.returns-in-Draw-clause-outcome
+returns-in-Draw-clause-outcome g c =
+    let asked = sym c.in-Ok-Some.ensures.reads ∙ c.in-Ok-Some.field-0-is ∙ ap Some c.in-Draw.is in
+    outcome_untold _ _ _ _ _ _ _ _ (ap serial_of asked) refl c.show_what_is_read-in-Draw.ensures.outcome
 
 pub run_generated-requires-clause-least : goal.run_generated-requires-clause-least
 run_generated-requires-clause-least g c = (generated_within (map string_bytes c.args.words.now) _ (sym c.in-Ok-Some.ensures.reads ∙ c.in-Ok-Some.field-0-is ∙ ap Some c.in-Generate.is)).0
