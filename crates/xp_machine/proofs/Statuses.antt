@@ -56,7 +56,7 @@ of_verdict Sound = of_done
 of_verdict _ = of_unsound
 
 pub audit_has_text : (from from' : Option (List ℕ)) (s : Status) (text : List ℕ) → IsAuditDue from from' s text → HasText s
-audit_has_text from from' s text (inl (bytes, read, inl h)) = subst HasText (sym h.answer_is) (of_verdict h.verdict)
+audit_has_text from from' s text (inl (bytes, read, inl h)) = subst HasText (sym h.told.answer_is) (of_verdict h.told.verdict)
 audit_has_text from from' s text (inl (bytes, read, inr h)) = subst HasText (sym h.answer_is) of_image
 audit_has_text from from' s text (inr h) = subst HasText (sym h.answer_is) of_length
 

@@ -13,16 +13,20 @@ use Rattle.xp_machine.specs.declared.status.Status.{Status}
 use Rattle.xp_machine.specs.declared.status.Status.TheVariants as status
 use Rattle.xp_machine.specs.Texts.{bad_image_text, fault_text, verdict_status}
 
--- the bytes are the image of a machine, and the verdict on its words is told
+-- a verdict on these words is told
+pub record TellsOf (machine : Machine) (words : List ℕ) (answer : Status) (text : List ℕ) : Type 0 where
+  pub verdict : Verdict
+  pub judged : Judged machine words verdict
+  pub answer_is : answer ≡ verdict_status verdict
+  pub text_is : text ≡ verdict_text verdict ++ codes "\n"
+
+-- the bytes are the image of a machine, and a verdict on its words is told
 pub record TellsVerdict (bytes : List ℕ) (answer : Status) (text : List ℕ) : Type 0 where
   pub machine : Machine
   pub words : List ℕ
   pub imaged : IsImaged machine words
   pub bytes_are : bytes ≡ image_of machine words
-  pub verdict : Verdict
-  pub judged : Judged machine words verdict
-  pub answer_is : answer ≡ verdict_status verdict
-  pub text_is : text ≡ verdict_text verdict ++ codes "\n"
+  pub told : TellsOf machine words answer text
 
 -- they are none, and the first fault is told
 pub record TellsFault (bytes : List ℕ) (answer : Status) (text : List ℕ) : Type 0 where

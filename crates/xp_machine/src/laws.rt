@@ -4,6 +4,8 @@ ghost use Rattle.xp_words.specs.Machine.{Machine};
 ghost use Rattle.xp_board.specs.Sound.{SoundWords};
 ghost use Rattle.machine_image.specs.Image.{image_of};
 ghost use Rattle.trace_text.specs.declared.trace.Trace.{Trace};
+ghost use Rattle.xp_machine.specs.declared.status.Status.{Status};
+ghost use Rattle.xp_machine.specs.Audited.{IsJudgement, TellsOf};
 ghost use Rattle.xp_machine.specs.Ran.{ImagedTrace};
 ghost use Rattle.xp_words.specs.declared.ops.Call.{Call};
 ghost use Rattle.xp_words.specs.declared.ops.Op.{Op};
@@ -45,4 +47,9 @@ pub fn no_element_is_done_past_a_yes()
 /// An image that a run leaves is that of sound words.
 pub fn an_image_that_a_run_leaves_is_sound()
     ensures { (t : Trace) (gates : List Gate) (bytes : List ℕ) → ImagedTrace t gates bytes → (words : List ℕ) × SoundWords t.layout words × (bytes ≡ image_of t.layout words) }
+{}
+
+/// An audit of it does not refuse the bytes, and its verdict is one on those words.
+pub fn an_audit_of_it_judges_sound_words()
+    ensures { (t : Trace) (gates : List Gate) (bytes : List ℕ) → ImagedTrace t gates bytes → (answer : Status) (text : List ℕ) → IsJudgement bytes answer text → (words : List ℕ) × SoundWords t.layout words × TellsOf t.layout words answer text }
 {}
