@@ -39,6 +39,8 @@ NO_COMMANDS = [
     "replay --preempt=-0", "replay --preempt 1000001", "replay --preempt 0x10", "replay --preempt 1 --", "replay --preempt -- 1",
     "replay --preempt 1 2", "--preempt 1 replay", "--preempt=1 replay", "replay --preempt 1 --preempt 1",
     "replay --preempt=1 --preempt=2", "replay --preempt=1 --preempt 2", "replay --pre=1", "replay --PREEMPT=1", "replay -p 1",
+    "Image", "images", "image 1", "image image", "image --help", "image --", "image --preempt", "image --preempt 01", "image --preempt 1 2",
+    "Audit", "audits", "audit -", "audit -a", "audit --help", "audit --", "audit -- a", "audit a --", "audit a b", "audit --preempt 1",
 ]
 
 
@@ -58,13 +60,19 @@ def runs():
     for word in [b"turns\xff", b"replay\xff"]:
         yield f"{word!r}, which is no text", [word], {"input": TRACE}, 2, b"", advice("UNKNOWN_WORDS")
     too_many = b"xen-pv-trace 1\nframes 4097\n"
-    for command in ["turns", "replay"]:
+    for command in ["turns", "replay", "image"]:
         yield f"{command}, no bytes", [command], {"input": b""}, 3, b"bad trace line 1: end\n", advice("BAD_TRACE")
         yield f"{command}, a bad line", [command], {"input": b"xen-pv-trace 1\nframes 0\n"}, 3, b"bad trace line 2: range\n", advice("BAD_TRACE")
         yield f"{command}, too many frames", [command], {"input": too_many}, 4, b"too large line 2: frames 4097\n", advice("TOO_LARGE")
         yield f"{command}, a folder as input", [command], {"stdin": "/"}, 5, b"", advice("READ_FAULT")
         yield f"{command}, an output that is full", [command], {"input": TRACE, "stdout": "/dev/full"}, 6, None, advice("WRITE_FAULT")
         yield f"{command}, a bad line and a full output", [command], {"input": b"", "stdout": "/dev/full"}, 6, None, advice("WRITE_FAULT")
+    for words in [["audit"], ["audit", "/dev/null"]]:
+        yield f"{' '.join(words)}, no bytes", words, {"input": b""}, 8, b"bad image at 0\n", advice("BAD_IMAGE")
+    yield "audit, an output that is full", ["audit"], {"input": b"", "stdout": "/dev/full"}, 6, None, advice("WRITE_FAULT")
+    yield "audit, a folder as input", ["audit"], {"stdin": "/"}, 5, b"", advice("READ_FAULT")
+    for path in ["/", "no/such/file"]:
+        yield f"audit {path}", ["audit", path], {"input": b""}, 5, b"", advice("READ_FAULT")
     yield "replay without turns", ["replay"], {"input": TRACE.replace(b"turn 0 1\n", b"")}, 0, REPORT, b""
     large = b"xen-pv-trace 1\n#" + b" " * (48 << 20) + b"\nframes 1\ndomain 1\nvcpu 0\nend\n"
     yield "little memory", ["turns"], {"input": large, "preexec_fn": little_memory}, 7, b"", advice("MEMORY")

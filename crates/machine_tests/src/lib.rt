@@ -15,6 +15,8 @@ mod generated;
 #[cfg(test)]
 mod history;
 #[cfg(test)]
+mod images;
+#[cfg(test)]
 mod lists;
 #[cfg(test)]
 mod rivals;

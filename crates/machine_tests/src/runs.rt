@@ -8,7 +8,7 @@ use xp_io::{HonestSink, HonestSource, MemorySink, MemorySource, Sink, Source};
 use xp_machine::{Status, run_serial};
 use xp_preempt::{Paced, Preempt};
 
-const FIRST_UPDATE: &str =
+pub const FIRST_UPDATE: &str =
     "xen-pv-trace 1\nframes 1\ndomain 1\nvcpu 0\nown 0 0 1\nop 0 mmu 0x7ff0 0x1 7\nturn 0 2\nend\n";
 
 const FIRST_REPORT: &str =

@@ -12,7 +12,8 @@ use Rattle.xp_board.specs.Lists.{one_at}
 use Rattle.xp_board.specs.Readings.{kind_at, is_context}
 use Rattle.xp_board.specs.Recorded.{entry_demand, held_of, names, names_typed, table_entries}
 use Rattle.xp_board.proofs.HeldByForm.{same_zero}
-use Rattle.xp_board.proofs.Sums.{if_fewer, one_at-other}
+use Rattle.xp_words.proofs.Shared.{if_or_zero as if_fewer}
+use Rattle.xp_board.proofs.Sums.{one_at-other}
 use Rattle.reference_recount.specs.declared.tallies.Tally.{Tally}
 use Rattle.reference_recount.specs.Growth.{AreMore, AreSums, is_other, names_other, context_names}
 use Rattle.reference_recount.proofs.More.{all-same, all-none, sum_most}

@@ -9,3 +9,4 @@ pub mod Reaching
 mod Replaying
 mod Statuses
 mod Pacing
+mod Imaging

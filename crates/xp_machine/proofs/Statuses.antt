@@ -58,8 +58,8 @@ of_verdict Sound = of_done
 of_verdict _ = of_unsound
 
 pub image_has_text : (showing : Showing) (from from' : Option (List ℕ)) (s : Status) (text : List ℕ) → IsImageDue showing from from' s text → HasText s
-image_has_text Line from from' s text (inl (bytes, read, inl h)) = subst HasText (sym h.shown.0) (of_verdict h.verdict)
-image_has_text Drawn from from' s text (inl (bytes, read, inl h)) = subst HasText (sym h.shown.0) of_done
+image_has_text Line from from' s text (inl (bytes, read, inl h)) = subst HasText (sym h.told.shown.0) (of_verdict h.told.verdict)
+image_has_text Drawn from from' s text (inl (bytes, read, inl h)) = subst HasText (sym h.told.shown.0) of_done
 image_has_text showing from from' s text (inl (bytes, read, inr h)) = subst HasText (sym h.answer_is) of_image
 image_has_text showing from from' s text (inr h) = subst HasText (sym h.answer_is) of_length
 

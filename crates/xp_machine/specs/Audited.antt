@@ -21,15 +21,19 @@ abbrev pub Shows : Showing → Machine → List ℕ → Verdict → Status → L
 Shows Line machine words verdict answer text = (answer ≡ verdict_status verdict) × (text ≡ verdict_text verdict ++ codes "\n")
 Shows Drawn machine words verdict answer text = (answer ≡ status.Done) × (text ≡ drawing_of machine words verdict)
 
--- the bytes are the image of a machine, and it is shown with the verdict on its words
+-- these words are shown with a verdict on them
+pub record TellsOf (showing : Showing) (machine : Machine) (words : List ℕ) (answer : Status) (text : List ℕ) : Type 0 where
+  pub verdict : Verdict
+  pub judged : Judged machine words verdict
+  pub shown : Shows showing machine words verdict answer text
+
+-- the bytes are the image of a machine, and its words are shown
 pub record TellsMachine (showing : Showing) (bytes : List ℕ) (answer : Status) (text : List ℕ) : Type 0 where
   pub machine : Machine
   pub words : List ℕ
   pub imaged : IsImaged machine words
   pub bytes_are : bytes ≡ image_of machine words
-  pub verdict : Verdict
-  pub judged : Judged machine words verdict
-  pub shown : Shows showing machine words verdict answer text
+  pub told : TellsOf showing machine words answer text
 
 -- they are none, and the first fault is told
 pub record TellsFault (bytes : List ℕ) (answer : Status) (text : List ℕ) : Type 0 where

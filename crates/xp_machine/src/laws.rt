@@ -4,6 +4,8 @@ ghost use Rattle.xp_words.specs.Machine.{Machine};
 ghost use Rattle.xp_board.specs.Sound.{SoundWords};
 ghost use Rattle.machine_image.specs.Image.{image_of};
 ghost use Rattle.trace_text.specs.declared.trace.Trace.{Trace};
+ghost use Rattle.xp_machine.specs.declared.status.Status.{Status};
+ghost use Rattle.xp_machine.specs.Audited.{IsJudgement, TellsOf};
 ghost use Rattle.xp_machine.specs.Ran.{ImagedTrace};
 ghost use Rattle.xp_words.specs.declared.ops.Call.{Call};
 ghost use Rattle.xp_words.specs.declared.ops.Op.{Op};
@@ -46,3 +48,15 @@ pub fn no_element_is_done_past_a_yes()
 pub fn an_image_that_a_run_leaves_is_sound()
     ensures { (t : Trace) (gates : List Gate) (bytes : List ℕ) → ImagedTrace t gates bytes → (words : List ℕ) × SoundWords t.layout words × (bytes ≡ image_of t.layout words) }
 {}
+
+/// Such an image is shown, by its verdict or by a picture, as one of those words: its bytes are not refused.
+pub fn what_is_shown_of_an_own_image_is_of_sound_words()
+    ensures { (showing : Showing) (t : Trace) (gates : List Gate) (bytes : List ℕ) → ImagedTrace t gates bytes → (answer : Status) (text : List ℕ) → IsJudgement showing bytes answer text → (words : List ℕ) × SoundWords t.layout words × TellsOf showing t.layout words answer text }
+{}
+
+/// An audit of an image that a run leaves says that it is sound.
+pub fn an_audit_of_an_own_image_says_sound()
+    ensures { (t : Trace) (gates : List Gate) (bytes : List ℕ) → ImagedTrace t gates bytes → (answer : Status) (text : List ℕ) → IsJudgement Line bytes answer text → (answer ≡ Done) × (text ≡ codes "sound\n") }
+{
+    sound_words_break_nothing();
+}
