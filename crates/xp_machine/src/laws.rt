@@ -1,10 +1,13 @@
 //! What holds of the turns of a run, and of the image that it leaves, as contracts of functions that do nothing.
-ghost use Rattle.std.specs.Prelude.{ℕ, ◌≡◌, ◌+◌, ◌-◌, ◌<◌, ◌∷◌, ◌++◌, All, List, true, slice_get, Option, Some};
+ghost use Rattle.std.specs.Prelude.{ℕ, ◌≡◌, ◌+◌, ◌-◌, ◌<◌, ◌∷◌, ◌++◌, All, List, true, slice_get, codes, Option, Some};
 ghost use Rattle.xp_words.specs.Machine.{Machine};
 ghost use Rattle.xp_board.specs.Sound.{SoundWords};
 ghost use Rattle.machine_image.specs.Image.{image_of};
 ghost use Rattle.trace_text.specs.declared.trace.Trace.{Trace};
+ghost use Rattle.xp_machine.specs.declared.audits.Showing.{Showing};
+ghost use Rattle.xp_machine.specs.declared.audits.Showing.TheVariants.{Line};
 ghost use Rattle.xp_machine.specs.declared.status.Status.{Status};
+ghost use Rattle.xp_machine.specs.declared.status.Status.TheVariants.{Done};
 ghost use Rattle.xp_machine.specs.Audited.{IsJudgement, TellsOf};
 ghost use Rattle.xp_machine.specs.Ran.{ImagedTrace};
 ghost use Rattle.xp_words.specs.declared.ops.Call.{Call};
@@ -15,6 +18,8 @@ ghost use Rattle.vcpu_turn.specs.CallAsks.{CallStops, LastCallStops, asks_before
 ghost use Rattle.vcpu_turn.specs.Cpus.{OfCalls, OfOne, job_next, job_of};
 ghost use Rattle.vcpu_runners.specs.Turns.{PassesYes, Processing, Task, Tried, begins_at, is_due, next_of, task_of};
 ghost use Rattle.xp_machine.specs.Turns.{MakesStagedTurn, Stage, StaysWithin};
+
+use walk_audit::sound_words_break_nothing;
 
 /// In a turn in which no element is done past a yes the gate of that vCPU says no at each ask, but for the last one where the turn is paused for it.
 pub fn a_turn_hears_no_until_it_pauses()
