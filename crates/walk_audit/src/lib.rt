@@ -7,6 +7,7 @@ mod dead;
 mod deciding;
 mod entries;
 mod held;
+pub mod laws;
 mod mapped;
 mod pages;
 mod readers;
