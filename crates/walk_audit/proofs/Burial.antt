@@ -1,5 +1,5 @@
 -- What is left of a dead domain, and that nothing is.
-use Rattle.std.proofs.Common.{◌≡◌, ◌≢◌, ℕ, ◌<◌, ◌≤◌, nat_lt, ◌⊎◌, ◌==◌, Bool, true, false, not, IsTrue, Option, Some, None, List, inl, inr, refl, arith}
+use Rattle.std.proofs.Common.{◌≡◌, ℕ, ◌<◌, nat_lt, ◌⊎◌, ◌==◌, Bool, true, false, IsTrue, Option, Some, None, List, inl, inr, refl, arith}
 use Rattle.std.proofs.lemmas.Bool.Decides.{nat_tests}
 use Rattle.std.proofs.lemmas.Bool.{cases_Bool}
 use Rattle.xp_words.specs.RefWords.{bit, ref_read}
@@ -8,11 +8,11 @@ use Rattle.xp_words.specs.declared.refs.RefWord.TheVariants.{Free, Owned, Dying}
 use Rattle.xp_words.specs.Machine.{Machine}
 use Rattle.xp_words.specs.declared.place.Place.{Place}
 use Rattle.xp_words.specs.declared.place.Place.TheVariants.{Life, Refs, Kind, Vcpu}
-use Rattle.xp_words.specs.Places.{Sizes, sizes_of, is_place, memory, run_of}
+use Rattle.xp_words.specs.Places.{sizes_of, is_place, memory, run_of}
 use Rattle.xp_board.specs.Lists.{Member}
-use Rattle.xp_board.specs.Readings.{owner_of, allocated_mark, allocated_in, is_context, domain_of, kind_at}
+use Rattle.xp_board.specs.Readings.{owner_of, allocated_mark, allocated_in, is_context, kind_at}
 use Rattle.xp_board.specs.LifeSteps.{is_unallocated, is_unpinned, is_unkept}
-use Rattle.xp_board.specs.Sound.{DeadDomain, KeptForNobody, IsLookedAt}
+use Rattle.xp_board.specs.Sound.{DeadDomain, IsLookedAt}
 use Rattle.reference_recount.specs.Recounted.{nobody}
 use Rattle.walk_audit.specs.Breaks.{IsUnburied}
 use Rattle.walk_audit.specs.Burials.{HasMark, NamesOne, IsUnstopped, LeavesFrame, LeavesVcpu}
@@ -80,12 +80,11 @@ module _ (n : Machine) (m : Place → ℕ) (d : ℕ) where
   none_marked f h o e x = h (record { frame = f; real = owned_real n m f d o e; marked = x })
 
   unmarked : (f : ℕ) → owner_of (m (Refs f)) ≡ Some d → ¬ HasMark m d f → IsTrue (is_unallocated (m (Refs f))) × IsTrue (is_unpinned (m (Kind f))) × IsTrue (is_unkept (m (Kind f)))
-  unmarked f e h =
-      (
-        elim (mark_kinds (m (Refs f))) [ inl z ↦ grind (arith, nat_tests) | inr z ↦ absurd (h (record { owned = e; marked = inl z })) ],
-        elim (cases_Bool (kind_at m f).pinned) [ inl z ↦ absurd (h (record { owned = e; marked = inr (inl z) })) | inr z ↦ rw z refl ],
-        elim (cases_Bool (kind_at m f).kept) [ inl z ↦ absurd (h (record { owned = e; marked = inr (inr z) })) | inr z ↦ rw z refl ],
-      )
+  unmarked f e h = (
+    elim (mark_kinds (m (Refs f))) [ inl z ↦ grind (arith, nat_tests) | inr z ↦ absurd (h (record { owned = e; marked = inl z })) ],
+    elim (cases_Bool (kind_at m f).pinned) [ inl z ↦ absurd (h (record { owned = e; marked = inr (inl z) })) | inr z ↦ rw z refl ],
+    elim (cases_Bool (kind_at m f).kept) [ inl z ↦ absurd (h (record { owned = e; marked = inr (inr z) })) | inr z ↦ rw z refl ],
+  )
 
   unfull : (v k : ℕ) → ¬ NamesOne m v → k < 38 → IsTrue (is_context k) → m (Vcpu v k) ≡ 0
   unfull v k h l c = elim (cases_Bool (m (Vcpu v k) == 0)) [

@@ -1,16 +1,16 @@
 -- The checks one after the other.
-use Rattle.std.proofs.Common.{◌≡◌, ℕ, ◌+◌, ◌*◌, ◌<◌, ◌≤◌, ◌≢◌, ◌==◌, if◌then◌else◌, length, Bool, true, false, IsTrue, Option, Some, None, inl, inr, ◌⊎◌, refl, sym, subst, arith}
+use Rattle.std.proofs.Common.{◌≡◌, ℕ, ◌+◌, ◌*◌, ◌<◌, ◌≢◌, ◌==◌, if◌then◌else◌, length, false, IsTrue, Option, Some, None, inl, inr, ◌⊎◌, refl, subst, arith}
 use Rattle.std.proofs.lemmas.Bool.Decides.{nat_tests}
 use Rattle.std.proofs.lemmas.Bool.{cases_lt}
 use Rattle.xp_words.specs.Machine.{Machine}
 use Rattle.xp_words.specs.declared.place.Place.{Place}
 use Rattle.xp_words.specs.declared.place.Place.TheVariants.{Refs, Kind, Vcpu}
-use Rattle.xp_words.specs.Places.{Sizes, sizes_of, is_place, number, size, map_words}
+use Rattle.xp_words.specs.Places.{sizes_of, is_place, number, size, map_words}
 use Rattle.xp_words.proofs.PlaceLaws.{number-lt}
 use Rattle.xp_board.specs.Spelling.{IsSpelling}
 use Rattle.reference_recount.specs.Recounted.{IsReadable}
 use Rattle.walk_audit.specs.Breaks.{Breaks, is_map}
-use Rattle.walk_audit.specs.Order.{IsWithin, NoneBreaks, IsFirst, FirstOf, FirstFrom, IsNoLater, Passed, ComesFirst, check_of, position}
+use Rattle.walk_audit.specs.Order.{NoneBreaks, IsFirst, FirstOf, FirstFrom, Passed, ComesFirst, check_of, position}
 use Rattle.walk_audit.specs.declared.verdict.Verdict.{Verdict}
 use Rattle.walk_audit.specs.declared.verdict.Verdict.TheVariants as verdicts
 use Rattle.walk_audit.proofs.Stable.{spelling_stable}
@@ -21,9 +21,9 @@ module _ (n : Machine) (m : Place → ℕ) where
   pub spelled_by : NoneBreaks n m 0 0 (size (sizes_of n)) → (p : Place) → IsTrue (is_place (sizes_of n) p) → is_map p ≡ false → IsSpelling n p (m p)
   spelled_by h p r o =
       spelling_stable n p (m p) o (λ odd.
-        (let few = number-lt (sizes_of n) p r in
-        h.none (verdicts.Word (number (sizes_of n) p) (m p)) (record { check = refl; from = omega arith; below = few })
-        (record { place = p; real = r; other = o; stands = refl; found = refl; odd = odd })))
+      (let few = number-lt (sizes_of n) p r in
+      h.none (verdicts.Word (number (sizes_of n) p) (m p)) (record { check = refl; from = omega arith; below = few })
+      (record { place = p; real = r; other = o; stands = refl; found = refl; odd = odd })))
 
   pub readable : NoneBreaks n m 0 0 (size (sizes_of n)) → IsReadable n m
   unfolding is_place
@@ -58,11 +58,13 @@ module _ (n : Machine) (m : Place → ℕ) where
             | inl k ↦ absurd (p.none u k x)
             | inr k ↦ elim (cases_lt c (check_of u)) [
               | inl l ↦ inl (let at = f.within.check in omega arith)
-              | inr l ↦ (let at : check_of u ≡ c = omega arith in inr (let own = f.within.check in omega arith,
+              | inr l ↦ (let at : check_of u ≡ c = omega arith in inr (
+                let own = f.within.check in omega arith,
                 elim (cases_lt (position u) (position v)) [
                   | inl b ↦ absurd (f.before.none u (record { check = at; from = omega arith; below = b }) x)
                   | inr b ↦ b
-                ]))
+                ],
+              ))
             ]
           ];
         }

@@ -1,10 +1,9 @@
 -- The first verdict of a part of a check, put together of its parts.
-use Rattle.std.proofs.Common.{◌≡◌, ℕ, ◌+◌, ◌*◌, ◌<◌, ◌≤◌, Bool, true, false, List, [], ◌∷◌, IsTrue, Option, Some, None, inl, inr, refl, sym, ap, ◌∙◌, subst, arith, MatchOption}
+use Rattle.std.proofs.Common.{◌≡◌, ℕ, ◌≤◌, Option, Some, None, inl, inr, subst, arith}
 use Rattle.std.proofs.lemmas.Bool.{cases_lt}
 use Rattle.xp_words.specs.Machine.{Machine}
 use Rattle.xp_words.specs.declared.place.Place.{Place}
-use Rattle.walk_audit.specs.Breaks.{Breaks}
-use Rattle.walk_audit.specs.Order.{IsWithin, NoneBreaks, IsFirst, FirstOf, check_of, position}
+use Rattle.walk_audit.specs.Order.{NoneBreaks, IsFirst, FirstOf, position}
 use Rattle.walk_audit.specs.declared.verdict.Verdict.{Verdict}
 
 module _ (n : Machine) (m : Place → ℕ) (c : ℕ) where

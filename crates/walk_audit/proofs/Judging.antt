@@ -1,5 +1,5 @@
 -- What the checks find is the verdict.
-use Rattle.std.proofs.Common.{◌≡◌, ℕ, ◌<◌, ◌^◌, List, length, slice_index, unwrap_or, Option, Some, None, subst}
+use Rattle.std.proofs.Common.{◌≡◌, ℕ, ◌<◌, ◌^◌, List, length, slice_index, unwrap_or, Option, Some, None}
 use Rattle.xp_words.specs.Machine.{Machine, IsMachine}
 use Rattle.xp_words.specs.Places.{sizes_of, memory, size}
 use Rattle.walk_audit.specs.Judged.{Judged}

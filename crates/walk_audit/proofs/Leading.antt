@@ -1,5 +1,5 @@
 -- Recorded entries, where no vCPU holds anything.
-use Rattle.std.proofs.Common.{◌≡◌, ℕ, zero, suc, ◌+◌, ◌<◌, ◌*◌, ◌≤◌, ◌==◌, ◌||◌, ◌&&◌, Bool, true, false, IsTrue, Option, Some, None, ◌⊎◌, inl, inr, refl, sym, subst, ap, ◌∙◌, arith}
+use Rattle.std.proofs.Common.{◌≡◌, ℕ, zero, suc, ◌+◌, ◌<◌, ◌*◌, ◌≤◌, ◌==◌, ◌||◌, ◌&&◌, Bool, true, false, IsTrue, Option, Some, None, inl, inr, refl, sym, subst, ap, arith}
 use Rattle.std.proofs.lemmas.Bool.Decides.{nat_tests}
 use Rattle.std.proofs.lemmas.Bool.{cases_Bool, and_parts}
 use Rattle.xp_words.specs.declared.kind.KindWord.{KindWord}
@@ -9,19 +9,19 @@ use Rattle.xp_words.specs.PageTypes.{is_table, type_number}
 use Rattle.xp_words.specs.KindWords.{kind_read, kind_fields}
 use Rattle.xp_words.specs.Machine.{Machine}
 use Rattle.xp_words.specs.declared.place.Place.{Place}
-use Rattle.xp_words.specs.declared.place.Place.TheVariants.{Refs, Kind, Cell}
+use Rattle.xp_words.specs.declared.place.Place.TheVariants.{Kind, Cell}
 use Rattle.xp_words.specs.Places.{Sizes, sizes_of}
 use Rattle.xp_board.specs.After.{is_fixed}
 use Rattle.xp_board.specs.Spelling.{IsSpelling, is_kind_in}
 use Rattle.xp_board.specs.Lists.{first_by}
 use Rattle.xp_board.specs.Readings.{kind_at, is_live, is_partial, is_work}
 use Rattle.xp_board.specs.Recorded.{held, held_of, entry_demand, work_of, recorded_in}
-use Rattle.xp_board.specs.Valid.{LeadsWell, IsUnsettled, IsLastOfPartial}
+use Rattle.xp_board.specs.Valid.{LeadsWell, IsUnsettled}
 use Rattle.xp_board.proofs.KindForms.{fields_of, partial_form}
 use Rattle.reference_recount.specs.Recounted.{nobody, IsReadable}
 use Rattle.walk_audit.specs.Breaks.{Breaks, IsHeld, IsBadEntry, MayAsk}
 use Rattle.walk_audit.specs.Leads.{LeadsTo, looked_at}
-use Rattle.walk_audit.specs.Order.{IsWithin, NoneBreaks, check_of, position}
+use Rattle.walk_audit.specs.Order.{NoneBreaks, check_of, position}
 use Rattle.walk_audit.specs.declared.verdict.Verdict.{Verdict}
 use Rattle.walk_audit.specs.declared.verdict.Verdict.TheVariants as verdicts
 use Rattle.walk_audit.proofs.First.{none_joined, none_narrowed}
@@ -66,11 +66,10 @@ module _ (n : Machine) (m : Place → ℕ) (idle : NoneBreaks n m 1 0 n.frames) 
 
   pub leads_both : (f i g : ℕ) (k l : KindWord) (b : Bool) → g < n.frames → k ≡ kind_at m f → l ≡ kind_at m g → (IsTrue b → LeadsTo k i l) × (LeadsTo k i l → IsTrue b) →
       (IsTrue b → LeadsWell (sizes_of n) m nobody f i g) × (LeadsWell (sizes_of n) m nobody f i g → IsTrue b)
-  leads_both f i g k l b r e d h =
-      (
-        (λ t. leads f i g r (subst (λ x. LeadsTo x i (kind_at m g)) e (subst (λ y. LeadsTo k i y) d (h.0 t)))),
-        (λ w. h.1 (subst (λ x. LeadsTo x i l) (sym e) (subst (λ y. LeadsTo (kind_at m f) i y) (sym d) (leads_back f i g r w)))),
-      )
+  leads_both f i g k l b r e d h = (
+    (λ t. leads f i g r (subst (λ x. LeadsTo x i (kind_at m g)) e (subst (λ y. LeadsTo k i y) d (h.0 t)))),
+    (λ w. h.1 (subst (λ x. LeadsTo x i l) (sym e) (subst (λ y. LeadsTo (kind_at m f) i y) (sym d) (leads_back f i g r w)))),
+  )
 
 -- ---- which words are looked at
 table_looked : (k : KindWord) → is_table k.kind ≡ true → looked_at k ≡ held_of k None

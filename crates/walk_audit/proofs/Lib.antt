@@ -12,3 +12,5 @@ pub mod Empty
 pub mod Bits
 pub mod Sounding
 pub mod Judging
+pub mod Numbers
+pub mod Unbroken

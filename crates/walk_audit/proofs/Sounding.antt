@@ -1,12 +1,9 @@
 -- Words that no verdict breaks are sound.
-use Rattle.std.proofs.Common.{◌≡◌, ◌≢◌, ℕ, ◌+◌, ◌*◌, ◌-◌, ◌/◌, ◌%◌, ◌^◌, ◌<◌, ◌≤◌, ◌==◌, ◌||◌, ◌&&◌, nat_lt, nat_le, if◌then◌else◌, length, List, slice_index, Bool, true, false, IsTrue, Option, Some, None, inl, inr, ◌⊎◌, refl, sym, ap, subst, ◌∙◌, arith}
+use Rattle.std.proofs.Common.{◌≡◌, ◌≢◌, ℕ, ◌+◌, ◌*◌, ◌-◌, ◌/◌, ◌%◌, ◌^◌, ◌<◌, ◌≤◌, ◌||◌, nat_lt, nat_le, if◌then◌else◌, length, List, slice_index, Bool, true, false, IsTrue, Option, Some, None, inl, inr, refl, sym, ap, subst, ◌∙◌, arith}
 use Rattle.std.proofs.lemmas.Bool.Decides.{nat_tests}
-use Rattle.std.proofs.lemmas.Bool.{cases_Bool, cases_lt, and_parts}
+use Rattle.std.proofs.lemmas.Bool.{cases_Bool, cases_lt}
 use Rattle.xp_words.specs.Entries.{is_bit}
-use Rattle.xp_words.specs.RefWords.{bit, ref_read}
-use Rattle.xp_words.specs.KindWords.{kind_fields}
-use Rattle.xp_words.specs.PageTypes.{is_table}
-use Rattle.xp_words.specs.declared.kind.KindWord.{KindWord}
+use Rattle.xp_words.specs.RefWords.{bit}
 use Rattle.xp_words.specs.declared.kind.PageType.{PageType}
 use Rattle.xp_words.specs.declared.kind.PageType.TheVariants as kinds
 use Rattle.xp_words.specs.declared.entry.Demand.{Demand}
@@ -14,74 +11,31 @@ use Rattle.xp_words.specs.declared.entry.Demand.TheVariants.{Nothing, Bad, Read,
 use Rattle.xp_words.specs.Machine.{Machine, IsMachine}
 use Rattle.xp_words.specs.declared.place.Place.{Place}
 use Rattle.xp_words.specs.declared.place.Place.TheVariants.{Clock, Pages, Life, Vcpu, Refs, Kind, M2p, Cell, Map, Priv}
-use Rattle.xp_words.specs.Places.{Sizes, sizes_of, is_place, number, size, memory, flushed_of, map_words}
+use Rattle.xp_words.specs.Places.{sizes_of, is_place, number, size, memory, flushed_of, map_words}
 use Rattle.xp_board.specs.Lists.{one_at, times, EachOf}
 use Rattle.xp_board.specs.Sums.{sum_below}
 use Rattle.xp_board.specs.After.{is_fixed}
 use Rattle.xp_board.specs.Spelling.{IsSpelling, map_bits}
 use Rattle.xp_board.specs.ContextSteps.{context_type}
 use Rattle.xp_board.specs.Readings.{kind_at, is_context, is_live, is_locked, is_dying, is_free, owner_of, domain_of, ref_count, allocated_mark, type_count, free_stamp, kind_stamp, clock_value}
-use Rattle.xp_board.specs.Recorded.{held, held_of, work_of, entry_demand, names, names_typed, table_entries, entries, contexts, marks, hands, named, named_typed, HasType, TypesAgree, CountsAgree, is_page_of}
-use Rattle.xp_board.specs.Valid.{Valid, Permitted, LeadsWell, EntryPermitted, is_live_context}
+use Rattle.xp_board.specs.Recorded.{held, entry_demand, names, names_typed, table_entries, entries, contexts, marks, hands, named, named_typed, HasType, TypesAgree, CountsAgree, is_page_of}
+use Rattle.xp_board.specs.Valid.{Valid, Permitted, is_live_context}
 use Rattle.xp_board.specs.Sound.{Spelled, HeldAlone, Stamped, Domains, FreeMap, SoundWords, is_busy, is_hinted}
 use Rattle.xp_board.proofs.Empty.{empty_formed}
+use Rattle.xp_board.proofs.Counted.{held_inside}
 use Rattle.xp_board.proofs.Sums.{sum_below-none, one_at-other}
-use Rattle.reference_recount.specs.Recounted.{nobody, IsReadable, IsMistyped}
+use Rattle.reference_recount.specs.Recounted.{nobody, IsReadable}
 use Rattle.walk_audit.specs.Breaks.{Breaks, is_map, MayAsk, is_free_frame}
-use Rattle.walk_audit.specs.Order.{Passed, check_of}
+use Rattle.walk_audit.specs.Order.{Passed}
 use Rattle.walk_audit.specs.declared.verdict.Verdict.{Verdict}
 use Rattle.walk_audit.specs.declared.verdict.Verdict.TheVariants as verdicts
 use Rattle.walk_audit.proofs.Bits.{few_bits}
 use Rattle.walk_audit.proofs.Burial.{IsOutside, memory_outside, nothing_left, is_left}
 use Rattle.walk_audit.proofs.Empty.{no_hand, no_typed_hand, no_credits, no_raised, no_works, no_locks, no_dying, found_nothing, rests, fresh_nothing, dying_nothing}
+use Rattle.walk_audit.proofs.Numbers.{zero_count, zero_mark, zero_undying, zero_stamp, zero_kind_stamp, zero_types, zero_marks, zero_unlive, zero_idle, zero_unlocked}
 use Rattle.walk_audit.proofs.Reading.{context_few}
-use Rattle.walk_audit.proofs.Stable.{lt_stable, le_stable, eq_stable, true_stable, spelling_stable, asks_stable, names_stable, type_stable}
+use Rattle.walk_audit.proofs.Stable.{eq_stable, spelling_stable, asks_stable, names_stable, type_stable}
 use Rattle.walk_audit.proofs.Words.{memory_small}
-
--- a word that the machine has not reads as 0, and the frame is free, dead and without a type
-zero_count : ref_count 0 ≡ 0
-unfolding ref_count ref_read
-zero_count = refl
-
-zero_mark : allocated_mark 0 ≡ 0
-unfolding allocated_mark ref_read
-zero_mark = refl
-
-zero_undying : is_dying 0 ≡ false
-unfolding is_dying ref_read
-zero_undying = refl
-
-zero_stamp : free_stamp 0 ≡ 0
-unfolding free_stamp ref_read
-zero_stamp = refl
-
-zero_kind_stamp : kind_stamp 0 ≡ 0
-unfolding kind_stamp kind_fields
-zero_kind_stamp = refl
-
-zero_types : type_count (kind_fields 0) ≡ 0
-unfolding type_count kind_fields
-zero_types = refl
-
-zero_marks : marks (kind_fields 0) ≡ 0
-unfolding marks kind_fields
-zero_marks = refl
-
-zero_held : (x : Option ℕ) → held_of (kind_fields 0) x ≡ 0
-unfolding held_of kind_fields
-zero_held x = refl
-
-zero_unlive : is_live (kind_fields 0) ≡ false
-unfolding kind_fields
-zero_unlive = refl
-
-zero_idle : is_busy (kind_fields 0) ≡ false
-unfolding kind_fields
-zero_idle = refl
-
-zero_unlocked : is_locked (kind_fields 0) ≡ false
-unfolding kind_fields
-zero_unlocked = refl
 
 module _ (n : Machine) (m : Place → ℕ) (o : IsOutside n m) (s : (p : Place) → m p < 2 ^ 64) (p : Passed n m 9) where
   no : (u : Verdict) → Breaks n m u → ⊥
@@ -150,9 +104,9 @@ module _ (n : Machine) (m : Place → ℕ) (o : IsOutside n m) (s : (p : Place) 
       let whole : map_bits n.frames k + (64 - map_bits n.frames k) ≡ 64 = omega arith in
       few_bits (64 - map_bits n.frames k) (m (Map k)) (map_bits n.frames k) (rw whole (s (Map k)))
       (λ b l u.
-        (let past = map_bits_past k b l (omega arith) in
-        let none : nat_lt (64 * k + b) n.frames ≡ false = grind (arith, nat_tests) in
-        map_bit k b r (omega arith) ∙ (rw none refl)))
+      (let past = map_bits_past k b l (omega arith) in
+      let none : nat_lt (64 * k + b) n.frames ≡ false = grind (arith, nat_tests) in
+      map_bit k b r (omega arith) ∙ (rw none refl)))
 
   map_place : (k : ℕ) → IsTrue (is_place (sizes_of n) (Map k)) → k < map_words (sizes_of n)
   unfolding is_place
@@ -175,19 +129,8 @@ module _ (n : Machine) (m : Place → ℕ) (o : IsOutside n m) (s : (p : Place) 
   all_spelled = record { small = s; outside = o.none; spelled = by_place }
 
   -- ---- entries
-  recorded_real : (f i : ℕ) → i < held (sizes_of n) m nobody f → f < n.frames
-  unfolding is_place
-  recorded_real f i l = elim (cases_lt f n.frames) [
-    | inl r ↦ r
-    | inr r ↦ absurd (
-      let off : nat_lt f n.frames ≡ false = grind (arith, nat_tests) in
-      let k : m (Kind f) ≡ 0 = o.none (Kind f) off in
-      let none : held (sizes_of n) m nobody f ≡ 0 = rw k (zero_held (work_of (sizes_of n).vcpus nobody f)) in
-      omega arith)
-  ]
-
   asks : (f i : ℕ) → i < held (sizes_of n) m nobody f → MayAsk n m f i (entry_demand m f i)
-  asks f i l = asks_stable n m f i (entry_demand m f i) (λ x. no (verdicts.BadEntry f i) (recorded_real f i l, inl (record { recorded = l; bad = x })))
+  asks f i l = asks_stable n m f i (entry_demand m f i) (λ x. no (verdicts.BadEntry f i) (held_inside n m nobody f i all_spelled l, inl (record { recorded = l; bad = x })))
 
   asks_as : (f i : ℕ) (d : Demand) → i < held (sizes_of n) m nobody f → entry_demand m f i ≡ d → MayAsk n m f i d
   asks_as f i d l e = subst (λ x. MayAsk n m f i x) e (asks f i l)

@@ -1,9 +1,8 @@
 -- What holds where it is not false: spellings, permits, marks.
-use Rattle.std.proofs.Common.{◌≡◌, ◌≢◌, ℕ, ◌+◌, ◌<◌, ◌≤◌, ◌==◌, ◌||◌, ◌⊎◌, Bool, true, false, IsTrue, Option, Some, None, inl, inr, refl, sym, ap, ◌∙◌, arith}
+use Rattle.std.proofs.Common.{◌≡◌, ℕ, ◌+◌, ◌<◌, ◌≤◌, ◌==◌, ◌||◌, ◌⊎◌, Bool, true, false, IsTrue, Option, Some, None, inl, inr, refl, sym, ap, ◌∙◌, arith}
 use Rattle.std.proofs.lemmas.Bool.Decides.{nat_tests}
 use Rattle.std.proofs.lemmas.Bool.{cases_Bool, cases_lt}
 use Rattle.xp_words.specs.declared.kind.PageType.{PageType}
-use Rattle.xp_words.specs.declared.kind.PageType.TheVariants as kinds
 use Rattle.xp_words.specs.declared.entry.Demand.{Demand}
 use Rattle.xp_words.specs.declared.entry.Demand.TheVariants.{Nothing, Bad, Read, Typed}
 use Rattle.xp_words.specs.PageTypes.{type_number, type_of}
@@ -15,9 +14,9 @@ use Rattle.xp_words.specs.declared.place.Place.TheVariants.{Clock, Pages, Life, 
 use Rattle.xp_words.specs.Places.{Sizes, sizes_of}
 use Rattle.xp_board.specs.Readings.{kind_at, is_live, is_partial, is_work, owner_of, has_ever}
 use Rattle.xp_board.specs.Spelling.{IsSpelling}
-use Rattle.xp_board.specs.Valid.{EntryPermitted, Permits, PermitsOwner, LeadsWell, IsLastOfPartial, IsUnsettled}
+use Rattle.xp_board.specs.Valid.{EntryPermitted, PermitsOwner, LeadsWell, IsLastOfPartial}
 use Rattle.reference_recount.specs.Recounted.{nobody}
-use Rattle.walk_audit.specs.Breaks.{is_map, MayAsk, MayLead, MayType}
+use Rattle.walk_audit.specs.Breaks.{is_map, MayAsk, MayLead}
 use Rattle.walk_audit.proofs.Leading.{settled}
 
 -- ---- numbers and tests

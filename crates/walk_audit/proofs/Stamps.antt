@@ -1,13 +1,13 @@
 -- Which words tell clock values above the clock.
-use Rattle.std.proofs.Common.{◌≡◌, ℕ, ◌+◌, ◌*◌, ◌<◌, ◌≤◌, ◌==◌, Bool, true, false, if◌then◌else◌, IsTrue, inl, inr, ◌⊎◌, refl, arith}
+use Rattle.std.proofs.Common.{◌≡◌, ℕ, ◌+◌, ◌*◌, ◌<◌, ◌≤◌, ◌==◌, Bool, true, false, if◌then◌else◌, IsTrue, refl, arith}
 use Rattle.std.proofs.lemmas.Bool.Decides.{nat_tests}
 use Rattle.xp_words.specs.Machine.{Machine}
 use Rattle.xp_words.specs.declared.place.Place.{Place}
 use Rattle.xp_words.specs.declared.place.Place.TheVariants.{Clock, Vcpu, Refs, Kind}
-use Rattle.xp_words.specs.Places.{Sizes, sizes_of, is_place, number, flushed_of, first_vcpu, first_frame, first_map}
+use Rattle.xp_words.specs.Places.{sizes_of, is_place, number, flushed_of, first_vcpu, first_frame, first_map}
 use Rattle.xp_board.specs.Readings.{clock_value, free_stamp, kind_stamp}
 use Rattle.walk_audit.specs.Breaks.{Breaks, IsLate}
-use Rattle.walk_audit.specs.Order.{IsWithin, NoneBreaks, IsFirst, check_of, position}
+use Rattle.walk_audit.specs.Order.{NoneBreaks, IsFirst, check_of, position}
 use Rattle.walk_audit.specs.declared.verdict.Verdict.{Verdict}
 use Rattle.walk_audit.specs.declared.verdict.Verdict.TheVariants as verdicts
 use Rattle.walk_audit.proofs.Rows.{in_vcpu, in_frame, in_head, in_tail}
@@ -58,7 +58,7 @@ module _ (n : Machine) (m : Place → ℕ) where
       (number (sizes_of n) (flushed_of v) < b → m (flushed_of v) ≤ m Clock) → NoneBreaks n m 6 (first_vcpu (sizes_of n) + 38 * v) b
   vcpu_quiet v b r l h =
       quiet_range _ b (λ q e from below.
-        in_vcpu (sizes_of n) v q (λ p. number (sizes_of n) p < b → IsQuiet p) r e from (omega arith) (λ k few. flushed_quiet v k b h) below)
+      in_vcpu (sizes_of n) v q (λ p. number (sizes_of n) p < b → IsQuiet p) r e from (omega arith) (λ k few. flushed_quiet v k b h) below)
 
   -- ---- frames
   pub frame_quiet : (f b : ℕ) → f < n.frames → b ≤ first_frame (sizes_of n) + 515 * f + 515 →
@@ -67,20 +67,20 @@ module _ (n : Machine) (m : Place → ℕ) where
   unfolding clock_value
   frame_quiet f b r l g h =
       quiet_range _ b (λ q e from below.
-        in_frame (sizes_of n) f q (λ p. number (sizes_of n) p < b → IsQuiet p) r e from (omega arith) g h (λ k. omega arith) (λ i few k. omega arith) below)
+      in_frame (sizes_of n) f q (λ p. number (sizes_of n) p < b → IsQuiet p) r e from (omega arith) g h (λ k. omega arith) (λ i few k. omega arith) below)
 
   -- ---- the rest
   pub head_quiet : NoneBreaks n m 6 0 (first_vcpu (sizes_of n))
   unfolding clock_value
   head_quiet =
       quiet_range 0 _ (λ q e from below.
-        in_head (sizes_of n) q (λ p. IsQuiet p) e below (omega arith) (λ d. omega arith) (λ d. omega arith))
+      in_head (sizes_of n) q (λ p. IsQuiet p) e below (omega arith) (λ d. omega arith) (λ d. omega arith))
 
   pub tail_quiet : (b : ℕ) → NoneBreaks n m 6 (first_map (sizes_of n)) b
   unfolding clock_value
   tail_quiet b =
       quiet_range _ b (λ q e from below.
-        in_tail (sizes_of n) q (λ p. IsQuiet p) e from (λ k r at. omega arith) (λ d r at. omega arith))
+      in_tail (sizes_of n) q (λ p. IsQuiet p) e from (λ k r at. omega arith) (λ d r at. omega arith))
 
   -- a late word is the first of its row where nothing before it is late
   pub late_first : (p : Place) (a b k : ℕ) → k ≡ number (sizes_of n) p → IsTrue (is_place (sizes_of n) p) → m Clock < clock_value p (m p) → a ≤ k → k < b →

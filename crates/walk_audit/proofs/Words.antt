@@ -1,14 +1,14 @@
 -- Which words may not stand where they stand.
-use Rattle.std.proofs.Common.{◌≡◌, ◌≢◌, ℕ, ◌+◌, ◌*◌, ◌^◌, ◌<◌, ◌≤◌, true, false, List, slice_index, IsTrue, inl, inr, lit<, refl, sym, subst, ◌∙◌, arith}
+use Rattle.std.proofs.Common.{◌≡◌, ℕ, ◌+◌, ◌*◌, ◌^◌, ◌<◌, ◌≤◌, false, List, slice_index, IsTrue, inl, inr, lit<, refl, sym, subst, ◌∙◌, arith}
 use Rattle.std.proofs.lemmas.Bool.{cases_Bool}
 use Rattle.xp_words.specs.Machine.{Machine}
 use Rattle.xp_words.specs.declared.place.Place.{Place}
-use Rattle.xp_words.specs.declared.place.Place.TheVariants.{Refs, Kind, M2p, Cell, Map, Priv}
-use Rattle.xp_words.specs.Places.{Sizes, sizes_of, is_place, memory, place_at, number, first_frame, first_map, first_priv}
+use Rattle.xp_words.specs.declared.place.Place.TheVariants.{M2p, Cell, Priv}
+use Rattle.xp_words.specs.Places.{Sizes, sizes_of, is_place, memory, number, first_frame, first_map, first_priv}
 use Rattle.xp_words.proofs.PlaceLaws.{place_back}
 use Rattle.xp_board.specs.Spelling.{IsSpelling}
 use Rattle.walk_audit.specs.Breaks.{Breaks, IsOddWord, is_map}
-use Rattle.walk_audit.specs.Order.{IsWithin, NoneBreaks, IsFirst, check_of, position}
+use Rattle.walk_audit.specs.Order.{NoneBreaks, IsFirst, check_of, position}
 use Rattle.walk_audit.specs.declared.verdict.Verdict.{Verdict}
 use Rattle.walk_audit.specs.declared.verdict.Verdict.TheVariants as verdicts
 use Rattle.walk_audit.proofs.Rows.{in_frame, in_tail}
@@ -50,9 +50,9 @@ module _ (n : Machine) (m : Place → ℕ) where
   pub spelled_alone : (p : Place) → IsTrue (is_place (sizes_of n) p) → IsSpelling n p (m p) → NoneBreaks n m 0 (number (sizes_of n) p) (number (sizes_of n) p + 1)
   spelled_alone p r s =
       spelled_range _ _ (λ q e o from below.
-        (let same : number (sizes_of n) p ≡ number (sizes_of n) q = omega arith in
-        let at : p ≡ q = sym (place_back (sizes_of n) p r) ∙ (rw same (place_back (sizes_of n) q e)) in
-        subst (λ x. IsSpelling n x (m x)) at s))
+      (let same : number (sizes_of n) p ≡ number (sizes_of n) q = omega arith in
+      let at : p ≡ q = sym (place_back (sizes_of n) p r) ∙ (rw same (place_back (sizes_of n) q e)) in
+      subst (λ x. IsSpelling n x (m x)) at s))
 
   pub odd_alone : (p : Place) (k w : ℕ) → IsTrue (is_place (sizes_of n) p) → is_map p ≡ false → k ≡ number (sizes_of n) p → w ≡ m p → ¬ IsSpelling n p w →
       IsFirst n m 0 (number (sizes_of n) p) (number (sizes_of n) p + 1) (verdicts.Word k w)
@@ -68,15 +68,15 @@ module _ (n : Machine) (m : Place → ℕ) where
   unfolding IsSpelling number
   cells_spelled f r s =
       spelled_range _ _ (λ q e o from below.
-        in_frame (sizes_of n) f q (λ p. first_frame (sizes_of n) + 515 * f + 2 ≤ number (sizes_of n) p → IsSpelling n p (m p)) r e (omega arith) (omega arith)
-        (λ l. absurd (omega arith)) (λ l. absurd (omega arith)) (λ l. s (M2p f)) (λ i few l. s (Cell f i)) from)
+      in_frame (sizes_of n) f q (λ p. first_frame (sizes_of n) + 515 * f + 2 ≤ number (sizes_of n) p → IsSpelling n p (m p)) r e (omega arith) (omega arith)
+      (λ l. absurd (omega arith)) (λ l. absurd (omega arith)) (λ l. s (M2p f)) (λ i few l. s (Cell f i)) from)
 
   -- words of the map are left out
   pub map_left : NoneBreaks n m 0 (first_map (sizes_of n)) (first_priv (sizes_of n))
   map_left =
       spelled_range _ _ (λ q e o from below.
-        in_tail (sizes_of n) q (λ p. is_map p ≡ false → number (sizes_of n) p < first_priv (sizes_of n) → IsSpelling n p (m p)) e from
-        (λ k r at no l. absurd (cc)) (λ d r at no l. absurd (past d at l)) o below)
+      in_tail (sizes_of n) q (λ p. is_map p ≡ false → number (sizes_of n) p < first_priv (sizes_of n) → IsSpelling n p (m p)) e from
+      (λ k r at no l. absurd (cc)) (λ d r at no l. absurd (past d at l)) o below)
     where
       past : (d : ℕ) → first_priv (sizes_of n) + d ≡ number (sizes_of n) (Priv d) → number (sizes_of n) (Priv d) < first_priv (sizes_of n) → ⊥
       past d at l = omega arith

@@ -16,6 +16,7 @@ use xp_words::Layout;
 const DEAD: u64 = 255;
 /// The number of the run word of a vCPU, and what it is where the vCPU is stopped.
 const RUN: u32 = 6;
+
 const STOPPED: u64 = 1;
 
 /// Whether the frame is that domain's, and allocated, pinned or kept.

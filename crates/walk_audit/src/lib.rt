@@ -7,6 +7,7 @@ mod dead;
 mod deciding;
 mod entries;
 mod held;
+mod laws;
 mod lines;
 mod mapped;
 mod pages;
@@ -16,4 +17,5 @@ mod stamped;
 mod verdict;
 
 pub use deciding::audit;
+pub use laws::sound_words_break_nothing;
 pub use verdict::Verdict;

@@ -26,7 +26,8 @@ fn is_reference(layout: &Layout, word: u64) -> bool
 {
     match RefWord::read(word) {
         Some(RefWord::Free { .. }) => true,
-        Some(RefWord::Owned { owner, count, .. }) => is_owner(layout, owner) && count <= layout.limit,
+        Some(RefWord::Owned { owner, count, .. }) => is_owner(layout, owner)
+            && count <= layout.limit,
         Some(RefWord::Dying { owner }) => is_owner(layout, owner),
         None => false,
     }

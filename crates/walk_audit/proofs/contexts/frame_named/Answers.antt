@@ -1,6 +1,5 @@
-use Rattle.std.proofs.Common.{◌≤◌, arith}
+use Rattle.std.proofs.Common.{arith}
 use Rattle.std.proofs.lemmas.Bool.{and_parts}
-use Rattle.xp_words.specs.declared.place.Place.TheVariants.{Vcpu}
 use Rattle.xp_words.specs.Places.{sizes_of, memory}
 use Rattle.walk_audit.proofs.Reading.{context_few}
 use Rattle.walk_audit.proofs.contexts.frame_named.Goals as goal

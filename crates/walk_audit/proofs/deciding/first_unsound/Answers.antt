@@ -1,5 +1,4 @@
 use Rattle.xp_words.specs.Places.{sizes_of, memory}
-use Rattle.walk_audit.specs.Order.{Passed}
 use Rattle.walk_audit.proofs.Checks.{passed_next, comes_first, each_top, ends}
 use Rattle.walk_audit.proofs.deciding.first_unsound.Goals as goal
 

@@ -13,4 +13,4 @@ returns c =
     first_extended n m 0 row (row + 1) (row + 1 + 1) _ c.odd_word-2.result (omega arith) (omega arith)
     c.in_default.ensures c.odd_word-2.ensures
     (none_narrowed n m 0 (row + 2) (row + 1 + 1) _ _ (omega arith) (omega arith)
-      (cells_spelled n m c.args.frame c.requires.frame (memory_small (sizes_of n) c.args.words.now (λ k. omega (arith, c.type_inv.words k)))))
+    (cells_spelled n m c.args.frame c.requires.frame (memory_small (sizes_of n) c.args.words.now (λ k. omega (arith, c.type_inv.words k)))))

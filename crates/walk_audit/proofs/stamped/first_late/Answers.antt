@@ -1,4 +1,4 @@
-use Rattle.std.proofs.Common.{arith, ◌≤◌}
+use Rattle.std.proofs.Common.{arith}
 use Rattle.xp_words.specs.Places.{sizes_of, memory, size, first_vcpu, first_frame, first_map}
 use Rattle.walk_audit.proofs.First.{first_widened, first_extended, none_joined}
 use Rattle.walk_audit.proofs.Stamps.{head_quiet, tail_quiet}

@@ -1,4 +1,4 @@
-use Rattle.std.proofs.Common.{arith, ◌<◌, ◌≡◌}
+use Rattle.std.proofs.Common.{arith}
 use Rattle.std.proofs.lemmas.Bool.Decides.{nat_tests}
 use Rattle.xp_words.specs.declared.place.Place.TheVariants.{Refs, Kind}
 use Rattle.xp_words.specs.Places.{sizes_of, memory, number, is_place}

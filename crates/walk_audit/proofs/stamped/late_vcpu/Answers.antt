@@ -1,6 +1,5 @@
-use Rattle.std.proofs.Common.{arith, ◌<◌, ◌≡◌}
+use Rattle.std.proofs.Common.{arith}
 use Rattle.std.proofs.lemmas.Bool.Decides.{nat_tests}
-use Rattle.xp_words.specs.declared.place.Place.TheVariants.{Vcpu}
 use Rattle.xp_words.specs.Places.{sizes_of, memory, number, is_place, flushed_of}
 use Rattle.xp_board.specs.Readings.{clock_value}
 use Rattle.walk_audit.proofs.Stamps.{vcpu_quiet, late_first}
