@@ -55,8 +55,6 @@ differs kind None = false
 abbrev pub is_other : List PageType → ℕ → Option PageType → Bool
 is_other kinds g want = differs (slice_index_or kinds g types.None) want
 
--- ---- entries
-
 -- 1 where the demand wants another type of the frame than it has
 unfoldable pub names_other : List PageType → ℕ → Demand → ℕ
 names_other kinds g Nothing = 0
@@ -64,11 +62,10 @@ names_other kinds g Bad = 0
 names_other kinds g (Read f) = 0
 names_other kinds g (Typed f want) = if is_other kinds g (Some want) then one_at g f else 0
 
--- ---- words of vCPUs
 -- 1 where word k names the frame
 abbrev pub context_names : (Place → ℕ) → ℕ → ℕ → ℕ → ℕ
 context_names m v g k = if is_context k then one_at (g + 1) (m (Vcpu v k)) else 0
 
--- and wants another type of it than it has
+-- 1 where it does, and wants another type of it than it has
 abbrev pub context_other : List PageType → (Place → ℕ) → ℕ → ℕ → ℕ → ℕ
 context_other kinds m v g k = if is_other kinds g (context_type k) then context_names m v g k else 0

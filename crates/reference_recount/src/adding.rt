@@ -1,10 +1,13 @@
 //! References, added to the tallies of the frames that they name.
-ghost use Rattle.std.specs.Prelude.{◌≡◌, ◌<◌, ◌+◌, ◌^◌, ℕ, Some, None, IsTrue, length, if◌then◌else◌};
+//!
+//! No count overflows: it begins with at most 3 marks, and a table adds at most 1,024 and a vCPU at most 38. The clauses `few` say so from above, with room
+//! to spare.
+ghost use Rattle.std.specs.Prelude.{◌≡◌, ◌<◌, ◌^◌, length, if◌then◌else◌};
 ghost use Rattle.xp_words.specs.Places.{size, sizes_of, memory};
 ghost use Rattle.xp_board.specs.Lists.{one_at};
-ghost use Rattle.xp_board.specs.Readings.{kind_at, is_context};
+ghost use Rattle.xp_board.specs.Readings.{is_context};
 ghost use Rattle.xp_board.specs.ContextSteps.{context_type};
-ghost use Rattle.xp_board.specs.Recorded.{entry_demand, names, names_typed, table_entries};
+ghost use Rattle.xp_board.specs.Recorded.{names, names_typed, table_entries};
 ghost use Rattle.xp_board.specs.Sums.{sum_below};
 ghost use Rattle.reference_recount.specs.Recounted.{IsReadable};
 ghost use Rattle.reference_recount.specs.Growth.{AreMore, AreSums, IsWithin, is_other, names_other, context_names, context_other};

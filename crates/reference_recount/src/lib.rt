@@ -6,3 +6,6 @@ mod reading;
 mod tallies;
 
 pub use tallies::{Tally, recount};
+
+#[cfg(test)]
+mod tests;

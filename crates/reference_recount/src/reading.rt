@@ -1,5 +1,5 @@
 //! Single words of a machine, read as what they are.
-ghost use Rattle.std.specs.Prelude.{◌≡◌, ◌<◌, ◌≤◌, ◌+◌, ℕ, Some, None, IsTrue, length};
+ghost use Rattle.std.specs.Prelude.{◌≡◌, ◌<◌, ◌≤◌, IsTrue, length};
 ghost use Rattle.xp_words.specs.KindWords.{has_form};
 ghost use Rattle.xp_words.specs.Places.{size, sizes_of, memory, is_place};
 ghost use Rattle.xp_words.specs.declared.place.Place.TheVariants.{Kind};

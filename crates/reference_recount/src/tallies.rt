@@ -20,7 +20,7 @@ pub struct Tally {
     pub mistyped: bool,
 }
 
-/// The references of each frame.
+/// The references of each frame, by its number. Each recorded entry is read once. It takes memory for a few numbers a frame, and fails where there is none.
 pub fn recount(alloc: Global, layout: &Layout, words: &[u64]) -> Result<Vec<Tally>, AllocError>
     requires machine { IsMachine layout.now }
     requires words { length words.now ≡ size (sizes_of layout.now) }
