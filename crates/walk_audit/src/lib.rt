@@ -17,3 +17,6 @@ mod verdict;
 
 pub use deciding::audit;
 pub use verdict::Verdict;
+
+#[cfg(test)]
+mod tests;
