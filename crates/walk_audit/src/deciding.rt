@@ -50,9 +50,8 @@ fn first_unsound(layout: &Layout, words: &[u64], tallies: &[Tally]) -> Option<Ve
     first_wrong_map(layout, words)
 }
 
-/// Whether these words are sound where no vCPU holds anything and none has a translation; and what breaks it first. It reads the words once or twice, and
-/// takes memory for a few numbers a frame.
-
+/// Whether these words are sound where no vCPU holds anything and none has a translation; and what breaks it first. It reads each word once or twice, but the
+/// reference words once more for each domain, and takes memory for a few numbers a frame.
 pub fn audit(alloc: Global, layout: &Layout, words: &[u64]) -> Result<Verdict, AllocError>
     requires machine { IsMachine layout.now }
     requires words { length words.now ≡ size (sizes_of layout.now) }

@@ -19,3 +19,6 @@ mod verdict;
 pub use deciding::audit;
 pub use laws::sound_words_break_nothing;
 pub use verdict::Verdict;
+
+#[cfg(test)]
+mod tests;
