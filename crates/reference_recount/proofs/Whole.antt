@@ -8,11 +8,9 @@ use Rattle.xp_words.specs.declared.entry.Demand.TheVariants.{Nothing, Bad, Read,
 use Rattle.xp_words.specs.declared.kind.PageType.{PageType}
 use Rattle.xp_words.specs.declared.kind.PageType.TheVariants as types
 use Rattle.xp_words.specs.KindWords.{kind_fields}
-use Rattle.xp_words.specs.PageTypes.{type_number, type_of}
 use Rattle.xp_words.specs.declared.place.Place.{Place}
 use Rattle.xp_words.specs.declared.place.Place.TheVariants.{Kind, Vcpu, Refs}
 use Rattle.xp_words.specs.Places.{Sizes, sizes_of, is_place, memory}
-use Rattle.xp_words.proofs.KindLaws.{type_back}
 use Rattle.xp_board.specs.ContextSteps.{context_type}
 use Rattle.xp_board.specs.Hands.{hand, typed_hand}
 use Rattle.xp_board.specs.Lists.{one_at, times_by, first_by}
@@ -21,6 +19,8 @@ use Rattle.xp_board.specs.Recorded.{held, held_of, work_of, recorded_in, entry_d
 use Rattle.xp_board.specs.Sums.{sum_below}
 use Rattle.xp_board.proofs.Sums.{sum_below-same, sum_below-none, sum_below-some, sum_below-part, one_at-same, one_at-other}
 use Rattle.xp_board.proofs.Works.{work_of-none}
+use Rattle.xp_board.proofs.EntryWords.{type_same}
+use Rattle.xp_board.proofs.Returned.{same_type}
 use Rattle.reference_recount.specs.declared.tallies.Tally.{Tally}
 use Rattle.reference_recount.specs.Recounted.{nobody, tally_at, IsTally, IsMistyped, IsMistypedEntry, IsMistypedContext}
 use Rattle.reference_recount.specs.Growth.{IsMore, IsOwn, IsWithin, AreSums, is_other, names_other, context_names, context_other}
@@ -56,22 +56,16 @@ within_own m a h =
     }
 
 -- ---- another type
-same_type : (t u : PageType) → IsTrue (is_type t u) → u ≡ t
-same_type t u h =
-    let e : type_number u ≡ type_number t = grind (arith, nat_tests) in
-    sym (type_back u) ∙ ap type_of e ∙ type_back t
-
 other_than : (kinds : List PageType) (g : ℕ) (want : PageType) → is_other kinds g (Some want) ≡ true → slice_index_or kinds g types.None ≢ want
 other_than kinds g want h e =
-    let self : is_type want want ≡ true = grind (arith, nat_tests) in
-    let same : is_type want (slice_index_or kinds g types.None) ≡ true = subst (λ t. is_type want t ≡ true) (sym e) self in
+    let same : is_type want (slice_index_or kinds g types.None) ≡ true = subst (λ t. is_type want t ≡ true) (sym e) (same_type want) in
     let off : is_other kinds g (Some want) ≡ false = ap not same in
     cc
 
 is_other_than : (kinds : List PageType) (g : ℕ) (want : PageType) → slice_index_or kinds g types.None ≢ want → is_other kinds g (Some want) ≡ true
 is_other_than kinds g want h =
     elim (cases_Bool (is_type want (slice_index_or kinds g types.None))) [
-      | inl e ↦ absurd (h (same_type want (slice_index_or kinds g types.None) e))
+      | inl e ↦ absurd (h (sym (type_same want (slice_index_or kinds g types.None) e)))
       | inr e ↦ ap not e
     ]
 
