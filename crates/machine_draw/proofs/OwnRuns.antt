@@ -1,6 +1,6 @@
 -- An entry, and a frame, is in the run that it begins.
-use Rattle.std.proofs.Common.{◌≡◌, ℕ, Bool, true, false, not, eqb, Some, refl, sym, ap, ◌∙◌, eq-eqb}
-use Rattle.xp_words.specs.declared.place.Place.TheVariants.{Cell, Refs}
+use Rattle.std.proofs.Common.{◌≡◌, ℕ, Bool, true, false, not, Some, refl, sym, ap, eq-eqb}
+use Rattle.xp_words.specs.declared.place.Place.TheVariants.{Cell}
 use Rattle.xp_words.specs.Entries.{is_bit}
 use Rattle.report_text.specs.Memories.{Memory, word}
 use Rattle.machine_draw.specs.declared.tables.Table.{Table}

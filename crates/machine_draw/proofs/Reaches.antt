@@ -1,5 +1,5 @@
 -- Where a run ends.
-use Rattle.std.proofs.Common.{◌≡◌, ℕ, zero, suc, ◌+◌, ◌-◌, ◌<◌, ◌≤◌, Bool, true, false, cond, refl, sym, ap, ◌∙◌, arith, add-zero}
+use Rattle.std.proofs.Common.{◌≡◌, ℕ, zero, suc, ◌+◌, ◌-◌, ◌<◌, ◌≤◌, Bool, true, false, refl, arith, add-zero}
 use Rattle.std.specs.List.{prefix_len, range_with_len}
 use Rattle.machine_draw.specs.Runs.{run_end}
 

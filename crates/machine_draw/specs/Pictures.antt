@@ -2,7 +2,7 @@
 use Rattle.std.specs.Prelude.{◌≡◌, ℕ, ◌==◌, Bool, false, List, length}
 use Rattle.walk_audit.specs.declared.verdict.Verdict.{Verdict}
 use Rattle.walk_audit.specs.declared.verdict.Verdict.TheVariants as verdicts
-use Rattle.report_text.specs.Memories.{Memory, IsWhole}
+use Rattle.report_text.specs.Memories.{Memory}
 
 pub record Picture : Type 0 where
   pub memory : Memory

@@ -1,5 +1,5 @@
 -- The frame that an entry of a page table or a word of a vCPU names.
-use Rattle.std.specs.Prelude.{ℕ, ◌==◌, ◌||◌, not, nat_lt, nat_le, if◌then◌else◌, Bool, true, false, Option, Some, None}
+use Rattle.std.specs.Prelude.{ℕ, ◌==◌, ◌||◌, not, nat_lt, nat_le, if◌then◌else◌, Bool, false, Option, Some, None}
 use Rattle.xp_words.specs.declared.context.ContextWord.{ContextWord}
 use Rattle.xp_words.specs.declared.entry.Demand.{Demand}
 use Rattle.xp_words.specs.declared.entry.Demand.TheVariants.{Nothing, Bad, Read, Typed}

@@ -1,6 +1,6 @@
 use Rattle.std.proofs.Common.{sym, refl}
 use Rattle.machine_draw.specs.Named.{table_names}
-use Rattle.machine_draw.proofs.Marks.{marked, unmarked}
+use Rattle.machine_draw.proofs.Marks.{unmarked}
 use Rattle.machine_draw.proofs.Recorded.{few_recorded}
 use Rattle.machine_draw.proofs.named.mark_table.Goals as goal
 
