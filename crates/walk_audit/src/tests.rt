@@ -1,5 +1,7 @@
 //! Six frames, three domains of which the first has privilege over the second, and two vCPUs, of the first two. Frame 0 is a pinned table of level 1, which
 //! maps frame 1 writable and frame 2, of the second domain, to be read. Frame 3 is a descriptor page that vCPU 0 has in its GDT. Frames 4 and 5 are free.
+ghost use Rattle.std.specs.Prelude.{◌≡◌, vec_len};
+
 use crate::{Verdict, audit};
 use arrayvec::ArrayVec;
 use std::test::Fail;
@@ -77,20 +79,22 @@ const STANDING: [(usize, u64); 19] = [
     (PRIV + 2, 0),
 ];
 
-// What the audit says of the words with these changes.
-fn verdict(rt: &HostRuntime, changes: &[(usize, u64)]) -> Result<Verdict, Fail> {
-    let layout = layout();
-    let mut words = vec![in rt.alloc(); 0; WORDS]?;
-    for (place, word) in &STANDING {
-        if let Some(standing) = words.get_mut(*place) {
-            *standing = *word;
-        }
-    }
+fn put(words: &mut Vec<u64>, changes: &[(usize, u64)])
+    ensures { vec_len words.new ≡ vec_len words.old }
+{
     for (place, word) in changes {
         if let Some(standing) = words.get_mut(*place) {
             *standing = *word;
         }
     }
+}
+
+// What the audit says of the words with these changes.
+fn verdict(rt: &HostRuntime, changes: &[(usize, u64)]) -> Result<Verdict, Fail> {
+    let layout = layout();
+    let mut words = vec![in rt.alloc(); 0; layout.words() as usize]?;
+    put(&mut words, &STANDING);
+    put(&mut words, changes);
     Ok(audit(rt.alloc(), &layout, &words)?)
 }
 
