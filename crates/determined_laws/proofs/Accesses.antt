@@ -1,5 +1,5 @@
 -- A guest's load and store are determined, too: by the own translations and by the words that they find.
-use Rattle.std.proofs.Common.{◌≡◌, ◌⊎◌, ℕ, ◌-◌, Bool, true, false, List, [], ◌∷◌, ◌++◌, Option, Some, None, Result, Ok, Err, refl, sym, ap, ◌∙◌, subst, inl, inr}
+use Rattle.std.proofs.Common.{◌≡◌, ℕ, ◌-◌, Bool, true, false, List, [], ◌∷◌, ◌++◌, Option, Some, None, Result, Ok, Err, refl, sym, ap, ◌∙◌, subst, inl, inr}
 use Rattle.xp_words.specs.Entries.{frame_of}
 use Rattle.xp_words.specs.declared.place.Place.TheVariants.{Cell}
 use Rattle.xp_words.specs.declared.reply.Refusal.{Refusal}
@@ -14,11 +14,11 @@ use Rattle.xp_board.specs.Told.{PortValue}
 use Rattle.step_maker.specs.Visits.{Does, Only, Then, Visit, visit_as, visits}
 use Rattle.tlb_walks.specs.Accesses as ways
 use Rattle.tlb_walks.specs.Accesses.{GuestReads, GuestWrites}
-use Rattle.tlb_walks.specs.Addresses.{access_refusal, cell_index}
+use Rattle.tlb_walks.specs.Addresses.{cell_index}
 use Rattle.tlb_walks.specs.Walks.{WalkBy}
 use Rattle.tlb_walks.specs.declared.walks.Walked.{Walked}
-use Rattle.determined_laws.specs.Forks.{Determined, Forks, MadeBy, Tie}
-use Rattle.determined_laws.proofs.Ties.{forks_newer, swapped, tie_lists, tie_map, tie_one, tie_then}
+use Rattle.determined_laws.specs.Forks.{Determined, Tie}
+use Rattle.determined_laws.proofs.Ties.{forks_newer, swapped, tie_lists, tie_map, tie_one, tie_then, some_refusal}
 use Rattle.determined_laws.proofs.Walks.{walk_tie}
 
 -- ---- the lists of two ways from one port
@@ -26,9 +26,6 @@ pub both_made : (v w x : PortValue) (P Q : List Visit → Type 0) (E : Type 0) �
 unfolding Does
 both_made v w x P Q E a b tie =
     record { us = visits a.0; vs = visits b.0; left = (a.0, a.1, refl); right = (b.0, b.1, refl); tie = tie (visits a.0) (visits b.0) a.2 b.2 }
-
-some_refusal : (x y : Refusal) → ◌≡◌ {A = Option Refusal} (Some x) (Some y) → x ≡ y
-some_refusal x y e = cc
 
 some_item : (x y : Item) → ◌≡◌ {A = Option Item} (Some x) (Some y) → x ≡ y
 some_item x y e = cc

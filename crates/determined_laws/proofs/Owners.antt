@@ -1,16 +1,16 @@
 -- `owner_for` is determined by the words that it finds.
-use Rattle.std.proofs.Common.{◌≡◌, ◌≢◌, ◌⊎◌, ℕ, ◌<◌, ◌≤◌, ◌^◌, true, false, List, [], ◌∷◌, ◌++◌, Option, Some, None, Result, Ok, Err, refl, sym, ap, ◌∙◌, subst, inl, inr, arith}
+use Rattle.std.proofs.Common.{◌≡◌, ◌≢◌, ℕ, true, false, List, [], ◌∷◌, ◌++◌, Option, Some, None, Result, Err, refl, sym, ap, ◌∙◌, inl, inr, arith}
 use Rattle.xp_words.specs.Machine.{Machine}
 use Rattle.xp_words.specs.declared.place.Place.TheVariants.{Life, Priv}
 use Rattle.xp_words.specs.declared.reply.Refusal.{Refusal}
-use Rattle.xp_words.specs.declared.reply.Refusal.TheVariants.{BadRange, Dying, NoDomain, NoPrivilege}
+use Rattle.xp_words.specs.declared.reply.Refusal.TheVariants.{Dying, NoPrivilege}
 use Rattle.xp_board.specs.declared.step.Act.TheVariants.{Load}
 use Rattle.xp_board.specs.Readings.{has_now}
 use Rattle.step_maker.specs.Visits.{Visit}
 use Rattle.foreign_map.specs.declared.owners.Owners.{Owners}
-use Rattle.foreign_map.specs.Owning.{Admits, OverOf, OwnersBy, above, alive, allowed, apart, barred, dying, forbidden, frames_of, had, missing, no_frames, no_tables, of_caller, own, same, saw_life, saw_privileges, tables_of}
+use Rattle.foreign_map.specs.Owning.{Admits, OverOf, OwnersBy, above, alive, allowed, apart, barred, dying, forbidden, had, missing, no_frames, no_tables, of_caller, own, same, saw_life, saw_privileges}
 use Rattle.determined_laws.specs.Forks.{Tie}
-use Rattle.determined_laws.proofs.Ties.{tie_map, forks_newer, fork_here, tie_one, tie_then}
+use Rattle.determined_laws.proofs.Ties.{tie_map, forks_newer, fork_here, tie_one, tie_then, some_refusal as some_same}
 
 differ : (d x y : ℕ) → has_now d x ≡ false → has_now d y ≡ true → x ≢ y
 differ d x y a b e = let t : false ≡ true = sym a ∙ (ap (has_now d) e ∙ b) in cc
@@ -82,9 +82,6 @@ over_tie c t f _ _ _ _ (allowed x off two aye) (allowed y off' two' aye') = by (
     by : Tie (saw_privileges t x ∷ []) (saw_privileges t y ∷ []) (x ≡ y) → Tie (saw_privileges t x ∷ []) (saw_privileges t y ∷ []) (◌≡◌ {A = Option Refusal} None None)
     by (inl q) = inl q
     by (inr s) = inr (s.0, refl)
-
-some_same : (x y : Refusal) → ◌≡◌ {A = Option Refusal} (Some x) (Some y) → x ≡ y
-some_same x y e = cc
 
 no_some : {A : Type 0} (x : Refusal) → ◌≡◌ {A = Option Refusal} (Some x) None → A
 no_some x e = absurd cc

@@ -1,5 +1,5 @@
 -- References that are taken and given back, locks, and machine-to-physical words are determined by the words that are found.
-use Rattle.std.proofs.Common.{◌≡◌, ◌≢◌, ◌⊎◌, ℕ, ◌+◌, ◌/◌, ◌<◌, ◌≤◌, ◌==◌, ◌&&◌, ◌||◌, not, nat_lt, if◌then◌else◌, Bool, true, false, List, [], ◌∷◌, ◌++◌, Option, Some, None, Result, Ok, Err, IsTrue, refl, sym, ap, ◌∙◌, subst, inl, inr, arith}
+use Rattle.std.proofs.Common.{◌≡◌, ◌≢◌, ℕ, ◌+◌, ◌/◌, ◌<◌, ◌≤◌, ◌==◌, ◌&&◌, ◌||◌, not, nat_lt, if◌then◌else◌, Bool, true, false, List, [], ◌∷◌, ◌++◌, Option, Some, None, Result, Ok, Err, IsTrue, refl, sym, ap, ◌∙◌, subst, inl, inr, arith}
 use Rattle.std.proofs.lemmas.Bool.Decides.{nat_tests}
 use Rattle.xp_words.specs.Machine.{Machine}
 use Rattle.xp_words.specs.Places.{number, sizes_of}
@@ -15,6 +15,7 @@ use Rattle.xp_words.specs.declared.reply.Refusal.{Refusal}
 use Rattle.xp_words.specs.declared.reply.Refusal.TheVariants.{NoFrame}
 use Rattle.xp_words.specs.declared.reply.Stop.{Stop}
 use Rattle.xp_words.specs.declared.reply.Stop.TheVariants.{Paused, Refused}
+use Rattle.xp_words.proofs.Shared.{lt_false as above_all}
 use Rattle.xp_board.specs.declared.step.Act.TheVariants.{Add, Cas, Load, Store}
 use Rattle.xp_board.specs.HintSteps.{map_bit}
 use Rattle.xp_board.specs.KindSteps.{locked_kind}
@@ -52,9 +53,6 @@ two f x y vs t = t.list ∙ (ap (λ z. t.after ++ z) t.first ∙ ap (λ z. z ++ 
 if_off : (b : Bool) (x : Option Refusal) (r : Refusal) → b ≡ false → (if b then x else Some r) ≡ None → ⊥
 if_off true x r e h = cc
 if_off false x r e h = cc
-
-above_all : (f k : ℕ) → k ≤ f → nat_lt f k ≡ false
-above_all f k far = grind (arith, nat_tests)
 
 far_refused : (n : Machine) (f owner x : ℕ) → n.frames ≤ f → refer n owner f x ≡ None → ⊥
 far_refused n f owner x far e = if_off (nat_lt f n.frames) _ (NoFrame f) (above_all f n.frames far) e

@@ -1,6 +1,7 @@
 -- Ties of lists: one part behind another, single visits.
-use Rattle.std.proofs.Common.{◌≡◌, ◌≢◌, ◌⊎◌, ℕ, ◌==◌, Bool, true, false, List, [], ◌∷◌, ◌++◌, Option, None, append_assoc, append-nil, refl, sym, ap, ◌∙◌, subst, inl, inr}
+use Rattle.std.proofs.Common.{◌≡◌, ◌≢◌, ◌⊎◌, ℕ, ◌==◌, Bool, true, false, List, [], ◌∷◌, ◌++◌, Option, Some, None, append_assoc, append-nil, refl, sym, ap, ◌∙◌, subst, inl, inr}
 use Rattle.xp_words.specs.declared.place.Place.{Place}
+use Rattle.xp_words.specs.declared.reply.Refusal.{Refusal}
 use Rattle.xp_board.specs.declared.step.Act.{Act}
 use Rattle.xp_board.specs.declared.step.Mark.{Mark}
 use Rattle.xp_board.specs.declared.step.StepKind.{StepKind}
@@ -81,3 +82,6 @@ tie_lists us vs ps qs E e f t = subst (λ z. Tie z vs E) (sym e) (subst (λ z. T
 -- the one for the other
 pub swapped : (us vs : List Visit) → Forks us vs → Forks vs us
 swapped us vs t = record { place = t.place; act = t.act; kind = t.kind; mark = t.mark; x = t.y; y = t.x; other = λ z. t.other (sym z); newer = t.later; later = t.newer; older = t.older; left = t.right; right = t.left }
+
+pub some_refusal : (x y : Refusal) → ◌≡◌ {A = Option Refusal} (Some x) (Some y) → x ≡ y
+some_refusal x y e = cc

@@ -27,7 +27,7 @@ use Rattle.reference_recount.specs.Growth.{IsMore, IsOwn, IsWithin, AreSums, is_
 use Rattle.reference_recount.proofs.KindForms.{allocated_few, marks_few}
 
 -- ---- nobody holds anything
-nobody_works : (n f : ℕ) → work_of n nobody f ≡ None
+pub nobody_works : (n f : ℕ) → work_of n nobody f ≡ None
 unfolding recorded_in first_by
 nobody_works n f = work_of-none n nobody f (λ t l. refl)
 

@@ -1,5 +1,5 @@
 -- Recorded entries, where no vCPU holds anything.
-use Rattle.std.proofs.Common.{◌≡◌, ℕ, zero, suc, ◌+◌, ◌<◌, ◌*◌, ◌≤◌, ◌==◌, ◌||◌, ◌&&◌, Bool, true, false, IsTrue, Option, Some, None, inl, inr, refl, sym, subst, ap, arith}
+use Rattle.std.proofs.Common.{◌≡◌, ℕ, ◌+◌, ◌<◌, ◌*◌, ◌≤◌, ◌==◌, ◌||◌, ◌&&◌, Bool, true, false, IsTrue, Option, Some, None, inl, inr, refl, sym, subst, ap, arith}
 use Rattle.std.proofs.lemmas.Bool.Decides.{nat_tests}
 use Rattle.std.proofs.lemmas.Bool.{cases_Bool, and_parts}
 use Rattle.xp_words.specs.declared.kind.KindWord.{KindWord}
@@ -15,10 +15,11 @@ use Rattle.xp_board.specs.After.{is_fixed}
 use Rattle.xp_board.specs.Spelling.{IsSpelling, is_kind_in}
 use Rattle.xp_board.specs.Lists.{first_by}
 use Rattle.xp_board.specs.Readings.{kind_at, is_live, is_partial, is_work}
-use Rattle.xp_board.specs.Recorded.{held, held_of, entry_demand, work_of, recorded_in}
+use Rattle.xp_board.specs.Recorded.{held, held_of, entry_demand}
 use Rattle.xp_board.specs.Valid.{LeadsWell, IsUnsettled}
 use Rattle.xp_board.proofs.KindForms.{fields_of, partial_form}
 use Rattle.reference_recount.specs.Recounted.{nobody, IsReadable}
+use Rattle.reference_recount.proofs.Whole.{nobody_works as no_work}
 use Rattle.walk_audit.specs.Breaks.{Breaks, IsHeld, IsBadEntry, MayAsk}
 use Rattle.walk_audit.specs.Leads.{LeadsTo, looked_at}
 use Rattle.walk_audit.specs.Order.{NoneBreaks, check_of, position}
@@ -29,12 +30,6 @@ use Rattle.walk_audit.proofs.First.{none_joined, none_narrowed}
 only_partial : (p w : Bool) → IsTrue (p || w) → w ≡ false → IsTrue p
 only_partial true w h e = refl
 only_partial false w h e = absurd (let t : w ≡ true = h in cc)
-
--- nobody works on a frame
-pub no_work : (k f : ℕ) → work_of k nobody f ≡ None
-unfolding work_of recorded_in first_by
-no_work zero f = refl
-no_work (suc k) f = no_work k f
 
 pub held_is : (n : Machine) (m : Place → ℕ) (f : ℕ) → held (sizes_of n) m nobody f ≡ held_of (kind_at m f) None
 held_is n m f = ap (held_of (kind_at m f)) (no_work (sizes_of n).vcpus f)

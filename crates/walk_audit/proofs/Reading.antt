@@ -1,20 +1,19 @@
 -- Words of the machine, read.
-use Rattle.std.proofs.Common.{◌≡◌, ℕ, ◌<◌, ◌≤◌, ◌&&◌, nat_lt, nat_le, true, List, length, IsTrue, Option, Some, None, refl, sym, arith}
+use Rattle.std.proofs.Common.{◌≡◌, ℕ, ◌<◌, ◌≤◌, true, List, length, IsTrue, Option, Some, None, refl, sym, arith}
 use Rattle.std.specs.Option.{IsSome}
 use Rattle.std.proofs.lemmas.Bool.Decides.{nat_tests}
 use Rattle.xp_words.specs.KindWords.{kind_read}
 use Rattle.xp_words.specs.RefWords.{ref_read}
-use Rattle.xp_words.specs.declared.refs.RefWord.{RefWord}
-use Rattle.xp_words.specs.declared.refs.RefWord.TheVariants.{Free, Owned, Dying}
 use Rattle.xp_words.specs.declared.kind.KindWord.{KindWord}
 use Rattle.xp_words.specs.declared.place.Place.{Place}
 use Rattle.xp_words.specs.declared.place.Place.TheVariants.{Refs, Kind, Vcpu}
 use Rattle.xp_words.specs.Machine.{Machine}
 use Rattle.xp_words.specs.Places.{Sizes, sizes_of, is_place, number, size}
 use Rattle.xp_words.proofs.PlaceLaws.{number-lt}
-use Rattle.xp_board.specs.Spelling.{IsSpelling, is_kind_in, is_ref_in}
-use Rattle.xp_board.specs.Readings.{kind_at, is_context, owner_of, owner_in}
+use Rattle.xp_board.specs.Spelling.{IsSpelling, is_kind_in}
+use Rattle.xp_board.specs.Readings.{kind_at, is_context, owner_of}
 use Rattle.xp_board.proofs.KindForms.{fields_of}
+use Rattle.xp_board.proofs.Owners.{owner_is_real as owner_in_few}
 use Rattle.reference_recount.specs.Recounted.{IsReadable}
 
 -- each word of the machine stands in the list
@@ -37,13 +36,6 @@ kind_is m f k e = sym (fields_of (m (Kind f)) k e)
 pub context_few : (n : Machine) (m : Place → ℕ) (v k : ℕ) → IsReadable n m → v < (sizes_of n).vcpus → k < 38 → IsTrue (is_context k) → m (Vcpu v k) ≤ n.frames
 unfolding IsSpelling
 context_few n m v k r b c e = let h = (r.contexts v k b c).1 in let t : is_context k ≡ true = e in grind (arith, nat_tests)
-
--- the owner of a frame is a domain of the machine
-owner_in_few : (n : Machine) (x : Option RefWord) (d : ℕ) → IsTrue (is_ref_in n x) → owner_in x ≡ Some d → d < length n.page_limit
-owner_in_few n None d h e = absurd (cc)
-owner_in_few n (Some (Free stamp)) d h e = absurd (cc)
-owner_in_few n (Some (Owned owner allocated count)) d h e = let same : owner ≡ d = cc in let t : (nat_lt owner (length n.page_limit) && nat_le count n.limit) ≡ true = h in grind (arith, nat_tests)
-owner_in_few n (Some (Dying owner)) d h e = let same : owner ≡ d = cc in let t : nat_lt owner (length n.page_limit) ≡ true = h in grind (arith, nat_tests)
 
 pub owner_few : (n : Machine) (m : Place → ℕ) (f d : ℕ) → IsReadable n m → f < n.frames → owner_of (m (Refs f)) ≡ Some d → d < length n.page_limit
 unfolding IsSpelling owner_of
