@@ -8,7 +8,7 @@ use Rattle.clap.specs.Simple.{subcommand_rows}
 use Rattle.clap.specs.declared.parser.matches.ArgMatches.{ArgMatches}
 use Rattle.clap.specs.declared.parser.matches.ArgMatches.TheViews.{out-ArgMatches, out-SubCommand}
 use Rattle.clap.specs.declared.parser.matches.SubCommand.{SubCommand}
-use Rattle.command_words.specs.Words.{argument_of, command_named, word_of}
+use Rattle.command_words.specs.Words.{argument_of, command_named, command_word}
 use Rattle.command_words.specs.Table.{FoundText, SpellsNumber, found_with, text_found}
 use Rattle.command_words.specs.declared.asked.CommandName.{CommandName}
 use Rattle.command_words.proofs.Knowing.{names_itself}
@@ -16,11 +16,11 @@ use Rattle.command_words.proofs.Spellings.{unsigned}
 
 -- the name of the subcommand
 is_named : (m : ArgMatches) (name : CommandName) (text : Text) → text_found name (subcommand_rows_of m) ≡ found_with name text
-    → subcommand_name_of m ≡ Some (word_of name)
+    → subcommand_name_of m ≡ Some (command_word name)
 is_named m name text e = go (out-ArgMatches m).subcommand e
   where
     go : {Z : Type 0} (o : Option (Box SubCommand Z)) → text_found name (subcommand_rows o) ≡ found_with name text
-        → option_map (λ b. (out-SubCommand (box_value b)).name.now) o ≡ Some (word_of name)
+        → option_map (λ b. (out-SubCommand (box_value b)).name.now) o ≡ Some (command_word name)
     go None e = absurd cc
     go (Some b) e = ap (option_map (λ (p : FoundText). p.0)) e
 

@@ -2,7 +2,7 @@
 use Rattle.std.proofs.Common.{◌≡◌, ◌∙◌, ℕ, ◌<◌, ◌^◌, Bool, true, false, not, List, [], ◌∷◌, ◌++◌, Some, None, Option, is_some, option_and_then, option_map, cond, take, drop, codes, if◌then◌else◌, bytes_eq, eqb, refl, sym, ap, subst, arith, lit<, leb-true, take-append-drop}
 use Rattle.std.specs.Str.Parse.{IsNumeral, digits_value}
 use Rattle.std.proofs.lemmas.Slice.Eq.{bytes_eq-Decides}
-use Rattle.command_words.specs.Words.{argument_of, asked_by, command_named, names_source, number_after, operations_after, operations_in, pace_in, pace_after, word_of, words_ask}
+use Rattle.command_words.specs.Words.{argument_of, asked_as, command_named, names_source, number_after, operations_after, operations_in, pace_in, pace_after, command_word, words_ask}
 use Rattle.command_words.specs.Table.{SpellsNumber}
 use Rattle.command_words.specs.declared.asked.CommandName.{CommandName}
 use Rattle.command_words.specs.declared.asked.CommandName.TheVariants as names
@@ -15,7 +15,7 @@ pub record Known (words : List (List ℕ)) : Type 0 where
   pub number : ℕ
   pub reads : Reads words name text
   pub spells : SpellsNumber (argument_of name) text number
-  pub is : words_ask words ≡ Some (asked_by name number)
+  pub is : words_ask words ≡ Some (asked_as name number)
 
 same : (w : List ℕ) (v : List ℕ) → bytes_eq w v ≡ true → w ≡ v
 same w v e = (bytes_eq-Decides w v).0 e
@@ -29,14 +29,14 @@ some_mapped f (Some n) e = refl
 some_mapped f None e = cc
 
 -- a word that names a command is its name
-named : (w : List ℕ) (name : CommandName) → command_named w ≡ Some name → w ≡ word_of name
+named : (w : List ℕ) (name : CommandName) → command_named w ≡ Some name → w ≡ command_word name
 named w name e = by (bytes_eq w (codes "turns")) (bytes_eq w (codes "replay")) (bytes_eq w (codes "image")) (bytes_eq w (codes "generate")) (bytes_eq w (codes "audit")) (bytes_eq w (codes "draw")) refl refl refl refl refl refl e
   where
-    is : (m : CommandName) → bytes_eq w (word_of m) ≡ true → Some m ≡ Some name → w ≡ word_of name
-    is m h e = let found : m ≡ name = cc in subst (λ k. w ≡ word_of k) found (same w (word_of m) h)
+    is : (m : CommandName) → bytes_eq w (command_word m) ≡ true → Some m ≡ Some name → w ≡ command_word name
+    is m h e = let found : m ≡ name = cc in subst (λ k. w ≡ command_word k) found (same w (command_word m) h)
 
     by : (t r i g a d : Bool) → bytes_eq w (codes "turns") ≡ t → bytes_eq w (codes "replay") ≡ r → bytes_eq w (codes "image") ≡ i → bytes_eq w (codes "generate") ≡ g → bytes_eq w (codes "audit") ≡ a → bytes_eq w (codes "draw") ≡ d
-        → cond t (Some names.Turns) (cond r (Some names.Replay) (cond i (Some names.Image) (cond g (Some names.Generate) (cond a (Some names.Audit) (cond d (Some names.Draw) None))))) ≡ Some name → w ≡ word_of name
+        → cond t (Some names.Turns) (cond r (Some names.Replay) (cond i (Some names.Image) (cond g (Some names.Generate) (cond a (Some names.Audit) (cond d (Some names.Draw) None))))) ≡ Some name → w ≡ command_word name
     by true r i g a d h0 h1 h2 h3 h4 h5 e = is names.Turns h0 e
     by false true i g a d h0 h1 h2 h3 h4 h5 e = is names.Replay h1 e
     by false false true g a d h0 h1 h2 h3 h4 h5 e = is names.Image h2 e
@@ -45,7 +45,7 @@ named w name e = by (bytes_eq w (codes "turns")) (bytes_eq w (codes "replay")) (
     by false false false false false true h0 h1 h2 h3 h4 h5 e = is names.Draw h5 e
     by false false false false false false h0 h1 h2 h3 h4 h5 e = cc
 
-pub names_itself : (name : CommandName) → command_named (word_of name) ≡ Some name
+pub names_itself : (name : CommandName) → command_named (command_word name) ≡ Some name
 names_itself names.Turns = refl
 names_itself names.Replay = refl
 names_itself names.Image = refl
@@ -54,8 +54,8 @@ names_itself names.Audit = refl
 names_itself names.Draw = refl
 
 -- what words behind the command give is asked for with it
-asks : (name : CommandName) (rest : List (List ℕ)) (n : ℕ) → number_after name rest ≡ Some n → words_ask (word_of name ∷ rest) ≡ Some (asked_by name n)
-asks name rest n e = ap (option_and_then (λ name. option_map (asked_by name) (number_after name rest))) (names_itself name) ∙ ap (option_map (asked_by name)) e
+asks : (name : CommandName) (rest : List (List ℕ)) (n : ℕ) → number_after name rest ≡ Some n → words_ask (command_word name ∷ rest) ≡ Some (asked_as name n)
+asks name rest n e = ap (option_and_then (λ name. option_map (asked_as name) (number_after name rest))) (names_itself name) ∙ ap (option_map (asked_as name)) e
 
 paces : (name : CommandName) (rest : List (List ℕ)) → is_paced name ≡ true → number_after name rest ≡ pace_after rest
 unfolding is_paced
@@ -76,8 +76,8 @@ preempts names.Audit e = cc
 preempts names.Draw e = cc
 
 -- a pace behind the command, written in these words
-with_pace : (name : CommandName) (rest : List (List ℕ)) (text : List ℕ) → is_paced name ≡ true → Reads (word_of name ∷ rest) name text → IsNumeral 10 text → digits_value 10 text < 2 ^ 32
-    → pace_after rest ≡ Some (digits_value 10 text) → Known (word_of name ∷ rest)
+with_pace : (name : CommandName) (rest : List (List ℕ)) (text : List ℕ) → is_paced name ≡ true → Reads (command_word name ∷ rest) name text → IsNumeral 10 text → digits_value 10 text < 2 ^ 32
+    → pace_after rest ≡ Some (digits_value 10 text) → Known (command_word name ∷ rest)
 with_pace name rest text paced reads digits small is = record {
   name = name;
   text = text;
@@ -87,32 +87,32 @@ with_pace name rest text paced reads digits small is = record {
   is = asks name rest _ (paces name rest paced ∙ is);
 }
 
-known_apart : (name : CommandName) → is_paced name ≡ true → (p : List ℕ) → is_some (pace_in p) ≡ true → Known (word_of name ∷ codes "--preempt" ∷ p ∷ [])
+known_apart : (name : CommandName) → is_paced name ≡ true → (p : List ℕ) → is_some (pace_in p) ≡ true → Known (command_word name ∷ codes "--preempt" ∷ p ∷ [])
 known_apart name paced [] e = absurd (no_word 0 1000000 e)
 known_apart name paced (c ∷ cs) e =
     let s = spelled 0 1000000 (lit< tt) c cs e in
     with_pace name (codes "--preempt" ∷ (c ∷ cs) ∷ []) (c ∷ cs) paced (apart c cs s name paced) s.all (omega (arith, leb-true _ _ s.most)) s.is
 
-known_joined : (name : CommandName) → is_paced name ≡ true → (p : List ℕ) → is_some (pace_in p) ≡ true → Known (word_of name ∷ (codes "--preempt=" ++ p) ∷ [])
+known_joined : (name : CommandName) → is_paced name ≡ true → (p : List ℕ) → is_some (pace_in p) ≡ true → Known (command_word name ∷ (codes "--preempt=" ++ p) ∷ [])
 known_joined name paced [] e = absurd (no_word 0 1000000 e)
 known_joined name paced (c ∷ cs) e =
     let s = spelled 0 1000000 (lit< tt) c cs e in
     with_pace name ((codes "--preempt=" ++ (c ∷ cs)) ∷ []) (c ∷ cs) paced (joined c cs s name paced) s.all (omega (arith, leb-true _ _ s.most)) s.is
 
-known_behind : (name : CommandName) → is_paced name ≡ true → (rest : List (List ℕ)) → is_some (pace_after rest) ≡ true → Known (word_of name ∷ rest)
+known_behind : (name : CommandName) → is_paced name ≡ true → (rest : List (List ℕ)) → is_some (pace_after rest) ≡ true → Known (command_word name ∷ rest)
 known_behind name paced [] e = with_pace name [] (codes "0") paced (alone name paced) (lit< tt, (lit< tt, tt)) (lit< tt) refl
 known_behind name paced (o ∷ []) e =
     let parts = some_if (bytes_eq (take 10 o) (codes "--preempt=")) (pace_in (drop 10 o)) e in
     let front = same (take 10 o) (codes "--preempt=") parts.0 in
     let whole : codes "--preempt=" ++ drop 10 o ≡ o = ap (λ x. x ++ drop 10 o) (sym front) ∙ take-append-drop 10 o in
-    subst (λ x. Known (word_of name ∷ x ∷ [])) whole (known_joined name paced (drop 10 o) parts.1)
+    subst (λ x. Known (command_word name ∷ x ∷ [])) whole (known_joined name paced (drop 10 o) parts.1)
 known_behind name paced (o ∷ p ∷ []) e =
     let parts = some_if (bytes_eq o (codes "--preempt")) (pace_in p) e in
-    subst (λ x. Known (word_of name ∷ x ∷ p ∷ [])) (sym (same o (codes "--preempt") parts.0)) (known_apart name paced p parts.1)
+    subst (λ x. Known (command_word name ∷ x ∷ p ∷ [])) (sym (same o (codes "--preempt") parts.0)) (known_apart name paced p parts.1)
 known_behind name paced (o ∷ p ∷ x ∷ xs) e = cc
 
 -- `generate` with the one word behind it
-known_counted : (n : List ℕ) → is_some (operations_in n) ≡ true → Known (word_of names.Generate ∷ n ∷ [])
+known_counted : (n : List ℕ) → is_some (operations_in n) ≡ true → Known (command_word names.Generate ∷ n ∷ [])
 known_counted [] e = absurd (no_word 1 60000 e)
 known_counted (c ∷ cs) e =
     let s = spelled 1 60000 (lit< tt) c cs e in
@@ -126,7 +126,7 @@ known_counted (c ∷ cs) e =
       is = asks names.Generate ((c ∷ cs) ∷ []) operations s.is;
     }
 
-known_generate : (rest : List (List ℕ)) → is_some (operations_after rest) ≡ true → Known (word_of names.Generate ∷ rest)
+known_generate : (rest : List (List ℕ)) → is_some (operations_after rest) ≡ true → Known (command_word names.Generate ∷ rest)
 known_generate [] e = cc
 known_generate (n ∷ []) e = known_counted n e
 known_generate (n ∷ x ∷ xs) e = cc
@@ -150,22 +150,22 @@ numberless names.Replay e = cc
 numberless names.Image e = cc
 numberless names.Generate e = cc
 
-without_number : (name : CommandName) (rest : List (List ℕ)) → is_reading name ≡ true → Reads (word_of name ∷ rest) name [] → names_source rest ≡ true → Known (word_of name ∷ rest)
+without_number : (name : CommandName) (rest : List (List ℕ)) → is_reading name ≡ true → Reads (command_word name ∷ rest) name [] → names_source rest ≡ true → Known (command_word name ∷ rest)
 without_number name rest reading reads there =
     record { name = name; text = []; number = 0; reads = reads; spells = subst (λ a. SpellsNumber a [] 0) (sym (numberless name reading)) refl; is = asks name rest 0 (reads_as name rest reading ∙ rw there refl) }
 
 -- alone or with the path of a file
-known_reading : (name : CommandName) → is_reading name ≡ true → (rest : List (List ℕ)) → is_some {T = ℕ} (if names_source rest then Some 0 else None) ≡ true → Known (word_of name ∷ rest)
+known_reading : (name : CommandName) → is_reading name ≡ true → (rest : List (List ℕ)) → is_some {T = ℕ} (if names_source rest then Some 0 else None) ≡ true → Known (command_word name ∷ rest)
 known_reading name reading [] e = without_number name [] reading (reads_alone name reading) refl
 known_reading name reading ([] ∷ []) e = cc
 known_reading name reading ((c ∷ cs) ∷ []) e = by (eqb c 45) refl e
   where
-    by : (b : Bool) → eqb c 45 ≡ b → is_some {T = ℕ} (cond (not b) (Some 0) None) ≡ true → Known (word_of name ∷ (c ∷ cs) ∷ [])
+    by : (b : Bool) → eqb c 45 ≡ b → is_some {T = ℕ} (cond (not b) (Some 0) None) ≡ true → Known (command_word name ∷ (c ∷ cs) ∷ [])
     by true is h = cc
     by false is h = without_number name ((c ∷ cs) ∷ []) reading (reads_file c cs is name reading) (rw is refl)
 known_reading name reading (p ∷ x ∷ xs) e = cc
 
-known_by : (name : CommandName) (rest : List (List ℕ)) → is_some (number_after name rest) ≡ true → Known (word_of name ∷ rest)
+known_by : (name : CommandName) (rest : List (List ℕ)) → is_some (number_after name rest) ≡ true → Known (command_word name ∷ rest)
 unfolding is_paced is_reading
 known_by names.Turns rest e = known_behind names.Turns refl rest e
 known_by names.Replay rest e = known_behind names.Replay refl rest e
@@ -178,6 +178,6 @@ pub known : (words : List (List ℕ)) → is_some (words_ask words) ≡ true →
 known [] e = cc
 known (w ∷ rest) e = by (command_named w) refl e
   where
-    by : (o : Option CommandName) → command_named w ≡ o → is_some (option_and_then (λ name. option_map (asked_by name) (number_after name rest)) o) ≡ true → Known (w ∷ rest)
+    by : (o : Option CommandName) → command_named w ≡ o → is_some (option_and_then (λ name. option_map (asked_as name) (number_after name rest)) o) ≡ true → Known (w ∷ rest)
     by None is h = cc
-    by (Some name) is h = subst (λ x. Known (x ∷ rest)) (sym (named w name is)) (known_by name rest (some_mapped (asked_by name) (number_after name rest) h))
+    by (Some name) is h = subst (λ x. Known (x ∷ rest)) (sym (named w name is)) (known_by name rest (some_mapped (asked_as name) (number_after name rest) h))

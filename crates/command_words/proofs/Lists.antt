@@ -2,7 +2,7 @@
 use Rattle.std.proofs.Common.{◌≡◌, ℕ, Bool, true, false, List, [], ◌∷◌, ◌++◌, codes, eqb, refl}
 use Rattle.clap.specs.Words.{Text, is_simple, subcommand_of, takes}
 use Rattle.clap.proofs.OnLiterals.{clap_on_literals}
-use Rattle.command_words.specs.Words.{word_of}
+use Rattle.command_words.specs.Words.{command_word}
 use Rattle.command_words.specs.Table.{found_with, table, text_found}
 use Rattle.command_words.specs.declared.asked.CommandName.{CommandName}
 use Rattle.command_words.specs.declared.asked.CommandName.TheVariants as names
@@ -31,7 +31,7 @@ is_reading names.Generate = false
 is_reading names.Audit = true
 is_reading names.Draw = true
 
-pub alone : (name : CommandName) → is_paced name ≡ true → Reads (word_of name ∷ []) name (codes "0")
+pub alone : (name : CommandName) → is_paced name ≡ true → Reads (command_word name ∷ []) name (codes "0")
 unfolding clap_on_literals is_paced
 alone names.Turns e = record { taken = refl; found = refl }
 alone names.Replay e = record { taken = refl; found = refl }
@@ -41,7 +41,7 @@ alone names.Audit e = cc
 alone names.Draw e = cc
 
 module _ (c : ℕ) (cs : List ℕ) (s : Spelled 0 1000000 c cs) where
-  pub apart : (name : CommandName) → is_paced name ≡ true → Reads (word_of name ∷ codes "--preempt" ∷ (c ∷ cs) ∷ []) name (c ∷ cs)
+  pub apart : (name : CommandName) → is_paced name ≡ true → Reads (command_word name ∷ codes "--preempt" ∷ (c ∷ cs) ∷ []) name (c ∷ cs)
   unfolding clap_on_literals is_paced
   apart names.Turns e = record {
     taken = rw (s.no_minus, s.no_minus, s.no_minus, s.no_plus, s.some, s.digits, s.least, s.most, s.fits) refl;
@@ -59,7 +59,7 @@ module _ (c : ℕ) (cs : List ℕ) (s : Spelled 0 1000000 c cs) where
   apart names.Audit e = cc
   apart names.Draw e = cc
 
-  pub joined : (name : CommandName) → is_paced name ≡ true → Reads (word_of name ∷ (codes "--preempt=" ++ (c ∷ cs)) ∷ []) name (c ∷ cs)
+  pub joined : (name : CommandName) → is_paced name ≡ true → Reads (command_word name ∷ (codes "--preempt=" ++ (c ∷ cs)) ∷ []) name (c ∷ cs)
   unfolding clap_on_literals is_paced
   joined names.Turns e = record { taken = rw (s.no_minus, s.no_plus, s.some, s.digits, s.least, s.most, s.fits) refl; found = rw s.no_minus refl }
   joined names.Replay e = record { taken = rw (s.no_minus, s.no_plus, s.some, s.digits, s.least, s.most, s.fits) refl; found = rw s.no_minus refl }
@@ -68,7 +68,7 @@ module _ (c : ℕ) (cs : List ℕ) (s : Spelled 0 1000000 c cs) where
   joined names.Audit e = cc
   joined names.Draw e = cc
 
-pub counted : (c : ℕ) (cs : List ℕ) → Spelled 1 60000 c cs → Reads (word_of names.Generate ∷ (c ∷ cs) ∷ []) names.Generate (c ∷ cs)
+pub counted : (c : ℕ) (cs : List ℕ) → Spelled 1 60000 c cs → Reads (command_word names.Generate ∷ (c ∷ cs) ∷ []) names.Generate (c ∷ cs)
 unfolding clap_on_literals
 counted c cs s = record {
   taken = rw (s.no_minus, s.no_minus, s.no_minus, s.no_plus, s.some, s.digits, s.least, s.most, s.fits) refl;
@@ -76,7 +76,7 @@ counted c cs s = record {
 }
 
 -- `audit` or `draw`, alone or with a path
-pub reads_alone : (name : CommandName) → is_reading name ≡ true → Reads (word_of name ∷ []) name []
+pub reads_alone : (name : CommandName) → is_reading name ≡ true → Reads (command_word name ∷ []) name []
 unfolding clap_on_literals is_reading
 reads_alone names.Audit e = record { taken = refl; found = refl }
 reads_alone names.Draw e = record { taken = refl; found = refl }
@@ -85,7 +85,7 @@ reads_alone names.Replay e = cc
 reads_alone names.Image e = cc
 reads_alone names.Generate e = cc
 
-pub reads_file : (c : ℕ) (cs : List ℕ) → eqb c 45 ≡ false → (name : CommandName) → is_reading name ≡ true → Reads (word_of name ∷ (c ∷ cs) ∷ []) name []
+pub reads_file : (c : ℕ) (cs : List ℕ) → eqb c 45 ≡ false → (name : CommandName) → is_reading name ≡ true → Reads (command_word name ∷ (c ∷ cs) ∷ []) name []
 unfolding clap_on_literals is_reading
 reads_file c cs no_minus names.Audit e = record {
   taken = rw (no_minus, no_minus) refl;

@@ -2,7 +2,7 @@
 use Rattle.std.proofs.Common.{◌≡◌, ℕ, ◌≤◌, Bool, true, false, ◌&&◌, List, [], ◌∷◌, Option, Some, None, option_and_then, option_map, cond, leb, refl, leb-true, subst}
 use Rattle.trace_lines.specs.Numbers.{numeral}
 use Rattle.trace_lines.proofs.DigitTable.{both_of as both}
-use Rattle.command_words.specs.Words.{asked_by, command_named, number_after, operations_after, pace_after, within, words_ask}
+use Rattle.command_words.specs.Words.{asked_as, command_named, number_after, operations_after, pace_after, within, words_ask}
 use Rattle.command_words.specs.declared.asked.Asked.{Asked}
 use Rattle.command_words.specs.declared.asked.Asked.TheVariants as asks
 use Rattle.command_words.specs.declared.asked.CommandName.{CommandName}
@@ -29,14 +29,14 @@ counted [] n h = cc
 counted (x ∷ []) n h = bounded 1 60000 (numeral 10 x) n h
 counted (x ∷ y ∷ ys) n h = cc
 
-of_command : (o : Option CommandName) (rest : List (List ℕ)) (n : ℕ) → option_and_then (λ name. option_map (asked_by name) (number_after name rest)) o ≡ Some (asks.Generate n) → (1 ≤ n) × (n ≤ 60000)
+of_command : (o : Option CommandName) (rest : List (List ℕ)) (n : ℕ) → option_and_then (λ name. option_map (asked_as name) (number_after name rest)) o ≡ Some (asks.Generate n) → (1 ≤ n) × (n ≤ 60000)
 of_command None rest n e = cc
-of_command (Some names.Turns) rest n e = absurd (no_number (asked_by names.Turns) (pace_after rest) n (λ k h. cc) e)
-of_command (Some names.Replay) rest n e = absurd (no_number (asked_by names.Replay) (pace_after rest) n (λ k h. cc) e)
-of_command (Some names.Image) rest n e = absurd (no_number (asked_by names.Image) (pace_after rest) n (λ k h. cc) e)
+of_command (Some names.Turns) rest n e = absurd (no_number (asked_as names.Turns) (pace_after rest) n (λ k h. cc) e)
+of_command (Some names.Replay) rest n e = absurd (no_number (asked_as names.Replay) (pace_after rest) n (λ k h. cc) e)
+of_command (Some names.Image) rest n e = absurd (no_number (asked_as names.Image) (pace_after rest) n (λ k h. cc) e)
 of_command (Some names.Generate) rest n e = counted rest n e
-of_command (Some names.Audit) rest n e = absurd (no_number (asked_by names.Audit) (number_after names.Audit rest) n (λ k h. cc) e)
-of_command (Some names.Draw) rest n e = absurd (no_number (asked_by names.Draw) (number_after names.Draw rest) n (λ k h. cc) e)
+of_command (Some names.Audit) rest n e = absurd (no_number (asked_as names.Audit) (number_after names.Audit rest) n (λ k h. cc) e)
+of_command (Some names.Draw) rest n e = absurd (no_number (asked_as names.Draw) (number_after names.Draw rest) n (λ k h. cc) e)
 
 pub generated_within : (words : List (List ℕ)) (n : ℕ) → words_ask words ≡ Some (asks.Generate n) → (1 ≤ n) × (n ≤ 60000)
 generated_within [] n e = cc

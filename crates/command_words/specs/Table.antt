@@ -4,7 +4,7 @@ use Rattle.std.specs.Str.Parse.{IsNumeral, digits_value}
 use Rattle.clap.specs.Words.{App, Row, Rule, Text, new_app, new_rule, one_of, with_rule, with_subcommand}
 use Rattle.clap.specs.Simple.{on_top}
 use Rattle.clap.specs.declared.builder.value_parser.ValueParser.TheVariants.{Signed}
-use Rattle.command_words.specs.Words.{argument_of, word_of}
+use Rattle.command_words.specs.Words.{argument_of, command_word}
 use Rattle.command_words.specs.declared.asked.CommandName.{CommandName}
 use Rattle.command_words.specs.declared.asked.CommandName.TheVariants as names
 
@@ -46,8 +46,8 @@ program = on_top (λ s. record s {
 
 abbrev pub table : App
 table = with_subcommand (with_subcommand (with_subcommand (with_subcommand (with_subcommand (with_subcommand program
-    (paced (word_of names.Turns)).top) (paced (word_of names.Replay)).top) (paced (word_of names.Image)).top)
-    generator.top) (reader (word_of names.Audit)).top) (reader (word_of names.Draw)).top
+    (paced (command_word names.Turns)).top) (paced (command_word names.Replay)).top) (paced (command_word names.Image)).top)
+    generator.top) (reader (command_word names.Audit)).top) (reader (command_word names.Draw)).top
 
 -- a command that was found, with the text of its number, where it has one
 abbrev pub FoundText : Type 0
@@ -58,7 +58,7 @@ text_found name = option_map {U = FoundText} (λ p. (p.0, option_and_then (λ ar
 
 -- this command was found, with this text of its number
 abbrev pub found_with : CommandName → Text → Option FoundText
-found_with name text = Some (word_of name, option_map (λ _. text) (argument_of name))
+found_with name text = Some (command_word name, option_map (λ _. text) (argument_of name))
 
 -- a command with this argument is asked with this number: the text spells it, and 0 where there is no argument
 abbrev pub SpellsNumber : Option Text → Text → ℕ → Type 0

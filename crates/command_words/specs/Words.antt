@@ -54,21 +54,21 @@ names_source (path ∷ []) = is_path path
 names_source (path ∷ x ∷ xs) = false
 
 -- the word of a command
-abbrev pub word_of : CommandName → List ℕ
-word_of names.Turns = codes "turns"
-word_of names.Replay = codes "replay"
-word_of names.Image = codes "image"
-word_of names.Generate = codes "generate"
-word_of names.Audit = codes "audit"
-word_of names.Draw = codes "draw"
+abbrev pub command_word : CommandName → List ℕ
+command_word names.Turns = codes "turns"
+command_word names.Replay = codes "replay"
+command_word names.Image = codes "image"
+command_word names.Generate = codes "generate"
+command_word names.Audit = codes "audit"
+command_word names.Draw = codes "draw"
 
 abbrev pub command_named : List ℕ → Option CommandName
-command_named word = if bytes_eq word (word_of names.Turns) then Some names.Turns
-    else if bytes_eq word (word_of names.Replay) then Some names.Replay
-    else if bytes_eq word (word_of names.Image) then Some names.Image
-    else if bytes_eq word (word_of names.Generate) then Some names.Generate
-    else if bytes_eq word (word_of names.Audit) then Some names.Audit
-    else if bytes_eq word (word_of names.Draw) then Some names.Draw else None
+command_named word = if bytes_eq word (command_word names.Turns) then Some names.Turns
+    else if bytes_eq word (command_word names.Replay) then Some names.Replay
+    else if bytes_eq word (command_word names.Image) then Some names.Image
+    else if bytes_eq word (command_word names.Generate) then Some names.Generate
+    else if bytes_eq word (command_word names.Audit) then Some names.Audit
+    else if bytes_eq word (command_word names.Draw) then Some names.Draw else None
 
 -- the argument of a command that is its number
 abbrev pub argument_of : CommandName → Option (List ℕ)
@@ -80,13 +80,13 @@ argument_of names.Audit = None
 argument_of names.Draw = None
 
 -- what a command with its number asks for
-abbrev pub asked_by : CommandName → ℕ → Asked
-asked_by names.Turns pace = asks.Run manners.Turns pace
-asked_by names.Replay pace = asks.Run manners.Replay pace
-asked_by names.Image pace = asks.Image pace
-asked_by names.Generate n = asks.Generate n
-asked_by names.Audit n = asks.Audit
-asked_by names.Draw n = asks.Draw
+abbrev pub asked_as : CommandName → ℕ → Asked
+asked_as names.Turns pace = asks.Run manners.Turns pace
+asked_as names.Replay pace = asks.Run manners.Replay pace
+asked_as names.Image pace = asks.Image pace
+asked_as names.Generate n = asks.Generate n
+asked_as names.Audit n = asks.Audit
+asked_as names.Draw n = asks.Draw
 
 -- the number that the words behind a command give, where they may stand there: 0 where it has no number
 abbrev pub number_after : CommandName → List (List ℕ) → Option ℕ
@@ -100,11 +100,11 @@ number_after names.Draw rest = if names_source rest then Some 0 else None
 -- What the words ask for: the first names the command, and those behind it give its number.
 abbrev pub words_ask : List (List ℕ) → Option Asked
 words_ask [] = None
-words_ask (word ∷ rest) = option_and_then (λ name. option_map (asked_by name) (number_after name rest)) (command_named word)
+words_ask (word ∷ rest) = option_and_then (λ name. option_map (asked_as name) (number_after name rest)) (command_named word)
 
 -- a command that reads an image
 abbrev pub reads_image : List ℕ → Bool
-reads_image word = bytes_eq word (word_of names.Audit) || bytes_eq word (word_of names.Draw)
+reads_image word = bytes_eq word (command_word names.Audit) || bytes_eq word (command_word names.Draw)
 
 -- the path in words that ask for an audit or a picture of a file
 abbrev pub path_in : List (List ℕ) → Option (List ℕ)

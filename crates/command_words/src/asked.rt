@@ -1,5 +1,5 @@
 ghost use Rattle.std.specs.Prelude.{◌≡◌, option_map};
-ghost use Rattle.command_words.specs.Words.{argument_of, asked_by, command_named};
+ghost use Rattle.command_words.specs.Words.{argument_of, asked_as, command_named};
 
 /// How the vCPUs of a trace are run.
 #[derive(Clone, Copy, Debug, PartialEq, Eq)]
@@ -73,7 +73,7 @@ impl CommandName {
 
     // What is asked by this command with this number.
     pub(crate) fn asked(self, number: u32) -> Asked
-        ensures { result ≡ asked_by self number }
+        ensures { result ≡ asked_as self number }
     {
         match self {
             CommandName::Turns => Asked::Run {

@@ -1,5 +1,5 @@
 ghost use Rattle.std.specs.Prelude.{◌≡◌, ℕ, List, IfOk, IfErr, Some, is_some, true, false, map, string_bytes};
-ghost use Rattle.command_words.specs.Words.{argument_of, asked_by, words_ask};
+ghost use Rattle.command_words.specs.Words.{argument_of, asked_as, words_ask};
 ghost use Rattle.command_words.specs.Table.{SpellsNumber, found_with, generator as generator_app, paced as paced_app, reader as reader_app, table, text_found};
 ghost use Rattle.clap.specs.Words.{app_of, subcommand_rows_of};
 ghost use Rattle.command_words.specs.declared.asked.CommandName.{CommandName};
@@ -68,7 +68,7 @@ fn commands<'a>(alloc: Global) -> Result<Command<'a>, AllocError>
 
 // The command that was found, with its number. One that has none is asked with 0.
 fn asked_in(matches: &ArgMatches<'_>) -> Option<Asked>
-    ensures { (name : CommandName) (text : List ℕ) (number : ℕ) → text_found name (subcommand_rows_of matches.now) ≡ found_with name text → SpellsNumber (argument_of name) text number → result ≡ Some (asked_by name number) }
+    ensures { (name : CommandName) (text : List ℕ) (number : ℕ) → text_found name (subcommand_rows_of matches.now) ≡ found_with name text → SpellsNumber (argument_of name) text number → result ≡ Some (asked_as name number) }
 {
     let (word, found) = matches.subcommand()?;
     let name = CommandName::named(word)?;

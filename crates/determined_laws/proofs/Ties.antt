@@ -8,7 +8,7 @@ use Rattle.xp_board.specs.declared.step.StepKind.{StepKind}
 use Rattle.xp_board.proofs.PlaceTests.{equal_by}
 use Rattle.xp_board.proofs.Sums.{when_eq}
 use Rattle.step_maker.specs.Visits.{Visit}
-use Rattle.determined_laws.specs.Forks.{Forks, Tie, at}
+use Rattle.determined_laws.specs.Forks.{Forks, Tie, visit_by}
 
 same_by : (x y : ℕ) (b : Bool) → (x == y) ≡ b → (x ≡ y) ⊎ (x ≢ y)
 same_by x y true e = inl (equal_by x y e)
@@ -52,7 +52,7 @@ forks_older us vs ss f =
     }
 
 -- two visits of one kind, and behind them whatever
-pub fork_here : (t : StepKind) (p : Place) (a : Act) (k : Option Mark) (x y : ℕ) (ps qs : List Visit) → x ≢ y → Forks (ps ++ (at t p a k x ∷ [])) (qs ++ (at t p a k y ∷ []))
+pub fork_here : (t : StepKind) (p : Place) (a : Act) (k : Option Mark) (x y : ℕ) (ps qs : List Visit) → x ≢ y → Forks (ps ++ (visit_by t p a k x ∷ [])) (qs ++ (visit_by t p a k y ∷ []))
 fork_here t p a k x y ps qs n = record { place = p; act = a; kind = t; mark = k; x = x; y = y; other = n; newer = ps; later = qs; older = []; left = refl; right = refl }
 
 -- one part behind another
@@ -64,11 +64,11 @@ tie_then us vs ps qs E F (inr s) rest = by (rest s.0 s.1)
     by (inl f) = inl (subst (λ zs. Forks (ps ++ us) (qs ++ zs)) s.0 (forks_older ps qs us f))
     by (inr t) = inr (ap (λ zs. zs ++ us) t.0 ∙ ap (λ zs. qs ++ zs) s.0, t.1)
 
-pub tie_one : (t : StepKind) (p : Place) (a : Act) (k : Option Mark) (x y : ℕ) → Tie (at t p a k x ∷ []) (at t p a k y ∷ []) (x ≡ y)
+pub tie_one : (t : StepKind) (p : Place) (a : Act) (k : Option Mark) (x y : ℕ) → Tie (visit_by t p a k x ∷ []) (visit_by t p a k y ∷ []) (x ≡ y)
 tie_one t p a k x y = by (same_or x y)
   where
-    by : (x ≡ y) ⊎ (x ≢ y) → Tie (at t p a k x ∷ []) (at t p a k y ∷ []) (x ≡ y)
-    by (inl e) = inr (ap (λ z. at t p a k z ∷ []) e, e)
+    by : (x ≡ y) ⊎ (x ≢ y) → Tie (visit_by t p a k x ∷ []) (visit_by t p a k y ∷ []) (x ≡ y)
+    by (inl e) = inr (ap (λ z. visit_by t p a k z ∷ []) e, e)
     by (inr n) = inl (fork_here t p a k x y [] [] n)
 
 -- ---- what follows from a tie, and the same lists otherwise said

@@ -10,7 +10,7 @@ use Rattle.step_maker.specs.Visits.{Visit}
 use Rattle.flush_waits.specs.Listing as waits
 use Rattle.flush_waits.specs.Listing.{LooksAt, Slow, WaitedFor, WaitsInOrder}
 use Rattle.determined_laws.proofs.Waits.{order_tie}
-use Rattle.determined_laws.specs.Forks.{Forks, Tie, at}
+use Rattle.determined_laws.specs.Forks.{Forks, Tie, visit_by}
 use Rattle.determined_laws.proofs.Ties.{tie_map, swapped, forks_newer, same_or}
 
 below_or : (k u : ℕ) → k ≤ u + 1 → (k ≡ u + 1) ⊎ (k ≢ u + 1) → (k ≡ u + 1) ⊎ (k ≤ u)
@@ -69,8 +69,8 @@ module _ (q : Post) (whose : Whose) (stamp : ℕ) where
     -- the one comes to its end, and the other finds the clock at its last value
     apart : (us vs : List Visit) (o : Option Slow) (m : ℕ) (r : Refusal) → WaitsInOrder q whose stamp us (length q.machine.vcpu_domain) (Ok o) → WaitsInOrder q whose stamp vs m (Err r) → Forks us vs
     apart us vs o m r w x =
-        let at = spent_at vs m r x in
-        let f = front us (length q.machine.vcpu_domain) m o w (omega (arith, at, real)) in
+        let visit_by = spent_at vs m r x in
+        let f = front us (length q.machine.vcpu_domain) m o w (omega (arith, visit_by, real)) in
         subst (λ z. Forks z vs) (sym f.list) (by f (order_tie q whose stamp m m (Ok f.first) (Err r) f.older vs f.waits x refl))
       where
         by : (f : Front us m) → Tie f.older vs (◌≡◌ {A = Result (Option Slow) Refusal} (Ok f.first) (Err r)) → Forks (f.newer ++ f.older) vs

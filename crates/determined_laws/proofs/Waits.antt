@@ -15,7 +15,7 @@ use Rattle.step_maker.specs.Visits.{Visit, Only, Then, visit}
 use Rattle.flush_words.specs.Flushing.{FlushedBy, none, once}
 use Rattle.flush_waits.specs.Listing as waits
 use Rattle.flush_waits.specs.Listing.{IsOtherMeant, IsOwnMeant, LooksAt, WaitsInOrder, WeighsBy, saw_flushed, saw_run}
-use Rattle.determined_laws.specs.Forks.{Tie, at}
+use Rattle.determined_laws.specs.Forks.{Tie, visit_by}
 use Rattle.determined_laws.proofs.Ties.{tie_map, fork_here, tie_one, tie_then}
 
 -- ---- the own flush
@@ -144,7 +144,7 @@ module _ (q : Post) (whose : Whose) (stamp u : ℕ) where
   unmeant_not means is off meant = let there : IsTrue (means u) = subst (λ z. IsMeant z u) is meant in absurd (let t = sym there ∙ off in cc)
 
   looked_tie : (a b : Standing) (us vs : List Visit) → Looked q whose stamp u a us → Looked q whose stamp u b vs → Tie us vs (a ≡ b)
-  looked_tie _ _ _ _ (skipped means is off) (skipped others at nay) = inr (refl, refl)
+  looked_tie _ _ _ _ (skipped means is off) (skipped others visit_by nay) = inr (refl, refl)
   looked_tie _ _ _ _ (skipped means is off) (other x b rest meant t) = unmeant_not means is off meant.1
   looked_tie _ _ _ _ (skipped means is off) (own y b rest meant t) = unmeant_not means is off meant.1
   looked_tie _ _ _ _ (other x a rest meant t) (skipped means is off) = unmeant_not means is off meant.1
@@ -182,24 +182,24 @@ module _ (q : Post) (whose : Whose) (stamp : ℕ) where
   order_tie _ _ _ _ _ _ (waits.none us e) (waits.spent u first r before now vs w l g) same = absurd (omega (arith, same))
   order_tie _ _ _ _ _ _ (waits.more u first standing before now us w l g) (waits.none vs f) same = absurd (omega (arith, same))
   order_tie _ _ _ _ _ _ (waits.more u first standing before now us w l g) (waits.more u' first' standing' before' now' vs w' l' g') same =
-      let at = up_same u u' same in
+      let visit_by = up_same u u' same in
       behind_eq [] [] us vs _ (now ++ before) (now' ++ before') g g'
-      (tie_then before before' now now' (◌≡◌ {A = Result (Option waits.Slow) Refusal} (Ok first) (Ok first')) _ (order_tie u u' (Ok first) (Ok first') before before' w w' at)
-      (λ e f. tie_map now now' _ _ (looks_tie q whose stamp u' (Ok standing) (Ok standing') now now' (subst (λ z. LooksAt q whose stamp z now (Ok standing)) at l) l')
-      (λ s. ap (λ z. Ok z) (ap (λ z. waits.first_slow z u standing) (ok_same first first' f) ∙ (ap (λ z. waits.first_slow first' z standing) at ∙ ap (λ z. waits.first_slow first' u' z) (ok_same standing standing' s))))))
+      (tie_then before before' now now' (◌≡◌ {A = Result (Option waits.Slow) Refusal} (Ok first) (Ok first')) _ (order_tie u u' (Ok first) (Ok first') before before' w w' visit_by)
+      (λ e f. tie_map now now' _ _ (looks_tie q whose stamp u' (Ok standing) (Ok standing') now now' (subst (λ z. LooksAt q whose stamp z now (Ok standing)) visit_by l) l')
+      (λ s. ap (λ z. Ok z) (ap (λ z. waits.first_slow z u standing) (ok_same first first' f) ∙ (ap (λ z. waits.first_slow first' z standing) visit_by ∙ ap (λ z. waits.first_slow first' u' z) (ok_same standing standing' s))))))
   order_tie _ _ _ _ _ _ (waits.more u first standing before now us w l g) (waits.spent u' first' r before' now' vs w' l' g') same =
-      let at = up_same u u' same in
+      let visit_by = up_same u u' same in
       behind_eq [] [] us vs _ (now ++ before) (now' ++ before') g g'
-      (tie_then before before' now now' (◌≡◌ {A = Result (Option waits.Slow) Refusal} (Ok first) (Ok first')) _ (order_tie u u' (Ok first) (Ok first') before before' w w' at)
-      (λ e f. tie_map now now' _ _ (looks_tie q whose stamp u' (Ok standing) (Err r) now now' (subst (λ z. LooksAt q whose stamp z now (Ok standing)) at l) l') (λ s. err_ok r standing (sym s))))
+      (tie_then before before' now now' (◌≡◌ {A = Result (Option waits.Slow) Refusal} (Ok first) (Ok first')) _ (order_tie u u' (Ok first) (Ok first') before before' w w' visit_by)
+      (λ e f. tie_map now now' _ _ (looks_tie q whose stamp u' (Ok standing) (Err r) now now' (subst (λ z. LooksAt q whose stamp z now (Ok standing)) visit_by l) l') (λ s. err_ok r standing (sym s))))
   order_tie _ _ _ _ _ _ (waits.spent u first r before now us w l g) (waits.none vs f) same = absurd (omega (arith, same))
   order_tie _ _ _ _ _ _ (waits.spent u first r before now us w l g) (waits.more u' first' standing' before' now' vs w' l' g') same =
-      let at = up_same u u' same in
+      let visit_by = up_same u u' same in
       behind_eq [] [] us vs _ (now ++ before) (now' ++ before') g g'
-      (tie_then before before' now now' (◌≡◌ {A = Result (Option waits.Slow) Refusal} (Ok first) (Ok first')) _ (order_tie u u' (Ok first) (Ok first') before before' w w' at)
-      (λ e f. tie_map now now' _ _ (looks_tie q whose stamp u' (Err r) (Ok standing') now now' (subst (λ z. LooksAt q whose stamp z now (Err r)) at l) l') (λ s. err_ok r standing' s)))
+      (tie_then before before' now now' (◌≡◌ {A = Result (Option waits.Slow) Refusal} (Ok first) (Ok first')) _ (order_tie u u' (Ok first) (Ok first') before before' w w' visit_by)
+      (λ e f. tie_map now now' _ _ (looks_tie q whose stamp u' (Err r) (Ok standing') now now' (subst (λ z. LooksAt q whose stamp z now (Err r)) visit_by l) l') (λ s. err_ok r standing' s)))
   order_tie _ _ _ _ _ _ (waits.spent u first r before now us w l g) (waits.spent u' first' r' before' now' vs w' l' g') same =
-      let at = up_same u u' same in
+      let visit_by = up_same u u' same in
       behind_eq [] [] us vs _ (now ++ before) (now' ++ before') g g'
-      (tie_then before before' now now' (◌≡◌ {A = Result (Option waits.Slow) Refusal} (Ok first) (Ok first')) _ (order_tie u u' (Ok first) (Ok first') before before' w w' at)
-      (λ e f. tie_map now now' _ _ (looks_tie q whose stamp u' (Err r) (Err r') now now' (subst (λ z. LooksAt q whose stamp z now (Err r)) at l) l') (λ s. let t : r ≡ r' = cc in ap (λ z. Err z) t)))
+      (tie_then before before' now now' (◌≡◌ {A = Result (Option waits.Slow) Refusal} (Ok first) (Ok first')) _ (order_tie u u' (Ok first) (Ok first') before before' w w' visit_by)
+      (λ e f. tie_map now now' _ _ (looks_tie q whose stamp u' (Err r) (Err r') now now' (subst (λ z. LooksAt q whose stamp z now (Err r)) visit_by l) l') (λ s. let t : r ≡ r' = cc in ap (λ z. Err z) t)))

@@ -13,8 +13,8 @@ use Rattle.entry_locks.specs.declared.locking.Locked.{Locked}
 use Rattle.entry_locks.specs.declared.locking.Locked.TheVariants.{Other, Table}
 
 -- a visit by its parts
-abbrev pub at : StepKind → Place → Act → Option Mark → ℕ → Visit
-at t p a k x = record { place = p; act = a; kind = t; mark = k; found = x }
+abbrev pub visit_by : StepKind → Place → Act → Option Mark → ℕ → Visit
+visit_by t p a k x = record { place = p; act = a; kind = t; mark = k; found = x }
 
 pub record Forks (us vs : List Visit) : Type 0 where
   pub place : Place
@@ -27,8 +27,8 @@ pub record Forks (us vs : List Visit) : Type 0 where
   pub newer : List Visit
   pub later : List Visit
   pub older : List Visit
-  pub left : us ≡ newer ++ (at kind place act mark x ∷ older)
-  pub right : vs ≡ later ++ (at kind place act mark y ∷ older)
+  pub left : us ≡ newer ++ (visit_by kind place act mark x ∷ older)
+  pub right : vs ≡ later ++ (visit_by kind place act mark y ∷ older)
 
 -- the same, and so is what E says of them; or they fork
 abbrev pub Tie : List Visit → List Visit → Type 0 → Type 0

@@ -13,7 +13,7 @@ pub struct Counts {
 }
 
 impl Counts {
-    ghost use Rattle.machine_tests.specs.Counted.{counted};
+    ghost use Rattle.machine_tests.specs.Counted.{counted_act};
 
     /// Of no steps.
     pub fn none() -> Counts
@@ -29,7 +29,7 @@ impl Counts {
 
     /// One step more, which does this to its word.
     pub fn count(&mut self, act: &Act)
-        ensures { self.new ≡ counted act.now self.old }
+        ensures { self.new ≡ counted_act act.now self.old }
     {
         match act {
             Act::Load => self.loads = self.loads.saturating_add(1),

@@ -15,15 +15,15 @@ use Rattle.xp_board.proofs.HeldByForm.{same_zero}
 use Rattle.xp_words.proofs.Shared.{if_or_zero as if_fewer}
 use Rattle.xp_board.proofs.Sums.{one_at-other}
 use Rattle.reference_recount.specs.declared.tallies.Tally.{Tally}
-use Rattle.reference_recount.specs.Growth.{AreMore, AreSums, is_other, names_other, context_names}
+use Rattle.reference_recount.specs.Growth.{AreMore, AreSums, is_other_type, names_other, context_names}
 use Rattle.reference_recount.proofs.More.{all-same, all-none, sum_most}
 
 -- ---- one demand
-other_at : (kinds : List PageType) (want : Option PageType) (g f : ℕ) (other : Bool) → (f ≡ g → other ≡ is_other kinds g want) → (if other then one_at g f else 0) ≡ (if is_other kinds g want then one_at g f else 0)
+other_at : (kinds : List PageType) (want : Option PageType) (g f : ℕ) (other : Bool) → (f ≡ g → other ≡ is_other_type kinds g want) → (if other then one_at g f else 0) ≡ (if is_other_type kinds g want then one_at g f else 0)
 other_at kinds want g f other h =
     elim (cases_eq f g) [
       | inl at ↦ rw (h at) refl
-      | inr off ↦ let none = one_at-other g f (λ e. off (sym e)) in rw (none, same_zero other) (sym (same_zero (is_other kinds g want)))
+      | inr off ↦ let none = one_at-other g f (λ e. off (sym e)) in rw (none, same_zero other) (sym (same_zero (is_other_type kinds g want)))
     ]
 
 pub asks_nothing : (kinds : List PageType) (a : List Tally) (d : Demand) → d ≡ Nothing → AreMore a a (λ g. names g d) (λ g. names_typed g d) (λ g. names_other kinds g d)
@@ -39,13 +39,13 @@ pub asks_read : (kinds : List PageType) (a b : List Tally) (f : ℕ) (d : Demand
 unfolding names names_typed names_other
 asks_read kinds a b f d e x = rw e x
 
-pub asks_typed : (kinds : List PageType) (a b : List Tally) (f : ℕ) (t : PageType) (other : Bool) (d : Demand) → d ≡ Typed f t → (f < length a → other ≡ is_other kinds f (Some t)) →
+pub asks_typed : (kinds : List PageType) (a b : List Tally) (f : ℕ) (t : PageType) (other : Bool) (d : Demand) → d ≡ Typed f t → (f < length a → other ≡ is_other_type kinds f (Some t)) →
     AreMore a b (λ g. one_at g f) (λ g. if true then one_at g f else 0) (λ g. if other then one_at g f else 0) → AreMore a b (λ g. names g d) (λ g. names_typed g d) (λ g. names_other kinds g d)
 unfolding names names_typed names_other
 asks_typed kinds a b f t other d e h x =
     rw e (
     all-same a b _ _ _ _ _ _ (λ g l. refl) (λ g l. refl)
-    (λ g l. other_at kinds (Some t) g f other (λ at. subst (λ v. other ≡ is_other kinds v (Some t)) at (h (subst (λ v. v < length a) (sym at) l)))) x
+    (λ g l. other_at kinds (Some t) g f other (λ at. subst (λ v. other ≡ is_other_type kinds v (Some t)) at (h (subst (λ v. v < length a) (sym at) l)))) x
     )
 
 -- ---- each names a frame once

@@ -4,7 +4,7 @@ use Rattle.std.proofs.lemmas.Bool.Decides.{nat_tests}
 use Rattle.xp_board.specs.Sums.{sum_below}
 use Rattle.reference_recount.specs.declared.tallies.Tally.{Tally}
 use Rattle.reference_recount.specs.Recounted.{tally_at}
-use Rattle.reference_recount.specs.Growth.{IsMore, AreMore, AreSums, IsWithin}
+use Rattle.reference_recount.specs.Growth.{IsMore, AreMore, AreSums, IsCountWithin}
 
 -- ---- one tally
 or_none : (b : Bool) → b ≡ (b || nat_lt 0 0)
@@ -73,7 +73,7 @@ sum_most (suc n) c p h = let here = h n in let rest = sum_most n c p h in omega 
 
 -- so the counts stay few
 pub within-sums : (a b : List Tally) (m c n top : ℕ) (r t o : ℕ → ℕ → ℕ) → m + n * c ≤ top → ((g k : ℕ) → r g k ≤ c) → ((g k : ℕ) → t g k ≤ c) →
-    IsWithin m a → AreSums a b n r t o → IsWithin top b
+    IsCountWithin m a → AreSums a b n r t o → IsCountWithin top b
 within-sums a b m c n top r t o few i j w x =
     record {
       refs = λ g l. (

@@ -22,24 +22,24 @@ use Rattle.xp_board.proofs.Works.{work_of-none}
 use Rattle.xp_board.proofs.EntryWords.{type_same}
 use Rattle.xp_board.proofs.Returned.{same_type}
 use Rattle.reference_recount.specs.declared.tallies.Tally.{Tally}
-use Rattle.reference_recount.specs.Recounted.{nobody, tally_at, IsTally, IsMistyped, IsMistypedEntry, IsMistypedContext}
-use Rattle.reference_recount.specs.Growth.{IsMore, IsOwn, IsWithin, AreSums, is_other, names_other, context_names, context_other}
+use Rattle.reference_recount.specs.Recounted.{no_hands, tally_at, IsTally, IsMistyped, IsMistypedEntry, IsMistypedContext}
+use Rattle.reference_recount.specs.Growth.{IsMore, IsOfMarks, IsCountWithin, AreSums, is_other_type, names_other, context_names, context_other}
 use Rattle.reference_recount.proofs.KindForms.{allocated_few, marks_few}
 
 -- ---- nobody holds anything
-pub nobody_works : (n f : ℕ) → work_of n nobody f ≡ None
+pub nobody_works : (n f : ℕ) → work_of n no_hands f ≡ None
 unfolding recorded_in first_by
-nobody_works n f = work_of-none n nobody f (λ t l. refl)
+nobody_works n f = work_of-none n no_hands f (λ t l. refl)
 
-nobody_holds : (z : Sizes) (g : ℕ) → hands (hand g) z nobody ≡ 0
+nobody_holds : (z : Sizes) (g : ℕ) → hands (hand g) z no_hands ≡ 0
 unfolding hands hand typed_hand times_by
 nobody_holds z g = sum_below-none z.vcpus _ (λ s l. refl)
 
-nobody_holds_typed : (z : Sizes) (g : ℕ) → hands (typed_hand g) z nobody ≡ 0
+nobody_holds_typed : (z : Sizes) (g : ℕ) → hands (typed_hand g) z no_hands ≡ 0
 unfolding hands typed_hand times_by
 nobody_holds_typed z g = sum_below-none z.vcpus _ (λ s l. refl)
 
-entries_of_words : (c : Demand → ℕ) (z : Sizes) (m : Place → ℕ) → entries c z m nobody ≡ sum_below z.frames (λ f. table_entries c m None f)
+entries_of_words : (c : Demand → ℕ) (z : Sizes) (m : Place → ℕ) → entries c z m no_hands ≡ sum_below z.frames (λ f. table_entries c m None f)
 unfolding entries
 entries_of_words c z m = sum_below-same z.frames _ _ (λ f l. ap (λ o. table_entries c m o f) (nobody_works z.vcpus f))
 
@@ -48,7 +48,7 @@ unfolding contexts
 contexts_of_words z m g = refl
 
 -- ---- the own marks are few
-pub within_own : (m : Place → ℕ) (a : List Tally) → ((g : ℕ) → g < length a → IsOwn m g (tally_at a g)) → IsWithin 3 a
+pub within_own : (m : Place → ℕ) (a : List Tally) → ((g : ℕ) → g < length a → IsOfMarks m g (tally_at a g)) → IsCountWithin 3 a
 within_own m a h =
     record {
       refs = λ g l. (let o = h g l in let e = o.refs in let x = allocated_few (m (Refs g)) in let y = marks_few (kind_at m g) in omega arith);
@@ -56,13 +56,13 @@ within_own m a h =
     }
 
 -- ---- another type
-other_than : (kinds : List PageType) (g : ℕ) (want : PageType) → is_other kinds g (Some want) ≡ true → slice_index_or kinds g types.None ≢ want
+other_than : (kinds : List PageType) (g : ℕ) (want : PageType) → is_other_type kinds g (Some want) ≡ true → slice_index_or kinds g types.None ≢ want
 other_than kinds g want h e =
     let same : is_type want (slice_index_or kinds g types.None) ≡ true = subst (λ t. is_type want t ≡ true) (sym e) (same_type want) in
-    let off : is_other kinds g (Some want) ≡ false = ap not same in
+    let off : is_other_type kinds g (Some want) ≡ false = ap not same in
     cc
 
-is_other_than : (kinds : List PageType) (g : ℕ) (want : PageType) → slice_index_or kinds g types.None ≢ want → is_other kinds g (Some want) ≡ true
+is_other_than : (kinds : List PageType) (g : ℕ) (want : PageType) → slice_index_or kinds g types.None ≢ want → is_other_type kinds g (Some want) ≡ true
 is_other_than kinds g want h =
     elim (cases_Bool (is_type want (slice_index_or kinds g types.None))) [
       | inl e ↦ absurd (h (sym (type_same want (slice_index_or kinds g types.None) e)))
@@ -87,14 +87,14 @@ asked_other kinds g Nothing h = absurd (omega arith)
 asked_other kinds g Bad h = absurd (omega arith)
 asked_other kinds g (Read f) h = absurd (omega arith)
 asked_other kinds g (Typed f t) h =
-    let parts = some_of (is_other kinds g (Some t)) (one_at g f) h in
+    let parts = some_of (is_other_type kinds g (Some t)) (one_at g f) h in
     (t, ap (λ v. Typed v t) (named_by g f parts.1), other_than kinds g t parts.0)
 
 one_asked : (kinds : List PageType) (g : ℕ) (d : Demand) (t : PageType) → d ≡ Typed g t → slice_index_or kinds g types.None ≢ t → names_other kinds g d ≡ 1
 unfolding names_other
 one_asked kinds g d t e off = rw e (rw (is_other_than kinds g t off) (one_at-same g))
 
-held_nobody : (z : Sizes) (m : Place → ℕ) (f : ℕ) → held z m nobody f ≡ held_of (kind_at m f) None
+held_nobody : (z : Sizes) (m : Place → ℕ) (f : ℕ) → held z m no_hands f ≡ held_of (kind_at m f) None
 held_nobody z m f = ap (held_of (kind_at m f)) (nobody_works z.vcpus f)
 
 -- where the machine has no frame there is no table
@@ -140,19 +140,19 @@ module _ (n : Machine) (m : Place → ℕ) (outside : (f : ℕ) → n.frames ≤
       omega arith
 
   -- ---- a word of a vCPU that does
-  wants_other : (o : Option PageType) → is_other kinds g o ≡ true → (t : PageType) × (o ≡ Some t) × (slice_index_or kinds g types.None ≢ t)
+  wants_other : (o : Option PageType) → is_other_type kinds g o ≡ true → (t : PageType) × (o ≡ Some t) × (slice_index_or kinds g types.None ≢ t)
   wants_other (Some t) e = (t, refl, other_than kinds g t e)
   wants_other None e = absurd (cc)
 
   one_context : (o : Option PageType) (t : PageType) (c : Bool) (w : ℕ) → o ≡ Some t → slice_index_or kinds g types.None ≢ t → IsTrue c → w ≡ g + 1 →
-      (if is_other kinds g o then (if c then one_at (g + 1) w else 0) else 0) ≡ 1
+      (if is_other_type kinds g o then (if c then one_at (g + 1) w else 0) else 0) ≡ 1
   one_context o t c w e off k names = rw e (rw (is_other_than kinds g t off) (rw k (rw names (one_at-same (g + 1)))))
 
   context_found : 0 < sum_below (sizes_of n).vcpus (λ v. sum_below 38 (λ k. context_other kinds m v g k)) → IsMistypedContext n m g
   context_found h =
       let in_vcpu = sum_below-some (sizes_of n).vcpus (λ v. sum_below 38 (λ k. context_other kinds m v g k)) h in
       let at = sum_below-some 38 (λ k. context_other kinds m in_vcpu.0 g k) in_vcpu.2 in
-      let typed = some_of (is_other kinds g (context_type at.0)) (context_names m in_vcpu.0 g at.0) at.2 in
+      let typed = some_of (is_other_type kinds g (context_type at.0)) (context_names m in_vcpu.0 g at.0) at.2 in
       let named = some_of (is_context at.0) (one_at (g + 1) (m (Vcpu in_vcpu.0 at.0))) typed.1 in
       let wanted = wants_other (context_type at.0) typed.0 in
       record {
@@ -181,7 +181,7 @@ module _ (n : Machine) (m : Place → ℕ) (outside : (f : ℕ) → n.frames ≤
   some_or : (r : Bool) (a b : ℕ) → r ≡ ((false || nat_lt 0 a) || nat_lt 0 b) → (0 < a) ⊎ (0 < b) → r ≡ true
   some_or r a b e h = grind (arith, nat_tests)
 
-  module _ (a b c : List Tally) (counted : length a ≡ n.frames) (inside : g < n.frames) (own : IsOwn m g (tally_at a g))
+  module _ (a b c : List Tally) (counted : length a ≡ n.frames) (inside : g < n.frames) (own : IsOfMarks m g (tally_at a g))
       (tables : AreSums a b n.frames (λ v f. table_entries (names v) m None f) (λ v f. table_entries (names_typed v) m None f) (λ v f. table_entries (names_other kinds v) m None f))
       (words : AreSums b c (sizes_of n).vcpus (λ u v. sum_below 38 (λ k. context_names m v u k)) (λ u v. sum_below 38 (λ k. context_names m v u k)) (λ u v. sum_below 38 (λ k. context_other kinds m v u k))) where
     from_tables : IsMore (tally_at a g) (tally_at b g) (sum_below n.frames (λ f. table_entries (names g) m None f)) (sum_below n.frames (λ f. table_entries (names_typed g) m None f))

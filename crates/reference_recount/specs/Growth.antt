@@ -31,13 +31,13 @@ AreSums old new n refs types others =
     AreMore old new (λ g. sum_below n (λ k. refs g k)) (λ g. sum_below n (λ k. types g k)) (λ g. sum_below n (λ k. others g k))
 
 -- what a frame's own marks come to
-pub record IsOwn (m : Place → ℕ) (g : ℕ) (r : Tally) : Type 0 where
+pub record IsOfMarks (m : Place → ℕ) (g : ℕ) (r : Tally) : Type 0 where
   pub refs : r.refs ≡ allocated_mark (m (Refs g)) + marks (kind_at m g)
   pub types : r.types ≡ marks (kind_at m g)
   pub mistyped : r.mistyped ≡ false
 
 -- no count is above that
-pub record IsWithin (most : ℕ) (tallies : List Tally) : Type 0 where
+pub record IsCountWithin (most : ℕ) (tallies : List Tally) : Type 0 where
   pub refs : (g : ℕ) → g < length tallies → (tally_at tallies g).refs ≤ most
   pub types : (g : ℕ) → g < length tallies → (tally_at tallies g).types ≤ most
 
@@ -52,15 +52,15 @@ differs kind (Some want) = not (is_type want kind)
 differs kind None = false
 
 -- the same of frame g, in a list of the types of all frames
-abbrev pub is_other : List PageType → ℕ → Option PageType → Bool
-is_other kinds g want = differs (slice_index_or kinds g types.None) want
+abbrev pub is_other_type : List PageType → ℕ → Option PageType → Bool
+is_other_type kinds g want = differs (slice_index_or kinds g types.None) want
 
 -- 1 where the demand wants another type of the frame than it has
 unfoldable pub names_other : List PageType → ℕ → Demand → ℕ
 names_other kinds g Nothing = 0
 names_other kinds g Bad = 0
 names_other kinds g (Read f) = 0
-names_other kinds g (Typed f want) = if is_other kinds g (Some want) then one_at g f else 0
+names_other kinds g (Typed f want) = if is_other_type kinds g (Some want) then one_at g f else 0
 
 -- 1 where word k names the frame
 abbrev pub context_names : (Place → ℕ) → ℕ → ℕ → ℕ → ℕ
@@ -68,4 +68,4 @@ context_names m v g k = if is_context k then one_at (g + 1) (m (Vcpu v k)) else 
 
 -- 1 where it does, and wants another type of it than it has
 abbrev pub context_other : List PageType → (Place → ℕ) → ℕ → ℕ → ℕ → ℕ
-context_other kinds m v g k = if is_other kinds g (context_type k) then context_names m v g k else 0
+context_other kinds m v g k = if is_other_type kinds g (context_type k) then context_names m v g k else 0

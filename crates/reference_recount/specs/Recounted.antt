@@ -15,8 +15,8 @@ use Rattle.xp_board.specs.Spelling.{IsSpelling}
 use Rattle.reference_recount.specs.declared.tallies.Tally.{Tally}
 
 -- no vCPU holds anything
-abbrev pub nobody : ℕ → Holdings
-nobody s = empty
+abbrev pub no_hands : ℕ → Holdings
+no_hands s = empty
 
 -- the words of frames and of vCPUs are such as may stand there
 pub record IsReadable (n : Machine) (m : Place → ℕ) : Type 0 where
@@ -29,7 +29,7 @@ pub record IsMistypedEntry (n : Machine) (m : Place → ℕ) (g : ℕ) : Type 0 
   pub table : ℕ
   pub index : ℕ
   pub want : PageType
-  pub recorded : index < held (sizes_of n) m nobody table
+  pub recorded : index < held (sizes_of n) m no_hands table
   pub asks : entry_demand m table index ≡ Typed g want
   pub other : (kind_at m g).kind ≢ want
 
@@ -50,8 +50,8 @@ IsMistyped n m g = IsMistypedEntry n m g ⊎ IsMistypedContext n m g
 
 -- frame g, counted again
 pub record IsTally (n : Machine) (m : Place → ℕ) (g : ℕ) (r : Tally) : Type 0 where
-  pub refs : r.refs ≡ named (sizes_of n) m nobody g
-  pub types : r.types ≡ named_typed (sizes_of n) m nobody g
+  pub refs : r.refs ≡ named (sizes_of n) m no_hands g
+  pub types : r.types ≡ named_typed (sizes_of n) m no_hands g
   pub mistyped : (r.mistyped ≡ true) ↔ IsMistyped n m g
 
 -- that of frame g, in a list of all frames

@@ -10,7 +10,7 @@ ghost use Rattle.xp_board.specs.ContextSteps.{context_type};
 ghost use Rattle.xp_board.specs.Recorded.{names, names_typed, table_entries};
 ghost use Rattle.xp_board.specs.Sums.{sum_below};
 ghost use Rattle.reference_recount.specs.Recounted.{IsReadable};
-ghost use Rattle.reference_recount.specs.Growth.{AreMore, AreSums, IsWithin, is_other, names_other, context_names, context_other};
+ghost use Rattle.reference_recount.specs.Growth.{AreMore, AreSums, IsCountWithin, is_other_type, names_other, context_names, context_other};
 
 use crate::reading::{kind_of, recorded, word_at};
 use crate::tallies::Tally;
@@ -19,7 +19,7 @@ use xp_words::{Demand, Layout, PageType, Place};
 
 // One reference to the frame, if the machine has it.
 fn add(tallies: &mut Vec<Tally>, frame: u64, typed: bool, other: bool)
-    requires { IsWithin (2 ^ 60) tallies.old.items }
+    requires { IsCountWithin (2 ^ 60) tallies.old.items }
     ensures { AreMore tallies.old.items tallies.new.items (λ g. one_at g frame) (λ g. if typed then one_at g frame else 0) (λ g. if other then one_at g frame else 0) }
 {
     if frame < tallies.len() as u64 {
@@ -31,8 +31,8 @@ fn add(tallies: &mut Vec<Tally>, frame: u64, typed: bool, other: bool)
 }
 
 // Whether the frame has another type than the one that is wanted. Of one that the machine has not nothing is said.
-fn is_other(kinds: &[PageType], frame: u64, want: Option<PageType>) -> bool
-    ensures { frame < length kinds.now → result ≡ is_other kinds.now frame want }
+fn is_other_type(kinds: &[PageType], frame: u64, want: Option<PageType>) -> bool
+    ensures { frame < length kinds.now → result ≡ is_other_type kinds.now frame want }
 {
     match want {
         Some(kind) if frame < kinds.len() as u64 => kinds[frame as usize] != kind,
@@ -43,14 +43,14 @@ fn is_other(kinds: &[PageType], frame: u64, want: Option<PageType>) -> bool
 // What one entry asks.
 fn add_demand(kinds: &[PageType], demand: Demand, tallies: &mut Vec<Tally>)
     requires frames { length tallies.old.items ≡ length kinds.now }
-    requires few { IsWithin (2 ^ 60) tallies.old.items }
+    requires few { IsCountWithin (2 ^ 60) tallies.old.items }
     ensures { AreMore tallies.old.items tallies.new.items (λ g. names g demand) (λ g. names_typed g demand) (λ g. names_other kinds.now g demand) }
 {
     match demand {
         Demand::Nothing | Demand::Bad => {}
         Demand::Read { frame } => add(tallies, frame, false, false),
         Demand::Typed { frame, kind } => {
-            let other = is_other(kinds, frame, Some(kind));
+            let other = is_other_type(kinds, frame, Some(kind));
             add(tallies, frame, true, other);
         }
     }
@@ -69,7 +69,7 @@ fn add_table(
     requires readable { IsReadable layout.now (memory (sizes_of layout.now) words.now) }
     requires frame { frame < layout.now.frames }
     requires frames { length tallies.old.items ≡ length kinds.now }
-    requires few { IsWithin (2 ^ 50) tallies.old.items }
+    requires few { IsCountWithin (2 ^ 50) tallies.old.items }
     ensures { AreMore tallies.old.items tallies.new.items
         (λ g. table_entries (names g) (memory (sizes_of layout.now) words.now) None frame)
         (λ g. table_entries (names_typed g) (memory (sizes_of layout.now) words.now) None frame)
@@ -87,7 +87,7 @@ pub fn add_tables(layout: &Layout, words: &[u64], kinds: &[PageType], tallies: &
     requires sized { length words.now ≡ size (sizes_of layout.now) }
     requires readable { IsReadable layout.now (memory (sizes_of layout.now) words.now) }
     requires frames { length tallies.old.items ≡ length kinds.now }
-    requires few { IsWithin 3 tallies.old.items }
+    requires few { IsCountWithin 3 tallies.old.items }
     ensures { AreSums tallies.old.items tallies.new.items layout.now.frames
         (λ g f. table_entries (names g) (memory (sizes_of layout.now) words.now) None f)
         (λ g f. table_entries (names_typed g) (memory (sizes_of layout.now) words.now) None f)
@@ -130,7 +130,7 @@ fn add_context(
     requires vcpu { vcpu < length layout.now.vcpu_domain }
     requires number { number < 38 }
     requires frames { length tallies.old.items ≡ length kinds.now }
-    requires few { IsWithin (2 ^ 60) tallies.old.items }
+    requires few { IsCountWithin (2 ^ 60) tallies.old.items }
     ensures { AreMore tallies.old.items tallies.new.items
         (λ g. context_names (memory (sizes_of layout.now) words.now) vcpu g number)
         (λ g. context_names (memory (sizes_of layout.now) words.now) vcpu g number)
@@ -138,7 +138,7 @@ fn add_context(
 {
     let word = word_at(layout, words, Place::Vcpu { vcpu, word: number });
     if is_context(number) && 0 < word {
-        let other = is_other(kinds, word - 1, context_type(number));
+        let other = is_other_type(kinds, word - 1, context_type(number));
         add(tallies, word - 1, true, other);
     }
 }
@@ -148,7 +148,7 @@ fn add_vcpu(layout: &Layout, words: &[u64], kinds: &[PageType], vcpu: u32, talli
     requires sized { length words.now ≡ size (sizes_of layout.now) }
     requires vcpu { vcpu < length layout.now.vcpu_domain }
     requires frames { length tallies.old.items ≡ length kinds.now }
-    requires few { IsWithin (2 ^ 50) tallies.old.items }
+    requires few { IsCountWithin (2 ^ 50) tallies.old.items }
     ensures { AreSums tallies.old.items tallies.new.items 38
         (λ g k. context_names (memory (sizes_of layout.now) words.now) vcpu g k)
         (λ g k. context_names (memory (sizes_of layout.now) words.now) vcpu g k)
@@ -163,7 +163,7 @@ fn add_vcpu(layout: &Layout, words: &[u64], kinds: &[PageType], vcpu: u32, talli
 pub fn add_vcpus(layout: &Layout, words: &[u64], kinds: &[PageType], tallies: &mut Vec<Tally>)
     requires sized { length words.now ≡ size (sizes_of layout.now) }
     requires frames { length tallies.old.items ≡ length kinds.now }
-    requires few { IsWithin (2 ^ 48) tallies.old.items }
+    requires few { IsCountWithin (2 ^ 48) tallies.old.items }
     ensures { AreSums tallies.old.items tallies.new.items (length layout.now.vcpu_domain)
         (λ g v. sum_below 38 (λ k. context_names (memory (sizes_of layout.now) words.now) v g k))
         (λ g v. sum_below 38 (λ k. context_names (memory (sizes_of layout.now) words.now) v g k))

@@ -6,7 +6,7 @@ ghost use Rattle.xp_words.specs.declared.place.Place.TheVariants.{Kind};
 ghost use Rattle.xp_board.specs.Readings.{kind_at, allocated_mark};
 ghost use Rattle.xp_board.specs.Recorded.{held_of};
 ghost use Rattle.xp_board.specs.Spelling.{IsSpelling};
-ghost use Rattle.reference_recount.specs.Growth.{IsOwn};
+ghost use Rattle.reference_recount.specs.Growth.{IsOfMarks};
 
 use crate::tallies::Tally;
 use xp_words::{KindWord, Layout, Place, RefWord};
@@ -75,7 +75,7 @@ pub fn own_tally(layout: &Layout, words: &[u64], frame: u32) -> Tally
     requires sized { length words.now ≡ size (sizes_of layout.now) }
     requires frame { frame < layout.now.frames }
     requires readable { IsSpelling layout.now (Kind frame) (memory (sizes_of layout.now) words.now (Kind frame)) }
-    ensures { IsOwn (memory (sizes_of layout.now) words.now) frame result }
+    ensures { IsOfMarks (memory (sizes_of layout.now) words.now) frame result }
 {
     let kind = kind_of(layout, words, frame);
     let types = u64::from(kind.pinned) + u64::from(kind.kept);

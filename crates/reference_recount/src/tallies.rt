@@ -2,7 +2,7 @@ ghost use Rattle.std.specs.Prelude.{◌≡◌, ◌<◌, ℕ, length, IfOk};
 ghost use Rattle.xp_words.specs.Machine.{IsMachine};
 ghost use Rattle.xp_words.specs.Places.{size, sizes_of, memory};
 ghost use Rattle.reference_recount.specs.Recounted.{IsReadable, IsTally, tally_at};
-ghost use Rattle.reference_recount.specs.Growth.{AreKinds, IsOwn};
+ghost use Rattle.reference_recount.specs.Growth.{AreKinds, IsOfMarks};
 
 use crate::adding::{add_tables, add_vcpus};
 use crate::reading::{kind_of, own_tally};
@@ -54,7 +54,7 @@ fn own_tallies(alloc: Global, layout: &Layout, words: &[u64]) -> Result<Vec<Tall
     requires words { length words.now ≡ size (sizes_of layout.now) }
     requires readable { IsReadable layout.now (memory (sizes_of layout.now) words.now) }
     ensures len { IfOk result (λ v. length v.items ≡ layout.now.frames) }
-    ensures each { IfOk result (λ v. (g : ℕ) → g < layout.now.frames → IsOwn (memory (sizes_of layout.now) words.now) g (tally_at v.items g)) }
+    ensures each { IfOk result (λ v. (g : ℕ) → g < layout.now.frames → IsOfMarks (memory (sizes_of layout.now) words.now) g (tally_at v.items g)) }
 {
     let mut tallies = Vec::with_capacity(alloc, layout.frames as usize)?;
     for frame in 0..layout.frames {

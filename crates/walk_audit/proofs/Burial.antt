@@ -13,7 +13,7 @@ use Rattle.xp_board.specs.Lists.{Member}
 use Rattle.xp_board.specs.Readings.{owner_of, allocated_mark, allocated_in, is_context, kind_at}
 use Rattle.xp_board.specs.LifeSteps.{is_unallocated, is_unpinned, is_unkept}
 use Rattle.xp_board.specs.Sound.{DeadDomain, IsLookedAt}
-use Rattle.reference_recount.specs.Recounted.{nobody}
+use Rattle.reference_recount.specs.Recounted.{no_hands}
 use Rattle.walk_audit.specs.Breaks.{IsUnburied}
 use Rattle.walk_audit.specs.Burials.{HasMark, NamesOne, IsUnstopped, LeavesFrame, LeavesVcpu}
 
@@ -33,7 +33,7 @@ owned_real n m f d o e = elim (cases_Bool (nat_lt f n.frames)) [
 ]
 
 -- nobody looks at a frame
-unlooked : (n : Machine) (m : Place → ℕ) (d f : ℕ) → IsLookedAt n m nobody d f → ⊥
+unlooked : (n : Machine) (m : Place → ℕ) (d f : ℕ) → IsLookedAt n m no_hands d f → ⊥
 unfolding Member
 unlooked n m d f h = h.here
 
@@ -57,7 +57,7 @@ memory_outside n words = record { none = λ p e. rw e refl }
 
 module _ (n : Machine) (m : Place → ℕ) (d : ℕ) where
   -- a frame with a mark, or a vCPU
-  pub left_frame : LeavesFrame n m d → ¬ DeadDomain n m nobody d
+  pub left_frame : LeavesFrame n m d → ¬ DeadDomain n m no_hands d
   left_frame h dead =
       let a = dead.unallocated h.frame h.marked.owned in
       let b = dead.unpinned h.frame h.marked.owned in
@@ -69,7 +69,7 @@ module _ (n : Machine) (m : Place → ℕ) (d : ℕ) where
         ]
       ]
 
-  pub left_vcpu : LeavesVcpu n m d → ¬ DeadDomain n m nobody d
+  pub left_vcpu : LeavesVcpu n m d → ¬ DeadDomain n m no_hands d
   left_vcpu h dead =
       elim h.unstopped [
         | inl e ↦ e (dead.stopped h.vcpu h.real h.own)
@@ -98,7 +98,7 @@ module _ (n : Machine) (m : Place → ℕ) (d : ℕ) where
     | inr z ↦ absurd (h (inl (grind (arith, nat_tests))))
   ]
 
-  pub nothing_left : IsOutside n m → ¬ LeavesFrame n m d → ¬ LeavesVcpu n m d → DeadDomain n m nobody d
+  pub nothing_left : IsOutside n m → ¬ LeavesFrame n m d → ¬ LeavesVcpu n m d → DeadDomain n m no_hands d
   nothing_left o f v =
       record {
         unallocated = λ g e. (unmarked g e (none_marked g f o e)).0;

@@ -10,7 +10,7 @@ use Rattle.xp_words.proofs.PlaceLaws.{number-lt}
 use Rattle.xp_board.specs.Spelling.{IsSpelling}
 use Rattle.reference_recount.specs.Recounted.{IsReadable}
 use Rattle.walk_audit.specs.Breaks.{Breaks, is_map}
-use Rattle.walk_audit.specs.Order.{NoneBreaks, IsFirst, FirstOf, FirstFrom, Passed, ComesFirst, check_of, position}
+use Rattle.walk_audit.specs.Order.{NoneBreaks, IsFirst, FirstVerdict, FirstFrom, PassedUpTo, ComesFirst, check_of, position}
 use Rattle.walk_audit.specs.declared.verdict.Verdict.{Verdict}
 use Rattle.walk_audit.specs.declared.verdict.Verdict.TheVariants as verdicts
 use Rattle.walk_audit.proofs.Stable.{spelling_stable}
@@ -40,7 +40,7 @@ module _ (n : Machine) (m : Place → ℕ) where
     pub below : (u : Verdict) → check_of u ≡ c → Breaks n m u → position u < top
 
   module _ (c top : ℕ) (t : IsTop c top) where
-    pub passed_next : Passed n m c → NoneBreaks n m c 0 top → Passed n m (c + 1)
+    pub passed_next : PassedUpTo n m c → NoneBreaks n m c 0 top → PassedUpTo n m (c + 1)
     passed_next p h =
         record {
           none = λ u l x. elim (cases_lt (check_of u) c) [
@@ -50,7 +50,7 @@ module _ (n : Machine) (m : Place → ℕ) where
         }
 
     -- the first of its check is the first of all, where the checks before it found nothing
-    pub comes_first : (v : Verdict) → Passed n m c → IsFirst n m c 0 top v → ComesFirst n m v
+    pub comes_first : (v : Verdict) → PassedUpTo n m c → IsFirst n m c 0 top v → ComesFirst n m v
     comes_first v p f =
         record {
           breaks = f.breaks;
@@ -69,7 +69,7 @@ module _ (n : Machine) (m : Place → ℕ) where
           ];
         }
 
-  pub passed_none : Passed n m 0
+  pub passed_none : PassedUpTo n m 0
   passed_none = record { none = λ u l x. absurd (omega arith) }
 
   -- ---- check by check
@@ -101,6 +101,6 @@ module _ (n : Machine) (m : Place → ℕ) where
   each_top r c = record { below = λ u a x. (let b = below_top u (inl r) x in subst (λ c. position u < top_of c) a b) }
 
   -- the last check
-  pub ends : (x : Option Verdict) → IsTop 8 (map_words (sizes_of n)) → Passed n m 8 → FirstOf n m 8 0 (map_words (sizes_of n)) x → FirstFrom n m x
+  pub ends : (x : Option Verdict) → IsTop 8 (map_words (sizes_of n)) → PassedUpTo n m 8 → FirstVerdict n m 8 0 (map_words (sizes_of n)) x → FirstFrom n m x
   ends None t p h = passed_next 8 _ t p h
   ends (Some v) t p h = comes_first 8 _ t v p h

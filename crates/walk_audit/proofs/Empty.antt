@@ -16,44 +16,44 @@ use Rattle.xp_board.specs.Found.{Found}
 use Rattle.xp_board.specs.Sound.{Idle, DyingDomain}
 use Rattle.xp_board.proofs.Empty.{empty_own_found}
 use Rattle.xp_board.proofs.Sums.{sum_below-none}
-use Rattle.reference_recount.specs.Recounted.{nobody}
+use Rattle.reference_recount.specs.Recounted.{no_hands}
 
 -- ---- nothing is counted
-hands_none : (c : Holdings → ℕ) (z : Sizes) → c empty ≡ 0 → hands c z nobody ≡ 0
+hands_none : (c : Holdings → ℕ) (z : Sizes) → c empty ≡ 0 → hands c z no_hands ≡ 0
 unfolding hands
 hands_none c z e = sum_below-none z.vcpus (λ s. c empty) (λ k l. e)
 
 module _ (z : Sizes) (f : ℕ) where
-  pub no_hand : hands (hand f) z nobody ≡ 0
+  pub no_hand : hands (hand f) z no_hands ≡ 0
   unfolding hand typed_hand times_by
   no_hand = hands_none (hand f) z refl
 
-  pub no_typed_hand : hands (typed_hand f) z nobody ≡ 0
+  pub no_typed_hand : hands (typed_hand f) z no_hands ≡ 0
   unfolding typed_hand times_by
   no_typed_hand = hands_none (typed_hand f) z refl
 
-  pub no_credits : hands (λ u. times f u.credits) z nobody ≡ 0
+  pub no_credits : hands (λ u. times f u.credits) z no_hands ≡ 0
   unfolding times_by
   no_credits = hands_none (λ u. times f u.credits) z refl
 
-  pub no_raised : hands (λ u. times f u.raised) z nobody ≡ 0
+  pub no_raised : hands (λ u. times f u.raised) z no_hands ≡ 0
   unfolding times_by
   no_raised = hands_none (λ u. times f u.raised) z refl
 
-  pub no_works : hands (λ u. works_on f u.works) z nobody ≡ 0
+  pub no_works : hands (λ u. works_on f u.works) z no_hands ≡ 0
   unfolding times_by
   no_works = hands_none (λ u. works_on f u.works) z refl
 
-  pub no_locks : hands (λ u. locks_on f u.locks) z nobody ≡ 0
+  pub no_locks : hands (λ u. locks_on f u.locks) z no_hands ≡ 0
   unfolding times_by
   no_locks = hands_none (λ u. locks_on f u.locks) z refl
 
-  pub no_dying : hands (λ u. endings_of f u.ending + claims_of f u.claimed) z nobody ≡ 0
+  pub no_dying : hands (λ u. endings_of f u.ending + claims_of f u.claimed) z no_hands ≡ 0
   unfolding times_by
   no_dying = hands_none (λ u. endings_of f u.ending + claims_of f u.claimed) z refl
 
 -- ---- nothing was found
-pub found_nothing : (n : Machine) (m : Place → ℕ) (s : ℕ) → Found n m nobody s
+pub found_nothing : (n : Machine) (m : Place → ℕ) (s : ℕ) → Found n m no_hands s
 unfolding EachOf EachStep steps_before knows_owner knows_live knows_partial some_of
 found_nothing n m s =
     record {
@@ -75,7 +75,7 @@ found_nothing n m s =
       own = empty_own_found (sizes_of n) m s;
     }
 
-pub rests : (n : Machine) (m : Place → ℕ) (v : ℕ) → Idle n m nobody v
+pub rests : (n : Machine) (m : Place → ℕ) (v : ℕ) → Idle n m no_hands v
 rests n m v =
     record {
       hand = λ e. record { refs = refl; typed = refl; works = refl; locks = refl; ending = refl; claimed = refl; raised = refl; credits = refl; looking = refl };
@@ -92,7 +92,7 @@ unreached z m g u (cached x here) = here
 unreached z m g u (walked x here) = here
 unreached z m g u (entry f level i before a b c) = unreached z m f _ before
 
-pub fresh_nothing : (n : Machine) (m : Place → ℕ) → Fresh n m nobody
+pub fresh_nothing : (n : Machine) (m : Place → ℕ) → Fresh n m no_hands
 fresh_nothing n m =
     record {
       each = λ v b g u r. absurd (unreached (sizes_of n) m g u r);
@@ -104,7 +104,7 @@ unstopped : (n : Machine) (s d a : ℕ) → HasStopped n s d a empty → ⊥
 unfolding some_step
 unstopped n s d a h = let x = h.stored in cc
 
-pub dying_nothing : (n : Machine) (m : Place → ℕ) (d s : ℕ) → DyingDomain n m nobody d s
+pub dying_nothing : (n : Machine) (m : Place → ℕ) (d s : ℕ) → DyingDomain n m no_hands d s
 unfolding some_step
 dying_nothing n m d s =
     record {

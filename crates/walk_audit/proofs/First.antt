@@ -3,7 +3,7 @@ use Rattle.std.proofs.Common.{◌≡◌, ℕ, ◌≤◌, Option, Some, None, inl
 use Rattle.std.proofs.lemmas.Bool.{cases_lt}
 use Rattle.xp_words.specs.Machine.{Machine}
 use Rattle.xp_words.specs.declared.place.Place.{Place}
-use Rattle.walk_audit.specs.Order.{NoneBreaks, IsFirst, FirstOf, position}
+use Rattle.walk_audit.specs.Order.{NoneBreaks, IsFirst, FirstVerdict, position}
 use Rattle.walk_audit.specs.declared.verdict.Verdict.{Verdict}
 
 module _ (n : Machine) (m : Place → ℕ) (c : ℕ) where
@@ -36,14 +36,14 @@ module _ (n : Machine) (m : Place → ℕ) (c : ℕ) where
 -- ---- the same, from what the parts of a check ensure
 module _ (n : Machine) (m : Place → ℕ) (c a b d : ℕ) where
   -- one part more gave nothing
-  pub none_more : (x : Option Verdict) → NoneBreaks n m c a b → FirstOf n m c b d x → x ≡ None → NoneBreaks n m c a d
-  none_more x h f e = none_joined n m c a b d h (subst (λ y. FirstOf n m c b d y) e f)
+  pub none_more : (x : Option Verdict) → NoneBreaks n m c a b → FirstVerdict n m c b d x → x ≡ None → NoneBreaks n m c a d
+  none_more x h f e = none_joined n m c a b d h (subst (λ y. FirstVerdict n m c b d y) e f)
 
   -- it gave something
-  pub first_more : (e : ℕ) (v : Verdict) → a ≤ b → d ≤ e → NoneBreaks n m c a b → FirstOf n m c b d (Some v) → FirstOf n m c a e (Some v)
+  pub first_more : (e : ℕ) (v : Verdict) → a ≤ b → d ≤ e → NoneBreaks n m c a b → FirstVerdict n m c b d (Some v) → FirstVerdict n m c a e (Some v)
   first_more e v l k h f = first_widened n m c a b d e v l h k f
 
 -- a part of a check, with nothing before it and nothing behind
-pub first_extended : (n : Machine) (m : Place → ℕ) (c a b d e : ℕ) (x : Option Verdict) → a ≤ b → d ≤ e → NoneBreaks n m c a b → FirstOf n m c b d x → NoneBreaks n m c d e → FirstOf n m c a e x
+pub first_extended : (n : Machine) (m : Place → ℕ) (c a b d e : ℕ) (x : Option Verdict) → a ≤ b → d ≤ e → NoneBreaks n m c a b → FirstVerdict n m c b d x → NoneBreaks n m c d e → FirstVerdict n m c a e x
 first_extended n m c a b d e None l u h f k = none_joined n m c a d e (none_joined n m c a b d h f) k
 first_extended n m c a b d e (Some v) l u h f k = first_widened n m c a b d e v l h u f

@@ -18,10 +18,10 @@ use Rattle.xp_board.specs.Readings.{kind_at, is_live, is_partial, is_work}
 use Rattle.xp_board.specs.Recorded.{held, held_of, entry_demand}
 use Rattle.xp_board.specs.Valid.{LeadsWell, IsUnsettled}
 use Rattle.xp_board.proofs.KindForms.{fields_of, partial_form}
-use Rattle.reference_recount.specs.Recounted.{nobody, IsReadable}
+use Rattle.reference_recount.specs.Recounted.{no_hands, IsReadable}
 use Rattle.reference_recount.proofs.Whole.{nobody_works as no_work}
-use Rattle.walk_audit.specs.Breaks.{Breaks, IsHeld, IsBadEntry, MayAsk}
-use Rattle.walk_audit.specs.Leads.{LeadsTo, looked_at}
+use Rattle.walk_audit.specs.Breaks.{Breaks, IsHeld, IsBadEntry, MayBeAsked}
+use Rattle.walk_audit.specs.Leads.{LeadsAsRead, words_looked_at}
 use Rattle.walk_audit.specs.Order.{NoneBreaks, check_of, position}
 use Rattle.walk_audit.specs.declared.verdict.Verdict.{Verdict}
 use Rattle.walk_audit.specs.declared.verdict.Verdict.TheVariants as verdicts
@@ -31,10 +31,10 @@ only_partial : (p w : Bool) → IsTrue (p || w) → w ≡ false → IsTrue p
 only_partial true w h e = refl
 only_partial false w h e = absurd (let t : w ≡ true = h in cc)
 
-pub held_is : (n : Machine) (m : Place → ℕ) (f : ℕ) → held (sizes_of n) m nobody f ≡ held_of (kind_at m f) None
+pub held_is : (n : Machine) (m : Place → ℕ) (f : ℕ) → held (sizes_of n) m no_hands f ≡ held_of (kind_at m f) None
 held_is n m f = ap (held_of (kind_at m f)) (no_work (sizes_of n).vcpus f)
 
-pub settled : (z : Sizes) (f i g : ℕ) → IsUnsettled z nobody f i g → ⊥
+pub settled : (z : Sizes) (f i g : ℕ) → IsUnsettled z no_hands f i g → ⊥
 unfolding first_by
 settled z f i g h = let x = h.here in cc
 
@@ -48,36 +48,36 @@ module _ (n : Machine) (m : Place → ℕ) (idle : NoneBreaks n m 1 0 n.frames) 
     | inr e ↦ e
   ]
 
-  pub leads : (f i g : ℕ) → g < n.frames → LeadsTo (kind_at m f) i (kind_at m g) → LeadsWell (sizes_of n) m nobody f i g
+  pub leads : (f i g : ℕ) → g < n.frames → LeadsAsRead (kind_at m f) i (kind_at m g) → LeadsWell (sizes_of n) m no_hands f i g
   leads f i g l (inl e) = inl e
   leads f i g l (inr e) = inr ((let p : is_partial (kind_at m g) ≡ true = e.0 in rw p refl), inl (record { partial = e.1; last = e.2 }))
 
-  pub leads_back : (f i g : ℕ) → g < n.frames → LeadsWell (sizes_of n) m nobody f i g → LeadsTo (kind_at m f) i (kind_at m g)
+  pub leads_back : (f i g : ℕ) → g < n.frames → LeadsWell (sizes_of n) m no_hands f i g → LeadsAsRead (kind_at m f) i (kind_at m g)
   leads_back f i g l (inl e) = inl e
   leads_back f i g l (inr e) = elim e.1 [
     | inl x ↦ inr (only_partial _ _ e.0 (unworked g l), x.partial, x.last)
     | inr x ↦ absurd (settled (sizes_of n) f i g x)
   ]
 
-  pub leads_both : (f i g : ℕ) (k l : KindWord) (b : Bool) → g < n.frames → k ≡ kind_at m f → l ≡ kind_at m g → (IsTrue b → LeadsTo k i l) × (LeadsTo k i l → IsTrue b) →
-      (IsTrue b → LeadsWell (sizes_of n) m nobody f i g) × (LeadsWell (sizes_of n) m nobody f i g → IsTrue b)
+  pub leads_both : (f i g : ℕ) (k l : KindWord) (b : Bool) → g < n.frames → k ≡ kind_at m f → l ≡ kind_at m g → (IsTrue b → LeadsAsRead k i l) × (LeadsAsRead k i l → IsTrue b) →
+      (IsTrue b → LeadsWell (sizes_of n) m no_hands f i g) × (LeadsWell (sizes_of n) m no_hands f i g → IsTrue b)
   leads_both f i g k l b r e d h = (
-    (λ t. leads f i g r (subst (λ x. LeadsTo x i (kind_at m g)) e (subst (λ y. LeadsTo k i y) d (h.0 t)))),
-    (λ w. h.1 (subst (λ x. LeadsTo x i l) (sym e) (subst (λ y. LeadsTo (kind_at m f) i y) (sym d) (leads_back f i g r w)))),
+    (λ t. leads f i g r (subst (λ x. LeadsAsRead x i (kind_at m g)) e (subst (λ y. LeadsAsRead k i y) d (h.0 t)))),
+    (λ w. h.1 (subst (λ x. LeadsAsRead x i l) (sym e) (subst (λ y. LeadsAsRead (kind_at m f) i y) (sym d) (leads_back f i g r w)))),
   )
 
 -- ---- which words are looked at
-table_looked : (k : KindWord) → is_table k.kind ≡ true → looked_at k ≡ held_of k None
+table_looked : (k : KindWord) → is_table k.kind ≡ true → words_looked_at k ≡ held_of k None
 table_looked k e =
     let none : (type_number k.kind == 5) ≡ false = grind (arith, nat_tests) in
     let off : (is_live k && (type_number k.kind == 5)) ≡ false = grind (arith, nat_tests) in
     rw off refl
 
-page_looked : (k : KindWord) (i : ℕ) → is_table k.kind ≡ false → i < looked_at k → (k.validated ≡ true) × (type_number k.kind ≡ 5)
+page_looked : (k : KindWord) (i : ℕ) → is_table k.kind ≡ false → i < words_looked_at k → (k.validated ≡ true) × (type_number k.kind ≡ 5)
 unfolding held_of
 page_looked k i e l = elim (cases_Bool (is_live k && (type_number k.kind == 5))) [
   | inl t ↦ let p = and_parts (is_live k) (type_number k.kind == 5) t in (p.0, grind (arith, nat_tests))
-  | inr t ↦ absurd (let none : looked_at k ≡ 0 = rw t (rw e refl) in omega arith)
+  | inr t ↦ absurd (let none : words_looked_at k ≡ 0 = rw t (rw e refl) in omega arith)
 ]
 
 is_page : (t : PageType) → type_number t ≡ 5 → t ≡ kinds.Desc
@@ -112,32 +112,32 @@ held_read : (n : Machine) (w : ℕ) (x : Option KindWord) → kind_read w ≡ x 
 held_read n w None e h = absurd (cc)
 held_read n w (Some k) e h = rw (fields_of w k e) (held_form w k e)
 
-looked_by : (k : KindWord) → held_of k None ≤ 512 → looked_at k ≤ 512
+looked_by : (k : KindWord) → held_of k None ≤ 512 → words_looked_at k ≤ 512
 looked_by k h = elim (cases_Bool (is_live k && (type_number k.kind == 5))) [
   | inl t ↦ rw t (omega arith)
   | inr t ↦ rw t h
 ]
 
-recorded_looked : (k : KindWord) (i : ℕ) → i < held_of k None → i < looked_at k
+recorded_looked : (k : KindWord) (i : ℕ) → i < held_of k None → i < words_looked_at k
 recorded_looked k i l = elim (cases_Bool (is_live k && (type_number k.kind == 5))) [
   | inl t ↦ absurd (let p : (type_number k.kind == 5) ≡ true = (and_parts (is_live k) (type_number k.kind == 5) t).1 in let off : is_table k.kind ≡ false = grind (arith, nat_tests) in table_recorded k i off l)
   | inr t ↦ rw t l
 ]
 
-unfixed_looked : (k : KindWord) (i : ℕ) → k.validated ≡ true → k.kind ≡ kinds.Desc → i < 512 → i < looked_at k
+unfixed_looked : (k : KindWord) (i : ℕ) → k.validated ≡ true → k.kind ≡ kinds.Desc → i < 512 → i < words_looked_at k
 unfixed_looked k i v d l = rw (v, d) l
 
 module _ (n : Machine) (m : Place → ℕ) where
-  pub recorded_bad : (f i : ℕ) → f < n.frames → is_table (kind_at m f).kind ≡ true → i < looked_at (kind_at m f) → ¬ MayAsk n m f i (entry_demand m f i) → IsBadEntry n m f i
+  pub recorded_bad : (f i : ℕ) → f < n.frames → is_table (kind_at m f).kind ≡ true → i < words_looked_at (kind_at m f) → ¬ MayBeAsked n m f i (entry_demand m f i) → IsBadEntry n m f i
   recorded_bad f i r e l h = (r, inl (record { recorded = (let a = held_is n m f in let b = table_looked (kind_at m f) e in omega arith); bad = h }))
 
-  pub recorded_good : (f i : ℕ) → is_table (kind_at m f).kind ≡ true → MayAsk n m f i (entry_demand m f i) → IsBadEntry n m f i → ⊥
+  pub recorded_good : (f i : ℕ) → is_table (kind_at m f).kind ≡ true → MayBeAsked n m f i (entry_demand m f i) → IsBadEntry n m f i → ⊥
   recorded_good f i e h x = elim x.1 [
     | inl y ↦ y.bad h
     | inr y ↦ (let kind = y.descriptors in let off : is_table (kind_at m f).kind ≡ false = rw kind refl in cc)
   ]
 
-  pub page_bad : (f i : ℕ) → f < n.frames → is_table (kind_at m f).kind ≡ false → i < looked_at (kind_at m f) → i < 512 → is_fixed (m (Cell f i)) ≡ false → IsBadEntry n m f i
+  pub page_bad : (f i : ℕ) → f < n.frames → is_table (kind_at m f).kind ≡ false → i < words_looked_at (kind_at m f) → i < 512 → is_fixed (m (Cell f i)) ≡ false → IsBadEntry n m f i
   page_bad f i r e l few h =
       let p = page_looked (kind_at m f) i e l in
       (r, inr (record { live = p.0; descriptors = is_page _ p.1; few = few; unfixed = h }))
@@ -148,12 +148,12 @@ module _ (n : Machine) (m : Place → ℕ) where
     | inr y ↦ (let no = y.unfixed in cc)
   ]
 
-  pub looked_few : (f : ℕ) → IsReadable n m → f < n.frames → looked_at (kind_at m f) ≤ 512
+  pub looked_few : (f : ℕ) → IsReadable n m → f < n.frames → words_looked_at (kind_at m f) ≤ 512
   unfolding IsSpelling
   looked_few f r l = looked_by (kind_at m f) (held_read n (m (Kind f)) (kind_read (m (Kind f))) refl (r.kinds f l))
 
   -- a bad entry is one that is looked at
-  pub bad_looked : (f i : ℕ) → IsBadEntry n m f i → i < looked_at (kind_at m f)
+  pub bad_looked : (f i : ℕ) → IsBadEntry n m f i → i < words_looked_at (kind_at m f)
   bad_looked f i x = elim x.1 [
     | inl y ↦ (let l = y.recorded in let same = held_is n m f in recorded_looked (kind_at m f) i (omega arith))
     | inr y ↦ unfixed_looked (kind_at m f) i y.live y.descriptors y.few
@@ -195,7 +195,7 @@ module _ (n : Machine) (m : Place → ℕ) where
             h (subst (λ j. IsBadEntry n m f j) behind (subst (λ g. IsBadEntry n m g e.index) same e.bad)));
       }
 
-  pub none_behind : (f : ℕ) → IsReadable n m → NoneBreaks n m 4 (512 * f + looked_at (kind_at m f)) (512 * f + 512)
+  pub none_behind : (f : ℕ) → IsReadable n m → NoneBreaks n m 4 (512 * f + words_looked_at (kind_at m f)) (512 * f + 512)
   none_behind f r =
       record {
         none = λ u w x.
@@ -206,12 +206,12 @@ module _ (n : Machine) (m : Place → ℕ) where
             let few = looked_few e.frame r e.bad.0 in
             let looked = bad_looked e.frame e.index e.bad in
             let same : e.frame ≡ f = omega arith in
-            let end : looked_at (kind_at m e.frame) ≡ looked_at (kind_at m f) = ap (λ g. looked_at (kind_at m g)) same in
+            let end : words_looked_at (kind_at m e.frame) ≡ words_looked_at (kind_at m f) = ap (λ g. words_looked_at (kind_at m g)) same in
             absurd (omega arith));
       }
 
   -- all words of the frame that are looked at
-  pub whole_frame : (f end index : ℕ) → IsReadable n m → end ≡ looked_at (kind_at m f) → end ≤ index → NoneBreaks n m 4 (512 * f) (512 * f + index) → NoneBreaks n m 4 (512 * f) (512 * f + 512)
+  pub whole_frame : (f end index : ℕ) → IsReadable n m → end ≡ words_looked_at (kind_at m f) → end ≤ index → NoneBreaks n m 4 (512 * f) (512 * f + index) → NoneBreaks n m 4 (512 * f) (512 * f + 512)
   whole_frame f end index r e l h =
-      none_joined n m 4 (512 * f) (512 * f + looked_at (kind_at m f)) (512 * f + 512)
+      none_joined n m 4 (512 * f) (512 * f + words_looked_at (kind_at m f)) (512 * f + 512)
       (none_narrowed n m 4 (512 * f) (512 * f) _ (512 * f + index) (omega arith) (omega arith) h) (none_behind f r)

@@ -24,9 +24,9 @@ use Rattle.xp_board.specs.Sound.{Spelled, HeldAlone, Stamped, Domains, FreeMap, 
 use Rattle.xp_board.proofs.Empty.{empty_formed}
 use Rattle.xp_board.proofs.Counted.{held_inside}
 use Rattle.xp_board.proofs.Sums.{sum_below-none, one_at-other}
-use Rattle.reference_recount.specs.Recounted.{nobody, IsReadable}
-use Rattle.walk_audit.specs.Breaks.{Breaks, is_map, MayAsk, is_free_frame}
-use Rattle.walk_audit.specs.Order.{Passed}
+use Rattle.reference_recount.specs.Recounted.{no_hands, IsReadable}
+use Rattle.walk_audit.specs.Breaks.{Breaks, is_map, MayBeAsked, is_free_frame}
+use Rattle.walk_audit.specs.Order.{PassedUpTo}
 use Rattle.walk_audit.specs.declared.verdict.Verdict.{Verdict}
 use Rattle.walk_audit.specs.declared.verdict.Verdict.TheVariants as verdicts
 use Rattle.walk_audit.proofs.Bits.{few_bits}
@@ -37,7 +37,7 @@ use Rattle.walk_audit.proofs.Reading.{context_few}
 use Rattle.walk_audit.proofs.Stable.{eq_stable, spelling_stable, asks_stable, names_stable, type_stable}
 use Rattle.walk_audit.proofs.Words.{memory_small}
 
-module _ (n : Machine) (m : Place → ℕ) (o : IsOutside n m) (s : (p : Place) → m p < 2 ^ 64) (p : Passed n m 9) where
+module _ (n : Machine) (m : Place → ℕ) (o : IsOutside n m) (s : (p : Place) → m p < 2 ^ 64) (p : PassedUpTo n m 9) where
   no : (u : Verdict) → Breaks n m u → ⊥
   no verdicts.Sound x = x
   no (verdicts.Word k w) x = p.none (verdicts.Word k w) (omega arith) x
@@ -129,11 +129,11 @@ module _ (n : Machine) (m : Place → ℕ) (o : IsOutside n m) (s : (p : Place) 
   all_spelled = record { small = s; outside = o.none; spelled = by_place }
 
   -- ---- entries
-  asks : (f i : ℕ) → i < held (sizes_of n) m nobody f → MayAsk n m f i (entry_demand m f i)
-  asks f i l = asks_stable n m f i (entry_demand m f i) (λ x. no (verdicts.BadEntry f i) (held_inside n m nobody f i all_spelled l, inl (record { recorded = l; bad = x })))
+  asks : (f i : ℕ) → i < held (sizes_of n) m no_hands f → MayBeAsked n m f i (entry_demand m f i)
+  asks f i l = asks_stable n m f i (entry_demand m f i) (λ x. no (verdicts.BadEntry f i) (held_inside n m no_hands f i all_spelled l, inl (record { recorded = l; bad = x })))
 
-  asks_as : (f i : ℕ) (d : Demand) → i < held (sizes_of n) m nobody f → entry_demand m f i ≡ d → MayAsk n m f i d
-  asks_as f i d l e = subst (λ x. MayAsk n m f i x) e (asks f i l)
+  asks_as : (f i : ℕ) (d : Demand) → i < held (sizes_of n) m no_hands f → entry_demand m f i ≡ d → MayBeAsked n m f i d
+  asks_as f i d l e = subst (λ x. MayBeAsked n m f i x) e (asks f i l)
 
   -- ---- words of vCPUs
   names_live : (v k g : ℕ) → v < (sizes_of n).vcpus → k < 38 → IsTrue (is_live_context k) → m (Vcpu v k) ≡ g + 1 →
@@ -146,21 +146,21 @@ module _ (n : Machine) (m : Place → ℕ) (o : IsOutside n m) (s : (p : Place) 
   names_few v k g a b c e = let few = context_few n m v k readable a b c in omega arith
 
   -- ---- counts
-  names_past : (g f i : ℕ) (d : Demand) → n.frames ≤ g → MayAsk n m f i d → names g d ≡ 0
+  names_past : (g f i : ℕ) (d : Demand) → n.frames ≤ g → MayBeAsked n m f i d → names g d ≡ 0
   unfolding names
   names_past g f i Nothing l h = refl
   names_past g f i Bad l h = refl
   names_past g f i (Read x) l h = one_at-other g x (λ e. (let few = h.0 in omega arith))
   names_past g f i (Typed x t) l h = one_at-other g x (λ e. (let few = h.0.0 in omega arith))
 
-  typed_past : (g f i : ℕ) (d : Demand) → n.frames ≤ g → MayAsk n m f i d → names_typed g d ≡ 0
+  typed_past : (g f i : ℕ) (d : Demand) → n.frames ≤ g → MayBeAsked n m f i d → names_typed g d ≡ 0
   unfolding names_typed
   typed_past g f i Nothing l h = refl
   typed_past g f i Bad l h = refl
   typed_past g f i (Read x) l h = refl
   typed_past g f i (Typed x t) l h = one_at-other g x (λ e. (let few = h.0.0 in omega arith))
 
-  entries_past : (c : Demand → ℕ) → ((f i : ℕ) (d : Demand) → MayAsk n m f i d → c d ≡ 0) → entries c (sizes_of n) m nobody ≡ 0
+  entries_past : (c : Demand → ℕ) → ((f i : ℕ) (d : Demand) → MayBeAsked n m f i d → c d ≡ 0) → entries c (sizes_of n) m no_hands ≡ 0
   unfolding entries table_entries
   entries_past c h = sum_below-none n.frames _ (λ f l. sum_below-none _ _ (λ i k. h f i (entry_demand m f i) (asks f i k)))
 
@@ -176,9 +176,9 @@ module _ (n : Machine) (m : Place → ℕ) (o : IsOutside n m) (s : (p : Place) 
   unfolding is_place
   words_past g l = let off : nat_lt g n.frames ≡ false = grind (arith, nat_tests) in (o.none (Refs g) off, o.none (Kind g) off)
 
-  refs_agree : (g : ℕ) → ref_count (m (Refs g)) ≡ named (sizes_of n) m nobody g
+  refs_agree : (g : ℕ) → ref_count (m (Refs g)) ≡ named (sizes_of n) m no_hands g
   refs_agree g = elim (cases_lt g n.frames) [
-    | inl l ↦ eq_stable _ _ (λ x. no (verdicts.Refs g (named (sizes_of n) m nobody g) (ref_count (m (Refs g)))) (l, refl, record { finds = refl; other = x }))
+    | inl l ↦ eq_stable _ _ (λ x. no (verdicts.Refs g (named (sizes_of n) m no_hands g) (ref_count (m (Refs g)))) (l, refl, record { finds = refl; other = x }))
     | inr l ↦
         let w = words_past g l in
         let r = w.0 in
@@ -192,9 +192,9 @@ module _ (n : Machine) (m : Place → ℕ) (o : IsOutside n m) (s : (p : Place) 
         omega arith
   ]
 
-  types_agree : (g : ℕ) → type_count (kind_at m g) ≡ named_typed (sizes_of n) m nobody g
+  types_agree : (g : ℕ) → type_count (kind_at m g) ≡ named_typed (sizes_of n) m no_hands g
   types_agree g = elim (cases_lt g n.frames) [
-    | inl l ↦ eq_stable _ _ (λ x. no (verdicts.Count g (named_typed (sizes_of n) m nobody g) (type_count (kind_at m g))) (l, refl, record { finds = refl; other = x }))
+    | inl l ↦ eq_stable _ _ (λ x. no (verdicts.Count g (named_typed (sizes_of n) m no_hands g) (type_count (kind_at m g))) (l, refl, record { finds = refl; other = x }))
     | inr l ↦
         let w = words_past g l in
         let k = w.1 in
@@ -206,7 +206,7 @@ module _ (n : Machine) (m : Place → ℕ) (o : IsOutside n m) (s : (p : Place) 
         omega arith
   ]
 
-  entry_typed : (f i g : ℕ) (t : PageType) → i < held (sizes_of n) m nobody f → entry_demand m f i ≡ Typed g t → (kind_at m g).kind ≡ t
+  entry_typed : (f i g : ℕ) (t : PageType) → i < held (sizes_of n) m no_hands f → entry_demand m f i ≡ Typed g t → (kind_at m g).kind ≡ t
   entry_typed f i g t l e =
       type_stable _ _ (λ x. no (verdicts.OtherKind g) ((asks_as f i (Typed g t) l e).0.0, inl (record { table = f; index = i; want = t; recorded = l; asks = e; other = x })))
 
@@ -215,7 +215,7 @@ module _ (n : Machine) (m : Place → ℕ) (o : IsOutside n m) (s : (p : Place) 
   word_typed v k g (Some t) w a b c e =
       type_stable _ _ (λ x. no (verdicts.OtherKind g) (names_few v k g a b c e, inr (record { vcpu = v; number = k; want = t; real = a; known = b; context = c; names = e; wants = w; other = x })))
 
-  kinds_agree : TypesAgree (sizes_of n) m nobody
+  kinds_agree : TypesAgree (sizes_of n) m no_hands
   unfolding EachOf
   kinds_agree =
       record {
@@ -226,13 +226,13 @@ module _ (n : Machine) (m : Place → ℕ) (o : IsOutside n m) (s : (p : Place) 
       }
 
   pages_agree : (d : ℕ) → d < (sizes_of n).domains →
-      m (Pages d) ≡ sum_below (sizes_of n).frames (λ f. is_page_of d (m (Refs f))) + hands (λ u. times d u.credits) (sizes_of n) nobody
+      m (Pages d) ≡ sum_below (sizes_of n).frames (λ f. is_page_of d (m (Refs f))) + hands (λ u. times d u.credits) (sizes_of n) no_hands
   pages_agree d l =
       let none = no_credits (sizes_of n) d in
       let own = eq_stable (m (Pages d)) (sum_below n.frames (λ f. is_page_of d (m (Refs f)))) (λ x. no (verdicts.Pages d _ (m (Pages d))) (l, refl, record { finds = refl; other = x })) in
       omega arith
 
-  counts : CountsAgree (sizes_of n) m nobody
+  counts : CountsAgree (sizes_of n) m no_hands
   counts = record { refs = refs_agree; types = types_agree; kinds = kinds_agree; pages = pages_agree }
 
   -- ---- what entries and words lead to
@@ -248,7 +248,7 @@ module _ (n : Machine) (m : Place → ℕ) (o : IsOutside n m) (s : (p : Place) 
     | inr t ↦ absurd (no (verdicts.BadEntry f i) (live_real f e, inr (record { live = e; descriptors = k; few = l; unfixed = t })))
   ]
 
-  valid : Valid (sizes_of n) m nobody
+  valid : Valid (sizes_of n) m no_hands
   valid =
       record {
         allowed = λ f i l e. asks_as f i Bad l e;
@@ -257,7 +257,7 @@ module _ (n : Machine) (m : Place → ℕ) (o : IsOutside n m) (s : (p : Place) 
         contexts = λ v k g a b c e. (names_live v k g a b c e).0;
       }
 
-  permitted : Permitted n m nobody
+  permitted : Permitted n m no_hands
   permitted =
       record {
         typed = λ f i g t l e. (asks_as f i (Typed g t) l e).0.1;
@@ -294,7 +294,7 @@ module _ (n : Machine) (m : Place → ℕ) (o : IsOutside n m) (s : (p : Place) 
     | inr l ↦ (let r = (words_past f l).0 in rw r zero_undying)
   ]
 
-  alone : HeldAlone n m nobody
+  alone : HeldAlone n m no_hands
   alone =
       record {
         works = λ f. no_works (sizes_of n) f ∙ sym (ap bit (idle_busy f));
@@ -325,7 +325,7 @@ module _ (n : Machine) (m : Place → ℕ) (o : IsOutside n m) (s : (p : Place) 
       }
 
   -- ---- domains
-  domains : Domains n m nobody
+  domains : Domains n m no_hands
   domains =
       record {
         dead = λ d r e. nothing_left n m d o (λ x. no (verdicts.Dead d) (is_left n m d r e (inl x))) (λ x. no (verdicts.Dead d) (is_left n m d r e (inr x)));
@@ -333,7 +333,7 @@ module _ (n : Machine) (m : Place → ℕ) (o : IsOutside n m) (s : (p : Place) 
       }
 
   -- ---- the map of free frames
-  map : FreeMap n m nobody
+  map : FreeMap n m no_hands
   map = record { bits = λ f l. (let none = no_raised (sizes_of n) f in let same = ap bit (hinted f l) in omega arith) }
     where
       hinted : (f : ℕ) → f < n.frames → is_hinted m f ≡ is_free (m (Refs f))
@@ -343,7 +343,7 @@ module _ (n : Machine) (m : Place → ℕ) (o : IsOutside n m) (s : (p : Place) 
           map_bit (f / 64) (f % 64) (omega arith) (omega arith) ∙ ap (is_free_frame n m) place ∙ (rw here refl)
 
 -- words that passed all checks
-pub unbroken : (n : Machine) (words : List ℕ) → IsMachine n → length words ≡ size (sizes_of n) → ((k : ℕ) → slice_index words k < 2 ^ 64) → Passed n (memory (sizes_of n) words) 9 → SoundWords n words
+pub unbroken : (n : Machine) (words : List ℕ) → IsMachine n → length words ≡ size (sizes_of n) → ((k : ℕ) → slice_index words k < 2 ^ 64) → PassedUpTo n (memory (sizes_of n) words) 9 → SoundWords n words
 unfolding EachOf
 unbroken n words i l s p =
     let m = memory (sizes_of n) words in

@@ -15,8 +15,8 @@ use Rattle.xp_words.specs.Places.{Sizes, sizes_of}
 use Rattle.xp_board.specs.Readings.{kind_at, is_live, is_partial, is_work, owner_of, has_ever}
 use Rattle.xp_board.specs.Spelling.{IsSpelling}
 use Rattle.xp_board.specs.Valid.{EntryPermitted, PermitsOwner, LeadsWell, IsLastOfPartial}
-use Rattle.reference_recount.specs.Recounted.{nobody}
-use Rattle.walk_audit.specs.Breaks.{is_map, MayAsk, MayLead}
+use Rattle.reference_recount.specs.Recounted.{no_hands}
+use Rattle.walk_audit.specs.Breaks.{is_map, MayBeAsked, MayLead}
 use Rattle.walk_audit.proofs.Leading.{settled}
 
 -- ---- numbers and tests
@@ -95,7 +95,7 @@ last_of_partial m f i = elim (both (decided_true (is_partial (kind_at m f))) (de
   | inr x ↦ inr (λ y. x (y.partial, y.last))
 ]
 
-leads_well : (z : Sizes) (m : Place → ℕ) (f i g : ℕ) → Decided (LeadsWell z m nobody f i g)
+leads_well : (z : Sizes) (m : Place → ℕ) (f i g : ℕ) → Decided (LeadsWell z m no_hands f i g)
 leads_well z m f i g =
     either (decided_true (is_live (kind_at m g)))
     (both (decided_true (is_partial (kind_at m g) || is_work (kind_at m g))) (either (last_of_partial m f i) (inr (settled z f i g))))
@@ -103,13 +103,13 @@ leads_well z m f i g =
 may_lead : (n : Machine) (m : Place → ℕ) (f g : ℕ) → Decided (MayLead n m f g)
 may_lead n m f g = both (decided_lt g n.frames) (entry_permitted m (kind_at m f).kind (owner_of (m (Refs f))) g)
 
-may_ask : (n : Machine) (m : Place → ℕ) (f i : ℕ) (x : Demand) → Decided (MayAsk n m f i x)
+may_ask : (n : Machine) (m : Place → ℕ) (f i : ℕ) (x : Demand) → Decided (MayBeAsked n m f i x)
 may_ask n m f i Nothing = inl tt
 may_ask n m f i Bad = inr (λ e. e)
 may_ask n m f i (Read g) = may_lead n m f g
 may_ask n m f i (Typed g t) = both (may_lead n m f g) (leads_well (sizes_of n) m f i g)
 
-pub asks_stable : (n : Machine) (m : Place → ℕ) (f i : ℕ) (x : Demand) → ¬ ¬ MayAsk n m f i x → MayAsk n m f i x
+pub asks_stable : (n : Machine) (m : Place → ℕ) (f i : ℕ) (x : Demand) → ¬ ¬ MayBeAsked n m f i x → MayBeAsked n m f i x
 asks_stable n m f i x h = settle (may_ask n m f i x) h
 
 -- ---- words of vCPUs

@@ -17,15 +17,15 @@ use Rattle.xp_board.specs.Recorded.{held, entry_demand, names, HasType}
 use Rattle.xp_board.specs.Sound.{Sound, is_busy, is_hinted}
 use Rattle.xp_board.proofs.Sums.{no_bit, one_at-same}
 use Rattle.xp_board.proofs.Counted.{entries-part, names-read}
-use Rattle.reference_recount.specs.Recounted.{nobody, IsMistyped}
-use Rattle.walk_audit.specs.Breaks.{Breaks, MayAsk, is_free_frame, IsWrongMap, IsHeld}
+use Rattle.reference_recount.specs.Recounted.{no_hands, IsMistyped}
+use Rattle.walk_audit.specs.Breaks.{Breaks, MayBeAsked, is_free_frame, IsWrongMap, IsHeld}
 use Rattle.walk_audit.specs.declared.verdict.Verdict.{Verdict}
 use Rattle.walk_audit.specs.declared.verdict.Verdict.TheVariants as verdicts
 use Rattle.walk_audit.proofs.Bits.{no_upper_bit}
 use Rattle.walk_audit.proofs.Empty.{no_credits, no_raised, no_works, no_locks, no_dying}
 use Rattle.walk_audit.proofs.Numbers.{zero_count}
 
-module _ (n : Machine) (m : Place → ℕ) (s : Sound n m nobody) where
+module _ (n : Machine) (m : Place → ℕ) (s : Sound n m no_hands) where
   -- ---- hands
   unheld : (f : ℕ) → IsHeld n m f → ⊥
   unheld f h =
@@ -42,7 +42,7 @@ module _ (n : Machine) (m : Place → ℕ) (s : Sound n m nobody) where
   typed g (inr x) = x.other (subst (λ t. HasType m g t) x.wants (s.counts.kinds.contexts x.vcpu x.number g x.real x.known x.context x.names))
 
   -- ---- entries
-  counted_real : (f i g : ℕ) → i < held (sizes_of n) m nobody f → f < n.frames → names g (entry_demand m f i) ≡ 1 → g < n.frames
+  counted_real : (f i g : ℕ) → i < held (sizes_of n) m no_hands f → f < n.frames → names g (entry_demand m f i) ≡ 1 → g < n.frames
   unfolding is_place
   counted_real f i g l r e = elim (cases_lt g n.frames) [
     | inl k ↦ k
@@ -51,7 +51,7 @@ module _ (n : Machine) (m : Place → ℕ) (s : Sound n m nobody) where
         let word : m (Refs g) ≡ 0 = s.spelled.outside (Refs g) off in
         let zero_refs : ref_count (m (Refs g)) ≡ 0 = rw word zero_count in
         let agree = s.counts.refs g in
-        let part = entries-part (names g) (sizes_of n) m nobody f i r l in
+        let part = entries-part (names g) (sizes_of n) m no_hands f i r l in
         omega arith)
   ]
 
@@ -59,7 +59,7 @@ module _ (n : Machine) (m : Place → ℕ) (s : Sound n m nobody) where
   unfolding names
   names_one g t d e = rw e (one_at-same g)
 
-  asks : (f i : ℕ) (d : Demand) → i < held (sizes_of n) m nobody f → f < n.frames → entry_demand m f i ≡ d → MayAsk n m f i d
+  asks : (f i : ℕ) (d : Demand) → i < held (sizes_of n) m no_hands f → f < n.frames → entry_demand m f i ≡ d → MayBeAsked n m f i d
   asks f i Nothing l r e = tt
   asks f i Bad l r e = s.valid.allowed f i l e
   asks f i (Read g) l r e = (counted_real f i g l r (names-read g _ e), s.permitted.plain f i g l e)

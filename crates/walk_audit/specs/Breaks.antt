@@ -15,7 +15,7 @@ use Rattle.xp_board.specs.Readings.{kind_at, is_live, is_locked, is_dying, is_fr
 use Rattle.xp_board.specs.Recorded.{held, entry_demand, named, named_typed, is_page_of}
 use Rattle.xp_board.specs.Valid.{LeadsWell, EntryPermitted, is_live_context}
 use Rattle.xp_board.specs.Sound.{is_busy, DeadDomain}
-use Rattle.reference_recount.specs.Recounted.{nobody, IsMistyped}
+use Rattle.reference_recount.specs.Recounted.{no_hands, IsMistyped}
 use Rattle.walk_audit.specs.declared.verdict.Verdict.{Verdict}
 use Rattle.walk_audit.specs.declared.verdict.Verdict.TheVariants as verdicts
 
@@ -46,11 +46,11 @@ pub record Differs (found want has : ℕ) : Type 0 where
 
 abbrev pub HasWrongRefs : Machine → (Place → ℕ) → ℕ → ℕ → ℕ → Type 0
 HasWrongRefs n m f want found =
-    (f < n.frames) × (want ≡ named (sizes_of n) m nobody f) × Differs found want (ref_count (m (Refs f)))
+    (f < n.frames) × (want ≡ named (sizes_of n) m no_hands f) × Differs found want (ref_count (m (Refs f)))
 
 abbrev pub HasWrongCount : Machine → (Place → ℕ) → ℕ → ℕ → ℕ → Type 0
 HasWrongCount n m f want found =
-    (f < n.frames) × (want ≡ named_typed (sizes_of n) m nobody f) × Differs found want (type_count (kind_at m f))
+    (f < n.frames) × (want ≡ named_typed (sizes_of n) m no_hands f) × Differs found want (type_count (kind_at m f))
 
 -- ---- domains
 -- the frames that the domain owns
@@ -64,7 +64,7 @@ HasWrongPages n m d want found =
 pub record IsUnburied (n : Machine) (m : Place → ℕ) (d : ℕ) : Type 0 where
   pub real : d < (sizes_of n).domains
   pub dead : m (Life d) ≡ 255
-  pub left : ¬ DeadDomain n m nobody d
+  pub left : ¬ DeadDomain n m no_hands d
 
 -- ---- entries and descriptors
 -- the machine has frame g, and an entry of table f may lead there
@@ -72,20 +72,20 @@ abbrev pub MayLead : Machine → (Place → ℕ) → ℕ → ℕ → Type 0
 MayLead n m f g = (g < n.frames) × EntryPermitted m (kind_at m f).kind (owner_of (m (Refs f))) g
 
 -- entry i may do so with a type
-abbrev pub MayType : Machine → (Place → ℕ) → ℕ → ℕ → ℕ → Type 0
-MayType n m f i g = MayLead n m f g × LeadsWell (sizes_of n) m nobody f i g
+abbrev pub MayLeadTyped : Machine → (Place → ℕ) → ℕ → ℕ → ℕ → Type 0
+MayLeadTyped n m f i g = MayLead n m f g × LeadsWell (sizes_of n) m no_hands f i g
 
 -- what recorded entry i of frame f asks may be asked there
-abbrev pub MayAsk : Machine → (Place → ℕ) → ℕ → ℕ → Demand → Type 0
-MayAsk n m f i Nothing = Unit {0}
-MayAsk n m f i Bad = ⊥
-MayAsk n m f i (Read g) = MayLead n m f g
-MayAsk n m f i (Typed g t) = MayType n m f i g
+abbrev pub MayBeAsked : Machine → (Place → ℕ) → ℕ → ℕ → Demand → Type 0
+MayBeAsked n m f i Nothing = Unit {0}
+MayBeAsked n m f i Bad = ⊥
+MayBeAsked n m f i (Read g) = MayLead n m f g
+MayBeAsked n m f i (Typed g t) = MayLeadTyped n m f i g
 
 -- a recorded entry that asks what it may not
 pub record IsBadRecorded (n : Machine) (m : Place → ℕ) (f i : ℕ) : Type 0 where
-  pub recorded : i < held (sizes_of n) m nobody f
-  pub bad : ¬ MayAsk n m f i (entry_demand m f i)
+  pub recorded : i < held (sizes_of n) m no_hands f
+  pub bad : ¬ MayBeAsked n m f i (entry_demand m f i)
 
 -- a word of a live descriptor page that is not fixed
 pub record IsUnfixed (m : Place → ℕ) (f i : ℕ) : Type 0 where

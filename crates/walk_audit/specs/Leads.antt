@@ -6,9 +6,9 @@ use Rattle.xp_words.specs.declared.kind.KindWord.{KindWord}
 use Rattle.xp_board.specs.Readings.{is_live, is_partial}
 
 -- the target is live; or it is partial, and the entry is the last recorded one of a partial table
-abbrev pub LeadsTo : KindWord → ℕ → KindWord → Type 0
-LeadsTo table i target = IsTrue (is_live target) ⊎ (IsTrue (is_partial target) × IsTrue (is_partial table) × (i + 1 ≡ table.progress))
+abbrev pub LeadsAsRead : KindWord → ℕ → KindWord → Type 0
+LeadsAsRead table i target = IsTrue (is_live target) ⊎ (IsTrue (is_partial target) × IsTrue (is_partial table) × (i + 1 ≡ table.progress))
 
 -- how many words of a frame are entries that are recorded, or descriptors of a live page
-abbrev pub looked_at : KindWord → ℕ
-looked_at k = if is_live k && (type_number k.kind == 5) then 512 else held_of k None
+abbrev pub words_looked_at : KindWord → ℕ
+words_looked_at k = if is_live k && (type_number k.kind == 5) then 512 else held_of k None

@@ -43,29 +43,29 @@ IsNoLater v u = (check_of v < check_of u) ⊎ ((check_of v ≡ check_of u) × (p
 
 -- ---- what a part of a check finds
 -- a verdict of check c whose position is from `low` up to `high`
-pub record IsWithin (c low high : ℕ) (v : Verdict) : Type 0 where
+pub record IsVerdictWithin (c low high : ℕ) (v : Verdict) : Type 0 where
   pub check : check_of v ≡ c
   pub from : low ≤ position v
   pub below : position v < high
 
 -- none of them breaks the words
 pub record NoneBreaks (n : Machine) (m : Place → ℕ) (c low high : ℕ) : Type 0 where
-  pub none : (u : Verdict) → IsWithin c low high u → Breaks n m u → ⊥
+  pub none : (u : Verdict) → IsVerdictWithin c low high u → Breaks n m u → ⊥
 
 -- v does, and none that comes before it
 pub record IsFirst (n : Machine) (m : Place → ℕ) (c low high : ℕ) (v : Verdict) : Type 0 where
   pub breaks : Breaks n m v
-  pub within : IsWithin c low high v
+  pub within : IsVerdictWithin c low high v
   pub before : NoneBreaks n m c low (position v)
 
 -- the first of them, if there is one
-abbrev pub FirstOf : Machine → (Place → ℕ) → ℕ → ℕ → ℕ → Option Verdict → Type 0
-FirstOf n m c low high None = NoneBreaks n m c low high
-FirstOf n m c low high (Some v) = IsFirst n m c low high v
+abbrev pub FirstVerdict : Machine → (Place → ℕ) → ℕ → ℕ → ℕ → Option Verdict → Type 0
+FirstVerdict n m c low high None = NoneBreaks n m c low high
+FirstVerdict n m c low high (Some v) = IsFirst n m c low high v
 
 -- ---- what all checks find
 -- no verdict of a check below c breaks the words
-pub record Passed (n : Machine) (m : Place → ℕ) (c : ℕ) : Type 0 where
+pub record PassedUpTo (n : Machine) (m : Place → ℕ) (c : ℕ) : Type 0 where
   pub none : (u : Verdict) → check_of u < c → Breaks n m u → ⊥
 
 -- v breaks the words, and what breaks them does not come before it
@@ -75,5 +75,5 @@ pub record ComesFirst (n : Machine) (m : Place → ℕ) (v : Verdict) : Type 0 w
 
 -- the first of all, if there is one
 abbrev pub FirstFrom : Machine → (Place → ℕ) → Option Verdict → Type 0
-FirstFrom n m None = Passed n m 9
+FirstFrom n m None = PassedUpTo n m 9
 FirstFrom n m (Some v) = ComesFirst n m v

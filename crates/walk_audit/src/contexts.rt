@@ -5,7 +5,7 @@ ghost use Rattle.xp_words.specs.Places.{sizes_of, size, memory};
 ghost use Rattle.xp_board.specs.Valid.{is_live_context};
 ghost use Rattle.reference_recount.specs.Recounted.{IsReadable};
 ghost use Rattle.walk_audit.specs.Breaks.{IsBadContext};
-ghost use Rattle.walk_audit.specs.Order.{FirstOf};
+ghost use Rattle.walk_audit.specs.Order.{FirstVerdict};
 
 use crate::readers::{kind_of, owner, vcpu_word};
 use crate::verdict::Verdict;
@@ -61,7 +61,7 @@ fn bad_context(layout: &Layout, words: &[u64], vcpu: u32, word: u32) -> Option<V
     requires word { word < 38 }
     requires words { length words.now ≡ size (sizes_of layout.now) }
     requires readable { IsReadable layout.now (memory (sizes_of layout.now) words.now) }
-    ensures { FirstOf layout.now (memory (sizes_of layout.now) words.now) 5 (38 * vcpu + word) (38 * vcpu + word + 1) result }
+    ensures { FirstVerdict layout.now (memory (sizes_of layout.now) words.now) 5 (38 * vcpu + word) (38 * vcpu + word + 1) result }
 {
     if is_bad_context(layout, words, vcpu, word) {
         Some(Verdict::Context {
@@ -77,7 +77,7 @@ fn first_of_vcpu(layout: &Layout, words: &[u64], vcpu: u32) -> Option<Verdict>
     requires vcpu { vcpu < length layout.now.vcpu_domain }
     requires words { length words.now ≡ size (sizes_of layout.now) }
     requires readable { IsReadable layout.now (memory (sizes_of layout.now) words.now) }
-    ensures { FirstOf layout.now (memory (sizes_of layout.now) words.now) 5 (38 * vcpu) (38 * vcpu + 38) result }
+    ensures { FirstVerdict layout.now (memory (sizes_of layout.now) words.now) 5 (38 * vcpu) (38 * vcpu + 38) result }
 {
     for word in 0..38 {
         if let Some(verdict) = bad_context(layout, words, vcpu, word) {
@@ -91,7 +91,7 @@ fn first_of_vcpu(layout: &Layout, words: &[u64], vcpu: u32) -> Option<Verdict>
 pub fn first_bad_context(layout: &Layout, words: &[u64]) -> Option<Verdict>
     requires words { length words.now ≡ size (sizes_of layout.now) }
     requires readable { IsReadable layout.now (memory (sizes_of layout.now) words.now) }
-    ensures { FirstOf layout.now (memory (sizes_of layout.now) words.now) 5 0 (38 * length layout.now.vcpu_domain) result }
+    ensures { FirstVerdict layout.now (memory (sizes_of layout.now) words.now) 5 0 (38 * length layout.now.vcpu_domain) result }
 {
     for vcpu in 0..layout.vcpus() {
         if let Some(verdict) = first_of_vcpu(layout, words, vcpu) {

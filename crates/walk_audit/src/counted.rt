@@ -3,7 +3,7 @@ ghost use Rattle.std.specs.Prelude.{◌≡◌, ◌<◌, ◌+◌, ◌*◌, length
 ghost use Rattle.xp_words.specs.Places.{sizes_of, size, memory};
 ghost use Rattle.xp_board.specs.Readings.{type_count};
 ghost use Rattle.reference_recount.specs.Recounted.{IsReadable, IsTally, tally_at};
-ghost use Rattle.walk_audit.specs.Order.{FirstOf};
+ghost use Rattle.walk_audit.specs.Order.{FirstVerdict};
 
 use crate::readers::{kind_of, ref_count};
 use crate::verdict::Verdict;
@@ -28,7 +28,7 @@ fn wrong_count(layout: &Layout, words: &[u64], frame: u32, tally: Tally) -> Opti
     requires words { length words.now ≡ size (sizes_of layout.now) }
     requires readable { IsReadable layout.now (memory (sizes_of layout.now) words.now) }
     requires tally { IsTally layout.now (memory (sizes_of layout.now) words.now) frame tally }
-    ensures { FirstOf layout.now (memory (sizes_of layout.now) words.now) 2 (3 * frame) (3 * frame + 3) result }
+    ensures { FirstVerdict layout.now (memory (sizes_of layout.now) words.now) 2 (3 * frame) (3 * frame + 3) result }
 {
     let refs = ref_count(layout, words, frame);
     let types = type_count(&kind_of(layout, words, frame));
@@ -57,7 +57,7 @@ pub fn first_wrong_count(layout: &Layout, words: &[u64], tallies: &[Tally]) -> O
     requires readable { IsReadable layout.now (memory (sizes_of layout.now) words.now) }
     requires all { length tallies.now ≡ layout.now.frames }
     requires each { (g : ℕ) → g < layout.now.frames → IsTally layout.now (memory (sizes_of layout.now) words.now) g (tally_at tallies.now g) }
-    ensures { FirstOf layout.now (memory (sizes_of layout.now) words.now) 2 0 (3 * layout.now.frames) result }
+    ensures { FirstVerdict layout.now (memory (sizes_of layout.now) words.now) 2 0 (3 * layout.now.frames) result }
 {
     for frame in 0..layout.frames {
         let tally = tallies[frame as usize];

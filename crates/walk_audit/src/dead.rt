@@ -6,7 +6,7 @@ ghost use Rattle.xp_board.specs.Readings.{owner_of, is_context, domain_of};
 ghost use Rattle.reference_recount.specs.Recounted.{IsReadable};
 ghost use Rattle.walk_audit.specs.Breaks.{IsUnburied};
 ghost use Rattle.walk_audit.specs.Burials.{HasMark, IsUnstopped, LeavesFrame, LeavesVcpu};
-ghost use Rattle.walk_audit.specs.Order.{FirstOf};
+ghost use Rattle.walk_audit.specs.Order.{FirstVerdict};
 
 use crate::readers::{is_allocated, kind_of, life_word, owner, vcpu_word};
 use crate::verdict::Verdict;
@@ -90,7 +90,7 @@ fn unburied(layout: &Layout, words: &[u64], domain: u16) -> Option<Verdict>
     requires domain { domain < length layout.now.page_limit }
     requires words { length words.now ≡ size (sizes_of layout.now) }
     requires readable { IsReadable layout.now (memory (sizes_of layout.now) words.now) }
-    ensures { FirstOf layout.now (memory (sizes_of layout.now) words.now) 7 domain (domain + 1) result }
+    ensures { FirstVerdict layout.now (memory (sizes_of layout.now) words.now) 7 domain (domain + 1) result }
 {
     if is_unburied(layout, words, domain) {
         Some(Verdict::Dead { domain })
@@ -103,7 +103,7 @@ fn unburied(layout: &Layout, words: &[u64], domain: u16) -> Option<Verdict>
 pub fn first_unburied(layout: &Layout, words: &[u64]) -> Option<Verdict>
     requires words { length words.now ≡ size (sizes_of layout.now) }
     requires readable { IsReadable layout.now (memory (sizes_of layout.now) words.now) }
-    ensures { FirstOf layout.now (memory (sizes_of layout.now) words.now) 7 0 (length layout.now.page_limit) result }
+    ensures { FirstVerdict layout.now (memory (sizes_of layout.now) words.now) 7 0 (length layout.now.page_limit) result }
 {
     for domain in 0..layout.domains() as u16 {
         if let Some(verdict) = unburied(layout, words, domain) {

@@ -3,7 +3,7 @@ ghost use Rattle.xp_words.specs.Machine.{IsMachine};
 ghost use Rattle.xp_words.specs.Places.{size, sizes_of, memory};
 ghost use Rattle.reference_recount.specs.Recounted.{IsReadable, IsTally, tally_at};
 ghost use Rattle.walk_audit.specs.Judged.{Judged};
-ghost use Rattle.walk_audit.specs.Order.{Passed, FirstFrom};
+ghost use Rattle.walk_audit.specs.Order.{PassedUpTo, FirstFrom};
 
 use crate::contexts::first_bad_context;
 use crate::counted::first_wrong_count;
@@ -24,7 +24,7 @@ use xp_words::Layout;
 fn first_unsound(layout: &Layout, words: &[u64], tallies: &[Tally]) -> Option<Verdict>
     requires words { length words.now ≡ size (sizes_of layout.now) }
     requires readable { IsReadable layout.now (memory (sizes_of layout.now) words.now) }
-    requires passed { Passed layout.now (memory (sizes_of layout.now) words.now) 2 }
+    requires passed { PassedUpTo layout.now (memory (sizes_of layout.now) words.now) 2 }
     requires all { length tallies.now ≡ layout.now.frames }
     requires each { (g : ℕ) → g < layout.now.frames → IsTally layout.now (memory (sizes_of layout.now) words.now) g (tally_at tallies.now g) }
     ensures { FirstFrom layout.now (memory (sizes_of layout.now) words.now) result }

@@ -6,10 +6,10 @@ ghost use Rattle.xp_words.specs.Places.{sizes_of, size, memory};
 ghost use Rattle.xp_board.specs.After.{is_fixed};
 ghost use Rattle.xp_board.specs.Readings.{kind_at, has_ever, owner_of};
 ghost use Rattle.xp_board.specs.Valid.{EntryPermitted, LeadsWell};
-ghost use Rattle.reference_recount.specs.Recounted.{IsReadable, nobody};
-ghost use Rattle.walk_audit.specs.Breaks.{IsBadEntry, MayAsk, MayLead, MayType};
-ghost use Rattle.walk_audit.specs.Leads.{LeadsTo, looked_at};
-ghost use Rattle.walk_audit.specs.Order.{FirstOf, NoneBreaks};
+ghost use Rattle.reference_recount.specs.Recounted.{IsReadable, no_hands};
+ghost use Rattle.walk_audit.specs.Breaks.{IsBadEntry, MayBeAsked, MayLead, MayLeadTyped};
+ghost use Rattle.walk_audit.specs.Leads.{LeadsAsRead, words_looked_at};
+ghost use Rattle.walk_audit.specs.Order.{FirstVerdict, NoneBreaks};
 
 use crate::readers::{cell, kind_of, owner, privileges};
 use crate::verdict::Verdict;
@@ -54,7 +54,7 @@ fn is_permitted(layout: &Layout, words: &[u64], kind: PageType, table: u32, targ
 /// partial table.
 fn leads_well(table: &KindWord, index: u16, target: &KindWord) -> bool
     requires { index < 512 }
-    ensures { IsTrue result ↔ LeadsTo table.now index target.now }
+    ensures { IsTrue result ↔ LeadsAsRead table.now index target.now }
 {
     let is_partial = !table.validated && table.partial;
     target.validated || target.partial && is_partial && index + 1 == table.progress
@@ -96,7 +96,7 @@ fn leads_there(layout: &Layout, words: &[u64], table: u32, index: u16, target: u
     requires words { length words.now ≡ size (sizes_of layout.now) }
     requires readable { IsReadable layout.now (memory (sizes_of layout.now) words.now) }
     requires unheld { NoneBreaks layout.now (memory (sizes_of layout.now) words.now) 1 0 layout.now.frames }
-    ensures { IsTrue result ↔ LeadsWell (sizes_of layout.now) (memory (sizes_of layout.now) words.now) nobody table index target }
+    ensures { IsTrue result ↔ LeadsWell (sizes_of layout.now) (memory (sizes_of layout.now) words.now) no_hands table index target }
 {
     leads_well(
         &kind_of(layout, words, table),
@@ -112,7 +112,7 @@ fn may_type(layout: &Layout, words: &[u64], table: u32, index: u16, target: u64)
     requires words { length words.now ≡ size (sizes_of layout.now) }
     requires readable { IsReadable layout.now (memory (sizes_of layout.now) words.now) }
     requires unheld { NoneBreaks layout.now (memory (sizes_of layout.now) words.now) 1 0 layout.now.frames }
-    ensures { IsTrue result ↔ MayType layout.now (memory (sizes_of layout.now) words.now) table index target }
+    ensures { IsTrue result ↔ MayLeadTyped layout.now (memory (sizes_of layout.now) words.now) table index target }
 {
     match in_machine(layout, target) {
         Some(target) => {
@@ -131,7 +131,7 @@ fn may_ask(layout: &Layout, words: &[u64], frame: u32, index: u16, asks: Demand)
     requires words { length words.now ≡ size (sizes_of layout.now) }
     requires readable { IsReadable layout.now (memory (sizes_of layout.now) words.now) }
     requires unheld { NoneBreaks layout.now (memory (sizes_of layout.now) words.now) 1 0 layout.now.frames }
-    ensures { IsTrue result ↔ MayAsk layout.now (memory (sizes_of layout.now) words.now) frame index asks }
+    ensures { IsTrue result ↔ MayBeAsked layout.now (memory (sizes_of layout.now) words.now) frame index asks }
 {
     match asks {
         Demand::Nothing => true,
@@ -153,8 +153,8 @@ fn is_fixed(word: u64) -> bool
 
 /// How many words of the frame are looked at: recorded entries of a table, and all words of a live descriptor page.
 #[tactic(auto, unfolding(xp_board::specs::Recorded::held_of))]
-fn looked_at(kind: &KindWord) -> u16
-    ensures { result ≡ looked_at kind.now }
+fn words_looked_at(kind: &KindWord) -> u16
+    ensures { result ≡ words_looked_at kind.now }
 {
     let is_page = matches!(kind.kind, PageType::Desc);
     if kind.validated && (kind.kind.is_table() || is_page) {
@@ -169,7 +169,7 @@ fn looked_at(kind: &KindWord) -> u16
 #[tactic(auto, using(crate::proofs::Leading::recorded_bad, crate::proofs::Leading::recorded_good, crate::proofs::Leading::page_bad, crate::proofs::Leading::page_good))]
 fn is_bad_entry(layout: &Layout, words: &[u64], frame: u32, index: u16) -> bool
     requires frame { frame < layout.now.frames }
-    requires index { index < looked_at (kind_at (memory (sizes_of layout.now) words.now) frame) }
+    requires index { index < words_looked_at (kind_at (memory (sizes_of layout.now) words.now) frame) }
     requires few { index < 512 }
     requires words { length words.now ≡ size (sizes_of layout.now) }
     requires readable { IsReadable layout.now (memory (sizes_of layout.now) words.now) }
@@ -188,12 +188,12 @@ fn is_bad_entry(layout: &Layout, words: &[u64], frame: u32, index: u16) -> bool
 #[tactic(auto, using(crate::proofs::Leading::entry_alone))]
 fn bad_entry(layout: &Layout, words: &[u64], frame: u32, index: u16) -> Option<Verdict>
     requires frame { frame < layout.now.frames }
-    requires index { index < looked_at (kind_at (memory (sizes_of layout.now) words.now) frame) }
+    requires index { index < words_looked_at (kind_at (memory (sizes_of layout.now) words.now) frame) }
     requires few { index < 512 }
     requires words { length words.now ≡ size (sizes_of layout.now) }
     requires readable { IsReadable layout.now (memory (sizes_of layout.now) words.now) }
     requires unheld { NoneBreaks layout.now (memory (sizes_of layout.now) words.now) 1 0 layout.now.frames }
-    ensures { FirstOf layout.now (memory (sizes_of layout.now) words.now) 4 (512 * frame + index) (512 * frame + index + 1) result }
+    ensures { FirstVerdict layout.now (memory (sizes_of layout.now) words.now) 4 (512 * frame + index) (512 * frame + index + 1) result }
 {
     if is_bad_entry(layout, words, frame, index) {
         Some(Verdict::BadEntry { frame, index })
@@ -208,9 +208,9 @@ fn first_of_frame(layout: &Layout, words: &[u64], frame: u32) -> Option<Verdict>
     requires words { length words.now ≡ size (sizes_of layout.now) }
     requires readable { IsReadable layout.now (memory (sizes_of layout.now) words.now) }
     requires unheld { NoneBreaks layout.now (memory (sizes_of layout.now) words.now) 1 0 layout.now.frames }
-    ensures { FirstOf layout.now (memory (sizes_of layout.now) words.now) 4 (512 * frame) (512 * frame + 512) result }
+    ensures { FirstVerdict layout.now (memory (sizes_of layout.now) words.now) 4 (512 * frame) (512 * frame + 512) result }
 {
-    let end = looked_at(&kind_of(layout, words, frame));
+    let end = words_looked_at(&kind_of(layout, words, frame));
     for index in 0..end {
         if let Some(verdict) = bad_entry(layout, words, frame, index) {
             return Some(verdict);
@@ -224,7 +224,7 @@ pub fn first_bad_entry(layout: &Layout, words: &[u64]) -> Option<Verdict>
     requires words { length words.now ≡ size (sizes_of layout.now) }
     requires readable { IsReadable layout.now (memory (sizes_of layout.now) words.now) }
     requires unheld { NoneBreaks layout.now (memory (sizes_of layout.now) words.now) 1 0 layout.now.frames }
-    ensures { FirstOf layout.now (memory (sizes_of layout.now) words.now) 4 0 (512 * layout.now.frames) result }
+    ensures { FirstVerdict layout.now (memory (sizes_of layout.now) words.now) 4 0 (512 * layout.now.frames) result }
 {
     for frame in 0..layout.frames {
         if let Some(verdict) = first_of_frame(layout, words, frame) {

@@ -3,7 +3,7 @@ ghost use Rattle.std.specs.Prelude.{◌≡◌, ◌<◌, ◌+◌, length, IsTrue,
 ghost use Rattle.xp_words.specs.Places.{sizes_of, size, memory};
 ghost use Rattle.reference_recount.specs.Recounted.{IsReadable};
 ghost use Rattle.walk_audit.specs.Breaks.{IsHeld};
-ghost use Rattle.walk_audit.specs.Order.{FirstOf};
+ghost use Rattle.walk_audit.specs.Order.{FirstVerdict};
 
 use crate::readers::{is_dying, kind_of};
 use crate::verdict::Verdict;
@@ -26,7 +26,7 @@ fn held_frame(layout: &Layout, words: &[u64], frame: u32) -> Option<Verdict>
     requires frame { frame < layout.now.frames }
     requires words { length words.now ≡ size (sizes_of layout.now) }
     requires readable { IsReadable layout.now (memory (sizes_of layout.now) words.now) }
-    ensures { FirstOf layout.now (memory (sizes_of layout.now) words.now) 1 frame (frame + 1) result }
+    ensures { FirstVerdict layout.now (memory (sizes_of layout.now) words.now) 1 frame (frame + 1) result }
 {
     if is_held(layout, words, frame) {
         Some(Verdict::Held { frame })
@@ -39,7 +39,7 @@ fn held_frame(layout: &Layout, words: &[u64], frame: u32) -> Option<Verdict>
 pub fn first_held(layout: &Layout, words: &[u64]) -> Option<Verdict>
     requires words { length words.now ≡ size (sizes_of layout.now) }
     requires readable { IsReadable layout.now (memory (sizes_of layout.now) words.now) }
-    ensures { FirstOf layout.now (memory (sizes_of layout.now) words.now) 1 0 layout.now.frames result }
+    ensures { FirstVerdict layout.now (memory (sizes_of layout.now) words.now) 1 0 layout.now.frames result }
 {
     for frame in 0..layout.frames {
         if let Some(verdict) = held_frame(layout, words, frame) {

@@ -3,7 +3,7 @@ ghost use Rattle.std.specs.Prelude.{◌≡◌, ◌≢◌, ◌<◌, ◌+◌, ◌*
 ghost use Rattle.xp_words.specs.Entries.{is_bit};
 ghost use Rattle.xp_words.specs.Places.{sizes_of, size, memory, map_words};
 ghost use Rattle.walk_audit.specs.Breaks.{IsWrongMap, is_free_frame};
-ghost use Rattle.walk_audit.specs.Order.{FirstOf};
+ghost use Rattle.walk_audit.specs.Order.{FirstVerdict};
 
 use crate::readers::{is_free, map_word};
 use crate::verdict::Verdict;
@@ -36,7 +36,7 @@ fn is_wrong_map(layout: &Layout, words: &[u64], word: u32) -> bool
 fn wrong_map(layout: &Layout, words: &[u64], word: u32) -> Option<Verdict>
     requires word { word < map_words (sizes_of layout.now) }
     requires words { length words.now ≡ size (sizes_of layout.now) }
-    ensures { FirstOf layout.now (memory (sizes_of layout.now) words.now) 8 word (word + 1) result }
+    ensures { FirstVerdict layout.now (memory (sizes_of layout.now) words.now) 8 word (word + 1) result }
 {
     if is_wrong_map(layout, words, word) {
         Some(Verdict::Map { word })
@@ -48,7 +48,7 @@ fn wrong_map(layout: &Layout, words: &[u64], word: u32) -> Option<Verdict>
 /// The first word of the map that is not the bits of the free frames.
 pub fn first_wrong_map(layout: &Layout, words: &[u64]) -> Option<Verdict>
     requires { length words.now ≡ size (sizes_of layout.now) }
-    ensures { FirstOf layout.now (memory (sizes_of layout.now) words.now) 8 0 (map_words (sizes_of layout.now)) result }
+    ensures { FirstVerdict layout.now (memory (sizes_of layout.now) words.now) 8 0 (map_words (sizes_of layout.now)) result }
 {
     for word in 0..layout.map_words() {
         if let Some(verdict) = wrong_map(layout, words, word) {

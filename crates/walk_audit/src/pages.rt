@@ -2,7 +2,7 @@
 ghost use Rattle.std.specs.Prelude.{◌≡◌, ◌<◌, ◌+◌, length};
 ghost use Rattle.xp_words.specs.Places.{sizes_of, size, memory};
 ghost use Rattle.walk_audit.specs.Breaks.{pages_owned};
-ghost use Rattle.walk_audit.specs.Order.{FirstOf};
+ghost use Rattle.walk_audit.specs.Order.{FirstVerdict};
 
 use crate::readers::{owner, pages_word};
 use crate::verdict::Verdict;
@@ -26,7 +26,7 @@ fn pages_owned(layout: &Layout, words: &[u64], domain: u16) -> u64
 fn wrong_pages(layout: &Layout, words: &[u64], domain: u16) -> Option<Verdict>
     requires domain { domain < length layout.now.page_limit }
     requires words { length words.now ≡ size (sizes_of layout.now) }
-    ensures { FirstOf layout.now (memory (sizes_of layout.now) words.now) 3 domain (domain + 1) result }
+    ensures { FirstVerdict layout.now (memory (sizes_of layout.now) words.now) 3 domain (domain + 1) result }
 {
     let want = pages_owned(layout, words, domain);
     let found = pages_word(layout, words, domain);
@@ -44,7 +44,7 @@ fn wrong_pages(layout: &Layout, words: &[u64], domain: u16) -> Option<Verdict>
 /// The first domain whose count of pages is not the number of its frames.
 pub fn first_wrong_pages(layout: &Layout, words: &[u64]) -> Option<Verdict>
     requires { length words.now ≡ size (sizes_of layout.now) }
-    ensures { FirstOf layout.now (memory (sizes_of layout.now) words.now) 3 0 (length layout.now.page_limit) result }
+    ensures { FirstVerdict layout.now (memory (sizes_of layout.now) words.now) 3 0 (length layout.now.page_limit) result }
 {
     for domain in 0..layout.domains() as u16 {
         if let Some(verdict) = wrong_pages(layout, words, domain) {

@@ -6,7 +6,7 @@ ghost use Rattle.xp_words.specs.Entries.{is_bit};
 ghost use Rattle.xp_words.specs.Places.{sizes_of, size, memory, number, is_place, first_vcpu, first_frame, first_map, first_priv};
 ghost use Rattle.xp_board.specs.Spelling.{IsSpelling, IsPriv, is_life, is_kind_in, is_ref_in, is_vcpu_word};
 ghost use Rattle.walk_audit.specs.Breaks.{is_map};
-ghost use Rattle.walk_audit.specs.Order.{FirstOf};
+ghost use Rattle.walk_audit.specs.Order.{FirstVerdict};
 
 use crate::readers::word_at;
 use crate::verdict::Verdict;
@@ -98,7 +98,7 @@ fn odd_word(layout: &Layout, words: &[u64], place: Place) -> Option<Verdict>
     requires place { IsTrue (is_place (sizes_of layout.now) place) }
     requires other { is_map place ≡ false }
     requires words { length words.now ≡ size (sizes_of layout.now) }
-    ensures { FirstOf layout.now (memory (sizes_of layout.now) words.now) 0 (number (sizes_of layout.now) place) (number (sizes_of layout.now) place + 1) result }
+    ensures { FirstVerdict layout.now (memory (sizes_of layout.now) words.now) 0 (number (sizes_of layout.now) place) (number (sizes_of layout.now) place + 1) result }
 {
     let found = word_at(layout, words, place);
     if is_spelling(layout, place, found) {
@@ -114,7 +114,7 @@ fn odd_word(layout: &Layout, words: &[u64], place: Place) -> Option<Verdict>
 fn odd_of_domain(layout: &Layout, words: &[u64], domain: u16) -> Option<Verdict>
     requires domain { domain < length layout.now.page_limit }
     requires words { length words.now ≡ size (sizes_of layout.now) }
-    ensures { FirstOf layout.now (memory (sizes_of layout.now) words.now) 0 (1 + 2 * domain) (3 + 2 * domain) result }
+    ensures { FirstVerdict layout.now (memory (sizes_of layout.now) words.now) 0 (1 + 2 * domain) (3 + 2 * domain) result }
 {
     if let Some(verdict) = odd_word(layout, words, Place::Pages { domain }) {
         return Some(verdict);
@@ -124,7 +124,7 @@ fn odd_of_domain(layout: &Layout, words: &[u64], domain: u16) -> Option<Verdict>
 
 fn odd_of_domains(layout: &Layout, words: &[u64]) -> Option<Verdict>
     requires { length words.now ≡ size (sizes_of layout.now) }
-    ensures { FirstOf layout.now (memory (sizes_of layout.now) words.now) 0 1 (first_vcpu (sizes_of layout.now)) result }
+    ensures { FirstVerdict layout.now (memory (sizes_of layout.now) words.now) 0 1 (first_vcpu (sizes_of layout.now)) result }
 {
     for domain in 0..layout.domains() as u16 {
         if let Some(verdict) = odd_of_domain(layout, words, domain) {
@@ -138,7 +138,7 @@ fn odd_of_domains(layout: &Layout, words: &[u64]) -> Option<Verdict>
 fn odd_of_vcpu(layout: &Layout, words: &[u64], vcpu: u32) -> Option<Verdict>
     requires vcpu { vcpu < length layout.now.vcpu_domain }
     requires words { length words.now ≡ size (sizes_of layout.now) }
-    ensures { FirstOf layout.now (memory (sizes_of layout.now) words.now) 0 (first_vcpu (sizes_of layout.now) + 38 * vcpu) (first_vcpu (sizes_of layout.now) + 38 * vcpu + 38) result }
+    ensures { FirstVerdict layout.now (memory (sizes_of layout.now) words.now) 0 (first_vcpu (sizes_of layout.now) + 38 * vcpu) (first_vcpu (sizes_of layout.now) + 38 * vcpu + 38) result }
 {
     for word in 0..38 {
         if let Some(verdict) = odd_word(layout, words, Place::Vcpu { vcpu, word }) {
@@ -150,7 +150,7 @@ fn odd_of_vcpu(layout: &Layout, words: &[u64], vcpu: u32) -> Option<Verdict>
 
 fn odd_of_vcpus(layout: &Layout, words: &[u64]) -> Option<Verdict>
     requires { length words.now ≡ size (sizes_of layout.now) }
-    ensures { FirstOf layout.now (memory (sizes_of layout.now) words.now) 0 (first_vcpu (sizes_of layout.now)) (first_frame (sizes_of layout.now)) result }
+    ensures { FirstVerdict layout.now (memory (sizes_of layout.now) words.now) 0 (first_vcpu (sizes_of layout.now)) (first_frame (sizes_of layout.now)) result }
 {
     for vcpu in 0..layout.vcpus() {
         if let Some(verdict) = odd_of_vcpu(layout, words, vcpu) {
@@ -164,7 +164,7 @@ fn odd_of_vcpus(layout: &Layout, words: &[u64]) -> Option<Verdict>
 fn odd_of_frame(layout: &Layout, words: &[u64], frame: u32) -> Option<Verdict>
     requires frame { frame < layout.now.frames }
     requires words { length words.now ≡ size (sizes_of layout.now) }
-    ensures { FirstOf layout.now (memory (sizes_of layout.now) words.now) 0 (first_frame (sizes_of layout.now) + 515 * frame) (first_frame (sizes_of layout.now) + 515 * frame + 515) result }
+    ensures { FirstVerdict layout.now (memory (sizes_of layout.now) words.now) 0 (first_frame (sizes_of layout.now) + 515 * frame) (first_frame (sizes_of layout.now) + 515 * frame + 515) result }
 {
     if let Some(verdict) = odd_word(layout, words, Place::Refs { frame }) {
         return Some(verdict);
@@ -174,7 +174,7 @@ fn odd_of_frame(layout: &Layout, words: &[u64], frame: u32) -> Option<Verdict>
 
 fn odd_of_frames(layout: &Layout, words: &[u64]) -> Option<Verdict>
     requires { length words.now ≡ size (sizes_of layout.now) }
-    ensures { FirstOf layout.now (memory (sizes_of layout.now) words.now) 0 (first_frame (sizes_of layout.now)) (first_map (sizes_of layout.now)) result }
+    ensures { FirstVerdict layout.now (memory (sizes_of layout.now) words.now) 0 (first_frame (sizes_of layout.now)) (first_map (sizes_of layout.now)) result }
 {
     for frame in 0..layout.frames {
         if let Some(verdict) = odd_of_frame(layout, words, frame) {
@@ -187,7 +187,7 @@ fn odd_of_frames(layout: &Layout, words: &[u64]) -> Option<Verdict>
 #[tactic(auto, unfolding(xp_words::specs::Places::is_place, xp_words::specs::Places::number, xp_words::specs::Places::size), using(std::proofs::lemmas::Bool::Decides::nat_tests))]
 fn odd_privileges(layout: &Layout, words: &[u64]) -> Option<Verdict>
     requires { length words.now ≡ size (sizes_of layout.now) }
-    ensures { FirstOf layout.now (memory (sizes_of layout.now) words.now) 0 (first_priv (sizes_of layout.now)) (size (sizes_of layout.now)) result }
+    ensures { FirstVerdict layout.now (memory (sizes_of layout.now) words.now) 0 (first_priv (sizes_of layout.now)) (size (sizes_of layout.now)) result }
 {
     for domain in 0..layout.domains() as u16 {
         if let Some(verdict) = odd_word(layout, words, Place::Priv { domain }) {
@@ -201,7 +201,7 @@ fn odd_privileges(layout: &Layout, words: &[u64]) -> Option<Verdict>
 /// The first word that may not stand where it stands. The map of free frames is not looked at here.
 pub fn first_odd_word(layout: &Layout, words: &[u64]) -> Option<Verdict>
     requires { length words.now ≡ size (sizes_of layout.now) }
-    ensures { FirstOf layout.now (memory (sizes_of layout.now) words.now) 0 0 (size (sizes_of layout.now)) result }
+    ensures { FirstVerdict layout.now (memory (sizes_of layout.now) words.now) 0 0 (size (sizes_of layout.now)) result }
 {
     odd_word(layout, words, Place::Clock)
         .or_else(|| odd_of_domains(layout, words))

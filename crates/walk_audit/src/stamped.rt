@@ -4,7 +4,7 @@ ghost use Rattle.xp_words.specs.declared.place.Place.TheVariants.{Clock, Vcpu, R
 ghost use Rattle.xp_words.specs.Places.{sizes_of, size, memory, number, is_place, first_vcpu, first_frame, first_map};
 ghost use Rattle.xp_board.specs.Readings.{free_stamp, kind_stamp, clock_value};
 ghost use Rattle.reference_recount.specs.Recounted.{IsReadable};
-ghost use Rattle.walk_audit.specs.Order.{FirstOf};
+ghost use Rattle.walk_audit.specs.Order.{FirstVerdict};
 
 use crate::readers::{free_stamp, kind_of, vcpu_word, word_at};
 use crate::verdict::Verdict;
@@ -29,7 +29,7 @@ fn late_vcpu(layout: &Layout, words: &[u64], clock: u64, vcpu: u32) -> Option<Ve
     requires vcpu { vcpu < length layout.now.vcpu_domain }
     requires words { length words.now ≡ size (sizes_of layout.now) }
     requires clock { clock ≡ memory (sizes_of layout.now) words.now Clock }
-    ensures { FirstOf layout.now (memory (sizes_of layout.now) words.now) 6 (first_vcpu (sizes_of layout.now) + 38 * vcpu) (first_vcpu (sizes_of layout.now) + 38 * vcpu + 38) result }
+    ensures { FirstVerdict layout.now (memory (sizes_of layout.now) words.now) 6 (first_vcpu (sizes_of layout.now) + 38 * vcpu) (first_vcpu (sizes_of layout.now) + 38 * vcpu + 38) result }
 {
     if clock < vcpu_word(layout, words, vcpu, FLUSHED) {
         Some(Verdict::Stamp {
@@ -43,7 +43,7 @@ fn late_vcpu(layout: &Layout, words: &[u64], clock: u64, vcpu: u32) -> Option<Ve
 fn late_vcpus(layout: &Layout, words: &[u64], clock: u64) -> Option<Verdict>
     requires words { length words.now ≡ size (sizes_of layout.now) }
     requires clock { clock ≡ memory (sizes_of layout.now) words.now Clock }
-    ensures { FirstOf layout.now (memory (sizes_of layout.now) words.now) 6 (first_vcpu (sizes_of layout.now)) (first_frame (sizes_of layout.now)) result }
+    ensures { FirstVerdict layout.now (memory (sizes_of layout.now) words.now) 6 (first_vcpu (sizes_of layout.now)) (first_frame (sizes_of layout.now)) result }
 {
     for vcpu in 0..layout.vcpus() {
         if let Some(verdict) = late_vcpu(layout, words, clock, vcpu) {
@@ -58,7 +58,7 @@ fn late_frame(layout: &Layout, words: &[u64], clock: u64, frame: u32) -> Option<
     requires words { length words.now ≡ size (sizes_of layout.now) }
     requires readable { IsReadable layout.now (memory (sizes_of layout.now) words.now) }
     requires clock { clock ≡ memory (sizes_of layout.now) words.now Clock }
-    ensures { FirstOf layout.now (memory (sizes_of layout.now) words.now) 6 (first_frame (sizes_of layout.now) + 515 * frame) (first_frame (sizes_of layout.now) + 515 * frame + 515) result }
+    ensures { FirstVerdict layout.now (memory (sizes_of layout.now) words.now) 6 (first_frame (sizes_of layout.now) + 515 * frame) (first_frame (sizes_of layout.now) + 515 * frame + 515) result }
 {
     if clock < free_stamp(layout, words, frame) {
         Some(Verdict::Stamp {
@@ -77,7 +77,7 @@ fn late_frames(layout: &Layout, words: &[u64], clock: u64) -> Option<Verdict>
     requires words { length words.now ≡ size (sizes_of layout.now) }
     requires readable { IsReadable layout.now (memory (sizes_of layout.now) words.now) }
     requires clock { clock ≡ memory (sizes_of layout.now) words.now Clock }
-    ensures { FirstOf layout.now (memory (sizes_of layout.now) words.now) 6 (first_frame (sizes_of layout.now)) (first_map (sizes_of layout.now)) result }
+    ensures { FirstVerdict layout.now (memory (sizes_of layout.now) words.now) 6 (first_frame (sizes_of layout.now)) (first_map (sizes_of layout.now)) result }
 {
     for frame in 0..layout.frames {
         if let Some(verdict) = late_frame(layout, words, clock, frame) {
@@ -92,7 +92,7 @@ fn late_frames(layout: &Layout, words: &[u64], clock: u64) -> Option<Verdict>
 pub fn first_late(layout: &Layout, words: &[u64]) -> Option<Verdict>
     requires words { length words.now ≡ size (sizes_of layout.now) }
     requires readable { IsReadable layout.now (memory (sizes_of layout.now) words.now) }
-    ensures { FirstOf layout.now (memory (sizes_of layout.now) words.now) 6 0 (size (sizes_of layout.now)) result }
+    ensures { FirstVerdict layout.now (memory (sizes_of layout.now) words.now) 6 0 (size (sizes_of layout.now)) result }
 {
     let clock = word_at(layout, words, Place::Clock);
     if let Some(verdict) = late_vcpus(layout, words, clock) {

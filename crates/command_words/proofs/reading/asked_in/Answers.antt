@@ -1,7 +1,7 @@
 use Rattle.std.proofs.Common.{rules, ◌≡◌, ◌∙◌, Some, None, option_map, sym, ap, ap₂}
 use Rattle.std.specs.Str.Parse.{ParsesUnsigned, ExplainsUnsignedError, HasUnsignedDigitsIfOk}
 use Rattle.clap.specs.Words.{found_of, subcommand_rows_of}
-use Rattle.command_words.specs.Words.{argument_of, asked_by}
+use Rattle.command_words.specs.Words.{argument_of, asked_as}
 use Rattle.command_words.proofs.Found.{command_found, is_read}
 use Rattle.command_words.proofs.reading.asked_in.Goals as goal
 
@@ -24,4 +24,4 @@ returns-in_ok-number-in-Some c name text number e spells =
     let read = is_read _ (λ bs r. ParsesUnsigned 32 10 bs r × ExplainsUnsignedError 10 bs r × HasUnsignedDigitsIfOk bs r) (subcommand_rows_of c.args.matches.now) (found_of c.in_ok-word.found.now) name c.in-Some.argument.now text number c.get_one.result at (search rules) e c.get_one.ensures.value (λ u x g. g.0) spells in
     let given : c.get_one.result ≡ Some c.in_ok-number-in-Some.number = search rules in
     let number_is : c.in_ok-number-in-Some.number ≡ number = cc in
-    ap Some (c.asked.ensures ∙ ap₂ asked_by same number_is)
+    ap Some (c.asked.ensures ∙ ap₂ asked_as same number_is)

@@ -1,25 +1,25 @@
 use Rattle.std.proofs.Common.{rules, ap, ap₂, ◌≡◌, ◌∙◌}
 use Rattle.std.proofs.lemmas.Result.{IfOk-weaker}
 use Rattle.clap.specs.Words.{App, app_of, with_subcommand}
-use Rattle.command_words.specs.Words.{word_of}
+use Rattle.command_words.specs.Words.{command_word}
 use Rattle.command_words.specs.Table.{generator, paced, program, reader}
 use Rattle.command_words.specs.declared.asked.CommandName.TheVariants as names
 use Rattle.command_words.proofs.reading.commands.Goals as goal
 
 abbrev one : App
-one = with_subcommand program (paced (word_of names.Turns)).top
+one = with_subcommand program (paced (command_word names.Turns)).top
 
 abbrev two : App
-two = with_subcommand one (paced (word_of names.Replay)).top
+two = with_subcommand one (paced (command_word names.Replay)).top
 
 abbrev three : App
-three = with_subcommand two (paced (word_of names.Image)).top
+three = with_subcommand two (paced (command_word names.Image)).top
 
 abbrev four : App
 four = with_subcommand three generator.top
 
 abbrev five : App
-five = with_subcommand four (reader (word_of names.Audit)).top
+five = with_subcommand four (reader (command_word names.Audit)).top
 
 pub returns : goal.returns
 returns c =

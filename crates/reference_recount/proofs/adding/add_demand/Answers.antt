@@ -15,5 +15,5 @@ returns-in-Read c = asks_read c.args.kinds.now c.args.tallies.now.items _ c.in-R
 
 pub returns-in-Typed : goal.returns-in-Typed
 returns-in-Typed c =
-    asks_typed c.args.kinds.now c.args.tallies.now.items _ c.in-Typed.frame c.in-Typed.kind c.is_other-other.result c.args.demand c.in-Typed.is
-    (λ l. c.is_other-other.ensures (let e = c.requires.frames in omega arith)) c.add-in-Typed.ensures
+    asks_typed c.args.kinds.now c.args.tallies.now.items _ c.in-Typed.frame c.in-Typed.kind c.is_other_type-other.result c.args.demand c.in-Typed.is
+    (λ l. c.is_other_type-other.ensures (let e = c.requires.frames in omega arith)) c.add-in-Typed.ensures
