@@ -66,7 +66,6 @@ fn run_end(picture: &Picture<'_>, cluster: u32, first: u32) -> u32
     requires in_run { in_run picture.now cluster first ≡ true }
     ensures end { result ≡ run_end (in_run picture.now cluster) first picture.now.memory.machine.frames }
     ensures some { first < result }
-    ensures bound { result ≤ picture.now.memory.machine.frames }
 {
     let frames = picture.frames();
     let mut end = first + 1;

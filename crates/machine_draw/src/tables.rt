@@ -62,7 +62,6 @@ fn run_end(image: &Image<'_>, table: Table, frame: u64, writable: bool, first: u
     requires leads { leads image.now table frame writable first ≡ true }
     ensures end { result ≡ run_end (leads image.now table frame writable) first table.recorded }
     ensures some { first < result }
-    ensures bound { result ≤ table.recorded }
 {
     let mut end = first + 1;
     while end < table.recorded && leads(image, table, frame, writable, end) {

@@ -5,7 +5,6 @@ use Rattle.machine_draw.proofs.frames.run_end.Goals as goal
 pub loop-end-init : goal.loop-end-init
 loop-end-init c = record {
   some = omega arith;
-  within = omega arith;
   same = sym (run_more _ _ _ c.requires.first c.requires.in_run);
 }
 
@@ -14,7 +13,6 @@ loop-end-preserved c =
     let low : c.loop-end.end < c.args.picture.now.memory.machine.frames = omega arith in
     record {
       some = omega arith;
-      within = omega arith;
       same = sym (run_more _ _ _ low (sym c.in_run.ensures ∙ c.if-in_run.true)) ∙ c.loop-end.invariant.same;
     }
 

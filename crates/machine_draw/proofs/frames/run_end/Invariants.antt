@@ -1,4 +1,4 @@
-use Rattle.std.proofs.Common.{◌≡◌, ◌-◌, ◌<◌, ◌≤◌}
+use Rattle.std.proofs.Common.{◌≡◌, ◌-◌, ◌<◌}
 use Rattle.machine_draw.specs.Runs.{run_end}
 use Rattle.machine_draw.specs.Frames.{in_run}
 use Rattle.machine_draw.proofs.frames.run_end.Given as goal
@@ -6,7 +6,6 @@ use Rattle.machine_draw.proofs.frames.run_end.Given as goal
 abbrev pub invariant-loop-end : goal.invariant-loop-end
 invariant-loop-end l = record {
   some : l.first < l.end;
-  within : l.end ≤ l.picture.memory.machine.frames;
   same : run_end (in_run l.picture l.cluster) l.end l.picture.memory.machine.frames ≡ run_end (in_run l.picture l.cluster) l.first l.picture.memory.machine.frames;
 }
 

@@ -5,14 +5,12 @@ use Rattle.machine_draw.proofs.tables.run_end.Goals as goal
 pub loop-end-init : goal.loop-end-init
 loop-end-init c = record {
   some = omega arith;
-  within = omega arith;
   same = sym (run_more _ _ _ c.requires.first c.requires.leads);
 }
 
 pub loop-end-preserved : goal.loop-end-preserved
 loop-end-preserved c = record {
   some = omega arith;
-  within = omega arith;
   same = sym (run_more _ _ _ c.loop-end-test.true (sym c.leads.ensures ∙ c.if-leads.true)) ∙ c.loop-end.invariant.same;
 }
 

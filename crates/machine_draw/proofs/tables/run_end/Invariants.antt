@@ -1,4 +1,4 @@
-use Rattle.std.proofs.Common.{◌≡◌, ◌-◌, ◌<◌, ◌≤◌}
+use Rattle.std.proofs.Common.{◌≡◌, ◌-◌, ◌<◌}
 use Rattle.machine_draw.specs.Runs.{run_end}
 use Rattle.machine_draw.specs.Tables.{leads}
 use Rattle.machine_draw.proofs.tables.run_end.Given as goal
@@ -6,7 +6,6 @@ use Rattle.machine_draw.proofs.tables.run_end.Given as goal
 abbrev pub invariant-loop-end : goal.invariant-loop-end
 invariant-loop-end l = record {
   some : l.first < l.end;
-  within : l.end ≤ l.table.recorded;
   same : run_end (leads l.image l.table l.frame l.writable) l.end l.table.recorded ≡ run_end (leads l.image l.table l.frame l.writable) l.first l.table.recorded;
 }
 
