@@ -4,7 +4,7 @@ use Rattle.xp_words.specs.declared.place.Place.TheVariants.{Cell}
 use Rattle.xp_words.specs.Entries.{is_bit}
 use Rattle.report_text.specs.Memories.{Memory, word}
 use Rattle.machine_draw.specs.declared.tables.Table.{Table}
-use Rattle.machine_draw.specs.Frames.{cluster_of, is_own, in_run}
+use Rattle.machine_draw.specs.Frames.{cluster_of, is_drawn_alone, is_in_run}
 use Rattle.machine_draw.specs.Pictures.{Picture}
 use Rattle.machine_draw.specs.Tables.{is_right, leads}
 use Rattle.machine_draw.specs.Targets.{entry_target}
@@ -18,7 +18,7 @@ unfolding leads
 leads_itself m t f b i w here named right =
     rw (← here, named, eq-eqb f f refl) (right_itself b w right)
 
-pub in_run_itself : (p : Picture) (c f k : ℕ) (own : Bool) → k ≡ cluster_of p f → k ≡ c → own ≡ is_own p f → own ≡ false → in_run p c f ≡ true
-unfolding in_run
+pub in_run_itself : (p : Picture) (c f k : ℕ) (own : Bool) → k ≡ cluster_of p f → k ≡ c → own ≡ is_drawn_alone p f → own ≡ false → is_in_run p c f ≡ true
+unfolding is_in_run
 in_run_itself p c f k own here same alone failing =
     rw (← here, eq-eqb k c same, ← alone, failing) refl

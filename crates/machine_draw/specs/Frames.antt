@@ -45,13 +45,13 @@ unfoldable pub is_plain : ℕ → ℕ → ℕ → Bool
 is_plain domains refs kind = is_plain_holder domains (ref_read refs) && is_plain_form (kind_read kind)
 
 -- whether a frame is drawn by itself: something names it, the verdict does, or it is not plain
-unfoldable pub is_own : Picture → ℕ → Bool
-is_own p f =
+unfoldable pub is_drawn_alone : Picture → ℕ → Bool
+is_drawn_alone p f =
     slice_index_or p.named f false || blames_frame p.verdict f || not (is_plain (domains_of p) (word p.memory (Refs f)) (word p.memory (Kind f)))
 
 -- whether it is drawn in a run of that cluster
-unfoldable pub in_run : Picture → ℕ → ℕ → Bool
-in_run p c f = (cluster_of p f == c) && not (is_own p f)
+unfoldable pub is_in_run : Picture → ℕ → ℕ → Bool
+is_in_run p c f = (cluster_of p f == c) && not (is_drawn_alone p f)
 
 abbrev pub red_text : Bool → List ℕ
 red_text red = if red then codes ",color=red" else []
@@ -73,8 +73,8 @@ abbrev pub run_title : Bool → List ℕ
 run_title free = if free then codes "free" else codes "frames"
 
 -- a run of frames
-unfoldable pub run_text : ℕ → ℕ → Bool → List ℕ
-run_text first last free =
+unfoldable pub frames_text : ℕ → ℕ → Bool → List ℕ
+frames_text first last free =
     codes "frames" ++ (decimal first ++ (codes "to" ++ (decimal last ++ (codes " [label=\"" ++ (run_title free ++ (codes " " ++ (range_text first last ++ codes "\"];\n")))))))
 
 abbrev pub own_node : Picture → ℕ → List ℕ
@@ -83,12 +83,12 @@ own_node p f = node_text f (word p.memory (Refs f)) (word p.memory (Kind f)) (bl
 -- the run that begins at frame f
 unfoldable pub run_node : Picture → ℕ → ℕ → List ℕ
 run_node p c f =
-    if is_first (in_run p c) f then run_text f (run_end (in_run p c) f p.memory.machine.frames - 1) (c == domains_of p) else []
+    if is_first (is_in_run p c) f then frames_text f (run_end (is_in_run p c) f p.memory.machine.frames - 1) (c == domains_of p) else []
 
 -- what is drawn at frame f of that cluster
 unfoldable pub frame_part : Picture → ℕ → ℕ → List ℕ
 frame_part p c f =
-    if cluster_of p f == c then (if is_own p f then own_node p f else run_node p c f) else []
+    if cluster_of p f == c then (if is_drawn_alone p f then own_node p f else run_node p c f) else []
 
 -- the first frames of that cluster
 unfoldable pub frame_parts : Picture → ℕ → ℕ → List ℕ

@@ -5,7 +5,7 @@ use Rattle.xp_words.specs.declared.kind.KindWord.{KindWord}
 use Rattle.xp_words.specs.declared.place.Place.TheVariants.{Cell, Kind, Vcpu}
 use Rattle.xp_words.specs.KindWords.{kind_read}
 use Rattle.report_text.specs.Memories.{Memory, word}
-use Rattle.machine_draw.specs.Targets.{recorded_in, entry_target, context_target, is_frame}
+use Rattle.machine_draw.specs.Targets.{recorded_entries, entry_target, context_target, is_frame}
 
 -- whether one of the first n entries of a table names the frame
 unfoldable pub entries_name : Memory → ℕ → KindWord → ℕ → ℕ → Bool
@@ -13,7 +13,7 @@ entries_name m t k n f = list_any (λ i. is_frame f (entry_target k.kind i (word
 
 abbrev pub table_names_by : Memory → ℕ → ℕ → Option KindWord → Bool
 table_names_by m t f None = false
-table_names_by m t f (Some k) = entries_name m t k (recorded_in k) f
+table_names_by m t f (Some k) = entries_name m t k (recorded_entries k) f
 
 -- whether a recorded entry of that frame names this one
 unfoldable pub table_names : Memory → ℕ → ℕ → Bool
@@ -31,9 +31,9 @@ words_name m v n f = list_any (λ k. is_frame f (context_target k (word m (Vcpu 
 unfoldable pub vcpus_name : Memory → ℕ → ℕ → Bool
 vcpus_name m n f = list_any (λ v. words_name m v 38 f) (range_with_len 0 n)
 
-abbrev pub is_named : Memory → ℕ → Bool
-is_named m f = tables_name m m.machine.frames f || vcpus_name m (length m.machine.vcpu_domain) f
+abbrev pub is_named_frame : Memory → ℕ → Bool
+is_named_frame m f = tables_name m m.machine.frames f || vcpus_name m (length m.machine.vcpu_domain) f
 
 -- of each frame, whether anything names it
 abbrev pub named_frames : Memory → List Bool
-named_frames m = map (is_named m) (range_with_len 0 m.machine.frames)
+named_frames m = map (is_named_frame m) (range_with_len 0 m.machine.frames)

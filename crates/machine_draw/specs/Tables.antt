@@ -10,7 +10,7 @@ use Rattle.report_text.specs.Memories.{Memory, word}
 use Rattle.machine_draw.specs.declared.tables.Run.{Run}
 use Rattle.machine_draw.specs.declared.tables.Table.{Table}
 use Rattle.machine_draw.specs.Runs.{is_first, run_end, range_text}
-use Rattle.machine_draw.specs.Targets.{recorded_in, entry_target, is_frame}
+use Rattle.machine_draw.specs.Targets.{recorded_entries, entry_target, is_frame}
 
 -- whether the entry may be written through, where that is asked for, or may not
 abbrev pub is_right : Bool → ℕ → Bool
@@ -80,7 +80,7 @@ edges_of m t = target_edges t.frame (entry_runs m t t.recorded) (length (entry_r
 
 abbrev pub table_edges_by : Memory → ℕ → Option KindWord → List ℕ
 table_edges_by m f None = []
-table_edges_by m f (Some k) = edges_of m (record { frame = f; kind = k.kind; recorded = recorded_in k })
+table_edges_by m f (Some k) = edges_of m (record { frame = f; kind = k.kind; recorded = recorded_entries k })
 
 -- the edges of a frame's recorded entries
 unfoldable pub table_edges : Memory → ℕ → List ℕ

@@ -10,8 +10,8 @@ use Rattle.xp_words.specs.Entries.{demand_at}
 use Rattle.xp_words.specs.PageTypes.{is_table}
 
 -- how many leading entries of a frame are recorded: all of a live table, as many as its progress of a partial one
-abbrev pub recorded_in : KindWord → ℕ
-recorded_in k = if not (is_table k.kind) then 0 else if k.validated then 512 else if k.partial then k.progress else 0
+abbrev pub recorded_entries : KindWord → ℕ
+recorded_entries k = if not (is_table k.kind) then 0 else if k.validated then 512 else if k.partial then k.progress else 0
 
 abbrev pub asked_frame : Demand → Option ℕ
 asked_frame Nothing = None

@@ -1,5 +1,5 @@
 ghost use Rattle.std.specs.Prelude.{◌≡◌, ◌<◌, ◌≤◌, ◌==◌, ◌++◌, true, Some, OnOk, string_bytes};
-ghost use Rattle.machine_draw.specs.Frames.{domains_of, in_run, is_own, red_text, slots_text, node_text, run_title, run_text, run_node, frame_part, frame_parts};
+ghost use Rattle.machine_draw.specs.Frames.{domains_of, is_in_run, is_drawn_alone, red_text, slots_text, node_text, run_title, frames_text, run_node, frame_part, frame_parts};
 ghost use Rattle.machine_draw.specs.Runs.{run_end};
 
 use crate::picture::Picture;
@@ -50,9 +50,9 @@ fn run_title(free: bool) -> &'static str
     if free { "free" } else { "frames" }
 }
 
-#[tactic(auto, unfolding(crate::specs::Frames::run_text))]
+#[tactic(auto, unfolding(crate::specs::Frames::frames_text))]
 fn put_range(out: &mut String, range: RangeText, free: bool) -> Result<(), AllocError>
-    ensures { OnOk result (string_bytes out.new ≡ string_bytes out.old ++ run_text range.first range.last free) }
+    ensures { OnOk result (string_bytes out.new ≡ string_bytes out.old ++ frames_text range.first range.last free) }
 {
     let first = range.first;
     let last = range.last;
@@ -63,13 +63,13 @@ fn put_range(out: &mut String, range: RangeText, free: bool) -> Result<(), Alloc
 // The frame behind the run that begins at `first`.
 fn run_end(picture: &Picture<'_>, cluster: u32, first: u32) -> u32
     requires first { first < picture.now.memory.machine.frames }
-    requires in_run { in_run picture.now cluster first ≡ true }
-    ensures end { result ≡ run_end (in_run picture.now cluster) first picture.now.memory.machine.frames }
+    requires is_in_run { is_in_run picture.now cluster first ≡ true }
+    ensures end { result ≡ run_end (is_in_run picture.now cluster) first picture.now.memory.machine.frames }
     ensures some { first < result }
 {
     let frames = picture.frames();
     let mut end = first + 1;
-    while end < frames && picture.in_run(cluster, end) {
+    while end < frames && picture.is_in_run(cluster, end) {
         end += 1;
     }
     end
@@ -84,10 +84,10 @@ fn put_run(
     frame: u32,
 ) -> Result<(), AllocError>
     requires frame { frame < picture.now.memory.machine.frames }
-    requires in_run { in_run picture.now cluster frame ≡ true }
+    requires is_in_run { is_in_run picture.now cluster frame ≡ true }
     ensures { OnOk result (string_bytes out.new ≡ string_bytes out.old ++ run_node picture.now cluster frame) }
 {
-    if frame > 0 && picture.in_run(cluster, frame - 1) {
+    if frame > 0 && picture.is_in_run(cluster, frame - 1) {
         return Ok(());
     }
     let range = RangeText {
@@ -111,7 +111,7 @@ fn put_frame(
     if picture.cluster_of(frame) != cluster {
         return Ok(());
     }
-    if !picture.is_own(frame) {
+    if !picture.is_drawn_alone(frame) {
         return put_run(out, picture, cluster, frame);
     }
     let image = picture.image();

@@ -1,9 +1,9 @@
 ghost use Rattle.std.specs.Prelude.{◌≡◌, ◌<◌, ◌≤◌, ◌||◌, ℕ, false, length, slice_index_or, IfOk};
-ghost use Rattle.machine_draw.specs.Named.{entries_name, table_names, tables_name, words_name, vcpus_name, is_named, named_frames};
+ghost use Rattle.machine_draw.specs.Named.{entries_name, table_names, tables_name, words_name, vcpus_name, is_named_frame, named_frames};
 ghost use Rattle.machine_draw.specs.Targets.{is_frame};
 
 use crate::image::Image;
-use crate::targets::{context_target, entry_target, recorded_in};
+use crate::targets::{context_target, entry_target, recorded_entries};
 use std::alloc::{AllocError, Global};
 use xp_words::KindWord;
 
@@ -36,7 +36,7 @@ fn mark_table(image: &Image<'_>, table: u32, named: &mut [bool])
     ensures { (f : ℕ) → f < length named.old → slice_index_or named.new f false ≡ (slice_index_or named.old f false || table_names image.now table f) }
 {
     if let Some(kind) = KindWord::read(image.kind(table)) {
-        mark_entries(image, table, &kind, recorded_in(&kind), named);
+        mark_entries(image, table, &kind, recorded_entries(&kind), named);
     }
 }
 
@@ -73,7 +73,7 @@ fn mark_vcpus(image: &Image<'_>, vcpus: u32, named: &mut [bool])
 
 // Marks what anything names.
 fn mark_all(image: &Image<'_>, named: &mut [bool])
-    ensures { (f : ℕ) → f < length named.old → slice_index_or named.new f false ≡ (slice_index_or named.old f false || is_named image.now f) }
+    ensures { (f : ℕ) → f < length named.old → slice_index_or named.new f false ≡ (slice_index_or named.old f false || is_named_frame image.now f) }
 {
     let layout = image.layout();
     mark_tables(image, layout.frames, named);

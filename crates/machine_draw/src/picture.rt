@@ -1,7 +1,7 @@
 ghost use Rattle.std.specs.Prelude.{◌≡◌, ◌<◌, ◌≤◌, ◌&&◌, ◌==◌, not, length};
 ghost use Rattle.xp_words.specs.declared.place.Place.TheVariants.{Refs, Kind};
 ghost use Rattle.report_text.specs.Memories.{word};
-ghost use Rattle.machine_draw.specs.Frames.{cluster_of, cluster_of_word, is_own, is_plain, in_run, domains_of};
+ghost use Rattle.machine_draw.specs.Frames.{cluster_of, cluster_of_word, is_drawn_alone, is_plain, is_in_run, domains_of};
 ghost use Rattle.machine_draw.specs.Pictures.{blames_frame, blames_domain, blames_vcpu};
 
 use crate::image::Image;
@@ -159,10 +159,10 @@ impl<'a> Picture<'a> {
     }
 
     /// Whether a frame is drawn by itself.
-    #[tactic(auto, unfolding(crate::specs::Frames::is_own))]
-    pub fn is_own(&self, frame: u32) -> bool
+    #[tactic(auto, unfolding(crate::specs::Frames::is_drawn_alone))]
+    pub fn is_drawn_alone(&self, frame: u32) -> bool
         requires { frame < self.now.memory.machine.frames }
-        ensures { result ≡ is_own self.now frame }
+        ensures { result ≡ is_drawn_alone self.now frame }
     {
         let image = self.image;
         let layout = image.layout();
@@ -172,11 +172,11 @@ impl<'a> Picture<'a> {
     }
 
     /// Whether a frame is drawn in a run of that cluster.
-    #[tactic(auto, unfolding(crate::specs::Frames::in_run))]
-    pub fn in_run(&self, cluster: u32, frame: u32) -> bool
+    #[tactic(auto, unfolding(crate::specs::Frames::is_in_run))]
+    pub fn is_in_run(&self, cluster: u32, frame: u32) -> bool
         requires { frame < self.now.memory.machine.frames }
-        ensures { result ≡ in_run self.now cluster frame }
+        ensures { result ≡ is_in_run self.now cluster frame }
     {
-        self.cluster_of(frame) == cluster && !self.is_own(frame)
+        self.cluster_of(frame) == cluster && !self.is_drawn_alone(frame)
     }
 }

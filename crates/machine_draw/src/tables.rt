@@ -5,7 +5,7 @@ ghost use Rattle.machine_draw.specs.Tables.{leads, right_text, run_from, run_at,
 
 use crate::image::Image;
 use crate::runs::RangeText;
-use crate::targets::{entry_target, is_frame, recorded_in};
+use crate::targets::{entry_target, is_frame, recorded_entries};
 use std::alloc::{AllocError, Global};
 use std::fmt;
 use xp_words::{Entry, KindWord, PageType};
@@ -214,7 +214,7 @@ fn put_table(
 {
     match KindWord::read(image.kind(frame)) {
         Some(kind) => {
-            let recorded = recorded_in(&kind);
+            let recorded = recorded_entries(&kind);
             let table = Table {
                 frame,
                 kind: kind.kind,

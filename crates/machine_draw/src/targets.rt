@@ -1,12 +1,12 @@
 ghost use Rattle.std.specs.Prelude.{◌≡◌, ◌≤◌};
-ghost use Rattle.machine_draw.specs.Targets.{recorded_in, entry_target, context_target, is_frame};
+ghost use Rattle.machine_draw.specs.Targets.{recorded_entries, entry_target, context_target, is_frame};
 
 use pte_check::demand;
 use xp_words::{ContextWord, Demand, KindWord, PageType};
 
 /// How many leading entries of a frame are recorded, at most 512: all of a live table, as many as its progress of a partial one.
-pub fn recorded_in(kind: &KindWord) -> u16
-    ensures { result ≡ recorded_in kind.now }
+pub fn recorded_entries(kind: &KindWord) -> u16
+    ensures { result ≡ recorded_entries kind.now }
 {
     if !kind.kind.is_table() {
         0

@@ -5,7 +5,7 @@ use Rattle.machine_draw.proofs.frames.run_end.Goals as goal
 pub loop-end-init : goal.loop-end-init
 loop-end-init c = record {
   some = omega arith;
-  same = sym (run_more _ _ _ c.requires.first c.requires.in_run);
+  same = sym (run_more _ _ _ c.requires.first c.requires.is_in_run);
 }
 
 pub loop-end-preserved : goal.loop-end-preserved
@@ -13,11 +13,11 @@ loop-end-preserved c =
     let low : c.loop-end.end < c.args.picture.now.memory.machine.frames = omega arith in
     record {
       some = omega arith;
-      same = sym (run_more _ _ _ low (sym c.in_run.ensures ∙ c.if-in_run.true)) ∙ c.loop-end.invariant.same;
+      same = sym (run_more _ _ _ low (sym c.is_in_run.ensures ∙ c.if-is_in_run.true)) ∙ c.loop-end.invariant.same;
     }
 
-pub returns-else-in_run-clause-end : goal.returns-else-in_run-clause-end
-returns-else-in_run-clause-end c = sym (run_stop _ _ _ (sym c.in_run.ensures ∙ c.if-in_run.false)) ∙ c.loop-end.invariant.same
+pub returns-else-is_in_run-clause-end : goal.returns-else-is_in_run-clause-end
+returns-else-is_in_run-clause-end c = sym (run_stop _ _ _ (sym c.is_in_run.ensures ∙ c.if-is_in_run.false)) ∙ c.loop-end.invariant.same
 
 pub returns-after-loop-end-clause-end : goal.returns-after-loop-end-clause-end
 returns-after-loop-end-clause-end c =

@@ -5,11 +5,11 @@ use Rattle.machine_draw.proofs.Recorded.{few_recorded}
 use Rattle.machine_draw.proofs.named.mark_table.Goals as goal
 
 pub mark_entries-requires-clause-count : goal.mark_entries-requires-clause-count
-mark_entries-requires-clause-count c = rw c.recorded_in.ensures (few_recorded _ _ (sym c.in-Some.ensures))
+mark_entries-requires-clause-count c = rw c.recorded_entries.ensures (few_recorded _ _ (sym c.in-Some.ensures))
 
 pub returns-in-Some : goal.returns-in-Some
 unfolding table_names
-returns-in-Some c = λ f low. rw (← c.kind.ensures, ← c.in-Some.ensures, ← c.recorded_in.ensures) (c.mark_entries.ensures f low)
+returns-in-Some c = λ f low. rw (← c.kind.ensures, ← c.in-Some.ensures, ← c.recorded_entries.ensures) (c.mark_entries.ensures f low)
 
 pub returns-in_default : goal.returns-in_default
 unfolding table_names
