@@ -130,7 +130,7 @@ pub(crate) fn show_what_is_read<S: Source, K: Sink>(
     source: &mut S,
     sink: &mut K,
 ) -> Status
-    ensures outcome { Outcome IsImageDue showing (S.left source.old) (S.left source.new) (K.taken sink.old) (K.taken sink.new) result }
+    ensures outcome { Outcome (IsImageDue showing) (S.left source.old) (S.left source.new) (K.taken sink.old) (K.taken sink.new) result }
     ensures words { result ≢ Status.BadWords }
     ensures read { result ≡ Status.ReadFault → Rose (S.faults source.old) (S.faults source.new) }
     ensures write { result ≡ Status.WriteFault → Rose (K.faults sink.old) (K.faults sink.new) }
