@@ -39,8 +39,6 @@ use Rattle.desc_pages.specs.Pages.{GetsDesc, GotDesc, IsDescAside, IsDescStop, I
 use Rattle.flush_waits.proofs.Growing.{some_weaker as some_more}
 
 -- ---- a page that is known live stays so
-]
-
 module _ (v u : PortValue) (f : ℕ) (came : Came v u) where
   tells_more : (z : Sizes) (kind : Option PageType) (live : Liveness) → IsTrue (tells_live z v.holdings.steps f Desc kind live) → IsTrue (tells_live z u.holdings.steps f Desc kind live)
   tells_more z kind lives.Found is = is

@@ -61,8 +61,6 @@ word_if : (b : Bool) (x y : Work) → x.word ≡ y.word → (if b then y else x)
 word_if true x y is = refl
 word_if false x y is = is
 
-]
-
 word_kept : (i x : ℕ) (e : Work) → ((learned_work i x e).frame ≡ e.frame) × ((learned_work i x e).recorded ≡ e.recorded) × ((learned_work i x e).since ≡ e.since)
 word_kept i x e = elim (kind_fields e.word).unflushed as (λ b. ((if b then e else record e { seen = Some (record { index = i; word = x }); unsettled = learned_last i e.recorded x e.unsettled; fixed = if counts_fixed i x e then e.fixed + 1 else e.fixed }).frame ≡ e.frame)
     × ((if b then e else record e { seen = Some (record { index = i; word = x }); unsettled = learned_last i e.recorded x e.unsettled; fixed = if counts_fixed i x e then e.fixed + 1 else e.fixed }).recorded ≡ e.recorded)
