@@ -26,9 +26,6 @@ refused_by entries fs bad = ap (λ b. if b then Some refusals.BadRange else None
 pub right_by : (entries : ℕ) (fs : List ℕ) → is_bad_gdt entries (length fs) ≡ false → gdt_refusal entries fs ≡ None
 right_by entries fs good = ap (λ b. if b then Some refusals.BadRange else None) good
 
-pub few_pages : (entries n : ℕ) → is_bad_gdt entries n ≡ false → n ≤ 14
-few_pages entries n good = grind (arith, nat_tests)
-
 pub bad_stops : (v : PortValue) (d entries : ℕ) (fs : List ℕ) → gdt_refusal entries fs ≡ Some refusals.BadRange → Stops v v (of_gdt d entries fs) (Refused refusals.BadRange)
 unfolding Stops
 bad_stops v d entries fs is = inl is

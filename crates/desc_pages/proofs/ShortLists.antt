@@ -1,6 +1,7 @@
 -- A GDT is set by few steps: those of 14 descriptor pages, and some more.
 use Rattle.std.proofs.Common.{◌≡◌, ℕ, zero, suc, ◌+◌, ◌*◌, ◌≤◌, ◌==◌, if◌then◌else◌, Bool, true, false, List, length, get_or, Option, Some, None, Result, Ok, Err, refl, ap, ◌∙◌, arith}
 use Rattle.std.proofs.Math.Nat.{mul-le-mul_right}
+use Rattle.std.proofs.lemmas.Bool.Decides.{nat_tests}
 use Rattle.xp_words.specs.KindWords.{kind_fields}
 use Rattle.xp_words.specs.declared.kind.PageType.{PageType}
 use Rattle.xp_words.specs.declared.kind.PageType.TheVariants.{Desc}
@@ -19,7 +20,6 @@ use Rattle.desc_pages.specs.Ldt as ldt
 use Rattle.desc_pages.specs.Names.{GaveOld, NamesPage}
 use Rattle.desc_pages.proofs.Counting.{IsAtMost, does_most, only_most, put_most, then_most, where_most}
 use Rattle.desc_pages.proofs.Short.{dies_most, got_came, got_short, moved_once, vcpus}
-use Rattle.desc_pages.proofs.Setting.{few_pages as few_by}
 
 -- ---- a page given back
 drops_most : (f : ℕ) (want : PageType) → IsAtMost (DropsBy f want) 8
@@ -76,8 +76,11 @@ good_by : (b : Bool) → (if b then Some refusals.BadRange else None) ≡ None �
 good_by true is = absurd cc
 good_by false is = refl
 
+pub few_pages : (entries n : ℕ) → is_bad_gdt entries n ≡ false → n ≤ 14
+few_pages entries n good = grind (arith, nat_tests)
+
 few_right : (entries : ℕ) (fs : List ℕ) → gdt_refusal entries fs ≡ None → length fs ≤ 14
-few_right entries fs right = few_by entries (length fs) (good_by (is_bad_gdt entries (length fs)) right)
+few_right entries fs right = few_pages entries (length fs) (good_by (is_bad_gdt entries (length fs)) right)
 
 pub sets_short : (v w : PortValue) (entries : ℕ) (fs : List ℕ) (answer : Result (Unit {0}) Stop) → SetsGdt v entries fs w answer → IsShortGdt v w
 sets_short v _ entries fs _ (gdt.barred x is) = omega arith

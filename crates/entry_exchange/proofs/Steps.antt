@@ -46,9 +46,9 @@ abbrev vcpus : PortValue → ℕ
 vcpus v = length v.post.machine.vcpu_domain
 
 -- w is the same port as v, with no more than k steps more in its list
-record Adds (v w : PortValue) (k : ℕ) : Type 0 where
-  post : w.post ≡ v.post
-  few : length w.holdings.steps ≤ length v.holdings.steps + k
+pub record Adds (v w : PortValue) (k : ℕ) : Type 0 where
+  pub post : w.post ≡ v.post
+  pub few : length w.holdings.steps ≤ length v.holdings.steps + k
 
 adds_none : {v : PortValue} → Adds v v 0
 adds_none = record { post = refl; few = omega arith }

@@ -10,7 +10,7 @@ use Rattle.xp_board.specs.Told.{Post, PortValue}
 use Rattle.step_maker.specs.Visits.{Only, Then, Visit}
 use Rattle.entry_exchange.specs.Course as exchanges
 use Rattle.entry_exchange.proofs.Lengths.{Short}
-use Rattle.entry_exchange.proofs.Steps.{exchange_short, adds_more, adds_then, does_adds, gave_ref, got_ref, left_lock, moves_adds}
+use Rattle.entry_exchange.proofs.Steps.{Adds, exchange_short, adds_more, adds_then, does_adds, gave_ref, got_ref, left_lock, moves_adds}
 use Rattle.entry_locks.specs.Found.{LocksBy}
 use Rattle.entry_locks.specs.declared.locking.Locked.{Locked}
 use Rattle.entry_locks.specs.declared.locking.Locked.TheVariants.{Table, Other}
@@ -19,11 +19,6 @@ use Rattle.mmu_update.specs.Addresses as ways
 use Rattle.mmu_update.specs.Addresses.{Descends, EnteredAt, Leads, UpdatedAt}
 use Rattle.mmu_update.specs.Course.{TriedLock, entry_update}
 use Rattle.tlb_walks.specs.Addresses.{index_of}
-
--- w is the same port as v, with no more than k steps more in its list
-record Adds (v w : PortValue) (k : ℕ) : Type 0 where
-  post : w.post ≡ v.post
-  few : length w.holdings.steps ≤ length v.holdings.steps + k
 
 -- ---- single calls
 
