@@ -12,11 +12,12 @@ ghost use Rattle.table_words.specs.declared.old_words.OldWord.TheVariants.{First
 ghost use Rattle.mmu_update.specs.UpdatesAt.{EntersAtBy, UpdatesAtBy};
 ghost use Rattle.mmu_update.specs.Writing.{IsReferred, IsUnderLock, MayBeginElement, Referred, UnderLock};
 
-use crate::addresses::{index_at, table_at};
+use crate::addresses::table_at;
 use entry_exchange::{EntryUpdate, exchange_entry, leave_lock};
 use entry_locks::{Locked, lock_entry};
 use foreign_map::Owners;
 use frame_words::{get_ref, put_ref};
+use tlb_walks::index_at;
 use xp_board::Port;
 use xp_preempt::Preempt;
 use xp_words::{PageType, Refusal, Stop};
