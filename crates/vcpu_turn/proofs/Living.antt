@@ -68,10 +68,6 @@ learned_ran d found h = by (found == 0)
     by true = refl
     by false = refl
 
-    by : (b : Bool) → (if b then record h { looking = kept_of (λ (e : Looking). not (e.owner == d)) h.looking } else h) ≡ h
-    by true = ap (λ (xs : List Looking). record h { looking = xs }) kept
-    by false = refl
-
 -- a vCPU with nothing in hand has none then either
 module _ (v a u w : PortValue) (run d life : ℕ) (ack : FlushedHolds v a (after_mark v.post.machine (Some Turn) v.holdings)) (own : Holds a u (record a.holdings { run = Some run })) (lives : Holds u w (learned_life d life u.holdings)) (idles : Idles v) where
   woken_empty : IsEmptyHand u.holdings
