@@ -49,7 +49,9 @@ fn what_is_no_image_is_refused_where_it_differs(rt: HostRuntime) {
     let image = writes_image(&rt);
     let bytes = image.bytes();
     assert_eq!(rt; bytes.len(), 4536);
-    audits(&rt, &bytes[..4535], Status::BadImage, "bad image at 4535\n");
+    let mut cut = bytes.to_vec(rt.alloc()).expect(&rt, "memory");
+    let _last = cut.pop();
+    audits(&rt, &cut, Status::BadImage, "bad image at 4535\n");
     audits(&rt, &bytes[1..], Status::BadImage, "bad image at 0\n");
     audits(&rt, &[], Status::BadImage, "bad image at 0\n");
 }
