@@ -1,4 +1,5 @@
 pub mod Accesses
+pub mod Courses
 pub mod Owners
 pub mod References
 pub mod Ties
