@@ -6,6 +6,7 @@ use Rattle.xp_words.specs.declared.reply.Stop.{Stop}
 use Rattle.xp_board.specs.Told.{PortValue}
 use Rattle.step_maker.specs.Moves.{Came}
 use Rattle.step_maker.proofs.Coming.{moves_came}
+use Rattle.step_maker.proofs.Visiting.{does_came}
 use Rattle.frame_words.specs.Freeing.{Puts}
 use Rattle.frame_words.specs.Refs.{Gets}
 use Rattle.frame_types.specs.Found.{DropsPlain, TakesFound}
@@ -14,7 +15,7 @@ use Rattle.frame_types.specs.declared.taking.Taken.{Taken}
 use Rattle.entry_locks.specs.Locks.{Unlocks}
 use Rattle.determined_laws.specs.Courses.{Alike}
 use Rattle.determined_laws.specs.Forks.{Agree}
-use Rattle.determined_laws.proofs.Courses.{alike_does, alike_map, alike_move, does_came}
+use Rattle.determined_laws.proofs.Courses.{alike_does, alike_map, alike_move}
 use Rattle.determined_laws.proofs.References.{gets_tie, put_tie}
 use Rattle.determined_laws.proofs.Types.{drops_tie, types_tie}
 
