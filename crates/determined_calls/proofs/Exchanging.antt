@@ -1,0 +1,73 @@
+-- An exchange of one entry under the table's lock is determined by the words found and by the gate's answers.
+use Rattle.std.proofs.Common.{◌≡◌, ◌≢◌, ℕ, ◌-◌, Bool, true, false, List, [], ◌∷◌, ◌++◌, length, Result, Ok, Err, refl, sym, ap, ◌∙◌, subst}
+use Rattle.xp_words.specs.declared.entry.Demand.{Demand}
+use Rattle.xp_words.specs.declared.entry.Demand.TheVariants as demands
+use Rattle.xp_words.specs.declared.place.Place.TheVariants.{Cell, Kind}
+use Rattle.xp_words.specs.declared.reply.Pause.TheVariants.{Lost}
+use Rattle.xp_words.specs.declared.reply.Refusal.TheVariants.{Reserved}
+use Rattle.xp_words.specs.declared.reply.Stop.{Stop}
+use Rattle.xp_words.specs.declared.reply.Stop.TheVariants.{Paused, Refused}
+use Rattle.xp_words.specs.Places.{number, sizes_of}
+use Rattle.xp_board.specs.Told.{PortValue}
+use Rattle.xp_board.specs.CellSteps.{is_same_demand}
+use Rattle.step_maker.specs.Moves.{Came, Moves}
+use Rattle.step_maker.proofs.Coming.{came_post, came_self, came_trans, moves_came}
+use Rattle.step_maker.specs.Visits as visiting
+use Rattle.partial_state.specs.Levels.{level_type}
+use Rattle.kind_words.specs.Kinds.{partial_kind}
+use Rattle.xp_words.specs.KindWords.{kind_write}
+use Rattle.xp_board.specs.declared.step.Act.TheVariants.{Load, Store}
+use Rattle.xp_board.specs.declared.step.StepKind.TheVariants as kinds
+use Rattle.table_words.specs.OldWords.{old_place}
+use Rattle.xp_preempt.specs.Gates.{GivesAnswers, asks_on}
+use Rattle.foreign_map.specs.declared.owners.Owners.{Owners}
+use Rattle.table_entries.specs.Acquiring.{GaveRef}
+use Rattle.table_entries.proofs.Shared.{gave_came}
+use Rattle.entry_exchange.specs.Course as course
+use Rattle.entry_exchange.specs.Course.{Exchanged, GaveDemand, LeftLock, PutEntry, PutsNew, ReleasedDemand, SawEntry, TookNew, new_demand, old_demand}
+use Rattle.entry_exchange.specs.Holding.{owner_at}
+use Rattle.entry_exchange.specs.declared.exchanging.EntryUpdate.{EntryUpdate}
+use Rattle.entry_exchange.specs.Words.{same_demand, word_kept}
+use Rattle.exchange_laws.proofs.Going.{demand_came, lock_came, put_came}
+use Rattle.determined_laws.specs.Courses.{Alike}
+use Rattle.determined_laws.proofs.Calls.{IsReal, puts_alike, unlocks_alike, unlocks_came}
+use Rattle.determined_laws.proofs.Courses.{alike_apart, alike_map, alike_move, alike_next, alike_same}
+use Rattle.determined_calls.proofs.Asking.{gives_first, gives_more}
+use Rattle.determined_calls.proofs.Demands.{ended, gave_demand_alike, released_demand_alike, took_demand_alike}
+
+-- ---- the lock goes off
+pub left_lock_alike : {v w x : PortValue} {f level : ℕ} → LeftLock v f level w → LeftLock v f level x → Alike v w x (Unit {0})
+left_lock_alike {f = f} (course.LeftLock.shared u w p q) (course.LeftLock.shared y x r s) =
+    alike_next (λ z. GaveRef z x f) (unlocks_came p) (gave_came u w f q) (gave_came y x f s) (unlocks_alike p r) s (λ e more. puts_alike f q.found more.found)
+left_lock_alike {f = f} {level} (course.LeftLock.shared u w p q) (course.LeftLock.last y z x found r s t) = alike_apart (gave_came u w f q) (came_trans y z x (moves_came y z _ _ _ _ _ s) (moves_came z x _ _ _ _ _ t)) (unlocks_alike p r) (λ e. cc)
+left_lock_alike {f = f} (course.LeftLock.last y z x found r s t) (course.LeftLock.shared u w p q) = alike_apart (came_trans y z x (moves_came y z _ _ _ _ _ s) (moves_came z x _ _ _ _ _ t)) (gave_came u w f q) (unlocks_alike r p) (λ e. cc)
+left_lock_alike {v} {f = f} {level} (course.LeftLock.last u y w found p q r) (course.LeftLock.last a b x other i j k) =
+    alike_next (λ z. Moves z b (Kind f) (Store (kind_write (partial_kind (level_type level) false false 512 0))) kinds.Kind None other) (unlocks_came p) (came_trans u y w (moves_came u y _ _ _ _ _ q) (moves_came y w _ _ _ _ _ r))
+    (came_trans a b x (moves_came a b _ _ _ _ _ j) (moves_came b x _ _ _ _ _ k)) (unlocks_alike p i) j
+    (λ e more. alike_next (λ z. Moves z x (old_place v.post.vcpu Second) (Store (f + 1)) kinds.Context None 0) (moves_came u y _ _ _ _ _ q) (moves_came y w _ _ _ _ _ r) (moves_came b x _ _ _ _ _ k) (alike_move q more) k
+    (λ same last. alike_map (alike_move r last) (λ s. tt)))
+
+-- ---- the entry
+pub put_alike : {v w x : PortValue} {f i seen new : ℕ} {keep : Bool} {a b : Result ℕ Stop} → PutEntry v w f i seen new keep a → PutEntry v x f i seen new keep b → Alike v w x (a ≡ b)
+put_alike (course.PutEntry.stored old p) (course.PutEntry.stored other q) = alike_map (alike_move p q) (λ e. ap (λ z. Ok z) e)
+put_alike (course.PutEntry.exchanged p) (course.PutEntry.exchanged q) = alike_map (alike_move p q) (λ e. refl)
+put_alike (course.PutEntry.exchanged p) (course.PutEntry.lost found off q) = alike_map (alike_move p q) (λ e. absurd (off (sym e)))
+put_alike (course.PutEntry.lost found off p) (course.PutEntry.exchanged q) = alike_map (alike_move p q) (λ e. absurd (off e))
+put_alike {v} {f = f} {i} {seen} (course.PutEntry.lost found off p) (course.PutEntry.lost other out q) = alike_map (alike_move p q) (λ e. ap (λ z. Err (Paused (Lost (number (sizes_of v.post.machine) (Cell f i)) seen z))) e)
+
+-- ---- behind the look at the entry
+module _ (x : EntryUpdate) (o : Owners) (seen : ℕ) where
+  -- behind the try to put the new word
+  data Put (v w : PortValue) (first answers : List Bool) (a : Result (Unit {0}) Stop) : Result ℕ Stop → Type 0 where
+    lost : (y : PortValue) (stop : Stop) → GaveDemand (owner_at x.level o.tables o.frames) x.level v (new_demand x seen) y → LeftLock y x.table x.level w → answers ≡ first → a ≡ Err stop → Put v w first answers a (Err stop)
+    done : (y : PortValue) (old : ℕ) (more : List Bool) → LeftLock v x.table x.level y → ReleasedDemand y (old_demand x old) w more → answers ≡ more ++ first → a ≡ Ok tt → Put v w first answers a (Ok old)
+
+  -- behind the try to take what it asks
+  data Took (v w : PortValue) (first answers : List Bool) (a : Result (Unit {0}) Stop) : Result (Unit {0}) Stop → Type 0 where
+    untaken : (stop : Stop) → LeftLock v x.table x.level w → answers ≡ first → a ≡ Err stop → Took v w first answers a (Err stop)
+    taken : (y : PortValue) (r : Result ℕ Stop) → PutsNew v y x seen r → Put y w first answers a r → Took v w first answers a (Ok tt)
+
+  data Seen (v w : PortValue) (answers : List Bool) (a : Result (Unit {0}) Stop) : Type 0 where
+    bad : new_demand x seen ≡ demands.Bad → LeftLock v x.table x.level w → answers ≡ [] → a ≡ Err (Refused (Reserved x.table x.index (word_kept x.keep seen x.word))) → Seen v w answers a
+    same : (y : PortValue) (r : Result ℕ Stop) → same_demand (new_demand x seen) (old_demand x seen) ≡ true → PutsNew v y x seen r → LeftLock y x.table x.level w → answers ≡ [] → a ≡ ended r → Seen v w answers a
+    other : (y : PortValue) (first : List Bool) (r : Result (Unit {0}) Stop) → same_demand (new_demand x seen) (old_demand x seen) ≡ false → TookNew v y x o seen first r → Took y w first answers a r → Seen v w answers a

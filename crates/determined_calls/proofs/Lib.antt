@@ -1,0 +1,4 @@
+pub mod Asking
+pub mod Below
+pub mod Demands
+pub mod Exchanging

@@ -1,0 +1,4 @@
+//! What an exchange of an entry, an element of `mmu_update`, of `mmuext_op` or of `memory_op` does is determined by the words that it finds, and by what the gate answers: two courses
+//! that meet its account, from one port, come to the same port with the same answer, unless at some step that both made they found different words. These functions do
+//! nothing: their contracts are laws.
+#![tactic(auto)]
