@@ -3,6 +3,7 @@ use Rattle.std.proofs.Common.{◌≡◌, ℕ, Bool, List, Option, Result}
 use Rattle.xp_words.specs.declared.kind.PageType.{PageType}
 use Rattle.xp_words.specs.declared.reply.Stop.{Stop}
 use Rattle.xp_board.specs.Told.{PortValue}
+use Rattle.step_maker.specs.Moves.{Came}
 use Rattle.xp_preempt.specs.Gates.{GivesAnswers}
 use Rattle.table_entries.specs.Acquiring.{Acquired}
 use Rattle.kept_marks.specs.Marks.{KeptFor}
@@ -28,3 +29,6 @@ got_page_alike real p q = ?
 pub released_alike : {below : Option ℕ} {v w x : PortValue} {f : ℕ} {kind : PageType} {answers others : List Bool} {a b : Result (Unit {0}) Stop} (says : ℕ → Bool) (n : ℕ) → IsReal v → GivesAnswers says n answers → GivesAnswers says n others →
     (p : ReleasedWithin below v f kind w answers a) → (q : ReleasedWithin below v f kind x others b) → Alike v w x ((answers ≡ others) × (a ≡ b) × (left_released p ≡ left_released q))
 released_alike says n real one two p q = ?
+
+pub released_came : {below : Option ℕ} {v w : PortValue} {f : ℕ} {kind : PageType} {answers : List Bool} {a : Result (Unit {0}) Stop} → ReleasedWithin below v f kind w answers a → Came v w
+released_came p = ?

@@ -21,9 +21,9 @@ use Rattle.entry_exchange.specs.Course as course
 use Rattle.entry_exchange.specs.Course.{GaveDemand, ReleasedDemand, TookDemand}
 use Rattle.determined_laws.specs.Courses.{Alike}
 use Rattle.determined_laws.specs.Forks.{Agree}
-use Rattle.determined_laws.proofs.Calls.{IsReal, drops_plain_alike, drops_type_alike, drops_type_came, gets_alike, puts_alike}
+use Rattle.determined_laws.proofs.Calls.{IsReal, drops_plain_alike, drops_plain_came, drops_type_alike, drops_type_came, gets_alike, puts_alike}
 use Rattle.determined_laws.proofs.Courses.{alike_apart, alike_map, alike_next, alike_same}
-use Rattle.determined_calls.proofs.Below.{acquired_alike, got_page_alike, kept_alike, released_alike}
+use Rattle.determined_calls.proofs.Below.{acquired_alike, got_page_alike, kept_alike, released_alike, released_came}
 
 -- a call that answers what was taken, seen as one that only says that it was
 abbrev pub ended : {A : Type 0} → Result A Stop → Result (Unit {0}) Stop
@@ -148,10 +148,23 @@ module _ (owner level : ℕ) (v : PortValue) (d : Demand) (w x : PortValue) wher
       (drops_kept u y g h (same_typed g h _ _ d f k) true true p r) s
       (λ t more. kept_alike q (subst (λ z. KeptFor u x z (partial_kind (level_type (level - 1)) true false 512 0) owner) (sym (same_typed g h _ _ d f k)) more))
 
+pub gave_demand_came : (owner level : ℕ) (v : PortValue) (d : Demand) (w : PortValue) → GaveDemand owner level v d w → Came v w
+gave_demand_came owner level v _ _ course.GaveDemand.nothing = came_self v
+gave_demand_came owner level v _ _ (course.GaveDemand.referred w g gave) = gave_came v w g gave
+gave_demand_came owner level v _ _ (course.GaveDemand.paged w g one gave) = drops_plain_came v w g Writable gave.found
+gave_demand_came owner level v _ _ (course.GaveDemand.shared u w g two drops gave) = came_trans v u w (drops_type_came drops) (gave_came u w g gave)
+gave_demand_came owner level v _ _ (course.GaveDemand.last u w g two drops kept) = came_trans v u w (drops_type_came drops) (kept_came u w g _ owner kept)
+
 pub gave_demand_alike : {owner level : ℕ} {v w x : PortValue} {d : Demand} → GaveDemand owner level v d w → GaveDemand owner level v d x → Alike v w x (Unit {0})
 gave_demand_alike {owner} {level} {v} {w} {x} {d} p q = gives_alike owner level v d w x (gives owner level v d w p) (gives owner level v d x q)
 
 -- ---- what the old word asked, released
+pub released_demand_came : (v : PortValue) (d : Demand) (w : PortValue) (answers : List Bool) → ReleasedDemand v d w answers → Came v w
+released_demand_came v _ _ _ course.ReleasedDemand.nothing = came_self v
+released_demand_came v _ _ _ course.ReleasedDemand.bad = came_self v
+released_demand_came v _ _ _ (course.ReleasedDemand.referred w g gave) = gave_came v w g gave
+released_demand_came v _ _ _ (course.ReleasedDemand.released w g t answers answer released fits) = released_came released
+
 pub released_demand_alike : {v w x : PortValue} {d : Demand} {answers others : List Bool} (says : ℕ → Bool) (n : ℕ) → IsReal v → GivesAnswers says n answers → GivesAnswers says n others →
     ReleasedDemand v d w answers → ReleasedDemand v d x others → Alike v w x (answers ≡ others)
 released_demand_alike says n real one two course.ReleasedDemand.nothing course.ReleasedDemand.nothing = alike_same refl refl

@@ -1,5 +1,5 @@
 -- An exchange of one entry under the table's lock is determined by the words found and by the gate's answers.
-use Rattle.std.proofs.Common.{◌≡◌, ◌≢◌, ℕ, ◌-◌, Bool, true, false, List, [], ◌∷◌, ◌++◌, length, Result, Ok, Err, refl, sym, ap, ◌∙◌, subst}
+use Rattle.std.proofs.Common.{◌≡◌, ◌≢◌, ℕ, ◌+◌, ◌-◌, Bool, true, false, List, [], ◌∷◌, ◌++◌, length, None, Result, Ok, Err, refl, sym, ap, ◌∙◌, subst}
 use Rattle.xp_words.specs.declared.entry.Demand.{Demand}
 use Rattle.xp_words.specs.declared.entry.Demand.TheVariants as demands
 use Rattle.xp_words.specs.declared.place.Place.TheVariants.{Cell, Kind}
@@ -12,13 +12,13 @@ use Rattle.xp_board.specs.Told.{PortValue}
 use Rattle.xp_board.specs.CellSteps.{is_same_demand}
 use Rattle.step_maker.specs.Moves.{Came, Moves}
 use Rattle.step_maker.proofs.Coming.{came_post, came_self, came_trans, moves_came}
-use Rattle.step_maker.specs.Visits as visiting
 use Rattle.partial_state.specs.Levels.{level_type}
 use Rattle.kind_words.specs.Kinds.{partial_kind}
 use Rattle.xp_words.specs.KindWords.{kind_write}
 use Rattle.xp_board.specs.declared.step.Act.TheVariants.{Load, Store}
 use Rattle.xp_board.specs.declared.step.StepKind.TheVariants as kinds
 use Rattle.table_words.specs.OldWords.{old_place}
+use Rattle.table_words.specs.declared.old_words.OldWord.TheVariants.{Second}
 use Rattle.xp_preempt.specs.Gates.{GivesAnswers, asks_on}
 use Rattle.foreign_map.specs.declared.owners.Owners.{Owners}
 use Rattle.table_entries.specs.Acquiring.{GaveRef}
@@ -30,10 +30,10 @@ use Rattle.entry_exchange.specs.declared.exchanging.EntryUpdate.{EntryUpdate}
 use Rattle.entry_exchange.specs.Words.{same_demand, word_kept}
 use Rattle.exchange_laws.proofs.Going.{demand_came, lock_came, put_came}
 use Rattle.determined_laws.specs.Courses.{Alike}
-use Rattle.determined_laws.proofs.Calls.{IsReal, puts_alike, unlocks_alike, unlocks_came}
+use Rattle.determined_laws.proofs.Calls.{IsReal, puts_alike, real_came, unlocks_alike, unlocks_came}
 use Rattle.determined_laws.proofs.Courses.{alike_apart, alike_map, alike_move, alike_next, alike_same}
 use Rattle.determined_calls.proofs.Asking.{gives_first, gives_more}
-use Rattle.determined_calls.proofs.Demands.{ended, gave_demand_alike, released_demand_alike, took_demand_alike}
+use Rattle.determined_calls.proofs.Demands.{ended, gave_demand_alike, gave_demand_came, released_demand_alike, released_demand_came, took_demand_alike}
 
 -- ---- the lock goes off
 pub left_lock_alike : {v w x : PortValue} {f level : ℕ} → LeftLock v f level w → LeftLock v f level x → Alike v w x (Unit {0})
@@ -71,3 +71,34 @@ module _ (x : EntryUpdate) (o : Owners) (seen : ℕ) where
     bad : new_demand x seen ≡ demands.Bad → LeftLock v x.table x.level w → answers ≡ [] → a ≡ Err (Refused (Reserved x.table x.index (word_kept x.keep seen x.word))) → Seen v w answers a
     same : (y : PortValue) (r : Result ℕ Stop) → same_demand (new_demand x seen) (old_demand x seen) ≡ true → PutsNew v y x seen r → LeftLock y x.table x.level w → answers ≡ [] → a ≡ ended r → Seen v w answers a
     other : (y : PortValue) (first : List Bool) (r : Result (Unit {0}) Stop) → same_demand (new_demand x seen) (old_demand x seen) ≡ false → TookNew v y x o seen first r → Took y w first answers a r → Seen v w answers a
+
+  put_came_so : {v w : PortValue} {first answers : List Bool} {a : Result (Unit {0}) Stop} {r : Result ℕ Stop} → Put v w first answers a r → Came v w
+  put_came_so {v} {w} (lost y stop gave left is end) = came_trans v y w (gave_demand_came _ _ v _ y gave) (lock_came y w _ _ left)
+  put_came_so {v} {w} (done y old more left released is end) = came_trans v y w (lock_came v y _ _ left) (released_demand_came y _ w more released)
+
+  took_came_so : {v w : PortValue} {first answers : List Bool} {a r : Result (Unit {0}) Stop} → Took v w first answers a r → Came v w
+  took_came_so {v} {w} (untaken stop left is end) = lock_came v w _ _ left
+  took_came_so {v} {w} (taken y r puts rest) = came_trans v y w (put_came v y _ _ _ _ _ r puts) (put_came_so rest)
+
+  seen_came : {v w : PortValue} {answers : List Bool} {a : Result (Unit {0}) Stop} → Seen v w answers a → Came v w
+  seen_came {v} {w} (bad is left none end) = lock_came v w _ _ left
+  seen_came {v} {w} (same y r is puts left none end) = came_trans v y w (put_came v y _ _ _ _ _ r puts) (lock_came y w _ _ left)
+  seen_came {v} {w} (other y first r off took rest) = came_trans v y w (demand_came _ _ v _ y first r took) (took_came_so rest)
+
+  module _ (says : ℕ → Bool) (n : ℕ) where
+    put_rest : {v w y : PortValue} {first answers others : List Bool} {a b : Result (Unit {0}) Stop} {r : Result ℕ Stop} → IsReal v → GivesAnswers says n answers → GivesAnswers says n others →
+        Put v w first answers a r → Put v y first others b r → Alike v w y ((answers ≡ others) × (a ≡ b))
+    put_rest {v} {w} {y} real one two (lost c stop gave left is end) (lost d _ gone off also ends) =
+        alike_next (λ z. LeftLock z x.table x.level y) (gave_demand_came _ _ v _ c gave) (lock_came c w _ _ left) (lock_came d y _ _ off) (gave_demand_alike gave gone) off
+        (λ e more. alike_map (left_lock_alike left more) (λ s. (is ∙ sym also, end ∙ sym ends)))
+    put_rest {v} {w} {y} {first} real one two (done c old more left released is end) (done d _ extra off gone also ends) =
+        alike_next (λ z. ReleasedDemand z (old_demand x old) y extra) (lock_came v c _ _ left) (released_demand_came c _ w more released) (released_demand_came d _ y extra gone) (left_lock_alike left off) gone
+        (λ e rest. alike_map (released_demand_alike says (asks_on (length first) n) (real_came v c (lock_came v c _ _ left) real) (gives_more says n more first (subst (GivesAnswers says n) is one))
+        (gives_more says n extra first (subst (GivesAnswers says n) also two)) released rest) (λ s. (is ∙ (ap (λ z. z ++ first) s ∙ sym also), end ∙ sym ends)))
+
+    took_rest : {v w y : PortValue} {first answers others : List Bool} {a b r : Result (Unit {0}) Stop} → IsReal v → GivesAnswers says n answers → GivesAnswers says n others →
+        Took v w first answers a r → Took v y first others b r → Alike v w y ((answers ≡ others) × (a ≡ b))
+    took_rest real one two (untaken stop left is end) (untaken _ off also ends) = alike_map (left_lock_alike left off) (λ s. (is ∙ sym also, end ∙ sym ends))
+    took_rest {v} {w} {y} {first} {answers} {others} {a} {b} real one two (taken c r puts rest) (taken d s put more) =
+        alike_next (λ z. Put z y first others b s) (put_came v c _ _ _ _ _ r puts) (put_came_so rest) (put_came_so more) (put_alike puts put) more
+        (λ e behind. put_rest (real_came v c (put_came v c _ _ _ _ _ r puts) real) one two rest (subst (λ z. Put c y first others b z) (sym e) behind))
