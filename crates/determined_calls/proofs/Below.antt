@@ -32,3 +32,6 @@ released_alike says n real one two p q = ?
 
 pub released_came : {below : Option ℕ} {v w : PortValue} {f : ℕ} {kind : PageType} {answers : List Bool} {a : Result (Unit {0}) Stop} → ReleasedWithin below v f kind w answers a → Came v w
 released_came p = ?
+
+pub took_page_came : (v : PortValue) (f owner : ℕ) (w : PortValue) (r : Result (Unit {0}) Stop) → TookPage v f owner w r → Came v w
+took_page_came v f owner w r p = ?

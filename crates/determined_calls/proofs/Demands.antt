@@ -1,5 +1,6 @@
 -- What an entry asks, taken, given back and released: determined by the words found and by the gate's answers.
-use Rattle.std.proofs.Common.{◌≡◌, ◌≤◌, ◌-◌, ℕ, Bool, true, false, List, [], ◌∷◌, ◌++◌, Result, Ok, Err, refl, sym, ap, ◌∙◌, subst, omega}
+use Rattle.std.proofs.Common.{◌≡◌, ◌≤◌, ◌-◌, ℕ, Bool, true, false, List, [], ◌∷◌, ◌++◌, Result, Ok, Err, refl, sym, ap, ◌∙◌, subst}
+use native.Mathlib.Omega.{arith}
 use Rattle.xp_words.specs.declared.entry.Demand.{Demand}
 use Rattle.xp_words.specs.declared.entry.Demand.TheVariants as demands
 use Rattle.xp_words.specs.declared.kind.PageType.{PageType}
@@ -48,8 +49,8 @@ takes : (owner level : ℕ) (v : PortValue) (d : Demand) (w : PortValue) (answer
 takes owner level v _ _ _ _ course.nothing = nothing refl refl refl refl
 takes owner level v _ _ _ _ (course.referred w g ref) = read g (Ok g) refl ref refl refl
 takes owner level v _ _ _ _ (course.unreferred w g stop ref) = read g (Err stop) refl ref refl refl
-takes owner level v _ _ _ _ (course.paged w g one page) = page g (Ok g) one refl page refl refl
-takes owner level v _ _ _ _ (course.unpaged w g stop one page) = page g (Err stop) one refl page refl refl
+takes owner level v _ _ _ _ (course.paged w g one got) = page g (Ok g) one refl got refl refl
+takes owner level v _ _ _ _ (course.unpaged w g stop one got) = page g (Err stop) one refl got refl refl
 takes owner level v _ _ _ _ (course.acquired w g answers two had) = table g (Ok g) two refl had refl
 takes owner level v _ _ _ _ (course.refused w g answers stop two had) = table g (Err stop) two refl had refl
 
@@ -83,10 +84,10 @@ module _ (owner level : ℕ) (v : PortValue) (real : IsReal v) (says : ℕ → B
   takes_alike (page g r e f p h i) (nothing j k l m) = absurd (let s = sym j ∙ f in cc)
   takes_alike (page g r e f p h i) (read j s k l m o) = absurd (let t = sym k ∙ f in cc)
   takes_alike (page g r e f p h i) (page j s k l q m o) = alike_map (by_page g j r s (same_typed g j Writable Writable d f l) p q) (λ t. (h ∙ sym m, i ∙ (ap ended t ∙ sym o)))
-  takes_alike (page g r e f p h i) (table j s k l q m) = absurd (omega (e, k))
+  takes_alike (page g r e f p h i) (table j s k l q m) = absurd (omega (arith, e, k))
   takes_alike (table g r e f p h) (nothing j k l m) = absurd (let s = sym j ∙ f in cc)
   takes_alike (table g r e f p h) (read j s k l m o) = absurd (let t = sym k ∙ f in cc)
-  takes_alike (table g r e f p h) (page j s k l q m o) = absurd (omega (e, k))
+  takes_alike (table g r e f p h) (page j s k l q m o) = absurd (omega (arith, e, k))
   takes_alike (table g r e f p h) (table j s k l q m) = alike_map (by_table g j r s (same_typed g j _ _ d f l) p q) (λ t. (t.0, h ∙ (ap ended t.1 ∙ sym m)))
 
 pub took_demand_alike : {owner level : ℕ} {v w x : PortValue} {d : Demand} {answers others : List Bool} {a b : Result (Unit {0}) Stop} (says : ℕ → Bool) (n : ℕ) → IsReal v → GivesAnswers says n answers → GivesAnswers says n others →
@@ -113,8 +114,8 @@ module _ (owner level : ℕ) (v : PortValue) (d : Demand) (w x : PortValue) wher
   abbrev Ends : Type 0
   Ends = Alike v w x (Unit {0})
 
-  drops_kept : (u y : PortValue) (g h : ℕ) → g ≡ h → (last other : Bool) → DropsType v u g last → DropsType v y h other → Alike v u y (last ≡ other)
-  drops_kept u y g h e last other p q = drops_type_alike p (subst (λ z. DropsType v y z other) (sym e) q)
+  drops_kept : (u y : PortValue) (g h : ℕ) → g ≡ h → (one two : Bool) → DropsType v u g one → DropsType v y h two → Alike v u y (one ≡ two)
+  drops_kept u y g h e one two p q = drops_type_alike p (subst (λ z. DropsType v y z two) (sym e) q)
 
   gives_alike : Gives owner level v d w → Gives owner level v d x → Ends
   gives_alike (nothing e f) (nothing i j) = alike_same (f ∙ sym j) tt
@@ -130,18 +131,18 @@ module _ (owner level : ℕ) (v : PortValue) (d : Demand) (w x : PortValue) wher
   gives_alike (page g e f p) (nothing i j) = absurd (let s = sym i ∙ f in cc)
   gives_alike (page g e f p) (read i j q) = absurd (let s = sym f ∙ j in cc)
   gives_alike (page g e f p) (page i j k q) = drops_plain_alike g Writable p.found (subst (λ z. GaveType v x z Writable) (sym (same_typed g i Writable Writable d f k)) q).found
-  gives_alike (page g e f p) (shared u i j k l m) = absurd (omega (e, j))
-  gives_alike (page g e f p) (last u i j k l m) = absurd (omega (e, j))
+  gives_alike (page g e f p) (shared u i j k l m) = absurd (omega (arith, e, j))
+  gives_alike (page g e f p) (last u i j k l m) = absurd (omega (arith, e, j))
   gives_alike (shared u g e f p q) (nothing i j) = absurd (let s = sym i ∙ f in cc)
   gives_alike (shared u g e f p q) (read i j k) = absurd (let s = sym f ∙ j in cc)
-  gives_alike (shared u g e f p q) (page i j k l) = absurd (omega (e, j))
+  gives_alike (shared u g e f p q) (page i j k l) = absurd (omega (arith, e, j))
   gives_alike (shared u g e f p q) (shared y h j k r s) =
       alike_next (λ z. GaveRef z x h) (drops_type_came p) (gave_came u w g q) (gave_came y x h s) (drops_kept u y g h (same_typed g h _ _ d f k) false false p r) s
       (λ t more. puts_alike g q.found (subst (λ z. GaveRef u x z) (sym (same_typed g h _ _ d f k)) more).found)
   gives_alike (shared u g e f p q) (last y h j k r s) = alike_apart (gave_came u w g q) (kept_came y x h _ owner s) (drops_kept u y g h (same_typed g h _ _ d f k) false true p r) (λ t. cc)
   gives_alike (last u g e f p q) (nothing i j) = absurd (let s = sym i ∙ f in cc)
   gives_alike (last u g e f p q) (read i j k) = absurd (let s = sym f ∙ j in cc)
-  gives_alike (last u g e f p q) (page i j k l) = absurd (omega (e, j))
+  gives_alike (last u g e f p q) (page i j k l) = absurd (omega (arith, e, j))
   gives_alike (last u g e f p q) (shared y h j k r s) = alike_apart (kept_came u w g _ owner q) (gave_came y x h s) (drops_kept u y g h (same_typed g h _ _ d f k) true false p r) (λ t. cc)
   gives_alike (last u g e f p q) (last y h j k r s) =
       alike_next (λ z. KeptFor z x h (partial_kind (level_type (level - 1)) true false 512 0) owner) (drops_type_came p) (kept_came u w g _ owner q) (kept_came y x h _ owner s)

@@ -24,11 +24,13 @@ use Rattle.foreign_map.specs.declared.owners.Owners.{Owners}
 use Rattle.table_entries.specs.Acquiring.{GaveRef}
 use Rattle.table_entries.proofs.Shared.{gave_came}
 use Rattle.entry_exchange.specs.Course as course
-use Rattle.entry_exchange.specs.Course.{Exchanged, GaveDemand, LeftLock, PutEntry, PutsNew, ReleasedDemand, SawEntry, TookNew, new_demand, old_demand}
+use Rattle.entry_exchange.specs.Course.{Exchanged, GaveDemand, LeftLock, PutEntry, PutsNew, ReleasedDemand, SawEntry, TookDemand, TookNew, new_demand, old_demand}
 use Rattle.entry_exchange.specs.Holding.{owner_at}
 use Rattle.entry_exchange.specs.declared.exchanging.EntryUpdate.{EntryUpdate}
 use Rattle.entry_exchange.specs.Words.{same_demand, word_kept}
-use Rattle.exchange_laws.proofs.Going.{demand_came, lock_came, put_came}
+use Rattle.exchange_laws.proofs.Going.{demand_came}
+use Rattle.exchange_laws.proofs.Putting.{put_came}
+use Rattle.exchange_laws.proofs.Unlocking.{lock_came}
 use Rattle.determined_laws.specs.Courses.{Alike}
 use Rattle.determined_laws.proofs.Calls.{IsReal, puts_alike, real_came, unlocks_alike, unlocks_came}
 use Rattle.determined_laws.proofs.Courses.{alike_apart, alike_map, alike_move, alike_next, alike_same}
@@ -102,3 +104,75 @@ module _ (x : EntryUpdate) (o : Owners) (seen : ℕ) where
     took_rest {v} {w} {y} {first} {answers} {others} {a} {b} real one two (taken c r puts rest) (taken d s put more) =
         alike_next (λ z. Put z y first others b s) (put_came v c _ _ _ _ _ r puts) (put_came_so rest) (put_came_so more) (put_alike puts put) more
         (λ e behind. put_rest (real_came v c (put_came v c _ _ _ _ _ r puts) real) one two rest (subst (λ z. Put c y first others b z) (sym e) behind))
+
+    bad_differs : (d e : Demand) → d ≡ demands.Bad → same_demand d e ≡ true → ⊥
+    bad_differs d e is alike = by e (subst (λ z. is_same_demand e z ≡ true) is alike)
+      where
+        by : (z : Demand) → is_same_demand z demands.Bad ≡ true → ⊥
+        by demands.Nothing s = cc
+        by demands.Bad s = cc
+        by (demands.Read g) s = cc
+        by (demands.Typed g t) s = cc
+
+    bad_untaken : {owner level : ℕ} {v w : PortValue} {first : List Bool} {r : Result (Unit {0}) Stop} (d : Demand) → d ≡ demands.Bad → TookDemand owner level v d w first r → ⊥
+    bad_untaken d is course.TookDemand.nothing = cc
+    bad_untaken d is (course.TookDemand.referred w g ref) = cc
+    bad_untaken d is (course.TookDemand.unreferred w g stop ref) = cc
+    bad_untaken d is (course.TookDemand.paged w g one page) = cc
+    bad_untaken d is (course.TookDemand.unpaged w g stop one page) = cc
+    bad_untaken d is (course.TookDemand.acquired w g answers two had) = cc
+    bad_untaken d is (course.TookDemand.refused w g answers stop two had) = cc
+
+    apart : {A : Type 0} (c : Bool) → c ≡ true → c ≡ false → A
+    apart c on off = absurd (let e = sym on ∙ off in cc)
+
+    seen_alike : {v w y : PortValue} {answers others : List Bool} {a b : Result (Unit {0}) Stop} → IsReal v → GivesAnswers says n answers → GivesAnswers says n others →
+        Seen v w answers a → Seen v y others b → Alike v w y ((answers ≡ others) × (a ≡ b))
+    seen_alike real one two (bad is left none end) (bad also off barred ends) = alike_map (left_lock_alike left off) (λ s. (none ∙ sym barred, end ∙ sym ends))
+    seen_alike real one two (bad is left none end) (same c r is' puts off barred ends) = absurd (bad_differs _ _ is is')
+    seen_alike real one two (bad is left none end) (other c first r off took rest) = absurd (bad_untaken _ is took)
+    seen_alike real one two (same c r is puts left none end) (bad also off barred ends) = absurd (bad_differs _ _ also is)
+    seen_alike {v} {w} {y} real one two (same c r is puts left none end) (same d s also put off barred ends) =
+        alike_next (λ z. LeftLock z x.table x.level y) (put_came v c _ _ _ _ _ r puts) (lock_came c w _ _ left) (lock_came d y _ _ off) (put_alike puts put) off
+        (λ e more. alike_map (left_lock_alike left more) (λ t. (none ∙ sym barred, end ∙ (ap ended e ∙ sym ends))))
+    seen_alike real one two (same c r is puts left none end) (other d first s off took rest) = apart _ is off
+    seen_alike real one two (other c first r off took rest) (bad also left none end) = absurd (bad_untaken _ also took)
+    seen_alike real one two (other c first r off took rest) (same d s also puts left none end) = apart _ also off
+    seen_alike {v} {w} {y} {answers} {others} {a} {b} real one two (other c first r off took rest) (other d front s out take more) =
+        alike_next (λ z. Took z y front others b s) (demand_came _ _ v _ c first r took) (took_came_so rest) (took_came_so more)
+        (took_demand_alike says n real (took_first rest one) (took_first more two) took take) more
+        (λ e behind. took_rest (real_came v c (demand_came _ _ v _ c first r took) real) one two rest (subst (λ z. Took c y z others b r) (sym e.0) (subst (λ z. Took c y front others b z) (sym e.1) behind)))
+      where
+        put_first : {u z : PortValue} {fs gs : List Bool} {q : Result (Unit {0}) Stop} {k : Result ℕ Stop} → Put u z fs gs q k → GivesAnswers says n gs → GivesAnswers says n fs
+        put_first (lost e stop gave left is end) g = subst (GivesAnswers says n) is g
+        put_first {fs = fs} (done e old more left released is end) g = gives_first says n more fs (subst (GivesAnswers says n) is g)
+        took_first : {u z : PortValue} {fs gs : List Bool} {q k : Result (Unit {0}) Stop} → Took u z fs gs q k → GivesAnswers says n gs → GivesAnswers says n fs
+        took_first (untaken stop left is end) g = subst (GivesAnswers says n) is g
+        took_first (taken e k puts rest) g = put_first rest g
+
+-- ---- the whole: a look at the entry, and what follows it
+data Looks (v : PortValue) (x : EntryUpdate) (o : Owners) (w : PortValue) (answers : List Bool) (a : Result (Unit {0}) Stop) : Type 0 where
+  looked : (u : PortValue) (seen : ℕ) → SawEntry v u x.table x.index seen → Seen x o seen u w answers a → Looks v x o w answers a
+
+looks : (v : PortValue) (x : EntryUpdate) (o : Owners) (w : PortValue) (answers : List Bool) (a : Result (Unit {0}) Stop) → Exchanged v x o w answers a → Looks v x o w answers a
+looks v x o _ _ _ (course.Exchanged.bad u w seen saw is left) = looked u seen saw (bad is left refl refl)
+looks v x o _ _ _ (course.Exchanged.same u y w seen old saw is put left) = looked u seen saw (same y (Ok old) is put left refl refl)
+looks v x o _ _ _ (course.Exchanged.unput u y w seen stop saw is put left) = looked u seen saw (same y (Err stop) is put left refl refl)
+looks v x o _ _ _ (course.Exchanged.untaken u y w seen answers stop saw off took left) = looked u seen saw (other y answers (Err stop) off took (untaken stop left refl refl))
+looks v x o _ _ _ (course.Exchanged.lost u y z a w seen answers stop saw off took put gave left) = looked u seen saw (other y answers (Ok tt) off took (taken z (Err stop) put (lost a stop gave left refl refl)))
+looks v x o _ _ _ (course.Exchanged.done u y z a w seen old answers more saw off took put left gone) = looked u seen saw (other y answers (Ok tt) off took (taken z (Ok old) put (done a old more left gone refl refl)))
+
+pub exchanged_came : {v w : PortValue} {x : EntryUpdate} {o : Owners} {answers : List Bool} {a : Result (Unit {0}) Stop} → Exchanged v x o w answers a → Came v w
+exchanged_came {v} {w} {x} {o} {answers} {a} p = by (looks v x o w answers a p)
+  where
+    by : Looks v x o w answers a → Came v w
+    by (looked u seen saw rest) = came_trans v u w (moves_came v u _ _ _ _ _ saw) (seen_came x o seen rest)
+
+pub exchanged_alike : {v w y : PortValue} {x : EntryUpdate} {o : Owners} {answers others : List Bool} {a b : Result (Unit {0}) Stop} (says : ℕ → Bool) (n : ℕ) → IsReal v → GivesAnswers says n answers → GivesAnswers says n others →
+    Exchanged v x o w answers a → Exchanged v x o y others b → Alike v w y ((answers ≡ others) × (a ≡ b))
+exchanged_alike {v} {w} {y} {x} {o} {answers} {others} {a} {b} says n real one two p q = by (looks v x o w answers a p) (looks v x o y others b q)
+  where
+    by : Looks v x o w answers a → Looks v x o y others b → Alike v w y ((answers ≡ others) × (a ≡ b))
+    by (looked u seen saw rest) (looked c found see more) =
+        alike_next (λ z. Seen x o found z y others b) (moves_came v u _ _ _ _ _ saw) (seen_came x o seen rest) (seen_came x o found more) (alike_move saw see) more
+        (λ e behind. seen_alike x o seen says n (real_came v u (moves_came v u _ _ _ _ _ saw) real) one two rest (subst (λ z. Seen x o z u y others b) (sym e) behind))

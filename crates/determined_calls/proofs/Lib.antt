@@ -2,3 +2,6 @@ pub mod Asking
 pub mod Below
 pub mod Demands
 pub mod Exchanging
+pub mod Levels
+pub mod Pinning
+pub mod Updating
