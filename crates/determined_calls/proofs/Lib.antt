@@ -1,3 +1,4 @@
+pub mod Addressing
 pub mod Asking
 pub mod Below
 pub mod Demands
