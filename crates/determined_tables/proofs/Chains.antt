@@ -82,3 +82,32 @@ fixed_move v p a kind mark = record { came = λ w x m. moves_came v w p a kind m
 
 pub fixed_does : {A : Type 0} (v : PortValue) (P : A → List Visit → Type 0) → ((a b : A) (us vs : List Visit) → P a us → P b vs → Tie us vs (a ≡ b)) → IsFixed v (λ w a. Does v w (P a))
 fixed_does v P tie = record { came = λ w a p. does_came v w (P a) p; alike = λ w x a b p q. alike_does p q (tie a b) }
+
+-- ---- courses without an answer
+pub unit_same : (a b : Unit {0}) → a ≡ b
+unit_same a b = refl
+
+abbrev pub IsSure : PortValue → (PortValue → Type 0) → Type 0
+IsSure v C = IsFixed {A = Unit {0}} v (λ w t. C w)
+
+pub sure_by : {v : PortValue} (C : PortValue → Type 0) → ((w : PortValue) → C w → Came v w) → ((w x : PortValue) → C w → C x → Alike v w x (Unit {0})) → IsSure v C
+sure_by C came alike = record { came = λ w a p. came w p; alike = λ w x a b p q. alike_map (alike w x p q) (λ e. unit_same a b) }
+
+pub sure_does : (v : PortValue) (P : List Visit → Type 0) → ((us vs : List Visit) → P us → P vs → Tie us vs (Unit {0})) → IsSure v (λ w. Does v w P)
+sure_does v P tie = sure_by (λ w. Does v w P) (λ w p. does_came v w P p) (λ w x p q. alike_does p q tie)
+
+-- whatever the answer, which is not told on
+pub sure_some : {v : PortValue} {A : Type 0} {C : PortValue → A → Type 0} → IsFixed v C → IsSure v (λ w. (a : A) × C w a)
+sure_some fixed = sure_by _ (λ w p. fixed.came w p.0 p.1) (λ w x p q. alike_map (fixed.alike w x p.0 q.0 p.1 q.1) (λ e. tt))
+
+pub sure_at : {v : PortValue} {A : Type 0} {C : PortValue → A → Type 0} (a : A) → IsFixed v C → IsSure v (λ w. C w a)
+sure_at {v} {A} {C} a fixed = sure_by (λ w. C w a) (λ w p. fixed.came w a p) (λ w x p q. alike_map (fixed.alike w x a a p q) (λ e. tt))
+
+-- one behind the other
+pub sure_two : {v : PortValue} {P : PortValue → Type 0} {Q : PortValue → PortValue → Type 0} → IsSure v P → ((u : PortValue) → P u → IsSure u (Q u)) → IsSure v (λ w. (u : PortValue) × P u × Q u w)
+sure_two {v} {P} {Q} first rest =
+    sure_by _ (λ w p. came_trans v p.0 w (first.came p.0 tt p.1) ((rest p.0 p.1).came w tt p.2))
+    (λ w x p q. behind (λ y (t : Unit {0}). Q y x) first p.1 q.1 ((rest p.0 p.1).came w tt p.2) ((rest q.0 q.1).came x tt q.2) q.2 (λ r. alike_map ((rest p.0 p.1).alike w x tt tt p.2 r) (λ e. tt)))
+
+pub sure_as : {v : PortValue} {C D : PortValue → Type 0} → ((w : PortValue) → C w → D w) → IsSure v D → IsSure v C
+sure_as so fixed = fixed_by (λ w t p. so w p) fixed

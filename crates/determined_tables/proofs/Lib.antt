@@ -1,2 +1,3 @@
 pub mod Acquired
 pub mod Chains
+pub mod Leaves
