@@ -98,3 +98,62 @@ takes_fixed v f owner want =
 
 pub type_fixed : (v : PortValue) (f owner level : ℕ) → IsFixed v (λ w a. TookType v w f owner level a)
 type_fixed v f owner level = fixed_by (λ w a p. p.found) (takes_fixed v f owner (level_type level))
+
+-- ---- one step whose found word is not told on
+stored : (v : PortValue) (f : ℕ) (k : KindWord) → IsSure v (λ w. (found : ℕ) × Moves v w (Kind f) (Store (kind_write k)) kinds.Kind None found)
+stored v f k = sure_some (fixed_move v (Kind f) (Store (kind_write k)) kinds.Kind None)
+
+pub live_sure : (v : PortValue) (t : TableWork) → IsSure v (λ w. MadeLive v w t)
+live_sure v t = stored v t.frame (live_kind (level_type t.level) (type_counts t.own))
+
+pub partial_sure : (v : PortValue) (t : TableWork) → IsSure v (λ w. LeftPartial v w t)
+partial_sure v t = stored v t.frame (partial_kind (level_type t.level) false false t.done 0)
+
+pub named_sure : (v : PortValue) (f : ℕ) → IsSure v (λ w. Named v w f)
+named_sure v f = sure_at 0 (fixed_move v (old_place v.post.vcpu First) (Store (f + 1)) kinds.Context None)
+
+pub recorded_sure : (v : PortValue) (outer : TableWork) → IsSure v (λ w. (clock : ℕ) × Moves v w Clock Load kinds.Look (Some (Record outer.frame outer.done)) clock)
+recorded_sure v outer = sure_some (fixed_move v Clock Load kinds.Look (Some (Record outer.frame outer.done)))
+
+-- ---- one type count too many is given back
+pub lowered_sure : (v : PortValue) (f : ℕ) (last : Bool) → IsSure v (λ w. DropsType v w f last)
+lowered_sure v f last = sure_as (λ w p. (p.found, p.lowers.step)) (sure_some (fixed_move v (Kind f) (Add one_down) kinds.Kind None))
+
+pub gave_back_sure : (v : PortValue) (f : ℕ) → IsSure v (λ w. GaveBack v w f)
+gave_back_sure v f = sure_as (λ w p. (p.between, p.lowers, p.puts)) (sure_two (lowered_sure v f false) (λ u p. gave_sure u f))
+
+pub joined_sure : (v : PortValue) (t outer : TableWork) (recorded : Bool) → IsSure v (λ w. Joined v w t outer recorded)
+joined_sure v t outer true = gave_back_sure v t.frame
+joined_sure v t outer false = recorded_sure v outer
+
+-- ---- a `kept` mark
+module _ (v : PortValue) (f : ℕ) (k : KindWord) (owner : ℕ) where
+  abbrev TookOver : PortValue → PortValue → Unit {0} → Type 0
+  TookOver x w t =
+      Chain (λ y found. TakesBack x y f k found)
+      (λ y found. Choice (found ≡ kind_write k) (found ≢ kind_write k) (λ z s. Moves y z (old_place v.post.vcpu First) (Store (f + 1)) kinds.Context None 0) (Ends y tt)) w t
+
+  abbrev LooksAfter : PortValue → PortValue → Unit {0} → Type 0
+  LooksAfter u w t =
+      Chain (λ x life. Moves u x (Life owner) Load kinds.Look None life) (λ x life. Choice (life ≡ 0) (life ≢ 0) (Ends x tt) (TookOver x)) w t
+
+  abbrev KeptBy : PortValue → Unit {0} → Type 0
+  KeptBy w t =
+      Choice (owner ≡ domain_of v.post.machine v.post.vcpu) (IsForeign v owner) (λ z s. LeftSo v z f k) (Chain {A = Unit {0}} (λ u s. LeftSo v u f k) (λ u s. LooksAfter u)) w t
+
+  kept_by : (w : PortValue) (t : Unit {0}) → KeptFor v w f k owner → KeptBy w t
+  kept_by w t (marks.own e l) = left e l
+  kept_by w t (marks.alive u e l m) = right e (record { at = u; answer = tt; first = l; rest = record { at = w; answer = 0; first = m; rest = left refl (refl, refl) } })
+  kept_by w t (marks.dying u x y life e l m n b s) =
+      right e (record { at = u; answer = tt; first = l; rest = record { at = x; answer = life; first = m; rest = right n (record { at = y; answer = kind_write k; first = b; rest = left refl s }) } })
+  kept_by w t (marks.taken u x life found e l m n b o) =
+      right e (record { at = u; answer = tt; first = l; rest = record { at = x; answer = life; first = m; rest = right n (record { at = w; answer = found; first = b; rest = right o (refl, refl) }) } })
+
+  over_fixed : (x : PortValue) → IsFixed x (TookOver x)
+  over_fixed x = fixed_then (fixed_move x (Kind f) _ kinds.Kind None) (λ y found p. fixed_choice (λ e n. n e) (λ e. sure_at 0 (fixed_move y (old_place v.post.vcpu First) (Store (f + 1)) kinds.Context None)) (λ e. fixed_ends y tt))
+
+  after_fixed : (u : PortValue) → IsFixed u (LooksAfter u)
+  after_fixed u = fixed_then (fixed_move u (Life owner) Load kinds.Look None) (λ x life p. fixed_choice (λ e n. n e) (λ e. fixed_ends x tt) (λ e. over_fixed x))
+
+  pub kept_sure : IsSure v (λ w. KeptFor v w f k owner)
+  kept_sure = fixed_by kept_by (fixed_choice (λ e n. n e) (λ e. stored v f k) (λ e. fixed_then (stored v f k) (λ u s p. after_fixed u)))
