@@ -41,7 +41,7 @@ abbrev pub ref_answer : ℕ → Option Stop → Result ℕ Stop
 ref_answer f None = Ok f
 ref_answer f (Some e) = Err e
 
-ref_same : (f : ℕ) (o p : Option Stop) → Agree {A = ℕ} (ref_answer f o) (ref_answer f p) → o ≡ p
+pub ref_same : (f : ℕ) (o p : Option Stop) → Agree {A = ℕ} (ref_answer f o) (ref_answer f p) → o ≡ p
 ref_same f None None e = refl
 ref_same f None (Some x) e = absurd e
 ref_same f (Some x) None e = absurd e
@@ -157,3 +157,30 @@ module _ (v : PortValue) (f : ℕ) (k : KindWord) (owner : ℕ) where
 
   pub kept_sure : IsSure v (λ w. KeptFor v w f k owner)
   kept_sure = fixed_by kept_by (fixed_choice (λ e n. n e) (λ e. stored v f k) (λ e. fixed_then (stored v f k) (λ u s p. after_fixed u)))
+
+-- ---- tables that are left
+pub outermost_sure : (v : PortValue) (owner : ℕ) (t : TableWork) (own kept : Bool) → IsSure v (λ w. OutermostLeft v w owner t own kept)
+outermost_sure v owner t true true = kept_sure v t.frame (partial_kind (level_type t.level) true false t.done 0) owner
+outermost_sure v owner t true false = sure_two (partial_sure v t) (λ u p. named_sure u t.frame)
+outermost_sure v owner t false kept = sure_two (partial_sure v t) (λ u p. gave_sure u t.frame)
+
+pub inner_sure : (v : PortValue) (t outer : TableWork) (own : Bool) → IsSure v (λ w. InnerLeft v w t outer own)
+inner_sure v t outer true = sure_as (λ w p. p.1) (sure_two (partial_sure v t) (λ u p. recorded_sure u outer))
+inner_sure v t outer false = sure_two (partial_sure v t) (λ u p. gave_sure u t.frame)
+
+unwinds_sure : (v : PortValue) (owner : ℕ) (kept : Bool) (ts : List TableWork) (t : TableWork) → IsSure v (λ w. Unwound v owner (t ∷ ts) kept w)
+unwinds_sure v owner kept [] t = outermost_sure v owner t t.own kept
+unwinds_sure v owner kept (outer ∷ ts) t = sure_two (inner_sure v t outer t.own) (λ u p. unwinds_sure u owner kept ts (around_left t outer))
+
+pub unwound_sure : (v : PortValue) (owner : ℕ) (ts : List TableWork) (kept : Bool) → IsSure v (λ w. Unwound v owner ts kept w)
+unwound_sure v owner [] kept = fixed_by (λ w t p. (p, refl)) (fixed_ends v tt)
+unwound_sure v owner (t ∷ ts) kept = unwinds_sure v owner kept ts t
+
+-- ---- frames that wait
+pub shared_sure : (v : PortValue) (f : ℕ) (want : PageType) (stamp : ℕ) → IsSure v (λ w. Does v w (λ vs. SharedBy f want stamp vs))
+shared_sure v f want stamp = sure_does v _ (shared_tie f want stamp)
+
+pub waiting_sure : (v : PortValue) (f level owner stamp : ℕ) (own kept : Bool) → IsSure v (λ w. WaitingLeft v w f level owner stamp own kept)
+waiting_sure v f level owner stamp true true = kept_sure v f (partial_kind (level_type level) true true 0 stamp) owner
+waiting_sure v f level owner stamp true false = sure_two (sure_does v _ (store_tie f (partial_kind (level_type level) false true 0 stamp))) (λ u p. named_sure u f)
+waiting_sure v f level owner stamp false kept = shared_sure v f (level_type level) stamp

@@ -1,3 +1,4 @@
 pub mod Acquired
 pub mod Chains
+pub mod Entries
 pub mod Leaves

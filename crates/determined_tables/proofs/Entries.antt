@@ -1,0 +1,113 @@
+-- An entry that is taken, or looked at again, is determined by the words that are found.
+use Rattle.std.proofs.Common.{◌≡◌, ◌≢◌, ◌⊎◌, ℕ, ◌+◌, ◌-◌, ◌<◌, ◌≤◌, Bool, true, false, List, [], ◌∷◌, ◌++◌, length, Option, Some, None, Result, Ok, Err, refl, sym, ap, ◌∙◌, subst, inl, inr, arith}
+use Rattle.xp_words.specs.Entries.{demand_at}
+use Rattle.xp_words.specs.Machine.{Machine}
+use Rattle.xp_words.specs.declared.entry.Demand.{Demand}
+use Rattle.xp_words.specs.declared.entry.Demand.TheVariants as demands
+use Rattle.xp_words.specs.declared.kind.PageType.{PageType}
+use Rattle.xp_words.specs.declared.place.Place.TheVariants.{Cell, Clock, Kind}
+use Rattle.xp_words.specs.declared.reply.Pause.TheVariants.{Flush}
+use Rattle.xp_words.specs.declared.reply.Refusal.TheVariants as refusals
+use Rattle.xp_words.specs.declared.reply.Stop.{Stop}
+use Rattle.xp_words.specs.declared.reply.Stop.TheVariants.{Refused, Paused}
+use Rattle.xp_board.specs.declared.step.Act.TheVariants.{Load}
+use Rattle.xp_board.specs.declared.step.Mark.TheVariants.{Record}
+use Rattle.xp_board.specs.declared.step.StepKind.TheVariants as kinds
+use Rattle.xp_board.specs.Readings.{is_live_word}
+use Rattle.xp_board.specs.Told.{Post, PortValue}
+use Rattle.step_maker.specs.Visits.{Does, Nothing, Only, Then, Visit}
+use Rattle.step_maker.proofs.Visiting.{does_came}
+use Rattle.frame_words.specs.Freeing.{PutBy}
+use Rattle.frame_words.specs.Refs.{GetsBy, TakesFirst, had, stopped}
+use Rattle.kind_words.specs.Kinds.{partial_kind}
+use Rattle.frame_types.specs.Found.{DeadBy, SharedBy, StoresKind, TypeBy, saw_kind}
+use Rattle.frame_types.specs.Plain.{is_read_first, is_refused}
+use Rattle.frame_types.specs.declared.taking.Taken.{Taken}
+use Rattle.frame_types.specs.declared.taking.Taken.TheVariants as types
+use Rattle.table_words.specs.Entries.{Records}
+use Rattle.partial_state.specs.Levels.{level_type}
+use Rattle.partial_state.specs.declared.stack.TableWork.{TableWork}
+use Rattle.table_entries.specs.Acquiring.{ResumedEntry, TookEntry}
+use Rattle.table_entries.specs.Found as ways
+use Rattle.table_entries.specs.Found.{EnteredBy, EntersBy, LastBy, LeftAfter, LeftBy, ReadBy, RefusesBy, ResumedBy, ResumesBy, TypedAgain, TypedBy, UnsettledBy, saw_cell}
+use Rattle.table_entries.specs.declared.entries.Entered.{Entered}
+use Rattle.table_entries.specs.declared.entries.Entered.TheVariants.{Recorded, Opened, Unsettled}
+use Rattle.table_entries.specs.declared.resuming.Resumed.{Resumed}
+use Rattle.table_entries.specs.declared.resuming.Resumed.TheVariants as again
+use Rattle.determined_laws.specs.Forks.{Agree, Tie}
+use Rattle.determined_laws.proofs.Courses.{alike_does}
+use Rattle.determined_laws.proofs.References.{gets_tie, put_tie}
+use Rattle.determined_laws.proofs.Ties.{forks_newer, tie_lists, tie_map, tie_one, tie_then}
+use Rattle.determined_laws.proofs.Types.{dead_tie, shared_tie, store_tie, types_tie}
+use Rattle.determined_tables.proofs.Chains.{IsFixed}
+use Rattle.determined_tables.proofs.Leaves.{begins_with, made_real, ref_answer, ref_same}
+
+-- ---- a list in two parts, of which the first has an answer
+pub record Parted {A B : Type 0} (First : A → List Visit → Type 0) (Rest : A → B → List Visit → Type 0) (b : B) (vs : List Visit) : Type 0 where
+  pub answer : A
+  pub parts : Then (First answer) (Rest answer b) vs
+
+pub parted_tie : {A B : Type 0} {First : A → List Visit → Type 0} {Rest : A → B → List Visit → Type 0} →
+    ((a c : A) (us vs : List Visit) → First a us → First c vs → Tie us vs (a ≡ c)) → ((a : A) (b d : B) (us vs : List Visit) → Rest a b us → Rest a d vs → Tie us vs (b ≡ d)) →
+    (b d : B) (us vs : List Visit) → Parted First Rest b us → Parted First Rest d vs → Tie us vs (b ≡ d)
+parted_tie {A} {B} {First} {Rest} first rest b d us vs p q =
+    let s = p.parts in
+    let t = q.parts in
+    tie_lists us vs _ _ _ s.list t.list
+    (tie_then s.before t.before s.after t.after (p.answer ≡ q.answer) (b ≡ d) (first p.answer q.answer s.before t.before s.first t.first)
+    (λ e same. rest q.answer b d s.after t.after (subst (λ z. Rest z b s.after) same s.next) t.next))
+
+-- nothing, with that answer
+abbrev pub NoMore : {B : Type 0} → B → B → List Visit → Type 0
+NoMore c b vs = (b ≡ c) × Nothing vs
+
+pub none_tie : {B : Type 0} (c b d : B) (us vs : List Visit) → NoMore c b us → NoMore c d vs → Tie us vs (b ≡ d)
+none_tie c b d us vs p q = inr (p.1 ∙ sym q.1, p.0 ∙ sym q.0)
+
+-- that list, with that answer
+abbrev pub So : {B : Type 0} → B → (List Visit → Type 0) → B → List Visit → Type 0
+So c P b vs = (b ≡ c) × P vs
+
+pub so_tie : {B : Type 0} {P : List Visit → Type 0} → ((us vs : List Visit) → P us → P vs → Tie us vs (Unit {0})) → (c b d : B) (us vs : List Visit) → So c P b us → So c P d vs → Tie us vs (b ≡ d)
+so_tie tie c b d us vs p q = tie_map us vs _ _ (tie us vs p.1 q.1) (λ e. p.0 ∙ sym q.0)
+
+-- a part behind which there is nothing more
+pub alone : {P Q : List Visit → Type 0} {vs : List Visit} → P vs → Q [] → Then P Q vs
+alone {P} {Q} {vs} p q = record { before = vs; after = []; first = p; next = q; list = refl }
+
+pub then_map : {P Q R : List Visit → Type 0} {vs : List Visit} → Then P Q vs → ((us : List Visit) → Q us → R us) → Then P R vs
+then_map t so = record { before = t.before; after = t.after; first = t.first; next = so t.after t.next; list = t.list }
+
+-- ---- what entries do: looks, and a note of what is recorded
+pub cell_tie : (f i x y : ℕ) (us vs : List Visit) → Only (saw_cell f i x) us → Only (saw_cell f i y) vs → Tie us vs (x ≡ y)
+cell_tie f i x y us vs p q = tie_lists us vs _ _ _ p q (tie_one _ (Cell f i) Load None x y)
+
+pub kind_tie : (f x y : ℕ) (us vs : List Visit) → Only (saw_kind f x) us → Only (saw_kind f y) vs → Tie us vs (x ≡ y)
+kind_tie f x y us vs p q = tie_lists us vs _ _ _ p q (tie_one _ (Kind f) Load None x y)
+
+pub records_tie : (f upto : ℕ) (us vs : List Visit) → Records f upto us → Records f upto vs → Tie us vs (Unit {0})
+records_tie f upto us vs p q = tie_lists us vs _ _ _ p.1 q.1 (tie_map _ _ _ _ (tie_one kinds.Look Clock Load (Some (Record f upto)) p.0 q.0) (λ e. tt))
+
+pub pair_tie : {P Q : List Visit → Type 0} → ((us vs : List Visit) → P us → P vs → Tie us vs (Unit {0})) → ((us vs : List Visit) → Q us → Q vs → Tie us vs (Unit {0})) →
+    (us vs : List Visit) → Then P Q us → Then P Q vs → Tie us vs (Unit {0})
+pair_tie one two us vs p q = tie_lists us vs _ _ _ p.list q.list (tie_then p.before q.before p.after q.after (Unit {0}) (Unit {0}) (one p.before q.before p.first q.first) (λ e s. two p.after q.after p.next q.next))
+
+pub reference_tie : (n : Machine) (g owner : ℕ) (o p : Option Stop) (us vs : List Visit) → GetsBy {A = ℕ} n g owner (ref_answer g o) us → GetsBy {A = ℕ} n g owner (ref_answer g p) vs → Tie us vs (o ≡ p)
+reference_tie n g owner o p us vs a b = tie_map us vs _ _ (gets_tie {A = ℕ} n g owner (ref_answer g o) (ref_answer g p) us vs a b) (ref_same g o p)
+
+-- ---- a reference first, and then P
+module _ {A : Type 0} (n : Machine) (g owner : ℕ) (P : Result A Stop → List Visit → Type 0) where
+  abbrev FirstRest : Option Stop → Result A Stop → List Visit → Type 0
+  FirstRest None a vs = P a vs
+  FirstRest (Some e) a vs = NoMore (Err e) a vs
+
+  first_view : (a : Result A Stop) (vs : List Visit) → TakesFirst n g owner (P a) a vs → Parted (λ o gs. GetsBy {A = ℕ} n g owner (ref_answer g o) gs) FirstRest a vs
+  first_view a vs (stopped e is p) = record { answer = Some e; parts = alone p (is, refl) }
+  first_view a vs (had t) = record { answer = None; parts = t }
+
+  pub first_tie : ((a b : Result A Stop) (us vs : List Visit) → P a us → P b vs → Tie us vs (a ≡ b)) → (a b : Result A Stop) (us vs : List Visit) → TakesFirst n g owner (P a) a us → TakesFirst n g owner (P b) b vs → Tie us vs (a ≡ b)
+  first_tie rest a b us vs p q = parted_tie (reference_tie n g owner) next a b us vs (first_view a us p) (first_view b vs q)
+    where
+      next : (o : Option Stop) (a b : Result A Stop) (us vs : List Visit) → FirstRest o a us → FirstRest o b vs → Tie us vs (a ≡ b)
+      next None a b us vs p q = rest a b us vs p q
+      next (Some e) a b us vs p q = none_tie (Err e) a b us vs p q
