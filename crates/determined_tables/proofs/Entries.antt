@@ -111,3 +111,88 @@ module _ {A : Type 0} (n : Machine) (g owner : ℕ) (P : Result A Stop → List 
       next : (o : Option Stop) (a b : Result A Stop) (us vs : List Visit) → FirstRest o a us → FirstRest o b vs → Tie us vs (a ≡ b)
       next None a b us vs p q = rest a b us vs p q
       next (Some e) a b us vs p q = none_tie (Err e) a b us vs p q
+
+-- ---- an entry that asks a type, behind its reference
+module _ (q : Post) (real : q.vcpu < length q.machine.vcpu_domain) (g owner : ℕ) (t : PageType) where
+  abbrev Takes : Result Taken Stop → List Visit → Type 0
+  Takes a vs = TypeBy q g owner t a vs
+
+  takes_tie : (a b : Result Taken Stop) (us vs : List Visit) → Takes a us → Takes b vs → Tie us vs (a ≡ b)
+  takes_tie a b us vs p r = types_tie q real g owner t a b us vs p r
+
+  module _ (f i : ℕ) where
+    -- it waits under its own type count: recorded; or dead where the clock is at its last value, and it holds no entries
+    data OwnWaits (stamp : ℕ) (stop : Stop) (a : Result Entered Stop) (vs : List Visit) : Type 0 where
+      noted : (is_refused stop ≡ true → is_read_first t ≡ true) → So (Ok (Unsettled stop)) (λ us. Then (StoresKind g (partial_kind t false true 0 stamp)) (Records f (i + 1)) us) a vs → OwnWaits stamp stop a vs
+      died : is_refused stop ≡ true → is_read_first t ≡ false → So (Err stop) (DeadBy g t) a vs → OwnWaits stamp stop a vs
+
+    abbrev EnterRest : Result Taken Stop → Result Entered Stop → List Visit → Type 0
+    EnterRest (Ok types.Counted) a vs = So (Ok Recorded) (Records f (i + 1)) a vs
+    EnterRest (Ok (types.InWork progress own)) a vs = NoMore (Ok (Opened g progress own)) a vs
+    EnterRest (Ok (types.Waiting true stamp stop)) a vs = OwnWaits stamp stop a vs
+    EnterRest (Ok (types.Waiting false stamp stop)) a vs = So (Err stop) (λ us. SharedBy g t stamp us) a vs
+    EnterRest (Err e) a vs = So (Err e) (PutBy g) a vs
+
+    clash : {A : Type 0} (stop : Stop) → (is_refused stop ≡ true → is_read_first t ≡ true) → is_refused stop ≡ true → is_read_first t ≡ false → A
+    clash stop first refused none = absurd (let e = sym (first refused) ∙ none in cc)
+
+    waits_tie : (stamp : ℕ) (stop : Stop) (a b : Result Entered Stop) (us vs : List Visit) → OwnWaits stamp stop a us → OwnWaits stamp stop b vs → Tie us vs (a ≡ b)
+    waits_tie stamp stop a b us vs (noted e p) (noted h r) = so_tie (pair_tie (store_tie g (partial_kind t false true 0 stamp)) (records_tie f (i + 1))) (Ok (Unsettled stop)) a b us vs p r
+    waits_tie stamp stop a b us vs (noted e p) (died x n r) = clash stop e x n
+    waits_tie stamp stop a b us vs (died x n p) (noted e r) = clash stop e x n
+    waits_tie stamp stop a b us vs (died x n p) (died y m r) = so_tie (dead_tie g t) (Err stop) a b us vs p r
+
+    enter_rest_tie : (w : Result Taken Stop) (a b : Result Entered Stop) (us vs : List Visit) → EnterRest w a us → EnterRest w b vs → Tie us vs (a ≡ b)
+    enter_rest_tie (Ok types.Counted) a b us vs p r = so_tie (records_tie f (i + 1)) (Ok Recorded) a b us vs p r
+    enter_rest_tie (Ok (types.InWork progress own)) a b us vs p r = none_tie (Ok (Opened g progress own)) a b us vs p r
+    enter_rest_tie (Ok (types.Waiting true stamp stop)) a b us vs p r = waits_tie stamp stop a b us vs p r
+    enter_rest_tie (Ok (types.Waiting false stamp stop)) a b us vs p r = so_tie (shared_tie g t stamp) (Err stop) a b us vs p r
+    enter_rest_tie (Err e) a b us vs p r = so_tie (put_tie g) (Err e) a b us vs p r
+
+    abbrev Typed : Result Entered Stop → List Visit → Type 0
+    Typed a vs = Parted Takes EnterRest a vs
+
+    left_view : (stop : Stop) (vs : List Visit) → LeftAfter q g owner t stop vs → Typed (Err stop) vs
+    left_view stop vs p = record { answer = Ok (types.Waiting p.own p.stamp stop); parts = then_map p.steps (λ us l. rest p.own stop us l) }
+      where
+        rest : (own : Bool) (s : Stop) (us : List Visit) → LeftBy g t own p.stamp s us → EnterRest (Ok (types.Waiting own p.stamp s)) (Err s) us
+        rest true (Refused x) us l = died refl l.0 (refl, l.1)
+        rest true (Paused x) us l = absurd l
+        rest false s us l = (refl, l)
+
+    refused_view : (e : Stop) (vs : List Visit) → RefusesBy q g owner t e vs → Typed (Err e) vs
+    refused_view e vs p = record { answer = Err e; parts = then_map p (λ us l. (refl, l)) }
+
+    typed_view : (a : Result Entered Stop) (vs : List Visit) → TypedBy q g owner t f i a vs → Typed a vs
+    typed_view (Ok Recorded) vs p = record { answer = Ok types.Counted; parts = then_map p (λ us r. (refl, r)) }
+    typed_view (Ok (Opened h progress own)) vs p = record { answer = Ok (types.InWork progress own); parts = alone p.1 (ap (λ z. Ok (Opened z progress own)) p.0, refl) }
+    typed_view (Ok (Unsettled stop)) vs p = record { answer = Ok (types.Waiting true p.stamp stop); parts = then_map p.steps (λ us r. noted p.first (refl, r)) }
+    typed_view (Err (Refused (refusals.Clock x))) vs p = left_view (Refused (refusals.Clock x)) vs p
+    typed_view (Err (Paused (Flush u stamp x))) vs p = left_view (Paused (Flush u stamp x)) vs p
+    typed_view (Err e) vs p = refused_view e vs p
+
+    pub typed_tie : (a b : Result Entered Stop) (us vs : List Visit) → TypedBy q g owner t f i a us → TypedBy q g owner t f i b vs → Tie us vs (a ≡ b)
+    typed_tie a b us vs p r = parted_tie takes_tie enter_rest_tie a b us vs (typed_view a us p) (typed_view b vs r)
+
+  -- ---- taken again
+  abbrev AgainRest : Result Taken Stop → Result Resumed Stop → List Visit → Type 0
+  AgainRest (Ok types.Counted) a vs = NoMore (Ok (again.Taken g)) a vs
+  AgainRest (Ok (types.InWork progress own)) a vs = NoMore (Ok (again.Opened g progress)) a vs
+  AgainRest (Ok (types.Waiting own stamp stop)) a vs = NoMore (Ok (again.Waiting g stamp stop)) a vs
+  AgainRest (Err e) a vs = So (Err e) (PutBy g) a vs
+
+  again_rest_tie : (w : Result Taken Stop) (a b : Result Resumed Stop) (us vs : List Visit) → AgainRest w a us → AgainRest w b vs → Tie us vs (a ≡ b)
+  again_rest_tie (Ok types.Counted) a b us vs p r = none_tie (Ok (again.Taken g)) a b us vs p r
+  again_rest_tie (Ok (types.InWork progress own)) a b us vs p r = none_tie (Ok (again.Opened g progress)) a b us vs p r
+  again_rest_tie (Ok (types.Waiting own stamp stop)) a b us vs p r = none_tie (Ok (again.Waiting g stamp stop)) a b us vs p r
+  again_rest_tie (Err e) a b us vs p r = so_tie (put_tie g) (Err e) a b us vs p r
+
+  again_view : (a : Result Resumed Stop) (vs : List Visit) → TypedAgain q g owner t a vs → Parted Takes AgainRest a vs
+  again_view (Ok again.Settled) vs p = absurd p
+  again_view (Ok (again.Taken h)) vs p = record { answer = Ok types.Counted; parts = alone p.1 (ap (λ z. Ok (again.Taken z)) p.0, refl) }
+  again_view (Ok (again.Opened h progress)) vs p = record { answer = Ok (types.InWork progress false); parts = alone p.1 (ap (λ z. Ok (again.Opened z progress)) p.0, refl) }
+  again_view (Ok (again.Waiting h stamp stop)) vs p = record { answer = Ok (types.Waiting false stamp stop); parts = alone p.1 (ap (λ z. Ok (again.Waiting z stamp stop)) p.0, refl) }
+  again_view (Err e) vs p = record { answer = Err e; parts = then_map p (λ us l. (refl, l)) }
+
+  pub again_tie : (a b : Result Resumed Stop) (us vs : List Visit) → TypedAgain q g owner t a us → TypedAgain q g owner t b vs → Tie us vs (a ≡ b)
+  again_tie a b us vs p r = parted_tie takes_tie again_rest_tie a b us vs (again_view a us p) (again_view b vs r)
