@@ -111,3 +111,7 @@ sure_two {v} {P} {Q} first rest =
 
 pub sure_as : {v : PortValue} {C D : PortValue → Type 0} → ((w : PortValue) → C w → D w) → IsSure v D → IsSure v C
 sure_as so fixed = fixed_by (λ w t p. so w p) fixed
+
+-- with an answer that is fixed
+pub fixed_sure : {v : PortValue} {A : Type 0} {C : PortValue → Type 0} (c : A) → IsSure v C → IsFixed v (λ w a. (a ≡ c) × C w)
+fixed_sure c fixed = record { came = λ w a p. fixed.came w tt p.1; alike = λ w x a b p q. alike_map (fixed.alike w x tt tt p.1 q.1) (λ e. p.0 ∙ sym q.0) }

@@ -196,3 +196,88 @@ module _ (q : Post) (real : q.vcpu < length q.machine.vcpu_domain) (g owner : �
 
   pub again_tie : (a b : Result Resumed Stop) (us vs : List Visit) → TypedAgain q g owner t a us → TypedAgain q g owner t b vs → Tie us vs (a ≡ b)
   again_tie a b us vs p r = parted_tie takes_tie again_rest_tie a b us vs (again_view a us p) (again_view b vs r)
+
+-- ---- the next entry
+module _ (q : Post) (real : q.vcpu < length q.machine.vcpu_domain) (owner : ℕ) where
+  module _ (f i : ℕ) (g : ℕ) where
+    abbrev ReadRest : Option Stop → Result Entered Stop → List Visit → Type 0
+    ReadRest None a vs = So (Ok Recorded) (Records f (i + 1)) a vs
+    ReadRest (Some e) a vs = NoMore (Err e) a vs
+
+    read_rest_tie : (o : Option Stop) (a b : Result Entered Stop) (us vs : List Visit) → ReadRest o a us → ReadRest o b vs → Tie us vs (a ≡ b)
+    read_rest_tie None a b us vs p r = so_tie (records_tie f (i + 1)) (Ok Recorded) a b us vs p r
+    read_rest_tie (Some e) a b us vs p r = none_tie (Err e) a b us vs p r
+
+    read_view : (a : Result Entered Stop) (vs : List Visit) → ReadBy q.machine g owner f i a vs → Parted (λ o gs. GetsBy {A = ℕ} q.machine g owner (ref_answer g o) gs) ReadRest a vs
+    read_view (Ok Recorded) vs p = record { answer = None; parts = then_map p (λ us r. (refl, r)) }
+    read_view (Ok _) vs p = absurd p
+    read_view (Err e) vs p = record { answer = Some e; parts = alone p (refl, refl) }
+
+    read_tie : (a b : Result Entered Stop) (us vs : List Visit) → ReadBy q.machine g owner f i a us → ReadBy q.machine g owner f i b vs → Tie us vs (a ≡ b)
+    read_tie a b us vs p r = parted_tie (reference_tie q.machine g owner) read_rest_tie a b us vs (read_view a us p) (read_view b vs r)
+
+  enters_tie : (f i word : ℕ) (d : Demand) (a b : Result Entered Stop) (us vs : List Visit) → EntersBy q f i owner a word d us → EntersBy q f i owner b word d vs → Tie us vs (a ≡ b)
+  enters_tie f i word demands.Nothing a b us vs p r = so_tie (records_tie f (i + 1)) (Ok Recorded) a b us vs p r
+  enters_tie f i word demands.Bad a b us vs p r = none_tie (Err (Refused (refusals.Reserved f i word))) a b us vs p r
+  enters_tie f i word (demands.Read g) a b us vs p r = read_tie f i g a b us vs p r
+  enters_tie f i word (demands.Typed g t) a b us vs p r = first_tie q.machine g owner (λ c ts. TypedBy q g owner t f i c ts) (typed_tie q real g owner t f i) a b us vs p r
+
+  pub entered_tie : (f i : ℕ) (t : PageType) (a b : Result Entered Stop) (us vs : List Visit) → EnteredBy q f i t owner a us → EnteredBy q f i t owner b vs → Tie us vs (a ≡ b)
+  entered_tie f i t a b us vs p r =
+      parted_tie {First = λ x us. Only (saw_cell f i x) us} {Rest = λ x a us. EntersBy q f i owner a x (demand_at t i x) us} (cell_tie f i) (λ x a b us vs. enters_tie f i x (demand_at t i x) a b us vs) a b us vs (record { answer = p.0; parts = p.1 }) (record { answer = r.0; parts = r.1 })
+
+  -- ---- the last recorded entry again
+  module _ (g : ℕ) (t : PageType) where
+    abbrev Again : Result Resumed Stop → List Visit → Type 0
+    Again a vs = TakesFirst q.machine g owner (λ ts. TypedAgain q g owner t a ts) a vs
+
+    abbrev LiveRest : Bool → Result Resumed Stop → List Visit → Type 0
+    LiveRest true a vs = NoMore (Ok again.Settled) a vs
+    LiveRest false a vs = Again a vs
+
+    abbrev Looks : Result Resumed Stop → List Visit → Type 0
+    Looks a vs = Parted (λ x us. Only (saw_kind g x) us) (λ x c us. LiveRest (is_live_word x) c us) a vs
+
+    abbrev Last : Result Resumed Stop → List Visit → Type 0
+    Last a vs = ((q.machine.frames ≤ g) × Again a vs) ⊎ ((g < q.machine.frames) × Looks a vs)
+
+    last_view : (a : Result Resumed Stop) (vs : List Visit) → LastBy q g t owner a vs → Last a vs
+    last_view a vs (ways.settled x near live is seen) = inr (near, record { answer = x; parts = alone seen (subst (λ z. LiveRest z a []) (sym live) (is, refl)) })
+    last_view a vs (ways.outside far p) = inl (far, p)
+    last_view a vs (ways.other x near live p) = inr (near, record { answer = x; parts = then_map p (λ us r. subst (λ z. LiveRest z a us) (sym live) r) })
+
+    again_first_tie : (a b : Result Resumed Stop) (us vs : List Visit) → Again a us → Again b vs → Tie us vs (a ≡ b)
+    again_first_tie a b us vs p r = first_tie q.machine g owner (λ c ts. TypedAgain q g owner t c ts) (again_tie q real g owner t) a b us vs p r
+
+    live_rest_tie : (c : Bool) (a b : Result Resumed Stop) (us vs : List Visit) → LiveRest c a us → LiveRest c b vs → Tie us vs (a ≡ b)
+    live_rest_tie true a b us vs p r = none_tie (Ok again.Settled) a b us vs p r
+    live_rest_tie false a b us vs p r = again_first_tie a b us vs p r
+
+    last_tie : (a b : Result Resumed Stop) (us vs : List Visit) → Last a us → Last b vs → Tie us vs (a ≡ b)
+    last_tie a b us vs (inl p) (inl r) = again_first_tie a b us vs p.1 r.1
+    last_tie a b us vs (inl p) (inr r) = absurd (let far = p.0 in let near = r.0 in omega (arith, far, near))
+    last_tie a b us vs (inr p) (inl r) = absurd (let far = r.0 in let near = p.0 in omega (arith, far, near))
+    last_tie a b us vs (inr p) (inr r) = parted_tie (kind_tie g) (λ x. live_rest_tie (is_live_word x)) a b us vs p.1 r.1
+
+  resumes_tie : (d : Demand) (a b : Result Resumed Stop) (us vs : List Visit) → ResumesBy q owner a d us → ResumesBy q owner b d vs → Tie us vs (a ≡ b)
+  resumes_tie (demands.Typed g t) a b us vs p r = last_tie g t a b us vs (last_view g t a us p) (last_view g t b vs r)
+  resumes_tie d a b us vs p r = none_tie (Ok again.Settled) a b us vs p r
+
+  pub resumed_tie : (f i : ℕ) (t : PageType) (a b : Result Resumed Stop) (us vs : List Visit) → ResumedBy q f i t owner a us → ResumedBy q f i t owner b vs → Tie us vs (a ≡ b)
+  resumed_tie f i t a b us vs p r =
+      parted_tie {First = λ x us. Only (saw_cell f i x) us} {Rest = λ x a us. ResumesBy q owner a (demand_at t i x) us} (cell_tie f i) (λ x. resumes_tie (demand_at t i x)) a b us vs (record { answer = p.0; parts = p.1 }) (record { answer = r.0; parts = r.1 })
+
+-- ---- as calls
+pub entry_fixed : (v : PortValue) (owner : ℕ) (t : TableWork) → IsFixed v (λ w a. TookEntry v w owner t a)
+entry_fixed v owner t =
+    record {
+      came = λ w a p. does_came v w _ p.found;
+      alike = λ w x a b p r. alike_does p.found r.found (entered_tie v.post (made_real v w _ p.found (λ e. begins_with _ _ e.1)) owner t.frame t.done (level_type t.level) a b);
+    }
+
+pub resumed_fixed : (v : PortValue) (owner : ℕ) (t : TableWork) → IsFixed v (λ w a. ResumedEntry v w owner t a)
+resumed_fixed v owner t =
+    record {
+      came = λ w a p. does_came v w _ p.found;
+      alike = λ w x a b p r. alike_does p.found r.found (resumed_tie v.post (made_real v w _ p.found (λ e. begins_with _ _ e.1)) owner t.frame (t.done - 1) (level_type t.level) a b);
+    }

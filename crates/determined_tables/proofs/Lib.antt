@@ -2,3 +2,4 @@ pub mod Acquired
 pub mod Chains
 pub mod Entries
 pub mod Leaves
+pub mod Tables
