@@ -13,7 +13,7 @@ use Rattle.table_entries.specs.declared.entries.Entered.TheVariants.{Recorded, O
 use Rattle.table_entries.specs.declared.resuming.Resumed.{Resumed}
 use Rattle.table_entries.specs.declared.resuming.Resumed.TheVariants as again
 use Rattle.determined_laws.specs.Courses.{Alike}
-use Rattle.determined_tables.proofs.Chains.{Chain, Choice, Ends, IsFixed, behind, fixed_by, fixed_choice, fixed_ends, fixed_never, fixed_sure, fixed_then, left, right}
+use Rattle.determined_tables.proofs.Chains.{Chain, Choice, Ends, IsFixed, behind, fixed_by, fixed_choice, fixed_ends, fixed_never, fixed_sure, fixed_then, left, right, sure_two}
 use Rattle.determined_tables.proofs.Entries.{entry_fixed, resumed_fixed}
 use Rattle.determined_tables.proofs.Leaves.{gave_back_sure, joined_sure, live_sure, shared_sure}
 
@@ -84,3 +84,55 @@ module _ (owner : ℕ) where
 
   pub took_fixed : (v : PortValue) (ts : List TableWork) → IsFixed v (Took v ts)
   took_fixed v ts = record { came = λ w z p. took_came v ts w z.0 z.1 p; alike = λ w x z y p q. took_alike v ts w z.0 z.1 p x y (took_view v ts x y.0 y.1 q) }
+
+  -- ---- one entry, or one table
+  abbrev pub Advances : PortValue → List TableWork → PortValue → Worksheet → Type 0
+  Advances v ts w z = Advanced owner v ts w z.0 z.1
+
+  abbrev EnteredRest : TableWork → List TableWork → PortValue → Result Entered Stop → PortValue → Worksheet → Type 0
+  EnteredRest t ts u (Ok Recorded) w z = Ends u (one_entry_more t ∷ ts, Ok true) w z
+  EnteredRest t ts u (Ok (Opened f progress own)) w z = Took u (table_opened t f progress own false ∷ one_entry_more t ∷ ts) w z
+  EnteredRest t ts u (Ok (Unsettled stop)) w z = Ends u (one_entry_more t ∷ ts, Err stop) w z
+  EnteredRest t ts u (Err stop) w z = Ends u (t ∷ ts, Err stop) w z
+
+  -- a full table that is not the only one is made live
+  abbrev Completes : PortValue → TableWork → List TableWork → PortValue → Worksheet → Type 0
+  Completes v t [] w z = ⊥
+  Completes v t (outer ∷ ts) w z = (z ≡ (outer ∷ ts, Ok true)) × ((u : PortValue) × MadeLive v u t × Joined u w t outer t.recorded)
+
+  abbrev AdvancedView : PortValue → List TableWork → PortValue → Worksheet → Type 0
+  AdvancedView v [] w z = ⊥
+  AdvancedView v (t ∷ ts) w z = Choice (t.done < 512) (t.done ≡ 512) (Chain (λ u a. TookEntry v u owner t a) (EnteredRest t ts)) (Completes v t ts) w z
+
+  advanced_view : (v : PortValue) (ts : List TableWork) (w : PortValue) (us : List TableWork) (a : Result Bool Stop) → Advanced owner v ts w us a → AdvancedView v ts w (us, a)
+  advanced_view _ _ _ _ _ (ways.recorded v w t ts low e) = left low (record { at = w; answer = Ok Recorded; first = e; rest = (refl, refl) })
+  advanced_view _ _ _ _ _ (ways.opened v u w t ts us f progress own done low e on) = left low (record { at = u; answer = Ok (Opened f progress own); first = e; rest = on })
+  advanced_view _ _ _ _ _ (ways.cut_off v u w t ts us f progress own stop low e on) = left low (record { at = u; answer = Ok (Opened f progress own); first = e; rest = on })
+  advanced_view _ _ _ _ _ (ways.unsettled v w t ts stop low e) = left low (record { at = w; answer = Ok (Unsettled stop); first = e; rest = (refl, refl) })
+  advanced_view _ _ _ _ _ (ways.stopped v w t ts stop low e) = left low (record { at = w; answer = Err stop; first = e; rest = (refl, refl) })
+  advanced_view _ _ _ _ _ (ways.completed v u w t outer ts full l j) = right full (refl, (u, l, j))
+
+  entered_fixed : (t : TableWork) (ts : List TableWork) (u : PortValue) (a : Result Entered Stop) → IsFixed u (EnteredRest t ts u a)
+  entered_fixed t ts u (Ok Recorded) = fixed_ends u (one_entry_more t ∷ ts, Ok true)
+  entered_fixed t ts u (Ok (Opened f progress own)) = took_fixed u (table_opened t f progress own false ∷ one_entry_more t ∷ ts)
+  entered_fixed t ts u (Ok (Unsettled stop)) = fixed_ends u (one_entry_more t ∷ ts, Err stop)
+  entered_fixed t ts u (Err stop) = fixed_ends u (t ∷ ts, Err stop)
+
+  completes_fixed : (v : PortValue) (t : TableWork) (ts : List TableWork) → IsFixed v (Completes v t ts)
+  completes_fixed v t [] = fixed_never v (λ w z p. p)
+  completes_fixed v t (outer ∷ ts) = fixed_sure (outer ∷ ts, Ok true) (sure_two (live_sure v t) (λ u p. joined_sure u t outer t.recorded))
+
+  view_fixed : (v : PortValue) (ts : List TableWork) → IsFixed v (AdvancedView v ts)
+  view_fixed v [] = fixed_never v (λ w z p. p)
+  view_fixed v (t ∷ ts) = fixed_choice (λ low full. omega (arith, low, full)) (λ low. fixed_then (entry_fixed v owner t) (λ u a p. entered_fixed t ts u a)) (λ full. completes_fixed v t ts)
+
+  pub advanced_fixed : (v : PortValue) (ts : List TableWork) → IsFixed v (Advances v ts)
+  advanced_fixed v ts = fixed_by (λ w z p. advanced_view v ts w z.0 z.1 p) (view_fixed v ts)
+
+  -- none goes on where the only table is full
+  pub none_from_full : (v : PortValue) (t : TableWork) (w : PortValue) (z : Worksheet) → t.done ≡ 512 → Advances v (t ∷ []) w z → ⊥
+  none_from_full v t w z full p = by (advanced_view v (t ∷ []) w z.0 z.1 p)
+    where
+      by : AdvancedView v (t ∷ []) w z → ⊥
+      by (left low c) = omega (arith, low, full)
+      by (right full' c) = c
