@@ -113,3 +113,30 @@ module _ (owner : ℕ) (says : ℕ → Bool) (n : ℕ) where
   no_next v [] bs (Ok done) end t p = end
   no_next v (u ∷ []) bs (Ok done) end t p = none_from_full owner v u t.at (t.tables, p.done) end p.advances
   no_next v (u ∷ x ∷ xs) bs (Ok done) end t p = end
+
+  -- ---- as a course
+  -- the tables in work at the end, the answers, and how it ended
+  abbrev pub Outcome : Type 0
+  Outcome = List TableWork × List Bool × Result (Unit {0}) Stop
+
+  abbrev pub FillsBy : PortValue → List TableWork → List Bool → PortValue → Outcome → Type 0
+  FillsBy v ts before w z = Filled owner v ts before w z.0 z.1 z.2 × GivesAnswers says n z.1 × IsEnd z.0 z.2
+
+  pub filled_fixed : (v : PortValue) (ts : List TableWork) (before : List Bool) → IsFixed v (FillsBy v ts before)
+  filled_fixed v ts before =
+      record {
+        came = λ w z p. goes_came Next (λ (s : Standing). s.at) steps same (made v ts before (Ok tt)) (made w z.0 z.1 z.2) (fills v ts before w z.0 z.1 z.2 p.0 p.1);
+        alike = λ w x z y p q.
+          alike_map
+          (goes_same Next (λ (s : Standing). s.at) steps same (made v ts before (Ok tt)) (made w z.0 z.1 z.2) (made x y.0 y.1 y.2) (no_next w z.0 z.1 z.2 p.2) (no_next x y.0 y.1 y.2 q.2)
+          (fills v ts before w z.0 z.1 z.2 p.0 p.1) (fills v ts before x y.0 y.1 y.2 q.0 q.1))
+          (λ e. ap (λ (s : Standing). (s.tables, s.answers, s.answer)) e);
+      }
+
+  -- what was answered before was answered by the same gate
+  pub given_before : (v : PortValue) (ts : List TableWork) (before : List Bool) (w : PortValue) (us : List TableWork) (bs : List Bool) (r : Result (Unit {0}) Stop) → Filled owner v ts before w us bs r → GivesAnswers says n bs → GivesAnswers says n before
+  given_before v ts before _ _ _ _ ways.begun g = g
+  given_before v ts before _ _ _ _ (ways.unasked u w us xs done bs f a e) g = given_before v ts before u us bs (Ok tt) f g
+  given_before v ts before _ _ _ _ (ways.asked u w us xs bs f a e) g = given_before v ts before u us bs (Ok tt) f (given_rest says n false bs g)
+  given_before v ts before _ _ _ _ (ways.due u w us xs bs f a e) g = given_before v ts before u us bs (Ok tt) f (given_rest says n true bs g)
+  given_before v ts before _ _ _ _ (ways.stopped u w us xs bs stop f a) g = given_before v ts before u us bs (Ok tt) f g
