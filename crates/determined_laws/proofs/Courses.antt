@@ -40,16 +40,12 @@ made_then v u w us vs a b = (b.0 ++ a.0, ran_more v u w a.0 b.0 a.1 b.1, visits_
     visits_more (m ∷ ms) ns = ap (λ z. visit_of m ∷ z) (visits_more ms ns)
 
 pub made_some : (v w : PortValue) → Came v w → (us : List Visit) × MadeBy v w us
-unfolding Came, Does
+unfolding Came Does
 made_some v w a = (visits a.0, (a.0, a.1, refl))
 
 pub made_came : (v w : PortValue) (us : List Visit) → MadeBy v w us → Came v w
-unfolding Came, Does
+unfolding Came Does
 made_came v w us a = (a.0, a.1)
-
-pub does_came : (v w : PortValue) (P : List Visit → Type 0) → Does v w P → Came v w
-unfolding Came, Does
-does_came v w P a = (a.0, a.1)
 
 -- ---- forks
 pub forked_then : {v a b w x : PortValue} → Forked v a b → Came a w → Came b x → Forked v w x
@@ -85,6 +81,10 @@ alike_then {v} {a} {b} {w} {x} {E} {F} c one two (inr s) rest = behind (rest s.0
     behind (inl f) = inl (forked_behind c f)
     behind (inr t) = inr t
 
+-- the same, where the rest of the other is said of its own port
+pub alike_next : {v a b w x : PortValue} {E F : Type 0} (Rest : PortValue → Type 0) → Came v a → Came a w → Came b x → Alike v a b E → Rest b → (E → Rest a → Alike a w x F) → Alike v w x F
+alike_next Rest c one two first q rest = alike_then c one two first (λ e s. rest s (subst Rest (sym e) q))
+
 -- the first parts are alike, but their answers are not both to be had
 pub alike_apart : {v a b w x : PortValue} {E F : Type 0} → Came a w → Came b x → Alike v a b E → (E → ⊥) → Alike v w x F
 alike_apart one two (inl f) off = inl (forked_then f one two)
@@ -114,7 +114,7 @@ alike_does {v} {w} {x} {P} {Q} {E} a b tie = alike_lists v w x (visits a.0) (vis
 
 -- of one step
 pub moves_made : (v w : PortValue) (p : Place) (a : Act) (kind : StepKind) (mark : Option Mark) (x : ℕ) → Moves v w p a kind mark x → MadeBy v w (visit_by kind p a mark x ∷ [])
-unfolding Does, moment_of
+unfolding Does moment_of
 moves_made v w p a kind mark x m = (moment_of v p a kind mark x ∷ [], moves_ran v w p a kind mark x m, refl)
 
 pub alike_move : {v w x : PortValue} {p : Place} {a : Act} {kind : StepKind} {mark : Option Mark} {m n : ℕ} → Moves v w p a kind mark m → Moves v x p a kind mark n → Alike v w x (m ≡ n)
@@ -123,12 +123,12 @@ alike_move {v} {w} {x} {p} {a} {kind} {mark} {m} {n} one two = by (same_or m n)
     by : (m ≡ n) ⊎ (m ≢ n) → Alike v w x (m ≡ n)
     by (inl e) = inr (one.to ∙ (ap (λ z. moved v p a kind mark z) e ∙ sym two.to), e)
     by (inr n') = inl (record {
-        us = visit_by kind p a mark m ∷ [];
-        vs = visit_by kind p a mark n ∷ [];
-        left = moves_made v w p a kind mark m one;
-        right = moves_made v x p a kind mark n two;
-        forks = record { place = p; act = a; kind = kind; mark = mark; x = m; y = n; other = n'; newer = []; later = []; older = []; left = refl; right = refl };
-      })
+      us = visit_by kind p a mark m ∷ [];
+      vs = visit_by kind p a mark n ∷ [];
+      left = moves_made v w p a kind mark m one;
+      right = moves_made v x p a kind mark n two;
+      forks = record { place = p; act = a; kind = kind; mark = mark; x = m; y = n; other = n'; newer = []; later = []; older = []; left = refl; right = refl };
+    })
 
 -- ---- loops that are told from their end: so many steps from state to state, the last one named last
 pub data Goes {S : Type 0} (Next : S → S → Type 0) (s : S) : S → Type 0 where
@@ -171,6 +171,7 @@ module _ {S : Type 0} (Next : S → S → Type 0) (at : S → PortValue) (steps 
           meet : Alike (at m) (at t) (at k) (t ≡ k) → Beside s t u
           meet (inl f) = forked (forked_then (forked_behind (goes_came s m before) f) (came_self (at t)) (goes_came k u rest))
           meet (inr e) = shorter (subst (λ z. Goes Next z u) (sym e.1) rest)
+
       by : Beside s m u → Beside s t u
       by (forked f) = forked (forked_then f (steps m t step) (came_self (at u)))
       by (shorter rest) = next (begins rest)
@@ -183,6 +184,7 @@ module _ {S : Type 0} (Next : S → S → Type 0) (at : S → PortValue) (steps 
       end : (p q : S) → ((k : S) → Next p k → ⊥) → Begins Next p q → p ≡ q
       end p q out (ended e) = e
       end p q out (first k one rest) = absurd (out k one)
+
       by : Beside s t u → Alike (at s) (at t) (at u) (t ≡ u)
       by (forked f) = inl f
       by (shorter g) = let e = end t u off (begins g) in inr (ap at e, e)

@@ -1,4 +1,5 @@
 pub mod Accesses
+pub mod Calls
 pub mod Courses
 pub mod Owners
 pub mod References
