@@ -115,3 +115,14 @@ sure_as so fixed = fixed_by (λ w t p. so w p) fixed
 -- with an answer that is fixed
 pub fixed_sure : {v : PortValue} {A : Type 0} {C : PortValue → Type 0} (c : A) → IsSure v C → IsFixed v (λ w a. (a ≡ c) × C w)
 fixed_sure c fixed = record { came = λ w a p. fixed.came w tt p.1; alike = λ w x a b p q. alike_map (fixed.alike w x tt tt p.1 q.1) (λ e. p.0 ∙ sym q.0) }
+
+-- with an answer that is made of the own one
+pub fixed_map : {v : PortValue} {A B : Type 0} {C : PortValue → A → Type 0} (g : A → B) → IsFixed v C → IsFixed v (λ w b. (a : A) × C w a × (b ≡ g a))
+fixed_map g fixed = record { came = λ w b p. fixed.came w p.0 p.1; alike = λ w x b c p q. alike_map (fixed.alike w x p.0 q.0 p.1 q.1) (λ e. p.2 ∙ (ap g e ∙ sym q.2)) }
+
+-- with a word beside its answer
+pub fixed_pair : {v : PortValue} {A B : Type 0} {C : PortValue → B → Type 0} (c : A) → IsFixed v C → IsFixed v (λ w (z : A × B). (z.0 ≡ c) × C w z.1)
+fixed_pair {v} {A} {B} {C} c fixed = record { came = λ w z p. fixed.came w z.1 p.1; alike = λ w x z y p q. alike_map (fixed.alike w x z.1 y.1 p.1 q.1) (λ e. both z y (p.0 ∙ sym q.0) e) }
+  where
+    both : (z y : A × B) → z.0 ≡ y.0 → z.1 ≡ y.1 → z ≡ y
+    both z y e f = ap (λ k. (k, z.1)) e ∙ ap (λ k. (y.0, k)) f

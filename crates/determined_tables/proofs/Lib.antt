@@ -3,4 +3,5 @@ pub mod Chains
 pub mod Entries
 pub mod Filling
 pub mod Leaves
+pub mod Pages
 pub mod Tables
