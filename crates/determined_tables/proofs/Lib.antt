@@ -5,3 +5,4 @@ pub mod Filling
 pub mod Leaves
 pub mod Pages
 pub mod Tables
+pub mod Whole

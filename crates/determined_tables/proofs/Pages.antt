@@ -1,5 +1,5 @@
--- Frames that are taken as ordinary memory, and whole frames that are cleared and copied, are determined.
-use Rattle.std.proofs.Common.{◌≡◌, ◌≢◌, ℕ, ◌+◌, ◌<◌, Bool, true, false, List, [], ◌∷◌, ◌++◌, length, Option, Some, None, Result, Ok, Err, refl, sym, ap, ◌∙◌, subst, arith}
+-- Frames that are taken as ordinary memory are determined.
+use Rattle.std.proofs.Common.{◌≡◌, ◌≢◌, ℕ, ◌+◌, ◌<◌, Bool, true, false, List, [], ◌∷◌, ◌++◌, length, Option, Some, None, Result, Ok, Err, refl, sym, ap, ◌∙◌, subst, inl, inr, arith}
 use Rattle.xp_words.specs.declared.kind.PageType.TheVariants.{Writable}
 use Rattle.xp_words.specs.declared.place.Place.TheVariants.{Cell}
 use Rattle.xp_words.specs.declared.reply.Stop.{Stop}
@@ -74,3 +74,9 @@ module _ (f owner : ℕ) where
 
   pub got_page_fixed : (v : PortValue) → IsFixed v (λ w b. GotPage v f owner w b)
   got_page_fixed v = fixed_by (got_view v) (fixed_then (got_fixed v f owner) (λ u o p. got_rest_fixed u o))
+
+pub got_page_came : {v w : PortValue} {f owner : ℕ} {a : Result ℕ Stop} → GotPage v f owner w a → Came v w
+got_page_came {v} {w} {f} {owner} {a} p = (got_page_fixed f owner v).came w a p
+
+pub got_page_alike : {v w x : PortValue} {f owner : ℕ} {a b : Result ℕ Stop} → GotPage v f owner w a → GotPage v f owner x b → Alike v w x (a ≡ b)
+got_page_alike {v} {w} {x} {f} {owner} {a} {b} p q = (got_page_fixed f owner v).alike w x a b p q
