@@ -3,6 +3,7 @@ pub mod Chains
 pub mod Entries
 pub mod Filling
 pub mod Leaves
+pub mod Loops
 pub mod Pages
 pub mod Tables
 pub mod Whole
