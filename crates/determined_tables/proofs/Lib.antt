@@ -1,0 +1,9 @@
+pub mod Acquired
+pub mod Chains
+pub mod Entries
+pub mod Filling
+pub mod Leaves
+pub mod Loops
+pub mod Pages
+pub mod Tables
+pub mod Whole
