@@ -1,0 +1,5 @@
+mod Calls
+mod Runs
+pub mod Entries
+pub mod Released
+pub mod Settled
