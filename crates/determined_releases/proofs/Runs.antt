@@ -6,13 +6,13 @@ use Rattle.xp_words.specs.declared.reply.Stop.TheVariants.{Paused}
 use Rattle.xp_preempt.specs.Gates.{GivesAnswers, answer_at, asks_on}
 use Rattle.xp_board.specs.Told.{PortValue}
 use Rattle.step_maker.specs.Moves.{Came}
-use Rattle.step_maker.proofs.Coming.{came_trans}
+use Rattle.step_maker.proofs.Coming.{came_self, came_trans}
 use Rattle.partial_state.specs.Levels.{level_type}
 use Rattle.partial_state.specs.declared.stack.TableWork.{TableWork}
 use Rattle.table_releases.specs.declared.entries.Released.{Released}
 use Rattle.table_releases.specs.declared.entries.Released.TheVariants.{Given, Opened}
 use Rattle.level_release.specs.Course as course
-use Rattle.level_release.specs.Course.{Emptied, GaveEntry, Lowered, MadeDead, RanDown, is_asked_within, left_by, left_emptied, one_more_done, table_under}
+use Rattle.level_release.specs.Course.{Emptied, GaveEntry, Lowered, MadeDead, RanDown, UnwoundDown, is_asked_within, left_by, left_emptied, one_more_done, table_under}
 use Rattle.determined_laws.specs.Courses.{Alike}
 use Rattle.determined_laws.proofs.Courses.{Goes, alike_apart, alike_map, alike_then, goes_came, goes_same, more, none}
 use Rattle.determined_releases.proofs.Calls.{alike_with, dead_alike, dead_came, gave_entry_alike, gave_entry_came, unwound_alike, unwound_came}
@@ -80,6 +80,11 @@ point v ts answers r = record { port = v; tables = ts; answers = answers; result
 point_same : (s t : Point) → s.port ≡ t.port → s.tables ≡ t.tables → s.answers ≡ t.answers → s.result ≡ t.result → s ≡ t
 point_same s t a b c d = rw (a, b, c, d) refl
 
+-- where none is left, or it stopped, it does not go on
+data Ended : List TableWork → Result (Unit {0}) Stop → Type 0 where
+  none_left : (r : Result (Unit {0}) Stop) → Ended [] r
+  at_stop : (us : List TableWork) (stop : Stop) → Ended us (Err stop)
+
 module _ (says : ℕ → Bool) (n : ℕ) (below : Option ℕ) where
   -- what the gate says to the next ask
   abbrev said : List Bool → Bool
@@ -116,9 +121,6 @@ module _ (says : ℕ → Bool) (n : ℕ) (below : Option ℕ) where
       (p.answers ∙ (ap (λ z. answers_on s.answers z p.answer) e.0 ∙ (ap (λ z. answers_on s.answers u.tables z) e.1 ∙ sym q.answers)))
       (p.result ∙ (ap (λ z. result_on s.answers z p.answer) e.0 ∙ (ap (λ z. result_on s.answers u.tables z) e.1 ∙ sym q.result))))
 
-  Loop : Point → Point → Type 0
-  Loop s t = Goes Next s t
-
   module _ (v : PortValue) (ts : List TableWork) where
     abbrev start : Point
     start = point v ts [] (Ok tt)
@@ -138,11 +140,6 @@ module _ (says : ℕ → Bool) (n : ℕ) (below : Option ℕ) where
     ran_goes _ _ _ _ (course.stopped u w us xs answers stop before lowered) g =
         more (point u us answers (Ok tt)) (point w xs answers (Err stop)) (ran_goes u us answers (Ok tt) before g) (record { going = refl; answer = Err stop; lowers = lowered; answers = refl; result = refl })
 
-    -- where none is left, or it stopped, it does not go on
-    data Ended : List TableWork → Result (Unit {0}) Stop → Type 0 where
-      none_left : (r : Result (Unit {0}) Stop) → Ended [] r
-      at_stop : (us : List TableWork) (stop : Stop) → Ended us (Err stop)
-
     no_more : {A : Type 0} (w : PortValue) (us : List TableWork) (answers : List Bool) (r : Result (Unit {0}) Stop) (k : Point) → Ended us r → Next (point w us answers r) k → A
     no_more w _ answers _ k (none_left r) p = lowered_none p.lowers
     no_more w _ answers _ k (at_stop us stop) p = absurd (let e = p.going in cc)
@@ -152,3 +149,38 @@ module _ (says : ℕ → Bool) (n : ℕ) (below : Option ℕ) where
     ran_alike w x us rs answers others a b ended out g h p q =
         goes_same Next (λ s. s.port) next_came next_alike start (point w us answers a) (point x rs others b) (λ k s. no_more w us answers a k ended s) (λ k s. no_more x rs others b k out s)
         (ran_goes w us answers a p g) (ran_goes x rs others b q h)
+
+pub ran_came : {below : Option ℕ} (v : PortValue) (ts : List TableWork) (w : PortValue) (us : List TableWork) (answers : List Bool) (r : Result (Unit {0}) Stop) → RanDown below v ts w us answers r → Came v w
+ran_came v ts _ _ _ _ course.begun = came_self v
+ran_came v ts _ _ _ _ (course.unasked u w us xs done answers before lowered off) = came_trans v u w (ran_came v ts u us answers (Ok tt) before) (lowered_came u w us xs (Ok done) lowered)
+ran_came v ts _ _ _ _ (course.asked u w us xs answers before lowered on) = came_trans v u w (ran_came v ts u us answers (Ok tt) before) (lowered_came u w us xs (Ok true) lowered)
+ran_came v ts _ _ _ _ (course.due u w us xs answers before lowered on) = came_trans v u w (ran_came v ts u us answers (Ok tt) before) (lowered_came u w us xs (Ok true) lowered)
+ran_came v ts _ _ _ _ (course.stopped u w us xs answers stop before lowered) = came_trans v u w (ran_came v ts u us answers (Ok tt) before) (lowered_came u w us xs (Err stop) lowered)
+
+-- ---- one table and all in it
+pub emptied_came : {below : Option ℕ} {v w : PortValue} {t : TableWork} {answers : List Bool} {a : Result (Unit {0}) Stop} → Emptied below v t w answers a → Came v w
+emptied_came {v = v} {t = t} (course.finished w answers ran) = ran_came v (t ∷ []) w [] answers (Ok tt) ran
+emptied_came {v = v} {t = t} (course.paused u w us answers stop ran left) = came_trans v u w (ran_came v (t ∷ []) u us answers (Err stop) ran) (unwound_came u w us left)
+
+done_apart : {A : Type 0} {v w : PortValue} {us rs : List TableWork} {answers others : List Bool} {stop : Stop} → point v us answers (Ok tt) ≡ point w rs others (Err stop) → A
+done_apart e = absurd (let r = ap (λ (z : Point). z.result) e in cc)
+
+stop_same : (e f : Stop) → ◌≡◌ {A = Result (Unit {0}) Stop} (Err e) (Err f) → e ≡ f
+stop_same e f s = cc
+
+module _ (says : ℕ → Bool) (n : ℕ) where
+  pub emptied_alike : {below : Option ℕ} {v w x : PortValue} {t : TableWork} {answers others : List Bool} {a b : Result (Unit {0}) Stop} → GivesAnswers says n answers → GivesAnswers says n others →
+      (p : Emptied below v t w answers a) → (q : Emptied below v t x others b) → Alike v w x ((answers ≡ others) × (a ≡ b) × (left_emptied p ≡ left_emptied q))
+  emptied_alike {below} {v} {t = t} g h (course.finished w answers ran) (course.finished x others run) =
+      alike_map (ran_alike says n below v (t ∷ []) w x [] [] answers others (Ok tt) (Ok tt) (none_left (Ok tt)) (none_left (Ok tt)) g h ran run) (λ e. (ap (λ (z : Point). z.answers) e, refl, refl))
+  emptied_alike {below} {v} {t = t} g h (course.finished w answers ran) (course.paused b x rs others stop run left) =
+      alike_apart (came_self w) (unwound_came b x rs left) (ran_alike says n below v (t ∷ []) w b [] rs answers others (Ok tt) (Err stop) (none_left (Ok tt)) (at_stop rs stop) g h ran run) (λ e. done_apart e)
+  emptied_alike {below} {v} {t = t} g h (course.paused a w us answers stop ran left) (course.finished x others run) =
+      alike_apart (unwound_came a w us left) (came_self x) (ran_alike says n below v (t ∷ []) a x us [] answers others (Err stop) (Ok tt) (at_stop us stop) (none_left (Ok tt)) g h ran run) (λ e. done_apart (sym e))
+  emptied_alike {below} {v} {t = t} g h (course.paused a w us answers stop ran left) (course.paused b x rs others halt run right) =
+      alike_then (ran_came v (t ∷ []) a us answers (Err stop) ran) (unwound_came a w us left) (unwound_came b x rs right)
+      (ran_alike says n below v (t ∷ []) a b us rs answers others (Err stop) (Err halt) (at_stop us stop) (at_stop rs halt) g h ran run)
+      (λ e s. let tables : us ≡ rs = ap (λ (z : Point). z.tables) s in
+      let result : ◌≡◌ {A = Result (Unit {0}) Stop} (Err stop) (Err halt) = ap (λ (z : Point). z.result) s in
+      alike_map (unwound_alike us a w x left (subst (λ z. UnwoundDown a z x) (sym tables) (subst (λ z. UnwoundDown z rs x) (sym e) right)))
+      (λ k. (ap (λ (z : Point). z.answers) s, result, ap (λ z. left_by below stop z) tables ∙ ap (λ z. left_by below z rs) (stop_same stop halt result))))
