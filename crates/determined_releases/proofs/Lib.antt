@@ -1,5 +1,6 @@
+mod Answers
 mod Calls
-mod Runs
 pub mod Entries
 pub mod Released
+mod Runs
 pub mod Settled
