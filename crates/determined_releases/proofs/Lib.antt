@@ -1,5 +1,6 @@
 mod Answers
 mod Calls
+mod Emptying
 pub mod Entries
 pub mod Released
 mod Runs

@@ -136,10 +136,10 @@ module _ (says : ℕ → Bool) (k : ℕ) (below : Option ℕ) (n : Machine) (w x
       alike_step p.1 q.1 (seen_came p.0 w f answers a left p.2) (seen_came q.0 x f others b right q.2) (λ e m. seen_alike p.0 f p.2 (subst (λ z. Seen below n z f x others b right) (sym e) q.2))
 
 -- ---- one old word
-some_named : (f g : ℕ) → f + 1 ≡ g + 1 → f ≡ g
+pub some_named : (f g : ℕ) → f + 1 ≡ g + 1 → f ≡ g
 some_named f g e = omega (arith, e)
 
-none_named : (f : ℕ) → 0 ≢ f + 1
+pub none_named : (f : ℕ) → 0 ≢ f + 1
 none_named f e = omega (arith, e)
 
 module _ (says : ℕ → Bool) (n : ℕ) {below : Option ℕ} {v w x : PortValue} {which : OldWord} {answers others : List Bool} {a b : Result (Unit {0}) Stop} {left right : Option ℕ} (g : GivesAnswers says n answers) (h : GivesAnswers says n others) where
