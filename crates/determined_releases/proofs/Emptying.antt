@@ -77,6 +77,10 @@ words_came vcpu u _ _ _ _ emptying.EmptiesWords.none = came_self u
 words_came vcpu u _ _ _ _ (emptying.EmptiesWords.one_more i x w answers asked a before one) =
     came_trans u x w (words_came vcpu u i x answers (Ok tt) before) (word_came vcpu (word_at i) x w asked a one)
 
+to_came : (vcpu : ℕ) (u w : PortValue) (answers : List Bool) (a : Done) → EmptiesTo vcpu u w answers a → Came u w
+to_came vcpu u w answers (Ok done) p = words_came vcpu u 34 w answers (Ok tt) p
+to_came vcpu u w answers (Err e) p = words_came vcpu u p.0 w answers (Err e) p.2
+
 -- where all are emptied, or one stopped it, it does not go on
 data Finished : ℕ → Done → Type 0 where
   all_of_them : (r : Done) → Finished 34 r
@@ -117,10 +121,6 @@ module _ (says : ℕ → Bool) (n vcpu : ℕ) where
         alike_map (goes_same Next (λ s. s.port) next_came next_alike (place u 0 [] (Ok tt)) (place w i answers a) (place x j others b) (λ k s. no_more w i answers a k ended s) (λ k s. no_more x j others b k out s)
         (words_goes i few w answers a p g) (words_goes j less x others b q h)) (λ e. (ap (λ (z : Place). z.answers) e, ap (λ (z : Place). z.result) e))
 
-    to_came : (w : PortValue) (answers : List Bool) (a : Done) → EmptiesTo vcpu u w answers a → Came u w
-    to_came w answers (Ok done) p = words_came vcpu u 34 w answers (Ok tt) p
-    to_came w answers (Err e) p = words_came vcpu u p.0 w answers (Err e) p.2
-
     to_alike : (w x : PortValue) (answers others : List Bool) (a b : Done) → GivesAnswers says n answers → GivesAnswers says n others → EmptiesTo vcpu u w answers a → EmptiesTo vcpu u x others b → Alike u w x ((answers ≡ others) × (a ≡ b))
     to_alike w x answers others (Ok done) (Ok did) g h p q = words_alike w x 34 34 answers others (Ok tt) (Ok tt) (omega arith) (omega arith) (all_of_them (Ok tt)) (all_of_them (Ok tt)) g h p q
     to_alike w x answers others (Ok done) (Err e) g h p q = words_alike w x 34 q.0 answers others (Ok tt) (Err e) (omega arith) q.1 (all_of_them (Ok tt)) (at_stop q.0 e) g h p q.2
@@ -128,12 +128,12 @@ module _ (says : ℕ → Bool) (n vcpu : ℕ) where
     to_alike w x answers others (Err e) (Err s) g h p q = words_alike w x p.0 q.0 answers others (Err e) (Err s) p.1 q.1 (at_stop p.0 e) (at_stop q.0 s) g h p.2 q.2
 
 -- ---- one vCPU
-module _ (says : ℕ → Bool) (n d vcpu : ℕ) (u : PortValue) where
-  pub one_came : (w : PortValue) (answers : List Bool) (a : Result Bool Stop) → EmptiesOne d vcpu u w answers a → Came u w
-  one_came _ _ _ (emptying.EmptiesOne.other off) = came_self u
-  one_came _ _ _ (emptying.EmptiesOne.emptied w answers is p) = to_came says n vcpu u w answers (Ok tt) p
-  one_came _ _ _ (emptying.EmptiesOne.stopped w answers e is p) = to_came says n vcpu u w answers (Err e) p
+pub one_came : (d vcpu : ℕ) (u w : PortValue) (answers : List Bool) (a : Result Bool Stop) → EmptiesOne d vcpu u w answers a → Came u w
+one_came d vcpu u _ _ _ (emptying.EmptiesOne.other off) = came_self u
+one_came d vcpu u _ _ _ (emptying.EmptiesOne.emptied w answers is p) = to_came vcpu u w answers (Ok tt) p
+one_came d vcpu u _ _ _ (emptying.EmptiesOne.stopped w answers e is p) = to_came vcpu u w answers (Err e) p
 
+module _ (says : ℕ → Bool) (n d vcpu : ℕ) (u : PortValue) where
   done_on : {A : Type 0} (e : Stop) → ◌≡◌ {A = Done} (Ok tt) (Err e) → A
   done_on e s = absurd cc
 

@@ -3,5 +3,6 @@ mod Calls
 mod Emptying
 pub mod Entries
 pub mod Released
+mod Marks
 mod Runs
 pub mod Settled
