@@ -2,6 +2,7 @@ mod Answers
 mod Calls
 mod Emptying
 pub mod Entries
+mod Passes
 pub mod Released
 mod Marks
 mod Runs
