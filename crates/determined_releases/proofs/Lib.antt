@@ -1,0 +1,9 @@
+mod Answers
+mod Calls
+mod Emptying
+pub mod Entries
+mod Passes
+pub mod Released
+mod Marks
+mod Runs
+pub mod Settled
