@@ -26,7 +26,7 @@ use Rattle.step_maker.specs.Licences.{is_unmapped}
 use Rattle.mmu_update.specs.Course.{TriedLock, entry_update}
 use Rattle.determined_laws.specs.Courses.{Alike}
 use Rattle.determined_laws.specs.Forks.{AgreeLock}
-use Rattle.determined_laws.proofs.Calls.{IsReal, gets_alike, puts_alike, real_came}
+use Rattle.determined_laws.proofs.Calls.{gets_alike, puts_alike}
 use Rattle.determined_laws.proofs.Courses.{alike_apart, alike_map, alike_move, alike_next, alike_same}
 use Rattle.determined_calls.proofs.Exchanging.{exchanged_came, left_lock_alike}
 use Rattle.determined_calls.proofs.Levels.{lock_at}
@@ -133,65 +133,65 @@ module _ (o : Owners) (table i word : ℕ) where
       by (suc (suc (suc (suc k)))) far s = cc
 
   module _ (says : ℕ → Bool) (n : ℕ) where
-    under_alike : {y w x : PortValue} {answers others : List Bool} {a b : Result (Unit {0}) Stop} {r s : Result Locked Stop} → IsReal y → GivesAnswers says n answers → GivesAnswers says n others → AgreeLock r s →
+    under_alike : {y w x : PortValue} {answers others : List Bool} {a b : Result (Unit {0}) Stop} {r s : Result Locked Stop} → GivesAnswers says n answers → GivesAnswers says n others → AgreeLock r s →
         Under y w answers a r → Under y x others b s → Alike y w x ((answers ≡ others) × (a ≡ b))
-    under_alike real one two e (unlocked stop gave none end) (unlocked halt gone bare ends) = alike_map (puts_alike table gave.found gone.found) (λ s. (none ∙ sym bare, end ∙ (ap (λ z. Err z) e ∙ sym ends)))
-    under_alike real one two e (unlocked stop gave none end) (other found gone bare ends) = absurd e
-    under_alike real one two e (unlocked stop gave none end) (level high found off left bare ends) = absurd e
-    under_alike real one two e (unlocked stop gave none end) (exchanged low found is run) = absurd e
-    under_alike real one two e (other found gave none end) (unlocked halt gone bare ends) = absurd e
-    under_alike real one two e (other found gave none end) (other stood gone bare ends) =
+    under_alike one two e (unlocked stop gave none end) (unlocked halt gone bare ends) = alike_map (puts_alike table gave.found gone.found) (λ s. (none ∙ sym bare, end ∙ (ap (λ z. Err z) e ∙ sym ends)))
+    under_alike one two e (unlocked stop gave none end) (other found gone bare ends) = absurd e
+    under_alike one two e (unlocked stop gave none end) (level high found off left bare ends) = absurd e
+    under_alike one two e (unlocked stop gave none end) (exchanged low found is run) = absurd e
+    under_alike one two e (other found gave none end) (unlocked halt gone bare ends) = absurd e
+    under_alike one two e (other found gave none end) (other stood gone bare ends) =
         alike_map (puts_alike table gave.found gone.found) (λ s. (none ∙ sym bare, end ∙ (ap (λ z. Err (Refused (refusals.OtherType table L1 z))) e ∙ sym ends)))
-    under_alike real one two e (other found gave none end) (level high stood off left bare ends) = absurd e
-    under_alike real one two e (other found gave none end) (exchanged low stood is run) = absurd e
-    under_alike real one two e (level high found off left none end) (unlocked halt gone bare ends) = absurd e
-    under_alike real one two e (level high found off left none end) (other stood gone bare ends) = absurd e
-    under_alike real one two e (level high found off left none end) (level higher stood out gone bare ends) =
+    under_alike one two e (other found gave none end) (level high stood off left bare ends) = absurd e
+    under_alike one two e (other found gave none end) (exchanged low stood is run) = absurd e
+    under_alike one two e (level high found off left none end) (unlocked halt gone bare ends) = absurd e
+    under_alike one two e (level high found off left none end) (other stood gone bare ends) = absurd e
+    under_alike one two e (level high found off left none end) (level higher stood out gone bare ends) =
         alike_map (left_lock_alike left (lock_at higher high (sym e.1) gone)) (λ s. (none ∙ sym bare, end ∙ (ap (λ z. Err (Refused (refusals.OtherType table L1 z))) e.0 ∙ sym ends)))
-    under_alike real one two e (level high found off left none end) (exchanged low stood is run) = one_apart low high is off (sym e.1)
-    under_alike real one two e (exchanged low found is run) (unlocked halt gone bare ends) = absurd e
-    under_alike real one two e (exchanged low found is run) (other stood gone bare ends) = absurd e
-    under_alike real one two e (exchanged low found is run) (level high stood off left bare ends) = one_apart low high is off e.1
-    under_alike real one two e (exchanged low found is run) (exchanged lower stood also goes) = under_lock_alike table i word false 1 1 says n real one two refl run goes
+    under_alike one two e (level high found off left none end) (exchanged low stood is run) = one_apart low high is off (sym e.1)
+    under_alike one two e (exchanged low found is run) (unlocked halt gone bare ends) = absurd e
+    under_alike one two e (exchanged low found is run) (other stood gone bare ends) = absurd e
+    under_alike one two e (exchanged low found is run) (level high stood off left bare ends) = one_apart low high is off e.1
+    under_alike one two e (exchanged low found is run) (exchanged lower stood also goes) = under_lock_alike table i word false 1 1 says n one two refl run goes
 
-    enters_alike : {v w x : PortValue} {answers others : List Bool} {a b : Result (Unit {0}) Stop} → IsReal v → GivesAnswers says n answers → GivesAnswers says n others →
+    enters_alike : {v w x : PortValue} {answers others : List Bool} {a b : Result (Unit {0}) Stop} → GivesAnswers says n answers → GivesAnswers says n others →
         Enters v w answers a → Enters v x others b → Alike v w x ((answers ≡ others) × (a ≡ b))
-    enters_alike real one two (unreferred stop got none end) (unreferred halt gets bare ends) =
+    enters_alike one two (unreferred stop got none end) (unreferred halt gets bare ends) =
         alike_map (gets_alike {A = ℕ} table o.tables (Err stop) (Err halt) got.found gets.found) (λ s. (none ∙ sym bare, end ∙ (ap (λ z. Err z) s ∙ sym ends)))
-    enters_alike {v} {w} {x} real one two (unreferred stop got none end) (referred u y r gets tried rest) =
+    enters_alike {v} {w} {x} one two (unreferred stop got none end) (referred u y r gets tried rest) =
         alike_apart (came_self w) (came_trans u y x (tried_came tried) (under_came rest)) (gets_alike {A = ℕ} table o.tables (Err stop) (Ok table) got.found gets.found) (λ s. absurd s)
-    enters_alike {v} {w} {x} real one two (referred u y r gets tried rest) (unreferred stop got none end) =
+    enters_alike {v} {w} {x} one two (referred u y r gets tried rest) (unreferred stop got none end) =
         alike_apart (came_trans u y w (tried_came tried) (under_came rest)) (came_self x) (gets_alike {A = ℕ} table o.tables (Ok table) (Err stop) gets.found got.found) (λ s. absurd s)
-    enters_alike {v} {w} {x} {others = others} {b = b} real one two (referred u y r got tried rest) (referred c d s gets tries more) =
+    enters_alike {v} {w} {x} {others = others} {b = b} one two (referred u y r got tried rest) (referred c d s gets tries more) =
         alike_next (λ z. TriedLock z d table o.tables s) (ref_came v u table o.tables _ got) (came_trans u y w (tried_came tried) (under_came rest)) (came_trans c d x (tried_came tries) (under_came more))
         (gets_alike {A = ℕ} table o.tables (Ok table) (Ok table) got.found gets.found) tries
         (λ e again. alike_next (λ z. Under z x others b s) (tried_came tried) (under_came rest) (under_came more) (tried_alike tried again) more
-        (λ t behind. under_alike (real_came u y (tried_came tried) (real_came v u (ref_came v u table o.tables _ got) real)) one two t rest behind))
+        (λ t behind. under_alike one two t rest behind))
 
 pub entered_at_came : {v w : PortValue} {o : Owners} {table i word : ℕ} {answers : List Bool} {a : Result (Unit {0}) Stop} → EnteredAt v o table i word w answers a → Came v w
 entered_at_came {v} {w} {o} {table} {i} {word} {answers} {a} p = enters_came o table i word (enters o table i word v w answers a p)
 
-pub entered_at_alike : {v w x : PortValue} {o : Owners} {table i word : ℕ} {answers others : List Bool} {a b : Result (Unit {0}) Stop} (says : ℕ → Bool) (n : ℕ) → IsReal v → GivesAnswers says n answers → GivesAnswers says n others →
+pub entered_at_alike : {v w x : PortValue} {o : Owners} {table i word : ℕ} {answers others : List Bool} {a b : Result (Unit {0}) Stop} (says : ℕ → Bool) (n : ℕ) → GivesAnswers says n answers → GivesAnswers says n others →
     EnteredAt v o table i word w answers a → EnteredAt v o table i word x others b → Alike v w x ((answers ≡ others) × (a ≡ b))
-entered_at_alike {v} {w} {x} {o} {table} {i} {word} {answers} {others} {a} {b} says n real one two p q =
-    enters_alike o table i word says n real one two (enters o table i word v w answers a p) (enters o table i word v x others b q)
+entered_at_alike {v} {w} {x} {o} {table} {i} {word} {answers} {others} {a} {b} says n one two p q =
+    enters_alike o table i word says n one two (enters o table i word v w answers a p) (enters o table i word v x others b q)
 
 -- ---- the whole: the table that the loads find is no part of the account
 pub updated_at_came : {v w : PortValue} {o : Owners} {va word table : ℕ} {answers : List Bool} {a : Result (Unit {0}) Stop} → UpdatedAt v o va word table w answers a → Came v w
 updated_at_came (ways.UpdatedAt.unled w stop far leads) = leads_came leads
 updated_at_came {v} (ways.UpdatedAt.led u w answers answer leads enters) = came_trans v u w (leads_came leads) (entered_at_came enters)
 
-pub updated_at_alike : {v w x : PortValue} {o : Owners} {va word table other : ℕ} {answers others : List Bool} {a b : Result (Unit {0}) Stop} (says : ℕ → Bool) (n : ℕ) → IsReal v → GivesAnswers says n answers → GivesAnswers says n others →
+pub updated_at_alike : {v w x : PortValue} {o : Owners} {va word table other : ℕ} {answers others : List Bool} {a b : Result (Unit {0}) Stop} (says : ℕ → Bool) (n : ℕ) → GivesAnswers says n answers → GivesAnswers says n others →
     UpdatedAt v o va word table w answers a → UpdatedAt v o va word other x others b → Alike v w x ((answers ≡ others) × (a ≡ b))
-updated_at_alike says n real one two (ways.UpdatedAt.unled w stop far leads) (ways.UpdatedAt.unled x halt out led) = alike_map (leads_alike leads led) (λ s. (refl, same_stop stop halt s))
+updated_at_alike says n one two (ways.UpdatedAt.unled w stop far leads) (ways.UpdatedAt.unled x halt out led) = alike_map (leads_alike leads led) (λ s. (refl, same_stop stop halt s))
   where
     same_stop : (e f : Stop) → ◌≡◌ {A = Led} (Err e) (Err f) → ◌≡◌ {A = Result (Unit {0}) Stop} (Err e) (Err f)
     same_stop e f s = let t : e ≡ f = cc in ap (λ z. Err z) t
-updated_at_alike says n real one two (ways.UpdatedAt.unled w stop far leads) (ways.UpdatedAt.led u x others b led enters) = alike_apart (came_self w) (entered_at_came enters) (leads_alike leads led) (λ s. absurd (let t = s in cc))
-updated_at_alike says n real one two (ways.UpdatedAt.led u w answers a led enters) (ways.UpdatedAt.unled x stop far leads) = alike_apart (entered_at_came enters) (came_self x) (leads_alike led leads) (λ s. absurd (let t = s in cc))
-updated_at_alike {v} {o = o} {va} {word} {table} {other} says n real one two (ways.UpdatedAt.led u w answers a leads enters) (ways.UpdatedAt.led y x others b led entered) =
+updated_at_alike says n one two (ways.UpdatedAt.unled w stop far leads) (ways.UpdatedAt.led u x others b led enters) = alike_apart (came_self w) (entered_at_came enters) (leads_alike leads led) (λ s. absurd (let t = s in cc))
+updated_at_alike says n one two (ways.UpdatedAt.led u w answers a led enters) (ways.UpdatedAt.unled x stop far leads) = alike_apart (entered_at_came enters) (came_self x) (leads_alike led leads) (λ s. absurd (let t = s in cc))
+updated_at_alike {v} {o = o} {va} {word} {table} {other} says n one two (ways.UpdatedAt.led u w answers a leads enters) (ways.UpdatedAt.led y x others b led entered) =
     alike_next (λ z. EnteredAt z o other (index_of va 1) word x others b) (leads_came leads) (entered_at_came enters) (entered_at_came entered) (leads_alike leads led) entered
-    (λ s behind. entered_at_alike says n (real_came v u (leads_came leads) real) one two enters (subst (λ z. EnteredAt u o z (index_of va 1) word x others b) (sym (same_table table other s)) behind))
+    (λ s behind. entered_at_alike says n one two enters (subst (λ z. EnteredAt u o z (index_of va 1) word x others b) (sym (same_table table other s)) behind))
   where
     same_table : (t k : ℕ) → ◌≡◌ {A = Led} (Ok t) (Ok k) → t ≡ k
     same_table t k e = cc

@@ -1,37 +1,28 @@
--- (until determined_tables and determined_releases land)
-use Rattle.std.proofs.Common.{◌≡◌, ℕ, Bool, List, Option, Result}
+-- What lower calls do is determined: their laws, in the form in which they are cited here.
+use Rattle.std.proofs.Common.{◌≡◌, ℕ, Bool, List, Option, Result, refl}
+use Rattle.xp_words.specs.declared.kind.KindWord.{KindWord}
 use Rattle.xp_words.specs.declared.kind.PageType.{PageType}
 use Rattle.xp_words.specs.declared.reply.Stop.{Stop}
 use Rattle.xp_board.specs.Told.{PortValue}
 use Rattle.step_maker.specs.Moves.{Came}
-use Rattle.xp_preempt.specs.Gates.{GivesAnswers}
-use Rattle.table_entries.specs.Acquiring.{Acquired}
 use Rattle.kept_marks.specs.Marks.{KeptFor}
-use Rattle.xp_words.specs.declared.kind.KindWord.{KindWord}
-use Rattle.writable_pages.specs.Pages.{GotPage, TookPage}
-use Rattle.level_release.specs.Course.{ReleasedWithin, left_released}
+use Rattle.writable_pages.specs.Pages.{TookPage}
 use Rattle.determined_laws.specs.Courses.{Alike}
-use Rattle.determined_laws.proofs.Calls.{IsReal}
+use Rattle.determined_laws.proofs.Courses.{alike_map}
+use Rattle.determined_tables.proofs.Leaves.{kept_sure}
+use Rattle.determined_tables.proofs.Pages.{took_page_fixed}
+pub use Rattle.determined_tables.proofs.Acquired.{acquired_alike, acquired_came}
+pub use Rattle.determined_tables.proofs.Pages.{got_page_alike, got_page_came}
+pub use Rattle.determined_releases.proofs.Released.{released_alike, released_came}
 
-pub acquired_alike : {v w x : PortValue} {f owner level : ℕ} {answers others : List Bool} {a b : Result ℕ Stop} (says : ℕ → Bool) (n : ℕ) → IsReal v → GivesAnswers says n answers → GivesAnswers says n others →
-    Acquired v f owner level w answers a → Acquired v f owner level x others b → Alike v w x ((answers ≡ others) × (a ≡ b))
-acquired_alike says n real one two p q = ?
+pub kept_came : (v w : PortValue) (f : ℕ) (k : KindWord) (owner : ℕ) → KeptFor v w f k owner → Came v w
+kept_came v w f k owner p = (kept_sure v f k owner).came w tt p
 
 pub kept_alike : {v w x : PortValue} {f owner : ℕ} {k : KindWord} → KeptFor v w f k owner → KeptFor v x f k owner → Alike v w x (Unit {0})
-kept_alike p q = ?
-
-pub took_page_alike : {v w x : PortValue} {f owner : ℕ} {a b : Result (Unit {0}) Stop} → IsReal v → TookPage v f owner w a → TookPage v f owner x b → Alike v w x (a ≡ b)
-took_page_alike real p q = ?
-
-pub got_page_alike : {v w x : PortValue} {f owner : ℕ} {a b : Result ℕ Stop} → IsReal v → GotPage v f owner w a → GotPage v f owner x b → Alike v w x (a ≡ b)
-got_page_alike real p q = ?
-
-pub released_alike : {below : Option ℕ} {v w x : PortValue} {f : ℕ} {kind : PageType} {answers others : List Bool} {a b : Result (Unit {0}) Stop} (says : ℕ → Bool) (n : ℕ) → IsReal v → GivesAnswers says n answers → GivesAnswers says n others →
-    (p : ReleasedWithin below v f kind w answers a) → (q : ReleasedWithin below v f kind x others b) → Alike v w x ((answers ≡ others) × (a ≡ b) × (left_released p ≡ left_released q))
-released_alike says n real one two p q = ?
-
-pub released_came : {below : Option ℕ} {v w : PortValue} {f : ℕ} {kind : PageType} {answers : List Bool} {a : Result (Unit {0}) Stop} → ReleasedWithin below v f kind w answers a → Came v w
-released_came p = ?
+kept_alike {v} {w} {x} {f} {owner} {k} p q = alike_map ((kept_sure v f k owner).alike w x tt tt p q) (λ e. tt)
 
 pub took_page_came : (v : PortValue) (f owner : ℕ) (w : PortValue) (r : Result (Unit {0}) Stop) → TookPage v f owner w r → Came v w
-took_page_came v f owner w r p = ?
+took_page_came v f owner w r p = (took_page_fixed f owner v).came w r p
+
+pub took_page_alike : {v w x : PortValue} {f owner : ℕ} {a b : Result (Unit {0}) Stop} → TookPage v f owner w a → TookPage v f owner x b → Alike v w x (a ≡ b)
+took_page_alike {v} {w} {x} {f} {owner} {a} {b} p q = (took_page_fixed f owner v).alike w x a b p q

@@ -22,7 +22,7 @@ use Rattle.entry_exchange.specs.Course as course
 use Rattle.entry_exchange.specs.Course.{GaveDemand, ReleasedDemand, TookDemand}
 use Rattle.determined_laws.specs.Courses.{Alike}
 use Rattle.determined_laws.specs.Forks.{Agree}
-use Rattle.determined_laws.proofs.Calls.{IsReal, drops_plain_alike, drops_plain_came, drops_type_alike, drops_type_came, gets_alike, puts_alike}
+use Rattle.determined_laws.proofs.Calls.{drops_plain_alike, drops_plain_came, drops_type_alike, drops_type_came, gets_alike, puts_alike}
 use Rattle.determined_laws.proofs.Courses.{alike_apart, alike_map, alike_next, alike_same}
 use Rattle.determined_calls.proofs.Below.{acquired_alike, got_page_alike, kept_alike, released_alike, released_came}
 
@@ -60,16 +60,16 @@ same_read g h d e f = let s : demands.Read g ≡ demands.Read h = sym e ∙ f in
 same_typed : (g h : ℕ) (t u : PageType) (d : Demand) → d ≡ demands.Typed g t → d ≡ demands.Typed h u → g ≡ h
 same_typed g h t u d e f = let s : demands.Typed g t ≡ demands.Typed h u = sym e ∙ f in cc
 
-module _ (owner level : ℕ) (v : PortValue) (real : IsReal v) (says : ℕ → Bool) (n : ℕ) (d : Demand) (w x : PortValue) (answers others : List Bool) (a b : Result (Unit {0}) Stop)
+module _ (owner level : ℕ) (v : PortValue) (says : ℕ → Bool) (n : ℕ) (d : Demand) (w x : PortValue) (answers others : List Bool) (a b : Result (Unit {0}) Stop)
     (one : GivesAnswers says n answers) (two : GivesAnswers says n others) where
   abbrev Both : Type 0
   Both = Alike v w x ((answers ≡ others) × (a ≡ b))
 
   by_page : (g h : ℕ) (r s : Result ℕ Stop) → g ≡ h → GotPage v g owner w r → GotPage v h owner x s → Alike v w x (r ≡ s)
-  by_page g h r s e p q = got_page_alike real p (subst (λ z. GotPage v z owner x s) (sym e) q)
+  by_page g h r s e p q = got_page_alike p (subst (λ z. GotPage v z owner x s) (sym e) q)
 
   by_table : (g h : ℕ) (r s : Result ℕ Stop) → g ≡ h → Acquired v g owner (level - 1) w answers r → Acquired v h owner (level - 1) x others s → Alike v w x ((answers ≡ others) × (r ≡ s))
-  by_table g h r s e p q = acquired_alike says n real one two p (subst (λ z. Acquired v z owner (level - 1) x others s) (sym e) q)
+  by_table g h r s e p q = acquired_alike says n one two p (subst (λ z. Acquired v z owner (level - 1) x others s) (sym e) q)
 
   takes_alike : Takes owner level v d w answers a → Takes owner level v d x others b → Both
   takes_alike (nothing e f g h) (nothing i j k l) = alike_same (f ∙ sym j) (g ∙ sym k, h ∙ sym l)
@@ -90,10 +90,10 @@ module _ (owner level : ℕ) (v : PortValue) (real : IsReal v) (says : ℕ → B
   takes_alike (table g r e f p h) (page j s k l q m o) = absurd (omega (arith, e, k))
   takes_alike (table g r e f p h) (table j s k l q m) = alike_map (by_table g j r s (same_typed g j _ _ d f l) p q) (λ t. (t.0, h ∙ (ap ended t.1 ∙ sym m)))
 
-pub took_demand_alike : {owner level : ℕ} {v w x : PortValue} {d : Demand} {answers others : List Bool} {a b : Result (Unit {0}) Stop} (says : ℕ → Bool) (n : ℕ) → IsReal v → GivesAnswers says n answers → GivesAnswers says n others →
+pub took_demand_alike : {owner level : ℕ} {v w x : PortValue} {d : Demand} {answers others : List Bool} {a b : Result (Unit {0}) Stop} (says : ℕ → Bool) (n : ℕ) → GivesAnswers says n answers → GivesAnswers says n others →
     TookDemand owner level v d w answers a → TookDemand owner level v d x others b → Alike v w x ((answers ≡ others) × (a ≡ b))
-took_demand_alike {owner} {level} {v} {w} {x} {d} {answers} {others} {a} {b} says n real one two p q =
-    takes_alike owner level v real says n d w x answers others a b one two (takes owner level v d w answers a p) (takes owner level v d x others b q)
+took_demand_alike {owner} {level} {v} {w} {x} {d} {answers} {others} {a} {b} says n one two p q =
+    takes_alike owner level v says n d w x answers others a b one two (takes owner level v d w answers a p) (takes owner level v d x others b q)
 
 -- ---- given back whole
 data Gives (owner level : ℕ) (v : PortValue) (d : Demand) (w : PortValue) : Type 0 where
@@ -166,9 +166,9 @@ released_demand_came v _ _ _ course.ReleasedDemand.bad = came_self v
 released_demand_came v _ _ _ (course.ReleasedDemand.referred w g gave) = gave_came v w g gave
 released_demand_came v _ _ _ (course.ReleasedDemand.released w g t answers answer released fits) = released_came released
 
-pub released_demand_alike : {v w x : PortValue} {d : Demand} {answers others : List Bool} (says : ℕ → Bool) (n : ℕ) → IsReal v → GivesAnswers says n answers → GivesAnswers says n others →
+pub released_demand_alike : {v w x : PortValue} {d : Demand} {answers others : List Bool} (says : ℕ → Bool) (n : ℕ) → GivesAnswers says n answers → GivesAnswers says n others →
     ReleasedDemand v d w answers → ReleasedDemand v d x others → Alike v w x (answers ≡ others)
-released_demand_alike says n real one two course.ReleasedDemand.nothing course.ReleasedDemand.nothing = alike_same refl refl
-released_demand_alike says n real one two course.ReleasedDemand.bad course.ReleasedDemand.bad = alike_same refl refl
-released_demand_alike says n real one two (course.ReleasedDemand.referred w g p) (course.ReleasedDemand.referred x _ q) = alike_map (puts_alike g p.found q.found) (λ t. refl)
-released_demand_alike says n real one two (course.ReleasedDemand.released w g t answers a p fits) (course.ReleasedDemand.released x _ _ others b q also) = alike_map (released_alike says n real one two p q) (λ s. s.0)
+released_demand_alike says n one two course.ReleasedDemand.nothing course.ReleasedDemand.nothing = alike_same refl refl
+released_demand_alike says n one two course.ReleasedDemand.bad course.ReleasedDemand.bad = alike_same refl refl
+released_demand_alike says n one two (course.ReleasedDemand.referred w g p) (course.ReleasedDemand.referred x _ q) = alike_map (puts_alike g p.found q.found) (λ t. refl)
+released_demand_alike says n one two (course.ReleasedDemand.released w g t answers a p fits) (course.ReleasedDemand.released x _ _ others b q also) = alike_map (released_alike says n one two p q) (λ s. s.0)

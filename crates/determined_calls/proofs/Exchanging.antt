@@ -32,7 +32,7 @@ use Rattle.exchange_laws.proofs.Going.{demand_came}
 use Rattle.exchange_laws.proofs.Putting.{put_came}
 use Rattle.exchange_laws.proofs.Unlocking.{lock_came}
 use Rattle.determined_laws.specs.Courses.{Alike}
-use Rattle.determined_laws.proofs.Calls.{IsReal, puts_alike, real_came, unlocks_alike, unlocks_came}
+use Rattle.determined_laws.proofs.Calls.{puts_alike, unlocks_alike, unlocks_came}
 use Rattle.determined_laws.proofs.Courses.{alike_apart, alike_map, alike_move, alike_next, alike_same}
 use Rattle.determined_calls.proofs.Asking.{gives_first, gives_more}
 use Rattle.determined_calls.proofs.Demands.{ended, gave_demand_alike, gave_demand_came, released_demand_alike, released_demand_came, took_demand_alike}
@@ -88,22 +88,22 @@ module _ (x : EntryUpdate) (o : Owners) (seen : ℕ) where
   seen_came {v} {w} (other y first r off took rest) = came_trans v y w (demand_came _ _ v _ y first r took) (took_came_so rest)
 
   module _ (says : ℕ → Bool) (n : ℕ) where
-    put_rest : {v w y : PortValue} {first answers others : List Bool} {a b : Result (Unit {0}) Stop} {r : Result ℕ Stop} → IsReal v → GivesAnswers says n answers → GivesAnswers says n others →
+    put_rest : {v w y : PortValue} {first answers others : List Bool} {a b : Result (Unit {0}) Stop} {r : Result ℕ Stop} → GivesAnswers says n answers → GivesAnswers says n others →
         Put v w first answers a r → Put v y first others b r → Alike v w y ((answers ≡ others) × (a ≡ b))
-    put_rest {v} {w} {y} real one two (lost c stop gave left is end) (lost d _ gone off also ends) =
+    put_rest {v} {w} {y} one two (lost c stop gave left is end) (lost d _ gone off also ends) =
         alike_next (λ z. LeftLock z x.table x.level y) (gave_demand_came _ _ v _ c gave) (lock_came c w _ _ left) (lock_came d y _ _ off) (gave_demand_alike gave gone) off
         (λ e more. alike_map (left_lock_alike left more) (λ s. (is ∙ sym also, end ∙ sym ends)))
-    put_rest {v} {w} {y} {first} real one two (done c old more left released is end) (done d _ extra off gone also ends) =
+    put_rest {v} {w} {y} {first} one two (done c old more left released is end) (done d _ extra off gone also ends) =
         alike_next (λ z. ReleasedDemand z (old_demand x old) y extra) (lock_came v c _ _ left) (released_demand_came c _ w more released) (released_demand_came d _ y extra gone) (left_lock_alike left off) gone
-        (λ e rest. alike_map (released_demand_alike says (asks_on (length first) n) (real_came v c (lock_came v c _ _ left) real) (gives_more says n more first (subst (GivesAnswers says n) is one))
+        (λ e rest. alike_map (released_demand_alike says (asks_on (length first) n) (gives_more says n more first (subst (GivesAnswers says n) is one))
         (gives_more says n extra first (subst (GivesAnswers says n) also two)) released rest) (λ s. (is ∙ (ap (λ z. z ++ first) s ∙ sym also), end ∙ sym ends)))
 
-    took_rest : {v w y : PortValue} {first answers others : List Bool} {a b r : Result (Unit {0}) Stop} → IsReal v → GivesAnswers says n answers → GivesAnswers says n others →
+    took_rest : {v w y : PortValue} {first answers others : List Bool} {a b r : Result (Unit {0}) Stop} → GivesAnswers says n answers → GivesAnswers says n others →
         Took v w first answers a r → Took v y first others b r → Alike v w y ((answers ≡ others) × (a ≡ b))
-    took_rest real one two (untaken stop left is end) (untaken _ off also ends) = alike_map (left_lock_alike left off) (λ s. (is ∙ sym also, end ∙ sym ends))
-    took_rest {v} {w} {y} {first} {answers} {others} {a} {b} real one two (taken c r puts rest) (taken d s put more) =
+    took_rest one two (untaken stop left is end) (untaken _ off also ends) = alike_map (left_lock_alike left off) (λ s. (is ∙ sym also, end ∙ sym ends))
+    took_rest {v} {w} {y} {first} {answers} {others} {a} {b} one two (taken c r puts rest) (taken d s put more) =
         alike_next (λ z. Put z y first others b s) (put_came v c _ _ _ _ _ r puts) (put_came_so rest) (put_came_so more) (put_alike puts put) more
-        (λ e behind. put_rest (real_came v c (put_came v c _ _ _ _ _ r puts) real) one two rest (subst (λ z. Put c y first others b z) (sym e) behind))
+        (λ e behind. put_rest one two rest (subst (λ z. Put c y first others b z) (sym e) behind))
 
     bad_differs : (d e : Demand) → d ≡ demands.Bad → same_demand d e ≡ true → ⊥
     bad_differs d e is alike = by e (subst (λ z. is_same_demand e z ≡ true) is alike)
@@ -126,22 +126,22 @@ module _ (x : EntryUpdate) (o : Owners) (seen : ℕ) where
     apart : {A : Type 0} (c : Bool) → c ≡ true → c ≡ false → A
     apart c on off = absurd (let e = sym on ∙ off in cc)
 
-    seen_alike : {v w y : PortValue} {answers others : List Bool} {a b : Result (Unit {0}) Stop} → IsReal v → GivesAnswers says n answers → GivesAnswers says n others →
+    seen_alike : {v w y : PortValue} {answers others : List Bool} {a b : Result (Unit {0}) Stop} → GivesAnswers says n answers → GivesAnswers says n others →
         Seen v w answers a → Seen v y others b → Alike v w y ((answers ≡ others) × (a ≡ b))
-    seen_alike real one two (bad is left none end) (bad also off barred ends) = alike_map (left_lock_alike left off) (λ s. (none ∙ sym barred, end ∙ sym ends))
-    seen_alike real one two (bad is left none end) (same c r is' puts off barred ends) = absurd (bad_differs _ _ is is')
-    seen_alike real one two (bad is left none end) (other c first r off took rest) = absurd (bad_untaken _ is took)
-    seen_alike real one two (same c r is puts left none end) (bad also off barred ends) = absurd (bad_differs _ _ also is)
-    seen_alike {v} {w} {y} real one two (same c r is puts left none end) (same d s also put off barred ends) =
+    seen_alike one two (bad is left none end) (bad also off barred ends) = alike_map (left_lock_alike left off) (λ s. (none ∙ sym barred, end ∙ sym ends))
+    seen_alike one two (bad is left none end) (same c r is' puts off barred ends) = absurd (bad_differs _ _ is is')
+    seen_alike one two (bad is left none end) (other c first r off took rest) = absurd (bad_untaken _ is took)
+    seen_alike one two (same c r is puts left none end) (bad also off barred ends) = absurd (bad_differs _ _ also is)
+    seen_alike {v} {w} {y} one two (same c r is puts left none end) (same d s also put off barred ends) =
         alike_next (λ z. LeftLock z x.table x.level y) (put_came v c _ _ _ _ _ r puts) (lock_came c w _ _ left) (lock_came d y _ _ off) (put_alike puts put) off
         (λ e more. alike_map (left_lock_alike left more) (λ t. (none ∙ sym barred, end ∙ (ap ended e ∙ sym ends))))
-    seen_alike real one two (same c r is puts left none end) (other d first s off took rest) = apart _ is off
-    seen_alike real one two (other c first r off took rest) (bad also left none end) = absurd (bad_untaken _ also took)
-    seen_alike real one two (other c first r off took rest) (same d s also puts left none end) = apart _ also off
-    seen_alike {v} {w} {y} {answers} {others} {a} {b} real one two (other c first r off took rest) (other d front s out take more) =
+    seen_alike one two (same c r is puts left none end) (other d first s off took rest) = apart _ is off
+    seen_alike one two (other c first r off took rest) (bad also left none end) = absurd (bad_untaken _ also took)
+    seen_alike one two (other c first r off took rest) (same d s also puts left none end) = apart _ also off
+    seen_alike {v} {w} {y} {answers} {others} {a} {b} one two (other c first r off took rest) (other d front s out take more) =
         alike_next (λ z. Took z y front others b s) (demand_came _ _ v _ c first r took) (took_came_so rest) (took_came_so more)
-        (took_demand_alike says n real (took_first rest one) (took_first more two) took take) more
-        (λ e behind. took_rest (real_came v c (demand_came _ _ v _ c first r took) real) one two rest (subst (λ z. Took c y z others b r) (sym e.0) (subst (λ z. Took c y front others b z) (sym e.1) behind)))
+        (took_demand_alike says n (took_first rest one) (took_first more two) took take) more
+        (λ e behind. took_rest one two rest (subst (λ z. Took c y z others b r) (sym e.0) (subst (λ z. Took c y front others b z) (sym e.1) behind)))
       where
         put_first : {u z : PortValue} {fs gs : List Bool} {q : Result (Unit {0}) Stop} {k : Result ℕ Stop} → Put u z fs gs q k → GivesAnswers says n gs → GivesAnswers says n fs
         put_first (lost e stop gave left is end) g = subst (GivesAnswers says n) is g
@@ -168,11 +168,11 @@ exchanged_came {v} {w} {x} {o} {answers} {a} p = by (looks v x o w answers a p)
     by : Looks v x o w answers a → Came v w
     by (looked u seen saw rest) = came_trans v u w (moves_came v u _ _ _ _ _ saw) (seen_came x o seen rest)
 
-pub exchanged_alike : {v w y : PortValue} {x : EntryUpdate} {o : Owners} {answers others : List Bool} {a b : Result (Unit {0}) Stop} (says : ℕ → Bool) (n : ℕ) → IsReal v → GivesAnswers says n answers → GivesAnswers says n others →
+pub exchanged_alike : {v w y : PortValue} {x : EntryUpdate} {o : Owners} {answers others : List Bool} {a b : Result (Unit {0}) Stop} (says : ℕ → Bool) (n : ℕ) → GivesAnswers says n answers → GivesAnswers says n others →
     Exchanged v x o w answers a → Exchanged v x o y others b → Alike v w y ((answers ≡ others) × (a ≡ b))
-exchanged_alike {v} {w} {y} {x} {o} {answers} {others} {a} {b} says n real one two p q = by (looks v x o w answers a p) (looks v x o y others b q)
+exchanged_alike {v} {w} {y} {x} {o} {answers} {others} {a} {b} says n one two p q = by (looks v x o w answers a p) (looks v x o y others b q)
   where
     by : Looks v x o w answers a → Looks v x o y others b → Alike v w y ((answers ≡ others) × (a ≡ b))
     by (looked u seen saw rest) (looked c found see more) =
         alike_next (λ z. Seen x o found z y others b) (moves_came v u _ _ _ _ _ saw) (seen_came x o seen rest) (seen_came x o found more) (alike_move saw see) more
-        (λ e behind. seen_alike x o seen says n (real_came v u (moves_came v u _ _ _ _ _ saw) real) one two rest (subst (λ z. Seen x o z u y others b) (sym e) behind))
+        (λ e behind. seen_alike x o seen says n one two rest (subst (λ z. Seen x o z u y others b) (sym e) behind))

@@ -22,7 +22,7 @@ use Rattle.level_release.specs.Course.{WasReleased}
 use Rattle.mmuext_ops.specs.Course as course
 use Rattle.mmuext_ops.specs.Course.{GivenUp, PinEnds, Pinned, IsPinnedAs, SawKind, SetsPin, TakesPinOff, Unpinned, is_pinned}
 use Rattle.determined_laws.specs.Courses.{Alike}
-use Rattle.determined_laws.proofs.Calls.{IsReal, drops_type_alike, drops_type_came, gets_alike, puts_alike, real_came}
+use Rattle.determined_laws.proofs.Calls.{drops_type_alike, drops_type_came, gets_alike, puts_alike}
 use Rattle.determined_laws.proofs.Courses.{alike_apart, alike_map, alike_move, alike_next, alike_same}
 use Rattle.determined_calls.proofs.Below.{acquired_alike, released_alike, released_came}
 
@@ -158,36 +158,36 @@ module _ (d f level : ℕ) where
   had_alike (acquired g p) (acquired _ q) = pin_ends_alike p q
 
   module _ (says : ℕ → Bool) (n : ℕ) where
-    behind_alike : {c w z : PortValue} {x : ℕ} {answers others : List Bool} {a b : Result (Unit {0}) Stop} → IsReal c → GivesAnswers says n answers → GivesAnswers says n others →
+    behind_alike : {c w z : PortValue} {x : ℕ} {answers others : List Bool} {a b : Result (Unit {0}) Stop} → GivesAnswers says n answers → GivesAnswers says n others →
         Behind c w x answers a → Behind c z x others b → Alike c w z ((answers ≡ others) × (a ≡ b))
-    behind_alike real one two (pinned is same none end) (pinned also still bare ends) = alike_same (same ∙ sym still) (none ∙ sym bare, end ∙ sym ends)
-    behind_alike real one two (pinned is same none end) (tried e r off had rest) = absurd (off is)
-    behind_alike real one two (tried e r off had rest) (pinned is same none end) = absurd (off is)
-    behind_alike {c} {w} {z} {answers = answers} {others} {a} {b} real one two (tried e r off had rest) (tried k s out has more) =
-        alike_next (λ y. Had y z b s) (acquired_came c f d level e answers r had) (had_came rest) (had_came more) (acquired_alike says n real one two had has) more
+    behind_alike one two (pinned is same none end) (pinned also still bare ends) = alike_same (same ∙ sym still) (none ∙ sym bare, end ∙ sym ends)
+    behind_alike one two (pinned is same none end) (tried e r off had rest) = absurd (off is)
+    behind_alike one two (tried e r off had rest) (pinned is same none end) = absurd (off is)
+    behind_alike {c} {w} {z} {answers = answers} {others} {a} {b} one two (tried e r off had rest) (tried k s out has more) =
+        alike_next (λ y. Had y z b s) (acquired_came c f d level e answers r had) (had_came rest) (had_came more) (acquired_alike says n one two had has) more
         (λ t behind. alike_map (had_alike rest (subst (λ y. Had e z b y) (sym t.1) behind)) (λ q. (t.0, q)))
 
-    pins_alike : {v w z : PortValue} {answers others : List Bool} {a b : Result (Unit {0}) Stop} → IsReal v → GivesAnswers says n answers → GivesAnswers says n others →
+    pins_alike : {v w z : PortValue} {answers others : List Bool} {a b : Result (Unit {0}) Stop} → GivesAnswers says n answers → GivesAnswers says n others →
         Pins v w answers a → Pins v z others b → Alike v w z ((answers ≡ others) × (a ≡ b))
-    pins_alike real one two (unreferred stop got none end) (unreferred halt gets bare ends) =
+    pins_alike one two (unreferred stop got none end) (unreferred halt gets bare ends) =
         alike_map (gets_alike {A = ℕ} f d (Err stop) (Err halt) got.found gets.found) (λ s. (none ∙ sym bare, end ∙ (ap (λ k. Err k) s ∙ sym ends)))
-    pins_alike {v} {w} {z} real one two (unreferred stop got none end) (referred m b c x gets saw gave rest) =
+    pins_alike {v} {w} {z} one two (unreferred stop got none end) (referred m b c x gets saw gave rest) =
         alike_apart (came_self w) (came_trans m b z (moves_came m b _ _ _ _ _ saw) (came_trans b c z (gave_came b c f gave) (behind_came rest))) (gets_alike {A = ℕ} f d (Err stop) (Ok f) got.found gets.found) (λ s. absurd s)
-    pins_alike {v} {w} {z} real one two (referred m b c x gets saw gave rest) (unreferred stop got none end) =
+    pins_alike {v} {w} {z} one two (referred m b c x gets saw gave rest) (unreferred stop got none end) =
         alike_apart (came_trans m b w (moves_came m b _ _ _ _ _ saw) (came_trans b c w (gave_came b c f gave) (behind_came rest))) (came_self z) (gets_alike {A = ℕ} f d (Ok f) (Err stop) gets.found got.found) (λ s. absurd s)
-    pins_alike {v} {w} {z} {answers} {others} {a} {b} real one two (referred m k c x got saw gave rest) (referred i j e y gets see gives more) =
+    pins_alike {v} {w} {z} {answers} {others} {a} {b} one two (referred m k c x got saw gave rest) (referred i j e y gets see gives more) =
         alike_next (λ q. SawKind q j f y) (ref_came v m f d _ got) (came_trans m k w (moves_came m k _ _ _ _ _ saw) (came_trans k c w (gave_came k c f gave) (behind_came rest)))
         (came_trans i j z (moves_came i j _ _ _ _ _ see) (came_trans j e z (gave_came j e f gives) (behind_came more))) (gets_alike {A = ℕ} f d (Ok f) (Ok f) got.found gets.found) see
         (λ t again. alike_next (λ q. GaveRef q e f) (moves_came m k _ _ _ _ _ saw) (came_trans k c w (gave_came k c f gave) (behind_came rest)) (came_trans j e z (gave_came j e f gives) (behind_came more)) (alike_move saw again) gives
         (λ same back. alike_next (λ q. Behind q z y others b) (gave_came k c f gave) (behind_came rest) (behind_came more) (puts_alike f gave.found back.found) more
-        (λ u behind. behind_alike (real_came k c (gave_came k c f gave) (real_came m k (moves_came m k _ _ _ _ _ saw) (real_came v m (ref_came v m f d _ got) real))) one two rest (subst (λ q. Behind c z q others b) (sym same) behind))))
+        (λ u behind. behind_alike one two rest (subst (λ q. Behind c z q others b) (sym same) behind))))
 
 pub pinned_came : {v w : PortValue} {d f level : ℕ} {answers : List Bool} {a : Result (Unit {0}) Stop} → Pinned v w d f level answers a → Came v w
 pinned_came {v} {w} {d} {f} {level} {answers} {a} p = pins_came d f level (pins d f level v w answers a p)
 
-pub pinned_alike : {v w x : PortValue} {d f level : ℕ} {answers others : List Bool} {a b : Result (Unit {0}) Stop} (says : ℕ → Bool) (n : ℕ) → IsReal v → GivesAnswers says n answers → GivesAnswers says n others →
+pub pinned_alike : {v w x : PortValue} {d f level : ℕ} {answers others : List Bool} {a b : Result (Unit {0}) Stop} (says : ℕ → Bool) (n : ℕ) → GivesAnswers says n answers → GivesAnswers says n others →
     Pinned v w d f level answers a → Pinned v x d f level others b → Alike v w x ((answers ≡ others) × (a ≡ b))
-pinned_alike {v} {w} {x} {d} {f} {level} {answers} {others} {a} {b} says n real one two p q = pins_alike d f level says n real one two (pins d f level v w answers a p) (pins d f level v x others b q)
+pinned_alike {v} {w} {x} {d} {f} {level} {answers} {others} {a} {b} says n one two p q = pins_alike d f level says n one two (pins d f level v w answers a p) (pins d f level v x others b q)
 
 -- ---- an unpin
 module _ (d f : ℕ) where
@@ -229,45 +229,45 @@ module _ (d f : ℕ) where
   mark_apart x on off = absurd (let e = sym on ∙ off in cc)
 
   module _ (says : ℕ → Bool) (n : ℕ) where
-    off_alike : {k e w z : PortValue} {x found : ℕ} {answers others : List Bool} {a b : Result (Unit {0}) Stop} → IsReal e → GivesAnswers says n answers → GivesAnswers says n others →
+    off_alike : {k e w z : PortValue} {x found : ℕ} {answers others : List Bool} {a b : Result (Unit {0}) Stop} → GivesAnswers says n answers → GivesAnswers says n others →
         Off k e w x found answers a → Off k e z x found others b → Alike e w z ((answers ≡ others) × (a ≡ b))
-    off_alike real one two (raced other bare same none end) (raced out also still gone ends) = alike_same (same ∙ sym still) (none ∙ sym gone, end ∙ sym ends)
-    off_alike {found = found} real one two (raced other bare same none end) (lost out on still gone ends) = mark_apart found on bare
-    off_alike real one two (raced other bare same none end) (released r is run ends) = absurd (other is)
-    off_alike {found = found} real one two (lost other on same none end) (raced out bare still gone ends) = mark_apart found on bare
-    off_alike real one two (lost other on same none end) (lost out also still gone ends) = alike_same (same ∙ sym still) (none ∙ sym gone, end ∙ sym ends)
-    off_alike real one two (lost other on same none end) (released r is run ends) = absurd (other is)
-    off_alike real one two (released r is run end) (raced other bare same none ends) = absurd (other is)
-    off_alike real one two (released r is run end) (lost other on same none ends) = absurd (other is)
-    off_alike real one two (released r is run end) (released s also goes ends) = alike_map (released_alike says n real one two run goes) (λ t. (t.0, end ∙ sym ends))
+    off_alike one two (raced other bare same none end) (raced out also still gone ends) = alike_same (same ∙ sym still) (none ∙ sym gone, end ∙ sym ends)
+    off_alike {found = found} one two (raced other bare same none end) (lost out on still gone ends) = mark_apart found on bare
+    off_alike one two (raced other bare same none end) (released r is run ends) = absurd (other is)
+    off_alike {found = found} one two (lost other on same none end) (raced out bare still gone ends) = mark_apart found on bare
+    off_alike one two (lost other on same none end) (lost out also still gone ends) = alike_same (same ∙ sym still) (none ∙ sym gone, end ∙ sym ends)
+    off_alike one two (lost other on same none end) (released r is run ends) = absurd (other is)
+    off_alike one two (released r is run end) (raced other bare same none ends) = absurd (other is)
+    off_alike one two (released r is run end) (lost other on same none ends) = absurd (other is)
+    off_alike one two (released r is run end) (released s also goes ends) = alike_map (released_alike says n one two run goes) (λ t. (t.0, end ∙ sym ends))
 
-    seen_alike : {k b w z : PortValue} {x : ℕ} {answers others : List Bool} {a c : Result (Unit {0}) Stop} → IsReal b → GivesAnswers says n answers → GivesAnswers says n others →
+    seen_alike : {k b w z : PortValue} {x : ℕ} {answers others : List Bool} {a c : Result (Unit {0}) Stop} → GivesAnswers says n answers → GivesAnswers says n others →
         Seen k b w x answers a → Seen k b z x others c → Alike b w z ((answers ≡ others) × (a ≡ c))
-    seen_alike real one two (unpinned off gave none end) (unpinned also gone bare ends) = alike_map (puts_alike f gave.found gone.found) (λ s. (none ∙ sym bare, end ∙ sym ends))
-    seen_alike {x = x} real one two (unpinned off gave none end) (tried c e found on takes gone rest) = mark_apart x on off
-    seen_alike {x = x} real one two (tried c e found on takes gone rest) (unpinned off gave none end) = mark_apart x on off
-    seen_alike {k} {b} {w} {z} {x} {others = others} {c = a'} real one two (tried c e found on takes gave rest) (tried i j other also take gone more) =
+    seen_alike one two (unpinned off gave none end) (unpinned also gone bare ends) = alike_map (puts_alike f gave.found gone.found) (λ s. (none ∙ sym bare, end ∙ sym ends))
+    seen_alike {x = x} one two (unpinned off gave none end) (tried c e found on takes gone rest) = mark_apart x on off
+    seen_alike {x = x} one two (tried c e found on takes gone rest) (unpinned off gave none end) = mark_apart x on off
+    seen_alike {k} {b} {w} {z} {x} {others = others} {c = a'} one two (tried c e found on takes gave rest) (tried i j other also take gone more) =
         alike_next (λ q. GaveRef q j f) (moves_came b c _ _ _ _ _ takes) (came_trans c e w (gave_came c e f gave) (off_came rest)) (came_trans i j z (gave_came i j f gone) (off_came more)) (alike_move takes take) gone
         (λ same back. alike_next (λ q. Off k q z x other others a') (gave_came c e f gave) (off_came rest) (off_came more) (puts_alike f gave.found back.found) more
-        (λ u behind. off_alike (real_came c e (gave_came c e f gave) (real_came b c (moves_came b c _ _ _ _ _ takes) real)) one two rest (subst (λ q. Off k e z x q others a') (sym same) behind)))
+        (λ u behind. off_alike one two rest (subst (λ q. Off k e z x q others a') (sym same) behind)))
 
-    unpins_alike : {v w z : PortValue} {answers others : List Bool} {a b : Result (Unit {0}) Stop} → IsReal v → GivesAnswers says n answers → GivesAnswers says n others →
+    unpins_alike : {v w z : PortValue} {answers others : List Bool} {a b : Result (Unit {0}) Stop} → GivesAnswers says n answers → GivesAnswers says n others →
         Unpins v w answers a → Unpins v z others b → Alike v w z ((answers ≡ others) × (a ≡ b))
-    unpins_alike real one two (unreferred stop got none end) (unreferred halt gets bare ends) =
+    unpins_alike one two (unreferred stop got none end) (unreferred halt gets bare ends) =
         alike_map (gets_alike {A = ℕ} f d (Err stop) (Err halt) got.found gets.found) (λ s. (none ∙ sym bare, end ∙ (ap (λ k. Err k) s ∙ sym ends)))
-    unpins_alike {v} {w} {z} real one two (unreferred stop got none end) (referred m b x gets saw rest) =
+    unpins_alike {v} {w} {z} one two (unreferred stop got none end) (referred m b x gets saw rest) =
         alike_apart (came_self w) (came_trans m b z (moves_came m b _ _ _ _ _ saw) (seen_came rest)) (gets_alike {A = ℕ} f d (Err stop) (Ok f) got.found gets.found) (λ s. absurd s)
-    unpins_alike {v} {w} {z} real one two (referred m b x gets saw rest) (unreferred stop got none end) =
+    unpins_alike {v} {w} {z} one two (referred m b x gets saw rest) (unreferred stop got none end) =
         alike_apart (came_trans m b w (moves_came m b _ _ _ _ _ saw) (seen_came rest)) (came_self z) (gets_alike {A = ℕ} f d (Ok f) (Err stop) gets.found got.found) (λ s. absurd s)
-    unpins_alike {v} {w} {z} {answers} {others} {a} {b} real one two (referred m k x got saw rest) (referred i j y gets see more) =
+    unpins_alike {v} {w} {z} {answers} {others} {a} {b} one two (referred m k x got saw rest) (referred i j y gets see more) =
         alike_next (λ q. SawKind q j f y) (ref_came v m f d _ got) (came_trans m k w (moves_came m k _ _ _ _ _ saw) (seen_came rest)) (came_trans i j z (moves_came i j _ _ _ _ _ see) (seen_came more))
         (gets_alike {A = ℕ} f d (Ok f) (Ok f) got.found gets.found) see
         (λ t again. alike_next (λ q. Seen v q z y others b) (moves_came m k _ _ _ _ _ saw) (seen_came rest) (seen_came more) (alike_move saw again) more
-        (λ same behind. seen_alike (real_came m k (moves_came m k _ _ _ _ _ saw) (real_came v m (ref_came v m f d _ got) real)) one two rest (subst (λ q. Seen v k z q others b) (sym same) behind)))
+        (λ same behind. seen_alike one two rest (subst (λ q. Seen v k z q others b) (sym same) behind)))
 
 pub unpinned_came : {v w : PortValue} {d f : ℕ} {answers : List Bool} {a : Result (Unit {0}) Stop} → Unpinned v w d f answers a → Came v w
 unpinned_came {v} {w} {d} {f} {answers} {a} p = unpins_came d f (unpins d f v w answers a p)
 
-pub unpinned_alike : {v w x : PortValue} {d f : ℕ} {answers others : List Bool} {a b : Result (Unit {0}) Stop} (says : ℕ → Bool) (n : ℕ) → IsReal v → GivesAnswers says n answers → GivesAnswers says n others →
+pub unpinned_alike : {v w x : PortValue} {d f : ℕ} {answers others : List Bool} {a b : Result (Unit {0}) Stop} (says : ℕ → Bool) (n : ℕ) → GivesAnswers says n answers → GivesAnswers says n others →
     Unpinned v w d f answers a → Unpinned v x d f others b → Alike v w x ((answers ≡ others) × (a ≡ b))
-unpinned_alike {v} {w} {x} {d} {f} {answers} {others} {a} {b} says n real one two p q = unpins_alike d f says n real one two (unpins d f v w answers a p) (unpins d f v x others b q)
+unpinned_alike {v} {w} {x} {d} {f} {answers} {others} {a} {b} says n one two p q = unpins_alike d f says n one two (unpins d f v w answers a p) (unpins d f v x others b q)

@@ -26,7 +26,7 @@ use Rattle.mmu_update.specs.Course as course
 use Rattle.mmu_update.specs.Course.{TriedLock, Wrote, entry_update}
 use Rattle.determined_laws.specs.Courses.{Alike}
 use Rattle.determined_laws.specs.Forks.{AgreeLock}
-use Rattle.determined_laws.proofs.Calls.{IsReal, drops_plain_alike, drops_plain_came, gets_alike, puts_alike, real_came}
+use Rattle.determined_laws.proofs.Calls.{drops_plain_alike, drops_plain_came, gets_alike, puts_alike}
 use Rattle.determined_laws.proofs.Courses.{alike_apart, alike_does, alike_map, alike_move, alike_next, alike_same}
 use Rattle.determined_laws.proofs.References.{locks_tie}
 use Rattle.determined_calls.proofs.Below.{took_page_alike, took_page_came}
@@ -41,15 +41,15 @@ pub tried_alike : {v w x : PortValue} {f owner : ℕ} {a b : Result Locked Stop}
 tried_alike {v} {f = f} {a = a} {b} p q = alike_does p.found q.found (λ us vs c d. locks_tie v.post.machine f a b us vs c d)
 
 -- ---- one exchange under it, the level of the table told by its type
-pub under_lock_alike : {v w x : PortValue} {o : Owners} {answers others : List Bool} {a b : Result (Unit {0}) Stop} (f i word : ℕ) (keep : Bool) (l k : ℕ) (says : ℕ → Bool) (n : ℕ) → IsReal v →
+pub under_lock_alike : {v w x : PortValue} {o : Owners} {answers others : List Bool} {a b : Result (Unit {0}) Stop} (f i word : ℕ) (keep : Bool) (l k : ℕ) (says : ℕ → Bool) (n : ℕ) →
     GivesAnswers says n answers → GivesAnswers says n others → level_type l ≡ level_type k →
     Exchanged v (entry_update f l i word keep) o w answers a → Exchanged v (entry_update f k i word keep) o x others b → Alike v w x ((answers ≡ others) × (a ≡ b))
-under_lock_alike {v} {w} {x} {o} {answers} {others} {a} {b} f i word keep l k says n real one two e p q = by (same_level l k e)
+under_lock_alike {v} {w} {x} {o} {answers} {others} {a} {b} f i word keep l k says n one two e p q = by (same_level l k e)
   where
     by : (l ≡ k) ⊎ ((m : ℕ) × (j : ℕ) × (l ≡ suc (suc (suc (suc m)))) × (k ≡ suc (suc (suc (suc j))))) → Alike v w x ((answers ≡ others) × (a ≡ b))
-    by (inl s) = exchanged_alike says n real one two p (subst (λ z. Exchanged v (entry_update f z i word keep) o x others b) (sym s) q)
+    by (inl s) = exchanged_alike says n one two p (subst (λ z. Exchanged v (entry_update f z i word keep) o x others b) (sym s) q)
     by (inr (m, j, s, t)) =
-        exchanged_alike says n real one two (at_top f i word keep o m (subst (λ z. Exchanged v (entry_update f z i word keep) o w answers a) s p)) (at_top f i word keep o j (subst (λ z. Exchanged v (entry_update f z i word keep) o x others b) t q))
+        exchanged_alike says n one two (at_top f i word keep o m (subst (λ z. Exchanged v (entry_update f z i word keep) o w answers a) s p)) (at_top f i word keep o j (subst (λ z. Exchanged v (entry_update f z i word keep) o x others b) t q))
 
 -- ---- a word that is written
 module _ (o : Owners) (f i word : ℕ) (keep : Bool) where
@@ -101,43 +101,43 @@ module _ (o : Owners) (f i word : ℕ) (keep : Bool) where
     apart_slot : {A : Type 0} (l k : ℕ) → level_type l ≡ level_type k → is_slot (level_type l) i ≡ true → is_slot (level_type k) i ≡ false → A
     apart_slot l k e is off = absurd (let t = sym is ∙ (ap (λ z. is_slot z i) e ∙ off) in cc)
 
-    under_alike : {y w x : PortValue} {answers others : List Bool} {a b : Result (Unit {0}) Stop} {r s : Result Locked Stop} → IsReal y → GivesAnswers says n answers → GivesAnswers says n others → AgreeLock r s →
+    under_alike : {y w x : PortValue} {answers others : List Bool} {a b : Result (Unit {0}) Stop} {r s : Result Locked Stop} → GivesAnswers says n answers → GivesAnswers says n others → AgreeLock r s →
         Under y w answers a r → Under y x others b s → Alike y w x ((answers ≡ others) × (a ≡ b))
-    under_alike real one two e (unlocked stop gave none end) (unlocked halt gone nought ends) = alike_map (puts_alike f gave.found gone.found) (λ s. (none ∙ sym nought, end ∙ (ap (λ z. Err z) e ∙ sym ends)))
-    under_alike real one two e (unlocked stop gave none end) (slot level found is left nought ends) = absurd e
-    under_alike real one two e (unlocked stop gave none end) (exchanged level found off run) = absurd e
-    under_alike real one two e (unlocked stop gave none end) (page found c r took rest) = absurd e
-    under_alike real one two e (slot level found is left none end) (unlocked stop gave nought ends) = absurd e
-    under_alike real one two e (slot level found is left none end) (slot higher other also off nought ends) = alike_map (left_lock_alike left (lock_at higher level (sym e.1) off)) (λ s. (none ∙ sym nought, end ∙ sym ends))
-    under_alike real one two e (slot level found is left none end) (exchanged higher other off run) = apart_slot level higher e.1 is off
-    under_alike real one two e (slot level found is left none end) (page other c r took rest) = absurd e
-    under_alike real one two e (exchanged level found off run) (unlocked stop gave nought ends) = absurd e
-    under_alike real one two e (exchanged level found off run) (slot higher other also left nought ends) = apart_slot higher level (sym e.1) also off
-    under_alike real one two e (exchanged level found off run) (exchanged higher other out goes) = under_lock_alike f i word keep level higher says n real one two e.1 run goes
-    under_alike real one two e (exchanged level found off run) (page other c r took rest) = absurd e
-    under_alike real one two e (page found c r took rest) (unlocked stop gave nought ends) = absurd e
-    under_alike real one two e (page found c r took rest) (slot level other is left nought ends) = absurd e
-    under_alike real one two e (page found c r took rest) (exchanged level other off run) = absurd e
-    under_alike {y} {w} {x} {others = others} {b = b} real one two e (page found c r took rest) (page other d s take more) =
-        alike_next (λ z. Paged z x others b s) (took_page_came y f o.tables c r took) (paged_came rest) (paged_came more) (took_page_alike real took take) more
+    under_alike one two e (unlocked stop gave none end) (unlocked halt gone nought ends) = alike_map (puts_alike f gave.found gone.found) (λ s. (none ∙ sym nought, end ∙ (ap (λ z. Err z) e ∙ sym ends)))
+    under_alike one two e (unlocked stop gave none end) (slot level found is left nought ends) = absurd e
+    under_alike one two e (unlocked stop gave none end) (exchanged level found off run) = absurd e
+    under_alike one two e (unlocked stop gave none end) (page found c r took rest) = absurd e
+    under_alike one two e (slot level found is left none end) (unlocked stop gave nought ends) = absurd e
+    under_alike one two e (slot level found is left none end) (slot higher other also off nought ends) = alike_map (left_lock_alike left (lock_at higher level (sym e.1) off)) (λ s. (none ∙ sym nought, end ∙ sym ends))
+    under_alike one two e (slot level found is left none end) (exchanged higher other off run) = apart_slot level higher e.1 is off
+    under_alike one two e (slot level found is left none end) (page other c r took rest) = absurd e
+    under_alike one two e (exchanged level found off run) (unlocked stop gave nought ends) = absurd e
+    under_alike one two e (exchanged level found off run) (slot higher other also left nought ends) = apart_slot higher level (sym e.1) also off
+    under_alike one two e (exchanged level found off run) (exchanged higher other out goes) = under_lock_alike f i word keep level higher says n one two e.1 run goes
+    under_alike one two e (exchanged level found off run) (page other c r took rest) = absurd e
+    under_alike one two e (page found c r took rest) (unlocked stop gave nought ends) = absurd e
+    under_alike one two e (page found c r took rest) (slot level other is left nought ends) = absurd e
+    under_alike one two e (page found c r took rest) (exchanged level other off run) = absurd e
+    under_alike {y} {w} {x} {others = others} {b = b} one two e (page found c r took rest) (page other d s take more) =
+        alike_next (λ z. Paged z x others b s) (took_page_came y f o.tables c r took) (paged_came rest) (paged_came more) (took_page_alike took take) more
         (λ t behind. paged_alike rest (subst (λ z. Paged c x others b z) (sym t) behind))
 
-    writes_alike : {v w x : PortValue} {answers others : List Bool} {a b : Result (Unit {0}) Stop} → IsReal v → GivesAnswers says n answers → GivesAnswers says n others →
+    writes_alike : {v w x : PortValue} {answers others : List Bool} {a b : Result (Unit {0}) Stop} → GivesAnswers says n answers → GivesAnswers says n others →
         Writes v w answers a → Writes v x others b → Alike v w x ((answers ≡ others) × (a ≡ b))
-    writes_alike real one two (unreferred stop got none end) (unreferred halt gets nought ends) = alike_map (gets_alike {A = ℕ} f o.tables (Err stop) (Err halt) got.found gets.found) (λ s. (none ∙ sym nought, end ∙ (ap (λ z. Err z) s ∙ sym ends)))
-    writes_alike {v} {w} {x} real one two (unreferred stop got none end) (referred u y r gets tried rest) =
+    writes_alike one two (unreferred stop got none end) (unreferred halt gets nought ends) = alike_map (gets_alike {A = ℕ} f o.tables (Err stop) (Err halt) got.found gets.found) (λ s. (none ∙ sym nought, end ∙ (ap (λ z. Err z) s ∙ sym ends)))
+    writes_alike {v} {w} {x} one two (unreferred stop got none end) (referred u y r gets tried rest) =
         alike_apart (came_self w) (came_trans u y x (tried_came tried) (under_came rest)) (gets_alike {A = ℕ} f o.tables (Err stop) (Ok f) got.found gets.found) (λ s. absurd s)
-    writes_alike {v} {w} {x} real one two (referred u y r gets tried rest) (unreferred stop got none end) =
+    writes_alike {v} {w} {x} one two (referred u y r gets tried rest) (unreferred stop got none end) =
         alike_apart (came_trans u y w (tried_came tried) (under_came rest)) (came_self x) (gets_alike {A = ℕ} f o.tables (Ok f) (Err stop) gets.found got.found) (λ s. absurd s)
-    writes_alike {v} {w} {x} {others = others} {b = b} real one two (referred u y r got tried rest) (referred c d s gets tries more) =
+    writes_alike {v} {w} {x} {others = others} {b = b} one two (referred u y r got tried rest) (referred c d s gets tries more) =
         alike_next (λ z. TriedLock z d f o.tables s) (ref_came v u f o.tables _ got) (came_trans u y w (tried_came tried) (under_came rest)) (came_trans c d x (tried_came tries) (under_came more)) (gets_alike {A = ℕ} f o.tables (Ok f) (Ok f) got.found gets.found) tries
         (λ e again. alike_next (λ z. Under z x others b s) (tried_came tried) (under_came rest) (under_came more) (tried_alike tried again) more
-        (λ t behind. under_alike (real_came u y (tried_came tried) (real_came v u (ref_came v u f o.tables _ got) real)) one two t rest behind))
+        (λ t behind. under_alike one two t rest behind))
 
 pub wrote_came : {v w : PortValue} {o : Owners} {f i word : ℕ} {keep : Bool} {answers : List Bool} {a : Result (Unit {0}) Stop} → Wrote v o f i word keep w answers a → Came v w
 wrote_came {v} {w} {o} {f} {i} {word} {keep} {answers} {a} p = writes_came o f i word keep (writes o f i word keep v w answers a p)
 
-pub wrote_alike : {v w x : PortValue} {o : Owners} {f i word : ℕ} {keep : Bool} {answers others : List Bool} {a b : Result (Unit {0}) Stop} (says : ℕ → Bool) (n : ℕ) → IsReal v → GivesAnswers says n answers → GivesAnswers says n others →
+pub wrote_alike : {v w x : PortValue} {o : Owners} {f i word : ℕ} {keep : Bool} {answers others : List Bool} {a b : Result (Unit {0}) Stop} (says : ℕ → Bool) (n : ℕ) → GivesAnswers says n answers → GivesAnswers says n others →
     Wrote v o f i word keep w answers a → Wrote v o f i word keep x others b → Alike v w x ((answers ≡ others) × (a ≡ b))
-wrote_alike {v} {w} {x} {o} {f} {i} {word} {keep} {answers} {others} {a} {b} says n real one two p q =
-    writes_alike o f i word keep says n real one two (writes o f i word keep v w answers a p) (writes o f i word keep v x others b q)
+wrote_alike {v} {w} {x} {o} {f} {i} {word} {keep} {answers} {others} {a} {b} says n one two p q =
+    writes_alike o f i word keep says n one two (writes o f i word keep v w answers a p) (writes o f i word keep v x others b q)

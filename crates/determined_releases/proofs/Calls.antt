@@ -17,9 +17,10 @@ use Rattle.partial_state.specs.declared.stack.TableWork.{TableWork}
 use Rattle.table_entries.specs.Acquiring.{GaveRef, GaveType, Named}
 use Rattle.table_releases.specs.declared.entries.Released.{Released}
 use Rattle.level_release.specs.Course.{GaveEntry, LeftInside, MadeDead, Rerecorded, StoredPartial, UnwoundDown, one_less}
+use Rattle.step_maker.proofs.Visiting.{does_came}
 use Rattle.determined_laws.specs.Courses.{Alike}
 use Rattle.determined_laws.specs.Forks.{Tie}
-use Rattle.determined_laws.proofs.Courses.{alike_apart, alike_does, alike_map, alike_move, alike_same, alike_then, does_came}
+use Rattle.determined_laws.proofs.Courses.{alike_apart, alike_does, alike_map, alike_move, alike_same, alike_then}
 use Rattle.determined_laws.proofs.Calls.{drops_plain_alike, drops_plain_came, puts_alike, puts_came}
 use Rattle.determined_laws.proofs.References.{put_tie}
 use Rattle.determined_laws.proofs.Types.{dies_tie, then_tie}

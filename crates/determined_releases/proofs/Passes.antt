@@ -18,9 +18,10 @@ use Rattle.frame_claims.specs.Found as founds
 use Rattle.frame_words.specs.Refs.{saw_refs}
 use Rattle.domain_destroy.specs.Course as course
 use Rattle.domain_destroy.specs.Course.{BeginsBy, FoundInUse, FoundNoUse, LeftFrame, ListsFrame, LooksAndDooms, own_of}
+use Rattle.step_maker.proofs.Visiting.{does_came}
 use Rattle.determined_laws.specs.Courses.{Alike}
 use Rattle.determined_laws.specs.Forks.{Forks, Tie}
-use Rattle.determined_laws.proofs.Courses.{Goes, alike_does, alike_map, does_came, goes_same, more, none}
+use Rattle.determined_laws.proofs.Courses.{Goes, alike_does, alike_map, goes_same, more, none}
 use Rattle.determined_laws.proofs.Ties.{fork_here, swapped, tie_lists, tie_map, tie_one, tie_then}
 use Rattle.determined_releases.proofs.Calls.{alike_with}
 use Rattle.determined_releases.proofs.Emptying.{Done}
