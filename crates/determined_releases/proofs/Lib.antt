@@ -1,5 +1,6 @@
 mod Answers
 mod Calls
+mod Clearing
 mod Emptying
 pub mod Entries
 mod Passes
