@@ -1,3 +1,4 @@
+mod Advances
 mod Answers
 mod Calls
 mod Clearing
