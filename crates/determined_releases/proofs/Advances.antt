@@ -145,6 +145,11 @@ advances_came {u = u} (course.Advances.in_use f x w few steps) = does_came u w _
 advances_came (course.Advances.listed f left y w some few look all) = move_came look
 advances_came (course.Advances.half_free f left y w few look own half) = move_came look
 
+-- no frame is listed behind the machine's last one
+pub lists_few : {d f left : ℕ} {u w : PortValue} {to : DestroyAt} {listed : List LeftFrame} {answers : List Bool} {a : Done} → Advances d u (Lists f left) w to listed answers a → f < u.post.machine.frames
+lists_few (course.Advances.listed f left y w some few look all) = few
+lists_few (course.Advances.half_free f left y w few look own half) = few
+
 module _ (says : ℕ → Bool) (n d : ℕ) (u : PortValue) where
   abbrev EmptiesBy : ℕ → PortValue → Outcome → Type 0
   EmptiesBy v w o = EachBy says n (length u.post.machine.vcpu_domain) v (Empties (v + 1)) (Empties v) (Clears 0) u (EmptiesOne d v u) w o

@@ -2,6 +2,7 @@ mod Advances
 mod Answers
 mod Calls
 mod Clearing
+mod Destroys
 mod Emptying
 pub mod Entries
 mod Passes
