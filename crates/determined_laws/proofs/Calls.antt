@@ -1,11 +1,12 @@
 -- Calls of one step or a few, from port to port.
-use Rattle.std.proofs.Common.{◌≡◌, ◌<◌, ◌==◌, ℕ, Bool, List, Result, length, refl, sym, ap, ◌∙◌}
+use Rattle.std.proofs.Common.{◌≡◌, ◌<◌, ◌==◌, ℕ, Bool, List, Result, length, refl, sym, ap, ◌∙◌, subst}
 use Rattle.xp_words.specs.KindWords.{kind_fields}
 use Rattle.xp_words.specs.declared.kind.PageType.{PageType}
 use Rattle.xp_words.specs.declared.reply.Stop.{Stop}
-use Rattle.xp_board.specs.Told.{PortValue}
+use Rattle.xp_board.specs.Told.{PortValue, Post}
 use Rattle.step_maker.specs.Moves.{Came}
-use Rattle.step_maker.proofs.Coming.{moves_came}
+use Rattle.step_maker.proofs.Coming.{came_post, moves_came}
+use Rattle.step_maker.proofs.Visiting.{does_came}
 use Rattle.frame_words.specs.Freeing.{Puts}
 use Rattle.frame_words.specs.Refs.{Gets}
 use Rattle.frame_types.specs.Found.{DropsPlain, TakesFound}
@@ -14,13 +15,16 @@ use Rattle.frame_types.specs.declared.taking.Taken.{Taken}
 use Rattle.entry_locks.specs.Locks.{Unlocks}
 use Rattle.determined_laws.specs.Courses.{Alike}
 use Rattle.determined_laws.specs.Forks.{Agree}
-use Rattle.determined_laws.proofs.Courses.{alike_does, alike_map, alike_move, does_came}
+use Rattle.determined_laws.proofs.Courses.{alike_does, alike_map, alike_move}
 use Rattle.determined_laws.proofs.References.{gets_tie, put_tie}
 use Rattle.determined_laws.proofs.Types.{drops_tie, types_tie}
 
 -- the vCPU is one of the machine's
 abbrev pub IsReal : PortValue → Type 0
 IsReal v = v.post.vcpu < length v.post.machine.vcpu_domain
+
+pub real_came : (v w : PortValue) → Came v w → IsReal v → IsReal w
+real_came v w c real = subst (λ (q : Post). q.vcpu < length q.machine.vcpu_domain) (sym (came_post v w c)) real
 
 pub gets_came : {A : Type 0} (v w : PortValue) (f owner : ℕ) (a : Result A Stop) → Gets v w f owner a → Came v w
 gets_came v w f owner a p = does_came v w _ p

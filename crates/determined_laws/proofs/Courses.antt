@@ -47,10 +47,6 @@ pub made_came : (v w : PortValue) (us : List Visit) → MadeBy v w us → Came v
 unfolding Came Does
 made_came v w us a = (a.0, a.1)
 
-pub does_came : (v w : PortValue) (P : List Visit → Type 0) → Does v w P → Came v w
-unfolding Came Does
-does_came v w P a = (a.0, a.1)
-
 -- ---- forks
 pub forked_then : {v a b w x : PortValue} → Forked v a b → Came a w → Came b x → Forked v w x
 forked_then {v} {a} {b} {w} {x} f one two =
@@ -84,6 +80,10 @@ alike_then {v} {a} {b} {w} {x} {E} {F} c one two (inr s) rest = behind (rest s.0
     behind : Alike a w x F → Alike v w x F
     behind (inl f) = inl (forked_behind c f)
     behind (inr t) = inr t
+
+-- the same, where the rest of the other is said of its own port
+pub alike_next : {v a b w x : PortValue} {E F : Type 0} (Rest : PortValue → Type 0) → Came v a → Came a w → Came b x → Alike v a b E → Rest b → (E → Rest a → Alike a w x F) → Alike v w x F
+alike_next Rest c one two first q rest = alike_then c one two first (λ e s. rest s (subst Rest (sym e) q))
 
 -- the first parts are alike, but their answers are not both to be had
 pub alike_apart : {v a b w x : PortValue} {E F : Type 0} → Came a w → Came b x → Alike v a b E → (E → ⊥) → Alike v w x F
