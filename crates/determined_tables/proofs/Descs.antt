@@ -28,6 +28,7 @@ use Rattle.determined_laws.specs.Forks.{MadeBy}
 use Rattle.determined_laws.proofs.Types.{dead_tie}
 use Rattle.determined_tables.proofs.Chains.{Chain, Choice, Ends, IsFixed, IsSure, fixed_by, fixed_choice, fixed_ends, fixed_map, fixed_move, fixed_never, fixed_sure, fixed_then, left, right, sure_does, sure_some, sure_two}
 use Rattle.determined_tables.proofs.Leaves.{gave_sure, got_fixed, kept_sure, ref_answer, stored, takes_fixed}
+use Rattle.determined_tables.proofs.Pages.{frame_or}
 use Rattle.determined_tables.proofs.Loops.{Looped, Rounds, begun, halted, looped_fixed, round, through}
 
 -- ---- the last step of a list
@@ -58,10 +59,7 @@ module _ (f : ℕ) where
 
   -- the first words, so many
   word_rounds : (v : PortValue) (i : ℕ) (vs : List Visit) → FixesBy f i vs → (z : PortValue) → MadeBy v z vs → Rounds WordRound v i z
-  word_rounds v _ _ words.none z m = subst (λ k. Rounds WordRound v 0 k) (sym (stayed_at m)) begun
-    where
-      stayed_at : MadeBy v z [] → z ≡ v
-      stayed_at m = stayed v z m
+  word_rounds v _ _ words.none z m = subst (λ k. Rounds WordRound v 0 k) (sym (stayed v z m)) begun
   word_rounds v _ _ (words.stands i x vs e p) z m =
       let last = last_made v z _ vs m in
       round i last.0 z (word_rounds v i vs p last.0 last.1) (record { at = z; answer = x; first = last.2; rest = subst (λ k. WordOf i x k z z None) (sym e) (left refl (refl, refl)) })
@@ -104,3 +102,56 @@ module _ (f : ℕ) where
 
   pub validated_fixed : (v : PortValue) → IsFixed v (λ w r. PageValidated v w f r)
   validated_fixed v = fixed_by (valid_view v) (fixed_then (looped_fixed WordRound word_fixed 512 v) (λ z k p. valid_rest_fixed z k))
+
+-- ---- taken, under a reference in hand
+desc_left_sure : (v : PortValue) (f owner stamp : ℕ) (stop : Stop) → IsSure v (λ w. DescLeft v w f owner stamp stop)
+desc_left_sure v f owner stamp (Refused x) = sure_does v _ (dead_tie f Desc)
+desc_left_sure v f owner stamp (Paused x) = kept_sure v f (partial_kind Desc true true 0 stamp) owner
+
+module _ (f owner : ℕ) where
+  desc_type_fixed : (v : PortValue) → IsFixed v (λ u a. TookDescType v u f owner a)
+  desc_type_fixed v = fixed_by (λ u a p. p.found) (takes_fixed v f owner Desc)
+
+  abbrev DescRest : PortValue → Result Taken Stop → PortValue → Result (Unit {0}) Stop → Type 0
+  DescRest u (Ok types.Counted) w r = Ends u (Ok tt) w r
+  DescRest u (Ok (types.InWork progress own)) w r = PageValidated u w f r
+  DescRest u (Ok (types.Waiting own stamp stop)) w r = (r ≡ Err stop) × DescLeft u w f owner stamp stop
+  DescRest u (Err stop) w r = (r ≡ Err stop) × GaveRef u w f
+
+  desc_view : (v w : PortValue) (r : Result (Unit {0}) Stop) → TookDesc v f owner w r → Chain (λ u a. TookDescType v u f owner a) DescRest w r
+  desc_view v _ _ (pages.untyped y w stop t g) = record { at = y; answer = Err stop; first = t; rest = (refl, g) }
+  desc_view v _ _ (pages.counted w t) = record { at = w; answer = Ok types.Counted; first = t; rest = (refl, refl) }
+  desc_view v _ _ (pages.waiting y w stamp stop t l) = record { at = y; answer = Ok (types.Waiting true stamp stop); first = t; rest = (refl, l) }
+  desc_view v _ _ (pages.read y w r t p) = record { at = y; answer = Ok (types.InWork 0 true); first = t; rest = p }
+
+  desc_rest_fixed : (u : PortValue) (a : Result Taken Stop) → IsFixed u (DescRest u a)
+  desc_rest_fixed u (Ok types.Counted) = fixed_ends u (Ok tt)
+  desc_rest_fixed u (Ok (types.InWork progress own)) = validated_fixed f u
+  desc_rest_fixed u (Ok (types.Waiting own stamp stop)) = fixed_sure (Err stop) (desc_left_sure u f owner stamp stop)
+  desc_rest_fixed u (Err stop) = fixed_sure (Err stop) (gave_sure u f)
+
+  pub took_desc_fixed : (v : PortValue) → IsFixed v (λ w r. TookDesc v f owner w r)
+  took_desc_fixed v = fixed_by (desc_view v) (fixed_then (desc_type_fixed v) (λ u a p. desc_rest_fixed u a))
+
+  -- with a reference of its own
+  abbrev GotRest : PortValue → Option Stop → PortValue → Result ℕ Stop → Type 0
+  GotRest u None w b = (r : Result (Unit {0}) Stop) × TookDesc u f owner w r × (b ≡ frame_or f owner r)
+  GotRest u (Some stop) w b = Ends u (Err stop) w b
+
+  got_view : (v w : PortValue) (b : Result ℕ Stop) → GotDesc v f owner w b → Chain (λ u o. GotRef v u f owner (ref_answer f o)) GotRest w b
+  got_view v _ _ (pages.unreferred w stop g) = record { at = w; answer = Some stop; first = g; rest = (refl, refl) }
+  got_view v _ _ (pages.untaken u w stop g t) = record { at = u; answer = None; first = g; rest = (Err stop, t, refl) }
+  got_view v _ _ (pages.had u w g t) = record { at = u; answer = None; first = g; rest = (Ok tt, t, refl) }
+
+  got_rest_fixed : (u : PortValue) (o : Option Stop) → IsFixed u (GotRest u o)
+  got_rest_fixed u None = fixed_map (frame_or f owner) (took_desc_fixed u)
+  got_rest_fixed u (Some stop) = fixed_ends u (Err stop)
+
+  pub got_desc_fixed : (v : PortValue) → IsFixed v (λ w b. GotDesc v f owner w b)
+  got_desc_fixed v = fixed_by (got_view v) (fixed_then (got_fixed v f owner) (λ u o p. got_rest_fixed u o))
+
+pub got_desc_came : {v w : PortValue} {f owner : ℕ} {a : Result ℕ Stop} → GotDesc v f owner w a → Came v w
+got_desc_came {v} {w} {f} {owner} {a} p = (got_desc_fixed f owner v).came w a p
+
+pub got_desc_alike : {v w x : PortValue} {f owner : ℕ} {a b : Result ℕ Stop} → GotDesc v f owner w a → GotDesc v f owner x b → Alike v w x (a ≡ b)
+got_desc_alike {v} {w} {x} {f} {owner} {a} {b} p q = (got_desc_fixed f owner v).alike w x a b p q

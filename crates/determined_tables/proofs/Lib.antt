@@ -1,5 +1,6 @@
 pub mod Acquired
 pub mod Chains
+pub mod Descriptors
 pub mod Descs
 pub mod Entries
 pub mod Filling
