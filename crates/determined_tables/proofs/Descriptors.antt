@@ -68,3 +68,53 @@ module _ (f owner : ℕ) where
 
     pub under_fixed : (v : PortValue) → IsFixed v (λ w (z : PageType × Result (Unit {0}) Stop). StoredUnder v f owner i new z.0 w z.1)
     under_fixed v = fixed_by (λ w z p. under_view v z.0 w z.1 p) (fixed_then (fixed_move v (Kind f) Load kinds.Look None) (λ x found p. under_rest_fixed x found))
+
+-- ---- the whole call
+module _ (v : PortValue) (address word : ℕ) where
+  abbrev frame : ℕ
+  frame = frame_at address
+
+  abbrev Sheet : Type 0
+  Sheet = PageType × Result (Unit {0}) Stop
+
+  abbrev WordRest : Option ℕ → PortValue → PortValue → Sheet → Type 0
+  WordRest None u w z = (z ≡ (Writable, Err (Refused (refusals.BadDescriptor frame (index_at address) word)))) × GaveRef u w frame
+  WordRest (Some new) u w z = StoredUnder u frame (own_domain v) (index_at address) new z.0 w z.1
+
+  abbrev LentRest : PortValue → Option Stop → PortValue → Sheet → Type 0
+  LentRest u None w z = WordRest (fixed word) u w z
+  LentRest u (Some stop) w z = Ends u (Writable, Err stop) w z
+
+  abbrev UpdateView : Option Refusal → PortValue → Sheet → Type 0
+  UpdateView (Some x) w z = Ends v (Writable, Err (Refused x)) w z
+  UpdateView None w z = Chain (λ u o. GotRef v u frame (own_domain v) (ref_answer frame o)) LentRest w z
+
+  update_view : (want : PageType) (w : PortValue) (r : Result (Unit {0}) Stop) → UpdatesDescriptor v address word want w r → UpdateView (descriptor_refusal address) w (want, r)
+  update_view _ _ _ (ways.barred x e) = subst (λ k. UpdateView k v (Writable, Err (Refused x))) (sym e) (refl, refl)
+  update_view _ _ _ (ways.unreferred w stop e g) = subst (λ k. UpdateView k w (Writable, Err stop)) (sym e) (record { at = w; answer = Some stop; first = g; rest = (refl, refl) })
+  update_view _ _ _ (ways.unfixed u w e g n p) =
+      subst (λ k. UpdateView k w (Writable, Err (Refused (refusals.BadDescriptor frame (index_at address) word)))) (sym e)
+      (record { at = u; answer = None; first = g; rest = subst (λ k. WordRest k u w (Writable, Err (Refused (refusals.BadDescriptor frame (index_at address) word)))) (sym n) (refl, p) })
+  update_view _ _ _ (ways.referred u w new want r e g n s) = subst (λ k. UpdateView k w (want, r)) (sym e) (record { at = u; answer = None; first = g; rest = subst (λ k. WordRest k u w (want, r)) (sym n) s })
+
+  word_rest_fixed : (o : Option ℕ) (u : PortValue) → IsFixed u (WordRest o u)
+  word_rest_fixed None u = fixed_sure (Writable, Err (Refused (refusals.BadDescriptor frame (index_at address) word))) (gave_sure u frame)
+  word_rest_fixed (Some new) u = under_fixed frame (own_domain v) (index_at address) new u
+
+  lent_rest_fixed : (u : PortValue) (o : Option Stop) → IsFixed u (LentRest u o)
+  lent_rest_fixed u None = word_rest_fixed (fixed word) u
+  lent_rest_fixed u (Some stop) = fixed_ends u (Writable, Err stop)
+
+  update_view_fixed : (o : Option Refusal) → IsFixed v (UpdateView o)
+  update_view_fixed (Some x) = fixed_ends v (Writable, Err (Refused x))
+  update_view_fixed None = fixed_then (got_fixed v frame (own_domain v)) (λ u o p. lent_rest_fixed u o)
+
+  pub updates_fixed : IsFixed v (λ w (z : Sheet). UpdatesDescriptor v address word z.0 w z.1)
+  updates_fixed = fixed_by (λ w z p. update_view z.0 w z.1 p) (update_view_fixed (descriptor_refusal address))
+
+pub updates_descriptor_came : {v w : PortValue} {address word : ℕ} {want : PageType} {a : Result (Unit {0}) Stop} → UpdatesDescriptor v address word want w a → Came v w
+updates_descriptor_came {v} {w} {address} {word} {want} {a} p = (updates_fixed v address word).came w (want, a) p
+
+pub updates_descriptor_alike : {v w x : PortValue} {address word : ℕ} {want other : PageType} {a b : Result (Unit {0}) Stop} → UpdatesDescriptor v address word want w a → UpdatesDescriptor v address word other x b → Alike v w x ((want ≡ other) × (a ≡ b))
+updates_descriptor_alike {v} {w} {x} {address} {word} {want} {other} {a} {b} p q =
+    alike_map ((updates_fixed v address word).alike w x (want, a) (other, b) p q) (λ e. (ap (λ (z : PageType × Result (Unit {0}) Stop). z.0) e, ap (λ (z : PageType × Result (Unit {0}) Stop). z.1) e))

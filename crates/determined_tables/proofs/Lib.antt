@@ -4,6 +4,7 @@ pub mod Descriptors
 pub mod Descs
 pub mod Entries
 pub mod Filling
+pub mod Gdt
 pub mod Leaves
 pub mod Loops
 pub mod Pages
