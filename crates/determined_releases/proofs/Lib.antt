@@ -1,5 +1,6 @@
 mod Advances
 mod Answers
+mod Bases
 mod Calls
 mod Clearing
 mod Destroys
