@@ -15,6 +15,7 @@ use Rattle.xp_board.proofs.RefForms.{dying_uncounted}
 use Rattle.step_maker.specs.Moves.{Came, Moves}
 use Rattle.step_maker.specs.Visits.{Does}
 use Rattle.step_maker.proofs.Coming.{came_self}
+use Rattle.step_maker.proofs.Visiting.{does_came}
 use Rattle.domain_destroy.specs.Course as course
 use Rattle.domain_destroy.specs.Course.{Advances, BeginsBy, LeftFrame, ListsFrame, own_of}
 use Rattle.domain_destroy.specs.Clearing.{ClearsFrame}
@@ -22,7 +23,7 @@ use Rattle.domain_destroy.specs.Emptying.{EmptiesOne}
 use Rattle.domain_destroy.specs.declared.place.DestroyAt.{DestroyAt}
 use Rattle.domain_destroy.specs.declared.place.DestroyAt.TheVariants.{Begins, Stops, Empties, Clears, Checks, Lists}
 use Rattle.determined_laws.specs.Courses.{Alike}
-use Rattle.determined_laws.proofs.Courses.{Goes, alike_does, alike_map, alike_move, alike_same, does_came, goes_came}
+use Rattle.determined_laws.proofs.Courses.{Goes, alike_does, alike_map, alike_move, alike_same, goes_came}
 use Rattle.determined_releases.proofs.Calls.{alike_with, move_came}
 use Rattle.determined_releases.proofs.Clearing.{MarkIsDetermined, clears_alike, clears_came}
 use Rattle.determined_releases.proofs.Emptying.{Done, one_alike, one_came}

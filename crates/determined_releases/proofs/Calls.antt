@@ -10,6 +10,7 @@ use Rattle.xp_board.specs.declared.step.StepKind.{StepKind}
 use Rattle.step_maker.specs.Moves.{Came, Moves}
 use Rattle.step_maker.specs.Visits.{Does, Then}
 use Rattle.step_maker.proofs.Coming.{came_self, came_trans, moves_came}
+use Rattle.step_maker.proofs.Visiting.{does_came}
 use Rattle.frame_words.specs.Freeing.{PutBy}
 use Rattle.frame_types.specs.Found.{Dies}
 use Rattle.partial_state.specs.Levels.{level_type}
@@ -19,7 +20,7 @@ use Rattle.table_releases.specs.declared.entries.Released.{Released}
 use Rattle.level_release.specs.Course.{GaveEntry, LeftInside, MadeDead, Rerecorded, StoredPartial, UnwoundDown, one_less}
 use Rattle.determined_laws.specs.Courses.{Alike}
 use Rattle.determined_laws.specs.Forks.{Tie}
-use Rattle.determined_laws.proofs.Courses.{alike_apart, alike_does, alike_map, alike_move, alike_same, alike_then, does_came}
+use Rattle.determined_laws.proofs.Courses.{alike_apart, alike_does, alike_map, alike_move, alike_same, alike_then}
 use Rattle.determined_laws.proofs.Calls.{drops_plain_alike, drops_plain_came, puts_alike, puts_came}
 use Rattle.determined_laws.proofs.References.{put_tie}
 use Rattle.determined_laws.proofs.Types.{dies_tie, then_tie}

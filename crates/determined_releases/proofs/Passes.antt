@@ -12,7 +12,7 @@ use Rattle.step_maker.specs.Moves.{Came, Moment, Ran}
 use Rattle.step_maker.specs.Pauses.{found_in_use}
 use Rattle.step_maker.specs.Visits.{Does, Nothing, Only, Then, Visit, visit, visits}
 use Rattle.step_maker.proofs.Parts.{cut, parts, stayed}
-use Rattle.step_maker.proofs.Visiting.{does_as}
+use Rattle.step_maker.proofs.Visiting.{does_as, does_came}
 use Rattle.frame_claims.specs.Found.{Upwards}
 use Rattle.frame_claims.specs.Found as founds
 use Rattle.frame_words.specs.Refs.{saw_refs}
@@ -20,7 +20,7 @@ use Rattle.domain_destroy.specs.Course as course
 use Rattle.domain_destroy.specs.Course.{BeginsBy, FoundInUse, FoundNoUse, LeftFrame, ListsFrame, LooksAndDooms, own_of}
 use Rattle.determined_laws.specs.Courses.{Alike}
 use Rattle.determined_laws.specs.Forks.{Forks, Tie}
-use Rattle.determined_laws.proofs.Courses.{Goes, alike_does, alike_map, does_came, goes_came, goes_same, more, none}
+use Rattle.determined_laws.proofs.Courses.{Goes, alike_does, alike_map, goes_came, goes_same, more, none}
 use Rattle.determined_laws.proofs.Ties.{fork_here, swapped, tie_lists, tie_map, tie_one, tie_then}
 use Rattle.determined_releases.proofs.Calls.{alike_with}
 use Rattle.determined_releases.proofs.Emptying.{Done}
