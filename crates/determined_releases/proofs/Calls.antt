@@ -10,6 +10,7 @@ use Rattle.xp_board.specs.declared.step.StepKind.{StepKind}
 use Rattle.step_maker.specs.Moves.{Came, Moves}
 use Rattle.step_maker.specs.Visits.{Does, Then}
 use Rattle.step_maker.proofs.Coming.{came_self, came_trans, moves_came}
+use Rattle.step_maker.proofs.Visiting.{does_came}
 use Rattle.frame_words.specs.Freeing.{PutBy}
 use Rattle.frame_types.specs.Found.{Dies}
 use Rattle.partial_state.specs.Levels.{level_type}

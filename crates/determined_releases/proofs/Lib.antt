@@ -1,5 +1,9 @@
+mod Advances
 mod Answers
+mod Bases
 mod Calls
+mod Clearing
+mod Destroys
 mod Emptying
 pub mod Entries
 mod Passes

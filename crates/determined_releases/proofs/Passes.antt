@@ -12,16 +12,15 @@ use Rattle.step_maker.specs.Moves.{Came, Moment, Ran}
 use Rattle.step_maker.specs.Pauses.{found_in_use}
 use Rattle.step_maker.specs.Visits.{Does, Nothing, Only, Then, Visit, visit, visits}
 use Rattle.step_maker.proofs.Parts.{cut, parts, stayed}
-use Rattle.step_maker.proofs.Visiting.{does_as}
+use Rattle.step_maker.proofs.Visiting.{does_as, does_came}
 use Rattle.frame_claims.specs.Found.{Upwards}
 use Rattle.frame_claims.specs.Found as founds
 use Rattle.frame_words.specs.Refs.{saw_refs}
 use Rattle.domain_destroy.specs.Course as course
 use Rattle.domain_destroy.specs.Course.{BeginsBy, FoundInUse, FoundNoUse, LeftFrame, ListsFrame, LooksAndDooms, own_of}
-use Rattle.step_maker.proofs.Visiting.{does_came}
 use Rattle.determined_laws.specs.Courses.{Alike}
 use Rattle.determined_laws.specs.Forks.{Forks, Tie}
-use Rattle.determined_laws.proofs.Courses.{Goes, alike_does, alike_map, goes_same, more, none}
+use Rattle.determined_laws.proofs.Courses.{Goes, alike_does, alike_map, goes_came, goes_same, more, none}
 use Rattle.determined_laws.proofs.Ties.{fork_here, swapped, tie_lists, tie_map, tie_one, tie_then}
 use Rattle.determined_releases.proofs.Calls.{alike_with}
 use Rattle.determined_releases.proofs.Emptying.{Done}
@@ -162,11 +161,11 @@ module _ (d frames : ℕ) where
         more (pass c.port n None) (pass w (n + 1) None) (up_goes n (omega (arith, few)) before up c.port c.ms c.ran c.are)
         (record { going = refl; few = omega (arith, few); sees = (c.ns, c.goes, no_use d n (visits c.ns) (subst (λ z. FoundNoUse d n z) (sym c.more) one)); on = refl })
 
-    checked_goes : (m : ℕ) → m ≤ frames → (w : PortValue) → Does v w (λ vs. Upwards (FoundNoUse d) 0 m vs) → Goes Next (pass v 0 None) (pass w m None)
+    pub checked_goes : (m : ℕ) → m ≤ frames → (w : PortValue) → Does v w (λ vs. Upwards (FoundNoUse d) 0 m vs) → Goes Next (pass v 0 None) (pass w m None)
     unfolding Does
     checked_goes m few w p = up_goes m few (visits p.0) p.2 w p.0 p.1 refl
 
-    used_goes : (f x : ℕ) → f < frames → (w : PortValue) → Does v w (λ vs. Then (Upwards (FoundNoUse d) 0 f) (FoundInUse d f x) vs) → Goes Next (pass v 0 None) (pass w f (Some x))
+    pub used_goes : (f x : ℕ) → f < frames → (w : PortValue) → Does v w (λ vs. Then (Upwards (FoundNoUse d) 0 f) (FoundInUse d f x) vs) → Goes Next (pass v 0 None) (pass w f (Some x))
     used_goes f x few w p =
         let c = parts v w (λ vs. Upwards (FoundNoUse d) 0 f vs) (λ vs. FoundInUse d f x vs) p in
         more (pass c.0 f None) (pass w f (Some x)) (checked_goes f (omega (arith, few)) c.0 c.1) (record { going = refl; few = few; sees = does_as c.0 w _ _ (in_use d f x) c.2; on = refl })
@@ -182,3 +181,6 @@ listed_same d f y _ _ (course.ListsFrame.others off) (course.ListsFrame.others o
 listed_same d f y _ _ (course.ListsFrame.others off) (course.ListsFrame.left is some) = absurd (off is)
 listed_same d f y _ _ (course.ListsFrame.left is some) (course.ListsFrame.others off) = absurd (off is)
 listed_same d f y _ _ (course.ListsFrame.left is some) (course.ListsFrame.left also any) = refl
+
+pub passes_came : (d frames : ℕ) (s t : Pass) → Goes (Next d frames) s t → Came s.port t.port
+passes_came d frames s t p = goes_came (Next d frames) (λ z. z.port) (next_came d frames) (next_alike d frames) s t p

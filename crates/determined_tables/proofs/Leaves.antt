@@ -100,7 +100,7 @@ pub type_fixed : (v : PortValue) (f owner level : ℕ) → IsFixed v (λ w a. To
 type_fixed v f owner level = fixed_by (λ w a p. p.found) (takes_fixed v f owner (level_type level))
 
 -- ---- one step whose found word is not told on
-stored : (v : PortValue) (f : ℕ) (k : KindWord) → IsSure v (λ w. (found : ℕ) × Moves v w (Kind f) (Store (kind_write k)) kinds.Kind None found)
+pub stored : (v : PortValue) (f : ℕ) (k : KindWord) → IsSure v (λ w. (found : ℕ) × Moves v w (Kind f) (Store (kind_write k)) kinds.Kind None found)
 stored v f k = sure_some (fixed_move v (Kind f) (Store (kind_write k)) kinds.Kind None)
 
 pub live_sure : (v : PortValue) (t : TableWork) → IsSure v (λ w. MadeLive v w t)

@@ -1,7 +1,10 @@
 pub mod Acquired
 pub mod Chains
+pub mod Descriptors
+pub mod Descs
 pub mod Entries
 pub mod Filling
+pub mod Gdt
 pub mod Leaves
 pub mod Loops
 pub mod Pages
