@@ -1,5 +1,5 @@
 -- A page of the own LDT that is touched is determined.
-use Rattle.std.proofs.Common.{◌≡◌, ◌≢◌, ℕ, ◌+◌, Bool, true, false, List, Option, Some, None, Result, Ok, Err, refl, sym, ap, ◌∙◌, subst}
+use Rattle.std.proofs.Common.{◌≡◌, ◌≢◌, ℕ, ◌+◌, Bool, true, false, Option, Some, None, Result, Ok, Err, refl, sym, ap, subst}
 use Rattle.xp_words.specs.ContextWords.{ldt_read}
 use Rattle.xp_words.specs.Entries.{frame_of}
 use Rattle.xp_words.specs.declared.context.LdtBase.{LdtBase}
