@@ -1,5 +1,5 @@
 -- An acquisition is determined by the words that it finds, and by the answers of its gate.
-use Rattle.std.proofs.Common.{◌≡◌, ℕ, ◌&&◌, if◌then◌else◌, Bool, true, false, List, [], ◌∷◌, Option, Some, None, Result, Ok, Err, refl, sym, ap, ◌∙◌, subst}
+use Rattle.std.proofs.Common.{◌≡◌, ℕ, ◌&&◌, if◌then◌else◌, Bool, true, false, List, [], ◌∷◌, Option, Some, None, Result, Ok, Err, refl, sym, ap, subst}
 use Rattle.xp_words.specs.declared.reply.Pause.TheVariants.{Due}
 use Rattle.xp_words.specs.declared.reply.Stop.{Stop}
 use Rattle.xp_words.specs.declared.reply.Stop.TheVariants.{Paused}
@@ -135,6 +135,7 @@ acquired_came {v} {w} {f} {owner} {level} {answers} {a} p = by w answers a p
   where
     typed_came : (u x w : PortValue) (b : Result Taken Stop) → GotRef v u f owner (Ok f) → TookType u x f owner level b → Came x w → Came v w
     typed_came u x w b g t rest = came_trans v u w ((got_fixed v f owner).came u None g) (came_trans u x w ((type_fixed u f owner level).came x b t) rest)
+
     by : (w : PortValue) (bs : List Bool) (r : Result ℕ Stop) → Acquired v f owner level w bs r → Came v w
     by _ _ _ (ways.unreferred w stop g) = (got_fixed v f owner).came w (Some stop) g
     by _ _ _ (ways.untyped u x w stop g t p) = typed_came u x w (Err stop) g t ((gave_sure x f).came w tt p)

@@ -1,16 +1,16 @@
 -- What fills the tables, entry by entry, with the answers of the gate, is determined.
-use Rattle.std.proofs.Common.{◌≡◌, ◌≢◌, ℕ, ◌<◌, ◌&&◌, if◌then◌else◌, Bool, true, false, List, [], ◌∷◌, ◌++◌, length, Option, Some, None, Result, Ok, Err, refl, sym, ap, ◌∙◌, subst, inl, inr}
+use Rattle.std.proofs.Common.{◌≡◌, ℕ, ◌&&◌, if◌then◌else◌, Bool, true, false, List, [], ◌∷◌, Result, Ok, Err, refl, sym, ap, ◌∙◌, subst, inl, inr}
 use Rattle.xp_words.specs.declared.reply.Pause.TheVariants.{Due}
 use Rattle.xp_words.specs.declared.reply.Stop.{Stop}
 use Rattle.xp_words.specs.declared.reply.Stop.TheVariants.{Paused}
-use Rattle.xp_preempt.specs.Gates.{GivesAnswers, answer_at, asks_on}
+use Rattle.xp_preempt.specs.Gates.{GivesAnswers}
 use Rattle.xp_board.specs.Told.{PortValue}
 use Rattle.step_maker.specs.Moves.{Came}
 use Rattle.partial_state.specs.declared.stack.TableWork.{TableWork}
 use Rattle.table_entries.specs.Acquiring as ways
 use Rattle.table_entries.specs.Acquiring.{Filled, is_asked}
 use Rattle.determined_laws.specs.Courses.{Alike}
-use Rattle.determined_laws.proofs.Courses.{Goes, alike_map, alike_then, goes_came, goes_same, more, none}
+use Rattle.determined_laws.proofs.Courses.{Goes, alike_map, goes_came, goes_same, more, none}
 use Rattle.determined_tables.proofs.Chains.{IsFixed}
 use Rattle.determined_tables.proofs.Tables.{Advances, Worksheet, advanced_fixed, none_from_full}
 
@@ -76,6 +76,7 @@ module _ (owner : ℕ) (says : ℕ → Bool) (n : ℕ) where
     where
       fixed : IsFixed s.at (Advances owner s.at s.tables)
       fixed = advanced_fixed owner s.at s.tables
+
       together : Alike s.at t.at u.at (◌≡◌ {A = Worksheet} (t.tables, p.done) (u.tables, q.done)) → Alike s.at t.at u.at (t ≡ u)
       together (inl f) = inl f
       together (inr e) =
@@ -127,10 +128,10 @@ module _ (owner : ℕ) (says : ℕ → Bool) (n : ℕ) where
       record {
         came = λ w z p. goes_came Next (λ (s : Standing). s.at) steps same (made v ts before (Ok tt)) (made w z.0 z.1 z.2) (fills v ts before w z.0 z.1 z.2 p.0 p.1);
         alike = λ w x z y p q.
-          alike_map
-          (goes_same Next (λ (s : Standing). s.at) steps same (made v ts before (Ok tt)) (made w z.0 z.1 z.2) (made x y.0 y.1 y.2) (no_next w z.0 z.1 z.2 p.2) (no_next x y.0 y.1 y.2 q.2)
-          (fills v ts before w z.0 z.1 z.2 p.0 p.1) (fills v ts before x y.0 y.1 y.2 q.0 q.1))
-          (λ e. ap (λ (s : Standing). (s.tables, s.answers, s.answer)) e);
+            alike_map
+            (goes_same Next (λ (s : Standing). s.at) steps same (made v ts before (Ok tt)) (made w z.0 z.1 z.2) (made x y.0 y.1 y.2) (no_next w z.0 z.1 z.2 p.2) (no_next x y.0 y.1 y.2 q.2)
+            (fills v ts before w z.0 z.1 z.2 p.0 p.1) (fills v ts before x y.0 y.1 y.2 q.0 q.1))
+            (λ e. ap (λ (s : Standing). (s.tables, s.answers, s.answer)) e);
       }
 
   -- what was answered before was answered by the same gate
