@@ -2,6 +2,7 @@ pub mod Addressing
 pub mod Asking
 pub mod Below
 pub mod Demands
+pub mod Elements
 pub mod Exchanging
 pub mod Levels
 pub mod Pinning
