@@ -30,6 +30,17 @@ pub record Standing : Type 0 where
   pub answers : List Bool
   pub answer : Result (Unit {0}) Stop
 
+-- the tables in work at the end, the answers, and how it ended
+abbrev pub Outcome : Type 0
+Outcome = List TableWork × List Bool × Result (Unit {0}) Stop
+
+-- it is at its end: it stopped, or the only table is full
+abbrev pub IsEnd : List TableWork → Result (Unit {0}) Stop → Type 0
+IsEnd us (Err e) = Unit {0}
+IsEnd [] (Ok done) = ⊥
+IsEnd (t ∷ []) (Ok done) = t.done ≡ 512
+IsEnd (t ∷ u ∷ us) (Ok done) = ⊥
+
 module _ (owner : ℕ) (says : ℕ → Bool) (n : ℕ) where
   -- behind one more entry, or table: whether the gate is asked, and what it answers
   abbrev Asks : List Bool → Bool → List Bool → Result (Unit {0}) Stop → Type 0
@@ -102,13 +113,6 @@ module _ (owner : ℕ) (says : ℕ → Bool) (n : ℕ) where
   fills v ts before _ _ _ _ (ways.stopped u w us xs bs stop f a) g =
       more (made u us bs (Ok tt)) (made w xs bs (Err stop)) (fills v ts before u us bs (Ok tt) f g) (record { on = refl; done = Err stop; advances = a; asks = (refl, refl); given = g })
 
-  -- it is at its end: it stopped, or the only table is full
-  abbrev pub IsEnd : List TableWork → Result (Unit {0}) Stop → Type 0
-  IsEnd us (Err e) = Unit {0}
-  IsEnd [] (Ok done) = ⊥
-  IsEnd (t ∷ []) (Ok done) = t.done ≡ 512
-  IsEnd (t ∷ u ∷ us) (Ok done) = ⊥
-
   no_next : (v : PortValue) (us : List TableWork) (bs : List Bool) (r : Result (Unit {0}) Stop) → IsEnd us r → (t : Standing) → Next (made v us bs r) t → ⊥
   no_next v us bs (Err e) end t p = absurd (let on = p.on in cc)
   no_next v [] bs (Ok done) end t p = end
@@ -116,10 +120,6 @@ module _ (owner : ℕ) (says : ℕ → Bool) (n : ℕ) where
   no_next v (u ∷ x ∷ xs) bs (Ok done) end t p = end
 
   -- ---- as a course
-  -- the tables in work at the end, the answers, and how it ended
-  abbrev pub Outcome : Type 0
-  Outcome = List TableWork × List Bool × Result (Unit {0}) Stop
-
   abbrev pub FillsBy : PortValue → List TableWork → List Bool → PortValue → Outcome → Type 0
   FillsBy v ts before w z = Filled owner v ts before w z.0 z.1 z.2 × GivesAnswers says n z.1 × IsEnd z.0 z.2
 
