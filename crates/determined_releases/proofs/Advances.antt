@@ -25,7 +25,7 @@ use Rattle.domain_destroy.specs.declared.place.DestroyAt.TheVariants.{Begins, St
 use Rattle.determined_laws.specs.Courses.{Alike}
 use Rattle.determined_laws.proofs.Courses.{Goes, alike_does, alike_map, alike_move, alike_same, goes_came}
 use Rattle.determined_releases.proofs.Calls.{alike_with, move_came}
-use Rattle.determined_releases.proofs.Clearing.{MarkIsDetermined, clears_alike, clears_came}
+use Rattle.determined_releases.proofs.Clearing.{clears_alike, clears_came}
 use Rattle.determined_releases.proofs.Emptying.{Done, one_alike, one_came}
 use Rattle.determined_releases.proofs.Passes as passing
 use Rattle.determined_releases.proofs.Passes.{Pass, Passed, begins_tie, checked_goes, listed_same, pass, passes_alike, passes_came, used_goes}
@@ -196,7 +196,7 @@ module _ (says : ℕ → Bool) (n d : ℕ) (u : PortValue) where
   part_by (course.Advances.half_free f left y w few look own half) g = looks y few look (halved own half refl)
 
   -- the own domain is one of the machine's
-  module _ (mark : MarkIsDetermined) (real : own_of u.post < length u.post.machine.page_limit) where
+  module _ (real : own_of u.post < length u.post.machine.page_limit) where
     begun_alike : (w x : PortValue) (o p : Outcome) → BegunBy d u w o → BegunBy d u x p → Alike u w x (o ≡ p)
     begun_alike w x o p (begins a steps is) (begins b more are) = alike_map (alike_does steps more (λ us vs s t. begins_tie u.post d real a b us vs s t)) (λ e. is ∙ (ap (λ z. begun_out z) e ∙ sym are))
 
@@ -214,7 +214,7 @@ module _ (says : ℕ → Bool) (n d : ℕ) (u : PortValue) where
     part_alike (Empties v) w x o p a b =
         each_alike says n (length u.post.machine.vcpu_domain) v (Empties (v + 1)) (Empties v) (Clears 0) u (EmptiesOne d v u) (λ w x answers others r s g h one two. one_alike says n d v u w x answers others r s g h one two) w x o p a b
     part_alike (Clears f) w x o p a b =
-        each_alike says n u.post.machine.frames f (Clears (f + 1)) (Clears f) Checks u (ClearsFrame d f u) (λ w x answers others r s g h one two. clears_alike mark says n g h one two) w x o p a b
+        each_alike says n u.post.machine.frames f (Clears (f + 1)) (Clears f) Checks u (ClearsFrame d f u) (λ w x answers others r s g h one two. clears_alike says n g h one two) w x o p a b
     part_alike Checks w x o p a b = checks_same w x o p a b
     part_alike (Lists f left) w x o p a b = lists_same f left w x o p a b
 

@@ -1,4 +1,4 @@
--- A destruction is determined, over how the allocated mark of one frame is taken off.
+-- A destruction is determined.
 use Rattle.std.proofs.Common.{◌≡◌, ◌<◌, ◌≤◌, ◌++◌, ℕ, Bool, List, [], None, Result, Ok, Err, length, refl, sym, ap, ◌∙◌, subst, arith}
 use Rattle.xp_words.specs.declared.place.Place.TheVariants.{Life}
 use Rattle.xp_words.specs.declared.reply.Stop.{Stop}
@@ -17,7 +17,6 @@ use Rattle.determined_laws.proofs.Courses.{Goes, alike_apart, alike_map, alike_m
 use Rattle.determined_releases.proofs.Advances.{Outcome, advances_alike, advances_came, lists_few}
 use Rattle.determined_releases.proofs.Answers.{gives_first, gives_rest}
 use Rattle.determined_releases.proofs.Calls.{alike_with, move_came}
-use Rattle.determined_releases.proofs.Clearing.{MarkIsDetermined}
 use Rattle.determined_releases.proofs.Emptying.{Done}
 
 -- the own domain is one of the machine's
@@ -47,7 +46,7 @@ data Ended (u : PortValue) : DestroyAt → Done → Type 0 where
   at_end : (frame left : ℕ) → u.post.machine.frames ≤ frame → Ended u (Lists frame left) (Ok tt)
   at_stop : (to : DestroyAt) (e : Stop) → Ended u to (Err e)
 
-module _ (mark : MarkIsDetermined) (says : ℕ → Bool) (n d : ℕ) where
+module _ (says : ℕ → Bool) (n d : ℕ) where
   record Next (s t : Stand) : Type 0 where
     pub going : s.result ≡ Ok tt
     pub real : OwnsReal s.port
@@ -63,7 +62,7 @@ module _ (mark : MarkIsDetermined) (says : ℕ → Bool) (n d : ℕ) where
 
   next_alike : (s t u : Stand) → Next s t → Next s u → Alike s.port t.port u.port (t ≡ u)
   next_alike s t u p q =
-      alike_with (advances_alike says (asks_on (length s.answers) n) d s.port mark p.real (gives_rest says n s.answers p.asked p.gives) (gives_rest says n s.answers q.asked q.gives) p.one q.one)
+      alike_with (advances_alike says (asks_on (length s.answers) n) d s.port p.real (gives_rest says n s.answers p.asked p.gives) (gives_rest says n s.answers q.asked q.gives) p.one q.one)
       (λ same e. stand_same t u same (ap (λ (o : Outcome). o.place) e) (p.listed ∙ (ap (λ (o : Outcome). s.listed ++ o.listed) e ∙ sym q.listed))
       (p.answers ∙ (ap (λ (o : Outcome). o.answers ++ s.answers) e ∙ sym q.answers)) (ap (λ (o : Outcome). o.result) e))
 
@@ -115,19 +114,19 @@ left_same f g l k e = cc
 done_apart : {A : Type 0} (s t : Stand) (e : Stop) → s.result ≡ Ok tt → t.result ≡ Err e → s ≡ t → A
 done_apart s t e a b c = absurd (let r = sym a ∙ (ap (λ (z : Stand). z.result) c ∙ b) in cc)
 
-pub destroys_alike : {d : ℕ} {v w x : PortValue} {at to by : DestroyAt} {listed some : List LeftFrame} {answers others : List Bool} {a b : Result ℕ Stop} (mark : MarkIsDetermined) (says : ℕ → Bool) (n : ℕ) → OwnsReal v →
+pub destroys_alike : {d : ℕ} {v w x : PortValue} {at to by : DestroyAt} {listed some : List LeftFrame} {answers others : List Bool} {a b : Result ℕ Stop} (says : ℕ → Bool) (n : ℕ) → OwnsReal v →
     GivesAnswers says n answers → GivesAnswers says n others → Destroys d v at w to listed answers a → Destroys d v at x by some others b → Alike v w x (SameEnd to by listed some answers others a b)
-destroys_alike {d} {v} {at = at} mark says n real g h (course.Destroys.stops w to listed answers e goes) (course.Destroys.stops x by some others s gone) =
-    alike_map (ends_alike mark says n d v at real w x to by listed some answers others (Err e) (Err s) (at_stop to e) (at_stop by s) g h goes gone)
+destroys_alike {d} {v} {at = at} says n real g h (course.Destroys.stops w to listed answers e goes) (course.Destroys.stops x by some others s gone) =
+    alike_map (ends_alike says n d v at real w x to by listed some answers others (Err e) (Err s) (at_stop to e) (at_stop by s) g h goes gone)
     (λ t. (ap (λ (z : Stand). z.place) t, ap (λ (z : Stand). z.listed) t, ap (λ (z : Stand). z.answers) t, err_same e s (ap (λ (z : Stand). z.result) t)))
-destroys_alike {d} {v} {at = at} mark says n real g h (course.Destroys.stops w to listed answers e goes) (course.Destroys.buries u x frame left found some others gone all store) =
-    alike_apart (came_self w) (move_came store) (ends_alike mark says n d v at real w u to (Lists frame left) listed some answers others (Err e) (Ok tt) (at_stop to e) (at_end frame left all) g h goes gone)
+destroys_alike {d} {v} {at = at} says n real g h (course.Destroys.stops w to listed answers e goes) (course.Destroys.buries u x frame left found some others gone all store) =
+    alike_apart (came_self w) (move_came store) (ends_alike says n d v at real w u to (Lists frame left) listed some answers others (Err e) (Ok tt) (at_stop to e) (at_end frame left all) g h goes gone)
     (λ t. done_apart (stand u (Lists frame left) some others (Ok tt)) (stand w to listed answers (Err e)) e refl refl (sym t))
-destroys_alike {d} {v} {at = at} mark says n real g h (course.Destroys.buries u w frame left found listed answers goes all store) (course.Destroys.stops x by some others s gone) =
-    alike_apart (move_came store) (came_self x) (ends_alike mark says n d v at real u x (Lists frame left) by listed some answers others (Ok tt) (Err s) (at_end frame left all) (at_stop by s) g h goes gone)
+destroys_alike {d} {v} {at = at} says n real g h (course.Destroys.buries u w frame left found listed answers goes all store) (course.Destroys.stops x by some others s gone) =
+    alike_apart (move_came store) (came_self x) (ends_alike says n d v at real u x (Lists frame left) by listed some answers others (Ok tt) (Err s) (at_end frame left all) (at_stop by s) g h goes gone)
     (λ t. done_apart (stand u (Lists frame left) listed answers (Ok tt)) (stand x by some others (Err s)) s refl refl t)
-destroys_alike {d} {v} {at = at} mark says n real g h (course.Destroys.buries u w frame left found listed answers goes all store) (course.Destroys.buries o x last rest met some others gone whole puts) =
+destroys_alike {d} {v} {at = at} says n real g h (course.Destroys.buries u w frame left found listed answers goes all store) (course.Destroys.buries o x last rest met some others gone whole puts) =
     alike_then (goes_on_came u (Lists frame left) listed answers (Ok tt) goes) (move_came store) (move_came puts)
-    (ends_alike mark says n d v at real u o (Lists frame left) (Lists last rest) listed some answers others (Ok tt) (Ok tt) (at_end frame left all) (at_end last rest whole) g h goes gone)
+    (ends_alike says n d v at real u o (Lists frame left) (Lists last rest) listed some answers others (Ok tt) (Ok tt) (at_end frame left all) (at_end last rest whole) g h goes gone)
     (λ same t. alike_map (alike_move store (subst (λ z. Moves z x (Life d) (Store 255) steps.Life None met) (sym same) puts))
     (λ m. (ap (λ (z : Stand). z.place) t, ap (λ (z : Stand). z.listed) t, ap (λ (z : Stand). z.answers) t, left_same frame last left rest (ap (λ (z : Stand). z.place) t))))

@@ -8,6 +8,8 @@ ghost use Rattle.step_maker.specs.Visits.{Visit};
 ghost use Rattle.table_releases.specs.Found.{ReleasedBy};
 ghost use Rattle.table_releases.specs.declared.entries.Released.{Released};
 ghost use Rattle.level_release.specs.Course.{ReleasedWithin, Settled, left_released, left_settled};
+ghost use Rattle.table_bases.specs.Course.{SetsBase};
+ghost use Rattle.table_bases.specs.declared.words.Base.{Base};
 ghost use Rattle.determined_laws.specs.Courses.{Alike};
 ghost use Rattle.determined_laws.specs.Forks.{Tie};
 
@@ -27,4 +29,10 @@ pub fn a_release_is_determined()
 #[tactic(auto, using(crate::proofs::Settled::settled_alike))]
 pub fn a_settling_is_determined()
     ensures { (says : ℕ → Bool) (n : ℕ) (below : Option ℕ) (v w x : PortValue) (answers others : List Bool) (a b : Result (Unit {0}) Stop) → GivesAnswers says n answers → GivesAnswers says n others → (p : Settled below v w answers a) → (q : Settled below v x others b) → Alike v w x ((answers ≡ others) × (a ≡ b) × (left_settled p ≡ left_settled q)) }
+{}
+
+/// A base that is set (table_bases `set_base`): its table acquired, the word stored, the own translations flushed, and the old table released.
+#[tactic(auto, using(crate::proofs::Bases::sets_base_alike))]
+pub fn a_base_is_determined()
+    ensures { (says : ℕ → Bool) (n : ℕ) (v w x : PortValue) (base : Base) (new : Option ℕ) (answers others : List Bool) (a b : Result (Unit {0}) Stop) → GivesAnswers says n answers → GivesAnswers says n others → SetsBase v w base new answers a → SetsBase v x base new others b → Alike v w x ((answers ≡ others) × (a ≡ b)) }
 {}
