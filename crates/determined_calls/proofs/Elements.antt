@@ -5,26 +5,27 @@ use Rattle.xp_words.specs.declared.reply.Refusal.{Refusal}
 use Rattle.xp_words.specs.declared.reply.Refusal.TheVariants as refusals
 use Rattle.xp_words.specs.declared.reply.Stop.{Stop}
 use Rattle.xp_words.specs.declared.reply.Stop.TheVariants.{Refused}
-use Rattle.xp_words.proofs.Shared as shared
 use Rattle.xp_board.specs.Told.{PortValue}
 use Rattle.xp_board.specs.declared.step.Act.TheVariants.{Load}
 use Rattle.xp_board.specs.declared.step.Mark.TheVariants.{Forget}
 use Rattle.xp_board.specs.declared.step.StepKind.TheVariants as kinds
 use Rattle.step_maker.specs.Moves.{Came, Moves}
-use Rattle.step_maker.specs.Reasons.TheVariants as whose
-use Rattle.step_maker.specs.Visits.{Does, Visit}
+use Rattle.step_maker.specs.Reasons.{Those}
+use Rattle.step_maker.specs.Visits.{Does, Visit, Where}
 use Rattle.step_maker.proofs.Coming.{came_self, came_trans, moves_came}
 use Rattle.step_maker.proofs.Visiting.{does_came}
 use Rattle.xp_preempt.specs.Gates.{GivesAnswers}
 use Rattle.flush_words.specs.Flushing.{FlushedBy}
 use Rattle.flush_waits.specs.Listing.{WaitedFor}
+use Rattle.flush_waits.specs.Waiting.{meant}
 use Rattle.foreign_map.specs.declared.owners.Owners.{Owners}
-use Rattle.tlb_walks.specs.Dropping.{Invalidates}
+use Rattle.tlb_walks.specs.Addresses.{is_canonical, page_of}
+use Rattle.tlb_walks.specs.Dropping.{ForgetsBy}
 use Rattle.mmu_update.specs.Course.{Updated}
 use Rattle.mmu_update.specs.declared.element.Element.TheVariants as updates
-use Rattle.mmu_update.specs.declared.element.Element as updating
+use Rattle.mmu_update.specs.declared.element as updating
 use Rattle.mmuext_ops.specs.Course as course
-use Rattle.mmuext_ops.specs.Course.{FlushedLocal, Invalidated, Performed, WaitedForVcpus, meant, stamp_for}
+use Rattle.mmuext_ops.specs.Course.{FlushedLocal, Invalidated, Performed, WaitedForVcpus, stamp_for}
 use Rattle.mmuext_ops.specs.declared.element.Element.{Element}
 use Rattle.mmuext_ops.specs.declared.element.Element.TheVariants as elements
 use Rattle.determined_laws.specs.Courses.{Alike}
@@ -40,11 +41,14 @@ use Rattle.determined_releases.proofs.Bases.{sets_base_alike, sets_base_came}
 use Rattle.determined_calls.proofs.Pinning.{pinned_alike, pinned_came, unpinned_alike, unpinned_came}
 use Rattle.determined_calls.proofs.Updating.{wrote_alike, wrote_came}
 
+abbrev UpdateElement : Type 0
+UpdateElement = updating.Element
+
 abbrev Done : Type 0
 Done = Result (Unit {0}) Stop
 
 -- ---- mmu_update
-pub updated_came : (v : PortValue) (o : Owners) (e : updating.Element) (w : PortValue) (answers : List Bool) (a : Done) → Updated v o e w answers a → Came v w
+pub updated_came : (v : PortValue) (o : Owners) (e : UpdateElement) (w : PortValue) (answers : List Bool) (a : Done) → Updated v o e w answers a → Came v w
 updated_came v o (updates.SetM2p f gpfn) w answers a p = does_came v w _ p.1.0
 updated_came v o (updates.Write f i word keep) w answers a p = wrote_came p
 updated_came v o updates.Misaligned w answers a p = subst (λ z. Came v z) (sym p.0) (came_self v)
@@ -56,7 +60,7 @@ done_agree (Err e) (Err f) s = ap (λ z. Err z) s
 done_agree (Ok x) (Err e) s = absurd s
 done_agree (Err e) (Ok x) s = absurd s
 
-pub updated_alike : (v : PortValue) (o : Owners) (e : updating.Element) (w x : PortValue) (answers others : List Bool) (a b : Done) (says : ℕ → Bool) (n : ℕ) → GivesAnswers says n answers → GivesAnswers says n others →
+pub updated_alike : (v : PortValue) (o : Owners) (e : UpdateElement) (w x : PortValue) (answers others : List Bool) (a b : Done) (says : ℕ → Bool) (n : ℕ) → GivesAnswers says n answers → GivesAnswers says n others →
     Updated v o e w answers a → Updated v o e x others b → Alike v w x ((answers ≡ others) × (a ≡ b))
 updated_alike v o (updates.SetM2p f gpfn) w x answers others a b says n g h p q =
     alike_map (alike_does p.1.0 q.1.0 (λ us vs c d. maps_tie v.post.machine f o.frames gpfn a b us vs c d)) (λ s. (p.0 ∙ sym q.0, done_agree a b s))
