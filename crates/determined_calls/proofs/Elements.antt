@@ -23,7 +23,7 @@ use Rattle.tlb_walks.specs.Addresses.{is_canonical, page_of}
 use Rattle.tlb_walks.specs.Dropping.{ForgetsBy}
 use Rattle.mmu_update.specs.Course.{Updated}
 use Rattle.mmu_update.specs.declared.element.Element.TheVariants as updates
-use Rattle.mmu_update.specs.declared.element as updating
+use Rattle.mmu_update.specs.declared.element.Element as updating
 use Rattle.mmuext_ops.specs.Course as course
 use Rattle.mmuext_ops.specs.Course.{FlushedLocal, Invalidated, Performed, WaitedForVcpus, stamp_for}
 use Rattle.mmuext_ops.specs.declared.element.Element.{Element}
@@ -41,15 +41,12 @@ use Rattle.determined_releases.proofs.Bases.{sets_base_alike, sets_base_came}
 use Rattle.determined_calls.proofs.Pinning.{pinned_alike, pinned_came, unpinned_alike, unpinned_came}
 use Rattle.determined_calls.proofs.Updating.{wrote_alike, wrote_came}
 
-abbrev UpdateElement : Type 0
-UpdateElement = updating.Element
-
 abbrev Done : Type 0
 Done = Result (Unit {0}) Stop
 
 -- ---- mmu_update
-pub updated_came : (v : PortValue) (o : Owners) (e : UpdateElement) (w : PortValue) (answers : List Bool) (a : Done) → Updated v o e w answers a → Came v w
-updated_came v o (updates.SetM2p f gpfn) w answers a p = does_came v w _ p.1.0
+pub updated_came : (v : PortValue) (o : Owners) (e : updating.Element) (w : PortValue) (answers : List Bool) (a : Done) → Updated v o e w answers a → Came v w
+updated_came v o (updates.SetM2p f gpfn) w answers a p = does_came v w _ p.1
 updated_came v o (updates.Write f i word keep) w answers a p = wrote_came p
 updated_came v o updates.Misaligned w answers a p = subst (λ z. Came v z) (sym p.0) (came_self v)
 updated_came v o updates.Unknown w answers a p = subst (λ z. Came v z) (sym p.0) (came_self v)
@@ -60,13 +57,13 @@ done_agree (Err e) (Err f) s = ap (λ z. Err z) s
 done_agree (Ok x) (Err e) s = absurd s
 done_agree (Err e) (Ok x) s = absurd s
 
-pub updated_alike : (v : PortValue) (o : Owners) (e : UpdateElement) (w x : PortValue) (answers others : List Bool) (a b : Done) (says : ℕ → Bool) (n : ℕ) → GivesAnswers says n answers → GivesAnswers says n others →
+pub updated_alike : (v : PortValue) (o : Owners) (e : updating.Element) (w x : PortValue) (answers others : List Bool) (a b : Done) (says : ℕ → Bool) (n : ℕ) → GivesAnswers says n answers → GivesAnswers says n others →
     Updated v o e w answers a → Updated v o e x others b → Alike v w x ((answers ≡ others) × (a ≡ b))
 updated_alike v o (updates.SetM2p f gpfn) w x answers others a b says n g h p q =
-    alike_map (alike_does p.1.0 q.1.0 (λ us vs c d. maps_tie v.post.machine f o.frames gpfn a b us vs c d)) (λ s. (p.0 ∙ sym q.0, done_agree a b s))
+    alike_map (alike_does p.1 q.1 (λ us vs c d. maps_tie v.post.machine f o.frames gpfn a b us vs c d)) (λ s. (p.0 ∙ sym q.0, done_agree a b s))
 updated_alike v o (updates.Write f i word keep) w x answers others a b says n g h p q = wrote_alike says n g h p q
-updated_alike v o updates.Misaligned w x answers others a b says n g h p q = alike_same (p.0 ∙ sym q.0) (p.1.0 ∙ sym q.1.0, p.1.1 ∙ sym q.1.1)
-updated_alike v o updates.Unknown w x answers others a b says n g h p q = alike_same (p.0 ∙ sym q.0) (p.1.0 ∙ sym q.1.0, p.1.1 ∙ sym q.1.1)
+updated_alike v o updates.Misaligned w x answers others a b says n g h p q = alike_same (p.0 ∙ sym q.0) (p.1 ∙ sym q.1, p.2 ∙ sym q.2)
+updated_alike v o updates.Unknown w x answers others a b says n g h p q = alike_same (p.0 ∙ sym q.0) (p.1 ∙ sym q.1, p.2 ∙ sym q.2)
 
 -- ---- translations that are dropped, and waits
 flushed_local_came : (v w : PortValue) (answers : List Bool) (a : Done) → FlushedLocal v w answers a → Came v w
@@ -127,4 +124,4 @@ performed_alike v w x d (elements.FlushVcpus mask) awaited answers others a b sa
 performed_alike v w x d (elements.SetLdt address entries) awaited answers others a b says n g h p q = alike_map (sets_ldt_alike p.1 q.1) (λ s. (p.0 ∙ sym q.0, s))
 performed_alike v w x d (elements.ClearPage f) awaited answers others a b says n g h p q = alike_map (clears_page_alike p.1 q.1) (λ s. (p.0 ∙ sym q.0, s))
 performed_alike v w x d (elements.CopyPage to from) awaited answers others a b says n g h p q = alike_map (copies_page_alike p.1.1 q.1.1) (λ s. (p.0 ∙ sym q.0, s.0))
-performed_alike v w x d elements.Unknown awaited answers others a b says n g h p q = alike_same (p.0 ∙ sym q.0) (p.1.0 ∙ sym q.1.0, p.1.1 ∙ sym q.1.1)
+performed_alike v w x d elements.Unknown awaited answers others a b says n g h p q = alike_same (p.0 ∙ sym q.0) (p.1 ∙ sym q.1, p.2 ∙ sym q.2)

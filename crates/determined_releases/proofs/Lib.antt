@@ -1,9 +1,9 @@
 mod Advances
 mod Answers
-mod Bases
+pub mod Bases
 mod Calls
 mod Clearing
-mod Destroys
+pub mod Destroys
 mod Emptying
 pub mod Entries
 mod Passes
