@@ -1,3 +1,5 @@
+pub mod Below
 pub mod Elements
+pub mod Extents
 pub mod Lists
 pub mod Settling
