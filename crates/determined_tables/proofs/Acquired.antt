@@ -1,5 +1,5 @@
 -- An acquisition is determined by the words that it finds, and by the answers of its gate.
-use Rattle.std.proofs.Common.{◌≡◌, ℕ, ◌&&◌, if◌then◌else◌, Bool, true, false, List, [], ◌∷◌, Option, Some, None, Result, Ok, Err, refl, sym, ap, ◌∙◌, subst}
+use Rattle.std.proofs.Common.{◌≡◌, ℕ, ◌&&◌, if◌then◌else◌, Bool, true, false, List, [], ◌∷◌, Option, Some, None, Result, Ok, Err, refl, sym, ap, subst}
 use Rattle.xp_words.specs.declared.reply.Pause.TheVariants.{Due}
 use Rattle.xp_words.specs.declared.reply.Stop.{Stop}
 use Rattle.xp_words.specs.declared.reply.Stop.TheVariants.{Paused}
@@ -20,28 +20,25 @@ use Rattle.determined_tables.proofs.Leaves.{gave_sure, got_fixed, live_sure, ref
 use Rattle.determined_tables.proofs.Tables.{Took, Worksheet, advanced_fixed, took_came, took_fixed}
 
 module _ (owner : ℕ) (says : ℕ → Bool) (n : ℕ) where
-  abbrev Ended : List TableWork → Result (Unit {0}) Stop → Type 0
-  Ended us r = IsEnd owner says n us r
-
   -- ---- the frame came into work: down to where it was left, and then entry by entry
   -- behind the way down the gate is asked, or not
-  abbrev Asked : List TableWork → Bool → PortValue → PortValue → Outcome owner says n → Type 0
+  abbrev Asked : List TableWork → Bool → PortValue → PortValue → Outcome → Type 0
   Asked us false u w z = FillsBy owner says n u us [] w z
   Asked us true u w z =
       Choice (GivesAnswers says n (true ∷ [])) (GivesAnswers says n (false ∷ [])) (Ends u (us, true ∷ [], Err (Paused Due))) (FillsBy owner says n u us (false ∷ [])) w z
 
-  abbrev WorkedRest : PortValue → Worksheet → PortValue → Outcome owner says n → Type 0
+  abbrev WorkedRest : PortValue → Worksheet → PortValue → Outcome → Type 0
   WorkedRest u (us, Err stop) w z = Ends u (us, [], Err stop) w z
   WorkedRest u (us, Ok done) w z = Asked us (done && is_asked us) u w z
 
-  abbrev WorkedView : PortValue → TableWork → PortValue → Outcome owner says n → Type 0
+  abbrev WorkedView : PortValue → TableWork → PortValue → Outcome → Type 0
   WorkedView v t w z = Chain (Took owner v (t ∷ [])) WorkedRest w z
 
-  filled_asked : (us : List TableWork) (c : Bool) (u w : PortValue) (z : Outcome owner says n) → FillsBy owner says n u us (if c then false ∷ [] else []) w z → Asked us c u w z
+  filled_asked : (us : List TableWork) (c : Bool) (u w : PortValue) (z : Outcome) → FillsBy owner says n u us (if c then false ∷ [] else []) w z → Asked us c u w z
   filled_asked us false u w z p = p
   filled_asked us true u w z p = right (given_before owner says n u us (false ∷ []) w z.0 z.1 z.2 p.0 p.1) p
 
-  worked_view : (v : PortValue) (t : TableWork) (w : PortValue) (us : List TableWork) (bs : List Bool) (r : Result (Unit {0}) Stop) → Worked owner v t w us bs r → GivesAnswers says n bs → Ended us r → WorkedView v t w (us, bs, r)
+  worked_view : (v : PortValue) (t : TableWork) (w : PortValue) (us : List TableWork) (bs : List Bool) (r : Result (Unit {0}) Stop) → Worked owner v t w us bs r → GivesAnswers says n bs → IsEnd us r → WorkedView v t w (us, bs, r)
   worked_view v t _ _ _ _ (ways.cut_off w us stop p) g e = record { at = w; answer = (us, Err stop); first = p; rest = (refl, refl) }
   worked_view v t _ _ _ _ (ways.due w us p is) g e = record { at = w; answer = (us, Ok true); first = p; rest = subst (λ c. Asked us c w w (us, true ∷ [], Err (Paused Due))) (sym is) (left g (refl, refl)) }
   worked_view v t _ _ _ _ (ways.filled u w us xs done bs r p f) g e = record { at = u; answer = (us, Ok done); first = p; rest = filled_asked us (done && is_asked us) u w (xs, bs, r) (f, g, e) }
@@ -54,8 +51,8 @@ module _ (owner : ℕ) (says : ℕ → Bool) (n : ℕ) where
   worked_rest_fixed u (us, Err stop) = fixed_ends u (us, [], Err stop)
   worked_rest_fixed u (us, Ok done) = asked_fixed us (done && is_asked us) u
 
-  abbrev pub WorksBy : PortValue → TableWork → PortValue → Outcome owner says n → Type 0
-  WorksBy v t w z = Worked owner v t w z.0 z.1 z.2 × GivesAnswers says n z.1 × Ended z.0 z.2
+  abbrev pub WorksBy : PortValue → TableWork → PortValue → Outcome → Type 0
+  WorksBy v t w z = Worked owner v t w z.0 z.1 z.2 × GivesAnswers says n z.1 × IsEnd z.0 z.2
 
   pub worked_fixed : (v : PortValue) (t : TableWork) → IsFixed v (WorksBy v t)
   worked_fixed v t = fixed_by (λ w z p. worked_view v t w z.0 z.1 z.2 p.0 p.1 p.2) (fixed_then (took_fixed owner v (t ∷ [])) (λ u z p. worked_rest_fixed u z))
@@ -66,7 +63,7 @@ module _ (f owner level : ℕ) (says : ℕ → Bool) (n : ℕ) where
   Answered = List Bool × Result ℕ Stop
 
   -- all tables in work are left; or the only one is made live
-  abbrev EndRest : PortValue → Outcome owner says n → PortValue → Answered → Type 0
+  abbrev EndRest : PortValue → Outcome → PortValue → Answered → Type 0
   EndRest y (us, bs, Err stop) w z = (z ≡ (bs, Err stop)) × Unwound y owner us (keeps_it stop) w
   EndRest y ([], bs, Ok done) w z = ⊥
   EndRest y (t ∷ [], bs, Ok done) w z = (z ≡ (bs, Ok f)) × MadeLive y w t
@@ -98,7 +95,7 @@ module _ (f owner level : ℕ) (says : ℕ → Bool) (n : ℕ) where
   acquired_view v _ _ _ (ways.finished u x y w progress own o bs g t k full m) given =
       typed_view v u x w (Ok (types.InWork progress own)) (bs, Ok f) g t (record { at = y; answer = (o ∷ [], bs, Ok tt); first = (k, given, full); rest = (refl, m) })
 
-  end_fixed : (y : PortValue) (z : Outcome owner says n) → IsFixed y (EndRest y z)
+  end_fixed : (y : PortValue) (z : Outcome) → IsFixed y (EndRest y z)
   end_fixed y (us, bs, Err stop) = fixed_sure (bs, Err stop) (unwound_sure y owner us (keeps_it stop))
   end_fixed y ([], bs, Ok done) = fixed_never y (λ w z p. p)
   end_fixed y (t ∷ [], bs, Ok done) = fixed_sure (bs, Ok f) (live_sure y t)
@@ -135,6 +132,7 @@ acquired_came {v} {w} {f} {owner} {level} {answers} {a} p = by w answers a p
   where
     typed_came : (u x w : PortValue) (b : Result Taken Stop) → GotRef v u f owner (Ok f) → TookType u x f owner level b → Came x w → Came v w
     typed_came u x w b g t rest = came_trans v u w ((got_fixed v f owner).came u None g) (came_trans u x w ((type_fixed u f owner level).came x b t) rest)
+
     by : (w : PortValue) (bs : List Bool) (r : Result ℕ Stop) → Acquired v f owner level w bs r → Came v w
     by _ _ _ (ways.unreferred w stop g) = (got_fixed v f owner).came w (Some stop) g
     by _ _ _ (ways.untyped u x w stop g t p) = typed_came u x w (Err stop) g t ((gave_sure x f).came w tt p)

@@ -1,5 +1,5 @@
 -- Courses that are determined, part behind part.
-use Rattle.std.proofs.Common.{◌≡◌, ◌≢◌, ℕ, List, Option, refl, sym, ap, ◌∙◌, subst, inl, inr}
+use Rattle.std.proofs.Common.{◌≡◌, List, Option, refl, sym, ap, ◌∙◌, subst}
 use Rattle.xp_words.specs.declared.place.Place.{Place}
 use Rattle.xp_board.specs.declared.step.Act.{Act}
 use Rattle.xp_board.specs.declared.step.Mark.{Mark}
@@ -36,8 +36,8 @@ fixed_then {v} {A} {B} {First} {Rest} fixed rest =
     record {
       came = λ w b p. came_trans v p.at w (fixed.came p.at p.answer p.first) ((rest p.at p.answer p.first).came w b p.rest);
       alike = λ w x b c p q.
-        behind (λ y s. Rest y s x c) fixed p.first q.first ((rest p.at p.answer p.first).came w b p.rest) ((rest q.at q.answer q.first).came x c q.rest) q.rest
-        (λ r. (rest p.at p.answer p.first).alike w x b c p.rest r);
+          behind (λ y s. Rest y s x c) fixed p.first q.first ((rest p.at p.answer p.first).came w b p.rest) ((rest q.at q.answer q.first).came x c q.rest) q.rest
+          (λ r. (rest p.at p.answer p.first).alike w x b c p.rest r);
     }
 
 -- ---- the same, said otherwise
@@ -70,6 +70,7 @@ fixed_choice {v} {A} {P} {Q} {C} {D} off one two = record { came = came; alike =
     came : (w : PortValue) (a : A) → Choice P Q C D w a → Came v w
     came w a (left p c) = (one p).came w a c
     came w a (right q d) = (two q).came w a d
+
     alike : (w x : PortValue) (a b : A) → Choice P Q C D w a → Choice P Q C D x b → Alike v w x (a ≡ b)
     alike w x a b (left p c) (left r e) = (one p).alike w x a b c e
     alike w x a b (left p c) (right q d) = absurd (off p q)

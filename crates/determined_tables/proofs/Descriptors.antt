@@ -1,5 +1,5 @@
 -- A descriptor that is written for the guest is determined.
-use Rattle.std.proofs.Common.{◌≡◌, ℕ, Bool, List, Option, Some, None, Result, Ok, Err, refl, sym, ap, ◌∙◌, subst}
+use Rattle.std.proofs.Common.{◌≡◌, ℕ, Option, Some, None, Result, Ok, Err, refl, sym, ap, subst}
 use Rattle.xp_words.specs.Entries.{fixed}
 use Rattle.xp_words.specs.declared.kind.PageType.{PageType}
 use Rattle.xp_words.specs.declared.kind.PageType.TheVariants.{Desc, Writable}
@@ -20,7 +20,7 @@ use Rattle.desc_pages.specs.Names.{own_domain}
 use Rattle.desc_pages.specs.Pages.{TookDesc}
 use Rattle.determined_laws.specs.Courses.{Alike}
 use Rattle.determined_laws.proofs.Courses.{alike_map}
-use Rattle.determined_tables.proofs.Chains.{Chain, Choice, Ends, IsFixed, fixed_by, fixed_choice, fixed_ends, fixed_move, fixed_never, fixed_pair, fixed_sure, fixed_then, left, right, sure_some, sure_two}
+use Rattle.determined_tables.proofs.Chains.{Chain, Ends, IsFixed, fixed_by, fixed_ends, fixed_move, fixed_never, fixed_pair, fixed_sure, fixed_then, sure_some, sure_two}
 use Rattle.determined_tables.proofs.Descs.{took_desc_fixed}
 use Rattle.determined_tables.proofs.Leaves.{gave_sure, gave_type_sure, got_fixed, ref_answer}
 use Rattle.determined_tables.proofs.Pages.{took_page_fixed}

@@ -1,8 +1,7 @@
 -- Descriptor pages that are taken are determined, word by word.
-use Rattle.std.proofs.Common.{◌≡◌, ◌≢◌, ℕ, ◌+◌, ◌<◌, ◌≤◌, Bool, true, false, List, [], ◌∷◌, ◌++◌, length, Option, Some, None, Result, Ok, Err, refl, sym, ap, ◌∙◌, subst, inl, inr, arith}
+use Rattle.std.proofs.Common.{◌≡◌, ◌≢◌, ℕ, true, false, List, [], ◌∷◌, Option, Some, None, Result, Ok, Err, refl, sym, subst}
 use Rattle.xp_words.specs.Entries.{fixed}
 use Rattle.xp_words.specs.KindWords.{kind_write}
-use Rattle.xp_words.specs.declared.kind.PageType.{PageType}
 use Rattle.xp_words.specs.declared.kind.PageType.TheVariants.{Desc}
 use Rattle.xp_words.specs.declared.place.Place.TheVariants.{Cell, Clock, Kind}
 use Rattle.xp_words.specs.declared.reply.Refusal.TheVariants as refusals
@@ -26,7 +25,7 @@ use Rattle.desc_pages.specs.Pages.{DescLeft, DiedDesc, GotDesc, PageValidated, T
 use Rattle.determined_laws.specs.Courses.{Alike}
 use Rattle.determined_laws.specs.Forks.{MadeBy}
 use Rattle.determined_laws.proofs.Types.{dead_tie}
-use Rattle.determined_tables.proofs.Chains.{Chain, Choice, Ends, IsFixed, IsSure, fixed_by, fixed_choice, fixed_ends, fixed_map, fixed_move, fixed_never, fixed_sure, fixed_then, left, right, sure_does, sure_some, sure_two}
+use Rattle.determined_tables.proofs.Chains.{Chain, Choice, Ends, IsFixed, IsSure, fixed_by, fixed_choice, fixed_ends, fixed_map, fixed_move, fixed_sure, fixed_then, left, right, sure_does, sure_some, sure_two}
 use Rattle.determined_tables.proofs.Leaves.{gave_sure, got_fixed, kept_sure, ref_answer, stored, takes_fixed}
 use Rattle.determined_tables.proofs.Pages.{frame_or}
 use Rattle.determined_tables.proofs.Loops.{Looped, Rounds, begun, halted, looped_fixed, round, through}

@@ -1,5 +1,5 @@
 -- An entry that is taken, or looked at again, is determined by the words that are found.
-use Rattle.std.proofs.Common.{◌≡◌, ◌≢◌, ◌⊎◌, ℕ, ◌+◌, ◌-◌, ◌<◌, ◌≤◌, Bool, true, false, List, [], ◌∷◌, ◌++◌, length, Option, Some, None, Result, Ok, Err, refl, sym, ap, ◌∙◌, subst, inl, inr, arith}
+use Rattle.std.proofs.Common.{◌≡◌, ◌⊎◌, ℕ, ◌+◌, ◌-◌, ◌<◌, ◌≤◌, Bool, true, false, List, [], length, Option, Some, None, Result, Ok, Err, refl, sym, ap, ◌∙◌, subst, inl, inr, arith}
 use Rattle.xp_words.specs.Entries.{demand_at}
 use Rattle.xp_words.specs.Machine.{Machine}
 use Rattle.xp_words.specs.declared.entry.Demand.{Demand}
@@ -15,7 +15,7 @@ use Rattle.xp_board.specs.declared.step.Mark.TheVariants.{Record}
 use Rattle.xp_board.specs.declared.step.StepKind.TheVariants as kinds
 use Rattle.xp_board.specs.Readings.{is_live_word}
 use Rattle.xp_board.specs.Told.{Post, PortValue}
-use Rattle.step_maker.specs.Visits.{Does, Nothing, Only, Then, Visit}
+use Rattle.step_maker.specs.Visits.{Nothing, Only, Then, Visit}
 use Rattle.step_maker.proofs.Visiting.{does_came}
 use Rattle.frame_words.specs.Freeing.{PutBy}
 use Rattle.frame_words.specs.Refs.{GetsBy, TakesFirst, had, stopped}
@@ -34,10 +34,10 @@ use Rattle.table_entries.specs.declared.entries.Entered.{Entered}
 use Rattle.table_entries.specs.declared.entries.Entered.TheVariants.{Recorded, Opened, Unsettled}
 use Rattle.table_entries.specs.declared.resuming.Resumed.{Resumed}
 use Rattle.table_entries.specs.declared.resuming.Resumed.TheVariants as again
-use Rattle.determined_laws.specs.Forks.{Agree, Tie}
+use Rattle.determined_laws.specs.Forks.{Tie}
 use Rattle.determined_laws.proofs.Courses.{alike_does}
 use Rattle.determined_laws.proofs.References.{gets_tie, put_tie}
-use Rattle.determined_laws.proofs.Ties.{forks_newer, tie_lists, tie_map, tie_one, tie_then}
+use Rattle.determined_laws.proofs.Ties.{tie_lists, tie_map, tie_one, tie_then}
 use Rattle.determined_laws.proofs.Types.{dead_tie, shared_tie, store_tie, types_tie}
 use Rattle.determined_tables.proofs.Chains.{IsFixed}
 use Rattle.determined_tables.proofs.Leaves.{begins_with, made_real, ref_answer, ref_same}

@@ -1,16 +1,16 @@
 -- What fills the tables, entry by entry, with the answers of the gate, is determined.
-use Rattle.std.proofs.Common.{◌≡◌, ◌≢◌, ℕ, ◌<◌, ◌&&◌, if◌then◌else◌, Bool, true, false, List, [], ◌∷◌, ◌++◌, length, Option, Some, None, Result, Ok, Err, refl, sym, ap, ◌∙◌, subst, inl, inr}
+use Rattle.std.proofs.Common.{◌≡◌, ℕ, ◌&&◌, if◌then◌else◌, Bool, true, false, List, [], ◌∷◌, Result, Ok, Err, refl, sym, ap, ◌∙◌, subst, inl, inr}
 use Rattle.xp_words.specs.declared.reply.Pause.TheVariants.{Due}
 use Rattle.xp_words.specs.declared.reply.Stop.{Stop}
 use Rattle.xp_words.specs.declared.reply.Stop.TheVariants.{Paused}
-use Rattle.xp_preempt.specs.Gates.{GivesAnswers, answer_at, asks_on}
+use Rattle.xp_preempt.specs.Gates.{GivesAnswers}
 use Rattle.xp_board.specs.Told.{PortValue}
 use Rattle.step_maker.specs.Moves.{Came}
 use Rattle.partial_state.specs.declared.stack.TableWork.{TableWork}
 use Rattle.table_entries.specs.Acquiring as ways
 use Rattle.table_entries.specs.Acquiring.{Filled, is_asked}
 use Rattle.determined_laws.specs.Courses.{Alike}
-use Rattle.determined_laws.proofs.Courses.{Goes, alike_map, alike_then, goes_came, goes_same, more, none}
+use Rattle.determined_laws.proofs.Courses.{Goes, alike_map, goes_came, goes_same, more, none}
 use Rattle.determined_tables.proofs.Chains.{IsFixed}
 use Rattle.determined_tables.proofs.Tables.{Advances, Worksheet, advanced_fixed, none_from_full}
 
@@ -29,6 +29,17 @@ pub record Standing : Type 0 where
   pub tables : List TableWork
   pub answers : List Bool
   pub answer : Result (Unit {0}) Stop
+
+-- the tables in work at the end, the answers, and how it ended
+abbrev pub Outcome : Type 0
+Outcome = List TableWork × List Bool × Result (Unit {0}) Stop
+
+-- it is at its end: it stopped, or the only table is full
+abbrev pub IsEnd : List TableWork → Result (Unit {0}) Stop → Type 0
+IsEnd us (Err e) = Unit {0}
+IsEnd [] (Ok done) = ⊥
+IsEnd (t ∷ []) (Ok done) = t.done ≡ 512
+IsEnd (t ∷ u ∷ us) (Ok done) = ⊥
 
 module _ (owner : ℕ) (says : ℕ → Bool) (n : ℕ) where
   -- behind one more entry, or table: whether the gate is asked, and what it answers
@@ -76,6 +87,7 @@ module _ (owner : ℕ) (says : ℕ → Bool) (n : ℕ) where
     where
       fixed : IsFixed s.at (Advances owner s.at s.tables)
       fixed = advanced_fixed owner s.at s.tables
+
       together : Alike s.at t.at u.at (◌≡◌ {A = Worksheet} (t.tables, p.done) (u.tables, q.done)) → Alike s.at t.at u.at (t ≡ u)
       together (inl f) = inl f
       together (inr e) =
@@ -101,13 +113,6 @@ module _ (owner : ℕ) (says : ℕ → Bool) (n : ℕ) where
   fills v ts before _ _ _ _ (ways.stopped u w us xs bs stop f a) g =
       more (made u us bs (Ok tt)) (made w xs bs (Err stop)) (fills v ts before u us bs (Ok tt) f g) (record { on = refl; done = Err stop; advances = a; asks = (refl, refl); given = g })
 
-  -- it is at its end: it stopped, or the only table is full
-  abbrev pub IsEnd : List TableWork → Result (Unit {0}) Stop → Type 0
-  IsEnd us (Err e) = Unit {0}
-  IsEnd [] (Ok done) = ⊥
-  IsEnd (t ∷ []) (Ok done) = t.done ≡ 512
-  IsEnd (t ∷ u ∷ us) (Ok done) = ⊥
-
   no_next : (v : PortValue) (us : List TableWork) (bs : List Bool) (r : Result (Unit {0}) Stop) → IsEnd us r → (t : Standing) → Next (made v us bs r) t → ⊥
   no_next v us bs (Err e) end t p = absurd (let on = p.on in cc)
   no_next v [] bs (Ok done) end t p = end
@@ -115,10 +120,6 @@ module _ (owner : ℕ) (says : ℕ → Bool) (n : ℕ) where
   no_next v (u ∷ x ∷ xs) bs (Ok done) end t p = end
 
   -- ---- as a course
-  -- the tables in work at the end, the answers, and how it ended
-  abbrev pub Outcome : Type 0
-  Outcome = List TableWork × List Bool × Result (Unit {0}) Stop
-
   abbrev pub FillsBy : PortValue → List TableWork → List Bool → PortValue → Outcome → Type 0
   FillsBy v ts before w z = Filled owner v ts before w z.0 z.1 z.2 × GivesAnswers says n z.1 × IsEnd z.0 z.2
 
@@ -127,10 +128,10 @@ module _ (owner : ℕ) (says : ℕ → Bool) (n : ℕ) where
       record {
         came = λ w z p. goes_came Next (λ (s : Standing). s.at) steps same (made v ts before (Ok tt)) (made w z.0 z.1 z.2) (fills v ts before w z.0 z.1 z.2 p.0 p.1);
         alike = λ w x z y p q.
-          alike_map
-          (goes_same Next (λ (s : Standing). s.at) steps same (made v ts before (Ok tt)) (made w z.0 z.1 z.2) (made x y.0 y.1 y.2) (no_next w z.0 z.1 z.2 p.2) (no_next x y.0 y.1 y.2 q.2)
-          (fills v ts before w z.0 z.1 z.2 p.0 p.1) (fills v ts before x y.0 y.1 y.2 q.0 q.1))
-          (λ e. ap (λ (s : Standing). (s.tables, s.answers, s.answer)) e);
+            alike_map
+            (goes_same Next (λ (s : Standing). s.at) steps same (made v ts before (Ok tt)) (made w z.0 z.1 z.2) (made x y.0 y.1 y.2) (no_next w z.0 z.1 z.2 p.2) (no_next x y.0 y.1 y.2 q.2)
+            (fills v ts before w z.0 z.1 z.2 p.0 p.1) (fills v ts before x y.0 y.1 y.2 q.0 q.1))
+            (λ e. ap (λ (s : Standing). (s.tables, s.answers, s.answer)) e);
       }
 
   -- what was answered before was answered by the same gate

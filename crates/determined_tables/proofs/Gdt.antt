@@ -1,5 +1,5 @@
 -- Descriptor tables that are set are determined: the pages are taken one by one, or given back; and the words name them.
-use Rattle.std.proofs.Common.{◌≡◌, ℕ, zero, suc, ◌+◌, ◌-◌, ◌<◌, ◌≤◌, Bool, true, false, List, [], ◌∷◌, length, get_or, Option, Some, None, Result, Ok, Err, refl, sym, ap, ◌∙◌, subst, inl, inr, arith}
+use Rattle.std.proofs.Common.{◌≡◌, ℕ, zero, suc, ◌+◌, List, length, get_or, Option, Some, None, Result, Ok, Err, refl, sym, ap, ◌∙◌, subst, inl, inr, arith}
 use Rattle.xp_words.specs.ContextWords.{ldt_write}
 use Rattle.xp_words.specs.declared.kind.PageType.TheVariants.{Desc}
 use Rattle.xp_words.specs.declared.place.Place.TheVariants.{Vcpu}
@@ -53,6 +53,7 @@ module _ (first_word : ℕ) (page : ℕ → Option ℕ) where
     where
       at_one : t.1 ≡ u.1
       at_one = let e = p.index in let f = q.index in omega (arith, e, f)
+
       by : Alike s.0 t.0 u.0 (◌≡◌ {A = Unit {0}} tt tt) → Alike s.0 t.0 u.0 (t ≡ u)
       by (inl f) = inl f
       by (inr e) = inr (e.0, ap (λ z. (z, t.1)) e.0 ∙ ap (λ z. (u.0, z)) at_one)

@@ -1,38 +1,36 @@
 -- Single calls of an acquisition are determined: references and types that are taken and given back, and frames that are left.
-use Rattle.std.proofs.Common.{◌≡◌, ◌≢◌, ℕ, ◌+◌, ◌<◌, Bool, true, false, List, [], ◌∷◌, ◌++◌, length, Option, Some, None, Result, Ok, Err, refl, sym, ap, ◌∙◌, subst, inl, inr}
+use Rattle.std.proofs.Common.{◌≡◌, ◌≢◌, ℕ, ◌+◌, ◌<◌, Bool, true, false, List, [], ◌∷◌, ◌++◌, length, Option, Some, None, Result, Ok, Err, refl, ap, ◌∙◌, subst}
 use Rattle.xp_words.specs.KindWords.{kind_write}
 use Rattle.xp_words.specs.declared.kind.KindWord.{KindWord}
 use Rattle.xp_words.specs.declared.kind.PageType.{PageType}
 use Rattle.xp_words.specs.declared.place.Place.TheVariants.{Clock, Kind, Life}
 use Rattle.xp_words.specs.declared.reply.Pause.TheVariants.{Lost}
 use Rattle.xp_words.specs.declared.reply.Stop.{Stop}
-use Rattle.xp_words.specs.declared.reply.Stop.TheVariants.{Paused, Refused}
+use Rattle.xp_words.specs.declared.reply.Stop.TheVariants.{Paused}
 use Rattle.xp_board.specs.declared.step.Act.TheVariants.{Add, Load, Store}
 use Rattle.xp_board.specs.declared.step.Mark.TheVariants.{Record}
 use Rattle.xp_board.specs.declared.step.StepKind.TheVariants as kinds
 use Rattle.xp_board.specs.RefSteps.{one_down}
 use Rattle.xp_board.specs.Readings.{domain_of}
 use Rattle.xp_board.specs.Told.{Post, PortValue}
-use Rattle.step_maker.specs.Moves.{Came, Moment, Moves, Ran}
+use Rattle.step_maker.specs.Moves.{Moment, Moves, Ran}
 use Rattle.step_maker.specs.Visits.{Does, Only, Then, Visit, visits}
-use Rattle.step_maker.proofs.Coming.{moves_came, ran_post}
+use Rattle.step_maker.proofs.Coming.{ran_post}
 use Rattle.step_maker.proofs.Visiting.{does_came}
 use Rattle.kind_words.specs.Kinds.{live_kind, partial_kind}
 use Rattle.table_words.specs.OldWords.{old_place}
 use Rattle.table_words.specs.declared.old_words.OldWord.TheVariants.{First}
-use Rattle.frame_types.specs.Found.{DropsPlain, SharedBy, StoresKind, StopsBy, TakesFound, TypeBy, saw_kind}
+use Rattle.frame_types.specs.Found.{DropsPlain, SharedBy, StopsBy, TakesFound, TypeBy}
 use Rattle.frame_types.specs.Lowering.{DropsType}
 use Rattle.frame_types.specs.declared.taking.Taken.{Taken}
 use Rattle.kept_marks.specs.Marks as marks
 use Rattle.kept_marks.specs.Marks.{IsForeign, KeptFor, LeftSo, TakesBack}
 use Rattle.partial_state.specs.Levels.{level_type}
 use Rattle.partial_state.specs.declared.stack.TableWork.{TableWork}
-use Rattle.table_entries.specs.Acquiring.{GaveBack, GaveRef, GaveType, GotRef, InnerLeft, Joined, LeftPartial, LeftWaiting, MadeLive, Named, OutermostLeft, TookType, Unwound, WaitingLeft, around_left, type_counts}
-use Rattle.determined_laws.specs.Courses.{Alike}
-use Rattle.determined_laws.specs.Forks.{Agree, Tie}
-use Rattle.determined_laws.proofs.Courses.{alike_does, alike_map, alike_move}
+use Rattle.table_entries.specs.Acquiring.{GaveBack, GaveRef, GaveType, GotRef, InnerLeft, Joined, LeftPartial, MadeLive, Named, OutermostLeft, TookType, Unwound, WaitingLeft, around_left, type_counts}
+use Rattle.determined_laws.specs.Forks.{Agree}
+use Rattle.determined_laws.proofs.Courses.{alike_does, alike_map}
 use Rattle.determined_laws.proofs.References.{gets_tie, put_tie}
-use Rattle.determined_laws.proofs.Ties.{tie_map}
 use Rattle.determined_laws.proofs.Types.{drops_tie, shared_tie, store_tie, types_tie}
 use Rattle.determined_tables.proofs.Chains.{Chain, Choice, Ends, IsFixed, IsSure, fixed_by, fixed_choice, fixed_ends, fixed_move, fixed_then, left, right, sure_as, sure_at, sure_by, sure_does, sure_some, sure_two}
 

@@ -9,4 +9,5 @@ pub mod Leaves
 pub mod Loops
 pub mod Pages
 pub mod Tables
+pub mod Touching
 pub mod Whole

@@ -1,5 +1,5 @@
 -- Loops that count up, of which a round may be the last: they are determined where each round is.
-use Rattle.std.proofs.Common.{◌≡◌, ℕ, ◌+◌, ◌<◌, ◌≤◌, List, Option, Some, None, refl, sym, ap, ◌∙◌, subst, inl, inr, arith}
+use Rattle.std.proofs.Common.{◌≡◌, ℕ, ◌+◌, ◌<◌, ◌≤◌, Option, Some, None, refl, sym, ap, ◌∙◌, inl, inr, arith}
 use Rattle.xp_board.specs.Told.{PortValue}
 use Rattle.step_maker.specs.Moves.{Came}
 use Rattle.determined_laws.specs.Courses.{Alike}
@@ -61,7 +61,7 @@ module _ {E : Type 0} (Round : ℕ → PortValue → PortValue → Option E → 
       record {
         came = λ w z p. goes_came Next (λ (s : State). s.0) came same (v, 0, None) (w, z.0, z.1) (goes_looped v w z p);
         alike = λ w x z y p q.
-          alike_map
-          (goes_same Next (λ (s : State). s.0) came same (v, 0, None) (w, z.0, z.1) (x, y.0, y.1) (ends v w z p) (ends v x y q) (goes_looped v w z p) (goes_looped v x y q))
-          (λ e. ap (λ (s : State). (s.1, s.2)) e);
+            alike_map
+            (goes_same Next (λ (s : State). s.0) came same (v, 0, None) (w, z.0, z.1) (x, y.0, y.1) (ends v w z p) (ends v x y q) (goes_looped v w z p) (goes_looped v x y q))
+            (λ e. ap (λ (s : State). (s.1, s.2)) e);
       }

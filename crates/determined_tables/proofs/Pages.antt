@@ -1,28 +1,20 @@
 -- Frames that are taken as ordinary memory are determined.
-use Rattle.std.proofs.Common.{◌≡◌, ◌≢◌, ℕ, ◌+◌, ◌<◌, Bool, true, false, List, [], ◌∷◌, ◌++◌, length, Option, Some, None, Result, Ok, Err, refl, sym, ap, ◌∙◌, subst, inl, inr, arith}
+use Rattle.std.proofs.Common.{◌≡◌, ℕ, Bool, true, false, Option, Some, None, Result, Ok, Err, refl}
 use Rattle.xp_words.specs.declared.kind.PageType.TheVariants.{Writable}
-use Rattle.xp_words.specs.declared.place.Place.TheVariants.{Cell}
 use Rattle.xp_words.specs.declared.reply.Stop.{Stop}
-use Rattle.xp_board.specs.declared.step.Act.TheVariants.{Load, Store}
 use Rattle.xp_board.specs.Told.{PortValue}
 use Rattle.step_maker.specs.Moves.{Came}
-use Rattle.step_maker.specs.Visits.{Does, Visit, visit}
 use Rattle.kind_words.specs.Kinds.{partial_kind}
 use Rattle.frame_types.specs.Plain.{is_refused}
 use Rattle.frame_types.specs.declared.taking.Taken.{Taken}
 use Rattle.frame_types.specs.declared.taking.Taken.TheVariants as types
-use Rattle.table_entries.specs.Acquiring.{GaveRef, GaveType, GotRef, TookType}
+use Rattle.table_entries.specs.Acquiring.{GaveRef, GotRef, TookType}
 use Rattle.writable_pages.specs.Pages as pages
 use Rattle.writable_pages.specs.Pages.{GotPage, LeftPage, PageLeft, TookPage}
-use Rattle.whole_pages.specs.Whole as whole
-use Rattle.whole_pages.specs.Whole.{ClearedBy, ClearsPage, CopiedBy, CopiesPage}
 use Rattle.determined_laws.specs.Courses.{Alike}
-use Rattle.determined_laws.specs.Forks.{Tie}
-use Rattle.determined_laws.proofs.Courses.{alike_map}
-use Rattle.determined_laws.proofs.Ties.{tie_map, tie_one, tie_then}
 use Rattle.determined_laws.proofs.Types.{dead_tie}
-use Rattle.determined_tables.proofs.Chains.{Chain, Ends, IsFixed, IsSure, fixed_by, fixed_ends, fixed_map, fixed_never, fixed_sure, fixed_then, sure_as, sure_does, sure_two}
-use Rattle.determined_tables.proofs.Leaves.{gave_sure, gave_type_sure, got_fixed, kept_sure, ref_answer, shared_sure, type_fixed}
+use Rattle.determined_tables.proofs.Chains.{Chain, Ends, IsFixed, IsSure, fixed_by, fixed_ends, fixed_map, fixed_never, fixed_sure, fixed_then, sure_as, sure_does}
+use Rattle.determined_tables.proofs.Leaves.{gave_sure, got_fixed, kept_sure, ref_answer, shared_sure, type_fixed}
 
 -- ---- ordinary memory
 page_left_sure : (v : PortValue) (f owner stamp : ℕ) (own refused : Bool) → IsSure v (λ w. PageLeft v w f owner stamp own refused)
