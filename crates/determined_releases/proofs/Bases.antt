@@ -8,12 +8,12 @@ use Rattle.xp_board.specs.Readings.{domain_of, last_clock}
 use Rattle.xp_board.specs.Told.{PortValue, Post}
 use Rattle.xp_board.specs.declared.step.Act.TheVariants.{Cas, Load, Store}
 use Rattle.xp_board.specs.declared.step.StepKind.TheVariants as steps
+use Rattle.step_maker.specs.Holds.{own_domain}
 use Rattle.step_maker.specs.Moves.{Came, Moves}
 use Rattle.step_maker.proofs.Coming.{came_post, came_self, came_trans}
 use Rattle.flush_words.specs.Flushing as flushing
 use Rattle.flush_words.specs.Flushing.{FlushesOwn}
 use Rattle.table_entries.specs.Acquiring.{Acquired}
-use Rattle.level_validate.specs.Unwinding.{own_domain}
 use Rattle.table_bases.specs.Course as course
 use Rattle.table_bases.specs.Course.{AcquiresTop, FlushesBehind, Installed, ReleasesOld, SetsBase}
 use Rattle.table_bases.specs.declared.words.Base.{Base}
