@@ -152,6 +152,13 @@ module _ (says : ℕ → Bool) (n : ℕ) {below : Option ℕ} {v w x : PortValue
       (λ e s. taken_alike says n below v.post.machine w x answers others a b left right g h v.post.vcpu which u f p
       (subst (λ z. Taken below v.post.machine v.post.vcpu which z f x others b right) (sym e) (subst (λ z. Taken below v.post.machine v.post.vcpu which o z x others b right) (sym (some_named f m s)) q)))
 
+pub settled_one_came : {below : Option ℕ} {v w : PortValue} {which : OldWord} {answers : List Bool} {a : Result (Unit {0}) Stop} → SettledOne below v which w answers a → Came v w
+settled_one_came p = one_came (one_by p)
+
+pub settled_one_alike : {below : Option ℕ} {v w x : PortValue} {which : OldWord} {answers others : List Bool} {a b : Result (Unit {0}) Stop} (says : ℕ → Bool) (n : ℕ) → GivesAnswers says n answers → GivesAnswers says n others →
+    (p : SettledOne below v which w answers a) → (q : SettledOne below v which x others b) → Alike v w x ((answers ≡ others) × (a ≡ b) × (left_one p ≡ left_one q))
+settled_one_alike says n g h p q = one_alike says n g h (one_by p) (one_by q)
+
 -- ---- both
 pub settled_came : {below : Option ℕ} {v w : PortValue} {answers : List Bool} {a : Result (Unit {0}) Stop} → Settled below v w answers a → Came v w
 settled_came (course.first w answers stop one) = one_came (one_by one)
