@@ -23,8 +23,8 @@ use Rattle.domain_destroy.specs.Emptying.{EmptiesOne}
 use Rattle.domain_destroy.specs.declared.place.DestroyAt.{DestroyAt}
 use Rattle.domain_destroy.specs.declared.place.DestroyAt.TheVariants.{Begins, Stops, Empties, Clears, Checks, Lists}
 use Rattle.determined_laws.specs.Courses.{Alike}
-use Rattle.determined_laws.proofs.Courses.{Goes, alike_does, alike_map, alike_move, alike_same, goes_came}
-use Rattle.determined_releases.proofs.Calls.{alike_with, move_came}
+use Rattle.determined_laws.proofs.Courses.{Goes, alike_does, alike_map, alike_move, alike_same}
+use Rattle.determined_releases.proofs.Calls.{move_came}
 use Rattle.determined_releases.proofs.Clearing.{clears_alike, clears_came}
 use Rattle.determined_releases.proofs.Emptying.{Done, one_alike, one_came}
 use Rattle.determined_releases.proofs.Passes as passing

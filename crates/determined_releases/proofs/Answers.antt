@@ -1,5 +1,5 @@
 -- The answers of a gate, taken apart again: those of the first part, and those of the rest.
-use Rattle.std.proofs.Common.{◌≡◌, ℕ, Bool, List, [], ◌∷◌, ◌++◌, length, sym, ap, ◌∙◌}
+use Rattle.std.proofs.Common.{ℕ, Bool, List, [], ◌∷◌, ◌++◌, length, sym, ap, ◌∙◌}
 use Rattle.xp_preempt.specs.Gates.{GivesAnswers, answer_at, asks_on}
 use Rattle.xp_preempt.proofs.Consulting.{asks_then}
 

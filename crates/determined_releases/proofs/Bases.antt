@@ -1,7 +1,6 @@
 -- A new base is determined: its table acquired, the word stored, the own cache flushed, and the old table released.
-use Rattle.std.proofs.Common.{◌≡◌, ◌≢◌, ◌⊎◌, ◌+◌, ◌++◌, ℕ, zero, suc, Bool, List, [], Option, Some, None, Result, Ok, Err, length, refl, sym, ap, ◌∙◌, subst, inl, inr}
+use Rattle.std.proofs.Common.{◌≡◌, ◌≢◌, ◌⊎◌, ◌+◌, ◌++◌, ℕ, zero, suc, Bool, List, Option, Some, None, Result, Ok, Err, length, refl, sym, ap, ◌∙◌, subst, inl, inr}
 use Rattle.xp_words.specs.Places.{flushed_of}
-use Rattle.xp_words.specs.declared.kind.PageType.TheVariants.{L4}
 use Rattle.xp_words.specs.declared.place.Place.TheVariants.{Clock}
 use Rattle.xp_words.specs.declared.reply.Stop.{Stop}
 use Rattle.xp_preempt.specs.Gates.{GivesAnswers, asks_on}
@@ -9,16 +8,14 @@ use Rattle.xp_board.specs.Readings.{domain_of, last_clock}
 use Rattle.xp_board.specs.Told.{PortValue, Post}
 use Rattle.xp_board.specs.declared.step.Act.TheVariants.{Cas, Load, Store}
 use Rattle.xp_board.specs.declared.step.StepKind.TheVariants as steps
+use Rattle.step_maker.specs.Holds.{own_domain}
 use Rattle.step_maker.specs.Moves.{Came, Moves}
 use Rattle.step_maker.proofs.Coming.{came_post, came_self, came_trans}
 use Rattle.flush_words.specs.Flushing as flushing
 use Rattle.flush_words.specs.Flushing.{FlushesOwn}
 use Rattle.table_entries.specs.Acquiring.{Acquired}
-use Rattle.level_validate.specs.Unwinding.{own_domain}
-use Rattle.level_release.specs.Course.{WasReleased}
 use Rattle.table_bases.specs.Course as course
 use Rattle.table_bases.specs.Course.{AcquiresTop, FlushesBehind, Installed, ReleasesOld, SetsBase}
-use Rattle.table_bases.specs.Holding.{base_place, naming}
 use Rattle.table_bases.specs.declared.words.Base.{Base}
 use Rattle.determined_laws.specs.Courses.{Alike}
 use Rattle.determined_laws.proofs.Courses.{alike_apart, alike_map, alike_move, alike_same, alike_then}

@@ -1,5 +1,5 @@
 -- The single calls of a release, from port to port: each is determined by what it finds.
-use Rattle.std.proofs.Common.{◌≡◌, ◌==◌, ◌≢◌, ◌⊎◌, ◌-◌, ℕ, Bool, List, [], ◌∷◌, Option, Some, None, Result, refl, sym, ap, ◌∙◌, subst, inl, inr}
+use Rattle.std.proofs.Common.{◌≡◌, ◌≢◌, ◌-◌, ℕ, Bool, List, [], ◌∷◌, Option, Result, sym, ◌∙◌, subst, inl, inr}
 use Rattle.xp_words.specs.declared.kind.PageType.{PageType}
 use Rattle.xp_words.specs.declared.place.Place.{Place}
 use Rattle.xp_words.specs.declared.reply.Stop.{Stop}
@@ -17,10 +17,8 @@ use Rattle.partial_state.specs.Levels.{level_type}
 use Rattle.partial_state.specs.declared.stack.TableWork.{TableWork}
 use Rattle.table_entries.specs.Acquiring.{GaveRef, GaveType, Named}
 use Rattle.table_releases.specs.declared.entries.Released.{Released}
-use Rattle.level_release.specs.Course.{GaveEntry, LeftInside, MadeDead, Rerecorded, StoredPartial, UnwoundDown, one_less}
-use Rattle.step_maker.proofs.Visiting.{does_came}
+use Rattle.level_release.specs.Course.{GaveEntry, LeftInside, Rerecorded, StoredPartial, UnwoundDown, one_less}
 use Rattle.determined_laws.specs.Courses.{Alike}
-use Rattle.determined_laws.specs.Forks.{Tie}
 use Rattle.determined_laws.proofs.Courses.{alike_apart, alike_does, alike_map, alike_move, alike_same, alike_then}
 use Rattle.determined_laws.proofs.Calls.{drops_plain_alike, drops_plain_came, puts_alike, puts_came}
 use Rattle.determined_laws.proofs.References.{put_tie}

@@ -70,7 +70,7 @@ module _ (n : Machine) (d f y : ℕ) where
   marked_alike o w x a c (bare off same ok) (foreign on other still also) = absurd (let e = sym off ∙ on in cc)
   marked_alike o w x a c (bare off same ok) (tries count found b read try rest) = mark_there count read off
   marked_alike o w x a c (foreign on other same ok) (bare off still also) = absurd (let e = sym off ∙ on in cc)
-  marked_alike o w x a c (foreign on other same ok) (foreign in_ out still also) = alike_same (same ∙ sym still) (ok ∙ sym also)
+  marked_alike o w x a c (foreign on other same ok) (foreign held out still also) = alike_same (same ∙ sym still) (ok ∙ sym also)
   marked_alike o w x a c (foreign on other same ok) (tries count found b read try rest) = absurd (other (owned_says y d true count read).owned)
   marked_alike o w x a c (tries count found b read try rest) (bare off same ok) = mark_there count read off
   marked_alike o w x a c (tries count found b read try rest) (foreign on other same ok) = absurd (other (owned_says y d true count read).owned)

@@ -1,11 +1,10 @@
 -- The words of a stopped vCPU are emptied, and what they named is let go: by what is found.
-use Rattle.std.proofs.Common.{◌≡◌, ◌≢◌, ◌+◌, ◌<◌, ◌≤◌, ◌++◌, ℕ, Bool, true, false, List, [], None, Result, Ok, Err, length, refl, sym, ap, ◌∙◌, subst, arith}
+use Rattle.std.proofs.Common.{◌≡◌, ◌+◌, ◌<◌, ◌≤◌, ◌++◌, ℕ, Bool, List, [], None, Result, Ok, Err, length, refl, sym, ap, ◌∙◌, subst, arith}
 use Rattle.xp_words.specs.declared.place.Place.TheVariants.{Vcpu}
 use Rattle.xp_words.specs.declared.reply.Stop.{Stop}
 use Rattle.xp_preempt.specs.Gates.{GivesAnswers, asks_on}
-use Rattle.xp_board.specs.Readings.{domain_of}
 use Rattle.xp_board.specs.Told.{PortValue}
-use Rattle.xp_board.specs.declared.step.Act.TheVariants.{Load, Store}
+use Rattle.xp_board.specs.declared.step.Act.TheVariants.{Store}
 use Rattle.xp_board.specs.declared.step.StepKind.TheVariants as steps
 use Rattle.step_maker.specs.Moves.{Came, Moves}
 use Rattle.step_maker.proofs.Coming.{came_self, came_trans}

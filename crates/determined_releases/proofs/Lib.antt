@@ -1,13 +1,13 @@
 mod Advances
-mod Answers
+pub mod Answers
 pub mod Bases
-mod Calls
-mod Clearing
+pub mod Calls
+pub mod Clearing
 pub mod Destroys
-mod Emptying
+pub mod Emptying
 pub mod Entries
+mod Marks
 mod Passes
 pub mod Released
-mod Marks
 mod Runs
 pub mod Settled

@@ -1,5 +1,5 @@
 -- The marks of one frame are taken off: by what is found.
-use Rattle.std.proofs.Common.{◌≡◌, ◌≢◌, ◌⊎◌, ℕ, Bool, true, false, List, [], None, Result, Ok, Err, refl, sym, ap, ◌∙◌, subst, inl, inr}
+use Rattle.std.proofs.Common.{◌≡◌, ◌≢◌, ◌⊎◌, ℕ, Bool, true, false, List, [], None, Ok, Err, refl, sym, ◌∙◌, subst, inl, inr}
 use Rattle.xp_words.specs.KindWords.{kind_fields, kind_write}
 use Rattle.xp_words.specs.Machine.{Machine}
 use Rattle.xp_words.specs.Places.{number, sizes_of}
@@ -7,7 +7,6 @@ use Rattle.xp_words.specs.declared.kind.KindWord.{KindWord}
 use Rattle.xp_words.specs.declared.kind.PageType.TheVariants.{Desc}
 use Rattle.xp_words.specs.declared.place.Place.TheVariants.{Kind}
 use Rattle.xp_words.specs.declared.reply.Pause.TheVariants.{Lost}
-use Rattle.xp_words.specs.declared.reply.Stop.{Stop}
 use Rattle.xp_words.specs.declared.reply.Stop.TheVariants.{Paused}
 use Rattle.xp_preempt.specs.Gates.{GivesAnswers}
 use Rattle.xp_board.specs.Told.{PortValue}

@@ -1,16 +1,14 @@
 -- How a destruction begins, the pass over all frames, and what is listed: by what is found.
-use Rattle.std.proofs.Common.{◌≡◌, ◌≢◌, ◌⊎◌, ◌+◌, ◌<◌, ◌≤◌, ◌++◌, ◌==◌, if◌then◌else◌, ℕ, Bool, true, false, List, [], ◌∷◌, Option, Some, None, Result, Ok, Err, length, refl, sym, ap, ◌∙◌, subst, inl, inr, arith}
+use Rattle.std.proofs.Common.{◌≡◌, ◌≢◌, ◌+◌, ◌<◌, ◌≤◌, ◌++◌, if◌then◌else◌, ℕ, true, false, List, [], ◌∷◌, Option, Some, None, Ok, Err, length, refl, sym, ap, ◌∙◌, subst, inr, arith}
 use Rattle.xp_words.specs.declared.place.Place.TheVariants.{Kind, Life, Priv, Refs}
-use Rattle.xp_words.specs.declared.reply.Pause.TheVariants.{Busy}
 use Rattle.xp_words.specs.declared.reply.Refusal.TheVariants.{Dying, NoDomain, NoPrivilege}
-use Rattle.xp_words.specs.declared.reply.Stop.{Stop}
-use Rattle.xp_words.specs.declared.reply.Stop.TheVariants.{Paused, Refused}
-use Rattle.xp_board.specs.Readings.{has_now, is_dying, owner_of, ref_count}
+use Rattle.xp_words.specs.declared.reply.Stop.TheVariants.{Refused}
+use Rattle.xp_board.specs.Readings.{has_now, owner_of}
 use Rattle.xp_board.specs.Told.{Post, PortValue}
 use Rattle.xp_board.specs.declared.step.Act.TheVariants.{Cas, Load}
 use Rattle.step_maker.specs.Moves.{Came, Moment, Ran}
 use Rattle.step_maker.specs.Pauses.{found_in_use}
-use Rattle.step_maker.specs.Visits.{Does, Nothing, Only, Then, Visit, visit, visits}
+use Rattle.step_maker.specs.Visits.{Does, Only, Then, Visit, visit, visits}
 use Rattle.step_maker.proofs.Parts.{cut, parts, stayed}
 use Rattle.step_maker.proofs.Visiting.{does_as, does_came}
 use Rattle.frame_claims.specs.Found.{Upwards}
@@ -19,9 +17,9 @@ use Rattle.frame_words.specs.Refs.{saw_refs}
 use Rattle.domain_destroy.specs.Course as course
 use Rattle.domain_destroy.specs.Course.{BeginsBy, FoundInUse, FoundNoUse, LeftFrame, ListsFrame, LooksAndDooms, own_of}
 use Rattle.determined_laws.specs.Courses.{Alike}
-use Rattle.determined_laws.specs.Forks.{Forks, Tie}
+use Rattle.determined_laws.specs.Forks.{Tie}
 use Rattle.determined_laws.proofs.Courses.{Goes, alike_does, alike_map, goes_came, goes_same, more, none}
-use Rattle.determined_laws.proofs.Ties.{fork_here, swapped, tie_lists, tie_map, tie_one, tie_then}
+use Rattle.determined_laws.proofs.Ties.{tie_map, tie_one, tie_then}
 use Rattle.determined_releases.proofs.Calls.{alike_with}
 use Rattle.determined_releases.proofs.Emptying.{Done}
 

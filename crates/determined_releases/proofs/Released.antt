@@ -1,6 +1,5 @@
 -- A release is determined: of a type, and of a table and all in it.
 use Rattle.std.proofs.Common.{◌≡◌, ℕ, Bool, List, Option, None, Result, refl, sym, ap, ◌∙◌, subst}
-use Rattle.xp_words.specs.PageTypes.{is_table}
 use Rattle.xp_words.specs.declared.kind.PageType.{PageType}
 use Rattle.xp_words.specs.declared.place.Place.TheVariants.{Refs}
 use Rattle.xp_words.specs.declared.reply.Stop.{Stop}
@@ -9,7 +8,7 @@ use Rattle.xp_board.specs.Told.{PortValue}
 use Rattle.xp_board.specs.declared.step.Act.TheVariants.{Load}
 use Rattle.xp_board.specs.declared.step.StepKind.TheVariants as steps
 use Rattle.step_maker.specs.Moves.{Came, Moves}
-use Rattle.step_maker.proofs.Coming.{came_self, came_trans}
+use Rattle.step_maker.proofs.Coming.{came_trans}
 use Rattle.partial_state.proofs.LevelFacts.{level_type-apart}
 use Rattle.partial_state.specs.declared.stack.TableWork.{TableWork}
 use Rattle.table_entries.specs.Acquiring.{GaveRef}
@@ -18,7 +17,7 @@ use Rattle.level_release.specs.Course.{Emptied, ReleasedWithin, closing_table, l
 use Rattle.determined_laws.specs.Courses.{Alike}
 use Rattle.determined_laws.proofs.Calls.{drops_type_alike, drops_type_came}
 use Rattle.determined_laws.proofs.Courses.{alike_apart, alike_map, alike_then}
-use Rattle.determined_releases.proofs.Calls.{alike_step, gave_ref_alike, gave_ref_came, gave_type_alike, gave_type_came, move_came, move_on}
+use Rattle.determined_releases.proofs.Calls.{alike_step, gave_ref_alike, gave_ref_came, gave_type_alike, gave_type_came, move_on}
 use Rattle.determined_releases.proofs.Runs.{emptied_alike, emptied_came}
 
 -- ---- a table and all in it, from one port

@@ -1,5 +1,5 @@
 -- Tables are emptied until none is left: one entry or one table is determined, and so is the loop over them.
-use Rattle.std.proofs.Common.{◌≡◌, ℕ, ◌<◌, ◌&&◌, if◌then◌else◌, Bool, true, false, List, [], ◌∷◌, Option, Result, Ok, Err, length, refl, sym, ap, ◌∙◌, subst, inl, inr, arith}
+use Rattle.std.proofs.Common.{◌≡◌, ℕ, ◌<◌, ◌&&◌, if◌then◌else◌, Bool, true, false, List, [], ◌∷◌, Option, Result, Ok, Err, length, refl, sym, ap, ◌∙◌, subst, arith}
 use Rattle.xp_words.specs.declared.reply.Pause.TheVariants.{Due}
 use Rattle.xp_words.specs.declared.reply.Stop.{Stop}
 use Rattle.xp_words.specs.declared.reply.Stop.TheVariants.{Paused}
@@ -14,7 +14,7 @@ use Rattle.table_releases.specs.declared.entries.Released.TheVariants.{Given, Op
 use Rattle.level_release.specs.Course as course
 use Rattle.level_release.specs.Course.{Emptied, GaveEntry, Lowered, MadeDead, RanDown, UnwoundDown, is_asked_within, left_by, left_emptied, one_more_done, table_under}
 use Rattle.determined_laws.specs.Courses.{Alike}
-use Rattle.determined_laws.proofs.Courses.{Goes, alike_apart, alike_map, alike_then, goes_came, goes_same, more, none}
+use Rattle.determined_laws.proofs.Courses.{Goes, alike_apart, alike_map, alike_then, goes_same, more, none}
 use Rattle.determined_releases.proofs.Calls.{alike_with, dead_alike, dead_came, gave_entry_alike, gave_entry_came, unwound_alike, unwound_came}
 
 -- ---- one entry, or one table

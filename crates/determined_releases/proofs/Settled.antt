@@ -1,10 +1,10 @@
 -- What an earlier turn left is settled: that is determined, too.
-use Rattle.std.proofs.Common.{◌≡◌, ◌≢◌, ◌+◌, ◌++◌, ℕ, Bool, true, false, List, [], Option, Some, None, Result, Ok, Err, length, refl, sym, ap, ◌∙◌, subst, arith}
+use Rattle.std.proofs.Common.{◌≡◌, ◌≢◌, ◌+◌, ◌++◌, ℕ, Bool, true, false, List, [], Option, None, Result, Ok, Err, length, refl, sym, ap, ◌∙◌, subst, arith}
 use Rattle.xp_words.specs.KindWords.{kind_fields, kind_write}
 use Rattle.xp_words.specs.Machine.{Machine}
 use Rattle.xp_words.specs.Places.{number, sizes_of}
 use Rattle.xp_words.specs.declared.kind.KindWord.{KindWord}
-use Rattle.xp_words.specs.declared.place.Place.TheVariants.{Kind, Refs}
+use Rattle.xp_words.specs.declared.place.Place.TheVariants.{Kind}
 use Rattle.xp_words.specs.declared.reply.Pause.TheVariants.{Busy, Lost}
 use Rattle.xp_words.specs.declared.reply.Stop.{Stop}
 use Rattle.xp_words.specs.declared.reply.Stop.TheVariants.{Paused}
@@ -18,7 +18,7 @@ use Rattle.step_maker.proofs.Coming.{came_self, came_trans}
 use Rattle.partial_state.proofs.LevelFacts.{level_type-apart}
 use Rattle.table_words.specs.OldWords.{old_place}
 use Rattle.table_words.specs.declared.old_words.OldWord.{OldWord}
-use Rattle.table_words.specs.declared.old_words.OldWord.TheVariants.{First, Second}
+use Rattle.table_words.specs.declared.old_words.OldWord.TheVariants.{Second}
 use Rattle.table_entries.specs.Acquiring.{Named}
 use Rattle.table_releases.specs.Found.{has_recorded}
 use Rattle.level_release.specs.Course as course
@@ -151,6 +151,13 @@ module _ (says : ℕ → Bool) (n : ℕ) {below : Option ℕ} {v w x : PortValue
       alike_step look sees (taken_came v.post.vcpu which u w f answers a left p) (taken_came v.post.vcpu which o x m others b right q)
       (λ e s. taken_alike says n below v.post.machine w x answers others a b left right g h v.post.vcpu which u f p
       (subst (λ z. Taken below v.post.machine v.post.vcpu which z f x others b right) (sym e) (subst (λ z. Taken below v.post.machine v.post.vcpu which o z x others b right) (sym (some_named f m s)) q)))
+
+pub settled_one_came : {below : Option ℕ} {v w : PortValue} {which : OldWord} {answers : List Bool} {a : Result (Unit {0}) Stop} → SettledOne below v which w answers a → Came v w
+settled_one_came p = one_came (one_by p)
+
+pub settled_one_alike : {below : Option ℕ} {v w x : PortValue} {which : OldWord} {answers others : List Bool} {a b : Result (Unit {0}) Stop} (says : ℕ → Bool) (n : ℕ) → GivesAnswers says n answers → GivesAnswers says n others →
+    (p : SettledOne below v which w answers a) → (q : SettledOne below v which x others b) → Alike v w x ((answers ≡ others) × (a ≡ b) × (left_one p ≡ left_one q))
+settled_one_alike says n g h p q = one_alike says n g h (one_by p) (one_by q)
 
 -- ---- both
 pub settled_came : {below : Option ℕ} {v w : PortValue} {answers : List Bool} {a : Result (Unit {0}) Stop} → Settled below v w answers a → Came v w

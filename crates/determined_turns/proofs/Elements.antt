@@ -104,10 +104,10 @@ module _ (says : ℕ → Bool) (n : ℕ) where
   owned_came _ _ _ _ g (WorksOwned.unowned w x some few finds) = finds_came finds
   owned_came {list = list} {v = v} {from} _ _ _ _ g (WorksOwned.owned to u w o answers a some few finds run) = came_trans v u w (finds_came finds) (on_came o list from to u w answers a g run)
 
-  ok_same : {A E : Type 0} (a b : A) → ◌≡◌ {A = Result A E} (Ok a) (Ok b) → a ≡ b
+  pub ok_same : {A E : Type 0} (a b : A) → ◌≡◌ {A = Result A E} (Ok a) (Ok b) → a ≡ b
   ok_same a b e = cc
 
-  err_same : {A E : Type 0} (a b : E) → ◌≡◌ {A = Result A E} (Err a) (Err b) → a ≡ b
+  pub err_same : {A E : Type 0} (a b : E) → ◌≡◌ {A = Result A E} (Err a) (Err b) → a ≡ b
   err_same a b e = cc
 
   pub owned_alike : {d foreign : ℕ} {list : List Pair} {v : PortValue} {from : ℕ} (w x : PortValue) (to other : ℕ) (answers others : List Bool) (a b : Answer) → GivesAnswers says n answers → GivesAnswers says n others →

@@ -2,4 +2,5 @@ pub mod Below
 pub mod Elements
 pub mod Extents
 pub mod Lists
+pub mod Mapping
 pub mod Settling
