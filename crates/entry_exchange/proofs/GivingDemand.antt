@@ -8,8 +8,7 @@ use Rattle.xp_words.specs.declared.reply.Pause.TheVariants.{Due}
 use Rattle.xp_words.specs.declared.reply.Stop.{Stop}
 use Rattle.xp_words.specs.declared.reply.Stop.TheVariants.{Paused}
 use Rattle.xp_board.specs.declared.holdings.Reference.{Reference}
-use Rattle.xp_board.specs.declared.holdings.TypedReference.{TypedReference}
-use Rattle.xp_board.specs.Hands.{refs_to, without_typed}
+use Rattle.xp_board.specs.Hands.{refs_to}
 use Rattle.xp_board.specs.Told.{PortValue}
 use Rattle.xp_preempt.specs.Gates.{Gate}
 use Rattle.xp_preempt.proofs.Consulting.{gated_past, past_as, past_none}
@@ -23,7 +22,6 @@ use Rattle.frame_words.specs.Freeing.{gave}
 use Rattle.frame_words.specs.Refs.{MayPut}
 use Rattle.frame_types.specs.Taking.{MayDropPlain, gave_type}
 use Rattle.kind_words.proofs.KindHands.{apart_spares, no_work}
-use Rattle.kind_words.proofs.Leaving.{without_newest}
 use Rattle.level_release.specs.Asking.{of_release}
 use Rattle.level_release.specs.Course.{ReleasesFrameBy}
 use Rattle.level_release.specs.Holding.{HoldsLive, LeavesUnheld}
@@ -34,7 +32,8 @@ use Rattle.entry_exchange.specs.Course as courses
 use Rattle.entry_exchange.specs.Parts.{DemandGiven, DemandReleased, GaveTable, HoldsRef, HoldsTyped, IsOfLevel, LeavesGone, ReleasesDemand, TableGiven}
 use Rattle.entry_exchange.specs.Parts as parts
 use Rattle.entry_exchange.specs.Serving.{of_given}
-use Rattle.entry_exchange.proofs.GivingTable.{held, live, none_left}
+use Rattle.level_release.proofs.Dropped.{may_drop_plain, none_typed}
+use Rattle.entry_exchange.proofs.GivingTable.{lives}
 use Rattle.entry_exchange.proofs.ServesGiving.{behind_back, released_ref, released_typed}
 
 -- ---- what it needs
@@ -46,7 +45,7 @@ may_put_ref {v} {g} holds =
     }
 
 pub may_drop_page : {v : PortValue} {g owner : ℕ} → HoldsTyped v g Writable owner → MayDropPlain v.post.machine g Writable v.holdings
-may_drop_page {v} {g} holds = record { held = held holds; live = live holds; plain = refl; apart = no_work g v.holdings.works holds.works }
+may_drop_page holds = may_drop_plain (lives holds) refl
 
 -- ---- given back
 pub nothing_given : {v : PortValue} {owner level : ℕ} {d : Demand} → IsOfLevel level d → (d ≡ Nothing) ⊎ (d ≡ Bad) → DemandGiven v v owner level d
@@ -70,7 +69,7 @@ module _ {v w : PortValue} {owner level g : ℕ} where
       record {
         came = given.came;
         serves = given.serves;
-        hand = (given.hand.0, given.hand.1 ∙ ap (λ ys. still (record v { holdings = record v.holdings { typed = ys; old0 = given.hand.0 } })) (sym (none_left holds)));
+        hand = (given.hand.0, given.hand.1 ∙ ap (λ ys. still (record v { holdings = record v.holdings { typed = ys; old0 = given.hand.0 } })) (sym (none_typed (lives holds))));
         course = by_course given.course;
       }
     where
@@ -106,9 +105,6 @@ module _ {v w : PortValue} {g : ℕ} where
         course = past_as (λ on. absurd cc) (λ xs was. courses.released w g t xs answer was due) (gated_past by);
       }
     where
-      none : without_typed g v.holdings.typed ≡ []
-      none = without_newest (λ (y : TypedReference). y.frame) g holds.reference [] v.holdings.typed holds.frame holds.typed
-
       by_answer : (a : Result (Unit {0}) Stop) → LeavesUnheld v w g a → LeavesGone v w (Typed g t)
-      by_answer (Ok done) leaves = (v.holdings.old0, leaves ∙ ap (λ ys. still (record v { holdings = record v.holdings { typed = ys } })) (sym none))
-      by_answer (Err e) leaves = (Some (g + 1), leaves ∙ ap (λ ys. still (record v { holdings = record v.holdings { typed = ys; old0 = Some (g + 1) } })) (sym none))
+      by_answer (Ok done) leaves = (v.holdings.old0, leaves ∙ ap (λ ys. still (record v { holdings = record v.holdings { typed = ys } })) (sym (none_typed holds)))
+      by_answer (Err e) leaves = (Some (g + 1), leaves ∙ ap (λ ys. still (record v { holdings = record v.holdings { typed = ys; old0 = Some (g + 1) } })) (sym (none_typed holds)))

@@ -1,12 +1,15 @@
-use Rattle.entry_exchange.proofs.GivingTable.{kept_of, last_given, looked, may_drop, may_leave, may_put, shared_given}
+use Rattle.std.proofs.Common.{rules}
+use Rattle.level_release.proofs.Dropped.{counted_gives, may_drop}
+use Rattle.level_release.proofs.LeftLast.{last_looking}
+use Rattle.entry_exchange.proofs.GivingTable.{kept_of, last_given, lives, may_leave, shared_given}
 use Rattle.entry_exchange.proofs.demands.give_table.Goals as goal
 
 pub drop_type-requires-clause-drops : goal.drop_type-requires-clause-drops
-drop_type-requires-clause-drops g c = may_drop c.requires.holds
+drop_type-requires-clause-drops g c = may_drop (lives c.requires.holds)
 
 -- ---- other type counts are left
 pub put_ref-requires-clause-gives : goal.put_ref-requires-clause-gives
-put_ref-requires-clause-gives g c = may_put c.requires.holds (rw c.if-drop_type.false at c.drop_type.ensures.drops)
+put_ref-requires-clause-gives g c = counted_gives (lives c.requires.holds) (rw c.if-drop_type.false at c.drop_type.ensures.drops)
 
 pub returns-else-drop_type : goal.returns-else-drop_type
 returns-else-drop_type g c =
@@ -14,15 +17,21 @@ returns-else-drop_type g c =
     shared_given c.requires.holds (rw c.if-drop_type.false at c.drop_type.ensures.drops) c.drop_type.ensures.serves put.serves put.hand (record { found = put.puts; plain = put.plain })
 
 -- ---- it was the last
-pub leave_kept-requires-clause-leaves : goal.leave_kept-requires-clause-leaves
-leave_kept-requires-clause-leaves g c =
-    rw (rw c.level_type.ensures at c.partial_kind.ensures) (may_leave c.args.level c.requires.low c.requires.holds (rw c.if-drop_type.true at c.drop_type.ensures.drops))
-
-pub leave_kept-requires-clause-known : goal.leave_kept-requires-clause-known
-leave_kept-requires-clause-known g c = kept_of c.requires.holds (rw c.if-drop_type.true at c.drop_type.ensures.drops)
-
-pub leave_kept-requires-clause-looked : goal.leave_kept-requires-clause-looked
-leave_kept-requires-clause-looked g c = looked c.requires.holds (rw c.if-drop_type.true at c.drop_type.ensures.drops)
+pub leave_kept-requires : goal.leave_kept-requires
+leave_kept-requires g c =
+    let drops = rw c.if-drop_type.true at c.drop_type.ensures.drops in
+    record {
+      frame = search rules;
+      may = search rules;
+      leaves = rw (rw c.level_type.ensures at c.partial_kind.ensures) (may_leave c.args.level c.requires.low c.requires.holds drops);
+      partial = search rules;
+      kept = search rules;
+      page = search rules;
+      known = kept_of c.args.level c.requires.low c.requires.holds drops;
+      real = search rules;
+      looked = last_looking (lives c.requires.holds) drops;
+      room = search rules;
+    }
 
 pub returns-then-drop_type : goal.returns-then-drop_type
 returns-then-drop_type g c =
