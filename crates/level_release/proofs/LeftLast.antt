@@ -102,14 +102,6 @@ module _ {v a : PortValue} {f : ℕ} {kind : PageType} (holds : HoldsLive v f ki
           table (let all = all_recorded holds d table in omega (arith, all)) (inl (closed_unmarked v a f true d refl))
           (λ shut. subst (λ (rs : List Reference). 0 < refs_to f rs) (sym newest) (newest_held f left_ref v.holdings.refs refl)))
 
-      -- its own domain's
-      pub own_left : owner ≡ domain_of a.post.machine a.post.vcpu → still (record a { holdings = left a f (partial_kind kind true false 512 0) }) ≡ still (record v { holdings = record v.holdings { typed = [] } })
-      own_left own =
-          ap (λ (h : Holdings). still (record a { holdings = h }))
-          (left_kept_closing a f kind closing here false 512 0 is_closed (last_spelled true) (owner_left ∙ ap (λ o. owners.Of o) own))
-          ∙ gone a.holdings.typed ∙ ap (λ (ys : List TypedReference). still (record v { holdings = record v.holdings { typed = ys } })) typed_gone
-
-      -- anybody's, but for the look at it
       kept_hand : left_kept a f (partial_kind kind true false 512 0) ≡ record a.holdings { refs = without_ref f a.holdings.refs; works = without_work f a.holdings.works; looking = [] }
       kept_hand = by_owner (cases_eq owner (domain_of a.post.machine a.post.vcpu))
         where
@@ -120,11 +112,12 @@ module _ {v a : PortValue} {f : ℕ} {kind : PageType} (holds : HoldsLive v f ki
           by_owner (inr off) =
               ap (λ (h : Holdings). record h { looking = [] }) (left_kept_closing_other a f kind closing here false 512 0 is_closed owner (last_spelled true) owner_left off)
 
-      pub kept_left : (o : Option ℕ) → still (record a { holdings = record (left_kept a f (partial_kind kind true false 512 0)) { old0 = o } }) ≡ still (record v { holdings = record v.holdings { typed = []; old0 = o } })
-      kept_left o =
-          ap (λ (h : Holdings). still (record a { holdings = record h { old0 = o } })) kept_hand ∙ ap (λ (q : PortValue). still (record q { holdings = record q.holdings { looking = []; old0 = o } })) (gone a.holdings.typed)
-          ∙ ap (λ (ys : List TypedReference). still (record v { holdings = record v.holdings { typed = ys; looking = []; old0 = o } })) typed_gone
-          ∙ ap (λ xs. still (record v { holdings = record v.holdings { typed = []; looking = xs; old0 = o } })) (sym holds.looking)
+      -- nothing of it is in hand then, nor is a look unfinished
+      pub kept_left : still (record a { holdings = left_kept a f (partial_kind kind true false 512 0) }) ≡ still (record v { holdings = record v.holdings { typed = [] } })
+      kept_left =
+          ap (λ (h : Holdings). still (record a { holdings = h })) kept_hand ∙ ap (λ (q : PortValue). still (record q { holdings = record q.holdings { looking = [] } })) (gone a.holdings.typed)
+          ∙ ap (λ (ys : List TypedReference). still (record v { holdings = record v.holdings { typed = ys; looking = [] } })) typed_gone
+          ∙ ap (λ xs. still (record v { holdings = record v.holdings { typed = []; looking = xs } })) (sym holds.looking)
 
     -- without it the type count stays in hand, and may go into the first old word
     module _ (x : PortValue) (leaves : Holds a x (left a f (partial_kind kind false false 512 0))) where

@@ -24,6 +24,7 @@ pub mod Falling
 mod Handing
 pub mod Dropped
 pub mod LeftLast
+pub mod Parked
 mod Requested
 mod Counted
 mod Taken
