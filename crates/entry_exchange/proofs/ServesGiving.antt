@@ -39,19 +39,6 @@ behind_back v w f gives u r ds before asked locks =
       serves = serves_back u v w r ds [] before f (asked_later u v w r f (serves_came v w (of_back f) [] gives) asked) gives;
     }
 
--- and one that leaves it with its mark
-pub behind_kept : (v a w : PortValue) (f owner : ℕ) → Serves v a (of_back f) [] → ServesKept a w f owner → ServesTable v w f
-behind_kept v a w f owner gives kept u r ds before asked locks =
-    let came = serves_came v a (of_back f) [] gives in
-    let later = asked_later u v a r f came asked in
-    let there = serves_back u v a r ds [] before f later gives in
-    let marked = kept u r ds there later (λ foreign. locks) in
-    record { more = marked.more; hidden = seen u marked.more marked.hidden; serves = marked.serves }
-  where
-    seen : (u : PortValue) (more : List Deed) → (more ≡ []) ⊎ (IsForeign u owner × (more ≡ Misses (Kind f) ∷ [])) → (more ≡ []) ⊎ ((g : ℕ) × (more ≡ Misses (Kind g) ∷ []))
-    seen u more (inl none) = inl none
-    seen u more (inr one) = inr (f, one.1)
-
 -- ---- released
 within_given : (n : Machine) (s f owner pages : ℕ) (t : PageType) (answer : Result (Unit {0}) Stop) (F : Finding) → Within n s (of_release f owner pages answer) F (of_given (Typed f t) owner pages) F
 within_given n s f owner pages t answer F =
