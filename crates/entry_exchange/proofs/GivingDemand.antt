@@ -33,7 +33,7 @@ use Rattle.partial_state.specs.Levels.{level_type}
 use Rattle.table_entries.specs.Acquiring.{GaveRef, GaveType}
 use Rattle.entry_exchange.specs.Course.{GaveDemand, ReleasedDemand}
 use Rattle.entry_exchange.specs.Course as courses
-use Rattle.entry_exchange.specs.Parts.{DemandGiven, DemandReleased, HoldsRef, IsOfLevel, LeavesGone, ReleasesDemand}
+use Rattle.entry_exchange.specs.Parts.{DemandGiven, DemandReleased, HoldsRef, IsOfLevel, LeavesGone}
 use Rattle.entry_exchange.specs.Serving.{of_given}
 use Rattle.level_release.proofs.Dropped.{may_drop_plain, none_typed}
 use Rattle.level_release.proofs.Parked.{lives}

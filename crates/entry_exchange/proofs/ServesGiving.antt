@@ -1,5 +1,5 @@
 -- What an entry asks is given back or released, and the lock goes off: what a guest sees of it.
-use Rattle.std.proofs.Common.{◌≡◌, ◌⊎◌, ℕ, ◌+◌, List, [], ◌∷◌, None, IsTrue, Result, Ok, Err, IfErr, refl, rules, ap, subst, inl, inr}
+use Rattle.std.proofs.Common.{◌≡◌, ℕ, ◌+◌, [], None, IsTrue, Result, Ok, Err, IfErr, refl, rules, ap, subst, inl}
 use Rattle.xp_words.specs.KindWords.{kind_write}
 use Rattle.xp_words.specs.Machine.{Machine}
 use Rattle.xp_words.specs.declared.entry.Demand.TheVariants.{Read, Typed}
@@ -16,12 +16,11 @@ use Rattle.xp_board.specs.Told.{Post, PortValue}
 use Rattle.xp_board.proofs.Sums.{when_eq}
 use Rattle.step_maker.specs.Moves.{Met, Moves}
 use Rattle.step_maker.proofs.Coming.{came_post}
-use Rattle.step_maker.specs.Answers.{Deed, Misses, Serves, misses}
+use Rattle.step_maker.specs.Answers.{Serves, misses}
 use Rattle.step_maker.specs.Asked.{Within, back, of_back}
 use Rattle.step_maker.specs.Finding.{Finding}
 use Rattle.step_maker.proofs.Grown.{grown_by, risen}
 use Rattle.step_maker.proofs.Piecing.{serves_back, serves_came, serves_step, serves_within, within_back}
-use Rattle.kept_marks.specs.Marks.{IsForeign, ServesKept}
 use Rattle.kept_marks.proofs.Serving.{asked_later, left_serves}
 use Rattle.kind_words.specs.Kinds.{MayLeave}
 use Rattle.level_release.specs.Asking.{of_release}
