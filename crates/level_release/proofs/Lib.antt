@@ -23,7 +23,6 @@ pub mod Owning
 pub mod Falling
 mod Handing
 pub mod Dropped
-pub mod LeftLast
 pub mod Parked
 mod Requested
 mod Counted
