@@ -1,5 +1,5 @@
 -- A typed reference to a live table is given up, as one of the own domain is.
-use Rattle.std.proofs.Common.{◌≡◌, ◌⊎◌, ℕ, Bool, true, false, List, [], ◌∷◌, ◌++◌, None, refl, sym, ap, ◌∙◌, subst, inl, inr}
+use Rattle.std.proofs.Common.{◌≡◌, ◌⊎◌, ℕ, Bool, true, false, List, [], ◌∷◌, ◌++◌, None, refl, sym, ap, subst, inl, inr}
 use Rattle.xp_words.specs.declared.place.Place.TheVariants.{Kind}
 use Rattle.xp_board.specs.declared.step.Act.TheVariants.{Add}
 use Rattle.xp_board.specs.declared.step.StepKind.TheVariants as kinds
