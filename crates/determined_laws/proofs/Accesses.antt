@@ -11,21 +11,21 @@ use Rattle.xp_board.specs.declared.step.Act.TheVariants.{Load, Store}
 use Rattle.xp_board.specs.declared.step.Item.{Item}
 use Rattle.xp_board.specs.declared.step.StepKind.TheVariants as kinds
 use Rattle.xp_board.specs.Told.{PortValue}
-use Rattle.step_maker.specs.Visits.{Does, Only, Then, Visit, visit_as, visits}
+use Rattle.step_maker.specs.Visits.{Does, Only, Then, Visit, visit_as}
 use Rattle.tlb_walks.specs.Accesses as ways
 use Rattle.tlb_walks.specs.Accesses.{GuestReads, GuestWrites}
 use Rattle.tlb_walks.specs.Addresses.{cell_index}
 use Rattle.tlb_walks.specs.Walks.{WalkBy}
 use Rattle.tlb_walks.specs.declared.walks.Walked.{Walked}
-use Rattle.determined_laws.specs.Forks.{Determined, Tie}
+use Rattle.determined_laws.specs.Courses.{Alike}
+use Rattle.determined_laws.specs.Forks.{Tie}
+use Rattle.determined_laws.proofs.Courses.{alike_does}
 use Rattle.determined_laws.proofs.Ties.{forks_newer, swapped, tie_lists, tie_map, tie_one, tie_then, some_refusal}
 use Rattle.determined_laws.proofs.Walks.{walk_tie}
 
 -- ---- the lists of two ways from one port
-pub both_made : (v w x : PortValue) (P Q : List Visit → Type 0) (E : Type 0) → Does v w P → Does v x Q → ((us vs : List Visit) → P us → Q vs → Tie us vs E) → Determined v w x E
-unfolding Does
-both_made v w x P Q E a b tie =
-    record { us = visits a.0; vs = visits b.0; left = (a.0, a.1, refl); right = (b.0, b.1, refl); tie = tie (visits a.0) (visits b.0) a.2 b.2 }
+pub both_made : (v w x : PortValue) (P Q : List Visit → Type 0) (E : Type 0) → Does v w P → Does v x Q → ((us vs : List Visit) → P us → Q vs → Tie us vs E) → Alike v w x E
+both_made v w x P Q E a b tie = alike_does a b tie
 
 some_item : (x y : Item) → ◌≡◌ {A = Option Item} (Some x) (Some y) → x ≡ y
 some_item x y e = cc
@@ -79,7 +79,7 @@ module _ (v : PortValue) (user : Bool) (va : ℕ) (write : Bool) where
       (subst (λ (k : Item). Tie (at_cell i.frame (cell_index va) act x ∷ []) (at_cell k.frame (cell_index va) act y ∷ []) (x ≡ y)) e (tie_one _ (Cell i.frame (cell_index va)) act None x y))
 
 -- ---- a load
-pub reads_tie : (v w x : PortValue) (user : Bool) (va : ℕ) (a b : Result ℕ Stop) → GuestReads v w user va a → GuestReads v x user va b → Determined v w x (a ≡ b)
+pub reads_tie : (v w x : PortValue) (user : Bool) (va : ℕ) (a b : Result ℕ Stop) → GuestReads v w user va a → GuestReads v x user va b → Alike v w x (a ≡ b)
 reads_tie v w x user va _ _ (ways.GuestReads.barred r is steps same) (ways.GuestReads.barred s also more still) =
     both_made v w x _ _ _ steps more (λ us vs p q. inr (p ∙ sym q, ap (λ z. Err (Refused z)) (some_refusal r s (sym is ∙ also))))
 reads_tie v w x user va _ _ (ways.GuestReads.barred r is steps same) (ways.GuestReads.cached i word may has more still) = apart is may
@@ -118,7 +118,7 @@ Done = Result (Unit {0}) Stop
 
 module _ (v w x : PortValue) (user : Bool) (va val : ℕ) where
   abbrev pub Both : Done → Done → Type 0
-  Both a b = Determined v w x (a ≡ b)
+  Both a b = Alike v w x (a ≡ b)
 
   -- one that only walks, beside one that goes on to the cell
   ends_before : (r s : Walked) (us vs : List Visit) (y : ℕ) (E : Type 0) → (r ≡ s → ⊥) → Walks v user va true (Ok r) us → Then (Walks v user va true (Ok s)) (Only (at_cell (frame_of s.entry) (cell_index va) (Store val) y)) vs → Tie us vs E

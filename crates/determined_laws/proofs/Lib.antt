@@ -1,4 +1,6 @@
 pub mod Accesses
+pub mod Calls
+pub mod Courses
 pub mod Owners
 pub mod References
 pub mod Ties

@@ -38,7 +38,7 @@ where_tie : (b : Bool) (P : List Visit → Type 0) (us vs : List Visit) → ((us
 where_tie true P us vs t p q = t us vs p q
 where_tie false P us vs t p q = inr (p ∙ sym q, tt)
 
-then_tie : (P Q P' Q' : List Visit → Type 0) (us vs : List Visit) (E F : Type 0) (s : Then P Q us) (t : Then P' Q' vs) → Tie s.before t.before E → (E → Tie s.after t.after F) → Tie us vs F
+pub then_tie : (P Q P' Q' : List Visit → Type 0) (us vs : List Visit) (E F : Type 0) (s : Then P Q us) (t : Then P' Q' vs) → Tie s.before t.before E → (E → Tie s.after t.after F) → Tie us vs F
 then_tie P Q P' Q' us vs E F s t first next = tie_lists us vs _ _ _ s.list t.list (tie_then s.before t.before s.after t.after E F first (λ e g. next g))
 
 pub dies_tie : (f : ℕ) (want : PageType) (marked : Bool) (us vs : List Visit) → Dies f want marked us → Dies f want marked vs → Tie us vs (Unit {0})

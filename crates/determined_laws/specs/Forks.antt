@@ -53,11 +53,3 @@ AgreeLock _ _ = ⊥
 -- from v to w by exactly these steps, the newest first
 abbrev pub MadeBy : PortValue → PortValue → List Visit → Type 0
 MadeBy v w us = Does v w (λ vs. vs ≡ us)
-
--- from v to w, and from v to x: by lists that are the same with E, or fork
-pub record Determined (v w x : PortValue) (E : Type 0) : Type 0 where
-  pub us : List Visit
-  pub vs : List Visit
-  pub left : MadeBy v w us
-  pub right : MadeBy v x vs
-  pub tie : Tie us vs E

@@ -20,7 +20,8 @@ ghost use Rattle.m2p_map.specs.Found.{MapsBy};
 ghost use Rattle.tlb_walks.specs.Accesses.{GuestReads, GuestWrites};
 ghost use Rattle.tlb_walks.specs.Walks.{WalkBy};
 ghost use Rattle.tlb_walks.specs.declared.walks.Walked.{Walked};
-ghost use Rattle.determined_laws.specs.Forks.{Agree, AgreeLock, Determined, Tie};
+ghost use Rattle.determined_laws.specs.Courses.{Alike};
+ghost use Rattle.determined_laws.specs.Forks.{Agree, AgreeLock, Tie};
 
 /// The owners that an operation names, and whether the caller may do so (foreign_map `owners_for`).
 #[tactic(auto, using(crate::proofs::Owners::owners_tie))]
@@ -80,10 +81,10 @@ pub fn a_type_is_determined()
 
 /// A guest's load: by the own translations, and by the words that it finds (tlb_walks `guest_read`).
 pub fn a_guests_load_is_determined()
-    ensures { (v w x : PortValue) (user : Bool) (va : ℕ) (a b : Result ℕ Stop) → GuestReads v w user va a → GuestReads v x user va b → Determined v w x (a ≡ b) }
+    ensures { (v w x : PortValue) (user : Bool) (va : ℕ) (a b : Result ℕ Stop) → GuestReads v w user va a → GuestReads v x user va b → Alike v w x (a ≡ b) }
 {}
 
 /// A guest's store, in the same way (tlb_walks `guest_write`).
 pub fn a_guests_store_is_determined()
-    ensures { (v w x : PortValue) (user : Bool) (va val : ℕ) (a b : Result (Unit {0}) Stop) → GuestWrites v w user va val a → GuestWrites v x user va val b → Determined v w x (a ≡ b) }
+    ensures { (v w x : PortValue) (user : Bool) (va val : ℕ) (a b : Result (Unit {0}) Stop) → GuestWrites v w user va val a → GuestWrites v x user va val b → Alike v w x (a ≡ b) }
 {}

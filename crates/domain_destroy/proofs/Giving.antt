@@ -153,7 +153,7 @@ module _ {v u : PortValue} {f word : ℕ} (d : ℕ) (look : Moves v u (Refs f) L
           record {
             part = went_same v w d (Err (Paused (Lost (number (sizes_of v.post.machine) (Refs f)) from found))) rests clear (still_same ∙ same)
                 (record { deeds = []; are = All-nil _; serves = λ rose due. missed_serves rose }) (λ rose due. lost_why rose) tt
-                (clearing.GivesMark.lost u w count found (subst (λ y. Moves v u (Refs f) Load kinds.Look None y) (sym law.1) look) lost_it try);
+                (clearing.GivesMark.lost u w from count found (subst (λ y. Moves v u (Refs f) Load kinds.Look None y) (sym law.1) look) from_read lost_it try);
             unallocated = tt;
             others = tt;
           }
@@ -191,7 +191,7 @@ module _ {v u : PortValue} {f word : ℕ} (d : ℕ) (look : Moves v u (Refs f) L
           record {
             part = went_same v x d (Ok true) rests clear (mark_same v u w x f d same holds gives)
                 (record { deeds = Returns f ∷ []; are = All-cons (IsDestroyDeed v.post.machine d) (Returns f) [] tt (All-nil (IsDestroyDeed v.post.machine d)); serves = λ rose due. given_serves rose }) tt tt
-                (clearing.GivesMark.given u w x count (subst (λ y. Moves v u (Refs f) Load kinds.Look None y) (sym (law read took_off).1) look) took_off puts);
+                (clearing.GivesMark.given u w x (ref_write (Owned d true count)) count (subst (λ y. Moves v u (Refs f) Load kinds.Look None y) (sym (law read took_off).1) look) (from_read read took_off) took_off puts);
             unallocated = λ is. given_left;
             others = λ is. absurd cc;
           }

@@ -2,7 +2,7 @@
 use Rattle.std.specs.Prelude.{◌≡◌, ◌≢◌, ℕ, ◌<◌, Bool, true, false, List, [], Some, None, Result, Ok, Err}
 use Rattle.xp_words.specs.KindWords.{kind_fields, kind_write}
 use Rattle.xp_words.specs.Places.{number, sizes_of}
-use Rattle.xp_words.specs.RefWords.{ref_write}
+use Rattle.xp_words.specs.RefWords.{ref_read, ref_write}
 use Rattle.xp_words.specs.declared.kind.KindWord.{KindWord}
 use Rattle.xp_words.specs.declared.kind.PageType.TheVariants.{Desc}
 use Rattle.xp_words.specs.declared.place.Place.TheVariants.{Kind, Refs}
@@ -64,11 +64,10 @@ pub record SawOwn (u v : PortValue) (d f x : ℕ) : Type 0 where
 pub data GivesMark (d f : ℕ) (u : PortValue) : PortValue → Result Bool Stop → Type 0 where
   none : (w : PortValue) (y : ℕ) → Moves u w (Refs f) Load kinds.Look None y → is_unallocated y ≡ true → GivesMark d f u w (Ok true)
   others : (w : PortValue) (y : ℕ) → Moves u w (Refs f) Load kinds.Look None y → is_unallocated y ≡ false → owner_of y ≢ Some d → GivesMark d f u w (Ok false)
-  given : (a b w : PortValue) (count : ℕ) → Moves u a (Refs f) Load kinds.Look None (ref_write (Owned d true count)) →
-      Moves a b (Refs f) (Cas (ref_write (Owned d true count)) (ref_write (Owned d false count))) kinds.Ref None (ref_write (Owned d true count)) → Puts b w f → GivesMark d f u w (Ok true)
-  lost : (a w : PortValue) (count found : ℕ) → Moves u a (Refs f) Load kinds.Look None (ref_write (Owned d true count)) → found ≢ ref_write (Owned d true count) →
-      Moves a w (Refs f) (Cas (ref_write (Owned d true count)) (ref_write (Owned d false count))) kinds.Ref None found →
-      GivesMark d f u w (Err (Paused (Lost (number (sizes_of u.post.machine) (Refs f)) (ref_write (Owned d true count)) found)))
+  given : (a b w : PortValue) (y count : ℕ) → Moves u a (Refs f) Load kinds.Look None y → ref_read y ≡ Some (Owned d true count) → Moves a b (Refs f) (Cas y (ref_write (Owned d false count))) kinds.Ref None y →
+      Puts b w f → GivesMark d f u w (Ok true)
+  lost : (a w : PortValue) (y count found : ℕ) → Moves u a (Refs f) Load kinds.Look None y → ref_read y ≡ Some (Owned d true count) → found ≢ y →
+      Moves a w (Refs f) (Cas y (ref_write (Owned d false count))) kinds.Ref None found → GivesMark d f u w (Err (Paused (Lost (number (sizes_of u.post.machine) (Refs f)) y found)))
 
 -- ---- one frame
 -- Its kind word is looked at first, and then whose it is: as no frame comes to a domain whose vCPUs are stopped, a mark of that word is one of the domain's.

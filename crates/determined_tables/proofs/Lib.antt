@@ -1,0 +1,13 @@
+pub mod Acquired
+pub mod Chains
+pub mod Descriptors
+pub mod Descs
+pub mod Entries
+pub mod Filling
+pub mod Gdt
+pub mod Leaves
+pub mod Loops
+pub mod Pages
+pub mod Tables
+pub mod Touching
+pub mod Whole
