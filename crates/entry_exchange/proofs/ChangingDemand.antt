@@ -1,13 +1,10 @@
 -- An exchange for a word that asks something else, call by call: what is in hand on the way, and its course.
-use Rattle.std.proofs.Common.{◌≡◌, ◌≢◌, ℕ, Bool, false, List, [], ◌∷◌, length, Option, Ok, Err, refl, sym, ap, ◌∙◌, subst}
+use Rattle.std.proofs.Common.{◌≡◌, ◌≢◌, ℕ, ◌<◌, ◌≤◌, Bool, false, [], ◌∷◌, length, Option, Some, Ok, Err, refl, sym, ap, ◌∙◌, subst}
 use Rattle.xp_words.specs.Entries.{demand_at}
-use Rattle.xp_words.specs.Machine.{IsMachine}
 use Rattle.xp_words.specs.declared.entry.Demand.{Demand}
 use Rattle.xp_words.specs.declared.entry.Demand.TheVariants.{Bad}
 use Rattle.xp_words.specs.declared.reply.Stop.{Stop}
 use Rattle.xp_board.specs.declared.holdings.Lock.{Lock}
-use Rattle.xp_board.specs.declared.holdings.Reference.{Reference}
-use Rattle.xp_board.specs.declared.holdings.TypedReference.{TypedReference}
 use Rattle.xp_board.specs.After.{learned_lock}
 use Rattle.xp_board.specs.Told.{Post, PortValue}
 use Rattle.step_maker.specs.Holds.{MayWork}
@@ -20,15 +17,15 @@ use Rattle.partial_state.specs.Levels.{level_type}
 use Rattle.entry_exchange.specs.declared.exchanging.EntryUpdate.{EntryUpdate}
 use Rattle.entry_exchange.specs.Course.{ExchangesBy, GaveDemand, LeftLock, PutEntry, SawEntry, new_demand, old_demand}
 use Rattle.entry_exchange.specs.Course as courses
-use Rattle.entry_exchange.specs.Holding.{HoldsLockOf, LeavesExchange, LeavesUnlocked, owner_at}
+use Rattle.entry_exchange.specs.Holding.{LeavesExchange, LeavesUnlocked, MayLeaveLock, owner_at}
 use Rattle.entry_exchange.specs.Parts.{DemandChanged, DemandGiven, DemandReleased, DemandTaken, EntryPut, HoldsFreed, HoldsSeen, HoldsTaken, IsInside, IsOfLevel, LeavesGone, LockLeft}
 use Rattle.entry_exchange.specs.Words.{same_demand, word_kept}
 use Rattle.entry_exchange.proofs.ServesDone.{done_serves, lost_serves, lost_stops, untaken_serves, untaken_stops}
 use Rattle.xp_preempt.specs.Gates.{Gate}
 use Rattle.xp_preempt.proofs.Consulting.{past_as, past_then}
 use Rattle.step_maker.proofs.Coming.{came_trans}
-use Rattle.entry_exchange.proofs.Hands.{Stands, changed_stands, gone, is_from, is_taken, lock_here, off_stands, refs_from, refs_of, took_stands, typed_from, typed_of, unset_stands, untaken_stands, works_are}
-use Rattle.entry_exchange.proofs.Standing.{begins, holds_freed, holds_taken, leaves, lock_of, may_change, seen_keeps}
+use Rattle.entry_exchange.proofs.Hands.{Stands, changed_stands, gone, is_from, is_taken, lock_here, off_stands, refs_from, refs_of, took_stands, typed_from, typed_of, unset_stands, untaken_stands}
+use Rattle.entry_exchange.proofs.Standing.{begins, holds_freed, holds_taken, leaves, leaves_lock, may_change, may_standing, seen_keeps}
 use Rattle.entry_exchange.proofs.ServesWords.{fits_level}
 use Rattle.entry_exchange.proofs.Staying.{may_map}
 
@@ -39,14 +36,6 @@ of_level level i w d is fits = subst (λ y. IsOfLevel level y) (sym is) (fits_le
 -- what is lost is not for the gate
 pub undue : {v w : PortValue} {f i seen new : ℕ} {keep : Bool} {e : Stop} → PutEntry v w f i seen new keep (Err e) → is_due_answer {A = Unit {0}} (Err e) ≡ false
 undue (courses.lost found off try) = refl
-
-pub may_standing : (v w : PortValue) (rs : List Reference) (ys : List TypedReference) (ls : List Lock) (a b : Option ℕ) → Stands v w rs ys ls a b → MayWork v → MayWork w
-may_standing v w rs ys ls a b stands may =
-    record {
-      running = ap (λ (q : PortValue). q.holdings.run) stands ∙ may.running;
-      no_walk = ap (λ (q : PortValue). q.holdings.walk) stands ∙ may.no_walk;
-      machine = subst (λ (p : Post). IsMachine p.machine) (sym (ap (λ (q : PortValue). q.post) stands)) may.machine;
-    }
 
 module _ {v : PortValue} (x : EntryUpdate) (o : Owners) {seen : ℕ} (locked : HoldsSeen v x.table x.level o.tables x.index seen) where
   abbrev the_lock : Lock
@@ -76,8 +65,8 @@ module _ {v : PortValue} (x : EntryUpdate) (o : Owners) {seen : ℕ} (locked : H
     untaken : (a : Option ℕ) × Stands v u [] [] (the_lock ∷ []) a v.holdings.old1
     untaken = untaken_stands v u wanted owner the_lock stop begun took.hand
 
-    pub untaken_lock : HoldsLockOf u x.table x.level
-    untaken_lock = lock_of v u [] [] the_lock untaken.0 v.holdings.old1 untaken.1 x.table x.level locked.holds.frame locked.holds.kind
+    pub untaken_leaves : x.table < v.post.machine.frames → MayWork v → 1 ≤ x.level → x.level ≤ 4 → v.holdings.old1 ≡ Some 0 → MayLeaveLock u x.table x.level
+    untaken_leaves = leaves_lock v u [] [] the_lock untaken.0 v.holdings.old1 untaken.1 x.table x.level locked.holds.frame locked.holds.kind locked.holds.others.works
 
     pub untaken_changed : {w : PortValue} → wanted ≢ Bad → same_demand wanted (old_demand x seen) ≡ false → LockLeft u w x.table x.level →
         DemandChanged v w x o seen g h (Err stop)
@@ -118,11 +107,8 @@ module _ {v : PortValue} (x : EntryUpdate) (o : Owners) {seen : ℕ} (locked : H
         given : (c : Option ℕ) × Stands v p [] [] (found_lock ∷ []) c v.holdings.old1
         given = gone v z (refs_of wanted owner) (typed_of wanted owner) (found_lock ∷ []) v.holdings.old0 v.holdings.old1 unput p wanted (is_taken wanted owner) gave.hand
 
-        pub given_lock : HoldsLockOf p x.table x.level
-        given_lock = lock_of v p [] [] found_lock given.0 v.holdings.old1 given.1 x.table x.level locked.holds.frame locked.holds.kind
-
-        pub given_works : p.holdings.works ≡ []
-        given_works = works_are v p [] [] (found_lock ∷ []) given.0 v.holdings.old1 given.1 locked.holds.others.works
+        pub given_leaves : x.table < v.post.machine.frames → MayWork v → 1 ≤ x.level → x.level ≤ 4 → v.holdings.old1 ≡ Some 0 → MayLeaveLock p x.table x.level
+        given_leaves = leaves_lock v p [] [] found_lock given.0 v.holdings.old1 given.1 x.table x.level locked.holds.frame locked.holds.kind locked.holds.others.works
 
         pub lost_changed : {w : PortValue} → wanted ≢ Bad → same_demand wanted (old_demand x seen) ≡ false → LockLeft p w x.table x.level →
             DemandChanged v w x o seen g h (Err stop)
@@ -157,11 +143,9 @@ module _ {v : PortValue} (x : EntryUpdate) (o : Owners) {seen : ℕ} (locked : H
           changed_stands v u z x.table x.index the_lock wanted owner v.holdings.old0 v.holdings.old1 locked.holds.frame locked.holds.others.works locked.holds.others.claimed taken new old
           (seen_keeps the_lock x.index seen new x.level locked.holds.kind locked.seen ∙ other) (ap (λ t. demand_at t x.index new) locked.holds.kind) put.hand
 
-      pub put_lock : HoldsLockOf z x.table x.level
-      put_lock = lock_of v z (refs_from freed since) (typed_from freed since) new_lock v.holdings.old0 v.holdings.old1 put_there x.table x.level locked.holds.frame locked.holds.kind
-
-      pub put_works : z.holdings.works ≡ []
-      put_works = works_are v z (refs_from freed since) (typed_from freed since) (new_lock ∷ []) v.holdings.old0 v.holdings.old1 put_there locked.holds.others.works
+      pub put_leaves : x.table < v.post.machine.frames → MayWork v → 1 ≤ x.level → x.level ≤ 4 → v.holdings.old1 ≡ Some 0 → MayLeaveLock z x.table x.level
+      put_leaves =
+          leaves_lock v z (refs_from freed since) (typed_from freed since) new_lock v.holdings.old0 v.holdings.old1 put_there x.table x.level locked.holds.frame locked.holds.kind locked.holds.others.works
 
       module _ {p : PortValue} (left : LockLeft z p x.table x.level) where
         unlocked : (c : Option ℕ) × Stands v p (refs_from freed since) (typed_from freed since) [] v.holdings.old0 c

@@ -1,5 +1,5 @@
 -- An exchange behind its look: what is in hand then, and where both words ask the same.
-use Rattle.std.proofs.Common.{◌≡◌, ℕ, ◌<◌, true, [], ◌∷◌, None, Result, Ok, Err, IfErr, refl, sym, ap, ◌∙◌, subst}
+use Rattle.std.proofs.Common.{◌≡◌, ℕ, ◌<◌, ◌≤◌, true, [], ◌∷◌, None, Some, Result, Ok, Err, IfErr, refl, sym, ap, ◌∙◌, subst}
 use Rattle.xp_words.specs.declared.entry.Demand.TheVariants.{Bad}
 use Rattle.xp_words.specs.declared.reply.Refusal.TheVariants.{Reserved}
 use Rattle.xp_words.specs.declared.reply.Stop.{Stop}
@@ -17,10 +17,10 @@ use Rattle.foreign_map.specs.declared.owners.Owners.{Owners}
 use Rattle.entry_exchange.specs.declared.exchanging.EntryUpdate.{EntryUpdate}
 use Rattle.entry_exchange.specs.Course.{Exchanged, ExchangesBy, LeftLock, PutEntry, SawEntry, new_demand, old_demand}
 use Rattle.entry_exchange.specs.Course as courses
-use Rattle.entry_exchange.specs.Holding.{HoldsLockOf, HoldsTableLock, LeavesExchange, LeavesUnlocked}
+use Rattle.entry_exchange.specs.Holding.{HoldsTableLock, LeavesExchange, LeavesUnlocked, MayLeaveLock}
 use Rattle.entry_exchange.specs.Parts.{DemandChanged, EntryExchanged, EntryPut, HoldsSeen, LeavesPut, LockLeft}
 use Rattle.entry_exchange.specs.Words.{same_demand, word_kept}
-use Rattle.entry_exchange.proofs.ChangingDemand.{may_standing, undue}
+use Rattle.entry_exchange.proofs.ChangingDemand.{undue}
 use Rattle.entry_exchange.proofs.ServesDone.{bad_serves, bad_stops, same_serves, unput_serves, unput_stops}
 use Rattle.entry_exchange.proofs.Steps.{exchange_short}
 use Rattle.xp_preempt.specs.Gates.{Gate}
@@ -31,8 +31,8 @@ use Rattle.entry_exchange.specs.Asking.{ServesExchange, of_exchange}
 use Rattle.xp_words.specs.declared.place.Place.TheVariants.{Cell}
 use Rattle.xp_board.specs.declared.step.Act.TheVariants.{Load}
 use Rattle.xp_board.specs.declared.step.StepKind.TheVariants as kinds
-use Rattle.entry_exchange.proofs.Hands.{Stands, kept_stands, off_stands, unset_stands, works_are}
-use Rattle.entry_exchange.proofs.Standing.{holds_seen, leaves, leaves_behind, rests_then, lock_of, looked_stands, may_same, seen_keeps}
+use Rattle.entry_exchange.proofs.Hands.{Stands, kept_stands, off_stands, unset_stands}
+use Rattle.entry_exchange.proofs.Standing.{holds_seen, leaves, leaves_behind, leaves_lock, looked_stands, may_same, may_standing, rests_then, seen_keeps}
 use Rattle.entry_exchange.proofs.Staying.{may_map}
 
 module _ {v b : PortValue} (x : EntryUpdate) (o : Owners) {seen : ℕ} (holds : HoldsTableLock v x.table x.level o.tables) (saw : SawEntry v b x.table x.index seen)
@@ -49,12 +49,9 @@ module _ {v b : PortValue} (x : EntryUpdate) (o : Owners) {seen : ℕ} (holds : 
   behind : Stands v b [] [] (seen_lock ∷ []) v.holdings.old0 v.holdings.old1
   behind = looked_stands v x.table x.level o.tables holds b x.index seen looked
 
-  -- the frames of the machine are the same behind steps
-  frames_then : (w : PortValue) → Came v w → x.table < v.post.machine.frames → x.table < w.post.machine.frames
-  frames_then w came inside = subst (λ (p : Post). x.table < p.machine.frames) (sym (came_post v w came)) inside
-
+  -- the frames of the machine are the same behind the look
   pub look_frame : x.table < v.post.machine.frames → x.table < b.post.machine.frames
-  look_frame inside = frames_then b came_look inside
+  look_frame inside = subst (λ (p : Post). x.table < p.machine.frames) (sym (came_post v b came_look)) inside
 
   pub look_may : MayWork v → MayWork b
   look_may may = may_standing v b [] [] (seen_lock ∷ []) v.holdings.old0 v.holdings.old1 behind may
@@ -68,11 +65,8 @@ module _ {v b : PortValue} (x : EntryUpdate) (o : Owners) {seen : ℕ} (holds : 
   pub look_old1 : b.holdings.old1 ≡ v.holdings.old1
   look_old1 = ap (λ (q : PortValue). q.holdings.old1) behind
 
-  pub look_lock : HoldsLockOf b x.table x.level
-  look_lock = lock_of v b [] [] seen_lock v.holdings.old0 v.holdings.old1 behind x.table x.level holds.frame holds.kind
-
-  pub look_works : b.holdings.works ≡ []
-  look_works = works_are v b [] [] (seen_lock ∷ []) v.holdings.old0 v.holdings.old1 behind holds.others.works
+  pub look_leaves : x.table < v.post.machine.frames → MayWork v → 1 ≤ x.level → x.level ≤ 4 → v.holdings.old1 ≡ Some 0 → MayLeaveLock b x.table x.level
+  look_leaves = leaves_lock v b [] [] seen_lock v.holdings.old0 v.holdings.old1 behind x.table x.level holds.frame holds.kind holds.others.works
 
   pub look_seen : HoldsSeen b x.table x.level o.tables x.index seen
   look_seen = holds_seen v x.table x.level o.tables holds b x.index seen looked
@@ -131,20 +125,8 @@ module _ {v b : PortValue} (x : EntryUpdate) (o : Owners) {seen : ℕ} (holds : 
       abbrev kept_lock : Lock
       kept_lock = learned_lock x.index kept.0 seen_lock
 
-      pub keep_frame : x.table < v.post.machine.frames → x.table < z.post.machine.frames
-      keep_frame inside = frames_then z (came_trans v b z came_look put.came) inside
-
-      pub keep_may : MayWork v → MayWork z
-      keep_may may = may_standing v z [] [] (kept_lock ∷ []) v.holdings.old0 v.holdings.old1 kept.1 may
-
-      pub keep_old1 : z.holdings.old1 ≡ v.holdings.old1
-      keep_old1 = ap (λ (q : PortValue). q.holdings.old1) kept.1
-
-      pub keep_lock : HoldsLockOf z x.table x.level
-      keep_lock = lock_of v z [] [] kept_lock v.holdings.old0 v.holdings.old1 kept.1 x.table x.level holds.frame holds.kind
-
-      pub keep_works : z.holdings.works ≡ []
-      keep_works = works_are v z [] [] (kept_lock ∷ []) v.holdings.old0 v.holdings.old1 kept.1 holds.others.works
+      pub keep_leaves : x.table < v.post.machine.frames → MayWork v → 1 ≤ x.level → x.level ≤ 4 → v.holdings.old1 ≡ Some 0 → MayLeaveLock z x.table x.level
+      keep_leaves = leaves_lock v z [] [] kept_lock v.holdings.old0 v.holdings.old1 kept.1 x.table x.level holds.frame holds.kind holds.others.works
 
       keep_came : (w : PortValue) → LockLeft z w x.table x.level → Came v w
       keep_came w left = came_trans v b w came_look (came_trans b z w put.came left.came)

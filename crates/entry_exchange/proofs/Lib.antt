@@ -1,7 +1,6 @@
 pub mod ChangingDemand
 pub mod ExchangingEntry
 pub mod GivingDemand
-pub mod GivingTable
 pub mod Hands
 pub mod Inside
 pub mod KeptBits

@@ -1,5 +1,5 @@
 -- What an entry asks is given back or released, and the lock goes off: what a guest sees of it.
-use Rattle.std.proofs.Common.{◌≡◌, ◌⊎◌, ℕ, ◌+◌, List, [], ◌∷◌, None, IsTrue, Result, Ok, Err, IfErr, refl, rules, ap, subst, inl, inr}
+use Rattle.std.proofs.Common.{◌≡◌, ℕ, ◌+◌, [], None, IsTrue, Result, Ok, Err, IfErr, refl, rules, ap, subst, inl}
 use Rattle.xp_words.specs.KindWords.{kind_write}
 use Rattle.xp_words.specs.Machine.{Machine}
 use Rattle.xp_words.specs.declared.entry.Demand.TheVariants.{Read, Typed}
@@ -16,12 +16,11 @@ use Rattle.xp_board.specs.Told.{Post, PortValue}
 use Rattle.xp_board.proofs.Sums.{when_eq}
 use Rattle.step_maker.specs.Moves.{Met, Moves}
 use Rattle.step_maker.proofs.Coming.{came_post}
-use Rattle.step_maker.specs.Answers.{Deed, Misses, Serves, misses}
+use Rattle.step_maker.specs.Answers.{Serves, misses}
 use Rattle.step_maker.specs.Asked.{Within, back, of_back}
 use Rattle.step_maker.specs.Finding.{Finding}
 use Rattle.step_maker.proofs.Grown.{grown_by, risen}
 use Rattle.step_maker.proofs.Piecing.{serves_back, serves_came, serves_step, serves_within, within_back}
-use Rattle.kept_marks.specs.Marks.{IsForeign, ServesKept}
 use Rattle.kept_marks.proofs.Serving.{asked_later, left_serves}
 use Rattle.kind_words.specs.Kinds.{MayLeave}
 use Rattle.level_release.specs.Asking.{of_release}
@@ -38,19 +37,6 @@ behind_back v w f gives u r ds before asked locks =
       hidden = inl refl;
       serves = serves_back u v w r ds [] before f (asked_later u v w r f (serves_came v w (of_back f) [] gives) asked) gives;
     }
-
--- and one that leaves it with its mark
-pub behind_kept : (v a w : PortValue) (f owner : ℕ) → Serves v a (of_back f) [] → ServesKept a w f owner → ServesTable v w f
-behind_kept v a w f owner gives kept u r ds before asked locks =
-    let came = serves_came v a (of_back f) [] gives in
-    let later = asked_later u v a r f came asked in
-    let there = serves_back u v a r ds [] before f later gives in
-    let marked = kept u r ds there later (λ foreign. locks) in
-    record { more = marked.more; hidden = seen u marked.more marked.hidden; serves = marked.serves }
-  where
-    seen : (u : PortValue) (more : List Deed) → (more ≡ []) ⊎ (IsForeign u owner × (more ≡ Misses (Kind f) ∷ [])) → (more ≡ []) ⊎ ((g : ℕ) × (more ≡ Misses (Kind g) ∷ []))
-    seen u more (inl none) = inl none
-    seen u more (inr one) = inr (f, one.1)
 
 -- ---- released
 within_given : (n : Machine) (s f owner pages : ℕ) (t : PageType) (answer : Result (Unit {0}) Stop) (F : Finding) → Within n s (of_release f owner pages answer) F (of_given (Typed f t) owner pages) F

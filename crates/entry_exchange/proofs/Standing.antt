@@ -1,6 +1,7 @@
 -- The table under the own lock along an exchange: what each part of it needs, and what is in hand at the end.
-use Rattle.std.proofs.Common.{◌≡◌, ℕ, ◌≤◌, if◌then◌else◌, true, false, List, [], ◌∷◌, length, Option, Some, refl, sym, ap, ◌∙◌, subst, inl, inr}
+use Rattle.std.proofs.Common.{◌≡◌, ℕ, ◌<◌, ◌≤◌, if◌then◌else◌, true, false, List, [], ◌∷◌, length, Option, Some, refl, sym, ap, ◌∙◌, subst, inl, inr}
 use Rattle.xp_words.specs.Entries.{demand_at}
+use Rattle.xp_words.specs.Machine.{IsMachine}
 use Rattle.xp_words.specs.Places.{sizes_of}
 use Rattle.xp_words.specs.declared.entry.Demand.{Demand}
 use Rattle.xp_words.specs.declared.entry.Demand.TheVariants.{Bad, Nothing, Read, Typed}
@@ -14,7 +15,7 @@ use Rattle.xp_board.specs.declared.holdings.Seen.{Seen}
 use Rattle.xp_board.specs.Hands.{lock_on}
 use Rattle.xp_board.specs.KindSteps.{live_typed}
 use Rattle.xp_board.specs.Settling.{HasDemand}
-use Rattle.xp_board.specs.Told.{PortValue}
+use Rattle.xp_board.specs.Told.{Post, PortValue}
 use Rattle.xp_board.proofs.ListCounts.{first_by-cons_here}
 use Rattle.xp_board.proofs.Sums.{when_eq}
 use Rattle.step_maker.specs.Holds.{Holds, MayWork, Rests, quiet}
@@ -24,9 +25,9 @@ use Rattle.foreign_map.specs.Owning.{MayMapFor}
 use Rattle.foreign_map.specs.declared.owners.Owners.{Owners}
 use Rattle.kind_words.proofs.KindHands.{known_first}
 use Rattle.partial_state.specs.Levels.{level_type}
-use Rattle.entry_exchange.specs.Holding.{HoldsLockOf, HoldsTableLock, LeavesExchange, owner_at}
+use Rattle.entry_exchange.specs.Holding.{HoldsTableLock, LeavesExchange, MayLeaveLock, owner_at}
 use Rattle.entry_exchange.specs.Parts.{HoldsFreed, HoldsSeen, HoldsTaken, IsOfLevel}
-use Rattle.entry_exchange.proofs.Hands.{Stands, locks_are, refs_from, refs_of, stands_self, typed_from, typed_of, unset_stands}
+use Rattle.entry_exchange.proofs.Hands.{Stands, locks_are, refs_from, refs_of, stands_self, typed_from, typed_of, unset_stands, works_are}
 use Rattle.entry_exchange.proofs.Putting.{has_read, has_typed}
 
 -- ---- whether the new word asks the same as the one seen
@@ -94,13 +95,30 @@ module _ (v : PortValue) (f level owner : ℕ) (holds : HoldsTableLock v f level
         leaves out.0 out.1 (out.2 ∙ ap (λ (y : PortValue). quiet (record y { holdings = record y.holdings { locks = []; old0 = out.0; old1 = out.1 } })) stands)
 
 -- ---- at any port on the way
+pub may_standing : (v w : PortValue) (rs : List Reference) (ys : List TypedReference) (ls : List Lock) (a b : Option ℕ) → Stands v w rs ys ls a b → MayWork v → MayWork w
+may_standing v w rs ys ls a b stands may =
+    record {
+      running = ap (λ (q : PortValue). q.holdings.run) stands ∙ may.running;
+      no_walk = ap (λ (q : PortValue). q.holdings.walk) stands ∙ may.no_walk;
+      machine = subst (λ (p : Post). IsMachine p.machine) (sym (ap (λ (q : PortValue). q.post) stands)) may.machine;
+    }
+
 module _ (v y : PortValue) (rs : List Reference) (ys : List TypedReference) (e : Lock) (a b : Option ℕ) (stands : Stands v y rs ys (e ∷ []) a b) where
-  pub lock_of : (f level : ℕ) → e.frame ≡ f → e.kind ≡ level_type level → HoldsLockOf y f level
-  lock_of f level at kind =
+  -- the lock may go off, where that of a table of that level is in hand at v, and no old word
+  pub leaves_lock : (f level : ℕ) → e.frame ≡ f → e.kind ≡ level_type level → v.holdings.works ≡ [] → f < v.post.machine.frames → MayWork v → 1 ≤ level → level ≤ 4 → b ≡ Some 0 → MayLeaveLock y f level
+  leaves_lock f level at kind works inside may low high room =
       record {
-        lock = e;
-        here = ap (λ ls. lock_on f ls) (locks_are v y rs ys (e ∷ []) a b stands) ∙ first_by-cons_here (λ (x : Lock). x.frame) f e [] at;
-        kind = kind;
+        frame = subst (λ (p : Post). f < p.machine.frames) (sym (ap (λ (q : PortValue). q.post) stands)) inside;
+        may = may_standing v y rs ys (e ∷ []) a b stands may;
+        low = low;
+        high = high;
+        locked = record {
+          lock = e;
+          here = ap (λ ls. lock_on f ls) (locks_are v y rs ys (e ∷ []) a b stands) ∙ first_by-cons_here (λ (x : Lock). x.frame) f e [] at;
+          kind = kind;
+        };
+        works = works_are v y rs ys (e ∷ []) a b stands works;
+        room = ap (λ (q : PortValue). q.holdings.old1) stands ∙ room;
       }
 
 -- ---- the exchange may be made

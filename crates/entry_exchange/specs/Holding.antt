@@ -1,5 +1,5 @@
 -- What is in hand on the way of an exchange: the lock of one table, and what the new word asks.
-use Rattle.std.specs.Prelude.{◌≡◌, ◌⊎◌, ℕ, ◌+◌, ◌==◌, if◌then◌else◌, [], ◌∷◌, Option, Some, Result, Ok, Err}
+use Rattle.std.specs.Prelude.{◌≡◌, ◌⊎◌, ℕ, ◌+◌, ◌<◌, ◌≤◌, ◌==◌, if◌then◌else◌, [], ◌∷◌, Option, Some, Result, Ok, Err}
 use Rattle.xp_words.specs.declared.entry.Demand.{Demand}
 use Rattle.xp_words.specs.declared.entry.Demand.TheVariants as demands
 use Rattle.xp_words.specs.declared.reply.Stop.{Stop}
@@ -9,7 +9,7 @@ use Rattle.xp_board.specs.declared.holdings.OwnerFound.TheVariants as owners
 use Rattle.xp_board.specs.Hands.{IsEmptyHand, lock_on, without_lock}
 use Rattle.xp_board.specs.KindSteps.{live_typed}
 use Rattle.xp_board.specs.Told.{PortValue}
-use Rattle.step_maker.specs.Holds.{FlushedHolds, Holds}
+use Rattle.step_maker.specs.Holds.{FlushedHolds, Holds, MayWork}
 use Rattle.partial_state.specs.Levels.{level_type}
 use Rattle.frame_words.specs.Refs.{took}
 
@@ -19,6 +19,16 @@ pub record HoldsLockOf (v : PortValue) (f level : ℕ) : Type 0 where
   pub lock : Lock
   pub here : lock_on f v.holdings.locks ≡ Some lock
   pub kind : lock.kind ≡ level_type level
+
+-- what `leave_lock` asks
+pub record MayLeaveLock (v : PortValue) (f level : ℕ) : Type 0 where
+  pub frame : f < v.post.machine.frames
+  pub may : MayWork v
+  pub low : 1 ≤ level
+  pub high : level ≤ 4
+  pub locked : HoldsLockOf v f level
+  pub works : v.holdings.works ≡ []
+  pub room : v.holdings.old1 ≡ Some 0
 
 -- it is gone, with its reference; or the second old word names the table
 abbrev pub LeavesUnlocked : PortValue → PortValue → ℕ → Type 0

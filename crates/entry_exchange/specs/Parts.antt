@@ -1,16 +1,13 @@
 -- The parts of an exchange: what each needs, and what it leaves in hand.
-use Rattle.std.specs.Prelude.{◌≡◌, ℕ, ◌+◌, ◌*◌, ◌<◌, ◌≤◌, Bool, true, false, List, [], ◌∷◌, length, Option, Some, Result, Ok, Err, IfOk, IfErr}
+use Rattle.std.specs.Prelude.{◌≡◌, ℕ, ◌+◌, ◌*◌, ◌<◌, ◌≤◌, Bool, false, List, [], ◌∷◌, length, Option, Some, Result, Ok, Err, IfOk, IfErr}
 use Rattle.xp_words.specs.Entries.{below, demand_at}
 use Rattle.xp_words.specs.Machine.{Machine}
 use Rattle.xp_words.specs.declared.entry.Demand.{Demand}
 use Rattle.xp_words.specs.declared.entry.Demand.TheVariants as demands
-use Rattle.xp_words.specs.declared.kind.PageType.{PageType}
 use Rattle.xp_words.specs.declared.reply.Stop.{Stop}
 use Rattle.xp_board.specs.declared.holdings.Lock.{Lock}
-use Rattle.xp_board.specs.declared.holdings.OwnerFound.TheVariants as owners
 use Rattle.xp_board.specs.declared.holdings.Reference.{Reference}
 use Rattle.xp_board.specs.Hands.{lock_on}
-use Rattle.xp_board.specs.KindSteps.{live_typed}
 use Rattle.xp_board.specs.Settling.{demand_out}
 use Rattle.xp_board.specs.Told.{PortValue}
 use Rattle.step_maker.specs.Holds.{Holds, Rests}
@@ -18,19 +15,16 @@ use Rattle.step_maker.specs.Moves.{Came}
 use Rattle.step_maker.specs.Answers.{Serves, Stops}
 use Rattle.step_maker.specs.Asked.{of_back}
 use Rattle.entry_locks.specs.Entries.{entry_set, entry_unset}
-use Rattle.frame_types.specs.Lowering.{DropsType}
-use Rattle.kept_marks.specs.Marks.{KeptFor}
-use Rattle.kind_words.specs.Kinds.{partial_kind}
 use Rattle.level_release.specs.Asking.{is_due_answer}
 use Rattle.level_release.specs.Holding.{HoldsLive}
+use Rattle.level_release.specs.Parking.{HoldsTyped}
 use Rattle.partial_state.specs.Levels.{level_type}
-use Rattle.table_entries.specs.Acquiring.{GaveRef}
 use Rattle.entry_exchange.specs.declared.exchanging.EntryUpdate.{EntryUpdate}
 use Rattle.foreign_map.specs.declared.owners.Owners.{Owners}
 use Rattle.entry_exchange.specs.Asking.{ServesExchange, of_exchange}
 use Rattle.entry_exchange.specs.Course.{ExchangesBy, GaveDemand, LeftLock, PutEntry, ReleasedDemand, SawEntry, TookDemand}
 use Rattle.entry_exchange.specs.Holding.{HoldsTableLock, LeavesDemand, LeavesExchange, LeavesUnlocked}
-use Rattle.entry_exchange.specs.Serving.{ServesGiven, ServesPut, ServesTable, ServesTaken, StopsPut, of_demand, of_given}
+use Rattle.entry_exchange.specs.Serving.{ServesGiven, ServesPut, ServesTaken, StopsPut, of_demand, of_given}
 use Rattle.level_validate.specs.Acquiring.{IsAcquireStop}
 use Rattle.xp_preempt.specs.Gates.{Gate, GatedPast}
 
@@ -49,13 +43,7 @@ IsOfLevel level (demands.Read g) = Unit {0}
 IsOfLevel level (demands.Typed g t) = t ≡ below (level_type level)
 
 -- ---- what is in hand of a demand
--- a typed reference to that frame, known live as that type and that domain's, is the only one; no frame is in work, and no look unfinished
-pub record HoldsTyped (v : PortValue) (f : ℕ) (kind : PageType) (owner : ℕ) : Type 0 where
-  pub works : v.holdings.works ≡ []
-  pub looking : v.holdings.looking ≡ []
-  pub typed : v.holdings.typed ≡ live_typed f kind (owners.Of owner) ∷ []
-
--- an untyped one to that frame is the newest
+-- an untyped reference to that frame is the newest; no frame is in work
 pub record HoldsRef (v : PortValue) (f : ℕ) : Type 0 where
   pub works : v.holdings.works ≡ []
   pub reference : Reference
@@ -79,9 +67,6 @@ HoldsFreed v _ = Unit {0}
 abbrev pub LeavesGone : PortValue → PortValue → Demand → Type 0
 LeavesGone v w d = (a : Option ℕ) × Holds v w (record (demand_out d v.holdings) { old0 = a })
 
-abbrev pub LeavesUntyped : PortValue → PortValue → Type 0
-LeavesUntyped v w = (a : Option ℕ) × Holds v w (record v.holdings { typed = []; old0 = a })
-
 -- the entry has the new word, or is as it was found
 abbrev pub LeavesPut : PortValue → PortValue → ℕ → ℕ → ℕ → Result ℕ Stop → Type 0
 LeavesPut v w f i new (Ok old) = Holds v w (entry_set f i new old v.holdings)
@@ -101,10 +86,6 @@ abbrev pub BehindLook : PortValue → EntryUpdate → Owners → ℕ → (PortVa
 BehindLook v x o seen P = (a : PortValue) → HoldsTableLock a x.table x.level o.tables → SawEntry a v x.table x.index seen → P a
 
 -- ---- courses
-pub data GaveTable (v : PortValue) (f level owner : ℕ) : PortValue → Type 0 where
-  shared : (u w : PortValue) → DropsType v u f false → GaveRef u w f → GaveTable v f level owner w
-  last : (u w : PortValue) → DropsType v u f true → KeptFor u w f (partial_kind (level_type level) true false 512 0) owner → GaveTable v f level owner w
-
 abbrev pub TakesDemand : PortValue → PortValue → ℕ → ℕ → Demand → Gate → Gate → Result (Unit {0}) Stop → Type 0
 TakesDemand v w owner level d g h answer = GatedPast g h (is_due_answer answer) (λ answers. TookDemand owner level v d w answers answer)
 
@@ -132,12 +113,6 @@ pub record DemandGiven (v w : PortValue) (owner level : ℕ) (d : Demand) : Type
   pub serves : ServesGiven v w d
   pub hand : LeavesGone v w d
   pub course : GaveDemand owner level v d w
-
-pub record TableGiven (v w : PortValue) (f level owner : ℕ) : Type 0 where
-  pub came : Came v w
-  pub serves : ServesTable v w f
-  pub hand : LeavesUntyped v w
-  pub course : GaveTable v f level owner w
 
 pub record EntryPut (v w : PortValue) (f i seen new : ℕ) (keep : Bool) (answer : Result ℕ Stop) : Type 0 where
   pub came : Came v w

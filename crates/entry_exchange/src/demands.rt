@@ -2,19 +2,15 @@
 
 ghost use Rattle.std.specs.Prelude.{◌≡◌, ◌-◌, ◌<◌, ◌≤◌, Some, true, length};
 ghost use Rattle.step_maker.specs.Holds.{MayWork};
-ghost use Rattle.partial_state.specs.Levels.{level_type};
 ghost use Rattle.level_validate.specs.Tables.{IsIdle};
 ghost use Rattle.table_words.specs.OldWords.{known_old};
 ghost use Rattle.table_words.specs.declared.old_words.OldWord.TheVariants.{First};
-ghost use Rattle.entry_exchange.specs.Parts.{DemandGiven, DemandReleased, DemandTaken, HoldsFreed, HoldsTaken, HoldsTyped, IsInside, IsOfLevel, TableGiven};
+ghost use Rattle.entry_exchange.specs.Parts.{DemandGiven, DemandReleased, DemandTaken, HoldsFreed, HoldsTaken, IsInside, IsOfLevel};
 
-use frame_types::{drop_plain, drop_type};
+use frame_types::drop_plain;
 use frame_words::{get_ref, put_ref};
-use kept_marks::leave_kept;
-use kind_words::partial_kind;
-use level_release::release;
+use level_release::{park, release};
 use level_validate::acquire;
-use partial_state::level_type;
 use writable_pages::get_page;
 use xp_board::Port;
 use xp_preempt::Preempt;
@@ -70,31 +66,8 @@ pub(crate) fn give_demand<P: Port>(port: &mut P, level: u8, owner: u16, wanted: 
         Demand::Typed { frame, .. } if level == 1 => {
             drop_plain(port, frame as u32, PageType::Writable);
         }
-        Demand::Typed { frame, .. } => give_table(port, frame as u32, level - 1, owner),
-    }
-}
-
-// Gives a typed reference to a live table back. Where it was the last, the table is left partial with all its entries recorded, under its own
-// mark.
-fn give_table<P: Port>(port: &mut P, frame: u32, level: u8, owner: u16)
-    requires frame { frame < (P.value port.old).post.machine.frames }
-    requires may { MayWork (P.value port.old) }
-    requires low { 1 ≤ level }
-    requires high { level ≤ 4 }
-    requires real { owner < length (P.value port.old).post.machine.page_limit }
-    requires holds { HoldsTyped (P.value port.old) frame (level_type level) owner }
-    requires room { known_old First (P.value port.old).holdings ≡ Some 0 }
-    ensures { TableGiven (P.value port.old) (P.value port.new) frame level owner }
-{
-    if drop_type(port, frame) {
-        leave_kept(
-            port,
-            frame,
-            partial_kind(level_type(level), true, 512),
-            owner,
-        );
-    } else {
-        put_ref(port, frame);
+        // Where it was the last type count, the table is left partial under its own mark.
+        Demand::Typed { frame, .. } => park(port, frame as u32, level - 1, owner, true),
     }
 }
 

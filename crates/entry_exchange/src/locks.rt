@@ -1,9 +1,5 @@
 //! Entry locks that go off a table.
-ghost use Rattle.std.specs.Prelude.{◌≡◌, ◌<◌, ◌≤◌, [], Some};
-ghost use Rattle.step_maker.specs.Holds.{MayWork};
-ghost use Rattle.table_words.specs.OldWords.{known_old};
-ghost use Rattle.table_words.specs.declared.old_words.OldWord.TheVariants.{Second};
-ghost use Rattle.entry_exchange.specs.Holding.{HoldsLockOf};
+ghost use Rattle.entry_exchange.specs.Holding.{MayLeaveLock};
 ghost use Rattle.entry_exchange.specs.Parts.{LockLeft};
 
 use entry_locks::unlock_entry;
@@ -16,13 +12,7 @@ use xp_board::Port;
 /// Takes the own entry lock off a table of that level, and gives its reference back. Where the lock held the table's last type count, the table
 /// is left partial with all its entries recorded, and the second old word, which is known to name no frame, names it.
 pub fn leave_lock<P: Port>(port: &mut P, table: u32, level: u8)
-    requires frame { table < (P.value port.old).post.machine.frames }
-    requires may { MayWork (P.value port.old) }
-    requires low { 1 ≤ level }
-    requires high { level ≤ 4 }
-    requires locked { HoldsLockOf (P.value port.old) table level }
-    requires works { (P.value port.old).holdings.works ≡ [] }
-    requires room { known_old Second (P.value port.old).holdings ≡ Some 0 }
+    requires { MayLeaveLock (P.value port.old) table level }
     // What it promises are the fields of that record, in specs/Parts.antt.
     ensures { LockLeft (P.value port.old) (P.value port.new) table level }
 {

@@ -5,7 +5,7 @@ use Rattle.xp_words.specs.declared.reply.Stop.{Stop}
 use Rattle.xp_board.specs.declared.step.Act.TheVariants.{Load}
 use Rattle.xp_board.specs.declared.step.StepKind.TheVariants as kinds
 use Rattle.xp_board.specs.Told.{PortValue}
-use Rattle.step_maker.specs.Holds.{Same}
+use Rattle.step_maker.specs.Holds.{MayWork, Same}
 use Rattle.step_maker.specs.Moves.{Moves}
 use Rattle.step_maker.specs.Answers.{Serves, Stops, misses}
 use Rattle.step_maker.specs.Pauses.{IsElsewhere}
@@ -14,6 +14,14 @@ use Rattle.entry_locks.specs.Found.{LocksFound}
 use Rattle.entry_locks.specs.Locks.{IsLockStop, LeavesLocked, of_lock}
 use Rattle.entry_locks.specs.Plain.{TwinLock}
 use Rattle.entry_locks.specs.declared.locking.Locked.{Locked}
+
+-- what `lock_entry` asks, of a frame and the newest untyped reference in hand
+pub record MayLockEntry (v : PortValue) (f owner : ℕ) : Type 0 where
+  pub frame : f < v.post.machine.frames
+  pub may : MayWork v
+  pub lent : LentBy f owner v.holdings
+  pub apart : IsElsewhere f v.holdings
+  pub looked : v.holdings.looking ≡ []
 
 -- a look found that word, before any other step of the call; the vCPU has the frame in no own work
 pub record SeenToLock (b v : PortValue) (f owner word : ℕ) : Type 0 where

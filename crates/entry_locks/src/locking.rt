@@ -3,17 +3,16 @@ ghost use Rattle.std.specs.Prelude.{◌≡◌, ◌<◌, ℕ, [], true, None, Som
 ghost use Rattle.xp_words.specs.declared.place.Place.TheVariants.{Kind};
 ghost use Rattle.xp_board.specs.declared.holdings.Lock.{Lock};
 ghost use Rattle.xp_board.specs.declared.step.Act.TheVariants.{Add};
-ghost use Rattle.xp_board.specs.Hands.{ending_of, lock_on, work_on};
+ghost use Rattle.xp_board.specs.Hands.{lock_on, work_on};
 ghost use Rattle.xp_board.specs.KindSteps.{unlocked_down};
 ghost use Rattle.xp_board.specs.Told.{PortValue, is_telling, told_word};
 ghost use Rattle.step_maker.specs.Holds.{MayWork};
 ghost use Rattle.step_maker.specs.Plain.{Leaves, change};
 ghost use Rattle.step_maker.specs.Answers.{Serves, Stops, misses};
 ghost use Rattle.step_maker.specs.Asked.{of_back};
-ghost use Rattle.frame_types.specs.Taking.{LentBy};
 ghost use Rattle.entry_locks.specs.Found.{LocksFound};
 ghost use Rattle.entry_locks.specs.Locks.{IsLockStop, LeavesLocked, Unlocks, of_lock};
-ghost use Rattle.entry_locks.specs.Looked.{IsSeenToLock, SeenToLock, LocksAs};
+ghost use Rattle.entry_locks.specs.Looked.{IsSeenToLock, LocksAs, MayLockEntry, SeenToLock};
 ghost use Rattle.entry_locks.specs.Plain.{TwinLock};
 
 use crate::rows::{clear_lock, set_lock};
@@ -35,13 +34,7 @@ pub enum Locked {
 /// Locks a live table for one entry, under the untyped reference in hand, which becomes the lock. A table that another vCPU works on, or
 /// has locked, pauses it. A pause leaves the reference in hand. (Xen takes its page lock here, `page_lock` of `mm.c`.)
 pub fn lock_entry<P: Port>(port: &mut P, frame: u32, owner: u16) -> Result<Locked, Stop>
-    requires frame { frame < (P.value port.old).post.machine.frames }
-    requires may { MayWork (P.value port.old) }
-    requires lent { LentBy frame owner (P.value port.old).holdings }
-    requires apart { work_on frame (P.value port.old).holdings.works ≡ None }
-    requires unlocked { lock_on frame (P.value port.old).holdings.locks ≡ None }
-    requires lasting { ending_of frame (P.value port.old).holdings.ending ≡ None }
-    requires looked { (P.value port.old).holdings.looking ≡ [] }
+    requires { MayLockEntry (P.value port.old) frame owner }
     ensures serves { Serves (P.value port.old) (P.value port.new) (of_lock frame owner) (misses (P.value port.old).post.machine result) }
     ensures stops { IfErr result (λ e. Stops (P.value port.old) (P.value port.new) (of_lock frame owner) e) }
     ensures kinds { IfErr result IsLockStop }

@@ -21,7 +21,7 @@ use Rattle.xp_board.specs.KindSteps.{live_typed}
 use Rattle.xp_board.specs.Readings.{is_live_word, is_type, is_work}
 use Rattle.xp_board.specs.Steps.{some_since}
 use Rattle.xp_board.specs.Told.{PortValue}
-use Rattle.step_maker.specs.Holds.{FlushedHolds, Same}
+use Rattle.step_maker.specs.Holds.{FlushedHolds, MayWork, Same}
 use Rattle.step_maker.specs.Moves.{Came, Met, Moves}
 use Rattle.xp_board.specs.declared.step.Act.TheVariants.{Load}
 use Rattle.xp_board.specs.declared.step.StepKind.TheVariants as kinds
@@ -34,6 +34,7 @@ use Rattle.step_maker.specs.Reasons.{AwaitsStamp, OfOwner}
 use Rattle.step_maker.specs.Asked.{of_frame}
 use Rattle.flush_waits.specs.Waiting.{IsWait}
 use Rattle.frame_types.specs.Standing.{standing_of}
+use Rattle.frame_types.specs.declared.standing.Standing.{Standing}
 use Rattle.frame_types.specs.declared.standing.Standing.TheVariants as stands
 use Rattle.frame_types.specs.declared.taking.Counting.{Counting}
 use Rattle.frame_types.specs.declared.taking.Counting.TheVariants as countings
@@ -52,6 +53,17 @@ IsOfOther f want h = (e : Work) → work_on f h.works ≡ Some e → is_type (ki
 -- where the vCPU does not work on the frame, it has no typed reference to it; or it knows the frame live with that type by one
 abbrev pub IsAsideFor : Machine → ℕ → PageType → Holdings → Type 0
 IsAsideFor n f want h = work_on f h.works ≡ None → (typed_to f h.typed ≡ 0) ⊎ IsTrue (knows_live (sizes_of n) f want h)
+
+-- ---- what a call asks
+-- what `take_type` asks, of a frame and the newest untyped reference in hand
+pub record MayTakeType (v : PortValue) (f owner : ℕ) (want : PageType) : Type 0 where
+  pub frame : f < v.post.machine.frames
+  pub may : MayWork v
+  pub wanted : IsTrue (not (is_none want))
+  pub lent : LentBy f owner v.holdings
+  pub aside : IsAsideFor v.post.machine f want v.holdings
+  pub other : IsOfOther f want v.holdings
+  pub looked : v.holdings.looking ≡ []
 
 -- an untyped reference became a typed one, known live
 abbrev pub typed_as : ℕ → ℕ → PageType → Holdings → Holdings
@@ -148,6 +160,14 @@ pub record Looked (b v : PortValue) (f owner : ℕ) (want : PageType) (word : �
 
 abbrev pub IsLooked : PortValue → ℕ → ℕ → PageType → ℕ → Type 0
 IsLooked v f owner want word = (b : PortValue) × Looked b v f owner want word
+
+-- what the rest of the call asks, where a look just found that word, and the frame stands so to the type by it
+pub record MayTakeLooked (v : PortValue) (f owner : ℕ) (want : PageType) (word : ℕ) (Stands : Standing → Type 0) : Type 0 where
+  pub frame : f < v.post.machine.frames
+  pub may : MayWork v
+  pub wanted : IsTrue (not (is_none want))
+  pub looked : IsLooked v f owner want word
+  pub stands : (k : KindWord) → kind_read word ≡ Some k → Stands (standing_of k want)
 
 -- what the call ensures
 pub record Takes (v w : PortValue) (f owner : ℕ) (want : PageType) (answer : Result Taken Stop) : Type 0 where

@@ -1,8 +1,6 @@
 //! Frames that are taken for a type.
-ghost use Rattle.std.specs.Prelude.{◌≡◌, ◌<◌, List, [], true, not, Some, IfOk, IfErr, MatchResult, IsTrue};
+ghost use Rattle.std.specs.Prelude.{◌≡◌, ◌≢◌, ◌<◌, List, true, not, Some, IfOk, IfErr, MatchResult, IsTrue};
 ghost use Rattle.xp_board.specs.Told.{PortValue};
-ghost use Rattle.xp_words.specs.KindWords.{kind_read};
-ghost use Rattle.xp_words.specs.declared.kind.KindWord.{KindWord};
 ghost use Rattle.xp_words.specs.PageTypes.{is_none};
 ghost use Rattle.xp_words.specs.Places.{number, sizes_of};
 ghost use Rattle.xp_words.specs.declared.place.Place.TheVariants.{Kind};
@@ -14,9 +12,8 @@ ghost use Rattle.step_maker.specs.Asked.{of_frame};
 ghost use Rattle.flush_waits.specs.Waiting.{IsFlushed};
 ghost use Rattle.frame_types.specs.Found.{Finishes, Proceeds, TakesFound};
 ghost use Rattle.frame_types.specs.Plain.{TwinOn, TwinTake};
-ghost use Rattle.frame_types.specs.Standing.{standing_of};
-ghost use Rattle.frame_types.specs.declared.standing.Standing.TheVariants.{Dead, Partial};
-ghost use Rattle.frame_types.specs.Taking.{CountsAs, HasEntered, HoldsOn, IsAsideFor, IsDone, IsLooked, IsNotLive, IsOfOther, IsTypeStop, LeavesLive, LentBy, Looked, ServesOn, ShowsWait, Takes, TakesAs, WaitsOn, progress_of};
+ghost use Rattle.frame_types.specs.declared.standing.Standing.TheVariants.{Counted, Dead, Partial};
+ghost use Rattle.frame_types.specs.Taking.{CountsAs, HasEntered, HoldsOn, IsDone, IsNotLive, IsTypeStop, LeavesLive, Looked, MayTakeLooked, MayTakeType, ServesOn, ShowsWait, Takes, TakesAs, WaitsOn, progress_of};
 
 use crate::standing::{Standing, classify};
 use crate::words::{counts, is_read_first, progress_of};
@@ -52,13 +49,7 @@ pub fn take_type<P: Port>(
     owner: u16,
     want: PageType,
 ) -> Result<Taken, Stop>
-    requires frame { frame < (P.value port.old).post.machine.frames }
-    requires may { MayWork (P.value port.old) }
-    requires wanted { IsTrue (not (is_none want)) }
-    requires lent { LentBy frame owner (P.value port.old).holdings }
-    requires aside { IsAsideFor (P.value port.old).post.machine frame want (P.value port.old).holdings }
-    requires other { IsOfOther frame want (P.value port.old).holdings }
-    requires looked { (P.value port.old).holdings.looking ≡ [] }
+    requires { MayTakeType (P.value port.old) frame owner want }
     ensures serves { Serves (P.value port.old) (P.value port.new) (of_frame frame owner (Some want)) (misses (P.value port.old).post.machine result) }
     ensures stops { IfErr result (λ e. Stops (P.value port.old) (P.value port.new) (of_frame frame owner (Some want)) e) }
     ensures kinds { IfErr result IsTypeStop }
@@ -93,13 +84,7 @@ pub fn count_live<P: Port>(
     owner: u16,
     want: PageType,
 ) -> Result<Counting, Stop>
-    requires frame { frame < (P.value port.old).post.machine.frames }
-    requires may { MayWork (P.value port.old) }
-    requires wanted { IsTrue (not (is_none want)) }
-    requires lent { LentBy frame owner (P.value port.old).holdings }
-    requires aside { IsAsideFor (P.value port.old).post.machine frame want (P.value port.old).holdings }
-    requires other { IsOfOther frame want (P.value port.old).holdings }
-    requires looked { (P.value port.old).holdings.looking ≡ [] }
+    requires { MayTakeType (P.value port.old) frame owner want }
     ensures takes { CountsAs result (λ r. Takes (P.value port.old) (P.value port.new) frame owner want r) (λ word. Looked (P.value port.old) (P.value port.new) frame owner want word) }
     ensures found { CountsAs result (λ r. TakesFound (P.value port.old) (P.value port.new) frame owner want r) (λ word. IsNotLive want word) }
     ensures live { CountsAs result (λ r. IfOk r (λ t. LeavesLive (P.value port.old) (P.value port.new) frame t)) (λ word. IsNotLive want word) }
@@ -118,10 +103,7 @@ fn count_found<P: Port>(
     want: PageType,
     word: u64,
 ) -> Result<Counting, Stop>
-    requires frame { frame < (P.value port.old).post.machine.frames }
-    requires may { MayWork (P.value port.old) }
-    requires wanted { IsTrue (not (is_none want)) }
-    requires looked { IsLooked (P.value port.old) frame owner want word }
+    requires { MayTakeLooked (P.value port.old) frame owner want word (λ s. Unit {0}) }
     ensures takes { (b : PortValue) → Looked b (P.value port.old) frame owner want word → CountsAs result (λ r. Takes b (P.value port.new) frame owner want r) (λ x. Looked b (P.value port.new) frame owner want x) }
     ensures found { (b : PortValue) → Looked b (P.value port.old) frame owner want word → CountsAs result (λ r. TakesFound b (P.value port.new) frame owner want r) (λ x. IsNotLive want x) }
     ensures live { CountsAs result (λ r. IfOk r (λ t. LeavesLive (P.value port.old) (P.value port.new) frame t)) (λ x. IsNotLive want x) }
@@ -156,11 +138,7 @@ pub fn take_looked<P: Port>(
     want: PageType,
     word: u64,
 ) -> Result<Taken, Stop>
-    requires frame { frame < (P.value port.old).post.machine.frames }
-    requires may { MayWork (P.value port.old) }
-    requires wanted { IsTrue (not (is_none want)) }
-    requires looked { IsLooked (P.value port.old) frame owner want word }
-    requires other { IsNotLive want word }
+    requires { MayTakeLooked (P.value port.old) frame owner want word (λ s. s ≢ Counted) }
     ensures takes { (b : PortValue) → Looked b (P.value port.old) frame owner want word → Takes b (P.value port.new) frame owner want result }
     ensures found { (b : PortValue) → Looked b (P.value port.old) frame owner want word → TakesFound b (P.value port.new) frame owner want result }
     ensures live { IfOk result (λ t. LeavesLive (P.value port.old) (P.value port.new) frame t) }
@@ -188,11 +166,7 @@ fn take_dead<P: Port>(
     want: PageType,
     word: u64,
 ) -> Result<Taken, Stop>
-    requires frame { frame < (P.value port.old).post.machine.frames }
-    requires may { MayWork (P.value port.old) }
-    requires wanted { IsTrue (not (is_none want)) }
-    requires looked { IsLooked (P.value port.old) frame owner want word }
-    requires stands { (k : KindWord) → kind_read word ≡ Some k → standing_of k want ≡ Dead }
+    requires { MayTakeLooked (P.value port.old) frame owner want word (λ s. s ≡ Dead) }
     ensures takes { (b : PortValue) → Looked b (P.value port.old) frame owner want word → Takes b (P.value port.new) frame owner want result }
     ensures found { (b : PortValue) → Looked b (P.value port.old) frame owner want word → TakesFound b (P.value port.new) frame owner want result }
     ensures live { IfOk result (λ t. LeavesLive (P.value port.old) (P.value port.new) frame t) }
@@ -214,11 +188,7 @@ fn take_partial<P: Port>(
     want: PageType,
     word: u64,
 ) -> Result<Taken, Stop>
-    requires frame { frame < (P.value port.old).post.machine.frames }
-    requires may { MayWork (P.value port.old) }
-    requires wanted { IsTrue (not (is_none want)) }
-    requires looked { IsLooked (P.value port.old) frame owner want word }
-    requires stands { (k : KindWord) → kind_read word ≡ Some k → standing_of k want ≡ Partial }
+    requires { MayTakeLooked (P.value port.old) frame owner want word (λ s. s ≡ Partial) }
     ensures takes { (b : PortValue) → Looked b (P.value port.old) frame owner want word → Takes b (P.value port.new) frame owner want result }
     ensures found { (b : PortValue) → Looked b (P.value port.old) frame owner want word → TakesFound b (P.value port.new) frame owner want result }
     ensures live { IfOk result (λ t. LeavesLive (P.value port.old) (P.value port.new) frame t) }

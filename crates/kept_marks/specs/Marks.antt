@@ -1,5 +1,5 @@
 -- `kept` marks: how one is set on a frame, and taken back where the frame's domain is dying.
-use Rattle.std.specs.Prelude.{◌≡◌, ◌≢◌, ◌⊎◌, ℕ, ◌+◌, false, true, List, [], ◌∷◌, ◌++◌, None, Some}
+use Rattle.std.specs.Prelude.{◌≡◌, ◌≢◌, ◌⊎◌, ℕ, ◌+◌, ◌<◌, false, true, List, [], ◌∷◌, ◌++◌, length, None, Some, IsTrue}
 use Rattle.xp_words.specs.KindWords.{kind_write}
 use Rattle.xp_words.specs.declared.kind.KindWord.{KindWord}
 use Rattle.xp_words.specs.declared.kind.PageType.TheVariants.{Desc}
@@ -11,14 +11,14 @@ use Rattle.xp_board.specs.declared.step.Act.TheVariants.{Cas, Load, Store}
 use Rattle.xp_board.specs.declared.step.StepKind.TheVariants as kinds
 use Rattle.xp_board.specs.Hands.{work_on}
 use Rattle.xp_board.specs.KindSteps.{kept_owner, taken_back}
-use Rattle.xp_board.specs.Readings.{domain_of}
+use Rattle.xp_board.specs.Readings.{domain_of, is_partial}
 use Rattle.xp_board.specs.Told.{PortValue}
-use Rattle.step_maker.specs.Holds.{Holds}
+use Rattle.step_maker.specs.Holds.{Holds, MayWork}
 use Rattle.step_maker.specs.Moves.{Met, Moves}
 use Rattle.step_maker.specs.Answers.{Deed, Misses, Serves}
 use Rattle.step_maker.specs.Asked.{IsAsked, Request}
-use Rattle.kind_words.specs.Kinds.{left, looked_at}
-use Rattle.table_words.specs.OldWords.{old_place}
+use Rattle.kind_words.specs.Kinds.{MayLeave, left, looked_at}
+use Rattle.table_words.specs.OldWords.{known_old, old_place}
 use Rattle.table_words.specs.declared.old_words.OldWord.TheVariants.{First}
 
 -- ---- one mark
@@ -42,6 +42,19 @@ abbrev pub IsForeign : PortValue → ℕ → Type 0
 IsForeign v owner = owner ≢ domain_of v.post.machine v.post.vcpu
 
 -- ---- left with its mark
+-- What `leave_kept` asks. Of another domain's frame the first old word is known to name none.
+pub record MayLeaveKept (v : PortValue) (f : ℕ) (k : KindWord) (owner : ℕ) : Type 0 where
+  pub frame : f < v.post.machine.frames
+  pub may : MayWork v
+  pub leaves : MayLeave v f k
+  pub partial : IsTrue (is_partial k)
+  pub kept : k.kept ≡ true
+  pub page : IsUnpaged k
+  pub known : IsKeptOf v f owner
+  pub real : owner < length v.post.machine.page_limit
+  pub looked : v.holdings.looking ≡ []
+  pub room : IsForeign v owner → known_old First v.holdings ≡ Some 0
+
 -- nothing of it is in hand, nor is a look unfinished; of another domain's frame the first old word may name it
 abbrev pub left_kept : PortValue → ℕ → KindWord → Holdings
 left_kept v f k = record (left v f k) { looking = [] }

@@ -1,16 +1,14 @@
 //! Marks that are set, and taken back.
-ghost use Rattle.std.specs.Prelude.{◌≡◌, ◌≢◌, ◌<◌, ◌==◌, [], None, Some, true, length, IfErr, MatchResult, IsTrue};
+ghost use Rattle.std.specs.Prelude.{◌≡◌, ◌≢◌, ◌<◌, ◌==◌, None, true, IfErr, MatchResult, IsTrue};
 ghost use Rattle.xp_words.specs.declared.place.Place.TheVariants.{Kind};
 ghost use Rattle.xp_words.specs.KindWords.{is_kind, kind_write};
-ghost use Rattle.xp_board.specs.Readings.{domain_of, is_partial};
+ghost use Rattle.xp_board.specs.Readings.{is_partial};
 ghost use Rattle.xp_board.specs.declared.step.Act.TheVariants.{Cas};
 ghost use Rattle.xp_board.specs.declared.step.StepKind.TheVariants as kinds;
 ghost use Rattle.step_maker.specs.Holds.{Holds, MayWork};
 ghost use Rattle.step_maker.specs.Moves.{Came, Moves, found_by};
-ghost use Rattle.kind_words.specs.Kinds.{MayLeave, looked_at};
-ghost use Rattle.table_words.specs.OldWords.{known_old};
-ghost use Rattle.table_words.specs.declared.old_words.OldWord.TheVariants.{First};
-ghost use Rattle.kept_marks.specs.Marks.{IsKeptOf, IsUnpaged, KeptFor, LeavesKept, ServesKept, took_back, unkept_kind};
+ghost use Rattle.kind_words.specs.Kinds.{looked_at};
+ghost use Rattle.kept_marks.specs.Marks.{IsUnpaged, KeptFor, LeavesKept, MayLeaveKept, ServesKept, took_back, unkept_kind};
 
 use crate::words::unkept;
 use flush_words::look_life;
@@ -42,16 +40,7 @@ pub fn take_back<P: Port>(port: &mut P, frame: u32, kind: KindWord) -> Result<()
 /// life is looked at then: where it is dying the mark is taken back, and the first old word, which is known to name no frame, names this
 /// one; unless another vCPU has taken the mark over by then. `owner`: as it is known by the reference that goes into the mark.
 pub fn leave_kept<P: Port>(port: &mut P, frame: u32, kind: KindWord, owner: u16)
-    requires frame { frame < (P.value port.old).post.machine.frames }
-    requires may { MayWork (P.value port.old) }
-    requires leaves { MayLeave (P.value port.old) frame kind }
-    requires partial { IsTrue (is_partial kind) }
-    requires kept { kind.kept ≡ true }
-    requires page { IsUnpaged kind }
-    requires known { IsKeptOf (P.value port.old) frame owner }
-    requires real { owner < length (P.value port.old).post.machine.page_limit }
-    requires looked { (P.value port.old).holdings.looking ≡ [] }
-    requires room { owner ≢ domain_of (P.value port.old).post.machine (P.value port.old).post.vcpu → known_old First (P.value port.old).holdings ≡ Some 0 }
+    requires { MayLeaveKept (P.value port.old) frame kind owner }
     ensures came { Came (P.value port.old) (P.value port.new) }
     ensures hand { LeavesKept (P.value port.old) (P.value port.new) frame kind owner }
     ensures serves { ServesKept (P.value port.old) (P.value port.new) frame owner }

@@ -38,7 +38,7 @@ use Rattle.level_release.proofs.Owning.{known_by_ref, look_tells, made_later}
 use Rattle.kind_words.proofs.KindHands.{no_work}
 
 module _ {v : PortValue} {f : ℕ} {kind : PageType} (holds : HoldsLive v f kind) where
-  none_typed : without_typed f v.holdings.typed ≡ []
+  pub none_typed : without_typed f v.holdings.typed ≡ []
   none_typed = without_newest (λ (y : TypedReference). y.frame) f holds.reference [] v.holdings.typed holds.frame holds.typed
 
   pub held_typed : 0 < typed_to f v.holdings.typed
@@ -56,6 +56,9 @@ module _ {v : PortValue} {f : ℕ} {kind : PageType} (holds : HoldsLive v f kind
   -- what the reference becomes
   abbrev plain_ref : Reference
   plain_ref = record { frame = f; owner = typed_owner f v.holdings }
+
+  pub owner_is : typed_owner f v.holdings ≡ holds.reference.owner
+  owner_is = ap (λ o. owner_by_typed o (owner_from v.holdings)) (ap (λ ys. typed_on f ys) holds.typed ∙ first_by-cons_here (λ (y : TypedReference). y.frame) f holds.reference [] holds.frame)
 
   abbrev beside : List Work → Holdings
   beside ws = record v.holdings { refs = plain_ref ∷ v.holdings.refs; typed = []; works = ws }
@@ -82,13 +85,13 @@ module _ {v : PortValue} {f : ℕ} {kind : PageType} (holds : HoldsLive v f kind
     abbrev closing : Work
     closing = closing_from f d.found v.holdings
 
-    closed_hand : Holds v a (beside (closing ∷ v.holdings.works))
+    pub closed_hand : Holds v a (beside (closing ∷ v.holdings.works))
     closed_hand = type_closed v a f true d refl ∙ ap (λ ys. still (record v { holdings = record v.holdings { refs = plain_ref ∷ v.holdings.refs; typed = ys; works = closing ∷ v.holdings.works } })) none_typed
 
     closing_since : closing.since ≤ length a.holdings.steps
     closing_since = let more = ap (λ (xs : List Made). length xs) (moves_steps v a (Kind f) (Add one_down) kinds.Kind None d.found d.lowers.step) in omega (arith, more)
 
-    all_recorded : is_table kind ≡ true → closing.recorded ≡ 512
+    pub all_recorded : is_table kind ≡ true → closing.recorded ≡ 512
     all_recorded table = let k : is_table (kind_fields d.found).kind ≡ true = ap is_table (d.lowers.kind kind holds.live) ∙ table in ap (λ b. if b then 512 else 0) k
 
     -- behind a look at its reference word
@@ -110,9 +113,6 @@ module _ {v : PortValue} {f : ℕ} {kind : PageType} (holds : HoldsLive v f kind
 
       held_plain : 0 < refs_to f a.holdings.refs + typed_to f a.holdings.typed
       held_plain = let some = subst (λ rs. 0 < refs_to f rs) (sym newest) (newest_held f plain_ref v.holdings.refs refl) in omega (arith, some)
-
-      owner_is : typed_owner f v.holdings ≡ holds.reference.owner
-      owner_is = ap (λ o. owner_by_typed o (owner_from v.holdings)) (ap (λ ys. typed_on f ys) holds.typed ∙ first_by-cons_here (λ (y : TypedReference). y.frame) f holds.reference [] holds.frame)
 
       steps_on : length v.holdings.steps ≤ length a.holdings.steps
       steps_on = let late = closing_since in omega (arith, late)

@@ -1,14 +1,12 @@
 -- Tables are emptied until none is left: from u on, of the tables ts, these are left to empty.
-use Rattle.std.proofs.Common.{◌≡◌, ◌≢◌, Bool, false, List, [], ◌∷◌, Some, IsTrue, refl, sym, ap, ◌∙◌, subst}
+use Rattle.std.proofs.Common.{◌≡◌, ◌≢◌, Bool, false, List, [], ◌∷◌, IsTrue, refl, sym, ap, ◌∙◌, subst}
 use Rattle.xp_board.specs.Told.{PortValue}
 use Rattle.xp_board.specs.declared.holdings.Holdings.{Holdings}
 use Rattle.step_maker.specs.Holds.{MayWork}
 use Rattle.step_maker.specs.Moves.{Came}
 use Rattle.step_maker.proofs.Coming.{came_post, came_self, came_trans}
 use Rattle.partial_state.specs.declared.stack.TableWork.{TableWork}
-use Rattle.table_words.specs.OldWords.{known_old}
-use Rattle.table_words.specs.declared.old_words.OldWord.TheVariants.{First}
-use Rattle.level_release.specs.Holding.{Empties, HoldsNow, IsReleasing, LeavesNamed, StaysEmptying, named_hand, outermost_frame}
+use Rattle.level_release.specs.Holding.{Empties, HoldsNow, IsReleasing, LeavesNamed, MayUnwind, StaysEmptying, named_hand, outermost_frame}
 use Rattle.level_release.proofs.Hands.{hands_may, hands_none, hands_old}
 
 pub record RunningDown (u w : PortValue) (ts us : List TableWork) : Type 0 where
@@ -36,11 +34,11 @@ module _ (u w : PortValue) {t : TableWork} {all : List TableWork} (us : List Tab
   pub from_one : {h : Holdings} → Empties h u (t ∷ []) → Empties h w us
   from_one {h} s = stands h (subst (λ xs. Empties h u xs) (sym is) s)
 
-  pub emptied_may : IsReleasing u (t ∷ []) → MayWork u → MayWork w
-  emptied_may a may = hands_may a.1 (from_one a.1) (came_post u w came) may
-
-  pub emptied_room : IsReleasing u (t ∷ []) → known_old First u.holdings ≡ Some 0 → known_old First w.holdings ≡ Some 0
-  emptied_room a room = hands_old a.1 (from_one a.1) ∙ room
+  -- what is left may be left partial
+  pub emptied_unwinds : MayUnwind u (t ∷ []) → us ≢ [] → MayUnwind w us
+  emptied_unwinds a some =
+      let s = from_one a.stands.1 in
+      record { may = hands_may a.stands.1 s (came_post u w came) a.may; stands = (a.stands.0, s); some = some; room = hands_old a.stands.1 s ∙ a.room }
 
   -- it is dead
   pub emptied_dead : us ≡ [] → (h : Holdings) → Empties h u (t ∷ []) → HoldsNow w h

@@ -1,15 +1,13 @@
 -- Tables are left one after the other: from u on, of the tables ts, these are left to leave; in the end the outermost one is named.
-use Rattle.std.proofs.Common.{◌≡◌, ◌≢◌, List, [], ◌∷◌, Some, refl, sym, ap, ◌∙◌, subst}
+use Rattle.std.proofs.Common.{◌≡◌, ◌≢◌, List, [], ◌∷◌, refl, sym, ap, ◌∙◌, subst}
 use Rattle.xp_board.specs.Told.{PortValue}
 use Rattle.xp_board.specs.declared.holdings.Holdings.{Holdings}
 use Rattle.step_maker.specs.Holds.{MayWork}
 use Rattle.step_maker.specs.Moves.{Came}
 use Rattle.step_maker.proofs.Coming.{came_post, came_self, came_trans}
 use Rattle.partial_state.specs.declared.stack.TableWork.{TableWork}
-use Rattle.table_words.specs.OldWords.{known_old}
-use Rattle.table_words.specs.declared.old_words.OldWord.TheVariants.{First}
 use Rattle.level_release.specs.Course.{LeftInside, one_less}
-use Rattle.level_release.specs.Holding.{Empties, HoldsNow, IsReleasing, LeavesNamed, StaysEmptying, named_hand, outermost_frame}
+use Rattle.level_release.specs.Holding.{Empties, HoldsNow, IsReleasing, LeavesNamed, MayUnwind, StaysEmptying, named_hand, outermost_frame}
 use Rattle.level_release.proofs.Hands.{hands_may, hands_old}
 
 -- what is in hand then: nothing of them, or the tables that are left
@@ -39,11 +37,14 @@ module _ {u w : PortValue} {ts : List TableWork} {t : TableWork} {us all : List 
   pub leaving_stands : IsReleasing u ts → IsReleasing w (t ∷ us)
   leaving_stands a = (a.0, (now a.1).0)
 
-  pub leaving_last : IsReleasing u ts → us ≡ [] → IsReleasing w (t ∷ [])
-  leaving_last a none = subst (λ xs. IsReleasing w (t ∷ xs)) none (leaving_stands a)
-
-  pub leaving_room : IsReleasing u ts → known_old First u.holdings ≡ Some 0 → known_old First w.holdings ≡ Some 0
-  leaving_room a room = hands_old a.1 (now a.1).0 ∙ room
+  pub leaving_last : MayUnwind u ts → us ≡ [] → MayUnwind w (t ∷ [])
+  leaving_last a none =
+      record {
+        may = leaving_may a.stands a.may;
+        stands = subst (λ xs. IsReleasing w (t ∷ xs)) none (leaving_stands a.stands);
+        some = λ e. absurd cc;
+        room = hands_old a.stands.1 (now a.stands.1).0 ∙ a.room;
+      }
 
   module _ (x : PortValue) (came : Came w x) where
     -- it was the outermost one

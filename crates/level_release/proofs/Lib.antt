@@ -22,7 +22,8 @@ pub mod HandsUnwinding
 pub mod Owning
 pub mod Falling
 mod Handing
-mod Dropped
+pub mod Dropped
+pub mod Parked
 mod Requested
 mod Counted
 mod Taken

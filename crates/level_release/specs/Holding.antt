@@ -1,7 +1,7 @@
 -- Tables that are released, one in the other, as what the vCPU holds for them. `done`: so many of a table's 512 entries are given back
 -- already, or were never recorded. `own`: the table is in work, with its type count in hand; else it is closing, with an untyped
 -- reference in hand.
-use Rattle.std.specs.Prelude.{◌≡◌, ℕ, ◌+◌, ◌<◌, ◌≤◌, Bool, true, false, List, [], ◌∷◌, length, Option, Some, None, IsTrue, Result, Ok, Err, IfErr}
+use Rattle.std.specs.Prelude.{◌≡◌, ◌≢◌, ℕ, ◌+◌, ◌<◌, ◌≤◌, Bool, true, false, List, [], ◌∷◌, length, Option, Some, None, IsTrue, Result, Ok, Err, IfErr}
 use Rattle.xp_words.specs.Entries.{demand_at}
 use Rattle.xp_words.specs.KindWords.{kind_fields}
 use Rattle.xp_words.specs.Places.{Sizes, sizes_of}
@@ -17,7 +17,7 @@ use Rattle.xp_board.specs.declared.holdings.Work.{Work}
 use Rattle.xp_board.specs.Knowledge.{knows_live, knows_owner}
 use Rattle.xp_board.specs.Readings.{is_closing, is_work}
 use Rattle.xp_board.specs.Told.{PortValue}
-use Rattle.step_maker.specs.Holds.{Holds, still}
+use Rattle.step_maker.specs.Holds.{Holds, MayWork, still}
 use Rattle.partial_state.specs.Levels.{level_type}
 use Rattle.partial_state.specs.Stacks.{IsStack}
 use Rattle.partial_state.specs.declared.stack.TableWork.{TableWork}
@@ -97,6 +97,13 @@ pub record Empties (h : Holdings) (w : PortValue) (ts : List TableWork) : Type 0
 
 abbrev pub IsReleasing : PortValue → List TableWork → Type 0
 IsReleasing w ts = (h : Holdings) × Empties h w ts
+
+-- What a call asks that may leave them partial: they are some, and the first old word is known to name none.
+pub record MayUnwind (v : PortValue) (ts : List TableWork) : Type 0 where
+  pub may : MayWork v
+  pub stands : IsReleasing v ts
+  pub some : ts ≢ []
+  pub room : v.holdings.old0 ≡ Some 0
 
 -- whatever the port holds beside them, these tables are being released now
 abbrev pub StaysEmptying : PortValue → PortValue → List TableWork → List TableWork → Type 0

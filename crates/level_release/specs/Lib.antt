@@ -2,4 +2,5 @@ pub mod Asking
 pub mod Calls
 pub mod Course
 pub mod Holding
+pub mod Parking
 pub mod Settling

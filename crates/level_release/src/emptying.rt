@@ -5,15 +5,13 @@ ghost use Rattle.step_maker.specs.Moves.{Came};
 ghost use Rattle.step_maker.specs.Answers.{misses};
 ghost use Rattle.partial_state.specs.Weights.{weight};
 ghost use Rattle.partial_state.specs.declared.stack.TableWork.{TableWork};
-ghost use Rattle.table_words.specs.OldWords.{known_old};
-ghost use Rattle.table_words.specs.declared.old_words.OldWord.TheVariants.{First};
 ghost use Rattle.table_releases.specs.Tops.{IsSettledTop};
 ghost use Rattle.xp_words.specs.declared.reply.Pause.TheVariants.{Due};
 ghost use Rattle.xp_words.specs.declared.reply.Stop.TheVariants.{Paused};
 ghost use Rattle.level_release.specs.Asking.{Continues, IsReleaseEnd, StopsRelease, is_due_answer};
 ghost use Rattle.level_release.specs.Calls.{Lowers};
 ghost use Rattle.level_release.specs.Course.{EmptiesBy, MadeDead, RunsDownBy, is_asked_down, is_asked_within, is_less, left_by};
-ghost use Rattle.level_release.specs.Holding.{IsReleasing, LeavesEmptied, StaysEmptying, outermost_frame};
+ghost use Rattle.level_release.specs.Holding.{IsReleasing, LeavesEmptied, MayUnwind, StaysEmptying, outermost_frame};
 
 use crate::leaving::unwind;
 use frame_words::put_ref;
@@ -33,9 +31,7 @@ pub(crate) fn empty<P: Port>(
     table: TableWork,
     left: &mut Option<u64>,
 ) -> Result<(), Stop>
-    requires may { MayWork (P.value port.old) }
-    requires stands { IsReleasing (P.value port.old) (table ∷ []) }
-    requires room { known_old First (P.value port.old).holdings ≡ Some 0 }
+    requires { MayUnwind (P.value port.old) (table ∷ []) }
     ensures came { Came (P.value port.old) (P.value port.new) }
     ensures hand { LeavesEmptied (P.value port.old) (P.value port.new) table result }
     ensures kinds { IfErr result IsReleaseEnd }

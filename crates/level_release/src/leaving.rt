@@ -1,5 +1,5 @@
 //! Tables whose release is unfinished.
-ghost use Rattle.std.specs.Prelude.{◌≡◌, ◌≢◌, ◌-◌, ◌∷◌, [], Some, None, false, List};
+ghost use Rattle.std.specs.Prelude.{◌≢◌, ◌-◌, ◌∷◌, [], None, false, List};
 ghost use Rattle.xp_words.specs.KindWords.{kind_write};
 ghost use Rattle.xp_words.specs.declared.place.Place.TheVariants.{Kind};
 ghost use Rattle.xp_board.specs.declared.step.Act.TheVariants.{Store};
@@ -9,11 +9,9 @@ ghost use Rattle.step_maker.specs.Moves.{Came, Moves};
 ghost use Rattle.kind_words.specs.Kinds.{left, partial_kind};
 ghost use Rattle.partial_state.specs.Levels.{level_type};
 ghost use Rattle.partial_state.specs.declared.stack.TableWork.{TableWork};
-ghost use Rattle.table_words.specs.OldWords.{known_old};
-ghost use Rattle.table_words.specs.declared.old_words.OldWord.TheVariants.{First};
 ghost use Rattle.level_release.specs.Asking.{Continues};
 ghost use Rattle.level_release.specs.Course.{LeftInside, UnwoundDown};
-ghost use Rattle.level_release.specs.Holding.{IsReleasing, LeavesNamed, StaysEmptying};
+ghost use Rattle.level_release.specs.Holding.{IsReleasing, LeavesNamed, MayUnwind, StaysEmptying};
 
 use kind_words::{leave, partial_kind};
 use partial_state::{Stack, TableWork, level_type};
@@ -23,10 +21,7 @@ use xp_board::Port;
 /// Leaves all tables partial, the innermost first: each is recorded again as the last entry of the one around it, and the outermost
 /// one is named in the first old word, which is known to name none.
 pub(crate) fn unwind<P: Port>(port: &mut P, stack: &mut Stack)
-    requires may { MayWork (P.value port.old) }
-    requires stands { IsReleasing (P.value port.old) stack.old }
-    requires some { stack.old ≢ [] }
-    requires room { known_old First (P.value port.old).holdings ≡ Some 0 }
+    requires { MayUnwind (P.value port.old) stack.old }
     ensures came { Came (P.value port.old) (P.value port.new) }
     ensures hand { LeavesNamed (P.value port.old) (P.value port.new) stack.old }
     ensures serves { Continues (P.value port.old) (P.value port.new) stack.old [] [] }
@@ -43,9 +38,7 @@ pub(crate) fn unwind<P: Port>(port: &mut P, stack: &mut Stack)
 
 // The outermost table.
 fn leave_outermost<P: Port>(port: &mut P, table: TableWork)
-    requires may { MayWork (P.value port.old) }
-    requires stands { IsReleasing (P.value port.old) (table ∷ []) }
-    requires room { known_old First (P.value port.old).holdings ≡ Some 0 }
+    requires { MayUnwind (P.value port.old) (table ∷ []) }
     ensures came { Came (P.value port.old) (P.value port.new) }
     ensures hand { LeavesNamed (P.value port.old) (P.value port.new) (table ∷ []) }
     ensures serves { Continues (P.value port.old) (P.value port.new) (table ∷ []) [] [] }

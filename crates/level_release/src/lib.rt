@@ -3,8 +3,10 @@
 
 mod emptying;
 mod leaving;
+mod parking;
 mod releasing;
 mod settling;
 
+pub use parking::park;
 pub use releasing::release;
 pub use settling::settle;

@@ -8,7 +8,6 @@ use Rattle.xp_words.specs.declared.reply.Stop.{Stop}
 use Rattle.xp_words.specs.declared.reply.Stop.TheVariants.{Paused}
 use Rattle.xp_board.specs.Told.{Post, PortValue}
 use Rattle.step_maker.specs.Visits.{Only, Then, Visit}
-use Rattle.entry_exchange.specs.Course as exchanges
 use Rattle.entry_exchange.proofs.Lengths.{Short}
 use Rattle.entry_exchange.proofs.Steps.{Adds, exchange_short, adds_more, adds_then, does_adds, gave_ref, got_ref, left_lock, moves_adds}
 use Rattle.entry_locks.specs.Found.{LocksBy}

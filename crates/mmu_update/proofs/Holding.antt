@@ -9,12 +9,13 @@ use Rattle.xp_board.specs.declared.holdings.OwnerFound.TheVariants as owners
 use Rattle.xp_board.specs.declared.holdings.Reference.{Reference}
 use Rattle.xp_board.specs.declared.holdings.TypedReference.{TypedReference}
 use Rattle.xp_board.specs.declared.holdings.Work.{Work}
-use Rattle.xp_board.specs.Hands.{ending_of, lock_on, typed_to, without_ref, work_on}
+use Rattle.xp_board.specs.Hands.{typed_to, without_ref, work_on}
 use Rattle.xp_board.specs.KindSteps.{live_typed}
 use Rattle.xp_board.specs.Knowledge.{knows_live}
 use Rattle.xp_board.specs.Lists.{times_by}
 use Rattle.xp_board.specs.Told.{PortValue}
 use Rattle.step_maker.specs.Holds.{FlushedHolds, FlushedSame, Holds, Rests, Same, quiet}
+use Rattle.step_maker.specs.Pauses.{IsElsewhere}
 use Rattle.step_maker.proofs.Resting.{none_on, rests_by}
 use Rattle.frame_words.specs.Cells.{IsApart, MayStoreCell}
 use Rattle.frame_words.specs.Freeing.{gave}
@@ -43,11 +44,12 @@ module _ (b v : PortValue) (f d : ℕ) (rests : Rests b) (takes : Holds b v (too
   pub no_work : work_on f v.holdings.works ≡ None
   no_work = none_on (λ (y : Work). y.frame) f v.holdings.works (ap (λ (q : PortValue). q.holdings.works) takes ∙ rests.empty.works)
 
-  pub no_lock : lock_on f v.holdings.locks ≡ None
-  no_lock = none_on (λ (y : Lock). y.frame) f v.holdings.locks (ap (λ (q : PortValue). q.holdings.locks) takes ∙ rests.empty.locks)
-
-  pub no_ending : ending_of f v.holdings.ending ≡ None
-  no_ending = none_on (λ (y : Ending). y.frame) f v.holdings.ending (ap (λ (q : PortValue). q.holdings.ending) takes ∙ rests.empty.ending)
+  pub elsewhere : IsElsewhere f v.holdings
+  elsewhere = (
+    no_work,
+    none_on (λ (y : Lock). y.frame) f v.holdings.locks (ap (λ (q : PortValue). q.holdings.locks) takes ∙ rests.empty.locks),
+    none_on (λ (y : Ending). y.frame) f v.holdings.ending (ap (λ (q : PortValue). q.holdings.ending) takes ∙ rests.empty.ending),
+  )
 
   pub no_type : typed_to f v.holdings.typed ≡ 0
   no_type = none_to (λ (y : TypedReference). y.frame) f v.holdings.typed (ap (λ (q : PortValue). q.holdings.typed) takes ∙ rests.empty.typed)

@@ -46,7 +46,8 @@ use Rattle.mmuext_ops.specs.Course.{SetsPin}
 use Rattle.mmuext_ops.specs.Course as ends
 use Rattle.mmuext_ops.specs.Holding.{GivesTableUp, GivesUp, HoldsTable, PinsLive, named_old, untyped_hand}
 use Rattle.level_validate.specs.Unwinding.{own_domain}
-use Rattle.mmuext_ops.proofs.GivingUp.{held, live, may_drop, none_left}
+use Rattle.level_release.proofs.Dropped.{held_typed, may_drop, none_typed}
+use Rattle.mmuext_ops.proofs.GivingUp.{live_table}
 use Rattle.mmuext_ops.proofs.Marking.{lost_deeds, lost_misses, lost_stops, pins_deed, tried}
 use Rattle.table_entries.proofs.HandOwners.{known_by_typed}
 use Rattle.table_entries.proofs.Shared.{no_looks as looks_none}
@@ -73,7 +74,7 @@ owner_known v f level holds =
 pub pinned_hand : (v a b : PortValue) (f level : ℕ) (k : KindWord) → HoldsTable v f level → Same v a → Holds a b (gave_pin f k a.holdings) → Holds v b (untyped_hand v.holdings)
 pinned_hand v a b f level k holds same pins =
     pins ∙ ap (λ (h : Holdings). still (record a { holdings = record h { typed = without_typed f h.typed } })) (looks_same f _ a.holdings (holds_still v a f level same holds).others.looking)
-    ∙ ap (λ (ys : List TypedReference). still (record a { holdings = record a.holdings { typed = ys } })) (none_left (holds_still v a f level same holds))
+    ∙ ap (λ (ys : List TypedReference). still (record a { holdings = record a.holdings { typed = ys } })) (none_typed (live_table (holds_still v a f level same holds)))
     ∙ ap (λ (q : PortValue). still (record q { holdings = record q.holdings { typed = [] } })) same
 
 -- another word was found
@@ -112,7 +113,7 @@ module _ {v a : PortValue} {f level x : ℕ} (frame : f < v.post.machine.frames)
         subst (λ (p : Post). IsTrue (is_kind_in p.machine (Some k))) (sym (came_post v a came_a)) (subst (λ o. IsTrue (is_kind_in v.post.machine o)) (sym is.read ∙ read) is.fits)
 
     lives : IsTrue (is_live k) × (k.kind ≡ level_type level)
-    lives = known_live v.post.machine v.post.vcpu v.holdings f x k look.finds fields (level_type level) (live holds)
+    lives = known_live v.post.machine v.post.vcpu v.holdings f x k look.finds fields (level_type level) (live_table holds).live
 
     pub may_pin : 1 ≤ level → k.pinned ≡ false → MayPin a.post.machine a.post.vcpu f k (pinned_kind k) a.holdings
     may_pin low off =
@@ -120,9 +121,9 @@ module _ {v a : PortValue} {f level x : ℕ} (frame : f < v.post.machine.frames)
           live = lives.0;
           table = rw lives.1 (level_type-table level low);
           unpinned = off;
-          counted = subst (λ (y : KindWord). 0 < y.number) fields (found_live v.post.machine v.post.vcpu v.holdings f x look.finds (may_drop holds)).some;
+          counted = subst (λ (y : KindWord). 0 < y.number) fields (found_live v.post.machine v.post.vcpu v.holdings f x look.finds (may_drop (live_table holds))).some;
           left = refl;
-          in_hand = held holds_a;
+          in_hand = held_typed (live_table holds_a);
           own = owner_known a f level holds_a;
         }
 
@@ -253,7 +254,7 @@ module _ {v a : PortValue} {f level x : ℕ} (frame : f < v.post.machine.frames)
           raced_stops : j.pinned ≡ true → Stops v w request (Refused (AlreadyPinned found))
           unfolding Stops
           raced_stops on =
-              let lives_now = known_live a.post.machine a.post.vcpu a.holdings f found j try.finds fields_now (level_type level) (live holds_a) in
+              let lives_now = known_live a.post.machine a.post.vcpu a.holdings f found j try.finds fields_now (level_type level) (live_table holds_a).live in
               (f, own_domain v, level_type level, a.holdings, asked (Met v w), found_now, checked owner_a, refl, when_eq f f refl, ap (λ (y : KindWord). y.pinned) fields_now ∙ on, ap (λ (y : KindWord). y.kind) fields_now ∙ lives_now.1)
 
           place_is : number (sizes_of w.post.machine) (Kind f) ≡ number (sizes_of v.post.machine) (Kind f)

@@ -7,12 +7,13 @@ ghost use Rattle.table_words.specs.declared.old_words.OldWord.TheVariants.{First
 ghost use Rattle.mmuext_ops.specs.Holding.{GivesUp, HoldsTable, MeetsElement, PinsLive};
 ghost use Rattle.mmuext_ops.specs.declared.element.Element.TheVariants.{Pin};
 
-use frame_types::drop_type;
 use frame_words::{get_ref, put_ref};
-use kind_words::{leave, look_kind, lost, partial_kind, read_kind};
+use kind_words::{look_kind, lost, read_kind};
+use level_release::park;
 use level_validate::acquire;
 use partial_state::level_type;
-use table_words::{OldWord, put_old, set_pin};
+use step_maker::own_domain;
+use table_words::set_pin;
 use xp_board::Port;
 use xp_preempt::Preempt;
 use xp_words::{Refusal, Stop};
@@ -86,12 +87,6 @@ fn give_up<P: Port>(port: &mut P, frame: u32, level: u8, kept: bool)
     requires room { known_old First (P.value port.old).holdings ≡ Some 0 }
     ensures { GivesUp (P.value port.old) (P.value port.new) frame level kept }
 {
-    if drop_type(port, frame) {
-        leave(port, frame, partial_kind(level_type(level), kept, 512));
-        if !kept {
-            put_old(port, OldWord::First, frame);
-        }
-    } else {
-        put_ref(port, frame);
-    }
+    let owner = own_domain(port);
+    park(port, frame, level, owner, kept);
 }

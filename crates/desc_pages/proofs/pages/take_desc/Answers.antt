@@ -1,12 +1,14 @@
-use Rattle.std.proofs.Common.{subst}
+use Rattle.std.proofs.Common.{subst, rules}
 use Rattle.xp_words.specs.declared.kind.PageType.TheVariants.{Desc}
 use Rattle.frame_types.specs.Taking.{ShowsWait, TakesAs}
 use Rattle.frame_types.proofs.Waiting.{err_gives}
 use Rattle.desc_pages.proofs.Taking.{counted_takes, no_work_on, read_takes, untyped_takes, waiting_takes}
 use Rattle.desc_pages.proofs.pages.take_desc.Goals as goal
 
-pub take_type-requires-clause-other : goal.take_type-requires-clause-other
-take_type-requires-clause-other g c e at = absurd (let none = no_work_on (g.P.Port.value c.args.port.now) c.args.frame c.requires.works in let is = at in cc)
+pub take_type-requires : goal.take_type-requires
+take_type-requires g c =
+    let none = no_work_on (g.P.Port.value c.args.port.now) c.args.frame c.requires.works in
+    record { frame = search rules; may = search rules; wanted = search rules; lent = search rules; aside = search rules; other = λ e at. absurd (let is = at in cc); looked = search rules }
 
 -- ---- the type is not to be had
 pub put_ref-requires-clause-gives : goal.put_ref-requires-clause-gives

@@ -26,4 +26,4 @@ returns-in-Typed g c =
 pub returns-in-Typed-2 : goal.returns-in-Typed-2
 returns-in-Typed-2 g c =
     let is = table_named c.in-Typed-2.is c.requires.asks c.requires.low c.requires.high in
-    rw is (table_given (above_one c.requires.low c.if-level-eq1.false) (rw is at c.requires.taken) c.give_table.ensures)
+    rw is (table_given (above_one c.requires.low c.if-level-eq1.false) (rw is at c.requires.taken) c.park.ensures)

@@ -1,13 +1,15 @@
 use Rattle.std.proofs.Common.{◌∙◌}
-use Rattle.entry_exchange.proofs.ChangingDemand.{done_changed, given_lock, given_works, lost_changed, may_put, of_level, off_freed, off_inside, off_may, off_old0, put_lock, put_works, unput_taken, untaken_changed, untaken_lock}
+use Rattle.entry_exchange.proofs.ChangingDemand.{done_changed, given_leaves, lost_changed, may_put, of_level, off_freed, off_inside, off_may, off_old0, put_leaves, unput_taken, untaken_changed, untaken_leaves}
 use Rattle.entry_exchange.proofs.exchanging.change_demand.Goals as goal
 
 pub take_demand-requires-clause-asks : goal.take_demand-requires-clause-asks
 take_demand-requires-clause-asks g c = of_level c.args.update.level c.args.update.index _ c.args.wanted c.requires.wanted c.requires.fits
 
 -- ---- it is not to be had
-pub leave_lock-requires-clause-locked : goal.leave_lock-requires-clause-locked
-leave_lock-requires-clause-locked g c = untaken_lock c.args.update c.args.owners c.requires.locked (rw (c.owner_at-owner.ensures, c.requires.wanted) at c.in-Err.ensures)
+pub leave_lock-requires : goal.leave_lock-requires
+leave_lock-requires g c =
+    untaken_leaves c.args.update c.args.owners c.requires.locked (rw (c.owner_at-owner.ensures, c.requires.wanted) at c.in-Err.ensures)
+    c.requires.frame c.requires.may c.requires.low c.requires.high c.requires.room_too
 
 pub returns-in-Err : goal.returns-in-Err
 returns-in-Err g c =
@@ -20,15 +22,11 @@ put_entry-requires-clause-exchanges g c =
     let took = rw (c.owner_at-owner.ensures, c.requires.wanted) at c.in-Ok.ensures in
     rw c.word_kept-new.ensures (may_put c.args.update c.args.owners c.requires.locked took c.requires.maps (rw c.requires.wanted at c.requires.fits))
 
-pub leave_lock-requires-in-Ok-put_entry-clause-locked : goal.leave_lock-requires-in-Ok-put_entry-clause-locked
-leave_lock-requires-in-Ok-put_entry-clause-locked g c =
+pub leave_lock-requires-in-Ok-put_entry : goal.leave_lock-requires-in-Ok-put_entry
+leave_lock-requires-in-Ok-put_entry g c =
     let took = rw (c.owner_at-owner.ensures, c.requires.wanted) at c.in-Ok.ensures in
-    put_lock c.args.update c.args.owners c.requires.locked took (rw c.requires.wanted at c.requires.other) (rw c.word_kept-new.ensures at c.in-Ok-put_entry.ensures)
-
-pub leave_lock-requires-in-Ok-put_entry-clause-works : goal.leave_lock-requires-in-Ok-put_entry-clause-works
-leave_lock-requires-in-Ok-put_entry-clause-works g c =
-    let took = rw (c.owner_at-owner.ensures, c.requires.wanted) at c.in-Ok.ensures in
-    put_works c.args.update c.args.owners c.requires.locked took (rw c.requires.wanted at c.requires.other) (rw c.word_kept-new.ensures at c.in-Ok-put_entry.ensures)
+    put_leaves c.args.update c.args.owners c.requires.locked took (rw c.requires.wanted at c.requires.other) (rw c.word_kept-new.ensures at c.in-Ok-put_entry.ensures)
+    c.requires.frame c.requires.may c.requires.low c.requires.high c.requires.room_too
 
 pub release_demand-requires : goal.release_demand-requires
 release_demand-requires g c =
@@ -62,16 +60,11 @@ give_demand-requires-clause-taken g c =
     let took = rw (c.owner_at-owner.ensures, c.requires.wanted) at c.in-Ok.ensures in
     rw (c.requires.wanted, c.owner_at-owner.ensures) (unput_taken c.args.update c.args.owners c.requires.locked took (rw c.word_kept-new.ensures at c.in-Err-put_entry.ensures))
 
-pub leave_lock-requires-in-Err-put_entry-clause-locked : goal.leave_lock-requires-in-Err-put_entry-clause-locked
-leave_lock-requires-in-Err-put_entry-clause-locked g c =
+pub leave_lock-requires-in-Err-put_entry : goal.leave_lock-requires-in-Err-put_entry
+leave_lock-requires-in-Err-put_entry g c =
     let took = rw (c.owner_at-owner.ensures, c.requires.wanted) at c.in-Ok.ensures in
-    given_lock c.args.update c.args.owners c.requires.locked took (rw c.word_kept-new.ensures at c.in-Err-put_entry.ensures) (rw (c.owner_at-owner.ensures, c.requires.wanted) at c.give_demand.ensures)
-
-pub leave_lock-requires-in-Err-put_entry-clause-works : goal.leave_lock-requires-in-Err-put_entry-clause-works
-leave_lock-requires-in-Err-put_entry-clause-works g c =
-    let took = rw (c.owner_at-owner.ensures, c.requires.wanted) at c.in-Ok.ensures in
-    given_works c.args.update c.args.owners c.requires.locked took (rw c.word_kept-new.ensures at c.in-Err-put_entry.ensures)
-    (rw (c.owner_at-owner.ensures, c.requires.wanted) at c.give_demand.ensures)
+    given_leaves c.args.update c.args.owners c.requires.locked took (rw c.word_kept-new.ensures at c.in-Err-put_entry.ensures) (rw (c.owner_at-owner.ensures, c.requires.wanted) at c.give_demand.ensures)
+    c.requires.frame c.requires.may c.requires.low c.requires.high c.requires.room_too
 
 pub returns-in-Err-put_entry : goal.returns-in-Err-put_entry
 returns-in-Err-put_entry g c =

@@ -1,14 +1,11 @@
 use Rattle.std.proofs.Common.{◌∙◌, sym}
 use Rattle.std.proofs.lemmas.Result.{err_from_is_err_and}
-use Rattle.entry_exchange.proofs.ExchangingEntry.{ended_bad, ended_changed, ended_same, ended_unput, keep_frame, keep_lock, keep_may, keep_old1, keep_works, look_frame, look_lock, look_maps, look_may, look_old0, look_old1, look_seen, look_works, may_keep}
+use Rattle.entry_exchange.proofs.ExchangingEntry.{ended_bad, ended_changed, ended_same, ended_unput, keep_leaves, look_frame, look_leaves, look_maps, look_may, look_old0, look_old1, look_seen, may_keep}
 use Rattle.entry_exchange.proofs.exchanging.exchange_entry.Goals as goal
 
 -- ---- the new word asks what it may not
-pub leave_lock-requires-clause-locked : goal.leave_lock-requires-clause-locked
-leave_lock-requires-clause-locked g c = look_lock c.args.update c.args.owners c.requires.locked c.look_cell-seen.ensures.moves c.look_cell-seen.ensures.hand
-
-pub leave_lock-requires-clause-works : goal.leave_lock-requires-clause-works
-leave_lock-requires-clause-works g c = look_works c.args.update c.args.owners c.requires.locked c.look_cell-seen.ensures.moves c.look_cell-seen.ensures.hand
+pub leave_lock-requires : goal.leave_lock-requires
+leave_lock-requires g c = look_leaves c.args.update c.args.owners c.requires.locked c.look_cell-seen.ensures.moves c.look_cell-seen.ensures.hand c.requires.frame c.requires.may c.requires.low c.requires.high c.requires.room_too
 
 pub returns-in-Bad : goal.returns-in-Bad
 returns-in-Bad g c =
@@ -31,19 +28,10 @@ put_entry-put-requires g c =
 
 pub leave_lock-requires-then-is_same : goal.leave_lock-requires-then-is_same
 leave_lock-requires-then-is_same g c =
-    let x = c.args.update in
     let look = c.look_cell-seen.ensures in
     let same = sym (rw (c.demand-wanted.ensures, c.demand.ensures, c.level_type-kind.ensures, c.word_kept-new.ensures) at c.is_same.ensures) ∙ c.if-is_same.true in
     let put = rw c.word_kept-new.ensures at c.put_entry-put.ensures in
-    record {
-      frame = keep_frame x c.args.owners c.requires.locked look.moves look.hand same put c.requires.frame;
-      may = keep_may x c.args.owners c.requires.locked look.moves look.hand same put c.requires.may;
-      low = c.requires.low;
-      high = c.requires.high;
-      locked = keep_lock x c.args.owners c.requires.locked look.moves look.hand same put;
-      works = keep_works x c.args.owners c.requires.locked look.moves look.hand same put;
-      room = keep_old1 x c.args.owners c.requires.locked look.moves look.hand same put ∙ c.requires.room_too;
-    }
+    keep_leaves c.args.update c.args.owners c.requires.locked look.moves look.hand same put c.requires.frame c.requires.may c.requires.low c.requires.high c.requires.room_too
 
 pub returns-in_err-put : goal.returns-in_err-put
 returns-in_err-put g c =

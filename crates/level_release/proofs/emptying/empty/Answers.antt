@@ -1,28 +1,16 @@
 use Rattle.std.proofs.Common.{◌∷◌, ap, ◌∙◌, [], subst}
 use Rattle.step_maker.proofs.Coming.{came_trans}
-use Rattle.level_release.proofs.HandsRunning.{emptied_dead, emptied_may, emptied_named, emptied_room, from_one}
+use Rattle.level_release.proofs.HandsRunning.{emptied_dead, emptied_named, emptied_unwinds}
 use Rattle.step_maker.specs.Answers.{missed}
 use Rattle.level_release.specs.Asking.{Continues, StopsRelease}
 use Rattle.level_release.proofs.CoursesRun.{empties_finished, empties_paused}
 use Rattle.level_release.proofs.ServingRisen.{goes_then, risen_on}
 use Rattle.level_release.proofs.emptying.empty.Goals as goal
 
-pub unwind-requires-clause-may : goal.unwind-requires-clause-may
-unwind-requires-clause-may g c =
-    emptied_may (g.P.Port.value c.args.port.now) (g.P.Port.value c.run_down.new.port) c.run_down.new.stack (c.push.ensures.pushed ∙ ap (λ ts. c.args.table ∷ ts) c.new-stack.ensures)
-    c.run_down.ensures.came c.run_down.ensures.stands c.requires.stands c.requires.may
-
-pub unwind-requires-clause-stands : goal.unwind-requires-clause-stands
-unwind-requires-clause-stands g c = (
-  c.requires.stands.0,
-  from_one (g.P.Port.value c.args.port.now) (g.P.Port.value c.run_down.new.port) c.run_down.new.stack (c.push.ensures.pushed ∙ ap (λ ts. c.args.table ∷ ts) c.new-stack.ensures)
-      c.run_down.ensures.came c.run_down.ensures.stands c.requires.stands.1,
-)
-
-pub unwind-requires-clause-room : goal.unwind-requires-clause-room
-unwind-requires-clause-room g c =
-    emptied_room (g.P.Port.value c.args.port.now) (g.P.Port.value c.run_down.new.port) c.run_down.new.stack (c.push.ensures.pushed ∙ ap (λ ts. c.args.table ∷ ts) c.new-stack.ensures)
-    c.run_down.ensures.came c.run_down.ensures.stands c.requires.stands c.requires.room
+pub unwind-requires : goal.unwind-requires
+unwind-requires g c =
+    emptied_unwinds (g.P.Port.value c.args.port.now) (g.P.Port.value c.run_down.new.port) c.run_down.new.stack (c.push.ensures.pushed ∙ ap (λ ts. c.args.table ∷ ts) c.new-stack.ensures)
+    c.run_down.ensures.came c.run_down.ensures.stands c.requires c.in-Err.ensures.some
 
 pub returns-in-Ok-clause-hand : goal.returns-in-Ok-clause-hand
 returns-in-Ok-clause-hand g c =

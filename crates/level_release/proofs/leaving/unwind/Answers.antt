@@ -1,16 +1,10 @@
-use Rattle.level_release.proofs.HandsUnwinding.{leaving_begins, leaving_done, leaving_inside, leaving_last, leaving_may, leaving_named, leaving_room, leaving_stands}
+use Rattle.level_release.proofs.HandsUnwinding.{leaving_begins, leaving_done, leaving_inside, leaving_last, leaving_may, leaving_named, leaving_stands}
 use Rattle.std.proofs.Common.{◌∷◌, refl, sym, subst}
 use Rattle.level_release.proofs.CoursesUnwound.{Unwinding, unwinding_begins, unwinding_done, unwinding_ends, unwinding_on}
 use Rattle.level_release.proofs.leaving.unwind.Goals as goal
 
-pub leave_outermost-requires-clause-may : goal.leave_outermost-requires-clause-may
-leave_outermost-requires-clause-may g c = leaving_may c.loop-table.invariant.hands c.in-Some.ensures.some c.requires.stands c.requires.may
-
-pub leave_outermost-requires-clause-stands : goal.leave_outermost-requires-clause-stands
-leave_outermost-requires-clause-stands g c = leaving_last c.loop-table.invariant.hands c.in-Some.ensures.some c.requires.stands (c.is_empty.ensures.0 c.if-is_empty.true)
-
-pub leave_outermost-requires-clause-room : goal.leave_outermost-requires-clause-room
-leave_outermost-requires-clause-room g c = leaving_room c.loop-table.invariant.hands c.in-Some.ensures.some c.requires.stands c.requires.room
+pub leave_outermost-requires : goal.leave_outermost-requires
+leave_outermost-requires g c = leaving_last c.loop-table.invariant.hands c.in-Some.ensures.some c.requires (c.is_empty.ensures.0 c.if-is_empty.true)
 
 pub leave_inside-requires-clause-may : goal.leave_inside-requires-clause-may
 leave_inside-requires-clause-may g c = leaving_may c.loop-table.invariant.hands c.in-Some.ensures.some c.requires.stands c.requires.may

@@ -1,4 +1,4 @@
-use Rattle.std.proofs.Common.{[], false, refl, sym, ◌∙◌, subst}
+use Rattle.std.proofs.Common.{[], false, refl, sym, ◌∙◌, subst, rules}
 use Rattle.frame_types.specs.Lowering.{DropsType}
 use Rattle.level_release.proofs.Dropped.{closed_empties, closed_settled, counted_gives, counted_left, emptied_released, may_drop, may_drop_plain, plain_left}
 use Rattle.level_release.specs.Asking.{is_due_answer}
@@ -53,15 +53,21 @@ returns-else-drop_type g c =
 
 -- ---- none is left
 
-pub empty-requires-clause-stands : goal.empty-requires-clause-stands
-empty-requires-clause-stands g c =
+pub empty-requires : goal.empty-requires
+empty-requires g c =
     let v = g.P.Port.value c.args.port.now in
     let a = g.P.Port.value c.drop_type.new.port in
-    let d = subst (λ b. DropsType v a c.args.frame b) c.if-drop_type.true c.drop_type.ensures.drops in (
-      record v.holdings { typed = [] },
-      closed_empties c.requires.holds d c.look_refs.ensures.moves c.look_refs.ensures.hand c.level_of.result c.level_of.ensures.kind c.level_of.ensures.low c.level_of.ensures.high
-          (sym c.is_table.ensures ∙ c.if-not-is_table.false) c.requires.frame,
-    )
+    let d = subst (λ b. DropsType v a c.args.frame b) c.if-drop_type.true c.drop_type.ensures.drops in
+    record {
+      may = search rules;
+      stands = (
+        record v.holdings { typed = [] },
+        closed_empties c.requires.holds d c.look_refs.ensures.moves c.look_refs.ensures.hand c.level_of.result c.level_of.ensures.kind c.level_of.ensures.low c.level_of.ensures.high
+            (sym c.is_table.ensures ∙ c.if-not-is_table.false) c.requires.frame,
+      );
+      some = λ e. absurd cc;
+      room = search rules;
+    }
 
 pub returns-then-drop_type : goal.returns-then-drop_type
 returns-then-drop_type g c =

@@ -1,4 +1,4 @@
-use Rattle.std.proofs.Common.{◌<◌, [], None, Err, Ok, false, refl, sym, ap, ◌∙◌, subst}
+use Rattle.std.proofs.Common.{◌<◌, [], None, Err, Ok, false, refl, sym, ap, ◌∙◌, subst, rules}
 use Rattle.xp_words.specs.KindWords.{kind_write}
 use Rattle.xp_words.specs.declared.kind.KindWord.{KindWord}
 use Rattle.xp_words.specs.declared.place.Place.TheVariants.{Kind}
@@ -40,12 +40,18 @@ put_old-requires-clause-held g c =
 pub overflow_sub-table : goal.overflow_sub-table
 overflow_sub-table g c = recorded_most c.args.found c.requires.read c.requires.partial
 
-pub empty-requires-clause-stands : goal.empty-requires-clause-stands
-empty-requires-clause-stands g c = (
-  record (g.P.Port.value c.args.port.now).holdings { typed = [] },
-  resumed_empties c.requires.took.2 c.requires.read c.requires.partial c.in-Ok.ensures.moves c.in-Ok.ensures.hand c.look_refs.ensures.moves c.look_refs.ensures.hand
-      c.level_of.result c.level_of.ensures.kind c.level_of.ensures.low c.level_of.ensures.high (recorded_some c.args.kind (sym c.has_recorded.ensures ∙ c.if-has_recorded.true)).1 c.requires.frame,
-)
+pub empty-requires : goal.empty-requires
+empty-requires g c =
+    record {
+      may = search rules;
+      stands = (
+        record (g.P.Port.value c.args.port.now).holdings { typed = [] },
+        resumed_empties c.requires.took.2 c.requires.read c.requires.partial c.in-Ok.ensures.moves c.in-Ok.ensures.hand c.look_refs.ensures.moves c.look_refs.ensures.hand
+            c.level_of.result c.level_of.ensures.kind c.level_of.ensures.low c.level_of.ensures.high (recorded_some c.args.kind (sym c.has_recorded.ensures ∙ c.if-has_recorded.true)).1 c.requires.frame,
+      );
+      some = λ e. absurd cc;
+      room = search rules;
+    }
 
 -- ---- any other frame
 

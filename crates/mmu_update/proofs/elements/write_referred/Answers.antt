@@ -1,17 +1,15 @@
+use Rattle.std.proofs.Common.{rules}
 use Rattle.xp_preempt.proofs.Consulting.{past_none}
-use Rattle.mmu_update.proofs.Holding.{no_ending, no_lock, no_work}
+use Rattle.mmu_update.proofs.Holding.{elsewhere}
 use Rattle.mmu_update.proofs.Referring.{may_put, ordinary, under_lock, unlocked}
 use Rattle.mmu_update.proofs.WriteKinds.{lock_kinds}
 use Rattle.mmu_update.proofs.elements.write_referred.Goals as goal
 
-pub lock_entry-requires-clause-apart : goal.lock_entry-requires-clause-apart
-lock_entry-requires-clause-apart g c = let r = c.requires.referred.1 in no_work c.requires.referred.0 (g.P.Port.value c.args.port.now) c.args.frame c.args.owners.tables r.begins.rests r.hand
-
-pub lock_entry-requires-clause-unlocked : goal.lock_entry-requires-clause-unlocked
-lock_entry-requires-clause-unlocked g c = let r = c.requires.referred.1 in no_lock c.requires.referred.0 (g.P.Port.value c.args.port.now) c.args.frame c.args.owners.tables r.begins.rests r.hand
-
-pub lock_entry-requires-clause-lasting : goal.lock_entry-requires-clause-lasting
-lock_entry-requires-clause-lasting g c = let r = c.requires.referred.1 in no_ending c.requires.referred.0 (g.P.Port.value c.args.port.now) c.args.frame c.args.owners.tables r.begins.rests r.hand
+pub lock_entry-requires : goal.lock_entry-requires
+lock_entry-requires g c =
+    let r = c.requires.referred.1 in
+    let apart = elsewhere c.requires.referred.0 (g.P.Port.value c.args.port.now) c.args.frame c.args.owners.tables r.begins.rests r.hand in
+    record { frame = search rules; may = search rules; lent = search rules; apart = apart; looked = search rules }
 
 pub put_ref-requires-clause-gives : goal.put_ref-requires-clause-gives
 put_ref-requires-clause-gives g c = may_put (g.P.Port.value c.lock_entry.new.port) c.requires.referred.1 c.in-Err.ensures.hand

@@ -1,26 +1,24 @@
-use Rattle.std.proofs.Common.{refl, ap, ◌∙◌}
+use Rattle.std.proofs.Common.{refl, ap, ◌∙◌, rules}
 use Rattle.entry_locks.specs.declared.locking.Locked.TheVariants.{Table}
 use Rattle.mmu_update.proofs.EnteringAt.{at_level, at_ordinary, at_unlocked}
-use Rattle.mmu_update.proofs.Holding.{no_ending, no_lock, no_work}
+use Rattle.mmu_update.proofs.Holding.{elsewhere}
 use Rattle.mmu_update.proofs.Locking.{holds_lock}
 use Rattle.xp_preempt.proofs.Consulting.{past_none}
 use Rattle.mmu_update.proofs.Referring.{may_put, ordinary, under_lock}
 use Rattle.mmu_update.proofs.WriteKinds.{lock_kinds}
 use Rattle.mmu_update.proofs.updates_at.enter_referred.Goals as goal
 
-pub lock_entry-requires-clause-apart : goal.lock_entry-requires-clause-apart
-lock_entry-requires-clause-apart g c = let r = c.requires.referred.1 in no_work c.requires.referred.0 (g.P.Port.value c.args.port.now) c.args.table c.args.owners.tables r.begins.rests r.hand
+pub lock_entry-requires : goal.lock_entry-requires
+lock_entry-requires g c =
+    let r = c.requires.referred.1 in
+    let apart = elsewhere c.requires.referred.0 (g.P.Port.value c.args.port.now) c.args.table c.args.owners.tables r.begins.rests r.hand in
+    record { frame = search rules; may = search rules; lent = search rules; apart = apart; looked = search rules }
 
-pub lock_entry-requires-clause-unlocked : goal.lock_entry-requires-clause-unlocked
-lock_entry-requires-clause-unlocked g c = let r = c.requires.referred.1 in no_lock c.requires.referred.0 (g.P.Port.value c.args.port.now) c.args.table c.args.owners.tables r.begins.rests r.hand
-
-pub lock_entry-requires-clause-lasting : goal.lock_entry-requires-clause-lasting
-lock_entry-requires-clause-lasting g c = let r = c.requires.referred.1 in no_ending c.requires.referred.0 (g.P.Port.value c.args.port.now) c.args.table c.args.owners.tables r.begins.rests r.hand
-
-pub leave_lock-requires-clause-locked : goal.leave_lock-requires-clause-locked
-leave_lock-requires-clause-locked g c =
+pub leave_lock-requires : goal.leave_lock-requires
+leave_lock-requires g c =
     let t = c.in-Ok-Table.ensures in
-    holds_lock (under_lock c.requires.referred.1 t.serves (record { found = t.found; plain = t.plain; stops = tt }) t.hand c.in-Ok-Table.field-0-is)
+    let locked = holds_lock (under_lock c.requires.referred.1 t.serves (record { found = t.found; plain = t.plain; stops = tt }) t.hand c.in-Ok-Table.field-0-is) in
+    search (rules, locked)
 
 pub enter_locked-requires : goal.enter_locked-requires
 enter_locked-requires g c =

@@ -4,7 +4,7 @@ use Rattle.table_entries.proofs.entries.take_found.Goals as goal
 pub take_looked-requires : goal.take_looked-requires
 take_looked-requires g c =
     let w = c.requires.finds.1 in
-    record { frame = c.requires.frame; may = c.requires.may; wanted = had_some w.had; looked = (w.x, w.looked); other = w.other }
+    record { frame = c.requires.frame; may = c.requires.may; wanted = had_some w.had; looked = (w.x, w.looked); stands = w.other }
 
 pub record_entry-requires : goal.record_entry-requires
 record_entry-requires g c =

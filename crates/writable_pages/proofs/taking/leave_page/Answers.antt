@@ -1,6 +1,7 @@
-use Rattle.std.proofs.Common.{[], Err, sym, subst}
+use Rattle.std.proofs.Common.{[], Err, sym, subst, rules}
 use Rattle.xp_words.specs.declared.kind.PageType.TheVariants.{Writable}
 use Rattle.frame_types.specs.Leaving.{WaitsFrom}
+use Rattle.kind_words.specs.Kinds.{MayLeave}
 use Rattle.kept_marks.specs.Marks.{KeptFor, LeavesKept}
 use Rattle.writable_pages.specs.Pages.{LeavesPage}
 use Rattle.writable_pages.proofs.Asking.{kept_serves, plain_serves}
@@ -32,17 +33,14 @@ returns-in-Refused-clause-hand g c b waits =
 
 -- ---- paused
 
-pub leave_kept-requires-clause-leaves : goal.leave_kept-requires-clause-leaves
-leave_kept-requires-clause-leaves g c =
+pub leave_kept-requires : goal.leave_kept-requires
+leave_kept-requires g c =
     let v = g.P.Port.value c.args.port.now in
     let w = c.requires.waits in
-    rw c.waiting_kind-kind.ensures (page_may w.0 v c.args.frame c.args.owner c.args.stamp (subst (λ y. WaitsFrom w.0 v c.args.frame c.args.owner Writable y c.args.stamp) c.if-not-own.false w.1))
-
-pub leave_kept-requires-clause-known : goal.leave_kept-requires-clause-known
-leave_kept-requires-clause-known g c =
-    let v = g.P.Port.value c.args.port.now in
-    let w = c.requires.waits in
-    page_known w.0 v c.args.frame c.args.owner c.args.stamp (subst (λ y. WaitsFrom w.0 v c.args.frame c.args.owner Writable y c.args.stamp) c.if-not-own.false w.1)
+    let waits = subst (λ y. WaitsFrom w.0 v c.args.frame c.args.owner Writable y c.args.stamp) c.if-not-own.false w.1 in
+    let leaves : MayLeave v c.args.frame c.waiting_kind-kind.result = rw c.waiting_kind-kind.ensures (page_may w.0 v c.args.frame c.args.owner c.args.stamp waits) in
+    let known = page_known w.0 v c.args.frame c.args.owner c.args.stamp waits in
+    search (rules, leaves, known)
 
 pub returns-in-Paused-clause-serves : goal.returns-in-Paused-clause-serves
 returns-in-Paused-clause-serves g c u before =

@@ -9,8 +9,9 @@ use Rattle.writable_pages.proofs.Taken.{counted_serves, counted_took, stops_page
 use Rattle.writable_pages.proofs.TakenWords.{page_twin}
 use Rattle.writable_pages.proofs.taking.take_page.Goals as goal
 
-pub take_type-requires-clause-aside : goal.take_type-requires-clause-aside
-take_type-requires-clause-aside g c none = inl c.requires.untyped
+pub take_type-requires : goal.take_type-requires
+take_type-requires g c =
+    record { frame = search rules; may = search rules; wanted = search rules; lent = search rules; aside = λ none. inl c.requires.untyped; other = search rules; looked = search rules }
 
 -- ---- it is not to be had
 pub put_ref-requires-clause-gives : goal.put_ref-requires-clause-gives
