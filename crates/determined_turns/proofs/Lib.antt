@@ -4,3 +4,4 @@ pub mod Extents
 pub mod Lists
 pub mod Mapping
 pub mod Settling
+pub mod Working
