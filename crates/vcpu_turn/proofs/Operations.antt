@@ -114,6 +114,7 @@ module _ {d : ℕ} {number : CallNumber} {v : PortValue} {from : Progress} {log 
         calls = refl;
         within = placed_plain d from.awaited v from.done to w answers answer p plain works from.within;
         waits = refl;
+        place = refl;
         lines = sym (append-nil log) ∙ ap (λ (bs : List Block). log ++ given_lines number bs) (sym (gave_plain d from.awaited v from.done to w answers answer p plain works));
       }
 
@@ -131,4 +132,4 @@ module _ {d : ℕ} {number : CallNumber} {v : PortValue} {from : Progress} {log 
     built_extents command order items is ended {answer} valued_is goes =
         rw is
         (past_as (λ due. sym (due_valued ended answer valued_is) ∙ due)
-        (λ answers on. record { works = record { ended = ended; works = on.works; answer_is = valued_is }; calls = on.calls; within = on.within; waits = refl; lines = on.lines }) goes)
+        (λ answers on. record { works = record { ended = ended; works = on.works; answer_is = valued_is }; calls = on.calls; within = on.within; waits = refl; lines = on.lines; place = on.place }) goes)

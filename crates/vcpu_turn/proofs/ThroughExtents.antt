@@ -24,11 +24,12 @@ module _ {d command order : ℕ} {items : List ℕ} {number : CallNumber} {v : P
         within = refl;
         awaited = refl;
         lines = sym (append-nil log);
+        place = refl;
       })
 
   module _ (checked : mem_refusal command order items ≡ None) where
     pub goes_none : extents_in command items ≡ 0 → GatedPast g g false (λ answers. GoesExtents d command order items number v from from v log log answers (Ok tt))
-    goes_none empty = past_none refl (record { works = extents.WorksExtents.none checked empty; calls = refl; within = refl; awaited = refl; lines = sym (append-nil log) })
+    goes_none empty = past_none refl (record { works = extents.WorksExtents.none checked empty; calls = refl; within = refl; awaited = refl; lines = sym (append-nil log); place = refl })
 
     -- they go on from the first that is still to be done
     pub goes_listed : 0 < extents_in command items → {h : Gate} {begun to left : ℕ} {w : PortValue} {log' : List LogLine} (answer : Result (Unit {0}) Stop) → begun ≡ begins_in command from.done →
@@ -38,4 +39,4 @@ module _ {d command order : ℕ} {items : List ℕ} {number : CallNumber} {v : P
         past_as (λ due. due) (λ answers l. goes answers (subst (λ (n : ℕ). ListsExtents d command order items number n from.within v to left w log log' answers answer) first l)) listed
       where
         goes : (answers : List Bool) → ListsExtents d command order items number (begins_in command from.done) from.within v to left w log log' answers answer → GoesExtents d command order items number v from (record from { done = to; within = left }) w log log' answers answer
-        goes answers l = record { works = extents.WorksExtents.on to from.within w answers answer checked some l.works; calls = refl; within = (refl, l.place); awaited = refl; lines = l.lines }
+        goes answers l = record { works = extents.WorksExtents.on to from.within w answers answer checked some l.works; calls = refl; within = (refl, l.place); awaited = refl; lines = l.lines; place = refl }

@@ -101,6 +101,8 @@ pub record WentOn (d : ℕ) (task : Option Task) (number : CallNumber) (v : Port
   pub within : IsPlaced d task from.awaited v from.done to.done w answers answer works from.within to.within
   pub waits : to.awaited ≡ awaited_left task to.done answer
   pub lines : log' ≡ log ++ given_lines number (gave_of d task from.awaited v from.done to.done w answers answer works)
+  -- it is no destruction
+  pub place : to.place ≡ from.place
 
 -- the extents of the call of that number went on so, which wait for nothing from turn to turn
 pub record GoesExtents (d command order : ℕ) (items : List ℕ) (number : CallNumber) (v : PortValue) (from to : Progress) (w : PortValue) (log log' : List LogLine) (answers : List Bool) (answer : Result (Unit {0}) Stop) : Type 0 where
@@ -109,3 +111,4 @@ pub record GoesExtents (d command order : ℕ) (items : List ℕ) (number : Call
   pub within : PlacesExtents works from.within to.within
   pub awaited : to.awaited ≡ from.awaited
   pub lines : log' ≡ log ++ given_lines number (gave_extents works)
+  pub place : to.place ≡ from.place
