@@ -1,4 +1,5 @@
 pub mod Below
+pub mod Calling
 pub mod Elements
 pub mod Extents
 pub mod Lists

@@ -81,10 +81,9 @@ module _ (says : ℕ → Bool) (n : ℕ) where
       WentOn d task number v from to w log log' answers a → Came v w
   went_came {d} {task} {v = v} {from} {to} {w} {answers = answers} {a} g p = works_came d task from.awaited v from.done to.done w answers a g p.works
 
-  -- (where a destruction stands is no part of the account of another operation)
   pub went_alike : {d : ℕ} {task : Option Task} {number : CallNumber} {v : PortValue} {from to by : Progress} {w x : PortValue} {log log' other : List LogLine} {answers others : List Bool} {a b : Result ℕ Stop} → Gave answers → Gave others →
-      to.place ≡ by.place → WentOn d task number v from to w log log' answers a → WentOn d task number v from by x log other others b → Alike v w x (SameWay to by log' other answers others a b)
-  went_alike {d} {task} {number} {v} {from} {to} {by} {w} {x} {log} {log'} {other} {answers} {others} {a} {b} g h place p q =
+      WentOn d task number v from to w log log' answers a → WentOn d task number v from by x log other others b → Alike v w x (SameWay to by log' other answers others a b)
+  went_alike {d} {task} {number} {v} {from} {to} {by} {w} {x} {log} {log'} {other} {answers} {others} {a} {b} g h p q =
       alike_map (works_alike d task from.awaited v from.done to.done by.done w x answers others a b from.within to.within by.within g h p.works q.works p.within q.within)
-      (λ s. (same_progress to by (p.calls ∙ sym q.calls) s.0 s.3 (p.waits ∙ (ap (λ z. awaited_left task z a) s.0 ∙ (ap (λ z. awaited_left task by.done z) s.2 ∙ sym q.waits))) place,
+      (λ s. (same_progress to by (p.calls ∙ sym q.calls) s.0 s.3 (p.waits ∙ (ap (λ z. awaited_left task z a) s.0 ∙ (ap (λ z. awaited_left task by.done z) s.2 ∙ sym q.waits))) (p.place ∙ sym q.place),
       p.lines ∙ (ap (λ z. log ++ given_lines number z) s.4 ∙ sym q.lines), s.1, s.2))
