@@ -89,13 +89,8 @@ module _ {A : Type 0} (P : ℕ → Option A → List Visit → Type 0) (tie : (i
   -- the one goes on where the other halts
   parts : (us vs : List Visit) (i : ℕ) (a : A) → Front Silent from us i → Halt i a vs → Forks us vs
   parts us vs i a f t =
-      tie_off us vs ⊥
-      (subst (λ z. Tie z vs ⊥) (sym f.list) (more (tie_then f.older t.before f.now t.after (Unit {0}) ⊥ (silent_tie i f.older t.before f.before t.first) (λ e s. tie_map _ _ _ _ (tie i None (Some a) f.now t.after f.at t.next) (λ h. absurd cc)))))
-      (λ z. z)
-    where
-      more : Tie (f.now ++ f.older) (t.after ++ t.before) ⊥ → Tie (f.newer ++ (f.now ++ f.older)) vs ⊥
-      more (inl k) = inl (subst (λ z. Forks (f.newer ++ (f.now ++ f.older)) z) (sym t.list) (forks_newer (f.now ++ f.older) (t.after ++ t.before) f.newer [] k))
-      more (inr s) = absurd s.1
+      let apart = tie_off (f.now ++ f.older) (t.after ++ t.before) ⊥ (tie_then f.older t.before f.now t.after (Unit {0}) ⊥ (silent_tie i f.older t.before f.before t.first) (λ e s. tie_map _ _ _ _ (tie i None (Some a) f.now t.after f.at t.next) (λ h. absurd cc))) (λ z. z) in
+      subst (λ z. Forks z vs) (sym f.list) (subst (λ z. Forks (f.newer ++ (f.now ++ f.older)) z) (sym t.list) (forks_newer (f.now ++ f.older) (t.after ++ t.before) f.newer [] apart))
 
   halt_from : (i : ℕ) (a : A) (vs : List Visit) → Halt i a vs → from ≤ i
   halt_from i a vs t = upwards_from Silent from i t.before t.first

@@ -75,11 +75,14 @@ all_given_tie d f g k us vs p q = upwards_sure (λ i us. GivenBy d (f + i) (numb
 
 -- ---- the frames of a block are taken, from the last one down; or down to one that was lost
 module _ (n : Machine) (d f : ℕ) (stamps : List ℕ) where
+  abbrev Swapped : ℕ → ℕ → ℕ → List Visit → Type 0
+  Swapped s j x vs = Only (visit (Refs (f + j)) (Cas s (ref_write (Dying d))) x) vs
+
   abbrev One : ℕ → Option ℕ → List Visit → Type 0
   One j None vs = TakesOne d f stamps j vs
-  One j (Some x) vs = (x ≢ slice_index stamps j) × Only (visit (Refs (f + j)) (Cas (slice_index stamps j) (ref_write (Dying d))) x) vs
+  One j (Some x) vs = (x ≢ slice_index stamps j) × Swapped (slice_index stamps j) j x vs
 
-  swaps_tie : (j x y : ℕ) (us vs : List Visit) → Only (visit (Refs (f + j)) (Cas (slice_index stamps j) (ref_write (Dying d))) x) us → Only (visit (Refs (f + j)) (Cas (slice_index stamps j) (ref_write (Dying d))) y) vs → Tie us vs (x ≡ y)
+  swaps_tie : (j x y : ℕ) (us vs : List Visit) → Swapped (slice_index stamps j) j x us → Swapped (slice_index stamps j) j y vs → Tie us vs (x ≡ y)
   swaps_tie j x y us vs p q = only_tie (Refs (f + j)) (Cas (slice_index stamps j) (ref_write (Dying d))) x y us vs p q
 
   one_tie : (j : ℕ) (o p : Option ℕ) (us vs : List Visit) → One j o us → One j p vs → Tie us vs (o ≡ p)
@@ -138,9 +141,6 @@ module _ (n : Machine) (d f : ℕ) (stamps : List ℕ) where
       list = t.list;
     };
   }
-
-  abbrev Swapped : ℕ → ℕ → ℕ → List Visit → Type 0
-  Swapped s j x vs = Only (visit (Refs (f + j)) (Cas s (ref_write (Dying d))) x) vs
 
   lost_view : (place s x j : ℕ) (vs : List Visit) → j < length stamps → place ≡ number (sizes_of n) (Refs (f + j)) → s ≡ slice_index stamps j → x ≢ s → Then (Downwards (TakesOne d f stamps) (length stamps) (j + 1)) (Then (Swapped s j x) (Frees j)) vs →
       Takes (Err (Paused (Lost place s x))) vs
