@@ -40,7 +40,7 @@ module _ (says : ℕ → Bool) (d : ℕ) (call : Call) (op : ℕ) (from : Progre
   abbrev Went : PortValue → Progress → PortValue → List LogLine → List Bool → Result ℕ Stop → Type 0
   Went u to x late asked a = WentOn d (task_in call) (call_behind op from.call) u from to x log late asked a
 
-  call_came : (n : ℕ) (v : PortValue) (to : Progress) (w : PortValue) (late : List LogLine) (answers : List Bool) (a : Answer) → GivesAnswers says n answers → AnswersCall d call op v from log to w late answers a → Came v w
+  pub call_came : (n : ℕ) (v : PortValue) (to : Progress) (w : PortValue) (late : List LogLine) (answers : List Bool) (a : Answer) → GivesAnswers says n answers → AnswersCall d call op v from log to w late answers a → Came v w
   call_came n v _ _ _ _ _ g (AnswersCall.unsettled w early stop settles) = settles_came settles
   call_came n v _ _ _ _ _ g (AnswersCall.paused to u w late early asked p settles went) = came_trans v u w (settles_came settles) (went_came says (asks_on (length early) n) (gives_more says n asked early g) went)
   call_came n v _ _ _ _ _ g (AnswersCall.answered to u x w late early asked a reply settles went replies ends) =

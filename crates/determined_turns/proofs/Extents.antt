@@ -13,7 +13,7 @@ use Rattle.vcpu_turn.specs.Extents.{Block, ExtentFits, PlacesExtents, WorksExten
 use Rattle.vcpu_turn.specs.Lists.{DidItems, WorksOn}
 use Rattle.determined_laws.specs.Courses.{Alike}
 use Rattle.determined_laws.proofs.Courses.{alike_map, alike_same}
-use Rattle.determined_turns.proofs.Below.{reserves_alike, reserves_came}
+use Rattle.determined_claims.proofs.Extents.{reserves_alike, reserves_came}
 use Rattle.determined_turns.proofs.Elements.{whole_alike, whole_came}
 use Rattle.determined_turns.proofs.Lists.{Answer, outs_did, outs_on, works_on_alike, works_on_came}
 
