@@ -5,4 +5,5 @@ pub mod Lists
 pub mod Mapping
 pub mod Multicalls
 pub mod Settling
+pub mod Turning
 pub mod Working

@@ -45,7 +45,7 @@ module _ (says : ℕ → Bool) (n : ℕ) where
   works_came d (Some (OfRead user va)) awaited v from to w answers a g p = read_came user va v to w answers a p
   works_came d (Some (OfWrite user va val)) awaited v from to w answers a g p = write_came user va val v to w answers p.ended p.works
 
-  valued_as : {P Q : Answer → Type 0} {a b : Result ℕ Stop} (p : Valued P a) (q : Valued Q b) → p.ended ≡ q.ended → a ≡ b
+  pub valued_as : {P Q : Answer → Type 0} {a b : Result ℕ Stop} (p : Valued P a) (q : Valued Q b) → p.ended ≡ q.ended → a ≡ b
   valued_as p q e = p.answer_is ∙ (ap valued e ∙ sym q.answer_is)
 
   -- with the place within an element, and the blocks that were given
