@@ -146,6 +146,7 @@ module _ (x : EntryUpdate) (o : Owners) (seen : ℕ) where
         put_first : {u z : PortValue} {fs gs : List Bool} {q : Result (Unit {0}) Stop} {k : Result ℕ Stop} → Put u z fs gs q k → GivesAnswers says n gs → GivesAnswers says n fs
         put_first (lost e stop gave left is end) g = subst (GivesAnswers says n) is g
         put_first {fs = fs} (done e old more left released is end) g = gives_first says n more fs (subst (GivesAnswers says n) is g)
+
         took_first : {u z : PortValue} {fs gs : List Bool} {q k : Result (Unit {0}) Stop} → Took u z fs gs q k → GivesAnswers says n gs → GivesAnswers says n fs
         took_first (untaken stop left is end) g = subst (GivesAnswers says n) is g
         took_first (taken e k puts rest) g = put_first rest g

@@ -6,12 +6,7 @@
 mod laws;
 
 pub use laws::{
-    a_pin_is_determined,
-    a_pin_of_a_live_table_is_determined,
-    a_way_down_is_determined,
-    an_exchange_is_determined,
-    an_extended_operation_is_determined,
-    an_unpin_is_determined,
-    an_update_by_address_is_determined,
-    an_update_is_determined,
+    a_pin_is_determined, a_pin_of_a_live_table_is_determined, a_way_down_is_determined,
+    an_exchange_is_determined, an_extended_operation_is_determined, an_unpin_is_determined,
+    an_update_by_address_is_determined, an_update_is_determined,
 };

@@ -69,8 +69,13 @@ module _ (says : ℕ → Bool) (d : ℕ) (call : Call) (op : ℕ) (from : Progre
       alike_apart (moves_came y w _ _ _ _ _ ends.1) (came_self x) (went_alike says m g h goes went) (λ s. unpaused at.done c p reply s.3 replies)
   rest_alike m u to by w x late log' asked others a b g h (answered at y before c reply went replies ends there logs is) (answered where_at z early e word goes tells stops here lists also) =
       alike_next (λ k. EndsCall (from.call + 1) k x) (went_came says m g went) (moves_came y w _ _ _ _ _ ends.1) (moves_came z x _ _ _ _ _ stops.1) (went_alike says m g h went goes) stops
-      (λ s more. alike_map (alike_move ends.1 more.1) (λ t. (there ∙ sym here, logs ∙ (ap (λ k. k ++ lines.Answer op (from.call + 1) reply ∷ []) s.1
-      ∙ (ap (λ k. early ++ lines.Answer op (from.call + 1) k ∷ []) (one_reply at.done where_at.done c e reply word (ap (λ (k : Progress). k.done) s.0) s.3 replies tells) ∙ sym lists)), s.2, is ∙ sym also)))
+      (λ s more. alike_map (alike_move ends.1 more.1) (λ t. (
+        there ∙ sym here,
+        logs ∙ (ap (λ k. k ++ lines.Answer op (from.call + 1) reply ∷ []) s.1
+            ∙ (ap (λ k. early ++ lines.Answer op (from.call + 1) k ∷ []) (one_reply at.done where_at.done c e reply word (ap (λ (k : Progress). k.done) s.0) s.3 replies tells) ∙ sym lists)),
+        s.2,
+        is ∙ sym also,
+      )))
 
   data Parts (v : PortValue) (to : Progress) (w : PortValue) (late : List LogLine) (answers : List Bool) (a : Answer) : Type 0 where
     unsettled : (stop : Stop) → Settles None v w answers (Err stop) → to ≡ from → late ≡ log → a ≡ Err stop → Parts v to w late answers a

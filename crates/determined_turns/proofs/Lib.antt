@@ -5,5 +5,6 @@ pub mod Lists
 pub mod Mapping
 pub mod Multicalls
 pub mod Settling
+pub mod Telling
 pub mod Turning
 pub mod Working

@@ -61,10 +61,12 @@ module _ (says : ℕ → Bool) (n d : ℕ) (calls : List Call) (op : ℕ) where
       both =
           call_alike says d call op s.at s.log (asks_on (length s.answers) n) s.port to by w x behind late asked others a b (gives_more says n asked s.answers g) (gives_more says n others s.answers h) p
           (subst (λ z. AnswersCall d z op s.port s.at s.log by x late others b) (sym (one_call call other (slice_get calls s.at.call) is also)) q)
+
       same : w ≡ x → to ≡ by → behind ≡ late → asked ≡ others → a ≡ b → state to w behind (asked ++ s.answers) (ended_by a) ≡ state by x late (others ++ s.answers) (ended_by b)
       same k e f i j =
           ap (λ z. state z w behind (asked ++ s.answers) (ended_by a)) e ∙ (ap (λ z. state by z behind (asked ++ s.answers) (ended_by a)) k
           ∙ (ap (λ z. state by x z (asked ++ s.answers) (ended_by a)) f ∙ (ap (λ z. state by x late (z ++ s.answers) (ended_by a)) i ∙ ap (λ z. state by x late (others ++ s.answers) (ended_by z)) j)))
+
       by_ports : Alike s.port w x ((to ≡ by) × (behind ≡ late) × (asked ≡ others) × (a ≡ b)) → Alike s.port w x (t ≡ u)
       by_ports (inl f) = inl f
       by_ports (inr e) = inr (e.0, at ∙ (same e.0 e.1.0 e.1.1 e.1.2 e.1.3 ∙ sym there))

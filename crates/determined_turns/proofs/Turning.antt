@@ -153,7 +153,7 @@ module _ (says : ℕ → Bool) (n : ℕ) where
   same_place from to by a b e one two f is also =
       is ∙ (ap (λ z. record from { done = done_behind from.done z; place = one }) e ∙ (ap (λ z. record from { done = done_behind from.done b; place = z }) f ∙ sym also))
 
-  by_alike : (d : ℕ) (job : Job) (op : ℕ) (v : PortValue) (from to by : Progress) (w x : PortValue) (log late other : List LogLine) (answers others : List Bool) (a b : Result ℕ Stop) → OwnsReal v → GivesAnswers says n answers → GivesAnswers says n others →
+  pub by_alike : (d : ℕ) (job : Job) (op : ℕ) (v : PortValue) (from to by : Progress) (w x : PortValue) (log late other : List LogLine) (answers others : List Bool) (a b : Result ℕ Stop) → OwnsReal v → GivesAnswers says n answers → GivesAnswers says n others →
       WentBy d job op v from to w log late answers a → WentBy d job op v from by x log other others b → Alike v w x ((to ≡ by) × (late ≡ other) × (answers ≡ others) × (a ≡ b))
   by_alike d (OfOne task) op v from to by w x log late other answers others a b real g h p q = went_alike says n g h p q
   by_alike d (OfCalls calls) op v from to by w x log late other answers others a b real g h p q =
@@ -189,7 +189,7 @@ dies_alike life c (Some op) one two v w x end stop p q =
 dies_alike life c None one two v w x end stop p q = alike_same (p.0 ∙ sym q.0) (p.2 ∙ sym q.2, p.1 ∙ sym q.1)
 
 -- ---- between the beginning and the end
-own_is_real : (q : Post) → IsMachine q.machine → q.vcpu < (sizes_of q.machine).vcpus → domain_of q.machine q.vcpu < length q.machine.page_limit
+pub own_is_real : (q : Post) → IsMachine q.machine → q.vcpu < (sizes_of q.machine).vcpus → domain_of q.machine q.vcpu < length q.machine.page_limit
 own_is_real q machine real = All-get_or (λ d. d < length q.machine.page_limit) q.machine.vcpu_domain q.vcpu 0 real machine.of_domains
 
 module _ (says : ℕ → Bool) (n : ℕ) (c : Processing) (o : Option Op) where

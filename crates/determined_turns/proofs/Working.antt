@@ -85,5 +85,9 @@ module _ (says : ℕ → Bool) (n : ℕ) where
       WentOn d task number v from to w log log' answers a → WentOn d task number v from by x log other others b → Alike v w x (SameWay to by log' other answers others a b)
   went_alike {d} {task} {number} {v} {from} {to} {by} {w} {x} {log} {log'} {other} {answers} {others} {a} {b} g h p q =
       alike_map (works_alike d task from.awaited v from.done to.done by.done w x answers others a b from.within to.within by.within g h p.works q.works p.within q.within)
-      (λ s. (same_progress to by (p.calls ∙ sym q.calls) s.0 s.3 (p.waits ∙ (ap (λ z. awaited_left task z a) s.0 ∙ (ap (λ z. awaited_left task by.done z) s.2 ∙ sym q.waits))) (p.place ∙ sym q.place),
-      p.lines ∙ (ap (λ z. log ++ given_lines number z) s.4 ∙ sym q.lines), s.1, s.2))
+      (λ s. (
+        same_progress to by (p.calls ∙ sym q.calls) s.0 s.3 (p.waits ∙ (ap (λ z. awaited_left task z a) s.0 ∙ (ap (λ z. awaited_left task by.done z) s.2 ∙ sym q.waits))) (p.place ∙ sym q.place),
+        p.lines ∙ (ap (λ z. log ++ given_lines number z) s.4 ∙ sym q.lines),
+        s.1,
+        s.2,
+      ))
