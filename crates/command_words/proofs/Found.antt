@@ -1,5 +1,5 @@
 -- The number in what `clap` found.
-use Rattle.std.proofs.Common.{◌≡◌, ◌∙◌, ℕ, ◌<◌, ◌^◌, List, [], Box, box_value, Option, Some, None, Result, Ok, Err, option_and_then, option_map, unwrap_or, sym, ap, subst}
+use Rattle.std.proofs.Common.{◌≡◌, ◌∙◌, ℕ, ◌<◌, ◌^◌, Bool, true, false, List, [], codes, inl, inr, Box, box_value, Option, Some, None, Result, Ok, Err, option_and_then, option_map, unwrap_or, sym, ap, subst}
 use Rattle.std.specs.Str.Parse.{IsNumeral, ParsesUnsigned, digits_value}
 use Rattle.clap.specs.Words.{ReadsOne, Row, Text, one_of, one_text, rows_of, subcommand_name_of, subcommand_rows_of}
 use Rattle.clap.specs.declared.parser.matches.Found.{Found}
@@ -9,7 +9,7 @@ use Rattle.clap.specs.declared.parser.matches.ArgMatches.{ArgMatches}
 use Rattle.clap.specs.declared.parser.matches.ArgMatches.TheViews.{out-ArgMatches, out-SubCommand}
 use Rattle.clap.specs.declared.parser.matches.SubCommand.{SubCommand}
 use Rattle.command_words.specs.Words.{argument_of, command_named, command_word}
-use Rattle.command_words.specs.Table.{FoundText, SpellsNumber, found_with, text_found}
+use Rattle.command_words.specs.Table.{FoundText, SpellsFlag, SpellsNumber, flag_found, found_with, text_found}
 use Rattle.command_words.specs.declared.asked.CommandName.{CommandName}
 use Rattle.command_words.proofs.Knowing.{names_itself}
 use Rattle.command_words.proofs.Spellings.{unsigned}
@@ -61,3 +61,18 @@ is_read E G o f name argument text number r at has e reads only spells =
 -- a command without a number
 pub is_numberless : (name : CommandName) (text : Text) (number : ℕ) → argument_of name ≡ None → SpellsNumber (argument_of name) text number → number ≡ 0
 is_numberless name text number at spells = subst (λ a. SpellsNumber a text number) at spells
+
+-- the flag in the matches of the subcommand
+pub flag_read : (o : Option (Text × List Row)) (f : Found) (steps r : Bool) → option_map (λ p. p.1) o ≡ Some (rows_of f)
+    → (one_text f (codes "steps") ≡ None → r ≡ false) → (one_text f (codes "steps") ≡ Some (codes "true") → r ≡ true) → (one_text f (codes "steps") ≡ Some (codes "false") → r ≡ false)
+    → SpellsFlag (flag_found o) steps → r ≡ steps
+flag_read None f steps r has none given not_given spells = absurd cc
+flag_read (Some p) f steps r has none given not_given spells = by steps spells
+  where
+    read : (t : Option Text) → one_of (codes "steps") p.1 ≡ t → one_text f (codes "steps") ≡ t
+    read t e = one_text-rows f (codes "steps") ∙ ap (λ (rows : Option (List Row)). one_of (codes "steps") (unwrap_or rows [])) (sym has) ∙ e
+
+    by : (b : Bool) → SpellsFlag (one_of (codes "steps") p.1) b → r ≡ b
+    by true e = given (read _ e)
+    by false (inl e) = none (read _ e)
+    by false (inr e) = not_given (read _ e)

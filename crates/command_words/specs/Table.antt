@@ -1,9 +1,10 @@
 -- The commands as `clap` is told of them.
-use Rattle.std.specs.Prelude.{◌≡◌, ℕ, ◌<◌, ◌^◌, true, List, [], ◌∷◌, Option, Some, None, codes, option_and_then, option_map, pos}
+use Rattle.std.specs.Prelude.{◌≡◌, ℕ, ◌<◌, ◌^◌, ◌⊎◌, Bool, true, false, List, [], ◌∷◌, Option, Some, None, codes, option_and_then, option_map, pos}
 use Rattle.std.specs.Str.Parse.{IsNumeral, digits_value}
 use Rattle.clap.specs.Words.{App, Row, Rule, Text, new_app, new_rule, one_of, with_rule, with_subcommand}
 use Rattle.clap.specs.Simple.{on_top}
 use Rattle.clap.specs.declared.builder.value_parser.ValueParser.TheVariants.{Signed}
+use Rattle.clap.specs.declared.builder.action.ArgAction.TheVariants.{SetTrue}
 use Rattle.command_words.specs.Words.{argument_of, command_word}
 use Rattle.command_words.specs.declared.asked.CommandName.{CommandName}
 use Rattle.command_words.specs.declared.asked.CommandName.TheVariants as names
@@ -19,6 +20,14 @@ preempt = record (new_rule (codes "preempt")) {
 -- a command that may have that option
 abbrev pub paced : Text → App
 paced name = with_rule (new_app name) preempt
+
+-- `--steps`
+abbrev pub steps_flag : Rule
+steps_flag = record (new_rule (codes "steps")) { long = Some (codes "steps"); action = Some SetTrue }
+
+-- a command that may have both
+abbrev pub stepped : Text → App
+stepped name = with_rule (paced name) steps_flag
 
 -- `N` by its place, from 1 to 60000
 abbrev pub operations : Rule
@@ -46,7 +55,7 @@ program = on_top (λ s. record s {
 
 abbrev pub table : App
 table = with_subcommand (with_subcommand (with_subcommand (with_subcommand (with_subcommand (with_subcommand program
-    (paced (command_word names.Turns)).top) (paced (command_word names.Replay)).top) (paced (command_word names.Image)).top)
+    (stepped (command_word names.Turns)).top) (paced (command_word names.Replay)).top) (paced (command_word names.Image)).top)
     generator.top) (reader (command_word names.Audit)).top) (reader (command_word names.Draw)).top
 
 -- a command that was found, with the text of its number, where it has one
@@ -64,3 +73,12 @@ found_with name text = Some (command_word name, option_map (λ _. text) (argumen
 abbrev pub SpellsNumber : Option Text → Text → ℕ → Type 0
 SpellsNumber None text n = n ≡ 0
 SpellsNumber (Some argument) text n = IsNumeral 10 text × (digits_value 10 text ≡ n) × (n < 2 ^ 32)
+
+-- what was found of the flag
+abbrev pub flag_found : Option (Text × List Row) → Option Text
+flag_found = option_and_then {U = Text} (λ p. one_of (codes "steps") p.1)
+
+-- it was given, or not
+abbrev pub SpellsFlag : Option Text → Bool → Type 0
+SpellsFlag found true = found ≡ Some (codes "true")
+SpellsFlag found false = (found ≡ None) ⊎ (found ≡ Some (codes "false"))

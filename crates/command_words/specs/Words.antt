@@ -1,5 +1,6 @@
 -- What the words of the command line ask for.
 use Rattle.std.specs.Prelude.{ℕ, nat_le, ◌==◌, ◌&&◌, ◌||◌, not, Bool, true, false, if◌then◌else◌, List, [], ◌∷◌, take, drop, Option, Some, None, option_and_then, option_map, codes}
+use Rattle.std.specs.Option.{option_or}
 use Rattle.std.specs.List.{list_all}
 use Rattle.std.specs.Str.{bytes_eq}
 use Rattle.trace_lines.specs.Numbers.{is_digit, numeral}
@@ -35,6 +36,17 @@ pace_after [] = Some 0
 pace_after (o ∷ []) = pace_behind o
 pace_after (o ∷ p ∷ []) = if bytes_eq o (codes "--preempt") then pace_in p else None
 pace_after (o ∷ p ∷ x ∷ xs) = None
+
+abbrev pub is_steps : List ℕ → Bool
+is_steps word = bytes_eq word (codes "--steps")
+
+-- the same of words with `--steps`, once, before the others or behind them; no pace where they are without it
+abbrev pub pace_with_steps : List (List ℕ) → Option ℕ
+pace_with_steps [] = None
+pace_with_steps (o ∷ []) = if is_steps o then Some 0 else None
+pace_with_steps (o ∷ p ∷ []) = if is_steps o then pace_after (p ∷ []) else if is_steps p then pace_after (o ∷ []) else None
+pace_with_steps (o ∷ p ∷ q ∷ []) = if is_steps o then pace_after (p ∷ q ∷ []) else if is_steps q then pace_after (o ∷ p ∷ []) else None
+pace_with_steps (o ∷ p ∷ q ∷ x ∷ xs) = None
 
 -- the words behind `generate`: one that spells how many operations
 abbrev pub operations_after : List (List ℕ) → Option ℕ
@@ -79,14 +91,14 @@ argument_of names.Generate = Some (codes "operations")
 argument_of names.Audit = None
 argument_of names.Draw = None
 
--- what a command with its number asks for
-abbrev pub asked_as : CommandName → ℕ → Asked
-asked_as names.Turns pace = asks.Run manners.Turns pace
-asked_as names.Replay pace = asks.Run manners.Replay pace
-asked_as names.Image pace = asks.Image pace
-asked_as names.Generate n = asks.Generate n
-asked_as names.Audit n = asks.Audit
-asked_as names.Draw n = asks.Draw
+-- what a command with its number asks for, with the steps or without
+abbrev pub asked_as : CommandName → Bool → ℕ → Asked
+asked_as names.Turns steps pace = if steps then asks.Steps pace else asks.Run manners.Turns pace
+asked_as names.Replay steps pace = asks.Run manners.Replay pace
+asked_as names.Image steps pace = asks.Image pace
+asked_as names.Generate steps n = asks.Generate n
+asked_as names.Audit steps n = asks.Audit
+asked_as names.Draw steps n = asks.Draw
 
 -- the number that the words behind a command give, where they may stand there: 0 where it has no number
 abbrev pub number_after : CommandName → List (List ℕ) → Option ℕ
@@ -97,10 +109,23 @@ number_after names.Generate rest = operations_after rest
 number_after names.Audit rest = if names_source rest then Some 0 else None
 number_after names.Draw rest = if names_source rest then Some 0 else None
 
--- What the words ask for: the first names the command, and those behind it give its number.
+-- the same of words with `--steps`, which `turns` alone may have
+abbrev pub number_with_steps : CommandName → List (List ℕ) → Option ℕ
+number_with_steps names.Turns rest = pace_with_steps rest
+number_with_steps names.Replay rest = None
+number_with_steps names.Image rest = None
+number_with_steps names.Generate rest = None
+number_with_steps names.Audit rest = None
+number_with_steps names.Draw rest = None
+
+-- what the words behind a command ask for
+abbrev pub asked_after : CommandName → List (List ℕ) → Option Asked
+asked_after name rest = option_or (option_map (asked_as name false) (number_after name rest)) (option_map (asked_as name true) (number_with_steps name rest))
+
+-- What the words ask for: the first names the command, and those behind it give its number, and whether the steps are asked for.
 abbrev pub words_ask : List (List ℕ) → Option Asked
 words_ask [] = None
-words_ask (word ∷ rest) = option_and_then (λ name. option_map (asked_as name) (number_after name rest)) (command_named word)
+words_ask (word ∷ rest) = option_and_then (λ name. asked_after name rest) (command_named word)
 
 -- a command that reads an image
 abbrev pub reads_image : List ℕ → Bool

@@ -19,6 +19,11 @@ pub enum Asked {
         /// What the gates are told: each says yes at every so many-th time that it is asked, and at 0 never.
         pace: u32,
     },
+    /// The same run in one thread, with a line for each of its steps behind the report.
+    Steps {
+        /// As of a run.
+        pace: u32,
+    },
     /// The same run in one thread, and an image of the closing machine.
     Image {
         /// As of a run.
@@ -71,11 +76,12 @@ impl CommandName {
         }
     }
 
-    // What is asked by this command with this number.
-    pub(crate) fn asked(self, number: u32) -> Asked
-        ensures { result ≡ asked_as self number }
+    // What is asked by this command with this number, with the steps or without.
+    pub(crate) fn asked(self, steps: bool, number: u32) -> Asked
+        ensures { result ≡ asked_as self steps number }
     {
         match self {
+            CommandName::Turns if steps => Asked::Steps { pace: number },
             CommandName::Turns => Asked::Run {
                 manner: Manner::Turns,
                 pace: number,

@@ -1,7 +1,7 @@
 ghost use Rattle.std.specs.Prelude.{◌≡◌, is_some, map, option_map, codes, string_bytes};
 ghost use Rattle.std.specs.Str.{bytes_eq};
 ghost use Rattle.trace_lines.specs.Numbers.{is_proper as is_proper_lem, numeral};
-ghost use Rattle.command_words.specs.Words.{words_ask, has_digits as has_digits_lem, is_path as is_path_lem, names_source, reads_image as reads_image_lem, number_after, number_within, operations_after, pace_behind, pace_in, pace_after, path_in};
+ghost use Rattle.command_words.specs.Words.{asked_after, words_ask, has_digits as has_digits_lem, is_path as is_path_lem, names_source, reads_image as reads_image_lem, is_steps as is_steps_lem, number_after, number_within, operations_after, pace_behind, pace_in, pace_after, pace_with_steps, path_in};
 
 use crate::asked::CommandName;
 
@@ -74,6 +74,23 @@ fn has_pace(words: &[String]) -> bool
     }
 }
 
+fn is_steps(word: &str) -> bool
+    ensures { result ≡ is_steps_lem word.now }
+{
+    word == "--steps"
+}
+
+// The words behind `turns` ask for the steps, and give a pace.
+fn has_steps(words: &[String]) -> bool
+    ensures { result ≡ is_some (pace_with_steps (map string_bytes words.now)) }
+{
+    match words {
+        [first, rest @ ..] if is_steps(first.as_str()) => has_pace(rest),
+        [rest @ .., last] if is_steps(last.as_str()) => has_pace(rest),
+        _ => false,
+    }
+}
+
 // The words behind `generate` are one number of operations.
 fn has_operations(words: &[String]) -> bool
     ensures { result ≡ is_some (operations_after (map string_bytes words.now)) }
@@ -106,11 +123,12 @@ fn has_source(words: &[String]) -> bool
 }
 
 // The words behind a command are such as may stand there.
-fn has_number(name: CommandName, words: &[String]) -> bool
-    ensures { result ≡ is_some (number_after name (map string_bytes words.now)) }
+fn may_follow(name: CommandName, words: &[String]) -> bool
+    ensures { result ≡ is_some (asked_after name (map string_bytes words.now)) }
 {
     match name {
-        CommandName::Turns | CommandName::Replay | CommandName::Image => has_pace(words),
+        CommandName::Turns => has_pace(words) || has_steps(words),
+        CommandName::Replay | CommandName::Image => has_pace(words),
         CommandName::Generate => has_operations(words),
         CommandName::Audit | CommandName::Draw => has_source(words),
     }
@@ -123,7 +141,7 @@ pub fn is_known(words: &[String]) -> bool
     match words {
         [] => false,
         [command, rest @ ..] => match CommandName::named(command.as_str()) {
-            Some(name) => has_number(name, rest),
+            Some(name) => may_follow(name, rest),
             None => false,
         },
     }

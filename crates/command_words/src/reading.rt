@@ -1,6 +1,6 @@
-ghost use Rattle.std.specs.Prelude.{◌≡◌, ℕ, List, IfOk, IfErr, Some, is_some, true, false, map, string_bytes};
+ghost use Rattle.std.specs.Prelude.{◌≡◌, ℕ, Bool, List, IfOk, IfErr, Some, is_some, true, false, map, string_bytes};
 ghost use Rattle.command_words.specs.Words.{argument_of, asked_as, words_ask};
-ghost use Rattle.command_words.specs.Table.{SpellsNumber, found_with, generator as generator_app, paced as paced_app, reader as reader_app, table, text_found};
+ghost use Rattle.command_words.specs.Table.{SpellsNumber, found_with, generator as generator_app, paced as paced_app, reader as reader_app, SpellsFlag, flag_found, stepped as stepped_app, table, text_found};
 ghost use Rattle.clap.specs.Words.{app_of, subcommand_rows_of};
 ghost use Rattle.command_words.specs.declared.asked.CommandName.{CommandName};
 ghost use Rattle.clap.specs.declared.builder.command.Command.TheViews.{out-Command};
@@ -8,7 +8,7 @@ ghost use Rattle.clap.specs.declared.builder.command.Command.TheViews.{out-Comma
 use crate::asked::{Asked, CommandName};
 use crate::known::is_known;
 use clap::error::ErrorKind;
-use clap::{Arg, ArgMatches, Command, value_parser};
+use clap::{Arg, ArgAction, ArgMatches, Command, value_parser};
 use std::alloc::{AllocError, Global};
 
 // A command of this name, which may have a pace.
@@ -21,6 +21,17 @@ fn paced<'a>(alloc: Global, name: &'a str) -> Result<Command<'a>, AllocError>
         .default_value("0")
         .value_parser(value_parser!(u32).range(0..=1_000_000));
     Command::new(alloc, name).arg(pace)
+}
+
+// The same, which may also have the steps.
+fn stepped<'a>(alloc: Global, name: &'a str) -> Result<Command<'a>, AllocError>
+    ensures app { IfOk result (λ c. app_of c ≡ stepped_app name.entry.now) }
+    ensures local { IfOk result (λ c. (out-Command c).has_globals ≡ false) }
+{
+    let steps = Arg::new(alloc, "steps")
+        .long("steps")
+        .action(ArgAction::SetTrue);
+    paced(alloc, name)?.arg(steps)
 }
 
 // `generate`, with its number of operations.
@@ -47,7 +58,7 @@ fn reader<'a>(alloc: Global, name: &'a str) -> Result<Command<'a>, AllocError>
 fn commands<'a>(alloc: Global) -> Result<Command<'a>, AllocError>
     ensures { IfOk result (λ c. app_of c ≡ table) }
 {
-    let turns = paced(alloc, "turns")?;
+    let turns = stepped(alloc, "turns")?;
     let replay = paced(alloc, "replay")?;
     let image = paced(alloc, "image")?;
     let generate = generator(alloc)?;
@@ -66,18 +77,19 @@ fn commands<'a>(alloc: Global) -> Result<Command<'a>, AllocError>
         .subcommand(draw)
 }
 
-// The command that was found, with its number. One that has none is asked with 0.
+// The command that was found, with its number, and with the steps where they were asked for. One that has no number is asked with 0.
 fn asked_in(matches: &ArgMatches<'_>) -> Option<Asked>
-    ensures { (name : CommandName) (text : List ℕ) (number : ℕ) → text_found name (subcommand_rows_of matches.now) ≡ found_with name text → SpellsNumber (argument_of name) text number → result ≡ Some (asked_as name number) }
+    ensures { (name : CommandName) (text : List ℕ) (steps : Bool) (number : ℕ) → text_found name (subcommand_rows_of matches.now) ≡ found_with name text → SpellsFlag (flag_found (subcommand_rows_of matches.now)) steps → SpellsNumber (argument_of name) text number → result ≡ Some (asked_as name steps number) }
 {
     let (word, found) = matches.subcommand()?;
     let name = CommandName::named(word)?;
+    let steps = found.get_flag("steps");
     match name.argument() {
         Some(argument) => {
             let number = found.get_one::<u32>(argument)?;
-            Some(name.asked(number))
+            Some(name.asked(steps, number))
         }
-        None => Some(name.asked(0)),
+        None => Some(name.asked(steps, 0)),
     }
 }
 

@@ -29,6 +29,10 @@ fn replay(pace: u32) -> Option<Asked> {
     })
 }
 
+fn steps(pace: u32) -> Option<Asked> {
+    Some(Asked::Steps { pace })
+}
+
 fn image(pace: u32) -> Option<Asked> {
     Some(Asked::Image { pace })
 }
@@ -45,6 +49,20 @@ fn reads_each_form_of_turns(rt: HostRuntime) -> Result<(), Fail> {
     assert!(rt; asked_of_line(&rt, "turns --preempt=17")? == turns(17));
     assert!(rt; asked_of_line(&rt, "turns --preempt 999999")? == turns(999_999));
     assert!(rt; asked_of_line(&rt, "turns --preempt=1000000")? == turns(1_000_000));
+    Ok(())
+}
+
+#[test]
+fn reads_the_steps_before_a_pace_and_behind_it(rt: HostRuntime) -> Result<(), Fail> {
+    for (line, due) in [
+        ("turns --steps", steps(0)),
+        ("turns --steps --preempt 17", steps(17)),
+        ("turns --preempt 17 --steps", steps(17)),
+        ("turns --steps --preempt=17", steps(17)),
+        ("turns --preempt=17 --steps", steps(17)),
+    ] {
+        assert!(rt; asked_of_line(&rt, line)? == due, "{line}");
+    }
     Ok(())
 }
 
@@ -108,7 +126,7 @@ fn reads_each_number_of_operations(rt: HostRuntime) -> Result<(), Fail> {
 }
 
 // Lists that a program with these commands would take, were it for `clap` alone.
-static TAKEN_BY_CLAP: [&str; 26] = [
+static TAKEN_BY_CLAP: [&str; 27] = [
     "--help",
     "-h",
     "help",
@@ -118,6 +136,7 @@ static TAKEN_BY_CLAP: [&str; 26] = [
     "turns --preempt 01",
     "turns --preempt=+1",
     "turns --preempt=-0",
+    "turns --steps --",
     "replay --help",
     "replay --",
     "replay --preempt 1 --",
@@ -138,7 +157,7 @@ static TAKEN_BY_CLAP: [&str; 26] = [
 ];
 
 // And others.
-static UNKNOWN: [&str; 62] = [
+static UNKNOWN: [&str; 74] = [
     "",
     "run",
     "turn",
@@ -155,6 +174,15 @@ static UNKNOWN: [&str; 62] = [
     "--preempt 1 turns",
     "turns --preempt 1 --preempt 2",
     "turns --preempt=1 --preempt=1",
+    "turns --step",
+    "turns --steps ",
+    "turns --steps=1",
+    "turns --steps 1",
+    "turns --steps --steps",
+    "turns --steps --preempt",
+    "turns --preempt --steps 1",
+    "turns --steps --preempt 1 --steps",
+    "--steps turns",
     "Replay",
     "replay ",
     "replays",
@@ -169,6 +197,7 @@ static UNKNOWN: [&str; 62] = [
     "--preempt 1 replay",
     "replay --preempt 1 --preempt 2",
     "replay --preempt=1 --preempt=1",
+    "replay --steps",
     "Generate 5",
     "generates 5",
     "generate",
@@ -184,6 +213,7 @@ static UNKNOWN: [&str; 62] = [
     "generate 5 6",
     "generate=5",
     "generate 5 --preempt 1",
+    "generate 5 --steps",
     "generate --preempt 1 5",
     "generate --preempt=1 5",
     "--preempt 1 generate 5",
@@ -192,6 +222,7 @@ static UNKNOWN: [&str; 62] = [
     "images",
     "image image",
     "image --preempt 1000001",
+    "image --steps",
     "--preempt 1 image",
     "Audit",
     "audit -",

@@ -26,3 +26,5 @@ mod runs;
 mod steps;
 #[cfg(test)]
 mod tables;
+#[cfg(test)]
+mod told;

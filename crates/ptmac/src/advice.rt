@@ -25,6 +25,9 @@ usage: ptmac COMMAND < TRACE
   asked. N is a decimal number up to 1000000 without leading zeros; with 0, as without the
   option, no gate says yes. It may be written --preempt=N, too.
 
+  With turns --steps, before --preempt N or behind it, each step that was made follows the
+  report, a line each; docs/STEPS.md explains them.
+
 example: ptmac turns --preempt 300 < examples/pinned-in-several-turns.trace
 
 exit status:

@@ -1,5 +1,5 @@
 -- The image that a run leaves, and what an audit says of it.
-use Rattle.std.proofs.Common.{codes, ◌≡◌, ◌∙◌, ℕ, ◌<◌, ◌^◌, Bool, true, false, IsTrue, List, All, None, cond, get_or, inl, inr, refl, sym, ap, subst}
+use Rattle.std.proofs.Common.{codes, ◌≡◌, ◌∙◌, ℕ, ◌<◌, ◌^◌, Bool, true, false, IsTrue, List, All, cond, get_or, inl, inr, refl, sym, ap, subst}
 use Rattle.std.proofs.lemmas.List.Elements.{All-from_get_or}
 use Rattle.xp_words.specs.Machine.{Machine}
 use Rattle.xp_words.specs.Places.{Sizes, is_place, memory, number, place_at, sizes_of}

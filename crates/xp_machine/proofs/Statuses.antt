@@ -13,7 +13,7 @@ use Rattle.xp_machine.specs.declared.audits.Showing.{Showing}
 use Rattle.xp_machine.specs.declared.audits.Showing.TheVariants.{Line, Drawn}
 use Rattle.xp_machine.specs.Texts.{fault_status, verdict_status}
 use Rattle.command_words.specs.declared.asked.Asked.{Asked}
-use Rattle.command_words.specs.declared.asked.Asked.TheVariants.{Run, Image, Generate, Audit, Draw}
+use Rattle.command_words.specs.declared.asked.Asked.TheVariants.{Run, Steps, Image, Generate, Audit, Draw}
 use Rattle.walk_audit.specs.declared.verdict.Verdict.{Verdict}
 use Rattle.walk_audit.specs.declared.verdict.Verdict.TheVariants.{Sound}
 use Rattle.std.specs.Io.KnownBytes.{Keeps}
@@ -102,6 +102,7 @@ memory_outcome asked gates from to kept kept_too = let set = could_be_set (optio
   where
     of : (o : Option Asked) → OutcomeOf o (could_be_set (option_and_then pace_of asked) gates).0 from from to to status.Memory
     of (Some (Run manner pace)) = kept_too
+    of (Some (Steps pace)) = kept_too
     of (Some (Image pace)) = kept_too
     of (Some (Generate n)) = (kept, kept_too)
     of (Some Audit) = kept_too

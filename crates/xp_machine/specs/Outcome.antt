@@ -11,10 +11,10 @@ use Rattle.xp_machine.specs.declared.audits.Showing.TheVariants as showings
 use Rattle.xp_machine.specs.Texts.{fault_text, fault_status}
 use Rattle.vcpu_runners.specs.Gates.{SetBy}
 use Rattle.command_words.specs.declared.asked.Asked.{Asked}
-use Rattle.command_words.specs.declared.asked.Asked.TheVariants.{Run, Image, Generate, Audit, Draw}
+use Rattle.command_words.specs.declared.asked.Asked.TheVariants.{Run, Steps, Image, Generate, Audit, Draw}
 use Rattle.command_words.specs.declared.asked.Manner.{Manner}
 use Rattle.command_words.specs.declared.asked.Manner.TheVariants as manners
-use Rattle.xp_machine.specs.Ran.{ImagedTrace, RanGenerated, RanTrace}
+use Rattle.xp_machine.specs.Ran.{ImagedTrace, RanGenerated, RanTrace, ToldTrace}
 use Rattle.xp_machine.specs.Replay.{ReplayedTrace}
 use Rattle.xp_preempt.specs.Gates.{Gate}
 
@@ -23,15 +23,17 @@ pub record Took (old new : Option (List ℕ)) (bytes : List ℕ) : Type 0 where
   pub consumed : Consumes old new bytes
   pub enough : IsAtEnd new ⊎ (length bytes ≡ 67108865)
 
--- what is shown of the run of a trace: the report of one in that manner, or the image that one in one thread leaves
+-- what is shown of the run of a trace: the report of one in that manner; or of one in one thread the report with the steps behind it, or the image that it leaves
 pub data Shown : Type 0 where
   reported : Manner → Shown
+  told : Shown
   imaged : Shown
 
 -- a run of the trace with these gates, and the text that shows it: in one thread, by the turns that it asks for, or in threads
 abbrev pub RanBy : Shown → Trace → List Gate → List ℕ → Type 0
 RanBy (reported manners.Turns) t gates text = RanTrace t gates text
 RanBy (reported manners.Replay) t gates text = ReplayedTrace t gates text
+RanBy told t gates text = ToldTrace t gates text
 RanBy imaged t gates text = ImagedTrace t gates text
 
 -- the status and the text that are due for what the bytes spell: a trace, which is run with these gates, or a fault
@@ -79,6 +81,7 @@ GeneratedOutcome n gates to to' status.Unsound = ⊥
 -- by what the words ask for: a run of what is read, or of a generated trace, where nothing is read; an audit or a picture of what is read; or nothing at all
 abbrev pub OutcomeOf : Option Asked → List Gate → Option (List ℕ) → Option (List ℕ) → Option (List ℕ) → Option (List ℕ) → Status → Type 0
 OutcomeOf (Some (Run manner pace)) gates from from' to to' answer = Outcome (IsDue (reported manner) gates) from from' to to' answer
+OutcomeOf (Some (Steps pace)) gates from from' to to' answer = Outcome (IsDue told gates) from from' to to' answer
 OutcomeOf (Some (Image pace)) gates from from' to to' answer = Outcome (IsDue imaged gates) from from' to to' answer
 OutcomeOf (Some (Generate n)) gates from from' to to' answer = Keeps from from' × GeneratedOutcome n gates to to' answer
 OutcomeOf (Some Audit) gates from from' to to' answer = Outcome (IsImageDue showings.Line) from from' to to' answer
@@ -88,6 +91,7 @@ OutcomeOf None gates from from' to to' answer = Keeps from from' × Keeps to to'
 -- the pace that the gates are told; a generated run is not to be interrupted, and for an audit or a picture they are told nothing
 abbrev pub pace_of : Asked → Option ℕ
 pace_of (Run manner pace) = Some pace
+pace_of (Steps pace) = Some pace
 pace_of (Image pace) = Some pace
 pace_of (Generate n) = Some 0
 pace_of Audit = None
@@ -99,6 +103,7 @@ OutcomeBy asked gates from from' to to' answer = (set : List Gate) × SetBy (opt
 -- whether anything is to be read
 abbrev pub reads : Option Asked → Bool
 reads (Some (Run manner pace)) = true
+reads (Some (Steps pace)) = true
 reads (Some (Image pace)) = true
 reads (Some (Generate n)) = false
 reads (Some Audit) = true
@@ -112,6 +117,7 @@ serial_by manners.Replay pace = None
 
 abbrev pub serial_of : Option Asked → Option Asked
 serial_of (Some (Run manner pace)) = serial_by manner pace
+serial_of (Some (Steps pace)) = Some (Steps pace)
 serial_of (Some (Image pace)) = Some (Image pace)
 serial_of (Some (Generate n)) = Some (Generate n)
 serial_of (Some Audit) = Some Audit

@@ -14,6 +14,9 @@ use Rattle.xp_board.specs.Safe.{Safe}
 use Rattle.xp_board.specs.Sound.{hand_of, SoundWords}
 use Rattle.xp_board.specs.Runs as runs
 use Rattle.shared_board.specs.Board.{opened_story, state_of}
+use Rattle.step_text.specs.Lines.{steps_text_of}
+use Rattle.step_text.specs.declared.told.ToldStep.{ToldStep}
+use Rattle.told_board.specs.Telling.{told_steps}
 use Rattle.vcpu_runners.specs.Turns.{Processing, pending_of}
 use Rattle.vcpu_runners.specs.Cpus.{first_cpus}
 use Rattle.vcpu_runners.specs.Destroyed.{AreDestroyed}
@@ -58,6 +61,16 @@ pub record RanTrace (t : Trace) (gates : List Gate) (text : List ℕ) : Type 0 w
   pub ran : RanTo t gates closed
   pub report : text ≡ report_at t.layout closed
 
+-- a line for each step on the board, in the order in which they were made
+abbrev pub steps_at : Machine → Stage → List ℕ
+steps_at n s = steps_text_of n (told_steps s.board.opening s.board.log)
+
+-- The text is that report, with a line for each step of the run behind it.
+pub record ToldTrace (t : Trace) (gates : List Gate) (text : List ℕ) : Type 0 where
+  pub closed : Stage
+  pub ran : RanTo t gates closed
+  pub told : text ≡ report_at t.layout closed ++ steps_at t.layout closed
+
 -- The bytes are the image of the words at the end of such a run of the trace.
 pub record ImagedTrace (t : Trace) (gates : List Gate) (bytes : List ℕ) : Type 0 where
   pub closed : Stage
@@ -75,4 +88,12 @@ pub record RanToWords (t : Trace) (gates : List Gate) (words : List ℕ) (cpus :
   pub closed : Stage
   pub ran : RanTo t gates closed
   pub words_are : words ≡ closed.board.words
+  pub cpus_are : cpus ≡ closed.cpus
+
+-- such a run leaves these words, steps and vCPUs
+pub record RanToSteps (t : Trace) (gates : List Gate) (words : List ℕ) (steps : List ToldStep) (cpus : List Processing) : Type 0 where
+  pub closed : Stage
+  pub ran : RanTo t gates closed
+  pub words_are : words ≡ closed.board.words
+  pub steps_are : steps ≡ told_steps closed.board.opening closed.board.log
   pub cpus_are : cpus ≡ closed.cpus

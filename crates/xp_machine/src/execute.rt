@@ -5,7 +5,7 @@ ghost use Rattle.trace_text.specs.Counted.{ops_of};
 ghost use Rattle.trace_text.specs.WellFormed.{IsWellFormed};
 ghost use Rattle.vcpu_runners.specs.Turns.{pending_of};
 ghost use Rattle.vcpu_runners.specs.Cpus.{AreShort, first_cpus};
-ghost use Rattle.xp_machine.specs.Ran.{ImagedTrace, RanGenerated, RanToWords, RanTrace, first_gates, log_of};
+ghost use Rattle.xp_machine.specs.Ran.{ImagedTrace, RanGenerated, RanToSteps, RanToWords, RanTrace, ToldTrace, first_gates, log_of};
 ghost use Rattle.vcpu_runners.specs.Rows.{cpus_of, gates_of};
 
 use crate::turns::run_all;
@@ -18,6 +18,8 @@ use shared_board::PlainBoard;
 use sound_rule::{a_run_leaves_it_safe, rested_words_are_sound};
 use sparse_words::SparseWords;
 use std::alloc::{AllocError, Global};
+use step_text::{ToldStep, steps_text};
+use told_board::ToldBoard;
 use trace_gen::generate;
 use trace_text::{ScriptList, Trace};
 use vcpu_runners::{Cpu, Runner};
@@ -126,6 +128,74 @@ pub fn execute(
     let layout = trace.layout.copy();
     let (words, runners) = run_words(alloc, trace, gates)?;
     report_with(alloc, &layout, &words, runners)
+}
+
+// What a run that lists its steps leaves.
+struct Told {
+    words: SparseWords,
+    steps: Vec<ToldStep>,
+    runners: Vec<Runner>,
+}
+
+// Runs a trace as `run_words` does, on a board that lists its steps.
+fn run_told(
+    alloc: Global,
+    trace: Trace,
+    gates: Vec<Box<dyn Preempt + Send>>,
+) -> Result<Told, AllocError>
+    requires well { IsWellFormed trace }
+    requires gates { 16 ≤ vec_len gates }
+    ensures ran { IfOk result (λ r. RanToSteps trace (map policy gates.items) r.words r.steps.items (cpus_of r.runners.items)) }
+    ensures words { IfOk result (λ r. length r.words ≡ size (sizes_of trace.layout)) }
+    ensures cpus { IfOk result (λ r. (length r.runners.items ≡ (sizes_of trace.layout).vcpus) × AreShort (cpus_of r.runners.items)) }
+{
+    // What the steps keep is law: these calls do nothing.
+    opening_words_are_sound();
+    a_run_leaves_it_safe();
+    rested_words_are_sound();
+    a_burial_leaves_only_what_is_listed();
+    let words = opening(alloc, &trace)?;
+    let Trace {
+        version: _,
+        layout,
+        clock: _,
+        owned: _,
+        cells: _,
+        scripts,
+        turns,
+    } = trace;
+    let first = first_runners(alloc, &layout, scripts, gates)?;
+    let board = ToldBoard::make(alloc, layout, words)?;
+    let (board, runners) = run_all(board, first, turns.as_slice());
+    let (words, steps) = board.into_parts();
+    let steps = steps?;
+    Ok(Told {
+        words,
+        steps,
+        runners,
+    })
+}
+
+/// Runs a trace in the same way, and writes the report out with a line for each step behind it.
+pub fn execute_told(
+    alloc: Global,
+    trace: Trace,
+    gates: Vec<Box<dyn Preempt + Send>>,
+) -> Result<Vec<u8>, AllocError>
+    requires well { IsWellFormed trace }
+    requires gates { 16 ≤ vec_len gates }
+    ensures { IfOk result (λ v. ToldTrace trace (map policy gates.items) v.items) }
+{
+    let layout = trace.layout.copy();
+    let Told {
+        words,
+        steps,
+        runners,
+    } = run_told(alloc, trace, gates)?;
+    let mut text = report_with(alloc, &layout, &words, runners)?;
+    let lines = steps_text(alloc, &layout, &steps)?;
+    text.extend_from_slice(&lines)?;
+    Ok(text)
 }
 
 /// Runs a trace in the same way, and writes the closing machine out as an image.

@@ -2,6 +2,7 @@
 #![tactic(auto)]
 
 mod audits;
+mod boards;
 mod due;
 mod execute;
 pub mod laws;

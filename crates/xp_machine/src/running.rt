@@ -3,7 +3,7 @@ ghost use Rattle.std.specs.Prelude.{◌≤◌, map, vec_len, IfOk};
 ghost use Rattle.trace_text.specs.WellFormed.{IsWellFormed};
 ghost use Rattle.xp_machine.specs.Outcome.{RanBy};
 
-use crate::execute::{execute, execute_imaged};
+use crate::execute::{execute, execute_imaged, execute_told};
 use crate::threaded::replay;
 use std::alloc::{AllocError, Global};
 use std::sync::Wait;
@@ -54,6 +54,28 @@ impl Running for InTurns {
         gates: Vec<Box<dyn Preempt + Send>>,
     ) -> Result<Vec<u8>, AllocError> {
         execute(alloc, trace, gates)
+    }
+}
+
+/// The same, with a line for each step behind the report.
+#[derive(Drop)]
+pub(crate) struct Telling;
+
+impl Running for Telling {
+    ghost use Rattle.std.specs.Prelude.{⊤};
+    ghost use Rattle.xp_machine.specs.Outcome.{told};
+
+    ghost shown = { told };
+
+    ghost crosses = { ⊤ };
+
+    fn run_trace(
+        &self,
+        alloc: Global,
+        trace: Trace,
+        gates: Vec<Box<dyn Preempt + Send>>,
+    ) -> Result<Vec<u8>, AllocError> {
+        execute_told(alloc, trace, gates)
     }
 }
 

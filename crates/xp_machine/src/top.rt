@@ -9,7 +9,7 @@ ghost use Rattle.xp_preempt.specs.Gates.{Gate, IsPaced};
 use crate::audits::{Showing, show_what_is_read};
 use crate::due::{Due, Early};
 use crate::execute::execute_generated;
-use crate::running::{Imaging, InThreads, InTurns, Running};
+use crate::running::{Imaging, InThreads, InTurns, Running, Telling};
 use crate::status::Status;
 use crate::texts::{bad_text, large_text};
 use command_words::{Asked, Manner, asked_of};
@@ -175,7 +175,7 @@ fn run_generated<K: Sink>(
 
 /// Runs a trace: reads it to its end, runs it, and writes what is due. `words` are the words of the command line
 /// without the program's name: `turns`, `replay` or `image`, each perhaps with `--preempt N` or `--preempt=N`, which sets the pace of the gates.
-/// With `turns` one thread takes the turns that the trace asks for, and with `image` too, but what is written is the image of the closing machine;
+/// With `turns` one thread takes the turns that the trace asks for; where `--steps` stands behind that word, too, a line for each step follows the report. With `image` it takes them, too, but what is written is the image of the closing machine;
 /// with `replay` each vCPU has a thread of its own and takes turns until it is retired, so that call returns only where all are. With
 /// `generate N` the trace is the generated one of N operations: it is run as by `turns` at pace 0, and its summary is written. Then, and where
 /// the words are others, nothing is read. With `audit`, alone or with a path, an image is read, and whether its words are sound is written; with
@@ -213,6 +213,9 @@ pub fn run<R: Threads + Wait + Sync, S: Source, K: Sink>(
                 Manner::Turns => run_with(&InTurns, alloc, source, sink, gates),
                 Manner::Replay => run_with(&InThreads { rt }, alloc, source, sink, gates),
             }
+        }
+        Ok(Some(Asked::Steps { pace })) => {
+            run_with(&Telling, alloc, source, sink, paced(gates, pace))
         }
         Ok(Some(Asked::Image { pace })) => {
             run_with(&Imaging, alloc, source, sink, paced(gates, pace))
@@ -254,6 +257,7 @@ pub fn run_serial<S: Source, K: Sink>(
                 manner: Manner::Replay,
                 ..
             } => Status::BadWords,
+            Asked::Steps { pace } => run_with(&Telling, alloc, source, sink, paced(gates, pace)),
             Asked::Image { pace } => run_with(&Imaging, alloc, source, sink, paced(gates, pace)),
             Asked::Generate { operations } => run_generated(alloc, operations, sink, gates),
             Asked::Audit => show_what_is_read(Showing::Line, alloc, source, sink),

@@ -2,12 +2,12 @@ use Rattle.std.proofs.Common.{rules, ap, ap₂, ◌≡◌, ◌∙◌}
 use Rattle.std.proofs.lemmas.Result.{IfOk-weaker}
 use Rattle.clap.specs.Words.{App, app_of, with_subcommand}
 use Rattle.command_words.specs.Words.{command_word}
-use Rattle.command_words.specs.Table.{generator, paced, program, reader}
+use Rattle.command_words.specs.Table.{generator, paced, program, reader, stepped}
 use Rattle.command_words.specs.declared.asked.CommandName.TheVariants as names
 use Rattle.command_words.proofs.reading.commands.Goals as goal
 
 abbrev one : App
-one = with_subcommand program (paced (command_word names.Turns)).top
+one = with_subcommand program (stepped (command_word names.Turns)).top
 
 abbrev two : App
 two = with_subcommand one (paced (command_word names.Replay)).top

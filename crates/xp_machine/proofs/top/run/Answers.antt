@@ -14,10 +14,15 @@ returns-in-Replay-clause-outcome g c =
     let asked = sym c.in-Ok-Some-Run.ensures.reads ∙ c.in-Ok-Some-Run.field-0-is ∙ ap Some c.in-Ok-Some-Run.field-0-0-is ∙ ap (λ m. Some (Run m c.in-Ok-Some-Run.pace)) c.in-Replay.is in
     outcome_by _ _ _ _ _ _ _ _ _ _ asked refl c.paced-gates.ensures.paced c.run_with-in-Replay.ensures.outcome
 
+pub returns-in-Ok-Some-Steps-clause-outcome : goal.returns-in-Ok-Some-Steps-clause-outcome
+returns-in-Ok-Some-Steps-clause-outcome g c =
+    let asked = sym c.in-Ok-Some-Steps.ensures.reads ∙ c.in-Ok-Some-Steps.field-0-is ∙ ap Some c.in-Ok-Some-Steps.field-0-0-is in
+    outcome_by _ _ _ _ _ _ _ _ _ _ asked refl c.paced.ensures.paced c.run_with-in-Ok-Some-Steps.ensures.outcome
+
 pub returns-in-Ok-Some-Image-clause-outcome : goal.returns-in-Ok-Some-Image-clause-outcome
 returns-in-Ok-Some-Image-clause-outcome g c =
     let asked = sym c.in-Ok-Some-Image.ensures.reads ∙ c.in-Ok-Some-Image.field-0-is ∙ ap Some c.in-Ok-Some-Image.field-0-0-is in
-    outcome_by _ _ _ _ _ _ _ _ _ _ asked refl c.paced.ensures.paced c.run_with-in-Ok-Some-Image.ensures.outcome
+    outcome_by _ _ _ _ _ _ _ _ _ _ asked refl c.paced-in-Ok-Some-Image.ensures.paced c.run_with-in-Ok-Some-Image.ensures.outcome
 
 pub returns-in-Ok-Some-Audit-clause-outcome : goal.returns-in-Ok-Some-Audit-clause-outcome
 returns-in-Ok-Some-Audit-clause-outcome g c =

@@ -18,6 +18,11 @@ returns-in-Run-Replay-default-clause-outcome g c =
     let asked = sym c.in-Ok-Some.ensures.reads ∙ c.in-Ok-Some.field-0-is ∙ ap Some c.in-Run-Replay-default.is ∙ ap (λ m. Some (Run m c.in-Run-Replay-default.pace)) manner in
     no_outcome _ _ _ _ _ (ap serial_of asked) (search rules) (search rules)
 
+pub returns-in-Steps-clause-outcome : goal.returns-in-Steps-clause-outcome
+returns-in-Steps-clause-outcome g c =
+    let asked = sym c.in-Ok-Some.ensures.reads ∙ c.in-Ok-Some.field-0-is ∙ ap Some c.in-Steps.is in
+    outcome_by _ _ _ _ _ _ _ _ _ _ (ap serial_of asked) refl c.paced-in-Steps.ensures.paced c.run_with-in-Steps.ensures.outcome
+
 pub returns-in-Image-clause-outcome : goal.returns-in-Image-clause-outcome
 returns-in-Image-clause-outcome g c =
     let asked = sym c.in-Ok-Some.ensures.reads ∙ c.in-Ok-Some.field-0-is ∙ ap Some c.in-Image.is in
