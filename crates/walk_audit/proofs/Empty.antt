@@ -6,7 +6,7 @@ use Rattle.xp_words.specs.Places.{Sizes}
 use Rattle.xp_board.specs.Lists.{times, times_by}
 use Rattle.xp_board.specs.Steps.{some_step}
 use Rattle.xp_board.specs.LifeSteps.{HasStopped}
-use Rattle.xp_board.specs.Hands.{empty, hand, typed_hand, works_on, locks_on, endings_of, claims_of}
+use Rattle.xp_board.specs.Hands.{empty, works_on, locks_on, endings_of, claims_of}
 use Rattle.xp_board.specs.Recorded.{hands}
 use Rattle.xp_board.specs.Sound.{DyingDomain}
 use Rattle.opening_rule.proofs.Counts.{hands_none}
@@ -14,14 +14,6 @@ use Rattle.reference_recount.specs.Recounted.{no_hands}
 
 -- ---- nothing is counted
 module _ (z : Sizes) (f : ℕ) where
-  pub no_hand : hands (hand f) z no_hands ≡ 0
-  unfolding hand typed_hand times_by
-  no_hand = hands_none (hand f) z refl
-
-  pub no_typed_hand : hands (typed_hand f) z no_hands ≡ 0
-  unfolding typed_hand times_by
-  no_typed_hand = hands_none (typed_hand f) z refl
-
   pub no_credits : hands (λ u. times f u.credits) z no_hands ≡ 0
   unfolding times_by
   no_credits = hands_none (λ u. times f u.credits) z refl
