@@ -5,7 +5,8 @@ use Rattle.xp_words.specs.declared.kind.KindWord.{KindWord}
 use Rattle.xp_words.specs.declared.place.Place.TheVariants.{Cell, Kind, Vcpu}
 use Rattle.xp_words.specs.KindWords.{kind_read}
 use Rattle.report_text.specs.Memories.{Memory, word}
-use Rattle.machine_draw.specs.Targets.{recorded_entries, entry_target, context_target, is_frame}
+use Rattle.word_readers.specs.Recorded.{recorded_entries}
+use Rattle.machine_draw.specs.Targets.{entry_target, context_target, is_frame}
 
 -- whether one of the first n entries of a table names the frame
 unfoldable pub entries_name : Memory → ℕ → KindWord → ℕ → ℕ → Bool

@@ -7,10 +7,11 @@ use Rattle.xp_words.specs.declared.place.Place.TheVariants.{Cell, Kind}
 use Rattle.xp_words.specs.Entries.{is_bit}
 use Rattle.xp_words.specs.KindWords.{kind_read}
 use Rattle.report_text.specs.Memories.{Memory, word}
+use Rattle.word_readers.specs.Recorded.{recorded_entries}
 use Rattle.machine_draw.specs.declared.tables.Run.{Run}
 use Rattle.machine_draw.specs.declared.tables.Table.{Table}
 use Rattle.machine_draw.specs.Runs.{is_first, run_end, range_text}
-use Rattle.machine_draw.specs.Targets.{recorded_entries, entry_target, is_frame}
+use Rattle.machine_draw.specs.Targets.{entry_target, is_frame}
 
 -- whether the entry may be written through, where that is asked for, or may not
 abbrev pub is_right : Bool → ℕ → Bool

@@ -1,17 +1,11 @@
 -- The frame that an entry of a page table or a word of a vCPU names.
-use Rattle.std.specs.Prelude.{ℕ, ◌==◌, ◌||◌, not, nat_lt, nat_le, if◌then◌else◌, Bool, false, Option, Some, None}
+use Rattle.std.specs.Prelude.{ℕ, ◌==◌, ◌||◌, nat_lt, nat_le, if◌then◌else◌, Bool, false, Option, Some, None}
 use Rattle.xp_words.specs.declared.context.ContextWord.{ContextWord}
 use Rattle.xp_words.specs.declared.entry.Demand.{Demand}
 use Rattle.xp_words.specs.declared.entry.Demand.TheVariants.{Nothing, Bad, Read, Typed}
-use Rattle.xp_words.specs.declared.kind.KindWord.{KindWord}
 use Rattle.xp_words.specs.declared.kind.PageType.{PageType}
 use Rattle.xp_words.specs.ContextWords.{context_read}
 use Rattle.xp_words.specs.Entries.{demand_at}
-use Rattle.xp_words.specs.PageTypes.{is_table}
-
--- how many leading entries of a frame are recorded: all of a live table, as many as its progress of a partial one
-abbrev pub recorded_entries : KindWord → ℕ
-recorded_entries k = if not (is_table k.kind) then 0 else if k.validated then 512 else if k.partial then k.progress else 0
 
 abbrev pub asked_frame : Demand → Option ℕ
 asked_frame Nothing = None

@@ -6,7 +6,7 @@ use crate::picture::Picture;
 use crate::runs::RangeText;
 use report_text::{FormText, HolderText};
 use std::alloc::AllocError;
-use xp_words::{KindWord, PageType};
+use xp_words::{KindWord, PageType, Place};
 
 /// The attribute that colours what the verdict names.
 pub fn red_text(red: bool) -> &'static str
@@ -98,7 +98,7 @@ fn put_run(
     put_range(out, range, free)
 }
 
-#[tactic(auto, unfolding(crate::specs::Frames::frame_part))]
+#[tactic(auto, unfolding(crate::specs::Frames::frame_part, xp_words::specs::Places::is_place), using(std::proofs::lemmas::Bool::Decides::nat_tests))]
 fn put_frame(
     out: &mut String,
     picture: &Picture<'_>,
@@ -118,8 +118,8 @@ fn put_frame(
     put_node(
         out,
         frame,
-        image.refs(frame),
-        image.kind(frame),
+        image.word(Place::Refs { frame }),
+        image.word(Place::Kind { frame }),
         picture.blames_frame(frame),
     )
 }

@@ -3,9 +3,10 @@ ghost use Rattle.machine_draw.specs.Named.{entries_name, table_names, tables_nam
 ghost use Rattle.machine_draw.specs.Targets.{is_frame};
 
 use crate::image::Image;
-use crate::targets::{context_target, entry_target, recorded_entries};
+use crate::targets::{context_target, entry_target};
 use std::alloc::{AllocError, Global};
-use xp_words::KindWord;
+use word_readers::recorded_entries;
+use xp_words::{KindWord, Place};
 
 // Marks the frame, if there is one and the machine has it.
 fn mark(named: &mut [bool], target: Option<u64>)
@@ -19,23 +20,32 @@ fn mark(named: &mut [bool], target: Option<u64>)
 }
 
 // Marks what the first `count` entries of a table name.
+#[tactic(auto, unfolding(xp_words::specs::Places::is_place), using(std::proofs::lemmas::Bool::Decides::nat_tests))]
 fn mark_entries(image: &Image<'_>, table: u32, kind: &KindWord, count: u16, named: &mut [bool])
     requires table { table < image.now.machine.frames }
     requires count { count ≤ 512 }
     ensures { (f : ℕ) → f < length named.old → slice_index_or named.new f false ≡ (slice_index_or named.old f false || entries_name image.now table kind.now count f) }
 {
     for index in 0..count {
-        let target = entry_target(kind.kind, index, image.cell(table, index));
+        let target = entry_target(
+            kind.kind,
+            index,
+            image.word(Place::Cell {
+                frame: table,
+                index,
+            }),
+        );
         mark(named, target);
     }
 }
 
 // Marks what the recorded entries of a frame name.
+#[tactic(auto, unfolding(xp_words::specs::Places::is_place), using(std::proofs::lemmas::Bool::Decides::nat_tests))]
 fn mark_table(image: &Image<'_>, table: u32, named: &mut [bool])
     requires { table < image.now.machine.frames }
     ensures { (f : ℕ) → f < length named.old → slice_index_or named.new f false ≡ (slice_index_or named.old f false || table_names image.now table f) }
 {
-    if let Some(kind) = KindWord::read(image.kind(table)) {
+    if let Some(kind) = KindWord::read(image.word(Place::Kind { frame: table })) {
         mark_entries(image, table, &kind, recorded_entries(&kind), named);
     }
 }
@@ -51,12 +61,13 @@ fn mark_tables(image: &Image<'_>, frames: u32, named: &mut [bool])
 }
 
 // Marks what the words of a vCPU name.
+#[tactic(auto, unfolding(xp_words::specs::Places::is_place), using(std::proofs::lemmas::Bool::Decides::nat_tests))]
 fn mark_words(image: &Image<'_>, vcpu: u32, named: &mut [bool])
     requires { vcpu < length image.now.machine.vcpu_domain }
     ensures { (f : ℕ) → f < length named.old → slice_index_or named.new f false ≡ (slice_index_or named.old f false || words_name image.now vcpu 38 f) }
 {
     for index in 0..38 {
-        let target = context_target(index, image.vcpu(vcpu, index));
+        let target = context_target(index, image.word(Place::Vcpu { vcpu, word: index }));
         mark(named, target);
     }
 }

@@ -7,7 +7,7 @@ ghost use Rattle.machine_draw.specs.Pictures.{blames_frame, blames_domain, blame
 use crate::image::Image;
 use std::marker::Model;
 use walk_audit::Verdict;
-use xp_words::{KindWord, PageType, RefWord};
+use xp_words::{KindWord, PageType, Place, RefWord};
 
 /// What is drawn: a machine with its words; of each frame, whether anything names it; and what an audit said.
 #[derive(Drop)]
@@ -149,24 +149,29 @@ impl<'a> Picture<'a> {
     }
 
     /// The domain in whose cluster a frame is drawn, or the number of domains, where it is drawn in none.
+    #[tactic(auto, unfolding(xp_words::specs::Places::is_place), using(std::proofs::lemmas::Bool::Decides::nat_tests))]
     pub fn cluster_of(&self, frame: u32) -> u32
         requires { frame < self.now.memory.machine.frames }
         ensures { result ≡ cluster_of self.now frame }
     {
         let image = self.image;
         let layout = image.layout();
-        cluster_of_word(layout.domains(), image.refs(frame))
+        cluster_of_word(layout.domains(), image.word(Place::Refs { frame }))
     }
 
     /// Whether a frame is drawn by itself.
-    #[tactic(auto, unfolding(crate::specs::Frames::is_drawn_alone))]
+    #[tactic(auto, unfolding(crate::specs::Frames::is_drawn_alone, xp_words::specs::Places::is_place), using(std::proofs::lemmas::Bool::Decides::nat_tests))]
     pub fn is_drawn_alone(&self, frame: u32) -> bool
         requires { frame < self.now.memory.machine.frames }
         ensures { result ≡ is_drawn_alone self.now frame }
     {
         let image = self.image;
         let layout = image.layout();
-        let plain = is_plain(layout.domains(), image.refs(frame), image.kind(frame));
+        let plain = is_plain(
+            layout.domains(),
+            image.word(Place::Refs { frame }),
+            image.word(Place::Kind { frame }),
+        );
         let named = self.named[frame as usize];
         named || self.blames_frame(frame) || !plain
     }

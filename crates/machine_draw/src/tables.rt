@@ -5,10 +5,11 @@ ghost use Rattle.machine_draw.specs.Tables.{leads, right_text, run_from, run_at,
 
 use crate::image::Image;
 use crate::runs::RangeText;
-use crate::targets::{entry_target, is_frame, recorded_entries};
+use crate::targets::{entry_target, is_frame};
 use std::alloc::{AllocError, Global};
 use std::fmt;
-use xp_words::{Entry, KindWord, PageType};
+use word_readers::recorded_entries;
+use xp_words::{Entry, KindWord, PageType, Place};
 
 /// A page table: its frame, its type, and how many of its entries are recorded.
 #[derive(Clone, Copy)]
@@ -42,13 +43,16 @@ impl fmt::Display for Run {
 }
 
 // Whether entry `index` names that frame with that right.
-#[tactic(auto, unfolding(crate::specs::Tables::leads))]
+#[tactic(auto, unfolding(crate::specs::Tables::leads, xp_words::specs::Places::is_place), using(std::proofs::lemmas::Bool::Decides::nat_tests))]
 fn leads(image: &Image<'_>, table: Table, frame: u64, writable: bool, index: u16) -> bool
     requires frame { table.frame < image.now.machine.frames }
     requires index { index < 512 }
     ensures { result ≡ leads image.now table frame writable index }
 {
-    let word = image.cell(table.frame, index);
+    let word = image.word(Place::Cell {
+        frame: table.frame,
+        index,
+    });
     let right = Entry { word }.writable();
     let as_asked = if writable { right } else { !right };
     is_frame(frame, entry_target(table.kind, index, word)) && as_asked
@@ -98,14 +102,17 @@ fn run_from(image: &Image<'_>, table: Table, frame: u64, writable: bool, index: 
 }
 
 // The run that begins at entry `index`, if one does.
-#[tactic(auto, unfolding(crate::specs::Tables::run_at))]
+#[tactic(auto, unfolding(crate::specs::Tables::run_at, xp_words::specs::Places::is_place), using(std::proofs::lemmas::Bool::Decides::nat_tests))]
 fn run_at(image: &Image<'_>, table: Table, index: u16) -> Option<Run>
     requires frame { table.frame < image.now.machine.frames }
     requires recorded { table.recorded ≤ 512 }
     requires index { index < table.recorded }
     ensures { result ≡ run_at image.now table index }
 {
-    let word = image.cell(table.frame, index);
+    let word = image.word(Place::Cell {
+        frame: table.frame,
+        index,
+    });
     match entry_target(table.kind, index, word) {
         Some(frame) => run_from(image, table, frame, Entry { word }.writable(), index),
         None => None,
@@ -202,7 +209,7 @@ fn put_edges(
     put_targets(out, table.frame, &runs)
 }
 
-#[tactic(auto, unfolding(crate::specs::Tables::table_edges))]
+#[tactic(auto, unfolding(crate::specs::Tables::table_edges, xp_words::specs::Places::is_place), using(std::proofs::lemmas::Bool::Decides::nat_tests))]
 fn put_table(
     alloc: Global,
     out: &mut String,
@@ -212,7 +219,7 @@ fn put_table(
     requires { frame < image.now.machine.frames }
     ensures { OnOk result (string_bytes out.new ≡ string_bytes out.old ++ table_edges image.now frame) }
 {
-    match KindWord::read(image.kind(frame)) {
+    match KindWord::read(image.word(Place::Kind { frame })) {
         Some(kind) => {
             let recorded = recorded_entries(&kind);
             let table = Table {

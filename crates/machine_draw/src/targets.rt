@@ -1,23 +1,8 @@
-ghost use Rattle.std.specs.Prelude.{◌≡◌, ◌≤◌};
-ghost use Rattle.machine_draw.specs.Targets.{recorded_entries, entry_target, context_target, is_frame};
+ghost use Rattle.std.specs.Prelude.{◌≡◌};
+ghost use Rattle.machine_draw.specs.Targets.{entry_target, context_target, is_frame};
 
 use pte_check::demand;
-use xp_words::{ContextWord, Demand, KindWord, PageType};
-
-/// How many leading entries of a frame are recorded, at most 512: all of a live table, as many as its progress of a partial one.
-pub fn recorded_entries(kind: &KindWord) -> u16
-    ensures { result ≡ recorded_entries kind.now }
-{
-    if !kind.kind.is_table() {
-        0
-    } else if kind.validated {
-        512
-    } else if kind.partial {
-        kind.progress
-    } else {
-        0
-    }
-}
+use xp_words::{ContextWord, Demand, PageType};
 
 /// The frame that entry `index` of a table of that type names. The machine may have no such frame.
 #[tactic(auto, unfolding(crate::specs::Targets::entry_target))]

@@ -7,6 +7,7 @@ use crate::picture::Picture;
 use crate::targets::context_target;
 use std::alloc::AllocError;
 use std::fmt;
+use xp_words::Place;
 
 #[tactic(auto, unfolding(crate::specs::Vcpus::vcpu_node))]
 fn put_node(out: &mut String, picture: &Picture<'_>, vcpu: u32) -> Result<(), AllocError>
@@ -74,14 +75,14 @@ impl fmt::Display for WordTitle {
     }
 }
 
-#[tactic(auto, unfolding(crate::specs::Vcpus::word_edge))]
+#[tactic(auto, unfolding(crate::specs::Vcpus::word_edge, xp_words::specs::Places::is_place), using(std::proofs::lemmas::Bool::Decides::nat_tests))]
 fn put_word(out: &mut String, image: &Image<'_>, vcpu: u32, index: u32) -> Result<(), AllocError>
     requires vcpu { vcpu < length image.now.machine.vcpu_domain }
     requires index { index < 38 }
     ensures { OnOk result (string_bytes out.new ≡ string_bytes out.old ++ word_edge image.now vcpu index) }
 {
     let title = WordTitle(index);
-    match context_target(index, image.vcpu(vcpu, index)) {
+    match context_target(index, image.word(Place::Vcpu { vcpu, word: index })) {
         Some(frame) => writeln!(out, "vcpu{vcpu} -> frame{frame} [label=\"{title}\"];"),
         None => Ok(()),
     }

@@ -12,16 +12,16 @@ use crate::vcpus::{put_edges, put_vcpus};
 use report_text::LifeText;
 use std::alloc::{AllocError, Global};
 use walk_audit::Verdict;
-use xp_words::Layout;
+use xp_words::{Layout, Place};
 
-#[tactic(auto, unfolding(crate::specs::Drawing::cluster_label))]
+#[tactic(auto, unfolding(crate::specs::Drawing::cluster_label, xp_words::specs::Places::is_place), using(std::proofs::lemmas::Bool::Decides::nat_tests))]
 fn put_cluster_label(out: &mut String, picture: &Picture<'_>, domain: u16) -> Result<(), AllocError>
     requires { domain < domains_of picture.now }
     ensures { OnOk result (string_bytes out.new ≡ string_bytes out.old ++ cluster_label picture.now domain) }
 {
     let image = picture.image();
-    let life = LifeText(image.life(domain));
-    let pages = image.pages(domain);
+    let life = LifeText(image.word(Place::Life { domain }));
+    let pages = image.word(Place::Pages { domain });
     writeln!(out, "label=\"domain {domain} {life} pages {pages}\";")
 }
 

@@ -1,8 +1,8 @@
 mod Words
 mod Owners
 mod Readings
-mod Counts
-mod Hands
+pub mod Counts
+pub mod Hands
 mod Entries
 mod Map
 mod Bounds

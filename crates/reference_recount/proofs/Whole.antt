@@ -31,11 +31,11 @@ pub nobody_works : (n f : ℕ) → work_of n no_hands f ≡ None
 unfolding recorded_in first_by
 nobody_works n f = work_of-none n no_hands f (λ t l. refl)
 
-nobody_holds : (z : Sizes) (g : ℕ) → hands (hand g) z no_hands ≡ 0
+pub nobody_holds : (z : Sizes) (g : ℕ) → hands (hand g) z no_hands ≡ 0
 unfolding hands hand typed_hand times_by
 nobody_holds z g = sum_below-none z.vcpus _ (λ s l. refl)
 
-nobody_holds_typed : (z : Sizes) (g : ℕ) → hands (typed_hand g) z no_hands ≡ 0
+pub nobody_holds_typed : (z : Sizes) (g : ℕ) → hands (typed_hand g) z no_hands ≡ 0
 unfolding hands typed_hand times_by
 nobody_holds_typed z g = sum_below-none z.vcpus _ (λ s l. refl)
 

@@ -12,10 +12,10 @@ ghost use Rattle.xp_board.specs.Sums.{sum_below};
 ghost use Rattle.reference_recount.specs.Recounted.{IsReadable};
 ghost use Rattle.reference_recount.specs.Growth.{AreMore, AreSums, IsCountWithin, is_other_type, names_other, context_names, context_other};
 
-use crate::reading::{kind_of, recorded, word_at};
 use crate::tallies::Tally;
 use pte_check::demand;
-use xp_words::{Demand, Layout, PageType, Place};
+use word_readers::{cell, kind_of, recorded_entries, vcpu_word};
+use xp_words::{Demand, Layout, PageType};
 
 // One reference to the frame, if the machine has it.
 fn add(tallies: &mut Vec<Tally>, frame: u64, typed: bool, other: bool)
@@ -57,7 +57,6 @@ fn add_demand(kinds: &[PageType], demand: Demand, tallies: &mut Vec<Tally>)
 }
 
 // The recorded entries of one frame.
-#[tactic(auto, unfolding(xp_words::specs::Places::is_place), using(std::proofs::lemmas::Bool::Decides::nat_tests))]
 fn add_table(
     layout: &Layout,
     words: &[u64],
@@ -76,8 +75,8 @@ fn add_table(
         (λ g. table_entries (names_other kinds.now g) (memory (sizes_of layout.now) words.now) None frame) }
 {
     let kind = kind_of(layout, words, frame);
-    for index in 0..recorded(&kind) {
-        let word = word_at(layout, words, Place::Cell { frame, index });
+    for index in 0..recorded_entries(&kind) {
+        let word = cell(layout, words, frame, index);
         add_demand(kinds, demand(kind.kind, index, word), tallies);
     }
 }
@@ -117,7 +116,6 @@ fn context_type(number: u32) -> Option<PageType>
 }
 
 // What one word of a vCPU names.
-#[tactic(auto, unfolding(xp_words::specs::Places::is_place), using(std::proofs::lemmas::Bool::Decides::nat_tests))]
 fn add_context(
     layout: &Layout,
     words: &[u64],
@@ -136,7 +134,7 @@ fn add_context(
         (λ g. context_names (memory (sizes_of layout.now) words.now) vcpu g number)
         (λ g. context_other kinds.now (memory (sizes_of layout.now) words.now) vcpu g number) }
 {
-    let word = word_at(layout, words, Place::Vcpu { vcpu, word: number });
+    let word = vcpu_word(layout, words, vcpu, number);
     if is_context(number) && 0 < word {
         let other = is_other_type(kinds, word - 1, context_type(number));
         add(tallies, word - 1, true, other);

@@ -2,7 +2,7 @@
 #![tactic(auto)]
 
 mod adding;
-mod reading;
+mod marks;
 mod tallies;
 
 pub use tallies::{Tally, recount};

@@ -5,8 +5,9 @@ ghost use Rattle.reference_recount.specs.Recounted.{IsReadable, IsTally, tally_a
 ghost use Rattle.reference_recount.specs.Growth.{AreKinds, IsOfMarks};
 
 use crate::adding::{add_tables, add_vcpus};
-use crate::reading::{kind_of, own_tally};
+use crate::marks::own_tally;
 use std::alloc::{AllocError, Global};
+use word_readers::kind_of;
 use xp_words::{Layout, PageType};
 
 /// What the recorded references of one frame come to.

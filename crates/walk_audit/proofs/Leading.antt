@@ -17,7 +17,8 @@ use Rattle.xp_board.specs.Lists.{first_by}
 use Rattle.xp_board.specs.Readings.{kind_at, is_live, is_partial, is_work}
 use Rattle.xp_board.specs.Recorded.{held, held_of, entry_demand}
 use Rattle.xp_board.specs.Valid.{LeadsWell, IsUnsettled}
-use Rattle.xp_board.proofs.KindForms.{fields_of, partial_form}
+use Rattle.xp_board.proofs.KindForms.{fields_of}
+use Rattle.word_readers.proofs.Reading.{few_recorded}
 use Rattle.reference_recount.specs.Recounted.{no_hands, IsReadable}
 use Rattle.reference_recount.proofs.Whole.{nobody_works as no_work}
 use Rattle.walk_audit.specs.Breaks.{Breaks, IsHeld, IsBadEntry, MayBeAsked}
@@ -95,22 +96,9 @@ unfolding held_of
 table_recorded k i e l = let none : held_of k None ≡ 0 = rw e refl in omega arith
 
 -- at most 512 entries are recorded
-held_form : (w : ℕ) (k : KindWord) → kind_read w ≡ Some k → held_of k None ≤ 512
-unfolding held_of
-held_form w k e = elim (cases_Bool (is_table k.kind)) [
-  | inr t ↦ rw t (omega arith)
-  | inl t ↦ elim (cases_Bool k.validated) [
-    | inl v ↦ rw (t, v) (omega arith)
-    | inr v ↦ elim (cases_Bool k.partial) [
-      | inl p ↦ let few = (partial_form w k e v p).progress in rw (t, v, p) (omega arith)
-      | inr p ↦ rw (t, v, p) (omega arith)
-    ]
-  ]
-]
-
 held_read : (n : Machine) (w : ℕ) (x : Option KindWord) → kind_read w ≡ x → IsTrue (is_kind_in n x) → held_of (kind_fields w) None ≤ 512
 held_read n w None e h = absurd (cc)
-held_read n w (Some k) e h = rw (fields_of w k e) (held_form w k e)
+held_read n w (Some k) e h = rw (fields_of w k e) (few_recorded w k e)
 
 looked_by : (k : KindWord) → held_of k None ≤ 512 → words_looked_at k ≤ 512
 looked_by k h = elim (cases_Bool (is_live k && (type_number k.kind == 5))) [

@@ -24,14 +24,16 @@ use Rattle.xp_board.specs.Sound.{Spelled, HeldAlone, Stamped, Domains, FreeMap, 
 use Rattle.xp_board.proofs.Empty.{empty_formed}
 use Rattle.xp_board.proofs.Counted.{held_inside}
 use Rattle.xp_board.proofs.Sums.{sum_below-none, one_at-other}
+use Rattle.opening_rule.proofs.Hands.{found_open, idle_open, fresh_open}
 use Rattle.reference_recount.specs.Recounted.{no_hands, IsReadable}
+use Rattle.reference_recount.proofs.Whole.{nobody_holds, nobody_holds_typed}
 use Rattle.walk_audit.specs.Breaks.{Breaks, is_map, MayBeAsked, is_free_frame}
 use Rattle.walk_audit.specs.Order.{PassedUpTo}
 use Rattle.walk_audit.specs.declared.verdict.Verdict.{Verdict}
 use Rattle.walk_audit.specs.declared.verdict.Verdict.TheVariants as verdicts
 use Rattle.walk_audit.proofs.Bits.{few_bits}
 use Rattle.walk_audit.proofs.Burial.{IsOutside, memory_outside, nothing_left, is_left}
-use Rattle.walk_audit.proofs.Empty.{no_hand, no_typed_hand, no_credits, no_raised, no_works, no_locks, no_dying, found_nothing, rests, fresh_nothing, dying_nothing}
+use Rattle.walk_audit.proofs.Empty.{no_credits, no_raised, no_works, no_locks, no_dying, dying_nothing}
 use Rattle.walk_audit.proofs.Numbers.{zero_count, zero_mark, zero_undying, zero_stamp, zero_kind_stamp, zero_types, zero_marks, zero_unlive, zero_idle, zero_unlocked}
 use Rattle.walk_audit.proofs.Reading.{context_few}
 use Rattle.walk_audit.proofs.Stable.{eq_stable, spelling_stable, asks_stable, names_stable, type_stable}
@@ -188,7 +190,7 @@ module _ (n : Machine) (m : Place → ℕ) (o : IsOutside n m) (s : (p : Place) 
         let c : marks (kind_at m g) ≡ 0 = rw k zero_marks in
         let d = entries_past (names g) (λ f i x h. names_past g f i x l h) in
         let e = contexts_past g l in
-        let h = no_hand (sizes_of n) g in
+        let h = nobody_holds (sizes_of n) g in
         omega arith
   ]
 
@@ -202,7 +204,7 @@ module _ (n : Machine) (m : Place → ℕ) (o : IsOutside n m) (s : (p : Place) 
         let c : marks (kind_at m g) ≡ 0 = rw k zero_marks in
         let d = entries_past (names_typed g) (λ f i x h. typed_past g f i x l h) in
         let e = contexts_past g l in
-        let h = no_typed_hand (sizes_of n) g in
+        let h = nobody_holds_typed (sizes_of n) g in
         omega arith
   ]
 
@@ -360,11 +362,11 @@ unbroken n words i l s p =
             permitted = permitted n m o small p;
             alone = alone n m o small p;
             works = λ v b. tt;
-            found = λ v b. found_nothing n m v;
+            found = λ v b. found_open n m v;
             formed = λ v b. empty_formed n v;
             stamped = stamped n m o small p;
-            idle = λ v b. rests n m v;
-            fresh = fresh_nothing n m;
+            idle = λ v b. idle_open n m v;
+            fresh = fresh_open n m;
             domains = domains n m o small p;
             map = map n m o small p;
           };

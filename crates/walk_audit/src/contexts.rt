@@ -7,8 +7,8 @@ ghost use Rattle.reference_recount.specs.Recounted.{IsReadable};
 ghost use Rattle.walk_audit.specs.Breaks.{IsBadContext};
 ghost use Rattle.walk_audit.specs.Order.{FirstVerdict};
 
-use crate::readers::{kind_of, owner, vcpu_word};
 use crate::verdict::Verdict;
+use word_readers::{kind_of, owner, vcpu_word};
 use xp_words::Layout;
 
 /// The bases, and the words of the GDT and the LDT.

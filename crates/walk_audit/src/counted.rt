@@ -5,9 +5,9 @@ ghost use Rattle.xp_board.specs.Readings.{type_count};
 ghost use Rattle.reference_recount.specs.Recounted.{IsReadable, IsTally, tally_at};
 ghost use Rattle.walk_audit.specs.Order.{FirstVerdict};
 
-use crate::readers::{kind_of, ref_count};
 use crate::verdict::Verdict;
 use reference_recount::Tally;
+use word_readers::{kind_of, ref_count};
 use xp_words::{KindWord, Layout};
 
 /// The type count that a kind word tells. A frame that is in work or partial has one.

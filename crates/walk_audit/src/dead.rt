@@ -8,8 +8,8 @@ ghost use Rattle.walk_audit.specs.Breaks.{IsUnburied};
 ghost use Rattle.walk_audit.specs.Burials.{HasMark, IsUnstopped, LeavesFrame, LeavesVcpu};
 ghost use Rattle.walk_audit.specs.Order.{FirstVerdict};
 
-use crate::readers::{is_allocated, kind_of, life_word, owner, vcpu_word};
 use crate::verdict::Verdict;
+use word_readers::{is_allocated, kind_of, life_word, owner, vcpu_word};
 use xp_words::Layout;
 
 /// The life word of a dead domain.

@@ -11,9 +11,9 @@ ghost use Rattle.walk_audit.specs.Breaks.{IsBadEntry, MayBeAsked, MayLead, MayLe
 ghost use Rattle.walk_audit.specs.Leads.{LeadsAsRead, words_looked_at};
 ghost use Rattle.walk_audit.specs.Order.{FirstVerdict, NoneBreaks};
 
-use crate::readers::{cell, kind_of, owner, privileges};
 use crate::verdict::Verdict;
 use pte_check::demand;
+use word_readers::{cell, kind_of, owner, privileges, recorded_entries};
 use xp_words::{Demand, KindWord, Layout, PageType, fix};
 
 /// Whether a domain has or had privilege over another.
@@ -152,17 +152,14 @@ fn is_fixed(word: u64) -> bool
 }
 
 /// How many words of the frame are looked at: recorded entries of a table, and all words of a live descriptor page.
-#[tactic(auto, unfolding(xp_board::specs::Recorded::held_of))]
 fn words_looked_at(kind: &KindWord) -> u16
     ensures { result ≡ words_looked_at kind.now }
 {
     let is_page = matches!(kind.kind, PageType::Desc);
-    if kind.validated && (kind.kind.is_table() || is_page) {
+    if kind.validated && is_page {
         512
-    } else if kind.kind.is_table() && kind.partial {
-        kind.progress
     } else {
-        0
+        recorded_entries(kind)
     }
 }
 

@@ -5,8 +5,8 @@ ghost use Rattle.reference_recount.specs.Recounted.{IsReadable};
 ghost use Rattle.walk_audit.specs.Breaks.{IsHeld};
 ghost use Rattle.walk_audit.specs.Order.{FirstVerdict};
 
-use crate::readers::{is_dying, kind_of};
 use crate::verdict::Verdict;
+use word_readers::{is_dying, kind_of};
 use xp_words::Layout;
 
 fn is_held(layout: &Layout, words: &[u64], frame: u32) -> bool

@@ -11,7 +11,6 @@ mod laws;
 mod lines;
 mod mapped;
 mod pages;
-mod readers;
 mod spelled;
 mod stamped;
 mod verdict;

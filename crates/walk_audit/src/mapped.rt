@@ -5,8 +5,8 @@ ghost use Rattle.xp_words.specs.Places.{sizes_of, size, memory, map_words};
 ghost use Rattle.walk_audit.specs.Breaks.{IsWrongMap, is_free_frame};
 ghost use Rattle.walk_audit.specs.Order.{FirstVerdict};
 
-use crate::readers::{is_free, map_word};
 use crate::verdict::Verdict;
+use word_readers::{is_free, map_word};
 use xp_words::Layout;
 
 fn is_free_frame(layout: &Layout, words: &[u64], frame: u32) -> bool

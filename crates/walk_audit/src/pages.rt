@@ -4,8 +4,8 @@ ghost use Rattle.xp_words.specs.Places.{sizes_of, size, memory};
 ghost use Rattle.walk_audit.specs.Breaks.{pages_owned};
 ghost use Rattle.walk_audit.specs.Order.{FirstVerdict};
 
-use crate::readers::{owner, pages_word};
 use crate::verdict::Verdict;
+use word_readers::{owner, pages_word};
 use xp_words::Layout;
 
 /// How many frames the domain owns.

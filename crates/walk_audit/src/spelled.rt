@@ -8,8 +8,8 @@ ghost use Rattle.xp_board.specs.Spelling.{IsSpelling, IsPriv, is_life, is_kind_i
 ghost use Rattle.walk_audit.specs.Breaks.{is_map};
 ghost use Rattle.walk_audit.specs.Order.{FirstVerdict};
 
-use crate::readers::word_at;
 use crate::verdict::Verdict;
+use word_readers::word_at;
 use xp_words::{KindWord, Layout, LdtBase, Place, RefWord};
 
 /// The last value of the clock.

@@ -6,8 +6,8 @@ ghost use Rattle.xp_board.specs.Readings.{free_stamp, kind_stamp, clock_value};
 ghost use Rattle.reference_recount.specs.Recounted.{IsReadable};
 ghost use Rattle.walk_audit.specs.Order.{FirstVerdict};
 
-use crate::readers::{free_stamp, kind_of, vcpu_word, word_at};
 use crate::verdict::Verdict;
+use word_readers::{free_stamp, kind_of, vcpu_word, word_at};
 use xp_words::{Layout, Place};
 
 /// The number of the word of a vCPU up to which clock value it is flushed.

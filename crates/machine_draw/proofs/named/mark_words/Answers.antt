@@ -6,4 +6,4 @@ pub loop-index-init : goal.loop-index-init
 loop-index-init c = λ f low. unmarked _ _ (no_words _ _ f)
 
 pub loop-index-preserved : goal.loop-index-preserved
-loop-index-preserved c = λ f low. marked _ _ _ _ _ _ (c.loop-index.invariant f low) (rw (c.context_target-target.ensures, c.vcpu.ensures) at (c.mark.ensures f (omega arith))) (words_more _ _ _ f)
+loop-index-preserved c = λ f low. marked _ _ _ _ _ _ (c.loop-index.invariant f low) (rw (c.context_target-target.ensures, c.word.ensures) at (c.mark.ensures f (omega arith))) (words_more _ _ _ f)

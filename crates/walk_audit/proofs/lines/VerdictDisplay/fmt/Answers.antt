@@ -1,4 +1,3 @@
-use Rattle.std.proofs.Common.{rules}
 use Rattle.walk_audit.proofs.lines.VerdictDisplay.fmt.Goals as goal
 
 pub returns-in-Pages-clause-writes : goal.returns-in-Pages-clause-writes
