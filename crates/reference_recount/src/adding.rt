@@ -75,7 +75,8 @@ fn add_table(
         (λ g. table_entries (names_other kinds.now g) (memory (sizes_of layout.now) words.now) None frame) }
 {
     let kind = kind_of(layout, words, frame);
-    for index in 0..recorded_entries(&kind) {
+    let end = recorded_entries(&kind);
+    for index in 0..end {
         let word = cell(layout, words, frame, index);
         add_demand(kinds, demand(kind.kind, index, word), tallies);
     }

@@ -20,7 +20,6 @@ use std::alloc::{AllocError, Global};
 use xp_words::Layout;
 
 /// The first of the checks that need the tallies of references.
-
 fn first_unsound(layout: &Layout, words: &[u64], tallies: &[Tally]) -> Option<Verdict>
     requires words { length words.now ≡ size (sizes_of layout.now) }
     requires readable { IsReadable layout.now (memory (sizes_of layout.now) words.now) }
@@ -50,8 +49,8 @@ fn first_unsound(layout: &Layout, words: &[u64], tallies: &[Tally]) -> Option<Ve
     first_wrong_map(layout, words)
 }
 
-/// Whether these words are sound where no vCPU holds anything and none has a translation; and what breaks it first. It reads each word once or twice, but the
-/// reference words once more for each domain, and takes memory for a few numbers a frame.
+/// Whether these words are sound where no vCPU holds anything and none has a translation; and what breaks it first. It reads each word a few times, those of
+/// frames once more for each dead domain, and takes memory for a few numbers a frame.
 pub fn audit(alloc: Global, layout: &Layout, words: &[u64]) -> Result<Verdict, AllocError>
     requires machine { IsMachine layout.now }
     requires words { length words.now ≡ size (sizes_of layout.now) }

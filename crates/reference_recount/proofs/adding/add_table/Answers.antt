@@ -22,6 +22,6 @@ loop-index-preserved c =
 pub returns : goal.returns
 returns c =
     let m = memory (sizes_of c.args.layout.now) c.args.words.now in
-    let last : c.loop-index.index ≡ c.recorded_entries-index-end.result = omega (arith, c.loop-index.auto.index-end) in
-    let held : c.loop-index.index ≡ held_of (kind_at m c.args.frame) None = last ∙ c.recorded_entries-index-end.ensures.entries ∙ ap (λ k. held_of k None) c.kind_of-kind.ensures.kind in
+    let last : c.loop-index.index ≡ c.recorded_entries-end.result = omega (arith, c.loop-index.auto.index-end) in
+    let held : c.loop-index.index ≡ held_of (kind_at m c.args.frame) None = last ∙ c.recorded_entries-end.ensures.entries ∙ ap (λ k. held_of k None) c.kind_of-kind.ensures.kind in
     whole_table c.args.kinds.now m c.args.tallies.now.items c.loop-index.tallies.items c.args.frame c.loop-index.index held c.loop-index.invariant
