@@ -30,11 +30,11 @@ order_same {D} one _ _ _ b (InOrder.none s) q = by (last [] s b q)
     by : Last D [] s b → s ≡ b
     by (ended e same) = sym same
     by (behind vs v m e before step) = none_behind vs v (sym e)
-order_same {D} one _ _ _ b (InOrder.more vs v s m a before step) q = by (last (vs ++ (v ∷ [])) s b q)
+order_same {D} one _ _ _ b (InOrder.more vs v s m a before step) q = by (last (vs ++ (v ∷ [])) s b q) (λ k earlier. order_same one vs s m k before earlier)
   where
-    by : Last D (vs ++ (v ∷ [])) s b → a ≡ b
-    by (ended e same) = none_behind vs v e
-    by (behind ws w k e earlier next) =
+    by : Last D (vs ++ (v ∷ [])) s b → ((k : Stage) → InOrder D vs s k → m ≡ k) → a ≡ b
+    by (ended e same) front = none_behind vs v e
+    by (behind ws w k e earlier next) front =
         let f = same_front vs ws v w e in
-        let g = order_same one vs s m k before (subst (λ z. InOrder D z s k) (sym f.0) earlier) in
+        let g = front k (subst (λ z. InOrder D z s k) (sym f.0) earlier) in
         one v m a b step (subst (λ z. D z m b) (sym f.1) (subst (λ z. D w z b) (sym g) next))

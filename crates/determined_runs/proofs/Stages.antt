@@ -52,8 +52,8 @@ module _ (n : Machine) (machine : IsMachine n) (v : ℕ) where
           let mine = subst (λ (z : PortValue). turning.IsTurn c q.after q.end z q.to q.answers) (sym from) q.turn in
           let consulted = subst (λ z. Consulted z q.asked q.answers) (sym gate) q.consulted in
           let one =
-              told_alike p.from p.to q.to _ (telling s.board p.from p.from_is)
-              (is_turn_alike p.gate.says p.gate.asks c p.after q.after p.end q.end p.from p.to q.to p.answers q.answers (subst (λ z. IsMachine z) (sym p.from_is.machine) machine) p.consulted.gives consulted.gives p.turn mine) in
+          told_alike p.from p.to q.to _ (telling s.board p.from p.from_is)
+          (is_turn_alike p.gate.says p.gate.asks c p.after q.after p.end q.end p.from p.to q.to p.answers q.answers (subst (λ z. IsMachine z) (sym p.from_is.machine) machine) p.consulted.gives consulted.gives p.turn mine) in
           let asked = asked_same p.gate p.asked q.asked p.answers p.consulted (subst (λ z. Consulted p.gate q.asked z) (sym one.1.2) consulted) in
           same_stage a b (board_same a.board b.board p.to q.to one.0 p.to_is q.to_is) (p.cpus ∙ (ap (λ z. slice_set s.cpus v z) one.1.0 ∙ sym q.cpus)) (p.gates ∙ (ap (λ z. slice_set s.gates v z) asked ∙ sym q.gates))
 
