@@ -1,4 +1,4 @@
--- Words of kinds as their type reads them.
+-- Marks are few; and the types of frames, one after another.
 use Rattle.std.proofs.Common.{◌≡◌, ℕ, ◌+◌, ◌≤◌, List, [], ◌∷◌, ◌++◌, Option, Some, ◌∙◌, below_more, arith}
 use Rattle.std.proofs.lemmas.List.{get_or_append_left, get_or_push, length_push}
 use Rattle.xp_words.specs.declared.kind.KindWord.{KindWord}

@@ -1,15 +1,13 @@
 -- Words of the machine, read; and words of kinds as their type reads them.
-use Rattle.std.proofs.Common.{◌≡◌, ℕ, ◌<◌, ◌≤◌, ◌&&◌, List, length, IsTrue, Option, Some, None, refl, sym, subst, arith}
+use Rattle.std.proofs.Common.{◌≡◌, ℕ, ◌<◌, ◌≤◌, List, length, IsTrue, Option, Some, None, refl, sym, arith}
 use Rattle.std.specs.Option.{IsSome}
-use Rattle.std.proofs.lemmas.Bool.{and_parts}
 use Rattle.std.proofs.lemmas.Bool.Decides.{nat_tests}
-use Rattle.xp_words.specs.KindWords.{kind_read, kind_fields, has_type, has_form}
+use Rattle.xp_words.specs.KindWords.{kind_read, has_form}
 use Rattle.xp_words.specs.declared.kind.KindWord.{KindWord}
 use Rattle.xp_words.specs.declared.place.Place.{Place}
 use Rattle.xp_words.specs.declared.place.Place.TheVariants.{Kind}
 use Rattle.xp_words.specs.Machine.{Machine}
 use Rattle.xp_words.specs.Places.{Sizes, is_place, number, size}
-use Rattle.xp_words.proofs.KindLaws.{when_some}
 use Rattle.xp_words.proofs.PlaceLaws.{number-lt}
 use Rattle.xp_board.specs.Readings.{kind_at}
 use Rattle.xp_board.specs.Recorded.{held_of}
