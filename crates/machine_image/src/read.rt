@@ -158,7 +158,7 @@ fn words(alloc: Global, bytes: &[u8], first: usize, count: usize) -> Result<Vec<
     }
     let mut words = Vec::with_capacity(alloc, count)?;
     for index in first..first + count {
-        words.push(number(bytes, index))?;
+        words.push_reserved(number(bytes, index));
     }
     Ok(words)
 }
