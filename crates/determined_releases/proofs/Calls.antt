@@ -59,10 +59,10 @@ pub gave_type_alike : {v w x : PortValue} {f : ℕ} {kind : PageType} → GaveTy
 gave_type_alike {f = f} {kind} p q = drops_plain_alike f kind p.found q.found
 
 pub gave_entry_came : {v w : PortValue} {t : TableWork} {a : Result Released Stop} → GaveEntry v w t a → Came v w
-gave_entry_came {v} {w} p = does_came v w _ p.found
+gave_entry_came {v} {w} p = does_came v w _ p.entry.found
 
 pub gave_entry_alike : {v w x : PortValue} {t : TableWork} {a b : Result Released Stop} → GaveEntry v w t a → GaveEntry v x t b → Alike v w x (a ≡ b)
-gave_entry_alike {v} {w} {x} {t} {a} {b} p q = alike_does p.found q.found (released_tie v.post.machine t.frame (511 - t.done) (level_type t.level) a b)
+gave_entry_alike {v} {w} {x} {t} {a} {b} p q = alike_does p.entry.found q.entry.found (released_tie v.post.machine t.frame (511 - t.done) (level_type t.level) a b)
 
 module _ (v w : PortValue) (f : ℕ) (kind : PageType) (marked : Bool) where
   pub dead_came : Does v w (λ vs. Then (Dies f kind marked) (PutBy f) vs) → Came v w

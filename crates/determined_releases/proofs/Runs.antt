@@ -50,14 +50,14 @@ lowered_none p = absurd (of p refl)
 
 by_came : {v w : PortValue} {t : TableWork} {ts us : List TableWork} {a : Result Bool Stop} → LoweredBy v t ts w us a → Came v w
 by_came (entry r few gave left is) = gave_entry_came gave
-by_came {v} {w} {t} (table all dead left is) = dead_came v w t.frame (level_type t.level) false dead
+by_came {v} {w} {t} (table all dead left is) = dead_came v w t.frame (level_type t.level) false dead.found
 
 by_alike : {v w x : PortValue} {t : TableWork} {ts us rs : List TableWork} {a b : Result Bool Stop} → LoweredBy v t ts w us a → LoweredBy v t ts x rs b → Alike v w x ((us ≡ rs) × (a ≡ b))
 by_alike {t = t} {ts} (entry r few gave left is) (entry s less given right are) =
     alike_map (gave_entry_alike gave given) (λ e. (left ∙ (ap (λ z. tables_on t ts z) e ∙ sym right), is ∙ (ap (λ z. answer_on z) e ∙ sym are)))
 by_alike (entry r few gave left is) (table all dead right are) = absurd (omega (arith, few, all))
 by_alike (table all dead left is) (entry s less given right are) = absurd (omega (arith, less, all))
-by_alike {v} {w} {x} {t} (table all dead left is) (table full died right are) = alike_map (dead_alike v w t.frame (level_type t.level) false x dead died) (λ e. (left ∙ sym right, is ∙ sym are))
+by_alike {v} {w} {x} {t} (table all dead left is) (table full died right are) = alike_map (dead_alike v w t.frame (level_type t.level) false x dead.found died.found) (λ e. (left ∙ sym right, is ∙ sym are))
 
 pub lowered_came : (v w : PortValue) (ts us : List TableWork) (a : Result Bool Stop) → Lowered v ts w us a → Came v w
 lowered_came v w [] us a p = lowered_none p

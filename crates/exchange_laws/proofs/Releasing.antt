@@ -38,7 +38,7 @@ lowered_calm : (v : PortValue) (ts : List TableWork) (w : PortValue) (us : List 
 lowered_calm _ _ _ _ _ (release.given v w t ts few gave) is = absurd cc
 lowered_calm _ _ _ _ _ (release.opened v w t ts f recorded closing few gave) is = absurd cc
 lowered_calm _ _ _ _ _ (release.stopped v w t ts stop few gave) is =
-    let e : stop ≡ Paused Due = cc in rose_by v w (of_entries 0 0) refl (subst (λ s. Stops v w (of_entries 0 0) s) e (gave.stops 0 0))
+    let e : stop ≡ Paused Due = cc in rose_by v w (of_entries 0 0) refl (subst (λ s. Stops v w (of_entries 0 0) s) e (gave.entry.stops 0 0))
 lowered_calm _ _ _ _ _ (release.emptied v w t ts full dead) is = absurd cc
 
 ran_calm : {below : Option ℕ} → (v : PortValue) (ts : List TableWork) (w : PortValue) (us : List TableWork) (answers : List Bool) (r : Result (Unit {0}) Stop) → RanDown below v ts w us answers r → r ≡ Err (Paused Due) → yeses answers ≡ 0 → ⊥

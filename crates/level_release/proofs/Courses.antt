@@ -1,15 +1,12 @@
 -- The course of one entry that is given back, or of one table that is left.
-use Rattle.std.proofs.Common.{◌≡◌, ℕ, ◌-◌, ◌<◌, Bool, true, false, List, ◌∷◌, Result, Ok, Err, IfErr, sym, ap, ◌∙◌, subst, arith}
+use Rattle.std.proofs.Common.{◌≡◌, ℕ, ◌-◌, ◌<◌, Bool, true, false, List, ◌∷◌, Result, Ok, Err, refl, sym, ap, ◌∙◌, subst, arith}
 use Rattle.xp_words.specs.declared.kind.PageType.{PageType}
 use Rattle.xp_words.specs.declared.reply.Stop.{Stop}
 use Rattle.xp_board.specs.Told.{PortValue}
-use Rattle.step_maker.specs.Answers.{Stops}
 use Rattle.partial_state.specs.Levels.{level_type}
 use Rattle.partial_state.specs.Stacks.{IsStack, advanced}
 use Rattle.partial_state.specs.declared.stack.TableWork.{TableWork}
-use Rattle.table_entries.specs.Asking.{of_entries}
-use Rattle.table_releases.specs.Found.{ReleasesFound}
-use Rattle.table_releases.specs.Plain.{TwinRelease}
+use Rattle.table_releases.specs.Between.{ReleasesEntry}
 use Rattle.table_releases.specs.declared.entries.Released.{Released}
 use Rattle.table_releases.specs.declared.entries.Released.TheVariants.{Given, Opened}
 use Rattle.level_release.specs.Course.{GaveEntry, Lowered, MadeDead, emptied, given, opened, stopped, table_under}
@@ -20,28 +17,21 @@ some_left are stack more = grind (arith, ((subst (λ us. IsStack us) are stack).
 
 -- ---- the last recorded entry of the innermost table
 module _ (v w : PortValue) {t : TableWork} {rest ts : List TableWork} (are : ts ≡ t ∷ rest) {k : PageType} (is : k ≡ level_type t.level) (few : t.done < 512) where
-  gave : {answer : Result Released Stop} → ReleasesFound v w t.frame (511 - t.done) k answer → TwinRelease v w t.frame k (511 - t.done) answer → ((owner pages : ℕ) → IfErr answer (λ e. Stops v w (of_entries owner pages) e)) →
-      GaveEntry v w t answer
-  gave {answer} found plain stops =
-      record { found = subst (λ y. ReleasesFound v w t.frame (511 - t.done) y answer) is found; plain = subst (λ y. TwinRelease v w t.frame y (511 - t.done) answer) is plain; stops = stops }
+  gave : {a b : Result Released Stop} → a ≡ b → ReleasesEntry v w t.frame (511 - t.done) k a → GaveEntry v w t b
+  gave {a} so e = record { entry = subst (λ b. ReleasesEntry v w t.frame (511 - t.done) (level_type t.level) b) so (subst (λ y. ReleasesEntry v w t.frame (511 - t.done) y a) is e) }
 
-  module _ {a b : Released} (so : a ≡ b) (found : ReleasesFound v w t.frame (511 - t.done) k (Ok a)) (plain : TwinRelease v w t.frame k (511 - t.done) (Ok a)) where
-    done_so : GaveEntry v w t (Ok b)
-    done_so = subst (λ y. GaveEntry v w t (Ok y)) so (gave found plain (λ owner pages. tt))
-
-  pub lowered_given : {a : Released} {us : List TableWork} → a ≡ Given → us ≡ advanced ts → ReleasesFound v w t.frame (511 - t.done) k (Ok a) → TwinRelease v w t.frame k (511 - t.done) (Ok a) → Lowered v ts w us (Ok true)
-  lowered_given {a} {us} so on found plain =
-      subst (λ xs. Lowered v xs w us (Ok true)) (sym are) (subst (λ xs. Lowered v (t ∷ rest) w xs (Ok true)) (sym (on ∙ ap (λ xs. advanced xs) are)) (given v w t rest few (done_so so found plain)))
+  pub lowered_given : {a : Released} {us : List TableWork} → a ≡ Given → us ≡ advanced ts → ReleasesEntry v w t.frame (511 - t.done) k (Ok a) → Lowered v ts w us (Ok true)
+  lowered_given {a} {us} so on e =
+      subst (λ xs. Lowered v xs w us (Ok true)) (sym are) (subst (λ xs. Lowered v (t ∷ rest) w xs (Ok true)) (sym (on ∙ ap (λ xs. advanced xs) are)) (given v w t rest few (gave (ap (λ b. Ok b) so) e)))
 
   pub lowered_opened : {a : Released} {f recorded : ℕ} {closing : Bool} {us xs : List TableWork} → a ≡ Opened f recorded closing → us ≡ advanced ts → xs ≡ table_under t f recorded closing ∷ us →
-      ReleasesFound v w t.frame (511 - t.done) k (Ok a) → TwinRelease v w t.frame k (511 - t.done) (Ok a) → Lowered v ts w xs (Ok false)
-  lowered_opened {a} {f} {recorded} {closing} {xs} so on pushed found plain =
+      ReleasesEntry v w t.frame (511 - t.done) k (Ok a) → Lowered v ts w xs (Ok false)
+  lowered_opened {a} {f} {recorded} {closing} {xs} so on pushed e =
       subst (λ ys. Lowered v ys w xs (Ok false)) (sym are) (subst (λ ys. Lowered v (t ∷ rest) w ys (Ok false))
-      (sym (pushed ∙ ap (λ ys. table_under t f recorded closing ∷ ys) (on ∙ ap (λ ys. advanced ys) are))) (opened v w t rest f recorded closing few (done_so so found plain)))
+      (sym (pushed ∙ ap (λ ys. table_under t f recorded closing ∷ ys) (on ∙ ap (λ ys. advanced ys) are))) (opened v w t rest f recorded closing few (gave (ap (λ b. Ok b) so) e)))
 
-  pub lowered_stopped : {e : Stop} {answer : Result Bool Stop} → answer ≡ Err e → ReleasesFound v w t.frame (511 - t.done) k (Err e) → TwinRelease v w t.frame k (511 - t.done) (Err e) →
-      ((owner pages : ℕ) → Stops v w (of_entries owner pages) e) → Lowered v ts w ts answer
-  lowered_stopped {e} so found plain stops = subst (λ y. Lowered v ts w ts y) (sym so) (subst (λ xs. Lowered v xs w xs (Err e)) (sym are) (stopped v w t rest e few (gave found plain stops)))
+  pub lowered_stopped : {e : Stop} {answer : Result Bool Stop} → answer ≡ Err e → ReleasesEntry v w t.frame (511 - t.done) k (Err e) → Lowered v ts w ts answer
+  lowered_stopped {e} so a = subst (λ y. Lowered v ts w ts y) (sym so) (subst (λ xs. Lowered v xs w xs (Err e)) (sym are) (stopped v w t rest e few (gave refl a)))
 
 -- ---- the innermost table, of which nothing is recorded any more
 pub lowered_emptied : {v w : PortValue} (t : TableWork) {us ts : List TableWork} → ts ≡ t ∷ us → t.done ≡ 512 → MadeDead v w t → Lowered v ts w us (Ok true)

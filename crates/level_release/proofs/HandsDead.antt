@@ -173,9 +173,6 @@ module _ {h : Holdings} {v x : PortValue} {t : TableWork} {ts : List TableWork} 
       came_dead : Came x w
       came_dead = came_trans x d w (moves_came x d (Kind t.frame) (Store (kind_write k)) kinds.Kind None found store) behind
 
-      pub close_came : Came v w
-      close_came = came_trans v x w (moves_came v x Clock Load kinds.Look None clock look) came_dead
-
       pub close_stands : Empties h w ts
       close_stands = dead_stands now empty close_hand store w put came_dead
 

@@ -1,5 +1,5 @@
 -- The call at the last recorded entry of the innermost table: what it asks of the hand, and what is released then.
-use Rattle.std.proofs.Common.{◌≡◌, ◌≢◌, ℕ, ◌+◌, ◌-◌, ◌≤◌, List, [], ◌∷◌, ◌++◌, Option, Some, None, Bool, Result, Ok, refl, sym, ap, ◌∙◌, subst, arith, inl, inr}
+use Rattle.std.proofs.Common.{◌≡◌, ◌≢◌, ℕ, ◌+◌, ◌-◌, ◌≤◌, ◌<◌, List, [], ◌∷◌, ◌++◌, Option, Some, None, Bool, Result, refl, sym, ap, ◌∙◌, subst, arith, inl, inr}
 use Rattle.std.proofs.lemmas.Bool.{cases_eq}
 use Rattle.xp_words.specs.Entries.{below}
 use Rattle.xp_words.specs.KindWords.{kind_fields}
@@ -19,14 +19,13 @@ use Rattle.step_maker.specs.Visits.{Then, Visit}
 use Rattle.frame_types.specs.Taking.{IsOfOther}
 use Rattle.partial_state.proofs.LevelFacts.{level_type-above}
 use Rattle.partial_state.specs.Levels.{level_type}
-use Rattle.partial_state.specs.Stacks.{IsStack, advanced}
+use Rattle.partial_state.specs.Stacks.{IsStack}
 use Rattle.partial_state.specs.declared.stack.TableWork.{TableWork}
 use Rattle.table_releases.specs.Found.{ReleasedBy, ReleasesFound}
-use Rattle.table_releases.specs.Tops.{IsSettledTop, IsShedLive, LeavesReleased, OwnsReleased, StaysRecorded}
 use Rattle.table_releases.specs.declared.entries.Released.{Released}
-use Rattle.table_releases.specs.declared.entries.Released.TheVariants.{Given, Opened}
-use Rattle.level_release.specs.Course.{table_under}
-use Rattle.level_release.specs.Holding.{AreInRelease, Empties}
+use Rattle.level_release.specs.Course.{GaveEntry, Lowered, one_more_done}
+use Rattle.level_release.specs.Course as course
+use Rattle.level_release.specs.Holding.{AreInRelease, Empties, IsReleasing, StaysEmptying, StaysSettled, outermost_frame}
 use Rattle.level_release.proofs.HandsApart.{FirstFound, does_first, list_some}
 use Rattle.level_release.proofs.HandsGiven.{given_settled, given_stands, stays_stands}
 use Rattle.level_release.proofs.HandsOpened.{opened_settled, opened_stands}
@@ -69,9 +68,6 @@ lower_above {h} {v} {t} {ts} {kind} are is_kind s g e at =
     ap (λ k. is_type k (below kind)) l.kind ∙ ap (λ k. is_type (level_type l.level) (below k)) is_kind ∙ level_type-above t.level l.level now.stack.0.low l.low l.high
 
 -- ---- what the steps found
-pub lower_came : (v w : PortValue) (f i : ℕ) (kind : PageType) (answer : Result Released Stop) → ReleasesFound v w f i kind answer → Came v w
-lower_came v w f i kind answer found = does_came v w (λ vs. ReleasedBy v.post.machine f i kind answer vs) found
-
 released_some : (P Q : List Visit → Type 0) (x : Visit) (vs : List Visit) → ((us : List Visit) → P us → us ≡ x ∷ []) → Then P Q vs → vs ≢ []
 released_some P Q x vs one t = list_some t.after x (t.list ∙ ap (λ us. t.after ++ us) (one t.before t.first))
 
@@ -79,39 +75,58 @@ pub lower_first : {v : PortValue} (w : PortValue) (f i : ℕ) (kind : PageType) 
 lower_first {v} w f i kind answer found = does_first w (λ vs. ReleasedBy v.post.machine f i kind answer vs) found (λ vs a. released_some _ _ _ vs (λ us is. is) a.1)
 
 -- ---- what is released then
-module _ {h : Holdings} {v : PortValue} (w : PortValue) {t : TableWork} {stack ts : List TableWork} {kind : PageType} (are : stack ≡ t ∷ ts) (is_kind : kind ≡ level_type t.level) (s : Empties h v stack)
-    (answer : Result Released Stop) (found : ReleasesFound v w t.frame (511 - t.done) kind answer) where
-  now : Empties h v (t ∷ ts)
-  now = subst (λ xs. Empties h v xs) are s
+pub gave_came : {v w : PortValue} {t : TableWork} {a : Result Released Stop} → GaveEntry v w t a → Came v w
+gave_came {v} {w} e = does_came v w _ e.entry.found
 
-  pub lower_stays : StaysRecorded v w t.frame (511 - t.done) → Empties h w stack
-  lower_stays stays =
-      subst (λ xs. Empties h w xs) (sym are) (stays_stands now (lower_first w t.frame (511 - t.done) kind answer found) (511 - t.done) stays.0 stays.1 (lower_came v w t.frame (511 - t.done) kind answer found))
+module _ {v w : PortValue} {t : TableWork} {a : Result Released Stop} (few : t.done < 512) (e : GaveEntry v w t a) where
+  first : FirstFound v
+  first = lower_first w t.frame (511 - t.done) (level_type t.level) a e.entry.found
 
-  module _ (more : t.done ≢ 512) (a : Released) (leaves : LeavesReleased v w t.frame kind (511 - t.done) a) {next : List TableWork} (goes_on : next ≡ advanced stack) where
-    all : 511 - t.done + 1 + t.done ≡ 512
-    all = let few = now.stack.0.done in omega (arith, few, more)
+  all : 511 - t.done + 1 + t.done ≡ 512
+  all = omega (arith, few)
 
-    pub lower_given : a ≡ Given → Empties h w next
-    lower_given is =
-        let given = subst (λ (r : Released). LeavesReleased v w t.frame kind (511 - t.done) r) is leaves in
-        subst (λ xs. Empties h w xs) (sym (goes_on ∙ ap advanced are)) (given_stands now (lower_first w t.frame (511 - t.done) kind answer found) (511 - t.done) given.0 all given.1
-        (lower_came v w t.frame (511 - t.done) kind answer found))
+more_named : (t : TableWork) (ts : List TableWork) → outermost_frame (one_more_done t ∷ ts) ≡ outermost_frame (t ∷ ts)
+more_named t [] = refl
+more_named t (u ∷ us) = refl
 
-    pub lower_opened : {g recorded : ℕ} {closing : _} → a ≡ Opened g recorded closing → OwnsReleased v w t.frame a → (new : List TableWork) → new ≡ table_under t g recorded closing ∷ next → Empties h w new
-    lower_opened {g} {recorded} {closing} is owns new pushed =
-        let opened = subst (λ (r : Released). LeavesReleased v w t.frame (level_type t.level) (511 - t.done) r) is (subst (λ k. LeavesReleased v w t.frame k (511 - t.done) a) is_kind leaves) in
-        subst (λ xs. Empties h w xs) (sym (pushed ∙ ap (λ xs. table_under t g recorded closing ∷ xs) (goes_on ∙ ap advanced are)))
-        (opened_stands now (lower_first w t.frame (511 - t.done) kind answer found) (511 - t.done) all g recorded closing w opened (lower_came v w t.frame (511 - t.done) kind answer found)
-        (subst (λ (r : Released). OwnsReleased v w t.frame r) is owns))
+less_named : (t : TableWork) (ts : List TableWork) → ts ≢ [] → outermost_frame ts ≡ outermost_frame (t ∷ ts)
+less_named t [] some = absurd (some refl)
+less_named t (u ∷ us) some = refl
 
-    -- ---- what is noted as unsettled then
-    pub given_clear : a ≡ Given → IsSettledTop w.holdings
-    given_clear is =
-        let given = subst (λ (r : Released). LeavesReleased v w t.frame kind (511 - t.done) r) is leaves in
-        given_settled now (lower_first w t.frame (511 - t.done) kind answer found) (511 - t.done) given.0 w given.1
+-- what is in hand behind one entry, or one table
+pub record Lowers (v w : PortValue) (ts us : List TableWork) (answer : Result Bool Stop) : Type 0 where
+  pub came : Came v w
+  pub stands : StaysEmptying v w ts us
+  pub settled : IsReleasing v ts → StaysSettled v w answer
+  pub some : ts ≢ []
+  pub outer : us ≢ [] → outermost_frame us ≡ outermost_frame ts
 
-    pub opened_clear : {g recorded : ℕ} {closing : Bool} → a ≡ Opened g recorded closing → IsShedLive (Ok a) → IsSettledTop w.holdings
-    opened_clear {g} {recorded} {closing} is live =
-        let opened = subst (λ (r : Released). LeavesReleased v w t.frame (level_type t.level) (511 - t.done) r) is (subst (λ k. LeavesReleased v w t.frame k (511 - t.done) a) is_kind leaves) in
-        opened_settled now (lower_first w t.frame (511 - t.done) kind answer found) (511 - t.done) all g recorded closing w opened (subst (λ (r : Released). IsShedLive (Ok r)) is live)
+pub lowers : {v w : PortValue} {ts us : List TableWork} {answer : Result Bool Stop} → Lowered v ts w us answer → Lowers v w ts us answer
+lowers (course.given v w t ts few e) =
+    let hand = e.entry.hand in
+    record {
+      came = gave_came e;
+      stands = λ h s. given_stands s (first few e) (511 - t.done) hand.0 (all few e) hand.1 (gave_came e);
+      settled = λ is settled. (tt, given_settled is.1 (first few e) (511 - t.done) hand.0 w hand.1);
+      some = λ e. absurd cc;
+      outer = λ some. more_named t ts;
+    }
+lowers (course.opened v w t ts f k closing few e) =
+    record {
+      came = gave_came e;
+      stands = λ h s. opened_stands s (first few e) (511 - t.done) (all few e) f k closing w e.entry.hand (gave_came e) e.entry.owned;
+      settled = λ is settled. (tt, opened_settled is.1 (first few e) (511 - t.done) (all few e) f k closing w e.entry.hand (e.entry.settled settled));
+      some = λ e. absurd cc;
+      outer = λ some. more_named t ts;
+    }
+lowers (course.stopped v w t ts stop few e) =
+    let hand = e.entry.hand in
+    record {
+      came = gave_came e;
+      stands = λ h s. stays_stands s (first few e) (511 - t.done) hand.0 hand.1 (gave_came e);
+      settled = λ is settled. absurd (e.entry.settled settled);
+      some = λ e. absurd cc;
+      outer = λ some. refl;
+    }
+lowers (course.emptied v w t ts all dead) =
+    record { came = does_came v w _ dead.found; stands = dead.stands ts; settled = λ is settled. (tt, dead.settled); some = λ e. absurd cc; outer = less_named t ts }

@@ -15,7 +15,6 @@ mod CoursesRun
 mod CoursesUnwound
 mod Serving
 mod ServingEntries
-mod ServingRisen
 mod ServingRun
 pub mod ServingTables
 pub mod HandsUnwinding

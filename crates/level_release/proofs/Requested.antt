@@ -1,42 +1,18 @@
 -- A frame that is given back: the steps serve that, and show why it stops.
-use Rattle.std.proofs.Common.{◌≡◌, ℕ, ◌==◌, Bool, true, List, [], ◌∷◌, None, Result, Ok, Err, IfErr, refl, sym, ◌∙◌, subst, append-nil}
+use Rattle.std.proofs.Common.{◌≡◌, ℕ, ◌==◌, Bool, List, [], ◌∷◌, None, refl, sym, subst}
 use Rattle.xp_words.specs.declared.place.Place.TheVariants.{Refs}
-use Rattle.xp_words.specs.declared.reply.Stop.{Stop}
-use Rattle.xp_board.specs.Told.{Post, PortValue}
+use Rattle.xp_board.specs.Told.{PortValue}
 use Rattle.xp_board.specs.declared.step.Act.TheVariants.{Load}
 use Rattle.xp_board.specs.declared.step.StepKind.TheVariants as kinds
 use Rattle.xp_board.proofs.Sums.{when_eq}
 use Rattle.step_maker.specs.Moves.{Met, Moves}
-use Rattle.step_maker.proofs.Coming.{came_post}
-use Rattle.step_maker.specs.Answers.{Deed, Serves, Stops, misses}
+use Rattle.step_maker.specs.Answers.{Deed, Serves}
 use Rattle.step_maker.specs.Asked.{IsAsked, Request, back, of_back}
 use Rattle.step_maker.specs.Finding.{Finding}
-use Rattle.step_maker.proofs.Piecing.{serves_back, serves_came, serves_step, serves_within, within_back}
+use Rattle.step_maker.proofs.Piecing.{serves_back, serves_step, serves_within, within_back}
 use Rattle.table_entries.specs.Asking.{of_entries}
 use Rattle.partial_state.specs.declared.stack.TableWork.{TableWork}
-use Rattle.level_release.specs.Asking.{Continues, IsReleasePiece, StopsRelease, is_due_answer, is_due_stop}
-
--- ---- behind a piece that asks the only table
-module _ {v x : PortValue} (w : PortValue) {r : Request} {t : TableWork} (piece : IsReleasePiece v x r (t ∷ []) []) where
-  same_post : x.post ≡ v.post
-  same_post = came_post v x (serves_came v x r [] piece.serves)
-
-  emptied_deeds : (ds : List Deed) → Continues x w (t ∷ []) [] ds → Serves v w r ds
-  unfolding Continues
-  emptied_deeds ds goes = subst (λ es. Serves v w r es) (append-nil ds) (goes v r [] piece).serves
-
-  -- an exchange that was lost there is one of the whole
-  pub emptied_serves : (answer : Result (Unit {0}) Stop) → Continues x w (t ∷ []) [] (misses x.post.machine answer) → Serves v w r (misses v.post.machine answer)
-  emptied_serves answer goes = subst (λ (p : Post). Serves v w r (misses p.machine answer)) same_post (emptied_deeds (misses x.post.machine answer) goes)
-
-  emptied_stops : (e : Stop) → (is_due_stop e ≡ true → r.rose ≡ true) → StopsRelease x w (t ∷ []) e → Stops v w r e
-  unfolding StopsRelease
-  emptied_stops e rises stops = stops v r [] rises piece
-
--- by the answer
-pub answer_stops : {v x : PortValue} (w : PortValue) {r : Request} {t : TableWork} (answer : Result (Unit {0}) Stop) → r.rose ≡ is_due_answer answer → IsReleasePiece v x r (t ∷ []) [] → IfErr answer (λ e. StopsRelease x w (t ∷ []) e) → IfErr answer (λ e. Stops v w r e)
-answer_stops w (Ok done) rose piece stops = tt
-answer_stops {v} {x} w {r} {t} (Err e) rose piece stops = emptied_stops w piece e (λ due. rose ∙ due) stops
+use Rattle.level_release.specs.Asking.{IsReleasePiece}
 
 -- ---- a release
 module _ (v : PortValue) (f owner pages : ℕ) (rose : Bool) where

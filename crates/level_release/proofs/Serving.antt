@@ -16,7 +16,6 @@ use Rattle.step_maker.proofs.Piecing.{same_request, serves_back, serves_came, se
 use Rattle.table_words.specs.OldWords.{old_place}
 use Rattle.table_words.specs.declared.old_words.OldWord.TheVariants.{First}
 use Rattle.partial_state.specs.declared.stack.TableWork.{TableWork}
-use Rattle.partial_state.specs.Stacks.{advanced, retreated}
 use Rattle.level_release.specs.Asking.{AskTables, IsReleasePiece}
 
 -- ---- asked tables
@@ -24,15 +23,6 @@ use Rattle.level_release.specs.Asking.{AskTables, IsReleasePiece}
 pub asked_later : (n : Machine) (s : ℕ) (r : Request) (F G : Finding) → ((m : Moment) → F m → G m) → (ts : List TableWork) → AskTables n s r F ts → AskTables n s r G ts
 asked_later n s r F G more [] asked = asked
 asked_later n s r F G more (t ∷ ts) asked = (asks n s r F r G (same_request n s r F G more) t.frame asked.0, asked_later n s r F G more ts asked.1)
-
--- how many of their entries are done with does not matter
-pub asked_advanced : (n : Machine) (s : ℕ) (r : Request) (F : Finding) (ts : List TableWork) → AskTables n s r F ts → AskTables n s r F (advanced ts)
-asked_advanced n s r F [] asked = asked
-asked_advanced n s r F (t ∷ ts) asked = asked
-
-asked_retreated : (n : Machine) (s : ℕ) (r : Request) (F : Finding) (ts : List TableWork) → AskTables n s r F ts → AskTables n s r F (retreated ts)
-asked_retreated n s r F [] asked = asked
-asked_retreated n s r F (t ∷ ts) asked = asked
 
 -- ---- pieces
 -- the same steps, with other tables that are asked
@@ -42,9 +32,6 @@ piece_of less a = record { entries = a.entries; serves = a.serves; asked = less 
 
 pub piece_rest : {u v : PortValue} {r : Request} {t : TableWork} {ts : List TableWork} {ds : List Deed} → IsReleasePiece u v r (t ∷ ts) ds → IsReleasePiece u v r ts ds
 piece_rest {u} {v} {r} {t} {ts} {ds} a = piece_of (λ asked. asked.1) a
-
-pub piece_retreated : {u v : PortValue} {r : Request} {ts : List TableWork} {ds : List Deed} → IsReleasePiece u v r ts ds → IsReleasePiece u v r (retreated ts) ds
-piece_retreated {u} {v} {r} {ts} {ds} a = piece_of (asked_retreated u.post.machine u.post.vcpu r (Met u v) ts) a
 
 -- more steps, which serve too
 pub piece_later : {u v w : PortValue} {r : Request} {ts : List TableWork} {ds es : List Deed} → IsReleasePiece u v r ts ds → Came v w → Serves u w r es → IsReleasePiece u w r ts es

@@ -58,10 +58,10 @@ module _ {h : Holdings} {v : PortValue} {t : TableWork} {us : List TableWork} (s
       piece_later a came (serves_step u v w r ds (Kind t.frame) (Store (kind_write l)) kinds.Kind None found a.serves store (top_asked w a came, keeps))
 
 -- partial, with what is recorded still
-pub piece_partial : {h : Holdings} {v w : PortValue} {t : TableWork} {us : List TableWork} {found : ℕ} → Empties h v (t ∷ us) →
+pub partial_keeps : {h : Holdings} {v w : PortValue} {t : TableWork} {us : List TableWork} {found : ℕ} → Empties h v (t ∷ us) →
     Moves v w (Kind t.frame) (Store (kind_write (partial_kind (level_type t.level) false false (512 - t.done) 0))) kinds.Kind None found →
-    (u : PortValue) (r : Request) (ts : List TableWork) (ds : List Deed) → IsReleasePiece u v r (t ∷ ts) ds → IsReleasePiece u w r (t ∷ ts) ds
-piece_partial {h} {v} {w} {t} {us} {found} s store u r ts ds a = piece_left s (partial_kind (level_type t.level) false false (512 - t.done) 0) (partial_leaves s).is refl store a
+    IsTrue (keeps_type found (kind_write (partial_kind (level_type t.level) false false (512 - t.done) 0)))
+partial_keeps {t = t} s store = keeps s (partial_kind (level_type t.level) false false (512 - t.done) 0) (partial_leaves s).is refl store
 
 -- dead, with a clock value that was found; and its reference is given back
 module _ {h : Holdings} {v x d : PortValue} (w : PortValue) {t : TableWork} {us : List TableWork} {clock found : ℕ} (s : Empties h v (t ∷ us)) (look : Moves v x Clock Load kinds.Look None clock) (same : Same v x)

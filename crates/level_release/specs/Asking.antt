@@ -1,4 +1,4 @@
--- What a release is asked, and how its pieces serve that and show why it pauses.
+-- What a release is asked, and how its pieces serve that.
 use Rattle.std.specs.Prelude.{◌≡◌, ◌==◌, ℕ, true, List, [], ◌∷◌, ◌++◌, Result}
 use Rattle.xp_words.specs.Machine.{Machine}
 use Rattle.xp_words.specs.declared.reply.Pause.TheVariants.{Busy, Due, Lost}
@@ -6,7 +6,7 @@ use Rattle.xp_words.specs.declared.reply.Stop.{Stop}
 use Rattle.xp_words.specs.declared.reply.Stop.TheVariants.{Paused}
 use Rattle.xp_board.specs.Told.{PortValue}
 use Rattle.step_maker.specs.Moves.{Met}
-use Rattle.step_maker.specs.Answers.{Deed, Serves, Stops}
+use Rattle.step_maker.specs.Answers.{Deed, Serves}
 use Rattle.step_maker.specs.Asked.{IsAsked, Request}
 use Rattle.step_maker.specs.Finding.{Finding}
 use Rattle.partial_state.specs.declared.stack.TableWork.{TableWork}
@@ -45,7 +45,3 @@ pub record IsReleasePiece (u v : PortValue) (r : Request) (ts : List TableWork) 
 -- Behind any such piece the steps from v to w go on with it, with these deeds more; and it asks the tables us then.
 unfoldable pub Continues : PortValue → PortValue → List TableWork → List TableWork → List Deed → Type 0
 Continues v w ts us es = (u : PortValue) (r : Request) (ds : List Deed) → IsReleasePiece u v r ts ds → IsReleasePiece u w r us (es ++ ds)
-
--- and they show why it stops; where that is the gate, it said yes
-unfoldable pub StopsRelease : PortValue → PortValue → List TableWork → Stop → Type 0
-StopsRelease v w ts e = (u : PortValue) (r : Request) (ds : List Deed) → (is_due_stop e ≡ true → r.rose ≡ true) → IsReleasePiece u v r ts ds → Stops u w r e

@@ -1,6 +1,6 @@
 -- The course of a release: the calls that it makes, from port to port, with the tables that are being released before and after each, and
 -- the answers of the gate, the newest first.
-use Rattle.std.specs.Prelude.{◌≡◌, ◌≢◌, ℕ, ◌+◌, ◌-◌, ◌<◌, ◌≤◌, ◌==◌, ◌&&◌, nat_le, nat_lt, not, Bool, true, false, List, [], ◌∷◌, ◌++◌, Option, None, Some, Result, Ok, Err, IfErr}
+use Rattle.std.specs.Prelude.{◌≡◌, ◌≢◌, ℕ, ◌+◌, ◌-◌, ◌<◌, ◌≤◌, ◌==◌, ◌&&◌, nat_lt, not, Bool, true, false, List, [], ◌∷◌, ◌++◌, Option, None, Some, Result, Ok, Err, IsTrue}
 use Rattle.xp_words.specs.KindWords.{kind_fields, kind_write}
 use Rattle.xp_words.specs.PageTypes.{is_table}
 use Rattle.xp_words.specs.Places.{number, sizes_of}
@@ -17,7 +17,7 @@ use Rattle.xp_board.specs.declared.step.Mark.TheVariants.{Record}
 use Rattle.xp_board.specs.declared.step.StepKind.TheVariants as kinds
 use Rattle.xp_board.specs.Told.{PortValue}
 use Rattle.step_maker.specs.Moves.{Moves}
-use Rattle.step_maker.specs.Answers.{Stops}
+use Rattle.step_maker.specs.Reasons.{keeps_type}
 use Rattle.step_maker.specs.Visits.{Does, Then}
 use Rattle.frame_words.specs.Freeing.{PutBy}
 use Rattle.kind_words.specs.Kinds.{partial_kind}
@@ -27,27 +27,30 @@ use Rattle.xp_words.specs.Entries.{is_slot}
 use Rattle.partial_state.specs.Levels.{level_type}
 use Rattle.partial_state.specs.Weights.{weight}
 use Rattle.partial_state.specs.declared.stack.TableWork.{TableWork}
-use Rattle.table_entries.specs.Asking.{of_entries}
 use Rattle.table_words.specs.OldWords.{old_place}
 use Rattle.table_words.specs.declared.old_words.OldWord.{OldWord}
 use Rattle.table_words.specs.declared.old_words.OldWord.TheVariants.{First, Second}
 use Rattle.table_entries.specs.Acquiring.{GaveRef, GaveType, Named}
-use Rattle.table_releases.specs.Found.{ReleasesFound, has_recorded}
-use Rattle.table_releases.specs.Plain.{TwinRelease}
+use Rattle.table_releases.specs.Between.{ReleasesEntry}
+use Rattle.table_releases.specs.Found.{has_recorded}
 use Rattle.table_releases.specs.declared.entries.Released.{Released}
 use Rattle.table_releases.specs.declared.entries.Released.TheVariants.{Given, Opened}
-use Rattle.level_release.specs.Asking.{is_due_answer}
+use Rattle.table_releases.specs.Tops.{IsSettledTop}
+use Rattle.level_release.specs.Asking.{Continues, is_due_answer}
+use Rattle.level_release.specs.Holding.{StaysEmptying}
 
 -- ---- one call each
 -- the last recorded entry of the innermost table
 pub record GaveEntry (v w : PortValue) (t : TableWork) (answer : Result Released Stop) : Type 0 where
-  pub found : ReleasesFound v w t.frame (511 - t.done) (level_type t.level) answer
-  pub plain : TwinRelease v w t.frame (level_type t.level) (511 - t.done) answer
-  pub stops : (owner pages : ℕ) → IfErr answer (λ e. Stops v w (of_entries owner pages) e)
+  pub entry : ReleasesEntry v w t.frame (511 - t.done) (level_type t.level) answer
 
--- dead, with a clock value that was found, and its reference given back
-abbrev pub MadeDead : PortValue → PortValue → TableWork → Type 0
-MadeDead v w t = Does v w (λ vs. Then (Dies t.frame (level_type t.level) false) (PutBy t.frame) vs)
+-- Dead, with a clock value that was found, and its reference given back: by these steps, which serve any call that asked the table; and
+-- what is in hand then.
+pub record MadeDead (v w : PortValue) (t : TableWork) : Type 0 where
+  pub found : Does v w (λ vs. Then (Dies t.frame (level_type t.level) false) (PutBy t.frame) vs)
+  pub serves : (ts : List TableWork) → Continues v w (t ∷ ts) ts []
+  pub stands : (ts : List TableWork) → StaysEmptying v w (t ∷ ts) ts
+  pub settled : IsSettledTop w.holdings
 
 -- ---- one entry, or one table
 abbrev pub one_more_done : TableWork → TableWork
@@ -94,8 +97,12 @@ pub data RanDown (below : Option ℕ) (v : PortValue) (ts : List TableWork) : Po
       RanDown below v ts w xs answers (Err stop)
 
 -- ---- tables that are left unfinished
+-- its kind word, with what is recorded still; it is a table of that type already, and not dead
+abbrev pub partial_word : TableWork → ℕ
+partial_word t = kind_write (partial_kind (level_type t.level) false false (512 - t.done) 0)
+
 abbrev pub StoredPartial : PortValue → PortValue → TableWork → Type 0
-StoredPartial v w t = (found : ℕ) × Moves v w (Kind t.frame) (Store (kind_write (partial_kind (level_type t.level) false false (512 - t.done) 0))) kinds.Kind None found
+StoredPartial v w t = (found : ℕ) × Moves v w (Kind t.frame) (Store (partial_word t)) kinds.Kind None found × IsTrue (keeps_type found (partial_word t))
 
 abbrev pub one_less : TableWork → TableWork
 one_less t = record t { done = t.done - 1 }

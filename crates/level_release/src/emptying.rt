@@ -1,17 +1,15 @@
 //! Tables that are emptied, one in the other: the innermost first, and of each the highest recorded entry first.
-ghost use Rattle.std.specs.Prelude.{◌≡◌, ◌≢◌, ◌<◌, ◌∷◌, [], Some, true, false, List, length, IfOk, IfErr};
+ghost use Rattle.std.specs.Prelude.{◌≡◌, ◌≢◌, ◌<◌, ◌∷◌, [], Some, true, false, List, IfOk, IfErr};
 ghost use Rattle.step_maker.specs.Holds.{MayWork};
 ghost use Rattle.step_maker.specs.Moves.{Came};
-ghost use Rattle.step_maker.specs.Answers.{misses};
 ghost use Rattle.partial_state.specs.Weights.{weight};
 ghost use Rattle.partial_state.specs.declared.stack.TableWork.{TableWork};
 ghost use Rattle.table_releases.specs.Tops.{IsSettledTop};
 ghost use Rattle.xp_words.specs.declared.reply.Pause.TheVariants.{Due};
 ghost use Rattle.xp_words.specs.declared.reply.Stop.TheVariants.{Paused};
-ghost use Rattle.level_release.specs.Asking.{Continues, IsReleaseEnd, StopsRelease, is_due_answer};
-ghost use Rattle.level_release.specs.Calls.{Lowers};
-ghost use Rattle.level_release.specs.Course.{EmptiesBy, MadeDead, RunsDownBy, is_asked_down, is_asked_within, is_less, left_by};
-ghost use Rattle.level_release.specs.Holding.{IsReleasing, LeavesEmptied, MayUnwind, StaysEmptying, outermost_frame};
+ghost use Rattle.level_release.specs.Asking.{IsReleaseEnd, is_due_answer};
+ghost use Rattle.level_release.specs.Course.{EmptiesBy, Lowered, MadeDead, RunsDownBy, is_asked_down, is_asked_within, is_less, left_by};
+ghost use Rattle.level_release.specs.Holding.{IsReleasing, LeavesEmptied, MayUnwind};
 
 use crate::leaving::unwind;
 use frame_words::put_ref;
@@ -36,8 +34,6 @@ pub(crate) fn empty<P: Port>(
     ensures hand { LeavesEmptied (P.value port.old) (P.value port.new) table result }
     ensures kinds { IfErr result IsReleaseEnd }
     ensures settled { IsSettledTop (P.value port.old).holdings → IfErr result (λ e. e ≡ Paused Due) }
-    ensures serves { Continues (P.value port.old) (P.value port.new) (table ∷ []) [] (misses (P.value port.old).post.machine result) }
-    ensures stops { IfErr result (λ e. StopsRelease (P.value port.old) (P.value port.new) (table ∷ []) e) }
     ensures course { EmptiesBy left.old left.new (P.value port.old) (P.value port.new) table (policy gate.old) (policy gate.new) result }
 {
     let mut stack = Stack::new();
@@ -71,16 +67,9 @@ fn run_down<P: Port>(
 ) -> Result<(), Stop>
     requires may { MayWork (P.value port.old) }
     requires stands { IsReleasing (P.value port.old) stack.old }
-    requires one { length stack.old ≡ 1 }
-    ensures came { Came (P.value port.old) (P.value port.new) }
-    ensures stands { StaysEmptying (P.value port.old) (P.value port.new) stack.old stack.new }
     ensures emptied { IfOk result (λ _. stack.new ≡ []) }
-    ensures outer { IfErr result (λ _. outermost_frame stack.new ≡ outermost_frame stack.old) }
     ensures some { IfErr result (λ _. stack.new ≢ []) }
     ensures kinds { IfErr result IsReleaseEnd }
-    ensures settled { IsSettledTop (P.value port.old).holdings → IfErr result (λ e. e ≡ Paused Due) }
-    ensures serves { Continues (P.value port.old) (P.value port.new) stack.old stack.new (misses (P.value port.old).post.machine result) }
-    ensures stops { IfErr result (λ e. StopsRelease (P.value port.old) (P.value port.new) stack.old e) }
     ensures course { RunsDownBy below (P.value port.old) stack.old (P.value port.new) stack.new (policy gate.old) (policy gate.new) result }
 {
     while !stack.is_empty() {
@@ -101,8 +90,7 @@ fn lower<P: Port>(port: &mut P, stack: &mut Stack) -> Result<bool, Stop>
     requires may { MayWork (P.value port.old) }
     requires stands { IsReleasing (P.value port.old) stack.old }
     requires some { stack.old ≢ [] }
-    ensures met { Lowers (P.value port.old) (P.value port.new) stack.old stack.new result }
-    ensures outer { stack.new ≢ [] → outermost_frame stack.new ≡ outermost_frame stack.old }
+    ensures course { Lowered (P.value port.old) stack.old (P.value port.new) stack.new result }
     ensures kept { IfErr result (λ _. stack.new ≡ stack.old) }
     ensures less { IfOk result (λ _. weight stack.new < weight stack.old) }
     ensures kinds { IfErr result IsReleaseEnd }
@@ -144,11 +132,7 @@ fn close<P: Port>(port: &mut P, table: TableWork)
     requires may { MayWork (P.value port.old) }
     requires stands { (ts : List TableWork) × IsReleasing (P.value port.old) (table ∷ ts) }
     requires empty { table.done ≡ 512 }
-    ensures came { Came (P.value port.old) (P.value port.new) }
-    ensures stands { (ts : List TableWork) → StaysEmptying (P.value port.old) (P.value port.new) (table ∷ ts) ts }
-    ensures serves { (ts : List TableWork) → Continues (P.value port.old) (P.value port.new) (table ∷ ts) ts [] }
-    ensures course { MadeDead (P.value port.old) (P.value port.new) table }
-    ensures settled { IsSettledTop (P.value port.new).holdings }
+    ensures { MadeDead (P.value port.old) (P.value port.new) table }
 {
     let clock = look_clock(port);
     leave(

@@ -1,16 +1,11 @@
 //! Tables whose release is unfinished.
-ghost use Rattle.std.specs.Prelude.{◌≢◌, ◌-◌, ◌∷◌, [], None, false, List};
-ghost use Rattle.xp_words.specs.KindWords.{kind_write};
-ghost use Rattle.xp_words.specs.declared.place.Place.TheVariants.{Kind};
-ghost use Rattle.xp_board.specs.declared.step.Act.TheVariants.{Store};
-ghost use Rattle.xp_board.specs.declared.step.StepKind.TheVariants as kinds;
+ghost use Rattle.std.specs.Prelude.{◌≢◌, ◌-◌, ◌∷◌, [], false, List};
 ghost use Rattle.step_maker.specs.Holds.{Holds, MayWork};
-ghost use Rattle.step_maker.specs.Moves.{Came, Moves};
+ghost use Rattle.step_maker.specs.Moves.{Came};
 ghost use Rattle.kind_words.specs.Kinds.{left, partial_kind};
 ghost use Rattle.partial_state.specs.Levels.{level_type};
 ghost use Rattle.partial_state.specs.declared.stack.TableWork.{TableWork};
-ghost use Rattle.level_release.specs.Asking.{Continues};
-ghost use Rattle.level_release.specs.Course.{LeftInside, UnwoundDown};
+ghost use Rattle.level_release.specs.Course.{LeftInside, StoredPartial, UnwoundDown};
 ghost use Rattle.level_release.specs.Holding.{IsReleasing, LeavesNamed, MayUnwind, StaysEmptying};
 
 use kind_words::{leave, partial_kind};
@@ -24,7 +19,6 @@ pub(crate) fn unwind<P: Port>(port: &mut P, stack: &mut Stack)
     requires { MayUnwind (P.value port.old) stack.old }
     ensures came { Came (P.value port.old) (P.value port.new) }
     ensures hand { LeavesNamed (P.value port.old) (P.value port.new) stack.old }
-    ensures serves { Continues (P.value port.old) (P.value port.new) stack.old [] [] }
     ensures course { UnwoundDown (P.value port.old) stack.old (P.value port.new) }
 {
     while let Some(table) = stack.pop() {
@@ -41,7 +35,6 @@ fn leave_outermost<P: Port>(port: &mut P, table: TableWork)
     requires { MayUnwind (P.value port.old) (table ∷ []) }
     ensures came { Came (P.value port.old) (P.value port.new) }
     ensures hand { LeavesNamed (P.value port.old) (P.value port.new) (table ∷ []) }
-    ensures serves { Continues (P.value port.old) (P.value port.new) (table ∷ []) [] [] }
     ensures course { UnwoundDown (P.value port.old) (table ∷ []) (P.value port.new) }
 {
     leave_partial(port, table);
@@ -55,7 +48,6 @@ fn leave_inside<P: Port>(port: &mut P, stack: &mut Stack, table: TableWork)
     requires inner { stack.old ≢ [] }
     ensures came { Came (P.value port.old) (P.value port.new) }
     ensures stands { StaysEmptying (P.value port.old) (P.value port.new) (table ∷ stack.old) stack.new }
-    ensures serves { Continues (P.value port.old) (P.value port.new) (table ∷ stack.old) stack.new [] }
     ensures course { LeftInside (P.value port.old) table stack.old (P.value port.new) stack.new }
 {
     leave_partial(port, table);
@@ -66,15 +58,15 @@ fn leave_inside<P: Port>(port: &mut P, stack: &mut Stack, table: TableWork)
 }
 
 // The kind word of the innermost table, with so many entries as are still recorded. Its type count is in hand then.
-fn leave_partial<P: Port>(port: &mut P, table: TableWork) -> u64
+fn leave_partial<P: Port>(port: &mut P, table: TableWork)
     requires may { MayWork (P.value port.old) }
     requires stands { (ts : List TableWork) × IsReleasing (P.value port.old) (table ∷ ts) }
-    ensures moves { Moves (P.value port.old) (P.value port.new) (Kind table.frame) (Store (kind_write (partial_kind (level_type table.level) false false (512 - table.done) 0))) kinds.Kind None result }
+    ensures course { StoredPartial (P.value port.old) (P.value port.new) table }
     ensures hand { Holds (P.value port.old) (P.value port.new) (left (P.value port.old) table.frame (partial_kind (level_type table.level) false false (512 - table.done) 0)) }
 {
     leave(
         port,
         table.frame,
         partial_kind(level_type(table.level), false, 512 - table.done),
-    )
+    );
 }

@@ -72,7 +72,7 @@ at_level t ts l q level =
 module _ (n : Machine) (u w : PortValue) (q : Plain) where
   module _ (t : TableWork) (ts : List TableWork) (l : ℕ) (level : t.level ≡ suc l) (few : t.done < 512) (answer : Result Released Stop) (a : GaveEntry u w t answer) (s : Leads n u (t ∷ ts) q) where
     came : Came u w
-    came = does_came u w _ a.found
+    came = does_came u w _ a.entry.found
 
     asked : Demand
     asked = entry_of s.plain (level_type (suc l)) t.frame (511 - t.done)
@@ -84,7 +84,7 @@ module _ (n : Machine) (u w : PortValue) (q : Plain) where
         let d = subst (λ k. Describes k (told_word u) s.plain) (sym s.machine) s.describes in
         subst (λ k. Comes k l s.plain w (entry_of s.plain (level_type (suc l)) t.frame (511 - t.done)) answer) s.machine
         (entry_comes u w s.plain t.frame (511 - t.done) l answer s.telling d (subst (λ (k : Machine). t.frame < k.frames) (sym s.machine) s.tables.3) (omega arith)
-        (let high = s.tables.1 in omega arith) e.found e.plain)
+        (let high = s.tables.1 in omega arith) e.entry.found e.entry.plain)
 
     machine_on : w.post.machine ≡ n
     machine_on = ap (λ (x : Post). x.machine) (came_post u w came) ∙ s.machine
@@ -143,7 +143,7 @@ module _ (n : Machine) (u w : PortValue) (q : Plain) where
   -- a table without recorded entries is dead
   emptied_leads : (t : TableWork) (ts : List TableWork) (l : ℕ) → t.level ≡ suc l → t.done ≡ 512 → MadeDead u w t → Leads n u (t ∷ ts) q → Leads n w ts q
   emptied_leads t ts l level full a s =
-      let came = does_came u w _ a in
+      let came = does_came u w _ a.found in
       let none : 512 - t.done ≡ 0 = omega arith in
       record {
         machine = ap (λ (x : Post). x.machine) (came_post u w came) ∙ s.machine;
@@ -151,7 +151,7 @@ module _ (n : Machine) (u w : PortValue) (q : Plain) where
         tables = s.tables.4;
         plain = closed t.frame (level_type (suc l)) s.plain;
         describes = dead_words n u w s.plain t.frame (level_type (suc l)) s.machine s.telling s.describes s.tables.3 (level_type-typed (suc l))
-            (subst (λ k. Does u w (λ vs. Then (Dies t.frame (level_type k) false) (PutBy t.frame) vs)) level a);
+            (subst (λ k. Does u w (λ vs. Then (Dies t.frame (level_type k) false) (PutBy t.frame) vs)) level a.found);
         left = sym (none_back l t.frame ts s.plain) ∙ ap (λ k. back l t.frame ts k s.plain) (sym none) ∙ sym (at_level t ts l s.plain level) ∙ s.left;
       }
 

@@ -54,10 +54,10 @@ away_does v w P off does = record { came = does_came v w P does; same = does_sam
 
 -- ---- a table that is emptied
 gave_away : (v w : PortValue) (t : TableWork) (answer : Released) → GaveEntry v w t (Ok answer) → Away v w
-gave_away v w t answer gave = away_does v w _ (released v.post.machine t.frame (511 - t.done) answer (level_type t.level)) gave.found
+gave_away v w t answer gave = away_does v w _ (released v.post.machine t.frame (511 - t.done) answer (level_type t.level)) gave.entry.found
 
 dead_away : (v w : PortValue) (t : TableWork) → MadeDead v w t → Away v w
-dead_away v w t dead = away_does v w _ (ends_dead t.frame (level_type t.level) false) dead
+dead_away v w t dead = away_does v w _ (ends_dead t.frame (level_type t.level) false) dead.found
 
 lowered_away : (v : PortValue) (ts : List TableWork) (w : PortValue) (us : List TableWork) (answer : Result Bool Stop) (done : Bool) → answer ≡ Ok done → Lowered v ts w us answer → Away v w
 lowered_away _ _ _ _ _ done is (course.Lowered.given v w t ts some gave) = gave_away v w t _ gave

@@ -69,7 +69,7 @@ opens_high (suc (suc l)) is = omega arith
 
 gave_high : (v w : PortValue) (t : TableWork) (h recorded : ℕ) (closing : Bool) → GaveEntry v w t (Ok (Opened h recorded closing)) → 2 ≤ t.level
 unfolding Does
-gave_high v w t h recorded closing gave = opens_high t.level (entry_opens v.post.machine t.frame (511 - t.done) h recorded closing (level_type t.level) _ gave.found.2)
+gave_high v w t h recorded closing gave = opens_high t.level (entry_opens v.post.machine t.frame (511 - t.done) h recorded closing (level_type t.level) _ gave.entry.found.2)
 
 -- ---- weights
 abbrev pub AreLow : List TableWork → Type 0
@@ -152,7 +152,7 @@ demand_due n f i (demands.Typed g t) vs by = form_due n f i g t by.0 (form_of (k
 
 gave_due : (v w : PortValue) (t : TableWork) → GaveEntry v w t due_by → ⊥
 unfolding Does
-gave_due v w t gave = let by = gave.found.2 in demand_due v.post.machine t.frame (511 - t.done) _ by.1.after by.1.next
+gave_due v w t gave = let by = gave.entry.found.2 in demand_due v.post.machine t.frame (511 - t.done) _ by.1.after by.1.next
 
 pub lowered_due : (v : PortValue) (ts : List TableWork) (w : PortValue) (us : List TableWork) (answer : Result Bool Stop) → answer ≡ Err (Paused Due) → Lowered v ts w us answer → ⊥
 lowered_due _ _ _ _ _ is (course.Lowered.given v w t ts some gave) = cc

@@ -31,11 +31,11 @@ gave_keeps : (v w : PortValue) (f : ℕ) → GaveRef v w f → Keeps v w
 gave_keeps v w f gave = keeps_does v w _ (puts f) gave.found
 
 lowered_keeps : (u w : PortValue) (us xs : List TableWork) (answer : Result Bool Stop) (done : Bool) → answer ≡ Ok done → Lowered u us w xs answer → Keeps u w
-lowered_keeps _ _ _ _ _ done ok (course.Lowered.given v w t ts less gave) = keeps_does v w _ (released v.post.machine t.frame (511 - t.done) Given (level_type t.level)) gave.found
+lowered_keeps _ _ _ _ _ done ok (course.Lowered.given v w t ts less gave) = keeps_does v w _ (released v.post.machine t.frame (511 - t.done) Given (level_type t.level)) gave.entry.found
 lowered_keeps _ _ _ _ _ done ok (course.Lowered.opened v w t ts f recorded closing less gave) =
-    keeps_does v w _ (released v.post.machine t.frame (511 - t.done) (Opened f recorded closing) (level_type t.level)) gave.found
+    keeps_does v w _ (released v.post.machine t.frame (511 - t.done) (Opened f recorded closing) (level_type t.level)) gave.entry.found
 lowered_keeps _ _ _ _ _ done ok (course.Lowered.stopped v w t ts stop less gave) = absurd (cc)
-lowered_keeps _ _ _ _ _ done ok (course.Lowered.emptied v w t ts full dead) = keeps_does v w _ (ends_dead t.frame (level_type t.level) false) dead
+lowered_keeps _ _ _ _ _ done ok (course.Lowered.emptied v w t ts full dead) = keeps_does v w _ (ends_dead t.frame (level_type t.level) false) dead.found
 
 ran_keeps : {below : Option ℕ} → (v : PortValue) (ts : List TableWork) (w : PortValue) (us : List TableWork) (answers : List Bool) (answer : Result (Unit {0}) Stop) → answer ≡ Ok tt → RanDown below v ts w us answers answer → Keeps v w
 ran_keeps v ts _ _ _ _ ok course.RanDown.begun = λ k known. known

@@ -29,7 +29,7 @@ loop-table-preserved-then-is_empty g c =
     let left = subst (λ us. Unwinding u v ts (t ∷ us)) none (subst (λ us. Unwinding u v ts us) c.in-Some.ensures.some c.loop-table.invariant.goes) in
     record {
       hands = leaving_named c.loop-table.invariant.hands c.in-Some.ensures.some w c.leave_outermost.ensures.came none c.leave_outermost.ensures.hand;
-      goes = subst (λ us. Unwinding u w ts us) (sym none) (unwinding_ends left c.leave_outermost.ensures.came c.leave_outermost.ensures.serves c.leave_outermost.ensures.course);
+      goes = subst (λ us. Unwinding u w ts us) (sym none) (unwinding_ends left c.leave_outermost.ensures.course);
     }
 
 pub loop-table-preserved : goal.loop-table-preserved
@@ -39,11 +39,8 @@ loop-table-preserved g c =
       hands = leaving_inside c.loop-table.invariant.hands c.in-Some.ensures.some (g.P.Port.value c.leave_inside.new.port) c.leave_inside.ensures.came c.leave_inside.ensures.stands
           c.leave_inside.ensures.course;
       goes = unwinding_on (subst (λ us. Unwinding u (g.P.Port.value c.loop-table.port) c.args.stack.now us) c.in-Some.ensures.some c.loop-table.invariant.goes)
-          c.leave_inside.ensures.came c.leave_inside.ensures.serves c.leave_inside.ensures.course;
+          c.leave_inside.ensures.course;
     }
 
-pub returns-clause-serves : goal.returns-clause-serves
-returns-clause-serves g c = (unwinding_done c.loop-table.invariant.goes c.in_default.ensures.none.0).0
-
 pub returns-clause-course : goal.returns-clause-course
-returns-clause-course g c = (unwinding_done c.loop-table.invariant.goes c.in_default.ensures.none.0).1
+returns-clause-course g c = unwinding_done c.loop-table.invariant.goes c.in_default.ensures.none.0

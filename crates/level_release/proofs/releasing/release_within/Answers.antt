@@ -1,10 +1,11 @@
-use Rattle.std.proofs.Common.{[], false, refl, sym, ◌∙◌, subst, rules}
+use Rattle.std.proofs.Common.{[], ℕ, false, refl, sym, ◌∙◌, subst, rules}
 use Rattle.frame_types.specs.Lowering.{DropsType}
 use Rattle.level_release.proofs.Dropped.{closed_empties, closed_settled, counted_gives, counted_left, emptied_released, may_drop, may_drop_plain, plain_left}
 use Rattle.level_release.specs.Asking.{is_due_answer}
 use Rattle.level_release.specs.Course.{last, plain, shared}
 use Rattle.xp_preempt.proofs.Consulting.{gated_as, gated_none}
-use Rattle.level_release.proofs.Requested.{answer_stops, back_serves, both_serve, closed_piece, emptied_serves}
+use Rattle.level_release.proofs.Requested.{back_serves, both_serve, closed_piece}
+use Rattle.level_release.proofs.ServingRun.{emptied_serves}
 use Rattle.level_release.proofs.releasing.release_within.Goals as goal
 
 -- ---- no table
@@ -81,9 +82,10 @@ returns-then-drop_type g c =
     let level = c.level_of.ensures in
     let table = sym c.is_table.ensures ∙ c.if-not-is_table.false in
     let d = subst (λ b. DropsType v a c.args.frame b) c.if-drop_type.true c.drop_type.ensures.drops in
+    let run = λ (owner pages : ℕ). emptied_serves (closed_piece v c.args.frame owner pages (is_due_answer answer) refl c.drop_type.ensures.serves look.moves) refl e.course.course.0 in
     record {
-      serves = λ owner pages. emptied_serves w (closed_piece v c.args.frame owner pages (is_due_answer answer) refl c.drop_type.ensures.serves look.moves) answer e.serves;
-      stops = λ owner pages. answer_stops w answer refl (closed_piece v c.args.frame owner pages (is_due_answer answer) refl c.drop_type.ensures.serves look.moves) e.stops;
+      serves = λ owner pages. (run owner pages).serves;
+      stops = λ owner pages. (run owner pages).stops;
       kinds = e.settled (closed_settled c.requires.holds d look.moves look.hand c.level_of.result level.kind);
       hand = emptied_released c.requires.holds d look.moves look.hand c.level_of.result level.kind level.low level.high table c.requires.frame w answer e.came e.hand;
       course = gated_as refl (λ answers emptied. (last a x w c.look_refs.result c.level_of.result answers answer table level.kind level.high d look.moves emptied.0, emptied.1)) e.course;

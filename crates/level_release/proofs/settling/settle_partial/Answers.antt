@@ -1,4 +1,4 @@
-use Rattle.std.proofs.Common.{◌<◌, [], None, Err, Ok, false, refl, sym, ap, ◌∙◌, subst, rules}
+use Rattle.std.proofs.Common.{◌<◌, ℕ, [], None, Err, Ok, false, refl, sym, ap, ◌∙◌, subst, rules}
 use Rattle.xp_words.specs.KindWords.{kind_write}
 use Rattle.xp_words.specs.declared.kind.KindWord.{KindWord}
 use Rattle.xp_words.specs.declared.place.Place.TheVariants.{Kind}
@@ -18,7 +18,7 @@ use Rattle.level_release.proofs.Asking.{settling}
 use Rattle.xp_preempt.proofs.Consulting.{gated_as, gated_none}
 use Rattle.level_release.proofs.Exchanged.{change_came, dead_serves, lost_serves, lost_stops, resumed_piece}
 use Rattle.level_release.proofs.Named.{again_serves}
-use Rattle.level_release.proofs.Requested.{answer_stops, emptied_serves}
+use Rattle.level_release.proofs.ServingRun.{emptied_serves}
 use Rattle.level_release.proofs.Resumed.{at_a, dead_gives, dead_may, dead_released, dead_work, item_fields, lost_named, lost_typed, recorded_most, recorded_none, recorded_some, resumed_empties, resumed_released, working}
 use Rattle.level_release.proofs.SettlingSteps.{dead_course, dead_steps, emptied_course, lost_course, lost_undue}
 use Rattle.level_release.proofs.Taken.{settled_rests, took_held, took_settled}
@@ -104,10 +104,11 @@ returns-in-Ok g c u which t =
     let table = sym c.has_recorded.ensures ∙ c.if-has_recorded.true in
     let hand = took_settled w t answer (resumed_released t c.requires.read c.requires.partial a.moves a.hand look.moves look.hand c.level_of.result level.kind level.low level.high (recorded_some c.args.kind table).1
     c.requires.frame w answer c.empty.ensures.came c.empty.ensures.hand) in
+    let run = λ (owner pages : ℕ). emptied_serves (resumed_piece t owner pages (is_due_answer answer) c.requires.read c.requires.partial a.moves refl refl look.moves) refl c.empty.ensures.course.course.0 in
     record {
       rests = settled_rests which answer t.rests hand;
-      serves = λ owner pages. emptied_serves w (resumed_piece t owner pages (is_due_answer answer) c.requires.read c.requires.partial a.moves refl refl look.moves) answer c.empty.ensures.serves;
-      stops = λ owner pages. answer_stops w answer refl (resumed_piece t owner pages (is_due_answer answer) c.requires.read c.requires.partial a.moves refl refl look.moves) c.empty.ensures.stops;
+      serves = λ owner pages. (run owner pages).serves;
+      stops = λ owner pages. (run owner pages).stops;
       kinds = c.empty.ensures.kinds;
       hand = hand;
       course = gated_as refl (λ answers emptied. emptied_course t c.requires.read c.requires.partial a.moves refl c.args.left.now c.empty.new.left w c.level_of.result answers answer table level.kind level.high look.moves emptied)
