@@ -1,6 +1,6 @@
 -- What a vCPU found of the clock.
 use Rattle.std.proofs.Common.{◌≡◌, ℕ, ◌≤◌, ◌==◌, ◌&&◌, ◌||◌, nat_le, Bool, true, false, List, [], ◌∷◌, length, refl, subst, arith, IsTrue, inl, inr, ◌⊎◌}
-use Rattle.std.proofs.lemmas.Bool.{and_parts}
+use Rattle.std.proofs.lemmas.Bool.{and_parts, or_cases}
 use Rattle.std.proofs.lemmas.Bool.Decides.{nat_tests}
 use Rattle.xp_words.specs.declared.place.Place.{Place}
 use Rattle.xp_words.specs.declared.place.Place.TheVariants.{Clock}
@@ -10,10 +10,6 @@ use Rattle.xp_board.specs.Lists.{EachOf}
 use Rattle.xp_board.specs.Readings.{clock_value}
 use Rattle.xp_board.specs.Steps.{is_same, is_at, left_of, some_step, some_since}
 use Rattle.xp_board.proofs.PlaceTests.{same_place}
-
-or_either : (s t : Bool) → (s || t) ≡ true → (s ≡ true) ⊎ (t ≡ true)
-or_either true t e = inl refl
-or_either false t e = inr e
 
 clock_here : (p : Place) (w v clock : ℕ) → is_same p Clock ≡ true → (w == v) ≡ true → clock_value p w ≤ clock → v ≤ clock
 unfolding clock_value
@@ -29,7 +25,7 @@ pub clock_found : (z : Sizes) (clock n v : ℕ) (steps : List Made) →
 unfolding some_step EachOf
 clock_found z clock n v [] each some = absurd cc
 clock_found z clock n v (x ∷ xs) each some =
-    elim (or_either (nat_le n (length xs) && (is_at z Clock x && (left_of x == v))) _ some) [
+    elim (or_cases (nat_le n (length xs) && (is_at z Clock x && (left_of x == v))) _ some) [
       | inl here ↦
           let a = and_parts _ _ here in
           let k = and_parts _ _ a.1 in

@@ -14,7 +14,7 @@ use Rattle.xp_board.specs.Lists.{one_at}
 use Rattle.xp_board.specs.Readings.{allocated_mark, is_context, kind_at}
 use Rattle.xp_board.specs.Recorded.{contexts, entries, entry_demand, held, marks, named, named_typed, names, names_typed, table_entries, work_of}
 use Rattle.xp_board.specs.Sums.{sum_below}
-use Rattle.xp_board.proofs.Sums.{hands-some, sum_below-some, some_bit}
+use Rattle.xp_board.proofs.Sums.{hands-some, sum_below-some, some_bit, one_is, some_of}
 
 -- an entry that c counts
 pub record SomeEntry (c : Demand → ℕ) (z : Sizes) (m : Place → ℕ) (h : ℕ → Holdings) : Type 0 where
@@ -39,19 +39,12 @@ pub record SomeWord (z : Sizes) (m : Place → ℕ) (g : ℕ) : Type 0 where
   pub context : IsTrue (is_context word)
   pub names : m (Vcpu vcpu word) ≡ g + 1
 
-pub one_is : (g w : ℕ) → 0 < one_at g w → w ≡ g
-one_is g w some = elim (cases_eq w g) [ inl at ↦ at | inr off ↦ absurd (let z : one_at g w ≡ 0 = grind (arith, nat_tests) in omega arith) ]
-
-only_context : (t : Bool) (x : ℕ) → 0 < (if t then x else 0) → (t ≡ true) × (0 < x)
-only_context true x some = (refl, some)
-only_context false x some = absurd (omega arith)
-
 pub some_word : (z : Sizes) (m : Place → ℕ) (g : ℕ) → 0 < contexts z m g → SomeWord z m g
 unfolding contexts
 some_word z m g some =
     let v = sum_below-some z.vcpus (λ w. sum_below 38 (λ k. if is_context k then one_at (g + 1) (m (Vcpu w k)) else 0)) some in
     let k = sum_below-some 38 (λ j. if is_context j then one_at (g + 1) (m (Vcpu v.0 j)) else 0) v.2 in
-    let c = only_context (is_context k.0) (one_at (g + 1) (m (Vcpu v.0 k.0))) k.2 in
+    let c = some_of (is_context k.0) (one_at (g + 1) (m (Vcpu v.0 k.0))) k.2 in
     record { vcpu = v.0; word = k.0; real = v.1; inside = k.1; context = c.0; names = one_is (g + 1) (m (Vcpu v.0 k.0)) c.1 }
 
 -- ---- who names it

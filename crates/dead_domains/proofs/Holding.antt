@@ -27,10 +27,10 @@ use Rattle.xp_board.specs.Valid.{EntryPermitted, Permits, PermitsOwner, is_live_
 use Rattle.xp_board.proofs.HeldByForm.{held_table}
 use Rattle.xp_board.proofs.KindForms.{table_levels}
 use Rattle.xp_board.proofs.Recordless.{closing_busy, idle_held}
-use Rattle.xp_board.proofs.Sums.{hands-some}
+use Rattle.xp_board.proofs.Sums.{hands-some, one_is}
 use Rattle.xp_board.proofs.RefWords.{dying_says, owned_says}
 use Rattle.dead_domains.specs.Holders.{HasInHand, HeldByOthers, IsNamed, IsOther, IsOthersTable, LeftToOthers, referred, works, ends, looks, by_word, by_hand, by_entry, by_table}
-use Rattle.dead_domains.proofs.Counting.{NamedBy, SomeEntry, SomeWord, TypedBy, entry_name, word_name, allocated_name, pinned_name, kept_name, hand_name, entry_type, word_type, pinned_type, kept_type, hand_type, one_is, who_names, who_types}
+use Rattle.dead_domains.proofs.Counting.{NamedBy, SomeEntry, SomeWord, TypedBy, entry_name, word_name, allocated_name, pinned_name, kept_name, hand_name, entry_type, word_type, pinned_type, kept_type, hand_type, who_names, who_types}
 
 -- ---- an empty hand has nothing
 in_no_hand : (g : ℕ) (u : Holdings) → IsEmptyHand u → HasInHand g u → ⊥

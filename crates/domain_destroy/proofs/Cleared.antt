@@ -17,6 +17,7 @@ use Rattle.step_maker.specs.Holds.{Rests, Same}
 use Rattle.step_maker.specs.Moves.{Came, Met, Moves}
 use Rattle.step_maker.specs.Pauses.{HasPassed}
 use Rattle.step_maker.specs.Pauses as pauses
+use Rattle.step_maker.proofs.Changing.{found_after, found_before}
 use Rattle.step_maker.proofs.Coming.{came_post, came_trans, moves_came}
 use Rattle.domain_destroy.specs.Asking.{of_domain}
 use Rattle.domain_destroy.specs.Clearing.{ClearsFrame, GivesMark, SawOwn, TakesMarks}
@@ -28,7 +29,7 @@ use Rattle.domain_destroy.specs.Destroying.{GaveMark, LeavesAs, PartWent, TookMa
 use Rattle.domain_destroy.specs.Emptying.{NamesNone}
 use Rattle.domain_destroy.specs.declared.place.DestroyAt.TheVariants.{Clears}
 use Rattle.domain_destroy.proofs.Giving.{other_tests}
-use Rattle.domain_destroy.proofs.Parts.{LooksOnly, destroy_came, found_after, found_before, found_there, left_after, left_before, left_since, looks_serve, looks_then, moved_left, one_look, same_settled, settled_then, went_err, went_same, went_then}
+use Rattle.domain_destroy.proofs.Parts.{LooksOnly, destroy_came, found_there, left_after, left_before, left_since, looks_serve, looks_then, moved_left, one_look, same_settled, settled_then, went_err, went_same, went_then}
 use Rattle.domain_destroy.proofs.Staying.{found_cleared_stays}
 
 -- ---- what is known of the frames

@@ -19,6 +19,7 @@ use Rattle.step_maker.specs.Answers.{Deed, Serves, SetsLife, Stops, deeds_by, mi
 use Rattle.step_maker.specs.Licences.{over_itself, over_others}
 use Rattle.step_maker.specs.Moves.{Moves}
 use Rattle.step_maker.specs.Visits.{Does, Nothing, Only, Visit, visit}
+use Rattle.step_maker.proofs.Changing.{found_after}
 use Rattle.step_maker.proofs.Coming.{came_post, moves_came}
 use Rattle.step_maker.proofs.Noting.{moves_before}
 use Rattle.step_maker.proofs.Piecing.{moves_serves}
@@ -27,7 +28,7 @@ use Rattle.flush_words.proofs.Lasting.{moves_longer}
 use Rattle.domain_destroy.specs.Asking.{IsDestroyDeed, ServesDestroy, StopsDestroyer, of_domain}
 use Rattle.domain_destroy.specs.Coming.{FoundStopped}
 use Rattle.domain_destroy.specs.Course.{BeginsBy, LooksAndDooms, own_of}
-use Rattle.domain_destroy.proofs.Parts.{found_there, found_after, looks_serve, one_look, serves_destroy_then}
+use Rattle.domain_destroy.proofs.Parts.{found_there, looks_serve, one_look, serves_destroy_then}
 
 abbrev pub Begins : PortValue → PortValue → ℕ → Result (Unit {0}) Stop → Type 0
 Begins v w d answer = Does v w (λ vs. BeginsBy v.post d answer vs)

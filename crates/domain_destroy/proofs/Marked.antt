@@ -30,6 +30,7 @@ use Rattle.step_maker.specs.Asked.{IsAsked}
 use Rattle.step_maker.specs.Holds.{Holds, Rests, Same, still}
 use Rattle.step_maker.specs.Moves.{Came, Met, Moves}
 use Rattle.step_maker.specs.Reasons.{MayType, keeps_type}
+use Rattle.step_maker.proofs.Changing.{found_after, found_before}
 use Rattle.step_maker.proofs.Coming.{came_post, came_trans, met_after, met_before, moment_of, moves_came, moves_met}
 use Rattle.step_maker.proofs.Keeping.{kept_type}
 use Rattle.step_maker.proofs.Piecing.{serves_step}
@@ -48,7 +49,7 @@ use Rattle.domain_destroy.specs.Clearing.{SawOwn, Unmarked}
 use Rattle.domain_destroy.specs.Clearing as clearing
 use Rattle.domain_destroy.specs.Destroying.{LeavesAs, TookMarks}
 use Rattle.domain_destroy.proofs.Giving.{doomed_asked}
-use Rattle.domain_destroy.proofs.Parts.{LooksOnly, found_after, found_before, found_there, left_after, left_before, looks_then, moved_left, one_look, same_settled}
+use Rattle.domain_destroy.proofs.Parts.{LooksOnly, found_there, left_after, left_before, looks_then, moved_left, one_look, same_settled}
 use Rattle.table_entries.proofs.Shared.{no_looks}
 
 -- ---- the words

@@ -24,6 +24,7 @@ use Rattle.step_maker.specs.Moves.{Came, Met, Moves}
 use Rattle.step_maker.specs.Pauses as pauses
 use Rattle.step_maker.specs.Pauses.{HasPassed, LeftAs}
 use Rattle.step_maker.specs.Reasons.{MayLook}
+use Rattle.step_maker.proofs.Changing.{found_after, found_before}
 use Rattle.step_maker.proofs.Coming.{came_post, met_after, met_before, moment_of, moves_met}
 use Rattle.step_maker.proofs.Later.{IsUncounted, stops_then}
 use Rattle.step_maker.proofs.Noting.{moves_since}
@@ -180,12 +181,6 @@ went_same {A = A} v w d answer rests none same serves stops kinds course =
 pub found_there : (v w : PortValue) (p : Place) (a : Act) (kind : StepKind) (mark : Option Mark) (found : ℕ) → Moves v w p a kind mark found → FoundAt (Met v w) p found
 unfolding moment_of
 found_there v w p a kind mark found m = record { moment = moment_of v p a kind mark found; was = moves_met v w p a kind mark found m; place = refl; word = refl }
-
-pub found_after : (v u w : PortValue) (p : Place) (x : ℕ) → Came v u → FoundAt (Met u w) p x → FoundAt (Met v w) p x
-found_after v u w p x came f = record { moment = f.moment; was = met_after v u w f.moment came f.was; place = f.place; word = f.word }
-
-pub found_before : (v u w : PortValue) (p : Place) (x : ℕ) → Came u w → FoundAt (Met v u) p x → FoundAt (Met v w) p x
-found_before v u w p x came f = record { moment = f.moment; was = met_before v u w f.moment f.was came; place = f.place; word = f.word }
 
 pub moved_left : (v w : PortValue) (p : Place) (a : Act) (kind : StepKind) (mark : Option Mark) (found : ℕ) (test : ℕ → Bool) → Moves v w p a kind mark found → test (left_by a found) ≡ true → LeftAs (Met v w) p test
 unfolding moment_of

@@ -15,7 +15,7 @@ mod CoursesRun
 mod CoursesUnwound
 mod Serving
 mod ServingEntries
-mod ServingRun
+pub mod ServingRun
 pub mod ServingTables
 pub mod HandsUnwinding
 pub mod Owning

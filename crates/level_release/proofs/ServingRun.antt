@@ -121,7 +121,7 @@ module _ {o : PortValue} {r : Request} {ds : List Deed} where
       let b = piece_rest (piece_records left.0 (piece_stored a inside.1) inside.2.1) in
       piece_unwound left.0 w (one_less outer ∷ ts) (piece_of (λ x. x) b) left.2
 
-unwound_came : (v w : PortValue) (ts : List TableWork) → UnwoundDown v ts w → Came v w
+pub unwound_came : (v w : PortValue) (ts : List TableWork) → UnwoundDown v ts w → Came v w
 unwound_came v w [] left = subst (λ x. Came v x) (sym left) (came_self v)
 unwound_came v w (t ∷ []) left = came_trans v left.0 w (moves_came v left.0 _ _ _ _ _ left.1.1) (moves_came left.0 w _ _ _ _ _ left.2)
 unwound_came v w (t ∷ outer ∷ ts) left =

@@ -17,7 +17,7 @@ use Rattle.xp_board.specs.Lists.{one_at, times_by, first_by}
 use Rattle.xp_board.specs.Readings.{kind_at, is_context, is_type}
 use Rattle.xp_board.specs.Recorded.{held, held_of, work_of, recorded_in, entry_demand, names, names_typed, table_entries, entries, contexts, hands}
 use Rattle.xp_board.specs.Sums.{sum_below}
-use Rattle.xp_board.proofs.Sums.{sum_below-same, sum_below-none, sum_below-some, sum_below-part, one_at-same, one_at-other}
+use Rattle.xp_board.proofs.Sums.{sum_below-same, sum_below-none, sum_below-some, sum_below-part, one_at-same, one_at-other, one_is, some_of}
 use Rattle.xp_board.proofs.Works.{work_of-none}
 use Rattle.xp_board.proofs.EntryWords.{type_same}
 use Rattle.xp_board.proofs.Returned.{same_type}
@@ -70,17 +70,6 @@ is_other_than kinds g want h =
     ]
 
 -- ---- an entry that wants another type
-some_of : (b : Bool) (x : ℕ) → 0 < (if b then x else 0) → (b ≡ true) × (0 < x)
-some_of true x h = (refl, h)
-some_of false x h = absurd (omega arith)
-
-named_by : (g f : ℕ) → 0 < one_at g f → f ≡ g
-named_by g f h =
-    elim (cases_eq f g) [
-      | inl at ↦ at
-      | inr off ↦ let none = one_at-other g f (λ e. off (sym e)) in absurd (omega arith)
-    ]
-
 asked_other : (kinds : List PageType) (g : ℕ) (d : Demand) → 0 < names_other kinds g d → (t : PageType) × (d ≡ Typed g t) × (slice_index_or kinds g types.None ≢ t)
 unfolding names_other
 asked_other kinds g Nothing h = absurd (omega arith)
@@ -88,7 +77,7 @@ asked_other kinds g Bad h = absurd (omega arith)
 asked_other kinds g (Read f) h = absurd (omega arith)
 asked_other kinds g (Typed f t) h =
     let parts = some_of (is_other_type kinds g (Some t)) (one_at g f) h in
-    (t, ap (λ v. Typed v t) (named_by g f parts.1), other_than kinds g t parts.0)
+    (t, ap (λ v. Typed v t) (one_is g f parts.1), other_than kinds g t parts.0)
 
 one_asked : (kinds : List PageType) (g : ℕ) (d : Demand) (t : PageType) → d ≡ Typed g t → slice_index_or kinds g types.None ≢ t → names_other kinds g d ≡ 1
 unfolding names_other
@@ -162,7 +151,7 @@ module _ (n : Machine) (m : Place → ℕ) (outside : (f : ℕ) → n.frames ≤
         real = in_vcpu.1;
         known = at.1;
         context = named.0;
-        names = named_by (g + 1) (m (Vcpu in_vcpu.0 at.0)) named.1;
+        names = one_is (g + 1) (m (Vcpu in_vcpu.0 at.0)) named.1;
         wants = wanted.1;
         other = λ e. wanted.2 (here ∙ e);
       }

@@ -74,7 +74,7 @@ module _ (v a b : PortValue) (s x y : ℕ) (own_is : s ≡ v.post.vcpu) (first :
     pub ack_acks : Acks v w
     ack_acks = acks_as w false (sym (no_later x y low)) (answer, f)
 
-heeds_came : (past : Bool) (v w : PortValue) → Heeds past v w → Came v w
+pub heeds_came : (past : Bool) (v w : PortValue) → Heeds past v w → Came v w
 heeds_came true v w same = subst (Came v) (sym same) (came_self v)
 heeds_came false v w flush = own_came v w flush.0 flush.1
 

@@ -1,6 +1,7 @@
 -- A worked picture of a mistake: two free frames are taken after a wait for the stamp of the first alone. vCPU 0 of domain 0 still has a
 -- translation to the second, which then is domain 1's.
 use Rattle.std.proofs.Common.{◌≡◌, ◌⊎◌, ◌||◌, ◌<◌, ℕ, nat_lt, Bool, true, false, refl, None, List, [], ◌∷◌, IsTrue, arith, inl, inr, zero, suc}
+use Rattle.std.proofs.lemmas.Bool.{or_cases}
 use Rattle.xp_words.specs.Machine.{Machine}
 use Rattle.xp_words.specs.declared.place.Place.TheVariants.{Cell, Clock, Map, Pages, Refs}
 use Rattle.xp_words.specs.declared.refs.RefWord.TheVariants.{Dying}
@@ -106,10 +107,6 @@ took4_legal = (
   record { place = refl; marked = tt; running = λ needs. refl; spelling = refl; act = record { credit = omega arith; past = record { since = 5; found = refl; past = past_first }; left = refl } },
 )
 
-either : (a b : Bool) → (a || b) ≡ true → (a ≡ true) ⊎ (b ≡ true)
-either true b h = inl refl
-either false b h = inr h
-
 -- vCPU 0 was found running, and flushed at 15 alone
 abbrev made : List Made
 made = (hands (played machine opening took4) 1).steps
@@ -119,7 +116,7 @@ unfolding some_step some_of left_by place_at number first_by times_by with_more 
 the_second_may_not_be_taken legal =
     let since = legal.act.past.since in
     let past : is_past (sizes_of machine) since 20 0 made ≡ true = legal.act.past.past 0 (omega arith) in
-    elim (either (some_since (sizes_of machine) since (run_of 0) is_idle made) (some_since (sizes_of machine) since (flushed_of 0) (λ w. nat_lt 20 w) made) past) [
+    elim (or_cases (some_since (sizes_of machine) since (run_of 0) is_idle made) (some_since (sizes_of machine) since (flushed_of 0) (λ w. nat_lt 20 w) made) past) [
       | inl idle ↦ let none : false ≡ true = since_ever (sizes_of machine) since (run_of 0) is_idle made idle in cc
       | inr late ↦ let none : false ≡ true = since_ever (sizes_of machine) since (flushed_of 0) (λ w. nat_lt 20 w) made late in cc
     ]

@@ -186,3 +186,10 @@ hands-fewer c d z h e = sum_below-fewer z.vcpus (λ s. c (h s)) (λ s. d (h s)) 
 pub hands-some : (c : Holdings → ℕ) (z : Sizes) (h : ℕ → Holdings) → 0 < hands c z h → (s : ℕ) × (s < z.vcpus) × (0 < c (h s))
 unfolding hands
 hands-some c z h b = sum_below-some z.vcpus (λ s. c (h s)) b
+
+pub one_is : (g w : ℕ) → 0 < one_at g w → w ≡ g
+one_is g w some = elim (cases_eq w g) [ inl at ↦ at | inr off ↦ absurd (let z : one_at g w ≡ 0 = grind (arith, nat_tests) in omega arith) ]
+
+pub some_of : (t : Bool) (x : ℕ) → 0 < (if t then x else 0) → (t ≡ true) × (0 < x)
+some_of true x some = (refl, some)
+some_of false x some = absurd (omega arith)
