@@ -3,7 +3,7 @@ use Rattle.xp_board.specs.Legal.{Legal}
 use Rattle.xp_board.specs.Sound.{hand_of}
 use Rattle.shared_board.specs.Board.{Board}
 use Rattle.told_board.proofs.Telling.{list_next, words_next}
-use Rattle.told_board.proofs.told_board.ToldBoard.step.Goals as goal
+use Rattle.told_board.proofs.told_board.ToldBoardWholeBoard.step.Goals as goal
 
 pub invariant_of-self : goal.invariant_of-self
 invariant_of-self c =
