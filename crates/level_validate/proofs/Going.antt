@@ -22,7 +22,7 @@ use Rattle.table_entries.specs.Acquiring.{Advanced, Filled, GaveBack, Joined, Ma
 use Rattle.table_entries.specs.declared.entries.Entered.TheVariants.{Opened}
 use Rattle.table_entries.specs.Acquiring as course
 use Rattle.level_validate.specs.Acquiring.{outermost_work}
-use Rattle.level_validate.specs.Courses.{LeavesAll, ValidatesBy}
+use Rattle.level_validate.specs.Courses.{ValidatesBy}
 use Rattle.level_validate.specs.Serving.{CarriesOn, ServesLeft}
 use Rattle.level_validate.specs.Tables.{Carries, IsStanding, IsTopReady, StandsOn}
 use Rattle.level_validate.specs.Unwinding.{UnwoundHand}
@@ -82,13 +82,13 @@ going_below : {u x w : PortValue} {owner : ℕ} {ts next us : List TableWork} {i
 going_below {u} {x} {w} {owner} {ts} {next} {us} {answer = answer} came o same i =
     record {
       goes = record {
-          came = came_trans u x w came i.goes.came;
-          stands = λ v s. i.goes.stands v (o.stands v s);
-          outer = i.goes.outer ∙ same;
-          ready = i.goes.ready;
-          serves = goes_on u x w owner ts next us answer came o.serves i.goes.serves;
-          stops = stops_behind u x w owner ts next answer o.stands o.serves i.goes.stops;
-        };
+        came = came_trans u x w came i.goes.came;
+        stands = λ v s. i.goes.stands v (o.stands v s);
+        outer = i.goes.outer ∙ same;
+        ready = i.goes.ready;
+        serves = goes_on u x w owner ts next us answer came o.serves i.goes.serves;
+        stops = stops_behind u x w owner ts next answer o.stands o.serves i.goes.stops;
+      };
       progress = progress_answer u x w answer came i.progress;
     }
 
@@ -117,26 +117,26 @@ took_goes {owner} (course.TookOn.fresh v t ts none) a ready =
 took_goes {owner} (course.TookOn.settled v w t ts some e) a ready =
     record {
       goes = record {
-          came = again_came e;
-          stands = λ o s. after_look w s (again_came e) (again_first e) (t.done - 1) e.hand.0;
-          outer = refl;
-          ready = after_settled w a.1 (again_came e) (again_first e) (t.done - 1) e.hand.0 e.hand.1;
-          serves = goes_entries v w owner (t ∷ ts) [] e.serves;
-          stops = tt;
-        };
+        came = again_came e;
+        stands = λ o s. after_look w s (again_came e) (again_first e) (t.done - 1) e.hand.0;
+        outer = refl;
+        ready = after_settled w a.1 (again_came e) (again_first e) (t.done - 1) e.hand.0 e.hand.1;
+        serves = goes_entries v w owner (t ∷ ts) [] e.serves;
+        stops = tt;
+      };
       progress = λ is. absurd cc;
     }
 took_goes {owner} (course.TookOn.taken v u w t ts f some e back) a ready =
     let at = back_one t.done (some_done t.done some) in
     record {
       goes = record {
-          came = came_trans v u w (again_came e) (back_came back);
-          stands = λ o s. taken_stands s (again_came e) (again_first e) at e.hand.0 w back.hand (back_came back);
-          outer = refl;
-          ready = taken_ready a.1 (again_came e) (again_first e) at e.hand.0 w back.hand (back_came back) e.hand.1;
-          serves = goes_back v u owner (t ∷ ts) (level_type t.level) f e.serves (λ pages. (e.shows pages).0) w back.serves;
-          stops = tt;
-        };
+        came = came_trans v u w (again_came e) (back_came back);
+        stands = λ o s. taken_stands s (again_came e) (again_first e) at e.hand.0 w back.hand (back_came back);
+        outer = refl;
+        ready = taken_ready a.1 (again_came e) (again_first e) at e.hand.0 w back.hand (back_came back) e.hand.1;
+        serves = goes_back v u owner (t ∷ ts) (level_type t.level) f e.serves (λ pages. (e.shows pages).0) w back.serves;
+        stops = tt;
+      };
       progress = λ is. progress_before v u w (back_came back) (e.shows 0).1;
     }
 took_goes {owner} (course.TookOn.opened v u w t ts us f progress answer some e on) a ready =
@@ -147,26 +147,26 @@ took_goes {owner} (course.TookOn.waiting v u w t ts f stamp stop some e left) a 
     let below = below_is refl a in
     record {
       goes = record {
-          came = came_trans v u w (again_came e) came;
-          stands = λ o s. after_look w s (came_trans v u w (again_came e) came) (again_first e) (t.done - 1) (left_waiting (t.level - 1) below e.hand.0 w _ refl left.hand);
-          outer = refl;
-          ready = tt;
-          serves = goes_waiting v w owner (t ∷ ts) (t ∷ ts) stop (e.shows 0).1
-              (goes_left v u owner (t ∷ ts) (level_type t.level) f e.serves (λ pages. (e.shows pages).0) w (subst (λ k. ServesType u w f k) (sym below) left.serves));
-          stops = stops_on v u owner (t ∷ ts) stop w came (stops_entries v u owner (t ∷ ts) stop (λ pages. (e.shows pages).2));
-        };
+        came = came_trans v u w (again_came e) came;
+        stands = λ o s. after_look w s (came_trans v u w (again_came e) came) (again_first e) (t.done - 1) (left_waiting (t.level - 1) below e.hand.0 w _ refl left.hand);
+        outer = refl;
+        ready = tt;
+        serves = goes_waiting v w owner (t ∷ ts) (t ∷ ts) stop (e.shows 0).1
+            (goes_left v u owner (t ∷ ts) (level_type t.level) f e.serves (λ pages. (e.shows pages).0) w (subst (λ k. ServesType u w f k) (sym below) left.serves));
+        stops = stops_on v u owner (t ∷ ts) stop w came (stops_entries v u owner (t ∷ ts) stop (λ pages. (e.shows pages).2));
+      };
       progress = tt;
     }
 took_goes {owner} (course.TookOn.stopped v w t ts stop some e) a ready =
     record {
       goes = record {
-          came = again_came e;
-          stands = λ o s. after_look w s (again_came e) (again_first e) (t.done - 1) e.hand;
-          outer = refl;
-          ready = tt;
-          serves = goes_entries v w owner (t ∷ ts) (missed v.post.machine stop) e.serves;
-          stops = stops_entries v w owner (t ∷ ts) stop e.stops;
-        };
+        came = again_came e;
+        stands = λ o s. after_look w s (again_came e) (again_first e) (t.done - 1) e.hand;
+        outer = refl;
+        ready = tt;
+        serves = goes_entries v w owner (t ∷ ts) (missed v.post.machine stop) e.serves;
+        stops = stops_entries v w owner (t ∷ ts) stop e.stops;
+      };
       progress = tt;
     }
 
@@ -187,13 +187,13 @@ module _ {v u : PortValue} {owner : ℕ} {t outer : TableWork} {ts : List TableW
       let came = back_came back in
       record {
         goes = record {
-            came = came_trans v u w came_live came;
-            stands = λ o s. old_stands live.1 (live_hand s t.own refl u left_live) is spelled w back.hand came;
-            outer = refl;
-            ready = old_ready live.1 (live_hand a.1 t.own refl u left_live) is spelled w back.hand came;
-            serves = λ o r ds b. piece_rest o w r owner t (outer ∷ ts) ds (piece_back w (piece_left a.1 _ spelled refl live.1 o r owner (outer ∷ ts) ds b) back.serves);
-            stops = tt;
-          };
+          came = came_trans v u w came_live came;
+          stands = λ o s. old_stands live.1 (live_hand s t.own refl u left_live) is spelled w back.hand came;
+          outer = refl;
+          ready = old_ready live.1 (live_hand a.1 t.own refl u left_live) is spelled w back.hand came;
+          serves = λ o r ds b. piece_rest o w r owner t (outer ∷ ts) ds (piece_back w (piece_left a.1 _ spelled refl live.1 o r owner (outer ∷ ts) ds b) back.serves);
+          stops = tt;
+        };
         progress = λ done. progress_before v u w came (progress_settles live.1 (live_hand a.1 t.own refl u left_live) is spelled);
       }
   completed_goes {w} false is record_it =
@@ -201,13 +201,13 @@ module _ {v u : PortValue} {owner : ℕ} {t outer : TableWork} {ts : List TableW
       let came = came_trans v u w came_live (moves_came u w _ _ _ _ _ look) in
       record {
         goes = record {
-            came = came;
-            stands = λ o s. new_stands live.1 (live_hand s t.own refl u left_live) is w (ap still look.to) came;
-            outer = refl;
-            ready = new_ready live.1 (live_hand a.1 t.own refl u left_live) is w (ap still look.to) came;
-            serves = λ o r ds b. piece_rest o w r owner t (outer ∷ ts) ds (piece_records w (piece_left a.1 _ spelled refl live.1 o r owner (outer ∷ ts) ds b) _ _ _ look);
-            stops = tt;
-          };
+          came = came;
+          stands = λ o s. new_stands live.1 (live_hand s t.own refl u left_live) is w (ap still look.to) came;
+          outer = refl;
+          ready = new_ready live.1 (live_hand a.1 t.own refl u left_live) is w (ap still look.to) came;
+          serves = λ o r ds b. piece_rest o w r owner t (outer ∷ ts) ds (piece_records w (piece_left a.1 _ spelled refl live.1 o r owner (outer ∷ ts) ds b) _ _ _ look);
+          stops = tt;
+        };
         progress = λ done. progress_after v u w came_live (progress_records u w _ _ _ look);
       }
 
@@ -223,13 +223,13 @@ pub advanced_goes : {owner : ℕ} {v w : PortValue} {ts us : List TableWork} {an
 advanced_goes {owner} (course.Advanced.recorded v w t ts few e) a ready may =
     record {
       goes = record {
-          came = next_came e;
-          stands = λ o s. after_record w s (next_came e) (next_first e) None (omega (arith, few)) e.hand;
-          outer = outer_done t (t.done + 1) ts;
-          ready = after_record_ready w a.1 (next_came e) (next_first e) e.hand;
-          serves = goes_advanced v w owner (t ∷ ts) (t ∷ ts) [] (goes_entries v w owner (t ∷ ts) [] e.serves);
-          stops = tt;
-        };
+        came = next_came e;
+        stands = λ o s. after_record w s (next_came e) (next_first e) None (omega (arith, few)) e.hand;
+        outer = outer_done t (t.done + 1) ts;
+        ready = after_record_ready w a.1 (next_came e) (next_first e) e.hand;
+        serves = goes_advanced v w owner (t ∷ ts) (t ∷ ts) [] (goes_entries v w owner (t ∷ ts) [] e.serves);
+        stops = tt;
+      };
       progress = λ is. e.shows 0;
     }
 advanced_goes (course.Advanced.opened v u w t ts us f progress own done few e on) a ready may = opened_goes few e on a ready
@@ -237,25 +237,25 @@ advanced_goes (course.Advanced.cut_off v u w t ts us f progress own stop few e o
 advanced_goes {owner} (course.Advanced.unsettled v w t ts stop few e) a ready may =
     record {
       goes = record {
-          came = next_came e;
-          stands = λ o s. after_record w s (next_came e) (next_first e) e.hand.0 (omega (arith, few)) e.hand.1;
-          outer = outer_done t (t.done + 1) ts;
-          ready = tt;
-          serves = goes_waiting v w owner (t ∷ ts) _ stop (e.shows 0).1 (goes_advanced v w owner (t ∷ ts) (t ∷ ts) [] (goes_entries v w owner (t ∷ ts) [] e.serves));
-          stops = stops_entries v w owner (t ∷ ts) stop (λ pages. (e.shows pages).2);
-        };
+        came = next_came e;
+        stands = λ o s. after_record w s (next_came e) (next_first e) e.hand.0 (omega (arith, few)) e.hand.1;
+        outer = outer_done t (t.done + 1) ts;
+        ready = tt;
+        serves = goes_waiting v w owner (t ∷ ts) _ stop (e.shows 0).1 (goes_advanced v w owner (t ∷ ts) (t ∷ ts) [] (goes_entries v w owner (t ∷ ts) [] e.serves));
+        stops = stops_entries v w owner (t ∷ ts) stop (λ pages. (e.shows pages).2);
+      };
       progress = tt;
     }
 advanced_goes {owner} (course.Advanced.stopped v w t ts stop few e) a ready may =
     record {
       goes = record {
-          came = next_came e;
-          stands = λ o s. after_look w s (next_came e) (next_first e) t.done e.hand;
-          outer = refl;
-          ready = tt;
-          serves = goes_entries v w owner (t ∷ ts) (missed v.post.machine stop) e.serves;
-          stops = stops_entries v w owner (t ∷ ts) stop e.stops;
-        };
+        came = next_came e;
+        stands = λ o s. after_look w s (next_came e) (next_first e) t.done e.hand;
+        outer = refl;
+        ready = tt;
+        serves = goes_entries v w owner (t ∷ ts) (missed v.post.machine stop) e.serves;
+        stops = stops_entries v w owner (t ∷ ts) stop e.stops;
+      };
       progress = tt;
     }
 advanced_goes (course.Advanced.completed v u w t outer ts full live joined) a ready may = completed_goes a full ready may live t.recorded refl joined

@@ -85,14 +85,13 @@ module _ {u x : PortValue} {owner : ℕ} {t : TableWork} {a : Result Resumed Sto
   pub again_first : FirstFound u
   again_first = resumed_first u x t.frame (t.done - 1) (level_type t.level) owner a said.found
 
--- The last recorded entry of the innermost table is looked at again, and its frame was live: the type count that was taken is given back.
-module _ {u x : PortValue} {owner : ℕ} {t : TableWork} {stack : List TableWork} (top : stack ≡ t ∷ drop 1 stack) (some : t.done ≡ 0 → ⊥) {f : ℕ} (said : ResumedEntry u x owner t (Ok (again.Taken f))) where
+-- its frame was live: the type count that was taken is to be given back
+module _ {u x : PortValue} {owner : ℕ} {t : TableWork} {f : ℕ} (said : ResumedEntry u x owner t (Ok (again.Taken f))) where
   pub took_inside : f < x.post.machine.frames
   took_inside = subst (λ (p : Post). f < p.machine.frames) (sym (came_post u x (again_came said))) (taken_found u x t.frame (t.done - 1) (level_type t.level) owner f said.found)
 
-  pub took_gives : IsStanding u owner stack → MayGiveBack x.post.machine x.post.vcpu f x.holdings
-  took_gives a =
-      taken_gives (subst (λ xs. Carries a.0 u owner xs) top a.1) (again_came said) (again_first said) (back_one t.done some) said.hand.0
+  pub took_gives : {stack : List TableWork} → stack ≡ t ∷ drop 1 stack → (t.done ≡ 0 → ⊥) → IsStanding u owner stack → MayGiveBack x.post.machine x.post.vcpu f x.holdings
+  took_gives top some a = taken_gives (subst (λ xs. Carries a.0 u owner xs) top a.1) (again_came said) (again_first said) (back_one t.done some) said.hand.0
 
 -- The last recorded entry of the innermost table is looked at again, and names a table that was left unfinished: that one is on top then.
 -- the table has a level, and the tables that its entries name have the next one
@@ -154,18 +153,13 @@ next_on_top {u} {x} {owner} {t} {stack} {more} {next} {f} {progress} {own} top l
           (goes_inner u x owner stack inner stack [] (goes_opened u x owner stack (level_type t.level) f said.serves said.shows inner refl (below_is top a)));
     }
 
--- The last recorded entry of the innermost table is looked at again, and its frame waits for a flush that is not to be had: it is left.
-module _ {u x : PortValue} {owner : ℕ} {t : TableWork} {stack : List TableWork} (top : stack ≡ t ∷ drop 1 stack) (some : t.done ≡ 0 → ⊥) {f stamp : ℕ} {stop : Stop} (said : ResumedEntry u x owner t (Ok (again.Waiting f stamp stop))) (a : IsStanding u owner stack) where
-  came : Came u x
-  came = again_came said
-
+-- Its frame waits for a flush that is not to be had.
+module _ {u x : PortValue} {owner : ℕ} {t : TableWork} {f stamp : ℕ} {stop : Stop} (said : ResumedEntry u x owner t (Ok (again.Waiting f stamp stop))) where
   pub waited_inside : f < x.post.machine.frames
-  waited_inside = subst (λ (p : Post). f < p.machine.frames) (sym (came_post u x came)) (waited_found u x t.frame (t.done - 1) (level_type t.level) owner f stamp stop said.found)
+  waited_inside = subst (λ (p : Post). f < p.machine.frames) (sym (came_post u x (again_came said))) (waited_found u x t.frame (t.done - 1) (level_type t.level) owner f stamp stop said.found)
 
   pub waited_kinds : IsEntryStop stop
   waited_kinds = wait_stops stop (said.shows 0).1
 
-  -- it is left
-  module _ {k : PageType} (kind : k ≡ level_type (t.level - 1)) where
-    pub waited_waits : IsWaiting x f k false stamp
-    waited_waits = waits_there (t.level - 1) (below_is top a) said.hand.0 k stamp kind said.hand.1
+  pub waited_waits : {stack : List TableWork} {k : PageType} → stack ≡ t ∷ drop 1 stack → IsStanding u owner stack → k ≡ level_type (t.level - 1) → IsWaiting x f k false stamp
+  waited_waits {k = k} top a kind = waits_there (t.level - 1) (below_is top a) said.hand.0 k stamp kind said.hand.1

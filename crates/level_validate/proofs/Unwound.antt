@@ -2,14 +2,14 @@
 use Rattle.std.proofs.Common.{◌≡◌, ℕ, Bool, true, false, List, [], ◌∷◌, Option, Some, None, refl, sym, ap, ◌∙◌, subst, inl, inr, ◌≢◌, ◌+◌, ◌-◌, ◌<◌}
 use Rattle.xp_board.specs.declared.holdings.Holdings.{Holdings}
 use Rattle.xp_board.specs.Told.{PortValue, Post}
-use Rattle.step_maker.specs.Holds.{FlushedHolds, MayWork, Holds, quiet}
+use Rattle.step_maker.specs.Holds.{FlushedHolds, Holds, quiet}
 use Rattle.table_words.specs.OldWords.{known_old, kept_in_old}
 use Rattle.table_words.specs.declared.old_words.OldWord.TheVariants.{First}
 use Rattle.partial_state.specs.declared.stack.TableWork.{TableWork}
 use Rattle.level_validate.specs.Acquiring.{is_filled, outermost_work}
-use Rattle.level_validate.specs.Tables.{Carries, IsStanding, StandsOn, refs_for}
+use Rattle.level_validate.specs.Tables.{Carries, IsStanding, StandsOn}
 use Rattle.level_validate.specs.Unwinding.{Unwinds, UnwoundHand, named_unless, outermost_frame, outermost_named, UnwindsTo, UnwoundTo, around_lent, left_so}
-use Rattle.level_validate.proofs.Standing.{top_owned, top, top_gone, top_kept, top_typed, may_back, may_stands, ref_owned, refs_lent, refs_own, stands_none, stands_post, tables_none}
+use Rattle.level_validate.proofs.Standing.{top, top_gone, top_kept, top_typed, refs_own, stands_none, stands_post, tables_none}
 use Rattle.xp_words.specs.Places.{sizes_of}
 use Rattle.xp_board.specs.Hands.{typed_to, without_typed, without_work}
 use Rattle.xp_board.specs.Readings.{domain_of}
@@ -18,12 +18,10 @@ use Rattle.step_maker.proofs.Coming.{came_self, came_trans}
 use Rattle.kept_marks.specs.Marks.{LeavesKept}
 use Rattle.kind_words.specs.Kinds.{partial_kind}
 use Rattle.partial_state.specs.Levels.{level_type}
-use Rattle.table_entries.specs.Acquiring.{Unwound}
 use Rattle.level_validate.specs.Courses.{LeavesAll, UnwindsOn}
 use Rattle.level_validate.specs.Serving.{CarriesOn, ServesLeft, ServesTo}
 use Rattle.level_validate.proofs.Leaving.{typed_gone, unwinds_then}
 use Rattle.level_validate.proofs.Serving.{goes_nothing, goes_then, left_behind, left_on}
-use Rattle.xp_board.specs.declared.holdings.OwnerFound.TheVariants as owners
 use Rattle.xp_board.proofs.PlaceTests.{equal_by as is_at}
 
 -- ---- full

@@ -12,7 +12,6 @@ use Rattle.xp_board.specs.Told.{PortValue}
 use Rattle.step_maker.specs.Holds.{FlushedHolds, FlushedSame, Holds}
 use Rattle.step_maker.specs.Answers.{Deed, Misses, Serves, misses}
 use Rattle.step_maker.specs.Asked.{Request, of_table}
-use Rattle.frame_types.specs.Plain.{is_refused}
 use Rattle.frame_types.specs.Taking.{WaitsWith}
 use Rattle.frame_words.specs.Refs.{took}
 use Rattle.kept_marks.specs.Marks.{IsForeign}

@@ -50,9 +50,9 @@ pub give_back-requires : goal.give_back-requires
 give_back-requires g n c =
     let said = again_of c.level_type.ensures (stack_top c.requires.top c.requires.stands) (ap Ok c.in-Taken.is) c.in_ok-resume_entry.ensures in
     record {
-      frame = took_inside c.requires.top c.if-top-eq0.false said;
+      frame = took_inside said;
       may = search rules;
-      gives = took_gives c.requires.top c.if-top-eq0.false said c.requires.stands;
+      gives = took_gives said c.requires.top c.if-top-eq0.false c.requires.stands;
     }
 
 pub returns-in-Taken-clause-course : goal.returns-in-Taken-clause-course
@@ -85,14 +85,14 @@ pub leave_shared-requires : goal.leave_shared-requires
 leave_shared-requires g n c =
     let said = again_of c.level_type.ensures (stack_top c.requires.top c.requires.stands) (ap Ok c.in-Waiting.is) c.in_ok-resume_entry.ensures in
     record {
-      frame = waited_inside c.requires.top c.if-top-eq0.false said c.requires.stands;
+      frame = waited_inside said;
       may = search rules;
-      waits = waited_waits c.requires.top c.if-top-eq0.false said c.requires.stands c.level_type-in-Waiting.ensures;
+      waits = waited_waits said c.requires.top c.requires.stands c.level_type-in-Waiting.ensures;
     }
 
 pub returns-in-Waiting-clause-kinds : goal.returns-in-Waiting-clause-kinds
 returns-in-Waiting-clause-kinds g n c =
-    waited_kinds c.requires.top c.if-top-eq0.false (again_of c.level_type.ensures (stack_top c.requires.top c.requires.stands) (ap Ok c.in-Waiting.is) c.in_ok-resume_entry.ensures) c.requires.stands
+    waited_kinds (again_of {t = c.args.top} c.level_type.ensures (stack_top c.requires.top c.requires.stands) (ap Ok c.in-Waiting.is) c.in_ok-resume_entry.ensures)
 
 pub returns-in-Waiting-clause-course : goal.returns-in-Waiting-clause-course
 returns-in-Waiting-clause-course g n c =
