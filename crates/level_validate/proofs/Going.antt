@@ -32,7 +32,7 @@ use Rattle.level_validate.proofs.LookedAgain.{OnTop, again_came, again_first, ag
 use Rattle.level_validate.proofs.Opening.{left_waiting}
 use Rattle.level_validate.proofs.Serving.{StopsRisen, goes_advanced, goes_back, goes_entries, goes_left, goes_nothing, goes_on, goes_then, goes_waiting, left_behind, left_on, piece_back, piece_left, piece_records, piece_rest, stops_behind, stops_due, stops_entries, stops_on}
 use Rattle.level_validate.proofs.Standing.{may_back, may_stands}
-use Rattle.level_validate.proofs.Unwound.{frame_alike, hand_alike}
+use Rattle.level_validate.proofs.Unwound.{frame_alike, hand_alike, outermost_done}
 use Rattle.xp_board.specs.declared.holdings.OwnerFound.TheVariants as owners
 
 -- The tables us stand where ts stood, with the same outermost one; and the steps go on with what asked ts, and show why it stops.
@@ -57,10 +57,6 @@ module _ {A : Type 0} {v w : PortValue} {owner : ℕ} {ts us : List TableWork} {
   going_may may = may_stands a.0 w owner us (i.stands a.0 a.1) (may_back a.0 v owner ts a.1 may)
 
 -- ---- steps behind steps
-outer_done : (t : TableWork) (n : ℕ) (ts : List TableWork) → outermost_work (record t { done = n } ∷ ts) ≡ outermost_work (t ∷ ts)
-outer_done t n [] = refl
-outer_done t n (u ∷ us) = refl
-
 going_then : {A B : Type 0} {v u w : PortValue} {owner : ℕ} {ts us xs : List TableWork} {done : A} {answer : Result B Stop} → Going v u owner ts us (Ok done) → Going u w owner us xs answer → Going v w owner ts xs answer
 going_then {v = v} {u} {w} {owner} {ts} {us} {xs} {answer = answer} i l =
     record {
@@ -216,7 +212,7 @@ opened_goes : {v u w : PortValue} {owner : ℕ} {t : TableWork} {ts us : List Ta
     TookOn owner u (table_opened t f progress own false ∷ one_entry_more t ∷ ts) w us answer → IsStanding v owner (t ∷ ts) → IsTopReady v → Advancing v w owner (t ∷ ts) us answer
 opened_goes {t = t} {ts} few e on a ready =
     let top = next_on_top refl (omega (arith, few)) e ready refl refl a in
-    going_below (next_came e) top (outer_done t (t.done + 1) ts) (took_goes on (opened_standing top a) (λ zero. fresh_ready _ _ _ _ _ _ _ _ _ e.hand zero))
+    going_below (next_came e) top (outermost_done t (t.done + 1) ts) (took_goes on (opened_standing top a) (λ zero. fresh_ready _ _ _ _ _ _ _ _ _ e.hand zero))
 
 -- ---- one entry, or one table
 pub advanced_goes : {owner : ℕ} {v w : PortValue} {ts us : List TableWork} {answer : Result Bool Stop} → Advanced owner v ts w us answer → IsStanding v owner ts → IsTopReady v → MayWork v → Advancing v w owner ts us answer
@@ -225,7 +221,7 @@ advanced_goes {owner} (course.Advanced.recorded v w t ts few e) a ready may =
       goes = record {
         came = next_came e;
         stands = λ o s. after_record w s (next_came e) (next_first e) None (omega (arith, few)) e.hand;
-        outer = outer_done t (t.done + 1) ts;
+        outer = outermost_done t (t.done + 1) ts;
         ready = after_record_ready w a.1 (next_came e) (next_first e) e.hand;
         serves = goes_advanced v w owner (t ∷ ts) (t ∷ ts) [] (goes_entries v w owner (t ∷ ts) [] e.serves);
         stops = tt;
@@ -239,7 +235,7 @@ advanced_goes {owner} (course.Advanced.unsettled v w t ts stop few e) a ready ma
       goes = record {
         came = next_came e;
         stands = λ o s. after_record w s (next_came e) (next_first e) e.hand.0 (omega (arith, few)) e.hand.1;
-        outer = outer_done t (t.done + 1) ts;
+        outer = outermost_done t (t.done + 1) ts;
         ready = tt;
         serves = goes_waiting v w owner (t ∷ ts) _ stop (e.shows 0).1 (goes_advanced v w owner (t ∷ ts) (t ∷ ts) [] (goes_entries v w owner (t ∷ ts) [] e.serves));
         stops = stops_entries v w owner (t ∷ ts) stop (λ pages. (e.shows pages).2);

@@ -138,7 +138,7 @@ outermost_within : (t : TableWork) (ts : List TableWork) → ts ≢ [] → outer
 outermost_within t [] some = absurd (some refl)
 outermost_within t (u ∷ us) some = refl
 
-outermost_done : (u : TableWork) (n : ℕ) (us : List TableWork) → outermost_work (record u { done = n } ∷ us) ≡ outermost_work (u ∷ us)
+pub outermost_done : (u : TableWork) (n : ℕ) (us : List TableWork) → outermost_work (record u { done = n } ∷ us) ≡ outermost_work (u ∷ us)
 outermost_done u n [] = refl
 outermost_done u n (r ∷ rs) = refl
 
