@@ -14,7 +14,6 @@ use Rattle.xp_board.specs.Told.{Post, PortValue, is_telling, told_word}
 use Rattle.step_maker.proofs.Coming.{came_post, met_after, met_before}
 use Rattle.step_maker.specs.Answers.{Stops}
 use Rattle.step_maker.specs.Licences.{IsFull}
-use Rattle.step_maker.proofs.Alikes.{same_alike}
 use Rattle.partial_state.specs.Levels.{level_type}
 use Rattle.table_law.specs.Alone.{PlainOutcome, alone}
 use Rattle.table_law.specs.Lawful.{IsAtRest}
@@ -71,7 +70,7 @@ module _ (n : Machine) (owner f level : ℕ) (a : PlainOutcome) (is : IsMachine 
   goes_on u x on g =
       let h = g.parked in
       let q = parked_over true h.table h.inner h.plain in
-      let alike = same_alike (told_word x) (told_word u) on.words in
+      let alike = on.words in
       record {
         machine = on.machine ∙ g.machine;
         telling = on.telling;
