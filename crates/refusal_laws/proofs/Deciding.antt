@@ -1,5 +1,5 @@
 -- What a call, or a list of calls, comes to; and what is settled behind it.
-use Rattle.std.proofs.Common.{◌≡◌, ◌≢◌, ℕ, ◌+◌, ◌≤◌, Bool, true, List, [], ◌∷◌, Option, None, Result, Ok, Err, refl, sym, ap, ◌∙◌, subst, arith}
+use Rattle.std.proofs.Common.{◌≡◌, ◌≢◌, ℕ, ◌+◌, ◌≤◌, Bool, true, false, List, [], ◌∷◌, Option, None, Result, Ok, Err, refl, sym, ap, ◌∙◌, subst, arith}
 use Rattle.xp_words.specs.Machine.{IsMachine, Machine}
 use Rattle.xp_words.specs.declared.place.Place.{Place}
 use Rattle.xp_words.specs.declared.reply.Pause.TheVariants.{Due}
@@ -18,6 +18,7 @@ use Rattle.table_entries.specs.Acquiring.{Acquired, Unwound}
 use Rattle.table_law.specs.Alone.{PlainOutcome, alone}
 use Rattle.table_law.specs.Lawful.{IsAtRest}
 use Rattle.table_law.specs.Plain.{Describes, Plain, plain_of}
+use Rattle.table_twins.proofs.Entering.{described_leaves}
 use Rattle.table_twins.proofs.Kinding.{described_alike}
 use Rattle.course_laws.specs.Courses.{IsDecided, IsFinal, IsOrderly}
 use Rattle.course_laws.proofs.Calling.{RefusedCall, at_once, in_work}
@@ -30,7 +31,7 @@ use Rattle.pause_laws.specs.Calls.{Calls}
 use Rattle.pause_laws.proofs.Repeating.{all_last}
 use Rattle.release_laws.specs.Pauses as pauses
 use Rattle.release_laws.specs.Pauses.{GoesOnFrom, IsLeft, SecondIsNone, SettledAtLast}
-use Rattle.release_laws.proofs.Settling.{goes_on, same_words, second_none, settled_at_last}
+use Rattle.release_laws.proofs.Settling.{goes_on, second_none, settled_at_last}
 use Rattle.refusal_laws.specs.Refusals.{ComesTo, IsRefusedAs, Owes, RefusedAtLast, a_release, nothing}
 use Rattle.refusal_laws.proofs.Leaving.{all_left, undoes}
 
@@ -57,11 +58,11 @@ module _ (n : Machine) (q : Plain) (u : PortValue) (telling : is_telling u ≡ t
   -- the port behind it
   pub record Same (w : PortValue) (answer : Result (Unit {0}) Stop) : Type 0 where
     pub done : answer ≡ Ok tt
-    pub telling : is_telling w ≡ true
+    pub tells : is_telling w ≡ true
     pub words : (p : Place) → told_word w p ≡ told_word u p
 
   first_none : {below : Option ℕ} → (w : PortValue) (answers : List Bool) (answer : Result (Unit {0}) Stop) → SettledOne below u First w answers answer → Same w answer
-  first_none _ _ _ (course.none w look) = record { done = refl; telling = moves_telling u w _ _ _ _ _ look ∙ telling; words = load_tells u w _ _ _ _ look telling }
+  first_none _ _ _ (course.none w look) = record { done = refl; tells = moves_telling u w _ _ _ _ _ look ∙ telling; words = load_tells u w _ _ _ _ look telling }
   first_none _ _ _ (course.live a b c w g word answers answer look store seen live released) = absurd (never a g look)
   first_none _ _ _ (course.partial a b c d w g word answers answer look store seen form take goes) = absurd (never a g look)
   first_none _ _ _ (course.lost a b c d w g word found look store seen form take off names) = absurd (never a g look)
@@ -74,8 +75,8 @@ module _ (n : Machine) (q : Plain) (u : PortValue) (telling : is_telling u ≡ t
   none_done _ _ _ (course.first w answers stop one) second = absurd (none_stops w stop (first_none w answers (Err stop) one))
   none_done _ _ _ (course.both x w answers more answer one two) second =
       let first = first_none x answers (Ok tt) one in
-      let last = second_none x first.telling second w more answer two in
-      (last.0, same_words n (told_word w) (told_word u) q (λ p. last.1 p ∙ first.words p) d)
+      let last = second_none x first.tells second w more answer two in
+      (last.0, described_leaves n w (told_word u) q (λ p. last.1 p ∙ first.words p) d)
 
 pub none_settled : (n : Machine) (q : Plain) (u w : PortValue) → is_telling u ≡ true → told_word u (old_place u.post.vcpu First) ≡ 0 → Describes n (told_word u) q → SettledAtLast u w → Describes n (told_word w) q
 none_settled n q _ _ telling none d (pauses.done below u w answers a second) = (none_done n q u telling none d w answers (Ok tt) a second).1

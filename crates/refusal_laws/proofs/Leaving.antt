@@ -140,11 +140,10 @@ module _ (n : Machine) (v u : PortValue) (t : TableWork) (x : ℕ → ℕ) (p : 
   pub written : kind_fields (kind_write kind) ≡ kind
   written = fields_write kind (partial_is (level_type t.level) (level_type-typed t.level) false t.done (level_type-table t.level held.low) held.few)
 
-  all : Leaves u _
-  all = leaves v u (Kind t.frame) (Store (kind_write kind)) _ _ a.0 a.1 telling
-
   kinded : IsKinded (told_word v) (told_word u) t.frame (kind_write kind)
-  kinded = same_kinded (told_word v) (set_kind t.frame kind (told_word v)) (told_word u) t.frame (kind_write kind) (stored_kinded (told_word v) t.frame kind) (λ h. all (Refs h)) (λ h i. all (Cell h i)) (λ h. all (Kind h))
+  kinded =
+      let all = leaves v u (Kind t.frame) (Store (kind_write kind)) _ _ a.0 a.1 telling in
+      same_kinded (told_word v) (set_kind t.frame kind (told_word v)) (told_word u) t.frame (kind_write kind) (stored_kinded (told_word v) t.frame kind) (λ h. all (Refs h)) (λ h i. all (Cell h i)) (λ h. all (Kind h))
 
   pub stored : Describes n (told_word u) (lent x (with_kind t.frame kind p))
   stored = described_kind n (told_word v) (told_word u) (lent x p) t.frame (kind_write kind) kind kinded (sym (ap sober written)) d
@@ -172,7 +171,7 @@ module _ (n : Machine) (q : Plain) (v : PortValue) (t o : TableWork) (ts : List 
   inner_to : (mid u : PortValue) → LeftPartial v mid t → u.post.machine ≡ n → is_telling u ≡ true → Describes n (told_word u) (lent (extra (o ∷ ts)) parked) → Undoes n u (o ∷ ts) q
   inner_to mid u partial machine telling describes =
       let kind = partial_kind (level_type t.level) false false t.done 0 in
-      let high : level_type (o.level - 1) ≡ level_type (suc (t.level - 1)) = (let e = s.above.0 in ap level_type (omega arith)) in
+      let high : o.level - 1 ≡ suc (t.level - 1) = (let e = s.above.0 in omega arith) in
       record {
         machine = machine;
         telling = telling;
@@ -184,7 +183,7 @@ module _ (n : Machine) (q : Plain) (v : PortValue) (t o : TableWork) (ts : List 
         chain = chain_kind (left_of t) kind s.plain (lefts (o ∷ ts)) s.chain.1;
         flags = s.flags.1;
         comes = ap (undone (lefts (o ∷ ts))) (is_park n v mid t (extra (t ∷ o ∷ ts)) s.plain s.telling s.held.0 s.describes partial)
-            ∙ (one_parked (left_of t) (left_of o) (lefts ts) s.plain s.above.0 s.above.1 (s.chain.0 ∙ ap (Typed t.frame) high) s.spent.0 ∙ s.comes);
+            ∙ (one_parked (left_of t) (left_of o) (lefts ts) s.plain s.above.0 s.above.1 (s.chain.0 ∙ ap (λ l. Typed t.frame (level_type l)) high) s.spent.0 ∙ s.comes);
       }
 
   inner_by : (own : Bool) (u : PortValue) → t.own ≡ own → InnerLeft v u t o t.own → Undoes n u (o ∷ ts) q × (around_left t o ≡ o)

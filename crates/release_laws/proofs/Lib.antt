@@ -4,9 +4,9 @@ pub mod Words
 mod Putting
 mod Dropping
 pub mod Liking
-mod Parking
+pub mod Parking
 mod Entries
 mod Running
-mod Unwinding
+pub mod Unwinding
 mod Released
-mod Settling
+pub mod Settling

@@ -292,7 +292,7 @@ module _ (u : PortValue) (telling : is_telling u ≡ true) (none : told_word u (
   never : (a : PortValue) (g : ℕ) → Moves u a (old_place u.post.vcpu Second) Load kinds.Look None (g + 1) → ⊥
   never a g look = let e = told_there u a _ Load kinds.Look None (g + 1) look telling in let k = none in omega arith
 
-  second_none : {below : Option ℕ} → (w : PortValue) (answers : List Bool) (answer : Result (Unit {0}) Stop) → SettledOne below u Second w answers answer → (answer ≡ Ok tt) × ((q : Place) → told_word w q ≡ told_word u q)
+  pub second_none : {below : Option ℕ} → (w : PortValue) (answers : List Bool) (answer : Result (Unit {0}) Stop) → SettledOne below u Second w answers answer → (answer ≡ Ok tt) × ((q : Place) → told_word w q ≡ told_word u q)
   second_none _ _ _ (course.none w look) = (refl, load_tells u w _ _ _ _ look telling)
   second_none _ _ _ (course.live a b c w g word answers answer look store seen live released) = absurd (never a g look)
   second_none _ _ _ (course.partial a b c d w g word answers answer look store seen form take goes) = absurd (never a g look)

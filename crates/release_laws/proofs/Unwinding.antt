@@ -59,17 +59,17 @@ module _ (n : Machine) (v w : PortValue) (f : ℕ) (p : Plain) (telling : is_tel
   abbrev place : Place
   place = old_place v.post.vcpu First
 
-  named_describes : Describes n (told_word w) p
+  pub named_describes : Describes n (told_word w) p
   unfolding left_by
   named_describes =
       let all = leaves v w place (Store (f + 1)) kinds.Context None 0 a telling in
       record { shares = λ g inside. d.shares g inside ∙ ap share_of (sym (all (Refs g))); kinds = λ g inside. d.kinds g inside ∙ ap (λ x. sober (kind_fields x)) (sym (all (Kind g))); cells = λ g i inside few. d.cells g i inside few ∙ sym (all (Cell g i)) }
 
-  named_kind : (g : ℕ) → kind_fields (told_word w (Kind g)) ≡ kind_fields (told_word v (Kind g))
+  pub named_kind : (g : ℕ) → kind_fields (told_word w (Kind g)) ≡ kind_fields (told_word v (Kind g))
   unfolding left_by
   named_kind g = ap kind_fields (leaves v w place (Store (f + 1)) kinds.Context None 0 a telling (Kind g))
 
-  named_there : told_word w (old_place w.post.vcpu First) ≡ f + 1
+  pub named_there : told_word w (old_place w.post.vcpu First) ≡ f + 1
   unfolding left_by
   named_there = subst (λ (y : PortValue). told_word w (old_place y.post.vcpu First) ≡ f + 1) (sym a.to) (told_here v w place (Store (f + 1)) kinds.Context None 0 a telling)
 
