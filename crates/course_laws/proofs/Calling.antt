@@ -111,9 +111,9 @@ pub data RefusedCall (n : Machine) (owner : ℕ) (v w : PortValue) (f level : �
   at_once : a.whole ≡ true → RefusedAtOnce n v w y a.outcome → RefusedCall n owner v w f level y a
   in_work : (u : PortValue) (us : List TableWork) → RefusedAt n owner u us y a.outcome → IsOutermost f level us → Unwound u owner us false w → RefusedCall n owner v w f level y a
 
-pub refuses_of : {n : Machine} {owner : ℕ} {v w : PortValue} {f level : ℕ} {y : Refusal} {a : Aim} → RefusedCall n owner v w f level y a → Refuses a.outcome
-refuses_of (at_once whole r) = record { cause = r.cause; is = r.is }
-refuses_of (in_work u us r out left) = record { cause = r.words.cause; is = ap (λ (o : PlainOutcome). o.refusal) r.words.is }
+pub refuses_of : {n : Machine} {owner : ℕ} {v w : PortValue} {f level : ℕ} {y : Refusal} {a : Aim} → RefusedCall n owner v w f level y a → Refuses y a.outcome
+refuses_of (at_once whole r) = record { cause = r.cause; is = r.is; same = r.same }
+refuses_of (in_work u us r out left) = record { cause = r.words.cause; is = ap (λ (o : PlainOutcome). o.refusal) r.words.is; same = r.words.same }
 
 abbrev pub CallOutcome : Machine → ℕ → PortValue → PortValue → ℕ → ℕ → Aim → Result ℕ Stop → Type 0
 CallOutcome n owner v w f level a (Ok g) = IsDone n w a.outcome

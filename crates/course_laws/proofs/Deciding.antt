@@ -39,14 +39,22 @@ first_last n owner v w f level a (Err (Refused y)) o = λ final. o (final_words 
 first_last n owner v w f level a (Err (Paused x)) o = tt
 
 -- a refusal that is final
-pub last_refuses : (n : Machine) (owner : ℕ) (v w : PortValue) (f level : ℕ) (a : PlainOutcome) (e : Stop) → LastOutcome n owner v w f level a (Err e) → IsFinal e → Refuses a
+abbrev pub RefusesAs : PlainOutcome → Stop → Type 0
+RefusesAs a (Refused y) = Refuses y a
+RefusesAs a (Paused x) = Unit {0}
+
+pub last_refuses : (n : Machine) (owner : ℕ) (v w : PortValue) (f level : ℕ) (a : PlainOutcome) (e : Stop) → LastOutcome n owner v w f level a (Err e) → IsFinal e → RefusesAs a e
 last_refuses n owner v w f level a (Refused y) o final = refuses_of (o final)
-last_refuses n owner v w f level a (Paused x) o final = absurd final
+last_refuses n owner v w f level a (Paused x) o final = tt
+
+never_fine : (a : PlainOutcome) (e : Stop) → IsFinal e → RefusesAs a e → a.refusal ≡ None → ⊥
+never_fine a (Refused y) final r none = let is = r.is in cc
+never_fine a (Paused x) final r none = final
 
 module _ (v : PortValue) (f owner level : ℕ) (machine : IsMachine v.post.machine) (telling : is_telling v ≡ true) (calm : IsAtRest v.post.machine (told_word v)) (orderly : IsOrderly v.post.machine (told_word v)) (low : 1 ≤ level) (high : level ≤ 4) where
   had_by : (n : Machine) (u w : PortValue) (a : PlainOutcome) (answer : Result ℕ Stop) → IsDecided answer → LastOutcome n owner u w f level a answer → (a.refusal ≡ None → IsHad answer) × (IsHad answer → a.refusal ≡ None)
   had_by n u w a (Ok g) decided o = (λ none. tt, λ had. o.none)
-  had_by n u w a (Err e) decided o = (λ none. absurd (let is = (last_refuses n owner u w f level a e o decided).is in cc), λ had. absurd had)
+  had_by n u w a (Err e) decided o = (λ none. absurd (never_fine a e decided (last_refuses n owner u w f level a e o decided) none), λ had. absurd had)
 
   -- the answer tells whether the tree was lawful
   pub last_lawful : (u w : PortValue) (answer : Result ℕ Stop) → IsDecided answer → LastOutcome v.post.machine owner u w f level (alone v.post.machine owner level f (plain_of (told_word v))) answer →

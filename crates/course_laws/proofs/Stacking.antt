@@ -3,6 +3,7 @@ use Rattle.std.proofs.Common.{◌≡◌, ℕ, suc, ◌+◌, ◌-◌, ◌<◌, �
 use Rattle.xp_words.specs.Machine.{Machine}
 use Rattle.xp_words.specs.declared.entry.Demand.TheVariants.{Typed}
 use Rattle.xp_words.specs.declared.kind.PageType.{PageType}
+use Rattle.xp_words.specs.declared.reply.Refusal.{Refusal}
 use Rattle.xp_board.specs.Readings.{is_dead}
 use Rattle.kind_words.specs.Kinds.{work_kind}
 use Rattle.partial_state.specs.Levels.{level_type}
@@ -12,6 +13,7 @@ use Rattle.table_law.specs.Levels.{TableLeft, entry_of}
 use Rattle.table_law.specs.Plain.{Plain, with_kind}
 use Rattle.table_law.specs.Release.{undo}
 use Rattle.table_law.specs.Stack.{next_met, rest, table_left}
+use Rattle.table_twins.specs.Answers.{IsCause}
 use Rattle.table_law.proofs.Steps.{rest_met, rest_opened, rest_stopped}
 use Rattle.course_laws.proofs.Frames.{IsAbove}
 
@@ -25,10 +27,11 @@ abbrev pub undone : List TableLeft → Plain → Plain
 undone [] p = p
 undone (x ∷ xs) p = undo (x ∷ xs) (512 - x.ahead) p
 
--- it is refused
-pub record Refuses (a : PlainOutcome) : Type 0 where
+-- it is refused, for the cause of y
+pub record Refuses (y : Refusal) (a : PlainOutcome) : Type 0 where
   pub cause : Cause
   pub is : a.refusal ≡ Some cause
+  pub same : IsCause y cause
 
 -- ---- the list of them
 pub lower_above : (k l : ℕ) (ts : List TableWork) → k ≤ l → IsAbove l ts → IsAbove k ts
