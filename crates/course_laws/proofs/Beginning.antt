@@ -1,23 +1,23 @@
 -- The first call begins with words at rest.
-use Rattle.std.proofs.Common.{◌≡◌, ℕ, suc, ◌-◌, ◌≤◌, Bool, true, false, List, [], ◌∷◌, None, Result, Ok, Err, refl, sym, ap, ◌∙◌, subst, inl, inr, arith, Some}
+use Rattle.std.proofs.Common.{◌≡◌, ℕ, suc, ◌-◌, ◌≤◌, ◌==◌, if◌then◌else◌, Bool, true, false, List, [], ◌∷◌, None, Result, Ok, Err, refl, sym, ap, ◌∙◌, subst, inl, inr, arith, Some}
 use Rattle.std.proofs.Math.Path.{fun_ext}
 use Rattle.xp_words.specs.Machine.{IsMachine, Machine}
 use Rattle.xp_words.specs.declared.entry.Demand.TheVariants.{Typed}
-use Rattle.xp_words.specs.declared.place.Place.TheVariants.{Kind, Refs}
+use Rattle.xp_words.specs.declared.place.Place.TheVariants.{Kind, Refs, Vcpu}
 use Rattle.xp_words.specs.declared.reply.Pause.TheVariants as pauses
 use Rattle.xp_words.specs.declared.reply.Refusal.{Refusal}
-use Rattle.xp_words.specs.declared.reply.Refusal.TheVariants as refusals
 use Rattle.xp_words.specs.declared.reply.Stop.{Stop}
 use Rattle.xp_words.specs.declared.reply.Stop.TheVariants.{Refused, Paused}
-use Rattle.xp_board.specs.Readings.{kind_at}
+use Rattle.xp_board.specs.Readings.{kind_at, owner_of, ref_count}
+use Rattle.xp_board.specs.RefSteps.{owner_number}
 use Rattle.xp_board.specs.Told.{Post, PortValue, is_telling, told_word}
 use Rattle.step_maker.specs.Moves.{Came}
-use Rattle.step_maker.specs.Plain.{Words}
+use Rattle.step_maker.specs.Plain.{Leaves, Words}
 use Rattle.step_maker.proofs.Coming.{came_post, came_trans}
 use Rattle.step_maker.proofs.Telling.{came_telling}
 use Rattle.step_maker.specs.Twins.{Alike}
 use Rattle.step_maker.proofs.Visiting.{does_came}
-use Rattle.frame_words.specs.Plain.{got, refer}
+use Rattle.frame_words.specs.Plain.{got, lowered, put, refer, set_free}
 use Rattle.frame_types.specs.Plain.{taken as types_taken, type_stop}
 use Rattle.frame_types.specs.declared.taking.Taken.{Taken}
 use Rattle.frame_types.specs.declared.taking.Taken.TheVariants as types
@@ -33,23 +33,22 @@ use Rattle.table_law.proofs.Describing.{sober_dead}
 use Rattle.table_law.proofs.Steps.{alone_opened}
 use Rattle.table_twins.proofs.Typing.{live_sober}
 use Rattle.table_twins.proofs.Waiting.{only_busy}
-use Rattle.table_entries.specs.Acquiring.{Acquired, GotRef, TookType, counted, finished, outermost_table, unfinished, unreferred, untyped, waiting}
-use Rattle.course_laws.specs.Courses.{IsFinal, IsOrderly}
+use Rattle.table_words.specs.OldWords.{old_place}
+use Rattle.table_words.specs.declared.old_words.OldWord.TheVariants.{First}
+use Rattle.table_entries.proofs.Shared.{gave_came}
+use Rattle.table_entries.specs.Acquiring.{Acquired, GaveRef, GotRef, TookType, counted, finished, outermost_table, unfinished, unreferred, untyped, waiting}
+use Rattle.course_laws.specs.Courses.{IsOrderly}
 use Rattle.course_laws.proofs.Frames.{AllFrames, IsFrame, IsLiveWithin, count_at}
 use Rattle.course_laws.proofs.Stacking.{lefts}
-use Rattle.course_laws.proofs.Starting.{described, rest_frames, unreferred_refuses}
-use Rattle.course_laws.proofs.Calling.{CallOutcome, IsDone, done_call, ends_call, left_call, lent_none}
+use Rattle.course_laws.proofs.Starting.{described, rest_frames}
+use Rattle.course_laws.proofs.Calling.{CallEnds, CallOutcome, IsDone, RefusedAtOnce, at_once, done_call, ends_call, left_call, lent_none}
 use Rattle.course_laws.proofs.Extras.{IsSame, described_same, extra, lent}
 use Rattle.course_laws.proofs.Pacing.{Aim, extra_own, lent_same}
 use Rattle.course_laws.proofs.Recording.{Met, OpensTo, met_typed, opens_to, taking, with_one}
-use Rattle.course_laws.proofs.Refusing.{IsForWords, type_refused}
-use Rattle.course_laws.proofs.Travelling.{Ends, wait_ends}
+use Rattle.course_laws.proofs.Refusing.{Unmet, asks_by, type_refused}
+use Rattle.course_laws.proofs.Travelling.{wait_ends}
 use Rattle.course_laws.proofs.Under.{IsStill, PlainFrames, Spelled, TableOf, count_of, frames_but}
 use Rattle.course_laws.proofs.Unwinding.{HalfAt}
-
-pub words_final : (y : Refusal) → IsForWords true y → IsFinal (Refused y)
-words_final (refusals.Clock x) known = known
-words_final _ known = tt
 
 same_back : (p q : Plain) → IsSame p q → IsSame q p
 same_back p q same = record { shares = λ g. sym (same.shares g); kinds = λ g. sym (same.kinds g); cells = λ g i. sym (same.cells g i) }
@@ -160,26 +159,54 @@ module _ (v : PortValue) (f owner level : ℕ) (machine : IsMachine v.post.machi
             };
           }
 
-  unreferred_ends : (w : PortValue) (e : Stop) → GotRef v w f owner (Err e) → Ends a e
-  unreferred_ends w (Refused y) ref = λ known. unreferred_refuses v w f owner level p (Refused y) (described n m) telling ref (words_final y known)
+  -- ---- it is refused at once
+  once : (w : PortValue) (y : Refusal) → Came v w → told_word w (old_place v.post.vcpu First) ≡ m (old_place v.post.vcpu First) → Unmet w n (extra []) y p a.outcome → RefusedAtOnce n v w y a.outcome
+  once w y came old u =
+      record {
+        machine = ap (λ (q : Post). q.machine) (came_post v w came);
+        telling = came_telling v w came ∙ telling;
+        cause = u.refuses.cause;
+        same = u.refuses.same;
+        is = ap (λ (o : PlainOutcome). o.refusal) u.refuses.is;
+        describes = subst (Describes n (told_word w)) (ap (λ (o : PlainOutcome). o.left) (sym u.refuses.is)) (described_same n (told_word w) (lent (extra []) p) p (lent_none p) u.describes);
+        old = ap (λ (q : Post). told_word w (old_place q.vcpu First)) (came_post v w came) ∙ old;
+      }
+
+  unreferred_ends : (w : PortValue) (e : Stop) → GotRef v w f owner (Err e) → CallEnds n owner v w f level a e
+  unreferred_ends w (Refused y) ref = λ known.
+      let leaves = (ref.plain telling).1 in
+      at_once refl
+      (once w y (does_came v w _ ref.found) (leaves (old_place v.post.vcpu First))
+      (asks_by n m w (extra []) p owner level f 0 [] machine describes spells tt frames tt true (λ whole g. refl) (λ g. inl refl) f y (Some y) (ref.plain telling).0 known (refl, leaves)))
   unreferred_ends w (Paused z) ref = absurd (ref.plain telling)
 
-  untyped_ends : (u x : PortValue) (e : Stop) → GotRef v u f owner (Ok f) → TookType u x f owner level (Err e) → Ends a e
-  untyped_ends u x (Refused y) ref type =
-      let stop = subst (λ (w : Words). type_stop f (level_type level) (w (Kind f)) ≡ Some (Refused y)) (words u x ref) (type.plain (telling_there u x ref)).0 in
-      let c = type_refused n m x (extra []) p owner level f 0 [] machine describes spells tt frames tt true (λ whole g. refl) f y (none u x ref) stop in
-      λ known. record { cause = c.cause; is = c.is }
-  untyped_ends u x (Paused pauses.Due) ref type = only_busy f (told_word u (Kind f)) (level_type level) pauses.Due (type.plain (telling_there u x ref)).0
-  untyped_ends u x (Paused (pauses.Flush k y z)) ref type = tt
-  untyped_ends u x (Paused (pauses.Lost k y z)) ref type = tt
-  untyped_ends u x (Paused (pauses.Busy k y)) ref type = tt
-  untyped_ends u x (Paused (pauses.Alive k y)) ref type = tt
+  put_old : (b : Bool) (o k i : ℕ) (m : Words) → (if b then set_free f o (lowered f m) else lowered f m) (Vcpu k i) ≡ m (Vcpu k i)
+  put_old true o k i m = refl
+  put_old false o k i m = refl
+
+  module _ (u x w : PortValue) (ref : GotRef v u f owner (Ok f)) (back : GaveRef x w f) where
+    untyped_ends : (e : Stop) → TookType u x f owner level (Err e) → CallEnds n owner v w f level a e
+    untyped_ends (Refused y) type =
+        let telling_u = telling_there u x ref in
+        let same : told_word x ≡ got f m = fun_ext (type.plain telling_u).1 ∙ words u x ref in
+        let stop = subst (λ (z : Words). type_stop f (level_type level) (z (Kind f)) ≡ Some (Refused y)) (words u x ref) (type.plain telling_u).0 in
+        let leaves = subst (λ (z : Words). Leaves w (put f z)) same (back.plain (came_telling u x (does_came u x _ type.found) ∙ telling_u)) in
+        let came = came_trans v x w (came_trans v u x (does_came v u _ ref.found) (does_came u x _ type.found)) (gave_came x w f back) in
+        λ known.
+        at_once refl
+        (once w y came (leaves (old_place v.post.vcpu First) ∙ put_old (ref_count (got f m (Refs f)) == 1) (owner_number (owner_of (got f m (Refs f)))) v.post.vcpu 2 (got f m))
+        (type_refused n m w (extra []) p owner level f 0 [] machine describes spells tt frames tt true (λ whole g. refl) (λ g. inl refl) f y (none u x ref) stop leaves))
+    untyped_ends (Paused pauses.Due) type = only_busy f (told_word u (Kind f)) (level_type level) pauses.Due (type.plain (telling_there u x ref)).0
+    untyped_ends (Paused (pauses.Flush k y z)) type = tt
+    untyped_ends (Paused (pauses.Lost k y z)) type = tt
+    untyped_ends (Paused (pauses.Busy k y)) type = tt
+    untyped_ends (Paused (pauses.Alive k y)) type = tt
 
   pub first_call : (w : PortValue) (answers : List Bool) (answer : Result ℕ Stop) → Acquired v f owner level w answers answer → CallOutcome v.post.machine owner v w f level (record { outcome = alone v.post.machine owner level f (plain_of (told_word v)); whole = true }) answer
   first_call _ _ _ (unreferred w stop ref) = ends_call n owner v w f level a stop (unreferred_ends w stop ref)
-  first_call _ _ _ (untyped u x w stop ref type back) = ends_call n owner v w f level a stop (untyped_ends u x stop ref type)
+  first_call _ _ _ (untyped u x w stop ref type back) = ends_call n owner v w f level a stop (untyped_ends u x w ref back stop type)
   first_call _ _ _ (counted u w ref type) = counted_done u w ref type
-  first_call _ _ _ (waiting u x w own stamp stop ref type left) = ends_call n owner v w f level a stop (wait_ends a stop type.waits.0)
+  first_call _ _ _ (waiting u x w own stamp stop ref type left) = ends_call n owner v w f level a stop (wait_ends true _ stop type.waits.0)
   first_call _ _ _ (unfinished u x y w progress own us answers stop ref type work left) =
       left_call n owner f level a machine x [] (outermost_table f level progress own) (begun u x ref progress own type) (refl, refl) v (came_trans v u x (does_came v u _ ref.found) (does_came u x _ type.found)) y w us answers stop work left
   first_call _ _ _ (finished u x y w progress own k answers ref type work full made) =

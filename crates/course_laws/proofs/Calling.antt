@@ -25,11 +25,13 @@ use Rattle.frame_types.specs.declared.taking.Taken.TheVariants as types
 use Rattle.kind_words.specs.Kinds.{partial_kind, work_kind}
 use Rattle.partial_state.specs.Levels.{level_type}
 use Rattle.partial_state.specs.declared.stack.TableWork.{TableWork}
-use Rattle.table_law.specs.Alone.{PlainOutcome, take_reference}
+use Rattle.table_words.specs.OldWords.{old_place}
+use Rattle.table_words.specs.declared.old_words.OldWord.TheVariants.{First}
+use Rattle.table_law.specs.Alone.{Cause, PlainOutcome, take_reference}
 use Rattle.table_law.specs.Plain.{Describes, Plain, Share, fewer, raised_share, reference_back, with_kind, with_share}
 use Rattle.table_law.specs.Stack.{rest}
 use Rattle.table_law.proofs.Counting.{at_here, at_there}
-use Rattle.table_twins.specs.Answers.{IsSameAnswer}
+use Rattle.table_twins.specs.Answers.{IsCause, IsSameAnswer}
 use Rattle.table_twins.proofs.Referring.{same_answer}
 use Rattle.table_twins.proofs.Sharing.{same_back}
 use Rattle.table_entries.specs.Acquiring.{Acquired, GotRef, MadeLive, keeps_it, TookType, Unwound, Worked, counted, cut_off, due, filled, finished, outermost_table, unfinished, unreferred, untyped, waiting}
@@ -44,7 +46,7 @@ use Rattle.course_laws.proofs.Recording.{work_out}
 use Rattle.course_laws.proofs.Refusing.{IsForWords, full_by, roomy}
 use Rattle.course_laws.proofs.Resuming.{taken_on}
 use Rattle.course_laws.proofs.Retaking.{not_counted, not_stopped, own_is, progress_is, retaken, retaken_words}
-use Rattle.course_laws.proofs.Travelling.{Ends, Leads, Steps, all_filled, live_steps, wait_ends}
+use Rattle.course_laws.proofs.Travelling.{Ends, EndsAs, Leads, RefusedAt, Steps, all_filled, live_steps, wait_ends}
 use Rattle.course_laws.proofs.Under.{Spelled, TableOf, Under, spelled_other}
 use Rattle.course_laws.proofs.Unwinding.{part, HalfAt, Parked, ParkedAt, parked_over, unwound}
 use Rattle.course_laws.proofs.Walking.{worked_came}
@@ -54,7 +56,7 @@ module _ (n : Machine) (owner : ℕ) (a : Aim) (is : IsMachine n) where
   -- all is done; or the gate said yes; or what it stops for
   abbrev pub WorkOutcome : PortValue → List TableWork → Result (Unit {0}) Stop → Type 0
   WorkOutcome w xs (Ok x) = (b : Bool) × Steps n owner w xs a b
-  WorkOutcome w xs (Err (Refused y)) = IsForWords a.whole y → Refuses a.outcome
+  WorkOutcome w xs (Err (Refused y)) = IsForWords a.whole y → RefusedAt n owner w xs y a.outcome
   WorkOutcome w xs (Err (Paused pauses.Due)) = HalfAt n owner w [] xs a
   WorkOutcome w xs (Err (Paused x)) = Unit {0}
 
@@ -73,7 +75,7 @@ module _ (n : Machine) (owner : ℕ) (a : Aim) (is : IsMachine n) where
   lead_works w xs (Err (Paused (pauses.Busy f x))) l = tt
   lead_works w xs (Err (Paused (pauses.Alive v x))) l = tt
 
-  ends_work : (w : PortValue) (xs : List TableWork) (e : Stop) → Ends a e → WorkOutcome w xs (Err e)
+  ends_work : (w : PortValue) (xs : List TableWork) (e : Stop) → Ends n owner w xs a e → WorkOutcome w xs (Err e)
   ends_work w xs (Refused y) ends = ends
   ends_work w xs (Paused pauses.Due) ends = absurd ends
   ends_work w xs (Paused (pauses.Flush v y x)) ends = tt
@@ -94,13 +96,35 @@ pub record IsDone (n : Machine) (w : PortValue) (a : PlainOutcome) : Type 0 wher
   pub none : a.refusal ≡ None
   pub describes : Describes n (told_word w) a.left
 
+-- it is refused for y at once: the words of frames are those that the acquisition alone leaves, and the first old word is as it was
+pub record RefusedAtOnce (n : Machine) (v w : PortValue) (y : Refusal) (a : PlainOutcome) : Type 0 where
+  pub machine : w.post.machine ≡ n
+  pub telling : is_telling w ≡ true
+  pub cause : Cause
+  pub same : IsCause y cause
+  pub is : a.refusal ≡ Some cause
+  pub describes : Describes n (told_word w) a.left
+  pub old : told_word w (old_place w.post.vcpu First) ≡ told_word v (old_place v.post.vcpu First)
+
+-- At once, which only a call that resumes nothing is; or with tables in work, which are left.
+pub data RefusedCall (n : Machine) (owner : ℕ) (v w : PortValue) (f level : ℕ) (y : Refusal) (a : Aim) : Type 0 where
+  at_once : a.whole ≡ true → RefusedAtOnce n v w y a.outcome → RefusedCall n owner v w f level y a
+  in_work : (u : PortValue) (us : List TableWork) → RefusedAt n owner u us y a.outcome → IsOutermost f level us → Unwound u owner us false w → RefusedCall n owner v w f level y a
+
+pub refuses_of : {n : Machine} {owner : ℕ} {v w : PortValue} {f level : ℕ} {y : Refusal} {a : Aim} → RefusedCall n owner v w f level y a → Refuses y a.outcome
+refuses_of (at_once whole r) = record { cause = r.cause; is = r.is; same = r.same }
+refuses_of (in_work u us r out left) = record { cause = r.words.cause; is = ap (λ (o : PlainOutcome). o.refusal) r.words.is; same = r.words.same }
+
 abbrev pub CallOutcome : Machine → ℕ → PortValue → PortValue → ℕ → ℕ → Aim → Result ℕ Stop → Type 0
 CallOutcome n owner v w f level a (Ok g) = IsDone n w a.outcome
-CallOutcome n owner v w f level a (Err (Refused y)) = IsForWords a.whole y → Refuses a.outcome
+CallOutcome n owner v w f level a (Err (Refused y)) = IsForWords a.whole y → RefusedCall n owner v w f level y a
 CallOutcome n owner v w f level a (Err (Paused pauses.Due)) = FindsAlive v w owner → ParkedAt n owner w f level a.outcome
 CallOutcome n owner v w f level a (Err (Paused x)) = Unit {0}
 
-pub ends_call : (n : Machine) (owner : ℕ) (v w : PortValue) (f level : ℕ) (a : Aim) (e : Stop) → Ends a e → CallOutcome n owner v w f level a (Err e)
+abbrev pub CallEnds : Machine → ℕ → PortValue → PortValue → ℕ → ℕ → Aim → Stop → Type 0
+CallEnds n owner v w f level a e = EndsAs a.whole (λ y. RefusedCall n owner v w f level y a) e
+
+pub ends_call : (n : Machine) (owner : ℕ) (v w : PortValue) (f level : ℕ) (a : Aim) (e : Stop) → CallEnds n owner v w f level a e → CallOutcome n owner v w f level a (Err e)
 ends_call n owner v w f level a (Refused y) ends = ends
 ends_call n owner v w f level a (Paused pauses.Due) ends = absurd ends
 ends_call n owner v w f level a (Paused (pauses.Flush u y x)) ends = tt
@@ -136,7 +160,8 @@ module _ (n : Machine) (owner f level : ℕ) (a : Aim) (is : IsMachine n) (x : P
   pauses_by y w (o ∷ us) h out left finds = unwound n owner f level a.outcome us [] o y w (as_part y (o ∷ us) h) out left finds
 
   pub left_call : (v : PortValue) → Came v x → (y w : PortValue) (us : List TableWork) (answers : List Bool) (stop : Stop) → Worked owner x t y us answers (Err stop) → Unwound y owner us (keeps_it stop) w → CallOutcome n owner v w f level a (Err stop)
-  left_call v came y w us answers (Refused z) work left = worked n owner a is rs x t y us answers (Err (Refused z)) g work
+  left_call v came y w us answers (Refused z) work left = λ known.
+      in_work y us (worked n owner a is rs x t y us answers (Err (Refused z)) g work known) (worked_outermost owner f level x t y us answers (Err (Refused z)) work outer) left
   left_call v came y w us answers (Paused pauses.Due) work left = λ finds.
       pauses_by y w us (worked n owner a is rs x t y us answers (Err (Paused pauses.Due)) g work) (worked_outermost owner f level x t y us answers (Err (Paused pauses.Due)) work outer) left
       (λ m met. finds m (met_after v y w m (came_trans v x y came (worked_came owner x t y us answers (Err (Paused pauses.Due)) work)) met))
@@ -286,7 +311,7 @@ module _ (n : Machine) (owner : ℕ) (a : PlainOutcome) (is : IsMachine n) (v : 
   telling_by : (u : PortValue) → GotRef v u t.frame owner (Ok t.frame) → is_telling u ≡ true
   telling_by u ref = came_telling v u (does_came v u _ ref.found) ∙ g.telling
 
-  unreferred_ends : (w : PortValue) (e : Stop) → GotRef v w t.frame owner (Err e) → Ends (part a) e
+  unreferred_ends : (w : PortValue) (e : Stop) → GotRef v w t.frame owner (Err e) → CallEnds n owner v w t.frame t.level (part a) e
   unreferred_ends w (Refused y) ref =
       let refuses = subst (λ k. refer k owner t.frame (told_word v (Refs t.frame)) ≡ Some y) g.machine (ref.plain g.telling).0 in
       λ known. absurd (outer_refused n owner (told_word v) t g.parked.inner a is g.parked table refl y refuses known)
@@ -325,7 +350,7 @@ module _ (n : Machine) (owner : ℕ) (a : PlainOutcome) (is : IsMachine n) (v : 
   resumed_call _ _ _ (unreferred w stop ref) = ends_call n owner v w t.frame t.level (part a) stop (unreferred_ends w stop ref)
   resumed_call _ _ _ (untyped u x w stop ref type back) = absurd (untyped_never u x stop ref type)
   resumed_call _ _ _ (counted u w ref type) = absurd (counted_never u w ref type)
-  resumed_call _ _ _ (waiting u x w own stamp stop ref type left) = ends_call n owner v w t.frame t.level (part a) stop (wait_ends (part a) stop type.waits.0)
+  resumed_call _ _ _ (waiting u x w own stamp stop ref type left) = ends_call n owner v w t.frame t.level (part a) stop (wait_ends false _ stop type.waits.0)
   resumed_call _ _ _ (unfinished u x y w progress own us answers stop ref type work left) =
       left_call n owner t.frame t.level (part a) is x g.parked.inner (outermost_table t.frame t.level progress own) (begins u x progress own ref type) (refl, refl) v (came u x progress own ref type) y w us answers stop work left
   resumed_call _ _ _ (finished u x y w progress own k answers ref type work full made) =

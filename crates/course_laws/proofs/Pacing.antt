@@ -19,18 +19,19 @@ use Rattle.partial_state.specs.declared.stack.TableWork.{TableWork}
 use Rattle.table_entries.specs.Plain.{EntersPlainly, TwinEntry}
 use Rattle.table_entries.specs.declared.entries.Entered.{Entered}
 use Rattle.table_entries.specs.declared.entries.Entered.TheVariants.{Recorded, Opened}
-use Rattle.table_law.specs.Alone.{PlainOutcome, fine, meet, take_at}
+use Rattle.table_law.specs.Alone.{Cause, PlainOutcome, fine, meet, refused, take_at}
 use Rattle.table_law.specs.Levels.{entry_of}
 use Rattle.table_law.specs.Plain.{Describes, Plain, with_kind}
 use Rattle.table_law.specs.Stack.{rest, table_left}
 use Rattle.table_law.proofs.Counting.{asks_at}
+use Rattle.table_twins.specs.Answers.{IsCause}
 use Rattle.table_entries.specs.Acquiring.{one_entry_more, table_opened}
 use Rattle.course_laws.proofs.Frames.{IsAbove}
 use Rattle.course_laws.proofs.Entering.{Opens, opened_table, opens}
-use Rattle.course_laws.proofs.Stacking.{Refuses, lefts, lower_above, met_on, opened_from, stopped_there}
+use Rattle.course_laws.proofs.Stacking.{lefts, lower_above, met_on, opened_from, stopped_there, undone}
 use Rattle.course_laws.proofs.Extras.{IsSame, described_same, extra, lent, more_of}
 use Rattle.course_laws.proofs.Recording.{IsSettled, OpensTo, met, opens_to, taking, with_one}
-use Rattle.course_laws.proofs.Refusing.{IsForWords, not_due, unmet}
+use Rattle.course_laws.proofs.Refusing.{IsForWords, lenders, not_due, unmet}
 use Rattle.course_laws.proofs.Under.{Chained, IsNamed, PlainTables, Spelled, TableOf, Under, chained_cells, frames_but, still_off, tables_but}
 
 -- the outermost came into work by itself; another one with its type count by an entry under way, or without, by one recorded before
@@ -65,6 +66,18 @@ IsLastSettled n p (t ∷ ts) = 0 < t.done → IsSettled n p (entry_of p (level_t
 pub record Paces (n : Machine) (owner : ℕ) (m : Words) (ts : List TableWork) (a : Aim) : Type 0 where
   pub on : Carries n owner m ts a
   pub settled : IsLastSettled n on.plain ts
+
+-- The words m are those of an acquisition that was refused for y with these tables in work: alone it comes to a, which is refused for the same
+-- cause, and leaves what there is when the tables are undone.
+pub record RefusedWith (n : Machine) (owner : ℕ) (m : Words) (ts : List TableWork) (y : Refusal) (a : PlainOutcome) : Type 0 where
+  pub cause : Cause
+  pub same : IsCause y cause
+  pub plain : Plain
+  pub is : a ≡ refused cause (undone (lefts ts) plain)
+  pub tables : PlainTables n owner plain ts
+  pub chain : Chained plain ts
+  pub describes : Describes n m (lent (extra ts) plain)
+  pub flags : Flagged ts
 
 -- ---- one entry more
 pub chained_more : (p : Plain) (t : TableWork) (ts : List TableWork) → Chained p (t ∷ ts) → Chained p (one_entry_more t ∷ ts)
@@ -153,15 +166,25 @@ module _ (u w : PortValue) (owner : ℕ) (t : TableWork) (ts : List TableWork) (
       }
 
   -- it is refused
-  pub refused_paces : (y : Refusal) → IsForWords a.whole y → TwinEntry u w t.frame (level_type t.level) t.done owner (Err (Refused y)) → Refuses a.outcome
+  pub refused_paces : (y : Refusal) → IsForWords a.whole y → TwinEntry u w t.frame (level_type t.level) t.done owner (Err (Refused y)) → RefusedWith u.post.machine owner (told_word w) (t ∷ ts) y a.outcome
   refused_paces y known twin =
       let p = s.plain in
-      let c = unmet n m w (extra (t ∷ ts)) p owner l t.frame t.done (t ∷ ts) machine s.describes s.spelled above s.under.frames s.under.tables a.whole (λ whole g. extra_none (t ∷ ts) g (s.mine whole)) asked y asks known (enters (Err (Refused y)) twin) in
-      stopped_there n owner t.frame l t.done (lefts ts) p a.outcome few s.under.ahead c.cause (ap (λ e. (meet n owner (take_at l n owner) t.frame t.done p e).refusal) entry_is ∙ c.is)
+      let c = unmet n m w (extra (t ∷ ts)) p owner l t.frame t.done (t ∷ ts) machine s.describes s.spelled above s.under.frames s.under.tables a.whole (λ whole g. extra_none (t ∷ ts) g (s.mine whole)) (lenders n owner p (t ∷ ts) s.under.tables)
+          asked y table.inside few asks known (enters (Err (Refused y)) twin) in
+      record {
+        cause = c.refuses.cause;
+        same = c.refuses.same;
+        plain = p;
+        is = stopped_there n owner t.frame l t.done (lefts ts) p a.outcome few s.under.ahead c.refuses.cause p (ap (λ e. meet n owner (take_at l n owner) t.frame t.done p e) entry_is ∙ c.refuses.is);
+        tables = s.under.tables;
+        chain = s.under.chain;
+        describes = c.describes;
+        flags = s.flags;
+      }
 
   -- it does not pause for the gate
   pub never_due : TwinEntry u w t.frame (level_type t.level) t.done owner (Err (Paused Due)) → ⊥
-  never_due twin = not_due n m w (extra (t ∷ ts)) s.plain owner l t.frame t.done (t ∷ ts) machine s.describes s.spelled above s.under.frames s.under.tables a.whole (λ whole g. extra_none (t ∷ ts) g (s.mine whole)) asked (enters (Err (Paused Due)) twin)
+  never_due twin = not_due n m w (extra (t ∷ ts)) s.plain owner l t.frame t.done (t ∷ ts) machine s.describes s.spelled above s.under.frames s.under.tables a.whole (λ whole g. extra_none (t ∷ ts) g (s.mine whole)) (lenders n owner s.plain (t ∷ ts) s.under.tables) asked (enters (Err (Paused Due)) twin)
 
   -- it opens a table
   module _ (h progress : ℕ) (own : Bool) (twin : TwinEntry u w t.frame (level_type t.level) t.done owner (Ok (Opened h progress own))) where

@@ -211,7 +211,7 @@ module _ (n : Machine) (owner : ℕ) (m : Words) (w : PortValue) (o : TableWork)
 -- ---- the whole way down
 abbrev pub OnOutcome : Machine → ℕ → PortValue → List TableWork → Aim → Result Bool Stop → Type 0
 OnOutcome n owner w xs a (Ok done) = HalfAt n owner w [] xs a
-OnOutcome n owner w xs a (Err e) = Ends a e
+OnOutcome n owner w xs a (Err e) = Ends n owner w xs a e
 
 module _ (n : Machine) (owner : ℕ) (a : Aim) (is : IsMachine n) where
   module _ (v w : PortValue) (o : TableWork) (us : List TableWork) where
@@ -241,8 +241,8 @@ module _ (n : Machine) (owner : ℕ) (a : Aim) (is : IsMachine n) where
       never_taken f (Some y) refers a = let e = a.0 in cc
       never_taken f None refers b = never_counted n owner (told_word v) w r o rs us a is g.half refers b.1.1
 
-      ends_by : (e : Stop) (x : Option Refusal) → refer n owner r.frame (told_word v (Refs r.frame)) ≡ x → AgainBy w (told_word v) r.frame (level_type r.level) (Err e) x → Ends a e
-      ends_by e (Some y) refers b = let same : e ≡ Refused y = (let k = b.0 in cc) in subst (Ends a) (sym same) (λ known. absurd (ref_there n owner (told_word v) w r o rs us a is g.half y refers known))
+      ends_by : (e : Stop) (x : Option Refusal) → refer n owner r.frame (told_word v (Refs r.frame)) ≡ x → AgainBy w (told_word v) r.frame (level_type r.level) (Err e) x → Ends n owner w (o ∷ us) a e
+      ends_by e (Some y) refers b = let same : e ≡ Refused y = (let k = b.0 in cc) in subst (Ends n owner w (o ∷ us) a) (sym same) (λ known. absurd (ref_there n owner (told_word v) w r o rs us a is g.half y refers known))
       ends_by e None refers b = absurd (never_stopped n owner (told_word v) w r o rs us a is g.half refers e b.0)
 
       opened_by : (f progress : ℕ) (x : Option Refusal) → refer n owner r.frame (told_word v (Refs r.frame)) ≡ x → AgainBy w (told_word v) r.frame (level_type r.level) (Ok (again.Opened f progress)) x →
@@ -272,6 +272,6 @@ module _ (n : Machine) (owner : ℕ) (a : Aim) (is : IsMachine n) where
   taken_on (r ∷ rs) _ _ _ _ _ g (taken v u w t ts f some took back) = absurd (never_taken v u t ts r rs g f _ refl (found v u t ts r rs g (Ok (again.Taken f)) took))
   taken_on [] _ _ _ _ _ g (opened v u w t ts us f progress answer some took on) = absurd (let e = (last_is v u t ts (Ok (again.Opened f progress)) g some took).0 in cc)
   taken_on (r ∷ rs) _ _ _ _ _ g (opened v u w t ts us f progress answer some took on) = taken_on rs u (table_opened t f progress false true ∷ t ∷ ts) w us answer (opened_at v u t ts r rs g f progress took) on
-  taken_on rs _ _ _ _ _ g (waiting v u w t ts f stamp stop some took left) = wait_ends a stop (took.shows 0).1
+  taken_on rs _ _ _ _ _ g (waiting v u w t ts f stamp stop some took left) = wait_ends a.whole _ stop (took.shows 0).1
   taken_on [] _ _ _ _ _ g (stopped v w t ts stop some took) = absurd (let e = (last_is v w t ts (Err stop) g some took).0 in cc)
   taken_on (r ∷ rs) _ _ _ _ _ g (stopped v w t ts stop some took) = ends_by v w t ts r rs g stop _ refl (found v w t ts r rs g (Err stop) took)

@@ -1,8 +1,9 @@
 -- Tables in work, and what is left to do for them.
-use Rattle.std.proofs.Common.{◌≡◌, ℕ, suc, ◌+◌, ◌-◌, ◌<◌, ◌≤◌, true, false, List, [], ◌∷◌, Some, None, sym, ap, ◌∙◌, subst, arith}
+use Rattle.std.proofs.Common.{◌≡◌, ℕ, suc, ◌+◌, ◌-◌, ◌<◌, ◌≤◌, true, false, List, [], ◌∷◌, None, Some, sym, ap, ◌∙◌, subst, arith}
 use Rattle.xp_words.specs.Machine.{Machine}
 use Rattle.xp_words.specs.declared.entry.Demand.TheVariants.{Typed}
 use Rattle.xp_words.specs.declared.kind.PageType.{PageType}
+use Rattle.xp_words.specs.declared.reply.Refusal.{Refusal}
 use Rattle.xp_board.specs.Readings.{is_dead}
 use Rattle.kind_words.specs.Kinds.{work_kind}
 use Rattle.partial_state.specs.Levels.{level_type}
@@ -10,7 +11,9 @@ use Rattle.partial_state.specs.declared.stack.TableWork.{TableWork}
 use Rattle.table_law.specs.Alone.{Cause, PlainOutcome, fine, meet, refused, take_at, take_reference}
 use Rattle.table_law.specs.Levels.{TableLeft, entry_of}
 use Rattle.table_law.specs.Plain.{Plain, with_kind}
+use Rattle.table_law.specs.Release.{undo}
 use Rattle.table_law.specs.Stack.{next_met, rest, table_left}
+use Rattle.table_twins.specs.Answers.{IsCause}
 use Rattle.table_law.proofs.Steps.{rest_met, rest_opened, rest_stopped}
 use Rattle.course_laws.proofs.Frames.{IsAbove}
 
@@ -19,10 +22,16 @@ abbrev pub lefts : List TableWork → List TableLeft
 lefts [] = []
 lefts (t ∷ ts) = table_left t.frame (t.level - 1) (512 - t.done) ∷ lefts ts
 
--- it is refused
-pub record Refuses (a : PlainOutcome) : Type 0 where
+-- what is given back where they are undone: the entries of the innermost one that are done with, and those of the others
+abbrev pub undone : List TableLeft → Plain → Plain
+undone [] p = p
+undone (x ∷ xs) p = undo (x ∷ xs) (512 - x.ahead) p
+
+-- it is refused, for the cause of y
+pub record Refuses (y : Refusal) (a : PlainOutcome) : Type 0 where
   pub cause : Cause
   pub is : a.refusal ≡ Some cause
+  pub same : IsCause y cause
 
 -- ---- the list of them
 pub lower_above : (k l : ℕ) (ts : List TableWork) → k ≤ l → IsAbove l ts → IsAbove k ts
@@ -32,9 +41,6 @@ lower_above k l (t ∷ ts) low above = ((let b = above.0 in omega arith), above.
 -- ---- what is left to do
 pub as_fine : (o : PlainOutcome) → o.refusal ≡ None → o ≡ fine o.left
 as_fine o none = ap (λ r. record { refusal = r; left = o.left }) none
-
-as_refused : (o : PlainOutcome) (c : Cause) → o.refusal ≡ Some c → o ≡ refused c o.left
-as_refused o c is = ap (λ r. record { refusal = r; left = o.left }) is
 
 -- of a table of level l + 1 with k entries done with, by what its next entry comes to
 module _ (n : Machine) (owner f l i : ℕ) (xs : List TableLeft) (q : Plain) (a : PlainOutcome) (few : i < 512) (ahead : rest n owner (table_left f l (512 - i) ∷ xs) q ≡ a) where
@@ -53,9 +59,10 @@ module _ (n : Machine) (owner f l i : ℕ) (xs : List TableLeft) (q : Plain) (a 
   pub met_on : next.refusal ≡ None → rest n owner (table_left f l (512 - (i + 1)) ∷ xs) next.left ≡ a
   met_on none = to_next next.left (sym (rest_met n owner f l (511 - i) xs q next.left (same_next ∙ as_fine next none)) ∙ from_here)
 
-  pub stopped_there : (c : Cause) → next.refusal ≡ Some c → Refuses a
-  stopped_there c is =
-      record { cause = c; is = ap (λ (o : PlainOutcome). o.refusal) (sym from_here ∙ rest_stopped n owner f l (511 - i) xs q next.left c (same_next ∙ as_refused next c is)) }
+  pub stopped_there : (c : Cause) (p : Plain) → next ≡ refused c p → a ≡ refused c (undone (table_left f l (512 - i) ∷ xs) p)
+  stopped_there c p is =
+      let e : suc (511 - i) ≡ 512 - i = omega arith in
+      sym from_here ∙ (rest_stopped n owner f l (511 - i) xs q p c (same_next ∙ is) ∙ ap (λ k. refused c (undo (table_left f l k ∷ xs) (512 - k) p)) e)
 
 -- a dead table is opened
 module _ (n : Machine) (owner f h i g : ℕ) (t : PageType) (xs : List TableLeft) (q p : Plain) (a : PlainOutcome) (few : i < 512) (ahead : rest n owner (table_left f (suc h) (512 - i) ∷ xs) q ≡ a) where

@@ -47,15 +47,3 @@ module _ (n : Machine) (m : Words) (calm : IsAtRest n m) (orderly : IsOrderly n 
 
   pub rest_frames : AllFrames n m []
   rest_frames g inside = inl (aside_by (is_dead (kind_at m g)) g inside refl)
-
--- ---- the reference is refused
-refused_by : (n : Machine) (owner f level : ℕ) (p : Plain) (x : Refusal) (r : Option Cause) → (take_reference n owner f p).refusal ≡ r → IsSameAnswer (Some x) r → Refuses (alone n owner level f p)
-refused_by n owner f level p x None is same = absurd same
-refused_by n owner f level p x (Some c) is same = record { cause = c; is = ap (λ r. (go_on r (take_reference n owner f p).left (take_at level n owner f)).refusal) is }
-
-pub unreferred_refuses : (v w : PortValue) (f owner level : ℕ) (p : Plain) (e : Stop) → Describes v.post.machine (told_word v) p → is_telling v ≡ true → GotRef v w f owner (Err e) → IsFinal e → Refuses (alone v.post.machine owner level f p)
-unreferred_refuses v w f owner level p (Paused x) d telling got_ref final = absurd final
-unreferred_refuses v w f owner level p (Refused x) d telling got_ref final =
-    let n = v.post.machine in
-    refused_by n owner f level p x (take_reference n owner f p).refusal refl
-    (subst (λ o. IsSameAnswer o (take_reference n owner f p).refusal) (got_ref.plain telling).0 (same_answer n (told_word v) p owner f d))

@@ -5,6 +5,7 @@ use Rattle.xp_words.specs.Machine.{IsMachine, Machine}
 use Rattle.xp_words.specs.declared.place.Place.{Place}
 use Rattle.xp_words.specs.declared.place.Place.TheVariants.{Cell, Kind, Refs}
 use Rattle.xp_words.specs.declared.reply.Pause.TheVariants as pauses
+use Rattle.xp_words.specs.declared.reply.Refusal.{Refusal}
 use Rattle.xp_words.specs.declared.reply.Refusal.TheVariants as refusals
 use Rattle.xp_words.specs.declared.reply.Stop.{Stop}
 use Rattle.xp_words.specs.declared.reply.Stop.TheVariants.{Refused, Paused}
@@ -25,14 +26,14 @@ use Rattle.kind_words.specs.Kinds.{live_kind}
 use Rattle.partial_state.specs.Levels.{level_type}
 use Rattle.partial_state.specs.declared.stack.TableWork.{TableWork}
 use Rattle.table_entries.specs.declared.entries.Entered.TheVariants.{Opened, Recorded}
+use Rattle.table_law.specs.Alone.{PlainOutcome}
 use Rattle.table_twins.proofs.Kinding.{described_alike}
 use Rattle.course_laws.proofs.Extras.{extra, lent}
 use Rattle.course_laws.proofs.Under.{spelled_same}
 use Rattle.table_entries.specs.Acquiring.{Advanced, Filled, GaveBack, Joined, MadeLive, TookEntry, TookOn, asked, begun, completed, cut_off, due, fresh, one_entry_more, opened, recorded, settled, stopped, table_opened, taken, type_counts, unasked, unsettled, waiting}
-use Rattle.course_laws.proofs.Stacking.{Refuses}
 use Rattle.course_laws.proofs.Walking.{back_came}
 use Rattle.course_laws.proofs.Completing.{IsKinded, lowered_kinded, own_paces, same_kinded, shared_paces, stored_kinded}
-use Rattle.course_laws.proofs.Pacing.{Aim, Carries, IsLastSettled, Paces, never_due, opened_carries, opened_none, recorded_paces, refused_paces}
+use Rattle.course_laws.proofs.Pacing.{Aim, Carries, IsLastSettled, Paces, RefusedWith, never_due, opened_carries, opened_none, recorded_paces, refused_paces}
 use Rattle.course_laws.proofs.Refusing.{IsForWords}
 
 -- a table with nothing recorded is not taken on
@@ -55,17 +56,27 @@ pub record Steps (n : Machine) (owner : ℕ) (u : PortValue) (ts : List TableWor
   pub carries : Carries n owner (told_word u) ts a
   pub settled : done ≡ true → IsLastSettled n carries.plain ts
 
--- what it stops for: then the acquisition alone is refused, too; it is not the gate
-abbrev pub Ends : Aim → Stop → Type 0
-Ends a (Refused y) = IsForWords a.whole y → Refuses a.outcome
-Ends a (Paused pauses.Due) = ⊥
-Ends a (Paused x) = Unit {0}
+-- at a port, refused with these tables in work
+pub record RefusedAt (n : Machine) (owner : ℕ) (w : PortValue) (ts : List TableWork) (y : Refusal) (a : PlainOutcome) : Type 0 where
+  pub machine : w.post.machine ≡ n
+  pub telling : is_telling w ≡ true
+  pub words : RefusedWith n owner (told_word w) ts y a
 
-pub wait_ends : (a : Aim) (e : Stop) → IsWait e → Ends a e
-wait_ends a (Refused (refusals.Clock x)) wait = λ known. absurd known
-wait_ends a (Refused _) wait = absurd wait
-wait_ends a (Paused (pauses.Flush v y x)) wait = tt
-wait_ends a (Paused _) wait = absurd wait
+-- what it stops for, of which P holds where it is a refusal for what the words say; it is not the gate
+abbrev pub EndsAs : Bool → (Refusal → Type 0) → Stop → Type 0
+EndsAs whole P (Refused y) = IsForWords whole y → P y
+EndsAs whole P (Paused pauses.Due) = ⊥
+EndsAs whole P (Paused x) = Unit {0}
+
+pub wait_ends : (whole : Bool) (P : Refusal → Type 0) (e : Stop) → IsWait e → EndsAs whole P e
+wait_ends whole P (Refused (refusals.Clock x)) wait = λ known. absurd known
+wait_ends whole P (Refused _) wait = absurd wait
+wait_ends whole P (Paused (pauses.Flush v y x)) wait = tt
+wait_ends whole P (Paused _) wait = absurd wait
+
+-- with these tables in work
+abbrev pub Ends : Machine → ℕ → PortValue → List TableWork → Aim → Stop → Type 0
+Ends n owner w ts a e = EndsAs a.whole (λ y. RefusedAt n owner w ts y a.outcome) e
 
 -- the same machine, all told
 module _ (n : Machine) (owner : ℕ) (u w : PortValue) (a : Aim) (same : u.post.machine ≡ n) (telling : is_telling u ≡ true) (came : Came u w) where
@@ -147,7 +158,7 @@ module _ (n : Machine) (owner : ℕ) (u v : PortValue) (t : TableWork) (ts : Lis
 -- ---- one entry, or one table
 abbrev pub Outcome : Machine → ℕ → PortValue → List TableWork → Aim → Result Bool Stop → Type 0
 Outcome n owner w xs a (Ok done) = Steps n owner w xs a done
-Outcome n owner w xs a (Err e) = Ends a e
+Outcome n owner w xs a (Err e) = Ends n owner w xs a e
 
 module _ (n : Machine) (owner : ℕ) (a : Aim) (is : IsMachine n) where
   module _ (u w : PortValue) (t : TableWork) (ts : List TableWork) (b : Bool) (g : Steps n owner u (t ∷ ts) a b) (few : t.done < 512) where
@@ -166,8 +177,17 @@ module _ (n : Machine) (owner : ℕ) (a : Aim) (is : IsMachine n) where
       carries_to n owner u w a g.machine g.telling (does_came u w _ took.found) (table_opened t f progress own false ∷ one_entry_more t ∷ ts) (opened_carries u w owner t ts a carries_here is_here g.telling few f progress own took.plain),
     )
 
-    stopped_ends : (e : Stop) → TookEntry u w owner t (Err e) → Ends a e
-    stopped_ends (Refused y) took = λ known. refused_paces u w owner t ts a carries_here is_here g.telling few y known took.plain
+    refused_at : (y : Refusal) → TookEntry u w owner t (Err (Refused y)) → IsForWords a.whole y → RefusedAt n owner w (t ∷ ts) y a.outcome
+    refused_at y took known =
+        let came = does_came u w _ took.found in
+        record {
+          machine = ap (λ (p : Post). p.machine) (came_post u w came) ∙ g.machine;
+          telling = came_telling u w came ∙ g.telling;
+          words = subst (λ k. RefusedWith k owner (told_word w) (t ∷ ts) y a.outcome) g.machine (refused_paces u w owner t ts a carries_here is_here g.telling few y known took.plain);
+        }
+
+    stopped_ends : (e : Stop) → TookEntry u w owner t (Err e) → Ends n owner w (t ∷ ts) a e
+    stopped_ends (Refused y) took = λ known. refused_at y took known
     stopped_ends (Paused pauses.Due) took = never_due u w owner t ts a carries_here is_here g.telling few took.plain
     stopped_ends (Paused (pauses.Flush v y x)) took = tt
     stopped_ends (Paused (pauses.Lost x y z)) took = tt
@@ -204,7 +224,7 @@ module _ (n : Machine) (owner : ℕ) (a : Aim) (is : IsMachine n) where
   advanced b _ _ _ _ _ g (cut_off v u w t ts us f progress own stop few took on) =
       let o = opened_steps v u t ts b g few f progress own took in
       absurd (never_cut u w (one_entry_more t) (table_opened t f progress own false) ts us stop o.0 on)
-  advanced b _ _ _ _ _ g (unsettled v w t ts stop few took) = wait_ends a stop (took.shows 0).1
+  advanced b _ _ _ _ _ g (unsettled v w t ts stop few took) = wait_ends a.whole _ stop (took.shows 0).1
   advanced b _ _ _ _ _ g (stopped v w t ts stop few took) = stopped_ends v w t ts b g few stop took
   advanced b _ _ _ _ _ g (completed v u w t outer ts full made joined) = completed_by b t.own v u w t outer ts refl g full made joined
 
@@ -212,11 +232,11 @@ module _ (n : Machine) (owner : ℕ) (a : Aim) (is : IsMachine n) where
   -- the gate said yes behind an entry that is done with; or what it stops for
   abbrev pub Leads : PortValue → List TableWork → Result (Unit {0}) Stop → Type 0
   Leads w xs (Ok x) = (b : Bool) × Steps n owner w xs a b
-  Leads w xs (Err (Refused y)) = IsForWords a.whole y → Refuses a.outcome
+  Leads w xs (Err (Refused y)) = IsForWords a.whole y → RefusedAt n owner w xs y a.outcome
   Leads w xs (Err (Paused pauses.Due)) = Steps n owner w xs a true
   Leads w xs (Err (Paused x)) = Unit {0}
 
-  pub ends_lead : (w : PortValue) (xs : List TableWork) (e : Stop) → Ends a e → Leads w xs (Err e)
+  pub ends_lead : (w : PortValue) (xs : List TableWork) (e : Stop) → Ends n owner w xs a e → Leads w xs (Err e)
   ends_lead w xs (Refused y) ends = ends
   ends_lead w xs (Paused pauses.Due) ends = absurd ends
   ends_lead w xs (Paused (pauses.Flush v y x)) ends = tt

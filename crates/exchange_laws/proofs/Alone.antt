@@ -1,5 +1,5 @@
 -- Where the vCPU is alone an exchange neither pauses nor finds the clock at its last value.
-use Rattle.std.proofs.Common.{◌≡◌, ◌<◌, ◌≤◌, ℕ, Bool, true, List, length, Some, None, Result, Ok, Err, IfErr, refl}
+use Rattle.std.proofs.Common.{◌≡◌, ◌<◌, ◌≤◌, ℕ, Bool, true, List, length, Some, None, Result, Ok, Err, IfErr, refl, inl, inr, arith}
 use Rattle.xp_words.specs.Machine.{IsMachine, Machine}
 use Rattle.xp_words.specs.declared.entry.Demand.{Demand}
 use Rattle.xp_words.specs.declared.reply.Refusal.TheVariants as refusals
@@ -15,7 +15,7 @@ use Rattle.answer_laws.proofs.Shared.{alone_telling}
 use Rattle.partial_state.specs.Levels.{level_type}
 use Rattle.table_law.specs.Alone.{PlainOutcome}
 use Rattle.table_law.specs.Lawful.{IsAtRest}
-use Rattle.table_law.specs.Plain.{plain_of}
+use Rattle.table_law.specs.Plain.{Describes, Plain, plain_of}
 use Rattle.course_laws.specs.Courses.{ClockGoesOn, IsFinal, IsOrderly}
 use Rattle.course_laws.proofs.Awaiting.{AloneStays, NeitherLostNorBusy, NobodyWaitedFor, alone_orderly, decided}
 use Rattle.course_laws.proofs.Stopping.{StopsAs, acquired_stops, ahead_of, behind, stops_here}
@@ -27,7 +27,7 @@ use Rattle.entry_exchange.specs.Course as course
 use Rattle.entry_exchange.specs.Course.{Exchanged, PutEntry, TookDemand, new_demand}
 use Rattle.entry_exchange.specs.Holding.{owner_at}
 use Rattle.entry_exchange.specs.declared.exchanging.EntryUpdate.{EntryUpdate}
-use Rattle.exchange_laws.specs.Plain.{EndsAsPlain, ExchangesAsPlain, exchanged_plain}
+use Rattle.exchange_laws.specs.Plain.{ComesAsPlain, EndsAsPlain, ExchangesAsPlain, LeavesPlain, exchanged_plain}
 use Rattle.exchange_laws.proofs.Going.{page_left_came}
 use Rattle.exchange_laws.proofs.Unlocking.{lock_came}
 use Rattle.table_entries.proofs.Shared.{ref_came, gave_came}
@@ -90,8 +90,17 @@ module _ (stays : AloneStays) (neither : NeitherLostNorBusy) (nobody : NobodyWai
 abbrev pub LeavesAsPlain : Type 0
 LeavesAsPlain =
     (v w : PortValue) (x : EntryUpdate) (o : Owners) (answers : List Bool) (r : Result (Unit {0}) Stop) → IsMachine v.post.machine → is_telling v ≡ true → IsAtRest v.post.machine (told_word v) → IsOrderly v.post.machine (told_word v) →
-    1 ≤ x.level → x.level ≤ 4 → x.table < v.post.machine.frames → x.index < 512 → Exchanged v x o w answers r → yeses answers ≡ 0 →
-    ExchangesAsPlain v.post.machine w x.level (exchanged_plain v.post.machine x o (plain_of (told_word v))) r
+    1 ≤ x.level → x.level ≤ 4 → x.table < v.post.machine.frames → x.index < 512 → Exchanged v x o w answers r →
+    ComesAsPlain v.post.machine w x.level (exchanged_plain v.post.machine x o (plain_of (told_word v))) answers r
+
+-- where the gate said no, nothing is left to be settled
+calm_leaves : (n : Machine) (w : PortValue) (answers : List Bool) (q : Plain) → yeses answers ≡ 0 → LeavesPlain n w answers q → Describes n (told_word w) q
+calm_leaves n w answers q none (inl d) = d
+calm_leaves n w answers q none (inr (said, left)) = absurd (omega (arith, said, none))
+
+calm_comes : (n : Machine) (w : PortValue) (level : ℕ) (a : PlainOutcome) (answers : List Bool) (r : Result (Unit {0}) Stop) → yeses answers ≡ 0 → ComesAsPlain n w level a answers r → ExchangesAsPlain n w level a r
+calm_comes n w level a answers (Ok done) none is = (is.0, calm_leaves n w answers a.left none is.1)
+calm_comes n w level a answers (Err e) none is = is
 
 -- so alone it ends as the plain one
 pub ends_alone : AloneStays → NeitherLostNorBusy → NobodyWaitedFor → LeavesAsPlain → (v w : PortValue) (x : EntryUpdate) (o : Owners) (answers : List Bool) (r : Result (Unit {0}) Stop) → IsAlone v → length v.post.machine.vcpu_domain ≡ 1 →
@@ -99,4 +108,5 @@ pub ends_alone : AloneStays → NeitherLostNorBusy → NobodyWaitedFor → Leave
     IfErr r (λ e. Stops v w (of_exchange x o r) e) → EndsAsPlain v.post.machine w x.level (exchanged_plain v.post.machine x o (plain_of (told_word v))) r
 ends_alone stays neither nobody leaves v w x o answers r alone one calm goes low high frame few exchange none stops =
     ends_by v.post.machine w x.level (exchanged_plain v.post.machine x o (plain_of (told_word v))) r (exchange_ended stays neither nobody v x o alone one w answers r exchange goes none stops)
-    (leaves v w x o answers r alone.state.sound.machine (alone_telling v alone) calm (alone_orderly v alone) low high frame few exchange none)
+    (calm_comes v.post.machine w x.level (exchanged_plain v.post.machine x o (plain_of (told_word v))) answers r none
+    (leaves v w x o answers r alone.state.sound.machine (alone_telling v alone) calm (alone_orderly v alone) low high frame few exchange))

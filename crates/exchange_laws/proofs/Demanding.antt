@@ -14,7 +14,7 @@ use Rattle.table_law.specs.Plain.{Describes, Plain, plain_of}
 use Rattle.table_entries.specs.Acquiring.{GaveRef, GotRef, TookType}
 use Rattle.course_laws.specs.Courses.{IsOrderly}
 use Rattle.course_laws.proofs.Calling.{IsDone}
-use Rattle.course_laws.proofs.Deciding.{one_call}
+use Rattle.course_laws.proofs.Deciding.{last_refuses, one_call}
 use Rattle.course_laws.proofs.Starting.{described}
 use Rattle.writable_pages.specs.Pages as pages
 use Rattle.writable_pages.specs.Pages.{GotPage, TookPage}
@@ -88,4 +88,5 @@ module _ (v : PortValue) (owner : ℕ) (machine : IsMachine v.post.machine) (tel
     demand_took _ _ _ _ (course.unpaged w g stop one page) = at_one g w (Err stop) one (page_got g level w (Err stop) page)
     demand_took _ _ _ _ (course.acquired w g answers two had) = let a = one_call v g owner (level - 1) machine telling calm orderly (omega arith) (omega arith) w answers (Ok g) had in (a.none, a.describes)
     demand_took _ _ _ _ (course.refused w g answers stop two had) =
-        stopped_above n w level (alone n owner (level - 1) g p) stop two (one_call v g owner (level - 1) machine telling calm orderly (omega arith) (omega arith) w answers (Err stop) had)
+        stopped_above n w level (alone n owner (level - 1) g p) stop two
+        (last_refuses n owner v w g (level - 1) (alone n owner (level - 1) g p) stop (one_call v g owner (level - 1) machine telling calm orderly (omega arith) (omega arith) w answers (Err stop) had))

@@ -1,5 +1,5 @@
 -- The whole exchange, from words at rest but for the lock on the table.
-use Rattle.std.proofs.Common.{◌≡◌, ℕ, suc, ◌-◌, ◌<◌, ◌≤◌, ◌++◌, Bool, true, false, List, Option, Some, None, Result, Ok, Err, refl, sym, ap, ◌∙◌, subst, arith}
+use Rattle.std.proofs.Common.{◌≡◌, ℕ, suc, ◌-◌, ◌<◌, ◌≤◌, ◌++◌, Bool, true, false, List, [], inl, inr, Option, Some, None, Result, Ok, Err, refl, sym, ap, ◌∙◌, subst, arith}
 use Rattle.std.proofs.Math.Path.{fun_ext}
 use Rattle.xp_words.specs.Entries.{demand_at}
 use Rattle.xp_words.specs.Machine.{IsMachine, Machine}
@@ -30,12 +30,12 @@ use Rattle.entry_exchange.specs.Course.{Exchanged, LeftLock, PutsNew, ReleasedDe
 use Rattle.entry_exchange.specs.Holding.{owner_at}
 use Rattle.entry_exchange.specs.Words.{same_demand, word_kept}
 use Rattle.entry_exchange.specs.declared.exchanging.EntryUpdate.{EntryUpdate}
-use Rattle.exchange_laws.specs.Plain.{ExchangesAsPlain, exchange_by, exchange_for, exchanged_plain, put_on, unlocked_plain, with_cell}
+use Rattle.exchange_laws.specs.Plain.{ComesAsPlain, ExchangesAsPlain, LeavesPlain, exchange_by, exchange_for, exchanged_plain, put_on, unlocked_plain, with_cell}
 use Rattle.exchange_laws.proofs.Cells.{meet_keeps}
 use Rattle.exchange_laws.proofs.Demanding.{demand_took}
 use Rattle.exchange_laws.proofs.Going.{demand_came}
 use Rattle.exchange_laws.proofs.Putting.{entry_put, put_came}
-use Rattle.exchange_laws.proofs.Releasing.{ReleasesAsPlain, demand_released}
+use Rattle.exchange_laws.proofs.Releasing.{PausesAsPlain, ReleasesAsPlain, demand_released}
 use Rattle.exchange_laws.proofs.Unlocking.{lock_came, lock_off}
 
 -- ---- what is refused, and then given back
@@ -75,8 +75,13 @@ by_other n owner x new old p demands.Bad good = absurd (good refl)
 by_other n owner x new old p (demands.Read g) good = refl
 by_other n owner x new old p (demands.Typed g t) good = refl
 
+-- the gate was asked before, too
+more_answers : (n : Machine) (w : PortValue) (answers more : List Bool) (q : Plain) → LeavesPlain n w more q → LeavesPlain n w (more ++ answers) q
+more_answers n w answers more q (inl d) = inl d
+more_answers n w answers more q (inr (said, left)) = let sum = yeses_then answers more in inr (omega (arith, sum, said), left)
+
 -- ---- from the words before
-module _ (releases : ReleasesAsPlain) (v : PortValue) (x : EntryUpdate) (o : Owners) (machine : IsMachine v.post.machine) (telling : is_telling v ≡ true) (calm : IsAtRest v.post.machine (told_word v)) (orderly : IsOrderly v.post.machine (told_word v))
+module _ (releases : ReleasesAsPlain) (pauses : PausesAsPlain) (v : PortValue) (x : EntryUpdate) (o : Owners) (machine : IsMachine v.post.machine) (telling : is_telling v ≡ true) (calm : IsAtRest v.post.machine (told_word v)) (orderly : IsOrderly v.post.machine (told_word v))
     (low : 1 ≤ x.level) (high : x.level ≤ 4) (frame : x.table < v.post.machine.frames) (few : x.index < 512) where
   abbrev n : Machine
   n = v.post.machine
@@ -126,15 +131,15 @@ module _ (releases : ReleasesAsPlain) (v : PortValue) (x : EntryUpdate) (o : Own
     bad_whole : (w : PortValue) → new_demand x seen ≡ demands.Bad → LeftLock u x.table x.level w → ExchangesAsPlain n w x.level whole (Err (Refused (refusals.Reserved x.table x.index new)))
     bad_whole w bad lock =
         subst (λ d. ExchangesAsPlain n w x.level (exchange_by n owner x new (old_demand x seen) p d) (Err (Refused (refusals.Reserved x.table x.index new)))) (sym bad)
-        (λ one. (refl, refl, refl), λ one. lock_off n u w x.table x.level p on_u.same on_u.tells low at_u lock)
+        ((refl, refl, refl), λ one. lock_off n u w x.table x.level p on_u.same on_u.tells low at_u lock)
 
     -- ---- both ask the same
-    same_whole : (y w : PortValue) (old : ℕ) → same_demand (new_demand x seen) (old_demand x seen) ≡ true → PutsNew u y x seen (Ok old) → Came u y → LeftLock y x.table x.level w → ExchangesAsPlain n w x.level whole (Ok tt)
+    same_whole : (y w : PortValue) (old : ℕ) → same_demand (new_demand x seen) (old_demand x seen) ≡ true → PutsNew u y x seen (Ok old) → Came u y → LeftLock y x.table x.level w → ComesAsPlain n w x.level whole [] (Ok tt)
     same_whole y w old same puts came lock =
         let put = entry_put n u y x.table x.index seen new x.keep (Ok old) p on_u.tells at_u puts in
         let on = goes_on u y on_u came in
-        subst (λ a. ExchangesAsPlain n w x.level a (Ok tt)) (sym (whole_by true (same_good (new_demand x seen) (old_demand x seen) same) same))
-        (refl, lock_off n y w x.table x.level (with_cell x.table x.index new p) on.same on.tells low put.1 lock)
+        subst (λ a. ComesAsPlain n w x.level a [] (Ok tt)) (sym (whole_by true (same_good (new_demand x seen) (old_demand x seen) same) same))
+        (refl, inl (lock_off n y w x.table x.level (with_cell x.table x.index new p) on.same on.tells low put.1 lock))
 
     -- ---- what the new one asks is taken first
     abbrev taking : PlainOutcome
@@ -165,8 +170,8 @@ module _ (releases : ReleasesAsPlain) (v : PortValue) (x : EntryUpdate) (o : Own
 
     -- the word is put there, the lock goes off, and what the old one asked is released
     done_whole : (y z a w : PortValue) (old : ℕ) (answers more : List Bool) → same_demand (new_demand x seen) (old_demand x seen) ≡ false → TookNew u y x o seen answers (Ok tt) → PutsNew y z x seen (Ok old) → LeftLock z x.table x.level a →
-        ReleasedDemand a (old_demand x old) w more → yeses (more ++ answers) ≡ 0 → ExchangesAsPlain n w x.level whole (Ok tt)
-    done_whole y z a w old answers more differ taken puts lock gone none =
+        ReleasedDemand a (old_demand x old) w more → ComesAsPlain n w x.level whole (more ++ answers) (Ok tt)
+    done_whole y z a w old answers more differ taken puts lock gone =
         let t = took y answers (Ok tt) taken in
         let on_y = took_on y answers (Ok tt) taken in
         let put = entry_put n y z x.table x.index seen new x.keep (Ok old) taking.left on_y.tells t.1 puts in
@@ -175,24 +180,23 @@ module _ (releases : ReleasesAsPlain) (v : PortValue) (x : EntryUpdate) (o : Own
         let off = lock_off n z a x.table x.level (with_cell x.table x.index new taking.left) on_z.same on_z.tells low put.1 lock in
         let on_a = goes_on z a on_z (lock_came z a x.table x.level lock) in
         let free = unlocked_plain x.level x.table (with_cell x.table x.index new taking.left) in
-        let sum = yeses_then answers more in
-        let gave = demand_released releases n a machine on_a.same on_a.tells (x.level - 1) (omega (arith, high)) free off (old_demand x old) w more (asks old) gone (omega (arith, sum, none)) in
-        subst (λ b. ExchangesAsPlain n w x.level b (Ok tt))
+        let gave = demand_released releases pauses n a machine on_a.same on_a.tells (x.level - 1) (omega (arith, high)) free off (old_demand x old) w more (asks old) gone in
+        subst (λ b. ComesAsPlain n w x.level b (more ++ answers) (Ok tt))
         (sym (whole_by false (took_good owner x.level u (new_demand x seen) y answers (Ok tt) taken) differ ∙ or_done taking.refusal taking.left (unlocked_plain x.level x.table) (λ q. fine (put_on x new (old_demand x seen) q)) t.0))
-        (refl, subst (λ c. Describes n (told_word w) (drop_demand (let_go (x.level - 1)) free (old_demand x c))) was gave)
+        (refl, more_answers n w answers more _ (subst (λ c. LeavesPlain n w more (drop_demand (let_go (x.level - 1)) free (old_demand x c))) was gave))
 
   -- ---- the law
-  pub exchange_plain : (w : PortValue) (answers : List Bool) (r : Result (Unit {0}) Stop) → Exchanged v x o w answers r → yeses answers ≡ 0 → ExchangesAsPlain v.post.machine w x.level (exchanged_plain v.post.machine x o (plain_of (told_word v))) r
-  exchange_plain _ _ _ (course.bad u w seen saw bad lock) none =
+  pub exchange_plain : (w : PortValue) (answers : List Bool) (r : Result (Unit {0}) Stop) → Exchanged v x o w answers r → ComesAsPlain v.post.machine w x.level (exchanged_plain v.post.machine x o (plain_of (told_word v))) answers r
+  exchange_plain _ _ _ (course.bad u w seen saw bad lock) =
       subst (λ a. ExchangesAsPlain n w x.level a (Err (Refused (refusals.Reserved x.table x.index (word_kept x.keep seen x.word))))) (sym (is_whole u seen saw)) (bad_whole u seen saw w bad lock)
-  exchange_plain _ _ _ (course.same u y w seen old saw same puts lock) none =
-      subst (λ a. ExchangesAsPlain n w x.level a (Ok tt)) (sym (is_whole u seen saw)) (same_whole u seen saw y w old same puts (put_came u y x.table x.index seen (word_kept x.keep seen x.word) x.keep (Ok old) puts) lock)
-  exchange_plain _ _ _ (course.unput u y w seen stop saw same puts lock) none =
+  exchange_plain _ _ _ (course.same u y w seen old saw same puts lock) =
+      subst (λ a. ComesAsPlain n w x.level a [] (Ok tt)) (sym (is_whole u seen saw)) (same_whole u seen saw y w old same puts (put_came u y x.table x.index seen (word_kept x.keep seen x.word) x.keep (Ok old) puts) lock)
+  exchange_plain _ _ _ (course.unput u y w seen stop saw same puts lock) =
       entry_put n u y x.table x.index seen (word_kept x.keep seen x.word) x.keep (Err stop) p (on_u u seen saw).tells (at_u u seen saw) puts w x.level (exchanged_plain n x o p)
-  exchange_plain _ _ _ (course.untaken u y w seen answers stop saw differ a lock) none =
+  exchange_plain _ _ _ (course.untaken u y w seen answers stop saw differ a lock) =
       subst (λ b. ExchangesAsPlain n w x.level b (Err stop)) (sym (is_whole u seen saw)) (untaken_whole u seen saw y w answers stop differ a lock)
-  exchange_plain _ _ _ (course.lost u y z a w seen answers stop saw differ taken puts gave lock) none =
+  exchange_plain _ _ _ (course.lost u y z a w seen answers stop saw differ taken puts gave lock) =
       let t = took u seen saw y answers (Ok tt) taken in
       entry_put n y z x.table x.index seen (word_kept x.keep seen x.word) x.keep (Err stop) (taking u seen saw).left (took_on u seen saw y answers (Ok tt) taken).tells t.1 puts w x.level (exchanged_plain n x o p)
-  exchange_plain _ _ _ (course.done u y z a w seen old answers more saw differ taken puts lock gone) none =
-      subst (λ b. ExchangesAsPlain n w x.level b (Ok tt)) (sym (is_whole u seen saw)) (done_whole u seen saw y z a w old answers more differ taken puts lock gone none)
+  exchange_plain _ _ _ (course.done u y z a w seen old answers more saw differ taken puts lock gone) =
+      subst (λ b. ComesAsPlain n w x.level b (more ++ answers) (Ok tt)) (sym (is_whole u seen saw)) (done_whole u seen saw y z a w old answers more differ taken puts lock gone)

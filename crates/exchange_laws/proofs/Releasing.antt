@@ -1,5 +1,5 @@
--- What the old word asked is released as on the plain value, where the gate says no.
-use Rattle.std.proofs.Common.{◌≡◌, ℕ, ◌<◌, ◌≤◌, Option, Bool, true, false, List, [], ◌∷◌, Result, Ok, Err, IfErr, refl, sym, ap, subst}
+-- What the old word asked is released as on the plain value, or that is left to be settled.
+use Rattle.std.proofs.Common.{◌≡◌, ◌⊎◌, inl, inr, arith, ℕ, zero, suc, ◌<◌, ◌≤◌, Option, Bool, true, false, List, [], ◌∷◌, Result, Ok, Err, IfErr, refl, sym, ap, subst}
 use Rattle.xp_words.specs.Machine.{IsMachine, Machine}
 use Rattle.xp_words.specs.declared.entry.Demand.{Demand}
 use Rattle.xp_words.specs.declared.entry.Demand.TheVariants.{Typed}
@@ -24,6 +24,8 @@ use Rattle.level_release.specs.Course.{Emptied, Lowered, RanDown, WasReleased}
 use Rattle.entry_exchange.specs.Course as course
 use Rattle.entry_exchange.specs.Course.{ReleasedDemand}
 use Rattle.release_laws.proofs.Seen.{drops_seen}
+use Rattle.release_laws.specs.Pauses.{IsLeft}
+use Rattle.exchange_laws.specs.Plain.{LeavesPlain}
 use Rattle.exchange_laws.proofs.Given.{given_back}
 
 -- the law of releases
@@ -31,6 +33,11 @@ abbrev pub ReleasesAsPlain : Type 0
 ReleasesAsPlain =
     (v w : PortValue) (f level : ℕ) (answers : List Bool) (p : Plain) → IsMachine v.post.machine → is_telling v ≡ true → f < v.post.machine.frames → level ≤ 4 →
     Describes v.post.machine (told_word v) p → WasReleased v f (level_type level) w answers (Ok tt) → Describes v.post.machine (told_word w) (let_go level f p)
+
+abbrev pub PausesAsPlain : Type 0
+PausesAsPlain =
+    (v w : PortValue) (f level : ℕ) (answers : List Bool) (p : Plain) → is_telling v ≡ true → f < v.post.machine.frames → level ≤ 4 → Describes v.post.machine (told_word v) p →
+    WasReleased v f (level_type level) w answers (Err (Paused Due)) → IsLeft v.post.machine w f level (let_go level f p)
 
 -- ---- it pauses for the gate only where that said yes
 -- no call in it is paused for the gate
@@ -67,18 +74,33 @@ released_inside v f t _ _ _ telling (release.shared u w on drops gave) = drops_i
 released_inside v f t _ _ _ telling (release.last u x w word level answers answer on same high drops look empties) = drops_inside v u f true drops
 
 -- ---- by what it asked
-module _ (releases : ReleasesAsPlain) (n : Machine) (v : PortValue) (machine : IsMachine n) (same : v.post.machine ≡ n) (telling : is_telling v ≡ true) (l : ℕ) (high : l ≤ 4) (p : Plain) (d : Describes n (told_word v) p) where
+some_yes : (k : ℕ) → (k ≡ 0 → ⊥) → 0 < k
+some_yes zero off = absurd (off refl)
+some_yes (suc k) off = omega arith
+
+module _ (releases : ReleasesAsPlain) (pauses : PausesAsPlain) (n : Machine) (v : PortValue) (machine : IsMachine n) (same : v.post.machine ≡ n) (telling : is_telling v ≡ true) (l : ℕ) (high : l ≤ 4) (p : Plain) (d : Describes n (told_word v) p) where
+  there : Describes v.post.machine (told_word v) p
+  there = subst (λ k. Describes k (told_word v) p) (sym same) d
+
   done_by : (w : PortValue) (g : ℕ) (answers : List Bool) → WasReleased v g (level_type l) w answers (Ok tt) → Describes n (told_word w) (let_go l g p)
   done_by w g answers was =
       subst (λ k. Describes k (told_word w) (let_go l g p)) same
-      (releases v w g l answers p (subst IsMachine (sym same) machine) telling (released_inside v g (level_type l) w answers (Ok tt) telling was) high (subst (λ k. Describes k (told_word v) p) (sym same) d) was)
+      (releases v w g l answers p (subst IsMachine (sym same) machine) telling (released_inside v g (level_type l) w answers (Ok tt) telling was) high there was)
 
-  typed_by : (w : PortValue) (g : ℕ) (answers : List Bool) (r : Result (Unit {0}) Stop) → WasReleased v g (level_type l) w answers r → IfErr r (λ stop. stop ≡ Paused Due) → yeses answers ≡ 0 → Describes n (told_word w) (let_go l g p)
-  typed_by w g answers (Ok done) was due none = done_by w g answers was
-  typed_by w g answers (Err stop) was due none = absurd (release_calm v g (level_type l) w answers (Err stop) was (ap (λ s. Err s) due) none)
+  rest_by : (w : PortValue) (g : ℕ) (answers : List Bool) → WasReleased v g (level_type l) w answers (Err (Paused Due)) → IsLeft n w g l (let_go l g p)
+  rest_by w g answers was =
+      subst (λ k. IsLeft k w g l (let_go l g p)) same (pauses v w g l answers p telling (released_inside v g (level_type l) w answers (Err (Paused Due)) telling was) high there was)
 
-  pub demand_released : (e : Demand) (w : PortValue) (answers : List Bool) → ((g : ℕ) (t : PageType) → e ≡ Typed g t → t ≡ level_type l) → ReleasedDemand v e w answers → yeses answers ≡ 0 → Describes n (told_word w) (drop_demand (let_go l) p e)
-  demand_released _ _ _ asks course.nothing none = d
-  demand_released _ _ _ asks course.bad none = d
-  demand_released _ _ _ asks (course.referred w g gave) none = given_back n v w g p same telling d gave
-  demand_released _ _ _ asks (course.released w g t answers r was due) none = typed_by w g answers r (subst (λ k. WasReleased v g k w answers r) (asks g t refl) was) due none
+  typed_by : (w : PortValue) (g : ℕ) (answers : List Bool) (r : Result (Unit {0}) Stop) → WasReleased v g (level_type l) w answers r → IfErr r (λ stop. stop ≡ Paused Due) → LeavesPlain n w answers (let_go l g p)
+  typed_by w g answers (Ok done) was due = inl (done_by w g answers was)
+  typed_by w g answers (Err stop) was due =
+      inr (
+        some_yes (yeses answers) (release_calm v g (level_type l) w answers (Err stop) was (ap (λ s. Err s) due)),
+        (g, l, rest_by w g answers (subst (λ s. WasReleased v g (level_type l) w answers (Err s)) due was)),
+      )
+
+  pub demand_released : (e : Demand) (w : PortValue) (answers : List Bool) → ((g : ℕ) (t : PageType) → e ≡ Typed g t → t ≡ level_type l) → ReleasedDemand v e w answers → LeavesPlain n w answers (drop_demand (let_go l) p e)
+  demand_released _ _ _ asks course.nothing = inl d
+  demand_released _ _ _ asks course.bad = inl d
+  demand_released _ _ _ asks (course.referred w g gave) = inl (given_back n v w g p same telling d gave)
+  demand_released _ _ _ asks (course.released w g t answers r was due) = typed_by w g answers r (subst (λ k. WasReleased v g k w answers r) (asks g t refl) was) due

@@ -31,32 +31,29 @@ use Rattle.course_laws.specs.Courses.{IsFinal, IsOrderly}
 use Rattle.course_laws.proofs.Calling.{IsDone}
 use Rattle.course_laws.proofs.Frames.{count_at, frame_ready}
 use Rattle.course_laws.proofs.Lending.{fine_there, lent_there, was_room}
-use Rattle.course_laws.proofs.Stacking.{Refuses}
+use Rattle.course_laws.proofs.Deciding.{RefusesAs}
 use Rattle.course_laws.proofs.Starting.{described, rest_frames}
 use Rattle.exchange_laws.specs.Plain.{ExchangesAsPlain, IsRefusedFor}
 use Rattle.exchange_laws.proofs.Given.{given_back}
 
 -- ---- what a refusal comes to
-stopped_by : (n : Machine) (w : PortValue) (level : ℕ) (a : PlainOutcome) (y : Refusal) → IsRefusedFor level y a.refusal → (level ≡ 1 → Describes n (told_word w) a.left) → ExchangesAsPlain n w level a (Err (Refused y))
+stopped_by : (n : Machine) (w : PortValue) (level : ℕ) (a : PlainOutcome) (y : Refusal) → IsRefusedFor y a.refusal → (level ≡ 1 → Describes n (told_word w) a.left) → ExchangesAsPlain n w level a (Err (Refused y))
 stopped_by n w level a (refusals.Clock x) refuses left = tt
 stopped_by n w level a _ refuses left = (refuses, left)
 
 pub stopped_with : (n : Machine) (w : PortValue) (level : ℕ) (a : PlainOutcome) (y : Refusal) (c : Cause) → a.refusal ≡ Some c → IsCause y c → Describes n (told_word w) a.left → ExchangesAsPlain n w level a (Err (Refused y))
-stopped_with n w level a y c is same d = stopped_by n w level a y (subst (λ r. IsRefusedFor level y r) (sym is) (λ one. same)) (λ one. d)
+stopped_with n w level a y c is same d = stopped_by n w level a y (subst (λ r. IsRefusedFor y r) (sym is) same) (λ one. d)
 
--- above level 1 nothing is said of the words, nor of the cause
+-- above level 1 nothing is said of the words
 for_clock_or_not : (y : Refusal) → ((x : ℕ) × (y ≡ refusals.Clock x)) ⊎ IsFinal (Refused y)
 for_clock_or_not (refusals.Clock x) = inl (x, refl)
 for_clock_or_not _ = inr tt
 
-pub stopped_above : (n : Machine) (w : PortValue) (level : ℕ) (a : PlainOutcome) (e : Stop) → 2 ≤ level → (IsFinal e → Refuses a) → ExchangesAsPlain n w level a (Err e)
+pub stopped_above : (n : Machine) (w : PortValue) (level : ℕ) (a : PlainOutcome) (e : Stop) → 2 ≤ level → (IsFinal e → RefusesAs a e) → ExchangesAsPlain n w level a (Err e)
 stopped_above n w level a (Refused y) above refuses =
     elim (for_clock_or_not y) [
       | inl clock ↦ subst (λ z. ExchangesAsPlain n w level a (Err (Refused z))) (sym clock.1) tt
-      | inr final ↦
-          let none_below : level ≡ 1 → ⊥ = λ one. omega (arith, one, above) in
-          let r = refuses final in
-          stopped_by n w level a y (subst (λ o. IsRefusedFor level y o) (sym r.is) (λ one. absurd (none_below one))) (λ one. absurd (none_below one))
+      | inr final ↦ let r = refuses final in stopped_by n w level a y (subst (λ o. IsRefusedFor y o) (sym r.is) r.same) (λ one. absurd (omega (arith, one, above)))
     ]
 stopped_above n w level a (Paused x) above refuses = tt
 

@@ -1,5 +1,5 @@
 -- The plain exchange of an entry: what it answers, and what it leaves, by the plain value of the frames.
-use Rattle.std.specs.Prelude.{◌≡◌, ℕ, ◌-◌, ◌==◌, ◌&&◌, if◌then◌else◌, Bool, true, false, Option, Some, None, Result, Ok, Err}
+use Rattle.std.specs.Prelude.{◌≡◌, ◌⊎◌, ℕ, ◌-◌, ◌<◌, ◌==◌, ◌&&◌, if◌then◌else◌, Bool, true, false, List, Option, Some, None, Result, Ok, Err}
 use Rattle.xp_words.specs.Entries.{demand_at}
 use Rattle.xp_words.specs.Machine.{Machine}
 use Rattle.xp_words.specs.declared.entry.Demand.{Demand}
@@ -10,6 +10,7 @@ use Rattle.xp_words.specs.declared.reply.Refusal.TheVariants as refusals
 use Rattle.xp_words.specs.declared.reply.Stop.{Stop}
 use Rattle.xp_words.specs.declared.reply.Stop.TheVariants.{Refused, Paused}
 use Rattle.xp_board.specs.Told.{PortValue, told_word}
+use Rattle.xp_preempt.specs.Gates.{yeses}
 use Rattle.kind_words.specs.Kinds.{partial_kind}
 use Rattle.partial_state.specs.Levels.{level_type}
 use Rattle.table_law.specs.Alone.{Cause, PlainOutcome, Reserved, fine, meet, refused, take_at, then_or}
@@ -17,6 +18,7 @@ use Rattle.table_law.specs.Levels.{entry_of}
 use Rattle.table_law.specs.Plain.{Describes, Plain, reference_back, with_kind}
 use Rattle.table_law.specs.Release.{drop_demand, let_go}
 use Rattle.table_twins.specs.Answers.{IsCause}
+use Rattle.release_laws.specs.Pauses.{IsLeft}
 use Rattle.foreign_map.specs.declared.owners.Owners.{Owners}
 use Rattle.entry_exchange.specs.Holding.{owner_at}
 use Rattle.entry_exchange.specs.Words.{same_demand, word_kept}
@@ -57,17 +59,25 @@ abbrev pub exchanged_plain : Machine → EntryUpdate → Owners → Plain → Pl
 exchanged_plain n x o p = exchange_by n (owner_at x.level o.tables o.frames) x (new_word x p) (entry_of p (level_type x.level) x.table x.index) p (demand_at (level_type x.level) x.index (new_word x p))
 
 -- ---- what an exchange comes to
--- refused there, too, and at level 1 for the same cause
-abbrev pub IsRefusedFor : ℕ → Refusal → Option Cause → Type 0
-IsRefusedFor level r None = ⊥
-IsRefusedFor level r (Some c) = level ≡ 1 → IsCause r c
+abbrev pub IsRefusedFor : Refusal → Option Cause → Type 0
+IsRefusedFor r None = ⊥
+IsRefusedFor r (Some c) = IsCause r c
 
--- done, the plain one is fine, and leaves these words; refused, it is refused, too, and at level 1, where no table is taken, leaves these words
+-- Done, the plain one is fine, and leaves these words; refused, it is refused for the same cause, and at level 1, where no table is taken, leaves these words.
 abbrev pub ExchangesAsPlain : Machine → PortValue → ℕ → PlainOutcome → Result (Unit {0}) Stop → Type 0
 ExchangesAsPlain n w level a (Ok done) = (a.refusal ≡ None) × Describes n (told_word w) a.left
 ExchangesAsPlain n w level a (Err (Refused (refusals.Clock found))) = Unit {0}
-ExchangesAsPlain n w level a (Err (Refused r)) = IsRefusedFor level r a.refusal × (level ≡ 1 → Describes n (told_word w) a.left)
+ExchangesAsPlain n w level a (Err (Refused r)) = IsRefusedFor r a.refusal × (level ≡ 1 → Describes n (told_word w) a.left)
 ExchangesAsPlain n w level a (Err (Paused x)) = Unit {0}
+
+-- The words w are q; or the gate said yes, and the release of a table is unfinished, which the first old word names: it leaves q.
+abbrev pub LeavesPlain : Machine → PortValue → List Bool → Plain → Type 0
+LeavesPlain n w answers q = Describes n (told_word w) q ⊎ ((0 < yeses answers) × ((f : ℕ) × (level : ℕ) × IsLeft n w f level q))
+
+-- the same, where the gate may have said yes
+abbrev pub ComesAsPlain : Machine → PortValue → ℕ → PlainOutcome → List Bool → Result (Unit {0}) Stop → Type 0
+ComesAsPlain n w level a answers (Ok done) = (a.refusal ≡ None) × LeavesPlain n w answers a.left
+ComesAsPlain n w level a answers (Err e) = ExchangesAsPlain n w level a (Err e)
 
 -- where the vCPU is alone, it is neither paused nor refused for the clock
 abbrev pub EndsAsPlain : Machine → PortValue → ℕ → PlainOutcome → Result (Unit {0}) Stop → Type 0

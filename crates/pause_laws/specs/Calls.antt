@@ -7,7 +7,7 @@ use Rattle.xp_words.specs.declared.reply.Stop.TheVariants.{Paused}
 use Rattle.xp_board.specs.Readings.{ref_count}
 use Rattle.xp_board.specs.Told.{PortValue, is_telling, told_word}
 use Rattle.step_maker.specs.Moves.{Met, Moment}
-use Rattle.step_maker.specs.Plain.{Leaves}
+use Rattle.step_maker.specs.Twins.{Alike}
 use Rattle.table_entries.specs.Acquiring.{Acquired}
 use Rattle.course_laws.specs.Courses.{FindsAlive}
 
@@ -15,11 +15,12 @@ use Rattle.course_laws.specs.Courses.{FindsAlive}
 abbrev pub HasRoom : PortValue → PortValue → Type 0
 HasRoom v w = (m : Moment) (g : ℕ) → Met v w m → m.place ≡ Refs g → ref_count m.found < v.post.machine.limit
 
--- a call begins where the last one ended: on the same machine, whose words are all told, and are the same
+-- A call begins where the last one ended: on the same machine, whose words are all told, and are alike but for stamps, the clock and the words of flushes.
+-- (A turn may begin with a flush.)
 pub record StaysFrom (v w : PortValue) : Type 0 where
   pub machine : w.post.machine ≡ v.post.machine
   pub telling : is_telling w ≡ true
-  pub words : Leaves w (told_word v)
+  pub words : Alike (told_word w) (told_word v)
 
 -- Acquisitions of one frame for one owner and level, of which the first is a resumption: each but the last one is paused by the gate, and
 -- finds the owner alive where it looks for that (it does so where the frame is another domain's).

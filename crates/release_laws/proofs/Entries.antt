@@ -1,5 +1,5 @@
 -- An entry that is released, by its steps and the words that they leave; and the plain release of what it asks.
-use Rattle.std.proofs.Common.{◌≡◌, ◌⊎◌, ℕ, zero, suc, ◌<◌, ◌≤◌, ◌==◌, ◌&&◌, not, if◌then◌else◌, Bool, true, false, List, Some, None, Result, Ok, Err, IsTrue, refl, sym, ap, ◌∙◌, subst, inl, inr, arith}
+use Rattle.std.proofs.Common.{◌≡◌, ◌⊎◌, ℕ, zero, suc, ◌<◌, ◌≤◌, ◌==◌, ◌&&◌, not, nat_lt, if◌then◌else◌, Bool, true, false, List, Some, None, Result, Ok, Err, IsTrue, refl, sym, ap, ◌∙◌, subst, inl, inr, arith}
 use Rattle.std.proofs.lemmas.Bool.Decides.{nat_tests}
 use Rattle.xp_words.specs.Entries.{demand_at}
 use Rattle.xp_words.specs.KindWords.{has_form, is_kind, kind_fields, kind_write}
@@ -37,9 +37,11 @@ use Rattle.table_law.specs.Levels.{entry_of}
 use Rattle.table_law.proofs.Counting.{asks_at}
 use Rattle.table_releases.specs.declared.entries.Released.{Released}
 use Rattle.table_releases.specs.declared.entries.Released.TheVariants.{Given, Opened}
-use Rattle.table_law.specs.Plain.{Describes, Plain, with_kind}
+use Rattle.table_law.specs.Plain.{Describes, Plain, sober, with_kind}
 use Rattle.table_law.specs.Release.{drop_demand, emptying, entries_held, is_counted_on, let_go}
 use Rattle.release_laws.proofs.Dropping.{again_given, again_held, again_in_work, again_last, live_all, live_closing, live_last, more_given, plain_given}
+use Rattle.xp_board.proofs.KindReadings.{partial_parts}
+use Rattle.release_laws.proofs.Liking.{IsSpent}
 use Rattle.release_laws.proofs.Parts.{does_only, does_with}
 use Rattle.kind_words.proofs.KindFacts.{kind_found}
 use Rattle.xp_board.specs.declared.step.StepKind.{StepKind}
@@ -47,7 +49,7 @@ use Rattle.table_twins.proofs.Entering.{described_leaves}
 use Rattle.xp_board.proofs.KindForms.{frame_inside}
 use Rattle.xp_board.proofs.FormsLeft.{is_live_left as live_form, form_partial as partial_form}
 use Rattle.release_laws.proofs.Seen.{IsCounted, IsLowered, drops_seen, kinded_counted, looked_counted, looked_lowered, lowers_seen, put_seen, stores_counted}
-use Rattle.release_laws.proofs.Words.{put_words}
+use Rattle.release_laws.proofs.Words.{live_there, put_words}
 
 -- ---- what the release of an entry comes to that asks this
 -- a table is released first, of which so many entries are recorded
@@ -57,6 +59,7 @@ pub record OpensAs (n : Machine) (l : ℕ) (p : Plain) (w : PortValue) (d : Dema
   pub last : is_counted_on (p.kinds g) ≡ false
   pub held : entries_held (p.kinds g) ≡ k
   pub few : k ≤ 512
+  pub unspent : IsSpent (p.kinds g) → ⊥
   pub inside : g < n.frames
   pub describes : Describes n (told_word w) (with_kind g (emptying (p.kinds g)) p)
 
@@ -64,6 +67,21 @@ abbrev pub Comes : Machine → ℕ → Plain → PortValue → Demand → Result
 Comes n l p w d (Ok Given) = Describes n (told_word w) (drop_demand (let_go l) p d)
 Comes n l p w d (Ok (Opened g k closing)) = OpensAs n l p w d g k
 Comes n l p w d (Err e) = Unit {0}
+
+-- such a frame is not being released yet: it has type counts, or is partial
+live_unspent : (k j : KindWord) → k ≡ j → j.validated ≡ true → 0 < j.number → IsSpent k → ⊥
+live_unspent k j is live some s =
+    let on : (j.validated && nat_lt 0 j.number) ≡ false = subst (λ (y : KindWord). (y.validated && nat_lt 0 y.number) ≡ false) is s.none in
+    let off : nat_lt 0 j.number ≡ false = sym (ap (λ b. b && nat_lt 0 j.number) live) ∙ on in
+    let up : nat_lt 0 j.number ≡ true = grind (arith, nat_tests) in
+    cc
+
+partial_unspent : (k j : KindWord) → k ≡ sober j → IsTrue (is_partial j) → IsSpent k → ⊥
+partial_unspent k j is partial s =
+    let p = partial_parts j partial in
+    let e : is_partial k ≡ true = ap is_partial is ∙ rw (p.0, p.1) refl in
+    let off = s.whole in
+    cc
 
 -- ---- levels and forms
 pub table_level : (l : ℕ) → is_table (level_type l) ≡ true → 1 ≤ l
@@ -84,7 +102,7 @@ few_recorded : (k : KindWord) → IsTrue (is_kind k) → IsTrue (is_partial k) �
 unfolding has_form
 few_recorded k is partial = grind (arith, nat_tests)
 
-none_recorded : (t : PageType) (k : KindWord) → is_table t ≡ true → has_recorded t k ≡ false → k.progress ≡ 0
+pub none_recorded : (t : PageType) (k : KindWord) → is_table t ≡ true → has_recorded t k ≡ false → k.progress ≡ 0
 none_recorded t k table none = grind (arith, nat_tests)
 
 -- ---- behind a look that sheds the entry
@@ -137,6 +155,7 @@ module _ (z w : PortValue) (p : Plain) (f i l g : ℕ) (answer : Result Released
           table = table_level l table;
           last = live_last z.post.machine (told_word z) p l g d inside live low.small low.some one;
           held = live_all z.post.machine (told_word z) p l g d inside live low.small low.some one;
+          unspent = λ s. live_unspent (p.kinds g) (kind_fields (told_word z (Kind g))) (live_there z.post.machine (told_word z) p g d inside live) live low.some s;
           few = omega arith;
           inside = inside;
           describes = described_leaves z.post.machine w _ _ a.1 (live_closing z.post.machine (told_word z) p l g d inside live low.small low.some one);
@@ -203,6 +222,7 @@ module _ (z w : PortValue) (p : Plain) (f i l g : ℕ) (answer : Result Released
           table = table_level l (table_of some);
           last = again_last z.post.machine (told_word z) p l g d inside is partial;
           held = again_held z.post.machine (told_word z) p l g d inside is partial;
+          unspent = λ s. partial_unspent (p.kinds g) (kind_fields (told_word z (Kind g))) (d.kinds g inside) partial s;
           few = few_recorded (kind_fields word) is partial;
           inside = inside;
           describes = described_leaves z.post.machine w _ _ a.2 (again_in_work z.post.machine (told_word z) p l g d inside is partial);

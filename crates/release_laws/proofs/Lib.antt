@@ -3,6 +3,10 @@ pub mod Seen
 pub mod Words
 mod Putting
 mod Dropping
+pub mod Liking
+pub mod Parking
 mod Entries
 mod Running
+pub mod Unwinding
 mod Released
+pub mod Settling

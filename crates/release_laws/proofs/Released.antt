@@ -1,5 +1,5 @@
 -- A whole release leaves what the plain one leaves.
-use Rattle.std.proofs.Common.{◌≡◌, ℕ, suc, ◌-◌, ◌<◌, ◌≤◌, ◌^◌, ◌==◌, Option, Bool, true, false, List, [], ◌∷◌, None, Result, Ok, IfOk, sym, ap, ◌∙◌, subst, arith}
+use Rattle.std.proofs.Common.{◌≡◌, ℕ, suc, ◌-◌, ◌<◌, ◌≤◌, ◌^◌, ◌==◌, Option, Bool, true, false, List, [], ◌∷◌, None, Result, Ok, Err, IfOk, refl, sym, ap, ◌∙◌, subst, arith}
 use Rattle.xp_words.specs.KindWords.{kind_fields}
 use Rattle.xp_words.specs.Machine.{Machine}
 use Rattle.xp_words.specs.PageTypes.{is_table}
@@ -27,6 +27,13 @@ use Rattle.level_release.specs.Course as course
 use Rattle.level_release.specs.Course.{Emptied, WasReleased, closing_table}
 use Rattle.release_laws.proofs.Dropping.{live_all, live_closing, live_last, more_given, plain_given}
 use Rattle.release_laws.proofs.Entries.{plain_level, table_level}
+use Rattle.table_law.proofs.Counting.{at_here}
+use Rattle.release_laws.specs.Pauses as pauses
+use Rattle.release_laws.specs.Pauses.{IsLeft, ReleasedAtLast}
+use Rattle.release_laws.proofs.Settling.{SettledTo, goes_on, paused_to, settled_at_last}
+use Rattle.xp_words.specs.declared.reply.Pause.TheVariants.{Due}
+use Rattle.xp_words.specs.declared.reply.Stop.TheVariants.{Paused}
+use Rattle.release_laws.proofs.Liking.{IsSpent, emptying_spent}
 use Rattle.release_laws.proofs.Running.{Leads, at_level, given_back, ran_leads}
 use Rattle.release_laws.proofs.Seen.{drops_seen, kinded_counted, put_seen}
 
@@ -95,6 +102,8 @@ module _ (v : PortValue) (f level : ℕ) (p : Plain) (telling : is_telling v ≡
           telling = moves_telling u x (Refs f) Load kinds.Look None word look ∙ on u true a;
           tables = (high, low, omega arith, inside, tt);
           plain = with_kind f (emptying (p.kinds f)) p;
+          spent = (subst IsSpent (sym (at_here f (emptying (p.kinds f)) p.kinds)) (emptying_spent (p.kinds f)), (λ off. off), tt);
+          under = tt;
           describes = subst (λ m. Describes n m (with_kind f (emptying (p.kinds f)) p)) (sym words_x) (live_closing n (told_word v) p level f d inside (live u true a) (small u true a) (some u true a) (count u true a));
           left = at_level (closing_table f level) [] l (with_kind f (emptying (p.kinds f)) p) (sym is)
               ∙ ap (λ k. closed f (level_type (suc l)) (drop_first (let_go l) (level_type (suc l)) f k (with_kind f (emptying (p.kinds f)) p))) (let e : 512 - 0 ≡ entries_held (p.kinds f) = omega arith in e)
@@ -109,6 +118,25 @@ module _ (v : PortValue) (f level : ℕ) (p : Plain) (telling : is_telling v ≡
     emptied_left _ _ _ (course.finished w answers ran) = ended w (ran_leads n (let_go level f p) x (closing_table f level ∷ []) w [] answers (Ok tt) ran begins)
     emptied_left _ _ _ (course.paused y w us answers stop ran unwound) = tt
 
+    -- or it is paused
+    abbrev IsPausedTo : PortValue → Result (Unit {0}) Stop → Type 0
+    IsPausedTo w (Ok done) = Unit {0}
+    IsPausedTo w (Err e) = SettledTo n w f level (let_go level f p) (Err e)
+
+    emptied_paused : {below : Option ℕ} → (w : PortValue) (answers : List Bool) (answer : Result (Unit {0}) Stop) → Emptied below x (closing_table f level) w answers answer → IsPausedTo w answer
+    emptied_paused _ _ _ (course.finished w answers ran) = tt
+    emptied_paused _ _ _ (course.paused y w us answers stop ran unwound) = paused_to n (let_go level f p) f level x (closing_table f level) y us w answers stop ran (refl, refl) begins unwound
+
+  abbrev PausedTo : PortValue → Result (Unit {0}) Stop → Type 0
+  PausedTo w (Ok done) = Unit {0}
+  PausedTo w (Err e) = SettledTo n w f level (let_go level f p) (Err e)
+
+  paused_by : level ≤ 4 → (w : PortValue) (answers : List Bool) (answer : Result (Unit {0}) Stop) → WasReleased v f (level_type level) w answers answer → PausedTo w answer
+  paused_by low _ _ _ (course.plain w off a) = tt
+  paused_by low _ _ _ (course.shared u w table a b) = tt
+  paused_by low _ _ _ (course.last u x w word k answers answer table same few a look e) =
+      emptied_paused u x word table low a look w answers answer (subst (λ j. Emptied None x (closing_table f j) w answers answer) (level_type-apart k level few low same) e)
+
   released : level ≤ 4 → (w : PortValue) (answers : List Bool) (answer : Result (Unit {0}) Stop) → WasReleased v f (level_type level) w answers answer → IfOk answer (λ done. Left w)
   released low _ _ _ (course.plain w off a) = plain_left w off a
   released low _ _ _ (course.shared u w table a b) = shared_left u w a b
@@ -118,3 +146,12 @@ module _ (v : PortValue) (f level : ℕ) (p : Plain) (telling : is_telling v ≡
 pub leaves_plain : (v w : PortValue) (f level : ℕ) (answers : List Bool) (p : Plain) → is_telling v ≡ true → f < v.post.machine.frames → level ≤ 4 → Describes v.post.machine (told_word v) p →
     WasReleased v f (level_type level) w answers (Ok tt) → Describes v.post.machine (told_word w) (let_go level f p)
 leaves_plain v w f level answers p telling inside low d a = released v f level p telling inside d low w answers (Ok tt) a
+
+pub leaves_rest : (v w : PortValue) (f level : ℕ) (answers : List Bool) (p : Plain) → is_telling v ≡ true → f < v.post.machine.frames → level ≤ 4 → Describes v.post.machine (told_word v) p →
+    WasReleased v f (level_type level) w answers (Err (Paused Due)) → IsLeft v.post.machine w f level (let_go level f p)
+leaves_rest v w f level answers p telling inside low d a = paused_by v f level p telling inside d low w answers (Err (Paused Due)) a
+
+pub released_at_last : (v w : PortValue) (f level : ℕ) (p : Plain) → is_telling v ≡ true → f < v.post.machine.frames → level ≤ 4 → Describes v.post.machine (told_word v) p → ReleasedAtLast v f level w → Describes v.post.machine (told_word w) (let_go level f p)
+released_at_last v _ f level p telling inside low d (pauses.at_once w answers a) = leaves_plain v w f level answers p telling inside low d a
+released_at_last v _ f level p telling inside low d (pauses.later u x w answers a on rest) =
+    settled_at_last v.post.machine f level (let_go level f p) x w (goes_on v.post.machine u x f level (let_go level f p) on (leaves_rest v u f level answers p telling inside low d a)) rest

@@ -55,9 +55,9 @@ module _ (n : Machine) (m : Words) (p : Plain) (g : ℕ) (s : Share) (d : Descri
   counts : ref_count (m (Refs g)) ≡ s.count
   counts = (owned_says (m (Refs g)) s.owner s.allocated s.count reads).counts
 
-  some : 0 < s.count
+  pub count_some : 0 < s.count
   unfolding IsRef
-  some = (ref_write-read (m (Refs g)) (Owned s.owner s.allocated s.count) (read_small (m (Refs g)) (Owned s.owner s.allocated s.count) reads) reads).0.1
+  count_some = (ref_write-read (m (Refs g)) (Owned s.owner s.allocated s.count) (read_small (m (Refs g)) (Owned s.owner s.allocated s.count) reads) reads).0.1
 
   over : (b : Bool) (x y z : ℕ) → (if b then x else (if b then y else z)) ≡ (if b then x else z)
   over true x y z = refl
@@ -89,7 +89,7 @@ module _ (n : Machine) (m : Words) (p : Plain) (g : ℕ) (s : Share) (d : Descri
   pub put_described : Describes n (put g m) (record { shares = at g (fewer (Some s)) p.shares; kinds = p.kinds; cells = p.cells })
   put_described =
       subst (λ c. Describes n (if c == 1 then set_free g (owner_number (owner_of (m (Refs g)))) (lowered g m) else lowered g m) (record { shares = at g (fewer (Some s)) p.shares; kinds = p.kinds; cells = p.cells })) (sym counts)
-      (by_last (s.count == 1) (owner_number (owner_of (m (Refs g)))) (λ off. more_than_one s.count some off))
+      (by_last (s.count == 1) (owner_number (owner_of (m (Refs g)))) (λ off. more_than_one s.count count_some off))
 
 -- a reference is given back
 pub same_back : (n : Machine) (m : Words) (p : Plain) (g : ℕ) (s : Share) → Describes n m p → g < n.frames → p.shares g ≡ Some s → Describes n (put g m) (reference_back g p)

@@ -1,0 +1,3 @@
+mod Undoing
+mod Leaving
+mod Deciding

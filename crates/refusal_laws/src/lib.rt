@@ -1,0 +1,10 @@
+//! What an acquisition comes to that is refused: why, and what it leaves. These functions do nothing: their contracts are laws about the
+//! courses of acquisitions (table_entries).
+#![tactic(auto)]
+
+mod refusals;
+
+pub use refusals::{
+    a_refused_acquisition_is_refused_as_the_plain_one, preemption_is_invisible_to_refusals,
+    what_a_refused_acquisition_owes_is_settled,
+};
