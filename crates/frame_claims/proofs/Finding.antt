@@ -18,7 +18,6 @@ use Rattle.xp_board.proofs.Sums.{when_eq}
 use Rattle.xp_board.proofs.RefForms.{free_number}
 use Rattle.step_maker.specs.Holds.{MayWork, Same}
 use Rattle.step_maker.specs.Moves.{Came, Met, Moves}
-use Rattle.step_maker.proofs.Changing.{found_after}
 use Rattle.step_maker.proofs.Coming.{came_post, met_after, met_before, moment_of, moves_came, moves_met}
 use Rattle.step_maker.proofs.Noting.{moves_since}
 use Rattle.step_maker.specs.Finding.{FoundAt}
@@ -109,7 +108,8 @@ seen_later v u w f s came seen =
     record { found = record { moment = seen.found.moment; was = met_before v u w seen.found.moment seen.found.was came; place = seen.found.place; word = seen.found.word }; free = seen.free }
 
 pub seen_from : (v u w : PortValue) (f s : ℕ) → Came v u → SeenFree u w f s → SeenFree v w f s
-seen_from v u w f s came seen = record { found = found_after v u w (Refs f) s came seen.found; free = seen.free }
+seen_from v u w f s came seen =
+    record { found = record { moment = seen.found.moment; was = met_after v u w seen.found.moment came seen.found.was; place = seen.found.place; word = seen.found.word }; free = seen.free }
 
 -- its word was kept since
 pub still_later : (v u w : PortValue) (f s : ℕ) → Came v u → Came u w → KeepsLast u w (Refs f) → StillFree v u f s → StillFree v w f s
@@ -123,7 +123,7 @@ still_later v u w f s first came keeps still =
     }
 
 pub still_from : (v u w : PortValue) (f s : ℕ) → Came v u → StillFree u w f s → StillFree v w f s
-unfolding seen_from found_after
+unfolding seen_from
 still_from v u w f s came still =
     record {
       seen = seen_from v u w f s came still.seen;
