@@ -1,0 +1,7 @@
+pub mod Parts
+pub mod Pictures
+pub mod PinPictures
+pub mod EntryPictures
+pub mod WalkPictures
+pub mod MemoryPictures
+pub mod PagePictures
