@@ -24,6 +24,18 @@ stored : (left accesses (opening tables)).frames.cells 5 0 ≡ 0x77
 unfolding accesses script_alone in_order path meet_last take_at demand_at demand_of let_go drop_first
 stored = refl
 
+-- a load alone leaves the accessed bit, in each table on its way
+loads : List Op
+loads = new_base 1 ∷ ops.Read false 0 ∷ []
+
+loaded_last : (left loads (opening tables)).frames.cells 4 0 ≡ 0x5023
+unfolding loads script_alone in_order path meet_last take_at demand_at demand_of let_go drop_first
+loaded_last = refl
+
+loaded_top : (left loads (opening tables)).frames.cells 1 0 ≡ 0x2023
+unfolding loads script_alone in_order path meet_last take_at demand_at demand_of let_go drop_first
+loaded_top = refl
+
 -- ---- a write through a read-only entry is refused, and has set no dirty bit
 barred : List Op
 barred = new_base 1 ∷ ops.Write false 0x1000 0x77 ∷ ops.Read false 0x1008 ∷ []
