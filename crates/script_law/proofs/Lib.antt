@@ -1,4 +1,5 @@
 pub mod Parts
+pub mod Untaking
 pub mod Pictures
 pub mod PinPictures
 pub mod EntryPictures

@@ -9,3 +9,4 @@ pub mod Elements
 pub mod Scripts
 pub mod Shown
 pub mod Order
+pub mod Untaken
