@@ -30,7 +30,8 @@ use Rattle.entry_exchange.specs.Course.{Exchanged, LeftLock, PutsNew, ReleasedDe
 use Rattle.entry_exchange.specs.Holding.{owner_at}
 use Rattle.entry_exchange.specs.Words.{same_demand, word_kept}
 use Rattle.entry_exchange.specs.declared.exchanging.EntryUpdate.{EntryUpdate}
-use Rattle.exchange_laws.specs.Plain.{ComesAsPlain, ExchangesAsPlain, LeavesPlain, exchange_by, exchange_for, exchanged_plain, put_on, unlocked_plain, with_cell}
+use Rattle.table_law.specs.Exchange.{exchange_by, exchange_for, put_on, unlocked_plain, with_cell}
+use Rattle.exchange_laws.specs.Plain.{ComesAsPlain, ExchangesAsPlain, LeavesPlain, exchanged_plain, place_in}
 use Rattle.exchange_laws.proofs.Cells.{meet_keeps}
 use Rattle.exchange_laws.proofs.Demanding.{demand_took}
 use Rattle.exchange_laws.proofs.Going.{demand_came}
@@ -69,7 +70,7 @@ took_good owner level v _ _ _ _ (course.unpaged w g stop one page) bad = absurd 
 took_good owner level v _ _ _ _ (course.acquired w g answers two had) bad = absurd cc
 took_good owner level v _ _ _ _ (course.refused w g answers stop two had) bad = absurd cc
 
-by_other : (n : Machine) (owner : ℕ) (x : EntryUpdate) (new : ℕ) (old : Demand) (p : Plain) (d : Demand) → (d ≡ demands.Bad → ⊥) → exchange_by n owner x new old p d ≡ exchange_for n owner x new old p d (same_demand d old)
+by_other : (n : Machine) (owner : ℕ) (x : EntryUpdate) (new : ℕ) (old : Demand) (p : Plain) (d : Demand) → (d ≡ demands.Bad → ⊥) → exchange_by n owner (place_in x) new old p d ≡ exchange_for n owner (place_in x) new old p d (same_demand d old)
 by_other n owner x new old p demands.Nothing good = refl
 by_other n owner x new old p demands.Bad good = absurd (good refl)
 by_other n owner x new old p (demands.Read g) good = refl
@@ -119,18 +120,18 @@ module _ (releases : ReleasesAsPlain) (pauses : PausesAsPlain) (v : PortValue) (
 
     -- what the plain exchange is then
     abbrev whole : PlainOutcome
-    whole = exchange_by v.post.machine (owner_at x.level o.tables o.frames) x (word_kept x.keep seen x.word) (old_demand x seen) (plain_of (told_word v)) (new_demand x seen)
+    whole = exchange_by v.post.machine (owner_at x.level o.tables o.frames) (place_in x) (word_kept x.keep seen x.word) (old_demand x seen) (plain_of (told_word v)) (new_demand x seen)
 
     pub is_whole : exchanged_plain v.post.machine x o (plain_of (told_word v)) ≡ whole
     is_whole =
-        ap (λ c. exchange_by n owner x (word_kept x.keep c x.word) (demand_at (level_type x.level) x.index c) p (demand_at (level_type x.level) x.index (word_kept x.keep c x.word))) cell
+        ap (λ c. exchange_by n owner (place_in x) (word_kept x.keep c x.word) (demand_at (level_type x.level) x.index c) p (demand_at (level_type x.level) x.index (word_kept x.keep c x.word))) cell
 
-    whole_by : (b : Bool) → (new_demand x seen ≡ demands.Bad → ⊥) → same_demand (new_demand x seen) (old_demand x seen) ≡ b → whole ≡ exchange_for n owner x new (old_demand x seen) p (new_demand x seen) b
-    whole_by b good is = by_other n owner x new (old_demand x seen) p (new_demand x seen) good ∙ ap (exchange_for n owner x new (old_demand x seen) p (new_demand x seen)) is
+    whole_by : (b : Bool) → (new_demand x seen ≡ demands.Bad → ⊥) → same_demand (new_demand x seen) (old_demand x seen) ≡ b → whole ≡ exchange_for n owner (place_in x) new (old_demand x seen) p (new_demand x seen) b
+    whole_by b good is = by_other n owner x new (old_demand x seen) p (new_demand x seen) good ∙ ap (exchange_for n owner (place_in x) new (old_demand x seen) p (new_demand x seen)) is
 
     bad_whole : (w : PortValue) → new_demand x seen ≡ demands.Bad → LeftLock u x.table x.level w → ExchangesAsPlain n w x.level whole (Err (Refused (refusals.Reserved x.table x.index new)))
     bad_whole w bad lock =
-        subst (λ d. ExchangesAsPlain n w x.level (exchange_by n owner x new (old_demand x seen) p d) (Err (Refused (refusals.Reserved x.table x.index new)))) (sym bad)
+        subst (λ d. ExchangesAsPlain n w x.level (exchange_by n owner (place_in x) new (old_demand x seen) p d) (Err (Refused (refusals.Reserved x.table x.index new)))) (sym bad)
         ((refl, refl, refl), λ one. lock_off n u w x.table x.level p on_u.same on_u.tells low at_u lock)
 
     -- ---- both ask the same
@@ -160,7 +161,7 @@ module _ (releases : ReleasesAsPlain) (pauses : PausesAsPlain) (v : PortValue) (
     untaken_whole y w answers stop differ a lock =
         let on = took_on y answers (Err stop) a in
         subst (λ b. ExchangesAsPlain n w x.level b (Err stop)) (sym (whole_by false (took_good owner x.level u (new_demand x seen) y answers (Err stop) a) differ))
-        (or_by n x.level taking.refusal taking.left (unlocked_plain x.level x.table) (λ q. fine (put_on x new (old_demand x seen) q)) y w stop (took y answers (Err stop) a)
+        (or_by n x.level taking.refusal taking.left (unlocked_plain x.level x.table) (λ q. fine (put_on (place_in x) new (old_demand x seen) q)) y w stop (took y answers (Err stop) a)
         (λ d. lock_off n y w x.table x.level taking.left on.same on.tells low d lock))
 
     asks : (old g : ℕ) (t : PageType) → old_demand x old ≡ demands.Typed g t → t ≡ level_type (x.level - 1)
@@ -182,7 +183,7 @@ module _ (releases : ReleasesAsPlain) (pauses : PausesAsPlain) (v : PortValue) (
         let free = unlocked_plain x.level x.table (with_cell x.table x.index new taking.left) in
         let gave = demand_released releases pauses n a machine on_a.same on_a.tells (x.level - 1) (omega (arith, high)) free off (old_demand x old) w more (asks old) gone in
         subst (λ b. ComesAsPlain n w x.level b (more ++ answers) (Ok tt))
-        (sym (whole_by false (took_good owner x.level u (new_demand x seen) y answers (Ok tt) taken) differ ∙ or_done taking.refusal taking.left (unlocked_plain x.level x.table) (λ q. fine (put_on x new (old_demand x seen) q)) t.0))
+        (sym (whole_by false (took_good owner x.level u (new_demand x seen) y answers (Ok tt) taken) differ ∙ or_done taking.refusal taking.left (unlocked_plain x.level x.table) (λ q. fine (put_on (place_in x) new (old_demand x seen) q)) t.0))
         (refl, more_answers n w answers more _ (subst (λ c. LeavesPlain n w more (drop_demand (let_go (x.level - 1)) free (old_demand x c))) was gave))
 
   -- ---- the law

@@ -17,7 +17,8 @@ use Rattle.table_law.specs.Plain.{Describes, Plain, share_of, sober}
 use Rattle.course_laws.proofs.Completing.{itself}
 use Rattle.entry_exchange.specs.Course as course
 use Rattle.entry_exchange.specs.Course.{PutEntry}
-use Rattle.exchange_laws.specs.Plain.{ExchangesAsPlain, with_cell}
+use Rattle.table_law.specs.Exchange.{with_cell}
+use Rattle.exchange_laws.specs.Plain.{ExchangesAsPlain}
 
 -- ---- one cell
 record IsPut (v y : PortValue) (f i old new : ℕ) : Type 0 where

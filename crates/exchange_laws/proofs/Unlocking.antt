@@ -31,7 +31,7 @@ use Rattle.entry_locks.specs.Locks.{Unlocks}
 use Rattle.entry_locks.proofs.Unlocking.{unlock_words}
 use Rattle.entry_exchange.specs.Course as course
 use Rattle.entry_exchange.specs.Course.{LeftLock}
-use Rattle.exchange_laws.specs.Plain.{unlocked_plain, unlocked_by}
+use Rattle.table_law.specs.Exchange.{unlocked_plain, unlocked_by}
 use Rattle.exchange_laws.proofs.Given.{given_back}
 
 -- ---- its steps are steps of the port

@@ -10,6 +10,7 @@ pub mod Steps
 pub mod Undoing
 pub mod Parking
 pub mod Examples
+pub mod ExchangeExamples
 pub mod Describing
 pub mod OnWords
 pub mod Telling

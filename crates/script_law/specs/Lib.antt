@@ -1,0 +1,12 @@
+pub mod Values
+pub mod Repeats
+pub mod Frames
+pub mod Pages
+pub mod Walks
+pub mod Memory
+pub mod Destroying
+pub mod Elements
+pub mod Scripts
+pub mod Shown
+pub mod Order
+pub mod Untaken
