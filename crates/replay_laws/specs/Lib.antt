@@ -1,0 +1,2 @@
+pub mod LeftAlone
+pub mod Replays
