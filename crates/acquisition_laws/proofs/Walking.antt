@@ -82,7 +82,7 @@ module _ {kept : Bool} {f : ℕ} where
   back_goes a = goes_then (goes_step refl a.lowers.lowers.step) (gave_goes a.puts)
 
   shared_goes : {v w : PortValue} (g level stamp : ℕ) → stamp < 2 ^ 36 → LeftWaiting v w g level stamp → Goes kept f v w
-  shared_goes g level stamp small a = goes_by (λ vs. SharedBy g (level_type level) stamp vs) (shared_plain g (level_type level) stamp small) a
+  shared_goes g level stamp small a = goes_by (λ vs. SharedBy g (level_type level) stamp vs) (shared_plain g (level_type level) stamp small) a.found
 
   live_goes : {v w : PortValue} (t : TableWork) → MadeLive v w t → Goes kept f v w
   live_goes t a = goes_step (store_plain t.frame (live_kind (level_type t.level) (type_counts t.own)) (counts_low t.own) (omega arith) refl) a.1
@@ -151,7 +151,7 @@ module _ (f : ℕ) where
   waiting_goes : {v w : PortValue} (level owner stamp : ℕ) (own kept : Bool) → stamp < 2 ^ 36 → WaitingLeft v w f level owner stamp own kept → Goes kept f v w
   waiting_goes level owner stamp true true small a = kept_goes (partial_kind (level_type level) true true 0 stamp) small (omega arith) refl a
   waiting_goes level owner stamp true false small a = goes_then (goes_by (StoresKind f (partial_kind (level_type level) false true 0 stamp)) (marked_plain f (level_type level) stamp small) a.1) (goes_step refl a.2)
-  waiting_goes level owner stamp false kept small a = shared_goes f level stamp small a
+  waiting_goes level owner stamp false kept small a = goes_by (λ vs. SharedBy f (level_type level) stamp vs) (shared_plain f (level_type level) stamp small) a
 
 -- ---- the whole
 pub acquired_goes : (v : PortValue) (f owner level : ℕ) (w : PortValue) (answers : List Bool) (answer : Result ℕ Stop) → Acquired v f owner level w answers answer → Goes (is_paused_answer answer) f v w

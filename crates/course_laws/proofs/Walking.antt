@@ -31,7 +31,7 @@ joined_came v w t outer true a = back_came v w t.frame a
 joined_came v w t outer false a = moves_came v w _ _ _ _ _ a.1
 
 pub waiting_came : (v w : PortValue) (f level stamp : ℕ) → LeftWaiting v w f level stamp → Came v w
-waiting_came v w f level stamp a = does_came v w _ a
+waiting_came v w f level stamp a = does_came v w _ a.found
 
 -- ---- tables, until they are full
 pub on_came : (owner : ℕ) (v : PortValue) (ts : List TableWork) (w : PortValue) (us : List TableWork) (r : Result Bool Stop) → TookOn owner v ts w us r → Came v w

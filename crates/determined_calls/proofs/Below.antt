@@ -15,14 +15,8 @@ pub use Rattle.determined_tables.proofs.Acquired.{acquired_alike, acquired_came}
 pub use Rattle.determined_tables.proofs.Pages.{got_page_alike, got_page_came}
 pub use Rattle.determined_releases.proofs.Released.{released_alike, released_came}
 
-pub kept_came : (v w : PortValue) (f : ℕ) (k : KindWord) (owner : ℕ) → KeptFor v w f k owner → Came v w
-kept_came v w f k owner p = (kept_sure v f k owner).came w tt p
-
 pub kept_alike : {v w x : PortValue} {f owner : ℕ} {k : KindWord} → KeptFor v w f k owner → KeptFor v x f k owner → Alike v w x (Unit {0})
 kept_alike {v} {w} {x} {f} {owner} {k} p q = alike_map ((kept_sure v f k owner).alike w x tt tt p q) (λ e. tt)
-
-pub took_page_came : (v : PortValue) (f owner : ℕ) (w : PortValue) (r : Result (Unit {0}) Stop) → TookPage v f owner w r → Came v w
-took_page_came v f owner w r p = (took_page_fixed f owner v).came w r p
 
 pub took_page_alike : {v w x : PortValue} {f owner : ℕ} {a b : Result (Unit {0}) Stop} → TookPage v f owner w a → TookPage v f owner x b → Alike v w x (a ≡ b)
 took_page_alike {v} {w} {x} {f} {owner} {a} {b} p q = (took_page_fixed f owner v).alike w x a b p q

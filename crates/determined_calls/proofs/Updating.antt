@@ -22,6 +22,7 @@ use Rattle.table_entries.proofs.Shared.{ref_came, gave_came}
 use Rattle.writable_pages.specs.Pages.{TookPage}
 use Rattle.entry_exchange.specs.Course.{Exchanged, LeftLock}
 use Rattle.exchange_laws.proofs.Unlocking.{lock_came}
+use Rattle.exchange_laws.proofs.Going.{took_page_came}
 use Rattle.mmu_update.specs.Course as course
 use Rattle.mmu_update.specs.Course.{TriedLock, Wrote, entry_update}
 use Rattle.determined_laws.specs.Courses.{Alike}
@@ -29,7 +30,7 @@ use Rattle.determined_laws.specs.Forks.{AgreeLock}
 use Rattle.determined_laws.proofs.Calls.{drops_plain_alike, drops_plain_came, gets_alike, puts_alike}
 use Rattle.determined_laws.proofs.Courses.{alike_apart, alike_does, alike_map, alike_move, alike_next, alike_same}
 use Rattle.determined_laws.proofs.References.{locks_tie}
-use Rattle.determined_calls.proofs.Below.{took_page_alike, took_page_came}
+use Rattle.determined_calls.proofs.Below.{took_page_alike}
 use Rattle.determined_calls.proofs.Exchanging.{exchanged_alike, exchanged_came, left_lock_alike}
 use Rattle.determined_calls.proofs.Levels.{at_top, lock_at, same_level}
 

@@ -168,7 +168,7 @@ ok_same a b e = cc
 err_ok : {A B : Type 0} (r : Refusal) (a : A) → ◌≡◌ {A = Result A Refusal} (Err r) (Ok a) → B
 err_ok r a e = absurd cc
 
-up_same : (u w : ℕ) → u + 1 ≡ w + 1 → u ≡ w
+pub up_same : (u w : ℕ) → u + 1 ≡ w + 1 → u ≡ w
 up_same u w e = omega (arith, e)
 
 module _ (q : Post) (whose : Whose) (stamp : ℕ) where

@@ -17,6 +17,7 @@ use Rattle.table_entries.specs.Acquiring.{Acquired}
 use Rattle.table_bases.specs.Course as course
 use Rattle.table_bases.specs.Course.{AcquiresTop, FlushesBehind, Installed, ReleasesOld, SetsBase}
 use Rattle.table_bases.specs.declared.words.Base.{Base}
+use Rattle.table_bases.proofs.Behind.{behind_came}
 use Rattle.determined_laws.specs.Courses.{Alike}
 use Rattle.determined_laws.proofs.Courses.{alike_apart, alike_map, alike_move, alike_same, alike_then}
 use Rattle.determined_laws.proofs.Ties.{same_or}
@@ -70,9 +71,6 @@ module _ (v : PortValue) where
   by_alike w x (flushes a clock look rest) (flushes b found see next) =
       alike_step look see (rest_came clock a w rest) (rest_came found b x next) (λ e m. rest_alike clock a w x rest (subst (λ z. FlushRest z a x) (sym m) (subst (λ z. FlushRest found z x) (sym e) next)))
 
-pub flushes_behind_came : (v w : PortValue) → FlushesBehind v w → Came v w
-flushes_behind_came v w p = by_came v w (flushes_by v w p)
-
 pub flushes_behind_alike : (v w x : PortValue) → FlushesBehind v w → FlushesBehind v x → Alike v w x (Unit {0})
 flushes_behind_alike v w x p q = by_alike v w x (flushes_by v w p) (flushes_by v x q)
 
@@ -88,7 +86,7 @@ top_came (Some f) v w answers p = acquired_came p
 
 pub installed_came : {v w : PortValue} {base : Base} {new : Option ℕ} {answers : List Bool} → Installed v w base new answers → Came v w
 installed_came {v} {w} {base} {new} {answers} p =
-    move_on w p.stores (came_trans p.stored p.flushed w (flushes_behind_came p.stored p.flushed p.flushes) (releases_old_came p.old p.flushed w answers p.releases))
+    move_on w p.stores (came_trans p.stored p.flushed w (behind_came p.stored p.flushed p.flushes) (releases_old_came p.old p.flushed w answers p.releases))
 
 pub sets_base_came : {v w : PortValue} {base : Base} {new : Option ℕ} {answers : List Bool} {a : Result (Unit {0}) Stop} → SetsBase v w base new answers a → Came v w
 sets_base_came (course.SetsBase.spent new look) = move_came look
@@ -107,9 +105,9 @@ module _ (says : ℕ → Bool) (n : ℕ) {answers others : List Bool} (g : Gives
   pub installed_alike : {v w x : PortValue} {base : Base} {new : Option ℕ} → Installed v w base new answers → Installed v x base new others → Alike v w x (answers ≡ others)
   installed_alike {v} {w} {x} {base} {new} p q =
       alike_step p.stores q.stores
-      (came_trans p.stored p.flushed w (flushes_behind_came p.stored p.flushed p.flushes) (releases_old_came p.old p.flushed w answers p.releases))
-      (came_trans q.stored q.flushed x (flushes_behind_came q.stored q.flushed q.flushes) (releases_old_came q.old q.flushed x others q.releases))
-      (λ e m. alike_then (flushes_behind_came p.stored p.flushed p.flushes) (releases_old_came p.old p.flushed w answers p.releases) (releases_old_came q.old q.flushed x others q.releases)
+      (came_trans p.stored p.flushed w (behind_came p.stored p.flushed p.flushes) (releases_old_came p.old p.flushed w answers p.releases))
+      (came_trans q.stored q.flushed x (behind_came q.stored q.flushed q.flushes) (releases_old_came q.old q.flushed x others q.releases))
+      (λ e m. alike_then (behind_came p.stored p.flushed p.flushes) (releases_old_came p.old p.flushed w answers p.releases) (releases_old_came q.old q.flushed x others q.releases)
       (flushes_behind_alike p.stored p.flushed q.flushed p.flushes (subst (λ z. FlushesBehind z q.flushed) (sym e) q.flushes))
       (λ s k. releases_old_alike p.old p.flushed w x p.releases (subst (λ z. ReleasesOld z x p.old others) (sym s) (subst (λ z. ReleasesOld q.flushed x z others) (sym m) q.releases))))
 

@@ -18,6 +18,7 @@ use Rattle.partial_state.specs.declared.stack.TableWork.{TableWork}
 use Rattle.table_entries.specs.Acquiring.{GaveRef, GaveType, Named}
 use Rattle.table_releases.specs.declared.entries.Released.{Released}
 use Rattle.level_release.specs.Course.{GaveEntry, LeftInside, Rerecorded, StoredPartial, UnwoundDown, one_less}
+use Rattle.level_release.proofs.ServingRun.{unwound_came}
 use Rattle.determined_laws.specs.Courses.{Alike}
 use Rattle.determined_laws.proofs.Courses.{alike_apart, alike_does, alike_map, alike_move, alike_same, alike_then}
 use Rattle.determined_laws.proofs.Calls.{drops_plain_alike, drops_plain_came, puts_alike, puts_came}
@@ -58,9 +59,6 @@ gave_type_came {v} {w} {f} {kind} p = drops_plain_came v w f kind p.found
 pub gave_type_alike : {v w x : PortValue} {f : ℕ} {kind : PageType} → GaveType v w f kind → GaveType v x f kind → Alike v w x (Unit {0})
 gave_type_alike {f = f} {kind} p q = drops_plain_alike f kind p.found q.found
 
-pub gave_entry_came : {v w : PortValue} {t : TableWork} {a : Result Released Stop} → GaveEntry v w t a → Came v w
-gave_entry_came {v} {w} p = does_came v w _ p.entry.found
-
 pub gave_entry_alike : {v w x : PortValue} {t : TableWork} {a b : Result Released Stop} → GaveEntry v w t a → GaveEntry v x t b → Alike v w x (a ≡ b)
 gave_entry_alike {v} {w} {x} {t} {a} {b} p q = alike_does p.entry.found q.entry.found (released_tie v.post.machine t.frame (511 - t.done) (level_type t.level) a b)
 
@@ -91,11 +89,6 @@ left_inside_alike t [] us rs p q = absurd p
 left_inside_alike {v} {w} {x} t (outer ∷ ts) us rs p q =
     alike_then (move_came p.1.1.1) (move_came p.1.2.1) (move_came q.1.2.1) (stored_alike t p.1.1 q.1.1)
     (λ e k. rerecorded_alike (one_less outer) p.1.2 (subst (λ z. Rerecorded z x (one_less outer)) (sym e) q.1.2))
-
-pub unwound_came : (v w : PortValue) (ts : List TableWork) → UnwoundDown v ts w → Came v w
-unwound_came v w [] p = subst (λ z. Came v z) (sym p) (came_self v)
-unwound_came v w (t ∷ []) p = came_trans v p.0 w (move_came p.1.1) (move_came p.2)
-unwound_came v w (t ∷ outer ∷ ts) p = came_trans v p.0 w (left_inside_came v p.0 t (outer ∷ ts) (one_less outer ∷ ts) p.1) (unwound_came p.0 w (one_less outer ∷ ts) p.2)
 
 pub unwound_alike : (ts : List TableWork) (v w x : PortValue) → UnwoundDown v ts w → UnwoundDown v ts x → Alike v w x (Unit {0})
 unwound_alike [] v w x p q = alike_same (p ∙ sym q) tt

@@ -13,9 +13,10 @@ use Rattle.domain_destroy.specs.Emptying as emptying
 use Rattle.domain_destroy.specs.Emptying.{EmptiesOne, EmptiesTo, EmptiesWord, EmptiesWords, LetsGo, word_at}
 use Rattle.determined_laws.specs.Courses.{Alike}
 use Rattle.determined_laws.proofs.Courses.{Goes, alike_map, alike_move, alike_same, goes_same, more, none}
+use Rattle.determined_laws.proofs.Waits.{up_same}
 use Rattle.determined_releases.proofs.Answers.{gives_first, gives_rest}
 use Rattle.determined_releases.proofs.Calls.{alike_split, alike_step, alike_with, move_came, move_on}
-use Rattle.determined_releases.proofs.Settled.{none_named, settled_alike, settled_came, some_named}
+use Rattle.determined_releases.proofs.Settled.{none_named, settled_alike, settled_came}
 
 abbrev pub Done : Type 0
 Done = Result (Unit {0}) Stop
@@ -56,7 +57,7 @@ module _ (says : ℕ → Bool) (n vcpu k : ℕ) (u : PortValue) where
   word_alike w x _ _ _ _ g h (emptying.EmptiesWord.named o p _ y f answers a look some store go) (emptying.EmptiesWord.named q r _ z m others b sees other puts goes) =
       alike_step look sees (move_on w store (lets_go_came f p w answers a go)) (move_on x puts (lets_go_came m r x others b goes))
       (λ e s. alike_step store (subst (λ c. Moves c r (Vcpu vcpu k) (Store 0) steps.Context None (m + 1)) (sym e) puts) (lets_go_came f p w answers a go) (lets_go_came m r x others b goes)
-      (λ c t. lets_go_alike says n g h f p w x go (subst (λ i. LetsGo f i x others b) (sym c) (subst (λ i. LetsGo i r x others b) (sym (some_named f m t)) goes))))
+      (λ c t. lets_go_alike says n g h f p w x go (subst (λ i. LetsGo f i x others b) (sym c) (subst (λ i. LetsGo i r x others b) (sym (up_same f m t)) goes))))
 
 -- ---- all words of one vCPU, in order
 record Place : Type 0 where

@@ -13,9 +13,11 @@ use Rattle.table_releases.specs.declared.entries.Released.{Released}
 use Rattle.table_releases.specs.declared.entries.Released.TheVariants.{Given, Opened}
 use Rattle.level_release.specs.Course as course
 use Rattle.level_release.specs.Course.{Emptied, GaveEntry, Lowered, MadeDead, RanDown, UnwoundDown, is_asked_within, left_by, left_emptied, one_more_done, table_under}
+use Rattle.level_release.proofs.HandsLowered.{gave_came}
+use Rattle.level_release.proofs.ServingRun.{unwound_came}
 use Rattle.determined_laws.specs.Courses.{Alike}
 use Rattle.determined_laws.proofs.Courses.{Goes, alike_apart, alike_map, alike_then, goes_same, more, none}
-use Rattle.determined_releases.proofs.Calls.{alike_with, dead_alike, dead_came, gave_entry_alike, gave_entry_came, unwound_alike, unwound_came}
+use Rattle.determined_releases.proofs.Calls.{alike_with, dead_alike, dead_came, gave_entry_alike, unwound_alike}
 
 -- ---- one entry, or one table
 -- what an entry leaves of the tables, and what is answered of it
@@ -49,7 +51,7 @@ lowered_none p = absurd (of p refl)
     of (course.emptied v w t ts all dead) e = cc
 
 by_came : {v w : PortValue} {t : TableWork} {ts us : List TableWork} {a : Result Bool Stop} → LoweredBy v t ts w us a → Came v w
-by_came (entry r few gave left is) = gave_entry_came gave
+by_came (entry r few gave left is) = gave_came gave
 by_came {v} {w} {t} (table all dead left is) = dead_came v w t.frame (level_type t.level) false dead.found
 
 by_alike : {v w x : PortValue} {t : TableWork} {ts us rs : List TableWork} {a b : Result Bool Stop} → LoweredBy v t ts w us a → LoweredBy v t ts x rs b → Alike v w x ((us ≡ rs) × (a ≡ b))

@@ -25,6 +25,7 @@ use Rattle.level_release.specs.Course as course
 use Rattle.level_release.specs.Course.{Emptied, ReleasedWithin, Settled, SettledOne, SettledPartial, left_emptied, left_one, left_partial, left_released, left_settled, resumed_table}
 use Rattle.determined_laws.specs.Courses.{Alike}
 use Rattle.determined_laws.proofs.Courses.{alike_apart, alike_map, alike_move, alike_then}
+use Rattle.determined_laws.proofs.Waits.{up_same}
 use Rattle.determined_releases.proofs.Answers.{gives_first, gives_rest}
 use Rattle.determined_releases.proofs.Calls.{alike_split, alike_step, dead_alike, dead_came, move_came, move_on, named_alike}
 use Rattle.determined_releases.proofs.Released.{emptied_from, released_alike, released_came}
@@ -136,9 +137,6 @@ module _ (says : ℕ → Bool) (k : ℕ) (below : Option ℕ) (n : Machine) (w x
       alike_step p.1 q.1 (seen_came p.0 w f answers a left p.2) (seen_came q.0 x f others b right q.2) (λ e m. seen_alike p.0 f p.2 (subst (λ z. Seen below n z f x others b right) (sym e) q.2))
 
 -- ---- one old word
-pub some_named : (f g : ℕ) → f + 1 ≡ g + 1 → f ≡ g
-some_named f g e = omega (arith, e)
-
 pub none_named : (f : ℕ) → 0 ≢ f + 1
 none_named f e = omega (arith, e)
 
@@ -150,7 +148,7 @@ module _ (says : ℕ → Bool) (n : ℕ) {below : Option ℕ} {v w x : PortValue
   one_alike (names u f look p) (names o m sees q) =
       alike_step look sees (taken_came v.post.vcpu which u w f answers a left p) (taken_came v.post.vcpu which o x m others b right q)
       (λ e s. taken_alike says n below v.post.machine w x answers others a b left right g h v.post.vcpu which u f p
-      (subst (λ z. Taken below v.post.machine v.post.vcpu which z f x others b right) (sym e) (subst (λ z. Taken below v.post.machine v.post.vcpu which o z x others b right) (sym (some_named f m s)) q)))
+      (subst (λ z. Taken below v.post.machine v.post.vcpu which z f x others b right) (sym e) (subst (λ z. Taken below v.post.machine v.post.vcpu which o z x others b right) (sym (up_same f m s)) q)))
 
 pub settled_one_came : {below : Option ℕ} {v w : PortValue} {which : OldWord} {answers : List Bool} {a : Result (Unit {0}) Stop} → SettledOne below v which w answers a → Came v w
 settled_one_came p = one_came (one_by p)

@@ -1,3 +1,4 @@
 pub mod Orders
 pub mod Stages
+pub mod Texts
 pub mod Works

@@ -12,6 +12,7 @@ use Rattle.frame_types.specs.declared.taking.Taken.TheVariants as types
 use Rattle.partial_state.specs.declared.stack.TableWork.{TableWork}
 use Rattle.table_entries.specs.Acquiring as ways
 use Rattle.table_entries.specs.Acquiring.{Acquired, Filled, GaveRef, GotRef, MadeLive, TookOn, TookType, Unwound, WaitingLeft, Worked, is_asked, keeps_it, outermost_table}
+use Rattle.course_laws.proofs.Walking.{filled_came, worked_came}
 use Rattle.determined_laws.specs.Courses.{Alike}
 use Rattle.determined_laws.proofs.Courses.{alike_map}
 use Rattle.determined_tables.proofs.Chains.{Chain, Choice, Ends, IsFixed, fixed_by, fixed_choice, fixed_ends, fixed_never, fixed_sure, fixed_then, left, right}
@@ -115,18 +116,6 @@ module _ (f owner level : ℕ) (says : ℕ → Bool) (n : ℕ) where
   acquired_fixed v = fixed_by (λ w z p. acquired_view v w z.0 z.1 p.0 p.1) (fixed_then (got_fixed v f owner) (λ u o p. ref_rest_fixed u o))
 
 -- ---- where it goes, whatever the gate
-filled_came : (owner : ℕ) (v : PortValue) (ts : List TableWork) (before : List Bool) (w : PortValue) (us : List TableWork) (bs : List Bool) (r : Result (Unit {0}) Stop) → Filled owner v ts before w us bs r → Came v w
-filled_came owner v ts before _ _ _ _ ways.begun = came_self v
-filled_came owner v ts before _ _ _ _ (ways.unasked u w us xs done bs f a e) = came_trans v u w (filled_came owner v ts before u us bs (Ok tt) f) ((advanced_fixed owner u us).came w (xs, Ok done) a)
-filled_came owner v ts before _ _ _ _ (ways.asked u w us xs bs f a e) = came_trans v u w (filled_came owner v ts before u us bs (Ok tt) f) ((advanced_fixed owner u us).came w (xs, Ok true) a)
-filled_came owner v ts before _ _ _ _ (ways.due u w us xs bs f a e) = came_trans v u w (filled_came owner v ts before u us bs (Ok tt) f) ((advanced_fixed owner u us).came w (xs, Ok true) a)
-filled_came owner v ts before _ _ _ _ (ways.stopped u w us xs bs stop f a) = came_trans v u w (filled_came owner v ts before u us bs (Ok tt) f) ((advanced_fixed owner u us).came w (xs, Err stop) a)
-
-pub worked_came : (owner : ℕ) (v : PortValue) (t : TableWork) (w : PortValue) (us : List TableWork) (bs : List Bool) (r : Result (Unit {0}) Stop) → Worked owner v t w us bs r → Came v w
-worked_came owner v t _ _ _ _ (ways.cut_off w us stop p) = took_came owner v _ w us (Err stop) p
-worked_came owner v t _ _ _ _ (ways.due w us p is) = took_came owner v _ w us (Ok true) p
-worked_came owner v t _ _ _ _ (ways.filled u w us xs done bs r p f) = came_trans v u w (took_came owner v _ u us (Ok done) p) (filled_came owner u us _ w xs bs r f)
-
 pub acquired_came : {v w : PortValue} {f owner level : ℕ} {answers : List Bool} {a : Result ℕ Stop} → Acquired v f owner level w answers a → Came v w
 acquired_came {v} {w} {f} {owner} {level} {answers} {a} p = by w answers a p
   where

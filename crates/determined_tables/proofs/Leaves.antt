@@ -27,7 +27,7 @@ use Rattle.kept_marks.specs.Marks as marks
 use Rattle.kept_marks.specs.Marks.{IsForeign, KeptFor, LeftSo, TakesBack}
 use Rattle.partial_state.specs.Levels.{level_type}
 use Rattle.partial_state.specs.declared.stack.TableWork.{TableWork}
-use Rattle.table_entries.specs.Acquiring.{GaveBack, GaveRef, GaveType, GotRef, InnerLeft, Joined, LeftPartial, MadeLive, Named, OutermostLeft, TookType, Unwound, WaitingLeft, around_left, type_counts}
+use Rattle.table_entries.specs.Acquiring.{GaveBack, GaveRef, GaveType, GotRef, InnerLeft, Joined, LeftPartial, LeftWaiting, MadeLive, Named, OutermostLeft, TookType, Unwound, WaitingLeft, around_left, type_counts}
 use Rattle.determined_laws.specs.Forks.{Agree}
 use Rattle.determined_laws.proofs.Courses.{alike_does, alike_map}
 use Rattle.determined_laws.proofs.References.{gets_tie, put_tie}
@@ -177,6 +177,9 @@ unwound_sure v owner (t ∷ ts) kept = unwinds_sure v owner kept ts t
 -- ---- frames that wait
 pub shared_sure : (v : PortValue) (f : ℕ) (want : PageType) (stamp : ℕ) → IsSure v (λ w. Does v w (λ vs. SharedBy f want stamp vs))
 shared_sure v f want stamp = sure_does v _ (shared_tie f want stamp)
+
+pub left_waiting_sure : (v : PortValue) (f level stamp : ℕ) → IsSure v (λ w. LeftWaiting v w f level stamp)
+left_waiting_sure v f level stamp = sure_as (λ w p. p.found) (shared_sure v f (level_type level) stamp)
 
 pub waiting_sure : (v : PortValue) (f level owner stamp : ℕ) (own kept : Bool) → IsSure v (λ w. WaitingLeft v w f level owner stamp own kept)
 waiting_sure v f level owner stamp true true = kept_sure v f (partial_kind (level_type level) true true 0 stamp) owner

@@ -15,7 +15,7 @@ use Rattle.table_entries.specs.declared.resuming.Resumed.TheVariants as again
 use Rattle.determined_laws.specs.Courses.{Alike}
 use Rattle.determined_tables.proofs.Chains.{Chain, Choice, Ends, IsFixed, behind, fixed_by, fixed_choice, fixed_ends, fixed_never, fixed_sure, fixed_then, left, right, sure_two}
 use Rattle.determined_tables.proofs.Entries.{entry_fixed, resumed_fixed}
-use Rattle.determined_tables.proofs.Leaves.{gave_back_sure, joined_sure, live_sure, shared_sure}
+use Rattle.determined_tables.proofs.Leaves.{gave_back_sure, joined_sure, left_waiting_sure, live_sure}
 
 -- the tables in work at the end, and the answer
 abbrev pub Worksheet : Type 0
@@ -50,14 +50,14 @@ module _ (owner : ℕ) where
   took_came _ _ _ _ _ (ways.settled v w t ts some r) = (resumed_fixed v owner t).came w _ r
   took_came _ _ _ _ _ (ways.taken v u w t ts f some r g) = came_trans v u w ((resumed_fixed v owner t).came u _ r) ((gave_back_sure u f).came w tt g)
   took_came _ _ _ _ _ (ways.opened v u w t ts us f progress answer some r on) = came_trans v u w ((resumed_fixed v owner t).came u _ r) (took_came u _ w us answer on)
-  took_came _ _ _ _ _ (ways.waiting v u w t ts f stamp stop some r l) = came_trans v u w ((resumed_fixed v owner t).came u _ r) ((shared_sure u f (level_type (t.level - 1)) stamp).came w tt l)
+  took_came _ _ _ _ _ (ways.waiting v u w t ts f stamp stop some r l) = came_trans v u w ((resumed_fixed v owner t).came u _ r) ((left_waiting_sure u f (t.level - 1) stamp).came w tt l)
   took_came _ _ _ _ _ (ways.stopped v w t ts stop some r) = (resumed_fixed v owner t).came w _ r
 
   rest_came : (t : TableWork) (ts : List TableWork) (u : PortValue) (a : Result Resumed Stop) (w : PortValue) (z : Worksheet) → ResumedRest t ts u a w z → Came u w
   rest_came t ts u (Ok again.Settled) w z p = (fixed_ends u (t ∷ ts, Ok false)).came w z p
   rest_came t ts u (Ok (again.Taken f)) w z p = (gave_back_sure u f).came w tt p.1
   rest_came t ts u (Ok (again.Opened f progress)) w z p = took_came u _ w z.0 z.1 p
-  rest_came t ts u (Ok (again.Waiting f stamp stop)) w z p = (shared_sure u f (level_type (t.level - 1)) stamp).came w tt p.1
+  rest_came t ts u (Ok (again.Waiting f stamp stop)) w z p = (left_waiting_sure u f (t.level - 1) stamp).came w tt p.1
   rest_came t ts u (Err stop) w z p = (fixed_ends u (t ∷ ts, Err stop)).came w z p
 
   -- beside any other way from there
@@ -78,8 +78,8 @@ module _ (owner : ℕ) where
   took_alike _ _ _ _ _ (ways.opened v u w t ts us f progress answer some r on) x z q =
       beside v u w x t ts (Ok (again.Opened f progress)) z _ some r (took_came u _ w us answer on) q (λ s. took_alike u _ w us answer on x z (took_view u _ x z.0 z.1 s))
   took_alike _ _ _ _ _ (ways.waiting v u w t ts f stamp stop some r l) x z q =
-      beside v u w x t ts (Ok (again.Waiting f stamp stop)) z _ some r ((shared_sure u f (level_type (t.level - 1)) stamp).came w tt l) q
-      (λ s. (fixed_sure (t ∷ ts, Err stop) (shared_sure u f (level_type (t.level - 1)) stamp)).alike w x _ z (refl, l) s)
+      beside v u w x t ts (Ok (again.Waiting f stamp stop)) z _ some r ((left_waiting_sure u f (t.level - 1) stamp).came w tt l) q
+      (λ s. (fixed_sure (t ∷ ts, Err stop) (left_waiting_sure u f (t.level - 1) stamp)).alike w x _ z (refl, l) s)
   took_alike _ _ _ _ _ (ways.stopped v w t ts stop some r) x z q = beside v w w x t ts (Err stop) z _ some r (came_self w) q (λ s. (fixed_ends w (t ∷ ts, Err stop)).alike w x _ z (refl, refl) s)
 
   pub took_fixed : (v : PortValue) (ts : List TableWork) → IsFixed v (Took v ts)

@@ -16,21 +16,19 @@ use Rattle.determined_laws.specs.Courses.{Alike}
 use Rattle.determined_laws.specs.Forks.{Tie}
 use Rattle.determined_laws.proofs.Courses.{alike_does, alike_map}
 use Rattle.determined_laws.proofs.Ties.{tie_map, tie_one, tie_then}
+use Rattle.determined_laws.proofs.Waits.{up_same}
 use Rattle.determined_tables.proofs.Chains.{Chain, Ends, IsFixed, IsSure, fixed_by, fixed_ends, fixed_sure, fixed_then, sure_does, sure_two}
 use Rattle.determined_tables.proofs.Leaves.{gave_sure, gave_type_sure, got_fixed, ref_answer}
 use Rattle.determined_tables.proofs.Pages.{got_page_fixed}
 
 -- ---- the lists of their steps
-one_less : (i j : ℕ) → i + 1 ≡ j + 1 → i ≡ j
-one_less i j e = omega (arith, e)
-
 cleared_tie : (f i j : ℕ) (us vs : List Visit) → ClearedBy f i us → ClearedBy f j vs → i ≡ j → Tie us vs (Unit {0})
 cleared_tie f _ _ _ _ whole.none whole.none e = inr (refl, tt)
 cleared_tie f _ _ _ _ whole.none (whole.more j old vs q) e = absurd (omega (arith, e))
 cleared_tie f _ _ _ _ (whole.more i old us p) whole.none e = absurd (omega (arith, e))
 cleared_tie f _ _ _ _ (whole.more i old us p) (whole.more j other vs q) e =
-    tie_then us vs (visit (Cell f i) (Store 0) old ∷ []) (visit (Cell f j) (Store 0) other ∷ []) (Unit {0}) (Unit {0}) (cleared_tie f i j us vs p q (one_less i j e))
-    (λ s t. subst (λ z. Tie (visit (Cell f i) (Store 0) old ∷ []) (visit (Cell f z) (Store 0) other ∷ []) (Unit {0})) (one_less i j e) (tie_map _ _ _ _ (tie_one _ (Cell f i) (Store 0) None old other) (λ z. tt)))
+    tie_then us vs (visit (Cell f i) (Store 0) old ∷ []) (visit (Cell f j) (Store 0) other ∷ []) (Unit {0}) (Unit {0}) (cleared_tie f i j us vs p q (up_same i j e))
+    (λ s t. subst (λ z. Tie (visit (Cell f i) (Store 0) old ∷ []) (visit (Cell f z) (Store 0) other ∷ []) (Unit {0})) (up_same i j e) (tie_map _ _ _ _ (tie_one _ (Cell f i) (Store 0) None old other) (λ z. tt)))
 
 cleared_sure : (v : PortValue) (f count : ℕ) → IsSure v (λ w. Does v w (λ vs. ClearedBy f count vs))
 cleared_sure v f count = sure_does v _ (λ us vs p q. cleared_tie f count count us vs p q refl)

@@ -150,9 +150,6 @@ pub descriptors_alike : (t : DescriptorTask) (v : PortValue) (to other : ℕ) (w
 descriptors_alike t v to other w x answers others a b p q = alike_map (fits_alike t v w x a b p.does q.does) (λ e. (p.done ∙ (ap (λ z. done_by z) e ∙ sym q.done), p.no_ask ∙ sym q.no_ask, e))
 
 -- ---- reads and writes
-pub read_came : (user : Bool) (va : ℕ) (v : PortValue) (to : ℕ) (w : PortValue) (answers : List Bool) (a : Result ℕ Stop) → MakesRead user va v to w answers a → Came v w
-read_came user va v to w answers a p = serves_came v w _ _ p.serves
-
 pub read_alike : (user : Bool) (va : ℕ) (v : PortValue) (to other : ℕ) (w x : PortValue) (answers others : List Bool) (a b : Result ℕ Stop) → MakesRead user va v to w answers a → MakesRead user va v other x others b →
     Alike v w x ((to ≡ other) × (answers ≡ others) × (a ≡ b))
 read_alike user va v to other w x answers others a b p q = alike_map (reads_tie v w x user va a b p.course q.course) (λ e. (p.done ∙ (ap (λ z. done_by z) e ∙ sym q.done), p.no_ask ∙ sym q.no_ask, e))

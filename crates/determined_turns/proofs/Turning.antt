@@ -22,6 +22,7 @@ use Rattle.xp_preempt.specs.Gates.{GivesAnswers, asks_on}
 use Rattle.flush_words.specs.Flushing as flushing
 use Rattle.flush_words.specs.Flushing.{FlushesOwn}
 use Rattle.tlb_walks.specs.Dropping.{Acks, Heeds}
+use Rattle.tlb_walks.proofs.Flushes.{heeds_came}
 use Rattle.level_release.specs.Course.{left_settled}
 use Rattle.domain_destroy.specs.Course.{left_lines}
 use Rattle.domain_destroy.specs.declared.place.DestroyAt.{DestroyAt}
@@ -33,6 +34,7 @@ use Rattle.vcpu_turn.specs.Turning.{Begins, DiesNext, DoesNext, DoesTurn, EndsTu
 use Rattle.vcpu_turn.specs.declared.cpu.Progress.{Progress}
 use Rattle.vcpu_turn.specs.declared.cpu.TurnEnd.{TurnEnd}
 use Rattle.vcpu_turn.specs.declared.cpu.TurnEnd.TheVariants as ends
+use Rattle.vcpu_turn.proofs.TurnSteps.{dies_came, ends_came}
 use Rattle.determined_laws.specs.Courses.{Alike}
 use Rattle.determined_laws.proofs.Courses.{alike_apart, alike_map, alike_move, alike_next, alike_same}
 use Rattle.determined_calls.proofs.Asking.{gives_first, gives_more}
@@ -97,10 +99,6 @@ own_alike {v} {w} {x} {a} {b} p q = by (owns v w a p) (owns v x b q)
         (λ e behind. ticks_alike rest (subst (λ z. Ticks v u x z b) (sym e) behind))
 
 -- ---- the beginning
-heeds_came : (heeded : Bool) (v w : PortValue) → Heeds heeded v w → Came v w
-heeds_came true v w same = subst (λ z. Came v z) (sym same) (came_self v)
-heeds_came false v w p = own_came p.1
-
 heeds_alike : (heeded : Bool) (v w x : PortValue) → Heeds heeded v w → Heeds heeded v x → Alike v w x (Unit {0})
 heeds_alike true v w x p q = alike_same (p ∙ sym q) tt
 heeds_alike false v w x p q = alike_map (own_alike p.1 q.1) (λ e. tt)
@@ -131,11 +129,6 @@ stop_came {v} {w} p = moves_came v w _ _ _ _ _ p.1
 
 stop_alike : {v w x : PortValue} → IsStop v w → IsStop v x → Alike v w x (Unit {0})
 stop_alike p q = alike_map (alike_move p.1 q.1) (λ e. tt)
-
-ends_came : (end : TurnEnd) (v w : PortValue) → EndsTurn end v w → Came v w
-ends_came (ends.Answered reply) v w p = moves_came v w _ _ _ _ _ p.1
-ends_came (ends.Paused p) v w same = subst (λ z. Came v z) (sym same) (came_self v)
-ends_came ends.Retired v w p = stop_came p
 
 ends_alike : (end : TurnEnd) (v w x : PortValue) → EndsTurn end v w → EndsTurn end v x → Alike v w x (Unit {0})
 ends_alike (ends.Answered reply) v w x p q = alike_map (alike_move p.1 q.1) (λ e. tt)
@@ -179,10 +172,6 @@ module _ (says : ℕ → Bool) (n : ℕ) where
   next_alike c None one two v w x answers others end stop real g h p q = alike_same (p.no_step ∙ sym q.no_step) (p.cpu ∙ sym q.cpu, p.no_ask ∙ sym q.no_ask, p.end_is ∙ sym q.end_is)
 
 -- ---- where the domain does not live
-dies_came : (life : ℕ) (c : Processing) (o : Option Op) (c' : Processing) (v w : PortValue) (end : TurnEnd) → DiesNext life c o c' v w end → Came v w
-dies_came life c (Some op) c' v w end p = stop_came p.0
-dies_came life c None c' v w end p = subst (λ z. Came v z) (sym p.0) (came_self v)
-
 dies_alike : (life : ℕ) (c : Processing) (o : Option Op) (one two : Processing) (v w x : PortValue) (end stop : TurnEnd) → DiesNext life c o one v w end → DiesNext life c o two v x stop → Alike v w x ((one ≡ two) × (end ≡ stop))
 dies_alike life c (Some op) one two v w x end stop p q =
     let same = p.1 ∙ sym q.1 in alike_map (stop_alike p.0 q.0) (λ e. (p.2 ∙ (ap (λ z. after_turn c c.at c.log z) same ∙ sym q.2), same))

@@ -17,12 +17,13 @@ use Rattle.vcpu_turn.specs.Extents.{Block, given_lines}
 use Rattle.vcpu_turn.specs.declared.cpu.CallNumber.{CallNumber}
 use Rattle.vcpu_turn.specs.declared.cpu.Progress.{Progress}
 use Rattle.vcpu_turn.specs.Working.{IsPlaced, Valued, WentOn, Works, gave_of, valued}
+use Rattle.vcpu_turn.proofs.Hindering.{reads_came}
 use Rattle.determined_laws.specs.Courses.{Alike}
 use Rattle.determined_laws.proofs.Courses.{alike_map}
 use Rattle.determined_turns.proofs.Elements.{ext_list_alike, ext_list_came, owned_alike, owned_came, whole_alike, whole_came}
 use Rattle.determined_turns.proofs.Extents.{extents_alike, extents_came}
 use Rattle.determined_turns.proofs.Lists.{Answer}
-use Rattle.determined_turns.proofs.Mapping.{descriptors_alike, descriptors_came, maps_alike, maps_came, read_alike, read_came, write_alike, write_came}
+use Rattle.determined_turns.proofs.Mapping.{descriptors_alike, descriptors_came, maps_alike, maps_came, read_alike, write_alike, write_came}
 
 -- ---- the value of what answers none is 0
 valued_same : (a b : Answer) → a ≡ b → valued a ≡ valued b
@@ -42,7 +43,7 @@ module _ (says : ℕ → Bool) (n : ℕ) where
   works_came d (Some (OfMem command order items)) awaited v from to w answers a g p = extents_came d command order items says n from v w to answers p.ended g p.works
   works_came d (Some (OfMapping foreign va word flags)) awaited v from to w answers a g p = maps_came d foreign va word flags says awaited v from to w answers p.ended p.works
   works_came d (Some (OfDescriptors tables)) awaited v from to w answers a g p = descriptors_came tables v to w answers p.ended p.works
-  works_came d (Some (OfRead user va)) awaited v from to w answers a g p = read_came user va v to w answers a p
+  works_came d (Some (OfRead user va)) awaited v from to w answers a g p = reads_came user va v to w answers a p
   works_came d (Some (OfWrite user va val)) awaited v from to w answers a g p = write_came user va val v to w answers p.ended p.works
 
   pub valued_as : {P Q : Answer → Type 0} {a b : Result ℕ Stop} (p : Valued P a) (q : Valued Q b) → p.ended ≡ q.ended → a ≡ b

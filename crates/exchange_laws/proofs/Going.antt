@@ -20,7 +20,7 @@ page_left_came v w f owner stamp true true a = does_came v w _ a
 page_left_came v w f owner stamp true false a = left_came v w f 0 owner stamp true true a
 page_left_came v w f owner stamp false refused a = does_came v w _ a
 
-took_page_came : (v : PortValue) (f owner : ℕ) (w : PortValue) (r : Result (Unit {0}) Stop) → TookPage v f owner w r → Came v w
+pub took_page_came : (v : PortValue) (f owner : ℕ) (w : PortValue) (r : Result (Unit {0}) Stop) → TookPage v f owner w r → Came v w
 took_page_came v f owner _ _ (pages.counted w type) = does_came v w _ type.found
 took_page_came v f owner _ _ (pages.untyped u w stop type back) = came_trans v u w (does_came v u _ type.found) (gave_came u w f back)
 took_page_came v f owner _ _ (pages.waiting u w own stamp stop type left) = came_trans v u w (does_came v u _ type.found) (page_left_came u w f owner stamp own _ left.steps)

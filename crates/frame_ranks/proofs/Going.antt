@@ -124,7 +124,7 @@ module _ (n : Machine) (owner : ℕ) (v w : PortValue) (t : TableWork) (ts : Lis
   waiting_again u f stamp stop there a b =
       let o = resume_waiting n owner (told_word v) u spelled f stamp stop _ (subst (λ k. ResumesPlainly k u (told_word v) owner (Ok (again.Waiting f stamp stop)) (demand_at (level_type t.level) (t.done - 1) (told_word v (Cell t.frame (t.done - 1))))) at.machine (a.plain (at_telling n v at))) in
       let k = partial_kind (level_type (t.level - 1)) false true 0 stamp in
-      let left = shared_turned u w f (level_type (t.level - 1)) stamp (at_telling n u there) (resumed_low v u t.frame (t.done - 1) (level_type t.level) owner (again.Waiting f stamp stop) a.found) b in
+      let left = shared_turned u w f (level_type (t.level - 1)) stamp (at_telling n u there) (resumed_low v u t.frame (t.done - 1) (level_type t.level) owner (again.Waiting f stamp stop) a.found) b.found in
       beside n (told_word v) (told_word w) f k (turned_twice (told_word v) (told_word u) (told_word w) f o.word k o.turned left) (t ∷ ts) works o.waits.idle o.waits.low (dead_lasts (kind_at (told_word v) f) k o.waits.dead)
 
   -- ---- the next entry

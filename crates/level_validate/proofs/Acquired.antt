@@ -13,21 +13,24 @@ use Rattle.xp_board.specs.Hands.{typed_to, without_ref}
 use Rattle.xp_board.specs.KindSteps.{live_typed}
 use Rattle.xp_board.specs.Lists.{times_by}
 use Rattle.xp_board.specs.Told.{PortValue, is_telling, told_word, Post}
-use Rattle.step_maker.specs.Holds.{FlushedHolds, Holds, Same, quiet}
+use Rattle.step_maker.specs.Holds.{FlushedHolds, Holds, MayWork, Same, quiet}
 use Rattle.frame_words.specs.Freeing.{gave, Puts}
 use Rattle.frame_words.specs.Refs.{took, Gets, IsRefStop}
 use Rattle.kind_words.proofs.Leaving.{without_newest}
 use Rattle.frame_types.specs.Found.{TakesFound}
 use Rattle.frame_types.specs.Plain.{is_refused, TwinTake}
-use Rattle.frame_types.specs.Taking.{IsOfOther, WorksFrom, typed_as, working, working_typed, IsTypeStop, ShowsWait}
+use Rattle.frame_types.specs.Taking.{IsOfOther, TakesAs, WorksFrom, typed_as, working, working_typed, IsTypeStop, ShowsWait}
 use Rattle.frame_types.specs.declared.taking.Taken.TheVariants.{InWork}
 use Rattle.table_words.proofs.Shedding.{none_unsettled}
 use Rattle.partial_state.specs.declared.stack.TableWork.{TableWork}
 use Rattle.partial_state.specs.Levels.{level_type}
 use Rattle.partial_state.specs.Stacks.{IsTable}
-use Rattle.level_validate.specs.Acquiring.{LeavesAcquired, WaitedHand, named_if, AcquiresBy, is_due_answer, is_due_stop, ServesAcquired, StopsRisen, is_paused_answer, of_acquire}
+use Rattle.level_validate.specs.Acquiring.{LeavesAcquired, WaitedHand, named_if, AcquiresBy, is_due_answer, is_due_stop, ServesAcquired, is_paused_answer, of_acquire}
 use Rattle.level_validate.specs.Tables.{AreTables, AreTyped, Carries, IsIdle, IsTableWork, IsTopReady, innermost, refs_for}
-use Rattle.level_validate.specs.Unwinding.{Unwinds, UnwoundHand, named_unless, own_domain}
+use Rattle.level_validate.specs.Unwinding.{UnwoundHand, named_unless, own_domain}
+use Rattle.level_validate.proofs.Going.{ComesIn}
+use Rattle.level_validate.proofs.Serving.{StopsRisen}
+use Rattle.level_validate.proofs.Standing.{may_stands}
 use Rattle.level_validate.proofs.Opening.{taken_open, wait_stops}
 use Rattle.level_validate.proofs.Pushing.{ready_by}
 use Rattle.step_maker.specs.Plain.{Leaves}
@@ -155,10 +158,13 @@ module _ {v : PortValue} (b : PortValue) (f owner : ℕ) (idle : IsIdle v) (refe
     pub taken_ready : (own : Bool) (want : PageType) (progress : ℕ) → WorksFrom b x f owner want progress own → progress ≡ 0 → IsTopReady x
     taken_ready own want progress o zero = ready_by x o.work [] (works_taken own want progress o) (none_unsettled (sizes_of x.post.machine) x.holdings o.work (o.settled zero))
 
-pub carries_taken : (v b x : PortValue) (f owner level progress : ℕ) (own : Bool) (want : PageType) → IsIdle v → Holds v b (took f owner v.holdings) → want ≡ level_type level → 1 ≤ level → level ≤ 4 → f < v.post.machine.frames →
-    WorksFrom b x f owner want progress own → TakesFound b x f owner want (Ok (InWork progress own)) → Carries v x owner (taken_table f level progress own ∷ [])
-carries_taken v b x f owner level progress own want idle referred is low high inside o found =
-    taken_carries b f owner idle referred x level progress (taken_open b x f owner want progress own found).few low high inside own (subst (λ k. WorksFrom b x f owner k progress own) is o)
+pub comes_in : {v : PortValue} (b : PortValue) {x : PortValue} {f owner level progress : ℕ} {own : Bool} {want : PageType} {t : Taken} → IsIdle v → MayWork v → Holds v b (took f owner v.holdings) → want ≡ level_type level → 1 ≤ level → level ≤ 4 → f < v.post.machine.frames →
+    t ≡ InWork progress own → TakesAs b x f owner want t → TakesFound b x f owner want (Ok t) → ComesIn v x owner (taken_table f level progress own)
+comes_in {v} b {x} {f} {owner} {level} {progress} {own} {want} idle may referred is low high inside so hand found =
+    let takes = subst (λ (t : Taken). TakesAs b x f owner want t × TakesFound b x f owner want (Ok t)) so (hand, found) in
+    let works = takes.0.1 in
+    let carries = taken_carries b f owner idle referred x level progress (taken_open b x f owner want progress own takes.1).few low high inside own (subst (λ k. WorksFrom b x f owner k progress own) is works) in
+    record { carries = carries; fresh = taken_ready b f owner idle referred x own want progress works; may = may_stands v x owner (taken_table f level progress own ∷ []) carries may }
 
 -- ---- by the answer
 unwound_named : (g level progress : ℕ) (own kept : Bool) (h : Holdings) → named_unless kept (taken_table g level progress own) h ≡ named_if g own kept h
@@ -190,9 +196,8 @@ module _ (v w : PortValue) (f owner level : ℕ) where
   answer_leaves g own kept e same is left = named_leaves own e (subst (λ b. WaitedHand v w f owner own b) is (subst (λ y. WaitedHand v w y owner own kept) same left))
 
   -- all tables in work were left
-  pub unwound_leaves : (x : PortValue) (g progress : ℕ) (own : Bool) (e : Stop) → g ≡ f → Carries v x owner (taken_table g level progress own ∷ []) → Unwinds x w owner (not (is_refused e)) (taken_table g level progress own ∷ []) →
-      LeavesAcquired v w f owner level (Err e)
-  unwound_leaves x g progress own e same s left = answer_leaves g own (not (is_refused e)) e same refl (unwound_waited v w g owner level progress own (not (is_refused e)) (left v s))
+  pub unwound_leaves : (g progress : ℕ) (own : Bool) (e : Stop) → g ≡ f → UnwoundHand v w owner (keeps_it e) (taken_table g level progress own ∷ []) → LeavesAcquired v w f owner level (Err e)
+  unwound_leaves g progress own e same left = answer_leaves g own (keeps_it e) e same refl (unwound_waited v w g owner level progress own (keeps_it e) left)
 
   pub leaves_as : (answer : Result ℕ Stop) (e : Stop) → answer ≡ Err e → LeavesAcquired v w f owner level (Err e) → LeavesAcquired v w f owner level answer
   leaves_as answer e is left = subst (λ y. LeavesAcquired v w f owner level y) (sym is) left
@@ -254,7 +259,7 @@ module _ (v : PortValue) (f owner level : ℕ) where
         finished_by c =
             of_frame_asked w (gated_as refl (λ answers gave.
             let p : ValidatesBy owner x (outermost_table f level progress own) w answers (Ok tt) = subst (λ (n : ℕ). ValidatesBy owner x (outermost_table n level progress own) w answers (Ok tt)) same gave in
-            Acquired.finished u x p.0 w progress own p.1 answers got (typed_so (types.InWork progress own) so) p.2 p.3 p.4) c)
+            Acquired.finished u x p.0 w progress own (record (outermost_table f level progress own) { done = 512 }) answers got (typed_so (types.InWork progress own) so) p.1 refl p.2) c)
 
         pub unfinished_by : (answer : Result ℕ Stop) (e : Stop) → answer ≡ Err e → Gated now then (is_due_stop e) (λ answers. ValidatesBy owner x (outermost_table g level progress own) w answers (Err e)) →
             AcquiresBy v w f owner level now then answer
@@ -262,7 +267,7 @@ module _ (v : PortValue) (f owner level : ℕ) where
             subst (λ (r : Result ℕ Stop). AcquiresBy v w f owner level now then r) (sym is)
             (gated_as refl (λ answers gave.
             let p : ValidatesBy owner x (outermost_table f level progress own) w answers (Err e) = subst (λ (n : ℕ). ValidatesBy owner x (outermost_table n level progress own) w answers (Err e)) same gave in
-            Acquired.unfinished u x p.0 w progress own p.1 answers e got (typed_so (types.InWork progress own) so) p.2 p.3) c)
+            Acquired.unfinished u x p.0 w progress own p.1 answers e got (typed_so (types.InWork progress own) so) p.2 p.3.course) c)
 
 -- A call that takes a frame as a page table: its steps go on with its request, and show why it stops.
 not_same : (m n : ℕ) → m ≢ n → not (m == n) ≡ true

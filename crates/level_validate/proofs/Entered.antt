@@ -48,11 +48,8 @@ use Rattle.level_validate.proofs.Pushing.{e, es, looked_hand, looked_only, looke
 use Rattle.table_words.proofs.Shedding.{none_unsettled}
 use Rattle.xp_words.specs.declared.reply.Stop.{Stop}
 use Rattle.xp_words.proofs.Shared.{eq_one as number_one}
-use Rattle.step_maker.specs.Answers.{Stops}
 use Rattle.partial_state.specs.Stacks.{advanced, left_on_top, IsStack}
-use Rattle.table_entries.specs.Asking.{ShowsEntered, of_entries}
-use Rattle.table_entries.specs.Found.{EntersFound}
-use Rattle.table_entries.specs.Plain.{TwinEntry}
+use Rattle.table_entries.specs.Between.{TakesNext}
 use Rattle.table_entries.specs.declared.entries.Entered.{Entered}
 use Rattle.table_entries.specs.Acquiring.{Advanced, TookEntry, TookOn, one_entry_more, table_opened}
 use Rattle.std.proofs.lemmas.Result.{IfOk-weaker}
@@ -216,26 +213,11 @@ module _ {v u x : PortValue} {owner : ℕ} {t : TableWork} {ts : List TableWork}
 
 -- The next entry of the innermost table is taken: what that is of the course, by the answer.
 -- ---- the call that takes it, for the type of the table's level
-module _ (v w : PortValue) (owner : ℕ) (t : TableWork) {k : PageType} (is : k ≡ level_type t.level) (top : WorksAtTop t.frame (level_type t.level) t.done v.holdings) where
-  pub entered_ok : (b a : Entered) → b ≡ a → EntersFound v w t.frame t.done k owner (Ok b) → TwinEntry v w t.frame k t.done owner (Ok b) → ((pages : ℕ) → ShowsEntered v w owner pages k b) → TookEntry v w owner t (Ok a)
-  entered_ok b a same found plain shows =
-      record {
-        top = top;
-        found = subst (λ (j : PageType). EntersFound v w t.frame t.done j owner (Ok a)) is (subst (λ (r : Entered). EntersFound v w t.frame t.done k owner (Ok r)) same found);
-        plain = subst (λ (j : PageType). TwinEntry v w t.frame j t.done owner (Ok a)) is (subst (λ (r : Entered). TwinEntry v w t.frame k t.done owner (Ok r)) same plain);
-        stops = λ pages. tt;
-        shows = λ pages. subst (λ (j : PageType). ShowsEntered v w owner pages j a) is (subst (λ (r : Entered). ShowsEntered v w owner pages k r) same (shows pages));
-      }
-
-  pub entered_err : (e : Stop) → EntersFound v w t.frame t.done k owner (Err e) → TwinEntry v w t.frame k t.done owner (Err e) → ((pages : ℕ) → Stops v w (of_entries owner pages) e) → TookEntry v w owner t (Err e)
-  entered_err e found plain stops =
-      record {
-        top = top;
-        found = subst (λ (j : PageType). EntersFound v w t.frame t.done j owner (Err e)) is found;
-        plain = subst (λ (j : PageType). TwinEntry v w t.frame j t.done owner (Err e)) is plain;
-        stops = stops;
-        shows = λ pages. tt;
-      }
+pub next_of : {v w : PortValue} {owner : ℕ} {t : TableWork} {k : PageType} {a b : Result Entered Stop} → k ≡ level_type t.level → WorksAtTop t.frame (level_type t.level) t.done v.holdings → a ≡ b →
+    TakesNext v w t.frame t.done owner k a → TookEntry v w owner t b
+next_of {v} {w} {owner} {t} {k} {a} {b} is top same e =
+    let f = subst (λ (j : PageType). TakesNext v w t.frame t.done owner j b) is (subst (λ r. TakesNext v w t.frame t.done owner k r) same e) in
+    record { top = top; found = f.found; plain = f.plain; serves = f.serves; stops = f.stops; shows = f.shows; hand = f.hand }
 
 -- ---- from a stack of which that table is the top
 module _ (owner : ℕ) (v : PortValue) {t : TableWork} {ts stack : List TableWork} (top : stack ≡ t ∷ ts) (left : 0 < left_on_top stack) where

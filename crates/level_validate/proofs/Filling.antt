@@ -1,52 +1,16 @@
--- Why a call stops that asked the tables in work, where the gate is one of the reasons.
-use Rattle.std.proofs.Common.{◌≡◌, ℕ, Bool, true, List, Result, Err, IfOk, IfErr, inl, refl, sym, subst, ◌&&◌, false, [], ◌∷◌, Ok, ap, ◌∙◌, ◌++◌}
-use Rattle.std.proofs.lemmas.Result.{IfOk-weaker}
+-- The tables in work are filled, and the gate is asked behind each entry: the course, of its parts.
+use Rattle.std.proofs.Common.{◌≡◌, ℕ, Bool, true, List, Result, Err, IfErr, refl, sym, subst, ◌&&◌, false, [], ◌∷◌, Ok, ap, ◌∙◌, ◌++◌}
 use Rattle.xp_words.specs.declared.reply.Stop.{Stop}
 use Rattle.xp_words.specs.declared.reply.Pause.TheVariants.{Due, Busy, Flush, Lost}
 use Rattle.xp_words.specs.declared.reply.Stop.TheVariants.{Paused, Refused}
 use Rattle.xp_board.specs.Told.{PortValue}
-use Rattle.step_maker.specs.Moves.{Came, Met}
-use Rattle.step_maker.specs.Answers.{Stops, misses}
-use Rattle.step_maker.specs.Pauses.{Progress}
-use Rattle.step_maker.proofs.Piecing.{serves_came, stops_before}
 use Rattle.partial_state.specs.declared.stack.TableWork.{TableWork}
-use Rattle.level_validate.specs.Acquiring.{StopsRisen, is_due_answer, is_due_stop, outermost_work}
-use Rattle.level_validate.specs.Serving.{StopsIn, CarriesOn}
-use Rattle.step_maker.proofs.Progressing.{progress_after}
+use Rattle.level_validate.specs.Acquiring.{is_due_answer, is_due_stop}
 use Rattle.xp_preempt.specs.Gates.{Consulted, Gate, Gated, ends_yes}
 use Rattle.xp_preempt.proofs.Consulting.{gated_as, gated_none, gated_one, gated_then}
-use Rattle.level_validate.specs.Courses.{asked_once, GoesOnFilling, ValidatesBy}
+use Rattle.level_validate.specs.Courses.{asked_once, GoesOnFilling, LeavesAll, ValidatesBy}
 use Rattle.table_entries.specs.Asking.{IsEntryStop}
-use Rattle.table_entries.specs.Acquiring.{Filled, TookOn, Worked, is_asked, Advanced, MadeLive, Unwound, keeps_it}
-use Rattle.step_maker.specs.Holds.{MayWork}
-use Rattle.step_maker.proofs.Coming.{came_trans}
-use Rattle.level_validate.specs.Tables.{IsStanding, IsTopReady, StandsOn}
-use Rattle.level_validate.proofs.Serving.{goes_on, goes_then}
-use Rattle.level_validate.proofs.Standing.{may_back, may_stands}
-
-module _ (v w : PortValue) (owner : ℕ) (ts : List TableWork) (e : Stop) where
-  -- it is none of them
-  pub risen_in : StopsIn v w owner ts e → StopsRisen v w owner ts e
-  unfolding StopsIn StopsRisen
-  risen_in stops u r ds rose s a = stops u r ds s a
-
-  -- more steps behind
-  pub risen_on : (x : PortValue) → Came w x → StopsRisen v w owner ts e → StopsRisen v x owner ts e
-  unfolding StopsRisen
-  risen_on x came stops u r ds rose s a = stops_before u w x r e (stops u r ds rose s a) came
-
--- the gate said yes, and something got on
-pub risen_due : (v w : PortValue) (owner : ℕ) (ts : List TableWork) → Progress (Met v w) → StopsRisen v w owner ts (Paused Due)
-unfolding StopsRisen Stops
-risen_due v w owner ts gets_on u r ds rose s a = (rose refl, inl (progress_after u v w (serves_came u v r ds a.serves) gets_on))
-
--- ---- by the answer
-pub risen_answer : {A : Type 0} (v w : PortValue) (owner : ℕ) (ts : List TableWork) (r : Result A Stop) (e : Stop) → r ≡ Err e → StopsRisen v w owner ts e → IfErr r (λ k. StopsRisen v w owner ts k)
-risen_answer v w owner ts r e is stops = subst (λ y. IfErr y (λ k. StopsRisen v w owner ts k)) (sym is) stops
-
--- an entry is done with behind a piece
-pub progress_answer : {E : Type 0} (v u w : PortValue) (r : Result Bool E) → Came v u → IfOk r (λ done. done ≡ true → Progress (Met u w)) → IfOk r (λ done. done ≡ true → Progress (Met v w))
-progress_answer v u w r came gets_on = IfOk-weaker r (λ done. done ≡ true → Progress (Met u w)) (λ done. done ≡ true → Progress (Met v w)) (λ done on is. progress_after v u w came (on is)) gets_on
+use Rattle.table_entries.specs.Acquiring.{Filled, TookOn, Worked, is_asked, Advanced, MadeLive, keeps_it}
 
 -- The gate is asked behind an entry, or not: what it answers, and what the answer of the call then says.
 pub not_asked : {g : Gate} {asked : Bool} → asked ≡ false → Gated g g false (λ answers. answers ≡ asked_once asked false)
@@ -60,12 +24,6 @@ pub due_asked : (done asked : Bool) (answers : List Bool) → true ≡ ends_yes 
 due_asked true true answers ends is = (refl, refl)
 due_asked true false answers ends is = absurd cc
 due_asked false asked answers ends is = absurd cc
-
-pub asked_stops : (v w : PortValue) (owner : ℕ) (ts : List TableWork) (done asked : Bool) (answer : Result (Unit {0}) Stop) → IfErr answer (λ e. e ≡ Paused Due) → (done ≡ true → Progress (Met v w)) →
-    (answers : List Bool) → is_due_answer answer ≡ ends_yes answers → answers ≡ asked_once (done && asked) (is_due_answer answer) → IfErr answer (λ e. StopsRisen v w owner ts e)
-asked_stops v w owner ts done asked (Ok x) kinds gets_on answers due is = tt
-asked_stops v w owner ts done asked (Err (Paused Due)) kinds gets_on answers due is = risen_due v w owner ts (gets_on (due_asked done asked answers due is).0)
-asked_stops v w owner ts done asked (Err e) kinds gets_on answers due is = absurd cc
 
 -- The tables are filled, one step behind the other: that part of the course.
 pub entry_undue : (e : Stop) → IsEntryStop e → is_due_stop e ≡ false
@@ -144,51 +102,10 @@ module _ (owner : ℕ) (v w : PortValue) (ts us : List TableWork) where
   asked_going done step answer kinds c =
       record { answers = c.answers; course = by_answer done step (is_asked us) refl answer kinds c.answers c.due c.course; gate = c.gate; due = c.due }
 
--- The loop that takes one entry after the other: what it keeps, and what it gives where it ends.
--- wherever the tables ts came into work, us are in work now, with the same outermost one; and the steps went on with what asked ts
-pub record Filling (u w : PortValue) (owner : ℕ) (ts us : List TableWork) : Type 0 where
-  pub came : Came u w
-  pub stands : StandsOn u w owner ts us
-  pub outer : outermost_work us ≡ outermost_work ts
-  pub ready : IsTopReady w
-  pub serves : CarriesOn u w owner ts us []
-
-module _ {u x : PortValue} {owner : ℕ} {ts us : List TableWork} (f : Filling u x owner ts us) where
-  pub filling_may : IsStanding u owner ts → MayWork u → MayWork x
-  filling_may s may = may_stands s.0 x owner us (f.stands s.0 s.1) (may_back s.0 u owner ts s.1 may)
-
-  pub filling_standing : IsStanding u owner ts → IsStanding x owner us
-  filling_standing s = (s.0, f.stands s.0 s.1)
-
-  -- a call behind it
-  module _ (w : PortValue) (rs : List TableWork) where
-    pub filling_came : Came x w → Came u w
-    filling_came came = came_trans u x w f.came came
-
-    pub filling_stands : StandsOn x w owner us rs → StandsOn u w owner ts rs
-    filling_stands stands v s = stands v (f.stands v s)
-
-    pub filling_serves : {A : Type 0} (r : Result A Stop) → CarriesOn x w owner us rs (misses x.post.machine r) → CarriesOn u w owner ts rs (misses u.post.machine r)
-    filling_serves r serves = goes_on u x w owner ts us rs r f.came f.serves serves
-
-    pub filling_stops : (e : Stop) → StopsRisen x w owner us e → StopsRisen u w owner ts e
-    unfolding StopsRisen CarriesOn
-    filling_stops e stops v r ds rose s a = stops v r ds rose (f.stands v s) (f.serves v r ds a)
-
-pub filling_on : (u x w : PortValue) (owner : ℕ) (ts us rs : List TableWork) → Filling u x owner ts us → Came x w → StandsOn x w owner us rs → outermost_work rs ≡ outermost_work us → IsTopReady w → CarriesOn x w owner us rs [] → Filling u w owner ts rs
-filling_on u x w owner ts us rs f came stands outer ready serves =
-    record {
-      came = filling_came f w rs came;
-      stands = filling_stands f w rs stands;
-      outer = outer ∙ f.outer;
-      ready = ready;
-      serves = goes_then u x w owner ts us rs [] [] f.serves serves;
-    }
-
 -- A frame is taken as a page table: the course, of its parts.
-module _ (owner : ℕ) (v y w : PortValue) (t : TableWork) (us : List TableWork) {g h : Gate} where
-  pub validated_live : (u : TableWork) → us ≡ u ∷ [] → u.done ≡ 512 → MadeLive y w u → Gated g h false (λ answers. Worked owner v t y us answers (Ok tt)) → Gated g h false (λ answers. ValidatesBy owner v t w answers (Ok tt))
-  validated_live u only full live c = gated_as refl (λ answers worked. (y, u, subst (λ (xs : List TableWork). Worked owner v t y xs answers (Ok tt)) only worked, full, live)) c
+module _ {owner : ℕ} {v y w : PortValue} {t : TableWork} {us : List TableWork} {g h : Gate} where
+  pub validated_live : us ≡ record t { done = 512 } ∷ [] → MadeLive y w (record t { done = 512 }) → Gated g h false (λ answers. Worked owner v t y us answers (Ok tt)) → Gated g h false (λ answers. ValidatesBy owner v t w answers (Ok tt))
+  validated_live only live c = gated_as refl (λ answers worked. (y, subst (λ (xs : List TableWork). Worked owner v t y xs answers (Ok tt)) only worked, live)) c
 
-  pub validated_left : {rose : Bool} (e : Stop) (kept : Bool) → kept ≡ keeps_it e → Unwound y owner us kept w → Gated g h rose (λ answers. Worked owner v t y us answers (Err e)) → Gated g h rose (λ answers. ValidatesBy owner v t w answers (Err e))
-  validated_left e kept is unwound c = gated_as refl (λ answers worked. (y, us, worked, subst (λ (b : Bool). Unwound y owner us b w) is unwound)) c
+  pub validated_left : {rose : Bool} {e : Stop} {kept : Bool} → kept ≡ keeps_it e → LeavesAll y w owner kept us → Gated g h rose (λ answers. Worked owner v t y us answers (Err e)) → Gated g h rose (λ answers. ValidatesBy owner v t w answers (Err e))
+  validated_left is left c = gated_as refl (λ answers worked. (y, us, worked, subst (λ (b : Bool). LeavesAll y w owner b us) is left)) c

@@ -2,6 +2,7 @@ mod Acquired
 mod Completed
 mod Entered
 mod Filling
+mod Going
 mod Leaving
 mod LeftWaiting
 mod LookedAgain

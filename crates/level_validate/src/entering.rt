@@ -1,16 +1,11 @@
 //! The next entry of the innermost table, and the last recorded one of a table that was left unfinished.
-ghost use Rattle.std.specs.Prelude.{◌≡◌, ◌+◌, ◌<◌, ◌∷◌, true, false, drop, IfOk, IfErr};
+ghost use Rattle.std.specs.Prelude.{◌≡◌, ◌+◌, ◌<◌, ◌∷◌, drop, IfOk, IfErr};
 ghost use Rattle.step_maker.specs.Holds.{MayWork};
-ghost use Rattle.step_maker.specs.Moves.{Came, Met};
 ghost use Rattle.table_entries.specs.Asking.{IsEntryStop};
-ghost use Rattle.step_maker.specs.Answers.{misses};
-ghost use Rattle.step_maker.specs.Pauses.{Progress};
 ghost use Rattle.partial_state.specs.Stacks.{left_on_top};
 ghost use Rattle.partial_state.specs.Weights.{entry_weight, weight};
 ghost use Rattle.table_entries.specs.Acquiring.{Advanced, TookOn};
-ghost use Rattle.level_validate.specs.Acquiring.{outermost_work};
-ghost use Rattle.level_validate.specs.Serving.{CarriesOn, StopsIn};
-ghost use Rattle.level_validate.specs.Tables.{IsTopReady, IsStanding, StandsOn};
+ghost use Rattle.level_validate.specs.Tables.{IsTopReady, IsStanding};
 
 use crate::completing::give_back;
 use frame_types::leave_shared;
@@ -26,16 +21,9 @@ pub(crate) fn enter<P: Port>(port: &mut P, owner: u16, stack: &mut Stack) -> Res
     requires stands { IsStanding (P.value port.old) owner stack.old }
     requires ready { IsTopReady (P.value port.old) }
     requires left { 0 < left_on_top stack.old }
-    ensures came { Came (P.value port.old) (P.value port.new) }
-    ensures stands { StandsOn (P.value port.old) (P.value port.new) owner stack.old stack.new }
-    ensures ready { IfOk result (λ _. IsTopReady (P.value port.new)) }
     ensures kinds { IfErr result IsEntryStop }
-    ensures outer { outermost_work stack.new ≡ outermost_work stack.old }
-    ensures progress { IfOk result (λ done. done ≡ true → Progress (Met (P.value port.old) (P.value port.new))) }
     // What is left to do grows less.
     ensures less { IfOk result (λ _. weight stack.new < weight stack.old) }
-    ensures serves { CarriesOn (P.value port.old) (P.value port.new) owner stack.old stack.new (misses (P.value port.old).post.machine result) }
-    ensures stops { IfErr result (λ e. StopsIn (P.value port.old) (P.value port.new) owner stack.old e) }
     ensures course { Advanced owner (P.value port.old) stack.old (P.value port.new) stack.new result }
 {
     let Some(top) = stack.top() else {
@@ -87,15 +75,8 @@ pub(crate) fn take_on<P: Port>(
     requires top { stack.old ≡ top ∷ drop 1 stack.old }
     requires stands { IsStanding (P.value port.old) owner stack.old }
     requires fresh { top.done ≡ 0 → IsTopReady (P.value port.old) }
-    ensures came { Came (P.value port.old) (P.value port.new) }
-    ensures stands { StandsOn (P.value port.old) (P.value port.new) owner stack.old stack.new }
-    ensures ready { IfOk result (λ _. IsTopReady (P.value port.new)) }
     ensures kinds { IfErr result IsEntryStop }
-    ensures outer { outermost_work stack.new ≡ outermost_work stack.old }
-    ensures progress { IfOk result (λ done. done ≡ true → Progress (Met (P.value port.old) (P.value port.new))) }
     ensures less { IfOk result (λ _. weight stack.new < weight stack.old + entry_weight top.level) }
-    ensures serves { CarriesOn (P.value port.old) (P.value port.new) owner stack.old stack.new (misses (P.value port.old).post.machine result) }
-    ensures stops { IfErr result (λ e. StopsIn (P.value port.old) (P.value port.new) owner stack.old e) }
     ensures course { TookOn owner (P.value port.old) stack.old (P.value port.new) stack.new result }
 {
     if top.done == 0 {

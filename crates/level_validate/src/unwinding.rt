@@ -12,11 +12,11 @@ ghost use Rattle.table_words.specs.OldWords.{known_old};
 ghost use Rattle.table_words.specs.declared.old_words.OldWord.TheVariants.{First};
 ghost use Rattle.partial_state.specs.Levels.{level_type};
 ghost use Rattle.partial_state.specs.declared.stack.TableWork.{TableWork};
-ghost use Rattle.table_entries.specs.Acquiring.{GaveRef, InnerLeft, LeftPartial, OutermostLeft, Unwound};
-ghost use Rattle.level_validate.specs.Courses.{UnwindsOn};
+ghost use Rattle.table_entries.specs.Acquiring.{GaveRef, InnerLeft, LeftPartial, OutermostLeft};
+ghost use Rattle.level_validate.specs.Courses.{LeavesAll, UnwindsOn};
 ghost use Rattle.level_validate.specs.Serving.{CarriesOn, ServesLeft, ServesTo};
 ghost use Rattle.level_validate.specs.Tables.{IsStanding, StandsOn};
-ghost use Rattle.level_validate.specs.Unwinding.{Unwinds, UnwindsTo, around_lent, left_so, outermost_frame};
+ghost use Rattle.level_validate.specs.Unwinding.{Unwinds, UnwindsTo, around_lent, left_so};
 
 use frame_words::put_ref;
 use kept_marks::leave_kept;
@@ -33,11 +33,7 @@ pub(crate) fn unwind<P: Port>(port: &mut P, stack: &mut Stack, kept: bool, owner
     requires stands { IsStanding (P.value port.old) owner stack.old }
     requires real { owner < length (P.value port.old).post.machine.page_limit }
     requires room { known_old First (P.value port.old).holdings ≡ Some 0 }
-    ensures came { Came (P.value port.old) (P.value port.new) }
-    ensures hand { Unwinds (P.value port.old) (P.value port.new) owner kept stack.old }
-    ensures done { stack.new ≡ [] }
-    ensures serves { ServesLeft (P.value port.old) (P.value port.new) owner kept (outermost_frame stack.old) stack.old [] }
-    ensures course { Unwound (P.value port.old) owner stack.old kept (P.value port.new) }
+    ensures { LeavesAll (P.value port.old) (P.value port.new) owner kept stack.old }
 {
     while let Some(table) = stack.pop() {
         leave_table(port, stack, table, kept, owner);

@@ -54,9 +54,9 @@ rests_then v w x idles hand is =
       empty = now.empty;
     }
 
-pub fresh_idles : (b b1 : Board) (s s1 lender : ℕ) → b1 ≡ b → s1 ≡ s → s < (sizes_of b.machine).vcpus → TakesFresh b → Idles (port_value b1 s1 lender)
+pub fresh_idles : (b b1 : Board) (s s1 : ℕ) → b1 ≡ b → s1 ≡ s → s < (sizes_of b.machine).vcpus → TakesFresh b → Idles (port_value b1 s1)
 unfolding TakesFresh
-fresh_idles b b1 s s1 lender same vcpu real takes = subst Idles (λ i. port_value (sym same i) (sym vcpu i) lender) (takes s lender [] real).idles
+fresh_idles b b1 s s1 same vcpu real takes = subst Idles (λ i. port_value (sym same i) (sym vcpu i)) (takes s [] real).idles
 
 -- ---- the ask
 
@@ -85,38 +85,37 @@ may_ask u v w x k clock run flushed first second third idle behind =
 
 -- ---- the board afterwards
 -- what one port of the board did
-takes_next : (b b2 : Board) (s lender : ℕ) → b2.machine ≡ b.machine → s < (sizes_of b.machine).vcpus → length b.story.hands ≡ (sizes_of b.machine).vcpus → Came (port_value b s lender) (port_value b2 s lender) →
-    Holds (port_value b s lender) (port_value b2 s lender) (record (hand_of b.story.hands s) { run = Some 0 }) → TakesFresh b → TakesFresh b2
+takes_next : (b b2 : Board) (s : ℕ) → b2.machine ≡ b.machine → s < (sizes_of b.machine).vcpus → length b.story.hands ≡ (sizes_of b.machine).vcpus → Came (port_value b s) (port_value b2 s) →
+    Holds (port_value b s) (port_value b2 s) (record (hand_of b.story.hands s) { run = Some 0 }) → TakesFresh b → TakesFresh b2
 unfolding TakesFresh
-takes_next b b2 s lender machine real hands came hand takes t other script there =
-    let v = port_value b s lender in
-    let w = port_value b2 s lender in
-    let idles : Idles w = found_run v w 0 hand (takes s lender [] real).idles in
-    let moved = (stepping b b2 s lender real hands (came_goes v w came) idles.empty).moved in
+takes_next b b2 s machine real hands came hand takes t script there =
+    let v = port_value b s in
+    let w = port_value b2 s in
+    let idles : Idles w = found_run v w 0 hand (takes s [] real).idles in
+    let moved = (stepping b b2 s real hands (came_goes v w came) idles.empty).moved in
     elim (cases_eq t s) [
       | inl own ↦
           rw own
-          (of_fresh (port_value b2 s other) script (record { empty = idles.empty; no_walk = idles.no_walk; machine = idles.machine; warm = idles.warm })
+          (of_fresh (port_value b2 s) script (record { empty = idles.empty; no_walk = idles.no_walk; machine = idles.machine; warm = idles.warm })
           (ap (λ (y : PortValue). run_or (memory (sizes_of b2.machine) b2.story.opening (run_of s)) y.holdings.run) hand))
       | inr off ↦
-          subst (λ (n : Machine). IsOf (port_value b2 t other) (fresh n.frames t (domain_of n t) script)) (sym machine)
-          (of_other b b2 t other (fresh b.machine.frames t (domain_of b.machine t) script) machine moved.opening (moved.others t off)
-          (takes t other script (subst (λ (n : Machine). t < (sizes_of n).vcpus) machine there)))
+          subst (λ (n : Machine). IsOf (port_value b2 t) (fresh n.frames t (domain_of n t) script)) (sym machine)
+          (of_other b b2 t (fresh b.machine.frames t (domain_of b.machine t) script) machine moved.opening (moved.others t off)
+          (takes t script (subst (λ (n : Machine). t < (sizes_of n).vcpus) machine there)))
     ]
 
 -- as the code has it
-pub takes_after : (b b1 b2 : Board) (s s1 s2 l1 l2 : ℕ) → b1 ≡ b → s1 ≡ s → s < (sizes_of b.machine).vcpus → length b.story.hands ≡ (sizes_of b.machine).vcpus → Came (port_value b1 s1 l1) (port_value b2 s2 l2) →
-    Holds (port_value b1 s1 l1) (port_value b2 s2 l2) (record (hand_of b1.story.hands s1) { run = Some 0 }) → TakesFresh b → TakesFresh b2
-takes_after b b1 b2 s s1 s2 l1 l2 same vcpu real hands came hand takes =
-    let post = came_post (port_value b1 s1 l1) (port_value b2 s2 l2) came in
+pub takes_after : (b b1 b2 : Board) (s s1 s2 : ℕ) → b1 ≡ b → s1 ≡ s → s < (sizes_of b.machine).vcpus → length b.story.hands ≡ (sizes_of b.machine).vcpus → Came (port_value b1 s1) (port_value b2 s2) →
+    Holds (port_value b1 s1) (port_value b2 s2) (record (hand_of b1.story.hands s1) { run = Some 0 }) → TakesFresh b → TakesFresh b2
+takes_after b b1 b2 s s1 s2 same vcpu real hands came hand takes =
+    let post = came_post (port_value b1 s1) (port_value b2 s2) came in
     let vcpu2 : s2 ≡ s = ap (λ (q : Post). q.vcpu) post ∙ vcpu in
-    let lender2 : l2 ≡ l1 = ap (λ (q : Post). q.lender) post in
     let machine2 : b2.machine ≡ b.machine = ap (λ (q : Post). q.machine) post ∙ ap (λ (x : Board). x.machine) same in
-    let before : port_value b1 s1 l1 ≡ port_value b s l1 = λ i. port_value (same i) (vcpu i) l1 in
-    let after : port_value b2 s2 l2 ≡ port_value b2 s l1 = λ i. port_value b2 (vcpu2 i) (lender2 i) in
-    takes_next b b2 s l1 machine2 real hands
-    (subst (λ v. Came v (port_value b2 s l1)) before (subst (λ w. Came (port_value b1 s1 l1) w) after came))
-    (subst (λ (v : PortValue). Holds v (port_value b2 s l1) (record v.holdings { run = Some 0 })) before (subst (λ w. Holds (port_value b1 s1 l1) w (record (hand_of b1.story.hands s1) { run = Some 0 })) after hand))
+    let before : port_value b1 s1 ≡ port_value b s = λ i. port_value (same i) (vcpu i) in
+    let after : port_value b2 s2 ≡ port_value b2 s = λ i. port_value b2 (vcpu2 i) in
+    takes_next b b2 s machine2 real hands
+    (subst (λ v. Came v (port_value b2 s)) before (subst (λ w. Came (port_value b1 s1) w) after came))
+    (subst (λ (v : PortValue). Holds v (port_value b2 s) (record v.holdings { run = Some 0 })) before (subst (λ w. Holds (port_value b1 s1) w (record (hand_of b1.story.hands s1) { run = Some 0 })) after hand))
     takes
 
 pub takes_back : (b c : Board) → b ≡ c → TakesFresh c → TakesFresh b

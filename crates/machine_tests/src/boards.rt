@@ -13,7 +13,7 @@ use kind_words::look_kind;
 use m2p_map::set_m2p;
 use machine_build::opening;
 use opening_rule::opening_words_are_sound;
-use shared_board::{PlainBoard, PlainPort};
+use shared_board::{PlainBoard, PlainPort, WholeBoard};
 use std::alloc::{AllocError, Global};
 use std::process::Abort;
 use std::test::Fail;
@@ -67,12 +67,12 @@ pub(crate) fn opened(alloc: Global, text: &str) -> Option<(PlainBoard, Script)>
 }
 
 // The port of vCPU 0, which runs and has nothing in hand.
-pub(crate) fn at_work<'a>(rt: &impl Abort, board: &'a mut PlainBoard) -> PlainPort<'a>
+pub(crate) fn at_work<'a>(rt: &impl Abort, board: &'a mut PlainBoard) -> PlainPort<&'a mut PlainBoard>
     requires { TakesFresh board.old }
-    ensures rests { Rests (port_value result.board.now result.vcpu result.board.ghost_name) }
+    ensures rests { Rests (port_value result.board.now result.vcpu) }
 {
     assert!(rt; board.layout().vcpus() != 0);
-    let mut port = board.port(0);
+    let mut port = PlainPort::new(board, 0);
     assert!(rt; look_run(&mut port) == 0);
     port
 }
@@ -137,7 +137,7 @@ fn looks(board: &mut PlainBoard, frame: u32) -> Option<(u64, u64, u64, u64)> {
     if board.layout().vcpus() == 0 || frame >= board.layout().frames {
         return None;
     }
-    let mut port = board.port(0);
+    let mut port = PlainPort::new(board, 0);
     let asked = begin_turn(&mut port);
     let clock = look_clock(&mut port);
     let kind = look_kind(&mut port, frame);
@@ -150,7 +150,7 @@ fn refs_at(board: &mut PlainBoard, frame: u32) -> Option<u64> {
     if board.layout().vcpus() == 0 || frame >= board.layout().frames {
         return None;
     }
-    let mut port = board.port(0);
+    let mut port = PlainPort::new(board, 0);
     Some(look_refs(&mut port, frame))
 }
 
@@ -196,7 +196,7 @@ pub(crate) fn steps_of(
     let cpu = Cpu::new(alloc, board.layout(), vcpu, script)?;
     let mut runner = Runner::new(cpu, Box::new(alloc, Never::new())?);
     let mut port = Counting {
-        port: board.port(vcpu),
+        port: PlainPort::new(board, vcpu),
         counts: Counts::none(),
     };
     runner.turn(&mut port);

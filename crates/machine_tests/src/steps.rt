@@ -12,7 +12,7 @@ use crate::boards::{TWO_DOMAINS, at_work, opened, steps_of};
 use flush_words::{ask, look_flushed, look_life, look_privileges, look_run, look_run_of};
 use frame_words::{get_ref, look_cell};
 use kind_words::{count_type, look_kind};
-use shared_board::PlainBoard;
+use shared_board::{PlainBoard, PlainPort, WholeBoard};
 use std::process::Abort;
 use std::test::Fail;
 use step_maker::look_clock;
@@ -29,7 +29,7 @@ fn cell_of(board: &mut PlainBoard, frame: u32, index: u16) -> Option<u64> {
     if board.layout().vcpus() == 0 || frame >= board.layout().frames || index >= 512 {
         return None;
     }
-    let mut port = board.port(0);
+    let mut port = PlainPort::new(board, 0);
     Some(look_cell(&mut port, frame, index))
 }
 
@@ -38,7 +38,7 @@ fn life_and_privileges(board: &mut PlainBoard, domain: u16) -> Option<(u64, u64)
     if board.layout().vcpus() == 0 || u32::from(domain) >= board.layout().domains() {
         return None;
     }
-    let mut port = board.port(0);
+    let mut port = PlainPort::new(board, 0);
     let life = look_life(&mut port, domain);
     let privileges = look_privileges(&mut port, domain);
     Some((life, privileges))
@@ -49,7 +49,7 @@ fn run_of(board: &mut PlainBoard, vcpu: u32) -> Option<u64> {
     if vcpu == 0 || vcpu >= board.layout().vcpus() {
         return None;
     }
-    let mut port = board.port(0);
+    let mut port = PlainPort::new(board, 0);
     Some(look_run_of(&mut port, vcpu))
 }
 
@@ -58,7 +58,7 @@ fn has_cached(board: &mut PlainBoard, page: u64) -> Option<bool> {
     if board.layout().vcpus() == 0 {
         return None;
     }
-    let port = board.port(0);
+    let port = PlainPort::new(board, 0);
     Some(port.cached(false, page).is_some() || port.cached(true, page).is_some())
 }
 
@@ -98,15 +98,16 @@ fn ask_another<P: Port>(rt: &impl Abort, port: &mut P, vcpu: u32) -> u64
 }
 
 // vCPU 0 of a board asks another one, which may take its first turn then.
-fn ask_by_first(rt: &impl Abort, board: &mut PlainBoard, vcpu: u32) -> u64
-    requires fresh { TakesFresh board.old }
-    requires hands { length board.old.story.hands ≡ (sizes_of board.old.machine).vcpus }
-    ensures { TakesFresh board.new }
+fn ask_by_first(rt: &impl Abort, board: PlainBoard, vcpu: u32) -> (PlainBoard, u64)
+    requires fresh { TakesFresh board }
+    requires hands { length board.story.hands ≡ (sizes_of board.machine).vcpus }
+    ensures { TakesFresh result.0 }
 {
     assert!(rt; vcpu != 0);
     assert!(rt; vcpu < board.layout().vcpus());
-    let mut port = board.port(0);
-    ask_another(rt, &mut port, vcpu)
+    let mut port = PlainPort::new(board, 0);
+    let asked = ask_another(rt, &mut port, vcpu);
+    (port.into_board(), asked)
 }
 
 // The clock, and to which of its values a vCPU was asked to flush and is flushed.
@@ -127,9 +128,10 @@ fn flushes_of(board: PlainBoard, vcpu: u32) -> Option<(u64, u64, u64)> {
 // A load, an exchange and a store more than without the ask: the clock goes up, and the vCPU is flushed to it.
 #[test]
 fn a_vcpu_that_was_asked_flushes_as_its_turn_begins(rt: HostRuntime) -> Result<(), Fail> {
-    let (mut board, script) = opened(rt.alloc(), TWO_DOMAINS).expect(&rt, "a board");
+    let (board, script) = opened(rt.alloc(), TWO_DOMAINS).expect(&rt, "a board");
     assert!(rt; script.len() == 1);
-    assert!(rt; ask_by_first(&rt, &mut board, 1) == 5);
+    let (mut board, asked) = ask_by_first(&rt, board, 1);
+    assert!(rt; asked == 5);
     if script.len() == 1 && board.layout().vcpus() == 2 {
         let steps = steps_of(rt.alloc(), &mut board, 1, script)?;
         assert!(rt; steps.loads == 11);

@@ -10,7 +10,7 @@ use Rattle.xp_words.specs.declared.place.Place.TheVariants.{Clock}
 use Rattle.xp_board.specs.Hands.{IsEmptyHand}
 use Rattle.xp_board.specs.Readings.{kind_at}
 use Rattle.xp_board.specs.Sound.{SoundState, hand_of}
-use Rattle.xp_board.specs.Told.{Story, told_word, word_in}
+use Rattle.xp_board.specs.Told.{PortValue, Story}
 use Rattle.step_maker.specs.Moves.{Came}
 use Rattle.step_maker.specs.Plain.{Words}
 use Rattle.answer_laws.specs.Alone.{IsAlone}
@@ -21,7 +21,7 @@ use Rattle.vcpu_turn.proofs.TurnSteps.{turn_came}
 use Rattle.turn_measures.proofs.Ahead.{turn_script}
 use Rattle.frame_ranks.specs.Ranks.{AreAllAlive, rank_at}
 use Rattle.turn_measures.specs.Measures.{DestroysNothing, KeepsLeft}
-use Rattle.xp_machine.specs.Turns.{ByCpu, IsStagedTurn, MakesStagedTurn, Stage, UnlessRetired}
+use Rattle.xp_machine.specs.Turns.{ByCpu, IsStagedTurn, MakesStagedTurn, Stage, UnlessRetired, port_on}
 use Rattle.xp_machine.proofs.Moving.{set_at}
 use Rattle.round_laws.specs.Rounds.{AwaitsFlush}
 use Rattle.round_laws.specs.Stages.{AreSparing, IsSparing, IsSteady, IsSteadyCpu, to_go, words_of}
@@ -70,36 +70,30 @@ next_sparing c spares = by_next (next_of c) refl
 
 -- ---- a turn from a steady stage
 module _ (laws : TurnLaws) (n : Machine) (v : ℕ) (c : Processing) (s s' : Stage) (steady : IsSteady n s) (here : slice_get s.cpus v ≡ Some c) (works : c.retired ≡ false) (m : MakesStagedTurn n v c s s') where
-  pub from_words : told_word m.from ≡ words_of n s
-  from_words = λ i p. word_in (m.from_is.machine i) (m.from_is.told i) p
+  start : PortValue
+  start = port_on n v s.board
 
-  pub to_words : told_word m.to ≡ words_of n s'
-  to_words = λ i p. word_in (m.to_is.machine i) (m.to_is.told i) p
+  close : PortValue
+  close = port_on n v s'.board
 
-  pub alone_from : IsAlone m.from
-  alone_from =
-      record {
-        story = s.board;
-        telling = m.from_is.told;
-        state = subst (λ k. SoundState k s.board.words s.board.hands) (sym m.from_is.machine) steady.state;
-        mine = ap (hand_of s.board.hands) m.from_is.vcpu_is ∙ sym m.from_is.hand;
-        others = λ t real off. steady.empty t (subst (λ (k : Machine). t < (sizes_of k).vcpus) m.from_is.machine real);
-      }
+  pub alone_from : IsAlone (port_on n v s.board)
+  alone_from = record { story = s.board; telling = refl; state = steady.state; mine = refl; others = λ t real off. steady.empty t real }
 
-  came : Came m.from m.to
-  came = turn_came c m.after m.end m.from m.to m.answers m.turn
+  came : Came start close
+  came = turn_came c m.after m.end start close m.answers m.turn
 
-  pub alone_to : IsAlone m.to
-  alone_to = laws.stays m.from m.to alone_from came
+  pub alone_to : IsAlone (port_on n v s'.board)
+  alone_to = laws.stays start close alone_from came
+
+  told : alone_to.story ≡ s'.board
+  told = same_Some alone_to.story s'.board (sym alone_to.telling)
 
   sound_to : SoundState n s'.board.words s'.board.hands
-  sound_to =
-      let story : alone_to.story ≡ s'.board = same_Some alone_to.story s'.board (sym alone_to.telling ∙ m.to_is.told) in
-      subst (λ (x : Machine × Story). SoundState x.0 x.1.words x.1.hands) (λ i. (m.to_is.machine i, story i)) alone_to.state
+  sound_to = subst (λ (x : Story). SoundState n x.words x.hands) told alone_to.state
 
   most : (f : ℕ) → f < n.frames → rank_at (words_of n s') f ≤ 515
   most f real =
-      let orderly : IsOrderly n (words_of n s') = subst (λ (x : Machine × Words). IsOrderly x.0 x.1) (λ i. (m.to_is.machine i, to_words i)) (laws.orderly m.to alone_to) in
+      let orderly : IsOrderly n (words_of n s') = laws.orderly close alone_to in
       rank_most (kind_at (words_of n s') f) (orderly.spelled f real)
 
   sparing : DestroysNothing (next_of c)
@@ -108,11 +102,7 @@ module _ (laws : TurnLaws) (n : Machine) (v : ℕ) (c : Processing) (s s' : Stag
   pub plain : TurnLeaves n v c m.after m.end (words_of n s) (words_of n s')
   plain =
       let at : IsSteadyCpu (words_of n s) v c = steady.each v c here in
-      subst (λ (x : Machine × ℕ × Words × Words). TurnLeaves x.0 x.1 c m.after m.end x.2 x.3) (λ i. (m.from_is.machine i, m.from_is.vcpu_is i, from_words i, to_words i))
-      (leaves laws c m.after m.end m.from m.to m.answers alone_from works at.within
-      (subst (λ (x : ℕ × Words). KeepsLeft x.1 x.0 c.left) (λ i. (sym m.from_is.vcpu_is i, sym from_words i)) at.left)
-      (subst (λ (x : Machine × Words). AreAllAlive x.0 x.1) (λ i. (sym m.from_is.machine i, sym from_words i)) steady.alive)
-      sparing (subst (λ k. IsUnhindered k m.end) (sym m.from_is.machine) (unhindered_by n (job_next (next_of c)) m.end sparing m.unhindered)) m.turn)
+      leaves laws c m.after m.end start close m.answers alone_from works at.within at.left steady.alive sparing (unhindered_by n (job_next (next_of c)) m.end sparing m.unhindered) m.turn
 
   within : v < length s.cpus
   within = slice_get_within s.cpus v c here
@@ -122,7 +112,7 @@ module _ (laws : TurnLaws) (n : Machine) (v : ℕ) (c : Processing) (s s' : Stag
       elim (set_at s.cpus v t m.after x within (subst (λ xs. slice_get xs t ≡ Some x) m.cpus at)) [
         | inl own ↦
             subst (λ (y : ℕ × Processing). IsSteadyCpu (words_of n s') y.0 y.1) (λ i. (sym own.0 i, sym own.1 i))
-            (record { within = plain.within; left = plain.left; stopped = plain.stopped; ended = plain.ended; spares = subst AreSparing (sym (turn_script c m.after m.end m.from m.to m.answers m.turn)) (steady.each v c here).spares })
+            (record { within = plain.within; left = plain.left; stopped = plain.stopped; ended = plain.ended; spares = subst AreSparing (sym (turn_script c m.after m.end start close m.answers m.turn)) (steady.each v c here).spares })
         | inr other ↦
             (let old : IsSteadyCpu (words_of n s) t x = steady.each t x other.1 in
             record {
@@ -139,9 +129,7 @@ module _ (laws : TurnLaws) (n : Machine) (v : ℕ) (c : Processing) (s s' : Stag
       elim (cases_eq t v) [
         | inl at ↦ subst (λ k. IsEmptyHand (hand_of s'.board.hands k)) (sym at) m.leads.empty
         | inr off ↦
-            (let story : alone_to.story ≡ s'.board = same_Some alone_to.story s'.board (sym alone_to.telling ∙ m.to_is.told) in
-            subst (λ (x : Story). IsEmptyHand (hand_of x.hands t)) story
-            (alone_to.others t (subst (λ (k : Machine). t < (sizes_of k).vcpus) (sym m.to_is.machine) real) (λ same. off (same ∙ m.to_is.vcpu_is))))
+            subst (λ (x : Story). IsEmptyHand (hand_of x.hands t)) told (alone_to.others t real off)
       ]
 
   pub steady_then : IsSteady n s'

@@ -16,13 +16,13 @@ use Rattle.vcpu_turn.specs.Cpus.{Processing}
 use Rattle.vcpu_turn.specs.Turning.{IsTurn}
 use Rattle.vcpu_turn.specs.declared.cpu.TurnEnd.{TurnEnd}
 use Rattle.vcpu_turn.specs.declared.cpu.TurnEnd.TheVariants as ends
-use Rattle.xp_machine.specs.Turns.{IsStagedTurn, MakesStagedTurn, Stage, Turns}
+use Rattle.xp_machine.specs.Turns.{IsStagedTurn, MakesStagedTurn, Stage, Turns, port_on}
 use Rattle.round_laws.specs.Rounds.{AreAllRetired, AwaitsFlush, IsRound, rounds_to_go, turns_in_rounds}
 use Rattle.round_laws.specs.Stages.{IsSteady, ticks_to_go, to_go, words_of}
 use Rattle.round_laws.proofs.Cited.{ClockLaws, TurnLaws}
 use Rattle.round_laws.proofs.Falling.{Turning, all_rest}
 use Rattle.round_laws.proofs.Splitting.{one_by_one}
-use Rattle.round_laws.proofs.Steadying.{by_cpu, HasTurn, alone_from, clock_on, from_words, less_to_go, no_more_to_go, plain, steady_behind, steady_then, to_words}
+use Rattle.round_laws.proofs.Steadying.{by_cpu, HasTurn, alone_from, clock_on, less_to_go, no_more_to_go, plain, steady_behind, steady_then}
 
 -- ---- vCPUs
 -- it makes turns
@@ -101,17 +101,15 @@ module _ (laws : TurnLaws) (clocks : ClockLaws) (n : Machine) where
     asked_then : (c : Processing) (here : slice_get s.cpus v ≡ Some c) (works : c.retired ≡ false) (m : MakesStagedTurn n v c s s') (u stamp found : ℕ) → m.end ≡ ends.Paused (Flush u stamp found) →
         (u < (sizes_of n).vcpus) × IsAskedYet n u s'
     asked_then c here works m u stamp found is =
-        let turn : IsTurn c m.after (ends.Paused (Flush u stamp found)) m.from m.to m.answers = subst (λ e. IsTurn c m.after e m.from m.to m.answers) is m.turn in
+        let start = port_on n v s.board in
+        let close = port_on n v s'.board in
+        let turn : IsTurn c m.after (ends.Paused (Flush u stamp found)) start close m.answers = subst (λ e. IsTurn c m.after e start close m.answers) is m.turn in
         let alone = alone_from laws n v c s s' steady here works m in
-        let to = to_words laws n v c s s' steady here works m in
-        let real : u < (sizes_of n).vcpus = subst (λ (k : Machine). u < (sizes_of k).vcpus) m.from_is.machine (clocks.other c m.after m.from m.to m.answers u stamp found turn).1 in
+        let real : u < (sizes_of n).vcpus = (clocks.other c m.after start close m.answers u stamp found turn).1 in
         let behind = steady_then laws n v c s s' steady here works m in
-        let runs : words_of n s' (run_of u) ≡ 0 = subst (λ (w : Words). w (run_of u) ≡ 0) to (clocks.runs c m.after m.from m.to m.answers u stamp found alone turn) in (
+        let runs : words_of n s' (run_of u) ≡ 0 = clocks.runs c m.after start close m.answers u stamp found alone turn in (
           real,
-          record {
-            works = works_at behind u real runs;
-            asked = subst (λ (w : Words). w (flushed_of u) ≤ w (asked_of u)) to (clocks.asked c m.after m.from m.to m.answers u stamp found alone turn);
-          },
+          record { works = works_at behind u real runs; asked = clocks.asked c m.after start close m.answers u stamp found alone turn },
         )
       where
         works_at : IsSteady n s' → (u : ℕ) → u < (sizes_of n).vcpus → words_of n s' (run_of u) ≡ 0 → Works u s'
@@ -157,16 +155,11 @@ module _ (laws : TurnLaws) (clocks : ClockLaws) (n : Machine) where
         moves turns same =
             let c = turns.cpu in
             let m = turns.does in
-            let from = from_words laws n v c s s' steady turns.here turns.works m in
-            let to = to_words laws n v c s s' steady turns.here turns.works m in
-            let own : u ≡ m.from.post.vcpu = sym (m.from_is.vcpu_is ∙ same) in
-            let asked : told_word m.from (flushed_of m.from.post.vcpu) ≤ told_word m.from (asked_of m.from.post.vcpu) =
-            subst (λ (x : ℕ × Words). x.1 (flushed_of x.0) ≤ x.1 (asked_of x.0)) (λ i. (own i, sym from i)) waits.asked in
+            let asked : words_of n s (flushed_of v) ≤ words_of n s (asked_of v) = subst (λ k. words_of n s (flushed_of k) ≤ words_of n s (asked_of k)) (sym same) waits.asked in
             let on = clock_on laws n v s s' steady does in
             let early : words_of n s Clock ≢ last_clock = early_clock (words_of n s Clock) (words_of n s' Clock) last_clock on low in
             let goes : words_of n s Clock < words_of n s' Clock =
-            subst (λ (x : Words × Words). x.0 Clock < x.1 Clock) (λ i. (from i, to i))
-            (clocks.clock c m.after m.end m.from m.to m.answers (alone_from laws n v c s s' steady turns.here turns.works m) asked (subst (λ (w : Words). w Clock ≢ last_clock) (sym from) early) m.turn) in
+            clocks.clock c m.after m.end (port_on n v s.board) (port_on n v s'.board) m.answers (alone_from laws n v c s s' steady turns.here turns.works m) asked early m.turn in
             second_less (to_go n s') (to_go n s) (words_of n s Clock) (words_of n s' Clock) last_clock (no_more_to_go laws n v s s' steady does) goes low
 
         still : (turns : HasTurn (MakesStagedTurn n v) v s s') → v ≢ u → IsAskedYet n u s'

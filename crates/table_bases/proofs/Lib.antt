@@ -1,6 +1,6 @@
 mod Storing
 pub mod Requests
-mod Behind
+pub mod Behind
 mod Installed
 mod Clocked
 mod Acquired

@@ -14,8 +14,9 @@ use Rattle.xp_board.specs.Readings.{is_free}
 use Rattle.xp_board.specs.Told.{PortValue, is_telling, told_word}
 use Rattle.step_maker.specs.Moves.{Moves}
 use Rattle.step_maker.specs.Plain.{Leaves}
-use Rattle.step_maker.specs.Answers.{Stops}
-use Rattle.step_maker.specs.Asked.{of_frame}
+use Rattle.step_maker.specs.Answers.{Serves, Stops, misses}
+use Rattle.step_maker.specs.Asked.{of_back, of_frame}
+use Rattle.step_maker.specs.Holds.{Holds}
 use Rattle.step_maker.specs.Visits.{Does}
 use Rattle.frame_words.specs.Plain.{TwinGet, put}
 use Rattle.frame_words.specs.Freeing.{Puts}
@@ -24,7 +25,8 @@ use Rattle.kind_words.specs.Kinds.{live_kind, partial_kind}
 use Rattle.frame_types.specs.Found.{DropsPlain, SharedBy, StoresKind, TakesFound}
 use Rattle.frame_types.specs.Lowering.{DropsType}
 use Rattle.frame_types.specs.Plain.{TwinTake, dropped_plain, is_refused}
-use Rattle.frame_types.specs.Taking.{ShowsWait}
+use Rattle.frame_types.specs.Leaving.{GivesBack, ServesType}
+use Rattle.frame_types.specs.Taking.{ShowsWait, gave_type}
 use Rattle.frame_types.specs.declared.taking.Taken.{Taken}
 use Rattle.frame_types.specs.declared.taking.Taken.TheVariants as types
 use Rattle.kept_marks.specs.Marks.{KeptFor}
@@ -34,6 +36,7 @@ use Rattle.partial_state.specs.declared.stack.TableWork.{TableWork}
 use Rattle.table_words.specs.OldWords.{old_place}
 use Rattle.table_words.specs.declared.old_words.OldWord.TheVariants.{First}
 use Rattle.table_entries.specs.Asking.{ShowsEntered, ShowsResumed, of_entries}
+use Rattle.table_entries.specs.Between.{HandEntered, HandResumed}
 use Rattle.table_entries.specs.Found.{EntersFound, ResumesFound}
 use Rattle.table_entries.specs.Plain.{TwinEntry, TwinResume}
 use Rattle.table_entries.specs.Tops.{WorksAtTop}
@@ -69,16 +72,20 @@ pub record TookEntry (v w : PortValue) (owner : ℕ) (t : TableWork) (answer : R
   pub top : WorksAtTop t.frame (level_type t.level) t.done v.holdings
   pub found : EntersFound v w t.frame t.done (level_type t.level) owner answer
   pub plain : TwinEntry v w t.frame (level_type t.level) t.done owner answer
+  pub serves : (pages : ℕ) → Serves v w (of_entries owner pages) (misses v.post.machine answer)
   pub stops : (pages : ℕ) → IfErr answer (λ e. Stops v w (of_entries owner pages) e)
   pub shows : (pages : ℕ) → IfOk answer (λ a. ShowsEntered v w owner pages (level_type t.level) a)
+  pub hand : HandEntered v w t.frame t.done owner (level_type t.level) answer
 
 -- its last recorded entry
 pub record ResumedEntry (v w : PortValue) (owner : ℕ) (t : TableWork) (answer : Result Resumed Stop) : Type 0 where
   pub top : WorksAtTop t.frame (level_type t.level) t.done v.holdings
   pub found : ResumesFound v w t.frame (t.done - 1) (level_type t.level) owner answer
   pub plain : TwinResume v w t.frame (level_type t.level) (t.done - 1) owner answer
+  pub serves : (pages : ℕ) → Serves v w (of_entries owner pages) (misses v.post.machine answer)
   pub stops : (pages : ℕ) → IfErr answer (λ e. Stops v w (of_entries owner pages) e)
   pub shows : (pages : ℕ) → IfOk answer (λ a. ShowsResumed v w owner pages (level_type t.level) a)
+  pub hand : HandResumed v w t.frame (t.done - 1) owner (level_type t.level) answer
 
 -- ---- tables
 -- a table that an entry of table t names came into work: the entry is under way, or was recorded before
@@ -99,6 +106,8 @@ pub record GaveBack (v w : PortValue) (f : ℕ) : Type 0 where
   pub between : PortValue
   pub lowers : DropsType v between f false
   pub puts : GaveRef between w f
+  pub serves : Serves v w (of_back f) []
+  pub hand : Holds v w (gave_type f v.holdings)
 
 -- live, with the own type count, or with a second one beside another holder's
 abbrev pub type_counts : Bool → ℕ
@@ -113,8 +122,10 @@ Joined v w t outer true = GaveBack v w t.frame
 Joined v w t outer false = (clock : ℕ) × Moves v w Clock Load kinds.Look (Some (Record outer.frame outer.done)) clock
 
 -- a frame of a recorded entry waits for a flush which is not to be had: it is left as it was found
-abbrev pub LeftWaiting : PortValue → PortValue → ℕ → ℕ → ℕ → Type 0
-LeftWaiting v w f level stamp = Does v w (λ vs. SharedBy f (level_type level) stamp vs)
+pub record LeftWaiting (v w : PortValue) (f level stamp : ℕ) : Type 0 where
+  pub found : Does v w (λ vs. SharedBy f (level_type level) stamp vs)
+  pub serves : ServesType v w f (level_type level)
+  pub hand : GivesBack v w f (level_type level) false
 
 -- ---- down to where a table was left
 -- From v, with these tables in work, of which the innermost has just come into work, to w with those: its last recorded entry is

@@ -17,7 +17,7 @@ use Rattle.std.specs.Prelude.{Some, unwrap_or}
 -- what is told after a step
 module _ (b c : Board) (s : ℕ) (x : Step) (found : ℕ) (legal : Legal b.machine s (hand_of b.story.hands s) x) (steps : Steps b s x found c) where
   story_is : c.story ≡ unwrap_or (tells s x found (after b.machine s (hand_of b.story.hands s) x found) (Some b.story)) b.story
-  story_is = ap (λ (v : PortValue). unwrap_or v.told b.story) (steps.value 0)
+  story_is = ap (λ (v : PortValue). unwrap_or v.told b.story) steps.value
 
   pub found_is : found ≡ slice_index b.story.words x.place
   found_is = sym steps.told.1 ∙ word_there (sizes_of b.machine) b.story.words x.place legal.place

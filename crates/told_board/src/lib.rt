@@ -2,7 +2,5 @@
 #![tactic(auto)]
 
 mod told_board;
-mod told_port;
 
 pub use told_board::ToldBoard;
-pub use told_port::ToldPort;

@@ -4,12 +4,10 @@ ghost use Rattle.xp_words.specs.Places.{sizes_of};
 ghost use Rattle.xp_board.specs.Legal.{Legal};
 ghost use Rattle.xp_board.specs.Runs.{Run, start};
 ghost use Rattle.xp_board.specs.Sound.{SoundState, SoundWords, hand_of};
-ghost use Rattle.xp_board.specs.Told.{cached_item};
 ghost use Rattle.shared_board.specs.Board.{Steps, opened_story, state_of};
 ghost use Rattle.told_board.specs.Telling.{told_steps};
 
-use crate::told_port::ToldPort;
-use shared_board::PlainBoard;
+use shared_board::{PlainBoard, WholeBoard};
 use sparse_words::SparseWords;
 use std::alloc::{AllocError, Global};
 use std::marker::Model;
@@ -52,46 +50,6 @@ impl ToldBoard {
         })
     }
 
-    /// The fixed numbers of the machine.
-    pub fn layout(&self) -> &Layout
-        ensures layout { result.now ≡ self.now.machine }
-        ensures machine { IsMachine self.now.machine }
-    {
-        self.board.layout()
-    }
-
-    /// A vCPU's access to the board, for as long as it lives.
-    pub fn port(&mut self, vcpu: u32) -> ToldPort<'_>
-        requires { vcpu < (sizes_of self.old.machine).vcpus }
-        ensures same { result.board.ghost_name ≡ self.entry.ghost_name }
-        ensures board { result.board.now ≡ self.old }
-        ensures vcpu { result.vcpu ≡ vcpu }
-    {
-        ToldPort { board: self, vcpu }
-    }
-
-    pub(crate) fn cached(&self, vcpu: u32, user: bool, page: u64) -> Option<Item>
-        requires { vcpu < (sizes_of self.now.machine).vcpus }
-        ensures newest { result ≡ cached_item user page (hand_of self.now.story.hands vcpu).cache }
-        ensures inside { IfSome result (λ x. x.frame < self.now.machine.frames) }
-    {
-        self.board.cached(vcpu, user, page)
-    }
-
-    // One step of a vCPU, and one more item of the list.
-    pub(crate) fn step(&mut self, vcpu: u32, step: Step) -> u64
-        requires vcpu { vcpu < (sizes_of self.old.machine).vcpus }
-        requires legal { Legal self.old.machine vcpu (hand_of self.old.story.hands vcpu) step }
-        ensures { Steps self.old vcpu step result self.new }
-    {
-        let found = self.board.step(vcpu, step);
-        if !self.lost {
-            let told = ToldStep { vcpu, step, found };
-            self.lost = self.steps.push(told).is_err();
-        }
-        found
-    }
-
     /// Gives the words back, as `PlainBoard::into_words`, and the steps in their order, or an error where there was no memory for one of them.
     pub fn into_parts(self) -> (SparseWords, Result<Vec<ToldStep>, AllocError>)
         ensures words { result.0 ≡ self.story.words }
@@ -102,5 +60,27 @@ impl ToldBoard {
         let ToldBoard { board, steps, lost } = self;
         let words = board.into_words();
         (words, if lost { Err(AllocError) } else { Ok(steps) })
+    }
+}
+
+impl WholeBoard for ToldBoard {
+    ghost board = { λ b. b };
+
+    fn layout(&self) -> &Layout {
+        self.board.layout()
+    }
+
+    fn cached(&self, vcpu: u32, user: bool, page: u64) -> Option<Item> {
+        self.board.cached(vcpu, user, page)
+    }
+
+    // The step of the plain board, and one more item of the list.
+    fn step(&mut self, vcpu: u32, step: Step) -> u64 {
+        let found = self.board.step(vcpu, step);
+        if !self.lost {
+            let told = ToldStep { vcpu, step, found };
+            self.lost = self.steps.push(told).is_err();
+        }
+        found
     }
 }

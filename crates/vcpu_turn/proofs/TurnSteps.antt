@@ -30,7 +30,7 @@ does_came : (c : Processing) (o : Option Op) (c2 : Processing) (v w : PortValue)
 does_came c (Some op) c2 v w answers end d = by_came c.domain (c.answered + 1) v c.at d.to w c.log d.log answers d.answer (job_of op) d.went
 does_came c None c2 v w answers end d = same_came v w d.no_step
 
-dies_came : (life : ℕ) (c : Processing) (o : Option Op) (c2 : Processing) (v w : PortValue) (end : TurnEnd) → DiesNext life c o c2 v w end → Came v w
+pub dies_came : (life : ℕ) (c : Processing) (o : Option Op) (c2 : Processing) (v w : PortValue) (end : TurnEnd) → DiesNext life c o c2 v w end → Came v w
 dies_came life c (Some op) c2 v w end dies = stop_came v w dies.0
 dies_came life c None c2 v w end dies = same_came v w dies.0
 

@@ -51,14 +51,14 @@ pub record Stepping (n : Machine) (s : ℕ) (a b : Story) : Type 0 where
   pub leads : Leads n s a made b
   pub moved : Moved n s a b
 
-pub stepping : (b b2 : Board) (s lender : ℕ) → s < (sizes_of b.machine).vcpus → length b.story.hands ≡ (sizes_of b.machine).vcpus →
-    Goes (port_value b s lender) (port_value b2 s lender) → IsEmptyHand (hand_of b2.story.hands s) → Stepping b.machine s b.story b2.story
+pub stepping : (b b2 : Board) (s : ℕ) → s < (sizes_of b.machine).vcpus → length b.story.hands ≡ (sizes_of b.machine).vcpus →
+    Goes (port_value b s) (port_value b2 s) → IsEmptyHand (hand_of b2.story.hands s) → Stepping b.machine s b.story b2.story
 unfolding Goes
-stepping b b2 s lender real hands goes empty =
+stepping b b2 s real hands goes empty =
     let n = b.machine in
     let made : List Made = goes.0 in
-    let walk : Walked n s b.story (port_value b2 s lender) made =
-    walked (port_value b s lender) (port_value b2 s lender) b.story made refl refl (subst (λ k. s < k) (sym hands) real) real goes.1 in
+    let walk : Walked n s b.story (port_value b2 s) made =
+    walked (port_value b s) (port_value b2 s) b.story made refl refl (subst (λ k. s < k) (sym hands) real) real goes.1 in
     let same : b2.story ≡ walk.b = ap (story_in b.story) walk.told in
     subst (λ x. Stepping n s b.story x) (sym same)
     (record {
@@ -68,8 +68,8 @@ stepping b b2 s lender real hands goes empty =
     })
 
 -- no step
-pub same_story : (b b2 : Board) (s lender : ℕ) → port_value b2 s lender ≡ port_value b s lender → b2.story ≡ b.story
-same_story b b2 s lender same = ap (λ (x : PortValue). story_in b.story x.told) same
+pub same_story : (b b2 : Board) (s : ℕ) → port_value b2 s ≡ port_value b s → b2.story ≡ b.story
+same_story b b2 s same = ap (λ (x : PortValue). story_in b.story x.told) same
 
 -- ---- each port is still that of its vCPU
 -- A port of the same vCPU of the same machine, with the same hand.
@@ -108,13 +108,10 @@ module _ (v w : PortValue) (machine : w.post.machine ≡ v.post.machine) (vcpu :
         buried = λ i x reply at in_it unrefused. as_seen (λ n s h. HasBuried n s x (i + 1) 0 h c.log) (o.buried i x reply at in_it unrefused);
       }
 
-of_lender : (b : Board) (s lender other : ℕ) (c : Processing) → IsOf (port_value b s lender) c → IsOf (port_value b s other) c
-of_lender b s lender other c o = is_of_seen (port_value b s lender) (port_value b s other) refl refl refl c refl o
-
-pub of_other : (b b2 : Board) (t lender : ℕ) (c : Processing) → b2.machine ≡ b.machine → b2.story.opening ≡ b.story.opening → hand_of b2.story.hands t ≡ hand_of b.story.hands t →
-    IsOf (port_value b t lender) c → IsOf (port_value b2 t lender) c
-of_other b b2 t lender c machine opening hand o =
-    is_of_seen (port_value b t lender) (port_value b2 t lender) machine refl hand c (λ i. memory (sizes_of (machine i)) (opening i) (run_of t)) o
+pub of_other : (b b2 : Board) (t : ℕ) (c : Processing) → b2.machine ≡ b.machine → b2.story.opening ≡ b.story.opening → hand_of b2.story.hands t ≡ hand_of b.story.hands t →
+    IsOf (port_value b t) c → IsOf (port_value b2 t) c
+of_other b b2 t c machine opening hand o =
+    is_of_seen (port_value b t) (port_value b2 t) machine refl hand c (λ i. memory (sizes_of (machine i)) (opening i) (run_of t)) o
 
 -- ---- the list of vCPUs
 pub set_at : (cpus : List Processing) (s t : ℕ) (c2 c : Processing) → s < length cpus → slice_get (slice_set cpus s c2) t ≡ Some c → ((t ≡ s) × (c ≡ c2)) ⊎ ((t ≢ s) × (slice_get cpus t ≡ Some c))
@@ -130,18 +127,18 @@ pub short_at : (cpus : List Processing) (s : ℕ) (c : Processing) → AreShort 
 short_at cpus s c all here = subst IsShort (get_or_from_slice_get cpus s c c here) (All-get_or IsShort cpus s c (slice_get_within cpus s c here) all)
 
 -- ---- all of it
-pub ready_after : (b b2 : Board) (s lender : ℕ) (cpus : List Processing) (c c2 : Processing) → Ready b cpus → b2.machine ≡ b.machine → Moved b.machine s b.story b2.story → slice_get cpus s ≡ Some c →
-    c2.script ≡ c.script → SoundState b2.machine b2.story.words b2.story.hands → IsOf (port_value b2 s lender) c2 → Ready b2 (slice_set cpus s c2)
-ready_after b b2 s lender cpus c c2 ready machine moved here script sound own =
+pub ready_after : (b b2 : Board) (s : ℕ) (cpus : List Processing) (c c2 : Processing) → Ready b cpus → b2.machine ≡ b.machine → Moved b.machine s b.story b2.story → slice_get cpus s ≡ Some c →
+    c2.script ≡ c.script → SoundState b2.machine b2.story.words b2.story.hands → IsOf (port_value b2 s) c2 → Ready b2 (slice_set cpus s c2)
+ready_after b b2 s cpus c c2 ready machine moved here script sound own =
     let vcpus : (sizes_of b2.machine).vcpus ≡ (sizes_of b.machine).vcpus = ap (λ (n : Machine). (sizes_of n).vcpus) machine in
     record {
       all = length-set cpus s c2 ∙ ready.all ∙ sym vcpus;
       hands = moved.hands ∙ ready.hands ∙ sym vcpus;
       short = All-set IsShort cpus s c2 (subst (λ (l : List Op). length l < 2 ^ 32) (sym script) (short_at cpus s c ready.short here)) ready.short;
       sound = sound;
-      of = λ t other x at. elim (set_at cpus s t c2 x (slice_get_within cpus s c here) at) [
-        | inl same ↦ rw (same.0, same.1) (of_lender b2 s lender other c2 own)
-        | inr off ↦ of_other b b2 t other x machine moved.opening (moved.others t off.0) (ready.of t other x off.1)
+      of = λ t x at. elim (set_at cpus s t c2 x (slice_get_within cpus s c here) at) [
+        | inl same ↦ rw (same.0, same.1) own
+        | inr off ↦ of_other b b2 t x machine moved.opening (moved.others t off.0) (ready.of t x off.1)
       ];
     }
 
@@ -149,12 +146,12 @@ ready_after b b2 s lender cpus c c2 ready machine moved here script sound own =
 pub empty_at : (b : Board) (cpus : List Processing) (s : ℕ) → Ready b cpus → s < (sizes_of b.machine).vcpus → IsEmptyHand (hand_of b.story.hands s)
 empty_at b cpus s ready real =
     elim ((slice_get_cases cpus s).1) [
-      | inl here ↦ (ready.of s 0 here.0 here.2).idles.empty
+      | inl here ↦ (ready.of s here.0 here.2).idles.empty
       | inr past ↦ absurd (let all = ready.all in let far = past.0 in omega arith)
     ]
 
-pub alone_at : (b : Board) (cpus : List Processing) (s lender : ℕ) → Ready b cpus → IsAlone (port_value b s lender)
-alone_at b cpus s lender ready = record { story = b.story; telling = refl; state = ready.sound; mine = refl; others = λ t real off. empty_at b cpus t ready real }
+pub alone_at : (b : Board) (cpus : List Processing) (s : ℕ) → Ready b cpus → IsAlone (port_value b s)
+alone_at b cpus s ready = record { story = b.story; telling = refl; state = ready.sound; mine = refl; others = λ t real off. empty_at b cpus t ready real }
 
-pub sound_alone : (b : Board) (s lender : ℕ) → IsAlone (port_value b s lender) → SoundState b.machine b.story.words b.story.hands
-sound_alone b s lender alone = subst (λ (a : Story). SoundState b.machine a.words a.hands) (sym (ap (story_in b.story) alone.telling)) alone.state
+pub sound_alone : (b : Board) (s : ℕ) → IsAlone (port_value b s) → SoundState b.machine b.story.words b.story.hands
+sound_alone b s alone = subst (λ (a : Story). SoundState b.machine a.words a.hands) (sym (ap (story_in b.story) alone.telling)) alone.state

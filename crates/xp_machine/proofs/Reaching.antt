@@ -61,11 +61,11 @@ first_at n scripts v c at =
 
 pub takes_fresh : (t : Trace) (b : Board) (opened : List ℕ) → IsMachine t.layout → IsOpening t opened → b.machine ≡ t.layout → b.story ≡ opened_story t.layout opened → TakesFresh b
 unfolding TakesFresh
-takes_fresh t b opened is opening machine story v lender script real =
+takes_fresh t b opened is opening machine story v script real =
     let n = t.layout in
     let there : v < (sizes_of n).vcpus = subst (λ (k : Machine). v < (sizes_of k).vcpus) machine real in
     rw (machine, story)
-    (of_fresh (port_value (record b { machine = n; story = opened_story n opened }) v lender) script
+    (of_fresh (port_value (record b { machine = n; story = opened_story n opened }) v) script
     (record {
       empty = subst IsEmptyHand (sym (get_or-replicate (length n.vcpu_domain) v empty empty there)) empty_idles;
       no_walk = ap (λ (h : Holdings). h.walk) (get_or-replicate (length n.vcpu_domain) v empty empty there);
@@ -75,13 +75,13 @@ takes_fresh t b opened is opening machine story v lender script real =
     ((λ i. run_or (memory (sizes_of n) opened (run_of v)) (get_or-replicate (length n.vcpu_domain) v empty empty there i).run) ∙ opening.places (run_of v) (vcpu_there (sizes_of n) v 6 there (lit< tt)) ∙ runs_at_first t v))
 
 of_first : (n : Machine) (b : Board) (scripts : List (List Op)) → b.machine ≡ n → TakesFresh b → length scripts ≡ length n.vcpu_domain →
-    (v lender : ℕ) (c : Processing) → slice_get (first_cpus n scripts) v ≡ Some c → IsOf (port_value b v lender) c
+    (v : ℕ) (c : Processing) → slice_get (first_cpus n scripts) v ≡ Some c → IsOf (port_value b v) c
 unfolding TakesFresh
-of_first n b scripts machine takes all v lender c at =
+of_first n b scripts machine takes all v c at =
     let first = first_at n scripts v c at in
     let real : v < (sizes_of n).vcpus = subst (λ k. v < k) (length_first n scripts ∙ all) (slice_get_within (first_cpus n scripts) v c at) in
-    subst (IsOf (port_value b v lender)) (ap (λ (k : Machine). fresh k.frames v (domain_of k v) first.0) machine ∙ sym first.1)
-    (takes v lender first.0 (subst (λ (k : Machine). v < (sizes_of k).vcpus) (sym machine) real))
+    subst (IsOf (port_value b v)) (ap (λ (k : Machine). fresh k.frames v (domain_of k v) first.0) machine ∙ sym first.1)
+    (takes v first.0 (subst (λ (k : Machine). v < (sizes_of k).vcpus) (sym machine) real))
 
 pub ready_board : (t : Trace) (b : Board) (opened : List ℕ) (cpus : List Processing) → SoundWords t.layout opened → IsOpening t opened → b.machine ≡ t.layout → b.story ≡ opened_story t.layout opened →
     length t.scripts ≡ length t.layout.vcpu_domain → sum_by length t.scripts ≤ 65536 → cpus ≡ first_cpus t.layout t.scripts → Ready b cpus
@@ -109,7 +109,7 @@ destroyed : BuriesListed → (z : Machine) (b : Board) (opened : List ℕ) (cpus
     runs.Run z (runs.start z opened) b.story.log (state_of b.story) → Ready b cpus → AreDestroyed z (memory (sizes_of z) b.story.words) (hand_of b.story.hands) cpus
 destroyed lists z b opened cpus machine begins run ready s i x c reply at op line none =
     let real : s < (sizes_of z).vcpus = subst (λ k. s < k) (ready.all ∙ ap (λ (n : Machine). (sizes_of n).vcpus) machine) (slice_get_within cpus s c at) in
-    let keeps = (ready.of s 0 c at).buried i x reply op line none in
+    let keeps = (ready.of s c at).buried i x reply op line none in
     let none_made : 0 ≡ length (hand_of (runs.start z opened).hands s).steps = sym (ap (λ (h : Holdings). length h.steps) (get_or-replicate (sizes_of z).vcpus s empty empty real)) in
     lists z (runs.start z opened) (state_of b.story) b.story.log s x (i + 1) c.log begins run real
     (subst (λ k. HasBuried z s x (i + 1) k (hand_of b.story.hands s) c.log) none_made (subst (λ k. HasBuried k s x (i + 1) 0 (hand_of b.story.hands s) c.log) machine keeps))

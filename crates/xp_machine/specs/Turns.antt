@@ -4,8 +4,8 @@ use Rattle.std.specs.List.{range_with_len}
 use Rattle.xp_words.specs.Machine.{Machine}
 use Rattle.xp_words.specs.Places.{sizes_of}
 use Rattle.xp_board.specs.declared.holdings.Made.{Made}
-use Rattle.xp_board.specs.Sound.{hand_of}
 use Rattle.xp_board.specs.Told.{PortValue, Story}
+use Rattle.shared_board.specs.Board.{port_value}
 use Rattle.vcpu_turn.specs.Unhindered.{IsSparedIn}
 use Rattle.vcpu_runners.specs.Turns.{Processing, TurnEnd, is_due}
 use Rattle.vcpu_runners.specs.Turns as turning
@@ -21,12 +21,9 @@ pub record Stage : Type 0 where
 abbrev pub stage : Story → List Processing → List Gate → Stage
 stage a cpus gates = record { board = a; cpus = cpus; gates = gates }
 
--- v is a port of that vCPU on a board that tells this
-pub record IsPortOf (n : Machine) (vcpu : ℕ) (a : Story) (v : PortValue) : Type 0 where
-  pub machine : v.post.machine ≡ n
-  pub vcpu_is : v.post.vcpu ≡ vcpu
-  pub hand : v.holdings ≡ hand_of a.hands vcpu
-  pub told : v.told ≡ Some a
+-- the port of that vCPU on a board of one thread that tells this
+abbrev pub port_on : Machine → ℕ → Story → PortValue
+port_on n vcpu a = port_value (record { machine = n; story = a }) vcpu
 
 -- vCPU v makes a turn by steps that lead from one stage to the other, in which its own gate gives these answers.
 pub record MakesStagedTurn (n : Machine) (v : ℕ) (c : Processing) (s s' : Stage) : Type 0 where
@@ -37,12 +34,8 @@ pub record MakesStagedTurn (n : Machine) (v : ℕ) (c : Processing) (s s' : Stag
   pub end : TurnEnd
   pub made : List Made
   pub leads : Leads n v s.board made s'.board
-  pub from : PortValue
-  pub to : PortValue
-  pub from_is : IsPortOf n v s.board from
-  pub to_is : IsPortOf n v s'.board to
   pub answers : List Bool
-  pub turn : turning.IsTurn c after end from to answers
+  pub turn : turning.IsTurn c after end (port_on n v s.board) (port_on n v s'.board) answers
   pub consulted : Consulted gate asked answers
   pub due : is_due end ≡ true → ends_yes answers ≡ true
   pub unhindered : IsSparedIn n (turning.next_of c) end
@@ -60,11 +53,7 @@ pub record StaysWithin (v : ℕ) (c : Processing) (s s' : Stage) (most : ℕ) : 
 pub record MakesStagedStop (n : Machine) (v : ℕ) (c : Processing) (s s' : Stage) : Type 0 where
   pub made : List Made
   pub leads : Leads n v s.board made s'.board
-  pub from : PortValue
-  pub to : PortValue
-  pub from_is : IsPortOf n v s.board from
-  pub to_is : IsPortOf n v s'.board to
-  pub stop : turning.IsStop from to
+  pub stop : turning.IsStop (port_on n v s.board) (port_on n v s'.board)
   pub cpus : s'.cpus ≡ slice_set s.cpus v (record c { retired = true })
   pub gates : s'.gates ≡ s.gates
 

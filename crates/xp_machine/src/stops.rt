@@ -7,19 +7,21 @@ ghost use Rattle.vcpu_runners.specs.Rows.{cpus_of};
 ghost use Rattle.xp_machine.specs.Rows.{stage_of};
 ghost use Rattle.xp_machine.specs.Turns.{Stops};
 
-use crate::boards::OneThread;
+use crate::boards::stop_on;
+use shared_board::WholeBoard;
 use vcpu_runners::Runner;
 
 /// Stops all vCPUs that are not retired, from the first to the last.
-pub fn stop_all<B: OneThread>(board: &mut B, runners: &mut [Runner])
-    requires ready { Ready (B.board board.old) (cpus_of runners.old) }
-    ensures machine { (B.board board.new).machine ≡ (B.board board.old).machine }
-    ensures opening { (B.board board.new).story.opening ≡ (B.board board.old).story.opening }
-    ensures stops { Stops (B.board board.old).machine (range_with_len 0 (sizes_of (B.board board.old).machine).vcpus) (stage_of (in_box policy) (B.board board.old) runners.old) (stage_of (in_box policy) (B.board board.new) runners.new) }
-    ensures ready { Ready (B.board board.new) (cpus_of runners.new) }
+pub fn stop_all<B: WholeBoard>(mut board: B, runners: &mut [Runner]) -> B
+    requires ready { Ready (B.board board) (cpus_of runners.old) }
+    ensures machine { (B.board result).machine ≡ (B.board board).machine }
+    ensures opening { (B.board result).story.opening ≡ (B.board board).story.opening }
+    ensures stops { Stops (B.board board).machine (range_with_len 0 (sizes_of (B.board board).machine).vcpus) (stage_of (in_box policy) (B.board board) runners.old) (stage_of (in_box policy) (B.board result) runners.new) }
+    ensures ready { Ready (B.board result) (cpus_of runners.new) }
 {
-    let vcpus = board.vcpus();
+    let vcpus = board.layout().vcpus();
     'stops: for vcpu in 0..vcpus {
-        board.stop(runners, vcpu);
+        board = stop_on(board, runners, vcpu);
     }
+    board
 }

@@ -1,14 +1,14 @@
-use Rattle.frame_types.specs.Plain.{is_refused}
-use Rattle.std.proofs.Common.{◌∙◌, false, [], Ok, Err, ap, subst, not, refl, inl, rules}
+use Rattle.std.proofs.Common.{◌∙◌, false, [], Ok, Err, ap, subst, refl, inl, rules}
 use Rattle.std.proofs.lemmas.Result.{err_from_is_err_and}
 use Rattle.step_maker.specs.Answers.{missed}
-use Rattle.frame_types.specs.Found.{TakesFound}
 use Rattle.frame_types.specs.Taking.{ShowsWait, TakesAs}
-use Rattle.frame_types.specs.declared.taking.Taken.TheVariants.{Counted, InWork, Waiting}
+use Rattle.frame_types.specs.declared.taking.Taken.TheVariants.{Counted, Waiting}
 use Rattle.partial_state.specs.Levels.{level_type}
 use Rattle.level_validate.specs.Acquiring.{is_due_stop}
-use Rattle.level_validate.proofs.Acquired.{answer_leaves, counted_hand, given_hand, idle_aside, idle_other, leaves_as, same_leaves, carries_taken, taken_ready, unwound_leaves, counted_by, finished_by, unfinished_by, unreferred_by, untyped_by, waiting_by, marked_acquired, plain_acquired, reference_serves, reference_stops, serves_as, stopped_serves, stopped_stops, stops_as, taken_serves, validated_misses, validated_serves, validated_stops, waited_serves, waited_stops}
+use Rattle.level_validate.proofs.Acquired.{answer_leaves, counted_hand, given_hand, idle_aside, idle_other, leaves_as, same_leaves, comes_in, unwound_leaves, counted_by, finished_by, unfinished_by, unreferred_by, untyped_by, waiting_by, marked_acquired, plain_acquired, reference_serves, reference_stops, serves_as, stopped_serves, stopped_stops, stops_as, taken_serves, validated_misses, validated_serves, validated_stops, waited_serves, waited_stops}
+use Rattle.level_validate.proofs.Going.{left_validated, live_validated}
 use Rattle.level_validate.proofs.LeftWaiting.{waits_on}
+use Rattle.table_entries.specs.Acquiring.{keeps_it}
 use Rattle.level_validate.proofs.acquiring.acquire.Goals as goal
 
 -- ---- its reference is not to be had
@@ -114,74 +114,53 @@ returns-in-Ok-Waiting g c =
 
 pub validate-requires : goal.validate-requires
 validate-requires g c =
-    let v = g.P.Port.value c.args.port.now in
-    let b = g.P.Port.value c.get_ref.new.port in
-    let x = g.P.Port.value c.take_type.new.port in
-    let h = c.in_ok-frame.frame in
-    let progress = c.in-Ok-InWork.progress in
-    let own = c.in-Ok-InWork.own in
-    let hand : TakesAs b x h c.args.owner c.level_type.result (InWork progress own) = subst (λ t. TakesAs b x h c.args.owner c.level_type.result t) c.in-Ok-InWork.field-0-is c.in-Ok-InWork.ensures.hand in
-    let found : TakesFound b x h c.args.owner c.level_type.result (Ok (InWork progress own)) = subst (λ t. TakesFound b x h c.args.owner c.level_type.result (Ok t)) c.in-Ok-InWork.field-0-is c.in-Ok-InWork.ensures.found in
+    let took = c.in-Ok-InWork in
+    let in_work = comes_in (g.P.Port.value c.get_ref.new.port) c.requires.idle c.requires.may c.in_ok-frame.ensures.hand c.level_type.ensures c.requires.low c.requires.high c.in_ok-frame.ensures.frame.1 took.field-0-is took.ensures.hand took.ensures.found in
     record {
-      may = search rules;
+      may = in_work.may;
       real = search rules;
-      stands = (v, carries_taken _ _ _ _ _ _ _ _ _ c.requires.idle c.in_ok-frame.ensures.hand c.level_type.ensures c.requires.low c.requires.high c.in_ok-frame.ensures.frame.1 hand.1 found);
-      fresh = λ zero. taken_ready _ _ _ c.requires.idle c.in_ok-frame.ensures.hand _ _ _ _ hand.1 zero;
+      stands = (g.P.Port.value c.args.port.now, in_work.carries);
+      fresh = in_work.fresh;
       room = search rules;
     }
 
 pub returns-in_ok-validate-in-Ok-InWork : goal.returns-in_ok-validate-in-Ok-InWork
 returns-in_ok-validate-in-Ok-InWork g c =
-    let b = g.P.Port.value c.get_ref.new.port in
-    let x = g.P.Port.value c.take_type.new.port in
-    let h = c.in_ok-frame.frame in
-    let progress = c.in-Ok-InWork.progress in
-    let own = c.in-Ok-InWork.own in
-    let hand : TakesAs b x h c.args.owner c.level_type.result (InWork progress own) = subst (λ t. TakesAs b x h c.args.owner c.level_type.result t) c.in-Ok-InWork.field-0-is c.in-Ok-InWork.ensures.hand in
-    let found : TakesFound b x h c.args.owner c.level_type.result (Ok (InWork progress own)) = subst (λ t. TakesFound b x h c.args.owner c.level_type.result (Ok t)) c.in-Ok-InWork.field-0-is c.in-Ok-InWork.ensures.found in
-    let carries = carries_taken _ _ _ _ _ _ _ _ _ c.requires.idle c.in_ok-frame.ensures.hand c.level_type.ensures c.requires.low c.requires.high c.in_ok-frame.ensures.frame.1 hand.1 found in
     let took = c.in-Ok-InWork in
+    let same = c.in_ok-frame.ensures.frame.0 in
+    let in_work = comes_in (g.P.Port.value c.get_ref.new.port) c.requires.idle c.requires.may c.in_ok-frame.ensures.hand c.level_type.ensures c.requires.low c.requires.high c.in_ok-frame.ensures.frame.1 took.field-0-is took.ensures.hand took.ensures.found in
+    let live = live_validated in_work c.in_ok-validate-in-Ok-InWork.ensures.course.course in
     record {
-      frame = search rules;
-      serves = λ pages. let before = taken_serves _ _ _ _ pages false _ c.in_ok-frame.ensures.serves c.in_ok-frame.ensures.frame.0 c.level_type.ensures _ c.in-Ok-InWork.ensures.serves in
-          marked_acquired _ _ _ _ _ pages _ false (Ok h) c.in_ok-frame.ensures.frame.0 refl
-          (validated_serves _ _ _ _ pages false _ before c.in_ok-frame.ensures.frame.0 _ _ _ false [] c.in_ok-validate-in-Ok-InWork.ensures.serves);
-      stops = search rules;
-      kinds = search rules;
-      hand = c.in_ok-validate-in-Ok-InWork.ensures.hand (g.P.Port.value c.args.port.now) c.args.owner carries;
-      course = finished_by _ _ _ _ _ c.in_ok-frame.ensures.frame.0 c.in_ok-frame.ensures.gets c.in_ok-frame.ensures.plain _ c.level_type.ensures
+      frame = c.in_ok-frame.ensures.frame;
+      serves = λ pages. let before = taken_serves _ _ _ _ pages false _ c.in_ok-frame.ensures.serves same c.level_type.ensures _ took.ensures.serves in
+          marked_acquired _ _ _ _ _ pages _ false (Ok c.in_ok-frame.frame) same refl (validated_serves _ _ _ _ pages false _ before same _ _ _ false [] live.serves);
+      stops = λ pages. tt;
+      kinds = tt;
+      hand = live.hand;
+      course = finished_by _ _ _ _ _ same c.in_ok-frame.ensures.gets c.in_ok-frame.ensures.plain _ c.level_type.ensures
           took.field-0 took.ensures.found took.ensures.plain took.ensures.waits took.field-0-is (g.P.Port.value c.validate.new.port) c.in_ok-validate-in-Ok-InWork.ensures.course;
     }
 
 pub returns-in_err-validate-in-Ok-InWork : goal.returns-in_err-validate-in-Ok-InWork
 returns-in_err-validate-in-Ok-InWork g c =
     let v = g.P.Port.value c.args.port.now in
-    let b = g.P.Port.value c.get_ref.new.port in
-    let x = g.P.Port.value c.take_type.new.port in
     let w = g.P.Port.value c.validate.new.port in
-    let h = c.in_ok-frame.frame in
-    let progress = c.in-Ok-InWork.progress in
-    let own = c.in-Ok-InWork.own in
+    let took = c.in-Ok-InWork in
+    let same = c.in_ok-frame.ensures.frame.0 in
     let e = c.in_err-validate-in-Ok-InWork.field-0.0 in
     let result = c.from_residual-in_err-validate-in-Ok-InWork.result in
     let answer = err_from_is_err_and result c.from_residual-in_err-validate-in-Ok-InWork.ensures.1 in
-    let hand : TakesAs b x h c.args.owner c.level_type.result (InWork progress own) = subst (λ t. TakesAs b x h c.args.owner c.level_type.result t) c.in-Ok-InWork.field-0-is c.in-Ok-InWork.ensures.hand in
-    let found : TakesFound b x h c.args.owner c.level_type.result (Ok (InWork progress own)) = subst (λ t. TakesFound b x h c.args.owner c.level_type.result (Ok t)) c.in-Ok-InWork.field-0-is c.in-Ok-InWork.ensures.found in
-    let carries = carries_taken _ _ _ _ _ _ _ _ _ c.requires.idle c.in_ok-frame.ensures.hand c.level_type.ensures c.requires.low c.requires.high c.in_ok-frame.ensures.frame.1 hand.1 found in
-    let kept = not (is_refused e) in
-    let took = c.in-Ok-InWork in
+    let is = answer.1 ∙ ap Err answer.2 in
+    let in_work = comes_in (g.P.Port.value c.get_ref.new.port) c.requires.idle c.requires.may c.in_ok-frame.ensures.hand c.level_type.ensures c.requires.low c.requires.high c.in_ok-frame.ensures.frame.1 took.field-0-is took.ensures.hand took.ensures.found in
+    let left = left_validated in_work e c.in_err-validate-in-Ok-InWork.ensures.course.course in
     record {
       frame = search rules;
-      serves = λ pages. let before = taken_serves _ _ _ _ pages (is_due_stop e) _ c.in_ok-frame.ensures.serves c.in_ok-frame.ensures.frame.0 c.level_type.ensures _ c.in-Ok-InWork.ensures.serves in
-          serves_as _ _ _ _ _ pages _ _ (answer.1 ∙ ap Err answer.2)
-          (marked_acquired _ _ _ _ _ pages _ (not (is_refused e)) (Err e) c.in_ok-frame.ensures.frame.0 refl
-          (validated_misses _ _ _ _ pages (is_due_stop e) _ before c.in_ok-frame.ensures.frame.0 _ _ _ (not (is_refused e)) _ c.in_err-validate-in-Ok-InWork.ensures.serves));
-      stops = λ pages. let before = taken_serves _ _ _ _ pages (is_due_stop e) _ c.in_ok-frame.ensures.serves c.in_ok-frame.ensures.frame.0 c.level_type.ensures _ c.in-Ok-InWork.ensures.serves in
-          stops_as _ _ _ _ _ pages _ _ (answer.1 ∙ ap Err answer.2)
-          (validated_stops _ _ _ _ pages (is_due_stop e) _ before c.in_ok-frame.ensures.frame.0 _ _ _ _ (λ due. due) carries c.in_err-validate-in-Ok-InWork.ensures.stops);
+      serves = λ pages. let before = taken_serves _ _ _ _ pages (is_due_stop e) _ c.in_ok-frame.ensures.serves same c.level_type.ensures _ took.ensures.serves in
+          serves_as _ _ _ _ _ pages _ _ is (marked_acquired _ _ _ _ _ pages _ (keeps_it e) (Err e) same refl (validated_misses _ _ _ _ pages (is_due_stop e) _ before same _ _ _ (keeps_it e) _ left.serves));
+      stops = λ pages. let before = taken_serves _ _ _ _ pages (is_due_stop e) _ c.in_ok-frame.ensures.serves same c.level_type.ensures _ took.ensures.serves in
+          stops_as _ _ _ _ _ pages _ _ is (validated_stops _ _ _ _ pages (is_due_stop e) _ before same _ _ _ _ (λ due. due) in_work.carries left.stops);
       kinds = search rules;
-      hand = leaves_as v w c.args.f c.args.owner c.args.level result e (answer.1 ∙ ap Err answer.2)
-          (unwound_leaves v w c.args.f c.args.owner c.args.level x h progress own e c.in_ok-frame.ensures.frame.0 carries c.in_err-validate-in-Ok-InWork.ensures.hand);
-      course = unfinished_by v c.args.f c.args.owner c.args.level b c.in_ok-frame.ensures.frame.0 c.in_ok-frame.ensures.gets c.in_ok-frame.ensures.plain x c.level_type.ensures
-          took.field-0 took.ensures.found took.ensures.plain took.ensures.waits took.field-0-is (g.P.Port.value c.validate.new.port) result e (answer.1 ∙ ap Err answer.2) c.in_err-validate-in-Ok-InWork.ensures.course;
+      hand = leaves_as v w c.args.f c.args.owner c.args.level result e is (unwound_leaves v w c.args.f c.args.owner c.args.level c.in_ok-frame.frame took.progress took.own e same left.hand);
+      course = unfinished_by v c.args.f c.args.owner c.args.level (g.P.Port.value c.get_ref.new.port) same c.in_ok-frame.ensures.gets c.in_ok-frame.ensures.plain (g.P.Port.value c.take_type.new.port) c.level_type.ensures
+          took.field-0 took.ensures.found took.ensures.plain took.ensures.waits took.field-0-is w result e is c.in_err-validate-in-Ok-InWork.ensures.course;
     }

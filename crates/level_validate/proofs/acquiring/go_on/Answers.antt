@@ -1,15 +1,7 @@
 use Rattle.std.proofs.Common.{Err, ap, ◌∙◌}
 use Rattle.std.proofs.lemmas.Result.{err_from_is_err_and}
-use Rattle.table_entries.specs.Acquiring.{is_asked}
-use Rattle.level_validate.proofs.Filling.{asked_stops, asked_going, stopped_going}
+use Rattle.level_validate.proofs.Filling.{asked_going, stopped_going}
 use Rattle.level_validate.proofs.acquiring.go_on.Goals as goal
-
-pub returns-clause-stops : goal.returns-clause-stops
-returns-clause-stops g c =
-    asked_stops _ _ _ _ c.in_ok-done.done (is_asked c.advance.new.stack) _ c.ask_behind.ensures.kinds c.in_ok-done.ensures.progress
-    c.ask_behind.ensures.course.answers c.ask_behind.ensures.course.due c.ask_behind.ensures.course.course
-
--- ---- its part of the course
 
 pub returns-in_err-done-clause-course : goal.returns-in_err-done-clause-course
 returns-in_err-done-clause-course g c =

@@ -1,5 +1,5 @@
 use Rattle.std.proofs.Common.{subst}
-use Rattle.level_validate.proofs.Unwound.{Unwinding, unwinding_begins, unwinding_course, unwinding_hand, unwinding_on, unwinding_serves}
+use Rattle.level_validate.proofs.Unwound.{Unwinding, unwinding_begins, unwinding_done, unwinding_on}
 use Rattle.level_validate.proofs.unwinding.unwind.Goals as goal
 
 pub loop-table-init : goal.loop-table-init
@@ -11,11 +11,5 @@ loop-table-preserved g c =
     unwinding_on (subst (λ us. Unwinding (g.P.Port.value c.args.port.now) w c.args.owner c.args.kept c.args.stack.now us) c.in-Some.ensures.some c.loop-table.invariant)
     (g.P.Port.value c.leave_table.new.port) c.leave_table.new.stack c.leave_table.ensures.came c.leave_table.ensures.around c.leave_table.ensures.hand c.leave_table.ensures.serves c.leave_table.ensures.course
 
-pub returns-clause-hand : goal.returns-clause-hand
-returns-clause-hand g c = unwinding_hand c.in_default.ensures.none.0 c.loop-table.invariant
-
-pub returns-clause-serves : goal.returns-clause-serves
-returns-clause-serves g c = unwinding_serves c.in_default.ensures.none.0 c.loop-table.invariant
-
-pub returns-clause-course : goal.returns-clause-course
-returns-clause-course g c = unwinding_course c.in_default.ensures.none.0 c.loop-table.invariant
+pub returns : goal.returns
+returns g c = unwinding_done c.in_default.ensures.none.0 c.loop-table.invariant

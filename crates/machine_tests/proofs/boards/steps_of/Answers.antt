@@ -1,7 +1,7 @@
 use Rattle.std.proofs.Common.{◌∙◌, ap, sym, subst}
 use Rattle.xp_words.specs.Machine.{Machine}
 use Rattle.xp_board.specs.Readings.{domain_of}
-use Rattle.shared_board.specs.Board.{port_value}
+use Rattle.shared_board.specs.Board.{Board, port_value}
 use Rattle.xp_machine.specs.Ready.{IsOf, TakesFresh, fresh}
 use Rattle.xp_machine.proofs.Boarding.{of_port}
 use Rattle.machine_tests.proofs.boards.steps_of.Goals as goal
@@ -9,7 +9,6 @@ use Rattle.machine_tests.proofs.boards.steps_of.Goals as goal
 pub turn-requires-clause-of : goal.turn-requires-clause-of
 unfolding TakesFresh
 turn-requires-clause-of c =
-    let lender = c.port.result.board.ghost_name in
     let is = c.new-runner.ensures.cpu ∙ c.in_ok-cpu.ensures ∙ ap (λ (n : Machine). fresh n.frames c.args.vcpu (domain_of n c.args.vcpu) c.args.script) c.layout.ensures.layout in
-    of_port c.args.board.now c.port.result.board.now c.args.vcpu c.port.result.vcpu lender c.new-runner.result.cpu c.port.ensures.board c.port.ensures.vcpu
-    (subst (IsOf (port_value c.args.board.now c.args.vcpu lender)) (sym is) (c.requires.fresh c.args.vcpu lender c.args.script c.requires.vcpu))
+    of_port c.args.board.now c.new.result.board.now c.args.vcpu c.new.result.vcpu c.new-runner.result.cpu (ap (λ b. b.now) c.new.ensures.board) c.new.ensures.vcpu
+    (subst (IsOf (port_value c.args.board.now c.args.vcpu)) (sym is) (c.requires.fresh c.args.vcpu c.args.script c.requires.vcpu))

@@ -10,6 +10,6 @@ runs-preserved g c =
     record {
       machine = c.turns_of.ensures.machine ∙ c.runs.invariant.machine;
       opening = c.turns_of.ensures.opening ∙ c.runs.invariant.opening;
-      turns = more_runs (g.B.OneThread.board c.args.board.now).machine _ c.args.runs.now c.runs.run-index _ _ _ _ c.runs.invariant.machine c.runs-test.true c.runs.invariant.turns c.turns_of.ensures.turns;
+      turns = more_runs (g.B.WholeBoard.board c.args.board).machine _ c.args.runs.now c.runs.run-index _ _ _ _ c.runs.invariant.machine c.runs-test.true c.runs.invariant.turns c.turns_of.ensures.turns;
       ready = c.turns_of.ensures.ready;
     }

@@ -8,8 +8,8 @@ use Rattle.xp_machine.proofs.turns.turns_of.Given as goal
 
 abbrev pub invariant-turns : goal.invariant-turns
 invariant-turns g l = record {
-  machine : (g.B.OneThread.board l.board).machine ≡ (g.B.OneThread.board l.initial.board).machine;
-  opening : (g.B.OneThread.board l.board).story.opening ≡ (g.B.OneThread.board l.initial.board).story.opening;
-  turns : Turns (g.B.OneThread.board l.initial.board).machine (replicate l._turn l.vcpu) (stage_of (λ x. (goal.Preempt-dyn g (x.vtable, x.value)).policy x.value) (g.B.OneThread.board l.initial.board) l.initial.runners) (stage_of (λ x. (goal.Preempt-dyn g (x.vtable, x.value)).policy x.value) (g.B.OneThread.board l.board) l.runners);
-  ready : Ready (g.B.OneThread.board l.board) (cpus_of l.runners);
+  machine : (g.B.WholeBoard.board l.board).machine ≡ (g.B.WholeBoard.board l.initial.board).machine;
+  opening : (g.B.WholeBoard.board l.board).story.opening ≡ (g.B.WholeBoard.board l.initial.board).story.opening;
+  turns : Turns (g.B.WholeBoard.board l.initial.board).machine (replicate l._turn l.vcpu) (stage_of (λ x. (goal.Preempt-dyn g (x.vtable, x.value)).policy x.value) (g.B.WholeBoard.board l.initial.board) l.initial.runners) (stage_of (λ x. (goal.Preempt-dyn g (x.vtable, x.value)).policy x.value) (g.B.WholeBoard.board l.board) l.runners);
+  ready : Ready (g.B.WholeBoard.board l.board) (cpus_of l.runners);
 }
