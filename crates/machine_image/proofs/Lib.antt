@@ -4,4 +4,5 @@ pub mod Images
 pub mod Whole
 pub mod Loop
 pub mod Machines
+mod Pieces
 pub mod Stands

@@ -8,13 +8,15 @@
 
 mod fault;
 mod laws;
+mod numbers;
 mod read;
 mod write;
 
 pub use fault::ImageFault;
 pub use laws::{an_image_has_one_spelling, an_image_reads_back, bytes_without_fault_are_an_image};
-pub use read::read_image;
-pub use write::write_image;
+pub use numbers::Numbers;
+pub use read::{image_in, read_image};
+pub use write::{Image, write_image};
 
 #[cfg(test)]
 mod tests;

@@ -5,9 +5,11 @@ ghost use Rattle.machine_image.specs.Image.{image_of, IsImaged};
 ghost use Rattle.machine_image.specs.Reading.{ReadsAs, Tells, field_at, whole_at, letters as letters_number, ranged_at, mask_at, each_at, words_at, machine_at, ended_at, image_at, image_fault};
 
 use crate::fault::ImageFault;
+use crate::numbers::Numbers;
 use arrayvec::ArrayVec;
 use byteorder::{ByteOrder, LittleEndian};
 use std::alloc::Global;
+use xp_io::Keeper;
 use xp_words::{Layout, ShortList};
 
 // Number `index` is none that may stand there.
@@ -20,37 +22,27 @@ fn refused(index: usize) -> ImageFault
 }
 
 // The bytes end within a number.
-fn cut_off(bytes: &[u8]) -> ImageFault
+fn cut_off(bytes: &Numbers) -> ImageFault
     ensures { result ≡ Bad (length bytes.now) }
 {
     let at = bytes.len() as u64;
     ImageFault::Bad { at }
 }
 
-// Number `index` of the bytes.
-#[inline(always)]
-#[tactic(auto, unfolding(crate::specs::Reading::field_at))]
-fn number(bytes: &[u8], index: usize) -> u64
-    requires { 8 * index + 8 ≤ length bytes.now }
-    ensures { result ≡ field_at bytes.now index }
-{
-    LittleEndian::read_u64(&bytes[8 * index..])
-}
-
-// The same, where it is whole.
+// Number `index` of the bytes, where it is whole.
 #[tactic(auto, unfolding(crate::specs::Reading::tested_at))]
-fn whole(bytes: &[u8], index: usize) -> Result<u64, ImageFault>
+fn whole(bytes: &Numbers, index: usize) -> Result<u64, ImageFault>
     requires { index < 2 ^ 32 }
     ensures { ReadsAs (λ n. n) result (whole_at bytes.now index) }
 {
     if bytes.len() < 8 * index + 8 {
         return Err(cut_off(bytes));
     }
-    Ok(number(bytes, index))
+    Ok(bytes.get(index))
 }
 
 #[tactic(auto, unfolding(crate::specs::Reading::tested_at))]
-fn ranged(bytes: &[u8], index: usize, least: u64, most: u64) -> Result<u64, ImageFault>
+fn ranged(bytes: &Numbers, index: usize, least: u64, most: u64) -> Result<u64, ImageFault>
     requires { index < 2 ^ 32 }
     ensures gives { ReadsAs (λ n. n) result (ranged_at least most bytes.now index) }
     ensures range { IfOk result (λ n. (least ≤ n) × (n ≤ most)) }
@@ -63,7 +55,7 @@ fn ranged(bytes: &[u8], index: usize, least: u64, most: u64) -> Result<u64, Imag
 }
 
 // The letters before all numbers, as one number.
-fn letters(bytes: &[u8]) -> Result<u64, ImageFault>
+fn letters(bytes: &Numbers) -> Result<u64, ImageFault>
     ensures { ReadsAs (λ n. n) result (ranged_at letters_number letters_number bytes.now 0) }
 {
     let letters = LittleEndian::read_u64(b"XPVIMG01");
@@ -72,7 +64,7 @@ fn letters(bytes: &[u8]) -> Result<u64, ImageFault>
 
 // The privilege mask of a domain.
 #[tactic(auto, unfolding(crate::specs::Reading::tested_at))]
-fn mask(bytes: &[u8], index: usize, domains: u32, domain: u32) -> Result<u16, ImageFault>
+fn mask(bytes: &Numbers, index: usize, domains: u32, domain: u32) -> Result<u16, ImageFault>
     requires index { index < 2 ^ 32 }
     requires few { domains ≤ 16 }
     requires domain { domain < domains }
@@ -85,7 +77,7 @@ fn mask(bytes: &[u8], index: usize, domains: u32, domain: u32) -> Result<u16, Im
     Ok(mask as u16)
 }
 
-fn page_limits(bytes: &[u8], domains: u32) -> Result<ArrayVec<u32, 16>, ImageFault>
+fn page_limits(bytes: &Numbers, domains: u32) -> Result<ArrayVec<u32, 16>, ImageFault>
     requires { domains ≤ 16 }
     ensures { ReadsAs (λ v. v.items) result (each_at (λ _. ranged_at 0 65536 bytes.now) 0 5 domains) }
 {
@@ -97,7 +89,7 @@ fn page_limits(bytes: &[u8], domains: u32) -> Result<ArrayVec<u32, 16>, ImageFau
     Ok(limits)
 }
 
-fn masks(bytes: &[u8], domains: u32) -> Result<ArrayVec<u16, 16>, ImageFault>
+fn masks(bytes: &Numbers, domains: u32) -> Result<ArrayVec<u16, 16>, ImageFault>
     requires { domains ≤ 16 }
     ensures { ReadsAs (λ v. v.items) result (each_at (λ d. mask_at domains d bytes.now) 0 (5 + domains) domains) }
 {
@@ -109,7 +101,7 @@ fn masks(bytes: &[u8], domains: u32) -> Result<ArrayVec<u16, 16>, ImageFault>
     Ok(masks)
 }
 
-fn vcpu_domains(bytes: &[u8], domains: u32, vcpus: u32) -> Result<ArrayVec<u16, 16>, ImageFault>
+fn vcpu_domains(bytes: &Numbers, domains: u32, vcpus: u32) -> Result<ArrayVec<u16, 16>, ImageFault>
     requires some { 1 ≤ domains }
     requires domains { domains ≤ 16 }
     requires vcpus { vcpus ≤ 16 }
@@ -126,7 +118,7 @@ fn vcpu_domains(bytes: &[u8], domains: u32, vcpus: u32) -> Result<ArrayVec<u16, 
 }
 
 #[tactic(auto, unfolding(crate::specs::Reading::machine_at))]
-fn layout(bytes: &[u8]) -> Result<Layout, ImageFault>
+fn layout(bytes: &Numbers) -> Result<Layout, ImageFault>
     ensures { ReadsAs (λ l. l) result (machine_at bytes.now) }
 {
     let _letters = letters(bytes)?;
@@ -146,36 +138,58 @@ fn layout(bytes: &[u8]) -> Result<Layout, ImageFault>
     })
 }
 
-// So many words, from number `first` on. No memory is taken for words that are not there.
+// So many words, from number `first` on.
 #[tactic(auto, unfolding(crate::specs::Reading::words_at))]
-fn words(alloc: Global, bytes: &[u8], first: usize, count: usize) -> Result<Vec<u64>, ImageFault>
+fn words(bytes: &Numbers, first: usize, count: usize) -> Result<&[u64], ImageFault>
     requires first { first < 2 ^ 32 }
     requires count { count < 2 ^ 32 }
-    ensures { ReadsAs (λ v. v.items) result (words_at bytes.now first count) }
+    ensures { ReadsAs (λ v. v.now) result (words_at bytes.now first count) }
 {
     if bytes.len() < 8 * (first + count) {
         return Err(cut_off(bytes));
     }
-    let mut words = Vec::with_capacity(alloc, count)?;
-    for index in first..first + count {
-        words.push_reserved(number(bytes, index));
-    }
-    Ok(words)
+    Ok(bytes.run(first, count))
 }
 
 #[tactic(auto, unfolding(crate::specs::Reading::image_at, crate::specs::Reading::ended_at))]
-fn image(alloc: Global, bytes: &[u8]) -> Result<(Layout, Vec<u64>), ImageFault>
-    ensures { ReadsAs (λ x. (x.0, x.1.items)) result (image_at bytes.now) }
+fn image(bytes: &Numbers) -> Result<(Layout, &[u64]), ImageFault>
+    ensures { ReadsAs (λ x. (x.0, x.1.now)) result (image_at bytes.now) }
 {
     let layout = layout(bytes)?;
     let count = layout.words();
     let place = 5 + 2 * layout.domains() as usize + layout.vcpus() as usize;
     let _count = ranged(bytes, place, u64::from(count), u64::from(count))?;
-    let words = words(alloc, bytes, place + 1, count as usize)?;
+    let words = words(bytes, place + 1, count as usize)?;
     let end = 8 * (place + 1 + count as usize);
     if end < bytes.len() {
         return Err(ImageFault::Bad { at: end as u64 });
     }
+    Ok((layout, words))
+}
+
+/// The machine and the words whose image the bytes are, all of the bytes. Otherwise it says where they first differ from an image.
+pub fn image_in(bytes: &Numbers) -> Result<(Layout, &[u64]), ImageFault>
+    // The bytes are the image of what is read.
+    ensures found { IfOk result (λ x. IsImaged x.0 x.1.now × (bytes.now ≡ image_of x.0 x.1.now)) }
+    // An image is read.
+    ensures only { (m : Machine) (words : List ℕ) → IsImaged m words → bytes.now ≡ image_of m words → ReadsAs {Y = Machine × List ℕ} (λ x. (x.0, x.1.now)) result (Ok (m, words)) }
+    // A fault is the first one.
+    ensures fault { IfErr result (λ e. Tells e (image_fault bytes.now)) }
+{
+    // So the prover knows that these are bytes.
+    let _len = bytes.len();
+    image(bytes)
+}
+
+// The same, of which the words are copied.
+fn copied(alloc: Global, bytes: &[u8]) -> Result<(Layout, Vec<u64>), ImageFault>
+    ensures { ReadsAs (λ x. (x.0, x.1.items)) result (image_at bytes.now) }
+{
+    let mut numbers = Numbers::new(alloc);
+    numbers.keep(bytes)?;
+    let (layout, found) = image(&numbers)?;
+    let mut words = Vec::new(alloc);
+    words.extend_from_slice(found)?;
     Ok((layout, words))
 }
 
@@ -189,5 +203,5 @@ pub fn read_image(alloc: Global, bytes: &[u8]) -> Result<(Layout, Vec<u64>), Ima
     // A fault is the first one.
     ensures fault { IfErr result (λ e. Tells e (image_fault bytes.now)) }
 {
-    image(alloc, bytes)
+    copied(alloc, bytes)
 }

@@ -10,4 +10,4 @@ mod whole;
 pub use memory::{HonestSink, HonestSource, MemorySink, MemorySource};
 pub use outside::{FileSource, StdSink, StdSource};
 pub use streams::{Failed, Sink, Source};
-pub use whole::{ReadAllError, read_all, write_whole};
+pub use whole::{Keeper, ReadAllError, read_all, read_into, write_whole};

@@ -1,4 +1,4 @@
-ghost use Rattle.std.specs.Prelude.{◌≡◌, ◌≤◌, ◌<◌, ◌+◌, ◌⊎◌, length, vec_len, IfOk, OnErr, OnOk, IsErrOf};
+ghost use Rattle.std.specs.Prelude.{◌≡◌, ◌≤◌, ◌<◌, ◌+◌, ◌++◌, ◌⊎◌, ℕ, List, [], length, vec_len, IfOk, OnErr, OnOk, IsErrOf};
 ghost use Rattle.std.specs.Io.{ReadsAtMost};
 ghost use Rattle.std.specs.Io.KnownBytes.{Appends, ReadConsumes};
 ghost use Rattle.xp_io.specs.Causes.{Rose, ReadToEnd, TookOneMore, TookNoMore, AppendsFront, HasCause};
@@ -60,8 +60,66 @@ fn read_piece<S: Source>(
     source.read(&mut piece[..room])
 }
 
-/// Reads to the end, at most `limit` bytes. Never more than `limit` and one more are taken, since each read is
+/// What keeps the bytes that are read.
+pub trait Keeper {
+    /// The bytes that it keeps.
+    ghost kept: { Self → List ℕ };
+
+    /// How many these are.
+    fn count(&self) -> usize
+        ensures { result ≡ length (kept self.now) };
+
+    /// Keeps these, too, behind the others.
+    fn keep(&mut self, bytes: &[u8]) -> Result<(), AllocError>
+        ensures { OnOk result (kept self.new ≡ kept self.old ++ bytes.now) };
+}
+
+impl Keeper for Vec<u8> {
+    ghost kept = { λ v. v.items };
+
+    fn count(&self) -> usize {
+        self.len()
+    }
+
+    fn keep(&mut self, bytes: &[u8]) -> Result<(), AllocError> {
+        self.extend_from_slice(bytes)
+    }
+}
+
+/// Reads to the end, at most `limit` bytes, into what keeps nothing yet. Never more than `limit` and one more are taken, since each read is
 /// offered no more room than that.
+pub fn read_into<S: Source, K: Keeper>(
+    alloc: Global,
+    source: &mut S,
+    limit: usize,
+    keeper: &mut K,
+) -> Result<(), ReadAllError>
+    requires { K.kept keeper.old ≡ [] }
+    ensures whole { OnOk result (ReadToEnd (S.left source.old) (S.left source.new) (K.kept keeper.new)) }
+    ensures within { OnOk result (length (K.kept keeper.new) ≤ limit) }
+    ensures large { IsErrOf result ReadAllError.Large → TookOneMore (S.left source.old) (S.left source.new) limit }
+    ensures failed { IsErrOf result ReadAllError.Failed → Rose (S.faults source.old) (S.faults source.new) }
+    ensures few { OnErr result (TookNoMore (S.left source.old) (S.left source.new) (limit + 1)) }
+    ensures later { S.faults source.old ≤ S.faults source.new }
+    ensures kept { OnOk result (S.faults source.new ≡ S.faults source.old) }
+    ensures unfailed { (IsErrOf result ReadAllError.Large ⊎ IsErrOf result ReadAllError.Memory) → S.faults source.new ≡ S.faults source.old }
+{
+    let mut piece = zeros(alloc, PIECE)?;
+    loop {
+        let kept = keeper.count();
+        let left = limit - kept;
+        let count = read_piece(source, &mut piece, left)?;
+        if count == 0 {
+            return Ok(());
+        }
+        if count > left {
+            return Err(ReadAllError::Large);
+        }
+        keeper.keep(&piece[..count])?;
+    }
+}
+
+/// Reads to the end, at most `limit` bytes.
 pub fn read_all<S: Source>(
     alloc: Global,
     source: &mut S,
@@ -77,16 +135,9 @@ pub fn read_all<S: Source>(
     ensures unfailed { (IsErrOf result ReadAllError.Large ⊎ IsErrOf result ReadAllError.Memory) → S.faults source.new ≡ S.faults source.old }
 {
     let mut bytes = Vec::new(alloc);
-    let mut piece = zeros(alloc, PIECE)?;
-    loop {
-        let count = read_piece(source, &mut piece, limit - bytes.len())?;
-        if count == 0 {
-            return Ok(bytes);
-        }
-        if count > limit - bytes.len() {
-            return Err(ReadAllError::Large);
-        }
-        bytes.extend_from_slice(&piece[..count])?;
+    match read_into(alloc, source, limit, &mut bytes) {
+        Ok(()) => Ok(bytes),
+        Err(error) => Err(error),
     }
 }
 

@@ -1,5 +1,6 @@
 pub mod Audited
 pub mod Cpus
+pub mod Due
 pub mod Outcome
 pub mod Pieces
 pub mod Ran

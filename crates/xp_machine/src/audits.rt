@@ -5,18 +5,19 @@ ghost use Rattle.walk_audit.specs.Judged.{Judged};
 ghost use Rattle.xp_words.specs.Machine.{IsMachine};
 ghost use Rattle.xp_words.specs.Places.{size, sizes_of};
 ghost use Rattle.xp_machine.specs.Audited.{IsImageDue, IsJudgement, Shows, TellsLength};
+ghost use Rattle.xp_machine.specs.Due.{bytes_of};
 ghost use Rattle.xp_machine.specs.Outcome.{Outcome};
 ghost use Rattle.xp_machine.specs.Texts.{verdict_status};
 
-use crate::due::{Due, Early};
+use crate::due::{Due, Early, Text, write_text};
 use crate::status::Status;
 use crate::texts::{bad_image, large_text, verdict_line};
 use machine_draw::draw;
-use machine_image::{ImageFault, read_image};
+use machine_image::{ImageFault, Numbers, image_in};
 use std::alloc::{AllocError, Global};
 use trace_lines::What;
 use walk_audit::{Verdict, audit};
-use xp_io::{ReadAllError, Sink, Source, read_all, write_whole};
+use xp_io::{ReadAllError, Sink, Source, read_into};
 use xp_words::Layout;
 
 // As many bytes as an image may have: more than any has.
@@ -50,40 +51,40 @@ fn show(
 ) -> Result<Due, AllocError>
     requires machine { IsMachine layout.now }
     requires words { length words.now ≡ size (sizes_of layout.now) }
-    ensures { IfOk result (λ d. Shows showing layout.now words.now verdict d.status d.text.items) }
+    ensures { IfOk result (λ d. Shows showing layout.now words.now verdict d.status (bytes_of d.text)) }
 {
     match showing {
         Showing::Line => {
             let text = verdict_line(alloc, verdict)?;
             Ok(Due {
                 status: status_of(verdict),
-                text,
+                text: Text::Bytes(text),
             })
         }
         Showing::Drawn => {
             let text = draw(alloc, layout, words, verdict)?;
             Ok(Due {
                 status: Status::Done,
-                text,
+                text: Text::Bytes(text),
             })
         }
     }
 }
 
 // What is due for bytes that were read to their end.
-fn judge(showing: Showing, alloc: Global, bytes: &[u8]) -> Result<Due, AllocError>
-    ensures { IfOk result (λ d. IsJudgement showing bytes.now d.status d.text.items) }
+fn judge(showing: Showing, alloc: Global, bytes: &Numbers) -> Result<Due, AllocError>
+    ensures { IfOk result (λ d. IsJudgement showing bytes.now d.status (bytes_of d.text)) }
 {
-    match read_image(alloc, bytes) {
+    match image_in(bytes) {
         Ok((layout, words)) => {
-            let verdict = audit(alloc, &layout, &words)?;
-            show(showing, alloc, &layout, &words, verdict)
+            let verdict = audit(alloc, &layout, words)?;
+            show(showing, alloc, &layout, words, verdict)
         }
         Err(ImageFault::Bad { at }) => {
             let text = bad_image(alloc, at)?;
             Ok(Due {
                 status: Status::BadImage,
-                text,
+                text: Text::Bytes(text),
             })
         }
         Err(ImageFault::Memory) => Err(AllocError),
@@ -92,25 +93,26 @@ fn judge(showing: Showing, alloc: Global, bytes: &[u8]) -> Result<Due, AllocErro
 
 // What is due for more bytes than an image may have.
 fn too_long(alloc: Global) -> Result<Due, AllocError>
-    ensures { IfOk result (λ d. (from from' : Option (List ℕ)) → TookOneMore from from' 536870912 → TellsLength from from' d.status d.text.items) }
+    ensures { IfOk result (λ d. (from from' : Option (List ℕ)) → TookOneMore from from' 536870912 → TellsLength from from' d.status (bytes_of d.text)) }
 {
     let text = large_text(alloc, 0, What::Bytes, 536_870_913)?;
     Ok(Due {
         status: Status::TooLarge,
-        text,
+        text: Text::Bytes(text),
     })
 }
 
 // What is due for what the source gives.
 fn gather<S: Source>(showing: Showing, alloc: Global, source: &mut S) -> Result<Due, Early>
-    ensures due { IfOk result (λ d. IsImageDue showing (S.left source.old) (S.left source.new) d.status d.text.items) }
+    ensures due { IfOk result (λ d. IsImageDue showing (S.left source.old) (S.left source.new) d.status (bytes_of d.text)) }
     ensures failed { IsErrOf result Early.Failed → Rose (S.faults source.old) (S.faults source.new) }
     ensures later { S.faults source.old ≤ S.faults source.new }
     ensures kept { IfOk result (λ _. S.faults source.new ≡ S.faults source.old) }
     ensures unfailed { IsErrOf result Early.Memory → S.faults source.new ≡ S.faults source.old }
 {
-    match read_all(alloc, source, MAX_BYTES) {
-        Ok(bytes) => match judge(showing, alloc, &bytes) {
+    let mut bytes = Numbers::new(alloc);
+    match read_into(alloc, source, MAX_BYTES, &mut bytes) {
+        Ok(()) => match judge(showing, alloc, &bytes) {
             Ok(due) => Ok(due),
             Err(_) => Err(Early::Memory),
         },
@@ -140,8 +142,8 @@ pub(crate) fn show_what_is_read<S: Source, K: Sink>(
     match gather(showing, alloc, source) {
         Err(Early::Failed) => Status::ReadFault,
         Err(Early::Memory) => Status::Memory,
-        Ok(due) => match write_whole(sink, &due.text) {
-            Ok(()) => due.status,
+        Ok(Due { status, text }) => match write_text(sink, text) {
+            Ok(()) => status,
             Err(_) => Status::WriteFault,
         },
     }

@@ -11,7 +11,7 @@ ghost use Rattle.vcpu_runners.specs.Rows.{cpus_of, gates_of};
 use crate::turns::run_all;
 use dead_domains::a_burial_leaves_only_what_is_listed;
 use machine_build::opening;
-use machine_image::write_image;
+use machine_image::Image;
 use opening_rule::opening_words_are_sound;
 use report_text::{report, summary};
 use shared_board::PlainBoard;
@@ -198,19 +198,19 @@ pub fn execute_told(
     Ok(text)
 }
 
-/// Runs a trace in the same way, and writes the closing machine out as an image.
+/// Runs a trace in the same way, and gives the closing machine as an image that is to be written.
 pub fn execute_imaged(
     alloc: Global,
     trace: Trace,
     gates: Vec<Box<dyn Preempt + Send>>,
-) -> Result<Vec<u8>, AllocError>
+) -> Result<Image, AllocError>
     requires well { IsWellFormed trace }
     requires gates { 16 ≤ vec_len gates }
-    ensures { IfOk result (λ v. ImagedTrace trace (map policy gates.items) v.items) }
+    ensures { IfOk result (λ i. ImagedTrace trace (map policy gates.items) i) }
 {
     let layout = trace.layout.copy();
     let (words, _) = run_words(alloc, trace, gates)?;
-    write_image(alloc, &layout, &words)
+    Image::new(alloc, &layout, words)
 }
 
 /// Runs the generated trace of so many operations in the same way, and sums up how they were answered.

@@ -1,8 +1,10 @@
 //! The manners in which a trace is run, and what is shown of it.
 ghost use Rattle.std.specs.Prelude.{◌≤◌, map, vec_len, IfOk};
 ghost use Rattle.trace_text.specs.WellFormed.{IsWellFormed};
+ghost use Rattle.xp_machine.specs.Due.{bytes_of};
 ghost use Rattle.xp_machine.specs.Outcome.{RanBy};
 
+use crate::due::Text;
 use crate::execute::{execute, execute_imaged, execute_told};
 use crate::threaded::replay;
 use std::alloc::{AllocError, Global};
@@ -15,6 +17,7 @@ use xp_preempt::Preempt;
 pub(crate) trait Running {
     ghost use Rattle.std.specs.Prelude.{◌≤◌, map, vec_len, IfOk};
     ghost use Rattle.trace_text.specs.WellFormed.{IsWellFormed};
+    ghost use Rattle.xp_machine.specs.Due.{bytes_of};
     ghost use Rattle.xp_machine.specs.Outcome.{RanBy, Shown};
 
     ghost shown: { Shown };
@@ -27,11 +30,11 @@ pub(crate) trait Running {
         alloc: Global,
         trace: Trace,
         gates: Vec<Box<dyn Preempt + Send>>,
-    ) -> Result<Vec<u8>, AllocError>
+    ) -> Result<Text, AllocError>
         requires well { IsWellFormed trace }
         requires gates { 16 ≤ vec_len gates }
         requires crosses { crosses }
-        ensures { IfOk result (λ v. RanBy shown trace (map policy gates.items) v.items) };
+        ensures { IfOk result (λ v. RanBy shown trace (map policy gates.items) (bytes_of v)) };
 }
 
 /// In one thread, by the turns that the trace asks for.
@@ -52,8 +55,8 @@ impl Running for InTurns {
         alloc: Global,
         trace: Trace,
         gates: Vec<Box<dyn Preempt + Send>>,
-    ) -> Result<Vec<u8>, AllocError> {
-        execute(alloc, trace, gates)
+    ) -> Result<Text, AllocError> {
+        Ok(Text::Bytes(execute(alloc, trace, gates)?))
     }
 }
 
@@ -74,8 +77,8 @@ impl Running for Telling {
         alloc: Global,
         trace: Trace,
         gates: Vec<Box<dyn Preempt + Send>>,
-    ) -> Result<Vec<u8>, AllocError> {
-        execute_told(alloc, trace, gates)
+    ) -> Result<Text, AllocError> {
+        Ok(Text::Bytes(execute_told(alloc, trace, gates)?))
     }
 }
 
@@ -96,8 +99,8 @@ impl Running for Imaging {
         alloc: Global,
         trace: Trace,
         gates: Vec<Box<dyn Preempt + Send>>,
-    ) -> Result<Vec<u8>, AllocError> {
-        execute_imaged(alloc, trace, gates)
+    ) -> Result<Text, AllocError> {
+        Ok(Text::Image(execute_imaged(alloc, trace, gates)?))
     }
 }
 
@@ -121,7 +124,7 @@ impl<'a, R: Threads + Wait + Sync> Running for InThreads<'a, R> {
         alloc: Global,
         trace: Trace,
         gates: Vec<Box<dyn Preempt + Send>>,
-    ) -> Result<Vec<u8>, AllocError> {
-        replay(self.rt, alloc, trace, gates)
+    ) -> Result<Text, AllocError> {
+        Ok(Text::Bytes(replay(self.rt, alloc, trace, gates)?))
     }
 }

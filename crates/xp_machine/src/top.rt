@@ -2,12 +2,13 @@ ghost use Rattle.std.specs.Prelude.{◌≡◌, ◌≢◌, ◌≤◌, ◌↔◌, 
 ghost use Rattle.xp_io.specs.Causes.{Rose};
 ghost use Rattle.trace_text.specs.TraceOf.{trace_of};
 ghost use Rattle.vcpu_runners.specs.Gates.{ArePaced};
+ghost use Rattle.xp_machine.specs.Due.{bytes_of};
 ghost use Rattle.xp_machine.specs.Outcome.{GeneratedOutcome, IsAnswer, IsDue, Outcome, OutcomeBy, Shown, reads, serial_of};
 ghost use Rattle.command_words.specs.Words.{words_ask};
 ghost use Rattle.xp_preempt.specs.Gates.{Gate, IsPaced};
 
 use crate::audits::{Showing, show_what_is_read};
-use crate::due::{Due, Early};
+use crate::due::{Due, Early, Text, write_text};
 use crate::execute::execute_generated;
 use crate::running::{Imaging, InThreads, InTurns, Running, Telling};
 use crate::status::Status;
@@ -31,7 +32,7 @@ fn answer<M: Running>(
 ) -> Result<Due, AllocError>
     requires gates { 16 ≤ vec_len gates }
     requires crosses { M.crosses }
-    ensures { IfOk result (λ d. IsAnswer M.shown (map policy gates.items) (trace_of bytes.now) d.status d.text.items) }
+    ensures { IfOk result (λ d. IsAnswer M.shown (map policy gates.items) (trace_of bytes.now) d.status (bytes_of d.text)) }
 {
     match read_trace(alloc, bytes) {
         Ok(trace) => {
@@ -45,14 +46,14 @@ fn answer<M: Running>(
             let text = bad_text(alloc, line, cause)?;
             Ok(Due {
                 status: Status::BadTrace,
-                text,
+                text: Text::Bytes(text),
             })
         }
         Err(TraceFault::Large { line, what, number }) => {
             let text = large_text(alloc, line, what, number)?;
             Ok(Due {
                 status: Status::TooLarge,
-                text,
+                text: Text::Bytes(text),
             })
         }
         Err(TraceFault::Memory) => Err(AllocError),
@@ -62,12 +63,12 @@ fn answer<M: Running>(
 // What is due for more bytes than a trace may have.
 #[tactic(auto, unfolding(crate::specs::Texts::fault_status, trace_text::specs::TraceOf::trace_of))]
 fn too_long(alloc: Global) -> Result<Due, AllocError>
-    ensures { IfOk result (λ d. (shown : Shown) (set : List Gate) (bytes : List ℕ) → length bytes ≡ 67108865 → IsAnswer shown set (trace_of bytes) d.status d.text.items) }
+    ensures { IfOk result (λ d. (shown : Shown) (set : List Gate) (bytes : List ℕ) → length bytes ≡ 67108865 → IsAnswer shown set (trace_of bytes) d.status (bytes_of d.text)) }
 {
     let text = large_text(alloc, 0, What::Bytes, 67_108_865)?;
     Ok(Due {
         status: Status::TooLarge,
-        text,
+        text: Text::Bytes(text),
     })
 }
 
@@ -80,7 +81,7 @@ fn gather<M: Running, S: Source>(
 ) -> Result<Due, Early>
     requires gates { 16 ≤ vec_len gates }
     requires crosses { M.crosses }
-    ensures due { IfOk result (λ d. IsDue M.shown (map policy gates.items) (S.left source.old) (S.left source.new) d.status d.text.items) }
+    ensures due { IfOk result (λ d. IsDue M.shown (map policy gates.items) (S.left source.old) (S.left source.new) d.status (bytes_of d.text)) }
     ensures failed { IsErrOf result Early.Failed → Rose (S.faults source.old) (S.faults source.new) }
     ensures later { S.faults source.old ≤ S.faults source.new }
     ensures kept { IfOk result (λ _. S.faults source.new ≡ S.faults source.old) }
@@ -143,8 +144,8 @@ fn run_with<M: Running, S: Source, K: Sink>(
     match gather(running, alloc, source, gates) {
         Err(Early::Failed) => Status::ReadFault,
         Err(Early::Memory) => Status::Memory,
-        Ok(due) => match write_whole(sink, &due.text) {
-            Ok(()) => due.status,
+        Ok(Due { status, text }) => match write_text(sink, text) {
+            Ok(()) => status,
             Err(_) => Status::WriteFault,
         },
     }

@@ -1,19 +1,20 @@
 use Rattle.xp_machine.specs.Outcome.{IsDue}
+use Rattle.xp_machine.specs.Due.{bytes_of}
 use Rattle.xp_machine.proofs.Statuses.{due_has_text}
 use Rattle.xp_machine.proofs.top.run_with.Goals as goal
 
-pub returns-in-Ok-write_whole-clause-outcome : goal.returns-in-Ok-write_whole-clause-outcome
-returns-in-Ok-write_whole-clause-outcome g c =
-    (due_has_text _ _ _ _ _ _ c.in-Ok.ensures.due).wrote (IsDue _ _) _ _ _ _ (c.in-Ok.due.text.items, c.in-Ok.ensures.due, rw c.deref.ensures.value at c.in-Ok-write_whole.ensures.whole)
+pub returns-in-Ok-write_text-clause-outcome : goal.returns-in-Ok-write_text-clause-outcome
+returns-in-Ok-write_text-clause-outcome g c =
+    (due_has_text _ _ _ _ _ _ c.in-Ok.ensures.due).wrote (IsDue _ _) _ _ _ _ (bytes_of c.in-Ok.text, c.in-Ok.ensures.due, c.in-Ok-write_text.ensures.whole)
 
-pub returns-in-Ok-write_whole-clause-words : goal.returns-in-Ok-write_whole-clause-words
-returns-in-Ok-write_whole-clause-words g c e = (due_has_text _ _ _ _ _ _ c.in-Ok.ensures.due).no_words e
+pub returns-in-Ok-write_text-clause-words : goal.returns-in-Ok-write_text-clause-words
+returns-in-Ok-write_text-clause-words g c e = (due_has_text _ _ _ _ _ _ c.in-Ok.ensures.due).no_words e
 
-pub returns-in-Ok-write_whole-clause-read : goal.returns-in-Ok-write_whole-clause-read
-returns-in-Ok-write_whole-clause-read g c e = absurd ((due_has_text _ _ _ _ _ _ c.in-Ok.ensures.due).no_read e)
+pub returns-in-Ok-write_text-clause-read : goal.returns-in-Ok-write_text-clause-read
+returns-in-Ok-write_text-clause-read g c e = absurd ((due_has_text _ _ _ _ _ _ c.in-Ok.ensures.due).no_read e)
 
-pub returns-in-Ok-write_whole-clause-write : goal.returns-in-Ok-write_whole-clause-write
-returns-in-Ok-write_whole-clause-write g c e = absurd ((due_has_text _ _ _ _ _ _ c.in-Ok.ensures.due).no_write e)
+pub returns-in-Ok-write_text-clause-write : goal.returns-in-Ok-write_text-clause-write
+returns-in-Ok-write_text-clause-write g c e = absurd ((due_has_text _ _ _ _ _ _ c.in-Ok.ensures.due).no_write e)
 
 pub returns-clause-outcome : goal.returns-clause-outcome
-returns-clause-outcome g c = (c.in-Ok.due.text.items, c.in-Ok.due.status, c.in-Ok.ensures.due, rw (← c.deref.ensures.value) c.in-Err.ensures.front)
+returns-clause-outcome g c = (bytes_of c.in-Ok.text, c.in-Ok.status, c.in-Ok.ensures.due, c.in-Err.ensures.front)
