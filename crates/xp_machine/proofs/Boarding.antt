@@ -139,10 +139,10 @@ script_short cpu b s runners d within ready = short_at (map cpu runners) s (cpu 
 -- and it goes on being the same port
 module _ {A : Type 0} (cpu : A → Processing) (gate : A → Gate) (b b1 b2 : Board) (s s1 s2 : ℕ) (runners : List A) (d y : A) (same : b1 ≡ b) (runner : s1 ≡ s)
     (post : (port_value b2 s2).post ≡ (port_value b1 s1).post) (within : s < length runners) (ready : Ready b (map cpu runners)) (own : IsOf (port_value b2 s2) (cpu y)) (stays : AloneStays) where
-  before_is : port_value b1 s1 l1 ≡ port_value b s
+  before_is : port_value b1 s1 ≡ port_value b s
   before_is = λ i. port_value (same i) (runner i)
 
-  after_is : port_value b2 s2 l2 ≡ port_value b2 s
+  after_is : port_value b2 s2 ≡ port_value b2 s
   after_is =
       let vcpu2 : s2 ≡ s = ap (λ (q : Post). q.vcpu) post ∙ runner in
       λ i. port_value b2 (vcpu2 i)

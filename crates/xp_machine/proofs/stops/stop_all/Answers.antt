@@ -9,8 +9,8 @@ stops-init g c = record { machine = refl; opening = refl; stops = none _; ready 
 pub stops-preserved : goal.stops-preserved
 stops-preserved g c =
     record {
-      machine = c.stop_on.ensures.machine ∙ c.stops.invariant.machine;
-      opening = c.stop_on.ensures.opening ∙ c.stops.invariant.opening;
-      stops = one_more_stop _ _ _ _ _ _ c.stops.invariant.machine c.stops.invariant.stops c.stop_on.ensures.stop;
-      ready = c.stop_on.ensures.ready;
+      machine = c.stop_on-board.ensures.machine ∙ c.stops.invariant.machine;
+      opening = c.stop_on-board.ensures.opening ∙ c.stops.invariant.opening;
+      stops = one_more_stop _ _ _ _ _ _ c.stops.invariant.machine c.stops.invariant.stops c.stop_on-board.ensures.stop;
+      ready = c.stop_on-board.ensures.ready;
     }

@@ -9,8 +9,8 @@ turns-init g c = record { machine = refl; opening = refl; turns = none _; ready 
 pub turns-preserved : goal.turns-preserved
 turns-preserved g c =
     record {
-      machine = c.turn_on.ensures.machine ∙ c.turns.invariant.machine;
-      opening = c.turn_on.ensures.opening ∙ c.turns.invariant.opening;
-      turns = one_more_turn _ _ _ _ _ _ _ c.turns.invariant.machine c.turns.invariant.turns c.turn_on.ensures.turn;
-      ready = c.turn_on.ensures.ready;
+      machine = c.turn_on-board.ensures.machine ∙ c.turns.invariant.machine;
+      opening = c.turn_on-board.ensures.opening ∙ c.turns.invariant.opening;
+      turns = one_more_turn _ _ _ _ _ _ _ c.turns.invariant.machine c.turns.invariant.turns c.turn_on-board.ensures.turn;
+      ready = c.turn_on-board.ensures.ready;
     }
