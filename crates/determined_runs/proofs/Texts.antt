@@ -1,5 +1,5 @@
 -- A run of a trace comes to one stage, and shows one text.
-use Rattle.std.proofs.Common.{◌≡◌, ◌∙◌, ◌×◌, ◌++◌, ℕ, ◌<◌, IsTrue, List, length, slice_index, Result, Ok, Err, sym, ap, subst}
+use Rattle.std.proofs.Common.{◌≡◌, ◌∙◌, ◌++◌, ℕ, ◌<◌, IsTrue, List, length, slice_index, Result, Ok, Err, sym, ap, subst}
 use Rattle.std.proofs.lemmas.Grind.{same_number_lists}
 use Rattle.xp_words.specs.Machine.{IsMachine}
 use Rattle.xp_words.specs.Places.{Sizes, memory, place_at, size, sizes_of}

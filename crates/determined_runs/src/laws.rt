@@ -1,4 +1,4 @@
-ghost use Rattle.std.specs.Prelude.{◌≡◌, ◌×◌, ℕ, List};
+ghost use Rattle.std.specs.Prelude.{◌≡◌, ℕ, List};
 ghost use Rattle.xp_words.specs.Machine.{IsMachine, Machine};
 ghost use Rattle.trace_text.specs.TraceOf.{trace_of};
 ghost use Rattle.trace_text.specs.declared.trace.Trace.{Trace};
