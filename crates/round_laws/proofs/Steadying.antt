@@ -70,10 +70,10 @@ next_sparing c spares = by_next (next_of c) refl
 
 -- ---- a turn from a steady stage
 module _ (laws : TurnLaws) (n : Machine) (v : ℕ) (c : Processing) (s s' : Stage) (steady : IsSteady n s) (here : slice_get s.cpus v ≡ Some c) (works : c.retired ≡ false) (m : MakesStagedTurn n v c s s') where
-  start : PortValue
+  abbrev start : PortValue
   start = port_on n v s.board
 
-  close : PortValue
+  abbrev close : PortValue
   close = port_on n v s'.board
 
   pub alone_from : IsAlone (port_on n v s.board)
