@@ -195,12 +195,13 @@ pub(crate) fn steps_of(
 {
     let cpu = Cpu::new(alloc, board.layout(), vcpu, script)?;
     let mut runner = Runner::new(cpu, Box::new(alloc, Never::new())?);
-    let mut port = Counting {
-        port: PlainPort::new(board, vcpu),
+    let port = PlainPort::new(board, vcpu);
+    let mut counting = Counting {
+        port,
         counts: Counts::none(),
     };
-    runner.turn(&mut port);
-    Ok(port.counts)
+    runner.turn(&mut counting);
+    Ok(counting.counts)
 }
 
 // The turn begins with looks at the own domain's life, the own ask, flushed and run word, and then at both old words, as each element does;

@@ -2,8 +2,8 @@ use Rattle.std.proofs.Common.{rules}
 use Rattle.machine_tests.proofs.Testing.{fresh_idles, takes_after, takes_back}
 use Rattle.machine_tests.proofs.steps.ask_by_first.Goals as goal
 
-pub ask_another-requires-clause-idles : goal.ask_another-requires-clause-idles
-ask_another-requires-clause-idles g c = fresh_idles c.args.board c.new-port.result.board 0 c.new-port.result.vcpu c.new-port.ensures.board c.new-port.ensures.vcpu (search rules) c.requires.fresh
+pub ask_another-asked-requires-clause-idles : goal.ask_another-asked-requires-clause-idles
+ask_another-asked-requires-clause-idles g c = fresh_idles c.args.board c.new-port.result.board 0 c.new-port.result.vcpu c.new-port.ensures.board c.new-port.ensures.vcpu (search rules) c.requires.fresh
 
 pub returns : goal.returns
 returns g c =
