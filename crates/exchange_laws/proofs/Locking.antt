@@ -1,12 +1,12 @@
 -- The lock of a table goes off and on again: on the plain value that is nothing.
-use Rattle.std.proofs.Common.{◌≡◌, ℕ, ◌+◌, ◌-◌, ◌<◌, ◌≤◌, ◌==◌, ◌&&◌, not, nat_lt, if◌then◌else◌, Bool, true, false, Option, Some, None, Result, Ok, IsTrue, refl, sym, ap, ◌∙◌, subst, arith}
+use Rattle.std.proofs.Common.{◌≡◌, ℕ, ◌+◌, ◌-◌, ◌<◌, ◌≤◌, ◌==◌, if◌then◌else◌, Bool, true, false, Option, Some, None, IsTrue, refl, sym, ap, ◌∙◌, subst, arith}
 use Rattle.std.proofs.Math.Path.{fun_ext}
 use Rattle.std.proofs.lemmas.Bool.{and_parts}
 use Rattle.std.proofs.lemmas.Bool.Decides.{nat_tests}
 use Rattle.xp_words.specs.KindWords.{is_kind, kind_fields, kind_write}
 use Rattle.xp_words.specs.Machine.{IsMachine, Machine}
 use Rattle.xp_words.specs.declared.kind.KindWord.{KindWord}
-use Rattle.xp_words.specs.declared.place.Place.TheVariants.{Cell, Kind, Refs}
+use Rattle.xp_words.specs.declared.place.Place.TheVariants.{Kind, Refs}
 use Rattle.xp_board.specs.KindSteps.{locked_kind}
 use Rattle.xp_board.specs.Told.{Post, PortValue, is_telling, told_word}
 use Rattle.xp_board.proofs.KindForms.{frame_inside}
@@ -21,8 +21,8 @@ use Rattle.kind_words.proofs.KindFacts.{kind_found}
 use Rattle.kind_words.proofs.KindWriting.{fields_write}
 use Rattle.partial_state.specs.Levels.{level_type}
 use Rattle.table_law.specs.Alone.{PlainOutcome, take_reference}
-use Rattle.table_law.specs.Plain.{Describes, Plain, Share, at, fewer, raised_share, reference_back, sober, with_kind, with_share}
-use Rattle.table_law.proofs.Counting.{at_here, at_there}
+use Rattle.table_law.specs.Plain.{Describes, Plain, Share, fewer, raised_share, reference_back, sober, with_kind, with_share}
+use Rattle.table_law.proofs.Counting.{at_here}
 use Rattle.table_twins.proofs.Entering.{described_leaves}
 use Rattle.table_twins.proofs.Kinding.{described_alike}
 use Rattle.table_twins.proofs.Referring.{same_taken}
@@ -36,7 +36,7 @@ use Rattle.entry_locks.specs.Plain.{with_lock}
 use Rattle.entry_exchange.specs.Course as course
 use Rattle.entry_exchange.specs.Course.{LeftLock}
 use Rattle.exchange_laws.specs.Locks.{LocksAgain}
-use Rattle.exchange_laws.specs.Plain.{unlocked_by, unlocked_plain}
+use Rattle.exchange_laws.specs.Plain.{unlocked_plain}
 use Rattle.exchange_laws.proofs.Unlocking.{lock_came, lock_off}
 
 -- ---- the kind word under the lock
