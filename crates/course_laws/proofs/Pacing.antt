@@ -170,7 +170,7 @@ module _ (u w : PortValue) (owner : ℕ) (t : TableWork) (ts : List TableWork) (
   refused_paces y known twin =
       let p = s.plain in
       let c = unmet n m w (extra (t ∷ ts)) p owner l t.frame t.done (t ∷ ts) machine s.describes s.spelled above s.under.frames s.under.tables a.whole (λ whole g. extra_none (t ∷ ts) g (s.mine whole)) (lenders n owner p (t ∷ ts) s.under.tables)
-          asked y table.inside few asks known (enters (Err (Refused y)) twin) in
+      asked y table.inside few asks known (enters (Err (Refused y)) twin) in
       record {
         cause = c.refuses.cause;
         same = c.refuses.same;

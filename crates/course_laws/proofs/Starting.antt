@@ -1,25 +1,16 @@
 -- An acquisition begins with words at rest: the frame's reference and type are taken.
-use Rattle.std.proofs.Common.{◌≡◌, ℕ, ◌<◌, Bool, true, false, [], Option, Some, None, Err, refl, ap, subst, inl, inr, arith}
+use Rattle.std.proofs.Common.{◌≡◌, ℕ, ◌<◌, Bool, true, false, [], Option, Some, None, refl, inl, inr, arith}
 use Rattle.xp_words.specs.Machine.{Machine}
 use Rattle.xp_words.specs.RefWords.{ref_read}
 use Rattle.xp_words.specs.declared.refs.RefWord.{RefWord}
 use Rattle.xp_words.specs.declared.refs.RefWord.TheVariants.{Dying, Free, Owned}
 use Rattle.xp_words.specs.declared.place.Place.TheVariants.{Refs}
-use Rattle.xp_words.specs.declared.reply.Refusal.{Refusal}
-use Rattle.xp_words.specs.declared.reply.Stop.{Stop}
-use Rattle.xp_words.specs.declared.reply.Stop.TheVariants.{Refused, Paused}
 use Rattle.xp_board.specs.Readings.{count_in, is_dead, kind_at, ref_count}
-use Rattle.xp_board.specs.Told.{PortValue, is_telling, told_word}
 use Rattle.step_maker.specs.Plain.{Words}
-use Rattle.table_law.specs.Alone.{Cause, alone, go_on, take_at, take_reference}
 use Rattle.table_law.specs.Lawful.{IsAtRest, share_count}
-use Rattle.table_law.specs.Plain.{Describes, Plain, plain_of, share_in, share_of}
-use Rattle.table_twins.specs.Answers.{IsSameAnswer}
-use Rattle.table_twins.proofs.Referring.{same_answer}
-use Rattle.table_entries.specs.Acquiring.{GotRef}
-use Rattle.course_laws.specs.Courses.{IsFinal, IsOrderly}
+use Rattle.table_law.specs.Plain.{Describes, plain_of, share_in, share_of}
+use Rattle.course_laws.specs.Courses.{IsOrderly}
 use Rattle.course_laws.proofs.Frames.{AllFrames, IsAside, count_at}
-use Rattle.course_laws.proofs.Stacking.{Refuses}
 
 -- ---- words at rest
 -- the plain value of any words describes them

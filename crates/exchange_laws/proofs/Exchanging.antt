@@ -9,7 +9,6 @@ use Rattle.xp_words.specs.declared.kind.PageType.{PageType}
 use Rattle.xp_words.specs.declared.reply.Refusal.TheVariants as refusals
 use Rattle.xp_words.specs.declared.reply.Stop.{Stop}
 use Rattle.xp_words.specs.declared.reply.Stop.TheVariants.{Refused, Paused}
-use Rattle.xp_preempt.specs.Gates.{yeses}
 use Rattle.xp_preempt.proofs.Consulting.{yeses_then}
 use Rattle.xp_board.specs.CellSteps.{is_same_demand}
 use Rattle.xp_board.specs.Told.{Post, PortValue, is_telling, told_word}

@@ -8,3 +8,4 @@ pub mod Releasing
 pub mod Going
 pub mod Exchanging
 pub mod Alone
+mod Locking

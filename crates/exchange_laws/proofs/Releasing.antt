@@ -1,5 +1,5 @@
 -- What the old word asked is released as on the plain value, or that is left to be settled.
-use Rattle.std.proofs.Common.{◌≡◌, ◌⊎◌, inl, inr, arith, ℕ, zero, suc, ◌<◌, ◌≤◌, Option, Bool, true, false, List, [], ◌∷◌, Result, Ok, Err, IfErr, refl, sym, ap, subst}
+use Rattle.std.proofs.Common.{◌≡◌, inl, inr, arith, ℕ, zero, suc, ◌<◌, ◌≤◌, Option, Bool, true, false, List, [], ◌∷◌, Result, Ok, Err, IfErr, refl, sym, ap, subst}
 use Rattle.xp_words.specs.Machine.{IsMachine, Machine}
 use Rattle.xp_words.specs.declared.entry.Demand.{Demand}
 use Rattle.xp_words.specs.declared.entry.Demand.TheVariants.{Typed}

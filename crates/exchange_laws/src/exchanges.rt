@@ -17,9 +17,7 @@ ghost use Rattle.exchange_laws.specs.Plain.{ComesAsPlain, EndsAsPlain, exchanged
 
 use answer_laws::{a_call_alone_is_neither_lost_nor_busy, alone_stays, nobody_is_waited_for};
 use course_laws::who_is_alone_has_orderly_words;
-use release_laws::{
-    a_paused_release_leaves_the_rest, a_release_leaves_what_the_plain_one_leaves,
-};
+use release_laws::{a_paused_release_leaves_the_rest, a_release_leaves_what_the_plain_one_leaves};
 
 /// On a board that tells all words, where nothing but the lock on the table is unfinished, an exchange that is done leaves what the plain
 /// exchange leaves, which is fine; where the gate pauses the release of what the old word asked, that is left to be settled. One that is

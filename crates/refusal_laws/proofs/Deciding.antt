@@ -1,6 +1,6 @@
 -- What a call, or a list of calls, comes to; and what is settled behind it.
-use Rattle.std.proofs.Common.{◌≡◌, ◌≢◌, ℕ, ◌+◌, ◌≤◌, Bool, true, false, List, [], ◌∷◌, Option, None, Result, Ok, Err, refl, sym, ap, ◌∙◌, subst, arith}
-use Rattle.xp_words.specs.Machine.{IsMachine, Machine}
+use Rattle.std.proofs.Common.{◌≡◌, ℕ, ◌+◌, Bool, true, false, List, [], ◌∷◌, Option, None, Result, Ok, Err, refl, sym, ap, ◌∙◌, subst, arith}
+use Rattle.xp_words.specs.Machine.{Machine}
 use Rattle.xp_words.specs.declared.place.Place.{Place}
 use Rattle.xp_words.specs.declared.reply.Pause.TheVariants.{Due}
 use Rattle.xp_words.specs.declared.reply.Refusal.{Refusal}
@@ -12,27 +12,24 @@ use Rattle.xp_board.specs.Told.{Post, PortValue, is_telling, told_word}
 use Rattle.step_maker.specs.Moves.{Moves}
 use Rattle.step_maker.proofs.Telling.{load_tells, moves_telling, told_there}
 use Rattle.table_words.specs.OldWords.{old_place}
-use Rattle.table_words.specs.declared.old_words.OldWord.TheVariants.{First, Second}
+use Rattle.table_words.specs.declared.old_words.OldWord.TheVariants.{First}
 use Rattle.partial_state.specs.declared.stack.TableWork.{TableWork}
-use Rattle.table_entries.specs.Acquiring.{Acquired, Unwound}
-use Rattle.table_law.specs.Alone.{PlainOutcome, alone}
-use Rattle.table_law.specs.Lawful.{IsAtRest}
-use Rattle.table_law.specs.Plain.{Describes, Plain, plain_of}
+use Rattle.table_entries.specs.Acquiring.{Unwound}
+use Rattle.table_law.specs.Alone.{PlainOutcome}
+use Rattle.table_law.specs.Plain.{Describes, Plain}
 use Rattle.table_twins.proofs.Entering.{described_leaves}
 use Rattle.table_twins.proofs.Kinding.{described_alike}
-use Rattle.course_laws.specs.Courses.{IsDecided, IsFinal, IsOrderly}
+use Rattle.course_laws.specs.Courses.{IsDecided}
 use Rattle.course_laws.proofs.Calling.{RefusedCall, at_once, in_work}
-use Rattle.course_laws.proofs.Deciding.{LastOutcome, one_call}
+use Rattle.course_laws.proofs.Deciding.{LastOutcome}
 use Rattle.course_laws.proofs.Outermost.{IsOutermost}
 use Rattle.course_laws.proofs.Travelling.{RefusedAt}
 use Rattle.level_release.specs.Course as course
 use Rattle.level_release.specs.Course.{Settled, SettledOne}
-use Rattle.pause_laws.specs.Calls.{Calls}
-use Rattle.pause_laws.proofs.Repeating.{all_last}
 use Rattle.release_laws.specs.Pauses as pauses
 use Rattle.release_laws.specs.Pauses.{GoesOnFrom, IsLeft, SecondIsNone, SettledAtLast}
 use Rattle.release_laws.proofs.Settling.{goes_on, second_none, settled_at_last}
-use Rattle.refusal_laws.specs.Refusals.{ComesTo, IsRefusedAs, Owes, RefusedAtLast, a_release, nothing}
+use Rattle.refusal_laws.specs.Refusals.{ComesTo, IsRefusedAs, Owes, a_release, nothing}
 use Rattle.refusal_laws.proofs.Leaving.{all_left, undoes}
 
 -- ---- one that is refused

@@ -5,13 +5,10 @@ use Rattle.xp_words.specs.KindWords.{kind_fields, kind_write}
 use Rattle.xp_words.specs.Machine.{Machine}
 use Rattle.xp_words.specs.declared.entry.Demand.TheVariants.{Typed}
 use Rattle.xp_words.specs.declared.kind.KindWord.{KindWord}
-use Rattle.xp_words.specs.declared.place.Place.{Place}
 use Rattle.xp_words.specs.declared.place.Place.TheVariants.{Cell, Kind, Refs}
 use Rattle.xp_words.specs.declared.reply.Refusal.{Refusal}
 use Rattle.xp_board.specs.Told.{Post, PortValue, is_telling, told_word}
 use Rattle.xp_board.specs.declared.step.Act.TheVariants.{Store}
-use Rattle.step_maker.specs.Plain.{Leaves, Words}
-use Rattle.step_maker.specs.Moves.{Came}
 use Rattle.step_maker.proofs.Coming.{came_post, moves_came}
 use Rattle.step_maker.proofs.Telling.{came_telling, leaves, load_tells}
 use Rattle.frame_words.specs.Plain.{put}
@@ -28,17 +25,16 @@ use Rattle.table_law.specs.Levels.{TableLeft, entry_of}
 use Rattle.table_law.specs.Plain.{Describes, Plain, Share, reference_back, sober, with_kind}
 use Rattle.table_law.specs.Release.{let_go}
 use Rattle.table_law.specs.Stack.{IsChain, table_left}
-use Rattle.table_law.proofs.Counting.{at_here}
 use Rattle.table_twins.proofs.Entering.{described_leaves}
 use Rattle.table_twins.proofs.Sharing.{same_back}
 use Rattle.course_laws.proofs.Calling.{lent_none}
 use Rattle.course_laws.proofs.Completing.{IsKinded, back_lent, described_kind, same_kinded, stored_kinded}
 use Rattle.course_laws.proofs.Extras.{described_same, extra, lent, more_of}
 use Rattle.course_laws.proofs.Outermost.{IsOutermost}
-use Rattle.course_laws.proofs.Pacing.{Flagged, RefusedWith, extra_own, lent_same}
+use Rattle.course_laws.proofs.Pacing.{Flagged, extra_own, lent_same}
 use Rattle.course_laws.proofs.Stacking.{lefts, undone}
 use Rattle.course_laws.proofs.Travelling.{RefusedAt}
-use Rattle.course_laws.proofs.Under.{Chained, IsOff, PlainTables, TableOf, above_off}
+use Rattle.course_laws.proofs.Under.{Chained, IsOff, PlainTables, above_off}
 use Rattle.release_laws.specs.Pauses.{IsLeft}
 use Rattle.release_laws.proofs.Liking.{IsSpent}
 use Rattle.release_laws.proofs.Unwinding.{named_describes, named_kind, named_there}
@@ -106,8 +102,7 @@ module _ (n : Machine) (owner : ℕ) (p : Plain) where
       let few = all.2.0.few in
       let level : suc (o.level - 1) ≡ o.level = omega arith in
       let index : 511 - (512 - o.done) ≡ o.done - 1 = omega arith in
-      let below : t.level ≡ o.level - 1 = omega arith in
-      (
+      let below : t.level ≡ o.level - 1 = omega arith in (
         ap (λ l. entry_of p (level_type l) o.frame (511 - (512 - o.done))) level ∙ (ap (λ i. entry_of p (level_type o.level) o.frame i) index ∙ (c.0.2 ∙ ap (λ l. Typed t.frame (level_type l)) below)),
         all_chained (o ∷ ts) all.2 c.1,
       )
@@ -196,8 +191,8 @@ module _ (n : Machine) (q : Plain) (v : PortValue) (t o : TableWork) (ts : List 
       let moved = moves_came mid u _ _ _ _ _ load in
       let stored = stored n v mid t (extra (t ∷ o ∷ ts)) s.plain s.telling s.held.0 s.describes l.1 in (
         inner_to mid u l.1 (ap (λ (p : Post). p.machine) (came_post mid u moved) ∙ (ap (λ (p : Post). p.machine) (came_post v mid came) ∙ s.machine)) (came_telling mid u moved ∙ telling)
-        (described_leaves n u (told_word mid) (lent (extra (o ∷ ts)) parked) (load_tells mid u _ _ _ _ load telling)
-        (described_same n (told_word mid) (lent (extra (t ∷ o ∷ ts)) parked) (lent (extra (o ∷ ts)) parked) (lent_same (extra (t ∷ o ∷ ts)) (extra (o ∷ ts)) parked (λ g. sym (extra_own t (o ∷ ts) own g))) stored)),
+            (described_leaves n u (told_word mid) (lent (extra (o ∷ ts)) parked) (load_tells mid u _ _ _ _ load telling)
+            (described_same n (told_word mid) (lent (extra (t ∷ o ∷ ts)) parked) (lent (extra (o ∷ ts)) parked) (lent_same (extra (t ∷ o ∷ ts)) (extra (o ∷ ts)) parked (λ g. sym (extra_own t (o ∷ ts) own g))) stored)),
         ap (λ b. if b || t.recorded then o else record o { done = o.done - 1 }) own,
       )
   inner_by false u own left =
@@ -212,8 +207,8 @@ module _ (n : Machine) (q : Plain) (v : PortValue) (t o : TableWork) (ts : List 
       let share : Share = record { owner = here.share.owner; allocated = here.share.allocated; count = here.share.count + extra (t ∷ o ∷ ts) t.frame } in
       let stored = stored n v mid t (extra (t ∷ o ∷ ts)) s.plain s.telling s.held.0 s.describes l.1 in (
         inner_to mid u l.1 (ap (λ (p : Post). p.machine) (came_post mid u moved) ∙ (ap (λ (p : Post). p.machine) (came_post v mid came) ∙ s.machine)) (came_telling mid u moved ∙ telling)
-        (described_same n (told_word u) (reference_back t.frame all) (lent (extra (o ∷ ts)) parked) (back_lent t (o ∷ ts) own parked here.share here.was here.some)
-        (described_leaves n u (put t.frame (told_word mid)) (reference_back t.frame all) (l.2.plain telling) (same_back n (told_word mid) all t.frame share stored here.inside (ap (more_of (extra (t ∷ o ∷ ts) t.frame)) here.was)))),
+            (described_same n (told_word u) (reference_back t.frame all) (lent (extra (o ∷ ts)) parked) (back_lent t (o ∷ ts) own parked here.share here.was here.some)
+            (described_leaves n u (put t.frame (told_word mid)) (reference_back t.frame all) (l.2.plain telling) (same_back n (told_word mid) all t.frame share stored here.inside (ap (more_of (extra (t ∷ o ∷ ts) t.frame)) here.was)))),
         ap (λ b. if b || t.recorded then o else record o { done = o.done - 1 }) own ∙ ap (λ b. if b then o else record o { done = o.done - 1 }) on,
       )
 
@@ -232,7 +227,7 @@ module _ (n : Machine) (f level : ℕ) (q : Plain) where
       let level_is : t.level ≡ suc (t.level - 1) = (let low = here.low in omega arith) in
       let parks = is_park n v u t (extra (t ∷ [])) s.plain s.telling here s.describes partial in
       let goes : let_go t.level t.frame p1 ≡ q =
-          ap (λ l. let_go l t.frame p1) level_is ∙ (ap (let_go (suc (t.level - 1)) t.frame) parks ∙ (last_parked (table_left t.frame (t.level - 1) (512 - t.done)) s.plain s.spent.0 ∙ s.comes)) in
+      ap (λ l. let_go l t.frame p1) level_is ∙ (ap (let_go (suc (t.level - 1)) t.frame) parks ∙ (last_parked (table_left t.frame (t.level - 1) (512 - t.done)) s.plain s.spent.0 ∙ s.comes)) in
       record {
         machine = ap (λ (p : Post). p.machine) (came_post u w moved) ∙ (ap (λ (p : Post). p.machine) (came_post v u came) ∙ s.machine);
         telling = came_telling u w moved ∙ telling;

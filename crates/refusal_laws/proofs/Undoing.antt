@@ -1,14 +1,13 @@
 -- What a refused acquisition leaves of its tables in work, parked the innermost first, is what the plain one gives back: the release of the outermost table
 -- undoes the whole stack.
-use Rattle.std.proofs.Common.{◌≡◌, ◌≢◌, ◌⊎◌, ℕ, zero, suc, ◌+◌, ◌-◌, ◌<◌, ◌≤◌, List, [], ◌∷◌, refl, sym, ap, ◌∙◌, subst, inl, inr, arith, false}
+use Rattle.std.proofs.Common.{◌≡◌, ◌≢◌, suc, ◌+◌, ◌-◌, ◌<◌, List, [], ◌∷◌, sym, ap, ◌∙◌, subst, arith}
 use Rattle.xp_words.specs.declared.entry.Demand.TheVariants.{Typed}
 use Rattle.xp_words.specs.declared.kind.KindWord.{KindWord}
-use Rattle.kind_words.specs.Kinds.{partial_kind}
 use Rattle.partial_state.specs.Levels.{level_type}
 use Rattle.table_law.specs.Levels.{TableLeft, closed, entry_of}
 use Rattle.table_law.specs.Plain.{Plain, with_kind}
 use Rattle.table_law.specs.Release.{drop_demand, drop_first, let_go, undo_below}
-use Rattle.table_law.specs.Stack.{IsChain, outermost, table_left}
+use Rattle.table_law.specs.Stack.{IsChain}
 use Rattle.table_law.proofs.Counting.{at_there}
 use Rattle.course_laws.proofs.Stacking.{undone}
 use Rattle.release_laws.proofs.Liking.{IsSpent}

@@ -1,5 +1,5 @@
 -- What an acquisition comes to that is had or refused, and what is settled behind one that is refused.
-use Rattle.std.specs.Prelude.{◌≡◌, ℕ, true, None, Some, Option, Result, Ok, Err}
+use Rattle.std.specs.Prelude.{◌≡◌, ℕ, true, None, Some, Result, Ok, Err}
 use Rattle.xp_words.specs.Machine.{Machine}
 use Rattle.xp_words.specs.declared.reply.Refusal.{Refusal}
 use Rattle.xp_words.specs.declared.reply.Stop.{Stop}

@@ -5,6 +5,7 @@
 mod refusals;
 
 pub use refusals::{
-    a_refused_acquisition_is_refused_as_the_plain_one, preemption_is_invisible_to_refusals,
+    a_refused_acquisition_is_refused_as_the_plain_one,
+    an_acquisition_alone_comes_to_what_the_plain_one_comes_to, preemption_is_invisible_to_refusals,
     what_a_refused_acquisition_owes_is_settled,
 };
