@@ -112,7 +112,7 @@ meet_types n owner level f i p (Read g) c counts is = reference_types n owner g 
 meet_types n owner level f i p (Typed g t) c counts is = refused_same n owner (level - 1) g p c counts is
 
 module _ (n : Machine) (p : Plain) (f : ℕ) (s : Share) (counts : CountsSome n p) (was : p.shares f ≡ Some s) (some : 0 < s.count)
-    (live : (p.kinds f).validated ≡ true) (free : (p.kinds f).locked ≡ false) where
+    (live : (p.kinds f).validated ≡ true) (free : (p.kinds f).locked ≡ false) (counted : 0 < (p.kinds f).number) where
   abbrev lent : Plain
   lent = with_share f (raised_share s) p
 
@@ -215,7 +215,7 @@ module _ (n : Machine) (o : Owners) (f i word : ℕ) (keep : Bool) (s : Solo) (y
   ended share was some (Some c) e r =
       let free = when_free (s.frames.kinds f) is in
       types_alone s (result share).left
-      (exchange_types n s.frames f share counts was some free.live free.unlocked (owner_at level o.tables o.frames) level i (word_kept keep (s.frames.cells f i) word) c e)
+      (exchange_types n s.frames f share counts was some free.live free.unlocked free.some (owner_at level o.tables o.frames) level i (word_kept keep (s.frames.cells f i) word) c e)
 
   by_reference : (taken : PlainOutcome) → Lent n s.frames f taken ⊎ Refusing s.frames taken → Goal taken
   by_reference taken (inl lent) = subst Goal (sym lent.is) (ended lent.share lent.was lent.some (result lent.share).refusal refl)
