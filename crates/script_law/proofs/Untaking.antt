@@ -48,7 +48,7 @@ use Rattle.script_law.specs.Values.{Solo, IsPinned, IsUnpinned, Numbers, Outcome
 pub same : (s : Solo) → IsUntaken s s
 same s = record { frames = record { shares = λ g. refl; kinds = λ g. inl refl; cells = λ g i. refl }; maps = refl; own = refl; privileges = refl; lives = refl }
 
-types_alone : (s : Solo) (p : Plain) → IsSameButTypes s.frames p → IsUntaken s (with_frames p s)
+pub types_alone : (s : Solo) (p : Plain) → IsSameButTypes s.frames p → IsUntaken s (with_frames p s)
 types_alone s p types = record { frames = types; maps = refl; own = refl; privileges = refl; lives = refl }
 
 -- what is not refused is no case
@@ -89,7 +89,7 @@ live_same : (k l : KindWord) → k.validated ≡ true → IsSameButType k l → 
 live_same k l live (inl is) = is
 live_same k l live (inr dead) = absurd (let e = dead.0 in grind (arith, nat_tests))
 
-like_types : (p q : Plain) → Like (λ x. false) p q → IsSameButTypes p q
+pub like_types : (p q : Plain) → Like (λ x. false) p q → IsSameButTypes p q
 like_types p q like = record { shares = like.shares; kinds = λ g. like_same (p.kinds g) (q.kinds g) (like.kinds g); cells = like.cells }
 
 itself : (p : Plain) → IsSameButTypes p p

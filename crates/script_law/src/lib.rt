@@ -6,4 +6,4 @@ mod order;
 mod refusing;
 
 pub use order::{a_list_is_its_elements_in_order, a_script_is_its_operations_in_order};
-pub use refusing::a_refused_element_takes_nothing;
+pub use refusing::{a_refused_element_takes_nothing, an_unpin_undoes_a_pin};
