@@ -71,7 +71,7 @@ module _ (n : Machine) (d f l : ℕ) (p : Plain) (low : l < 4) (counts : CountsS
         of_two (is_dead (p.kinds f)) (then_or filled (closed f (level_type (suc l))) (λ r. fine (with_kind f (live_kind (level_type (suc l)) 1) r))) counted_or HasTable
         (λ is. made_live filled filled.refusal)
         (λ is. of_two (is_counted (p.kinds f) && is_type (p.kinds f).kind (level_type (suc l))) (fine (with_kind f (raised_kind (p.kinds f)) q)) (refused (OtherType f (level_type (suc l)) (p.kinds f)) (reference_back f q)) HasTable
-          (λ e g. counted_more q e) (λ e g. absurd cc))
+        (λ e g. counted_more q e) (λ e g. absurd cc))
         good
 
   by_reference : (o : PlainOutcome) → Lent n p f o ⊎ Refusing p o → (go_on o.refusal o.left (take_at (suc l) n d f)).refusal ≡ None → HasTable (go_on o.refusal o.left (take_at (suc l) n d f))

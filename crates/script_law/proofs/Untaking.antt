@@ -142,14 +142,14 @@ module _ (n : Machine) (p : Plain) (f : ℕ) (s : Share) (counts : CountsSome n 
           | inl e ↦ inr (subst (λ y. IsSameButType (p.kinds y) (at f (p.kinds f) r.kinds y)) (sym e) (inl (at_here f (p.kinds f) r.kinds)))
           | inr off ↦
               inr (subst (IsSameButType (p.kinds g)) (sym (at_there f g (p.kinds f) r.kinds off))
-                  (subst (λ w. IsSameButType w (r.kinds g)) (at_there f g (locked_kind (p.kinds f)) p.kinds off) (types.kinds g)))
+              (subst (λ w. IsSameButType w (r.kinds g)) (at_there f g (locked_kind (p.kinds f)) p.kinds off) (types.kinds g)))
         ]
 
     off_types : IsSameButTypes p (unlocked_plain level f r)
     off_types =
         subst (IsSameButTypes p) (sym off_is)
         (like_types p (reference_back f (with_kind f (p.kinds f) r))
-          (share_back n p f s was some (λ x. false) (with_kind f (p.kinds f) r) (record { shares = types.shares; kinds = kinds_back; cells = types.cells })))
+        (share_back n p f s was some (λ x. false) (with_kind f (p.kinds f) r) (record { shares = types.shares; kinds = kinds_back; cells = types.cells })))
 
   -- under the lock the counts are some, too
   counts_under : CountsSome n under
@@ -253,7 +253,7 @@ pub unpin_untaken : (n : Machine) (d f : ℕ) → TakesNothingRefused n (unpin n
 unpin_untaken n d f s y counts refused =
     looked_untaken (take_reference n d f s.frames).refusal s (λ t. unpin_by f t (t.frames.kinds f)) y
     (either_untaken (s.frames.kinds f).pinned s (did (with_frames (let_go (type_number (s.frames.kinds f).kind) f (with_kind f (unpinned_kind (s.frames.kinds f)) s.frames)) s))
-      (stopped (IsUnpinned (s.frames.kinds f)) s) y (λ e r. absurd cc) (λ e r. same s))
+    (stopped (IsUnpinned (s.frames.kinds f)) s) y (λ e r. absurd cc) (λ e r. same s))
     refused
 
 pub base_untaken : (n : Machine) (d k : ℕ) (table : Option ℕ) → TakesNothingRefused n (set_base n d k table)
