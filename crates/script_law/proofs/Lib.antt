@@ -1,5 +1,6 @@
 pub mod Parts
 pub mod Untaking
+pub mod Unpinning
 pub mod Pictures
 pub mod PinPictures
 pub mod EntryPictures

@@ -48,7 +48,7 @@ use Rattle.script_law.specs.Values.{Solo, IsPinned, IsUnpinned, Numbers, Outcome
 pub same : (s : Solo) → IsUntaken s s
 same s = record { frames = record { shares = λ g. refl; kinds = λ g. inl refl; cells = λ g i. refl }; maps = refl; own = refl; privileges = refl; lives = refl }
 
-types_alone : (s : Solo) (p : Plain) → IsSameButTypes s.frames p → IsUntaken s (with_frames p s)
+pub types_alone : (s : Solo) (p : Plain) → IsSameButTypes s.frames p → IsUntaken s (with_frames p s)
 types_alone s p types = record { frames = types; maps = refl; own = refl; privileges = refl; lives = refl }
 
 -- what is not refused is no case
@@ -89,7 +89,7 @@ live_same : (k l : KindWord) → k.validated ≡ true → IsSameButType k l → 
 live_same k l live (inl is) = is
 live_same k l live (inr dead) = absurd (let e = dead.0 in grind (arith, nat_tests))
 
-like_types : (p q : Plain) → Like (λ x. false) p q → IsSameButTypes p q
+pub like_types : (p q : Plain) → Like (λ x. false) p q → IsSameButTypes p q
 like_types p q like = record { shares = like.shares; kinds = λ g. like_same (p.kinds g) (q.kinds g) (like.kinds g); cells = like.cells }
 
 itself : (p : Plain) → IsSameButTypes p p
@@ -112,7 +112,7 @@ meet_types n owner level f i p (Read g) c counts is = reference_types n owner g 
 meet_types n owner level f i p (Typed g t) c counts is = refused_same n owner (level - 1) g p c counts is
 
 module _ (n : Machine) (p : Plain) (f : ℕ) (s : Share) (counts : CountsSome n p) (was : p.shares f ≡ Some s) (some : 0 < s.count)
-    (live : (p.kinds f).validated ≡ true) (free : (p.kinds f).locked ≡ false) where
+    (live : (p.kinds f).validated ≡ true) (free : (p.kinds f).locked ≡ false) (counted : 0 < (p.kinds f).number) where
   abbrev lent : Plain
   lent = with_share f (raised_share s) p
 
@@ -142,14 +142,14 @@ module _ (n : Machine) (p : Plain) (f : ℕ) (s : Share) (counts : CountsSome n 
           | inl e ↦ inr (subst (λ y. IsSameButType (p.kinds y) (at f (p.kinds f) r.kinds y)) (sym e) (inl (at_here f (p.kinds f) r.kinds)))
           | inr off ↦
               inr (subst (IsSameButType (p.kinds g)) (sym (at_there f g (p.kinds f) r.kinds off))
-                  (subst (λ w. IsSameButType w (r.kinds g)) (at_there f g (locked_kind (p.kinds f)) p.kinds off) (types.kinds g)))
+              (subst (λ w. IsSameButType w (r.kinds g)) (at_there f g (locked_kind (p.kinds f)) p.kinds off) (types.kinds g)))
         ]
 
     off_types : IsSameButTypes p (unlocked_plain level f r)
     off_types =
         subst (IsSameButTypes p) (sym off_is)
         (like_types p (reference_back f (with_kind f (p.kinds f) r))
-          (share_back n p f s was some (λ x. false) (with_kind f (p.kinds f) r) (record { shares = types.shares; kinds = kinds_back; cells = types.cells })))
+        (share_back n p f s was some (λ x. false) (with_kind f (p.kinds f) r) (record { shares = types.shares; kinds = kinds_back; cells = types.cells })))
 
   -- under the lock the counts are some, too
   counts_under : CountsSome n under
@@ -215,7 +215,7 @@ module _ (n : Machine) (o : Owners) (f i word : ℕ) (keep : Bool) (s : Solo) (y
   ended share was some (Some c) e r =
       let free = when_free (s.frames.kinds f) is in
       types_alone s (result share).left
-      (exchange_types n s.frames f share counts was some free.live free.unlocked (owner_at level o.tables o.frames) level i (word_kept keep (s.frames.cells f i) word) c e)
+      (exchange_types n s.frames f share counts was some free.live free.unlocked free.some (owner_at level o.tables o.frames) level i (word_kept keep (s.frames.cells f i) word) c e)
 
   by_reference : (taken : PlainOutcome) → Lent n s.frames f taken ⊎ Refusing s.frames taken → Goal taken
   by_reference taken (inl lent) = subst Goal (sym lent.is) (ended lent.share lent.was lent.some (result lent.share).refusal refl)
@@ -253,7 +253,7 @@ pub unpin_untaken : (n : Machine) (d f : ℕ) → TakesNothingRefused n (unpin n
 unpin_untaken n d f s y counts refused =
     looked_untaken (take_reference n d f s.frames).refusal s (λ t. unpin_by f t (t.frames.kinds f)) y
     (either_untaken (s.frames.kinds f).pinned s (did (with_frames (let_go (type_number (s.frames.kinds f).kind) f (with_kind f (unpinned_kind (s.frames.kinds f)) s.frames)) s))
-      (stopped (IsUnpinned (s.frames.kinds f)) s) y (λ e r. absurd cc) (λ e r. same s))
+    (stopped (IsUnpinned (s.frames.kinds f)) s) y (λ e r. absurd cc) (λ e r. same s))
     refused
 
 pub base_untaken : (n : Machine) (d k : ℕ) (table : Option ℕ) → TakesNothingRefused n (set_base n d k table)
