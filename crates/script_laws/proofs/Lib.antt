@@ -1,0 +1,6 @@
+pub mod Calling
+pub mod Lists
+pub mod Made
+pub mod Steps
+pub mod Turning
+pub mod Working
