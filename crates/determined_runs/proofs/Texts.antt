@@ -28,8 +28,8 @@ opening_same t a b p q =
     let z = sizes_of t.layout in
     same_number_lists a b (p.count ∙ sym q.count)
     (λ k low.
-      let there = (place_there z k (subst (λ j. k < j) p.count low)).0 in
-      sym (word_there z a k there) ∙ p.places (place_at z k) there ∙ sym (q.places (place_at z k) there) ∙ word_there z b k there)
+    let there = (place_there z k (subst (λ j. k < j) p.count low)).0 in
+    sym (word_there z a k there) ∙ p.places (place_at z k) there ∙ sym (q.places (place_at z k) there) ∙ word_there z b k there)
 
 -- ---- the stage at the end
 pub run_same : (t : Trace) (gates : List Gate) (a b : Stage) → RanTo t gates a → RanTo t gates b → a ≡ b

@@ -67,7 +67,10 @@ pub(crate) fn opened(alloc: Global, text: &str) -> Option<(PlainBoard, Script)>
 }
 
 // The port of vCPU 0, which runs and has nothing in hand.
-pub(crate) fn at_work<'a>(rt: &impl Abort, board: &'a mut PlainBoard) -> PlainPort<&'a mut PlainBoard>
+pub(crate) fn at_work<'a>(
+    rt: &impl Abort,
+    board: &'a mut PlainBoard,
+) -> PlainPort<&'a mut PlainBoard>
     requires { TakesFresh board.old }
     ensures rests { Rests (port_value result.board.now result.vcpu) }
 {
