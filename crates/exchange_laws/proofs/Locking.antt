@@ -36,7 +36,7 @@ use Rattle.entry_locks.specs.Plain.{with_lock}
 use Rattle.entry_exchange.specs.Course as course
 use Rattle.entry_exchange.specs.Course.{LeftLock}
 use Rattle.exchange_laws.specs.Locks.{LocksAgain}
-use Rattle.exchange_laws.specs.Plain.{unlocked_plain}
+use Rattle.table_law.specs.Exchange.{unlocked_plain}
 use Rattle.exchange_laws.proofs.Unlocking.{lock_came, lock_off}
 
 -- ---- the kind word under the lock
