@@ -9,6 +9,7 @@ use Rattle.xp_board.specs.Hands.{empty}
 use Rattle.trace_text.specs.declared.trace.Trace.{Trace}
 use Rattle.machine_build.specs.Opening.{IsOpening, opening_at}
 use Rattle.rest_laws.specs.Resting.{IsNothingLeft}
+use Rattle.rest_laws.proofs.Partials.{real_kind}
 
 real_old0 : (n : Machine) (v : ℕ) → v < (sizes_of n).vcpus → IsTrue (is_place (sizes_of n) (old0_of v))
 unfolding is_place
@@ -17,10 +18,6 @@ real_old0 n v real = grind (arith, nat_tests)
 real_old1 : (n : Machine) (v : ℕ) → v < (sizes_of n).vcpus → IsTrue (is_place (sizes_of n) (old1_of v))
 unfolding is_place
 real_old1 n v real = grind (arith, nat_tests)
-
-real_kind : (n : Machine) (g : ℕ) → g < n.frames → IsTrue (is_place (sizes_of n) (Kind g))
-unfolding is_place
-real_kind n g inside = grind (arith, nat_tests)
 
 zero_unkept : (kind_fields 0).kept ≡ false
 unfolding kind_fields

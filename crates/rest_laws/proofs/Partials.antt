@@ -138,7 +138,7 @@ spelled_read : (n : Machine) (w : ℕ) → IsTrue (is_kind_in n (kind_read w)) �
 unfolding kind_read
 spelled_read n w is = elim (cases_Bool (has_type w && has_form (kind_fields w))) [ inl on ↦ rw on refl | inr off ↦ absurd (let e = rw off at is in cc) ]
 
-real_kind : (n : Machine) (g : ℕ) → g < n.frames → IsTrue (is_place (sizes_of n) (Kind g))
+pub real_kind : (n : Machine) (g : ℕ) → g < n.frames → IsTrue (is_place (sizes_of n) (Kind g))
 unfolding is_place
 real_kind n g inside = grind (arith, nat_tests)
 
