@@ -33,6 +33,7 @@ use Rattle.xp_board.proofs.HeldByForm.{live_partial}
 use Rattle.xp_board.proofs.Works.{in_works}
 use Rattle.step_maker.specs.Plain.{Words}
 use Rattle.table_law.specs.Lawful.{IsAtRest}
+use Rattle.table_entries.proofs.LastEntry.{partial_count}
 use Rattle.rest_laws.specs.Resting.{AreEmpty, IsBelow, IsIdle, IsNamed, IsNothingLeft, below, kept, old}
 
 -- ---- hands that are empty
@@ -126,10 +127,6 @@ old_or_live k is =
     ]
 
 -- ---- a partial frame
-partial_one : (k : KindWord) → IsTrue (is_partial k) → type_count k ≡ 1
-unfolding type_count
-partial_one k partial = grind (arith, nat_tests)
-
 both_off : (k : KindWord) → k.pinned ≡ false → 0 < marks k → k.kept ≡ true
 unfolding marks
 both_off k unpinned some = grind (arith, nat_tests)
@@ -173,7 +170,7 @@ module _ (n : Machine) (m : Words) (h : ℕ → Holdings) (sound : Sound n m h) 
 
   pub named_somehow : (g : ℕ) → g < n.frames → IsTrue (is_partial (kind_at m g)) → IsNamed n m g
   named_somehow g inside partial =
-      let one = partial_one (kind_at m g) partial in
+      let one = partial_count (kind_at m g) partial in
       let all = sound.counts.types g in
       elim (cases_eq (entries (names_typed g) (sizes_of n) m h) 0) [
         | inr some ↦ by_entry g partial (entries_some (sizes_of n) m h g (let k : entries (names_typed g) (sizes_of n) m h ≢ 0 = some in omega arith))
@@ -199,12 +196,9 @@ lower_table t a b = absurd cc
 unnamed : (x g : ℕ) → x ≡ 0 → x ≡ g + 1 → ⊥
 unnamed x g a b = absurd (omega arith)
 
-unmarked : (b : Bool) → b ≡ false → b ≡ true → ⊥
-unmarked b a c = let e = sym a ∙ c in absurd cc
-
 module _ (n : Machine) (m : Words) (h : ℕ → Holdings) (sound : Sound n m h) (left : IsNothingLeft n m h) where
   led_by : (g : ℕ) → g < n.frames → IsNamed n m g → IsBelow n m g
-  led_by g inside (kept mark) = absurd (unmarked (kind_at m g).kept (left.unkept g inside) mark)
+  led_by g inside (kept mark) = let e = sym (left.unkept g inside) ∙ mark in absurd cc
   led_by g inside (old o) = elim o.names [ inl first ↦ absurd (unnamed (m (old0_of o.vcpu)) g (left.first o.vcpu o.real) first) | inr second ↦ absurd (unnamed (m (old1_of o.vcpu)) g (left.second o.vcpu o.real) second) ]
   led_by g inside (below b) = b
 
