@@ -24,6 +24,7 @@ use Rattle.step_maker.specs.Answers.{Deed, Piece, Misses, Returns, SetsPrivilege
 use Rattle.step_maker.specs.Asked.{Request, of_frame, IsFor, Asked, named, demanded, entered, walked, context, of_old, doomed, IsAsked, of, back}
 use Rattle.step_maker.specs.Finding.{Finding}
 use Rattle.step_maker.specs.Reasons.{IsFlushedNext, MayFlush, MayAskFor, HasReason}
+use Rattle.step_maker.proofs.Members.{in_left, in_right}
 use Rattle.xp_words.specs.Machine.{Machine}
 use Rattle.xp_board.proofs.EntryWords.{type_same}
 use Rattle.xp_board.proofs.Sums.{when_eq}
@@ -119,17 +120,6 @@ no_kind v w f owner ds ms m g piece at is idle none =
     ]
 
 -- ---- deeds
-in_left : {A : Type 0} (x : A) (xs ys : List A) → Member x xs → Member x (xs ++ ys)
-unfolding Member
-in_left x [] ys at = absurd at
-in_left x (y ∷ xs) ys (inl e) = inl e
-in_left x (y ∷ xs) ys (inr at) = inr (in_left x xs ys at)
-
-in_right : {A : Type 0} (x : A) (xs ys : List A) → Member x ys → Member x (xs ++ ys)
-unfolding Member
-in_right x [] ys at = at
-in_right x (y ∷ xs) ys at = inr (in_right x xs ys at)
-
 -- a deed of one step is one of the piece
 deed_in : (ms : List Moment) (m : Moment) (d : Deed) → Member m ms → Member d (deeds_by m.place m.act m.kind m.found m.hand) → Member d (deeds ms)
 unfolding Member

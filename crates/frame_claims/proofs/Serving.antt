@@ -1,5 +1,5 @@
 -- What is asked of a block's frames, and what a guest sees of the steps on them: nothing, but that they are given.
-use Rattle.std.proofs.Common.{◌≡◌, ◌≢◌, append-nil, ℕ, suc, ◌+◌, ◌-◌, ◌/◌, ◌^◌, ◌<◌, ◌≤◌, ◌==◌, ◌++◌, nat_lt, true, List, [], ◌∷◌, None, refl, ap, subst, arith}
+use Rattle.std.proofs.Common.{◌≡◌, ◌≢◌, append-nil, ℕ, suc, ◌+◌, ◌-◌, ◌/◌, ◌^◌, ◌<◌, ◌≤◌, ◌==◌, ◌++◌, ◌||◌, not, nat_lt, true, List, [], ◌∷◌, None, refl, ap, subst, inl, inr, arith}
 use Rattle.xp_words.specs.Machine.{Machine}
 use Rattle.xp_words.specs.RefWords.{ref_write}
 use Rattle.xp_words.specs.declared.place.Place.TheVariants.{Refs, M2p, Cell, Map}
@@ -8,12 +8,14 @@ use Rattle.xp_words.proofs.Shared.{eq_false as when_ne}
 use Rattle.xp_board.specs.declared.holdings.Holdings.{Holdings}
 use Rattle.xp_board.specs.declared.step.Act.TheVariants.{Cas, Store, Add}
 use Rattle.xp_board.specs.declared.step.StepKind.TheVariants as kinds
-use Rattle.xp_board.specs.Hands.{empty, hand, typed_hand, work_on}
+use Rattle.xp_board.specs.Hands.{empty, hand, claims_of, typed_hand, work_on}
 use Rattle.xp_board.specs.HintSteps.{map_bit}
+use Rattle.xp_board.specs.M2pSteps.{MayMap}
 use Rattle.xp_board.specs.Lists.{first_by, times_by}
 use Rattle.xp_board.specs.Readings.{allocated_mark}
 use Rattle.xp_board.specs.Told.{PortValue}
 use Rattle.xp_board.proofs.Sums.{when_eq}
+use Rattle.std.proofs.lemmas.Bool.Decides.{nat_tests}
 use Rattle.step_maker.specs.Moves.{Moves, Met}
 use Rattle.step_maker.specs.Answers.{Deed, Gives, Misses, SetsM2p, Serves, deeds_by, only_if, stored_cell}
 use Rattle.step_maker.specs.Asked.{Request, IsAsked, named, of}
@@ -46,8 +48,13 @@ no_hand : (f : ℕ) (h : Holdings) → IsPlain h → hand f h ≡ 0
 unfolding hand typed_hand times_by
 no_hand f h p = rw (p.refs, p.typed, p.locks) refl
 
-no_map : (f g : ℕ) (h : Holdings) → IsPlain h → only_if (nat_lt 0 (hand f h)) (SetsM2p f g) ≡ []
-no_map f g h p = rw (no_hand f h p) refl
+-- its machine-to-physical word is stored since the frame is claimed
+no_map : (f g : ℕ) (h : Holdings) → IsPlain h → MayMap f h → only_if (nat_lt 0 (hand f h) || not (nat_lt 0 (claims_of f h.claimed))) (SetsM2p f g) ≡ []
+no_map f g h p may =
+    elim may.in_hand [
+      | inl some ↦ absurd (let none = no_hand f h p in omega arith)
+      | inr some ↦ let claimed : nat_lt 0 (claims_of f h.claimed) ≡ true = grind (arith, nat_tests) in rw (no_hand f h p, claimed) refl
+    ]
 
 one_given : (f d : ℕ) → d < 2 ^ 16 → only_if (allocated_mark (ref_write (Owned d true 1)) == 1) (Gives f) ≡ Gives f ∷ []
 unfolding allocated_mark
@@ -67,7 +74,7 @@ pub gives_one : (v a b c w : PortValue) (f d g x y z : ℕ) → d < 2 ^ 16 → S
     Moves b c (Map (f / 64)) (Add (2 ^ 64 - map_bit f)) kinds.Hint None y → Moves c w (Refs f) (Store (ref_write (Owned d true 1))) kinds.Ref None z → ServesBlock v w f 1 (Gives f ∷ [])
 gives_one v a b c w f d g x y z low before plain m2p bit give r blk =
     let asks : (F : Finding) → IsAsked v.post.machine v.post.vcpu r F f = λ F. one_asks v.post.machine v.post.vcpu f r F blk in
-    let one = subst (λ ds. Serves v b r (ds ++ [])) (no_map f g a.holdings plain) (serves_step v a b r [] (M2p f) (Store g) kinds.M2p None x (before r blk) m2p (asks (Met v b))) in
+    let one = subst (λ ds. Serves v b r (ds ++ [])) (no_map f g a.holdings plain m2p.may.act) (serves_step v a b r [] (M2p f) (Store g) kinds.M2p None x (before r blk) m2p (asks (Met v b))) in
     let two = serves_step v b c r [] (Map (f / 64)) (Add (2 ^ 64 - map_bit f)) kinds.Hint None y one bit (f, refl, asks (Met v c)) in
     subst (λ ds. Serves v w r (ds ++ [])) (one_given f d low)
     (serves_step v c w r [] (Refs f) (Store (ref_write (Owned d true 1))) kinds.Ref None z two give (asks (Met v w), tt))

@@ -1,5 +1,5 @@
 -- A reference that is taken, used and given back.
-use Rattle.std.proofs.Common.{◌≡◌, ℕ, ◌<◌, nat_lt, true, List, [], ◌∷◌, ◌++◌, None, Ok, refl, ap, ◌∙◌, subst, arith}
+use Rattle.std.proofs.Common.{◌≡◌, ℕ, ◌<◌, nat_lt, true, List, [], ◌∷◌, ◌++◌, ◌||◌, not, None, Ok, refl, ap, ◌∙◌, subst, arith}
 use Rattle.std.proofs.lemmas.Bool.Decides.{nat_tests}
 use Rattle.xp_words.specs.declared.place.Place.TheVariants.{M2p}
 use Rattle.xp_board.specs.declared.step.Act.TheVariants.{Store}
@@ -7,7 +7,7 @@ use Rattle.xp_board.specs.declared.step.StepKind.TheVariants as kinds
 use Rattle.xp_board.specs.declared.holdings.Holdings.{Holdings}
 use Rattle.xp_board.specs.declared.holdings.Reference.{Reference}
 use Rattle.xp_board.specs.declared.holdings.OwnerFound.TheVariants as owners
-use Rattle.xp_board.specs.Hands.{hand}
+use Rattle.xp_board.specs.Hands.{hand, claims_of}
 use Rattle.xp_board.specs.Told.{PortValue}
 use Rattle.step_maker.specs.Holds.{Holds, Same, still}
 use Rattle.step_maker.specs.Moves.{Moves}
@@ -44,7 +44,7 @@ pub maps : (v u x w : PortValue) (f owner gpfn other : ℕ) → Serves v u (of_f
 maps v u x w f owner gpfn other gets gives store puts =
     let r = of_frame f owner None in
     let stored = serves_step v u x r [] _ _ _ _ _ gets store (names_itself v.post.machine v.post.vcpu f owner None _) in
-    let deed = ap (λ b. only_if b (SetsM2p f gpfn) ++ []) (yes (hand f u.holdings) (held f u.holdings gives)) in
+    let deed = ap (λ b. only_if (b || not (nat_lt 0 (claims_of f u.holdings.claimed))) (SetsM2p f gpfn) ++ []) (yes (hand f u.holdings) (held f u.holdings gives)) in
     serves_back v x w r (SetsM2p f gpfn ∷ []) [] (subst (Serves v x r) deed stored) f (names_itself v.post.machine v.post.vcpu f owner None _) puts
 
 pub maps_at : (v u x w : PortValue) (g f owner gpfn other : ℕ) → g ≡ f → Serves v u (of_frame f owner None) [] → MayPut g u.holdings → Moves u x (M2p g) (Store gpfn) kinds.M2p None other →

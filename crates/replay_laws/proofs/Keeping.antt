@@ -24,6 +24,7 @@ use Rattle.step_maker.specs.Reasons.{HasReason, Reason, found, taken, MayCountPa
 use Rattle.xp_board.specs.Readings.{domain_of}
 use Rattle.step_maker.proofs.Coming.{ran_post}
 use Rattle.step_maker.proofs.Telling.{ran_telling, told_elsewhere, told_here, told_there}
+use Rattle.step_maker.proofs.Members.{in_left, in_right}
 use Rattle.replay_laws.specs.LeftAlone.{IsUnasked, IsLeftAlone, life, privilege, other, word, refs, kind, m2p, cell, map, pages}
 
 -- ---- a frame of which nothing is asked
@@ -126,17 +127,6 @@ step_stays n s r F ds b h mark by q a x (map k not) why legal seen = load_stays 
 step_stays n s r F ds b h mark by q a x (pages d none not) why legal seen = load_stays a x (load_there n s r F (Pages d) a x h (λ c y. uncounted n s r F d none not y.0) why)
 
 -- ---- all of them
-in_left : {A : Type 0} (x : A) (xs ys : List A) → Member x xs → Member x (xs ++ ys)
-unfolding Member
-in_left x [] ys at = absurd at
-in_left x (y ∷ xs) ys (inl e) = inl e
-in_left x (y ∷ xs) ys (inr at) = inr (in_left x xs ys at)
-
-in_right : {A : Type 0} (x : A) (xs ys : List A) → Member x ys → Member x (xs ++ ys)
-unfolding Member
-in_right x [] ys at = at
-in_right x (y ∷ xs) ys at = inr (in_right x xs ys at)
-
 module _ (v : PortValue) (r : Request) (F : Finding) (ds : List Deed) (q : Place) (away : IsLeftAlone v.post.machine v.post.vcpu r ds q) (telling : is_telling v ≡ true) where
   -- the step there
   moved_stays : (u w : PortValue) (ms : List Moment) (m : Moment) → Ran v ms u → MovesBy u w m → q ≡ m.place → HasReason v.post.machine v.post.vcpu r F m.place m.act m.found m.hand →

@@ -17,11 +17,11 @@ use Rattle.table_law.specs.Release.{let_go}
 use Rattle.table_law.specs.Undone.{CountsSome, IsSameButTypes}
 use Rattle.table_law.proofs.Counting.{at_here, at_there}
 use Rattle.table_law.proofs.Returning.{Either, Lent, Like, Refusing, refers}
-use Rattle.table_law.proofs.ReturningTables.{all_return}
+use Rattle.table_law.proofs.ReturningTables.{all_return, same_types}
 use Rattle.script_law.specs.Frames.{is_pinned_as, pin, pin_by, unpin, unpin_by}
 use Rattle.script_law.specs.Untaken.{IsUntaken}
 use Rattle.script_law.specs.Values.{Solo, IsPinned, IsUnpinned, Outcome, behind, behind_by, did, looked_by, stopped, with_frames}
-use Rattle.script_law.proofs.Untaking.{like_types, types_alone}
+use Rattle.script_law.proofs.Untaking.{types_alone}
 
 level_number : (l : ℕ) → l < 4 → type_number (level_type (suc l)) ≡ suc l
 level_number zero low = refl
@@ -129,7 +129,7 @@ module _ (n : Machine) (d f l : ℕ) (s : Solo) (low : l < 4) (counts : CountsSo
   let_go_off =
       let level : type_number (marked.kinds f).kind ≡ suc l = ap (λ (k : KindWord). type_number k.kind) marked_there ∙ table.level in
       types_alone s (let_go (type_number (marked.kinds f).kind) f off)
-      (subst (λ m. IsSameButTypes s.frames (let_go m f off)) (sym level) (like_types s.frames (let_go (suc l) f off) (undone (all_return n d (suc l) f s.frames counts))))
+      (subst (λ m. IsSameButTypes s.frames (let_go m f off)) (sym level) (same_types s.frames (let_go (suc l) f off) (undone (all_return n d (suc l) f s.frames counts))))
 
   unpinned_by : (b : Bool) → Goal (if b then did (with_frames (let_go (type_number (marked.kinds f).kind) f off) pinned_now) else stopped (IsUnpinned (marked.kinds f)) pinned_now)
   unpinned_by true did_it = let_go_off

@@ -15,7 +15,7 @@ use Rattle.table_law.specs.Plain.{Plain, Share, at, raised_share, reference_back
 use Rattle.table_law.specs.Undone.{CountsSome, IsSameButType, IsSameButTypes}
 use Rattle.table_law.proofs.Counting.{at_here, at_there}
 use Rattle.table_law.proofs.Returning.{Lent, Like, Refusing, refers, share_back, share_on}
-use Rattle.table_law.proofs.ReturningTables.{refused_same, released_same}
+use Rattle.table_law.proofs.ReturningTables.{refused_same, released_same, same_types}
 use Rattle.table_law.specs.Levels.{entry_of}
 use Rattle.table_law.specs.Release.{let_go}
 use Rattle.xp_words.specs.Entries.{is_slot}
@@ -81,16 +81,9 @@ looked_untaken None s next y behind_it refused = behind_it refused
 looked_untaken (Some c) s next y behind_it refused = same s
 
 -- ---- an entry under its lock
-like_same : (k l : KindWord) → (false ≡ true) ⊎ IsSameButType k l → IsSameButType k l
-like_same k l (inl e) = absurd cc
-like_same k l (inr same) = same
-
 live_same : (k l : KindWord) → k.validated ≡ true → IsSameButType k l → l ≡ k
 live_same k l live (inl is) = is
 live_same k l live (inr dead) = absurd (let e = dead.0 in grind (arith, nat_tests))
-
-pub like_types : (p q : Plain) → Like (λ x. false) p q → IsSameButTypes p q
-like_types p q like = record { shares = like.shares; kinds = λ g. like_same (p.kinds g) (q.kinds g) (like.kinds g); cells = like.cells }
 
 itself : (p : Plain) → IsSameButTypes p p
 itself p = record { shares = λ g. refl; kinds = λ g. inl refl; cells = λ g i. refl }
@@ -101,7 +94,7 @@ reference_types n owner g p c counts is = by (refers n owner g p counts)
   where
     by : Lent n p g (take_reference n owner g p) ⊎ Refusing p (take_reference n owner g p) → IsSameButTypes p (take_reference n owner g p).left
     by (inl lent) = absurd (let none = sym (ap (λ (o : PlainOutcome). o.refusal) lent.is) ∙ is in cc)
-    by (inr stopped) = subst (λ (o : PlainOutcome). IsSameButTypes p o.left) (sym stopped.is) (like_types p stopped.left stopped.same)
+    by (inr stopped) = subst (λ (o : PlainOutcome). IsSameButTypes p o.left) (sym stopped.is) (same_types p stopped.left stopped.same)
 
 -- what a table under its lock asks
 meet_types : (n : Machine) (owner level f i : ℕ) (p : Plain) (d : Demand) (c : Cause) → CountsSome n p → (meet n owner (take_at (level - 1) n owner) f i p d).refusal ≡ Some c →
@@ -148,7 +141,7 @@ module _ (n : Machine) (p : Plain) (f : ℕ) (s : Share) (counts : CountsSome n 
     off_types : IsSameButTypes p (unlocked_plain level f r)
     off_types =
         subst (IsSameButTypes p) (sym off_is)
-        (like_types p (reference_back f (with_kind f (p.kinds f) r))
+        (same_types p (reference_back f (with_kind f (p.kinds f) r))
         (share_back n p f s was some (λ x. false) (with_kind f (p.kinds f) r) (record { shares = types.shares; kinds = kinds_back; cells = types.cells })))
 
   -- under the lock the counts are some, too
@@ -219,7 +212,7 @@ module _ (n : Machine) (o : Owners) (f i word : ℕ) (keep : Bool) (s : Solo) (y
 
   by_reference : (taken : PlainOutcome) → Lent n s.frames f taken ⊎ Refusing s.frames taken → Goal taken
   by_reference taken (inl lent) = subst Goal (sym lent.is) (ended lent.share lent.was lent.some (result lent.share).refusal refl)
-  by_reference taken (inr stopped) = subst Goal (sym stopped.is) (λ r. types_alone s stopped.left (like_types s.frames stopped.left stopped.same))
+  by_reference taken (inr stopped) = subst Goal (sym stopped.is) (λ r. types_alone s stopped.left (same_types s.frames stopped.left stopped.same))
 
   pub entry_untaken : (write_entry n o f i word keep s).refusal ≡ Some y → IsUntaken s (write_entry n o f i word keep s).left
   entry_untaken refused = by_reference (take_reference n o.tables f s.frames) (refers n o.tables f s.frames counts) refused

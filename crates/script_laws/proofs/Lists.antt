@@ -7,7 +7,7 @@ use Rattle.xp_words.specs.declared.reply.Refusal.TheVariants.{BatchLong}
 use Rattle.xp_words.specs.declared.reply.Stop.{Stop}
 use Rattle.xp_words.specs.declared.reply.Stop.TheVariants.{Refused, Paused}
 use Rattle.xp_board.specs.Told.{PortValue}
-use Rattle.own_cache.proofs.Listing.{opened}
+use Rattle.own_cache.proofs.Listing.{opened, there_is}
 use Rattle.vcpu_turn.specs.Lists.{DidItems, Fitting, WorksOn, WorksThrough}
 use Rattle.vcpu_turn.specs.Lists as lists
 use Rattle.script_laws.specs.Plain.{PlainList}
@@ -16,11 +16,6 @@ use Rattle.script_laws.specs.Plain.{PlainList}
 pub none_on : {E : Type 0} (es : List E) → drop (length es) es ≡ []
 none_on [] = refl
 none_on (x ∷ es) = none_on es
-
-pub some_there : {E : Type 0} (es : List E) (k : ℕ) → k < length es → (e : E) × (slice_get es k ≡ Some e)
-some_there [] k less = absurd (let l = less in omega arith)
-some_there (x ∷ es) zero less = (x, refl)
-some_there (x ∷ es) (suc k) less = some_there es k (let l = less in omega arith)
 
 -- ---- lists behind one another
 pub none_left : {A : Type 0} (xs : List A) (k : ℕ) → slice_get xs k ≡ None → drop k xs ≡ []
@@ -109,7 +104,7 @@ module _ {E Solo Why Line Outcome Answered B : Type 0} (plain : PlainList E Solo
     done_once : (made : List Line) (gave : List B) (a : Answered) (k : ℕ) (u w : PortValue) (asked : List Bool) → k < length es → Fair w → (fit : fits k u w asked (Ok tt)) → Stood gave made a k u →
         (new : List Line) × Said (gave ++ gives k u w asked (Ok tt) fit) new × ((t : Solo) × Comes (made ++ new) (k + 1) t a × Owes w t)
     done_once made gave a k u w asked less fair fit (new, said, (s, c, pending)) =
-        let there = some_there es k less in
+        let there = there_is es k less in
         let o = plain.one k there.0 s in
         let comes = l.item k there.0 s u w asked (Ok tt) there.1 fair fit pending in (
           new ++ plain.lines o,
@@ -123,11 +118,11 @@ module _ {E Solo Why Line Outcome Answered B : Type 0} (plain : PlainList E Solo
 
     stopped_once : (made : List Line) (a : Answered) (k : ℕ) (u w : PortValue) (asked : List Bool) (e : Stop) → k < length es → Fair w → fits k u w asked (Err e) → Stands made a k u → ListComes made a k w (Err e)
     stopped_once made a k u w asked (Refused x) less fair fit (s, c, pending) =
-        let there = some_there es k less in
+        let there = there_is es k less in
         let o = l.item k there.0 s u w asked (Err (Refused x)) there.1 fair fit pending in
         (plain.left (plain.one k there.0 s), o.0, one_stopped made k there.0 s a o.0 there.1 o.1 o.2 c, o.3, o.4)
     stopped_once made a k u w asked (Paused p) less fair fit (s, c, pending) =
-        let there = some_there es k less in
+        let there = there_is es k less in
         (s, c, l.item k there.0 s u w asked (Err (Paused p)) there.1 fair fit pending)
 
     did_all : (made : List Line) (a : Answered) (from : ℕ) (v : PortValue) (to : ℕ) (w : PortValue) (answers : List Bool) (did : DidItems fits (length es) from v to w answers) → Fair w → (Fair v → Stands made a from v) → Stood (gave_did from v to w answers did) made a to w

@@ -15,7 +15,7 @@ use Rattle.xp_words.specs.declared.reply.Stop.TheVariants.{Refused, Paused}
 use Rattle.xp_board.specs.declared.step.Act.{Act}
 use Rattle.xp_board.specs.declared.step.Act.TheVariants.{Cas, Store}
 use Rattle.xp_board.specs.declared.holdings.Holdings.{Holdings}
-use Rattle.xp_board.specs.Hands.{hand, work_on, lock_on, claim_of}
+use Rattle.xp_board.specs.Hands.{hand, work_on, lock_on, claim_of, claims_of}
 use Rattle.xp_board.specs.Lists.{EachOf}
 use Rattle.xp_board.specs.Readings.{allocated_mark, is_context}
 use Rattle.xp_board.specs.Told.{PortValue}
@@ -75,7 +75,7 @@ exchanged _ e w = []
 
 abbrev pub stored : Place → ℕ → Holdings → List Deed
 stored (Cell f i) w h = only_if (is_apart f h) (Writes f i w)
-stored (M2p f) w h = only_if (nat_lt 0 (hand f h)) (SetsM2p f w)
+stored (M2p f) w h = only_if (nat_lt 0 (hand f h) || not (nat_lt 0 (claims_of f h.claimed))) (SetsM2p f w)
 stored (Vcpu v k) w h = only_if (is_told_word k) (SetsWord v k w)
 stored (Refs f) w h = only_if (allocated_mark w == 1) (Gives f)
 stored (Life d) w h = SetsLife d w ∷ []

@@ -218,7 +218,7 @@ all_return n owner (suc l) g p counts =
     by_lent n owner (suc l) g p (let_go (suc l) g) (higher n owner l g p (all_return n owner l) counts) (refers n owner g p counts)
 
 -- ---- so all is as before, but for types
-same_types : (p q : Plain) → Like (λ x. false) p q → IsSameButTypes p q
+pub same_types : (p q : Plain) → Like (λ x. false) p q → IsSameButTypes p q
 same_types p q like = record { shares = like.shares; kinds = λ g. elim (like.kinds g) [ inl b ↦ absurd (cc) | inr same ↦ same ]; cells = like.cells }
 
 refused_by : (n : Machine) (p : Plain) (o : PlainOutcome) (back : Plain → Plain) (c : Cause) → Either n p o back → o.refusal ≡ Some c → IsSameButTypes p o.left
