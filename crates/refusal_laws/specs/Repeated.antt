@@ -1,0 +1,13 @@
+-- Acquisitions that were paused, each of them, by the gate.
+use Rattle.std.specs.Prelude.{ℕ, Bool, List, Err}
+use Rattle.xp_words.specs.declared.reply.Pause.TheVariants.{Due}
+use Rattle.xp_words.specs.declared.reply.Stop.TheVariants.{Paused}
+use Rattle.xp_board.specs.Told.{PortValue}
+use Rattle.table_entries.specs.Acquiring.{Acquired}
+use Rattle.course_laws.specs.Courses.{FindsAlive}
+use Rattle.pause_laws.specs.Calls.{StaysFrom}
+
+-- From v to w one frame was asked for one owner and level in one call or more, each paused; each but the first goes on where the one before it was paused. At w the next one may go on.
+pub data PausedCalls (f owner level : ℕ) (v : PortValue) : PortValue → Type 0 where
+  first : (u w : PortValue) (answers : List Bool) → Acquired v f owner level u answers (Err (Paused Due)) → FindsAlive v u owner → StaysFrom u w → PausedCalls f owner level v w
+  again : (x u w : PortValue) (answers : List Bool) → PausedCalls f owner level v x → Acquired x f owner level u answers (Err (Paused Due)) → FindsAlive x u owner → StaysFrom u w → PausedCalls f owner level v w
