@@ -1,6 +1,6 @@
 -- How a port of a vCPU that is alone stands, between the elements of its operations, to a plain value of the machine.
-use Rattle.std.specs.Prelude.{◌≡◌, ◌<◌, ℕ, false, length}
-use Rattle.xp_words.specs.Machine.{Machine}
+use Rattle.std.specs.Prelude.{◌≡◌, ◌<◌, ℕ, false, length, Some}
+use Rattle.xp_words.specs.Machine.{IsMachine, Machine}
 use Rattle.xp_words.specs.declared.kind.KindWord.{KindWord}
 use Rattle.xp_words.specs.declared.place.Place.TheVariants.{Life, M2p, Priv, Vcpu}
 use Rattle.xp_board.specs.Hands.{IsEmptyHand}
@@ -46,6 +46,7 @@ IsUnkept n p = (g : ℕ) → g < n.frames → (p.kinds g).kept ≡ false
 -- The vCPU is alone, and the only one; it has nothing in hand; its second old word names no frame; and the words are those of x, but for the frames, of which x has none
 -- that is kept.
 pub record Stands (v : PortValue) (x : Solo) : Type 0 where
+  pub machine : IsMachine v.post.machine
   pub alone : IsAlone v
   pub only : length v.post.machine.vcpu_domain ≡ 1
   pub empty : IsEmptyHand v.holdings
@@ -63,6 +64,11 @@ pub record Clean (v : PortValue) (x : Solo) : Type 0 where
 pub data Owes (v : PortValue) (x : Solo) : Type 0 where
   nothing : Clean v x → Owes v x
   a_release : (f level : ℕ) → Stands v x → IsLeft v.post.machine v f level x.frames → Owes v x
+
+-- and the vCPU has looked: each element but the first of a turn begins behind a call that settles
+pub record IsSettled (v : PortValue) : Type 0 where
+  pub first : v.holdings.old0 ≡ Some 0
+  pub second : v.holdings.old1 ≡ Some 0
 
 -- ---- steps that change nothing of this
 -- From v to w words changed in stamps, the clock and the words of flushes alone, and nothing is in hand.
