@@ -1,0 +1,56 @@
+-- Small facts of ports that stand to a plain value.
+use Rattle.std.proofs.Common.{◌≡◌, ◌==◌, ℕ, Bool, true, false, if◌then◌else◌, refl, sym, ap, ◌∙◌}
+use Rattle.xp_words.specs.declared.place.Place.{Place}
+use Rattle.xp_words.specs.declared.place.Place.TheVariants.{Cell, Kind, Life, M2p, Priv, Vcpu, Refs, Map, Pages, Clock}
+use Rattle.xp_words.specs.Machine.{Machine}
+use Rattle.xp_board.specs.Readings.{owner_of, ref_count}
+use Rattle.xp_board.specs.RefSteps.{owner_number}
+use Rattle.xp_board.specs.Told.{Post, PortValue, told_word}
+use Rattle.step_maker.specs.Moves.{Came}
+use Rattle.step_maker.specs.Plain.{Leaves, Words}
+use Rattle.step_maker.proofs.Alikes.{same_alike}
+use Rattle.step_maker.proofs.Coming.{came_post}
+use Rattle.step_maker.specs.Holds.{Rests}
+use Rattle.frame_words.specs.Plain.{lowered, put, set_free}
+use Rattle.script_law.specs.Values.{Solo}
+use Rattle.solo_ports.specs.Standing.{Clean, Owes, StaysAlike, nothing}
+use Rattle.solo_entries.proofs.Known.{Known}
+
+-- ---- a reference that is given back changes the word of the frame, the map and a count of pages
+abbrev pub is_counting : Place → Bool
+is_counting Clock = true
+is_counting (Pages d) = true
+is_counting (Refs f) = true
+is_counting (Map k) = true
+is_counting _ = false
+
+put_by : (b : Bool) (f o : ℕ) (m : Words) (q : Place) → is_counting q ≡ false → (if b then set_free f o (lowered f m) else lowered f m) q ≡ m q
+put_by true f o m (Life d) off = refl
+put_by true f o m (Vcpu s k) off = refl
+put_by true f o m (Kind g) off = refl
+put_by true f o m (M2p g) off = refl
+put_by true f o m (Cell g i) off = refl
+put_by true f o m (Priv d) off = refl
+put_by false f o m (Life d) off = refl
+put_by false f o m (Vcpu s k) off = refl
+put_by false f o m (Kind g) off = refl
+put_by false f o m (M2p g) off = refl
+put_by false f o m (Cell g i) off = refl
+put_by false f o m (Priv d) off = refl
+put_by b f o m Clock off = absurd cc
+put_by b f o m (Pages d) off = absurd cc
+put_by b f o m (Refs g) off = absurd cc
+put_by b f o m (Map k) off = absurd cc
+
+pub put_same : (f : ℕ) (m : Words) (q : Place) → is_counting q ≡ false → put f m q ≡ m q
+put_same f m q off = put_by (ref_count (m (Refs f)) == 1) f (owner_number (owner_of (m (Refs f)))) m q off
+
+-- ---- nothing changes
+pub machine_same : (v w : PortValue) → Came v w → w.post.machine ≡ v.post.machine
+machine_same v w came = ap (λ (q : Post). q.machine) (came_post v w came)
+
+pub clean_same : Known → (v w : PortValue) (x : Solo) → Clean v x → Came v w → Leaves w (told_word v) → Rests w → Clean w x
+clean_same k v w x clean came leaves rests = k.on v w x clean (record { came = came; words = same_alike (told_word w) (told_word v) leaves; empty = rests.empty })
+
+pub owes_same : Known → (v w : PortValue) (x : Solo) → Clean v x → Came v w → Leaves w (told_word v) → Rests w → Owes w x
+owes_same k v w x clean came leaves rests = nothing (clean_same k v w x clean came leaves rests)
