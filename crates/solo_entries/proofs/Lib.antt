@@ -1,3 +1,4 @@
 mod Known
 mod Standing
 mod Mapping
+mod Olds
