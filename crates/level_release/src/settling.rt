@@ -42,7 +42,6 @@ pub fn settle<P: Port>(
     ensures hand { SettledHand (P.value port.old) (P.value port.new) }
     ensures clear { IfOk result (λ _. known_old First (P.value port.new).holdings ≡ Some 0) }
     ensures clear_too { IfOk result (λ _. known_old Second (P.value port.new).holdings ≡ Some 0) }
-    ensures second { known_old Second (P.value port.old).holdings ≡ Some 0 → known_old Second (P.value port.new).holdings ≡ Some 0 }
     ensures none { IfOk result (λ _. left.new ≡ None) }
     ensures course { SettlesBy left.old left.new (P.value port.old) (P.value port.new) (policy gate.old) (policy gate.new) result }
 {

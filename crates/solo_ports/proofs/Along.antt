@@ -66,8 +66,8 @@ module _ (stays : AloneStays) (v w : PortValue) (x : Solo) (on : StaysAlike v w)
 
   pub owes_on : Owes v x → Owes w x
   owes_on (standing.nothing c) = standing.nothing (clean_on c)
-  owes_on (standing.a_release f level s known left) =
-      standing.a_release f level (stands_on s) (on.second known)
+  owes_on (standing.a_release f level s left) =
+      standing.a_release f level (stands_on s)
       (subst (λ (p : Post). IsLeft p.machine w f level x.frames) (sym post) (goes_on v.post.machine v w f level x.frames (goes_from s) left))
 
 -- ---- calls that were paused

@@ -64,10 +64,10 @@ pub record Clean (v : PortValue) (x : Solo) : Type 0 where
   pub first : told_word v (old_place v.post.vcpu First) ≡ 0
   pub frames : Describes v.post.machine (told_word v) x.frames
 
--- What is settled first leaves x: nothing is; or the release of a table is unfinished, and leaves the frames of x. (The vCPU knows then that its second old word names no frame.)
+-- What is settled first leaves x: nothing is; or the release of a table is unfinished, and leaves the frames of x.
 pub data Owes (v : PortValue) (x : Solo) : Type 0 where
   nothing : Clean v x → Owes v x
-  a_release : (f level : ℕ) → Stands v x → v.holdings.old1 ≡ Some 0 → IsLeft v.post.machine v f level x.frames → Owes v x
+  a_release : (f level : ℕ) → Stands v x → IsLeft v.post.machine v f level x.frames → Owes v x
 
 -- and the vCPU has looked: each element but the first of a turn begins behind a call that settles
 pub record IsSettled (v : PortValue) : Type 0 where
@@ -75,12 +75,11 @@ pub record IsSettled (v : PortValue) : Type 0 where
   pub second : v.holdings.old1 ≡ Some 0
 
 -- ---- steps that change nothing of this
--- From v to w words changed in stamps, the clock and the words of flushes alone; nothing is in hand; and the second old word is known where it was.
+-- From v to w words changed in stamps, the clock and the words of flushes alone; and nothing is in hand.
 pub record StaysAlike (v w : PortValue) : Type 0 where
   pub came : Came v w
   pub words : Alike (told_word w) (told_word v)
   pub empty : IsEmptyHand w.holdings
-  pub second : v.holdings.old1 ≡ Some 0 → w.holdings.old1 ≡ Some 0
 
 -- ---- an acquisition that was paused
 -- Frame f was asked as a table of that level for that owner, from words whose frames were those of x, and each call was paused by the gate. Nothing else is unfinished.

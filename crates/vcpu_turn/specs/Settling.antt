@@ -6,7 +6,6 @@ use Rattle.step_maker.specs.Holds.{Rests}
 use Rattle.step_maker.specs.Answers.{Serves, Stops, misses}
 use Rattle.level_release.specs.Asking.{IsReleaseEnd, of_settle}
 use Rattle.level_release.specs.Course.{Settled, left_settled}
-use Rattle.level_release.specs.Settling.{SettledHand}
 use Rattle.table_words.specs.OldWords.{known_old}
 use Rattle.table_words.specs.declared.old_words.OldWord.TheVariants.{First, Second}
 
@@ -20,11 +19,9 @@ pub record Settles (below : Option ℕ) (v w : PortValue) (answers : List Bool) 
   pub stops : (owner pages : ℕ) → IfErr answer (λ e. Stops v w (of_settle owner pages answer) e)
   pub kinds : IfErr answer IsReleaseEnd
   pub rests : Rests w
-  pub hand : SettledHand v w
-  -- done, both words are known to name no frame; and paused, the second one names none where it was known to name none
+  -- done, both words are known to name no frame
   pub clear : IfOk answer (λ done. known_old First w.holdings ≡ Some 0)
   pub clear_too : IfOk answer (λ done. known_old Second w.holdings ≡ Some 0)
-  pub second : known_old Second v.holdings ≡ Some 0 → known_old Second w.holdings ≡ Some 0
   pub course : Settled below v w answers answer
 
 -- and how much is left then
