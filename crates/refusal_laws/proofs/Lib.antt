@@ -1,3 +1,5 @@
 mod Undoing
 mod Leaving
 mod Deciding
+mod Described
+mod Repeating

@@ -3,9 +3,13 @@
 #![tactic(auto)]
 
 mod refusals;
+mod repeated;
 
 pub use refusals::{
     a_refused_acquisition_is_refused_as_the_plain_one,
     an_acquisition_alone_comes_to_what_the_plain_one_comes_to, preemption_is_invisible_to_refusals,
     what_a_refused_acquisition_owes_is_settled,
+};
+pub use repeated::{
+    an_acquisition_from_described_words_comes_to_its_plain_meaning, paused_calls_and_one_more,
 };
