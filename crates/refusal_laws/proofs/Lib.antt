@@ -3,3 +3,6 @@ mod Leaving
 mod Deciding
 mod Described
 mod Repeating
+mod Untouched
+mod Sparing
+mod Keeping
