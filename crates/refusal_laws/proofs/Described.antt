@@ -1,8 +1,11 @@
 -- The first call begins with words at rest, which any plain value describes.
-use Rattle.std.proofs.Common.{◌≡◌, ℕ, ◌<◌, suc, ◌-◌, ◌≤◌, ◌==◌, if◌then◌else◌, Bool, true, false, List, [], ◌∷◌, None, Result, Ok, Err, refl, sym, ap, ◌∙◌, subst, inl, inr, arith, Some}
+use Rattle.std.proofs.Common.{◌≡◌, ℕ, ◌<◌, suc, ◌-◌, ◌≤◌, ◌==◌, if◌then◌else◌, Bool, true, false, List, [], ◌∷◌, None, Result, Ok, Err, refl, sym, ap, ◌∙◌, subst, inl, inr, arith, Some, IsTrue}
 use Rattle.std.proofs.Math.Path.{fun_ext}
+use Rattle.std.proofs.lemmas.Bool.Decides.{nat_tests}
+use Rattle.xp_words.specs.KindWords.{has_form, is_kind}
 use Rattle.xp_words.specs.Machine.{IsMachine, Machine}
 use Rattle.xp_words.specs.declared.entry.Demand.TheVariants.{Typed}
+use Rattle.xp_words.specs.declared.kind.KindWord.{KindWord}
 use Rattle.xp_words.specs.declared.place.Place.TheVariants.{Kind, Refs, Vcpu}
 use Rattle.xp_words.specs.declared.reply.Pause.TheVariants as pauses
 use Rattle.xp_words.specs.declared.reply.Refusal.{Refusal}
@@ -37,6 +40,7 @@ use Rattle.table_words.specs.OldWords.{old_place}
 use Rattle.table_words.specs.declared.old_words.OldWord.TheVariants.{First}
 use Rattle.table_entries.proofs.Shared.{gave_came}
 use Rattle.table_entries.specs.Acquiring.{Acquired, GaveRef, GotRef, TookType, counted, finished, outermost_table, unfinished, unreferred, untyped, waiting}
+use Rattle.flush_waits.specs.Waiting.{IsWait}
 use Rattle.course_laws.specs.Courses.{IsOrderly}
 use Rattle.course_laws.proofs.Frames.{AllFrames, IsFrame, IsLiveWithin, count_at}
 use Rattle.course_laws.proofs.Stacking.{lefts}
@@ -49,9 +53,18 @@ use Rattle.course_laws.proofs.Refusing.{Unmet, asks_by, type_refused}
 use Rattle.course_laws.proofs.Travelling.{wait_ends}
 use Rattle.course_laws.proofs.Under.{IsStill, PlainFrames, Spelled, TableOf, count_of, frames_but}
 use Rattle.course_laws.proofs.Unwinding.{HalfAt}
+use Rattle.refusal_laws.specs.Repeated.{IsDeadFrame}
 
 same_back : (p q : Plain) → IsSame p q → IsSame q p
 same_back p q same = record { shares = λ g. sym (same.shares g); kinds = λ g. sym (same.kinds g); cells = λ g i. sym (same.cells g i) }
+
+sober_pinned : (b : Bool) (k : KindWord) → (if b then k else record k { number = 0; unflushed = false }).pinned ≡ k.pinned
+sober_pinned true k = refl
+sober_pinned false k = refl
+
+dead_unpinned : (k : KindWord) → IsTrue (is_kind k) → is_dead k ≡ true → k.pinned ≡ false
+unfolding has_form
+dead_unpinned k is dead = grind (arith, nat_tests)
 
 module _ (v : PortValue) (f owner level : ℕ) (machine : IsMachine v.post.machine) (telling : is_telling v ≡ true) (calm : IsAtRest v.post.machine (told_word v)) (orderly : IsOrderly v.post.machine (told_word v)) (low : 1 ≤ level) (high : level ≤ 4) (p : Plain) (d : Describes v.post.machine (told_word v) p) where
   abbrev n : Machine
@@ -139,6 +152,23 @@ module _ (v : PortValue) (f owner level : ℕ) (machine : IsMachine v.post.machi
           (subst (λ k. rest n owner (table_left f (level - 1) k ∷ []) (with_kind f (work_kind (level_type level) false 0) one) ≡ alone n owner level f p) e
           (subst (λ l. rest n owner (table_left f (level - 1) 512 ∷ []) (with_kind f (work_kind (level_type l) false 0) one) ≡ alone n owner l f p) same (sym (alone_opened n owner (level - 1) f p one took.takes into.dead))))
 
+      pub from_dead : IsDeadFrame n p f owner
+      unfolding with_one
+      from_dead =
+          let took = taking n m x (extra []) p owner level f 0 [] machine describes spells tt frames tt f none in
+          let own = took.owns in
+          let kind = d.kinds f took.inside in
+          let dead : is_dead (kind_at m f) ≡ true = sym (sober_dead (kind_at m f)) ∙ (sym (ap is_dead kind) ∙ into.dead) in
+          record {
+            inside = took.inside;
+            share = took.share;
+            held = took.was;
+            owns = grind (arith, nat_tests);
+            room = (let low = took.room in omega arith);
+            dead = into.dead;
+            unpinned = ap (λ (k : KindWord). k.pinned) kind ∙ (sober_pinned (kind_at m f).validated (kind_at m f) ∙ dead_unpinned (kind_at m f) (orderly.spelled f took.inside) dead);
+          }
+
       came : Came v x
       came = came_trans v u x (does_came v u _ ref.found) (does_came u x _ type.found)
 
@@ -201,6 +231,13 @@ module _ (v : PortValue) (f owner level : ℕ) (machine : IsMachine v.post.machi
     untyped_ends (Paused (pauses.Busy k y)) type = tt
     untyped_ends (Paused (pauses.Alive k y)) type = tt
 
+  unreferred_due : (w : PortValue) (e : Stop) → GotRef v w f owner (Err e) → e ≡ Paused pauses.Due → ⊥
+  unreferred_due w (Refused y) ref is = absurd cc
+  unreferred_due w (Paused z) ref is = ref.plain telling
+
+  untyped_due : (u x : PortValue) → GotRef v u f owner (Ok f) → (e : Stop) → e ≡ Paused pauses.Due → TookType u x f owner level (Err e) → ⊥
+  untyped_due u x ref e is type = only_busy f (told_word u (Kind f)) (level_type level) pauses.Due (subst (λ k. type_stop f (level_type level) (told_word u (Kind f)) ≡ Some k) is (type.plain (telling_there u x ref)).0)
+
   pub first_call : (w : PortValue) (answers : List Bool) (answer : Result ℕ Stop) → Acquired v f owner level w answers answer → CallOutcome v.post.machine owner v w f level (record { outcome = alone v.post.machine owner level f p; whole = true }) answer
   first_call _ _ _ (unreferred w stop ref) = ends_call n owner v w f level a stop (unreferred_ends w stop ref)
   first_call _ _ _ (untyped u x w stop ref type back) = ends_call n owner v w f level a stop (untyped_ends u x w ref back stop type)
@@ -210,3 +247,15 @@ module _ (v : PortValue) (f owner level : ℕ) (machine : IsMachine v.post.machi
       left_call n owner f level a machine x [] (outermost_table f level progress own) (begun u x ref progress own type) (refl, refl) v (came_trans v u x (does_came v u _ ref.found) (does_came u x _ type.found)) y w us answers stop work left
   first_call _ _ _ (finished u x y w progress own k answers ref type work full made) =
       done_call n owner f level a machine x [] (outermost_table f level progress own) (begun u x ref progress own type) (refl, refl) y w k answers work full made
+
+  -- ---- a first call that is paused by the gate
+  due_dead : (w : PortValue) (answers : List Bool) (answer : Result ℕ Stop) → answer ≡ Err (Paused pauses.Due) → Acquired v f owner level w answers answer → IsDeadFrame v.post.machine p f owner
+  due_dead _ _ _ is (unreferred w stop ref) = absurd (let e : stop ≡ Paused pauses.Due = cc in unreferred_due w stop ref e)
+  due_dead _ _ _ is (untyped u x w stop ref type back) = absurd (let e : stop ≡ Paused pauses.Due = cc in untyped_due u x ref stop e type)
+  due_dead _ _ _ is (counted u w ref type) = absurd cc
+  due_dead _ _ _ is (waiting u x w own stamp stop ref type left) = absurd (let e : stop ≡ Paused pauses.Due = cc in subst IsWait e type.waits.0)
+  due_dead _ _ _ is (unfinished u x y w progress own us answers stop ref type work left) = from_dead u x ref progress own type
+  due_dead _ _ _ is (finished u x y w progress own k answers ref type work full made) = absurd cc
+
+  pub paused_dead : (w : PortValue) (answers : List Bool) → Acquired v f owner level w answers (Err (Paused pauses.Due)) → IsDeadFrame v.post.machine p f owner
+  paused_dead w answers acquired = due_dead w answers (Err (Paused pauses.Due)) refl acquired

@@ -22,8 +22,8 @@ use Rattle.course_laws.proofs.Unwinding.{part, ParkedAt, parked_over}
 use Rattle.pause_laws.specs.Calls.{Calls, HasRoom, Repeats, StaysFrom, again, last, more, once}
 use Rattle.pause_laws.proofs.Repeating.{resumed}
 use Rattle.refusal_laws.specs.Repeated as repeated
-use Rattle.refusal_laws.specs.Repeated.{PausedCalls}
-use Rattle.refusal_laws.proofs.Described.{first_call}
+use Rattle.refusal_laws.specs.Repeated.{IsDeadFrame, PausedCalls}
+use Rattle.refusal_laws.proofs.Described.{first_call, paused_dead}
 
 -- ---- from parked words
 module _ (n : Machine) (owner f level : ℕ) (a : PlainOutcome) (is : IsMachine n) where
@@ -98,6 +98,11 @@ module _ (v : PortValue) (f owner level : ℕ) (machine : IsMachine v.post.machi
   parked_calls _ (repeated.first y u answers told acquired finds on) = parked_by y u answers acquired finds on.stays
   parked_calls _ (repeated.again x y u answers before acquired finds on) =
       goes_on v.post.machine owner f level a machine y u on.stays (resumed_from v.post.machine owner f level a machine x y answers (Err (Paused Due)) (parked_calls x before) acquired finds)
+
+  -- what the first of paused calls found
+  pub first_dead : (u : PortValue) → PausedCalls f owner level v u → IsDeadFrame v.post.machine p f owner
+  first_dead u (repeated.first y _ answers told acquired finds on) = paused_dead v f owner level machine telling calm orderly low high p d y answers acquired
+  first_dead u (repeated.again x y _ answers before acquired finds on) = first_dead x before
 
   one_call : (w : PortValue) (answers : List Bool) (answer : Result ℕ Stop) → Acquired v f owner level w answers answer → LastOutcome v.post.machine owner v w f level a answer
   one_call w answers answer acquired = first_last v.post.machine owner v w f level a answer (first_call v f owner level machine telling calm orderly low high p d w answers answer acquired)

@@ -12,7 +12,7 @@ use Rattle.partial_state.specs.Levels.{level_type}
 use Rattle.table_words.specs.OldWords.{old_place}
 use Rattle.table_words.specs.declared.old_words.OldWord.TheVariants.{First}
 use Rattle.table_entries.specs.Acquiring.{Acquired}
-use Rattle.table_law.specs.Plain.{Share, share_of}
+use Rattle.table_law.specs.Plain.{Plain, Share, share_of}
 use Rattle.course_laws.specs.Courses.{FindsAlive}
 use Rattle.pause_laws.specs.Calls.{StaysFrom}
 
@@ -58,3 +58,13 @@ pub record IsKeptTable (f owner level : ℕ) (v u : PortValue) : Type 0 where
   pub frame : IsKeptFrame u.post.machine (told_word u) f owner level
   pub same : (q : Place) → IsUntouched q → told_word u q ≡ told_word v q
   pub first : told_word u (old_place u.post.vcpu First) ≡ told_word v (old_place v.post.vcpu First)
+
+-- The first of them found the frame dead, as the plain value p has it that describes the words before it: of that owner, and not pinned.
+pub record IsDeadFrame (n : Machine) (p : Plain) (f owner : ℕ) : Type 0 where
+  pub inside : f < n.frames
+  pub share : Share
+  pub held : p.shares f ≡ Some share
+  pub owns : share.owner ≡ owner
+  pub room : share.count < n.limit
+  pub dead : is_dead (p.kinds f) ≡ true
+  pub unpinned : (p.kinds f).pinned ≡ false
