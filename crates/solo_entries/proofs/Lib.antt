@@ -2,3 +2,7 @@ mod Known
 mod Standing
 mod Mapping
 mod Olds
+mod Taking
+mod Serving
+mod Stopping
+mod Memory

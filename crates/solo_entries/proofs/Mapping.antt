@@ -33,6 +33,7 @@ use Rattle.script_law.specs.Frames.{set_map}
 use Rattle.script_law.specs.Values.{Frames, Outcome, Solo, Why, did, looked, looked_by, put_at, stopped, Numbers}
 use Rattle.solo_ports.specs.Coming.{Comes, IsDoneSo, IsRefusedSo}
 use Rattle.solo_ports.specs.Standing.{Clean, Owes, ShowsOthers, Stands, nothing, IsUnkept}
+use Rattle.solo_ports.proofs.Staying.{stands_at}
 use Rattle.solo_entries.proofs.Known.{Known}
 use Rattle.solo_entries.proofs.Standing.{machine_same, owes_same, put_same, is_counting}
 use Rattle.table_law.proofs.Counting.{at_here}
@@ -137,15 +138,7 @@ module _ (k : Known) (v w : PortValue) (x : Solo) (owner f gpfn : ℕ) (clean : 
     is_clean : Clean w y
     is_clean =
         record {
-          stands = record {
-            machine = subst (λ (q : Post). IsMachine q.machine) (sym same) clean.stands.machine;
-            alone = k.stays v w clean.stands.alone came;
-            only = subst (λ (q : Post). length q.machine.vcpu_domain ≡ 1) (sym same) clean.stands.only;
-            empty = rests.empty;
-            second = subst (λ (q : Post). told_word w (old_place q.vcpu Second) ≡ 0) (sym same) (other (old_place v.post.vcpu Second) refl ∙ clean.stands.second);
-            others = subst (λ (q : Post). ShowsOthers q.machine q.vcpu (told_word w) y) (sym same) shows;
-            unkept = subst (λ (q : Post). IsUnkept q.machine x.frames) (sym same) clean.stands.unkept;
-          };
+          stands = stands_at k.stays v w x y clean.stands came rests.empty (other (old_place v.post.vcpu Second) refl ∙ clean.stands.second) shows clean.stands.unkept;
           first = subst (λ (q : Post). told_word w (old_place q.vcpu First) ≡ 0) (sym same) (other (old_place v.post.vcpu First) refl ∙ clean.first);
           frames = subst (λ (q : Post). Describes q.machine (told_word w) x.frames) (sym same) frames;
         }

@@ -9,7 +9,7 @@ use Rattle.xp_words.specs.declared.entry.Demand.TheVariants as demands
 use Rattle.xp_words.specs.declared.kind.KindWord.{KindWord}
 use Rattle.xp_words.specs.declared.kind.PageType.{PageType}
 use Rattle.xp_words.specs.Machine.{Machine}
-use Rattle.xp_words.specs.declared.reply.Pause.TheVariants.{Flush}
+use Rattle.xp_words.specs.declared.reply.Pause.TheVariants.{Busy, Flush}
 use Rattle.xp_words.specs.declared.reply.Refusal.{Refusal}
 use Rattle.xp_words.specs.declared.reply.Refusal.TheVariants as refusals
 use Rattle.xp_words.specs.declared.reply.Stop.{Stop}
@@ -49,6 +49,20 @@ use Rattle.table_entries.specs.declared.resuming.Resumed.{Resumed}
 use Rattle.table_entries.specs.declared.resuming.Resumed.TheVariants as again
 use Rattle.table_entries.proofs.Shared.{gave_came, ref_came}
 use Rattle.course_laws.proofs.Walking.{again_came, entry_came}
+use Rattle.writable_pages.specs.Pages as pages
+use Rattle.writable_pages.specs.Pages.{GotPage, TookPage}
+use Rattle.entry_locks.specs.Plain.{with_lock}
+use Rattle.entry_locks.specs.declared.locking.Locked.{Locked}
+use Rattle.entry_locks.specs.declared.locking.Locked.TheVariants.{Table, Other}
+use Rattle.mmu_update.specs.Course.{TriedLock}
+use Rattle.flush_waits.specs.Waiting.{IsWait}
+use Rattle.course_laws.specs.Courses.{IsFinal}
+use Rattle.table_entries.specs.Acquiring.{GaveType}
+use Rattle.xp_board.specs.declared.step.Act.TheVariants.{Add}
+use Rattle.xp_board.specs.RefSteps.{one_down}
+use Rattle.frame_words.specs.Plain.{stamp_now}
+use Rattle.frame_types.specs.Plain.{dropped_plain}
+use Rattle.solo_entries.proofs.Taking.{IsEnded}
 use Rattle.solo_entries.proofs.Standing.{put_same}
 use Rattle.xp_board.specs.Acts.{left_by}
 use Rattle.kind_words.specs.Kinds.{partial_kind, dead_kind}
@@ -293,6 +307,42 @@ module _ (s k : ℕ) (four : k ≢ 4) (five : k ≢ 5) where
 
   pub had_keeps : (v : PortValue) (f owner level : ℕ) (w : PortValue) (answers : List Bool) (g : ℕ) → Acquired v f owner level w answers (Ok g) → Keeps v w
   had_keeps v f owner level w answers g a = had_by v f owner level w answers (Ok g) a
+
+  -- ---- ordinary memory, that is had or refused for what words say
+  pub page_keeps : (v w : PortValue) (f owner : ℕ) (r : Result (Unit {0}) Stop) → TookPage v f owner w r → IsEnded r → Keeps v w
+  page_keeps v w f owner _ (pages.counted _ type) ended = type_keeps v w f owner 0 _ type
+  page_keeps v w f owner _ (pages.untyped u _ stop type back) ended = keeps_then (type_keeps v u f owner 0 _ type) (gave_keeps u w f back)
+  page_keeps v w f owner _ (pages.waiting u _ own stamp stop type left) ended = absurd (never stop type.waits.0 ended)
+    where
+      never : (e : Stop) → IsWait e → IsFinal e → ⊥
+      never (Refused (refusals.Clock x)) wait final = final
+      never (Refused _) wait final = wait
+      never (Paused x) wait final = final
+
+  pub got_page_keeps : (v w : PortValue) (f owner : ℕ) (r : Result ℕ Stop) → GotPage v f owner w r → IsEnded r → Keeps v w
+  got_page_keeps v w f owner _ (pages.unreferred _ stop ref) ended = ref_keeps v w f owner _ ref
+  got_page_keeps v w f owner _ (pages.refused u _ stop ref took) ended = keeps_then (ref_keeps v u f owner _ ref) (page_keeps u w f owner (Err stop) took ended)
+  got_page_keeps v w f owner _ (pages.had u _ ref took) ended = keeps_then (ref_keeps v u f owner _ ref) (page_keeps u w f owner (Ok tt) took tt)
+
+  dropped_by : (b : Bool) (f : ℕ) (j : KindWord) (m : Words) → Same m (if b then set_kind f j (change (Add one_down) (Kind f) m) else change (Add one_down) (Kind f) m)
+  dropped_by true f j m = refl
+  dropped_by false f j m = refl
+
+  pub gave_type_keeps : (v w : PortValue) (f : ℕ) (t : PageType) → GaveType v w f t → Keeps v w
+  gave_type_keeps v w f t a =
+      let m = told_word v in
+      let b = (kind_fields (m (Kind f))).number == 1 in
+      let j = dead_kind t false (stamp_now m) in
+      keeps_by v w (does_came v w _ a.found)
+      (λ telling. by_leaves w m (dropped_plain f t m) (a.plain telling) (put_same f (if b then set_kind f j (change (Add one_down) (Kind f) m) else change (Add one_down) (Kind f) m) (Vcpu s k) refl ∙ dropped_by b f j m))
+
+  -- a lock that is tried
+  pub locked_keeps : (v w : PortValue) (f owner : ℕ) (r : Result Locked Stop) → TriedLock v w f owner r → Keeps v w
+  locked_keeps v w f owner (Ok (Table level found)) a = keeps_by v w (does_came v w _ a.found) (λ telling. by_leaves w (told_word v) (with_lock f (told_word v)) (a.plain telling).3 refl)
+  locked_keeps v w f owner (Ok (Other found)) a = keeps_by v w (does_came v w _ a.found) (λ telling. (a.plain telling).3 (Vcpu s k))
+  locked_keeps v w f owner (Err (Paused (Busy g found))) a = keeps_by v w (does_came v w _ a.found) (λ telling. (a.plain telling).3 (Vcpu s k))
+  locked_keeps v w f owner (Err (Paused _)) a = λ telling. absurd (a.plain telling)
+  locked_keeps v w f owner (Err (Refused x)) a = λ telling. absurd (a.plain telling)
 
   -- ---- it is left, and the word is not the first old one
   module _ (two : k ≢ 2) where

@@ -1,5 +1,5 @@
 -- Small facts of ports that stand to a plain value.
-use Rattle.std.proofs.Common.{◌≡◌, ◌==◌, ℕ, Bool, true, false, if◌then◌else◌, refl, sym, ap, ◌∙◌}
+use Rattle.std.proofs.Common.{◌≡◌, ◌==◌, ℕ, Bool, true, false, if◌then◌else◌, refl, sym, ap, ◌∙◌, List, subst}
 use Rattle.xp_words.specs.declared.place.Place.{Place}
 use Rattle.xp_words.specs.declared.place.Place.TheVariants.{Cell, Kind, Life, M2p, Priv, Vcpu, Refs, Map, Pages, Clock}
 use Rattle.xp_words.specs.Machine.{Machine}
@@ -12,9 +12,17 @@ use Rattle.step_maker.proofs.Alikes.{same_alike}
 use Rattle.step_maker.proofs.Coming.{came_post}
 use Rattle.step_maker.specs.Holds.{Rests}
 use Rattle.frame_words.specs.Plain.{lowered, put, set_free}
-use Rattle.script_law.specs.Values.{Solo}
-use Rattle.solo_ports.specs.Standing.{Clean, Owes, StaysAlike, nothing}
+use Rattle.script_law.specs.Values.{Solo, with_frames}
+use Rattle.solo_ports.proofs.Staying.{stands_stay}
+use Rattle.table_words.specs.OldWords.{old_place}
+use Rattle.table_words.specs.declared.old_words.OldWord.TheVariants.{First, Second}
+use Rattle.solo_ports.specs.Standing.{Clean, Owes, nothing, Stands, IsQuiet, IsUnkept}
+use Rattle.solo_ports.proofs.Along.{clean_on}
+use Rattle.step_maker.specs.Twins.{Alike}
 use Rattle.solo_entries.proofs.Known.{Known}
+use Rattle.table_law.specs.Plain.{Plain, Describes}
+use Rattle.step_maker.specs.Asked.{Request}
+use Rattle.step_maker.specs.Answers.{Deed, Serves}
 
 -- ---- a reference that is given back changes the word of the frame, the map and a count of pages
 abbrev pub is_counting : Place → Bool
@@ -49,8 +57,23 @@ put_same f m q off = put_by (ref_count (m (Refs f)) == 1) f (owner_number (owner
 pub machine_same : (v w : PortValue) → Came v w → w.post.machine ≡ v.post.machine
 machine_same v w came = ap (λ (q : Post). q.machine) (came_post v w came)
 
-pub clean_same : Known → (v w : PortValue) (x : Solo) → Clean v x → Came v w → Leaves w (told_word v) → Rests w → Clean w x
-clean_same k v w x clean came leaves rests = k.on v w x clean (record { came = came; words = same_alike (told_word w) (told_word v) leaves; empty = rests.empty })
+pub clean_same : Known → (v w : PortValue) (x : Solo) → Clean v x → Came v w → Alike (told_word w) (told_word v) → Rests w → Clean w x
+clean_same k v w x clean came alike rests = clean_on k.stays v w x (record { came = came; words = alike; empty = rests.empty }) clean
 
 pub owes_same : Known → (v w : PortValue) (x : Solo) → Clean v x → Came v w → Leaves w (told_word v) → Rests w → Owes w x
-owes_same k v w x clean came leaves rests = nothing (clean_same k v w x clean came leaves rests)
+owes_same k v w x clean came leaves rests = nothing (clean_same k v w x clean came (same_alike (told_word w) (told_word v) leaves) rests)
+
+-- ---- other frames
+-- behind a call that is quiet, with nothing in hand, the second old word names no frame
+pub stands_with : Known → (v w : PortValue) (x : Solo) (p : Plain) (r : Request) (ds : List Deed) → Stands v x → Serves v w r ds → IsQuiet v.post.vcpu r ds → Rests w → told_word w (old_place v.post.vcpu Second) ≡ told_word v (old_place v.post.vcpu Second) →
+    IsUnkept v.post.machine p → Stands w (with_frames p x)
+stands_with k v w x p r ds stands serves quiet rests second unkept = stands_stay k.stays v w x p r ds stands serves quiet rests.empty (second ∙ stands.second) unkept
+
+pub clean_with : Known → (v w : PortValue) (x : Solo) (p : Plain) → Clean v x → Came v w → Stands w (with_frames p x) → told_word w (old_place v.post.vcpu First) ≡ told_word v (old_place v.post.vcpu First) → Describes v.post.machine (told_word w) p → Clean w (with_frames p x)
+clean_with k v w x p clean came stands first d =
+    let same = came_post v w came in
+    record {
+      stands = stands;
+      first = subst (λ (q : Post). told_word w (old_place q.vcpu First) ≡ 0) (sym same) (first ∙ clean.first);
+      frames = subst (λ (q : Post). Describes q.machine (told_word w) p) (sym same) d;
+    }
