@@ -6,3 +6,4 @@ mod Taking
 mod Serving
 mod Stopping
 mod Memory
+mod Holding
