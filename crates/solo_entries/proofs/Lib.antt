@@ -7,3 +7,4 @@ mod Serving
 mod Stopping
 mod Memory
 mod Holding
+mod Locking
