@@ -8,3 +8,4 @@ mod Stopping
 mod Memory
 mod Holding
 mod Locking
+mod Demanding

@@ -68,6 +68,18 @@ use Rattle.xp_board.specs.Acts.{left_by}
 use Rattle.kind_words.specs.Kinds.{partial_kind, dead_kind}
 use Rattle.xp_board.proofs.PlaceTests.{is_same-other}
 
+pub two_four : ◌≢◌ {A = ℕ} 2 4
+two_four e = absurd cc
+
+pub two_five : ◌≢◌ {A = ℕ} 2 5
+two_five e = absurd cc
+
+pub three_four : ◌≢◌ {A = ℕ} 3 4
+three_four e = absurd cc
+
+pub three_five : ◌≢◌ {A = ℕ} 3 5
+three_five e = absurd cc
+
 -- word k of vCPU s, which is no word of flushes
 module _ (s k : ℕ) (four : k ≢ 4) (five : k ≢ 5) where
   -- what is told stays told, and that word is the same
@@ -393,3 +405,10 @@ module _ (s k : ℕ) (four : k ≢ 4) (five : k ≢ 5) where
         keeps_then (ref_keeps v u f owner _ ref) (keeps_then (type_keeps u x f owner level _ type) (keeps_then (worked_keeps owner x _ y us answers (Err stop) work) (unwound_keeps y owner us _ w left)))
     acquired_keeps v f owner level _ _ _ (finished u x y w progress own t answers ref type work full made) =
         keeps_then (ref_keeps v u f owner _ ref) (keeps_then (type_keeps u x f owner level _ type) (keeps_then (worked_keeps owner x _ y _ answers (Ok tt) work) (live_keeps y w t made)))
+
+-- the two old words
+abbrev pub KeepsFirst : PortValue → PortValue → Type 0
+KeepsFirst v w = Keeps v.post.vcpu 2 two_four two_five v w
+
+abbrev pub KeepsSecond : PortValue → PortValue → Type 0
+KeepsSecond v w = Keeps v.post.vcpu 3 three_four three_five v w
