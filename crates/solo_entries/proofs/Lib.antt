@@ -9,3 +9,4 @@ mod Memory
 mod Holding
 mod Locking
 mod Demanding
+mod Released

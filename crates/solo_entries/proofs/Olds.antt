@@ -83,7 +83,7 @@ three_five e = absurd cc
 -- word k of vCPU s, which is no word of flushes
 module _ (s k : ℕ) (four : k ≢ 4) (five : k ≢ 5) where
   -- what is told stays told, and that word is the same
-  abbrev Same : Words → Words → Type 0
+  abbrev pub Same : Words → Words → Type 0
   Same m l = l (Vcpu s k) ≡ m (Vcpu s k)
 
   pub record Kept (v w : PortValue) : Type 0 where
@@ -102,17 +102,17 @@ module _ (s k : ℕ) (four : k ≢ 4) (five : k ≢ 5) where
   pub keeps_by : (v w : PortValue) → Came v w → (is_telling v ≡ true → Same (told_word v) (told_word w)) → Keeps v w
   keeps_by v w came same telling = record { tells = came_telling v w came ∙ telling; same = same telling }
 
-  by_leaves : (w : PortValue) (m l : Words) → Leaves w l → Same m l → Same m (told_word w)
+  pub by_leaves : (w : PortValue) (m l : Words) → Leaves w l → Same m l → Same m (told_word w)
   by_leaves w m l leaves same = leaves (Vcpu s k) ∙ same
 
-  by_alike : (w : PortValue) (m l : Words) → Alike (told_word w) l → Same m l → Same m (told_word w)
+  pub by_alike : (w : PortValue) (m l : Words) → Alike (told_word w) l → Same m l → Same m (told_word w)
   by_alike w m l alike same = alike (Vcpu s k) four five ∙ same
 
   pub moves_keeps : (v w : PortValue) (p : Place) (a : Act) (kind : StepKind) (mark : Option Mark) (found : ℕ) → Moves v w p a kind mark found → Vcpu s k ≢ p → Keeps v w
   moves_keeps v w p a kind mark found step off = keeps_by v w (moves_came v w p a kind mark found step) (λ telling. told_elsewhere v w p a kind mark found step (Vcpu s k) off)
 
   -- ---- lists of visits
-  abbrev Elsewhere : Visit → Type 0
+  abbrev pub Elsewhere : Visit → Type 0
   Elsewhere x = Vcpu s k ≢ x.place
 
   after_same : (m : Words) (vs : List Visit) → EachOf Elsewhere vs → Same m (words_after m vs)
@@ -133,7 +133,7 @@ module _ (s k : ℕ) (four : k ≢ 4) (five : k ≢ 5) where
   gave_keeps v w f a = keeps_by v w (gave_came v w f a) (λ telling. by_leaves w (told_word v) (put f (told_word v)) (a.plain telling) (put_same f (told_word v) (Vcpu s k) refl))
 
   -- ---- types
-  less_by : (b : Bool) (f : ℕ) (m : Words) → Same m (if b then put f m else m)
+  pub less_by : (b : Bool) (f : ℕ) (m : Words) → Same m (if b then put f m else m)
   less_by true f m = put_same f m (Vcpu s k) refl
   less_by false f m = refl
 
@@ -252,7 +252,7 @@ module _ (s k : ℕ) (four : k ≢ 4) (five : k ≢ 5) where
   joined_keeps v w t outer false a = moves_keeps v w Clock _ _ _ _ a.1 (λ e. cc)
 
   -- a frame that waits
-  stores_apart : (f : ℕ) (j : KindWord) → Alls Elsewhere (StoresKind f j)
+  pub stores_apart : (f : ℕ) (j : KindWord) → Alls Elsewhere (StoresKind f j)
   stores_apart f j vs a = alls_one Elsewhere _ (λ e. cc) vs a.1
 
   frees_apart : (f : ℕ) (last : Option ℕ) → Alls Elsewhere (FreesBy f last)
@@ -260,10 +260,10 @@ module _ (s k : ℕ) (four : k ≢ 4) (five : k ≢ 5) where
   frees_apart f (Some owner) vs (clock, b, y, z, is) = subst (EachOf Elsewhere) (sym is) ((λ e. cc), ((λ e. cc), ((λ e. cc), ((λ e. cc), tt))))
   frees_apart f None vs is = alls_nothing Elsewhere vs is
 
-  puts_apart : (f : ℕ) → Alls Elsewhere (PutBy f)
+  pub puts_apart : (f : ℕ) → Alls Elsewhere (PutBy f)
   puts_apart f vs a = alls_then Elsewhere _ _ (alls_one Elsewhere _ (λ e. cc)) (frees_apart f a.last) vs a.steps
 
-  does_keeps : (v w : PortValue) (P : List Visit → Type 0) → Alls Elsewhere P → Does v w P → Keeps v w
+  pub does_keeps : (v w : PortValue) (P : List Visit → Type 0) → Alls Elsewhere P → Does v w P → Keeps v w
   unfolding Does
   does_keeps v w P all a =
       keeps_by v w (does_came v w P a) (λ telling. by_leaves w (told_word v) (words_after (told_word v) (visits a.0)) (told_ran v w a.0 a.1 telling).1 (after_same (told_word v) (visits a.0) (all (visits a.0) a.2)))
@@ -336,7 +336,7 @@ module _ (s k : ℕ) (four : k ≢ 4) (five : k ≢ 5) where
   got_page_keeps v w f owner _ (pages.refused u _ stop ref took) ended = keeps_then (ref_keeps v u f owner _ ref) (page_keeps u w f owner (Err stop) took ended)
   got_page_keeps v w f owner _ (pages.had u _ ref took) ended = keeps_then (ref_keeps v u f owner _ ref) (page_keeps u w f owner (Ok tt) took tt)
 
-  dropped_by : (b : Bool) (f : ℕ) (j : KindWord) (m : Words) → Same m (if b then set_kind f j (change (Add one_down) (Kind f) m) else change (Add one_down) (Kind f) m)
+  pub dropped_by : (b : Bool) (f : ℕ) (j : KindWord) (m : Words) → Same m (if b then set_kind f j (change (Add one_down) (Kind f) m) else change (Add one_down) (Kind f) m)
   dropped_by true f j m = refl
   dropped_by false f j m = refl
 
