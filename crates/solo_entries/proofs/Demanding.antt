@@ -53,13 +53,20 @@ pub record RefusedSo (n : Machine) (w : PortValue) (y : Refusal) (a : PlainOutco
   pub same : IsCause y cause
   pub left : LeftAs n w a.left
 
-abbrev pub ComesSo : {A : Type 0} → Machine → PortValue → PlainOutcome → Result A Stop → Type 0
+-- what a whole exchange comes to
+abbrev pub ComesSo : Machine → PortValue → PlainOutcome → Result (Unit {0}) Stop → Type 0
 ComesSo n w a (Ok done) = (a.refusal ≡ None) × LeftAs n w a.left
 ComesSo n w a (Err (Refused y)) = RefusedSo n w y a
 ComesSo n w a (Err (Paused x)) = ⊥
 
-pub ends_comes : {A : Type 0} (n : Machine) (w : PortValue) (a : PlainOutcome) (r : Result A Stop) → told_word w (old_place w.post.vcpu First) ≡ 0 → EndsSo n w a r → ComesSo n w a r
-ends_comes n w a (Ok done) first e = (e.0, now first e.1)
+-- what is taken: then nothing is left to be settled
+abbrev pub TookSo : {A : Type 0} → Machine → PortValue → PlainOutcome → Result A Stop → Type 0
+TookSo n w a (Ok done) = (a.refusal ≡ None) × (told_word w (old_place w.post.vcpu First) ≡ 0) × Describes n (told_word w) a.left
+TookSo n w a (Err (Refused y)) = RefusedSo n w y a
+TookSo n w a (Err (Paused x)) = ⊥
+
+pub ends_comes : {A : Type 0} (n : Machine) (w : PortValue) (a : PlainOutcome) (r : Result A Stop) → told_word w (old_place w.post.vcpu First) ≡ 0 → EndsSo n w a r → TookSo n w a r
+ends_comes n w a (Ok done) first e = (e.0, first, e.1)
 ends_comes n w a (Err (Refused y)) first e = record { cause = e.cause; is = e.is; same = e.same; left = now first e.describes }
 ends_comes n w a (Err (Paused x)) first e = e
 
@@ -72,8 +79,8 @@ abbrev HadFirst : PortValue → Result ℕ Stop → Type 0
 HadFirst w (Ok g) = told_word w (old_place w.post.vcpu First) ≡ 0
 HadFirst w (Err e) = Unit {0}
 
-comes_so : (n : Machine) (w : PortValue) (f level : ℕ) (a : PlainOutcome) (r : Result ℕ Stop) → HadFirst w r → ComesTo n w f level a r → ComesSo n w a r
-comes_so n w f level a (Ok g) first c = (c.0, now first c.1)
+comes_so : (n : Machine) (w : PortValue) (f level : ℕ) (a : PlainOutcome) (r : Result ℕ Stop) → HadFirst w r → ComesTo n w f level a r → TookSo n w a r
+comes_so n w f level a (Ok g) first c = (c.0, first, c.1)
 comes_so n w f level a (Err (Refused y)) first c = record { cause = c.cause; is = c.is; same = c.same; left = owes_left n w f level a.left c.owes }
 comes_so n w f level a (Err (Paused x)) first c = c
 
@@ -90,7 +97,7 @@ abbrev as_demand : Result ℕ Stop → Result (Unit {0}) Stop
 as_demand (Ok g) = Ok tt
 as_demand (Err e) = Err e
 
-done_as : (n : Machine) (w : PortValue) (a : PlainOutcome) (r : Result ℕ Stop) → ComesSo n w a r → ComesSo n w a (as_demand r)
+done_as : (n : Machine) (w : PortValue) (a : PlainOutcome) (r : Result ℕ Stop) → TookSo n w a r → TookSo n w a (as_demand r)
 done_as n w a (Ok g) c = c
 done_as n w a (Err (Refused y)) c = c
 done_as n w a (Err (Paused x)) c = c
@@ -147,7 +154,7 @@ module _ (k : Known) (v : PortValue) (owner : ℕ) (p : Plain) (machine : IsMach
   page_came g _ _ (pages.refused u w stop ref took) = came_trans v u w (ref_came v u g owner (Ok g) ref) (took_page_came u g owner w (Err stop) took)
   page_came g _ _ (pages.had u w ref took) = came_trans v u w (ref_came v u g owner (Ok g) ref) (took_page_came u g owner w (Ok tt) took)
 
-  page_comes : (g : ℕ) (w : PortValue) (r : Result ℕ Stop) → GotPage v g owner w r → ClockGoesOn v w → ComesSo n w (alone n owner 0 g p) r
+  page_comes : (g : ℕ) (w : PortValue) (r : Result ℕ Stop) → GotPage v g owner w r → ClockGoesOn v w → TookSo n w (alone n owner 0 g p) r
   page_comes g w r page goes =
       let ended = ended_by k v w r alone_v only goes (page_stops v g owner w r page) in
       ends_comes n w (alone n owner 0 g p) r (first_there w (page_came g w r page) (got_page_keeps v.post.vcpu 2 two_four two_five v w g owner r page ended)) (page_got g w r page ended)
@@ -157,7 +164,7 @@ module _ (k : Known) (v : PortValue) (owner : ℕ) (p : Plain) (machine : IsMach
   had_first g l w answers (Ok h) a = first_there w (acquired_came v g owner l w answers (Ok h) a) (had_keeps v.post.vcpu 2 two_four two_five v g owner l w answers h a)
   had_first g l w answers (Err e) a = tt
 
-  table_comes : (g l : ℕ) (w : PortValue) (answers : List Bool) (r : Result ℕ Stop) → 1 ≤ l → l ≤ 4 → Acquired v g owner l w answers r → ClockGoesOn v w → (r ≡ Err (Paused Due)) ⊎ ComesSo n w (alone n owner l g p) r
+  table_comes : (g l : ℕ) (w : PortValue) (answers : List Bool) (r : Result ℕ Stop) → 1 ≤ l → l ≤ 4 → Acquired v g owner l w answers r → ClockGoesOn v w → (r ≡ Err (Paused Due)) ⊎ TookSo n w (alone n owner l g p) r
   table_comes g l w answers r low high a goes = elim (k.first v w g owner l p answers r alone_v only calm first low high d a goes) [
     | inl due ↦ inl due
     | inr comes ↦ inr (comes_so n w g l (alone n owner l g p) r (had_first g l w answers r a) comes)
@@ -166,13 +173,13 @@ module _ (k : Known) (v : PortValue) (owner : ℕ) (p : Plain) (machine : IsMach
   -- ---- what the word asks
   module _ (level f i : ℕ) (high : level ≤ 4) where
     abbrev MeetsSo : PortValue → Demand → Result (Unit {0}) Stop → Type 0
-    MeetsSo w e r = ComesSo v.post.machine w (meet v.post.machine owner (take_at (level - 1) v.post.machine owner) f i p e) r
+    MeetsSo w e r = TookSo v.post.machine w (meet v.post.machine owner (take_at (level - 1) v.post.machine owner) f i p e) r
 
-    at_one : (g : ℕ) (w : PortValue) (r : Result (Unit {0}) Stop) → level ≡ 1 → ComesSo n w (alone n owner 0 g p) r → ComesSo n w (alone n owner (level - 1) g p) r
-    at_one g w r one is = let e : 0 ≡ level - 1 = omega (arith, one) in subst (λ l. ComesSo n w (alone n owner l g p) r) e is
+    at_one : (g : ℕ) (w : PortValue) (r : Result (Unit {0}) Stop) → level ≡ 1 → TookSo n w (alone n owner 0 g p) r → TookSo n w (alone n owner (level - 1) g p) r
+    at_one g w r one is = let e : 0 ≡ level - 1 = omega (arith, one) in subst (λ l. TookSo n w (alone n owner l g p) r) e is
 
     pub demand_comes : (e : Demand) (w : PortValue) (answers : List Bool) (r : Result (Unit {0}) Stop) → TookDemand owner level v e w answers r → ClockGoesOn v w → PausedDemand v owner level e w answers r ⊎ MeetsSo w e r
-    demand_comes _ _ _ _ course.nothing goes = inr (refl, now first d)
+    demand_comes _ _ _ _ course.nothing goes = inr (refl, first, d)
     demand_comes _ _ _ _ (course.referred w g ref) goes =
         inr (ends_comes {A = Unit {0}} n w (take_reference n owner g p) (Ok tt) (first_there w (ref_came v w g owner (Ok g) ref) (ref_keeps v.post.vcpu 2 two_four two_five v w g owner (Ok g) ref)) (ref_had g w ref))
     demand_comes _ _ _ _ (course.unreferred w g stop ref) goes =

@@ -10,3 +10,4 @@ mod Holding
 mod Locking
 mod Demanding
 mod Released
+mod Exchanging

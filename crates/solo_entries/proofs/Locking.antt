@@ -255,7 +255,7 @@ module _ (k : Known) (v u y : PortValue) (p : Plain) (owner f level found : ℕ)
 
 -- ---- a lock goes off
 -- what that comes to, where the table has more than one type count
-unlocked_off : (level f : ℕ) (q : Plain) → IsHeld f q → unlocked_plain level f q ≡ off f q
+pub unlocked_off : (level f : ℕ) (q : Plain) → IsHeld f q → unlocked_plain level f q ≡ off f q
 unlocked_off level f q held =
     let many = held.several in
     let other : ((q.kinds f).number == 1) ≡ false = grind (arith, nat_tests) in

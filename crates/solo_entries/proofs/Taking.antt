@@ -73,7 +73,7 @@ module _ (n : Machine) (owner g : ℕ) (p : Plain) where
   left_by true c is = left_of (p.shares g) c is
   left_by false c is = refl
 
-  refused_left : (c : Cause) → (take_reference n owner g p).refusal ≡ Some c → (take_reference n owner g p).left ≡ p
+  pub refused_left : (c : Cause) → (take_reference n owner g p).refusal ≡ Some c → (take_reference n owner g p).left ≡ p
   refused_left c is = left_by (nat_lt g n.frames) c is
 
 -- ---- from words at rest, which any plain value describes

@@ -1,0 +1,137 @@
+-- The exchange of an entry of a locked table, from where its word was looked at.
+use Rattle.std.proofs.lemmas.Bool.{cases_Bool}
+use Rattle.kind_words.proofs.KindFacts.{live_undead}
+use Rattle.std.proofs.Common.{nat_lt, nat_le, ◌==◌, not, if◌then◌else◌, ◌≡◌, ◌≢◌, ◌⊎◌, ◌≤◌, ◌<◌, ℕ, suc, ◌-◌, Bool, true, false, List, [], ◌++◌, length, Option, Some, None, Result, Ok, Err, refl, sym, ap, ◌∙◌, subst, arith, inl, inr, ◌+◌}
+use Rattle.xp_words.specs.Entries.{demand_at}
+use Rattle.xp_words.specs.Machine.{IsMachine, Machine}
+use Rattle.xp_words.specs.declared.entry.Demand.{Demand}
+use Rattle.xp_words.specs.declared.entry.Demand.TheVariants as demands
+use Rattle.xp_words.specs.declared.kind.PageType.{PageType}
+use Rattle.xp_words.specs.declared.place.Place.{Place}
+use Rattle.xp_words.specs.declared.place.Place.TheVariants.{Kind, Vcpu}
+use Rattle.xp_words.specs.declared.reply.Refusal.{Refusal}
+use Rattle.xp_words.specs.declared.reply.Refusal.TheVariants as refusals
+use Rattle.xp_words.specs.declared.reply.Stop.{Stop}
+use Rattle.xp_words.specs.declared.reply.Stop.TheVariants.{Refused, Paused}
+use Rattle.xp_board.specs.CellSteps.{is_same_demand}
+use Rattle.xp_board.specs.Told.{Post, PortValue, is_telling, told_word}
+use Rattle.step_maker.specs.Moves.{Came}
+use Rattle.step_maker.proofs.Coming.{came_post, came_trans, moves_came}
+use Rattle.step_maker.proofs.Telling.{came_telling}
+use Rattle.answer_laws.specs.Alone.{IsAlone}
+use Rattle.answer_laws.proofs.Shared.{alone_telling}
+use Rattle.entry_exchange.specs.Course as course
+use Rattle.entry_exchange.specs.Course.{Exchanged, LeftLock, PutsNew, ReleasedDemand, SawEntry, TookDemand, TookNew, new_demand, old_demand}
+use Rattle.entry_exchange.specs.Holding.{owner_at}
+use Rattle.entry_exchange.specs.Words.{same_demand, word_kept}
+use Rattle.entry_exchange.specs.declared.exchanging.EntryUpdate.{EntryUpdate}
+use Rattle.exchange_laws.specs.Plain.{exchanged_plain, place_in}
+use Rattle.exchange_laws.proofs.Unlocking.{lock_came}
+use Rattle.foreign_map.specs.declared.owners.Owners.{Owners}
+use Rattle.partial_state.specs.Levels.{level_type}
+use Rattle.table_law.specs.Alone.{Cause, PlainOutcome, alone, back_or, fine, meet, refused, take_at, take_reference, take_reference_of}
+use Rattle.table_law.specs.Exchange.{exchange_by, exchange_for, put_on, unlocked_plain, with_cell}
+use Rattle.table_law.specs.Plain.{Describes, Plain, reference_back, Share, sober}
+use Rattle.table_law.specs.Release.{drop_demand, let_go}
+use Rattle.table_law.specs.Undone.{CountsSome, IsSameButType, IsSameButTypes}
+use Rattle.table_law.proofs.ReturningTables.{refused_same, released_same}
+use Rattle.table_words.specs.OldWords.{old_place}
+use Rattle.table_words.specs.declared.old_words.OldWord.TheVariants.{First, Second}
+use Rattle.release_laws.specs.Pauses.{IsLeft}
+use Rattle.solo_entries.proofs.Demanding.{ComesSo, LeftAs, RefusedSo, TookSo, later, now}
+use Rattle.solo_entries.proofs.Holding.{IsHeld, back_go, go_passes, off}
+use Rattle.solo_entries.proofs.Known.{Known}
+use Rattle.solo_entries.proofs.Locking.{lock_goes, lock_leaves, unlocked_off}
+use Rattle.solo_entries.proofs.Taking.{refused_left}
+use Rattle.xp_words.specs.declared.kind.KindWord.{KindWord}
+use Rattle.solo_entries.proofs.Standing.{is_counting}
+use Rattle.xp_words.specs.KindWords.{kind_fields}
+use Rattle.table_law.proofs.Describing.{sober_live}
+
+-- ---- a table that is held stays held behind what is taken, and behind what is refused
+held_same : (f : ℕ) (p q : Plain) → IsSameButType (p.kinds f) (q.kinds f) → IsHeld f p → IsHeld f q
+held_same f p q (inl same) held =
+    record { live = ap (λ (k : KindWord). k.validated) same ∙ held.live; several = subst (λ (k : KindWord). 2 ≤ k.number) (sym same) held.several }
+held_same f p q (inr dead) held = absurd (let a : false ≡ true = sym (live_undead (p.kinds f) held.live) ∙ dead.0 in cc)
+
+module _ (n : Machine) (owner f : ℕ) (p : Plain) (counts : CountsSome n p) (held : IsHeld f p) where
+  held_alone : (l g : ℕ) → IsHeld f (alone n owner l g p).left
+  held_alone l g = by (alone n owner l g p).refusal refl
+    where
+      by : (r : Option Cause) → (alone n owner l g p).refusal ≡ r → IsHeld f (alone n owner l g p).left
+      by None none = back_go f l g (alone n owner l g p).left (held_same f p (let_go l g (alone n owner l g p).left) ((released_same n owner l g p counts none).kinds f) held)
+      by (Some c) is = held_same f p (alone n owner l g p).left ((refused_same n owner l g p c counts is).kinds f) held
+
+  kinds_of : (g : ℕ) (o : Option Share) → (take_reference_of n owner g p o).left.kinds ≡ p.kinds
+  kinds_of g None = refl
+  kinds_of g (Some s) = elim (cases_Bool (s.owner == owner)) [
+    | inr apart ↦ rw apart refl
+    | inl own ↦ rw own (elim (cases_Bool (nat_le n.limit s.count)) [ inl full ↦ rw full refl | inr room ↦ rw room refl ])
+  ]
+
+  kinds_reference : (g : ℕ) → (take_reference n owner g p).left.kinds ≡ p.kinds
+  kinds_reference g = elim (cases_Bool (nat_lt g n.frames)) [
+    | inl inside ↦ rw inside (kinds_of g (p.shares g))
+    | inr out ↦ rw out refl
+  ]
+
+  held_reference : (g : ℕ) → IsHeld f (take_reference n owner g p).left
+  held_reference g = held_same f p (take_reference n owner g p).left (inl (ap (λ (j : ℕ → KindWord). j f) (kinds_reference g))) held
+
+  pub held_meet : (l h i : ℕ) (d : Demand) → IsHeld f (meet n owner (take_at l n owner) h i p d).left
+  held_meet l h i demands.Nothing = held
+  held_meet l h i demands.Bad = held
+  held_meet l h i (demands.Read g) = held_reference g
+  held_meet l h i (demands.Typed g t) = held_alone l g
+
+-- ---- the lock goes off, behind what was refused
+module _ (k : Known) (n : Machine) (z w : PortValue) (f level : ℕ) (q : Plain) (same : z.post.machine ≡ n) (telling : is_telling z ≡ true) (low : 1 ≤ level) (held : IsHeld f q) (off_it : LeftLock z f level w) where
+  came : Came z w
+  came = lock_came z w f level off_it
+
+  post_same : w.post ≡ z.post
+  post_same = came_post z w came
+
+  -- the plain value whose words are there
+  word_same : (p : Plain) → Describes n (told_word z) p → IsHeld f p → (x : Place) → is_counting x ≡ false → x ≢ Kind f → told_word w x ≡ told_word z x
+  word_same p d h x calm apart = lock_leaves n z w f level p same telling d h off_it x calm apart
+
+  unlocked_now : told_word z (old_place z.post.vcpu First) ≡ 0 → Describes n (told_word z) q → LeftAs n w (off f q)
+  unlocked_now first d =
+      now (subst (λ (o : Post). told_word w (old_place o.vcpu First) ≡ 0) (sym post_same) (word_same q d held (old_place z.post.vcpu First) refl (λ e. cc) ∙ first)) (lock_goes n z w f level q same telling d held low off_it)
+
+  -- an unfinished release of frame g, which is another one
+  unlocked_later : (g l : ℕ) → IsLeft n z g l q → LeftAs n w (off f q)
+  unlocked_later g l left =
+      let p = left.plain in
+      let h : IsHeld f p = back_go f l g p (subst (IsHeld f) (sym left.left) held) in
+      let apart : g ≢ f = λ e. (
+        let a : p.kinds f ≡ sober (kind_fields (told_word z (Kind g))) = ap p.kinds (sym e) ∙ left.describes.kinds g left.inside in
+        let b : (p.kinds f).validated ≡ false = ap (λ (j : KindWord). j.validated) a ∙ (sober_live (kind_fields (told_word z (Kind g))) ∙ ap (λ (j : KindWord). j.validated) left.word) in
+        let c : false ≡ true = sym b ∙ h.live in
+        cc) in
+      later g l
+      (record {
+        machine = ap (λ (o : Post). o.machine) post_same ∙ left.machine;
+        telling = came_telling z w came ∙ left.telling;
+        plain = off f p;
+        describes = lock_goes n z w f level p same telling left.describes h low off_it;
+        held = left.held;
+        few = left.few;
+        stamp = left.stamp;
+        word = ap kind_fields (word_same p left.describes h (Kind g) refl (λ e. apart cc)) ∙ left.word;
+        inside = left.inside;
+        low = left.low;
+        high = left.high;
+        left = go_passes f l g p (subst (IsHeld f) (sym left.left) held) ∙ ap (off f) left.left;
+        named = subst (λ (o : Post). told_word w (old_place o.vcpu First) ≡ g + 1) (sym post_same) (word_same p left.describes h (old_place z.post.vcpu First) refl (λ e. cc) ∙ left.named);
+      })
+
+  pub unlocked_left : LeftAs n z q → LeftAs n w (off f q)
+  unlocked_left (now first d) = unlocked_now first d
+  unlocked_left (later g l left) = unlocked_later g l left
+
+  -- the second old word, too
+  pub unlocked_second : LeftAs n z q → told_word w (old_place z.post.vcpu Second) ≡ told_word z (old_place z.post.vcpu Second)
+  unlocked_second (now first d) = word_same q d held (old_place z.post.vcpu Second) refl (λ e. cc)
+  unlocked_second (later g l left) = word_same left.plain left.describes (back_go f l g left.plain (subst (IsHeld f) (sym left.left) held)) (old_place z.post.vcpu Second) refl (λ e. cc)
