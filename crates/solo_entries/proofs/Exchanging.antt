@@ -1,7 +1,7 @@
 -- The exchange of an entry of a locked table, from where its word was looked at.
 use Rattle.std.proofs.lemmas.Bool.{cases_Bool}
 use Rattle.kind_words.proofs.KindFacts.{live_undead}
-use Rattle.std.proofs.Common.{nat_lt, nat_le, ◌==◌, not, if◌then◌else◌, ◌≡◌, ◌≢◌, ◌⊎◌, ◌≤◌, ◌<◌, ℕ, suc, ◌-◌, Bool, true, false, List, [], ◌++◌, length, Option, Some, None, Result, Ok, Err, refl, sym, ap, ◌∙◌, subst, arith, inl, inr, ◌+◌}
+use Rattle.std.proofs.Common.{nat_lt, nat_le, ◌==◌, not, if◌then◌else◌, ◌≡◌, ◌≢◌, ◌⊎◌, ◌≤◌, ◌<◌, ℕ, suc, ◌-◌, Bool, true, false, List, [], ◌++◌, length, Option, Some, None, Result, Ok, Err, refl, sym, ap, ◌∙◌, subst, arith, inl, inr, ◌+◌, IfErr}
 use Rattle.xp_words.specs.Entries.{demand_at}
 use Rattle.xp_words.specs.Machine.{IsMachine, Machine}
 use Rattle.xp_words.specs.declared.entry.Demand.{Demand}
@@ -47,6 +47,15 @@ use Rattle.xp_words.specs.declared.kind.KindWord.{KindWord}
 use Rattle.solo_entries.proofs.Standing.{is_counting}
 use Rattle.xp_words.specs.KindWords.{kind_fields}
 use Rattle.table_law.proofs.Describing.{sober_live}
+use Rattle.level_release.specs.Course as release
+use Rattle.level_release.specs.Course.{WasReleased}
+use Rattle.solo_entries.proofs.Released.{release_done, release_keeps}
+use Rattle.table_entries.proofs.Shared.{gave_came}
+use Rattle.solo_entries.proofs.Olds.{gave_keeps, KeepsFirst, two_four, two_five, KeepsSecond, keeps_self, three_four, three_five, three_two}
+use Rattle.xp_words.specs.declared.reply.Pause.TheVariants.{Due}
+use Rattle.exchange_laws.proofs.Given.{given_back}
+use Rattle.release_laws.proofs.Seen.{drops_seen}
+use Rattle.xp_board.proofs.KindForms.{frame_inside}
 
 -- ---- a table that is held stays held behind what is taken, and behind what is refused
 held_same : (f : ℕ) (p q : Plain) → IsSameButType (p.kinds f) (q.kinds f) → IsHeld f p → IsHeld f q
@@ -135,3 +144,43 @@ module _ (k : Known) (n : Machine) (z w : PortValue) (f level : ℕ) (q : Plain)
   pub unlocked_second : LeftAs n z q → told_word w (old_place z.post.vcpu Second) ≡ told_word z (old_place z.post.vcpu Second)
   unlocked_second (now first d) = word_same q d held (old_place z.post.vcpu Second) refl (λ e. cc)
   unlocked_second (later g l left) = word_same left.plain left.describes (back_go f l g left.plain (subst (IsHeld f) (sym left.left) held)) (old_place z.post.vcpu Second) refl (λ e. cc)
+
+-- ---- a reference, or a typed one, that the old word had is given back
+-- its frame is one of the machine
+released_inside : (v : PortValue) (f : ℕ) (t : PageType) (w : PortValue) (answers : List Bool) (r : Result (Unit {0}) Stop) → is_telling v ≡ true → WasReleased v f t w answers r → f < v.post.machine.frames
+released_inside v f t _ _ _ telling (release.plain w off gave) = (drops_seen v w f t telling gave.found).0.inside
+released_inside v f t _ _ _ telling (release.shared u w on drops gave) = frame_inside v.post.machine f drops.lowers.step.may.place
+released_inside v f t _ _ _ telling (release.last u x w word level answers answer on same high drops look empties) = frame_inside v.post.machine f drops.lowers.step.may.place
+
+module _ (k : Known) (n : Machine) (v : PortValue) (machine : IsMachine n) (same : v.post.machine ≡ n) (telling : is_telling v ≡ true) (l : ℕ) (high : l ≤ 4) (p : Plain) (first : told_word v (old_place v.post.vcpu First) ≡ 0) (d : Describes n (told_word v) p) where
+  first_there : (w : PortValue) → KeepsFirst v w → told_word w (old_place w.post.vcpu First) ≡ 0
+  first_there w keeps = let a = keeps telling in subst (λ (o : Post). told_word w (old_place o.vcpu First) ≡ 0) (sym (came_post v w a.came)) (a.same ∙ first)
+
+  there : Describes v.post.machine (told_word v) p
+  there = subst (λ (j : Machine). Describes j (told_word v) p) (sym same) d
+
+  done_left : (w : PortValue) (g : ℕ) (answers : List Bool) → g < v.post.machine.frames → WasReleased v g (level_type l) w answers (Ok tt) → LeftAs n w (let_go l g p)
+  done_left w g answers inside was =
+      now (first_there w (release_done v.post.vcpu 2 two_four two_five v w g (level_type l) answers was))
+      (subst (λ (j : Machine). Describes j (told_word w) (let_go l g p)) same (k.releases v w g l answers p (subst IsMachine (sym same) machine) telling inside high there was))
+
+  paused_left : (w : PortValue) (g : ℕ) (answers : List Bool) → g < v.post.machine.frames → WasReleased v g (level_type l) w answers (Err (Paused Due)) → LeftAs n w (let_go l g p)
+  paused_left w g answers inside was = later g l (subst (λ (j : Machine). IsLeft j w g l (let_go l g p)) same (k.pauses v w g l answers p telling inside high there was))
+
+  released_left : (w : PortValue) (g : ℕ) (answers : List Bool) (r : Result (Unit {0}) Stop) → WasReleased v g (level_type l) w answers r → IfErr r (λ stop. stop ≡ Paused Due) → LeftAs n w (let_go l g p)
+  released_left w g answers (Ok done) was is = done_left w g answers (released_inside v g (level_type l) w answers (Ok done) telling was) was
+  released_left w g answers (Err stop) was is =
+      paused_left w g answers (released_inside v g (level_type l) w answers (Err stop) telling was) (subst (λ e. WasReleased v g (level_type l) w answers (Err e)) is was)
+
+  pub demand_left : (e : Demand) (w : PortValue) (answers : List Bool) → ((g : ℕ) (t : PageType) → e ≡ demands.Typed g t → t ≡ level_type l) → ReleasedDemand v e w answers → LeftAs n w (drop_demand (let_go l) p e)
+  demand_left _ _ _ asks course.nothing = now first d
+  demand_left _ _ _ asks course.bad = now first d
+  demand_left _ _ _ asks (course.referred w g gave) = now (first_there w (gave_keeps v.post.vcpu 2 two_four two_five v w g gave)) (given_back n v w g p same telling d gave)
+  demand_left _ _ _ asks (course.released w g t answers r was is) = released_left w g answers r (subst (λ j. WasReleased v g j w answers r) (asks g t refl) was) is
+
+-- and the second old word stays
+pub given_keeps : (v : PortValue) (e : Demand) (w : PortValue) (answers : List Bool) → ReleasedDemand v e w answers → KeepsSecond v w
+given_keeps v _ _ _ course.nothing = keeps_self v.post.vcpu 3 three_four three_five v
+given_keeps v _ _ _ course.bad = keeps_self v.post.vcpu 3 three_four three_five v
+given_keeps v _ _ _ (course.referred w g gave) = gave_keeps v.post.vcpu 3 three_four three_five v w g gave
+given_keeps v _ _ _ (course.released w g t answers r was is) = release_keeps v.post.vcpu 3 three_four three_five three_two v g t w answers r was

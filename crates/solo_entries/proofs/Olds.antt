@@ -24,7 +24,7 @@ use Rattle.step_maker.specs.Moves.{Came, Moves}
 use Rattle.step_maker.specs.Plain.{Leaves, Words, change}
 use Rattle.step_maker.specs.Twins.{Alike}
 use Rattle.step_maker.specs.Visits.{Does, Only, Then, Visit, visits}
-use Rattle.step_maker.proofs.Coming.{came_self, moves_came}
+use Rattle.step_maker.proofs.Coming.{came_self, came_trans, moves_came}
 use Rattle.step_maker.proofs.Telling.{came_telling, told_elsewhere}
 use Rattle.step_maker.proofs.Visiting.{does_came}
 use Rattle.frame_claims.proofs.Telling.{Alls, alls_nothing, alls_one, alls_then, told_ran, words_after}
@@ -80,6 +80,9 @@ three_four e = absurd cc
 pub three_five : ◌≢◌ {A = ℕ} 3 5
 three_five e = absurd cc
 
+pub three_two : ◌≢◌ {A = ℕ} 3 2
+three_two e = absurd cc
+
 -- word k of vCPU s, which is no word of flushes
 module _ (s k : ℕ) (four : k ≢ 4) (five : k ≢ 5) where
   -- what is told stays told, and that word is the same
@@ -87,6 +90,7 @@ module _ (s k : ℕ) (four : k ≢ 4) (five : k ≢ 5) where
   Same m l = l (Vcpu s k) ≡ m (Vcpu s k)
 
   pub record Kept (v w : PortValue) : Type 0 where
+    pub came : Came v w
     pub tells : is_telling w ≡ true
     pub same : told_word w (Vcpu s k) ≡ told_word v (Vcpu s k)
 
@@ -94,13 +98,13 @@ module _ (s k : ℕ) (four : k ≢ 4) (five : k ≢ 5) where
   Keeps v w = is_telling v ≡ true → Kept v w
 
   pub keeps_self : (v : PortValue) → Keeps v v
-  keeps_self v telling = record { tells = telling; same = refl }
+  keeps_self v telling = record { came = came_self v; tells = telling; same = refl }
 
   pub keeps_then : {v u w : PortValue} → Keeps v u → Keeps u w → Keeps v w
-  keeps_then {v} {u} {w} a b telling = let x = a telling in let y = b x.tells in record { tells = y.tells; same = y.same ∙ x.same }
+  keeps_then {v} {u} {w} a b telling = let x = a telling in let y = b x.tells in record { came = came_trans v u w x.came y.came; tells = y.tells; same = y.same ∙ x.same }
 
   pub keeps_by : (v w : PortValue) → Came v w → (is_telling v ≡ true → Same (told_word v) (told_word w)) → Keeps v w
-  keeps_by v w came same telling = record { tells = came_telling v w came ∙ telling; same = same telling }
+  keeps_by v w came same telling = record { came = came; tells = came_telling v w came ∙ telling; same = same telling }
 
   pub by_leaves : (w : PortValue) (m l : Words) → Leaves w l → Same m l → Same m (told_word w)
   by_leaves w m l leaves same = leaves (Vcpu s k) ∙ same
