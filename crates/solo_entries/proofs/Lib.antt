@@ -11,3 +11,4 @@ mod Locking
 mod Demanding
 mod Released
 mod Exchanging
+mod Entries

@@ -62,6 +62,8 @@ use Rattle.xp_board.specs.declared.step.Act.TheVariants.{Add}
 use Rattle.xp_board.specs.RefSteps.{one_down}
 use Rattle.frame_words.specs.Plain.{stamp_now}
 use Rattle.frame_types.specs.Plain.{dropped_plain}
+use Rattle.entry_exchange.specs.Course as exchange
+use Rattle.entry_exchange.specs.Course.{PutEntry}
 use Rattle.solo_entries.proofs.Taking.{IsEnded}
 use Rattle.solo_entries.proofs.Standing.{put_same}
 use Rattle.xp_board.specs.Acts.{left_by}
@@ -359,6 +361,12 @@ module _ (s k : ℕ) (four : k ≢ 4) (five : k ≢ 5) where
   locked_keeps v w f owner (Err (Paused (Busy g found))) a = keeps_by v w (does_came v w _ a.found) (λ telling. (a.plain telling).3 (Vcpu s k))
   locked_keeps v w f owner (Err (Paused _)) a = λ telling. absurd (a.plain telling)
   locked_keeps v w f owner (Err (Refused x)) a = λ telling. absurd (a.plain telling)
+
+  -- an entry that is put
+  pub puts_keeps : (v w : PortValue) (f i seen new : ℕ) (keep : Bool) (r : Result ℕ Stop) → PutEntry v w f i seen new keep r → Keeps v w
+  puts_keeps v w f i seen new _ _ (exchange.stored old step) = moves_keeps v w (Cell f i) _ _ _ _ step (λ e. cc)
+  puts_keeps v w f i seen new _ _ (exchange.exchanged step) = moves_keeps v w (Cell f i) _ _ _ _ step (λ e. cc)
+  puts_keeps v w f i seen new _ _ (exchange.lost found off step) = moves_keeps v w (Cell f i) _ _ _ _ step (λ e. cc)
 
   -- ---- it is left, and the word is not the first old one
   module _ (two : k ≢ 2) where
