@@ -12,3 +12,4 @@ mod Demanding
 mod Released
 mod Exchanging
 mod Entries
+mod Capping
