@@ -13,3 +13,5 @@ mod Released
 mod Exchanging
 mod Entries
 mod Capping
+mod Unkept
+mod Writing
