@@ -35,7 +35,7 @@ use Rattle.step_maker.specs.Asked.{of_frame}
 use Rattle.writable_pages.specs.Pages as pages
 use Rattle.writable_pages.specs.Pages.{GotPage}
 use Rattle.solo_entries.proofs.Known.{Known}
-use Rattle.solo_entries.proofs.Olds.{Keeps, two_five, two_four, got_page_keeps, had_keeps, ref_keeps}
+use Rattle.solo_entries.proofs.Olds.{Keeps, two_five, two_four, got_page_keeps, had_keeps, ref_keeps, KeepsSecond, keeps_self, three_four, three_five, acquired_keeps, three_two}
 use Rattle.solo_entries.proofs.Stopping.{ended_by, page_stops}
 use Rattle.solo_entries.proofs.Taking.{EndsSo, IsEnded, IsRefusedNow, free, got_it, page_ends, unreferred, untaken}
 use Rattle.xp_words.specs.declared.place.Place.TheVariants.{Refs}
@@ -196,3 +196,14 @@ module _ (k : Known) (v : PortValue) (owner : ℕ) (p : Plain) (machine : IsMach
           inl (record { table = g; asks = refl; two = two; paused = ap (λ e. Err e) is; acquired = subst (λ e. Acquired v g owner (level - 1) w answers (Err e)) is had })
       | inr comes ↦ inr (done_as n w (alone n owner (level - 1) g p) (Err stop) comes)
     ]
+
+    -- the second old word stays
+    pub demand_second : (e : Demand) (w : PortValue) (answers : List Bool) (r : Result (Unit {0}) Stop) → TookDemand owner level v e w answers r → ClockGoesOn v w → KeepsSecond v w
+    demand_second _ _ _ _ course.nothing goes = keeps_self v.post.vcpu 3 three_four three_five v
+    demand_second _ _ _ _ (course.referred w g ref) goes = ref_keeps v.post.vcpu 3 three_four three_five v w g owner (Ok g) ref
+    demand_second _ _ _ _ (course.unreferred w g stop ref) goes = ref_keeps v.post.vcpu 3 three_four three_five v w g owner (Err stop) ref
+    demand_second _ _ _ _ (course.paged w g one page) goes = got_page_keeps v.post.vcpu 3 three_four three_five v w g owner (Ok g) page tt
+    demand_second _ _ _ _ (course.unpaged w g stop one page) goes =
+        got_page_keeps v.post.vcpu 3 three_four three_five v w g owner (Err stop) page (ended_by {A = ℕ} k v w (Err stop) alone_v only goes (page_stops v g owner w (Err stop) page))
+    demand_second _ _ _ _ (course.acquired w g answers two had) goes = acquired_keeps v.post.vcpu 3 three_four three_five three_two v g owner (level - 1) w answers (Ok g) had
+    demand_second _ _ _ _ (course.refused w g answers stop two had) goes = acquired_keeps v.post.vcpu 3 three_four three_five three_two v g owner (level - 1) w answers (Err stop) had

@@ -184,3 +184,6 @@ given_keeps v _ _ _ course.nothing = keeps_self v.post.vcpu 3 three_four three_f
 given_keeps v _ _ _ course.bad = keeps_self v.post.vcpu 3 three_four three_five v
 given_keeps v _ _ _ (course.referred w g gave) = gave_keeps v.post.vcpu 3 three_four three_five v w g gave
 given_keeps v _ _ _ (course.released w g t answers r was is) = release_keeps v.post.vcpu 3 three_four three_five three_two v g t w answers r was
+
+pub given_came : (v : PortValue) (e : Demand) (w : PortValue) (answers : List Bool) → is_telling v ≡ true → ReleasedDemand v e w answers → Came v w
+given_came v e w answers telling gone = (given_keeps v e w answers gone telling).came

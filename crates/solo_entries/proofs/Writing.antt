@@ -6,7 +6,8 @@ use Rattle.std.proofs.lemmas.Bool.Decides.{nat_tests}
 use Rattle.xp_words.specs.Entries.{is_slot}
 use Rattle.xp_words.specs.Machine.{IsMachine, Machine}
 use Rattle.xp_words.specs.PageTypes.{is_table, type_number}
-use Rattle.xp_words.specs.Places.{is_place, sizes_of}
+use Rattle.xp_words.specs.Places.{is_place, sizes_of, number}
+use Rattle.xp_words.specs.declared.entry.Demand.TheVariants as demands
 use Rattle.xp_words.specs.declared.kind.KindWord.{KindWord}
 use Rattle.xp_words.specs.declared.place.Place.TheVariants.{Cell, Kind, Vcpu}
 use Rattle.xp_words.specs.declared.reply.Pause.TheVariants.{Due, Lost}
@@ -20,13 +21,13 @@ use Rattle.step_maker.specs.Asked.{Request}
 use Rattle.step_maker.specs.Holds.{Rests}
 use Rattle.step_maker.specs.Moves.{Came}
 use Rattle.step_maker.specs.Plain.{Words}
-use Rattle.step_maker.proofs.Coming.{came_post, came_trans, met_after, met_before, moves_came}
+use Rattle.step_maker.proofs.Coming.{came_post, came_trans, met_after, met_before, moves_came, came_self}
 use Rattle.step_maker.proofs.Piecing.{serves_came}
 use Rattle.step_maker.proofs.Telling.{came_telling, load_tells, told_there}
 use Rattle.answer_laws.specs.Alone.{IsAlone}
 use Rattle.answer_laws.proofs.Shared.{alone_telling}
 use Rattle.entry_exchange.specs.Course as course
-use Rattle.entry_exchange.specs.Course.{Exchanged, LeftLock, PutEntry, PutsNew, SawEntry, TookNew, new_demand, old_demand}
+use Rattle.entry_exchange.specs.Course.{Exchanged, LeftLock, PutEntry, PutsNew, SawEntry, TookNew, new_demand, old_demand, ReleasedDemand}
 use Rattle.entry_exchange.specs.Holding.{owner_at}
 use Rattle.entry_exchange.specs.Words.{same_demand, word_kept}
 use Rattle.entry_exchange.specs.declared.exchanging.EntryUpdate.{EntryUpdate}
@@ -34,7 +35,7 @@ use Rattle.entry_locks.specs.Locks.{is_lockable}
 use Rattle.entry_locks.specs.declared.locking.Locked.TheVariants.{Table}
 use Rattle.exchange_laws.specs.Plain.{exchanged_plain, place_in}
 use Rattle.exchange_laws.proofs.Going.{demand_came}
-use Rattle.exchange_laws.proofs.Putting.{put_came}
+use Rattle.exchange_laws.proofs.Putting.{put_came, entry_put}
 use Rattle.exchange_laws.proofs.Unlocking.{lock_came}
 use Rattle.foreign_map.specs.declared.owners.Owners.{Owners}
 use Rattle.mmu_update.specs.Course.{TriedLock, entry_update}
@@ -42,7 +43,7 @@ use Rattle.partial_state.specs.Levels.{level_type}
 use Rattle.table_entries.specs.Acquiring.{GotRef}
 use Rattle.table_words.specs.OldWords.{old_place}
 use Rattle.table_words.specs.declared.old_words.OldWord.TheVariants.{First, Second}
-use Rattle.table_law.specs.Alone.{Cause, PlainOutcome, take_reference}
+use Rattle.table_law.specs.Alone.{Cause, PlainOutcome, meet, take_at, take_reference}
 use Rattle.table_law.specs.Lawful.{IsAtRest}
 use Rattle.table_law.specs.Plain.{Describes, Plain}
 use Rattle.table_law.specs.Undone.{CountsSome}
@@ -57,16 +58,17 @@ use Rattle.solo_ports.specs.Coming.{Comes, IsDoneSo, IsRefusedSo}
 use Rattle.solo_ports.specs.Standing.{Clean, IsQuiet, IsUnkept, Owes, Stands, a_release, nothing}
 use Rattle.solo_ports.proofs.Resting.{clean_rests}
 use Rattle.solo_entries.proofs.Capping.{above, capped}
-use Rattle.solo_entries.proofs.Demanding.{ComesSo, LeftAs, PausedDemand, TookSo, demand_comes, later, now}
-use Rattle.solo_entries.proofs.Entries.{bad_comes, done_comes, same_comes, untaken_comes}
-use Rattle.solo_entries.proofs.Exchanging.{unlocked_left}
+use Rattle.solo_entries.proofs.Demanding.{ComesSo, LeftAs, PausedDemand, TookSo, demand_comes, later, now, demand_second}
+use Rattle.solo_entries.proofs.Entries.{bad_comes, done_comes, same_comes, untaken_comes, held_cell}
+use Rattle.solo_entries.proofs.Exchanging.{unlocked_left, unlocked_second, held_meet, given_came, given_keeps}
 use Rattle.solo_entries.proofs.Holding.{IsHeld, off}
 use Rattle.solo_entries.proofs.Known.{Known}
 use Rattle.solo_entries.proofs.Locking.{at_y, calm_y, can_lock, came_y, held_y, kind_is, lends, lock_goes, lock_leaves, off_again}
 use Rattle.solo_entries.proofs.Mapping.{fine_by}
-use Rattle.solo_entries.proofs.Olds.{Keeps, KeepsFirst, KeepsSecond, keeps_then, locked_keeps, ref_keeps}
+use Rattle.solo_entries.proofs.Olds.{Keeps, KeepsFirst, KeepsSecond, keeps_then, locked_keeps, ref_keeps, puts_keeps, three_four, three_five}
 use Rattle.solo_entries.proofs.Standing.{clean_with, machine_same, stands_with}
 use Rattle.solo_entries.proofs.Unkept.{unkept_exchanged}
+use Rattle.table_law.specs.Exchange.{with_cell}
 
 -- ---- what is left, as a port stands
 module _ (k : Known) (v w : PortValue) (x : Solo) (clean : Clean v x) (r : Request) (ds : List Deed) (serves : Serves v w r ds) (quiet : IsQuiet v.post.vcpu r ds) (rests : Rests w)
@@ -89,3 +91,196 @@ module _ (k : Known) (v w : PortValue) (x : Solo) (clean : Clean v x) (r : Reque
   outcome_comes Kept a p (Err (Refused z)) unkept c =
       subst (λ t. IsRefusedSo w z (behind_by (with_frames p x) a t did)) (sym c.is) (record { why = Frames c.cause; is = refl; same = c.same; none = refl; owes = owes_left a.left unkept c.left })
   outcome_comes Kept a p (Err (Paused z)) unkept c = absurd c
+
+-- ---- the entry of a locked table
+-- the acquisition of a table that the new word asks was paused, and the lock went off
+pub record PausedExchange (y w : PortValue) (t : EntryUpdate) (o : Owners) (answers : List Bool) (answer : Result (Unit {0}) Stop) : Type 0 where
+  pub seen : ℕ
+  pub looked : PortValue
+  pub left : PortValue
+  pub saw : SawEntry y looked t.table t.index seen
+  pub differ : same_demand (new_demand t seen) (old_demand t seen) ≡ false
+  pub paused : PausedDemand looked (owner_at t.level o.tables o.frames) t.level (new_demand t seen) left answers answer
+  pub off_it : LeftLock left t.table t.level w
+
+-- it was not paused for an exchange that was lost
+abbrev pub IsUnlost : Result (Unit {0}) Stop → Type 0
+IsUnlost (Err (Paused (Lost place e found))) = ⊥
+IsUnlost _ = Unit {0}
+
+put_lost : (a b : PortValue) (f i seen new : ℕ) (keep : Bool) (r : Result ℕ Stop) → PutEntry a b f i seen new keep r → (stop : Stop) → r ≡ Err stop → IsUnlost (Err stop) → ⊥
+put_lost a b f i seen new _ _ (course.stored old step) stop is unlost = absurd cc
+put_lost a b f i seen new _ _ (course.exchanged step) stop is unlost = absurd cc
+put_lost a b f i seen new _ _ (course.lost found off step) stop is unlost =
+    let e : stop ≡ Paused (Lost (number (sizes_of a.post.machine) (Cell f i)) seen found) = cc in subst (λ x. IsUnlost (Err x)) e unlost
+
+pub record Comes2 (n : Machine) (y w : PortValue) (a : PlainOutcome) (answer : Result (Unit {0}) Stop) : Type 0 where
+  pub comes : ComesSo n w a answer
+  pub second : told_word w (old_place y.post.vcpu Second) ≡ told_word y (old_place y.post.vcpu Second)
+
+module _ (k : Known) (y w : PortValue) (t : EntryUpdate) (o : Owners) (q : Plain) (machine : IsMachine y.post.machine) (alone : IsAlone y) (only : length y.post.machine.vcpu_domain ≡ 1) (calm : IsAtRest y.post.machine (told_word y)) (first : told_word y (old_place y.post.vcpu First) ≡ 0)
+    (d : Describes y.post.machine (told_word y) q) (held : IsHeld t.table q) (low : 1 ≤ t.level) (high : t.level ≤ 4) (goes : ClockGoesOn y w) where
+  abbrev n : Machine
+  n = y.post.machine
+
+  telling : is_telling y ≡ true
+  telling = alone_telling y alone
+
+  counts : CountsSome n q
+  counts = counts_plain n (told_word y) q d calm.counted
+
+  abbrev owner : ℕ
+  owner = owner_at t.level o.tables o.frames
+
+  -- the entry was looked at
+  module _ (u : PortValue) (seen : ℕ) (saw : SawEntry y u t.table t.index seen) where
+    came_u : Came y u
+    came_u = moves_came y u _ _ _ _ _ saw
+
+    same_u : u.post.machine ≡ n
+    same_u = machine_same y u came_u
+
+    telling_u : is_telling u ≡ true
+    telling_u = came_telling y u came_u ∙ telling
+
+    words : told_word u ≡ told_word y
+    words = fun_ext (load_tells y u _ _ _ _ saw telling)
+
+    place : IsTrue (nat_lt t.table n.frames && nat_lt t.index 512)
+    unfolding is_place
+    place = saw.may.place
+
+    frame : t.table < n.frames
+    frame = let a = (and_parts (nat_lt t.table n.frames) (nat_lt t.index 512) place).0 in grind (arith, nat_tests)
+
+    few : t.index < 512
+    few = let a = (and_parts (nat_lt t.table n.frames) (nat_lt t.index 512) place).1 in grind (arith, nat_tests)
+
+    cell : q.cells t.table t.index ≡ seen
+    cell = d.cells t.table t.index frame few ∙ told_there y u _ _ _ _ _ saw telling
+
+    there : (P : Machine → Words → Type 0) → P n (told_word y) → P u.post.machine (told_word u)
+    there P is = subst (λ (j : Machine). P j (told_word u)) (sym same_u) (subst (P n) (sym words) is)
+
+    at_u : Describes n (told_word u) q
+    at_u = subst (λ m. Describes n m q) (sym words) d
+
+    first_u : told_word u (old_place u.post.vcpu First) ≡ 0
+    first_u = subst (λ (j : Post). told_word u (old_place j.vcpu First) ≡ 0) (sym (came_post y u came_u)) (ap (λ (m : Words). m (old_place y.post.vcpu First)) words ∙ first)
+
+    second_u : told_word u (old_place y.post.vcpu Second) ≡ told_word y (old_place y.post.vcpu Second)
+    second_u = ap (λ (m : Words). m (old_place y.post.vcpu Second)) words
+
+    -- from there to the end
+    clock_to : (a b : PortValue) → Came u a → Came b w → ClockGoesOn y w → Came a b → ClockGoesOn a b
+    clock_to a b before after on mid = λ m met at. on m (met_after y a w m (came_trans y u a came_u before) (met_before a b w m met after)) at
+
+    took_so : (z : PortValue) (answers : List Bool) (r : Result (Unit {0}) Stop) → TookNew u z t o seen answers r → Came z w → PausedDemand u owner t.level (new_demand t seen) z answers r ⊎ TookSo {A = Unit {0}} u.post.machine z (meet u.post.machine owner (take_at (t.level - 1) u.post.machine owner) t.table t.index q (new_demand t seen)) r
+    took_so z answers r took after =
+        demand_comes k u owner q (subst IsMachine (sym same_u) machine) (k.stays y u alone came_u) (subst (λ (j : Machine). length j.vcpu_domain ≡ 1) (sym same_u) only) (there IsAtRest calm) first_u (subst (λ (j : Machine). Describes j (told_word u) q) (sym same_u) at_u)
+        t.level t.table t.index high (new_demand t seen) z answers r took (λ m met at. goes m (met_after y u w m came_u (met_before u z w m met after)) at)
+
+    took_second : (z : PortValue) (answers : List Bool) (r : Result (Unit {0}) Stop) → TookNew u z t o seen answers r → Came z w → KeepsSecond u z
+    took_second z answers r took after =
+        demand_second k u owner q (subst IsMachine (sym same_u) machine) (k.stays y u alone came_u) (subst (λ (j : Machine). length j.vcpu_domain ≡ 1) (sym same_u) only) (there IsAtRest calm) first_u (subst (λ (j : Machine). Describes j (told_word u) q) (sym same_u) at_u)
+        t.level t.table t.index high (new_demand t seen) z answers r took (λ m met at. goes m (met_after y u w m came_u (met_before u z w m met after)) at)
+
+    -- words of the vCPU, port by port
+    second_on : (a b : PortValue) → Came u a → KeepsSecond a b → told_word a (old_place y.post.vcpu Second) ≡ told_word y (old_place y.post.vcpu Second) → told_word b (old_place y.post.vcpu Second) ≡ told_word y (old_place y.post.vcpu Second)
+    second_on a b before keeps was =
+        let vcpu = ap (λ (j : Post). j.vcpu) (came_post y a (came_trans y u a came_u before)) in
+        let one = (keeps (came_telling u a before ∙ telling_u)).same in
+        subst (λ s. told_word b (old_place s Second) ≡ told_word a (old_place s Second)) vcpu one ∙ was
+
+    lock_second : (a b : PortValue) (p : Plain) → Came u a → IsHeld t.table p → Describes n (told_word a) p → LeftLock a t.table t.level b → told_word a (old_place y.post.vcpu Second) ≡ told_word y (old_place y.post.vcpu Second) → told_word b (old_place y.post.vcpu Second) ≡ told_word y (old_place y.post.vcpu Second)
+    lock_second a b p before h at lock was =
+        lock_leaves n a b t.table t.level p (machine_same u a before ∙ same_u) (came_telling u a before ∙ telling_u) at h lock (old_place y.post.vcpu Second) refl (λ e. cc) ∙ was
+
+    left_second : (a b : PortValue) (p : Plain) → Came u a → IsHeld t.table p → LeftAs n a p → LeftLock a t.table t.level b → told_word a (old_place y.post.vcpu Second) ≡ told_word y (old_place y.post.vcpu Second) → told_word b (old_place y.post.vcpu Second) ≡ told_word y (old_place y.post.vcpu Second)
+    left_second a b p before h left lock was =
+        let vcpu = ap (λ (j : Post). j.vcpu) (came_post y a (came_trans y u a came_u before)) in
+        let one = unlocked_second k n a b t.table t.level p (machine_same u a before ∙ same_u) (came_telling u a before ∙ telling_u) low h lock left in
+        subst (λ s. told_word b (old_place s Second) ≡ told_word a (old_place s Second)) vcpu one ∙ was
+
+    abbrev taking : PlainOutcome
+    taking = meet y.post.machine (owner_at t.level o.tables o.frames) (take_at (t.level - 1) y.post.machine (owner_at t.level o.tables o.frames)) t.table t.index q (new_demand t seen)
+
+    took_there : (z : PortValue) (r : Result (Unit {0}) Stop) → TookSo {A = Unit {0}} u.post.machine z (meet u.post.machine owner (take_at (t.level - 1) u.post.machine owner) t.table t.index q (new_demand t seen)) r → TookSo {A = Unit {0}} n z taking r
+    took_there z r so = subst (λ (j : Machine). TookSo {A = Unit {0}} j z (meet j owner (take_at (t.level - 1) j owner) t.table t.index q (new_demand t seen)) r) same_u so
+
+    held_taking : IsHeld t.table taking.left
+    held_taking = held_meet n owner t.table q counts held (t.level - 1) t.table t.index (new_demand t seen)
+
+    abbrev whole : PlainOutcome
+    whole = exchanged_plain y.post.machine t o q
+
+    abbrev SecondIs : PortValue → Type 0
+    SecondIs b = told_word b (old_place y.post.vcpu Second) ≡ told_word y (old_place y.post.vcpu Second)
+
+    bad_ends : (new_demand t seen ≡ demands.Bad) → LeftLock u t.table t.level w → Comes2 n y w whole (Err (Refused (refusals.Reserved t.table t.index (word_kept t.keep seen t.word))))
+    bad_ends bad lock =
+        record {
+          comes = bad_comes k n t o q seen low high machine counts held cell u w same_u telling_u (now first_u at_u) bad lock;
+          second = lock_second u w q (came_self u) held at_u lock second_u;
+        }
+
+    same_ends : (z : PortValue) (was : ℕ) → same_demand (new_demand t seen) (old_demand t seen) ≡ true → PutsNew u z t seen (Ok was) → LeftLock z t.table t.level w → Comes2 n y w whole (Ok tt)
+    same_ends z was alike puts lock =
+        let new = word_kept t.keep seen t.word in
+        let put = entry_put n u z t.table t.index seen new t.keep (Ok was) q telling_u at_u puts in
+        let came = put_came u z t.table t.index seen new t.keep (Ok was) puts in
+        record {
+          comes = same_comes k n t o q seen low high machine counts held cell u z w was same_u telling_u first_u at_u alike puts lock;
+          second = lock_second z w (with_cell t.table t.index new q) came (held_cell t.table t.table t.index new q held) put.1 lock
+              (second_on u z (came_self u) (puts_keeps u.post.vcpu 3 three_four three_five u z t.table t.index seen new t.keep (Ok was) puts) second_u);
+        }
+
+    untaken_ends : (z : PortValue) (answers : List Bool) (stop : Stop) → same_demand (new_demand t seen) (old_demand t seen) ≡ false → TookNew u z t o seen answers (Err stop) → LeftLock z t.table t.level w → PausedExchange y w t o answers (Err stop) ⊎ Comes2 n y w whole (Err stop)
+    untaken_ends z answers stop differ took lock =
+        let after = lock_came z w t.table t.level lock in
+        elim (took_so z answers (Err stop) took after) [
+          | inl paused ↦ inl (record { seen = seen; looked = u; left = z; saw = saw; differ = differ; paused = paused; off_it = lock })
+          | inr so ↦ inr (refused_ends stop took lock (took_there z (Err stop) so))
+        ]
+      where
+        refused_ends : (e : Stop) → TookNew u z t o seen answers (Err e) → LeftLock z t.table t.level w → TookSo {A = Unit {0}} n z taking (Err e) → Comes2 n y w whole (Err e)
+        refused_ends (Refused c) a off_it so =
+            let came = demand_came owner t.level u (new_demand t seen) z answers (Err (Refused c)) a in
+            record {
+              comes = untaken_comes k n t o q seen low high machine counts held cell u z w answers c same_u telling_u differ a so off_it;
+              second = left_second z w taking.left came held_taking so.left off_it (second_on u z (came_self u) (took_second z answers (Err (Refused c)) a (lock_came z w t.table t.level off_it)) second_u);
+            }
+        refused_ends (Paused c) a off_it so = absurd so
+
+    done_ends : (z a b : PortValue) (was : ℕ) (answers more : List Bool) → same_demand (new_demand t seen) (old_demand t seen) ≡ false → TookNew u z t o seen answers (Ok tt) → PutsNew z a t seen (Ok was) → LeftLock a t.table t.level b → ReleasedDemand b (old_demand t was) w more → Comes2 n y w whole (Ok tt)
+    done_ends z a b was answers more differ took puts lock gone =
+        let new = word_kept t.keep seen t.word in
+        let came_z = demand_came owner t.level u (new_demand t seen) z answers (Ok tt) took in
+        let came_put = put_came z a t.table t.index seen new t.keep (Ok was) puts in
+        let came_a = came_trans u z a came_z came_put in
+        let to_b = came_trans u a b came_a (lock_came a b t.table t.level lock) in
+        let came_b = given_came b (old_demand t was) w more (came_telling u b to_b ∙ telling_u) gone in
+        let after = came_trans z a w came_put (came_trans a b w (lock_came a b t.table t.level lock) came_b) in
+        let so = took_ok z answers took after in
+        let put = entry_put n z a t.table t.index seen new t.keep (Ok was) taking.left (came_telling u z came_z ∙ telling_u) so.2 puts in
+        record {
+          comes = done_comes k n t o q seen low high machine counts held cell u z a b w was answers more same_u telling_u frame few differ took so puts lock gone;
+          second = second_on b w to_b (given_keeps b (old_demand t was) w more gone)
+              (lock_second a b (with_cell t.table t.index new taking.left) came_a (held_cell t.table t.table t.index new taking.left held_taking) put.1 lock
+              (second_on z a came_z (puts_keeps z.post.vcpu 3 three_four three_five z a t.table t.index seen new t.keep (Ok was) puts) (second_on u z (came_self u) (took_second z answers (Ok tt) took after) second_u)));
+        }
+      where
+        took_ok : (c : PortValue) (given : List Bool) → TookNew u c t o seen given (Ok tt) → Came c w → TookSo {A = Unit {0}} n c taking (Ok tt)
+        took_ok c given a after = elim (took_so c given (Ok tt) a after) [
+          | inl paused ↦ absurd (let e = paused.paused in cc)
+          | inr so ↦ took_there c (Ok tt) so
+        ]
+
+  -- ---- the whole
+  pub exchange_ends : (answers : List Bool) (r : Result (Unit {0}) Stop) → IsUnlost r → Exchanged y t o w answers r → PausedExchange y w t o answers r ⊎ Comes2 y.post.machine y w (exchanged_plain y.post.machine t o q) r
+  exchange_ends _ _ unlost (course.bad u _ seen saw bad lock) = inr (bad_ends u seen saw bad lock)
+  exchange_ends _ _ unlost (course.same u z _ seen was saw alike puts lock) = inr (same_ends u seen saw z was alike puts lock)
+  exchange_ends _ _ unlost (course.unput u z _ seen stop saw alike puts lock) = absurd (put_lost u z t.table t.index seen (word_kept t.keep seen t.word) t.keep (Err stop) puts stop refl unlost)
+  exchange_ends _ _ unlost (course.untaken u z _ seen answers stop saw differ took lock) = untaken_ends u seen saw z answers stop differ took lock
+  exchange_ends _ _ unlost (course.lost u z a b _ seen answers stop saw differ took puts gave lock) = absurd (put_lost z a t.table t.index seen (word_kept t.keep seen t.word) t.keep (Err stop) puts stop refl unlost)
+  exchange_ends _ _ unlost (course.done u z a b _ seen was answers more saw differ took puts lock gone) = inr (done_ends u seen saw z a b was answers more differ took puts lock gone)
