@@ -15,3 +15,4 @@ mod Entries
 mod Capping
 mod Unkept
 mod Writing
+mod Writes

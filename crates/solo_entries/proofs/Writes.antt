@@ -1,0 +1,149 @@
+-- A write, from a port at which nothing is left to be settled, comes to its plain meaning, where it is not paused.
+use Rattle.std.proofs.Common.{◌≡◌, ◌≢◌, ◌⊎◌, ◌≤◌, ◌<◌, ℕ, zero, suc, ◌-◌, ◌&&◌, nat_lt, if◌then◌else◌, Bool, true, false, List, [], length, Option, Some, None, Result, Ok, Err, IfErr, IsTrue, refl, sym, ap, ◌∙◌, subst, arith, inl, inr, not}
+use Rattle.std.proofs.lemmas.Bool.{and_parts}
+use Rattle.xp_words.specs.Entries.{is_slot}
+use Rattle.xp_words.specs.Machine.{IsMachine, Machine}
+use Rattle.xp_words.specs.PageTypes.{is_table, type_number}
+use Rattle.xp_words.specs.declared.kind.PageType.{PageType}
+use Rattle.xp_words.specs.declared.reply.Pause.TheVariants as pauses
+use Rattle.xp_words.specs.declared.reply.Refusal.{Refusal}
+use Rattle.xp_words.specs.declared.reply.Refusal.TheVariants as refusals
+use Rattle.xp_words.specs.declared.reply.Stop.{Stop}
+use Rattle.xp_words.specs.declared.reply.Stop.TheVariants.{Refused, Paused}
+use Rattle.xp_board.specs.Told.{Post, PortValue, is_telling, told_word}
+use Rattle.step_maker.specs.Answers.{Deed, Serves, Stops}
+use Rattle.step_maker.specs.Asked.{Request}
+use Rattle.step_maker.specs.Holds.{Rests}
+use Rattle.step_maker.specs.Moves.{Came}
+use Rattle.step_maker.proofs.Coming.{came_post, came_self, came_trans, met_after}
+use Rattle.step_maker.proofs.Piecing.{serves_came}
+use Rattle.step_maker.proofs.Telling.{came_telling}
+use Rattle.step_maker.proofs.Visiting.{does_came}
+use Rattle.answer_laws.specs.Alone.{IsAlone}
+use Rattle.answer_laws.proofs.Shared.{alone_telling}
+use Rattle.entry_exchange.specs.Course.{Exchanged, LeftLock}
+use Rattle.entry_exchange.specs.Holding.{owner_at}
+use Rattle.entry_exchange.specs.Words.{word_kept}
+use Rattle.entry_locks.specs.Locks.{of_lock, is_lockable}
+use Rattle.entry_locks.specs.declared.locking.Locked.{Locked}
+use Rattle.entry_locks.specs.declared.locking.Locked.TheVariants.{Table, Other}
+use Rattle.exchange_laws.specs.Plain.{exchanged_plain}
+use Rattle.foreign_map.specs.declared.owners.Owners.{Owners}
+use Rattle.mmu_update.specs.Course as updates
+use Rattle.mmu_update.specs.Course.{TriedLock, Wrote, entry_update}
+use Rattle.partial_state.specs.Levels.{level_type}
+use Rattle.table_entries.specs.Acquiring.{GotRef}
+use Rattle.table_entries.proofs.Shared.{ref_came}
+use Rattle.table_words.specs.OldWords.{old_place}
+use Rattle.table_words.specs.declared.old_words.OldWord.TheVariants.{First, Second}
+use Rattle.table_law.specs.Alone.{PlainOutcome, fine, take_reference}
+use Rattle.table_law.specs.Exchange.{exchanged}
+use Rattle.table_law.specs.Lawful.{IsAtRest}
+use Rattle.table_law.specs.Plain.{Describes, Plain, raised_share, with_kind, with_share}
+use Rattle.course_laws.specs.Courses.{ClockGoesOn}
+use Rattle.course_laws.proofs.Extras.{described_same}
+use Rattle.script_law.specs.Frames.{exchange_at, under_lock, write_by, write_entry, write_memory, write_word}
+use Rattle.script_law.specs.Values.{Numbers, Outcome, Solo, behind_by, did, looked_by, stopped, with_frames}
+use Rattle.solo_ports.specs.Coming.{Comes, IsRefusedSo}
+use Rattle.solo_ports.specs.Standing.{Clean, IsQuiet, IsUnkept, Owes, Stands}
+use Rattle.solo_ports.proofs.Resting.{clean_rests}
+use Rattle.solo_entries.proofs.Capping.{above, capped}
+use Rattle.solo_entries.proofs.Demanding.{now}
+use Rattle.solo_entries.proofs.Exchanging.{unlocked_left, unlocked_second}
+use Rattle.solo_entries.proofs.Holding.{IsHeld, off}
+use Rattle.solo_entries.proofs.Known.{Known}
+use Rattle.solo_entries.proofs.Locking.{at_y, calm_y, can_lock, came_y, held_y, kind_is, lends, lock_goes, lock_leaves, off_again}
+use Rattle.solo_entries.proofs.Mapping.{fine_by, unlooked}
+use Rattle.solo_entries.proofs.Memory.{memory_stopped, memory_stored}
+use Rattle.solo_entries.proofs.Olds.{KeepsFirst, KeepsSecond, keeps_then, locked_keeps, ref_keeps, three_five, three_four, two_five, two_four}
+use Rattle.solo_entries.proofs.Standing.{machine_same, owes_same}
+use Rattle.solo_entries.proofs.Unkept.{unkept_exchanged}
+use Rattle.solo_entries.proofs.Writing.{IsUnlost, PausedExchange, exchange_ends, outcome_comes, owes_left}
+
+-- ---- levels
+low_by : (level : ℕ) → IsTrue (is_table (level_type level)) → 1 ≤ level
+low_by zero is = absurd cc
+low_by (suc l) is = omega arith
+
+number_of : (level : ℕ) → 1 ≤ level → level ≤ 4 → type_number (level_type level) ≡ level
+number_of zero low high = absurd (omega (arith, low))
+number_of (suc zero) low high = refl
+number_of (suc (suc zero)) low high = refl
+number_of (suc (suc (suc zero))) low high = refl
+number_of (suc (suc (suc (suc zero)))) low high = refl
+number_of (suc (suc (suc (suc (suc l))))) low high = absurd (omega (arith, high))
+
+module _ (k : Known) (v w : PortValue) (x : Solo) (o : Owners) (f i word : ℕ) (keep : Bool) (clean : Clean v x) (goes : ClockGoesOn v w) (r : Request) (ds : List Deed) (serves : Serves v w r ds) (quiet : IsQuiet v.post.vcpu r ds) (rests : Rests w) where
+  abbrev n : Machine
+  n = v.post.machine
+
+  abbrev p : Plain
+  p = x.frames
+
+  telling : is_telling v ≡ true
+  telling = alone_telling v clean.stands.alone
+
+  came : Came v w
+  came = serves_came v w r ds serves
+
+  -- ---- the reference is not to be had
+  unreferred : (Kept : PortValue → Solo → Type 0) (e : Stop) → GotRef v w f o.tables (Err e) → Comes Kept w x (write_word n o f i word keep x) (Err e)
+  unreferred Kept (Refused z) ref =
+      unlooked k v w x clean o.tables f z (λ s. write_by n o f i word keep s (s.frames.kinds f)) (ref.plain telling).0 (owes_same k v w x clean came (ref.plain telling).1 rests)
+  unreferred Kept (Paused z) ref = absurd (ref.plain telling)
+
+  -- ---- the frame is in nobody else's hands
+  unlocked : (u y : PortValue) (e : Stop) → GotRef v u f o.tables (Ok f) → TriedLock u y f o.tables (Err e) → ⊥
+  unlocked u y (Paused (pauses.Busy g z)) ref lock = k.neither u y (of_lock f o.tables) (pauses.Busy g z) (k.stays v u clean.stands.alone (ref_came v u f o.tables (Ok f) ref)) refl lock.stops
+  unlocked u y (Paused _) ref lock = lock.plain (came_telling v u (ref_came v u f o.tables (Ok f) ref) ∙ telling)
+  unlocked u y (Refused z) ref lock = lock.plain (came_telling v u (ref_came v u f o.tables (Ok f) ref) ∙ telling)
+
+  -- ---- a live table
+  module _ (u y : PortValue) (level found : ℕ) (ref : GotRef v u f o.tables (Ok f)) (lock : TriedLock u y f o.tables (Ok (Table level found))) where
+    abbrev calm : IsAtRest v.post.machine (told_word v)
+    calm = clean_rests v x clean
+
+    abbrev more : Plain
+    more = with_share f (raised_share (lends k v u y x.frames o.tables f level found clean.stands.machine clean.stands.alone (clean_rests v x clean) clean.frames ref lock).share) x.frames
+
+    abbrev q : Plain
+    q = under_lock f more
+
+    takes : take_reference n o.tables f p ≡ fine more
+    takes = (lends k v u y p o.tables f level found clean.stands.machine clean.stands.alone calm clean.frames ref lock).is
+
+    lockable : is_lockable (p.kinds f) ≡ true
+    lockable = can_lock k v u y p o.tables f level found clean.stands.machine clean.stands.alone calm clean.frames ref lock
+
+    typed : (p.kinds f).kind ≡ level_type level
+    typed = kind_is k v u y p o.tables f level found clean.stands.machine clean.stands.alone calm clean.frames ref lock
+
+    held : IsHeld f q
+    held = held_y k v u y p o.tables f level found clean.stands.machine clean.stands.alone calm clean.frames ref lock
+
+    described : Describes n (told_word y) q
+    described = at_y k v u y p o.tables f level found clean.stands.machine clean.stands.alone calm clean.frames ref lock
+
+    to_y : Came v y
+    to_y = came_y k v u y p o.tables f level found clean.stands.machine clean.stands.alone calm clean.frames ref lock
+
+    low : 1 ≤ level
+    low = low_by level (subst (λ t. IsTrue (is_table t)) typed (and_parts (is_table (p.kinds f).kind) (p.kinds f).validated (and_parts (is_table (p.kinds f).kind && (p.kinds f).validated) (not (p.kinds f).locked && nat_lt 0 (p.kinds f).number) lockable).0).0)
+
+    keeps_first : told_word y (old_place y.post.vcpu First) ≡ 0
+    keeps_first =
+        let a = keeps_then v.post.vcpu 2 two_four two_five (ref_keeps v.post.vcpu 2 two_four two_five v u f o.tables (Ok f) ref) (locked_keeps v.post.vcpu 2 two_four two_five u y f o.tables (Ok (Table level found)) lock) telling in
+        subst (λ (j : Post). told_word y (old_place j.vcpu First) ≡ 0) (sym (came_post v y to_y)) (a.same ∙ clean.first)
+
+    keeps_second : told_word y (old_place v.post.vcpu Second) ≡ told_word v (old_place v.post.vcpu Second)
+    keeps_second =
+        (keeps_then v.post.vcpu 3 three_four three_five (ref_keeps v.post.vcpu 3 three_four three_five v u f o.tables (Ok f) ref) (locked_keeps v.post.vcpu 3 three_four three_five u y f o.tables (Ok (Table level found)) lock) telling).same
+
+    -- what the write is then
+    abbrev here : Bool → Outcome
+    here b = if b then stopped (Numbers (refusals.Slot i)) x else write_entry n o f i word keep x
+
+    is_here : write_word n o f i word keep x ≡ here (is_slot (level_type level) i)
+    is_here =
+        ap (λ t. looked_by t x (λ s. write_by n o f i word keep s (s.frames.kinds f))) (fine_by k v y x clean o.tables f (ref.plain telling).0)
+        ∙ (ap (λ b. if b then here (is_slot (p.kinds f).kind i) else write_memory n o.tables f i word x) lockable ∙ ap (λ t. here (is_slot t i)) typed)
