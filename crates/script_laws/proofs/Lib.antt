@@ -3,4 +3,5 @@ pub mod Lists
 pub mod Made
 pub mod Steps
 pub mod Turning
+pub mod Untouched
 pub mod Working
