@@ -4,3 +4,4 @@ pub mod Entries
 pub mod Walking
 pub mod Whole
 pub mod Keeping
+pub mod Backing

@@ -78,3 +78,63 @@ index_2 va = omega arith
 
 index_1 : (va : ℕ) → index_of (2 ^ 12 * page_of va) 1 ≡ index_of va 1
 index_1 va = omega arith
+
+index_same : (va k : ℕ) → 1 ≤ k → k ≤ 4 → index_of (2 ^ 12 * page_of va) k ≡ index_of va k
+index_same va zero low high = absurd (omega arith)
+index_same va (suc zero) low high = index_1 va
+index_same va (suc (suc zero)) low high = index_2 va
+index_same va (suc (suc (suc zero))) low high = index_3 va
+index_same va (suc (suc (suc (suc zero)))) low high = index_4 va
+index_same va (suc (suc (suc (suc (suc k))))) low high = absurd (omega arith)
+
+pub page_alone : (n : Machine) (va : ℕ) (write : Bool) (base : ℕ) (p : Plain) → from_base n (2 ^ 12 * page_of va) write base p ≡ from_base n va write base p
+page_alone n va write zero p = refl
+page_alone n va write (suc table) p = by_indexes n (2 ^ 12 * page_of va) va write 4 table None p (index_same va)
+
+-- ---- it depends on the cells of frames of the machine alone
+abbrev pub SameCells : Machine → Plain → Plain → Type 0
+SameCells n p q = (g j : ℕ) → g < n.frames → j < 512 → q.cells g j ≡ p.cells g j
+
+-- they lead to the same frame, one of the machine, and leave the same cells
+abbrev pub AlikeWays : Machine → Way → Way → Type 0
+AlikeWays n (Leads f b p) (Leads g c q) = (g ≡ f) × (c ≡ b) × (f < n.frames) × SameCells n p q
+AlikeWays n (Stops x p) (Stops y q) = (y ≡ x) × SameCells n p q
+AlikeWays n _ _ = ⊥
+
+alike_put : (a b : Bool) (x y z : ℕ) → z ≡ y → (if a && b then x else z) ≡ (if a && b then x else y)
+alike_put true true x y z e = refl
+alike_put true false x y z e = e
+alike_put false b x y z e = e
+
+alike_at : (n : Machine) (c : Bool) (x y z u : Way) → (c ≡ true → AlikeWays n x y) → (c ≡ false → AlikeWays n z u) → AlikeWays n (if c then x else z) (if c then y else u)
+alike_at n true x y z u on off = on refl
+alike_at n false x y z u on off = off refl
+
+module _ (n : Machine) (va : ℕ) (write : Bool) where
+  path_alike : (l table : ℕ) (barrier : Option ℕ) (p q : Plain) → table < n.frames → SameCells n p q → AlikeWays n (path n va write l table barrier p) (path n va write l table barrier q)
+  unfolding path
+  path_alike zero table barrier p q inside same = (refl, refl, inside, same)
+  path_alike (suc l) table barrier p q inside same =
+      let i = index_of va (suc l) in
+      let w = p.cells table i in
+      let b = barrier_with barrier w in
+      let x = touched write (suc l) b w in
+      let put : SameCells n (with_cell table i x p) (with_cell table i x q) = λ g j in_g few. alike_put (g == table) (j == i) x (p.cells g j) (q.cells g j) (same g j in_g few) in
+      subst (λ (y : ℕ). AlikeWays n (at_entry n w (path n va write l) (suc l) b (with_cell table i x p))
+        (at_entry n y (path n va write l) (suc l) (barrier_with barrier y) (with_cell table i (touched write (suc l) (barrier_with barrier y) y) q))) (sym (same table i inside (index_few va (suc l))))
+      (alike_at n (is_unmapped n w) _ _ _ _ (λ off. (refl, put)) (λ on. path_alike l (frame_of w) b (with_cell table i x p) (with_cell table i x q) (mapped_inside n w on) put))
+
+  pub base_alike : (base : ℕ) (p q : Plain) → base ≤ n.frames → SameCells n p q → AlikeWays n (from_base n va write base p) (from_base n va write base q)
+  base_alike zero p q few same = (refl, same)
+  base_alike (suc table) p q few same = path_alike 4 table None p q few same
+
+-- the second leads where the first does
+pub record LeadsAlike (n : Machine) (f : ℕ) (barrier : Option ℕ) (p : Plain) (way : Way) : Type 0 where
+  pub inside : f < n.frames
+  pub left : Plain
+  pub is : way ≡ Leads f barrier left
+  pub same : SameCells n p left
+
+pub leads_alike : (n : Machine) (f : ℕ) (barrier : Option ℕ) (p : Plain) (way : Way) → AlikeWays n (Leads f barrier p) way → LeadsAlike n f barrier p way
+leads_alike n f barrier p (Leads g c q) a = record { inside = a.2; left = q; is = ap (λ k. Leads k c q) a.0 ∙ ap (λ k. Leads f k q) a.1; same = a.3 }
+leads_alike n f barrier p (Stops y q) a = absurd a
