@@ -5,3 +5,5 @@ pub mod Walking
 pub mod Whole
 pub mod Keeping
 pub mod Backing
+pub mod Resting
+pub mod Reading
