@@ -7,3 +7,4 @@ pub mod Keeping
 pub mod Backing
 pub mod Resting
 pub mod Reading
+pub mod Writing

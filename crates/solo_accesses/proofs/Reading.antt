@@ -32,7 +32,7 @@ use Rattle.script_law.specs.Values.{Numbers, Outcome, Solo, allowed, stopped, wi
 use Rattle.script_law.specs.Walks.{Leads, Stops, Way, from_base, read_at, read_by}
 use Rattle.solo_ports.specs.Standing.{Clean}
 use Rattle.solo_accesses.specs.Accesses.{AccessComes, IsAnswered, IsRefusedExactly}
-use Rattle.solo_accesses.specs.Stale.{IsBacked, IsNeverStale}
+use Rattle.solo_accesses.specs.Stale.{IsBacked, IsNeverStale, IsServedFresh}
 use Rattle.solo_accesses.proofs.Backing.{BackedWay, backed_way, fresh_does, served}
 use Rattle.solo_accesses.proofs.Cells.{CellsOf, OnlyCells, cells_same, only_same, only_then}
 use Rattle.solo_accesses.proofs.Keeping.{KeepsFrames, clean_cells}
@@ -163,10 +163,29 @@ module _ (stays : AloneStays) (v w : PortValue) (x : Solo) (clean : Clean v x) (
   behind_test : (answer : Result ℕ Stop) (o : Outcome) → access_refusal va ≡ None → AccessComes w o answer → AccessComes w (allowed (access_refusal va) x o) answer
   behind_test answer o may a = subst (λ y. AccessComes w (allowed y x o) answer) (sym may) a
 
-  pub read_comes : (answer : Result ℕ Stop) → IsNeverStale v w → GuestReads v w user va answer → AccessComes w (read_at v.post.machine user va x) answer
-  read_comes _ fresh (acc.barred y why does same) =
+  pub read_served : (answer : Result ℕ Stop) → IsServedFresh v user va false → GuestReads v w user va answer → AccessComes w (read_at v.post.machine user va x) answer
+  read_served _ fresh (acc.barred y why does same) =
       subst (λ o. IsRefusedExactly w y (allowed o x (read_by va x (from_base v.post.machine va false (x.own (top_word user)) x.frames)))) (sym why) (unread y does same)
-  read_comes _ fresh (acc.cached item word may is does same) =
-      behind_test (Ok word) _ may (cached_read item word is does same (fresh_does v w item.frame (cell_index va) word Load item fresh (served v user va false item is).may does))
-  read_comes _ fresh (acc.stopped e may none does same) = behind_test (Err e) _ may (stopped_by e (unrefused va may) does same)
-  read_comes _ fresh (acc.walked r word may none does hand) = behind_test (Ok word) _ may (walked_by r word (unrefused va may) does hand)
+  read_served _ fresh (acc.cached item word may is does same) = behind_test (Ok word) _ may (cached_read item word is does same (fresh item may is))
+  read_served _ fresh (acc.stopped e may none does same) = behind_test (Err e) _ may (stopped_by e (unrefused va may) does same)
+  read_served _ fresh (acc.walked r word may none does hand) = behind_test (Ok word) _ may (walked_by r word (unrefused va may) does hand)
+
+-- ---- where translations are never stale the one that serves is what a walk would find
+some_same : (x y : Item) → Some x ≡ Some y → x ≡ y
+some_same x y e = cc
+
+pub one_server : (v : PortValue) (user : Bool) (va : ℕ) (write : Bool) (item : Item) → server v user va write ≡ Some item → IsBacked v.post.machine v.post.vcpu (told_word v) write item → IsServedFresh v user va write
+one_server v user va write item is b other may at = subst (λ y. IsBacked v.post.machine v.post.vcpu (told_word v) write y) (some_same item other (sym is ∙ at)) b
+
+pub no_server : (v : PortValue) (user : Bool) (va : ℕ) (write : Bool) → server v user va write ≡ None → IsServedFresh v user va write
+no_server v user va write none item may is = absurd (let no = sym none ∙ is in cc)
+
+pub barred_access : (v : PortValue) (user : Bool) (va : ℕ) (write : Bool) (y : Refusal) → access_refusal va ≡ Some y → IsServedFresh v user va write
+barred_access v user va write y why item may is = absurd (let no = sym may ∙ why in cc)
+
+pub read_fresh : (v w : PortValue) (user : Bool) (va : ℕ) (answer : Result ℕ Stop) → IsNeverStale v w → GuestReads v w user va answer → IsServedFresh v user va false
+read_fresh v w user va _ fresh (acc.barred y why does same) = barred_access v user va false y why
+read_fresh v w user va _ fresh (acc.cached item word may is does same) =
+    one_server v user va false item is (fresh_does v w item.frame (cell_index va) word Load item fresh (served v user va false item is).may does)
+read_fresh v w user va _ fresh (acc.stopped e may none does same) = no_server v user va false none
+read_fresh v w user va _ fresh (acc.walked r word may none does hand) = no_server v user va false none

@@ -10,7 +10,8 @@ use Rattle.xp_board.specs.declared.step.StepKind.TheVariants as kinds
 use Rattle.xp_board.specs.Told.{PortValue, cached_item, told_word}
 use Rattle.step_maker.specs.Moves.{Met, Moment}
 use Rattle.step_maker.specs.Plain.{Words}
-use Rattle.tlb_walks.specs.Accesses.{may_serve}
+use Rattle.tlb_walks.specs.Accesses.{may_serve, server}
+use Rattle.tlb_walks.specs.Addresses.{access_refusal}
 use Rattle.tlb_walks.specs.Walks.{top_word}
 use Rattle.table_law.specs.Plain.{Plain, plain_of}
 use Rattle.script_law.specs.Walks.{Leads, from_base}
@@ -38,3 +39,7 @@ abbrev pub IsNeverStale : PortValue → PortValue → Type 0
 IsNeverStale v w =
     (m : Moment) (f i : ℕ) (x : Item) (met : Met v w m) → m.kind ≡ kinds.Guest → m.place ≡ Cell f i → MayServe m.hand f (is_store m.act) x →
     IsBacked met.from.post.machine met.from.post.vcpu (told_word met.from) (is_store m.act) x
+
+-- The translation that serves an access to that address at v, if one does, is what a walk would find then.
+abbrev pub IsServedFresh : PortValue → Bool → ℕ → Bool → Type 0
+IsServedFresh v user va write = (x : Item) → access_refusal va ≡ None → server v user va write ≡ Some x → IsBacked v.post.machine v.post.vcpu (told_word v) write x
