@@ -9,12 +9,13 @@ use Rattle.xp_board.specs.Told.{Post, PortValue, told_word}
 use Rattle.step_maker.specs.Moves.{Came}
 use Rattle.step_maker.specs.Plain.{Words}
 use Rattle.step_maker.proofs.Coming.{came_post}
-use Rattle.answer_laws.proofs.Aloneness.{AloneStays}
+use Rattle.course_laws.proofs.Awaiting.{AloneStays}
 use Rattle.table_words.specs.OldWords.{old_place}
 use Rattle.table_words.specs.declared.old_words.OldWord.TheVariants.{First, Second}
 use Rattle.table_law.specs.Plain.{Describes, Plain, Share, share_of, sober}
 use Rattle.script_law.specs.Values.{Solo, with_frames}
 use Rattle.solo_ports.specs.Standing.{Clean, IsUnkept, ShowsOthers, Stands}
+use Rattle.solo_ports.proofs.Staying.{stands_at}
 use Rattle.solo_accesses.proofs.Cells.{CellsOf, OnlyCells}
 
 -- it changes cells alone
@@ -45,22 +46,13 @@ module _ (n : Machine) (m u : Words) (p q : Plain) (only : OnlyCells m u) (same 
 
 module _ (stays : AloneStays) (v w : PortValue) (x : Solo) (q : Plain) (clean : Clean v x) (came : Came v w) (empty : IsEmptyHand w.holdings) (only : OnlyCells (told_word v) (told_word w))
     (same : KeepsFrames x.frames q) (cells : CellsOf v.post.machine (told_word w) q) where
-  post : v.post ≡ w.post
-  post = sym (came_post v w came)
-
   pub clean_cells : Clean w (with_frames q x)
   clean_cells =
       let a = clean.stands in
+      let post : v.post ≡ w.post = sym (came_post v w came) in
       record {
-        stands = record {
-          machine = subst (λ (o : Post). IsMachine o.machine) post a.machine;
-          alone = stays v w a.alone came;
-          only = subst (λ (o : Post). length o.machine.vcpu_domain ≡ 1) post a.only;
-          empty = empty;
-          second = subst (λ (o : Post). told_word w (old_place o.vcpu Second) ≡ 0) post (only (old_place v.post.vcpu Second) refl ∙ a.second);
-          others = subst (λ (o : Post). ShowsOthers o.machine o.vcpu (told_word w) (with_frames q x)) post (shows_cells v.post.machine (told_word v) (told_word w) x.frames q only same v.post.vcpu x a.others);
-          unkept = subst (λ (o : Post). IsUnkept o.machine q) post (unkept_cells v.post.machine (told_word v) (told_word w) x.frames q only same a.unkept);
-        };
+        stands = stands_at stays v w x (with_frames q x) a came empty (only (old_place v.post.vcpu Second) refl ∙ a.second) (shows_cells v.post.machine (told_word v) (told_word w) x.frames q only same v.post.vcpu x a.others)
+            (unkept_cells v.post.machine (told_word v) (told_word w) x.frames q only same a.unkept);
         first = subst (λ (o : Post). told_word w (old_place o.vcpu First) ≡ 0) post (only (old_place v.post.vcpu First) refl ∙ clean.first);
         frames = subst (λ (o : Post). Describes o.machine (told_word w) q) post (describes_cells v.post.machine (told_word v) (told_word w) x.frames q only same clean.frames cells);
       }

@@ -8,3 +8,5 @@ pub mod Backing
 pub mod Resting
 pub mod Reading
 pub mod Writing
+pub mod Touching
+pub mod Loading

@@ -16,7 +16,7 @@ use Rattle.step_maker.specs.Moves.{Came}
 use Rattle.step_maker.specs.Plain.{Words}
 use Rattle.step_maker.specs.Visits.{Does, Nothing, Only, Then, Visit, visit_as}
 use Rattle.step_maker.proofs.Visiting.{does_came}
-use Rattle.answer_laws.proofs.Aloneness.{AloneStays}
+use Rattle.course_laws.proofs.Awaiting.{AloneStays}
 use Rattle.answer_laws.proofs.Shared.{alone_telling}
 use Rattle.replay_laws.specs.Replays.{ReplaysAs, SameWords}
 use Rattle.replay_laws.proofs.Replaying.{as_nothing, as_only, as_then, does_replays, look_leaves}

@@ -19,7 +19,7 @@ use Rattle.step_maker.specs.Moves.{Came}
 use Rattle.step_maker.specs.Plain.{Words, change}
 use Rattle.step_maker.specs.Visits.{Does, Nothing, Only, Then, visit_as}
 use Rattle.step_maker.proofs.Visiting.{does_came}
-use Rattle.answer_laws.proofs.Aloneness.{AloneStays}
+use Rattle.course_laws.proofs.Awaiting.{AloneStays}
 use Rattle.answer_laws.proofs.Shared.{alone_telling}
 use Rattle.replay_laws.specs.Replays.{SameWords}
 use Rattle.replay_laws.proofs.Replaying.{as_only, as_then, does_replays}
