@@ -1,5 +1,5 @@
 -- A translation that is what a walk would find now leads where the plain walk leads, and that sets no bit.
-use Rattle.std.proofs.Common.{◌≡◌, ℕ, ◌*◌, ◌^◌, ◌<◌, ◌≤◌, ◌==◌, ◌&&◌, not, if◌then◌else◌, Bool, true, false, List, [], ◌∷◌, Option, Some, None, refl, sym, ap, ◌∙◌, subst, arith}
+use Rattle.std.proofs.Common.{◌≡◌, ℕ, ◌*◌, ◌^◌, ◌<◌, ◌≤◌, ◌==◌, ◌&&◌, not, if◌then◌else◌, Bool, true, false, List, [], ◌∷◌, Option, Some, None, refl, sym, ap, ◌∙◌, subst}
 use Rattle.xp_words.specs.Machine.{Machine}
 use Rattle.xp_words.specs.declared.place.Place.TheVariants.{Cell, Vcpu}
 use Rattle.xp_board.specs.declared.holdings.Holdings.{Holdings}
@@ -9,7 +9,7 @@ use Rattle.xp_board.specs.declared.step.Act.{Act}
 use Rattle.xp_board.specs.declared.step.Item.{Item}
 use Rattle.xp_board.specs.declared.step.StepKind.TheVariants as kinds
 use Rattle.xp_board.proofs.PlaceTests.{equal_by}
-use Rattle.step_maker.specs.Moves.{Met, Moment, MovesBy, Ran}
+use Rattle.step_maker.specs.Moves.{Moment, MovesBy, Ran}
 use Rattle.step_maker.specs.Plain.{Words}
 use Rattle.step_maker.specs.Visits.{Does, Only, Visit, visit_as, visit_of, visits}
 use Rattle.step_maker.proofs.Coming.{came_self}
@@ -20,7 +20,7 @@ use Rattle.table_law.specs.Plain.{Plain, plain_of}
 use Rattle.script_law.specs.Walks.{Leads, Way, from_base}
 use Rattle.solo_accesses.specs.Stale.{IsBacked, IsNeverStale, MayServe, is_store}
 use Rattle.solo_accesses.proofs.Cells.{CellsOf}
-use Rattle.solo_accesses.proofs.Ways.{AlikeWays, LeadsAlike, SameCells, base_alike, leads_alike, page_alone}
+use Rattle.solo_accesses.proofs.Ways.{AlikeWays, SameCells, base_alike, leads_alike, page_alone}
 
 -- ---- the newest translation of a page
 first_by : {A : Type 0} (test : A → Bool) (ys : List A) (x y : A) → (first_of test ys ≡ Some x → test x ≡ true) → (b : Bool) → test y ≡ b → (if b then Some y else first_of test ys) ≡ Some x → test x ≡ true
@@ -86,8 +86,7 @@ module _ (n : Machine) (s : ℕ) (m : Words) (user : Bool) (va : ℕ) (write : B
   leads_there =
       sym (page_alone n va write (m (Vcpu s (top_word user))) (plain_of m))
       ∙ subst (λ (u : Bool). from_base n (2 ^ 12 * page_of va) write (m (Vcpu s (top_word u))) (plain_of m) ≡ Leads x.frame b.barrier b.left) user_is
-        (subst (λ (page : ℕ). from_base n (2 ^ 12 * page) write (m (Vcpu s (top_word x.user))) (plain_of m) ≡ Leads x.frame b.barrier b.left) page_is b.leads)
-
+      (subst (λ (page : ℕ). from_base n (2 ^ 12 * page) write (m (Vcpu s (top_word x.user))) (plain_of m) ≡ Leads x.frame b.barrier b.left) page_is b.leads)
 
   pub backed_way : BackedWay n va write (m (Vcpu s (top_word user))) m p x.frame b.barrier
   backed_way =

@@ -1,15 +1,13 @@
 -- One entry of a walk, done again on words: it is loaded, and has the bits that the walk needs then, whether it had them already or not.
-use Rattle.std.proofs.Common.{◌≡◌, ◌≢◌, ℕ, ◌==◌, ◌&&◌, not, if◌then◌else◌, Bool, true, false, List, refl, sym, ap, ◌∙◌, subst, arith}
-use Rattle.std.proofs.lemmas.Bool.Decides.{nat_tests}
+use Rattle.std.proofs.Common.{◌≡◌, ℕ, ◌==◌, ◌&&◌, not, if◌then◌else◌, Bool, true, false, List, refl, sym, ap, ◌∙◌}
 use Rattle.xp_words.specs.Entries.{is_bit}
-use Rattle.xp_words.specs.declared.place.Place.{Place}
 use Rattle.xp_words.specs.declared.place.Place.TheVariants.{Cell}
 use Rattle.xp_board.specs.Acts.{left_by}
 use Rattle.xp_board.specs.Steps.{is_same}
-use Rattle.xp_board.specs.declared.step.Act.TheVariants.{Load, Cas}
+use Rattle.xp_board.specs.declared.step.Act.TheVariants.{Cas}
 use Rattle.xp_board.proofs.PlaceTests.{equal_by, equal_refl, same_place}
-use Rattle.step_maker.specs.Plain.{Words, change}
-use Rattle.step_maker.specs.Visits.{Only, Then, Visit, Where}
+use Rattle.step_maker.specs.Plain.{Words}
+use Rattle.step_maker.specs.Visits.{Only, Visit, Where}
 use Rattle.step_maker.proofs.Telling.{by_test}
 use Rattle.replay_laws.specs.Replays.{Replays, ReplaysAs, SameWords}
 use Rattle.replay_laws.proofs.Replaying.{as_nothing, as_only, as_then, look_leaves}
@@ -56,7 +54,7 @@ module _ (m k u : Words) (table i w new found : ℕ) (was : m (Cell table i) ≡
   stays_there off same q =
       same q ∙ looked q
       ∙ by_test (is_same q (Cell table i)) (entry_left w new) (m q) (m q)
-        (λ on. ap m (same_place q (Cell table i) on) ∙ was ∙ sym (left_alone (is_bit 0 w) w new (new == w) (λ e. equal_by new w e) off)) (λ off. refl)
+      (λ on. ap m (same_place q (Cell table i) on) ∙ was ∙ sym (left_alone (is_bit 0 w) w new (new == w) (λ e. equal_by new w e) off)) (λ off. refl)
 
   by_bits : (b : Bool) → lacks w new ≡ b → ReplaysAs k (Where b (Only (sets_bits table i w new found))) u → EnteredAs m table i w new found u
   by_bits true on a = record { was = was; met = λ on. met_there a; sets = sets_there on a }

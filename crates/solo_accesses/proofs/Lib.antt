@@ -10,3 +10,4 @@ pub mod Reading
 pub mod Writing
 pub mod Touching
 pub mod Loading
+pub mod Coming

@@ -1,5 +1,5 @@
 -- The loads by which an update by address finds its table.
-use Rattle.std.proofs.Common.{◌≡◌, ◌≢◌, ℕ, zero, suc, ◌+◌, ◌-◌, ◌<◌, ◌≤◌, if◌then◌else◌, Bool, true, false, [], Option, Some, None, Result, Ok, Err, refl, sym, ap, ◌∙◌, subst, inl, inr, arith}
+use Rattle.std.proofs.Common.{◌≡◌, ◌≢◌, ℕ, zero, suc, ◌+◌, ◌-◌, ◌<◌, ◌≤◌, if◌then◌else◌, true, false, None, Result, Ok, Err, refl, sym, ap, ◌∙◌, subst, inl, inr, arith}
 use Rattle.xp_words.specs.Entries.{frame_of}
 use Rattle.xp_words.specs.Machine.{Machine}
 use Rattle.xp_words.specs.declared.place.Place.TheVariants.{Cell, Vcpu}
@@ -9,15 +9,12 @@ use Rattle.xp_words.specs.declared.reply.Stop.{Stop}
 use Rattle.xp_words.specs.declared.reply.Stop.TheVariants.{Refused, Paused}
 use Rattle.xp_board.specs.Hands.{IsEmptyHand}
 use Rattle.xp_board.specs.declared.holdings.Claimed.{Claimed}
-use Rattle.xp_board.specs.declared.holdings.Holdings.{Holdings}
 use Rattle.xp_board.specs.declared.holdings.Lock.{Lock}
 use Rattle.xp_board.specs.declared.holdings.Work.{Work}
 use Rattle.xp_board.specs.declared.step.Act.TheVariants.{Load}
 use Rattle.xp_board.specs.declared.step.StepKind.TheVariants as kinds
 use Rattle.xp_board.specs.Told.{Post, PortValue, is_telling, told_word}
 use Rattle.step_maker.specs.Licences.{is_unmapped}
-use Rattle.step_maker.specs.Moves.{Came, Moves}
-use Rattle.step_maker.specs.Plain.{Words}
 use Rattle.step_maker.proofs.Coming.{came_post, moves_came}
 use Rattle.step_maker.proofs.Resting.{none_on}
 use Rattle.step_maker.proofs.Telling.{load_tells, moves_telling, told_there}
@@ -33,7 +30,7 @@ use Rattle.mmu_update.specs.Addresses as ways
 use Rattle.mmu_update.specs.Addresses.{Descends, SawBase}
 use Rattle.mmu_update.proofs.Leading.{base_same, leads_came}
 use Rattle.table_law.specs.Plain.{Plain}
-use Rattle.script_law.specs.Values.{Solo, with_frames}
+use Rattle.script_law.specs.Values.{Solo}
 use Rattle.script_law.specs.Walks.{last_table, next_table, table_at}
 use Rattle.solo_ports.specs.Standing.{Clean}
 use Rattle.solo_accesses.specs.Walking.{LoadsCome}
@@ -128,7 +125,7 @@ module _ (n : Machine) (va : ℕ) (p : Plain) where
       let same = same_words v u (suc l) level table e is machine telling cells inside saw in
       let down : level - 1 ≡ l + 2 = omega arith in
       let next = loads_down w answer u (level - 1) (frame_of e) rest l down (ap (λ (o : Post). o.machine) (came_post v u (moves_came v u _ _ _ _ _ saw)) ∙ machine) (moves_telling v u _ _ _ _ _ saw ∙ telling)
-            (cells_same n (told_word v) (told_word u) p same cells) (saw_empty v u table (index_of va level) e empty saw) (below_inside v u (suc l) level table e is machine telling cells inside saw on) in
+      (cells_same n (told_word v) (told_word u) p same cells) (saw_empty v u table (index_of va level) e empty saw) (below_inside v u (suc l) level table e is machine telling cells inside saw on) in
       record {
         as_plain = subst (λ r. LoadedAs n answer r) (sym (mapped_table v u (suc l) level table e is machine telling cells inside saw on)) next.as_plain;
         same = λ q. next.same q ∙ same q;
@@ -168,7 +165,7 @@ module _ (stays : AloneStays) (v w : PortValue) (x : Solo) (va : ℕ) (clean : C
       let is = base_found u base saw in
       let same : SameWords (told_word v) (told_word u) = λ q. load_tells v u (Vcpu v.post.vcpu 0) kinds.Look None base saw telling q in
       let a = loads_down v.post.machine va x.frames w answer u 4 (base - 1) path 2 refl (ap (λ (o : Post). o.machine) (came_post v u (moves_came v u _ _ _ _ _ saw))) (moves_telling v u _ _ _ _ _ saw ∙ telling)
-            (cells_same v.post.machine (told_word v) (told_word u) x.frames same clean.frames.cells) (base_empty v u base clean.stands.empty saw) (base_inside base some is) in
+      (cells_same v.post.machine (told_word v) (told_word u) x.frames same clean.frames.cells) (base_empty v u base clean.stands.empty saw) (base_inside base some is) in
       record { as_plain = subst (λ r. LoadedAs v.post.machine answer r) (sym (table_is base some is)) a.as_plain; same = λ q. a.same q ∙ same q; empty = a.empty }
 
   no_base : SawBase v w 0 → Loaded v.post.machine v w (Err (Refused (NotMapped 5 0))) table_of

@@ -1,5 +1,5 @@
 -- Walks and reads of a guest, from a port that stands to a plain value.
-use Rattle.std.proofs.Common.{◌≡◌, ℕ, ◌<◌, ◌≤◌, ◌%◌, ◌==◌, if◌then◌else◌, Bool, true, false, [], Option, Some, None, Result, Ok, Err, refl, sym, ap, ◌∙◌, subst, arith, lit<}
+use Rattle.std.proofs.Common.{◌≡◌, ℕ, ◌<◌, ◌%◌, ◌==◌, if◌then◌else◌, Bool, true, false, Option, Some, None, Result, Ok, Err, refl, sym, ap, ◌∙◌, subst, arith, lit<}
 use Rattle.xp_words.specs.Entries.{frame_of}
 use Rattle.xp_words.specs.declared.place.Place.TheVariants.{Cell, Vcpu}
 use Rattle.xp_words.specs.declared.reply.Refusal.{Refusal}
@@ -14,7 +14,7 @@ use Rattle.xp_board.specs.Told.{PortValue, is_telling, told_word}
 use Rattle.step_maker.specs.Holds.{Same}
 use Rattle.step_maker.specs.Moves.{Came}
 use Rattle.step_maker.specs.Plain.{Words}
-use Rattle.step_maker.specs.Visits.{Does, Nothing, Only, Then, Visit, visit_as}
+use Rattle.step_maker.specs.Visits.{Does, Nothing, Only, Then, visit_as}
 use Rattle.step_maker.proofs.Visiting.{does_came}
 use Rattle.course_laws.proofs.Awaiting.{AloneStays}
 use Rattle.answer_laws.proofs.Shared.{alone_telling}
@@ -33,7 +33,7 @@ use Rattle.script_law.specs.Walks.{Leads, Stops, Way, from_base, read_at, read_b
 use Rattle.solo_ports.specs.Standing.{Clean}
 use Rattle.solo_accesses.specs.Accesses.{AccessComes, IsAnswered, IsRefusedExactly}
 use Rattle.solo_accesses.specs.Stale.{IsBacked, IsNeverStale, IsServedFresh}
-use Rattle.solo_accesses.proofs.Backing.{BackedWay, backed_way, fresh_does, served}
+use Rattle.solo_accesses.proofs.Backing.{backed_way, fresh_does, served}
 use Rattle.solo_accesses.proofs.Cells.{CellsOf, OnlyCells, cells_same, only_same, only_then}
 use Rattle.solo_accesses.proofs.Keeping.{KeepsFrames, clean_cells}
 use Rattle.solo_accesses.proofs.Resting.{cached_empty, holds_empty, same_empty}

@@ -1,5 +1,5 @@
 -- Hands that are empty stay so behind walks and accesses.
-use Rattle.std.proofs.Common.{◌≡◌, List, [], refl, sym, ap, ◌∙◌, subst}
+use Rattle.std.proofs.Common.{List, refl, ap}
 use Rattle.xp_board.specs.Hands.{IsEmptyHand}
 use Rattle.xp_board.specs.declared.step.Item.{Item}
 use Rattle.xp_board.specs.declared.holdings.Holdings.{Holdings}

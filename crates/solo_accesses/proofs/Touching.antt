@@ -1,5 +1,5 @@
 -- Walks by themselves, and the walk to a page of the LDT that is touched.
-use Rattle.std.proofs.Common.{◌≡◌, ℕ, ◌<◌, if◌then◌else◌, Bool, true, false, List, Option, Some, None, Result, Ok, Err, refl, sym, ap, ◌∙◌, subst}
+use Rattle.std.proofs.Common.{◌≡◌, ℕ, ◌<◌, if◌then◌else◌, Bool, false, List, Option, Some, None, Result, Ok, Err, refl, sym, ap, ◌∙◌, subst}
 use Rattle.xp_words.specs.Entries.{frame_of}
 use Rattle.xp_words.specs.declared.context.LdtBase.{LdtBase}
 use Rattle.xp_words.specs.declared.reply.Refusal.{Refusal}
@@ -7,7 +7,7 @@ use Rattle.xp_words.specs.declared.reply.Refusal.TheVariants.{BadRange}
 use Rattle.xp_words.specs.declared.reply.Stop.{Stop}
 use Rattle.xp_words.specs.declared.reply.Stop.TheVariants.{Refused, Paused}
 use Rattle.xp_board.specs.Hands.{IsEmptyHand}
-use Rattle.xp_board.specs.Told.{Post, PortValue, is_telling, told_word}
+use Rattle.xp_board.specs.Told.{Post, PortValue, told_word}
 use Rattle.step_maker.specs.Moves.{Came}
 use Rattle.step_maker.specs.Visits.{Does, Nothing, Visit}
 use Rattle.step_maker.proofs.Coming.{came_post}
@@ -19,11 +19,11 @@ use Rattle.tlb_walks.specs.Walks as by
 use Rattle.tlb_walks.specs.Walks.{WalkBy, top_word}
 use Rattle.tlb_walks.specs.declared.walks.Walked.{Walked}
 use Rattle.ldt_pages.specs.Touching.{is_beyond, refusal_at, touch_address}
-use Rattle.script_law.specs.Values.{Numbers, Outcome, Solo, allowed, stopped, with_frames}
+use Rattle.script_law.specs.Values.{Numbers, Solo, allowed, stopped}
 use Rattle.script_law.specs.Walks.{Leads, Stops, Way, from_base, take_touched, touch_unnamed}
 use Rattle.solo_ports.specs.Standing.{Clean}
 use Rattle.solo_accesses.specs.Accesses.{AccessComes, IsRefusedExactly}
-use Rattle.solo_accesses.specs.Walking.{IsLed, IsStopped, IsTouchLed, WalkComes}
+use Rattle.solo_accesses.specs.Walking.{IsLed, IsTouchLed, WalkComes}
 use Rattle.solo_accesses.proofs.Cells.{OnlyCells}
 use Rattle.solo_accesses.proofs.Keeping.{KeepsFrames, clean_cells}
 use Rattle.solo_accesses.proofs.Reading.{keeps_way, unread, walk_came}

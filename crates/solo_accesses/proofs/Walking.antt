@@ -1,11 +1,9 @@
 -- A walk from a table down, done again on words, and the plain one.
-use Rattle.std.proofs.Common.{◌≡◌, ◌≢◌, ℕ, zero, suc, ◌-◌, ◌<◌, ◌≤◌, ◌==◌, not, if◌then◌else◌, Bool, true, false, List, ◌++◌, Option, Some, None, Result, Ok, Err, refl, sym, ap, ◌∙◌, subst, arith}
+use Rattle.std.proofs.Common.{◌≡◌, ◌≢◌, ℕ, zero, suc, ◌-◌, ◌<◌, ◌==◌, if◌then◌else◌, Bool, true, false, List, Option, Result, Ok, Err, refl, sym, ap, ◌∙◌, subst, arith}
 use Rattle.std.proofs.lemmas.Bool.Decides.{nat_tests}
 use Rattle.xp_words.specs.Entries.{frame_of, is_bit}
 use Rattle.xp_words.specs.Machine.{Machine}
-use Rattle.xp_words.specs.declared.place.Place.TheVariants.{Cell}
 use Rattle.xp_words.specs.declared.reply.Pause.TheVariants.{Lost}
-use Rattle.xp_words.specs.declared.reply.Refusal.{Refusal}
 use Rattle.xp_words.specs.declared.reply.Refusal.TheVariants.{NotMapped}
 use Rattle.xp_words.specs.declared.reply.Stop.{Stop}
 use Rattle.xp_words.specs.declared.reply.Stop.TheVariants.{Refused, Paused}
@@ -95,7 +93,7 @@ module _ (n : Machine) (va : ℕ) (write : Bool) (answer : Result Walked Stop) w
   walked_down level table barrier vs (by.goes _ _ _ _ first rest w more mapped entry path list) (suc l) is m u p replays cells inside =
       let parts = replays_apart m u first rest (subst (λ xs. Replays m xs u) list replays) in
       let at = entered m parts.0 table (index_of va (suc (suc l))) w (with_needed write (suc (suc l)) (barrier_with barrier w) w) w first
-            (subst (λ k. EntryBy table (index_of va k) w (with_needed write k (barrier_with barrier w) w) w first) is entry) parts.1 in
+      (subst (λ k. EntryBy table (index_of va k) w (with_needed write k (barrier_with barrier w) w) w first) is entry) parts.1 in
       let below : level - 1 ≡ suc l = omega arith in
       let next = walked_down (level - 1) (frame_of w) (barrier_with barrier w) rest path l below parts.0 u _ parts.2 (cells_behind n va write answer (suc l) table w w barrier m parts.0 p cells inside at) (mapped_inside n w mapped) in
       (went_on n va write answer (suc l) table w w barrier m parts.0 p cells inside at u mapped next.0, only_then m parts.0 u (sets_only m parts.0 table (index_of va (suc (suc l))) _ at.sets) next.1)

@@ -1,16 +1,14 @@
 -- Plain walks: what they keep, how far they lead, and on what they depend.
-use Rattle.std.proofs.Common.{◌≡◌, ℕ, zero, suc, ◌+◌, ◌*◌, ◌/◌, ◌%◌, ◌^◌, ◌<◌, ◌≤◌, ◌==◌, ◌&&◌, if◌then◌else◌, Bool, true, false, Option, Some, None, refl, sym, ap, ◌∙◌, subst, arith}
-use Rattle.xp_words.specs.Entries.{frame_of, is_bit}
+use Rattle.std.proofs.Common.{◌≡◌, ℕ, zero, suc, ◌*◌, ◌^◌, ◌<◌, ◌≤◌, ◌==◌, ◌&&◌, if◌then◌else◌, Bool, true, false, Option, None, refl, sym, ap, ◌∙◌, subst, arith}
+use Rattle.xp_words.specs.Entries.{frame_of}
 use Rattle.xp_words.specs.Machine.{Machine}
-use Rattle.xp_words.specs.declared.kind.KindWord.{KindWord}
-use Rattle.xp_words.specs.declared.reply.Refusal.{Refusal}
 use Rattle.xp_words.specs.declared.reply.Refusal.TheVariants.{NotMapped}
 use Rattle.step_maker.specs.Licences.{is_unmapped}
 use Rattle.tlb_walks.specs.Addresses.{index_of, page_of}
 use Rattle.tlb_walks.specs.Walks.{barrier_with}
 use Rattle.tlb_walks.proofs.Descending.{mapped_inside}
 use Rattle.table_law.specs.Exchange.{with_cell}
-use Rattle.table_law.specs.Plain.{Plain, Share}
+use Rattle.table_law.specs.Plain.{Plain}
 use Rattle.script_law.specs.Walks.{Way, Leads, Stops, at_entry, from_base, path, touched}
 
 pub index_few : (va level : ℕ) → index_of va level < 512
@@ -121,7 +119,7 @@ module _ (n : Machine) (va : ℕ) (write : Bool) where
       let x = touched write (suc l) b w in
       let put : SameCells n (with_cell table i x p) (with_cell table i x q) = λ g j in_g few. alike_put (g == table) (j == i) x (p.cells g j) (q.cells g j) (same g j in_g few) in
       subst (λ (y : ℕ). AlikeWays n (at_entry n w (path n va write l) (suc l) b (with_cell table i x p))
-        (at_entry n y (path n va write l) (suc l) (barrier_with barrier y) (with_cell table i (touched write (suc l) (barrier_with barrier y) y) q))) (sym (same table i inside (index_few va (suc l))))
+      (at_entry n y (path n va write l) (suc l) (barrier_with barrier y) (with_cell table i (touched write (suc l) (barrier_with barrier y) y) q))) (sym (same table i inside (index_few va (suc l))))
       (alike_at n (is_unmapped n w) _ _ _ _ (λ off. (refl, put)) (λ on. path_alike l (frame_of w) b (with_cell table i x p) (with_cell table i x q) (mapped_inside n w on) put))
 
   pub base_alike : (base : ℕ) (p q : Plain) → base ≤ n.frames → SameCells n p q → AlikeWays n (from_base n va write base p) (from_base n va write base q)

@@ -1,5 +1,5 @@
 -- A whole walk, done again on words, and the plain one.
-use Rattle.std.proofs.Common.{◌≡◌, ◌≢◌, ℕ, zero, suc, ◌+◌, ◌-◌, ◌<◌, ◌≤◌, nat_le, Bool, true, false, List, Option, Some, None, Result, Ok, Err, refl, sym, ap, ◌∙◌, subst, arith, lit<}
+use Rattle.std.proofs.Common.{◌≡◌, ◌≢◌, ℕ, zero, suc, ◌-◌, ◌≤◌, Bool, true, false, List, Option, None, Result, Err, refl, sym, ◌∙◌, subst, arith}
 use Rattle.std.proofs.lemmas.Bool.Decides.{nat_tests}
 use Rattle.xp_words.specs.Machine.{Machine}
 use Rattle.xp_words.specs.Places.{is_place, memory, sizes_of}
@@ -20,8 +20,8 @@ use Rattle.tlb_walks.specs.Walks as by
 use Rattle.tlb_walks.specs.Walks.{PathBy, WalkBy, base_visit, top_word}
 use Rattle.tlb_walks.specs.declared.walks.Walked.{Walked}
 use Rattle.table_law.specs.Plain.{Plain}
-use Rattle.script_law.specs.Walks.{Stops, from_base}
-use Rattle.solo_accesses.proofs.Cells.{CellsOf, OnlyCells, cells_same, only_same, only_then}
+use Rattle.script_law.specs.Walks.{from_base}
+use Rattle.solo_accesses.proofs.Cells.{CellsOf, cells_same, only_same, only_then}
 use Rattle.solo_accesses.proofs.Walking.{WalkedAs, walked_down}
 
 -- ---- a base names a frame of the machine, or none

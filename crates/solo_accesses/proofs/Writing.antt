@@ -1,15 +1,12 @@
 -- Writes of a guest, from a port that stands to a plain value.
-use Rattle.std.proofs.Common.{◌≡◌, ℕ, ◌<◌, if◌then◌else◌, Bool, true, false, [], Option, Some, None, Result, Ok, Err, refl, sym, ap, ◌∙◌, subst}
+use Rattle.std.proofs.Common.{◌≡◌, ℕ, Bool, true, Option, Some, None, Result, Ok, Err, refl, sym, ap, ◌∙◌, subst}
 use Rattle.xp_words.specs.Entries.{frame_of}
-use Rattle.xp_words.specs.declared.place.Place.{Place}
 use Rattle.xp_words.specs.declared.place.Place.TheVariants.{Cell}
-use Rattle.xp_words.specs.declared.reply.Refusal.{Refusal}
 use Rattle.xp_words.specs.declared.reply.Refusal.TheVariants.{ReadOnly}
 use Rattle.xp_words.specs.declared.reply.Stop.{Stop}
 use Rattle.xp_words.specs.declared.reply.Stop.TheVariants.{Refused, Paused}
 use Rattle.xp_board.specs.Acts.{left_by}
 use Rattle.xp_board.specs.Hands.{IsEmptyHand}
-use Rattle.xp_board.specs.Steps.{is_same}
 use Rattle.xp_board.specs.declared.step.Act.TheVariants.{Store}
 use Rattle.xp_board.specs.declared.step.Item.{Item}
 use Rattle.xp_board.specs.declared.step.StepKind.TheVariants as kinds
@@ -17,7 +14,7 @@ use Rattle.xp_board.specs.Told.{PortValue, is_telling, told_word}
 use Rattle.step_maker.specs.Holds.{Same}
 use Rattle.step_maker.specs.Moves.{Came}
 use Rattle.step_maker.specs.Plain.{Words, change}
-use Rattle.step_maker.specs.Visits.{Does, Nothing, Only, Then, visit_as}
+use Rattle.step_maker.specs.Visits.{Does, Only, Then, visit_as}
 use Rattle.step_maker.proofs.Visiting.{does_came}
 use Rattle.course_laws.proofs.Awaiting.{AloneStays}
 use Rattle.answer_laws.proofs.Shared.{alone_telling}
@@ -31,7 +28,7 @@ use Rattle.tlb_walks.specs.Walks.{WalkBy, top_word}
 use Rattle.tlb_walks.specs.declared.walks.Walked.{Walked}
 use Rattle.table_law.specs.Exchange.{with_cell}
 use Rattle.table_law.specs.Plain.{Plain}
-use Rattle.script_law.specs.Values.{Numbers, Outcome, Solo, allowed, did, stopped, with_frames}
+use Rattle.script_law.specs.Values.{Numbers, Outcome, Solo, allowed, stopped, with_frames}
 use Rattle.script_law.specs.Walks.{Leads, Stops, Way, from_base, write_at, write_way}
 use Rattle.solo_ports.specs.Standing.{Clean}
 use Rattle.solo_accesses.specs.Accesses.{AccessComes, IsAnswered, IsRefusedExactly, with_zero}
