@@ -1,5 +1,8 @@
 -- A translation that is what a walk would find now leads where the plain walk leads, and that sets no bit.
-use Rattle.std.proofs.Common.{◌≡◌, ℕ, ◌*◌, ◌^◌, ◌<◌, ◌≤◌, ◌==◌, ◌&&◌, not, if◌then◌else◌, Bool, true, false, List, [], ◌∷◌, Option, Some, None, refl, sym, ap, ◌∙◌, subst}
+use Rattle.std.proofs.lemmas.Option.{same_Some}
+use Rattle.std.proofs.lemmas.Bool.{and_parts, not-true}
+use Rattle.xp_words.proofs.KindLaws.{when_some}
+use Rattle.std.proofs.Common.{◌≡◌, ℕ, ◌*◌, ◌^◌, ◌<◌, ◌≤◌, ◌==◌, not, if◌then◌else◌, Bool, true, false, List, [], ◌∷◌, Option, Some, None, refl, sym, ap, ◌∙◌, subst}
 use Rattle.xp_words.specs.Machine.{Machine}
 use Rattle.xp_words.specs.declared.place.Place.TheVariants.{Cell, Vcpu}
 use Rattle.xp_board.specs.declared.holdings.Holdings.{Holdings}
@@ -24,7 +27,7 @@ use Rattle.solo_accesses.proofs.Ways.{AlikeWays, SameCells, base_alike, leads_al
 
 -- ---- the newest translation of a page
 first_by : {A : Type 0} (test : A → Bool) (ys : List A) (x y : A) → (first_of test ys ≡ Some x → test x ≡ true) → (b : Bool) → test y ≡ b → (if b then Some y else first_of test ys) ≡ Some x → test x ≡ true
-first_by test ys x y later true is at = let same : y ≡ x = cc in ap test (sym same) ∙ is
+first_by test ys x y later true is at = ap test (sym (same_Some y x at)) ∙ is
 first_by test ys x y later false is at = later at
 
 first_passes : {A : Type 0} (test : A → Bool) (xs : List A) (x : A) → first_of test xs ≡ Some x → test x ≡ true
@@ -32,25 +35,12 @@ unfolding first_of
 first_passes test [] x e = absurd cc
 first_passes test (y ∷ ys) x e = first_by test ys x y (first_passes test ys x) (test y) refl e
 
-of_both : (a b : Bool) → (a && b) ≡ true → (a ≡ true) × (b ≡ true)
-of_both true true e = (refl, refl)
-of_both true false e = absurd cc
-of_both false b e = absurd cc
-
-of_not : (a : Bool) → not a ≡ true → a ≡ false
-of_not true e = absurd cc
-of_not false e = refl
-
 item_is : (user : Bool) (page : ℕ) (x : Item) → is_item user page x ≡ true → (x.user ≡ user) × (x.page ≡ page)
-item_is true page x e = let k = of_both x.user (x.page == page) e in (k.0, equal_by x.page page k.1)
-item_is false page x e = let k = of_both (not x.user) (x.page == page) e in (of_not x.user k.0, equal_by x.page page k.1)
-
-served_by : (write : Bool) (x : Item) (b : Bool) (y : Item) → may_serve write y ≡ b → (if b then Some y else None) ≡ Some x → (y ≡ x) × (may_serve write x ≡ true)
-served_by write x true y is e = let same : y ≡ x = cc in (same, ap (may_serve write) (sym same) ∙ is)
-served_by write x false y is e = absurd cc
+item_is true page x e = let k = and_parts x.user (x.page == page) e in (k.0, equal_by x.page page k.1)
+item_is false page x e = let k = and_parts (not x.user) (x.page == page) e in (not-true x.user k.0, equal_by x.page page k.1)
 
 serving_is : (write : Bool) (o : Option Item) (x : Item) → serving write o ≡ Some x → (o ≡ Some x) × (may_serve write x ≡ true)
-serving_is write (Some y) x e = let k = served_by write x (may_serve write y) y refl e in (ap Some k.0, k.1)
+serving_is write (Some y) x e = let k = when_some (may_serve write y) y x e in (ap Some k.1, ap (may_serve write) (sym k.1) ∙ k.0)
 serving_is write None x e = absurd cc
 
 pub record ServedBy (v : PortValue) (user : Bool) (va : ℕ) (write : Bool) (x : Item) : Type 0 where

@@ -1,9 +1,9 @@
 -- Walks and reads of a guest, from a port that stands to a plain value.
-use Rattle.std.proofs.Common.{◌≡◌, ℕ, ◌<◌, ◌%◌, ◌==◌, if◌then◌else◌, Bool, true, false, Option, Some, None, Result, Ok, Err, refl, sym, ap, ◌∙◌, subst, arith, lit<}
+use Rattle.std.proofs.lemmas.Option.{same_Some}
+use Rattle.std.proofs.Common.{◌≡◌, ℕ, ◌<◌, Bool, true, false, Option, Some, None, Result, Ok, Err, refl, sym, ap, ◌∙◌, subst, arith, lit<}
 use Rattle.xp_words.specs.Entries.{frame_of}
 use Rattle.xp_words.specs.declared.place.Place.TheVariants.{Cell, Vcpu}
 use Rattle.xp_words.specs.declared.reply.Refusal.{Refusal}
-use Rattle.xp_words.specs.declared.reply.Refusal.TheVariants.{BadRange, NonCanonical}
 use Rattle.xp_words.specs.declared.reply.Stop.{Stop}
 use Rattle.xp_words.specs.declared.reply.Stop.TheVariants.{Refused, Paused}
 use Rattle.xp_board.specs.Hands.{IsEmptyHand}
@@ -22,7 +22,8 @@ use Rattle.replay_laws.specs.Replays.{ReplaysAs, SameWords}
 use Rattle.replay_laws.proofs.Replaying.{as_nothing, as_only, as_then, does_replays, look_leaves}
 use Rattle.tlb_walks.specs.Accesses as acc
 use Rattle.tlb_walks.specs.Accesses.{GuestReads, server}
-use Rattle.tlb_walks.specs.Addresses.{access_refusal, cell_index, index_of, is_canonical, slot_refusal, walk_refusal}
+use Rattle.tlb_walks.proofs.Reading.{open_walk}
+use Rattle.tlb_walks.specs.Addresses.{access_refusal, cell_index, walk_refusal}
 use Rattle.tlb_walks.specs.Translating.{WalkedTo}
 use Rattle.tlb_walks.specs.Walks.{WalkBy, top_word}
 use Rattle.tlb_walks.specs.declared.walks.Walked.{Walked}
@@ -95,15 +96,7 @@ module _ (stays : AloneStays) (v w : PortValue) (x : Solo) (clean : Clean v x) (
   walked_read va word r k (Leads f b q) same (frame, barrier, inside, cells) stay is = loaded_read va f word b q k inside same cells stay (ap (λ g. k (Cell g (cell_index va))) (sym frame) ∙ is)
   walked_read va word r k (Stops z q) same on stay is = absurd on
 
--- ---- the address alone
-walk_allowed : (a b : Bool) (o : Option Refusal) → (if a then (if b then o else Some BadRange) else Some NonCanonical) ≡ None → (if a then o else Some NonCanonical) ≡ None
-walk_allowed true true o e = e
-walk_allowed true false o e = absurd cc
-walk_allowed false b o e = absurd cc
-
-pub unrefused : (va : ℕ) → access_refusal va ≡ None → walk_refusal va ≡ None
-unrefused va e = walk_allowed (is_canonical va) (va % 8 == 0) (slot_refusal (index_of va 4)) e
-
+-- ---- by a translation
 -- a translation that serves leads where the plain walk leads
 pub record ServedWay (v : PortValue) (x : Solo) (f : ℕ) (barrier : Option ℕ) (way : Way) : Type 0 where
   pub inside : f < v.post.machine.frames
@@ -167,15 +160,12 @@ module _ (stays : AloneStays) (v w : PortValue) (x : Solo) (clean : Clean v x) (
   read_served _ fresh (acc.barred y why does same) =
       subst (λ o. IsRefusedExactly w y (allowed o x (read_by va x (from_base v.post.machine va false (x.own (top_word user)) x.frames)))) (sym why) (unread y does same)
   read_served _ fresh (acc.cached item word may is does same) = behind_test (Ok word) _ may (cached_read item word is does same (fresh item may is))
-  read_served _ fresh (acc.stopped e may none does same) = behind_test (Err e) _ may (stopped_by e (unrefused va may) does same)
-  read_served _ fresh (acc.walked r word may none does hand) = behind_test (Ok word) _ may (walked_by r word (unrefused va may) does hand)
+  read_served _ fresh (acc.stopped e may none does same) = behind_test (Err e) _ may (stopped_by e (open_walk va may) does same)
+  read_served _ fresh (acc.walked r word may none does hand) = behind_test (Ok word) _ may (walked_by r word (open_walk va may) does hand)
 
 -- ---- where translations are never stale the one that serves is what a walk would find
-some_same : (x y : Item) → Some x ≡ Some y → x ≡ y
-some_same x y e = cc
-
 pub one_server : (v : PortValue) (user : Bool) (va : ℕ) (write : Bool) (item : Item) → server v user va write ≡ Some item → IsBacked v.post.machine v.post.vcpu (told_word v) write item → IsServedFresh v user va write
-one_server v user va write item is b other may at = subst (λ y. IsBacked v.post.machine v.post.vcpu (told_word v) write y) (some_same item other (sym is ∙ at)) b
+one_server v user va write item is b other may at = subst (λ y. IsBacked v.post.machine v.post.vcpu (told_word v) write y) (same_Some item other (sym is ∙ at)) b
 
 pub no_server : (v : PortValue) (user : Bool) (va : ℕ) (write : Bool) → server v user va write ≡ None → IsServedFresh v user va write
 no_server v user va write none item may is = absurd (let no = sym none ∙ is in cc)

@@ -1,4 +1,5 @@
 -- Walks by themselves, and the walk to a page of the LDT that is touched.
+use Rattle.std.proofs.lemmas.Option.{same_Some}
 use Rattle.std.proofs.Common.{◌≡◌, ℕ, ◌<◌, if◌then◌else◌, Bool, false, List, Option, Some, None, Result, Ok, Err, refl, sym, ap, ◌∙◌, subst}
 use Rattle.xp_words.specs.Entries.{frame_of}
 use Rattle.xp_words.specs.declared.context.LdtBase.{LdtBase}
@@ -70,11 +71,8 @@ module _ (stays : AloneStays) (v w : PortValue) (x : Solo) (clean : Clean v x) w
     barred_like y answer why vs (by.baseless free at only) = absurd (let no = sym free ∙ why in cc)
     barred_like y answer why vs (by.walks base free some down) = absurd (let no = sym free ∙ why in cc)
 
-    some_same : (y z : Refusal) → Some z ≡ Some y → z ≡ y
-    some_same y z e = cc
-
     barred_as : (y : Refusal) (answer : Result Walked Stop) → walk_refusal va ≡ Some y → (vs : List Visit) → WalkBy v.post.machine v.post.vcpu user va write answer vs → answer ≡ Err (Refused y)
-    barred_as y answer why vs (by.barred z is at none) = at ∙ ap (λ k. Err (Refused k)) (some_same y z (sym is ∙ why))
+    barred_as y answer why vs (by.barred z is at none) = at ∙ ap (λ k. Err (Refused k)) (same_Some z y (sym is ∙ why))
     barred_as y answer why vs (by.baseless free at only) = absurd (let no = sym free ∙ why in cc)
     barred_as y answer why vs (by.walks base free some down) = absurd (let no = sym free ∙ why in cc)
 

@@ -1,4 +1,5 @@
 -- Writes of a guest, from a port that stands to a plain value.
+use Rattle.std.proofs.lemmas.Option.{same_Some}
 use Rattle.std.proofs.Common.{◌≡◌, ℕ, Bool, true, Option, Some, None, Result, Ok, Err, refl, sym, ap, ◌∙◌, subst}
 use Rattle.xp_words.specs.Entries.{frame_of}
 use Rattle.xp_words.specs.declared.place.Place.TheVariants.{Cell}
@@ -22,6 +23,7 @@ use Rattle.replay_laws.specs.Replays.{SameWords}
 use Rattle.replay_laws.proofs.Replaying.{as_only, as_then, does_replays}
 use Rattle.tlb_walks.specs.Accesses as acc
 use Rattle.tlb_walks.specs.Accesses.{GuestWrites, server}
+use Rattle.tlb_walks.proofs.Reading.{open_walk}
 use Rattle.tlb_walks.specs.Addresses.{access_refusal, cell_index, walk_refusal}
 use Rattle.tlb_walks.specs.Translating.{WalkedTo}
 use Rattle.tlb_walks.specs.Walks.{WalkBy, top_word}
@@ -36,7 +38,7 @@ use Rattle.solo_accesses.specs.Stale.{IsBacked, IsNeverStale, IsServedFresh}
 use Rattle.solo_accesses.proofs.Backing.{fresh_does, served}
 use Rattle.solo_accesses.proofs.Cells.{CellsOf, OnlyCells, SetsCell, only_then, set_cells, sets_only}
 use Rattle.solo_accesses.proofs.Keeping.{KeepsFrames, clean_cells}
-use Rattle.solo_accesses.proofs.Reading.{barred_access, keeps_way, no_server, one_server, refused_as, served_way, unread, unrefused, walk_came, walk_replays}
+use Rattle.solo_accesses.proofs.Reading.{barred_access, keeps_way, no_server, one_server, refused_as, served_way, unread, walk_came, walk_replays}
 use Rattle.solo_accesses.proofs.Resting.{cached_empty, holds_empty, same_empty}
 use Rattle.solo_accesses.proofs.Walking.{OnWay}
 use Rattle.solo_accesses.proofs.Ways.{way_left}
@@ -75,11 +77,8 @@ module _ (stays : AloneStays) (v w : PortValue) (x : Solo) (clean : Clean v x) (
 
   barred_behind : (r : Walked) (e : ℕ) (way : Way) → r.barrier ≡ Some e → KeepsFrames x.frames (way_left way) → OnWay v.post.machine (told_word w) (Ok r) way → IsRefusedExactly w (ReadOnly e) (write_way va val x way)
   barred_behind r e (Leads f (Some y) q) is same (frame, barrier, inside, cells) =
-      let one : y ≡ e = some_number y e (sym barrier ∙ is) in
+      let one : y ≡ e = same_Some y e (sym barrier ∙ is) in
       subst (λ k. IsRefusedExactly w (ReadOnly e) (stopped (Numbers (ReadOnly k)) (with_frames q x))) (sym one) (refused_as stays v w x clean came empty only (ReadOnly e) q same cells)
-    where
-      some_number : (a b : ℕ) → Some a ≡ Some b → a ≡ b
-      some_number a b at = cc
   barred_behind r e (Leads f None q) is same (frame, barrier, inside, cells) = absurd (let no = sym barrier ∙ is in cc)
   barred_behind r e (Stops z q) is same on = absurd on
 
@@ -132,9 +131,9 @@ module _ (stays : AloneStays) (v w : PortValue) (x : Solo) (clean : Clean v x) (
   pub write_served : (answer : Result (Unit {0}) Stop) → IsServedFresh v user va true → GuestWrites v w user va val answer → AccessComes w (write_at v.post.machine user va val x) (with_zero answer)
   write_served _ fresh (acc.barred y why does same) = subst (λ o. IsRefusedExactly w y (allowed o x (write_way va val x way_by))) (sym why) (unread stays v w x clean user va y does same)
   write_served _ fresh (acc.cached item found may is does same) = behind_test (Ok 0) _ may (cached_write item found is does same (fresh item may is))
-  write_served _ fresh (acc.stopped e may none does same) = behind_test (Err e) _ may (stopped_by e (unrefused va may) does same)
-  write_served _ fresh (acc.read_only r e may none is does hand) = behind_test (Err (Refused (ReadOnly e))) _ may (barred_by r e is (unrefused va may) does hand)
-  write_served _ fresh (acc.walked r found may none is does hand) = behind_test (Ok 0) _ may (walked_by r found is (unrefused va may) does hand)
+  write_served _ fresh (acc.stopped e may none does same) = behind_test (Err e) _ may (stopped_by e (open_walk va may) does same)
+  write_served _ fresh (acc.read_only r e may none is does hand) = behind_test (Err (Refused (ReadOnly e))) _ may (barred_by r e is (open_walk va may) does hand)
+  write_served _ fresh (acc.walked r found may none is does hand) = behind_test (Ok 0) _ may (walked_by r found is (open_walk va may) does hand)
 
 pub write_fresh : (v w : PortValue) (user : Bool) (va val : ℕ) (answer : Result (Unit {0}) Stop) → IsNeverStale v w → GuestWrites v w user va val answer → IsServedFresh v user va true
 write_fresh v w user va val _ fresh (acc.barred y why does same) = barred_access v user va true y why
