@@ -61,7 +61,7 @@ none_named : (x y : ℕ) → x ≡ 0 → y ≡ 0 → bit_named x + bit_named y �
 none_named x y a b = grind (arith, nat_tests)
 
 module _ (stays : AloneStays) (neither : NeitherLostNorBusy) where
-  ended_ok : (v w : PortValue) (x : Solo) (below : Option ℕ) (answers : List Bool) (answer : Result (Unit {0}) Stop) → Stands v x → told_word v (old_place v.post.vcpu First) ≡ 0 → Settles below v w answers answer → (p : Plain) → Describes v.post.machine (told_word v) p → answer ≡ Ok tt
+  pub ended_ok : (v w : PortValue) (x : Solo) (below : Option ℕ) (answers : List Bool) (answer : Result (Unit {0}) Stop) → Stands v x → told_word v (old_place v.post.vcpu First) ≡ 0 → Settles below v w answers answer → (p : Plain) → Describes v.post.machine (told_word v) p → answer ≡ Ok tt
   ended_ok v w x below answers answer s first settles p d =
       let telling = alone_telling v s.alone in
       (none_done v.post.machine p v telling first d w answers answer settles.course (none_second v w answers answer telling s.second settles.course)).0
@@ -79,7 +79,7 @@ module _ (stays : AloneStays) (neither : NeitherLostNorBusy) where
   known_settled v w below answers settles = record { first = settles.clear; second = settles.clear_too }
 
   -- ---- a release is left
-  due_by : (v w : PortValue) (x : Solo) (below : Option ℕ) (answers : List Bool) (e : Stop) → Stands v x → Settles below v w answers (Err e) → e ≡ Paused pauses.Due
+  pub due_by : (v w : PortValue) (x : Solo) (below : Option ℕ) (answers : List Bool) (e : Stop) → Stands v x → Settles below v w answers (Err e) → e ≡ Paused pauses.Due
   due_by v w x below answers (Paused pauses.Due) s settles = refl
   due_by v w x below answers (Paused (pauses.Lost place expected found)) s settles = absurd (neither v w (of_settle {A = Unit {0}} 0 0 (Err (Paused (pauses.Lost place expected found)))) (pauses.Lost place expected found) s.alone refl (settles.stops 0 0))
   due_by v w x below answers (Paused (pauses.Busy f found)) s settles = absurd (neither v w (of_settle {A = Unit {0}} 0 0 (Err (Paused (pauses.Busy f found)))) (pauses.Busy f found) s.alone refl (settles.stops 0 0))
