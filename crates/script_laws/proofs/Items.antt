@@ -15,7 +15,7 @@ use Rattle.table_law.specs.Plain.{Describes, plain_of}
 use Rattle.course_laws.proofs.Awaiting.{AloneStays, NeitherLostNorBusy}
 use Rattle.script_law.specs.Values.{Outcome, Solo}
 use Rattle.solo_ports.specs.Coming.{Comes}
-use Rattle.solo_ports.specs.Standing.{Clean, IsSettled, Owes, Stands, StaysAlike, whose}
+use Rattle.solo_ports.specs.Standing.{Clean, IsSettled, Owes, Stands, StaysAlike}
 use Rattle.vcpu_turn.specs.Settling.{Settles, SettlesFirst}
 use Rattle.vcpu_turn.specs.Settling as settling
 use Rattle.vcpu_turn.proofs.Hindering.{settles_came}
@@ -25,12 +25,13 @@ use Rattle.script_laws.proofs.Settling.{due_by, ended_ok, known_settled, same_se
 described : (v : PortValue) → Describes v.post.machine (told_word v) (plain_of (told_word v))
 described v = record { shares = λ g inside. refl; kinds = λ g inside. refl; cells = λ g i inside low. refl }
 
-module _ (stays : AloneStays) (neither : NeitherLostNorBusy) (v0 : PortValue) where
+-- `Good`: what else holds of a plain value between elements, by the words of domains in it
+module _ (stays : AloneStays) (neither : NeitherLostNorBusy) (v0 : PortValue) (Good : Solo → Type 0) where
   -- ---- the relation
-  -- where the script stands: behind the first port, and its domain lives
+  -- where the script stands: behind the first port
   pub record IsAhead (v : PortValue) (s : Solo) : Type 0 where
     pub came : Came v0 v
-    pub alive : s.lives (whose v0).domain ≡ 0
+    pub good : Good s
 
   pub record OwesF (v : PortValue) (s : Solo) : Type 0 where
     pub ahead : IsAhead v s
@@ -68,4 +69,4 @@ module _ (stays : AloneStays) (neither : NeitherLostNorBusy) (v0 : PortValue) wh
     pub first_comes : (v w : PortValue) (s : Solo) (answers : List Bool) (answer : Result (Unit {0}) Stop) → IsAhead v s → Owes v s ⊎ Kept v s → FairFrom v0 w → SettlesFirst P v w answers answer → Comes Kept w s (plain s) answer
     first_comes v _ s _ _ ahead pending fair (settling.SettlesFirst.unsettled w answers stop settles) = unsettled_by v w s answers stop pending settles
     first_comes v _ s _ _ ahead pending fair (settling.SettlesFirst.performed u w early answers answer settles does) =
-        law u w s answers answer (record { came = came_trans v0 v u ahead.came (settles_came v u early (Ok tt) settles); alive = ahead.alive }) (settled_first v u s early pending settles) (known_settled stays neither v u None early settles) settles.rests fair does
+        law u w s answers answer (record { came = came_trans v0 v u ahead.came (settles_came v u early (Ok tt) settles); good = ahead.good }) (settled_first v u s early pending settles) (known_settled stays neither v u None early settles) settles.rests fair does

@@ -1,5 +1,6 @@
 pub mod Calling
 pub mod Items
+pub mod Listed
 pub mod Lists
 pub mod Made
 pub mod Premises
