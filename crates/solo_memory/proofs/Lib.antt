@@ -1,0 +1,3 @@
+mod Sounding
+mod Choosing
+mod Taking
