@@ -1,3 +1,4 @@
 mod Sounding
 mod Choosing
 mod Taking
+mod Behind
