@@ -3,6 +3,6 @@ mod Leaving
 mod Deciding
 mod Described
 mod Repeating
-mod Untouched
+pub mod Untouched
 mod Sparing
 mod Keeping

@@ -27,6 +27,10 @@ use Rattle.solo_ports.specs.Standing.{Clean, IsUnkept, ShowsOthers, Stands}
 abbrev pub IsQuiet : List Deed → Type 0
 IsQuiet ds = (s k y : ℕ) → Member (SetsWord s k y) ds → ⊥
 
+pub none_quiet : IsQuiet []
+unfolding Member
+none_quiet s k y at = at
+
 shown_told : (k : ℕ) → IsShownWord k → IsTrue (is_told_word k)
 shown_told k (base low) = grind (arith, nat_tests)
 shown_told k (tables low high) = grind (arith, nat_tests)
