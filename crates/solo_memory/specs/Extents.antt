@@ -1,12 +1,14 @@
 -- What one extent comes to by one vCPU alone.
-use Rattle.std.specs.Prelude.{◌≡◌, ℕ, zero, suc, ◌+◌, List, [], ◌∷◌, Option, Some, None, Result, Ok, Err}
+use Rattle.std.specs.Prelude.{◌≡◌, ℕ, zero, suc, ◌+◌, ◌-◌, List, [], ◌∷◌, Option, Some, None, Result, Ok, Err}
 use Rattle.xp_words.specs.Machine.{Machine}
 use Rattle.xp_words.specs.declared.reply.Stop.{Stop}
 use Rattle.xp_words.specs.declared.reply.Stop.TheVariants.{Refused, Paused}
 use Rattle.xp_board.specs.Told.{PortValue}
 use Rattle.reservations.specs.Returning.{number_at}
-use Rattle.script_law.specs.Memory.{return_frame}
-use Rattle.script_law.specs.Values.{Given, Line, Outcome, Solo, did, then_do}
+use Rattle.reservations.specs.declared.extents.Extent.{Extent}
+use Rattle.reservations.specs.declared.extents.Extent.TheVariants.{Decrease, Increase, Populate}
+use Rattle.script_law.specs.Memory.{reserve, return_frame}
+use Rattle.script_law.specs.Values.{Given, Line, Outcome, Solo, Whose, did, then_do}
 use Rattle.solo_ports.specs.Coming.{IsRefusedSo}
 use Rattle.solo_ports.specs.Standing.{Clean}
 
@@ -31,3 +33,9 @@ ComesExtent call k w o (Err (Paused p)) = ⊥
 unfoldable pub return_rest : Machine → ℕ → ℕ → ℕ → ℕ → Solo → Outcome
 return_rest n d first from zero s = did s
 return_rest n d first from (suc k) s = then_do (return_rest n d first from k s) (return_frame n d (number_at first (from + k)))
+
+-- what is left to do of an extent of which `from` frames are given back; a block has no place within
+abbrev pub reserve_from : Whose → ℕ → ℕ → ℕ → ℕ → Extent → Solo → Outcome
+reserve_from w size call k from Increase s = reserve w size call k Increase s
+reserve_from w size call k from (Populate gpfn) s = reserve w size call k (Populate gpfn) s
+reserve_from w size call k from (Decrease first) s = return_rest w.machine w.domain first from (size - from) s
