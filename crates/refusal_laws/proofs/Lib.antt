@@ -3,6 +3,6 @@ mod Leaving
 mod Deciding
 mod Described
 mod Repeating
-pub mod Untouched
+mod Untouched
 mod Sparing
 mod Keeping
