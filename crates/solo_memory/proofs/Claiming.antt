@@ -48,7 +48,7 @@ use Rattle.script_law.specs.Values.{Given, Numbers, Outcome, Solo, stopped}
 use Rattle.solo_ports.specs.Coming.{IsRefusedSo}
 use Rattle.solo_ports.specs.Standing.{Clean, IsUnkept, nothing, whose}
 use Rattle.solo_memory.specs.Extents.{ComesExtent, IsReservedSo}
-use Rattle.solo_memory.proofs.Behind.{IsQuiet, clean_behind}
+use Rattle.solo_memory.proofs.Behind.{SetsNone, clean_behind}
 use Rattle.solo_memory.proofs.Choosing.{first_there, none_there}
 use Rattle.solo_memory.proofs.Sounding.{alone_empty, alone_sound, free_is, pages_are}
 use Rattle.solo_memory.proofs.Taking.{away_stays, claim_away, claim_cells, claim_maps, claim_refs, refused_away}
@@ -67,7 +67,7 @@ pub made_away : (v w : PortValue) (P : List Visit → Type 0) (p : Place) → Ma
 made_away v w P p made away = made.leaves p ∙ away_stays p P away (told_word v) made.list made.like
 
 -- ---- deeds
-pub given_quiet : (first k : ℕ) → IsQuiet (given_deeds first k)
+pub given_quiet : (first k : ℕ) → SetsNone (given_deeds first k)
 unfolding Member
 given_quiet first zero s i y at = at
 given_quiet first (suc k) s i y (inl is) = absurd cc

@@ -1,6 +1,7 @@
 -- What a claim by one vCPU alone answers is what the plain one answers.
 use Rattle.std.proofs.Common.{◌≡◌, ℕ, ◌+◌, ◌*◌, ◌/◌, ◌^◌, ◌<◌, ◌≤◌, ◌==◌, nat_lt, is_none, if◌then◌else◌, Bool, true, false, [], ◌∷◌, length, slice_index, Option, Some, None, Result, Ok, Err, refl, sym, ap, ◌∙◌, subst, arith}
 use Rattle.std.proofs.lemmas.Bool.Decides.{nat_tests}
+use Rattle.std.proofs.lemmas.List.Elements.{All-get_or}
 use Rattle.xp_words.specs.Machine.{Machine}
 use Rattle.xp_words.specs.declared.place.Place.TheVariants.{Cell, Kind, M2p, Pages, Refs}
 use Rattle.xp_words.specs.KindWords.{kind_fields}
@@ -33,13 +34,17 @@ use Rattle.script_law.specs.Values.{Given, Numbers, Outcome, Solo, Why, stopped}
 use Rattle.solo_ports.specs.Coming.{IsRefusedSo, IsWhy}
 use Rattle.solo_ports.specs.Standing.{Clean, nothing, whose}
 use Rattle.solo_memory.specs.Extents.{IsReservedSo}
-use Rattle.solo_memory.proofs.Behind.{clean_behind, none_quiet}
+use Rattle.solo_memory.proofs.Behind.{clean_behind, nothing_set}
 use Rattle.solo_memory.proofs.Choosing.{first_there, none_there}
 use Rattle.solo_memory.proofs.Claiming.{Made, does_made, made_away, old_aside}
 use Rattle.solo_memory.proofs.Sounding.{alone_empty, alone_sound, free_is, pages_are}
 use Rattle.solo_memory.proofs.Taking.{refused_away}
 
-module _ (v : PortValue) (x : Solo) (clean : Clean v x) (size call k : ℕ) (gpfn : Option ℕ) (some : 0 < size) (inside : domain_of v.post.machine v.post.vcpu < length v.post.machine.page_limit) where
+-- the own domain is one of the machine
+pub own_domain : (v : PortValue) (x : Solo) → Clean v x → domain_of v.post.machine v.post.vcpu < length v.post.machine.page_limit
+own_domain v x clean = let n = v.post.machine in All-get_or (λ d. d < length n.page_limit) n.vcpu_domain v.post.vcpu 0 clean.stands.real clean.stands.machine.of_domains
+
+module _ (v : PortValue) (x : Solo) (clean : Clean v x) (size call k : ℕ) (gpfn : Option ℕ) (some : 0 < size) where
   abbrev n : Machine
   n = v.post.machine
 
@@ -51,7 +56,7 @@ module _ (v : PortValue) (x : Solo) (clean : Clean v x) (size call k : ℕ) (gpf
       free_is v.post.machine (told_word v) _ (alone_sound v clean.stands.alone) (alone_empty v clean.stands.alone clean.stands.empty) g low ∙ ap is_none (sym (clean.frames.shares g low))
 
   pages : told_word v (Pages (domain_of v.post.machine v.post.vcpu)) ≡ pages_of v.post.machine (domain_of v.post.machine v.post.vcpu) x.frames
-  pages = pages_are v.post.machine (told_word v) _ (alone_sound v clean.stands.alone) (alone_empty v clean.stands.alone clean.stands.empty) x.frames (domain_of v.post.machine v.post.vcpu) clean.frames inside
+  pages = pages_are v.post.machine (told_word v) _ (alone_sound v clean.stands.alone) (alone_empty v clean.stands.alone clean.stands.empty) x.frames (domain_of v.post.machine v.post.vcpu) clean.frames (own_domain v x clean)
 
   abbrev count : ℕ
   count = pages_of v.post.machine (domain_of v.post.machine v.post.vcpu) x.frames
@@ -116,7 +121,7 @@ module _ (v w : PortValue) (x : Solo) (clean : Clean v x) (d size : ℕ) (gpfn :
 
   pub refused_clean : AloneStays → IsEmptyHand w.holdings → r.destroys ≡ None → r.grants ≡ None → Clean w x
   refused_clean stays empty spares grants =
-      clean_behind v w x clean stays (does_came v w _ does) empty r [] serves spares grants none_quiet old_same x.frames x.maps (λ g low. clean.stands.others.maps g low ∙ sym (map_same g)) clean.stands.unkept
+      clean_behind v w x clean stays (does_came v w _ does) empty r [] serves spares grants nothing_set old_same x.frames x.maps (λ g low. clean.stands.others.maps g low ∙ sym (map_same g)) clean.stands.unkept
       (record {
         shares = λ g low. clean.frames.shares g low ∙ ap share_of (sym (refs_same g));
         kinds = λ g low. clean.frames.kinds g low ∙ ap (λ z. sober (kind_fields z)) (sym (kind_same g));
@@ -124,13 +129,13 @@ module _ (v w : PortValue) (x : Solo) (clean : Clean v x) (d size : ℕ) (gpfn :
       })
 
 -- ---- why a claim stops
-module _ (v w : PortValue) (x : Solo) (clean : Clean v x) (size call k : ℕ) (gpfn : Option ℕ) (some : 0 < size) (inside : domain_of v.post.machine v.post.vcpu < length v.post.machine.page_limit) (goes : ClockGoesOn v w) where
+module _ (v w : PortValue) (x : Solo) (clean : Clean v x) (size call k : ℕ) (gpfn : Option ℕ) (some : 0 < size) (goes : ClockGoesOn v w) where
   abbrev dom : ℕ
   dom = domain_of v.post.machine v.post.vcpu
 
   pub claim_refused : (r : Request) (y : Refusal) → Stops v w r (Refused y) → ClaimsPlainly v.post.machine (told_word v) dom size (Err (Refused y)) → Clean w x → IsRefusedSo w y (claim (whose v) size call k gpfn x)
-  claim_refused r (refusals.DomainFull q) stops plain after = refused_so v w x (refusals.DomainFull q) _ after (claims_full v x clean size call k gpfn some inside plain.1 ∙ ap (λ c. stopped (Numbers (refusals.DomainFull c)) x) (sym plain.0))
-  claim_refused r refusals.NoFree stops plain after = refused_so v w x refusals.NoFree _ after (claims_none v x clean size call k gpfn some inside plain.0 plain.1)
+  claim_refused r (refusals.DomainFull q) stops plain after = refused_so v w x (refusals.DomainFull q) _ after (claims_full v x clean size call k gpfn some plain.1 ∙ ap (λ c. stopped (Numbers (refusals.DomainFull c)) x) (sym plain.0))
+  claim_refused r refusals.NoFree stops plain after = refused_so v w x refusals.NoFree _ after (claims_none v x clean size call k gpfn some plain.0 plain.1)
   claim_refused r (refusals.Clock z) stops plain after = absurd (clock_by v w v w r z goes (came_self v) (came_self w) stops)
   claim_refused r _ stops plain after = absurd plain
 

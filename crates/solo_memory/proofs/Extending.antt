@@ -32,19 +32,18 @@ use Rattle.table_law.specs.Plain.{Describes, Plain}
 use Rattle.table_twins.proofs.Entering.{described_leaves}
 use Rattle.course_laws.specs.Courses.{ClockGoesOn}
 use Rattle.course_laws.proofs.Awaiting.{AloneStays}
-use Rattle.refusal_laws.specs.Repeated.{IsUntouched, maps, word}
 use Rattle.script_law.specs.Memory.{claim, reserve, return_frames}
 use Rattle.script_law.specs.Values.{Frames, Numbers, Outcome, Solo, Whose, did, stopped, then_do, with_frames}
 use Rattle.solo_ports.specs.Coming.{IsRefusedSo}
 use Rattle.solo_ports.specs.Standing.{Clean, IsSettled, nothing, whose}
 use Rattle.solo_memory.specs.Extents.{ComesExtent, IsReservedSo, reserve_from, return_rest}
-use Rattle.solo_memory.proofs.Behind.{IsQuiet, clean_behind, none_quiet}
+use Rattle.solo_memory.proofs.Behind.{SetsNone, clean_behind, nothing_set}
 use Rattle.solo_memory.proofs.Claiming.{claimed_clean, does_made}
-use Rattle.solo_memory.proofs.Coming.{claim_never_pauses, claim_refused, claims_block, refused_clean, refused_so}
-use Rattle.solo_memory.proofs.Returning.{AreReturned, all_back, all_frames, all_spares, next_refused, parts_by, stays_stopped}
+use Rattle.solo_memory.proofs.Coming.{claim_never_pauses, claim_refused, claims_block, own_domain, refused_clean, refused_so}
+use Rattle.solo_memory.proofs.Returning.{AreReturned, all_back, all_frames, maps_stay, next_refused, parts_by, stays_stopped, words_stay}
 
 -- ---- frames are given back
-returned_quiet : (first k : ℕ) → IsQuiet (returned_deeds first k)
+returned_quiet : (first k : ℕ) → SetsNone (returned_deeds first k)
 unfolding Member
 returned_quiet first zero s i y at = at
 returned_quiet first (suc k) s i y (inl is) = absurd cc
@@ -58,15 +57,15 @@ module _ (v w : PortValue) (x : Solo) (clean : Clean v x) (stays : AloneStays) (
   telling = alone_telling v clean.stands.alone
 
   -- how it stands behind so many of them
-  module _ (ds : List Deed) (quiet : IsQuiet ds) (serves : Serves v w (of_returns d size first) ds) (k : ℕ) (leaves : (q : Place) → told_word w q ≡ all_returned first from k (told_word v) q) (back : AreReturned v.post.machine d first from (told_word v) x clean.frames k) where
+  module _ (ds : List Deed) (quiet : SetsNone ds) (serves : Serves v w (of_returns d size first) ds) (k : ℕ) (leaves : (q : Place) → told_word w q ≡ all_returned first from k (told_word v) q) (back : AreReturned v.post.machine d first from (told_word v) x clean.frames k) where
     old_same : (o : OldWord) → told_word w (old_place v.post.vcpu o) ≡ told_word v (old_place v.post.vcpu o)
-    old_same First = leaves (Vcpu v.post.vcpu 2) ∙ all_spares first from k (told_word v) (Vcpu v.post.vcpu 2) (word v.post.vcpu 2 (λ e. absurd cc) (λ e. absurd cc))
-    old_same Second = leaves (Vcpu v.post.vcpu 3) ∙ all_spares first from k (told_word v) (Vcpu v.post.vcpu 3) (word v.post.vcpu 3 (λ e. absurd cc) (λ e. absurd cc))
+    old_same First = leaves (Vcpu v.post.vcpu 2) ∙ words_stay first from k v.post.vcpu 2 (told_word v)
+    old_same Second = leaves (Vcpu v.post.vcpu 3) ∙ words_stay first from k v.post.vcpu 3 (told_word v)
 
     returned_clean : Clean w (with_frames back.after x)
     returned_clean =
         clean_behind v w x clean stays came empty (of_returns d size first) ds serves refl refl quiet old_same back.after x.maps
-        (λ g low. clean.stands.others.maps g low ∙ sym (leaves (M2p g) ∙ all_spares first from k (told_word v) (M2p g) (maps g))) (λ g low. ap (λ (c : KindWord). c.kept) (back.kinds g) ∙ clean.stands.unkept g low)
+        (λ g low. clean.stands.others.maps g low ∙ sym (leaves (M2p g) ∙ maps_stay first from k g (told_word v))) (λ g low. ap (λ (c : KindWord). c.kept) (back.kinds g) ∙ clean.stands.unkept g low)
         (described_leaves v.post.machine w (all_returned first from k (told_word v)) back.after leaves back.described)
 
   -- all are given back
@@ -98,19 +97,19 @@ module _ (v w : PortValue) (x : Solo) (clean : Clean v x) (stays : AloneStays) (
       }
 
 -- ---- any extent
-module _ (stays : AloneStays) (v w : PortValue) (x : Solo) (clean : Clean v x) (size call k : ℕ) (some : 0 < size) (inside : domain_of v.post.machine v.post.vcpu < length v.post.machine.page_limit) (goes : ClockGoesOn v w) (rests : Rests w) where
+module _ (stays : AloneStays) (v w : PortValue) (x : Solo) (clean : Clean v x) (size call k : ℕ) (some : 0 < size) (goes : ClockGoesOn v w) (rests : Rests w) where
   abbrev d : ℕ
   d = domain_of v.post.machine v.post.vcpu
 
   small : d < 2 ^ 16
-  small = let few = clean.stands.machine.few_domains in omega arith
+  small = let few = clean.stands.machine.few_domains in let inside = own_domain v x clean in omega arith
 
   -- a block
   takes : (r : Request) (block : ℕ) (gpfn : Option ℕ) (answer : Result (Option ℕ) Stop) → ((g : ℕ) → (g / size == block) ≡ false → IsUnasked r g) → r.destroys ≡ None → r.grants ≡ None → IsBlock v.post.machine size Increase block answer →
       Serves v w r (claim_deeds v.post.machine size answer) → IfErr answer (λ e. (s : Request) × Stops v w s e) → TakesPlainly v.post.machine (told_word v) d size answer → Does v w (λ vs. TakesBy v.post d size gpfn answer vs) →
       ComesExtent call k w (claim (whose v) size call k gpfn x) answer
   takes r block gpfn (Ok (Some f)) unasked spares grants is serves stops plain does =
-      let o = claims_block v x clean size call k gpfn some inside f plain.0 plain.1 in
+      let o = claims_block v x clean size call k gpfn some f plain.0 plain.1 in
       record {
         fine = ap (λ (z : Outcome). z.refusal) o;
         lines = ap (λ (z : Outcome). z.lines) o;
@@ -118,8 +117,8 @@ module _ (stays : AloneStays) (v w : PortValue) (x : Solo) (clean : Clean v x) (
       }
   takes r block gpfn (Ok None) unasked spares grants is serves stops plain does = absurd is
   takes r block gpfn (Err (Refused y)) unasked spares grants is serves stops plain does =
-      claim_refused v w x clean size call k gpfn some inside goes stops.0 y stops.1 plain (refused_clean v w x clean d size gpfn y r serves does stays rests.empty spares grants)
-  takes r block gpfn (Err (Paused z)) unasked spares grants is serves stops plain does = claim_never_pauses v w x clean size call k gpfn some inside goes stops.0 z stops.1 plain
+      claim_refused v w x clean size call k gpfn some goes stops.0 y stops.1 plain (refused_clean v w x clean d size gpfn y r serves does stays rests.empty spares grants)
+  takes r block gpfn (Err (Paused z)) unasked spares grants is serves stops plain does = claim_never_pauses v w x clean size call k gpfn some goes stops.0 z stops.1 plain
 
   -- a number that is too high is refused without a step
   high : (r : Request) → r.destroys ≡ None → r.grants ≡ None → Serves v w r [] → Does v w (λ vs. (a : Result (Option ℕ) Stop) × Nothing vs) → IsRefusedSo w refusals.BadRange (stopped (Numbers refusals.BadRange) x)
@@ -127,7 +126,7 @@ module _ (stays : AloneStays) (v w : PortValue) (x : Solo) (clean : Clean v x) (
       let made = does_made v w (λ vs. (a : Result (Option ℕ) Stop) × Nothing vs) (alone_telling v clean.stands.alone) does in
       let same : (q : Place) → told_word w q ≡ told_word v q = λ q. made.leaves q ∙ ap (λ us. words_after (told_word v) us q) made.like.1 in
       let after : Clean w x =
-      clean_behind v w x clean stays (does_came v w _ does) rests.empty r [] serves spares grants none_quiet (λ o. same (old_place v.post.vcpu o)) x.frames x.maps (λ g low. clean.stands.others.maps g low ∙ sym (same (M2p g))) clean.stands.unkept
+      clean_behind v w x clean stays (does_came v w _ does) rests.empty r [] serves spares grants nothing_set (λ o. same (old_place v.post.vcpu o)) x.frames x.maps (λ g low. clean.stands.others.maps g low ∙ sym (same (M2p g))) clean.stands.unkept
           (described_leaves v.post.machine w (told_word v) x.frames same clean.frames) in
       refused_so v w x refusals.BadRange (stopped (Numbers refusals.BadRange) x) after refl
 
@@ -159,21 +158,21 @@ stops_for : (d size : ℕ) (extent : Extent) (v w : PortValue) (answer : Result 
 stops_for d size extent v w (Ok a) stops = tt
 stops_for d size extent v w (Err e) stops = (of_extent d size extent stops.0, stops.1)
 
-pub comes_extent : AloneStays → (v w : PortValue) (x : Solo) (size call k : ℕ) (extent : Extent) (from left : ℕ) (answer : Result (Option ℕ) Stop) → Clean v x → 0 < size → domain_of v.post.machine v.post.vcpu < length v.post.machine.page_limit → ClockGoesOn v w → from ≤ size →
+pub comes_extent : AloneStays → (v w : PortValue) (x : Solo) (size call k : ℕ) (extent : Extent) (from left : ℕ) (answer : Result (Option ℕ) Stop) → Clean v x → 0 < size → ClockGoesOn v w → from ≤ size →
     Reserves (domain_of v.post.machine v.post.vcpu) size extent from v left w answer → ComesExtent call k w (reserve_from (whose v) size call k from extent x) answer
-comes_extent stays v w x size call k Increase from left answer clean some inside goes few a =
+comes_extent stays v w x size call k Increase from left answer clean some goes few a =
     let d = domain_of v.post.machine v.post.vcpu in
     let b = a.serves.block in
-    takes stays v w x clean size call k some inside goes a.rests (of_block d size b) b None answer (unasked_block stays v w x clean size call k some inside goes a.rests b) refl refl a.serves.is a.serves.serves (stops_for d size Increase v w answer a.stops)
+    takes stays v w x clean size call k some goes a.rests (of_block d size b) b None answer (unasked_block stays v w x clean size call k some goes a.rests b) refl refl a.serves.is a.serves.serves (stops_for d size Increase v w answer a.stops)
     (a.plain clean.stands.alone) a.found
-comes_extent stays v w x size call k (Populate gpfn) from left answer clean some inside goes few a =
+comes_extent stays v w x size call k (Populate gpfn) from left answer clean some goes few a =
     let d = domain_of v.post.machine v.post.vcpu in
     let b = a.serves.block in
-    populates stays v w x clean size call k some inside goes a.rests gpfn (record (of_block d size b) { by_numbers = high_refusal (too_high gpfn) }) b answer (too_high gpfn)
+    populates stays v w x clean size call k some goes a.rests gpfn (record (of_block d size b) { by_numbers = high_refusal (too_high gpfn) }) b answer (too_high gpfn)
     (λ g off. record { names = off; backs = refl; entries = refl; contexts = refl; walks = refl; destroys = refl }) refl refl (block_for v.post.machine size gpfn b answer a.serves.is) a.serves.serves (stops_for d size (Populate gpfn) v w answer a.stops)
     (a.plain clean.stands.alone) a.found
-comes_extent stays v w x size call k (Decrease first) from left answer clean some inside goes few a =
-    decreases stays v w x clean size call k some inside goes a.rests first from left answer a.serves.block few (does_came v w _ a.found) a.serves.is a.serves.serves a.place (a.plain (alone_telling v clean.stands.alone))
+comes_extent stays v w x size call k (Decrease first) from left answer clean some goes few a =
+    decreases stays v w x clean size call k some goes a.rests first from left answer a.serves.block few (does_came v w _ a.found) a.serves.is a.serves.serves a.place (a.plain (alone_telling v clean.stands.alone))
 
 -- ---- from its beginning
 pub whole_extent : (w : Whose) (size call k : ℕ) (extent : Extent) (x : Solo) → reserve_from w size call k 0 extent x ≡ reserve w size call k extent x

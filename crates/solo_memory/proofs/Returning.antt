@@ -4,24 +4,25 @@ use Rattle.std.proofs.lemmas.Bool.{cases_eq}
 use Rattle.std.proofs.lemmas.Bool.Decides.{nat_tests}
 use Rattle.xp_words.specs.Machine.{Machine}
 use Rattle.xp_words.specs.RefWords.{IsRef, ref_read, ref_write}
-use Rattle.xp_words.specs.declared.place.Place.TheVariants.{Refs}
+use Rattle.xp_words.specs.declared.place.Place.TheVariants.{M2p, Refs, Vcpu}
 use Rattle.xp_words.specs.declared.refs.RefWord.{RefWord}
 use Rattle.xp_words.specs.declared.refs.RefWord.TheVariants.{Dying, Free, Owned}
 use Rattle.xp_words.specs.declared.reply.Refusal.{Refusal}
 use Rattle.xp_words.specs.declared.reply.Refusal.TheVariants as refusals
 use Rattle.xp_words.proofs.RefLaws.{ref_read-write, ref_write-read}
 use Rattle.xp_board.specs.Acts.{left_by}
+use Rattle.xp_board.specs.Readings.{owner_of, ref_count}
+use Rattle.xp_board.specs.RefSteps.{owner_number}
 use Rattle.xp_board.specs.declared.step.Act.TheVariants.{Store}
 use Rattle.xp_board.proofs.RefWords.{read_small}
 use Rattle.step_maker.specs.Plain.{Words, change}
-use Rattle.frame_words.specs.Plain.{put}
+use Rattle.frame_words.specs.Plain.{lowered, set_free}
 use Rattle.reservations.specs.Returning.{all_returned, cleared, cleared_in, is_own_allocated, next_refusal, number_at, return_refusal, returned}
 use Rattle.table_law.specs.Alone as causes
 use Rattle.table_law.specs.Plain.{Describes, Plain, Share, at, reference_back, share_in, share_of, with_share}
 use Rattle.table_law.proofs.Counting.{at_here}
 use Rattle.table_twins.specs.Answers.{IsCause}
 use Rattle.table_twins.proofs.Sharing.{same_back, shared}
-use Rattle.refusal_laws.proofs.Untouched.{Spares, put_spares, refs_spares, spares_then}
 use Rattle.script_law.specs.Memory.{is_allocated_to, return_frame, return_frames, unmarked}
 use Rattle.script_law.specs.Values.{Frames, Outcome, Solo, Why, did, next_behind, stopped, then_do, with_frames}
 use Rattle.solo_memory.specs.Extents.{return_rest}
@@ -153,16 +154,29 @@ stays_stopped n d first from x s y k (suc t) low is =
     ]
 
 -- ---- words that stay
-returned_spares : (g : ℕ) (m : Words) → Spares m (returned g m)
-returned_spares g m =
-    let a = change (Store (cleared (m (Refs g)))) (Refs g) m in
-    spares_then m a (put g a) (refs_spares (Store (cleared (m (Refs g)))) g m) (put_spares g a)
+put_word : (b : Bool) (f owner s k : ℕ) (m : Words) → (if b then set_free f owner (lowered f m) else lowered f m) (Vcpu s k) ≡ m (Vcpu s k)
+put_word true f owner s k m = refl
+put_word false f owner s k m = refl
 
-pub all_spares : (first from k : ℕ) (m : Words) → Spares m (all_returned first from k m)
-all_spares first from zero m = λ q off. refl
-all_spares first from (suc k) m =
+put_map : (b : Bool) (f owner g : ℕ) (m : Words) → (if b then set_free f owner (lowered f m) else lowered f m) (M2p g) ≡ m (M2p g)
+put_map true f owner g m = refl
+put_map false f owner g m = refl
+
+pub words_stay : (first from k s j : ℕ) (m : Words) → all_returned first from k m (Vcpu s j) ≡ m (Vcpu s j)
+words_stay first from zero s j m = refl
+words_stay first from (suc k) s j m =
     let b = all_returned first from k m in
-    spares_then m b (returned (number_at first (from + k)) b) (all_spares first from k m) (returned_spares (number_at first (from + k)) b)
+    let g = number_at first (from + k) in
+    let a = change (Store (cleared (b (Refs g)))) (Refs g) b in
+    put_word (ref_count (a (Refs g)) == 1) g (owner_number (owner_of (a (Refs g)))) s j a ∙ words_stay first from k s j m
+
+pub maps_stay : (first from k h : ℕ) (m : Words) → all_returned first from k m (M2p h) ≡ m (M2p h)
+maps_stay first from zero h m = refl
+maps_stay first from (suc k) h m =
+    let b = all_returned first from k m in
+    let g = number_at first (from + k) in
+    let a = change (Store (cleared (b (Refs g)))) (Refs g) b in
+    put_map (ref_count (a (Refs g)) == 1) g (owner_number (owner_of (a (Refs g)))) h a ∙ maps_stay first from k h m
 
 -- ---- an extent is its parts
 then_same : (o : Outcome) (f g : Solo → Outcome) (r : Option Why) → o.refusal ≡ r → then_do (next_behind o r f) g ≡ next_behind o r (λ s. then_do (f s) g)

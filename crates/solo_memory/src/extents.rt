@@ -1,5 +1,5 @@
 //! What one extent comes to by one vCPU alone: it is done or refused as the plain one, and never paused.
-ghost use Rattle.std.specs.Prelude.{◌≡◌, ◌<◌, ◌≤◌, ℕ, length, Option, Result};
+ghost use Rattle.std.specs.Prelude.{◌≡◌, ◌<◌, ◌≤◌, ℕ, Option, Result};
 ghost use Rattle.xp_words.specs.declared.reply.Stop.{Stop};
 ghost use Rattle.xp_board.specs.Readings.{domain_of};
 ghost use Rattle.xp_board.specs.Told.{PortValue};
@@ -16,7 +16,7 @@ use answer_laws::alone_stays;
 /// By the only vCPU, where nothing is left to be settled, an extent of its domain is done or refused as the plain one, and leaves what that leaves: it takes the first aligned block that
 /// is wholly free, or gives back the frames up to the first that it may not. It is never paused.
 pub fn an_extent_alone_comes_to_its_plain_meaning()
-    ensures { (v w : PortValue) (x : Solo) (size call k : ℕ) (extent : Extent) (left : ℕ) (answer : Result (Option ℕ) Stop) → Clean v x → 0 < size → domain_of v.post.machine v.post.vcpu < length v.post.machine.page_limit → Fair v w →
+    ensures { (v w : PortValue) (x : Solo) (size call k : ℕ) (extent : Extent) (left : ℕ) (answer : Result (Option ℕ) Stop) → Clean v x → 0 < size → Fair v w →
         Reserves (domain_of v.post.machine v.post.vcpu) size extent 0 v left w answer → ComesExtent call k w (reserve (whose v) size call k extent x) answer }
 {
     alone_stays();
@@ -24,7 +24,7 @@ pub fn an_extent_alone_comes_to_its_plain_meaning()
 
 /// And so is one that goes on behind frames that are given back already: what is left from there.
 pub fn the_rest_of_an_extent_alone_comes_to_its_plain_meaning()
-    ensures { (v w : PortValue) (x : Solo) (size call k : ℕ) (extent : Extent) (from left : ℕ) (answer : Result (Option ℕ) Stop) → Clean v x → 0 < size → domain_of v.post.machine v.post.vcpu < length v.post.machine.page_limit → Fair v w → from ≤ size →
+    ensures { (v w : PortValue) (x : Solo) (size call k : ℕ) (extent : Extent) (from left : ℕ) (answer : Result (Option ℕ) Stop) → Clean v x → 0 < size → Fair v w → from ≤ size →
         Reserves (domain_of v.post.machine v.post.vcpu) size extent from v left w answer → ComesExtent call k w (reserve_from (whose v) size call k from extent x) answer }
 {
     alone_stays();
