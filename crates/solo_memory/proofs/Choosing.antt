@@ -1,14 +1,13 @@
 -- The first block that is wholly free, on words and on the plain value.
-use Rattle.std.proofs.Common.{◌≡◌, ℕ, zero, suc, ◌+◌, ◌*◌, ◌/◌, ◌%◌, ◌<◌, ◌≤◌, ◌&&◌, is_none, if◌then◌else◌, Bool, true, false, Option, Some, None, refl, sym, ap, ◌∙◌, subst, inl, inr, arith}
+use Rattle.std.proofs.Common.{◌≡◌, ℕ, zero, suc, ◌+◌, ◌*◌, ◌/◌, ◌%◌, ◌<◌, ◌≤◌, ◌&&◌, is_none, if◌then◌else◌, Bool, true, false, Some, None, refl, sym, ap, ◌∙◌, subst, inl, inr, arith}
 use Rattle.std.proofs.Math.Nat.{div-add-mod', le-div_iff_mul-le}
 use Rattle.std.proofs.lemmas.Bool.{cases_Bool, cases_eq}
-use Rattle.std.proofs.lemmas.Bool.Decides.{nat_tests}
 use Rattle.xp_words.specs.Machine.{Machine}
 use Rattle.xp_words.specs.declared.place.Place.TheVariants.{Refs}
 use Rattle.xp_board.specs.Readings.{is_free}
 use Rattle.step_maker.specs.Plain.{Words}
 use Rattle.frame_claims.specs.Plain.{IsFirstFree, IsWhollyFree}
-use Rattle.table_law.specs.Plain.{Describes, Plain}
+use Rattle.table_law.specs.Plain.{Plain}
 use Rattle.script_law.specs.Memory.{first_free}
 use Rattle.script_law.specs.Repeats.{all_below, first_of}
 

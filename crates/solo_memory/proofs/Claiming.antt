@@ -1,32 +1,23 @@
 -- A claim by one vCPU alone comes to its plain meaning.
-use Rattle.std.proofs.Common.{◌≡◌, ◌≢◌, ℕ, zero, suc, ◌+◌, ◌-◌, ◌*◌, ◌/◌, ◌%◌, ◌^◌, ◌<◌, ◌≤◌, ◌==◌, ◌&&◌, nat_le, nat_lt, is_none, if◌then◌else◌, Bool, true, false, List, [], ◌∷◌, length, slice_index, Option, Some, None, Result, Ok, Err, IsTrue, refl, sym, ap, ◌∙◌, subst, inl, inr, arith}
+use Rattle.std.proofs.Common.{◌≡◌, ◌≢◌, ℕ, zero, suc, ◌+◌, ◌-◌, ◌*◌, ◌/◌, ◌^◌, ◌<◌, ◌≤◌, ◌==◌, if◌then◌else◌, Bool, true, false, List, Option, Some, None, Ok, refl, sym, ap, ◌∙◌, subst, inl, inr, arith}
 use Rattle.std.proofs.Math.Nat.{div-add-mod', mod-lt}
 use Rattle.std.proofs.lemmas.Bool.{cases_Bool}
 use Rattle.std.proofs.lemmas.Bool.Decides.{nat_tests}
 use Rattle.xp_words.specs.KindWords.{kind_fields}
 use Rattle.xp_words.specs.Machine.{Machine}
-use Rattle.xp_words.specs.RefWords.{IsRef, ref_read, ref_write}
+use Rattle.xp_words.specs.RefWords.{IsRef, ref_write}
 use Rattle.xp_words.specs.declared.place.Place.{Place}
-use Rattle.xp_words.specs.declared.place.Place.TheVariants.{Cell, Clock, Kind, M2p, Map, Pages, Priv, Refs, Vcpu}
+use Rattle.xp_words.specs.declared.place.Place.TheVariants.{Cell, Kind, M2p, Refs}
 use Rattle.xp_words.specs.declared.refs.RefWord.TheVariants.{Owned}
-use Rattle.xp_words.specs.declared.reply.Pause.TheVariants as pauses
-use Rattle.xp_words.specs.declared.reply.Refusal.{Refusal}
-use Rattle.xp_words.specs.declared.reply.Refusal.TheVariants as refusals
-use Rattle.xp_words.specs.declared.reply.Stop.{Stop}
-use Rattle.xp_words.specs.declared.reply.Stop.TheVariants.{Refused, Paused}
 use Rattle.xp_words.proofs.RefLaws.{ref_read-write}
 use Rattle.xp_board.specs.Hands.{IsEmptyHand}
 use Rattle.xp_board.specs.Lists.{Member}
-use Rattle.xp_board.specs.Readings.{domain_of, is_free}
-use Rattle.xp_board.specs.Told.{Post, PortValue, is_telling, told_word}
-use Rattle.step_maker.specs.Answers.{Deed, Gives, Serves, SetsWord, Stops}
+use Rattle.xp_board.specs.Told.{PortValue, is_telling, told_word}
+use Rattle.step_maker.specs.Answers.{Serves}
 use Rattle.step_maker.specs.Asked.{Request}
-use Rattle.step_maker.specs.Moves.{Came}
-use Rattle.step_maker.specs.Plain.{Leaves, Words}
+use Rattle.step_maker.specs.Plain.{Leaves}
 use Rattle.step_maker.specs.Visits.{Does, Visit, visits}
-use Rattle.step_maker.proofs.Coming.{came_self}
 use Rattle.step_maker.proofs.Visiting.{does_came}
-use Rattle.answer_laws.proofs.OneVcpu.{never_waits}
 use Rattle.answer_laws.proofs.Shared.{alone_telling}
 use Rattle.replay_laws.specs.LeftAlone as left
 use Rattle.replay_laws.specs.LeftAlone.{IsUnasked}
@@ -37,21 +28,15 @@ use Rattle.table_words.specs.declared.old_words.OldWord.TheVariants.{First, Seco
 use Rattle.frame_claims.specs.Blocks.{given_deeds}
 use Rattle.frame_claims.specs.Blocks as blocks
 use Rattle.frame_claims.specs.Found.{ClaimsBy}
-use Rattle.frame_claims.specs.Plain.{ClaimsPlainly, HasRoom, IsFirstFree, IsWhollyFree}
-use Rattle.frame_claims.proofs.Telling.{Alls, IsAway, away_same, told_ran, words_after}
+use Rattle.frame_claims.proofs.Telling.{Alls, IsAway, told_ran, words_after}
 use Rattle.frame_claims.proofs.Waiting.{IsAside}
-use Rattle.table_law.specs.Plain.{Describes, Plain, Share, share_in, share_of, sober}
-use Rattle.course_laws.specs.Courses.{ClockGoesOn}
-use Rattle.course_laws.proofs.Awaiting.{AloneStays, clock_by}
-use Rattle.script_law.specs.Memory.{claim, claim_at, first_free, given, is_in, numbered, pages_of, with_block}
-use Rattle.script_law.specs.Values.{Given, Numbers, Outcome, Solo, stopped}
-use Rattle.solo_ports.specs.Coming.{IsRefusedSo}
-use Rattle.solo_ports.specs.Standing.{Clean, IsUnkept, nothing, whose}
-use Rattle.solo_memory.specs.Extents.{ComesExtent, IsReservedSo}
+use Rattle.table_law.specs.Plain.{Describes, share_in, share_of, sober}
+use Rattle.course_laws.proofs.Awaiting.{AloneStays}
+use Rattle.script_law.specs.Memory.{given, is_in, numbered, with_block}
+use Rattle.script_law.specs.Values.{Solo}
+use Rattle.solo_ports.specs.Standing.{Clean}
 use Rattle.solo_memory.proofs.Behind.{SetsNone, clean_behind}
-use Rattle.solo_memory.proofs.Choosing.{first_there, none_there}
-use Rattle.solo_memory.proofs.Sounding.{alone_empty, alone_sound, free_is, pages_are}
-use Rattle.solo_memory.proofs.Taking.{away_stays, claim_away, claim_cells, claim_maps, claim_refs, refused_away}
+use Rattle.solo_memory.proofs.Taking.{away_stays, claim_away, claim_cells, claim_maps, claim_refs}
 
 -- ---- the list of a call's steps, and what it leaves
 pub record Made (v w : PortValue) (P : List Visit → Type 0) : Type 0 where

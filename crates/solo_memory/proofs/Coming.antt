@@ -1,5 +1,5 @@
 -- What a claim by one vCPU alone answers is what the plain one answers.
-use Rattle.std.proofs.Common.{◌≡◌, ℕ, ◌+◌, ◌*◌, ◌/◌, ◌^◌, ◌<◌, ◌≤◌, ◌==◌, nat_lt, is_none, if◌then◌else◌, Bool, true, false, [], ◌∷◌, length, slice_index, Option, Some, None, Result, Ok, Err, refl, sym, ap, ◌∙◌, subst, arith}
+use Rattle.std.proofs.Common.{◌≡◌, ℕ, ◌+◌, ◌*◌, ◌<◌, ◌≤◌, nat_lt, is_none, if◌then◌else◌, Bool, true, false, [], ◌∷◌, length, slice_index, Option, None, Err, refl, sym, ap, ◌∙◌, subst, arith}
 use Rattle.std.proofs.lemmas.Bool.Decides.{nat_tests}
 use Rattle.std.proofs.lemmas.List.Elements.{All-get_or}
 use Rattle.xp_words.specs.Machine.{Machine}
@@ -9,7 +9,6 @@ use Rattle.xp_words.specs.declared.reply.Pause.{Pause}
 use Rattle.xp_words.specs.declared.reply.Pause.TheVariants as pauses
 use Rattle.xp_words.specs.declared.reply.Refusal.{Refusal}
 use Rattle.xp_words.specs.declared.reply.Refusal.TheVariants as refusals
-use Rattle.xp_words.specs.declared.reply.Stop.{Stop}
 use Rattle.xp_words.specs.declared.reply.Stop.TheVariants.{Refused, Paused}
 use Rattle.xp_board.specs.Hands.{IsEmptyHand}
 use Rattle.xp_board.specs.Readings.{domain_of, is_free}
@@ -26,14 +25,13 @@ use Rattle.table_words.specs.declared.old_words.OldWord.{OldWord}
 use Rattle.frame_claims.specs.Found.{ClaimsBy}
 use Rattle.frame_claims.specs.Plain.{ClaimsPlainly, HasRoom, IsFirstFree, IsWhollyFree}
 use Rattle.frame_claims.proofs.Waiting.{IsAside}
-use Rattle.table_law.specs.Plain.{Describes, share_of, sober}
+use Rattle.table_law.specs.Plain.{share_of, sober}
 use Rattle.course_laws.specs.Courses.{ClockGoesOn}
 use Rattle.course_laws.proofs.Awaiting.{AloneStays, clock_by}
 use Rattle.script_law.specs.Memory.{claim, claim_at, first_free, given, pages_of}
-use Rattle.script_law.specs.Values.{Given, Numbers, Outcome, Solo, Why, stopped}
-use Rattle.solo_ports.specs.Coming.{IsRefusedSo, IsWhy}
+use Rattle.script_law.specs.Values.{Given, Numbers, Outcome, Solo, stopped}
+use Rattle.solo_ports.specs.Coming.{IsRefusedSo}
 use Rattle.solo_ports.specs.Standing.{Clean, nothing, whose}
-use Rattle.solo_memory.specs.Extents.{IsReservedSo}
 use Rattle.solo_memory.proofs.Behind.{clean_behind, nothing_set}
 use Rattle.solo_memory.proofs.Choosing.{first_there, none_there}
 use Rattle.solo_memory.proofs.Claiming.{Made, does_made, made_away, old_aside}

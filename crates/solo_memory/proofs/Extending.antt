@@ -1,5 +1,5 @@
 -- An extent by one vCPU alone comes to its plain meaning.
-use Rattle.std.proofs.Common.{◌≡◌, ℕ, zero, suc, ◌+◌, ◌-◌, ◌*◌, ◌/◌, ◌^◌, ◌<◌, ◌≤◌, ◌==◌, IfErr, max, if◌then◌else◌, Bool, true, false, List, [], ◌∷◌, ◌++◌, length, Option, Some, None, Result, Ok, Err, refl, sym, ap, ◌∙◌, subst, inl, inr, arith}
+use Rattle.std.proofs.Common.{◌≡◌, ℕ, zero, suc, ◌+◌, ◌-◌, ◌/◌, ◌^◌, ◌<◌, ◌≤◌, ◌==◌, IfErr, max, if◌then◌else◌, Bool, true, false, List, [], Option, Some, None, Result, Ok, Err, refl, sym, ap, ◌∙◌, subst, inl, inr, arith}
 use Rattle.xp_words.specs.Machine.{Machine}
 use Rattle.xp_words.specs.declared.kind.KindWord.{KindWord}
 use Rattle.xp_words.specs.declared.place.Place.{Place}
@@ -12,11 +12,11 @@ use Rattle.xp_board.specs.Hands.{IsEmptyHand}
 use Rattle.xp_board.specs.Lists.{Member}
 use Rattle.xp_board.specs.Readings.{domain_of}
 use Rattle.xp_board.specs.Told.{PortValue, is_telling, told_word}
-use Rattle.step_maker.specs.Answers.{Deed, Serves, SetsWord, Stops}
+use Rattle.step_maker.specs.Answers.{Deed, Serves, Stops}
 use Rattle.step_maker.specs.Asked.{Request, of_block}
 use Rattle.step_maker.specs.Holds.{Rests}
 use Rattle.step_maker.specs.Moves.{Came}
-use Rattle.step_maker.specs.Visits.{Does, Nothing, Visit}
+use Rattle.step_maker.specs.Visits.{Does, Nothing}
 use Rattle.step_maker.proofs.Visiting.{does_as, does_came}
 use Rattle.answer_laws.proofs.Shared.{alone_telling}
 use Rattle.replay_laws.specs.LeftAlone.{IsUnasked}
@@ -28,7 +28,6 @@ use Rattle.reservations.specs.declared.extents.Extent.{Extent}
 use Rattle.reservations.specs.declared.extents.Extent.TheVariants.{Decrease, Increase, Populate}
 use Rattle.reservations.specs.Extents.{IsBlock, PopulatesBy, PopulatesPlainly, Reserves, StopsExtent, TakesBy, TakesPlainly, claim_deeds, done_by, high_refusal, of_extent, too_high}
 use Rattle.reservations.specs.Returning.{DecreasesPlainly, EndsAt, all_returned, of_returns, returned_deeds, returns_deeds}
-use Rattle.table_law.specs.Plain.{Describes, Plain}
 use Rattle.table_twins.proofs.Entering.{described_leaves}
 use Rattle.course_laws.specs.Courses.{ClockGoesOn}
 use Rattle.course_laws.proofs.Awaiting.{AloneStays}
@@ -127,7 +126,7 @@ module _ (stays : AloneStays) (v w : PortValue) (x : Solo) (clean : Clean v x) (
       let same : (q : Place) → told_word w q ≡ told_word v q = λ q. made.leaves q ∙ ap (λ us. words_after (told_word v) us q) made.like.1 in
       let after : Clean w x =
       clean_behind v w x clean stays (does_came v w _ does) rests.empty r [] serves spares grants nothing_set (λ o. same (old_place v.post.vcpu o)) x.frames x.maps (λ g low. clean.stands.others.maps g low ∙ sym (same (M2p g))) clean.stands.unkept
-          (described_leaves v.post.machine w (told_word v) x.frames same clean.frames) in
+      (described_leaves v.post.machine w (told_word v) x.frames same clean.frames) in
       refused_so v w x refusals.BadRange (stopped (Numbers refusals.BadRange) x) after refl
 
   unasked_block : (block : ℕ) (g : ℕ) → (g / size == block) ≡ false → IsUnasked (of_block d size block) g

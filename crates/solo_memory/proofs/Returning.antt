@@ -1,9 +1,9 @@
 -- Frames that one vCPU alone gives back: as the plain ones.
-use Rattle.std.proofs.Common.{◌≡◌, ℕ, zero, suc, ◌+◌, ◌-◌, ◌^◌, ◌<◌, ◌≤◌, ◌==◌, ◌&&◌, ◌++◌, not, nat_lt, if◌then◌else◌, Bool, true, false, List, [], ◌∷◌, Option, Some, None, Result, Ok, Err, refl, sym, ap, ◌∙◌, subst, inl, inr, arith}
+use Rattle.std.proofs.Common.{◌≡◌, ℕ, zero, suc, ◌+◌, ◌<◌, ◌≤◌, ◌==◌, not, nat_lt, if◌then◌else◌, Bool, true, false, [], Option, Some, None, refl, sym, ap, ◌∙◌, subst, inl, inr, arith}
 use Rattle.std.proofs.lemmas.Bool.{cases_eq}
 use Rattle.std.proofs.lemmas.Bool.Decides.{nat_tests}
 use Rattle.xp_words.specs.Machine.{Machine}
-use Rattle.xp_words.specs.RefWords.{IsRef, ref_read, ref_write}
+use Rattle.xp_words.specs.RefWords.{IsRef, ref_read}
 use Rattle.xp_words.specs.declared.place.Place.TheVariants.{M2p, Refs, Vcpu}
 use Rattle.xp_words.specs.declared.refs.RefWord.{RefWord}
 use Rattle.xp_words.specs.declared.refs.RefWord.TheVariants.{Dying, Free, Owned}
@@ -19,7 +19,7 @@ use Rattle.step_maker.specs.Plain.{Words, change}
 use Rattle.frame_words.specs.Plain.{lowered, set_free}
 use Rattle.reservations.specs.Returning.{all_returned, cleared, cleared_in, is_own_allocated, next_refusal, number_at, return_refusal, returned}
 use Rattle.table_law.specs.Alone as causes
-use Rattle.table_law.specs.Plain.{Describes, Plain, Share, at, reference_back, share_in, share_of, with_share}
+use Rattle.table_law.specs.Plain.{Describes, Plain, Share, reference_back, share_in, share_of, with_share}
 use Rattle.table_law.proofs.Counting.{at_here}
 use Rattle.table_twins.specs.Answers.{IsCause}
 use Rattle.table_twins.proofs.Sharing.{same_back, shared}

@@ -1,8 +1,8 @@
 -- What soundness says of the words of a vCPU that is alone with nothing in hand.
-use Rattle.std.proofs.Common.{◌≡◌, ℕ, ◌+◌, ◌<◌, ◌==◌, is_none, is_some, length, Bool, true, false, List, Option, Some, None, IsTrue, refl, sym, ap, ◌∙◌, subst, inl, inr, arith}
+use Rattle.std.proofs.Common.{◌≡◌, ℕ, ◌+◌, ◌<◌, is_none, length, false, Option, Some, None, IsTrue, refl, sym, ap, ◌∙◌, subst, inl, inr, arith}
 use Rattle.std.proofs.lemmas.Bool.{cases_eq}
 use Rattle.xp_words.specs.Machine.{Machine}
-use Rattle.xp_words.specs.Places.{memory, sizes_of}
+use Rattle.xp_words.specs.Places.{sizes_of}
 use Rattle.xp_words.specs.RefWords.{bit, ref_read}
 use Rattle.xp_words.specs.declared.place.Place.TheVariants.{Pages, Refs}
 use Rattle.xp_words.specs.declared.refs.RefWord.{RefWord}
@@ -16,11 +16,11 @@ use Rattle.xp_board.specs.Sound.{Sound, hand_of}
 use Rattle.xp_board.specs.Spelling.{IsSpelling, is_ref_in}
 use Rattle.xp_board.specs.Told.{PortValue, Story, told_word, word_in}
 use Rattle.xp_board.proofs.Numbers.{refs_there}
-use Rattle.xp_board.proofs.Sums.{hands-some, no_bit, sum_below-none, sum_below-same}
+use Rattle.xp_board.proofs.Sums.{no_bit, sum_below-none, sum_below-same}
 use Rattle.step_maker.specs.Plain.{Words}
 use Rattle.answer_laws.specs.Alone.{IsAlone}
 use Rattle.rest_laws.specs.Resting.{AreEmpty}
-use Rattle.table_law.specs.Plain.{Describes, Plain, Share, share_in, share_of}
+use Rattle.table_law.specs.Plain.{Describes, Plain, share_in, share_of}
 use Rattle.script_law.specs.Memory.{is_owned_by as is_share_by, pages_of}
 
 pub alone_sound : (v : PortValue) → (a : IsAlone v) → Sound v.post.machine (told_word v) (hand_of a.story.hands)

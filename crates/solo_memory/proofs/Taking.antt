@@ -1,22 +1,21 @@
 -- What a claim leaves of the words that it found, by the list of its steps.
-use Rattle.std.proofs.Common.{◌≡◌, ◌≢◌, ◌⊎◌, ℕ, ◌+◌, ◌-◌, ◌/◌, ◌^◌, ◌<◌, ◌≤◌, nat_le, ◌++◌, if◌then◌else◌, Bool, true, false, List, [], ◌∷◌, length, slice_index, Option, Some, None, Result, Ok, Err, refl, sym, ap, ◌∙◌, subst, inl, inr, arith}
+use Rattle.std.proofs.Common.{◌≡◌, ◌≢◌, ℕ, ◌+◌, ◌-◌, ◌/◌, ◌^◌, ◌<◌, ◌≤◌, ◌++◌, if◌then◌else◌, true, List, [], ◌∷◌, length, Option, Some, None, Result, Ok, Err, refl, ap, ◌∙◌, subst, inl, inr, arith}
 use Rattle.std.proofs.lemmas.Bool.{cases_eq}
 use Rattle.xp_words.specs.Machine.{Machine}
 use Rattle.xp_words.specs.RefWords.{ref_write}
 use Rattle.xp_words.specs.declared.place.Place.{Place}
-use Rattle.xp_words.specs.declared.place.Place.TheVariants.{Cell, Clock, Kind, Life, M2p, Map, Pages, Priv, Refs, Vcpu}
-use Rattle.xp_words.specs.declared.refs.RefWord.TheVariants.{Dying, Owned}
-use Rattle.xp_words.specs.declared.reply.Pause.TheVariants as pauses
+use Rattle.xp_words.specs.declared.place.Place.TheVariants.{Cell, M2p, Map, Pages, Refs}
+use Rattle.xp_words.specs.declared.refs.RefWord.TheVariants.{Owned}
 use Rattle.xp_words.specs.declared.reply.Refusal.{Refusal}
 use Rattle.xp_words.specs.declared.reply.Refusal.TheVariants as refusals
 use Rattle.xp_words.specs.declared.reply.Stop.{Stop}
-use Rattle.xp_words.specs.declared.reply.Stop.TheVariants.{Refused, Paused}
+use Rattle.xp_words.specs.declared.reply.Stop.TheVariants.{Refused}
 use Rattle.xp_board.specs.Acts.{left_by}
 use Rattle.xp_board.specs.HintSteps.{map_bit}
 use Rattle.xp_board.specs.Told.{Post}
-use Rattle.xp_board.specs.declared.step.Act.TheVariants.{Add, Cas, Load, Store}
+use Rattle.xp_board.specs.declared.step.Act.TheVariants.{Add, Store}
 use Rattle.xp_board.proofs.PlaceTests.{is_same-refl}
-use Rattle.step_maker.specs.Plain.{Words, change}
+use Rattle.step_maker.specs.Plain.{Words}
 use Rattle.step_maker.specs.Reasons.{Those}
 use Rattle.step_maker.specs.Visits.{Only, Then, Visit, visit}
 use Rattle.flush_waits.specs.Listing.{WaitedFor}
