@@ -1,8 +1,8 @@
-pub mod Undoing
-pub mod Leaving
 pub mod Deciding
 pub mod Described
-pub mod Repeating
-pub mod Untouched
-pub mod Sparing
 pub mod Keeping
+pub mod Leaving
+pub mod Repeating
+pub mod Sparing
+pub mod Undoing
+pub mod Untouched
