@@ -6,6 +6,7 @@ pub mod Made
 pub mod Premises
 pub mod Settling
 pub mod Steps
+pub mod Tasks
 pub mod Turning
 pub mod Untouched
 pub mod Working

@@ -146,3 +146,9 @@ module _ (stays : AloneStays) (neither : NeitherLostNorBusy) where
   settles_owes v w x below answers e (standing.nothing c) settles = absurd (let k = ended_ok v w x below answers (Err e) c.stands c.first settles x.frames c.frames in cc)
   settles_owes v w x below answers e (standing.a_release f level s left) settles =
       left_paused v w x below answers s f level left (subst (λ k. Settles below v w answers (Err k)) (due_by v w x below answers e s settles) settles)
+
+-- where both old words are known to name none, nothing is left
+pub owes_clean : (v : PortValue) (x : Solo) → Rests v → IsSettled v → Owes v x → Clean v x
+owes_clean v x rests settled (standing.nothing c) = c
+owes_clean v x rests settled (standing.a_release f level s left) =
+    absurd (let none = first_known v s.alone 0 s.real rests settled.first in let named = left.named in omega arith)
