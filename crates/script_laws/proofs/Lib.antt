@@ -3,6 +3,8 @@ pub mod Items
 pub mod Listed
 pub mod Lists
 pub mod Made
+pub mod Owning
+pub mod Pairing
 pub mod Premises
 pub mod Settling
 pub mod Steps

@@ -16,8 +16,6 @@ use Rattle.solo_ports.specs.Coming.{Comes, IsDoneSo, IsRefusedSo, IsWhy}
 use Rattle.solo_ports.specs.Standing.{Owes, Stands}
 use Rattle.vcpu_turn.specs.Lists.{Fitting}
 use Rattle.vcpu_turn.specs.Settling.{SettlesFirst}
-use Rattle.vcpu_turn.specs.Settling as settling
-use Rattle.vcpu_turn.proofs.Hindering.{settles_came}
 use Rattle.script_laws.specs.Logged.{AreLines, IsLine}
 use Rattle.script_laws.specs.Plain.{PlainList}
 use Rattle.script_laws.proofs.Items.{IsAhead, IsKeeping, LawOf, OwesF, first_comes}
@@ -77,9 +75,8 @@ same_some x y o a b = let k = sym a ∙ b in cc
 
 -- ---- the law of each element
 module _ (stays : AloneStays) (neither : NeitherLostNorBusy) (v0 : PortValue) (Good : Solo → Type 0) (good_on : (s t : Solo) → SameDomains s t → Good s → Good t) (op : ℕ) {E : Type 0} (es : List E) (P : ℕ → E → PortValue → PortValue → List Bool → Result (Unit {0}) Stop → Type 0) (Kept : E → PortValue → Solo → Type 0) (plain : E → Solo → Outcome) (fits : Fitting)
-    (keeping : (e : E) → IsKeeping stays neither v0 Good (Kept e)) (law : (k : ℕ) (e : E) → slice_get es k ≡ Some e → LawOf stays neither v0 Good (P k e) (Kept e) (plain e)) (came : (k : ℕ) (e : E) (u w : PortValue) (asked : List Bool) (r : Result (Unit {0}) Stop) → P k e u w asked r → Came u w)
-    (domains : (e : E) (s : Solo) → SameDomains s (plain e s).left) (fit : (k : ℕ) (e : E) (u w : PortValue) (asked : List Bool) (r : Result (Unit {0}) Stop) → slice_get es k ≡ Some e → fits k u w asked r → SettlesFirst (P k e) u w asked r)
-    (some : (k : ℕ) (u w : PortValue) (asked : List Bool) (r : Result (Unit {0}) Stop) → fits k u w asked r → (e : E) × (slice_get es k ≡ Some e)) where
+    (keeping : (e : E) → IsKeeping stays neither v0 Good (Kept e)) (law : (k : ℕ) (e : E) → slice_get es k ≡ Some e → LawOf stays neither v0 Good (P k e) (Kept e) (plain e)) (came : (k : ℕ) (u w : PortValue) (asked : List Bool) (r : Result (Unit {0}) Stop) → fits k u w asked r → Came u w)
+    (domains : (e : E) (s : Solo) → SameDomains s (plain e s).left) (fit : (k : ℕ) (e : E) (u w : PortValue) (asked : List Bool) (r : Result (Unit {0}) Stop) → slice_get es k ≡ Some e → fits k u w asked r → SettlesFirst (P k e) u w asked r) where
   abbrev pub one : ℕ → E → Solo → Outcome
   one k e s = plain e s
 
@@ -94,10 +91,6 @@ module _ (stays : AloneStays) (neither : NeitherLostNorBusy) (v0 : PortValue) (G
 
   abbrev pub gives_none : (k : ℕ) (u w : PortValue) (asked : List Bool) (r : Result (Unit {0}) Stop) → fits k u w asked r → List LogLine
   gives_none k u w asked r f = []
-
-  came_first : (k : ℕ) (e : E) (u w : PortValue) (asked : List Bool) (r : Result (Unit {0}) Stop) → SettlesFirst (P k e) u w asked r → Came u w
-  came_first k e u _ _ _ (settling.SettlesFirst.unsettled w answers stop settles) = settles_came u w answers (Err stop) settles
-  came_first k e u _ _ _ (settling.SettlesFirst.performed y w early answers answer settles does) = came_trans u y w (settles_came u y early (Ok tt) settles) (came k e y w answers answer does)
 
   -- behind an element
   ahead_of : (e : E) (u w : PortValue) (s : Solo) → IsAhead stays neither v0 Good u s → Came u w → IsAhead stays neither v0 Good w (plain e s).left
@@ -124,17 +117,14 @@ module _ (stays : AloneStays) (neither : NeitherLostNorBusy) (v0 : PortValue) (G
   item_by k e s u w asked r at fair f pending =
       let waits = waits_by k e u s at pending in
       let does = fit k e u w asked r at f in
-      comes_by k e u w s r at waits.0 (came_first k e u w asked r does) (first_comes stays neither v0 Good (P k e) (Kept e) (plain e) (keeping e) (law k e at) u w s asked r waits.0 waits.1 fair does)
-
-  fits_came : (k : ℕ) (u w : PortValue) (asked : List Bool) (r : Result (Unit {0}) Stop) → fits k u w asked r → Came u w
-  fits_came k u w asked r f = let e = some k u w asked r f in came_first k e.0 u w asked r (fit k e.0 u w asked r e.1 f)
+      comes_by k e u w s r at waits.0 (came k u w asked r f) (first_comes stays neither v0 Good (P k e) (Kept e) (plain e) (keeping e) (law k e at) u w s asked r waits.0 waits.1 fair does)
 
   pub list_lemmas : ListLemmas (plain_list one) es IsWhy (FairFrom v0) OwesIt KeptIn KeptIn fits gives_none (AreLines op)
   unfolding plain_list
   list_lemmas =
       record {
         item = item_by;
-        back = λ k u w asked r f fair. fair_back v0 u w (fits_came k u w asked r f) fair;
+        back = λ k u w asked r f fair. fair_back v0 u w (came k u w asked r f) fair;
         inside = λ k v s kept. less_some es k kept.element kept.at;
         said_none = tt;
         said_more = λ bs cs ls ms a b. lines_more op bs cs ls ms a b;
