@@ -101,10 +101,10 @@ module _ (stays : AloneStays) (neither : NeitherLostNorBusy) (v0 : PortValue) (K
   by k e v w asked r = Updates o (pairs.element_of e) v w asked r
 
   abbrev Kept : ℕ → PortValue → Solo → Type 0
-  Kept = KeptIn stays neither v0 May may_on op list by (KeepsPair o) one fits (keeping foreign) (λ k e at. law foreign e) (λ k u w asked r f. pairs_came o list k u w asked r f) (λ e s. updates_keep s (own stays neither v0) o (pairs.element_of e) s (itself s)) fits_some
+  Kept = KeptIn stays neither v0 May list (KeepsPair o)
 
   abbrev gives : (k : ℕ) (u w : PortValue) (asked : List Bool) (r : Result (Unit {0}) Stop) → fits k u w asked r → List LogLine
-  gives = gives_none stays neither v0 May may_on op list by (KeepsPair o) one fits (keeping foreign) (λ k e at. law foreign e) (λ k u w asked r f. pairs_came o list k u w asked r f) (λ e s. updates_keep s (own stays neither v0) o (pairs.element_of e) s (itself s)) fits_some
+  gives = gives_none fits
 
   abbrev OwesP : PortValue → Solo → Type 0
   OwesP = OwesF stays neither v0 May
