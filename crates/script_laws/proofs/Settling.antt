@@ -11,6 +11,7 @@ use Rattle.xp_board.specs.Lists.{Member}
 use Rattle.xp_board.specs.Told.{Post, PortValue, is_telling, told_word}
 use Rattle.step_maker.specs.Answers.{Serves, Stops, misses}
 use Rattle.step_maker.specs.Asked.{Request}
+use Rattle.step_maker.specs.Holds.{Rests}
 use Rattle.step_maker.specs.Moves.{Came}
 use Rattle.step_maker.proofs.Alikes.{same_alike}
 use Rattle.step_maker.proofs.Coming.{came_post}
