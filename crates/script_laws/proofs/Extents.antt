@@ -12,10 +12,45 @@ use Rattle.xp_words.specs.declared.reply.Refusal.{Refusal}
 use Rattle.xp_words.specs.declared.reply.Refusal.TheVariants.{BadCommand, BadRange, BatchLong}
 use Rattle.xp_words.specs.declared.reply.Stop.{Stop}
 use Rattle.xp_words.specs.declared.reply.Stop.TheVariants.{Refused, Paused}
+use Rattle.xp_board.specs.Readings.{domain_of}
+use Rattle.xp_board.specs.Told.{Post, PortValue}
+use Rattle.step_maker.specs.Holds.{Rests}
+use Rattle.step_maker.specs.Moves.{Came}
+use Rattle.step_maker.proofs.Coming.{came_post, came_trans}
+use Rattle.reservations.specs.Extents.{Reserves}
 use Rattle.reservations.specs.declared.extents.Extent.{Extent}
 use Rattle.reservations.specs.declared.extents.Extent.TheVariants.{Decrease, Increase, Populate}
-use Rattle.script_law.specs.Memory.{count_in, counted_in, extents_of, list_refusal}
-use Rattle.vcpu_turn.specs.Extents.{counted_by, extent_at, extents_in, given_back, is_uncounted, mem_refusal, populated, range_refusal, refusal_in}
+use Rattle.course_laws.proofs.Awaiting.{AloneStays, NeitherLostNorBusy}
+use Rattle.script_law.specs.Memory.{count_in, counted_in, done_before, extents_of, list_refusal, reserve}
+use Rattle.script_law.specs.Scripts.{Answered, answered, extents_by, in_order, logged_behind, refused}
+use Rattle.script_law.specs.Values.{Line, Numbers, Outcome, Solo, Whose}
+use Rattle.solo_ports.specs.Coming.{IsWhy}
+use Rattle.solo_ports.specs.Standing.{Clean, Fair, IsSettled, whose}
+use Rattle.solo_memory.specs.Extents.{ComesExtent, line_of}
+use Rattle.vcpu_turn.specs.Cpus.{reply_of}
+use Rattle.vcpu_turn.specs.Extents.{Block, ExtentFits, PlacesExtents, WorksExtents, begins_in, block_at, counted_by, extent_at, extents_in, gave_extents, given_back, given_by, given_lines, is_uncounted, left_in, mem_refusal, place_for, populated, range_refusal, refusal_in}
+use Rattle.vcpu_turn.specs.Extents as courses
+use Rattle.vcpu_turn.specs.Lists.{DidItems, Fitting, WorksOn}
+use Rattle.vcpu_turn.specs.Lists as lists
+use Rattle.vcpu_turn.specs.Working.{valued}
+use Rattle.vcpu_turn.specs.declared.cpu.CallNumber.{CallNumber}
+use Rattle.vcpu_turn.specs.declared.cpu.Progress.{Progress}
+use Rattle.vcpu_turn.proofs.Hindering.{extent_came}
+use Rattle.vcpu_turn.proofs.Listing.{did_on}
+use Rattle.script_laws.specs.Logged.{AreLines}
+use Rattle.script_laws.proofs.Items.{IsAhead, OwesF}
+use Rattle.script_laws.proofs.Listed.{lines_more, plain_list}
+use Rattle.script_laws.proofs.Lists.{ItemComes, ListComes, ListLemmas, Pending, list_comes}
+use Rattle.script_laws.proofs.Lists as listing
+use Rattle.script_laws.proofs.Premises.{FairFrom, fair_back, fair_on}
+use Rattle.script_laws.proofs.Settling.{owes_clean}
+use Rattle.script_laws.proofs.Tasks.{Begins, Comes, ExtentsGoing, ExtentsOn, IsTaskAnswered, Lives, own}
+use Rattle.script_laws.proofs.Untouched.{itself, reserve_keeps}
+
+-- the law of one extent
+abbrev pub ExtentLaw : Type 0
+ExtentLaw = (v w : PortValue) (x : Solo) (size call k : ℕ) (extent : Extent) (left : ℕ) (answer : Result (Option ℕ) Stop) → Clean v x → 0 < size → Fair v w → Reserves (domain_of v.post.machine v.post.vcpu) size extent 0 v left w answer →
+    ComesExtent call k w (reserve (whose v) size call k extent x) answer
 
 -- ---- the turn and the plain operation count the extents alike, and refuse the same lists
 same_counted : (items : List ℕ) → counted_by items ≡ counted_in items
@@ -80,3 +115,71 @@ extent_by false false false items n k x e at is = absurd cc
 
 same_extent : (command : ℕ) (items : List ℕ) (k : ℕ) (x e : Extent) → extent_at command items k ≡ Some x → slice_get (extents_of command items) k ≡ Some e → x ≡ e
 same_extent command items k x e at is = extent_by (command % 64 == 0) (command % 64 == 1) (command % 64 == 6) items (counted_in items) k x e at is
+
+-- ---- lines, and places
+given_more : (number : CallNumber) (bs cs : List Block) → given_lines number (bs ++ cs) ≡ given_lines number bs ++ given_lines number cs
+given_more number [] cs = refl
+given_more number (b ∷ bs) cs = ap (λ ls. given_lines number (b ∷ []) ++ ls) (given_more number bs cs)
+
+said_one : (op call k : ℕ) (given : Option ℕ) → AreLines op (given_lines (record { op = op; call = call }) (block_at k given)) (line_of call k given)
+said_one op call k (Some first) = ((refl, refl, refl, refl), tt)
+said_one op call k None = tt
+
+-- no extent goes on within
+none_within : (from within k : ℕ) → within ≡ 0 → place_for from within k ≡ 0
+none_within from within k is = subst (λ j. place_for from j k ≡ 0) (sym is) (elim (cases_Bool (k == from)) [ | inl same ↦ rw same refl | inr other ↦ rw other refl ])
+
+settled_behind : (v w : PortValue) (d size : ℕ) (extent : Extent) (from left : ℕ) (answer : Result (Option ℕ) Stop) → Reserves d size extent from v left w answer → IsSettled v → IsSettled w
+settled_behind v w d size extent from left answer a s =
+    record { first = ap (λ (y : PortValue). y.holdings.old0) a.hand ∙ s.first; second = ap (λ (y : PortValue). y.holdings.old1) a.hand ∙ s.second }
+
+-- ---- one extent
+module _ (stays : AloneStays) (neither : NeitherLostNorBusy) (v0 : PortValue) (law : ExtentLaw) where
+  abbrev Own : Whose
+  Own = own stays neither v0
+
+  -- between extents
+  record Between (v : PortValue) (s : Solo) : Type 0 where
+    owes : OwesF stays neither v0 (Lives stays neither v0) v s
+    rests : Rests v
+    settled : IsSettled v
+
+  same_own : (u : PortValue) → Came v0 u → whose u ≡ Own
+  same_own u came = ap (λ (p : Post). record { machine = p.machine; domain = domain_of p.machine p.vcpu }) (came_post v0 u came)
+
+  module _ (op call command order : ℕ) (items : List ℕ) (from within : ℕ) (begins : within ≡ 0) where
+    abbrev es : List Extent
+    es = extents_of command items
+
+    abbrev one : ℕ → Extent → Solo → Outcome
+    one k e s = reserve Own (2 ^ order) call k e s
+
+    abbrev number : CallNumber
+    number = record { op = op; call = call }
+
+    abbrev fits : Fitting
+    fits = ExtentFits Own.domain command order items from within
+
+    abbrev gives : (k : ℕ) (u w : PortValue) (asked : List Bool) (r : Result (Unit {0}) Stop) → fits k u w asked r → List Block
+    gives k u w asked r fit = block_at k fit.given
+
+    abbrev Said : List Block → List Line → Type 0
+    Said bs ls = AreLines op (given_lines number bs) ls
+
+    abbrev Never : ℕ → PortValue → Solo → Type 0
+    Never k v s = ⊥
+
+    abbrev Ends : ℕ → Solo → Outcome → List Block → PortValue → Result (Unit {0}) Stop → Type 0
+    Ends k s o gave w r = ItemComes (plain_list one) es IsWhy (FairFrom v0) Between Never Never fits gives Said k s o gave w r
+
+    begins_at : (k : ℕ) (e : Extent) (u w : PortValue) (asked : List Bool) (r : Result (Unit {0}) Stop) → slice_get es k ≡ Some e → (fit : fits k u w asked r) → whose u ≡ Own → Reserves (domain_of u.post.machine u.post.vcpu) (2 ^ order) e 0 u fit.left w (given_by fit.given r)
+    begins_at k e u w asked r at fit same =
+        subst (λ (o : Whose). Reserves o.domain (2 ^ order) e 0 u fit.left w (given_by fit.given r)) (sym same)
+        (subst (λ j. Reserves Own.domain (2 ^ order) e j u fit.left w (given_by fit.given r)) (none_within from within k begins)
+        (subst (λ x. Reserves Own.domain (2 ^ order) x (place_for from within k) u fit.left w (given_by fit.given r)) (same_extent command items k fit.extent e fit.is at) fit.reserves))
+
+    comes_one : (k : ℕ) (e : Extent) (s : Solo) (u w : PortValue) (asked : List Bool) (r : Result (Unit {0}) Stop) → slice_get es k ≡ Some e → FairFrom v0 w → (fit : fits k u w asked r) → Between u s → ComesExtent call k w (one k e s) (given_by fit.given r)
+    comes_one k e s u w asked r at fair fit b =
+        let same = same_own u b.owes.ahead.came in
+        subst (λ o. ComesExtent call k w (reserve o (2 ^ order) call k e s) (given_by fit.given r)) same
+        (law u w s (2 ^ order) call k e fit.left (given_by fit.given r) (owes_clean u s b.rests b.settled b.owes.owes) (pow_pos order) (fair_on v0 u w b.owes.ahead.came fair).fair (begins_at k e u w asked r at fit same))
