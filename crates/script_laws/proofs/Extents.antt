@@ -17,6 +17,7 @@ use Rattle.xp_board.specs.Told.{Post, PortValue}
 use Rattle.step_maker.specs.Holds.{Rests}
 use Rattle.step_maker.specs.Moves.{Came}
 use Rattle.step_maker.proofs.Coming.{came_post, came_trans}
+use Rattle.own_cache.proofs.Listing.{there_is}
 use Rattle.reservations.specs.Extents.{Reserves}
 use Rattle.reservations.specs.declared.extents.Extent.{Extent}
 use Rattle.reservations.specs.declared.extents.Extent.TheVariants.{Decrease, Increase, Populate}
@@ -25,7 +26,7 @@ use Rattle.script_law.specs.Memory.{count_in, counted_in, done_before, extents_o
 use Rattle.script_law.specs.Scripts.{Answered, answered, extents_by, in_order, logged_behind, refused}
 use Rattle.script_law.specs.Values.{Line, Numbers, Outcome, Solo, Whose}
 use Rattle.solo_ports.specs.Coming.{IsWhy}
-use Rattle.solo_ports.specs.Standing.{Clean, Fair, IsSettled, whose}
+use Rattle.solo_ports.specs.Standing.{Clean, Fair, IsSettled, Owes, nothing, whose}
 use Rattle.solo_memory.specs.Extents.{ComesExtent, line_of}
 use Rattle.vcpu_turn.specs.Cpus.{reply_of}
 use Rattle.vcpu_turn.specs.Extents.{Block, ExtentFits, PlacesExtents, WorksExtents, begins_in, block_at, counted_by, extent_at, extents_in, gave_extents, given_back, given_by, given_lines, is_uncounted, left_in, mem_refusal, place_for, populated, range_refusal, refusal_in}
@@ -183,3 +184,102 @@ module _ (stays : AloneStays) (neither : NeitherLostNorBusy) (v0 : PortValue) (l
         let same = same_own u b.owes.ahead.came in
         subst (λ o. ComesExtent call k w (reserve o (2 ^ order) call k e s) (given_by fit.given r)) same
         (law u w s (2 ^ order) call k e fit.left (given_by fit.given r) (owes_clean u s b.rests b.settled b.owes.owes) (pow_pos order) (fair_on v0 u w b.owes.ahead.came fair).fair (begins_at k e u w asked r at fit same))
+
+    -- what it leaves stands between extents again
+    between : (k : ℕ) (e : Extent) (s : Solo) (u w : PortValue) (asked : List Bool) (r : Result (Unit {0}) Stop) → (fit : fits k u w asked r) → Between u s → Owes w (one k e s).left → Between w (one k e s).left
+    between k e s u w asked r fit b owes =
+        record {
+          owes = record {
+            ahead = record {
+              came = came_trans v0 u w b.owes.ahead.came (extent_came Own.domain command order items from within k u w asked r fit);
+              good = ap (λ (lives : ℕ → ℕ). lives Own.domain) (reserve_keeps s Own (2 ^ order) call k e s (itself s)).lives ∙ b.owes.ahead.good;
+            };
+            owes = owes;
+          };
+          rests = fit.reserves.rests;
+          settled = settled_behind u w Own.domain (2 ^ order) fit.extent (place_for from within k) fit.left (given_by fit.given r) fit.reserves b.settled;
+        }
+
+    item_by : (k : ℕ) (e : Extent) (s : Solo) (u w : PortValue) (asked : List Bool) (r : Result (Unit {0}) Stop) → (fit : fits k u w asked r) → Between u s → ComesExtent call k w (one k e s) (given_by fit.given r) → Ends k s (one k e s) (gives k u w asked r fit) w r
+    unfolding plain_list
+    item_by k e s u w asked (Ok done) fit b c = (c.fine, subst (Said (block_at k fit.given)) (sym c.lines) (said_one op call k fit.given), between k e s u w asked (Ok done) fit b (nothing c.clean))
+    item_by k e s u w asked (Err (Refused x)) fit b c = (c.why, c.is, c.none, c.same, between k e s u w asked (Err (Refused x)) fit b c.owes)
+    item_by k e s u w asked (Err (Paused p)) fit b c = absurd c
+
+    item : (k : ℕ) (e : Extent) (s : Solo) (u w : PortValue) (asked : List Bool) (r : Result (Unit {0}) Stop) → slice_get es k ≡ Some e → FairFrom v0 w → (fit : fits k u w asked r) → Between u s ⊎ ⊥ → Ends k s (one k e s) (gives k u w asked r fit) w r
+    item k e s u w asked r at fair fit (inl b) = item_by k e s u w asked r fit b (comes_one k e s u w asked r at fair fit b)
+    item k e s u w asked r at fair fit (inr never) = absurd never
+
+    said_both : (bs cs : List Block) (ls ms : List Line) → Said bs ls → Said cs ms → Said (bs ++ cs) (ls ++ ms)
+    said_both bs cs ls ms a b = subst (λ gs. AreLines op gs (ls ++ ms)) (sym (given_more number bs cs)) (lines_more op (given_lines number bs) (given_lines number cs) ls ms a b)
+
+    extent_lemmas : ListLemmas (plain_list one) es IsWhy (FairFrom v0) Between Never Never fits gives Said
+    unfolding plain_list
+    extent_lemmas =
+        record {
+          item = item;
+          back = λ k u w asked r fit fair. fair_back v0 u w (extent_came Own.domain command order items from within k u w asked r fit) fair;
+          inside = λ k v s never. absurd never;
+          said_none = tt;
+          said_more = said_both;
+        }
+
+    -- ---- the list
+    abbrev Gave : (v : PortValue) (to : ℕ) (w : PortValue) (answers : List Bool) (r : Result (Unit {0}) Stop) → WorksOn fits (length es) from v to w answers r → List Block
+    Gave v to w answers r works = listing.gave_on (plain_list one) es IsWhy (FairFrom v0) Between Never Never fits gives Said from v to w answers r works
+
+    abbrev GaveDid : (v : PortValue) (to : ℕ) (w : PortValue) (answers : List Bool) → DidItems fits (length es) from v to w answers → List Block
+    GaveDid v to w answers did = listing.gave_did (plain_list one) es IsWhy (FairFrom v0) Between Never Never fits gives Said from v to w answers did
+
+    same_did : (v : PortValue) (to : ℕ) (w : PortValue) (answers : List Bool) (did : DidItems fits (length es) from v to w answers) → GaveDid v to w answers did ≡ courses.gave_did did
+    same_did v _ _ _ lists.DidItems.none = refl
+    same_did v _ _ _ (lists.DidItems.more k u w answers asked did fit less) = ap (λ bs. bs ++ block_at k fit.given) (same_did v k u answers did)
+
+    same_gave : (v : PortValue) (to : ℕ) (w : PortValue) (answers : List Bool) (r : Result (Unit {0}) Stop) (works : WorksOn fits (length es) from v to w answers r) → Gave v to w answers r works ≡ courses.gave_on works
+    same_gave v _ _ _ _ (lists.WorksOn.all_done at) = refl
+    same_gave v _ _ _ _ (lists.WorksOn.last_done k u w answers asked did fit at) = ap (λ bs. bs ++ block_at k fit.given) (same_did v k u answers did)
+    same_gave v _ _ _ _ (lists.WorksOn.due k u w answers asked did fit less) = ap (λ bs. bs ++ block_at k fit.given) (same_did v k u answers did)
+    same_gave v _ _ _ _ (lists.WorksOn.stopped k u w answers asked e did fit less) = same_did v k u answers did
+
+    -- what all that is left from s comes to, behind these lines
+    abbrev Going : List Line → ℕ → Solo → Answered → Type 0
+    Going ls k s b = logged_behind ls (in_order one (drop k es) k s) ≡ b
+
+    abbrev Ended : List Line → Answered → ℕ → PortValue → Result (Unit {0}) Stop → Type 0
+    Ended ls b k w r = ListComes (plain_list one) es IsWhy (FairFrom v0) Between Never Never fits gives Said ls b k w r
+
+    work_comes : (ls : List Line) (b : Answered) (v : PortValue) (s : Solo) (to : ℕ) (w : PortValue) (answers : List Bool) (r : Result (Unit {0}) Stop) (works : WorksOn fits (length es) from v to w answers r) → FairFrom v0 w → Between v s → Going ls from s b →
+        (new : List Line) × Said (courses.gave_on works) new × Ended (ls ++ new) b to w r
+    unfolding plain_list
+    work_comes ls b v s to w answers r works fair stands going =
+        let c = list_comes (plain_list one) es IsWhy (FairFrom v0) Between Never Never fits gives Said extent_lemmas ls b from v to w answers r works fair (λ f. (s, going, inl stands)) in
+        (c.0, subst (λ bs. Said bs c.0) (same_gave v to w answers r works) c.1, c.2)
+
+    -- before each extent of the turn it stands so
+    did_stands : (v : PortValue) (s : Solo) (k : ℕ) (u : PortValue) (answers : List Bool) → DidItems fits (length es) from v k u answers → FairFrom v0 u → Between v s → (t : Solo) × Between u t
+    unfolding plain_list
+    did_stands v s _ _ _ lists.DidItems.none fair stands = (s, stands)
+    did_stands v s _ _ _ (lists.DidItems.more k u w answers asked did fit less) fair stands =
+        let before = did_stands v s k u answers did (fair_back v0 u w (extent_came Own.domain command order items from within k u w asked (Ok tt) fit) fair) stands in
+        let there = there_is es k (omega arith) in
+        let c = item k there.0 before.0 u w asked (Ok tt) there.1 fair fit (inl before.1) in
+        ((one k there.0 before.0).left, c.2)
+
+    -- a pause is between two extents
+    abbrev IfPaused : Result (Unit {0}) Stop → Type 0 → Type 0
+    IfPaused (Err (Paused p)) P = P
+    IfPaused r P = Unit {0}
+
+    never_within : (v : PortValue) (s : Solo) (k : ℕ) (u w : PortValue) (answers asked : List Bool) (e : Stop) (left : ℕ) → DidItems fits (length es) from v k u answers → fits k u w asked (Err e) → k < length es → FairFrom v0 w → Between v s →
+        IfPaused (Err e) ((from ≤ k) × (k ≤ length es) × (left ≡ 0))
+    never_within v s k u w answers asked (Refused x) left did fit less fair stands = tt
+    never_within v s k u w answers asked (Paused p) left did fit less fair stands =
+        let before = did_stands v s k u answers did (fair_back v0 u w (extent_came Own.domain command order items from within k u w asked (Err (Paused p)) fit) fair) stands in
+        let there = there_is es k less in
+        absurd (comes_one k there.0 before.0 u w asked (Err (Paused p)) there.1 fair fit before.1)
+
+    paused_between : (v : PortValue) (s : Solo) (to : ℕ) (w : PortValue) (answers : List Bool) (r : Result (Unit {0}) Stop) (works : WorksOn fits (length es) from v to w answers r) → FairFrom v0 w → Between v s → IfPaused r ((from ≤ to) × (to ≤ length es) × (left_in works within ≡ 0))
+    paused_between v s _ _ _ _ (lists.WorksOn.all_done at) fair stands = tt
+    paused_between v s _ _ _ _ (lists.WorksOn.last_done k u w answers asked did fit at) fair stands = tt
+    paused_between v s _ _ _ _ (lists.WorksOn.due k u w answers asked did fit less) fair stands = let up = did_on fits (length es) from v k u answers did in (omega arith, omega arith, refl)
+    paused_between v s _ _ _ _ (lists.WorksOn.stopped k u w answers asked e did fit less) fair stands = never_within v s k u w answers asked e fit.left did fit less fair stands
