@@ -126,6 +126,13 @@ said_one : (op call k : ℕ) (given : Option ℕ) → AreLines op (given_lines (
 said_one op call k (Some first) = ((refl, refl, refl, refl), tt)
 said_one op call k None = tt
 
+-- whether there are any
+some_there : {A : Type 0} (n : ℕ) (x y : A) → 0 < n → (if n == 0 then x else y) ≡ y
+some_there n x y some = elim (cases_Bool (n == 0)) [ | inl none ↦ absurd (let k : n ≡ 0 = grind (arith, nat_tests) in omega arith) | inr more ↦ rw more refl ]
+
+none_there : {A : Type 0} (n : ℕ) (x y : A) → n ≡ 0 → (if n == 0 then x else y) ≡ x
+none_there n x y none = subst (λ j. (if j == 0 then x else y) ≡ x) (sym none) refl
+
 -- no extent goes on within
 none_within : (from within k : ℕ) → within ≡ 0 → place_for from within k ≡ 0
 none_within from within k is = subst (λ j. place_for from j k ≡ 0) (sym is) (elim (cases_Bool (k == from)) [ | inl same ↦ rw same refl | inr other ↦ rw other refl ])
@@ -283,3 +290,161 @@ module _ (stays : AloneStays) (neither : NeitherLostNorBusy) (v0 : PortValue) (l
     paused_between v s _ _ _ _ (lists.WorksOn.last_done k u w answers asked did fit at) fair stands = tt
     paused_between v s _ _ _ _ (lists.WorksOn.due k u w answers asked did fit less) fair stands = let up = did_on fits (length es) from v k u answers did in (omega arith, omega arith, refl)
     paused_between v s _ _ _ _ (lists.WorksOn.stopped k u w answers asked e did fit less) fair stands = never_within v s k u w answers asked e fit.left did fit less fair stands
+
+  -- ---- the operation
+  module _ (op call command order : ℕ) (items : List ℕ) where
+    abbrev numbered : CallNumber
+    numbered = record { op = op; call = call }
+
+    abbrev On : Progress → List LogLine → PortValue → Answered → Type 0
+    On at made v b = ExtentsOn stays neither v0 op call command order items at made v b
+
+    abbrev IsGoing : Progress → List LogLine → PortValue → Answered → Type 0
+    IsGoing at made v b = ExtentsGoing stays neither v0 op call command order items at made v b
+
+    abbrev IsDone : List LogLine → PortValue → Progress → ℕ → Option Refusal → Answered → Type 0
+    IsDone made w to value x b = IsTaskAnswered stays neither v0 op made w (reply_of to.done value x) b
+
+    abbrev ComesTo : Progress → List LogLine → PortValue → Answered → Result ℕ Stop → Type 0
+    ComesTo to made w b r = Comes stays neither v0 (λ at ls u. IsGoing at ls u b) op to made w b r
+
+    -- all that the command does not say is done
+    abbrev All : Solo → Answered
+    All s = in_order (λ k. reserve Own (2 ^ order) call k) (drop (done_before command) (extents_of command items)) (done_before command) s
+
+    -- where the list stands as a turn goes on with it
+    record Started (from : ℕ) (made : List LogLine) (v : PortValue) (b : Answered) : Type 0 where
+      lines : List Line
+      made_are : AreLines op made lines
+      value : Solo
+      owes : OwesF stays neither v0 (Lives stays neither v0) v value
+      is : logged_behind lines (in_order (λ k. reserve Own (2 ^ order) call k) (drop from (extents_of command items)) from value) ≡ b
+
+    started : (at : Progress) (made : List LogLine) (v : PortValue) (b : Answered) → list_refusal command order items ≡ None → 0 < count_in command items → IsGoing at made v b → Started (begins_in command at.done) made v b × (at.within ≡ 0)
+    started at made v b checked some (inl begins) =
+        let g = begins.0 in
+        let none = begins.1 in
+        let first : done_before command ≡ max at.done (command / 64) = omega arith in (
+          record {
+            lines = [];
+            made_are = subst (λ ls. AreLines op ls []) (sym g.nothing) tt;
+            value = g.value;
+            owes = g.owes;
+            is = subst (λ k. logged_behind [] (in_order (λ k. reserve Own (2 ^ order) call k) (drop k (extents_of command items)) k g.value) ≡ b) first
+                (sym (some_there (count_in command items) (answered 0 0 None [] g.value) (All g.value) some) ∙ (sym (ap (extents_by Own call command order items g.value) checked) ∙ g.is));
+          },
+          begins.2,
+        )
+    started at made v b checked some (inr on) =
+        let low = on.within in
+        let first : at.done ≡ max at.done (command / 64) = omega arith in (
+          record {
+            lines = on.lines;
+            made_are = on.made_are;
+            value = on.value;
+            owes = on.owes;
+            is = subst (λ k. logged_behind on.lines (in_order (λ k. reserve Own (2 ^ order) call k) (drop k (extents_of command items)) k on.value) ≡ b) first on.is;
+          },
+          on.begun,
+        )
+
+    -- refused as a whole, or empty: nothing was logged
+    abbrev Whole : PortValue → Answered → (Solo → Answered) → Type 0
+    Whole v b plain = (s : Solo) × OwesF stays neither v0 (Lives stays neither v0) v s × (plain s ≡ b)
+
+    none_begun : (at : Progress) (made : List LogLine) (v : PortValue) (b : Answered) (o : Option Refusal) → list_refusal command order items ≡ o → (count_in command items ≡ 0) ⊎ ((x : Refusal) × (o ≡ Some x)) → IsGoing at made v b →
+        (made ≡ []) × (at.done ≡ 0) × Whole v b (λ s. extents_by Own call command order items s o)
+    none_begun at made v b o is why (inl begins) =
+        let g = begins.0 in (g.nothing, begins.1, (g.value, g.owes, sym (ap (extents_by Own call command order items g.value) is) ∙ g.is))
+    none_begun at made v b o is (inl none) (inr on) = absurd (let some = on.some in omega arith)
+    none_begun at made v b o is (inr refuses) (inr on) = absurd (let k = sym on.checked ∙ (is ∙ refuses.1) in cc)
+
+    refused_comes : (at to : Progress) (made : List LogLine) (v w : PortValue) (b : Answered) (x : Refusal) → list_refusal command order items ≡ Some x → to.done ≡ 0 → w ≡ v → IsGoing at made v b → IsDone (made ++ []) w to 0 (Some x) b
+    refused_comes at to made v w b x is none same going =
+        let g = none_begun at made v b (Some x) is (inr (x, refl)) going in
+        subst (λ a. IsDone (made ++ []) w to 0 (Some x) a) g.2.2 (record {
+          lines = subst (λ ls. AreLines op (ls ++ []) []) (sym g.0) tt;
+          replies = record { done = none; value = refl; refusal = refl };
+          owes = subst (λ y. OwesF stays neither v0 (Lives stays neither v0) y g.2.0) (sym same) g.2.1;
+        })
+
+    empty_comes : (at to : Progress) (made : List LogLine) (v : PortValue) (b : Answered) → list_refusal command order items ≡ None → count_in command items ≡ 0 → to.done ≡ at.done → IsGoing at made v b → IsDone (made ++ []) v to 0 None b
+    empty_comes at to made v b checked empty same going =
+        let g = none_begun at made v b None checked (inl empty) going in
+        subst (λ a. IsDone (made ++ []) v to 0 None a) (sym (none_there (count_in command items) (answered 0 0 None [] g.2.0) (All g.2.0) empty) ∙ g.2.2) (record {
+          lines = subst (λ ls. AreLines op (ls ++ []) []) (sym g.0) tt;
+          replies = record { done = same ∙ g.1; value = refl; refusal = tt };
+          owes = g.2.1;
+        })
+
+    -- those of a turn
+    module _ (from within : ℕ) (begins : within ≡ 0) (checked : list_refusal command order items ≡ None) (some : 0 < count_in command items) (first : done_before command ≤ from) where
+      abbrev EndsSo : List Line → Answered → ℕ → PortValue → Result (Unit {0}) Stop → Type 0
+      EndsSo ls b k w r = Ended op call command order items from within begins ls b k w r
+
+      abbrev IsBetween : Result (Unit {0}) Stop → Type 0 → Type 0
+      IsBetween r P = IfPaused op call command order items from within begins r P
+
+      ends_by : (to : Progress) (made : List LogLine) (ls : List Line) (w : PortValue) (b : Answered) (r : Result (Unit {0}) Stop) → AreLines op made ls → EndsSo ls b to.done w r → IsBetween r ((from ≤ to.done) × (to.done ≤ length (extents_of command items)) × (to.within ≡ 0)) → ComesTo to made w b (valued r)
+      unfolding plain_list
+      ends_by to made ls w b (Ok done) said c placed =
+          subst (λ a. IsDone made w to 0 None a) (sym c.1) (record { lines = said; replies = record { done = refl; value = refl; refusal = tt }; owes = c.2.owes })
+      ends_by to made ls w b (Err (Refused x)) said c placed =
+          subst (λ a. IsDone made w to 0 (Some x) a) (sym c.2) (record { lines = said; replies = record { done = refl; value = refl; refusal = c.3 }; owes = c.4.owes })
+      ends_by to made ls w b (Err (Paused p)) said (t, is, inl owes) placed =
+          let same = all_extents command items ∙ same_count command items in
+          let most = placed.1 in
+          let low = placed.0 in
+          inr (record {
+            checked = checked;
+            some = some;
+            value = t;
+            owes = owes.owes;
+            begun = placed.2;
+            within = omega arith;
+            most = omega arith;
+            lines = ls;
+            made_are = said;
+            is = is;
+          })
+      ends_by to made ls w b (Err (Paused p)) said (t, is, inr never) placed = absurd never
+
+      placed_by : (to : Progress) (r : Result (Unit {0}) Stop) (left : ℕ) → to.within ≡ left → IsBetween r ((from ≤ to.done) × (to.done ≤ length (extents_of command items)) × (left ≡ 0)) → IsBetween r ((from ≤ to.done) × (to.done ≤ length (extents_of command items)) × (to.within ≡ 0))
+      placed_by to (Ok done) left same placed = tt
+      placed_by to (Err (Refused x)) left same placed = tt
+      placed_by to (Err (Paused p)) left same placed = (placed.0, placed.1, same ∙ placed.2)
+
+      on_comes : (to : Progress) (made : List LogLine) (v w : PortValue) (b : Answered) (answers : List Bool) (r : Result (Unit {0}) Stop) (works : WorksOn (fits op call command order items from within begins) (length (extents_of command items)) from v to.done w answers r) →
+          to.within ≡ left_in works within → FairFrom v0 w → Rests v → IsSettled v → Started from made v b → ComesTo to (made ++ given_lines numbered (courses.gave_on works)) w b (valued r)
+      on_comes to made v w b answers r works place fair rests settled s =
+          let stands : Between v s.value = record { owes = s.owes; rests = rests; settled = settled } in
+          let c = work_comes op call command order items from within begins s.lines b v s.value to.done w answers r works fair stands s.is in
+          let placed = paused_between op call command order items from within begins v s.value to.done w answers r works fair stands in
+          ends_by to (made ++ given_lines numbered (courses.gave_on works)) (s.lines ++ c.0) w b r (lines_more op made (given_lines numbered (courses.gave_on works)) s.lines c.0 s.made_are c.1) c.2 (placed_by to r (left_in works within) place placed)
+
+    -- the same of the number of extents that the turn counts
+    on_counted : (to : Progress) (made : List LogLine) (v w : PortValue) (b : Answered) (answers : List Bool) (r : Result (Unit {0}) Stop) (from within : ℕ) (begins : within ≡ 0) (checked : list_refusal command order items ≡ None) (some : 0 < count_in command items) (first : done_before command ≤ from)
+        (n : ℕ) → length (extents_of command items) ≡ n → (k : ℕ) → to.done ≡ k → (works : WorksOn (fits op call command order items from within begins) n from v k w answers r) →
+        to.within ≡ left_in works within → FairFrom v0 w → Rests v → IsSettled v → Started from made v b → ComesTo to (made ++ given_lines numbered (courses.gave_on works)) w b (valued r)
+    on_counted to made v w b answers r from within begins checked some first n counted k is =
+        subst (λ j. (works : WorksOn (fits op call command order items from within begins) n from v j w answers r) → to.within ≡ left_in works within → FairFrom v0 w → Rests v → IsSettled v → Started from made v b → ComesTo to (made ++ given_lines numbered (courses.gave_on works)) w b (valued r)) is
+        (subst (λ m. (works : WorksOn (fits op call command order items from within begins) m from v to.done w answers r) → to.within ≡ left_in works within → FairFrom v0 w → Rests v → IsSettled v → Started from made v b → ComesTo to (made ++ given_lines numbered (courses.gave_on works)) w b (valued r)) counted
+        (on_comes from within begins checked some first to made v w b answers r))
+
+    comes_at : (at to : Progress) (made : List LogLine) (v w : PortValue) (b : Answered) (answers : List Bool) (r : Result (Unit {0}) Stop) (k : ℕ) (works : WorksExtents Own.domain command order items v at.done k w answers r) → to.done ≡ k → PlacesExtents works at.within to.within → FairFrom v0 w → Rests v → IsSettled v →
+        IsGoing at made v b → ComesTo to (made ++ given_lines numbered (gave_extents works)) w b (valued r)
+    comes_at at to made v _ b _ _ _ (courses.WorksExtents.refused k w answers r x why whole) is place fair rests settled going =
+        subst (λ a. ComesTo to (made ++ []) w b (valued a)) (sym whole.refused) (refused_comes at to made v w b x (sym (same_refusal command order items) ∙ why) (is ∙ whole.none) whole.no_step going)
+    comes_at at to made v _ b _ _ _ (courses.WorksExtents.none why empty) is place fair rests settled going =
+        empty_comes at to made v b (sym (same_refusal command order items) ∙ why) (sym (same_count command items) ∙ empty) is going
+    comes_at at to made v _ b _ _ _ (courses.WorksExtents.on k within w answers r why some works) is place fair rests settled going =
+        let checked = sym (same_refusal command order items) ∙ why in
+        let more = subst (λ n. 0 < n) (same_count command items) some in
+        let s = started at made v b checked more going in
+        let begins = place.0 ∙ s.1 in
+        on_counted to made v w b answers r (begins_in command at.done) within begins checked more (omega arith) (extents_in command items) (all_extents command items) k is works (place.1 ∙ ap (λ old. left_in works old) (sym place.0)) fair rests settled s.0
+
+  pub extents_work : (op call command order : ℕ) (items : List ℕ) (at to : Progress) (made : List LogLine) (v w : PortValue) (b : Answered) (answers : List Bool) (r : Result (Unit {0}) Stop) → (works : WorksExtents (own stays neither v0).domain command order items v at.done to.done w answers r) →
+      PlacesExtents works at.within to.within → FairFrom v0 w → Rests v → IsSettled v → ExtentsGoing stays neither v0 op call command order items at made v b →
+      Comes stays neither v0 (λ to made w. ExtentsGoing stays neither v0 op call command order items to made w b) op to (made ++ given_lines (record { op = op; call = call }) (gave_extents works)) w b (valued r)
+  extents_work op call command order items at to made v w b answers r works place fair rests settled going = comes_at op call command order items at to made v w b answers r to.done works refl place fair rests settled going
