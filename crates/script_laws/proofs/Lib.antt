@@ -1,4 +1,5 @@
 pub mod Calling
+pub mod Extents
 pub mod Items
 pub mod Listed
 pub mod Lists
