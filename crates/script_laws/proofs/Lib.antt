@@ -1,4 +1,5 @@
 pub mod Calling
+pub mod Extending
 pub mod Extents
 pub mod Items
 pub mod Listed
