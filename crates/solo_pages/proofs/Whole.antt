@@ -1,0 +1,107 @@
+-- Plain values of which nothing is unfinished, and what words that they describe say of a type that is asked.
+use Rattle.std.proofs.Common.{◌≡◌, ◌⊎◌, ℕ, ◌+◌, ◌<◌, ◌==◌, if◌then◌else◌, Bool, true, false, Option, Some, None, IsTrue, refl, sym, ap, ◌∙◌, subst, inl, inr, arith}
+use Rattle.xp_words.specs.KindWords.{is_kind, kind_fields}
+use Rattle.xp_words.specs.Machine.{Machine}
+use Rattle.xp_words.specs.RefWords.{ref_read}
+use Rattle.xp_words.specs.declared.kind.KindWord.{KindWord}
+use Rattle.xp_words.specs.declared.kind.PageType.{PageType}
+use Rattle.xp_words.specs.declared.place.Place.TheVariants.{Kind, Refs}
+use Rattle.xp_words.specs.declared.refs.RefWord.{RefWord}
+use Rattle.xp_words.specs.declared.refs.RefWord.TheVariants.{Dying, Free, Owned}
+use Rattle.xp_board.specs.KindSteps.{raised_kind}
+use Rattle.xp_board.specs.Readings.{count_in, is_dead, kind_at, ref_count}
+use Rattle.xp_board.specs.Told.{PortValue, told_word}
+use Rattle.step_maker.specs.Plain.{Words}
+use Rattle.kind_words.specs.Kinds.{dead_kind, live_kind}
+use Rattle.frame_types.specs.Plain.{stop_by, type_stop}
+use Rattle.frame_types.specs.Standing.{standing_of}
+use Rattle.frame_types.specs.declared.standing.Standing.TheVariants as stands
+use Rattle.partial_state.specs.Levels.{level_type}
+use Rattle.table_law.specs.Alone.{PlainOutcome, alone, fine, refused, take_kind, take_reference}
+use Rattle.table_law.specs.Lawful.{IsAtRest, share_count}
+use Rattle.table_law.specs.Levels.{closed}
+use Rattle.table_law.specs.Plain.{Describes, Plain, reference_back, share_in, share_of, sober, with_kind}
+use Rattle.table_law.proofs.Describing.{sober_dead, sober_live}
+use Rattle.table_law.proofs.OnWords.{rested_plain}
+use Rattle.table_twins.specs.Types.{IsReady, IsReadyBy}
+use Rattle.course_laws.specs.Courses.{IsOrderly}
+use Rattle.course_laws.proofs.Frames.{IsAside, IsLiveWithin, count_at, dead_stands, live_stands}
+use Rattle.table_twins.proofs.Typing.{live_sober}
+use Rattle.solo_ports.specs.Standing.{IsUnkept}
+use Rattle.solo_pages.specs.Shown.{IsWhole, IsWholeKind}
+use Rattle.solo_pages.proofs.Referring.{RefTaken}
+
+-- ---- words at rest
+pub whole_at_rest : (n : Machine) (m : Words) (p : Plain) → Describes n m p → IsAtRest n m → IsUnkept n p → IsWhole n p
+whole_at_rest n m p d rest unkept g inside =
+    let r = rested_plain n m p d rest in
+    record { unkept = unkept g inside; formed = r.formed g inside; counted = r.counted g inside }
+
+-- ---- a type that is asked
+abbrev pub IsReadyFor : Machine → ℕ → PageType → ℕ → Type 0
+IsReadyFor n f t w = type_stop f t w ≡ None → IsReady n t w
+
+count_by : (r : Option RefWord) → count_in r ≡ share_count (share_in r)
+count_by (Some (Owned o allocated count)) = refl
+count_by (Some (Free stamp)) = refl
+count_by (Some (Dying o)) = refl
+count_by None = refl
+
+count_is : (w : ℕ) → ref_count w ≡ share_count (share_of w)
+unfolding ref_count
+count_is w = count_by (ref_read w)
+
+module _ (n : Machine) (m : Words) (p : Plain) (d : Describes n m p) (whole : IsWhole n p) (orderly : IsOrderly n m) (g : ℕ) (inside : g < n.frames) where
+  aside_by : (b : Bool) → is_dead (kind_at m g) ≡ b → IsAside (kind_at m g) (count_at m g)
+  aside_by true dead = record { spelled = orderly.spelled g inside; stands = inl dead }
+  aside_by false off =
+      let k = d.kinds g inside in
+      let formed = (whole g inside).formed (ap is_dead k ∙ sober_dead (kind_at m g) ∙ off) in
+      let live : (kind_at m g).validated ≡ true = sym (sober_live (kind_at m g)) ∙ sym (ap (λ (w : KindWord). w.validated) k) ∙ formed in
+      let number : (p.kinds g).number ≡ (kind_at m g).number = ap (λ (w : KindWord). w.number) (k ∙ live_sober (kind_at m g) live) in
+      let some = (whole g inside).counted formed in
+      let most = orderly.counted g inside live in
+      let same = count_is (m (Refs g)) in
+      record { spelled = orderly.spelled g inside; stands = inr (record { live = live; some = omega (arith, number, some); within = omega (arith, most, same) }) }
+
+  pub is_aside : IsAside (kind_at m g) (count_at m g)
+  is_aside = aside_by (is_dead (kind_at m g)) refl
+
+module _ (n : Machine) (g w count : ℕ) (t : PageType) (free : type_stop g t w ≡ None) (room : count < n.limit) where
+  stands_ready : (is_dead (kind_fields w) ≡ true) ⊎ IsLiveWithin (kind_fields w) count → IsReadyBy n (kind_fields w) (standing_of (kind_fields w) t)
+  stands_ready (inl dead) = subst (IsReadyBy n (kind_fields w)) (sym (dead_stands (kind_fields w) t dead)) tt
+  stands_ready (inr live) =
+      elim (live_stands (kind_fields w) t live.live live.some) [
+        | inl counted ↦ subst (IsReadyBy n (kind_fields w)) (sym counted) (let low = live.within in omega (arith, low, room))
+        | inr other ↦ absurd (let e = sym (ap (stop_by g t w) other) ∙ free in cc)
+      ]
+
+  pub aside_ready : IsAside (kind_fields w) count → IsReady n t w
+  aside_ready aside = (aside.spelled, stands_ready aside.stands)
+
+-- behind a reference
+pub ready_for : (n : Machine) (v u : PortValue) (owner g : ℕ) (t : PageType) (p : Plain) → Describes n (told_word v) p → IsWhole n p → IsOrderly n (told_word v) → RefTaken n v u owner g p → IsReadyFor n g t (told_word u (Kind g))
+ready_for n v u owner g t p d whole orderly lent free =
+    let same = lent.kind in
+    let stop : type_stop g t (told_word v (Kind g)) ≡ None = sym (ap (type_stop g t) same) ∙ free in
+    subst (IsReady n t) (sym same) (aside_ready n g (told_word v (Kind g)) (count_at (told_word v) g) t stop lent.room (is_aside n (told_word v) p d whole orderly g lent.lent.inside))
+
+pub ready_lent : (n : Machine) (v u : PortValue) (owner g l : ℕ) (p : Plain) → Describes n (told_word v) p → IsWhole n p → IsOrderly n (told_word v) → RefTaken n v u owner g p → IsReadyFor n g (level_type l) (told_word u (Kind g))
+ready_lent n v u owner g l p d whole orderly lent = ready_for n v u owner g (level_type l) p d whole orderly lent
+
+-- ---- what the plain functions keep
+pub live_whole : (t : PageType) → IsWholeKind (live_kind t 1)
+live_whole t = record { unkept = refl; formed = λ off. refl; counted = λ live. omega arith }
+
+pub dead_whole : (t : PageType) → IsWholeKind (dead_kind t false 0)
+dead_whole t = record { unkept = refl; formed = λ off. absurd cc; counted = λ live. absurd cc }
+
+pub raised_whole : (k : KindWord) → IsWholeKind k → is_dead k ≡ false → IsWholeKind (raised_kind k)
+raised_whole k w off = record { unkept = w.unkept; formed = λ o. w.formed off; counted = λ live. omega arith }
+
+kind_by : (b : Bool) (k l : KindWord) → IsWholeKind k → IsWholeKind l → IsWholeKind (if b then k else l)
+kind_by true k l a b = a
+kind_by false k l a b = b
+
+pub kinded_whole : (n : Machine) (f : ℕ) (k : KindWord) (p : Plain) → IsWholeKind k → IsWhole n p → IsWhole n (with_kind f k p)
+kinded_whole n f k p is whole g inside = kind_by (g == f) k (p.kinds g) is (whole g inside)
