@@ -5,3 +5,6 @@ pub mod Memory
 pub mod Steps
 pub mod Putting
 pub mod Giving
+pub mod Filling
+pub mod Coming
+pub mod Wholly

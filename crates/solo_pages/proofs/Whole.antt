@@ -1,30 +1,32 @@
 -- Plain values of which nothing is unfinished, and what words that they describe say of a type that is asked.
-use Rattle.std.proofs.Common.{◌≡◌, ◌⊎◌, ℕ, ◌+◌, ◌<◌, ◌==◌, if◌then◌else◌, Bool, true, false, Option, Some, None, IsTrue, refl, sym, ap, ◌∙◌, subst, inl, inr, arith}
+use Rattle.std.proofs.Common.{◌≡◌, ◌⊎◌, ℕ, ◌+◌, ◌<◌, ◌==◌, ◌&&◌, not, nat_le, nat_lt, if◌then◌else◌, Bool, true, false, Option, Some, None, IsTrue, refl, sym, ap, ◌∙◌, subst, inl, inr, arith}
 use Rattle.xp_words.specs.KindWords.{is_kind, kind_fields}
 use Rattle.xp_words.specs.Machine.{Machine}
 use Rattle.xp_words.specs.RefWords.{ref_read}
 use Rattle.xp_words.specs.declared.kind.KindWord.{KindWord}
 use Rattle.xp_words.specs.declared.kind.PageType.{PageType}
+use Rattle.xp_words.specs.declared.kind.PageType.TheVariants.{Writable}
 use Rattle.xp_words.specs.declared.place.Place.TheVariants.{Kind, Refs}
 use Rattle.xp_words.specs.declared.refs.RefWord.{RefWord}
 use Rattle.xp_words.specs.declared.refs.RefWord.TheVariants.{Dying, Free, Owned}
 use Rattle.xp_board.specs.KindSteps.{raised_kind}
-use Rattle.xp_board.specs.Readings.{count_in, is_dead, kind_at, ref_count}
+use Rattle.xp_board.specs.Readings.{count_in, is_dead, is_type, kind_at, ref_count}
 use Rattle.xp_board.specs.Told.{PortValue, told_word}
 use Rattle.step_maker.specs.Plain.{Words}
-use Rattle.kind_words.specs.Kinds.{dead_kind, live_kind}
+use Rattle.kind_words.specs.Kinds.{dead_kind, live_kind, work_kind}
 use Rattle.frame_types.specs.Plain.{stop_by, type_stop}
 use Rattle.frame_types.specs.Standing.{standing_of}
 use Rattle.frame_types.specs.declared.standing.Standing.TheVariants as stands
 use Rattle.partial_state.specs.Levels.{level_type}
-use Rattle.table_law.specs.Alone.{PlainOutcome, alone, fine, refused, take_kind, take_reference}
+use Rattle.table_law.specs.Alone.{Cause, CountFull, NoFrame, OtherType, PlainOutcome, WrongOwner, alone, fine, go_on, is_counted, refused, take_at, take_kind, take_reference, take_reference_of}
 use Rattle.table_law.specs.Lawful.{IsAtRest, share_count}
 use Rattle.table_law.specs.Levels.{closed}
-use Rattle.table_law.specs.Plain.{Describes, Plain, reference_back, share_in, share_of, sober, with_kind}
+use Rattle.table_law.specs.Plain.{Describes, Plain, Share, raised_share, reference_back, share_in, share_of, sober, with_kind, with_share}
 use Rattle.table_law.proofs.Describing.{sober_dead, sober_live}
 use Rattle.table_law.proofs.OnWords.{rested_plain}
 use Rattle.table_twins.specs.Types.{IsReady, IsReadyBy}
 use Rattle.course_laws.specs.Courses.{IsOrderly}
+use Rattle.course_laws.proofs.Lending.{lent}
 use Rattle.course_laws.proofs.Frames.{IsAside, IsLiveWithin, count_at, dead_stands, live_stands}
 use Rattle.table_twins.proofs.Typing.{live_sober}
 use Rattle.solo_ports.specs.Standing.{IsUnkept}
@@ -105,3 +107,49 @@ kind_by false k l a b = b
 
 pub kinded_whole : (n : Machine) (f : ℕ) (k : KindWord) (p : Plain) → IsWholeKind k → IsWhole n p → IsWhole n (with_kind f k p)
 kinded_whole n f k p is whole g inside = kind_by (g == f) k (p.kinds g) is (whole g inside)
+
+-- ---- what is taken leaves a whole value
+module _ (n : Machine) (g : ℕ) (t : PageType) (p : Plain) (inside : g < n.frames) (whole : IsWhole n p) where
+  lived : (b : Bool) (h : ℕ) → h < n.frames → IsWholeKind (if b then live_kind t 1 else (if b then work_kind t false 0 else p.kinds h))
+  lived true h low = live_whole t
+  lived false h low = whole h low
+
+  take_by : (a b : Bool) → is_dead (p.kinds g) ≡ a → IsWhole n (take_kind fine g t p (p.kinds g)).left
+  take_by true b dead = subst (λ c. IsWhole n (if c then fine (with_kind g (live_kind t 1) (with_kind g (work_kind t false 0) p)) else if is_counted (p.kinds g) && is_type (p.kinds g).kind t then fine (with_kind g (raised_kind (p.kinds g)) p) else refused (OtherType g t (p.kinds g)) (reference_back g p)).left) (sym dead) (λ h low. lived (h == g) h low)
+  take_by false b off = subst (λ c. IsWhole n (if c then fine (with_kind g (live_kind t 1) (with_kind g (work_kind t false 0) p)) else if is_counted (p.kinds g) && is_type (p.kinds g).kind t then fine (with_kind g (raised_kind (p.kinds g)) p) else refused (OtherType g t (p.kinds g)) (reference_back g p)).left) (sym off) (by (is_counted (p.kinds g) && is_type (p.kinds g).kind t))
+    where
+      by : (c : Bool) → IsWhole n (if c then fine (with_kind g (raised_kind (p.kinds g)) p) else refused (OtherType g t (p.kinds g)) (reference_back g p)).left
+      by true = kinded_whole n g (raised_kind (p.kinds g)) p (raised_whole (p.kinds g) (whole g inside) off) whole
+      by false = whole
+
+  pub taken_whole : IsWhole n (take_kind fine g t p (p.kinds g)).left
+  taken_whole = take_by (is_dead (p.kinds g)) false refl
+
+-- a reference changes no kind word
+pub referred_whole : (n : Machine) (owner g : ℕ) (p : Plain) → IsWhole n p → IsWhole n (take_reference n owner g p).left
+referred_whole n owner g p whole = by (nat_lt g n.frames)
+  where
+    by_share : (o : Option Share) → IsWhole n (take_reference_of n owner g p o).left
+    by_share None = whole
+    by_share (Some s) = by_owner (s.owner == owner) (nat_le n.limit s.count)
+      where
+        by_owner : (b k : Bool) → IsWhole n (if not b then refused (WrongOwner g (Some s)) p else if k then refused (CountFull g s) p else fine (with_share g (raised_share s) p)).left
+        by_owner false k = whole
+        by_owner true true = whole
+        by_owner true false = whole
+
+    by : (b : Bool) → IsWhole n (if b then take_reference_of n owner g p (p.shares g) else refused (NoFrame g) p).left
+    by true = by_share (p.shares g)
+    by false = whole
+
+module _ (n : Machine) (owner f : ℕ) (p : Plain) (whole : IsWhole n p) where
+  abbrev q : Plain
+  q = (take_reference n owner f p).left
+
+  alone_by : (r : Option Cause) → (take_reference n owner f p).refusal ≡ r → IsWhole n (go_on (take_reference n owner f p).refusal q (take_at 0 n owner f)).left
+  unfolding take_at
+  alone_by None none = subst (λ r. IsWhole n (go_on r q (take_at 0 n owner f)).left) (sym none) (taken_whole n f Writable q (lent n owner f p none).inside (referred_whole n owner f p whole))
+  alone_by (Some c) is = subst (λ r. IsWhole n (go_on r q (take_at 0 n owner f)).left) (sym is) (referred_whole n owner f p whole)
+
+  pub alone_whole : IsWhole n (alone n owner 0 f p).left
+  alone_whole = alone_by (take_reference n owner f p).refusal refl

@@ -1,5 +1,5 @@
 -- What a call comes to that the plain functions have, too.
-use Rattle.std.specs.Prelude.{◌≡◌, ℕ, Some, None, Result, Ok, Err}
+use Rattle.std.specs.Prelude.{◌≡◌, ℕ, [], Some, None, Result, Ok, Err}
 use Rattle.xp_words.specs.Machine.{Machine}
 use Rattle.xp_words.specs.declared.reply.Stop.{Stop}
 use Rattle.xp_words.specs.declared.reply.Stop.TheVariants.{Refused, Paused}
@@ -23,8 +23,8 @@ EndsAs n w o (Ok a) = (o.refusal ≡ None) × Describes n w o.left
 EndsAs n w o (Err (Refused y)) = (c : Cause) × (o.refusal ≡ Some c) × IsCause y c × Describes n w o.left
 EndsAs n w o (Err (Paused x)) = ⊥
 
--- the same with all words, as vCPU s knows them
+-- the same with all words, as vCPU s knows them, where the outcome logs nothing
 abbrev pub EndsSo : {A : Type 0} → Machine → ℕ → Words → Outcome → Result A Stop → Type 0
-EndsSo n s w o (Ok a) = (o.refusal ≡ None) × IsShown n s w o.left
-EndsSo n s w o (Err (Refused y)) = (why : Why) × (o.refusal ≡ Some why) × IsWhy y why × IsShown n s w o.left
+EndsSo n s w o (Ok a) = (o.refusal ≡ None) × (o.lines ≡ []) × IsShown n s w o.left
+EndsSo n s w o (Err (Refused y)) = (why : Why) × (o.refusal ≡ Some why) × (o.lines ≡ []) × IsWhy y why × IsShown n s w o.left
 EndsSo n s w o (Err (Paused x)) = ⊥
