@@ -24,9 +24,9 @@ use Rattle.course_laws.specs.Courses.{IsDecided, IsFinal, IsOrderly}
 use Rattle.course_laws.proofs.Awaiting.{AloneStays, NeitherLostNorBusy, NobodyWaitedFor, alone_orderly, decided}
 use Rattle.course_laws.proofs.Stopping.{stops_here}
 use Rattle.script_law.specs.Shown.{IsShownWord, base, tables}
-use Rattle.script_law.specs.Values.{Solo, Frames, Outcome, behind, behind_by, did, stopped, with_frames}
+use Rattle.script_law.specs.Values.{Solo, Frames, Outcome, Why, behind, behind_by, did, stopped, with_frames}
 use Rattle.solo_ports.specs.Standing.{Clean, Fair, Owes, ShowsOthers, Stands, nothing}
-use Rattle.solo_ports.specs.Coming.{Comes, IsDoneSo, IsRefusedSo}
+use Rattle.solo_ports.specs.Coming.{Comes, IsWhy}
 use Rattle.solo_pages.specs.Shown.{IsShown, IsWhole, SameBeside}
 use Rattle.solo_pages.specs.Ends.{EndsAs, EndsSo, IsEnded}
 use Rattle.solo_pages.proofs.Whole.{whole_at_rest}
@@ -118,3 +118,6 @@ behind_fine x o next none = ap (λ r. behind_by x o r next) none
 
 pub did_so : (n : Machine) (s : ℕ) (w : Words) (o : Outcome) (y : Solo) → o ≡ did y → IsShown n s w y → EndsSo {A = Unit {0}} n s w o (Ok tt)
 did_so n s w o y at is = (ap (λ (u : Outcome). u.refusal) at, ap (λ (u : Outcome). u.lines) at, subst (λ (u : Outcome). IsShown n s w u.left) (sym at) is)
+
+pub stopped_so : (n : Machine) (s : ℕ) (w : Words) (o : Outcome) (y : Solo) (r : Refusal) (why : Why) → o ≡ stopped why y → IsWhy r why → IsShown n s w y → EndsSo {A = Unit {0}} n s w o (Err (Refused r))
+stopped_so n s w o y r why at same is = (why, ap (λ (u : Outcome). u.refusal) at, ap (λ (u : Outcome). u.lines) at, same, subst (λ (u : Outcome). IsShown n s w u.left) (sym at) is)
