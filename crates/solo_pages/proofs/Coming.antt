@@ -29,10 +29,9 @@ use Rattle.solo_ports.specs.Standing.{Clean, Fair, Owes, ShowsOthers, Stands, no
 use Rattle.solo_ports.specs.Coming.{Comes, IsWhy}
 use Rattle.solo_pages.specs.Shown.{IsShown, IsWhole, SameBeside}
 use Rattle.solo_pages.specs.Ends.{EndsAs, EndsSo, IsEnded}
+use Rattle.solo_ports.proofs.Resting.{clean_rests}
+use Rattle.solo_ports.proofs.Staying.{stands_at}
 use Rattle.solo_pages.proofs.Whole.{whole_at_rest}
-
-abbrev pub CleanRests : Type 0
-CleanRests = (v : PortValue) (x : Solo) → Clean v x → IsAtRest v.post.machine (told_word v)
 
 -- ---- words that are shown
 shown_word : (k : ℕ) → IsShownWord k → (k ≢ 4) × (k ≢ 5)
@@ -60,37 +59,25 @@ shown_stays n s m w x p is same d whole =
     }
 
 -- ---- from a clean port
-pub shown_clean : CleanRests → (v : PortValue) (x : Solo) → Clean v x → IsShown v.post.machine v.post.vcpu (told_word v) x
-shown_clean rests v x c =
+pub shown_clean : (v : PortValue) (x : Solo) → Clean v x → IsShown v.post.machine v.post.vcpu (told_word v) x
+shown_clean v x c =
     record {
       others = c.stands.others;
       frames = c.frames;
-      whole = whole_at_rest v.post.machine (told_word v) x.frames c.frames (rests v x c) c.stands.unkept;
+      whole = whole_at_rest v.post.machine (told_word v) x.frames c.frames (clean_rests v x c) c.stands.unkept;
       first = c.first;
       second = c.stands.second;
     }
 
 -- to a clean one
-clean_here : (v w : PortValue) (x y : Solo) → Clean v x → IsAlone w → w.post ≡ v.post → IsEmptyHand w.holdings → IsShown w.post.machine w.post.vcpu (told_word w) y → Clean w y
-clean_here v w x y c alone same empty is =
-    record {
-      stands = record {
-        machine = alone.state.sound.machine;
-        alone = alone;
-        only = ap (λ (p : Post). length p.machine.vcpu_domain) same ∙ c.stands.only;
-        empty = empty;
-        second = is.second;
-        others = is.others;
-        unkept = λ g inside. (is.whole g inside).unkept;
-      };
-      first = is.first;
-      frames = is.frames;
-    }
-
 pub clean_behind : AloneStays → (v w : PortValue) (x y : Solo) → Clean v x → Came v w → IsEmptyHand w.holdings → IsShown v.post.machine v.post.vcpu (told_word w) y → Clean w y
 clean_behind stays v w x y c came empty is =
-    let same = came_post v w came in
-    clean_here v w x y c (stays v w c.stands.alone came) same empty (subst (λ (p : Post). IsShown p.machine p.vcpu (told_word w) y) (sym same) is)
+    let same = sym (came_post v w came) in
+    record {
+      stands = stands_at stays v w x y c.stands came empty is.second is.others (λ g inside. (is.whole g inside).unkept);
+      first = subst (λ (p : Post). told_word w (old_place p.vcpu First) ≡ 0) same is.first;
+      frames = subst (λ (p : Post). Describes p.machine (told_word w) y.frames) same is.frames;
+    }
 
 -- ---- it ends
 ended_by : (e : Stop) → IsDecided (Err e) → IsEnded {A = Unit {0}} (Err e)

@@ -38,7 +38,7 @@ use Rattle.solo_ports.specs.Coming.{Comes}
 use Rattle.solo_pages.specs.Shown.{IsShown, IsWhole, SameBeside}
 use Rattle.solo_pages.specs.Ends.{EndsAs, EndsSo, IsEnded}
 use Rattle.solo_pages.proofs.Beside.{beside_same, beside_trans}
-use Rattle.solo_pages.proofs.Coming.{CleanRests, behind_fine, behind_refused, comes, did_so, ended, shown_clean, shown_stays, stopped_so}
+use Rattle.solo_pages.proofs.Coming.{behind_fine, behind_refused, comes, did_so, ended, shown_clean, shown_stays, stopped_so}
 use Rattle.solo_pages.proofs.Filling.{Filled, cleared_words, copied_words, filled_described, lent, returned}
 use Rattle.solo_pages.proofs.Giving.{gave_back, given, given_whole, let_go_is}
 use Rattle.solo_pages.proofs.Memory.{EndsBeside, got_memory}
@@ -205,13 +205,13 @@ copies_so n s v x machine same telling orderly is d to from words _ _ ended (who
 copies_so n s v x machine same telling orderly is d to from words _ _ ended (whole.copied a b c e w long got ref steps back gave) = copied_so n s v x machine same telling orderly is d to from a got b c e w words long ref steps back gave
 
 -- ---- the law
-module _ (rests : CleanRests) (stays : AloneStays) (neither : NeitherLostNorBusy) (nobody : NobodyWaitedFor) where
+module _ (stays : AloneStays) (neither : NeitherLostNorBusy) (nobody : NobodyWaitedFor) where
   pub clear_comes : (v w : PortValue) (x : Solo) (d f : ℕ) (answer : Result (Unit {0}) Stop) → Clean v x → Fair v w → ClearsPage v d f w answer → IfErr answer (λ e. Stops v w (of_clear d f) e) → Rests w →
       Comes (λ v x. ⊥) w x (clear_frame v.post.machine d f x) answer
   clear_comes v w x d f answer clean fair course stops ends =
       let telling = alone_telling v clean.stands.alone in
       comes stays v w x (clear_frame v.post.machine d f x) answer clean (clears_came v d f w answer course) ends.empty
-      (clears_so v.post.machine v.post.vcpu v x clean.stands.machine refl telling (alone_orderly v clean.stands.alone) (shown_clean rests v x clean) d f w answer
+      (clears_so v.post.machine v.post.vcpu v x clean.stands.machine refl telling (alone_orderly v clean.stands.alone) (shown_clean v x clean) d f w answer
       (ended stays neither nobody v w x (of_clear d f) answer clean fair refl refl stops) course)
 
   pub copy_comes : (v w : PortValue) (x : Solo) (d to from : ℕ) (words : List ℕ) (answer : Result (Unit {0}) Stop) → Clean v x → Fair v w → CopiesPage v d to from words w answer → IfErr answer (λ e. Stops v w (of_copy d to from) e) → Rests w →
@@ -219,5 +219,5 @@ module _ (rests : CleanRests) (stays : AloneStays) (neither : NeitherLostNorBusy
   copy_comes v w x d to from words answer clean fair course stops ends =
       let telling = alone_telling v clean.stands.alone in
       comes stays v w x (copy_frame v.post.machine d to from x) answer clean (copies_came v d to from words w answer course) ends.empty
-      (copies_so v.post.machine v.post.vcpu v x clean.stands.machine refl telling (alone_orderly v clean.stands.alone) (shown_clean rests v x clean) d to from words w answer
+      (copies_so v.post.machine v.post.vcpu v x clean.stands.machine refl telling (alone_orderly v clean.stands.alone) (shown_clean v x clean) d to from words w answer
       (ended stays neither nobody v w x (of_copy d to from) answer clean fair refl refl stops) course)
