@@ -8,3 +8,5 @@ pub mod Giving
 pub mod Filling
 pub mod Coming
 pub mod Wholly
+pub mod Typing
+pub mod Waits
