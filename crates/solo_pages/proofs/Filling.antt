@@ -33,7 +33,7 @@ pub record Filled (m w : Words) (f k : ℕ) (words : ℕ → ℕ) : Type 0 where
   pub cells : (j : ℕ) → j < k → w (Cell f j) ≡ words j
   pub others : (q : Place) → ((j : ℕ) → j < k → q ≢ Cell f j) → w q ≡ m q
 
-filled_none : (m w : Words) (f : ℕ) (words : ℕ → ℕ) → SameWords m w → Filled m w f 0 words
+pub filled_none : (m w : Words) (f : ℕ) (words : ℕ → ℕ) → SameWords m w → Filled m w f 0 words
 filled_none m w f words same = record { cells = λ j low. absurd (omega (arith, low)); others = λ q off. same q }
 
 module _ (m u w : Words) (f k x : ℕ) (words : ℕ → ℕ) (before : Filled m u f k words) (same : SameWords (change (Store x) (Cell f k) u) w) (is : words k ≡ x) where

@@ -10,3 +10,5 @@ pub mod Coming
 pub mod Wholly
 pub mod Typing
 pub mod Waits
+pub mod Fixing
+pub mod Describing
