@@ -12,3 +12,4 @@ pub mod Typing
 pub mod Waits
 pub mod Fixing
 pub mod Describing
+pub mod Renaming
