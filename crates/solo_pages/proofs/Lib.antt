@@ -13,3 +13,5 @@ pub mod Waits
 pub mod Fixing
 pub mod Describing
 pub mod Renaming
+pub mod Naming
+pub mod Tables

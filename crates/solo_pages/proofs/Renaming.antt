@@ -2,33 +2,15 @@
 use Rattle.std.proofs.Common.{◌≡◌, ◌≢◌, ℕ, zero, suc, ◌+◌, ◌-◌, ◌<◌, ◌≤◌, ◌==◌, if◌then◌else◌, Bool, true, false, Option, Some, None, refl, sym, ap, ◌∙◌, subst, arith}
 use Rattle.std.proofs.Math.Path.{fun_ext}
 use Rattle.std.proofs.lemmas.Bool.Decides.{nat_tests}
-use Rattle.xp_words.specs.Machine.{Machine}
 use Rattle.xp_words.specs.declared.kind.KindWord.{KindWord}
 use Rattle.xp_words.specs.declared.kind.PageType.TheVariants.{Desc}
-use Rattle.xp_words.specs.declared.place.Place.TheVariants.{Vcpu}
-use Rattle.xp_board.specs.Told.{Post, PortValue, is_telling, told_word}
-use Rattle.xp_board.specs.declared.step.Act.TheVariants.{Store}
-use Rattle.xp_board.specs.declared.step.StepKind.TheVariants as steps
-use Rattle.step_maker.specs.Moves.{Came, Moves}
-use Rattle.step_maker.specs.Plain.{Leaves, Words, change}
-use Rattle.step_maker.proofs.Coming.{came_post, came_self, came_trans, moves_came}
-use Rattle.step_maker.proofs.Telling.{came_telling, leaves, told_there}
-use Rattle.step_maker.proofs.Visiting.{does_came}
-use Rattle.context_words.specs.Names.{naming}
-use Rattle.desc_pages.specs.Names.{GaveOld, NamesPage}
-use Rattle.frame_types.specs.Found.{DropsPlain}
 use Rattle.kind_words.specs.Kinds.{dead_kind}
 use Rattle.table_law.specs.Plain.{Describes, Plain, Share, at, fewer, with_kind}
 use Rattle.table_law.specs.Release.{emptying, is_counted_on}
 use Rattle.script_law.specs.Frames.{back_named, rename}
 use Rattle.script_law.specs.Pages.{give_page}
 use Rattle.script_law.specs.Repeats.{each_below}
-use Rattle.script_law.specs.Shown.{IsShownWord, base, tables}
 use Rattle.script_law.specs.Values.{Solo, put_at, with_frames, with_own}
-use Rattle.solo_ports.specs.Standing.{ShowsOthers}
-use Rattle.solo_pages.specs.Shown.{IsShown}
-use Rattle.solo_pages.proofs.Coming.{shown_stays}
-use Rattle.solo_pages.proofs.Filling.{stored_here, stored_off}
 use Rattle.solo_pages.proofs.Giving.{gave_back, given, given_last, given_more, given_whole}
 
 -- ---- one place of a function is changed by what is there
@@ -122,15 +104,15 @@ module _ (i j x y : ℕ) (s : Solo) (off : i ≢ j) where
       ∙ ap (λ (o : ℕ → ℕ). record s { frames = back_named give_page (put_at i x s.own j) (back_named give_page (s.own i) s.frames); own = o }) (fun_ext (λ h. own_by (h == i) (h == j) h refl refl))
 
 -- ---- from the last one down is as from the first one up
-pub Swaps : (ℕ → Solo → Solo) → Type 0
+abbrev pub Swaps : (ℕ → Solo → Solo) → Type 0
 Swaps one = (i j : ℕ) (s : Solo) → i ≢ j → one i (one j s) ≡ one j (one i s)
 
 pub through : (one : ℕ → Solo → Solo) (m k : ℕ) (s : Solo) → Swaps one → m ≤ k → each_below m one (one k s) ≡ one k (each_below m one s)
-unfolding Swaps each_below
+unfolding each_below
 through one zero k s swaps low = refl
 through one (suc m) k s swaps low = ap (one m) (through one m k s swaps (omega (arith, low))) ∙ swaps m k (each_below m one s) (λ e. omega (arith, e, low))
 
 -- the next one down
 pub one_down : (one : ℕ → Solo → Solo) (k : ℕ) (s : Solo) → Swaps one → each_below k one (one k s) ≡ each_below (k + 1) one s
-unfolding Swaps each_below
+unfolding each_below
 one_down one k s swaps = through one k k s swaps (omega arith) ∙ (let e : suc k ≡ k + 1 = omega arith in ap (λ m. each_below m one s) e)
