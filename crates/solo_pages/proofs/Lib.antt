@@ -15,3 +15,4 @@ pub mod Describing
 pub mod Renaming
 pub mod Naming
 pub mod Tables
+pub mod Single

@@ -76,6 +76,10 @@ module _ (n : Machine) (machine : IsMachine n) (u : PortValue) (f owner : ℕ) (
   took_memory _ _ ended (pages.waiting x w own stamp stop type left) = absurd (wait_unended stop type.waits.0 ended)
 
 -- ---- with one of its own
+-- behind a reference that is to be had
+pub alone_behind : (n : Machine) (owner f : ℕ) (p : Plain) → (take_reference n owner f p).refusal ≡ None → alone n owner 0 f p ≡ take_at 0 n owner f (take_reference n owner f p).left
+alone_behind n owner f p free = ap (λ r. go_on r (take_reference n owner f p).left (take_at 0 n owner f)) free
+
 module _ (n : Machine) (machine : IsMachine n) (v : PortValue) (f owner : ℕ) (p : Plain) (same : v.post.machine ≡ n) (telling : is_telling v ≡ true) (d : Describes n (told_word v) p) (whole : IsWhole n p) (orderly : IsOrderly n (told_word v)) where
   unreferred_memory : (w : PortValue) (e : Stop) → IsFinal e → GotRef v w f owner (Err e) → EndsBeside {A = ℕ} n v w (alone n owner 0 f p) (Err e)
   unreferred_memory w (Refused y) final ref =
@@ -96,7 +100,7 @@ module _ (n : Machine) (machine : IsMachine n) (v : PortValue) (f owner : ℕ) (
     lent = ref_taken n v u owner f p same machine telling d ref
 
     behind : take_at 0 n owner f q ≡ alone n owner 0 f p
-    behind = sym (ap (λ r. go_on r q (take_at 0 n owner f)) lent.free)
+    behind = sym (alone_behind n owner f p lent.free)
 
     taken_behind : (w : PortValue) (answer : Result (Unit {0}) Stop) → IsEnded answer → TookPage u f owner w answer → EndsBeside n v w (alone n owner 0 f p) answer
     taken_behind w answer ended took =
