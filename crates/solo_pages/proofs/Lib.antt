@@ -16,3 +16,4 @@ pub mod Renaming
 pub mod Naming
 pub mod Tables
 pub mod Single
+pub mod Touched
