@@ -17,3 +17,5 @@ pub mod Naming
 pub mod Tables
 pub mod Single
 pub mod Touched
+pub mod Given
+pub mod Keeping

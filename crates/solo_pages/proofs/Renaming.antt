@@ -116,3 +116,20 @@ through one (suc m) k s swaps low = ap (one m) (through one m k s swaps (omega (
 pub one_down : (one : ℕ → Solo → Solo) (k : ℕ) (s : Solo) → Swaps one → each_below k one (one k s) ≡ each_below (k + 1) one s
 unfolding each_below
 one_down one k s swaps = through one k k s swaps (omega arith) ∙ (let e : suc k ≡ k + 1 = omega arith in ap (λ m. each_below m one s) e)
+
+-- ---- no frame comes by the mark that keeps it
+less_kept : (k : KindWord) → k.kept ≡ false → (less k).kept ≡ false
+unfolding less
+less_kept k e = by (is_counted_on k)
+  where
+    by : (b : Bool) → (if b then record k { number = k.number - 1 } else dead_kind Desc false 0).kept ≡ false
+    by true = e
+    by false = refl
+
+pub kept_given : (f g : ℕ) (p : Plain) → (p.kinds g).kept ≡ false → ((give_page f p).kinds g).kept ≡ false
+unfolding one_back
+kept_given f g p e = subst (λ (q : Plain). (q.kinds g).kept ≡ false) (sym (back_is f p)) (by (g == f) refl)
+  where
+    by : (b : Bool) → (g == f) ≡ b → (if b then less (p.kinds f) else p.kinds g).kept ≡ false
+    by true is = less_kept (p.kinds f) (subst (λ h. (p.kinds h).kept ≡ false) (equal g f is) e)
+    by false is = e

@@ -233,14 +233,14 @@ module _ (stays : AloneStays) (v : PortValue) (x : Solo) (alone : IsAlone v) (ma
       (gdt_named n s a h.left (ap (λ (p : Post). p.machine) post) (ap (λ (p : Post). p.vcpu) post) (came_telling v a came ∙ alone_telling v alone) h.shown fs w renamed)
 
 -- ---- the laws
-module _ (stays : AloneStays) (neither : NeitherLostNorBusy) (nobody : NobodyWaitedFor) where
-  pub ldt_comes : (v w : PortValue) (x : Solo) (address entries : ℕ) (answer : Result (Unit {0}) Stop) → Clean v x → SetsLdt v address entries w answer → Rests w → Comes (λ v x. ⊥) w x (set_ldt address entries x) answer
-  ldt_comes v w x address entries answer clean course rests =
-      comes stays v w x (set_ldt address entries x) answer clean (sets_ldt_came v address entries w answer course) rests.empty
-      (sets_ldt_so v x (alone_telling v clean.stands.alone) (shown_clean v x clean) address entries w answer course)
+pub ldt_comes : AloneStays → (v w : PortValue) (x : Solo) (address entries : ℕ) (answer : Result (Unit {0}) Stop) → Clean v x → SetsLdt v address entries w answer → Rests w → Comes (λ v x. ⊥) w x (set_ldt address entries x) answer
+ldt_comes stays v w x address entries answer clean course rests =
+    comes stays v w x (set_ldt address entries x) answer clean (sets_ldt_came v address entries w answer course) rests.empty
+    (sets_ldt_so v x (alone_telling v clean.stands.alone) (shown_clean v x clean) address entries w answer course)
 
-  pub gdt_comes : (v w : PortValue) (x : Solo) (entries : ℕ) (fs : List ℕ) (answer : Result (Unit {0}) Stop) → Clean v x → Fair v w → GdtSet v w entries fs answer → Comes (λ v x. ⊥) w x (set_gdt v.post.machine (own_domain v) entries fs x) answer
-  gdt_comes v w x entries fs answer clean fair set =
-      comes stays v w x (set_gdt v.post.machine (own_domain v) entries fs x) answer clean set.came set.rests.empty
-      (sets_gdt_so stays v x clean.stands.alone clean.stands.machine (shown_clean v x clean) entries fs w answer
-      (ended stays neither nobody v w x (of_gdt (own_domain v) entries fs) answer clean fair refl refl set.stops) set.course)
+pub gdt_comes : AloneStays → NeitherLostNorBusy → NobodyWaitedFor → (v w : PortValue) (x : Solo) (entries : ℕ) (fs : List ℕ) (answer : Result (Unit {0}) Stop) → Clean v x → Fair v w → GdtSet v w entries fs answer →
+    Comes (λ v x. ⊥) w x (set_gdt v.post.machine (own_domain v) entries fs x) answer
+gdt_comes stays neither nobody v w x entries fs answer clean fair set =
+    comes stays v w x (set_gdt v.post.machine (own_domain v) entries fs x) answer clean set.came set.rests.empty
+    (sets_gdt_so stays v x clean.stands.alone clean.stands.machine (shown_clean v x clean) entries fs w answer
+    (ended stays neither nobody v w x (of_gdt (own_domain v) entries fs) answer clean fair refl refl set.stops) set.course)

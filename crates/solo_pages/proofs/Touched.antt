@@ -1,4 +1,4 @@
--- A page of the LDT that is touched ends as its plain meaning: from what its walk comes to.
+-- A page of the LDT that is touched ends as its plain meaning.
 use Rattle.std.proofs.Common.{◌≡◌, ◌≢◌, ℕ, zero, suc, ◌+◌, ◌*◌, ◌<◌, ◌≤◌, ◌==◌, nat_le, if◌then◌else◌, Bool, true, false, [], Option, Some, None, Result, Ok, Err, IfErr, refl, sym, ap, ◌∙◌, subst, arith}
 use Rattle.std.proofs.lemmas.Bool.Decides.{nat_tests}
 use Rattle.xp_words.specs.ContextWords.{IsLdtBase, ldt_read}
@@ -43,7 +43,9 @@ use Rattle.solo_ports.specs.Coming.{Comes, IsRefusedSo}
 use Rattle.solo_ports.specs.Standing.{Clean, Fair, nothing}
 use Rattle.solo_pages.specs.Shown.{IsShown}
 use Rattle.solo_pages.specs.Ends.{EndsSo, IsEnded}
-use Rattle.solo_pages.specs.Walking.{IsLedTo, TouchStops, WalkLeads, WalkStops}
+use Rattle.solo_accesses.specs.Accesses.{AccessComes}
+use Rattle.solo_accesses.specs.Walking.{IsTouchLed}
+use Rattle.solo_accesses.proofs.Touching.{touch_unwalked, touch_walked}
 use Rattle.solo_pages.proofs.Beside.{beside_same}
 use Rattle.solo_pages.proofs.Coming.{clean_behind, comes, did_so, ended, shown_clean, shown_stays, stopped_so}
 use Rattle.solo_pages.proofs.Describing.{got_desc_so}
@@ -80,7 +82,7 @@ looked_empty v w t k x looks empty =
 page_few : (page : ℕ) (b : LdtBase) → IsLdtBase b → is_beyond page b ≡ false → page < 16
 page_few page b valid within = grind (arith, nat_tests)
 
-module _ (stays : AloneStays) (leads : WalkLeads) (stops : WalkStops) (v : PortValue) (x : Solo) (clean : Clean v x) (page : ℕ) where
+module _ (stays : AloneStays) (v : PortValue) (x : Solo) (clean : Clean v x) (page : ℕ) where
   abbrev n : Machine
   n = v.post.machine
 
@@ -155,8 +157,8 @@ module _ (stays : AloneStays) (leads : WalkLeads) (stops : WalkStops) (v : PortV
 
 -- ---- behind the walk
 -- it is refused
-stops_comes : (w : PortValue) (x : Solo) (o : Outcome) (e : Stop) → TouchStops w o e → Comes (λ v x. ⊥) w x o (Err e)
-stops_comes w x o (Refused y) a = record { why = Numbers y; is = a.0; same = refl; none = a.1; owes = nothing a.2 }
+stops_comes : (w : PortValue) (x : Solo) (o : Outcome) (e : Stop) → AccessComes w o (Err e) → Comes (λ v x. ⊥) w x o (Err e)
+stops_comes w x o (Refused y) a = record { why = Numbers y; is = a.is; same = refl; none = a.none; owes = nothing a.clean }
 stops_comes w x o (Paused y) a = absurd a
 
 -- the frame is taken, and the word names it
@@ -192,7 +194,7 @@ module _ (stays : AloneStays) (v : PortValue) (x : Solo) (clean : Clean v x) (d 
       (named_so m k y w got.left (22 + page) (Some f) (ap (λ (p : Post). p.machine) post) (ap (λ (p : Post). p.vcpu) post) (came_telling v y came ∙ alone_telling v clean.stands.alone) e.2 (tables (omega arith) (omega (arith, few))) names)
 
 -- ---- the whole
-module _ (stays : AloneStays) (leads : WalkLeads) (stops : WalkStops) (v w : PortValue) (x : Solo) (clean : Clean v x) (page : ℕ) (empty : IsEmptyHand w.holdings) where
+module _ (stays : AloneStays) (v w : PortValue) (x : Solo) (clean : Clean v x) (page : ℕ) (empty : IsEmptyHand w.holdings) where
   abbrev touch : Outcome
   touch = touch_ldt v.post.machine (own_domain v) page x
 
@@ -201,11 +203,11 @@ module _ (stays : AloneStays) (leads : WalkLeads) (stops : WalkStops) (v w : Por
 
   -- behind a walk that leads on
   module _ (u z : PortValue) (base : ℕ) (b : LdtBase) (entry : ℕ) (found : FoundPage v u page base b 0) (walks : Walks u z false (touch_address page b) false (Ok entry)) where
-    led : IsLedTo u z x (own_domain v) page b entry
-    led = leads u z x (own_domain v) page b entry (clean_u stays leads stops v x clean page u base b 0 found) found.within walks
+    led : IsTouchLed u z x (own_domain v) page b entry
+    led = touch_walked stays u z x (clean_u stays v x clean page u base b 0 found) (own_domain v) page b found.within entry walks
 
     post_u : u.post ≡ v.post
-    post_u = came_post v u (to_u stays leads stops v x clean page u base b 0 found)
+    post_u = came_post v u (to_u stays v x clean page u base b 0 found)
 
     post_z : z.post ≡ u.post
     post_z = came_post u z (does_came u z _ walks.1)
@@ -221,7 +223,7 @@ module _ (stays : AloneStays) (leads : WalkLeads) (stops : WalkStops) (v w : Por
 
     touch_is : touch ≡ rest
     touch_is =
-        touches_is stays leads stops v x clean page u base b 0 found
+        touches_is stays v x clean page u base b 0 found
         ∙ sym (ap (λ (p : Post). touch_unnamed p.machine (own_domain v) page b x) post_u)
         ∙ led.is
         ∙ ap (λ (p : Post). take_touched p.machine (own_domain v) page x (Leads frame led.barrier led.left)) (sym post_z)
@@ -236,14 +238,14 @@ module _ (stays : AloneStays) (leads : WalkLeads) (stops : WalkStops) (v w : Por
 
   unwalked : (u : PortValue) (base : ℕ) (b : LdtBase) (e : Stop) → FoundPage v u page base b 0 → Walks u w false (touch_address page b) false (Err e) → Comes (λ v x. ⊥) w x touch (Err e)
   unwalked u base b e found walks =
-      let post_u = came_post v u (to_u stays leads stops v x clean page u base b 0 found) in
-      let at : touch ≡ touch_unnamed u.post.machine (own_domain v) page b x = touches_is stays leads stops v x clean page u base b 0 found ∙ sym (ap (λ (p : Post). touch_unnamed p.machine (own_domain v) page b x) post_u) in
+      let post_u = came_post v u (to_u stays v x clean page u base b 0 found) in
+      let at : touch ≡ touch_unnamed u.post.machine (own_domain v) page b x = touches_is stays v x clean page u base b 0 found ∙ sym (ap (λ (p : Post). touch_unnamed p.machine (own_domain v) page b x) post_u) in
       subst (λ o. Comes (λ v x. ⊥) w x o (Err e)) (sym at)
-      (stops_comes w x (touch_unnamed u.post.machine (own_domain v) page b x) e (stops u w x (own_domain v) page b e (clean_u stays leads stops v x clean page u base b 0 found) found.within walks))
+      (stops_comes w x (touch_unnamed u.post.machine (own_domain v) page b x) e (touch_unwalked stays u w x (clean_u stays v x clean page u base b 0 found) (own_domain v) page b found.within e walks))
 
   pub touch_so : (base : ℕ) (frame : Option ℕ) (a : Result (Unit {0}) Stop) → IsEnded a → TouchesLdt v page base frame w a → Comes (λ v x. ⊥) w x touch a
-  touch_so base _ _ ended (touching.beyond _ b found past) = from_here (Err (Refused refusals.BadRange)) (moves_came v w (Vcpu v.post.vcpu 7) Load steps.Look None base found.looks) (beyond_so stays leads stops v x clean page w base b found past)
-  touch_so base _ _ ended (touching.held _ b word found some) = from_here (Ok tt) (to_u stays leads stops v x clean page w base b word found) (held_so stays leads stops v x clean page w base b word found some)
+  touch_so base _ _ ended (touching.beyond _ b found past) = from_here (Err (Refused refusals.BadRange)) (moves_came v w (Vcpu v.post.vcpu 7) Load steps.Look None base found.looks) (beyond_so stays v x clean page w base b found past)
+  touch_so base _ _ ended (touching.held _ b word found some) = from_here (Ok tt) (to_u stays v x clean page w base b word found) (held_so stays v x clean page w base b word found some)
   touch_so base _ _ ended (touching.unwalked u _ b e found walks) = unwalked u base b e found walks
   touch_so base _ _ ended (touching.untaken u z _ b entry e found walks taken) =
       let l = led u z base b entry found walks in
@@ -254,7 +256,7 @@ module _ (stays : AloneStays) (leads : WalkLeads) (stops : WalkStops) (v w : Por
       behind_walk u z base b entry found walks (Ok tt) (came_trans z y w (got_came z y (frame_of entry) (own_domain v) _ taken) (names_came y w (22 + page) (Some (frame_of entry)) names))
       (touched_so stays z (with_frames l.left x) l.clean (own_domain v) page (frame_of entry) y w (page_few page b found.based.valid found.within) taken names)
 
-pub touch_comes : AloneStays → NeitherLostNorBusy → NobodyWaitedFor → WalkLeads → WalkStops → (v w : PortValue) (x : Solo) (page : ℕ) (answer : Result (Unit {0}) Stop) → Clean v x → Fair v w → LdtTouched v w page answer →
+pub touch_comes : AloneStays → NeitherLostNorBusy → NobodyWaitedFor → (v w : PortValue) (x : Solo) (page : ℕ) (answer : Result (Unit {0}) Stop) → Clean v x → Fair v w → LdtTouched v w page answer →
     Comes (λ v x. ⊥) w x (touch_ldt v.post.machine (own_domain v) page x) answer
-touch_comes stays neither nobody leads stops v w x page answer clean fair a =
-    touch_so stays leads stops v w x clean page a.rests.empty a.base a.frame answer (ended stays neither nobody v w x (of_touch (own_domain v) page a.base) answer clean fair refl refl a.stops) a.course
+touch_comes stays neither nobody v w x page answer clean fair a =
+    touch_so stays v w x clean page a.rests.empty a.base a.frame answer (ended stays neither nobody v w x (of_touch (own_domain v) page a.base) answer clean fair refl refl a.stops) a.course

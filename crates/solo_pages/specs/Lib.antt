@@ -1,3 +1,3 @@
 pub mod Shown
 pub mod Ends
-pub mod Walking
+pub mod Kept
