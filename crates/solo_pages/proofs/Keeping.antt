@@ -193,23 +193,18 @@ module _ (named : ℕ → Type 0) where
   way_left (Leads f b p) = p
   way_left (Stops r p) = p
 
+  either : (off : Bool) (one other : Way) (g : ℕ) → ((way_left one).kinds g).kept ≡ false → ((way_left other).kinds g).kept ≡ false → ((way_left (if off then one else other)).kinds g).kept ≡ false
+  either true one other g a c = a
+  either false one other g a c = c
+
   path_keeps : (m : Machine) (va : ℕ) (write : Bool) (l table : ℕ) (b : Option ℕ) (p : Plain) → Unkept p (way_left (path m va write l table b p))
   unfolding path
   path_keeps m va write zero table b p g e = e
-  path_keeps m va write (suc l) table b p g e = by (is_unmapped m w)
-    where
-      w : ℕ
-      w = p.cells table (index_of va (suc l))
-
-      c : Option ℕ
-      c = barrier_with b w
-
-      q : Plain
-      q = with_cell table (index_of va (suc l)) (touched write (suc l) c w) p
-
-      by : (off : Bool) → ((way_left (if off then Stops (NotMapped (suc l) w) q else path m va write l (frame_of w) c q)).kinds g).kept ≡ false
-      by true = e
-      by false = path_keeps m va write l (frame_of w) c q g e
+  path_keeps m va write (suc l) table b p g e =
+      let w = p.cells table (index_of va (suc l)) in
+      let c = barrier_with b w in
+      let q = with_cell table (index_of va (suc l)) (touched write (suc l) c w) p in
+      either (is_unmapped m w) (Stops (NotMapped (suc l) w) q) (path m va write l (frame_of w) c q) g e (path_keeps m va write l (frame_of w) c q g e)
 
   base_keeps : (m : Machine) (va : ℕ) (write : Bool) (base : ℕ) (p : Plain) → Unkept p (way_left (from_base m va write base p))
   base_keeps m va write zero p g e = e

@@ -3,6 +3,7 @@
 
 mod descriptors;
 mod frames;
+mod keeps;
 mod settings;
 mod touches;
 mod wholes;
@@ -12,6 +13,7 @@ pub use descriptors::{
     a_descriptor_updated_alone_comes_to_its_plain_meaning,
 };
 pub use frames::memory_is_taken_and_given_back;
+pub use keeps::the_plain_functions_change_only_the_words_that_they_name;
 pub use settings::{
     the_gdt_set_alone_comes_to_its_plain_meaning, the_ldt_set_alone_comes_to_its_plain_meaning,
 };
