@@ -1,31 +1,26 @@
 -- From a clean port an element ends as its plain meaning: what is to be shown of its words.
-use Rattle.std.proofs.Common.{◌≡◌, ◌≢◌, ℕ, ◌<◌, Bool, true, false, length, [], None, Some, Result, Ok, Err, IfErr, refl, sym, ap, ◌∙◌, subst, arith}
-use Rattle.std.proofs.lemmas.Bool.Decides.{nat_tests}
+use Rattle.std.proofs.Common.{◌≡◌, ◌≢◌, ℕ, false, None, Result, Ok, Err, IfErr, sym, ap, ◌∙◌, subst, arith}
 use Rattle.xp_words.specs.Machine.{Machine}
-use Rattle.xp_words.specs.declared.place.Place.TheVariants.{Vcpu}
 use Rattle.xp_words.specs.declared.reply.Refusal.{Refusal}
 use Rattle.xp_words.specs.declared.reply.Stop.{Stop}
 use Rattle.xp_words.specs.declared.reply.Stop.TheVariants.{Refused, Paused}
 use Rattle.xp_board.specs.Hands.{IsEmptyHand}
-use Rattle.xp_board.specs.Told.{Post, PortValue, is_telling, told_word}
+use Rattle.xp_board.specs.Told.{Post, PortValue, told_word}
 use Rattle.step_maker.specs.Answers.{Stops}
 use Rattle.step_maker.specs.Asked.{Request}
 use Rattle.step_maker.specs.Moves.{Came}
 use Rattle.step_maker.specs.Plain.{Words}
-use Rattle.step_maker.proofs.Coming.{came_post, came_self}
-use Rattle.answer_laws.specs.Alone.{IsAlone}
-use Rattle.answer_laws.proofs.Shared.{alone_telling}
+use Rattle.step_maker.proofs.Coming.{came_post}
 use Rattle.table_words.specs.OldWords.{old_place}
-use Rattle.table_words.specs.declared.old_words.OldWord.TheVariants.{First, Second}
+use Rattle.table_words.specs.declared.old_words.OldWord.TheVariants.{First}
 use Rattle.table_law.specs.Alone.{PlainOutcome}
-use Rattle.table_law.specs.Lawful.{IsAtRest}
 use Rattle.table_law.specs.Plain.{Describes, Plain}
-use Rattle.course_laws.specs.Courses.{IsDecided, IsFinal, IsOrderly}
-use Rattle.course_laws.proofs.Awaiting.{AloneStays, NeitherLostNorBusy, NobodyWaitedFor, alone_orderly, decided}
+use Rattle.course_laws.specs.Courses.{IsDecided}
+use Rattle.course_laws.proofs.Awaiting.{AloneStays, NeitherLostNorBusy, NobodyWaitedFor, decided}
 use Rattle.course_laws.proofs.Stopping.{stops_here}
 use Rattle.script_law.specs.Shown.{IsShownWord, base, tables}
 use Rattle.script_law.specs.Values.{Solo, Frames, Outcome, Why, behind, behind_by, did, stopped, with_frames}
-use Rattle.solo_ports.specs.Standing.{Clean, Fair, Owes, ShowsOthers, Stands, nothing}
+use Rattle.solo_ports.specs.Standing.{Clean, Fair, ShowsOthers, nothing}
 use Rattle.solo_ports.specs.Coming.{Comes, IsWhy}
 use Rattle.solo_pages.specs.Shown.{IsShown, IsWhole, SameBeside}
 use Rattle.solo_pages.specs.Ends.{EndsAs, EndsSo, IsEnded}
@@ -96,9 +91,13 @@ comes stays v w x o (Err (Paused y)) c came empty e = absurd e
 -- ---- behind what is done with the frames alone
 pub behind_refused : (n : Machine) (s : ℕ) (m w : Words) (x : Solo) (o : PlainOutcome) (next : Solo → Outcome) (y : Refusal) → IsShown n s m x → SameBeside m w → IsWhole n o.left → EndsAs {A = Unit {0}} n w o (Err (Refused y)) → EndsSo {A = Unit {0}} n s w (behind x o next) (Err (Refused y))
 behind_refused n s m w x o next y is same whole e =
-    let at : behind x o next ≡ stopped (Frames e.0) (with_frames o.left x) = ap (λ r. behind_by x o r next) e.1 in
-    (Frames e.0, ap (λ (u : Outcome). u.refusal) at, ap (λ (u : Outcome). u.lines) at, e.2,
-      subst (λ (u : Outcome). IsShown n s w u.left) (sym at) (shown_stays n s m w x o.left is same e.3 whole))
+    let at : behind x o next ≡ stopped (Frames e.0) (with_frames o.left x) = ap (λ r. behind_by x o r next) e.1 in (
+      Frames e.0,
+      ap (λ (u : Outcome). u.refusal) at,
+      ap (λ (u : Outcome). u.lines) at,
+      e.2,
+      subst (λ (u : Outcome). IsShown n s w u.left) (sym at) (shown_stays n s m w x o.left is same e.3 whole),
+    )
 
 pub behind_fine : (x : Solo) (o : PlainOutcome) (next : Solo → Outcome) → o.refusal ≡ None → behind x o next ≡ next (with_frames o.left x)
 behind_fine x o next none = ap (λ r. behind_by x o r next) none

@@ -1,8 +1,7 @@
 -- A frame that is taken as a descriptor page ends as the plain function.
-use Rattle.std.proofs.Common.{◌≡◌, ℕ, ◌+◌, ◌<◌, ◌≤◌, ◌^◌, ◌==◌, ◌&&◌, nat_lt, is_none, not, if◌then◌else◌, Bool, true, false, [], Option, Some, None, Result, Ok, Err, IsTrue, refl, sym, ap, ◌∙◌, subst, arith}
-use Rattle.std.proofs.lemmas.Bool.Decides.{nat_tests}
+use Rattle.std.proofs.Common.{◌≡◌, ℕ, ◌<◌, ◌^◌, ◌==◌, is_none, if◌then◌else◌, Bool, true, false, [], Option, Some, None, Result, Ok, Err, refl, sym, ap, ◌∙◌, subst, arith}
 use Rattle.xp_words.specs.Entries.{fixed}
-use Rattle.xp_words.specs.KindWords.{kind_fields, kind_write}
+use Rattle.xp_words.specs.KindWords.{kind_write}
 use Rattle.xp_words.specs.Machine.{IsMachine, Machine}
 use Rattle.xp_words.specs.declared.kind.KindWord.{KindWord}
 use Rattle.xp_words.specs.declared.kind.PageType.TheVariants.{Desc}
@@ -28,27 +27,26 @@ use Rattle.frame_types.specs.Plain.{set_kind, taken, type_stop}
 use Rattle.frame_types.specs.declared.taking.Taken.TheVariants as types
 use Rattle.table_law.specs.Alone.{PlainOutcome, fine, take_kind, take_reference}
 use Rattle.table_law.specs.Levels.{closed}
-use Rattle.table_law.specs.Plain.{Describes, Plain, reference_back, sober, with_kind}
+use Rattle.table_law.specs.Plain.{Describes, Plain, sober, with_kind}
 use Rattle.table_twins.proofs.Entering.{described_leaves}
 use Rattle.table_twins.proofs.Kinding.{described_alike, kinded}
 use Rattle.table_twins.proofs.Typing.{live_sober_one}
 use Rattle.table_entries.specs.Acquiring.{GaveRef, GotRef}
-use Rattle.table_entries.proofs.Shared.{gave_came, ref_came}
+use Rattle.table_entries.proofs.Shared.{ref_came}
 use Rattle.course_laws.specs.Courses.{IsFinal, IsOrderly}
-use Rattle.desc_pages.specs.Fixing.{Fixes, Unfixes}
 use Rattle.desc_pages.specs.Pages as pages
 use Rattle.desc_pages.specs.Pages.{DiedDesc, GotDesc, PageValidated, TookDesc, TookDescType}
 use Rattle.script_law.specs.Pages.{filled_page, get_page, take_page, with_fixed}
 use Rattle.script_law.specs.Repeats.{first_of}
 use Rattle.script_law.specs.Values.{Solo, Numbers, Outcome, behind, did, with_frames}
-use Rattle.solo_pages.specs.Shown.{IsShown, IsWhole, IsWholeKind, SameBeside}
+use Rattle.solo_pages.specs.Shown.{IsShown, SameBeside}
 use Rattle.solo_pages.specs.Ends.{EndsAs, EndsSo, IsEnded}
 use Rattle.solo_pages.proofs.Beside.{beside_alike, beside_same, beside_taken, beside_trans}
 use Rattle.solo_pages.proofs.Coming.{behind_fine, behind_refused, did_so, shown_stays, stopped_so}
 use Rattle.solo_pages.proofs.Fixing.{FixedPlain, fixes_plain, none_below, some_below}
 use Rattle.solo_pages.proofs.Referring.{gave_ref, ref_refused, ref_taken}
 use Rattle.solo_pages.proofs.Steps.{moves_beside}
-use Rattle.solo_pages.proofs.Typing.{IsBegunPlain, IsCountedPlain, IsOtherPlain, begun_type, counted_type, other_type}
+use Rattle.solo_pages.proofs.Typing.{begun_type, counted_type, other_type}
 use Rattle.solo_pages.proofs.Waits.{type_unended}
 use Rattle.solo_pages.proofs.Whole.{IsReadyFor, dead_whole, kinded_whole, live_whole, ready_for, referred_whole, taken_whole}
 

@@ -1,23 +1,20 @@
 -- Whole frames that are stored word by word, on words as on the plain value.
-use Rattle.std.proofs.Common.{◌≡◌, ◌≢◌, ℕ, zero, suc, ◌+◌, ◌-◌, ◌<◌, ◌==◌, if◌then◌else◌, Bool, true, false, List, [], ◌∷◌, length, Some, refl, sym, ap, ◌∙◌, subst, arith}
+use Rattle.std.proofs.Common.{◌≡◌, ◌≢◌, ℕ, suc, ◌+◌, ◌-◌, ◌<◌, ◌==◌, if◌then◌else◌, Bool, true, false, List, length, Some, refl, sym, ap, ◌∙◌, subst, arith}
 use Rattle.std.proofs.lemmas.Bool.Decides.{nat_tests}
 use Rattle.xp_words.specs.KindWords.{kind_fields}
 use Rattle.xp_words.specs.Machine.{Machine}
 use Rattle.xp_words.specs.declared.place.Place.{Place}
 use Rattle.xp_words.specs.declared.place.Place.TheVariants.{Cell, Kind, Refs}
 use Rattle.xp_board.specs.Acts.{left_by}
-use Rattle.xp_board.specs.Steps.{is_same}
-use Rattle.xp_board.specs.declared.step.Act.{Act}
-use Rattle.xp_board.specs.declared.step.Act.TheVariants.{Load, Store}
+use Rattle.xp_board.specs.declared.step.Act.TheVariants.{Store}
 use Rattle.xp_board.proofs.PlaceTests.{is_same-other, is_same-refl}
 use Rattle.step_maker.specs.Plain.{Words, change}
-use Rattle.step_maker.specs.Visits.{Visit, visit}
+use Rattle.step_maker.specs.Visits.{Visit}
 use Rattle.step_maker.proofs.Telling.{load_leaves}
 use Rattle.replay_laws.specs.Replays.{Replays, SameWords}
 use Rattle.whole_pages.specs.Whole as whole
 use Rattle.whole_pages.specs.Whole.{ClearedBy, CopiedBy}
 use Rattle.table_law.specs.Plain.{Describes, Plain, Share, at, fewer, raised_share, reference_back, share_of, sober}
-use Rattle.table_twins.proofs.Sharing.{count_some}
 use Rattle.script_law.specs.Pages.{with_page}
 
 -- ---- one store

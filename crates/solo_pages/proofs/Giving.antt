@@ -7,9 +7,8 @@ use Rattle.xp_words.specs.PageTypes.{is_none}
 use Rattle.xp_words.specs.declared.kind.KindWord.{KindWord}
 use Rattle.xp_words.specs.declared.kind.PageType.{PageType}
 use Rattle.xp_words.specs.declared.kind.PageType.TheVariants as kinds
-use Rattle.xp_words.specs.declared.place.Place.TheVariants.{Kind, Refs}
+use Rattle.xp_words.specs.declared.place.Place.TheVariants.{Kind}
 use Rattle.xp_board.specs.KindSteps.{resumed_kind}
-use Rattle.xp_board.specs.Readings.{is_dead, ref_count}
 use Rattle.xp_board.specs.RefSteps.{one_down}
 use Rattle.xp_board.specs.Told.{Post, PortValue, is_telling, told_word}
 use Rattle.xp_board.specs.declared.step.Act.TheVariants.{Add}
@@ -17,14 +16,14 @@ use Rattle.step_maker.specs.Plain.{Leaves, Words}
 use Rattle.step_maker.specs.Visits.{Does, Only, Then, Where, visit}
 use Rattle.step_maker.proofs.Coming.{came_post}
 use Rattle.step_maker.proofs.Parts.{stayed as does_none, parts as does_parts}
-use Rattle.step_maker.proofs.Telling.{came_telling, leaves, moves_telling, told_there}
-use Rattle.step_maker.proofs.Visiting.{does_came, does_then}
+use Rattle.step_maker.proofs.Telling.{came_telling, leaves, told_there}
+use Rattle.step_maker.proofs.Visiting.{does_came}
 use Rattle.frame_words.specs.Freeing.{PutBy}
 use Rattle.frame_words.specs.Plain.{put}
 use Rattle.kind_words.specs.Kinds.{dead_kind}
-use Rattle.frame_types.specs.Found.{Dies, DropsBy, DropsPlain}
+use Rattle.frame_types.specs.Found.{Dies, DropsPlain}
 use Rattle.table_law.specs.Levels.{closed}
-use Rattle.table_law.specs.Plain.{Describes, Plain, reference_back, with_kind}
+use Rattle.table_law.specs.Plain.{Describes, Plain, with_kind}
 use Rattle.table_law.specs.Release.{count_back, drop_kind, emptying, is_counted_on, let_go}
 use Rattle.table_twins.proofs.Entering.{described_leaves}
 use Rattle.table_releases.specs.Plain.{lowered_type}

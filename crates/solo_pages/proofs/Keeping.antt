@@ -1,17 +1,16 @@
 -- The plain functions change, beside frames, only the own words that they name; and no frame comes by the mark that keeps it.
-use Rattle.std.proofs.Common.{◌≡◌, ◌≢◌, ◌⊎◌, ℕ, zero, suc, ◌+◌, ◌-◌, ◌<◌, ◌≤◌, ◌==◌, ◌&&◌, is_none, if◌then◌else◌, Bool, true, false, List, [], ◌∷◌, Option, Some, None, refl, sym, ap, ◌∙◌, subst, inl, inr, arith}
+use Rattle.std.proofs.Common.{◌≡◌, ℕ, zero, suc, ◌+◌, ◌<◌, ◌==◌, ◌&&◌, is_none, if◌then◌else◌, Bool, true, false, List, [], ◌∷◌, Option, Some, None, refl, ◌∙◌, subst, inl, inr, arith}
 use Rattle.std.proofs.lemmas.Bool.Decides.{nat_tests}
 use Rattle.xp_words.specs.ContextWords.{ldt_read, ldt_write}
 use Rattle.xp_words.specs.Entries.{fixed, frame_of}
 use Rattle.xp_words.specs.Machine.{Machine}
 use Rattle.xp_words.specs.declared.context.LdtBase.{LdtBase}
-use Rattle.xp_words.specs.declared.kind.KindWord.{KindWord}
 use Rattle.xp_words.specs.declared.kind.PageType.TheVariants.{Desc}
 use Rattle.xp_words.specs.declared.reply.Refusal.{Refusal}
 use Rattle.xp_words.specs.declared.reply.Refusal.TheVariants.{BadRange, NotMapped}
 use Rattle.xp_board.specs.KindSteps.{raised_kind}
 use Rattle.xp_board.specs.Readings.{is_dead, is_type}
-use Rattle.kind_words.specs.Kinds.{dead_kind, live_kind, work_kind}
+use Rattle.kind_words.specs.Kinds.{live_kind, work_kind}
 use Rattle.context_words.specs.Names.{naming}
 use Rattle.desc_pages.specs.Descriptors.{descriptor_refusal, frame_at, index_at}
 use Rattle.desc_pages.specs.Gdt.{gdt_refusal, page_at}
@@ -26,10 +25,10 @@ use Rattle.table_law.specs.Levels.{closed}
 use Rattle.table_law.specs.Plain.{Plain, reference_back, with_kind}
 use Rattle.table_law.specs.Release.{let_go}
 use Rattle.script_law.specs.Frames.{back_named, rename, write_memory}
-use Rattle.script_law.specs.Pages.{clear_frame, copy_frame, filled_page, fix_descriptor, get_page, get_pages, give_page, put_descriptor, set_descriptor, set_gdt, set_ldt, store_descriptor, take_page, with_fixed, with_page}
+use Rattle.script_law.specs.Pages.{clear_frame, copy_frame, filled_page, fix_descriptor, get_page, get_pages, give_page, put_descriptor, set_descriptor, set_gdt, set_ldt, take_page, with_fixed, with_page}
 use Rattle.script_law.specs.Repeats.{each_below, first_of}
-use Rattle.script_law.specs.Values.{Solo, Numbers, Outcome, Why, allowed, back_behind, behind, behind_by, did, looked, looked_by, next_behind, or_back, put_at, stopped, then_do, with_frames, with_own}
-use Rattle.script_law.specs.Walks.{Leads, Stops, Way, at_entry, from_base, path, take_touched, touch_by, touch_ldt, touch_unnamed, touched}
+use Rattle.script_law.specs.Values.{Solo, Numbers, Outcome, Why, allowed, back_behind, behind, behind_by, did, looked, looked_by, next_behind, or_back, stopped, then_do, with_frames, with_own}
+use Rattle.script_law.specs.Walks.{Leads, Stops, Way, from_base, path, take_touched, touch_by, touch_ldt, touched}
 use Rattle.solo_ports.proofs.Unkept.{by_alone, by_closed, by_kind, by_let_go, by_reference}
 use Rattle.solo_pages.specs.Kept.{IsGdtWord, IsLdtWord, IsPageWord, KeepsBeside}
 use Rattle.solo_pages.proofs.Renaming.{kept_given}

@@ -1,16 +1,14 @@
 -- A frame that is taken as ordinary memory, by its calls on words as by the plain function.
-use Rattle.std.proofs.Common.{◌≡◌, ℕ, ◌<◌, true, false, [], Some, None, Result, Ok, Err, refl, sym, ap, ◌∙◌, subst}
+use Rattle.std.proofs.Common.{◌≡◌, ℕ, ◌<◌, true, Some, None, Result, Ok, Err, sym, ap, ◌∙◌, subst}
 use Rattle.xp_words.specs.Machine.{IsMachine, Machine}
-use Rattle.xp_words.specs.KindWords.{kind_fields}
 use Rattle.xp_words.specs.declared.place.Place.TheVariants.{Kind}
-use Rattle.xp_words.specs.declared.reply.Pause.TheVariants as pauses
 use Rattle.xp_words.specs.declared.reply.Refusal.{Refusal}
 use Rattle.xp_words.specs.declared.reply.Refusal.TheVariants as refusals
 use Rattle.xp_words.specs.declared.reply.Stop.{Stop}
 use Rattle.xp_words.specs.declared.reply.Stop.TheVariants.{Refused, Paused}
 use Rattle.xp_board.specs.Told.{Post, PortValue, is_telling, told_word}
 use Rattle.step_maker.specs.Moves.{Came}
-use Rattle.step_maker.specs.Plain.{Leaves, Words}
+use Rattle.step_maker.specs.Plain.{Leaves}
 use Rattle.step_maker.proofs.Alikes.{same_alike}
 use Rattle.step_maker.proofs.Coming.{came_post}
 use Rattle.step_maker.proofs.Telling.{came_telling}
@@ -19,9 +17,8 @@ use Rattle.flush_waits.specs.Waiting.{IsWait}
 use Rattle.frame_types.specs.Plain.{taken, type_stop}
 use Rattle.frame_types.specs.declared.taking.Taken.TheVariants as types
 use Rattle.partial_state.specs.Levels.{level_type}
-use Rattle.table_law.specs.Alone.{PlainOutcome, alone, fine, go_on, refused, take_at, take_reference}
-use Rattle.table_law.specs.Plain.{Describes, Plain, reference_back}
-use Rattle.table_twins.specs.Types.{IsReady}
+use Rattle.table_law.specs.Alone.{PlainOutcome, alone, go_on, refused, take_at, take_reference}
+use Rattle.table_law.specs.Plain.{Describes, Plain}
 use Rattle.table_twins.proofs.Kinding.{described_alike}
 use Rattle.table_twins.proofs.Typing.{refused_plain, taken_plain}
 use Rattle.table_entries.specs.Acquiring.{GaveRef, GotRef, TookType}
@@ -106,7 +103,7 @@ module _ (n : Machine) (machine : IsMachine n) (v : PortValue) (f owner : ℕ) (
     taken_behind w answer ended took =
         let came = ref_came v u f owner _ ref in
         let a = took_memory n machine u f owner q (ap (λ (o : Post). o.machine) (came_post v u came) ∙ same) (came_telling v u came ∙ telling) lent.frames lent.lent.inside
-            (ready_lent n v u owner f 0 p d whole orderly lent) w answer ended took in
+        (ready_lent n v u owner f 0 p d whole orderly lent) w answer ended took in
         record { ends = subst (λ o. EndsAs n (told_word w) o answer) behind a.ends; beside = beside_trans (told_word v) (told_word u) (told_word w) lent.beside a.beside }
 
   pub got_memory : (w : PortValue) (answer : Result ℕ Stop) → IsEnded answer → GotPage v f owner w answer → EndsBeside n v w (alone n owner 0 f p) answer

@@ -1,5 +1,5 @@
 -- An own word is stored, and what it named is given back: as the plain function renames it.
-use Rattle.std.proofs.Common.{◌≡◌, ◌≢◌, ℕ, zero, suc, ◌+◌, ◌<◌, ◌≤◌, ◌==◌, if◌then◌else◌, Bool, true, false, List, Option, Some, None, refl, sym, ap, ◌∙◌, subst, arith}
+use Rattle.std.proofs.Common.{◌≡◌, ◌≢◌, ℕ, zero, suc, ◌+◌, ◌<◌, ◌≤◌, ◌==◌, if◌then◌else◌, Bool, true, false, List, Option, None, refl, sym, ap, ◌∙◌, subst, arith}
 use Rattle.std.proofs.lemmas.Bool.Decides.{nat_tests}
 use Rattle.xp_words.specs.KindWords.{kind_fields}
 use Rattle.xp_words.specs.Machine.{Machine}
@@ -10,7 +10,7 @@ use Rattle.xp_board.specs.Told.{Post, PortValue, is_telling, told_word}
 use Rattle.xp_board.specs.declared.step.Act.TheVariants.{Store}
 use Rattle.xp_board.specs.declared.step.StepKind.TheVariants as steps
 use Rattle.step_maker.specs.Moves.{Came, Moves}
-use Rattle.step_maker.specs.Plain.{Leaves, Words, change}
+use Rattle.step_maker.specs.Plain.{Words, change}
 use Rattle.step_maker.proofs.Coming.{came_post, came_self, came_trans, moves_came}
 use Rattle.step_maker.proofs.Telling.{came_telling, leaves, told_there}
 use Rattle.step_maker.proofs.Visiting.{does_came}
@@ -20,13 +20,12 @@ use Rattle.desc_pages.specs.Gdt.{NamedFrom, page_at}
 use Rattle.desc_pages.specs.Ldt as ldt
 use Rattle.desc_pages.specs.Ldt.{UnnamedFrom}
 use Rattle.desc_pages.specs.Names.{GaveOld, NamesPage}
-use Rattle.table_law.specs.Plain.{Describes, Plain, share_of, sober}
+use Rattle.table_law.specs.Plain.{share_of, sober}
 use Rattle.script_law.specs.Frames.{back_named, rename}
 use Rattle.script_law.specs.Pages.{give_page}
 use Rattle.script_law.specs.Repeats.{each_below}
 use Rattle.script_law.specs.Shown.{IsShownWord, base, tables}
-use Rattle.script_law.specs.Values.{Solo, put_at, with_frames, with_own}
-use Rattle.solo_ports.specs.Standing.{ShowsOthers}
+use Rattle.script_law.specs.Values.{Solo, with_frames, with_own}
 use Rattle.solo_pages.specs.Shown.{IsShown}
 use Rattle.solo_pages.proofs.Coming.{shown_stays}
 use Rattle.solo_pages.proofs.Filling.{stored_here, stored_off}

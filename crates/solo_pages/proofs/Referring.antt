@@ -1,28 +1,26 @@
 -- A reference that is taken or given back, on words as on the plain value that describes them.
-use Rattle.std.proofs.Common.{◌≡◌, ℕ, ◌<◌, ◌==◌, not, nat_lt, nat_le, if◌then◌else◌, Bool, true, false, Option, Some, None, Result, Ok, Err, refl, sym, ap, ◌∙◌, subst}
+use Rattle.std.proofs.Common.{◌≡◌, ℕ, ◌<◌, ◌==◌, not, nat_lt, nat_le, if◌then◌else◌, Bool, true, false, Option, Some, None, Ok, Err, refl, sym, ap, subst}
 use Rattle.std.proofs.Math.Path.{fun_ext}
 use Rattle.xp_words.specs.Machine.{IsMachine, Machine}
-use Rattle.xp_words.specs.declared.place.Place.TheVariants.{Kind, Refs}
+use Rattle.xp_words.specs.declared.place.Place.TheVariants.{Kind}
 use Rattle.xp_words.specs.declared.reply.Refusal.{Refusal}
-use Rattle.xp_words.specs.declared.reply.Stop.{Stop}
-use Rattle.xp_words.specs.declared.reply.Stop.TheVariants.{Refused, Paused}
+use Rattle.xp_words.specs.declared.reply.Stop.TheVariants.{Refused}
 use Rattle.xp_board.specs.Told.{PortValue, is_telling, told_word}
 use Rattle.step_maker.specs.Plain.{Leaves, Words}
 use Rattle.step_maker.proofs.Alikes.{same_alike}
-use Rattle.frame_words.specs.Plain.{got, put, refer}
-use Rattle.table_law.specs.Alone.{Cause, CountFull, NoFrame, PlainOutcome, WrongOwner, fine, refused, take_reference, take_reference_of}
+use Rattle.frame_words.specs.Plain.{got, put}
+use Rattle.table_law.specs.Alone.{Cause, CountFull, NoFrame, WrongOwner, fine, refused, take_reference, take_reference_of}
 use Rattle.table_law.specs.Plain.{Describes, Plain, Share, raised_share, reference_back, with_share}
-use Rattle.table_twins.specs.Answers.{IsCause, IsSameAnswer}
+use Rattle.table_twins.specs.Answers.{IsSameAnswer}
 use Rattle.table_twins.proofs.Kinding.{described_alike}
 use Rattle.table_twins.proofs.Referring.{same_answer, same_taken}
-use Rattle.table_twins.proofs.Entering.{described_leaves}
 use Rattle.table_entries.specs.Acquiring.{GaveRef, GotRef}
 use Rattle.course_laws.proofs.Frames.{count_at}
 use Rattle.course_laws.proofs.Lending.{Lent, fine_there, lent_there, was_room}
 use Rattle.exchange_laws.proofs.Given.{given_back}
 use Rattle.solo_pages.specs.Shown.{SameBeside}
 use Rattle.solo_pages.specs.Ends.{EndsAs}
-use Rattle.solo_pages.proofs.Beside.{beside_got, beside_leaves, beside_put, beside_self}
+use Rattle.solo_pages.proofs.Beside.{beside_got, beside_leaves, beside_put}
 
 -- ---- a reference that is refused changes nothing
 module _ (n : Machine) (owner g : ℕ) (p : Plain) where

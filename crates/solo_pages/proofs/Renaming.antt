@@ -1,17 +1,17 @@
 -- Own words that name descriptor pages get other values, and what they named is given back: each as the plain function, and in any order.
-use Rattle.std.proofs.Common.{◌≡◌, ◌≢◌, ℕ, zero, suc, ◌+◌, ◌-◌, ◌<◌, ◌≤◌, ◌==◌, if◌then◌else◌, Bool, true, false, Option, Some, None, refl, sym, ap, ◌∙◌, subst, arith}
+use Rattle.std.proofs.Common.{◌≡◌, ◌≢◌, ℕ, zero, suc, ◌+◌, ◌-◌, ◌≤◌, ◌==◌, if◌then◌else◌, Bool, true, false, Option, refl, sym, ap, ◌∙◌, subst, arith}
 use Rattle.std.proofs.Math.Path.{fun_ext}
 use Rattle.std.proofs.lemmas.Bool.Decides.{nat_tests}
 use Rattle.xp_words.specs.declared.kind.KindWord.{KindWord}
 use Rattle.xp_words.specs.declared.kind.PageType.TheVariants.{Desc}
 use Rattle.kind_words.specs.Kinds.{dead_kind}
-use Rattle.table_law.specs.Plain.{Describes, Plain, Share, at, fewer, with_kind}
+use Rattle.table_law.specs.Plain.{Plain, Share, at, fewer}
 use Rattle.table_law.specs.Release.{emptying, is_counted_on}
 use Rattle.script_law.specs.Frames.{back_named, rename}
 use Rattle.script_law.specs.Pages.{give_page}
 use Rattle.script_law.specs.Repeats.{each_below}
-use Rattle.script_law.specs.Values.{Solo, put_at, with_frames, with_own}
-use Rattle.solo_pages.proofs.Giving.{gave_back, given, given_last, given_more, given_whole}
+use Rattle.script_law.specs.Values.{Solo, put_at}
+use Rattle.solo_pages.proofs.Giving.{given, given_last, given_more}
 
 -- ---- one place of a function is changed by what is there
 abbrev pub acted : {A : Type 0} → (A → A) → ℕ → (ℕ → A) → ℕ → A

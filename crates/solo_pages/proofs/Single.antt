@@ -1,5 +1,5 @@
 -- One descriptor that is written for the guest ends as its plain meaning.
-use Rattle.std.proofs.Common.{◌≡◌, ◌≢◌, ℕ, ◌<◌, ◌==◌, ◌&&◌, if◌then◌else◌, Bool, true, false, Option, Some, None, Result, Ok, Err, IfErr, IsTrue, not, refl, sym, ap, ◌∙◌, subst}
+use Rattle.std.proofs.Common.{◌≡◌, ◌≢◌, ℕ, ◌<◌, ◌==◌, ◌&&◌, if◌then◌else◌, Bool, true, false, Some, None, Result, Ok, Err, IsTrue, not, refl, sym, ap, ◌∙◌, subst}
 use Rattle.std.proofs.lemmas.Bool.Decides.{nat_tests}
 use Rattle.std.proofs.Common.{arith}
 use Rattle.xp_words.specs.Entries.{fixed}
@@ -10,7 +10,6 @@ use Rattle.xp_words.specs.declared.kind.KindWord.{KindWord}
 use Rattle.xp_words.specs.declared.kind.PageType.{PageType}
 use Rattle.xp_words.specs.declared.kind.PageType.TheVariants.{Desc, Writable}
 use Rattle.xp_words.specs.declared.place.Place.TheVariants.{Cell, Kind, Refs}
-use Rattle.xp_words.specs.declared.reply.Refusal.{Refusal}
 use Rattle.xp_words.specs.declared.reply.Refusal.TheVariants as refusals
 use Rattle.xp_words.specs.declared.reply.Stop.{Stop}
 use Rattle.xp_words.specs.declared.reply.Stop.TheVariants.{Refused, Paused}
@@ -23,7 +22,6 @@ use Rattle.step_maker.specs.Plain.{Words, change}
 use Rattle.step_maker.proofs.Coming.{came_post, came_trans, moves_came}
 use Rattle.step_maker.proofs.Telling.{came_telling, leaves, load_tells, told_there}
 use Rattle.step_maker.proofs.Visiting.{does_came}
-use Rattle.answer_laws.specs.Alone.{IsAlone}
 use Rattle.answer_laws.proofs.Shared.{alone_telling}
 use Rattle.course_laws.specs.Courses.{IsFinal, IsOrderly}
 use Rattle.course_laws.proofs.Awaiting.{AloneStays, NeitherLostNorBusy, NobodyWaitedFor, alone_orderly}
@@ -35,10 +33,10 @@ use Rattle.desc_pages.specs.Pages.{TookDesc}
 use Rattle.exchange_laws.proofs.Going.{took_page_came}
 use Rattle.kind_words.specs.Kinds.{live_kind}
 use Rattle.table_entries.specs.Acquiring.{GaveRef, GaveType, GotRef}
-use Rattle.table_entries.proofs.Shared.{gave_came, ref_came}
+use Rattle.table_entries.proofs.Shared.{ref_came}
 use Rattle.table_law.specs.Alone.{PlainOutcome, alone, take_at, take_reference}
 use Rattle.table_law.specs.Exchange.{with_cell}
-use Rattle.table_law.specs.Plain.{Describes, Plain, Share, raised_share, reference_back, share_of, sober, with_share}
+use Rattle.table_law.specs.Plain.{Describes, Plain, raised_share, share_of, sober, with_share}
 use Rattle.table_law.specs.Release.{let_go}
 use Rattle.table_law.proofs.Describing.{sober_kind, sober_live}
 use Rattle.table_twins.proofs.Entering.{described_leaves}
@@ -46,10 +44,10 @@ use Rattle.table_twins.proofs.Sharing.{count_some}
 use Rattle.writable_pages.specs.Pages.{TookPage}
 use Rattle.script_law.specs.Frames.{write_memory}
 use Rattle.script_law.specs.Pages.{fix_descriptor, get_page, give_page, put_descriptor, set_descriptor, store_descriptor, take_page}
-use Rattle.script_law.specs.Values.{Solo, Frames, Numbers, Outcome, behind, did, looked, looked_by, next_behind, stopped, then_do, with_frames}
+use Rattle.script_law.specs.Values.{Solo, Frames, Numbers, Outcome, did, looked, looked_by, next_behind, then_do, with_frames}
 use Rattle.solo_ports.specs.Coming.{Comes}
 use Rattle.solo_ports.specs.Standing.{Clean, Fair}
-use Rattle.solo_pages.specs.Shown.{IsShown, IsWhole, SameBeside}
+use Rattle.solo_pages.specs.Shown.{IsShown, SameBeside}
 use Rattle.solo_pages.specs.Ends.{EndsAs, EndsSo, IsEnded}
 use Rattle.solo_pages.proofs.Beside.{beside_same, beside_trans}
 use Rattle.solo_pages.proofs.Coming.{behind_fine, behind_refused, comes, did_so, ended, shown_clean, shown_stays, stopped_so}
@@ -57,7 +55,7 @@ use Rattle.solo_pages.proofs.Describing.{took_so}
 use Rattle.solo_pages.proofs.Filling.{lent, returned, stored_here, stored_off}
 use Rattle.solo_pages.proofs.Giving.{gave_back, given, given_whole, let_go_is}
 use Rattle.solo_pages.proofs.Memory.{EndsBeside, alone_behind, took_memory}
-use Rattle.solo_pages.proofs.Referring.{RefTaken, gave_ref, ref_refused, ref_taken, refused_left}
+use Rattle.solo_pages.proofs.Referring.{RefTaken, gave_ref, ref_refused, ref_taken}
 use Rattle.solo_pages.proofs.Steps.{moves_beside}
 use Rattle.solo_pages.proofs.Tables.{allowed_fine, barred_so}
 use Rattle.solo_pages.proofs.Whole.{IsReadyFor, alone_whole, ready_for, referred_whole}

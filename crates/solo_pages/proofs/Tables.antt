@@ -1,5 +1,5 @@
 -- The GDT and the LDT are set as their plain meanings set them.
-use Rattle.std.proofs.Common.{◌≡◌, ◌≢◌, ℕ, zero, suc, ◌+◌, ◌<◌, ◌≤◌, drop, get_or, length, Bool, true, false, List, [], ◌∷◌, Option, Some, None, Result, Ok, Err, IfErr, refl, sym, ap, ◌∙◌, subst, arith}
+use Rattle.std.proofs.Common.{◌≡◌, ℕ, zero, suc, ◌+◌, ◌<◌, ◌≤◌, drop, get_or, length, true, List, [], Option, Some, None, Result, Ok, Err, refl, sym, ap, ◌∙◌, subst, arith}
 use lib.Seq.{drop-cons, drop-length}
 use Rattle.xp_words.specs.ContextWords.{ldt_write}
 use Rattle.xp_words.specs.Machine.{IsMachine, Machine}
@@ -11,9 +11,8 @@ use Rattle.xp_words.specs.declared.reply.Stop.TheVariants.{Refused, Paused}
 use Rattle.xp_board.specs.Told.{Post, PortValue, is_telling, told_word}
 use Rattle.xp_board.specs.declared.step.Act.TheVariants.{Store}
 use Rattle.xp_board.specs.declared.step.StepKind.TheVariants as steps
-use Rattle.step_maker.specs.Answers.{Stops}
 use Rattle.step_maker.specs.Holds.{Rests}
-use Rattle.step_maker.specs.Moves.{Came, Moves}
+use Rattle.step_maker.specs.Moves.{Came}
 use Rattle.step_maker.proofs.Coming.{came_post, came_self, came_trans, moves_came}
 use Rattle.step_maker.proofs.Telling.{came_telling, leaves}
 use Rattle.step_maker.proofs.Visiting.{does_came}

@@ -1,12 +1,11 @@
 -- A page of the LDT that is touched ends as its plain meaning.
-use Rattle.std.proofs.Common.{◌≡◌, ◌≢◌, ℕ, zero, suc, ◌+◌, ◌*◌, ◌<◌, ◌≤◌, ◌==◌, nat_le, if◌then◌else◌, Bool, true, false, [], Option, Some, None, Result, Ok, Err, IfErr, refl, sym, ap, ◌∙◌, subst, arith}
+use Rattle.std.proofs.Common.{◌≡◌, ◌≢◌, ℕ, zero, suc, ◌+◌, ◌<◌, ◌==◌, if◌then◌else◌, Bool, true, false, Option, Some, None, Result, Ok, Err, refl, sym, ap, ◌∙◌, subst, arith}
 use Rattle.std.proofs.lemmas.Bool.Decides.{nat_tests}
 use Rattle.xp_words.specs.ContextWords.{IsLdtBase, ldt_read}
 use Rattle.xp_words.specs.Entries.{frame_of}
-use Rattle.xp_words.specs.Machine.{IsMachine, Machine}
+use Rattle.xp_words.specs.Machine.{Machine}
 use Rattle.xp_words.specs.declared.context.LdtBase.{LdtBase}
 use Rattle.xp_words.specs.declared.place.Place.TheVariants.{Vcpu}
-use Rattle.xp_words.specs.declared.reply.Refusal.{Refusal}
 use Rattle.xp_words.specs.declared.reply.Refusal.TheVariants as refusals
 use Rattle.xp_words.specs.declared.reply.Stop.{Stop}
 use Rattle.xp_words.specs.declared.reply.Stop.TheVariants.{Refused, Paused}
@@ -19,7 +18,6 @@ use Rattle.xp_board.specs.declared.step.Act.TheVariants.{Load}
 use Rattle.xp_board.specs.declared.step.StepKind.TheVariants as steps
 use Rattle.xp_board.specs.declared.step.Step.{Step}
 use Rattle.step_maker.specs.Moves.{Came, Moves, step_at}
-use Rattle.step_maker.specs.Plain.{Words}
 use Rattle.step_maker.proofs.Coming.{came_post, came_trans, moves_came}
 use Rattle.step_maker.proofs.Visiting.{does_came}
 use Rattle.step_maker.proofs.Telling.{came_telling, load_tells, told_there}
@@ -32,14 +30,13 @@ use Rattle.tlb_walks.specs.Addresses.{walk_refusal}
 use Rattle.tlb_walks.specs.Translating.{Walks}
 use Rattle.ldt_pages.specs.Touching as touching
 use Rattle.ldt_pages.specs.Touching.{FoundBase, FoundPage, LdtTouched, TouchesLdt, is_beyond, of_touch, refusal_at, touch_address}
-use Rattle.table_law.specs.Plain.{Plain}
 use Rattle.table_twins.proofs.Entering.{described_leaves}
 use Rattle.script_law.specs.Frames.{rename}
 use Rattle.script_law.specs.Pages.{get_page, give_page}
 use Rattle.script_law.specs.Shown.{tables}
 use Rattle.script_law.specs.Values.{Solo, Numbers, Outcome, allowed, did, next_behind, stopped, then_do, with_frames}
 use Rattle.script_law.specs.Walks.{Leads, from_base, take_touched, touch_by, touch_ldt, touch_unnamed}
-use Rattle.solo_ports.specs.Coming.{Comes, IsRefusedSo}
+use Rattle.solo_ports.specs.Coming.{Comes}
 use Rattle.solo_ports.specs.Standing.{Clean, Fair, nothing}
 use Rattle.solo_pages.specs.Shown.{IsShown}
 use Rattle.solo_pages.specs.Ends.{EndsSo, IsEnded}

@@ -21,11 +21,11 @@ use Rattle.frame_types.specs.Plain.{IsTakenBy, is_read_first, set_kind, stop_by,
 use Rattle.frame_types.specs.Standing.{is_same_type, standing_of}
 use Rattle.frame_types.specs.declared.standing.Standing.{Standing}
 use Rattle.frame_types.specs.declared.standing.Standing.TheVariants as stands
-use Rattle.frame_types.specs.declared.taking.Taken.TheVariants.{Counted, InWork, Waiting}
+use Rattle.frame_types.specs.declared.taking.Taken.TheVariants.{Counted, InWork}
 use Rattle.frame_types.proofs.Entering.{work_spelled as work_is}
-use Rattle.table_law.specs.Alone.{Cause, OtherType, fine, is_counted, refused, take_kind}
+use Rattle.table_law.specs.Alone.{OtherType, fine, is_counted, refused, take_kind}
 use Rattle.table_law.specs.Plain.{Describes, Plain, reference_back, sober, with_kind}
-use Rattle.table_law.proofs.Describing.{sober_dead, sober_kind}
+use Rattle.table_law.proofs.Describing.{sober_kind}
 use Rattle.table_twins.specs.Answers.{IsCause}
 use Rattle.table_twins.specs.Types.{IsReady, IsReadyBy}
 use Rattle.table_twins.proofs.Kinding.{described_alike, kinded}

@@ -1,5 +1,5 @@
 -- A type that waits for a flush stops for the clock, or is paused: so its call does not end.
-use Rattle.std.proofs.Common.{◌≡◌, ℕ, Bool, true, false, List, Option, Result, Ok, Err, refl, sym, ap, ◌∙◌, subst}
+use Rattle.std.proofs.Common.{◌≡◌, ℕ, Bool, true, false, List, Option, Result, Ok, Err, refl, ap, subst}
 use Rattle.xp_words.specs.KindWords.{kind_fields}
 use Rattle.xp_words.specs.declared.kind.KindWord.{KindWord}
 use Rattle.xp_words.specs.declared.kind.PageType.{PageType}
@@ -10,13 +10,12 @@ use Rattle.xp_words.specs.declared.reply.Stop.TheVariants.{Refused, Paused}
 use Rattle.xp_board.specs.Readings.{last_clock}
 use Rattle.xp_board.specs.Told.{Post, PortValue}
 use Rattle.step_maker.specs.Reasons.{OfOwner, Whose}
-use Rattle.step_maker.specs.Visits.{Does, Only, Then, Visit, Where}
+use Rattle.step_maker.specs.Visits.{Does, Visit}
 use Rattle.flush_words.specs.Flushing as flushes
 use Rattle.flush_words.specs.Flushing.{FlushedBy}
 use Rattle.flush_waits.specs.Listing as listing
 use Rattle.flush_waits.specs.Listing.{LooksAt, Slow, WaitedFor, WaitsInOrder}
-use Rattle.frame_words.specs.Freeing.{PutBy}
-use Rattle.frame_types.specs.Found.{EndsBy, GoesBy, TakesBy, TakesFound, is_kept_by, next_kind, swaps_kind}
+use Rattle.frame_types.specs.Found.{GoesBy, TakesBy, TakesFound}
 use Rattle.frame_types.specs.Plain.{IsTakenBy, is_own, waits_by}
 use Rattle.frame_types.specs.Standing.{standing_of}
 use Rattle.frame_types.specs.declared.standing.Standing.{Standing}

@@ -1,6 +1,6 @@
 -- Plain values of which nothing is unfinished, and what words that they describe say of a type that is asked.
-use Rattle.std.proofs.Common.{◌≡◌, ◌⊎◌, ℕ, ◌+◌, ◌<◌, ◌==◌, ◌&&◌, not, nat_le, nat_lt, if◌then◌else◌, Bool, true, false, Option, Some, None, IsTrue, refl, sym, ap, ◌∙◌, subst, inl, inr, arith}
-use Rattle.xp_words.specs.KindWords.{is_kind, kind_fields}
+use Rattle.std.proofs.Common.{◌≡◌, ◌⊎◌, ℕ, ◌<◌, ◌==◌, ◌&&◌, not, nat_le, nat_lt, if◌then◌else◌, Bool, true, false, Option, Some, None, refl, sym, ap, ◌∙◌, subst, inl, inr, arith}
+use Rattle.xp_words.specs.KindWords.{kind_fields}
 use Rattle.xp_words.specs.Machine.{Machine}
 use Rattle.xp_words.specs.RefWords.{ref_read}
 use Rattle.xp_words.specs.declared.kind.KindWord.{KindWord}
@@ -16,12 +16,10 @@ use Rattle.step_maker.specs.Plain.{Words}
 use Rattle.kind_words.specs.Kinds.{dead_kind, live_kind, work_kind}
 use Rattle.frame_types.specs.Plain.{stop_by, type_stop}
 use Rattle.frame_types.specs.Standing.{standing_of}
-use Rattle.frame_types.specs.declared.standing.Standing.TheVariants as stands
 use Rattle.partial_state.specs.Levels.{level_type}
-use Rattle.table_law.specs.Alone.{Cause, CountFull, NoFrame, OtherType, PlainOutcome, WrongOwner, alone, fine, go_on, is_counted, refused, take_at, take_kind, take_reference, take_reference_of}
+use Rattle.table_law.specs.Alone.{Cause, CountFull, NoFrame, OtherType, WrongOwner, alone, fine, go_on, is_counted, refused, take_at, take_kind, take_reference, take_reference_of}
 use Rattle.table_law.specs.Lawful.{IsAtRest, share_count}
-use Rattle.table_law.specs.Levels.{closed}
-use Rattle.table_law.specs.Plain.{Describes, Plain, Share, raised_share, reference_back, share_in, share_of, sober, with_kind, with_share}
+use Rattle.table_law.specs.Plain.{Describes, Plain, Share, raised_share, reference_back, share_in, share_of, with_kind, with_share}
 use Rattle.table_law.proofs.Describing.{sober_dead, sober_live}
 use Rattle.table_law.proofs.OnWords.{rested_plain}
 use Rattle.table_twins.specs.Types.{IsReady, IsReadyBy}

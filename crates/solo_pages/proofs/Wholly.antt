@@ -1,5 +1,5 @@
 -- A page that is cleared or copied ends as its plain meaning.
-use Rattle.std.proofs.Common.{◌≡◌, ℕ, ◌<◌, true, false, not, List, length, Some, None, Result, Ok, Err, IfErr, IsTrue, refl, sym, ap, ◌∙◌, subst}
+use Rattle.std.proofs.Common.{◌≡◌, ℕ, ◌<◌, true, List, length, None, Result, Ok, Err, IfErr, refl, sym, ap, ◌∙◌, subst}
 use Rattle.xp_words.specs.Machine.{IsMachine, Machine}
 use Rattle.xp_words.specs.declared.kind.PageType.TheVariants.{Writable}
 use Rattle.xp_words.specs.declared.place.Place.TheVariants.{Cell}
@@ -10,8 +10,7 @@ use Rattle.xp_board.specs.Told.{Post, PortValue, is_telling, told_word}
 use Rattle.step_maker.specs.Answers.{Stops}
 use Rattle.step_maker.specs.Holds.{Rests}
 use Rattle.step_maker.specs.Moves.{Came}
-use Rattle.step_maker.specs.Plain.{Words}
-use Rattle.step_maker.specs.Visits.{Does, Visit, visit}
+use Rattle.step_maker.specs.Visits.{Does, Visit}
 use Rattle.step_maker.proofs.Coming.{came_post, came_trans}
 use Rattle.step_maker.proofs.Telling.{came_telling}
 use Rattle.step_maker.proofs.Visiting.{does_came}
@@ -35,8 +34,8 @@ use Rattle.script_law.specs.Pages.{clear_frame, copy_frame, with_page}
 use Rattle.script_law.specs.Values.{Solo, Frames, Outcome, behind, did, looked_by, or_back, with_frames}
 use Rattle.solo_ports.specs.Standing.{Clean, Fair}
 use Rattle.solo_ports.specs.Coming.{Comes}
-use Rattle.solo_pages.specs.Shown.{IsShown, IsWhole, SameBeside}
-use Rattle.solo_pages.specs.Ends.{EndsAs, EndsSo, IsEnded}
+use Rattle.solo_pages.specs.Shown.{IsShown, SameBeside}
+use Rattle.solo_pages.specs.Ends.{EndsSo, IsEnded}
 use Rattle.solo_pages.proofs.Beside.{beside_same, beside_trans}
 use Rattle.solo_pages.proofs.Coming.{behind_fine, behind_refused, comes, did_so, ended, shown_clean, shown_stays, stopped_so}
 use Rattle.solo_pages.proofs.Filling.{Filled, cleared_words, copied_words, filled_described, lent, returned}
