@@ -9,6 +9,7 @@ pub mod Owning
 pub mod Pairing
 pub mod Premises
 pub mod Settling
+pub mod Single
 pub mod Steps
 pub mod Tasks
 pub mod Turning
