@@ -1,0 +1,30 @@
+-- Statements of lemmas that are taken as they are.
+use Rattle.std.specs.Prelude.{◌≡◌, ℕ, true, None, List, Some}
+use Rattle.xp_words.specs.Machine.{Machine}
+use Rattle.xp_words.specs.declared.place.Place.TheVariants.{M2p}
+use Rattle.xp_board.specs.Hands.{IsEmptyHand}
+use Rattle.xp_board.specs.Lists.{Member}
+use Rattle.xp_board.specs.Told.{PortValue, is_telling, told_word}
+use Rattle.step_maker.specs.Answers.{Deed, Serves, SetsM2p}
+use Rattle.step_maker.specs.Asked.{Request}
+use Rattle.answer_laws.specs.Alone.{IsAlone}
+use Rattle.table_words.specs.OldWords.{old_place}
+use Rattle.table_words.specs.declared.old_words.OldWord.TheVariants.{First, Second}
+use Rattle.table_law.specs.Lawful.{IsAtRest}
+use Rattle.script_law.specs.Values.{Solo}
+use Rattle.solo_ports.specs.Standing.{Clean}
+
+-- ---- ports
+abbrev pub FirstKnown : Type 0
+FirstKnown = (v : PortValue) (y : ℕ) → IsAlone v → v.holdings.old0 ≡ Some y → told_word v (old_place v.post.vcpu First) ≡ y
+
+abbrev pub SecondKnown : Type 0
+SecondKnown = (v : PortValue) (y : ℕ) → IsAlone v → v.holdings.old1 ≡ Some y → told_word v (old_place v.post.vcpu Second) ≡ y
+
+abbrev pub CleanRests : Type 0
+CleanRests = (v : PortValue) (x : Solo) → Clean v x → IsAtRest v.post.machine (told_word v)
+
+abbrev pub MapsStay : Type 0
+MapsStay =
+    (v w : PortValue) (r : Request) (ds : List Deed) (g : ℕ) → IsEmptyHand v.holdings → is_telling v ≡ true → Serves v w r ds → r.pages ≡ None → ((x : ℕ) → Member (SetsM2p g x) ds → ⊥) →
+    told_word w (M2p g) ≡ told_word v (M2p g)
