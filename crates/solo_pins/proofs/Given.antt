@@ -1,6 +1,5 @@
 -- Statements of lemmas that are taken as they are.
 use Rattle.std.specs.Prelude.{◌≡◌, ℕ, true, None, List, Some}
-use Rattle.xp_words.specs.Machine.{Machine}
 use Rattle.xp_words.specs.declared.place.Place.TheVariants.{M2p}
 use Rattle.xp_board.specs.Hands.{IsEmptyHand}
 use Rattle.xp_board.specs.Lists.{Member}

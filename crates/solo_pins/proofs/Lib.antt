@@ -1,2 +1,4 @@
 pub mod Given
 pub mod Standing
+pub mod Deeds
+pub mod Flushing

@@ -1,29 +1,27 @@
 -- How a port stands behind an element that serves a request.
-use Rattle.std.proofs.Common.{◌≡◌, ◌≢◌, ℕ, ◌<◌, ◌≤◌, ◌||◌, ◌&&◌, not, nat_lt, nat_le, ◌==◌, true, false, List, length, Option, Some, None, IsTrue, refl, sym, ap, ◌∙◌, subst, arith}
+use Rattle.std.proofs.Common.{◌≡◌, ◌≢◌, ℕ, true, List, length, Option, Some, None, IsTrue, sym, ap, ◌∙◌, subst, arith}
 use Rattle.std.proofs.lemmas.Bool.Decides.{nat_tests}
-use Rattle.xp_words.specs.Machine.{IsMachine, Machine}
 use Rattle.xp_words.specs.declared.place.Place.{Place}
-use Rattle.xp_words.specs.declared.place.Place.TheVariants.{Life, M2p, Priv, Vcpu}
+use Rattle.xp_words.specs.declared.place.Place.TheVariants.{Life, Priv, Vcpu}
 use Rattle.xp_board.specs.Lists.{Member}
 use Rattle.xp_board.specs.Told.{Post, PortValue, is_telling, told_word}
 use Rattle.step_maker.specs.Answers.{Deed, Serves, SetsM2p, SetsWord, is_told_word}
 use Rattle.step_maker.specs.Asked.{Request}
-use Rattle.step_maker.specs.Holds.{FlushedHolds, FlushedSame, Rests}
+use Rattle.step_maker.specs.Holds.{FlushedSame, Rests}
 use Rattle.step_maker.specs.Moves.{Came}
 use Rattle.step_maker.proofs.Coming.{came_post}
 use Rattle.step_maker.proofs.Piecing.{serves_came}
-use Rattle.answer_laws.specs.Alone.{IsAlone}
 use Rattle.answer_laws.proofs.Shared.{alone_telling}
 use Rattle.replay_laws.specs.LeftAlone.{IsLeftAlone, life, privilege, word}
 use Rattle.replay_laws.proofs.Keeping.{left_alone}
 use Rattle.course_laws.proofs.Awaiting.{AloneStays}
 use Rattle.table_words.specs.OldWords.{old_place}
-use Rattle.table_words.specs.declared.old_words.OldWord.TheVariants.{First, Second}
-use Rattle.table_law.specs.Plain.{Describes, Plain}
+use Rattle.table_words.specs.declared.old_words.OldWord.TheVariants.{Second}
+use Rattle.table_law.specs.Plain.{Plain}
 use Rattle.script_law.specs.Shown.{IsShownWord, base, tables}
 use Rattle.script_law.specs.Values.{Solo, with_frames}
-use Rattle.solo_ports.specs.Standing.{Clean, IsUnkept, IsSettled, ShowsOthers, Stands}
-use Rattle.solo_pins.proofs.Given.{FirstKnown, MapsStay, SecondKnown}
+use Rattle.solo_ports.specs.Standing.{IsUnkept, ShowsOthers, Stands}
+use Rattle.solo_pins.proofs.Given.{MapsStay}
 
 -- ---- words that are told of
 pub shown_told : (k : ℕ) → IsShownWord k → IsTrue (is_told_word k)

@@ -1,15 +1,13 @@
 -- Elements of `mmuext_op` that are about tables and flushes: what their calls give, and what is kept of one that was paused.
-use Rattle.std.specs.Prelude.{◌≡◌, ℕ, ◌≤◌, Bool, List, Option, Some, None, Result, Err, IfErr}
-use Rattle.xp_words.specs.declared.reply.Refusal.{Refusal}
+use Rattle.std.specs.Prelude.{ℕ, ◌≤◌, Bool, List, Option, Some, None, Result, IfErr}
 use Rattle.xp_words.specs.declared.reply.Stop.{Stop}
-use Rattle.xp_words.specs.declared.reply.Stop.TheVariants.{Refused}
 use Rattle.xp_board.specs.Told.{PortValue}
 use Rattle.step_maker.specs.Holds.{Rests}
 use Rattle.table_bases.specs.Asking.{user_frame}
 use Rattle.mmuext_ops.specs.Course.{Performed}
-use Rattle.mmuext_ops.specs.Elements.{IsElementStop, LeavesElement, ServesElement, StopsElement, ext_request}
+use Rattle.mmuext_ops.specs.Elements.{IsElementStop, LeavesElement, ServesElement, StopsElement}
 use Rattle.mmuext_ops.specs.declared.element.Element.{Element}
-use Rattle.mmuext_ops.specs.declared.element.Element.TheVariants.{Pin, Unpin, NewBase, NewUserBase, FlushLocal, Invalidate, FlushVcpus, SetLdt, ClearPage, CopyPage, Unknown}
+use Rattle.mmuext_ops.specs.declared.element.Element.TheVariants.{Pin, NewBase, NewUserBase, SetLdt, ClearPage, CopyPage}
 use Rattle.script_law.specs.Values.{Solo}
 use Rattle.solo_ports.specs.Standing.{KeepsTable, whose}
 
