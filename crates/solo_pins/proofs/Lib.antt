@@ -2,3 +2,4 @@ pub mod Given
 pub mod Standing
 pub mod Deeds
 pub mod Flushing
+pub mod Aside
