@@ -1,5 +1,6 @@
 -- Statements of lemmas that are taken as they are.
 use Rattle.std.specs.Prelude.{◌≡◌, ℕ, true, None, List, Some}
+use Rattle.xp_words.specs.Machine.{Machine}
 use Rattle.xp_words.specs.declared.place.Place.TheVariants.{M2p}
 use Rattle.xp_board.specs.Hands.{IsEmptyHand}
 use Rattle.xp_board.specs.Lists.{Member}
@@ -9,9 +10,12 @@ use Rattle.step_maker.specs.Asked.{Request}
 use Rattle.answer_laws.specs.Alone.{IsAlone}
 use Rattle.table_words.specs.OldWords.{old_place}
 use Rattle.table_words.specs.declared.old_words.OldWord.TheVariants.{First, Second}
+use Rattle.table_law.specs.Alone.{alone}
 use Rattle.table_law.specs.Lawful.{IsAtRest}
+use Rattle.table_law.specs.Plain.{Plain}
+use Rattle.table_law.specs.Release.{let_go}
 use Rattle.script_law.specs.Values.{Solo}
-use Rattle.solo_ports.specs.Standing.{Clean}
+use Rattle.solo_ports.specs.Standing.{Clean, IsUnkept}
 
 -- ---- ports
 abbrev pub FirstKnown : Type 0
@@ -27,3 +31,10 @@ abbrev pub MapsStay : Type 0
 MapsStay =
     (v w : PortValue) (r : Request) (ds : List Deed) (g : ℕ) → IsEmptyHand v.holdings → is_telling v ≡ true → Serves v w r ds → r.pages ≡ None → ((x : ℕ) → Member (SetsM2p g x) ds → ⊥) →
     told_word w (M2p g) ≡ told_word v (M2p g)
+
+-- ---- plain values
+abbrev pub LetGoUnkept : Type 0
+LetGoUnkept = (n : Machine) (level f : ℕ) (p : Plain) → IsUnkept n p → IsUnkept n (let_go level f p)
+
+abbrev pub AloneUnkept : Type 0
+AloneUnkept = (n : Machine) (owner level f : ℕ) (p : Plain) → IsUnkept n p → IsUnkept n (alone n owner level f p).left

@@ -3,3 +3,4 @@ pub mod Standing
 pub mod Deeds
 pub mod Flushing
 pub mod Aside
+pub mod Looking
