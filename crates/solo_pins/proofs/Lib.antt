@@ -4,3 +4,4 @@ pub mod Deeds
 pub mod Flushing
 pub mod Aside
 pub mod Looking
+pub mod Unpinning

@@ -1,8 +1,10 @@
 -- How a port stands behind an element that serves a request.
-use Rattle.std.proofs.Common.{◌≡◌, ◌≢◌, ℕ, true, List, length, Option, Some, None, IsTrue, sym, ap, ◌∙◌, subst, arith}
+use Rattle.std.proofs.Common.{if◌then◌else◌, Bool, false, ◌==◌, ◌<◌, ◌≡◌, ◌≢◌, ℕ, true, List, length, Option, Some, None, IsTrue, sym, ap, ◌∙◌, subst, arith}
 use Rattle.std.proofs.lemmas.Bool.Decides.{nat_tests}
+use Rattle.xp_words.specs.Machine.{Machine}
+use Rattle.xp_words.specs.declared.kind.KindWord.{KindWord}
 use Rattle.xp_words.specs.declared.place.Place.{Place}
-use Rattle.xp_words.specs.declared.place.Place.TheVariants.{Life, Priv, Vcpu}
+use Rattle.xp_words.specs.declared.place.Place.TheVariants.{Life, M2p, Priv, Vcpu}
 use Rattle.xp_board.specs.Lists.{Member}
 use Rattle.xp_board.specs.Told.{Post, PortValue, is_telling, told_word}
 use Rattle.step_maker.specs.Answers.{Deed, Serves, SetsM2p, SetsWord, is_told_word}
@@ -16,11 +18,12 @@ use Rattle.replay_laws.specs.LeftAlone.{IsLeftAlone, life, privilege, word}
 use Rattle.replay_laws.proofs.Keeping.{left_alone}
 use Rattle.course_laws.proofs.Awaiting.{AloneStays}
 use Rattle.table_words.specs.OldWords.{old_place}
-use Rattle.table_words.specs.declared.old_words.OldWord.TheVariants.{Second}
-use Rattle.table_law.specs.Plain.{Plain}
+use Rattle.table_words.specs.declared.old_words.OldWord.TheVariants.{First, Second}
+use Rattle.table_law.specs.Plain.{Describes, Plain, with_kind}
+use Rattle.table_twins.proofs.Entering.{described_leaves}
 use Rattle.script_law.specs.Shown.{IsShownWord, base, tables}
 use Rattle.script_law.specs.Values.{Solo, with_frames}
-use Rattle.solo_ports.specs.Standing.{IsUnkept, ShowsOthers, Stands}
+use Rattle.solo_ports.specs.Standing.{Clean, IsUnkept, ShowsOthers, Stands}
 use Rattle.solo_pins.proofs.Given.{MapsStay}
 
 -- ---- words that are told of
@@ -87,6 +90,39 @@ module _ (maps_stay : MapsStay) (v w : PortValue) (x : Solo) (r : Request) (ds :
     -- no word is set
     pub stands_stay : SetsNothing ds → Stands w (with_frames p x)
     stands_stay none = stands_with x.own none.maps (λ k shown. s.others.own k shown ∙ sym (word_stays k shown (λ y. none.own v.post.vcpu k y)))
+
+-- ---- no word is changed
+pub clean_same : AloneStays → (v w : PortValue) (x : Solo) → Clean v x → Came v w → ((q : Place) → told_word w q ≡ told_word v q) → Rests w → Clean w x
+clean_same alone_stays v w x clean came same rests =
+    let s = clean.stands in
+    let post = came_post v w came in
+    record {
+      stands = record {
+        machine = rests.may.machine;
+        alone = alone_stays v w s.alone came;
+        only = subst (λ (o : Post). length o.machine.vcpu_domain ≡ 1) (sym post) s.only;
+        empty = rests.empty;
+        second = subst (λ (o : Post). told_word w (old_place o.vcpu Second) ≡ 0) (sym post) (same (old_place v.post.vcpu Second) ∙ s.second);
+        others = subst (λ (o : Post). ShowsOthers o.machine o.vcpu (told_word w) x) (sym post)
+            (record {
+              maps = λ f inside. s.others.maps f inside ∙ sym (same (M2p f));
+              own = λ k shown. s.others.own k shown ∙ sym (same (Vcpu v.post.vcpu k));
+              privileges = λ d inside. s.others.privileges d inside ∙ sym (same (Priv d));
+              lives = λ d inside. s.others.lives d inside ∙ sym (same (Life d));
+            });
+        unkept = subst (λ (o : Post). IsUnkept o.machine x.frames) (sym post) s.unkept;
+      };
+      first = subst (λ (o : Post). told_word w (old_place o.vcpu First) ≡ 0) (sym post) (same (old_place v.post.vcpu First) ∙ clean.first);
+      frames = subst (λ (o : Post). Describes o.machine (told_word w) x.frames) (sym post) (described_leaves v.post.machine w (told_word v) x.frames same clean.frames);
+    }
+
+-- ---- no mark is set
+pub kind_unkept : (n : Machine) (f : ℕ) (k : KindWord) (p : Plain) → IsUnkept n p → k.kept ≡ false → IsUnkept n (with_kind f k p)
+kind_unkept n f k p unkept off g inside = one (g == f)
+  where
+    one : (b : Bool) → (if b then k else p.kinds g).kept ≡ false
+    one true = off
+    one false = unkept g inside
 
 -- ---- the old words, where they are known
 pub first_same : (v w : PortValue) → FlushedSame v w → v.holdings.old0 ≡ Some 0 → w.holdings.old0 ≡ Some 0
