@@ -1,2 +1,4 @@
 pub mod Keeping
+pub mod Mapping
 pub mod Replaying
+pub mod Unclaimed

@@ -5,5 +5,5 @@
 mod frames;
 mod replays;
 
-pub use frames::what_is_not_asked_stays;
+pub use frames::{a_word_of_a_frame_that_no_deed_sets_stays, what_is_not_asked_stays};
 pub use replays::{a_list_has_one_end, one_part_replays_behind_the_other, steps_replay};

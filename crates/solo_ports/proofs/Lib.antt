@@ -1,0 +1,4 @@
+pub mod Along
+pub mod Resting
+pub mod Staying
+pub mod Unkept

@@ -1,11 +1,14 @@
 -- How a port of a vCPU that is alone stands, between the elements of its operations, to a plain value of the machine.
-use Rattle.std.specs.Prelude.{◌≡◌, ◌<◌, ℕ, false, length, Some}
+use Rattle.std.specs.Prelude.{◌≡◌, ◌<◌, ℕ, false, List, length, Some, None}
 use Rattle.xp_words.specs.Machine.{IsMachine, Machine}
 use Rattle.xp_words.specs.declared.kind.KindWord.{KindWord}
 use Rattle.xp_words.specs.declared.place.Place.TheVariants.{Life, M2p, Priv, Vcpu}
 use Rattle.xp_board.specs.Hands.{IsEmptyHand}
+use Rattle.xp_board.specs.Lists.{Member}
 use Rattle.xp_board.specs.Readings.{domain_of}
 use Rattle.xp_board.specs.Told.{PortValue, told_word}
+use Rattle.step_maker.specs.Answers.{Deed, SetsM2p, SetsWord}
+use Rattle.step_maker.specs.Asked.{Request}
 use Rattle.step_maker.specs.Moves.{Came}
 use Rattle.step_maker.specs.Plain.{Words}
 use Rattle.step_maker.specs.Twins.{Alike}
@@ -49,6 +52,7 @@ pub record Stands (v : PortValue) (x : Solo) : Type 0 where
   pub machine : IsMachine v.post.machine
   pub alone : IsAlone v
   pub only : length v.post.machine.vcpu_domain ≡ 1
+  pub real : v.post.vcpu < length v.post.machine.vcpu_domain
   pub empty : IsEmptyHand v.holdings
   pub second : told_word v (old_place v.post.vcpu Second) ≡ 0
   pub others : ShowsOthers v.post.machine v.post.vcpu (told_word v) x
@@ -71,7 +75,7 @@ pub record IsSettled (v : PortValue) : Type 0 where
   pub second : v.holdings.old1 ≡ Some 0
 
 -- ---- steps that change nothing of this
--- From v to w words changed in stamps, the clock and the words of flushes alone, and nothing is in hand.
+-- From v to w words changed in stamps, the clock and the words of flushes alone; and nothing is in hand.
 pub record StaysAlike (v w : PortValue) : Type 0 where
   pub came : Came v w
   pub words : Alike (told_word w) (told_word v)
@@ -88,3 +92,12 @@ pub record KeepsTable (f owner level : ℕ) (v : PortValue) (x : Solo) : Type 0 
   pub orderly : IsOrderly from.post.machine (told_word from)
   pub frames : Describes from.post.machine (told_word from) x.frames
   pub calls : PausedCalls f owner level from v
+
+-- A call of that request, of whose steps a guest sees these deeds, changes nothing beside the frames: it destroys no domain, gives no privilege, takes no page, and sets no machine-to-physical
+-- word, and no word of vCPU s but the old ones and those of flushes.
+pub record IsQuiet (s : ℕ) (r : Request) (ds : List Deed) : Type 0 where
+  pub destroys : r.destroys ≡ None
+  pub grants : r.grants ≡ None
+  pub pages : r.pages ≡ None
+  pub maps : (f x : ℕ) → Member (SetsM2p f x) ds → ⊥
+  pub own : (k x : ℕ) → Member (SetsWord s k x) ds → ⊥

@@ -1,11 +1,13 @@
 -- What an earlier turn left unfinished is settled; and that the vCPU has flushed.
-use Rattle.std.specs.Prelude.{◌≡◌, ℕ, Bool, false, List, ◌++◌, Option, None, Result, Ok, Err, IfErr}
+use Rattle.std.specs.Prelude.{◌≡◌, ℕ, Bool, false, List, ◌++◌, Option, Some, None, Result, Ok, Err, IfErr, IfOk}
 use Rattle.xp_words.specs.declared.reply.Stop.{Stop}
 use Rattle.xp_board.specs.Told.{PortValue}
 use Rattle.step_maker.specs.Holds.{Rests}
 use Rattle.step_maker.specs.Answers.{Serves, Stops, misses}
 use Rattle.level_release.specs.Asking.{IsReleaseEnd, of_settle}
 use Rattle.level_release.specs.Course.{Settled, left_settled}
+use Rattle.table_words.specs.OldWords.{known_old}
+use Rattle.table_words.specs.declared.old_words.OldWord.TheVariants.{First, Second}
 
 -- the vCPU has flushed its translations since it came to its processor
 abbrev pub IsWarm : PortValue → Type 0
@@ -17,6 +19,9 @@ pub record Settles (below : Option ℕ) (v w : PortValue) (answers : List Bool) 
   pub stops : (owner pages : ℕ) → IfErr answer (λ e. Stops v w (of_settle owner pages answer) e)
   pub kinds : IfErr answer IsReleaseEnd
   pub rests : Rests w
+  -- done, both words are known to name no frame
+  pub clear : IfOk answer (λ done. known_old First w.holdings ≡ Some 0)
+  pub clear_too : IfOk answer (λ done. known_old Second w.holdings ≡ Some 0)
   pub course : Settled below v w answers answer
 
 -- and how much is left then

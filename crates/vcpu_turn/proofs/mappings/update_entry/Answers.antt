@@ -10,32 +10,32 @@ use Rattle.vcpu_turn.proofs.mappings.update_entry.Goals as goal
 pub returns-in_err-settle-clause-updates : goal.returns-in_err-settle-clause-updates
 returns-in_err-settle-clause-updates g c =
     let s = c.in_err-settle.ensures in
-    behind_unsettled _ _ c.from_residual.ensures.1 (settle_answers s.serves s.stops s.kinds s.rests s.course)
+    behind_unsettled _ _ c.from_residual.ensures.1 (settle_answers s.serves s.stops s.kinds s.rests s.clear s.clear_too s.course)
 
 pub returns-then-mapping-ge-DOMAINS-clause-updates : goal.returns-then-mapping-ge-DOMAINS-clause-updates
 returns-then-mapping-ge-DOMAINS-clause-updates g c =
     let s = c.in_ok-settle.ensures in
-    behind_performed (settle_answers s.serves s.stops s.kinds s.rests s.course) (past_none refl (mapping.UpdatesWord.far c.if-mapping-ge-DOMAINS.true))
+    behind_performed (settle_answers s.serves s.stops s.kinds s.rests s.clear s.clear_too s.course) (past_none refl (mapping.UpdatesWord.far c.if-mapping-ge-DOMAINS.true))
 
 pub returns-in-Err-clause-updates : goal.returns-in-Err-clause-updates
 returns-in-Err-clause-updates g c =
     let s = c.in_ok-settle.ensures in
     let e = c.in-Err.ensures in
-    behind_performed (settle_answers s.serves s.stops s.kinds s.rests s.course)
+    behind_performed (settle_answers s.serves s.stops s.kinds s.rests s.clear s.clear_too s.course)
     (past_none refl (mapping.UpdatesWord.unowned _ _ c.if-mapping-ge-DOMAINS.false (record { serves = e.serves; stops = e.stops; found = e.found })))
 
 pub returns-then-is_bad-clause-updates : goal.returns-then-is_bad-clause-updates
 returns-then-is_bad-clause-updates g c =
     let s = c.in_ok-settle.ensures in
     let o = c.in-Ok.ensures in
-    behind_performed (settle_answers s.serves s.stops s.kinds s.rests s.course)
+    behind_performed (settle_answers s.serves s.stops s.kinds s.rests s.clear s.clear_too s.course)
     (past_none refl (mapping.UpdatesWord.flagged _ c.in-Ok.owners c.if-mapping-ge-DOMAINS.false (record { serves = o.serves; stops = o.stops; found = o.found }) (sym c.is_bad.ensures ∙ c.if-is_bad.true)))
 
 pub returns-clause-updates : goal.returns-clause-updates
 returns-clause-updates g c =
     let s = c.in_ok-settle.ensures in
     let o = c.in-Ok.ensures in
-    behind_performed (settle_answers s.serves s.stops s.kinds s.rests s.course)
+    behind_performed (settle_answers s.serves s.stops s.kinds s.rests s.clear s.clear_too s.course)
     (past_as (λ due. due)
     (λ answers updates. mapping.UpdatesWord.owned _ _ c.in-Ok.owners answers c.update_at.result c.if-mapping-ge-DOMAINS.false (record { serves = o.serves; stops = o.stops; found = o.found }) (sym c.is_bad.ensures ∙ c.if-is_bad.false) updates)
     c.update_at.ensures.updates)

@@ -21,7 +21,7 @@ pub returns-in-Err-Paused-clause-turn : goal.returns-in-Err-Paused-clause-turn
 returns-in-Err-Paused-clause-turn g c =
     let s = c.in-Err-Paused.ensures in
     turn_unsettled c.cpu.view_is c.if-cpu.false c.if-life-ne0.false (c.begin-life.ensures.runs c.if-life-ne0.false) c.begin-life.ensures.begins c.in-Err-Paused.pause _ c.in-Err-Paused.field-0-is
-    (settle_answers s.serves s.stops s.kinds s.rests s.course)
+    (settle_answers s.serves s.stops s.kinds s.rests s.clear s.clear_too s.course)
 
 pub returns-in-Err-Paused-clause-of : goal.returns-in-Err-Paused-clause-of
 returns-in-Err-Paused-clause-of g c =
@@ -50,7 +50,7 @@ pub returns-in-None-clause-turn : goal.returns-in-None-clause-turn
 returns-in-None-clause-turn g c =
     let s = c.in-Ok.ensures in
     turn_retires c.cpu.view_is c.if-cpu.false c.if-life-ne0.false (c.begin-life.ensures.runs c.if-life-ne0.false) c.begin-life.ensures.begins
-    (settle_answers s.serves s.stops s.kinds s.rests s.course)
+    (settle_answers s.serves s.stops s.kinds s.rests s.clear s.clear_too s.course)
     s.none _ _ _ _ c.in-None.ensures.worked c.retire.ensures.stop
 
 pub returns-in-None-clause-of : goal.returns-in-None-clause-of
@@ -67,7 +67,7 @@ returns-in-Some-clause-turn g c =
     let s = c.in-Ok.ensures in
     rw c.finish.ensures.end
     (turn_goes_on c.cpu.view_is c.if-cpu.false c.if-life-ne0.false (c.begin-life.ensures.runs c.if-life-ne0.false) c.begin-life.ensures.begins
-    (settle_answers s.serves s.stops s.kinds s.rests s.course)
+    (settle_answers s.serves s.stops s.kinds s.rests s.clear s.clear_too s.course)
     s.none _ _ _ _ c.in-Some.answer c.in-Some.ensures.worked c.finish.ensures.cpu c.finish.ensures.ends)
 
 pub returns-in-Some-clause-of : goal.returns-in-Some-clause-of

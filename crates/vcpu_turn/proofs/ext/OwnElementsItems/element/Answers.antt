@@ -16,7 +16,7 @@ returns-in_err-settle-clause-fits g c =
     let s = c.in_err-settle.ensures in
     let x = c.args.self.now in
     of_number (FitsExt x.domain (awaited_for x.from x.awaited c.args.index)) x.elements.now c.args.index (record { command = 0; first = 0; second = 0 }) c.requires.index
-    (behind_unsettled _ _ c.from_residual.ensures.1 (settle_answers s.serves s.stops s.kinds s.rests s.course))
+    (behind_unsettled _ _ c.from_residual.ensures.1 (settle_answers s.serves s.stops s.kinds s.rests s.clear s.clear_too s.course))
 
 pub perform-requires-clause-own : goal.perform-requires-clause-own
 perform-requires-clause-own g c =
@@ -42,6 +42,6 @@ returns-clause-fits g c =
     let x = c.args.self.now in
     rw (sym c.awaited_for-awaited.ensures)
     (of_number (FitsExt x.domain c.awaited_for-awaited.result) x.elements.now c.args.index (record { command = 0; first = 0; second = 0 }) c.requires.index
-    (behind_performed (settle_answers s.serves s.stops s.kinds s.rests s.course)
+    (behind_performed (settle_answers s.serves s.stops s.kinds s.rests s.clear s.clear_too s.course)
     (past_as (λ due. due)
     (λ answers course. record { serves = p.serves; stops = p.stops; kinds = p.kinds; numbers = p.numbers; hand = p.hand; rests = p.rests; awaits = p.awaits; course = course }) p.course)))

@@ -13,7 +13,7 @@ pub returns-in_err-settle-clause-fits : goal.returns-in_err-settle-clause-fits
 returns-in_err-settle-clause-fits g c =
     let s = c.in_err-settle.ensures in
     of_number (FitsPair c.args.self.now.owners) c.args.self.now.pairs.now c.args.index (record { ptr = 0; val = 0 }) c.requires.index
-    (behind_unsettled _ _ c.from_residual.ensures.1 (settle_answers s.serves s.stops s.kinds s.rests s.course))
+    (behind_unsettled _ _ c.from_residual.ensures.1 (settle_answers s.serves s.stops s.kinds s.rests s.clear s.clear_too s.course))
 
 pub update-requires-clause-maps : goal.update-requires-clause-maps
 update-requires-clause-maps g c =
@@ -31,5 +31,5 @@ returns-clause-fits g c =
     let s = c.in_ok-settle.ensures in
     let u = c.update.ensures in
     of_number (FitsPair c.args.self.now.owners) c.args.self.now.pairs.now c.args.index (record { ptr = 0; val = 0 }) c.requires.index
-    (behind_performed (settle_answers s.serves s.stops s.kinds s.rests s.course)
+    (behind_performed (settle_answers s.serves s.stops s.kinds s.rests s.clear s.clear_too s.course)
     (past_as (λ due. due) (λ answers course. record { serves = u.serves; stops = u.stops; kinds = u.kinds; numbers = u.numbers; hand = u.hand; rests = u.rests; course = course }) u.course))
