@@ -26,25 +26,22 @@ use Rattle.script_law.specs.Values.{Solo, Numbers, did}
 use Rattle.solo_ports.specs.Coming.{Comes, IsDoneSo}
 use Rattle.solo_ports.specs.Standing.{Clean, Fair, IsSettled, Owes, nothing, whose}
 use Rattle.solo_pins.specs.Performing.{IsOnTables, IsPerformed, KeepsPin}
-use Rattle.solo_pins.proofs.Given.{FirstKnown, MapsStay, SecondKnown}
-use Rattle.solo_pins.proofs.Standing.{IsMild, SetsNothing, first_same, second_same, stands_stay}
+use Rattle.solo_pins.proofs.Standing.{IsMild, SetsNothing, first_same, first_there, second_same, stands_stay}
 use Rattle.solo_pins.proofs.Deeds.{IsQuiet, sets_nothing}
 
 -- ---- nothing is asked of any frame
-module _ (maps_stay : MapsStay) (first : FirstKnown) (second : SecondKnown) (stays : AloneStays) (v w : PortValue) (x : Solo) (clean : Clean v x) (settled : IsSettled v) (same : FlushedSame v w) (rests : Rests w) where
+module _ (stays : AloneStays) (v w : PortValue) (x : Solo) (clean : Clean v x) (settled : IsSettled v) (same : FlushedSame v w) (rests : Rests w) where
   module _ (r : Request) (ds : List Deed) (serves : Serves v w r ds) (mild : IsMild r) (unasked : (f : ℕ) → IsUnasked r f) (none : SetsNothing ds) where
     there : (q : Place) → IsLeftAlone v.post.machine v.post.vcpu r ds q → told_word w q ≡ told_word v q
     there q away = left_alone v w r ds q (alone_telling v clean.stands.alone) serves away
 
     pub clean_unasked : Clean w x
     clean_unasked =
-        let post = came_post v w (serves_came v w r ds serves) in
-        let alone = stays v w clean.stands.alone (serves_came v w r ds serves) in
+        let came = serves_came v w r ds serves in
         record {
-          stands = stands_stay maps_stay v w x r ds clean.stands serves mild stays rests (second w 0 alone (second_same v w same settled.second)) x.frames
-              (λ g inside. clean.stands.unkept g (subst (λ (o : Post). g < o.machine.frames) post inside)) none;
-          first = first w 0 alone (first_same v w same settled.first);
-          frames = subst (λ (o : Post). Describes o.machine (told_word w) x.frames) (sym post)
+          stands = stands_stay stays v w x x.frames r ds clean.stands serves mild none rests (second_same v w same settled.second) clean.stands.unkept;
+          first = first_there stays v w x clean.stands came rests 0 (first_same v w same settled.first);
+          frames = subst (λ (o : Post). Describes o.machine (told_word w) x.frames) (sym (came_post v w came))
               (record {
                 shares = λ g inside. clean.frames.shares g inside ∙ sym (ap share_of (there (Refs g) (refs g (unasked g))));
                 kinds = λ g inside. clean.frames.kinds g inside ∙ sym (ap (λ y. sober (kind_fields y)) (there (Kind g) (kind g (unasked g))));
@@ -56,7 +53,7 @@ pub done_so : (w : PortValue) (x : Solo) → Owes w x → IsDoneSo w (did x)
 done_so w x owes = record { fine = refl; none = refl; owes = owes }
 
 -- ---- the elements
-module _ (maps_stay : MapsStay) (first : FirstKnown) (second : SecondKnown) (stays : AloneStays) (nobody : NobodyWaitedFor) (v w : PortValue) (x : Solo) (d : ℕ) (awaited : Option ℕ) (answers : List Bool) (clean : Clean v x) (settled : IsSettled v) (fair : Fair v w) where
+module _ (stays : AloneStays) (nobody : NobodyWaitedFor) (v w : PortValue) (x : Solo) (d : ℕ) (awaited : Option ℕ) (answers : List Bool) (clean : Clean v x) (settled : IsSettled v) (fair : Fair v w) where
   spent : (r : Request) (y : ℕ) → Stops v w r (Refused (refusals.Clock y)) → ⊥
   spent r y stops = clock_by v w v w r y fair.clock (came_self v) (came_self w) stops
 
@@ -65,7 +62,7 @@ module _ (maps_stay : MapsStay) (first : FirstKnown) (second : SecondKnown) (sta
       FlushedSame v w → IsPerformed v w d e awaited answers answer → Clean w x
   quiet e answer on none mild unasked same a =
       let s = a.serves in
-      clean_unasked maps_stay first second stays v w x clean settled same a.rests (ext_request v.post.machine v.post.vcpu d e awaited answer) s.0 s.2 mild unasked (sets_nothing v.post.machine v.post.vcpu e answer s.0 s.1 on none)
+      clean_unasked stays v w x clean settled same a.rests (ext_request v.post.machine v.post.vcpu d e awaited answer) s.0 s.2 mild unasked (sets_nothing v.post.machine v.post.vcpu e answer s.0 s.1 on none)
 
   -- ---- the own flush
   pub flushes : (answer : Result (Unit {0}) Stop) → IsPerformed v w d FlushLocal awaited answers answer → Comes (KeepsPin FlushLocal) w x (performed (whose v) FlushLocal x) answer

@@ -22,28 +22,6 @@ use Rattle.level_release.specs.Course.{WasReleased}
 use Rattle.release_laws.specs.Pauses.{IsLeft}
 use Rattle.solo_ports.specs.Standing.{Clean, IsUnkept}
 
--- ---- ports
-abbrev pub FirstKnown : Type 0
-FirstKnown = (v : PortValue) (y : ℕ) → IsAlone v → v.holdings.old0 ≡ Some y → told_word v (old_place v.post.vcpu First) ≡ y
-
-abbrev pub SecondKnown : Type 0
-SecondKnown = (v : PortValue) (y : ℕ) → IsAlone v → v.holdings.old1 ≡ Some y → told_word v (old_place v.post.vcpu Second) ≡ y
-
-abbrev pub CleanRests : Type 0
-CleanRests = (v : PortValue) (x : Solo) → Clean v x → IsAtRest v.post.machine (told_word v)
-
-abbrev pub MapsStay : Type 0
-MapsStay =
-    (v w : PortValue) (r : Request) (ds : List Deed) (g : ℕ) → IsEmptyHand v.holdings → is_telling v ≡ true → Serves v w r ds → r.pages ≡ None → ((x : ℕ) → Member (SetsM2p g x) ds → ⊥) →
-    told_word w (M2p g) ≡ told_word v (M2p g)
-
--- ---- plain values
-abbrev pub LetGoUnkept : Type 0
-LetGoUnkept = (n : Machine) (level f : ℕ) (p : Plain) → IsUnkept n p → IsUnkept n (let_go level f p)
-
-abbrev pub AloneUnkept : Type 0
-AloneUnkept = (n : Machine) (owner level f : ℕ) (p : Plain) → IsUnkept n p → IsUnkept n (alone n owner level f p).left
-
 -- ---- laws of releases
 abbrev pub ReleaseLeaves : Type 0
 ReleaseLeaves =

@@ -56,8 +56,9 @@ use Rattle.script_law.specs.Values.{Solo, Frames, IsUnpinned, Outcome, did, look
 use Rattle.solo_ports.specs.Coming.{Comes, IsDoneSo, IsRefusedSo, IsWhy}
 use Rattle.solo_ports.specs.Standing.{Clean, IsSettled, IsUnkept, Owes, Stands, a_release, nothing, whose}
 use Rattle.solo_pins.specs.Performing.{IsPerformed, KeepsPin}
-use Rattle.solo_pins.proofs.Given.{FirstKnown, LetGoUnkept, MapsStay, PausedReleaseLeaves, ReleaseLeaves, SecondKnown}
-use Rattle.solo_pins.proofs.Standing.{IsMild, SetsNothing, clean_same, kind_unkept, second_same, stands_stay}
+use Rattle.solo_pins.proofs.Given.{PausedReleaseLeaves, ReleaseLeaves}
+use Rattle.solo_pins.proofs.Standing.{IsMild, SetsNothing, clean_same, second_same, stands_stay}
+use Rattle.solo_ports.proofs.Unkept.{unkept_kind, unkept_let_go}
 use Rattle.solo_pins.proofs.Deeds.{sets_nothing}
 use Rattle.solo_pins.proofs.Aside.{Away, away_moves, ref_away, released_away}
 use Rattle.solo_pins.proofs.Looking as looking
@@ -97,7 +98,7 @@ refused_looked n d f w x y c next is same clean =
     subst (λ r. IsRefusedSo w y (looked_by r x next)) (sym is) (record { why = Frames c; is = refl; same = same; none = refl; owes = nothing clean })
 
 -- ---- the unpin
-module _ (maps_stay : MapsStay) (first : FirstKnown) (second : SecondKnown) (unkept_back : LetGoUnkept) (stays : AloneStays) (release : ReleaseLeaves) (paused : PausedReleaseLeaves)
+module _ (stays : AloneStays) (release : ReleaseLeaves) (paused : PausedReleaseLeaves)
     (v w : PortValue) (x : Solo) (f : ℕ) (awaited : Option ℕ) (clean : Clean v x) (settled : IsSettled v) where
   abbrev n : Machine
   n = v.post.machine
@@ -213,7 +214,7 @@ module _ (maps_stay : MapsStay) (first : FirstKnown) (second : SecondKnown) (unk
       describes_e = subst (λ (o : Post). Describes o.machine (told_word e) off) (sym post_e) describes
 
       unkept : IsUnkept n (let_go level f off)
-      unkept = unkept_back n level f off (kind_unkept n f (unpinned_kind (p.kinds f)) p clean.stands.unkept (clean.stands.unkept f inside))
+      unkept = unkept_let_go n level f off (unkept_kind n f (unpinned_kind (p.kinds f)) p (clean.stands.unkept f inside) clean.stands.unkept)
 
       module _ (answers : List Bool) (answer : Result (Unit {0}) Stop) (rel : WasReleased e f (kind_fields y).kind w answers answer) where
         rel_level : WasReleased e f (level_type level) w answers answer
@@ -227,9 +228,7 @@ module _ (maps_stay : MapsStay) (first : FirstKnown) (second : SecondKnown) (unk
         post = came_post v w came
 
         stands : Stands w (with_frames (let_go level f off) x)
-        stands =
-            stands_stay maps_stay v w x r ds clean.stands serves mild stays rests (second w 0 (stays v w clean.stands.alone came) old) (let_go level f off)
-            (subst (λ (o : Post). IsUnkept o.machine (let_go level f off)) (sym post) unkept) none
+        stands = stands_stay stays v w x (let_go level f off) r ds clean.stands serves mild none rests old unkept
 
         owes : (answers : List Bool) (answer : Result (Unit {0}) Stop) → WasReleased e f (kind_fields y).kind w answers answer → IfErr answer (λ stop. stop ≡ Paused Due) → Owes w (with_frames (let_go level f off) x)
         owes answers (Ok done) rel due =
