@@ -5,3 +5,4 @@ pub mod Flushing
 pub mod Aside
 pub mod Looking
 pub mod Unpinning
+pub mod Prefixes
