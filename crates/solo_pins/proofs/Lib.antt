@@ -6,3 +6,4 @@ pub mod Aside
 pub mod Looking
 pub mod Unpinning
 pub mod Prefixes
+pub mod Between
