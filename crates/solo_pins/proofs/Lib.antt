@@ -7,3 +7,4 @@ pub mod Looking
 pub mod Unpinning
 pub mod Prefixes
 pub mod Between
+pub mod Acquired
