@@ -8,3 +8,4 @@ pub mod Unpinning
 pub mod Prefixes
 pub mod Between
 pub mod Acquired
+pub mod Beginning
