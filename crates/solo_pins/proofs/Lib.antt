@@ -9,3 +9,4 @@ pub mod Prefixes
 pub mod Between
 pub mod Acquired
 pub mod Beginning
+pub mod Kept
