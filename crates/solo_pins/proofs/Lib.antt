@@ -10,3 +10,5 @@ pub mod Between
 pub mod Acquired
 pub mod Beginning
 pub mod Kept
+pub mod Acquiring
+pub mod Pinning
