@@ -12,3 +12,4 @@ pub mod Beginning
 pub mod Kept
 pub mod Acquiring
 pub mod Pinning
+pub mod Pins

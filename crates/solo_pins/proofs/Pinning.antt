@@ -48,6 +48,9 @@ use Rattle.solo_pins.proofs.Standing.{IsMild, SetsNothing, first_there, stands_s
 use Rattle.solo_pins.proofs.Unpinning.{sober_pinned}
 
 -- ---- a frame that was acquired is pinned
+abbrev pub marks : ℕ → Solo → Outcome
+marks f s = did (with_frames (with_kind f (pinned_kind (s.frames.kinds f)) s.frames) s)
+
 module _ (stays : AloneStays) (v w : PortValue) (x : Solo) (d f level : ℕ) (stands : Stands v x) (low : 1 ≤ level) (high : level ≤ 4) (free : is_pinned_as level (x.frames.kinds f) ≡ false) where
   abbrev n : Machine
   n = v.post.machine
@@ -119,14 +122,10 @@ module _ (stays : AloneStays) (v w : PortValue) (x : Solo) (d f level : ℕ) (st
               frames = subst (λ (p : Post). Describes p.machine (told_word w) q) (sym (came_post v w came_w)) (describes_w sets);
             }
 
-  -- the pin is had, or is not
-  abbrev pub marks : Solo → Outcome
-  marks s = did (with_frames (with_kind f (pinned_kind (s.frames.kinds f)) s.frames) s)
-
   module _ (settled : IsSettled v) (r : Request) (ds : List Deed) (serves : Serves v w r ds) (mild : IsMild r) (none : SetsNothing ds) (rests : Rests w) where
-    pub pin_done : (e : PortValue) → Came v e → o.refusal ≡ None → Describes n (told_word e) o.left → f < n.frames → w.holdings.old0 ≡ Some 0 → w.holdings.old1 ≡ Some 0 → PinEnds e w f level (Ok tt) → IsDoneSo w (behind x o marks)
+    pub pin_done : (e : PortValue) → Came v e → o.refusal ≡ None → Describes n (told_word e) o.left → f < n.frames → w.holdings.old0 ≡ Some 0 → w.holdings.old1 ≡ Some 0 → PinEnds e w f level (Ok tt) → IsDoneSo w (behind x o (marks f))
     pin_done e came fine describes inside first second (pinned u y saw free_there sets) =
-        subst (λ c. IsDoneSo w (behind_by x o c marks)) (sym fine)
+        subst (λ c. IsDoneSo w (behind_by x o c (marks f))) (sym fine)
         (done_so w (with_frames q x) (nothing (clean_pinned e came fine describes inside u y saw settled r ds serves mild none rests first second sets)))
 
     pub pin_stops : (e : PortValue) → Came v e → o.refusal ≡ None → Describes n (told_word e) o.left → f < n.frames → (stop : Stop) → PinEnds e w f level (Err stop) → ⊥
