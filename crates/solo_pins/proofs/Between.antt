@@ -22,7 +22,7 @@ use Rattle.step_maker.specs.Moves.{Came, Met, Moment, Moves, MovesBy, Ran}
 use Rattle.step_maker.specs.Reasons.{HasReason}
 use Rattle.step_maker.proofs.Coming.{came_trans, ran_more}
 use Rattle.step_maker.proofs.Piecing.{deeds_append, serves_came}
-use Rattle.step_maker.proofs.Telling.{came_telling, ran_telling, told_elsewhere, told_here, told_there}
+use Rattle.step_maker.proofs.Telling.{came_telling, moves_telling, ran_telling, told_elsewhere, told_here, told_there}
 use Rattle.course_laws.specs.Courses.{FindsAlive}
 use Rattle.solo_pins.proofs.Prefixes.{IsOnWay, on_way, one_run}
 
@@ -153,14 +153,33 @@ only_word : (o : Bool) (d : Deed) → o ≡ true → (if o then (d ∷ []) else 
 only_word true d on = refl
 only_word false d on = absurd cc
 
--- A word that one step sets, and that step alone, is before it as at first.
+first_one : (xs ys : List Deed) (d e : Deed) → xs ++ (d ∷ ys) ≡ e ∷ [] → xs ≡ []
+first_one [] ys d e is = refl
+first_one (x ∷ []) ys d e is = absurd cc
+first_one (x ∷ (y ∷ xs)) ys d e is = absurd cc
+
+-- A word that one step sets, and that step alone, is before it as at first, and behind it as that step leaves it.
 module _ (v w : PortValue) (r : Request) (s k y : ℕ) (telling : is_telling v ≡ true) (told : is_told_word k ≡ true) (serves : Serves v w r (SetsWord s k y ∷ [])) where
-  pub word_before : (u x : PortValue) (old : ℕ) → Came v u → Moves u x (Vcpu s k) (Store y) steps.Context None old → Came x w → told_word u (Vcpu s k) ≡ told_word v (Vcpu s k)
-  unfolding Serves Came
-  word_before u x old before m after =
-      let ms = serves.0 in
-      let one : Moment = record { place = Vcpu s k; act = Store y; kind = steps.Context; mark = None; found = old; hand = u.holdings } in
-      let all = one_run v w ms (after.0 ++ (one ∷ before.0)) serves.1.ran (ran_more v x w (one ∷ before.0) after.0 (ran_more v u x before.0 (one ∷ []) before.1 (u, refl, record { moves = m; hand = refl })) after.1) in
-      let told_all = sym (deeds_append (one ∷ before.0) after.0) ∙ sym (ap deeds all) ∙ serves.1.deeds_are in
-      let here = ap (λ ds. deeds after.0 ++ (ds ++ deeds before.0)) (sym (only_word (is_told_word k) (SetsWord s k y) told)) ∙ told_all in
-      ran_still IsUnseen (Vcpu s k) (word_still s k told) v u before.0 telling before.1 (unseen before.0 (last_one (deeds after.0) (deeds before.0) (SetsWord s k y) (SetsWord s k y) here))
+  module _ (u x : PortValue) (old : ℕ) (before : Came v u) (m : Moves u x (Vcpu s k) (Store y) steps.Context None old) (after : Came x w) where
+    abbrev one : Moment
+    one = record { place = Vcpu s k; act = Store y; kind = steps.Context; mark = None; found = old; hand = u.holdings }
+
+    here : (first rest : List Moment) → Ran v first u → Ran x rest w → deeds rest ++ (SetsWord s k y ∷ deeds first) ≡ SetsWord s k y ∷ []
+    unfolding Serves
+    here first rest to from =
+        let all = one_run v w serves.0 (rest ++ (one ∷ first)) serves.1.ran (ran_more v x w (one ∷ first) rest (ran_more v u x first (one ∷ []) to (u, refl, record { moves = m; hand = refl })) from) in
+        ap (λ ds. deeds rest ++ (ds ++ deeds first)) (sym (only_word (is_told_word k) (SetsWord s k y) told)) ∙ (sym (deeds_append (one ∷ first) rest) ∙ sym (ap deeds all) ∙ serves.1.deeds_are)
+
+    pub word_before : told_word u (Vcpu s k) ≡ told_word v (Vcpu s k)
+    unfolding Came
+    word_before =
+        ran_still IsUnseen (Vcpu s k) (word_still s k told) v u before.0 telling before.1
+        (unseen before.0 (last_one (deeds after.0) (deeds before.0) (SetsWord s k y) (SetsWord s k y) (here before.0 after.0 before.1 after.1)))
+
+    pub word_after : told_word w (Vcpu s k) ≡ y
+    unfolding Came left_by
+    word_after =
+        let told_u : is_telling u ≡ true = came_telling v u before ∙ telling in
+        ran_still IsUnseen (Vcpu s k) (word_still s k told) x w after.0 (moves_telling u x _ _ _ _ _ m ∙ told_u) after.1
+        (unseen after.0 (first_one (deeds after.0) (deeds before.0) (SetsWord s k y) (SetsWord s k y) (here before.0 after.0 before.1 after.1)))
+        ∙ told_here u x (Vcpu s k) (Store y) steps.Context None old m told_u
