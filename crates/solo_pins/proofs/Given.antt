@@ -1,6 +1,7 @@
 -- Laws of other crates, as statements: what acquisitions and releases come to.
 use Rattle.std.specs.Prelude.{◌≡◌, ◌⊎◌, ◌<◌, ◌≤◌, ℕ, Bool, true, List, length, Result, Ok, Err}
 use Rattle.xp_words.specs.Machine.{IsMachine}
+use Rattle.xp_words.specs.declared.place.Place.{Place}
 use Rattle.xp_words.specs.declared.reply.Pause.TheVariants.{Due}
 use Rattle.xp_words.specs.declared.reply.Stop.{Stop}
 use Rattle.xp_words.specs.declared.reply.Stop.TheVariants.{Paused}
@@ -19,7 +20,7 @@ use Rattle.course_laws.specs.Courses.{ClockGoesOn, IsOrderly}
 use Rattle.pause_laws.specs.Calls.{HasRoom}
 use Rattle.release_laws.specs.Pauses.{IsLeft}
 use Rattle.refusal_laws.specs.Refusals.{ComesTo}
-use Rattle.refusal_laws.specs.Repeated.{IsDeadFrame, IsKeptTable, PausedCalls}
+use Rattle.refusal_laws.specs.Repeated.{IsDeadFrame, IsKeptTable, IsUntouched, PausedCalls}
 
 -- ---- laws of releases
 abbrev pub ReleaseLeaves : Type 0
@@ -57,3 +58,6 @@ FoundDead =
 
 abbrev pub CallsTelling : Type 0
 CallsTelling = (v u : PortValue) (f owner level : ℕ) → PausedCalls f owner level v u → is_telling v ≡ true
+
+abbrev pub HadSpares : Type 0
+HadSpares = (v w : PortValue) (f owner level g : ℕ) (answers : List Bool) (q : Place) → is_telling v ≡ true → Acquired v f owner level w answers (Ok g) → IsUntouched q → told_word w q ≡ told_word v q

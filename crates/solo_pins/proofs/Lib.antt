@@ -13,3 +13,5 @@ pub mod Kept
 pub mod Acquiring
 pub mod Pinning
 pub mod Pins
+pub mod Stepping
+pub mod Installing
