@@ -52,7 +52,7 @@ missed_place places.Clock = nothing
 missed_place (places.Life d) = nothing
 missed_place p = other_one (Misses p) tt
 
-missed_nothing : (n : Machine) (e : Stop) → SetsNothing (missed n e)
+pub missed_nothing : (n : Machine) (e : Stop) → SetsNothing (missed n e)
 missed_nothing n (Refused x) = nothing
 missed_nothing n (Paused pauses.Due) = nothing
 missed_nothing n (Paused (pauses.Lost place expected found)) = missed_place (place_at (sizes_of n) place)

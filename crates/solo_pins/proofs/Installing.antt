@@ -72,7 +72,7 @@ named_by n s (suc zero) w g low is e = let a = is.1 in let b : nat_le w n.frames
 named_by n s (suc (suc k)) w g low is e = absurd (omega (arith, low))
 
 -- ---- the flush
-flush_came : (v w : PortValue) → FlushesOwn v w (Ok tt) → Came v w
+pub flush_came : (v w : PortValue) → FlushesOwn v w (Ok tt) → Came v w
 flush_came v w (ticked a b clock before off look tick store) = came_trans v a w (moves_came v a _ _ _ _ _ look) (came_trans a b w (moves_came a b _ _ _ _ _ tick) (moves_came b w _ _ _ _ _ store))
 flush_came v w (overtaken a b clock found before off other look tick store) = came_trans v a w (moves_came v a _ _ _ _ _ look) (came_trans a b w (moves_came a b _ _ _ _ _ tick) (moves_came b w _ _ _ _ _ store))
 
@@ -88,7 +88,7 @@ flushes_so v u x w before after goes (flushed f) = f
 flushes_so v u x w before after goes (spent y old look store) = absurd (clock_below v u y w last_clock before (came_trans y x w (moves_came y x _ _ _ _ _ store) after) goes look refl)
 
 -- ---- the steps of a release
-rel_came : (v w : PortValue) (word : ℕ) (more : List Bool) → ReleasesOld v w word more → Came v w
+pub rel_came : (v w : PortValue) (word : ℕ) (more : List Bool) → ReleasesOld v w word more → Came v w
 rel_came v w zero more rel = subst (Came v) (sym rel.0) (came_self v)
 rel_came v w (suc g) more rel = released_came v g L4 w more rel.0 rel.1
 

@@ -15,3 +15,4 @@ pub mod Pinning
 pub mod Pins
 pub mod Stepping
 pub mod Installing
+pub mod Basing
