@@ -71,6 +71,11 @@ as_call e = Err e
 is_due : (e : Stop) → as_call e ≡ as_call (Paused Due) → e ≡ Paused Due
 is_due e is = cc
 
+-- ---- how it begins, by the new table
+abbrev pub Starts : PortValue → PortValue → Solo → Option ℕ → Type 0
+Starts v w x (Some f) = Begins v w x (whose v).domain f 4
+Starts v w x None = Clean v x
+
 module _ (stays : AloneStays) (release : ReleaseLeaves) (paused : PausedReleaseLeaves) (spares : HadSpares) (v w : PortValue) (x : Solo) (which : Base) (stands : Stands v x) (first_v : told_word v (old_place v.post.vcpu First) ≡ 0)
     (settled : IsSettled v) (fair : Fair v w) (own_lives : x.lives ((whose v).domain) ≡ 0) where
   abbrev n : Machine
@@ -87,11 +92,6 @@ module _ (stays : AloneStays) (release : ReleaseLeaves) (paused : PausedReleaseL
 
   telling : is_telling v ≡ true
   telling = alone_telling v stands.alone
-
-  -- ---- how it begins, by the new table
-  abbrev pub Starts : Option ℕ → Type 0
-  Starts (Some f) = Begins v w x (whose v).domain f 4
-  Starts None = Clean v x
 
   abbrev top_left : Option ℕ → Plain
   top_left (Some f) = (alone v.post.machine (whose v).domain 4 f x.frames).left
@@ -134,7 +134,7 @@ module _ (stays : AloneStays) (release : ReleaseLeaves) (paused : PausedReleaseL
     had_by f b (inl due) = absurd cc
     had_by f b (inr had) = had
 
-    has_top : (new : Option ℕ) → Starts new → (b : PortValue) (answers : List Bool) → Came b w → AcquiresTop a b new answers → HasTop new b
+    has_top : (new : Option ℕ) → Starts v w x new → (b : PortValue) (answers : List Bool) → Came b w → AcquiresTop a b new answers → HasTop new b
     has_top None clean b answers after top =
         let words : told_word b ≡ told_word v = ap told_word top.0 ∙ same in
         record {
@@ -159,7 +159,7 @@ module _ (stays : AloneStays) (release : ReleaseLeaves) (paused : PausedReleaseL
     second_done new (inl unmoved) = second_same v w unmoved settled.second
     second_done new (inr named) = ap (λ (z : PortValue). z.holdings.old1) named.1 ∙ settled.second
 
-    done : (new : Option ℕ) → Starts new → (b : PortValue) (answers more : List Bool) → AcquiresTop a b new answers → Installed b w which new more → ServesBase v w which new (Ok tt) → LeavesBase v w new (Ok tt) → Rests w → IsDoneSo w (set_base n d k new x)
+    done : (new : Option ℕ) → Starts v w x new → (b : PortValue) (answers more : List Bool) → AcquiresTop a b new answers → Installed b w which new more → ServesBase v w which new (Ok tt) → LeavesBase v w new (Ok tt) → Rests w → IsDoneSo w (set_base n d k new x)
     done new starts b answers more top inst serves hand rests =
         let t = has_top new starts b answers (installed_came b w which new more inst) top in
         meaning_by new (IsDoneSo w) t.fine
@@ -187,7 +187,7 @@ module _ (stays : AloneStays) (release : ReleaseLeaves) (paused : PausedReleaseL
         inr (subst (λ (o : Post). KeepsTable f (domain_of o.machine o.vcpu) 4 w x) (sym (came_post v w came)) keeps)
 
   -- ---- the whole
-  pub sets_base : (new : Option ℕ) (answers : List Bool) (answer : Result (Unit {0}) Stop) → Starts new → ServesBase v w which new answer → LeavesBase v w new answer → Rests w → SetsBase v w which new answers answer →
+  pub sets_base : (new : Option ℕ) (answers : List Bool) (answer : Result (Unit {0}) Stop) → Starts v w x new → ServesBase v w which new answer → LeavesBase v w new answer → Rests w → SetsBase v w which new answers answer →
       Comes (KeepsTop new) w x (set_base n d k new x) answer
   sets_base _ _ _ starts serves hand rests (course.SetsBase.spent new saw) = absurd (clock_below v v w w _ (came_self v) (came_self w) fair.clock saw refl)
   sets_base _ _ _ starts serves hand rests (unacquired a f clock answers stop saw off got) =
