@@ -16,4 +16,4 @@ pub mod Pins
 pub mod Stepping
 pub mod Installing
 pub mod Basing
-pub mod Elements
+pub mod Meaning
