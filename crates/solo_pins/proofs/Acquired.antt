@@ -1,5 +1,5 @@
 -- What a plain acquisition makes of its frame: a live table with type counts, which is not pinned unless it was pinned with that type before.
-use Rattle.std.proofs.Common.{◌≡◌, ℕ, suc, ◌+◌, ◌-◌, ◌<◌, ◌≤◌, ◌==◌, ◌&&◌, if◌then◌else◌, Bool, true, false, Option, Some, None, refl, sym, ap, subst, ◌∙◌, arith}
+use Rattle.std.proofs.Common.{◌≡◌, ℕ, suc, ◌-◌, ◌<◌, ◌≤◌, ◌&&◌, if◌then◌else◌, Bool, true, false, Option, Some, None, refl, sym, ap, subst, ◌∙◌, arith}
 use Rattle.std.proofs.lemmas.Bool.{and_parts}
 use Rattle.std.proofs.lemmas.Bool.Decides.{nat_tests}
 use Rattle.xp_words.specs.Machine.{Machine}
@@ -14,7 +14,7 @@ use Rattle.partial_state.specs.Levels.{level_type}
 use Rattle.partial_state.proofs.LevelFacts.{level_type-number}
 use Rattle.table_law.specs.Alone.{Cause, OtherType, PlainOutcome, alone, back_or, fine, go_on, is_counted, meet_last, refused, take_at, take_kind, take_reference, then_or}
 use Rattle.table_law.specs.Levels.{closed}
-use Rattle.table_law.specs.Plain.{Plain, at, raised_share, reference_back, with_kind, with_share}
+use Rattle.table_law.specs.Plain.{Plain, raised_share, reference_back, with_kind, with_share}
 use Rattle.table_law.specs.Release.{let_go}
 use Rattle.table_law.proofs.Counting.{at_here}
 use Rattle.course_laws.proofs.Lending.{Lent, lent}

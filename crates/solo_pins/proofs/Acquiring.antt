@@ -1,18 +1,12 @@
 -- An element whose acquisition is refused, or paused by the gate.
-use Rattle.std.proofs.Common.{◌≡◌, ◌⊎◌, ℕ, Option, Some, None, List, Result, Ok, Err, refl, sym, ap, ◌∙◌, subst, inl, inr}
-use Rattle.xp_words.specs.Machine.{Machine}
-use Rattle.xp_words.specs.declared.reply.Pause.TheVariants.{Due}
+use Rattle.std.proofs.Common.{◌≡◌, ◌⊎◌, ℕ, Some, List, refl, sym, ap, ◌∙◌, subst, inl, inr}
 use Rattle.xp_words.specs.declared.reply.Refusal.{Refusal}
-use Rattle.xp_words.specs.declared.reply.Stop.{Stop}
-use Rattle.xp_words.specs.declared.reply.Stop.TheVariants.{Refused, Paused}
 use Rattle.xp_board.specs.Told.{Post, PortValue, told_word}
 use Rattle.step_maker.specs.Answers.{Deed, Serves}
 use Rattle.step_maker.specs.Asked.{Request}
 use Rattle.step_maker.specs.Holds.{FlushedSame, Rests}
 use Rattle.step_maker.proofs.Coming.{came_post}
 use Rattle.step_maker.proofs.Piecing.{serves_came}
-use Rattle.table_words.specs.OldWords.{old_place}
-use Rattle.table_words.specs.declared.old_words.OldWord.TheVariants.{First}
 use Rattle.table_bases.specs.Asking.{NamesInFirst}
 use Rattle.table_law.specs.Alone.{PlainOutcome, alone}
 use Rattle.table_law.specs.Plain.{Describes, Plain}
@@ -21,8 +15,8 @@ use Rattle.release_laws.specs.Pauses.{IsLeft}
 use Rattle.refusal_laws.specs.Refusals.{ComesTo, IsRefusedAs}
 use Rattle.refusal_laws.specs.Refusals as refusals
 use Rattle.script_law.specs.Values.{Solo, Frames, Outcome, behind, behind_by, with_frames}
-use Rattle.solo_ports.specs.Coming.{Comes, IsRefusedSo}
-use Rattle.solo_ports.specs.Standing.{IsSettled, IsUnkept, Owes, Stands, a_release, nothing}
+use Rattle.solo_ports.specs.Coming.{IsRefusedSo}
+use Rattle.solo_ports.specs.Standing.{IsSettled, Owes, Stands, a_release, nothing}
 use Rattle.solo_ports.proofs.Unkept.{unkept_alone}
 use Rattle.solo_pins.proofs.Standing.{IsMild, SetsNothing, second_same, stands_stay}
 

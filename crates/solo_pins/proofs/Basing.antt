@@ -1,17 +1,16 @@
 -- A new base comes to its plain meaning, or is paused by the gate and will go on.
-use Rattle.std.proofs.Common.{◌≡◌, ◌≢◌, ◌⊎◌, ℕ, ◌+◌, ◌≤◌, Bool, true, List, [], ◌∷◌, Option, Some, None, Result, Ok, Err, refl, sym, ap, ◌∙◌, subst, inl, inr, arith}
+use Rattle.std.proofs.Common.{◌≡◌, ◌⊎◌, ℕ, ◌+◌, Bool, true, List, Option, Some, None, Result, Ok, Err, refl, sym, ap, ◌∙◌, subst, inl, inr, arith}
 use Rattle.std.proofs.Math.Path.{fun_ext}
 use Rattle.xp_words.specs.Machine.{Machine}
-use Rattle.xp_words.specs.declared.place.Place.TheVariants.{Clock, Vcpu}
+use Rattle.xp_words.specs.declared.place.Place.TheVariants.{Clock}
 use Rattle.xp_words.specs.declared.reply.Pause.TheVariants.{Due}
-use Rattle.xp_words.specs.declared.reply.Refusal.{Refusal}
 use Rattle.xp_words.specs.declared.reply.Stop.{Stop}
 use Rattle.xp_words.specs.declared.reply.Stop.TheVariants.{Refused, Paused}
 use Rattle.xp_board.specs.declared.step.Act.TheVariants.{Load}
 use Rattle.xp_board.specs.declared.step.StepKind.TheVariants as kinds
 use Rattle.xp_board.specs.Readings.{domain_of}
 use Rattle.xp_board.specs.Told.{Post, PortValue, is_telling, told_word}
-use Rattle.step_maker.specs.Answers.{Deed, Serves, SetsWord, missed}
+use Rattle.step_maker.specs.Answers.{missed}
 use Rattle.step_maker.specs.Holds.{Rests}
 use Rattle.step_maker.specs.Moves.{Came}
 use Rattle.step_maker.specs.Plain.{Words}
@@ -27,17 +26,16 @@ use Rattle.table_bases.specs.Asking.{LeavesBase, ServesBase, base_request, may_r
 use Rattle.table_bases.specs.Course.{AcquiresTop, FlushesBehind, Installed, SawClock, SetsBase, flushed, installed, spent, unacquired}
 use Rattle.table_bases.specs.Course as course
 use Rattle.table_bases.specs.Holding.{base_number, naming}
-use Rattle.table_law.specs.Alone.{PlainOutcome, alone}
+use Rattle.table_law.specs.Alone.{alone}
 use Rattle.table_law.specs.Plain.{Describes, Plain}
 use Rattle.table_law.specs.Release.{let_go}
-use Rattle.course_laws.specs.Courses.{FindsAlive}
 use Rattle.course_laws.proofs.Awaiting.{AloneStays}
 use Rattle.course_laws.proofs.Stopping.{acquired_came}
 use Rattle.refusal_laws.specs.Refusals.{ComesTo}
 use Rattle.refusal_laws.specs.Repeated.{word}
 use Rattle.script_law.specs.Frames.{rename, set_base}
-use Rattle.script_law.specs.Values.{Solo, Outcome, behind, behind_by, did, with_frames}
-use Rattle.solo_ports.specs.Coming.{Comes, IsDoneSo, IsRefusedSo}
+use Rattle.script_law.specs.Values.{Solo, Outcome, behind_by, did, with_frames}
+use Rattle.solo_ports.specs.Coming.{Comes, IsDoneSo}
 use Rattle.solo_ports.specs.Standing.{Clean, Fair, IsSettled, IsUnkept, KeepsTable, Stands, whose}
 use Rattle.solo_ports.proofs.Unkept.{unkept_alone}
 use Rattle.solo_pins.specs.Performing.{KeepsTop}
@@ -182,8 +180,8 @@ module _ (stays : AloneStays) (release : ReleaseLeaves) (paused : PausedReleaseL
         let came = serves_came v w req (missed n (Paused y)) serves in
         let alive = alive_between v a w d before (own_alive v w x d req (missed n (Paused y)) stands refl own_lives serves (mild_request v (Some f) (Err (Paused y))).destroys) in
         let keeps = begins.keeps a answers before same (subst (λ (e : Stop). Acquired a f d 4 w answers (Err e)) (is_due (Paused y) due) got) alive
-            (stands_stay stays v w x p req (missed n (Paused y)) stands serves (mild_request v (Some f) (Err (Paused y))) (missed_nothing n (Paused y)) rests (second_stopped f (Paused y) hand) stands.unkept)
-            (first_there stays v w x stands came rests 0 (first_same v w hand settled.first)) in
+        (stands_stay stays v w x p req (missed n (Paused y)) stands serves (mild_request v (Some f) (Err (Paused y))) (missed_nothing n (Paused y)) rests (second_stopped f (Paused y) hand) stands.unkept)
+        (first_there stays v w x stands came rests 0 (first_same v w hand settled.first)) in
         inr (subst (λ (o : Post). KeepsTable f (domain_of o.machine o.vcpu) 4 w x) (sym (came_post v w came)) keeps)
 
   -- ---- the whole

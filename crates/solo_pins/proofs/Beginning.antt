@@ -2,8 +2,6 @@
 use Rattle.std.proofs.Common.{◌≡◌, ◌⊎◌, ℕ, ◌<◌, ◌≤◌, true, Bool, None, List, length, Result, Err, refl, sym, ap, ◌∙◌, subst}
 use Rattle.std.proofs.lemmas.List.Elements.{All-get_or}
 use Rattle.xp_words.specs.Machine.{IsMachine, Machine}
-use Rattle.xp_words.specs.declared.place.Place.{Place}
-use Rattle.xp_words.specs.declared.place.Place.TheVariants.{Life}
 use Rattle.xp_words.specs.declared.reply.Pause.TheVariants.{Due}
 use Rattle.xp_words.specs.declared.reply.Stop.{Stop}
 use Rattle.xp_words.specs.declared.reply.Stop.TheVariants.{Paused}
@@ -11,7 +9,7 @@ use Rattle.xp_board.specs.Readings.{ref_count}
 use Rattle.xp_board.specs.Told.{Post, PortValue, is_telling, told_word}
 use Rattle.step_maker.specs.Answers.{Deed, Serves}
 use Rattle.step_maker.specs.Asked.{Request}
-use Rattle.step_maker.specs.Moves.{Came, Met, Moment}
+use Rattle.step_maker.specs.Moves.{Came}
 use Rattle.step_maker.specs.Plain.{Words}
 use Rattle.step_maker.proofs.Alikes.{same_alike}
 use Rattle.step_maker.proofs.Coming.{came_post, came_trans, met_after, met_before}
@@ -23,11 +21,11 @@ use Rattle.table_words.specs.declared.old_words.OldWord.TheVariants.{First}
 use Rattle.table_entries.specs.Acquiring.{Acquired}
 use Rattle.table_law.specs.Alone.{alone}
 use Rattle.table_law.specs.Lawful.{IsAtRest}
-use Rattle.table_law.specs.Plain.{Describes, Plain}
+use Rattle.table_law.specs.Plain.{Describes}
 use Rattle.course_laws.specs.Courses.{ClockGoesOn, FindsAlive, IsOrderly}
-use Rattle.course_laws.proofs.Awaiting.{AloneStays, alone_orderly}
+use Rattle.course_laws.proofs.Awaiting.{AloneStays}
 use Rattle.course_laws.proofs.Stopping.{acquired_came}
-use Rattle.pause_laws.specs.Calls.{HasRoom, StaysFrom}
+use Rattle.pause_laws.specs.Calls.{HasRoom}
 use Rattle.refusal_laws.specs.Refusals.{ComesTo}
 use Rattle.refusal_laws.specs.Repeated.{GoesOn, PausedCalls, again, first}
 use Rattle.script_law.specs.Values.{Solo}

@@ -1,5 +1,5 @@
 -- Words that are told at ports on the way of a call: lives, and own words before they are set.
-use Rattle.std.proofs.Common.{◌≡◌, ◌≢◌, ℕ, Bool, true, false, List, [], ◌∷◌, ◌++◌, Option, Some, None, IsTrue, refl, sym, ap, ◌∙◌, subst, inl, inr, if◌then◌else◌}
+use Rattle.std.proofs.Common.{◌≡◌, ℕ, Bool, true, false, List, [], ◌∷◌, ◌++◌, Option, Some, None, refl, sym, ap, ◌∙◌, subst, inl, inr, if◌then◌else◌}
 use Rattle.xp_words.specs.Machine.{Machine}
 use Rattle.xp_words.specs.declared.place.Place.{Place}
 use Rattle.xp_words.specs.declared.place.Place.TheVariants.{Life, Vcpu}
@@ -13,7 +13,7 @@ use Rattle.xp_board.specs.Acts.{left_by}
 use Rattle.xp_board.specs.Legal.{LegalAs}
 use Rattle.xp_board.specs.Lists.{EachOf}
 use Rattle.xp_board.specs.Marks.{after_mark}
-use Rattle.xp_board.specs.Told.{Post, PortValue, is_telling, told_word}
+use Rattle.xp_board.specs.Told.{PortValue, is_telling, told_word}
 use Rattle.xp_board.proofs.PlaceTests.{same_or_other}
 use Rattle.step_maker.specs.Answers.{Deed, Serves, SetsWord, deeds, deeds_by, is_told_word, marked_by, stored_as}
 use Rattle.step_maker.specs.Asked.{Request}
@@ -21,10 +21,10 @@ use Rattle.step_maker.specs.Finding.{Finding}
 use Rattle.step_maker.specs.Moves.{Came, Met, Moment, Moves, MovesBy, Ran}
 use Rattle.step_maker.specs.Reasons.{HasReason}
 use Rattle.step_maker.proofs.Coming.{came_trans, ran_more}
-use Rattle.step_maker.proofs.Piecing.{deeds_append, serves_came}
+use Rattle.step_maker.proofs.Piecing.{deeds_append}
 use Rattle.step_maker.proofs.Telling.{came_telling, moves_telling, ran_telling, told_elsewhere, told_here, told_there}
 use Rattle.course_laws.specs.Courses.{FindsAlive}
-use Rattle.solo_pins.proofs.Prefixes.{IsOnWay, on_way, one_run}
+use Rattle.solo_pins.proofs.Prefixes.{on_way, one_run}
 
 -- ---- a word that no step on the way changes
 abbrev IsStill : (Moment → Type 0) → Place → Type 0
@@ -77,7 +77,7 @@ module _ (v w : PortValue) (r : Request) (ds : List Deed) (telling : is_telling 
       let way = on_way v u w serves.0 serves.1.ran before after in
       ran_still (λ m. HasReason v.post.machine v.post.vcpu r F m.place m.act m.found m.hand) (Life d) (life_still v.post.machine v.post.vcpu r F d spares) v u way.before telling way.to
       (each_before (λ m. HasReason v.post.machine v.post.vcpu r F m.place m.act m.found m.hand) way.before way.after
-          (subst (EachOf (λ m. HasReason v.post.machine v.post.vcpu r F m.place m.act m.found m.hand)) way.all serves.1.reasons))
+      (subst (EachOf (λ m. HasReason v.post.machine v.post.vcpu r F m.place m.act m.found m.hand)) way.all serves.1.reasons))
 
   -- each step finds the domain alive
   pub finds_alive : told_word v (Life d) ≡ 0 → FindsAlive v w d

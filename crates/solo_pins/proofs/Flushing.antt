@@ -1,5 +1,5 @@
 -- Elements that ask nothing of frames: flushes, and commands that are not known.
-use Rattle.std.proofs.Common.{◌≡◌, ℕ, ◌<◌, Bool, List, Option, Result, Ok, Err, refl, sym, ap, ◌∙◌, subst}
+use Rattle.std.proofs.Common.{◌≡◌, ℕ, Bool, List, Option, Result, Ok, Err, refl, sym, ap, ◌∙◌, subst}
 use Rattle.xp_words.specs.declared.place.Place.{Place}
 use Rattle.xp_words.specs.declared.place.Place.TheVariants.{Cell, Kind, Refs}
 use Rattle.xp_words.specs.declared.reply.Pause.TheVariants as pauses

@@ -1,10 +1,10 @@
 -- A base is stored, the own translations are flushed, and what the word named before is let go.
-use Rattle.std.proofs.Common.{◌≡◌, ◌≢◌, ◌⊎◌, ℕ, zero, suc, ◌+◌, ◌<◌, ◌≤◌, ◌==◌, nat_le, if◌then◌else◌, Bool, true, false, List, [], ◌∷◌, Option, Some, None, Result, Ok, Err, IfErr, IsTrue, refl, sym, ap, ◌∙◌, subst, inl, inr, arith}
+use Rattle.std.proofs.Common.{◌≡◌, ◌≢◌, ℕ, zero, suc, ◌<◌, ◌==◌, nat_le, if◌then◌else◌, Bool, true, false, List, [], ◌∷◌, Option, Some, None, Result, Ok, Err, IfErr, refl, sym, ap, ◌∙◌, subst, inl, inr, arith}
 use Rattle.std.proofs.lemmas.Bool.Decides.{nat_tests}
 use Rattle.std.proofs.lemmas.Bool.{cases_eq}
 use Rattle.xp_words.specs.KindWords.{kind_fields}
 use Rattle.xp_words.specs.Machine.{IsMachine, Machine}
-use Rattle.xp_words.specs.Places.{is_place, sizes_of}
+use Rattle.xp_words.specs.Places.{sizes_of}
 use Rattle.xp_words.specs.declared.place.Place.{Place}
 use Rattle.xp_words.specs.declared.place.Place.TheVariants.{Cell, Clock, Kind, Refs, Vcpu}
 use Rattle.xp_words.specs.declared.reply.Pause.TheVariants.{Due}
@@ -16,22 +16,21 @@ use Rattle.xp_board.specs.Lists.{Member}
 use Rattle.xp_board.specs.Readings.{last_clock}
 use Rattle.xp_board.specs.Spelling.{IsSpelling}
 use Rattle.xp_board.specs.Told.{Post, PortValue, Story, is_telling, told_word, word_in}
-use Rattle.step_maker.specs.Answers.{Deed, Serves, SetsM2p, SetsWord, is_told_word}
+use Rattle.step_maker.specs.Answers.{Serves, SetsM2p, SetsWord, is_told_word}
 use Rattle.step_maker.specs.Asked.{Request}
 use Rattle.step_maker.specs.Holds.{Rests}
 use Rattle.step_maker.specs.Moves.{Came, Moment, Moves}
 use Rattle.xp_board.proofs.Numbers.{vcpu_there}
 use Rattle.level_release.specs.Course.{WasReleased}
 use Rattle.xp_words.specs.declared.kind.PageType.TheVariants.{L4}
-use Rattle.step_maker.proofs.Coming.{came_post, came_self, came_trans, met_after, met_before, moves_came, moves_met}
+use Rattle.step_maker.proofs.Coming.{came_post, came_self, came_trans, moves_came}
 use Rattle.step_maker.proofs.Piecing.{serves_came}
 use Rattle.step_maker.proofs.Telling.{came_telling, told_elsewhere, told_there}
-use Rattle.answer_laws.specs.Alone.{IsAlone}
 use Rattle.answer_laws.proofs.Shared.{alone_telling}
 use Rattle.flush_words.specs.Flushing.{FlushesOwn, overtaken, ticked}
 use Rattle.flush_words.proofs.FlushTwin.{own_alike}
 use Rattle.table_words.specs.OldWords.{old_place}
-use Rattle.table_words.specs.declared.old_words.OldWord.TheVariants.{First, Second}
+use Rattle.table_words.specs.declared.old_words.OldWord.TheVariants.{First}
 use Rattle.table_bases.specs.declared.words.Base.{Base}
 use Rattle.table_bases.specs.declared.words.Base.TheVariants.{Kernel, User}
 use Rattle.table_bases.specs.Course.{FlushesBehind, Installed, ReleasesOld, flushed, spent}
@@ -44,8 +43,8 @@ use Rattle.course_laws.proofs.Awaiting.{AloneStays}
 use Rattle.release_laws.specs.Pauses.{IsLeft}
 use Rattle.script_law.specs.Frames.{back_named, rename}
 use Rattle.script_law.specs.Shown.{IsShownWord, base}
-use Rattle.script_law.specs.Values.{Solo, put_at, with_frames, with_own}
-use Rattle.solo_ports.specs.Standing.{Clean, Owes, ShowsOthers, Stands, a_release, nothing}
+use Rattle.script_law.specs.Values.{Solo, put_at, with_frames}
+use Rattle.solo_ports.specs.Standing.{Owes, ShowsOthers, Stands, a_release, nothing}
 use Rattle.solo_ports.specs.Standing.{IsUnkept}
 use Rattle.solo_ports.proofs.Staying.{life_stays, mapped_stays, own_stays, privilege_stays, stands_at}
 use Rattle.solo_ports.proofs.Unkept.{unkept_let_go}
@@ -241,8 +240,8 @@ module _ (stays : AloneStays) (release : ReleaseLeaves) (paused : PausedReleaseL
           by_answer (Ok done) a due =
               clean_w ((released_away flushed_at w g L4 more (Ok tt) refl a).same s 2 ∙ first_f)
               (subst (λ o. Describes n (told_word w) (back_named (let_go 4) o q)) (sym is)
-                  (subst (λ (o : Post). Describes o.machine (told_word w) (let_go 4 g q)) post_f
-                  (release flushed_at w g 4 more q (subst (λ (o : Post). IsMachine o.machine) (sym post_f) stands.machine) telling_f low (omega arith) described a)))
+              (subst (λ (o : Post). Describes o.machine (told_word w) (let_go 4 g q)) post_f
+              (release flushed_at w g 4 more q (subst (λ (o : Post). IsMachine o.machine) (sym post_f) stands.machine) telling_f low (omega arith) described a)))
           by_answer (Err stop) a due =
               let left = paused flushed_at w g 4 more q telling_f low (omega arith) described (subst (λ (z : Stop). WasReleased flushed_at g L4 w more (Err z)) due a) in
               a_release g 4 stands_w

@@ -1,10 +1,9 @@
 -- A table whose acquisition was paused: a reference to it is to be had, and it is not pinned; and the plain value before the first call has it dead.
-use Rattle.std.proofs.Common.{◌≡◌, ℕ, ◌<◌, ◌≤◌, ◌==◌, ◌&&◌, not, nat_lt, nat_le, if◌then◌else◌, Bool, true, false, Option, Some, None, Result, Ok, Err, refl, sym, ap, ◌∙◌, subst, arith}
+use Rattle.std.proofs.Common.{◌≡◌, ℕ, ◌≤◌, ◌==◌, ◌&&◌, nat_lt, nat_le, if◌then◌else◌, Bool, true, false, Option, Some, None, Err, refl, sym, ap, ◌∙◌, subst, arith}
 use Rattle.std.proofs.lemmas.Bool.Decides.{nat_tests}
 use Rattle.xp_words.specs.Machine.{Machine}
 use Rattle.xp_words.specs.PageTypes.{type_number}
 use Rattle.xp_words.specs.RefWords.{ref_read}
-use Rattle.xp_words.specs.declared.kind.KindWord.{KindWord}
 use Rattle.xp_words.specs.declared.place.Place.TheVariants.{Refs}
 use Rattle.xp_words.specs.declared.refs.RefWord.{RefWord}
 use Rattle.xp_words.specs.declared.refs.RefWord.TheVariants.{Dying, Free, Owned}
@@ -20,7 +19,7 @@ use Rattle.step_maker.specs.Licences.{IsFull}
 use Rattle.frame_words.specs.Plain.{refer, refer_by}
 use Rattle.table_entries.specs.Acquiring.{GotRef}
 use Rattle.table_law.specs.Alone.{NoFrame, take_reference, take_reference_of, refused}
-use Rattle.table_law.specs.Plain.{Plain, Share, share_of}
+use Rattle.table_law.specs.Plain.{Plain, Share}
 use Rattle.table_twins.proofs.Sharing.{share_owned}
 use Rattle.pause_laws.specs.Calls.{HasRoom}
 use Rattle.refusal_laws.specs.Repeated.{IsDeadFrame, IsKeptFrame}

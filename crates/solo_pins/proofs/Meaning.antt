@@ -1,5 +1,5 @@
 -- All elements that are about tables or flushes.
-use Rattle.std.proofs.Common.{◌≡◌, ◌⊎◌, ℕ, ◌≤◌, List, Bool, Option, Some, None, Result, Ok, Err, refl, sym, subst, inl, inr, arith}
+use Rattle.std.proofs.Common.{◌≡◌, ◌⊎◌, ℕ, ◌≤◌, List, Bool, Option, Some, None, Result, Ok, Err, refl, subst, inl, inr, arith}
 use Rattle.xp_words.specs.Machine.{Machine}
 use Rattle.xp_words.specs.declared.reply.Stop.{Stop}
 use Rattle.xp_board.specs.Told.{PortValue}
@@ -18,7 +18,7 @@ use Rattle.course_laws.proofs.Awaiting.{AloneStays, NobodyWaitedFor}
 use Rattle.script_law.specs.Elements.{performed}
 use Rattle.script_law.specs.Values.{Solo}
 use Rattle.solo_ports.specs.Coming.{Comes}
-use Rattle.solo_ports.specs.Standing.{Clean, Fair, IsSettled, KeepsTable, Stands, whose}
+use Rattle.solo_ports.specs.Standing.{Clean, Fair, IsSettled, KeepsTable, whose}
 use Rattle.solo_pins.specs.Performing.{IsOnTables, IsPerformed, KeepsPin, KeepsTop}
 use Rattle.solo_pins.proofs.Basing.{Starts, sets_base}
 use Rattle.solo_pins.proofs.Beginning.{begins_clean, begins_kept}

@@ -1,45 +1,39 @@
 -- A pin comes to its plain meaning, or is paused by the gate and will go on.
-use Rattle.std.proofs.Common.{◌≡◌, ◌≢◌, ◌⊎◌, ℕ, ◌<◌, ◌≤◌, ◌==◌, ◌&&◌, if◌then◌else◌, Bool, true, false, List, Option, Some, None, Result, Ok, Err, IsTrue, refl, sym, ap, ◌∙◌, subst, inl, inr, arith}
-use Rattle.std.proofs.lemmas.Bool.{cases_Bool}
-use Rattle.std.proofs.lemmas.Bool.Decides.{nat_tests}
+use Rattle.std.proofs.Common.{◌≡◌, ℕ, ◌<◌, ◌≤◌, true, false, List, Some, None, Ok, Err, IsTrue, sym, ap, ◌∙◌, subst}
 use Rattle.xp_words.specs.KindWords.{is_kind, kind_fields, kind_write}
-use Rattle.xp_words.specs.Machine.{IsMachine, Machine}
-use Rattle.xp_words.specs.PageTypes.{is_table, type_number}
+use Rattle.xp_words.specs.Machine.{Machine}
+use Rattle.xp_words.specs.PageTypes.{is_table}
 use Rattle.xp_words.specs.declared.kind.KindWord.{KindWord}
 use Rattle.xp_words.specs.declared.place.Place.TheVariants.{Kind}
-use Rattle.xp_words.specs.declared.reply.Pause.TheVariants.{Due}
-use Rattle.xp_words.specs.declared.reply.Refusal.TheVariants as refusals
 use Rattle.xp_words.specs.declared.reply.Stop.{Stop}
-use Rattle.xp_words.specs.declared.reply.Stop.TheVariants.{Refused, Paused}
 use Rattle.xp_board.specs.declared.step.Act.TheVariants.{Load}
 use Rattle.xp_board.specs.declared.step.StepKind.TheVariants as kinds
 use Rattle.xp_board.specs.Told.{Post, PortValue, is_telling, told_word}
-use Rattle.xp_board.proofs.EntryWords.{type_same}
 use Rattle.step_maker.specs.Answers.{Deed, Serves}
 use Rattle.step_maker.specs.Asked.{Request}
 use Rattle.step_maker.specs.Holds.{Rests}
 use Rattle.step_maker.specs.Moves.{Came}
-use Rattle.step_maker.proofs.Coming.{came_post, came_trans, moves_came}
+use Rattle.step_maker.proofs.Coming.{came_post, moves_came}
 use Rattle.step_maker.proofs.Piecing.{serves_came}
 use Rattle.step_maker.proofs.Telling.{came_telling, load_tells, told_there}
 use Rattle.answer_laws.proofs.Shared.{alone_telling}
 use Rattle.kind_words.proofs.KindWriting.{fields_write}
 use Rattle.partial_state.specs.Levels.{level_type}
-use Rattle.partial_state.proofs.LevelFacts.{level_type-number, level_type-table}
+use Rattle.partial_state.proofs.LevelFacts.{level_type-table}
 use Rattle.table_words.specs.Pins.{pinned_kind}
 use Rattle.table_words.proofs.PinWords.{pinned_is}
 use Rattle.mmuext_ops.specs.Course.{PinEnds, SawKind, SetsPin, is_pinned, lost, pinned, raced, seen}
-use Rattle.table_law.specs.Alone.{PlainOutcome, alone, take_reference}
+use Rattle.table_law.specs.Alone.{PlainOutcome, alone}
 use Rattle.table_law.specs.Plain.{Describes, Plain, sober, with_kind}
 use Rattle.table_law.proofs.Describing.{sober_live}
 use Rattle.table_twins.proofs.Entering.{described_leaves}
 use Rattle.table_twins.proofs.Typing.{live_sober}
 use Rattle.course_laws.proofs.Awaiting.{AloneStays, alone_orderly}
 use Rattle.course_laws.proofs.Completing.{described_kind}
-use Rattle.script_law.specs.Frames.{is_pinned_as, pin}
-use Rattle.script_law.specs.Values.{Solo, IsPinned, Outcome, behind, behind_by, did, looked_by, stopped, with_frames}
+use Rattle.script_law.specs.Frames.{is_pinned_as}
+use Rattle.script_law.specs.Values.{Solo, Outcome, behind, behind_by, did, with_frames}
 use Rattle.solo_ports.specs.Coming.{IsDoneSo}
-use Rattle.solo_ports.specs.Standing.{Clean, IsSettled, Stands, nothing, whose}
+use Rattle.solo_ports.specs.Standing.{Clean, IsSettled, Stands, nothing}
 use Rattle.solo_ports.proofs.Unkept.{unkept_alone, unkept_kind}
 use Rattle.solo_pins.proofs.Acquired.{IsHeld, held}
 use Rattle.solo_pins.proofs.Flushing.{done_so}

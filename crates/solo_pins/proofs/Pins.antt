@@ -1,11 +1,10 @@
 -- Whole pins: from where nothing is left, and from where the gate paused one.
-use Rattle.std.proofs.Common.{◌≡◌, ◌≢◌, ◌⊎◌, ℕ, ◌<◌, ◌≤◌, ◌==◌, ◌&&◌, if◌then◌else◌, Bool, true, false, List, [], Option, Some, None, Result, Ok, Err, refl, sym, ap, ◌∙◌, subst, inl, inr, arith}
+use Rattle.std.proofs.Common.{◌≡◌, ◌⊎◌, ℕ, ◌≤◌, if◌then◌else◌, Bool, true, false, List, Option, Some, None, Result, Ok, Err, refl, sym, ap, ◌∙◌, subst, inl, inr, arith}
 use Rattle.std.proofs.lemmas.Bool.Decides.{nat_tests}
 use Rattle.xp_words.specs.KindWords.{kind_fields}
 use Rattle.xp_words.specs.Machine.{IsMachine, Machine}
 use Rattle.xp_words.specs.PageTypes.{type_number}
 use Rattle.xp_words.specs.declared.kind.KindWord.{KindWord}
-use Rattle.xp_words.specs.declared.place.Place.TheVariants.{Kind}
 use Rattle.xp_words.specs.declared.reply.Pause.TheVariants.{Due}
 use Rattle.xp_words.specs.declared.reply.Refusal.TheVariants as refusals
 use Rattle.xp_words.specs.declared.reply.Stop.{Stop}
@@ -13,7 +12,6 @@ use Rattle.xp_words.specs.declared.reply.Stop.TheVariants.{Refused, Paused}
 use Rattle.xp_board.specs.Readings.{domain_of}
 use Rattle.xp_board.specs.Told.{Post, PortValue, is_telling, told_word}
 use Rattle.xp_board.proofs.EntryWords.{type_same}
-use Rattle.step_maker.specs.Holds.{FlushedSame}
 use Rattle.step_maker.specs.Moves.{Came}
 use Rattle.step_maker.specs.Plain.{Words}
 use Rattle.step_maker.proofs.Coming.{came_post, came_self, came_trans, moves_came}
@@ -22,7 +20,6 @@ use Rattle.answer_laws.proofs.Shared.{alone_telling}
 use Rattle.partial_state.specs.Levels.{level_type}
 use Rattle.partial_state.proofs.LevelFacts.{level_type-number}
 use Rattle.table_entries.specs.Acquiring.{Acquired, GaveRef, GotRef}
-use Rattle.table_bases.specs.Asking.{NamesInFirst}
 use Rattle.mmuext_ops.specs.Course as given_up
 use Rattle.mmuext_ops.specs.Course.{GivenUp, IsPinnedAs, PinEnds, Pinned, SawKind, acquired, is_pinned, lost, named, pinned, pinned_before, raced, refused, seen, shared, unreferred}
 use Rattle.table_entries.proofs.Shared.{gave_came}
@@ -153,15 +150,15 @@ module _ (stays : AloneStays) (v w : PortValue) (x : Solo) (f level : ℕ) (awai
     stopped_by answers (Refused y) a got (inr comes) =
         by_mark false (IsRefusedSo w y) none free
         (refused_so stays v w x d f level stands (ext_request n v.post.vcpu d (Pin f level) awaited (Err (Refused y))) a.serves.0 a.serves.2 (record { destroys = refl; grants = refl; pages = refl })
-            (sets_nothing n v.post.vcpu (Pin f level) (Err (Refused y)) a.serves.0 a.serves.1 (low, high) tt) a.rests (olds v w f level settled (Err (Refused y)) a.hand) y (marks f) comes)
+        (sets_nothing n v.post.vcpu (Pin f level) (Err (Refused y)) a.serves.0 a.serves.1 (low, high) tt) a.rests (olds v w f level settled (Err (Refused y)) a.hand) y (marks f) comes)
     stopped_by answers (Paused y) a got (inr comes) = absurd comes
     stopped_by answers (Paused y) a got (inl due) =
         let r = ext_request n v.post.vcpu d (Pin f level) awaited (Err (Paused y)) in
         let came = serves_came v w r a.serves.0 a.serves.2 in
         let keeps = b.keeps c answers before same (subst (λ (e : Stop). Acquired c f d level w answers (Err e)) (is_due (Paused y) due) got) (alive answers (Err (Paused y)) a)
-            (stands_stay stays v w x p r a.serves.0 stands a.serves.2 (record { destroys = refl; grants = refl; pages = refl }) (sets_nothing n v.post.vcpu (Pin f level) (Err (Paused y)) a.serves.0 a.serves.1 (low, high) tt) a.rests
-                (olds v w f level settled (Err (Paused y)) a.hand) stands.unkept)
-            (first_there stays v w x stands came a.rests 0 (first_same v w a.hand settled.first)) in
+        (stands_stay stays v w x p r a.serves.0 stands a.serves.2 (record { destroys = refl; grants = refl; pages = refl }) (sets_nothing n v.post.vcpu (Pin f level) (Err (Paused y)) a.serves.0 a.serves.1 (low, high) tt) a.rests
+        (olds v w f level settled (Err (Paused y)) a.hand) stands.unkept)
+        (first_there stays v w x stands came a.rests 0 (first_same v w a.hand settled.first)) in
         inr (subst (λ (o : Post). KeepsTable f (domain_of o.machine o.vcpu) level w x) (sym (came_post v w came)) keeps)
 
     -- had: it is pinned
@@ -171,12 +168,12 @@ module _ (stays : AloneStays) (v w : PortValue) (x : Solo) (f level : ℕ) (awai
         let had = had_by e (b.comes c e answers (Ok f) before same after got) in
         by_mark false (IsDoneSo w) none free
         (pin_done stays v w x d f level stands low high free settled (ext_request n v.post.vcpu d (Pin f level) awaited (Ok tt)) a.serves.0 a.serves.2 (record { destroys = refl; grants = refl; pages = refl })
-            (sets_nothing n v.post.vcpu (Pin f level) (Ok tt) a.serves.0 a.serves.1 (low, high) tt) a.rests e came had.0 had.1 (lent n d f p none).inside (first_same v w a.hand settled.first) (olds v w f level settled (Ok tt) a.hand) ends)
+        (sets_nothing n v.post.vcpu (Pin f level) (Ok tt) a.serves.0 a.serves.1 (low, high) tt) a.rests e came had.0 had.1 (lent n d f p none).inside (first_same v w a.hand settled.first) (olds v w f level settled (Ok tt) a.hand) ends)
     ends_so answers (Err stop) e a got after ends =
         let came = came_trans v c e before (acquired_came c f d level e answers (Ok f) got) in
         let had = had_by e (b.comes c e answers (Ok f) before same after got) in
         absurd (pin_stops stays v w x d f level stands low high free settled (ext_request n v.post.vcpu d (Pin f level) awaited (Err stop)) a.serves.0 a.serves.2 (mild_by stop)
-            (sets_nothing n v.post.vcpu (Pin f level) (Err stop) a.serves.0 a.serves.1 (low, high) tt) a.rests e came had.0 had.1 (lent n d f p none).inside stop ends)
+        (sets_nothing n v.post.vcpu (Pin f level) (Err stop) a.serves.0 a.serves.1 (low, high) tt) a.rests e came had.0 had.1 (lent n d f p none).inside stop ends)
 
 -- ---- from where nothing is left
 module _ (stays : AloneStays) (law : FirstComes) (v w : PortValue) (x : Solo) (f level : ℕ) (awaited : Option ℕ) (low : 1 ≤ level) (high : level ≤ 4) (clean : Clean v x) (settled : IsSettled v) (fair : Fair v w)

@@ -1,5 +1,5 @@
 -- The steps from one port to another are one list; so what is said of a call's steps is said of those up to any port on its way.
-use Rattle.std.proofs.Common.{◌≡◌, ◌≢◌, ℕ, List, [], ◌∷◌, ◌++◌, Option, IsTrue, refl, sym, ap, ◌∙◌, subst}
+use Rattle.std.proofs.Common.{◌≡◌, List, [], ◌∷◌, ◌++◌, IsTrue, refl, sym, ap, ◌∙◌, subst}
 use Rattle.std.proofs.lemmas.List.{append_cancel_right}
 use Rattle.xp_words.specs.Machine.{Machine}
 use Rattle.xp_words.specs.Places.{place_at, sizes_of, is_place}
@@ -7,7 +7,7 @@ use Rattle.xp_words.proofs.PlaceLaws.{place_back}
 use Rattle.xp_board.specs.declared.holdings.Holdings.{Holdings}
 use Rattle.xp_board.specs.declared.holdings.Made.{Made}
 use Rattle.xp_board.specs.Told.{Post, PortValue}
-use Rattle.step_maker.specs.Moves.{Came, Met, Moment, MovesBy, Ran, moved, step_at}
+use Rattle.step_maker.specs.Moves.{Came, Moment, Ran, moved, step_at}
 use Rattle.step_maker.specs.Visits.{Visit, visit_of, visits}
 use Rattle.step_maker.proofs.Coming.{ran_more, ran_post}
 use Rattle.step_maker.proofs.Noting.{made_now, moves_steps}
@@ -68,7 +68,7 @@ same_runs v w z (x ∷ xs) (y ∷ ys) a b e =
     let rest = same_runs v a.0 b.0 xs ys a.1 b.1 (tail_of (visit_of x) (visit_of y) (visits xs) (visits ys) e) in
     let hand = ap (λ (u : PortValue). u.holdings) rest.port in
     let moment : x ≡ y =
-        ap (moment_at (visit_of x)) a.2.hand ∙ ap (λ (u : PortValue). moment_at (visit_of x) u.holdings) rest.port ∙ ap (λ s. moment_at s b.0.holdings) one ∙ sym (ap (moment_at (visit_of y)) b.2.hand) in
+    ap (moment_at (visit_of x)) a.2.hand ∙ ap (λ (u : PortValue). moment_at (visit_of x) u.holdings) rest.port ∙ ap (λ s. moment_at s b.0.holdings) one ∙ sym (ap (moment_at (visit_of y)) b.2.hand) in
     record {
       list = ap (λ m. m ∷ xs) moment ∙ ap (λ ms. y ∷ ms) rest.list;
       port =

@@ -1,5 +1,5 @@
 -- How a port stands behind an element that serves a request.
-use Rattle.std.proofs.Common.{◌≡◌, ℕ, ◌<◌, List, length, Option, Some, None, sym, ap, ◌∙◌, subst}
+use Rattle.std.proofs.Common.{◌≡◌, ℕ, ◌<◌, List, length, Some, None, sym, ap, ◌∙◌, subst}
 use Rattle.xp_words.specs.declared.place.Place.{Place}
 use Rattle.xp_board.specs.Lists.{Member}
 use Rattle.xp_board.specs.Told.{Post, PortValue, told_word}

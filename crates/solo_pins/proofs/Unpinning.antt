@@ -1,5 +1,5 @@
 -- An unpin comes to its plain meaning; what its release leaves unfinished is settled by the next call.
-use Rattle.std.proofs.Common.{◌≡◌, ◌≢◌, ◌⊎◌, ℕ, ◌+◌, ◌<◌, ◌≤◌, if◌then◌else◌, Bool, true, false, List, Option, Some, None, Result, Ok, Err, IfErr, IsTrue, refl, sym, ap, ◌∙◌, subst, inl, inr, arith}
+use Rattle.std.proofs.Common.{◌≡◌, ◌⊎◌, ℕ, ◌<◌, ◌≤◌, if◌then◌else◌, Bool, true, false, List, Option, Some, None, Result, Ok, Err, IfErr, IsTrue, refl, sym, ap, ◌∙◌, subst, inl, inr, arith}
 use Rattle.std.proofs.lemmas.Bool.Decides.{nat_tests}
 use Rattle.xp_words.specs.KindWords.{has_form, is_kind, kind_fields, kind_write}
 use Rattle.xp_words.specs.Machine.{IsMachine, Machine}
@@ -12,10 +12,8 @@ use Rattle.xp_words.specs.declared.reply.Pause.TheVariants.{Due}
 use Rattle.xp_words.specs.declared.reply.Refusal.{Refusal}
 use Rattle.xp_words.specs.declared.reply.Refusal.TheVariants as refusals
 use Rattle.xp_words.specs.declared.reply.Stop.{Stop}
-use Rattle.xp_words.specs.declared.reply.Stop.TheVariants.{Refused, Paused}
-use Rattle.xp_board.specs.declared.step.Act.TheVariants.{Cas, Load}
+use Rattle.xp_words.specs.declared.reply.Stop.TheVariants.{Paused}
 use Rattle.xp_board.specs.declared.step.StepKind.TheVariants as kinds
-use Rattle.xp_board.specs.Readings.{is_live}
 use Rattle.xp_board.specs.Told.{Post, PortValue, is_telling, told_word}
 use Rattle.step_maker.specs.Answers.{Deed, Serves}
 use Rattle.step_maker.specs.Asked.{Request}
@@ -25,13 +23,11 @@ use Rattle.step_maker.specs.Plain.{Words}
 use Rattle.step_maker.proofs.Coming.{came_post, came_trans, moves_came}
 use Rattle.step_maker.proofs.Telling.{came_telling, told_there}
 use Rattle.step_maker.proofs.Piecing.{serves_came}
-use Rattle.answer_laws.specs.Alone.{IsAlone}
 use Rattle.answer_laws.proofs.Shared.{alone_telling}
-use Rattle.frame_words.specs.Plain.{got}
 use Rattle.kind_words.proofs.KindWriting.{fields_write}
 use Rattle.partial_state.specs.Levels.{level_type}
 use Rattle.table_words.specs.OldWords.{old_place}
-use Rattle.table_words.specs.declared.old_words.OldWord.TheVariants.{First, Second}
+use Rattle.table_words.specs.declared.old_words.OldWord.TheVariants.{First}
 use Rattle.table_words.specs.Pins.{unpinned_kind}
 use Rattle.table_words.proofs.PinWords.{pinned_lives, unpinned_is}
 use Rattle.table_entries.specs.Acquiring.{GaveRef, GotRef}
@@ -51,16 +47,16 @@ use Rattle.release_laws.specs.Pauses.{IsLeft}
 use Rattle.pin_laws.proofs.Lending.{got_there}
 use Rattle.pin_laws.proofs.Looking.{back_came, kind_apart, looked_came, seen_word, words_back}
 use Rattle.script_law.specs.Elements.{performed}
-use Rattle.script_law.specs.Frames.{unpin, unpin_by}
+use Rattle.script_law.specs.Frames.{unpin_by}
 use Rattle.script_law.specs.Values.{Solo, Frames, IsUnpinned, Outcome, did, looked_by, stopped, with_frames}
-use Rattle.solo_ports.specs.Coming.{Comes, IsDoneSo, IsRefusedSo, IsWhy}
+use Rattle.solo_ports.specs.Coming.{Comes, IsDoneSo, IsRefusedSo}
 use Rattle.solo_ports.specs.Standing.{Clean, IsSettled, IsUnkept, Owes, Stands, a_release, nothing, whose}
 use Rattle.solo_pins.specs.Performing.{IsPerformed, KeepsPin}
 use Rattle.solo_pins.proofs.Given.{PausedReleaseLeaves, ReleaseLeaves}
 use Rattle.solo_pins.proofs.Standing.{IsMild, SetsNothing, clean_same, second_same, stands_stay}
 use Rattle.solo_ports.proofs.Unkept.{unkept_kind, unkept_let_go}
 use Rattle.solo_pins.proofs.Deeds.{sets_nothing}
-use Rattle.solo_pins.proofs.Aside.{Away, away_moves, ref_away, released_away}
+use Rattle.solo_pins.proofs.Aside.{away_moves, ref_away, released_away}
 use Rattle.solo_pins.proofs.Looking as looking
 use Rattle.solo_pins.proofs.Looking.{Unreferred, describes_back, no_refusal, referred, telling_seen, words_seen}
 use Rattle.solo_pins.proofs.Flushing.{done_so}
@@ -257,8 +253,8 @@ module _ (stays : AloneStays) (release : ReleaseLeaves) (paused : PausedReleaseL
       let u = looking.unreferred v w d f p stop telling clean.frames ref in
       subst (λ (e : Stop). Comes (KeepsPin (Unpin f)) w x meaning (Err e)) (sym u.stops)
       (refused_looked n d f w x u.refusal u.cause (λ s. unpin_by f s (s.frames.kinds f)) u.is u.same (clean_same stays v w x clean u.came u.leaves a.rests))
-  unpins _ _ a (unpinned_before b c y ref saw off gave) = not_pinned b c y ref saw a.rests off gave
-  unpins _ _ a (raced b c e y found ref saw on takes other off gave) = absurd (other (found_same b c y ref saw e found takes))
+  unpins _ _ a (unpinned_before b c y ref saw free gave) = not_pinned b c y ref saw a.rests free gave
+  unpins _ _ a (raced b c e y found ref saw on takes other free gave) = absurd (other (found_same b c y ref saw e found takes))
   unpins _ _ a (lost b c e y found ref saw on takes other more gave) = absurd (other (found_same b c y ref saw e found takes))
   unpins _ _ a (released b c g e y answers answer ref saw on takes gave rel due) =
       let s = a.serves in

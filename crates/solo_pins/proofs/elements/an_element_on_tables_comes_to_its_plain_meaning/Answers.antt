@@ -1,5 +1,4 @@
 use Rattle.std.proofs.Common.{◌≡◌, subst}
-use Rattle.solo_ports.specs.Standing.{whose}
 use Rattle.solo_pins.specs.Performing.{IsPerformed}
 use Rattle.solo_pins.proofs.Meaning.{element_comes}
 use Rattle.solo_pins.proofs.elements.an_element_on_tables_comes_to_its_plain_meaning.Goals as goal
