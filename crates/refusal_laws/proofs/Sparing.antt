@@ -1,9 +1,8 @@
 -- A paused acquisition touches no other words: its course, link by link.
-use Rattle.std.proofs.Common.{◌≡◌, ℕ, ◌-◌, Bool, true, false, List, [], ◌∷◌, None, Some, Result, Ok, Err, refl, sym, ap, ◌∙◌, subst}
+use Rattle.std.proofs.Common.{◌≡◌, ℕ, ◌-◌, Bool, true, false, List, [], ◌∷◌, Result, Ok, Err, refl, sym, ◌∙◌, subst}
 use Rattle.xp_words.specs.Entries.{demand_at}
 use Rattle.xp_words.specs.declared.kind.KindWord.{KindWord}
-use Rattle.xp_words.specs.declared.place.Place.{Place}
-use Rattle.xp_words.specs.declared.place.Place.TheVariants.{Cell, Refs}
+use Rattle.xp_words.specs.declared.place.Place.TheVariants.{Cell}
 use Rattle.xp_words.specs.declared.reply.Pause.TheVariants as pauses
 use Rattle.xp_words.specs.declared.reply.Stop.{Stop}
 use Rattle.xp_words.specs.declared.reply.Stop.TheVariants.{Refused, Paused}
@@ -14,7 +13,6 @@ use Rattle.step_maker.proofs.Telling.{came_telling, leaves, load_tells}
 use Rattle.step_maker.proofs.Visiting.{does_came}
 use Rattle.frame_words.specs.Plain.{got, put}
 use Rattle.frame_types.specs.declared.taking.Taken.{Taken}
-use Rattle.kind_words.specs.Kinds.{partial_kind}
 use Rattle.kept_marks.specs.Marks.{KeptFor}
 use Rattle.partial_state.specs.Levels.{level_type}
 use Rattle.partial_state.specs.declared.stack.TableWork.{TableWork}
@@ -25,8 +23,7 @@ use Rattle.table_entries.proofs.Shared.{gave_came, ref_came}
 use Rattle.flush_waits.specs.Waiting.{IsWait}
 use Rattle.course_laws.specs.Courses.{FindsAlive}
 use Rattle.course_laws.proofs.Unwinding.{at_home}
-use Rattle.course_laws.proofs.Walking.{again_came, entry_came, worked_came}
-use Rattle.refusal_laws.specs.Repeated.{IsUntouched}
+use Rattle.course_laws.proofs.Walking.{again_came, entry_came}
 use Rattle.refusal_laws.proofs.Untouched.{Spares, enters_spares, got_spares, kind_spares, leaves_spares, put_spares, resumes_spares, type_spares}
 
 -- From v to w these words stay, where the board tells all words.

@@ -1,6 +1,14 @@
 pub mod Calling
+pub mod Items
+pub mod Listed
 pub mod Lists
 pub mod Made
+pub mod Owning
+pub mod Pairing
+pub mod Premises
+pub mod Settling
 pub mod Steps
+pub mod Tasks
 pub mod Turning
+pub mod Untouched
 pub mod Working
