@@ -1,6 +1,9 @@
 -- An element whose acquisition is refused, or paused by the gate.
-use Rattle.std.proofs.Common.{◌≡◌, ◌⊎◌, ℕ, Some, List, refl, sym, ap, ◌∙◌, subst, inl, inr}
+use Rattle.std.proofs.Common.{◌≡◌, ◌⊎◌, ℕ, Some, Result, Err, List, refl, sym, ap, ◌∙◌, subst, inl, inr}
+use Rattle.xp_words.specs.declared.reply.Pause.TheVariants.{Due}
 use Rattle.xp_words.specs.declared.reply.Refusal.{Refusal}
+use Rattle.xp_words.specs.declared.reply.Stop.{Stop}
+use Rattle.xp_words.specs.declared.reply.Stop.TheVariants.{Paused}
 use Rattle.xp_board.specs.Told.{Post, PortValue, told_word}
 use Rattle.step_maker.specs.Answers.{Deed, Serves}
 use Rattle.step_maker.specs.Asked.{Request}
@@ -19,6 +22,13 @@ use Rattle.solo_ports.specs.Coming.{IsRefusedSo}
 use Rattle.solo_ports.specs.Standing.{IsSettled, Owes, Stands, a_release, nothing}
 use Rattle.solo_ports.proofs.Unkept.{unkept_alone}
 use Rattle.solo_pins.proofs.Standing.{IsMild, SetsNothing, second_same, stands_stay}
+
+-- ---- the answer of a call that stops
+abbrev pub as_call : Stop → Result ℕ Stop
+as_call e = Err e
+
+pub is_due : (e : Stop) → as_call e ≡ as_call (Paused Due) → e ≡ Paused Due
+is_due e is = cc
 
 -- ---- the second old word, whatever the first one names then
 pub second_by : (v w : PortValue) (f : ℕ) → IsSettled v → FlushedSame v w ⊎ NamesInFirst v w f → w.holdings.old1 ≡ Some 0

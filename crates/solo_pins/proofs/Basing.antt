@@ -21,6 +21,7 @@ use Rattle.answer_laws.proofs.Shared.{alone_telling}
 use Rattle.table_words.specs.OldWords.{old_place}
 use Rattle.table_words.specs.declared.old_words.OldWord.TheVariants.{First}
 use Rattle.table_entries.specs.Acquiring.{Acquired}
+use Rattle.flush_words.proofs.Flushed.{own_came}
 use Rattle.table_bases.specs.declared.words.Base.{Base}
 use Rattle.table_bases.specs.Asking.{LeavesBase, ServesBase, base_request, may_rise, of_base}
 use Rattle.table_bases.specs.Course.{AcquiresTop, FlushesBehind, Installed, SawClock, SetsBase, flushed, installed, spent, unacquired}
@@ -39,12 +40,12 @@ use Rattle.solo_ports.specs.Coming.{Comes, IsDoneSo}
 use Rattle.solo_ports.specs.Standing.{Clean, Fair, IsSettled, IsUnkept, KeepsTable, Stands, whose}
 use Rattle.solo_ports.proofs.Unkept.{unkept_alone}
 use Rattle.solo_pins.specs.Performing.{KeepsTop}
-use Rattle.solo_pins.proofs.Acquiring.{refused_so, second_by}
+use Rattle.solo_pins.proofs.Acquiring.{as_call, is_due, refused_so, second_by}
 use Rattle.solo_pins.proofs.Beginning.{Begins, alive_between, own_alive}
 use Rattle.solo_pins.proofs.Deeds.{missed_nothing}
 use Rattle.solo_pins.proofs.Flushing.{done_so}
 use Rattle.solo_pins.proofs.Given.{HadSpares, PausedReleaseLeaves, ReleaseLeaves}
-use Rattle.solo_pins.proofs.Installing.{clock_below, flush_came, installs, rel_came}
+use Rattle.solo_pins.proofs.Installing.{clock_below, installs, rel_came}
 use Rattle.solo_pins.proofs.Standing.{IsMild, first_same, first_there, second_same, stands_stay}
 
 mild : (d : ℕ) (new : Option ℕ) (rose : Bool) → IsMild (of_base d new rose)
@@ -56,18 +57,12 @@ mild_request v new answer = mild (domain_of v.post.machine v.post.vcpu) new (may
 
 -- the steps behind the new table
 behind_came : (u x : PortValue) → FlushesBehind u x → Came u x
-behind_came u x (flushed f) = flush_came u x f
+behind_came u x (flushed f) = own_came u x (Ok tt) f
 behind_came u x (course.FlushesBehind.spent y old look store) = came_trans u y x (moves_came u y _ _ _ _ _ look) (moves_came y x _ _ _ _ _ store)
 
 installed_came : (b w : PortValue) (which : Base) (new : Option ℕ) (more : List Bool) → Installed b w which new more → Came b w
 installed_came b w which new more a =
     came_trans b a.stored w (moves_came b a.stored _ _ _ _ _ a.stores) (came_trans a.stored a.flushed w (behind_came a.stored a.flushed a.flushes) (rel_came a.flushed w a.old more a.releases))
-
-abbrev as_call : Stop → Result ℕ Stop
-as_call e = Err e
-
-is_due : (e : Stop) → as_call e ≡ as_call (Paused Due) → e ≡ Paused Due
-is_due e is = cc
 
 -- ---- how it begins, by the new table
 abbrev pub Starts : PortValue → PortValue → Solo → Option ℕ → Type 0

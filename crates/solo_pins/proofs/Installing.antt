@@ -27,8 +27,9 @@ use Rattle.step_maker.proofs.Coming.{came_post, came_self, came_trans, moves_cam
 use Rattle.step_maker.proofs.Piecing.{serves_came}
 use Rattle.step_maker.proofs.Telling.{came_telling, told_elsewhere, told_there}
 use Rattle.answer_laws.proofs.Shared.{alone_telling}
-use Rattle.flush_words.specs.Flushing.{FlushesOwn, overtaken, ticked}
+use Rattle.flush_words.specs.Flushing.{FlushesOwn}
 use Rattle.flush_words.proofs.FlushTwin.{own_alike}
+use Rattle.flush_words.proofs.Flushed.{own_came}
 use Rattle.table_words.specs.OldWords.{old_place}
 use Rattle.table_words.specs.declared.old_words.OldWord.TheVariants.{First}
 use Rattle.table_bases.specs.declared.words.Base.{Base}
@@ -71,10 +72,6 @@ named_by n s (suc zero) w g low is e = let a = is.1 in let b : nat_le w n.frames
 named_by n s (suc (suc k)) w g low is e = absurd (omega (arith, low))
 
 -- ---- the flush
-pub flush_came : (v w : PortValue) → FlushesOwn v w (Ok tt) → Came v w
-flush_came v w (ticked a b clock before off look tick store) = came_trans v a w (moves_came v a _ _ _ _ _ look) (came_trans a b w (moves_came a b _ _ _ _ _ tick) (moves_came b w _ _ _ _ _ store))
-flush_came v w (overtaken a b clock found before off other look tick store) = came_trans v a w (moves_came v a _ _ _ _ _ look) (came_trans a b w (moves_came a b _ _ _ _ _ tick) (moves_came b w _ _ _ _ _ store))
-
 -- a look at the clock finds it below its last value, where it goes on
 pub clock_below : (v u y w : PortValue) (x : ℕ) → Came v u → Came y w → ClockGoesOn v w → Moves u y Clock Load kinds.Look None x → x ≢ last_clock
 clock_below v u y w x before after goes look =
@@ -127,10 +124,10 @@ module _ (stays : AloneStays) (release : ReleaseLeaves) (paused : PausedReleaseL
     flush = flushes_so v stored flushed_at w came_s after goes flushes
 
     after_s : Came stored w
-    after_s = came_trans stored flushed_at w (flush_came stored flushed_at flush) after
+    after_s = came_trans stored flushed_at w (own_came stored flushed_at (Ok tt) flush) after
 
     came_f : Came v flushed_at
-    came_f = came_trans v stored flushed_at came_s (flush_came stored flushed_at flush)
+    came_f = came_trans v stored flushed_at came_s (own_came stored flushed_at (Ok tt) flush)
 
     post_f : flushed_at.post ≡ v.post
     post_f = came_post v flushed_at came_f

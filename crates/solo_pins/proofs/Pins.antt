@@ -41,7 +41,7 @@ use Rattle.script_law.specs.Values.{Solo, IsPinned, Outcome, behind, looked_by, 
 use Rattle.solo_ports.specs.Coming.{Comes, IsDoneSo, IsRefusedSo}
 use Rattle.solo_ports.specs.Standing.{Clean, Fair, IsSettled, KeepsTable, Stands, nothing, whose}
 use Rattle.solo_pins.specs.Performing.{IsPerformed, KeepsPin}
-use Rattle.solo_pins.proofs.Acquiring.{refused_so, second_by}
+use Rattle.solo_pins.proofs.Acquiring.{as_call, is_due, refused_so, second_by}
 use Rattle.solo_pins.proofs.Beginning.{Begins, alive_between, begins_clean, begins_kept, own_alive}
 use Rattle.solo_pins.proofs.Deeds.{sets_nothing}
 use Rattle.solo_pins.proofs.Given.{CallsTelling, FirstComes, FoundDead, LaterComes, LeavesKept}
@@ -98,12 +98,6 @@ ends_came v w f level _ (raced u y x found saw off sets other on gives) = came_t
 ends_came v w f level _ (lost u y x found saw off sets other more gives) = came_trans v u w (moves_came v u _ _ _ _ _ saw) (came_trans u y w (moves_came u y _ _ _ _ _ sets) (gives_came y w f level true gives))
 
 -- ---- behind the look
-abbrev as_call : Stop → Result ℕ Stop
-as_call e = Err e
-
-is_due : (e : Stop) → as_call e ≡ as_call (Paused Due) → e ≡ Paused Due
-is_due e is = cc
-
 module _ (stays : AloneStays) (v w : PortValue) (x : Solo) (f level : ℕ) (awaited : Option ℕ) (stands : Stands v x) (settled : IsSettled v) (low : 1 ≤ level) (high : level ≤ 4) (own_lives : x.lives ((whose v).domain) ≡ 0)
     (b : Begins v w x (whose v).domain f level) where
   abbrev n : Machine
