@@ -1,4 +1,5 @@
 pub mod Calling
+pub mod Dropping
 pub mod Extending
 pub mod Extents
 pub mod Items
