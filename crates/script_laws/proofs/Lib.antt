@@ -1,6 +1,7 @@
 pub mod Calling
 pub mod Dropping
 pub mod Extending
+pub mod ExtLaws
 pub mod Extents
 pub mod Items
 pub mod Listed
