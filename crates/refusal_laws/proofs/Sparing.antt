@@ -160,3 +160,17 @@ acquired_by v f owner level _ _ _ same telling (finished u x y w progress own t 
 
 pub acquired_sparing : (v : PortValue) (f owner level : ℕ) (w : PortValue) (answers : List Bool) → is_telling v ≡ true → Acquired v f owner level w answers (Err (Paused pauses.Due)) → FindsAlive v w owner → Sparing v w
 acquired_sparing v f owner level w answers telling acquired finds = acquired_by v f owner level w answers (Err (Paused pauses.Due)) refl telling acquired finds
+
+-- one that is had
+had_by : (v : PortValue) (f owner level : ℕ) (w : PortValue) (answers : List Bool) (answer : Result ℕ Stop) (g : ℕ) → answer ≡ Ok g → Acquired v f owner level w answers answer → Sparing v w
+had_by v f owner level _ _ _ g same (unreferred w stop ref) = absurd cc
+had_by v f owner level _ _ _ g same (untyped u x w stop ref type back) = absurd cc
+had_by v f owner level _ _ _ g same (counted u w ref type) = sparing_then v u w (ref_sparing v u f owner _ ref) (took_sparing u w f owner level _ type)
+had_by v f owner level _ _ _ g same (waiting u x w own stamp stop ref type left) = absurd cc
+had_by v f owner level _ _ _ g same (unfinished u x y w progress own us answers stop ref type work left) = absurd cc
+had_by v f owner level _ _ _ g same (finished u x y w progress own t answers ref type work full made) =
+    sparing_then v x w (sparing_then v u x (ref_sparing v u f owner _ ref) (took_sparing u x f owner level _ type))
+    (sparing_then x y w (worked_sparing owner x (outermost_table f level progress own) y (t ∷ []) answers (Ok tt) work tt) (live_sparing y w t made))
+
+pub had_sparing : (v : PortValue) (f owner level : ℕ) (w : PortValue) (answers : List Bool) (g : ℕ) → Acquired v f owner level w answers (Ok g) → Sparing v w
+had_sparing v f owner level w answers g acquired = had_by v f owner level w answers (Ok g) g refl acquired

@@ -1,11 +1,15 @@
 pub mod Calling
+pub mod Extending
 pub mod Extents
 pub mod Items
 pub mod Listed
 pub mod Lists
 pub mod Made
+pub mod Owning
+pub mod Pairing
 pub mod Premises
 pub mod Settling
+pub mod Single
 pub mod Steps
 pub mod Tasks
 pub mod Turning

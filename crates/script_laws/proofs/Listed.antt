@@ -16,8 +16,6 @@ use Rattle.solo_ports.specs.Coming.{Comes, IsDoneSo, IsRefusedSo, IsWhy}
 use Rattle.solo_ports.specs.Standing.{Owes, Stands}
 use Rattle.vcpu_turn.specs.Lists.{Fitting}
 use Rattle.vcpu_turn.specs.Settling.{SettlesFirst}
-use Rattle.vcpu_turn.specs.Settling as settling
-use Rattle.vcpu_turn.proofs.Hindering.{settles_came}
 use Rattle.script_laws.specs.Logged.{AreLines, IsLine}
 use Rattle.script_laws.specs.Plain.{PlainList}
 use Rattle.script_laws.proofs.Items.{IsAhead, IsKeeping, LawOf, OwesF, first_comes}
@@ -75,29 +73,30 @@ less_some (x ∷ es) (suc k) e is = let l = less_some es k e is in omega arith
 same_some : {E : Type 0} (x y : E) (o : Option E) → o ≡ Some x → o ≡ Some y → x ≡ y
 same_some x y o a b = let k = sym a ∙ b in cc
 
--- ---- the law of each element
-module _ (stays : AloneStays) (neither : NeitherLostNorBusy) (v0 : PortValue) (Good : Solo → Type 0) (good_on : (s t : Solo) → SameDomains s t → Good s → Good t) (op : ℕ) {E : Type 0} (es : List E) (P : ℕ → E → PortValue → PortValue → List Bool → Result (Unit {0}) Stop → Type 0) (Kept : E → PortValue → Solo → Type 0) (plain : E → Solo → Outcome) (fits : Fitting)
-    (keeping : (e : E) → IsKeeping stays neither v0 Good (Kept e)) (law : (k : ℕ) (e : E) → slice_get es k ≡ Some e → LawOf stays neither v0 Good (P k e) (Kept e) (plain e)) (came : (k : ℕ) (e : E) (u w : PortValue) (asked : List Bool) (r : Result (Unit {0}) Stop) → P k e u w asked r → Came u w)
-    (domains : (e : E) (s : Solo) → SameDomains s (plain e s).left) (fit : (k : ℕ) (e : E) (u w : PortValue) (asked : List Bool) (r : Result (Unit {0}) Stop) → slice_get es k ≡ Some e → fits k u w asked r → SettlesFirst (P k e) u w asked r)
-    (some : (k : ℕ) (u w : PortValue) (asked : List Bool) (r : Result (Unit {0}) Stop) → fits k u w asked r → (e : E) × (slice_get es k ≡ Some e)) where
-  abbrev pub one : ℕ → E → Solo → Outcome
-  one k e s = plain e s
-
-  abbrev pub OwesIt : PortValue → Solo → Type 0
-  OwesIt = OwesF stays neither v0 Good
-
+-- ---- what is kept of the element that stands next
+module _ (stays : AloneStays) (neither : NeitherLostNorBusy) (v0 : PortValue) (Good : Solo → Type 0) {E : Type 0} (es : List E) (Kept : E → PortValue → Solo → Type 0) where
   pub record KeptIn (k : ℕ) (v : PortValue) (s : Solo) : Type 0 where
     pub ahead : IsAhead stays neither v0 Good v s
     pub element : E
     pub at : slice_get es k ≡ Some element
     pub kept : Kept element v s
 
-  abbrev pub gives_none : (k : ℕ) (u w : PortValue) (asked : List Bool) (r : Result (Unit {0}) Stop) → fits k u w asked r → List LogLine
-  gives_none k u w asked r f = []
+-- no element logs a line
+abbrev pub gives_none : (fits : Fitting) (k : ℕ) (u w : PortValue) (asked : List Bool) (r : Result (Unit {0}) Stop) → fits k u w asked r → List LogLine
+gives_none fits k u w asked r f = []
 
-  came_first : (k : ℕ) (e : E) (u w : PortValue) (asked : List Bool) (r : Result (Unit {0}) Stop) → SettlesFirst (P k e) u w asked r → Came u w
-  came_first k e u _ _ _ (settling.SettlesFirst.unsettled w answers stop settles) = settles_came u w answers (Err stop) settles
-  came_first k e u _ _ _ (settling.SettlesFirst.performed y w early answers answer settles does) = came_trans u y w (settles_came u y early (Ok tt) settles) (came k e y w answers answer does)
+-- ---- the law of each element
+module _ (stays : AloneStays) (neither : NeitherLostNorBusy) (v0 : PortValue) (Good : Solo → Type 0) (good_on : (s t : Solo) → SameDomains s t → Good s → Good t) (op : ℕ) {E : Type 0} (es : List E) (P : ℕ → E → PortValue → PortValue → List Bool → Result (Unit {0}) Stop → Type 0) (Kept : E → PortValue → Solo → Type 0) (plain : E → Solo → Outcome) (fits : Fitting)
+    (keeping : (e : E) → IsKeeping stays neither v0 Good (Kept e)) (law : (k : ℕ) (e : E) → slice_get es k ≡ Some e → LawOf stays neither v0 Good (P k e) (Kept e) (plain e)) (came : (k : ℕ) (u w : PortValue) (asked : List Bool) (r : Result (Unit {0}) Stop) → fits k u w asked r → Came u w)
+    (domains : (e : E) (s : Solo) → SameDomains s (plain e s).left) (fit : (k : ℕ) (e : E) (u w : PortValue) (asked : List Bool) (r : Result (Unit {0}) Stop) → slice_get es k ≡ Some e → fits k u w asked r → SettlesFirst (P k e) u w asked r) where
+  abbrev pub one : ℕ → E → Solo → Outcome
+  one k e s = plain e s
+
+  abbrev pub OwesIt : PortValue → Solo → Type 0
+  OwesIt = OwesF stays neither v0 Good
+
+  abbrev KeptHere : ℕ → PortValue → Solo → Type 0
+  KeptHere k v s = KeptIn stays neither v0 Good es Kept k v s
 
   -- behind an element
   ahead_of : (e : E) (u w : PortValue) (s : Solo) → IsAhead stays neither v0 Good u s → Came u w → IsAhead stays neither v0 Good w (plain e s).left
@@ -107,7 +106,7 @@ module _ (stays : AloneStays) (neither : NeitherLostNorBusy) (v0 : PortValue) (G
   ahead_on u w s a on = record { came = came_trans v0 u w a.came on; good = a.good }
 
   abbrev Ends : ℕ → Solo → Outcome → PortValue → Result (Unit {0}) Stop → Type 0
-  Ends k s o w r = ItemComes (plain_list one) es IsWhy (FairFrom v0) OwesIt KeptIn KeptIn fits gives_none (AreLines op) k s o [] w r
+  Ends k s o w r = ItemComes (plain_list one) es IsWhy (FairFrom v0) OwesIt KeptHere KeptHere fits (gives_none fits) (AreLines op) k s o [] w r
 
   comes_by : (k : ℕ) (e : E) (u w : PortValue) (s : Solo) (r : Result (Unit {0}) Stop) → slice_get es k ≡ Some e → IsAhead stays neither v0 Good u s → Came u w → Comes (Kept e) w s (plain e s) r → Ends k s (plain e s) w r
   unfolding plain_list
@@ -116,25 +115,22 @@ module _ (stays : AloneStays) (neither : NeitherLostNorBusy) (v0 : PortValue) (G
   comes_by k e u w s (Err (Paused p)) at a on (inl owes) = inl (record { ahead = ahead_on u w s a on; owes = owes })
   comes_by k e u w s (Err (Paused p)) at a on (inr kept) = inr (record { ahead = ahead_on u w s a on; element = e; at = at; kept = kept })
 
-  waits_by : (k : ℕ) (e : E) (u : PortValue) (s : Solo) → slice_get es k ≡ Some e → OwesIt u s ⊎ KeptIn k u s → IsAhead stays neither v0 Good u s × (Owes u s ⊎ Kept e u s)
+  waits_by : (k : ℕ) (e : E) (u : PortValue) (s : Solo) → slice_get es k ≡ Some e → OwesIt u s ⊎ KeptHere k u s → IsAhead stays neither v0 Good u s × (Owes u s ⊎ Kept e u s)
   waits_by k e u s at (inl owes) = (owes.ahead, inl owes.owes)
   waits_by k e u s at (inr kept) = (kept.ahead, inr (subst (λ y. Kept y u s) (same_some kept.element e (slice_get es k) kept.at at) kept.kept))
 
-  item_by : (k : ℕ) (e : E) (s : Solo) (u w : PortValue) (asked : List Bool) (r : Result (Unit {0}) Stop) → slice_get es k ≡ Some e → FairFrom v0 w → fits k u w asked r → OwesIt u s ⊎ KeptIn k u s → Ends k s (plain e s) w r
+  item_by : (k : ℕ) (e : E) (s : Solo) (u w : PortValue) (asked : List Bool) (r : Result (Unit {0}) Stop) → slice_get es k ≡ Some e → FairFrom v0 w → fits k u w asked r → OwesIt u s ⊎ KeptHere k u s → Ends k s (plain e s) w r
   item_by k e s u w asked r at fair f pending =
       let waits = waits_by k e u s at pending in
       let does = fit k e u w asked r at f in
-      comes_by k e u w s r at waits.0 (came_first k e u w asked r does) (first_comes stays neither v0 Good (P k e) (Kept e) (plain e) (keeping e) (law k e at) u w s asked r waits.0 waits.1 fair does)
+      comes_by k e u w s r at waits.0 (came k u w asked r f) (first_comes stays neither v0 Good (P k e) (Kept e) (plain e) (keeping e) (law k e at) u w s asked r waits.0 waits.1 fair does)
 
-  fits_came : (k : ℕ) (u w : PortValue) (asked : List Bool) (r : Result (Unit {0}) Stop) → fits k u w asked r → Came u w
-  fits_came k u w asked r f = let e = some k u w asked r f in came_first k e.0 u w asked r (fit k e.0 u w asked r e.1 f)
-
-  pub list_lemmas : ListLemmas (plain_list one) es IsWhy (FairFrom v0) OwesIt KeptIn KeptIn fits gives_none (AreLines op)
+  pub list_lemmas : ListLemmas (plain_list one) es IsWhy (FairFrom v0) OwesIt KeptHere KeptHere fits (gives_none fits) (AreLines op)
   unfolding plain_list
   list_lemmas =
       record {
         item = item_by;
-        back = λ k u w asked r f fair. fair_back v0 u w (fits_came k u w asked r f) fair;
+        back = λ k u w asked r f fair. fair_back v0 u w (came k u w asked r f) fair;
         inside = λ k v s kept. less_some es k kept.element kept.at;
         said_none = tt;
         said_more = λ bs cs ls ms a b. lines_more op bs cs ls ms a b;
