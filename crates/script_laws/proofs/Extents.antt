@@ -1,10 +1,10 @@
 -- Lists of extents that go on from turn to turn come to what they come to at once: from the law of one extent.
-use Rattle.std.proofs.Common.{◌≡◌, ◌⊎◌, ℕ, zero, suc, ◌+◌, ◌<◌, ◌≤◌, ◌==◌, ◌^◌, ◌%◌, ◌/◌, ◌&&◌, ◌||◌, not, nat_lt, max, if◌then◌else◌, Bool, true, false, List, [], ◌∷◌, ◌++◌, length, map, replicate, Option, Some, None, Result, Ok, Err, refl, sym, ap, ◌∙◌, subst, inl, inr, arith}
+use Rattle.std.proofs.Common.{◌≡◌, ◌⊎◌, ℕ, zero, suc, ◌<◌, ◌≤◌, ◌==◌, ◌^◌, ◌%◌, ◌/◌, ◌||◌, not, nat_lt, max, if◌then◌else◌, Bool, true, false, List, [], ◌∷◌, ◌++◌, length, map, replicate, Option, Some, None, Result, Ok, Err, refl, sym, ap, ◌∙◌, subst, inl, inr, arith}
 use Rattle.std.specs.Prelude.{drop, slice_get}
 use Rattle.std.specs.Option.{option_map}
 use Rattle.std.proofs.lemmas.Bool.{cases_Bool}
 use Rattle.std.proofs.lemmas.Bool.Decides.{nat_tests}
-use Rattle.std.proofs.lemmas.List.{append-nil, append_assoc, length-map, length-replicate}
+use Rattle.std.proofs.lemmas.List.{length-map, length-replicate}
 use Rattle.std.proofs.lemmas.Nat.{pow_pos}
 use Rattle.std.proofs.lemmas.Option.{slice_get-map}
 use Rattle.xp_words.specs.declared.reply.LogLine.{LogLine}
@@ -23,8 +23,8 @@ use Rattle.reservations.specs.declared.extents.Extent.{Extent}
 use Rattle.reservations.specs.declared.extents.Extent.TheVariants.{Decrease, Increase, Populate}
 use Rattle.course_laws.proofs.Awaiting.{AloneStays, NeitherLostNorBusy}
 use Rattle.script_law.specs.Memory.{count_in, counted_in, done_before, extents_of, list_refusal, reserve}
-use Rattle.script_law.specs.Scripts.{Answered, answered, extents_by, in_order, logged_behind, refused}
-use Rattle.script_law.specs.Values.{Line, Numbers, Outcome, Solo, Whose}
+use Rattle.script_law.specs.Scripts.{Answered, answered, extents_by, in_order, logged_behind}
+use Rattle.script_law.specs.Values.{Line, Outcome, Solo, Whose}
 use Rattle.solo_ports.specs.Coming.{IsWhy}
 use Rattle.solo_ports.specs.Standing.{Clean, Fair, IsSettled, Owes, nothing, whose}
 use Rattle.solo_memory.specs.Extents.{ComesExtent, line_of}
@@ -39,13 +39,13 @@ use Rattle.vcpu_turn.specs.declared.cpu.Progress.{Progress}
 use Rattle.vcpu_turn.proofs.Hindering.{extent_came}
 use Rattle.vcpu_turn.proofs.Listing.{did_on}
 use Rattle.script_laws.specs.Logged.{AreLines}
-use Rattle.script_laws.proofs.Items.{IsAhead, OwesF}
+use Rattle.script_laws.proofs.Items.{OwesF}
 use Rattle.script_laws.proofs.Listed.{lines_more, plain_list}
 use Rattle.script_laws.proofs.Lists.{ItemComes, ListComes, ListLemmas, Pending, list_comes}
 use Rattle.script_laws.proofs.Lists as listing
 use Rattle.script_laws.proofs.Premises.{FairFrom, fair_back, fair_on}
 use Rattle.script_laws.proofs.Settling.{owes_clean}
-use Rattle.script_laws.proofs.Tasks.{Begins, Comes, ExtentsGoing, ExtentsOn, IsTaskAnswered, Lives, own}
+use Rattle.script_laws.proofs.Tasks.{Comes, ExtentsGoing, IsTaskAnswered, Lives, own}
 use Rattle.script_laws.proofs.Untouched.{itself, reserve_keeps}
 
 -- the law of one extent
@@ -128,14 +128,14 @@ said_one op call k None = tt
 
 -- whether there are any
 some_there : {A : Type 0} (n : ℕ) (x y : A) → 0 < n → (if n == 0 then x else y) ≡ y
-some_there n x y some = elim (cases_Bool (n == 0)) [ | inl none ↦ absurd (let k : n ≡ 0 = grind (arith, nat_tests) in omega arith) | inr more ↦ rw more refl ]
+some_there n x y some = elim (cases_Bool (n == 0)) [ inl none ↦ absurd (let k : n ≡ 0 = grind (arith, nat_tests) in omega arith) | inr more ↦ rw more refl ]
 
 none_there : {A : Type 0} (n : ℕ) (x y : A) → n ≡ 0 → (if n == 0 then x else y) ≡ x
 none_there n x y none = subst (λ j. (if j == 0 then x else y) ≡ x) (sym none) refl
 
 -- no extent goes on within
 none_within : (from within k : ℕ) → within ≡ 0 → place_for from within k ≡ 0
-none_within from within k is = subst (λ j. place_for from j k ≡ 0) (sym is) (elim (cases_Bool (k == from)) [ | inl same ↦ rw same refl | inr other ↦ rw other refl ])
+none_within from within k is = subst (λ j. place_for from j k ≡ 0) (sym is) (elim (cases_Bool (k == from)) [ inl same ↦ rw same refl | inr other ↦ rw other refl ])
 
 settled_behind : (v w : PortValue) (d size : ℕ) (extent : Extent) (from left : ℕ) (answer : Result (Option ℕ) Stop) → Reserves d size extent from v left w answer → IsSettled v → IsSettled w
 settled_behind v w d size extent from left answer a s =
@@ -143,8 +143,8 @@ settled_behind v w d size extent from left answer a s =
 
 -- ---- one extent
 module _ (stays : AloneStays) (neither : NeitherLostNorBusy) (v0 : PortValue) (law : ExtentLaw) where
-  abbrev Own : Whose
-  Own = own stays neither v0
+  abbrev owner : Whose
+  owner = own stays neither v0
 
   -- between extents
   record Between (v : PortValue) (s : Solo) : Type 0 where
@@ -152,7 +152,7 @@ module _ (stays : AloneStays) (neither : NeitherLostNorBusy) (v0 : PortValue) (l
     rests : Rests v
     settled : IsSettled v
 
-  same_own : (u : PortValue) → Came v0 u → whose u ≡ Own
+  same_own : (u : PortValue) → Came v0 u → whose u ≡ owner
   same_own u came = ap (λ (p : Post). record { machine = p.machine; domain = domain_of p.machine p.vcpu }) (came_post v0 u came)
 
   module _ (op call command order : ℕ) (items : List ℕ) (from within : ℕ) (begins : within ≡ 0) where
@@ -160,13 +160,13 @@ module _ (stays : AloneStays) (neither : NeitherLostNorBusy) (v0 : PortValue) (l
     es = extents_of command items
 
     abbrev one : ℕ → Extent → Solo → Outcome
-    one k e s = reserve Own (2 ^ order) call k e s
+    one k e s = reserve owner (2 ^ order) call k e s
 
     abbrev number : CallNumber
     number = record { op = op; call = call }
 
     abbrev fits : Fitting
-    fits = ExtentFits Own.domain command order items from within
+    fits = ExtentFits owner.domain command order items from within
 
     abbrev gives : (k : ℕ) (u w : PortValue) (asked : List Bool) (r : Result (Unit {0}) Stop) → fits k u w asked r → List Block
     gives k u w asked r fit = block_at k fit.given
@@ -180,11 +180,11 @@ module _ (stays : AloneStays) (neither : NeitherLostNorBusy) (v0 : PortValue) (l
     abbrev Ends : ℕ → Solo → Outcome → List Block → PortValue → Result (Unit {0}) Stop → Type 0
     Ends k s o gave w r = ItemComes (plain_list one) es IsWhy (FairFrom v0) Between Never Never fits gives Said k s o gave w r
 
-    begins_at : (k : ℕ) (e : Extent) (u w : PortValue) (asked : List Bool) (r : Result (Unit {0}) Stop) → slice_get es k ≡ Some e → (fit : fits k u w asked r) → whose u ≡ Own → Reserves (domain_of u.post.machine u.post.vcpu) (2 ^ order) e 0 u fit.left w (given_by fit.given r)
+    begins_at : (k : ℕ) (e : Extent) (u w : PortValue) (asked : List Bool) (r : Result (Unit {0}) Stop) → slice_get es k ≡ Some e → (fit : fits k u w asked r) → whose u ≡ owner → Reserves (domain_of u.post.machine u.post.vcpu) (2 ^ order) e 0 u fit.left w (given_by fit.given r)
     begins_at k e u w asked r at fit same =
         subst (λ (o : Whose). Reserves o.domain (2 ^ order) e 0 u fit.left w (given_by fit.given r)) (sym same)
-        (subst (λ j. Reserves Own.domain (2 ^ order) e j u fit.left w (given_by fit.given r)) (none_within from within k begins)
-        (subst (λ x. Reserves Own.domain (2 ^ order) x (place_for from within k) u fit.left w (given_by fit.given r)) (same_extent command items k fit.extent e fit.is at) fit.reserves))
+        (subst (λ j. Reserves owner.domain (2 ^ order) e j u fit.left w (given_by fit.given r)) (none_within from within k begins)
+        (subst (λ x. Reserves owner.domain (2 ^ order) x (place_for from within k) u fit.left w (given_by fit.given r)) (same_extent command items k fit.extent e fit.is at) fit.reserves))
 
     comes_one : (k : ℕ) (e : Extent) (s : Solo) (u w : PortValue) (asked : List Bool) (r : Result (Unit {0}) Stop) → slice_get es k ≡ Some e → FairFrom v0 w → (fit : fits k u w asked r) → Between u s → ComesExtent call k w (one k e s) (given_by fit.given r)
     comes_one k e s u w asked r at fair fit b =
@@ -198,13 +198,13 @@ module _ (stays : AloneStays) (neither : NeitherLostNorBusy) (v0 : PortValue) (l
         record {
           owes = record {
             ahead = record {
-              came = came_trans v0 u w b.owes.ahead.came (extent_came Own.domain command order items from within k u w asked r fit);
-              good = ap (λ (lives : ℕ → ℕ). lives Own.domain) (reserve_keeps s Own (2 ^ order) call k e s (itself s)).lives ∙ b.owes.ahead.good;
+              came = came_trans v0 u w b.owes.ahead.came (extent_came owner.domain command order items from within k u w asked r fit);
+              good = ap (λ (lives : ℕ → ℕ). lives owner.domain) (reserve_keeps s owner (2 ^ order) call k e s (itself s)).lives ∙ b.owes.ahead.good;
             };
             owes = owes;
           };
           rests = fit.reserves.rests;
-          settled = settled_behind u w Own.domain (2 ^ order) fit.extent (place_for from within k) fit.left (given_by fit.given r) fit.reserves b.settled;
+          settled = settled_behind u w owner.domain (2 ^ order) fit.extent (place_for from within k) fit.left (given_by fit.given r) fit.reserves b.settled;
         }
 
     item_by : (k : ℕ) (e : Extent) (s : Solo) (u w : PortValue) (asked : List Bool) (r : Result (Unit {0}) Stop) → (fit : fits k u w asked r) → Between u s → ComesExtent call k w (one k e s) (given_by fit.given r) → Ends k s (one k e s) (gives k u w asked r fit) w r
@@ -225,24 +225,24 @@ module _ (stays : AloneStays) (neither : NeitherLostNorBusy) (v0 : PortValue) (l
     extent_lemmas =
         record {
           item = item;
-          back = λ k u w asked r fit fair. fair_back v0 u w (extent_came Own.domain command order items from within k u w asked r fit) fair;
+          back = λ k u w asked r fit fair. fair_back v0 u w (extent_came owner.domain command order items from within k u w asked r fit) fair;
           inside = λ k v s never. absurd never;
           said_none = tt;
           said_more = said_both;
         }
 
     -- ---- the list
-    abbrev Gave : (v : PortValue) (to : ℕ) (w : PortValue) (answers : List Bool) (r : Result (Unit {0}) Stop) → WorksOn fits (length es) from v to w answers r → List Block
-    Gave v to w answers r works = listing.gave_on (plain_list one) es IsWhy (FairFrom v0) Between Never Never fits gives Said from v to w answers r works
+    abbrev gave_in : (v : PortValue) (to : ℕ) (w : PortValue) (answers : List Bool) (r : Result (Unit {0}) Stop) → WorksOn fits (length es) from v to w answers r → List Block
+    gave_in v to w answers r works = listing.gave_on (plain_list one) es IsWhy (FairFrom v0) Between Never Never fits gives Said from v to w answers r works
 
-    abbrev GaveDid : (v : PortValue) (to : ℕ) (w : PortValue) (answers : List Bool) → DidItems fits (length es) from v to w answers → List Block
-    GaveDid v to w answers did = listing.gave_did (plain_list one) es IsWhy (FairFrom v0) Between Never Never fits gives Said from v to w answers did
+    abbrev gave_before : (v : PortValue) (to : ℕ) (w : PortValue) (answers : List Bool) → DidItems fits (length es) from v to w answers → List Block
+    gave_before v to w answers did = listing.gave_did (plain_list one) es IsWhy (FairFrom v0) Between Never Never fits gives Said from v to w answers did
 
-    same_did : (v : PortValue) (to : ℕ) (w : PortValue) (answers : List Bool) (did : DidItems fits (length es) from v to w answers) → GaveDid v to w answers did ≡ courses.gave_did did
+    same_did : (v : PortValue) (to : ℕ) (w : PortValue) (answers : List Bool) (did : DidItems fits (length es) from v to w answers) → gave_before v to w answers did ≡ courses.gave_did did
     same_did v _ _ _ lists.DidItems.none = refl
     same_did v _ _ _ (lists.DidItems.more k u w answers asked did fit less) = ap (λ bs. bs ++ block_at k fit.given) (same_did v k u answers did)
 
-    same_gave : (v : PortValue) (to : ℕ) (w : PortValue) (answers : List Bool) (r : Result (Unit {0}) Stop) (works : WorksOn fits (length es) from v to w answers r) → Gave v to w answers r works ≡ courses.gave_on works
+    same_gave : (v : PortValue) (to : ℕ) (w : PortValue) (answers : List Bool) (r : Result (Unit {0}) Stop) (works : WorksOn fits (length es) from v to w answers r) → gave_in v to w answers r works ≡ courses.gave_on works
     same_gave v _ _ _ _ (lists.WorksOn.all_done at) = refl
     same_gave v _ _ _ _ (lists.WorksOn.last_done k u w answers asked did fit at) = ap (λ bs. bs ++ block_at k fit.given) (same_did v k u answers did)
     same_gave v _ _ _ _ (lists.WorksOn.due k u w answers asked did fit less) = ap (λ bs. bs ++ block_at k fit.given) (same_did v k u answers did)
@@ -267,7 +267,7 @@ module _ (stays : AloneStays) (neither : NeitherLostNorBusy) (v0 : PortValue) (l
     unfolding plain_list
     did_stands v s _ _ _ lists.DidItems.none fair stands = (s, stands)
     did_stands v s _ _ _ (lists.DidItems.more k u w answers asked did fit less) fair stands =
-        let before = did_stands v s k u answers did (fair_back v0 u w (extent_came Own.domain command order items from within k u w asked (Ok tt) fit) fair) stands in
+        let before = did_stands v s k u answers did (fair_back v0 u w (extent_came owner.domain command order items from within k u w asked (Ok tt) fit) fair) stands in
         let there = there_is es k (omega arith) in
         let c = item k there.0 before.0 u w asked (Ok tt) there.1 fair fit (inl before.1) in
         ((one k there.0 before.0).left, c.2)
@@ -281,7 +281,7 @@ module _ (stays : AloneStays) (neither : NeitherLostNorBusy) (v0 : PortValue) (l
         IfPaused (Err e) ((from ≤ k) × (k ≤ length es) × (left ≡ 0))
     never_within v s k u w answers asked (Refused x) left did fit less fair stands = tt
     never_within v s k u w answers asked (Paused p) left did fit less fair stands =
-        let before = did_stands v s k u answers did (fair_back v0 u w (extent_came Own.domain command order items from within k u w asked (Err (Paused p)) fit) fair) stands in
+        let before = did_stands v s k u answers did (fair_back v0 u w (extent_came owner.domain command order items from within k u w asked (Err (Paused p)) fit) fair) stands in
         let there = there_is es k less in
         absurd (comes_one k there.0 before.0 u w asked (Err (Paused p)) there.1 fair fit before.1)
 
@@ -296,9 +296,6 @@ module _ (stays : AloneStays) (neither : NeitherLostNorBusy) (v0 : PortValue) (l
     abbrev numbered : CallNumber
     numbered = record { op = op; call = call }
 
-    abbrev On : Progress → List LogLine → PortValue → Answered → Type 0
-    On at made v b = ExtentsOn stays neither v0 op call command order items at made v b
-
     abbrev IsGoing : Progress → List LogLine → PortValue → Answered → Type 0
     IsGoing at made v b = ExtentsGoing stays neither v0 op call command order items at made v b
 
@@ -309,8 +306,8 @@ module _ (stays : AloneStays) (neither : NeitherLostNorBusy) (v0 : PortValue) (l
     ComesTo to made w b r = Comes stays neither v0 (λ at ls u. IsGoing at ls u b) op to made w b r
 
     -- all that the command does not say is done
-    abbrev All : Solo → Answered
-    All s = in_order (λ k. reserve Own (2 ^ order) call k) (drop (done_before command) (extents_of command items)) (done_before command) s
+    abbrev from_first : Solo → Answered
+    from_first s = in_order (λ k. reserve owner (2 ^ order) call k) (drop (done_before command) (extents_of command items)) (done_before command) s
 
     -- where the list stands as a turn goes on with it
     record Started (from : ℕ) (made : List LogLine) (v : PortValue) (b : Answered) : Type 0 where
@@ -318,7 +315,7 @@ module _ (stays : AloneStays) (neither : NeitherLostNorBusy) (v0 : PortValue) (l
       made_are : AreLines op made lines
       value : Solo
       owes : OwesF stays neither v0 (Lives stays neither v0) v value
-      is : logged_behind lines (in_order (λ k. reserve Own (2 ^ order) call k) (drop from (extents_of command items)) from value) ≡ b
+      is : logged_behind lines (in_order (λ k. reserve owner (2 ^ order) call k) (drop from (extents_of command items)) from value) ≡ b
 
     started : (at : Progress) (made : List LogLine) (v : PortValue) (b : Answered) → list_refusal command order items ≡ None → 0 < count_in command items → IsGoing at made v b → Started (begins_in command at.done) made v b × (at.within ≡ 0)
     started at made v b checked some (inl begins) =
@@ -330,8 +327,8 @@ module _ (stays : AloneStays) (neither : NeitherLostNorBusy) (v0 : PortValue) (l
             made_are = subst (λ ls. AreLines op ls []) (sym g.nothing) tt;
             value = g.value;
             owes = g.owes;
-            is = subst (λ k. logged_behind [] (in_order (λ k. reserve Own (2 ^ order) call k) (drop k (extents_of command items)) k g.value) ≡ b) first
-                (sym (some_there (count_in command items) (answered 0 0 None [] g.value) (All g.value) some) ∙ (sym (ap (extents_by Own call command order items g.value) checked) ∙ g.is));
+            is = subst (λ k. logged_behind [] (in_order (λ k. reserve owner (2 ^ order) call k) (drop k (extents_of command items)) k g.value) ≡ b) first
+                (sym (some_there (count_in command items) (answered 0 0 None [] g.value) (from_first g.value) some) ∙ (sym (ap (extents_by owner call command order items g.value) checked) ∙ g.is));
           },
           begins.2,
         )
@@ -343,7 +340,7 @@ module _ (stays : AloneStays) (neither : NeitherLostNorBusy) (v0 : PortValue) (l
             made_are = on.made_are;
             value = on.value;
             owes = on.owes;
-            is = subst (λ k. logged_behind on.lines (in_order (λ k. reserve Own (2 ^ order) call k) (drop k (extents_of command items)) k on.value) ≡ b) first on.is;
+            is = subst (λ k. logged_behind on.lines (in_order (λ k. reserve owner (2 ^ order) call k) (drop k (extents_of command items)) k on.value) ≡ b) first on.is;
           },
           on.begun,
         )
@@ -353,9 +350,9 @@ module _ (stays : AloneStays) (neither : NeitherLostNorBusy) (v0 : PortValue) (l
     Whole v b plain = (s : Solo) × OwesF stays neither v0 (Lives stays neither v0) v s × (plain s ≡ b)
 
     none_begun : (at : Progress) (made : List LogLine) (v : PortValue) (b : Answered) (o : Option Refusal) → list_refusal command order items ≡ o → (count_in command items ≡ 0) ⊎ ((x : Refusal) × (o ≡ Some x)) → IsGoing at made v b →
-        (made ≡ []) × (at.done ≡ 0) × Whole v b (λ s. extents_by Own call command order items s o)
+        (made ≡ []) × (at.done ≡ 0) × Whole v b (λ s. extents_by owner call command order items s o)
     none_begun at made v b o is why (inl begins) =
-        let g = begins.0 in (g.nothing, begins.1, (g.value, g.owes, sym (ap (extents_by Own call command order items g.value) is) ∙ g.is))
+        let g = begins.0 in (g.nothing, begins.1, (g.value, g.owes, sym (ap (extents_by owner call command order items g.value) is) ∙ g.is))
     none_begun at made v b o is (inl none) (inr on) = absurd (let some = on.some in omega arith)
     none_begun at made v b o is (inr refuses) (inr on) = absurd (let k = sym on.checked ∙ (is ∙ refuses.1) in cc)
 
@@ -371,7 +368,7 @@ module _ (stays : AloneStays) (neither : NeitherLostNorBusy) (v0 : PortValue) (l
     empty_comes : (at to : Progress) (made : List LogLine) (v : PortValue) (b : Answered) → list_refusal command order items ≡ None → count_in command items ≡ 0 → to.done ≡ at.done → IsGoing at made v b → IsDone (made ++ []) v to 0 None b
     empty_comes at to made v b checked empty same going =
         let g = none_begun at made v b None checked (inl empty) going in
-        subst (λ a. IsDone (made ++ []) v to 0 None a) (sym (none_there (count_in command items) (answered 0 0 None [] g.2.0) (All g.2.0) empty) ∙ g.2.2) (record {
+        subst (λ a. IsDone (made ++ []) v to 0 None a) (sym (none_there (count_in command items) (answered 0 0 None [] g.2.0) (from_first g.2.0) empty) ∙ g.2.2) (record {
           lines = subst (λ ls. AreLines op (ls ++ []) []) (sym g.0) tt;
           replies = record { done = same ∙ g.1; value = refl; refusal = tt };
           owes = g.2.1;
@@ -431,7 +428,7 @@ module _ (stays : AloneStays) (neither : NeitherLostNorBusy) (v0 : PortValue) (l
         (subst (λ m. (works : WorksOn (fits op call command order items from within begins) m from v to.done w answers r) → to.within ≡ left_in works within → FairFrom v0 w → Rests v → IsSettled v → Started from made v b → ComesTo to (made ++ given_lines numbered (courses.gave_on works)) w b (valued r)) counted
         (on_comes from within begins checked some first to made v w b answers r))
 
-    comes_at : (at to : Progress) (made : List LogLine) (v w : PortValue) (b : Answered) (answers : List Bool) (r : Result (Unit {0}) Stop) (k : ℕ) (works : WorksExtents Own.domain command order items v at.done k w answers r) → to.done ≡ k → PlacesExtents works at.within to.within → FairFrom v0 w → Rests v → IsSettled v →
+    comes_at : (at to : Progress) (made : List LogLine) (v w : PortValue) (b : Answered) (answers : List Bool) (r : Result (Unit {0}) Stop) (k : ℕ) (works : WorksExtents owner.domain command order items v at.done k w answers r) → to.done ≡ k → PlacesExtents works at.within to.within → FairFrom v0 w → Rests v → IsSettled v →
         IsGoing at made v b → ComesTo to (made ++ given_lines numbered (gave_extents works)) w b (valued r)
     comes_at at to made v _ b _ _ _ (courses.WorksExtents.refused k w answers r x why whole) is place fair rests settled going =
         subst (λ a. ComesTo to (made ++ []) w b (valued a)) (sym whole.refused) (refused_comes at to made v w b x (sym (same_refusal command order items) ∙ why) (is ∙ whole.none) whole.no_step going)
