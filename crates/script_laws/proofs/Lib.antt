@@ -13,6 +13,7 @@ pub mod Premises
 pub mod Settling
 pub mod Single
 pub mod Steps
+pub mod Tasking
 pub mod Tasks
 pub mod Turning
 pub mod Untouched
