@@ -22,7 +22,7 @@ use Rattle.vcpu_turn.proofs.Hindering.{settles_came}
 use Rattle.script_laws.proofs.Premises.{FairFrom, fair_back}
 use Rattle.script_laws.proofs.Settling.{due_by, ended_ok, known_settled, same_settled, settles_clean, settles_owes, stands_in}
 
-described : (v : PortValue) → Describes v.post.machine (told_word v) (plain_of (told_word v))
+pub described : (v : PortValue) → Describes v.post.machine (told_word v) (plain_of (told_word v))
 described v = record { shares = λ g inside. refl; kinds = λ g inside. refl; cells = λ g i inside low. refl }
 
 -- `Good`: what else holds of a plain value between elements, by the words of domains in it

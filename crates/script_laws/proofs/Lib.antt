@@ -7,6 +7,7 @@ pub mod Items
 pub mod Listed
 pub mod Lists
 pub mod Made
+pub mod Moving
 pub mod Owning
 pub mod Pairing
 pub mod Premises
