@@ -15,7 +15,7 @@ use Rattle.xp_board.proofs.PlaceTests.{equal_by}
 use Rattle.step_maker.specs.Moves.{Came, Moment, MovesBy, Ran}
 use Rattle.step_maker.specs.Plain.{Words}
 use Rattle.step_maker.specs.Visits.{Does, Only, Visit, visit_as, visit_of, visits}
-use Rattle.step_maker.proofs.Coming.{came_self, met_after, met_before}
+use Rattle.step_maker.proofs.Coming.{came_self, came_trans}
 use Rattle.tlb_walks.specs.Accesses.{may_serve, server, serving}
 use Rattle.tlb_walks.specs.Addresses.{page_of}
 use Rattle.tlb_walks.specs.Walks.{top_word}
@@ -105,4 +105,5 @@ module _ (v w : PortValue) (f i word : ℕ) (act : Act) (x : Item) (fresh : IsNe
 
 -- what is never stale between two ports is never stale between any two on the way
 pub never_stale_within : (v u y w : PortValue) → Came v u → Came y w → IsNeverStale v w → IsNeverStale u y
-never_stale_within v u y w before after fresh m f i x met kind place may = fresh m f i x (met_before v y w m (met_after v u y m before met) after) kind place may
+never_stale_within v u y w before after fresh m f i x met kind place may =
+    fresh m f i x (record { from = met.from; to = met.to; before = came_trans v u met.from before met.before; moved = met.moved; after = came_trans met.to y w met.after after }) kind place may
