@@ -1,8 +1,8 @@
-mod Undoing
-mod Leaving
-mod Deciding
-mod Described
-mod Repeating
-mod Untouched
-mod Sparing
-mod Keeping
+pub mod Undoing
+pub mod Leaving
+pub mod Deciding
+pub mod Described
+pub mod Repeating
+pub mod Untouched
+pub mod Sparing
+pub mod Keeping

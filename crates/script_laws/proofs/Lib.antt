@@ -1,6 +1,10 @@
 pub mod Calling
+pub mod Items
 pub mod Lists
 pub mod Made
+pub mod Premises
+pub mod Settling
 pub mod Steps
 pub mod Turning
+pub mod Untouched
 pub mod Working

@@ -12,10 +12,9 @@ use Rattle.step_maker.proofs.Coming.{came_post}
 use Rattle.step_maker.proofs.Telling.{came_telling}
 use Rattle.answer_laws.proofs.Shared.{alone_telling}
 use Rattle.course_laws.proofs.Awaiting.{AloneStays}
-use Rattle.pause_laws.specs.Calls.{StaysFrom}
 use Rattle.release_laws.specs.Pauses.{GoesOnFrom, IsLeft}
 use Rattle.release_laws.proofs.Settling.{goes_on}
-use Rattle.refusal_laws.specs.Repeated.{PausedCalls}
+use Rattle.refusal_laws.specs.Repeated.{GoesOn, PausedCalls}
 use Rattle.refusal_laws.specs.Repeated as repeated
 use Rattle.table_words.specs.OldWords.{old_place}
 use Rattle.table_words.specs.declared.old_words.OldWord.TheVariants.{First, Second}
@@ -71,12 +70,16 @@ module _ (stays : AloneStays) (v w : PortValue) (x : Solo) (on : StaysAlike v w)
       (subst (λ (p : Post). IsLeft p.machine w f level x.frames) (sym post) (goes_on v.post.machine v w f level x.frames (goes_from s) left))
 
 -- ---- calls that were paused
-stays_trans : (u v w : PortValue) → StaysFrom u v → Alike (told_word w) (told_word v) → w.post.machine ≡ v.post.machine → is_telling w ≡ true → StaysFrom u w
-stays_trans u v w a alike machine telling = record { machine = machine ∙ a.machine; telling = telling; words = alike_trans (told_word w) (told_word v) (told_word u) alike a.words }
+goes_trans : (u v w : PortValue) → GoesOn u v → Alike (told_word w) (told_word v) → w.post ≡ v.post → is_telling w ≡ true → GoesOn u w
+goes_trans u v w a alike post telling =
+    record {
+      stays = record { machine = ap (λ (p : Post). p.machine) post ∙ a.stays.machine; telling = telling; words = alike_trans (told_word w) (told_word v) (told_word u) alike a.stays.words };
+      vcpu = ap (λ (p : Post). p.vcpu) post ∙ a.vcpu;
+    }
 
-pub paused_on : (f owner level : ℕ) (u v w : PortValue) → PausedCalls f owner level u v → Alike (told_word w) (told_word v) → w.post.machine ≡ v.post.machine → is_telling w ≡ true → PausedCalls f owner level u w
-paused_on f owner level u _ w (repeated.first x v answers a finds on) alike machine telling = repeated.first x w answers a finds (stays_trans x v w on alike machine telling)
-paused_on f owner level u _ w (repeated.again y x v answers before a finds on) alike machine telling = repeated.again y x w answers before a finds (stays_trans x v w on alike machine telling)
+pub paused_on : (f owner level : ℕ) (u v w : PortValue) → PausedCalls f owner level u v → Alike (told_word w) (told_word v) → w.post ≡ v.post → is_telling w ≡ true → PausedCalls f owner level u w
+paused_on f owner level u _ w (repeated.first x v answers told a finds on) alike post telling = repeated.first x w answers told a finds (goes_trans x v w on alike post telling)
+paused_on f owner level u _ w (repeated.again y x v answers before a finds on) alike post telling = repeated.again y x w answers before a finds (goes_trans x v w on alike post telling)
 
 pub keeps_on : AloneStays → (f owner level : ℕ) (v w : PortValue) (x : Solo) → StaysAlike v w → KeepsTable f owner level v x → KeepsTable f owner level w x
 keeps_on stays f owner level v w x on k =
@@ -89,5 +92,5 @@ keeps_on stays f owner level v w x on k =
       rest = k.rest;
       orderly = k.orderly;
       frames = k.frames;
-      calls = paused_on f owner level k.from v w k.calls on.words machine (came_telling v w on.came ∙ alone_telling v k.stands.alone);
+      calls = paused_on f owner level k.from v w k.calls on.words (came_post v w on.came) (came_telling v w on.came ∙ alone_telling v k.stands.alone);
     }
