@@ -1,0 +1,2 @@
+//! What the destruction of a domain by the only vCPU comes to. These functions do nothing: their contracts are laws about the courses of domain_destroy.
+#![tactic(auto)]
