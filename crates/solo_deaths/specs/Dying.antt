@@ -9,7 +9,7 @@ use Rattle.table_law.specs.Plain.{Plain, share_of}
 use Rattle.domain_destroy.specs.Coming.{left_at, seen_to}
 use Rattle.domain_destroy.specs.Course.{LeftFrame, left_lines}
 use Rattle.domain_destroy.specs.declared.place.DestroyAt.{DestroyAt}
-use Rattle.domain_destroy.specs.declared.place.DestroyAt.TheVariants.{Begins, Stops, Empties, Clears, Checks, Lists}
+use Rattle.domain_destroy.specs.declared.place.DestroyAt.TheVariants.{Begins, Clears, Checks, Lists}
 use Rattle.script_law.specs.Destroying.{buried, destroy, left_below, stripped}
 use Rattle.script_law.specs.Values.{Left, Line, Outcome, Solo, Whose}
 use Rattle.solo_ports.specs.Coming.{IsRefusedSo}
