@@ -1,6 +1,9 @@
 pub mod Aside
+pub mod Clearing
 pub mod Given
+pub mod Giving
 pub mod Pinless
 pub mod Putting
 pub mod Releasing
 pub mod Standing
+pub mod Stripping
