@@ -6,7 +6,9 @@ use Rattle.xp_words.specs.Machine.{IsMachine}
 use Rattle.xp_words.specs.PageTypes.{type_number}
 use Rattle.xp_words.specs.declared.kind.KindWord.{KindWord}
 use Rattle.xp_words.specs.declared.place.Place.TheVariants.{Kind, Refs}
+use Rattle.xp_words.specs.declared.reply.Pause.TheVariants.{Due}
 use Rattle.xp_words.specs.declared.reply.Stop.{Stop}
+use Rattle.xp_words.specs.declared.reply.Stop.TheVariants.{Paused}
 use Rattle.xp_board.specs.Readings.{owner_of, ref_count}
 use Rattle.xp_board.specs.Told.{Post, PortValue, told_word}
 use Rattle.xp_board.specs.declared.step.Act.TheVariants.{Cas, Load}
@@ -112,7 +114,7 @@ module _ (stays : AloneStays) (neither : NeitherLostNorBusy) (leaves_plain : Rel
   module _ (d : ℕ) (u : PortValue) (p : Plain) (b : Between o u p) where
     abbrev pub ClearsTo : PortValue → Result Bool Stop → Type 0
     ClearsTo w (Ok passed) = Between o w (stripped d f p)
-    ClearsTo w (Err e) = (q : Plain) × Within o w q × (stripped d f q ≡ stripped d f p)
+    ClearsTo w (Err e) = (e ≡ Paused Due) × (q : Plain) × Within o w q × (stripped d f q ≡ stripped d f p)
 
     module _ (a c : PortValue) (x y : ℕ) (kind : Moves u a (Kind f) Load kinds.Look None x) (refs : Moves a c (Refs f) Load kinds.Look None y) where
       seen_a : Between o a p
@@ -154,7 +156,7 @@ module _ (stays : AloneStays) (neither : NeitherLostNorBusy) (leaves_plain : Rel
         ]
 
         stopped : (w : PortValue) (answers : List Bool) (e : Stop) → TakesMarks f x c w answers (Err e) → ClearsTo w (Err e)
-        stopped w answers e marks = (unpinned f (p.kinds f) p, takes_marks c p seen_c x kind_there w answers (Err e) marks, still)
+        stopped w answers e marks = let t = takes_marks c p seen_c x kind_there w answers (Err e) marks in (t.0, unpinned f (p.kinds f) p, t.1, still)
 
         cleared : (h w : PortValue) (answers : List Bool) (answer : Result Bool Stop) → TakesMarks f x c h answers (Ok tt) → GivesMark d f h w answer → ClearsTo w answer
         cleared h w answers (Ok passed) marks gives =

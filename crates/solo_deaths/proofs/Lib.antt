@@ -3,6 +3,7 @@ pub mod Clearing
 pub mod Given
 pub mod Giving
 pub mod Pinless
+pub mod Places
 pub mod Putting
 pub mod Releasing
 pub mod Standing

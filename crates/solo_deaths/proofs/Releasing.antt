@@ -4,7 +4,9 @@ use Rattle.xp_words.specs.KindWords.{kind_fields}
 use Rattle.xp_words.specs.Machine.{IsMachine}
 use Rattle.xp_words.specs.declared.place.Place.{Place}
 use Rattle.xp_words.specs.declared.place.Place.TheVariants.{Kind}
+use Rattle.xp_words.specs.declared.reply.Pause.TheVariants.{Due}
 use Rattle.xp_words.specs.declared.reply.Stop.{Stop}
+use Rattle.xp_words.specs.declared.reply.Stop.TheVariants.{Paused}
 use Rattle.xp_board.specs.Acts.{left_by}
 use Rattle.xp_board.specs.KindSteps.{Live, Partial, form_of}
 use Rattle.xp_board.specs.Told.{Post, PortValue, is_telling, told_word}
@@ -137,10 +139,10 @@ module _ (stays : AloneStays) (neither : NeitherLostNorBusy) (leaves_plain : Rel
                 unkept = unkept;
               }
 
-          paused : (stop : Stop) → WasReleased g f (level_type level) w answers (Err stop) → Within o w q
+          paused : (stop : Stop) → WasReleased g f (level_type level) w answers (Err stop) → (stop ≡ Paused Due) × Within o w q
           paused stop r =
               let due = released_away stays neither g w f (level_type level) answers (Err stop) between_g.alone r in
-              record {
+              (due.due, record {
                 post = came_post g w due.came ∙ between_g.post;
                 alone = stays g w between_g.alone due.came;
                 frame = f;
@@ -148,7 +150,7 @@ module _ (stays : AloneStays) (neither : NeitherLostNorBusy) (leaves_plain : Rel
                 second = due.second o.vcpu ∙ between_g.second;
                 left = subst (λ (z : Post). IsLeft z.machine w f level q) between_g.post (leaves_rest g w f level answers p telling_g inside_g high frames_g (subst (λ z. WasReleased g f (level_type level) w answers (Err z)) due.due r));
                 unkept = unkept;
-              }
+              })
 
           by_answer : (answer : Result (Unit {0}) Stop) → WasReleased g f (level_type level) w answers answer → Comes o w q answer
           by_answer (Ok done_is) r = done r

@@ -1,6 +1,8 @@
 -- How a port stands between the parts of a destruction by the only vCPU: by its words alone, whatever is in hand.
 use Rattle.std.specs.Prelude.{◌≡◌, ℕ, Result, Ok, Err}
+use Rattle.xp_words.specs.declared.reply.Pause.TheVariants.{Due}
 use Rattle.xp_words.specs.declared.reply.Stop.{Stop}
+use Rattle.xp_words.specs.declared.reply.Stop.TheVariants.{Paused}
 use Rattle.xp_board.specs.Told.{Post, PortValue, told_word}
 use Rattle.answer_laws.specs.Alone.{IsAlone}
 use Rattle.table_words.specs.OldWords.{old_place}
@@ -28,7 +30,7 @@ pub record Within (o : Post) (v : PortValue) (p : Plain) : Type 0 where
   pub left : IsLeft o.machine v frame level p
   pub unkept : IsUnkept o.machine p
 
--- a part is done, or was paused within
+-- a part is done, or the gate paused it within
 abbrev pub Comes : {A : Type 0} → Post → PortValue → Plain → Result A Stop → Type 0
 Comes o w p (Ok a) = Between o w p
-Comes o w p (Err e) = Within o w p
+Comes o w p (Err e) = (e ≡ Paused Due) × Within o w p
