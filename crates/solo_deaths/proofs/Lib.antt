@@ -1,7 +1,9 @@
+pub mod Advancing
 pub mod Aside
 pub mod Clearing
 pub mod Given
 pub mod Giving
+pub mod Looks
 pub mod Pinless
 pub mod Places
 pub mod Putting
