@@ -61,6 +61,10 @@ Gone o d q w to made (Err (Refused r)) = ⊥
 more_lines : {n : Machine} {d : ℕ} {at : DestroyAt} {q : Plain} {Port : Plain → Type 0} (made : List LeftFrame) → Reached n d at q made Port → Reached n d at q (made ++ []) Port
 more_lines {n} {d} {at} {q} {Port} made r = subst (λ xs. Reached n d at q xs Port) (sym (append-nil made)) r
 
+none_below : (d : ℕ) (p : Plain) → left_below d p 0 ≡ []
+unfolding left_below
+none_below d p = refl
+
 module _ (stays : AloneStays) (neither : NeitherLostNorBusy) (leaves_plain : ReleaseLeaves) (leaves_rest : PausedReleaseLeaves) (o : Post) (machine : IsMachine o.machine) (only : length o.machine.vcpu_domain ≡ 1) (real : o.vcpu < length o.machine.vcpu_domain)
     (d : ℕ) (apart : domain_of o.machine o.vcpu ≢ d) (q : Plain) (u : PortValue) (made : List LeftFrame) where
   abbrev n : Machine
@@ -136,3 +140,52 @@ module _ (stays : AloneStays) (neither : NeitherLostNorBusy) (leaves_plain : Rel
         counts = ap (λ k. left + k) same ∙ ap (λ k. k + length (left_line d f (p.shares f))) counts ∙ sym sum ∙ ap length (sym all);
         inside = omega arith;
       }
+
+  -- ---- from place to place
+  stays_at : (at to : DestroyAt) (r : Here at) → stripped_at n d to r.plain ≡ stripped_at n d at r.plain → AreLeft made (lines_to d to r.plain) → left_at to ≡ length (lines_to d to r.plain) → seen_to to ≤ n.frames → Here to
+  stays_at at to r rest lines counts inside = record { plain = r.plain; port = r.port; rest = rest ∙ r.rest; lines = lines; counts = counts; inside = inside }
+
+  emptied_to : (v : ℕ) (w : PortValue) (answers : List Bool) (passed : Bool) → Here (Empties v) → v < length u.post.machine.vcpu_domain → EmptiesOne d v u w answers (Ok passed) → Gone o d q w (Empties (v + 1)) (made ++ []) (Ok tt)
+  emptied_to v w answers passed r low one =
+      let p = passes v w answers (Ok passed) (no_other (Empties v) v r low) one in
+      subst (λ x. Gone o d q x (Empties (v + 1)) (made ++ []) (Ok tt)) (sym p.1) (tt, more_lines made (stays_at (Empties v) (Empties (v + 1)) r refl r.lines refl (omega arith)))
+
+  emptied_due : (v : ℕ) (w : PortValue) (answers : List Bool) → Here (Empties v) → v < length u.post.machine.vcpu_domain → EmptiesOne d v u w answers (Ok true) → ⊥
+  emptied_due v w answers r low one = let p = passes v w answers (Ok true) (no_other (Empties v) v r low) one in absurd (let e = p.0 in cc)
+
+  pub advance : (at : DestroyAt) (w : PortValue) (to : DestroyAt) (more : List LeftFrame) (asked : List Bool) (answer : Result (Unit {0}) Stop) → IsBegun at → Here at → Advances d u at w to more asked answer → Gone o d q w to (made ++ more) answer
+  advance _ _ _ _ _ _ begun r (course.Advances.begun w does) = absurd begun
+  advance _ _ _ _ _ _ begun r (course.Advances.refused w e does) = absurd begun
+  advance _ _ _ _ _ _ begun r (course.Advances.passed_over v low off) = (tt, more_lines made (stays_at (Stops v) (Stops (v + 1)) r refl r.lines refl (omega arith)))
+  advance _ _ _ _ _ _ begun r (course.Advances.stopped v w low own look) = absurd (no_other (Stops v) v r low own)
+  advance _ _ _ _ _ _ begun r (course.Advances.alive v found w low own off look) = absurd (no_other (Stops v) v r low own)
+  advance _ _ _ _ _ _ begun r (course.Advances.all_stopped v high) = (tt, more_lines made (stays_at (Stops v) (Empties 0) r refl r.lines refl (omega arith)))
+  advance _ _ _ _ _ _ begun r (course.Advances.emptied v w answers passed low one) = emptied_to v w answers passed r low one
+  advance _ _ _ _ _ _ begun r (course.Advances.emptied_due v w answers low one) = absurd (emptied_due v w answers r low one)
+  advance _ _ _ _ _ _ begun r (course.Advances.unemptied v w answers e low one) = absurd (passes v w answers (Err e) (no_other (Empties v) v r low) one)
+  advance _ _ _ _ _ _ begun r (course.Advances.all_emptied v high) =
+      (tt, more_lines made (stays_at (Empties v) (Clears 0) r (ap (λ k. strip_from d 0 k r.plain) (let e : n.frames - 0 ≡ n.frames = omega arith in e)) r.lines refl (omega arith)))
+  advance _ _ _ _ _ _ begun r (course.Advances.cleared f w answers passed low one) =
+      let inside = low_by (Clears f) f r low in
+      (tt, more_lines made (cleared_to f w r inside (clears stays neither leaves_plain leaves_rest o machine f inside d u r.plain r.port w answers (Ok passed) one)))
+  advance _ _ _ _ _ _ begun r (course.Advances.cleared_due f w answers low one) =
+      let inside = low_by (Clears f) f r low in
+      (tt, more_lines made (either (cleared_to f w r inside (clears stays neither leaves_plain leaves_rest o machine f inside d u r.plain r.port w answers (Ok true) one))))
+  advance _ _ _ _ _ _ begun r (course.Advances.uncleared f w answers e low one) = uncleared_to f w answers e r (low_by (Clears f) f r low) one
+  advance _ _ _ _ _ _ begun r (course.Advances.all_cleared f high) =
+      let over : n.frames ≤ f = subst (λ (p : Post). p.machine.frames ≤ f) (post_here (Clears f) r) high in
+      (tt, more_lines made (stays_at (Clears f) Checks r (sym (strip_none d n.frames f r.plain over)) r.lines refl (omega arith)))
+  advance _ _ _ _ _ _ begun r (course.Advances.checked w does) =
+      (tt, more_lines made (record {
+        plain = r.plain;
+        port = looked Checks w r _ (up (FoundNoUse d) 0 _ (no_use d)) does;
+        rest = r.rest;
+        lines = subst (AreLeft made) (sym (none_below d r.plain)) r.lines;
+        counts = sym (ap length (none_below d r.plain));
+        inside = omega arith;
+      }))
+  advance _ _ _ _ _ _ begun r (course.Advances.in_use f x w low does) =
+      (tt, more_lines made (record { plain = r.plain; port = inl (looked Checks w r _ (both _ _ (up (FoundNoUse d) 0 f (no_use d)) (in_use d f x)) does); rest = r.rest; lines = r.lines; counts = refl; inside = omega arith }))
+  advance _ _ _ _ _ _ begun r (course.Advances.listed f left y w more low look lists) = (tt, listed_to f left y w more r (low_by (Lists f left) f r low) look lists)
+  advance _ _ _ _ _ _ begun r (course.Advances.half_free f left y w low look own dying) =
+      (tt, more_lines made (record { plain = r.plain; port = inl (between_looks stays o u r.plain r.port w _ _ _ _ look); rest = r.rest; lines = r.lines; counts = r.counts; inside = r.inside }))
