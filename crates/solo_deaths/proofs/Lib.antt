@@ -1,5 +1,6 @@
 pub mod Advancing
 pub mod Aside
+pub mod Beginning
 pub mod Clearing
 pub mod Given
 pub mod Giving
