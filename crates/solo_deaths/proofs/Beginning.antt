@@ -38,7 +38,7 @@ module _ (v : PortValue) (x : Solo) (clean : Clean v x) (d : ℕ) where
   abbrev m : Words
   m = told_word v
 
-  abbrev doomed : Words
+  abbrev pub doomed : Words
   doomed = change (Cas 0 (v.post.vcpu + 1)) (Life d) m
 
   own_real : own < length n.page_limit

@@ -2,8 +2,10 @@ pub mod Advancing
 pub mod Aside
 pub mod Beginning
 pub mod Clearing
+pub mod Deeds
 pub mod Given
 pub mod Giving
+pub mod Going
 pub mod Looks
 pub mod Pinless
 pub mod Places
