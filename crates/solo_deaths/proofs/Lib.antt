@@ -3,6 +3,7 @@ pub mod Aside
 pub mod Beginning
 pub mod Clearing
 pub mod Deeds
+pub mod Ending
 pub mod Given
 pub mod Giving
 pub mod Going
