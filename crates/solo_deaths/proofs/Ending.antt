@@ -195,3 +195,70 @@ module _ (stays : AloneStays) (neither : NeitherLostNorBusy) (leaves_plain : Rel
                     inside = r.inside;
                   });
             }
+
+        -- ---- it is done
+        module _ (u : PortValue) (frame count found : ℕ) (over : u.post.machine.frames ≤ frame) (moves : Moves u w (Life d) (Store 255) kinds.Life None found)
+            (r : Reached n d (Lists frame count) end (g.made ++ more) (λ p. Between v.post u p)) where
+          telling_u : is_telling u ≡ true
+          telling_u = telling stays v.post u r.plain r.port
+
+          all : frame ≡ n.frames
+          all = let high : n.frames ≤ frame = subst (λ (q : Post). q.machine.frames ≤ frame) r.port.post over in let low = r.inside in omega (arith, high, low)
+
+          between_w : Between v.post w end
+          between_w =
+              subst (Between v.post w) r.rest
+              (between_by stays v.post u r.plain r.port w (change (Store 255) (Life d) (told_word u)) r.plain (moves_came u w _ _ _ _ _ moves) (leaves u w _ _ _ _ _ moves telling_u) (λ t k. refl)
+              (record { shares = λ f low. r.port.frames.shares f low; kinds = λ f low. r.port.frames.kinds f low; cells = λ f i low few. r.port.frames.cells f i low few }) r.port.unkept)
+
+          dead : told_word w (Life d) ≡ 255
+          unfolding left_by
+          dead = told_here u w _ _ _ _ _ moves telling_u
+
+          buried_clean : Clean w (with_life d 255 (with_frames end s))
+          buried_clean = subst (λ k. Clean w (with_life d k (with_frames end s))) dead (clean_at end between_w)
+
+          ends : left_below d r.plain frame ≡ left_below d end n.frames
+          ends = ap (λ p. left_below d p frame) r.rest ∙ ap (left_below d end) all
+
+          buried_so : IsDestroyedSo w op before log' count (buried n d end s)
+          buried_so =
+              record {
+                fine = refl;
+                value = r.counts ∙ ap length ends;
+                made = g.made ++ more;
+                logged = all_logged;
+                lines = subst (AreLeft (g.made ++ more)) ends r.lines;
+                clean = buried_clean;
+              }
+
+          done_so : IsDestroyedSo w op before log' count o
+          done_so = subst (IsDestroyedSo w op before log' count) (sym (whole has)) buried_so
+
+  -- ---- a turn of it
+  stopped_by : (w : PortValue) (to : DestroyAt) (log' : List LogLine) (more : List LeftFrame) (e : Stop) → log' ≡ log ++ left_lines op more → Rests w → ServesDestroy {A = ℕ} v w d (Err e) → StopsSo stays neither leaves_plain leaves_rest v s clean d at g.other g.made g.lines g.counts g.inside w to more e →
+      ComesDying w d op to before log' o (Err e)
+  stopped_by w to log' more e logged rests serves (going.refused is none r why plain same) =
+      subst (λ (x : Stop). ComesDying w d op to before log' o (Err x)) (sym why) (refused_so w log' more logged rests (Err e) serves is none r plain same)
+  stopped_by w to log' more e logged rests serves (going.paused p why is reached has) =
+      subst (λ (x : Stop). ComesDying w d op to before log' o (Err x)) (sym why) (paused_so w log' more logged rests (Err e) serves has to is reached)
+
+  buried_by : (u w : PortValue) (frame count found : ℕ) (log' : List LogLine) (more : List LeftFrame) → log' ≡ log ++ left_lines op more → Rests w → ServesDestroy {A = ℕ} v w d (Ok count) → u.post.machine.frames ≤ frame →
+      Moves u w (Life d) (Store 255) kinds.Life None found → SoFar stays neither leaves_plain leaves_rest v s clean d at g.other g.made g.lines g.counts g.inside u (Lists frame count) more → IsDestroyedSo w op before log' count o
+  buried_by u w frame count found log' more logged rests serves over moves (going.before here is same none) = absurd cc
+  buried_by u w frame count found log' more logged rests serves over moves (going.begun is reached has) = done_so w log' more logged rests (Ok count) serves has u frame count found over moves reached
+
+  by_course : (w : PortValue) (to : DestroyAt) (log' : List LogLine) (more : List LeftFrame) (answers : List Bool) (answer : Result ℕ Stop) → log' ≡ log ++ left_lines op more → Rests w → ServesDestroy v w d answer → Destroys d v at w to more answers answer →
+      ComesDying w d op to before log' o answer
+  by_course _ _ log' _ _ _ logged rests serves (course.Destroys.stops w to more answers e on) =
+      stopped_by w to log' more e logged rests serves (goes stays neither leaves_plain leaves_rest v s clean d at g.other g.made g.lines g.counts g.inside w to more answers (Err e) on)
+  by_course _ _ log' _ _ _ logged rests serves (course.Destroys.buries u w frame count found more answers on over moves) =
+      buried_by u w frame count found log' more logged rests serves over moves
+      (goes stays neither leaves_plain leaves_rest v s clean d at g.other g.made g.lines g.counts g.inside u (Lists frame count) more answers (Ok tt) on)
+
+  pub comes_dying : (w : PortValue) (to : DestroyAt) (log' : List LogLine) (answers : List Bool) (answer : Result ℕ Stop) → DomainDestroyed v w d op at to log log' answers answer → ComesDying w d op to before log' o answer
+  comes_dying w to log' answers answer a = by_course w to log' a.more answers answer a.lines a.rests a.serves a.course
+
+-- a destruction begins
+pub begins_dying : (w : Whose) (d op : ℕ) (log : List LogLine) (s : Solo) → GoesOnDying w d op Begins log log s (destroy w d s)
+begins_dying w d op log s = record { other = tt; comes = refl; made = []; logged = sym (append-nil log); lines = tt; counts = refl; inside = omega arith }
