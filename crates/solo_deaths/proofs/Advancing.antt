@@ -1,29 +1,26 @@
 -- Behind its beginning a destruction by the only vCPU goes from place to place as its plain meaning, and only the gate or a frame in use stops it.
-use Rattle.std.proofs.Common.{◌≡◌, ◌≢◌, ◌⊎◌, ℕ, ◌+◌, ◌-◌, ◌<◌, ◌≤◌, Bool, true, false, List, [], ◌∷◌, ◌++◌, length, Option, Some, None, Result, Ok, Err, refl, sym, ap, ◌∙◌, subst, inl, inr, arith}
+use Rattle.std.proofs.Common.{◌≡◌, ◌≢◌, ◌⊎◌, ℕ, ◌+◌, ◌-◌, ◌<◌, ◌≤◌, Bool, true, false, List, [], ◌++◌, length, None, Result, Ok, Err, refl, sym, ap, ◌∙◌, subst, inl, inr, arith}
 use Rattle.std.proofs.lemmas.List.{append-nil}
 use Rattle.xp_words.specs.Machine.{IsMachine, Machine}
 use Rattle.xp_words.specs.declared.place.Place.TheVariants.{Refs}
-use Rattle.xp_words.specs.declared.reply.Pause.TheVariants.{Due}
 use Rattle.xp_words.specs.declared.reply.Stop.{Stop}
 use Rattle.xp_words.specs.declared.reply.Stop.TheVariants.{Refused, Paused}
 use Rattle.xp_board.specs.Readings.{domain_of}
-use Rattle.xp_board.specs.Told.{Post, PortValue, is_telling, told_word}
+use Rattle.xp_board.specs.Told.{Post, PortValue, told_word}
 use Rattle.xp_board.specs.declared.step.Act.TheVariants.{Load}
 use Rattle.xp_board.specs.declared.step.StepKind.TheVariants as kinds
 use Rattle.step_maker.specs.Moves.{Moves}
-use Rattle.step_maker.specs.Visits.{Visit, Does, Then}
+use Rattle.step_maker.specs.Visits.{Visit, Does}
 use Rattle.step_maker.proofs.Telling.{told_there}
 use Rattle.step_maker.proofs.Visiting.{does_came}
 use Rattle.course_laws.proofs.Awaiting.{AloneStays, NeitherLostNorBusy}
 use Rattle.table_law.specs.Plain.{Plain, share_of}
-use Rattle.frame_claims.specs.Found.{Upwards}
 use Rattle.domain_destroy.specs.Clearing.{ClearsFrame}
 use Rattle.domain_destroy.specs.Coming.{left_at, seen_to}
 use Rattle.domain_destroy.specs.Course as course
 use Rattle.domain_destroy.specs.Course.{Advances, FoundInUse, FoundNoUse, LeftFrame, ListsFrame}
 use Rattle.domain_destroy.specs.Emptying as emptying
 use Rattle.domain_destroy.specs.Emptying.{EmptiesOne}
-use Rattle.domain_destroy.specs.Hearing.{heard_no}
 use Rattle.domain_destroy.specs.declared.place.DestroyAt.{DestroyAt}
 use Rattle.domain_destroy.specs.declared.place.DestroyAt.TheVariants.{Begins, Stops, Empties, Clears, Checks, Lists}
 use Rattle.script_law.specs.Destroying.{left_below, left_line, stripped}
@@ -106,15 +103,17 @@ module _ (stays : AloneStays) (neither : NeitherLostNorBusy) (leaves_plain : Rel
   uncleared_to : (f : ℕ) (w : PortValue) (answers : List Bool) (e : Stop) (r : Here (Clears f)) → f < n.frames → ClearsFrame d f u w answers (Err e) → Gone o d q w (Clears f) (made ++ []) (Err e)
   uncleared_to f w answers e r low one =
       let c = clears stays neither leaves_plain leaves_rest o machine f low d u r.plain r.port w answers (Err e) one in
-      subst (λ s. Gone o d q w (Clears f) (made ++ []) (Err s)) (sym c.0)
-      (tt, more_lines made (record {
-        plain = c.1;
-        port = inr c.2;
-        rest = strip_next d n.frames f c.1 low ∙ ap (strip_from d (f + 1) (n.frames - (f + 1))) c.3 ∙ sym (strip_next d n.frames f r.plain low) ∙ r.rest;
-        lines = r.lines;
-        counts = refl;
-        inside = omega arith;
-      }))
+      subst (λ s. Gone o d q w (Clears f) (made ++ []) (Err s)) (sym c.0) (
+        tt,
+        more_lines made (record {
+          plain = c.1;
+          port = inr c.2;
+          rest = strip_next d n.frames f c.1 low ∙ ap (strip_from d (f + 1) (n.frames - (f + 1))) c.3 ∙ sym (strip_next d n.frames f r.plain low) ∙ r.rest;
+          lines = r.lines;
+          counts = refl;
+          inside = omega arith;
+        }),
+      )
 
   -- ---- frames are looked at
   looked : (at : DestroyAt) (w : PortValue) (r : Here at) (P : List Visit → Type 0) → AreLooks P → Does u w P → Between o w r.plain
@@ -175,15 +174,17 @@ module _ (stays : AloneStays) (neither : NeitherLostNorBusy) (leaves_plain : Rel
   advance _ _ _ _ _ _ begun r (course.Advances.all_cleared f high) =
       let over : n.frames ≤ f = subst (λ (p : Post). p.machine.frames ≤ f) (post_here (Clears f) r) high in
       (tt, more_lines made (stays_at (Clears f) Checks r (sym (strip_none d n.frames f r.plain over)) r.lines refl (omega arith)))
-  advance _ _ _ _ _ _ begun r (course.Advances.checked w does) =
-      (tt, more_lines made (record {
-        plain = r.plain;
-        port = looked Checks w r _ (up (FoundNoUse d) 0 _ (no_use d)) does;
-        rest = r.rest;
-        lines = subst (AreLeft made) (sym (none_below d r.plain)) r.lines;
-        counts = sym (ap length (none_below d r.plain));
-        inside = omega arith;
-      }))
+  advance _ _ _ _ _ _ begun r (course.Advances.checked w does) = (
+    tt,
+    more_lines made (record {
+      plain = r.plain;
+      port = looked Checks w r _ (up (FoundNoUse d) 0 _ (no_use d)) does;
+      rest = r.rest;
+      lines = subst (AreLeft made) (sym (none_below d r.plain)) r.lines;
+      counts = sym (ap length (none_below d r.plain));
+      inside = omega arith;
+    }),
+  )
   advance _ _ _ _ _ _ begun r (course.Advances.in_use f x w low does) =
       (tt, more_lines made (record { plain = r.plain; port = inl (looked Checks w r _ (both _ _ (up (FoundNoUse d) 0 f (no_use d)) (in_use d f x)) does); rest = r.rest; lines = r.lines; counts = refl; inside = omega arith }))
   advance _ _ _ _ _ _ begun r (course.Advances.listed f left y w more low look lists) = (tt, listed_to f left y w more r (low_by (Lists f left) f r low) look lists)

@@ -1,31 +1,29 @@
 -- A destruction by the only vCPU begins, or is refused as the plain one.
-use Rattle.std.proofs.Common.{◌≡◌, ◌≢◌, ℕ, ◌+◌, ◌<◌, ◌≤◌, ◌==◌, ◌||◌, nat_lt, not, if◌then◌else◌, Bool, true, false, List, length, Option, Some, None, Result, Ok, Err, IsTrue, refl, sym, ap, ◌∙◌, subst, inl, inr, arith}
+use Rattle.std.proofs.Common.{◌≡◌, ◌≢◌, ℕ, ◌+◌, ◌<◌, ◌==◌, ◌||◌, nat_lt, not, if◌then◌else◌, true, false, List, length, Some, None, Result, Ok, Err, IsTrue, refl, sym, ap, ◌∙◌, arith}
 use Rattle.std.proofs.lemmas.Bool.Decides.{nat_tests}
 use Rattle.std.proofs.lemmas.List.Elements.{All-get_or}
-use Rattle.xp_words.specs.Machine.{IsMachine, Machine}
-use Rattle.xp_words.specs.declared.place.Place.{Place}
+use Rattle.xp_words.specs.Machine.{Machine}
 use Rattle.xp_words.specs.declared.place.Place.TheVariants.{Life, Priv}
 use Rattle.xp_words.specs.declared.reply.Refusal.{Refusal}
 use Rattle.xp_words.specs.declared.reply.Refusal.TheVariants.{Dying, NoDomain, NoPrivilege}
 use Rattle.xp_words.specs.declared.reply.Stop.{Stop}
-use Rattle.xp_words.specs.declared.reply.Stop.TheVariants.{Refused, Paused}
+use Rattle.xp_words.specs.declared.reply.Stop.TheVariants.{Refused}
 use Rattle.xp_board.specs.Acts.{left_by}
 use Rattle.xp_board.specs.Readings.{domain_of, has_now}
 use Rattle.xp_board.specs.Steps.{is_same}
-use Rattle.xp_board.specs.Told.{Post, PortValue, is_telling, told_word}
+use Rattle.xp_board.specs.Told.{PortValue, told_word}
 use Rattle.xp_board.specs.declared.step.Act.TheVariants.{Cas, Load}
-use Rattle.xp_board.proofs.PlaceTests.{is_same-refl, same_place}
+use Rattle.xp_board.proofs.PlaceTests.{same_place}
 use Rattle.step_maker.specs.Plain.{Words, change}
-use Rattle.step_maker.specs.Visits.{Visit, visit, Does, Nothing, Only, Then}
+use Rattle.step_maker.specs.Visits.{Visit, visit, Does, Only}
 use Rattle.step_maker.proofs.Telling.{by_test, load_leaves}
-use Rattle.step_maker.proofs.Visiting.{does_came}
 use Rattle.answer_laws.proofs.Shared.{alone_telling}
 use Rattle.replay_laws.specs.Replays.{Replays, ReplaysAs, SameWords}
 use Rattle.replay_laws.proofs.Replaying.{as_nothing, as_only, as_then, does_replays}
 use Rattle.domain_destroy.specs.Course as course
 use Rattle.domain_destroy.specs.Course.{BeginsBy, LooksAndDooms, own_of}
 use Rattle.script_law.specs.Destroying.{destroy_refusal}
-use Rattle.script_law.specs.Values.{Solo, Whose}
+use Rattle.script_law.specs.Values.{Solo}
 use Rattle.solo_ports.specs.Standing.{Clean, whose}
 
 module _ (v : PortValue) (x : Solo) (clean : Clean v x) (d : ℕ) where

@@ -1,6 +1,5 @@
 -- What a guest sees of a destruction sets no machine-to-physical word, and no word of the own vCPU; so all but the frames and one life word stays.
-use Rattle.std.proofs.Common.{◌≡◌, ◌≢◌, ℕ, ◌+◌, ◌<◌, ◌==◌, if◌then◌else◌, All, Bool, true, false, List, [], ◌∷◌, ◌++◌, length, Option, Some, None, Result, Ok, Err, refl, sym, ap, ◌∙◌, subst, inl, inr, arith}
-use Rattle.std.proofs.lemmas.Bool.{cases_Bool}
+use Rattle.std.proofs.Common.{◌≡◌, ◌≢◌, ℕ, ◌==◌, if◌then◌else◌, All, Bool, true, false, List, [], ◌∷◌, ◌++◌, Result, Ok, Err, refl, sym, ap, ◌∙◌, subst, inl, inr, arith}
 use Rattle.std.proofs.lemmas.Bool.Decides.{nat_tests}
 use Rattle.std.proofs.lemmas.List.Elements.{All-head, All-tail}
 use Rattle.xp_words.specs.Machine.{Machine}
@@ -16,7 +15,7 @@ use Rattle.xp_board.specs.Lists.{EachOf, Member}
 use Rattle.xp_board.specs.Readings.{domain_of}
 use Rattle.xp_board.specs.Told.{PortValue, is_telling, told_word}
 use Rattle.xp_board.proofs.PlaceTests.{equal_by}
-use Rattle.step_maker.specs.Answers.{Deed, Misses, Serves, SetsM2p, SetsWord, missed, missed_at, misses}
+use Rattle.step_maker.specs.Answers.{Deed, Serves, SetsM2p, SetsWord, missed, missed_at, misses}
 use Rattle.step_maker.specs.Asked.{Request}
 use Rattle.step_maker.proofs.Piecing.{each_append}
 use Rattle.replay_laws.specs.LeftAlone.{life, privilege, word}

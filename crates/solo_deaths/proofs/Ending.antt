@@ -1,14 +1,12 @@
 -- A turn of a destruction by the only vCPU comes to its plain meaning.
-use Rattle.std.proofs.Common.{◌≡◌, ◌≢◌, ℕ, ◌+◌, ◌<◌, ◌≤◌, ◌==◌, if◌then◌else◌, Bool, true, false, List, [], ◌∷◌, ◌++◌, append_assoc, length, Option, Some, None, Result, Ok, Err, refl, sym, ap, ◌∙◌, subst, inl, inr, arith}
+use Rattle.std.proofs.Common.{◌≡◌, ◌≢◌, ℕ, ◌<◌, ◌≤◌, ◌==◌, if◌then◌else◌, Bool, true, false, List, [], ◌∷◌, ◌++◌, append_assoc, length, Some, None, Result, Ok, Err, refl, sym, ap, ◌∙◌, subst, inl, inr, arith}
 use Rattle.std.proofs.lemmas.List.{append-nil}
-use Rattle.xp_words.specs.Machine.{IsMachine, Machine}
+use Rattle.xp_words.specs.Machine.{Machine}
 use Rattle.xp_words.specs.declared.place.Place.TheVariants.{Life}
 use Rattle.xp_words.specs.declared.reply.LogLine.{LogLine}
 use Rattle.xp_words.specs.declared.reply.LogLine.TheVariants as lines
-use Rattle.xp_words.specs.declared.reply.Pause.{Pause}
 use Rattle.xp_words.specs.declared.reply.Refusal.{Refusal}
 use Rattle.xp_words.specs.declared.reply.Stop.{Stop}
-use Rattle.xp_words.specs.declared.reply.Stop.TheVariants.{Refused, Paused}
 use Rattle.xp_board.specs.Acts.{left_by}
 use Rattle.xp_board.specs.Readings.{domain_of}
 use Rattle.xp_board.specs.Told.{Post, PortValue, is_telling, told_word}
@@ -16,7 +14,7 @@ use Rattle.xp_board.specs.declared.step.Act.TheVariants.{Store}
 use Rattle.xp_board.specs.declared.step.StepKind.TheVariants as kinds
 use Rattle.step_maker.specs.Holds.{Rests}
 use Rattle.step_maker.specs.Moves.{Came, Moves}
-use Rattle.step_maker.specs.Plain.{Words, change}
+use Rattle.step_maker.specs.Plain.{change}
 use Rattle.step_maker.proofs.Alikes.{same_alike}
 use Rattle.step_maker.proofs.Coming.{came_post, moves_came}
 use Rattle.step_maker.proofs.Piecing.{serves_came}
@@ -36,12 +34,12 @@ use Rattle.domain_destroy.specs.declared.place.DestroyAt.{DestroyAt}
 use Rattle.domain_destroy.specs.declared.place.DestroyAt.TheVariants.{Begins, Stops, Empties, Clears, Checks, Lists}
 use Rattle.script_law.specs.Destroying.{buried, destroy, destroy_refusal, left_below, stripped}
 use Rattle.script_law.specs.Repeats.{each_below}
-use Rattle.script_law.specs.Values.{Numbers, Outcome, Solo, Whose, allowed, put_at, stopped, with_frames}
+use Rattle.script_law.specs.Values.{Numbers, Outcome, Solo, Whose, allowed, stopped, with_frames}
 use Rattle.solo_ports.specs.Coming.{IsRefusedSo, IsWhy}
-use Rattle.solo_ports.specs.Standing.{Clean, IsUnkept, Owes, ShowsOthers, Stands, a_release, nothing, whose}
+use Rattle.solo_ports.specs.Standing.{Clean, Owes, ShowsOthers, a_release, nothing, whose}
 use Rattle.solo_ports.proofs.Along.{clean_on}
 use Rattle.solo_ports.proofs.Staying.{others_with, stands_at}
-use Rattle.solo_deaths.specs.Between.{Between, Within}
+use Rattle.solo_deaths.specs.Between.{Between}
 use Rattle.solo_deaths.specs.Dying.{AreLeft, ComesDying, GoesOnDying, IsDestroyedSo, IsOther, IsPausedSo, destroy_rest, lines_to, stripped_at}
 use Rattle.solo_deaths.proofs.Advancing.{IsBegun, IsPaused, Reached}
 use Rattle.solo_deaths.proofs.Deeds.{others_stay, with_life}

@@ -1,18 +1,18 @@
 -- Parts of a destruction one behind the other, from any place.
-use Rattle.std.proofs.Common.{◌≡◌, ◌≢◌, ℕ, ◌<◌, ◌≤◌, Bool, true, false, List, [], ◌∷◌, ◌++◌, append_assoc, length, Option, Some, None, Result, Ok, Err, refl, sym, ap, ◌∙◌, subst, inl, inr, arith}
+use Rattle.std.proofs.Common.{◌≡◌, ◌≢◌, ℕ, ◌<◌, ◌≤◌, Bool, List, [], ◌++◌, append_assoc, length, Some, None, Result, Ok, Err, refl, sym, ap, subst, arith}
 use Rattle.std.proofs.lemmas.List.{append-nil}
-use Rattle.xp_words.specs.Machine.{IsMachine, Machine}
+use Rattle.xp_words.specs.Machine.{Machine}
 use Rattle.xp_words.specs.declared.reply.Pause.{Pause}
 use Rattle.xp_words.specs.declared.reply.Refusal.{Refusal}
 use Rattle.xp_words.specs.declared.reply.Stop.{Stop}
 use Rattle.xp_words.specs.declared.reply.Stop.TheVariants.{Refused, Paused}
 use Rattle.xp_board.specs.Readings.{domain_of}
-use Rattle.xp_board.specs.Told.{Post, PortValue, told_word}
+use Rattle.xp_board.specs.Told.{PortValue, told_word}
 use Rattle.step_maker.specs.Visits.{Does}
 use Rattle.step_maker.proofs.Visiting.{does_came}
 use Rattle.course_laws.proofs.Awaiting.{AloneStays, NeitherLostNorBusy}
 use Rattle.replay_laws.specs.Replays.{SameWords}
-use Rattle.table_law.specs.Plain.{Describes, Plain}
+use Rattle.table_law.specs.Plain.{Plain}
 use Rattle.domain_destroy.specs.Coming.{left_at, seen_to}
 use Rattle.domain_destroy.specs.Course as course
 use Rattle.domain_destroy.specs.Course.{Advances, BeginsBy, GoesOn, LeftFrame}
@@ -24,7 +24,7 @@ use Rattle.solo_ports.specs.Standing.{Clean, whose}
 use Rattle.solo_deaths.specs.Between.{Between}
 use Rattle.solo_deaths.specs.Dying.{AreLeft, IsOther, lines_to, stripped_at}
 use Rattle.solo_deaths.proofs.Advancing.{Gone, IsBegun, IsPaused, Reached, advance}
-use Rattle.solo_deaths.proofs.Beginning.{IsBegunSo, IsRefusedBy, begins, doomed}
+use Rattle.solo_deaths.proofs.Beginning.{begins, doomed}
 use Rattle.solo_deaths.proofs.Given.{PausedReleaseLeaves, ReleaseLeaves}
 use Rattle.solo_deaths.proofs.Standing.{between_by}
 

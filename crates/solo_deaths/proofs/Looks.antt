@@ -1,10 +1,9 @@
 -- Steps that only look leave all words as they are.
-use Rattle.std.proofs.Common.{◌≡◌, ℕ, ◌+◌, true, List, [], ◌∷◌, refl, sym, ap, ◌∙◌, subst}
+use Rattle.std.proofs.Common.{◌≡◌, ℕ, true, List, [], ◌∷◌, refl, sym, ap, ◌∙◌, subst}
 use Rattle.xp_words.specs.declared.place.Place.{Place}
 use Rattle.xp_words.specs.declared.place.Place.TheVariants.{Kind}
 use Rattle.xp_board.specs.Lists.{EachOf}
 use Rattle.xp_board.specs.Told.{PortValue, is_telling, told_word}
-use Rattle.xp_board.specs.declared.step.Act.{Act}
 use Rattle.xp_board.specs.declared.step.Act.TheVariants.{Load}
 use Rattle.step_maker.specs.Moves.{Moment, Moves, Ran}
 use Rattle.step_maker.specs.Plain.{Leaves}
@@ -13,7 +12,6 @@ use Rattle.step_maker.proofs.Piecing.{each_append}
 use Rattle.step_maker.proofs.Telling.{load_tells, ran_telling}
 use Rattle.frame_claims.specs.Found as upwards
 use Rattle.frame_claims.specs.Found.{Upwards}
-use Rattle.frame_words.specs.Refs.{saw_refs}
 use Rattle.domain_destroy.specs.Course as course
 use Rattle.domain_destroy.specs.Course.{FoundInUse, FoundNoUse}
 

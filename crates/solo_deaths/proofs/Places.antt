@@ -1,19 +1,18 @@
 -- From place to place: what is left to be stripped, and the lines of what is listed.
-use Rattle.std.proofs.Common.{◌≡◌, ◌≢◌, ℕ, zero, suc, ◌+◌, ◌-◌, ◌<◌, ◌≤◌, ◌==◌, if◌then◌else◌, Bool, true, false, List, [], ◌∷◌, ◌++◌, length, Option, Some, None, refl, sym, ap, ◌∙◌, subst, inl, inr, arith}
+use Rattle.std.proofs.Common.{◌≡◌, ◌≢◌, ℕ, zero, suc, ◌+◌, ◌-◌, ◌<◌, ◌≤◌, ◌==◌, if◌then◌else◌, true, List, [], ◌∷◌, ◌++◌, length, Option, Some, None, refl, sym, ap, ◌∙◌, subst, inl, inr, arith}
 use Rattle.std.proofs.lemmas.Bool.{cases_Bool}
 use Rattle.std.proofs.lemmas.Bool.Decides.{nat_tests}
-use Rattle.xp_words.specs.Machine.{Machine}
 use Rattle.xp_words.specs.RefWords.{ref_read}
 use Rattle.xp_words.specs.declared.refs.RefWord.{RefWord}
 use Rattle.xp_words.specs.declared.refs.RefWord.TheVariants.{Free, Owned, Dying}
 use Rattle.xp_board.specs.Readings.{count_in, owner_in, owner_of, ref_count}
-use Rattle.table_law.specs.Plain.{Plain, Share, share_in, share_of}
+use Rattle.table_law.specs.Plain.{Plain, share_in, share_of}
 use Rattle.domain_destroy.specs.Course as course
 use Rattle.domain_destroy.specs.Course.{LeftFrame, ListsFrame}
 use Rattle.script_law.specs.Destroying.{left_below, left_line, stripped}
 use Rattle.script_law.specs.Repeats.{each_below}
 use Rattle.script_law.specs.Values.{Left, Line}
-use Rattle.solo_deaths.specs.Dying.{AreLeft, IsLeftLine, strip_from}
+use Rattle.solo_deaths.specs.Dying.{AreLeft, strip_from}
 
 -- ---- frames that are stripped
 pub strip_next : (d n f : ℕ) (p : Plain) → f < n → strip_from d f (n - f) p ≡ strip_from d (f + 1) (n - (f + 1)) (stripped d f p)

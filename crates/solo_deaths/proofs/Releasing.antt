@@ -141,16 +141,18 @@ module _ (stays : AloneStays) (neither : NeitherLostNorBusy) (leaves_plain : Rel
 
           paused : (stop : Stop) → WasReleased g f (level_type level) w answers (Err stop) → (stop ≡ Paused Due) × Within o w q
           paused stop r =
-              let due = released_away stays neither g w f (level_type level) answers (Err stop) between_g.alone r in
-              (due.due, record {
-                post = came_post g w due.came ∙ between_g.post;
-                alone = stays g w between_g.alone due.came;
-                frame = f;
-                level = level;
-                second = due.second o.vcpu ∙ between_g.second;
-                left = subst (λ (z : Post). IsLeft z.machine w f level q) between_g.post (leaves_rest g w f level answers p telling_g inside_g high frames_g (subst (λ z. WasReleased g f (level_type level) w answers (Err z)) due.due r));
-                unkept = unkept;
-              })
+              let due = released_away stays neither g w f (level_type level) answers (Err stop) between_g.alone r in (
+                due.due,
+                record {
+                  post = came_post g w due.came ∙ between_g.post;
+                  alone = stays g w between_g.alone due.came;
+                  frame = f;
+                  level = level;
+                  second = due.second o.vcpu ∙ between_g.second;
+                  left = subst (λ (z : Post). IsLeft z.machine w f level q) between_g.post (leaves_rest g w f level answers p telling_g inside_g high frames_g (subst (λ z. WasReleased g f (level_type level) w answers (Err z)) due.due r));
+                  unkept = unkept;
+                },
+              )
 
           by_answer : (answer : Result (Unit {0}) Stop) → WasReleased g f (level_type level) w answers answer → Comes o w q answer
           by_answer (Ok done_is) r = done r

@@ -18,7 +18,6 @@ use Rattle.table_twins.proofs.Entering.{described_leaves}
 use Rattle.solo_ports.specs.Standing.{IsUnkept}
 use Rattle.solo_deaths.specs.Between.{Between}
 
-
 module _ (stays : AloneStays) (o : Post) (v : PortValue) (p : Plain) (b : Between o v p) where
   pub telling : is_telling v ≡ true
   telling = alone_telling v b.alone

@@ -12,9 +12,7 @@ ghost use Rattle.solo_ports.specs.Standing.{Clean, whose};
 ghost use Rattle.solo_deaths.specs.Dying.{ComesDying, GoesOnDying};
 
 use answer_laws::{a_call_alone_is_neither_lost_nor_busy, alone_stays};
-use release_laws::{
-    a_paused_release_leaves_the_rest, a_release_leaves_what_the_plain_one_leaves,
-};
+use release_laws::{a_paused_release_leaves_the_rest, a_release_leaves_what_the_plain_one_leaves};
 
 /// Before its first turn a destruction comes to what the plain one comes to.
 pub fn a_destruction_begins()
