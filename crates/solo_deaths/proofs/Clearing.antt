@@ -33,7 +33,7 @@ use Rattle.domain_destroy.specs.Clearing.{ClearsFrame, GivesMark, TakesMarks}
 use Rattle.script_law.specs.Destroying.{stripped, unallocated, unpinned}
 use Rattle.script_law.specs.Memory.{is_owned_by}
 use Rattle.solo_ports.proofs.Unkept.{unkept_kind}
-use Rattle.solo_deaths.specs.Between.{Between, Comes, Within}
+use Rattle.solo_deaths.specs.Between.{Between, PartComes, Within}
 use Rattle.solo_deaths.proofs.Giving.{exchanged, gives_mark, stored}
 use Rattle.solo_deaths.proofs.Given.{PausedReleaseLeaves, ReleaseLeaves}
 use Rattle.solo_deaths.proofs.Releasing.{lets_go}
@@ -97,15 +97,15 @@ module _ (stays : AloneStays) (neither : NeitherLostNorBusy) (leaves_plain : Rel
         there_a : told_word a (Kind f) ≡ word
         there_a = exchanged u a (Kind f) x word takes (telling stays o u p b) (Kind f) ∙ rw (equal_refl f) (stored word (told_word u (Kind f)))
 
-        goes : (w : PortValue) (answers : List Bool) (answer : Result (Unit {0}) Stop) → LetsGo f a w answers answer → Comes o w (let_go (type_number (p.kinds f).kind) f off) answer
+        goes : (w : PortValue) (answers : List Bool) (answer : Result (Unit {0}) Stop) → LetsGo f a w answers answer → PartComes o w (let_go (type_number (p.kinds f).kind) f off) answer
         goes w answers answer lets =
             lets_go stays neither leaves_plain leaves_rest o machine a off between_a f (type_number (p.kinds f).kind) inside levels.1 levels.2 word there_a
             (ap (λ (k : KindWord). k.validated) spells ∙ table.live) (ap (λ (k : KindWord). k.kind) spells ∙ sym levels.0) w answers answer lets
 
-    pub takes_marks : (w : PortValue) (answers : List Bool) (answer : Result (Unit {0}) Stop) → TakesMarks f x u w answers answer → Comes o w (unpinned f (p.kinds f) p) answer
+    pub takes_marks : (w : PortValue) (answers : List Bool) (answer : Result (Unit {0}) Stop) → TakesMarks f x u w answers answer → PartComes o w (unpinned f (p.kinds f) p) answer
     takes_marks _ _ _ (clearing.TakesMarks.none unpinned unkept) = subst (Between o u) (sym (unpinned_none 0 f p (p.kinds f) (pinned_is ∙ unpinned))) b
     takes_marks _ _ _ (clearing.TakesMarks.unpinned a w answers answer on takes lets) =
-        subst (λ c. Comes o w (if c then let_go (type_number (p.kinds f).kind) f off else p) answer) (sym (pinned_is ∙ on)) (goes on a takes w answers answer lets)
+        subst (λ c. PartComes o w (if c then let_go (type_number (p.kinds f).kind) f off else p) answer) (sym (pinned_is ∙ on)) (goes on a takes w answers answer lets)
     takes_marks _ _ _ (clearing.TakesMarks.unkept a w answers answer unpinned kept other takes lets) = absurd (kept_off kept)
     takes_marks _ _ _ (clearing.TakesMarks.page a w unpinned kept same takes dies) = absurd (kept_off kept)
     takes_marks _ _ _ (clearing.TakesMarks.lost w new found marked apart takes) = absurd (apart (sym (told_there u w _ _ _ _ _ takes (telling stays o u p b)) ∙ is))

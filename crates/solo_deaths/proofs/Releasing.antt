@@ -32,7 +32,7 @@ use Rattle.release_laws.proofs.Settling.{second_none}
 use Rattle.domain_destroy.specs.Emptying.{LetsGo}
 use Rattle.solo_ports.specs.Standing.{IsUnkept}
 use Rattle.solo_ports.proofs.Unkept.{unkept_let_go}
-use Rattle.solo_deaths.specs.Between.{Between, Comes, Within}
+use Rattle.solo_deaths.specs.Between.{Between, PartComes, Within}
 use Rattle.solo_deaths.proofs.Given.{PausedReleaseLeaves, ReleaseLeaves}
 use Rattle.solo_deaths.proofs.Aside.{released_away}
 use Rattle.solo_deaths.proofs.Standing.{between_by, between_looks, telling}
@@ -112,7 +112,7 @@ module _ (stays : AloneStays) (neither : NeitherLostNorBusy) (leaves_plain : Rel
       kind_is = ap (λ z. (kind_fields z).kind) word_is ∙ of
 
       -- ---- its release
-      released : (w : PortValue) (answers : List Bool) (answer : Result (Unit {0}) Stop) → ReleasedWithin None g h (kind_fields y).kind w answers answer → Comes o w q answer
+      released : (w : PortValue) (answers : List Bool) (answer : Result (Unit {0}) Stop) → ReleasedWithin None g h (kind_fields y).kind w answers answer → PartComes o w q answer
       released w answers answer rel = by_answer answer (subst (λ t. WasReleased g f t w answers answer) kind_is (subst (λ j. ReleasedWithin None g j (kind_fields y).kind w answers answer) same rel))
         where
           telling_g : is_telling g ≡ true
@@ -154,7 +154,7 @@ module _ (stays : AloneStays) (neither : NeitherLostNorBusy) (leaves_plain : Rel
                 },
               )
 
-          by_answer : (answer : Result (Unit {0}) Stop) → WasReleased g f (level_type level) w answers answer → Comes o w q answer
+          by_answer : (answer : Result (Unit {0}) Stop) → WasReleased g f (level_type level) w answers answer → PartComes o w q answer
           by_answer (Ok done_is) r = done r
           by_answer (Err stop) r = paused stop r
 
@@ -162,7 +162,7 @@ module _ (stays : AloneStays) (neither : NeitherLostNorBusy) (leaves_plain : Rel
     here : (x y : PortValue) (act : Act) (how : StepKind) (found : ℕ) → Moves x y (old_place c.post.vcpu First) act how None found → Moves x y first act how None found
     here x y act how found m = subst (λ r. Moves x y r act how None found) place_c m
 
-    one : (u : PortValue) (answers : List Bool) (answer : Result (Unit {0}) Stop) → SettledOne None c First u answers answer → Comes o u q answer
+    one : (u : PortValue) (answers : List Bool) (answer : Result (Unit {0}) Stop) → SettledOne None c First u answers answer → PartComes o u q answer
     one _ _ _ (course.SettledOne.none w look) = absurd (let k = told_there c w _ _ _ _ _ (here c w Load kinds.Look 0 look) telling_c in let l = named_c in omega arith)
     one _ _ _ (course.SettledOne.live d e g w h y answers answer look store seen form rel) =
         released d e g h y (here c d Load kinds.Look (h + 1) look) (here d e (Store 0) kinds.Context (h + 1) store) seen w answers answer rel
@@ -174,16 +174,16 @@ module _ (stays : AloneStays) (neither : NeitherLostNorBusy) (leaves_plain : Rel
         absurd (unlive (form_is d e g h y (here c d Load kinds.Look (h + 1) look) (here d e (Store 0) kinds.Context (h + 1) store) seen))
 
     -- ---- and the second
-    second_by : (u w : PortValue) (more : List Bool) (answer : Result (Unit {0}) Stop) → Between o u q → SettledOne None u Second w more answer → Comes o w q answer
+    second_by : (u w : PortValue) (more : List Bool) (answer : Result (Unit {0}) Stop) → Between o u q → SettledOne None u Second w more answer → PartComes o w q answer
     second_by u w more answer bu two =
         let at = subst (λ (y : Post). told_word u (old_place y.vcpu Second) ≡ 0) (sym bu.post) bu.second in
         let none = second_none u (telling stays o u q bu) at w more answer two in
-        subst (Comes o w q) (sym none.0)
+        subst (PartComes o w q) (sym none.0)
         (between_by stays o u q bu w (told_word u) q (second_came u w more answer (telling stays o u q bu) at two) none.1 (λ s k. refl) bu.frames bu.unkept)
 
-    both : (w : PortValue) (answers : List Bool) (answer : Result (Unit {0}) Stop) → Settled None c w answers answer → Comes o w q answer
+    both : (w : PortValue) (answers : List Bool) (answer : Result (Unit {0}) Stop) → Settled None c w answers answer → PartComes o w q answer
     both _ _ _ (course.Settled.first w answers stop first_one) = one w answers (Err stop) first_one
     both _ _ _ (course.Settled.both u w answers more answer first_one two) = second_by u w more answer (one u answers (Ok tt) first_one) two
 
-  pub lets_go : (w : PortValue) (answers : List Bool) (answer : Result (Unit {0}) Stop) → LetsGo f a w answers answer → Comes o w q answer
+  pub lets_go : (w : PortValue) (answers : List Bool) (answer : Result (Unit {0}) Stop) → LetsGo f a w answers answer → PartComes o w q answer
   lets_go w answers answer goes = both goes.0 (subst (λ r. Moves a goes.0 r (Store (f + 1)) kinds.Context None 0) (ap (λ (y : Post). old_place y.vcpu First) b.post) goes.1) w answers answer goes.2

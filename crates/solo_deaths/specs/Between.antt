@@ -31,6 +31,6 @@ pub record Within (o : Post) (v : PortValue) (p : Plain) : Type 0 where
   pub unkept : IsUnkept o.machine p
 
 -- a part is done, or the gate paused it within
-abbrev pub Comes : {A : Type 0} → Post → PortValue → Plain → Result A Stop → Type 0
-Comes o w p (Ok a) = Between o w p
-Comes o w p (Err e) = (e ≡ Paused Due) × Within o w p
+abbrev pub PartComes : {A : Type 0} → Post → PortValue → Plain → Result A Stop → Type 0
+PartComes o w p (Ok a) = Between o w p
+PartComes o w p (Err e) = (e ≡ Paused Due) × Within o w p
