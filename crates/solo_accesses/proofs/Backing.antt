@@ -12,10 +12,10 @@ use Rattle.xp_board.specs.declared.step.Act.{Act}
 use Rattle.xp_board.specs.declared.step.Item.{Item}
 use Rattle.xp_board.specs.declared.step.StepKind.TheVariants as kinds
 use Rattle.xp_board.proofs.PlaceTests.{equal_by}
-use Rattle.step_maker.specs.Moves.{Moment, MovesBy, Ran}
+use Rattle.step_maker.specs.Moves.{Came, Moment, MovesBy, Ran}
 use Rattle.step_maker.specs.Plain.{Words}
 use Rattle.step_maker.specs.Visits.{Does, Only, Visit, visit_as, visit_of, visits}
-use Rattle.step_maker.proofs.Coming.{came_self}
+use Rattle.step_maker.proofs.Coming.{came_self, came_trans}
 use Rattle.tlb_walks.specs.Accesses.{may_serve, server, serving}
 use Rattle.tlb_walks.specs.Addresses.{page_of}
 use Rattle.tlb_walks.specs.Walks.{top_word}
@@ -102,3 +102,8 @@ module _ (v w : PortValue) (f i word : ℕ) (act : Act) (x : Item) (fresh : IsNe
   pub fresh_does : Does v w (Only (visit_as kinds.Guest (Cell f i) act word)) → IsBacked v.post.machine v.post.vcpu (told_word v) (is_store act) x
   unfolding Does
   fresh_does does = fresh_ran does.0 does.1 does.2
+
+-- what is never stale between two ports is never stale between any two on the way
+pub never_stale_within : (v u y w : PortValue) → Came v u → Came y w → IsNeverStale v w → IsNeverStale u y
+never_stale_within v u y w before after fresh m f i x met kind place may =
+    fresh m f i x (record { from = met.from; to = met.to; before = came_trans v u met.from before met.before; moved = met.moved; after = came_trans met.to y w met.after after }) kind place may
