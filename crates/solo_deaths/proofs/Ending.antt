@@ -182,6 +182,7 @@ module _ (stays : AloneStays) (neither : NeitherLostNorBusy) (leaves_plain : Rel
             record {
               s = left p;
               owes = owes_at p r.port;
+              apart = subst (λ (q : Post). domain_of q.machine q.vcpu ≢ d) (sym post) has.apart;
               goes_on = subst (λ (q : Post). GoesOnDying (record { machine = q.machine; domain = domain_of q.machine q.vcpu }) d op to before log' (left p) o) (sym post)
                   (record {
                     other = other_by (whose v) d to has.real has.apart;
@@ -246,7 +247,7 @@ module _ (stays : AloneStays) (neither : NeitherLostNorBusy) (leaves_plain : Rel
   buried_by u w frame count found log' more logged rests serves over moves (going.before here is same none) = absurd cc
   buried_by u w frame count found log' more logged rests serves over moves (going.begun is reached has) = done_so w log' more logged rests (Ok count) serves has u frame count found over moves reached
 
-  by_course : (w : PortValue) (to : DestroyAt) (log' : List LogLine) (more : List LeftFrame) (answers : List Bool) (answer : Result ℕ Stop) → log' ≡ log ++ left_lines op more → Rests w → ServesDestroy v w d answer → Destroys d v at w to more answers answer →
+  pub by_course : (w : PortValue) (to : DestroyAt) (log' : List LogLine) (more : List LeftFrame) (answers : List Bool) (answer : Result ℕ Stop) → log' ≡ log ++ left_lines op more → Rests w → ServesDestroy v w d answer → Destroys d v at w to more answers answer →
       ComesDying w d op to before log' o answer
   by_course _ _ log' _ _ _ logged rests serves (course.Destroys.stops w to more answers e on) =
       stopped_by w to log' more e logged rests serves (goes stays neither leaves_plain leaves_rest v s clean d at g.other g.made g.lines g.counts g.inside w to more answers (Err e) on)

@@ -76,6 +76,8 @@ pub record IsPausedSo (w : PortValue) (d op : ℕ) (to : DestroyAt) (before log 
   pub s : Solo
   pub owes : Owes w s
   pub goes_on : GoesOnDying (whose w) d op to before log s o
+  -- it is not the own domain
+  pub apart : (whose w).domain ≢ d
 
 -- Done or refused as o; or paused, and it goes on for the same o. Refused, it logged nothing.
 abbrev pub ComesDying : PortValue → ℕ → ℕ → DestroyAt → List LogLine → List LogLine → Outcome → Result ℕ Stop → Type 0
