@@ -1,3 +1,4 @@
+pub mod Burying
 pub mod Calling
 pub mod Dropping
 pub mod Extending
