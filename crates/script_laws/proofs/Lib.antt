@@ -19,4 +19,5 @@ pub mod Tasking
 pub mod Tasks
 pub mod Turning
 pub mod Untouched
+pub mod Whole
 pub mod Working
