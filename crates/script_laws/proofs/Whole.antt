@@ -37,7 +37,8 @@ use Rattle.script_laws.proofs.Moving.{alike_moves, cut_alike, settled_moves, uns
 use Rattle.script_laws.proofs.Premises.{FairFrom, fair_back}
 use Rattle.script_laws.proofs.Settling.{stands_in}
 use Rattle.script_laws.proofs.Tasking.{Elements, Moving, TaskComes, TaskGoing, call_plain, owes_moved, plain_task, task_begins, task_moved, task_work}
-use Rattle.script_laws.proofs.Tasks.{IsTaskAnswered, Lives, OwesT}
+use Rattle.script_laws.proofs.Tasks.{Comes, IsTaskAnswered, Lives, OwesT}
+use Rattle.script_laws.proofs.Working.{Answers, By, Comes as ComesBy, GoingBy, ManyLemmas, ReadyBy, WorkOf, calls_begin_by, going_moved, work_by}
 
 -- ---- the plain calls of a multicall
 pub all_lines : List (List Line) → List Line
@@ -154,3 +155,90 @@ module _ (l : Laws) (neither : NeitherLostNorBusy) (v0 : PortValue) (real : (who
         cut = λ n v w s ends fair owes. owes_moved l neither v0 real e (Lives l.stays neither v0) v w s (alike_moves l neither v0 real e v w (cut_alike v w s n ends.0 (stands_in l.stays neither v s owes.owes) ends.1)) owes;
         back = λ v w came fair. fair_back v0 v w came fair;
       }
+
+  -- ---- operations
+  abbrev pub one_op : ℕ → Op → Solo → Answered
+  one_op k op s = op_alone (whose v0) op s
+
+  abbrev pub log_of : Answered → Logged
+  log_of a = record { lines = a.lines; answer = a.answer }
+
+  abbrev pub plain_ops : PlainScript Op Solo Logged Answered
+  plain_ops =
+      record {
+        answer = log_of;
+        left = λ a. a.left;
+        alone = one_op;
+        answers = answers_by log_of (λ a. a.left) one_op;
+        ends = ends_by (λ a. a.left) one_op;
+        no_answers = λ k s. refl;
+        no_end = λ k s. refl;
+        more_answers = λ op ops k s. refl;
+        more_ends = λ op ops k s. refl;
+      }
+
+  abbrev pub One : Option Task → ℕ → Progress → List LogLine → PortValue → Answered → Type 0
+  One task n at made v a = Left task n 0 at made v a
+
+  pub record OneReady (task : Option Task) (n : ℕ) (at : Progress) (made : List LogLine) (v : PortValue) (a : Answered) : Type 0 where
+    pub going : One task n at made v a
+    pub rests : Rests v
+    pub settled : IsSettled v
+
+  abbrev pub Dying : ℕ → ℕ → Progress → List LogLine → PortValue → Answered → Type 0
+  Dying = Dies l neither v0 real e
+
+  pub record DyingReady (x n : ℕ) (at : Progress) (made : List LogLine) (v : PortValue) (a : Answered) : Type 0 where
+    pub going : Dying x n at made v a
+    pub rests : Rests v
+    pub settled : IsSettled v
+
+  abbrev pub GoingOp : Job → ℕ → Progress → List LogLine → PortValue → Answered → Type 0
+  GoingOp =
+      GoingBy log_of (λ a. a.left) (plain_calls v0) many refused (whose v0).domain IsLogged (λ op n made ls. AreLines op made ls) (FairFrom v0) Owed One OneReady Dying DyingReady CallGoing CallReady call_lemmas
+
+  abbrev pub ReadyOp : Job → ℕ → Progress → List LogLine → PortValue → Answered → Type 0
+  ReadyOp =
+      ReadyBy log_of (λ a. a.left) (plain_calls v0) many refused (whose v0).domain IsLogged (λ op n made ls. AreLines op made ls) (FairFrom v0) Owed One OneReady Dying DyingReady CallGoing CallReady call_lemmas
+
+  abbrev Answers_op : ℕ → List LogLine → Reply → Answered → PortValue → Type 0
+  Answers_op = Answers log_of (λ a. a.left) (plain_calls v0) many refused (whose v0).domain IsLogged (λ op n made ls. AreLines op made ls) (FairFrom v0) Owed One OneReady Dying DyingReady CallGoing CallReady call_lemmas
+
+  answers_op : (n : ℕ) (made : List LogLine) (w : PortValue) (reply : Reply) (a : Answered) → IsTaskAnswered l.stays neither v0 n made w reply a → Answers_op n made reply a w
+  answers_op n made w reply a t = record { logs = record { before = made; reply = reply; is = refl; lines_are = t.lines; answers = t.replies }; owes = t.owes }
+
+  abbrev Comes_op : Job → ℕ → Progress → List LogLine → PortValue → Answered → Result ℕ Stop → Type 0
+  Comes_op = ComesBy log_of (λ a. a.left) (plain_calls v0) many refused (whose v0).domain IsLogged (λ op n made ls. AreLines op made ls) (FairFrom v0) Owed One OneReady Dying DyingReady CallGoing CallReady call_lemmas
+
+  abbrev WorkOf_op : Job → Type 0
+  WorkOf_op = WorkOf log_of (λ a. a.left) (plain_calls v0) many refused (whose v0).domain IsLogged (λ op n made ls. AreLines op made ls) (FairFrom v0) Owed One OneReady Dying DyingReady CallGoing CallReady call_lemmas
+
+  one_comes : (task : Option Task) (n : ℕ) (to : Progress) (made : List LogLine) (w : PortValue) (a : Answered) (r : Result ℕ Stop) → TaskComes l neither v0 real e task n 0 to made w a r → Comes_op (OfOne task) n to made w a r
+  one_comes task n to made w a (Ok value) t = answers_op n made w (reply_of to.done value None) a t
+  one_comes task n to made w a (Err (Refused x)) t = answers_op n made w (reply_of to.done 0 (Some x)) a t
+  one_comes task n to made w a (Err (Paused p)) t = t
+
+  one_work : (task : Option Task) → WorkOf_op (OfOne task)
+  one_work task n at to made log log' v w a asked r went fair g =
+      let k = task_work l neither v0 real e task n 0 at to made log log' v w a asked r went fair g.rests g.settled g.going in (k.0, k.1, one_comes task n to (made ++ k.0) w a r k.2)
+
+  dying_comes : (x n : ℕ) (to : Progress) (made : List LogLine) (w : PortValue) (a : Answered) (r : Result ℕ Stop) → Comes l.stays neither v0 (λ to made w. Dying x n to made w a) n to made w a r → Comes_op (OfDestroy x) n to made w a r
+  dying_comes x n to made w a (Ok value) t = answers_op n made w (reply_of to.done value None) a t
+  dying_comes x n to made w a (Err (Refused y)) t = answers_op n made w (reply_of to.done 0 (Some y)) a t
+  dying_comes x n to made w a (Err (Paused p)) t = t
+
+  dying_work : (x : ℕ) → WorkOf_op (OfDestroy x)
+  dying_work x n at to made log log' v w a asked r went fair g =
+      let k = dies_work l neither v0 real e x n at to made log log' v w a asked r went g.going g.rests g.settled in (k.0, k.1, dying_comes x n to (made ++ k.0) w a r k.2)
+
+  many_lemmas : ManyLemmas log_of (λ a. a.left) (plain_calls v0) many refused (whose v0).domain IsLogged (λ op n made ls. AreLines op made ls) (FairFrom v0) Owed One OneReady Dying DyingReady CallGoing CallReady call_lemmas
+  many_lemmas =
+      record {
+        logged = λ n made all last log. record { before = made; reply = reply_of (length all) 0 None; is = refl; lines_are = lines_logged n made all log; answers = record { done = refl; value = refl; refusal = tt } };
+        leaves = λ all last. refl;
+        refuses = λ n s. record { before = []; reply = reply_of 0 0 (Some BatchLong); is = refl; lines_are = tt; answers = record { done = refl; value = refl; refusal = refl } };
+        refuses_all = λ s. refl;
+      }
+
+  all_work : (j : Job) → WorkOf_op j
+  all_work = work_by log_of (λ a. a.left) (plain_calls v0) many refused (whose v0).domain IsLogged (λ op n made ls. AreLines op made ls) (FairFrom v0) Owed One OneReady Dying DyingReady CallGoing CallReady call_lemmas many_lemmas one_work dying_work
