@@ -13,6 +13,7 @@ pub mod Owning
 pub mod Pairing
 pub mod Premises
 pub mod Settling
+pub mod Showing
 pub mod Single
 pub mod Steps
 pub mod Tasking

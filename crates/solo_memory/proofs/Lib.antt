@@ -1,8 +1,8 @@
-mod Sounding
-mod Choosing
-mod Taking
-mod Behind
-mod Claiming
-mod Coming
-mod Returning
-mod Extending
+pub mod Sounding
+pub mod Choosing
+pub mod Taking
+pub mod Behind
+pub mod Claiming
+pub mod Coming
+pub mod Returning
+pub mod Extending

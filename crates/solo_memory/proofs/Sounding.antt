@@ -42,7 +42,7 @@ no_credit : (d : ℕ) (u : Holdings) → IsEmptyHand u → times d u.credits ≡
 unfolding times_by
 no_credit d u empty = rw empty.credits refl
 
-none_of : (n : Machine) (h : ℕ → Holdings) (c : Holdings → ℕ) → ((u : Holdings) → IsEmptyHand u → c u ≡ 0) → AreEmpty n h → hands c (sizes_of n) h ≡ 0
+pub none_of : (n : Machine) (h : ℕ → Holdings) (c : Holdings → ℕ) → ((u : Holdings) → IsEmptyHand u → c u ≡ 0) → AreEmpty n h → hands c (sizes_of n) h ≡ 0
 unfolding hands
 none_of n h c none empty = sum_below-none (sizes_of n).vcpus (λ s. c (h s)) (λ s real. none (h s) (empty s real))
 
