@@ -1,6 +1,7 @@
 pub mod Burying
 pub mod Calling
 pub mod Dropping
+pub mod Ending
 pub mod Extending
 pub mod ExtLaws
 pub mod Extents

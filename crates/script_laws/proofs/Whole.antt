@@ -113,7 +113,7 @@ module _ (l : Laws) (neither : NeitherLostNorBusy) (v0 : PortValue) (real : (who
     pub alive : value.lives (whose v0).domain ≡ 0
     pub stands : Stands v value
 
-  owed_standing : (v : PortValue) (s : Solo) → Owed v s → Standing v
+  pub owed_standing : (v : PortValue) (s : Solo) → Owed v s → Standing v
   owed_standing v s owes = record { value = s; came = owes.ahead.came; alive = owes.ahead.good; stands = stands_in l.stays neither v s owes.owes }
 
   -- ---- calls
@@ -127,7 +127,7 @@ module _ (l : Laws) (neither : NeitherLostNorBusy) (v0 : PortValue) (real : (who
     pub rests : Rests v
     pub settled : IsSettled v
 
-  call_moved : (op : ℕ) (call : Call) (n : ℕ) (at : Progress) (made : List LogLine) (v w : PortValue) (a : Answered) → Moving l neither v0 real e v w → CallGoing op call n at made v a → CallGoing op call n at made w a
+  pub call_moved : (op : ℕ) (call : Call) (n : ℕ) (at : Progress) (made : List LogLine) (v w : PortValue) (a : Answered) → Moving l neither v0 real e v w → CallGoing op call n at made v a → CallGoing op call n at made w a
   call_moved op call n at made v w a m g = record { answer = g.answer; is = g.is; left = task_moved l neither v0 real e (task_in call) op n at made v w g.answer m g.left }
 
   -- its answer is in the log of the multicall
@@ -240,5 +240,5 @@ module _ (l : Laws) (neither : NeitherLostNorBusy) (v0 : PortValue) (real : (who
         refuses_all = λ s. refl;
       }
 
-  all_work : (j : Job) → WorkOf_op j
+  pub all_work : (j : Job) → WorkOf_op j
   all_work = work_by log_of (λ a. a.left) (plain_calls v0) many refused (whose v0).domain IsLogged (λ op n made ls. AreLines op made ls) (FairFrom v0) Owed One OneReady Dying DyingReady CallGoing CallReady call_lemmas many_lemmas one_work dying_work
