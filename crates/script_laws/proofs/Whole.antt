@@ -98,6 +98,10 @@ unfolding all_lines
 lines_logged op _ _ turns.IsLog.none = tt
 lines_logged op _ _ (turns.IsLog.more log made before a logged is) = subst (AreLines op (log ++ made)) (sym (lines_joined before a)) (lines_more op log made (all_lines before) a (lines_logged op log before logged) is)
 
+-- what is logged of an operation
+abbrev pub log_of : Answered → Logged
+log_of a = record { lines = a.lines; answer = a.answer }
+
 -- ---- what the parts of a turn come to
 module _ (l : Laws) (neither : NeitherLostNorBusy) (v0 : PortValue) (real : (whose v0).domain < length v0.post.machine.page_limit) (e : Elements l neither v0) where
   abbrev pub Owed : PortValue → Solo → Type 0
@@ -160,9 +164,6 @@ module _ (l : Laws) (neither : NeitherLostNorBusy) (v0 : PortValue) (real : (who
   abbrev pub one_op : ℕ → Op → Solo → Answered
   one_op k op s = op_alone (whose v0) op s
 
-  abbrev pub log_of : Answered → Logged
-  log_of a = record { lines = a.lines; answer = a.answer }
-
   abbrev pub plain_ops : PlainScript Op Solo Logged Answered
   plain_ops =
       record {
@@ -201,16 +202,16 @@ module _ (l : Laws) (neither : NeitherLostNorBusy) (v0 : PortValue) (real : (who
   ReadyOp =
       ReadyBy log_of (λ a. a.left) (plain_calls v0) many refused (whose v0).domain IsLogged (λ op n made ls. AreLines op made ls) (FairFrom v0) Owed One OneReady Dying DyingReady CallGoing CallReady call_lemmas
 
-  abbrev Answers_op : ℕ → List LogLine → Reply → Answered → PortValue → Type 0
+  abbrev pub Answers_op : ℕ → List LogLine → Reply → Answered → PortValue → Type 0
   Answers_op = Answers log_of (λ a. a.left) (plain_calls v0) many refused (whose v0).domain IsLogged (λ op n made ls. AreLines op made ls) (FairFrom v0) Owed One OneReady Dying DyingReady CallGoing CallReady call_lemmas
 
   answers_op : (n : ℕ) (made : List LogLine) (w : PortValue) (reply : Reply) (a : Answered) → IsTaskAnswered l.stays neither v0 n made w reply a → Answers_op n made reply a w
   answers_op n made w reply a t = record { logs = record { before = made; reply = reply; is = refl; lines_are = t.lines; answers = t.replies }; owes = t.owes }
 
-  abbrev Comes_op : Job → ℕ → Progress → List LogLine → PortValue → Answered → Result ℕ Stop → Type 0
+  abbrev pub Comes_op : Job → ℕ → Progress → List LogLine → PortValue → Answered → Result ℕ Stop → Type 0
   Comes_op = ComesBy log_of (λ a. a.left) (plain_calls v0) many refused (whose v0).domain IsLogged (λ op n made ls. AreLines op made ls) (FairFrom v0) Owed One OneReady Dying DyingReady CallGoing CallReady call_lemmas
 
-  abbrev WorkOf_op : Job → Type 0
+  abbrev pub WorkOf_op : Job → Type 0
   WorkOf_op = WorkOf log_of (λ a. a.left) (plain_calls v0) many refused (whose v0).domain IsLogged (λ op n made ls. AreLines op made ls) (FairFrom v0) Owed One OneReady Dying DyingReady CallGoing CallReady call_lemmas
 
   one_comes : (task : Option Task) (n : ℕ) (to : Progress) (made : List LogLine) (w : PortValue) (a : Answered) (r : Result ℕ Stop) → TaskComes l neither v0 real e task n 0 to made w a r → Comes_op (OfOne task) n to made w a r
