@@ -28,6 +28,7 @@ use Rattle.script_law.specs.Values.{Solo}
 use Rattle.solo_memory.proofs.Sounding.{alone_empty, alone_sound, none_of, pages_are}
 use Rattle.solo_ports.specs.Standing.{Clean}
 use Rattle.vcpu_turn.specs.Turning.{IsStop}
+use Rattle.script_laws.specs.Opening.{IsStoppedAt}
 
 no_raised : (f : ℕ) (u : Holdings) → IsEmptyHand u → times f u.raised ≡ 0
 unfolding times_by
@@ -79,11 +80,6 @@ shows_same n s m w x same a =
       pages = λ d real. a.pages d real ∙ sym (same (Pages d) (λ e. cc));
       free = λ f inside. ap (λ y. is_bit (f % 64) y) (same (Map (f / 64)) (λ e. cc)) ∙ a.free f inside ∙ ap is_free (sym (same (Refs f) (λ e. cc)));
     }
-
--- the vCPU is stopped, and its words show the value
-pub record IsStoppedAt (w : PortValue) (x : Solo) : Type 0 where
-  pub shows : Shows w.post.machine w.post.vcpu (told_word w) x
-  pub stopped : told_word w (run_of w.post.vcpu) ≡ 1
 
 pub stop_shows : (v w : PortValue) (x : Solo) → Clean v x → IsStop v w → IsStoppedAt w x
 unfolding left_by

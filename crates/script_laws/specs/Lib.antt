@@ -1,3 +1,4 @@
 pub mod Logged
+pub mod Opening
 pub mod Plain
 pub mod Turns
