@@ -1,10 +1,9 @@
 -- Destructions that go on from turn to turn.
 use Rattle.std.proofs.lemmas.Bool.{cases_Bool}
 use Rattle.std.proofs.lemmas.Bool.Decides.{nat_tests}
-use Rattle.std.proofs.Common.{◌≡◌, ◌≢◌, ◌⊎◌, ℕ, ◌<◌, ◌==◌, ◌||◌, not, nat_lt, if◌then◌else◌, true, false, arith, Bool, List, [], ◌∷◌, ◌++◌, length, Option, Some, None, Result, Ok, Err, refl, sym, ap, ◌∙◌, subst, inl, inr}
+use Rattle.std.proofs.Common.{◌≡◌, ◌≢◌, ℕ, ◌<◌, ◌==◌, ◌||◌, not, nat_lt, if◌then◌else◌, true, false, arith, Bool, List, [], ◌∷◌, ◌++◌, length, Option, Some, None, Result, Ok, Err, refl, sym, ap, ◌∙◌, subst, inl, inr}
 use Rattle.xp_words.specs.declared.place.Place.TheVariants.{Life}
 use Rattle.xp_words.specs.declared.reply.LogLine.{LogLine}
-use Rattle.xp_words.specs.declared.reply.LogLine.TheVariants as lines
 use Rattle.xp_words.specs.declared.reply.Refusal.{Refusal}
 use Rattle.xp_words.specs.declared.reply.Refusal.TheVariants.{Dying, NoDomain, NoPrivilege}
 use Rattle.xp_words.specs.declared.reply.Stop.{Stop}
@@ -19,23 +18,20 @@ use Rattle.replay_laws.specs.LeftAlone.{life}
 use Rattle.replay_laws.proofs.Keeping.{left_alone}
 use Rattle.domain_destroy.specs.Asking.{of_domain}
 use Rattle.domain_destroy.specs.Course.{LeftFrame, left_lines}
-use Rattle.domain_destroy.specs.Destroying.{DomainDestroyed}
-use Rattle.domain_destroy.specs.declared.place.DestroyAt.{DestroyAt}
 use Rattle.script_law.specs.Destroying.{buried, destroy, destroy_refusal, stripped}
 use Rattle.script_law.specs.Repeats.{each_below}
 use Rattle.script_law.specs.Scripts.{Answered, answered, once, once_by}
 use Rattle.script_law.specs.Values.{Left, Line, Outcome, Solo, Whose, Why, allowed, put_at}
-use Rattle.solo_deaths.specs.Dying.{AreLeft, ComesDying, GoesOnDying, IsLeftLine}
+use Rattle.solo_deaths.specs.Dying.{AreLeft, ComesDying, GoesOnDying}
 use Rattle.solo_deaths.proofs.Ending.{begins_dying, by_course}
 use Rattle.solo_pins.proofs.Meaning.{Laws}
-use Rattle.solo_ports.specs.Standing.{Clean, IsSettled, Owes, Stands, nothing, whose}
+use Rattle.solo_ports.specs.Standing.{IsSettled, Owes, nothing, whose}
 use Rattle.course_laws.proofs.Awaiting.{NeitherLostNorBusy}
 use Rattle.vcpu_turn.specs.Cpus.{begun, reply_of}
 use Rattle.vcpu_turn.specs.Destroying.{WentOnDestroying, done_behind}
 use Rattle.vcpu_turn.specs.declared.cpu.Progress.{Progress}
 use Rattle.vcpu_turn.proofs.Destroyed.{destroyed_came}
 use Rattle.script_laws.specs.Logged.{AreLines}
-use Rattle.script_laws.proofs.Premises.{FairFrom}
 use Rattle.script_laws.proofs.Settling.{owes_clean, stands_in}
 use Rattle.script_laws.proofs.Tasking.{Elements, Moving, owes_moved}
 use Rattle.script_laws.proofs.Tasks.{Comes, IsTaskAnswered, Lives, OwesT}

@@ -1,10 +1,10 @@
 -- Translations that are dropped behind an update by address: that is done at once, and changes the clock and the words of flushes alone.
 use Rattle.std.proofs.lemmas.Bool.{cases_Bool}
-use Rattle.std.proofs.Common.{◌≡◌, ◌⊎◌, ℕ, ◌+◌, ◌<◌, ◌&&◌, ◌==◌, ◌%◌, if◌then◌else◌, nat_le, not, Bool, true, false, List, [], ◌∷◌, ◌++◌, length, Option, Some, None, Result, Ok, Err, refl, sym, ap, ◌∙◌, subst, inl, inr, arith}
+use Rattle.std.proofs.Common.{◌≡◌, ◌⊎◌, ℕ, ◌<◌, ◌==◌, ◌%◌, if◌then◌else◌, Bool, true, false, List, [], ◌∷◌, ◌++◌, Option, Some, None, Result, Ok, Err, refl, sym, ◌∙◌, subst, inl, inr}
 use Rattle.xp_words.specs.declared.place.Place.{Place}
 use Rattle.xp_words.specs.Machine.{Machine}
 use Rattle.xp_words.specs.Places.{asked_of}
-use Rattle.xp_words.specs.declared.place.Place.TheVariants.{Clock, Priv, Vcpu}
+use Rattle.xp_words.specs.declared.place.Place.TheVariants.{Clock, Priv}
 use Rattle.xp_words.specs.declared.reply.Pause.TheVariants as pauses
 use Rattle.xp_words.specs.declared.reply.Refusal.{Refusal}
 use Rattle.xp_words.specs.declared.reply.Refusal.TheVariants as refusals
@@ -20,7 +20,7 @@ use Rattle.xp_board.specs.Told.{Post, PortValue, is_telling, told_word}
 use Rattle.xp_board.proofs.PlaceTests.{same_or_other, same_place}
 use Rattle.step_maker.specs.Answers.{Stops}
 use Rattle.step_maker.specs.Asked.{Request}
-use Rattle.step_maker.specs.Moves.{Came, Met, Moves}
+use Rattle.step_maker.specs.Moves.{Came}
 use Rattle.step_maker.specs.Plain.{Words, change}
 use Rattle.step_maker.specs.Reasons.{OfOwner, Those, Whose}
 use Rattle.step_maker.specs.Twins.{Alike, IsAlike}
@@ -31,7 +31,7 @@ use Rattle.step_maker.proofs.Piecing.{serves_came}
 use Rattle.step_maker.proofs.Telling.{load_leaves, load_tells, moves_telling}
 use Rattle.answer_laws.proofs.Shared.{alone_telling}
 use Rattle.course_laws.proofs.Awaiting.{AloneStays, NeitherLostNorBusy, NobodyWaitedFor, clock_by}
-use Rattle.replay_laws.specs.Replays.{Replays, ReplaysAs, SameWords}
+use Rattle.replay_laws.specs.Replays.{Replays, SameWords}
 use Rattle.replay_laws.proofs.Replaying.{does_replays}
 use Rattle.flush_words.specs.Flushing.{FlushedBy}
 use Rattle.flush_words.specs.Flushing as flushing

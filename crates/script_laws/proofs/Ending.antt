@@ -1,36 +1,31 @@
 -- A whole script of one vCPU that is alone comes to the plain one.
-use Rattle.std.proofs.Common.{◌≡◌, ◌≢◌, ◌⊎◌, ℕ, zero, suc, ◌+◌, ◌<◌, nat_lt, Bool, true, false, if◌then◌else◌, List, [], ◌∷◌, ◌++◌, length, Option, Some, None, Result, Ok, Err, refl, sym, ap, ◌∙◌, subst, inl, inr, arith}
+use Rattle.std.proofs.Common.{◌≡◌, ◌≢◌, ◌⊎◌, ℕ, suc, ◌+◌, ◌<◌, Bool, true, false, List, [], ◌∷◌, ◌++◌, length, Option, Some, None, Result, Ok, Err, refl, sym, ap, ◌∙◌, subst, inl, inr}
 use Rattle.std.specs.Prelude.{drop, slice_get}
-use Rattle.xp_words.specs.Places.{run_of}
 use Rattle.xp_words.specs.declared.ops.Call.{Call}
 use Rattle.xp_words.specs.declared.ops.ExtOp.{ExtOp}
 use Rattle.xp_words.specs.declared.ops.Op.{Op}
 use Rattle.xp_words.specs.declared.ops.Op.TheVariants as ops
 use Rattle.xp_words.specs.declared.ops.Pair.{Pair}
-use Rattle.xp_words.specs.declared.place.Place.TheVariants.{Clock, Life}
+use Rattle.xp_words.specs.declared.place.Place.TheVariants.{Life}
 use Rattle.xp_words.specs.declared.reply.LogLine.{LogLine}
-use Rattle.xp_words.specs.declared.reply.Refusal.TheVariants.{BatchLong, Dying as IsDyingNow}
-use Rattle.xp_words.specs.declared.reply.Reply.{Reply}
 use Rattle.xp_words.specs.declared.reply.Stop.{Stop}
 use Rattle.xp_words.specs.declared.reply.Stop.TheVariants.{Refused, Paused}
 use Rattle.xp_board.specs.declared.step.Act.TheVariants.{Load}
 use Rattle.xp_board.specs.declared.step.StepKind.TheVariants as kinds
-use Rattle.xp_board.specs.Told.{Post, PortValue, is_telling, told_word}
+use Rattle.xp_board.specs.Told.{Post, PortValue, is_telling}
 use Rattle.step_maker.proofs.Coming.{came_post, came_self, moves_came}
-use Rattle.step_maker.proofs.Telling.{came_telling, load_tells, moves_telling, told_there}
+use Rattle.step_maker.proofs.Telling.{came_telling, load_tells, told_there}
 use Rattle.answer_laws.proofs.Shared.{alone_telling}
 use Rattle.course_laws.proofs.Awaiting.{NeitherLostNorBusy}
-use Rattle.script_law.specs.Scripts.{Answered, Ended, Logged, alone_where, call_alone, ended_by, joined, live_alone, multicall, once, op_alone, refused, script_alone}
+use Rattle.script_law.specs.Scripts.{Answered, alone_where, live_alone, op_alone, refused, script_alone}
 use Rattle.script_law.specs.Values.{Line, Solo}
 use Rattle.solo_pins.proofs.Meaning.{Laws}
-use Rattle.solo_ports.specs.Standing.{Clean, IsSettled, Owes, Stands, nothing, whose}
-use Rattle.vcpu_turn.specs.Calls.{WentBy}
-use Rattle.vcpu_turn.specs.Cpus.{Job, OfCalls, OfDestroy, OfOne, OfDescriptors, OfExt, OfMapping, OfMem, OfPairs, OfRead, OfWrite, Processing, Task, begun, done_at, job_of, reply_of, task_in, task_of}
+use Rattle.solo_ports.specs.Standing.{Clean, Owes, Stands, nothing, whose}
+use Rattle.vcpu_turn.specs.Cpus.{Job, OfCalls, OfDestroy, OfOne, OfDescriptors, OfExt, OfMapping, OfMem, OfPairs, OfRead, OfWrite, Processing, Task, begun, job_of, task_in}
 use Rattle.vcpu_turn.specs.Descriptors.{TouchLdt}
 use Rattle.vcpu_turn.specs.Settling.{Settles}
-use Rattle.vcpu_turn.specs.Turning.{Begins, EndsTurn, IsStop}
+use Rattle.vcpu_turn.specs.Turning.{Begins}
 use Rattle.vcpu_turn.specs.declared.cpu.Progress.{Progress}
-use Rattle.vcpu_turn.specs.declared.cpu.TurnEnd.TheVariants as ends
 use Rattle.script_laws.specs.Logged.{AreLines, IsLogged}
 use Rattle.script_laws.specs.Opening.{IsStoppedAt}
 use Rattle.script_laws.specs.Turns.{IsLog, Turned}
@@ -43,10 +38,10 @@ use Rattle.script_laws.proofs.Moving.{alike_moves, begins_alike, cut_alike, sett
 use Rattle.script_laws.proofs.Premises.{FairFrom, fair_back}
 use Rattle.script_laws.proofs.Settling.{owes_clean, stands_in}
 use Rattle.script_laws.proofs.Showing.{stop_shows}
-use Rattle.script_laws.proofs.Tasking.{Elements, Moving, call_plain, owes_moved, plain_task, task_begins, task_moved}
-use Rattle.script_laws.proofs.Tasks.{Lives, MayName, OwesT, owners_of}
+use Rattle.script_laws.proofs.Tasking.{Elements, Moving, call_plain, owes_moved, task_begins, task_moved}
+use Rattle.script_laws.proofs.Tasks.{Lives, MayName, owners_of}
 use Rattle.script_laws.proofs.Turning.{Lemmas, WorkComes, script_by}
-use Rattle.script_laws.proofs.Whole.{CallGoing, CallReady, Comes_op, Dying, DyingReady, GoingOp, FineCall, Left, One, OneReady, Owed, ReadyOp, Standing, all_work, call_lemmas, call_moved, log_of, many, multicall_many, one_op, owed_standing, plain_calls, plain_ops}
+use Rattle.script_laws.proofs.Whole.{CallGoing, CallReady, Comes_op, Dying, DyingReady, GoingOp, FineCall, Left, One, OneReady, Owed, ReadyOp, Standing, all_work, call_lemmas, call_moved, log_of, many, multicall_many, plain_calls, plain_ops}
 use Rattle.script_laws.proofs.Working.{By, calls_begin_by, going_moved}
 
 module _ (l : Laws) (neither : NeitherLostNorBusy) (v0 : PortValue) (real : (whose v0).domain < length v0.post.machine.page_limit) (e : Elements l neither v0) where
@@ -197,5 +192,5 @@ module _ (l : Laws) (neither : NeitherLostNorBusy) (v0 : PortValue) (real : (who
   whole_script c d w s turned fair fine of log none at on clean alive retired =
       let owes : Owed l neither v0 real e v0 s = record { ahead = record { came = came_self v0; good = alive }; owes = nothing clean } in
       let k = script_by (plain_ops l neither v0 real e) (whose v0).domain IsLogged (FairFrom v0) (Owed l neither v0 real e) (CleanAt l neither v0 real e) IsStoppedAt (λ op. GoingOp l neither v0 real e (job_of op)) (λ op. ReadyOp l neither v0 real e (job_of op)) (FineOp l neither v0 real e) (script_lemmas l neither v0 real e)
-          c d v0 w s turned fair fine of log none at on owes retired in
+      c d v0 w s turned fair fine of log none at on owes retired in
       (subst (IsLog IsLogged d.log) (sym (log_is c.script 0 s)) k.0, subst (IsStoppedAt w) (sym (left_is c.script 0 s)) k.1)

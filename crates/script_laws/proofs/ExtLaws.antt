@@ -1,15 +1,14 @@
 -- Each element of `mmuext_op` comes to its plain meaning: those about tables and flushes, and those about whole pages and the LDT.
-use Rattle.std.proofs.Common.{◌≡◌, ◌⊎◌, ℕ, ◌+◌, ◌≤◌, ◌<◌, ◌==◌, ◌%◌, ◌^◌, ◌||◌, nat_lt, Bool, true, false, List, Option, Some, None, Result, Ok, Err, refl, sym, ap, ◌∙◌, subst, inl, inr, if◌then◌else◌, arith}
+use Rattle.std.proofs.Common.{◌≡◌, ◌⊎◌, ℕ, ◌+◌, ◌≤◌, ◌==◌, ◌||◌, nat_lt, Bool, true, false, List, Option, Some, None, Result, refl, sym, subst, inl, inr, if◌then◌else◌, arith}
 use Rattle.std.proofs.lemmas.Bool.{cases_Bool}
 use Rattle.std.proofs.lemmas.Bool.Decides.{nat_tests}
 use Rattle.xp_words.specs.declared.ops.ExtOp.{ExtOp}
 use Rattle.xp_words.specs.declared.reply.Stop.{Stop}
 use Rattle.xp_board.specs.Readings.{domain_of}
 use Rattle.xp_board.specs.Told.{Post, PortValue, told_word}
-use Rattle.step_maker.specs.Holds.{Rests}
 use Rattle.step_maker.proofs.Coming.{came_post}
-use Rattle.course_laws.proofs.Awaiting.{AloneStays, NeitherLostNorBusy, NobodyWaitedFor}
-use Rattle.mmuext_ops.specs.Elements.{every_vcpu, ext_element, own_element}
+use Rattle.course_laws.proofs.Awaiting.{AloneStays, NeitherLostNorBusy}
+use Rattle.mmuext_ops.specs.Elements.{ext_element, own_element}
 use Rattle.mmuext_ops.specs.declared.element.Element.{Element}
 use Rattle.mmuext_ops.specs.declared.element.Element.TheVariants.{Pin, Unpin, NewBase, NewUserBase, FlushLocal, Invalidate, FlushVcpus, SetLdt, ClearPage, CopyPage, Unknown}
 use Rattle.table_bases.specs.Asking.{user_frame}
@@ -19,14 +18,14 @@ use Rattle.script_law.specs.Elements.{ext_alone, performed}
 use Rattle.script_law.specs.Values.{Solo}
 use Rattle.solo_pages.proofs.Tables.{ldt_comes}
 use Rattle.solo_pages.proofs.Wholly.{clear_comes, copy_comes}
-use Rattle.solo_pins.specs.Performing.{IsOnTables, IsPerformed, KeepsPin, KeepsTop}
+use Rattle.solo_pins.specs.Performing.{IsOnTables, KeepsPin, KeepsTop}
 use Rattle.solo_pins.proofs.Meaning.{Laws, element_comes}
 use Rattle.solo_ports.specs.Coming.{Comes}
 use Rattle.solo_ports.specs.Standing.{Clean, Fair, IsSettled, KeepsTable, Stands, StaysAlike, whose}
 use Rattle.solo_ports.proofs.Along.{keeps_on}
 use Rattle.vcpu_turn.specs.Ext.{Performs}
-use Rattle.script_laws.proofs.Items.{IsAhead, IsKeeping, LawOf}
-use Rattle.script_laws.proofs.Premises.{FairFrom, fair_on}
+use Rattle.script_laws.proofs.Items.{IsKeeping, LawOf}
+use Rattle.script_laws.proofs.Premises.{fair_on}
 use Rattle.script_laws.proofs.Tasks.{Lives, own}
 
 -- ---- levels
@@ -69,9 +68,9 @@ kind_of : (e : ExtOp) → Kind (ext_element e)
 kind_of e = elim (cases_Bool (nat_lt e.command 4)) [
   | inl pin ↦ (let few : e.command + 1 ≤ 4 = grind (arith, nat_tests) in rw pin (tables (omega arith, few)))
   | inr off ↦ rw off (elim (cases_Bool (e.command == 4)) [
-      | inl unpin ↦ rw unpin (tables tt)
-      | inr other ↦ rw other (unpinned_kind (own_element e.command e.first e.second) (own_no_pin e.command e.first e.second))
-    ])
+    | inl unpin ↦ rw unpin (tables tt)
+    | inr other ↦ rw other (unpinned_kind (own_element e.command e.first e.second) (own_no_pin e.command e.first e.second))
+  ])
 ]
 
 -- ---- what is kept

@@ -1,5 +1,5 @@
 -- Lists of `mmuext_op` that go on from turn to turn.
-use Rattle.std.proofs.Common.{◌≡◌, ◌⊎◌, ℕ, ◌+◌, ◌<◌, ◌≤◌, nat_lt, Bool, true, false, List, [], ◌∷◌, ◌++◌, length, Option, Some, None, Result, Ok, Err, refl, sym, ap, ◌∙◌, subst, inl, inr, arith}
+use Rattle.std.proofs.Common.{◌≡◌, ◌⊎◌, ℕ, ◌<◌, ◌≤◌, nat_lt, Bool, true, false, List, [], ◌∷◌, ◌++◌, length, Option, Some, None, Result, Ok, Err, refl, sym, ap, ◌∙◌, subst, inl, inr, arith}
 use Rattle.std.proofs.lemmas.Bool.Decides.{nat_tests}
 use Rattle.std.proofs.lemmas.List.{append-nil}
 use Rattle.std.specs.Prelude.{drop, slice_get}
@@ -26,7 +26,7 @@ use Rattle.vcpu_turn.specs.Working.{valued}
 use Rattle.vcpu_turn.specs.declared.cpu.Progress.{Progress}
 use Rattle.vcpu_turn.proofs.Hindering.{exts_came}
 use Rattle.script_laws.specs.Logged.{AreLines, IsReply}
-use Rattle.script_laws.proofs.Items.{IsKeeping, LawOf, OwesF}
+use Rattle.script_laws.proofs.Items.{IsKeeping, LawOf}
 use Rattle.script_laws.proofs.Listed.{KeptIn, gives_none, list_lemmas, no_lines, plain_list}
 use Rattle.script_laws.proofs.Lists.{ListComes, ListLemmas, gave_did, gave_on, list_comes}
 use Rattle.script_laws.proofs.Premises.{FairFrom}

@@ -1,10 +1,6 @@
 -- Elements that begin behind a call that settles.
-use Rattle.std.proofs.Common.{◌≡◌, ◌⊎◌, ℕ, Bool, List, [], ◌++◌, Option, Some, None, Result, Ok, Err, refl, sym, ap, ◌∙◌, subst, inl, inr}
-use Rattle.xp_words.specs.declared.place.Place.TheVariants.{Cell, Kind, Refs}
-use Rattle.xp_words.specs.declared.reply.Pause.TheVariants.{Due}
-use Rattle.xp_words.specs.declared.reply.Refusal.{Refusal}
+use Rattle.std.proofs.Common.{◌≡◌, ◌⊎◌, Bool, List, None, Result, Ok, Err, refl, sym, subst, inl, inr}
 use Rattle.xp_words.specs.declared.reply.Stop.{Stop}
-use Rattle.xp_words.specs.declared.reply.Stop.TheVariants.{Refused, Paused}
 use Rattle.xp_board.specs.Told.{PortValue, told_word}
 use Rattle.step_maker.specs.Holds.{Rests}
 use Rattle.step_maker.specs.Moves.{Came}
@@ -19,7 +15,7 @@ use Rattle.solo_ports.specs.Standing.{Clean, IsSettled, Owes, Stands, StaysAlike
 use Rattle.vcpu_turn.specs.Settling.{Settles, SettlesFirst}
 use Rattle.vcpu_turn.specs.Settling as settling
 use Rattle.vcpu_turn.proofs.Hindering.{settles_came}
-use Rattle.script_laws.proofs.Premises.{FairFrom, fair_back}
+use Rattle.script_laws.proofs.Premises.{FairFrom}
 use Rattle.script_laws.proofs.Settling.{due_by, ended_ok, known_settled, same_settled, settles_clean, settles_owes, stands_in}
 
 pub described : (v : PortValue) → Describes v.post.machine (told_word v) (plain_of (told_word v))

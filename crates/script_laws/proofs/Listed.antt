@@ -1,9 +1,8 @@
 -- Lists of elements of which each begins behind a call that settles, and logs nothing: from the law of each.
-use Rattle.std.proofs.Common.{◌≡◌, ◌⊎◌, ℕ, zero, suc, ◌+◌, ◌<◌, Bool, List, [], ◌∷◌, ◌++◌, length, Option, Some, None, Result, Ok, Err, refl, sym, ap, ◌∙◌, subst, inl, inr, arith}
+use Rattle.std.proofs.Common.{◌≡◌, ◌⊎◌, ℕ, zero, suc, ◌<◌, Bool, List, [], ◌∷◌, ◌++◌, length, Option, Some, None, Result, Ok, Err, refl, sym, ap, ◌∙◌, subst, inl, inr, arith}
 use Rattle.std.specs.Prelude.{slice_get}
 use Rattle.std.proofs.lemmas.List.{append_assoc}
 use Rattle.xp_words.specs.declared.reply.LogLine.{LogLine}
-use Rattle.xp_words.specs.declared.reply.Refusal.{Refusal}
 use Rattle.xp_words.specs.declared.reply.Stop.{Stop}
 use Rattle.xp_words.specs.declared.reply.Stop.TheVariants.{Refused, Paused}
 use Rattle.xp_board.specs.Told.{PortValue}
@@ -12,14 +11,14 @@ use Rattle.step_maker.proofs.Coming.{came_trans}
 use Rattle.course_laws.proofs.Awaiting.{AloneStays, NeitherLostNorBusy}
 use Rattle.script_law.specs.Scripts.{Answered, answered, done_with, in_order, logged_behind, next_of}
 use Rattle.script_law.specs.Values.{Line, Outcome, Solo, Why}
-use Rattle.solo_ports.specs.Coming.{Comes, IsDoneSo, IsRefusedSo, IsWhy}
-use Rattle.solo_ports.specs.Standing.{Owes, Stands}
+use Rattle.solo_ports.specs.Coming.{Comes, IsWhy}
+use Rattle.solo_ports.specs.Standing.{Owes}
 use Rattle.vcpu_turn.specs.Lists.{Fitting}
 use Rattle.vcpu_turn.specs.Settling.{SettlesFirst}
-use Rattle.script_laws.specs.Logged.{AreLines, IsLine}
+use Rattle.script_laws.specs.Logged.{AreLines}
 use Rattle.script_laws.specs.Plain.{PlainList}
 use Rattle.script_laws.proofs.Items.{IsAhead, IsKeeping, LawOf, OwesF, first_comes}
-use Rattle.script_laws.proofs.Lists.{ItemComes, Left, ListLemmas, Pending}
+use Rattle.script_laws.proofs.Lists.{ItemComes, ListLemmas}
 use Rattle.script_laws.proofs.Premises.{FairFrom, fair_back}
 use Rattle.script_laws.proofs.Untouched.{SameDomains}
 

@@ -15,11 +15,11 @@ use Rattle.xp_board.specs.Acts.{left_by}
 use Rattle.xp_board.specs.After.{learned, learned_life, learned_own}
 use Rattle.xp_board.specs.Hands.{IsEmptyHand}
 use Rattle.xp_board.specs.Lists.{kept_of}
-use Rattle.xp_board.specs.Told.{Post, PortValue, is_telling, told_word}
+use Rattle.xp_board.specs.Told.{PortValue, is_telling, told_word}
 use Rattle.step_maker.specs.Moves.{Came, Moves, hand_at}
 use Rattle.step_maker.specs.Twins.{Alike}
 use Rattle.step_maker.proofs.Alikes.{alike_trans, same_alike}
-use Rattle.step_maker.proofs.Coming.{came_post, came_trans, moves_came}
+use Rattle.step_maker.proofs.Coming.{moves_came}
 use Rattle.step_maker.proofs.Telling.{came_telling, load_tells, moves_telling}
 use Rattle.answer_laws.proofs.Shared.{alone_telling}
 use Rattle.course_laws.proofs.Awaiting.{NeitherLostNorBusy}
@@ -30,15 +30,14 @@ use Rattle.flush_words.proofs.FlushTwin.{own_alike}
 use Rattle.table_law.specs.Plain.{plain_of}
 use Rattle.script_law.specs.Values.{Solo}
 use Rattle.solo_pins.proofs.Meaning.{Laws}
-use Rattle.solo_ports.specs.Standing.{Owes, Stands, StaysAlike, nothing, whose}
+use Rattle.solo_ports.specs.Standing.{Stands, StaysAlike, nothing, whose}
 use Rattle.solo_ports.proofs.Along.{owes_on}
-use Rattle.tlb_walks.specs.Dropping.{Acks, Heeds}
-use Rattle.vcpu_turn.specs.Calls.{EndsCall}
+use Rattle.tlb_walks.specs.Dropping.{Heeds}
 use Rattle.vcpu_turn.specs.Settling.{Settles}
 use Rattle.vcpu_turn.specs.Turning.{Begins}
 use Rattle.vcpu_turn.proofs.Hindering.{same_came, settles_came}
 use Rattle.vcpu_turn.proofs.Turns.{begins_came}
-use Rattle.script_laws.proofs.Items.{IsKeeping, described}
+use Rattle.script_laws.proofs.Items.{described}
 use Rattle.script_laws.proofs.Settling.{ended_ok, same_settled, settles_clean, settles_owes}
 use Rattle.script_laws.proofs.Tasking.{Elements, Moving}
 

@@ -1,6 +1,5 @@
 -- The whole script, of a vCPU that opens it, from the laws of acquisitions, releases and extents.
-use Rattle.std.proofs.Common.{◌≡◌, ◌<◌, ℕ, false, true, List, Some, length}
-use Rattle.std.specs.Prelude.{slice_get}
+use Rattle.std.proofs.Common.{◌≡◌, ◌<◌, false, true, length}
 use Rattle.xp_words.specs.declared.ops.Call.{Call}
 use Rattle.xp_words.specs.declared.ops.Call.TheVariants as calls
 use Rattle.xp_words.specs.declared.ops.Op.{Op}
@@ -13,7 +12,7 @@ use Rattle.solo_accesses.specs.Stale.{IsNeverStale}
 use Rattle.solo_memory.proofs.Coming.{own_domain}
 use Rattle.solo_pins.proofs.Meaning.{Laws}
 use Rattle.solo_ports.specs.Standing.{Fair, whose}
-use Rattle.vcpu_turn.specs.Cpus.{Processing, task_in}
+use Rattle.vcpu_turn.specs.Cpus.{Processing}
 use Rattle.script_laws.specs.Logged.{IsLogged}
 use Rattle.script_laws.specs.Opening.{IsStoppedAt, Opens, WritesNoEntries, WritesNoEntry, is_entry_write}
 use Rattle.script_laws.specs.Turns.{IsLog, Turned}

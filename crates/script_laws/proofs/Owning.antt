@@ -1,18 +1,13 @@
 -- Whose tables and frames a list is about: as the plain value has it.
-use Rattle.std.proofs.Common.{◌≡◌, ℕ, ◌<◌, ◌^◌, ◌==◌, ◌||◌, not, nat_lt, Bool, true, false, [], Option, Some, None, Result, Ok, Err, refl, sym, ap, ◌∙◌, subst, inl, inr, if◌then◌else◌, length, arith}
+use Rattle.std.proofs.Common.{◌≡◌, ℕ, ◌<◌, ◌^◌, ◌==◌, nat_lt, [], Option, Some, None, Result, Ok, Err, refl, sym, ap, ◌∙◌, subst, inl, inr, length, arith}
 use Rattle.std.proofs.lemmas.Bool.{cases_Bool}
 use Rattle.std.proofs.lemmas.Bool.Decides.{nat_tests}
 use Rattle.xp_words.specs.Machine.{Machine}
-use Rattle.xp_words.specs.declared.place.Place.{Place}
-use Rattle.xp_words.specs.declared.place.Place.TheVariants.{Life, Priv}
 use Rattle.xp_words.specs.declared.reply.Refusal.{Refusal}
-use Rattle.xp_words.specs.declared.reply.Refusal.TheVariants.{Dying, NoDomain, NoPrivilege}
 use Rattle.xp_board.specs.declared.holdings.Holdings.{Holdings}
 use Rattle.xp_board.specs.Hands.{IsEmptyHand}
 use Rattle.xp_board.proofs.PlaceTests.{equal_by}
-use Rattle.xp_board.specs.Readings.{has_now}
-use Rattle.xp_board.specs.Told.{Post, PortValue, told_word}
-use Rattle.step_maker.specs.Holds.{Same}
+use Rattle.xp_board.specs.Told.{PortValue, told_word}
 use Rattle.step_maker.specs.Plain.{Words}
 use Rattle.step_maker.proofs.Alikes.{same_alike}
 use Rattle.foreign_map.specs.Owning.{admit, allow, frames_of, or_then, owners_answer, refuse_owners, tables_of}
@@ -29,14 +24,14 @@ module _ (n : Machine) (s : ℕ) (m : Words) (x : Solo) (o : ShowsOthers n s m x
   admits d = elim (cases_Bool (d == caller)) [
     | inl own ↦ rw own refl
     | inr off ↦ rw off (elim (cases_Bool (nat_lt d (length n.page_limit))) [
-        | inr beyond ↦ rw beyond refl
-        | inl inside ↦ (
-            let low : d < length n.page_limit = grind (arith, nat_tests) in
-            let p = o.privileges caller real in
-            let l = o.lives d low in
-            rw (inside, p, l) refl
-            )
-      ])
+      | inr beyond ↦ rw beyond refl
+      | inl inside ↦ (
+          let low : d < length n.page_limit = grind (arith, nat_tests) in
+          let p = o.privileges caller real in
+          let l = o.lives d low in
+          rw (inside, p, l) refl
+          )
+    ])
   ]
 
   allows : (tables frames : ℕ) → tables < length n.page_limit → allow m caller tables frames ≡ allow (of_domains x) caller tables frames
@@ -49,9 +44,9 @@ module _ (n : Machine) (s : ℕ) (m : Words) (x : Solo) (o : ShowsOthers n s m x
         rw (admits tables, admits frames, allows tables frames low) refl
         )
     | inr beyond ↦ elim (cases_Bool (tables == caller)) [
-        | inl own ↦ absurd (let same = equal_by tables caller own in grind (arith, nat_tests))
-        | inr off ↦ rw (off, beyond) refl
-      ]
+      | inl own ↦ absurd (let same = equal_by tables caller own in grind (arith, nat_tests))
+      | inr off ↦ rw (off, beyond) refl
+    ]
   ]
 
   pub owners_same : (foreign : ℕ) → refuse_owners n m caller foreign ≡ refuse_owners n (of_domains x) caller foreign

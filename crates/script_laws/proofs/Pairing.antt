@@ -1,5 +1,5 @@
 -- Lists of `mmu_update` that go on from turn to turn.
-use Rattle.std.proofs.Common.{◌≡◌, ◌⊎◌, ℕ, zero, suc, ◌+◌, ◌<◌, ◌≤◌, nat_lt, Bool, true, false, List, [], ◌∷◌, ◌++◌, length, Option, Some, None, Result, Ok, Err, refl, sym, ap, ◌∙◌, subst, inl, inr, arith}
+use Rattle.std.proofs.Common.{◌≡◌, ◌⊎◌, ℕ, ◌<◌, ◌≤◌, nat_lt, Bool, true, false, List, [], ◌∷◌, ◌++◌, length, Option, Some, None, Result, Ok, Err, refl, sym, ap, ◌∙◌, subst, inl, inr, arith}
 use Rattle.std.proofs.lemmas.Bool.Decides.{nat_tests}
 use Rattle.std.proofs.lemmas.List.{append-nil}
 use Rattle.std.specs.Prelude.{drop, slice_get}
@@ -13,7 +13,6 @@ use Rattle.xp_words.specs.declared.reply.Stop.TheVariants.{Refused, Paused}
 use Rattle.xp_board.specs.Told.{Post, PortValue}
 use Rattle.xp_words.specs.declared.place.Place.{Place}
 use Rattle.xp_words.specs.declared.place.Place.TheVariants.{Cell, Clock, Kind, Life, M2p, Map, Pages, Priv, Refs, Vcpu}
-use Rattle.step_maker.specs.Moves.{Came}
 use Rattle.step_maker.specs.Plain.{Words}
 use Rattle.step_maker.proofs.Coming.{came_post, came_trans}
 use Rattle.foreign_map.specs.Owning.{refuse_owners}
@@ -24,7 +23,7 @@ use Rattle.course_laws.proofs.Awaiting.{AloneStays, NeitherLostNorBusy}
 use Rattle.script_law.specs.Elements.{pair_alone}
 use Rattle.script_law.specs.Scripts.{Answered, answered, in_order, listed, logged_behind, owned_by, owned_pairs, refused}
 use Rattle.script_law.specs.Values.{Line, Outcome, Solo, of_domains}
-use Rattle.solo_ports.specs.Standing.{Owes, Stands, whose}
+use Rattle.solo_ports.specs.Standing.{whose}
 use Rattle.solo_ports.proofs.Along.{owes_on}
 use Rattle.solo_ports.specs.Coming.{IsWhy}
 use Rattle.vcpu_turn.specs.Cpus.{reply_of}
@@ -35,15 +34,15 @@ use Rattle.vcpu_turn.specs.Pairs as owning
 use Rattle.vcpu_turn.specs.Settling.{SettlesFirst}
 use Rattle.vcpu_turn.specs.Working.{valued}
 use Rattle.vcpu_turn.specs.declared.cpu.Progress.{Progress}
-use Rattle.vcpu_turn.proofs.Hindering.{owners_came, pairs_came}
+use Rattle.vcpu_turn.proofs.Hindering.{pairs_came}
 use Rattle.script_laws.specs.Logged.{AreLines, IsReply}
-use Rattle.script_laws.proofs.Items.{IsAhead, IsKeeping, LawOf, OwesF}
+use Rattle.script_laws.proofs.Items.{IsKeeping, LawOf, OwesF}
 use Rattle.script_laws.proofs.Listed.{KeptIn, gives_none, list_lemmas, no_lines, plain_list}
 use Rattle.script_laws.proofs.Lists.{ListComes, ListLemmas, Stands as ListStands, gave_did, gave_on, list_comes}
 use Rattle.script_laws.proofs.Owning.{found_had, found_none, owners_alike}
 use Rattle.script_laws.proofs.Premises.{FairFrom}
 use Rattle.script_laws.proofs.Settling.{stands_in}
-use Rattle.script_laws.proofs.Tasks.{Begins, Comes, IsTaskAnswered, Lives, MayName, OwesT, own, owners_of}
+use Rattle.script_laws.proofs.Tasks.{Begins, Comes, IsTaskAnswered, MayName, OwesT, own, owners_of}
 use Rattle.script_laws.proofs.Untouched.{SameDomains, itself, updates_keep}
 
 -- the words of domains of a plain value
@@ -188,8 +187,11 @@ module _ (stays : AloneStays) (neither : NeitherLostNorBusy) (v0 : PortValue) (K
       let none : refuse_owners (whose v0).machine (of_domains s) (whose v0).domain foreign ≡ None = subst (λ (p : Post). refuse_owners p.machine (of_domains s) (whose v0).domain foreign ≡ None) post had.0 in
       let alike = owners_alike v u s stands (whose v0).domain foreign low (Ok x) finds in (
         had.1,
-        (s, sym (owned_few s list None some few none ∙ listed_few s list few) ∙ is,
-        inl (record { ahead = record { came = came_trans v0 v u owes.ahead.came alike.came; good = (owes.ahead.good, none) }; owes = owes_on stays v u s alike owes.owes })),
+        (
+          s,
+          sym (owned_few s list None some few none ∙ listed_few s list few) ∙ is,
+          inl (record { ahead = record { came = came_trans v0 v u owes.ahead.came alike.came; good = (owes.ahead.good, none) }; owes = owes_on stays v u s alike owes.owes }),
+        ),
       )
 
   refused_so : (at to : Progress) (made : List LogLine) (v w : PortValue) (s : Solo) (b : Answered) (x : Refusal) → OwesT stays neither v0 v s → made ≡ [] → to.done ≡ 0 → owned_pairs (own stays neither v0) foreign list s ≡ b → 0 < length list → length list ≤ 512 → FindsOwners v w (whose v0).domain foreign (Err x) →

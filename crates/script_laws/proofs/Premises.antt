@@ -1,5 +1,5 @@
 -- The premises on all steps of a script hold of those between any two of its ports.
-use Rattle.std.proofs.Common.{◌≡◌, ℕ, ◌<◌, sym, ap, subst}
+use Rattle.std.proofs.Common.{◌<◌, sym, subst}
 use Rattle.xp_board.specs.Told.{Post, PortValue}
 use Rattle.step_maker.specs.Moves.{Came, Met, Moment}
 use Rattle.step_maker.proofs.Coming.{came_post, came_trans}

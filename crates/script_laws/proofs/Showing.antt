@@ -1,7 +1,7 @@
 -- Where nothing is left to be settled the words show the whole plain value; and they do behind the step that stops the vCPU.
-use Rattle.std.proofs.Common.{◌≡◌, ◌≢◌, ℕ, ◌+◌, ◌/◌, ◌%◌, ◌<◌, None, Bool, true, false, length, refl, sym, ap, ◌∙◌, subst, arith}
+use Rattle.std.proofs.Common.{◌≡◌, ◌≢◌, ℕ, ◌/◌, ◌%◌, None, Bool, true, false, refl, sym, ap, ◌∙◌, subst, arith}
 use Rattle.xp_words.specs.Machine.{Machine}
-use Rattle.xp_words.specs.Places.{run_of, sizes_of}
+use Rattle.xp_words.specs.Places.{run_of}
 use Rattle.xp_words.specs.declared.place.Place.{Place}
 use Rattle.xp_words.specs.declared.place.Place.TheVariants.{Cell, Kind, Life, M2p, Map, Pages, Priv, Refs, Vcpu}
 use Rattle.xp_words.specs.RefWords.{bit}
@@ -14,7 +14,6 @@ use Rattle.xp_board.specs.Lists.{times, times_by}
 use Rattle.xp_board.specs.Readings.{is_free}
 use Rattle.xp_board.specs.Sound.{hand_of, is_hinted}
 use Rattle.xp_board.specs.Told.{Post, PortValue, told_word}
-use Rattle.step_maker.specs.Moves.{Moves}
 use Rattle.step_maker.specs.Plain.{Words}
 use Rattle.step_maker.proofs.Coming.{came_post, moves_came}
 use Rattle.step_maker.proofs.Telling.{told_elsewhere, told_here}

@@ -3,7 +3,6 @@ use Rattle.std.proofs.Common.{◌≡◌, ◌⊎◌, ℕ, Bool, List, [], Option,
 use Rattle.xp_words.specs.declared.reply.LogLine.{LogLine}
 use Rattle.xp_words.specs.declared.reply.Refusal.{Refusal}
 use Rattle.xp_words.specs.declared.reply.Refusal.TheVariants.{BadCommand}
-use Rattle.xp_words.specs.declared.reply.Reply.{Reply}
 use Rattle.xp_words.specs.declared.reply.Stop.{Stop}
 use Rattle.xp_words.specs.declared.reply.Stop.TheVariants.{Refused, Paused}
 use Rattle.xp_board.specs.Readings.{domain_of}
@@ -13,7 +12,7 @@ use Rattle.step_maker.specs.Moves.{Came}
 use Rattle.step_maker.proofs.Coming.{came_post, came_trans}
 use Rattle.course_laws.proofs.Awaiting.{AloneStays, NeitherLostNorBusy, NobodyWaitedFor}
 use Rattle.script_law.specs.Scripts.{Answered, answered, once, once_by, refused, single}
-use Rattle.script_law.specs.Values.{Line, Numbers, Outcome, Solo, Why}
+use Rattle.script_law.specs.Values.{Numbers, Outcome, Solo, Why}
 use Rattle.script_law.specs.Pages.{set_descriptor, set_gdt}
 use Rattle.script_law.specs.Walks.{map_word, read_at, touch_ldt, write_at}
 use Rattle.solo_pages.proofs.Single.{descriptor_comes}
@@ -37,7 +36,7 @@ use Rattle.vcpu_turn.specs.Settling as settling
 use Rattle.vcpu_turn.specs.Working.{valued}
 use Rattle.vcpu_turn.specs.declared.cpu.Progress.{Progress}
 use Rattle.vcpu_turn.proofs.Hindering.{descriptors_came, drops_came, reads_came, settles_came, word_came, writes_came}
-use Rattle.script_laws.specs.Logged.{AreLines, IsReply}
+use Rattle.script_laws.specs.Logged.{AreLines}
 use Rattle.script_laws.proofs.Extending.{lives_on}
 use Rattle.script_laws.proofs.Items.{IsAhead, IsKeeping, LawOf, first_comes}
 use Rattle.script_laws.proofs.Listed.{no_lines}

@@ -1,11 +1,9 @@
 -- The work of a turn on any single operation, or call, that is no destruction: what is left of it, and what that comes to.
-use Rattle.std.proofs.Common.{◌≡◌, ◌⊎◌, ℕ, ◌+◌, ◌<◌, Bool, List, [], ◌∷◌, ◌++◌, length, Option, Some, None, Result, Ok, Err, refl, sym, ap, ◌∙◌, subst, inl, inr}
+use Rattle.std.proofs.Common.{◌≡◌, ◌⊎◌, ℕ, ◌<◌, Bool, List, [], ◌++◌, length, Option, Some, None, Result, Ok, Err, refl, sym, ◌∙◌, subst, inl, inr}
 use Rattle.std.proofs.lemmas.List.{append-nil}
 use Rattle.xp_words.specs.declared.ops.Call.{Call}
 use Rattle.xp_words.specs.declared.ops.Call.TheVariants as calls
 use Rattle.xp_words.specs.declared.ops.ExtOp.{ExtOp}
-use Rattle.xp_words.specs.declared.ops.Op.{Op}
-use Rattle.xp_words.specs.declared.ops.Op.TheVariants as ops
 use Rattle.xp_words.specs.declared.ops.Pair.{Pair}
 use Rattle.xp_words.specs.declared.reply.LogLine.{LogLine}
 use Rattle.xp_words.specs.declared.reply.Refusal.TheVariants.{BadCommand}
@@ -15,22 +13,21 @@ use Rattle.xp_board.specs.Told.{PortValue}
 use Rattle.foreign_map.specs.declared.owners.Owners.{Owners}
 use Rattle.step_maker.specs.Holds.{Rests}
 use Rattle.step_maker.specs.Moves.{Came}
-use Rattle.step_maker.proofs.Coming.{came_post, came_trans}
+use Rattle.step_maker.proofs.Coming.{came_trans}
 use Rattle.mmu_update.specs.Elements as pairs
 use Rattle.mmu_update.specs.Fits.{Updates}
-use Rattle.course_laws.proofs.Awaiting.{AloneStays, NeitherLostNorBusy, NobodyWaitedFor}
+use Rattle.course_laws.proofs.Awaiting.{NeitherLostNorBusy}
 use Rattle.script_law.specs.Elements.{ext_alone, pair_alone}
-use Rattle.script_law.specs.Scripts.{Answered, call_alone, extents, listed, live_alone, once, owned_pairs, refused, single}
-use Rattle.script_law.specs.Values.{Outcome, Solo, Whose}
+use Rattle.script_law.specs.Scripts.{Answered, call_alone, extents, listed, once, owned_pairs, refused, single}
+use Rattle.script_law.specs.Values.{Solo}
 use Rattle.script_law.specs.Walks.{map_word, read_at, write_at}
 use Rattle.solo_accesses.specs.Accesses.{with_zero}
 use Rattle.solo_pins.proofs.Meaning.{Laws}
 use Rattle.solo_ports.specs.Standing.{IsSettled, Owes, Stands, StaysAlike, whose}
-use Rattle.vcpu_turn.specs.Cpus.{Task, OfPairs, OfExt, OfMem, OfMapping, OfDescriptors, OfRead, OfWrite, begun_at, task_in, task_of}
+use Rattle.vcpu_turn.specs.Cpus.{Task, OfPairs, OfExt, OfMem, OfMapping, OfDescriptors, OfRead, OfWrite, begun_at, task_in}
 use Rattle.vcpu_turn.specs.Extents.{given_lines}
 use Rattle.vcpu_turn.specs.Mappings.{DropsBehind, UpdatesWord}
-use Rattle.vcpu_turn.specs.Working.{WentOn, Works, gave_of, valued}
-use Rattle.vcpu_turn.specs.declared.cpu.CallNumber.{CallNumber}
+use Rattle.vcpu_turn.specs.Working.{WentOn, gave_of, valued}
 use Rattle.vcpu_turn.specs.declared.cpu.Progress.{Progress}
 use Rattle.script_laws.proofs.Dropping.{drops}
 use Rattle.script_laws.proofs.ExtLaws.{KeepsExt, ext_keeping, ext_law}

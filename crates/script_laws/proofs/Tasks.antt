@@ -1,11 +1,7 @@
 -- What is left of a single operation, or of a call of a multicall; and what a turn's work on it comes to: definitions.
-use Rattle.std.proofs.Common.{◌≡◌, ◌⊎◌, ℕ, ◌+◌, ◌<◌, ◌≤◌, ◌^◌, List, [], ◌∷◌, ◌++◌, length, Option, Some, None, Result, Ok, Err, Bool}
+use Rattle.std.proofs.Common.{◌≡◌, ◌⊎◌, ℕ, ◌<◌, ◌≤◌, ◌^◌, List, [], Some, None, Result, Ok, Err}
 use Rattle.std.specs.Prelude.{drop}
-use Rattle.xp_words.specs.declared.ops.ExtOp.{ExtOp}
-use Rattle.xp_words.specs.declared.ops.Pair.{Pair}
 use Rattle.xp_words.specs.declared.reply.LogLine.{LogLine}
-use Rattle.xp_words.specs.declared.reply.Refusal.{Refusal}
-use Rattle.xp_words.specs.declared.reply.Refusal.TheVariants.{BadCommand, BatchLong}
 use Rattle.xp_words.specs.declared.reply.Reply.{Reply}
 use Rattle.xp_words.specs.declared.reply.Stop.{Stop}
 use Rattle.xp_words.specs.declared.reply.Stop.TheVariants.{Refused, Paused}
@@ -13,19 +9,17 @@ use Rattle.xp_board.specs.Told.{PortValue}
 use Rattle.foreign_map.specs.Owning.{frames_of, refuse_owners, tables_of}
 use Rattle.foreign_map.specs.declared.owners.Owners.{Owners}
 use Rattle.course_laws.proofs.Awaiting.{AloneStays, NeitherLostNorBusy}
-use Rattle.script_law.specs.Elements.{ext_alone, pair_alone}
 use Rattle.script_law.specs.Memory.{count_in, done_before, extents_of, list_refusal, reserve}
 use Rattle.script_law.specs.Pages.{set_descriptor, set_gdt}
-use Rattle.script_law.specs.Scripts.{Answered, extents, in_order, listed, logged_behind, once, owned_pairs, refused}
+use Rattle.script_law.specs.Scripts.{Answered, extents, in_order, logged_behind}
 use Rattle.script_law.specs.Values.{Line, Outcome, Solo, Whose, of_domains}
-use Rattle.script_law.specs.Walks.{map_word, read_at, touch_ldt, write_at}
-use Rattle.solo_ports.specs.Standing.{Clean, IsSettled, Owes, whose}
-use Rattle.step_maker.specs.Holds.{Rests}
-use Rattle.vcpu_turn.specs.Cpus.{Task, OfPairs, OfExt, OfMem, OfMapping, OfDescriptors, OfRead, OfWrite, reply_of}
+use Rattle.script_law.specs.Walks.{touch_ldt}
+use Rattle.solo_ports.specs.Standing.{whose}
+use Rattle.vcpu_turn.specs.Cpus.{reply_of}
 use Rattle.vcpu_turn.specs.Descriptors.{DescriptorTask, SetGdt, SetDescriptor, TouchLdt}
 use Rattle.vcpu_turn.specs.declared.cpu.Progress.{Progress}
 use Rattle.script_laws.specs.Logged.{AreLines, IsReply}
-use Rattle.script_laws.proofs.Items.{OwesF, Relation}
+use Rattle.script_laws.proofs.Items.{OwesF}
 
 module _ (stays : AloneStays) (neither : NeitherLostNorBusy) (v0 : PortValue) where
   abbrev pub own : Whose

@@ -4,14 +4,10 @@ use Rattle.xp_words.specs.Machine.{Machine}
 use Rattle.xp_words.specs.Entries.{fixed, is_slot}
 use Rattle.xp_words.specs.declared.context.LdtBase.{LdtBase}
 use Rattle.xp_words.specs.declared.kind.KindWord.{KindWord}
-use Rattle.xp_words.specs.declared.ops.ExtOp.{ExtOp}
-use Rattle.xp_words.specs.declared.ops.Pair.{Pair}
 use Rattle.xp_words.specs.declared.reply.Refusal.{Refusal}
 use Rattle.foreign_map.specs.declared.owners.Owners.{Owners}
-use Rattle.mmu_update.specs.Elements as pairs
 use Rattle.mmu_update.specs.declared.element.Element as of_pairs
 use Rattle.mmu_update.specs.declared.element.Element.TheVariants as updates
-use Rattle.mmuext_ops.specs.Elements.{ext_element}
 use Rattle.mmuext_ops.specs.declared.element.Element.{Element}
 use Rattle.mmuext_ops.specs.declared.element.Element.TheVariants.{Pin, Unpin, NewBase, NewUserBase, FlushLocal, Invalidate, FlushVcpus, SetLdt, ClearPage, CopyPage, Unknown}
 use Rattle.xp_words.specs.ContextWords.{ldt_read, ldt_write}
@@ -38,14 +34,14 @@ use Rattle.table_law.specs.Levels.{closed}
 use Rattle.table_law.specs.Plain.{Plain, with_kind}
 use Rattle.table_law.specs.Release.{let_go}
 use Rattle.table_bases.specs.Asking.{user_frame}
-use Rattle.script_law.specs.Elements.{ext_alone, pair_alone, performed, updated}
+use Rattle.script_law.specs.Elements.{performed, updated}
 use Rattle.script_law.specs.Frames.{exchange_at, is_pinned_as, pin, pin_by, rename, under_lock, set_base, set_map, unpin, unpin_by, write_by, write_entry, write_memory, write_word}
 use Rattle.reservations.specs.Extents.{too_high}
 use Rattle.reservations.specs.Returning.{number_at}
 use Rattle.reservations.specs.declared.extents.Extent.{Extent}
 use Rattle.reservations.specs.declared.extents.Extent.TheVariants.{Increase, Decrease, Populate}
 use Rattle.script_law.specs.Memory.{claim, claim_at, first_free, is_allocated_to, pages_of, reserve, return_frame, return_frames, unmarked}
-use Rattle.script_law.specs.Pages.{clear_frame, copy_frame, filled_page, fix_descriptor, get_page, get_pages, give_page, with_fixed, with_page, put_descriptor, set_descriptor, set_gdt, set_ldt, store_descriptor, take_page}
+use Rattle.script_law.specs.Pages.{clear_frame, copy_frame, filled_page, fix_descriptor, get_page, get_pages, give_page, with_fixed, with_page, put_descriptor, set_descriptor, set_gdt, set_ldt, take_page}
 use Rattle.script_law.specs.Repeats.{each_below, first_of}
 use Rattle.script_law.specs.Values.{Frames, IsPinned, IsUnpinned, Numbers, Outcome, Solo, Whose, Why, allowed, back_behind, behind, behind_by, did, looked, put_at, stopped, with_own, looked_by, next_behind, or_back, then_do, with_frames}
 use Rattle.script_law.specs.Walks.{Way, from_base, map_refusal, map_word, table_at, read_at, read_by, take_touched, touch_by, touch_ldt, touch_unnamed, update_entry, write_at, write_way}

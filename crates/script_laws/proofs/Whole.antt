@@ -1,13 +1,10 @@
 -- Whole scripts: what the parts of a turn come to, from the laws of elements.
-use Rattle.std.proofs.Common.{◌≡◌, ◌≢◌, ◌⊎◌, ℕ, zero, suc, ◌+◌, ◌<◌, nat_lt, Bool, true, false, if◌then◌else◌, List, [], ◌∷◌, ◌++◌, length, Option, Some, None, Result, Ok, Err, refl, sym, ap, ◌∙◌, subst, inl, inr, arith}
+use Rattle.std.proofs.Common.{◌≡◌, ℕ, suc, ◌+◌, ◌<◌, nat_lt, if◌then◌else◌, List, [], ◌∷◌, ◌++◌, length, Option, Some, None, Result, Ok, Err, refl, sym, ap, ◌∙◌, subst, arith}
 use Rattle.std.proofs.lemmas.List.{append-nil, append_assoc}
-use Rattle.std.specs.Prelude.{slice_get}
 use Rattle.xp_words.specs.declared.ops.Call.{Call}
 use Rattle.xp_words.specs.declared.ops.Op.{Op}
-use Rattle.xp_words.specs.declared.ops.Op.TheVariants as ops
 use Rattle.xp_words.specs.declared.reply.LogLine.{LogLine}
 use Rattle.xp_words.specs.declared.reply.LogLine.TheVariants as lines
-use Rattle.xp_words.specs.declared.reply.Refusal.{Refusal}
 use Rattle.xp_words.specs.declared.reply.Refusal.TheVariants.{BatchLong}
 use Rattle.xp_words.specs.declared.reply.Reply.{Reply}
 use Rattle.xp_words.specs.declared.reply.Stop.{Stop}
@@ -16,29 +13,25 @@ use Rattle.xp_board.specs.Told.{PortValue}
 use Rattle.step_maker.specs.Holds.{Rests}
 use Rattle.step_maker.specs.Moves.{Came}
 use Rattle.course_laws.proofs.Awaiting.{NeitherLostNorBusy}
-use Rattle.script_law.specs.Destroying.{destroy}
-use Rattle.script_law.specs.Scripts.{Answered, Logged, alone_where, answered, call_alone, called, calls_in_order, logged_behind, live_alone, multicall, next_of, once, op_alone, refused}
-use Rattle.script_law.specs.Values.{Called, Line, Numbers, Solo}
+use Rattle.script_law.specs.Scripts.{Answered, Logged, answered, call_alone, called, calls_in_order, logged_behind, multicall, op_alone, refused}
+use Rattle.script_law.specs.Values.{Called, Line, Solo}
 use Rattle.solo_pins.proofs.Meaning.{Laws}
-use Rattle.solo_ports.specs.Standing.{IsSettled, Owes, Stands, whose}
-use Rattle.vcpu_turn.specs.Calls.{EndsCall}
-use Rattle.vcpu_turn.specs.Cpus.{Job, OfCalls, OfDestroy, OfOne, Task, begun, begun_at, call_behind, job_of, reply_of, task_in, task_of}
-use Rattle.vcpu_turn.specs.Settling.{Settles}
-use Rattle.vcpu_turn.specs.Working.{WentOn}
+use Rattle.solo_ports.specs.Standing.{IsSettled, Stands, whose}
+use Rattle.vcpu_turn.specs.Cpus.{Job, OfDestroy, OfOne, Task, begun_at, reply_of, task_in}
 use Rattle.vcpu_turn.specs.declared.cpu.Progress.{Progress}
-use Rattle.script_laws.specs.Logged.{AreLines, IsLine, IsLogged, IsReply}
+use Rattle.script_laws.specs.Logged.{AreLines, IsLogged}
 use Rattle.script_laws.specs.Plain.{PlainScript, answers_by, ends_by}
 use Rattle.script_laws.specs.Turns.{IsLog}
 use Rattle.script_laws.specs.Turns as turns
-use Rattle.script_laws.proofs.Burying.{Dies, dies_begins, dies_moved, dies_work}
-use Rattle.script_laws.proofs.Calling.{CallAnswered, CallComes, CallLemmas}
+use Rattle.script_laws.proofs.Burying.{Dies, dies_work}
+use Rattle.script_laws.proofs.Calling.{CallComes, CallLemmas}
 use Rattle.script_laws.proofs.Listed.{lines_more}
 use Rattle.script_laws.proofs.Moving.{alike_moves, cut_alike, settled_moves, unsettled_moves}
 use Rattle.script_laws.proofs.Premises.{FairFrom, fair_back}
 use Rattle.script_laws.proofs.Settling.{stands_in}
-use Rattle.script_laws.proofs.Tasking.{FineTask, Elements, Moving, TaskComes, TaskGoing, call_plain, owes_moved, plain_task, task_begins, task_moved, task_work}
+use Rattle.script_laws.proofs.Tasking.{FineTask, Elements, Moving, TaskComes, TaskGoing, call_plain, owes_moved, task_begins, task_moved, task_work}
 use Rattle.script_laws.proofs.Tasks.{Comes, IsTaskAnswered, Lives, OwesT}
-use Rattle.script_laws.proofs.Working.{Answers, By, Comes as ComesBy, GoingBy, ManyLemmas, ReadyBy, WorkOf, calls_begin_by, going_moved, work_by}
+use Rattle.script_laws.proofs.Working.{Answers, Comes as ComesBy, GoingBy, ManyLemmas, ReadyBy, WorkOf, work_by}
 
 -- ---- the plain calls of a multicall
 pub all_lines : List (List Line) → List Line
