@@ -1,16 +1,15 @@
 -- The only vCPU of a machine opens its script.
-use Rattle.std.proofs.Common.{◌≡◌, ◌≢◌, ◌<◌, ℕ, false, List, [], ◌∷◌, replicate, zero, suc, IsTrue, length, refl, sym, ap, ◌∙◌, subst, arith}
+use Rattle.std.proofs.Common.{◌≡◌, ◌<◌, ℕ, false, List, [], replicate, zero, suc, IsTrue, length, refl, sym, ap, ◌∙◌, subst, arith}
 use Rattle.std.proofs.lemmas.Bool.Decides.{nat_tests}
 use Rattle.xp_words.specs.KindWords.{kind_fields}
 use Rattle.xp_words.specs.Machine.{Machine}
-use Rattle.xp_words.specs.Places.{is_place, memory, old0_of, old1_of, sizes_of}
+use Rattle.xp_words.specs.Places.{is_place, memory, sizes_of}
 use Rattle.xp_words.specs.declared.ops.Op.{Op}
 use Rattle.xp_words.specs.declared.place.Place.{Place}
 use Rattle.xp_words.specs.declared.place.Place.TheVariants.{Cell, Kind, Life, M2p, Priv, Refs, Vcpu}
 use Rattle.xp_board.specs.Hands.{IsEmptyHand, empty}
 use Rattle.xp_board.specs.Readings.{domain_of}
 use Rattle.xp_board.specs.Sound.{Sound, SoundWords, hand_of}
-use Rattle.xp_board.specs.Told.{PortValue}
 use Rattle.shared_board.specs.Board.{opened_story}
 use Rattle.table_law.specs.Plain.{share_of, sober}
 use Rattle.trace_text.specs.declared.trace.Trace.{Trace}

@@ -3,4 +3,6 @@
 
 mod runs;
 
-pub use runs::{a_vcpu_opens_its_script, preemption_is_invisible_in_a_run};
+pub use runs::{
+    a_vcpu_opens_its_script, preemption_is_invisible_in_a_run, turns_and_pauses_do_not_matter,
+};

@@ -1,21 +1,17 @@
 //! Runs of one vCPU.
-ghost use Rattle.std.specs.Prelude.{◌≡◌, ℕ, List, Some, length, slice_get};
+ghost use Rattle.std.specs.Prelude.{◌≡◌, ℕ, List, length};
 ghost use Rattle.xp_words.specs.declared.ops.Op.{Op};
-ghost use Rattle.shared_board.specs.Board.{opened_story};
 ghost use Rattle.vcpu_runners.specs.Turns.{Processing, fresh};
 ghost use Rattle.trace_text.specs.declared.trace.Trace.{Trace};
+ghost use Rattle.trace_text.specs.declared.trace.TurnRun.{TurnRun};
 ghost use Rattle.trace_text.specs.WellFormed.{IsWellFormed};
 ghost use Rattle.machine_build.specs.Opening.{IsOpening};
 ghost use Rattle.xp_board.specs.Readings.{domain_of};
 ghost use Rattle.xp_preempt.specs.Gates.{Gate};
-ghost use Rattle.xp_machine.specs.Turns.{Stage, port_on};
+ghost use Rattle.xp_machine.specs.Turns.{Stage};
 ghost use Rattle.script_law.specs.Scripts.{script_alone};
-ghost use Rattle.solo_accesses.specs.Stale.{IsNeverStale};
-ghost use Rattle.solo_ports.specs.Standing.{Fair};
-ghost use Rattle.script_laws.specs.Logged.{IsLogged};
-ghost use Rattle.script_laws.specs.Opening.{IsStoppedAt, Opens, WritesNoEntries};
-ghost use Rattle.script_laws.specs.Turns.{IsLog};
-ghost use Rattle.solo_runs.specs.Finishing.{FinishesAlone, first_port, opening_solo, owner_in};
+ghost use Rattle.script_laws.specs.Opening.{Opens, WritesNoEntries};
+ghost use Rattle.solo_runs.specs.Finishing.{ComeToTheSame, ComesTo, FinishesAlone, IsFairRun, first_port, opening_solo, owner_in, with_turns};
 
 use opening_rule::opening_words_are_sound;
 use script_laws::preemption_is_invisible;
@@ -32,10 +28,17 @@ pub fn a_vcpu_opens_its_script()
 ///
 /// The premises are on the steps of the run: none finds the clock at its last value, or a reference word with its count at the limit, or comes to a word by a translation that a walk would not find.
 pub fn preemption_is_invisible_in_a_run()
-    ensures { (t : Trace) (gates : List Gate) (script : List Op) (closed : Stage) (last : Processing) → (run : FinishesAlone t gates script closed last) → WritesNoEntries script →
-        Fair (first_port t run.ran.opened) (port_on t.layout 0 closed.board) → IsNeverStale (first_port t run.ran.opened) (port_on t.layout 0 closed.board) →
-        (slice_get closed.cpus 0 ≡ Some last) × IsLog IsLogged last.log (script_alone (owner_in t) script (opening_solo t)).log × IsStoppedAt (port_on t.layout 0 closed.board) (script_alone (owner_in t) script (opening_solo t)).left }
+    ensures { (t : Trace) (gates : List Gate) (script : List Op) (closed : Stage) (last : Processing) (run : FinishesAlone t gates script closed last) → WritesNoEntries script → IsFairRun t run.ran.opened closed →
+        ComesTo t closed last (script_alone (owner_in t) script (opening_solo t)).log (script_alone (owner_in t) script (opening_solo t)).left }
 {
     a_vcpu_opens_its_script();
     preemption_is_invisible();
+}
+
+/// So two runs that differ in their turn lines, and in what the gates answer, come to the same answers and to words that show one value.
+pub fn turns_and_pauses_do_not_matter()
+    ensures { (t : Trace) (us : List TurnRun) (gates others : List Gate) (script : List Op) (closed other : Stage) (last ends : Processing) (run : FinishesAlone t gates script closed last) (again : FinishesAlone (with_turns us t) others script other ends) → WritesNoEntries script →
+        IsFairRun t run.ran.opened closed → IsFairRun (with_turns us t) again.ran.opened other → ComeToTheSame t closed last (with_turns us t) other ends }
+{
+    preemption_is_invisible_in_a_run();
 }
