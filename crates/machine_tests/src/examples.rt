@@ -57,12 +57,6 @@ const EXAMPLES: [Example; 33] = [
         lines: "pending 1\nframe 5 owner 0 refs 2 alloc type L1 count 1 flags hk at 3 m2p -\nframe 6 owner 0 refs 4 alloc type none count 0 flags - at 0 m2p -\n",
     },
     Example {
-        shows: "512 turns finish a pin that pauses after each entry.",
-        pace: "1",
-        trace: "xen-pv-trace 1\nframes 16\ndomain 16\nvcpu 0\nown 0 0 8\ncell 5 0 512 0x6001\nop 0 ext 0 5 0\nturn 0 512\nend\n",
-        lines: "op 1 ok done 1 value 0x0\nframe 5 owner 0 refs 2 alloc type L1 count 1 flags pv at 0 m2p -\nframe 6 owner 0 refs 513 alloc type none count 0 flags - at 0 m2p -\n",
-    },
-    Example {
         shows: "One vCPU's unpin pauses part-way; another vCPU's pin of the same table goes on from there.",
         pace: "256",
         trace: "xen-pv-trace 1\nframes 16\ndomain 16\ndomain 16\npriv 0 1\nvcpu 0\nvcpu 1\nvcpu 1\nown 0 0 4\nown 1 4 8\ncell 5 0 512 0x6001\nop 1 ext 0 5 0\nop 1 ext 4 5 0\nop 2 ext 0 5 0\nturn 1 3\nturn 2 1\nturn 1 1\nend\n",
@@ -91,18 +85,6 @@ const EXAMPLES: [Example; 33] = [
         pace: "",
         trace: "xen-pv-trace 1\nframes 16\ndomain 16\nvcpu 0\nown 0 0 8\ncell 3 0 1 0x4003\ncell 3 1 1 0x5003\ncell 5 0 1 0x4003\nop 0 ext 1 3 0\nturn 0 2\nend\n",
         lines: "op 1 refused 3 done 0 OtherType frame=4 want=wr found=L1,1,v\nframe 3 owner 0 refs 1 alloc type L2 count 0 flags - at 0 m2p -\nframe 4 owner 0 refs 1 alloc type L1 count 0 flags - at 0 m2p -\nframe 5 owner 0 refs 1 alloc type L1 count 0 flags - at 0 m2p -\n",
-    },
-    Example {
-        shows: "Preemption at every ask, with turns enough, prints the same text.",
-        pace: "1",
-        trace: "xen-pv-trace 1\nframes 16\ndomain 16\nvcpu 0\nown 0 0 8\ncell 1 0 1 0x2003\ncell 2 0 1 0x3003\ncell 3 0 1 0x4003\ncell 4 0 512 0x5001\nop 0 ext 3 1 0\nturn 0 4000\nend\n",
-        lines: "op 1 ok done 1 value 0x0\nframe 1 owner 0 refs 2 alloc type L4 count 1 flags pv at 0 m2p -\nframe 2 owner 0 refs 2 alloc type L3 count 1 flags v at 0 m2p -\nframe 3 owner 0 refs 2 alloc type L2 count 1 flags v at 0 m2p -\nframe 4 owner 0 refs 2 alloc type L1 count 1 flags v at 0 m2p -\nframe 5 owner 0 refs 513 alloc type none count 0 flags - at 0 m2p -\n",
-    },
-    Example {
-        shows: "Preemption at every ask, with turns enough, prints the same text.",
-        pace: "1",
-        trace: "xen-pv-trace 1\nframes 16\ndomain 16\nvcpu 0\nown 0 0 8\ncell 3 7 1 0x80\ncell 4 7 1 0x5081\nop 0 ext 1 3 0\nop 0 ext 1 4 0\nturn 0 4000\nend\n",
-        lines: "op 1 ok done 1 value 0x0\nop 2 refused 4 done 0 Reserved frame=4 index=7 entry=0x5081\nframe 3 owner 0 refs 2 alloc type L2 count 1 flags pv at 0 m2p -\nframe 4 owner 0 refs 1 alloc type L2 count 0 flags - at 0 m2p -\nframe 5 owner 0 refs 1 alloc type none count 0 flags - at 0 m2p -\n",
     },
     Example {
         shows: "A domain with privilege sets a word of another's frame by naming its owner; one without is refused.",
@@ -201,6 +183,12 @@ const EXAMPLES: [Example; 33] = [
         lines: "op 3 ok done 1 value 0x5063\nop 4 ok done 1 value 0x4021\nop 6 ok done 1 value 0x6063\n",
     },
     Example {
+        shows: "An entry is set while its vCPU keeps an older translation, by which it reads on; behind its flush a walk finds the new entry.",
+        pace: "",
+        trace: "xen-pv-trace 1\nframes 8\ndomain 8\nvcpu 0\nown 0 0 8\ncell 1 0 1 0x2003\ncell 2 0 1 0x3003\ncell 3 0 1 0x4003\ncell 4 0 1 0x5003\ncell 5 0 1 0x55\ncell 6 0 1 0x66\nop 0 ext 5 1 0\nop 0 read k 0x0\nop 0 mmu 0x7ff0 0x4000 0x6003\nop 0 read k 0x0\nop 0 ext 6 0 0\nop 0 read k 0x0\nturn 0 6\nend\n",
+        lines: "op 2 ok done 1 value 0x55\nop 4 ok done 1 value 0x55\nop 6 ok done 1 value 0x66\n",
+    },
+    Example {
         shows: "A vCPU of a domain that can never have mapped the frame is not waited for.",
         pace: "",
         trace: "xen-pv-trace 1\nframes 16\ndomain 16\ndomain 16\nvcpu 0\nvcpu 1\nvcpu 1\nown 0 0 4\nown 1 4 8\ncell 4 0 1 0x5003\ncell 5 0 1 0x6003\ncell 6 0 1 0x7003\ncell 7 0 1 0x8003\nop 1 ext 5 4 0\nop 1 write k 0x0 0x100\nop 1 write k 0x0 0x100\nop 2 mmu 0x7ff0 0x7000 0x0\nop 2 ext 0 8 0\nturn 1 2\nturn 2 2\nturn 1 1\nturn 2 1\nend\n",
@@ -211,6 +199,18 @@ const EXAMPLES: [Example; 33] = [
         pace: "",
         trace: "xen-pv-trace 1\nframes 16\ndomain 16\ndomain 16\npriv 0 1\nvcpu 0\nvcpu 1\nvcpu 1\nown 0 0 4\nown 1 4 8\ncell 4 0 1 0x5003\ncell 5 0 1 0x6003\ncell 6 0 1 0x7003\ncell 7 0 1 0x8003\nop 1 ext 5 4 0\nop 1 write k 0x0 0x100\nop 1 write k 0x0 0x100\nop 2 mmu 0x7ff0 0x7000 0x0\nop 2 ext 0 8 0\nturn 1 2\nturn 2 2\nturn 1 1\nturn 2 1\nend\n",
         lines: "pending 1\n",
+    },
+    Example {
+        shows: "Of two vCPUs that pin one table the first one does, and the other finds it pinned.",
+        pace: "",
+        trace: "xen-pv-trace 1\nframes 8\ndomain 8\nvcpu 0\nvcpu 0\nown 0 0 8\ncell 5 0 1 0x6001\nop 0 ext 0 5 0\nop 1 mmu 0x7ff0 0x1 7\nop 1 ext 0 5 0\nturn 0 1\nturn 1 600\nturn 0 600\nend\n",
+        lines: "op 2 refused 6 done 0 AlreadyPinned found=L1,1,pv\n",
+    },
+    Example {
+        shows: "The same two, paused at each ask: the other takes the table on, and the first one finds it pinned.",
+        pace: "1",
+        trace: "xen-pv-trace 1\nframes 8\ndomain 8\nvcpu 0\nvcpu 0\nown 0 0 8\ncell 5 0 1 0x6001\nop 0 ext 0 5 0\nop 1 mmu 0x7ff0 0x1 7\nop 1 ext 0 5 0\nturn 0 1\nturn 1 600\nturn 0 600\nend\n",
+        lines: "op 1 refused 6 done 0 AlreadyPinned found=L1,1,pv\nop 2 ok done 1 value 0x0\n",
     },
 ];
 
@@ -280,7 +280,7 @@ const EXTENTS: [Example; 10] = [
 
 // What the count limit and the last value of the clock refuse, each beside the same trace with one more. (A table of its own: the proof of
 // one test goes no further than some 35 examples.)
-const AT_LIMITS: [Example; 6] = [
+const AT_LIMITS: [Example; 7] = [
     Example {
         shows: "A pin that is not paused needs one reference to its table beside the owner's.",
         pace: "",
@@ -304,6 +304,12 @@ const AT_LIMITS: [Example; 6] = [
         pace: "",
         trace: "xen-pv-trace 1\nframes 16\nclock 68719476734\ndomain 16\nvcpu 0\nown 0 0 8\nop 0 mmu 0x7ff0 0x5000 0x0\nop 0 ext 0 5 0\nturn 0 9\nend\n",
         lines: "op 2 refused 20 done 0 Clock found=68719476734\nframe 5 owner 0 refs 1 alloc type L1 count 0 flags u at 0 m2p -\n",
+    },
+    Example {
+        shows: "A new base could not flush there, and is refused before anything is taken.",
+        pace: "",
+        trace: "xen-pv-trace 1\nframes 16\nclock 68719476734\ndomain 16\ndomain 16\npriv 0 1\nvcpu 0\nvcpu 1\nvcpu 1\nown 0 0 4\nown 1 4 8\ncell 4 0 1 0x5003\ncell 5 0 1 0x6003\ncell 6 0 1 0x7003\ncell 7 0 1 0x8003\nop 1 ext 5 4 0\nturn 1 1\nend\n",
+        lines: "op 1 refused 20 done 0 Clock found=68719476734\nframe 4 owner 1 refs 1 alloc type none count 0 flags - at 0 m2p -\n",
     },
     Example {
         shows: "An entry that maps its own table read-only takes a reference while the write holds another for its lock.",

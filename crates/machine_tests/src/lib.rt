@@ -19,6 +19,8 @@ mod images;
 #[cfg(test)]
 mod lists;
 #[cfg(test)]
+mod pauses;
+#[cfg(test)]
 mod rivals;
 #[cfg(test)]
 mod runs;

@@ -53,7 +53,20 @@ pub fn run_paced<S: Source, K: Sink>(
     ensures read { result ≡ Status.ReadFault → Rose (S.faults source.old) (S.faults source.new) }
     ensures write { result ≡ Status.WriteFault → Rose (K.faults sink.old) (K.faults sink.new) }
 {
-    let mut gates: Vec<Box<dyn Preempt + Send>> = Vec::new(rt.alloc());
+    run_by_gates(rt, words, source, sink, Vec::new(rt.alloc()))
+}
+
+// A run with these gates, and further ones that have a pace.
+pub fn run_by_gates<S: Source, K: Sink>(
+    rt: &(impl Abort + AllocGlobal),
+    words: &[String],
+    source: &mut S,
+    sink: &mut K,
+    mut gates: Vec<Box<dyn Preempt + Send>>,
+) -> Status
+    ensures read { result ≡ Status.ReadFault → Rose (S.faults source.old) (S.faults source.new) }
+    ensures write { result ≡ Status.WriteFault → Rose (K.faults sink.old) (K.faults sink.new) }
+{
     for _ in 0..16 {
         let gate = Box::new(rt.alloc(), Paced::new()).expect(rt, "memory");
         gates.push(gate).expect(rt, "memory");
@@ -143,34 +156,6 @@ fn turns_are_taken_in_the_order_of_their_lines(rt: HostRuntime) {
 }
 
 #[test]
-fn a_failing_read_writes_nothing(rt: HostRuntime) {
-    let fails = vec![in rt.alloc(); 1u64].expect(&rt, "memory");
-    let mut source = MemorySource::new(bytes(&rt, FIRST_UPDATE), fails);
-    let mut sink = MemorySink::new(rt.alloc(), 4096, 4096, Vec::new(rt.alloc())).expect(
-        &rt, "memory",
-    );
-    let answer = run_paced(&rt, &turns(&rt), &mut source, &mut sink);
-    assert!(rt; answer == Status::ReadFault);
-    assert!(rt; sink.bytes().is_empty());
-}
-
-#[test]
-fn a_failing_write_leaves_a_front_of_the_report(rt: HostRuntime) {
-    let first = vec![in rt.alloc(); 1u64].expect(&rt, "memory");
-    let mut source = MemorySource::new(bytes(&rt, FIRST_UPDATE), Vec::new(rt.alloc()));
-    let mut sink = MemorySink::new(rt.alloc(), 4096, 4096, first).expect(&rt, "memory");
-    let answer = run_paced(&rt, &turns(&rt), &mut source, &mut sink);
-    assert!(rt; answer == Status::WriteFault);
-    assert!(rt; sink.bytes().is_empty());
-    let third = vec![in rt.alloc(); 3u64].expect(&rt, "memory");
-    let mut source = MemorySource::new(bytes(&rt, FIRST_UPDATE), Vec::new(rt.alloc()));
-    let mut sink = MemorySink::new(rt.alloc(), 4096, 4, third).expect(&rt, "memory");
-    let answer = run_paced(&rt, &turns(&rt), &mut source, &mut sink);
-    assert!(rt; answer == Status::WriteFault);
-    assert!(rt; sink.bytes() == b"vcpu 0 d".as_slice());
-}
-
-#[test]
 fn other_words_are_refused_before_anything_is_read(rt: HostRuntime) {
     let words = vec![in rt.alloc(); word(&rt, "dance")].expect(&rt, "memory");
     let mut source = MemorySource::new(bytes(&rt, FIRST_UPDATE), Vec::new(rt.alloc()));
@@ -221,9 +206,56 @@ fn a_source_and_a_sink_that_cannot_fail_give_no_fault(rt: HostRuntime) {
 const GUEST: &str =
     "xen-pv-trace 1\nframes 64\ndomain 8\ndomain 40\npriv 0 1\nvcpu 0\nvcpu 1\nown 0 0 8\nown 1 8 40\ncell 8 0 1 0x9007\ncell 9 0 1 0xa007\ncell 10 0 1 0xb007\ncell 11 0 1 0x8005\ncell 11 1 1 0x9005\ncell 11 2 1 0xa005\ncell 11 3 1 0xb005\ncell 11 4 1 0xc007\ncell 11 5 1 0xd007\ncell 11 6 1 0xe007\nop 1 ext 3 8 0 5 8 0\nop 1 write k 0x6000 0xf007\nop 1 va 0x6000 0xe005 2\nop 1 mmu 0x7ff0 0xa008 0xe007\nop 1 write k 0x200000 0x1234\nop 1 va 0x5000 0x0 2\nop 1 mem 1 0 13 47\nop 1 mem 6 0 5\nop 1 read k 0x200000\nop 0 ext 0 3 0\nop 0 mmu 0x1 0x3000 0xf001\nop 0 destroy 1\nturn 1 4\nturn 0 1\nturn 1 5\nturn 0 1\nturn 1 3\nturn 0 1\nend\n";
 
+// How often its trace is read, and its report written, in pieces of 7 bytes.
+const GUEST_READS: u64 = 87;
+
+const GUEST_WRITES: u64 = 152;
+
 // One operation of each form.
 const OPERATIONS: &str =
     "xen-pv-trace 2\nframes 16\nlimit 9\nclock 5\ndomain 8\ndomain 8\npriv 0 1\nvcpu 0\nvcpu 1\nown 0 0 8\ncell 4 0 1 28673\nop 0 mmu 32752 1 2 3 4\nop 0 ext 4 5 0 3 6 0\nop 0 va 4096 3 1\nop 0 vaother 4096 3 1 2\nop 0 gdt 600 7 8\nop 0 desc 28672 9\nop 0 mem 6 0 4 5\nop 0 multi mmu 1 2 3 ; ext 4 5 6 ; gdt 0 ; va 1 2 3\nop 0 read k 4096\nop 0 read u 4096\nop 0 write k 1 2\nop 0 write u 1 2\nop 0 ldt 3\nop 1 destroy 1\nop 1 grant 0 1\nop 1 revoke 0 1\nop 1 ptwr u 1 2\nop 1 xchg 0 1 2 5 6 40\nturn 0 14\nturn 1 5\nend\n";
+
+// The guest's trace, read in pieces of 7 bytes, where this read fails; nothing is to be written then.
+fn answer_where_read_fails(rt: &(impl Abort + AllocGlobal), call: u64) -> Status {
+    let fails = vec![in rt.alloc(); call].expect(rt, "memory");
+    let mut source = MemorySource::in_pieces(bytes(rt, GUEST), 7, fails);
+    let mut sink = MemorySink::new(rt.alloc(), 8192, 8192, Vec::new(rt.alloc())).expect(
+        rt, "memory",
+    );
+    let answer = run_paced(rt, &turns(rt), &mut source, &mut sink);
+    assert!(rt; answer == Status::Done || sink.bytes().is_empty());
+    answer
+}
+
+// The last read finds that there is no more.
+#[test]
+fn a_failing_read_writes_nothing(rt: HostRuntime) {
+    for call in 1..=GUEST_READS {
+        assert!(rt; answer_where_read_fails(&rt, call) == Status::ReadFault);
+    }
+    assert!(rt; answer_where_read_fails(&rt, GUEST_READS + 1) == Status::Done);
+}
+
+// The guest's report, written in pieces of 7 bytes, where this write fails; what is written is a front of that report.
+fn answer_where_write_fails(rt: &(impl Abort + AllocGlobal), call: u64, report: &[u8]) -> Status {
+    let fails = vec![in rt.alloc(); call].expect(rt, "memory");
+    let mut source = HonestSource::new(bytes(rt, GUEST));
+    let mut sink = MemorySink::new(rt.alloc(), 8192, 7, fails).expect(rt, "memory");
+    let answer = run_paced(rt, &turns(rt), &mut source, &mut sink);
+    assert!(rt; report.starts_with(sink.bytes()));
+    let whole = call.saturating_sub(1).saturating_mul(7);
+    assert!(rt; sink.bytes().len() as u64 == whole.min(report.len() as u64));
+    answer
+}
+
+#[test]
+fn a_failing_write_leaves_a_front_of_the_report(rt: HostRuntime) {
+    let report = report_of_text(&rt, bytes(&rt, GUEST));
+    for call in 1..=GUEST_WRITES {
+        assert!(rt; answer_where_write_fails(&rt, call, &report) == Status::WriteFault);
+    }
+    assert!(rt; answer_where_write_fails(&rt, GUEST_WRITES + 1, &report) == Status::Done);
+}
 
 // The report of a trace.
 fn report_of_text(rt: &(impl Abort + AllocGlobal), trace: Vec<u8>) -> Vec<u8> {

@@ -68,7 +68,7 @@ module _ (n : Machine) (q : Plain) (u : PortValue) (telling : is_telling u ≡ t
   none_stops : (w : PortValue) (e : Stop) → Same w (Err e) → ⊥
   none_stops w e same = let k = same.done in cc
 
-  none_done : {below : Option ℕ} → (w : PortValue) (answers : List Bool) (answer : Result (Unit {0}) Stop) → (a : Settled below u w answers answer) → SecondIsNone a → (answer ≡ Ok tt) × Describes n (told_word w) q
+  pub none_done : {below : Option ℕ} → (w : PortValue) (answers : List Bool) (answer : Result (Unit {0}) Stop) → (a : Settled below u w answers answer) → SecondIsNone a → (answer ≡ Ok tt) × Describes n (told_word w) q
   none_done _ _ _ (course.first w answers stop one) second = absurd (none_stops w stop (first_none w answers (Err stop) one))
   none_done _ _ _ (course.both x w answers more answer one two) second =
       let first = first_none x answers (Ok tt) one in

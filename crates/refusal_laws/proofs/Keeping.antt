@@ -1,12 +1,9 @@
 -- What paused calls leave.
-use Rattle.std.proofs.Common.{◌≡◌, ℕ, ◌+◌, ◌<◌, ◌≤◌, ◌==◌, ◌&&◌, not, if◌then◌else◌, Bool, true, false, List, [], ◌∷◌, Some, Err, refl, sym, ap, ◌∙◌, subst, arith}
+use Rattle.std.proofs.Common.{◌≡◌, ℕ, ◌+◌, ◌≤◌, ◌&&◌, not, if◌then◌else◌, true, false, [], ◌∷◌, refl, sym, ap, ◌∙◌, subst, arith}
 use Rattle.std.proofs.lemmas.Bool.Decides.{nat_tests}
 use Rattle.xp_words.specs.Machine.{IsMachine, Machine}
 use Rattle.xp_words.specs.declared.kind.KindWord.{KindWord}
-use Rattle.xp_words.specs.declared.place.Place.TheVariants.{Refs}
-use Rattle.xp_words.specs.declared.reply.Pause.TheVariants.{Due}
-use Rattle.xp_words.specs.declared.reply.Stop.TheVariants.{Paused}
-use Rattle.xp_board.specs.Readings.{is_dead, is_partial, kind_at}
+use Rattle.xp_board.specs.Readings.{kind_at}
 use Rattle.xp_board.specs.Told.{Post, PortValue, is_telling, told_word}
 use Rattle.step_maker.specs.Plain.{Words}
 use Rattle.step_maker.proofs.Coming.{came_post}
@@ -17,14 +14,14 @@ use Rattle.table_words.specs.OldWords.{old_place}
 use Rattle.table_words.specs.declared.old_words.OldWord.TheVariants.{First}
 use Rattle.table_law.specs.Alone.{PlainOutcome}
 use Rattle.table_law.specs.Lawful.{IsAtRest}
-use Rattle.table_law.specs.Plain.{Describes, Plain, Share, share_of, sober}
+use Rattle.table_law.specs.Plain.{Describes, Plain, sober}
 use Rattle.table_law.proofs.Counting.{at_here}
 use Rattle.table_law.proofs.Describing.{sober_live}
 use Rattle.course_laws.specs.Courses.{IsOrderly}
 use Rattle.course_laws.proofs.Extras.{extra, more_of}
 use Rattle.course_laws.proofs.Halfway.{over, tables_onto}
 use Rattle.course_laws.proofs.Under.{TableOf}
-use Rattle.course_laws.proofs.Unwinding.{Parked, ParkedAt}
+use Rattle.course_laws.proofs.Unwinding.{Parked}
 use Rattle.refusal_laws.specs.Repeated as repeated
 use Rattle.refusal_laws.specs.Repeated.{IsKeptFrame, IsKeptTable, PausedCalls, word}
 use Rattle.refusal_laws.proofs.Repeating.{parked_calls}

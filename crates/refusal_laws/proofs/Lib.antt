@@ -1,8 +1,8 @@
-mod Undoing
-mod Leaving
-mod Deciding
-mod Described
-mod Repeating
-mod Untouched
-mod Sparing
-mod Keeping
+pub mod Deciding
+pub mod Described
+pub mod Keeping
+pub mod Leaving
+pub mod Repeating
+pub mod Sparing
+pub mod Undoing
+pub mod Untouched

@@ -1,9 +1,8 @@
 -- A paused acquisition touches no other words: its course, link by link.
-use Rattle.std.proofs.Common.{◌≡◌, ℕ, ◌-◌, Bool, true, false, List, [], ◌∷◌, None, Some, Result, Ok, Err, refl, sym, ap, ◌∙◌, subst}
+use Rattle.std.proofs.Common.{◌≡◌, ℕ, ◌-◌, Bool, true, false, List, [], ◌∷◌, Result, Ok, Err, refl, sym, ◌∙◌, subst}
 use Rattle.xp_words.specs.Entries.{demand_at}
 use Rattle.xp_words.specs.declared.kind.KindWord.{KindWord}
-use Rattle.xp_words.specs.declared.place.Place.{Place}
-use Rattle.xp_words.specs.declared.place.Place.TheVariants.{Cell, Refs}
+use Rattle.xp_words.specs.declared.place.Place.TheVariants.{Cell}
 use Rattle.xp_words.specs.declared.reply.Pause.TheVariants as pauses
 use Rattle.xp_words.specs.declared.reply.Stop.{Stop}
 use Rattle.xp_words.specs.declared.reply.Stop.TheVariants.{Refused, Paused}
@@ -14,7 +13,6 @@ use Rattle.step_maker.proofs.Telling.{came_telling, leaves, load_tells}
 use Rattle.step_maker.proofs.Visiting.{does_came}
 use Rattle.frame_words.specs.Plain.{got, put}
 use Rattle.frame_types.specs.declared.taking.Taken.{Taken}
-use Rattle.kind_words.specs.Kinds.{partial_kind}
 use Rattle.kept_marks.specs.Marks.{KeptFor}
 use Rattle.partial_state.specs.Levels.{level_type}
 use Rattle.partial_state.specs.declared.stack.TableWork.{TableWork}
@@ -25,8 +23,7 @@ use Rattle.table_entries.proofs.Shared.{gave_came, ref_came}
 use Rattle.flush_waits.specs.Waiting.{IsWait}
 use Rattle.course_laws.specs.Courses.{FindsAlive}
 use Rattle.course_laws.proofs.Unwinding.{at_home}
-use Rattle.course_laws.proofs.Walking.{again_came, entry_came, worked_came}
-use Rattle.refusal_laws.specs.Repeated.{IsUntouched}
+use Rattle.course_laws.proofs.Walking.{again_came, entry_came}
 use Rattle.refusal_laws.proofs.Untouched.{Spares, enters_spares, got_spares, kind_spares, leaves_spares, put_spares, resumes_spares, type_spares}
 
 -- From v to w these words stay, where the board tells all words.
@@ -163,3 +160,17 @@ acquired_by v f owner level _ _ _ same telling (finished u x y w progress own t 
 
 pub acquired_sparing : (v : PortValue) (f owner level : ℕ) (w : PortValue) (answers : List Bool) → is_telling v ≡ true → Acquired v f owner level w answers (Err (Paused pauses.Due)) → FindsAlive v w owner → Sparing v w
 acquired_sparing v f owner level w answers telling acquired finds = acquired_by v f owner level w answers (Err (Paused pauses.Due)) refl telling acquired finds
+
+-- one that is had
+had_by : (v : PortValue) (f owner level : ℕ) (w : PortValue) (answers : List Bool) (answer : Result ℕ Stop) (g : ℕ) → answer ≡ Ok g → Acquired v f owner level w answers answer → Sparing v w
+had_by v f owner level _ _ _ g same (unreferred w stop ref) = absurd cc
+had_by v f owner level _ _ _ g same (untyped u x w stop ref type back) = absurd cc
+had_by v f owner level _ _ _ g same (counted u w ref type) = sparing_then v u w (ref_sparing v u f owner _ ref) (took_sparing u w f owner level _ type)
+had_by v f owner level _ _ _ g same (waiting u x w own stamp stop ref type left) = absurd cc
+had_by v f owner level _ _ _ g same (unfinished u x y w progress own us answers stop ref type work left) = absurd cc
+had_by v f owner level _ _ _ g same (finished u x y w progress own t answers ref type work full made) =
+    sparing_then v x w (sparing_then v u x (ref_sparing v u f owner _ ref) (took_sparing u x f owner level _ type))
+    (sparing_then x y w (worked_sparing owner x (outermost_table f level progress own) y (t ∷ []) answers (Ok tt) work tt) (live_sparing y w t made))
+
+pub had_sparing : (v : PortValue) (f owner level : ℕ) (w : PortValue) (answers : List Bool) (g : ℕ) → Acquired v f owner level w answers (Ok g) → Sparing v w
+had_sparing v f owner level w answers g acquired = had_by v f owner level w answers (Ok g) g refl acquired

@@ -13,6 +13,7 @@ pub use refusals::{
 pub use repeated::{
     a_call_alone_behind_paused_ones_is_paused_by_the_gate_or_comes_to_its_plain_meaning,
     a_first_call_alone_is_paused_by_the_gate_or_comes_to_its_plain_meaning,
-    an_acquisition_from_described_words_comes_to_its_plain_meaning, paused_calls_and_one_more,
+    an_acquisition_from_described_words_comes_to_its_plain_meaning,
+    an_acquisition_that_is_had_touches_no_other_words, paused_calls_and_one_more,
     paused_calls_leave_a_kept_table,
 };

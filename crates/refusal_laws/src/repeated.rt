@@ -1,6 +1,7 @@
 //! Acquisitions that the gate pauses again and again, from words that any plain value describes.
-ghost use Rattle.std.specs.Prelude.{◌≡◌, ◌⊎◌, ◌≤◌, ℕ, true, Bool, List, length, Err, Result};
+ghost use Rattle.std.specs.Prelude.{◌≡◌, ◌⊎◌, ◌≤◌, ℕ, true, Bool, List, length, Ok, Err, Result};
 ghost use Rattle.xp_words.specs.Machine.{IsMachine};
+ghost use Rattle.xp_words.specs.declared.place.Place.{Place};
 ghost use Rattle.xp_words.specs.declared.reply.Pause.TheVariants.{Due};
 ghost use Rattle.xp_words.specs.declared.reply.Stop.{Stop};
 ghost use Rattle.xp_words.specs.declared.reply.Stop.TheVariants.{Paused};
@@ -15,7 +16,7 @@ ghost use Rattle.table_law.specs.Plain.{Describes, Plain};
 ghost use Rattle.course_laws.specs.Courses.{ClockGoesOn, IsDecided, IsOrderly};
 ghost use Rattle.pause_laws.specs.Calls.{Calls, HasRoom};
 ghost use Rattle.refusal_laws.specs.Refusals.{ComesTo};
-ghost use Rattle.refusal_laws.specs.Repeated.{IsDeadFrame, IsKeptTable, PausedCalls};
+ghost use Rattle.refusal_laws.specs.Repeated.{IsDeadFrame, IsKeptTable, IsUntouched, PausedCalls};
 
 use course_laws::who_is_alone_has_orderly_words;
 use pause_laws::an_acquisition_alone_is_paused_by_the_gate_or_decided;
@@ -40,6 +41,11 @@ pub fn paused_calls_leave_a_kept_table()
     ensures found { (v u : PortValue) (f owner level : ℕ) (p : Plain) → IsMachine v.post.machine → is_telling v ≡ true → IsAtRest v.post.machine (told_word v) → IsOrderly v.post.machine (told_word v) → 1 ≤ level → level ≤ 4 →
         Describes v.post.machine (told_word v) p → PausedCalls f owner level v u → IsDeadFrame v.post.machine p f owner }
     ensures telling { (v u : PortValue) (f owner level : ℕ) → PausedCalls f owner level v u → is_telling v ≡ true }
+{}
+
+/// An acquisition that is had changes no cell, no machine-to-physical word, no word of a domain, and no word of a vCPU but those of flushes.
+pub fn an_acquisition_that_is_had_touches_no_other_words()
+    ensures { (v w : PortValue) (f owner level g : ℕ) (answers : List Bool) (q : Place) → is_telling v ≡ true → Acquired v f owner level w answers (Ok g) → IsUntouched q → told_word w q ≡ told_word v q }
 {}
 
 /// By the only vCPU, which never finds the clock at its last value, a first call is paused by the gate, or comes to what the plain one comes to.

@@ -85,6 +85,10 @@ once_by o (Some y) = answered 0 0 (Some y) o.lines o.left
 abbrev pub once : Outcome → Answered
 once o = once_by o o.refusal
 
+-- one that answers no value
+abbrev pub single : Outcome → Answered
+single o = once (record o { value = 0 })
+
 -- ---- calls: `call` is its number in a multicall, or 0
 -- the number that stands for the own domain (`DOMID_SELF` of xen.h)
 abbrev pub own_frames : ℕ
@@ -93,10 +97,10 @@ own_frames = 0x7ff0
 abbrev pub call_alone : Whose → ℕ → Call → Solo → Answered
 call_alone w call (calls.Mmu foreign pairs) s = owned_pairs w foreign pairs s
 call_alone w call (calls.Ext list) s = listed (ext_alone w) list s
-call_alone w call (calls.Va va word flags) s = once (map_word w own_frames va word flags s)
-call_alone w call (calls.VaOther va word flags domain) s = once (map_word w domain va word flags s)
-call_alone w call (calls.Gdt entries frames) s = once (set_gdt w.machine w.domain entries frames s)
-call_alone w call (calls.Desc address word) s = once (set_descriptor w.machine w.domain address word s)
+call_alone w call (calls.Va va word flags) s = single (map_word w own_frames va word flags s)
+call_alone w call (calls.VaOther va word flags domain) s = single (map_word w domain va word flags s)
+call_alone w call (calls.Gdt entries frames) s = single (set_gdt w.machine w.domain entries frames s)
+call_alone w call (calls.Desc address word) s = single (set_descriptor w.machine w.domain address word s)
 call_alone w call (calls.Mem command order items) s = extents w call command order items s
 
 -- ---- multicalls: each call is answered, whether it is done or refused, and has its answer in the log
@@ -117,7 +121,7 @@ live_alone w (ops.One call) s = call_alone w 0 call s
 live_alone w (ops.Multi cs) s = multicall w cs s
 live_alone w (ops.Read user va) s = once (read_at w.machine user va s)
 live_alone w (ops.Write user va val) s = once (write_at w.machine user va val s)
-live_alone w (ops.TouchLdt page) s = once (touch_ldt w.machine w.domain page s)
+live_alone w (ops.TouchLdt page) s = single (touch_ldt w.machine w.domain page s)
 live_alone w (ops.Destroy domain) s = once (destroy w domain s)
 live_alone w _ s = refused BadCommand s
 

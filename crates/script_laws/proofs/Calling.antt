@@ -31,8 +31,8 @@ same_reply : (x y : Reply) → ◌≡◌ {A = Option Reply} (Some x) (Some y) �
 same_reply x y e = cc
 
 -- `Logs n made a`: call number n of operation `op` logged these lines, its reply the last, and they are the answer a. `Going call n at made v a`: all that is left of call number n,
--- which has come so far and logged these lines, comes from v to a.
-module _ {Solo Answer Answered : Type 0} (plain : PlainScript Call Solo Answer Answered) (d op : ℕ) (calls : List Call) (Logs : ℕ → List LogLine → Answer → Type 0) (Fair : PortValue → Type 0) (Owes : PortValue → Solo → Type 0) (Going : Call → ℕ → Progress → List LogLine → PortValue → Answered → Type 0) where
+-- which has come so far and logged these lines, comes from v to a; `Ready` the same behind what is settled first.
+module _ {Solo Answer Answered : Type 0} (plain : PlainScript Call Solo Answer Answered) (d op : ℕ) (calls : List Call) (Logs : ℕ → List LogLine → Answer → Type 0) (Fair : PortValue → Type 0) (Owes : PortValue → Solo → Type 0) (Going Ready : Call → ℕ → Progress → List LogLine → PortValue → Answered → Type 0) (Fine : Call → Type 0) where
   pub record CallAnswered (n : ℕ) (made : List LogLine) (reply : Reply) (a : Answered) (w : PortValue) : Type 0 where
     pub logs : Logs n (made ++ lines.Answer op n reply ∷ []) (plain.answer a)
     pub owes : Owes w (plain.left a)
@@ -44,10 +44,11 @@ module _ {Solo Answer Answered : Type 0} (plain : PlainScript Call Solo Answer A
   CallComes call n to made w a (Err (Paused p)) = Going call n to made w a
 
   pub record CallLemmas : Type 0 where
-    pub begins_call : (call : Call) (k : ℕ) (v : PortValue) (s : Solo) → Owes v s → Going call (k + 1) (begun_at k) [] v (plain.alone k call s)
-    pub settle : (call : Call) (n : ℕ) (at : Progress) (made : List LogLine) (v w : PortValue) (a : Answered) (asked : List Bool) (r : Result (Unit {0}) Stop) → Settles None v w asked r → Fair w → Going call n at made v a → Going call n at made w a
+    pub begins_call : (call : Call) (k : ℕ) (v : PortValue) (s : Solo) → Fine call → Owes v s → Going call (k + 1) (begun_at k) [] v (plain.alone k call s)
+    pub settle : (call : Call) (n : ℕ) (at : Progress) (made : List LogLine) (v w : PortValue) (a : Answered) (asked : List Bool) (e : Stop) → Settles None v w asked (Err e) → Fair w → Going call n at made v a → Going call n at made w a
+    pub ready : (call : Call) (n : ℕ) (at : Progress) (made : List LogLine) (v w : PortValue) (a : Answered) (asked : List Bool) → Settles None v w asked (Ok tt) → Fair w → Going call n at made v a → Ready call n at made w a
     pub work : (call : Call) (at to : Progress) (made log log' : List LogLine) (v w : PortValue) (a : Answered) (asked : List Bool) (r : Result ℕ Stop) → WentOn d (task_in call) (call_behind op at.call) v at to w log log' asked r → Fair w →
-        Going call (at.call + 1) at made v a → (new : List LogLine) × (log' ≡ log ++ new) × CallComes call (at.call + 1) to (made ++ new) w a r
+        Ready call (at.call + 1) at made v a → (new : List LogLine) × (log' ≡ log ++ new) × CallComes call (at.call + 1) to (made ++ new) w a r
     -- a call that is paused stays the one in progress
     pub stays : (call : Call) (at to : Progress) (log log' : List LogLine) (v w : PortValue) (asked : List Bool) (r : Result ℕ Stop) → WentOn d (task_in call) (call_behind op at.call) v at to w log log' asked r → to.call ≡ at.call
     pub cut : (n : ℕ) (v w : PortValue) (s : Solo) → EndsCall n v w → Fair w → Owes v s → Owes w s
@@ -61,8 +62,11 @@ module _ {Solo Answer Answered : Type 0} (plain : PlainScript Call Solo Answer A
     call_back call u at log _ _ _ _ _ (calling.AnswersCall.answered to y x w log' early asked r reply settles went is ends) fair =
         l.back u y (settles_came u y early (Ok tt) settles) (l.back y x (went_came d (task_in call) (call_behind op at.call) y at to x log log' asked r went) (l.back x w (cut_came (at.call + 1) x w ends) fair))
 
+  abbrev pub AreFine : Type 0
+  AreFine = (k : ℕ) (call : Call) → slice_get calls k ≡ Some call → Fine call
+
   -- `all` and `last`: what all calls answer, and leave
-  module _ (l : CallLemmas) (all : List Answer) (last : Solo) where
+  module _ (l : CallLemmas) (fine : AreFine) (all : List Answer) (last : Solo) where
     abbrev pub NextCall : Option Call → List Call → Progress → List LogLine → PortValue → List Answer → Type 0
     NextCall None rest at made v before = (s : Solo) × Owes v s × (made ≡ []) × (before ≡ all) × (s ≡ last)
     NextCall (Some call) rest at made v before =
@@ -90,7 +94,7 @@ module _ {Solo Answer Answered : Type 0} (plain : PlainScript Call Solo Answer A
     next_at k (Some call) v s before is owes answers left =
         let more = opened calls k call is in (
           plain.alone k call s,
-          l.begins_call call k v s owes,
+          l.begins_call call k v s (fine k call is) owes,
           ap (λ xs. before ++ xs) (sym (ap (λ ys. plain.answers ys k s) more ∙ plain.more_answers call (drop (suc k) calls) k s)) ∙ answers,
           sym (ap (λ ys. plain.ends ys k s) more ∙ plain.more_ends call (drop (suc k) calls) k s) ∙ left,
         )
@@ -149,7 +153,7 @@ module _ {Solo Answer Answered : Type 0} (plain : PlainScript Call Solo Answer A
         let fair_y = l.back y x (went_came d (task_in call) (call_behind op at.call) y at to x log log' asked r went) fair_x in
         let s = stands (l.back u y (settles_came u y early (Ok tt) settles) fair_y) in
         let k = call_there at u made call s there in
-        let going = l.settle call (at.call + 1) at s.own u y k.0 early (Ok tt) settles fair_y k.1 in
+        let going = l.ready call (at.call + 1) at s.own u y k.0 early settles fair_y k.1 in
         let done = l.work call at to s.own log log' y x k.0 asked r went fair_x going in
         let comes = answered_by r to reply call (at.call + 1) (s.own ++ done.0) x k.0 is done.2 in (
           done.0 ++ lines.Answer op (at.call + 1) reply ∷ [],
@@ -206,13 +210,13 @@ module _ {Solo Answer Answered : Type 0} (plain : PlainScript Call Solo Answer A
     call_stops call u at log made _ _ _ _ _ (calling.AnswersCall.unsettled w early stop settles) there fair stands =
         let s = stands (l.back u w (settles_came u w early (Err stop) settles) fair) in
         let k = call_there at u made call s there in
-        let going = l.settle call (at.call + 1) at s.own u w k.0 early (Err stop) settles fair k.1 in
+        let going = l.settle call (at.call + 1) at s.own u w k.0 early stop settles fair k.1 in
         ([], sym (append-nil log), stands_at at at w made [] call s.before s.closed s.own k.0 refl there s.counted s.parts s.log (subst (λ ls. Going call (at.call + 1) at ls w k.0) (sym (append-nil s.own)) going) k.2 k.3)
     call_stops call u at log made _ _ _ _ _ (calling.AnswersCall.paused to y w log' early asked p settles went) there fair stands =
         let fair_y = l.back y w (went_came d (task_in call) (call_behind op at.call) y at to w log log' asked (Err (Paused p)) went) fair in
         let s = stands (l.back u y (settles_came u y early (Ok tt) settles) fair_y) in
         let k = call_there at u made call s there in
-        let going = l.settle call (at.call + 1) at s.own u y k.0 early (Ok tt) settles fair_y k.1 in
+        let going = l.ready call (at.call + 1) at s.own u y k.0 early settles fair_y k.1 in
         let done = l.work call at to s.own log log' y w k.0 asked (Err (Paused p)) went fair going in
         (done.0, done.1, stands_at at to w made done.0 call s.before s.closed s.own k.0 (l.stays call at to log log' y w asked (Err (Paused p)) went) there s.counted s.parts s.log done.2 k.2 k.3)
 

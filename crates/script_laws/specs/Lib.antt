@@ -1,2 +1,4 @@
+pub mod Logged
+pub mod Opening
 pub mod Plain
 pub mod Turns

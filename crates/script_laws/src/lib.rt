@@ -1,2 +1,6 @@
-//! Turns of one vCPU under every gate come to what its script comes to at once: the frame, from what the parts of a turn come to. Definitions and proofs, nothing to call.
+//! Turns of one vCPU that is alone, under every gate, come to what its script comes to at once. These functions do nothing: their contracts are laws.
 #![tactic(auto)]
+
+mod scripts;
+
+pub use scripts::preemption_is_invisible;

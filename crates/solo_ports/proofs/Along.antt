@@ -1,10 +1,8 @@
 -- The relations go along steps that change stamps, the clock and the words of flushes alone.
-use Rattle.std.proofs.Common.{◌≡◌, ◌≢◌, ℕ, ◌<◌, true, Option, Some, refl, sym, ap, ◌∙◌, subst, arith}
+use Rattle.std.proofs.Common.{◌≡◌, ◌≢◌, ℕ, true, sym, ap, ◌∙◌, subst, arith}
 use Rattle.xp_words.specs.Machine.{Machine}
-use Rattle.xp_words.specs.declared.place.Place.{Place}
 use Rattle.xp_words.specs.declared.place.Place.TheVariants.{Life, M2p, Priv, Vcpu}
 use Rattle.xp_board.specs.Told.{Post, PortValue, is_telling, told_word}
-use Rattle.step_maker.specs.Moves.{Came}
 use Rattle.step_maker.specs.Plain.{Words}
 use Rattle.step_maker.specs.Twins.{Alike}
 use Rattle.step_maker.proofs.Alikes.{alike_trans}
@@ -70,16 +68,16 @@ module _ (stays : AloneStays) (v w : PortValue) (x : Solo) (on : StaysAlike v w)
       (subst (λ (p : Post). IsLeft p.machine w f level x.frames) (sym post) (goes_on v.post.machine v w f level x.frames (goes_from s) left))
 
 -- ---- calls that were paused
-stays_trans : (u v w : PortValue) → GoesOn u v → Alike (told_word w) (told_word v) → w.post ≡ v.post → is_telling w ≡ true → GoesOn u w
-stays_trans u v w a alike post telling =
+goes_trans : (u v w : PortValue) → GoesOn u v → Alike (told_word w) (told_word v) → w.post ≡ v.post → is_telling w ≡ true → GoesOn u w
+goes_trans u v w a alike post telling =
     record {
       stays = record { machine = ap (λ (p : Post). p.machine) post ∙ a.stays.machine; telling = telling; words = alike_trans (told_word w) (told_word v) (told_word u) alike a.stays.words };
       vcpu = ap (λ (p : Post). p.vcpu) post ∙ a.vcpu;
     }
 
 pub paused_on : (f owner level : ℕ) (u v w : PortValue) → PausedCalls f owner level u v → Alike (told_word w) (told_word v) → w.post ≡ v.post → is_telling w ≡ true → PausedCalls f owner level u w
-paused_on f owner level u _ w (repeated.first x v answers tells a finds on) alike post telling = repeated.first x w answers tells a finds (stays_trans x v w on alike post telling)
-paused_on f owner level u _ w (repeated.again y x v answers before a finds on) alike post telling = repeated.again y x w answers before a finds (stays_trans x v w on alike post telling)
+paused_on f owner level u _ w (repeated.first x v answers told a finds on) alike post telling = repeated.first x w answers told a finds (goes_trans x v w on alike post telling)
+paused_on f owner level u _ w (repeated.again y x v answers before a finds on) alike post telling = repeated.again y x w answers before a finds (goes_trans x v w on alike post telling)
 
 pub keeps_on : AloneStays → (f owner level : ℕ) (v w : PortValue) (x : Solo) → StaysAlike v w → KeepsTable f owner level v x → KeepsTable f owner level w x
 keeps_on stays f owner level v w x on k =

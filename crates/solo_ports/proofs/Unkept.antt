@@ -1,5 +1,5 @@
 -- The plain functions leave no frame with the kept mark that had none.
-use Rattle.std.proofs.Common.{◌≡◌, ℕ, zero, suc, ◌+◌, ◌-◌, ◌<◌, ◌==◌, ◌&&◌, Bool, true, false, not, if◌then◌else◌, nat_le, nat_lt, Option, Some, None, refl, sym, subst, inl, inr}
+use Rattle.std.proofs.Common.{◌≡◌, ℕ, zero, suc, ◌-◌, ◌==◌, ◌&&◌, Bool, true, false, if◌then◌else◌, nat_le, nat_lt, Option, Some, None, refl, subst, inl, inr}
 use Rattle.std.proofs.lemmas.Bool.{cases_Bool}
 use Rattle.xp_words.specs.Machine.{Machine}
 use Rattle.xp_board.proofs.PlaceTests.{equal_by as same_is}
@@ -9,12 +9,12 @@ use Rattle.xp_words.specs.declared.kind.KindWord.{KindWord}
 use Rattle.xp_words.specs.declared.kind.PageType.{PageType}
 use Rattle.xp_words.specs.declared.kind.PageType.TheVariants as kinds
 use Rattle.xp_board.specs.Readings.{is_dead, is_partial, is_type}
-use Rattle.xp_board.specs.KindSteps.{raised_kind, resumed_kind}
+use Rattle.xp_board.specs.KindSteps.{raised_kind}
 use Rattle.kind_words.specs.Kinds.{live_kind, work_kind}
 use Rattle.partial_state.specs.Levels.{level_type}
-use Rattle.table_law.specs.Alone.{Cause, PlainOutcome, alone, back_or, fine, go_on, is_counted, meet, meet_last, refused, take_at, take_kind, take_reference, take_reference_of, then_by, then_or}
+use Rattle.table_law.specs.Alone.{Cause, PlainOutcome, alone, back_or, fine, go_on, is_counted, meet, meet_last, take_at, take_kind, take_reference, take_reference_of}
 use Rattle.table_law.specs.Levels.{closed, entry_of}
-use Rattle.table_law.specs.Plain.{Plain, Share, at, raised_share, reference_back, with_kind, with_share}
+use Rattle.table_law.specs.Plain.{Plain, Share, with_kind}
 use Rattle.table_law.specs.Release.{count_back, drop_demand, drop_first, drop_kind, emptying, entries_held, is_counted_on, let_go}
 use Rattle.solo_ports.specs.Standing.{IsUnkept}
 
@@ -102,9 +102,9 @@ module _ (g : ℕ) where
     | inl dead ↦ rw dead (by_back (fill (with_kind f (work_kind t false 0) p)).refusal (fill (with_kind f (work_kind t false 0) p)).left (closed f t) (λ q. fine (with_kind f (live_kind t 1) q))
         (goes (with_kind f (work_kind t false 0) p) (by_kind f (work_kind t false 0) p refl e)) (λ q a. by_closed f t q a) (λ q a. by_kind f (live_kind t 1) q refl a))
     | inr live ↦ rw live (elim (cases_Bool (is_counted (p.kinds f) && is_type (p.kinds f).kind t)) [
-        | inl on ↦ rw on (here_or (g == f) (raised_kind (p.kinds f)) (p.kinds g) (λ b. own_kind f p e (same_is g f b)) e)
-        | inr off ↦ rw off e
-      ])
+      | inl on ↦ rw on (here_or (g == f) (raised_kind (p.kinds f)) (p.kinds g) (λ b. own_kind f p e (same_is g f b)) e)
+      | inr off ↦ rw off e
+    ])
   ]
 
   by_meet : (n : Machine) (owner : ℕ) (below : ℕ → Plain → PlainOutcome) (f i : ℕ) (p : Plain) (d : Demand) → ((h : ℕ) → UnBy (below h)) → Un p → Un (meet n owner below f i p d).left

@@ -115,7 +115,7 @@ wait_came : (d : ℕ) (waits : Bool) (awaited : Option ℕ) (v w : PortValue) (a
 wait_came d true awaited v w answer waits = performs_came d (performs.FlushVcpus elements.every_vcpu) awaited v w [] answer waits
 wait_came d false awaited v w answer waits = same_came v w waits.0
 
-drops_came : (d flags va : ℕ) (v w : PortValue) (answer : Result (Unit {0}) Stop) → DropsBehind d flags va v w answer → Came v w
+pub drops_came : (d flags va : ℕ) (v w : PortValue) (answer : Result (Unit {0}) Stop) → DropsBehind d flags va v w answer → Came v w
 drops_came d flags va v _ _ (mapping.DropsBehind.undropped w e drops) = drop_came d (own_drop flags va) v w (Err e) drops
 drops_came d flags va v _ _ (mapping.DropsBehind.dropped u w answer drops waits) =
     came_trans v u w (drop_came d (own_drop flags va) v u (Ok tt) drops) (wait_came d (waits_for_all flags) None u w answer waits)

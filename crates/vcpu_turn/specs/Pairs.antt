@@ -6,8 +6,9 @@ use Rattle.xp_words.specs.declared.reply.Refusal.TheVariants as refusals
 use Rattle.xp_words.specs.declared.reply.Stop.{Stop}
 use Rattle.xp_words.specs.declared.reply.Stop.TheVariants.{Refused, Paused}
 use Rattle.xp_board.specs.Told.{PortValue}
+use Rattle.step_maker.specs.Holds.{Same}
 use Rattle.step_maker.specs.Answers.{Serves, Stops}
-use Rattle.foreign_map.specs.Owning.{MayMapFor, FoundOwners, of_owners}
+use Rattle.foreign_map.specs.Owning.{MayMapFor, FoundOwners, of_owners, TwinOwners}
 use Rattle.foreign_map.specs.declared.owners.Owners.{Owners}
 use Rattle.mmu_update.specs.Elements as pairs
 use Rattle.mmu_update.specs.Fits.{Updates}
@@ -45,6 +46,8 @@ pub record FindsOwners (v w : PortValue) (d foreign : ℕ) (answer : Result Owne
   pub serves : Serves v w (of_owners v.post.machine d foreign) []
   pub stops : IfErr answer (λ x. Stops v w (of_owners v.post.machine d foreign) (Refused x))
   pub found : FoundOwners v w d foreign answer
+  pub plain : TwinOwners v w d foreign answer
+  pub hand : Same v w
 
 -- A list of pairs that is not empty is about owners that are named by a number, which may refuse it in each turn.
 pub data WorksOwned (d foreign : ℕ) (list : List Pair) (v : PortValue) (from : ℕ) : ℕ → PortValue → List Bool → Result (Unit {0}) Stop → Type 0 where

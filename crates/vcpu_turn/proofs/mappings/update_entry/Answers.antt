@@ -22,14 +22,14 @@ returns-in-Err-clause-updates g c =
     let s = c.in_ok-settle.ensures in
     let e = c.in-Err.ensures in
     behind_performed (settle_answers s.serves s.stops s.kinds s.rests s.clear s.clear_too s.course)
-    (past_none refl (mapping.UpdatesWord.unowned _ _ c.if-mapping-ge-DOMAINS.false (record { serves = e.serves; stops = e.stops; found = e.found })))
+    (past_none refl (mapping.UpdatesWord.unowned _ _ c.if-mapping-ge-DOMAINS.false (record { serves = e.serves; stops = e.stops; found = e.found; plain = e.plain; hand = e.hand })))
 
 pub returns-then-is_bad-clause-updates : goal.returns-then-is_bad-clause-updates
 returns-then-is_bad-clause-updates g c =
     let s = c.in_ok-settle.ensures in
     let o = c.in-Ok.ensures in
     behind_performed (settle_answers s.serves s.stops s.kinds s.rests s.clear s.clear_too s.course)
-    (past_none refl (mapping.UpdatesWord.flagged _ c.in-Ok.owners c.if-mapping-ge-DOMAINS.false (record { serves = o.serves; stops = o.stops; found = o.found }) (sym c.is_bad.ensures ∙ c.if-is_bad.true)))
+    (past_none refl (mapping.UpdatesWord.flagged _ c.in-Ok.owners c.if-mapping-ge-DOMAINS.false (record { serves = o.serves; stops = o.stops; found = o.found; plain = o.plain; hand = o.hand }) (sym c.is_bad.ensures ∙ c.if-is_bad.true)))
 
 pub returns-clause-updates : goal.returns-clause-updates
 returns-clause-updates g c =
@@ -37,7 +37,7 @@ returns-clause-updates g c =
     let o = c.in-Ok.ensures in
     behind_performed (settle_answers s.serves s.stops s.kinds s.rests s.clear s.clear_too s.course)
     (past_as (λ due. due)
-    (λ answers updates. mapping.UpdatesWord.owned _ _ c.in-Ok.owners answers c.update_at.result c.if-mapping-ge-DOMAINS.false (record { serves = o.serves; stops = o.stops; found = o.found }) (sym c.is_bad.ensures ∙ c.if-is_bad.false) updates)
+    (λ answers updates. mapping.UpdatesWord.owned _ _ c.in-Ok.owners answers c.update_at.result c.if-mapping-ge-DOMAINS.false (record { serves = o.serves; stops = o.stops; found = o.found; plain = o.plain; hand = o.hand }) (sym c.is_bad.ensures ∙ c.if-is_bad.false) updates)
     c.update_at.ensures.updates)
 
 pub returns-clause-warm : goal.returns-clause-warm

@@ -13,7 +13,7 @@ returns-then-is_empty-clause-works g c = owned_none (equal_by _ 0 (sym c.is_empt
 pub returns-in-Err-clause-works : goal.returns-in-Err-clause-works
 returns-in-Err-clause-works g c =
     let e = c.in-Err.ensures in
-    owned_refused (above_none _ (sym c.is_empty.ensures ∙ c.if-is_empty.false)) c.if-pairs-gt-LONGEST.false _ _ (record { serves = e.serves; stops = e.stops; found = e.found })
+    owned_refused (above_none _ (sym c.is_empty.ensures ∙ c.if-is_empty.false)) c.if-pairs-gt-LONGEST.false _ _ (record { serves = e.serves; stops = e.stops; found = e.found; plain = e.plain; hand = e.hand })
 
 pub overflow_cast-done : goal.overflow_cast-done
 overflow_cast-done g c =
@@ -24,7 +24,7 @@ overflow_cast-done g c =
 pub returns-clause-works : goal.returns-clause-works
 returns-clause-works g c =
     let o = c.in-Ok.ensures in
-    owned_on (above_none _ (sym c.is_empty.ensures ∙ c.if-is_empty.false)) c.if-pairs-gt-LONGEST.false _ c.in-Ok.owners (record { serves = o.serves; stops = o.stops; found = o.found }) c.go_on-answer.result c.go_on-answer.ensures.works
+    owned_on (above_none _ (sym c.is_empty.ensures ∙ c.if-is_empty.false)) c.if-pairs-gt-LONGEST.false _ c.in-Ok.owners (record { serves = o.serves; stops = o.stops; found = o.found; plain = o.plain; hand = o.hand }) c.go_on-answer.result c.go_on-answer.ensures.works
 
 pub returns-clause-within : goal.returns-clause-within
 returns-clause-within g c = no_more c.go_on-answer.ensures.works c.requires.within

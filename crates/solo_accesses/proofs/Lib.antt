@@ -1,0 +1,13 @@
+pub mod Cells
+pub mod Ways
+pub mod Entries
+pub mod Walking
+pub mod Whole
+pub mod Keeping
+pub mod Backing
+pub mod Resting
+pub mod Reading
+pub mod Writing
+pub mod Touching
+pub mod Loading
+pub mod Coming

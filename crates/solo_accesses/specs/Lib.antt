@@ -1,0 +1,3 @@
+pub mod Stale
+pub mod Accesses
+pub mod Walking

@@ -1,0 +1,16 @@
+pub mod Advancing
+pub mod Aside
+pub mod Beginning
+pub mod Clearing
+pub mod Deeds
+pub mod Ending
+pub mod Given
+pub mod Giving
+pub mod Going
+pub mod Looks
+pub mod Pinless
+pub mod Places
+pub mod Putting
+pub mod Releasing
+pub mod Standing
+pub mod Stripping

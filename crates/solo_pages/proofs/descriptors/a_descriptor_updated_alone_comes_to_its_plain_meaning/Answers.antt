@@ -1,0 +1,5 @@
+use Rattle.solo_pages.proofs.Single.{descriptor_comes}
+use Rattle.solo_pages.proofs.descriptors.a_descriptor_updated_alone_comes_to_its_plain_meaning.Goals as goal
+
+pub returns : goal.returns
+returns c = descriptor_comes c.alone_stays.ensures c.a_call_alone_is_neither_lost_nor_busy.ensures c.nobody_is_waited_for.ensures

@@ -1,0 +1,8 @@
+//! A run of a trace that has one vCPU comes to what its script comes to at once. These functions do nothing: their contracts are laws.
+#![tactic(auto)]
+
+mod runs;
+
+pub use runs::{
+    a_vcpu_opens_its_script, preemption_is_invisible_in_a_run, turns_and_pauses_do_not_matter,
+};
