@@ -487,7 +487,7 @@ pub(crate) fn report_of(
         with_pace(rt, pace)
     };
     let mut source = MemorySource::new(bytes(rt, trace), Vec::new(rt.alloc()));
-    let mut sink = MemorySink::new(rt.alloc(), 8192, 8192, Vec::new(rt.alloc())).expect(
+    let mut sink = MemorySink::new(rt.alloc(), 16384, 16384, Vec::new(rt.alloc())).expect(
         rt, "memory",
     );
     let answer = run_paced(rt, &words, &mut source, &mut sink);
