@@ -13,7 +13,7 @@ struct Example {
     lines: &'static str,
 }
 
-const EXAMPLES: [Example; 33] = [
+const EXAMPLES: [Example; 30] = [
     Example {
         shows: "An empty frame is pinned as an L1 table; a frame that is not pinned cannot be unpinned.",
         pace: "",
@@ -183,12 +183,6 @@ const EXAMPLES: [Example; 33] = [
         lines: "op 3 ok done 1 value 0x5063\nop 4 ok done 1 value 0x4021\nop 6 ok done 1 value 0x6063\n",
     },
     Example {
-        shows: "An entry is set while its vCPU keeps an older translation, by which it reads on; behind its flush a walk finds the new entry.",
-        pace: "",
-        trace: "xen-pv-trace 1\nframes 8\ndomain 8\nvcpu 0\nown 0 0 8\ncell 1 0 1 0x2003\ncell 2 0 1 0x3003\ncell 3 0 1 0x4003\ncell 4 0 1 0x5003\ncell 5 0 1 0x55\ncell 6 0 1 0x66\nop 0 ext 5 1 0\nop 0 read k 0x0\nop 0 mmu 0x7ff0 0x4000 0x6003\nop 0 read k 0x0\nop 0 ext 6 0 0\nop 0 read k 0x0\nturn 0 6\nend\n",
-        lines: "op 2 ok done 1 value 0x55\nop 4 ok done 1 value 0x55\nop 6 ok done 1 value 0x66\n",
-    },
-    Example {
         shows: "A vCPU of a domain that can never have mapped the frame is not waited for.",
         pace: "",
         trace: "xen-pv-trace 1\nframes 16\ndomain 16\ndomain 16\nvcpu 0\nvcpu 1\nvcpu 1\nown 0 0 4\nown 1 4 8\ncell 4 0 1 0x5003\ncell 5 0 1 0x6003\ncell 6 0 1 0x7003\ncell 7 0 1 0x8003\nop 1 ext 5 4 0\nop 1 write k 0x0 0x100\nop 1 write k 0x0 0x100\nop 2 mmu 0x7ff0 0x7000 0x0\nop 2 ext 0 8 0\nturn 1 2\nturn 2 2\nturn 1 1\nturn 2 1\nend\n",
@@ -199,6 +193,16 @@ const EXAMPLES: [Example; 33] = [
         pace: "",
         trace: "xen-pv-trace 1\nframes 16\ndomain 16\ndomain 16\npriv 0 1\nvcpu 0\nvcpu 1\nvcpu 1\nown 0 0 4\nown 1 4 8\ncell 4 0 1 0x5003\ncell 5 0 1 0x6003\ncell 6 0 1 0x7003\ncell 7 0 1 0x8003\nop 1 ext 5 4 0\nop 1 write k 0x0 0x100\nop 1 write k 0x0 0x100\nop 2 mmu 0x7ff0 0x7000 0x0\nop 2 ext 0 8 0\nturn 1 2\nturn 2 2\nturn 1 1\nturn 2 1\nend\n",
         lines: "pending 1\n",
+    },
+];
+
+// Runs whose reports depend on turns or pauses: a premise of «preemption is invisible» fails in each.
+const SEEN: [Example; 3] = [
+    Example {
+        shows: "An entry is set while its vCPU keeps an older translation, by which it reads on; behind its flush a walk finds the new entry.",
+        pace: "",
+        trace: "xen-pv-trace 1\nframes 8\ndomain 8\nvcpu 0\nown 0 0 8\ncell 1 0 1 0x2003\ncell 2 0 1 0x3003\ncell 3 0 1 0x4003\ncell 4 0 1 0x5003\ncell 5 0 1 0x55\ncell 6 0 1 0x66\nop 0 ext 5 1 0\nop 0 read k 0x0\nop 0 mmu 0x7ff0 0x4000 0x6003\nop 0 read k 0x0\nop 0 ext 6 0 0\nop 0 read k 0x0\nturn 0 6\nend\n",
+        lines: "op 2 ok done 1 value 0x55\nop 4 ok done 1 value 0x55\nop 6 ok done 1 value 0x66\n",
     },
     Example {
         shows: "Of two vCPUs that pin one table the first one does, and the other finds it pinned.",
@@ -487,7 +491,7 @@ pub(crate) fn report_of(
         with_pace(rt, pace)
     };
     let mut source = MemorySource::new(bytes(rt, trace), Vec::new(rt.alloc()));
-    let mut sink = MemorySink::new(rt.alloc(), 8192, 8192, Vec::new(rt.alloc())).expect(
+    let mut sink = MemorySink::new(rt.alloc(), 16384, 16384, Vec::new(rt.alloc())).expect(
         rt, "memory",
     );
     let answer = run_paced(rt, &words, &mut source, &mut sink);
@@ -515,6 +519,11 @@ fn check(rt: &(impl Abort + AllocGlobal), examples: &[Example]) {
 #[test]
 fn each_example_is_reported_with_what_it_leaves(rt: HostRuntime) {
     check(&rt, &EXAMPLES);
+}
+
+#[test]
+fn each_example_in_which_a_pause_or_a_stale_translation_is_seen_is_reported(rt: HostRuntime) {
+    check(&rt, &SEEN);
 }
 
 #[test]

@@ -1,10 +1,10 @@
 //! Scripts of a vCPU alone under gates that pause them, at any one ask and at each: every report is the one without pauses.
 use crate::examples::report_of;
-use crate::runs::{bytes, run_by_gates, turns};
+use crate::runs::{bytes, turns};
 use std::process::Abort;
 use xp_io::{HonestSource, MemorySink};
-use xp_machine::Status;
-use xp_preempt::{Listed, Preempt};
+use xp_machine::{Status, run_serial};
+use xp_preempt::{Listed, Never, Preempt};
 
 // A trace up to its turns; how many of these do all where the gate never says yes, and how many are enough where it says yes at each ask;
 // and how often it is asked.
@@ -67,11 +67,17 @@ fn reports(rt: &(impl Abort + AllocGlobal), trace: &str, yes_at: u64, report: &[
     gates
         .push(Box::new(rt.alloc(), gate).expect(rt, "memory"))
         .expect(rt, "memory");
+    for _ in 1..16 {
+        gates
+            .push(Box::new(rt.alloc(), Never::new()).expect(rt, "memory"))
+            .expect(rt, "memory");
+    }
+    assert!(rt; gates.len() >= 16);
     let mut source = HonestSource::new(bytes(rt, trace));
-    let mut sink = MemorySink::new(rt.alloc(), 4096, 4096, Vec::new(rt.alloc())).expect(
+    let mut sink = MemorySink::new(rt.alloc(), 16384, 16384, Vec::new(rt.alloc())).expect(
         rt, "memory",
     );
-    let answer = run_by_gates(rt, &turns(rt), &mut source, &mut sink, gates);
+    let answer = run_serial(rt.alloc(), &turns(rt), &mut source, &mut sink, gates);
     answer == Status::Done && sink.bytes() == report
 }
 

@@ -53,20 +53,7 @@ pub fn run_paced<S: Source, K: Sink>(
     ensures read { result ≡ Status.ReadFault → Rose (S.faults source.old) (S.faults source.new) }
     ensures write { result ≡ Status.WriteFault → Rose (K.faults sink.old) (K.faults sink.new) }
 {
-    run_by_gates(rt, words, source, sink, Vec::new(rt.alloc()))
-}
-
-// A run with these gates, and further ones that have a pace.
-pub fn run_by_gates<S: Source, K: Sink>(
-    rt: &(impl Abort + AllocGlobal),
-    words: &[String],
-    source: &mut S,
-    sink: &mut K,
-    mut gates: Vec<Box<dyn Preempt + Send>>,
-) -> Status
-    ensures read { result ≡ Status.ReadFault → Rose (S.faults source.old) (S.faults source.new) }
-    ensures write { result ≡ Status.WriteFault → Rose (K.faults sink.old) (K.faults sink.new) }
-{
+    let mut gates: Vec<Box<dyn Preempt + Send>> = Vec::new(rt.alloc());
     for _ in 0..16 {
         let gate = Box::new(rt.alloc(), Paced::new()).expect(rt, "memory");
         gates.push(gate).expect(rt, "memory");

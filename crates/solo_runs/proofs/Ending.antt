@@ -1,12 +1,13 @@
 -- A run in which the only vCPU comes to the end of its script.
-use Rattle.std.proofs.Common.{◌≡◌, ℕ, true, List, Option, Some, length, refl, sym, ap, ◌∙◌, subst}
+use Rattle.std.proofs.Common.{◌≡◌, ◌<◌, ℕ, true, List, Option, Some, length, refl, sym, ap, ◌∙◌, subst}
 use Rattle.std.specs.Prelude.{slice_get}
 use Rattle.xp_words.specs.declared.ops.Op.{Op}
 use Rattle.xp_words.specs.declared.place.Place.{Place}
 use Rattle.xp_words.specs.declared.place.Place.TheVariants.{Cell, Clock, Kind, Life, M2p, Map, Pages, Priv, Refs, Vcpu}
+use Rattle.course_laws.specs.Courses.{ClockGoesOn}
 use Rattle.script_law.specs.Shown.{solo_in}
-use Rattle.xp_board.specs.Readings.{domain_of}
-use Rattle.xp_board.specs.Told.{PortValue}
+use Rattle.xp_board.specs.Readings.{domain_of, last_clock}
+use Rattle.xp_board.specs.Told.{PortValue, is_telling, told_word}
 use Rattle.trace_text.specs.declared.trace.Trace.{Trace}
 use Rattle.trace_text.specs.declared.trace.TurnRun.{TurnRun}
 use Rattle.trace_text.specs.WellFormed.{IsWellFormed}
@@ -34,7 +35,10 @@ OpensIt = (t : Trace) (words : List ℕ) (script : List Op) → IsWellFormed t �
 same_some : {A : Type 0} (x y : A) (o : Option A) → o ≡ Some x → o ≡ Some y → x ≡ y
 same_some x y o a b = let k = sym a ∙ b in cc
 
-module _ (invisible : Invisible) (opens : OpensIt) (t : Trace) (gates : List Gate) (script : List Op) (closed : Stage) (last : Processing) (run : FinishesAlone t gates script closed last) where
+abbrev pub ClockWasOn : Type 0
+ClockWasOn = (v w : PortValue) → is_telling v ≡ true → told_word w Clock < last_clock → ClockGoesOn v w
+
+module _ (invisible : Invisible) (opens : OpensIt) (clock_was_on : ClockWasOn) (t : Trace) (gates : List Gate) (script : List Op) (closed : Stage) (last : Processing) (run : FinishesAlone t gates script closed last) where
   abbrev first : Processing
   first = fresh t.layout.frames 0 (domain_of t.layout 0) script
 
@@ -45,7 +49,7 @@ module _ (invisible : Invisible) (opens : OpensIt) (t : Trace) (gates : List Gat
       let retired = subst (λ (k : Processing). k.retired ≡ true) (sym same) run.retired in
       let still = stopped t.layout w.now _ run.ran.works.worked closed run.ran.works.stops w.only retired in
       let turned = subst (λ (s : Stage). Turned first (first_port t run.ran.opened) w.now (port_on t.layout 0 s.board)) (sym still) w.turned in
-      let k = invisible first w.now (first_port t run.ran.opened) (port_on t.layout 0 closed.board) (opening_solo t) (opens t run.ran.opened script run.formed run.ran.opening run.only) writes turned retired fair.fair fair.fresh in
+      let k = invisible first w.now (first_port t run.ran.opened) (port_on t.layout 0 closed.board) (opening_solo t) (opens t run.ran.opened script run.formed run.ran.opening run.only) writes turned retired (record { clock = clock_was_on (first_port t run.ran.opened) (port_on t.layout 0 closed.board) refl fair.clock; room = fair.room }) fair.fresh in
       record {
         last_is = ap (λ (s : Stage). slice_get s.cpus 0) still ∙ run.last_is;
         log = subst (λ (c : Processing). IsLog IsLogged c.log (script_alone (owner_in t) script (opening_solo t)).log) same k.0;

@@ -1,3 +1,4 @@
 mod Ending
 mod Finishing
 mod Opening
+mod Ticking

@@ -1,7 +1,9 @@
 -- A run of one vCPU that comes to the end of its script.
-use Rattle.std.specs.Prelude.{◌≡◌, ℕ, true, List, Some, length, slice_get}
+use Rattle.std.specs.Prelude.{◌≡◌, ◌<◌, ℕ, true, List, Some, length, slice_get}
+use Rattle.xp_words.specs.Places.{memory, sizes_of}
 use Rattle.xp_words.specs.declared.ops.Op.{Op}
-use Rattle.xp_board.specs.Readings.{domain_of}
+use Rattle.xp_words.specs.declared.place.Place.TheVariants.{Clock}
+use Rattle.xp_board.specs.Readings.{domain_of, last_clock}
 use Rattle.xp_board.specs.Told.{PortValue}
 use Rattle.shared_board.specs.Board.{opened_story}
 use Rattle.vcpu_runners.specs.Turns.{Processing}
@@ -15,8 +17,8 @@ use Rattle.xp_machine.specs.Turns.{Stage, port_on}
 use Rattle.script_law.specs.Shown.{solo_in}
 use Rattle.script_law.specs.Scripts.{Logged}
 use Rattle.script_law.specs.Values.{Solo, Whose}
+use Rattle.pause_laws.specs.Calls.{HasRoom}
 use Rattle.solo_accesses.specs.Stale.{IsNeverStale}
-use Rattle.solo_ports.specs.Standing.{Fair}
 use Rattle.script_laws.specs.Logged.{IsLogged}
 use Rattle.script_laws.specs.Opening.{IsStoppedAt}
 use Rattle.script_laws.specs.Turns.{IsLog}
@@ -45,9 +47,10 @@ pub record FinishesAlone (t : Trace) (gates : List Gate) (script : List Op) (clo
 abbrev pub with_turns : List TurnRun → Trace → Trace
 with_turns us t = record t { turns = us }
 
--- none of the steps of that run meets a limit of the clock or of a count, or a translation that a walk would not find
+-- The run leaves the clock below its last value; none of its steps finds a reference word with its count at the limit, or comes to a word by a translation that a walk would not find.
 pub record IsFairRun (t : Trace) (opened : List ℕ) (closed : Stage) : Type 0 where
-  pub fair : Fair (first_port t opened) (port_on t.layout 0 closed.board)
+  pub clock : memory (sizes_of t.layout) closed.board.words Clock < last_clock
+  pub room : HasRoom (first_port t opened) (port_on t.layout 0 closed.board)
   pub fresh : IsNeverStale (first_port t opened) (port_on t.layout 0 closed.board)
 
 -- The log of the vCPU is of these answers, line by line, and the closing words show that value.

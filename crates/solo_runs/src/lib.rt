@@ -4,5 +4,6 @@
 mod runs;
 
 pub use runs::{
-    a_vcpu_opens_its_script, preemption_is_invisible_in_a_run, turns_and_pauses_do_not_matter,
+    a_clock_below_its_last_value_was_never_there, a_vcpu_opens_its_script,
+    preemption_is_invisible_in_a_run, turns_and_pauses_do_not_matter,
 };

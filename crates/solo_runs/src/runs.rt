@@ -1,12 +1,15 @@
 //! Runs of one vCPU.
-ghost use Rattle.std.specs.Prelude.{◌≡◌, ℕ, List, length};
+ghost use Rattle.std.specs.Prelude.{◌≡◌, ◌<◌, ℕ, true, List, length};
 ghost use Rattle.xp_words.specs.declared.ops.Op.{Op};
+ghost use Rattle.xp_words.specs.declared.place.Place.TheVariants.{Clock};
+ghost use Rattle.course_laws.specs.Courses.{ClockGoesOn};
 ghost use Rattle.vcpu_runners.specs.Turns.{Processing, fresh};
 ghost use Rattle.trace_text.specs.declared.trace.Trace.{Trace};
 ghost use Rattle.trace_text.specs.declared.trace.TurnRun.{TurnRun};
 ghost use Rattle.trace_text.specs.WellFormed.{IsWellFormed};
 ghost use Rattle.machine_build.specs.Opening.{IsOpening};
-ghost use Rattle.xp_board.specs.Readings.{domain_of};
+ghost use Rattle.xp_board.specs.Readings.{domain_of, last_clock};
+ghost use Rattle.xp_board.specs.Told.{PortValue, is_telling, told_word};
 ghost use Rattle.xp_preempt.specs.Gates.{Gate};
 ghost use Rattle.xp_machine.specs.Turns.{Stage};
 ghost use Rattle.script_law.specs.Scripts.{script_alone};
@@ -23,15 +26,21 @@ pub fn a_vcpu_opens_its_script()
     opening_words_are_sound();
 }
 
+/// The clock never goes back, so where it stands below its last value none of the steps before found it there.
+pub fn a_clock_below_its_last_value_was_never_there()
+    ensures { (v w : PortValue) → is_telling v ≡ true → told_word w Clock < last_clock → ClockGoesOn v w }
+{}
+
 /// A run in which the only vCPU comes to the end of its script, whatever turns the trace lists and whatever the gate answers, logs what the plain script answers, and closes with words that
 /// show what that leaves: both are functions of the machine, the opening words and the script. The script writes no page-table entry.
 ///
-/// The premises are on the steps of the run: none finds the clock at its last value, or a reference word with its count at the limit, or comes to a word by a translation that a walk would not find.
+/// The premises: the run leaves the clock below its last value, and none of its steps finds a reference word with its count at the limit, or comes to a word by a translation that a walk would not find.
 pub fn preemption_is_invisible_in_a_run()
     ensures { (t : Trace) (gates : List Gate) (script : List Op) (closed : Stage) (last : Processing) (run : FinishesAlone t gates script closed last) → WritesNoEntries script → IsFairRun t run.ran.opened closed →
         ComesTo t closed last (script_alone (owner_in t) script (opening_solo t)).log (script_alone (owner_in t) script (opening_solo t)).left }
 {
     a_vcpu_opens_its_script();
+    a_clock_below_its_last_value_was_never_there();
     preemption_is_invisible();
 }
 
