@@ -1,10 +1,10 @@
 -- What a new word asks is taken, or refused, from words at rest that a plain value describes; or the acquisition of a table is paused.
-use Rattle.std.proofs.Common.{◌≡◌, ◌≢◌, ◌⊎◌, ◌≤◌, ℕ, ◌-◌, Bool, true, List, [], length, Some, None, Result, Ok, Err, refl, sym, ap, ◌∙◌, subst, arith, inl, inr}
+use Rattle.solo_entries.specs.Exchanges.{LeftAs, RefusedSo, later, now}
+use Rattle.std.proofs.Common.{◌≡◌, ◌⊎◌, ◌≤◌, ℕ, ◌-◌, Bool, true, List, length, None, Result, Ok, Err, refl, sym, ap, ◌∙◌, subst, arith, inl, inr}
 use Rattle.xp_words.specs.Machine.{IsMachine, Machine}
 use Rattle.xp_words.specs.declared.entry.Demand.{Demand}
 use Rattle.xp_words.specs.declared.entry.Demand.TheVariants as demands
 use Rattle.xp_words.specs.declared.reply.Pause.TheVariants.{Due}
-use Rattle.xp_words.specs.declared.reply.Refusal.{Refusal}
 use Rattle.xp_words.specs.declared.reply.Stop.{Stop}
 use Rattle.xp_words.specs.declared.reply.Stop.TheVariants.{Refused, Paused}
 use Rattle.xp_board.specs.Told.{Post, PortValue, is_telling, told_word}
@@ -21,43 +21,24 @@ use Rattle.table_entries.specs.Acquiring.{Acquired, GotRef}
 use Rattle.table_entries.proofs.Shared.{ref_came}
 use Rattle.table_words.specs.OldWords.{old_place}
 use Rattle.table_words.specs.declared.old_words.OldWord.TheVariants.{First}
-use Rattle.table_law.specs.Alone.{Cause, PlainOutcome, alone, meet, take_at, take_reference}
+use Rattle.table_law.specs.Alone.{PlainOutcome, alone, meet, take_at, take_reference}
 use Rattle.table_law.specs.Lawful.{IsAtRest}
 use Rattle.table_law.specs.Plain.{Describes, Plain}
-use Rattle.table_twins.specs.Answers.{IsCause}
-use Rattle.course_laws.specs.Courses.{ClockGoesOn, IsFinal, IsOrderly}
+use Rattle.course_laws.specs.Courses.{ClockGoesOn, IsOrderly}
 use Rattle.course_laws.proofs.Awaiting.{alone_orderly}
-use Rattle.course_laws.proofs.Stopping.{StopsAs, stops_here, acquired_came}
+use Rattle.course_laws.proofs.Stopping.{acquired_came}
 use Rattle.refusal_laws.specs.Refusals.{ComesTo}
 use Rattle.refusal_laws.specs.Refusals as refusing
-use Rattle.release_laws.specs.Pauses.{IsLeft}
-use Rattle.step_maker.specs.Asked.{of_frame}
 use Rattle.writable_pages.specs.Pages as pages
 use Rattle.writable_pages.specs.Pages.{GotPage}
 use Rattle.solo_entries.proofs.Known.{Known}
 use Rattle.solo_entries.proofs.Olds.{Keeps, two_five, two_four, got_page_keeps, had_keeps, ref_keeps, KeepsSecond, keeps_self, three_four, three_five, acquired_keeps, three_two}
 use Rattle.solo_entries.proofs.Stopping.{ended_by, page_stops}
-use Rattle.solo_entries.proofs.Taking.{EndsSo, IsEnded, IsRefusedNow, free, got_it, page_ends, unreferred, untaken}
+use Rattle.solo_entries.proofs.Taking.{EndsSo, IsEnded, free, got_it, page_ends, unreferred, untaken}
 use Rattle.xp_words.specs.declared.place.Place.TheVariants.{Refs}
 use Rattle.exchange_laws.proofs.Going.{took_page_came}
 
 -- ---- what a call comes to
--- The words at w are q, and the first old word names no frame; or the release of a table is unfinished there, and leaves q.
-pub data LeftAs (n : Machine) (w : PortValue) (q : Plain) : Type 0 where
-  now : told_word w (old_place w.post.vcpu First) ≡ 0 → Describes n (told_word w) q → LeftAs n w q
-  later : (g l : ℕ) → IsLeft n w g l q → LeftAs n w q
-
-pub record RefusedSo (n : Machine) (w : PortValue) (y : Refusal) (a : PlainOutcome) : Type 0 where
-  pub cause : Cause
-  pub is : a.refusal ≡ Some cause
-  pub same : IsCause y cause
-  pub left : LeftAs n w a.left
-
--- what a whole exchange comes to
-abbrev pub ComesSo : Machine → PortValue → PlainOutcome → Result (Unit {0}) Stop → Type 0
-ComesSo n w a (Ok done) = (a.refusal ≡ None) × LeftAs n w a.left
-ComesSo n w a (Err (Refused y)) = RefusedSo n w y a
-ComesSo n w a (Err (Paused x)) = ⊥
 
 -- what is taken: then nothing is left to be settled
 abbrev pub TookSo : {A : Type 0} → Machine → PortValue → PlainOutcome → Result A Stop → Type 0

@@ -1,19 +1,19 @@
 -- The exchange of an entry of a locked table, behind the look at its word, comes to the plain exchange.
-use Rattle.std.proofs.Common.{◌≡◌, ◌≢◌, ◌⊎◌, ◌≤◌, ◌<◌, ℕ, suc, ◌-◌, Bool, true, false, List, [], ◌++◌, length, Option, Some, None, Result, Ok, Err, refl, sym, ap, ◌∙◌, subst, arith, inl, inr}
+use Rattle.solo_entries.specs.Exchanges.{ComesSo, IsHeld, LeftAs, RefusedSo, now}
+use Rattle.std.proofs.Common.{◌≡◌, ◌≤◌, ◌<◌, ℕ, suc, ◌-◌, Bool, true, false, List, Result, Ok, Err, refl, sym, ap, ◌∙◌, subst, arith}
 use Rattle.xp_words.specs.Entries.{demand_at}
 use Rattle.xp_words.specs.Machine.{IsMachine, Machine}
 use Rattle.xp_words.specs.declared.entry.Demand.{Demand}
 use Rattle.xp_words.specs.declared.entry.Demand.TheVariants as demands
 use Rattle.xp_words.specs.declared.kind.PageType.{PageType}
-use Rattle.xp_words.specs.declared.place.Place.TheVariants.{Cell, Kind, Vcpu}
 use Rattle.xp_words.specs.declared.reply.Refusal.{Refusal}
 use Rattle.xp_words.specs.declared.reply.Refusal.TheVariants as refusals
 use Rattle.xp_words.specs.declared.reply.Stop.{Stop}
-use Rattle.xp_words.specs.declared.reply.Stop.TheVariants.{Refused, Paused}
+use Rattle.xp_words.specs.declared.reply.Stop.TheVariants.{Refused}
 use Rattle.xp_board.specs.CellSteps.{is_same_demand}
 use Rattle.xp_board.specs.Told.{Post, PortValue, is_telling, told_word}
 use Rattle.step_maker.specs.Moves.{Came}
-use Rattle.step_maker.proofs.Coming.{came_post, came_trans, moves_came}
+use Rattle.step_maker.proofs.Coming.{came_post}
 use Rattle.step_maker.proofs.Telling.{came_telling}
 use Rattle.entry_exchange.specs.Course as course
 use Rattle.entry_exchange.specs.Course.{LeftLock, PutsNew, ReleasedDemand, TookDemand, TookNew, new_demand, old_demand}
@@ -26,18 +26,16 @@ use Rattle.exchange_laws.proofs.Putting.{entry_put, put_came}
 use Rattle.exchange_laws.proofs.Unlocking.{lock_came}
 use Rattle.foreign_map.specs.declared.owners.Owners.{Owners}
 use Rattle.partial_state.specs.Levels.{level_type}
-use Rattle.table_law.specs.Alone.{Cause, PlainOutcome, back_or, fine, meet, refused, take_at}
+use Rattle.table_law.specs.Alone.{PlainOutcome, back_or, fine, meet, take_at}
 use Rattle.table_law.specs.Exchange.{exchange_by, exchange_for, put_on, unlocked_plain, with_cell}
 use Rattle.table_law.specs.Plain.{Describes, Plain}
 use Rattle.table_law.specs.Release.{drop_demand, let_go}
 use Rattle.table_law.specs.Undone.{CountsSome}
 use Rattle.table_law.proofs.Counting.{asks_at}
 use Rattle.table_words.specs.OldWords.{old_place}
-use Rattle.table_words.specs.declared.old_words.OldWord.TheVariants.{First, Second}
-use Rattle.table_twins.specs.Answers.{IsCause}
-use Rattle.solo_entries.proofs.Demanding.{ComesSo, LeftAs, RefusedSo, TookSo, later, now, demand_comes}
-use Rattle.solo_entries.proofs.Exchanging.{demand_left, held_meet, unlocked_left, unlocked_second}
-use Rattle.solo_entries.proofs.Holding.{IsHeld, off}
+use Rattle.table_words.specs.declared.old_words.OldWord.TheVariants.{First}
+use Rattle.solo_entries.proofs.Demanding.{TookSo}
+use Rattle.solo_entries.proofs.Exchanging.{demand_left, held_meet, unlocked_left}
 use Rattle.solo_entries.proofs.Known.{Known}
 use Rattle.solo_entries.proofs.Olds.{puts_keeps, two_five, two_four}
 use Rattle.solo_entries.proofs.Locking.{lock_goes, lock_leaves, unlocked_off}

@@ -1,48 +1,35 @@
 -- The exchange of an entry of a locked table, from where its word was looked at.
+use Rattle.solo_entries.specs.Exchanges.{IsHeld, LeftAs, later, now}
 use Rattle.std.proofs.lemmas.Bool.{cases_Bool}
 use Rattle.kind_words.proofs.KindFacts.{live_undead}
-use Rattle.std.proofs.Common.{nat_lt, nat_le, ◌==◌, not, if◌then◌else◌, ◌≡◌, ◌≢◌, ◌⊎◌, ◌≤◌, ◌<◌, ℕ, suc, ◌-◌, Bool, true, false, List, [], ◌++◌, length, Option, Some, None, Result, Ok, Err, refl, sym, ap, ◌∙◌, subst, arith, inl, inr, ◌+◌, IfErr}
-use Rattle.xp_words.specs.Entries.{demand_at}
+use Rattle.std.proofs.Common.{nat_lt, nat_le, ◌==◌, ◌≡◌, ◌≢◌, ◌≤◌, ◌<◌, ℕ, Bool, true, false, List, Option, Some, None, Result, Ok, Err, refl, sym, ap, ◌∙◌, subst, inl, inr, ◌+◌, IfErr}
 use Rattle.xp_words.specs.Machine.{IsMachine, Machine}
 use Rattle.xp_words.specs.declared.entry.Demand.{Demand}
 use Rattle.xp_words.specs.declared.entry.Demand.TheVariants as demands
 use Rattle.xp_words.specs.declared.kind.PageType.{PageType}
 use Rattle.xp_words.specs.declared.place.Place.{Place}
-use Rattle.xp_words.specs.declared.place.Place.TheVariants.{Kind, Vcpu}
-use Rattle.xp_words.specs.declared.reply.Refusal.{Refusal}
-use Rattle.xp_words.specs.declared.reply.Refusal.TheVariants as refusals
+use Rattle.xp_words.specs.declared.place.Place.TheVariants.{Kind}
 use Rattle.xp_words.specs.declared.reply.Stop.{Stop}
-use Rattle.xp_words.specs.declared.reply.Stop.TheVariants.{Refused, Paused}
-use Rattle.xp_board.specs.CellSteps.{is_same_demand}
+use Rattle.xp_words.specs.declared.reply.Stop.TheVariants.{Paused}
 use Rattle.xp_board.specs.Told.{Post, PortValue, is_telling, told_word}
 use Rattle.step_maker.specs.Moves.{Came}
-use Rattle.step_maker.proofs.Coming.{came_post, came_trans, moves_came}
+use Rattle.step_maker.proofs.Coming.{came_post}
 use Rattle.step_maker.proofs.Telling.{came_telling}
-use Rattle.answer_laws.specs.Alone.{IsAlone}
-use Rattle.answer_laws.proofs.Shared.{alone_telling}
 use Rattle.entry_exchange.specs.Course as course
 use Rattle.entry_exchange.specs.Course.{Exchanged, LeftLock, PutsNew, ReleasedDemand, SawEntry, TookDemand, TookNew, new_demand, old_demand}
-use Rattle.entry_exchange.specs.Holding.{owner_at}
-use Rattle.entry_exchange.specs.Words.{same_demand, word_kept}
-use Rattle.entry_exchange.specs.declared.exchanging.EntryUpdate.{EntryUpdate}
-use Rattle.exchange_laws.specs.Plain.{exchanged_plain, place_in}
 use Rattle.exchange_laws.proofs.Unlocking.{lock_came}
-use Rattle.foreign_map.specs.declared.owners.Owners.{Owners}
 use Rattle.partial_state.specs.Levels.{level_type}
-use Rattle.table_law.specs.Alone.{Cause, PlainOutcome, alone, back_or, fine, meet, refused, take_at, take_reference, take_reference_of}
-use Rattle.table_law.specs.Exchange.{exchange_by, exchange_for, put_on, unlocked_plain, with_cell}
-use Rattle.table_law.specs.Plain.{Describes, Plain, reference_back, Share, sober}
+use Rattle.table_law.specs.Alone.{Cause, alone, meet, take_at, take_reference, take_reference_of}
+use Rattle.table_law.specs.Plain.{Describes, Plain, Share, sober}
 use Rattle.table_law.specs.Release.{drop_demand, let_go}
-use Rattle.table_law.specs.Undone.{CountsSome, IsSameButType, IsSameButTypes}
+use Rattle.table_law.specs.Undone.{CountsSome, IsSameButType}
 use Rattle.table_law.proofs.ReturningTables.{refused_same, released_same}
 use Rattle.table_words.specs.OldWords.{old_place}
 use Rattle.table_words.specs.declared.old_words.OldWord.TheVariants.{First, Second}
 use Rattle.release_laws.specs.Pauses.{IsLeft}
-use Rattle.solo_entries.proofs.Demanding.{ComesSo, LeftAs, RefusedSo, TookSo, later, now}
-use Rattle.solo_entries.proofs.Holding.{IsHeld, back_go, go_passes, off}
+use Rattle.solo_entries.proofs.Holding.{back_go, go_passes, off}
 use Rattle.solo_entries.proofs.Known.{Known}
-use Rattle.solo_entries.proofs.Locking.{lock_goes, lock_leaves, unlocked_off}
-use Rattle.solo_entries.proofs.Taking.{refused_left}
+use Rattle.solo_entries.proofs.Locking.{lock_goes, lock_leaves}
 use Rattle.xp_words.specs.declared.kind.KindWord.{KindWord}
 use Rattle.solo_entries.proofs.Standing.{is_counting}
 use Rattle.xp_words.specs.KindWords.{kind_fields}
@@ -50,7 +37,6 @@ use Rattle.table_law.proofs.Describing.{sober_live}
 use Rattle.level_release.specs.Course as release
 use Rattle.level_release.specs.Course.{WasReleased}
 use Rattle.solo_entries.proofs.Released.{release_done, release_keeps}
-use Rattle.table_entries.proofs.Shared.{gave_came}
 use Rattle.solo_entries.proofs.Olds.{gave_keeps, KeepsFirst, two_four, two_five, KeepsSecond, keeps_self, three_four, three_five, three_two}
 use Rattle.xp_words.specs.declared.reply.Pause.TheVariants.{Due}
 use Rattle.exchange_laws.proofs.Given.{given_back}
@@ -115,10 +101,10 @@ module _ (k : Known) (n : Machine) (z w : PortValue) (f level : ℕ) (q : Plain)
       let p = left.plain in
       let h : IsHeld f p = back_go f l g p (subst (IsHeld f) (sym left.left) held) in
       let apart : g ≢ f = λ e. (
-        let a : p.kinds f ≡ sober (kind_fields (told_word z (Kind g))) = ap p.kinds (sym e) ∙ left.describes.kinds g left.inside in
-        let b : (p.kinds f).validated ≡ false = ap (λ (j : KindWord). j.validated) a ∙ (sober_live (kind_fields (told_word z (Kind g))) ∙ ap (λ (j : KindWord). j.validated) left.word) in
-        let c : false ≡ true = sym b ∙ h.live in
-        cc) in
+      let a : p.kinds f ≡ sober (kind_fields (told_word z (Kind g))) = ap p.kinds (sym e) ∙ left.describes.kinds g left.inside in
+      let b : (p.kinds f).validated ≡ false = ap (λ (j : KindWord). j.validated) a ∙ (sober_live (kind_fields (told_word z (Kind g))) ∙ ap (λ (j : KindWord). j.validated) left.word) in
+      let c : false ≡ true = sym b ∙ h.live in
+      cc) in
       later g l
       (record {
         machine = ap (λ (o : Post). o.machine) post_same ∙ left.machine;

@@ -1,16 +1,16 @@
 -- A table is locked, from a port at which nothing is left: what the words are then.
-use Rattle.std.proofs.Common.{◌≡◌, ◌≢◌, ◌<◌, ◌≤◌, ℕ, ◌+◌, ◌-◌, ◌^◌, ◌==◌, ◌&&◌, not, nat_lt, if◌then◌else◌, Bool, true, false, Option, Some, None, Ok, IsTrue, refl, sym, ap, ◌∙◌, subst, arith, inl, inr, ◌⊎◌, IsSome}
+use Rattle.solo_entries.specs.Exchanges.{IsHeld}
+use Rattle.std.proofs.Common.{◌≡◌, ◌≢◌, ◌<◌, ◌≤◌, ℕ, ◌+◌, ◌-◌, ◌^◌, ◌==◌, ◌&&◌, not, nat_lt, if◌then◌else◌, Bool, true, false, Option, Some, None, Ok, IsTrue, refl, sym, ap, ◌∙◌, subst, arith, inl, inr, ◌⊎◌}
 use Rattle.std.proofs.lemmas.Bool.{and_parts, cases_eq}
 use Rattle.std.proofs.lemmas.Bool.Decides.{nat_tests}
 use Rattle.xp_words.specs.KindWords.{is_kind, kind_fields, kind_write}
 use Rattle.xp_words.specs.Machine.{IsMachine, Machine}
 use Rattle.xp_words.specs.PageTypes.{is_table}
 use Rattle.xp_words.specs.declared.kind.KindWord.{KindWord}
-use Rattle.xp_words.specs.declared.place.Place.TheVariants.{Cell, Kind, Refs}
-use Rattle.xp_board.specs.Acts.{left_by}
+use Rattle.xp_words.specs.declared.place.Place.TheVariants.{Kind, Refs}
 use Rattle.xp_board.specs.KindSteps.{locked_kind}
 use Rattle.xp_board.specs.Readings.{is_dead, kind_at, ref_count}
-use Rattle.xp_board.specs.Told.{Post, PortValue, is_telling, told_word}
+use Rattle.xp_board.specs.Told.{PortValue, is_telling, told_word}
 use Rattle.step_maker.specs.Moves.{Came}
 use Rattle.step_maker.specs.Plain.{Leaves, Words}
 use Rattle.step_maker.proofs.Alikes.{same_alike}
@@ -23,7 +23,6 @@ use Rattle.entry_locks.specs.Locks.{is_lockable, Unlocks}
 use Rattle.entry_locks.specs.Plain.{with_lock}
 use Rattle.entry_locks.specs.declared.locking.Locked.TheVariants.{Table}
 use Rattle.entry_locks.proofs.LockWriting.{locked_is}
-use Rattle.foreign_map.specs.declared.owners.Owners.{Owners}
 use Rattle.frame_types.specs.Plain.{set_kind}
 use Rattle.frame_words.specs.Plain.{got, refer}
 use Rattle.kind_words.proofs.KindWriting.{fields_write}
@@ -43,10 +42,10 @@ use Rattle.course_laws.specs.Courses.{IsOrderly}
 use Rattle.course_laws.proofs.Awaiting.{alone_orderly}
 use Rattle.course_laws.proofs.Lending.{Lent, lent_there}
 use Rattle.script_law.specs.Frames.{under_lock}
-use Rattle.solo_entries.proofs.Holding.{IsHeld, less, off}
+use Rattle.solo_entries.proofs.Holding.{less, off}
 use Rattle.solo_entries.proofs.Known.{Known}
 use Rattle.solo_entries.proofs.Memory.{sober_lockable}
-use Rattle.solo_entries.proofs.Standing.{machine_same, is_counting, put_same}
+use Rattle.solo_entries.proofs.Standing.{is_counting, put_same}
 use Rattle.xp_words.specs.declared.refs.RefWord.{RefWord}
 use Rattle.xp_words.specs.declared.refs.RefWord.TheVariants.{Dying, Free, Owned}
 use Rattle.xp_board.specs.Readings.{count_in}
@@ -212,11 +211,13 @@ module _ (k : Known) (v u y : PortValue) (p : Plain) (owner f level found : ℕ)
       formed_by g (inr apart) inside off =
           let same = at_there f g (locked_kind (p.kinds f)) p.kinds apart in
           ap (λ (j : KindWord). j.validated) same ∙ rested.formed g inside (sym (ap is_dead same) ∙ off)
+
       counted_by : (g : ℕ) → (g ≡ f) ⊎ (g ≢ f) → g < n.frames → (locked.kinds g).validated ≡ true → 0 < (locked.kinds g).number
       counted_by g (inl e) inside on = subst (λ h. 0 < (locked.kinds h).number) (sym e) (let s = held_y.several in omega (arith, s))
       counted_by g (inr apart) inside on =
           let same = at_there f g (locked_kind (p.kinds f)) p.kinds apart in
           subst (λ (j : KindWord). 0 < j.number) (sym same) (rested.counted g inside (sym (ap (λ (j : KindWord). j.validated) same) ∙ on))
+
       room_by : (g : ℕ) → (g ≡ f) ⊎ (g ≢ f) → g < n.frames → share_count (locked.shares g) ≤ n.limit
       room_by g (inl e) inside =
           let here : locked.shares g ≡ Some (raised_share lends.share) = ap locked.shares e ∙ at_here f (Some (raised_share lends.share)) p.shares in

@@ -1,5 +1,5 @@
 -- A machine-to-physical word, and the elements that their numbers refuse.
-use Rattle.std.proofs.Common.{◌≡◌, ◌≢◌, ◌<◌, ℕ, ◌+◌, ◌-◌, ◌==◌, if◌then◌else◌, Bool, true, false, List, [], Option, Some, None, Result, Ok, Err, refl, sym, ap, ◌∙◌, subst, arith, length}
+use Rattle.std.proofs.Common.{◌≡◌, ◌<◌, ℕ, ◌+◌, ◌-◌, ◌==◌, if◌then◌else◌, Bool, true, false, Option, Some, None, Result, Ok, Err, refl, sym, ap, ◌∙◌, subst, arith}
 use Rattle.std.proofs.lemmas.Bool.Decides.{nat_tests}
 use Rattle.xp_words.specs.Machine.{IsMachine, Machine}
 use Rattle.xp_words.specs.declared.place.Place.{Place}
@@ -22,20 +22,20 @@ use Rattle.m2p_map.specs.Maps.{TwinSet, set_word}
 use Rattle.table_words.specs.OldWords.{old_place}
 use Rattle.table_words.specs.declared.old_words.OldWord.TheVariants.{First, Second}
 use Rattle.table_law.specs.Alone.{Cause, PlainOutcome, take_reference}
-use Rattle.table_law.specs.Plain.{Describes, Plain, Share, at, fewer, raised_share, reference_back, with_share, share_of, sober}
-use Rattle.table_twins.specs.Answers.{IsCause, IsSameAnswer}
+use Rattle.table_law.specs.Plain.{Describes, Plain, Share, fewer, raised_share, reference_back, with_share, share_of, sober}
+use Rattle.table_twins.specs.Answers.{IsSameAnswer}
 use Rattle.table_twins.proofs.Kinding.{described_alike}
 use Rattle.table_twins.proofs.Referring.{same_answer, same_taken}
 use Rattle.table_twins.proofs.Sharing.{same_back, count_some}
-use Rattle.course_laws.proofs.Extras.{IsSame, described_same}
-use Rattle.course_laws.proofs.Lending.{Lent, fine_there, lent_there}
+use Rattle.course_laws.proofs.Extras.{described_same}
+use Rattle.course_laws.proofs.Lending.{Lent, lent_there}
 use Rattle.script_law.specs.Frames.{set_map}
-use Rattle.script_law.specs.Values.{Frames, Outcome, Solo, Why, did, looked, looked_by, put_at, stopped, Numbers}
+use Rattle.script_law.specs.Values.{Frames, Outcome, Solo, did, looked, looked_by, put_at, stopped, Numbers}
 use Rattle.solo_ports.specs.Coming.{Comes, IsDoneSo, IsRefusedSo}
-use Rattle.solo_ports.specs.Standing.{Clean, Owes, ShowsOthers, Stands, nothing, IsUnkept}
+use Rattle.solo_ports.specs.Standing.{Clean, Owes, ShowsOthers, nothing}
 use Rattle.solo_ports.proofs.Staying.{stands_at}
 use Rattle.solo_entries.proofs.Known.{Known}
-use Rattle.solo_entries.proofs.Standing.{machine_same, owes_same, put_same, is_counting}
+use Rattle.solo_entries.proofs.Standing.{owes_same, put_same, is_counting}
 use Rattle.table_law.proofs.Counting.{at_here}
 use Rattle.step_maker.proofs.Alikes.{same_alike}
 use Rattle.step_maker.specs.Twins.{AnswersAs}

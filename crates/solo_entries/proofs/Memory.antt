@@ -1,5 +1,5 @@
 -- A word of ordinary memory is written: the frame is taken for it, the word stored, and the frame given back.
-use Rattle.std.proofs.Common.{◌≡◌, ◌<◌, ℕ, ◌-◌, ◌&&◌, if◌then◌else◌, Bool, true, false, List, [], length, Option, Some, None, Result, Ok, Err, refl, sym, ap, ◌∙◌, subst, arith, inl, inr, not, is_lt, ◌≢◌, nat_lt}
+use Rattle.std.proofs.Common.{◌≡◌, ◌<◌, ℕ, ◌&&◌, if◌then◌else◌, Bool, true, false, List, [], Some, None, Result, Ok, Err, refl, sym, ap, ◌∙◌, subst, arith, inl, inr, not, ◌≢◌, nat_lt}
 use Rattle.std.proofs.lemmas.Bool.{cases_Bool}
 use Rattle.table_law.proofs.Describing.{sober_live}
 use Rattle.xp_words.specs.KindWords.{kind_fields}
@@ -13,7 +13,7 @@ use Rattle.xp_words.specs.declared.reply.Stop.{Stop}
 use Rattle.xp_words.specs.declared.reply.Stop.TheVariants.{Refused, Paused}
 use Rattle.xp_board.specs.declared.step.Act.TheVariants.{Store}
 use Rattle.xp_board.specs.declared.step.StepKind.TheVariants as kinds
-use Rattle.xp_board.specs.Told.{Post, PortValue, is_telling, told_word}
+use Rattle.xp_board.specs.Told.{PortValue, is_telling, told_word}
 use Rattle.step_maker.specs.Answers.{Deed, Serves}
 use Rattle.step_maker.specs.Asked.{Request}
 use Rattle.step_maker.specs.Holds.{Rests}
@@ -34,20 +34,17 @@ use Rattle.level_release.specs.Course as release
 use Rattle.mmu_update.specs.Course.{TriedLock}
 use Rattle.table_entries.specs.Acquiring.{GaveType, GotRef}
 use Rattle.table_entries.proofs.Shared.{ref_came}
-use Rattle.table_words.specs.OldWords.{old_place}
-use Rattle.table_words.specs.declared.old_words.OldWord.TheVariants.{First, Second}
 use Rattle.table_law.specs.Alone.{Cause, PlainOutcome, alone}
 use Rattle.table_law.specs.Exchange.{with_cell}
 use Rattle.table_law.specs.Plain.{Describes, Plain, sober}
 use Rattle.table_law.specs.Release.{let_go}
 use Rattle.table_twins.proofs.Typing.{live_sober}
 use Rattle.course_laws.specs.Courses.{ClockGoesOn, IsFinal}
-use Rattle.course_laws.proofs.Stopping.{StopsAs, behind}
-use Rattle.writable_pages.specs.Pages.{TookPage, ServesPage}
+use Rattle.writable_pages.specs.Pages.{TookPage}
 use Rattle.script_law.specs.Frames.{write_by, write_memory, write_word, write_entry}
-use Rattle.script_law.specs.Values.{Frames, Outcome, Solo, behind_by, stopped, did, looked_by, with_frames, Numbers}
+use Rattle.script_law.specs.Values.{Frames, Solo, behind_by, stopped, did, looked_by, with_frames, Numbers}
 use Rattle.solo_ports.specs.Coming.{Comes, IsDoneSo, IsRefusedSo}
-use Rattle.solo_ports.specs.Standing.{Clean, IsQuiet, IsUnkept, Owes, Stands, nothing}
+use Rattle.solo_ports.specs.Standing.{Clean, IsQuiet, IsUnkept, nothing}
 use Rattle.solo_ports.proofs.Resting.{clean_orderly, clean_rests}
 use Rattle.solo_ports.proofs.Unkept.{unkept_alone, unkept_let_go}
 use Rattle.solo_entries.proofs.Known.{Known}

@@ -1,5 +1,5 @@
 -- Words of vCPUs that a call leaves as they are: an acquisition all but the first old word, and that one, too, where it is had.
-use Rattle.std.proofs.Common.{◌≡◌, ◌≢◌, ◌⊎◌, ℕ, ◌+◌, ◌-◌, ◌==◌, ◌&&◌, ◌||◌, if◌then◌else◌, Bool, true, false, List, [], ◌∷◌, Option, Some, None, Result, Ok, Err, refl, sym, ap, ◌∙◌, subst, inl, inr, arith, nat_lt}
+use Rattle.std.proofs.Common.{◌≡◌, ◌≢◌, ℕ, ◌-◌, ◌==◌, ◌&&◌, if◌then◌else◌, Bool, true, false, List, [], ◌∷◌, Option, Some, None, Result, Ok, Err, refl, sym, ap, ◌∙◌, subst, nat_lt}
 use Rattle.xp_words.specs.declared.place.Place.{Place}
 use Rattle.xp_words.specs.declared.place.Place.TheVariants.{Cell, Clock, Kind, Life, Refs, Vcpu}
 use Rattle.xp_words.specs.Entries.{demand_at}
@@ -23,7 +23,7 @@ use Rattle.xp_board.specs.Told.{PortValue, is_telling, told_word}
 use Rattle.step_maker.specs.Moves.{Came, Moves}
 use Rattle.step_maker.specs.Plain.{Leaves, Words, change}
 use Rattle.step_maker.specs.Twins.{Alike}
-use Rattle.step_maker.specs.Visits.{Does, Only, Then, Visit, visits}
+use Rattle.step_maker.specs.Visits.{Does, Visit, visits}
 use Rattle.step_maker.proofs.Coming.{came_self, came_trans, moves_came}
 use Rattle.step_maker.proofs.Telling.{came_telling, told_elsewhere}
 use Rattle.step_maker.proofs.Visiting.{does_came}
@@ -41,7 +41,7 @@ use Rattle.kept_marks.specs.Marks.{KeptFor, LeftSo}
 use Rattle.kept_marks.specs.Marks as marks
 use Rattle.partial_state.specs.Levels.{level_type}
 use Rattle.partial_state.specs.declared.stack.TableWork.{TableWork}
-use Rattle.table_entries.specs.Acquiring.{Acquired, Advanced, Filled, GaveBack, GaveRef, GotRef, InnerLeft, Joined, LeftPartial, LeftWaiting, MadeLive, Named, OutermostLeft, ResumedEntry, TookEntry, TookOn, TookType, Unwound, WaitingLeft, Worked, around_left, asked, begun, completed, cut_off, due, filled, finished, fresh, counted, keeps_it, opened, recorded, settled, stopped, taken as taken_on, unasked, unfinished, unreferred, unsettled, untyped, waiting}
+use Rattle.table_entries.specs.Acquiring.{Acquired, Advanced, Filled, GaveBack, GaveRef, GotRef, InnerLeft, Joined, LeftPartial, LeftWaiting, MadeLive, Named, OutermostLeft, ResumedEntry, TookEntry, TookOn, TookType, Unwound, WaitingLeft, Worked, around_left, asked, begun, completed, cut_off, due, filled, finished, fresh, counted, opened, recorded, settled, stopped, taken as taken_on, unasked, unfinished, unreferred, unsettled, untyped, waiting}
 use Rattle.table_entries.specs.Plain.{AgainBy, AgainWhere, EntersPlainly, ResumesPlainly, TypesAgain, TypesPlainly, WaitsPlainly, is_own_of, left_dead, left_partial, left_shared, RefersPlainly, TypedPlainly}
 use Rattle.table_entries.specs.declared.entries.Entered.{Entered}
 use Rattle.table_entries.specs.declared.entries.Entered.TheVariants as entered

@@ -1,5 +1,5 @@
 -- Words of vCPUs that a release leaves as they are: all but the first old word, and that one, too, where it is done.
-use Rattle.std.proofs.Common.{◌≡◌, ◌≢◌, ℕ, ◌-◌, ◌==◌, if◌then◌else◌, Bool, true, false, List, [], ◌∷◌, Option, Result, Ok, Err, refl, sym, ap, ◌∙◌, subst}
+use Rattle.std.proofs.Common.{◌≢◌, ℕ, ◌-◌, ◌==◌, if◌then◌else◌, Bool, true, false, List, [], ◌∷◌, Option, Result, Ok, Err, refl, sym, ◌∙◌, subst}
 use Rattle.xp_words.specs.Entries.{demand_at}
 use Rattle.xp_words.specs.KindWords.{kind_fields}
 use Rattle.xp_words.specs.PageTypes.{is_table}
@@ -9,9 +9,9 @@ use Rattle.xp_words.specs.declared.kind.PageType.{PageType}
 use Rattle.xp_words.specs.declared.place.Place.TheVariants.{Cell, Clock, Kind, Refs, Vcpu}
 use Rattle.xp_words.specs.declared.reply.Stop.{Stop}
 use Rattle.xp_board.specs.KindSteps.{Form, InWork, Live, Partial, Dead, form_of}
-use Rattle.xp_board.specs.Told.{PortValue, is_telling, told_word}
+use Rattle.xp_board.specs.Told.{PortValue, told_word}
 use Rattle.step_maker.specs.Plain.{Leaves, Words}
-use Rattle.step_maker.specs.Visits.{Only, Then, Visit}
+use Rattle.step_maker.specs.Visits.{Then}
 use Rattle.step_maker.proofs.Visiting.{does_came}
 use Rattle.frame_claims.proofs.Telling.{Alls, alls_one, alls_then}
 use Rattle.frame_words.specs.Freeing.{PutBy}

@@ -2,7 +2,6 @@
 use Rattle.std.proofs.Common.{◌≡◌, ◌==◌, ℕ, Bool, true, false, if◌then◌else◌, refl, sym, ap, ◌∙◌, List, subst}
 use Rattle.xp_words.specs.declared.place.Place.{Place}
 use Rattle.xp_words.specs.declared.place.Place.TheVariants.{Cell, Kind, Life, M2p, Priv, Vcpu, Refs, Map, Pages, Clock}
-use Rattle.xp_words.specs.Machine.{Machine}
 use Rattle.xp_board.specs.Readings.{owner_of, ref_count}
 use Rattle.xp_board.specs.RefSteps.{owner_number}
 use Rattle.xp_board.specs.Told.{Post, PortValue, told_word}

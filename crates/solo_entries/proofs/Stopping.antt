@@ -5,7 +5,7 @@ use Rattle.xp_board.specs.Told.{PortValue}
 use Rattle.step_maker.specs.Asked.{of_frame}
 use Rattle.answer_laws.specs.Alone.{IsAlone}
 use Rattle.partial_state.specs.Levels.{level_type}
-use Rattle.course_laws.specs.Courses.{ClockGoesOn, IsFinal}
+use Rattle.course_laws.specs.Courses.{ClockGoesOn}
 use Rattle.course_laws.proofs.Awaiting.{decided}
 use Rattle.course_laws.proofs.Stopping.{StopsAs, ahead_of, behind, stops_here}
 use Rattle.exchange_laws.proofs.Going.{page_left_came}

@@ -1,6 +1,5 @@
 -- A reference to a frame, or the frame as ordinary memory, is taken or refused as by any plain value that describes the words, which are at rest.
-use Rattle.std.proofs.Common.{◌≡◌, ℕ, ◌<◌, ◌≤◌, not, nat_lt, nat_le, if◌then◌else◌, ◌==◌, Bool, true, false, [], Option, Some, None, Ok, Err, refl, sym, ap, ◌∙◌, subst, arith, ◌⊎◌, inl, inr, Result}
-use Rattle.std.proofs.Math.Path.{fun_ext}
+use Rattle.std.proofs.Common.{◌≡◌, ℕ, ◌<◌, not, nat_lt, nat_le, if◌then◌else◌, ◌==◌, Bool, true, false, [], Option, Some, None, Ok, Err, refl, sym, ap, ◌∙◌, subst, Result}
 use Rattle.xp_words.specs.Machine.{IsMachine, Machine}
 use Rattle.xp_words.specs.declared.place.Place.TheVariants.{Kind, Refs}
 use Rattle.xp_words.specs.declared.reply.Refusal.{Refusal}
@@ -20,7 +19,7 @@ use Rattle.frame_types.specs.declared.taking.Taken.TheVariants as types
 use Rattle.partial_state.specs.Levels.{level_type}
 use Rattle.table_law.specs.Alone.{Cause, CountFull, NoFrame, PlainOutcome, WrongOwner, alone, fine, go_on, refused, take_at, take_reference, take_reference_of}
 use Rattle.table_law.specs.Lawful.{IsAtRest}
-use Rattle.table_law.specs.Plain.{Describes, Plain, Share, plain_of, raised_share, reference_back, with_share}
+use Rattle.table_law.specs.Plain.{Describes, Plain, Share, raised_share, reference_back, with_share}
 use Rattle.table_twins.specs.Answers.{IsCause, IsSameAnswer}
 use Rattle.table_twins.specs.Types.{IsReady}
 use Rattle.table_twins.proofs.Kinding.{described_alike}
@@ -31,9 +30,7 @@ use Rattle.course_laws.specs.Courses.{IsFinal, IsOrderly}
 use Rattle.course_laws.proofs.Calling.{IsDone}
 use Rattle.course_laws.proofs.Frames.{count_at, frame_ready}
 use Rattle.course_laws.proofs.Lending.{fine_there, lent_there, was_room}
-use Rattle.course_laws.proofs.Deciding.{RefusesAs}
-use Rattle.course_laws.proofs.Starting.{described, rest_frames}
-use Rattle.exchange_laws.specs.Plain.{ExchangesAsPlain, IsRefusedFor}
+use Rattle.course_laws.proofs.Starting.{rest_frames}
 use Rattle.exchange_laws.proofs.Given.{given_back}
 use Rattle.flush_waits.specs.Waiting.{IsWait}
 use Rattle.writable_pages.specs.Pages as pages

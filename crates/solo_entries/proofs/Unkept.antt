@@ -9,9 +9,9 @@ use Rattle.xp_words.specs.declared.kind.KindWord.{KindWord}
 use Rattle.kind_words.specs.Kinds.{partial_kind}
 use Rattle.partial_state.specs.Levels.{level_type}
 use Rattle.table_law.specs.Alone.{Cause, PlainOutcome, back_or, fine, meet, take_at}
-use Rattle.table_law.specs.Exchange.{EntryPlace, exchange_by, exchange_for, exchanged, put_on, unlocked_by, unlocked_plain, with_cell}
+use Rattle.table_law.specs.Exchange.{EntryPlace, exchange_by, exchange_for, exchanged, put_on, unlocked_plain, with_cell}
 use Rattle.table_law.specs.Levels.{entry_of}
-use Rattle.table_law.specs.Plain.{Plain, reference_back, with_kind}
+use Rattle.table_law.specs.Plain.{Plain}
 use Rattle.table_law.specs.Release.{drop_demand, let_go}
 use Rattle.xp_words.specs.Entries.{demand_at}
 use Rattle.xp_board.specs.CellSteps.{is_same_demand}

@@ -1,64 +1,46 @@
 -- A write, from a port at which nothing is left to be settled, comes to its plain meaning, where it is not paused.
-use Rattle.std.proofs.Common.{◌≡◌, ◌≢◌, ◌⊎◌, ◌≤◌, ◌<◌, ℕ, zero, suc, ◌-◌, ◌&&◌, nat_lt, if◌then◌else◌, Bool, true, false, List, [], length, Option, Some, None, Result, Ok, Err, IfErr, IsTrue, refl, sym, ap, ◌∙◌, subst, arith, inl, inr, not}
+use Rattle.solo_entries.specs.Exchanges.{IsHeld}
+use Rattle.std.proofs.Common.{◌≡◌, ◌≤◌, ℕ, zero, suc, ◌&&◌, nat_lt, if◌then◌else◌, Bool, true, List, Ok, Err, IsTrue, refl, sym, ap, ◌∙◌, subst, arith, not}
 use Rattle.std.proofs.lemmas.Bool.{and_parts}
 use Rattle.xp_words.specs.Entries.{is_slot}
-use Rattle.xp_words.specs.Machine.{IsMachine, Machine}
+use Rattle.xp_words.specs.Machine.{Machine}
 use Rattle.xp_words.specs.PageTypes.{is_table, type_number}
-use Rattle.xp_words.specs.declared.kind.PageType.{PageType}
 use Rattle.xp_words.specs.declared.reply.Pause.TheVariants as pauses
-use Rattle.xp_words.specs.declared.reply.Refusal.{Refusal}
 use Rattle.xp_words.specs.declared.reply.Refusal.TheVariants as refusals
 use Rattle.xp_words.specs.declared.reply.Stop.{Stop}
 use Rattle.xp_words.specs.declared.reply.Stop.TheVariants.{Refused, Paused}
 use Rattle.xp_board.specs.Told.{Post, PortValue, is_telling, told_word}
-use Rattle.step_maker.specs.Answers.{Deed, Serves, Stops}
+use Rattle.step_maker.specs.Answers.{Deed, Serves}
 use Rattle.step_maker.specs.Asked.{Request}
 use Rattle.step_maker.specs.Holds.{Rests}
 use Rattle.step_maker.specs.Moves.{Came}
-use Rattle.step_maker.proofs.Coming.{came_post, came_self, came_trans, met_after}
+use Rattle.step_maker.proofs.Coming.{came_post}
 use Rattle.step_maker.proofs.Piecing.{serves_came}
 use Rattle.step_maker.proofs.Telling.{came_telling}
-use Rattle.step_maker.proofs.Visiting.{does_came}
-use Rattle.answer_laws.specs.Alone.{IsAlone}
 use Rattle.answer_laws.proofs.Shared.{alone_telling}
-use Rattle.entry_exchange.specs.Course.{Exchanged, LeftLock}
-use Rattle.entry_exchange.specs.Holding.{owner_at}
-use Rattle.entry_exchange.specs.Words.{word_kept}
 use Rattle.entry_locks.specs.Locks.{of_lock, is_lockable}
-use Rattle.entry_locks.specs.declared.locking.Locked.{Locked}
-use Rattle.entry_locks.specs.declared.locking.Locked.TheVariants.{Table, Other}
-use Rattle.exchange_laws.specs.Plain.{exchanged_plain}
+use Rattle.entry_locks.specs.declared.locking.Locked.TheVariants.{Table}
 use Rattle.foreign_map.specs.declared.owners.Owners.{Owners}
-use Rattle.mmu_update.specs.Course as updates
-use Rattle.mmu_update.specs.Course.{TriedLock, Wrote, entry_update}
+use Rattle.mmu_update.specs.Course.{TriedLock}
 use Rattle.partial_state.specs.Levels.{level_type}
 use Rattle.table_entries.specs.Acquiring.{GotRef}
 use Rattle.table_entries.proofs.Shared.{ref_came}
 use Rattle.table_words.specs.OldWords.{old_place}
 use Rattle.table_words.specs.declared.old_words.OldWord.TheVariants.{First, Second}
-use Rattle.table_law.specs.Alone.{PlainOutcome, fine, take_reference}
-use Rattle.table_law.specs.Exchange.{exchanged}
+use Rattle.table_law.specs.Alone.{fine, take_reference}
 use Rattle.table_law.specs.Lawful.{IsAtRest}
-use Rattle.table_law.specs.Plain.{Describes, Plain, raised_share, with_kind, with_share}
+use Rattle.table_law.specs.Plain.{Describes, Plain, raised_share, with_share}
 use Rattle.course_laws.specs.Courses.{ClockGoesOn}
-use Rattle.course_laws.proofs.Extras.{described_same}
-use Rattle.script_law.specs.Frames.{exchange_at, under_lock, write_by, write_entry, write_memory, write_word}
-use Rattle.script_law.specs.Values.{Numbers, Outcome, Solo, behind_by, did, looked_by, stopped, with_frames}
-use Rattle.solo_ports.specs.Coming.{Comes, IsRefusedSo}
-use Rattle.solo_ports.specs.Standing.{Clean, IsQuiet, IsUnkept, Owes, Stands}
+use Rattle.script_law.specs.Frames.{under_lock, write_by, write_entry, write_memory, write_word}
+use Rattle.script_law.specs.Values.{Numbers, Outcome, Solo, looked_by, stopped}
+use Rattle.solo_ports.specs.Coming.{Comes}
+use Rattle.solo_ports.specs.Standing.{Clean, IsQuiet}
 use Rattle.solo_ports.proofs.Resting.{clean_rests}
-use Rattle.solo_entries.proofs.Capping.{above, capped}
-use Rattle.solo_entries.proofs.Demanding.{now}
-use Rattle.solo_entries.proofs.Exchanging.{unlocked_left, unlocked_second}
-use Rattle.solo_entries.proofs.Holding.{IsHeld, off}
 use Rattle.solo_entries.proofs.Known.{Known}
-use Rattle.solo_entries.proofs.Locking.{at_y, calm_y, can_lock, came_y, held_y, kind_is, lends, lock_goes, lock_leaves, off_again}
+use Rattle.solo_entries.proofs.Locking.{at_y, can_lock, came_y, held_y, kind_is, lends}
 use Rattle.solo_entries.proofs.Mapping.{fine_by, unlooked}
-use Rattle.solo_entries.proofs.Memory.{memory_stopped, memory_stored}
-use Rattle.solo_entries.proofs.Olds.{KeepsFirst, KeepsSecond, keeps_then, locked_keeps, ref_keeps, three_five, three_four, two_five, two_four}
-use Rattle.solo_entries.proofs.Standing.{machine_same, owes_same}
-use Rattle.solo_entries.proofs.Unkept.{unkept_exchanged}
-use Rattle.solo_entries.proofs.Writing.{IsUnlost, PausedExchange, exchange_ends, outcome_comes, owes_left}
+use Rattle.solo_entries.proofs.Olds.{keeps_then, locked_keeps, ref_keeps, three_five, three_four, two_five, two_four}
+use Rattle.solo_entries.proofs.Standing.{owes_same}
 
 -- ---- levels
 low_by : (level : ℕ) → IsTrue (is_table (level_type level)) → 1 ≤ level

@@ -1,17 +1,14 @@
 -- A word of a live table is written, from a port at which nothing is left to be settled: refused as the hypervisor's, or its entry exchanged.
-use Rattle.std.proofs.Common.{◌≡◌, ◌≢◌, ◌⊎◌, ◌≤◌, ◌<◌, ℕ, suc, ◌-◌, ◌&&◌, nat_lt, if◌then◌else◌, Bool, true, false, List, [], length, Option, Some, None, Result, Ok, Err, IsTrue, refl, sym, ap, ◌∙◌, subst, arith, inl, inr}
+use Rattle.solo_entries.specs.Exchanges.{ComesSo, IsHeld, IsUnlost, LeftAs, later, now}
+use Rattle.std.proofs.Common.{◌≡◌, ◌⊎◌, ◌≤◌, ◌<◌, ℕ, ◌-◌, ◌&&◌, nat_lt, Bool, true, false, List, length, Result, Ok, Err, IsTrue, refl, sym, ap, ◌∙◌, subst, arith, inl, inr}
 use Rattle.std.proofs.Math.Path.{fun_ext}
 use Rattle.std.proofs.lemmas.Bool.{and_parts}
 use Rattle.std.proofs.lemmas.Bool.Decides.{nat_tests}
-use Rattle.xp_words.specs.Entries.{is_slot}
 use Rattle.xp_words.specs.Machine.{IsMachine, Machine}
-use Rattle.xp_words.specs.PageTypes.{is_table, type_number}
 use Rattle.xp_words.specs.Places.{is_place, sizes_of, number}
 use Rattle.xp_words.specs.declared.entry.Demand.TheVariants as demands
-use Rattle.xp_words.specs.declared.kind.KindWord.{KindWord}
-use Rattle.xp_words.specs.declared.place.Place.TheVariants.{Cell, Kind, Vcpu}
-use Rattle.xp_words.specs.declared.reply.Pause.TheVariants.{Due, Lost}
-use Rattle.xp_words.specs.declared.reply.Refusal.{Refusal}
+use Rattle.xp_words.specs.declared.place.Place.TheVariants.{Cell}
+use Rattle.xp_words.specs.declared.reply.Pause.TheVariants.{Lost}
 use Rattle.xp_words.specs.declared.reply.Refusal.TheVariants as refusals
 use Rattle.xp_words.specs.declared.reply.Stop.{Stop}
 use Rattle.xp_words.specs.declared.reply.Stop.TheVariants.{Refused, Paused}
@@ -31,43 +28,31 @@ use Rattle.entry_exchange.specs.Course.{Exchanged, LeftLock, PutEntry, PutsNew, 
 use Rattle.entry_exchange.specs.Holding.{owner_at}
 use Rattle.entry_exchange.specs.Words.{same_demand, word_kept}
 use Rattle.entry_exchange.specs.declared.exchanging.EntryUpdate.{EntryUpdate}
-use Rattle.entry_locks.specs.Locks.{is_lockable}
-use Rattle.entry_locks.specs.declared.locking.Locked.TheVariants.{Table}
-use Rattle.exchange_laws.specs.Plain.{exchanged_plain, place_in}
+use Rattle.exchange_laws.specs.Plain.{exchanged_plain}
 use Rattle.exchange_laws.proofs.Going.{demand_came}
 use Rattle.exchange_laws.proofs.Putting.{put_came, entry_put}
 use Rattle.exchange_laws.proofs.Unlocking.{lock_came}
 use Rattle.foreign_map.specs.declared.owners.Owners.{Owners}
-use Rattle.mmu_update.specs.Course.{TriedLock, entry_update}
-use Rattle.partial_state.specs.Levels.{level_type}
-use Rattle.table_entries.specs.Acquiring.{GotRef}
 use Rattle.table_words.specs.OldWords.{old_place}
 use Rattle.table_words.specs.declared.old_words.OldWord.TheVariants.{First, Second}
-use Rattle.table_law.specs.Alone.{Cause, PlainOutcome, meet, take_at, take_reference}
+use Rattle.table_law.specs.Alone.{PlainOutcome, meet, take_at}
 use Rattle.table_law.specs.Lawful.{IsAtRest}
 use Rattle.table_law.specs.Plain.{Describes, Plain}
 use Rattle.table_law.specs.Undone.{CountsSome}
 use Rattle.table_law.proofs.OnWords.{counts_plain}
-use Rattle.table_twins.specs.Answers.{IsCause}
 use Rattle.course_laws.specs.Courses.{ClockGoesOn}
-use Rattle.course_laws.proofs.Extras.{described_same}
 use Rattle.release_laws.specs.Pauses.{IsLeft}
-use Rattle.script_law.specs.Frames.{exchange_at, under_lock, write_by, write_entry, write_memory, write_word}
-use Rattle.script_law.specs.Values.{Frames, Numbers, Outcome, Solo, behind_by, did, looked_by, stopped, with_frames}
+use Rattle.script_law.specs.Values.{Frames, Solo, behind_by, did, with_frames}
 use Rattle.solo_ports.specs.Coming.{Comes, IsDoneSo, IsRefusedSo}
 use Rattle.solo_ports.specs.Standing.{Clean, IsQuiet, IsUnkept, Owes, Stands, a_release, nothing}
-use Rattle.solo_ports.proofs.Resting.{clean_rests}
-use Rattle.solo_entries.proofs.Capping.{above, capped}
-use Rattle.solo_entries.proofs.Demanding.{ComesSo, LeftAs, PausedDemand, TookSo, demand_comes, later, now, demand_second}
+use Rattle.solo_entries.proofs.Demanding.{PausedDemand, TookSo, demand_comes, demand_second}
 use Rattle.solo_entries.proofs.Entries.{bad_comes, done_comes, same_comes, untaken_comes, held_cell}
-use Rattle.solo_entries.proofs.Exchanging.{unlocked_left, unlocked_second, held_meet, given_came, given_keeps}
-use Rattle.solo_entries.proofs.Holding.{IsHeld, off}
+use Rattle.solo_entries.proofs.Exchanging.{unlocked_second, held_meet, given_came, given_keeps}
+use Rattle.solo_entries.proofs.Holding.{off}
 use Rattle.solo_entries.proofs.Known.{Known}
-use Rattle.solo_entries.proofs.Locking.{at_y, calm_y, can_lock, came_y, held_y, kind_is, lends, lock_goes, lock_leaves, off_again}
-use Rattle.solo_entries.proofs.Mapping.{fine_by}
-use Rattle.solo_entries.proofs.Olds.{Keeps, KeepsFirst, KeepsSecond, keeps_then, locked_keeps, ref_keeps, puts_keeps, three_four, three_five}
-use Rattle.solo_entries.proofs.Standing.{clean_with, machine_same, stands_with}
-use Rattle.solo_entries.proofs.Unkept.{unkept_exchanged}
+use Rattle.solo_entries.proofs.Locking.{lock_leaves}
+use Rattle.solo_entries.proofs.Olds.{KeepsSecond, puts_keeps, three_four, three_five}
+use Rattle.solo_entries.proofs.Standing.{machine_same, stands_with}
 use Rattle.table_law.specs.Exchange.{with_cell}
 
 -- ---- what is left, as a port stands
@@ -102,11 +87,6 @@ pub record PausedExchange (y w : PortValue) (t : EntryUpdate) (o : Owners) (answ
   pub differ : same_demand (new_demand t seen) (old_demand t seen) ≡ false
   pub paused : PausedDemand looked (owner_at t.level o.tables o.frames) t.level (new_demand t seen) left answers answer
   pub off_it : LeftLock left t.table t.level w
-
--- it was not paused for an exchange that was lost
-abbrev pub IsUnlost : Result (Unit {0}) Stop → Type 0
-IsUnlost (Err (Paused (Lost place e found))) = ⊥
-IsUnlost _ = Unit {0}
 
 put_lost : (a b : PortValue) (f i seen new : ℕ) (keep : Bool) (r : Result ℕ Stop) → PutEntry a b f i seen new keep r → (stop : Stop) → r ≡ Err stop → IsUnlost (Err stop) → ⊥
 put_lost a b f i seen new _ _ (course.stored old step) stop is unlost = absurd cc

@@ -1,3 +1,9 @@
-//! What an element of `mmu_update`, and an update by address, by a vCPU that is alone comes to: its plain meaning. These functions do nothing: their contracts are laws about
-//! the courses of elements.
+//! What elements of `mmu_update` come to by one vCPU alone. These functions do nothing: their contracts are laws about the courses of elements.
 #![tactic(auto)]
+
+mod exchanges;
+
+pub use exchanges::{
+    a_machine_to_physical_update_comes_to_its_plain_meaning,
+    an_exchange_in_one_turn_comes_to_the_plain_one,
+};
