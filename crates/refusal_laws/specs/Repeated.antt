@@ -17,15 +17,15 @@ use Rattle.course_laws.specs.Courses.{FindsAlive}
 use Rattle.pause_laws.specs.Calls.{StaysFrom}
 
 -- The next call is one by the same vCPU.
-pub record GoesOn (v w : PortValue) : Type 0 where
+pub record FollowsOn (v w : PortValue) : Type 0 where
   pub stays : StaysFrom v w
   pub vcpu : w.post.vcpu ≡ v.post.vcpu
 
 -- From v, where all words are told, to w one frame was asked for one owner and level in one call or more, each paused; each but the first goes on where the one before it was
 -- paused. At w the next one may go on.
 pub data PausedCalls (f owner level : ℕ) (v : PortValue) : PortValue → Type 0 where
-  first : (u w : PortValue) (answers : List Bool) → is_telling v ≡ true → Acquired v f owner level u answers (Err (Paused Due)) → FindsAlive v u owner → GoesOn u w → PausedCalls f owner level v w
-  again : (x u w : PortValue) (answers : List Bool) → PausedCalls f owner level v x → Acquired x f owner level u answers (Err (Paused Due)) → FindsAlive x u owner → GoesOn u w → PausedCalls f owner level v w
+  first : (u w : PortValue) (answers : List Bool) → is_telling v ≡ true → Acquired v f owner level u answers (Err (Paused Due)) → FindsAlive v u owner → FollowsOn u w → PausedCalls f owner level v w
+  again : (x u w : PortValue) (answers : List Bool) → PausedCalls f owner level v x → Acquired x f owner level u answers (Err (Paused Due)) → FindsAlive x u owner → FollowsOn u w → PausedCalls f owner level v w
 
 -- Words that an acquisition does not touch: cells and machine-to-physical words; lives and privileges; and words of vCPUs but those of flushes.
 pub data IsUntouched : Place → Type 0 where

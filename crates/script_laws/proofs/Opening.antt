@@ -14,7 +14,7 @@ use Rattle.solo_pins.proofs.Meaning.{Laws}
 use Rattle.solo_ports.specs.Standing.{Fair, whose}
 use Rattle.vcpu_turn.specs.Cpus.{Processing}
 use Rattle.script_laws.specs.Logged.{IsLogged}
-use Rattle.script_laws.specs.Opening.{IsStoppedAt, Opens, WritesNoEntries, WritesNoEntry, is_entry_write}
+use Rattle.script_laws.specs.Opening.{IsStoppedAt, OpensScript, WritesNoEntries, WritesNoEntry, is_entry_write}
 use Rattle.script_laws.specs.Turns.{IsLog, Turned}
 use Rattle.script_laws.proofs.Ending.{FineOp, whole_script}
 use Rattle.script_laws.proofs.Extents.{ExtentLaw}
@@ -38,7 +38,7 @@ module _ (l : Laws) (neither : NeitherLostNorBusy) (extent : ExtentLaw) where
         extent_law = extent;
       }
 
-  module _ (c d : Processing) (v w : PortValue) (x : Solo) (opens : Opens c v x) where
+  module _ (c d : Processing) (v w : PortValue) (x : Solo) (opens : OpensScript c v x) where
     real : (whose v).domain < length v.post.machine.page_limit
     real = own_domain v x opens.clean
 

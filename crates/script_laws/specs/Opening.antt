@@ -12,7 +12,7 @@ use Rattle.solo_ports.specs.Standing.{Clean, whose}
 use Rattle.vcpu_turn.specs.Cpus.{Processing, begun}
 
 -- Nothing is left to be settled, the words are those of x, in which the domain of the vCPU lives; and nothing of its script is done.
-pub record Opens (c : Processing) (v : PortValue) (x : Solo) : Type 0 where
+pub record OpensScript (c : Processing) (v : PortValue) (x : Solo) : Type 0 where
   pub clean : Clean v x
   pub alive : x.lives (whose v).domain ≡ 0
   pub domain : c.domain ≡ (whose v).domain

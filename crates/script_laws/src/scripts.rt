@@ -7,7 +7,7 @@ ghost use Rattle.solo_accesses.specs.Stale.{IsNeverStale};
 ghost use Rattle.solo_ports.specs.Standing.{Fair, whose};
 ghost use Rattle.vcpu_turn.specs.Cpus.{Processing};
 ghost use Rattle.script_laws.specs.Logged.{IsLogged};
-ghost use Rattle.script_laws.specs.Opening.{IsStoppedAt, Opens, WritesNoEntries};
+ghost use Rattle.script_laws.specs.Opening.{IsStoppedAt, OpensScript, WritesNoEntries};
 ghost use Rattle.script_laws.specs.Turns.{IsLog, Turned};
 
 use answer_laws::{a_call_alone_is_neither_lost_nor_busy, alone_stays, nobody_is_waited_for};
@@ -24,7 +24,7 @@ use solo_memory::an_extent_alone_comes_to_its_plain_meaning;
 ///
 /// The premises are on the steps: none finds the clock at its last value, or a reference word with its count at the limit, or comes to a word by a translation that a walk would not find.
 pub fn preemption_is_invisible()
-    ensures { (c d : Processing) (v w : PortValue) (x : Solo) → Opens c v x → WritesNoEntries c.script → Turned c v d w → d.retired ≡ true → Fair v w → IsNeverStale v w →
+    ensures { (c d : Processing) (v w : PortValue) (x : Solo) → OpensScript c v x → WritesNoEntries c.script → Turned c v d w → d.retired ≡ true → Fair v w → IsNeverStale v w →
         IsLog IsLogged d.log (script_alone (whose v) c.script x).log × IsStoppedAt w (script_alone (whose v) c.script x).left }
 {
     alone_stays();

@@ -22,7 +22,7 @@ pub record IsLed (w : PortValue) (x : Solo) (f : ℕ) (way : Way) : Type 0 where
   pub clean : Clean w (with_frames left x)
 
 -- it stops for that
-pub record IsStopped (w : PortValue) (x : Solo) (r : Refusal) (way : Way) : Type 0 where
+pub record WalkStops (w : PortValue) (x : Solo) (r : Refusal) (way : Way) : Type 0 where
   pub left : Plain
   pub is : way ≡ Stops r left
   pub clean : Clean w (with_frames left x)
@@ -30,7 +30,7 @@ pub record IsStopped (w : PortValue) (x : Solo) (r : Refusal) (way : Way) : Type
 -- A walk, whose answer is its last entry, goes the plain way from x. It is never paused.
 abbrev pub WalkComes : PortValue → Solo → Way → Result ℕ Stop → Type 0
 WalkComes w x way (Ok entry) = IsLed w x (frame_of entry) way
-WalkComes w x way (Err (Refused r)) = IsStopped w x r way
+WalkComes w x way (Err (Refused r)) = WalkStops w x r way
 WalkComes w x way (Err (Paused p)) = ⊥
 
 -- Loads lead to the table to which the plain ones lead, or are refused by the address alone, or for what they find.

@@ -40,7 +40,7 @@ use Rattle.solo_ports.specs.Standing.{Clean, Owes, ShowsOthers, a_release, nothi
 use Rattle.solo_ports.proofs.Along.{clean_on}
 use Rattle.solo_ports.proofs.Staying.{others_with, stands_at}
 use Rattle.solo_deaths.specs.Between.{Between}
-use Rattle.solo_deaths.specs.Dying.{AreLeft, ComesDying, GoesOnDying, IsDestroyedSo, IsOther, IsPausedSo, destroy_rest, lines_to, stripped_at}
+use Rattle.solo_deaths.specs.Dying.{AreLeft, ComesDying, GoesOnDying, IsDestroyedSo, IsOtherThen, IsPausedSo, destroy_rest, lines_to, stripped_at}
 use Rattle.solo_deaths.proofs.Advancing.{IsBegun, IsPaused, Reached}
 use Rattle.solo_deaths.proofs.Deeds.{others_stay, with_life}
 use Rattle.solo_deaths.proofs.Given.{PausedReleaseLeaves, ReleaseLeaves}
@@ -74,7 +74,7 @@ buried_over n d y p q s =
     }
 
 -- ---- places
-other_by : (w : Whose) (d : ℕ) (k : DestroyAt) → d < length w.machine.page_limit → w.domain ≢ d → IsOther w d k
+other_by : (w : Whose) (d : ℕ) (k : DestroyAt) → d < length w.machine.page_limit → w.domain ≢ d → IsOtherThen w d k
 other_by w d Begins real apart = tt
 other_by w d (Stops vcpu) real apart = (real, apart)
 other_by w d (Empties vcpu) real apart = (real, apart)

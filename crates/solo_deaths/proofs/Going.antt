@@ -22,13 +22,13 @@ use Rattle.script_law.specs.Destroying.{destroy_refusal}
 use Rattle.script_law.specs.Values.{Solo}
 use Rattle.solo_ports.specs.Standing.{Clean, whose}
 use Rattle.solo_deaths.specs.Between.{Between}
-use Rattle.solo_deaths.specs.Dying.{AreLeft, IsOther, lines_to, stripped_at}
+use Rattle.solo_deaths.specs.Dying.{AreLeft, IsOtherThen, lines_to, stripped_at}
 use Rattle.solo_deaths.proofs.Advancing.{Gone, IsBegun, IsPaused, Reached, advance}
 use Rattle.solo_deaths.proofs.Beginning.{begins, doomed}
 use Rattle.solo_deaths.proofs.Given.{PausedReleaseLeaves, ReleaseLeaves}
 use Rattle.solo_deaths.proofs.Standing.{between_by}
 
-module _ (stays : AloneStays) (neither : NeitherLostNorBusy) (leaves_plain : ReleaseLeaves) (leaves_rest : PausedReleaseLeaves) (v : PortValue) (s : Solo) (clean : Clean v s) (d : ℕ) (at : DestroyAt) (other : IsOther (whose v) d at) (made : List LeftFrame)
+module _ (stays : AloneStays) (neither : NeitherLostNorBusy) (leaves_plain : ReleaseLeaves) (leaves_rest : PausedReleaseLeaves) (v : PortValue) (s : Solo) (clean : Clean v s) (d : ℕ) (at : DestroyAt) (other : IsOtherThen (whose v) d at) (made : List LeftFrame)
     (lines : AreLeft made (lines_to d at s.frames)) (counts : left_at at ≡ length (lines_to d at s.frames)) (inside : seen_to at ≤ v.post.machine.frames) where
   abbrev n : Machine
   n = v.post.machine
@@ -73,10 +73,10 @@ module _ (stays : AloneStays) (neither : NeitherLostNorBusy) (leaves_plain : Rel
         inside = inside;
       }) has
 
-  begun_by : (k : DestroyAt) → at ≡ k → IsBegun k → IsOther (whose v) d k → IsAllowed k → (d < length n.page_limit) × (domain_of n v.post.vcpu ≢ d) → SoFar v at []
+  begun_by : (k : DestroyAt) → at ≡ k → IsBegun k → IsOtherThen (whose v) d k → IsAllowed k → (d < length n.page_limit) × (domain_of n v.post.vcpu ≢ d) → SoFar v at []
   begun_by k is on off may far = started (subst IsBegun (sym is) on) (record { real = far.0; apart = far.1; allowed = subst IsAllowed (sym is) may })
 
-  starts_by : (k : DestroyAt) → at ≡ k → IsOther (whose v) d k → SoFar v at []
+  starts_by : (k : DestroyAt) → at ≡ k → IsOtherThen (whose v) d k → SoFar v at []
   starts_by Begins is off = before is is refl refl
   starts_by (Stops vcpu) is off = begun_by (Stops vcpu) is tt off tt off
   starts_by (Empties vcpu) is off = begun_by (Empties vcpu) is tt off tt off

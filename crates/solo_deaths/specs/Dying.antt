@@ -49,13 +49,13 @@ AreLeft (x ∷ xs) (l ∷ ls) = IsLeftLine x l × AreLeft xs ls
 AreLeft _ _ = ⊥
 
 -- ---- how far it has come
-abbrev pub IsOther : Whose → ℕ → DestroyAt → Type 0
-IsOther w d Begins = Unit {0}
-IsOther w d at = (d < length w.machine.page_limit) × (w.domain ≢ d)
+abbrev pub IsOtherThen : Whose → ℕ → DestroyAt → Type 0
+IsOtherThen w d Begins = Unit {0}
+IsOtherThen w d at = (d < length w.machine.page_limit) × (w.domain ≢ d)
 
 -- The destruction of domain d, operation number op, has come to that place, and comes to o, whole: from where the plain value is s. The log was `before` as it began.
 pub record GoesOnDying (w : Whose) (d op : ℕ) (at : DestroyAt) (before log : List LogLine) (s : Solo) (o : Outcome) : Type 0 where
-  pub other : IsOther w d at
+  pub other : IsOtherThen w d at
   pub comes : destroy_rest w d at s ≡ o
   pub made : List LeftFrame
   pub logged : log ≡ before ++ left_lines op made

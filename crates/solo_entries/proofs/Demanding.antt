@@ -1,5 +1,5 @@
 -- What a new word asks is taken, or refused, from words at rest that a plain value describes; or the acquisition of a table is paused.
-use Rattle.solo_entries.specs.Exchanges.{LeftAs, RefusedSo, later, now}
+use Rattle.solo_entries.specs.Exchanges.{LeavesFrames, RefusedSo, later, now}
 use Rattle.std.proofs.Common.{◌≡◌, ◌⊎◌, ◌≤◌, ℕ, ◌-◌, Bool, true, List, length, None, Result, Ok, Err, refl, sym, ap, ◌∙◌, subst, arith, inl, inr}
 use Rattle.xp_words.specs.Machine.{IsMachine, Machine}
 use Rattle.xp_words.specs.declared.entry.Demand.{Demand}
@@ -51,7 +51,7 @@ ends_comes n w a (Ok done) first e = (e.0, first, e.1)
 ends_comes n w a (Err (Refused y)) first e = record { cause = e.cause; is = e.is; same = e.same; left = now first e.describes }
 ends_comes n w a (Err (Paused x)) first e = e
 
-owes_left : (n : Machine) (w : PortValue) (f level : ℕ) (q : Plain) → refusing.Owes n w f level q → LeftAs n w q
+owes_left : (n : Machine) (w : PortValue) (f level : ℕ) (q : Plain) → refusing.Owes n w f level q → LeavesFrames n w q
 owes_left n w f level q (refusing.nothing telling first d) = now first d
 owes_left n w f level q (refusing.a_release left) = later f level left
 

@@ -1,5 +1,5 @@
 -- A write, from a port at which nothing is left to be settled, comes to its plain meaning, where it is not paused.
-use Rattle.solo_entries.specs.Exchanges.{IsHeld}
+use Rattle.solo_entries.specs.Exchanges.{IsLockedTable}
 use Rattle.std.proofs.Common.{◌≡◌, ◌≤◌, ℕ, zero, suc, ◌&&◌, nat_lt, if◌then◌else◌, Bool, true, List, Ok, Err, IsTrue, refl, sym, ap, ◌∙◌, subst, arith, not}
 use Rattle.std.proofs.lemmas.Bool.{and_parts}
 use Rattle.xp_words.specs.Entries.{is_slot}
@@ -100,7 +100,7 @@ module _ (k : Known) (v w : PortValue) (x : Solo) (o : Owners) (f i word : ℕ) 
     typed : (p.kinds f).kind ≡ level_type level
     typed = kind_is k v u y p o.tables f level found clean.stands.machine clean.stands.alone calm clean.frames ref lock
 
-    held : IsHeld f q
+    held : IsLockedTable f q
     held = held_y k v u y p o.tables f level found clean.stands.machine clean.stands.alone calm clean.frames ref lock
 
     described : Describes n (told_word y) q

@@ -1,5 +1,5 @@
 -- A word of a live table is written, from a port at which nothing is left to be settled: refused as the hypervisor's, or its entry exchanged.
-use Rattle.solo_entries.specs.Exchanges.{ComesSo, IsHeld, IsUnlost, LeftAs, later, now}
+use Rattle.solo_entries.specs.Exchanges.{ComesSo, IsLockedTable, IsUnlost, LeavesFrames, later, now}
 use Rattle.std.proofs.Common.{◌≡◌, ◌⊎◌, ◌≤◌, ◌<◌, ℕ, ◌-◌, ◌&&◌, nat_lt, Bool, true, false, List, length, Result, Ok, Err, IsTrue, refl, sym, ap, ◌∙◌, subst, arith, inl, inr}
 use Rattle.std.proofs.Math.Path.{fun_ext}
 use Rattle.std.proofs.lemmas.Bool.{and_parts}
@@ -61,7 +61,7 @@ module _ (k : Known) (v w : PortValue) (x : Solo) (clean : Clean v x) (r : Reque
   stands_left : (q : Plain) → IsUnkept v.post.machine q → Stands w (with_frames q x)
   stands_left q unkept = stands_with k v w x q r ds clean.stands serves quiet rests second unkept
 
-  pub owes_left : (q : Plain) → IsUnkept v.post.machine q → LeftAs v.post.machine w q → Owes w (with_frames q x)
+  pub owes_left : (q : Plain) → IsUnkept v.post.machine q → LeavesFrames v.post.machine w q → Owes w (with_frames q x)
   owes_left q unkept (now first d) =
       let same = came_post v w (serves_came v w r ds serves) in
       nothing (record { stands = stands_left q unkept; first = first; frames = subst (λ (o : Post). Describes o.machine (told_word w) q) (sym same) d })
@@ -99,7 +99,7 @@ pub record Comes2 (n : Machine) (y w : PortValue) (a : PlainOutcome) (answer : R
   pub second : told_word w (old_place y.post.vcpu Second) ≡ told_word y (old_place y.post.vcpu Second)
 
 module _ (k : Known) (y w : PortValue) (t : EntryUpdate) (o : Owners) (q : Plain) (machine : IsMachine y.post.machine) (alone : IsAlone y) (only : length y.post.machine.vcpu_domain ≡ 1) (calm : IsAtRest y.post.machine (told_word y)) (first : told_word y (old_place y.post.vcpu First) ≡ 0)
-    (d : Describes y.post.machine (told_word y) q) (held : IsHeld t.table q) (low : 1 ≤ t.level) (high : t.level ≤ 4) (goes : ClockGoesOn y w) where
+    (d : Describes y.post.machine (told_word y) q) (held : IsLockedTable t.table q) (low : 1 ≤ t.level) (high : t.level ≤ 4) (goes : ClockGoesOn y w) where
   abbrev n : Machine
   n = y.post.machine
 
@@ -172,11 +172,11 @@ module _ (k : Known) (y w : PortValue) (t : EntryUpdate) (o : Owners) (q : Plain
         let one = (keeps (came_telling u a before ∙ telling_u)).same in
         subst (λ s. told_word b (old_place s Second) ≡ told_word a (old_place s Second)) vcpu one ∙ was
 
-    lock_second : (a b : PortValue) (p : Plain) → Came u a → IsHeld t.table p → Describes n (told_word a) p → LeftLock a t.table t.level b → told_word a (old_place y.post.vcpu Second) ≡ told_word y (old_place y.post.vcpu Second) → told_word b (old_place y.post.vcpu Second) ≡ told_word y (old_place y.post.vcpu Second)
+    lock_second : (a b : PortValue) (p : Plain) → Came u a → IsLockedTable t.table p → Describes n (told_word a) p → LeftLock a t.table t.level b → told_word a (old_place y.post.vcpu Second) ≡ told_word y (old_place y.post.vcpu Second) → told_word b (old_place y.post.vcpu Second) ≡ told_word y (old_place y.post.vcpu Second)
     lock_second a b p before h at lock was =
         lock_leaves n a b t.table t.level p (machine_same u a before ∙ same_u) (came_telling u a before ∙ telling_u) at h lock (old_place y.post.vcpu Second) refl (λ e. cc) ∙ was
 
-    left_second : (a b : PortValue) (p : Plain) → Came u a → IsHeld t.table p → LeftAs n a p → LeftLock a t.table t.level b → told_word a (old_place y.post.vcpu Second) ≡ told_word y (old_place y.post.vcpu Second) → told_word b (old_place y.post.vcpu Second) ≡ told_word y (old_place y.post.vcpu Second)
+    left_second : (a b : PortValue) (p : Plain) → Came u a → IsLockedTable t.table p → LeavesFrames n a p → LeftLock a t.table t.level b → told_word a (old_place y.post.vcpu Second) ≡ told_word y (old_place y.post.vcpu Second) → told_word b (old_place y.post.vcpu Second) ≡ told_word y (old_place y.post.vcpu Second)
     left_second a b p before h left lock was =
         let vcpu = ap (λ (j : Post). j.vcpu) (came_post y a (came_trans y u a came_u before)) in
         let one = unlocked_second k n a b t.table t.level p (machine_same u a before ∙ same_u) (came_telling u a before ∙ telling_u) low h lock left in
@@ -188,7 +188,7 @@ module _ (k : Known) (y w : PortValue) (t : EntryUpdate) (o : Owners) (q : Plain
     took_there : (z : PortValue) (r : Result (Unit {0}) Stop) → TookSo {A = Unit {0}} u.post.machine z (meet u.post.machine owner (take_at (t.level - 1) u.post.machine owner) t.table t.index q (new_demand t seen)) r → TookSo {A = Unit {0}} n z taking r
     took_there z r so = subst (λ (j : Machine). TookSo {A = Unit {0}} j z (meet j owner (take_at (t.level - 1) j owner) t.table t.index q (new_demand t seen)) r) same_u so
 
-    held_taking : IsHeld t.table taking.left
+    held_taking : IsLockedTable t.table taking.left
     held_taking = held_meet n owner t.table q counts held (t.level - 1) t.table t.index (new_demand t seen)
 
     abbrev whole : PlainOutcome

@@ -14,24 +14,24 @@ use Rattle.table_twins.specs.Answers.{IsCause}
 use Rattle.release_laws.specs.Pauses.{IsLeft}
 
 -- the table is live, with two type counts or more, of which the lock is one
-pub record IsHeld (f : ℕ) (p : Plain) : Type 0 where
+pub record IsLockedTable (f : ℕ) (p : Plain) : Type 0 where
   pub live : (p.kinds f).validated ≡ true
   pub several : 2 ≤ (p.kinds f).number
 
 -- The words at w are q, and the first old word names no frame; or the release of a table is unfinished there, and leaves q.
-pub data LeftAs (n : Machine) (w : PortValue) (q : Plain) : Type 0 where
-  now : told_word w (old_place w.post.vcpu First) ≡ 0 → Describes n (told_word w) q → LeftAs n w q
-  later : (g l : ℕ) → IsLeft n w g l q → LeftAs n w q
+pub data LeavesFrames (n : Machine) (w : PortValue) (q : Plain) : Type 0 where
+  now : told_word w (old_place w.post.vcpu First) ≡ 0 → Describes n (told_word w) q → LeavesFrames n w q
+  later : (g l : ℕ) → IsLeft n w g l q → LeavesFrames n w q
 
 pub record RefusedSo (n : Machine) (w : PortValue) (y : Refusal) (a : PlainOutcome) : Type 0 where
   pub cause : Cause
   pub is : a.refusal ≡ Some cause
   pub same : IsCause y cause
-  pub left : LeftAs n w a.left
+  pub left : LeavesFrames n w a.left
 
 -- what a whole exchange comes to
 abbrev pub ComesSo : Machine → PortValue → PlainOutcome → Result (Unit {0}) Stop → Type 0
-ComesSo n w a (Ok done) = (a.refusal ≡ None) × LeftAs n w a.left
+ComesSo n w a (Ok done) = (a.refusal ≡ None) × LeavesFrames n w a.left
 ComesSo n w a (Err (Refused y)) = RefusedSo n w y a
 ComesSo n w a (Err (Paused x)) = ⊥
 

@@ -22,7 +22,7 @@ ghost use Rattle.script_law.specs.Frames.{set_map};
 ghost use Rattle.script_law.specs.Values.{Solo};
 ghost use Rattle.solo_ports.specs.Coming.{Comes};
 ghost use Rattle.solo_ports.specs.Standing.{Clean};
-ghost use Rattle.solo_entries.specs.Exchanges.{ComesSo, IsHeld, IsUnlost};
+ghost use Rattle.solo_entries.specs.Exchanges.{ComesSo, IsLockedTable, IsUnlost};
 
 use answer_laws::{a_call_alone_is_neither_lost_nor_busy, alone_stays, nobody_is_waited_for};
 use refusal_laws::{
@@ -51,7 +51,7 @@ pub fn a_machine_to_physical_update_comes_to_its_plain_meaning()
 /// of what the old entry asked, which is still to be settled. The lock goes off. At level 1 no exchange is paused.
 pub fn an_exchange_in_one_turn_comes_to_the_plain_one()
     ensures { (y w : PortValue) (t : EntryUpdate) (o : Owners) (q : Plain) (answers : List Bool) (answer : Result (Unit {0}) Stop) → IsMachine y.post.machine → IsAlone y → length y.post.machine.vcpu_domain ≡ 1 → IsAtRest y.post.machine (told_word y) →
-        told_word y (old_place y.post.vcpu First) ≡ 0 → Describes y.post.machine (told_word y) q → IsHeld t.table q → 1 ≤ t.level → t.level ≤ 4 → ClockGoesOn y w → Exchanged y t o w answers answer → IsUnlost answer → answer ≢ Err (Paused Due) →
+        told_word y (old_place y.post.vcpu First) ≡ 0 → Describes y.post.machine (told_word y) q → IsLockedTable t.table q → 1 ≤ t.level → t.level ≤ 4 → ClockGoesOn y w → Exchanged y t o w answers answer → IsUnlost answer → answer ≢ Err (Paused Due) →
         ComesSo y.post.machine w (exchanged_plain y.post.machine t o q) answer }
 {
     alone_stays();

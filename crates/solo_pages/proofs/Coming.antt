@@ -22,7 +22,7 @@ use Rattle.script_law.specs.Shown.{IsShownWord, base, tables}
 use Rattle.script_law.specs.Values.{Solo, Frames, Outcome, Why, behind, behind_by, did, stopped, with_frames}
 use Rattle.solo_ports.specs.Standing.{Clean, Fair, ShowsOthers, nothing}
 use Rattle.solo_ports.specs.Coming.{Comes, IsWhy}
-use Rattle.solo_pages.specs.Shown.{IsShown, IsWhole, SameBeside}
+use Rattle.solo_pages.specs.Shown.{IsShown, AreWhole, SameBeside}
 use Rattle.solo_pages.specs.Ends.{EndsAs, EndsSo, IsEnded}
 use Rattle.solo_ports.proofs.Resting.{clean_rests}
 use Rattle.solo_ports.proofs.Staying.{stands_at}
@@ -43,7 +43,7 @@ others_stay n s m w x p o same =
       lives = λ d real. o.lives d real ∙ sym (same.lives d);
     }
 
-pub shown_stays : (n : Machine) (s : ℕ) (m w : Words) (x : Solo) (p : Plain) → IsShown n s m x → SameBeside m w → Describes n w p → IsWhole n p → IsShown n s w (with_frames p x)
+pub shown_stays : (n : Machine) (s : ℕ) (m w : Words) (x : Solo) (p : Plain) → IsShown n s m x → SameBeside m w → Describes n w p → AreWhole n p → IsShown n s w (with_frames p x)
 shown_stays n s m w x p is same d whole =
     record {
       others = others_stay n s m w x p is.others same;
@@ -89,7 +89,7 @@ comes stays v w x o (Err (Refused y)) c came empty e = record { why = e.0; is = 
 comes stays v w x o (Err (Paused y)) c came empty e = absurd e
 
 -- ---- behind what is done with the frames alone
-pub behind_refused : (n : Machine) (s : ℕ) (m w : Words) (x : Solo) (o : PlainOutcome) (next : Solo → Outcome) (y : Refusal) → IsShown n s m x → SameBeside m w → IsWhole n o.left → EndsAs {A = Unit {0}} n w o (Err (Refused y)) → EndsSo {A = Unit {0}} n s w (behind x o next) (Err (Refused y))
+pub behind_refused : (n : Machine) (s : ℕ) (m w : Words) (x : Solo) (o : PlainOutcome) (next : Solo → Outcome) (y : Refusal) → IsShown n s m x → SameBeside m w → AreWhole n o.left → EndsAs {A = Unit {0}} n w o (Err (Refused y)) → EndsSo {A = Unit {0}} n s w (behind x o next) (Err (Refused y))
 behind_refused n s m w x o next y is same whole e =
     let at : behind x o next ≡ stopped (Frames e.0) (with_frames o.left x) = ap (λ r. behind_by x o r next) e.1 in (
       Frames e.0,

@@ -14,7 +14,7 @@ use Rattle.table_law.specs.Release.{let_go}
 use Rattle.writable_pages.specs.Pages.{GotPage}
 use Rattle.script_law.specs.Pages.{get_page, give_page}
 use Rattle.script_law.specs.Values.{Solo, with_frames}
-use Rattle.solo_pages.specs.Shown.{IsShown, IsWhole, SameBeside}
+use Rattle.solo_pages.specs.Shown.{IsShown, AreWhole, SameBeside}
 use Rattle.solo_pages.specs.Ends.{EndsAs, EndsSo, IsEnded}
 use Rattle.solo_pages.proofs.Coming.{shown_stays}
 use Rattle.solo_pages.proofs.Describing.{got_desc_so}
@@ -23,7 +23,7 @@ use Rattle.solo_pages.proofs.Memory.{got_memory}
 use Rattle.solo_pages.proofs.Whole.{alone_whole}
 
 -- ---- ordinary memory
-pub memory_taken : (n : Machine) (v w : PortValue) (f owner : ℕ) (p : Plain) (answer : Result ℕ Stop) → IsMachine n → v.post.machine ≡ n → is_telling v ≡ true → Describes n (told_word v) p → IsWhole n p → IsOrderly n (told_word v) →
+pub memory_taken : (n : Machine) (v w : PortValue) (f owner : ℕ) (p : Plain) (answer : Result ℕ Stop) → IsMachine n → v.post.machine ≡ n → is_telling v ≡ true → Describes n (told_word v) p → AreWhole n p → IsOrderly n (told_word v) →
     IsEnded answer → GotPage v f owner w answer → EndsAs n (told_word w) (alone n owner 0 f p) answer × SameBeside (told_word v) (told_word w)
 memory_taken n v w f owner p answer machine same telling d whole orderly ended got =
     let a = got_memory n machine v f owner p same telling d whole orderly w answer ended got in
@@ -34,8 +34,8 @@ memory_given n v w f p same telling d gave =
     let a = gave_back n v w f Writable p same telling d refl gave.found in
     (subst (λ q. Describes n (told_word w) q) (sym (let_go_is f p)) a.frames, a.beside)
 
-pub alone_stays_whole : (n : Machine) (owner f : ℕ) (p : Plain) → IsWhole n p → IsWhole n (alone n owner 0 f p).left × (f < n.frames → IsWhole n (let_go 0 f p))
-alone_stays_whole n owner f p whole = (alone_whole n owner f p whole, λ inside. subst (λ q. IsWhole n q) (sym (let_go_is f p)) (given_whole n f Writable p inside whole))
+pub alone_stays_whole : (n : Machine) (owner f : ℕ) (p : Plain) → AreWhole n p → AreWhole n (alone n owner 0 f p).left × (f < n.frames → AreWhole n (let_go 0 f p))
+alone_stays_whole n owner f p whole = (alone_whole n owner f p whole, λ inside. subst (λ q. AreWhole n q) (sym (let_go_is f p)) (given_whole n f Writable p inside whole))
 
 -- ---- descriptor pages
 pub desc_had : (n : Machine) (s : ℕ) (v w : PortValue) (f owner : ℕ) (x : Solo) (answer : Result ℕ Stop) → IsMachine n → v.post.machine ≡ n → is_telling v ≡ true → IsOrderly n (told_word v) → IsShown n s (told_word v) x →

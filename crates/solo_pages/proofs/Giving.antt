@@ -31,7 +31,7 @@ use Rattle.release_laws.proofs.Parts.{does_only, does_with}
 use Rattle.solo_pages.proofs.Putting.{dead_words, puts_words}
 use Rattle.release_laws.proofs.Seen.{IsCounted, drops_seen, kind_sum, put_seen}
 use Rattle.release_laws.proofs.Words.{live_there, lowered_words, put_words}
-use Rattle.solo_pages.specs.Shown.{IsWhole, IsWholeKind, SameBeside}
+use Rattle.solo_pages.specs.Shown.{AreWhole, IsWholeKind, SameBeside}
 use Rattle.solo_pages.proofs.Steps.{at_drops, does_beside}
 use Rattle.solo_pages.proofs.Whole.{dead_whole, kinded_whole}
 
@@ -129,18 +129,18 @@ module _ (n : Machine) (v w : PortValue) (g : ℕ) (t : PageType) (p : Plain) (s
 lower_whole : (k : KindWord) → IsWholeKind k → is_counted_on k ≡ true → IsWholeKind (record k { number = k.number - 1 })
 lower_whole k is many = record { unkept = is.unkept; formed = is.formed; counted = λ live. grind (arith, nat_tests) }
 
-whole_by : (n : Machine) (g : ℕ) (t : PageType) (p : Plain) (b : Bool) → is_counted_on (p.kinds g) ≡ b → (g < n.frames) → IsWhole n p → IsWhole n (given g t p)
-whole_by n g t p true many within whole = subst (IsWhole n) (sym (given_more g t p many)) (kinded_whole n g (record (p.kinds g) { number = (p.kinds g).number - 1 }) p (lower_whole (p.kinds g) (whole g within) many) whole)
-whole_by n g t p false last within whole = subst (IsWhole n) (sym (given_last g t p last)) closing
+whole_by : (n : Machine) (g : ℕ) (t : PageType) (p : Plain) (b : Bool) → is_counted_on (p.kinds g) ≡ b → (g < n.frames) → AreWhole n p → AreWhole n (given g t p)
+whole_by n g t p true many within whole = subst (AreWhole n) (sym (given_more g t p many)) (kinded_whole n g (record (p.kinds g) { number = (p.kinds g).number - 1 }) p (lower_whole (p.kinds g) (whole g within) many) whole)
+whole_by n g t p false last within whole = subst (AreWhole n) (sym (given_last g t p last)) closing
   where
     by : (b : Bool) (k : KindWord) (old : KindWord) → IsWholeKind old → IsWholeKind (if b then dead_kind t false 0 else (if b then k else old))
     by true k old old_is = dead_whole t
     by false k old old_is = old_is
 
-    closing : IsWhole n (closed g t (with_kind g (emptying (p.kinds g)) p))
+    closing : AreWhole n (closed g t (with_kind g (emptying (p.kinds g)) p))
     closing h low = by (h == g) (emptying (p.kinds g)) (p.kinds h) (whole h low)
 
-pub given_whole : (n : Machine) (g : ℕ) (t : PageType) (p : Plain) → g < n.frames → IsWhole n p → IsWhole n (given g t p)
+pub given_whole : (n : Machine) (g : ℕ) (t : PageType) (p : Plain) → g < n.frames → AreWhole n p → AreWhole n (given g t p)
 given_whole n g t p inside whole = whole_by n g t p (is_counted_on (p.kinds g)) refl inside whole
 
 pub let_go_is : (g : ℕ) (p : Plain) → let_go 0 g p ≡ given g kinds.Writable p

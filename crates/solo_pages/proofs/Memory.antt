@@ -26,7 +26,7 @@ use Rattle.table_entries.proofs.Shared.{ref_came}
 use Rattle.writable_pages.specs.Pages as pages
 use Rattle.writable_pages.specs.Pages.{GotPage, TookPage}
 use Rattle.course_laws.specs.Courses.{IsFinal, IsOrderly}
-use Rattle.solo_pages.specs.Shown.{IsWhole, SameBeside}
+use Rattle.solo_pages.specs.Shown.{AreWhole, SameBeside}
 use Rattle.solo_pages.specs.Ends.{EndsAs, IsEnded}
 use Rattle.solo_pages.proofs.Beside.{beside_alike, beside_same, beside_taken, beside_trans}
 use Rattle.solo_pages.proofs.Referring.{RefTaken, gave_ref, ref_refused, ref_taken}
@@ -77,7 +77,7 @@ module _ (n : Machine) (machine : IsMachine n) (u : PortValue) (f owner : ℕ) (
 pub alone_behind : (n : Machine) (owner f : ℕ) (p : Plain) → (take_reference n owner f p).refusal ≡ None → alone n owner 0 f p ≡ take_at 0 n owner f (take_reference n owner f p).left
 alone_behind n owner f p free = ap (λ r. go_on r (take_reference n owner f p).left (take_at 0 n owner f)) free
 
-module _ (n : Machine) (machine : IsMachine n) (v : PortValue) (f owner : ℕ) (p : Plain) (same : v.post.machine ≡ n) (telling : is_telling v ≡ true) (d : Describes n (told_word v) p) (whole : IsWhole n p) (orderly : IsOrderly n (told_word v)) where
+module _ (n : Machine) (machine : IsMachine n) (v : PortValue) (f owner : ℕ) (p : Plain) (same : v.post.machine ≡ n) (telling : is_telling v ≡ true) (d : Describes n (told_word v) p) (whole : AreWhole n p) (orderly : IsOrderly n (told_word v)) where
   unreferred_memory : (w : PortValue) (e : Stop) → IsFinal e → GotRef v w f owner (Err e) → EndsBeside {A = ℕ} n v w (alone n owner 0 f p) (Err e)
   unreferred_memory w (Refused y) final ref =
       let a = ref_refused n v w owner f p y same telling d ref in

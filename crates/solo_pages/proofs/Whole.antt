@@ -28,11 +28,11 @@ use Rattle.course_laws.proofs.Lending.{lent}
 use Rattle.course_laws.proofs.Frames.{IsAside, IsLiveWithin, count_at, dead_stands, live_stands}
 use Rattle.table_twins.proofs.Typing.{live_sober}
 use Rattle.solo_ports.specs.Standing.{IsUnkept}
-use Rattle.solo_pages.specs.Shown.{IsWhole, IsWholeKind}
+use Rattle.solo_pages.specs.Shown.{AreWhole, IsWholeKind}
 use Rattle.solo_pages.proofs.Referring.{RefTaken}
 
 -- ---- words at rest
-pub whole_at_rest : (n : Machine) (m : Words) (p : Plain) → Describes n m p → IsAtRest n m → IsUnkept n p → IsWhole n p
+pub whole_at_rest : (n : Machine) (m : Words) (p : Plain) → Describes n m p → IsAtRest n m → IsUnkept n p → AreWhole n p
 whole_at_rest n m p d rest unkept g inside =
     let r = rested_plain n m p d rest in
     record { unkept = unkept g inside; formed = r.formed g inside; counted = r.counted g inside }
@@ -51,7 +51,7 @@ count_is : (w : ℕ) → ref_count w ≡ share_count (share_of w)
 unfolding ref_count
 count_is w = count_by (ref_read w)
 
-module _ (n : Machine) (m : Words) (p : Plain) (d : Describes n m p) (whole : IsWhole n p) (orderly : IsOrderly n m) (g : ℕ) (inside : g < n.frames) where
+module _ (n : Machine) (m : Words) (p : Plain) (d : Describes n m p) (whole : AreWhole n p) (orderly : IsOrderly n m) (g : ℕ) (inside : g < n.frames) where
   aside_by : (b : Bool) → is_dead (kind_at m g) ≡ b → IsAside (kind_at m g) (count_at m g)
   aside_by true dead = record { spelled = orderly.spelled g inside; stands = inl dead }
   aside_by false off =
@@ -80,13 +80,13 @@ module _ (n : Machine) (g w count : ℕ) (t : PageType) (free : type_stop g t w 
   aside_ready aside = (aside.spelled, stands_ready aside.stands)
 
 -- behind a reference
-pub ready_for : (n : Machine) (v u : PortValue) (owner g : ℕ) (t : PageType) (p : Plain) → Describes n (told_word v) p → IsWhole n p → IsOrderly n (told_word v) → RefTaken n v u owner g p → IsReadyFor n g t (told_word u (Kind g))
+pub ready_for : (n : Machine) (v u : PortValue) (owner g : ℕ) (t : PageType) (p : Plain) → Describes n (told_word v) p → AreWhole n p → IsOrderly n (told_word v) → RefTaken n v u owner g p → IsReadyFor n g t (told_word u (Kind g))
 ready_for n v u owner g t p d whole orderly lent free =
     let same = lent.kind in
     let stop : type_stop g t (told_word v (Kind g)) ≡ None = sym (ap (type_stop g t) same) ∙ free in
     subst (IsReady n t) (sym same) (aside_ready n g (told_word v (Kind g)) (count_at (told_word v) g) t stop lent.room (is_aside n (told_word v) p d whole orderly g lent.lent.inside))
 
-pub ready_lent : (n : Machine) (v u : PortValue) (owner g l : ℕ) (p : Plain) → Describes n (told_word v) p → IsWhole n p → IsOrderly n (told_word v) → RefTaken n v u owner g p → IsReadyFor n g (level_type l) (told_word u (Kind g))
+pub ready_lent : (n : Machine) (v u : PortValue) (owner g l : ℕ) (p : Plain) → Describes n (told_word v) p → AreWhole n p → IsOrderly n (told_word v) → RefTaken n v u owner g p → IsReadyFor n g (level_type l) (told_word u (Kind g))
 ready_lent n v u owner g l p d whole orderly lent = ready_for n v u owner g (level_type l) p d whole orderly lent
 
 -- ---- what the plain functions keep
@@ -103,51 +103,51 @@ kind_by : (b : Bool) (k l : KindWord) → IsWholeKind k → IsWholeKind l → Is
 kind_by true k l a b = a
 kind_by false k l a b = b
 
-pub kinded_whole : (n : Machine) (f : ℕ) (k : KindWord) (p : Plain) → IsWholeKind k → IsWhole n p → IsWhole n (with_kind f k p)
+pub kinded_whole : (n : Machine) (f : ℕ) (k : KindWord) (p : Plain) → IsWholeKind k → AreWhole n p → AreWhole n (with_kind f k p)
 kinded_whole n f k p is whole g inside = kind_by (g == f) k (p.kinds g) is (whole g inside)
 
 -- ---- what is taken leaves a whole value
-module _ (n : Machine) (g : ℕ) (t : PageType) (p : Plain) (inside : g < n.frames) (whole : IsWhole n p) where
+module _ (n : Machine) (g : ℕ) (t : PageType) (p : Plain) (inside : g < n.frames) (whole : AreWhole n p) where
   lived : (b : Bool) (h : ℕ) → h < n.frames → IsWholeKind (if b then live_kind t 1 else (if b then work_kind t false 0 else p.kinds h))
   lived true h low = live_whole t
   lived false h low = whole h low
 
-  take_by : (a b : Bool) → is_dead (p.kinds g) ≡ a → IsWhole n (take_kind fine g t p (p.kinds g)).left
-  take_by true b dead = subst (λ c. IsWhole n (if c then fine (with_kind g (live_kind t 1) (with_kind g (work_kind t false 0) p)) else if is_counted (p.kinds g) && is_type (p.kinds g).kind t then fine (with_kind g (raised_kind (p.kinds g)) p) else refused (OtherType g t (p.kinds g)) (reference_back g p)).left) (sym dead) (λ h low. lived (h == g) h low)
-  take_by false b off = subst (λ c. IsWhole n (if c then fine (with_kind g (live_kind t 1) (with_kind g (work_kind t false 0) p)) else if is_counted (p.kinds g) && is_type (p.kinds g).kind t then fine (with_kind g (raised_kind (p.kinds g)) p) else refused (OtherType g t (p.kinds g)) (reference_back g p)).left) (sym off) (by (is_counted (p.kinds g) && is_type (p.kinds g).kind t))
+  take_by : (a b : Bool) → is_dead (p.kinds g) ≡ a → AreWhole n (take_kind fine g t p (p.kinds g)).left
+  take_by true b dead = subst (λ c. AreWhole n (if c then fine (with_kind g (live_kind t 1) (with_kind g (work_kind t false 0) p)) else if is_counted (p.kinds g) && is_type (p.kinds g).kind t then fine (with_kind g (raised_kind (p.kinds g)) p) else refused (OtherType g t (p.kinds g)) (reference_back g p)).left) (sym dead) (λ h low. lived (h == g) h low)
+  take_by false b off = subst (λ c. AreWhole n (if c then fine (with_kind g (live_kind t 1) (with_kind g (work_kind t false 0) p)) else if is_counted (p.kinds g) && is_type (p.kinds g).kind t then fine (with_kind g (raised_kind (p.kinds g)) p) else refused (OtherType g t (p.kinds g)) (reference_back g p)).left) (sym off) (by (is_counted (p.kinds g) && is_type (p.kinds g).kind t))
     where
-      by : (c : Bool) → IsWhole n (if c then fine (with_kind g (raised_kind (p.kinds g)) p) else refused (OtherType g t (p.kinds g)) (reference_back g p)).left
+      by : (c : Bool) → AreWhole n (if c then fine (with_kind g (raised_kind (p.kinds g)) p) else refused (OtherType g t (p.kinds g)) (reference_back g p)).left
       by true = kinded_whole n g (raised_kind (p.kinds g)) p (raised_whole (p.kinds g) (whole g inside) off) whole
       by false = whole
 
-  pub taken_whole : IsWhole n (take_kind fine g t p (p.kinds g)).left
+  pub taken_whole : AreWhole n (take_kind fine g t p (p.kinds g)).left
   taken_whole = take_by (is_dead (p.kinds g)) false refl
 
 -- a reference changes no kind word
-pub referred_whole : (n : Machine) (owner g : ℕ) (p : Plain) → IsWhole n p → IsWhole n (take_reference n owner g p).left
+pub referred_whole : (n : Machine) (owner g : ℕ) (p : Plain) → AreWhole n p → AreWhole n (take_reference n owner g p).left
 referred_whole n owner g p whole = by (nat_lt g n.frames)
   where
-    by_share : (o : Option Share) → IsWhole n (take_reference_of n owner g p o).left
+    by_share : (o : Option Share) → AreWhole n (take_reference_of n owner g p o).left
     by_share None = whole
     by_share (Some s) = by_owner (s.owner == owner) (nat_le n.limit s.count)
       where
-        by_owner : (b k : Bool) → IsWhole n (if not b then refused (WrongOwner g (Some s)) p else if k then refused (CountFull g s) p else fine (with_share g (raised_share s) p)).left
+        by_owner : (b k : Bool) → AreWhole n (if not b then refused (WrongOwner g (Some s)) p else if k then refused (CountFull g s) p else fine (with_share g (raised_share s) p)).left
         by_owner false k = whole
         by_owner true true = whole
         by_owner true false = whole
 
-    by : (b : Bool) → IsWhole n (if b then take_reference_of n owner g p (p.shares g) else refused (NoFrame g) p).left
+    by : (b : Bool) → AreWhole n (if b then take_reference_of n owner g p (p.shares g) else refused (NoFrame g) p).left
     by true = by_share (p.shares g)
     by false = whole
 
-module _ (n : Machine) (owner f : ℕ) (p : Plain) (whole : IsWhole n p) where
+module _ (n : Machine) (owner f : ℕ) (p : Plain) (whole : AreWhole n p) where
   abbrev q : Plain
   q = (take_reference n owner f p).left
 
-  alone_by : (r : Option Cause) → (take_reference n owner f p).refusal ≡ r → IsWhole n (go_on (take_reference n owner f p).refusal q (take_at 0 n owner f)).left
+  alone_by : (r : Option Cause) → (take_reference n owner f p).refusal ≡ r → AreWhole n (go_on (take_reference n owner f p).refusal q (take_at 0 n owner f)).left
   unfolding take_at
-  alone_by None none = subst (λ r. IsWhole n (go_on r q (take_at 0 n owner f)).left) (sym none) (taken_whole n f Writable q (lent n owner f p none).inside (referred_whole n owner f p whole))
-  alone_by (Some c) is = subst (λ r. IsWhole n (go_on r q (take_at 0 n owner f)).left) (sym is) (referred_whole n owner f p whole)
+  alone_by None none = subst (λ r. AreWhole n (go_on r q (take_at 0 n owner f)).left) (sym none) (taken_whole n f Writable q (lent n owner f p none).inside (referred_whole n owner f p whole))
+  alone_by (Some c) is = subst (λ r. AreWhole n (go_on r q (take_at 0 n owner f)).left) (sym is) (referred_whole n owner f p whole)
 
-  pub alone_whole : IsWhole n (alone n owner 0 f p).left
+  pub alone_whole : AreWhole n (alone n owner 0 f p).left
   alone_whole = alone_by (take_reference n owner f p).refusal refl

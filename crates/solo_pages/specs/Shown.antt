@@ -24,13 +24,13 @@ pub record IsWholeKind (k : KindWord) : Type 0 where
   pub formed : is_dead k ≡ false → k.validated ≡ true
   pub counted : k.validated ≡ true → 0 < k.number
 
-abbrev pub IsWhole : Machine → Plain → Type 0
-IsWhole n p = (g : ℕ) → g < n.frames → IsWholeKind (p.kinds g)
+abbrev pub AreWhole : Machine → Plain → Type 0
+AreWhole n p = (g : ℕ) → g < n.frames → IsWholeKind (p.kinds g)
 
 -- The words m are those of x, as vCPU s knows it. Nothing of a frame is unfinished, and the old words name none.
 pub record IsShown (n : Machine) (s : ℕ) (m : Words) (x : Solo) : Type 0 where
   pub others : ShowsOthers n s m x
   pub frames : Describes n m x.frames
-  pub whole : IsWhole n x.frames
+  pub whole : AreWhole n x.frames
   pub first : m (old_place s First) ≡ 0
   pub second : m (old_place s Second) ≡ 0

@@ -27,7 +27,7 @@ use Rattle.course_laws.proofs.Awaiting.{AloneStays}
 use Rattle.course_laws.proofs.Stopping.{acquired_came}
 use Rattle.pause_laws.specs.Calls.{HasRoom}
 use Rattle.refusal_laws.specs.Refusals.{ComesTo}
-use Rattle.refusal_laws.specs.Repeated.{GoesOn, PausedCalls, again, first}
+use Rattle.refusal_laws.specs.Repeated.{FollowsOn, PausedCalls, again, first}
 use Rattle.script_law.specs.Values.{Solo}
 use Rattle.solo_ports.specs.Standing.{Clean, Fair, KeepsTable, Stands, whose}
 use Rattle.solo_ports.proofs.Along.{paused_on}
@@ -59,7 +59,7 @@ pub record Begins (v w : PortValue) (x : Solo) (d f level : ℕ) : Type 0 where
       (answer ≡ Err (Paused Due)) ⊎ ComesTo v.post.machine e f level (alone v.post.machine d level f x.frames) answer
   pub keeps : (c : PortValue) (answers : List Bool) → Came v c → told_word c ≡ told_word v → Acquired c f d level w answers (Err (Paused Due)) → FindsAlive c w d → Stands w x → told_word w (old_place w.post.vcpu First) ≡ 0 → KeepsTable f d level w x
 
-stays_itself : (w : PortValue) → is_telling w ≡ true → GoesOn w w
+stays_itself : (w : PortValue) → is_telling w ≡ true → FollowsOn w w
 stays_itself w telling = record { stays = record { machine = refl; telling = telling; words = same_alike (told_word w) (told_word w) (λ q. refl) }; vcpu = refl }
 
 module _ (stays : AloneStays) (v w : PortValue) (x : Solo) (d f level : ℕ) (fair : Fair v w) (low : 1 ≤ level) (high : level ≤ 4) where

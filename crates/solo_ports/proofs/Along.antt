@@ -12,7 +12,7 @@ use Rattle.answer_laws.proofs.Shared.{alone_telling}
 use Rattle.course_laws.proofs.Awaiting.{AloneStays}
 use Rattle.release_laws.specs.Pauses.{GoesOnFrom, IsLeft}
 use Rattle.release_laws.proofs.Settling.{goes_on}
-use Rattle.refusal_laws.specs.Repeated.{GoesOn, PausedCalls}
+use Rattle.refusal_laws.specs.Repeated.{FollowsOn, PausedCalls}
 use Rattle.refusal_laws.specs.Repeated as repeated
 use Rattle.table_words.specs.OldWords.{old_place}
 use Rattle.table_words.specs.declared.old_words.OldWord.TheVariants.{First, Second}
@@ -68,7 +68,7 @@ module _ (stays : AloneStays) (v w : PortValue) (x : Solo) (on : StaysAlike v w)
       (subst (λ (p : Post). IsLeft p.machine w f level x.frames) (sym post) (goes_on v.post.machine v w f level x.frames (goes_from s) left))
 
 -- ---- calls that were paused
-goes_trans : (u v w : PortValue) → GoesOn u v → Alike (told_word w) (told_word v) → w.post ≡ v.post → is_telling w ≡ true → GoesOn u w
+goes_trans : (u v w : PortValue) → FollowsOn u v → Alike (told_word w) (told_word v) → w.post ≡ v.post → is_telling w ≡ true → FollowsOn u w
 goes_trans u v w a alike post telling =
     record {
       stays = record { machine = ap (λ (p : Post). p.machine) post ∙ a.stays.machine; telling = telling; words = alike_trans (told_word w) (told_word v) (told_word u) alike a.stays.words };

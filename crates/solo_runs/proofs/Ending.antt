@@ -20,17 +20,17 @@ use Rattle.script_law.specs.Values.{Solo}
 use Rattle.solo_accesses.specs.Stale.{IsNeverStale}
 use Rattle.solo_ports.specs.Standing.{Fair, whose}
 use Rattle.script_laws.specs.Logged.{IsLogged}
-use Rattle.script_laws.specs.Opening.{IsStoppedAt, Opens, WritesNoEntries}
+use Rattle.script_laws.specs.Opening.{IsStoppedAt, OpensScript, WritesNoEntries}
 use Rattle.script_laws.specs.Turns.{IsLog, Turned}
-use Rattle.solo_runs.specs.Finishing.{ComesTo, FinishesAlone, IsFairRun, first_port, opening_solo, owner_in, with_turns}
+use Rattle.solo_runs.specs.Finishing.{RunComesTo, FinishesAlone, IsFairRun, first_port, opening_solo, owner_in, with_turns}
 use Rattle.solo_runs.proofs.Finishing.{first_are, first_length, stopped, went}
 
 abbrev pub Invisible : Type 0
-Invisible = (c d : Processing) (v w : PortValue) (x : Solo) → Opens c v x → WritesNoEntries c.script → Turned c v d w → d.retired ≡ true → Fair v w → IsNeverStale v w →
+Invisible = (c d : Processing) (v w : PortValue) (x : Solo) → OpensScript c v x → WritesNoEntries c.script → Turned c v d w → d.retired ≡ true → Fair v w → IsNeverStale v w →
     IsLog IsLogged d.log (script_alone (whose v) c.script x).log × IsStoppedAt w (script_alone (whose v) c.script x).left
 
 abbrev pub OpensIt : Type 0
-OpensIt = (t : Trace) (words : List ℕ) (script : List Op) → IsWellFormed t → IsOpening t words → length t.layout.vcpu_domain ≡ 1 → Opens (fresh t.layout.frames 0 (domain_of t.layout 0) script) (first_port t words) (opening_solo t)
+OpensIt = (t : Trace) (words : List ℕ) (script : List Op) → IsWellFormed t → IsOpening t words → length t.layout.vcpu_domain ≡ 1 → OpensScript (fresh t.layout.frames 0 (domain_of t.layout 0) script) (first_port t words) (opening_solo t)
 
 same_some : {A : Type 0} (x y : A) (o : Option A) → o ≡ Some x → o ≡ Some y → x ≡ y
 same_some x y o a b = let k = sym a ∙ b in cc
@@ -42,7 +42,7 @@ module _ (invisible : Invisible) (opens : OpensIt) (clock_was_on : ClockWasOn) (
   abbrev first : Processing
   first = fresh t.layout.frames 0 (domain_of t.layout 0) script
 
-  pub run_comes : WritesNoEntries script → IsFairRun t run.ran.opened closed → ComesTo t closed last (script_alone (owner_in t) script (opening_solo t)).log (script_alone (owner_in t) script (opening_solo t)).left
+  pub run_comes : WritesNoEntries script → IsFairRun t run.ran.opened closed → RunComesTo t closed last (script_alone (owner_in t) script (opening_solo t)).log (script_alone (owner_in t) script (opening_solo t)).left
   run_comes writes fair =
       let w = went t.layout _ first _ _ run.ran.works.worked run.ran.works.turns refl (record { one = first_length t.layout t.scripts ∙ (run.formed.scripts ∙ run.only); is = first_are t.layout t.scripts script run.script_is }) in
       let same = same_some w.now last (slice_get run.ran.works.worked.cpus 0) w.only.is run.last_is in

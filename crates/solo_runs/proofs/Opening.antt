@@ -19,7 +19,7 @@ use Rattle.script_law.specs.Shown.{IsShownWord}
 use Rattle.script_law.specs.Shown as shown
 use Rattle.solo_ports.specs.Standing.{Clean}
 use Rattle.vcpu_runners.specs.Turns.{fresh}
-use Rattle.script_laws.specs.Opening.{Opens}
+use Rattle.script_laws.specs.Opening.{OpensScript}
 use Rattle.solo_runs.specs.Finishing.{first_port, opening_solo}
 
 zero_kept : (sober (kind_fields 0)).kept ≡ false
@@ -136,5 +136,5 @@ module _ (t : Trace) (words : List ℕ) (script : List Op) (formed : IsWellForme
         };
       }
 
-  pub opens_script : Opens (fresh n.frames 0 (domain_of n 0) script) (first_port t words) (opening_solo t)
+  pub opens_script : OpensScript (fresh n.frames 0 (domain_of n 0) script) (first_port t words) (opening_solo t)
   opens_script = record { clean = clean; alive = alive_all (domain_of n 0); domain = refl; no_line = refl; none = refl; at = refl; on = refl }

@@ -54,7 +54,7 @@ pub record IsFairRun (t : Trace) (opened : List ℕ) (closed : Stage) : Type 0 w
   pub fresh : IsNeverStale (first_port t opened) (port_on t.layout 0 closed.board)
 
 -- The log of the vCPU is of these answers, line by line, and the closing words show that value.
-pub record ComesTo (t : Trace) (closed : Stage) (last : Processing) (answers : List Logged) (left : Solo) : Type 0 where
+pub record RunComesTo (t : Trace) (closed : Stage) (last : Processing) (answers : List Logged) (left : Solo) : Type 0 where
   pub last_is : slice_get closed.cpus 0 ≡ Some last
   pub log : IsLog IsLogged last.log answers
   pub words : IsStoppedAt (port_on t.layout 0 closed.board) left
@@ -63,5 +63,5 @@ pub record ComesTo (t : Trace) (closed : Stage) (last : Processing) (answers : L
 pub record ComeToTheSame (t : Trace) (closed : Stage) (last : Processing) (u : Trace) (other : Stage) (ends : Processing) : Type 0 where
   pub answers : List Logged
   pub left : Solo
-  pub first : ComesTo t closed last answers left
-  pub second : ComesTo u other ends answers left
+  pub first : RunComesTo t closed last answers left
+  pub second : RunComesTo u other ends answers left

@@ -13,15 +13,15 @@ ghost use Rattle.xp_board.specs.Told.{PortValue, is_telling, told_word};
 ghost use Rattle.xp_preempt.specs.Gates.{Gate};
 ghost use Rattle.xp_machine.specs.Turns.{Stage};
 ghost use Rattle.script_law.specs.Scripts.{script_alone};
-ghost use Rattle.script_laws.specs.Opening.{Opens, WritesNoEntries};
-ghost use Rattle.solo_runs.specs.Finishing.{ComeToTheSame, ComesTo, FinishesAlone, IsFairRun, first_port, opening_solo, owner_in, with_turns};
+ghost use Rattle.script_laws.specs.Opening.{OpensScript, WritesNoEntries};
+ghost use Rattle.solo_runs.specs.Finishing.{ComeToTheSame, RunComesTo, FinishesAlone, IsFairRun, first_port, opening_solo, owner_in, with_turns};
 
 use opening_rule::opening_words_are_sound;
 use script_laws::preemption_is_invisible;
 
 /// Where a machine has one vCPU, that opens its script: nothing is left to be settled, and the words are those of the trace.
 pub fn a_vcpu_opens_its_script()
-    ensures { (t : Trace) (words : List ℕ) (script : List Op) → IsWellFormed t → IsOpening t words → length t.layout.vcpu_domain ≡ 1 → Opens (fresh t.layout.frames 0 (domain_of t.layout 0) script) (first_port t words) (opening_solo t) }
+    ensures { (t : Trace) (words : List ℕ) (script : List Op) → IsWellFormed t → IsOpening t words → length t.layout.vcpu_domain ≡ 1 → OpensScript (fresh t.layout.frames 0 (domain_of t.layout 0) script) (first_port t words) (opening_solo t) }
 {
     opening_words_are_sound();
 }
@@ -37,7 +37,7 @@ pub fn a_clock_below_its_last_value_was_never_there()
 /// The premises: the run leaves the clock below its last value, and none of its steps finds a reference word with its count at the limit, or comes to a word by a translation that a walk would not find.
 pub fn preemption_is_invisible_in_a_run()
     ensures { (t : Trace) (gates : List Gate) (script : List Op) (closed : Stage) (last : Processing) (run : FinishesAlone t gates script closed last) → WritesNoEntries script → IsFairRun t run.ran.opened closed →
-        ComesTo t closed last (script_alone (owner_in t) script (opening_solo t)).log (script_alone (owner_in t) script (opening_solo t)).left }
+        RunComesTo t closed last (script_alone (owner_in t) script (opening_solo t)).log (script_alone (owner_in t) script (opening_solo t)).left }
 {
     a_vcpu_opens_its_script();
     a_clock_below_its_last_value_was_never_there();
