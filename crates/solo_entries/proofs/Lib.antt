@@ -15,4 +15,5 @@ mod Entries
 mod Capping
 mod Unkept
 mod Writing
+mod Lasting
 mod Writes

@@ -33,7 +33,7 @@ use Rattle.solo_ports.specs.Standing.{Clean, Fair, KeepsTable, Stands, whose}
 use Rattle.solo_ports.proofs.Along.{paused_on}
 use Rattle.solo_ports.proofs.Resting.{clean_orderly, clean_rests}
 use Rattle.solo_pins.proofs.Given.{CallsTelling, FirstComes, LaterComes, LeavesKept}
-use Rattle.solo_pins.proofs.Between.{finds_alive}
+use Rattle.solo_ports.proofs.Between.{finds_alive}
 
 -- ---- premises on steps, between two ports on the way
 pub clock_between : (v c e w : PortValue) → Came v c → Came e w → ClockGoesOn v w → ClockGoesOn c e

@@ -5,8 +5,6 @@ pub mod Flushing
 pub mod Aside
 pub mod Looking
 pub mod Unpinning
-pub mod Prefixes
-pub mod Between
 pub mod Acquired
 pub mod Beginning
 pub mod Kept

@@ -2,3 +2,5 @@ pub mod Along
 pub mod Resting
 pub mod Staying
 pub mod Unkept
+pub mod Prefixes
+pub mod Between

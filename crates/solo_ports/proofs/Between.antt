@@ -24,7 +24,7 @@ use Rattle.step_maker.proofs.Coming.{came_trans, ran_more}
 use Rattle.step_maker.proofs.Piecing.{deeds_append}
 use Rattle.step_maker.proofs.Telling.{came_telling, moves_telling, ran_telling, told_elsewhere, told_here, told_there}
 use Rattle.course_laws.specs.Courses.{FindsAlive}
-use Rattle.solo_pins.proofs.Prefixes.{on_way, one_run}
+use Rattle.solo_ports.proofs.Prefixes.{on_way, one_run}
 
 -- ---- a word that no step on the way changes
 abbrev IsStill : (Moment → Type 0) → Place → Type 0
