@@ -1,5 +1,5 @@
 -- A word of a live table is written, from a port at which nothing is left to be settled: refused as the hypervisor's, or its entry exchanged.
-use Rattle.solo_entries.specs.Exchanges.{ComesSo, IsLockedTable, IsUnlost, LeavesFrames, later, now}
+use Rattle.solo_entries.specs.Exchanges.{ComesSo, IsLockedTable, LeavesFrames, later, now}
 use Rattle.std.proofs.Common.{◌≡◌, ◌⊎◌, ◌≤◌, ◌<◌, ℕ, ◌-◌, ◌&&◌, nat_lt, Bool, true, false, List, length, Result, Ok, Err, IsTrue, refl, sym, ap, ◌∙◌, subst, arith, inl, inr}
 use Rattle.std.proofs.Math.Path.{fun_ext}
 use Rattle.std.proofs.lemmas.Bool.{and_parts}
@@ -53,6 +53,7 @@ use Rattle.solo_entries.proofs.Known.{Known}
 use Rattle.solo_entries.proofs.Locking.{lock_leaves}
 use Rattle.solo_entries.proofs.Olds.{KeepsSecond, puts_keeps, three_four, three_five}
 use Rattle.solo_entries.proofs.Standing.{machine_same, stands_with}
+use Rattle.solo_entries.proofs.Stopping.{IsUnlost}
 use Rattle.table_law.specs.Exchange.{with_cell}
 
 -- ---- what is left, as a port stands
