@@ -16,5 +16,6 @@ mod Capping
 mod Unkept
 mod Writing
 mod Lasting
+mod Enduring
 mod Writes
 mod Pairs
