@@ -16,4 +16,5 @@ mod Capping
 mod Unkept
 mod Writing
 mod Lasting
+mod Relocking
 mod Writes
