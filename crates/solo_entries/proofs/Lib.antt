@@ -17,5 +17,6 @@ mod Unkept
 mod Writing
 mod Lasting
 mod Enduring
+mod Relocking
 mod Writes
 mod Pairs
