@@ -17,3 +17,4 @@ mod Unkept
 mod Writing
 mod Lasting
 mod Writes
+mod Addressed
