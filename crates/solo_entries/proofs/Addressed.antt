@@ -1,29 +1,22 @@
 -- An update of the entry of level 1 that maps an address, from a port at which nothing is left to be settled, comes to its plain meaning.
-use Rattle.solo_entries.specs.Exchanges.{IsUnlost, now}
-use Rattle.std.proofs.Common.{◌≡◌, ◌≢◌, ◌⊎◌, ◌≤◌, ◌<◌, ℕ, zero, suc, ◌&&◌, if◌then◌else◌, Bool, true, false, List, None, Some, Result, Ok, Err, IfErr, refl, sym, ap, ◌∙◌, subst, arith, inl, inr}
+use Rattle.solo_entries.specs.Exchanges.{now}
+use Rattle.std.proofs.Common.{◌≡◌, ◌≢◌, ◌<◌, ℕ, zero, suc, ◌&&◌, if◌then◌else◌, Bool, true, false, List, None, Result, Ok, Err, refl, sym, ap, ◌∙◌, subst, arith, inl, inr}
 use Rattle.xp_words.specs.KindWords.{kind_fields}
 use Rattle.xp_words.specs.Machine.{Machine}
 use Rattle.xp_words.specs.declared.kind.PageType.TheVariants as kinds
 use Rattle.xp_words.specs.declared.place.Place.TheVariants.{Cell, Kind, Refs}
-use Rattle.xp_words.specs.declared.reply.Pause.TheVariants as pauses
-use Rattle.xp_words.specs.declared.reply.Pause.{Pause}
 use Rattle.xp_words.specs.declared.reply.Refusal.{Refusal}
 use Rattle.xp_words.specs.declared.reply.Refusal.TheVariants as refusals
 use Rattle.xp_words.specs.declared.reply.Stop.{Stop}
 use Rattle.xp_words.specs.declared.reply.Stop.TheVariants.{Refused, Paused}
 use Rattle.xp_board.specs.Readings.{is_type}
 use Rattle.xp_board.specs.Told.{Post, PortValue, is_telling, told_word}
-use Rattle.step_maker.specs.Answers.{Stops}
-use Rattle.step_maker.specs.Asked.{Request}
-use Rattle.step_maker.specs.Holds.{Rests}
 use Rattle.step_maker.specs.Moves.{Came}
 use Rattle.step_maker.specs.Plain.{Leaves}
 use Rattle.step_maker.proofs.Alikes.{same_alike}
 use Rattle.step_maker.proofs.Coming.{came_post, came_trans, met_after, moves_came}
-use Rattle.step_maker.proofs.Piecing.{serves_came}
 use Rattle.step_maker.proofs.Telling.{came_telling}
 use Rattle.step_maker.proofs.Visiting.{does_came}
-use Rattle.answer_laws.specs.Alone.{IsAlone, IsDueOrFlush}
 use Rattle.answer_laws.proofs.Shared.{alone_telling}
 use Rattle.entry_exchange.specs.Course as course
 use Rattle.entry_exchange.specs.Course.{Exchanged, LeftLock, old_demand}
@@ -55,10 +48,9 @@ use Rattle.course_laws.specs.Courses.{ClockGoesOn}
 use Rattle.script_law.specs.Frames.{write_entry}
 use Rattle.script_law.specs.Values.{Frames, Numbers, Outcome, Solo, allowed, looked_by, stopped}
 use Rattle.script_law.specs.Walks.{table_at, update_entry}
-use Rattle.solo_ports.specs.Coming.{Comes, IsDoneSo, IsRefusedSo}
+use Rattle.solo_ports.specs.Coming.{Comes, IsRefusedSo}
 use Rattle.solo_ports.specs.Standing.{Clean, Owes, ShowsOthers, nothing}
-use Rattle.solo_ports.proofs.Resting.{clean_orderly, clean_rests}
-use Rattle.solo_ports.proofs.Staying.{others_stay}
+use Rattle.solo_ports.proofs.Resting.{clean_rests}
 use Rattle.solo_accesses.specs.Walking.{LoadsCome}
 use Rattle.solo_accesses.proofs.Loading.{loads_come}
 use Rattle.solo_entries.proofs.Exchanging.{given_came}
@@ -68,9 +60,10 @@ use Rattle.solo_entries.proofs.Mapping.{fine_by, looked_at, unlooked}
 use Rattle.solo_entries.proofs.Memory as memory
 use Rattle.solo_entries.proofs.Olds.{gave_keeps, keeps_then, locked_keeps, ref_keeps, three_five, three_four, two_five, two_four}
 use Rattle.solo_entries.proofs.Serving.{at_quiet}
-use Rattle.solo_entries.proofs.Standing.{machine_same, owes_same}
+use Rattle.solo_entries.proofs.Standing.{KeepsOthers, keeps_others, owes_same}
+use Rattle.solo_entries.proofs.Stopping.{IsUnlost, unlost_alone}
 use Rattle.solo_entries.proofs.Writes as writes
-use Rattle.solo_entries.proofs.Writing.{PausedExchange, owes_left, put_lost}
+use Rattle.solo_entries.proofs.Writing.{owes_left, put_lost}
 
 -- ---- levels
 other_level : (l : ℕ) → l ≢ 1 → is_type (level_type l) kinds.L1 ≡ false
@@ -104,21 +97,8 @@ entered_came v _ o f i word _ _ tells unlost (ways.exchanged u y w found answers
     let to_y = came_trans v u y (ref_came v u f o.tables (Ok f) ref) (does_came u y _ lock.found) in
     came_trans v y w to_y (exchange_came y w (entry_update f 1 i word false) o answers answer (came_telling v y to_y ∙ tells) unlost went)
 
--- none is lost where the vCPU is alone
-due_unlost : (z : Pause) → IsDueOrFlush z → IsUnlost (Err (Paused z))
-due_unlost pauses.Due due = tt
-due_unlost (pauses.Flush u stamp found) due = tt
-due_unlost (pauses.Busy g found) due = tt
-due_unlost (pauses.Lost place e found) due = absurd due
-due_unlost (pauses.Alive _ _) due = absurd due
-
-pub unlost_by : (k : Known) (v w : PortValue) (r : Request) (answer : Result (Unit {0}) Stop) → IsAlone v → r.destroys ≡ None → IfErr answer (λ e. Stops v w r e) → IsUnlost answer
-unlost_by k v w r (Ok done) alone none stops = tt
-unlost_by k v w r (Err (Refused z)) alone none stops = tt
-unlost_by k v w r (Err (Paused z)) alone none stops = due_unlost z (k.neither v w r z alone none stops)
-
 -- ---- the table is entered
-module _ (k : Known) (v w : PortValue) (x : Solo) (o : Owners) (f va word : ℕ) (clean : Clean v x) (goes : ClockGoesOn v w) (came : Came v w) (others : ShowsOthers v.post.machine v.post.vcpu (told_word w) x) (rests : Rests w) where
+module _ (k : Known) (v w : PortValue) (x : Solo) (o : Owners) (f va word : ℕ) (clean : Clean v x) (goes : ClockGoesOn v w) (others : KeepsOthers v w x) where
   abbrev n : Machine
   n = v.post.machine
 
@@ -146,7 +126,7 @@ module _ (k : Known) (v w : PortValue) (x : Solo) (o : Owners) (f va word : ℕ)
   unreferred : (e : Stop) → GotRef v w f o.tables (Err e) → Comes (λ u s. ⊥) w x (update_entry n o va word x (Ok f)) (Err e)
   unreferred (Refused z) ref =
       unlooked k v w x clean o.tables f z (λ s. if is_lockable (s.frames.kinds f) && is_type (s.frames.kinds f).kind kinds.L1 then write_entry n o f (index_of va 1) word false s else stopped (Frames (OtherType f kinds.L1 (s.frames.kinds f))) s)
-      (ref.plain telling).0 (owes_same k v w x clean came (ref.plain telling).1 rests)
+      (ref.plain telling).0 (owes_same k v w x clean others.came (ref.plain telling).1 others.rests)
   unreferred (Paused z) ref = absurd (ref.plain telling)
 
   -- ---- a frame that is no live table
@@ -183,31 +163,31 @@ module _ (k : Known) (v w : PortValue) (x : Solo) (o : Owners) (f va word : ℕ)
     other =
         refused_type found none (memory.real k v w x o f 0 0 false clean u y found ref lock) found_is
         (ap (λ b. b && is_type (x.frames.kinds f).kind kinds.L1) (memory.ordinary k v w x o f 0 0 false clean u y found ref lock))
-        (owes_left k v w x clean came others rests second x.frames clean.stands.unkept (now (subst (λ (j : Post). told_word w (old_place j.vcpu First) ≡ 0) (sym (came_post v w came)) (first ∙ clean.first)) given))
+        (owes_left k v w x clean others second x.frames clean.stands.unkept (now (subst (λ (j : Post). told_word w (old_place j.vcpu First) ≡ 0) (sym (came_post v w others.came)) (first ∙ clean.first)) given))
 
   -- ---- a live table
   module _ (u y : PortValue) (level found : ℕ) (ref : GotRef v u f o.tables (Ok f)) (lock : TriedLock u y f o.tables (Ok (Table level found))) where
     by_type : (b : Bool) → is_type (level_type level) kinds.L1 ≡ b → (is_lockable (x.frames.kinds f) && is_type (x.frames.kinds f).kind kinds.L1) ≡ b
     by_type b is =
-        ap (λ c. c && is_type (x.frames.kinds f).kind kinds.L1) (writes.lockable k v w x o f (index_of va 1) word false clean goes came others rests u y level found ref lock)
-        ∙ (ap (λ t. is_type t kinds.L1) (writes.typed k v w x o f (index_of va 1) word false clean goes came others rests u y level found ref lock) ∙ is)
+        ap (λ c. c && is_type (x.frames.kinds f).kind kinds.L1) (writes.lockable k v w x o f (index_of va 1) word false clean goes others u y level found ref lock)
+        ∙ (ap (λ t. is_type t kinds.L1) (writes.typed k v w x o f (index_of va 1) word false clean goes others u y level found ref lock) ∙ is)
 
     -- of another level
     of_level : level ≢ 1 → LeftLock y f level w → IsRefusedSo w (refusals.OtherType f kinds.L1 found) (update_entry n o va word x (Ok f))
     of_level apart left =
         refused_type found (ref.plain telling).0 (lends k v u y x.frames o.tables f level found clean.stands.machine clean.stands.alone (clean_rests v x clean) clean.frames ref lock).inside
         ((lock.plain (came_telling v u (ref_came v u f o.tables (Ok f) ref) ∙ telling)).0 ∙ (ref.plain telling).1 (Kind f)) (by_type false (other_level level apart))
-        (writes.slot_left k v w x o f (index_of va 1) word false clean goes came others rests u y level found ref lock left)
+        (writes.slot_left k v w x o f (index_of va 1) word false clean goes others u y level found ref lock left)
 
   -- ---- the whole
   pub entered_comes : (answers : List Bool) (answer : Result (Unit {0}) Stop) → IsUnlost answer → EnteredAt v o f (index_of va 1) word w answers answer → Comes (λ u s. ⊥) w x (update_entry v.post.machine o va word x (Ok f)) answer
   entered_comes _ _ unlost (ways.unreferred _ stop ref) = unreferred stop ref
-  entered_comes _ _ unlost (ways.unlocked u y _ stop ref lock gave) = absurd (writes.unlocked k v w x o f (index_of va 1) word false clean goes came others rests u y stop ref lock)
+  entered_comes _ _ unlost (ways.unlocked u y _ stop ref lock gave) = absurd (writes.unlocked k v w x o f (index_of va 1) word false clean goes others u y stop ref lock)
   entered_comes _ _ unlost (ways.other u y _ found ref lock gave) = other u y found ref lock gave
   entered_comes _ _ unlost (ways.level u y _ level found ref lock apart left) = of_level u y level found ref lock apart left
   entered_comes _ _ unlost (ways.exchanged u y _ found answers answer ref lock went) =
       subst (λ t. Comes (λ u s. ⊥) w x t answer) (sym (is_here (ref.plain telling).0 ∙ ap here (by_type u y 1 found ref lock true refl)))
-      (elim (writes.entry_ends k v w x o f (index_of va 1) word false clean goes came others rests u y 1 found ref lock (λ u s. ⊥) answers answer (omega arith) unlost went) [
+      (elim (writes.entry_comes k v w x o f (index_of va 1) word false clean goes others u y 1 found ref lock (λ u s. ⊥) (omega arith) answers answer went unlost) [
         | inl p ↦ absurd (let two = p.paused.two in omega (arith, two))
         | inr c ↦ c
       ])
@@ -236,27 +216,29 @@ module _ (k : Known) (v w : PortValue) (x : Solo) (o : Owners) (va word : ℕ) (
     loads : LoadsCome v.post.machine va x (Ok table) × Clean u x
     loads = loads_come k.stays v u x va clean (Ok table) leads
 
-    led : (answers : List Bool) (answer : Result (Unit {0}) Stop) → Came u w → ShowsOthers v.post.machine v.post.vcpu (told_word w) x → Rests w → IsUnlost answer → EnteredAt u o table (index_of va 1) word w answers answer →
+    led : (answers : List Bool) (answer : Result (Unit {0}) Stop) → Came u w → KeepsOthers v w x → IsUnlost answer → EnteredAt u o table (index_of va 1) word w answers answer →
         Comes (λ u s. ⊥) w x (allowed (walk_refusal va) x (update_entry v.post.machine o va word x (table_at v.post.machine va x (x.own 0)))) answer
-    led answers answer came others rests unlost enters =
+    led answers answer came others unlost enters =
         let same = came_post v u to_u in
-        let there = entered_comes k u w x o table va word loads.1 (λ m met at. goes m (met_after v u w m to_u met) at) came (subst (λ (j : Post). ShowsOthers j.machine j.vcpu (told_word w) x) (sym same) others) rests answers answer unlost enters in
+        let there = entered_comes k u w x o table va word loads.1 (λ m met at. goes m (met_after v u w m to_u met) at)
+            (record { came = came; others = subst (λ (j : Post). ShowsOthers j.machine j.vcpu (told_word w) x) (sym same) others.others; rests = others.rests }) answers answer unlost enters in
         let here = subst (λ (j : Post). Comes (λ u s. ⊥) w x (update_entry j.machine o va word x (Ok table)) answer) same there in
         subst (λ t. Comes (λ u s. ⊥) w x (allowed t x (update (table_at v.post.machine va x (x.own 0)))) answer) (sym loads.0.0) (subst (λ t. Comes (λ u s. ⊥) w x (update t) answer) (sym loads.0.1) here)
 
   updated_comes : (answers : List Bool) (answer : Result (Unit {0}) Stop) → UpdatesAt o va word v w answers answer → Comes (λ u s. ⊥) w x (allowed (walk_refusal va) x (update_entry v.post.machine o va word x (table_at v.post.machine va x (x.own 0)))) answer
-  updated_comes answers answer a = by a.table answers answer a.course (others_stay v w (of_at o va a.table word answer) a.serves.0 telling a.serves.2 x clean.stands.empty (at_quiet v.post.machine v.post.vcpu o va a.table word answer a.serves.0 a.serves.1) clean.stands.others)
-      a.rests (unlost_by k v w (of_at o va a.table word answer) answer clean.stands.alone refl a.stops)
+  updated_comes answers answer a =
+      by a.table answers answer a.course (keeps_others v w x (of_at o va a.table word answer) a.serves.0 clean.stands a.serves.2 (at_quiet v.post.machine v.post.vcpu o va a.table word answer a.serves.0 a.serves.1) a.rests)
+      (unlost_alone k v w (of_at o va a.table word answer) answer clean.stands.alone refl a.stops)
     where
       telling : is_telling v ≡ true
       telling = alone_telling v clean.stands.alone
 
-      by : (table : ℕ) (answers : List Bool) (answer : Result (Unit {0}) Stop) → UpdatedAt v o va word table w answers answer → ShowsOthers v.post.machine v.post.vcpu (told_word w) x → Rests w → IsUnlost answer →
+      by : (table : ℕ) (answers : List Bool) (answer : Result (Unit {0}) Stop) → UpdatedAt v o va word table w answers answer → KeepsOthers v w x → IsUnlost answer →
           Comes (λ u s. ⊥) w x (allowed (walk_refusal va) x (update_entry v.post.machine o va word x (table_at v.post.machine va x (x.own 0)))) answer
-      by table _ _ (ways.unled _ stop out leads) others rests unlost = let l = loads_come k.stays v w x va clean (Err stop) leads in unled stop l.0 l.1
-      by table _ _ (ways.led u _ answers answer leads enters) others rests unlost =
+      by table _ _ (ways.unled _ stop out leads) others unlost = let l = loads_come k.stays v w x va clean (Err stop) leads in unled stop l.0 l.1
+      by table _ _ (ways.led u _ answers answer leads enters) others unlost =
           let tells = came_telling v u (to_u u table leads) ∙ telling in
-          led u table leads answers answer (entered_came u w o table (index_of va 1) word answers answer tells unlost enters) others rests unlost enters
+          led u table leads answers answer (entered_came u w o table (index_of va 1) word answers answer tells unlost enters) others unlost enters
 
 pub at_comes : (k : Known) (v w : PortValue) (x : Solo) (o : Owners) (va word : ℕ) (answers : List Bool) (answer : Result (Unit {0}) Stop) → Clean v x → ClockGoesOn v w → UpdatesAt o va word v w answers answer →
     Comes (λ u s. ⊥) w x (allowed (walk_refusal va) x (update_entry v.post.machine o va word x (table_at v.post.machine va x (x.own 0)))) answer

@@ -17,4 +17,5 @@ mod Unkept
 mod Writing
 mod Lasting
 mod Writes
+mod Pairs
 mod Addressed

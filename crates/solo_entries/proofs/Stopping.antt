@@ -1,8 +1,11 @@
 -- Where the vCPU is alone and the only one, and the clock goes on, what is not to be had as ordinary memory is refused for what the words say.
-use Rattle.std.proofs.Common.{◌≡◌, ℕ, length, Result, Ok, Err, refl, Some, None}
+use Rattle.std.proofs.Common.{◌≡◌, ℕ, length, Result, Ok, Err, IfErr, refl, Some, None}
+use Rattle.xp_words.specs.declared.reply.Pause.TheVariants.{Alive, Busy, Due, Flush, Lost}
 use Rattle.xp_words.specs.declared.reply.Stop.{Stop}
+use Rattle.xp_words.specs.declared.reply.Stop.TheVariants.{Refused, Paused}
 use Rattle.xp_board.specs.Told.{PortValue}
-use Rattle.step_maker.specs.Asked.{of_frame}
+use Rattle.step_maker.specs.Answers.{Stops}
+use Rattle.step_maker.specs.Asked.{Request, of_frame}
 use Rattle.answer_laws.specs.Alone.{IsAlone}
 use Rattle.partial_state.specs.Levels.{level_type}
 use Rattle.course_laws.specs.Courses.{ClockGoesOn}
@@ -35,3 +38,17 @@ ended_by k v w (Err e) alone one goes stops = decided k.stays k.neither v w alon
 pub stops_within : {A : Type 0} (v a b w : PortValue) (r : Result A Stop) → Came v a → StopsAs a b r → Came b w → StopsAs v w r
 stops_within v a b w (Ok done) before s after = tt
 stops_within v a b w (Err e) before s after = behind v a w e before (ahead_of a b w e s after)
+
+-- ---- no exchange of a word is lost
+abbrev pub IsUnlost : Result (Unit {0}) Stop → Type 0
+IsUnlost (Err (Paused (Lost place e found))) = ⊥
+IsUnlost _ = Unit {0}
+
+pub unlost_alone : Known → (v w : PortValue) (r : Request) (answer : Result (Unit {0}) Stop) → IsAlone v → r.destroys ≡ None → IfErr answer (λ e. Stops v w r e) → IsUnlost answer
+unlost_alone k v w r (Ok done) alone none stops = tt
+unlost_alone k v w r (Err (Refused x)) alone none stops = tt
+unlost_alone k v w r (Err (Paused (Lost place e found))) alone none stops = k.neither v w r (Lost place e found) alone none stops
+unlost_alone k v w r (Err (Paused (Busy f found))) alone none stops = tt
+unlost_alone k v w r (Err (Paused Due)) alone none stops = tt
+unlost_alone k v w r (Err (Paused (Flush u stamp found))) alone none stops = tt
+unlost_alone k v w r (Err (Paused (Alive u found))) alone none stops = tt

@@ -1,6 +1,6 @@
 -- A write, from a port at which nothing is left to be settled, comes to its plain meaning, where it is not paused.
-use Rattle.solo_entries.specs.Exchanges.{ComesSo, IsLockedTable, IsUnlost, now}
-use Rattle.std.proofs.Common.{◌≡◌, ◌≤◌, ℕ, zero, suc, ◌&&◌, nat_lt, if◌then◌else◌, Bool, true, List, Ok, Err, IsTrue, refl, sym, ap, ◌∙◌, subst, arith, not, ◌⊎◌, inl, inr, Result, length}
+use Rattle.solo_entries.specs.Exchanges.{ComesSo, IsLockedTable, now}
+use Rattle.std.proofs.Common.{◌≡◌, ◌⊎◌, ◌≤◌, ◌<◌, ℕ, zero, suc, ◌&&◌, nat_lt, if◌then◌else◌, Bool, true, false, List, length, Result, Ok, Err, IsTrue, refl, sym, ap, ◌∙◌, subst, arith, not, inl, inr}
 use Rattle.std.proofs.lemmas.Bool.{and_parts}
 use Rattle.xp_words.specs.Entries.{is_slot}
 use Rattle.xp_words.specs.Machine.{IsMachine, Machine}
@@ -9,9 +9,8 @@ use Rattle.xp_words.specs.declared.reply.Pause.TheVariants as pauses
 use Rattle.xp_words.specs.declared.reply.Refusal.TheVariants as refusals
 use Rattle.xp_words.specs.declared.reply.Stop.{Stop}
 use Rattle.xp_words.specs.declared.reply.Stop.TheVariants.{Refused, Paused}
-use Rattle.xp_board.specs.Told.{Post, PortValue, is_telling, told_word}
 use Rattle.xp_board.specs.KindSteps.{locked_kind}
-use Rattle.step_maker.specs.Holds.{Rests}
+use Rattle.xp_board.specs.Told.{Post, PortValue, is_telling, told_word}
 use Rattle.step_maker.specs.Moves.{Came}
 use Rattle.step_maker.proofs.Coming.{came_post, met_after}
 use Rattle.step_maker.proofs.Telling.{came_telling}
@@ -19,6 +18,7 @@ use Rattle.answer_laws.proofs.Shared.{alone_telling}
 use Rattle.entry_exchange.specs.Course.{Exchanged, LeftLock}
 use Rattle.entry_exchange.specs.Holding.{owner_at}
 use Rattle.entry_exchange.specs.Words.{word_kept}
+use Rattle.entry_exchange.specs.declared.exchanging.EntryUpdate.{EntryUpdate}
 use Rattle.entry_locks.specs.Locks.{of_lock, is_lockable}
 use Rattle.entry_locks.specs.declared.locking.Locked.TheVariants.{Table}
 use Rattle.exchange_laws.specs.Plain.{exchanged_plain, place_in}
@@ -30,25 +30,39 @@ use Rattle.table_entries.specs.Acquiring.{GotRef}
 use Rattle.table_entries.proofs.Shared.{ref_came}
 use Rattle.table_words.specs.OldWords.{old_place}
 use Rattle.table_words.specs.declared.old_words.OldWord.TheVariants.{First, Second}
-use Rattle.table_law.specs.Alone.{PlainOutcome, fine, take_reference}
+use Rattle.table_law.specs.Alone.{fine, take_reference}
 use Rattle.table_law.specs.Lawful.{IsAtRest}
 use Rattle.table_law.specs.Plain.{Describes, Plain, raised_share, with_share}
 use Rattle.course_laws.specs.Courses.{ClockGoesOn}
 use Rattle.course_laws.proofs.Extras.{described_same}
 use Rattle.script_law.specs.Frames.{exchange_at, under_lock, write_by, write_entry, write_memory, write_word}
-use Rattle.script_law.specs.Values.{Numbers, Outcome, Solo, behind_by, did, looked_by, stopped, with_frames}
+use Rattle.script_law.specs.Values.{Numbers, Outcome, Solo, behind, did, looked_by, stopped, with_frames}
 use Rattle.solo_ports.specs.Coming.{Comes}
-use Rattle.solo_ports.specs.Standing.{Clean, IsUnkept, Owes, ShowsOthers}
+use Rattle.solo_ports.specs.Standing.{Clean, IsUnkept, Owes}
 use Rattle.solo_ports.proofs.Resting.{clean_rests}
-use Rattle.solo_ports.proofs.Unkept.{by_kind}
+use Rattle.solo_ports.proofs.Unkept.{unkept_kind}
 use Rattle.solo_entries.proofs.Holding.{off}
 use Rattle.solo_entries.proofs.Known.{Known}
 use Rattle.solo_entries.proofs.Locking.{at_y, calm_y, can_lock, came_y, held_y, kind_is, lends, lock_goes, lock_leaves, off_again}
 use Rattle.solo_entries.proofs.Mapping.{fine_by, unlooked}
 use Rattle.solo_entries.proofs.Olds.{keeps_then, locked_keeps, ref_keeps, three_five, three_four, two_five, two_four}
-use Rattle.solo_entries.proofs.Standing.{machine_same, owes_same}
+use Rattle.solo_entries.proofs.Standing.{KeepsOthers, machine_same, owes_same}
+use Rattle.solo_entries.proofs.Stopping.{IsUnlost}
 use Rattle.solo_entries.proofs.Unkept.{unkept_exchanged}
 use Rattle.solo_entries.proofs.Writing.{Comes2, PausedExchange, exchange_ends, outcome_comes, owes_left}
+
+-- the gate paused it: behind the lock of a live table the acquisition of the table that the new word asked was paused, and the lock taken off
+pub record PausedWrite (v w : PortValue) (o : Owners) (f i word : ℕ) (keep : Bool) (answers : List Bool) (r : Result (Unit {0}) Stop) : Type 0 where
+  pub referred : PortValue
+  pub held : PortValue
+  pub level : ℕ
+  pub found : ℕ
+  pub ref : GotRef v referred f o.tables (Ok f)
+  pub lock : TriedLock referred held f o.tables (Ok (Table level found))
+  pub low : 1 ≤ level
+  pub high : level ≤ 4
+  pub open_slot : is_slot (level_type level) i ≡ false
+  pub paused : PausedExchange held w (entry_update f level i word keep) o answers r
 
 -- ---- levels
 low_by : (level : ℕ) → IsTrue (is_table (level_type level)) → 1 ≤ level
@@ -63,7 +77,7 @@ number_of (suc (suc (suc zero))) low high = refl
 number_of (suc (suc (suc (suc zero)))) low high = refl
 number_of (suc (suc (suc (suc (suc l))))) low high = absurd (omega (arith, high))
 
-module _ (k : Known) (v w : PortValue) (x : Solo) (o : Owners) (f i word : ℕ) (keep : Bool) (clean : Clean v x) (goes : ClockGoesOn v w) (came : Came v w) (others : ShowsOthers v.post.machine v.post.vcpu (told_word w) x) (rests : Rests w) where
+module _ (k : Known) (v w : PortValue) (x : Solo) (o : Owners) (f i word : ℕ) (keep : Bool) (clean : Clean v x) (goes : ClockGoesOn v w) (others : KeepsOthers v w x) where
   abbrev n : Machine
   n = v.post.machine
 
@@ -74,9 +88,9 @@ module _ (k : Known) (v w : PortValue) (x : Solo) (o : Owners) (f i word : ℕ) 
   telling = alone_telling v clean.stands.alone
 
   -- ---- the reference is not to be had
-  unreferred : (Kept : PortValue → Solo → Type 0) (e : Stop) → GotRef v w f o.tables (Err e) → Comes Kept w x (write_word n o f i word keep x) (Err e)
+  pub unreferred : (Kept : PortValue → Solo → Type 0) (e : Stop) → GotRef v w f o.tables (Err e) → Comes Kept w x (write_word n o f i word keep x) (Err e)
   unreferred Kept (Refused z) ref =
-      unlooked k v w x clean o.tables f z (λ s. write_by n o f i word keep s (s.frames.kinds f)) (ref.plain telling).0 (owes_same k v w x clean came (ref.plain telling).1 rests)
+      unlooked k v w x clean o.tables f z (λ s. write_by n o f i word keep s (s.frames.kinds f)) (ref.plain telling).0 (owes_same k v w x clean others.came (ref.plain telling).1 others.rests)
   unreferred Kept (Paused z) ref = absurd (ref.plain telling)
 
   -- ---- the frame is in nobody else's hands
@@ -114,7 +128,7 @@ module _ (k : Known) (v w : PortValue) (x : Solo) (o : Owners) (f i word : ℕ) 
     to_y : Came v y
     to_y = came_y k v u y p o.tables f level found clean.stands.machine clean.stands.alone calm clean.frames ref lock
 
-    low : 1 ≤ level
+    pub low : 1 ≤ level
     low = low_by level (subst (λ t. IsTrue (is_table t)) typed (and_parts (is_table (p.kinds f).kind) (p.kinds f).validated (and_parts (is_table (p.kinds f).kind && (p.kinds f).validated) (not (p.kinds f).locked && nat_lt 0 (p.kinds f).number) lockable).0).0)
 
     keeps_first : told_word y (old_place y.post.vcpu First) ≡ 0
@@ -127,54 +141,72 @@ module _ (k : Known) (v w : PortValue) (x : Solo) (o : Owners) (f i word : ℕ) 
         (keeps_then v.post.vcpu 3 three_four three_five (ref_keeps v.post.vcpu 3 three_four three_five v u f o.tables (Ok f) ref) (locked_keeps v.post.vcpu 3 three_four three_five u y f o.tables (Ok (Table level found)) lock) telling).same
 
     -- what the write is then
-    abbrev here : Bool → Outcome
+    abbrev pub here : Bool → Outcome
     here b = if b then stopped (Numbers (refusals.Slot i)) x else write_entry n o f i word keep x
 
-    is_here : write_word n o f i word keep x ≡ here (is_slot (level_type level) i)
+    pub is_here : write_word n o f i word keep x ≡ here (is_slot (level_type level) i)
     is_here =
         ap (λ t. looked_by t x (λ s. write_by n o f i word keep s (s.frames.kinds f))) (fine_by k v y x clean o.tables f (ref.plain telling).0)
         ∙ (ap (λ b. if b then here (is_slot (p.kinds f).kind i) else write_memory n o.tables f i word x) lockable ∙ ap (λ t. here (is_slot t i)) typed)
 
-    -- ---- the lock goes off again, and nothing changed
-    tells_y : is_telling y ≡ true
-    tells_y = came_telling v y to_y ∙ telling
+    -- ---- the lock goes off again, and nothing is changed
+    machine_y : y.post.machine ≡ n
+    machine_y = machine_same v y to_y
 
-    same_y : y.post.machine ≡ n
-    same_y = machine_same v y to_y
+    telling_y : is_telling y ≡ true
+    telling_y = came_telling v y to_y ∙ telling
+
+    off_first : LeftLock y f level w → told_word w (old_place w.post.vcpu First) ≡ 0
+    off_first gone =
+        subst (λ (j : Post). told_word w (old_place j.vcpu First) ≡ 0) (sym (came_post y w (lock_came y w f level gone)))
+        (lock_leaves n y w f level q machine_y telling_y described held gone (old_place y.post.vcpu First) refl (λ e. cc) ∙ keeps_first)
+
+    off_second : LeftLock y f level w → told_word w (old_place v.post.vcpu Second) ≡ told_word v (old_place v.post.vcpu Second)
+    off_second gone = lock_leaves n y w f level q machine_y telling_y described held gone (old_place v.post.vcpu Second) refl (λ e. cc) ∙ keeps_second
+
+    off_frames : LeftLock y f level w → Describes n (told_word w) p
+    off_frames gone =
+        described_same n (told_word w) (off f q) p (off_again k v u y p o.tables f level found clean.stands.machine clean.stands.alone calm clean.frames ref lock)
+        (lock_goes n y w f level q machine_y telling_y described held low gone)
 
     pub slot_left : LeftLock y f level w → Owes w x
-    slot_left off_it =
-        let back = described_same n (told_word w) (off f q) p (off_again k v u y p o.tables f level found clean.stands.machine clean.stands.alone calm clean.frames ref lock) (lock_goes n y w f level q same_y tells_y described held low off_it) in
-        let first = lock_leaves n y w f level q same_y tells_y described held off_it (old_place y.post.vcpu First) refl (λ e. cc) ∙ keeps_first in
-        let second = lock_leaves n y w f level q same_y tells_y described held off_it (old_place v.post.vcpu Second) refl (λ e. cc) ∙ keeps_second in
-        owes_left k v w x clean came others rests second x.frames clean.stands.unkept (now (subst (λ (j : Post). told_word w (old_place j.vcpu First) ≡ 0) (sym (came_post y w (lock_came y w f level off_it))) first) back)
+    slot_left gone = owes_left k v w x clean others (off_second gone) p clean.stands.unkept (now (off_first gone) (off_frames gone))
 
-    -- ---- the entry is exchanged
+    -- ---- its entry is exchanged
+    abbrev t : EntryUpdate
+    t = entry_update f level i word keep
+
+    inside : f < n.frames
+    inside = (lends k v u y p o.tables f level found clean.stands.machine clean.stands.alone calm clean.frames ref lock).inside
+
     unkept_q : IsUnkept n q
-    unkept_q g inside =
-        by_kind g f (locked_kind (p.kinds f)) more (clean.stands.unkept f (lends k v u y p o.tables f level found clean.stands.machine clean.stands.alone calm clean.frames ref lock).inside) (clean.stands.unkept g inside)
+    unkept_q = unkept_kind n f (locked_kind (p.kinds f)) more (clean.stands.unkept f inside) clean.stands.unkept
 
-    abbrev after : PlainOutcome
-    after = exchanged_plain v.post.machine (entry_update f level i word keep) o q
+    module _ (Kept : PortValue → Solo → Type 0) (high : level ≤ 4) where
+      entry_is : write_entry n o f i word keep x ≡ behind (with_frames more x) (exchanged_plain n t o q) did
+      entry_is =
+          ap (λ a. behind x a (λ s. exchange_at n o (type_number (s.frames.kinds f).kind) f i word keep s)) takes
+          ∙ ap (λ l. exchange_at n o l f i word keep (with_frames more x)) (ap type_number typed ∙ number_of level low high)
 
-    is_entry : level ≤ 4 → write_entry n o f i word keep x ≡ behind_by (with_frames more x) after after.refusal did
-    is_entry high =
-        ap (λ (t : PlainOutcome). behind_by x t t.refusal (λ s. exchange_at n o (type_number (s.frames.kinds f).kind) f i word keep s)) takes
-        ∙ ap (λ l. exchange_at n o l f i word keep (with_frames more x)) (ap type_number typed ∙ number_of level low high)
+      entry_ends : (answers : List Bool) (answer : Result (Unit {0}) Stop) → IsUnlost answer → Exchanged y t o w answers answer → PausedExchange y w t o answers answer ⊎ Comes2 y.post.machine y w (exchanged_plain y.post.machine t o q) answer
+      entry_ends answers answer unlost went =
+          exchange_ends k y w t o q (subst IsMachine (sym machine_y) clean.stands.machine) (k.stays v y clean.stands.alone to_y) (subst (λ (j : Machine). length j.vcpu_domain ≡ 1) (sym machine_y) clean.stands.only)
+          (subst (λ (j : Machine). IsAtRest j (told_word y)) (sym machine_y) (calm_y k v u y p o.tables f level found clean.stands.machine clean.stands.alone calm clean.frames ref lock)) keeps_first
+          (subst (λ (j : Machine). Describes j (told_word y) q) (sym machine_y) described) held low high (λ m met at. goes m (met_after v y w m to_y met) at) answers answer unlost went
 
-    entry_done : (Kept : PortValue → Solo → Type 0) (answer : Result (Unit {0}) Stop) → level ≤ 4 → Comes2 y.post.machine y w (exchanged_plain y.post.machine (entry_update f level i word keep) o q) answer → Comes Kept w x (write_entry n o f i word keep x) answer
-    entry_done Kept answer high c =
-        let comes = subst (λ (j : Machine). ComesSo j w (exchanged_plain j (entry_update f level i word keep) o q) answer) same_y c.comes in
-        let second = subst (λ (j : Post). told_word w (old_place j.vcpu Second) ≡ told_word y (old_place j.vcpu Second)) (came_post v y to_y) c.second ∙ keeps_second in
-        subst (λ t. Comes Kept w x t answer) (sym (is_entry high))
-        (outcome_comes k v w x clean came others rests second Kept after more answer (unkept_exchanged n (owner_at level o.tables o.frames) (place_in (entry_update f level i word keep)) (word_kept keep (p.cells f i) word) q unkept_q) comes)
+      ends_second : told_word w (old_place y.post.vcpu Second) ≡ told_word y (old_place y.post.vcpu Second) → told_word w (old_place v.post.vcpu Second) ≡ told_word v (old_place v.post.vcpu Second)
+      ends_second same = subst (λ (j : Post). told_word w (old_place j.vcpu Second) ≡ told_word y (old_place j.vcpu Second)) (came_post v y to_y) same ∙ keeps_second
 
-    pub entry_ends : (Kept : PortValue → Solo → Type 0) (answers : List Bool) (answer : Result (Unit {0}) Stop) → level ≤ 4 → IsUnlost answer → Exchanged y (entry_update f level i word keep) o w answers answer →
-        PausedExchange y w (entry_update f level i word keep) o answers answer ⊎ Comes Kept w x (write_entry n o f i word keep x) answer
-    entry_ends Kept answers answer high unlost went =
-        elim (exchange_ends k y w (entry_update f level i word keep) o q (subst IsMachine (sym same_y) clean.stands.machine) (k.stays v y clean.stands.alone to_y) (subst (λ (j : Machine). length j.vcpu_domain ≡ 1) (sym same_y) clean.stands.only)
-        (subst (λ (j : Machine). IsAtRest j (told_word y)) (sym same_y) (calm_y k v u y p o.tables f level found clean.stands.machine clean.stands.alone calm clean.frames ref lock)) keeps_first
-        (subst (λ (j : Machine). Describes j (told_word y) q) (sym same_y) described) held low high (λ m met at. goes m (met_after v y w m to_y met) at) answers answer unlost went) [
-          | inl paused ↦ inl paused
-          | inr c ↦ inr (entry_done Kept answer high c)
-        ]
+      ends_so : (answer : Result (Unit {0}) Stop) → Comes2 y.post.machine y w (exchanged_plain y.post.machine t o q) answer → Comes Kept w x (write_entry n o f i word keep x) answer
+      ends_so answer c =
+          subst (λ a. Comes Kept w x a answer) (sym entry_is)
+          (outcome_comes k v w x clean others (ends_second c.second) Kept (exchanged_plain n t o q) more answer
+          (unkept_exchanged n (owner_at level o.tables o.frames) (place_in t) (word_kept keep (p.cells f i) word) q unkept_q)
+          (subst (λ (j : Machine). ComesSo j w (exchanged_plain j t o q) answer) machine_y c.comes))
+
+      pub entry_comes : (answers : List Bool) (answer : Result (Unit {0}) Stop) → Exchanged y (entry_update f level i word keep) o w answers answer → IsUnlost answer →
+          PausedExchange y w (entry_update f level i word keep) o answers answer ⊎ Comes Kept w x (write_entry n o f i word keep x) answer
+      entry_comes answers answer went unlost = elim (entry_ends answers answer unlost went) [
+        | inl paused ↦ inl paused
+        | inr c ↦ inr (ends_so answer c)
+      ]

@@ -1,5 +1,5 @@
 -- A word of a live table is written, from a port at which nothing is left to be settled: refused as the hypervisor's, or its entry exchanged.
-use Rattle.solo_entries.specs.Exchanges.{ComesSo, IsLockedTable, IsUnlost, LeavesFrames, later, now}
+use Rattle.solo_entries.specs.Exchanges.{ComesSo, IsLockedTable, LeavesFrames, later, now}
 use Rattle.std.proofs.Common.{◌≡◌, ◌⊎◌, ◌≤◌, ◌<◌, ℕ, ◌-◌, ◌&&◌, nat_lt, Bool, true, false, List, length, Result, Ok, Err, IsTrue, refl, sym, ap, ◌∙◌, subst, arith, inl, inr}
 use Rattle.std.proofs.Math.Path.{fun_ext}
 use Rattle.std.proofs.lemmas.Bool.{and_parts}
@@ -13,7 +13,6 @@ use Rattle.xp_words.specs.declared.reply.Refusal.TheVariants as refusals
 use Rattle.xp_words.specs.declared.reply.Stop.{Stop}
 use Rattle.xp_words.specs.declared.reply.Stop.TheVariants.{Refused, Paused}
 use Rattle.xp_board.specs.Told.{Post, PortValue, is_telling, told_word}
-use Rattle.step_maker.specs.Holds.{Rests}
 use Rattle.step_maker.specs.Moves.{Came}
 use Rattle.step_maker.specs.Plain.{Words}
 use Rattle.step_maker.proofs.Coming.{came_post, came_trans, met_after, met_before, moves_came, came_self}
@@ -41,8 +40,7 @@ use Rattle.course_laws.specs.Courses.{ClockGoesOn}
 use Rattle.release_laws.specs.Pauses.{IsLeft}
 use Rattle.script_law.specs.Values.{Frames, Solo, behind_by, did, with_frames}
 use Rattle.solo_ports.specs.Coming.{Comes, IsDoneSo, IsRefusedSo}
-use Rattle.solo_ports.specs.Standing.{Clean, IsUnkept, Owes, ShowsOthers, Stands, a_release, nothing}
-use Rattle.solo_ports.proofs.Staying.{others_with, stands_at}
+use Rattle.solo_ports.specs.Standing.{Clean, IsUnkept, Owes, Stands, a_release, nothing}
 use Rattle.solo_entries.proofs.Demanding.{PausedDemand, TookSo, demand_comes, demand_second}
 use Rattle.solo_entries.proofs.Entries.{bad_comes, done_comes, same_comes, untaken_comes, held_cell}
 use Rattle.solo_entries.proofs.Exchanging.{unlocked_second, held_meet, given_came, given_keeps}
@@ -50,21 +48,22 @@ use Rattle.solo_entries.proofs.Holding.{off}
 use Rattle.solo_entries.proofs.Known.{Known}
 use Rattle.solo_entries.proofs.Locking.{lock_leaves}
 use Rattle.solo_entries.proofs.Olds.{KeepsSecond, puts_keeps, three_four, three_five}
-use Rattle.solo_entries.proofs.Standing.{machine_same}
+use Rattle.solo_entries.proofs.Standing.{KeepsOthers, machine_same, stands_behind}
+use Rattle.solo_entries.proofs.Stopping.{IsUnlost}
 use Rattle.table_law.specs.Exchange.{with_cell}
 
 -- ---- what is left, as a port stands, behind steps that change nothing but the frames
-module _ (k : Known) (v w : PortValue) (x : Solo) (clean : Clean v x) (came : Came v w) (others : ShowsOthers v.post.machine v.post.vcpu (told_word w) x) (rests : Rests w)
+module _ (k : Known) (v w : PortValue) (x : Solo) (clean : Clean v x) (others : KeepsOthers v w x)
     (second : told_word w (old_place v.post.vcpu Second) ≡ told_word v (old_place v.post.vcpu Second)) where
   stands_left : (q : Plain) → IsUnkept v.post.machine q → Stands w (with_frames q x)
-  stands_left q unkept = stands_at k.stays v w x (with_frames q x) clean.stands came rests.empty (second ∙ clean.stands.second) (others_with v.post.machine v.post.vcpu (told_word w) x q others) unkept
+  stands_left q unkept = stands_behind k v w x q clean.stands others second unkept
 
   pub owes_left : (q : Plain) → IsUnkept v.post.machine q → LeavesFrames v.post.machine w q → Owes w (with_frames q x)
   owes_left q unkept (now first d) =
-      let same = came_post v w came in
+      let same = came_post v w others.came in
       nothing (record { stands = stands_left q unkept; first = first; frames = subst (λ (o : Post). Describes o.machine (told_word w) q) (sym same) d })
   owes_left q unkept (later g l left) =
-      let same = came_post v w came in
+      let same = came_post v w others.came in
       a_release g l (stands_left q unkept) (subst (λ (o : Post). IsLeft o.machine w g l q) (sym same) left)
 
   -- an outcome on the frames alone, behind other frames

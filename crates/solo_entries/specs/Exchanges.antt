@@ -1,7 +1,6 @@
 -- What an exchange of an entry comes to, and what it takes of its table.
 use Rattle.std.specs.Prelude.{◌≡◌, ◌≤◌, ℕ, true, None, Some, Result, Ok, Err}
 use Rattle.xp_words.specs.Machine.{Machine}
-use Rattle.xp_words.specs.declared.reply.Pause.TheVariants.{Lost}
 use Rattle.xp_words.specs.declared.reply.Refusal.{Refusal}
 use Rattle.xp_words.specs.declared.reply.Stop.{Stop}
 use Rattle.xp_words.specs.declared.reply.Stop.TheVariants.{Refused, Paused}
@@ -34,8 +33,3 @@ abbrev pub ComesSo : Machine → PortValue → PlainOutcome → Result (Unit {0}
 ComesSo n w a (Ok done) = (a.refusal ≡ None) × LeavesFrames n w a.left
 ComesSo n w a (Err (Refused y)) = RefusedSo n w y a
 ComesSo n w a (Err (Paused x)) = ⊥
-
--- it was not paused for an exchange that was lost
-abbrev pub IsUnlost : Result (Unit {0}) Stop → Type 0
-IsUnlost (Err (Paused (Lost place e found))) = ⊥
-IsUnlost _ = Unit {0}

@@ -1,10 +1,11 @@
 //! Machine-to-physical words, and entries of locked tables.
-ghost use Rattle.std.specs.Prelude.{◌≡◌, ◌≢◌, ◌≤◌, ℕ, Bool, List, Result, Err, length};
+ghost use Rattle.std.specs.Prelude.{◌≡◌, ◌≢◌, ◌≤◌, ℕ, Bool, List, Result, Err, IfErr, length};
 ghost use Rattle.xp_words.specs.Machine.{IsMachine};
 ghost use Rattle.xp_words.specs.declared.reply.Pause.TheVariants.{Due};
 ghost use Rattle.xp_words.specs.declared.reply.Stop.{Stop};
 ghost use Rattle.xp_words.specs.declared.reply.Stop.TheVariants.{Paused};
 ghost use Rattle.xp_board.specs.Told.{PortValue, told_word};
+ghost use Rattle.step_maker.specs.Answers.{Stops};
 ghost use Rattle.step_maker.specs.Holds.{Rests};
 ghost use Rattle.answer_laws.specs.Alone.{IsAlone};
 ghost use Rattle.table_words.specs.OldWords.{old_place};
@@ -15,6 +16,7 @@ ghost use Rattle.course_laws.specs.Courses.{ClockGoesOn};
 ghost use Rattle.m2p_map.specs.Found.{SetFound};
 ghost use Rattle.m2p_map.specs.Maps.{TwinSet};
 ghost use Rattle.foreign_map.specs.declared.owners.Owners.{Owners};
+ghost use Rattle.entry_exchange.specs.Asking.{of_exchange};
 ghost use Rattle.entry_exchange.specs.Course.{Exchanged};
 ghost use Rattle.entry_exchange.specs.declared.exchanging.EntryUpdate.{EntryUpdate};
 ghost use Rattle.exchange_laws.specs.Plain.{exchanged_plain};
@@ -22,7 +24,7 @@ ghost use Rattle.script_law.specs.Frames.{set_map};
 ghost use Rattle.script_law.specs.Values.{Solo};
 ghost use Rattle.solo_ports.specs.Coming.{Comes};
 ghost use Rattle.solo_ports.specs.Standing.{Clean};
-ghost use Rattle.solo_entries.specs.Exchanges.{ComesSo, IsLockedTable, IsUnlost};
+ghost use Rattle.solo_entries.specs.Exchanges.{ComesSo, IsLockedTable};
 
 use answer_laws::{a_call_alone_is_neither_lost_nor_busy, alone_stays, nobody_is_waited_for};
 use refusal_laws::{
@@ -51,7 +53,8 @@ pub fn a_machine_to_physical_update_comes_to_its_plain_meaning()
 /// of what the old entry asked, which is still to be settled. The lock goes off. At level 1 no exchange is paused.
 pub fn an_exchange_in_one_turn_comes_to_the_plain_one()
     ensures { (y w : PortValue) (t : EntryUpdate) (o : Owners) (q : Plain) (answers : List Bool) (answer : Result (Unit {0}) Stop) → IsMachine y.post.machine → IsAlone y → length y.post.machine.vcpu_domain ≡ 1 → IsAtRest y.post.machine (told_word y) →
-        told_word y (old_place y.post.vcpu First) ≡ 0 → Describes y.post.machine (told_word y) q → IsLockedTable t.table q → 1 ≤ t.level → t.level ≤ 4 → ClockGoesOn y w → Exchanged y t o w answers answer → IsUnlost answer → answer ≢ Err (Paused Due) →
+        told_word y (old_place y.post.vcpu First) ≡ 0 → Describes y.post.machine (told_word y) q → IsLockedTable t.table q → 1 ≤ t.level → t.level ≤ 4 → ClockGoesOn y w → Exchanged y t o w answers answer →
+        IfErr answer (λ e. Stops y w (of_exchange t o answer) e) → answer ≢ Err (Paused Due) →
         ComesSo y.post.machine w (exchanged_plain y.post.machine t o q) answer }
 {
     alone_stays();
