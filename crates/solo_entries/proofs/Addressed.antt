@@ -221,7 +221,7 @@ module _ (k : Known) (v w : PortValue) (x : Solo) (o : Owners) (va word : ℕ) (
     led answers answer came others unlost enters =
         let same = came_post v u to_u in
         let there = entered_comes k u w x o table va word loads.1 (λ m met at. goes m (met_after v u w m to_u met) at)
-            (record { came = came; others = subst (λ (j : Post). ShowsOthers j.machine j.vcpu (told_word w) x) (sym same) others.others; rests = others.rests }) answers answer unlost enters in
+        (record { came = came; others = subst (λ (j : Post). ShowsOthers j.machine j.vcpu (told_word w) x) (sym same) others.others; rests = others.rests }) answers answer unlost enters in
         let here = subst (λ (j : Post). Comes (λ u s. ⊥) w x (update_entry j.machine o va word x (Ok table)) answer) same there in
         subst (λ t. Comes (λ u s. ⊥) w x (allowed t x (update (table_at v.post.machine va x (x.own 0)))) answer) (sym loads.0.0) (subst (λ t. Comes (λ u s. ⊥) w x (update t) answer) (sym loads.0.1) here)
 
