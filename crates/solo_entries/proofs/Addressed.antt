@@ -24,6 +24,7 @@ use Rattle.entry_exchange.specs.Holding.{owner_at}
 use Rattle.entry_exchange.specs.Words.{word_kept}
 use Rattle.entry_exchange.specs.declared.exchanging.EntryUpdate.{EntryUpdate}
 use Rattle.entry_locks.specs.Locks.{is_lockable}
+use Rattle.entry_locks.specs.declared.locking.Locked.{Locked}
 use Rattle.entry_locks.specs.declared.locking.Locked.TheVariants.{Table, Other}
 use Rattle.exchange_laws.proofs.Going.{demand_came}
 use Rattle.exchange_laws.proofs.Putting.{put_came}
@@ -88,13 +89,16 @@ exchange_came y _ t o _ _ tells unlost (course.done u z a b w seen was answers m
     let to_b = came_trans y a b (came_trans y z a to_z (put_came z a t.table t.index seen (word_kept t.keep seen t.word) t.keep (Ok was) puts)) (lock_came a b t.table t.level lock) in
     came_trans y b w to_b (given_came b (old_demand t was) w more (came_telling y b to_b ∙ tells) gone)
 
+tried_came : (v u y : PortValue) (f owner : ℕ) (r : Result Locked Stop) → GotRef v u f owner (Ok f) → TriedLock u y f owner r → Came v y
+tried_came v u y f owner r ref lock = came_trans v u y (ref_came v u f owner (Ok f) ref) (does_came u y _ lock.found)
+
 entered_came : (v w : PortValue) (o : Owners) (f i word : ℕ) (answers : List Bool) (answer : Result (Unit {0}) Stop) → is_telling v ≡ true → IsUnlost answer → EnteredAt v o f i word w answers answer → Came v w
 entered_came v _ o f i word _ _ tells unlost (ways.unreferred w stop ref) = ref_came v w f o.tables (Err stop) ref
-entered_came v _ o f i word _ _ tells unlost (ways.unlocked u y w stop ref lock gave) = came_trans v y w (came_trans v u y (ref_came v u f o.tables (Ok f) ref) (does_came u y _ lock.found)) (gave_came y w f gave)
-entered_came v _ o f i word _ _ tells unlost (ways.other u y w found ref lock gave) = came_trans v y w (came_trans v u y (ref_came v u f o.tables (Ok f) ref) (does_came u y _ lock.found)) (gave_came y w f gave)
-entered_came v _ o f i word _ _ tells unlost (ways.level u y w level found ref lock off left) = came_trans v y w (came_trans v u y (ref_came v u f o.tables (Ok f) ref) (does_came u y _ lock.found)) (lock_came y w f level left)
+entered_came v _ o f i word _ _ tells unlost (ways.unlocked u y w stop ref lock gave) = came_trans v y w (tried_came v u y f o.tables (Err stop) ref lock) (gave_came y w f gave)
+entered_came v _ o f i word _ _ tells unlost (ways.other u y w found ref lock gave) = came_trans v y w (tried_came v u y f o.tables (Ok (Other found)) ref lock) (gave_came y w f gave)
+entered_came v _ o f i word _ _ tells unlost (ways.level u y w level found ref lock off left) = came_trans v y w (tried_came v u y f o.tables (Ok (Table level found)) ref lock) (lock_came y w f level left)
 entered_came v _ o f i word _ _ tells unlost (ways.exchanged u y w found answers answer ref lock went) =
-    let to_y = came_trans v u y (ref_came v u f o.tables (Ok f) ref) (does_came u y _ lock.found) in
+    let to_y = tried_came v u y f o.tables (Ok (Table 1 found)) ref lock in
     came_trans v y w to_y (exchange_came y w (entry_update f 1 i word false) o answers answer (came_telling v y to_y ∙ tells) unlost went)
 
 -- ---- the table is entered
@@ -109,10 +113,13 @@ module _ (k : Known) (v w : PortValue) (x : Solo) (o : Owners) (f va word : ℕ)
   abbrev here : Bool → Outcome
   here b = if b then write_entry v.post.machine o f (index_of va 1) word false x else stopped (Frames (OtherType f kinds.L1 (x.frames.kinds f))) x
 
+  abbrev looked_so : Solo → Outcome
+  looked_so s =
+      if is_lockable (s.frames.kinds f) && is_type (s.frames.kinds f).kind kinds.L1 then write_entry v.post.machine o f (index_of va 1) word false s
+      else stopped (Frames (OtherType f kinds.L1 (s.frames.kinds f))) s
+
   is_here : refer n o.tables f (told_word v (Refs f)) ≡ None → update_entry n o va word x (Ok f) ≡ here (is_lockable (x.frames.kinds f) && is_type (x.frames.kinds f).kind kinds.L1)
-  is_here none =
-      ap (λ t. looked_by t x (λ s. if is_lockable (s.frames.kinds f) && is_type (s.frames.kinds f).kind kinds.L1 then write_entry n o f (index_of va 1) word false s else stopped (Frames (OtherType f kinds.L1 (s.frames.kinds f))) s))
-      (fine_by k v w x clean o.tables f none)
+  is_here none = ap (λ t. looked_by t x looked_so) (fine_by k v w x clean o.tables f none)
 
   -- it is none
   refused_type : (found : ℕ) → refer n o.tables f (told_word v (Refs f)) ≡ None → f < n.frames → found ≡ told_word v (Kind f) → (is_lockable (x.frames.kinds f) && is_type (x.frames.kinds f).kind kinds.L1) ≡ false → Owes w x →
@@ -124,9 +131,7 @@ module _ (k : Known) (v w : PortValue) (x : Solo) (o : Owners) (f va word : ℕ)
 
   -- ---- the reference is not to be had
   unreferred : (e : Stop) → GotRef v w f o.tables (Err e) → Comes (λ u s. ⊥) w x (update_entry n o va word x (Ok f)) (Err e)
-  unreferred (Refused z) ref =
-      unlooked k v w x clean o.tables f z (λ s. if is_lockable (s.frames.kinds f) && is_type (s.frames.kinds f).kind kinds.L1 then write_entry n o f (index_of va 1) word false s else stopped (Frames (OtherType f kinds.L1 (s.frames.kinds f))) s)
-      (ref.plain telling).0 (owes_same k v w x clean others.came (ref.plain telling).1 others.rests)
+  unreferred (Refused z) ref = unlooked k v w x clean o.tables f z looked_so (ref.plain telling).0 (owes_same k v w x clean others.came (ref.plain telling).1 others.rests)
   unreferred (Paused z) ref = absurd (ref.plain telling)
 
   -- ---- a frame that is no live table
@@ -135,7 +140,7 @@ module _ (k : Known) (v w : PortValue) (x : Solo) (o : Owners) (f va word : ℕ)
     found_is = (lock.plain (came_telling v u (ref_came v u f o.tables (Ok f) ref) ∙ telling)).0 ∙ (ref.plain telling).1 (Kind f)
 
     to_y : Came v y
-    to_y = came_trans v u y (ref_came v u f o.tables (Ok f) ref) (does_came u y _ lock.found)
+    to_y = tried_came v u y f o.tables (Ok (Other found)) ref lock
 
     words : Leaves y (got f (told_word v))
     words = memory.words k v w x o f 0 0 false clean u y found ref lock
@@ -197,11 +202,11 @@ module _ (k : Known) (v w : PortValue) (x : Solo) (o : Owners) (va word : ℕ) (
   abbrev update : Result ℕ Refusal → Outcome
   update t = update_entry v.post.machine o va word x t
 
-  abbrev whole : Outcome
-  whole = allowed (walk_refusal va) x (update_entry v.post.machine o va word x (table_at v.post.machine va x (x.own 0)))
+  abbrev Plainly : Result (Unit {0}) Stop → Type 0
+  Plainly answer = Comes (λ u s. ⊥) w x (allowed (walk_refusal va) x (update_entry v.post.machine o va word x (table_at v.post.machine va x (x.own 0)))) answer
 
   -- the loads lead to no table
-  unled : (e : Stop) → LoadsCome v.post.machine va x (Err e) → Clean w x → Comes (λ u s. ⊥) w x (allowed (walk_refusal va) x (update_entry v.post.machine o va word x (table_at v.post.machine va x (x.own 0)))) (Err e)
+  unled : (e : Stop) → LoadsCome v.post.machine va x (Err e) → Clean w x → Plainly (Err e)
   unled (Refused z) (inl barred) left = subst (λ t. IsRefusedSo w z (allowed t x (update (table_at v.post.machine va x (x.own 0))))) (sym barred) (record { why = Numbers z; is = refl; same = refl; none = refl; owes = nothing left })
   unled (Refused z) (inr (free, is)) left =
       subst (λ t. IsRefusedSo w z (allowed t x (update (table_at v.post.machine va x (x.own 0))))) (sym free)
@@ -216,8 +221,7 @@ module _ (k : Known) (v w : PortValue) (x : Solo) (o : Owners) (va word : ℕ) (
     loads : LoadsCome v.post.machine va x (Ok table) × Clean u x
     loads = loads_come k.stays v u x va clean (Ok table) leads
 
-    led : (answers : List Bool) (answer : Result (Unit {0}) Stop) → Came u w → KeepsOthers v w x → IsUnlost answer → EnteredAt u o table (index_of va 1) word w answers answer →
-        Comes (λ u s. ⊥) w x (allowed (walk_refusal va) x (update_entry v.post.machine o va word x (table_at v.post.machine va x (x.own 0)))) answer
+    led : (answers : List Bool) (answer : Result (Unit {0}) Stop) → Came u w → KeepsOthers v w x → IsUnlost answer → EnteredAt u o table (index_of va 1) word w answers answer → Plainly answer
     led answers answer came others unlost enters =
         let same = came_post v u to_u in
         let there = entered_comes k u w x o table va word loads.1 (λ m met at. goes m (met_after v u w m to_u met) at)
@@ -225,7 +229,7 @@ module _ (k : Known) (v w : PortValue) (x : Solo) (o : Owners) (va word : ℕ) (
         let here = subst (λ (j : Post). Comes (λ u s. ⊥) w x (update_entry j.machine o va word x (Ok table)) answer) same there in
         subst (λ t. Comes (λ u s. ⊥) w x (allowed t x (update (table_at v.post.machine va x (x.own 0)))) answer) (sym loads.0.0) (subst (λ t. Comes (λ u s. ⊥) w x (update t) answer) (sym loads.0.1) here)
 
-  updated_comes : (answers : List Bool) (answer : Result (Unit {0}) Stop) → UpdatesAt o va word v w answers answer → Comes (λ u s. ⊥) w x (allowed (walk_refusal va) x (update_entry v.post.machine o va word x (table_at v.post.machine va x (x.own 0)))) answer
+  updated_comes : (answers : List Bool) (answer : Result (Unit {0}) Stop) → UpdatesAt o va word v w answers answer → Plainly answer
   updated_comes answers answer a =
       by a.table answers answer a.course (keeps_others v w x (of_at o va a.table word answer) a.serves.0 clean.stands a.serves.2 (at_quiet v.post.machine v.post.vcpu o va a.table word answer a.serves.0 a.serves.1) a.rests)
       (unlost_alone k v w (of_at o va a.table word answer) answer clean.stands.alone refl a.stops)
@@ -233,8 +237,7 @@ module _ (k : Known) (v w : PortValue) (x : Solo) (o : Owners) (va word : ℕ) (
       telling : is_telling v ≡ true
       telling = alone_telling v clean.stands.alone
 
-      by : (table : ℕ) (answers : List Bool) (answer : Result (Unit {0}) Stop) → UpdatedAt v o va word table w answers answer → KeepsOthers v w x → IsUnlost answer →
-          Comes (λ u s. ⊥) w x (allowed (walk_refusal va) x (update_entry v.post.machine o va word x (table_at v.post.machine va x (x.own 0)))) answer
+      by : (table : ℕ) (answers : List Bool) (answer : Result (Unit {0}) Stop) → UpdatedAt v o va word table w answers answer → KeepsOthers v w x → IsUnlost answer → Plainly answer
       by table _ _ (ways.unled _ stop out leads) others unlost = let l = loads_come k.stays v w x va clean (Err stop) leads in unled stop l.0 l.1
       by table _ _ (ways.led u _ answers answer leads enters) others unlost =
           let tells = came_telling v u (to_u u table leads) ∙ telling in
