@@ -20,3 +20,4 @@ mod Enduring
 mod Relocking
 mod Writes
 mod Pairs
+mod Addressed

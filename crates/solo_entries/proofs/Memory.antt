@@ -86,7 +86,7 @@ module _ (k : Known) (v w : PortValue) (x : Solo) (o : Owners) (f i word : ℕ) 
   telling : is_telling v ≡ true
   telling = alone_telling v clean.stands.alone
 
-  none : refer n o.tables f (m (Refs f)) ≡ None
+  pub none : refer n o.tables f (m (Refs f)) ≡ None
   none = (ref.plain telling).0
 
   came_u : Came v u
@@ -98,14 +98,14 @@ module _ (k : Known) (v w : PortValue) (x : Solo) (o : Owners) (f i word : ℕ) 
   came_y : Came v y
   came_y = came_trans v u y came_u (does_came u y _ lock.found)
 
-  words : Leaves y (got f (told_word v))
+  pub words : Leaves y (got f (told_word v))
   words q = (lock.plain telling_u).3 q ∙ (ref.plain telling).1 q
 
-  real : f < n.frames
+  pub real : f < n.frames
   real = inside v o.tables p clean.stands.machine telling (clean_rests v x clean) (clean_orderly v x clean) clean.frames f y none words came_y
 
   -- it is none of the live tables
-  ordinary : is_lockable (p.kinds f) ≡ false
+  pub ordinary : is_lockable (p.kinds f) ≡ false
   ordinary =
       ap is_lockable (clean.frames.kinds f real) ∙ (sober_lockable (kind_fields (m (Kind f)))
       ∙ (ap (λ z. is_lockable (kind_fields z)) (sym ((lock.plain telling_u).0 ∙ (ref.plain telling).1 (Kind f))) ∙ (lock.plain telling_u).1))

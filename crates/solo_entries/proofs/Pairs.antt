@@ -27,6 +27,8 @@ use Rattle.solo_entries.proofs.Capping.{above, capped}
 use Rattle.solo_entries.proofs.Known.{Known}
 use Rattle.solo_entries.proofs.Memory.{memory_stopped, memory_stored}
 use Rattle.solo_entries.proofs.Serving.{write_quiet}
+use Rattle.solo_entries.proofs.Standing.{KeepsOthers, keeps_others}
+use Rattle.solo_entries.proofs.Stopping.{unlost_alone}
 use Rattle.solo_entries.proofs.Writes.{PausedWrite, entry_comes, here, is_here, low, slot_left, unlocked, unreferred}
 
 -- a table of a level above 4 that was locked is one of level 4
@@ -38,15 +40,18 @@ module _ (k : Known) (Kept : PortValue → Solo → Type 0) (v w : PortValue) (x
   abbrev Plainly : Result (Unit {0}) Stop → Type 0
   Plainly answer = Comes Kept w x (write_word v.post.machine o f i word keep x) answer
 
+  others : KeepsOthers v w x
+  others = keeps_others v w x r ds clean.stands serves quiet rests
+
   slot_comes : (u y : PortValue) (level found : ℕ) → GotRef v u f o.tables (Ok f) → TriedLock u y f o.tables (Ok (Table level found)) → is_slot (level_type level) i ≡ true → LeftLock y f level w → Plainly (Err (Refused (refusals.Slot i)))
   slot_comes u y level found ref lock slot gone =
-      subst (IsRefusedSo w (refusals.Slot i)) (sym (is_here k v w x o f i word keep clean goes r ds serves quiet rests u y level found ref lock ∙ ap (here k v w x o f i word keep clean goes r ds serves quiet rests u y level found ref lock) slot))
-      (record { why = Numbers (refusals.Slot i); is = refl; same = refl; none = refl; owes = slot_left k v w x o f i word keep clean goes r ds serves quiet rests u y level found ref lock gone })
+      subst (IsRefusedSo w (refusals.Slot i)) (sym (is_here k v w x o f i word keep clean goes others u y level found ref lock ∙ ap (here k v w x o f i word keep clean goes others u y level found ref lock) slot))
+      (record { why = Numbers (refusals.Slot i); is = refl; same = refl; none = refl; owes = slot_left k v w x o f i word keep clean goes others u y level found ref lock gone })
 
   by_entry : (u y : PortValue) (level found : ℕ) (answers : List Bool) (answer : Result (Unit {0}) Stop) → level ≤ 4 → GotRef v u f o.tables (Ok f) → TriedLock u y f o.tables (Ok (Table level found)) → is_slot (level_type level) i ≡ false →
       Exchanged y (entry_update f level i word keep) o w answers answer → IfErr answer (λ e. Stops v w r e) → PausedWrite v w o f i word keep answers answer ⊎ Plainly answer
   by_entry u y level found answers answer high ref lock slot went stops =
-      elim (entry_comes k v w x o f i word keep clean goes r ds serves quiet rests u y level found ref lock Kept high answers answer went stops) [
+      elim (entry_comes k v w x o f i word keep clean goes others u y level found ref lock Kept high answers answer went (unlost_alone k v w r answer clean.stands.alone quiet.destroys stops)) [
         | inl paused ↦ inl (record {
           referred = u;
           held = y;
@@ -54,13 +59,13 @@ module _ (k : Known) (Kept : PortValue → Solo → Type 0) (v w : PortValue) (x
           found = found;
           ref = ref;
           lock = lock;
-          low = low k v w x o f i word keep clean goes r ds serves quiet rests u y level found ref lock;
+          low = low k v w x o f i word keep clean goes others u y level found ref lock;
           high = high;
           open_slot = slot;
           paused = paused;
         })
         | inr comes ↦
-            let is = is_here k v w x o f i word keep clean goes r ds serves quiet rests u y level found ref lock ∙ ap (here k v w x o f i word keep clean goes r ds serves quiet rests u y level found ref lock) slot in
+            let is = is_here k v w x o f i word keep clean goes others u y level found ref lock ∙ ap (here k v w x o f i word keep clean goes others u y level found ref lock) slot in
             inr (subst (λ e. Comes Kept w x e answer) (sym is) comes)
       ]
 
@@ -75,8 +80,8 @@ module _ (k : Known) (Kept : PortValue → Solo → Type 0) (v w : PortValue) (x
   by_level u y (suc (suc (suc (suc zero)))) found answers answer ref lock slot went stops = by_entry u y (suc (suc (suc (suc zero)))) found answers answer (omega arith) ref lock slot went stops
 
   pub write_comes : (answers : List Bool) (answer : Result (Unit {0}) Stop) → Wrote v o f i word keep w answers answer → IfErr answer (λ e. Stops v w r e) → PausedWrite v w o f i word keep answers answer ⊎ Plainly answer
-  write_comes _ _ (pairs.unreferred _ stop ref) stops = inr (unreferred k v w x o f i word keep clean goes r ds serves quiet rests Kept stop ref)
-  write_comes _ _ (pairs.unlocked u y _ stop ref lock gave) stops = absurd (unlocked k v w x o f i word keep clean goes r ds serves quiet rests u y stop ref lock)
+  write_comes _ _ (pairs.unreferred _ stop ref) stops = inr (unreferred k v w x o f i word keep clean goes others Kept stop ref)
+  write_comes _ _ (pairs.unlocked u y _ stop ref lock gave) stops = absurd (unlocked k v w x o f i word keep clean goes others u y stop ref lock)
   write_comes _ _ (pairs.slot u y _ level found ref lock slot gone) stops = inr (slot_comes u y level found ref lock slot gone)
   write_comes _ _ (pairs.exchanged u y _ level found answers answer ref lock slot went) stops = by_level u y level found answers answer ref lock slot went stops
   write_comes _ _ (pairs.untaken u y _ found stop ref lock page) stops = inr (memory_stopped k v w x o f i word keep clean u y found ref lock r ds serves quiet rests Kept stop page goes)

@@ -1,5 +1,5 @@
--- A guest sees no word of a vCPU and no machine-to-physical word of a write.
-use Rattle.std.proofs.Common.{ℕ, List, [], ◌∷◌, ◌++◌, Bool, Result, refl, subst, inl, inr, sym}
+-- A guest sees no word of a vCPU and no machine-to-physical word of a write, or of an update by address.
+use Rattle.std.proofs.Common.{ℕ, false, List, [], ◌∷◌, ◌++◌, Bool, Result, refl, subst, inl, inr, sym}
 use Rattle.xp_words.specs.Machine.{Machine}
 use Rattle.xp_words.specs.Places.{place_at, sizes_of}
 use Rattle.xp_words.specs.declared.place.Place.{Place}
@@ -9,11 +9,16 @@ use Rattle.xp_words.specs.declared.reply.Stop.{Stop}
 use Rattle.xp_words.specs.declared.reply.Stop.TheVariants.{Refused, Paused}
 use Rattle.xp_board.specs.Lists.{EachOf, Member}
 use Rattle.step_maker.specs.Answers.{Deed, Misses, SetsEntry, SetsM2p, SetsWord, Writes, missed, missed_at}
-use Rattle.entry_exchange.specs.Asking.{IsHidden}
+use Rattle.entry_exchange.specs.Asking.{HasExchangeDeeds, IsHidden}
+use Rattle.entry_exchange.specs.Asking as asking
+use Rattle.entry_exchange.specs.declared.exchanging.EntryUpdate.{EntryUpdate}
 use Rattle.foreign_map.specs.declared.owners.Owners.{Owners}
+use Rattle.mmu_update.specs.Addresses.{of_at}
+use Rattle.mmu_update.specs.Course.{entry_update}
 use Rattle.mmu_update.specs.Elements.{HasUpdateDeeds, entered, stopped, stored, update_request}
 use Rattle.mmu_update.specs.declared.element.Element.TheVariants.{Write}
 use Rattle.solo_ports.specs.Standing.{IsQuiet}
+use Rattle.tlb_walks.specs.Addresses.{index_of}
 
 -- a deed on a cell, or an exchange that was lost
 abbrev IsSmall : Deed → Type 0
@@ -60,6 +65,22 @@ deeds_small n f i w keep _ _ (stopped _ _ _ _ e hidden is) = both_small hidden (
 pub write_quiet : (n : Machine) (s : ℕ) (o : Owners) (f i w : ℕ) (keep : Bool) (r : Result (Unit {0}) Stop) (ds : List Deed) → HasUpdateDeeds n (Write f i w keep) r ds → IsQuiet s (update_request o (Write f i w keep) r) ds
 write_quiet n s o f i w keep r ds has =
     let small = deeds_small n f i w keep r ds has in
+    record {
+      destroys = refl;
+      grants = refl;
+      pages = refl;
+      maps = λ g x m. each_small (SetsM2p g x) ds small m;
+      own = λ k x m. each_small (SetsWord s k x) ds small m;
+    }
+
+exchange_small : (n : Machine) (t : EntryUpdate) (r : Result (Unit {0}) Stop) (ds : List Deed) → HasExchangeDeeds n t r ds → EachOf IsSmall ds
+unfolding EachOf
+exchange_small n t _ _ (asking.stored seen old) = (tt, tt)
+exchange_small n t _ _ (asking.stopped e hidden is) = both_small hidden (missed n e) (hidden_small e hidden is) (missed_small n e)
+
+pub at_quiet : (n : Machine) (s : ℕ) (o : Owners) (va f w : ℕ) (r : Result (Unit {0}) Stop) (ds : List Deed) → HasExchangeDeeds n (entry_update f 1 (index_of va 1) w false) r ds → IsQuiet s (of_at o va f w r) ds
+at_quiet n s o va f w r ds has =
+    let small = exchange_small n (entry_update f 1 (index_of va 1) w false) r ds has in
     record {
       destroys = refl;
       grants = refl;

@@ -9,13 +9,15 @@ use Rattle.step_maker.specs.Moves.{Came}
 use Rattle.step_maker.specs.Plain.{Leaves, Words}
 use Rattle.step_maker.proofs.Alikes.{same_alike}
 use Rattle.step_maker.proofs.Coming.{came_post}
+use Rattle.step_maker.proofs.Piecing.{serves_came}
+use Rattle.answer_laws.proofs.Shared.{alone_telling}
 use Rattle.step_maker.specs.Holds.{Rests}
 use Rattle.frame_words.specs.Plain.{lowered, put, set_free}
 use Rattle.script_law.specs.Values.{Solo, with_frames}
-use Rattle.solo_ports.proofs.Staying.{stands_stay}
+use Rattle.solo_ports.proofs.Staying.{others_stay, others_with, stands_at, stands_stay}
 use Rattle.table_words.specs.OldWords.{old_place}
 use Rattle.table_words.specs.declared.old_words.OldWord.TheVariants.{First, Second}
-use Rattle.solo_ports.specs.Standing.{Clean, Owes, nothing, Stands, IsQuiet, IsUnkept}
+use Rattle.solo_ports.specs.Standing.{Clean, Owes, nothing, ShowsOthers, Stands, IsQuiet, IsUnkept}
 use Rattle.solo_ports.proofs.Along.{clean_on}
 use Rattle.step_maker.specs.Twins.{Alike}
 use Rattle.solo_entries.proofs.Known.{Known}
@@ -67,6 +69,19 @@ owes_same k v w x clean came leaves rests = nothing (clean_same k v w x clean ca
 pub stands_with : Known → (v w : PortValue) (x : Solo) (p : Plain) (r : Request) (ds : List Deed) → Stands v x → Serves v w r ds → IsQuiet v.post.vcpu r ds → Rests w → told_word w (old_place v.post.vcpu Second) ≡ told_word v (old_place v.post.vcpu Second) →
     IsUnkept v.post.machine p → Stands w (with_frames p x)
 stands_with k v w x p r ds stands serves quiet rests second unkept = stands_stay k.stays v w x p r ds stands serves quiet rests.empty (second ∙ stands.second) unkept
+
+-- Steps from v to w behind which nothing is in hand, and of x all but the frames is as before.
+pub record KeepsOthers (v w : PortValue) (x : Solo) : Type 0 where
+  pub came : Came v w
+  pub others : ShowsOthers v.post.machine v.post.vcpu (told_word w) x
+  pub rests : Rests w
+
+pub keeps_others : (v w : PortValue) (x : Solo) (r : Request) (ds : List Deed) → Stands v x → Serves v w r ds → IsQuiet v.post.vcpu r ds → Rests w → KeepsOthers v w x
+keeps_others v w x r ds s serves quiet rests = record { came = serves_came v w r ds serves; others = others_stay v w r ds (alone_telling v s.alone) serves x s.empty quiet s.others; rests = rests }
+
+pub stands_behind : Known → (v w : PortValue) (x : Solo) (p : Plain) → Stands v x → KeepsOthers v w x → told_word w (old_place v.post.vcpu Second) ≡ told_word v (old_place v.post.vcpu Second) → IsUnkept v.post.machine p → Stands w (with_frames p x)
+stands_behind k v w x p s others second unkept =
+    stands_at k.stays v w x (with_frames p x) s others.came others.rests.empty (second ∙ s.second) (others_with v.post.machine v.post.vcpu (told_word w) x p others.others) unkept
 
 pub clean_with : Known → (v w : PortValue) (x : Solo) (p : Plain) → Clean v x → Came v w → Stands w (with_frames p x) → told_word w (old_place v.post.vcpu First) ≡ told_word v (old_place v.post.vcpu First) → Describes v.post.machine (told_word w) p → Clean w (with_frames p x)
 clean_with k v w x p clean came stands first d =

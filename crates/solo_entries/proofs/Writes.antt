@@ -1,6 +1,6 @@
 -- A write, from a port at which nothing is left to be settled, comes to its plain meaning, where it is not paused.
 use Rattle.solo_entries.specs.Exchanges.{ComesSo, IsLockedTable, now}
-use Rattle.std.proofs.Common.{◌≡◌, ◌⊎◌, ◌≤◌, ◌<◌, ℕ, zero, suc, ◌&&◌, nat_lt, if◌then◌else◌, Bool, true, false, List, length, Result, Ok, Err, IfErr, IsTrue, refl, sym, ap, ◌∙◌, subst, arith, not, inl, inr}
+use Rattle.std.proofs.Common.{◌≡◌, ◌⊎◌, ◌≤◌, ◌<◌, ℕ, zero, suc, ◌&&◌, nat_lt, if◌then◌else◌, Bool, true, false, List, length, Result, Ok, Err, IsTrue, refl, sym, ap, ◌∙◌, subst, arith, not, inl, inr}
 use Rattle.std.proofs.lemmas.Bool.{and_parts}
 use Rattle.xp_words.specs.Entries.{is_slot}
 use Rattle.xp_words.specs.Machine.{IsMachine, Machine}
@@ -11,12 +11,8 @@ use Rattle.xp_words.specs.declared.reply.Stop.{Stop}
 use Rattle.xp_words.specs.declared.reply.Stop.TheVariants.{Refused, Paused}
 use Rattle.xp_board.specs.KindSteps.{locked_kind}
 use Rattle.xp_board.specs.Told.{Post, PortValue, is_telling, told_word}
-use Rattle.step_maker.specs.Answers.{Deed, Serves, Stops}
-use Rattle.step_maker.specs.Asked.{Request}
-use Rattle.step_maker.specs.Holds.{Rests}
 use Rattle.step_maker.specs.Moves.{Came}
 use Rattle.step_maker.proofs.Coming.{came_post, met_after}
-use Rattle.step_maker.proofs.Piecing.{serves_came}
 use Rattle.step_maker.proofs.Telling.{came_telling}
 use Rattle.answer_laws.proofs.Shared.{alone_telling}
 use Rattle.entry_exchange.specs.Course.{Exchanged, LeftLock}
@@ -42,7 +38,7 @@ use Rattle.course_laws.proofs.Extras.{described_same}
 use Rattle.script_law.specs.Frames.{exchange_at, under_lock, write_by, write_entry, write_memory, write_word}
 use Rattle.script_law.specs.Values.{Numbers, Outcome, Solo, behind, did, looked_by, stopped, with_frames}
 use Rattle.solo_ports.specs.Coming.{Comes}
-use Rattle.solo_ports.specs.Standing.{Clean, IsQuiet, IsUnkept, Owes}
+use Rattle.solo_ports.specs.Standing.{Clean, IsUnkept, Owes}
 use Rattle.solo_ports.proofs.Resting.{clean_rests}
 use Rattle.solo_ports.proofs.Unkept.{unkept_kind}
 use Rattle.solo_entries.proofs.Holding.{off}
@@ -50,8 +46,8 @@ use Rattle.solo_entries.proofs.Known.{Known}
 use Rattle.solo_entries.proofs.Locking.{at_y, calm_y, can_lock, came_y, held_y, kind_is, lends, lock_goes, lock_leaves, off_again}
 use Rattle.solo_entries.proofs.Mapping.{fine_by, unlooked}
 use Rattle.solo_entries.proofs.Olds.{keeps_then, locked_keeps, ref_keeps, three_five, three_four, two_five, two_four}
-use Rattle.solo_entries.proofs.Standing.{machine_same, owes_same}
-use Rattle.solo_entries.proofs.Stopping.{IsUnlost, unlost_alone}
+use Rattle.solo_entries.proofs.Standing.{KeepsOthers, machine_same, owes_same}
+use Rattle.solo_entries.proofs.Stopping.{IsUnlost}
 use Rattle.solo_entries.proofs.Unkept.{unkept_exchanged}
 use Rattle.solo_entries.proofs.Writing.{Comes2, PausedExchange, exchange_ends, outcome_comes, owes_left}
 
@@ -81,7 +77,7 @@ number_of (suc (suc (suc zero))) low high = refl
 number_of (suc (suc (suc (suc zero)))) low high = refl
 number_of (suc (suc (suc (suc (suc l))))) low high = absurd (omega (arith, high))
 
-module _ (k : Known) (v w : PortValue) (x : Solo) (o : Owners) (f i word : ℕ) (keep : Bool) (clean : Clean v x) (goes : ClockGoesOn v w) (r : Request) (ds : List Deed) (serves : Serves v w r ds) (quiet : IsQuiet v.post.vcpu r ds) (rests : Rests w) where
+module _ (k : Known) (v w : PortValue) (x : Solo) (o : Owners) (f i word : ℕ) (keep : Bool) (clean : Clean v x) (goes : ClockGoesOn v w) (others : KeepsOthers v w x) where
   abbrev n : Machine
   n = v.post.machine
 
@@ -91,13 +87,10 @@ module _ (k : Known) (v w : PortValue) (x : Solo) (o : Owners) (f i word : ℕ) 
   telling : is_telling v ≡ true
   telling = alone_telling v clean.stands.alone
 
-  came : Came v w
-  came = serves_came v w r ds serves
-
   -- ---- the reference is not to be had
   pub unreferred : (Kept : PortValue → Solo → Type 0) (e : Stop) → GotRef v w f o.tables (Err e) → Comes Kept w x (write_word n o f i word keep x) (Err e)
   unreferred Kept (Refused z) ref =
-      unlooked k v w x clean o.tables f z (λ s. write_by n o f i word keep s (s.frames.kinds f)) (ref.plain telling).0 (owes_same k v w x clean came (ref.plain telling).1 rests)
+      unlooked k v w x clean o.tables f z (λ s. write_by n o f i word keep s (s.frames.kinds f)) (ref.plain telling).0 (owes_same k v w x clean others.came (ref.plain telling).1 others.rests)
   unreferred Kept (Paused z) ref = absurd (ref.plain telling)
 
   -- ---- the frame is in nobody else's hands
@@ -120,10 +113,10 @@ module _ (k : Known) (v w : PortValue) (x : Solo) (o : Owners) (f i word : ℕ) 
     takes : take_reference n o.tables f p ≡ fine more
     takes = (lends k v u y p o.tables f level found clean.stands.machine clean.stands.alone calm clean.frames ref lock).is
 
-    lockable : is_lockable (p.kinds f) ≡ true
+    pub lockable : is_lockable (p.kinds f) ≡ true
     lockable = can_lock k v u y p o.tables f level found clean.stands.machine clean.stands.alone calm clean.frames ref lock
 
-    typed : (p.kinds f).kind ≡ level_type level
+    pub typed : (p.kinds f).kind ≡ level_type level
     typed = kind_is k v u y p o.tables f level found clean.stands.machine clean.stands.alone calm clean.frames ref lock
 
     held : IsLockedTable f q
@@ -177,7 +170,7 @@ module _ (k : Known) (v w : PortValue) (x : Solo) (o : Owners) (f i word : ℕ) 
         (lock_goes n y w f level q machine_y telling_y described held low gone)
 
     pub slot_left : LeftLock y f level w → Owes w x
-    slot_left gone = owes_left k v w x clean r ds serves quiet rests (off_second gone) p clean.stands.unkept (now (off_first gone) (off_frames gone))
+    slot_left gone = owes_left k v w x clean others (off_second gone) p clean.stands.unkept (now (off_first gone) (off_frames gone))
 
     -- ---- its entry is exchanged
     abbrev t : EntryUpdate
@@ -207,13 +200,13 @@ module _ (k : Known) (v w : PortValue) (x : Solo) (o : Owners) (f i word : ℕ) 
       ends_so : (answer : Result (Unit {0}) Stop) → Comes2 y.post.machine y w (exchanged_plain y.post.machine t o q) answer → Comes Kept w x (write_entry n o f i word keep x) answer
       ends_so answer c =
           subst (λ a. Comes Kept w x a answer) (sym entry_is)
-          (outcome_comes k v w x clean r ds serves quiet rests (ends_second c.second) Kept (exchanged_plain n t o q) more answer
+          (outcome_comes k v w x clean others (ends_second c.second) Kept (exchanged_plain n t o q) more answer
           (unkept_exchanged n (owner_at level o.tables o.frames) (place_in t) (word_kept keep (p.cells f i) word) q unkept_q)
           (subst (λ (j : Machine). ComesSo j w (exchanged_plain j t o q) answer) machine_y c.comes))
 
-      pub entry_comes : (answers : List Bool) (answer : Result (Unit {0}) Stop) → Exchanged y (entry_update f level i word keep) o w answers answer → IfErr answer (λ e. Stops v w r e) →
+      pub entry_comes : (answers : List Bool) (answer : Result (Unit {0}) Stop) → Exchanged y (entry_update f level i word keep) o w answers answer → IsUnlost answer →
           PausedExchange y w (entry_update f level i word keep) o answers answer ⊎ Comes Kept w x (write_entry n o f i word keep x) answer
-      entry_comes answers answer went stops = elim (entry_ends answers answer (unlost_alone k v w r answer clean.stands.alone quiet.destroys stops) went) [
+      entry_comes answers answer went unlost = elim (entry_ends answers answer unlost went) [
         | inl paused ↦ inl paused
         | inr c ↦ inr (ends_so answer c)
       ]

@@ -13,13 +13,9 @@ use Rattle.xp_words.specs.declared.reply.Refusal.TheVariants as refusals
 use Rattle.xp_words.specs.declared.reply.Stop.{Stop}
 use Rattle.xp_words.specs.declared.reply.Stop.TheVariants.{Refused, Paused}
 use Rattle.xp_board.specs.Told.{Post, PortValue, is_telling, told_word}
-use Rattle.step_maker.specs.Answers.{Deed, Serves}
-use Rattle.step_maker.specs.Asked.{Request}
-use Rattle.step_maker.specs.Holds.{Rests}
 use Rattle.step_maker.specs.Moves.{Came}
 use Rattle.step_maker.specs.Plain.{Words}
 use Rattle.step_maker.proofs.Coming.{came_post, came_trans, met_after, met_before, moves_came, came_self}
-use Rattle.step_maker.proofs.Piecing.{serves_came}
 use Rattle.step_maker.proofs.Telling.{came_telling, load_tells, told_there}
 use Rattle.answer_laws.specs.Alone.{IsAlone}
 use Rattle.answer_laws.proofs.Shared.{alone_telling}
@@ -44,7 +40,7 @@ use Rattle.course_laws.specs.Courses.{ClockGoesOn}
 use Rattle.release_laws.specs.Pauses.{IsLeft}
 use Rattle.script_law.specs.Values.{Frames, Solo, behind_by, did, with_frames}
 use Rattle.solo_ports.specs.Coming.{Comes, IsDoneSo, IsRefusedSo}
-use Rattle.solo_ports.specs.Standing.{Clean, IsQuiet, IsUnkept, Owes, Stands, a_release, nothing}
+use Rattle.solo_ports.specs.Standing.{Clean, IsUnkept, Owes, Stands, a_release, nothing}
 use Rattle.solo_entries.proofs.Demanding.{PausedDemand, TookSo, demand_comes, demand_second}
 use Rattle.solo_entries.proofs.Entries.{bad_comes, done_comes, same_comes, untaken_comes, held_cell}
 use Rattle.solo_entries.proofs.Exchanging.{unlocked_second, held_meet, given_came, given_keeps}
@@ -52,22 +48,22 @@ use Rattle.solo_entries.proofs.Holding.{off}
 use Rattle.solo_entries.proofs.Known.{Known}
 use Rattle.solo_entries.proofs.Locking.{lock_leaves}
 use Rattle.solo_entries.proofs.Olds.{KeepsSecond, puts_keeps, three_four, three_five}
-use Rattle.solo_entries.proofs.Standing.{machine_same, stands_with}
+use Rattle.solo_entries.proofs.Standing.{KeepsOthers, machine_same, stands_behind}
 use Rattle.solo_entries.proofs.Stopping.{IsUnlost}
 use Rattle.table_law.specs.Exchange.{with_cell}
 
--- ---- what is left, as a port stands
-module _ (k : Known) (v w : PortValue) (x : Solo) (clean : Clean v x) (r : Request) (ds : List Deed) (serves : Serves v w r ds) (quiet : IsQuiet v.post.vcpu r ds) (rests : Rests w)
+-- ---- what is left, as a port stands, behind steps that change nothing but the frames
+module _ (k : Known) (v w : PortValue) (x : Solo) (clean : Clean v x) (others : KeepsOthers v w x)
     (second : told_word w (old_place v.post.vcpu Second) ≡ told_word v (old_place v.post.vcpu Second)) where
   stands_left : (q : Plain) → IsUnkept v.post.machine q → Stands w (with_frames q x)
-  stands_left q unkept = stands_with k v w x q r ds clean.stands serves quiet rests second unkept
+  stands_left q unkept = stands_behind k v w x q clean.stands others second unkept
 
   pub owes_left : (q : Plain) → IsUnkept v.post.machine q → LeavesFrames v.post.machine w q → Owes w (with_frames q x)
   owes_left q unkept (now first d) =
-      let same = came_post v w (serves_came v w r ds serves) in
+      let same = came_post v w others.came in
       nothing (record { stands = stands_left q unkept; first = first; frames = subst (λ (o : Post). Describes o.machine (told_word w) q) (sym same) d })
   owes_left q unkept (later g l left) =
-      let same = came_post v w (serves_came v w r ds serves) in
+      let same = came_post v w others.came in
       a_release g l (stands_left q unkept) (subst (λ (o : Post). IsLeft o.machine w g l q) (sym same) left)
 
   -- an outcome on the frames alone, behind other frames
@@ -89,7 +85,7 @@ pub record PausedExchange (y w : PortValue) (t : EntryUpdate) (o : Owners) (answ
   pub paused : PausedDemand looked (owner_at t.level o.tables o.frames) t.level (new_demand t seen) left answers answer
   pub off_it : LeftLock left t.table t.level w
 
-put_lost : (a b : PortValue) (f i seen new : ℕ) (keep : Bool) (r : Result ℕ Stop) → PutEntry a b f i seen new keep r → (stop : Stop) → r ≡ Err stop → IsUnlost (Err stop) → ⊥
+pub put_lost : (a b : PortValue) (f i seen new : ℕ) (keep : Bool) (r : Result ℕ Stop) → PutEntry a b f i seen new keep r → (stop : Stop) → r ≡ Err stop → IsUnlost (Err stop) → ⊥
 put_lost a b f i seen new _ _ (course.stored old step) stop is unlost = absurd cc
 put_lost a b f i seen new _ _ (course.exchanged step) stop is unlost = absurd cc
 put_lost a b f i seen new _ _ (course.lost found off step) stop is unlost =
