@@ -17,3 +17,7 @@ mod Unkept
 mod Writing
 mod Lasting
 mod Writes
+mod Facts
+mod Begun
+mod Pausing
+mod Resuming
