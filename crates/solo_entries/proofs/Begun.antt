@@ -1,8 +1,8 @@
 -- A write that began, and that the gate paused under the lock of its table: what does not change while it is kept.
 use Rattle.solo_entries.specs.Exchanges.{IsLockedTable}
 use Rattle.solo_entries.specs.Kept.{IsUnlocked, KeepsEntry}
-use Rattle.std.proofs.Common.{◌≡◌, ◌≢◌, ◌<◌, ◌≤◌, ℕ, ◌+◌, ◌-◌, ◌==◌, ◌&&◌, nat_le, nat_lt, not, if◌then◌else◌, Bool, true, false, List, length, None, Some, Result, Ok, Err, IsTrue, refl, sym, ap, ◌∙◌, subst, arith, inl, inr}
-use Rattle.std.proofs.lemmas.Bool.{and_parts, cases_Bool}
+use Rattle.std.proofs.Common.{◌≡◌, ◌≢◌, ◌<◌, ◌≤◌, ℕ, ◌-◌, ◌==◌, ◌&&◌, nat_le, nat_lt, not, if◌then◌else◌, Bool, true, false, List, length, None, Some, Result, Ok, refl, sym, ap, ◌∙◌, subst, arith}
+use Rattle.std.proofs.lemmas.Bool.{and_parts}
 use Rattle.std.proofs.lemmas.Bool.Decides.{nat_tests}
 use Rattle.xp_words.specs.Entries.{demand_at, is_slot}
 use Rattle.xp_words.specs.Machine.{IsMachine, Machine}
@@ -122,9 +122,6 @@ calls_tell f owner level v _ (repeated.again y x u answers before a finds on) = 
 
 -- ---- the plain values
 module _ (n : Machine) (c : ℕ) (o : Owners) (f i word : ℕ) (keep : Bool) (x : Solo) (b : Begun n c o f i word keep x) where
-  abbrev q : Plain
-  q = under_lock f b.taken
-
   none : (take_reference n o.tables f x.frames).refusal ≡ None
   none = ap (λ (a : PlainOutcome). a.refusal) b.takes
 
@@ -177,9 +174,6 @@ module _ (n : Machine) (c : ℕ) (o : Owners) (f i word : ℕ) (keep : Bool) (x 
   -- ---- what the write plainly is
   number : type_number (b.taken.kinds f).kind ≡ b.level
   number = ap (λ (j : ℕ → KindWord). type_number (j f).kind) kinds_are ∙ (ap type_number b.typed ∙ level_type-number b.level (let a = b.two in omega (arith, a)) b.high)
-
-  abbrev pub exchange : PlainOutcome
-  exchange = exchanged_plain n (entry_update f b.level i word keep) o (under_lock f b.taken)
 
   pub write_is : write_word n o f i word keep x ≡ behind_by (with_frames b.taken x) (exchanged_plain n (entry_update f b.level i word keep) o (under_lock f b.taken)) (exchanged_plain n (entry_update f b.level i word keep) o (under_lock f b.taken)).refusal did
   write_is =
@@ -240,9 +234,6 @@ second_stays v u y c z f i owner of locked seen g l answers r telling ref lock s
 module _ (k : Known) (s : Facts) (v z w : PortValue) (x : Solo) (o : Owners) (f i word : ℕ) (keep : Bool) (b : Begun v.post.machine v.post.vcpu o f i word keep x) (stands : Stands v x) (before : Came v z)
     (calls : PausedCalls b.asked o.tables (b.level - 1) b.from z) (off_it : LeftLock z f b.level w) (second : told_word z (old_place v.post.vcpu Second) ≡ told_word v (old_place v.post.vcpu Second))
     (r : Request) (ds : List Deed) (serves : Serves v w r ds) (quiet : IsQuiet v.post.vcpu r ds) (rests : Rests w) where
-  abbrev n : Machine
-  n = v.post.machine
-
   low : 1 ≤ b.level
   low = let a = b.two in omega (arith, a)
 
@@ -262,7 +253,7 @@ module _ (k : Known) (s : Facts) (v z w : PortValue) (x : Solo) (o : Owners) (f 
   alone_z = k.stays v z stands.alone before
 
   in_z : IsLockedIn z.post.machine f o.tables b.level (told_word z)
-  in_z = subst (λ (m : Machine). IsLockedIn m f o.tables b.level (told_word z)) (sym same_z) (locked_in k s n v.post.vcpu o f i word keep x stands.machine b z calls)
+  in_z = subst (λ (m : Machine). IsLockedIn m f o.tables b.level (told_word z)) (sym same_z) (locked_in k s v.post.machine v.post.vcpu o f i word keep x stands.machine b z calls)
 
   words : (p : Place) → is_counting p ≡ false → p ≢ Kind f → told_word w p ≡ told_word z p
   words = s.unlocked_words k z w f o.tables b.level machine_z alone_z low b.high in_z off_it
@@ -273,7 +264,7 @@ module _ (k : Known) (s : Facts) (v z w : PortValue) (x : Solo) (o : Owners) (f 
   first_w : told_word w (old_place w.post.vcpu First) ≡ 0
   first_w =
       subst (λ (j : Post). told_word w (old_place j.vcpu First) ≡ 0) (sym (came_post z w (lock_came z w f b.level off_it)))
-      (words (old_place z.post.vcpu First) refl (λ e. cc) ∙ first_there k s n v.post.vcpu o f i word keep x stands.machine b z calls)
+      (words (old_place z.post.vcpu First) refl (λ e. cc) ∙ first_there k s v.post.machine v.post.vcpu o f i word keep x stands.machine b z calls)
 
   pub kept_there : KeepsEntry o f i word keep w x
   kept_there =

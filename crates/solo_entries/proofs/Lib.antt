@@ -20,4 +20,5 @@ mod Writes
 mod Facts
 mod Begun
 mod Pausing
+mod Again
 mod Resuming

@@ -3,14 +3,12 @@ use Rattle.solo_entries.specs.Kept.{IsUnlocked, KeepsEntry}
 use Rattle.std.proofs.Common.{◌≡◌, ◌<◌, ◌≤◌, ℕ, ◌-◌, ◌==◌, if◌then◌else◌, Bool, true, false, List, length, Result, Ok, Err, refl, sym, ap, ◌∙◌, subst, arith}
 use Rattle.std.proofs.lemmas.Bool.Decides.{nat_tests}
 use Rattle.xp_words.specs.Entries.{demand_at, is_slot}
-use Rattle.xp_words.specs.Machine.{IsMachine, Machine}
+use Rattle.xp_words.specs.Machine.{Machine}
 use Rattle.xp_words.specs.declared.entry.Demand.TheVariants.{Typed}
 use Rattle.xp_words.specs.declared.reply.Pause.TheVariants.{Due}
 use Rattle.xp_words.specs.declared.reply.Stop.{Stop}
 use Rattle.xp_words.specs.declared.reply.Stop.TheVariants.{Paused}
 use Rattle.xp_board.specs.Told.{Post, PortValue, is_telling, told_word}
-use Rattle.step_maker.specs.Answers.{Deed, Serves}
-use Rattle.step_maker.specs.Asked.{Request}
 use Rattle.step_maker.specs.Moves.{Came}
 use Rattle.step_maker.specs.Plain.{Words}
 use Rattle.step_maker.proofs.Coming.{came_post, came_trans}
@@ -29,7 +27,7 @@ use Rattle.mmu_update.specs.declared.element.Element.TheVariants.{Write}
 use Rattle.partial_state.specs.Levels.{level_type}
 use Rattle.table_entries.specs.Acquiring.{Acquired, GotRef}
 use Rattle.table_words.specs.OldWords.{old_place}
-use Rattle.table_words.specs.declared.old_words.OldWord.TheVariants.{First, Second}
+use Rattle.table_words.specs.declared.old_words.OldWord.TheVariants.{First}
 use Rattle.table_law.specs.Alone.{fine, take_reference}
 use Rattle.table_law.specs.Lawful.{IsAtRest}
 use Rattle.table_law.specs.Plain.{Describes, Plain, raised_share, with_share}
@@ -175,8 +173,8 @@ module _ (k : Known) (s : Facts) (v w : PortValue) (x : Solo) (o : Owners) (f i 
   keeps_paused = (
     asked.paused,
     kept_there k s v z w x o f i word keep began clean.stands (came_trans v c z to_c came_z) calls paused.off_it
-    (second_stays v a.referred y c z f i o.tables o.tables (Table a.level a.found) paused.seen asked.table (a.level - 1) answers (Err (Paused Due)) telling a.ref a.lock paused.saw had)
-    (update_request o (Write f i word keep) r) u.serves.0 u.serves.2 (write_quiet v.post.machine v.post.vcpu o f i word keep r u.serves.0 u.serves.1) u.rests,
+        (second_stays v a.referred y c z f i o.tables o.tables (Table a.level a.found) paused.seen asked.table (a.level - 1) answers (Err (Paused Due)) telling a.ref a.lock paused.saw had)
+        (update_request o (Write f i word keep) r) u.serves.0 u.serves.2 (write_quiet v.post.machine v.post.vcpu o f i word keep r u.serves.0 u.serves.1) u.rests,
   )
 
 -- ---- it stands along steps that change stamps, the clock and the words of flushes alone

@@ -1,39 +1,32 @@
 -- A write that is kept goes on: it is paused again and still kept, or comes to its plain meaning.
 use Rattle.solo_entries.specs.Exchanges.{ComesSo, IsUnlost}
 use Rattle.solo_entries.specs.Kept.{KeepsEntry}
-use Rattle.std.proofs.Common.{◌≡◌, ◌⊎◌, ◌<◌, ◌≤◌, ℕ, zero, suc, ◌-◌, Bool, true, false, List, ◌++◌, length, None, Result, Ok, Err, IfErr, refl, sym, ap, ◌∙◌, subst, arith, inl, inr}
+use Rattle.std.proofs.Common.{◌≡◌, ◌⊎◌, ◌<◌, ◌≤◌, ℕ, ◌-◌, Bool, true, false, List, ◌++◌, length, Result, Ok, Err, refl, sym, ap, ◌∙◌, subst, arith, inl, inr}
 use Rattle.xp_words.specs.Entries.{demand_at, is_slot}
 use Rattle.xp_words.specs.Machine.{IsMachine, Machine}
-use Rattle.xp_words.specs.PageTypes.{is_table, type_number}
-use Rattle.xp_words.specs.declared.entry.Demand.{Demand}
 use Rattle.xp_words.specs.declared.entry.Demand.TheVariants as demands
 use Rattle.xp_words.specs.declared.place.Place.TheVariants.{Cell}
 use Rattle.xp_words.specs.declared.reply.Pause.TheVariants as pauses
-use Rattle.xp_words.specs.declared.reply.Pause.TheVariants.{Due, Lost}
-use Rattle.xp_words.specs.declared.reply.Refusal.{Refusal}
+use Rattle.xp_words.specs.declared.reply.Pause.TheVariants.{Due}
 use Rattle.xp_words.specs.declared.reply.Stop.{Stop}
 use Rattle.xp_words.specs.declared.reply.Stop.TheVariants.{Refused, Paused}
 use Rattle.xp_board.specs.Readings.{ref_count}
 use Rattle.xp_board.specs.Told.{Post, PortValue, is_telling, told_word}
-use Rattle.step_maker.specs.Answers.{Deed, Serves, Stops}
-use Rattle.step_maker.specs.Asked.{Request}
 use Rattle.step_maker.specs.Moves.{Came}
 use Rattle.step_maker.specs.Plain.{Words}
 use Rattle.step_maker.specs.Twins.{Alike}
 use Rattle.step_maker.proofs.Alikes.{same_alike}
-use Rattle.step_maker.proofs.Coming.{came_post, came_self, came_trans, met_after, met_before}
-use Rattle.step_maker.proofs.Piecing.{serves_came}
+use Rattle.step_maker.proofs.Coming.{came_post, came_trans, met_after, met_before}
 use Rattle.step_maker.proofs.Telling.{came_telling}
 use Rattle.step_maker.proofs.Visiting.{does_came}
-use Rattle.answer_laws.specs.Alone.{IsAlone}
 use Rattle.answer_laws.proofs.Shared.{alone_telling}
 use Rattle.entry_exchange.specs.Course as course
-use Rattle.entry_exchange.specs.Course.{Exchanged, LeftLock, PutsNew, ReleasedDemand, SawEntry, TookDemand, TookNew, new_demand, old_demand}
+use Rattle.entry_exchange.specs.Course.{Exchanged, LeftLock, SawEntry, TookNew, new_demand, old_demand}
 use Rattle.entry_exchange.specs.Holding.{owner_at}
 use Rattle.entry_exchange.specs.Words.{same_demand, word_kept}
 use Rattle.entry_exchange.specs.declared.exchanging.EntryUpdate.{EntryUpdate}
 use Rattle.entry_locks.specs.Locks.{of_lock}
-use Rattle.entry_locks.specs.declared.locking.Locked.TheVariants.{Other, Table}
+use Rattle.entry_locks.specs.declared.locking.Locked.TheVariants.{Table}
 use Rattle.exchange_laws.specs.Plain.{exchanged_plain, new_word, place_in}
 use Rattle.exchange_laws.proofs.Going.{demand_came}
 use Rattle.exchange_laws.proofs.Putting.{put_came}
@@ -45,7 +38,6 @@ use Rattle.mmu_update.specs.Elements.{update_request}
 use Rattle.mmu_update.specs.Fits.{Updates}
 use Rattle.mmu_update.specs.declared.element.Element.TheVariants.{Write}
 use Rattle.partial_state.specs.Levels.{level_type}
-use Rattle.partial_state.proofs.LevelFacts.{level_type-number, level_type-table}
 use Rattle.table_entries.specs.Acquiring.{Acquired, GotRef}
 use Rattle.table_entries.proofs.Shared.{ref_came}
 use Rattle.table_words.specs.OldWords.{old_place}
@@ -54,20 +46,19 @@ use Rattle.table_law.specs.Alone.{PlainOutcome, alone, meet, take_at}
 use Rattle.table_law.specs.Plain.{Plain}
 use Rattle.table_law.specs.Undone.{CountsSome}
 use Rattle.course_laws.specs.Courses.{ClockGoesOn}
-use Rattle.course_laws.proofs.Awaiting.{AloneStays}
 use Rattle.course_laws.proofs.Stopping.{acquired_came}
 use Rattle.pause_laws.specs.Calls.{HasRoom}
 use Rattle.refusal_laws.specs.Refusals.{ComesTo}
 use Rattle.refusal_laws.specs.Repeated as repeated
 use Rattle.refusal_laws.specs.Repeated.{PausedCalls}
 use Rattle.script_law.specs.Frames.{under_lock, write_word}
-use Rattle.script_law.specs.Values.{Outcome, Solo, behind_by, did, with_frames}
+use Rattle.script_law.specs.Values.{Solo}
 use Rattle.solo_ports.specs.Coming.{Comes}
-use Rattle.solo_ports.specs.Standing.{Fair, Stands}
+use Rattle.solo_ports.specs.Standing.{Fair}
 use Rattle.solo_ports.proofs.Along.{paused_on}
-use Rattle.solo_entries.proofs.Begun.{Begun, begun_of, calls_alike, calls_tell, cells_are, counts, first_there, follows_itself, held, kept_table, kept_there, lends, machine_from, owner_alive, second_stays, unkept_under, write_is}
-use Rattle.solo_entries.proofs.Capping.{above, capped}
-use Rattle.solo_entries.proofs.Demanding.{HadFirst, TookSo, as_demand, comes_so, done_as}
+use Rattle.solo_entries.proofs.Again.{at_level, due_as, took_table, unlost_by}
+use Rattle.solo_entries.proofs.Begun.{Begun, begun_of, calls_alike, cells_are, counts, first_there, follows_itself, held, kept_table, kept_there, lends, machine_from, owner_alive, second_stays, unkept_under, write_is}
+use Rattle.solo_entries.proofs.Demanding.{HadFirst, TookSo, comes_so, done_as}
 use Rattle.solo_entries.proofs.Exchanging.{given_came}
 use Rattle.solo_entries.proofs.Facts.{Facts}
 use Rattle.solo_entries.proofs.Known.{Known}
@@ -78,65 +69,7 @@ use Rattle.solo_entries.proofs.Standing.{machine_same}
 use Rattle.solo_entries.proofs.Unkept.{unkept_exchanged}
 use Rattle.solo_entries.proofs.Writing.{Comes2, done_behind, outcome_behind, put_lost, refused_behind, saw_came, saw_few, saw_it, saw_words}
 
--- ---- the level of a table by its type
-level_by : (a level : ℕ) → 1 ≤ a → a ≤ 4 → level_type a ≡ level_type level → 1 ≤ level → level ≤ 4 → a ≡ level
-level_by a level some few same low high = sym (level_type-number a some few) ∙ (ap type_number same ∙ level_type-number level low high)
-
-no_table : (level : ℕ) → level_type 0 ≡ level_type level → 1 ≤ level → ⊥
-no_table level same low = let e = ap is_table same ∙ level_type-table level low in absurd cc
-
-four_by : (l level : ℕ) → level_type (above l) ≡ level_type level → 1 ≤ level → level ≤ 4 → 4 ≡ level
-four_by l level same low high = ap type_number same ∙ level_type-number level low high
-
-module _ (y : PortValue) (o : Owners) (f i word : ℕ) (keep : Bool) (level : ℕ) (low : 1 ≤ level) (high : level ≤ 4) (w : PortValue) (answers : List Bool) (r : Result (Unit {0}) Stop) where
-  abbrev At : ℕ → Type 0
-  At l = Exchanged y (entry_update f l i word keep) o w answers r
-
-  at_level : (a : ℕ) → level_type a ≡ level_type level → At a → At level
-  at_level zero same ex = absurd (no_table level same low)
-  at_level (suc zero) same ex = subst At (level_by 1 level (omega arith) (omega arith) same low high) ex
-  at_level (suc (suc zero)) same ex = subst At (level_by 2 level (omega arith) (omega arith) same low high) ex
-  at_level (suc (suc (suc zero))) same ex = subst At (level_by 3 level (omega arith) (omega arith) same low high) ex
-  at_level (suc (suc (suc (suc zero)))) same ex = subst At (level_by 4 level (omega arith) (omega arith) same low high) ex
-  at_level (suc (suc (suc (suc (suc l))))) same ex = subst At (four_by l level same low high) (capped y f l i word keep o w answers r ex)
-
--- ---- what is asked is a table: that is acquired
-record TookTable (c : PortValue) (g owner l : ℕ) (z : PortValue) (answers : List Bool) (r : Result (Unit {0}) Stop) : Type 0 where
-  answer : Result ℕ Stop
-  had : Acquired c g owner l z answers answer
-  is : as_demand answer ≡ r
-
-module _ (owner level : ℕ) (c : PortValue) (asked : ℕ) (two : 2 ≤ level) where
-  took_table : (d : Demand) (z : PortValue) (answers : List Bool) (r : Result (Unit {0}) Stop) → TookDemand owner level c d z answers r → d ≡ demands.Typed asked (level_type (level - 1)) → TookTable c asked owner (level - 1) z answers r
-  took_table _ _ _ _ course.nothing is = absurd cc
-  took_table _ _ _ _ (course.referred z g ref) is = absurd cc
-  took_table _ _ _ _ (course.unreferred z g stop ref) is = absurd cc
-  took_table _ _ _ _ (course.paged z g one page) is = absurd (omega (arith, one, two))
-  took_table _ _ _ _ (course.unpaged z g stop one page) is = absurd (omega (arith, one, two))
-  took_table _ _ _ _ (course.acquired z g answers two had) is =
-      let e : g ≡ asked = cc in
-      record { answer = Ok g; had = subst (λ h. Acquired c h owner (level - 1) z answers (Ok g)) e had; is = refl }
-  took_table _ _ _ _ (course.refused z g answers stop two had) is =
-      let e : g ≡ asked = cc in
-      record { answer = Err stop; had = subst (λ h. Acquired c h owner (level - 1) z answers (Err stop)) e had; is = refl }
-
-due_as : (e : Result ℕ Stop) → e ≡ Err (Paused Due) → as_demand e ≡ Err (Paused Due)
-due_as e is = ap as_demand is
-
--- ---- not for an exchange that was lost
-unlost_by : Known → (v w : PortValue) (q : Request) → IsAlone v → q.destroys ≡ None → (r : Result (Unit {0}) Stop) → IfErr r (λ e. Stops v w q e) → IsUnlost r
-unlost_by k v w q alone spares (Ok done) stops = tt
-unlost_by k v w q alone spares (Err (Refused y)) stops = tt
-unlost_by k v w q alone spares (Err (Paused (Lost place e found))) stops = k.neither v w q (Lost place e found) alone spares stops
-unlost_by k v w q alone spares (Err (Paused Due)) stops = tt
-unlost_by k v w q alone spares (Err (Paused (pauses.Flush a stamp found))) stops = tt
-unlost_by k v w q alone spares (Err (Paused (pauses.Busy g found))) stops = tt
-unlost_by k v w q alone spares (Err (Paused (pauses.Alive a found))) stops = tt
-
 module _ (k : Known) (s : Facts) (v w : PortValue) (x : Solo) (o : Owners) (f i word : ℕ) (keep : Bool) (e : KeepsEntry o f i word keep v x) (real : o.tables < length v.post.machine.page_limit) (alive : x.lives o.tables ≡ 0) (fair : Fair v w) where
-  abbrev n : Machine
-  n = v.post.machine
-
   abbrev b : Begun v.post.machine v.post.vcpu o f i word keep x
   b = begun_of o f i word keep v x e
 
@@ -264,8 +197,8 @@ module _ (k : Known) (s : Facts) (v w : PortValue) (x : Solo) (o : Owners) (f i 
               | inl due ↦ inl (sym a.is ∙ due_as a.answer due, subst Had due had)
               | inr so ↦ inr (
                 there r (subst (λ r. TookSo {A = Unit {0}} e.from.post.machine z (alone e.from.post.machine o.tables (e.level - 1) e.asked q) r) a.is
-                (done_as e.from.post.machine z (alone e.from.post.machine o.tables (e.level - 1) e.asked q) a.answer
-                (comes_so e.from.post.machine z e.asked (e.level - 1) (alone e.from.post.machine o.tables (e.level - 1) e.asked q) a.answer (first_had a.answer had) so))),
+                    (done_as e.from.post.machine z (alone e.from.post.machine o.tables (e.level - 1) e.asked q) a.answer
+                    (comes_so e.from.post.machine z e.asked (e.level - 1) (alone e.from.post.machine o.tables (e.level - 1) e.asked q) a.answer (first_had a.answer had) so))),
                 acquired_keeps c.post.vcpu 3 three_four three_five three_two c e.asked o.tables (e.level - 1) z answers a.answer had,
               )
             ]
