@@ -168,7 +168,7 @@ module _ (k : Known) (v w : PortValue) (x : Solo) (o : Owners) (f va word : ℕ)
     other =
         refused_type found none (memory.real k v w x o f 0 0 false clean u y found ref lock) found_is
         (ap (λ b. b && is_type (x.frames.kinds f).kind kinds.L1) (memory.ordinary k v w x o f 0 0 false clean u y found ref lock))
-        (owes_left k v w x clean others second x.frames clean.stands.unkept (now (subst (λ (j : Post). told_word w (old_place j.vcpu First) ≡ 0) (sym (came_post v w others.came)) (first ∙ clean.first)) given))
+        (owes_left k v w x clean.stands others second x.frames clean.stands.unkept (now (subst (λ (j : Post). told_word w (old_place j.vcpu First) ≡ 0) (sym (came_post v w others.came)) (first ∙ clean.first)) given))
 
   -- ---- a live table
   module _ (u y : PortValue) (level found : ℕ) (ref : GotRef v u f o.tables (Ok f)) (lock : TriedLock u y f o.tables (Ok (Table level found))) where

@@ -56,11 +56,11 @@ owes_left n w f level q (refusing.nothing telling first d) = now first d
 owes_left n w f level q (refusing.a_release left) = later f level left
 
 -- where it is had the first old word names no frame
-abbrev HadFirst : PortValue → Result ℕ Stop → Type 0
+abbrev pub HadFirst : PortValue → Result ℕ Stop → Type 0
 HadFirst w (Ok g) = told_word w (old_place w.post.vcpu First) ≡ 0
 HadFirst w (Err e) = Unit {0}
 
-comes_so : (n : Machine) (w : PortValue) (f level : ℕ) (a : PlainOutcome) (r : Result ℕ Stop) → HadFirst w r → ComesTo n w f level a r → TookSo n w a r
+pub comes_so : (n : Machine) (w : PortValue) (f level : ℕ) (a : PlainOutcome) (r : Result ℕ Stop) → HadFirst w r → ComesTo n w f level a r → TookSo n w a r
 comes_so n w f level a (Ok g) first c = (c.0, first, c.1)
 comes_so n w f level a (Err (Refused y)) first c = record { cause = c.cause; is = c.is; same = c.same; left = owes_left n w f level a.left c.owes }
 comes_so n w f level a (Err (Paused x)) first c = c
@@ -74,11 +74,11 @@ pub record PausedDemand (v : PortValue) (owner level : ℕ) (d : Demand) (w : Po
   pub acquired : Acquired v table owner (level - 1) w answers (Err (Paused Due))
 
 -- an answer of a whole acquisition as one of the demand
-abbrev as_demand : Result ℕ Stop → Result (Unit {0}) Stop
+abbrev pub as_demand : Result ℕ Stop → Result (Unit {0}) Stop
 as_demand (Ok g) = Ok tt
 as_demand (Err e) = Err e
 
-done_as : (n : Machine) (w : PortValue) (a : PlainOutcome) (r : Result ℕ Stop) → TookSo n w a r → TookSo n w a (as_demand r)
+pub done_as : (n : Machine) (w : PortValue) (a : PlainOutcome) (r : Result ℕ Stop) → TookSo n w a r → TookSo n w a (as_demand r)
 done_as n w a (Ok g) c = c
 done_as n w a (Err (Refused y)) c = c
 done_as n w a (Err (Paused x)) c = c

@@ -21,3 +21,8 @@ mod Relocking
 mod Writes
 mod Pairs
 mod Addressed
+mod Begun
+mod Pausing
+mod Again
+mod Resuming
+pub mod Meaning

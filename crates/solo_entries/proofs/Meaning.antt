@@ -1,5 +1,5 @@
 -- Each element of `mmu_update` comes to its plain meaning, or what the gate paused of it is kept.
-use Rattle.std.proofs.Common.{◌≡◌, ◌⊎◌, ◌<◌, ℕ, Bool, List, length, Result, Err, refl, sym, subst, inl, inr}
+use Rattle.std.proofs.Common.{◌≡◌, ◌⊎◌, ◌<◌, ℕ, Bool, List, length, Result, Err, sym, subst, inl, inr}
 use Rattle.xp_words.specs.declared.reply.Pause.TheVariants.{Due}
 use Rattle.xp_words.specs.declared.reply.Refusal.TheVariants.{BadCommand, BadRange}
 use Rattle.xp_words.specs.declared.reply.Stop.{Stop}
@@ -39,9 +39,9 @@ module _ (k : Known) (v w : PortValue) (x : Solo) (o : Owners) (answers : List B
 
   pub pair_comes : (e : Element) → Clean v x ⊎ KeepsWrite o e v x → Updates o e v w answers answer → Comes (KeepsWrite o e) w x (updated (whose v) o e x) answer
   pair_comes (Write f i word keep) starts updates = written f i word keep starts updates
-  pair_comes (SetM2p f gpfn) starts updates = map_set k (KeepsWrite o (SetM2p f gpfn)) v w x o.frames f gpfn answer (never starts) updates.rests updates.course.1.0 updates.course.1.1
-  pair_comes Misaligned starts updates = refused_numbers (KeepsWrite o Misaligned) v w x BadRange answer (never starts) updates.course.0 updates.course.1.1
-  pair_comes Unknown starts updates = refused_numbers (KeepsWrite o Unknown) v w x BadCommand answer (never starts) updates.course.0 updates.course.1.1
+  pair_comes (SetM2p f gpfn) starts updates = map_set k (KeepsWrite o (SetM2p f gpfn)) v w x o.frames f gpfn answer (never starts) updates.rests updates.course.1 updates.course.2
+  pair_comes Misaligned starts updates = refused_numbers (KeepsWrite o Misaligned) v w x BadRange answer (never starts) updates.course.0 updates.course.2
+  pair_comes Unknown starts updates = refused_numbers (KeepsWrite o Unknown) v w x BadCommand answer (never starts) updates.course.0 updates.course.2
 
 -- what is kept goes along steps that change nothing of it
 pub keeps_write_on : AloneStays → (o : Owners) (e : Element) (v w : PortValue) (x : Solo) → StaysAlike v w → KeepsWrite o e v x → KeepsWrite o e w x

@@ -170,7 +170,7 @@ module _ (k : Known) (v w : PortValue) (x : Solo) (o : Owners) (f i word : ℕ) 
         (lock_goes n y w f level q machine_y telling_y described held low gone)
 
     pub slot_left : LeftLock y f level w → Owes w x
-    slot_left gone = owes_left k v w x clean others (off_second gone) p clean.stands.unkept (now (off_first gone) (off_frames gone))
+    slot_left gone = owes_left k v w x clean.stands others (off_second gone) p clean.stands.unkept (now (off_first gone) (off_frames gone))
 
     -- ---- its entry is exchanged
     abbrev t : EntryUpdate
@@ -200,7 +200,7 @@ module _ (k : Known) (v w : PortValue) (x : Solo) (o : Owners) (f i word : ℕ) 
       ends_so : (answer : Result (Unit {0}) Stop) → Comes2 y.post.machine y w (exchanged_plain y.post.machine t o q) answer → Comes Kept w x (write_entry n o f i word keep x) answer
       ends_so answer c =
           subst (λ a. Comes Kept w x a answer) (sym entry_is)
-          (outcome_comes k v w x clean others (ends_second c.second) Kept (exchanged_plain n t o q) more answer
+          (outcome_comes k v w x clean.stands others (ends_second c.second) Kept (exchanged_plain n t o q) more answer
           (unkept_exchanged n (owner_at level o.tables o.frames) (place_in t) (word_kept keep (p.cells f i) word) q unkept_q)
           (subst (λ (j : Machine). ComesSo j w (exchanged_plain j t o q) answer) machine_y c.comes))
 
