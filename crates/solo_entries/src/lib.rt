@@ -2,7 +2,9 @@
 #![tactic(auto)]
 
 mod exchanges;
+mod pairs;
 
+pub use pairs::{a_pair_comes_to_its_plain_meaning, an_update_by_address_comes_to_its_plain_meaning};
 pub use exchanges::{
     a_machine_to_physical_update_comes_to_its_plain_meaning,
     an_exchange_in_one_turn_comes_to_the_plain_one,
