@@ -32,7 +32,7 @@ same_reply x y e = cc
 
 -- `Logs n made a`: call number n of operation `op` logged these lines, its reply the last, and they are the answer a. `Going call n at made v a`: all that is left of call number n,
 -- which has come so far and logged these lines, comes from v to a; `Ready` the same behind what is settled first.
-module _ {Solo Answer Answered : Type 0} (plain : PlainScript Call Solo Answer Answered) (d op : ℕ) (calls : List Call) (Logs : ℕ → List LogLine → Answer → Type 0) (Fair : PortValue → Type 0) (Owes : PortValue → Solo → Type 0) (Going Ready : Call → ℕ → Progress → List LogLine → PortValue → Answered → Type 0) (Fine : Call → Type 0) where
+module _ {Solo Answer Answered : Type 0} (plain : PlainScript Call Solo Answer Answered) (d op : ℕ) (calls : List Call) (Logs : ℕ → List LogLine → Answer → Type 0) (Fair : PortValue → Type 0) (Owes : PortValue → Solo → Type 0) (Going Ready : Call → ℕ → Progress → List LogLine → PortValue → Answered → Type 0) where
   pub record CallAnswered (n : ℕ) (made : List LogLine) (reply : Reply) (a : Answered) (w : PortValue) : Type 0 where
     pub logs : Logs n (made ++ lines.Answer op n reply ∷ []) (plain.answer a)
     pub owes : Owes w (plain.left a)
@@ -44,7 +44,7 @@ module _ {Solo Answer Answered : Type 0} (plain : PlainScript Call Solo Answer A
   CallComes call n to made w a (Err (Paused p)) = Going call n to made w a
 
   pub record CallLemmas : Type 0 where
-    pub begins_call : (call : Call) (k : ℕ) (v : PortValue) (s : Solo) → Fine call → Owes v s → Going call (k + 1) (begun_at k) [] v (plain.alone k call s)
+    pub begins_call : (call : Call) (k : ℕ) (v : PortValue) (s : Solo) → Owes v s → Going call (k + 1) (begun_at k) [] v (plain.alone k call s)
     pub settle : (call : Call) (n : ℕ) (at : Progress) (made : List LogLine) (v w : PortValue) (a : Answered) (asked : List Bool) (e : Stop) → Settles None v w asked (Err e) → Fair w → Going call n at made v a → Going call n at made w a
     pub ready : (call : Call) (n : ℕ) (at : Progress) (made : List LogLine) (v w : PortValue) (a : Answered) (asked : List Bool) → Settles None v w asked (Ok tt) → Fair w → Going call n at made v a → Ready call n at made w a
     pub work : (call : Call) (at to : Progress) (made log log' : List LogLine) (v w : PortValue) (a : Answered) (asked : List Bool) (r : Result ℕ Stop) → WentOn d (task_in call) (call_behind op at.call) v at to w log log' asked r → Fair w →
@@ -62,11 +62,8 @@ module _ {Solo Answer Answered : Type 0} (plain : PlainScript Call Solo Answer A
     call_back call u at log _ _ _ _ _ (calling.AnswersCall.answered to y x w log' early asked r reply settles went is ends) fair =
         l.back u y (settles_came u y early (Ok tt) settles) (l.back y x (went_came d (task_in call) (call_behind op at.call) y at to x log log' asked r went) (l.back x w (cut_came (at.call + 1) x w ends) fair))
 
-  abbrev pub AreFine : Type 0
-  AreFine = (k : ℕ) (call : Call) → slice_get calls k ≡ Some call → Fine call
-
   -- `all` and `last`: what all calls answer, and leave
-  module _ (l : CallLemmas) (fine : AreFine) (all : List Answer) (last : Solo) where
+  module _ (l : CallLemmas) (all : List Answer) (last : Solo) where
     abbrev pub NextCall : Option Call → List Call → Progress → List LogLine → PortValue → List Answer → Type 0
     NextCall None rest at made v before = (s : Solo) × Owes v s × (made ≡ []) × (before ≡ all) × (s ≡ last)
     NextCall (Some call) rest at made v before =
@@ -94,7 +91,7 @@ module _ {Solo Answer Answered : Type 0} (plain : PlainScript Call Solo Answer A
     next_at k (Some call) v s before is owes answers left =
         let more = opened calls k call is in (
           plain.alone k call s,
-          l.begins_call call k v s (fine k call is) owes,
+          l.begins_call call k v s owes,
           ap (λ xs. before ++ xs) (sym (ap (λ ys. plain.answers ys k s) more ∙ plain.more_answers call (drop (suc k) calls) k s)) ∙ answers,
           sym (ap (λ ys. plain.ends ys k s) more ∙ plain.more_ends call (drop (suc k) calls) k s) ∙ left,
         )

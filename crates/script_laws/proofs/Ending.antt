@@ -41,7 +41,7 @@ use Rattle.script_laws.proofs.Showing.{stop_shows}
 use Rattle.script_laws.proofs.Tasking.{Elements, Moving, call_plain, owes_moved, task_begins, task_moved}
 use Rattle.script_laws.proofs.Tasks.{Lives, MayName, owners_of}
 use Rattle.script_laws.proofs.Turning.{Lemmas, WorkComes, script_by}
-use Rattle.script_laws.proofs.Whole.{CallGoing, CallReady, Comes_op, Dying, DyingReady, GoingOp, FineCall, Left, One, OneReady, Owed, ReadyOp, Standing, all_work, call_lemmas, call_moved, log_of, many, multicall_many, plain_calls, plain_ops}
+use Rattle.script_laws.proofs.Whole.{CallGoing, CallReady, Comes_op, Dying, DyingReady, GoingOp, Left, One, OneReady, Owed, ReadyOp, Standing, all_work, call_lemmas, call_moved, log_of, many, multicall_many, plain_calls, plain_ops}
 use Rattle.script_laws.proofs.Working.{By, calls_begin_by, going_moved}
 
 module _ (l : Laws) (neither : NeitherLostNorBusy) (v0 : PortValue) (real : (whose v0).domain < length v0.post.machine.page_limit) (e : Elements l neither v0) where
@@ -66,37 +66,34 @@ module _ (l : Laws) (neither : NeitherLostNorBusy) (v0 : PortValue) (real : (who
 
   task_at : (task : Option Task) (op call : ℕ) (at : Progress) (made : List LogLine) (v : PortValue) (b : Answered) → Left l neither v0 real e task op call at made v b → St v
   task_at None op call at made v b g = owed_at v g.value g.owes
-  task_at (Some (OfPairs foreign list)) op call at made v b (t, inl g) = owed_at v g.0.value g.0.owes
-  task_at (Some (OfPairs foreign list)) op call at made v b (t, inr g) = pairs_at foreign list at.done v g.stands.0 g.stands.2
+  task_at (Some (OfPairs foreign list)) op call at made v b (inl g) = owed_at v g.0.value g.0.owes
+  task_at (Some (OfPairs foreign list)) op call at made v b (inr g) = pairs_at foreign list at.done v g.stands.0 g.stands.2
   task_at (Some (OfExt list)) op call at made v b (inl g) = owed_at v g.0.value g.0.owes
   task_at (Some (OfExt list)) op call at made v b (inr g) = ext_at list at.done v g.value g.pending
   task_at (Some (OfMem command order items)) op call at made v b (inl g) = owed_at v g.0.value g.0.owes
   task_at (Some (OfMem command order items)) op call at made v b (inr g) = owed_at v g.value g.owes
-  task_at (Some (OfMapping foreign va word flags)) op call at made v b (t, g) = record { value = g.value; came = g.ahead.came; alive = g.ahead.good; stands = map_at foreign va word flags v g.value g.pending }
+  task_at (Some (OfMapping foreign va word flags)) op call at made v b g = record { value = g.value; came = g.ahead.came; alive = g.ahead.good; stands = map_at foreign va word flags v g.value g.pending }
   task_at (Some (OfDescriptors t)) op call at made v b g = owed_at v g.value g.owes
   task_at (Some (OfRead user va)) op call at made v b g = owed_at v g.value g.owes
   task_at (Some (OfWrite user va val)) op call at made v b g = owed_at v g.value g.owes
 
-  abbrev FineCalls : List Call → Type 0
-  FineCalls calls = (k : ℕ) (call : Call) → slice_get calls k ≡ Some call → FineCall l neither v0 real e call
-
-  next_at : (op : ℕ) (calls : List Call) (fine : FineCalls calls) (all : List (List Line)) (last : Solo) (o : Option Call) (rest : List Call) (at : Progress) (made : List LogLine) (v : PortValue) (before : List (List Line)) →
-      NextCall (plain_calls v0) (whose v0).domain op calls (λ n made ls. AreLines op made ls) (FairFrom v0) (Owed l neither v0 real e) (CallGoing l neither v0 real e op) (CallReady l neither v0 real e op) (FineCall l neither v0 real e) (call_lemmas l neither v0 real e op calls) fine all last o rest at made v before → St v
-  next_at op calls fine all last None rest at made v before next = owed_at v next.0 next.1
-  next_at op calls fine all last (Some call) rest at made v before next = task_at (task_in call) op (at.call + 1) at made v next.1.answer next.1.left
+  next_at : (op : ℕ) (calls : List Call) (all : List (List Line)) (last : Solo) (o : Option Call) (rest : List Call) (at : Progress) (made : List LogLine) (v : PortValue) (before : List (List Line)) →
+      NextCall (plain_calls v0) (whose v0).domain op calls (λ n made ls. AreLines op made ls) (FairFrom v0) (Owed l neither v0 real e) (CallGoing l neither v0 real e op) (CallReady l neither v0 real e op) (call_lemmas l neither v0 real e op calls) all last o rest at made v before → St v
+  next_at op calls all last None rest at made v before next = owed_at v next.0 next.1
+  next_at op calls all last (Some call) rest at made v before next = task_at (task_in call) op (at.call + 1) at made v next.1.answer next.1.left
 
   going_at : (j : Job) (n : ℕ) (at : Progress) (made : List LogLine) (v : PortValue) (a : Answered) → GoingOp l neither v0 real e j n at made v a → St v
   going_at (OfOne task) n at made v a g = task_at task n 0 at made v a g
   going_at (OfCalls calls) n at made v a (inl f) = owed_at v f.value f.owes
-  going_at (OfCalls calls) n at made v a (inr f) = next_at n calls f.fine f.all f.last (slice_get calls at.call) (drop (suc at.call) calls) at f.stands.own v f.stands.before f.stands.next
+  going_at (OfCalls calls) n at made v a (inr f) = next_at n calls f.all f.last (slice_get calls at.call) (drop (suc at.call) calls) at f.stands.own v f.stands.before f.stands.next
   going_at (OfDestroy x) n at made v a g = owed_at v g.value g.owes
 
   -- ---- along steps
   going_along : (A : Option Task → ℕ → Progress → List LogLine → PortValue → Answered → Type 0) (B : ℕ → ℕ → Progress → List LogLine → PortValue → Answered → Type 0) (j : Job) (n : ℕ) (at : Progress) (made : List LogLine) (v w : PortValue) (a : Answered) → Moving l neither v0 real e v w →
       ((task : Option Task) → Left l neither v0 real e task n 0 at made w a → A task n at made w a) → ((x : ℕ) → Dies l neither v0 real e x n at made w a → B x n at made w a) → GoingOp l neither v0 real e j n at made v a →
-      By log_of (λ a. a.left) (plain_calls v0) many refused (whose v0).domain IsLogged (λ op n made ls. AreLines op made ls) (FairFrom v0) (Owed l neither v0 real e) (One l neither v0 real e) (OneReady l neither v0 real e) (Dying l neither v0 real e) (DyingReady l neither v0 real e) (CallGoing l neither v0 real e) (CallReady l neither v0 real e) (FineCall l neither v0 real e) (call_lemmas l neither v0 real e) A B j n at made w a
+      By log_of (λ a. a.left) (plain_calls v0) many refused (whose v0).domain IsLogged (λ op n made ls. AreLines op made ls) (FairFrom v0) (Owed l neither v0 real e) (One l neither v0 real e) (OneReady l neither v0 real e) (Dying l neither v0 real e) (DyingReady l neither v0 real e) (CallGoing l neither v0 real e) (CallReady l neither v0 real e) (call_lemmas l neither v0 real e) A B j n at made w a
   going_along A B j n at made v w a m one dies g =
-      going_moved log_of (λ a. a.left) (plain_calls v0) many refused (whose v0).domain IsLogged (λ op n made ls. AreLines op made ls) (FairFrom v0) (Owed l neither v0 real e) (One l neither v0 real e) (OneReady l neither v0 real e) (Dying l neither v0 real e) (DyingReady l neither v0 real e) (CallGoing l neither v0 real e) (CallReady l neither v0 real e) (FineCall l neither v0 real e) (call_lemmas l neither v0 real e)
+      going_moved log_of (λ a. a.left) (plain_calls v0) many refused (whose v0).domain IsLogged (λ op n made ls. AreLines op made ls) (FairFrom v0) (Owed l neither v0 real e) (One l neither v0 real e) (OneReady l neither v0 real e) (Dying l neither v0 real e) (DyingReady l neither v0 real e) (CallGoing l neither v0 real e) (CallReady l neither v0 real e) (call_lemmas l neither v0 real e)
       A B j n at made v w a (λ task g. one task (task_moved l neither v0 real e task n 0 at made v w a m g)) (λ x g. dies x (dies_moved l neither v0 real e x n at made v w a m g)) (λ call own b g. call_moved l neither v0 real e n call (at.call + 1) at own v w b m g) (λ s owes. owes_moved l neither v0 real e (Lives l.stays neither v0) v w s m owes) g
 
   same_along : (j : Job) (n : ℕ) (at : Progress) (made : List LogLine) (v w : PortValue) (a : Answered) → Moving l neither v0 real e v w → GoingOp l neither v0 real e j n at made v a → GoingOp l neither v0 real e j n at made w a
@@ -107,24 +104,19 @@ module _ (l : Laws) (neither : NeitherLostNorBusy) (v0 : PortValue) (real : (who
   alone_is op s alive = ap (alone_where (whose v0) op s) alive
 
   -- the operations that the laws are about
-  abbrev pub FineOp : Op → Type 0
-  FineOp (ops.One call) = FineCall l neither v0 real e call
-  FineOp (ops.Multi cs) = FineCalls cs
-  FineOp _ = Unit {0}
-
-  live_begins : (op : Op) (n : ℕ) (v : PortValue) (s : Solo) → FineOp op → Owed l neither v0 real e v s → GoingOp l neither v0 real e (job_of op) n begun [] v (live_alone (whose v0) op s)
-  live_begins (ops.One call) n v s fine owes = subst (Left l neither v0 real e (task_in call) n 0 begun [] v) (sym (call_plain l neither v0 real e call 0 s)) (task_begins l neither v0 real e (task_in call) n 0 0 v s fine owes)
-  live_begins (ops.Multi cs) n v s fine owes =
+  live_begins : (op : Op) (n : ℕ) (v : PortValue) (s : Solo) → Owed l neither v0 real e v s → GoingOp l neither v0 real e (job_of op) n begun [] v (live_alone (whose v0) op s)
+  live_begins (ops.One call) n v s owes = subst (Left l neither v0 real e (task_in call) n 0 begun [] v) (sym (call_plain l neither v0 real e call 0 s)) (task_begins l neither v0 real e (task_in call) n 0 0 v s owes)
+  live_begins (ops.Multi cs) n v s owes =
       subst (GoingOp l neither v0 real e (OfCalls cs) n begun [] v) (sym (multicall_many v0 cs s))
-      (calls_begin_by log_of (λ a. a.left) (plain_calls v0) many refused (whose v0).domain IsLogged (λ op n made ls. AreLines op made ls) (FairFrom v0) (Owed l neither v0 real e) (One l neither v0 real e) (OneReady l neither v0 real e) (Dying l neither v0 real e) (DyingReady l neither v0 real e) (CallGoing l neither v0 real e) (CallReady l neither v0 real e) (FineCall l neither v0 real e) (call_lemmas l neither v0 real e) cs n v s fine owes)
-  live_begins (ops.Read user va) n v s fine owes = task_begins l neither v0 real e (Some (OfRead user va)) n 0 0 v s tt owes
-  live_begins (ops.Write user va val) n v s fine owes = task_begins l neither v0 real e (Some (OfWrite user va val)) n 0 0 v s tt owes
-  live_begins (ops.TouchLdt page) n v s fine owes = task_begins l neither v0 real e (Some (OfDescriptors (TouchLdt page))) n 0 0 v s tt owes
-  live_begins (ops.Destroy x) n v s fine owes = dies_begins l neither v0 real e x n v s owes
-  live_begins (ops.Grant to over) n v s fine owes = task_begins l neither v0 real e None n 0 0 v s tt owes
-  live_begins (ops.Revoke to over) n v s fine owes = task_begins l neither v0 real e None n 0 0 v s tt owes
-  live_begins (ops.Ptwr user va val) n v s fine owes = task_begins l neither v0 real e None n 0 0 v s tt owes
-  live_begins (ops.Xchg first from to items) n v s fine owes = task_begins l neither v0 real e None n 0 0 v s tt owes
+      (calls_begin_by log_of (λ a. a.left) (plain_calls v0) many refused (whose v0).domain IsLogged (λ op n made ls. AreLines op made ls) (FairFrom v0) (Owed l neither v0 real e) (One l neither v0 real e) (OneReady l neither v0 real e) (Dying l neither v0 real e) (DyingReady l neither v0 real e) (CallGoing l neither v0 real e) (CallReady l neither v0 real e) (call_lemmas l neither v0 real e) cs n v s owes)
+  live_begins (ops.Read user va) n v s owes = task_begins l neither v0 real e (Some (OfRead user va)) n 0 0 v s owes
+  live_begins (ops.Write user va val) n v s owes = task_begins l neither v0 real e (Some (OfWrite user va val)) n 0 0 v s owes
+  live_begins (ops.TouchLdt page) n v s owes = task_begins l neither v0 real e (Some (OfDescriptors (TouchLdt page))) n 0 0 v s owes
+  live_begins (ops.Destroy x) n v s owes = dies_begins l neither v0 real e x n v s owes
+  live_begins (ops.Grant to over) n v s owes = task_begins l neither v0 real e None n 0 0 v s owes
+  live_begins (ops.Revoke to over) n v s owes = task_begins l neither v0 real e None n 0 0 v s owes
+  live_begins (ops.Ptwr user va val) n v s owes = task_begins l neither v0 real e None n 0 0 v s owes
+  live_begins (ops.Xchg first from to items) n v s owes = task_begins l neither v0 real e None n 0 0 v s owes
 
   -- ---- the own domain is never found dying
   never_dies : (v u : PortValue) (run found : ℕ) → Begins v u (whose v0).domain run found → found ≢ 0 → St u → ⊥
@@ -147,17 +139,17 @@ module _ (l : Laws) (neither : NeitherLostNorBusy) (v0 : PortValue) (real : (who
     pub clean : Clean v s
 
   abbrev ComesAs : Op → ℕ → Progress → List LogLine → PortValue → Answered → Result ℕ Stop → Type 0
-  ComesAs op = WorkComes (plain_ops l neither v0 real e) (whose v0).domain IsLogged (FairFrom v0) (Owed l neither v0 real e) CleanAt IsStoppedAt (λ op. GoingOp l neither v0 real e (job_of op)) (λ op. ReadyOp l neither v0 real e (job_of op)) FineOp op
+  ComesAs op = WorkComes (plain_ops l neither v0 real e) (whose v0).domain IsLogged (FairFrom v0) (Owed l neither v0 real e) CleanAt IsStoppedAt (λ op. GoingOp l neither v0 real e (job_of op)) (λ op. ReadyOp l neither v0 real e (job_of op)) op
 
   as_turned : (op : Op) (n : ℕ) (to : Progress) (made : List LogLine) (w : PortValue) (a : Answered) (r : Result ℕ Stop) → Comes_op l neither v0 real e (job_of op) n to made w a r → ComesAs op n to made w a r
   as_turned op n to made w a (Ok value) c = record { logs = c.logs; owes = c.owes }
   as_turned op n to made w a (Err (Refused x)) c = record { logs = c.logs; owes = c.owes }
   as_turned op n to made w a (Err (Paused p)) c = c
 
-  pub script_lemmas : Lemmas (plain_ops l neither v0 real e) (whose v0).domain IsLogged (FairFrom v0) (Owed l neither v0 real e) CleanAt IsStoppedAt (λ op. GoingOp l neither v0 real e (job_of op)) (λ op. ReadyOp l neither v0 real e (job_of op)) FineOp
+  pub script_lemmas : Lemmas (plain_ops l neither v0 real e) (whose v0).domain IsLogged (FairFrom v0) (Owed l neither v0 real e) CleanAt IsStoppedAt (λ op. GoingOp l neither v0 real e (job_of op)) (λ op. ReadyOp l neither v0 real e (job_of op))
   script_lemmas =
       record {
-        begins_op = λ op k v s fine owes. subst (GoingOp l neither v0 real e (job_of op) (k + 1) begun [] v) (sym (alone_is op s owes.ahead.good)) (live_begins op (k + 1) v s fine owes);
+        begins_op = λ op k v s owes. subst (GoingOp l neither v0 real e (job_of op) (k + 1) begun [] v) (sym (alone_is op s owes.ahead.good)) (live_begins op (k + 1) v s owes);
         begin = λ op n at made v w a run found b fair g. let st = going_at (job_of op) n at made v a g in same_along (job_of op) n at made v w a (alike_moves l neither v0 real e v w (begins_alike v w st.value (whose v0).domain run found st.stands b)) g;
         begin_owes = λ v w s run found b fair owes. owes_moved l neither v0 real e (Lives l.stays neither v0) v w s (alike_moves l neither v0 real e v w (begins_alike v w s (whose v0).domain run found (stands_in l.stays neither v s owes.owes) b)) owes;
         settle = λ op n at made below v w a asked stop settles fair g. same_along (job_of op) n at made v w a (unsettled_moves l neither v0 real e v w below asked stop settles) g;
@@ -187,10 +179,10 @@ module _ (l : Laws) (neither : NeitherLostNorBusy) (v0 : PortValue) (real : (who
   left_is [] k s = refl
   left_is (op ∷ script) k s = left_is script (suc k) (op_alone (whose v0) op s).left
 
-  pub whole_script : (c d : Processing) (w : PortValue) (s : Solo) → Turned c v0 d w → FairFrom v0 w → ((k : ℕ) (op : Op) → slice_get c.script k ≡ Some op → FineOp l neither v0 real e op) → c.domain ≡ (whose v0).domain → c.log ≡ [] → c.answered ≡ 0 → c.at ≡ begun → c.retired ≡ false → Clean v0 s → s.lives (whose v0).domain ≡ 0 → d.retired ≡ true →
+  pub whole_script : (c d : Processing) (w : PortValue) (s : Solo) → Turned c v0 d w → FairFrom v0 w → c.domain ≡ (whose v0).domain → c.log ≡ [] → c.answered ≡ 0 → c.at ≡ begun → c.retired ≡ false → Clean v0 s → s.lives (whose v0).domain ≡ 0 → d.retired ≡ true →
       IsLog IsLogged d.log (script_alone (whose v0) c.script s).log × IsStoppedAt w (script_alone (whose v0) c.script s).left
-  whole_script c d w s turned fair fine of log none at on clean alive retired =
+  whole_script c d w s turned fair of log none at on clean alive retired =
       let owes : Owed l neither v0 real e v0 s = record { ahead = record { came = came_self v0; good = alive }; owes = nothing clean } in
-      let k = script_by (plain_ops l neither v0 real e) (whose v0).domain IsLogged (FairFrom v0) (Owed l neither v0 real e) (CleanAt l neither v0 real e) IsStoppedAt (λ op. GoingOp l neither v0 real e (job_of op)) (λ op. ReadyOp l neither v0 real e (job_of op)) (FineOp l neither v0 real e) (script_lemmas l neither v0 real e)
-      c d v0 w s turned fair fine of log none at on owes retired in
+      let k = script_by (plain_ops l neither v0 real e) (whose v0).domain IsLogged (FairFrom v0) (Owed l neither v0 real e) (CleanAt l neither v0 real e) IsStoppedAt (λ op. GoingOp l neither v0 real e (job_of op)) (λ op. ReadyOp l neither v0 real e (job_of op)) (script_lemmas l neither v0 real e)
+      c d v0 w s turned fair of log none at on owes retired in
       (subst (IsLog IsLogged d.log) (sym (log_is c.script 0 s)) k.0, subst (IsStoppedAt w) (sym (left_is c.script 0 s)) k.1)

@@ -13,6 +13,7 @@ pub mod Moving
 pub mod Owning
 pub mod Pairing
 pub mod Premises
+pub mod Entering
 pub mod Opening
 pub mod Settling
 pub mod Showing

@@ -8,7 +8,6 @@ use Rattle.xp_words.specs.declared.ops.Pair.{Pair}
 use Rattle.xp_words.specs.declared.reply.LogLine.{LogLine}
 use Rattle.xp_words.specs.declared.reply.Refusal.TheVariants.{BadCommand}
 use Rattle.xp_words.specs.declared.reply.Stop.{Stop}
-use Rattle.xp_words.specs.declared.reply.Stop.TheVariants.{Refused, Paused}
 use Rattle.xp_board.specs.Told.{PortValue}
 use Rattle.foreign_map.specs.declared.owners.Owners.{Owners}
 use Rattle.step_maker.specs.Holds.{Rests}
@@ -47,15 +46,13 @@ zeroed (Err e) = refl
 -- ---- the laws of elements
 -- those of pairs and of updates by address keep what was paused so
 pub record Elements (l : Laws) (neither : NeitherLostNorBusy) (v0 : PortValue) : Type 1 where
-  -- what it takes that they are
-  pub Entries : Type 0
   pub KeepsPair : Owners → Pair → PortValue → Solo → Type 0
   pub pair_keeping : (foreign : ℕ) (p : Pair) → IsKeeping l.stays neither v0 (MayName l.stays neither v0 foreign) (KeepsPair (owners_of l.stays neither v0 foreign) p)
-  pub pair_law : Entries → (foreign : ℕ) (p : Pair) →
+  pub pair_law : (foreign : ℕ) (p : Pair) →
       LawOf l.stays neither v0 (MayName l.stays neither v0 foreign) (λ v w asked r. Updates (owners_of l.stays neither v0 foreign) (pairs.element_of p) v w asked r) (KeepsPair (owners_of l.stays neither v0 foreign) p) (pair_alone (own l.stays neither v0) (owners_of l.stays neither v0 foreign) p)
   pub KeepsMap : (foreign va word flags : ℕ) → PortValue → Solo → Type 0
   pub map_keeping : (foreign va word flags : ℕ) → IsKeeping l.stays neither v0 (Lives l.stays neither v0) (KeepsMap foreign va word flags)
-  pub map_law : Entries → (foreign va word flags : ℕ) → LawOf l.stays neither v0 (Lives l.stays neither v0) (λ v w asked r. UpdatesWord (whose v0).domain foreign va word flags v w asked r) (KeepsMap foreign va word flags) (map_word (own l.stays neither v0) foreign va word flags)
+  pub map_law : (foreign va word flags : ℕ) → LawOf l.stays neither v0 (Lives l.stays neither v0) (λ v w asked r. UpdatesWord (whose v0).domain foreign va word flags v w asked r) (KeepsMap foreign va word flags) (map_word (own l.stays neither v0) foreign va word flags)
   pub extent_law : ExtentLaw
 
 module _ (l : Laws) (neither : NeitherLostNorBusy) (v0 : PortValue) (real : (whose v0).domain < length v0.post.machine.page_limit) (e : Elements l neither v0) where
@@ -85,29 +82,23 @@ module _ (l : Laws) (neither : NeitherLostNorBusy) (v0 : PortValue) (real : (who
   -- ---- what is left of it
   abbrev pub TaskGoing : Option Task → ℕ → ℕ → Progress → List LogLine → PortValue → Answered → Type 0
   TaskGoing None op call at made v b = Begins l.stays neither v0 made v b (λ s. refused BadCommand s)
-  TaskGoing (Some (OfPairs foreign list)) op call at made v b = (t : e.Entries) × PairsGoing l.stays neither v0 e.KeepsPair e.pair_keeping (e.pair_law t) real op foreign list at made v b
+  TaskGoing (Some (OfPairs foreign list)) op call at made v b = PairsGoing l.stays neither v0 e.KeepsPair e.pair_keeping e.pair_law real op foreign list at made v b
   TaskGoing (Some (OfExt list)) op call at made v b = ExtGoing l.stays neither v0 (KeepsExt l neither v0) (ext_keeping l neither v0) (ext_law l neither v0) op list at made v b
   TaskGoing (Some (OfMem command order items)) op call at made v b = ExtentsGoing l.stays neither v0 op call command order items at made v b
-  TaskGoing (Some (OfMapping foreign va word flags)) op call at made v b = (t : e.Entries) × MapGoing l.stays neither v0 op foreign va word flags (e.KeepsMap foreign va word flags) (e.map_keeping foreign va word flags) (e.map_law t foreign va word flags) (dropped va flags) at made v b
+  TaskGoing (Some (OfMapping foreign va word flags)) op call at made v b = MapGoing l.stays neither v0 op foreign va word flags (e.KeepsMap foreign va word flags) (e.map_keeping foreign va word flags) (e.map_law foreign va word flags) (dropped va flags) at made v b
   TaskGoing (Some (OfDescriptors t)) op call at made v b = Begins l.stays neither v0 made v b (λ s. single (descriptors_alone l.stays neither v0 t s))
   TaskGoing (Some (OfRead user va)) op call at made v b = Begins l.stays neither v0 made v b (λ s. once (read_at (whose v0).machine user va s))
   TaskGoing (Some (OfWrite user va val)) op call at made v b = Begins l.stays neither v0 made v b (λ s. once (write_at (whose v0).machine user va val s))
 
-  -- the tasks that the laws are about
-  abbrev pub FineTask : Option Task → Type 0
-  FineTask (Some (OfPairs foreign list)) = e.Entries
-  FineTask (Some (OfMapping foreign va word flags)) = e.Entries
-  FineTask _ = Unit {0}
-
-  pub task_begins : (task : Option Task) (op call answered : ℕ) (v : PortValue) (s : Solo) → FineTask task → OwesT l.stays neither v0 v s → TaskGoing task op call (begun_at answered) [] v (plain_task task call s)
-  task_begins None op call k v s fine owes = record { value = s; owes = owes; nothing = refl; is = refl }
-  task_begins (Some (OfPairs foreign list)) op call k v s fine owes = (fine, inl (record { value = s; owes = owes; nothing = refl; is = refl }, refl))
-  task_begins (Some (OfExt list)) op call k v s fine owes = inl (record { value = s; owes = owes; nothing = refl; is = refl }, refl)
-  task_begins (Some (OfMem command order items)) op call k v s fine owes = inl (record { value = s; owes = owes; nothing = refl; is = refl }, refl, refl)
-  task_begins (Some (OfMapping foreign va word flags)) op call k v s fine owes = (fine, record { value = s; ahead = owes.ahead; pending = inl owes.owes; nothing = refl; unset = refl; is = refl })
-  task_begins (Some (OfDescriptors t)) op call k v s fine owes = record { value = s; owes = owes; nothing = refl; is = refl }
-  task_begins (Some (OfRead user va)) op call k v s fine owes = record { value = s; owes = owes; nothing = refl; is = refl }
-  task_begins (Some (OfWrite user va val)) op call k v s fine owes = record { value = s; owes = owes; nothing = refl; is = refl }
+  pub task_begins : (task : Option Task) (op call answered : ℕ) (v : PortValue) (s : Solo) → OwesT l.stays neither v0 v s → TaskGoing task op call (begun_at answered) [] v (plain_task task call s)
+  task_begins None op call k v s owes = record { value = s; owes = owes; nothing = refl; is = refl }
+  task_begins (Some (OfPairs foreign list)) op call k v s owes = inl (record { value = s; owes = owes; nothing = refl; is = refl }, refl)
+  task_begins (Some (OfExt list)) op call k v s owes = inl (record { value = s; owes = owes; nothing = refl; is = refl }, refl)
+  task_begins (Some (OfMem command order items)) op call k v s owes = inl (record { value = s; owes = owes; nothing = refl; is = refl }, refl, refl)
+  task_begins (Some (OfMapping foreign va word flags)) op call k v s owes = record { value = s; ahead = owes.ahead; pending = inl owes.owes; nothing = refl; unset = refl; is = refl }
+  task_begins (Some (OfDescriptors t)) op call k v s owes = record { value = s; owes = owes; nothing = refl; is = refl }
+  task_begins (Some (OfRead user va)) op call k v s owes = record { value = s; owes = owes; nothing = refl; is = refl }
+  task_begins (Some (OfWrite user va val)) op call k v s owes = record { value = s; owes = owes; nothing = refl; is = refl }
 
   -- ---- the work of a turn
   abbrev pub TaskComes : Option Task → ℕ → ℕ → Progress → List LogLine → PortValue → Answered → Result ℕ Stop → Type 0
@@ -117,20 +108,13 @@ module _ (l : Laws) (neither : NeitherLostNorBusy) (v0 : PortValue) (real : (who
   none_made : (task : Option Task) (op call : ℕ) (to : Progress) (log log' made : List LogLine) (w : PortValue) (b : Answered) (r : Result ℕ Stop) → log' ≡ log ++ [] → TaskComes task op call to made w b r → (new : List LogLine) × (log' ≡ log ++ new) × TaskComes task op call to (made ++ new) w b r
   none_made task op call to log log' made w b r is comes = ([], is, subst (λ ls. TaskComes task op call to ls w b r) (sym (append-nil made)) comes)
 
-  -- what is left of it, said otherwise
-  left_so : (G H : (at : Progress) (made : List LogLine) (w : PortValue) → Type 0) (op : ℕ) (to : Progress) (made : List LogLine) (w : PortValue) (b : Answered) (r : Result ℕ Stop) → (G to made w → H to made w) → Comes l.stays neither v0 G op to made w b r → Comes l.stays neither v0 H op to made w b r
-  left_so G H op to made w b (Ok value) f c = c
-  left_so G H op to made w b (Err (Refused x)) f c = c
-  left_so G H op to made w b (Err (Paused p)) f c = f c
-
   pub task_work : (task : Option Task) (op call : ℕ) (at to : Progress) (made log log' : List LogLine) (v w : PortValue) (b : Answered) (asked : List Bool) (r : Result ℕ Stop) → WentOn (whose v0).domain task (record { op = op; call = call }) v at to w log log' asked r → FairFrom v0 w → Rests v → IsSettled v →
       TaskGoing task op call at made v b → (new : List LogLine) × (log' ≡ log ++ new) × TaskComes task op call to (made ++ new) w b r
   task_work None op call at to made log log' v w b asked r went fair rests settled g = none_made None op call to log log' made w b r went.lines (unbuilt_work l.stays neither v0 op to made v w b asked r (λ to made w. TaskGoing None op call to made w b) went.works g)
-  task_work (Some (OfPairs foreign list)) op call at to made log log' v w b asked r went fair rests settled (t, g) =
+  task_work (Some (OfPairs foreign list)) op call at to made log log' v w b asked r went fair rests settled g =
       none_made (Some (OfPairs foreign list)) op call to log log' made w b r went.lines
       (subst (λ y. TaskComes (Some (OfPairs foreign list)) op call to made w b y) (sym went.works.answer_is)
-      (left_so (λ to made w. PairsGoing l.stays neither v0 e.KeepsPair e.pair_keeping (e.pair_law t) real op foreign list to made w b) (λ to made w. TaskGoing (Some (OfPairs foreign list)) op call to made w b) op to made w b (valued went.works.ended) (λ h. (t, h))
-      (pairs_work l.stays neither v0 e.KeepsPair e.pair_keeping (e.pair_law t) real op foreign list at to made v w b asked went.works.ended at.done to.done refl refl went.works.works fair g)))
+      (pairs_work l.stays neither v0 e.KeepsPair e.pair_keeping e.pair_law real op foreign list at to made v w b asked went.works.ended at.done to.done refl refl went.works.works fair g))
   task_work (Some (OfExt list)) op call at to made log log' v w b asked r went fair rests settled g =
       none_made (Some (OfExt list)) op call to log log' made w b r went.lines
       (subst (λ y. TaskComes (Some (OfExt list)) op call to made w b y) (sym went.works.answer_is) (ext_work l.stays neither v0 (KeepsExt l neither v0) (ext_keeping l neither v0) (ext_law l neither v0) op list at.done at.awaited at to made v w b asked went.works.ended refl went.works.works fair g))
@@ -140,11 +124,10 @@ module _ (l : Laws) (neither : NeitherLostNorBusy) (v0 : PortValue) (real : (who
     subst (λ y. TaskComes (Some (OfMem command order items)) op call to (made ++ given_lines (record { op = op; call = call }) (gave_of (whose v0).domain (Some (OfMem command order items)) at.awaited v at.done to.done w asked r went.works)) w b y) (sym went.works.answer_is)
         (extents_work l.stays neither v0 e.extent_law op call command order items at to made v w b asked went.works.ended went.works.works went.within fair rests settled g),
   )
-  task_work (Some (OfMapping foreign va word flags)) op call at to made log log' v w b asked r went fair rests settled (t, g) =
+  task_work (Some (OfMapping foreign va word flags)) op call at to made log log' v w b asked r went fair rests settled g =
       none_made (Some (OfMapping foreign va word flags)) op call to log log' made w b r went.lines
       (subst (λ y. TaskComes (Some (OfMapping foreign va word flags)) op call to made w b y) (sym went.works.answer_is)
-      (left_so (λ to made w. MapGoing l.stays neither v0 op foreign va word flags (e.KeepsMap foreign va word flags) (e.map_keeping foreign va word flags) (e.map_law t foreign va word flags) (dropped va flags) to made w b) (λ to made w. TaskGoing (Some (OfMapping foreign va word flags)) op call to made w b) op to made w b (valued went.works.ended) (λ h. (t, h))
-      (map_work l.stays neither v0 op foreign va word flags (e.KeepsMap foreign va word flags) (e.map_keeping foreign va word flags) (e.map_law t foreign va word flags) (dropped va flags) at.awaited at to made v w b asked went.works.ended at.done to.done refl refl went.works.works fair g)))
+      (map_work l.stays neither v0 op foreign va word flags (e.KeepsMap foreign va word flags) (e.map_keeping foreign va word flags) (e.map_law foreign va word flags) (dropped va flags) at.awaited at to made v w b asked went.works.ended at.done to.done refl refl went.works.works fair g))
   task_work (Some (OfDescriptors t)) op call at to made log log' v w b asked r went fair rests settled g =
       none_made (Some (OfDescriptors t)) op call to log log' made w b r went.lines
       (subst (λ y. TaskComes (Some (OfDescriptors t)) op call to made w b y) (sym went.works.answer_is) (descriptors_work l.stays neither v0 op l.nobody t to made v w b asked went.works.ended went.works.works fair rests settled g))
@@ -185,17 +168,17 @@ module _ (l : Laws) (neither : NeitherLostNorBusy) (v0 : PortValue) (real : (who
 
   pub task_moved : (task : Option Task) (op call : ℕ) (at : Progress) (made : List LogLine) (v w : PortValue) (b : Answered) → Moving v w → TaskGoing task op call at made v b → TaskGoing task op call at made w b
   task_moved None op call at made v w b m g = begins_moved made v w b _ m g
-  task_moved (Some (OfPairs foreign list)) op call at made v w b m (x, inl g) = (x, inl (begins_moved made v w b _ m g.0, g.1))
-  task_moved (Some (OfPairs foreign list)) op call at made v w b m (x, inr g) =
+  task_moved (Some (OfPairs foreign list)) op call at made v w b m (inl g) = inl (begins_moved made v w b _ m g.0, g.1)
+  task_moved (Some (OfPairs foreign list)) op call at made v w b m (inr g) =
       let t = g.stands.0 in
-      (x, inr (record { some = g.some; few = g.few; nothing = g.nothing; stands = (t, g.stands.1, pairs_moved foreign list at v w t m g.stands.2) }))
+      inr (record { some = g.some; few = g.few; nothing = g.nothing; stands = (t, g.stands.1, pairs_moved foreign list at v w t m g.stands.2) })
   task_moved (Some (OfExt list)) op call at made v w b m (inl g) = inl (begins_moved made v w b _ m g.0, g.1)
   task_moved (Some (OfExt list)) op call at made v w b m (inr g) = inr (record { few = g.few; nothing = g.nothing; value = g.value; comes = g.comes; pending = ext_moved list at v w g.value m g.pending })
   task_moved (Some (OfMem command order items)) op call at made v w b m (inl g) = inl (begins_moved made v w b _ m g.0, g.1, g.2)
   task_moved (Some (OfMem command order items)) op call at made v w b m (inr g) =
       inr (record { checked = g.checked; some = g.some; value = g.value; owes = owes_moved (Lives l.stays neither v0) v w g.value m g.owes; begun = g.begun; within = g.within; most = g.most; lines = g.lines; made_are = g.made_are; is = g.is })
-  task_moved (Some (OfMapping foreign va word flags)) op call at made v w b m (x, g) =
-      (x, record { value = g.value; ahead = ahead_moved (Lives l.stays neither v0) v w g.value m.came g.ahead; pending = map_moved foreign va word flags v w g.value m g.pending; nothing = g.nothing; unset = g.unset; is = g.is })
+  task_moved (Some (OfMapping foreign va word flags)) op call at made v w b m g =
+      record { value = g.value; ahead = ahead_moved (Lives l.stays neither v0) v w g.value m.came g.ahead; pending = map_moved foreign va word flags v w g.value m g.pending; nothing = g.nothing; unset = g.unset; is = g.is }
   task_moved (Some (OfDescriptors t)) op call at made v w b m g = begins_moved made v w b _ m g
   task_moved (Some (OfRead user va)) op call at made v w b m g = begins_moved made v w b _ m g
   task_moved (Some (OfWrite user va val)) op call at made v w b m g = begins_moved made v w b _ m g

@@ -32,7 +32,7 @@ use Rattle.script_laws.specs.Plain.{PlainScript}
 -- `Logs n made a`: operation number n logged these lines, its reply the last, and they are the answer a. `Fair`: what is said of a port and holds at the earlier ones, too. Between
 -- operations `Owes v s`: what is settled first leaves s; and `Clean v s` where nothing is to be settled, `Stopped v s` where the vCPU is stopped, too. Within one `Going op n at made v a`: all that is left
 -- of operation number n, which has come so far and logged these lines, comes from v to a.
-module _ {Solo Answer Answered : Type 0} (plain : PlainScript Op Solo Answer Answered) (d : ℕ) (Logs : ℕ → List LogLine → Answer → Type 0) (Fair : PortValue → Type 0) (Owes Clean Stopped : PortValue → Solo → Type 0) (Going Ready : Op → ℕ → Progress → List LogLine → PortValue → Answered → Type 0) (Fine : Op → Type 0) where
+module _ {Solo Answer Answered : Type 0} (plain : PlainScript Op Solo Answer Answered) (d : ℕ) (Logs : ℕ → List LogLine → Answer → Type 0) (Fair : PortValue → Type 0) (Owes Clean Stopped : PortValue → Solo → Type 0) (Going Ready : Op → ℕ → Progress → List LogLine → PortValue → Answered → Type 0) where
   -- the answer of the operation is logged, and what is owed is what it leaves
   pub record AnswerComes (n : ℕ) (made : List LogLine) (reply : Reply) (a : Answered) (w : PortValue) : Type 0 where
     pub logs : Logs n (made ++ lines.Answer n 0 reply ∷ []) (plain.answer a)
@@ -47,7 +47,7 @@ module _ {Solo Answer Answered : Type 0} (plain : PlainScript Op Solo Answer Ans
   -- What the parts of a turn come to.
   pub record Lemmas : Type 0 where
     -- an operation begins where another one ended
-    pub begins_op : (op : Op) (k : ℕ) (v : PortValue) (s : Solo) → Fine op → Owes v s → Going op (k + 1) begun [] v (plain.alone k op s)
+    pub begins_op : (op : Op) (k : ℕ) (v : PortValue) (s : Solo) → Owes v s → Going op (k + 1) begun [] v (plain.alone k op s)
     -- the beginning of a turn
     pub begin : (op : Op) (n : ℕ) (at : Progress) (made : List LogLine) (v w : PortValue) (a : Answered) (run life : ℕ) → Begins v w d run life → Fair w → Going op n at made v a → Going op n at made w a
     pub begin_owes : (v w : PortValue) (s : Solo) (run life : ℕ) → Begins v w d run life → Fair w → Owes v s → Owes w s
@@ -70,8 +70,6 @@ module _ {Solo Answer Answered : Type 0} (plain : PlainScript Op Solo Answer Ans
     pub back : (v w : PortValue) → Came v w → Fair w → Fair v
 
   -- each operation of a script is one that the lemmas are about
-  abbrev pub AreFine : List Op → Type 0
-  AreFine script = (k : ℕ) (op : Op) → slice_get script k ≡ Some op → Fine op
 
   -- `all` and `last`: what the whole script answers, and leaves
   module _ (l : Lemmas) (all : List Answer) (last : Solo) where
@@ -87,7 +85,6 @@ module _ {Solo Answer Answered : Type 0} (plain : PlainScript Op Solo Answer Ans
     -- between turns, of a vCPU that goes on: of its log a part is that of the answers so far, and the rest was logged by the operation that stands next
     pub record StandsIn (G : Relation) (c : Processing) (v : PortValue) : Type 0 where
       pub domain : c.domain ≡ d
-      pub fine : AreFine c.script
       pub before : List Answer
       pub counted : length before ≡ c.answered
       pub closed : List LogLine
@@ -112,9 +109,9 @@ module _ {Solo Answer Answered : Type 0} (plain : PlainScript Op Solo Answer Ans
     StandsBy false c v = Stands c v
 
     -- ---- an operation begins
-    begins_at : (script : List Op) (k : ℕ) (o : Option Op) (v : PortValue) (s : Solo) (before : List Answer) → AreFine script → slice_get script k ≡ o → Owes v s → before ++ plain.answers (drop k script) k s ≡ all → plain.ends (drop k script) k s ≡ last →
+    begins_at : (script : List Op) (k : ℕ) (o : Option Op) (v : PortValue) (s : Solo) (before : List Answer) → slice_get script k ≡ o → Owes v s → before ++ plain.answers (drop k script) k s ≡ all → plain.ends (drop k script) k s ≡ last →
         NextComes o (drop (suc k) script) k begun [] v before
-    begins_at script k None v s before fine is owes answers left =
+    begins_at script k None v s before is owes answers left =
         let none = none_left script k is in (
           s,
           owes,
@@ -122,16 +119,16 @@ module _ {Solo Answer Answered : Type 0} (plain : PlainScript Op Solo Answer Ans
           sym (append-nil before) ∙ (ap (λ xs. before ++ xs) (sym (ap (λ ops. plain.answers ops k s) none ∙ plain.no_answers k s)) ∙ answers),
           sym (plain.no_end k s) ∙ (sym (ap (λ ops. plain.ends ops k s) none) ∙ left),
         )
-    begins_at script k (Some op) v s before fine is owes answers left =
+    begins_at script k (Some op) v s before is owes answers left =
         let more = opened script k op is in (
           plain.alone k op s,
-          l.begins_op op k v s (fine k op is) owes,
+          l.begins_op op k v s owes,
           ap (λ xs. before ++ xs) (sym (ap (λ ops. plain.answers ops k s) more ∙ plain.more_answers op (drop (suc k) script) k s)) ∙ answers,
           sym (ap (λ ops. plain.ends ops k s) more ∙ plain.more_ends op (drop (suc k) script) k s) ∙ left,
         )
 
     -- ---- an operation is answered
-    module _ (c : Processing) (of : c.domain ≡ d) (fine : AreFine c.script) (before : List Answer) (counted : length before ≡ c.answered) (closed made : List LogLine) (log : IsLog Logs closed before) (a : Answered)
+    module _ (c : Processing) (of : c.domain ≡ d) (before : List Answer) (counted : length before ≡ c.answered) (closed made : List LogLine) (log : IsLog Logs closed before) (a : Answered)
         (answers : before ++ plain.answer a ∷ plain.answers (drop (suc c.answered) c.script) (suc c.answered) (plain.left a) ≡ all) (left : plain.ends (drop (suc c.answered) c.script) (suc c.answered) (plain.left a) ≡ last) where
       answered_stands : (to : Progress) (log' : List LogLine) (reply : Reply) (x : PortValue) → log' ≡ closed ++ made → AnswerComes (c.answered + 1) made reply a x → Stands (after_turn c to log' (ends.Answered reply)) x
       answered_stands to log' reply x parts comes =
@@ -139,7 +136,6 @@ module _ {Solo Answer Answered : Type 0} (plain : PlainScript Op Solo Answer Ans
           let next : suc c.answered ≡ c.answered + 1 = omega arith in
           record {
             domain = of;
-            fine = fine;
             before = before ++ plain.answer a ∷ [];
             counted = length-append before (plain.answer a ∷ []) ∙ ap (λ k. k + 1) counted;
             closed = log' ++ line ∷ [];
@@ -147,7 +143,7 @@ module _ {Solo Answer Answered : Type 0} (plain : PlainScript Op Solo Answer Ans
             parts = sym (append-nil (log' ++ line ∷ []));
             log = subst (λ ls. IsLog Logs ls (before ++ plain.answer a ∷ [])) (sym (ap (λ ls. ls ++ line ∷ []) parts ∙ append_assoc closed made (line ∷ [])))
                 (turns.IsLog.more closed (made ++ line ∷ []) before (plain.answer a) log (subst (λ k. Logs (k + 1) (made ++ line ∷ []) (plain.answer a)) (sym counted) comes.logs));
-            next = begins_at c.script (c.answered + 1) (slice_get c.script (c.answered + 1)) x (plain.left a) (before ++ plain.answer a ∷ []) fine refl comes.owes
+            next = begins_at c.script (c.answered + 1) (slice_get c.script (c.answered + 1)) x (plain.left a) (before ++ plain.answer a ∷ []) refl comes.owes
                 (ap (λ k. (before ++ plain.answer a ∷ []) ++ plain.answers (drop k c.script) k (plain.left a)) (sym next) ∙ (append_assoc before (plain.answer a ∷ []) (plain.answers (drop (suc c.answered) c.script) (suc c.answered) (plain.left a)) ∙ answers))
                 (ap (λ k. plain.ends (drop k c.script) k (plain.left a)) (sym next) ∙ left);
           }
@@ -156,7 +152,6 @@ module _ {Solo Answer Answered : Type 0} (plain : PlainScript Op Solo Answer Ans
       paused_stands op to log' p x is parts going =
           record {
             domain = of;
-            fine = fine;
             before = before;
             counted = counted;
             closed = closed;
@@ -178,7 +173,6 @@ module _ {Solo Answer Answered : Type 0} (plain : PlainScript Op Solo Answer Ans
     stands_moved G c v w left f g s =
         record {
           domain = s.domain;
-          fine = s.fine;
           before = s.before;
           counted = s.counted;
           closed = s.closed;
@@ -208,14 +202,14 @@ module _ {Solo Answer Answered : Type 0} (plain : PlainScript Op Solo Answer Ans
       works_to : (op : Op) → next_of c ≡ Some op → (a : Answered) → s.before ++ plain.answer a ∷ plain.answers (drop (suc c.answered) c.script) (suc c.answered) (plain.left a) ≡ all → plain.ends (drop (suc c.answered) c.script) (suc c.answered) (plain.left a) ≡ last →
           (to : Progress) (log' new : List LogLine) (r : Result ℕ Stop) (u x : PortValue) → log' ≡ c.log ++ new → WorkComes op (c.answered + 1) to (s.made ++ new) u a r → EndsTurn (end_of to.done r) u x → Fair x → Stands (after_turn c to log' (end_of to.done r)) x
       works_to op is a answers left to log' new (Ok value) u x more comes end fair =
-          answered_stands c s.domain s.fine s.before s.counted s.closed (s.made ++ new) s.log a answers left to log' (reply_of to.done value None) x (more ∙ appended s.closed s.made c.log new s.parts)
+          answered_stands c s.domain s.before s.counted s.closed (s.made ++ new) s.log a answers left to log' (reply_of to.done value None) x (more ∙ appended s.closed s.made c.log new s.parts)
           (cut_behind (c.answered + 1) (s.made ++ new) (reply_of to.done value None) a u x end fair comes)
       works_to op is a answers left to log' new (Err (Refused y)) u x more comes end fair =
-          answered_stands c s.domain s.fine s.before s.counted s.closed (s.made ++ new) s.log a answers left to log' (reply_of to.done 0 (Some y)) x (more ∙ appended s.closed s.made c.log new s.parts)
+          answered_stands c s.domain s.before s.counted s.closed (s.made ++ new) s.log a answers left to log' (reply_of to.done 0 (Some y)) x (more ∙ appended s.closed s.made c.log new s.parts)
           (cut_behind (c.answered + 1) (s.made ++ new) (reply_of to.done 0 (Some y)) a u x end fair comes)
       works_to op is a answers left to log' new (Err (Paused p)) u x more comes end fair =
           subst (Stands (after_turn c to log' (ends.Paused p))) (sym end)
-          (paused_stands c s.domain s.fine s.before s.counted s.closed (s.made ++ new) s.log a answers left op to log' p u is (more ∙ appended s.closed s.made c.log new s.parts) comes)
+          (paused_stands c s.domain s.before s.counted s.closed (s.made ++ new) s.log a answers left op to log' p u is (more ∙ appended s.closed s.made c.log new s.parts) comes)
 
       went_by : (op : Op) → next_of c ≡ Some op → NextIn Ready (Some op) (drop (suc c.answered) c.script) c.answered c.at s.made v s.before → (e : Processing) (u x : PortValue) (asked : List Bool) (end : TurnEnd) → DoesNext c (Some op) e v u asked end → EndsTurn end u x → Fair x → StandsBy e.retired e x
       went_by op is (a, going, answers, left) e u x asked end g ended fair =
@@ -250,7 +244,7 @@ module _ {Solo Answer Answered : Type 0} (plain : PlainScript Op Solo Answer Ans
         let comes = subst (λ y. AnswerComes (c.answered + 1) s.made (reply_of (done_at (job_of op) c.at) 0 (Some (Dying y life))) a w) (sym s.domain) (l.dies op (c.answered + 1) c.at s.made v u w a run life began dead g.0 fair_w going) in
         let e_is : e ≡ after_turn c c.at c.log (ends.Answered reply) = g.2 ∙ ap (after_turn c c.at c.log) g.1 in
         subst (λ k. StandsBy k.retired k x) (sym e_is)
-        (by_false (after_turn c c.at c.log (ends.Answered reply)) x on (answered_stands c s.domain s.fine s.before s.counted s.closed s.made s.log a answers left c.at c.log reply x s.parts (cut_behind (c.answered + 1) s.made reply a w x ended2 fair comes)))
+        (by_false (after_turn c c.at c.log (ends.Answered reply)) x on (answered_stands c s.domain s.before s.counted s.closed s.made s.log a answers left c.at c.log reply x s.parts (cut_behind (c.answered + 1) s.made reply a w x ended2 fair comes)))
 
     -- ---- a turn
     next_back : (c e : Processing) (o : Option Op) (v u : PortValue) (asked : List Bool) (end : TurnEnd) → DoesNext c o e v u asked end → Fair u → Fair v
@@ -292,11 +286,10 @@ module _ {Solo Answer Answered : Type 0} (plain : PlainScript Op Solo Answer Ans
         turn_by b e end u x asked turn fair on (stands_by b u on (turned_by c v b u before (l.back u x (turn_came b e end u x asked turn) fair) s))
 
     -- a script that is at its beginning
-    stands_first : (c : Processing) (v : PortValue) (s : Solo) → AreFine c.script → c.domain ≡ d → c.log ≡ [] → c.answered ≡ 0 → c.at ≡ begun → Owes v s → plain.answers c.script 0 s ≡ all → plain.ends c.script 0 s ≡ last → Stands c v
-    stands_first c v s fine of log none at owes answers left =
+    stands_first : (c : Processing) (v : PortValue) (s : Solo) → c.domain ≡ d → c.log ≡ [] → c.answered ≡ 0 → c.at ≡ begun → Owes v s → plain.answers c.script 0 s ≡ all → plain.ends c.script 0 s ≡ last → Stands c v
+    stands_first c v s of log none at owes answers left =
         record {
           domain = of;
-          fine = fine;
           before = [];
           counted = sym none;
           closed = [];
@@ -304,20 +297,20 @@ module _ {Solo Answer Answered : Type 0} (plain : PlainScript Op Solo Answer Ans
           parts = log;
           log = turns.IsLog.none;
           next = subst (λ k. NextComes (slice_get c.script k) (drop (suc k) c.script) k c.at [] v []) (sym none)
-              (subst (λ to. NextComes (slice_get c.script 0) (drop 1 c.script) 0 to [] v []) (sym at) (begins_at c.script 0 (slice_get c.script 0) v s [] fine refl owes answers left));
+              (subst (λ to. NextComes (slice_get c.script 0) (drop 1 c.script) 0 to [] v []) (sym at) (begins_at c.script 0 (slice_get c.script 0) v s [] refl owes answers left));
         }
 
     -- and at its end, however many turns it took
-    pub ended_by : (c : Processing) (v : PortValue) (e : Processing) (x : PortValue) (s : Solo) → Turned c v e x → Fair x → AreFine c.script → c.domain ≡ d → c.log ≡ [] → c.answered ≡ 0 → c.at ≡ begun → c.retired ≡ false → Owes v s → plain.answers c.script 0 s ≡ all → plain.ends c.script 0 s ≡ last →
+    pub ended_by : (c : Processing) (v : PortValue) (e : Processing) (x : PortValue) (s : Solo) → Turned c v e x → Fair x → c.domain ≡ d → c.log ≡ [] → c.answered ≡ 0 → c.at ≡ begun → c.retired ≡ false → Owes v s → plain.answers c.script 0 s ≡ all → plain.ends c.script 0 s ≡ last →
         e.retired ≡ true → Ends e x
-    ended_by c v e x s turned fair fine of log none at on owes answers left retired =
-        subst (λ b. StandsBy b e x) retired (turned_by c v e x turned fair (by_false c v on (stands_first c v s fine of log none at owes answers left)))
+    ended_by c v e x s turned fair of log none at on owes answers left retired =
+        subst (λ b. StandsBy b e x) retired (turned_by c v e x turned fair (by_false c v on (stands_first c v s of log none at owes answers left)))
 
 -- ---- from the first turn to the last
 -- The log is that of the plain script's answers, and the port stands to what that leaves.
-pub script_by : {Solo Answer Answered : Type 0} (plain : PlainScript Op Solo Answer Answered) (d : ℕ) (Logs : ℕ → List LogLine → Answer → Type 0) (Fair : PortValue → Type 0) (Owes Clean Stopped : PortValue → Solo → Type 0) (Going Ready : Op → ℕ → Progress → List LogLine → PortValue → Answered → Type 0) (Fine : Op → Type 0) →
-    Lemmas plain d Logs Fair Owes Clean Stopped Going Ready Fine → (c e : Processing) (v x : PortValue) (s : Solo) → Turned c v e x → Fair x → ((k : ℕ) (op : Op) → slice_get c.script k ≡ Some op → Fine op) → c.domain ≡ d → c.log ≡ [] → c.answered ≡ 0 → c.at ≡ begun → c.retired ≡ false → Owes v s → e.retired ≡ true →
+pub script_by : {Solo Answer Answered : Type 0} (plain : PlainScript Op Solo Answer Answered) (d : ℕ) (Logs : ℕ → List LogLine → Answer → Type 0) (Fair : PortValue → Type 0) (Owes Clean Stopped : PortValue → Solo → Type 0) (Going Ready : Op → ℕ → Progress → List LogLine → PortValue → Answered → Type 0) →
+    Lemmas plain d Logs Fair Owes Clean Stopped Going Ready → (c e : Processing) (v x : PortValue) (s : Solo) → Turned c v e x → Fair x → c.domain ≡ d → c.log ≡ [] → c.answered ≡ 0 → c.at ≡ begun → c.retired ≡ false → Owes v s → e.retired ≡ true →
     IsLog Logs e.log (plain.answers c.script 0 s) × Stopped x (plain.ends c.script 0 s)
-script_by plain d Logs Fair Owes Clean Stopped Going Ready Fine l c e v x s turned fair fine of log none at on owes retired =
-    let k = ended_by plain d Logs Fair Owes Clean Stopped Going Ready Fine l (plain.answers c.script 0 s) (plain.ends c.script 0 s) c v e x s turned fair fine of log none at on owes refl refl retired in
+script_by plain d Logs Fair Owes Clean Stopped Going Ready l c e v x s turned fair of log none at on owes retired =
+    let k = ended_by plain d Logs Fair Owes Clean Stopped Going Ready l (plain.answers c.script 0 s) (plain.ends c.script 0 s) c v e x s turned fair of log none at on owes refl refl retired in
     (k.log, k.stopped)

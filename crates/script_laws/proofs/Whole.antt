@@ -29,7 +29,7 @@ use Rattle.script_laws.proofs.Listed.{lines_more}
 use Rattle.script_laws.proofs.Moving.{alike_moves, cut_alike, settled_moves, unsettled_moves}
 use Rattle.script_laws.proofs.Premises.{FairFrom, fair_back}
 use Rattle.script_laws.proofs.Settling.{stands_in}
-use Rattle.script_laws.proofs.Tasking.{FineTask, Elements, Moving, TaskComes, TaskGoing, call_plain, owes_moved, task_begins, task_moved, task_work}
+use Rattle.script_laws.proofs.Tasking.{Elements, Moving, TaskComes, TaskGoing, call_plain, owes_moved, task_begins, task_moved, task_work}
 use Rattle.script_laws.proofs.Tasks.{Comes, IsTaskAnswered, Lives, OwesT}
 use Rattle.script_laws.proofs.Working.{Answers, Comes as ComesBy, GoingBy, ManyLemmas, ReadyBy, WorkOf, work_by}
 
@@ -124,9 +124,6 @@ module _ (l : Laws) (neither : NeitherLostNorBusy) (v0 : PortValue) (real : (who
     pub rests : Rests v
     pub settled : IsSettled v
 
-  abbrev pub FineCall : Call → Type 0
-  FineCall call = FineTask l neither v0 real e (task_in call)
-
   pub call_moved : (op : ℕ) (call : Call) (n : ℕ) (at : Progress) (made : List LogLine) (v w : PortValue) (a : Answered) → Moving l neither v0 real e v w → CallGoing op call n at made v a → CallGoing op call n at made w a
   call_moved op call n at made v w a m g = record { answer = g.answer; is = g.is; left = task_moved l neither v0 real e (task_in call) op n at made v w g.answer m g.left }
 
@@ -136,16 +133,16 @@ module _ (l : Laws) (neither : NeitherLostNorBusy) (v0 : PortValue) (real : (who
       subst (λ (y : Answered). AreLines op (made ++ lines.Answer op n reply ∷ []) y.lines × Owed w y.left) is (lines_more op made (lines.Answer op n reply ∷ []) b.lines (Called n b.answer ∷ []) t.lines ((refl, refl, t.replies), tt), t.owes)
 
   call_comes : (op : ℕ) (calls : List Call) (call : Call) (n : ℕ) (to : Progress) (made : List LogLine) (w : PortValue) (b a : Answered) (r : Result ℕ Stop) → called n b ≡ a → TaskComes l neither v0 real e (task_in call) op n to made w b r →
-      CallComes (plain_calls v0) (whose v0).domain op calls (λ n made ls. AreLines op made ls) (FairFrom v0) Owed (CallGoing op) (CallReady op) FineCall call n to made w a r
+      CallComes (plain_calls v0) (whose v0).domain op calls (λ n made ls. AreLines op made ls) (FairFrom v0) Owed (CallGoing op) (CallReady op) call n to made w a r
   call_comes op calls call n to made w b a (Ok value) is t = let k = call_answers op n made w (reply_of to.done value None) b a is t in record { logs = k.0; owes = k.1 }
   call_comes op calls call n to made w b a (Err (Refused x)) is t = let k = call_answers op n made w (reply_of to.done 0 (Some x)) b a is t in record { logs = k.0; owes = k.1 }
   call_comes op calls call n to made w b a (Err (Paused p)) is t = record { answer = b; is = is; left = t }
 
-  pub call_lemmas : (op : ℕ) (calls : List Call) → CallLemmas (plain_calls v0) (whose v0).domain op calls (λ n made ls. AreLines op made ls) (FairFrom v0) Owed (CallGoing op) (CallReady op) FineCall
+  pub call_lemmas : (op : ℕ) (calls : List Call) → CallLemmas (plain_calls v0) (whose v0).domain op calls (λ n made ls. AreLines op made ls) (FairFrom v0) Owed (CallGoing op) (CallReady op)
   call_lemmas op calls =
       record {
-        begins_call = λ call k v s fine owes.
-            record { answer = call_alone (whose v0) (k + 1) call s; is = refl; left = subst (Left (task_in call) op (k + 1) (begun_at k) [] v) (sym (call_plain l neither v0 real e call (k + 1) s)) (task_begins l neither v0 real e (task_in call) op (k + 1) k v s fine owes) };
+        begins_call = λ call k v s owes.
+            record { answer = call_alone (whose v0) (k + 1) call s; is = refl; left = subst (Left (task_in call) op (k + 1) (begun_at k) [] v) (sym (call_plain l neither v0 real e call (k + 1) s)) (task_begins l neither v0 real e (task_in call) op (k + 1) k v s owes) };
         settle = λ call n at made v w a asked stop settles fair g. call_moved op call n at made v w a (unsettled_moves l neither v0 real e v w None asked stop settles) g;
         ready = λ call n at made v w a asked settles fair g. record { going = call_moved op call n at made v w a (settled_moves l neither v0 real e v w None asked settles) g; rests = settles.rests; settled = record { first = settles.clear; second = settles.clear_too } };
         work = λ call at to made log log' v w a asked r went fair g.
@@ -192,23 +189,23 @@ module _ (l : Laws) (neither : NeitherLostNorBusy) (v0 : PortValue) (real : (who
 
   abbrev pub GoingOp : Job → ℕ → Progress → List LogLine → PortValue → Answered → Type 0
   GoingOp =
-      GoingBy log_of (λ a. a.left) (plain_calls v0) many refused (whose v0).domain IsLogged (λ op n made ls. AreLines op made ls) (FairFrom v0) Owed One OneReady Dying DyingReady CallGoing CallReady FineCall call_lemmas
+      GoingBy log_of (λ a. a.left) (plain_calls v0) many refused (whose v0).domain IsLogged (λ op n made ls. AreLines op made ls) (FairFrom v0) Owed One OneReady Dying DyingReady CallGoing CallReady call_lemmas
 
   abbrev pub ReadyOp : Job → ℕ → Progress → List LogLine → PortValue → Answered → Type 0
   ReadyOp =
-      ReadyBy log_of (λ a. a.left) (plain_calls v0) many refused (whose v0).domain IsLogged (λ op n made ls. AreLines op made ls) (FairFrom v0) Owed One OneReady Dying DyingReady CallGoing CallReady FineCall call_lemmas
+      ReadyBy log_of (λ a. a.left) (plain_calls v0) many refused (whose v0).domain IsLogged (λ op n made ls. AreLines op made ls) (FairFrom v0) Owed One OneReady Dying DyingReady CallGoing CallReady call_lemmas
 
   abbrev pub Answers_op : ℕ → List LogLine → Reply → Answered → PortValue → Type 0
-  Answers_op = Answers log_of (λ a. a.left) (plain_calls v0) many refused (whose v0).domain IsLogged (λ op n made ls. AreLines op made ls) (FairFrom v0) Owed One OneReady Dying DyingReady CallGoing CallReady FineCall call_lemmas
+  Answers_op = Answers log_of (λ a. a.left) (plain_calls v0) many refused (whose v0).domain IsLogged (λ op n made ls. AreLines op made ls) (FairFrom v0) Owed One OneReady Dying DyingReady CallGoing CallReady call_lemmas
 
   answers_op : (n : ℕ) (made : List LogLine) (w : PortValue) (reply : Reply) (a : Answered) → IsTaskAnswered l.stays neither v0 n made w reply a → Answers_op n made reply a w
   answers_op n made w reply a t = record { logs = record { before = made; reply = reply; is = refl; lines_are = t.lines; answers = t.replies }; owes = t.owes }
 
   abbrev pub Comes_op : Job → ℕ → Progress → List LogLine → PortValue → Answered → Result ℕ Stop → Type 0
-  Comes_op = ComesBy log_of (λ a. a.left) (plain_calls v0) many refused (whose v0).domain IsLogged (λ op n made ls. AreLines op made ls) (FairFrom v0) Owed One OneReady Dying DyingReady CallGoing CallReady FineCall call_lemmas
+  Comes_op = ComesBy log_of (λ a. a.left) (plain_calls v0) many refused (whose v0).domain IsLogged (λ op n made ls. AreLines op made ls) (FairFrom v0) Owed One OneReady Dying DyingReady CallGoing CallReady call_lemmas
 
   abbrev pub WorkOf_op : Job → Type 0
-  WorkOf_op = WorkOf log_of (λ a. a.left) (plain_calls v0) many refused (whose v0).domain IsLogged (λ op n made ls. AreLines op made ls) (FairFrom v0) Owed One OneReady Dying DyingReady CallGoing CallReady FineCall call_lemmas
+  WorkOf_op = WorkOf log_of (λ a. a.left) (plain_calls v0) many refused (whose v0).domain IsLogged (λ op n made ls. AreLines op made ls) (FairFrom v0) Owed One OneReady Dying DyingReady CallGoing CallReady call_lemmas
 
   one_comes : (task : Option Task) (n : ℕ) (to : Progress) (made : List LogLine) (w : PortValue) (a : Answered) (r : Result ℕ Stop) → TaskComes l neither v0 real e task n 0 to made w a r → Comes_op (OfOne task) n to made w a r
   one_comes task n to made w a (Ok value) t = answers_op n made w (reply_of to.done value None) a t
@@ -228,7 +225,7 @@ module _ (l : Laws) (neither : NeitherLostNorBusy) (v0 : PortValue) (real : (who
   dying_work x n at to made log log' v w a asked r went fair g =
       let k = dies_work l neither v0 real e x n at to made log log' v w a asked r went g.going g.rests g.settled in (k.0, k.1, dying_comes x n to (made ++ k.0) w a r k.2)
 
-  many_lemmas : ManyLemmas log_of (λ a. a.left) (plain_calls v0) many refused (whose v0).domain IsLogged (λ op n made ls. AreLines op made ls) (FairFrom v0) Owed One OneReady Dying DyingReady CallGoing CallReady FineCall call_lemmas
+  many_lemmas : ManyLemmas log_of (λ a. a.left) (plain_calls v0) many refused (whose v0).domain IsLogged (λ op n made ls. AreLines op made ls) (FairFrom v0) Owed One OneReady Dying DyingReady CallGoing CallReady call_lemmas
   many_lemmas =
       record {
         logged = λ n made all last log. record { before = made; reply = reply_of (length all) 0 None; is = refl; lines_are = lines_logged n made all log; answers = record { done = refl; value = refl; refusal = tt } };
@@ -238,4 +235,4 @@ module _ (l : Laws) (neither : NeitherLostNorBusy) (v0 : PortValue) (real : (who
       }
 
   pub all_work : (j : Job) → WorkOf_op j
-  all_work = work_by log_of (λ a. a.left) (plain_calls v0) many refused (whose v0).domain IsLogged (λ op n made ls. AreLines op made ls) (FairFrom v0) Owed One OneReady Dying DyingReady CallGoing CallReady FineCall call_lemmas many_lemmas one_work dying_work
+  all_work = work_by log_of (λ a. a.left) (plain_calls v0) many refused (whose v0).domain IsLogged (λ op n made ls. AreLines op made ls) (FairFrom v0) Owed One OneReady Dying DyingReady CallGoing CallReady call_lemmas many_lemmas one_work dying_work

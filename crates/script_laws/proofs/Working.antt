@@ -2,7 +2,6 @@
 use Rattle.std.proofs.Common.{◌≡◌, ◌⊎◌, ℕ, ◌+◌, ◌<◌, ◌≤◌, nat_lt, if◌then◌else◌, Bool, List, [], ◌∷◌, ◌++◌, length, Option, Some, None, Result, Ok, Err, refl, sym, ◌∙◌, subst, inl, inr, arith}
 use Rattle.std.proofs.lemmas.Bool.{cases_Bool}
 use Rattle.std.proofs.lemmas.Bool.Decides.{nat_tests}
-use Rattle.std.specs.Prelude.{slice_get}
 use Rattle.xp_words.specs.declared.ops.Call.{Call}
 use Rattle.xp_words.specs.declared.reply.LogLine.{LogLine}
 use Rattle.xp_words.specs.declared.reply.LogLine.TheVariants as lines
@@ -26,10 +25,7 @@ use Rattle.std.proofs.lemmas.List.{append-nil}
 module _ {Solo Answer Answered CallAnswer CallAnswered : Type 0} (answer : Answered → Answer) (left : Answered → Solo) (plain : PlainScript Call Solo CallAnswer CallAnswered) (many : List CallAnswer → Solo → Answered) (refused : Refusal → Solo → Answered)
     (d : ℕ) (Logs : ℕ → List LogLine → Answer → Type 0) (CallLogs : ℕ → ℕ → List LogLine → CallAnswer → Type 0) (Fair : PortValue → Type 0) (Owes : PortValue → Solo → Type 0)
     (One OneReady : Option Task → ℕ → Progress → List LogLine → PortValue → Answered → Type 0) (Destroys DestroysReady : ℕ → ℕ → Progress → List LogLine → PortValue → Answered → Type 0) (Calls CallsReady : ℕ → Call → ℕ → Progress → List LogLine → PortValue → CallAnswered → Type 0)
-    (FineCall : Call → Type 0) (call_lemmas : (op : ℕ) (calls : List Call) → CallLemmas plain d op calls (CallLogs op) Fair Owes (Calls op) (CallsReady op) FineCall) where
-  abbrev pub FineCalls : List Call → Type 0
-  FineCalls calls = (k : ℕ) (call : Call) → slice_get calls k ≡ Some call → FineCall call
-
+    (call_lemmas : (op : ℕ) (calls : List Call) → CallLemmas plain d op calls (CallLogs op) Fair Owes (Calls op) (CallsReady op)) where
   pub record IsLong (calls : List Call) (made : List LogLine) (v : PortValue) (a : Answered) : Type 0 where
     pub many_calls : 64 < length calls
     pub nothing : made ≡ []
@@ -41,8 +37,7 @@ module _ {Solo Answer Answered CallAnswer CallAnswered : Type 0} (answer : Answe
     pub few : length calls ≤ 64
     pub all : List CallAnswer
     pub last : Solo
-    pub fine : FineCalls calls
-    pub stands : StandsCalls plain d op calls (CallLogs op) Fair Owes (Calls op) (CallsReady op) FineCall (call_lemmas op calls) fine all last at v made
+    pub stands : StandsCalls plain d op calls (CallLogs op) Fair Owes (Calls op) (CallsReady op) (call_lemmas op calls) all last at v made
     pub answer_is : a ≡ many all last
 
   -- by what is left of single tasks, and of destructions
@@ -77,12 +72,12 @@ module _ {Solo Answer Answered CallAnswer CallAnswered : Type 0} (answer : Answe
   going_moved A B (OfOne task) n at made v w a one destroys call owes going = one task going
   going_moved A B (OfCalls calls) n at made v w a one destroys call owes (inl f) = inl (record { many_calls = f.many_calls; nothing = f.nothing; value = f.value; owes = owes f.value f.owes; answer_is = f.answer_is })
   going_moved A B (OfCalls calls) n at made v w a one destroys call owes (inr f) =
-      inr (record { few = f.few; all = f.all; last = f.last; fine = f.fine; stands = calls_moved plain d n calls (CallLogs n) Fair Owes (Calls n) (CallsReady n) FineCall (call_lemmas n calls) f.fine f.all f.last at made v w call owes f.stands; answer_is = f.answer_is })
+      inr (record { few = f.few; all = f.all; last = f.last; stands = calls_moved plain d n calls (CallLogs n) Fair Owes (Calls n) (CallsReady n) (call_lemmas n calls) f.all f.last at made v w call owes f.stands; answer_is = f.answer_is })
   going_moved A B (OfDestroy x) n at made v w a one destroys call owes going = destroys x going
 
   -- a multicall begins
-  pub calls_begin_by : (calls : List Call) (n : ℕ) (v : PortValue) (s : Solo) → FineCalls calls → Owes v s → GoingBy (OfCalls calls) n begun [] v (if nat_lt 64 (length calls) then refused BatchLong s else many (plain.answers calls 0 s) (plain.ends calls 0 s))
-  calls_begin_by calls n v s fine owes =
+  pub calls_begin_by : (calls : List Call) (n : ℕ) (v : PortValue) (s : Solo) → Owes v s → GoingBy (OfCalls calls) n begun [] v (if nat_lt 64 (length calls) then refused BatchLong s else many (plain.answers calls 0 s) (plain.ends calls 0 s))
+  calls_begin_by calls n v s owes =
       elim (cases_Bool (nat_lt 64 (length calls))) [
         | inl long ↦ inl (record { many_calls = grind (arith, nat_tests); nothing = refl; value = s; owes = owes; answer_is = rw long refl })
         | inr few ↦
@@ -90,8 +85,7 @@ module _ {Solo Answer Answered CallAnswer CallAnswered : Type 0} (answer : Answe
               few = grind (arith, nat_tests);
               all = plain.answers calls 0 s;
               last = plain.ends calls 0 s;
-              fine = fine;
-              stands = calls_begin plain d n calls (CallLogs n) Fair Owes (Calls n) (CallsReady n) FineCall (call_lemmas n calls) fine (plain.answers calls 0 s) (plain.ends calls 0 s) v s owes refl refl;
+              stands = calls_begin plain d n calls (CallLogs n) Fair Owes (Calls n) (CallsReady n) (call_lemmas n calls) (plain.answers calls 0 s) (plain.ends calls 0 s) v s owes refl refl;
               answer_is = rw few refl;
             })
       ]
@@ -104,22 +98,22 @@ module _ {Solo Answer Answered CallAnswer CallAnswered : Type 0} (answer : Answe
     pub refuses_all : (s : Solo) → left (refused BatchLong s) ≡ s
 
   module _ (many_lemmas : ManyLemmas) where
-    many_by : (calls : List Call) (n : ℕ) (to : Progress) (made : List LogLine) (v w : PortValue) (a : Answered) (all : List CallAnswer) (last : Solo) (new : List LogLine) (r : Result (Unit {0}) Stop) → (fine : FineCalls calls) → length calls ≤ 64 → a ≡ many all last →
-        CallsCome plain d n calls (CallLogs n) Fair Owes (Calls n) (CallsReady n) FineCall (call_lemmas n calls) fine all last v to w made new r → Comes (OfCalls calls) n to (made ++ new) w a (valued r)
-    many_by calls n to made v w a all last new (Ok done) fine few is comes =
+    many_by : (calls : List Call) (n : ℕ) (to : Progress) (made : List LogLine) (v w : PortValue) (a : Answered) (all : List CallAnswer) (last : Solo) (new : List LogLine) (r : Result (Unit {0}) Stop) → length calls ≤ 64 → a ≡ many all last →
+        CallsCome plain d n calls (CallLogs n) Fair Owes (Calls n) (CallsReady n) (call_lemmas n calls) all last v to w made new r → Comes (OfCalls calls) n to (made ++ new) w a (valued r)
+    many_by calls n to made v w a all last new (Ok done) few is comes =
         record {
           logs = subst (λ b. Logs n ((made ++ new) ++ lines.Answer n 0 (reply_of to.done 0 None) ∷ []) (answer b)) (sym is)
               (subst (λ k. Logs n ((made ++ new) ++ lines.Answer n 0 (reply_of k 0 None) ∷ []) (answer (many all last))) (sym comes.0) (many_lemmas.logged n (made ++ new) all last comes.1));
           owes = subst (λ b. Owes w (left b)) (sym is) (subst (Owes w) (sym (many_lemmas.leaves all last)) comes.2);
         }
-    many_by calls n to made v w a all last new (Err (Refused x)) fine few is comes = absurd (let more = comes.1 in omega arith)
-    many_by calls n to made v w a all last new (Err (Paused p)) fine few is comes = inr (record { few = few; all = all; last = last; fine = fine; stands = comes; answer_is = is })
+    many_by calls n to made v w a all last new (Err (Refused x)) few is comes = absurd (let more = comes.1 in omega arith)
+    many_by calls n to made v w a all last new (Err (Paused p)) few is comes = inr (record { few = few; all = all; last = last; stands = comes; answer_is = is })
 
     few_come : (calls : List Call) (n : ℕ) (at to : Progress) (made log log' : List LogLine) (v w : PortValue) (a : Answered) (asked : List Bool) (r : Result (Unit {0}) Stop) → WorksCalls d calls n v at log to w log' asked r → Fair w → IsFew n calls at made v a →
         (new : List LogLine) × (log' ≡ log ++ new) × Comes (OfCalls calls) n to (made ++ new) w a (valued r)
     few_come calls n at to made log log' v w a asked r works fair f =
-        let k = calls_come plain d n calls (CallLogs n) Fair Owes (Calls n) (CallsReady n) FineCall (call_lemmas n calls) f.fine f.all f.last v at log made to w log' asked r works fair (λ before. f.stands) in
-        (k.0, k.1, many_by calls n to made v w a f.all f.last k.0 r f.fine f.few f.answer_is k.2)
+        let k = calls_come plain d n calls (CallLogs n) Fair Owes (Calls n) (CallsReady n) (call_lemmas n calls) f.all f.last v at log made to w log' asked r works fair (λ before. f.stands) in
+        (k.0, k.1, many_by calls n to made v w a f.all f.last k.0 r f.few f.answer_is k.2)
 
     long_comes : (calls : List Call) (n : ℕ) (v : PortValue) (at : Progress) (log made : List LogLine) (a : Answered) (to : Progress) (w : PortValue) (log' : List LogLine) (asked : List Bool) (r : Result (Unit {0}) Stop) → WorksCalls d calls n v at log to w log' asked r → IsLong calls made v a →
         (new : List LogLine) × (log' ≡ log ++ new) × Comes (OfCalls calls) n to (made ++ new) w a (valued r)

@@ -20,13 +20,13 @@ use Rattle.script_law.specs.Values.{Solo}
 use Rattle.solo_accesses.specs.Stale.{IsNeverStale}
 use Rattle.solo_ports.specs.Standing.{Fair, whose}
 use Rattle.script_laws.specs.Logged.{IsLogged}
-use Rattle.script_laws.specs.Opening.{IsStoppedAt, OpensScript, WritesNoEntries}
+use Rattle.script_laws.specs.Opening.{IsStoppedAt, OpensScript}
 use Rattle.script_laws.specs.Turns.{IsLog, Turned}
 use Rattle.solo_runs.specs.Finishing.{RunComesTo, FinishesAlone, IsFairRun, first_port, opening_solo, owner_in, with_turns}
 use Rattle.solo_runs.proofs.Finishing.{first_are, first_length, stopped, went}
 
 abbrev pub Invisible : Type 0
-Invisible = (c d : Processing) (v w : PortValue) (x : Solo) → OpensScript c v x → WritesNoEntries c.script → Turned c v d w → d.retired ≡ true → Fair v w → IsNeverStale v w →
+Invisible = (c d : Processing) (v w : PortValue) (x : Solo) → OpensScript c v x → Turned c v d w → d.retired ≡ true → Fair v w → IsNeverStale v w →
     IsLog IsLogged d.log (script_alone (whose v) c.script x).log × IsStoppedAt w (script_alone (whose v) c.script x).left
 
 abbrev pub OpensIt : Type 0
@@ -42,14 +42,14 @@ module _ (invisible : Invisible) (opens : OpensIt) (clock_was_on : ClockWasOn) (
   abbrev first : Processing
   first = fresh t.layout.frames 0 (domain_of t.layout 0) script
 
-  pub run_comes : WritesNoEntries script → IsFairRun t run.ran.opened closed → RunComesTo t closed last (script_alone (owner_in t) script (opening_solo t)).log (script_alone (owner_in t) script (opening_solo t)).left
-  run_comes writes fair =
+  pub run_comes : IsFairRun t run.ran.opened closed → RunComesTo t closed last (script_alone (owner_in t) script (opening_solo t)).log (script_alone (owner_in t) script (opening_solo t)).left
+  run_comes fair =
       let w = went t.layout _ first _ _ run.ran.works.worked run.ran.works.turns refl (record { one = first_length t.layout t.scripts ∙ (run.formed.scripts ∙ run.only); is = first_are t.layout t.scripts script run.script_is }) in
       let same = same_some w.now last (slice_get run.ran.works.worked.cpus 0) w.only.is run.last_is in
       let retired = subst (λ (k : Processing). k.retired ≡ true) (sym same) run.retired in
       let still = stopped t.layout w.now _ run.ran.works.worked closed run.ran.works.stops w.only retired in
       let turned = subst (λ (s : Stage). Turned first (first_port t run.ran.opened) w.now (port_on t.layout 0 s.board)) (sym still) w.turned in
-      let k = invisible first w.now (first_port t run.ran.opened) (port_on t.layout 0 closed.board) (opening_solo t) (opens t run.ran.opened script run.formed run.ran.opening run.only) writes turned retired (record { clock = clock_was_on (first_port t run.ran.opened) (port_on t.layout 0 closed.board) refl fair.clock; room = fair.room }) fair.fresh in
+      let k = invisible first w.now (first_port t run.ran.opened) (port_on t.layout 0 closed.board) (opening_solo t) (opens t run.ran.opened script run.formed run.ran.opening run.only) turned retired (record { clock = clock_was_on (first_port t run.ran.opened) (port_on t.layout 0 closed.board) refl fair.clock; room = fair.room }) fair.fresh in
       record {
         last_is = ap (λ (s : Stage). slice_get s.cpus 0) still ∙ run.last_is;
         log = subst (λ (c : Processing). IsLog IsLogged c.log (script_alone (owner_in t) script (opening_solo t)).log) same k.0;

@@ -13,7 +13,7 @@ ghost use Rattle.xp_board.specs.Told.{PortValue, is_telling, told_word};
 ghost use Rattle.xp_preempt.specs.Gates.{Gate};
 ghost use Rattle.xp_machine.specs.Turns.{Stage};
 ghost use Rattle.script_law.specs.Scripts.{script_alone};
-ghost use Rattle.script_laws.specs.Opening.{OpensScript, WritesNoEntries};
+ghost use Rattle.script_laws.specs.Opening.{OpensScript};
 ghost use Rattle.solo_runs.specs.Finishing.{ComeToTheSame, RunComesTo, FinishesAlone, IsFairRun, first_port, opening_solo, owner_in, with_turns};
 
 use opening_rule::opening_words_are_sound;
@@ -32,11 +32,11 @@ pub fn a_clock_below_its_last_value_was_never_there()
 {}
 
 /// A run in which the only vCPU comes to the end of its script, whatever turns the trace lists and whatever the gate answers, logs what the plain script answers, and closes with words that
-/// show what that leaves: both are functions of the machine, the opening words and the script. The script writes no page-table entry.
+/// show what that leaves: both are functions of the machine, the opening words and the script.
 ///
 /// The premises: the run leaves the clock below its last value, and none of its steps finds a reference word with its count at the limit, or comes to a word by a translation that a walk would not find.
 pub fn preemption_is_invisible_in_a_run()
-    ensures { (t : Trace) (gates : List Gate) (script : List Op) (closed : Stage) (last : Processing) (run : FinishesAlone t gates script closed last) → WritesNoEntries script → IsFairRun t run.ran.opened closed →
+    ensures { (t : Trace) (gates : List Gate) (script : List Op) (closed : Stage) (last : Processing) (run : FinishesAlone t gates script closed last) → IsFairRun t run.ran.opened closed →
         RunComesTo t closed last (script_alone (owner_in t) script (opening_solo t)).log (script_alone (owner_in t) script (opening_solo t)).left }
 {
     a_vcpu_opens_its_script();
@@ -46,7 +46,7 @@ pub fn preemption_is_invisible_in_a_run()
 
 /// So two runs that differ in their turn lines, and in what the gates answer, come to the same answers and to words that show one value.
 pub fn turns_and_pauses_do_not_matter()
-    ensures { (t : Trace) (us : List TurnRun) (gates others : List Gate) (script : List Op) (closed other : Stage) (last ends : Processing) (run : FinishesAlone t gates script closed last) (again : FinishesAlone (with_turns us t) others script other ends) → WritesNoEntries script →
+    ensures { (t : Trace) (us : List TurnRun) (gates others : List Gate) (script : List Op) (closed other : Stage) (last ends : Processing) (run : FinishesAlone t gates script closed last) (again : FinishesAlone (with_turns us t) others script other ends) →
         IsFairRun t run.ran.opened closed → IsFairRun (with_turns us t) again.ran.opened other → ComeToTheSame t closed last (with_turns us t) other ends }
 {
     preemption_is_invisible_in_a_run();

@@ -1,8 +1,9 @@
+use Rattle.solo_entries.proofs.Meaning.{keeps_write_on}
 use Rattle.script_laws.proofs.Opening.{script_comes}
 use Rattle.script_laws.proofs.scripts.preemption_is_invisible.Goals as goal
 
 pub returns : goal.returns
-returns c a d v w x opens none turned retired fair fresh =
+returns c a d v w x opens turned retired fair fresh =
     script_comes
     (record {
       stays = c.alone_stays.ensures;
@@ -16,4 +17,4 @@ returns c a d v w x opens none turned retired fair fresh =
       tells = c.paused_calls_leave_a_kept_table.ensures.telling;
       spares = c.an_acquisition_that_is_had_touches_no_other_words.ensures;
     })
-    c.a_call_alone_is_neither_lost_nor_busy.ensures c.an_extent_alone_comes_to_its_plain_meaning.ensures a d v w x opens none turned retired fair fresh
+    c.a_call_alone_is_neither_lost_nor_busy.ensures (keeps_write_on c.alone_stays.ensures) c.a_pair_comes_to_its_plain_meaning.ensures c.an_update_by_address_comes_to_its_plain_meaning.ensures c.an_extent_alone_comes_to_its_plain_meaning.ensures a d v w x opens turned retired fair fresh
