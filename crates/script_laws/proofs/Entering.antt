@@ -26,7 +26,9 @@ use Rattle.tlb_walks.specs.Addresses.{walk_refusal}
 use Rattle.script_law.specs.Elements.{pair_alone, updated}
 use Rattle.script_law.specs.Values.{Numbers, Outcome, Solo, allowed, of_domains}
 use Rattle.script_law.specs.Walks.{map_refusal, map_word, range_of, table_at, update_entry}
+use Rattle.solo_entries.specs.Exchanges.{ComesUnpaused}
 use Rattle.solo_entries.specs.Kept.{KeepsWrite}
+use Rattle.solo_entries.proofs.Writing.{unpaused_comes}
 use Rattle.solo_ports.specs.Coming.{Comes}
 use Rattle.solo_ports.specs.Standing.{Clean, Fair, Stands, StaysAlike, nothing, whose}
 use Rattle.solo_ports.proofs.Along.{clean_on}
@@ -48,7 +50,7 @@ PairLaw = (v w : PortValue) (x : Solo) (o : Owners) (e : Element) (answers : Lis
 
 abbrev pub AtLaw : Type 0
 AtLaw = (v w : PortValue) (x : Solo) (o : Owners) (va word : ℕ) (answers : List Bool) (answer : Result (Unit {0}) Stop) → Clean v x → ClockGoesOn v w → UpdatesAt o va word v w answers answer →
-    Comes (λ u s. ⊥) w x (allowed (walk_refusal va) x (update_entry v.post.machine o va word x (table_at v.post.machine va x (x.own 0)))) answer
+    ComesUnpaused w x (allowed (walk_refusal va) x (update_entry v.post.machine o va word x (table_at v.post.machine va x (x.own 0)))) answer
 
 abbrev pub KeptOn : Type 0
 KeptOn = (o : Owners) (e : Element) (v w : PortValue) (x : Solo) → StaysAlike v w → KeepsWrite o e v x → KeepsWrite o e w x
@@ -161,7 +163,7 @@ module _ (l : Laws) (neither : NeitherLostNorBusy) (kept_on : KeptOn) (pair : Pa
           let had = found_had v u s clean.stands (whose v0).domain foreign low a finds in
           let on = found_alike u (Ok a) finds in
           let to_u = came_post v u on.came ∙ post in
-          let comes = at u w s a va word answers answer (clean_on l.stays v u s on clean) goes updates in
+          let comes = unpaused_comes (λ u t. ⊥) w s (allowed (walk_refusal va) s (update_entry u.post.machine a va word s (table_at u.post.machine va s (s.own 0)))) answer (at u w s a va word answers answer (clean_on l.stays v u s on clean) goes updates) in
           subst (λ r. Comes (λ u t. ⊥) w s (plain_at v0.post.machine o s r) answer) (sym (named_is s false near (at_v0 None had.0) fine))
           (subst (λ b. Comes (λ u t. ⊥) w s (plain_at v0.post.machine b s (walk_refusal va)) answer) had.1
           (subst (λ (q : Post). Comes (λ u t. ⊥) w s (plain_at q.machine a s (walk_refusal va)) answer) to_u comes))

@@ -49,12 +49,13 @@ use Rattle.course_laws.specs.Courses.{ClockGoesOn}
 use Rattle.script_law.specs.Frames.{write_entry}
 use Rattle.script_law.specs.Values.{Frames, Numbers, Outcome, Solo, allowed, looked_by, stopped}
 use Rattle.script_law.specs.Walks.{table_at, update_entry}
-use Rattle.solo_ports.specs.Coming.{Comes, IsRefusedSo}
+use Rattle.solo_ports.specs.Coming.{IsRefusedSo}
 use Rattle.solo_ports.specs.Standing.{Clean, Owes, ShowsOthers, nothing}
 use Rattle.solo_ports.proofs.Resting.{clean_rests}
 use Rattle.solo_accesses.specs.Walking.{LoadsCome}
 use Rattle.solo_accesses.proofs.Loading.{loads_come}
 use Rattle.solo_entries.proofs.Exchanging.{given_came}
+use Rattle.solo_entries.specs.Exchanges.{ComesUnpaused}
 use Rattle.solo_entries.proofs.Known.{Known}
 use Rattle.solo_entries.proofs.Locking.{lends}
 use Rattle.solo_entries.proofs.Mapping.{fine_by, looked_at, unlooked}
@@ -130,7 +131,7 @@ module _ (k : Known) (v w : PortValue) (x : Solo) (o : Owners) (f va word : ℕ)
       (record { why = Frames (OtherType f kinds.L1 (x.frames.kinds f)); is = refl; same = (refl, refl, same); none = refl; owes = owes })
 
   -- ---- the reference is not to be had
-  unreferred : (e : Stop) → GotRef v w f o.tables (Err e) → Comes (λ u s. ⊥) w x (update_entry n o va word x (Ok f)) (Err e)
+  unreferred : (e : Stop) → GotRef v w f o.tables (Err e) → ComesUnpaused w x (update_entry n o va word x (Ok f)) (Err e)
   unreferred (Refused z) ref = unlooked k v w x clean o.tables f z looked_so (ref.plain telling).0 (owes_same k v w x clean others.came (ref.plain telling).1 others.rests)
   unreferred (Paused z) ref = absurd (ref.plain telling)
 
@@ -185,14 +186,14 @@ module _ (k : Known) (v w : PortValue) (x : Solo) (o : Owners) (f va word : ℕ)
         (writes.slot_left k v w x o f (index_of va 1) word false clean goes others u y level found ref lock left)
 
   -- ---- the whole
-  pub entered_comes : (answers : List Bool) (answer : Result (Unit {0}) Stop) → IsUnlost answer → EnteredAt v o f (index_of va 1) word w answers answer → Comes (λ u s. ⊥) w x (update_entry v.post.machine o va word x (Ok f)) answer
+  pub entered_comes : (answers : List Bool) (answer : Result (Unit {0}) Stop) → IsUnlost answer → EnteredAt v o f (index_of va 1) word w answers answer → ComesUnpaused w x (update_entry v.post.machine o va word x (Ok f)) answer
   entered_comes _ _ unlost (ways.unreferred _ stop ref) = unreferred stop ref
   entered_comes _ _ unlost (ways.unlocked u y _ stop ref lock gave) = absurd (writes.unlocked k v w x o f (index_of va 1) word false clean goes others u y stop ref lock)
   entered_comes _ _ unlost (ways.other u y _ found ref lock gave) = other u y found ref lock gave
   entered_comes _ _ unlost (ways.level u y _ level found ref lock apart left) = of_level u y level found ref lock apart left
   entered_comes _ _ unlost (ways.exchanged u y _ found answers answer ref lock went) =
-      subst (λ t. Comes (λ u s. ⊥) w x t answer) (sym (is_here (ref.plain telling).0 ∙ ap here (by_type u y 1 found ref lock true refl)))
-      (elim (writes.entry_comes k v w x o f (index_of va 1) word false clean goes others u y 1 found ref lock (λ u s. ⊥) (omega arith) answers answer went unlost) [
+      subst (λ t. ComesUnpaused w x t answer) (sym (is_here (ref.plain telling).0 ∙ ap here (by_type u y 1 found ref lock true refl)))
+      (elim (writes.entry_comes k v w x o f (index_of va 1) word false clean goes others u y 1 found ref lock (omega arith) answers answer went unlost) [
         | inl p ↦ absurd (let two = p.paused.two in omega (arith, two))
         | inr c ↦ c
       ])
@@ -203,7 +204,7 @@ module _ (k : Known) (v w : PortValue) (x : Solo) (o : Owners) (va word : ℕ) (
   update t = update_entry v.post.machine o va word x t
 
   abbrev Plainly : Result (Unit {0}) Stop → Type 0
-  Plainly answer = Comes (λ u s. ⊥) w x (allowed (walk_refusal va) x (update_entry v.post.machine o va word x (table_at v.post.machine va x (x.own 0)))) answer
+  Plainly answer = ComesUnpaused w x (allowed (walk_refusal va) x (update_entry v.post.machine o va word x (table_at v.post.machine va x (x.own 0)))) answer
 
   -- the loads lead to no table
   unled : (e : Stop) → LoadsCome v.post.machine va x (Err e) → Clean w x → Plainly (Err e)
@@ -226,8 +227,8 @@ module _ (k : Known) (v w : PortValue) (x : Solo) (o : Owners) (va word : ℕ) (
         let same = came_post v u to_u in
         let there = entered_comes k u w x o table va word loads.1 (λ m met at. goes m (met_after v u w m to_u met) at)
         (record { came = came; others = subst (λ (j : Post). ShowsOthers j.machine j.vcpu (told_word w) x) (sym same) others.others; rests = others.rests }) answers answer unlost enters in
-        let here = subst (λ (j : Post). Comes (λ u s. ⊥) w x (update_entry j.machine o va word x (Ok table)) answer) same there in
-        subst (λ t. Comes (λ u s. ⊥) w x (allowed t x (update (table_at v.post.machine va x (x.own 0)))) answer) (sym loads.0.0) (subst (λ t. Comes (λ u s. ⊥) w x (update t) answer) (sym loads.0.1) here)
+        let here = subst (λ (j : Post). ComesUnpaused w x (update_entry j.machine o va word x (Ok table)) answer) same there in
+        subst (λ t. ComesUnpaused w x (allowed t x (update (table_at v.post.machine va x (x.own 0)))) answer) (sym loads.0.0) (subst (λ t. ComesUnpaused w x (update t) answer) (sym loads.0.1) here)
 
   updated_comes : (answers : List Bool) (answer : Result (Unit {0}) Stop) → UpdatesAt o va word v w answers answer → Plainly answer
   updated_comes answers answer a =
@@ -244,5 +245,5 @@ module _ (k : Known) (v w : PortValue) (x : Solo) (o : Owners) (va word : ℕ) (
           led u table leads answers answer (entered_came u w o table (index_of va 1) word answers answer tells unlost enters) others unlost enters
 
 pub at_comes : (k : Known) (v w : PortValue) (x : Solo) (o : Owners) (va word : ℕ) (answers : List Bool) (answer : Result (Unit {0}) Stop) → Clean v x → ClockGoesOn v w → UpdatesAt o va word v w answers answer →
-    Comes (λ u s. ⊥) w x (allowed (walk_refusal va) x (update_entry v.post.machine o va word x (table_at v.post.machine va x (x.own 0)))) answer
+    ComesUnpaused w x (allowed (walk_refusal va) x (update_entry v.post.machine o va word x (table_at v.post.machine va x (x.own 0)))) answer
 at_comes k v w x o va word answers answer clean goes a = updated_comes k v w x o va word clean goes answers answer a

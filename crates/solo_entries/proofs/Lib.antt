@@ -14,7 +14,7 @@ mod Exchanging
 mod Entries
 mod Capping
 mod Unkept
-mod Writing
+pub mod Writing
 mod Lasting
 mod Enduring
 mod Relocking

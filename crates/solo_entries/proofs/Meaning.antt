@@ -21,6 +21,7 @@ use Rattle.solo_entries.proofs.Mapping.{map_set, refused_numbers}
 use Rattle.solo_entries.proofs.Pairs.{write_first}
 use Rattle.solo_entries.proofs.Pausing.{keeps_entry_on, keeps_paused}
 use Rattle.solo_entries.proofs.Resuming.{resumed}
+use Rattle.solo_entries.proofs.Writing.{unpaused_comes}
 
 never : {A : Type 0} → (A ⊎ ⊥) → A
 never (inl a) = a
@@ -31,17 +32,17 @@ due_comes Kept w x a r (due, kept) = subst (Comes Kept w x a) (sym due) (inr kep
 
 module _ (k : Known) (v w : PortValue) (x : Solo) (o : Owners) (answers : List Bool) (answer : Result (Unit {0}) Stop) (real : o.tables < length v.post.machine.page_limit) (alive : x.lives o.tables ≡ 0) (fair : Fair v w) where
   written : (f i word : ℕ) (keep : Bool) → Clean v x ⊎ KeepsEntry o f i word keep v x → Updates o (Write f i word keep) v w answers answer → Comes (KeepsEntry o f i word keep) w x (write_word v.post.machine o f i word keep x) answer
-  written f i word keep (inl clean) updates = elim (write_first k (KeepsEntry o f i word keep) v w x o f i word keep answers answer clean fair.clock updates) [
+  written f i word keep (inl clean) updates = elim (write_first k v w x o f i word keep answers answer clean fair.clock updates) [
     | inl paused ↦ due_comes (KeepsEntry o f i word keep) w x (write_word v.post.machine o f i word keep x) answer (keeps_paused k v w x o f i word keep answers answer clean real alive fair updates paused)
-    | inr comes ↦ comes
+    | inr comes ↦ unpaused_comes (KeepsEntry o f i word keep) w x (write_word v.post.machine o f i word keep x) answer comes
   ]
   written f i word keep (inr kept) updates = resumed k v w x o f i word keep answers answer kept real alive fair updates
 
   pub pair_comes : (e : Element) → Clean v x ⊎ KeepsWrite o e v x → Updates o e v w answers answer → Comes (KeepsWrite o e) w x (updated (whose v) o e x) answer
   pair_comes (Write f i word keep) starts updates = written f i word keep starts updates
-  pair_comes (SetM2p f gpfn) starts updates = map_set k (KeepsWrite o (SetM2p f gpfn)) v w x o.frames f gpfn answer (never starts) updates.rests updates.course.1 updates.course.2
-  pair_comes Misaligned starts updates = refused_numbers (KeepsWrite o Misaligned) v w x BadRange answer (never starts) updates.course.0 updates.course.2
-  pair_comes Unknown starts updates = refused_numbers (KeepsWrite o Unknown) v w x BadCommand answer (never starts) updates.course.0 updates.course.2
+  pair_comes (SetM2p f gpfn) starts updates = unpaused_comes (KeepsWrite o (SetM2p f gpfn)) w x (updated (whose v) o (SetM2p f gpfn) x) answer (map_set k v w x o.frames f gpfn answer (never starts) updates.rests updates.course.1 updates.course.2)
+  pair_comes Misaligned starts updates = unpaused_comes (KeepsWrite o Misaligned) w x (updated (whose v) o Misaligned x) answer (refused_numbers v w x BadRange answer (never starts) updates.course.0 updates.course.2)
+  pair_comes Unknown starts updates = unpaused_comes (KeepsWrite o Unknown) w x (updated (whose v) o Unknown x) answer (refused_numbers v w x BadCommand answer (never starts) updates.course.0 updates.course.2)
 
 -- what is kept goes along steps that change nothing of it
 pub keeps_write_on : AloneStays → (o : Owners) (e : Element) (v w : PortValue) (x : Solo) → StaysAlike v w → KeepsWrite o e v x → KeepsWrite o e w x

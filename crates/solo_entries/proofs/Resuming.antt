@@ -52,7 +52,7 @@ use Rattle.refusal_laws.specs.Refusals.{ComesTo}
 use Rattle.refusal_laws.specs.Repeated as repeated
 use Rattle.refusal_laws.specs.Repeated.{PausedCalls}
 use Rattle.script_law.specs.Frames.{under_lock, write_word}
-use Rattle.script_law.specs.Values.{Solo}
+use Rattle.script_law.specs.Values.{Solo, behind_by, did, with_frames}
 use Rattle.solo_ports.specs.Coming.{Comes}
 use Rattle.solo_ports.specs.Standing.{Fair}
 use Rattle.solo_ports.proofs.Along.{paused_on}
@@ -68,7 +68,7 @@ use Rattle.solo_entries.proofs.Relocking.{never_other, never_unreferred, relocke
 use Rattle.solo_entries.proofs.Standing.{keeps_others, machine_same}
 use Rattle.solo_entries.proofs.Stopping.{IsUnlost, unlost_alone}
 use Rattle.solo_entries.proofs.Unkept.{unkept_exchanged}
-use Rattle.solo_entries.proofs.Writing.{Comes2, done_behind, outcome_comes, put_lost, refused_behind, saw_came, saw_few, saw_it, saw_words}
+use Rattle.solo_entries.proofs.Writing.{Comes2, done_behind, outcome_comes, put_lost, refused_behind, saw_came, saw_few, saw_it, saw_words, unpaused_comes}
 
 module _ (k : Known) (v w : PortValue) (x : Solo) (o : Owners) (f i word : ℕ) (keep : Bool) (e : KeepsEntry o f i word keep v x) (real : o.tables < length v.post.machine.page_limit) (alive : x.lives o.tables ≡ 0) (fair : Fair v w) where
   abbrev b : Begun v.post.machine v.post.vcpu o f i word keep x
@@ -224,9 +224,9 @@ module _ (k : Known) (v w : PortValue) (x : Solo) (o : Owners) (f i word : ℕ) 
         let vcpu = ap (λ (j : Post). j.vcpu) (came_post v y came_y) in
         let second = subst (λ j. told_word w (old_place j Second) ≡ told_word y (old_place j Second)) vcpu c.second ∙ second_y in
         subst (λ a. Comes (KeepsEntry o f i word keep) w x a r) (sym (write_is v.post.machine v.post.vcpu o f i word keep x b))
-        (outcome_comes k v w x e.stands (keeps_others v w x (update_request o (Write f i word keep) r) m.serves.0 e.stands m.serves.2 (write_quiet v.post.machine v.post.vcpu o f i word keep r m.serves.0 m.serves.1) m.rests) second (KeepsEntry o f i word keep) plain e.taken r
+        (unpaused_comes (KeepsEntry o f i word keep) w x (behind_by (with_frames e.taken x) plain plain.refusal did) r (outcome_comes k v w x e.stands (keeps_others v w x (update_request o (Write f i word keep) r) m.serves.0 e.stands m.serves.2 (write_quiet v.post.machine v.post.vcpu o f i word keep r m.serves.0 m.serves.1) m.rests) second plain e.taken r
         (unkept_exchanged v.post.machine owner (place_in t) (new_word t q) q (unkept_under v.post.machine v.post.vcpu o f i word keep x b e.stands.unkept))
-        (subst (λ (j : Machine). ComesSo j w (exchanged_plain j t o q) r) same_y c.comes))
+        (subst (λ (j : Machine). ComesSo j w (exchanged_plain j t o q) r) same_y c.comes)))
 
     refused : (c z : PortValue) (seen : ℕ) (saw : SawEntry y c f i seen) (answers : List Bool) (stop : Stop) → Made answers (Err stop) → TookNew c z t o seen answers (Err stop) → LeftLock z f e.level w →
         TookSo {A = Unit {0}} y.post.machine z (meet y.post.machine owner (take_at (e.level - 1) y.post.machine owner) f i q (new_demand t seen)) (Err stop) → KeepsSecond c z → Ends (Err stop)

@@ -1,5 +1,5 @@
 -- A write, from a port at which nothing is left to be settled, comes to its plain meaning, where it is not paused.
-use Rattle.solo_entries.specs.Exchanges.{ComesSo, IsLockedTable, now}
+use Rattle.solo_entries.specs.Exchanges.{ComesSo, ComesUnpaused, IsLockedTable, now}
 use Rattle.std.proofs.Common.{◌≡◌, ◌⊎◌, ◌≤◌, ◌<◌, ℕ, zero, suc, ◌&&◌, nat_lt, if◌then◌else◌, Bool, true, false, List, length, Result, Ok, Err, IsTrue, refl, sym, ap, ◌∙◌, subst, arith, not, inl, inr}
 use Rattle.std.proofs.lemmas.Bool.{and_parts}
 use Rattle.xp_words.specs.Entries.{is_slot}
@@ -37,7 +37,6 @@ use Rattle.course_laws.specs.Courses.{ClockGoesOn}
 use Rattle.course_laws.proofs.Extras.{described_same}
 use Rattle.script_law.specs.Frames.{exchange_at, under_lock, write_by, write_entry, write_memory, write_word}
 use Rattle.script_law.specs.Values.{Numbers, Outcome, Solo, behind, did, looked_by, stopped, with_frames}
-use Rattle.solo_ports.specs.Coming.{Comes}
 use Rattle.solo_ports.specs.Standing.{Clean, IsUnkept, Owes}
 use Rattle.solo_ports.proofs.Resting.{clean_rests}
 use Rattle.solo_ports.proofs.Unkept.{unkept_kind}
@@ -88,10 +87,10 @@ module _ (k : Known) (v w : PortValue) (x : Solo) (o : Owners) (f i word : ℕ) 
   telling = alone_telling v clean.stands.alone
 
   -- ---- the reference is not to be had
-  pub unreferred : (Kept : PortValue → Solo → Type 0) (e : Stop) → GotRef v w f o.tables (Err e) → Comes Kept w x (write_word n o f i word keep x) (Err e)
-  unreferred Kept (Refused z) ref =
+  pub unreferred : (e : Stop) → GotRef v w f o.tables (Err e) → ComesUnpaused w x (write_word n o f i word keep x) (Err e)
+  unreferred (Refused z) ref =
       unlooked k v w x clean o.tables f z (λ s. write_by n o f i word keep s (s.frames.kinds f)) (ref.plain telling).0 (owes_same k v w x clean others.came (ref.plain telling).1 others.rests)
-  unreferred Kept (Paused z) ref = absurd (ref.plain telling)
+  unreferred (Paused z) ref = absurd (ref.plain telling)
 
   -- ---- the frame is in nobody else's hands
   pub unlocked : (u y : PortValue) (e : Stop) → GotRef v u f o.tables (Ok f) → TriedLock u y f o.tables (Err e) → ⊥
@@ -182,7 +181,7 @@ module _ (k : Known) (v w : PortValue) (x : Solo) (o : Owners) (f i word : ℕ) 
     unkept_q : IsUnkept n q
     unkept_q = unkept_kind n f (locked_kind (p.kinds f)) more (clean.stands.unkept f inside) clean.stands.unkept
 
-    module _ (Kept : PortValue → Solo → Type 0) (high : level ≤ 4) where
+    module _ (high : level ≤ 4) where
       entry_is : write_entry n o f i word keep x ≡ behind (with_frames more x) (exchanged_plain n t o q) did
       entry_is =
           ap (λ a. behind x a (λ s. exchange_at n o (type_number (s.frames.kinds f).kind) f i word keep s)) takes
@@ -197,15 +196,15 @@ module _ (k : Known) (v w : PortValue) (x : Solo) (o : Owners) (f i word : ℕ) 
       ends_second : told_word w (old_place y.post.vcpu Second) ≡ told_word y (old_place y.post.vcpu Second) → told_word w (old_place v.post.vcpu Second) ≡ told_word v (old_place v.post.vcpu Second)
       ends_second same = subst (λ (j : Post). told_word w (old_place j.vcpu Second) ≡ told_word y (old_place j.vcpu Second)) (came_post v y to_y) same ∙ keeps_second
 
-      ends_so : (answer : Result (Unit {0}) Stop) → Comes2 y.post.machine y w (exchanged_plain y.post.machine t o q) answer → Comes Kept w x (write_entry n o f i word keep x) answer
+      ends_so : (answer : Result (Unit {0}) Stop) → Comes2 y.post.machine y w (exchanged_plain y.post.machine t o q) answer → ComesUnpaused w x (write_entry n o f i word keep x) answer
       ends_so answer c =
-          subst (λ a. Comes Kept w x a answer) (sym entry_is)
-          (outcome_comes k v w x clean.stands others (ends_second c.second) Kept (exchanged_plain n t o q) more answer
+          subst (λ a. ComesUnpaused w x a answer) (sym entry_is)
+          (outcome_comes k v w x clean.stands others (ends_second c.second) (exchanged_plain n t o q) more answer
           (unkept_exchanged n (owner_at level o.tables o.frames) (place_in t) (word_kept keep (p.cells f i) word) q unkept_q)
           (subst (λ (j : Machine). ComesSo j w (exchanged_plain j t o q) answer) machine_y c.comes))
 
       pub entry_comes : (answers : List Bool) (answer : Result (Unit {0}) Stop) → Exchanged y (entry_update f level i word keep) o w answers answer → IsUnlost answer →
-          PausedExchange y w (entry_update f level i word keep) o answers answer ⊎ Comes Kept w x (write_entry n o f i word keep x) answer
+          PausedExchange y w (entry_update f level i word keep) o answers answer ⊎ ComesUnpaused w x (write_entry n o f i word keep x) answer
       entry_comes answers answer went unlost = elim (entry_ends answers answer unlost went) [
         | inl paused ↦ inl paused
         | inr c ↦ inr (ends_so answer c)

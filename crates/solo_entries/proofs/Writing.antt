@@ -1,5 +1,5 @@
 -- A word of a live table is written, from a port at which nothing is left to be settled: refused as the hypervisor's, or its entry exchanged.
-use Rattle.solo_entries.specs.Exchanges.{ComesSo, IsLockedTable, LeavesFrames, later, now}
+use Rattle.solo_entries.specs.Exchanges.{ComesSo, ComesUnpaused, IsLockedTable, LeavesFrames, later, now}
 use Rattle.std.proofs.Common.{◌≡◌, ◌⊎◌, ◌≤◌, ◌<◌, ℕ, ◌-◌, ◌&&◌, nat_lt, Bool, true, false, List, length, Result, Ok, Err, IsTrue, refl, sym, ap, ◌∙◌, subst, arith, inl, inr}
 use Rattle.std.proofs.Math.Path.{fun_ext}
 use Rattle.std.proofs.lemmas.Bool.{and_parts}
@@ -39,7 +39,7 @@ use Rattle.table_law.specs.Undone.{CountsSome}
 use Rattle.table_law.proofs.OnWords.{counts_plain}
 use Rattle.course_laws.specs.Courses.{ClockGoesOn}
 use Rattle.release_laws.specs.Pauses.{IsLeft}
-use Rattle.script_law.specs.Values.{Frames, Solo, behind_by, did, with_frames}
+use Rattle.script_law.specs.Values.{Frames, Outcome, Solo, behind_by, did, with_frames}
 use Rattle.solo_ports.specs.Coming.{Comes, IsDoneSo, IsRefusedSo}
 use Rattle.solo_ports.specs.Standing.{IsUnkept, Owes, Stands, a_release, nothing}
 use Rattle.solo_entries.proofs.Demanding.{PausedDemand, TookSo, demand_comes, demand_second}
@@ -67,12 +67,18 @@ module _ (k : Known) (v w : PortValue) (x : Solo) (stands : Stands v x) (others 
       a_release g l (stands_left q unkept) (subst (λ (o : Post). IsLeft o.machine w g l q) (sym same) left)
 
   -- an outcome on the frames alone, behind other frames
-  pub outcome_comes : (Kept : PortValue → Solo → Type 0) (a : PlainOutcome) (p : Plain) (answer : Result (Unit {0}) Stop) → IsUnkept v.post.machine a.left → ComesSo v.post.machine w a answer → Comes Kept w x (behind_by (with_frames p x) a a.refusal did) answer
-  outcome_comes Kept a p (Ok done) unkept c =
+  pub outcome_comes : (a : PlainOutcome) (p : Plain) (answer : Result (Unit {0}) Stop) → IsUnkept v.post.machine a.left → ComesSo v.post.machine w a answer → ComesUnpaused w x (behind_by (with_frames p x) a a.refusal did) answer
+  outcome_comes a p (Ok done) unkept c =
       subst (λ t. IsDoneSo w (behind_by (with_frames p x) a t did)) (sym c.0) (record { fine = refl; none = refl; owes = owes_left a.left unkept c.1 })
-  outcome_comes Kept a p (Err (Refused z)) unkept c =
+  outcome_comes a p (Err (Refused z)) unkept c =
       subst (λ t. IsRefusedSo w z (behind_by (with_frames p x) a t did)) (sym c.is) (record { why = Frames c.cause; is = refl; same = c.same; none = refl; owes = owes_left a.left unkept c.left })
-  outcome_comes Kept a p (Err (Paused z)) unkept c = absurd c
+  outcome_comes a p (Err (Paused z)) unkept c = absurd c
+
+-- one that is not paused, as one that might be
+pub unpaused_comes : (Kept : PortValue → Solo → Type 0) (w : PortValue) (x : Solo) (a : Outcome) (answer : Result (Unit {0}) Stop) → ComesUnpaused w x a answer → Comes Kept w x a answer
+unpaused_comes Kept w x a (Ok done) c = c
+unpaused_comes Kept w x a (Err (Refused z)) c = c
+unpaused_comes Kept w x a (Err (Paused z)) c = absurd c
 
 -- ---- the entry of a locked table
 -- the acquisition of a table that the new word asks was paused, and the lock went off

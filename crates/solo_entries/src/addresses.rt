@@ -8,7 +8,7 @@ ghost use Rattle.tlb_walks.specs.Addresses.{walk_refusal};
 ghost use Rattle.course_laws.specs.Courses.{ClockGoesOn};
 ghost use Rattle.script_law.specs.Values.{Solo, allowed};
 ghost use Rattle.script_law.specs.Walks.{table_at, update_entry};
-ghost use Rattle.solo_ports.specs.Coming.{Comes};
+ghost use Rattle.solo_entries.specs.Exchanges.{ComesUnpaused};
 ghost use Rattle.solo_ports.specs.Standing.{Clean};
 
 use answer_laws::{a_call_alone_is_neither_lost_nor_busy, alone_stays, nobody_is_waited_for};
@@ -23,7 +23,7 @@ use release_laws::{a_paused_release_leaves_the_rest, a_release_leaves_what_the_p
 /// frame there that is no live table of level 1, or as the exchange of its entry is.
 pub fn an_update_by_address_comes_to_its_plain_meaning()
     ensures { (v w : PortValue) (x : Solo) (o : Owners) (va word : ℕ) (answers : List Bool) (answer : Result (Unit {0}) Stop) → Clean v x → ClockGoesOn v w → UpdatesAt o va word v w answers answer →
-        Comes (λ u s. ⊥) w x (allowed (walk_refusal va) x (update_entry v.post.machine o va word x (table_at v.post.machine va x (x.own 0)))) answer }
+        ComesUnpaused w x (allowed (walk_refusal va) x (update_entry v.post.machine o va word x (table_at v.post.machine va x (x.own 0)))) answer }
 {
     alone_stays();
     nobody_is_waited_for();

@@ -22,9 +22,8 @@ ghost use Rattle.entry_exchange.specs.declared.exchanging.EntryUpdate.{EntryUpda
 ghost use Rattle.exchange_laws.specs.Plain.{exchanged_plain};
 ghost use Rattle.script_law.specs.Frames.{set_map};
 ghost use Rattle.script_law.specs.Values.{Solo};
-ghost use Rattle.solo_ports.specs.Coming.{Comes};
 ghost use Rattle.solo_ports.specs.Standing.{Clean};
-ghost use Rattle.solo_entries.specs.Exchanges.{ComesSo, IsLockedTable};
+ghost use Rattle.solo_entries.specs.Exchanges.{ComesSo, ComesUnpaused, IsLockedTable};
 
 use answer_laws::{a_call_alone_is_neither_lost_nor_busy, alone_stays, nobody_is_waited_for};
 use refusal_laws::{
@@ -37,7 +36,7 @@ use release_laws::{a_paused_release_leaves_the_rest, a_release_leaves_what_the_p
 /// The update of a machine-to-physical word is done or refused as the plain one, and never paused: the word is set where the frame is the owner's and has room for a reference.
 pub fn a_machine_to_physical_update_comes_to_its_plain_meaning()
     ensures { (v w : PortValue) (x : Solo) (owner f gpfn : ℕ) (answer : Result (Unit {0}) Stop) → Clean v x → Rests w → SetFound v w f owner gpfn answer → TwinSet v w f owner gpfn answer →
-        Comes (λ u s. ⊥) w x (set_map v.post.machine owner f gpfn x) answer }
+        ComesUnpaused w x (set_map v.post.machine owner f gpfn x) answer }
 {
     alone_stays();
     nobody_is_waited_for();

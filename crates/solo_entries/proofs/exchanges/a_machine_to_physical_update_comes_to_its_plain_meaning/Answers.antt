@@ -14,4 +14,4 @@ returns c v w x owner f gpfn answer clean rests found plain =
       later = c.a_call_alone_behind_paused_ones_is_paused_by_the_gate_or_comes_to_its_plain_meaning.ensures;
       kept = c.paused_calls_leave_a_kept_table.ensures.leaves;
     })
-    (λ u s. ⊥) v w x owner f gpfn answer clean rests found plain
+    v w x owner f gpfn answer clean rests found plain
