@@ -26,13 +26,13 @@ use Rattle.table_law.specs.Plain.{Describes, Plain, Share, at, reference_back, s
 use Rattle.table_law.proofs.Counting.{at_here}
 use Rattle.table_twins.proofs.Sharing.{same_back, shared}
 use Rattle.domain_destroy.specs.Clearing as clearing
-use Rattle.domain_destroy.specs.Clearing.{ClearsFrame, GivesMark, TakesMarks}
+use Rattle.domain_destroy.specs.Clearing.{GivesMark}
 use Rattle.script_law.specs.Destroying.{unallocated}
 use Rattle.script_law.specs.Memory.{is_allocated_to, unmarked}
 use Rattle.solo_deaths.specs.Between.{Between}
-use Rattle.solo_deaths.proofs.Putting.{puts_words}
 use Rattle.solo_deaths.proofs.Standing.{between_by, between_looks, telling}
 use Rattle.solo_deaths.proofs.Stripping.{not_allocated, not_owned, unallocated_none, unowned_unallocated}
+use Rattle.release_laws.proofs.Putting.{puts_words}
 
 swapped : (x new y : ℕ) → y ≡ x → left_by (Cas x new) y ≡ new
 unfolding left_by
