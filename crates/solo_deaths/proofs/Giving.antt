@@ -13,6 +13,7 @@ use Rattle.xp_board.specs.declared.step.Act.TheVariants.{Cas, Load, Store}
 use Rattle.xp_board.specs.declared.step.StepKind.TheVariants as kinds
 use Rattle.xp_board.proofs.PlaceTests.{equal_refl}
 use Rattle.xp_board.proofs.RefWords.{read_small}
+use Rattle.xp_board.specs.declared.step.StepKind.{StepKind}
 use Rattle.step_maker.specs.Moves.{Moves}
 use Rattle.step_maker.specs.Plain.{Leaves, Words, change}
 use Rattle.step_maker.proofs.Coming.{moves_came}
@@ -28,30 +29,22 @@ use Rattle.domain_destroy.specs.Clearing as clearing
 use Rattle.domain_destroy.specs.Clearing.{GivesMark}
 use Rattle.script_law.specs.Destroying.{unallocated}
 use Rattle.script_law.specs.Memory.{is_allocated_to, unmarked}
+use Rattle.release_laws.proofs.Putting.{puts_words}
+use Rattle.solo_ports.proofs.Staying.{put_word}
 use Rattle.solo_deaths.specs.Between.{Between}
 use Rattle.solo_deaths.proofs.Standing.{between_by, between_looks, telling}
 use Rattle.solo_deaths.proofs.Stripping.{not_allocated, not_owned, unallocated_none, unowned_unallocated}
-use Rattle.release_laws.proofs.Putting.{puts_words}
-use Rattle.solo_ports.proofs.Staying.{put_word}
-
-swapped : (x new y : ℕ) → y ≡ x → left_by (Cas x new) y ≡ new
-unfolding left_by
-swapped x new y is = ap (λ b. if b then new else y) (ap (λ z. z == x) is ∙ equal_refl x)
 
 pub stored : (x y : ℕ) → left_by (Store x) y ≡ x
 unfolding left_by
 stored x y = refl
 
 -- an exchange that found what it expected stores the new word
-pub exchanged : (v w : PortValue) (at : Place) (x new : ℕ) (m : Moves v w at (Cas x new) kinds.Kind None x) → is_telling v ≡ true → Leaves w (change (Store new) at (told_word v))
+pub exchanged : {kind : StepKind} → (v w : PortValue) (at : Place) (x new : ℕ) (m : Moves v w at (Cas x new) kind None x) → is_telling v ≡ true → Leaves w (change (Store new) at (told_word v))
+unfolding left_by
 exchanged v w at x new m telling q =
     leaves v w _ _ _ _ _ m telling q
-    ∙ ap (λ y. if is_same q at then y else told_word v q) (swapped x new (told_word v at) (told_there v w _ _ _ _ _ m telling) ∙ sym (stored new (told_word v at)))
-
-pub exchanged_ref : (v w : PortValue) (at : Place) (x new : ℕ) (m : Moves v w at (Cas x new) kinds.Ref None x) → is_telling v ≡ true → Leaves w (change (Store new) at (told_word v))
-exchanged_ref v w at x new m telling q =
-    leaves v w _ _ _ _ _ m telling q
-    ∙ ap (λ y. if is_same q at then y else told_word v q) (swapped x new (told_word v at) (told_there v w _ _ _ _ _ m telling) ∙ sym (stored new (told_word v at)))
+    ∙ ap (λ b. if is_same q at then (if b then new else told_word v at) else told_word v q) (ap (λ y. y == x) (told_there v w _ _ _ _ _ m telling) ∙ equal_refl x)
 
 -- ---- the allocated mark
 module _ (stays : AloneStays) (o : Post) (f : ℕ) (inside : f < o.machine.frames) (d : ℕ) (u : PortValue) (p : Plain) (b : Between o u p) where
@@ -91,7 +84,7 @@ module _ (stays : AloneStays) (o : Post) (f : ℕ) (inside : f < o.machine.frame
 
     between_c : Between o c (with_share f s p)
     between_c =
-        between_by stays o a p between_a c words (with_share f s p) (moves_came a c _ _ _ _ _ takes) (exchanged_ref a c (Refs f) y (ref_write (Owned d false count)) takes (telling stays o a p between_a)) (λ t k. refl) marked
+        between_by stays o a p between_a c words (with_share f s p) (moves_came a c _ _ _ _ _ takes) (exchanged a c (Refs f) y (ref_write (Owned d false count)) takes (telling stays o a p between_a)) (λ t k. refl) marked
         (λ g low. b.unkept g low)
 
     back : Between o w (reference_back f (with_share f s p))

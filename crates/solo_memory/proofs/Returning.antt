@@ -25,8 +25,8 @@ use Rattle.table_twins.specs.Answers.{IsCause}
 use Rattle.table_twins.proofs.Sharing.{same_back, shared}
 use Rattle.script_law.specs.Memory.{is_allocated_to, return_frame, return_frames, unmarked}
 use Rattle.script_law.specs.Values.{Frames, Outcome, Solo, Why, did, next_behind, stopped, then_do, with_frames}
-use Rattle.solo_memory.specs.Extents.{return_rest}
 use Rattle.solo_ports.proofs.Staying.{put_word}
+use Rattle.solo_memory.specs.Extents.{return_rest}
 
 -- ---- one frame
 own_is : (d : ℕ) (r : Option RefWord) → is_allocated_to d (share_in r) ≡ is_own_allocated d r

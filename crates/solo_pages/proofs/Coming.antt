@@ -21,11 +21,11 @@ use Rattle.course_laws.proofs.Stopping.{stops_here}
 use Rattle.script_law.specs.Values.{Solo, Frames, Outcome, Why, behind, behind_by, did, stopped, with_frames}
 use Rattle.solo_ports.specs.Standing.{Clean, Fair, ShowsOthers, nothing}
 use Rattle.solo_ports.specs.Coming.{Comes, IsWhy}
+use Rattle.solo_ports.proofs.Along.{off_flushes}
 use Rattle.solo_pages.specs.Shown.{IsShown, AreWhole, SameBeside}
 use Rattle.solo_pages.specs.Ends.{EndsAs, EndsSo, IsEnded}
 use Rattle.solo_ports.proofs.Resting.{clean_rests}
 use Rattle.solo_ports.proofs.Staying.{stands_at}
-use Rattle.solo_ports.proofs.Along.{off_flushes}
 use Rattle.solo_pages.proofs.Whole.{whole_at_rest}
 
 -- ---- words that are shown

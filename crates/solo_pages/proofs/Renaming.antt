@@ -12,8 +12,8 @@ use Rattle.script_law.specs.Frames.{back_named, rename}
 use Rattle.script_law.specs.Pages.{give_page}
 use Rattle.script_law.specs.Repeats.{each_below}
 use Rattle.script_law.specs.Values.{Solo, put_at}
-use Rattle.solo_pages.proofs.Giving.{given, given_last, given_more}
 use Rattle.xp_board.proofs.PlaceTests.{equal_by}
+use Rattle.solo_pages.proofs.Giving.{given, given_last, given_more}
 
 -- ---- one place of a function is changed by what is there
 abbrev pub acted : {A : Type 0} → (A → A) → ℕ → (ℕ → A) → ℕ → A

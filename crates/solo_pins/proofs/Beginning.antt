@@ -32,9 +32,9 @@ use Rattle.script_law.specs.Values.{Solo}
 use Rattle.solo_ports.specs.Standing.{Clean, Fair, KeepsTable, Stands, whose}
 use Rattle.solo_ports.proofs.Along.{paused_on}
 use Rattle.solo_ports.proofs.Resting.{clean_orderly, clean_rests}
+use Rattle.pin_laws.proofs.Pinning.{goes_between}
 use Rattle.solo_pins.proofs.Given.{CallsTelling, FirstComes, LaterComes, LeavesKept}
 use Rattle.solo_ports.proofs.Between.{finds_alive}
-use Rattle.pin_laws.proofs.Pinning.{goes_between}
 
 -- ---- premises on steps, between two ports on the way
 pub room_between : (v c e w : PortValue) → Came v c → Came e w → HasRoom v w → HasRoom c e

@@ -50,10 +50,10 @@ use Rattle.solo_ports.specs.Standing.{IsUnkept}
 use Rattle.solo_ports.proofs.Staying.{life_stays, mapped_stays, own_stays, privilege_stays, stands_at, told_of}
 use Rattle.solo_ports.proofs.Unkept.{unkept_let_go}
 use Rattle.solo_ports.proofs.Between.{word_after, word_before}
+use Rattle.turn_measures.proofs.Naming.{released_away}
 use Rattle.solo_pins.proofs.Given.{PausedReleaseLeaves, ReleaseLeaves}
 use Rattle.solo_pins.proofs.Stepping.{released_came}
 use Rattle.solo_pins.proofs.Standing.{IsMild, second_there}
-use Rattle.turn_measures.proofs.Naming.{released_away}
 
 -- ---- the words of the two bases
 pub low_number : (b : Base) → base_number b < 2

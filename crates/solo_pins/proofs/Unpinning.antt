@@ -48,18 +48,18 @@ use Rattle.script_law.specs.Frames.{unpin_by}
 use Rattle.script_law.specs.Values.{Solo, Frames, IsUnpinned, Outcome, did, looked_by, stopped, with_frames}
 use Rattle.solo_ports.specs.Coming.{Comes, IsDoneSo, IsRefusedSo}
 use Rattle.solo_ports.specs.Standing.{Clean, IsSettled, IsUnkept, Owes, Stands, a_release, nothing, whose}
+use Rattle.solo_ports.proofs.Pinned.{IsPinnedTable, pinned_table, sober_pinned, table_level}
+use Rattle.vcpu_turn.proofs.Clearing.{puts}
+use Rattle.turn_measures.proofs.Keeping.{away_does, away_moves}
+use Rattle.turn_measures.proofs.Naming.{released_away}
 use Rattle.solo_pins.specs.Performing.{IsPerformed, KeepsPin}
 use Rattle.solo_pins.proofs.Given.{PausedReleaseLeaves, ReleaseLeaves}
 use Rattle.solo_pins.proofs.Standing.{IsMild, SetsNothing, clean_same, second_same, stands_stay}
 use Rattle.solo_ports.proofs.Unkept.{unkept_kind, unkept_let_go}
-use Rattle.solo_ports.proofs.Pinned.{IsPinnedTable, pinned_table, sober_pinned, table_level}
 use Rattle.solo_pins.proofs.Deeds.{sets_nothing}
 use Rattle.solo_pins.proofs.Looking as looking
 use Rattle.solo_pins.proofs.Looking.{describes_back, no_refusal, referred, telling_seen, words_seen}
 use Rattle.solo_pins.proofs.Flushing.{done_so}
-use Rattle.vcpu_turn.proofs.Clearing.{puts}
-use Rattle.turn_measures.proofs.Keeping.{away_does, away_moves}
-use Rattle.turn_measures.proofs.Naming.{released_away}
 
 -- ---- the reference that is looked under is not to be had
 pub refused_looked : (n : Machine) (d f : ℕ) (w : PortValue) (x : Solo) (y : Refusal) (c : Cause) (next : Solo → Outcome) → (take_reference n d f x.frames).refusal ≡ Some c → IsCause y c → Clean w x →

@@ -26,8 +26,8 @@ use Rattle.table_law.specs.Plain.{Plain}
 use Rattle.script_law.specs.Shown.{IsShownWord}
 use Rattle.script_law.specs.Shown as shown
 use Rattle.script_law.specs.Values.{Solo, with_frames}
-use Rattle.solo_ports.specs.Standing.{IsQuiet, IsUnkept, ShowsOthers, Stands}
 use Rattle.frame_words.specs.Plain.{lowered, put, set_free}
+use Rattle.solo_ports.specs.Standing.{IsQuiet, IsUnkept, ShowsOthers, Stands}
 
 pub told_of : (k : ℕ) → IsShownWord k → IsTrue (is_told_word k)
 told_of k (shown.base low) = grind (arith, nat_tests)
