@@ -1,5 +1,5 @@
 -- Kind words of pinned frames: each is a live table; and what a sober kind word keeps.
-use Rattle.std.proofs.Common.{◌≡◌, ℕ, ◌<◌, ◌≤◌, if◌then◌else◌, Bool, true, false, IsTrue, refl, arith}
+use Rattle.std.proofs.Common.{◌≡◌, ◌<◌, ◌≤◌, if◌then◌else◌, Bool, true, false, IsTrue, refl, arith}
 use Rattle.std.proofs.lemmas.Bool.Decides.{nat_tests}
 use Rattle.xp_words.specs.KindWords.{has_form, is_kind}
 use Rattle.xp_words.specs.PageTypes.{is_table, type_number}
