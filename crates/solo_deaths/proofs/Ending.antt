@@ -4,7 +4,6 @@ use Rattle.std.proofs.lemmas.List.{append-nil}
 use Rattle.xp_words.specs.Machine.{Machine}
 use Rattle.xp_words.specs.declared.place.Place.TheVariants.{Life}
 use Rattle.xp_words.specs.declared.reply.LogLine.{LogLine}
-use Rattle.xp_words.specs.declared.reply.LogLine.TheVariants as lines
 use Rattle.xp_words.specs.declared.reply.Refusal.{Refusal}
 use Rattle.xp_words.specs.declared.reply.Stop.{Stop}
 use Rattle.xp_board.specs.Acts.{left_by}
