@@ -50,7 +50,7 @@ use Rattle.course_laws.proofs.Travelling.{wait_ends}
 use Rattle.course_laws.proofs.Under.{IsStill, PlainFrames, Spelled, TableOf, count_of, frames_but}
 use Rattle.course_laws.proofs.Unwinding.{HalfAt}
 
-same_back : (p q : Plain) → IsSame p q → IsSame q p
+pub same_back : (p q : Plain) → IsSame p q → IsSame q p
 same_back p q same = record { shares = λ g. sym (same.shares g); kinds = λ g. sym (same.kinds g); cells = λ g i. sym (same.cells g i) }
 
 module _ (v : PortValue) (f owner level : ℕ) (machine : IsMachine v.post.machine) (telling : is_telling v ≡ true) (calm : IsAtRest v.post.machine (told_word v)) (orderly : IsOrderly v.post.machine (told_word v)) (low : 1 ≤ level) (high : level ≤ 4) where

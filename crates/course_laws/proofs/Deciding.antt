@@ -33,7 +33,7 @@ final_words (refusals.Clock x) final = final
 final_words _ final = tt
 
 -- of a first call
-first_last : (n : Machine) (owner : ℕ) (v w : PortValue) (f level : ℕ) (a : PlainOutcome) (answer : Result ℕ Stop) → CallOutcome n owner v w f level (record { outcome = a; whole = true }) answer → LastOutcome n owner v w f level a answer
+pub first_last : (n : Machine) (owner : ℕ) (v w : PortValue) (f level : ℕ) (a : PlainOutcome) (answer : Result ℕ Stop) → CallOutcome n owner v w f level (record { outcome = a; whole = true }) answer → LastOutcome n owner v w f level a answer
 first_last n owner v w f level a (Ok g) o = o
 first_last n owner v w f level a (Err (Refused y)) o = λ final. o (final_words y final)
 first_last n owner v w f level a (Err (Paused x)) o = tt

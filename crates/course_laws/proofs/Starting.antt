@@ -23,7 +23,7 @@ count_by (Some (Free stamp)) = refl
 count_by (Some (Dying o)) = refl
 count_by None = refl
 
-count_is : (w : ℕ) → ref_count w ≡ share_count (share_of w)
+pub count_is : (w : ℕ) → ref_count w ≡ share_count (share_of w)
 unfolding ref_count
 count_is w = count_by (ref_read w)
 

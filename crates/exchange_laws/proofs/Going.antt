@@ -25,7 +25,7 @@ took_page_came v f owner _ _ (pages.counted w type) = does_came v w _ type.found
 took_page_came v f owner _ _ (pages.untyped u w stop type back) = came_trans v u w (does_came v u _ type.found) (gave_came u w f back)
 took_page_came v f owner _ _ (pages.waiting u w own stamp stop type left) = came_trans v u w (does_came v u _ type.found) (page_left_came u w f owner stamp own _ left.steps)
 
-page_came : (v : PortValue) (f owner : ℕ) (w : PortValue) (r : Result ℕ Stop) → GotPage v f owner w r → Came v w
+pub page_came : (v : PortValue) (f owner : ℕ) (w : PortValue) (r : Result ℕ Stop) → GotPage v f owner w r → Came v w
 page_came v f owner _ _ (pages.unreferred w stop ref) = ref_came v w f owner _ ref
 page_came v f owner _ _ (pages.refused u w stop ref took) = came_trans v u w (ref_came v u f owner _ ref) (took_page_came u f owner w _ took)
 page_came v f owner _ _ (pages.had u w ref took) = came_trans v u w (ref_came v u f owner _ ref) (took_page_came u f owner w _ took)

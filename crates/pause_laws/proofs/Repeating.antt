@@ -32,7 +32,7 @@ use Rattle.course_laws.proofs.Under.{spelled_same}
 use Rattle.course_laws.proofs.Unwinding.{part, ParkedAt, parked_over}
 
 -- ---- a call that finds room is not refused for a count at its limit
-full_word : (owner limit w : ℕ) (r : Option RefWord) → ref_read w ≡ r → IsFull owner limit r → limit ≤ ref_count w
+pub full_word : (owner limit w : ℕ) (r : Option RefWord) → ref_read w ≡ r → IsFull owner limit r → limit ≤ ref_count w
 unfolding ref_count
 full_word owner limit w (Some (Owned o a c)) is full = let count : count_in (ref_read w) ≡ c = ap count_in is in let low = full.1 in omega arith
 full_word owner limit w (Some (Free stamp)) is full = absurd full

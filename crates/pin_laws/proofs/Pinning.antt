@@ -23,7 +23,7 @@ use Rattle.pin_laws.proofs.Ending.{ends_done, ends_final}
 use Rattle.pin_laws.proofs.Looking.{back_came, seen_word, words_back}
 use Rattle.pin_laws.proofs.Unpinned.{had_unpinned}
 
-goes_between : (v c e w : PortValue) → Came v c → Came e w → ClockGoesOn v w → ClockGoesOn c e
+pub goes_between : (v c e w : PortValue) → Came v c → Came e w → ClockGoesOn v w → ClockGoesOn c e
 goes_between v c e w before after goes m met at = goes m (met_after v c w m before (met_before c e w m met after)) at
 
 -- ---- what is known of acquisitions

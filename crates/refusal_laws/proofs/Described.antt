@@ -46,17 +46,15 @@ use Rattle.course_laws.proofs.Frames.{AllFrames, IsFrame, IsLiveWithin, count_at
 use Rattle.course_laws.proofs.Stacking.{lefts}
 use Rattle.course_laws.proofs.Starting.{rest_frames}
 use Rattle.course_laws.proofs.Calling.{CallEnds, CallOutcome, IsDone, RefusedAtOnce, at_once, done_call, ends_call, left_call, lent_none}
-use Rattle.course_laws.proofs.Extras.{IsSame, described_same, extra, lent}
+use Rattle.course_laws.proofs.Extras.{described_same, extra, lent}
 use Rattle.course_laws.proofs.Pacing.{Aim, extra_own, lent_same}
 use Rattle.course_laws.proofs.Recording.{Met, OpensTo, met_typed, opens_to, taking, with_one}
 use Rattle.course_laws.proofs.Refusing.{Unmet, asks_by, type_refused}
 use Rattle.course_laws.proofs.Travelling.{wait_ends}
 use Rattle.course_laws.proofs.Under.{IsStill, PlainFrames, Spelled, TableOf, count_of, frames_but}
 use Rattle.course_laws.proofs.Unwinding.{HalfAt}
+use Rattle.course_laws.proofs.Beginning.{same_back}
 use Rattle.refusal_laws.specs.Repeated.{IsDeadFrame}
-
-same_back : (p q : Plain) → IsSame p q → IsSame q p
-same_back p q same = record { shares = λ g. sym (same.shares g); kinds = λ g. sym (same.kinds g); cells = λ g i. sym (same.cells g i) }
 
 sober_pinned : (b : Bool) (k : KindWord) → (if b then k else record k { number = 0; unflushed = false }).pinned ≡ k.pinned
 sober_pinned true k = refl

@@ -1,22 +1,19 @@
 -- Calls behind one another, from words at rest that any plain value describes.
-use Rattle.std.proofs.Common.{◌≡◌, ℕ, ◌≤◌, Bool, true, List, [], ◌∷◌, Result, Ok, Err, refl, sym, ◌∙◌, subst}
+use Rattle.std.proofs.Common.{◌≡◌, ℕ, ◌≤◌, Bool, true, List, [], ◌∷◌, Result, Err, refl, sym, ◌∙◌, subst}
 use Rattle.xp_words.specs.Machine.{IsMachine, Machine}
 use Rattle.xp_words.specs.declared.reply.Pause.TheVariants.{Due}
-use Rattle.xp_words.specs.declared.reply.Refusal.{Refusal}
-use Rattle.xp_words.specs.declared.reply.Refusal.TheVariants as refusals
 use Rattle.xp_words.specs.declared.reply.Stop.{Stop}
-use Rattle.xp_words.specs.declared.reply.Stop.TheVariants.{Refused, Paused}
+use Rattle.xp_words.specs.declared.reply.Stop.TheVariants.{Paused}
 use Rattle.xp_board.specs.Told.{PortValue, is_telling, told_word}
 use Rattle.table_law.specs.Alone.{PlainOutcome, alone}
 use Rattle.table_law.specs.Lawful.{IsAtRest}
 use Rattle.table_law.specs.Plain.{Describes, Plain}
 use Rattle.table_twins.proofs.Kinding.{described_alike}
 use Rattle.table_entries.specs.Acquiring.{Acquired}
-use Rattle.course_laws.specs.Courses.{FindsAlive, IsFinal, IsOrderly}
+use Rattle.course_laws.specs.Courses.{FindsAlive, IsOrderly}
 use Rattle.course_laws.proofs.Calling.{CallOutcome, resumed_call}
-use Rattle.course_laws.proofs.Deciding.{LastOutcome}
+use Rattle.course_laws.proofs.Deciding.{LastOutcome, first_last}
 use Rattle.course_laws.proofs.Extras.{extra, lent}
-use Rattle.course_laws.proofs.Refusing.{IsForWords}
 use Rattle.course_laws.proofs.Under.{spelled_same}
 use Rattle.course_laws.proofs.Unwinding.{part, ParkedAt, parked_over}
 use Rattle.pause_laws.specs.Calls.{Calls, HasRoom, Repeats, StaysFrom, again, last, more, once}
@@ -77,16 +74,6 @@ all_told f owner level v _ (repeated.first y u answers telling acquired finds on
 all_told f owner level v _ (repeated.again x y u answers before acquired finds on) = all_told f owner level v x before
 
 -- ---- from words at rest
-final_words : (y : Refusal) → IsFinal (Refused y) → IsForWords true y
-final_words (refusals.CountFull f w) final = refl
-final_words (refusals.Clock x) final = final
-final_words _ final = tt
-
-first_last : (n : Machine) (owner : ℕ) (v w : PortValue) (f level : ℕ) (a : PlainOutcome) (answer : Result ℕ Stop) → CallOutcome n owner v w f level (record { outcome = a; whole = true }) answer → LastOutcome n owner v w f level a answer
-first_last n owner v w f level a (Ok g) o = o
-first_last n owner v w f level a (Err (Refused y)) o = λ final. o (final_words y final)
-first_last n owner v w f level a (Err (Paused x)) o = tt
-
 module _ (v : PortValue) (f owner level : ℕ) (machine : IsMachine v.post.machine) (telling : is_telling v ≡ true) (calm : IsAtRest v.post.machine (told_word v)) (orderly : IsOrderly v.post.machine (told_word v)) (low : 1 ≤ level) (high : level ≤ 4) (p : Plain) (d : Describes v.post.machine (told_word v) p) where
   abbrev a : PlainOutcome
   a = alone v.post.machine owner level f p

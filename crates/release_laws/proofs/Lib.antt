@@ -1,8 +1,8 @@
 pub mod Parts
 pub mod Seen
 pub mod Words
-mod Putting
-mod Dropping
+pub mod Putting
+pub mod Dropping
 pub mod Liking
 pub mod Parking
 mod Entries

@@ -31,7 +31,7 @@ level_number (suc (suc (suc zero))) low = refl
 level_number (suc (suc (suc (suc l)))) low = absurd (omega arith)
 
 -- either of two
-of_two : (b : Bool) (x z : PlainOutcome) (Q : PlainOutcome → Type 0) → (b ≡ true → x.refusal ≡ None → Q x) → (b ≡ false → z.refusal ≡ None → Q z) → (if b then x else z).refusal ≡ None → Q (if b then x else z)
+pub of_two : (b : Bool) (x z : PlainOutcome) (Q : PlainOutcome → Type 0) → (b ≡ true → x.refusal ≡ None → Q x) → (b ≡ false → z.refusal ≡ None → Q z) → (if b then x else z).refusal ≡ None → Q (if b then x else z)
 of_two true x z Q one other good = one refl good
 of_two false x z Q one other good = other refl good
 

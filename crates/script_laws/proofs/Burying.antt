@@ -20,8 +20,8 @@ use Rattle.domain_destroy.specs.Asking.{of_domain}
 use Rattle.domain_destroy.specs.Course.{LeftFrame, left_lines}
 use Rattle.script_law.specs.Destroying.{buried, destroy, destroy_refusal, stripped}
 use Rattle.script_law.specs.Repeats.{each_below}
-use Rattle.script_law.specs.Scripts.{Answered, answered, once, once_by}
-use Rattle.script_law.specs.Values.{Left, Line, Outcome, Solo, Whose, Why, allowed, put_at}
+use Rattle.script_law.specs.Scripts.{Answered, once}
+use Rattle.script_law.specs.Values.{Left, Line, Outcome, Solo, Whose, allowed, put_at}
 use Rattle.solo_deaths.specs.Dying.{AreLeft, ComesDying, GoesOnDying}
 use Rattle.solo_deaths.proofs.Ending.{begins_dying, by_course}
 use Rattle.solo_pins.proofs.Meaning.{Laws}
@@ -35,6 +35,7 @@ use Rattle.script_laws.specs.Logged.{AreLines}
 use Rattle.script_laws.proofs.Settling.{owes_clean, stands_in}
 use Rattle.script_laws.proofs.Tasking.{Elements, Moving, owes_moved}
 use Rattle.script_laws.proofs.Tasks.{Comes, IsTaskAnswered, Lives, OwesT}
+use Rattle.script_laws.proofs.Single.{done_once, refused_once}
 
 -- ---- lines of frames that are left
 pub left_are_lines : (op : ℕ) (xs : List LeftFrame) (ls : List Line) → AreLeft xs ls → AreLines op (left_lines op xs) ls
@@ -72,14 +73,6 @@ destroy_lives w x s alive = elim (cases_Bool (x == w.domain)) [
       lives_by w.domain x s (destroy_refusal w x s) (buried w.machine x (each_below w.machine.frames (stripped x) s.frames) s) alive (other_kept w.domain x 255 s.lives apart ∙ alive)
       )
 ]
-
-done_as : (o : Outcome) (r : Option Why) → r ≡ None → once_by o r ≡ answered 1 o.value None o.lines o.left
-done_as o None is = refl
-done_as o (Some y) is = absurd cc
-
-refused_as : (o : Outcome) (r : Option Why) (y : Why) → r ≡ Some y → once_by o r ≡ answered 0 0 (Some y) o.lines o.left
-refused_as o None y is = absurd cc
-refused_as o (Some x) y is = ap (λ z. answered 0 0 z o.lines o.left) is
 
 -- ---- what is left of a destruction
 module _ (l : Laws) (neither : NeitherLostNorBusy) (v0 : PortValue) (real : (whose v0).domain < length v0.post.machine.page_limit) (e : Elements l neither v0) where
@@ -132,10 +125,10 @@ module _ (l : Laws) (neither : NeitherLostNorBusy) (v0 : PortValue) (real : (who
 
     comes_so : (all : List LogLine) (y : Result ℕ Stop) → to.done ≡ done_behind at.done y → ComesDying w x n to.place [] all g.outcome y → DiesComes all y
     comes_so all (Ok left) is c =
-        subst (IsTaskAnswered l.stays neither v0 n all w (reply_of to.done left None)) (sym (done_as g.outcome g.outcome.refusal c.fine) ∙ g.is)
+        subst (IsTaskAnswered l.stays neither v0 n all w (reply_of to.done left None)) (sym (done_once g.outcome g.outcome.refusal c.fine) ∙ g.is)
         (record { lines = subst (λ ls. AreLines n ls g.outcome.lines) (sym c.logged) (left_are_lines n c.made g.outcome.lines c.lines); replies = record { done = is; value = c.value; refusal = tt }; owes = owed g.outcome.left (nothing c.clean) g.ends })
     comes_so all (Err (Refused y)) is c =
-        subst (IsTaskAnswered l.stays neither v0 n all w (reply_of to.done 0 (Some y))) (sym (refused_as g.outcome g.outcome.refusal c.0.why c.0.is) ∙ g.is)
+        subst (IsTaskAnswered l.stays neither v0 n all w (reply_of to.done 0 (Some y))) (sym (refused_once g.outcome g.outcome.refusal c.0.why c.0.is) ∙ g.is)
         (record {
           lines = subst (λ ls. AreLines n ls g.outcome.lines) (sym c.1) (subst (AreLines n []) (sym c.0.none) tt);
           replies = record { done = is ∙ g.unset; value = refl; refusal = c.0.same };

@@ -28,6 +28,7 @@ use Rattle.script_law.specs.Values.{Line, Outcome, Solo, Whose}
 use Rattle.solo_ports.specs.Coming.{IsWhy}
 use Rattle.solo_ports.specs.Standing.{Clean, Fair, IsSettled, Owes, nothing, whose}
 use Rattle.solo_memory.specs.Extents.{ComesExtent, line_of}
+use Rattle.solo_memory.proofs.Extending.{settled_extent}
 use Rattle.vcpu_turn.specs.Cpus.{reply_of}
 use Rattle.vcpu_turn.specs.Extents.{Block, ExtentFits, PlacesExtents, WorksExtents, begins_in, block_at, counted_by, extent_at, extents_in, gave_extents, given_back, given_by, given_lines, is_uncounted, left_in, mem_refusal, place_for, populated, range_refusal, refusal_in}
 use Rattle.vcpu_turn.specs.Extents as courses
@@ -38,10 +39,11 @@ use Rattle.vcpu_turn.specs.declared.cpu.CallNumber.{CallNumber}
 use Rattle.vcpu_turn.specs.declared.cpu.Progress.{Progress}
 use Rattle.vcpu_turn.proofs.Hindering.{extent_came}
 use Rattle.vcpu_turn.proofs.Listing.{did_on}
+use Rattle.vcpu_turn.proofs.GoingExtents.{lines_both}
 use Rattle.script_laws.specs.Logged.{AreLines}
 use Rattle.script_laws.proofs.Items.{OwesF}
 use Rattle.script_laws.proofs.Listed.{lines_more, plain_list}
-use Rattle.script_laws.proofs.Lists.{ItemComes, ListComes, ListLemmas, Pending, list_comes}
+use Rattle.script_laws.proofs.Lists.{ItemComes, ListComes, ListLemmas, list_comes}
 use Rattle.script_laws.proofs.Lists as listing
 use Rattle.script_laws.proofs.Premises.{FairFrom, fair_back, fair_on}
 use Rattle.script_laws.proofs.Settling.{owes_clean}
@@ -118,10 +120,6 @@ same_extent : (command : ℕ) (items : List ℕ) (k : ℕ) (x e : Extent) → ex
 same_extent command items k x e at is = extent_by (command % 64 == 0) (command % 64 == 1) (command % 64 == 6) items (counted_in items) k x e at is
 
 -- ---- lines, and places
-given_more : (number : CallNumber) (bs cs : List Block) → given_lines number (bs ++ cs) ≡ given_lines number bs ++ given_lines number cs
-given_more number [] cs = refl
-given_more number (b ∷ bs) cs = ap (λ ls. given_lines number (b ∷ []) ++ ls) (given_more number bs cs)
-
 said_one : (op call k : ℕ) (given : Option ℕ) → AreLines op (given_lines (record { op = op; call = call }) (block_at k given)) (line_of call k given)
 said_one op call k (Some first) = ((refl, refl, refl, refl), tt)
 said_one op call k None = tt
@@ -136,10 +134,6 @@ none_there n x y none = subst (λ j. (if j == 0 then x else y) ≡ x) (sym none)
 -- no extent goes on within
 none_within : (from within k : ℕ) → within ≡ 0 → place_for from within k ≡ 0
 none_within from within k is = subst (λ j. place_for from j k ≡ 0) (sym is) (elim (cases_Bool (k == from)) [ inl same ↦ rw same refl | inr other ↦ rw other refl ])
-
-settled_behind : (v w : PortValue) (d size : ℕ) (extent : Extent) (from left : ℕ) (answer : Result (Option ℕ) Stop) → Reserves d size extent from v left w answer → IsSettled v → IsSettled w
-settled_behind v w d size extent from left answer a s =
-    record { first = ap (λ (y : PortValue). y.holdings.old0) a.hand ∙ s.first; second = ap (λ (y : PortValue). y.holdings.old1) a.hand ∙ s.second }
 
 -- ---- one extent
 module _ (stays : AloneStays) (neither : NeitherLostNorBusy) (v0 : PortValue) (law : ExtentLaw) where
@@ -204,7 +198,7 @@ module _ (stays : AloneStays) (neither : NeitherLostNorBusy) (v0 : PortValue) (l
             owes = owes;
           };
           rests = fit.reserves.rests;
-          settled = settled_behind u w owner.domain (2 ^ order) fit.extent (place_for from within k) fit.left (given_by fit.given r) fit.reserves b.settled;
+          settled = settled_extent u w owner.domain (2 ^ order) fit.extent (place_for from within k) fit.left (given_by fit.given r) fit.reserves b.settled;
         }
 
     item_by : (k : ℕ) (e : Extent) (s : Solo) (u w : PortValue) (asked : List Bool) (r : Result (Unit {0}) Stop) → (fit : fits k u w asked r) → Between u s → ComesExtent call k w (one k e s) (given_by fit.given r) → Ends k s (one k e s) (gives k u w asked r fit) w r
@@ -218,7 +212,7 @@ module _ (stays : AloneStays) (neither : NeitherLostNorBusy) (v0 : PortValue) (l
     item k e s u w asked r at fair fit (inr never) = absurd never
 
     said_both : (bs cs : List Block) (ls ms : List Line) → Said bs ls → Said cs ms → Said (bs ++ cs) (ls ++ ms)
-    said_both bs cs ls ms a b = subst (λ gs. AreLines op gs (ls ++ ms)) (sym (given_more number bs cs)) (lines_more op (given_lines number bs) (given_lines number cs) ls ms a b)
+    said_both bs cs ls ms a b = subst (λ gs. AreLines op gs (ls ++ ms)) (sym (lines_both number bs cs)) (lines_more op (given_lines number bs) (given_lines number cs) ls ms a b)
 
     extent_lemmas : ListLemmas (plain_list one) es IsWhy (FairFrom v0) Between Never Never fits gives Said
     unfolding plain_list

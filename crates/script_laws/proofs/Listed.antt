@@ -69,9 +69,6 @@ less_some [] (suc k) e is = absurd cc
 less_some (x ∷ es) zero e is = omega arith
 less_some (x ∷ es) (suc k) e is = let l = less_some es k e is in omega arith
 
-same_some : {E : Type 0} (x y : E) (o : Option E) → o ≡ Some x → o ≡ Some y → x ≡ y
-same_some x y o a b = let k = sym a ∙ b in cc
-
 -- ---- what is kept of the element that stands next
 module _ (stays : AloneStays) (neither : NeitherLostNorBusy) (v0 : PortValue) (Good : Solo → Type 0) {E : Type 0} (es : List E) (Kept : E → PortValue → Solo → Type 0) where
   pub record KeptIn (k : ℕ) (v : PortValue) (s : Solo) : Type 0 where
@@ -116,7 +113,7 @@ module _ (stays : AloneStays) (neither : NeitherLostNorBusy) (v0 : PortValue) (G
 
   waits_by : (k : ℕ) (e : E) (u : PortValue) (s : Solo) → slice_get es k ≡ Some e → OwesIt u s ⊎ KeptHere k u s → IsAhead stays neither v0 Good u s × (Owes u s ⊎ Kept e u s)
   waits_by k e u s at (inl owes) = (owes.ahead, inl owes.owes)
-  waits_by k e u s at (inr kept) = (kept.ahead, inr (subst (λ y. Kept y u s) (same_some kept.element e (slice_get es k) kept.at at) kept.kept))
+  waits_by k e u s at (inr kept) = (kept.ahead, inr (subst (λ y. Kept y u s) (let same : Some kept.element ≡ Some e = sym kept.at ∙ at in let is : kept.element ≡ e = cc in is) kept.kept))
 
   item_by : (k : ℕ) (e : E) (s : Solo) (u w : PortValue) (asked : List Bool) (r : Result (Unit {0}) Stop) → slice_get es k ≡ Some e → FairFrom v0 w → fits k u w asked r → OwesIt u s ⊎ KeptHere k u s → Ends k s (plain e s) w r
   item_by k e s u w asked r at fair f pending =

@@ -16,7 +16,7 @@ use Rattle.xp_board.specs.After.{learned, learned_life, learned_own}
 use Rattle.xp_board.specs.Hands.{IsEmptyHand}
 use Rattle.xp_board.specs.Lists.{kept_of}
 use Rattle.xp_board.specs.Told.{PortValue, is_telling, told_word}
-use Rattle.step_maker.specs.Moves.{Came, Moves, hand_at}
+use Rattle.step_maker.specs.Moves.{Moves, hand_at}
 use Rattle.step_maker.specs.Twins.{Alike}
 use Rattle.step_maker.proofs.Alikes.{alike_trans, same_alike}
 use Rattle.step_maker.proofs.Coming.{moves_came}
@@ -25,7 +25,6 @@ use Rattle.answer_laws.proofs.Shared.{alone_telling}
 use Rattle.course_laws.proofs.Awaiting.{NeitherLostNorBusy}
 use Rattle.flush_words.specs.Flushing.{FlushesOwn}
 use Rattle.flush_words.specs.Flushing as flushing
-use Rattle.flush_words.proofs.Flushed.{own_came}
 use Rattle.flush_words.proofs.FlushTwin.{own_alike}
 use Rattle.table_law.specs.Plain.{plain_of}
 use Rattle.script_law.specs.Values.{Solo}
@@ -33,9 +32,10 @@ use Rattle.solo_pins.proofs.Meaning.{Laws}
 use Rattle.solo_ports.specs.Standing.{Stands, StaysAlike, nothing, whose}
 use Rattle.solo_ports.proofs.Along.{owes_on}
 use Rattle.tlb_walks.specs.Dropping.{Heeds}
+use Rattle.tlb_walks.proofs.Flushes.{heeds_came}
 use Rattle.vcpu_turn.specs.Settling.{Settles}
 use Rattle.vcpu_turn.specs.Turning.{Begins}
-use Rattle.vcpu_turn.proofs.Hindering.{same_came, settles_came}
+use Rattle.vcpu_turn.proofs.Hindering.{settles_came}
 use Rattle.vcpu_turn.proofs.Turns.{begins_came}
 use Rattle.script_laws.proofs.Items.{described}
 use Rattle.script_laws.proofs.Settling.{ended_ok, same_settled, settles_clean, settles_owes}
@@ -117,10 +117,6 @@ flushed_empty v w _ (flushing.FlushesOwn.ticked a b time before low look tick st
 flushed_empty v w _ (flushing.FlushesOwn.overtaken a b time found before low other look tick store) e = acked_empty b w _ _ _ before store (ticked_empty a b time (time + 1) found tick (looked_empty v a Clock time clock look e))
 
 -- ---- a turn begins
-heeds_came : (b : Bool) (v w : PortValue) → Heeds b v w → Came v w
-heeds_came true v w heeds = same_came v w heeds
-heeds_came false v w heeds = own_came v w heeds.0 heeds.1
-
 heeds_alike : (b : Bool) (v w : PortValue) → is_telling v ≡ true → Heeds b v w → Alike (told_word w) (told_word v)
 heeds_alike true v w telling heeds = same_alike (told_word w) (told_word v) (λ q. ap (λ (y : PortValue). told_word y q) heeds)
 heeds_alike false v w telling heeds = own_alike v w heeds.0 heeds.1

@@ -3,6 +3,7 @@ use Rattle.std.proofs.Common.{◌≡◌, ◌⊎◌, ℕ, ◌<◌, ◌≤◌, nat
 use Rattle.std.proofs.lemmas.Bool.Decides.{nat_tests}
 use Rattle.std.proofs.lemmas.List.{append-nil}
 use Rattle.std.specs.Prelude.{drop, slice_get}
+use Rattle.std.proofs.Math.Path.{fun_ext}
 use Rattle.xp_words.specs.declared.ops.Pair.{Pair}
 use Rattle.xp_words.specs.declared.reply.LogLine.{LogLine}
 use Rattle.xp_words.specs.declared.reply.Refusal.{Refusal}
@@ -62,12 +63,9 @@ each (M2p f) s t = refl
 each (Cell f i) s t = refl
 each (Map k) s t = refl
 
-same_words : (m n : Words) → ((q : Place) → m q ≡ n q) → m ≡ n
-same_words m n same = λ i q. same q i
-
 same_domains : (s t : Solo) → SameDomains s t → of_domains t ≡ of_domains s
 unfolding words_by
-same_domains s t same = ap (λ f. words_by f t.lives t) same.privileges ∙ (ap (λ f. words_by s.privileges f t) same.lives ∙ same_words (words_by s.privileges s.lives t) (of_domains s) (λ q. each q s t))
+same_domains s t same = ap (λ f. words_by f t.lives t) same.privileges ∙ (ap (λ f. words_by s.privileges f t) same.lives ∙ fun_ext (λ q. each q s t))
 
 -- what is kept of an element that was paused, and its law
 abbrev pub KeptOfPair : Type 1

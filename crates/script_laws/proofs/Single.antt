@@ -46,11 +46,11 @@ use Rattle.script_laws.proofs.Tasks.{Begins, Comes, IsTaskAnswered, Lives, OwesT
 use Rattle.script_laws.proofs.Untouched.{SameDomains, descriptor_keeps, gdt_keeps, itself, maps_keep, read_keeps, touch_keeps, write_keeps}
 
 -- ---- done once, or not
-done_once : (o : Outcome) (r : Option Why) → r ≡ None → once_by o r ≡ answered 1 o.value None o.lines o.left
+pub done_once : (o : Outcome) (r : Option Why) → r ≡ None → once_by o r ≡ answered 1 o.value None o.lines o.left
 done_once o None is = refl
 done_once o (Some y) is = absurd cc
 
-refused_once : (o : Outcome) (r : Option Why) (y : Why) → r ≡ Some y → once_by o r ≡ answered 0 0 (Some y) o.lines o.left
+pub refused_once : (o : Outcome) (r : Option Why) (y : Why) → r ≡ Some y → once_by o r ≡ answered 0 0 (Some y) o.lines o.left
 refused_once o None y is = absurd cc
 refused_once o (Some x) y is = ap (λ z. answered 0 0 z o.lines o.left) is
 

@@ -19,6 +19,7 @@ use Rattle.step_maker.proofs.Coming.{came_self, came_trans}
 use Rattle.tlb_walks.specs.Accesses.{may_serve, server, serving}
 use Rattle.tlb_walks.specs.Addresses.{page_of}
 use Rattle.tlb_walks.specs.Walks.{top_word}
+use Rattle.tlb_walks.proofs.Guests.{server_cached}
 use Rattle.table_law.specs.Plain.{Plain, plain_of}
 use Rattle.script_law.specs.Walks.{Leads, Way, from_base}
 use Rattle.solo_accesses.specs.Stale.{IsBacked, IsNeverStale, MayServe, is_store}
@@ -39,9 +40,9 @@ item_is : (user : Bool) (page : ℕ) (x : Item) → is_item user page x ≡ true
 item_is true page x e = let k = and_parts x.user (x.page == page) e in (k.0, equal_by x.page page k.1)
 item_is false page x e = let k = and_parts (not x.user) (x.page == page) e in (not-true x.user k.0, equal_by x.page page k.1)
 
-serving_is : (write : Bool) (o : Option Item) (x : Item) → serving write o ≡ Some x → (o ≡ Some x) × (may_serve write x ≡ true)
-serving_is write (Some y) x e = let k = when_some (may_serve write y) y x e in (ap Some k.1, ap (may_serve write) (sym k.1) ∙ k.0)
-serving_is write None x e = absurd cc
+serving_may : (write : Bool) (o : Option Item) (x : Item) → serving write o ≡ Some x → may_serve write x ≡ true
+serving_may write (Some y) x e = let k = when_some (may_serve write y) y x e in ap (may_serve write) (sym k.1) ∙ k.0
+serving_may write None x e = absurd cc
 
 pub record ServedBy (v : PortValue) (user : Bool) (va : ℕ) (write : Bool) (x : Item) : Type 0 where
   pub user_is : x.user ≡ user
@@ -50,15 +51,15 @@ pub record ServedBy (v : PortValue) (user : Bool) (va : ℕ) (write : Bool) (x :
 
 pub served : (v : PortValue) (user : Bool) (va : ℕ) (write : Bool) (x : Item) → server v user va write ≡ Some x → ServedBy v user va write x
 served v user va write x e =
-    let k = serving_is write (cached_item user (page_of va) v.holdings.cache) x e in
-    let i = item_is user (page_of va) x (first_passes (is_item user (page_of va)) v.holdings.cache x k.0) in
+    let c = server_cached v user va write x e in
+    let i = item_is user (page_of va) x (first_passes (is_item user (page_of va)) v.holdings.cache x c) in
     record {
       user_is = i.0;
       page_is = i.1;
       may = record {
-        newest = subst (λ (u : Bool). cached_item u x.page v.holdings.cache ≡ Some x) (sym i.0) (subst (λ (page : ℕ). cached_item user page v.holdings.cache ≡ Some x) (sym i.1) k.0);
+        newest = subst (λ (u : Bool). cached_item u x.page v.holdings.cache ≡ Some x) (sym i.0) (subst (λ (page : ℕ). cached_item user page v.holdings.cache ≡ Some x) (sym i.1) c);
         frame = refl;
-        serves = k.1;
+        serves = serving_may write (cached_item user (page_of va) v.holdings.cache) x e;
       };
     }
 

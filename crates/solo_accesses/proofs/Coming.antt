@@ -8,7 +8,7 @@ use Rattle.xp_board.specs.Told.{PortValue}
 use Rattle.table_law.specs.Plain.{Plain}
 use Rattle.script_law.specs.Values.{Numbers, Outcome, Solo}
 use Rattle.script_law.specs.Walks.{from_base, path}
-use Rattle.solo_ports.specs.Coming.{Comes, IsRefusedSo, IsWhy}
+use Rattle.solo_ports.specs.Coming.{Comes, IsRefusedSo}
 use Rattle.solo_ports.specs.Standing as standing
 use Rattle.solo_ports.specs.Standing.{IsUnkept}
 use Rattle.solo_accesses.specs.Accesses.{AccessComes, IsRefusedExactly, with_zero}
@@ -20,12 +20,9 @@ abbrev pub done_of : {A : Type 0} → Result A Stop → Result (Unit {0}) Stop
 done_of (Ok a) = Ok tt
 done_of (Err e) = Err e
 
-same_why : (r : Refusal) → IsWhy r (Numbers r)
-same_why r = refl
-
 module _ (Kept : PortValue → Solo → Type 0) (w : PortValue) (x : Solo) (o : Outcome) where
   refused_so : (r : Refusal) → IsRefusedExactly w r o → IsRefusedSo w r o
-  refused_so r a = record { why = Numbers r; is = a.is; same = same_why r; none = a.none; owes = standing.nothing a.clean }
+  refused_so r a = record { why = Numbers r; is = a.is; same = refl; none = a.none; owes = standing.nothing a.clean }
 
   pub access_comes : (answer : Result ℕ Stop) → AccessComes w o answer → Comes Kept w x o (done_of answer)
   access_comes (Ok value) a = record { fine = a.fine; none = a.none; owes = standing.nothing a.clean }

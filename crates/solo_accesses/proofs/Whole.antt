@@ -25,13 +25,10 @@ use Rattle.solo_accesses.proofs.Cells.{CellsOf, cells_same, only_same, only_then
 use Rattle.solo_accesses.proofs.Walking.{WalkedAs, walked_down}
 
 -- ---- a base names a frame of the machine, or none
-top_spelled : (n : Machine) (s w : ℕ) (user : Bool) → IsSpelling n (Vcpu s (top_word user)) w → w ≤ n.frames
-unfolding IsSpelling
-top_spelled n s w true e = let v = e.1 in grind (arith, nat_tests)
-top_spelled n s w false e = let v = e.1 in grind (arith, nat_tests)
-
 top_by : (n : Machine) (m : Words) (s : ℕ) (user : Bool) → Spelled n m → (b : Bool) → is_place (sizes_of n) (Vcpu s (top_word user)) ≡ b → m (Vcpu s (top_word user)) ≤ n.frames
-top_by n m s user spelled true is = top_spelled n s (m (Vcpu s (top_word user))) user (spelled.spelled (Vcpu s (top_word user)) is)
+unfolding IsSpelling
+top_by n m s true spelled true is = let v = (spelled.spelled (Vcpu s (top_word true)) is).1 in grind (arith, nat_tests)
+top_by n m s false spelled true is = let v = (spelled.spelled (Vcpu s (top_word false)) is).1 in grind (arith, nat_tests)
 top_by n m s user spelled false is = let none = spelled.outside (Vcpu s (top_word user)) is in omega arith
 
 pub top_few : (v : PortValue) (s : ℕ) (user : Bool) → IsAlone v → told_word v (Vcpu s (top_word user)) ≤ v.post.machine.frames

@@ -33,12 +33,13 @@ use Rattle.domain_destroy.specs.Clearing.{ClearsFrame, GivesMark, TakesMarks}
 use Rattle.script_law.specs.Destroying.{stripped, unallocated, unpinned}
 use Rattle.script_law.specs.Memory.{is_owned_by}
 use Rattle.solo_ports.proofs.Unkept.{unkept_kind}
+use Rattle.solo_ports.proofs.Pinned.{IsPinnedTable, pinned_table, sober_kept, sober_pinned, table_level}
 use Rattle.solo_deaths.specs.Between.{Between, PartComes, Within}
 use Rattle.solo_deaths.proofs.Giving.{exchanged, gives_mark, stored}
 use Rattle.solo_deaths.proofs.Given.{PausedReleaseLeaves, ReleaseLeaves}
 use Rattle.solo_deaths.proofs.Releasing.{lets_go}
 use Rattle.solo_deaths.proofs.Standing.{between_by, between_looks, orderly, telling}
-use Rattle.solo_deaths.proofs.Stripping.{IsPinnedTable, not_owned, owned_or_uncounted, pinned_table, sober_kept, sober_pinned, stripped_other, stripped_parts, stripped_unpinned, table_level, unpinned_none, unpinned_off}
+use Rattle.solo_deaths.proofs.Stripping.{not_owned, owned_or_uncounted, stripped_other, stripped_parts, stripped_unpinned, unpinned_none, unpinned_off}
 
 -- ---- the pin
 module _ (stays : AloneStays) (neither : NeitherLostNorBusy) (leaves_plain : ReleaseLeaves) (leaves_rest : PausedReleaseLeaves) (o : Post) (machine : IsMachine o.machine) (f : ℕ) (inside : f < o.machine.frames) where

@@ -4,7 +4,6 @@ use Rattle.std.proofs.lemmas.List.{append-nil}
 use Rattle.xp_words.specs.Machine.{Machine}
 use Rattle.xp_words.specs.declared.place.Place.TheVariants.{Life}
 use Rattle.xp_words.specs.declared.reply.LogLine.{LogLine}
-use Rattle.xp_words.specs.declared.reply.LogLine.TheVariants as lines
 use Rattle.xp_words.specs.declared.reply.Refusal.{Refusal}
 use Rattle.xp_words.specs.declared.reply.Stop.{Stop}
 use Rattle.xp_board.specs.Acts.{left_by}
@@ -28,14 +27,15 @@ use Rattle.table_law.specs.Plain.{Describes, Plain}
 use Rattle.release_laws.specs.Pauses.{IsLeft}
 use Rattle.domain_destroy.specs.Asking.{ServesDestroy}
 use Rattle.domain_destroy.specs.Course as course
-use Rattle.domain_destroy.specs.Course.{Destroys, GoesOn, LeftFrame, left_lines}
+use Rattle.domain_destroy.specs.Course.{Destroys, LeftFrame, left_lines}
 use Rattle.domain_destroy.specs.Destroying.{DomainDestroyed}
 use Rattle.domain_destroy.specs.declared.place.DestroyAt.{DestroyAt}
 use Rattle.domain_destroy.specs.declared.place.DestroyAt.TheVariants.{Begins, Stops, Empties, Clears, Checks, Lists}
+use Rattle.domain_destroy.proofs.Lines.{lines_then}
 use Rattle.script_law.specs.Destroying.{buried, destroy, destroy_refusal, left_below, stripped}
 use Rattle.script_law.specs.Repeats.{each_below}
 use Rattle.script_law.specs.Values.{Numbers, Outcome, Solo, Whose, allowed, stopped, with_frames}
-use Rattle.solo_ports.specs.Coming.{IsRefusedSo, IsWhy}
+use Rattle.solo_ports.specs.Coming.{IsRefusedSo}
 use Rattle.solo_ports.specs.Standing.{Clean, Owes, ShowsOthers, a_release, nothing, whose}
 use Rattle.solo_ports.proofs.Along.{clean_on}
 use Rattle.solo_ports.proofs.Staying.{others_with, stands_at}
@@ -50,10 +50,6 @@ use Rattle.solo_deaths.proofs.Places.{strip_whole}
 use Rattle.solo_deaths.proofs.Standing.{between_by, telling}
 
 -- ---- lines
-lines_append : (op : ℕ) (xs ys : List LeftFrame) → left_lines op (xs ++ ys) ≡ left_lines op xs ++ left_lines op ys
-lines_append op [] ys = refl
-lines_append op (x ∷ xs) ys = ap (λ zs. lines.Left op x.frame x.word ∷ zs) (lines_append op xs ys)
-
 none_made : (xs : List LeftFrame) → AreLeft xs [] → xs ≡ []
 none_made [] a = refl
 none_made (x ∷ xs) a = absurd a
@@ -90,9 +86,6 @@ rest_begun w d (Clears frame) s is = refl
 rest_begun w d Checks s is = refl
 rest_begun w d (Lists frame left) s is = refl
 
-why_numbers : (r : Refusal) → IsWhy r (Numbers r)
-why_numbers r = refl
-
 module _ (stays : AloneStays) (neither : NeitherLostNorBusy) (leaves_plain : ReleaseLeaves) (leaves_rest : PausedReleaseLeaves) (v : PortValue) (s : Solo) (clean : Clean v s) (d op : ℕ) (at : DestroyAt) (before log : List LogLine) (o : Outcome)
     (g : GoesOnDying (whose v) d op at before log s o) where
   abbrev n : Machine
@@ -120,7 +113,7 @@ module _ (stays : AloneStays) (neither : NeitherLostNorBusy) (leaves_plain : Rel
 
   module _ (w : PortValue) (log' : List LogLine) (more : List LeftFrame) (logged : log' ≡ log ++ left_lines op more) (rests : Rests w) where
     all_logged : log' ≡ before ++ left_lines op (g.made ++ more)
-    all_logged = logged ∙ ap (λ xs. xs ++ left_lines op more) g.logged ∙ append_assoc before (left_lines op g.made) (left_lines op more) ∙ ap (λ xs. before ++ xs) (sym (lines_append op g.made more))
+    all_logged = logged ∙ ap (λ xs. xs ++ left_lines op more) g.logged ∙ append_assoc before (left_lines op g.made) (left_lines op more) ∙ ap (λ xs. before ++ xs) (sym (lines_then op g.made more))
 
     -- ---- behind steps that serve it
     module _ {A : Type 0} (answer : Result A Stop) (serves : ServesDestroy v w d answer) where
@@ -136,7 +129,7 @@ module _ (stays : AloneStays) (neither : NeitherLostNorBusy) (leaves_plain : Rel
           record {
             why = Numbers r;
             is = refl;
-            same = why_numbers r;
+            same = refl;
             none = refl;
             owes = nothing (clean_on stays v w s (record { came = came; words = same_alike (told_word w) (told_word v) same; empty = rests.empty }) clean);
           }

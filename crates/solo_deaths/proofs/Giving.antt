@@ -2,18 +2,18 @@
 use Rattle.std.proofs.Common.{◌≡◌, ℕ, ◌<◌, ◌==◌, ◌&&◌, if◌then◌else◌, Bool, true, false, Option, Some, None, Result, Ok, Err, refl, sym, ap, ◌∙◌, subst}
 use Rattle.xp_words.specs.RefWords.{IsRef, ref_read, ref_write}
 use Rattle.xp_words.specs.declared.place.Place.{Place}
-use Rattle.xp_words.specs.declared.place.Place.TheVariants.{Refs, Vcpu}
+use Rattle.xp_words.specs.declared.place.Place.TheVariants.{Refs}
 use Rattle.xp_words.specs.declared.refs.RefWord.TheVariants.{Owned}
 use Rattle.xp_words.specs.declared.reply.Stop.{Stop}
 use Rattle.xp_words.proofs.RefLaws.{ref_read-write, ref_write-read}
 use Rattle.xp_board.specs.Acts.{left_by}
-use Rattle.xp_board.specs.Readings.{ref_count}
 use Rattle.xp_board.specs.Steps.{is_same}
 use Rattle.xp_board.specs.Told.{Post, PortValue, is_telling, told_word}
 use Rattle.xp_board.specs.declared.step.Act.TheVariants.{Cas, Load, Store}
 use Rattle.xp_board.specs.declared.step.StepKind.TheVariants as kinds
 use Rattle.xp_board.proofs.PlaceTests.{equal_refl}
 use Rattle.xp_board.proofs.RefWords.{read_small}
+use Rattle.xp_board.specs.declared.step.StepKind.{StepKind}
 use Rattle.step_maker.specs.Moves.{Moves}
 use Rattle.step_maker.specs.Plain.{Leaves, Words, change}
 use Rattle.step_maker.proofs.Coming.{moves_came}
@@ -21,41 +21,30 @@ use Rattle.step_maker.proofs.Telling.{leaves, load_tells, moves_telling, told_th
 use Rattle.step_maker.proofs.Visiting.{does_came}
 use Rattle.course_laws.proofs.Awaiting.{AloneStays}
 use Rattle.frame_words.specs.Freeing.{Puts}
-use Rattle.frame_words.specs.Plain.{lowered, put, set_free}
+use Rattle.frame_words.specs.Plain.{put}
 use Rattle.table_law.specs.Plain.{Describes, Plain, Share, at, reference_back, share_in, share_of, with_share}
 use Rattle.table_law.proofs.Counting.{at_here}
 use Rattle.table_twins.proofs.Sharing.{same_back, shared}
 use Rattle.domain_destroy.specs.Clearing as clearing
-use Rattle.domain_destroy.specs.Clearing.{ClearsFrame, GivesMark, TakesMarks}
+use Rattle.domain_destroy.specs.Clearing.{GivesMark}
 use Rattle.script_law.specs.Destroying.{unallocated}
 use Rattle.script_law.specs.Memory.{is_allocated_to, unmarked}
+use Rattle.release_laws.proofs.Putting.{puts_words}
+use Rattle.solo_ports.proofs.Staying.{put_word}
 use Rattle.solo_deaths.specs.Between.{Between}
-use Rattle.solo_deaths.proofs.Putting.{puts_words}
 use Rattle.solo_deaths.proofs.Standing.{between_by, between_looks, telling}
 use Rattle.solo_deaths.proofs.Stripping.{not_allocated, not_owned, unallocated_none, unowned_unallocated}
-
-swapped : (x new y : ℕ) → y ≡ x → left_by (Cas x new) y ≡ new
-unfolding left_by
-swapped x new y is = ap (λ b. if b then new else y) (ap (λ z. z == x) is ∙ equal_refl x)
 
 pub stored : (x y : ℕ) → left_by (Store x) y ≡ x
 unfolding left_by
 stored x y = refl
 
 -- an exchange that found what it expected stores the new word
-pub exchanged : (v w : PortValue) (at : Place) (x new : ℕ) (m : Moves v w at (Cas x new) kinds.Kind None x) → is_telling v ≡ true → Leaves w (change (Store new) at (told_word v))
+pub exchanged : {kind : StepKind} → (v w : PortValue) (at : Place) (x new : ℕ) (m : Moves v w at (Cas x new) kind None x) → is_telling v ≡ true → Leaves w (change (Store new) at (told_word v))
+unfolding left_by
 exchanged v w at x new m telling q =
     leaves v w _ _ _ _ _ m telling q
-    ∙ ap (λ y. if is_same q at then y else told_word v q) (swapped x new (told_word v at) (told_there v w _ _ _ _ _ m telling) ∙ sym (stored new (told_word v at)))
-
-pub exchanged_ref : (v w : PortValue) (at : Place) (x new : ℕ) (m : Moves v w at (Cas x new) kinds.Ref None x) → is_telling v ≡ true → Leaves w (change (Store new) at (told_word v))
-exchanged_ref v w at x new m telling q =
-    leaves v w _ _ _ _ _ m telling q
-    ∙ ap (λ y. if is_same q at then y else told_word v q) (swapped x new (told_word v at) (told_there v w _ _ _ _ _ m telling) ∙ sym (stored new (told_word v at)))
-
-put_word : (b : Bool) (f owner s k : ℕ) (m : Words) → (if b then set_free f owner (lowered f m) else lowered f m) (Vcpu s k) ≡ m (Vcpu s k)
-put_word true f owner s k m = refl
-put_word false f owner s k m = refl
+    ∙ ap (λ b. if is_same q at then (if b then new else told_word v at) else told_word v q) (ap (λ y. y == x) (told_there v w _ _ _ _ _ m telling) ∙ equal_refl x)
 
 -- ---- the allocated mark
 module _ (stays : AloneStays) (o : Post) (f : ℕ) (inside : f < o.machine.frames) (d : ℕ) (u : PortValue) (p : Plain) (b : Between o u p) where
@@ -95,13 +84,13 @@ module _ (stays : AloneStays) (o : Post) (f : ℕ) (inside : f < o.machine.frame
 
     between_c : Between o c (with_share f s p)
     between_c =
-        between_by stays o a p between_a c words (with_share f s p) (moves_came a c _ _ _ _ _ takes) (exchanged_ref a c (Refs f) y (ref_write (Owned d false count)) takes (telling stays o a p between_a)) (λ t k. refl) marked
+        between_by stays o a p between_a c words (with_share f s p) (moves_came a c _ _ _ _ _ takes) (exchanged a c (Refs f) y (ref_write (Owned d false count)) takes (telling stays o a p between_a)) (λ t k. refl) marked
         (λ g low. b.unkept g low)
 
     back : Between o w (reference_back f (with_share f s p))
     back =
         between_by stays o c (with_share f s p) between_c w (put f (told_word c)) (reference_back f (with_share f s p)) (does_came c w _ puts) (puts_words c w f (telling stays o c (with_share f s p) between_c) puts)
-        (λ t k. put_word (ref_count (told_word c (Refs f)) == 1) f _ t k (told_word c)) (same_back o.machine (told_word c) (with_share f s p) f s between_c.frames inside (at_here f (Some s) p.shares))
+        (λ t k. put_word f t k (told_word c)) (same_back o.machine (told_word c) (with_share f s p) f s between_c.frames inside (at_here f (Some s) p.shares))
         (λ g low. b.unkept g low)
 
     given : Between o w (unallocated d f p)

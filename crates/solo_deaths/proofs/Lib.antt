@@ -1,5 +1,5 @@
 pub mod Advancing
-pub mod Aside
+pub mod Gated
 pub mod Beginning
 pub mod Clearing
 pub mod Deeds
@@ -10,7 +10,6 @@ pub mod Going
 pub mod Looks
 pub mod Pinless
 pub mod Places
-pub mod Putting
 pub mod Releasing
 pub mod Standing
 pub mod Stripping

@@ -30,11 +30,12 @@ use Rattle.level_release.specs.Course.{ReleasedWithin, Settled, SettledOne, WasR
 use Rattle.release_laws.specs.Pauses.{IsLeft}
 use Rattle.release_laws.proofs.Settling.{second_none}
 use Rattle.domain_destroy.specs.Emptying.{LetsGo}
+use Rattle.turn_measures.proofs.Naming.{released_away, released_cut}
 use Rattle.solo_ports.specs.Standing.{IsUnkept}
 use Rattle.solo_ports.proofs.Unkept.{unkept_let_go}
 use Rattle.solo_deaths.specs.Between.{Between, PartComes, Within}
 use Rattle.solo_deaths.proofs.Given.{PausedReleaseLeaves, ReleaseLeaves}
-use Rattle.solo_deaths.proofs.Aside.{released_away}
+use Rattle.solo_deaths.proofs.Gated.{released_due}
 use Rattle.solo_deaths.proofs.Standing.{between_by, between_looks, telling}
 
 not_live : Partial ≡ Live → ⊥
@@ -129,7 +130,7 @@ module _ (stays : AloneStays) (neither : NeitherLostNorBusy) (leaves_plain : Rel
 
           done : WasReleased g f (level_type level) w answers (Ok tt) → Between o w q
           done r =
-              let away = released_away stays neither g w f (level_type level) answers (Ok tt) between_g.alone r in
+              let away = released_away None g f (level_type level) w answers (Ok tt) refl r in
               record {
                 post = came_post g w away.came ∙ between_g.post;
                 alone = stays g w between_g.alone away.came;
@@ -141,15 +142,16 @@ module _ (stays : AloneStays) (neither : NeitherLostNorBusy) (leaves_plain : Rel
 
           paused : (stop : Stop) → WasReleased g f (level_type level) w answers (Err stop) → (stop ≡ Paused Due) × Within o w q
           paused stop r =
-              let due = released_away stays neither g w f (level_type level) answers (Err stop) between_g.alone r in (
-                due.due,
+              let due = released_due stays neither None g f (level_type level) w answers (Err stop) stop refl between_g.alone r in
+              let names = (released_cut None g f (level_type level) w answers (Err stop) (ap (λ (z : Stop). Err z) due) telling_g r).renames in (
+                due,
                 record {
-                  post = came_post g w due.came ∙ between_g.post;
-                  alone = stays g w between_g.alone due.came;
+                  post = came_post g w names.came ∙ between_g.post;
+                  alone = stays g w between_g.alone names.came;
                   frame = f;
                   level = level;
-                  second = due.second o.vcpu ∙ between_g.second;
-                  left = subst (λ (z : Post). IsLeft z.machine w f level q) between_g.post (leaves_rest g w f level answers p telling_g inside_g high frames_g (subst (λ z. WasReleased g f (level_type level) w answers (Err z)) due.due r));
+                  second = subst (λ (z : Post). told_word w (old_place z.vcpu Second) ≡ told_word g (old_place z.vcpu Second)) between_g.post (names.others 3 (λ e. omega (arith, e))) ∙ between_g.second;
+                  left = subst (λ (z : Post). IsLeft z.machine w f level q) between_g.post (leaves_rest g w f level answers p telling_g inside_g high frames_g (subst (λ z. WasReleased g f (level_type level) w answers (Err z)) due r));
                   unkept = unkept;
                 },
               )

@@ -1,71 +1,24 @@
 -- One frame without its marks, on plain values and words.
-use Rattle.std.proofs.Common.{◌≡◌, ◌≢◌, ℕ, ◌<◌, ◌≤◌, ◌==◌, ◌&&◌, if◌then◌else◌, Bool, true, false, Option, Some, None, IsTrue, refl, sym, ap, ◌∙◌, subst, inl, inr, arith}
+use Rattle.std.proofs.Common.{◌≡◌, ◌≢◌, ℕ, ◌==◌, if◌then◌else◌, true, false, Option, Some, None, refl, sym, ap, ◌∙◌, subst, inl, inr, arith}
 use Rattle.std.proofs.lemmas.Bool.{cases_Bool}
 use Rattle.std.proofs.lemmas.Bool.Decides.{nat_tests}
-use Rattle.xp_words.specs.KindWords.{has_form, is_kind}
-use Rattle.xp_words.specs.PageTypes.{is_table, type_number}
+use Rattle.xp_words.specs.PageTypes.{type_number}
 use Rattle.xp_words.specs.RefWords.{ref_read}
 use Rattle.xp_words.specs.declared.kind.KindWord.{KindWord}
-use Rattle.xp_words.specs.declared.kind.PageType.{PageType}
-use Rattle.xp_words.specs.declared.kind.PageType.TheVariants as types
 use Rattle.xp_words.specs.declared.refs.RefWord.{RefWord}
 use Rattle.xp_words.specs.declared.refs.RefWord.TheVariants.{Free, Owned, Dying}
+use Rattle.xp_words.proofs.Shared.{and_second_false}
 use Rattle.xp_board.specs.LifeSteps.{is_unallocated}
 use Rattle.xp_board.specs.Readings.{allocated_in, allocated_mark, count_in, owner_in, owner_of, ref_count}
-use Rattle.partial_state.specs.Levels.{level_type}
 use Rattle.table_words.specs.Pins.{unpinned_kind}
-use Rattle.table_words.proofs.PinWords.{pinned_lives}
-use Rattle.table_law.specs.Plain.{Plain, Share, share_in, share_of, sober, with_kind}
+use Rattle.table_law.specs.Plain.{Plain, Share, share_in, share_of, with_kind}
 use Rattle.table_law.specs.Release.{let_go}
 use Rattle.table_law.proofs.Counting.{at_here}
 use Rattle.script_law.specs.Destroying.{stripped, unallocated, unpinned}
 use Rattle.script_law.specs.Memory.{is_allocated_to, is_owned_by}
 use Rattle.solo_deaths.proofs.Pinless.{by_let_go}
 
--- ---- kind words
-pub sober_pinned : (k : KindWord) → (sober k).pinned ≡ k.pinned
-sober_pinned k = one k.validated
-  where
-    one : (b : Bool) → (if b then k else record k { number = 0; unflushed = false }).pinned ≡ k.pinned
-    one true = refl
-    one false = refl
-
-pub sober_kept : (k : KindWord) → (sober k).kept ≡ k.kept
-sober_kept k = one k.validated
-  where
-    one : (b : Bool) → (if b then k else record k { number = 0; unflushed = false }).kept ≡ k.kept
-    one true = refl
-    one false = refl
-
--- a pinned frame is a live table
-pub record IsPinnedTable (k : KindWord) : Type 0 where
-  pub live : k.validated ≡ true
-  pub table : is_table k.kind ≡ true
-  pub some : 0 < k.number
-
-pub pinned_table : (k : KindWord) → IsTrue (is_kind k) → k.pinned ≡ true → IsPinnedTable k
-unfolding has_form
-pinned_table k is on =
-    record {
-      live = pinned_lives k is on;
-      table = (let live : k.validated ≡ true = pinned_lives k is on in grind (arith, nat_tests));
-      some = (let live : k.validated ≡ true = pinned_lives k is on in grind (arith, nat_tests));
-    }
-
-pub table_level : (t : PageType) → is_table t ≡ true → (level_type (type_number t) ≡ t) × (1 ≤ type_number t) × (type_number t ≤ 4)
-table_level types.L1 is = (refl, omega arith, omega arith)
-table_level types.L2 is = (refl, omega arith, omega arith)
-table_level types.L3 is = (refl, omega arith, omega arith)
-table_level types.L4 is = (refl, omega arith, omega arith)
-table_level types.None is = absurd cc
-table_level types.Desc is = absurd cc
-table_level types.Writable is = absurd cc
-
 -- ---- reference words
-none_and : (b : Bool) → (b && false) ≡ false
-none_and true = refl
-none_and false = refl
-
 equal_no : (x y : ℕ) → Some x ≢ Some y → (x == y) ≡ false
 equal_no x y off = elim (cases_Bool (x == y)) [
   | inl on ↦ absurd (off (ap Some (let e : x ≡ y = grind (arith, nat_tests) in e)))
@@ -74,7 +27,7 @@ equal_no x y off = elim (cases_Bool (x == y)) [
 
 unmarked_in : (d : ℕ) (r : Option RefWord) → (allocated_in r == 0) ≡ true → is_allocated_to d (share_in r) ≡ false
 unmarked_in d (Some (Owned o true c)) e = absurd cc
-unmarked_in d (Some (Owned o false c)) e = none_and (o == d)
+unmarked_in d (Some (Owned o false c)) e = and_second_false (o == d) false refl
 unmarked_in d (Some (Free stamp)) e = refl
 unmarked_in d (Some (Dying o)) e = refl
 unmarked_in d None e = refl

@@ -1,34 +1,23 @@
 -- The first block that is wholly free, on words and on the plain value.
-use Rattle.std.proofs.Common.{◌≡◌, ℕ, zero, suc, ◌+◌, ◌*◌, ◌/◌, ◌%◌, ◌<◌, ◌≤◌, ◌&&◌, is_none, if◌then◌else◌, Bool, true, false, Some, None, refl, sym, ap, ◌∙◌, subst, inl, inr, arith}
+use Rattle.std.proofs.Common.{◌≡◌, ℕ, zero, suc, ◌+◌, ◌*◌, ◌/◌, ◌%◌, ◌<◌, ◌≤◌, is_none, if◌then◌else◌, Bool, true, false, Some, None, refl, sym, ap, ◌∙◌, subst, inl, inr, arith}
 use Rattle.std.proofs.Math.Nat.{div-add-mod', le-div_iff_mul-le}
-use Rattle.std.proofs.lemmas.Bool.{cases_Bool, cases_eq}
+use Rattle.std.proofs.lemmas.Bool.{cases_Bool, cases_eq, and_parts}
 use Rattle.xp_words.specs.Machine.{Machine}
 use Rattle.xp_words.specs.declared.place.Place.TheVariants.{Refs}
+use Rattle.xp_words.proofs.Shared.{and_true}
 use Rattle.xp_board.specs.Readings.{is_free}
 use Rattle.step_maker.specs.Plain.{Words}
 use Rattle.frame_claims.specs.Plain.{IsFirstFree, IsWhollyFree}
 use Rattle.table_law.specs.Plain.{Plain}
 use Rattle.script_law.specs.Memory.{first_free}
 use Rattle.script_law.specs.Repeats.{all_below, first_of}
+use Rattle.table_twins.proofs.Typing.{pick_first}
 
 -- ---- of tests
-both_on : (a b : Bool) → a ≡ true → b ≡ true → (a && b) ≡ true
-both_on true true x y = refl
-both_on true false x y = absurd cc
-both_on false b x y = absurd cc
-
-left_on : (a b : Bool) → (a && b) ≡ true → a ≡ true
-left_on true b is = refl
-left_on false b is = absurd cc
-
-right_on : (a b : Bool) → (a && b) ≡ true → b ≡ true
-right_on true b is = is
-right_on false b is = absurd cc
-
 all_on : (k : ℕ) (test : ℕ → Bool) → ((j : ℕ) → j < k → test j ≡ true) → all_below k test ≡ true
 unfolding all_below
 all_on zero test each = refl
-all_on (suc k) test each = both_on (all_below k test) (test k) (all_on k test (λ j low. each j (omega arith))) (each k (omega arith))
+all_on (suc k) test each = and_true (all_below k test) (test k) (all_on k test (λ j low. each j (omega arith))) (each k (omega arith))
 
 last_or : (k : ℕ) (test : ℕ → Bool) (j : ℕ) → j < suc k → (j < k → test j ≡ true) → test k ≡ true → test j ≡ true
 last_or k test j low below here = elim (cases_eq j k) [ inl is ↦ subst (λ i. test i ≡ true) (sym is) here | inr off ↦ below (omega (arith, low, off)) ]
@@ -36,10 +25,7 @@ last_or k test j low below here = elim (cases_eq j k) [ inl is ↦ subst (λ i. 
 each_on : (k : ℕ) (test : ℕ → Bool) → all_below k test ≡ true → (j : ℕ) → j < k → test j ≡ true
 unfolding all_below
 each_on zero test all j low = absurd (omega arith)
-each_on (suc k) test all j low = last_or k test j low (λ less. each_on k test (left_on (all_below k test) (test k) all) j less) (right_on (all_below k test) (test k) all)
-
-first_by : {A : Type 0} (b : Bool) (x y : A) → b ≡ true → (if b then x else y) ≡ x
-first_by b x y is = ap (λ t. if t then x else y) is
+each_on (suc k) test all j low = let both = and_parts (all_below k test) (test k) all in last_or k test j low (λ less. each_on k test both.0 j less) both.1
 
 next_by : {A : Type 0} (b : Bool) (x y : A) → b ≡ false → (if b then x else y) ≡ y
 next_by b x y is = ap (λ t. if t then x else y) is
@@ -49,7 +35,7 @@ unfolding first_of
 first_is zero at b test low high is off = absurd (omega arith)
 first_is (suc k) at b test low high is off =
     elim (cases_eq at b) [
-      | inl same ↦ first_by (test at) (Some at) (first_of k (at + 1) test) (subst (λ i. test i ≡ true) (sym same) is) ∙ ap Some same
+      | inl same ↦ pick_first (test at) (Some at) (first_of k (at + 1) test) (subst (λ i. test i ≡ true) (sym same) is) ∙ ap Some same
       | inr apart ↦
           next_by (test at) (Some at) (first_of k (at + 1) test) (off at (omega arith) (omega (arith, low, apart)))
           ∙ first_is k (at + 1) b test (omega (arith, low, apart)) (omega (arith, high)) is (λ c from to. off c (omega (arith, from)) to)
@@ -61,9 +47,6 @@ first_none zero at test off = refl
 first_none (suc k) at test off = next_by (test at) (Some at) (first_of k (at + 1) test) (off at (omega arith) (omega arith)) ∙ first_none k (at + 1) test (λ c from to. off c (omega arith) (omega arith))
 
 -- ---- of blocks
-fits_below : (b n size : ℕ) → 0 < size → b < n / size → b * size + size ≤ n
-fits_below b n size some low = let k = (le-div_iff_mul-le {k = size} {x = b + 1} {y = n} some).0 (omega (arith, low)) in grind (arith, k)
-
 below_fits : (b n size : ℕ) → 0 < size → b * size + size ≤ n → b < n / size
 below_fits b n size some fits = let e : (b + 1) * size ≡ b * size + size = grind arith in let low = (le-div_iff_mul-le {k = size} {x = b + 1} {y = n} some).1 (omega (arith, e, fits)) in omega (arith, low)
 
@@ -87,7 +70,7 @@ module _ (n : Machine) (m : Words) (p : Plain) (size : ℕ) (some : 0 < size) (f
   not_whole b inside off = elim (cases_Bool (test b)) [ inl on ↦ absurd (off (on_whole b inside on)) | inr is ↦ is ]
 
   fits : (b : ℕ) → b < n.frames / size → b * size + size ≤ n.frames
-  fits b low = fits_below b n.frames size some low
+  fits b low = let k = (le-div_iff_mul-le {k = size} {x = b + 1} {y = n.frames} some).0 (omega (arith, low)) in grind (arith, k)
 
   -- it is the first one, or there is none
   pub first_there : (f : ℕ) → IsFirstFree n m size f → (first_free n size p ≡ Some (f / size)) × (f / size * size ≡ f)

@@ -25,6 +25,7 @@ use Rattle.table_twins.specs.Answers.{IsCause}
 use Rattle.table_twins.proofs.Sharing.{same_back, shared}
 use Rattle.script_law.specs.Memory.{is_allocated_to, return_frame, return_frames, unmarked}
 use Rattle.script_law.specs.Values.{Frames, Outcome, Solo, Why, did, next_behind, stopped, then_do, with_frames}
+use Rattle.solo_ports.proofs.Staying.{put_word}
 use Rattle.solo_memory.specs.Extents.{return_rest}
 
 -- ---- one frame
@@ -154,10 +155,6 @@ stays_stopped n d first from x s y k (suc t) low is =
     ]
 
 -- ---- words that stay
-put_word : (b : Bool) (f owner s k : ℕ) (m : Words) → (if b then set_free f owner (lowered f m) else lowered f m) (Vcpu s k) ≡ m (Vcpu s k)
-put_word true f owner s k m = refl
-put_word false f owner s k m = refl
-
 put_map : (b : Bool) (f owner g : ℕ) (m : Words) → (if b then set_free f owner (lowered f m) else lowered f m) (M2p g) ≡ m (M2p g)
 put_map true f owner g m = refl
 put_map false f owner g m = refl
@@ -168,7 +165,7 @@ words_stay first from (suc k) s j m =
     let b = all_returned first from k m in
     let g = number_at first (from + k) in
     let a = change (Store (cleared (b (Refs g)))) (Refs g) b in
-    put_word (ref_count (a (Refs g)) == 1) g (owner_number (owner_of (a (Refs g)))) s j a ∙ words_stay first from k s j m
+    put_word g s j a ∙ words_stay first from k s j m
 
 pub maps_stay : (first from k h : ℕ) (m : Words) → all_returned first from k m (M2p h) ≡ m (M2p h)
 maps_stay first from zero h m = refl

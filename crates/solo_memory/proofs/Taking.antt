@@ -1,5 +1,5 @@
 -- What a claim leaves of the words that it found, by the list of its steps.
-use Rattle.std.proofs.Common.{◌≡◌, ◌≢◌, ℕ, ◌+◌, ◌-◌, ◌/◌, ◌^◌, ◌<◌, ◌≤◌, ◌++◌, if◌then◌else◌, true, List, [], ◌∷◌, length, Option, Some, None, Result, Ok, Err, refl, ap, ◌∙◌, subst, inl, inr, arith}
+use Rattle.std.proofs.Common.{◌≡◌, ◌≢◌, ℕ, ◌+◌, ◌-◌, ◌/◌, ◌^◌, ◌<◌, ◌≤◌, ◌++◌, if◌then◌else◌, true, List, length, Option, Some, None, Result, Ok, Err, refl, ap, ◌∙◌, subst, inl, inr, arith}
 use Rattle.std.proofs.lemmas.Bool.{cases_eq}
 use Rattle.xp_words.specs.Machine.{Machine}
 use Rattle.xp_words.specs.RefWords.{ref_write}
@@ -23,11 +23,12 @@ use Rattle.flush_waits.specs.Waiting.{everyone}
 use Rattle.frame_claims.specs.Blocks.{numbered}
 use Rattle.frame_claims.specs.Choosing.{greatest}
 use Rattle.frame_claims.specs.Found as founds
-use Rattle.frame_claims.specs.Found.{AllGivenBy, ChargedBy, ChosenBy, ClaimsBy, FlushedFor, FreeBlock, GivenBy, LoweredBy, NamedBy, OwnedBy, RefundedBy, ScrubbedBy, ScrubsOne, TakenBy, TakesOne, TookBy, Upwards, counts_pages, refunds_pages, saw_pages}
+use Rattle.frame_claims.specs.Found.{AllGivenBy, ChargedBy, ChosenBy, ClaimsBy, FlushedFor, FreeBlock, GivenBy, LoweredBy, NamedBy, OwnedBy, RefundedBy, ScrubbedBy, ScrubsOne, TakenBy, TakesOne, TookBy, Upwards, refunds_pages, saw_pages}
 use Rattle.frame_claims.proofs.Plainly.{charged_away, chosen_looks}
 use Rattle.frame_claims.proofs.Telling.{Alls, IsAway, IsLook, after_parts, alls_down, alls_one, alls_then, alls_up, away_same, words_after}
 use Rattle.frame_claims.proofs.Waiting.{IsAside, waited_all}
 use Rattle.xp_board.specs.Lists.{EachOf}
+use Rattle.xp_board.proofs.HandLists.{EachOf-map}
 
 -- what stays behind lists of steps that do not change it
 pub away_stays : (p : Place) (P : List Visit → Type 0) → Alls (IsAway p) P → (m : Words) (vs : List Visit) → P vs → words_after m vs p ≡ m p
@@ -101,14 +102,9 @@ module _ (d f g : ℕ) where
       ∙ up_sets (λ k us. ScrubsOne f k us) p 0 i (λ k us s. stored p 0 s.0 k us s.1) (λ k off us s. alls_one (IsAway p) (visit (Cell f k) (Store 0) s.0) (inr (λ e. off cc)) us s.1) m 0 512 t.before t.first (omega arith) few
 
 -- ---- the block is taken
-looks_away : (p : Place) (vs : List Visit) → EachOf IsLook vs → EachOf (IsAway p) vs
-unfolding EachOf
-looks_away p [] all = tt
-looks_away p (s ∷ vs) all = (inl all.0, looks_away p vs all.1)
-
 module _ (p : Place) (aside : (x : Place) → IsAside x → x ≢ p) (pages : (d : ℕ) → Pages d ≢ p) where
   chosen_away : (n : Machine) (k : ℕ) (o : Option FreeBlock) → Alls (IsAway p) (λ vs. ChosenBy n k o vs)
-  chosen_away n k o vs t = looks_away p vs (chosen_looks n k o vs t)
+  chosen_away n k o vs t = EachOf-map IsLook (IsAway p) vs (λ s look. inl look) (chosen_looks n k o vs t)
 
   flushed_away : (q : Post) (k : ℕ) (b : FreeBlock) (answer : Result (Unit {0}) Stop) → Alls (IsAway p) (λ vs. FlushedFor q k b answer vs)
   flushed_away q k b answer vs t =

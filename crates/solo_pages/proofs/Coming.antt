@@ -1,5 +1,5 @@
 -- From a clean port an element ends as its plain meaning: what is to be shown of its words.
-use Rattle.std.proofs.Common.{◌≡◌, ◌≢◌, ℕ, false, None, Result, Ok, Err, IfErr, sym, ap, ◌∙◌, subst, arith}
+use Rattle.std.proofs.Common.{◌≡◌, ℕ, false, None, Result, Ok, Err, IfErr, sym, ap, ◌∙◌, subst, arith}
 use Rattle.xp_words.specs.Machine.{Machine}
 use Rattle.xp_words.specs.declared.reply.Refusal.{Refusal}
 use Rattle.xp_words.specs.declared.reply.Stop.{Stop}
@@ -18,10 +18,10 @@ use Rattle.table_law.specs.Plain.{Describes, Plain}
 use Rattle.course_laws.specs.Courses.{IsDecided}
 use Rattle.course_laws.proofs.Awaiting.{AloneStays, NeitherLostNorBusy, NobodyWaitedFor, decided}
 use Rattle.course_laws.proofs.Stopping.{stops_here}
-use Rattle.script_law.specs.Shown.{IsShownWord, base, tables}
 use Rattle.script_law.specs.Values.{Solo, Frames, Outcome, Why, behind, behind_by, did, stopped, with_frames}
 use Rattle.solo_ports.specs.Standing.{Clean, Fair, ShowsOthers, nothing}
 use Rattle.solo_ports.specs.Coming.{Comes, IsWhy}
+use Rattle.solo_ports.proofs.Along.{off_flushes}
 use Rattle.solo_pages.specs.Shown.{IsShown, AreWhole, SameBeside}
 use Rattle.solo_pages.specs.Ends.{EndsAs, EndsSo, IsEnded}
 use Rattle.solo_ports.proofs.Resting.{clean_rests}
@@ -29,16 +29,12 @@ use Rattle.solo_ports.proofs.Staying.{stands_at}
 use Rattle.solo_pages.proofs.Whole.{whole_at_rest}
 
 -- ---- words that are shown
-shown_word : (k : ℕ) → IsShownWord k → (k ≢ 4) × (k ≢ 5)
-shown_word k (base low) = (λ e. omega (arith, e, low), λ e. omega (arith, e, low))
-shown_word k (tables above low) = (λ e. omega (arith, e, above), λ e. omega (arith, e, above))
-
 -- other frames
 pub others_stay : (n : Machine) (s : ℕ) (m w : Words) (x : Solo) (p : Plain) → ShowsOthers n s m x → SameBeside m w → ShowsOthers n s w (with_frames p x)
 others_stay n s m w x p o same =
     record {
       maps = λ f inside. o.maps f inside ∙ sym (same.maps f);
-      own = λ k is. o.own k is ∙ sym (same.own s k (shown_word k is).0 (shown_word k is).1);
+      own = λ k is. o.own k is ∙ sym (same.own s k (off_flushes k is).0 (off_flushes k is).1);
       privileges = λ d real. o.privileges d real ∙ sym (same.privileges d);
       lives = λ d real. o.lives d real ∙ sym (same.lives d);
     }

@@ -1,5 +1,5 @@
 -- A type that is given back of a frame that holds no entries, by its steps as by the plain function.
-use Rattle.std.proofs.Common.{◌≡◌, ℕ, ◌-◌, ◌<◌, ◌^◌, ◌==◌, ◌&&◌, not, nat_lt, if◌then◌else◌, Bool, true, false, None, IsTrue, refl, sym, ap, ◌∙◌, subst, arith}
+use Rattle.std.proofs.Common.{◌≡◌, ℕ, ◌-◌, ◌<◌, ◌^◌, ◌==◌, ◌&&◌, not, if◌then◌else◌, Bool, true, false, None, IsTrue, refl, sym, ap, ◌∙◌, subst, arith}
 use Rattle.std.proofs.lemmas.Bool.Decides.{nat_tests}
 use Rattle.xp_words.specs.KindWords.{kind_fields}
 use Rattle.xp_words.specs.Machine.{Machine}
@@ -28,9 +28,10 @@ use Rattle.table_law.specs.Release.{count_back, drop_kind, emptying, is_counted_
 use Rattle.table_twins.proofs.Entering.{described_leaves}
 use Rattle.table_releases.specs.Plain.{lowered_type}
 use Rattle.release_laws.proofs.Parts.{does_only, does_with}
-use Rattle.solo_pages.proofs.Putting.{dead_words, puts_words}
 use Rattle.release_laws.proofs.Seen.{IsCounted, drops_seen, kind_sum, put_seen}
 use Rattle.release_laws.proofs.Words.{live_there, lowered_words, put_words}
+use Rattle.release_laws.proofs.Putting.{dead_words, puts_words}
+use Rattle.release_laws.proofs.Dropping.{last_counted, more_counted}
 use Rattle.solo_pages.specs.Shown.{AreWhole, IsWholeKind, SameBeside}
 use Rattle.solo_pages.proofs.Steps.{at_drops, does_beside}
 use Rattle.solo_pages.proofs.Whole.{dead_whole, kinded_whole}
@@ -38,16 +39,6 @@ use Rattle.solo_pages.proofs.Whole.{dead_whole, kinded_whole}
 -- ---- the plain function
 abbrev pub given : ℕ → PageType → Plain → Plain
 given g t p = drop_kind (λ k q. q) g t p (p.kinds g)
-
-more_counted : (k : KindWord) → k.validated ≡ true → 0 < k.number → (k.number == 1) ≡ false → is_counted_on k ≡ true
-more_counted k live some off = grind (arith, nat_tests)
-
-last_counted : (k : KindWord) → (k.number == 1) ≡ true → is_counted_on k ≡ false
-last_counted k one = last k.validated (let e : k.number ≡ 1 = grind (arith, nat_tests) in grind (arith, nat_tests))
-  where
-    last : (b : Bool) → nat_lt 1 k.number ≡ false → (b && nat_lt 1 k.number) ≡ false
-    last true off = off
-    last false off = refl
 
 live_emptying : (k : KindWord) → k.validated ≡ true → (k.number == 1) ≡ true → record k { number = k.number - 1 } ≡ emptying k
 live_emptying k live one =

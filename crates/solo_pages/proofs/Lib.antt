@@ -3,7 +3,6 @@ pub mod Referring
 pub mod Whole
 pub mod Memory
 pub mod Steps
-pub mod Putting
 pub mod Giving
 pub mod Filling
 pub mod Coming

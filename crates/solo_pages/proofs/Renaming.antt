@@ -4,6 +4,7 @@ use Rattle.std.proofs.Math.Path.{fun_ext}
 use Rattle.std.proofs.lemmas.Bool.Decides.{nat_tests}
 use Rattle.xp_words.specs.declared.kind.KindWord.{KindWord}
 use Rattle.xp_words.specs.declared.kind.PageType.TheVariants.{Desc}
+use Rattle.xp_words.proofs.Shared.{eq_false}
 use Rattle.kind_words.specs.Kinds.{dead_kind}
 use Rattle.table_law.specs.Plain.{Plain, Share, at, fewer}
 use Rattle.table_law.specs.Release.{emptying, is_counted_on}
@@ -11,26 +12,18 @@ use Rattle.script_law.specs.Frames.{back_named, rename}
 use Rattle.script_law.specs.Pages.{give_page}
 use Rattle.script_law.specs.Repeats.{each_below}
 use Rattle.script_law.specs.Values.{Solo, put_at}
+use Rattle.xp_board.proofs.PlaceTests.{equal_by}
 use Rattle.solo_pages.proofs.Giving.{given, given_last, given_more}
 
 -- ---- one place of a function is changed by what is there
 abbrev pub acted : {A : Type 0} → (A → A) → ℕ → (ℕ → A) → ℕ → A
 acted act f old = at f (act (old f)) old
 
-equal : (g f : ℕ) → (g == f) ≡ true → g ≡ f
-equal g f is = grind (arith, nat_tests)
-
-apart : (g f : ℕ) → g ≢ f → (g == f) ≡ false
-apart g f off = grind (arith, nat_tests)
-
-differ : (g f : ℕ) → (g == f) ≡ false → g ≢ f
-differ g f is = grind (arith, nat_tests)
-
 module _ {A : Type 0} (act : A → A) (f g : ℕ) (old : ℕ → A) (off : f ≢ g) where
   swapped_by : (b c : Bool) (h : ℕ) → (h == f) ≡ b → (h == g) ≡ c → acted act f (acted act g old) h ≡ acted act g (acted act f old) h
-  swapped_by true true h one two = absurd (off (sym (equal h f one) ∙ equal h g two))
-  swapped_by true false h one two = rw (one, two, apart f g off) refl
-  swapped_by false true h one two = rw (one, two, apart g f (λ e. off (sym e))) refl
+  swapped_by true true h one two = absurd (off (sym (equal_by h f one) ∙ equal_by h g two))
+  swapped_by true false h one two = rw (one, two, eq_false f g off) refl
+  swapped_by false true h one two = rw (one, two, eq_false g f (λ e. off (sym e))) refl
   swapped_by false false h one two = rw (one, two) refl
 
   pub swapped : acted act f (acted act g old) ≡ acted act g (acted act f old)
@@ -69,8 +62,8 @@ backs_swap : (f g : ℕ) (p : Plain) → one_back f (one_back g p) ≡ one_back 
 backs_swap f g p = by (f == g) refl
   where
     by : (b : Bool) → (f == g) ≡ b → one_back f (one_back g p) ≡ one_back g (one_back f p)
-    by true is = let e = equal f g is in subst (λ h. one_back f (one_back h p) ≡ one_back h (one_back f p)) e refl
-    by false is = backs_apart f g p (differ f g is)
+    by true is = let e = equal_by f g is in subst (λ h. one_back f (one_back h p) ≡ one_back h (one_back f p)) e refl
+    by false is = backs_apart f g p (let off : f ≢ g = grind (arith, nat_tests) in off)
 
 give_swap : (f g : ℕ) (p : Plain) → give_page f (give_page g p) ≡ give_page g (give_page f p)
 give_swap f g p =
@@ -84,16 +77,16 @@ named_swap (suc f) (suc g) p = give_swap f g p
 -- ---- one word renamed
 module _ (i j x y : ℕ) (s : Solo) (off : i ≢ j) where
   own_by : (b c : Bool) (h : ℕ) → (h == i) ≡ b → (h == j) ≡ c → put_at i x (put_at j y s.own) h ≡ put_at j y (put_at i x s.own) h
-  own_by true true h one two = absurd (off (sym (equal h i one) ∙ equal h j two))
+  own_by true true h one two = absurd (off (sym (equal_by h i one) ∙ equal_by h j two))
   own_by true false h one two = rw (one, two) refl
   own_by false true h one two = rw (one, two) refl
   own_by false false h one two = rw (one, two) refl
 
   here : put_at j y s.own i ≡ s.own i
-  here = ap (λ b. if b then y else s.own i) (apart i j off)
+  here = ap (λ b. if b then y else s.own i) (eq_false i j off)
 
   there : put_at i x s.own j ≡ s.own j
-  there = ap (λ b. if b then x else s.own j) (apart j i (λ e. off (sym e)))
+  there = ap (λ b. if b then x else s.own j) (eq_false j i (λ e. off (sym e)))
 
   pub renames_swap : rename give_page i x (rename give_page j y s) ≡ rename give_page j y (rename give_page i x s)
   renames_swap =
@@ -131,5 +124,5 @@ unfolding one_back
 kept_given f g p e = subst (λ (q : Plain). (q.kinds g).kept ≡ false) (sym (back_is f p)) (by (g == f) refl)
   where
     by : (b : Bool) → (g == f) ≡ b → (if b then less (p.kinds f) else p.kinds g).kept ≡ false
-    by true is = less_kept (p.kinds f) (subst (λ h. (p.kinds h).kept ≡ false) (equal g f is) e)
+    by true is = less_kept (p.kinds f) (subst (λ h. (p.kinds h).kept ≡ false) (equal_by g f is) e)
     by false is = e

@@ -1,7 +1,6 @@
 -- A type of any kind that is asked of a frame of which nothing is unfinished: counted, begun, or refused, on words as on the plain value. (In table_twins for types of levels.)
-use Rattle.std.proofs.Common.{◌≡◌, ℕ, ◌+◌, ◌<◌, ◌^◌, ◌==◌, ◌&&◌, not, nat_lt, if◌then◌else◌, Bool, true, false, Some, None, IsTrue, refl, sym, ap, ◌∙◌, subst, arith}
-use Rattle.std.proofs.lemmas.Bool.Decides.{nat_tests}
-use Rattle.xp_words.specs.KindWords.{is_kind, kind_fields, kind_write}
+use Rattle.std.proofs.Common.{◌≡◌, ℕ, ◌<◌, not, Bool, true, false, Some, None, IsTrue, refl, sym, ap, ◌∙◌, subst}
+use Rattle.xp_words.specs.KindWords.{kind_fields}
 use Rattle.xp_words.specs.Machine.{IsMachine, Machine}
 use Rattle.xp_words.specs.PageTypes.{is_none}
 use Rattle.xp_words.specs.declared.kind.KindWord.{KindWord}
@@ -10,99 +9,29 @@ use Rattle.xp_words.specs.declared.place.Place.TheVariants.{Kind}
 use Rattle.xp_words.specs.declared.reply.Refusal.{Refusal}
 use Rattle.xp_words.specs.declared.reply.Refusal.TheVariants as refusals
 use Rattle.xp_words.specs.declared.reply.Stop.TheVariants.{Refused}
-use Rattle.xp_words.proofs.Shared.{and_true as and_both, and_second_false as and_not, above_zero as some_number}
-use Rattle.xp_board.specs.KindSteps.{begun_kind, is_stale, raised_kind}
-use Rattle.xp_board.specs.Readings.{is_dead, is_type}
+use Rattle.xp_board.specs.KindSteps.{begun_kind, raised_kind}
+use Rattle.xp_board.specs.Readings.{is_dead}
 use Rattle.step_maker.specs.Plain.{Words}
 use Rattle.step_maker.specs.Twins.{Alike}
 use Rattle.kind_words.specs.Kinds.{work_kind}
-use Rattle.kind_words.proofs.KindWriting.{fields_write, raised_is}
 use Rattle.frame_types.specs.Plain.{IsTakenBy, is_read_first, set_kind, stop_by, taken, taken_by, type_stop, work_unmarked}
-use Rattle.frame_types.specs.Standing.{is_same_type, standing_of}
+use Rattle.frame_types.specs.Standing.{standing_of}
 use Rattle.frame_types.specs.declared.standing.Standing.{Standing}
 use Rattle.frame_types.specs.declared.standing.Standing.TheVariants as stands
 use Rattle.frame_types.specs.declared.taking.Taken.TheVariants.{Counted, InWork}
-use Rattle.frame_types.proofs.Entering.{work_spelled as work_is}
-use Rattle.table_law.specs.Alone.{OtherType, fine, is_counted, refused, take_kind}
-use Rattle.table_law.specs.Plain.{Describes, Plain, reference_back, sober, with_kind}
-use Rattle.table_law.proofs.Describing.{sober_kind}
+use Rattle.table_law.specs.Alone.{OtherType, fine, refused, take_kind}
+use Rattle.table_law.specs.Plain.{Describes, Plain, reference_back, with_kind}
 use Rattle.table_twins.specs.Answers.{IsCause}
 use Rattle.table_twins.specs.Types.{IsReady, IsReadyBy}
 use Rattle.table_twins.proofs.Kinding.{described_alike, kinded}
-use Rattle.table_twins.proofs.Typing.{dead_says, dead_there, live_sober}
-
--- ---- what a standing says
-pub record IsCounted (k : KindWord) (t : PageType) : Type 0 where
-  pub dead : is_dead k ≡ false
-  pub live : k.validated ≡ true
-  pub same : is_same_type k.kind t ≡ true
-  pub some : (k.number == 0) ≡ false
-
-abbrev stand_by : Bool → Bool → Bool → Bool → Bool → Standing
-stand_by d s v z p = if d then stands.Dead else if not s then stands.Other else if v then (if z then stands.Busy else stands.Counted) else if p then stands.Partial else stands.Busy
-
-counted_by : (d s v z p : Bool) → stand_by d s v z p ≡ stands.Counted → (d ≡ false) × (v ≡ true) × (s ≡ true) × (z ≡ false)
-counted_by true s v z p is = absurd cc
-counted_by false false v z p is = absurd cc
-counted_by false true true true p is = absurd cc
-counted_by false true true false p is = (refl, refl, refl, refl)
-counted_by false true false z true is = absurd cc
-counted_by false true false z false is = absurd cc
-
-other_by : (d s v z p : Bool) → stand_by d s v z p ≡ stands.Other → (d ≡ false) × (s ≡ false)
-other_by true s v z p is = absurd cc
-other_by false false v z p is = (refl, refl)
-other_by false true true true p is = absurd cc
-other_by false true true false p is = absurd cc
-other_by false true false z true is = absurd cc
-other_by false true false z false is = absurd cc
-
-module _ (k : KindWord) (t : PageType) where
-  counted_says : standing_of k t ≡ stands.Counted → IsCounted k t
-  counted_says is = let a = counted_by (is_dead k) (is_same_type k.kind t) k.validated (k.number == 0) k.partial is in record { dead = a.0; live = a.1; same = a.2; some = a.3 }
-
-  other_says : standing_of k t ≡ stands.Other → (is_dead k ≡ false) × (is_same_type k.kind t ≡ false)
-  other_says is = other_by (is_dead k) (is_same_type k.kind t) k.validated (k.number == 0) k.partial is
+use Rattle.table_twins.proofs.Typing.{IsCounted, counted_says, counted_takes, dead_says, dead_there, live_sober, other_says, other_takes, raised_sober, work_sober}
 
 -- ---- the plain value by its kind word
-pick : {A : Type 0} (a b : Bool) (x y z : A) → a ≡ false → b ≡ true → (if a then x else if b then y else z) ≡ y
-pick a b x y z off on = ap (λ k. if k then x else if b then y else z) off ∙ ap (λ k. if k then y else z) on
-
-pick_last : {A : Type 0} (a b : Bool) (x y z : A) → a ≡ false → b ≡ false → (if a then x else if b then y else z) ≡ z
-pick_last a b x y z off out = ap (λ k. if k then x else if b then y else z) off ∙ ap (λ k. if k then y else z) out
-
-some_lt : (c : ℕ) → (c == 0) ≡ false → nat_lt 0 c ≡ true
-some_lt c off = grind (arith, nat_tests)
-
 module _ (n : Machine) (m : Words) (q : Plain) (g : ℕ) (d : Describes n m q) (inside : g < n.frames) (t : PageType) where
-  counted_takes : IsCounted (kind_fields (m (Kind g))) t → take_kind fine g t q (q.kinds g) ≡ fine (with_kind g (raised_kind (q.kinds g)) q)
-  counted_takes c =
+  counted_plainly : IsCounted (kind_fields (m (Kind g))) t → take_kind fine g t q (q.kinds g) ≡ fine (with_kind g (raised_kind (q.kinds g)) q)
+  counted_plainly c =
       let k = kind_fields (m (Kind g)) in
-      let is : q.kinds g ≡ k = d.kinds g inside ∙ live_sober k c.live in
-      subst (λ (j : KindWord). take_kind fine g t q j ≡ fine (with_kind g (raised_kind j) q)) (sym is)
-      (pick (is_dead k) (is_counted k && is_type k.kind t) _ _ _ c.dead (and_both (is_counted k) (is_type k.kind t) (and_both k.validated (nat_lt 0 k.number) c.live (some_lt k.number c.some)) c.same))
-
-  other_takes : is_dead (kind_fields (m (Kind g))) ≡ false → is_same_type (kind_fields (m (Kind g))).kind t ≡ false → take_kind fine g t q (q.kinds g) ≡ refused (OtherType g t (q.kinds g)) (reference_back g q)
-  other_takes dead other =
-      let k = kind_fields (m (Kind g)) in
-      pick_last (is_dead (q.kinds g)) (is_counted (q.kinds g) && is_type (q.kinds g).kind t) _ _ _ (dead_there n m q g d inside t ∙ dead)
-      (and_not (is_counted (q.kinds g)) (is_type (q.kinds g).kind t) (ap (λ (j : KindWord). is_type j.kind t) (d.kinds g inside) ∙ ap (λ u. is_type u t) (sober_kind k) ∙ other))
-
--- ---- the words
-begun_unmarked : (k : KindWord) (t : PageType) → work_unmarked (begun_kind k t) ≡ work_kind t false 0
-begun_unmarked k t = by (is_stale k t)
-  where
-    by : (u : Bool) → work_unmarked (work_kind t u (if u then k.number else 0)) ≡ work_kind t false 0
-    by true = refl
-    by false = refl
-
-raised_sober : (k : KindWord) (t : PageType) (limit : ℕ) → IsTrue (is_kind k) → IsCounted k t → k.number < limit → limit < 2 ^ 26 → raised_kind k ≡ sober (kind_fields (kind_write (raised_kind k)))
-raised_sober k t limit is c low few =
-    let below : k.number + 1 < 2 ^ 26 = omega (arith, low, few) in
-    sym (ap sober (fields_write (raised_kind k) (raised_is k is c.live (some_number k.number c.some) below)) ∙ live_sober (raised_kind k) c.live)
-
-work_sober : (k : KindWord) (t : PageType) → IsTrue (not (is_none t)) → work_kind t false 0 ≡ sober (kind_fields (kind_write (work_unmarked (begun_kind k t))))
-work_sober k t typed = sym (ap (λ (j : KindWord). sober (kind_fields (kind_write j))) (begun_unmarked k t) ∙ ap sober (fields_write (work_kind t false 0) (work_is t typed)))
+      counted_takes n m q g d inside t fine c ∙ ap (λ (j : KindWord). fine (with_kind g (raised_kind j) q)) (sym (d.kinds g inside ∙ live_sober k c.live))
 
 -- ---- of a frame that is ready
 module _ (n : Machine) (m w : Words) (q : Plain) (g : ℕ) (t : PageType) (machine : IsMachine n) (d : Describes n m q) (inside : g < n.frames) (ready : IsReady n t (m (Kind g))) (free : type_stop g t (m (Kind g)) ≡ None) (first : is_read_first t ≡ true) (typed : IsTrue (not (is_none t))) where
@@ -123,7 +52,7 @@ module _ (n : Machine) (m w : Words) (q : Plain) (g : ℕ) (t : PageType) (machi
       let is : q.kinds g ≡ k = d.kinds g inside ∙ live_sober k c.live in
       record {
         dead = dead_there n m q g d inside t ∙ c.dead;
-        takes = counted_takes n m q g d inside t c;
+        takes = counted_plainly n m q g d inside t c;
         describes = subst (λ (j : KindWord). Describes n w (with_kind g (raised_kind j) q)) (sym is)
             (described_alike n w (set_kind g (raised_kind k) m) (with_kind g (raised_kind k) q) alike (kinded n m q g (raised_kind k) (raised_kind k) d (raised_sober k t n.limit ready.0 c low machine.few_counts)));
       }
@@ -166,7 +95,7 @@ module _ (n : Machine) (m : Words) (q : Plain) (g : ℕ) (t : PageType) (d : Des
   other_plain : standing_of (kind_fields (m (Kind g))) t ≡ stands.Other → IsOtherPlain g t q (refusals.OtherType g t (m (Kind g)))
   other_plain so =
       let says = other_says (kind_fields (m (Kind g))) t so in
-      record { dead = dead_there n m q g d inside t ∙ says.0; takes = other_takes n m q g d inside t says.0 says.1; same = (refl, refl, sym (d.kinds g inside)) }
+      record { dead = dead_there n m q g d inside t ∙ says.0; takes = other_takes n m q g d inside t fine says.0 says.1; same = (refl, refl, sym (d.kinds g inside)) }
 
   other_at : (s : Standing) (y : Refusal) → standing_of (kind_fields (m (Kind g))) t ≡ s → stop_by g t (m (Kind g)) s ≡ Some (Refused y) → IsOtherPlain g t q y
   other_at stands.Other y so stop = let e : refusals.OtherType g t (m (Kind g)) ≡ y = cc in subst (λ z. IsOtherPlain g t q z) e (other_plain so)

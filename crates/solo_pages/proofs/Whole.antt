@@ -2,15 +2,12 @@
 use Rattle.std.proofs.Common.{◌≡◌, ◌⊎◌, ℕ, ◌<◌, ◌==◌, ◌&&◌, not, nat_le, nat_lt, if◌then◌else◌, Bool, true, false, Option, Some, None, refl, sym, ap, ◌∙◌, subst, inl, inr, arith}
 use Rattle.xp_words.specs.KindWords.{kind_fields}
 use Rattle.xp_words.specs.Machine.{Machine}
-use Rattle.xp_words.specs.RefWords.{ref_read}
 use Rattle.xp_words.specs.declared.kind.KindWord.{KindWord}
 use Rattle.xp_words.specs.declared.kind.PageType.{PageType}
 use Rattle.xp_words.specs.declared.kind.PageType.TheVariants.{Writable}
 use Rattle.xp_words.specs.declared.place.Place.TheVariants.{Kind, Refs}
-use Rattle.xp_words.specs.declared.refs.RefWord.{RefWord}
-use Rattle.xp_words.specs.declared.refs.RefWord.TheVariants.{Dying, Free, Owned}
 use Rattle.xp_board.specs.KindSteps.{raised_kind}
-use Rattle.xp_board.specs.Readings.{count_in, is_dead, is_type, kind_at, ref_count}
+use Rattle.xp_board.specs.Readings.{is_dead, is_type, kind_at}
 use Rattle.xp_board.specs.Told.{PortValue, told_word}
 use Rattle.step_maker.specs.Plain.{Words}
 use Rattle.kind_words.specs.Kinds.{dead_kind, live_kind, work_kind}
@@ -18,14 +15,15 @@ use Rattle.frame_types.specs.Plain.{stop_by, type_stop}
 use Rattle.frame_types.specs.Standing.{standing_of}
 use Rattle.partial_state.specs.Levels.{level_type}
 use Rattle.table_law.specs.Alone.{Cause, CountFull, NoFrame, OtherType, WrongOwner, alone, fine, go_on, is_counted, refused, take_at, take_kind, take_reference, take_reference_of}
-use Rattle.table_law.specs.Lawful.{IsAtRest, share_count}
-use Rattle.table_law.specs.Plain.{Describes, Plain, Share, raised_share, reference_back, share_in, share_of, with_kind, with_share}
+use Rattle.table_law.specs.Lawful.{IsAtRest}
+use Rattle.table_law.specs.Plain.{Describes, Plain, Share, raised_share, reference_back, with_kind, with_share}
 use Rattle.table_law.proofs.Describing.{sober_dead, sober_live}
 use Rattle.table_law.proofs.OnWords.{rested_plain}
 use Rattle.table_twins.specs.Types.{IsReady, IsReadyBy}
 use Rattle.course_laws.specs.Courses.{IsOrderly}
 use Rattle.course_laws.proofs.Lending.{lent}
 use Rattle.course_laws.proofs.Frames.{IsAside, IsLiveWithin, count_at, dead_stands, live_stands}
+use Rattle.course_laws.proofs.Starting.{count_is}
 use Rattle.table_twins.proofs.Typing.{live_sober}
 use Rattle.solo_ports.specs.Standing.{IsUnkept}
 use Rattle.solo_pages.specs.Shown.{AreWhole, IsWholeKind}
@@ -40,16 +38,6 @@ whole_at_rest n m p d rest unkept g inside =
 -- ---- a type that is asked
 abbrev pub IsReadyFor : Machine → ℕ → PageType → ℕ → Type 0
 IsReadyFor n f t w = type_stop f t w ≡ None → IsReady n t w
-
-count_by : (r : Option RefWord) → count_in r ≡ share_count (share_in r)
-count_by (Some (Owned o allocated count)) = refl
-count_by (Some (Free stamp)) = refl
-count_by (Some (Dying o)) = refl
-count_by None = refl
-
-count_is : (w : ℕ) → ref_count w ≡ share_count (share_of w)
-unfolding ref_count
-count_is w = count_by (ref_read w)
 
 module _ (n : Machine) (m : Words) (p : Plain) (d : Describes n m p) (whole : AreWhole n p) (orderly : IsOrderly n m) (g : ℕ) (inside : g < n.frames) where
   aside_by : (b : Bool) → is_dead (kind_at m g) ≡ b → IsAside (kind_at m g) (count_at m g)

@@ -22,13 +22,12 @@ use Rattle.table_law.specs.Plain.{Describes, Plain, Share, raised_share, referen
 use Rattle.table_law.specs.Release.{let_go}
 use Rattle.table_entries.specs.Acquiring.{GaveRef, GaveType, GotRef}
 use Rattle.table_entries.proofs.Shared.{gave_came, ref_came}
-use Rattle.writable_pages.specs.Pages as pages
 use Rattle.writable_pages.specs.Pages.{GotPage}
 use Rattle.whole_pages.specs.Whole as whole
 use Rattle.whole_pages.specs.Whole.{ClearedBy, ClearsPage, CopiedBy, CopiesPage, of_clear, of_copy}
 use Rattle.course_laws.specs.Courses.{IsFinal, IsOrderly}
 use Rattle.course_laws.proofs.Awaiting.{AloneStays, NeitherLostNorBusy, NobodyWaitedFor, alone_orderly}
-use Rattle.exchange_laws.proofs.Going.{took_page_came}
+use Rattle.exchange_laws.proofs.Going.{page_came}
 use Rattle.table_twins.proofs.Sharing.{count_some}
 use Rattle.script_law.specs.Pages.{clear_frame, copy_frame, with_page}
 use Rattle.script_law.specs.Values.{Solo, Frames, Outcome, behind, did, looked_by, or_back, with_frames}
@@ -46,11 +45,6 @@ use Rattle.solo_pages.proofs.Steps.{AtFrames, does_beside}
 use Rattle.solo_pages.proofs.Whole.{alone_whole}
 
 -- ---- as steps
-pub page_came : (v : PortValue) (f owner : ℕ) (w : PortValue) (r : Result ℕ Stop) → GotPage v f owner w r → Came v w
-page_came v f owner _ _ (pages.unreferred w stop ref) = ref_came v w f owner _ ref
-page_came v f owner _ _ (pages.refused u w stop ref took) = came_trans v u w (ref_came v u f owner _ ref) (took_page_came u f owner w _ took)
-page_came v f owner _ _ (pages.had u w ref took) = came_trans v u w (ref_came v u f owner _ ref) (took_page_came u f owner w _ took)
-
 pub type_came : (v w : PortValue) (f : ℕ) → GaveType v w f Writable → Came v w
 type_came v w f gave = does_came v w _ gave.found
 

@@ -1,5 +1,5 @@
 -- What a plain acquisition makes of its frame: a live table with type counts, which is not pinned unless it was pinned with that type before.
-use Rattle.std.proofs.Common.{◌≡◌, ℕ, suc, ◌-◌, ◌<◌, ◌≤◌, ◌&&◌, if◌then◌else◌, Bool, true, false, Option, Some, None, refl, sym, ap, subst, ◌∙◌, arith}
+use Rattle.std.proofs.Common.{◌≡◌, ℕ, suc, ◌-◌, ◌<◌, ◌≤◌, ◌&&◌, if◌then◌else◌, true, false, Option, Some, None, refl, sym, ap, subst, ◌∙◌, arith}
 use Rattle.std.proofs.lemmas.Bool.{and_parts}
 use Rattle.std.proofs.lemmas.Bool.Decides.{nat_tests}
 use Rattle.xp_words.specs.Machine.{Machine}
@@ -19,6 +19,7 @@ use Rattle.table_law.specs.Release.{let_go}
 use Rattle.table_law.proofs.Counting.{at_here}
 use Rattle.course_laws.proofs.Lending.{Lent, lent}
 use Rattle.script_law.specs.Frames.{is_pinned_as}
+use Rattle.script_law.proofs.Unpinning.{of_two}
 
 -- a table of that type, live and not pinned
 pub record IsHeld (t : PageType) (k : KindWord) : Type 0 where
@@ -26,11 +27,6 @@ pub record IsHeld (t : PageType) (k : KindWord) : Type 0 where
   pub kind : k.kind ≡ t
   pub some : 0 < k.number
   pub unpinned : k.pinned ≡ false
-
--- either of two
-of_two : (b : Bool) (x z : PlainOutcome) (Q : PlainOutcome → Type 0) → (b ≡ true → x.refusal ≡ None → Q x) → (b ≡ false → z.refusal ≡ None → Q z) → (if b then x else z).refusal ≡ None → Q (if b then x else z)
-of_two true x z Q one other good = one refl good
-of_two false x z Q one other good = other refl good
 
 -- the first of two is fine, where both are
 first_fine : (r : Option Cause) (p : Plain) (next : Plain → PlainOutcome) → (go_on r p next).refusal ≡ None → r ≡ None

@@ -21,12 +21,12 @@ use Rattle.answer_laws.proofs.Shared.{alone_telling}
 use Rattle.table_words.specs.OldWords.{old_place}
 use Rattle.table_words.specs.declared.old_words.OldWord.TheVariants.{First}
 use Rattle.table_entries.specs.Acquiring.{Acquired}
-use Rattle.flush_words.proofs.Flushed.{own_came}
 use Rattle.table_bases.specs.declared.words.Base.{Base}
 use Rattle.table_bases.specs.Asking.{LeavesBase, ServesBase, base_request, may_rise, of_base}
-use Rattle.table_bases.specs.Course.{AcquiresTop, FlushesBehind, Installed, SawClock, SetsBase, flushed, installed, spent, unacquired}
+use Rattle.table_bases.specs.Course.{AcquiresTop, Installed, SawClock, SetsBase, flushed, installed, spent, unacquired}
 use Rattle.table_bases.specs.Course as course
 use Rattle.table_bases.specs.Holding.{base_number, naming}
+use Rattle.table_bases.proofs.Behind.{behind_came}
 use Rattle.table_law.specs.Alone.{alone}
 use Rattle.table_law.specs.Plain.{Describes, Plain}
 use Rattle.table_law.specs.Release.{let_go}
@@ -54,11 +54,6 @@ mild d None rose = record { destroys = refl; grants = refl; pages = refl }
 
 mild_request : (v : PortValue) (new : Option ℕ) (answer : Result (Unit {0}) Stop) → IsMild (base_request v new answer)
 mild_request v new answer = mild (domain_of v.post.machine v.post.vcpu) new (may_rise answer)
-
--- the steps behind the new table
-behind_came : (u x : PortValue) → FlushesBehind u x → Came u x
-behind_came u x (flushed f) = own_came u x (Ok tt) f
-behind_came u x (course.FlushesBehind.spent y old look store) = came_trans u y x (moves_came u y _ _ _ _ _ look) (moves_came y x _ _ _ _ _ store)
 
 installed_came : (b w : PortValue) (which : Base) (new : Option ℕ) (more : List Bool) → Installed b w which new more → Came b w
 installed_came b w which new more a =

@@ -22,7 +22,7 @@ use Rattle.table_entries.specs.Acquiring.{Acquired}
 use Rattle.table_law.specs.Alone.{alone}
 use Rattle.table_law.specs.Lawful.{IsAtRest}
 use Rattle.table_law.specs.Plain.{Describes}
-use Rattle.course_laws.specs.Courses.{ClockGoesOn, FindsAlive, IsOrderly}
+use Rattle.course_laws.specs.Courses.{FindsAlive, IsOrderly}
 use Rattle.course_laws.proofs.Awaiting.{AloneStays}
 use Rattle.course_laws.proofs.Stopping.{acquired_came}
 use Rattle.pause_laws.specs.Calls.{HasRoom}
@@ -32,13 +32,11 @@ use Rattle.script_law.specs.Values.{Solo}
 use Rattle.solo_ports.specs.Standing.{Clean, Fair, KeepsTable, Stands, whose}
 use Rattle.solo_ports.proofs.Along.{paused_on}
 use Rattle.solo_ports.proofs.Resting.{clean_orderly, clean_rests}
+use Rattle.pin_laws.proofs.Pinning.{goes_between}
 use Rattle.solo_pins.proofs.Given.{CallsTelling, FirstComes, LaterComes, LeavesKept}
 use Rattle.solo_ports.proofs.Between.{finds_alive}
 
 -- ---- premises on steps, between two ports on the way
-pub clock_between : (v c e w : PortValue) → Came v c → Came e w → ClockGoesOn v w → ClockGoesOn c e
-clock_between v c e w before after goes m met at = goes m (met_after v c w m before (met_before c e w m met after)) at
-
 pub room_between : (v c e w : PortValue) → Came v c → Came e w → HasRoom v w → HasRoom c e
 room_between v c e w before after room m g met at = subst (λ (o : Post). ref_count m.found < o.machine.limit) (sym (came_post v c before)) (room m g (met_after v c w m before (met_before c e w m met after)) at)
 
@@ -90,7 +88,7 @@ module _ (stays : AloneStays) (v w : PortValue) (x : Solo) (d f level : ℕ) (fa
     clean_comes c e answers answer before same after acquired =
         subst (λ (m : Machine). (answer ≡ Err (Paused Due)) ⊎ ComesTo m e f level (alone m d level f x.frames) answer) (machine_there c before same)
         (law c e f d level x.frames answers answer (alone_there c before same clean.stands) (only_there c before same clean.stands) (there c before same IsAtRest (clean_rests v x clean)) (first_there c before same clean.first) low high
-        (there c before same (λ m l. Describes m l x.frames) clean.frames) acquired (clock_between v c e w before after fair.clock))
+        (there c before same (λ m l. Describes m l x.frames) clean.frames) acquired (goes_between v c e w before after fair.clock))
 
     clean_keeps : (c : PortValue) (answers : List Bool) → Came v c → told_word c ≡ told_word v → Acquired c f d level w answers (Err (Paused Due)) → FindsAlive c w d → Stands w x → told_word w (old_place w.post.vcpu First) ≡ 0 → KeepsTable f d level w x
     clean_keeps c answers before same acquired alive stands none =
@@ -127,7 +125,7 @@ module _ (stays : AloneStays) (v w : PortValue) (x : Solo) (d f level : ℕ) (fa
     kept_comes c e answers answer before same after acquired =
         subst (λ (m : Machine). (answer ≡ Err (Paused Due)) ⊎ ComesTo m e f level (alone m d level f x.frames) answer) k.machine
         (law k.from c e f d level x.frames answers answer from_machine k.rest k.orderly none_first low high k.frames (calls_there c before same) (alone_there c before same k.stands) (only_there c before same k.stands) acquired
-        (clock_between v c e w before after fair.clock) (room_between v c e w before after fair.room))
+        (goes_between v c e w before after fair.clock) (room_between v c e w before after fair.room))
 
     kept_keeps : (c : PortValue) (answers : List Bool) → Came v c → told_word c ≡ told_word v → Acquired c f d level w answers (Err (Paused Due)) → FindsAlive c w d → Stands w x → told_word w (old_place w.post.vcpu First) ≡ 0 → KeepsTable f d level w x
     kept_keeps c answers before same acquired alive stands none =

@@ -16,7 +16,7 @@ use Rattle.xp_board.specs.Lists.{Member}
 use Rattle.xp_board.specs.Readings.{last_clock}
 use Rattle.xp_board.specs.Spelling.{IsSpelling}
 use Rattle.xp_board.specs.Told.{Post, PortValue, Story, is_telling, told_word, word_in}
-use Rattle.step_maker.specs.Answers.{Serves, SetsM2p, SetsWord, is_told_word}
+use Rattle.step_maker.specs.Answers.{Serves, SetsM2p, SetsWord}
 use Rattle.step_maker.specs.Asked.{Request}
 use Rattle.step_maker.specs.Holds.{Rests}
 use Rattle.step_maker.specs.Moves.{Came, Moment, Moves}
@@ -47,10 +47,10 @@ use Rattle.script_law.specs.Shown.{IsShownWord, base}
 use Rattle.script_law.specs.Values.{Solo, put_at, with_frames}
 use Rattle.solo_ports.specs.Standing.{Owes, ShowsOthers, Stands, a_release, nothing}
 use Rattle.solo_ports.specs.Standing.{IsUnkept}
-use Rattle.solo_ports.proofs.Staying.{life_stays, mapped_stays, own_stays, privilege_stays, stands_at}
+use Rattle.solo_ports.proofs.Staying.{life_stays, mapped_stays, own_stays, privilege_stays, stands_at, told_of}
 use Rattle.solo_ports.proofs.Unkept.{unkept_let_go}
-use Rattle.solo_pins.proofs.Aside.{released_away}
 use Rattle.solo_ports.proofs.Between.{word_after, word_before}
+use Rattle.turn_measures.proofs.Naming.{released_away}
 use Rattle.solo_pins.proofs.Given.{PausedReleaseLeaves, ReleaseLeaves}
 use Rattle.solo_pins.proofs.Stepping.{released_came}
 use Rattle.solo_pins.proofs.Standing.{IsMild, second_there}
@@ -59,10 +59,6 @@ use Rattle.solo_pins.proofs.Standing.{IsMild, second_there}
 pub low_number : (b : Base) → base_number b < 2
 low_number Kernel = omega arith
 low_number User = omega arith
-
-told_number : (b : Base) → is_told_word (base_number b) ≡ true
-told_number Kernel = refl
-told_number User = refl
 
 -- one that names a frame names one of the machine
 named_by : (n : Machine) (s k w g : ℕ) → k < 2 → IsSpelling n (Vcpu s k) w → w ≡ suc g → g < n.frames
@@ -163,10 +159,10 @@ module _ (stays : AloneStays) (release : ReleaseLeaves) (paused : PausedReleaseL
       old_is : old ≡ x.own k
       old_is =
           sym (told_there b stored (Vcpu s k) (Store (naming new)) kinds.Context None old stores (came_telling v b came_b ∙ telling))
-          ∙ word_before v w req s k (naming new) telling (told_number which) serves b stored old came_b stores after_s ∙ sym (stands.others.own k (base (low_number which)))
+          ∙ word_before v w req s k (naming new) telling (told_of (base_number which) (base (low_number which))) serves b stored old came_b stores after_s ∙ sym (stands.others.own k (base (low_number which)))
 
       set_there : told_word w (Vcpu s k) ≡ naming new
-      set_there = word_after v w req s k (naming new) telling (told_number which) serves b stored old came_b stores after_s
+      set_there = word_after v w req s k (naming new) telling (told_of (base_number which) (base (low_number which))) serves b stored old came_b stores after_s
 
       no_map : (g z : ℕ) → Member (SetsM2p g z) (SetsWord s k (naming new) ∷ []) → ⊥
       unfolding Member
@@ -235,7 +231,7 @@ module _ (stays : AloneStays) (release : ReleaseLeaves) (paused : PausedReleaseL
 
           by_answer : (answer : Result (Unit {0}) Stop) → WasReleased flushed_at g L4 w more answer → IfErr answer (λ e. e ≡ Paused Due) → Owes w y
           by_answer (Ok done) a due =
-              clean_w ((released_away flushed_at w g L4 more (Ok tt) refl a).same s 2 ∙ first_f)
+              clean_w ((released_away None flushed_at g L4 w more (Ok tt) refl a).same s 2 ∙ first_f)
               (subst (λ o. Describes n (told_word w) (back_named (let_go 4) o q)) (sym is)
               (subst (λ (o : Post). Describes o.machine (told_word w) (let_go 4 g q)) post_f
               (release flushed_at w g 4 more q (subst (λ (o : Post). IsMachine o.machine) (sym post_f) stands.machine) telling_f low (omega arith) described a)))

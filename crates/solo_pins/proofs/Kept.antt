@@ -1,38 +1,30 @@
 -- A table whose acquisition was paused: a reference to it is to be had, and it is not pinned; and the plain value before the first call has it dead.
-use Rattle.std.proofs.Common.{◌≡◌, ℕ, ◌≤◌, ◌==◌, ◌&&◌, nat_lt, nat_le, if◌then◌else◌, Bool, true, false, Option, Some, None, Err, refl, sym, ap, ◌∙◌, subst, arith}
+use Rattle.std.proofs.Common.{◌≡◌, ℕ, ◌==◌, ◌&&◌, nat_lt, nat_le, if◌then◌else◌, Bool, true, false, Some, None, Err, refl, sym, ap, ◌∙◌, subst, arith}
 use Rattle.std.proofs.lemmas.Bool.Decides.{nat_tests}
 use Rattle.xp_words.specs.Machine.{Machine}
 use Rattle.xp_words.specs.PageTypes.{type_number}
 use Rattle.xp_words.specs.RefWords.{ref_read}
 use Rattle.xp_words.specs.declared.place.Place.TheVariants.{Refs}
-use Rattle.xp_words.specs.declared.refs.RefWord.{RefWord}
-use Rattle.xp_words.specs.declared.refs.RefWord.TheVariants.{Dying, Free, Owned}
+use Rattle.xp_words.specs.declared.refs.RefWord.TheVariants.{Owned}
 use Rattle.xp_words.specs.declared.reply.Refusal.{Refusal}
 use Rattle.xp_words.specs.declared.reply.Refusal.TheVariants as refusals
 use Rattle.xp_words.specs.declared.reply.Stop.{Stop}
 use Rattle.xp_words.specs.declared.reply.Stop.TheVariants.{Refused, Paused}
-use Rattle.xp_board.specs.Readings.{count_in, ref_count}
+use Rattle.xp_board.specs.Readings.{ref_count}
 use Rattle.xp_board.specs.Told.{PortValue, is_telling, told_word}
 use Rattle.step_maker.specs.Answers.{Stops}
 use Rattle.step_maker.specs.Asked.{Request, of_frame}
-use Rattle.step_maker.specs.Licences.{IsFull}
 use Rattle.frame_words.specs.Plain.{refer, refer_by}
 use Rattle.table_entries.specs.Acquiring.{GotRef}
 use Rattle.table_law.specs.Alone.{NoFrame, take_reference, take_reference_of, refused}
 use Rattle.table_law.specs.Plain.{Plain, Share}
 use Rattle.table_twins.proofs.Sharing.{share_owned}
 use Rattle.pause_laws.specs.Calls.{HasRoom}
+use Rattle.pause_laws.proofs.Repeating.{full_word}
 use Rattle.refusal_laws.specs.Repeated.{IsDeadFrame, IsKeptFrame}
 use Rattle.script_law.specs.Frames.{is_pinned_as}
 
 -- ---- a call that finds room is not refused for a count at its limit
-full_word : (owner limit w : ℕ) (r : Option RefWord) → ref_read w ≡ r → IsFull owner limit r → limit ≤ ref_count w
-unfolding ref_count
-full_word owner limit w (Some (Owned o a c)) is full = let count : count_in (ref_read w) ≡ c = ap count_in is in let low = full.1 in omega arith
-full_word owner limit w (Some (Free stamp)) is full = absurd full
-full_word owner limit w (Some (Dying o)) is full = absurd full
-full_word owner limit w None is full = absurd full
-
 never_full : (v w : PortValue) (r : Request) (g x : ℕ) → HasRoom v w → Stops v w r (Refused (refusals.CountFull g x)) → ⊥
 unfolding Stops
 never_full v w r g x room why =

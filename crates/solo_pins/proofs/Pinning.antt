@@ -35,11 +35,11 @@ use Rattle.script_law.specs.Values.{Solo, Outcome, behind, behind_by, did, with_
 use Rattle.solo_ports.specs.Coming.{IsDoneSo}
 use Rattle.solo_ports.specs.Standing.{Clean, IsSettled, Stands, nothing}
 use Rattle.solo_ports.proofs.Unkept.{unkept_alone, unkept_kind}
+use Rattle.solo_ports.proofs.Pinned.{sober_pinned}
 use Rattle.solo_pins.proofs.Acquired.{IsHeld, held}
 use Rattle.solo_pins.proofs.Flushing.{done_so}
 use Rattle.solo_pins.proofs.Looking.{cas_kinded}
 use Rattle.solo_pins.proofs.Standing.{IsMild, SetsNothing, first_there, stands_stay}
-use Rattle.solo_pins.proofs.Unpinning.{sober_pinned}
 
 -- ---- a frame that was acquired is pinned
 abbrev pub marks : ℕ → Solo → Outcome

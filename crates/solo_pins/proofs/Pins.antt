@@ -40,6 +40,7 @@ use Rattle.script_law.specs.Frames.{is_pinned_as, pin_by}
 use Rattle.script_law.specs.Values.{Solo, IsPinned, Outcome, behind, looked_by, stopped}
 use Rattle.solo_ports.specs.Coming.{Comes, IsDoneSo, IsRefusedSo}
 use Rattle.solo_ports.specs.Standing.{Clean, Fair, IsSettled, KeepsTable, Stands, nothing, whose}
+use Rattle.solo_ports.proofs.Pinned.{sober_pinned}
 use Rattle.solo_pins.specs.Performing.{IsPerformed, KeepsPin}
 use Rattle.solo_pins.proofs.Acquiring.{as_call, is_due, refused_so, second_by}
 use Rattle.solo_pins.proofs.Beginning.{Begins, alive_between, begins_clean, begins_kept, own_alive}
@@ -50,7 +51,7 @@ use Rattle.solo_pins.proofs.Looking as looking
 use Rattle.solo_pins.proofs.Looking.{no_refusal, referred}
 use Rattle.solo_pins.proofs.Pinning.{marks, pin_done, pin_stops}
 use Rattle.solo_pins.proofs.Standing.{IsMild, clean_same, first_same, first_there, second_same, stands_stay}
-use Rattle.solo_pins.proofs.Unpinning.{refused_looked, sober_pinned}
+use Rattle.solo_pins.proofs.Unpinning.{refused_looked}
 
 -- ---- the mark
 module _ (level y : ℕ) (k : KindWord) (low : 1 ≤ level) (high : level ≤ 4) (is : k ≡ sober (kind_fields y)) where

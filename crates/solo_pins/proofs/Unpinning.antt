@@ -1,12 +1,9 @@
 -- An unpin comes to its plain meaning; what its release leaves unfinished is settled by the next call.
-use Rattle.std.proofs.Common.{◌≡◌, ◌⊎◌, ℕ, ◌<◌, ◌≤◌, if◌then◌else◌, Bool, true, false, List, Option, Some, None, Result, Ok, Err, IfErr, IsTrue, refl, sym, ap, ◌∙◌, subst, inl, inr, arith}
-use Rattle.std.proofs.lemmas.Bool.Decides.{nat_tests}
-use Rattle.xp_words.specs.KindWords.{has_form, is_kind, kind_fields, kind_write}
+use Rattle.std.proofs.Common.{◌≡◌, ◌⊎◌, ℕ, ◌<◌, ◌≤◌, if◌then◌else◌, Bool, true, false, List, Option, Some, None, Result, Ok, Err, IfErr, IsTrue, refl, sym, ap, ◌∙◌, subst, inl, inr}
+use Rattle.xp_words.specs.KindWords.{is_kind, kind_fields, kind_write}
 use Rattle.xp_words.specs.Machine.{IsMachine, Machine}
-use Rattle.xp_words.specs.PageTypes.{is_table, type_number}
+use Rattle.xp_words.specs.PageTypes.{type_number}
 use Rattle.xp_words.specs.declared.kind.KindWord.{KindWord}
-use Rattle.xp_words.specs.declared.kind.PageType.{PageType}
-use Rattle.xp_words.specs.declared.kind.PageType.TheVariants as types
 use Rattle.xp_words.specs.declared.place.Place.TheVariants.{Kind, Vcpu}
 use Rattle.xp_words.specs.declared.reply.Pause.TheVariants.{Due}
 use Rattle.xp_words.specs.declared.reply.Refusal.{Refusal}
@@ -29,7 +26,7 @@ use Rattle.partial_state.specs.Levels.{level_type}
 use Rattle.table_words.specs.OldWords.{old_place}
 use Rattle.table_words.specs.declared.old_words.OldWord.TheVariants.{First}
 use Rattle.table_words.specs.Pins.{unpinned_kind}
-use Rattle.table_words.proofs.PinWords.{pinned_lives, unpinned_is}
+use Rattle.table_words.proofs.PinWords.{unpinned_is}
 use Rattle.table_entries.specs.Acquiring.{GaveRef, GotRef}
 use Rattle.table_entries.proofs.Shared.{gave_came}
 use Rattle.level_release.specs.Course.{WasReleased}
@@ -51,41 +48,18 @@ use Rattle.script_law.specs.Frames.{unpin_by}
 use Rattle.script_law.specs.Values.{Solo, Frames, IsUnpinned, Outcome, did, looked_by, stopped, with_frames}
 use Rattle.solo_ports.specs.Coming.{Comes, IsDoneSo, IsRefusedSo}
 use Rattle.solo_ports.specs.Standing.{Clean, IsSettled, IsUnkept, Owes, Stands, a_release, nothing, whose}
+use Rattle.solo_ports.proofs.Pinned.{IsPinnedTable, pinned_table, sober_pinned, table_level}
+use Rattle.vcpu_turn.proofs.Clearing.{puts}
+use Rattle.turn_measures.proofs.Keeping.{away_does, away_moves}
+use Rattle.turn_measures.proofs.Naming.{released_away}
 use Rattle.solo_pins.specs.Performing.{IsPerformed, KeepsPin}
 use Rattle.solo_pins.proofs.Given.{PausedReleaseLeaves, ReleaseLeaves}
 use Rattle.solo_pins.proofs.Standing.{IsMild, SetsNothing, clean_same, second_same, stands_stay}
 use Rattle.solo_ports.proofs.Unkept.{unkept_kind, unkept_let_go}
 use Rattle.solo_pins.proofs.Deeds.{sets_nothing}
-use Rattle.solo_pins.proofs.Aside.{away_moves, ref_away, released_away}
 use Rattle.solo_pins.proofs.Looking as looking
-use Rattle.solo_pins.proofs.Looking.{Unreferred, describes_back, no_refusal, referred, telling_seen, words_seen}
+use Rattle.solo_pins.proofs.Looking.{describes_back, no_refusal, referred, telling_seen, words_seen}
 use Rattle.solo_pins.proofs.Flushing.{done_so}
-
--- ---- kind words
-pub sober_pinned : (k : KindWord) → (sober k).pinned ≡ k.pinned
-sober_pinned k = one k.validated
-  where
-    one : (b : Bool) → (if b then k else record k { number = 0; unflushed = false }).pinned ≡ k.pinned
-    one true = refl
-    one false = refl
-
--- a pinned frame is a live table
-record IsPinnedTable (k : KindWord) : Type 0 where
-  live : k.validated ≡ true
-  table : is_table k.kind ≡ true
-
-pinned_table : (k : KindWord) → IsTrue (is_kind k) → k.pinned ≡ true → IsPinnedTable k
-unfolding has_form
-pinned_table k is on = record { live = pinned_lives k is on; table = (let live : k.validated ≡ true = pinned_lives k is on in grind (arith, nat_tests)) }
-
-pub table_level : (t : PageType) → is_table t ≡ true → (level_type (type_number t) ≡ t) × (1 ≤ type_number t) × (type_number t ≤ 4)
-table_level types.L1 is = (refl, omega arith, omega arith)
-table_level types.L2 is = (refl, omega arith, omega arith)
-table_level types.L3 is = (refl, omega arith, omega arith)
-table_level types.L4 is = (refl, omega arith, omega arith)
-table_level types.None is = absurd cc
-table_level types.Desc is = absurd cc
-table_level types.Writable is = absurd cc
 
 -- ---- the reference that is looked under is not to be had
 pub refused_looked : (n : Machine) (d f : ℕ) (w : PortValue) (x : Solo) (y : Refusal) (c : Cause) (next : Solo → Outcome) → (take_reference n d f x.frames).refusal ≡ Some c → IsCause y c → Clean w x →
@@ -200,7 +174,7 @@ module _ (stays : AloneStays) (release : ReleaseLeaves) (paused : PausedReleaseL
       -- the words of vCPUs are as they were
       words_e : (s k : ℕ) → told_word e (Vcpu s k) ≡ told_word v (Vcpu s k)
       words_e s k =
-          (ref_away c e f gave).same s k ∙ (away_moves b c _ _ _ _ _ refl takes).same s k ∙ ap (λ (m : Words). m (Vcpu s k)) (words_seen v a b d f y p machine telling clean.frames ref saw)
+          (away_does c e _ (puts f) gave.found).same s k ∙ (away_moves b c _ _ _ _ _ refl takes).same s k ∙ ap (λ (m : Words). m (Vcpu s k)) (words_seen v a b d f y p machine telling clean.frames ref saw)
           ∙ got_there n (told_word v) d f machine ((ref.plain telling).0) (Vcpu s k) (λ z. cc)
 
       low_e : f < e.post.machine.frames
@@ -228,7 +202,7 @@ module _ (stays : AloneStays) (release : ReleaseLeaves) (paused : PausedReleaseL
 
         owes : (answers : List Bool) (answer : Result (Unit {0}) Stop) → WasReleased e f (kind_fields y).kind w answers answer → IfErr answer (λ stop. stop ≡ Paused Due) → Owes w (with_frames (let_go level f off) x)
         owes answers (Ok done) rel due =
-            let kept = (released_away e w f (kind_fields y).kind answers (Ok done) refl rel).same v.post.vcpu 2 ∙ words_e v.post.vcpu 2 ∙ clean.first in
+            let kept = (released_away None e f (kind_fields y).kind w answers (Ok done) refl rel).same v.post.vcpu 2 ∙ words_e v.post.vcpu 2 ∙ clean.first in
             let left = release e w f level answers off (subst (λ (o : Post). IsMachine o.machine) (sym post_e) machine) telling_e low_e levels.2 describes_e (rel_level answers (Ok done) rel) in
             nothing
             (record {

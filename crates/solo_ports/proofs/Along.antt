@@ -25,7 +25,7 @@ use Rattle.solo_ports.specs.Standing.{Clean, KeepsTable, Owes, ShowsOthers, Stan
 use Rattle.solo_ports.specs.Standing as standing
 use Rattle.solo_ports.proofs.Staying.{stands_at}
 
-off_flushes : (k : ℕ) → IsShownWord k → (k ≢ 4) × (k ≢ 5)
+pub off_flushes : (k : ℕ) → IsShownWord k → (k ≢ 4) × (k ≢ 5)
 off_flushes k (shown.base low) = (λ e. absurd (omega (arith, low)), λ e. absurd (omega (arith, low)))
 off_flushes k (shown.tables some most) = (λ e. absurd (omega (arith, some)), λ e. absurd (omega (arith, some)))
 

@@ -1,4 +1,5 @@
 pub mod Along
+pub mod Pinned
 pub mod Resting
 pub mod Staying
 pub mod Unkept

@@ -53,9 +53,6 @@ record IsOneRun (w z : PortValue) (xs ys : List Moment) : Type 0 where
   list : xs ≡ ys
   port : w ≡ z
 
-head_of : (x y : Visit) (xs ys : List Visit) → x ∷ xs ≡ y ∷ ys → x ≡ y
-head_of x y xs ys e = cc
-
 tail_of : (x y : Visit) (xs ys : List Visit) → x ∷ xs ≡ y ∷ ys → xs ≡ ys
 tail_of x y xs ys e = cc
 
@@ -64,7 +61,7 @@ same_runs v w z [] [] a b e = record { list = refl; port = a ∙ sym b }
 same_runs v w z [] (y ∷ ys) a b e = absurd cc
 same_runs v w z (x ∷ xs) [] a b e = absurd cc
 same_runs v w z (x ∷ xs) (y ∷ ys) a b e =
-    let one = head_of (visit_of x) (visit_of y) (visits xs) (visits ys) e in
+    let one : visit_of x ≡ visit_of y = cc in
     let rest = same_runs v a.0 b.0 xs ys a.1 b.1 (tail_of (visit_of x) (visit_of y) (visits xs) (visits ys) e) in
     let hand = ap (λ (u : PortValue). u.holdings) rest.port in
     let moment : x ≡ y =

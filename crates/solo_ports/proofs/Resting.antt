@@ -1,6 +1,5 @@
 -- Words where nothing is left to be settled are at rest and orderly; and what is known of the old words is so.
-use Rattle.std.proofs.Common.{◌≡◌, ◌≢◌, ℕ, ◌<◌, Option, Some, refl, sym, ap, ◌∙◌, subst, inl, inr, arith}
-use Rattle.std.proofs.lemmas.Bool.{cases_Bool}
+use Rattle.std.proofs.Common.{◌≡◌, ◌≢◌, ℕ, ◌<◌, Option, Some, sym, ap, ◌∙◌, subst, arith}
 use Rattle.xp_words.specs.KindWords.{kind_fields}
 use Rattle.xp_words.specs.declared.kind.KindWord.{KindWord}
 use Rattle.xp_words.specs.Places.{memory, old0_of, old1_of, run_of, sizes_of}
@@ -18,13 +17,13 @@ use Rattle.answer_laws.specs.Alone.{IsAlone}
 use Rattle.table_words.specs.OldWords.{old_place}
 use Rattle.table_words.specs.declared.old_words.OldWord.TheVariants.{First, Second}
 use Rattle.table_law.specs.Lawful.{IsAtRest}
-use Rattle.table_law.specs.Plain.{sober}
 use Rattle.course_laws.specs.Courses.{IsOrderly}
 use Rattle.course_laws.proofs.Awaiting.{alone_orderly}
 use Rattle.rest_laws.specs.Resting.{AreEmpty, IsNothingLeft}
 use Rattle.rest_laws.proofs.Partials.{at_rest}
 use Rattle.script_law.specs.Values.{Solo}
 use Rattle.solo_ports.specs.Standing.{Clean, Stands}
+use Rattle.solo_ports.proofs.Pinned.{sober_kept}
 
 -- ---- a port that is alone tells sound words
 module _ (v : PortValue) (alone : IsAlone v) where
@@ -52,12 +51,6 @@ module _ (v : PortValue) (alone : IsAlone v) where
   second_known w real rests is = known 3 w real rests (λ e. absurd (omega arith)) (λ e. absurd (omega arith)) (λ u formed mine. sym formed.own.old1 ∙ ap (λ (y : Holdings). y.old1) mine ∙ is)
 
 -- ---- at rest
-sober_kept : (k : KindWord) → (sober k).kept ≡ k.kept
-sober_kept k = elim (cases_Bool k.validated) [
-  | inl live ↦ rw live refl
-  | inr off ↦ rw off refl
-]
-
 module _ (v : PortValue) (x : Solo) (c : Clean v x) where
   abbrev s : Stands v x
   s = c.stands

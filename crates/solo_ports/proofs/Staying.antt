@@ -1,17 +1,20 @@
 -- What a call leaves as it was beside the frames.
-use Rattle.std.proofs.Common.{◌≡◌, ◌≢◌, ℕ, ◌<◌, true, List, length, Option, Some, None, IsTrue, sym, ◌∙◌, subst, arith}
+use Rattle.std.proofs.Common.{◌≡◌, ◌≢◌, ℕ, ◌<◌, true, List, length, Option, Some, None, IsTrue, sym, ◌∙◌, subst, arith, ◌==◌, if◌then◌else◌, Bool, false, refl}
 use Rattle.std.proofs.lemmas.Bool.Decides.{nat_tests}
 use Rattle.xp_words.specs.Machine.{IsMachine, Machine}
 use Rattle.xp_words.specs.declared.place.Place.{Place}
-use Rattle.xp_words.specs.declared.place.Place.TheVariants.{Life, M2p, Priv, Vcpu}
+use Rattle.xp_words.specs.declared.place.Place.TheVariants.{Life, M2p, Priv, Vcpu, Refs}
 use Rattle.xp_board.specs.Hands.{IsEmptyHand}
 use Rattle.xp_board.specs.Lists.{Member}
 use Rattle.xp_board.specs.Told.{Post, PortValue, is_telling, told_word}
+use Rattle.xp_board.specs.Readings.{owner_of, ref_count}
+use Rattle.xp_board.specs.RefSteps.{owner_number}
 use Rattle.step_maker.specs.Answers.{Deed, Serves, SetsM2p, SetsWord, is_told_word}
 use Rattle.step_maker.specs.Asked.{Request}
 use Rattle.step_maker.specs.Moves.{Came}
 use Rattle.step_maker.proofs.Coming.{came_post}
 use Rattle.step_maker.proofs.Piecing.{serves_came}
+use Rattle.step_maker.specs.Plain.{Words}
 use Rattle.answer_laws.proofs.Shared.{alone_telling}
 use Rattle.replay_laws.specs.LeftAlone.{life, privilege, word}
 use Rattle.replay_laws.proofs.Keeping.{left_alone}
@@ -23,6 +26,7 @@ use Rattle.table_law.specs.Plain.{Plain}
 use Rattle.script_law.specs.Shown.{IsShownWord}
 use Rattle.script_law.specs.Shown as shown
 use Rattle.script_law.specs.Values.{Solo, with_frames}
+use Rattle.frame_words.specs.Plain.{lowered, put, set_free}
 use Rattle.solo_ports.specs.Standing.{IsQuiet, IsUnkept, ShowsOthers, Stands}
 
 pub told_of : (k : ℕ) → IsShownWord k → IsTrue (is_told_word k)
@@ -80,3 +84,11 @@ pub stands_stay : AloneStays → (v w : PortValue) (x : Solo) (p : Plain) (r : R
 stands_stay stays v w x p r ds s serves quiet empty second unkept =
     stands_at stays v w x (with_frames p x) s (serves_came v w r ds serves) empty second
     (others_with v.post.machine v.post.vcpu (told_word w) x p (others_stay v w r ds (alone_telling v s.alone) serves x s.empty quiet s.others)) unkept
+
+-- ---- a reference that is given back leaves own words
+put_by : (b : Bool) (f owner s k : ℕ) (m : Words) → (if b then set_free f owner (lowered f m) else lowered f m) (Vcpu s k) ≡ m (Vcpu s k)
+put_by true f owner s k m = refl
+put_by false f owner s k m = refl
+
+pub put_word : (f s k : ℕ) (m : Words) → put f m (Vcpu s k) ≡ m (Vcpu s k)
+put_word f s k m = put_by (ref_count (m (Refs f)) == 1) f (owner_number (owner_of (m (Refs f)))) s k m

@@ -70,13 +70,13 @@ other_by false true false z true is = absurd cc
 other_by false true false z false is = absurd cc
 
 module _ (k : KindWord) (t : PageType) where
-  counted_says : standing_of k t ≡ stands.Counted → IsCounted k t
+  pub counted_says : standing_of k t ≡ stands.Counted → IsCounted k t
   counted_says is = let a = counted_by (is_dead k) (is_same_type k.kind t) k.validated (k.number == 0) k.partial is in record { dead = a.0; live = a.1; same = a.2; some = a.3 }
 
   pub dead_says : standing_of k t ≡ stands.Dead → is_dead k ≡ true
   dead_says is = dead_by (is_dead k) (is_same_type k.kind t) k.validated (k.number == 0) k.partial is
 
-  other_says : standing_of k t ≡ stands.Other → (is_dead k ≡ false) × (is_same_type k.kind t ≡ false)
+  pub other_says : standing_of k t ≡ stands.Other → (is_dead k ≡ false) × (is_same_type k.kind t ≡ false)
   other_says is = other_by (is_dead k) (is_same_type k.kind t) k.validated (k.number == 0) k.partial is
 
 -- ---- the plain value by its kind word
@@ -87,7 +87,7 @@ pick a b x y z off on = ap (λ k. if k then x else if b then y else z) off ∙ a
 pick_last : {A : Type 0} (a b : Bool) (x y z : A) → a ≡ false → b ≡ false → (if a then x else if b then y else z) ≡ z
 pick_last a b x y z off out = ap (λ k. if k then x else if b then y else z) off ∙ ap (λ k. if k then y else z) out
 
-pick_first : {A : Type 0} (a : Bool) (x y : A) → a ≡ true → (if a then x else y) ≡ x
+pub pick_first : {A : Type 0} (a : Bool) (x y : A) → a ≡ true → (if a then x else y) ≡ x
 pick_first a x y on = ap (λ k. if k then x else y) on
 
 some_lt : (c : ℕ) → (c == 0) ≡ false → nat_lt 0 c ≡ true
@@ -97,7 +97,7 @@ pub live_sober : (k : KindWord) → k.validated ≡ true → sober k ≡ k
 live_sober k on = ap (λ b. if b then k else record k { number = 0; unflushed = false }) on
 
 module _ (n : Machine) (m : Words) (q : Plain) (g : ℕ) (d : Describes n m q) (inside : g < n.frames) (t : PageType) where
-  counted_takes : (fill : Plain → PlainOutcome) → IsCounted (kind_fields (m (Kind g))) t → take_kind fill g t q (q.kinds g) ≡ fine (with_kind g (raised_kind (kind_fields (m (Kind g)))) q)
+  pub counted_takes : (fill : Plain → PlainOutcome) → IsCounted (kind_fields (m (Kind g))) t → take_kind fill g t q (q.kinds g) ≡ fine (with_kind g (raised_kind (kind_fields (m (Kind g)))) q)
   counted_takes fill c =
       let k = kind_fields (m (Kind g)) in
       ap (λ (j : KindWord). take_kind fill g t q j) (d.kinds g inside ∙ live_sober k c.live) ∙ pick (is_dead k) (is_counted k && is_type k.kind t) _ _ _ c.dead (and_both (is_counted k) (is_type k.kind t) (and_both k.validated (nat_lt 0 k.number) c.live (some_lt k.number c.some)) c.same)
@@ -105,7 +105,7 @@ module _ (n : Machine) (m : Words) (q : Plain) (g : ℕ) (d : Describes n m q) (
   pub dead_there : is_dead (q.kinds g) ≡ is_dead (kind_fields (m (Kind g)))
   dead_there = ap is_dead (d.kinds g inside) ∙ sober_dead (kind_fields (m (Kind g)))
 
-  other_takes : (fill : Plain → PlainOutcome) → is_dead (kind_fields (m (Kind g))) ≡ false → is_same_type (kind_fields (m (Kind g))).kind t ≡ false →
+  pub other_takes : (fill : Plain → PlainOutcome) → is_dead (kind_fields (m (Kind g))) ≡ false → is_same_type (kind_fields (m (Kind g))).kind t ≡ false →
       take_kind fill g t q (q.kinds g) ≡ refused (OtherType g t (q.kinds g)) (reference_back g q)
   other_takes fill dead other =
       let k = kind_fields (m (Kind g)) in
@@ -130,7 +130,7 @@ begun_unmarked k t = by (is_stale k t)
     by true = refl
     by false = refl
 
-raised_sober : (k : KindWord) (t : PageType) (limit : ℕ) → IsTrue (is_kind k) → IsCounted k t → k.number < limit → limit < 2 ^ 26 → raised_kind k ≡ sober (kind_fields (kind_write (raised_kind k)))
+pub raised_sober : (k : KindWord) (t : PageType) (limit : ℕ) → IsTrue (is_kind k) → IsCounted k t → k.number < limit → limit < 2 ^ 26 → raised_kind k ≡ sober (kind_fields (kind_write (raised_kind k)))
 raised_sober k t limit is c low few =
     let below : k.number + 1 < 2 ^ 26 = omega (arith, low, few) in
     sym (ap sober (fields_write (raised_kind k) (raised_is k is c.live (some_number k.number c.some) below)) ∙ live_sober (raised_kind k) c.live)
@@ -138,7 +138,7 @@ raised_sober k t limit is c low few =
 pub live_sober_one : (t : PageType) → IsTrue (not (is_none t)) → live_kind t 1 ≡ sober (kind_fields (kind_write (live_kind t 1)))
 live_sober_one t typed = sym (ap sober (fields_write (live_kind t 1) (live_is t typed 1 (omega arith))))
 
-work_sober : (k : KindWord) (t : PageType) → IsTrue (not (is_none t)) → work_kind t false 0 ≡ sober (kind_fields (kind_write (work_unmarked (begun_kind k t))))
+pub work_sober : (k : KindWord) (t : PageType) → IsTrue (not (is_none t)) → work_kind t false 0 ≡ sober (kind_fields (kind_write (work_unmarked (begun_kind k t))))
 work_sober k t typed = sym (ap (λ (j : KindWord). sober (kind_fields (kind_write j))) (begun_unmarked k t) ∙ ap sober (fields_write (work_kind t false 0) (work_is t typed)))
 
 -- in work with its mark
