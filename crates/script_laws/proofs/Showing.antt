@@ -1,5 +1,5 @@
 -- Where nothing is left to be settled the words show the whole plain value; and they do behind the step that stops the vCPU.
-use Rattle.std.proofs.Common.{◌≡◌, ◌≢◌, ℕ, ◌/◌, ◌%◌, None, Bool, true, false, refl, sym, ap, ◌∙◌, subst, arith}
+use Rattle.std.proofs.Common.{◌≡◌, ◌≢◌, ◌<◌, ℕ, ◌/◌, ◌%◌, None, Bool, true, false, refl, sym, ap, ◌∙◌, subst, arith}
 use Rattle.xp_words.specs.Machine.{Machine}
 use Rattle.xp_words.specs.Places.{run_of}
 use Rattle.xp_words.specs.declared.place.Place.{Place}
@@ -19,6 +19,8 @@ use Rattle.step_maker.proofs.Coming.{came_post, moves_came}
 use Rattle.step_maker.proofs.Telling.{told_elsewhere, told_here}
 use Rattle.answer_laws.proofs.Shared.{alone_telling}
 use Rattle.xp_words.specs.Entries.{is_bit}
+use Rattle.table_words.specs.OldWords.{old_place}
+use Rattle.table_words.specs.declared.old_words.OldWord.TheVariants.{First, Second}
 use Rattle.xp_words.specs.KindWords.{kind_fields}
 use Rattle.table_law.specs.Plain.{share_of, sober}
 use Rattle.script_law.specs.Shown.{IsShownWord, Shows}
@@ -64,6 +66,9 @@ off_run : (s k : ℕ) → IsShownWord k → Vcpu s k ≡ run_of s → ⊥
 off_run s k (shown.base low) e = let six : k ≡ 6 = cc in absurd (omega arith)
 off_run s k (shown.tables some most) e = let six : k ≡ 6 = cc in absurd (omega arith)
 
+off_below : (s k : ℕ) → k < 6 → Vcpu s k ≡ run_of s → ⊥
+off_below s k low e = let six : k ≡ 6 = cc in absurd (omega arith)
+
 shows_same : (n : Machine) (s : ℕ) (m w : Words) (x : Solo) → ((q : Place) → q ≢ run_of s → w q ≡ m q) → Shows n s m x → Shows n s w x
 shows_same n s m w x same a =
     record {
@@ -85,7 +90,10 @@ unfolding left_by
 stop_shows v w x c stop =
     let m = stop.1 in
     let post = came_post v w (moves_came v w _ _ _ _ _ m) in
+    let other = told_elsewhere v w (run_of v.post.vcpu) (Store 1) kinds.Run None stop.0 m in
     record {
-      shows = subst (λ (p : Post). Shows p.machine p.vcpu (told_word w) x) (sym post) (shows_same v.post.machine v.post.vcpu (told_word v) (told_word w) x (λ q off. told_elsewhere v w (run_of v.post.vcpu) (Store 1) kinds.Run None stop.0 m q off) (clean_shows v x c));
+      shows = subst (λ (p : Post). Shows p.machine p.vcpu (told_word w) x) (sym post) (shows_same v.post.machine v.post.vcpu (told_word v) (told_word w) x other (clean_shows v x c));
+      first = subst (λ (p : Post). told_word w (old_place p.vcpu First) ≡ 0) (sym post) (other (old_place v.post.vcpu First) (off_below v.post.vcpu 2 (omega arith)) ∙ c.first);
+      second = subst (λ (p : Post). told_word w (old_place p.vcpu Second) ≡ 0) (sym post) (other (old_place v.post.vcpu Second) (off_below v.post.vcpu 3 (omega arith)) ∙ c.stands.second);
       stopped = subst (λ (p : Post). told_word w (run_of p.vcpu) ≡ 1) (sym post) (told_here v w (run_of v.post.vcpu) (Store 1) kinds.Run None stop.0 m (alone_telling v c.stands.alone));
     }

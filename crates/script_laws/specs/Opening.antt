@@ -2,6 +2,8 @@
 use Rattle.std.specs.Prelude.{◌≡◌, false, []}
 use Rattle.xp_words.specs.Places.{run_of}
 use Rattle.xp_board.specs.Told.{PortValue, told_word}
+use Rattle.table_words.specs.OldWords.{old_place}
+use Rattle.table_words.specs.declared.old_words.OldWord.TheVariants.{First, Second}
 use Rattle.script_law.specs.Shown.{Shows}
 use Rattle.script_law.specs.Values.{Solo}
 use Rattle.solo_ports.specs.Standing.{Clean, whose}
@@ -17,7 +19,9 @@ pub record OpensScript (c : Processing) (v : PortValue) (x : Solo) : Type 0 wher
   pub at : c.at ≡ begun
   pub on : c.retired ≡ false
 
--- the vCPU is stopped, and its words show the value
+-- the vCPU is stopped, nothing is left to be settled, and its words show the value
 pub record IsStoppedAt (w : PortValue) (x : Solo) : Type 0 where
   pub shows : Shows w.post.machine w.post.vcpu (told_word w) x
+  pub first : told_word w (old_place w.post.vcpu First) ≡ 0
+  pub second : told_word w (old_place w.post.vcpu Second) ≡ 0
   pub stopped : told_word w (run_of w.post.vcpu) ≡ 1

@@ -1,5 +1,5 @@
 -- A run in which the only vCPU comes to the end of its script.
-use Rattle.std.proofs.Common.{◌≡◌, ◌<◌, ℕ, true, List, Option, Some, length, refl, sym, ap, ◌∙◌, subst}
+use Rattle.std.proofs.Common.{◌≡◌, ◌<◌, ℕ, true, List, length, refl, sym, ap, subst}
 use Rattle.std.specs.Prelude.{slice_get}
 use Rattle.xp_words.specs.declared.ops.Op.{Op}
 use Rattle.xp_words.specs.declared.place.Place.{Place}
@@ -23,7 +23,7 @@ use Rattle.script_laws.specs.Logged.{IsLogged}
 use Rattle.script_laws.specs.Opening.{IsStoppedAt, OpensScript}
 use Rattle.script_laws.specs.Turns.{IsLog, Turned}
 use Rattle.solo_runs.specs.Finishing.{RunComesTo, FinishesAlone, IsFairRun, first_port, opening_solo, owner_in, with_turns}
-use Rattle.solo_runs.proofs.Finishing.{first_are, first_length, stopped, went}
+use Rattle.solo_runs.proofs.Closing.{all_turns, closing_cpus, first_in, is_last, is_retired, no_stop}
 
 abbrev pub Invisible : Type 0
 Invisible = (c d : Processing) (v w : PortValue) (x : Solo) → OpensScript c v x → Turned c v d w → d.retired ≡ true → Fair v w → IsNeverStale v w →
@@ -32,27 +32,18 @@ Invisible = (c d : Processing) (v w : PortValue) (x : Solo) → OpensScript c v 
 abbrev pub OpensIt : Type 0
 OpensIt = (t : Trace) (words : List ℕ) (script : List Op) → IsWellFormed t → IsOpening t words → length t.layout.vcpu_domain ≡ 1 → OpensScript (fresh t.layout.frames 0 (domain_of t.layout 0) script) (first_port t words) (opening_solo t)
 
-same_some : {A : Type 0} (x y : A) (o : Option A) → o ≡ Some x → o ≡ Some y → x ≡ y
-same_some x y o a b = let k = sym a ∙ b in cc
-
 abbrev pub ClockWasOn : Type 0
 ClockWasOn = (v w : PortValue) → is_telling v ≡ true → told_word w Clock < last_clock → ClockGoesOn v w
 
 module _ (invisible : Invisible) (opens : OpensIt) (clock_was_on : ClockWasOn) (t : Trace) (gates : List Gate) (script : List Op) (closed : Stage) (last : Processing) (run : FinishesAlone t gates script closed last) where
-  abbrev first : Processing
-  first = fresh t.layout.frames 0 (domain_of t.layout 0) script
-
   pub run_comes : IsFairRun t run.ran.opened closed → RunComesTo t closed last (script_alone (owner_in t) script (opening_solo t)).log (script_alone (owner_in t) script (opening_solo t)).left
   run_comes fair =
-      let w = went t.layout _ first _ _ run.ran.works.worked run.ran.works.turns refl (record { one = first_length t.layout t.scripts ∙ (run.formed.scripts ∙ run.only); is = first_are t.layout t.scripts script run.script_is }) in
-      let same = same_some w.now last (slice_get run.ran.works.worked.cpus 0) w.only.is run.last_is in
-      let retired = subst (λ (k : Processing). k.retired ≡ true) (sym same) run.retired in
-      let still = stopped t.layout w.now _ run.ran.works.worked closed run.ran.works.stops w.only retired in
-      let turned = subst (λ (s : Stage). Turned first (first_port t run.ran.opened) w.now (port_on t.layout 0 s.board)) (sym still) w.turned in
-      let k = invisible first w.now (first_port t run.ran.opened) (port_on t.layout 0 closed.board) (opening_solo t) (opens t run.ran.opened script run.formed run.ran.opening run.only) turned retired (record { clock = clock_was_on (first_port t run.ran.opened) (port_on t.layout 0 closed.board) refl fair.clock; room = fair.room }) fair.fresh in
+      let w = all_turns t gates script closed last run in
+      let turned = subst (λ (s : Stage). Turned (first_in t script) (first_port t run.ran.opened) w.now (port_on t.layout 0 s.board)) (sym (no_stop t gates script closed last run)) w.turned in
+      let k = invisible (first_in t script) w.now (first_port t run.ran.opened) (port_on t.layout 0 closed.board) (opening_solo t) (opens t run.ran.opened script run.formed run.ran.opening run.only) turned (is_retired t gates script closed last run) (record { clock = clock_was_on (first_port t run.ran.opened) (port_on t.layout 0 closed.board) refl fair.clock; room = fair.room }) fair.fresh in
       record {
-        last_is = ap (λ (s : Stage). slice_get s.cpus 0) still ∙ run.last_is;
-        log = subst (λ (c : Processing). IsLog IsLogged c.log (script_alone (owner_in t) script (opening_solo t)).log) same k.0;
+        last_is = ap (λ cs. slice_get cs 0) (closing_cpus t gates script closed last run);
+        log = subst (λ (c : Processing). IsLog IsLogged c.log (script_alone (owner_in t) script (opening_solo t)).log) (is_last t gates script closed last run) k.0;
         words = k.1;
       }
 

@@ -1,4 +1,10 @@
+mod Bare
+mod Closing
 mod Ending
 mod Finishing
+mod Marks
 mod Opening
+mod Reading
+mod Reporting
+mod Retiring
 mod Ticking

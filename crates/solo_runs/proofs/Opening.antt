@@ -26,7 +26,7 @@ zero_kept : (sober (kind_fields 0)).kept ≡ false
 unfolding kind_fields
 zero_kept = refl
 
-none_in_hand : IsEmptyHand empty
+pub none_in_hand : IsEmptyHand empty
 none_in_hand = record { refs = refl; typed = refl; works = refl; locks = refl; ending = refl; claimed = refl; raised = refl; credits = refl; looking = refl }
 
 -- hands that are all empty

@@ -8,4 +8,5 @@ pub use pins::a_pin_that_leaves_the_clock_room_is_done_exactly_where_its_tree_is
 pub use runs::{
     a_clock_below_its_last_value_was_never_there, a_vcpu_opens_its_script,
     preemption_is_invisible_in_a_run, turns_and_pauses_do_not_matter,
+    turns_and_pauses_give_one_report,
 };

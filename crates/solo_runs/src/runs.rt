@@ -11,10 +11,12 @@ ghost use Rattle.machine_build.specs.Opening.{IsOpening};
 ghost use Rattle.xp_board.specs.Readings.{domain_of, last_clock};
 ghost use Rattle.xp_board.specs.Told.{PortValue, is_telling, told_word};
 ghost use Rattle.xp_preempt.specs.Gates.{Gate};
+ghost use Rattle.xp_machine.specs.Ran.{report_at};
 ghost use Rattle.xp_machine.specs.Turns.{Stage};
 ghost use Rattle.script_law.specs.Scripts.{script_alone};
 ghost use Rattle.script_laws.specs.Opening.{OpensScript};
 ghost use Rattle.solo_runs.specs.Finishing.{ComeToTheSame, RunComesTo, FinishesAlone, IsFairRun, first_port, opening_solo, owner_in, with_turns};
+ghost use Rattle.solo_runs.specs.Reports.{PrintsNoMark, bare_report};
 
 use opening_rule::opening_words_are_sound;
 use script_laws::preemption_is_invisible;
@@ -50,4 +52,15 @@ pub fn turns_and_pauses_do_not_matter()
         IsFairRun t run.ran.opened closed → IsFairRun (with_turns us t) again.ran.opened other → ComeToTheSame t closed last (with_turns us t) other ends }
 {
     preemption_is_invisible_in_a_run();
+}
+
+/// And they have one report of bare words, byte by byte. So the two reports differ at most in the mark `u` of frames whose type is not live, in the frames' lines and where a refusal
+/// shows a frame's word, and in whether a refusal found a frame without references free or just given back. Where neither report has any of this, they are the same bytes.
+pub fn turns_and_pauses_give_one_report()
+    ensures bare { (t : Trace) (us : List TurnRun) (gates others : List Gate) (script : List Op) (closed other : Stage) (last ends : Processing) (run : FinishesAlone t gates script closed last) (again : FinishesAlone (with_turns us t) others script other ends) →
+        IsFairRun t run.ran.opened closed → IsFairRun (with_turns us t) again.ran.opened other → bare_report t.layout closed ≡ bare_report t.layout other }
+    ensures printed { (t : Trace) (us : List TurnRun) (gates others : List Gate) (script : List Op) (closed other : Stage) (last ends : Processing) (run : FinishesAlone t gates script closed last) (again : FinishesAlone (with_turns us t) others script other ends) →
+        IsFairRun t run.ran.opened closed → IsFairRun (with_turns us t) again.ran.opened other → PrintsNoMark t.layout closed → PrintsNoMark t.layout other → report_at t.layout closed ≡ report_at t.layout other }
+{
+    turns_and_pauses_do_not_matter();
 }
