@@ -60,10 +60,6 @@ module _ (l : Laws) (neither : NeitherLostNorBusy) (v0 : PortValue) (real : (who
   ext_at list k v t (inl owes) = owed_at v t owes
   ext_at list k v t (inr kept) = record { value = t; came = kept.ahead.came; alive = kept.ahead.good; stands = (ext_keeping l neither v0 kept.element).stands v t kept.kept }
 
-  map_at : (foreign va word flags : ℕ) (v : PortValue) (t : Solo) → Owes v t ⊎ e.KeepsMap foreign va word flags v t → Stands v t
-  map_at foreign va word flags v t (inl owes) = stands_in l.stays neither v t owes
-  map_at foreign va word flags v t (inr kept) = (e.map_keeping foreign va word flags).stands v t kept
-
   task_at : (task : Option Task) (op call : ℕ) (at : Progress) (made : List LogLine) (v : PortValue) (b : Answered) → Left l neither v0 real e task op call at made v b → St v
   task_at None op call at made v b g = owed_at v g.value g.owes
   task_at (Some (OfPairs foreign list)) op call at made v b (inl g) = owed_at v g.0.value g.0.owes
@@ -72,7 +68,7 @@ module _ (l : Laws) (neither : NeitherLostNorBusy) (v0 : PortValue) (real : (who
   task_at (Some (OfExt list)) op call at made v b (inr g) = ext_at list at.done v g.value g.pending
   task_at (Some (OfMem command order items)) op call at made v b (inl g) = owed_at v g.0.value g.0.owes
   task_at (Some (OfMem command order items)) op call at made v b (inr g) = owed_at v g.value g.owes
-  task_at (Some (OfMapping foreign va word flags)) op call at made v b g = record { value = g.value; came = g.ahead.came; alive = g.ahead.good; stands = map_at foreign va word flags v g.value g.pending }
+  task_at (Some (OfMapping foreign va word flags)) op call at made v b g = owed_at v g.value g.owes
   task_at (Some (OfDescriptors t)) op call at made v b g = owed_at v g.value g.owes
   task_at (Some (OfRead user va)) op call at made v b g = owed_at v g.value g.owes
   task_at (Some (OfWrite user va val)) op call at made v b g = owed_at v g.value g.owes
@@ -103,7 +99,7 @@ module _ (l : Laws) (neither : NeitherLostNorBusy) (v0 : PortValue) (real : (who
   alone_is : (op : Op) (s : Solo) → s.lives (whose v0).domain ≡ 0 → op_alone (whose v0) op s ≡ live_alone (whose v0) op s
   alone_is op s alive = ap (alone_where (whose v0) op s) alive
 
-  -- the operations that the laws are about
+  -- where the own domain lives
   live_begins : (op : Op) (n : ℕ) (v : PortValue) (s : Solo) → Owed l neither v0 real e v s → GoingOp l neither v0 real e (job_of op) n begun [] v (live_alone (whose v0) op s)
   live_begins (ops.One call) n v s owes = subst (Left l neither v0 real e (task_in call) n 0 begun [] v) (sym (call_plain l neither v0 real e call 0 s)) (task_begins l neither v0 real e (task_in call) n 0 0 v s owes)
   live_begins (ops.Multi cs) n v s owes =

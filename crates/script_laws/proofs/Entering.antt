@@ -26,10 +26,9 @@ use Rattle.tlb_walks.specs.Addresses.{walk_refusal}
 use Rattle.script_law.specs.Elements.{pair_alone, updated}
 use Rattle.script_law.specs.Values.{Numbers, Outcome, Solo, allowed, of_domains}
 use Rattle.script_law.specs.Walks.{map_refusal, map_word, range_of, table_at, update_entry}
-use Rattle.solo_entries.specs.Exchanges.{ComesUnpaused}
 use Rattle.solo_entries.specs.Kept.{KeepsWrite}
 use Rattle.solo_entries.proofs.Writing.{unpaused_comes}
-use Rattle.solo_ports.specs.Coming.{Comes}
+use Rattle.solo_ports.specs.Coming.{Comes, ComesUnpaused}
 use Rattle.solo_ports.specs.Standing.{Clean, Fair, Stands, StaysAlike, nothing, whose}
 use Rattle.solo_ports.proofs.Along.{clean_on}
 use Rattle.solo_pins.proofs.Meaning.{Laws}
@@ -37,7 +36,7 @@ use Rattle.vcpu_turn.specs.Mappings.{UpdatesWord, is_bad_flags}
 use Rattle.vcpu_turn.specs.Mappings as mapping
 use Rattle.vcpu_turn.specs.Pairs.{FindsOwners}
 use Rattle.script_laws.proofs.Extents.{ExtentLaw}
-use Rattle.script_laws.proofs.Items.{IsKeeping, LawOf, none_kept}
+use Rattle.script_laws.proofs.Items.{IsKeeping, LawOf}
 use Rattle.script_laws.proofs.Owning.{found_had, found_none, owners_alike}
 use Rattle.script_laws.proofs.Premises.{fair_on}
 use Rattle.script_laws.proofs.Tasking.{Elements}
@@ -50,7 +49,7 @@ PairLaw = (v w : PortValue) (x : Solo) (o : Owners) (e : Element) (answers : Lis
 
 abbrev pub AtLaw : Type 0
 AtLaw = (v w : PortValue) (x : Solo) (o : Owners) (va word : ℕ) (answers : List Bool) (answer : Result (Unit {0}) Stop) → Clean v x → ClockGoesOn v w → UpdatesAt o va word v w answers answer →
-    ComesUnpaused w x (allowed (walk_refusal va) x (update_entry v.post.machine o va word x (table_at v.post.machine va x (x.own 0)))) answer
+    ComesUnpaused w (allowed (walk_refusal va) x (update_entry v.post.machine o va word x (table_at v.post.machine va x (x.own 0)))) answer
 
 abbrev pub KeptOn : Type 0
 KeptOn = (o : Owners) (e : Element) (v w : PortValue) (x : Solo) → StaysAlike v w → KeepsWrite o e v x → KeepsWrite o e w x
@@ -190,8 +189,6 @@ module _ (l : Laws) (neither : NeitherLostNorBusy) (kept_on : KeptOn) (pair : Pa
         KeepsPair = KeepsPair;
         pair_keeping = pair_keeping;
         pair_law = pair_law;
-        KeepsMap = λ foreign va word flags u x. ⊥;
-        map_keeping = λ foreign va word flags. none_kept l.stays neither v0 (Lives l.stays neither v0);
         map_law = map_law;
         extent_law = extent;
       }

@@ -2,6 +2,7 @@ pub mod Burying
 pub mod Calling
 pub mod Dropping
 pub mod Ending
+pub mod Entering
 pub mod Extending
 pub mod ExtLaws
 pub mod Extents
@@ -13,7 +14,6 @@ pub mod Moving
 pub mod Owning
 pub mod Pairing
 pub mod Premises
-pub mod Entering
 pub mod Opening
 pub mod Settling
 pub mod Showing

@@ -38,7 +38,7 @@ use Rattle.vcpu_turn.specs.declared.cpu.Progress.{Progress}
 use Rattle.vcpu_turn.proofs.Hindering.{descriptors_came, drops_came, reads_came, settles_came, word_came, writes_came}
 use Rattle.script_laws.specs.Logged.{AreLines}
 use Rattle.script_laws.proofs.Extending.{lives_on}
-use Rattle.script_laws.proofs.Items.{IsAhead, IsKeeping, LawOf, first_comes}
+use Rattle.script_laws.proofs.Items.{LawOf, first_comes, none_kept}
 use Rattle.script_laws.proofs.Listed.{no_lines}
 use Rattle.script_laws.proofs.Premises.{FairFrom, fair_back, fair_on}
 use Rattle.script_laws.proofs.Settling.{owes_clean, stands_in}
@@ -139,16 +139,14 @@ module _ (stays : AloneStays) (neither : NeitherLostNorBusy) (v0 : PortValue) (o
         (descriptors_come t v w s r (post_at v s g.owes) (owes_clean v s rests settled g.owes.owes) (fair_on v0 v w g.owes.ahead.came fair).fair does.does)
 
   -- ---- an update by address
-  module _ (foreign va word flags : ℕ) (KeepsMap : PortValue → Solo → Type 0) (keeping : IsKeeping stays neither v0 (Lives stays neither v0) KeepsMap)
-      (law : LawOf stays neither v0 (Lives stays neither v0) (λ v w asked r. UpdatesWord (whose v0).domain foreign va word flags v w asked r) KeepsMap (map_word (own stays neither v0) foreign va word flags))
+  module _ (foreign va word flags : ℕ) (law : LawOf stays neither v0 (Lives stays neither v0) (λ v w asked r. UpdatesWord (whose v0).domain foreign va word flags v w asked r) (λ u s. ⊥) (map_word (own stays neither v0) foreign va word flags))
       (drops : (u w : PortValue) (s : Solo) (r : Result (Unit {0}) Stop) → Came v0 u → Stands u s → FairFrom v0 w → DropsBehind (whose v0).domain flags va u w r → (r ≡ Ok tt) × StaysAlike u w) where
     abbrev pub mapped : Solo → Outcome
     mapped s = map_word (own stays neither v0) foreign va word flags s
 
     pub record MapGoing (at : Progress) (made : List LogLine) (v : PortValue) (b : Answered) : Type 0 where
       pub value : Solo
-      pub ahead : IsAhead stays neither v0 (Lives stays neither v0) v value
-      pub pending : Owes v value ⊎ KeepsMap v value
+      pub owes : OwesT stays neither v0 v value
       pub nothing : made ≡ []
       pub unset : at.done ≡ 0
       pub is : single (mapped value) ≡ b
@@ -157,17 +155,17 @@ module _ (stays : AloneStays) (neither : NeitherLostNorBusy) (v0 : PortValue) (o
     first_came v _ _ _ (settling.SettlesFirst.unsettled w answers stop settles) = settles_came v w answers (Err stop) settles
     first_came v _ _ _ (settling.SettlesFirst.performed u w early answers r settles does) = came_trans v u w (settles_came v u early (Ok tt) settles) (word_came (whose v0).domain foreign va word flags u w answers r does)
 
-    comes_first : (at : Progress) (made : List LogLine) (v w : PortValue) (b : Answered) (answers : List Bool) (r : Result (Unit {0}) Stop) (g : MapGoing at made v b) → FairFrom v0 w → SettlesFirst (UpdatesWord (whose v0).domain foreign va word flags) v w answers r → coming.Comes KeepsMap w g.value (mapped g.value) r
-    comes_first at made v w b answers r g fair first = first_comes stays neither v0 (Lives stays neither v0) (λ v w asked r. UpdatesWord (whose v0).domain foreign va word flags v w asked r) KeepsMap mapped keeping law v w g.value answers r g.ahead g.pending fair first
+    comes_first : (at : Progress) (made : List LogLine) (v w : PortValue) (b : Answered) (answers : List Bool) (r : Result (Unit {0}) Stop) (g : MapGoing at made v b) → FairFrom v0 w → SettlesFirst (UpdatesWord (whose v0).domain foreign va word flags) v w answers r → coming.Comes (λ u s. ⊥) w g.value (mapped g.value) r
+    comes_first at made v w b answers r g fair first =
+        first_comes stays neither v0 (Lives stays neither v0) (λ v w asked r. UpdatesWord (whose v0).domain foreign va word flags v w asked r) (λ u s. ⊥) mapped (none_kept stays neither v0 (Lives stays neither v0)) law v w g.value answers r g.owes.ahead (inl g.owes.owes) fair first
 
     same_by : (s : Solo) → SameDomains s (mapped s).left
     same_by s = maps_keep s (own stays neither v0) foreign va word flags s (itself s)
 
-    stopped_so : (at to : Progress) (made : List LogLine) (v w : PortValue) (b : Answered) (e : Stop) (g : MapGoing at made v b) → to.done ≡ 0 → Came v w → coming.Comes KeepsMap w g.value (mapped g.value) (Err e) → Comes stays neither v0 (λ to made w. MapGoing to made w b) op to made w b (Err e)
-    stopped_so at to made v w b (Refused r) g at0 on c =
-        refused_so to made w b (record (mapped g.value) { value = 0 }) r c.why g.nothing at0 c.is c.same c.none g.is
-        (record { ahead = record { came = came_trans v0 v w g.ahead.came on; good = lives_on v0 g.value (mapped g.value).left (same_by g.value) g.ahead.good }; owes = c.owes })
-    stopped_so at to made v w b (Paused p) g at0 on c = record { value = g.value; ahead = record { came = came_trans v0 v w g.ahead.came on; good = g.ahead.good }; pending = c; nothing = g.nothing; unset = at0; is = g.is }
+    stopped_so : (at to : Progress) (made : List LogLine) (v w : PortValue) (b : Answered) (e : Stop) (g : MapGoing at made v b) → to.done ≡ 0 → Came v w → coming.Comes (λ u s. ⊥) w g.value (mapped g.value) (Err e) → Comes stays neither v0 (λ to made w. MapGoing to made w b) op to made w b (Err e)
+    stopped_so at to made v w b (Refused r) g at0 on c = refused_so to made w b (record (mapped g.value) { value = 0 }) r c.why g.nothing at0 c.is c.same c.none g.is (owned v w g.value (mapped g.value).left g.owes on (same_by g.value) c.owes)
+    stopped_so at to made v w b (Paused p) g at0 on (inl left) = record { value = g.value; owes = record { ahead = record { came = came_trans v0 v w g.owes.ahead.came on; good = g.owes.ahead.good }; owes = left }; nothing = g.nothing; unset = at0; is = g.is }
+    stopped_so at to made v w b (Paused p) g at0 on (inr kept) = absurd kept
 
     pub map_work : (awaited : Option ℕ) (at to : Progress) (made : List LogLine) (v w : PortValue) (b : Answered) (answers : List Bool) (r : Result (Unit {0}) Stop) (from last : ℕ) → at.done ≡ from → to.done ≡ last → MapsWord (whose v0).domain foreign va word flags awaited v from last w answers r → FairFrom v0 w → MapGoing at made v b →
         Comes stays neither v0 (λ to made w. MapGoing to made w b) op to made w b (valued r)
@@ -175,10 +173,10 @@ module _ (stays : AloneStays) (neither : NeitherLostNorBusy) (v0 : PortValue) (o
     map_work awaited at to made v _ b _ _ _ _ is there (mapping.MapsWord.set u w answers answer first behind) fair g =
         let on = first_came v u answers (Ok tt) first in
         let c = comes_first at made v u b answers (Ok tt) g (fair_back v0 u w (drops_came (whose v0).domain flags va u w answer behind) fair) first in
-        let dropped = drops u w (mapped g.value).left answer (came_trans v0 v u g.ahead.came on) (stands_in stays neither u (mapped g.value).left c.owes) fair behind in
+        let dropped = drops u w (mapped g.value).left answer (came_trans v0 v u g.owes.ahead.came on) (stands_in stays neither u (mapped g.value).left c.owes) fair behind in
         subst (λ y. Comes stays neither v0 (λ to made w. MapGoing to made w b) op to made w b (valued y)) (sym dropped.0)
         (fine_so to made w b (record (mapped g.value) { value = 0 }) 0 g.nothing (there ∙ ap done_behind dropped.0) c.fine c.none refl g.is
-        (record { ahead = record { came = came_trans v0 v w g.ahead.came (came_trans v u w on dropped.1.came); good = lives_on v0 g.value (mapped g.value).left (same_by g.value) g.ahead.good }; owes = owes_on stays u w (mapped g.value).left dropped.1 c.owes }))
+        (owned v w g.value (mapped g.value).left g.owes (came_trans v u w on dropped.1.came) (same_by g.value) (owes_on stays u w (mapped g.value).left dropped.1 c.owes)))
     map_work awaited at to made v _ b _ _ _ _ is there (mapping.MapsWord.waited w answer waits) fair g = absurd (let zero_at = g.unset in omega arith)
 
   -- ---- one that is not built

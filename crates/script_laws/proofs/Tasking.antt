@@ -44,15 +44,13 @@ zeroed (Ok done) = refl
 zeroed (Err e) = refl
 
 -- ---- the laws of elements
--- those of pairs and of updates by address keep what was paused so
+-- those of pairs keep what was paused so; updates by address are never paused
 pub record Elements (l : Laws) (neither : NeitherLostNorBusy) (v0 : PortValue) : Type 1 where
   pub KeepsPair : Owners → Pair → PortValue → Solo → Type 0
   pub pair_keeping : (foreign : ℕ) (p : Pair) → IsKeeping l.stays neither v0 (MayName l.stays neither v0 foreign) (KeepsPair (owners_of l.stays neither v0 foreign) p)
   pub pair_law : (foreign : ℕ) (p : Pair) →
       LawOf l.stays neither v0 (MayName l.stays neither v0 foreign) (λ v w asked r. Updates (owners_of l.stays neither v0 foreign) (pairs.element_of p) v w asked r) (KeepsPair (owners_of l.stays neither v0 foreign) p) (pair_alone (own l.stays neither v0) (owners_of l.stays neither v0 foreign) p)
-  pub KeepsMap : (foreign va word flags : ℕ) → PortValue → Solo → Type 0
-  pub map_keeping : (foreign va word flags : ℕ) → IsKeeping l.stays neither v0 (Lives l.stays neither v0) (KeepsMap foreign va word flags)
-  pub map_law : (foreign va word flags : ℕ) → LawOf l.stays neither v0 (Lives l.stays neither v0) (λ v w asked r. UpdatesWord (whose v0).domain foreign va word flags v w asked r) (KeepsMap foreign va word flags) (map_word (own l.stays neither v0) foreign va word flags)
+  pub map_law : (foreign va word flags : ℕ) → LawOf l.stays neither v0 (Lives l.stays neither v0) (λ v w asked r. UpdatesWord (whose v0).domain foreign va word flags v w asked r) (λ u s. ⊥) (map_word (own l.stays neither v0) foreign va word flags)
   pub extent_law : ExtentLaw
 
 module _ (l : Laws) (neither : NeitherLostNorBusy) (v0 : PortValue) (real : (whose v0).domain < length v0.post.machine.page_limit) (e : Elements l neither v0) where
@@ -85,7 +83,7 @@ module _ (l : Laws) (neither : NeitherLostNorBusy) (v0 : PortValue) (real : (who
   TaskGoing (Some (OfPairs foreign list)) op call at made v b = PairsGoing l.stays neither v0 e.KeepsPair e.pair_keeping e.pair_law real op foreign list at made v b
   TaskGoing (Some (OfExt list)) op call at made v b = ExtGoing l.stays neither v0 (KeepsExt l neither v0) (ext_keeping l neither v0) (ext_law l neither v0) op list at made v b
   TaskGoing (Some (OfMem command order items)) op call at made v b = ExtentsGoing l.stays neither v0 op call command order items at made v b
-  TaskGoing (Some (OfMapping foreign va word flags)) op call at made v b = MapGoing l.stays neither v0 op foreign va word flags (e.KeepsMap foreign va word flags) (e.map_keeping foreign va word flags) (e.map_law foreign va word flags) (dropped va flags) at made v b
+  TaskGoing (Some (OfMapping foreign va word flags)) op call at made v b = MapGoing l.stays neither v0 op foreign va word flags (e.map_law foreign va word flags) (dropped va flags) at made v b
   TaskGoing (Some (OfDescriptors t)) op call at made v b = Begins l.stays neither v0 made v b (λ s. single (descriptors_alone l.stays neither v0 t s))
   TaskGoing (Some (OfRead user va)) op call at made v b = Begins l.stays neither v0 made v b (λ s. once (read_at (whose v0).machine user va s))
   TaskGoing (Some (OfWrite user va val)) op call at made v b = Begins l.stays neither v0 made v b (λ s. once (write_at (whose v0).machine user va val s))
@@ -95,7 +93,7 @@ module _ (l : Laws) (neither : NeitherLostNorBusy) (v0 : PortValue) (real : (who
   task_begins (Some (OfPairs foreign list)) op call k v s owes = inl (record { value = s; owes = owes; nothing = refl; is = refl }, refl)
   task_begins (Some (OfExt list)) op call k v s owes = inl (record { value = s; owes = owes; nothing = refl; is = refl }, refl)
   task_begins (Some (OfMem command order items)) op call k v s owes = inl (record { value = s; owes = owes; nothing = refl; is = refl }, refl, refl)
-  task_begins (Some (OfMapping foreign va word flags)) op call k v s owes = record { value = s; ahead = owes.ahead; pending = inl owes.owes; nothing = refl; unset = refl; is = refl }
+  task_begins (Some (OfMapping foreign va word flags)) op call k v s owes = record { value = s; owes = owes; nothing = refl; unset = refl; is = refl }
   task_begins (Some (OfDescriptors t)) op call k v s owes = record { value = s; owes = owes; nothing = refl; is = refl }
   task_begins (Some (OfRead user va)) op call k v s owes = record { value = s; owes = owes; nothing = refl; is = refl }
   task_begins (Some (OfWrite user va val)) op call k v s owes = record { value = s; owes = owes; nothing = refl; is = refl }
@@ -127,7 +125,7 @@ module _ (l : Laws) (neither : NeitherLostNorBusy) (v0 : PortValue) (real : (who
   task_work (Some (OfMapping foreign va word flags)) op call at to made log log' v w b asked r went fair rests settled g =
       none_made (Some (OfMapping foreign va word flags)) op call to log log' made w b r went.lines
       (subst (λ y. TaskComes (Some (OfMapping foreign va word flags)) op call to made w b y) (sym went.works.answer_is)
-      (map_work l.stays neither v0 op foreign va word flags (e.KeepsMap foreign va word flags) (e.map_keeping foreign va word flags) (e.map_law foreign va word flags) (dropped va flags) at.awaited at to made v w b asked went.works.ended at.done to.done refl refl went.works.works fair g))
+      (map_work l.stays neither v0 op foreign va word flags (e.map_law foreign va word flags) (dropped va flags) at.awaited at to made v w b asked went.works.ended at.done to.done refl refl went.works.works fair g))
   task_work (Some (OfDescriptors t)) op call at to made log log' v w b asked r went fair rests settled g =
       none_made (Some (OfDescriptors t)) op call to log log' made w b r went.lines
       (subst (λ y. TaskComes (Some (OfDescriptors t)) op call to made w b y) (sym went.works.answer_is) (descriptors_work l.stays neither v0 op l.nobody t to made v w b asked went.works.ended went.works.works fair rests settled g))
@@ -162,10 +160,6 @@ module _ (l : Laws) (neither : NeitherLostNorBusy) (v0 : PortValue) (real : (who
   ext_moved list at v w t m (inr kept) =
       inr (record { ahead = ahead_moved (Lives l.stays neither v0) v w t m.came kept.ahead; element = kept.element; at = kept.at; kept = m.kept (Lives l.stays neither v0) (KeepsExt l neither v0 kept.element) (ext_keeping l neither v0 kept.element) t kept.kept })
 
-  map_moved : (foreign va word flags : ℕ) (v w : PortValue) (t : Solo) → Moving v w → Owes v t ⊎ e.KeepsMap foreign va word flags v t → Owes w t ⊎ e.KeepsMap foreign va word flags w t
-  map_moved foreign va word flags v w t m (inl owes) = inl (m.owes t owes)
-  map_moved foreign va word flags v w t m (inr kept) = inr (m.kept (Lives l.stays neither v0) (e.KeepsMap foreign va word flags) (e.map_keeping foreign va word flags) t kept)
-
   pub task_moved : (task : Option Task) (op call : ℕ) (at : Progress) (made : List LogLine) (v w : PortValue) (b : Answered) → Moving v w → TaskGoing task op call at made v b → TaskGoing task op call at made w b
   task_moved None op call at made v w b m g = begins_moved made v w b _ m g
   task_moved (Some (OfPairs foreign list)) op call at made v w b m (inl g) = inl (begins_moved made v w b _ m g.0, g.1)
@@ -178,7 +172,7 @@ module _ (l : Laws) (neither : NeitherLostNorBusy) (v0 : PortValue) (real : (who
   task_moved (Some (OfMem command order items)) op call at made v w b m (inr g) =
       inr (record { checked = g.checked; some = g.some; value = g.value; owes = owes_moved (Lives l.stays neither v0) v w g.value m g.owes; begun = g.begun; within = g.within; most = g.most; lines = g.lines; made_are = g.made_are; is = g.is })
   task_moved (Some (OfMapping foreign va word flags)) op call at made v w b m g =
-      record { value = g.value; ahead = ahead_moved (Lives l.stays neither v0) v w g.value m.came g.ahead; pending = map_moved foreign va word flags v w g.value m g.pending; nothing = g.nothing; unset = g.unset; is = g.is }
+      record { value = g.value; owes = owes_moved (Lives l.stays neither v0) v w g.value m g.owes; nothing = g.nothing; unset = g.unset; is = g.is }
   task_moved (Some (OfDescriptors t)) op call at made v w b m g = begins_moved made v w b _ m g
   task_moved (Some (OfRead user va)) op call at made v w b m g = begins_moved made v w b _ m g
   task_moved (Some (OfWrite user va val)) op call at made v w b m g = begins_moved made v w b _ m g

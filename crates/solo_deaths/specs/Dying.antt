@@ -49,6 +49,7 @@ AreLeft (x ∷ xs) (l ∷ ls) = IsLeftLine x l × AreLeft xs ls
 AreLeft _ _ = ⊥
 
 -- ---- how far it has come
+-- behind the beginning: the domain is one of the machine's, and not the own one
 abbrev pub IsOtherThen : Whose → ℕ → DestroyAt → Type 0
 IsOtherThen w d Begins = Unit {0}
 IsOtherThen w d at = (d < length w.machine.page_limit) × (w.domain ≢ d)

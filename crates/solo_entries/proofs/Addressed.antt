@@ -49,13 +49,12 @@ use Rattle.course_laws.specs.Courses.{ClockGoesOn}
 use Rattle.script_law.specs.Frames.{write_entry}
 use Rattle.script_law.specs.Values.{Frames, Numbers, Outcome, Solo, allowed, looked_by, stopped}
 use Rattle.script_law.specs.Walks.{table_at, update_entry}
-use Rattle.solo_ports.specs.Coming.{IsRefusedSo}
+use Rattle.solo_ports.specs.Coming.{ComesUnpaused, IsRefusedSo}
 use Rattle.solo_ports.specs.Standing.{Clean, Owes, ShowsOthers, nothing}
 use Rattle.solo_ports.proofs.Resting.{clean_rests}
 use Rattle.solo_accesses.specs.Walking.{LoadsCome}
 use Rattle.solo_accesses.proofs.Loading.{loads_come}
 use Rattle.solo_entries.proofs.Exchanging.{given_came}
-use Rattle.solo_entries.specs.Exchanges.{ComesUnpaused}
 use Rattle.solo_entries.proofs.Known.{Known}
 use Rattle.solo_entries.proofs.Locking.{lends}
 use Rattle.solo_entries.proofs.Mapping.{fine_by, looked_at, unlooked}
@@ -63,7 +62,7 @@ use Rattle.solo_entries.proofs.Memory as memory
 use Rattle.solo_entries.proofs.Olds.{gave_keeps, keeps_then, locked_keeps, ref_keeps, three_five, three_four, two_five, two_four}
 use Rattle.solo_entries.proofs.Serving.{at_quiet}
 use Rattle.solo_entries.proofs.Standing.{KeepsOthers, keeps_others, owes_same}
-use Rattle.solo_entries.proofs.Stopping.{IsUnlost, unlost_alone}
+use Rattle.solo_entries.proofs.Stopping.{IsNotLost, never_lost_alone}
 use Rattle.solo_entries.proofs.Writes as writes
 use Rattle.solo_entries.proofs.Writing.{owes_left, put_lost}
 
@@ -77,7 +76,7 @@ other_level (suc (suc (suc (suc l)))) off = refl
 
 -- ---- steps of one port
 -- an exchange that was not lost
-exchange_came : (y w : PortValue) (t : EntryUpdate) (o : Owners) (answers : List Bool) (answer : Result (Unit {0}) Stop) → is_telling y ≡ true → IsUnlost answer → Exchanged y t o w answers answer → Came y w
+exchange_came : (y w : PortValue) (t : EntryUpdate) (o : Owners) (answers : List Bool) (answer : Result (Unit {0}) Stop) → is_telling y ≡ true → IsNotLost answer → Exchanged y t o w answers answer → Came y w
 exchange_came y _ t o _ _ tells unlost (course.bad u w seen saw bad lock) = came_trans y u w (moves_came y u _ _ _ _ _ saw) (lock_came u w t.table t.level lock)
 exchange_came y _ t o _ _ tells unlost (course.same u z w seen was saw alike puts lock) =
     came_trans y u w (moves_came y u _ _ _ _ _ saw) (came_trans u z w (put_came u z t.table t.index seen (word_kept t.keep seen t.word) t.keep (Ok was) puts) (lock_came z w t.table t.level lock))
@@ -93,7 +92,7 @@ exchange_came y _ t o _ _ tells unlost (course.done u z a b w seen was answers m
 tried_came : (v u y : PortValue) (f owner : ℕ) (r : Result Locked Stop) → GotRef v u f owner (Ok f) → TriedLock u y f owner r → Came v y
 tried_came v u y f owner r ref lock = came_trans v u y (ref_came v u f owner (Ok f) ref) (does_came u y _ lock.found)
 
-entered_came : (v w : PortValue) (o : Owners) (f i word : ℕ) (answers : List Bool) (answer : Result (Unit {0}) Stop) → is_telling v ≡ true → IsUnlost answer → EnteredAt v o f i word w answers answer → Came v w
+entered_came : (v w : PortValue) (o : Owners) (f i word : ℕ) (answers : List Bool) (answer : Result (Unit {0}) Stop) → is_telling v ≡ true → IsNotLost answer → EnteredAt v o f i word w answers answer → Came v w
 entered_came v _ o f i word _ _ tells unlost (ways.unreferred w stop ref) = ref_came v w f o.tables (Err stop) ref
 entered_came v _ o f i word _ _ tells unlost (ways.unlocked u y w stop ref lock gave) = came_trans v y w (tried_came v u y f o.tables (Err stop) ref lock) (gave_came y w f gave)
 entered_came v _ o f i word _ _ tells unlost (ways.other u y w found ref lock gave) = came_trans v y w (tried_came v u y f o.tables (Ok (Other found)) ref lock) (gave_came y w f gave)
@@ -131,7 +130,7 @@ module _ (k : Known) (v w : PortValue) (x : Solo) (o : Owners) (f va word : ℕ)
       (record { why = Frames (OtherType f kinds.L1 (x.frames.kinds f)); is = refl; same = (refl, refl, same); none = refl; owes = owes })
 
   -- ---- the reference is not to be had
-  unreferred : (e : Stop) → GotRef v w f o.tables (Err e) → ComesUnpaused w x (update_entry n o va word x (Ok f)) (Err e)
+  unreferred : (e : Stop) → GotRef v w f o.tables (Err e) → ComesUnpaused w (update_entry n o va word x (Ok f)) (Err e)
   unreferred (Refused z) ref = unlooked k v w x clean o.tables f z looked_so (ref.plain telling).0 (owes_same k v w x clean others.came (ref.plain telling).1 others.rests)
   unreferred (Paused z) ref = absurd (ref.plain telling)
 
@@ -186,13 +185,13 @@ module _ (k : Known) (v w : PortValue) (x : Solo) (o : Owners) (f va word : ℕ)
         (writes.slot_left k v w x o f (index_of va 1) word false clean goes others u y level found ref lock left)
 
   -- ---- the whole
-  pub entered_comes : (answers : List Bool) (answer : Result (Unit {0}) Stop) → IsUnlost answer → EnteredAt v o f (index_of va 1) word w answers answer → ComesUnpaused w x (update_entry v.post.machine o va word x (Ok f)) answer
+  pub entered_comes : (answers : List Bool) (answer : Result (Unit {0}) Stop) → IsNotLost answer → EnteredAt v o f (index_of va 1) word w answers answer → ComesUnpaused w (update_entry v.post.machine o va word x (Ok f)) answer
   entered_comes _ _ unlost (ways.unreferred _ stop ref) = unreferred stop ref
   entered_comes _ _ unlost (ways.unlocked u y _ stop ref lock gave) = absurd (writes.unlocked k v w x o f (index_of va 1) word false clean goes others u y stop ref lock)
   entered_comes _ _ unlost (ways.other u y _ found ref lock gave) = other u y found ref lock gave
   entered_comes _ _ unlost (ways.level u y _ level found ref lock apart left) = of_level u y level found ref lock apart left
   entered_comes _ _ unlost (ways.exchanged u y _ found answers answer ref lock went) =
-      subst (λ t. ComesUnpaused w x t answer) (sym (is_here (ref.plain telling).0 ∙ ap here (by_type u y 1 found ref lock true refl)))
+      subst (λ t. ComesUnpaused w t answer) (sym (is_here (ref.plain telling).0 ∙ ap here (by_type u y 1 found ref lock true refl)))
       (elim (writes.entry_comes k v w x o f (index_of va 1) word false clean goes others u y 1 found ref lock (omega arith) answers answer went unlost) [
         | inl p ↦ absurd (let two = p.paused.two in omega (arith, two))
         | inr c ↦ c
@@ -204,7 +203,7 @@ module _ (k : Known) (v w : PortValue) (x : Solo) (o : Owners) (va word : ℕ) (
   update t = update_entry v.post.machine o va word x t
 
   abbrev Plainly : Result (Unit {0}) Stop → Type 0
-  Plainly answer = ComesUnpaused w x (allowed (walk_refusal va) x (update_entry v.post.machine o va word x (table_at v.post.machine va x (x.own 0)))) answer
+  Plainly answer = ComesUnpaused w (allowed (walk_refusal va) x (update_entry v.post.machine o va word x (table_at v.post.machine va x (x.own 0)))) answer
 
   -- the loads lead to no table
   unled : (e : Stop) → LoadsCome v.post.machine va x (Err e) → Clean w x → Plainly (Err e)
@@ -222,28 +221,28 @@ module _ (k : Known) (v w : PortValue) (x : Solo) (o : Owners) (va word : ℕ) (
     loads : LoadsCome v.post.machine va x (Ok table) × Clean u x
     loads = loads_come k.stays v u x va clean (Ok table) leads
 
-    led : (answers : List Bool) (answer : Result (Unit {0}) Stop) → Came u w → KeepsOthers v w x → IsUnlost answer → EnteredAt u o table (index_of va 1) word w answers answer → Plainly answer
+    led : (answers : List Bool) (answer : Result (Unit {0}) Stop) → Came u w → KeepsOthers v w x → IsNotLost answer → EnteredAt u o table (index_of va 1) word w answers answer → Plainly answer
     led answers answer came others unlost enters =
         let same = came_post v u to_u in
         let there = entered_comes k u w x o table va word loads.1 (λ m met at. goes m (met_after v u w m to_u met) at)
         (record { came = came; others = subst (λ (j : Post). ShowsOthers j.machine j.vcpu (told_word w) x) (sym same) others.others; rests = others.rests }) answers answer unlost enters in
-        let here = subst (λ (j : Post). ComesUnpaused w x (update_entry j.machine o va word x (Ok table)) answer) same there in
-        subst (λ t. ComesUnpaused w x (allowed t x (update (table_at v.post.machine va x (x.own 0)))) answer) (sym loads.0.0) (subst (λ t. ComesUnpaused w x (update t) answer) (sym loads.0.1) here)
+        let here = subst (λ (j : Post). ComesUnpaused w (update_entry j.machine o va word x (Ok table)) answer) same there in
+        subst (λ t. ComesUnpaused w (allowed t x (update (table_at v.post.machine va x (x.own 0)))) answer) (sym loads.0.0) (subst (λ t. ComesUnpaused w (update t) answer) (sym loads.0.1) here)
 
   updated_comes : (answers : List Bool) (answer : Result (Unit {0}) Stop) → UpdatesAt o va word v w answers answer → Plainly answer
   updated_comes answers answer a =
       by a.table answers answer a.course (keeps_others v w x (of_at o va a.table word answer) a.serves.0 clean.stands a.serves.2 (at_quiet v.post.machine v.post.vcpu o va a.table word answer a.serves.0 a.serves.1) a.rests)
-      (unlost_alone k v w (of_at o va a.table word answer) answer clean.stands.alone refl a.stops)
+      (never_lost_alone k v w (of_at o va a.table word answer) answer clean.stands.alone refl a.stops)
     where
       telling : is_telling v ≡ true
       telling = alone_telling v clean.stands.alone
 
-      by : (table : ℕ) (answers : List Bool) (answer : Result (Unit {0}) Stop) → UpdatedAt v o va word table w answers answer → KeepsOthers v w x → IsUnlost answer → Plainly answer
+      by : (table : ℕ) (answers : List Bool) (answer : Result (Unit {0}) Stop) → UpdatedAt v o va word table w answers answer → KeepsOthers v w x → IsNotLost answer → Plainly answer
       by table _ _ (ways.unled _ stop out leads) others unlost = let l = loads_come k.stays v w x va clean (Err stop) leads in unled stop l.0 l.1
       by table _ _ (ways.led u _ answers answer leads enters) others unlost =
           let tells = came_telling v u (to_u u table leads) ∙ telling in
           led u table leads answers answer (entered_came u w o table (index_of va 1) word answers answer tells unlost enters) others unlost enters
 
 pub at_comes : (k : Known) (v w : PortValue) (x : Solo) (o : Owners) (va word : ℕ) (answers : List Bool) (answer : Result (Unit {0}) Stop) → Clean v x → ClockGoesOn v w → UpdatesAt o va word v w answers answer →
-    ComesUnpaused w x (allowed (walk_refusal va) x (update_entry v.post.machine o va word x (table_at v.post.machine va x (x.own 0)))) answer
+    ComesUnpaused w (allowed (walk_refusal va) x (update_entry v.post.machine o va word x (table_at v.post.machine va x (x.own 0)))) answer
 at_comes k v w x o va word answers answer clean goes a = updated_comes k v w x o va word clean goes answers answer a

@@ -1,4 +1,4 @@
--- Of a write that goes on: the level of its table, the table that its new word asks, and what it does not stop for.
+-- Of a write that goes on: the level of its table, and the table that its new word asks.
 use Rattle.std.proofs.Common.{◌≡◌, ◌≤◌, ℕ, zero, suc, ◌-◌, Bool, List, Result, Ok, Err, refl, sym, ap, ◌∙◌, subst, arith}
 use Rattle.xp_words.specs.PageTypes.{is_table, type_number}
 use Rattle.xp_words.specs.declared.entry.Demand.{Demand}

@@ -1,6 +1,6 @@
 -- A write that began, and that the gate paused under the lock of its table: what does not change while it is kept.
-use Rattle.solo_entries.specs.Exchanges.{IsLockedTable}
-use Rattle.solo_entries.specs.Kept.{IsUnlocked, KeepsEntry}
+use Rattle.solo_entries.specs.Exchanges.{HasTwoTypeCounts}
+use Rattle.solo_entries.specs.Kept.{HasBegun, IsUnlockedTable, KeepsEntry}
 use Rattle.std.proofs.Common.{◌≡◌, ◌≢◌, ◌<◌, ◌≤◌, ℕ, ◌-◌, ◌==◌, ◌&&◌, nat_le, nat_lt, not, if◌then◌else◌, Bool, true, false, List, length, None, Some, Result, Ok, refl, sym, ap, ◌∙◌, subst, arith}
 use Rattle.std.proofs.lemmas.Bool.{and_parts}
 use Rattle.std.proofs.lemmas.Bool.Decides.{nat_tests}
@@ -59,49 +59,28 @@ use Rattle.solo_entries.proofs.Lasting.{IsLockedIn, IsUnderLock}
 use Rattle.solo_entries.proofs.Olds.{acquired_keeps, keeps_then, locked_keeps, moves_keeps, ref_keeps, three_five, three_four, three_two}
 use Rattle.solo_entries.proofs.Standing.{is_counting, machine_same, stands_with}
 
--- as `KeepsEntry` has it, on that machine by that vCPU
-pub record Begun (n : Machine) (s : ℕ) (o : Owners) (f i word : ℕ) (keep : Bool) (x : Solo) : Type 0 where
-  pub level : ℕ
-  pub two : 2 ≤ level
-  pub high : level ≤ 4
-  pub open_slot : is_slot (level_type level) i ≡ false
-  pub lockable : is_lockable (x.frames.kinds f) ≡ true
-  pub typed : (x.frames.kinds f).kind ≡ level_type level
-  pub taken : Plain
-  pub takes : take_reference n o.tables f x.frames ≡ fine taken
-  pub asked : ℕ
-  pub asks : demand_at (level_type level) i (word_kept keep (x.frames.cells f i) word) ≡ Typed asked (level_type (level - 1))
-  pub differ : same_demand (demand_at (level_type level) i (word_kept keep (x.frames.cells f i) word)) (demand_at (level_type level) i (x.frames.cells f i)) ≡ false
-  pub from : PortValue
-  pub machine : from.post.machine ≡ n
-  pub vcpu : from.post.vcpu ≡ s
-  pub rest : IsAtRest from.post.machine (told_word from)
-  pub orderly : IsOrderly from.post.machine (told_word from)
-  pub clear : told_word from (old_place from.post.vcpu First) ≡ 0
-  pub frames : Describes from.post.machine (told_word from) (under_lock f taken)
-
--- of what is kept
-abbrev pub begun_of : (o : Owners) (f i word : ℕ) (keep : Bool) (v : PortValue) (x : Solo) → KeepsEntry o f i word keep v x → Begun v.post.machine v.post.vcpu o f i word keep x
-begun_of o f i word keep v x e =
+-- on a machine that is the same
+abbrev pub begun_there : (n m : Machine) (s t : ℕ) (o : Owners) (f i word : ℕ) (keep : Bool) (x : Solo) → m ≡ n → t ≡ s → HasBegun n s o f i word keep x → HasBegun m t o f i word keep x
+begun_there n m s t o f i word keep x same own b =
     record {
-      level = e.level;
-      two = e.two;
-      high = e.high;
-      open_slot = e.open_slot;
-      lockable = e.lockable;
-      typed = e.typed;
-      taken = e.taken;
-      takes = e.takes;
-      asked = e.asked;
-      asks = e.asks;
-      differ = e.differ;
-      from = e.from;
-      machine = e.machine;
-      vcpu = e.vcpu;
-      rest = e.rest;
-      orderly = e.orderly;
-      clear = e.clear;
-      frames = e.frames;
+      level = b.level;
+      two = b.two;
+      high = b.high;
+      open_slot = b.open_slot;
+      lockable = b.lockable;
+      typed = b.typed;
+      taken = b.taken;
+      takes = subst (λ (j : Machine). take_reference j o.tables f x.frames ≡ fine b.taken) (sym same) b.takes;
+      asked = b.asked;
+      asks = b.asks;
+      differ = b.differ;
+      from = b.from;
+      machine = b.machine ∙ sym same;
+      vcpu = b.vcpu ∙ sym own;
+      rest = b.rest;
+      orderly = b.orderly;
+      clear = b.clear;
+      frames = b.frames;
     }
 
 -- ---- a plain reference that is fine is one of a frame of that owner
@@ -122,7 +101,7 @@ calls_tell f owner level v _ (repeated.first x u answers told a finds on) = told
 calls_tell f owner level v _ (repeated.again y x u answers before a finds on) = calls_tell f owner level v y before
 
 -- ---- the plain values
-module _ (n : Machine) (c : ℕ) (o : Owners) (f i word : ℕ) (keep : Bool) (x : Solo) (b : Begun n c o f i word keep x) where
+module _ (n : Machine) (c : ℕ) (o : Owners) (f i word : ℕ) (keep : Bool) (x : Solo) (b : HasBegun n c o f i word keep x) where
   none : (take_reference n o.tables f x.frames).refusal ≡ None
   none = ap (λ (a : PlainOutcome). a.refusal) b.takes
 
@@ -159,7 +138,7 @@ module _ (n : Machine) (c : ℕ) (o : Owners) (f i word : ℕ) (keep : Bool) (x 
   pub under : IsUnderLock b.level ((under_lock f b.taken).kinds f)
   under = subst (IsUnderLock b.level) (sym kind_here) (record { live = live; locked = refl; several = (let a = some in omega (arith, a)); kind = b.typed })
 
-  pub held : IsLockedTable f (under_lock f b.taken)
+  pub held : HasTwoTypeCounts f (under_lock f b.taken)
   held = record { live = under.live; several = under.several }
 
   kept_by : (g : ℕ) (d : Bool) → (g == f) ≡ d → (b.taken.kinds g).kept ≡ false → (if d then locked_kind (b.taken.kinds f) else b.taken.kinds g).kept ≡ false
@@ -188,7 +167,7 @@ module _ (n : Machine) (c : ℕ) (o : Owners) (f i word : ℕ) (keep : Bool) (x 
       ∙ ap (λ l. exchange_at n o l f i word keep (with_frames b.taken x)) number))))
 
 -- ---- behind paused calls
-module _ (k : Known) (n : Machine) (c : ℕ) (o : Owners) (f i word : ℕ) (keep : Bool) (x : Solo) (machine : IsMachine n) (b : Begun n c o f i word keep x) where
+module _ (k : Known) (n : Machine) (c : ℕ) (o : Owners) (f i word : ℕ) (keep : Bool) (x : Solo) (machine : IsMachine n) (b : HasBegun n c o f i word keep x) where
   pub machine_from : IsMachine b.from.post.machine
   machine_from = subst IsMachine (sym b.machine) machine
 
@@ -232,7 +211,7 @@ second_stays v u y c z f i owner of locked seen g l answers r telling ref lock s
     (keeps_then v.post.vcpu 3 three_four three_five (moves_keeps v.post.vcpu 3 three_four three_five y c (Cell f i) _ _ _ _ saw (λ e. cc)) (acquired_keeps v.post.vcpu 3 three_four three_five three_two c g of l z answers r had))) telling).same
 
 -- ---- the last call was paused, and the lock goes off: it is kept
-module _ (k : Known) (v z w : PortValue) (x : Solo) (o : Owners) (f i word : ℕ) (keep : Bool) (b : Begun v.post.machine v.post.vcpu o f i word keep x) (stands : Stands v x) (before : Came v z)
+module _ (k : Known) (v z w : PortValue) (x : Solo) (o : Owners) (f i word : ℕ) (keep : Bool) (b : HasBegun v.post.machine v.post.vcpu o f i word keep x) (stands : Stands v x) (before : Came v z)
     (calls : PausedCalls b.asked o.tables (b.level - 1) b.from z) (off_it : LeftLock z f b.level w) (second : told_word z (old_place v.post.vcpu Second) ≡ told_word v (old_place v.post.vcpu Second))
     (r : Request) (ds : List Deed) (serves : Serves v w r ds) (quiet : IsQuiet v.post.vcpu r ds) (rests : Rests w) where
   low : 1 ≤ b.level
@@ -272,25 +251,8 @@ module _ (k : Known) (v z w : PortValue) (x : Solo) (o : Owners) (f i word : ℕ
       record {
         stands = stands_with k v w x x.frames r ds stands serves quiet rests second_w stands.unkept;
         first = first_w;
-        level = b.level;
-        two = b.two;
-        high = b.high;
-        open_slot = b.open_slot;
-        lockable = b.lockable;
-        typed = b.typed;
-        taken = b.taken;
-        takes = subst (λ (m : Machine). take_reference m o.tables f x.frames ≡ fine b.taken) (sym same_w) b.takes;
-        asked = b.asked;
-        asks = b.asks;
-        differ = b.differ;
-        from = b.from;
-        machine = b.machine ∙ sym same_w;
-        vcpu = b.vcpu ∙ sym (ap (λ (j : Post). j.vcpu) (came_post v w came));
-        rest = b.rest;
-        orderly = b.orderly;
-        clear = b.clear;
-        frames = b.frames;
+        begun = begun_there v.post.machine w.post.machine v.post.vcpu w.post.vcpu o f i word keep x same_w (ap (λ (j : Post). j.vcpu) (came_post v w came)) b;
         locked = z;
         calls = calls;
-        unlocked = subst (λ (m : Machine). IsUnlocked m f o.tables b.level (told_word w) (told_word z)) (same_z ∙ sym same_w) (unlocked_behind z w f o.tables b.level alone_z low in_z off_it);
+        unlocked = subst (λ (m : Machine). IsUnlockedTable m f o.tables b.level (told_word w) (told_word z)) (same_z ∙ sym same_w) (unlocked_behind z w f o.tables b.level alone_z low in_z off_it);
       }

@@ -1,4 +1,4 @@
--- While the gate pauses the acquisition of a table again and again, a live table of the level above that is under a lock stays as it is.
+-- While the gate pauses the acquisition of a table again and again, a live table of the level above stays a live table of that level under its lock.
 use Rattle.std.proofs.Common.{◌≡◌, ◌≢◌, ◌<◌, ◌≤◌, ◌-◌, ◌==◌, ◌&&◌, not, nat_le, nat_lt, ℕ, zero, suc, Bool, true, false, if◌then◌else◌, List, [], ◌∷◌, Option, Some, None, refl, sym, ap, ◌∙◌, subst, inl, inr, arith}
 use Rattle.std.proofs.lemmas.Bool.{cases_eq}
 use Rattle.xp_words.specs.Machine.{IsMachine, Machine}
@@ -41,16 +41,16 @@ use Rattle.solo_entries.proofs.Lasting.{IsLockedIn, IsUnderLock}
 
 module _ (f owner level : ℕ) where
   -- in a plain value frame f is such a table, of that owner
-  record Keeps (p : Plain) : Type 0 where
+  record HasTable (p : Plain) : Type 0 where
     pub table : IsUnderLock level (p.kinds f)
     pub share : IsShareOf owner (p.shares f)
 
   -- ---- what leaves it so found it so
   abbrev Back : (Plain → Plain) → Type 0
-  Back F = (p : Plain) → Keeps (F p) → Keeps p
+  Back F = (p : Plain) → HasTable (F p) → HasTable p
 
   abbrev BackBy : (Plain → PlainOutcome) → Type 0
-  BackBy take = (p : Plain) → Keeps (take p).left → Keeps p
+  BackBy take = (p : Plain) → HasTable (take p).left → HasTable p
 
   fewer_back : (o : Option Share) → IsShareOf owner (fewer o) → IsShareOf owner o
   fewer_back None own = own
@@ -69,28 +69,28 @@ module _ (f owner level : ℕ) where
   back_reference : (g : ℕ) → Back (reference_back g)
   back_reference g p k = record { table = k.table; share = share_at g (fewer (p.shares g)) p.shares (fewer_back (p.shares g)) k.share }
 
-  back_kind : (g : ℕ) (w : KindWord) (p : Plain) → f ≢ g → Keeps (with_kind g w p) → Keeps p
+  back_kind : (g : ℕ) (w : KindWord) (p : Plain) → f ≢ g → HasTable (with_kind g w p) → HasTable p
   back_kind g w p apart k = record { table = subst (IsUnderLock level) (at_there g f w p.kinds apart) k.table; share = k.share }
 
   -- a frame whose word gets no lock is another one
-  unlocked_apart : (g : ℕ) (w : KindWord) (p : Plain) → w.locked ≡ false → Keeps (with_kind g w p) → f ≢ g
+  unlocked_apart : (g : ℕ) (w : KindWord) (p : Plain) → w.locked ≡ false → HasTable (with_kind g w p) → f ≢ g
   unlocked_apart g w p off k e =
       let here : (with_kind g w p).kinds f ≡ w = ap (at g w p.kinds) e ∙ at_here g w p.kinds in
       let on : false ≡ true = sym off ∙ (sym (ap (λ (j : KindWord). j.locked) here) ∙ k.table.locked) in
       cc
 
-  back_closed : (g : ℕ) (t : PageType) (p : Plain) → Keeps (closed g t p) → (f ≢ g) × Keeps p
+  back_closed : (g : ℕ) (t : PageType) (p : Plain) → HasTable (closed g t p) → (f ≢ g) × HasTable p
   back_closed g t p k =
       let w = dead_kind t false 0 in
       let b = back_reference g (with_kind g w p) k in
       let apart = unlocked_apart g w p refl b in
       (apart, back_kind g w p apart b)
 
-  back_live : (g : ℕ) (t : PageType) (p : Plain) → Keeps (with_kind g (live_kind t 1) p) → (f ≢ g) × Keeps p
+  back_live : (g : ℕ) (t : PageType) (p : Plain) → HasTable (with_kind g (live_kind t 1) p) → (f ≢ g) × HasTable p
   back_live g t p k = let apart = unlocked_apart g (live_kind t 1) p refl k in (apart, back_kind g (live_kind t 1) p apart k)
 
   -- ---- a release
-  back_count : (g : ℕ) (p : Plain) → Keeps (count_back g (p.kinds g) p) → Keeps p
+  back_count : (g : ℕ) (p : Plain) → HasTable (count_back g (p.kinds g) p) → HasTable p
   back_count g p k =
       let w = record (p.kinds g) { number = (p.kinds g).number - 1 } in
       let b = back_reference g (with_kind g w p) k in
@@ -103,17 +103,17 @@ module _ (f owner level : ℕ) where
       ]
 
   module _ (empty : ℕ → Plain → Plain) (g : ℕ) (t : PageType) (backs : (k : ℕ) → Back (empty k)) where
-    back_drop_by : (b : Bool) (p : Plain) → Keeps (if b then count_back g (p.kinds g) p else closed g t (empty (entries_held (p.kinds g)) (with_kind g (emptying (p.kinds g)) p))) → Keeps p
+    back_drop_by : (b : Bool) (p : Plain) → HasTable (if b then count_back g (p.kinds g) p else closed g t (empty (entries_held (p.kinds g)) (with_kind g (emptying (p.kinds g)) p))) → HasTable p
     back_drop_by true p k = back_count g p k
     back_drop_by false p k =
         let inner = with_kind g (emptying (p.kinds g)) p in
         let b = back_closed g t (empty (entries_held (p.kinds g)) inner) k in
         back_kind g (emptying (p.kinds g)) p b.0 (backs (entries_held (p.kinds g)) inner b.1)
 
-    back_drop : (p : Plain) → Keeps (drop_kind empty g t p (p.kinds g)) → Keeps p
+    back_drop : (p : Plain) → HasTable (drop_kind empty g t p (p.kinds g)) → HasTable p
     back_drop p k = back_drop_by (is_counted_on (p.kinds g)) p k
 
-  back_demand : (below : ℕ → Plain → Plain) → ((g : ℕ) → Back (below g)) → (p : Plain) (d : Demand) → Keeps (drop_demand below p d) → Keeps p
+  back_demand : (below : ℕ → Plain → Plain) → ((g : ℕ) → Back (below g)) → (p : Plain) (d : Demand) → HasTable (drop_demand below p d) → HasTable p
   back_demand below backs p Nothing k = k
   back_demand below backs p Bad k = k
   back_demand below backs p (Read g) k = back_reference g p k
@@ -138,37 +138,37 @@ module _ (f owner level : ℕ) where
       back_first (let_go x.level) (λ j. back_go x.level j) t x.frame (511 - x.ahead) p (back_closed x.frame t q (back_undo xs (closed x.frame t q) k)).1
 
   -- ---- an acquisition
-  back_share_by : (n : Machine) (g : ℕ) (p : Plain) (s : Share) (a b : Bool) → p.shares g ≡ Some s → Keeps (if a then refused (WrongOwner g (Some s)) p else if b then refused (CountFull g s) p else fine (with_share g (raised_share s) p)).left → Keeps p
+  back_share_by : (n : Machine) (g : ℕ) (p : Plain) (s : Share) (a b : Bool) → p.shares g ≡ Some s → HasTable (if a then refused (WrongOwner g (Some s)) p else if b then refused (CountFull g s) p else fine (with_share g (raised_share s) p)).left → HasTable p
   back_share_by n g p s true b is k = k
   back_share_by n g p s false true is k = k
   back_share_by n g p s false false is k = record { table = k.table; share = share_at g (Some (raised_share s)) p.shares (λ own. subst (IsShareOf owner) (sym is) own) k.share }
 
-  back_share : (n : Machine) (g : ℕ) (p : Plain) (o : Option Share) → p.shares g ≡ o → Keeps (take_reference_of n owner g p o).left → Keeps p
+  back_share : (n : Machine) (g : ℕ) (p : Plain) (o : Option Share) → p.shares g ≡ o → HasTable (take_reference_of n owner g p o).left → HasTable p
   back_share n g p None is k = k
   back_share n g p (Some s) is k = back_share_by n g p s (not (s.owner == owner)) (nat_le n.limit s.count) is k
 
-  back_take_by : (n : Machine) (g : ℕ) (p : Plain) (b : Bool) → Keeps (if b then take_reference_of n owner g p (p.shares g) else refused (NoFrame g) p).left → Keeps p
+  back_take_by : (n : Machine) (g : ℕ) (p : Plain) (b : Bool) → HasTable (if b then take_reference_of n owner g p (p.shares g) else refused (NoFrame g) p).left → HasTable p
   back_take_by n g p true k = back_share n g p (p.shares g) refl k
   back_take_by n g p false k = k
 
   back_take : (n : Machine) (g : ℕ) → BackBy (take_reference n owner g)
   back_take n g p k = back_take_by n g p (nat_lt g n.frames) k
 
-  back_then : (o : Option Cause) (p : Plain) (next : Plain → PlainOutcome) → BackBy next → Keeps (go_on o p next).left → Keeps p
+  back_then : (o : Option Cause) (p : Plain) (next : Plain → PlainOutcome) → BackBy next → HasTable (go_on o p next).left → HasTable p
   back_then None p next goes k = goes p k
   back_then (Some c) p next goes k = k
 
-  back_either : (o : Option Cause) (p : Plain) (back : Plain → Plain) (next : Plain → PlainOutcome) → Back back → BackBy next → Keeps (back_or o p back next).left → Keeps p
+  back_either : (o : Option Cause) (p : Plain) (back : Plain → Plain) (next : Plain → PlainOutcome) → Back back → BackBy next → HasTable (back_or o p back next).left → HasTable p
   back_either None p back next backs goes k = goes p k
   back_either (Some c) p back next backs goes k = backs p k
 
   -- a frame that was dead is filled
-  back_filled : (o : Option Cause) (g : ℕ) (t : PageType) (p : Plain) → Keeps (back_or o p (closed g t) (λ q. fine (with_kind g (live_kind t 1) q))).left → (f ≢ g) × Keeps p
+  back_filled : (o : Option Cause) (g : ℕ) (t : PageType) (p : Plain) → HasTable (back_or o p (closed g t) (λ q. fine (with_kind g (live_kind t 1) q))).left → (f ≢ g) × HasTable p
   back_filled None g t p k = back_live g t p k
   back_filled (Some c) g t p k = back_closed g t p k
 
   module _ (fill : Plain → PlainOutcome) (g : ℕ) (t : PageType) (goes : BackBy fill) (other : is_type (level_type level) t ≡ false) where
-    raised_apart : (p : Plain) → (is_counted (p.kinds g) && is_type (p.kinds g).kind t) ≡ true → Keeps (with_kind g (raised_kind (p.kinds g)) p) → f ≢ g
+    raised_apart : (p : Plain) → (is_counted (p.kinds g) && is_type (p.kinds g).kind t) ≡ true → HasTable (with_kind g (raised_kind (p.kinds g)) p) → f ≢ g
     raised_apart p on k e =
         let here : (with_kind g (raised_kind (p.kinds g)) p).kinds f ≡ raised_kind (p.kinds g) = ap (at g (raised_kind (p.kinds g)) p.kinds) e ∙ at_here g (raised_kind (p.kinds g)) p.kinds in
         let kind : (p.kinds g).kind ≡ level_type level = sym (ap (λ (j : KindWord). j.kind) here) ∙ k.table.kind in
@@ -177,7 +177,7 @@ module _ (f owner level : ℕ) where
         cc
 
     back_type_by : (d c : Bool) (p : Plain) → (is_counted (p.kinds g) && is_type (p.kinds g).kind t) ≡ c →
-        Keeps (if d then then_or (fill (with_kind g (work_kind t false 0) p)) (closed g t) (λ q. fine (with_kind g (live_kind t 1) q)) else if c then fine (with_kind g (raised_kind (p.kinds g)) p) else refused (OtherType g t (p.kinds g)) (reference_back g p)).left → Keeps p
+        HasTable (if d then then_or (fill (with_kind g (work_kind t false 0) p)) (closed g t) (λ q. fine (with_kind g (live_kind t 1) q)) else if c then fine (with_kind g (raised_kind (p.kinds g)) p) else refused (OtherType g t (p.kinds g)) (reference_back g p)).left → HasTable p
     back_type_by true c p is k =
         let begun = with_kind g (work_kind t false 0) p in
         let b = back_filled (fill begun).refusal g t (fill begun).left k in
@@ -185,10 +185,10 @@ module _ (f owner level : ℕ) where
     back_type_by false true p is k = back_kind g (raised_kind (p.kinds g)) p (raised_apart p is k) k
     back_type_by false false p is k = back_reference g p k
 
-    back_type : (p : Plain) → Keeps (take_kind fill g t p (p.kinds g)).left → Keeps p
+    back_type : (p : Plain) → HasTable (take_kind fill g t p (p.kinds g)).left → HasTable p
     back_type p k = back_type_by (is_dead (p.kinds g)) (is_counted (p.kinds g) && is_type (p.kinds g).kind t) p refl k
 
-  back_meet : (n : Machine) (below : ℕ → Plain → PlainOutcome) → ((g : ℕ) → BackBy (below g)) → (h i : ℕ) (p : Plain) (d : Demand) → Keeps (meet n owner below h i p d).left → Keeps p
+  back_meet : (n : Machine) (below : ℕ → Plain → PlainOutcome) → ((g : ℕ) → BackBy (below g)) → (h i : ℕ) (p : Plain) (d : Demand) → HasTable (meet n owner below h i p d).left → HasTable p
   back_meet n below goes h i p Nothing k = k
   back_meet n below goes h i p Bad k = k
   back_meet n below goes h i p (Read g) k = back_take n g p k
@@ -231,18 +231,18 @@ module _ (f owner level : ℕ) where
         (λ q a. (back_closed x.frame t q (back_undo xs (closed x.frame t q) a)).1) (λ q a. (back_live x.frame t q (back_rest xs low.1 (with_kind x.frame (live_kind t 1) q) a)).1) k)
 
   -- ---- what an acquisition leaves
-  module _ (n : Machine) (q : Plain) (counts : CountsSome n q) (kept : Keeps q) where
-    same_kept : (r : Plain) → IsSameButTypes q r → Keeps r
+  module _ (n : Machine) (q : Plain) (counts : CountsSome n q) (kept : HasTable q) where
+    same_kept : (r : Plain) → IsSameButTypes q r → HasTable r
     same_kept r same = record { table = by (same.kinds f); share = subst (IsShareOf owner) (sym (same.shares f)) kept.share }
       where
         by : IsSameButType (q.kinds f) (r.kinds f) → IsUnderLock level (r.kinds f)
         by (inl is) = subst (IsUnderLock level) (sym is) kept.table
         by (inr dead) = absurd (let a : false ≡ true = sym (live_undead (q.kinds f) kept.table.live) ∙ dead.0 in cc)
 
-    alone_kept : (l g : ℕ) → Keeps (alone n owner l g q).left
+    alone_kept : (l g : ℕ) → HasTable (alone n owner l g q).left
     alone_kept l g = by (alone n owner l g q).refusal refl
       where
-        by : (r : Option Cause) → (alone n owner l g q).refusal ≡ r → Keeps (alone n owner l g q).left
+        by : (r : Option Cause) → (alone n owner l g q).refusal ≡ r → HasTable (alone n owner l g q).left
         by None none = back_go l g (alone n owner l g q).left (same_kept (let_go l g (alone n owner l g q).left) (released_same n owner l g q counts none))
         by (Some c) is = same_kept (alone n owner l g q).left (refused_same n owner l g q c counts is)
 
@@ -274,15 +274,15 @@ module _ (f owner level : ℕ) where
   share_is None own = absurd own
   share_is (Some s) own = (s, refl, own)
 
-  module _ (n : Machine) (m : Words) (g l : ℕ) (a : PlainOutcome) (high : level ≤ 4) (low : l < level) (inside : f < n.frames) (kept : Keeps a.left) (h : Parked n owner m g l a) where
+  module _ (n : Machine) (m : Words) (g l : ℕ) (a : PlainOutcome) (high : level ≤ 4) (low : l < level) (inside : f < n.frames) (kept : HasTable a.left) (h : Parked n owner m g l a) where
     of_table : TableOf n owner h.plain h.table
     of_table = (tables_onto n owner h.plain h.inner (h.table ∷ []) h.under.tables).0
 
-    plain_kept : Keeps h.plain
+    plain_kept : HasTable h.plain
     plain_kept =
         let same = h.level_is in
         let below = all_below n h.plain h.inner h.table [] (omega arith) tt h.under.tables in
-        back_rest n high (lefts (onto h.inner (h.table ∷ []))) below h.plain (subst (λ (o : PlainOutcome). Keeps o.left) (sym h.under.ahead) kept)
+        back_rest n high (lefts (onto h.inner (h.table ∷ []))) below h.plain (subst (λ (o : PlainOutcome). HasTable o.left) (sym h.under.ahead) kept)
 
     word_is : sober (kind_at m f) ≡ h.plain.kinds f
     word_is =
@@ -307,6 +307,6 @@ pub endures : (v u : PortValue) (f owner level g : ℕ) (q : Plain) (s : Share) 
 endures v u f owner level g q s machine telling calm orderly d inside table held owns two high calls =
     let n = v.post.machine in
     let at_u = parked_calls v g owner (level - 1) machine telling calm orderly (omega arith) (omega arith) q d u calls in
-    let kept : Keeps f owner level q = record { table = table; share = subst (IsShareOf owner) (sym held) owns } in
+    let kept : HasTable f owner level q = record { table = table; share = subst (IsShareOf owner) (sym held) owns } in
     parked_locked f owner level n (told_word u) g (level - 1) (alone n owner (level - 1) g q) high (omega arith) inside
     (alone_kept f owner level n q (counts_plain n (told_word v) q d calm.counted) kept (level - 1) g) at_u.parked

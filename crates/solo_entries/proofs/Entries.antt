@@ -1,5 +1,5 @@
 -- The exchange of an entry of a locked table, behind the look at its word, comes to the plain exchange.
-use Rattle.solo_entries.specs.Exchanges.{ComesSo, IsLockedTable, LeavesFrames, RefusedSo, now}
+use Rattle.solo_entries.specs.Exchanges.{ComesSo, HasTwoTypeCounts, LeavesFrames, RefusedSo, now}
 use Rattle.std.proofs.Common.{◌≡◌, ◌≤◌, ◌<◌, ℕ, suc, ◌-◌, Bool, true, false, List, Result, Ok, Err, refl, sym, ap, ◌∙◌, subst, arith}
 use Rattle.xp_words.specs.Entries.{demand_at}
 use Rattle.xp_words.specs.Machine.{IsMachine, Machine}
@@ -66,11 +66,11 @@ by_other n owner x new old p demands.Bad good = absurd (good refl)
 by_other n owner x new old p (demands.Read g) good = refl
 by_other n owner x new old p (demands.Typed g t) good = refl
 
-pub held_cell : (f g i word : ℕ) (p : Plain) → IsLockedTable f p → IsLockedTable f (with_cell g i word p)
+pub held_cell : (f g i word : ℕ) (p : Plain) → HasTwoTypeCounts f p → HasTwoTypeCounts f (with_cell g i word p)
 held_cell f g i word p held = record { live = held.live; several = held.several }
 
 -- ---- at a table that q has locked, of whose entry that word was seen
-module _ (k : Known) (n : Machine) (x : EntryUpdate) (o : Owners) (q : Plain) (seen : ℕ) (low : 1 ≤ x.level) (high : x.level ≤ 4) (machine : IsMachine n) (counts : CountsSome n q) (held : IsLockedTable x.table q) (cell : q.cells x.table x.index ≡ seen) where
+module _ (k : Known) (n : Machine) (x : EntryUpdate) (o : Owners) (q : Plain) (seen : ℕ) (low : 1 ≤ x.level) (high : x.level ≤ 4) (machine : IsMachine n) (counts : CountsSome n q) (held : HasTwoTypeCounts x.table q) (cell : q.cells x.table x.index ≡ seen) where
   abbrev owner : ℕ
   owner = owner_at x.level o.tables o.frames
 
@@ -104,14 +104,14 @@ module _ (k : Known) (n : Machine) (x : EntryUpdate) (o : Owners) (q : Plain) (s
   goes_on u w on came = record { same = ap (λ (j : Post). j.machine) (came_post u w came) ∙ on.same; tells = came_telling u w came ∙ on.tells }
 
   -- the lock goes off from words that are those of a value by which the table is held
-  off_left : (z w : PortValue) (p : Plain) → IsOn z → IsLockedTable x.table p → LeftLock z x.table x.level w → LeavesFrames n z p → LeavesFrames n w (unlock p)
+  off_left : (z w : PortValue) (p : Plain) → IsOn z → HasTwoTypeCounts x.table p → LeftLock z x.table x.level w → LeavesFrames n z p → LeavesFrames n w (unlock p)
   off_left z w p on h lock left = subst (LeavesFrames n w) (sym (unlocked_off x.level x.table p h)) (unlocked_left k n z w x.table x.level p on.same on.tells low h lock left)
 
   -- the first old word behind an entry that is put
   first_put : (u y : PortValue) (r : Result ℕ Stop) → is_telling u ≡ true → told_word u (old_place u.post.vcpu First) ≡ 0 → PutsNew u y x seen r → told_word y (old_place y.post.vcpu First) ≡ 0
   first_put u y r tells first puts = let a = puts_keeps u.post.vcpu 2 two_four two_five u y x.table x.index seen new x.keep r puts tells in subst (λ (j : Post). told_word y (old_place j.vcpu First) ≡ 0) (sym (came_post u y a.came)) (a.same ∙ first)
 
-  off_now : (z w : PortValue) (p : Plain) → IsOn z → IsLockedTable x.table p → LeftLock z x.table x.level w → told_word z (old_place z.post.vcpu First) ≡ 0 → Describes n (told_word z) p → (told_word w (old_place w.post.vcpu First) ≡ 0) × Describes n (told_word w) (unlock p)
+  off_now : (z w : PortValue) (p : Plain) → IsOn z → HasTwoTypeCounts x.table p → LeftLock z x.table x.level w → told_word z (old_place z.post.vcpu First) ≡ 0 → Describes n (told_word z) p → (told_word w (old_place w.post.vcpu First) ≡ 0) × Describes n (told_word w) (unlock p)
   off_now z w p on h lock first at = (
     subst (λ (j : Post). told_word w (old_place j.vcpu First) ≡ 0) (sym (came_post z w (lock_came z w x.table x.level lock))) (lock_leaves n z w x.table x.level p on.same on.tells at h lock (old_place z.post.vcpu First) refl (λ e. cc) ∙ first),
     subst (Describes n (told_word w)) (sym (unlocked_off x.level x.table p h)) (lock_goes n z w x.table x.level p on.same on.tells at h low lock),
@@ -137,7 +137,7 @@ module _ (k : Known) (n : Machine) (x : EntryUpdate) (o : Owners) (q : Plain) (s
   abbrev taking : PlainOutcome
   taking = meet n (owner_at x.level o.tables o.frames) (take_at (x.level - 1) n (owner_at x.level o.tables o.frames)) x.table x.index q (new_demand x seen)
 
-  held_taking : IsLockedTable x.table taking.left
+  held_taking : HasTwoTypeCounts x.table taking.left
   held_taking = held_meet n owner x.table q counts held (x.level - 1) x.table x.index d
 
   took_on : (u y : PortValue) (answers : List Bool) (r : Result (Unit {0}) Stop) → IsOn u → TookNew u y x o seen answers r → IsOn y

@@ -1,5 +1,5 @@
 -- The exchange of an entry of a locked table, from where its word was looked at.
-use Rattle.solo_entries.specs.Exchanges.{IsLockedTable, LeavesFrames, later, now}
+use Rattle.solo_entries.specs.Exchanges.{HasTwoTypeCounts, LeavesFrames, later, now}
 use Rattle.std.proofs.lemmas.Bool.{cases_Bool}
 use Rattle.kind_words.proofs.KindFacts.{live_undead}
 use Rattle.std.proofs.Common.{nat_lt, nat_le, ◌==◌, ◌≡◌, ◌≢◌, ◌≤◌, ◌<◌, ℕ, Bool, true, false, List, Option, Some, None, Result, Ok, Err, refl, sym, ap, ◌∙◌, subst, inl, inr, ◌+◌, IfErr}
@@ -16,7 +16,7 @@ use Rattle.step_maker.specs.Moves.{Came}
 use Rattle.step_maker.proofs.Coming.{came_post}
 use Rattle.step_maker.proofs.Telling.{came_telling}
 use Rattle.entry_exchange.specs.Course as course
-use Rattle.entry_exchange.specs.Course.{Exchanged, LeftLock, PutsNew, ReleasedDemand, SawEntry, TookDemand, TookNew, new_demand, old_demand}
+use Rattle.entry_exchange.specs.Course.{LeftLock, ReleasedDemand}
 use Rattle.exchange_laws.proofs.Unlocking.{lock_came}
 use Rattle.partial_state.specs.Levels.{level_type}
 use Rattle.table_law.specs.Alone.{Cause, alone, meet, take_at, take_reference, take_reference_of}
@@ -44,16 +44,16 @@ use Rattle.release_laws.proofs.Seen.{drops_seen}
 use Rattle.xp_board.proofs.KindForms.{frame_inside}
 
 -- ---- a table that is held stays held behind what is taken, and behind what is refused
-held_same : (f : ℕ) (p q : Plain) → IsSameButType (p.kinds f) (q.kinds f) → IsLockedTable f p → IsLockedTable f q
+held_same : (f : ℕ) (p q : Plain) → IsSameButType (p.kinds f) (q.kinds f) → HasTwoTypeCounts f p → HasTwoTypeCounts f q
 held_same f p q (inl same) held =
     record { live = ap (λ (k : KindWord). k.validated) same ∙ held.live; several = subst (λ (k : KindWord). 2 ≤ k.number) (sym same) held.several }
 held_same f p q (inr dead) held = absurd (let a : false ≡ true = sym (live_undead (p.kinds f) held.live) ∙ dead.0 in cc)
 
-module _ (n : Machine) (owner f : ℕ) (p : Plain) (counts : CountsSome n p) (held : IsLockedTable f p) where
-  held_alone : (l g : ℕ) → IsLockedTable f (alone n owner l g p).left
+module _ (n : Machine) (owner f : ℕ) (p : Plain) (counts : CountsSome n p) (held : HasTwoTypeCounts f p) where
+  held_alone : (l g : ℕ) → HasTwoTypeCounts f (alone n owner l g p).left
   held_alone l g = by (alone n owner l g p).refusal refl
     where
-      by : (r : Option Cause) → (alone n owner l g p).refusal ≡ r → IsLockedTable f (alone n owner l g p).left
+      by : (r : Option Cause) → (alone n owner l g p).refusal ≡ r → HasTwoTypeCounts f (alone n owner l g p).left
       by None none = back_go f l g (alone n owner l g p).left (held_same f p (let_go l g (alone n owner l g p).left) ((released_same n owner l g p counts none).kinds f) held)
       by (Some c) is = held_same f p (alone n owner l g p).left ((refused_same n owner l g p c counts is).kinds f) held
 
@@ -70,17 +70,17 @@ module _ (n : Machine) (owner f : ℕ) (p : Plain) (counts : CountsSome n p) (he
     | inr out ↦ rw out refl
   ]
 
-  held_reference : (g : ℕ) → IsLockedTable f (take_reference n owner g p).left
+  held_reference : (g : ℕ) → HasTwoTypeCounts f (take_reference n owner g p).left
   held_reference g = held_same f p (take_reference n owner g p).left (inl (ap (λ (j : ℕ → KindWord). j f) (kinds_reference g))) held
 
-  pub held_meet : (l h i : ℕ) (d : Demand) → IsLockedTable f (meet n owner (take_at l n owner) h i p d).left
+  pub held_meet : (l h i : ℕ) (d : Demand) → HasTwoTypeCounts f (meet n owner (take_at l n owner) h i p d).left
   held_meet l h i demands.Nothing = held
   held_meet l h i demands.Bad = held
   held_meet l h i (demands.Read g) = held_reference g
   held_meet l h i (demands.Typed g t) = held_alone l g
 
 -- ---- the lock goes off, behind what was refused
-module _ (k : Known) (n : Machine) (z w : PortValue) (f level : ℕ) (q : Plain) (same : z.post.machine ≡ n) (telling : is_telling z ≡ true) (low : 1 ≤ level) (held : IsLockedTable f q) (off_it : LeftLock z f level w) where
+module _ (k : Known) (n : Machine) (z w : PortValue) (f level : ℕ) (q : Plain) (same : z.post.machine ≡ n) (telling : is_telling z ≡ true) (low : 1 ≤ level) (held : HasTwoTypeCounts f q) (off_it : LeftLock z f level w) where
   came : Came z w
   came = lock_came z w f level off_it
 
@@ -88,7 +88,7 @@ module _ (k : Known) (n : Machine) (z w : PortValue) (f level : ℕ) (q : Plain)
   post_same = came_post z w came
 
   -- the plain value whose words are there
-  word_same : (p : Plain) → Describes n (told_word z) p → IsLockedTable f p → (x : Place) → is_counting x ≡ false → x ≢ Kind f → told_word w x ≡ told_word z x
+  word_same : (p : Plain) → Describes n (told_word z) p → HasTwoTypeCounts f p → (x : Place) → is_counting x ≡ false → x ≢ Kind f → told_word w x ≡ told_word z x
   word_same p d h x calm apart = lock_leaves n z w f level p same telling d h off_it x calm apart
 
   unlocked_now : told_word z (old_place z.post.vcpu First) ≡ 0 → Describes n (told_word z) q → LeavesFrames n w (off f q)
@@ -99,7 +99,7 @@ module _ (k : Known) (n : Machine) (z w : PortValue) (f level : ℕ) (q : Plain)
   unlocked_later : (g l : ℕ) → IsLeft n z g l q → LeavesFrames n w (off f q)
   unlocked_later g l left =
       let p = left.plain in
-      let h : IsLockedTable f p = back_go f l g p (subst (IsLockedTable f) (sym left.left) held) in
+      let h : HasTwoTypeCounts f p = back_go f l g p (subst (HasTwoTypeCounts f) (sym left.left) held) in
       let apart : g ≢ f = λ e. (
       let a : p.kinds f ≡ sober (kind_fields (told_word z (Kind g))) = ap p.kinds (sym e) ∙ left.describes.kinds g left.inside in
       let b : (p.kinds f).validated ≡ false = ap (λ (j : KindWord). j.validated) a ∙ (sober_live (kind_fields (told_word z (Kind g))) ∙ ap (λ (j : KindWord). j.validated) left.word) in
@@ -118,7 +118,7 @@ module _ (k : Known) (n : Machine) (z w : PortValue) (f level : ℕ) (q : Plain)
         inside = left.inside;
         low = left.low;
         high = left.high;
-        left = go_passes f l g p (subst (IsLockedTable f) (sym left.left) held) ∙ ap (off f) left.left;
+        left = go_passes f l g p (subst (HasTwoTypeCounts f) (sym left.left) held) ∙ ap (off f) left.left;
         named = subst (λ (o : Post). told_word w (old_place o.vcpu First) ≡ g + 1) (sym post_same) (word_same p left.describes h (old_place z.post.vcpu First) refl (λ e. cc) ∙ left.named);
       })
 
@@ -129,7 +129,7 @@ module _ (k : Known) (n : Machine) (z w : PortValue) (f level : ℕ) (q : Plain)
   -- the second old word, too
   pub unlocked_second : LeavesFrames n z q → told_word w (old_place z.post.vcpu Second) ≡ told_word z (old_place z.post.vcpu Second)
   unlocked_second (now first d) = word_same q d held (old_place z.post.vcpu Second) refl (λ e. cc)
-  unlocked_second (later g l left) = word_same left.plain left.describes (back_go f l g left.plain (subst (IsLockedTable f) (sym left.left) held)) (old_place z.post.vcpu Second) refl (λ e. cc)
+  unlocked_second (later g l left) = word_same left.plain left.describes (back_go f l g left.plain (subst (HasTwoTypeCounts f) (sym left.left) held)) (old_place z.post.vcpu Second) refl (λ e. cc)
 
 -- ---- a reference, or a typed one, that the old word had is given back
 -- its frame is one of the machine

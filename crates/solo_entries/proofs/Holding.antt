@@ -1,5 +1,5 @@
 -- A table that is locked has two type counts or more. A release that leaves it so has only lowered them, so it leaves the same whether the lock is on or off.
-use Rattle.solo_entries.specs.Exchanges.{IsLockedTable}
+use Rattle.solo_entries.specs.Exchanges.{HasTwoTypeCounts}
 use Rattle.std.proofs.Common.{◌≡◌, ◌≢◌, ◌≤◌, ℕ, zero, suc, ◌-◌, ◌==◌, if◌then◌else◌, Bool, true, false, Option, refl, sym, ap, ◌∙◌, subst, arith, inl, inr, ◌⊎◌}
 use Rattle.std.proofs.Math.Path.{fun_ext}
 use Rattle.std.proofs.lemmas.Bool.{cases_eq}
@@ -46,17 +46,17 @@ module _ (f : ℕ) where
   abbrev pub off : Plain → Plain
   off p = reference_back f (with_kind f (less (p.kinds f)) p)
 
-  held_by : (p q : Plain) → q.kinds f ≡ p.kinds f → IsLockedTable f q → IsLockedTable f p
+  held_by : (p q : Plain) → q.kinds f ≡ p.kinds f → HasTwoTypeCounts f q → HasTwoTypeCounts f p
   held_by p q same held = record { live = ap (λ (k : KindWord). k.validated) (sym same) ∙ held.live; several = subst (λ (k : KindWord). 2 ≤ k.number) same held.several }
 
   -- ---- what it leaves so was so
   abbrev Back : (Plain → Plain) → Type 0
-  Back F = (p : Plain) → IsLockedTable f (F p) → IsLockedTable f p
+  Back F = (p : Plain) → HasTwoTypeCounts f (F p) → HasTwoTypeCounts f p
 
-  back_kind : (g : ℕ) (k : KindWord) (p : Plain) → f ≢ g → IsLockedTable f (with_kind g k p) → IsLockedTable f p
+  back_kind : (g : ℕ) (k : KindWord) (p : Plain) → f ≢ g → HasTwoTypeCounts f (with_kind g k p) → HasTwoTypeCounts f p
   back_kind g k p apart held = held_by p (with_kind g k p) (at_there g f k p.kinds apart) held
 
-  back_count : (g : ℕ) (p : Plain) → IsLockedTable f (count_back g (p.kinds g) p) → IsLockedTable f p
+  back_count : (g : ℕ) (p : Plain) → HasTwoTypeCounts f (count_back g (p.kinds g) p) → HasTwoTypeCounts f p
   back_count g p held = elim (cases_eq f g) [
     | inl e ↦
         let k = p.kinds g in
@@ -70,30 +70,30 @@ module _ (f : ℕ) where
   ]
 
   -- a frame that is closed is another one
-  closed_apart : (g : ℕ) (t : PageType) (p : Plain) → IsLockedTable f (closed g t p) → f ≢ g
+  closed_apart : (g : ℕ) (t : PageType) (p : Plain) → HasTwoTypeCounts f (closed g t p) → f ≢ g
   closed_apart g t p held e =
       let here : (closed g t p).kinds f ≡ dead_kind t false 0 = ap (at g (dead_kind t false 0) p.kinds) e ∙ at_here g (dead_kind t false 0) p.kinds in
       let live = sym (ap (λ (j : KindWord). j.validated) here) ∙ held.live in
       cc
 
   module _ (empty : ℕ → Plain → Plain) (g : ℕ) (t : PageType) (backs : (k : ℕ) → Back (empty k)) where
-    back_drop_by : (b : Bool) (p : Plain) → IsLockedTable f (if b then count_back g (p.kinds g) p else closed g t (empty (entries_held (p.kinds g)) (with_kind g (emptying (p.kinds g)) p))) → IsLockedTable f p
+    back_drop_by : (b : Bool) (p : Plain) → HasTwoTypeCounts f (if b then count_back g (p.kinds g) p else closed g t (empty (entries_held (p.kinds g)) (with_kind g (emptying (p.kinds g)) p))) → HasTwoTypeCounts f p
     back_drop_by true p held = back_count g p held
     back_drop_by false p held =
         let inner = with_kind g (emptying (p.kinds g)) p in
         let apart = closed_apart g t (empty (entries_held (p.kinds g)) inner) held in
         back_kind g (emptying (p.kinds g)) p apart (backs (entries_held (p.kinds g)) inner (back_kind g (dead_kind t false 0) (empty (entries_held (p.kinds g)) inner) apart (record { live = held.live; several = held.several })))
 
-    back_drop : (p : Plain) → IsLockedTable f (drop_kind empty g t p (p.kinds g)) → IsLockedTable f p
+    back_drop : (p : Plain) → HasTwoTypeCounts f (drop_kind empty g t p (p.kinds g)) → HasTwoTypeCounts f p
     back_drop p held = back_drop_by (is_counted_on (p.kinds g)) p held
 
-  back_demand : (below : ℕ → Plain → Plain) → ((g : ℕ) → Back (below g)) → (p : Plain) (d : Demand) → IsLockedTable f (drop_demand below p d) → IsLockedTable f p
+  back_demand : (below : ℕ → Plain → Plain) → ((g : ℕ) → Back (below g)) → (p : Plain) (d : Demand) → HasTwoTypeCounts f (drop_demand below p d) → HasTwoTypeCounts f p
   back_demand below backs p Nothing held = held
   back_demand below backs p Bad held = held
   back_demand below backs p (Read g) held = record { live = held.live; several = held.several }
   back_demand below backs p (Typed g t) held = backs g p held
 
-  back_first : (below : ℕ → Plain → Plain) → ((g : ℕ) → Back (below g)) → (t : PageType) (h k : ℕ) (p : Plain) → IsLockedTable f (drop_first below t h k p) → IsLockedTable f p
+  back_first : (below : ℕ → Plain → Plain) → ((g : ℕ) → Back (below g)) → (t : PageType) (h k : ℕ) (p : Plain) → HasTwoTypeCounts f (drop_first below t h k p) → HasTwoTypeCounts f p
   unfolding drop_first
   back_first below backs t h zero p held = held
   back_first below backs t h (suc k) p held = back_demand below backs p (entry_of p t h k) (back_first below backs t h k (drop_demand below p (entry_of p t h k)) held)
@@ -105,7 +105,7 @@ module _ (f : ℕ) where
 
   -- ---- the same with the lock off
   abbrev Passes : (Plain → Plain) → Type 0
-  Passes F = (p : Plain) → IsLockedTable f (F p) → F (off p) ≡ off (F p)
+  Passes F = (p : Plain) → HasTwoTypeCounts f (F p) → F (off p) ≡ off (F p)
 
   abbrev plain : (ℕ → Option Share) → (ℕ → KindWord) → (ℕ → ℕ → ℕ) → Plain
   plain s k c = record { shares = s; kinds = k; cells = c }
@@ -149,7 +149,7 @@ module _ (f : ℕ) where
   counted_on : (k : KindWord) → k.validated ≡ true → 3 ≤ k.number → is_counted_on (less k) ≡ true
   counted_on k live many = grind (arith, nat_tests)
 
-  drop_itself : (empty : ℕ → Plain → Plain) (t : PageType) (p : Plain) → IsLockedTable f (count_back f (p.kinds f) p) → drop_kind empty f t (off p) ((off p).kinds f) ≡ off (count_back f (p.kinds f) p)
+  drop_itself : (empty : ℕ → Plain → Plain) (t : PageType) (p : Plain) → HasTwoTypeCounts f (count_back f (p.kinds f) p) → drop_kind empty f t (off p) ((off p).kinds f) ≡ off (count_back f (p.kinds f) p)
   drop_itself empty t p held =
       let k = p.kinds f in
       let here : (count_back f k p).kinds f ≡ record k { number = k.number - 1 } = at_here f (record k { number = k.number - 1 }) p.kinds in
@@ -164,34 +164,34 @@ module _ (f : ℕ) where
     dropped b p k = if b then count_back g k p else closed g t (empty (entries_held k) (with_kind g (emptying k) p))
 
     -- another frame
-    drop_apart : (b : Bool) (p : Plain) → f ≢ g → IsLockedTable f (dropped b p (p.kinds g)) → dropped b (off p) (p.kinds g) ≡ off (dropped b p (p.kinds g))
+    drop_apart : (b : Bool) (p : Plain) → f ≢ g → HasTwoTypeCounts f (dropped b p (p.kinds g)) → dropped b (off p) (p.kinds g) ≡ off (dropped b p (p.kinds g))
     drop_apart true p apart held = off_count_apart g (p.kinds g) p apart
     drop_apart false p apart held =
         let k = p.kinds g in
         let inner = with_kind g (emptying k) p in
         let emptied = empty (entries_held k) inner in
-        let still : IsLockedTable f emptied = back_kind g (dead_kind t false 0) emptied apart (record { live = held.live; several = held.several }) in
+        let still : HasTwoTypeCounts f emptied = back_kind g (dead_kind t false 0) emptied apart (record { live = held.live; several = held.several }) in
         ap (λ q. closed g t (empty (entries_held k) q)) (off_kind g (emptying k) p apart) ∙ ap (closed g t) (passes (entries_held k) inner still) ∙ off_closed g t emptied apart
 
     -- the frame itself
-    drop_here : (b : Bool) (p : Plain) → f ≡ g → is_counted_on (p.kinds g) ≡ b → IsLockedTable f (dropped b p (p.kinds g)) → drop_kind empty g t (off p) ((off p).kinds g) ≡ off (dropped b p (p.kinds g))
+    drop_here : (b : Bool) (p : Plain) → f ≡ g → is_counted_on (p.kinds g) ≡ b → HasTwoTypeCounts f (dropped b p (p.kinds g)) → drop_kind empty g t (off p) ((off p).kinds g) ≡ off (dropped b p (p.kinds g))
     drop_here true p same on held =
-        subst (λ i. IsLockedTable f (count_back i (p.kinds i) p) → drop_kind empty i t (off p) ((off p).kinds i) ≡ off (count_back i (p.kinds i) p)) same (drop_itself empty t p) held
+        subst (λ i. HasTwoTypeCounts f (count_back i (p.kinds i) p) → drop_kind empty i t (off p) ((off p).kinds i) ≡ off (count_back i (p.kinds i) p)) same (drop_itself empty t p) held
     drop_here false p same on held = absurd (closed_apart g t (empty (entries_held (p.kinds g)) (with_kind g (emptying (p.kinds g)) p)) held same)
 
-    pub drop_passes : (p : Plain) → IsLockedTable f (drop_kind empty g t p (p.kinds g)) → drop_kind empty g t (off p) ((off p).kinds g) ≡ off (drop_kind empty g t p (p.kinds g))
+    pub drop_passes : (p : Plain) → HasTwoTypeCounts f (drop_kind empty g t p (p.kinds g)) → drop_kind empty g t (off p) ((off p).kinds g) ≡ off (drop_kind empty g t p (p.kinds g))
     drop_passes p held = elim (cases_eq f g) [
       | inl e ↦ drop_here (is_counted_on (p.kinds g)) p e refl held
       | inr apart ↦ ap (λ k. drop_kind empty g t (off p) k) (at_there f g (less (p.kinds f)) p.kinds (λ e. apart (sym e))) ∙ drop_apart (is_counted_on (p.kinds g)) p apart held
     ]
 
-  demand_passes : (below : ℕ → Plain → Plain) → ((g : ℕ) → Passes (below g)) → (p : Plain) (d : Demand) → IsLockedTable f (drop_demand below p d) → drop_demand below (off p) d ≡ off (drop_demand below p d)
+  demand_passes : (below : ℕ → Plain → Plain) → ((g : ℕ) → Passes (below g)) → (p : Plain) (d : Demand) → HasTwoTypeCounts f (drop_demand below p d) → drop_demand below (off p) d ≡ off (drop_demand below p d)
   demand_passes below passes p Nothing held = refl
   demand_passes below passes p Bad held = refl
   demand_passes below passes p (Read g) held = off_reference g p
   demand_passes below passes p (Typed g t) held = passes g p held
 
-  first_passes : (below : ℕ → Plain → Plain) → ((g : ℕ) → Back (below g)) → ((g : ℕ) → Passes (below g)) → (t : PageType) (h k : ℕ) (p : Plain) → IsLockedTable f (drop_first below t h k p) → drop_first below t h k (off p) ≡ off (drop_first below t h k p)
+  first_passes : (below : ℕ → Plain → Plain) → ((g : ℕ) → Back (below g)) → ((g : ℕ) → Passes (below g)) → (t : PageType) (h k : ℕ) (p : Plain) → HasTwoTypeCounts f (drop_first below t h k p) → drop_first below t h k (off p) ≡ off (drop_first below t h k p)
   unfolding drop_first
   first_passes below goes passes t h zero p held = refl
   first_passes below goes passes t h (suc k) p held =

@@ -1,5 +1,5 @@
 -- A table is locked, from a port at which nothing is left: what the words are then.
-use Rattle.solo_entries.specs.Exchanges.{IsLockedTable}
+use Rattle.solo_entries.specs.Exchanges.{HasTwoTypeCounts}
 use Rattle.std.proofs.Common.{◌≡◌, ◌≢◌, ◌<◌, ◌≤◌, ℕ, ◌+◌, ◌-◌, ◌^◌, ◌==◌, ◌&&◌, not, nat_lt, if◌then◌else◌, Bool, true, false, Option, Some, None, Ok, IsTrue, refl, sym, ap, ◌∙◌, subst, arith, inl, inr, ◌⊎◌}
 use Rattle.std.proofs.lemmas.Bool.{and_parts, cases_eq}
 use Rattle.std.proofs.lemmas.Bool.Decides.{nat_tests}
@@ -188,7 +188,7 @@ module _ (k : Known) (v u y : PortValue) (p : Plain) (owner f level found : ℕ)
   some_there : 0 < (p.kinds f).number
   some_there = let s = some in let c = ap (λ (j : KindWord). j.number) there in omega (arith, s, c)
 
-  pub held_y : IsLockedTable f locked
+  pub held_y : HasTwoTypeCounts f locked
   held_y =
       record {
         live = ap (λ (j : KindWord). j.validated) kind_here ∙ (ap (λ (j : KindWord). j.validated) there ∙ live);
@@ -256,14 +256,14 @@ module _ (k : Known) (v u y : PortValue) (p : Plain) (owner f level found : ℕ)
 
 -- ---- a lock goes off
 -- what that comes to, where the table has more than one type count
-pub unlocked_off : (level f : ℕ) (q : Plain) → IsLockedTable f q → unlocked_plain level f q ≡ off f q
+pub unlocked_off : (level f : ℕ) (q : Plain) → HasTwoTypeCounts f q → unlocked_plain level f q ≡ off f q
 unlocked_off level f q held =
     let many = held.several in
     let other : ((q.kinds f).number == 1) ≡ false = grind (arith, nat_tests) in
     ap (λ b. if b then with_kind f (partial_kind (level_type level) false false 512 0) q else off f q) other
 
 -- and its steps: they change the kind word of the table and its reference word
-module _ (n : Machine) (z w : PortValue) (f level : ℕ) (q : Plain) (same : z.post.machine ≡ n) (telling : is_telling z ≡ true) (d : Describes n (told_word z) q) (held : IsLockedTable f q) where
+module _ (n : Machine) (z w : PortValue) (f level : ℕ) (q : Plain) (same : z.post.machine ≡ n) (telling : is_telling z ≡ true) (d : Describes n (told_word z) q) (held : HasTwoTypeCounts f q) where
   last_off : (u : PortValue) → Unlocks z u f true → ⊥
   last_off u a =
       let inside = frame_inside z.post.machine f a.unlocks.step.may.place in

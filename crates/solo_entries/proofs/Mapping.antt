@@ -31,10 +31,9 @@ use Rattle.course_laws.proofs.Extras.{described_same}
 use Rattle.course_laws.proofs.Lending.{Lent, lent_there}
 use Rattle.script_law.specs.Frames.{set_map}
 use Rattle.script_law.specs.Values.{Frames, Outcome, Solo, did, looked, looked_by, put_at, stopped, Numbers}
-use Rattle.solo_ports.specs.Coming.{IsDoneSo, IsRefusedSo}
+use Rattle.solo_ports.specs.Coming.{ComesUnpaused, IsDoneSo, IsRefusedSo}
 use Rattle.solo_ports.specs.Standing.{Clean, Owes, ShowsOthers, nothing}
 use Rattle.solo_ports.proofs.Staying.{stands_at}
-use Rattle.solo_entries.specs.Exchanges.{ComesUnpaused}
 use Rattle.solo_entries.proofs.Known.{Known}
 use Rattle.solo_entries.proofs.Standing.{owes_same, put_same, is_counting}
 use Rattle.table_law.proofs.Counting.{at_here}
@@ -149,18 +148,18 @@ module _ (k : Known) (v w : PortValue) (x : Solo) (owner f gpfn : ℕ) (clean : 
         let is : set_map n owner f gpfn x ≡ did y = ap (λ r. looked_by r x (λ s. did (record s { maps = put_at f gpfn s.maps }))) (fine_by k v w x clean owner f none) in
         subst (IsDoneSo w) (sym is) (record { fine = refl; none = refl; owes = nothing is_clean })
 
-  by_answer : (answer : Result (Unit {0}) Stop) → AnswersAs v w (refer n owner f (m (Refs f))) (set_word f gpfn m) answer → ComesUnpaused w x (set_map n owner f gpfn x) answer
+  by_answer : (answer : Result (Unit {0}) Stop) → AnswersAs v w (refer n owner f (m (Refs f))) (set_word f gpfn m) answer → ComesUnpaused w (set_map n owner f gpfn x) answer
   by_answer (Ok done) a = mapped a.0 a.1
   by_answer (Err (Refused z)) a = unlooked k v w x clean owner f z (λ s. did (record s { maps = put_at f gpfn s.maps })) a.0 (owes_same k v w x clean came a.1 rests)
   by_answer (Err (Paused z)) a = absurd a
 
 pub map_set : Known → (v w : PortValue) (x : Solo) (owner f gpfn : ℕ) (answer : Result (Unit {0}) Stop) → Clean v x → Rests w → SetFound v w f owner gpfn answer → TwinSet v w f owner gpfn answer →
-    ComesUnpaused w x (set_map v.post.machine owner f gpfn x) answer
+    ComesUnpaused w (set_map v.post.machine owner f gpfn x) answer
 map_set k v w x owner f gpfn answer clean rests found plain =
     by_answer k v w x owner f gpfn clean rests (does_came v w _ found) answer (plain (alone_telling v clean.stands.alone))
 
 -- ---- what its numbers refuse
-pub refused_numbers : (v w : PortValue) (x : Solo) (y : Refusal) (answer : Result (Unit {0}) Stop) → Clean v x → w ≡ v → answer ≡ Err (Refused y) → ComesUnpaused w x (stopped (Numbers y) x) answer
+pub refused_numbers : (v w : PortValue) (x : Solo) (y : Refusal) (answer : Result (Unit {0}) Stop) → Clean v x → w ≡ v → answer ≡ Err (Refused y) → ComesUnpaused w (stopped (Numbers y) x) answer
 refused_numbers v w x y answer clean same is =
-    subst (λ a. ComesUnpaused w x (stopped (Numbers y) x) a) (sym is)
+    subst (λ a. ComesUnpaused w (stopped (Numbers y) x) a) (sym is)
     (record { why = Numbers y; is = refl; same = refl; none = refl; owes = nothing (subst (λ u. Clean u x) (sym same) clean) })

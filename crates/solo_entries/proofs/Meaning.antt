@@ -33,7 +33,7 @@ due_comes Kept w x a r (due, kept) = subst (Comes Kept w x a) (sym due) (inr kep
 module _ (k : Known) (v w : PortValue) (x : Solo) (o : Owners) (answers : List Bool) (answer : Result (Unit {0}) Stop) (real : o.tables < length v.post.machine.page_limit) (alive : x.lives o.tables ≡ 0) (fair : Fair v w) where
   written : (f i word : ℕ) (keep : Bool) → Clean v x ⊎ KeepsEntry o f i word keep v x → Updates o (Write f i word keep) v w answers answer → Comes (KeepsEntry o f i word keep) w x (write_word v.post.machine o f i word keep x) answer
   written f i word keep (inl clean) updates = elim (write_first k v w x o f i word keep answers answer clean fair.clock updates) [
-    | inl paused ↦ due_comes (KeepsEntry o f i word keep) w x (write_word v.post.machine o f i word keep x) answer (keeps_paused k v w x o f i word keep answers answer clean real alive fair updates paused)
+    | inl paused ↦ due_comes (KeepsEntry o f i word keep) w x (write_word v.post.machine o f i word keep x) answer (keeps_paused k v w x o f i word keep answers answer clean real alive updates paused)
     | inr comes ↦ unpaused_comes (KeepsEntry o f i word keep) w x (write_word v.post.machine o f i word keep x) answer comes
   ]
   written f i word keep (inr kept) updates = resumed k v w x o f i word keep answers answer kept real alive fair updates

@@ -43,11 +43,10 @@ use Rattle.course_laws.specs.Courses.{ClockGoesOn, IsFinal}
 use Rattle.writable_pages.specs.Pages.{TookPage}
 use Rattle.script_law.specs.Frames.{write_by, write_memory, write_word, write_entry}
 use Rattle.script_law.specs.Values.{Frames, Solo, behind_by, stopped, did, looked_by, with_frames, Numbers}
-use Rattle.solo_ports.specs.Coming.{IsDoneSo, IsRefusedSo}
+use Rattle.solo_ports.specs.Coming.{ComesUnpaused, IsDoneSo, IsRefusedSo}
 use Rattle.solo_ports.specs.Standing.{Clean, IsQuiet, IsUnkept, nothing}
 use Rattle.solo_ports.proofs.Resting.{clean_orderly, clean_rests}
 use Rattle.solo_ports.proofs.Unkept.{unkept_alone, unkept_let_go}
-use Rattle.solo_entries.specs.Exchanges.{ComesUnpaused}
 use Rattle.solo_entries.proofs.Known.{Known}
 use Rattle.solo_entries.proofs.Mapping.{fine_by}
 use Rattle.solo_entries.proofs.Olds.{Keeps, gave_type_keeps, keeps_then, locked_keeps, moves_keeps, page_keeps, ref_keeps}
@@ -150,7 +149,7 @@ module _ (k : Known) (v w : PortValue) (x : Solo) (o : Owners) (f i word : ℕ) 
         subst (IsRefusedSo w z) (sym (is_memory ∙ ap (λ t. behind_by x taking t (λ s. did (with_frames (let_go 0 f (with_cell f i word s.frames)) s))) is))
         (record { why = Frames c; is = refl; same = same; none = refl; owes = nothing (leaves_clean taking.left (λ j four five. keeps j four five w (Err (Refused z)) page final) unkept_left d) })
 
-    pub memory_stopped : (e : Stop) → TookPage y f o.tables w (Err e) → ClockGoesOn v w → ComesUnpaused w x (write_word n o f i word keep x) (Err e)
+    pub memory_stopped : (e : Stop) → TookPage y f o.tables w (Err e) → ClockGoesOn v w → ComesUnpaused w (write_word n o f i word keep x) (Err e)
     memory_stopped (Refused z) page goes =
         let final = ended w (Err (Refused z)) page (came_self w) goes in
         let a = ends w (Err (Refused z)) page final in

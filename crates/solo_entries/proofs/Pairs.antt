@@ -21,15 +21,14 @@ use Rattle.table_entries.specs.Acquiring.{GotRef}
 use Rattle.course_laws.specs.Courses.{ClockGoesOn}
 use Rattle.script_law.specs.Frames.{write_word}
 use Rattle.script_law.specs.Values.{Numbers, Solo}
-use Rattle.solo_ports.specs.Coming.{IsRefusedSo}
+use Rattle.solo_ports.specs.Coming.{ComesUnpaused, IsRefusedSo}
 use Rattle.solo_ports.specs.Standing.{Clean, IsQuiet}
 use Rattle.solo_entries.proofs.Capping.{above, capped}
-use Rattle.solo_entries.specs.Exchanges.{ComesUnpaused}
 use Rattle.solo_entries.proofs.Known.{Known}
 use Rattle.solo_entries.proofs.Memory.{memory_stopped, memory_stored}
 use Rattle.solo_entries.proofs.Serving.{write_quiet}
 use Rattle.solo_entries.proofs.Standing.{KeepsOthers, keeps_others}
-use Rattle.solo_entries.proofs.Stopping.{unlost_alone}
+use Rattle.solo_entries.proofs.Stopping.{never_lost_alone}
 use Rattle.solo_entries.proofs.Writes.{PausedWrite, entry_comes, here, is_here, low, slot_left, unlocked, unreferred}
 
 -- a table of a level above 4 that was locked is one of level 4
@@ -39,7 +38,7 @@ lock_capped u y f owner l found lock = record { found = lock.found; plain = lock
 -- by any request that changes nothing but frames, and shows why it stops
 module _ (k : Known) (v w : PortValue) (x : Solo) (o : Owners) (f i word : ℕ) (keep : Bool) (clean : Clean v x) (goes : ClockGoesOn v w) (r : Request) (ds : List Deed) (serves : Serves v w r ds) (quiet : IsQuiet v.post.vcpu r ds) (rests : Rests w) where
   abbrev Plainly : Result (Unit {0}) Stop → Type 0
-  Plainly answer = ComesUnpaused w x (write_word v.post.machine o f i word keep x) answer
+  Plainly answer = ComesUnpaused w (write_word v.post.machine o f i word keep x) answer
 
   others : KeepsOthers v w x
   others = keeps_others v w x r ds clean.stands serves quiet rests
@@ -52,7 +51,7 @@ module _ (k : Known) (v w : PortValue) (x : Solo) (o : Owners) (f i word : ℕ) 
   by_entry : (u y : PortValue) (level found : ℕ) (answers : List Bool) (answer : Result (Unit {0}) Stop) → level ≤ 4 → GotRef v u f o.tables (Ok f) → TriedLock u y f o.tables (Ok (Table level found)) → is_slot (level_type level) i ≡ false →
       Exchanged y (entry_update f level i word keep) o w answers answer → IfErr answer (λ e. Stops v w r e) → PausedWrite v w o f i word keep answers answer ⊎ Plainly answer
   by_entry u y level found answers answer high ref lock slot went stops =
-      elim (entry_comes k v w x o f i word keep clean goes others u y level found ref lock high answers answer went (unlost_alone k v w r answer clean.stands.alone quiet.destroys stops)) [
+      elim (entry_comes k v w x o f i word keep clean goes others u y level found ref lock high answers answer went (never_lost_alone k v w r answer clean.stands.alone quiet.destroys stops)) [
         | inl paused ↦ inl (record {
           referred = u;
           held = y;
@@ -67,7 +66,7 @@ module _ (k : Known) (v w : PortValue) (x : Solo) (o : Owners) (f i word : ℕ) 
         })
         | inr comes ↦
             let is = is_here k v w x o f i word keep clean goes others u y level found ref lock ∙ ap (here k v w x o f i word keep clean goes others u y level found ref lock) slot in
-            inr (subst (λ e. ComesUnpaused w x e answer) (sym is) comes)
+            inr (subst (λ e. ComesUnpaused w e answer) (sym is) comes)
       ]
 
   by_level : (u y : PortValue) (level found : ℕ) (answers : List Bool) (answer : Result (Unit {0}) Stop) → GotRef v u f o.tables (Ok f) → TriedLock u y f o.tables (Ok (Table level found)) → is_slot (level_type level) i ≡ false →
@@ -90,7 +89,7 @@ module _ (k : Known) (v w : PortValue) (x : Solo) (o : Owners) (f i word : ℕ) 
 
 -- a pair's element
 pub write_first : (k : Known) (v w : PortValue) (x : Solo) (o : Owners) (f i word : ℕ) (keep : Bool) (answers : List Bool) (answer : Result (Unit {0}) Stop) → Clean v x → ClockGoesOn v w → Updates o (Write f i word keep) v w answers answer →
-    PausedWrite v w o f i word keep answers answer ⊎ ComesUnpaused w x (write_word v.post.machine o f i word keep x) answer
+    PausedWrite v w o f i word keep answers answer ⊎ ComesUnpaused w (write_word v.post.machine o f i word keep x) answer
 write_first k v w x o f i word keep answers answer clean goes a =
     let r = update_request o (Write f i word keep) answer in
     write_comes k v w x o f i word keep clean goes r a.serves.0 a.serves.2

@@ -1,5 +1,5 @@
 -- A write that the gate paused under the lock of its table, from where nothing was left, is kept.
-use Rattle.solo_entries.specs.Kept.{IsUnlocked, KeepsEntry}
+use Rattle.solo_entries.specs.Kept.{HasBegun, IsUnlockedTable, KeepsEntry}
 use Rattle.std.proofs.Common.{◌≡◌, ◌<◌, ◌≤◌, ℕ, ◌-◌, ◌==◌, if◌then◌else◌, Bool, true, false, List, length, Result, Ok, Err, refl, sym, ap, ◌∙◌, subst, arith}
 use Rattle.std.proofs.lemmas.Bool.Decides.{nat_tests}
 use Rattle.xp_words.specs.Entries.{demand_at}
@@ -38,10 +38,10 @@ use Rattle.refusal_laws.specs.Repeated as repeated
 use Rattle.refusal_laws.specs.Repeated.{PausedCalls}
 use Rattle.script_law.specs.Frames.{under_lock}
 use Rattle.script_law.specs.Values.{Solo}
-use Rattle.solo_ports.specs.Standing.{Clean, Fair, StaysAlike}
+use Rattle.solo_ports.specs.Standing.{Clean, StaysAlike}
 use Rattle.solo_ports.proofs.Along.{stands_on}
 use Rattle.solo_ports.proofs.Resting.{clean_rests}
-use Rattle.solo_entries.proofs.Begun.{Begun, follows_itself, kept_there, owner_alive, second_stays}
+use Rattle.solo_entries.proofs.Begun.{begun_there, follows_itself, kept_there, owner_alive, second_stays}
 use Rattle.solo_entries.proofs.Demanding.{PausedDemand}
 use Rattle.solo_entries.proofs.Known.{Known}
 use Rattle.solo_entries.proofs.Locking.{at_y, calm_y, came_y, can_lock, kind_is, lends}
@@ -56,7 +56,7 @@ use Rattle.solo_entries.proofs.Writing.{PausedExchange, saw_came, saw_few, saw_i
 pub owner_two : (level a b : ℕ) → 2 ≤ level → owner_at level a b ≡ a
 owner_two level a b two = let e : (level == 1) ≡ false = grind (arith, nat_tests) in ap (λ c. if c then b else a) e
 
-module _ (k : Known) (v w : PortValue) (x : Solo) (o : Owners) (f i word : ℕ) (keep : Bool) (answers : List Bool) (r : Result (Unit {0}) Stop) (clean : Clean v x) (real : o.tables < length v.post.machine.page_limit) (alive : x.lives o.tables ≡ 0) (fair : Fair v w)
+module _ (k : Known) (v w : PortValue) (x : Solo) (o : Owners) (f i word : ℕ) (keep : Bool) (answers : List Bool) (r : Result (Unit {0}) Stop) (clean : Clean v x) (real : o.tables < length v.post.machine.page_limit) (alive : x.lives o.tables ≡ 0)
     (u : Updates o (Write f i word keep) v w answers r) (a : PausedWrite v w o f i word keep answers r) where
   abbrev n : Machine
   n = v.post.machine
@@ -120,7 +120,7 @@ module _ (k : Known) (v w : PortValue) (x : Solo) (o : Owners) (f i word : ℕ) 
       let same = (keeps_then v.post.vcpu 2 two_four two_five (ref_keeps v.post.vcpu 2 two_four two_five v a.referred f o.tables (Ok f) a.ref) (locked_keeps v.post.vcpu 2 two_four two_five a.referred y f o.tables (Ok (Table a.level a.found)) a.lock) telling).same in
       subst (λ (j : Post). told_word c (old_place j.vcpu First) ≡ 0) (sym (came_post v c to_c)) (ap (λ (m : Words). m (old_place v.post.vcpu First)) words ∙ (same ∙ clean.first))
 
-  abbrev began : Begun v.post.machine v.post.vcpu o f i word keep x
+  abbrev began : HasBegun v.post.machine v.post.vcpu o f i word keep x
   began =
       record {
         level = a.level;
@@ -171,28 +171,12 @@ pub keeps_entry_on : AloneStays → (o : Owners) (f i word : ℕ) (keep : Bool) 
 keeps_entry_on stays o f i word keep v w x on e =
     let post = came_post v w on.came in
     let same : w.post.machine ≡ v.post.machine = machine_same v w on.came in
+    let b = e.begun in
     record {
       stands = stands_on stays v w x on e.stands;
       first = subst (λ (j : Post). told_word w (old_place j.vcpu First) ≡ 0) (sym post) (on.words (old_place v.post.vcpu First) two_four two_five ∙ e.first);
-      level = e.level;
-      two = e.two;
-      high = e.high;
-      open_slot = e.open_slot;
-      lockable = e.lockable;
-      typed = e.typed;
-      taken = e.taken;
-      takes = subst (λ (m : Machine). take_reference m o.tables f x.frames ≡ fine e.taken) (sym same) e.takes;
-      asked = e.asked;
-      asks = e.asks;
-      differ = e.differ;
-      from = e.from;
-      machine = e.machine ∙ sym same;
-      vcpu = e.vcpu ∙ sym (ap (λ (j : Post). j.vcpu) post);
-      rest = e.rest;
-      orderly = e.orderly;
-      clear = e.clear;
-      frames = e.frames;
+      begun = begun_there v.post.machine w.post.machine v.post.vcpu w.post.vcpu o f i word keep x same (ap (λ (j : Post). j.vcpu) post) b;
       locked = e.locked;
       calls = e.calls;
-      unlocked = subst (λ (m : Machine). IsUnlocked m f o.tables e.level (told_word w) (told_word e.locked)) (sym same) (unlocked_alike v.post.machine f o.tables e.level (told_word w) (told_word v) (told_word e.locked) on.words e.unlocked);
+      unlocked = subst (λ (m : Machine). IsUnlockedTable m f o.tables b.level (told_word w) (told_word e.locked)) (sym same) (unlocked_alike v.post.machine f o.tables b.level (told_word w) (told_word v) (told_word e.locked) on.words e.unlocked);
     }

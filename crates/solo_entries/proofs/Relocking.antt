@@ -1,5 +1,5 @@
 -- The lock of a live table goes off, and is taken again: the words are then those that were there.
-use Rattle.solo_entries.specs.Kept.{IsUnlocked}
+use Rattle.solo_entries.specs.Kept.{IsUnlockedTable}
 use Rattle.solo_entries.proofs.Lasting.{IsLockedIn}
 use Rattle.solo_entries.proofs.Standing.{is_counting, put_same}
 use Rattle.std.proofs.Common.{◌≡◌, ◌≢◌, ◌<◌, ◌≤◌, ℕ, ◌+◌, ◌-◌, ◌%◌, ◌^◌, ◌==◌, ◌&&◌, not, nat_lt, nat_le, if◌then◌else◌, Bool, true, false, Option, Some, None, Ok, Err, refl, sym, ap, ◌∙◌, subst, arith, inl, inr, ◌⊎◌}
@@ -146,7 +146,7 @@ module _ (n : Machine) (f owner level : ℕ) (m l : Words) (low : 1 ≤ level) (
       let some = locked.table.several in
       grind (arith, nat_tests)
 
-  pub unlocked_from : IsUnlocked n f owner level l m
+  pub unlocked_from : IsUnlockedTable n f owner level l m
   unlocked_from =
       record {
         inside = locked.inside;
@@ -155,7 +155,7 @@ module _ (n : Machine) (f owner level : ℕ) (m l : Words) (low : 1 ≤ level) (
         owns = locked.owns;
         lockable = ap is_lockable kind ∙ lockable_there;
         typed = ap (λ (k : KindWord). k.kind) kind ∙ locked.table.kind;
-        again = same_alike (with_lock f (got f l)) m (λ q. by_place q (same_or_other q (Kind f)) (same_or_other q (Refs f)));
+        with_lock_on = same_alike (with_lock f (got f l)) m (λ q. by_place q (same_or_other q (Kind f)) (same_or_other q (Refs f)));
       }
 
 -- it is not the last type count that goes off
@@ -213,14 +213,14 @@ module _ (z : PortValue) (f owner level : ℕ) (alone : IsAlone z) (locked : IsL
     rest_w : (q : Place) → q ≢ Kind f → q ≢ Refs f → told_word w q ≡ told_word z q
     rest_w q kind refs = w_there q ∙ changed_there (Add one_down) (Refs f) q (told_word u) refs ∙ u_there q kind
 
-    unlocked_w : 1 ≤ level → IsUnlocked z.post.machine f owner level (told_word w) (told_word z)
+    unlocked_w : 1 ≤ level → IsUnlockedTable z.post.machine f owner level (told_word w) (told_word z)
     unlocked_w low = unlocked_from z.post.machine f owner level (told_word z) (told_word w) low locked orderly_z written_z fields_w refs_w rest_w
 
     calm_w : (x : Place) → is_counting x ≡ false → x ≢ Kind f → told_word w x ≡ told_word z x
     calm_w x calm apart = gave.plain telling_u x ∙ put_same f (told_word u) x calm ∙ u_there x apart
 
--- with a reference more and the lock on again the words would be as they were
-pub unlocked_behind : (z w : PortValue) (f owner level : ℕ) → IsAlone z → 1 ≤ level → IsLockedIn z.post.machine f owner level (told_word z) → LeftLock z f level w → IsUnlocked z.post.machine f owner level (told_word w) (told_word z)
+-- with a reference more and the lock on with_lock_on the words would be as they were
+pub unlocked_behind : (z w : PortValue) (f owner level : ℕ) → IsAlone z → 1 ≤ level → IsLockedIn z.post.machine f owner level (told_word z) → LeftLock z f level w → IsUnlockedTable z.post.machine f owner level (told_word w) (told_word z)
 unlocked_behind z w f owner level alone low locked (course.shared u _ a gave) = unlocked_w z f owner level alone locked u w a gave low
 unlocked_behind z w f owner level alone low locked (course.last u y _ found a store names) = absurd (last_off z f owner level alone locked u a)
 
@@ -249,7 +249,7 @@ lock_alike : (f : ℕ) (m l : Words) → m (Kind f) ≡ l (Kind f) → Alike m l
 lock_alike f m l same alike =
     subst (λ x. Alike (change (Store (kind_write (locked_kind (kind_fields x)))) (Kind f) m) (with_lock f l)) (sym same) (alike_store (kind_write (locked_kind (kind_at l f))) (Kind f) m l alike)
 
-pub unlocked_alike : (n : Machine) (f owner level : ℕ) (m' m l : Words) → Alike m' m → IsUnlocked n f owner level m l → IsUnlocked n f owner level m' l
+pub unlocked_alike : (n : Machine) (f owner level : ℕ) (m' m l : Words) → Alike m' m → IsUnlockedTable n f owner level m l → IsUnlockedTable n f owner level m' l
 unlocked_alike n f owner level m' m l alike is =
     let refs : m' (Refs f) ≡ m (Refs f) = same_refs (m' (Refs f)) (m (Refs f)) is.share is.held (alike (Refs f)) in
     let kind : m' (Kind f) ≡ m (Kind f) = same_kind (m' (Kind f)) (m (Kind f)) is.lockable (alike (Kind f)) in
@@ -261,11 +261,11 @@ unlocked_alike n f owner level m' m l alike is =
       owns = is.owns;
       lockable = ap (λ x. is_lockable (kind_fields x)) kind ∙ is.lockable;
       typed = ap (λ x. (kind_fields x).kind) kind ∙ is.typed;
-      again = alike_trans (with_lock f (got f m')) (with_lock f (got f m)) l (lock_alike f (got f m') (got f m) marked (got_alike f m' m refs alike)) is.again;
+      with_lock_on = alike_trans (with_lock f (got f m')) (with_lock f (got f m)) l (lock_alike f (got f m') (got f m) marked (got_alike f m' m refs alike)) is.with_lock_on;
     }
 
--- ---- it is locked again
-module _ (v : PortValue) (f owner level : ℕ) (l : Words) (alone : IsAlone v) (is : IsUnlocked v.post.machine f owner level (told_word v) l) where
+-- ---- it is locked with_lock_on
+module _ (v : PortValue) (f owner level : ℕ) (l : Words) (alone : IsAlone v) (is : IsUnlockedTable v.post.machine f owner level (told_word v) l) where
   telling_v : is_telling v ≡ true
   telling_v = alone_telling v alone
 
@@ -285,7 +285,7 @@ module _ (v : PortValue) (f owner level : ℕ) (l : Words) (alone : IsAlone v) (
         let m = told_word v in (
           alike_trans (told_word y) (with_lock f (got f m)) l
               (alike_trans (told_word y) (with_lock f (told_word u)) (with_lock f (got f m)) (same_alike (told_word y) (with_lock f (told_word u)) marks.3) (lock_alike f (told_word u) (got f m) (leaves_u (Kind f)) (same_alike (told_word u) (got f m) leaves_u)))
-              is.again,
+              is.with_lock_on,
           sym marks.2 ∙ ap (λ x. (kind_fields x).kind) (marks.0 ∙ kind_u) ∙ is.typed,
         )
 
@@ -296,11 +296,11 @@ module _ (v : PortValue) (f owner level : ℕ) (l : Words) (alone : IsAlone v) (
         let not_so = marks.1 in
         cc
 
-pub relocked : (v u y : PortValue) (f owner level level' found : ℕ) (l : Words) → IsAlone v → IsUnlocked v.post.machine f owner level (told_word v) l → GotRef v u f owner (Ok f) → TriedLock u y f owner (Ok (Table level' found)) →
+pub relocked : (v u y : PortValue) (f owner level level' found : ℕ) (l : Words) → IsAlone v → IsUnlockedTable v.post.machine f owner level (told_word v) l → GotRef v u f owner (Ok f) → TriedLock u y f owner (Ok (Table level' found)) →
     Alike (told_word y) l × (level_type level' ≡ level_type level)
 relocked v u y f owner level level' found l alone is ref lock = locked_u v f owner level l alone is u ref y level' found lock
 
-pub never_other : (v u y : PortValue) (f owner level found : ℕ) (l : Words) → IsAlone v → IsUnlocked v.post.machine f owner level (told_word v) l → GotRef v u f owner (Ok f) → TriedLock u y f owner (Ok (Other found)) → ⊥
+pub never_other : (v u y : PortValue) (f owner level found : ℕ) (l : Words) → IsAlone v → IsUnlockedTable v.post.machine f owner level (told_word v) l → GotRef v u f owner (Ok f) → TriedLock u y f owner (Ok (Other found)) → ⊥
 never_other v u y f owner level found l alone is ref lock = other_u v f owner level l alone is u ref y found lock
 
 -- ---- a reference to it is refused only for its count
@@ -334,7 +334,7 @@ only_full n owner f w s y inside held owns is =
     by_owner f w y (s.owner == owner) (nat_le n.limit s.count) own
     (sym (ap (refer_by n.limit owner f w) reads) ∙ (sym (ap (λ b. if b then refer_by n.limit owner f w (ref_read w) else Some (refusals.NoFrame f)) there) ∙ is))
 
-pub never_unreferred : (v w : PortValue) (f owner level : ℕ) (l : Words) (stop : Stop) → IsAlone v → IsUnlocked v.post.machine f owner level (told_word v) l → GotRef v w f owner (Err stop) → HasRoom v w → ⊥
+pub never_unreferred : (v w : PortValue) (f owner level : ℕ) (l : Words) (stop : Stop) → IsAlone v → IsUnlockedTable v.post.machine f owner level (told_word v) l → GotRef v w f owner (Err stop) → HasRoom v w → ⊥
 never_unreferred v w f owner level l (Paused x) alone is ref room = ref.plain (alone_telling v alone)
 never_unreferred v w f owner level l (Refused y) alone is ref room =
     let full = only_full v.post.machine owner f (told_word v (Refs f)) is.share y is.inside is.held is.owns (ref.plain (alone_telling v alone)).0 in

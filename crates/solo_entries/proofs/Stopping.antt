@@ -40,15 +40,15 @@ stops_within v a b w (Ok done) before s after = tt
 stops_within v a b w (Err e) before s after = behind v a w e before (ahead_of a b w e s after)
 
 -- ---- no exchange of a word is lost
-abbrev pub IsUnlost : Result (Unit {0}) Stop → Type 0
-IsUnlost (Err (Paused (Lost place e found))) = ⊥
-IsUnlost _ = Unit {0}
+abbrev pub IsNotLost : Result (Unit {0}) Stop → Type 0
+IsNotLost (Err (Paused (Lost place e found))) = ⊥
+IsNotLost _ = Unit {0}
 
-pub unlost_alone : Known → (v w : PortValue) (r : Request) (answer : Result (Unit {0}) Stop) → IsAlone v → r.destroys ≡ None → IfErr answer (λ e. Stops v w r e) → IsUnlost answer
-unlost_alone k v w r (Ok done) alone none stops = tt
-unlost_alone k v w r (Err (Refused x)) alone none stops = tt
-unlost_alone k v w r (Err (Paused (Lost place e found))) alone none stops = k.neither v w r (Lost place e found) alone none stops
-unlost_alone k v w r (Err (Paused (Busy f found))) alone none stops = tt
-unlost_alone k v w r (Err (Paused Due)) alone none stops = tt
-unlost_alone k v w r (Err (Paused (Flush u stamp found))) alone none stops = tt
-unlost_alone k v w r (Err (Paused (Alive u found))) alone none stops = tt
+pub never_lost_alone : Known → (v w : PortValue) (r : Request) (answer : Result (Unit {0}) Stop) → IsAlone v → r.destroys ≡ None → IfErr answer (λ e. Stops v w r e) → IsNotLost answer
+never_lost_alone k v w r (Ok done) alone none stops = tt
+never_lost_alone k v w r (Err (Refused x)) alone none stops = tt
+never_lost_alone k v w r (Err (Paused (Lost place e found))) alone none stops = k.neither v w r (Lost place e found) alone none stops
+never_lost_alone k v w r (Err (Paused (Busy f found))) alone none stops = tt
+never_lost_alone k v w r (Err (Paused Due)) alone none stops = tt
+never_lost_alone k v w r (Err (Paused (Flush u stamp found))) alone none stops = tt
+never_lost_alone k v w r (Err (Paused (Alive u found))) alone none stops = tt

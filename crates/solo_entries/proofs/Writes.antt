@@ -1,5 +1,5 @@
 -- A write, from a port at which nothing is left to be settled, comes to its plain meaning, where it is not paused.
-use Rattle.solo_entries.specs.Exchanges.{ComesSo, ComesUnpaused, IsLockedTable, now}
+use Rattle.solo_entries.specs.Exchanges.{ComesSo, HasTwoTypeCounts, now}
 use Rattle.std.proofs.Common.{◌≡◌, ◌⊎◌, ◌≤◌, ◌<◌, ℕ, zero, suc, ◌&&◌, nat_lt, if◌then◌else◌, Bool, true, false, List, length, Result, Ok, Err, IsTrue, refl, sym, ap, ◌∙◌, subst, arith, not, inl, inr}
 use Rattle.std.proofs.lemmas.Bool.{and_parts}
 use Rattle.xp_words.specs.Entries.{is_slot}
@@ -37,6 +37,7 @@ use Rattle.course_laws.specs.Courses.{ClockGoesOn}
 use Rattle.course_laws.proofs.Extras.{described_same}
 use Rattle.script_law.specs.Frames.{exchange_at, under_lock, write_by, write_entry, write_memory, write_word}
 use Rattle.script_law.specs.Values.{Numbers, Outcome, Solo, behind, did, looked_by, stopped, with_frames}
+use Rattle.solo_ports.specs.Coming.{ComesUnpaused}
 use Rattle.solo_ports.specs.Standing.{Clean, IsUnkept, Owes}
 use Rattle.solo_ports.proofs.Resting.{clean_rests}
 use Rattle.solo_ports.proofs.Unkept.{unkept_kind}
@@ -46,9 +47,9 @@ use Rattle.solo_entries.proofs.Locking.{at_y, calm_y, can_lock, came_y, held_y, 
 use Rattle.solo_entries.proofs.Mapping.{fine_by, unlooked}
 use Rattle.solo_entries.proofs.Olds.{keeps_then, locked_keeps, ref_keeps, three_five, three_four, two_five, two_four}
 use Rattle.solo_entries.proofs.Standing.{KeepsOthers, machine_same, owes_same}
-use Rattle.solo_entries.proofs.Stopping.{IsUnlost}
+use Rattle.solo_entries.proofs.Stopping.{IsNotLost}
 use Rattle.solo_entries.proofs.Unkept.{unkept_exchanged}
-use Rattle.solo_entries.proofs.Writing.{Comes2, PausedExchange, exchange_ends, outcome_comes, owes_left}
+use Rattle.solo_entries.proofs.Writing.{ComesBesideSecond, PausedExchange, exchange_ends, outcome_comes, owes_left}
 
 -- the gate paused it: behind the lock of a live table the acquisition of the table that the new word asked was paused, and the lock taken off
 pub record PausedWrite (v w : PortValue) (o : Owners) (f i word : ℕ) (keep : Bool) (answers : List Bool) (r : Result (Unit {0}) Stop) : Type 0 where
@@ -87,7 +88,7 @@ module _ (k : Known) (v w : PortValue) (x : Solo) (o : Owners) (f i word : ℕ) 
   telling = alone_telling v clean.stands.alone
 
   -- ---- the reference is not to be had
-  pub unreferred : (e : Stop) → GotRef v w f o.tables (Err e) → ComesUnpaused w x (write_word n o f i word keep x) (Err e)
+  pub unreferred : (e : Stop) → GotRef v w f o.tables (Err e) → ComesUnpaused w (write_word n o f i word keep x) (Err e)
   unreferred (Refused z) ref =
       unlooked k v w x clean o.tables f z (λ s. write_by n o f i word keep s (s.frames.kinds f)) (ref.plain telling).0 (owes_same k v w x clean others.came (ref.plain telling).1 others.rests)
   unreferred (Paused z) ref = absurd (ref.plain telling)
@@ -118,7 +119,7 @@ module _ (k : Known) (v w : PortValue) (x : Solo) (o : Owners) (f i word : ℕ) 
     pub typed : (p.kinds f).kind ≡ level_type level
     typed = kind_is k v u y p o.tables f level found clean.stands.machine clean.stands.alone calm clean.frames ref lock
 
-    held : IsLockedTable f q
+    held : HasTwoTypeCounts f q
     held = held_y k v u y p o.tables f level found clean.stands.machine clean.stands.alone calm clean.frames ref lock
 
     described : Describes n (told_word y) q
@@ -187,7 +188,7 @@ module _ (k : Known) (v w : PortValue) (x : Solo) (o : Owners) (f i word : ℕ) 
           ap (λ a. behind x a (λ s. exchange_at n o (type_number (s.frames.kinds f).kind) f i word keep s)) takes
           ∙ ap (λ l. exchange_at n o l f i word keep (with_frames more x)) (ap type_number typed ∙ number_of level low high)
 
-      entry_ends : (answers : List Bool) (answer : Result (Unit {0}) Stop) → IsUnlost answer → Exchanged y t o w answers answer → PausedExchange y w t o answers answer ⊎ Comes2 y.post.machine y w (exchanged_plain y.post.machine t o q) answer
+      entry_ends : (answers : List Bool) (answer : Result (Unit {0}) Stop) → IsNotLost answer → Exchanged y t o w answers answer → PausedExchange y w t o answers answer ⊎ ComesBesideSecond y.post.machine y w (exchanged_plain y.post.machine t o q) answer
       entry_ends answers answer unlost went =
           exchange_ends k y w t o q (subst IsMachine (sym machine_y) clean.stands.machine) (k.stays v y clean.stands.alone to_y) (subst (λ (j : Machine). length j.vcpu_domain ≡ 1) (sym machine_y) clean.stands.only)
           (subst (λ (j : Machine). IsAtRest j (told_word y)) (sym machine_y) (calm_y k v u y p o.tables f level found clean.stands.machine clean.stands.alone calm clean.frames ref lock)) keeps_first
@@ -196,15 +197,15 @@ module _ (k : Known) (v w : PortValue) (x : Solo) (o : Owners) (f i word : ℕ) 
       ends_second : told_word w (old_place y.post.vcpu Second) ≡ told_word y (old_place y.post.vcpu Second) → told_word w (old_place v.post.vcpu Second) ≡ told_word v (old_place v.post.vcpu Second)
       ends_second same = subst (λ (j : Post). told_word w (old_place j.vcpu Second) ≡ told_word y (old_place j.vcpu Second)) (came_post v y to_y) same ∙ keeps_second
 
-      ends_so : (answer : Result (Unit {0}) Stop) → Comes2 y.post.machine y w (exchanged_plain y.post.machine t o q) answer → ComesUnpaused w x (write_entry n o f i word keep x) answer
+      ends_so : (answer : Result (Unit {0}) Stop) → ComesBesideSecond y.post.machine y w (exchanged_plain y.post.machine t o q) answer → ComesUnpaused w (write_entry n o f i word keep x) answer
       ends_so answer c =
-          subst (λ a. ComesUnpaused w x a answer) (sym entry_is)
+          subst (λ a. ComesUnpaused w a answer) (sym entry_is)
           (outcome_comes k v w x clean.stands others (ends_second c.second) (exchanged_plain n t o q) more answer
           (unkept_exchanged n (owner_at level o.tables o.frames) (place_in t) (word_kept keep (p.cells f i) word) q unkept_q)
           (subst (λ (j : Machine). ComesSo j w (exchanged_plain j t o q) answer) machine_y c.comes))
 
-      pub entry_comes : (answers : List Bool) (answer : Result (Unit {0}) Stop) → Exchanged y (entry_update f level i word keep) o w answers answer → IsUnlost answer →
-          PausedExchange y w (entry_update f level i word keep) o answers answer ⊎ ComesUnpaused w x (write_entry n o f i word keep x) answer
+      pub entry_comes : (answers : List Bool) (answer : Result (Unit {0}) Stop) → Exchanged y (entry_update f level i word keep) o w answers answer → IsNotLost answer →
+          PausedExchange y w (entry_update f level i word keep) o answers answer ⊎ ComesUnpaused w (write_entry n o f i word keep x) answer
       entry_comes answers answer went unlost = elim (entry_ends answers answer unlost went) [
         | inl paused ↦ inl paused
         | inr c ↦ inr (ends_so answer c)

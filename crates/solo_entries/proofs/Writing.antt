@@ -1,5 +1,5 @@
 -- A word of a live table is written, from a port at which nothing is left to be settled: refused as the hypervisor's, or its entry exchanged.
-use Rattle.solo_entries.specs.Exchanges.{ComesSo, ComesUnpaused, IsLockedTable, LeavesFrames, later, now}
+use Rattle.solo_entries.specs.Exchanges.{ComesSo, HasTwoTypeCounts, LeavesFrames, later, now}
 use Rattle.std.proofs.Common.{◌≡◌, ◌⊎◌, ◌≤◌, ◌<◌, ℕ, ◌-◌, ◌&&◌, nat_lt, Bool, true, false, List, length, Result, Ok, Err, IsTrue, refl, sym, ap, ◌∙◌, subst, arith, inl, inr}
 use Rattle.std.proofs.Math.Path.{fun_ext}
 use Rattle.std.proofs.lemmas.Bool.{and_parts}
@@ -40,7 +40,7 @@ use Rattle.table_law.proofs.OnWords.{counts_plain}
 use Rattle.course_laws.specs.Courses.{ClockGoesOn}
 use Rattle.release_laws.specs.Pauses.{IsLeft}
 use Rattle.script_law.specs.Values.{Frames, Outcome, Solo, behind_by, did, with_frames}
-use Rattle.solo_ports.specs.Coming.{Comes, IsDoneSo, IsRefusedSo}
+use Rattle.solo_ports.specs.Coming.{Comes, ComesUnpaused, IsDoneSo, IsRefusedSo}
 use Rattle.solo_ports.specs.Standing.{IsUnkept, Owes, Stands, a_release, nothing}
 use Rattle.solo_entries.proofs.Demanding.{PausedDemand, TookSo, demand_comes, demand_second}
 use Rattle.solo_entries.proofs.Entries.{bad_comes, done_comes, same_comes, untaken_comes, held_cell}
@@ -50,7 +50,7 @@ use Rattle.solo_entries.proofs.Known.{Known}
 use Rattle.solo_entries.proofs.Locking.{lock_leaves}
 use Rattle.solo_entries.proofs.Olds.{KeepsSecond, puts_keeps, three_four, three_five}
 use Rattle.solo_entries.proofs.Standing.{KeepsOthers, machine_same, stands_behind}
-use Rattle.solo_entries.proofs.Stopping.{IsUnlost}
+use Rattle.solo_entries.proofs.Stopping.{IsNotLost}
 use Rattle.table_law.specs.Exchange.{with_cell}
 
 -- ---- what is left, as a port stands, behind steps that change nothing but the frames
@@ -67,7 +67,7 @@ module _ (k : Known) (v w : PortValue) (x : Solo) (stands : Stands v x) (others 
       a_release g l (stands_left q unkept) (subst (λ (o : Post). IsLeft o.machine w g l q) (sym same) left)
 
   -- an outcome on the frames alone, behind other frames
-  pub outcome_comes : (a : PlainOutcome) (p : Plain) (answer : Result (Unit {0}) Stop) → IsUnkept v.post.machine a.left → ComesSo v.post.machine w a answer → ComesUnpaused w x (behind_by (with_frames p x) a a.refusal did) answer
+  pub outcome_comes : (a : PlainOutcome) (p : Plain) (answer : Result (Unit {0}) Stop) → IsUnkept v.post.machine a.left → ComesSo v.post.machine w a answer → ComesUnpaused w (behind_by (with_frames p x) a a.refusal did) answer
   outcome_comes a p (Ok done) unkept c =
       subst (λ t. IsDoneSo w (behind_by (with_frames p x) a t did)) (sym c.0) (record { fine = refl; none = refl; owes = owes_left a.left unkept c.1 })
   outcome_comes a p (Err (Refused z)) unkept c =
@@ -75,7 +75,7 @@ module _ (k : Known) (v w : PortValue) (x : Solo) (stands : Stands v x) (others 
   outcome_comes a p (Err (Paused z)) unkept c = absurd c
 
 -- one that is not paused, as one that might be
-pub unpaused_comes : (Kept : PortValue → Solo → Type 0) (w : PortValue) (x : Solo) (a : Outcome) (answer : Result (Unit {0}) Stop) → ComesUnpaused w x a answer → Comes Kept w x a answer
+pub unpaused_comes : (Kept : PortValue → Solo → Type 0) (w : PortValue) (x : Solo) (a : Outcome) (answer : Result (Unit {0}) Stop) → ComesUnpaused w a answer → Comes Kept w x a answer
 unpaused_comes Kept w x a (Ok done) c = c
 unpaused_comes Kept w x a (Err (Refused z)) c = c
 unpaused_comes Kept w x a (Err (Paused z)) c = absurd c
@@ -91,13 +91,14 @@ pub record PausedExchange (y w : PortValue) (t : EntryUpdate) (o : Owners) (answ
   pub paused : PausedDemand looked (owner_at t.level o.tables o.frames) t.level (new_demand t seen) left answers answer
   pub off_it : LeftLock left t.table t.level w
 
-pub put_lost : (a b : PortValue) (f i seen new : ℕ) (keep : Bool) (r : Result ℕ Stop) → PutEntry a b f i seen new keep r → (stop : Stop) → r ≡ Err stop → IsUnlost (Err stop) → ⊥
+pub put_lost : (a b : PortValue) (f i seen new : ℕ) (keep : Bool) (r : Result ℕ Stop) → PutEntry a b f i seen new keep r → (stop : Stop) → r ≡ Err stop → IsNotLost (Err stop) → ⊥
 put_lost a b f i seen new _ _ (course.stored old step) stop is unlost = absurd cc
 put_lost a b f i seen new _ _ (course.exchanged step) stop is unlost = absurd cc
 put_lost a b f i seen new _ _ (course.lost found off step) stop is unlost =
-    let e : stop ≡ Paused (Lost (number (sizes_of a.post.machine) (Cell f i)) seen found) = cc in subst (λ x. IsUnlost (Err x)) e unlost
+    let e : stop ≡ Paused (Lost (number (sizes_of a.post.machine) (Cell f i)) seen found) = cc in subst (λ x. IsNotLost (Err x)) e unlost
 
-pub record Comes2 (n : Machine) (y w : PortValue) (a : PlainOutcome) (answer : Result (Unit {0}) Stop) : Type 0 where
+-- what a whole exchange comes to; and the second old word stays
+pub record ComesBesideSecond (n : Machine) (y w : PortValue) (a : PlainOutcome) (answer : Result (Unit {0}) Stop) : Type 0 where
   pub comes : ComesSo n w a answer
   pub second : told_word w (old_place y.post.vcpu Second) ≡ told_word y (old_place y.post.vcpu Second)
 
@@ -123,7 +124,7 @@ module _ (y u : PortValue) (f i seen : ℕ) (saw : SawEntry y u f i seen) where
   saw_it telling = told_there y u _ _ _ _ _ saw telling
 
 -- ---- behind it, with what it asks taken or refused: the words before it do not matter
-module _ (k : Known) (y w : PortValue) (t : EntryUpdate) (o : Owners) (q : Plain) (machine : IsMachine y.post.machine) (telling : is_telling y ≡ true) (counts : CountsSome y.post.machine q) (held : IsLockedTable t.table q) (low : 1 ≤ t.level) (high : t.level ≤ 4)
+module _ (k : Known) (y w : PortValue) (t : EntryUpdate) (o : Owners) (q : Plain) (machine : IsMachine y.post.machine) (telling : is_telling y ≡ true) (counts : CountsSome y.post.machine q) (held : HasTwoTypeCounts t.table q) (low : 1 ≤ t.level) (high : t.level ≤ 4)
     (u : PortValue) (seen : ℕ) (saw : SawEntry y u t.table t.index seen) (cell : q.cells t.table t.index ≡ seen) where
   abbrev whose : ℕ
   whose = owner_at t.level o.tables o.frames
@@ -147,11 +148,11 @@ module _ (k : Known) (y w : PortValue) (t : EntryUpdate) (o : Owners) (q : Plain
       let one = (keeps (came_telling u a before ∙ telling_look)).same in
       subst (λ s. told_word b (old_place s Second) ≡ told_word a (old_place s Second)) vcpu one ∙ was
 
-  pub lock_second : (a b : PortValue) (p : Plain) → Came u a → IsLockedTable t.table p → Describes y.post.machine (told_word a) p → LeftLock a t.table t.level b → told_word a (old_place y.post.vcpu Second) ≡ told_word y (old_place y.post.vcpu Second) → told_word b (old_place y.post.vcpu Second) ≡ told_word y (old_place y.post.vcpu Second)
+  pub lock_second : (a b : PortValue) (p : Plain) → Came u a → HasTwoTypeCounts t.table p → Describes y.post.machine (told_word a) p → LeftLock a t.table t.level b → told_word a (old_place y.post.vcpu Second) ≡ told_word y (old_place y.post.vcpu Second) → told_word b (old_place y.post.vcpu Second) ≡ told_word y (old_place y.post.vcpu Second)
   lock_second a b p before h at lock was =
       lock_leaves y.post.machine a b t.table t.level p (machine_same u a before ∙ same_look) (came_telling u a before ∙ telling_look) at h lock (old_place y.post.vcpu Second) refl (λ e. cc) ∙ was
 
-  left_second : (a b : PortValue) (p : Plain) → Came u a → IsLockedTable t.table p → LeavesFrames y.post.machine a p → LeftLock a t.table t.level b → told_word a (old_place y.post.vcpu Second) ≡ told_word y (old_place y.post.vcpu Second) → told_word b (old_place y.post.vcpu Second) ≡ told_word y (old_place y.post.vcpu Second)
+  left_second : (a b : PortValue) (p : Plain) → Came u a → HasTwoTypeCounts t.table p → LeavesFrames y.post.machine a p → LeftLock a t.table t.level b → told_word a (old_place y.post.vcpu Second) ≡ told_word y (old_place y.post.vcpu Second) → told_word b (old_place y.post.vcpu Second) ≡ told_word y (old_place y.post.vcpu Second)
   left_second a b p before h left lock was =
       let vcpu = ap (λ (j : Post). j.vcpu) (came_post y a (came_trans y u a came_look before)) in
       let one = unlocked_second k y.post.machine a b t.table t.level p (machine_same u a before ∙ same_look) (came_telling u a before ∙ telling_look) low h lock left in
@@ -160,12 +161,12 @@ module _ (k : Known) (y w : PortValue) (t : EntryUpdate) (o : Owners) (q : Plain
   abbrev taking : PlainOutcome
   taking = meet y.post.machine (owner_at t.level o.tables o.frames) (take_at (t.level - 1) y.post.machine (owner_at t.level o.tables o.frames)) t.table t.index q (new_demand t seen)
 
-  held_taking : IsLockedTable t.table taking.left
+  held_taking : HasTwoTypeCounts t.table taking.left
   held_taking = held_meet y.post.machine whose t.table q counts held (t.level - 1) t.table t.index (new_demand t seen)
 
   pub refused_behind : (z : PortValue) (answers : List Bool) (c : Refusal) → same_demand (new_demand t seen) (old_demand t seen) ≡ false → TookNew u z t o seen answers (Err (Refused c)) → KeepsSecond u z →
       TookSo {A = Unit {0}} y.post.machine z (meet y.post.machine (owner_at t.level o.tables o.frames) (take_at (t.level - 1) y.post.machine (owner_at t.level o.tables o.frames)) t.table t.index q (new_demand t seen)) (Err (Refused c)) →
-      LeftLock z t.table t.level w → Comes2 y.post.machine y w (exchanged_plain y.post.machine t o q) (Err (Refused c))
+      LeftLock z t.table t.level w → ComesBesideSecond y.post.machine y w (exchanged_plain y.post.machine t o q) (Err (Refused c))
   refused_behind z answers c differ took keeps so lock =
       record {
         comes = untaken_comes k y.post.machine t o q seen low high machine counts held cell u z w answers c same_look telling_look differ took so lock;
@@ -174,7 +175,7 @@ module _ (k : Known) (y w : PortValue) (t : EntryUpdate) (o : Owners) (q : Plain
 
   pub done_behind : (z a b : PortValue) (was : ℕ) (answers more : List Bool) → same_demand (new_demand t seen) (old_demand t seen) ≡ false → TookNew u z t o seen answers (Ok tt) → KeepsSecond u z →
       TookSo {A = Unit {0}} y.post.machine z (meet y.post.machine (owner_at t.level o.tables o.frames) (take_at (t.level - 1) y.post.machine (owner_at t.level o.tables o.frames)) t.table t.index q (new_demand t seen)) (Ok tt) →
-      PutsNew z a t seen (Ok was) → LeftLock a t.table t.level b → ReleasedDemand b (old_demand t was) w more → Comes2 y.post.machine y w (exchanged_plain y.post.machine t o q) (Ok tt)
+      PutsNew z a t seen (Ok was) → LeftLock a t.table t.level b → ReleasedDemand b (old_demand t was) w more → ComesBesideSecond y.post.machine y w (exchanged_plain y.post.machine t o q) (Ok tt)
   done_behind z a b was answers more differ took keeps so puts lock gone =
       let new = word_kept t.keep seen t.word in
       let came_z = demand_came whose t.level u (new_demand t seen) z answers (Ok tt) took in
@@ -189,7 +190,7 @@ module _ (k : Known) (y w : PortValue) (t : EntryUpdate) (o : Owners) (q : Plain
 
 -- ---- from words that q describes
 module _ (k : Known) (y w : PortValue) (t : EntryUpdate) (o : Owners) (q : Plain) (machine : IsMachine y.post.machine) (alone : IsAlone y) (only : length y.post.machine.vcpu_domain ≡ 1) (calm : IsAtRest y.post.machine (told_word y)) (first : told_word y (old_place y.post.vcpu First) ≡ 0)
-    (d : Describes y.post.machine (told_word y) q) (held : IsLockedTable t.table q) (low : 1 ≤ t.level) (high : t.level ≤ 4) (goes : ClockGoesOn y w) where
+    (d : Describes y.post.machine (told_word y) q) (held : HasTwoTypeCounts t.table q) (low : 1 ≤ t.level) (high : t.level ≤ 4) (goes : ClockGoesOn y w) where
   abbrev n : Machine
   n = y.post.machine
 
@@ -249,17 +250,17 @@ module _ (k : Known) (y w : PortValue) (t : EntryUpdate) (o : Owners) (q : Plain
     whole = exchanged_plain y.post.machine t o q
 
     -- the lock goes off
-    off_second : (a : PortValue) (p : Plain) → Came u a → IsLockedTable t.table p → Describes n (told_word a) p → LeftLock a t.table t.level w → told_word a (old_place y.post.vcpu Second) ≡ told_word y (old_place y.post.vcpu Second) → told_word w (old_place y.post.vcpu Second) ≡ told_word y (old_place y.post.vcpu Second)
+    off_second : (a : PortValue) (p : Plain) → Came u a → HasTwoTypeCounts t.table p → Describes n (told_word a) p → LeftLock a t.table t.level w → told_word a (old_place y.post.vcpu Second) ≡ told_word y (old_place y.post.vcpu Second) → told_word w (old_place y.post.vcpu Second) ≡ told_word y (old_place y.post.vcpu Second)
     off_second a p before h at lock was = lock_second k y w t o q machine telling counts held low high u seen saw cell a w p before h at lock was
 
-    bad_ends : (new_demand t seen ≡ demands.Bad) → LeftLock u t.table t.level w → Comes2 n y w whole (Err (Refused (refusals.Reserved t.table t.index (word_kept t.keep seen t.word))))
+    bad_ends : (new_demand t seen ≡ demands.Bad) → LeftLock u t.table t.level w → ComesBesideSecond n y w whole (Err (Refused (refusals.Reserved t.table t.index (word_kept t.keep seen t.word))))
     bad_ends bad lock =
         record {
           comes = bad_comes k n t o q seen low high machine counts held cell u w same_u telling_u (now first_u at_u) bad lock;
           second = off_second u q (came_self u) held at_u lock second_u;
         }
 
-    same_ends : (z : PortValue) (was : ℕ) → same_demand (new_demand t seen) (old_demand t seen) ≡ true → PutsNew u z t seen (Ok was) → LeftLock z t.table t.level w → Comes2 n y w whole (Ok tt)
+    same_ends : (z : PortValue) (was : ℕ) → same_demand (new_demand t seen) (old_demand t seen) ≡ true → PutsNew u z t seen (Ok was) → LeftLock z t.table t.level w → ComesBesideSecond n y w whole (Ok tt)
     same_ends z was alike puts lock =
         let new = word_kept t.keep seen t.word in
         let put = entry_put n u z t.table t.index seen new t.keep (Ok was) q telling_u at_u puts in
@@ -270,7 +271,7 @@ module _ (k : Known) (y w : PortValue) (t : EntryUpdate) (o : Owners) (q : Plain
               (subst (λ s. told_word z (old_place s Second) ≡ told_word u (old_place s Second)) (ap (λ (j : Post). j.vcpu) (came_post y u came_u)) keeps ∙ second_u);
         }
 
-    untaken_ends : (z : PortValue) (answers : List Bool) (stop : Stop) → same_demand (new_demand t seen) (old_demand t seen) ≡ false → TookNew u z t o seen answers (Err stop) → LeftLock z t.table t.level w → PausedExchange y w t o answers (Err stop) ⊎ Comes2 n y w whole (Err stop)
+    untaken_ends : (z : PortValue) (answers : List Bool) (stop : Stop) → same_demand (new_demand t seen) (old_demand t seen) ≡ false → TookNew u z t o seen answers (Err stop) → LeftLock z t.table t.level w → PausedExchange y w t o answers (Err stop) ⊎ ComesBesideSecond n y w whole (Err stop)
     untaken_ends z answers stop differ took lock =
         let after = lock_came z w t.table t.level lock in
         elim (took_so z answers (Err stop) took after) [
@@ -278,12 +279,12 @@ module _ (k : Known) (y w : PortValue) (t : EntryUpdate) (o : Owners) (q : Plain
           | inr so ↦ inr (refused_ends stop took lock (took_there z (Err stop) so))
         ]
       where
-        refused_ends : (e : Stop) → TookNew u z t o seen answers (Err e) → LeftLock z t.table t.level w → TookSo {A = Unit {0}} n z (meet n owner (take_at (t.level - 1) n owner) t.table t.index q (new_demand t seen)) (Err e) → Comes2 n y w whole (Err e)
+        refused_ends : (e : Stop) → TookNew u z t o seen answers (Err e) → LeftLock z t.table t.level w → TookSo {A = Unit {0}} n z (meet n owner (take_at (t.level - 1) n owner) t.table t.index q (new_demand t seen)) (Err e) → ComesBesideSecond n y w whole (Err e)
         refused_ends (Refused c) a off_it so =
             refused_behind k y w t o q machine telling counts held low high u seen saw cell z answers c differ a (took_second z answers (Err (Refused c)) a (lock_came z w t.table t.level off_it)) so off_it
         refused_ends (Paused c) a off_it so = absurd so
 
-    done_ends : (z a b : PortValue) (was : ℕ) (answers more : List Bool) → same_demand (new_demand t seen) (old_demand t seen) ≡ false → TookNew u z t o seen answers (Ok tt) → PutsNew z a t seen (Ok was) → LeftLock a t.table t.level b → ReleasedDemand b (old_demand t was) w more → Comes2 n y w whole (Ok tt)
+    done_ends : (z a b : PortValue) (was : ℕ) (answers more : List Bool) → same_demand (new_demand t seen) (old_demand t seen) ≡ false → TookNew u z t o seen answers (Ok tt) → PutsNew z a t seen (Ok was) → LeftLock a t.table t.level b → ReleasedDemand b (old_demand t was) w more → ComesBesideSecond n y w whole (Ok tt)
     done_ends z a b was answers more differ took puts lock gone =
         let new = word_kept t.keep seen t.word in
         let came_z = demand_came owner t.level u (new_demand t seen) z answers (Ok tt) took in
@@ -300,7 +301,7 @@ module _ (k : Known) (y w : PortValue) (t : EntryUpdate) (o : Owners) (q : Plain
         ]
 
   -- ---- the whole
-  pub exchange_ends : (answers : List Bool) (r : Result (Unit {0}) Stop) → IsUnlost r → Exchanged y t o w answers r → PausedExchange y w t o answers r ⊎ Comes2 y.post.machine y w (exchanged_plain y.post.machine t o q) r
+  pub exchange_ends : (answers : List Bool) (r : Result (Unit {0}) Stop) → IsNotLost r → Exchanged y t o w answers r → PausedExchange y w t o answers r ⊎ ComesBesideSecond y.post.machine y w (exchanged_plain y.post.machine t o q) r
   exchange_ends _ _ unlost (course.bad u _ seen saw bad lock) = inr (bad_ends u seen saw bad lock)
   exchange_ends _ _ unlost (course.same u z _ seen was saw alike puts lock) = inr (same_ends u seen saw z was alike puts lock)
   exchange_ends _ _ unlost (course.unput u z _ seen stop saw alike puts lock) = absurd (put_lost u z t.table t.index seen (word_kept t.keep seen t.word) t.keep (Err stop) puts stop refl unlost)

@@ -10,12 +10,10 @@ use Rattle.table_words.specs.declared.old_words.OldWord.TheVariants.{First}
 use Rattle.table_law.specs.Alone.{Cause, PlainOutcome}
 use Rattle.table_law.specs.Plain.{Describes, Plain}
 use Rattle.table_twins.specs.Answers.{IsCause}
-use Rattle.script_law.specs.Values.{Outcome, Solo}
-use Rattle.solo_ports.specs.Coming.{IsDoneSo, IsRefusedSo}
 use Rattle.release_laws.specs.Pauses.{IsLeft}
 
--- the table is live, with two type counts or more, of which the lock is one
-pub record IsLockedTable (f : ℕ) (p : Plain) : Type 0 where
+-- the table is live, with two type counts or more: so it stays live as its lock goes off
+pub record HasTwoTypeCounts (f : ℕ) (p : Plain) : Type 0 where
   pub live : (p.kinds f).validated ≡ true
   pub several : 2 ≤ (p.kinds f).number
 
@@ -35,9 +33,3 @@ abbrev pub ComesSo : Machine → PortValue → PlainOutcome → Result (Unit {0}
 ComesSo n w a (Ok done) = (a.refusal ≡ None) × LeavesFrames n w a.left
 ComesSo n w a (Err (Refused y)) = RefusedSo n w y a
 ComesSo n w a (Err (Paused x)) = ⊥
-
--- What an element comes to that is never paused: done or refused as o; and then the words of o are left once what is unfinished is settled.
-abbrev pub ComesUnpaused : PortValue → Solo → Outcome → Result (Unit {0}) Stop → Type 0
-ComesUnpaused w x o (Ok done) = IsDoneSo w o
-ComesUnpaused w x o (Err (Refused r)) = IsRefusedSo w r o
-ComesUnpaused w x o (Err (Paused p)) = ⊥

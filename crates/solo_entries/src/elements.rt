@@ -20,8 +20,8 @@ use refusal_laws::{
 use release_laws::{a_paused_release_leaves_the_rest, a_release_leaves_what_the_plain_one_leaves};
 
 /// An element of `mmu_update`, for tables of a domain that lives, is done or refused as the plain one, and leaves what that leaves, at once or behind the release of what the old entry
-/// asked. Where the gate pauses it, the frames are as they were, or the acquisition of the table that a new entry asks is unfinished; then the element goes on, and comes to the same: the
-/// law holds from there, too.
+/// asked. Where it is paused, all is as before once what is left is settled; or the acquisition of the table that a new entry asks is unfinished (`KeepsWrite`), and from there the element
+/// goes on by this law.
 ///
 /// The premises on its steps: none finds the clock at its last value, or a reference word with its count at the limit.
 pub fn a_pair_comes_to_its_plain_meaning()

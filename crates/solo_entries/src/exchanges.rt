@@ -22,8 +22,9 @@ ghost use Rattle.entry_exchange.specs.declared.exchanging.EntryUpdate.{EntryUpda
 ghost use Rattle.exchange_laws.specs.Plain.{exchanged_plain};
 ghost use Rattle.script_law.specs.Frames.{set_map};
 ghost use Rattle.script_law.specs.Values.{Solo};
+ghost use Rattle.solo_ports.specs.Coming.{ComesUnpaused};
 ghost use Rattle.solo_ports.specs.Standing.{Clean};
-ghost use Rattle.solo_entries.specs.Exchanges.{ComesSo, ComesUnpaused, IsLockedTable};
+ghost use Rattle.solo_entries.specs.Exchanges.{ComesSo, HasTwoTypeCounts};
 
 use answer_laws::{a_call_alone_is_neither_lost_nor_busy, alone_stays, nobody_is_waited_for};
 use refusal_laws::{
@@ -36,7 +37,7 @@ use release_laws::{a_paused_release_leaves_the_rest, a_release_leaves_what_the_p
 /// The update of a machine-to-physical word is done or refused as the plain one, and never paused: the word is set where the frame is the owner's and has room for a reference.
 pub fn a_machine_to_physical_update_comes_to_its_plain_meaning()
     ensures { (v w : PortValue) (x : Solo) (owner f gpfn : ℕ) (answer : Result (Unit {0}) Stop) → Clean v x → Rests w → SetFound v w f owner gpfn answer → TwinSet v w f owner gpfn answer →
-        ComesUnpaused w x (set_map v.post.machine owner f gpfn x) answer }
+        ComesUnpaused w (set_map v.post.machine owner f gpfn x) answer }
 {
     alone_stays();
     nobody_is_waited_for();
@@ -49,10 +50,12 @@ pub fn a_machine_to_physical_update_comes_to_its_plain_meaning()
 }
 
 /// An exchange of an entry in a table that is locked, which the gate does not pause, is done or refused as the plain one, and leaves the frames that this leaves: at once, or behind the release
-/// of what the old entry asked, which is still to be settled. The lock goes off. At level 1 no exchange is paused.
+/// of what the old entry asked, which is still to be settled. The lock goes off.
+///
+/// The premises: the vCPU is the only one, the words are at rest with the lock on, and no step finds the clock at its last value.
 pub fn an_exchange_in_one_turn_comes_to_the_plain_one()
     ensures { (y w : PortValue) (t : EntryUpdate) (o : Owners) (q : Plain) (answers : List Bool) (answer : Result (Unit {0}) Stop) → IsMachine y.post.machine → IsAlone y → length y.post.machine.vcpu_domain ≡ 1 → IsAtRest y.post.machine (told_word y) →
-        told_word y (old_place y.post.vcpu First) ≡ 0 → Describes y.post.machine (told_word y) q → IsLockedTable t.table q → 1 ≤ t.level → t.level ≤ 4 → ClockGoesOn y w → Exchanged y t o w answers answer →
+        told_word y (old_place y.post.vcpu First) ≡ 0 → Describes y.post.machine (told_word y) q → HasTwoTypeCounts t.table q → 1 ≤ t.level → t.level ≤ 4 → ClockGoesOn y w → Exchanged y t o w answers answer →
         IfErr answer (λ e. Stops y w (of_exchange t o answer) e) → answer ≢ Err (Paused Due) →
         ComesSo y.post.machine w (exchanged_plain y.post.machine t o q) answer }
 {

@@ -1,4 +1,4 @@
-//! What elements of `mmu_update` come to by one vCPU alone. These functions do nothing: their contracts are laws about the courses of elements.
+//! What elements of `mmu_update`, and updates by address, come to by one vCPU alone. These functions do nothing: their contracts are laws about the courses of elements.
 #![tactic(auto)]
 
 mod addresses;

@@ -11,7 +11,7 @@ use Rattle.table_twins.specs.Answers.{IsCause}
 use Rattle.script_law.specs.Values.{Solo, Frames, IsPinned, IsUnpinned, Numbers, Outcome, Why}
 use Rattle.solo_ports.specs.Standing.{Owes}
 
--- A refusal is for that reason: of a word of a frame that it carries the stamp does not matter, and all other numbers are the same.
+-- A refusal is for that reason: of a word of a frame that it carries the stamp and the mark of flushes do not matter, and all other numbers are the same.
 abbrev pub IsWhy : Refusal → Why → Type 0
 IsWhy r (Frames c) = IsCause r c
 IsWhy (refusals.AlreadyPinned w) (IsPinned k) = sober (kind_fields w) ≡ k
@@ -38,3 +38,9 @@ abbrev pub Comes : (PortValue → Solo → Type 0) → PortValue → Solo → Ou
 Comes Kept w x o (Ok done) = IsDoneSo w o
 Comes Kept w x o (Err (Refused r)) = IsRefusedSo w r o
 Comes Kept w x o (Err (Paused p)) = Owes w x ⊎ Kept w x
+
+-- What an element that is never paused comes to: done or refused as o, and the words of o are left once what is unfinished is settled.
+abbrev pub ComesUnpaused : PortValue → Outcome → Result (Unit {0}) Stop → Type 0
+ComesUnpaused w o (Ok done) = IsDoneSo w o
+ComesUnpaused w o (Err (Refused r)) = IsRefusedSo w r o
+ComesUnpaused w o (Err (Paused p)) = ⊥

@@ -1,4 +1,4 @@
-//! A run of a trace that has one vCPU comes to what its script comes to at once. These functions do nothing: their contracts are laws.
+//! A run of a trace that has one vCPU comes to what its script comes to at once; and premises on the clock are said of words. These functions do nothing: their contracts are laws.
 #![tactic(auto)]
 
 mod pins;
