@@ -18,7 +18,7 @@ use Rattle.step_maker.specs.Holds.{FlushedSame, Rests}
 use Rattle.step_maker.specs.Moves.{Came}
 use Rattle.step_maker.specs.Plain.{Words}
 use Rattle.step_maker.proofs.Coming.{came_post, came_trans, moves_came}
-use Rattle.step_maker.proofs.Telling.{came_telling, told_there}
+use Rattle.step_maker.proofs.Telling.{came_telling, told_there, told_elsewhere}
 use Rattle.step_maker.proofs.Piecing.{serves_came}
 use Rattle.answer_laws.proofs.Shared.{alone_telling}
 use Rattle.kind_words.proofs.KindWriting.{fields_write}
@@ -49,9 +49,8 @@ use Rattle.script_law.specs.Values.{Solo, Frames, IsUnpinned, Outcome, did, look
 use Rattle.solo_ports.specs.Coming.{Comes, IsDoneSo, IsRefusedSo}
 use Rattle.solo_ports.specs.Standing.{Clean, IsSettled, IsUnkept, Owes, Stands, a_release, nothing, whose}
 use Rattle.solo_ports.proofs.Pinned.{IsPinnedTable, pinned_table, sober_pinned, table_level}
-use Rattle.vcpu_turn.proofs.Clearing.{puts}
-use Rattle.turn_measures.proofs.Keeping.{away_does, away_moves}
 use Rattle.turn_measures.proofs.Naming.{released_away}
+use Rattle.solo_ports.proofs.Staying.{put_word}
 use Rattle.solo_pins.specs.Performing.{IsPerformed, KeepsPin}
 use Rattle.solo_pins.proofs.Given.{PausedReleaseLeaves, ReleaseLeaves}
 use Rattle.solo_pins.proofs.Standing.{IsMild, SetsNothing, clean_same, second_same, stands_stay}
@@ -162,8 +161,14 @@ module _ (stays : AloneStays) (release : ReleaseLeaves) (paused : PausedReleaseL
       came_b : Came v b
       came_b = looked_came v a b d f y machine telling ref saw
 
+      came_c : Came v c
+      came_c = came_trans v b c came_b (moves_came b c _ _ _ _ _ takes)
+
+      telling_c : is_telling c ≡ true
+      telling_c = came_telling v c came_c ∙ telling
+
       came_e : Came v e
-      came_e = came_trans v c e (came_trans v b c came_b (moves_came b c _ _ _ _ _ takes)) (gave_came c e f gave)
+      came_e = came_trans v c e came_c (gave_came c e f gave)
 
       telling_e : is_telling e ≡ true
       telling_e = came_telling v e came_e ∙ telling
@@ -174,7 +179,7 @@ module _ (stays : AloneStays) (release : ReleaseLeaves) (paused : PausedReleaseL
       -- the words of vCPUs are as they were
       words_e : (s k : ℕ) → told_word e (Vcpu s k) ≡ told_word v (Vcpu s k)
       words_e s k =
-          (away_does c e _ (puts f) gave.found).same s k ∙ (away_moves b c _ _ _ _ _ refl takes).same s k ∙ ap (λ (m : Words). m (Vcpu s k)) (words_seen v a b d f y p machine telling clean.frames ref saw)
+          gave.plain telling_c (Vcpu s k) ∙ put_word f s k (told_word c) ∙ told_elsewhere b c _ _ _ _ _ takes (Vcpu s k) (λ q. absurd cc) ∙ ap (λ (m : Words). m (Vcpu s k)) (words_seen v a b d f y p machine telling clean.frames ref saw)
           ∙ got_there n (told_word v) d f machine ((ref.plain telling).0) (Vcpu s k) (λ z. cc)
 
       low_e : f < e.post.machine.frames
