@@ -20,7 +20,7 @@ use Rattle.course_laws.proofs.Awaiting.{NeitherLostNorBusy}
 use Rattle.script_law.specs.Scripts.{Answered, alone_where, live_alone, op_alone, refused, script_alone}
 use Rattle.script_law.specs.Values.{Line, Solo}
 use Rattle.solo_pins.proofs.Meaning.{Laws}
-use Rattle.solo_ports.specs.Standing.{Clean, Owes, Stands, nothing, whose}
+use Rattle.solo_ports.specs.Standing.{Clean, nothing, whose}
 use Rattle.vcpu_turn.specs.Cpus.{Job, OfCalls, OfDestroy, OfOne, OfDescriptors, OfExt, OfMapping, OfMem, OfPairs, OfRead, OfWrite, Processing, Task, begun, job_of, task_in}
 use Rattle.vcpu_turn.specs.Descriptors.{TouchLdt}
 use Rattle.vcpu_turn.specs.Settling.{Settles}

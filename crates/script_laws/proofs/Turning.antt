@@ -69,7 +69,6 @@ module _ {Solo Answer Answered : Type 0} (plain : PlainScript Op Solo Answer Ans
     -- what is fair behind steps was fair before them
     pub back : (v w : PortValue) → Came v w → Fair w → Fair v
 
-
   -- `all` and `last`: what the whole script answers, and leaves
   module _ (l : Lemmas) (all : List Answer) (last : Solo) where
     -- what is left of a script behind these answers, of which so many operations are answered: from the one that stands next to the end

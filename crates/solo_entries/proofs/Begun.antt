@@ -4,10 +4,9 @@ use Rattle.solo_entries.specs.Kept.{HasBegun, IsUnlockedTable, KeepsEntry}
 use Rattle.std.proofs.Common.{◌≡◌, ◌≢◌, ◌<◌, ◌≤◌, ℕ, ◌-◌, ◌==◌, ◌&&◌, nat_le, nat_lt, not, if◌then◌else◌, Bool, true, false, List, length, None, Some, Result, Ok, refl, sym, ap, ◌∙◌, subst, arith}
 use Rattle.std.proofs.lemmas.Bool.{and_parts}
 use Rattle.std.proofs.lemmas.Bool.Decides.{nat_tests}
-use Rattle.xp_words.specs.Entries.{demand_at, is_slot}
+use Rattle.xp_words.specs.Entries.{is_slot}
 use Rattle.xp_words.specs.Machine.{IsMachine, Machine}
 use Rattle.xp_words.specs.PageTypes.{is_table, type_number}
-use Rattle.xp_words.specs.declared.entry.Demand.TheVariants.{Typed}
 use Rattle.xp_words.specs.declared.kind.KindWord.{KindWord}
 use Rattle.xp_words.specs.declared.kind.PageType.{PageType}
 use Rattle.xp_words.specs.declared.place.Place.{Place}
@@ -26,25 +25,21 @@ use Rattle.step_maker.proofs.Coming.{came_post, came_trans, met_after, met_befor
 use Rattle.answer_laws.specs.Alone.{IsAlone}
 use Rattle.answer_laws.proofs.Shared.{alone_telling}
 use Rattle.entry_exchange.specs.Course.{LeftLock, SawEntry}
-use Rattle.entry_exchange.specs.Words.{same_demand, word_kept}
-use Rattle.entry_locks.specs.Locks.{is_lockable}
 use Rattle.entry_locks.specs.declared.locking.Locked.{Locked}
 use Rattle.exchange_laws.specs.Plain.{exchanged_plain}
 use Rattle.exchange_laws.proofs.Unlocking.{lock_came}
 use Rattle.foreign_map.specs.declared.owners.Owners.{Owners}
 use Rattle.mmu_update.specs.Course.{TriedLock, entry_update}
-use Rattle.partial_state.specs.Levels.{level_type}
 use Rattle.partial_state.proofs.LevelFacts.{level_type-number}
 use Rattle.table_entries.specs.Acquiring.{Acquired, GotRef}
 use Rattle.table_words.specs.OldWords.{old_place}
 use Rattle.table_words.specs.declared.old_words.OldWord.TheVariants.{First, Second}
 use Rattle.table_law.specs.Alone.{CountFull, NoFrame, PlainOutcome, WrongOwner, fine, refused, take_reference, take_reference_of}
-use Rattle.table_law.specs.Lawful.{IsAtRest}
-use Rattle.table_law.specs.Plain.{Describes, Plain, Share, raised_share, with_share}
+use Rattle.table_law.specs.Plain.{Plain, Share, raised_share, with_share}
 use Rattle.table_law.specs.Undone.{CountsSome}
 use Rattle.table_law.proofs.Counting.{at_here}
 use Rattle.table_law.proofs.OnWords.{counts_plain}
-use Rattle.course_laws.specs.Courses.{FindsAlive, IsOrderly}
+use Rattle.course_laws.specs.Courses.{FindsAlive}
 use Rattle.course_laws.proofs.Lending.{Lent, lent}
 use Rattle.refusal_laws.specs.Repeated as repeated
 use Rattle.refusal_laws.specs.Repeated.{FollowsOn, IsKeptTable, PausedCalls}

@@ -28,7 +28,7 @@ use Rattle.partial_state.specs.Levels.{level_type}
 use Rattle.table_entries.specs.Acquiring.{Acquired}
 use Rattle.table_words.specs.OldWords.{old_place}
 use Rattle.table_words.specs.declared.old_words.OldWord.TheVariants.{First}
-use Rattle.table_law.specs.Alone.{fine, take_reference}
+use Rattle.table_law.specs.Alone.{take_reference}
 use Rattle.table_law.specs.Lawful.{IsAtRest}
 use Rattle.table_law.specs.Plain.{Describes, Plain, raised_share, with_share}
 use Rattle.course_laws.proofs.Awaiting.{AloneStays, alone_orderly}
