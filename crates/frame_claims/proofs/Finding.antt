@@ -5,7 +5,6 @@ use Rattle.std.proofs.lemmas.Nat.{mul-mod_first}
 use Rattle.xp_words.specs.Machine.{Machine, IsMachine}
 use Rattle.xp_words.specs.Places.{sizes_of}
 use Rattle.xp_words.specs.RefWords.{ref_read, IsRef}
-use Rattle.xp_words.specs.declared.place.Place.{Place}
 use Rattle.xp_words.specs.declared.place.Place.TheVariants.{Map, Refs}
 use Rattle.xp_words.specs.declared.refs.RefWord.TheVariants.{Free}
 use Rattle.xp_board.specs.Acts.{left_by}
@@ -17,10 +16,9 @@ use Rattle.xp_board.specs.Told.{Post, PortValue}
 use Rattle.xp_board.proofs.Sums.{when_eq}
 use Rattle.xp_board.proofs.RefForms.{free_number}
 use Rattle.step_maker.specs.Holds.{MayWork, Same}
-use Rattle.step_maker.specs.Moves.{Came, Met, Moves}
+use Rattle.step_maker.specs.Moves.{Came, Moves}
 use Rattle.step_maker.proofs.Coming.{came_post, met_after, met_before, moment_of, moves_came, moves_met}
 use Rattle.step_maker.proofs.Noting.{moves_since}
-use Rattle.step_maker.specs.Finding.{FoundAt}
 use Rattle.step_maker.specs.Asked.{of_back}
 use Rattle.step_maker.proofs.Piecing.{serves_came, serves_nothing, serves_step, serves_then}
 use Rattle.flush_words.proofs.Lasting.{last_left}
@@ -186,6 +184,13 @@ found_some v u w size stamps (Some c) looks f = found_from v u w size stamps c l
 
 pub block_fits : (b n s : ℕ) → 0 < s → b < n / s → b * s + s ≤ n
 block_fits b n s some low = let k = (le-div_iff_mul-le {k = s} {x = b + 1} {y = n} some).0 (omega (arith, low)) in grind (arith, k)
+
+-- counted in words of the map
+pub run_fits : (b n k : ℕ) → 0 < k → b < n / (64 * k) → b * k + k ≤ (n + 63) / 64
+run_fits b n k some low =
+    let whole = block_fits b n (64 * k) (omega (arith, some)) low in
+    let e : b * (64 * k) ≡ 64 * (b * k) = grind arith in
+    omega (arith, whole, e)
 
 -- a block with that number is aligned
 pub block_aligned : (b s : ℕ) → 0 < s → (b * s) % s ≡ 0

@@ -1,5 +1,11 @@
 -- A frame comes into the own works, or is counted: the hand after the exchange.
-use Rattle.std.proofs.Common.{◌≡◌, ◌⊎◌, ℕ, ◌<◌, ◌≤◌, ◌==◌, ◌||◌, not, if◌then◌else◌, Bool, true, false, List, [], ◌∷◌, length, Some, None, IsTrue, refl, sym, ap, ◌∙◌, subst, arith, inl, inr}
+use Rattle.std.proofs.Common.{◌≡◌, ◌⊎◌, ℕ, ◌<◌, ◌≤◌, ◌==◌, ◌||◌, not, if◌then◌else◌, Bool, true, false, List, [], ◌∷◌, length, Some, None, IsTrue, refl, sym, ap, ◌∙◌, subst, arith, inl, inr, Option}
+use Rattle.xp_board.specs.declared.step.Act.{Act}
+use Rattle.step_maker.proofs.Coming.{came_post, moves_came}
+use Rattle.xp_board.specs.declared.step.StepKind.{StepKind}
+use Rattle.xp_board.specs.declared.step.Mark.{Mark}
+use Rattle.xp_words.specs.declared.place.Place.{Place}
+use Rattle.xp_words.specs.Machine.{IsMachine}
 use Rattle.xp_words.specs.declared.kind.KindWord.{KindWord}
 use Rattle.xp_words.specs.declared.kind.PageType.{PageType}
 use Rattle.xp_words.specs.declared.place.Place.TheVariants.{Kind}
@@ -17,7 +23,7 @@ use Rattle.xp_board.specs.Hands.{refs_to, without_ref, typed_to, ref_owner}
 use Rattle.xp_board.specs.KindSteps.{begun_kind, is_stale, live_typed, new_work, raised_kind, resumed_kind, still_looking, unsettled_from}
 use Rattle.xp_board.specs.Lists.{kept_of}
 use Rattle.xp_board.specs.Readings.{is_dead, is_live, is_partial, is_work}
-use Rattle.xp_board.specs.Told.{PortValue}
+use Rattle.xp_board.specs.Told.{PortValue, Post}
 use Rattle.xp_board.proofs.KindForms.{fields_of, PartialForm, partial_form}
 use Rattle.xp_board.proofs.KindReadings.{partial_parts, resumed_in_work}
 use Rattle.xp_board.proofs.Shared.{dead_unlive}
@@ -178,6 +184,14 @@ module _ (b v : PortValue) (f owner : ℕ) (want : PageType) (word : ℕ) (l : L
         ∙ ap (λ (o : OwnerFound). quiet (record v { holdings = record v.holdings { looking = b.holdings.looking; typed = record { frame = f; kind = Some want; owner = o; live = lives.Since since } ∷ v.holdings.typed; works = item ∷ v.holdings.works } })) (owned b v f owner want word l)
         ∙ ap (λ (q : PortValue). quiet (record q { holdings = record q.holdings { looking = b.holdings.looking; typed = record { frame = f; kind = Some want; owner = owners.Of owner; live = lives.Since since } ∷ q.holdings.typed; works = item ∷ q.holdings.works } })) l.same
 
+    pub kept_may : MayWork v → MayWork w
+    kept_may may =
+        record {
+          running = ap (λ (q : PortValue). q.holdings.run) kept_hand ∙ sym (ap (λ (q : PortValue). q.holdings.run) l.same) ∙ may.running;
+          no_walk = ap (λ (q : PortValue). q.holdings.walk) kept_hand ∙ sym (ap (λ (q : PortValue). q.holdings.walk) l.same) ∙ may.no_walk;
+          machine = subst (λ (p : Post). IsMachine p.machine) (ap (λ (q : PortValue). q.post) l.same ∙ sym (ap (λ (q : PortValue). q.post) kept_hand)) may.machine;
+        }
+
     pub kept_gives : MayPut f w.holdings
     unfolding item
     kept_gives =
@@ -241,6 +255,23 @@ module _ (b v : PortValue) (f owner : ℕ) (want : PageType) (word : ℕ) (l : L
           lent = l.lent;
           aside = no_typed;
         }
+
+-- ---- the frame is in work: what holds of the port still
+working_same : (f owner : ℕ) (want : PageType) (own : Bool) (e : Work) (since : ℕ) (h : Holdings) → ((working f owner want own e since h).run ≡ h.run) × ((working f owner want own e since h).walk ≡ h.walk)
+working_same f owner want true e since h = (refl, refl)
+working_same f owner want false e since h = (refl, refl)
+
+pub entered_may : {b v w : PortValue} {f owner : ℕ} {want : PageType} {word : ℕ} {marked : Bool} {stamp progress : ℕ} {own : Bool} → Looked b v f owner want word → Enters b w f owner want marked stamp progress own → MayWork v → MayWork w
+entered_may {b} {v} {w} {f} {owner} {want} {word} {marked} {stamp} {progress} {own} l e may =
+    let still = working_same f owner want own e.work e.since b.holdings in
+    record {
+      running = ap (λ (q : PortValue). q.holdings.run) e.hand ∙ still.0 ∙ sym (ap (λ (q : PortValue). q.holdings.run) l.same) ∙ may.running;
+      no_walk = ap (λ (q : PortValue). q.holdings.walk) e.hand ∙ still.1 ∙ sym (ap (λ (q : PortValue). q.holdings.walk) l.same) ∙ may.no_walk;
+      machine = subst (λ (p : Post). IsMachine p.machine) (ap (λ (q : PortValue). q.post) l.same ∙ sym (ap (λ (q : PortValue). q.post) e.hand)) may.machine;
+    }
+
+pub moved_inside : {v w : PortValue} {p : Place} {a : Act} {kind : StepKind} {mark : Option Mark} {found f : ℕ} → Moves v w p a kind mark found → f < v.post.machine.frames → f < w.post.machine.frames
+moved_inside {v} {w} {p} {a} {kind} {mark} {found} {f} moves low = subst (λ (q : Post). f < q.machine.frames) (sym (came_post v w (moves_came v w p a kind mark found moves))) low
 
 -- ---- a word with one type count more
 pub raised_spelled : (v : PortValue) (k : KindWord) (want : PageType) → MayWork v → IsTrue (is_kind k) → IsCounted k want → k.number < v.post.machine.limit → IsTrue (is_kind (raised_kind k))

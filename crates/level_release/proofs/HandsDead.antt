@@ -18,9 +18,10 @@ use Rattle.xp_board.specs.declared.step.StepKind.TheVariants as kinds
 use Rattle.xp_board.proofs.KindReadings.{closing_alone}
 use Rattle.xp_board.proofs.ListCounts.{newest_held}
 use Rattle.step_maker.proofs.Coming.{came_trans, moves_came}
-use Rattle.step_maker.specs.Holds.{Holds, Same, still}
+use Rattle.step_maker.specs.Holds.{Holds, MayWork, Same, still}
 use Rattle.step_maker.specs.Moves.{Came, Moves}
 use Rattle.flush_words.proofs.Lasting.{came_longer}
+use Rattle.flush_words.proofs.Shared.{may_held}
 use Rattle.flush_waits.proofs.Growing.{came_grows}
 use Rattle.frame_words.specs.Freeing.{gave}
 use Rattle.frame_words.specs.Refs.{MayPut}
@@ -165,6 +166,9 @@ module _ {h : Holdings} {v x : PortValue} {t : TableWork} {ts : List TableWork} 
   module _ {d : PortValue} {found : ℕ} (store : Moves x d (Kind t.frame) (Store (kind_write k)) kinds.Kind None found) (hand : Holds x d (left x t.frame k)) where
     close_hand : DeadHand h x d t ts (top now).others
     close_hand = dead_hand now empty clock small (subst (λ y. Holds x d (left x t.frame y)) is_dead hand)
+
+    pub close_may : MayWork x → MayWork d
+    close_may may = may_held x d (record x.holdings { refs = close_hand.ref ∷ close_hand.refs; typed = close_hand.typed; works = (top now).others }) close_hand.hand refl refl may
 
     pub close_gives : MayPut t.frame d.holdings
     close_gives = dead_gives now empty close_hand store

@@ -9,7 +9,7 @@ use Rattle.xp_board.specs.Hands.{owner_by, owner_from, ref_owner, refs_to, typed
 use Rattle.xp_board.specs.Knowledge.{knows_owner, knows_partial}
 use Rattle.xp_board.specs.Lists.{first_by}
 use Rattle.xp_board.specs.Readings.{is_closing}
-use Rattle.xp_board.specs.Told.{PortValue}
+use Rattle.xp_board.specs.Told.{PortValue, Post}
 use Rattle.xp_board.specs.declared.holdings.Holdings.{Holdings}
 use Rattle.xp_board.specs.declared.holdings.Liveness.{Liveness}
 use Rattle.xp_board.specs.declared.holdings.Liveness.TheVariants.{Found, Since}
@@ -20,8 +20,9 @@ use Rattle.xp_board.specs.declared.step.Act.TheVariants.{Store}
 use Rattle.xp_board.specs.declared.step.StepKind.TheVariants as kinds
 use Rattle.xp_board.proofs.KindReadings.{work_alone}
 use Rattle.xp_board.proofs.ListCounts.{first_by-cons_here}
-use Rattle.step_maker.specs.Holds.{Holds, still}
+use Rattle.step_maker.specs.Holds.{Holds, MayWork, still}
 use Rattle.step_maker.specs.Moves.{Moves}
+use Rattle.flush_words.proofs.Shared.{may_held}
 use Rattle.flush_waits.proofs.Growing.{Grows}
 use Rattle.kind_words.specs.Kinds.{MayLeave, left, partial_kind}
 use Rattle.kind_words.proofs.KindHands.{typed_held}
@@ -119,6 +120,15 @@ module _ {h : Holdings} {v : PortValue} {t : TableWork} {ts : List TableWork} (s
 
   -- ---- what is known of it
   module _ {d : PortValue} (k : LeftHand h v d t ts (top s).others) where
+    pub left_inside : t.frame < d.post.machine.frames
+    left_inside = subst (λ (q : Post). t.frame < q.machine.frames) (sym (ap (λ (q : PortValue). q.post) k.hand)) (top s).is.inside
+
+    pub left_may : MayWork v → MayWork d
+    left_may may = may_held v d (record v.holdings { refs = k.refs; typed = k.ref ∷ k.typed; works = (top s).others }) k.hand refl refl may
+
+    pub left_room : v.holdings.old0 ≡ Some 0 → d.holdings.old0 ≡ Some 0
+    left_room room = ap (λ (q : PortValue). q.holdings.old0) k.hand ∙ room
+
     pub left_typed : d.holdings.typed ≡ k.ref ∷ k.typed
     left_typed = ap (λ (q : PortValue). q.holdings.typed) k.hand
 

@@ -1,5 +1,8 @@
 -- The call at the last recorded entry of the innermost table: what it asks of the hand, and what is released then.
-use Rattle.std.proofs.Common.{◌≡◌, ◌≢◌, ℕ, ◌+◌, ◌-◌, ◌≤◌, ◌<◌, List, [], ◌∷◌, ◌++◌, Option, Some, None, Bool, Result, refl, sym, ap, ◌∙◌, subst, arith, inl, inr}
+use Rattle.std.proofs.Common.{◌≡◌, ◌≢◌, ℕ, ◌+◌, ◌-◌, ◌≤◌, ◌<◌, List, [], ◌∷◌, ◌++◌, Option, Some, None, Bool, Result, refl, sym, ap, ◌∙◌, subst, arith, inl, inr, IfSome, IfNone}
+use Rattle.level_release.proofs.HandsTop.{top, top_table}
+use Rattle.table_releases.specs.Tops.{ReleasesTop}
+use Rattle.xp_words.specs.PageTypes.{is_table}
 use Rattle.std.proofs.lemmas.Bool.{cases_eq}
 use Rattle.xp_words.specs.Entries.{below}
 use Rattle.xp_words.specs.KindWords.{kind_fields}
@@ -66,6 +69,29 @@ lower_above {h} {v} {t} {ts} {kind} are is_kind s g e at =
     let now = subst (λ xs. Empties h v xs) are s in
     let l = found_level (sizes_of v.post.machine) _ None g t.level (t ∷ ts) v.holdings.works now.stack (λ u us same. least_of same) now.tables at in
     ap (λ k. is_type k (below kind)) l.kind ∙ ap (λ k. is_type (level_type l.level) (below k)) is_kind ∙ level_type-above t.level l.level now.stack.0.low l.low l.high
+
+pub lower_works : {h : Holdings} {v : PortValue} {t : TableWork} {ts : List TableWork} {kind : PageType} → kind ≡ level_type t.level → t.done < 512 → Empties h v (t ∷ ts) → ReleasesTop t.frame kind (511 - t.done + 1) v.holdings
+lower_works is_kind few s =
+    let e = top s in
+    let all = e.is.recorded in
+    record {
+      top = e.work;
+      others = e.others;
+      works = e.are;
+      frame = e.is.frame;
+      kind = e.is.kind ∙ sym is_kind;
+      table = ap (λ k. is_table k) is_kind ∙ top_table s;
+      unmarked = e.is.unmarked;
+      recorded = omega (arith, all, few);
+    }
+
+pub lower_looked : {h : Holdings} {v : PortValue} {ts : List TableWork} → Empties h v ts → v.holdings.looking ≡ []
+lower_looked s = ap (λ (q : PortValue). q.holdings.looking) s.hand ∙ s.looking
+
+-- what the stack lost is what was on top
+pub popped_top : {s us ts : List TableWork} {t : TableWork} (o : Option TableWork) → s ≡ t ∷ ts → IfSome o (λ x. s ≡ x ∷ us) → IfNone o ((s ≡ []) × (us ≡ [])) → s ≡ t ∷ us
+popped_top {s} {us} {ts} {t} (Some x) are some none = let both : x ∷ us ≡ t ∷ ts = sym some ∙ are in let same : x ≡ t = cc in subst (λ y. s ≡ y ∷ us) same some
+popped_top {s} {us} {ts} {t} None are some none = let both : [] ≡ t ∷ ts = sym none.0 ∙ are in absurd cc
 
 -- ---- what the steps found
 released_some : (P Q : List Visit → Type 0) (x : Visit) (vs : List Visit) → ((us : List Visit) → P us → us ≡ x ∷ []) → Then P Q vs → vs ≢ []

@@ -1,5 +1,6 @@
 pub mod Hands
 pub mod HandsKnown
+mod Remaining
 pub mod HandsApart
 pub mod HandsTop
 pub mod HandsDead

@@ -1,5 +1,7 @@
 -- A typed reference to a live table is given back where a call cannot go on: its steps, and what is left in hand.
 use Rattle.std.proofs.Common.{◌≡◌, ◌≢◌, ◌⊎◌, ℕ, ◌+◌, ◌<◌, Bool, true, false, List, [], ◌∷◌, length, None, Some, IsTrue, refl, sym, ap, ◌∙◌, subst, arith, inl, inr}
+use Rattle.table_releases.proofs.HandLive.{may_dropped}
+use Rattle.flush_words.proofs.Shared.{may_held}
 use Rattle.std.proofs.lemmas.Bool.{cases_eq}
 use Rattle.xp_words.specs.KindWords.{is_kind, kind_fields, kind_write}
 use Rattle.xp_words.specs.PageTypes.{is_table}
@@ -21,7 +23,7 @@ use Rattle.xp_board.specs.Readings.{domain_of, is_closing}
 use Rattle.xp_board.specs.Told.{Post, PortValue}
 use Rattle.xp_board.proofs.ListCounts.{first_by-cons_here, newest_held}
 use Rattle.xp_board.proofs.Sums.{when_eq}
-use Rattle.step_maker.specs.Holds.{Holds, still}
+use Rattle.step_maker.specs.Holds.{Holds, still, MayWork}
 use Rattle.step_maker.specs.Moves.{Came, Moves}
 use Rattle.step_maker.specs.Answers.{Serves}
 use Rattle.step_maker.specs.Asked.{back, of_back}
@@ -119,6 +121,18 @@ module _ {v u : PortValue} {f level owner : ℕ} (may : MayPark v f level owner)
       kept_closing : IsTrue (is_closing (kind_fields closing.word)) → kept_owner f closing u.holdings ≡ ref_owner f u.holdings
       kept_closing on = rw on refl
 
+  pub last_post : u.post ≡ v.post
+  last_post = ap (λ (q : PortValue). q.post) (closed_hand holds drops)
+
+  pub last_inside : f < u.post.machine.frames
+  last_inside = subst (λ (p : Post). f < p.machine.frames) (sym last_post) may.frame
+
+  pub last_works : MayWork u
+  last_works = may_dropped v u f true drops may.may
+
+  pub last_room : u.holdings.old0 ≡ Some 0
+  last_room = ap (λ (q : PortValue). q.holdings.old0) (closed_hand holds drops) ∙ may.room
+
   pub last_looks : u.holdings.looking ≡ []
   last_looks = ap (λ (q : PortValue). q.holdings.looking) (closed_hand holds drops) ∙ holds.looking
 
@@ -186,6 +200,15 @@ module _ {v u : PortValue} {f level owner : ℕ} (may : MayPark v f level owner)
           subst (λ k. Holds u y (left u f k)) is leaves
           ∙ ap (λ (h : Holdings). still (record u { holdings = h })) (left_partial_closing u f (level_type level) closing here false 512 0 is_closed (spelled false))
           ∙ gone (new_count ∷ u.holdings.typed) ∙ ap (λ (ys : List TypedReference). still (record v { holdings = record v.holdings { typed = new_count ∷ ys } })) typed_gone
+
+      pub parks_inside : f < y.post.machine.frames
+      parks_inside = subst (λ (p : Post). f < p.machine.frames) (sym (ap (λ (q : PortValue). q.post) counted)) may.frame
+
+      pub parks_works : MayWork y
+      parks_works = may_held v y (record v.holdings { typed = new_count ∷ [] }) counted refl refl may.may
+
+      pub parks_room : y.holdings.old0 ≡ Some 0
+      parks_room = ap (λ (q : PortValue). q.holdings.old0) counted ∙ may.room
 
       pub parks_held : 0 < typed_to f y.holdings.typed
       parks_held = subst (λ ys. 0 < typed_to f ys) (sym (ap (λ (q : PortValue). q.holdings.typed) counted)) (typed_held f new_count [] refl)

@@ -27,6 +27,7 @@ use Rattle.xp_board.proofs.ListCounts.{newest_held}
 use Rattle.step_maker.specs.Holds.{Holds, MayWork, Same, still}
 use Rattle.step_maker.specs.Moves.{Came, Moves}
 use Rattle.flush_words.proofs.Lasting.{moves_longer}
+use Rattle.flush_words.proofs.Shared.{may_held}
 use Rattle.frame_words.specs.Freeing.{gave}
 use Rattle.frame_words.specs.Refs.{MayPut}
 use Rattle.kind_words.specs.Kinds.{MayLeave, dead_kind, left, looked_at, resumed_work}
@@ -105,6 +106,12 @@ module _ {u v : PortValue} {which : OldWord} {f word : ℕ} (t : TookOld u v whi
     resumed_hand =
         hand ∙ ap (λ h. still (record v { holdings = h })) (resumed_unkept f k v.holdings mark_off) ∙ ap
         (λ xs. still (record v { holdings = record v.holdings { looking = xs; works = item ∷ v.holdings.works } })) (looks_none f (kind_write (resumed_kind k)) v.holdings.looking (took_looking t))
+
+    pub resumed_may : MayWork v → MayWork d
+    resumed_may may = may_held v d (record v.holdings { works = item ∷ v.holdings.works }) resumed_hand refl refl may
+
+    pub resumed_room : v.holdings.old0 ≡ Some 0 → d.holdings.old0 ≡ Some 0
+    resumed_room room = ap (λ (q : PortValue). q.holdings.old0) resumed_hand ∙ room
 
     resumed_typed : d.holdings.typed ≡ named_ref f (named_since t) ∷ []
     resumed_typed = ap (λ (q : PortValue). q.holdings.typed) resumed_hand ∙ took_typed t

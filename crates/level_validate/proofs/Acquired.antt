@@ -1,5 +1,7 @@
 -- A frame that is taken as a page table under a reference that was taken first: what is in hand then.
 use Rattle.std.proofs.Common.{◌≡◌, ℕ, ◌<◌, ◌≤◌, not, Bool, true, false, List, [], ◌∷◌, length, Some, None, Result, Ok, Err, refl, sym, ap, ◌∙◌, subst, inl, inr, ◌≢◌, ◌⊎◌, ◌==◌, Option, IfErr, append-nil, arith}
+use Rattle.flush_words.proofs.Shared.{may_held}
+use Rattle.xp_words.specs.Machine.{IsMachine}
 use Rattle.kind_words.proofs.KindHands.{no_work}
 use Rattle.xp_words.specs.Places.{sizes_of}
 use Rattle.xp_words.specs.declared.kind.PageType.{PageType}
@@ -19,7 +21,7 @@ use Rattle.frame_words.specs.Refs.{took, Gets, IsRefStop}
 use Rattle.kind_words.proofs.Leaving.{without_newest}
 use Rattle.frame_types.specs.Found.{TakesFound}
 use Rattle.frame_types.specs.Plain.{is_refused, TwinTake}
-use Rattle.frame_types.specs.Taking.{IsOfOther, TakesAs, WorksFrom, typed_as, working, working_typed, IsTypeStop, ShowsWait}
+use Rattle.frame_types.specs.Taking.{IsOfOther, TakesAs, WorksFrom, typed_as, working, working_typed, IsTypeStop, ShowsWait, WaitsWith, LentBy}
 use Rattle.frame_types.specs.declared.taking.Taken.TheVariants.{InWork}
 use Rattle.table_words.proofs.Shedding.{none_unsettled}
 use Rattle.partial_state.specs.declared.stack.TableWork.{TableWork}
@@ -108,6 +110,42 @@ module _ {v : PortValue} (b : PortValue) (f owner : ℕ) (idle : IsIdle v) (refe
 
   gone : without_ref f (lent_ref ∷ v.holdings.refs) ≡ v.holdings.refs
   gone = without_newest (λ (y : Reference). y.frame) f lent_ref v.holdings.refs _ refl refl
+
+  pub idle_inside : f < v.post.machine.frames → f < b.post.machine.frames
+  idle_inside low = subst (λ (p : Post). f < p.machine.frames) (sym (ap (λ (q : PortValue). q.post) referred)) low
+
+  pub idle_may : MayWork v → MayWork b
+  idle_may may = may_held v b (took f owner v.holdings) referred refl refl may
+
+  pub idle_lent : LentBy f owner b.holdings
+  idle_lent = record { others = v.holdings.refs; refs = ap (λ (q : PortValue). q.holdings.refs) referred }
+
+  pub idle_looks : b.holdings.looking ≡ []
+  idle_looks = ap (λ (q : PortValue). q.holdings.looking) referred ∙ idle.looking
+
+  -- it waits for a flush
+  module _ {x : PortValue} {want : PageType} {own : Bool} {stamp : ℕ} (waits : WaitsWith b x f owner want own stamp) where
+    abbrev by : Work
+    by = waits.work
+
+    waits_same : (k : Bool) → (working f owner want k by waits.works.since b.holdings).run ≡ b.holdings.run × (working f owner want k by waits.works.since b.holdings).walk ≡ b.holdings.walk × (working f owner want k by waits.works.since b.holdings).old0 ≡ b.holdings.old0
+    waits_same true = (refl, refl, refl)
+    waits_same false = (refl, refl, refl)
+
+    pub waits_post : x.post ≡ v.post
+    waits_post = ap (λ (q : PortValue). q.post) waits.works.hand ∙ ap (λ (q : PortValue). q.post) referred
+
+    pub waits_may : MayWork v → MayWork x
+    waits_may may =
+        let b_may = idle_may may in
+        record {
+          running = ap (λ (q : PortValue). q.holdings.run) waits.works.hand ∙ (waits_same own).0 ∙ b_may.running;
+          no_walk = ap (λ (q : PortValue). q.holdings.walk) waits.works.hand ∙ (waits_same own).1 ∙ b_may.no_walk;
+          machine = subst (λ (p : Post). IsMachine p.machine) (sym waits_post) may.machine;
+        }
+
+    pub waits_room : v.holdings.old0 ≡ Some 0 → x.holdings.old0 ≡ Some 0
+    waits_room room = ap (λ (q : PortValue). q.holdings.old0) waits.works.hand ∙ (waits_same own).2 ∙ ap (λ (q : PortValue). q.holdings.old0) referred ∙ room
 
   module _ (x : PortValue) where
     -- it was live

@@ -21,7 +21,7 @@ use Rattle.level_validate.specs.Tables.{IsTopReady, Carries, refs_for, IsLastWor
 use Rattle.level_validate.proofs.Leaving.{refs_are, typed_gone, TopGone, gone_held, gone_records, gone_stands, gone_typed, gone_works, outer, recorded_ready, recorded_stands_on}
 use Rattle.level_validate.proofs.Standing.{top, top_done, top_gone, top_held, top_here, top_owned, top_typed, ref_owned, refs_lent, tables_none, typed_lent, TopTable, inner_is}
 use Rattle.xp_words.specs.Entries.{demand_at}
-use Rattle.xp_words.specs.Machine.{Machine}
+use Rattle.xp_words.specs.Machine.{Machine, IsMachine}
 use Rattle.xp_words.specs.declared.entry.Demand.TheVariants.{Typed}
 use Rattle.xp_words.specs.declared.kind.KindWord.{KindWord}
 use Rattle.xp_words.specs.declared.kind.PageType.{PageType}
@@ -88,6 +88,14 @@ module _ {v w : PortValue} {owner : ℕ} {t : TableWork} {ts : List TableWork} (
   -- its typed reference, known live, is in hand
   abbrev pub live_ref : TypedReference
   live_ref = live_typed t.frame (level_type t.level) (owners.Of owner)
+
+  pub live_may : {d : PortValue} → TopGone s live_ref d → MayWork w → MayWork d
+  live_may l may =
+      record {
+        running = ap (λ (q : PortValue). q.holdings.run) l.hand ∙ may.running;
+        no_walk = ap (λ (q : PortValue). q.holdings.walk) l.hand ∙ may.no_walk;
+        machine = subst (λ (p : Post). IsMachine p.machine) (sym (ap (λ (q : PortValue). q.post) l.hand)) may.machine;
+      }
 
   pub live_hand : (own : Bool) → t.own ≡ own → (d : PortValue) → Holds w d (left w t.frame (live_kind (level_type t.level) (type_counts own))) → TopGone s live_ref d
   live_hand true own d holds =

@@ -1,5 +1,7 @@
 -- A frame is looked at under a reference that is taken first: what is in hand, what the word found tells, and the steps.
 use Rattle.std.proofs.Common.{true, ◌≡◌, ℕ, ◌<◌, ◌∷◌, List, [], Some, None, Ok, is_some, IsTrue, refl, sym, ap, ◌∙◌, subst}
+use Rattle.flush_words.proofs.Shared.{may_held}
+use Rattle.xp_board.specs.declared.holdings.Holdings.{Holdings}
 use Rattle.xp_words.specs.KindWords.{is_kind, kind_fields, kind_read, kind_write}
 use Rattle.xp_words.specs.Places.{sizes_of}
 use Rattle.xp_words.specs.declared.kind.KindWord.{KindWord}
@@ -13,7 +15,7 @@ use Rattle.xp_board.specs.Knowledge.{knows_owner}
 use Rattle.xp_board.specs.Spelling.{is_kind_in}
 use Rattle.xp_board.specs.Told.{Post, PortValue, is_telling, told_word}
 use Rattle.xp_board.proofs.KindForms.{fields_of}
-use Rattle.step_maker.specs.Holds.{Holds, Same, still}
+use Rattle.step_maker.specs.Holds.{Holds, Same, still, MayWork}
 use Rattle.step_maker.specs.Moves.{Came, Met, Moves}
 use Rattle.step_maker.proofs.Coming.{met_after, met_before, moment_of, moves_met}
 use Rattle.step_maker.specs.Answers.{Deed, Serves, Stops}
@@ -57,8 +59,12 @@ pub record GivenBack (b c : PortValue) (g : ℕ) : Type 0 where
   pub hand : Holds b c (gave g b.holdings)
   pub puts : GaveRef b c g
 
-inside_by : (v a : PortValue) (d g : ℕ) → g < v.post.machine.frames → Holds v a (took g d v.holdings) → g < a.post.machine.frames
+pub inside_by : (v a : PortValue) (d g : ℕ) → g < v.post.machine.frames → Holds v a (took g d v.holdings) → g < a.post.machine.frames
 inside_by v a d g inside taken = subst (λ (p : Post). g < p.machine.frames) (sym (ap (λ (q : PortValue). q.post) taken)) inside
+
+-- over one step the frame is still one of the machine's
+pub held_inside : (b x : PortValue) (h : Holdings) {g : ℕ} → Holds b x h → g < b.post.machine.frames → g < x.post.machine.frames
+held_inside b x h {g} hand low = subst (λ (p : Post). g < p.machine.frames) (sym (ap (λ (q : PortValue). q.post) hand)) low
 
 pub read_some : (v : PortValue) (d : ℕ) {a b : PortValue} {g x : ℕ} → g < v.post.machine.frames → Holds v a (took g d v.holdings) → Moves a b (Kind g) Load kinds.Look None x → IsTrue (is_some (kind_read x))
 read_some v d {a} {b} {g} {x} inside taken look = kind_is_some a.post.machine a.post.vcpu a.holdings g x (inside_by v a d g inside taken) look.finds
@@ -99,6 +105,15 @@ module _ {v a b : PortValue} {f d g x : ℕ} {k : KindWord} (saw : Looked v a b 
 
   pub inside_b : f < b.post.machine.frames
   inside_b = subst (λ (p : Post). f < p.machine.frames) (sym (ap (λ (q : PortValue). q.post) saw.same)) inside_a
+
+  pub looked_inside : g < b.post.machine.frames
+  looked_inside = subst (λ k. k < b.post.machine.frames) (sym saw.at) inside_b
+
+  pub looked_may : MayWork v → MayWork b
+  looked_may may = may_held v b (took g d v.holdings) (saw.same ∙ saw.taken) refl refl may
+
+  pub looked_room : v.holdings.old0 ≡ Some 0 → b.holdings.old0 ≡ Some 0
+  looked_room room = ap (λ (q : PortValue). q.holdings.old0) (saw.same ∙ saw.taken) ∙ room
 
   pub fields : kind_fields x ≡ k
   fields = fields_of x k saw.read

@@ -11,7 +11,7 @@ use Rattle.frame_types.specs.Taking.{Enters, progress_of, stamp_by}
 use Rattle.frame_types.specs.declared.standing.Standing.TheVariants as stands
 use Rattle.frame_types.proofs.Arms.{dead_takes, lost_takes}
 use Rattle.frame_types.proofs.Classing.{dead_unpinned, when_dead}
-use Rattle.frame_types.proofs.Coming.{begun_enters, looked_held}
+use Rattle.frame_types.proofs.Coming.{begun_enters, looked_held, entered_may, moved_inside}
 use Rattle.frame_types.proofs.Living.{lives_behind}
 use Rattle.frame_types.proofs.Plainly.{plain_dead, plain_lost}
 use Rattle.frame_types.proofs.TakingSteps.{dead_found, lost_found}
@@ -27,16 +27,19 @@ begin_work-requires-clause-is g c = (read_is c.args.word c.read_kind-kind.result
 pub begin_work-requires-clause-held : goal.begin_work-requires-clause-held
 begin_work-requires-clause-held g c = let l = c.requires.looked in looked_held l.0 (g.P.Port.value c.args.port.now) c.args.frame c.args.owner c.args.want c.args.word l.1
 
-pub go_on-requires-clause-enters : goal.go_on-requires-clause-enters
-go_on-requires-clause-enters g c =
+pub go_on-requires : goal.go_on-requires
+go_on-requires g c =
     let l = c.requires.looked in
     let k = c.read_kind-kind.result in
-    let x = g.P.Port.value c.begin_work.new.port in (
-      l.0,
-      subst (λ m. Enters l.0 x c.args.frame c.args.owner c.args.want m (stamp_by m k) (progress_of k) true) (sym c.is_stale_for-marked.ensures)
-          (begun_enters l.0 (g.P.Port.value c.args.port.now) c.args.frame c.args.owner c.args.want c.args.word l.1 k c.read_kind-kind.ensures (read_is c.args.word k c.read_kind-kind.ensures).0
-          (when_dead k c.args.want (c.requires.stands c.read_kind-kind.result c.read_kind-kind.ensures)) c.requires.wanted x (Cas (kind_write k) (kind_write (begun_kind k c.args.want))) (kind_write k) c.in-Ok.ensures.moves c.in-Ok.ensures.hand),
-    )
+    let x = g.P.Port.value c.begin_work.new.port in
+    let enters = begun_enters l.0 (g.P.Port.value c.args.port.now) c.args.frame c.args.owner c.args.want c.args.word l.1 k c.read_kind-kind.ensures (read_is c.args.word k c.read_kind-kind.ensures).0
+    (when_dead k c.args.want (c.requires.stands c.read_kind-kind.result c.read_kind-kind.ensures)) c.requires.wanted x (Cas (kind_write k) (kind_write (begun_kind k c.args.want))) (kind_write k) c.in-Ok.ensures.moves c.in-Ok.ensures.hand in
+    record {
+      frame = moved_inside c.in-Ok.ensures.moves c.requires.frame;
+      may = entered_may l.1 enters c.requires.may;
+      wanted = c.requires.wanted;
+      enters = (l.0, subst (λ m. Enters l.0 x c.args.frame c.args.owner c.args.want m (stamp_by m k) (progress_of k) true) (sym c.is_stale_for-marked.ensures) enters);
+    }
 
 pub returns-in-Ok-clause-takes : goal.returns-in-Ok-clause-takes
 returns-in-Ok-clause-takes g c b l =

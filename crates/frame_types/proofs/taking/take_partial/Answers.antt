@@ -1,10 +1,11 @@
-use Rattle.std.proofs.Common.{[], refl}
+use Rattle.std.proofs.Common.{[], refl, ◌<◌, subst, sym}
+use Rattle.xp_board.specs.Told.{Post}
 use Rattle.xp_words.specs.KindWords.{kind_write}
 use Rattle.xp_board.specs.declared.step.Act.TheVariants.{Cas}
 use Rattle.xp_board.specs.KindSteps.{resumed_kind}
 use Rattle.step_maker.specs.Asked.{of_back}
 use Rattle.step_maker.proofs.Piecing.{serves_came}
-use Rattle.step_maker.proofs.Coming.{came_trans, moves_came}
+use Rattle.step_maker.proofs.Coming.{came_trans, moves_came, came_post}
 use Rattle.step_maker.proofs.Telling.{came_telling}
 use Rattle.flush_words.proofs.Lasting.{came_longer}
 use Rattle.kind_words.proofs.KindFacts.{kind_is_some, read_is}
@@ -12,7 +13,7 @@ use Rattle.kind_words.proofs.KindWriting.{resumed_is}
 use Rattle.frame_types.specs.declared.standing.Standing.TheVariants as stands
 use Rattle.frame_types.proofs.Arms.{kept_takes, lost_takes, unkept_takes}
 use Rattle.frame_types.proofs.Classing.{when_partial}
-use Rattle.frame_types.proofs.Coming.{again, kept_enters, kept_gives, unkept_enters}
+use Rattle.frame_types.proofs.Coming.{again, kept_enters, kept_gives, unkept_enters, entered_may, kept_may, moved_inside}
 use Rattle.frame_types.proofs.Living.{lives_behind}
 use Rattle.frame_types.proofs.Plainly.{plain_kept, plain_lost, plain_unkept}
 use Rattle.frame_types.proofs.TakingSteps.{kept_found, lost_found, unkept_found}
@@ -25,35 +26,50 @@ read_kind-kind-requires g c =
 pub resume_work-requires-clause-is : goal.resume_work-requires-clause-is
 resume_work-requires-clause-is g c = (read_is c.args.word c.read_kind-kind.result c.read_kind-kind.ensures).0
 
-pub put_ref-requires-clause-gives : goal.put_ref-requires-clause-gives
-put_ref-requires-clause-gives g c =
+pub put_ref-requires : goal.put_ref-requires
+put_ref-requires g c =
     let l = c.requires.looked in
     let k = c.read_kind-kind.result in
-    kept_gives l.0 (g.P.Port.value c.args.port.now) c.args.frame c.args.owner c.args.want c.args.word l.1 k c.read_kind-kind.ensures (read_is c.args.word k c.read_kind-kind.ensures).0
-    (when_partial k c.args.want (c.requires.stands c.read_kind-kind.result c.read_kind-kind.ensures)) (g.P.Port.value c.resume_work.new.port) (Cas (kind_write k) (kind_write (resumed_kind k))) (kind_write k) c.in-Ok.ensures.moves
-    c.in-Ok.ensures.hand c.if-kind.true
+    let v = g.P.Port.value c.args.port.now in
+    let x = g.P.Port.value c.resume_work.new.port in
+    let is = (read_is c.args.word k c.read_kind-kind.ensures).0 in
+    let parted = when_partial k c.args.want (c.requires.stands c.read_kind-kind.result c.read_kind-kind.ensures) in
+    let act = Cas (kind_write k) (kind_write (resumed_kind k)) in
+    let back = c.in-Ok.ensures in
+    record {
+      frame = moved_inside back.moves c.requires.frame;
+      may = kept_may l.0 v c.args.frame c.args.owner c.args.want c.args.word l.1 k c.read_kind-kind.ensures is parted x act (kind_write k) back.moves back.hand c.if-kind.true c.requires.may;
+      gives = kept_gives l.0 v c.args.frame c.args.owner c.args.want c.args.word l.1 k c.read_kind-kind.ensures is parted x act (kind_write k) back.moves back.hand c.if-kind.true;
+    }
 
-pub go_on-requires-clause-enters : goal.go_on-requires-clause-enters
-go_on-requires-clause-enters g c =
+pub go_on-requires : goal.go_on-requires
+go_on-requires g c =
     let l = c.requires.looked in
     let k = c.read_kind-kind.result in
     let x = g.P.Port.value c.resume_work.new.port in
-    let y = g.P.Port.value c.put_ref.new.port in (
-      l.0,
-      kept_enters l.0 (g.P.Port.value c.args.port.now) c.args.frame c.args.owner c.args.want c.args.word l.1 k c.read_kind-kind.ensures (read_is c.args.word k c.read_kind-kind.ensures).0
-          (when_partial k c.args.want (c.requires.stands c.read_kind-kind.result c.read_kind-kind.ensures)) x (Cas (kind_write k) (kind_write (resumed_kind k))) (kind_write k) c.in-Ok.ensures.moves c.in-Ok.ensures.hand
-          c.if-kind.true y c.put_ref.ensures.hand (came_longer x y (serves_came x y (of_back c.args.frame) [] c.put_ref.ensures.serves)),
-    )
+    let y = g.P.Port.value c.put_ref.new.port in
+    let put = serves_came x y (of_back c.args.frame) [] c.put_ref.ensures.serves in
+    let enters = kept_enters l.0 (g.P.Port.value c.args.port.now) c.args.frame c.args.owner c.args.want c.args.word l.1 k c.read_kind-kind.ensures (read_is c.args.word k c.read_kind-kind.ensures).0
+    (when_partial k c.args.want (c.requires.stands c.read_kind-kind.result c.read_kind-kind.ensures)) x (Cas (kind_write k) (kind_write (resumed_kind k))) (kind_write k) c.in-Ok.ensures.moves c.in-Ok.ensures.hand
+    c.if-kind.true y c.put_ref.ensures.hand (came_longer x y put) in
+    record {
+      frame = subst (λ (p : Post). c.args.frame < p.machine.frames) (sym (came_post x y put)) (moved_inside c.in-Ok.ensures.moves c.requires.frame);
+      may = entered_may l.1 enters c.requires.may;
+      wanted = c.requires.wanted;
+      enters = (l.0, enters);
+    }
 
-pub go_on-requires-else-kind-clause-enters : goal.go_on-requires-else-kind-clause-enters
-go_on-requires-else-kind-clause-enters g c =
+pub go_on-requires-else-kind : goal.go_on-requires-else-kind
+go_on-requires-else-kind g c =
     let l = c.requires.looked in
-    let k = c.read_kind-kind.result in (
-      l.0,
-      unkept_enters l.0 (g.P.Port.value c.args.port.now) c.args.frame c.args.owner c.args.want c.args.word l.1 k c.read_kind-kind.ensures (read_is c.args.word k c.read_kind-kind.ensures).0
-          (when_partial k c.args.want (c.requires.stands c.read_kind-kind.result c.read_kind-kind.ensures)) (g.P.Port.value c.resume_work.new.port) (Cas (kind_write k) (kind_write (resumed_kind k))) (kind_write k) c.in-Ok.ensures.moves
-          c.in-Ok.ensures.hand c.if-kind.false,
-    )
+    let k = c.read_kind-kind.result in
+    let enters = unkept_enters l.0 (g.P.Port.value c.args.port.now) c.args.frame c.args.owner c.args.want c.args.word l.1 k c.read_kind-kind.ensures (read_is c.args.word k c.read_kind-kind.ensures).0
+    (when_partial k c.args.want (c.requires.stands c.read_kind-kind.result c.read_kind-kind.ensures)) (g.P.Port.value c.resume_work.new.port) (Cas (kind_write k) (kind_write (resumed_kind k))) (kind_write k) c.in-Ok.ensures.moves
+    c.in-Ok.ensures.hand c.if-kind.false in
+    record { frame = moved_inside c.in-Ok.ensures.moves c.requires.frame; may = entered_may l.1 enters c.requires.may; wanted = c.requires.wanted; enters = (l.0, enters) }
+
+pub lost-requires : goal.lost-requires
+lost-requires g c = moved_inside c.in-Err.ensures.moves c.requires.frame
 
 pub returns-then-kind-clause-takes : goal.returns-then-kind-clause-takes
 returns-then-kind-clause-takes g c b l =

@@ -1,6 +1,9 @@
-use Rattle.std.proofs.Common.{false, None, ap, ◌∙◌, subst}
+use Rattle.std.proofs.Common.{false, None, ap, ◌∙◌, refl, subst}
 use Rattle.step_maker.proofs.Piecing.{serves_came}
-use Rattle.level_release.proofs.HandsDead.{close_gives, close_leaves, close_settled, close_stands}
+use Rattle.flush_words.proofs.Shared.{may_held}
+use Rattle.level_release.proofs.Remaining.{moves_inside}
+use Rattle.level_release.proofs.HandsTop.{top}
+use Rattle.level_release.proofs.HandsDead.{close_gives, close_leaves, close_may, close_settled, close_stands}
 use Rattle.xp_words.specs.KindWords.{kind_write}
 use Rattle.xp_words.specs.declared.kind.KindWord.{KindWord}
 use Rattle.xp_words.specs.declared.place.Place.TheVariants.{Kind}
@@ -16,13 +19,28 @@ use Rattle.level_release.proofs.ServingTables.{closes}
 use Rattle.xp_board.specs.declared.step.StepKind.TheVariants as kinds
 use Rattle.level_release.proofs.emptying.close.Goals as goal
 
-pub leave-requires-clause-leaves : goal.leave-requires-clause-leaves
-leave-requires-clause-leaves g c = close_leaves c.requires.stands.1.1 c.requires.empty c.look_clock-clock.ensures.moves c.look_clock-clock.ensures.hand c.level_type.ensures c.dead_kind.ensures
+pub leave-requires : goal.leave-requires
+leave-requires g c =
+    let v = g.P.Port.value c.args.port.now in
+    let s = c.requires.stands.1.1 in
+    let look = c.look_clock-clock.ensures in
+    record {
+      frame = moves_inside look.moves (top s).is.inside;
+      may = may_held v (g.P.Port.value c.look_clock-clock.new.port) v.holdings look.hand refl refl c.requires.may;
+      leaves = close_leaves s c.requires.empty look.moves look.hand c.level_type.ensures c.dead_kind.ensures;
+    }
 
-pub put_ref-requires-clause-gives : goal.put_ref-requires-clause-gives
-put_ref-requires-clause-gives g c =
-    let s = c.requires.stands in
-    close_gives s.1.1 c.requires.empty c.look_clock-clock.ensures.moves c.look_clock-clock.ensures.hand c.level_type.ensures c.dead_kind.ensures c.leave.ensures.moves c.leave.ensures.hand
+pub put_ref-requires : goal.put_ref-requires
+put_ref-requires g c =
+    let v = g.P.Port.value c.args.port.now in
+    let s = c.requires.stands.1.1 in
+    let look = c.look_clock-clock.ensures in
+    let store = c.leave.ensures in
+    record {
+      frame = moves_inside store.moves (moves_inside look.moves (top s).is.inside);
+      may = close_may s c.requires.empty look.moves look.hand c.level_type.ensures c.dead_kind.ensures store.moves store.hand (may_held v (g.P.Port.value c.look_clock-clock.new.port) v.holdings look.hand refl refl c.requires.may);
+      gives = close_gives s c.requires.empty look.moves look.hand c.level_type.ensures c.dead_kind.ensures store.moves store.hand;
+    }
 
 pub returns : goal.returns
 returns g c =

@@ -3,6 +3,9 @@ use Rattle.step_maker.proofs.Coming.{came_trans, moves_came}
 use Rattle.level_release.proofs.HandsRecorded.{inside_asks, inside_done}
 use Rattle.level_release.proofs.leaving.leave_inside.Goals as goal
 
+pub leave_partial-requires : goal.leave_partial-requires
+leave_partial-requires g c = record { may = c.requires.may; stands = (c.args.stack.now, c.requires.stands) }
+
 pub record_entry-requires : goal.record_entry-requires
 record_entry-requires g c =
     let s = c.requires.stands in

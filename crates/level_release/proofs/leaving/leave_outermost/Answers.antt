@@ -1,10 +1,20 @@
+use Rattle.std.proofs.Common.{[]}
 use Rattle.step_maker.proofs.Coming.{came_trans, moves_came}
-use Rattle.level_release.proofs.HandsLeft.{left_held, partial_hand}
+use Rattle.level_release.proofs.HandsLeft.{left_held, left_inside, left_may, left_room, partial_hand}
 use Rattle.level_release.proofs.HandsNamed.{named_stands}
 use Rattle.level_release.proofs.leaving.leave_outermost.Goals as goal
 
-pub put_old-requires-clause-held : goal.put_old-requires-clause-held
-put_old-requires-clause-held g c = left_held c.requires.stands.1 (partial_hand c.requires.stands.1 (g.P.Port.value c.leave_partial.new.port) c.leave_partial.ensures.hand)
+pub leave_partial-requires : goal.leave_partial-requires
+leave_partial-requires g c = record { may = c.requires.may; stands = ([], c.requires.stands) }
+
+pub put_old-requires : goal.put_old-requires
+put_old-requires g c =
+    let s = c.requires.stands.1 in
+    let k = partial_hand s (g.P.Port.value c.leave_partial.new.port) c.leave_partial.ensures.hand in
+    record { frame = left_inside s k; may = left_may s k c.requires.may; empty = left_room s k c.requires.room; held = left_held s k }
+
+pub returns-clause-course : goal.returns-clause-course
+returns-clause-course g c = (g.P.Port.value c.leave_partial.new.port, c.leave_partial.ensures.course, c.put_old.ensures.moves)
 
 pub returns-clause-came : goal.returns-clause-came
 returns-clause-came g c =

@@ -1,4 +1,4 @@
-use Rattle.std.proofs.Common.{◌<◌, ℕ, [], None, Err, Ok, false, refl, sym, ap, ◌∙◌, subst, rules}
+use Rattle.std.proofs.Common.{◌<◌, ℕ, [], None, Err, Ok, false, refl, sym, ap, ◌∙◌, subst}
 use Rattle.xp_words.specs.KindWords.{kind_write}
 use Rattle.xp_words.specs.declared.kind.KindWord.{KindWord}
 use Rattle.xp_words.specs.declared.place.Place.TheVariants.{Kind}
@@ -12,14 +12,16 @@ use Rattle.step_maker.proofs.Coming.{moves_came}
 use Rattle.step_maker.specs.Answers.{missed}
 use Rattle.step_maker.proofs.Piecing.{stops_before}
 use Rattle.kind_words.specs.Kinds.{dead_kind, left}
+use Rattle.flush_words.proofs.Shared.{may_held}
 use Rattle.kind_words.proofs.KindFacts.{read_is}
+use Rattle.level_release.proofs.Remaining.{moves_inside}
 use Rattle.level_release.specs.Asking.{is_due_answer, is_due_stop}
 use Rattle.level_release.proofs.Asking.{settling}
 use Rattle.xp_preempt.proofs.Consulting.{gated_as, gated_none}
 use Rattle.level_release.proofs.Exchanged.{change_came, dead_serves, lost_serves, lost_stops, resumed_piece}
 use Rattle.level_release.proofs.Named.{again_serves}
 use Rattle.level_release.proofs.ServingRun.{emptied_serves}
-use Rattle.level_release.proofs.Resumed.{at_a, dead_gives, dead_may, dead_released, dead_work, item_fields, lost_named, lost_typed, recorded_most, recorded_none, recorded_some, resumed_empties, resumed_released, working}
+use Rattle.level_release.proofs.Resumed.{at_a, dead_gives, dead_may, dead_released, dead_work, item_fields, lost_named, lost_typed, recorded_most, recorded_none, recorded_some, resumed_empties, resumed_may, resumed_released, resumed_room, working}
 use Rattle.level_release.proofs.SettlingSteps.{dead_course, dead_steps, emptied_course, lost_course, lost_undue}
 use Rattle.level_release.proofs.Taken.{settled_rests, took_held, took_settled}
 use Rattle.level_release.proofs.settling.settle_partial.Goals as goal
@@ -29,36 +31,65 @@ resume_work-requires-clause-is g c = (read_is c.args.found c.args.kind c.require
 
 -- ---- the exchange was lost
 
-pub put_old-requires-clause-held : goal.put_old-requires-clause-held
-put_old-requires-clause-held g c =
-    let t = c.requires.took in
+pub lost-stop-requires : goal.lost-stop-requires
+lost-stop-requires g c = moves_inside c.in-Err.ensures.moves c.requires.frame
+
+pub put_old-requires : goal.put_old-requires
+put_old-requires g c =
+    let v = g.P.Port.value c.args.port.now in
     let d = g.P.Port.value c.resume_work.new.port in
-    subst (λ (q : PortValue). 0 < typed_to c.args.frame q.holdings.typed) (sym (lost_typed t.2 c.requires.read c.requires.partial d c.in-Err.other c.in-Err.ensures.hand)) (took_held t.2)
+    let same = lost_typed c.requires.took.2 c.requires.read c.requires.partial d c.in-Err.other c.in-Err.ensures.hand in
+    record {
+      frame = moves_inside c.in-Err.ensures.moves c.requires.frame;
+      may = may_held v d v.holdings same refl refl c.requires.may;
+      empty = ap (λ (q : PortValue). q.holdings.old0) same ∙ c.requires.room;
+      held = subst (λ (q : PortValue). 0 < typed_to c.args.frame q.holdings.typed) (sym same) (took_held c.requires.took.2);
+    }
 
 -- ---- a table of which something is recorded
 
 pub overflow_sub-table : goal.overflow_sub-table
 overflow_sub-table g c = recorded_most c.args.found c.requires.read c.requires.partial
 
+pub look_refs-requires : goal.look_refs-requires
+look_refs-requires g c = moves_inside c.in-Ok.ensures.moves c.requires.frame
+
+pub level_of-requires : goal.level_of-requires
+level_of-requires g c = (recorded_some c.args.kind (sym c.has_recorded.ensures ∙ c.if-has_recorded.true)).0
+
 pub empty-requires : goal.empty-requires
 empty-requires g c =
+    let d = g.P.Port.value c.resume_work.new.port in
+    let back = c.in-Ok.ensures in
+    let look = c.look_refs.ensures.hand in
     record {
-      may = search rules;
+      may = may_held d (g.P.Port.value c.look_refs.new.port) d.holdings look refl refl (resumed_may c.requires.took.2 c.requires.read c.requires.partial back.moves back.hand c.requires.may);
       stands = (
         record (g.P.Port.value c.args.port.now).holdings { typed = [] },
         resumed_empties c.requires.took.2 c.requires.read c.requires.partial c.in-Ok.ensures.moves c.in-Ok.ensures.hand c.look_refs.ensures.moves c.look_refs.ensures.hand
             c.level_of.result c.level_of.ensures.kind c.level_of.ensures.low c.level_of.ensures.high (recorded_some c.args.kind (sym c.has_recorded.ensures ∙ c.if-has_recorded.true)).1 c.requires.frame,
       );
       some = λ e. absurd cc;
-      room = search rules;
+      room = ap (λ (q : PortValue). q.holdings.old0) look ∙ resumed_room c.requires.took.2 c.requires.read c.requires.partial back.moves back.hand c.requires.room;
     }
 
 -- ---- any other frame
 
-pub leave-requires-clause-leaves : goal.leave-requires-clause-leaves
-leave-requires-clause-leaves g c =
-    rw c.dead_kind.ensures (dead_may c.requires.took.2 c.requires.read c.requires.partial c.in-Ok.ensures.moves c.in-Ok.ensures.hand c.look_clock-clock.ensures.moves c.look_clock-clock.ensures.hand
-    (recorded_none c.args.found c.requires.read c.requires.partial (sym c.has_recorded.ensures ∙ c.if-has_recorded.false)))
+pub leave-requires : goal.leave-requires
+leave-requires g c =
+    let d = g.P.Port.value c.resume_work.new.port in
+    let t = c.requires.took.2 in
+    let back = c.in-Ok.ensures in
+    let clock = c.look_clock-clock.ensures in
+    record {
+      frame = moves_inside clock.moves (moves_inside back.moves c.requires.frame);
+      may = may_held d (g.P.Port.value c.look_clock-clock.new.port) d.holdings clock.hand refl refl (resumed_may t c.requires.read c.requires.partial back.moves back.hand c.requires.may);
+      leaves = rw c.dead_kind.ensures (dead_may t c.requires.read c.requires.partial back.moves back.hand clock.moves clock.hand
+          (recorded_none c.args.found c.requires.read c.requires.partial (sym c.has_recorded.ensures ∙ c.if-has_recorded.false)));
+    }
+
+pub put_ref-requires-clause-frame : goal.put_ref-requires-clause-frame
+put_ref-requires-clause-frame g c = moves_inside c.leave.ensures.moves (moves_inside c.look_clock-clock.ensures.moves (moves_inside c.in-Ok.ensures.moves c.requires.frame))
 
 pub put_ref-requires-clause-gives : goal.put_ref-requires-clause-gives
 put_ref-requires-clause-gives g c =

@@ -1,7 +1,7 @@
 use Rattle.std.proofs.Common.{◌<◌, true, false, refl, sym, subst}
 use Rattle.xp_board.specs.Told.{Post}
 use Rattle.step_maker.proofs.Coming.{came_post, moves_came}
-use Rattle.level_validate.proofs.Completed.{live_hand, live_leaves, completed_so, live_gives, live_records}
+use Rattle.level_validate.proofs.Completed.{live_hand, live_leaves, completed_so, live_gives, live_records, live_may}
 use Rattle.level_validate.proofs.Standing.{top_inside}
 use Rattle.level_validate.proofs.completing.complete_in.Goals as goal
 
@@ -16,6 +16,9 @@ make_live-requires g c =
 pub give_back-requires-clause-frame : goal.give_back-requires-clause-frame
 give_back-requires-clause-frame g c =
     subst (λ (p : Post). c.args.table.frame < p.machine.frames) (sym (came_post _ _ (moves_came _ _ _ _ _ _ _ c.make_live.ensures.moves))) (top_inside c.requires.stands.2.1)
+
+pub give_back-requires-clause-may : goal.give_back-requires-clause-may
+give_back-requires-clause-may g c = live_may c.requires.stands.2.1 (live_hand c.requires.stands.2.1 _ refl _ c.make_live.ensures.hand) c.requires.may
 
 pub give_back-requires-clause-gives : goal.give_back-requires-clause-gives
 give_back-requires-clause-gives g c = live_gives c.make_live.ensures.moves (live_hand c.requires.stands.2.1 _ refl _ c.make_live.ensures.hand) c.if-table.true

@@ -1,8 +1,13 @@
 use Rattle.std.proofs.Common.{Err, refl, ap, ◌∙◌}
+use Rattle.table_words.specs.Pins.{took_pin}
+use Rattle.xp_board.specs.Told.{PortValue}
+use Rattle.kind_words.specs.Kinds.{looked_at}
+use Rattle.frame_words.specs.Freeing.{gave}
+use Rattle.flush_words.proofs.Shared.{may_held}
 use Rattle.std.proofs.lemmas.Result.{err_from_is_err_and}
 use Rattle.std.proofs.lemmas.Bool.{not-false, not-true}
 use Rattle.mmuext_ops.proofs.Looked as look
-use Rattle.mmuext_ops.proofs.Looked.{Looked, fits, gave_back, read_some, spelled}
+use Rattle.mmuext_ops.proofs.Looked.{Looked, fits, gave_back, read_some, spelled, held_inside, looked_inside, looked_may, looked_room}
 use Rattle.mmuext_ops.proofs.UnpinCourse.{holds, lost, raced, released, seen, unreferred}
 use Rattle.table_words.proofs.PinWords.{may_unpin}
 use Rattle.mmuext_ops.proofs.Unpinned.{found_some}
@@ -23,10 +28,22 @@ returns-in_err-frame g c =
 pub read_kind-kind-requires : goal.read_kind-kind-requires
 read_kind-kind-requires g c = read_some (g.P.Port.value c.args.port.now) c.args.domain c.in_ok-frame.ensures.frame.1 c.in_ok-frame.ensures.hand c.look_kind-found.ensures.moves
 
+pub put_ref-requires-clause-frame : goal.put_ref-requires-clause-frame
+put_ref-requires-clause-frame g c = looked_inside (saw g (goal.at.put_ref-requires-clause-frame g c).After-read_kind-kind)
+
+pub put_ref-requires-clause-may : goal.put_ref-requires-clause-may
+put_ref-requires-clause-may g c = looked_may (saw g (goal.at.put_ref-requires-clause-may g c).After-read_kind-kind) c.requires.rests.may
+
 pub returns-then-not-kind : goal.returns-then-not-kind
 returns-then-not-kind g c =
     let back = gave_back c.put_ref.ensures.serves c.put_ref.ensures.hand c.put_ref.ensures.puts c.put_ref.ensures.plain in
     seen c.requires.rests (saw g (goal.at.returns-then-not-kind g c).After-read_kind-kind) back (not-true c.read_kind-kind.result.pinned c.if-not-kind.true)
+
+pub clear_pin-requires-clause-frame : goal.clear_pin-requires-clause-frame
+clear_pin-requires-clause-frame g c = looked_inside (saw g (goal.at.clear_pin-requires-clause-frame g c).After-read_kind-kind)
+
+pub clear_pin-requires-clause-may : goal.clear_pin-requires-clause-may
+clear_pin-requires-clause-may g c = looked_may (saw g (goal.at.clear_pin-requires-clause-may g c).After-read_kind-kind) c.requires.rests.may
 
 pub clear_pin-requires-clause-is : goal.clear_pin-requires-clause-is
 clear_pin-requires-clause-is g c = spelled (saw g (goal.at.clear_pin-requires-clause-is g c).After-read_kind-kind)
@@ -36,6 +53,35 @@ clear_pin-requires-clause-fits g c = fits (saw g (goal.at.clear_pin-requires-cla
 
 pub clear_pin-requires-clause-unpins : goal.clear_pin-requires-clause-unpins
 clear_pin-requires-clause-unpins g c = may_unpin c.read_kind-kind.result (spelled (saw g (goal.at.clear_pin-requires-clause-unpins g c).After-read_kind-kind)) (not-false c.read_kind-kind.result.pinned c.if-not-kind.false)
+
+pub put_ref-requires-in-Ok-clause-frame : goal.put_ref-requires-in-Ok-clause-frame
+put_ref-requires-in-Ok-clause-frame g c =
+    let b = g.P.Port.value c.look_kind-found.new.port in
+    held_inside b (g.P.Port.value c.clear_pin.new.port) (took_pin c.in_ok-frame.frame c.read_kind-kind.result b.holdings) c.in-Ok.ensures.hand (looked_inside (saw g (goal.at.put_ref-requires-in-Ok-clause-frame g c).After-read_kind-kind))
+
+pub put_ref-requires-in-Ok-clause-may : goal.put_ref-requires-in-Ok-clause-may
+put_ref-requires-in-Ok-clause-may g c =
+    let b = g.P.Port.value c.look_kind-found.new.port in
+    may_held b (g.P.Port.value c.clear_pin.new.port) (took_pin c.in_ok-frame.frame c.read_kind-kind.result b.holdings) c.in-Ok.ensures.hand refl refl (looked_may (saw g (goal.at.put_ref-requires-in-Ok-clause-may g c).After-read_kind-kind) c.requires.rests.may)
+
+pub release-requires-clause-frame : goal.release-requires-clause-frame
+release-requires-clause-frame g c =
+    let b = g.P.Port.value c.look_kind-found.new.port in
+    let x = g.P.Port.value c.clear_pin.new.port in
+    held_inside x (g.P.Port.value c.put_ref-in-Ok.new.port) (gave c.in_ok-frame.frame x.holdings) c.put_ref-in-Ok.ensures.hand
+    (held_inside b x (took_pin c.in_ok-frame.frame c.read_kind-kind.result b.holdings) c.in-Ok.ensures.hand (looked_inside (saw g (goal.at.release-requires-clause-frame g c).After-read_kind-kind)))
+
+pub release-requires-clause-may : goal.release-requires-clause-may
+release-requires-clause-may g c =
+    let b = g.P.Port.value c.look_kind-found.new.port in
+    let x = g.P.Port.value c.clear_pin.new.port in
+    may_held x (g.P.Port.value c.put_ref-in-Ok.new.port) (gave c.in_ok-frame.frame x.holdings) c.put_ref-in-Ok.ensures.hand refl refl
+    (may_held b x (took_pin c.in_ok-frame.frame c.read_kind-kind.result b.holdings) c.in-Ok.ensures.hand refl refl (looked_may (saw g (goal.at.release-requires-clause-may g c).After-read_kind-kind) c.requires.rests.may))
+
+pub release-requires-clause-room : goal.release-requires-clause-room
+release-requires-clause-room g c =
+    ap (λ (q : PortValue). q.holdings.old0) c.put_ref-in-Ok.ensures.hand ∙ ap (λ (q : PortValue). q.holdings.old0) c.in-Ok.ensures.hand
+    ∙ looked_room (saw g (goal.at.release-requires-clause-room g c).After-read_kind-kind) c.requires.room
 
 pub release-requires-clause-holds : goal.release-requires-clause-holds
 release-requires-clause-holds g c =
@@ -53,6 +99,16 @@ returns-in-Ok-release-2 g c =
     let r = c.release.ensures in
     let back = gave_back c.put_ref-in-Ok.ensures.serves c.put_ref-in-Ok.ensures.hand c.put_ref-in-Ok.ensures.puts c.put_ref-in-Ok.ensures.plain in
     released c.requires.rests (saw g (goal.at.returns-in-Ok-release-2 g c).After-read_kind-kind) (not-false c.read_kind-kind.result.pinned c.if-not-kind.false) c.in-Ok.ensures.moves refl c.in-Ok.ensures.hand (g.P.Port.value c.put_ref-in-Ok.new.port) back (r.serves c.args.domain c.args.domain) r.kinds r.hand r.course
+
+pub put_ref-requires-in-Err-clause-frame : goal.put_ref-requires-in-Err-clause-frame
+put_ref-requires-in-Err-clause-frame g c =
+    let b = g.P.Port.value c.look_kind-found.new.port in
+    held_inside b (g.P.Port.value c.clear_pin.new.port) (looked_at c.in_ok-frame.frame c.in-Err.found_now b.holdings) c.in-Err.ensures.hand (looked_inside (saw g (goal.at.put_ref-requires-in-Err-clause-frame g c).After-read_kind-kind))
+
+pub put_ref-requires-in-Err-clause-may : goal.put_ref-requires-in-Err-clause-may
+put_ref-requires-in-Err-clause-may g c =
+    let b = g.P.Port.value c.look_kind-found.new.port in
+    may_held b (g.P.Port.value c.clear_pin.new.port) (looked_at c.in_ok-frame.frame c.in-Err.found_now b.holdings) c.in-Err.ensures.hand refl refl (looked_may (saw g (goal.at.put_ref-requires-in-Err-clause-may g c).After-read_kind-kind) c.requires.rests.may)
 
 pub read_kind-requires : goal.read_kind-requires
 read_kind-requires g c = found_some (saw g (goal.at.read_kind-requires g c).After-read_kind-kind) c.in-Err.ensures.moves
