@@ -33,13 +33,13 @@ use Rattle.exchange_laws.proofs.Unlocking.{lock_came}
 use Rattle.table_entries.proofs.Shared.{ref_came, gave_came}
 
 -- ---- what the new word asks is not to be had for what one of its calls stopped for
-took_page_stops : (v : PortValue) (f owner : ℕ) (w : PortValue) (r : Result (Unit {0}) Stop) → TookPage v f owner w r → StopsAs v w r
+pub took_page_stops : (v : PortValue) (f owner : ℕ) (w : PortValue) (r : Result (Unit {0}) Stop) → TookPage v f owner w r → StopsAs v w r
 took_page_stops v f owner _ _ (pages.counted w type) = tt
 took_page_stops v f owner _ _ (pages.untyped u w stop type back) = ahead_of v u w stop (stops_here v u (of_frame f owner (Some (level_type 0))) stop refl refl type.stops) (gave_came u w f back)
 took_page_stops v f owner _ _ (pages.waiting u w own stamp stop type left) =
     ahead_of v u w stop (stops_here v u (of_frame f owner (Some (level_type 0))) stop refl refl type.waits.1) (page_left_came u w f owner stamp own _ left.steps)
 
-page_stops : (v : PortValue) (f owner : ℕ) (w : PortValue) (r : Result ℕ Stop) → GotPage v f owner w r → StopsAs v w r
+pub page_stops : (v : PortValue) (f owner : ℕ) (w : PortValue) (r : Result ℕ Stop) → GotPage v f owner w r → StopsAs v w r
 page_stops v f owner _ _ (pages.unreferred w stop ref) = stops_here v w (of_frame f owner None) stop refl refl ref.stops
 page_stops v f owner _ _ (pages.refused u w stop ref took) = behind v u w stop (ref_came v u f owner _ ref) (took_page_stops u f owner w (Err stop) took)
 page_stops v f owner _ _ (pages.had u w ref took) = tt

@@ -57,10 +57,10 @@ same_bad demands.Bad is = absurd cc
 same_bad (demands.Read g) is = absurd cc
 same_bad (demands.Typed g t) is = absurd cc
 
-same_good : (d e : Demand) → same_demand d e ≡ true → d ≡ demands.Bad → ⊥
+pub same_good : (d e : Demand) → same_demand d e ≡ true → d ≡ demands.Bad → ⊥
 same_good d e is bad = same_bad e (subst (λ k. is_same_demand e k ≡ true) bad is)
 
-took_good : (owner level : ℕ) (v : PortValue) (d : Demand) (w : PortValue) (answers : List Bool) (r : Result (Unit {0}) Stop) → TookDemand owner level v d w answers r → d ≡ demands.Bad → ⊥
+pub took_good : (owner level : ℕ) (v : PortValue) (d : Demand) (w : PortValue) (answers : List Bool) (r : Result (Unit {0}) Stop) → TookDemand owner level v d w answers r → d ≡ demands.Bad → ⊥
 took_good owner level v _ _ _ _ course.nothing bad = absurd cc
 took_good owner level v _ _ _ _ (course.referred w g ref) bad = absurd cc
 took_good owner level v _ _ _ _ (course.unreferred w g stop ref) bad = absurd cc
@@ -69,7 +69,7 @@ took_good owner level v _ _ _ _ (course.unpaged w g stop one page) bad = absurd 
 took_good owner level v _ _ _ _ (course.acquired w g answers two had) bad = absurd cc
 took_good owner level v _ _ _ _ (course.refused w g answers stop two had) bad = absurd cc
 
-by_other : (n : Machine) (owner : ℕ) (x : EntryUpdate) (new : ℕ) (old : Demand) (p : Plain) (d : Demand) → (d ≡ demands.Bad → ⊥) → exchange_by n owner (place_in x) new old p d ≡ exchange_for n owner (place_in x) new old p d (same_demand d old)
+pub by_other : (n : Machine) (owner : ℕ) (x : EntryUpdate) (new : ℕ) (old : Demand) (p : Plain) (d : Demand) → (d ≡ demands.Bad → ⊥) → exchange_by n owner (place_in x) new old p d ≡ exchange_for n owner (place_in x) new old p d (same_demand d old)
 by_other n owner x new old p demands.Nothing good = refl
 by_other n owner x new old p demands.Bad good = absurd (good refl)
 by_other n owner x new old p (demands.Read g) good = refl

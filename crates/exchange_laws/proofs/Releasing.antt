@@ -68,7 +68,7 @@ release_calm v f t _ _ _ (release.last u x w word level answers answer on same h
 drops_inside : (v u : PortValue) (f : ℕ) (last : Bool) → DropsType v u f last → f < v.post.machine.frames
 drops_inside v u f last a = frame_inside v.post.machine f a.lowers.step.may.place
 
-released_inside : (v : PortValue) (f : ℕ) (t : PageType) (w : PortValue) (answers : List Bool) (r : Result (Unit {0}) Stop) → is_telling v ≡ true → WasReleased v f t w answers r → f < v.post.machine.frames
+pub released_inside : (v : PortValue) (f : ℕ) (t : PageType) (w : PortValue) (answers : List Bool) (r : Result (Unit {0}) Stop) → is_telling v ≡ true → WasReleased v f t w answers r → f < v.post.machine.frames
 released_inside v f t _ _ _ telling (release.plain w off gave) = (drops_seen v w f t telling gave.found).0.inside
 released_inside v f t _ _ _ telling (release.shared u w on drops gave) = drops_inside v u f false drops
 released_inside v f t _ _ _ telling (release.last u x w word level answers answer on same high drops look empties) = drops_inside v u f true drops

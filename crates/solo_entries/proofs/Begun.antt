@@ -43,6 +43,7 @@ use Rattle.course_laws.specs.Courses.{FindsAlive}
 use Rattle.course_laws.proofs.Lending.{Lent, lent}
 use Rattle.refusal_laws.specs.Repeated as repeated
 use Rattle.refusal_laws.specs.Repeated.{FollowsOn, IsKeptTable, PausedCalls}
+use Rattle.refusal_laws.proofs.Repeating.{all_told}
 use Rattle.script_law.specs.Frames.{exchange_at, under_lock, write_by, write_entry, write_memory, write_word}
 use Rattle.script_law.specs.Values.{Numbers, Solo, behind, behind_by, did, looked_by, stopped, with_frames}
 use Rattle.solo_ports.specs.Standing.{IsQuiet, IsUnkept, Stands}
@@ -89,11 +90,6 @@ module _ (n : Machine) (owner f : ℕ) (p : Plain) (s : Share) where
       let here : nat_lt f n.frames ≡ true = grind (arith, nat_tests) in
       let of : (take_reference_of n owner f p (p.shares f)).refusal ≡ None = sym (ap (λ b. (if b then take_reference_of n owner f p (p.shares f) else refused (NoFrame f) p).refusal) here) ∙ none in
       owned_by (s.owner == owner) (nat_le n.limit s.count) refl (subst (λ r. (take_reference_of n owner f p r).refusal ≡ None) was of)
-
--- the ports of paused calls tell all words
-pub calls_tell : (f owner level : ℕ) (v u : PortValue) → PausedCalls f owner level v u → is_telling v ≡ true
-calls_tell f owner level v _ (repeated.first x u answers told a finds on) = told
-calls_tell f owner level v _ (repeated.again y x u answers before a finds on) = calls_tell f owner level v y before
 
 -- ---- the plain values
 module _ (n : Machine) (c : ℕ) (o : Owners) (f i word : ℕ) (keep : Bool) (x : Solo) (b : HasBegun n c o f i word keep x) where
@@ -168,7 +164,7 @@ module _ (k : Known) (n : Machine) (c : ℕ) (o : Owners) (f i word : ℕ) (keep
 
   pub kept_table : (u : PortValue) → PausedCalls b.asked o.tables (b.level - 1) b.from u → IsKeptTable b.asked o.tables (b.level - 1) b.from u
   kept_table u calls =
-      k.kept b.from u b.asked o.tables (b.level - 1) (under_lock f b.taken) machine_from (calls_tell b.asked o.tables (b.level - 1) b.from u calls) b.rest b.orderly
+      k.kept b.from u b.asked o.tables (b.level - 1) (under_lock f b.taken) machine_from (all_told b.asked o.tables (b.level - 1) b.from u calls) b.rest b.orderly
       (let a = b.two in omega (arith, a)) (let a = b.high in omega (arith, a)) b.frames calls
 
   pub first_there : (u : PortValue) → PausedCalls b.asked o.tables (b.level - 1) b.from u → told_word u (old_place u.post.vcpu First) ≡ 0
@@ -178,7 +174,7 @@ module _ (k : Known) (n : Machine) (c : ℕ) (o : Owners) (f i word : ℕ) (keep
   locked_in u calls =
       let l = lends n c o f i word keep x b in
       subst (λ (m : Machine). IsLockedIn m f o.tables b.level (told_word u)) b.machine
-      (endures b.from u f o.tables b.level b.asked (under_lock f b.taken) (raised_share l.share) machine_from (calls_tell b.asked o.tables (b.level - 1) b.from u calls) b.rest b.orderly b.frames (subst (λ (m : Machine). f < m.frames) (sym b.machine) l.inside)
+      (endures b.from u f o.tables b.level b.asked (under_lock f b.taken) (raised_share l.share) machine_from (all_told b.asked o.tables (b.level - 1) b.from u calls) b.rest b.orderly b.frames (subst (λ (m : Machine). f < m.frames) (sym b.machine) l.inside)
       (under n c o f i word keep x b) (share_here n c o f i word keep x b) (owns n c o f i word keep x b) b.two b.high calls)
 
 -- the port itself is one behind it

@@ -33,7 +33,8 @@ use Rattle.writable_pages.specs.Pages as pages
 use Rattle.writable_pages.specs.Pages.{GotPage}
 use Rattle.solo_entries.proofs.Known.{Known}
 use Rattle.solo_entries.proofs.Olds.{Keeps, two_five, two_four, got_page_keeps, had_keeps, ref_keeps, KeepsSecond, keeps_self, three_four, three_five, acquired_keeps, three_two}
-use Rattle.solo_entries.proofs.Stopping.{ended_by, page_stops}
+use Rattle.exchange_laws.proofs.Alone.{page_stops}
+use Rattle.solo_entries.proofs.Stopping.{ended_by}
 use Rattle.solo_entries.proofs.Taking.{EndsSo, IsEnded, free, got_it, page_ends, unreferred, untaken}
 use Rattle.xp_words.specs.declared.place.Place.TheVariants.{Refs}
 use Rattle.exchange_laws.proofs.Going.{took_page_came}

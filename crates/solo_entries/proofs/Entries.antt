@@ -10,18 +10,17 @@ use Rattle.xp_words.specs.declared.reply.Refusal.{Refusal}
 use Rattle.xp_words.specs.declared.reply.Refusal.TheVariants as refusals
 use Rattle.xp_words.specs.declared.reply.Stop.{Stop}
 use Rattle.xp_words.specs.declared.reply.Stop.TheVariants.{Refused}
-use Rattle.xp_board.specs.CellSteps.{is_same_demand}
 use Rattle.xp_board.specs.Told.{Post, PortValue, is_telling, told_word}
 use Rattle.step_maker.specs.Moves.{Came}
 use Rattle.step_maker.proofs.Coming.{came_post}
 use Rattle.step_maker.proofs.Telling.{came_telling}
-use Rattle.entry_exchange.specs.Course as course
-use Rattle.entry_exchange.specs.Course.{LeftLock, PutsNew, ReleasedDemand, TookDemand, TookNew, new_demand, old_demand}
+use Rattle.entry_exchange.specs.Course.{LeftLock, PutsNew, ReleasedDemand, TookNew, new_demand, old_demand}
 use Rattle.entry_exchange.specs.Holding.{owner_at}
 use Rattle.entry_exchange.specs.Words.{same_demand, word_kept}
 use Rattle.entry_exchange.specs.declared.exchanging.EntryUpdate.{EntryUpdate}
 use Rattle.exchange_laws.specs.Plain.{exchanged_plain, place_in}
 use Rattle.exchange_laws.proofs.Cells.{meet_keeps}
+use Rattle.exchange_laws.proofs.Exchanging.{by_other, same_good, took_good}
 use Rattle.exchange_laws.proofs.Putting.{entry_put, put_came}
 use Rattle.exchange_laws.proofs.Unlocking.{lock_came}
 use Rattle.foreign_map.specs.declared.owners.Owners.{Owners}
@@ -40,31 +39,6 @@ use Rattle.solo_entries.proofs.Known.{Known}
 use Rattle.solo_entries.proofs.Olds.{puts_keeps, two_five, two_four}
 use Rattle.solo_entries.proofs.Locking.{lock_goes, lock_leaves, unlocked_off}
 use Rattle.exchange_laws.proofs.Going.{demand_came}
-
--- ---- a word that asks what it may not asks the same as no other, and nothing is taken for it
-same_bad : (e : Demand) → is_same_demand e demands.Bad ≡ true → ⊥
-same_bad demands.Nothing is = absurd cc
-same_bad demands.Bad is = absurd cc
-same_bad (demands.Read g) is = absurd cc
-same_bad (demands.Typed g t) is = absurd cc
-
-same_good : (d e : Demand) → same_demand d e ≡ true → d ≡ demands.Bad → ⊥
-same_good d e is bad = same_bad e (subst (λ k. is_same_demand e k ≡ true) bad is)
-
-took_good : (owner level : ℕ) (v : PortValue) (d : Demand) (w : PortValue) (answers : List Bool) (r : Result (Unit {0}) Stop) → TookDemand owner level v d w answers r → d ≡ demands.Bad → ⊥
-took_good owner level v _ _ _ _ course.nothing bad = absurd cc
-took_good owner level v _ _ _ _ (course.referred w g ref) bad = absurd cc
-took_good owner level v _ _ _ _ (course.unreferred w g stop ref) bad = absurd cc
-took_good owner level v _ _ _ _ (course.paged w g one page) bad = absurd cc
-took_good owner level v _ _ _ _ (course.unpaged w g stop one page) bad = absurd cc
-took_good owner level v _ _ _ _ (course.acquired w g answers two had) bad = absurd cc
-took_good owner level v _ _ _ _ (course.refused w g answers stop two had) bad = absurd cc
-
-by_other : (n : Machine) (owner : ℕ) (x : EntryUpdate) (new : ℕ) (old : Demand) (p : Plain) (d : Demand) → (d ≡ demands.Bad → ⊥) → exchange_by n owner (place_in x) new old p d ≡ exchange_for n owner (place_in x) new old p d (same_demand d old)
-by_other n owner x new old p demands.Nothing good = refl
-by_other n owner x new old p demands.Bad good = absurd (good refl)
-by_other n owner x new old p (demands.Read g) good = refl
-by_other n owner x new old p (demands.Typed g t) good = refl
 
 pub held_cell : (f g i word : ℕ) (p : Plain) → HasTwoTypeCounts f p → HasTwoTypeCounts f (with_cell g i word p)
 held_cell f g i word p held = record { live = held.live; several = held.several }

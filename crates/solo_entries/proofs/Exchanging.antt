@@ -34,14 +34,12 @@ use Rattle.xp_words.specs.declared.kind.KindWord.{KindWord}
 use Rattle.solo_entries.proofs.Standing.{is_counting}
 use Rattle.xp_words.specs.KindWords.{kind_fields}
 use Rattle.table_law.proofs.Describing.{sober_live}
-use Rattle.level_release.specs.Course as release
 use Rattle.level_release.specs.Course.{WasReleased}
 use Rattle.solo_entries.proofs.Released.{release_done, release_keeps}
 use Rattle.solo_entries.proofs.Olds.{gave_keeps, KeepsFirst, two_four, two_five, KeepsSecond, keeps_self, three_four, three_five, three_two}
 use Rattle.xp_words.specs.declared.reply.Pause.TheVariants.{Due}
 use Rattle.exchange_laws.proofs.Given.{given_back}
-use Rattle.release_laws.proofs.Seen.{drops_seen}
-use Rattle.xp_board.proofs.KindForms.{frame_inside}
+use Rattle.exchange_laws.proofs.Releasing.{released_inside}
 
 -- ---- a table that is held stays held behind what is taken, and behind what is refused
 held_same : (f : ℕ) (p q : Plain) → IsSameButType (p.kinds f) (q.kinds f) → HasTwoTypeCounts f p → HasTwoTypeCounts f q
@@ -132,12 +130,6 @@ module _ (k : Known) (n : Machine) (z w : PortValue) (f level : ℕ) (q : Plain)
   unlocked_second (later g l left) = word_same left.plain left.describes (back_go f l g left.plain (subst (HasTwoTypeCounts f) (sym left.left) held)) (old_place z.post.vcpu Second) refl (λ e. cc)
 
 -- ---- a reference, or a typed one, that the old word had is given back
--- its frame is one of the machine
-released_inside : (v : PortValue) (f : ℕ) (t : PageType) (w : PortValue) (answers : List Bool) (r : Result (Unit {0}) Stop) → is_telling v ≡ true → WasReleased v f t w answers r → f < v.post.machine.frames
-released_inside v f t _ _ _ telling (release.plain w off gave) = (drops_seen v w f t telling gave.found).0.inside
-released_inside v f t _ _ _ telling (release.shared u w on drops gave) = frame_inside v.post.machine f drops.lowers.step.may.place
-released_inside v f t _ _ _ telling (release.last u x w word level answers answer on same high drops look empties) = frame_inside v.post.machine f drops.lowers.step.may.place
-
 module _ (k : Known) (n : Machine) (v : PortValue) (machine : IsMachine n) (same : v.post.machine ≡ n) (telling : is_telling v ≡ true) (l : ℕ) (high : l ≤ 4) (p : Plain) (first : told_word v (old_place v.post.vcpu First) ≡ 0) (d : Describes n (told_word v) p) where
   first_there : (w : PortValue) → KeepsFirst v w → told_word w (old_place w.post.vcpu First) ≡ 0
   first_there w keeps = let a = keeps telling in subst (λ (o : Post). told_word w (old_place o.vcpu First) ≡ 0) (sym (came_post v w a.came)) (a.same ∙ first)

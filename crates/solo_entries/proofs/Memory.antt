@@ -51,7 +51,8 @@ use Rattle.solo_entries.proofs.Known.{Known}
 use Rattle.solo_entries.proofs.Mapping.{fine_by}
 use Rattle.solo_entries.proofs.Olds.{Keeps, gave_type_keeps, keeps_then, locked_keeps, moves_keeps, page_keeps, ref_keeps}
 use Rattle.solo_entries.proofs.Standing.{clean_with, machine_same, stands_with}
-use Rattle.solo_entries.proofs.Stopping.{ended_by, stops_within, took_page_stops}
+use Rattle.exchange_laws.proofs.Alone.{took_page_stops}
+use Rattle.solo_entries.proofs.Stopping.{ended_by, stops_within}
 use Rattle.solo_entries.proofs.Taking.{EndsSo, IsEnded, inside, page_ends}
 use Rattle.xp_words.specs.Entries.{is_slot}
 use Rattle.xp_words.specs.declared.reply.Refusal.TheVariants.{Slot}

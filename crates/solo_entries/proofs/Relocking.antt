@@ -2,26 +2,25 @@
 use Rattle.solo_entries.specs.Kept.{IsUnlockedTable}
 use Rattle.solo_entries.proofs.Lasting.{IsLockedIn}
 use Rattle.solo_entries.proofs.Standing.{is_counting, put_same}
-use Rattle.std.proofs.Common.{◌≡◌, ◌≢◌, ◌<◌, ◌≤◌, ℕ, ◌+◌, ◌-◌, ◌%◌, ◌^◌, ◌==◌, ◌&&◌, not, nat_lt, nat_le, if◌then◌else◌, Bool, true, false, Option, Some, None, Ok, Err, refl, sym, ap, ◌∙◌, subst, arith, inl, inr, ◌⊎◌}
+use Rattle.std.proofs.Common.{◌≡◌, ◌≢◌, ◌<◌, ◌≤◌, ℕ, ◌+◌, ◌-◌, ◌%◌, ◌^◌, ◌==◌, ◌&&◌, not, nat_lt, nat_le, if◌then◌else◌, Bool, true, false, Some, None, Ok, Err, refl, sym, ap, ◌∙◌, subst, arith, inl, inr, ◌⊎◌}
 use Rattle.std.proofs.lemmas.Bool.{and_parts}
 use Rattle.std.proofs.lemmas.Bool.Decides.{nat_tests}
 use Rattle.xp_words.specs.KindWords.{kind_fields, kind_write}
 use Rattle.xp_words.specs.Machine.{Machine}
 use Rattle.xp_words.specs.PageTypes.{is_table}
-use Rattle.xp_words.specs.RefWords.{IsRef, ref_read, ref_write}
+use Rattle.xp_words.specs.RefWords.{ref_read, ref_write}
 use Rattle.xp_words.specs.declared.kind.KindWord.{KindWord}
 use Rattle.xp_words.specs.declared.place.Place.{Place}
 use Rattle.xp_words.specs.declared.place.Place.TheVariants.{Kind, Refs}
-use Rattle.xp_words.specs.declared.refs.RefWord.{RefWord}
-use Rattle.xp_words.specs.declared.refs.RefWord.TheVariants.{Dying, Free, Owned}
+use Rattle.xp_words.specs.declared.refs.RefWord.TheVariants.{Owned}
 use Rattle.xp_words.specs.declared.reply.Refusal.{Refusal}
 use Rattle.xp_words.specs.declared.reply.Refusal.TheVariants as refusals
 use Rattle.xp_words.specs.declared.reply.Stop.{Stop}
 use Rattle.xp_words.specs.declared.reply.Stop.TheVariants.{Paused, Refused}
-use Rattle.xp_words.proofs.RefLaws.{ref_read-write, ref_write-read}
+use Rattle.xp_words.proofs.RefLaws.{ref_write-read}
 use Rattle.xp_board.specs.Acts.{left_by}
 use Rattle.xp_board.specs.KindSteps.{locked_kind, unlocked_down}
-use Rattle.xp_board.specs.Readings.{count_in, kind_at, owner_of, ref_count}
+use Rattle.xp_board.specs.Readings.{kind_at, owner_of, ref_count}
 use Rattle.xp_board.specs.RefSteps.{one_down, owner_number}
 use Rattle.xp_board.specs.Told.{PortValue, is_telling, told_word}
 use Rattle.xp_board.specs.declared.step.Act.{Act}
@@ -31,7 +30,6 @@ use Rattle.xp_board.proofs.PlaceTests.{is_same-other, is_same-refl, same_or_othe
 use Rattle.xp_board.proofs.RefWords.{owned_says, read_small}
 use Rattle.step_maker.specs.Answers.{Stops}
 use Rattle.step_maker.specs.Asked.{of_frame}
-use Rattle.step_maker.specs.Licences.{IsFull}
 use Rattle.step_maker.specs.Plain.{Words, change}
 use Rattle.step_maker.specs.Twins.{Alike, IsAlikeKind, IsAlikeRef}
 use Rattle.step_maker.proofs.Alikes.{alike_store, alike_trans, same_alike}
@@ -54,10 +52,11 @@ use Rattle.table_entries.specs.Acquiring.{GaveRef, GotRef}
 use Rattle.table_entries.proofs.Shared.{ref_came}
 use Rattle.table_law.specs.Plain.{Share, share_in, share_of}
 use Rattle.table_law.proofs.Describing.{owns_word}
-use Rattle.table_twins.proofs.Sharing.{share_owned}
+use Rattle.table_twins.proofs.Sharing.{lower_word, share_owned}
 use Rattle.course_laws.specs.Courses.{IsOrderly}
 use Rattle.course_laws.proofs.Awaiting.{alone_orderly}
 use Rattle.pause_laws.specs.Calls.{HasRoom}
+use Rattle.pause_laws.proofs.Repeating.{full_word}
 
 -- ---- one word changes
 changed_here : (a : Act) (p : Place) (m : Words) → change a p m p ≡ left_by a (m p)
@@ -93,15 +92,6 @@ lock_back : (k : KindWord) → k.locked ≡ true → 2 ≤ k.number → locked_k
 lock_back k on some =
     let e : k.number - 1 + 1 ≡ k.number = omega arith in
     ap (λ c. record k { locked = true; number = c }) e ∙ ap (λ b. record k { locked = b }) (sym on)
-
-lower_word : (w o c : ℕ) (a : Bool) → 1 < c → ref_read w ≡ Some (Owned o a c) → ref_read ((w + one_down) % 2 ^ 64) ≡ Some (Owned o a (c - 1))
-unfolding IsRef ref_write
-lower_word w o c a more e =
-    let small = read_small w (Owned o a c) e in
-    let r = ref_write-read w (Owned o a c) small e in
-    let k = r.1 in
-    let n : (w + one_down) % 2 ^ 64 ≡ ref_write (Owned o a (c - 1)) = omega arith in
-    rw n (ref_read-write (Owned o a (c - 1)) (let k = r.0 in (omega arith, omega arith, omega arith)))
 
 raise_back : (w o c : ℕ) (a : Bool) → 1 < c → ref_read w ≡ Some (Owned o a c) → ref_write (Owned o a (c - 1 + 1)) ≡ w
 raise_back w o c a more e =
@@ -305,13 +295,6 @@ never_other v u y f owner level found l alone is ref lock = other_u v f owner le
 
 -- ---- a reference to it is refused only for its count
 -- a call that finds room is not refused for a count at its limit
-full_word : (owner limit w : ℕ) (r : Option RefWord) → ref_read w ≡ r → IsFull owner limit r → limit ≤ ref_count w
-unfolding ref_count
-full_word owner limit w (Some (Owned o a c)) is full = let count : count_in (ref_read w) ≡ c = ap count_in is in let low = full.1 in omega arith
-full_word owner limit w (Some (Free stamp)) is full = absurd full
-full_word owner limit w (Some (Dying o)) is full = absurd full
-full_word owner limit w None is full = absurd full
-
 never_full : (v w : PortValue) (f owner g x : ℕ) → HasRoom v w → Stops v w (of_frame f owner None) (Refused (refusals.CountFull g x)) → ⊥
 unfolding Stops
 never_full v w f owner g x room why =

@@ -26,6 +26,7 @@ use Rattle.exchange_laws.proofs.Unlocking.{lock_came}
 use Rattle.foreign_map.specs.declared.owners.Owners.{Owners}
 use Rattle.mmu_update.specs.Course.{TriedLock, entry_update}
 use Rattle.partial_state.specs.Levels.{level_type}
+use Rattle.partial_state.proofs.LevelFacts.{level_type-number}
 use Rattle.table_entries.specs.Acquiring.{GotRef}
 use Rattle.table_entries.proofs.Shared.{ref_came}
 use Rattle.table_words.specs.OldWords.{old_place}
@@ -68,14 +69,6 @@ pub record PausedWrite (v w : PortValue) (o : Owners) (f i word : ℕ) (keep : B
 low_by : (level : ℕ) → IsTrue (is_table (level_type level)) → 1 ≤ level
 low_by zero is = absurd cc
 low_by (suc l) is = omega arith
-
-number_of : (level : ℕ) → 1 ≤ level → level ≤ 4 → type_number (level_type level) ≡ level
-number_of zero low high = absurd (omega (arith, low))
-number_of (suc zero) low high = refl
-number_of (suc (suc zero)) low high = refl
-number_of (suc (suc (suc zero))) low high = refl
-number_of (suc (suc (suc (suc zero)))) low high = refl
-number_of (suc (suc (suc (suc (suc l))))) low high = absurd (omega (arith, high))
 
 module _ (k : Known) (v w : PortValue) (x : Solo) (o : Owners) (f i word : ℕ) (keep : Bool) (clean : Clean v x) (goes : ClockGoesOn v w) (others : KeepsOthers v w x) where
   abbrev n : Machine
@@ -186,7 +179,7 @@ module _ (k : Known) (v w : PortValue) (x : Solo) (o : Owners) (f i word : ℕ) 
       entry_is : write_entry n o f i word keep x ≡ behind (with_frames more x) (exchanged_plain n t o q) did
       entry_is =
           ap (λ a. behind x a (λ s. exchange_at n o (type_number (s.frames.kinds f).kind) f i word keep s)) takes
-          ∙ ap (λ l. exchange_at n o l f i word keep (with_frames more x)) (ap type_number typed ∙ number_of level low high)
+          ∙ ap (λ l. exchange_at n o l f i word keep (with_frames more x)) (ap type_number typed ∙ level_type-number level low high)
 
       entry_ends : (answers : List Bool) (answer : Result (Unit {0}) Stop) → IsNotLost answer → Exchanged y t o w answers answer → PausedExchange y w t o answers answer ⊎ ComesBesideSecond y.post.machine y w (exchanged_plain y.post.machine t o q) answer
       entry_ends answers answer unlost went =

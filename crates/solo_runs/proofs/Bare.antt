@@ -1,7 +1,6 @@
 -- Bare words and bare lines are functions of what they show.
-use Rattle.std.proofs.Common.{◌≡◌, ℕ, ◌+◌, ◌^◌, ◌<◌, List, [], ◌∷◌, ◌++◌, length, Option, Some, None, refl, sym, ap, ◌∙◌, subst, arith, if◌then◌else◌}
+use Rattle.std.proofs.Common.{◌≡◌, ℕ, ◌+◌, List, [], ◌∷◌, ◌++◌, length, Option, Some, None, refl, sym, ap, ◌∙◌, subst, if◌then◌else◌}
 use Rattle.std.specs.Prelude.{is_some, map, option_map}
-use Rattle.std.proofs.lemmas.Bool.Decides.{nat_tests}
 use Rattle.std.proofs.lemmas.List.{map-append, same_from_push}
 use Rattle.xp_words.specs.KindWords.{kind_write}
 use Rattle.xp_words.specs.RefWords.{ref_read, ref_write}
@@ -13,6 +12,7 @@ use Rattle.xp_words.specs.declared.reply.Refusal.{Refusal}
 use Rattle.xp_words.specs.declared.reply.Refusal.TheVariants as refusals
 use Rattle.xp_words.specs.declared.reply.Reply.{Reply}
 use Rattle.xp_words.proofs.RefLaws.{ref_write-read}
+use Rattle.xp_board.proofs.RefWords.{read_small}
 use Rattle.table_law.specs.Alone.{CountFull, Cause, NoFrame, OtherType, Reserved, WrongOwner}
 use Rattle.table_law.specs.Plain.{Share, share_in, share_of}
 use Rattle.table_twins.specs.Answers.{IsCause}
@@ -29,10 +29,6 @@ abbrev shown_ref : Option Share → ℕ
 shown_ref None = 0
 shown_ref (Some s) = ref_write (Owned s.owner s.allocated s.count)
 
-read_bound : (w : ℕ) (x : RefWord) → ref_read w ≡ Some x → w < 2 ^ 64
-unfolding ref_read
-read_bound w x is = grind (arith, nat_tests)
-
 share_read : (r : Option RefWord) (s : Share) → share_in r ≡ Some s → r ≡ Some (Owned s.owner s.allocated s.count)
 share_read None s is = absurd cc
 share_read (Some (Free stamp)) s is = absurd cc
@@ -43,7 +39,7 @@ share_read (Some (Dying owner)) s is = absurd cc
 spelled : (w : ℕ) (s : Share) → share_of w ≡ Some s → w ≡ shown_ref (Some s)
 spelled w s is =
     let read = share_read (ref_read w) s is in
-    sym (ref_write-read w (Owned s.owner s.allocated s.count) (read_bound w (Owned s.owner s.allocated s.count) read) read).1
+    sym (ref_write-read w (Owned s.owner s.allocated s.count) (read_small w (Owned s.owner s.allocated s.count) read) read).1
 
 ref_by : (w : ℕ) (o : Option Share) → share_of w ≡ o → (if is_some o then w else 0) ≡ shown_ref o
 ref_by w None is = refl

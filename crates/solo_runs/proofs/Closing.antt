@@ -10,8 +10,9 @@ use Rattle.vcpu_runners.specs.Cpus.{first_cpus}
 use Rattle.vcpu_runners.specs.Turns.{Processing, fresh, pending_of}
 use Rattle.xp_machine.specs.Ran.{first_gates}
 use Rattle.xp_machine.specs.Turns.{Stage, stage}
+use Rattle.xp_machine.proofs.Starting.{length_first}
 use Rattle.solo_runs.specs.Finishing.{FinishesAlone}
-use Rattle.solo_runs.proofs.Finishing.{Went, first_are, first_length, stopped, went}
+use Rattle.solo_runs.proofs.Finishing.{Went, first_are, stopped, went}
 use Rattle.solo_runs.proofs.Retiring.{retired_is_done}
 
 same_some : {A : Type 0} (x y : A) (o : Option A) → o ≡ Some x → o ≡ Some y → x ≡ y
@@ -32,7 +33,7 @@ module _ (t : Trace) (gates : List Gate) (script : List Op) (closed : Stage) (la
 
   -- its turns
   pub all_turns : Went t.layout opened_stage (first_in t script) run.ran.works.worked
-  all_turns = went t.layout opened_stage (first_in t script) _ _ run.ran.works.worked run.ran.works.turns refl (record { one = first_length t.layout t.scripts ∙ (run.formed.scripts ∙ run.only); is = first_are t.layout t.scripts script run.script_is })
+  all_turns = went t.layout opened_stage (first_in t script) _ _ run.ran.works.worked run.ran.works.turns refl (record { one = length_first t.layout t.scripts ∙ (run.formed.scripts ∙ run.only); is = first_are t.layout t.scripts script run.script_is })
 
   pub is_last : all_turns.now ≡ last
   is_last = same_some all_turns.now last (slice_get run.ran.works.worked.cpus 0) all_turns.only.is run.last_is

@@ -1,13 +1,11 @@
 -- The turns of a machine that has one vCPU are turns of that one.
 use Rattle.std.proofs.Common.{◌≡◌, ℕ, zero, suc, Bool, true, false, List, [], ◌∷◌, length, Some, None, refl, sym, ap, ◌∙◌, subst, arith}
-use Rattle.std.specs.Prelude.{map, slice_get, slice_set}
-use Rattle.std.specs.List.{enumerate_from}
+use Rattle.std.specs.Prelude.{slice_get, slice_set}
 use Rattle.std.proofs.lemmas.Option.{slice_get_past}
-use Rattle.std.proofs.lemmas.List.FromFn.{length-enumerate_from}
 use Rattle.xp_words.specs.Machine.{Machine}
 use Rattle.xp_words.specs.declared.ops.Op.{Op}
 use Rattle.xp_board.specs.Readings.{domain_of}
-use Rattle.vcpu_runners.specs.Cpus.{first_cpu, first_cpus}
+use Rattle.vcpu_runners.specs.Cpus.{first_cpus}
 use Rattle.vcpu_runners.specs.Turns.{Processing, fresh}
 use Rattle.script_laws.specs.Turns.{Turned}
 use Rattle.script_laws.specs.Turns as turns
@@ -26,14 +24,6 @@ pub first_are : (n : Machine) (scripts : List (List Op)) (script : List Op) → 
 unfolding first_cpus
 first_are n [] script is = absurd cc
 first_are n (x ∷ xs) script is = let same : x ≡ script = cc in ap (λ y. Some (fresh n.frames 0 (domain_of n 0) y)) same
-
-length_map : {A B : Type 0} (f : A → B) (xs : List A) → length (map f xs) ≡ length xs
-length_map f [] = refl
-length_map f (x ∷ xs) = ap suc (length_map f xs)
-
-pub first_length : (n : Machine) (scripts : List (List Op)) → length (first_cpus n scripts) ≡ length scripts
-unfolding first_cpus
-first_length n scripts = length_map (first_cpu n) (enumerate_from 0 scripts) ∙ length-enumerate_from 0 scripts
 
 -- ---- turns
 module _ (n : Machine) where

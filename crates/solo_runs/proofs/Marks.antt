@@ -14,15 +14,17 @@ use Rattle.xp_words.specs.declared.place.Place.TheVariants.{Kind, Life, M2p, Pag
 use Rattle.xp_words.specs.declared.refs.RefWord.{RefWord}
 use Rattle.xp_words.specs.declared.refs.RefWord.TheVariants.{Dying, Free, Owned}
 use Rattle.xp_words.specs.declared.reply.LogLine.{LogLine}
-use Rattle.xp_words.proofs.KindLaws.{kind_read-write, kind_write-read, when_some}
+use Rattle.xp_words.proofs.KindLaws.{kind_read-write, kind_write-read}
 use Rattle.xp_board.specs.Hands.{empty}
 use Rattle.xp_board.specs.Readings.{is_free, is_free_in}
 use Rattle.xp_board.specs.Sound.{SoundWords}
 use Rattle.xp_board.specs.Spelling.{IsSpelling, is_kind_in}
+use Rattle.xp_board.proofs.KindForms.{fields_of}
 use Rattle.report_text.specs.LogTexts.{log_line, log_lines}
 use Rattle.report_text.specs.ReportOf.{form_by, form_text, frame_by, is_free_ref, is_free_word, report_of}
 use Rattle.report_text.specs.WordTexts.{flags_text}
 use Rattle.table_law.specs.Plain.{Share, share_of, sober}
+use Rattle.table_twins.proofs.Typing.{live_sober}
 use Rattle.solo_memory.proofs.Sounding.{free_is}
 use Rattle.trace_text.specs.declared.trace.Trace.{Trace}
 use Rattle.trace_text.specs.declared.trace.TurnRun.{TurnRun}
@@ -42,9 +44,6 @@ use Rattle.solo_runs.proofs.Reporting.{bare_reads, closing_report, one_report, r
 abbrev unstamped : KindWord → KindWord
 unstamped k = record k { number = 0; unflushed = false }
 
-sober_live : (k : KindWord) → k.validated ≡ true → sober k ≡ k
-sober_live k live = rw live refl
-
 sober_other : (k : KindWord) → k.validated ≡ false → sober k ≡ unstamped k
 sober_other k live = rw live refl
 
@@ -63,14 +62,9 @@ unstamped_text : (k : KindWord) (w u : ℕ) → k.validated ≡ false → k.unfl
 unfolding flags_text
 unstamped_text k w u live off = rw live (rw off refl)
 
--- the fields of a word that is read
-fields_are : (w : ℕ) (k : KindWord) → kind_read w ≡ Some k → kind_fields w ≡ k
-unfolding kind_read
-fields_are w k is = (when_some _ (kind_fields w) k is).1
-
 form_by_fields : (w : ℕ) (k : KindWord) → kind_read w ≡ Some k → k.unflushed ≡ false → (live : Bool) → k.validated ≡ live → form_text (kind_write (sober k)) ≡ form_text w
 unfolding form_text
-form_by_fields w k is off true live = ap (λ x. form_by x (kind_read x)) (ap kind_write (sober_live k live) ∙ (kind_write-read w k is).1)
+form_by_fields w k is off true live = ap (λ x. form_by x (kind_read x)) (ap kind_write (live_sober k live) ∙ (kind_write-read w k is).1)
 form_by_fields w k is off false live =
     let valid = (kind_write-read w k is).0 in
     ap (λ x. form_by (kind_write x) (kind_read (kind_write x))) (sober_other k live)
@@ -79,7 +73,7 @@ form_by_fields w k is off false live =
 
 form_same : (w : ℕ) (k : KindWord) → kind_read w ≡ Some k → (kind_fields w).unflushed ≡ false → form_text (bare_kind w) ≡ form_text w
 form_same w k is off =
-    let fields = fields_are w k is in
+    let fields = fields_of w k is in
     ap (λ x. form_text (kind_write (sober x))) fields ∙ form_by_fields w k is (subst (λ (x : KindWord). x.unflushed ≡ false) fields off) k.validated refl
 
 read_by : (n : Machine) (o : Option KindWord) → IsTrue (is_kind_in n o) → (k : KindWord) × (o ≡ Some k)

@@ -11,6 +11,7 @@ use Rattle.xp_board.specs.Hands.{IsEmptyHand, empty}
 use Rattle.xp_board.specs.Readings.{domain_of}
 use Rattle.xp_board.specs.Sound.{Sound, SoundWords, hand_of}
 use Rattle.shared_board.specs.Board.{opened_story}
+use Rattle.shared_board.proofs.Opened.{all_empty}
 use Rattle.table_law.specs.Plain.{share_of, sober}
 use Rattle.trace_text.specs.declared.trace.Trace.{Trace}
 use Rattle.trace_text.specs.WellFormed.{IsWellFormed}
@@ -34,17 +35,8 @@ hands_of_all : (k : ℕ) → length (replicate k empty) ≡ k
 hands_of_all zero = refl
 hands_of_all (suc k) = ap suc (hands_of_all k)
 
-empty_at : (k s : ℕ) → hand_of (replicate k empty) s ≡ empty
-empty_at zero s = none_there s
-  where
-    none_there : (s : ℕ) → hand_of [] s ≡ empty
-    none_there zero = refl
-    none_there (suc s) = refl
-empty_at (suc k) zero = refl
-empty_at (suc k) (suc s) = empty_at k s
-
-all_empty : (k : ℕ) → hand_of (replicate k empty) ≡ (λ s. empty)
-all_empty k = λ i s. empty_at k s i
+hands_empty : (k : ℕ) → hand_of (replicate k empty) ≡ (λ s. empty)
+hands_empty k = λ i s. all_empty k s i
 
 module _ (t : Trace) (words : List ℕ) (script : List Op) (formed : IsWellFormed t) (opens : IsOpening t words) (only : length t.layout.vcpu_domain ≡ 1) (sound : SoundWords t.layout words) where
   abbrev n : Machine
@@ -112,13 +104,13 @@ module _ (t : Trace) (words : List ℕ) (script : List Op) (formed : IsWellForme
           alone = record {
             story = opened_story n words;
             telling = refl;
-            state = record { all_words = sound.all_words; all_hands = hands_of_all (sizes_of n).vcpus; sound = subst (Sound n (memory (sizes_of n) words)) (sym (all_empty (sizes_of n).vcpus)) sound.sound };
+            state = record { all_words = sound.all_words; all_hands = hands_of_all (sizes_of n).vcpus; sound = subst (Sound n (memory (sizes_of n) words)) (sym (hands_empty (sizes_of n).vcpus)) sound.sound };
             mine = refl;
-            others = λ s real off. subst IsEmptyHand (sym (empty_at (sizes_of n).vcpus s)) none_in_hand;
+            others = λ s real off. subst IsEmptyHand (sym (all_empty (sizes_of n).vcpus s)) none_in_hand;
           };
           only = only;
           real = omega arith;
-          empty = subst IsEmptyHand (sym (empty_at (sizes_of n).vcpus 0)) none_in_hand;
+          empty = subst IsEmptyHand (sym (all_empty (sizes_of n).vcpus 0)) none_in_hand;
           second = old_none 3 (omega arith) no_old1;
           others = record {
             maps = λ f inside. opens_with (M2p f) (real_map f inside);

@@ -39,7 +39,7 @@ share_owned w (Some (Free stamp)) s is = absurd (cc)
 share_owned w (Some (Dying o)) s is = absurd (cc)
 share_owned w None s is = absurd (cc)
 
-lower_word : (w o c : ℕ) (a : Bool) → 1 < c → ref_read w ≡ Some (Owned o a c) → ref_read ((w + one_down) % 2 ^ 64) ≡ Some (Owned o a (c - 1))
+pub lower_word : (w o c : ℕ) (a : Bool) → 1 < c → ref_read w ≡ Some (Owned o a c) → ref_read ((w + one_down) % 2 ^ 64) ≡ Some (Owned o a (c - 1))
 unfolding IsRef ref_write
 lower_word w o c a more e =
     let low = read_small w (Owned o a c) e in
