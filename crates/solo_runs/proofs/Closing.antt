@@ -15,9 +15,6 @@ use Rattle.solo_runs.specs.Finishing.{FinishesAlone}
 use Rattle.solo_runs.proofs.Finishing.{Went, first_are, stopped, went}
 use Rattle.solo_runs.proofs.Retiring.{retired_is_done}
 
-same_some : {A : Type 0} (x y : A) (o : Option A) → o ≡ Some x → o ≡ Some y → x ≡ y
-same_some x y o a b = let k = sym a ∙ b in cc
-
 list_of_one : {A : Type 0} (xs : List A) (x : A) → length xs ≡ 1 → slice_get xs 0 ≡ Some x → xs ≡ x ∷ []
 list_of_one [] x one is = absurd cc
 list_of_one (y ∷ []) x one is = let same : y ≡ x = cc in ap (λ z. z ∷ []) same
@@ -36,7 +33,7 @@ module _ (t : Trace) (gates : List Gate) (script : List Op) (closed : Stage) (la
   all_turns = went t.layout opened_stage (first_in t script) _ _ run.ran.works.worked run.ran.works.turns refl (record { one = length_first t.layout t.scripts ∙ (run.formed.scripts ∙ run.only); is = first_are t.layout t.scripts script run.script_is })
 
   pub is_last : all_turns.now ≡ last
-  is_last = same_some all_turns.now last (slice_get run.ran.works.worked.cpus 0) all_turns.only.is run.last_is
+  is_last = let both = sym all_turns.only.is ∙ run.last_is in cc
 
   pub is_retired : all_turns.now.retired ≡ true
   is_retired = subst (λ (k : Processing). k.retired ≡ true) (sym is_last) run.retired

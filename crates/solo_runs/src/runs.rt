@@ -55,7 +55,7 @@ pub fn turns_and_pauses_do_not_matter()
 }
 
 /// And they have one report of bare words, byte by byte. So the two reports differ at most in the mark `u` of frames whose type is not live, in the frames' lines and where a refusal
-/// shows a frame's word, and in whether a refusal found a frame without references free or just given back. Where neither report has any of this, they are the same bytes.
+/// shows a frame's word, and in what a refusal shows of a reference word that names no owner with references. Where neither report has any of this, they are the same bytes.
 pub fn turns_and_pauses_give_one_report()
     ensures bare { (t : Trace) (us : List TurnRun) (gates others : List Gate) (script : List Op) (closed other : Stage) (last ends : Processing) (run : FinishesAlone t gates script closed last) (again : FinishesAlone (with_turns us t) others script other ends) →
         IsFairRun t run.ran.opened closed → IsFairRun (with_turns us t) again.ran.opened other → bare_report t.layout closed ≡ bare_report t.layout other }
