@@ -31,7 +31,7 @@ use Rattle.xp_board.proofs.Sums.{when_eq}
 use Rattle.xp_board.proofs.PlaceTests.{equal_by}
 use Rattle.answer_laws.proofs.Meeting.{none_some, member_may}
 
-each_at : {A : Type 0} (P : A → Type 0) (xs : List A) (x : A) → EachOf P xs → Member x xs → P x
+pub each_at : {A : Type 0} (P : A → Type 0) (xs : List A) (x : A) → EachOf P xs → Member x xs → P x
 unfolding EachOf Member
 each_at P [] x all at = absurd at
 each_at P (y ∷ ys) x all (inl e) = subst P e all.0

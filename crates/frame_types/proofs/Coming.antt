@@ -257,7 +257,7 @@ module _ (b v : PortValue) (f owner : ℕ) (want : PageType) (word : ℕ) (l : L
         }
 
 -- ---- the frame is in work: what holds of the port still
-working_same : (f owner : ℕ) (want : PageType) (own : Bool) (e : Work) (since : ℕ) (h : Holdings) → ((working f owner want own e since h).run ≡ h.run) × ((working f owner want own e since h).walk ≡ h.walk)
+pub working_same : (f owner : ℕ) (want : PageType) (own : Bool) (e : Work) (since : ℕ) (h : Holdings) → ((working f owner want own e since h).run ≡ h.run) × ((working f owner want own e since h).walk ≡ h.walk)
 working_same f owner want true e since h = (refl, refl)
 working_same f owner want false e since h = (refl, refl)
 
@@ -270,8 +270,6 @@ entered_may {b} {v} {w} {f} {owner} {want} {word} {marked} {stamp} {progress} {o
       machine = subst (λ (p : Post). IsMachine p.machine) (ap (λ (q : PortValue). q.post) l.same ∙ sym (ap (λ (q : PortValue). q.post) e.hand)) may.machine;
     }
 
-pub moved_inside : {v w : PortValue} {p : Place} {a : Act} {kind : StepKind} {mark : Option Mark} {found f : ℕ} → Moves v w p a kind mark found → f < v.post.machine.frames → f < w.post.machine.frames
-moved_inside {v} {w} {p} {a} {kind} {mark} {found} {f} moves low = subst (λ (q : Post). f < q.machine.frames) (sym (came_post v w (moves_came v w p a kind mark found moves))) low
 
 -- ---- a word with one type count more
 pub raised_spelled : (v : PortValue) (k : KindWord) (want : PageType) → MayWork v → IsTrue (is_kind k) → IsCounted k want → k.number < v.post.machine.limit → IsTrue (is_kind (raised_kind k))

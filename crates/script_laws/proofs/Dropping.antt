@@ -49,7 +49,7 @@ use Rattle.tlb_walks.specs.Addresses.{is_canonical, page_of}
 use Rattle.tlb_walks.specs.Dropping.{ForgetsBy}
 use Rattle.vcpu_turn.specs.Mappings.{DropsBehind, DropsOwn, WaitsForAll, own_drop, waits_for_all}
 use Rattle.vcpu_turn.specs.Mappings as mapping
-use Rattle.vcpu_turn.proofs.Hindering.{drop_came, same_came}
+use Rattle.vcpu_turn.proofs.Hindering.{drop_came, same_came, wait_came}
 
 -- ---- steps that are no more than looks, but at the clock and words of flushes
 abbrev IsMild : Visit → Type 0
@@ -141,9 +141,6 @@ fair_rest u y w a f =
     }
 
 -- ---- the elements that drop translations
-waits_came : (d : ℕ) (b : Bool) (awaited : Option ℕ) (u w : PortValue) (r : Result (Unit {0}) Stop) → WaitsForAll d b awaited u w r → Came u w
-waits_came d true awaited u w r p = serves_came u w _ _ p.serves.2
-waits_came d false awaited u w r p = same_came u w p.0
 
 module _ (stays : AloneStays) (neither : NeitherLostNorBusy) (nobody : NobodyWaitedFor) (v0 : PortValue) (d : ℕ) where
   module _ (u w : PortValue) (s : Solo) (stands : Stands u s) (fair : Fair u w) where
@@ -197,7 +194,7 @@ module _ (stays : AloneStays) (neither : NeitherLostNorBusy) (nobody : NobodyWai
   pub drops : (flags va : ℕ) (u w : PortValue) (s : Solo) (r : Result (Unit {0}) Stop) → Stands u s → Fair u w → DropsBehind d flags va u w r → (r ≡ Ok tt) × StaysAlike u w
   drops flags va u _ s _ stands fair (mapping.DropsBehind.undropped w e own) = absurd (let k = (own_done u w s stands fair (own_drop flags va) (own_is flags va) (Err e) own).0 in cc)
   drops flags va u _ s _ stands fair (mapping.DropsBehind.dropped y w answer own waits) =
-      let on = waits_came d (waits_for_all flags) None y w answer waits in
+      let on = wait_came d (waits_for_all flags) None y w answer waits in
       let first = own_done u y s stands (fair_part u y w (drop_came d (own_drop flags va) u y (Ok tt) own) on fair) (own_drop flags va) (own_is flags va) (Ok tt) own in
       let next = all_done y w s (stands_on stays u y s first.1 stands) (fair_rest u y w first.1.came fair) (waits_for_all flags) answer waits in
       (next.0, record { came = came_trans u y w first.1.came next.1.came; words = alike_trans (told_word w) (told_word y) (told_word u) next.1.words first.1.words; empty = next.1.empty })

@@ -25,6 +25,7 @@ use Rattle.domain_destroy.specs.Asking.{IsDestroyDeed, ServesDestroy, of_domain}
 use Rattle.script_law.specs.Values.{Solo, put_at}
 use Rattle.solo_ports.specs.Standing.{ShowsOthers}
 use Rattle.solo_ports.proofs.Staying.{told_of}
+use Rattle.answer_laws.proofs.Fitting.{each_at}
 
 -- ---- deeds that set nothing of the own vCPU
 abbrev Off : ℕ → Deed → Type 0
@@ -32,11 +33,6 @@ Off s (SetsM2p f w) = ⊥
 Off s (SetsWord v k w) = v ≢ s
 Off s _ = Unit {0}
 
-each_member : {A : Type 0} (P : A → Type 0) (xs : List A) (x : A) → EachOf P xs → Member x xs → P x
-unfolding EachOf Member
-each_member P [] x each at = absurd at
-each_member P (y ∷ ys) x each (inl is) = subst P is each.0
-each_member P (y ∷ ys) x each (inr at) = each_member P ys x each.1 at
 
 missed_place : (s : ℕ) (p : Place) → EachOf (Off s) (missed_at p)
 unfolding EachOf
@@ -89,10 +85,10 @@ module _ {A : Type 0} (v w : PortValue) (d : ℕ) (answer : Result A Stop) (x : 
   off = each_append (Off v.post.vcpu) serves.deeds (misses v.post.machine answer) (all_off v.post.machine v.post.vcpu d apart serves.deeds serves.are) (misses_off v.post.vcpu v.post.machine answer)
 
   no_map : (f y : ℕ) → Member (SetsM2p f y) ds → ⊥
-  no_map f y at = each_member (Off v.post.vcpu) ds (SetsM2p f y) off at
+  no_map f y at = each_at (Off v.post.vcpu) ds (SetsM2p f y) off at
 
   no_word : (k y : ℕ) → Member (SetsWord v.post.vcpu k y) ds → ⊥
-  no_word k y at = each_member (Off v.post.vcpu) ds (SetsWord v.post.vcpu k y) off at refl
+  no_word k y at = each_at (Off v.post.vcpu) ds (SetsWord v.post.vcpu k y) off at refl
 
   lives_by : (e : ℕ) (b : Bool) → (e == d) ≡ b → x.lives e ≡ told_word v (Life e) → (if b then told_word w (Life d) else x.lives e) ≡ told_word w (Life e)
   lives_by e true is same = ap (λ k. told_word w (Life k)) (sym (equal_by e d is))

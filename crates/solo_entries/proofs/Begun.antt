@@ -21,7 +21,7 @@ use Rattle.step_maker.specs.Holds.{Rests}
 use Rattle.step_maker.specs.Moves.{Came}
 use Rattle.step_maker.specs.Twins.{Alike}
 use Rattle.step_maker.proofs.Alikes.{alike_trans, same_alike}
-use Rattle.step_maker.proofs.Coming.{came_post, came_trans, met_after, met_before}
+use Rattle.step_maker.proofs.Coming.{came_post, came_trans, met_after, met_before, same_machine}
 use Rattle.answer_laws.specs.Alone.{IsAlone}
 use Rattle.answer_laws.proofs.Shared.{alone_telling}
 use Rattle.entry_exchange.specs.Course.{LeftLock, SawEntry}
@@ -53,7 +53,7 @@ use Rattle.solo_entries.proofs.Relocking.{unlocked_behind, unlocked_words}
 use Rattle.solo_entries.proofs.Known.{Known}
 use Rattle.solo_entries.proofs.Lasting.{IsLockedIn, IsUnderLock}
 use Rattle.solo_entries.proofs.Olds.{acquired_keeps, keeps_then, locked_keeps, moves_keeps, ref_keeps, three_five, three_four, three_two}
-use Rattle.solo_entries.proofs.Standing.{is_counting, machine_same, stands_with}
+use Rattle.solo_entries.proofs.Standing.{is_counting, stands_with}
 
 -- on a machine that is the same
 abbrev pub begun_there : (n m : Machine) (s t : ℕ) (o : Owners) (f i word : ℕ) (keep : Bool) (x : Solo) → m ≡ n → t ≡ s → HasBegun n s o f i word keep x → HasBegun m t o f i word keep x
@@ -178,8 +178,6 @@ module _ (k : Known) (n : Machine) (c : ℕ) (o : Owners) (f i word : ℕ) (keep
       (under n c o f i word keep x b) (share_here n c o f i word keep x b) (owns n c o f i word keep x b) b.two b.high calls)
 
 -- the port itself is one behind it
-pub follows_itself : (z : PortValue) → is_telling z ≡ true → FollowsOn z z
-follows_itself z telling = record { stays = record { machine = refl; telling = telling; words = same_alike (told_word z) (told_word z) (λ p. refl) }; vcpu = refl }
 
 -- words that are alike, of the same vCPU
 pub calls_alike : (f owner level : ℕ) (u v w : PortValue) → PausedCalls f owner level u v → Alike (told_word w) (told_word v) → w.post.machine ≡ v.post.machine → w.post.vcpu ≡ v.post.vcpu → is_telling w ≡ true → PausedCalls f owner level u w
@@ -212,10 +210,10 @@ module _ (k : Known) (v z w : PortValue) (x : Solo) (o : Owners) (f i word : ℕ
   came = came_trans v z w before (lock_came z w f b.level off_it)
 
   same_z : z.post.machine ≡ v.post.machine
-  same_z = machine_same v z before
+  same_z = same_machine v z before
 
   same_w : w.post.machine ≡ v.post.machine
-  same_w = machine_same v w came
+  same_w = same_machine v w came
 
   machine_z : IsMachine z.post.machine
   machine_z = subst IsMachine (sym same_z) stands.machine

@@ -19,7 +19,7 @@ use Rattle.step_maker.specs.Asked.{Request}
 use Rattle.step_maker.specs.Holds.{Rests}
 use Rattle.step_maker.specs.Moves.{Came, Moves}
 use Rattle.step_maker.specs.Plain.{Leaves, Words}
-use Rattle.step_maker.proofs.Coming.{came_trans, moves_came, came_self}
+use Rattle.step_maker.proofs.Coming.{came_trans, moves_came, came_self, same_machine}
 use Rattle.step_maker.proofs.Telling.{came_telling}
 use Rattle.step_maker.proofs.Visiting.{does_came}
 use Rattle.answer_laws.proofs.Shared.{alone_telling}
@@ -50,7 +50,7 @@ use Rattle.solo_ports.proofs.Unkept.{unkept_alone, unkept_let_go}
 use Rattle.solo_entries.proofs.Known.{Known}
 use Rattle.solo_entries.proofs.Mapping.{fine_by}
 use Rattle.solo_entries.proofs.Olds.{Keeps, gave_type_keeps, keeps_then, locked_keeps, moves_keeps, page_keeps, ref_keeps}
-use Rattle.solo_entries.proofs.Standing.{clean_with, machine_same, stands_with}
+use Rattle.solo_entries.proofs.Standing.{clean_with, stands_with}
 use Rattle.exchange_laws.proofs.Alone.{took_page_stops}
 use Rattle.solo_entries.proofs.Stopping.{ended_by, stops_within}
 use Rattle.solo_entries.proofs.Taking.{EndsSo, IsEnded, inside, page_ends}
@@ -173,9 +173,9 @@ module _ (k : Known) (v w : PortValue) (x : Solo) (o : Owners) (f i word : ℕ) 
 
       at_w : Describes n (told_word w) (after taking.left)
       at_w =
-          subst (λ q. Describes q (told_word w) (after taking.left)) (machine_same v b came_b)
-          (k.releases b w f 0 [] (with_cell f i word taking.left) (subst IsMachine (sym (machine_same v b came_b)) clean.stands.machine) (came_telling v b came_b ∙ telling) (subst (λ (q : Machine). f < q.frames) (sym (machine_same v b came_b)) real) (omega arith)
-          (subst (λ q. Describes q (told_word b) (with_cell f i word taking.left)) (sym (machine_same v b came_b)) at_b) (release.plain w refl gave))
+          subst (λ q. Describes q (told_word w) (after taking.left)) (same_machine v b came_b)
+          (k.releases b w f 0 [] (with_cell f i word taking.left) (subst IsMachine (sym (same_machine v b came_b)) clean.stands.machine) (came_telling v b came_b ∙ telling) (subst (λ (q : Machine). f < q.frames) (sym (same_machine v b came_b)) real) (omega arith)
+          (subst (λ q. Describes q (told_word b) (with_cell f i word taking.left)) (sym (same_machine v b came_b)) at_b) (release.plain w refl gave))
 
       unkept_cell : IsUnkept n (with_cell f i word taking.left)
       unkept_cell = unkept_left

@@ -11,7 +11,7 @@ use Rattle.xp_words.specs.declared.reply.Stop.TheVariants.{Paused}
 use Rattle.xp_board.specs.Told.{Post, PortValue, is_telling, told_word}
 use Rattle.step_maker.specs.Moves.{Came}
 use Rattle.step_maker.specs.Plain.{Words}
-use Rattle.step_maker.proofs.Coming.{came_post, came_trans}
+use Rattle.step_maker.proofs.Coming.{came_post, came_trans, same_machine}
 use Rattle.step_maker.proofs.Telling.{came_telling}
 use Rattle.answer_laws.specs.Alone.{IsAlone}
 use Rattle.answer_laws.proofs.Shared.{alone_telling}
@@ -39,16 +39,15 @@ use Rattle.refusal_laws.specs.Repeated.{PausedCalls}
 use Rattle.script_law.specs.Frames.{under_lock}
 use Rattle.script_law.specs.Values.{Solo}
 use Rattle.solo_ports.specs.Standing.{Clean, StaysAlike}
-use Rattle.solo_ports.proofs.Along.{stands_on}
+use Rattle.solo_ports.proofs.Along.{stands_on, follows_itself}
 use Rattle.solo_ports.proofs.Resting.{clean_rests}
-use Rattle.solo_entries.proofs.Begun.{begun_there, follows_itself, kept_there, owner_alive, second_stays}
+use Rattle.solo_entries.proofs.Begun.{begun_there, kept_there, owner_alive, second_stays}
 use Rattle.solo_entries.proofs.Demanding.{PausedDemand}
 use Rattle.solo_entries.proofs.Known.{Known}
 use Rattle.solo_entries.proofs.Locking.{at_y, calm_y, came_y, can_lock, kind_is, lends}
 use Rattle.solo_entries.proofs.Olds.{keeps_then, locked_keeps, ref_keeps, two_five, two_four}
 use Rattle.solo_entries.proofs.Relocking.{unlocked_alike}
 use Rattle.solo_entries.proofs.Serving.{write_quiet}
-use Rattle.solo_entries.proofs.Standing.{machine_same}
 use Rattle.solo_entries.proofs.Writes.{PausedWrite}
 use Rattle.solo_entries.proofs.Writing.{PausedExchange, saw_came, saw_few, saw_it, saw_words}
 
@@ -110,7 +109,7 @@ module _ (k : Known) (v w : PortValue) (x : Solo) (o : Owners) (f i word : ℕ) 
   alone_c = k.stays v c clean.stands.alone to_c
 
   there : (P : Machine → Words → Type 0) → P n (told_word y) → P c.post.machine (told_word c)
-  there P is = subst (λ (j : Machine). P j (told_word c)) (sym (machine_same v c to_c)) (subst (P n) (sym words) is)
+  there P is = subst (λ (j : Machine). P j (told_word c)) (sym (same_machine v c to_c)) (subst (P n) (sym words) is)
 
   cell : x.frames.cells f i ≡ paused.seen
   cell = described.cells f i lent_so.inside (saw_few y c f i paused.seen paused.saw) ∙ saw_it y c f i paused.seen paused.saw telling_y
@@ -135,7 +134,7 @@ module _ (k : Known) (v w : PortValue) (x : Solo) (o : Owners) (f i word : ℕ) 
         asks = subst (λ e. demand_at (level_type a.level) i (word_kept keep e word) ≡ Typed asked.table (level_type (a.level - 1))) (sym cell) asked.asks;
         differ = subst (λ e. same_demand (demand_at (level_type a.level) i (word_kept keep e word)) (demand_at (level_type a.level) i e) ≡ false) (sym cell) paused.differ;
         from = c;
-        machine = machine_same v c to_c;
+        machine = same_machine v c to_c;
         vcpu = ap (λ (j : Post). j.vcpu) (came_post v c to_c);
         rest = there IsAtRest calm_there;
         orderly = alone_orderly c alone_c;
@@ -170,7 +169,7 @@ module _ (k : Known) (v w : PortValue) (x : Solo) (o : Owners) (f i word : ℕ) 
 pub keeps_entry_on : AloneStays → (o : Owners) (f i word : ℕ) (keep : Bool) (v w : PortValue) (x : Solo) → StaysAlike v w → KeepsEntry o f i word keep v x → KeepsEntry o f i word keep w x
 keeps_entry_on stays o f i word keep v w x on e =
     let post = came_post v w on.came in
-    let same : w.post.machine ≡ v.post.machine = machine_same v w on.came in
+    let same : w.post.machine ≡ v.post.machine = same_machine v w on.came in
     let b = e.begun in
     record {
       stands = stands_on stays v w x on e.stands;

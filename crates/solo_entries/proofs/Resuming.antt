@@ -16,7 +16,7 @@ use Rattle.step_maker.specs.Moves.{Came}
 use Rattle.step_maker.specs.Plain.{Words}
 use Rattle.step_maker.specs.Twins.{Alike}
 use Rattle.step_maker.proofs.Alikes.{same_alike}
-use Rattle.step_maker.proofs.Coming.{came_post, came_trans, met_after, met_before}
+use Rattle.step_maker.proofs.Coming.{came_post, came_trans, met_after, met_before, same_machine}
 use Rattle.step_maker.proofs.Telling.{came_telling}
 use Rattle.step_maker.proofs.Visiting.{does_came}
 use Rattle.answer_laws.proofs.Shared.{alone_telling}
@@ -55,9 +55,9 @@ use Rattle.script_law.specs.Frames.{under_lock, write_word}
 use Rattle.script_law.specs.Values.{Solo, behind_by, did, with_frames}
 use Rattle.solo_ports.specs.Coming.{Comes}
 use Rattle.solo_ports.specs.Standing.{Fair}
-use Rattle.solo_ports.proofs.Along.{paused_on}
+use Rattle.solo_ports.proofs.Along.{paused_on, follows_itself}
 use Rattle.solo_entries.proofs.Again.{at_level, due_as, took_table}
-use Rattle.solo_entries.proofs.Begun.{calls_alike, cells_are, counts, first_there, follows_itself, held, kept_table, kept_there, lends, machine_from, owner_alive, second_stays, unkept_under, write_is}
+use Rattle.solo_entries.proofs.Begun.{calls_alike, cells_are, counts, first_there, held, kept_table, kept_there, lends, machine_from, owner_alive, second_stays, unkept_under, write_is}
 use Rattle.solo_entries.proofs.Demanding.{HadFirst, TookSo, comes_so, done_as}
 use Rattle.solo_entries.proofs.Exchanging.{given_came}
 use Rattle.solo_entries.proofs.Known.{Known}
@@ -65,7 +65,7 @@ use Rattle.solo_entries.proofs.Olds.{KeepsSecond, acquired_keeps, had_keeps, kee
 use Rattle.solo_entries.proofs.Pausing.{owner_two}
 use Rattle.solo_entries.proofs.Serving.{write_quiet}
 use Rattle.solo_entries.proofs.Relocking.{never_other, never_unreferred, relocked}
-use Rattle.solo_entries.proofs.Standing.{keeps_others, machine_same}
+use Rattle.solo_entries.proofs.Standing.{keeps_others}
 use Rattle.solo_entries.proofs.Stopping.{IsNotLost, never_lost_alone}
 use Rattle.solo_entries.proofs.Unkept.{unkept_exchanged}
 use Rattle.solo_entries.proofs.Writing.{ComesBesideSecond, done_behind, outcome_comes, put_lost, refused_behind, saw_came, saw_few, saw_it, saw_words, unpaused_comes}
@@ -107,7 +107,7 @@ module _ (k : Known) (v w : PortValue) (x : Solo) (o : Owners) (f i word : ℕ) 
     telling_y = came_telling v y came_y ∙ telling
 
     same_y : y.post.machine ≡ v.post.machine
-    same_y = machine_same v y came_y
+    same_y = same_machine v y came_y
 
     locked_again : Alike (told_word y) (told_word e.locked) × (level_type l ≡ level_type e.begun.level)
     locked_again = relocked v u y f o.tables e.begun.level l found (told_word e.locked) e.stands.alone e.unlocked ref lock
@@ -169,13 +169,13 @@ module _ (k : Known) (v w : PortValue) (x : Solo) (o : Owners) (f i word : ℕ) 
         clock = λ m met at. fair.clock m (met_after v c w m came_c (met_before c z w m met after)) at
 
         room : HasRoom c z
-        room = λ m g met at. subst (λ (j : Machine). ref_count m.found < j.limit) (sym (machine_same v c came_c)) (fair.room m g (met_after v c w m came_c (met_before c z w m met after)) at)
+        room = λ m g met at. subst (λ (j : Machine). ref_count m.found < j.limit) (sym (same_machine v c came_c)) (fair.room m g (met_after v c w m came_c (met_before c z w m met after)) at)
 
         comes : (a : Result ℕ Stop) → Had a → (a ≡ Err (Paused Due)) ⊎ ComesTo e.begun.from.post.machine z e.begun.asked (e.begun.level - 1) (alone e.begun.from.post.machine o.tables (e.begun.level - 1) e.begun.asked q) a
         comes a had =
             k.later e.begun.from c z e.begun.asked o.tables (e.begun.level - 1) q answers a (machine_from k v.post.machine v.post.vcpu o f i word keep x e.stands.machine b) e.begun.rest e.begun.orderly e.begun.clear
             (let h = e.begun.two in omega (arith, h)) (let h = e.begun.high in omega (arith, h)) e.begun.frames calls_c (k.stays v c e.stands.alone came_c)
-            (subst (λ (m : Machine). length m.vcpu_domain ≡ 1) (sym (machine_same v c came_c)) e.stands.only) had clock room
+            (subst (λ (m : Machine). length m.vcpu_domain ≡ 1) (sym (same_machine v c came_c)) e.stands.only) had clock room
 
         first_had : (a : Result ℕ Stop) → Had a → HadFirst z a
         first_had (Ok g) had =

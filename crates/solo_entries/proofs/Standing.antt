@@ -55,8 +55,6 @@ pub put_same : (f : ℕ) (m : Words) (q : Place) → is_counting q ≡ false →
 put_same f m q off = put_by (ref_count (m (Refs f)) == 1) f (owner_number (owner_of (m (Refs f)))) m q off
 
 -- ---- nothing changes
-pub machine_same : (v w : PortValue) → Came v w → w.post.machine ≡ v.post.machine
-machine_same v w came = ap (λ (q : Post). q.machine) (came_post v w came)
 
 pub clean_same : Known → (v w : PortValue) (x : Solo) → Clean v x → Came v w → Alike (told_word w) (told_word v) → Rests w → Clean w x
 clean_same k v w x clean came alike rests = clean_on k.stays v w x (record { came = came; words = alike; empty = rests.empty }) clean

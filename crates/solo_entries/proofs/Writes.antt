@@ -12,7 +12,7 @@ use Rattle.xp_words.specs.declared.reply.Stop.TheVariants.{Refused, Paused}
 use Rattle.xp_board.specs.KindSteps.{locked_kind}
 use Rattle.xp_board.specs.Told.{Post, PortValue, is_telling, told_word}
 use Rattle.step_maker.specs.Moves.{Came}
-use Rattle.step_maker.proofs.Coming.{came_post, met_after}
+use Rattle.step_maker.proofs.Coming.{came_post, met_after, same_machine}
 use Rattle.step_maker.proofs.Telling.{came_telling}
 use Rattle.answer_laws.proofs.Shared.{alone_telling}
 use Rattle.entry_exchange.specs.Course.{Exchanged, LeftLock}
@@ -47,7 +47,7 @@ use Rattle.solo_entries.proofs.Known.{Known}
 use Rattle.solo_entries.proofs.Locking.{at_y, calm_y, can_lock, came_y, held_y, kind_is, lends, lock_goes, lock_leaves, off_again}
 use Rattle.solo_entries.proofs.Mapping.{fine_by, unlooked}
 use Rattle.solo_entries.proofs.Olds.{keeps_then, locked_keeps, ref_keeps, three_five, three_four, two_five, two_four}
-use Rattle.solo_entries.proofs.Standing.{KeepsOthers, machine_same, owes_same}
+use Rattle.solo_entries.proofs.Standing.{KeepsOthers, owes_same}
 use Rattle.solo_entries.proofs.Stopping.{IsNotLost}
 use Rattle.solo_entries.proofs.Unkept.{unkept_exchanged}
 use Rattle.solo_entries.proofs.Writing.{ComesBesideSecond, PausedExchange, exchange_ends, outcome_comes, owes_left}
@@ -144,7 +144,7 @@ module _ (k : Known) (v w : PortValue) (x : Solo) (o : Owners) (f i word : ℕ) 
 
     -- ---- the lock goes off again, and nothing is changed
     machine_y : y.post.machine ≡ n
-    machine_y = machine_same v y to_y
+    machine_y = same_machine v y to_y
 
     telling_y : is_telling y ≡ true
     telling_y = came_telling v y to_y ∙ telling

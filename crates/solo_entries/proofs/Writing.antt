@@ -16,7 +16,7 @@ use Rattle.xp_words.specs.declared.reply.Stop.TheVariants.{Refused, Paused}
 use Rattle.xp_board.specs.Told.{Post, PortValue, is_telling, told_word}
 use Rattle.step_maker.specs.Moves.{Came}
 use Rattle.step_maker.specs.Plain.{Words}
-use Rattle.step_maker.proofs.Coming.{came_post, came_trans, met_after, met_before, moves_came, came_self}
+use Rattle.step_maker.proofs.Coming.{came_post, came_trans, met_after, met_before, moves_came, came_self, same_machine}
 use Rattle.step_maker.proofs.Telling.{came_telling, load_tells, told_there}
 use Rattle.answer_laws.specs.Alone.{IsAlone}
 use Rattle.answer_laws.proofs.Shared.{alone_telling}
@@ -49,7 +49,7 @@ use Rattle.solo_entries.proofs.Holding.{off}
 use Rattle.solo_entries.proofs.Known.{Known}
 use Rattle.solo_entries.proofs.Locking.{lock_leaves}
 use Rattle.solo_entries.proofs.Olds.{KeepsSecond, puts_keeps, three_four, three_five}
-use Rattle.solo_entries.proofs.Standing.{KeepsOthers, machine_same, stands_behind}
+use Rattle.solo_entries.proofs.Standing.{KeepsOthers, stands_behind}
 use Rattle.solo_entries.proofs.Stopping.{IsNotLost}
 use Rattle.table_law.specs.Exchange.{with_cell}
 
@@ -133,7 +133,7 @@ module _ (k : Known) (y w : PortValue) (t : EntryUpdate) (o : Owners) (q : Plain
   came_look = saw_came y u t.table t.index seen saw
 
   same_look : u.post.machine ≡ y.post.machine
-  same_look = machine_same y u came_look
+  same_look = same_machine y u came_look
 
   telling_look : is_telling u ≡ true
   telling_look = came_telling y u came_look ∙ telling
@@ -150,12 +150,12 @@ module _ (k : Known) (y w : PortValue) (t : EntryUpdate) (o : Owners) (q : Plain
 
   pub lock_second : (a b : PortValue) (p : Plain) → Came u a → HasTwoTypeCounts t.table p → Describes y.post.machine (told_word a) p → LeftLock a t.table t.level b → told_word a (old_place y.post.vcpu Second) ≡ told_word y (old_place y.post.vcpu Second) → told_word b (old_place y.post.vcpu Second) ≡ told_word y (old_place y.post.vcpu Second)
   lock_second a b p before h at lock was =
-      lock_leaves y.post.machine a b t.table t.level p (machine_same u a before ∙ same_look) (came_telling u a before ∙ telling_look) at h lock (old_place y.post.vcpu Second) refl (λ e. cc) ∙ was
+      lock_leaves y.post.machine a b t.table t.level p (same_machine u a before ∙ same_look) (came_telling u a before ∙ telling_look) at h lock (old_place y.post.vcpu Second) refl (λ e. cc) ∙ was
 
   left_second : (a b : PortValue) (p : Plain) → Came u a → HasTwoTypeCounts t.table p → LeavesFrames y.post.machine a p → LeftLock a t.table t.level b → told_word a (old_place y.post.vcpu Second) ≡ told_word y (old_place y.post.vcpu Second) → told_word b (old_place y.post.vcpu Second) ≡ told_word y (old_place y.post.vcpu Second)
   left_second a b p before h left lock was =
       let vcpu = ap (λ (j : Post). j.vcpu) (came_post y a (came_trans y u a came_look before)) in
-      let one = unlocked_second k y.post.machine a b t.table t.level p (machine_same u a before ∙ same_look) (came_telling u a before ∙ telling_look) low h lock left in
+      let one = unlocked_second k y.post.machine a b t.table t.level p (same_machine u a before ∙ same_look) (came_telling u a before ∙ telling_look) low h lock left in
       subst (λ s. told_word b (old_place s Second) ≡ told_word a (old_place s Second)) vcpu one ∙ was
 
   abbrev taking : PlainOutcome
@@ -209,7 +209,7 @@ module _ (k : Known) (y w : PortValue) (t : EntryUpdate) (o : Owners) (q : Plain
     came_u = saw_came y u t.table t.index seen saw
 
     same_u : u.post.machine ≡ n
-    same_u = machine_same y u came_u
+    same_u = same_machine y u came_u
 
     telling_u : is_telling u ≡ true
     telling_u = came_telling y u came_u ∙ telling

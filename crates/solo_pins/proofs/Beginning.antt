@@ -30,7 +30,7 @@ use Rattle.refusal_laws.specs.Refusals.{ComesTo}
 use Rattle.refusal_laws.specs.Repeated.{FollowsOn, PausedCalls, again, first}
 use Rattle.script_law.specs.Values.{Solo}
 use Rattle.solo_ports.specs.Standing.{Clean, Fair, KeepsTable, Stands, whose}
-use Rattle.solo_ports.proofs.Along.{paused_on}
+use Rattle.solo_ports.proofs.Along.{paused_on, follows_itself}
 use Rattle.solo_ports.proofs.Resting.{clean_orderly, clean_rests}
 use Rattle.pin_laws.proofs.Pinning.{goes_between}
 use Rattle.solo_pins.proofs.Given.{CallsTelling, FirstComes, LaterComes, LeavesKept}
@@ -57,8 +57,6 @@ pub record Begins (v w : PortValue) (x : Solo) (d f level : ℕ) : Type 0 where
       (answer ≡ Err (Paused Due)) ⊎ ComesTo v.post.machine e f level (alone v.post.machine d level f x.frames) answer
   pub keeps : (c : PortValue) (answers : List Bool) → Came v c → told_word c ≡ told_word v → Acquired c f d level w answers (Err (Paused Due)) → FindsAlive c w d → Stands w x → told_word w (old_place w.post.vcpu First) ≡ 0 → KeepsTable f d level w x
 
-stays_itself : (w : PortValue) → is_telling w ≡ true → FollowsOn w w
-stays_itself w telling = record { stays = record { machine = refl; telling = telling; words = same_alike (told_word w) (told_word w) (λ q. refl) }; vcpu = refl }
 
 module _ (stays : AloneStays) (v w : PortValue) (x : Solo) (d f level : ℕ) (fair : Fair v w) (low : 1 ≤ level) (high : level ≤ 4) where
   abbrev n : Machine
@@ -102,7 +100,7 @@ module _ (stays : AloneStays) (v w : PortValue) (x : Solo) (d f level : ℕ) (fa
           rest = there c before same IsAtRest (clean_rests v x clean);
           orderly = there c before same IsOrderly (clean_orderly v x clean);
           frames = there c before same (λ m l. Describes m l x.frames) clean.frames;
-          calls = first w w answers telling acquired alive (stays_itself w (came_telling c w came ∙ telling));
+          calls = first w w answers telling acquired alive (follows_itself w (came_telling c w came ∙ telling));
         }
 
     pub begins_clean : Begins v w x d f level
@@ -139,7 +137,7 @@ module _ (stays : AloneStays) (v w : PortValue) (x : Solo) (d f level : ℕ) (fa
           rest = k.rest;
           orderly = k.orderly;
           frames = k.frames;
-          calls = again c w w answers (calls_there c before same) acquired alive (stays_itself w (came_telling c w came ∙ telling));
+          calls = again c w w answers (calls_there c before same) acquired alive (follows_itself w (came_telling c w came ∙ telling));
         }
 
     pub begins_kept : Begins v w x d f level

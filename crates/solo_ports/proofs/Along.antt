@@ -92,3 +92,7 @@ keeps_on stays f owner level v w x on k =
       frames = k.frames;
       calls = paused_on f owner level k.from v w k.calls on.words (came_post v w on.came) (came_telling v w on.came ∙ alone_telling v k.stands.alone);
     }
+
+-- a port follows on itself
+pub follows_itself : (w : PortValue) → is_telling w ≡ true → FollowsOn w w
+follows_itself w telling = record { stays = record { machine = refl; telling = telling; words = same_alike (told_word w) (told_word w) (λ q. refl) }; vcpu = refl }

@@ -1,11 +1,12 @@
 -- Steps of one port, one behind the other.
-use Rattle.std.proofs.Common.{◌≡◌, ℕ, List, [], ◌∷◌, ◌++◌, Option, refl, sym, ap, ◌∙◌, subst}
+use Rattle.std.proofs.Common.{◌≡◌, ℕ, List, [], ◌∷◌, ◌++◌, Option, refl, sym, ap, ◌∙◌, subst, ◌<◌}
 use Rattle.xp_words.specs.declared.place.Place.{Place}
 use Rattle.xp_board.specs.declared.step.Act.{Act}
 use Rattle.xp_board.specs.declared.step.Mark.{Mark}
 use Rattle.xp_board.specs.declared.step.StepKind.{StepKind}
-use Rattle.xp_board.specs.Told.{PortValue}
+use Rattle.xp_board.specs.Told.{PortValue, Post}
 use Rattle.step_maker.specs.Moves.{Moves, Moment, MovesBy, Ran, Came, Met}
+use Rattle.xp_words.specs.Machine.{Machine}
 
 pub ran_more : (v u w : PortValue) (xs ys : List Moment) → Ran v xs u → Ran u ys w → Ran v (ys ++ xs) w
 ran_more v u w xs [] a b = subst (Ran v xs) (sym b) a
@@ -54,3 +55,10 @@ pub met_after : (v u w : PortValue) (m : Moment) → Came v u → Met u w m → 
 met_after v u w m a b = record { from = b.from; to = b.to; before = came_trans v u b.from a b.before; moved = b.moved; after = b.after }
 
 pub ruleset coming = (came_self, came_trans, came_post, moves_came, met_before, met_after)
+
+-- the machine stays, and a frame is still one of its own
+pub same_machine : (v w : PortValue) → Came v w → w.post.machine ≡ v.post.machine
+same_machine v w came = ap (λ (q : Post). q.machine) (came_post v w came)
+
+pub moved_inside : {v w : PortValue} {p : Place} {a : Act} {kind : StepKind} {mark : Option Mark} {found f : ℕ} → Moves v w p a kind mark found → f < v.post.machine.frames → f < w.post.machine.frames
+moved_inside {v} {w} {p} {a} {kind} {mark} {found} {f} moves low = subst (λ (q : Post). f < q.machine.frames) (sym (came_post v w (moves_came v w p a kind mark found moves))) low

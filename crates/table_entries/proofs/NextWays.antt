@@ -41,6 +41,7 @@ use Rattle.frame_types.specs.declared.taking.Counting.{Counting}
 use Rattle.frame_types.specs.declared.taking.Taken.{Taken}
 use Rattle.frame_types.specs.declared.taking.Taken.TheVariants.{Counted, InWork}
 use Rattle.table_words.specs.Entries.{RecordsNext, entry_recorded}
+use Rattle.frame_types.proofs.Coming.{working_same}
 use Rattle.table_entries.specs.Asking.{ShowsEntered, of_entries}
 use Rattle.table_entries.specs.Between.{HadRef, HandEntered, LooksNext, Meets, TakesNext, TypeTaken}
 use Rattle.table_entries.specs.Found.{EntersBy, EntersFound, TypedBy}
@@ -74,15 +75,12 @@ same_puts x v y g one two lt may gives =
       ),
     )
 
-working_run : (f owner : ℕ) (want : PageType) (own : Bool) (e : Work) (since : ℕ) (h : Holdings) → ((working f owner want own e since h).run ≡ h.run) × ((working f owner want own e since h).walk ≡ h.walk)
-working_run f owner want true e since h = (refl, refl)
-working_run f owner want false e since h = (refl, refl)
 
 pub waits_may : {x v y : PortValue} {g owner : ℕ} {want : PageType} {own : Bool} {stamp : ℕ} → Same x v → WaitsWith x y g owner want own stamp → MayWork v → MayWork y
 waits_may {x} {v} {y} {g} {owner} {want} {own} one w may =
     let e = sym one in
     let h = w.works.hand in
-    let k = working_run g owner want own w.work w.works.since x.holdings in
+    let k = working_same g owner want own w.work w.works.since x.holdings in
     record {
       running = ap (λ (q : PortValue). q.holdings.run) h ∙ k.0 ∙ ap (λ (q : PortValue). q.holdings.run) e ∙ may.running;
       no_walk = ap (λ (q : PortValue). q.holdings.walk) h ∙ k.1 ∙ ap (λ (q : PortValue). q.holdings.walk) e ∙ may.no_walk;

@@ -8,7 +8,7 @@ use Rattle.xp_words.specs.declared.reply.Stop.TheVariants.{Paused}
 use Rattle.xp_board.specs.Told.{Post, PortValue, is_telling, told_word}
 use Rattle.step_maker.specs.Moves.{Came}
 use Rattle.step_maker.specs.Plain.{Words}
-use Rattle.step_maker.proofs.Coming.{came_post}
+use Rattle.step_maker.proofs.Coming.{came_post, same_machine}
 use Rattle.answer_laws.specs.Alone.{IsAlone}
 use Rattle.answer_laws.proofs.Shared.{alone_telling}
 use Rattle.table_entries.specs.Acquiring.{Acquired}
@@ -25,8 +25,6 @@ pub record IsCalm (v : PortValue) : Type 0 where
 pub alive_still : (n : Machine) (m x : Words) → Still m x → AreAllAlive n m → AreAllAlive n x
 alive_still n m x s alive d real = s (Life d) refl ∙ alive d real
 
-pub same_machine : (v w : PortValue) → Came v w → w.post.machine ≡ v.post.machine
-same_machine v w came = ap (λ (q : Post). q.machine) (came_post v w came)
 
 pub alive_on : (v w : PortValue) → Passes v w → AreAllAlive v.post.machine (told_word v) → AreAllAlive w.post.machine (told_word w)
 alive_on v w p alive = subst (λ (n : Machine). AreAllAlive n (told_word w)) (sym (same_machine v w p.came)) (alive_still v.post.machine (told_word v) (told_word w) p.still alive)

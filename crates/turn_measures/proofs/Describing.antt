@@ -20,7 +20,8 @@ use Rattle.course_laws.proofs.Awaiting.{AloneStays}
 use Rattle.frame_ranks.specs.Ranks.{AreAllAlive, GoesForward}
 use Rattle.turn_measures.proofs.Forward.{comes_so}
 use Rattle.turn_measures.proofs.Asides.{Passes, moves_passes, passes_then, ref_passes}
-use Rattle.turn_measures.proofs.Calm.{IsCalm, calm_on, calm_telling, same_machine}
+use Rattle.turn_measures.proofs.Calm.{IsCalm, calm_on, calm_telling}
+use Rattle.step_maker.proofs.Coming.{same_machine}
 use Rattle.turn_measures.proofs.Pages.{ComesBy, ComesFor, by_passes, for_from, took_page_for, unreferred_for}
 use Rattle.turn_measures.proofs.Walking.{walk_never, walked_passes}
 

@@ -21,7 +21,8 @@ use Rattle.vcpu_turn.specs.declared.cpu.TurnEnd.TheVariants as ends
 use Rattle.frame_ranks.specs.Ranks.{AreAllAlive}
 use Rattle.turn_measures.proofs.Forward.{comes_so}
 use Rattle.turn_measures.proofs.Asides.{Passes, ref_passes}
-use Rattle.turn_measures.proofs.Calm.{AcquiredForward, AcquiredFurther, ComesTo, IsCalm, acquired_comes, alive_on, comes_from, same_machine}
+use Rattle.turn_measures.proofs.Calm.{AcquiredForward, AcquiredFurther, ComesTo, IsCalm, acquired_comes, alive_on, comes_from}
+use Rattle.step_maker.proofs.Coming.{same_machine}
 use Rattle.turn_measures.proofs.Storing.{Stored, kept_stored, shared_stored}
 use Rattle.turn_measures.proofs.Paging.{life_waiting, never_busy, waits_forward}
 

@@ -14,7 +14,7 @@ use Rattle.xp_board.specs.Readings.{kind_at, ref_count}
 use Rattle.xp_board.specs.Told.{PortValue, is_telling, told_word}
 use Rattle.xp_board.proofs.KindForms.{fields_unlocked, frame_inside}
 use Rattle.step_maker.specs.Moves.{Came}
-use Rattle.step_maker.proofs.Coming.{moves_came}
+use Rattle.step_maker.proofs.Coming.{moves_came, same_machine}
 use Rattle.step_maker.proofs.Telling.{came_telling, told_elsewhere, told_here, told_there}
 use Rattle.step_maker.proofs.Visiting.{does_came}
 use Rattle.entry_exchange.specs.Course as course
@@ -29,7 +29,7 @@ use Rattle.course_laws.proofs.Awaiting.{AloneStays, alone_orderly}
 use Rattle.frame_ranks.specs.Ranks.{AreAllAlive}
 use Rattle.turn_measures.proofs.Forward.{Comes}
 use Rattle.turn_measures.proofs.Asides.{Passes, gave_passes, ref_passes}
-use Rattle.turn_measures.proofs.Calm.{ComesTo, IsCalm, same_machine}
+use Rattle.turn_measures.proofs.Calm.{ComesTo, IsCalm}
 use Rattle.turn_measures.proofs.Locking.{HasRoom, IsLocked, IsUnlocked, comes_locked, locked_alive, locks_on, refers_room, several}
 use Rattle.turn_measures.proofs.Pages.{ComesFor}
 use Rattle.answer_laws.proofs.Shared.{alone_telling}

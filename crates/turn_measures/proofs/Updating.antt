@@ -9,7 +9,7 @@ use Rattle.xp_words.specs.declared.reply.Stop.{Stop}
 use Rattle.xp_words.specs.declared.reply.Stop.TheVariants.{Refused, Paused}
 use Rattle.xp_board.specs.Told.{PortValue, is_telling, told_word}
 use Rattle.step_maker.specs.Plain.{Words}
-use Rattle.step_maker.proofs.Coming.{came_trans}
+use Rattle.step_maker.proofs.Coming.{came_trans, same_machine}
 use Rattle.step_maker.proofs.Telling.{came_telling}
 use Rattle.step_maker.specs.Twins.{AnswersAs}
 use Rattle.step_maker.proofs.Visiting.{does_came}
@@ -31,7 +31,7 @@ use Rattle.course_laws.proofs.Awaiting.{AloneStays}
 use Rattle.table_entries.specs.Acquiring.{GotRef}
 use Rattle.turn_measures.proofs.Forward.{still_all}
 use Rattle.turn_measures.proofs.Asides.{Passes, moves_passes, passes_then, ref_passes}
-use Rattle.turn_measures.proofs.Calm.{AcquiredForward, AcquiredFurther, IsCalm, alive_on, calm_on, calm_telling, same_machine}
+use Rattle.turn_measures.proofs.Calm.{AcquiredForward, AcquiredFurther, IsCalm, alive_on, calm_on, calm_telling}
 use Rattle.turn_measures.proofs.Locking.{IsLocked}
 use Rattle.turn_measures.proofs.Pages.{ComesBy, ComesFor, acquired_for, by_passes, for_from, is_lost, never_for, page_for, took_page_for, unreferred_for}
 use Rattle.turn_measures.proofs.Unlocking.{locked_calm, locked_machine, locked_words, room, under_lock}

@@ -111,7 +111,7 @@ pub drop_came : (d : ℕ) (e : Option Element) (v w : PortValue) (answer : Resul
 drop_came d (Some e) v w answer drops = performs_came d e None v w [] answer drops
 drop_came d None v w answer drops = same_came v w drops.0
 
-wait_came : (d : ℕ) (waits : Bool) (awaited : Option ℕ) (v w : PortValue) (answer : Result (Unit {0}) Stop) → WaitsForAll d waits awaited v w answer → Came v w
+pub wait_came : (d : ℕ) (waits : Bool) (awaited : Option ℕ) (v w : PortValue) (answer : Result (Unit {0}) Stop) → WaitsForAll d waits awaited v w answer → Came v w
 wait_came d true awaited v w answer waits = performs_came d (performs.FlushVcpus elements.every_vcpu) awaited v w [] answer waits
 wait_came d false awaited v w answer waits = same_came v w waits.0
 

@@ -1,6 +1,6 @@
 use Rattle.std.proofs.Common.{refl}
 use Rattle.flush_words.proofs.Shared.{may_held}
-use Rattle.frame_types.proofs.Coming.{moved_inside}
+use Rattle.step_maker.proofs.Coming.{moved_inside}
 use Rattle.frame_types.proofs.taking.count_live.Goals as goal
 
 pub count_found-requires : goal.count_found-requires

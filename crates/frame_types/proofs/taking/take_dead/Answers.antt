@@ -2,7 +2,7 @@ use Rattle.std.proofs.Common.{true, refl, sym, subst}
 use Rattle.xp_words.specs.KindWords.{kind_write}
 use Rattle.xp_board.specs.declared.step.Act.TheVariants.{Cas}
 use Rattle.xp_board.specs.KindSteps.{begun_kind}
-use Rattle.step_maker.proofs.Coming.{moves_came}
+use Rattle.step_maker.proofs.Coming.{moves_came, moved_inside}
 use Rattle.kind_words.proofs.KindFacts.{kind_is_some, read_is}
 use Rattle.kind_words.proofs.KindWriting.{begun_is}
 use Rattle.frame_types.specs.Found.{Proceeds}
@@ -11,7 +11,7 @@ use Rattle.frame_types.specs.Taking.{Enters, progress_of, stamp_by}
 use Rattle.frame_types.specs.declared.standing.Standing.TheVariants as stands
 use Rattle.frame_types.proofs.Arms.{dead_takes, lost_takes}
 use Rattle.frame_types.proofs.Classing.{dead_unpinned, when_dead}
-use Rattle.frame_types.proofs.Coming.{begun_enters, looked_held, entered_may, moved_inside}
+use Rattle.frame_types.proofs.Coming.{begun_enters, looked_held, entered_may}
 use Rattle.frame_types.proofs.Living.{lives_behind}
 use Rattle.frame_types.proofs.Plainly.{plain_dead, plain_lost}
 use Rattle.frame_types.proofs.TakingSteps.{dead_found, lost_found}

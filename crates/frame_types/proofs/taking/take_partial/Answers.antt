@@ -5,7 +5,7 @@ use Rattle.xp_board.specs.declared.step.Act.TheVariants.{Cas}
 use Rattle.xp_board.specs.KindSteps.{resumed_kind}
 use Rattle.step_maker.specs.Asked.{of_back}
 use Rattle.step_maker.proofs.Piecing.{serves_came}
-use Rattle.step_maker.proofs.Coming.{came_trans, moves_came, came_post}
+use Rattle.step_maker.proofs.Coming.{came_trans, moves_came, came_post, moved_inside}
 use Rattle.step_maker.proofs.Telling.{came_telling}
 use Rattle.flush_words.proofs.Lasting.{came_longer}
 use Rattle.kind_words.proofs.KindFacts.{kind_is_some, read_is}
@@ -13,7 +13,7 @@ use Rattle.kind_words.proofs.KindWriting.{resumed_is}
 use Rattle.frame_types.specs.declared.standing.Standing.TheVariants as stands
 use Rattle.frame_types.proofs.Arms.{kept_takes, lost_takes, unkept_takes}
 use Rattle.frame_types.proofs.Classing.{when_partial}
-use Rattle.frame_types.proofs.Coming.{again, kept_enters, kept_gives, unkept_enters, entered_may, kept_may, moved_inside}
+use Rattle.frame_types.proofs.Coming.{again, kept_enters, kept_gives, unkept_enters, entered_may, kept_may}
 use Rattle.frame_types.proofs.Living.{lives_behind}
 use Rattle.frame_types.proofs.Plainly.{plain_kept, plain_lost, plain_unkept}
 use Rattle.frame_types.proofs.TakingSteps.{kept_found, lost_found, unkept_found}

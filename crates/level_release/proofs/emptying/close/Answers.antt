@@ -1,7 +1,7 @@
 use Rattle.std.proofs.Common.{false, None, ap, ◌∙◌, refl, subst}
 use Rattle.step_maker.proofs.Piecing.{serves_came}
 use Rattle.flush_words.proofs.Shared.{may_held}
-use Rattle.level_release.proofs.Remaining.{moves_inside}
+use Rattle.step_maker.proofs.Coming.{moved_inside}
 use Rattle.level_release.proofs.HandsTop.{top}
 use Rattle.level_release.proofs.HandsDead.{close_gives, close_leaves, close_may, close_settled, close_stands}
 use Rattle.xp_words.specs.KindWords.{kind_write}
@@ -25,7 +25,7 @@ leave-requires g c =
     let s = c.requires.stands.1.1 in
     let look = c.look_clock-clock.ensures in
     record {
-      frame = moves_inside look.moves (top s).is.inside;
+      frame = moved_inside look.moves (top s).is.inside;
       may = may_held v (g.P.Port.value c.look_clock-clock.new.port) v.holdings look.hand refl refl c.requires.may;
       leaves = close_leaves s c.requires.empty look.moves look.hand c.level_type.ensures c.dead_kind.ensures;
     }
@@ -37,7 +37,7 @@ put_ref-requires g c =
     let look = c.look_clock-clock.ensures in
     let store = c.leave.ensures in
     record {
-      frame = moves_inside store.moves (moves_inside look.moves (top s).is.inside);
+      frame = moved_inside store.moves (moved_inside look.moves (top s).is.inside);
       may = close_may s c.requires.empty look.moves look.hand c.level_type.ensures c.dead_kind.ensures store.moves store.hand (may_held v (g.P.Port.value c.look_clock-clock.new.port) v.holdings look.hand refl refl c.requires.may);
       gives = close_gives s c.requires.empty look.moves look.hand c.level_type.ensures c.dead_kind.ensures store.moves store.hand;
     }

@@ -8,13 +8,12 @@ use Rattle.xp_board.specs.declared.step.Act.TheVariants.{Store}
 use Rattle.xp_board.specs.declared.step.StepKind.TheVariants as kinds
 use Rattle.step_maker.specs.Holds.{Holds}
 use Rattle.step_maker.specs.Moves.{Moves}
-use Rattle.step_maker.proofs.Coming.{moves_came}
+use Rattle.step_maker.proofs.Coming.{moves_came, moved_inside}
 use Rattle.step_maker.specs.Answers.{missed}
 use Rattle.step_maker.proofs.Piecing.{stops_before}
 use Rattle.kind_words.specs.Kinds.{dead_kind, left}
 use Rattle.flush_words.proofs.Shared.{may_held}
 use Rattle.kind_words.proofs.KindFacts.{read_is}
-use Rattle.level_release.proofs.Remaining.{moves_inside}
 use Rattle.level_release.specs.Asking.{is_due_answer, is_due_stop}
 use Rattle.level_release.proofs.Asking.{settling}
 use Rattle.xp_preempt.proofs.Consulting.{gated_as, gated_none}
@@ -32,7 +31,7 @@ resume_work-requires-clause-is g c = (read_is c.args.found c.args.kind c.require
 -- ---- the exchange was lost
 
 pub lost-stop-requires : goal.lost-stop-requires
-lost-stop-requires g c = moves_inside c.in-Err.ensures.moves c.requires.frame
+lost-stop-requires g c = moved_inside c.in-Err.ensures.moves c.requires.frame
 
 pub put_old-requires : goal.put_old-requires
 put_old-requires g c =
@@ -40,7 +39,7 @@ put_old-requires g c =
     let d = g.P.Port.value c.resume_work.new.port in
     let same = lost_typed c.requires.took.2 c.requires.read c.requires.partial d c.in-Err.other c.in-Err.ensures.hand in
     record {
-      frame = moves_inside c.in-Err.ensures.moves c.requires.frame;
+      frame = moved_inside c.in-Err.ensures.moves c.requires.frame;
       may = may_held v d v.holdings same refl refl c.requires.may;
       empty = ap (λ (q : PortValue). q.holdings.old0) same ∙ c.requires.room;
       held = subst (λ (q : PortValue). 0 < typed_to c.args.frame q.holdings.typed) (sym same) (took_held c.requires.took.2);
@@ -52,7 +51,7 @@ pub overflow_sub-table : goal.overflow_sub-table
 overflow_sub-table g c = recorded_most c.args.found c.requires.read c.requires.partial
 
 pub look_refs-requires : goal.look_refs-requires
-look_refs-requires g c = moves_inside c.in-Ok.ensures.moves c.requires.frame
+look_refs-requires g c = moved_inside c.in-Ok.ensures.moves c.requires.frame
 
 pub level_of-requires : goal.level_of-requires
 level_of-requires g c = (recorded_some c.args.kind (sym c.has_recorded.ensures ∙ c.if-has_recorded.true)).0
@@ -82,14 +81,14 @@ leave-requires g c =
     let back = c.in-Ok.ensures in
     let clock = c.look_clock-clock.ensures in
     record {
-      frame = moves_inside clock.moves (moves_inside back.moves c.requires.frame);
+      frame = moved_inside clock.moves (moved_inside back.moves c.requires.frame);
       may = may_held d (g.P.Port.value c.look_clock-clock.new.port) d.holdings clock.hand refl refl (resumed_may t c.requires.read c.requires.partial back.moves back.hand c.requires.may);
       leaves = rw c.dead_kind.ensures (dead_may t c.requires.read c.requires.partial back.moves back.hand clock.moves clock.hand
           (recorded_none c.args.found c.requires.read c.requires.partial (sym c.has_recorded.ensures ∙ c.if-has_recorded.false)));
     }
 
 pub put_ref-requires-clause-frame : goal.put_ref-requires-clause-frame
-put_ref-requires-clause-frame g c = moves_inside c.leave.ensures.moves (moves_inside c.look_clock-clock.ensures.moves (moves_inside c.in-Ok.ensures.moves c.requires.frame))
+put_ref-requires-clause-frame g c = moved_inside c.leave.ensures.moves (moved_inside c.look_clock-clock.ensures.moves (moved_inside c.in-Ok.ensures.moves c.requires.frame))
 
 pub put_ref-requires-clause-gives : goal.put_ref-requires-clause-gives
 put_ref-requires-clause-gives g c =
