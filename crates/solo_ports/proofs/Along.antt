@@ -1,11 +1,11 @@
 -- The relations go along steps that change stamps, the clock and the words of flushes alone.
-use Rattle.std.proofs.Common.{◌≡◌, ◌≢◌, ℕ, true, sym, ap, ◌∙◌, subst, arith}
+use Rattle.std.proofs.Common.{◌≡◌, ◌≢◌, ℕ, true, refl, sym, ap, ◌∙◌, subst, arith}
 use Rattle.xp_words.specs.Machine.{Machine}
 use Rattle.xp_words.specs.declared.place.Place.TheVariants.{Life, M2p, Priv, Vcpu}
 use Rattle.xp_board.specs.Told.{Post, PortValue, is_telling, told_word}
 use Rattle.step_maker.specs.Plain.{Words}
 use Rattle.step_maker.specs.Twins.{Alike}
-use Rattle.step_maker.proofs.Alikes.{alike_trans}
+use Rattle.step_maker.proofs.Alikes.{alike_trans, same_alike}
 use Rattle.step_maker.proofs.Coming.{came_post}
 use Rattle.step_maker.proofs.Telling.{came_telling}
 use Rattle.answer_laws.proofs.Shared.{alone_telling}
