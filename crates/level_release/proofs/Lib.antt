@@ -1,6 +1,5 @@
 pub mod Hands
 pub mod HandsKnown
-mod Remaining
 pub mod HandsApart
 pub mod HandsTop
 pub mod HandsDead
