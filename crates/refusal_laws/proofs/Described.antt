@@ -56,7 +56,7 @@ use Rattle.course_laws.proofs.Unwinding.{HalfAt}
 use Rattle.course_laws.proofs.Beginning.{same_back}
 use Rattle.refusal_laws.specs.Repeated.{IsDeadFrame}
 
-sober_pinned : (b : Bool) (k : KindWord) → (if b then k else record k { number = 0; unflushed = false }).pinned ≡ k.pinned
+sober_pinned : (b : Bool) (k : KindWord) → (if b then k else record k { number = 0 }).pinned ≡ k.pinned
 sober_pinned true k = refl
 sober_pinned false k = refl
 

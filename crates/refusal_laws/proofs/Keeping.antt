@@ -40,7 +40,7 @@ pub record IsPartialWith (k : KindWord) (p : KindWord) : Type 0 where
 sober_fields : (k p : KindWord) → p.validated ≡ false → sober k ≡ p → IsPartialWith k p
 sober_fields k p off is =
     let live : k.validated ≡ p.validated = sym (sober_live k) ∙ ap (λ (x : KindWord). x.validated) is in
-    let same : record k { number = 0; unflushed = false } ≡ p = sym (ap (λ b. if b then k else record k { number = 0; unflushed = false }) (live ∙ off)) ∙ is in
+    let same : record k { number = 0 } ≡ p = sym (ap (λ b. if b then k else record k { number = 0 }) (live ∙ off)) ∙ is in
     record {
       off = live;
       partial = ap (λ (x : KindWord). x.partial) same;

@@ -38,8 +38,8 @@ use Rattle.table_law.proofs.Counting.{asks_at}
 use Rattle.table_releases.specs.declared.entries.Released.{Released}
 use Rattle.table_releases.specs.declared.entries.Released.TheVariants.{Given, Opened}
 use Rattle.table_law.specs.Plain.{Describes, Plain, sober, with_kind}
-use Rattle.table_law.specs.Release.{drop_demand, emptying, entries_held, is_counted_on, let_go}
-use Rattle.release_laws.proofs.Dropping.{again_given, again_held, again_in_work, again_last, live_all, live_closing, live_last, more_given, plain_given}
+use Rattle.table_law.specs.Release.{drop_demand, emptying, entries_held, is_counted_on, let_go, keeps_mark}
+use Rattle.release_laws.proofs.Dropping.{again_given, again_held, again_in_work, again_last, live_all, live_closing, live_last, more_given, plain_given, again_mark, live_unmarked}
 use Rattle.xp_board.proofs.KindReadings.{partial_parts}
 use Rattle.release_laws.proofs.Liking.{IsSpent}
 use Rattle.release_laws.proofs.Parts.{does_only, does_with}
@@ -57,6 +57,7 @@ pub record OpensAs (n : Machine) (l : ℕ) (p : Plain) (w : PortValue) (d : Dema
   pub asks : d ≡ demands.Typed g (level_type l)
   pub table : 1 ≤ l
   pub last : is_counted_on (p.kinds g) ≡ false
+  pub bare : keeps_mark (p.kinds g) ≡ false
   pub held : entries_held (p.kinds g) ≡ k
   pub few : k ≤ 512
   pub unspent : IsSpent (p.kinds g) → ⊥
@@ -101,6 +102,11 @@ form_by false false false f is = (λ e. absurd (let k = is ∙ e in cc), λ e. a
 few_recorded : (k : KindWord) → IsTrue (is_kind k) → IsTrue (is_partial k) → k.progress ≤ 512
 unfolding has_form
 few_recorded k is partial = grind (arith, nat_tests)
+
+-- of a frame that awaits its flush none is recorded
+recorded_unmarked : (t : PageType) (k : KindWord) → IsTrue (is_kind k) → IsTrue (is_partial k) → has_recorded t k ≡ true → k.unflushed ≡ false
+unfolding has_form
+recorded_unmarked t k is partial some = grind (arith, nat_tests)
 
 pub none_recorded : (t : PageType) (k : KindWord) → is_table t ≡ true → has_recorded t k ≡ false → k.progress ≡ 0
 none_recorded t k table none = grind (arith, nat_tests)
@@ -154,6 +160,7 @@ module _ (z w : PortValue) (p : Plain) (f i l g : ℕ) (answer : Result Released
           asks = refl;
           table = table_level l table;
           last = live_last z.post.machine (told_word z) p l g d inside live low.small low.some one;
+          bare = live_unmarked z.post.machine (told_word z) p l g d inside live low.small low.some;
           held = live_all z.post.machine (told_word z) p l g d inside live low.small low.some one;
           unspent = λ s. live_unspent (p.kinds g) (kind_fields (told_word z (Kind g))) (live_there z.post.machine (told_word z) p g d inside live) live low.some s;
           few = omega arith;
@@ -221,6 +228,7 @@ module _ (z w : PortValue) (p : Plain) (f i l g : ℕ) (answer : Result Released
           asks = refl;
           table = table_level l (table_of some);
           last = again_last z.post.machine (told_word z) p l g d inside is partial;
+          bare = again_mark z.post.machine (told_word z) p l g d inside is partial ∙ recorded_unmarked (level_type l) (kind_fields word) is partial some;
           held = again_held z.post.machine (told_word z) p l g d inside is partial;
           unspent = λ s. partial_unspent (p.kinds g) (kind_fields (told_word z (Kind g))) (d.kinds g inside) partial s;
           few = few_recorded (kind_fields word) is partial;
@@ -229,7 +237,7 @@ module _ (z w : PortValue) (p : Plain) (f i l g : ℕ) (answer : Result Released
         })
     partial_by false none counts a =
         given a.0
-        (described_leaves z.post.machine w _ _ a.1 (again_given z.post.machine (told_word z) p l g d inside is partial (kind_fields word).unflushed (none_held none (is_table (level_type l)) refl) (counts a.0 refl).some))
+        (described_leaves z.post.machine w _ _ a.1 (again_given z.post.machine (told_word z) p l g d inside is partial (none_held none (is_table (level_type l)) refl) (counts a.0 refl).some))
 
 -- ---- an entry that asks a type, behind the look at its cell
 module _ (v w : PortValue) (p : Plain) (f i l g : ℕ) (answer : Result Released Stop) (telling : is_telling v ≡ true) (d : Describes v.post.machine (told_word v) p) where

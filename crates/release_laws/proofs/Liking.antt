@@ -12,9 +12,9 @@ use Rattle.xp_board.specs.KindSteps.{resumed_kind}
 use Rattle.xp_board.specs.Readings.{is_partial}
 use Rattle.kind_words.specs.Kinds.{dead_kind}
 use Rattle.partial_state.specs.Levels.{level_type}
-use Rattle.table_law.specs.Levels.{closed, entry_of}
+use Rattle.table_law.specs.Levels.{closed, closed_as, entry_of}
 use Rattle.table_law.specs.Plain.{Plain, at, fewer, reference_back, with_kind}
-use Rattle.table_law.specs.Release.{drop_demand, drop_first, drop_kind, emptying, entries_held, is_counted_on, let_go}
+use Rattle.table_law.specs.Release.{drop_demand, drop_first, drop_kind, emptying, entries_held, is_counted_on, let_go, keeps_mark}
 
 -- ---- a frame that is being released: no type count is left, and all 512 entries would be given back
 pub record IsSpent (k : KindWord) : Type 0 where
@@ -45,6 +45,9 @@ emptying_by false k is = record { none = none_counted k.validated; whole = is }
 
 pub emptying_spent : (k : KindWord) → IsSpent (emptying k)
 emptying_spent k = emptying_by (is_partial k) k refl
+
+spent_bare : (k : KindWord) → IsSpent k → keeps_mark k ≡ false
+spent_bare k s = ap (λ b. b && k.unflushed) s.whole
 
 pub spent_held : (k : KindWord) → IsSpent k → entries_held k ≡ 512
 spent_held k s = ap (λ b. if b then k.progress else 512) s.whole
@@ -92,8 +95,8 @@ module _ (fs : List ℕ) (p q : Plain) (like : IsLike fs p q) where
   pub like_kind : (f : ℕ) (k l : KindWord) → IsEither fs f k l → IsLike fs (with_kind f k p) (with_kind f l q)
   like_kind f k l either = record { shares = like.shares; kinds = λ g. kind_by (g == f) f g k l refl either; cells = like.cells }
 
-pub like_closed : (fs : List ℕ) (p q : Plain) (f : ℕ) (t : PageType) → IsLike fs p q → IsLike fs (closed f t p) (closed f t q)
-like_closed fs p q f t like = like_back fs (with_kind f (dead_kind t false 0) p) (with_kind f (dead_kind t false 0) q) (like_kind fs p q like f (dead_kind t false 0) (dead_kind t false 0) (inl refl)) f
+like_closed : (fs : List ℕ) (p q : Plain) (u : Bool) (f : ℕ) (t : PageType) → IsLike fs p q → IsLike fs (closed_as u f t p) (closed_as u f t q)
+like_closed fs p q u f t like = like_back fs (with_kind f (dead_kind t u 0) p) (with_kind f (dead_kind t u 0) q) (like_kind fs p q like f (dead_kind t u 0) (dead_kind t u 0) (inl refl)) f
 
 -- the first frame of the list is dead behind it, on both
 module _ (f : ℕ) (fs : List ℕ) (p q : Plain) (t : PageType) (like : IsLike (f ∷ fs) p q) where
@@ -118,15 +121,17 @@ module _ (fs : List ℕ) (empty : ℕ → Plain → Plain) (g : ℕ) (t : PageTy
   dropped_same true p q k on like =
       let less = record k { number = k.number - 1 } in
       rw on (like_back fs (with_kind g less p) (with_kind g less q) (like_kind fs p q like g less less (inl refl)) g)
-  dropped_same false p q k off like = rw off (like_closed fs _ _ g t (keeps (entries_held k) _ _ (like_kind fs p q like g (emptying k) (emptying k) (inl refl))))
+  dropped_same false p q k off like = rw off (like_closed fs _ _ (keeps_mark k) g t (keeps (entries_held k) _ _ (like_kind fs p q like g (emptying k) (emptying k) (inl refl))))
 
   dropped_spent : (p q : Plain) (k l : KindWord) → IsOf fs g → IsSpent k → IsSpent l → IsLike fs p q → IsLike fs (drop_kind empty g t p k) (drop_kind empty g t q l)
   dropped_spent p q k l one spent spent_too like =
       let off = spent_uncounted k spent in
       let off_too = spent_uncounted l spent_too in
       let held : entries_held k ≡ entries_held l = spent_held k spent ∙ sym (spent_held l spent_too) in
-      let emptied = like_closed fs _ _ g t (keeps (entries_held k) _ _ (like_kind fs p q like g (emptying k) (emptying l) (inr (one, emptying_spent k, emptying_spent l)))) in
-      rw off (rw off_too (subst (λ j. IsLike fs (closed g t (empty (entries_held k) (with_kind g (emptying k) p))) (closed g t (empty j (with_kind g (emptying l) q)))) held emptied))
+      let bare : keeps_mark k ≡ keeps_mark l = spent_bare k spent ∙ sym (spent_bare l spent_too) in
+      let emptied = like_closed fs _ _ (keeps_mark k) g t (keeps (entries_held k) _ _ (like_kind fs p q like g (emptying k) (emptying l) (inr (one, emptying_spent k, emptying_spent l)))) in
+      rw off (rw off_too (subst (λ u. IsLike fs (closed_as (keeps_mark k) g t (empty (entries_held k) (with_kind g (emptying k) p))) (closed_as u g t (empty (entries_held l) (with_kind g (emptying l) q)))) bare
+          (subst (λ j. IsLike fs (closed_as (keeps_mark k) g t (empty (entries_held k) (with_kind g (emptying k) p))) (closed_as (keeps_mark k) g t (empty j (with_kind g (emptying l) q)))) held emptied)))
 
   pub dropped_kind : (p q : Plain) (k l : KindWord) → IsEither fs g k l → IsLike fs p q → IsLike fs (drop_kind empty g t p k) (drop_kind empty g t q l)
   dropped_kind p q k l (inl same) like = subst (λ j. IsLike fs (drop_kind empty g t p k) (drop_kind empty g t q j)) same (dropped_same (is_counted_on k) p q k refl like)
@@ -173,8 +178,11 @@ kept_kind f k p so = record { cells = λ g i. refl; spent = λ g s. kept_by (g =
 pub kept_back : (f : ℕ) (p : Plain) → IsKept p (reference_back f p)
 kept_back f p = record { cells = λ g i. refl; spent = λ g s. s }
 
+kept_closed_as : (u : Bool) (f : ℕ) (t : PageType) (p : Plain) → IsKept p (closed_as u f t p)
+kept_closed_as u f t p = kept_then p _ _ (kept_kind f (dead_kind t u 0) p (λ s. dead_spent t u 0)) (kept_back f (with_kind f (dead_kind t u 0) p))
+
 pub kept_closed : (f : ℕ) (t : PageType) (p : Plain) → IsKept p (closed f t p)
-kept_closed f t p = kept_then p _ _ (kept_kind f (dead_kind t false 0) p (λ s. dead_spent t false 0)) (kept_back f (with_kind f (dead_kind t false 0) p))
+kept_closed f t p = kept_closed_as false f t p
 
 kept_drop : (empty : ℕ → Plain → Plain) (g : ℕ) (t : PageType) (p : Plain) (b : Bool) → is_counted_on (p.kinds g) ≡ b → ((k : ℕ) (q : Plain) → IsKept q (empty k q)) → IsKept p (drop_kind empty g t p (p.kinds g))
 kept_drop empty g t p true on keeps =
@@ -182,7 +190,7 @@ kept_drop empty g t p true on keeps =
     rw on (kept_then p (with_kind g less p) _ (kept_kind g less p (λ s. absurd (let off = spent_uncounted (p.kinds g) s in cc))) (kept_back g (with_kind g less p)))
 kept_drop empty g t p false off keeps =
     let at_work = with_kind g (emptying (p.kinds g)) p in
-    rw off (kept_then p at_work _ (kept_kind g (emptying (p.kinds g)) p (λ s. emptying_spent (p.kinds g))) (kept_then at_work (empty (entries_held (p.kinds g)) at_work) _ (keeps (entries_held (p.kinds g)) at_work) (kept_closed g t (empty (entries_held (p.kinds g)) at_work))))
+    rw off (kept_then p at_work _ (kept_kind g (emptying (p.kinds g)) p (λ s. emptying_spent (p.kinds g))) (kept_then at_work (empty (entries_held (p.kinds g)) at_work) _ (keeps (entries_held (p.kinds g)) at_work) (kept_closed_as (keeps_mark (p.kinds g)) g t (empty (entries_held (p.kinds g)) at_work))))
 
 module _ (below : ℕ → Plain → Plain) (keeps : (g : ℕ) (p : Plain) → IsKept p (below g p)) where
   pub kept_demand : (p : Plain) (d : Demand) → IsKept p (drop_demand below p d)

@@ -6,7 +6,7 @@ use Rattle.kind_words.specs.Kinds.{partial_kind, work_kind}
 use Rattle.partial_state.specs.Levels.{level_type}
 use Rattle.table_law.specs.Levels.{closed}
 use Rattle.table_law.specs.Plain.{Plain, with_kind}
-use Rattle.table_law.specs.Release.{drop_first, emptying, entries_held, is_counted_on, let_go}
+use Rattle.table_law.specs.Release.{drop_first, emptying, entries_held, is_counted_on, let_go, keeps_mark}
 use Rattle.table_law.proofs.Counting.{at_here}
 use Rattle.table_law.proofs.Undoing.{opened}
 use Rattle.release_laws.proofs.Liking.{IsLike, IsSpent, first_closed, first_kept, let_go_kept, like_same}
@@ -32,6 +32,6 @@ module _ (l f held : ℕ) (p : Plain) (spent : IsSpent (p.kinds f)) where
   parked_goes =
       let t = level_type (suc l) in
       let at : (parked l f held p).kinds f ≡ here = at_here f here p.kinds in
-      opened l f (parked l f held p) (ap is_counted_on at)
+      opened l f (parked l f held p) (ap is_counted_on at) (ap keeps_mark at)
       ∙ ap (λ (k : KindWord). closed f t (drop_first (let_go l) t f (entries_held k) (with_kind f (emptying k) (parked l f held p)))) at
       ∙ like_same _ _ (first_closed f [] _ _ t (first_kept (f ∷ []) (let_go l) (let_go_kept (f ∷ []) l) t f held _ _ again_like))

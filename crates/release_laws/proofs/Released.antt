@@ -25,7 +25,7 @@ use Rattle.table_law.specs.Release.{drop_first, emptying, entries_held, let_go}
 use Rattle.table_law.proofs.Undoing.{opened}
 use Rattle.level_release.specs.Course as course
 use Rattle.level_release.specs.Course.{Emptied, WasReleased, closing_table}
-use Rattle.release_laws.proofs.Dropping.{live_all, live_closing, live_last, more_given, plain_given}
+use Rattle.release_laws.proofs.Dropping.{live_all, live_closing, live_last, more_given, plain_given, live_unmarked}
 use Rattle.release_laws.proofs.Entries.{plain_level, table_level}
 use Rattle.table_law.proofs.Counting.{at_here}
 use Rattle.release_laws.specs.Pauses as pauses
@@ -107,7 +107,7 @@ module _ (v : PortValue) (f level : ℕ) (p : Plain) (telling : is_telling v ≡
           describes = subst (λ m. Describes n m (with_kind f (emptying (p.kinds f)) p)) (sym words_x) (live_closing n (told_word v) p level f d inside (live u true a) (small u true a) (some u true a) (count u true a));
           left = at_level (closing_table f level) [] l (with_kind f (emptying (p.kinds f)) p) (sym is)
               ∙ ap (λ k. closed f (level_type (suc l)) (drop_first (let_go l) (level_type (suc l)) f k (with_kind f (emptying (p.kinds f)) p))) (let e : 512 - 0 ≡ entries_held (p.kinds f) = omega arith in e)
-              ∙ sym (opened l f p one) ∙ ap (λ j. let_go j f p) is;
+              ∙ sym (opened l f p one (live_unmarked n (told_word v) p level f d inside (live u true a) (small u true a) (some u true a))) ∙ ap (λ j. let_go j f p) is;
         }
 
     ended : (w : PortValue) → Leads n w [] (let_go level f p) → Left w

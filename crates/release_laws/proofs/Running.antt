@@ -186,7 +186,7 @@ module _ (n : Machine) (u w : PortValue) (q : Plain) where
       let named : entry_of inner (level_type t.level) t.frame (512 - (t.done + 1)) ≡ Typed g (level_type (t.level - 1)) =
       ap (λ k. entry_of inner (level_type k) t.frame (512 - (t.done + 1))) level ∙ (ap (λ i. entry_of inner (level_type (suc l)) t.frame i) last_at ∙ (o.asks ∙ ap (λ k. Typed g (level_type k)) (sym same_level))) in
       let count : 512 - (512 - k) ≡ entries_held (p.kinds g) = (let e = o.held in omega arith) in
-      let whole : let_go l g p ≡ closed g (level_type (suc (l - 1))) (drop_first (let_go (l - 1)) (level_type (suc (l - 1))) g (entries_held (p.kinds g)) inner) = subst (λ j. let_go j g p ≡ closed g (level_type (suc (l - 1))) (drop_first (let_go (l - 1)) (level_type (suc (l - 1))) g (entries_held (p.kinds g)) inner)) low (opened (l - 1) g p o.last) in
+      let whole : let_go l g p ≡ closed g (level_type (suc (l - 1))) (drop_first (let_go (l - 1)) (level_type (suc (l - 1))) g (entries_held (p.kinds g)) inner) = subst (λ j. let_go j g p ≡ closed g (level_type (suc (l - 1))) (drop_first (let_go (l - 1)) (level_type (suc (l - 1))) g (entries_held (p.kinds g)) inner)) low (opened (l - 1) g p o.last o.bare) in
       record {
         machine = machine_on t ts l level few r a s;
         telling = telling_on t ts l level few r a s;

@@ -27,7 +27,7 @@ use Rattle.table_words.specs.OldWords.{old_place}
 use Rattle.table_words.specs.declared.old_words.OldWord.TheVariants.{First, Second}
 use Rattle.table_law.specs.Levels.{closed}
 use Rattle.table_law.specs.Plain.{Describes, Plain, share_of, sober, with_kind}
-use Rattle.table_law.specs.Release.{drop_first, emptying, entries_held, is_counted_on, let_go}
+use Rattle.table_law.specs.Release.{drop_first, emptying, entries_held, is_counted_on, let_go, keeps_mark}
 use Rattle.table_law.proofs.Undoing.{opened}
 use Rattle.table_releases.specs.Found.{has_recorded}
 use Rattle.level_release.specs.Course as course
@@ -215,7 +215,7 @@ module _ (n : Machine) (v : PortValue) (f level : ℕ) (q : Plain) (s : IsLeft n
       whole : let_go level f s.plain ≡ closed f t (drop_first (let_go (level - 1)) t f s.held inner)
       whole =
           subst (λ l. let_go l f s.plain ≡ closed f (level_type l) (drop_first (let_go (level - 1)) (level_type l) f s.held inner)) suc_level
-          (opened (level - 1) f s.plain counted_is ∙ ap (λ k. closed f (level_type (suc (level - 1))) (drop_first (let_go (level - 1)) (level_type (suc (level - 1))) f k inner)) held_is)
+          (opened (level - 1) f s.plain counted_is (ap keeps_mark partial_kind_there) ∙ ap (λ k. closed f (level_type (suc (level - 1))) (drop_first (let_go (level - 1)) (level_type (suc (level - 1))) f k inner)) held_is)
 
       -- ---- its entries are given back
       module _ (u : PortValue) (x k : ℕ) (level_is : level_type k ≡ (kind_fields word).kind) (few : k ≤ 4) (owner : Moves d u (Refs g) Load kinds.Look None x) where

@@ -13,14 +13,14 @@ use Rattle.table_law.specs.Plain.{sober}
 pub sober_pinned : (k : KindWord) → (sober k).pinned ≡ k.pinned
 sober_pinned k = one k.validated
   where
-    one : (b : Bool) → (if b then k else record k { number = 0; unflushed = false }).pinned ≡ k.pinned
+    one : (b : Bool) → (if b then k else record k { number = 0 }).pinned ≡ k.pinned
     one true = refl
     one false = refl
 
 pub sober_kept : (k : KindWord) → (sober k).kept ≡ k.kept
 sober_kept k = one k.validated
   where
-    one : (b : Bool) → (if b then k else record k { number = 0; unflushed = false }).kept ≡ k.kept
+    one : (b : Bool) → (if b then k else record k { number = 0 }).kept ≡ k.kept
     one true = refl
     one false = refl
 

@@ -61,21 +61,21 @@ pub owned_share : (w owner : ℕ) → owner_of w ≡ Some owner → 0 < ref_coun
 owned_share w owner own some = share_by w owner (share_of w) refl own some
 
 -- ---- kind words
-dead_by : (b : Bool) (k : KindWord) → is_dead (if b then k else record k { number = 0; unflushed = false }) ≡ is_dead k
+dead_by : (b : Bool) (k : KindWord) → is_dead (if b then k else record k { number = 0 }) ≡ is_dead k
 dead_by true k = refl
 dead_by false k = refl
 
 pub sober_dead : (k : KindWord) → is_dead (sober k) ≡ is_dead k
 sober_dead k = dead_by k.validated k
 
-kind_by : (b : Bool) (k : KindWord) → (if b then k else record k { number = 0; unflushed = false }).kind ≡ k.kind
+kind_by : (b : Bool) (k : KindWord) → (if b then k else record k { number = 0 }).kind ≡ k.kind
 kind_by true k = refl
 kind_by false k = refl
 
 pub sober_kind : (k : KindWord) → (sober k).kind ≡ k.kind
 sober_kind k = kind_by k.validated k
 
-live_by : (b : Bool) (k : KindWord) → (if b then k else record k { number = 0; unflushed = false }).validated ≡ k.validated
+live_by : (b : Bool) (k : KindWord) → (if b then k else record k { number = 0 }).validated ≡ k.validated
 live_by true k = refl
 live_by false k = refl
 

@@ -1,4 +1,4 @@
--- The words of frames as one vCPU alone would know them: owners, counts, types and cells. Stamps and marks of flushes are left out.
+-- The words of frames as one vCPU alone would know them: owners, counts, types and cells, with the marks of awaited flushes. Stamps are left out.
 use Rattle.std.specs.Prelude.{◌≡◌, ℕ, ◌+◌, ◌-◌, ◌<◌, ◌==◌, if◌then◌else◌, Bool, false, Option, Some, None}
 use Rattle.xp_words.specs.declared.kind.KindWord.{KindWord}
 use Rattle.xp_words.specs.declared.refs.RefWord.{RefWord}
@@ -23,9 +23,9 @@ share_in _ = None
 abbrev pub share_of : ℕ → Option Share
 share_of w = share_in (ref_read w)
 
--- the fields of a kind word without its stamp and its mark
+-- the fields of a kind word without its stamp
 abbrev pub sober : KindWord → KindWord
-sober k = if k.validated then k else record k { number = 0; unflushed = false }
+sober k = if k.validated then k else record k { number = 0 }
 
 pub record Plain : Type 0 where
   pub shares : ℕ → Option Share

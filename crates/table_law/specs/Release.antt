@@ -9,7 +9,7 @@ use Rattle.partial_state.specs.Levels.{level_type}
 use Rattle.xp_board.specs.KindSteps.{resumed_kind}
 use Rattle.xp_board.specs.Readings.{is_partial}
 use Rattle.table_law.specs.Plain.{Plain, with_kind, reference_back}
-use Rattle.table_law.specs.Levels.{entry_of, closed, TableLeft}
+use Rattle.table_law.specs.Levels.{entry_of, closed, closed_as, TableLeft}
 
 -- ---- one type
 -- live, with other type counts beside one
@@ -28,9 +28,13 @@ entries_held k = if is_partial k then k.progress else 512
 abbrev pub emptying : KindWord → KindWord
 emptying k = if is_partial k then resumed_kind k else record k { number = 0 }
 
+-- a frame that an acquisition left unfinished, with its flush awaited, keeps the mark
+abbrev pub keeps_mark : KindWord → Bool
+keeps_mark k = is_partial k && k.unflushed
+
 -- Of several type counts one goes. Else it was the last, and what the frame holds is given back: `empty` does that with so many entries.
 abbrev pub drop_kind : (ℕ → Plain → Plain) → ℕ → PageType → Plain → KindWord → Plain
-drop_kind empty g t p k = if is_counted_on k then count_back g k p else closed g t (empty (entries_held k) (with_kind g (emptying k) p))
+drop_kind empty g t p k = if is_counted_on k then count_back g k p else closed_as (keeps_mark k) g t (empty (entries_held k) (with_kind g (emptying k) p))
 
 -- ---- entries
 abbrev pub drop_demand : (ℕ → Plain → Plain) → Plain → Demand → Plain

@@ -45,12 +45,12 @@ pub same_share : (x y : ℕ) → IsAlikeRef x y → share_of y ≡ share_of x
 same_share x y (inl e) = sym (ap share_of e)
 same_share x y (inr e) = free_share (ref_read y) y refl e.1 ∙ sym (free_share (ref_read x) x refl e.0)
 
-pub unlive : (k : KindWord) → k.validated ≡ false → sober k ≡ record k { number = 0; unflushed = false }
-unlive k off = ap (λ b. if b then k else record k { number = 0; unflushed = false }) off
+pub unlive : (k : KindWord) → k.validated ≡ false → sober k ≡ record k { number = 0 }
+unlive k off = ap (λ b. if b then k else record k { number = 0 }) off
 
 sober_alike : (k l : KindWord) → IsAlikeKind k l → sober l ≡ sober k
 sober_alike k l a =
-    unlive l (ap (λ (j : KindWord). j.validated) a.1 ∙ a.0) ∙ ap (λ (j : KindWord). record j { number = 0; unflushed = false }) a.1 ∙ sym (unlive k a.0)
+    unlive l (ap (λ (j : KindWord). j.validated) a.1 ∙ a.0) ∙ ap (λ (j : KindWord). record j { number = 0 }) a.1 ∙ sym (unlive k a.0)
 
 pub same_sober : (x y : ℕ) → (x ≡ y) ⊎ IsAlikeKind (kind_fields x) (kind_fields y) → sober (kind_fields y) ≡ sober (kind_fields x)
 same_sober x y (inl e) = sym (ap (λ w. sober (kind_fields w)) e)

@@ -32,7 +32,7 @@ use Rattle.table_law.specs.Alone.{OtherType, PlainOutcome, fine, is_counted, mee
 use Rattle.table_law.specs.Plain.{Describes, Plain, reference_back, sober, with_kind}
 use Rattle.table_law.specs.Release.{let_go}
 use Rattle.table_law.proofs.Describing.{sober_dead, sober_kind}
-use Rattle.table_twins.specs.Types.{IsOpenedPlain, IsReady, IsReadyBy, IsRefusedPlain, IsTakenPlain, TakesAsPlain}
+use Rattle.table_twins.specs.Types.{IsOpenedPlain, IsReady, IsReadyBy, IsRefusedPlain, IsTakenPlain, IsWaitingPlain, TakesAsPlain}
 use Rattle.table_twins.proofs.Kinding.{described_alike, kinded, kinded_over}
 
 -- ---- what a standing says
@@ -94,7 +94,7 @@ some_lt : (c : ℕ) → (c == 0) ≡ false → nat_lt 0 c ≡ true
 some_lt c off = grind (arith, nat_tests)
 
 pub live_sober : (k : KindWord) → k.validated ≡ true → sober k ≡ k
-live_sober k on = ap (λ b. if b then k else record k { number = 0; unflushed = false }) on
+live_sober k on = ap (λ b. if b then k else record k { number = 0 }) on
 
 module _ (n : Machine) (m : Words) (q : Plain) (g : ℕ) (d : Describes n m q) (inside : g < n.frames) (t : PageType) where
   pub counted_takes : (fill : Plain → PlainOutcome) → IsCounted (kind_fields (m (Kind g))) t → take_kind fill g t q (q.kinds g) ≡ fine (with_kind g (raised_kind (kind_fields (m (Kind g)))) q)
@@ -142,11 +142,11 @@ pub work_sober : (k : KindWord) (t : PageType) → IsTrue (not (is_none t)) → 
 work_sober k t typed = sym (ap (λ (j : KindWord). sober (kind_fields (kind_write j))) (begun_unmarked k t) ∙ ap sober (fields_write (work_kind t false 0) (work_is t typed)))
 
 -- in work with its mark
-begun_sober : (k : KindWord) (t : PageType) → IsTrue (is_kind k) → is_dead k ≡ true → IsTrue (not (is_none t)) → work_kind t false 0 ≡ sober (kind_fields (kind_write (begun_kind k t)))
-begun_sober k t is dead typed = sym (ap sober (fields_write (begun_kind k t) (begun_is k t is dead typed)))
+begun_sober : (k : KindWord) (t : PageType) → IsTrue (is_kind k) → is_dead k ≡ true → IsTrue (not (is_none t)) → is_stale k t ≡ true → work_kind t true 0 ≡ sober (kind_fields (kind_write (begun_kind k t)))
+begun_sober k t is dead typed stale = sym (ap sober (fields_write (begun_kind k t) (begun_is k t is dead typed)) ∙ ap (λ u. work_kind t u 0) stale)
 
 -- partial with its mark
-pub partial_sober : (t : PageType) → IsTrue (not (is_none t)) → IsTrue (not (type_number t == 5)) → partial_kind t false false 0 0 ≡ sober (kind_fields (kind_write (partial_kind t false true 0 0)))
+pub partial_sober : (t : PageType) → IsTrue (not (is_none t)) → IsTrue (not (type_number t == 5)) → partial_kind t false true 0 0 ≡ sober (kind_fields (kind_write (partial_kind t false true 0 0)))
 partial_sober t typed plain = sym (ap sober (fields_write (partial_kind t false true 0 0) (marked_is t typed false 0 (or_left (not (type_number t == 5)) false plain) (omega arith))))
   where
     or_left : (b c : Bool) → IsTrue b → IsTrue (b || c)
@@ -154,7 +154,7 @@ partial_sober t typed plain = sym (ap sober (fields_write (partial_kind t false 
     or_left false c on = absurd cc
 
 -- dead with its mark
-pub dead_sober : (t : PageType) → IsTrue (not (is_none t)) → dead_kind t false 0 ≡ sober (kind_fields (kind_write (dead_kind t true 0)))
+pub dead_sober : (t : PageType) → IsTrue (not (is_none t)) → dead_kind t true 0 ≡ sober (kind_fields (kind_write (dead_kind t true 0)))
 dead_sober t typed = sym (ap sober (fields_write (dead_kind t true 0) (dead_is t typed true 0 (omega arith))))
 
 not_partial : (v p b : Bool) → (not v && (not p && not b)) ≡ true → p ≡ false
@@ -185,15 +185,14 @@ module _ (n : Machine) (m words : Words) (q : Plain) (l owner g : ℕ) (machine 
             (kinded n m q g (work_unmarked (begun_kind k (level_type l))) (work_kind (level_type l) false 0) d (work_sober k (level_type l) (level_type-typed l)));
       }
 
-  waiting_plain : (own : Bool) → is_dead (kind_fields (m (Kind g))) ≡ true → own ≡ true → Alike words (set_kind g (begun_kind (kind_fields (m (Kind g))) (level_type l)) m) → IsOpenedPlain n l g 0 own q words
-  waiting_plain own dead mine alike =
+  waiting_plain : (own : Bool) → is_dead (kind_fields (m (Kind g))) ≡ true → is_stale (kind_fields (m (Kind g))) (level_type l) ≡ true → own ≡ true → Alike words (set_kind g (begun_kind (kind_fields (m (Kind g))) (level_type l)) m) → IsWaitingPlain n l g own q words
+  waiting_plain own dead stale mine alike =
       let k = kind_fields (m (Kind g)) in
       record {
         dead = dead_there n m q g d inside (level_type l) ∙ dead;
-        none = refl;
         mine = mine;
-        describes = described_alike n words (set_kind g (begun_kind k (level_type l)) m) (with_kind g (work_kind (level_type l) false 0) q) alike
-            (kinded n m q g (begun_kind k (level_type l)) (work_kind (level_type l) false 0) d (begun_sober k (level_type l) is dead (level_type-typed l)));
+        describes = described_alike n words (set_kind g (begun_kind k (level_type l)) m) (with_kind g (work_kind (level_type l) true 0) q) alike
+            (kinded n m q g (begun_kind k (level_type l)) (work_kind (level_type l) true 0) d (begun_sober k (level_type l) is dead (level_type-typed l) stale));
       }
 
 -- ordinary memory that is dead is live at once
@@ -221,7 +220,7 @@ module _ (n : Machine) (m words : Words) (q : Plain) (l owner g : ℕ) (machine 
   by_standing stands.Dead (InWork progress own) stands_so ready none by alike =
       opened_plain n m words q l owner g machine d inside is progress own (dead_says (kind_fields (m (Kind g))) (level_type l) stands_so) by.2 by.1 alike
   by_standing stands.Dead (Waiting own stamp stop) stands_so ready none by alike =
-      waiting_plain n m words q l owner g machine d inside is own (dead_says (kind_fields (m (Kind g))) (level_type l) stands_so) by.1 alike
+      waiting_plain n m words q l owner g machine d inside is own (dead_says (kind_fields (m (Kind g))) (level_type l) stands_so) by.0 by.1 alike
   by_standing stands.Partial way stands_so ready none by alike = absurd ready
   by_standing stands.Busy way stands_so ready none by alike = absurd ready
   by_standing stands.Other way stands_so ready none by alike = absurd (let k = none in cc)

@@ -20,7 +20,7 @@ use Rattle.frame_types.specs.Standing.{standing_of}
 use Rattle.frame_types.specs.declared.standing.Standing.{Standing}
 use Rattle.frame_types.specs.declared.standing.Standing.TheVariants as stands
 use Rattle.table_entries.specs.Plain.{WaitsPlainly, is_own_of, left_partial, left_shared}
-use Rattle.table_law.specs.Levels.{closed}
+use Rattle.table_law.specs.Levels.{closed_as}
 use Rattle.table_law.specs.Plain.{Describes, Plain, Share, reference_back, with_kind}
 use Rattle.table_twins.specs.Entries.{waiting}
 use Rattle.table_twins.specs.Types.{IsReady, IsReadyBy}
@@ -65,10 +65,10 @@ only_busy g word t x stop = pause_by g word t (standing_of (kind_fields word) t)
 module _ (n : Machine) (m words : Words) (q : Plain) (l g : ℕ) (d : Describes n m q) (inside : g < n.frames) where
   as_partial : Describes n (set_kind g (partial_kind (level_type l) false true 0 0) m) (waiting g (level_type l) q)
   as_partial =
-      kinded n m q g (partial_kind (level_type l) false true 0 0) (partial_kind (level_type l) false false 0 0) d (partial_sober (level_type l) (level_type-typed l) (level_type-plain l))
+      kinded n m q g (partial_kind (level_type l) false true 0 0) (partial_kind (level_type l) false true 0 0) d (partial_sober (level_type l) (level_type-typed l) (level_type-plain l))
 
-  as_dead : Describes n (set_kind g (dead_kind (level_type l) true 0) m) (with_kind g (dead_kind (level_type l) false 0) q)
-  as_dead = kinded n m q g (dead_kind (level_type l) true 0) (dead_kind (level_type l) false 0) d (dead_sober (level_type l) (level_type-typed l))
+  as_dead : Describes n (set_kind g (dead_kind (level_type l) true 0) m) (with_kind g (dead_kind (level_type l) true 0) q)
+  as_dead = kinded n m q g (dead_kind (level_type l) true 0) (dead_kind (level_type l) true 0) d (dead_sober (level_type l) (level_type-typed l))
 
   -- as another holder left it, and the reference given back
   pub shared_again : (s : Share) → q.shares g ≡ Some s → Alike words (left_shared g (level_type l) m) → Describes n words (reference_back g (waiting g (level_type l) q))
@@ -95,13 +95,13 @@ module _ (n : Machine) (m words : Words) (q : Plain) (l g : ℕ) (d : Describes 
 -- dead, and the reference given back
 module _ (n : Machine) (m : Words) (w : PortValue) (q : Plain) (l g : ℕ) (d : Describes n m q) (inside : g < n.frames) (s : Share) (own : q.shares g ≡ Some s) where
   given_by : (a : Standing) → standing_of (kind_fields (m (Kind g))) (level_type l) ≡ a → IsReadyBy n (kind_fields (m (Kind g))) a → waits_by (kind_fields (m (Kind g))) (level_type l) a ≡ true →
-      WaitsPlainly w m g (level_type l) (is_own (kind_fields (m (Kind g))) a) → (is_dead (q.kinds g) ≡ true) × Describes n (told_word w) (closed g (level_type l) q)
+      WaitsPlainly w m g (level_type l) (is_own (kind_fields (m (Kind g))) a) → (is_dead (q.kinds g) ≡ true) × Describes n (told_word w) (closed_as true g (level_type l) q)
   given_by stands.Dead so ready waits left =
       let k = kind_fields (m (Kind g)) in
       let gone = put g (set_kind g (dead_kind (level_type l) true 0) m) in (
         dead_as n m (told_word w) q l g d inside stands.Dead so refl,
-        described_alike n (told_word w) gone (closed g (level_type l) q) (subst (λ a. Alike (told_word w) (put g (set_kind g (dead_kind (level_type l) true 0) (less_kept g k a m)))) so left.1)
-            (same_back n (set_kind g (dead_kind (level_type l) true 0) m) (with_kind g (dead_kind (level_type l) false 0) q) g s (as_dead n m (told_word w) q l g d inside) inside own),
+        described_alike n (told_word w) gone (closed_as true g (level_type l) q) (subst (λ a. Alike (told_word w) (put g (set_kind g (dead_kind (level_type l) true 0) (less_kept g k a m)))) so left.1)
+            (same_back n (set_kind g (dead_kind (level_type l) true 0) m) (with_kind g (dead_kind (level_type l) true 0) q) g s (as_dead n m (told_word w) q l g d inside) inside own),
       )
   given_by stands.Partial so ready waits left = absurd ready
   given_by stands.Busy so ready waits left = absurd ready
@@ -109,5 +109,5 @@ module _ (n : Machine) (m : Words) (w : PortValue) (q : Plain) (l g : ℕ) (d : 
   given_by stands.Counted so ready waits left = absurd cc
 
   pub given_back : IsReady n (level_type l) (m (Kind g)) → type_waits (level_type l) (m (Kind g)) ≡ true → WaitsPlainly w m g (level_type l) (is_own_of m g (level_type l)) →
-      (is_dead (q.kinds g) ≡ true) × Describes n (told_word w) (closed g (level_type l) q)
+      (is_dead (q.kinds g) ≡ true) × Describes n (told_word w) (closed_as true g (level_type l) q)
   given_back ready waits left = given_by (standing_of (kind_fields (m (Kind g))) (level_type l)) refl ready.1 waits left

@@ -20,7 +20,7 @@ use Rattle.table_entries.specs.Plain.{is_own_of}
 use Rattle.table_entries.specs.declared.entries.Entered.{Entered}
 use Rattle.table_entries.specs.declared.entries.Entered.TheVariants.{Recorded, Opened, Unsettled}
 use Rattle.table_law.specs.Alone.{PlainOutcome, take_reference}
-use Rattle.table_law.specs.Levels.{closed}
+use Rattle.table_law.specs.Levels.{closed_as}
 use Rattle.table_law.specs.Plain.{Describes, Plain, reference_back, with_kind}
 use Rattle.table_twins.specs.Answers.{IsSameAnswer}
 use Rattle.table_twins.specs.Types.{IsOpenedPlain, IsReady}
@@ -39,9 +39,9 @@ OfTyped n owner p _ X = ⊥
 abbrev pub awaits : Words → ℕ → PageType → Bool
 awaits m g t = type_waits t (m (Kind g))
 
--- it is partial there, as each frame is that waits for a flush without being in work
+-- it is partial there, with its mark, as each frame is that waits for a flush without being in work
 abbrev pub waiting : ℕ → PageType → Plain → Plain
-waiting g t q = with_kind g (partial_kind t false false 0 0) q
+waiting g t q = with_kind g (partial_kind t false true 0 0) q
 
 -- o: what the plain value makes of the entry, which asks d; m: the words before. What is recorded or opened is so on the plain
 -- value, where the frame is ready, and what is refused is refused there for the same cause. Of waiting the plain value knows
@@ -54,7 +54,7 @@ EntersAsPlain n l owner p o m words d (Ok (Opened h progress own)) =
 EntersAsPlain n l owner p o m words d (Ok (Unsettled stop)) =
     OfTyped n owner p d (λ g t q. (awaits m g t ≡ true) × (is_own_of m g t ≡ true) × (IsReady n t (m (Kind g)) → (is_dead (q.kinds g) ≡ true) × Describes n words (waiting g t q)))
 EntersAsPlain n l owner p o m words d (Err (Refused (refusals.Clock x))) =
-    OfTyped n owner p d (λ g t q. (awaits m g t ≡ true) × (IsReady n t (m (Kind g)) → (is_dead (q.kinds g) ≡ true) × Describes n words (closed g t q)))
+    OfTyped n owner p d (λ g t q. (awaits m g t ≡ true) × (IsReady n t (m (Kind g)) → (is_dead (q.kinds g) ≡ true) × Describes n words (closed_as true g t q)))
 EntersAsPlain n l owner p o m words d (Err (Refused x)) = IsSameAnswer (Some x) o.refusal × Describes n words o.left
 EntersAsPlain n l owner p o m words d (Err (Paused (Flush u y x))) =
     OfTyped n owner p d (λ g t q. (awaits m g t ≡ true) × (is_own_of m g t ≡ false) × Describes n words (reference_back g (waiting g t q)))

@@ -42,11 +42,17 @@ pub record IsOpenedPlain (n : Machine) (l g progress : ℕ) (own : Bool) (q : Pl
   pub mine : own ≡ true
   pub describes : Describes n words (with_kind g (work_kind (level_type l) false 0) q)
 
--- q: the plain value with the reference taken; it knows no waiting, and has a frame that waits in work, with nothing recorded
+-- in work with its mark, where a flush is awaited
+pub record IsWaitingPlain (n : Machine) (l g : ℕ) (own : Bool) (q : Plain) (words : Words) : Type 0 where
+  pub dead : is_dead (q.kinds g) ≡ true
+  pub mine : own ≡ true
+  pub describes : Describes n words (with_kind g (work_kind (level_type l) true 0) q)
+
+-- q: the plain value with the reference taken; it knows no waiting, and has a frame that waits in work, with its mark and nothing recorded
 abbrev pub TakesAsPlain : Machine → ℕ → ℕ → ℕ → Plain → Words → Taken → Type 0
 TakesAsPlain n l owner g q words Counted = IsTakenPlain n l owner g q words
 TakesAsPlain n l owner g q words (InWork progress own) = IsOpenedPlain n l g progress own q words
-TakesAsPlain n l owner g q words (Waiting own stamp stop) = IsOpenedPlain n l g 0 own q words
+TakesAsPlain n l owner g q words (Waiting own stamp stop) = IsWaitingPlain n l g own q words
 
 -- it is refused there for the same cause, and the reference given back
 pub record IsRefusedPlain (n : Machine) (l owner g : ℕ) (q : Plain) (x : Refusal) : Type 0 where

@@ -8,7 +8,7 @@ pub returns-clause-counted : goal.returns-clause-counted
 returns-clause-counted c f l a k g t xs p asks more = undo_counted f l a k g t xs p asks more
 
 pub returns-clause-opened : goal.returns-clause-opened
-returns-clause-opened c f l a k g t xs p inside asks last = undo_opened f l a k g t xs p inside asks last
+returns-clause-opened c f l a k g t xs p inside asks last bare = undo_opened f l a k g t xs p inside asks last bare
 
 pub returns-clause-empty : goal.returns-clause-empty
 returns-clause-empty c f l a g m b xs p = undo_empty f l a g m b xs p
@@ -17,4 +17,4 @@ pub returns-clause-last : goal.returns-clause-last
 returns-clause-last c f l a p = undo_last f l a p
 
 pub returns-clause-released : goal.returns-clause-released
-returns-clause-released c l f p last = release_opened l f p last
+returns-clause-released c l f p last bare = release_opened l f p last bare
