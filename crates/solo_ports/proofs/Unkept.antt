@@ -13,9 +13,9 @@ use Rattle.xp_board.specs.KindSteps.{raised_kind}
 use Rattle.kind_words.specs.Kinds.{live_kind, work_kind}
 use Rattle.partial_state.specs.Levels.{level_type}
 use Rattle.table_law.specs.Alone.{Cause, PlainOutcome, alone, back_or, fine, go_on, is_counted, meet, meet_last, take_at, take_kind, take_reference, take_reference_of}
-use Rattle.table_law.specs.Levels.{closed, entry_of}
+use Rattle.table_law.specs.Levels.{closed, closed_as, entry_of}
 use Rattle.table_law.specs.Plain.{Plain, Share, with_kind}
-use Rattle.table_law.specs.Release.{count_back, drop_demand, drop_first, drop_kind, emptying, entries_held, is_counted_on, let_go}
+use Rattle.table_law.specs.Release.{count_back, drop_demand, drop_first, drop_kind, emptying, entries_held, is_counted_on, keeps_mark, let_go}
 use Rattle.solo_ports.specs.Standing.{IsUnkept}
 
 module _ (g : ℕ) where
@@ -31,8 +31,11 @@ module _ (g : ℕ) where
   by_kind f k p a e = here_or (g == f) k (p.kinds g) (λ b. a) e
 
   -- ---- a release
+  by_closed_as : (u : Bool) (f : ℕ) (t : PageType) (p : Plain) → Un p → Un (closed_as u f t p)
+  by_closed_as u f t p e = by_kind f _ p refl e
+
   pub by_closed : (f : ℕ) (t : PageType) (p : Plain) → Un p → Un (closed f t p)
-  by_closed f t p e = by_kind f _ p refl e
+  by_closed f t p e = by_closed_as false f t p e
 
   by_count : (f : ℕ) (k : KindWord) (p : Plain) → (g ≡ f → k.kept ≡ false) → Un p → Un (count_back f k p)
   by_count f k p a e = here_or (g == f) (record k { number = k.number - 1 }) (p.kinds g) (λ b. a (same_is g f b)) e
@@ -52,7 +55,7 @@ module _ (g : ℕ) where
   by_drop_at : (empty : ℕ → Plain → Plain) (f : ℕ) (t : PageType) (p : Plain) → Empties empty → Un p → Un (drop_kind empty f t p (p.kinds f))
   by_drop_at empty f t p goes e = elim (cases_Bool (is_counted_on (p.kinds f))) [
     | inl on ↦ rw on (by_count f (p.kinds f) p (own_kind f p e) e)
-    | inr off ↦ rw off (by_closed f t (empty (entries_held (p.kinds f)) (with_kind f (emptying (p.kinds f)) p)) (goes (entries_held (p.kinds f)) (with_kind f (emptying (p.kinds f)) p)
+    | inr off ↦ rw off (by_closed_as (keeps_mark (p.kinds f)) f t (empty (entries_held (p.kinds f)) (with_kind f (emptying (p.kinds f)) p)) (goes (entries_held (p.kinds f)) (with_kind f (emptying (p.kinds f)) p)
         (here_or (g == f) (emptying (p.kinds f)) (p.kinds g) (λ b. emptied (p.kinds f) (own_kind f p e (same_is g f b))) e)))
   ]
 
