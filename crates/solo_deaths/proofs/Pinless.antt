@@ -9,9 +9,9 @@ use Rattle.xp_words.specs.declared.kind.PageType.{PageType}
 use Rattle.xp_words.specs.declared.kind.PageType.TheVariants as kinds
 use Rattle.xp_board.specs.Readings.{is_partial}
 use Rattle.partial_state.specs.Levels.{level_type}
-use Rattle.table_law.specs.Levels.{closed, entry_of}
+use Rattle.table_law.specs.Levels.{closed_as, entry_of}
 use Rattle.table_law.specs.Plain.{Plain, with_kind}
-use Rattle.table_law.specs.Release.{count_back, drop_demand, drop_first, drop_kind, emptying, entries_held, is_counted_on, let_go}
+use Rattle.table_law.specs.Release.{count_back, drop_demand, drop_first, drop_kind, emptying, entries_held, is_counted_on, let_go, keeps_mark}
 
 module _ (g : ℕ) where
   abbrev pub Off : Plain → Type 0
@@ -21,8 +21,8 @@ module _ (g : ℕ) where
   here_or true k l a e = a refl
   here_or false k l a e = e
 
-  by_closed : (f : ℕ) (t : PageType) (p : Plain) → Off p → Off (closed f t p)
-  by_closed f t p e = here_or (g == f) _ (p.kinds g) (λ b. refl) e
+  by_closed : (u : Bool) (f : ℕ) (t : PageType) (p : Plain) → Off p → Off (closed_as u f t p)
+  by_closed u f t p e = here_or (g == f) _ (p.kinds g) (λ b. refl) e
 
   by_count : (f : ℕ) (k : KindWord) (p : Plain) → (g ≡ f → k.pinned ≡ false) → Off p → Off (count_back f k p)
   by_count f k p a e = here_or (g == f) (record k { number = k.number - 1 }) (p.kinds g) (λ b. a (same_is g f b)) e
@@ -42,7 +42,7 @@ module _ (g : ℕ) where
   by_drop_at : (empty : ℕ → Plain → Plain) (f : ℕ) (t : PageType) (p : Plain) → Empties empty → Off p → Off (drop_kind empty f t p (p.kinds f))
   by_drop_at empty f t p goes e = elim (cases_Bool (is_counted_on (p.kinds f))) [
     | inl on ↦ rw on (by_count f (p.kinds f) p (own_kind f p e) e)
-    | inr off ↦ rw off (by_closed f t (empty (entries_held (p.kinds f)) (with_kind f (emptying (p.kinds f)) p)) (goes (entries_held (p.kinds f)) (with_kind f (emptying (p.kinds f)) p)
+    | inr off ↦ rw off (by_closed (keeps_mark (p.kinds f)) f t (empty (entries_held (p.kinds f)) (with_kind f (emptying (p.kinds f)) p)) (goes (entries_held (p.kinds f)) (with_kind f (emptying (p.kinds f)) p)
         (here_or (g == f) (emptying (p.kinds f)) (p.kinds g) (λ b. emptied (p.kinds f) (own_kind f p e (same_is g f b))) e)))
   ]
 

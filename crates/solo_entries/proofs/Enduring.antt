@@ -19,9 +19,9 @@ use Rattle.partial_state.specs.declared.stack.TableWork.{TableWork}
 use Rattle.partial_state.proofs.LevelFacts.{level_type-above, level_type-below}
 use Rattle.table_law.specs.Alone.{Cause, CountFull, NoFrame, OtherType, PlainOutcome, WrongOwner, alone, back_or, fine, go_on, is_counted, meet, meet_last, refused, take_at, take_kind, take_reference, take_reference_of, then_or}
 use Rattle.table_law.specs.Lawful.{IsAtRest, IsShareOf}
-use Rattle.table_law.specs.Levels.{TableLeft, closed, entry_of}
+use Rattle.table_law.specs.Levels.{TableLeft, closed, closed_as, entry_of}
 use Rattle.table_law.specs.Plain.{Describes, Plain, Share, at, fewer, raised_share, reference_back, sober, with_kind, with_share}
-use Rattle.table_law.specs.Release.{count_back, drop_demand, drop_first, drop_kind, emptying, entries_held, is_counted_on, let_go, undo_below}
+use Rattle.table_law.specs.Release.{count_back, drop_demand, drop_first, drop_kind, emptying, entries_held, is_counted_on, let_go, undo_below, keeps_mark}
 use Rattle.table_law.specs.Stack.{rest}
 use Rattle.table_law.specs.Undone.{CountsSome, IsSameButType, IsSameButTypes}
 use Rattle.table_law.proofs.Counting.{at_here, at_there}
@@ -79,12 +79,15 @@ module _ (f owner level : ℕ) where
       let on : false ≡ true = sym off ∙ (sym (ap (λ (j : KindWord). j.locked) here) ∙ k.table.locked) in
       cc
 
-  back_closed : (g : ℕ) (t : PageType) (p : Plain) → HasTable (closed g t p) → (f ≢ g) × HasTable p
-  back_closed g t p k =
-      let w = dead_kind t false 0 in
+  back_closed_as : (u : Bool) (g : ℕ) (t : PageType) (p : Plain) → HasTable (closed_as u g t p) → (f ≢ g) × HasTable p
+  back_closed_as u g t p k =
+      let w = dead_kind t u 0 in
       let b = back_reference g (with_kind g w p) k in
       let apart = unlocked_apart g w p refl b in
       (apart, back_kind g w p apart b)
+
+  back_closed : (g : ℕ) (t : PageType) (p : Plain) → HasTable (closed g t p) → (f ≢ g) × HasTable p
+  back_closed g t p k = back_closed_as false g t p k
 
   back_live : (g : ℕ) (t : PageType) (p : Plain) → HasTable (with_kind g (live_kind t 1) p) → (f ≢ g) × HasTable p
   back_live g t p k = let apart = unlocked_apart g (live_kind t 1) p refl k in (apart, back_kind g (live_kind t 1) p apart k)
@@ -103,11 +106,11 @@ module _ (f owner level : ℕ) where
       ]
 
   module _ (empty : ℕ → Plain → Plain) (g : ℕ) (t : PageType) (backs : (k : ℕ) → Back (empty k)) where
-    back_drop_by : (b : Bool) (p : Plain) → HasTable (if b then count_back g (p.kinds g) p else closed g t (empty (entries_held (p.kinds g)) (with_kind g (emptying (p.kinds g)) p))) → HasTable p
+    back_drop_by : (b : Bool) (p : Plain) → HasTable (if b then count_back g (p.kinds g) p else closed_as (keeps_mark (p.kinds g)) g t (empty (entries_held (p.kinds g)) (with_kind g (emptying (p.kinds g)) p))) → HasTable p
     back_drop_by true p k = back_count g p k
     back_drop_by false p k =
         let inner = with_kind g (emptying (p.kinds g)) p in
-        let b = back_closed g t (empty (entries_held (p.kinds g)) inner) k in
+        let b = back_closed_as (keeps_mark (p.kinds g)) g t (empty (entries_held (p.kinds g)) inner) k in
         back_kind g (emptying (p.kinds g)) p b.0 (backs (entries_held (p.kinds g)) inner b.1)
 
     back_drop : (p : Plain) → HasTable (drop_kind empty g t p (p.kinds g)) → HasTable p

@@ -11,9 +11,9 @@ use Rattle.xp_words.specs.declared.kind.PageType.{PageType}
 use Rattle.xp_words.specs.declared.kind.PageType.TheVariants as kinds
 use Rattle.kind_words.specs.Kinds.{dead_kind}
 use Rattle.partial_state.specs.Levels.{level_type}
-use Rattle.table_law.specs.Levels.{closed, entry_of}
+use Rattle.table_law.specs.Levels.{closed_as, entry_of}
 use Rattle.table_law.specs.Plain.{Plain, Share, at, fewer, reference_back, with_kind}
-use Rattle.table_law.specs.Release.{count_back, drop_demand, drop_first, drop_kind, emptying, entries_held, is_counted_on, let_go}
+use Rattle.table_law.specs.Release.{count_back, drop_demand, drop_first, drop_kind, emptying, entries_held, is_counted_on, let_go, keeps_mark}
 use Rattle.table_law.proofs.Counting.{at_here, at_there}
 
 -- ---- two functions on frames, one behind the other
@@ -70,19 +70,20 @@ module _ (f : ℕ) where
   ]
 
   -- a frame that is closed is another one
-  closed_apart : (g : ℕ) (t : PageType) (p : Plain) → HasTwoTypeCounts f (closed g t p) → f ≢ g
-  closed_apart g t p held e =
-      let here : (closed g t p).kinds f ≡ dead_kind t false 0 = ap (at g (dead_kind t false 0) p.kinds) e ∙ at_here g (dead_kind t false 0) p.kinds in
+  closed_apart : (u : Bool) (g : ℕ) (t : PageType) (p : Plain) → HasTwoTypeCounts f (closed_as u g t p) → f ≢ g
+  closed_apart u g t p held e =
+      let here : (closed_as u g t p).kinds f ≡ dead_kind t u 0 = ap (at g (dead_kind t u 0) p.kinds) e ∙ at_here g (dead_kind t u 0) p.kinds in
       let live = sym (ap (λ (j : KindWord). j.validated) here) ∙ held.live in
       cc
 
   module _ (empty : ℕ → Plain → Plain) (g : ℕ) (t : PageType) (backs : (k : ℕ) → Back (empty k)) where
-    back_drop_by : (b : Bool) (p : Plain) → HasTwoTypeCounts f (if b then count_back g (p.kinds g) p else closed g t (empty (entries_held (p.kinds g)) (with_kind g (emptying (p.kinds g)) p))) → HasTwoTypeCounts f p
+    back_drop_by : (b : Bool) (p : Plain) → HasTwoTypeCounts f (if b then count_back g (p.kinds g) p else closed_as (keeps_mark (p.kinds g)) g t (empty (entries_held (p.kinds g)) (with_kind g (emptying (p.kinds g)) p))) → HasTwoTypeCounts f p
     back_drop_by true p held = back_count g p held
     back_drop_by false p held =
         let inner = with_kind g (emptying (p.kinds g)) p in
-        let apart = closed_apart g t (empty (entries_held (p.kinds g)) inner) held in
-        back_kind g (emptying (p.kinds g)) p apart (backs (entries_held (p.kinds g)) inner (back_kind g (dead_kind t false 0) (empty (entries_held (p.kinds g)) inner) apart (record { live = held.live; several = held.several })))
+        let u = keeps_mark (p.kinds g) in
+        let apart = closed_apart u g t (empty (entries_held (p.kinds g)) inner) held in
+        back_kind g (emptying (p.kinds g)) p apart (backs (entries_held (p.kinds g)) inner (back_kind g (dead_kind t u 0) (empty (entries_held (p.kinds g)) inner) apart (record { live = held.live; several = held.several })))
 
     back_drop : (p : Plain) → HasTwoTypeCounts f (drop_kind empty g t p (p.kinds g)) → HasTwoTypeCounts f p
     back_drop p held = back_drop_by (is_counted_on (p.kinds g)) p held
@@ -142,8 +143,8 @@ module _ (f : ℕ) where
       ∙ plain_is (back_at f (back_at f p.shares)) (back_at f (back_at f p.shares)) (at f last (at f (less k) p.kinds)) (at f (less (at f one p.kinds f)) (at f one p.kinds)) p.cells refl
       (kinds_over last (less k) p.kinds ∙ (sym (kinds_over last one p.kinds) ∙ ap (λ j. at f (less j) (at f one p.kinds)) (sym (at_here f one p.kinds))))
 
-  off_closed : (g : ℕ) (t : PageType) (p : Plain) → f ≢ g → closed g t (off p) ≡ off (closed g t p)
-  off_closed g t p apart = ap (reference_back g) (off_kind g (dead_kind t false 0) p apart) ∙ off_reference g (with_kind g (dead_kind t false 0) p)
+  off_closed : (u : Bool) (g : ℕ) (t : PageType) (p : Plain) → f ≢ g → closed_as u g t (off p) ≡ off (closed_as u g t p)
+  off_closed u g t p apart = ap (reference_back g) (off_kind g (dead_kind t u 0) p apart) ∙ off_reference g (with_kind g (dead_kind t u 0) p)
 
   -- one with a type count more to go
   counted_on : (k : KindWord) → k.validated ≡ true → 3 ≤ k.number → is_counted_on (less k) ≡ true
@@ -157,11 +158,11 @@ module _ (f : ℕ) where
       let many : 3 ≤ k.number = (let s = held.several in let c = ap (λ (j : KindWord). j.number) here in omega (arith, s, c)) in
       let on : is_counted_on ((off p).kinds f) ≡ true = ap is_counted_on (at_here f (less k) p.kinds) ∙ counted_on k live many in
       let j = (off p).kinds f in
-      ap (λ b. if b then count_back f j (off p) else closed f t (empty (entries_held j) (with_kind f (emptying j) (off p)))) on ∙ off_count_here p
+      ap (λ b. if b then count_back f j (off p) else closed_as (keeps_mark j) f t (empty (entries_held j) (with_kind f (emptying j) (off p)))) on ∙ off_count_here p
 
   module _ (empty : ℕ → Plain → Plain) (g : ℕ) (t : PageType) (passes : (k : ℕ) → Passes (empty k)) where
     abbrev dropped : Bool → Plain → KindWord → Plain
-    dropped b p k = if b then count_back g k p else closed g t (empty (entries_held k) (with_kind g (emptying k) p))
+    dropped b p k = if b then count_back g k p else closed_as (keeps_mark k) g t (empty (entries_held k) (with_kind g (emptying k) p))
 
     -- another frame
     drop_apart : (b : Bool) (p : Plain) → f ≢ g → HasTwoTypeCounts f (dropped b p (p.kinds g)) → dropped b (off p) (p.kinds g) ≡ off (dropped b p (p.kinds g))
@@ -170,14 +171,15 @@ module _ (f : ℕ) where
         let k = p.kinds g in
         let inner = with_kind g (emptying k) p in
         let emptied = empty (entries_held k) inner in
-        let still : HasTwoTypeCounts f emptied = back_kind g (dead_kind t false 0) emptied apart (record { live = held.live; several = held.several }) in
-        ap (λ q. closed g t (empty (entries_held k) q)) (off_kind g (emptying k) p apart) ∙ ap (closed g t) (passes (entries_held k) inner still) ∙ off_closed g t emptied apart
+        let u = keeps_mark k in
+        let still : HasTwoTypeCounts f emptied = back_kind g (dead_kind t u 0) emptied apart (record { live = held.live; several = held.several }) in
+        ap (λ q. closed_as u g t (empty (entries_held k) q)) (off_kind g (emptying k) p apart) ∙ ap (closed_as u g t) (passes (entries_held k) inner still) ∙ off_closed u g t emptied apart
 
     -- the frame itself
     drop_here : (b : Bool) (p : Plain) → f ≡ g → is_counted_on (p.kinds g) ≡ b → HasTwoTypeCounts f (dropped b p (p.kinds g)) → drop_kind empty g t (off p) ((off p).kinds g) ≡ off (dropped b p (p.kinds g))
     drop_here true p same on held =
         subst (λ i. HasTwoTypeCounts f (count_back i (p.kinds i) p) → drop_kind empty i t (off p) ((off p).kinds i) ≡ off (count_back i (p.kinds i) p)) same (drop_itself empty t p) held
-    drop_here false p same on held = absurd (closed_apart g t (empty (entries_held (p.kinds g)) (with_kind g (emptying (p.kinds g)) p)) held same)
+    drop_here false p same on held = absurd (closed_apart (keeps_mark (p.kinds g)) g t (empty (entries_held (p.kinds g)) (with_kind g (emptying (p.kinds g)) p)) held same)
 
     pub drop_passes : (p : Plain) → HasTwoTypeCounts f (drop_kind empty g t p (p.kinds g)) → drop_kind empty g t (off p) ((off p).kinds g) ≡ off (drop_kind empty g t p (p.kinds g))
     drop_passes p held = elim (cases_eq f g) [

@@ -22,9 +22,9 @@ use Rattle.frame_words.specs.Freeing.{PutBy}
 use Rattle.frame_words.specs.Plain.{put}
 use Rattle.kind_words.specs.Kinds.{dead_kind}
 use Rattle.frame_types.specs.Found.{Dies, DropsPlain}
-use Rattle.table_law.specs.Levels.{closed}
+use Rattle.table_law.specs.Levels.{closed, closed_as}
 use Rattle.table_law.specs.Plain.{Describes, Plain, with_kind}
-use Rattle.table_law.specs.Release.{count_back, drop_kind, emptying, is_counted_on, let_go}
+use Rattle.table_law.specs.Release.{count_back, drop_kind, emptying, is_counted_on, let_go, keeps_mark}
 use Rattle.table_twins.proofs.Entering.{described_leaves}
 use Rattle.table_releases.specs.Plain.{lowered_type}
 use Rattle.release_laws.proofs.Parts.{does_only, does_with}
@@ -47,10 +47,12 @@ live_emptying k live one =
 
 module _ (g : ℕ) (t : PageType) (p : Plain) where
   pub given_more : is_counted_on (p.kinds g) ≡ true → given g t p ≡ count_back g (p.kinds g) p
-  given_more many = ap (λ b. if b then count_back g (p.kinds g) p else closed g t (with_kind g (emptying (p.kinds g)) p)) many
+  given_more many = ap (λ b. if b then count_back g (p.kinds g) p else closed_as (keeps_mark (p.kinds g)) g t (with_kind g (emptying (p.kinds g)) p)) many
 
-  pub given_last : is_counted_on (p.kinds g) ≡ false → given g t p ≡ closed g t (with_kind g (emptying (p.kinds g)) p)
-  given_last last = ap (λ b. if b then count_back g (p.kinds g) p else closed g t (with_kind g (emptying (p.kinds g)) p)) last
+  pub given_last : is_counted_on (p.kinds g) ≡ false → (p.kinds g).validated ≡ true → given g t p ≡ closed g t (with_kind g (emptying (p.kinds g)) p)
+  given_last last live =
+      ap (λ b. if b then count_back g (p.kinds g) p else closed_as (keeps_mark (p.kinds g)) g t (with_kind g (emptying (p.kinds g)) p)) last
+      ∙ ap (λ u. closed_as u g t (with_kind g (emptying (p.kinds g)) p)) (ap (λ b. not b && (p.kinds g).partial && (p.kinds g).unflushed) live)
 
 -- ---- the steps
 module _ (n : Machine) (v w : PortValue) (g : ℕ) (t : PageType) (p : Plain) (same : v.post.machine ≡ n) (telling : is_telling v ≡ true) (d : Describes n (told_word v) p) (typed : IsTrue (not (is_none t))) (drops : DropsPlain v w g t) where
@@ -73,7 +75,7 @@ module _ (n : Machine) (v w : PortValue) (g : ℕ) (t : PageType) (p : Plain) (s
     rest true one a =
         let last = ap is_counted_on is ∙ last_counted (kind_fields x) one in
         let empty : record (p.kinds g) { number = (p.kinds g).number - 1 } ≡ emptying (p.kinds g) = live_emptying (p.kinds g) (ap (λ (k : KindWord). k.validated) is ∙ live) (ap (λ (k : KindWord). k.number == 1) is ∙ one) in
-        subst (Describes n (told_word w)) (sym (given_last g t p last))
+        subst (Describes n (told_word w)) (sym (given_last g t p last (ap (λ (k : KindWord). k.validated) is ∙ live)))
         (subst (λ k. Describes n (told_word w) (closed g t (with_kind g k p))) empty
         (dead_words n u w (with_kind g (record (p.kinds g) { number = (p.kinds g).number - 1 }) p) g t machine still low inside typed a))
     rest false not_last a =
@@ -122,7 +124,7 @@ lower_whole k is many = record { unkept = is.unkept; formed = is.formed; counted
 
 whole_by : (n : Machine) (g : ℕ) (t : PageType) (p : Plain) (b : Bool) → is_counted_on (p.kinds g) ≡ b → (g < n.frames) → AreWhole n p → AreWhole n (given g t p)
 whole_by n g t p true many within whole = subst (AreWhole n) (sym (given_more g t p many)) (kinded_whole n g (record (p.kinds g) { number = (p.kinds g).number - 1 }) p (lower_whole (p.kinds g) (whole g within) many) whole)
-whole_by n g t p false last within whole = subst (AreWhole n) (sym (given_last g t p last)) closing
+whole_by n g t p false last within whole = subst (AreWhole n) (sym (given_last g t p last (ap (λ (k : KindWord). k.validated) is ∙ live))) closing
   where
     by : (b : Bool) (k : KindWord) (old : KindWord) → IsWholeKind old → IsWholeKind (if b then dead_kind t false 0 else (if b then k else old))
     by true k old old_is = dead_whole t
