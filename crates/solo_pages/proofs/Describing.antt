@@ -171,7 +171,7 @@ module _ (n : Machine) (s : ℕ) (u : PortValue) (f owner : ℕ) (y : Solo) (mac
       unfixed_so =
           stopped_so n s (told_word w) (take_page f y kind) (with_frames (closed f Desc left) y) (refusals.BadDescriptor f i word) (Numbers (refusals.BadDescriptor f i (q.cells f i)))
           (is_filled dead ∙ ap (filled_page f y) first) (ap (refusals.BadDescriptor f i) (sym was))
-          (shown_stays n s (told_word u) (told_word w) y (closed f Desc left) is beside_all gone.0 (kinded_whole n f (dead_kind Desc false 0) left (dead_whole Desc) is.whole))
+          (shown_stays n s (told_word u) (told_word w) y (closed f Desc left) is beside_all gone.0 (kinded_whole n f (dead_kind Desc false 0) left (dead_whole Desc false) is.whole))
 
     -- all of them
     fixed_so : (z w : PortValue) (e : ℕ) → FixedPlain n x z f 512 work → is_telling z ≡ true → Moves z w (Kind f) (Store (kind_write (live_kind Desc 1))) steps.Kind None e → EndsSo {A = Unit {0}} n s (told_word w) (take_page f y kind) (Ok tt)

@@ -49,9 +49,12 @@ module _ (g : ℕ) (t : PageType) (p : Plain) where
   pub given_more : is_counted_on (p.kinds g) ≡ true → given g t p ≡ count_back g (p.kinds g) p
   given_more many = ap (λ b. if b then count_back g (p.kinds g) p else closed_as (keeps_mark (p.kinds g)) g t (with_kind g (emptying (p.kinds g)) p)) many
 
-  pub given_last : is_counted_on (p.kinds g) ≡ false → (p.kinds g).validated ≡ true → given g t p ≡ closed g t (with_kind g (emptying (p.kinds g)) p)
-  given_last last live =
-      ap (λ b. if b then count_back g (p.kinds g) p else closed_as (keeps_mark (p.kinds g)) g t (with_kind g (emptying (p.kinds g)) p)) last
+  pub given_last : is_counted_on (p.kinds g) ≡ false → given g t p ≡ closed_as (keeps_mark (p.kinds g)) g t (with_kind g (emptying (p.kinds g)) p)
+  given_last last = ap (λ b. if b then count_back g (p.kinds g) p else closed_as (keeps_mark (p.kinds g)) g t (with_kind g (emptying (p.kinds g)) p)) last
+
+  live_last : is_counted_on (p.kinds g) ≡ false → (p.kinds g).validated ≡ true → given g t p ≡ closed g t (with_kind g (emptying (p.kinds g)) p)
+  live_last last live =
+      given_last last
       ∙ ap (λ u. closed_as u g t (with_kind g (emptying (p.kinds g)) p)) (ap (λ b. not b && (p.kinds g).partial && (p.kinds g).unflushed) live)
 
 -- ---- the steps
@@ -75,7 +78,7 @@ module _ (n : Machine) (v w : PortValue) (g : ℕ) (t : PageType) (p : Plain) (s
     rest true one a =
         let last = ap is_counted_on is ∙ last_counted (kind_fields x) one in
         let empty : record (p.kinds g) { number = (p.kinds g).number - 1 } ≡ emptying (p.kinds g) = live_emptying (p.kinds g) (ap (λ (k : KindWord). k.validated) is ∙ live) (ap (λ (k : KindWord). k.number == 1) is ∙ one) in
-        subst (Describes n (told_word w)) (sym (given_last g t p last (ap (λ (k : KindWord). k.validated) is ∙ live)))
+        subst (Describes n (told_word w)) (sym (live_last g t p last (ap (λ (k : KindWord). k.validated) is ∙ live)))
         (subst (λ k. Describes n (told_word w) (closed g t (with_kind g k p))) empty
         (dead_words n u w (with_kind g (record (p.kinds g) { number = (p.kinds g).number - 1 }) p) g t machine still low inside typed a))
     rest false not_last a =
@@ -124,13 +127,13 @@ lower_whole k is many = record { unkept = is.unkept; formed = is.formed; counted
 
 whole_by : (n : Machine) (g : ℕ) (t : PageType) (p : Plain) (b : Bool) → is_counted_on (p.kinds g) ≡ b → (g < n.frames) → AreWhole n p → AreWhole n (given g t p)
 whole_by n g t p true many within whole = subst (AreWhole n) (sym (given_more g t p many)) (kinded_whole n g (record (p.kinds g) { number = (p.kinds g).number - 1 }) p (lower_whole (p.kinds g) (whole g within) many) whole)
-whole_by n g t p false last within whole = subst (AreWhole n) (sym (given_last g t p last (ap (λ (k : KindWord). k.validated) is ∙ live))) closing
+whole_by n g t p false last within whole = subst (AreWhole n) (sym (given_last g t p last)) closing
   where
-    by : (b : Bool) (k : KindWord) (old : KindWord) → IsWholeKind old → IsWholeKind (if b then dead_kind t false 0 else (if b then k else old))
-    by true k old old_is = dead_whole t
+    by : (b : Bool) (k : KindWord) (old : KindWord) → IsWholeKind old → IsWholeKind (if b then dead_kind t (keeps_mark (p.kinds g)) 0 else (if b then k else old))
+    by true k old old_is = dead_whole t (keeps_mark (p.kinds g))
     by false k old old_is = old_is
 
-    closing : AreWhole n (closed g t (with_kind g (emptying (p.kinds g)) p))
+    closing : AreWhole n (closed_as (keeps_mark (p.kinds g)) g t (with_kind g (emptying (p.kinds g)) p))
     closing h low = by (h == g) (emptying (p.kinds g)) (p.kinds h) (whole h low)
 
 pub given_whole : (n : Machine) (g : ℕ) (t : PageType) (p : Plain) → g < n.frames → AreWhole n p → AreWhole n (given g t p)

@@ -7,7 +7,7 @@ use Rattle.xp_words.specs.declared.kind.PageType.TheVariants.{Desc}
 use Rattle.xp_words.proofs.Shared.{eq_false}
 use Rattle.kind_words.specs.Kinds.{dead_kind}
 use Rattle.table_law.specs.Plain.{Plain, Share, at, fewer}
-use Rattle.table_law.specs.Release.{emptying, is_counted_on}
+use Rattle.table_law.specs.Release.{emptying, is_counted_on, keeps_mark}
 use Rattle.script_law.specs.Frames.{back_named, rename}
 use Rattle.script_law.specs.Pages.{give_page}
 use Rattle.script_law.specs.Repeats.{each_below}
@@ -31,23 +31,23 @@ module _ {A : Type 0} (act : A → A) (f g : ℕ) (old : ℕ → A) (off : f ≢
 
 -- ---- one page given back
 less : KindWord → KindWord
-less k = if is_counted_on k then record k { number = k.number - 1 } else dead_kind Desc false 0
+less k = if is_counted_on k then record k { number = k.number - 1 } else dead_kind Desc (keeps_mark k) 0
 
 one_back : ℕ → Plain → Plain
 one_back f p = record { shares = acted fewer f p.shares; kinds = acted less f p.kinds; cells = p.cells }
 
 module _ (f : ℕ) (p : Plain) where
-  closing_by : (b : Bool) (h : ℕ) → (h == f) ≡ b → (if b then dead_kind Desc false 0 else (if b then emptying (p.kinds f) else p.kinds h)) ≡ (if b then dead_kind Desc false 0 else p.kinds h)
-  closing_by true h is = refl
-  closing_by false h is = refl
+  closing_by : (u b : Bool) (h : ℕ) → (h == f) ≡ b → (if b then dead_kind Desc u 0 else (if b then emptying (p.kinds f) else p.kinds h)) ≡ (if b then dead_kind Desc u 0 else p.kinds h)
+  closing_by u true h is = refl
+  closing_by u false h is = refl
 
   back_by : (b : Bool) → is_counted_on (p.kinds f) ≡ b → given f Desc p ≡ one_back f p
   unfolding less one_back
-  back_by true many = given_more f Desc p many ∙ ap (λ (k : KindWord). record { shares = acted fewer f p.shares; kinds = at f k p.kinds; cells = p.cells }) (sym (ap (λ b. if b then record (p.kinds f) { number = (p.kinds f).number - 1 } else dead_kind Desc false 0) many))
+  back_by true many = given_more f Desc p many ∙ ap (λ (k : KindWord). record { shares = acted fewer f p.shares; kinds = at f k p.kinds; cells = p.cells }) (sym (ap (λ b. if b then record (p.kinds f) { number = (p.kinds f).number - 1 } else dead_kind Desc (keeps_mark (p.kinds f)) 0) many))
   back_by false last =
       given_last f Desc p last
-      ∙ ap (λ (ks : ℕ → KindWord). record { shares = acted fewer f p.shares; kinds = ks; cells = p.cells }) (fun_ext (λ h. closing_by (h == f) h refl))
-      ∙ ap (λ (k : KindWord). record { shares = acted fewer f p.shares; kinds = at f k p.kinds; cells = p.cells }) (sym (ap (λ b. if b then record (p.kinds f) { number = (p.kinds f).number - 1 } else dead_kind Desc false 0) last))
+      ∙ ap (λ (ks : ℕ → KindWord). record { shares = acted fewer f p.shares; kinds = ks; cells = p.cells }) (fun_ext (λ h. closing_by (keeps_mark (p.kinds f)) (h == f) h refl))
+      ∙ ap (λ (k : KindWord). record { shares = acted fewer f p.shares; kinds = at f k p.kinds; cells = p.cells }) (sym (ap (λ b. if b then record (p.kinds f) { number = (p.kinds f).number - 1 } else dead_kind Desc (keeps_mark (p.kinds f)) 0) last))
 
   back_is : give_page f p ≡ one_back f p
   back_is = back_by (is_counted_on (p.kinds f)) refl
@@ -115,7 +115,7 @@ less_kept : (k : KindWord) → k.kept ≡ false → (less k).kept ≡ false
 unfolding less
 less_kept k e = by (is_counted_on k)
   where
-    by : (b : Bool) → (if b then record k { number = k.number - 1 } else dead_kind Desc false 0).kept ≡ false
+    by : (b : Bool) → (if b then record k { number = k.number - 1 } else dead_kind Desc (keeps_mark k) 0).kept ≡ false
     by true = e
     by false = refl
 

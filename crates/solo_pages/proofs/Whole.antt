@@ -81,8 +81,8 @@ ready_lent n v u owner g l p d whole orderly lent = ready_for n v u owner g (lev
 pub live_whole : (t : PageType) → IsWholeKind (live_kind t 1)
 live_whole t = record { unkept = refl; formed = λ off. refl; counted = λ live. omega arith }
 
-pub dead_whole : (t : PageType) → IsWholeKind (dead_kind t false 0)
-dead_whole t = record { unkept = refl; formed = λ off. absurd cc; counted = λ live. absurd cc }
+pub dead_whole : (t : PageType) (u : Bool) → IsWholeKind (dead_kind t u 0)
+dead_whole t u = record { unkept = refl; formed = λ off. absurd cc; counted = λ live. absurd cc }
 
 pub raised_whole : (k : KindWord) → IsWholeKind k → is_dead k ≡ false → IsWholeKind (raised_kind k)
 raised_whole k w off = record { unkept = w.unkept; formed = λ o. w.formed off; counted = λ live. omega arith }
