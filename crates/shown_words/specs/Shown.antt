@@ -1,8 +1,10 @@
 -- What a refusal shows of words.
 use Rattle.std.specs.Prelude.{◌≡◌, ◌<◌, ◌^◌, ℕ, false, length, Some}
 use Rattle.xp_words.specs.KindWords.{kind_read}
+use Rattle.xp_words.specs.RefWords.{ref_read}
 use Rattle.xp_words.specs.declared.kind.KindWord.{KindWord}
 use Rattle.xp_words.specs.declared.place.Place.TheVariants.{Refs}
+use Rattle.xp_words.specs.declared.refs.RefWord.{RefWord}
 use Rattle.xp_words.specs.declared.reply.Refusal.{Refusal}
 use Rattle.xp_words.specs.declared.reply.Refusal.TheVariants.{AlreadyPinned, NotPinned, OtherType, WrongOwner}
 use Rattle.xp_board.specs.Hands.{IsEmptyHand}
@@ -24,9 +26,13 @@ NoneDies m = (g : ℕ) → IsSettledRef (m (Refs g))
 abbrev pub IsSpelledKind : ℕ → Type 0
 IsSpelledKind w = (k : KindWord) × (kind_read w ≡ Some k)
 
--- Each kind word that the refusal shows is a spelling, and no reference word that it shows is of a frame that is just being given back.
+-- a reference word that is a spelling
+abbrev pub IsSpelledRef : ℕ → Type 0
+IsSpelledRef w = (r : RefWord) × (ref_read w ≡ Some r)
+
+-- Each word of a frame that the refusal shows is a spelling, and no reference word that it shows is of a frame that is just being given back.
 abbrev pub ShowsSettled : Refusal → Type 0
-ShowsSettled (WrongOwner f w) = is_dying w ≡ false
+ShowsSettled (WrongOwner f w) = (is_dying w ≡ false) × IsSpelledRef w
 ShowsSettled (OtherType f want w) = IsSpelledKind w
 ShowsSettled (AlreadyPinned w) = IsSpelledKind w
 ShowsSettled (NotPinned w) = IsSpelledKind w

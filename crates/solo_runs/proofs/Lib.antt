@@ -1,8 +1,8 @@
-mod Bare
 mod Closing
 mod Ending
 mod Finishing
-mod Marks
+mod Kinds
+mod Lines
 mod Opening
 mod Reading
 mod Reporting

@@ -16,7 +16,6 @@ ghost use Rattle.xp_machine.specs.Turns.{Stage};
 ghost use Rattle.script_law.specs.Scripts.{script_alone};
 ghost use Rattle.script_laws.specs.Opening.{OpensScript};
 ghost use Rattle.solo_runs.specs.Finishing.{ComeToTheSame, RunComesTo, FinishesAlone, IsFairRun, first_port, opening_solo, owner_in, with_turns};
-ghost use Rattle.solo_runs.specs.Reports.{PrintsNoMark, bare_report};
 
 use opening_rule::opening_words_are_sound;
 use script_laws::preemption_is_invisible;
@@ -54,13 +53,10 @@ pub fn turns_and_pauses_do_not_matter()
     preemption_is_invisible_in_a_run();
 }
 
-/// And they have one report of bare words, byte by byte. So the two reports differ at most in the mark `u` of frames whose type is not live, in the frames' lines and where a refusal
-/// shows a frame's word, and in what a refusal shows of a reference word that names no owner with references. Where neither report has any of this, they are the same bytes.
+/// And they have one report, byte by byte: the lines of the vCPU with its answers, of the domain, of each frame, and how many frames are free.
 pub fn turns_and_pauses_give_one_report()
-    ensures bare { (t : Trace) (us : List TurnRun) (gates others : List Gate) (script : List Op) (closed other : Stage) (last ends : Processing) (run : FinishesAlone t gates script closed last) (again : FinishesAlone (with_turns us t) others script other ends) →
-        IsFairRun t run.ran.opened closed → IsFairRun (with_turns us t) again.ran.opened other → bare_report t.layout closed ≡ bare_report t.layout other }
-    ensures printed { (t : Trace) (us : List TurnRun) (gates others : List Gate) (script : List Op) (closed other : Stage) (last ends : Processing) (run : FinishesAlone t gates script closed last) (again : FinishesAlone (with_turns us t) others script other ends) →
-        IsFairRun t run.ran.opened closed → IsFairRun (with_turns us t) again.ran.opened other → PrintsNoMark t.layout closed → PrintsNoMark t.layout other → report_at t.layout closed ≡ report_at t.layout other }
+    ensures { (t : Trace) (us : List TurnRun) (gates others : List Gate) (script : List Op) (closed other : Stage) (last ends : Processing) (run : FinishesAlone t gates script closed last) (again : FinishesAlone (with_turns us t) others script other ends) →
+        IsFairRun t run.ran.opened closed → IsFairRun (with_turns us t) again.ran.opened other → report_at t.layout closed ≡ report_at t.layout other }
 {
     turns_and_pauses_do_not_matter();
 }

@@ -1,9 +1,5 @@
-use Rattle.solo_runs.proofs.Marks.{printed_alike}
 use Rattle.solo_runs.proofs.Reporting.{one_report}
 use Rattle.solo_runs.proofs.runs.turns_and_pauses_give_one_report.Goals as goal
 
-pub returns-clause-bare : goal.returns-clause-bare
-returns-clause-bare c t us gates others script closed other last ends run again fair same = one_report t us gates others script closed other last ends run again (c.turns_and_pauses_do_not_matter.ensures t us gates others script closed other last ends run again fair same)
-
-pub returns-clause-printed : goal.returns-clause-printed
-returns-clause-printed c t us gates others script closed other last ends run again fair same none nothing = printed_alike t us gates others script closed other last ends run again (c.turns_and_pauses_do_not_matter.ensures t us gates others script closed other last ends run again fair same) none nothing
+pub returns : goal.returns
+returns c t us gates others script closed other last ends run again fair same = one_report t us gates others script closed other last ends run again (c.turns_and_pauses_do_not_matter.ensures t us gates others script closed other last ends run again fair same)
