@@ -224,7 +224,7 @@ pub gave_settling : (v w : PortValue) (f : ℕ) → GaveRef v w f → Settling v
 gave_settling v w f a = record { came = gave_came v w f a; none = λ machine telling n. same_none (put f (told_word v)) (told_word w) (λ h. a.plain telling (Refs h)) (put_none f (told_word v) n) }
 
 -- ---- types
-less_none : (f : ℕ) (k : KindWord) (s : Standing) (m : Words) → NoneDies m → NoneDies (less_kept f k s m)
+pub less_none : (f : ℕ) (k : KindWord) (s : Standing) (m : Words) → NoneDies m → NoneDies (less_kept f k s m)
 less_none f k stands.Partial m n = by k.kept
   where
     by : (b : Bool) → NoneDies (if b then put f m else m)
