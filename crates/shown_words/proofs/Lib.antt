@@ -1,1 +1,3 @@
+pub mod Addressing
 pub mod Base
+pub mod Writing
