@@ -1,2 +1,4 @@
 pub mod Acquiring
+pub mod Addressing
 pub mod Base
+pub mod Writing
