@@ -1,1 +1,4 @@
 pub mod Base
+pub mod Performing
+pub mod Spelling
+pub mod Standing
